@@ -1,0 +1,103 @@
+-- A report that shows a run of faithful code tells the truth about the graph.
+use Rattle.std.proofs.Common.{◌≡◌, ◌↔◌, ℕ, ◌+◌, ◌<◌, Bool, false, ℤ, List, length, Option, Some, None, slice_get, refl, sym, ◌∙◌, ap, subst, arith}
+use Rattle.std.specs.Prelude.{Contains, sum, take}
+use Rattle.tags.specs.declared.value.Value.{Value}
+use Rattle.tags.specs.declared.token.Token.{Token}
+use Rattle.semantics.specs.declared.report.End.{End}
+use Rattle.semantics.specs.declared.report.End.TheVariants.{Rest, Clash, Stuck}
+use Rattle.semantics.specs.Graph.{Graph, Flow, flow_of, first_cell}
+use Rattle.semantics.specs.Text.{IsText}
+use Rattle.semantics.specs.WellFormed.{WellFormed}
+use Rattle.semantics.specs.Meaning as Meaning
+use Rattle.semantics.specs.Meaning.{State, Reached}
+use Rattle.semantics.specs.Program.{Program}
+use Rattle.semantics.specs.Rule.{array_base}
+use Rattle.semantics.specs.Cause.{SameSeen}
+use Rattle.semantics.specs.Machine as Machine
+use Rattle.semantics.specs.Machine.{Machine, Size, CellState, Vacant, Full, Deferred, Events, Run, at_start, Resting, Wants, stuck_rule, value_in}
+use Rattle.semantics.specs.Faithful.{Faithful, IsRun, IsExact, IsSecondStore, HasStoreOfFull, inputs_of}
+use Rattle.semantics.specs.Report.{Report, IsPicture, HasEnd, Shows}
+use Rattle.schedule.specs.declared.config.Config.{Config}
+use Rattle.schedule.specs.State as Machines
+use Rattle.schedule.specs.State.{size}
+use Rattle.schedule.specs.Starts.{Opens}
+use Rattle.schedule.specs.Straight.{inputs_of as inputs_of_program}
+use Rattle.driver.specs.Headline.{ShowsMemory, IsOutcome, TellsOf, one_element}
+use Rattle.driver.specs.Refused.{IsCompiled}
+use Rattle.driver.proofs.Limits.{inputs_same}
+
+-- a cell that is full has its value, and no other
+full_value : (c : CellState) (v : Value) → c ≡ Full v → value_in c ≡ Some v
+full_value c v e = ap value_in e
+
+value_full : (c : CellState) (v : Value) → value_in c ≡ Some v → c ≡ Full v
+value_full Vacant v e = cc
+value_full (Full w) v e = cc
+value_full (Deferred rs) v e = cc
+
+-- what is seen of the machine is what is seen of the meaning
+shown : (p : Program) (z : Size) (m : Machine) (r : Report) (s : State) → IsPicture p z m r → SameSeen m.store s.memory → ShowsMemory r s.memory
+shown p z m r s pic same = record {
+  outputs = λ j v e. pic.outputs j v e ∙ same.outputs j;
+  cells = λ x v. (
+    (λ h. sym (same.cells x) ∙ full_value (m.store.cells x) v ((pic.cells x v).0 h)),
+    (λ h. (pic.cells x v).1 (value_full (m.store.cells x) v (same.cells x ∙ h))),
+  );
+}
+
+ends_at : (p : Program) (z : Size) (steps : ℕ) (listed : Bool) (events : Events) (m : Machine) (e d : End) → e ≡ d
+    → HasEnd p z steps listed false events m e → HasEnd p z steps listed false events m d
+ends_at p z steps listed events m e d eq h = let P : End → Type 0 = λ x. HasEnd p z steps listed false events m x in subst P eq h
+
+never_both : (o : Option ℕ) (n : ℕ) → o ≡ None → o ≡ Some n → ⊥
+never_both o n a b = cc
+
+pub tells_of : (text : List ℕ) (inputs : List ℤ) (z : Size) (steps : ℕ) (listed : Bool) (r : Report) (g : Graph) (p : Program)
+    → IsText text g → WellFormed g → length inputs ≡ inputs_of (flow_of g) → 0 < z.elements → 0 < z.frames
+    → Faithful (flow_of g) p → Shows p z inputs steps listed false r → TellsOf text g inputs z steps listed r
+tells_of text inputs z steps listed r g p is_text well fit elements frames faithful shows =
+    let m : Machine = shows.last in
+    let run : IsRun (flow_of g) p inputs z r.events m = record { inputs_fit = fit; some_element = elements; some_frame = frames; run = shows.run } in
+    let reached = faithful.reachable inputs z r.events m run in
+    record {
+      is_text = is_text;
+      well_formed = well;
+      inputs_fit = fit;
+      program = p;
+      faithful = faithful;
+      shows = shows;
+      reached = (reached.0, reached.1, shown p z m r reached.0 shows.picture reached.2);
+      rest = λ e. let ended = ends_at p z steps listed r.events m r.end Rest e shows.ends in
+          let exact = faithful.exact inputs z r.events m run ended.0 ended.1 in
+          record {
+            state = exact.state;
+            reached = exact.reached;
+            shown = shown p z m r exact.state shows.picture exact.seen;
+            at_rest = exact.at_rest;
+            leads = exact.only;
+            no_clash = exact.no_clash;
+          };
+      second_store = λ a i e. let ended = ends_at p z steps listed r.events m r.end (Clash a i) e shows.ends in
+          let same : array_base p a + i ≡ first_cell (flow_of g) a + i = ap (λ ls. sum (take a ls) + i) faithful.arrays in
+          let P : ℕ → Type 0 = λ x. IsSecondStore (flow_of g) inputs x in
+          subst P same (faithful.second_store inputs z r.events m (array_base p a + i) run ended.2);
+      matching = λ n e. let ended = ends_at p z steps listed r.events m r.end (Stuck n) e shows.ends in
+          never_both (stuck_rule p m.store ended.0.to ended.0.word) n (faithful.matching inputs z r.events m ended.0 run ended.1) ended.2;
+    }
+
+-- A machine that starts on a program opens with its numbers; what it shows is shown of the program.
+shows_program : (p : Program) (c : Config) (inputs : List ℤ) (s : Machines.State) (listed : Bool) (r : Report) → Opens p c inputs s
+    → Shows s.program (size s) inputs s.steps listed false r → Shows p (one_element c) inputs c.steps listed false r
+shows_program p c inputs s listed r o shows =
+    let A : Program → Type 0 = λ q. Shows q (size s) inputs s.steps listed false r in
+    let B : ℕ → Type 0 = λ f. Shows p (record { elements = 1; frames = f }) inputs s.steps listed false r in
+    let C : ℕ → Type 0 = λ n. Shows p (one_element c) inputs n listed false r in
+    subst C o.steps (subst B o.frames (subst A o.program shows))
+
+pub tells_truth : (text : List ℕ) (g : Graph) (p : Program) (inputs : List ℤ) (c : Config) (s : Machines.State) (listed : Bool) (r : Report)
+    → IsCompiled text g p → Opens p c inputs s → Shows s.program (size s) inputs s.steps listed false r
+    → TellsOf text g inputs (one_element c) c.steps listed r
+tells_truth text g p inputs c s listed r compiled o shows =
+    tells_of text inputs (one_element c) c.steps listed r g p compiled.good.is_text compiled.good.well_formed
+    (o.arity ∙ ap inputs_of_program compiled.exact ∙ inputs_same (flow_of g)) (omega arith) o.some_frame compiled.faithful
+    (shows_program p c inputs s listed r o shows)

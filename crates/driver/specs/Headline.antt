@@ -1,0 +1,58 @@
+-- What a report promises about the graph that a text has: the project's headline.
+use Rattle.std.specs.Prelude.{◌≡◌, ◌↔◌, ℕ, ◌+◌, Bool, true, false, ℤ, List, length, Option, Some, slice_get, Contains}
+use Rattle.tags.specs.declared.value.Value.{Value}
+use Rattle.semantics.specs.declared.report.End.TheVariants.{Rest, Clash, Stuck}
+use Rattle.semantics.specs.Graph.{Graph, Flow, flow_of, first_cell}
+use Rattle.semantics.specs.Text.{IsText}
+use Rattle.semantics.specs.WellFormed.{WellFormed}
+use Rattle.semantics.specs.Meaning as Meaning
+use Rattle.semantics.specs.Meaning.{State, Reached, Leads, AtRest, Clashes}
+use Rattle.semantics.specs.Program.{Program}
+use Rattle.semantics.specs.Machine.{Size}
+use Rattle.semantics.specs.Faithful.{Faithful, IsSecondStore, inputs_of}
+use Rattle.semantics.specs.Report.{Report, Shows}
+use Rattle.schedule.specs.declared.config.Config.{Config}
+
+-- The report's outputs and full cells are just those of a memory of the meaning.
+pub record ShowsMemory (r : Report) (m : Meaning.Memory) : Type 0 where
+  pub outputs : (j : ℕ) (v : Option Value) → slice_get r.outputs j ≡ Some v → v ≡ m.outputs j
+  pub cells : (x : ℕ) (v : Value) → Contains r.cells (x, v) ↔ (m.cells x ≡ Some v)
+
+-- The report shows the only outcome of the meaning: a state at rest to which every other run of the meaning can be led
+-- on, while no run meets a second store.
+pub record IsOutcome (fl : Flow) (inputs : List ℤ) (r : Report) : Type 0 where
+  pub state : State
+  pub reached : Reached fl inputs state
+  pub shown : ShowsMemory r state.memory
+  pub at_rest : AtRest fl state
+  pub leads : (other : State) → Reached fl inputs other → Leads fl other state
+  pub no_clash : (other : State) (x : ℕ) → Reached fl inputs other → Clashes fl other x → ⊥
+
+-- The report is of a run of faithful code for the graph that the text has. `listed`: the order of the run was a list.
+pub record TellsOf (text : List ℕ) (g : Graph) (inputs : List ℤ) (z : Size) (steps : ℕ) (listed : Bool) (r : Report) : Type 0 where
+  pub is_text : IsText text g
+  pub well_formed : WellFormed g
+  pub inputs_fit : length inputs ≡ inputs_of (flow_of g)
+  pub program : Program
+  pub faithful : Faithful (flow_of g) program
+  pub shows : Shows program z inputs steps listed false r
+  -- whatever its end, its outputs and cells are those of a state that the meaning reaches
+  pub reached : (s : State) × Reached (flow_of g) inputs s × ShowsMemory r s.memory
+  -- at rest, with no request waiting, they are those of the meaning's only outcome
+  pub rest : r.end ≡ Rest → IsOutcome (flow_of g) inputs r
+  -- a second store is told only where the meaning has one, whatever the order
+  pub second_store : (a i : ℕ) → r.end ≡ Clash a i → IsSecondStore (flow_of g) inputs (first_cell (flow_of g) a + i)
+  -- no token meets a case that its rule excludes
+  pub matching : (n : ℕ) → r.end ≡ Stuck n → ⊥
+
+-- so many frames on one element
+abbrev pub one_element : Config → Size
+one_element c = record { elements = 1; frames = c.frames }
+
+-- THE HEADLINE, of a run in which the element takes its oldest token each time
+abbrev pub TellsTruth : List ℕ → Graph → List ℤ → Config → Report → Type 0
+TellsTruth text g inputs c r = TellsOf text g inputs (one_element c) c.steps false r
+
+-- and of a run in the order of a list of picks
+abbrev pub TellsTruthListed : List ℕ → Graph → List ℤ → Config → Report → Type 0
+TellsTruthListed text g inputs c r = TellsOf text g inputs (one_element c) c.steps true r

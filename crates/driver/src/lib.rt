@@ -1,0 +1,10 @@
+//! The whole tool: from the text of a graph to the report of its run. The headline is the contract of
+//! `emulation::emulate`.
+#![tactic(auto)]
+
+pub mod emulation;
+pub mod input;
+pub mod refusal;
+pub mod report_text;
+pub mod serving;
+pub mod slots;

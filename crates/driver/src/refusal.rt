@@ -1,0 +1,105 @@
+//! Why a command has no result, and the one line that says so.
+
+use crate::emulation::Fault;
+use crate::input::{InputFault, LinesFault};
+use graph_check::CheckFault;
+use graph_file::ReadFault;
+use schedule::config::StartFault;
+use schemas::Unbuilt;
+use std::alloc::AllocError;
+use std::fmt;
+
+/// Why a command has no result. `Display` gives its line, without the end of the line.
+#[derive(Debug, Drop)]
+pub enum Refusal {
+    /// Standard input is too long, or a read failed.
+    Input,
+    Read(ReadFault),
+    Check(CheckFault),
+    Unbuilt(Unbuilt),
+    /// The code block of this number needs more slots than a frame has.
+    TooManySlots(u64),
+    /// This line of the inputs, from 1, is no integer.
+    InputLine(u64),
+    Start(StartFault),
+    Memory,
+}
+
+impl From<InputFault> for Refusal {
+    fn from(fault: InputFault) -> Refusal {
+        match fault {
+            InputFault::Input => Refusal::Input,
+            InputFault::Memory => Refusal::Memory,
+        }
+    }
+}
+
+impl From<Fault> for Refusal {
+    fn from(fault: Fault) -> Refusal {
+        match fault {
+            Fault::Read(fault) => Refusal::Read(fault),
+            Fault::Check(fault) => Refusal::Check(fault),
+            Fault::Unbuilt(unbuilt) => Refusal::Unbuilt(unbuilt),
+            Fault::TooManySlots(block) => Refusal::TooManySlots(block),
+            Fault::Start(fault) => Refusal::Start(fault),
+            Fault::Memory => Refusal::Memory,
+        }
+    }
+}
+
+impl From<LinesFault> for Refusal {
+    fn from(fault: LinesFault) -> Refusal {
+        match fault {
+            LinesFault::BadLine(line) => Refusal::InputLine(line),
+            LinesFault::Memory => Refusal::Memory,
+        }
+    }
+}
+
+impl From<AllocError> for Refusal {
+    fn from(_error: AllocError) -> Refusal {
+        Refusal::Memory
+    }
+}
+
+/// A number, or `-` where it does not apply.
+#[derive(Drop)]
+struct NumberOrDash(Option<u64>);
+
+impl fmt::Display for NumberOrDash {
+    fn fmt<W: fmt::Write>(&self, f: &mut fmt::Formatter<W>) -> fmt::Result {
+        match self.0 {
+            Some(number) => write!(f, "{number}"),
+            None => write!(f, "-"),
+        }
+    }
+}
+
+impl fmt::Display for Refusal {
+    fn fmt<W: fmt::Write>(&self, f: &mut fmt::Formatter<W>) -> fmt::Result {
+        match self {
+            Refusal::Input => write!(f, "refused: input"),
+            Refusal::Read(fault) => {
+                let kind = fault.kind;
+                let line = fault.line;
+                write!(f, "refused: read {kind:?} line {line}")
+            }
+            Refusal::Check(fault) => {
+                let kind = fault.kind;
+                let block = NumberOrDash(fault.block);
+                let node = NumberOrDash(fault.node);
+                write!(f, "refused: check {kind:?} block {block} node {node}")
+            }
+            Refusal::Unbuilt(unbuilt) => {
+                let name = unbuilt.name;
+                let block = unbuilt.block;
+                let node = unbuilt.node;
+                write!(f, "refused: unbuilt {name} block {block} node {node}")
+            }
+            Refusal::TooManySlots(block) => write!(f, "refused: slots TooManySlots block {block}"),
+            Refusal::InputLine(line) => write!(f, "refused: input line {line}"),
+            Refusal::Start(fault) => write!(f, "refused: start {fault:?}"),
+            Refusal::Memory => write!(f, "refused: memory"),
+        }
+    }
+}

@@ -1,0 +1,4 @@
+pub mod Bits
+pub mod Flags
+pub mod Managed
+pub mod Answered

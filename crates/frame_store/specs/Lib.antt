@@ -1,0 +1,6 @@
+pub mod Packing
+pub mod FieldsOf
+pub mod Slots
+pub mod BankViews
+pub mod Lends
+pub mod Banked

@@ -1,0 +1,28 @@
+-- The slots of all frames, in banks.
+use Rattle.std.specs.Prelude.{◌≡◌, ℕ, ◌+◌, ◌*◌, ◌<◌, List, ◌++◌, length, take, drop, replicate, slice_index_or}
+use Rattle.tags.specs.declared.slot.SlotState.{SlotState}
+use Rattle.tags.specs.declared.slot.SlotState.TheVariants.{Empty}
+
+-- so many elements, frames an element and slots a frame; bank by bank and frame by frame the states of the slots
+pub record Slots : Type 0 where
+  pub elements : ℕ
+  pub frames : ℕ
+  pub width : ℕ
+  pub states : List SlotState
+
+abbrev pub bank_size : Slots → ℕ
+bank_size s = s.frames * s.width
+
+abbrev pub all_empty : ℕ → ℕ → ℕ → Slots
+all_empty elements frames width = record { elements = elements; frames = frames; width = width; states = replicate (elements * (frames * width)) Empty }
+
+-- the states are as many as before, whatever list is given
+abbrev pub refilled : List SlotState → List SlotState → List SlotState
+refilled xs ys = take (length xs) (ys ++ drop (length ys) xs)
+
+abbrev pub with_states : Slots → List SlotState → Slots
+with_states s ys = record { elements = s.elements; frames = s.frames; width = s.width; states = refilled s.states ys }
+
+-- the state of a slot of a frame of an element's bank
+abbrev pub state_at : Slots → ℕ → ℕ → ℕ → SlotState
+state_at s e f r = slice_index_or s.states (e * bank_size s + (f * s.width + r)) Empty

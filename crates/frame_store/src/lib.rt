@@ -1,0 +1,9 @@
+//! The slots of all frames in one vector, lent out in banks.
+#![tactic(auto)]
+
+pub mod bank;
+pub mod packing;
+pub mod slot;
+pub mod store;
+#[cfg(test)]
+mod tests;

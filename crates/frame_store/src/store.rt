@@ -1,0 +1,97 @@
+//! All slots of all frames.
+
+ghost use Rattle.std.specs.Prelude.{◌≡◌, ◌+◌, ◌*◌, ◌^◌, ◌≤◌, ◌<◌, length, IfOk};
+ghost use Rattle.std.specs.Borrow.{sem};
+ghost use Rattle.frame_store.specs.Slots.{all_empty, bank_size};
+ghost use Rattle.frame_store.specs.BankViews.{IsBank, bank_states};
+
+use crate::bank::{BankMut, Banks};
+use crate::slot::Slot;
+use std::alloc::{AllocError, Allocator};
+use std::marker::Model;
+
+/// The slots of all frames of all elements in one vector, bank by bank and frame by frame.
+#[derive(Drop)]
+pub struct Store<A: Allocator> {
+    elements: usize,
+    frames: usize,
+    width: usize,
+    slots: Vec<Slot, A>,
+}
+
+impl<A: Allocator> Model for Store<A> {
+    ghost use Rattle.std.specs.Prelude.{◌≡◌, ◌*◌, ◌<◌, length};
+    ghost use Rattle.frame_store.specs.Slots.{Slots};
+
+    ghost Value = { Slots };
+
+    ghost view = { λ s. record { elements = s.elements; frames = s.frames; width = s.width; states = s.slots.items } };
+
+    ghost invariant = { λ s. (length s.slots.items ≡ s.elements * (s.frames * s.width)) × (0 < s.frames * s.width) };
+}
+
+impl<A: Allocator> Store<A> {
+    ghost use Rattle.frame_store.specs.Lends.{LendsBank};
+    ghost use Rattle.frame_store.specs.Banked.{left_of, size_of};
+
+    /// Slots that are all empty: so many elements, frames an element and slots a frame.
+    pub fn new(
+        alloc: A,
+        elements: usize,
+        frames: usize,
+        slots: usize,
+    ) -> Result<Store<A>, AllocError>
+        requires some { 0 < frames * slots }
+        requires fits { elements * (frames * slots) < 2 ^ 32 }
+        requires bank { frames * slots < 2 ^ 32 }
+        ensures { IfOk result (λ s. s ≡ all_empty elements frames slots) }
+    {
+        let count = elements * (frames * slots);
+        let mut all = Vec::with_capacity(alloc, count)?;
+        for _ in 0..count {
+            all.push(Slot::empty())?;
+        }
+        Ok(Store {
+            elements,
+            frames,
+            width: slots,
+            slots: all,
+        })
+    }
+
+    /// How many elements, and so how many banks there are.
+    pub fn elements(&self) -> usize
+        ensures { result ≡ self.now.elements }
+    {
+        self.elements
+    }
+
+    /// The bank of an element. What is changed in it is changed in the store.
+    pub fn bank(&mut self, element: usize) -> BankMut<'_>
+        requires { element < self.old.elements }
+        ensures* lends { sem 𝓛 (LendsBank A.row A.Allocator self.entry result) }
+        ensures value { bank_states result ≡ self.old.states }
+        ensures start { result.start ≡ element * bank_size self.old }
+        ensures frames { result.frames ≡ self.old.frames }
+        ensures width { result.width ≡ self.old.width }
+        ensures bank { IsBank result }
+    {
+        let frames = self.frames;
+        let width = self.width;
+        let start = element * (frames * width);
+        BankMut::new(self.slots.as_mut_slice(), start, frames, width)
+    }
+
+    /// Hands out each bank once, all apart from one another.
+    pub fn banks(&mut self) -> Banks<'_>
+        requires { 0 < self.old.elements }
+        ensures left { left_of result ≡ self.old.states }
+        ensures size { size_of result ≡ bank_size self.old }
+        ensures frames { result.frames ≡ self.old.frames }
+        ensures width { result.width ≡ self.old.width }
+    {
+        let frames = self.frames;
+        let width = self.width;
+        Banks::new(self.slots.as_mut_slice(), frames, width)
+    }
+}

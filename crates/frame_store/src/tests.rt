@@ -1,0 +1,104 @@
+use crate::bank::BankMut;
+use crate::store::Store;
+use rationed::Rationed;
+use std::alloc::Allocator;
+use std::test::Fail;
+use std::thread;
+use tags::slot::SlotState;
+use tags::token::{Cont, Port, Word};
+use tags::value::{FaultKind, NodeNumber, Origin, Value};
+
+fn states() -> [SlotState; 9] {
+    let back = Cont::Frame {
+        frame: 9,
+        ip: u32::MAX,
+        port: Port::Right,
+    };
+    let origin = Origin::At {
+        block: 255,
+        node: NodeNumber::new(1023),
+    };
+    let range = Value::Fault {
+        kind: FaultKind::Range,
+        origin,
+    };
+    [
+        SlotState::Empty,
+        SlotState::Left(Word::Val(Value::Int(i64::MIN))),
+        SlotState::Right(Word::Val(range)),
+        SlotState::Left(Word::Frame(u32::MAX)),
+        SlotState::Right(Word::Back(back)),
+        SlotState::Left(Word::Back(Cont::Host { port: u32::MAX })),
+        SlotState::Credits(u32::MAX),
+        SlotState::Waiter(back),
+        SlotState::Draining(7),
+    ]
+}
+
+#[test]
+fn keeps_each_state(rt: HostRuntime) -> Result<(), Fail> {
+    let mut store = Store::new(rt.alloc(), 2, 3, 4)?;
+    let mut bank = store.bank(1);
+    assert_eq!(rt; bank.frames(), 3);
+    assert_eq!(rt; bank.width(), 4);
+    for state in states() {
+        assert!(rt; bank.holds(2, 1));
+        bank.set(2, 1, state);
+        assert!(rt; bank.holds(2, 1));
+        assert_eq!(rt; bank.state(2, 1), state);
+        assert!(rt; bank.holds(2, 2));
+        assert_eq!(rt; bank.state(2, 2), SlotState::Empty);
+        assert!(rt; bank.holds(1, 1));
+        assert_eq!(rt; bank.state(1, 1), SlotState::Empty);
+    }
+    Ok(())
+}
+
+/// Writes the bank's number and the slot's into each slot.
+fn fill(number: usize, bank: &mut BankMut<'_>) {
+    for frame in 0..bank.frames() {
+        for slot in 0..bank.width() {
+            if bank.holds(frame, slot) {
+                let count = (number % 100 * 10_000 + frame % 100 * 100 + slot % 100) as u32;
+                bank.set(frame, slot, SlotState::Credits(count));
+            }
+        }
+    }
+}
+
+#[test]
+fn two_threads_fill_two_banks(rt: HostRuntime) -> Result<(), Fail> {
+    let mut store = Store::new(rt.alloc(), 2, 3, 4)?;
+    let mut banks = Vec::with_capacity(rt.alloc(), 2)?;
+    for bank in store.banks() {
+        banks.push(bank)?;
+    }
+    assert_eq!(rt; banks.len(), 2);
+    thread::for_each_mut(&rt, &mut banks, 2, &|number, bank| fill(number, bank));
+    drop(banks);
+    for element in 0..2usize {
+        assert!(rt; element < store.elements());
+        let bank = store.bank(element);
+        for frame in 0..3usize {
+            for slot in 0..4usize {
+                let count = (element * 10_000 + frame * 100 + slot) as u32;
+                assert!(rt; bank.holds(frame, slot));
+                assert_eq!(rt; bank.state(frame, slot), SlotState::Credits(count));
+            }
+        }
+    }
+    Ok(())
+}
+
+fn is_made<A: Allocator>(alloc: A) -> bool {
+    Store::new(alloc, 2, 3, 4).is_ok()
+}
+
+#[test]
+fn refuses_its_growth(rt: HostRuntime) -> Result<(), Fail> {
+    let heap = Rationed::new(rt.alloc(), 1);
+    assert!(rt; !is_made(&heap));
+    let heap = Rationed::new(rt.alloc(), 2);
+    assert!(rt; is_made(&heap));
+    Ok(())
+}

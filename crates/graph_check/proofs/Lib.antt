@@ -1,0 +1,9 @@
+pub mod Firsts
+pub mod Places
+pub mod Indexes
+pub mod NoFault
+pub mod Shapes
+pub mod Regions
+pub mod Exact
+pub mod NotMemory
+pub mod Outcomes

@@ -1,0 +1,11 @@
+use Rattle.std.proofs.Common.{◌∙◌, ap}
+use Rattle.semantics.specs.Graph.{array_names}
+use Rattle.graph_check.specs.Names.{is_name}
+use Rattle.graph_check.proofs.Places.{is_some_place}
+use Rattle.graph_check.proofs.names.Named.has_array.Goals as goal
+
+pub returns : goal.returns
+returns g c =
+    let name = c.args.name.now in
+    let names = array_names c.self.inside.graph in
+    c.is_some.ensures ∙ is_some_place name names _ (c.find.ensures names c.self.invariant.0) ∙ ap (λ g. is_name name (array_names g)) c.self.view_is

@@ -1,0 +1,14 @@
+pub mod Taking
+pub mod Numbers
+pub mod Loops
+pub mod Marks
+pub mod Names
+pub mod Binds
+pub mod Operands
+pub mod OneNode
+pub mod Spacing
+pub mod Texts
+pub mod Sound
+pub mod Ends
+pub mod Complete
+pub mod Sent

@@ -1,0 +1,18 @@
+//! Graphs as texts: the reader and the writer.
+#![tactic(auto)]
+
+mod fault;
+mod fields;
+mod lines;
+mod nodes;
+mod parts;
+mod reading;
+mod words;
+mod writing;
+
+pub use fault::{ReadFault, ReadFaultKind};
+pub use reading::read;
+pub use writing::write;
+
+#[cfg(test)]
+mod tests;

@@ -1,0 +1,278 @@
+//! The lines of a text, one at a time.
+
+ghost use Rattle.std.specs.Prelude.{◌≡◌, ◌+◌, ◌≤◌, ℕ, List, [], Ok, IfOk, length};
+ghost use Rattle.graph_file.specs.Given.{Gives};
+ghost use Rattle.graph_file.specs.Reading.{len_from, count_from, array_line, block_line, main_line, out_line, node_line, outside, inside, closing, fields_from, line_from, end_from};
+
+use crate::fault::ReadFaultKind;
+use crate::fields::{field_of, name_field, number_field, source_fields};
+use crate::nodes::node_of;
+use crate::parts::{Parts, is_line};
+use crate::words::SOURCES;
+use graph::{Array, Block, Graph, Name, Version};
+use std::alloc::Allocator;
+use std::marker::Model;
+
+/// The most arrays of a graph.
+const ARRAYS: usize = 64;
+/// The most cells of all arrays.
+const CELLS: u64 = 65_536;
+/// The most blocks of a graph.
+const BLOCKS: usize = 256;
+/// The most nodes of a block, inputs counted.
+const NODES: usize = 1_024;
+/// The most inputs, and the most outputs, of a block.
+const PORTS: u32 = 16;
+
+/// Where in a graph the next line stands.
+#[derive(Drop)]
+pub(crate) enum Place<B, N> {
+    /// Outside a block, before the first one.
+    Arrays,
+    /// Outside a block, behind the first one.
+    Blocks,
+    /// In this block, before its `out` line.
+    Nodes(B),
+    /// In this block, behind its `out` line.
+    Closing(B),
+    /// Behind the `main` line, which has this name.
+    Done(N),
+}
+
+/// What was found so far.
+#[derive(Drop)]
+pub(crate) struct Found<'a, A: Allocator> {
+    alloc: A,
+    version: Version,
+    arrays: Vec<Array<'a>, A>,
+    /// Of all arrays.
+    cells: u64,
+    blocks: Vec<Block<'a, A>, A>,
+}
+
+impl<'a, A: Allocator> Model for Found<'a, A> {
+    ghost use Rattle.graph_file.specs.Found.{Found};
+
+    ghost Value = { Found };
+
+    ghost view = { λ f. record { version = f.version; arrays = f.arrays.items; cells = f.cells; blocks = f.blocks.items } };
+}
+
+type Step<'a, A> = Result<(Found<'a, A>, Place<Block<'a, A>, Name<'a>>), ReadFaultKind>;
+
+/// The fields of a line.
+#[tactic(auto, unfolding(crate::specs::Reading::fields_from))]
+fn fields_of(line: &[u8]) -> Result<Parts<'_>, ReadFaultKind>
+    ensures { Gives (λ x. x) result (fields_from line.now) }
+{
+    if !is_line(line) {
+        return Err(ReadFaultKind::BadLine);
+    }
+    Ok(Parts::of(line, b' '))
+}
+
+/// A length that keeps all cells within their limit, and the fields after it.
+#[tactic(auto, unfolding(crate::specs::Reading::len_from))]
+fn len_field<'a>(cells: u64, fields: Parts<'a>) -> Result<(u32, Parts<'a>), ReadFaultKind>
+    ensures given { Gives (λ x. (x.0, x.1)) result (len_from cells fields.entry) }
+    ensures small { IfOk result (λ x. cells + x.0 ≤ 65536) }
+{
+    let (len, rest) = number_field(fields)?;
+    if len == 0 {
+        return Err(ReadFaultKind::BadNumber);
+    }
+    if cells.saturating_add(u64::from(len)) > CELLS {
+        return Err(ReadFaultKind::TooMany);
+    }
+    Ok((len, rest))
+}
+
+/// A number of inputs or of outputs, and the fields after it.
+#[tactic(auto, unfolding(crate::specs::Reading::count_from))]
+fn count_field<'a>(fields: Parts<'a>) -> Result<(u32, Parts<'a>), ReadFaultKind>
+    ensures { Gives (λ x. (x.0, x.1)) result (count_from fields.entry) }
+{
+    let (n, rest) = number_field(fields)?;
+    if n > PORTS {
+        return Err(ReadFaultKind::TooMany);
+    }
+    Ok((n, rest))
+}
+
+impl<'a, A: Allocator + Clone> Found<'a, A> {
+    /// Nothing yet, in a text of that version.
+    pub(crate) fn new(alloc: A, version: Version) -> Result<Found<'a, A>, ReadFaultKind>
+        ensures { Gives (λ x. x) result (Ok record { version = version; arrays = []; cells = 0; blocks = [] }) }
+    {
+        Ok(Found {
+            arrays: Vec::new(alloc.clone()?),
+            blocks: Vec::new(alloc.clone()?),
+            alloc,
+            version,
+            cells: 0,
+        })
+    }
+
+    /// One line.
+    #[tactic(auto, unfolding(crate::specs::Reading::line_from))]
+    pub(crate) fn line(self, place: Place<Block<'a, A>, Name<'a>>, line: &'a [u8]) -> Step<'a, A>
+        ensures { Gives (λ x. (x.0, x.1)) result (line_from self.entry place.entry line.now) }
+    {
+        match place {
+            Place::Arrays => self.outside(true, fields_of(line)?),
+            Place::Blocks => self.outside(false, fields_of(line)?),
+            Place::Nodes(block) => self.inside(block, fields_of(line)?),
+            Place::Closing(block) => self.closing(block, fields_of(line)?),
+            Place::Done(_) => Err(ReadFaultKind::TrailingText),
+        }
+    }
+
+    /// A line outside a block. `arrays` says that no block came yet.
+    #[tactic(auto, unfolding(crate::specs::Reading::outside))]
+    fn outside(self, arrays: bool, fields: Parts<'a>) -> Step<'a, A>
+        ensures { Gives (λ x. (x.0, x.1)) result (outside arrays self.entry fields.entry) }
+    {
+        let (word, rest) = field_of(fields)?;
+        if arrays && word == b"array".as_slice() {
+            self.array_line(rest)
+        } else if word == b"block".as_slice() {
+            self.block_line(rest)
+        } else if word == b"main".as_slice() {
+            self.main_line(rest)
+        } else {
+            Err(ReadFaultKind::BadLine)
+        }
+    }
+
+    #[tactic(auto, unfolding(crate::specs::Reading::array_line))]
+    fn array_line(mut self, fields: Parts<'a>) -> Step<'a, A>
+        ensures { Gives (λ x. (x.0, x.1)) result (array_line self.entry fields.entry) }
+    {
+        if !fields.has(2) {
+            return Err(ReadFaultKind::BadLine);
+        }
+        if self.arrays.len() >= ARRAYS {
+            return Err(ReadFaultKind::TooMany);
+        }
+        let (name, rest) = name_field(fields)?;
+        let (len, _) = len_field(self.cells, rest)?;
+        self.arrays.push(Array { name, len })?;
+        self.cells += u64::from(len);
+        Ok((self, Place::Arrays))
+    }
+
+    #[tactic(auto, unfolding(crate::specs::Reading::block_line))]
+    fn block_line(self, fields: Parts<'a>) -> Step<'a, A>
+        ensures { Gives (λ x. (x.0, x.1)) result (block_line self.entry fields.entry) }
+    {
+        if !fields.has(3) {
+            return Err(ReadFaultKind::BadLine);
+        }
+        if self.blocks.len() >= BLOCKS {
+            return Err(ReadFaultKind::TooMany);
+        }
+        let (name, rest) = name_field(fields)?;
+        let (inputs, rest) = count_field(rest)?;
+        let (outputs, _) = count_field(rest)?;
+        let nodes = Vec::new(self.alloc.clone()?);
+        let results = Vec::new(self.alloc.clone()?);
+        let block = Block {
+            name,
+            inputs,
+            outputs,
+            nodes,
+            results,
+        };
+        Ok((self, Place::Nodes(block)))
+    }
+
+    #[tactic(auto, unfolding(crate::specs::Reading::main_line))]
+    fn main_line(self, fields: Parts<'a>) -> Step<'a, A>
+        ensures { Gives (λ x. (x.0, x.1)) result (main_line self.entry fields.entry) }
+    {
+        if !fields.has(1) {
+            return Err(ReadFaultKind::BadLine);
+        }
+        let (name, _) = name_field(fields)?;
+        Ok((self, Place::Done(name)))
+    }
+
+    /// A line in a block, up to its `out` line.
+    #[tactic(auto, unfolding(crate::specs::Reading::inside))]
+    fn inside(self, block: Block<'a, A>, fields: Parts<'a>) -> Step<'a, A>
+        ensures { Gives (λ x. (x.0, x.1)) result (inside self.entry block.entry fields.entry) }
+    {
+        let all = fields.again();
+        let (word, rest) = field_of(fields)?;
+        if word == b"out".as_slice() {
+            self.out_line(block, rest)
+        } else {
+            self.node_line(block, all)
+        }
+    }
+
+    #[tactic(auto, unfolding(crate::specs::Reading::out_line))]
+    fn out_line(self, mut block: Block<'a, A>, fields: Parts<'a>) -> Step<'a, A>
+        ensures { Gives (λ x. (x.0, x.1)) result (out_line self.entry block.entry fields.entry) }
+    {
+        if !fields.is_below(SOURCES + 1) {
+            return Err(ReadFaultKind::TooMany);
+        }
+        block.results = source_fields(self.alloc.clone()?, fields)?;
+        Ok((self, Place::Closing(block)))
+    }
+
+    #[tactic(auto, unfolding(crate::specs::Reading::node_line))]
+    fn node_line(self, mut block: Block<'a, A>, fields: Parts<'a>) -> Step<'a, A>
+        ensures { Gives (λ x. (x.0, x.1)) result (node_line self.entry block.entry fields.entry) }
+    {
+        let full = (block.inputs as usize).saturating_add(block.nodes.len()) >= NODES;
+        let node = node_of(self.alloc.clone()?, self.version, full, fields)?;
+        block.nodes.push(node)?;
+        Ok((self, Place::Nodes(block)))
+    }
+
+    /// The line behind a block's `out` line.
+    #[tactic(auto, unfolding(crate::specs::Reading::closing))]
+    fn closing(mut self, block: Block<'a, A>, fields: Parts<'a>) -> Step<'a, A>
+        ensures { Gives (λ x. (x.0, x.1)) result (closing self.entry block.entry fields.entry) }
+    {
+        let (word, rest) = field_of(fields)?;
+        if word != b"end".as_slice() || !rest.has(0) {
+            return Err(ReadFaultKind::BadLine);
+        }
+        self.blocks.push(block)?;
+        Ok((self, Place::Blocks))
+    }
+
+    /// The graph, if the text is whole: nothing stands behind the last line feed.
+    #[tactic(auto, unfolding(crate::specs::Reading::end_from))]
+    pub(crate) fn end(
+        self,
+        place: Place<Block<'a, A>, Name<'a>>,
+        rest: &[u8],
+    ) -> Result<Graph<'a, A>, ReadFaultKind>
+        ensures { Gives (λ x. x) result (end_from self.entry place.entry rest.now) }
+    {
+        match (place, rest) {
+            (Place::Done(main), []) => {
+                let Found {
+                    alloc: _,
+                    version,
+                    arrays,
+                    cells: _,
+                    blocks,
+                } = self;
+                Ok(Graph {
+                    version,
+                    arrays,
+                    blocks,
+                    main,
+                })
+            }
+            (Place::Done(_), _) => Err(ReadFaultKind::TrailingText),
+            (Place::Arrays | Place::Blocks, []) => Err(ReadFaultKind::NoMain),
+            _ => Err(ReadFaultKind::Unended),
+        }
+    }
+}

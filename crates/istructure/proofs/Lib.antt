@@ -1,0 +1,4 @@
+pub mod Places
+pub mod Lifts
+pub mod Events
+pub mod Fresh

@@ -1,0 +1,5 @@
+pub mod OwnCells
+pub mod CellStates
+pub mod Steps
+pub mod Answered
+pub mod Holds

@@ -1,0 +1,181 @@
+-- The meaning of the graph follows each firing of main's block.
+use Rattle.std.proofs.Common.{◌≡◌, ℕ, ◌-◌, ◌<◌, ◌≤◌, Bool, true, false, List, [], ◌∷◌, ◌++◌, map, length, refl, sym, ap, ◌∙◌, subst, inl, inr, ◌⊎◌, arith, append-nil, true≢false, Option, Some, None, ◌==◌, nat_lt, ltb-false, eq-eqb, if◌then◌else◌}
+use Rattle.std.specs.Prelude.{ℤ, All, get_or, IsPermutation, flat_map, slice_get}
+use Rattle.std.proofs.lemmas.Bool.{cases_Bool}
+use Rattle.std.proofs.lemmas.List.{map-append}
+use Rattle.std.proofs.lemmas.Option.{slice_get_cases}
+use Rattle.std.proofs.lemmas.List.Sorted.{IsPermutation-refl, IsPermutation-sym, IsPermutation-append_left, IsPermutation-map}
+use Rattle.tags.specs.declared.value.Value.{Value}
+use Rattle.tags.specs.declared.token.Port.TheVariants.{Left, Right}
+use Rattle.semantics.specs.declared.graph.Kind.{Kind}
+use Rattle.semantics.specs.declared.graph.Kind.TheVariants.{Lit, Apply1, Apply2}
+use Rattle.semantics.specs.Graph.{Block, Flow, Node, node_at, node_count}
+use Rattle.semantics.specs.Meaning as Meaning
+use Rattle.semantics.specs.Meaning.{State, Activity, Step, Run, Reached, start, taken, Deed, Says, Sends, done_if, effect, sent, sent_in, tagged, Tagged, block_of, on_block, on_node, fired_in, fired, input_passed, origin_at}
+use Rattle.lowering.specs.Roles.{Role, Start, Line, Result, Join, End, Shown, Done, Freed, Inlet, Item, item, is_two, is_pair, is_pair_at, value_for, value_at, Wiring, each, zero_value, told, IsThere, IsInlet, IsWired, Use, stands_for, uses_along, uses_for, Copy}
+use Rattle.lowering.specs.Implements.{IsStraightKind}
+use Rattle.lowering.proofs.Placed.{IsMain}
+use Rattle.lowering.proofs.Orders.{at_first, at_last, empty_list}
+use Rattle.lowering.proofs.NetFollows.{Simulates, state_of}
+use Rattle.lowering.proofs.BlockNet.{Firing, firing, emits, takes, makes, takes_one, takes_two, shown_of, role_there}
+
+-- the items of one value stand for its tokens at the uses
+told_each : (w : Wiring) (c : Meaning.Context) (xs : List Inlet) (v : Value) → flat_map (told w c) (each v xs) ≡ map (λ (u : Use). tagged c u.0 u.1 v) (uses_along w xs)
+told_each w c [] v = refl
+told_each w c (x ∷ xs) v = ap (λ l. told w c (record { inlet = x; value = v }) ++ l) (told_each w c xs v) ∙ sym (map-append (λ (u : Use). tagged c u.0 u.1 v) (stands_for w x.role x.port) (uses_along w xs))
+
+module _ (fl : Flow) (inputs : List ℤ) (b : Block ℕ) (w : Wiring) (laws : IsWired b w) (main : IsMain fl b) where
+  -- WHAT A NODE DOES
+  pub block_main : block_of fl Meaning.Main ≡ Some b
+  block_main = main.at
+
+  -- what a part sends stands for the uses to which its value goes
+  told_wires : (r : Role) (v : Value) → IsThere b w r → IsPermutation (flat_map (told w Meaning.Main) (each v (w.wire r))) (map (λ (u : Use). tagged Meaning.Main u.0 u.1 v) (uses_for b w r))
+  told_wires r v h = at_first (told_each w Meaning.Main (w.wire r) v) (IsPermutation-map (λ (u : Use). tagged Meaning.Main u.0 u.1 v) _ _ (laws.uses r h))
+
+  sends : (n : ℕ) (v : Value) → n < node_count b → IsPermutation (sent fl Meaning.Main n 0 v) (flat_map (told w Meaning.Main) (each v (w.wire (Line n))))
+  sends n v h = at_first (ap (λ o. sent_in o Meaning.Main n 0 v) block_main) (IsPermutation-sym _ _ (told_wires (Line n) v h))
+
+  at_input : (n : ℕ) → nat_lt n b.inputs ≡ true → node_at b n ≡ None
+  at_input n e = ap (λ (t : Bool). if t then None else slice_get b.nodes (n - b.inputs)) e
+
+  past_inputs : (n : ℕ) → nat_lt n b.inputs ≡ false → n < node_count b → (node : Node ℕ) × (node_at b n ≡ Some node)
+  past_inputs n e h = pick (slice_get_cases b.nodes (n - b.inputs)).1
+    where
+      pick : ((x : Node ℕ) × (n - b.inputs < length b.nodes) × (slice_get b.nodes (n - b.inputs) ≡ Some x) × (get_or b.nodes (n - b.inputs) x ≡ x)) ⊎ ((length b.nodes ≤ n - b.inputs) × (slice_get b.nodes (n - b.inputs) ≡ None)) → (node : Node ℕ) × (node_at b n ≡ Some node)
+      pick (inl (x, l, g, k)) = (x, ap (λ (t : Bool). if t then None else slice_get b.nodes (n - b.inputs)) e ∙ g)
+      pick (inr (l, g)) = let f = ltb-false n b.inputs e in absurd (omega (arith, l, h, f))
+
+  abbrev says : ℕ → Value → Option Deed
+  says n v = Some (Says (Sends Meaning.Main n 0 v))
+
+  abbrev Does : ℕ → List Value → Value → Type 0
+  Does n vs v = fired_in fl Meaning.Main n vs b ≡ says n v
+
+  by_node : (n : ℕ) (node : Node ℕ) (vs : List Value) → nat_lt n b.inputs ≡ false → node_at b n ≡ Some node → length vs ≡ length node.sources
+      → fired_in fl Meaning.Main n vs b ≡ fired fl Meaning.Main n node.kind vs
+  by_node n node vs e f len =
+      let K : Node ℕ → Option Deed = λ (node : Node ℕ). if length vs == length node.sources then fired fl Meaning.Main n node.kind vs else None in
+      let e1 : fired_in fl Meaning.Main n vs b ≡ on_node (node_at b n) K = ap (λ (t : Bool). if t then input_passed Meaning.Main n vs else on_node (node_at b n) K) e in
+      let e2 : on_node (node_at b n) K ≡ K node = ap (λ o. on_node o K) f in
+      let e3 : K node ≡ fired fl Meaning.Main n node.kind vs = ap (λ (t : Bool). if t then fired fl Meaning.Main n node.kind vs else None) (eq-eqb (length vs) (length node.sources) len) in
+      e1 ∙ e2 ∙ e3
+
+  kind_one : (k : Kind ℕ) (len n : ℕ) (v u : Value) → IsStraightKind k len → is_pair k ≡ false
+      → (1 ≡ len) × (fired fl Meaning.Main n k (v ∷ []) ≡ says n (value_for k (origin_at fl Meaning.Main n) v u))
+  kind_one (Lit z) len n v u h t = (sym h, refl)
+  kind_one (Apply1 op) len n v u h t = (sym h, refl)
+  kind_one (Apply2 op) len n v u h t = absurd (true≢false t)
+  kind_one k len n v u h t = absurd h
+
+  kind_two : (k : Kind ℕ) (len n : ℕ) (v u : Value) → IsStraightKind k len → is_pair k ≡ true
+      → (2 ≡ len) × (fired fl Meaning.Main n k (v ∷ u ∷ []) ≡ says n (value_for k (origin_at fl Meaning.Main n) v u))
+  kind_two (Apply2 op) len n v u h t = (sym h, refl)
+  kind_two (Lit z) len n v u h t = absurd (true≢false (sym t))
+  kind_two (Apply1 op) len n v u h t = absurd (true≢false (sym t))
+  kind_two k len n v u h t = absurd h
+
+  line_one : (n : ℕ) → n < node_count b → is_two b (Line n) ≡ false → (v u : Value) → Does n (v ∷ []) (value_at (node_at b n) (origin_at fl Meaning.Main n) v u)
+  line_one n h two v u = pick (cases_Bool (nat_lt n b.inputs))
+    where
+      pick : (nat_lt n b.inputs ≡ true) ⊎ (nat_lt n b.inputs ≡ false) → Does n (v ∷ []) (value_at (node_at b n) (origin_at fl Meaning.Main n) v u)
+      pick (inl e) =
+          ap (λ (t : Bool). if t then input_passed Meaning.Main n (v ∷ []) else on_node (node_at b n) (λ (node : Node ℕ). if length (v ∷ []) == length node.sources then fired fl Meaning.Main n node.kind (v ∷ []) else None)) e
+          ∙ ap (λ (o : Option (Node ℕ)). says n (value_at o (origin_at fl Meaning.Main n) v u)) (sym (at_input n e))
+      pick (inr e) =
+          let q = past_inputs n e h in
+          let node = q.0 in
+          let k = kind_one node.kind (length node.sources) n v u (main.straight.nodes n node q.1) (sym (ap is_pair_at q.1) ∙ two) in
+          by_node n node (v ∷ []) e q.1 k.0 ∙ k.1
+          ∙ ap (λ (o : Option (Node ℕ)). says n (value_at o (origin_at fl Meaning.Main n) v u)) (sym q.1)
+
+  line_two : (n : ℕ) → n < node_count b → is_two b (Line n) ≡ true → (v u : Value) → Does n (v ∷ u ∷ []) (value_at (node_at b n) (origin_at fl Meaning.Main n) v u)
+  line_two n h two v u = pick (cases_Bool (nat_lt n b.inputs))
+    where
+      pick : (nat_lt n b.inputs ≡ true) ⊎ (nat_lt n b.inputs ≡ false) → Does n (v ∷ u ∷ []) (value_at (node_at b n) (origin_at fl Meaning.Main n) v u)
+      pick (inl e) = absurd (true≢false (sym two ∙ ap is_pair_at (at_input n e)))
+      pick (inr e) =
+          let q = past_inputs n e h in
+          let node = q.0 in
+          let k = kind_two node.kind (length node.sources) n v u (main.straight.nodes n node q.1) (sym (ap is_pair_at q.1) ∙ two) in
+          by_node n node (v ∷ u ∷ []) e q.1 k.0 ∙ k.1
+          ∙ ap (λ (o : Option (Node ℕ)). says n (value_at o (origin_at fl Meaning.Main n) v u)) (sym q.1)
+
+  effect_main : (n : ℕ) (vs : List Value) (m : Meaning.Memory) → effect fl m (Meaning.Fires Meaning.Main n vs) ≡ done_if fl m (fired_in fl Meaning.Main n vs b)
+  effect_main n vs m = ap (λ o. done_if fl m (on_block o (fired_in fl Meaning.Main n vs))) block_main
+
+  quietly : (r : Role) → IsThere b w r → uses_for b w r ≡ [] → (v : Value) → flat_map (told w Meaning.Main) (each v (w.wire r)) ≡ []
+  quietly r h l v = empty_list _ _ (told_wires r v h) (ap (λ o. map (λ (u : Use). tagged Meaning.Main u.0 u.1 v) o) l)
+
+  -- WHAT FIRINGS MEAN
+  abbrev pub memory_of : List Firing → Meaning.Memory
+  memory_of fired = record { cells = λ x. None; outputs = shown_of fired }
+
+  -- the graph does nothing
+  rests : (old new : List Tagged) (m : Meaning.Memory) → IsPermutation old new → (rest : List Tagged) → Meaning.Leads fl (state_of (old ++ rest) m) (state_of (new ++ rest) m)
+  rests old new m p rest = ([], (IsPermutation-append_left rest old new p, refl))
+
+  -- one activity
+  acts : (a : Activity) (old new : List Tagged) (m after : Meaning.Memory) (added : List Tagged) → taken a ≡ old → effect fl m a ≡ Some record { added = added; memory = after } → IsPermutation added new
+      → (rest : List Tagged) → Meaning.Leads fl (state_of (old ++ rest) m) (state_of (new ++ rest) after)
+  acts a old new m after added t e p rest = (
+    a ∷ [],
+    (
+      state_of (new ++ rest) after,
+      record {
+        does = record { added = added; memory = after };
+        rest = rest;
+        allowed = e;
+        takes = at_last (IsPermutation-refl (old ++ rest)) (ap (λ l. l ++ rest) (sym t));
+        leaves = IsPermutation-append_left rest new added (IsPermutation-sym _ _ p);
+        memory = refl;
+      },
+      (IsPermutation-refl _, refl),
+    ),
+  )
+
+  abbrev pub Means : Role → Value → Value → List Item → List Firing → Type 0
+  Means r v u taking fired = (rest : List Tagged) → Meaning.Leads fl (state_of (flat_map (told w Meaning.Main) taking ++ rest) (memory_of fired)) (state_of (flat_map (told w Meaning.Main) (emits fl b w r v u) ++ rest) (memory_of (firing r v u ∷ fired)))
+
+  fires_means : (r : Role) (v u : Value) (fired : List Firing) → IsThere b w r → is_two b r ≡ false → Means r v u (item r Left v ∷ []) fired
+  fires_means Start v u fired h two = rests [] _ (memory_of fired) (at_last (IsPermutation-refl []) (sym (quietly Start h refl zero_value)))
+  fires_means (Copy kind k) v u fired h two =
+      rests (map (λ (x : Use). tagged Meaning.Main x.0 x.1 v) (w.behind kind k) ++ []) _ (memory_of fired) (at_first (append-nil _) (IsPermutation-sym _ _ (told_wires (Copy kind k) v h)))
+  fires_means (Line n) v u fired h two =
+      let value = value_at (node_at b n) (origin_at fl Meaning.Main n) v u in
+      acts (Meaning.Fires Meaning.Main n (v ∷ [])) (tagged Meaning.Main (Meaning.AtNode n) (Meaning.Operand 0) v ∷ []) (flat_map (told w Meaning.Main) (emits fl b w (Line n) v u)) (memory_of fired) (memory_of fired) (sent fl Meaning.Main n 0 value)
+      refl (effect_main n (v ∷ []) (memory_of fired) ∙ ap (done_if fl (memory_of fired)) (line_one n h two v u)) (sends n value h)
+  fires_means (Result j) v u fired h two = absurd (true≢false two)
+  fires_means (Join j) v u fired h two = absurd (true≢false two)
+  fires_means End v u fired h two = absurd (true≢false two)
+  fires_means (Shown j) v u fired h two =
+      acts (Meaning.Outputs j v) (tagged Meaning.Main (Meaning.AtOut j) (Meaning.Operand 0) v ∷ []) [] (memory_of fired) (memory_of (firing (Shown j) v u ∷ fired)) [] refl refl (IsPermutation-refl [])
+  fires_means Done v u fired h two = rests [] [] (memory_of fired) (IsPermutation-refl [])
+  fires_means Freed v u fired h two = rests [] [] (memory_of fired) (IsPermutation-refl [])
+
+  meets_means : (r : Role) (v u : Value) (fired : List Firing) → IsThere b w r → is_two b r ≡ true → Means r v u (item r Left v ∷ item r Right u ∷ []) fired
+  meets_means (Line n) v u fired h two =
+      let value = value_at (node_at b n) (origin_at fl Meaning.Main n) v u in
+      acts (Meaning.Fires Meaning.Main n (v ∷ u ∷ [])) (tagged Meaning.Main (Meaning.AtNode n) (Meaning.Operand 0) v ∷ tagged Meaning.Main (Meaning.AtNode n) (Meaning.Operand 1) u ∷ []) (flat_map (told w Meaning.Main) (emits fl b w (Line n) v u)) (memory_of fired) (memory_of fired) (sent fl Meaning.Main n 0 value)
+      refl (effect_main n (v ∷ u ∷ []) (memory_of fired) ∙ ap (done_if fl (memory_of fired)) (line_two n h two v u)) (sends n value h)
+  meets_means (Result j) v u fired h two =
+      rests (tagged Meaning.Main (Meaning.AtOut j) (Meaning.Operand 0) u ∷ []) _ (memory_of fired)
+      (at_last (IsPermutation-refl _) (ap (λ l. tagged Meaning.Main (Meaning.AtOut j) (Meaning.Operand 0) u ∷ l) (sym (quietly (Result j) h refl zero_value))))
+  meets_means (Join j) v u fired h two = rests [] _ (memory_of fired) (at_last (IsPermutation-refl []) (sym (quietly (Join j) h refl zero_value)))
+  meets_means End v u fired h two = rests [] [] (memory_of fired) (IsPermutation-refl [])
+  meets_means Start v u fired h two = absurd (true≢false (sym two))
+  meets_means (Copy kind k) v u fired h two = absurd (true≢false (sym two))
+  meets_means (Shown j) v u fired h two = absurd (true≢false (sym two))
+  meets_means Done v u fired h two = absurd (true≢false (sym two))
+  meets_means Freed v u fired h two = absurd (true≢false (sym two))
+
+  -- a firing is some activities, in any surroundings
+  pub firing_means : (f : Firing) (fired : List Firing) → All (λ (i : Item). IsInlet b w i.inlet) (takes b f) → Simulates fl inputs (takes b) (makes fl b w) (told w Meaning.Main) memory_of f fired
+  firing_means f fired all = by_count (is_two b f.role) refl
+    where
+      there : IsThere b w f.role
+      there = role_there fl b w laws f all
+
+      by_count : (t : Bool) → is_two b f.role ≡ t → Simulates fl inputs (takes b) (makes fl b w) (told w Meaning.Main) memory_of f fired
+      by_count true e = λ rest. subst (λ l. Meaning.Leads fl (state_of (flat_map (told w Meaning.Main) l ++ rest) (memory_of fired)) (state_of (flat_map (told w Meaning.Main) (makes fl b w f) ++ rest) (memory_of (f ∷ fired)))) (sym (takes_two b f.role f.left f.right e)) (meets_means f.role f.left f.right fired there e rest)
+      by_count false e = λ rest. subst (λ l. Meaning.Leads fl (state_of (flat_map (told w Meaning.Main) l ++ rest) (memory_of fired)) (state_of (flat_map (told w Meaning.Main) (makes fl b w f) ++ rest) (memory_of (f ∷ fired)))) (sym (takes_one b f.role f.left f.right e)) (fires_means f.role f.left f.right fired there e rest)

@@ -1,0 +1,21 @@
+use Rattle.lowering.proofs.StraightGraph.{graph_is_straight}
+use Rattle.lowering.proofs.Theorem.{code_is_faithful, program_implements, program_is_faithful, release_is_last, plan_is_orderly}
+use Rattle.lowering.proofs.straight_code_is_faithful.Goals as goal
+
+pub returns-clause-code : goal.returns-clause-code
+returns-clause-code c = code_is_faithful
+
+pub returns-clause-implements : goal.returns-clause-implements
+returns-clause-implements c = program_implements
+
+pub returns-clause-program : goal.returns-clause-program
+returns-clause-program c = program_is_faithful
+
+pub returns-clause-straight : goal.returns-clause-straight
+returns-clause-straight c = graph_is_straight
+
+pub returns-clause-release : goal.returns-clause-release
+returns-clause-release c = release_is_last
+
+pub returns-clause-orderly : goal.returns-clause-orderly
+returns-clause-orderly c = plan_is_orderly

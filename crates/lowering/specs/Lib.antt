@@ -1,0 +1,4 @@
+pub mod Roles
+pub mod Implements
+pub mod StraightPlan
+pub mod Theorem

@@ -1,0 +1,51 @@
+-- When straight-line code means what a graph means.
+use Rattle.std.specs.Prelude.{◌≡◌, ℕ, ℤ, List, All, ⊤}
+use Rattle.semantics.specs.declared.graph.Kind.{Kind}
+use Rattle.semantics.specs.declared.graph.Kind.TheVariants.{Lit, Apply1, Apply2}
+use Rattle.semantics.specs.Graph.{Graph, Block, Flow, Node, flow_of}
+use Rattle.semantics.specs.WellFormed.{WellFormed}
+use Rattle.semantics.specs.Program.{Program}
+use Rattle.semantics.specs.Machine.{Machine, Size, Events}
+use Rattle.semantics.specs.Plan.{Plan, Unmarked, mark_at}
+use Rattle.semantics.specs.Orderly.{IsFreeAtRelease, Orderly}
+use Rattle.semantics.specs.Faithful.{Faithful, IsRun}
+use Rattle.lowering.specs.Implements.{IsStraight, Implements}
+use Rattle.lowering.specs.StraightPlan.{straight_program}
+
+-- A graph in which each node of each block is a literal or an operator.
+abbrev pub IsPlainKind : Kind (List ℕ) → Type 0
+IsPlainKind (Lit z) = ⊤
+IsPlainKind (Apply1 op) = ⊤
+IsPlainKind (Apply2 op) = ⊤
+IsPlainKind kind = ⊥
+
+abbrev pub IsPlainBlock : Block (List ℕ) → Type 0
+IsPlainBlock b = All (λ (n : Node (List ℕ)). IsPlainKind n.kind) b.nodes
+
+abbrev pub IsStraightLine : Graph → Type 0
+IsStraightLine g = All (λ (named : List ℕ × Block (List ℕ)). IsPlainBlock named.1) g.blocks
+
+-- Such a graph is straight, if it is well formed.
+abbrev pub GraphIsStraight : Type 0
+GraphIsStraight = (g : Graph) → WellFormed g → IsStraightLine g → IsStraight (flow_of g)
+
+-- Each program that implements a well-formed straight graph is faithful to it.
+abbrev pub CodeIsFaithful : Type 0
+CodeIsFaithful = (g : Graph) (p : Program) → WellFormed g → IsStraight (flow_of g) → Implements (flow_of g) p → Faithful (flow_of g) p
+
+-- A straight graph has a program that implements it.
+abbrev pub ProgramImplements : Type 0
+ProgramImplements = (fl : Flow) → IsStraight fl → Implements fl (straight_program fl)
+
+-- And so that program is faithful to it.
+abbrev pub ProgramIsFaithful : Type 0
+ProgramIsFaithful = (g : Graph) → WellFormed g → IsStraightLine g → Faithful (flow_of g) (straight_program (flow_of g))
+
+-- In each run of code for a straight graph, a frame that can be released is named by nothing else, and its slots are empty.
+abbrev pub ReleaseIsLast : Type 0
+ReleaseIsLast = (fl : Flow) (p : Program) → IsStraight fl → Implements fl p
+    → (inputs : List ℤ) (z : Size) (events : Events) (m : Machine) → IsRun fl p inputs z events m → IsFreeAtRelease m
+
+-- Straight code has no switch, and so its plan no mark. Each run over such a plan is orderly.
+abbrev pub PlanIsOrderly : Type 0
+PlanIsOrderly = (fl : Flow) (p : Plan) → IsStraight fl → Implements fl p.program → ((b n : ℕ) → mark_at p b n ≡ Unmarked) → Orderly p

@@ -1,0 +1,16 @@
+//! Code that implements a graph is faithful to it.
+#![tactic(auto)]
+
+ghost use Rattle.lowering.specs.Theorem.{CodeIsFaithful, GraphIsStraight, PlanIsOrderly, ProgramImplements, ProgramIsFaithful, ReleaseIsLast};
+
+/// Straight-line code: all of it that implements a well-formed graph is faithful to it. A well-formed graph of literals
+/// and operators, in any number of blocks, is straight; its program implements it, and so is faithful to it. When the
+/// frame of such code can be released, nothing is left that names it; and each run over its plan is orderly.
+pub fn straight_code_is_faithful()
+    ensures code { CodeIsFaithful }
+    ensures implements { ProgramImplements }
+    ensures program { ProgramIsFaithful }
+    ensures straight { GraphIsStraight }
+    ensures release { ReleaseIsLast }
+    ensures orderly { PlanIsOrderly }
+{}

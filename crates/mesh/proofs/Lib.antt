@@ -1,0 +1,10 @@
+pub mod Deeds
+pub mod Frame
+pub mod Pools
+pub mod BoxSteps
+pub mod AtSeats
+pub mod WordSteps
+pub mod SeatSteps
+pub mod Ends
+pub mod Values
+pub mod Seating

@@ -1,0 +1,16 @@
+//! Tests that cross the crates: worked examples, refusals and exit statuses of the whole program, over a reader and a
+//! writer in memory.
+#![tactic(auto)]
+
+#[cfg(test)]
+mod memory;
+#[cfg(test)]
+mod orders;
+#[cfg(test)]
+mod refusals;
+#[cfg(test)]
+mod run;
+#[cfg(test)]
+mod served;
+#[cfg(test)]
+mod values;

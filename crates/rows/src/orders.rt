@@ -1,0 +1,69 @@
+//! Any order of steps gives the same report.
+
+ghost use Rattle.std.specs.Prelude.{◌<◌, All, IfOk};
+
+use driver::emulation::compile;
+use schedule::config::Config;
+use schedule::machine::Machine;
+use semantics::report::End;
+use std::alloc::{AllocError, Global};
+use std::test::Fail;
+use tags::value::Value;
+
+const CONFIG: Config = Config {
+    elements: 1,
+    frames: 256,
+    steps: 1_000_000,
+    turn: 64,
+};
+
+/// Twenty thousand picks, in an order that the seed chooses.
+fn picks(alloc: Global, seed: u64) -> Result<Vec<(u32, u64)>, AllocError>
+    ensures { IfOk result (λ v. All (λ pick. pick.0 < 1) v.items) }
+{
+    let mut picks = Vec::with_capacity(alloc, 20_000)?;
+    for i in 0..20_000u64 {
+        picks.push((0, seed.wrapping_mul(31).wrapping_add(i.wrapping_mul(17))))?;
+    }
+    Ok(picks)
+}
+
+#[test]
+fn orders(rt: HostRuntime) -> Result<(), Fail> {
+    for (text, inputs, wanted) in [
+        (
+            b"etsgraph 1\nblock m 2 1\n- add 0.0 1.0\nout 2.0\nend\nmain m\n".as_slice(),
+            [2, 3],
+            [5].as_slice(),
+        ),
+        (
+            b"etsgraph 1\nblock m 2 1\n- add 0.0 1.0\nout 2.0\nend\nmain m\n".as_slice(),
+            [i64::MAX, 1],
+            [i64::MIN].as_slice(),
+        ),
+        (
+            b"etsgraph 1\nblock m 2 5\n- sub 0.0 1.0\n- add 0.0 1.0\n- mul 0.0 1.0\n- and 0.0 1.0\n- lt 0.0 1.0\nout 2.0 3.0 4.0 5.0 6.0\nend\nmain m\n".as_slice(),
+            [10, 3],
+            [7, 13, 30, 2, 0].as_slice(),
+        ),
+    ] {
+        let compiled = compile(rt.alloc(), text).map_err(|_| "compiled")?;
+        for seed in 0..100u64 {
+            let picks = picks(rt.alloc(), seed)?;
+            let machine = Machine::start(
+                rt.alloc(),
+                &compiled.program,
+                inputs.as_slice(),
+                CONFIG,
+            ).map_err(|_| "started")?;
+            let report = machine.run(&picks);
+            assert_eq!(rt; report.end, End::Rest);
+            assert_eq!(rt; report.frames_out, 0);
+            assert_eq!(rt; report.outputs.as_slice().len(), wanted.len());
+            for (output, number) in report.outputs.as_slice().iter().zip(wanted) {
+                assert_eq!(rt; *output, Some(Value::Int(*number)), "seed {seed}");
+            }
+        }
+    }
+    Ok(())
+}

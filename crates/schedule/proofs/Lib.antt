@@ -1,0 +1,10 @@
+pub mod Meetings
+pub mod Found
+pub mod Stores
+pub mod Hosted
+pub mod Acting
+pub mod Stepping
+pub mod Pictures
+pub mod Showing
+pub mod Openings
+pub mod Adding

@@ -1,0 +1,5 @@
+pub mod Straight
+pub mod Places
+pub mod Wires
+pub mod Lines
+pub mod Samples

@@ -1,0 +1,6 @@
+//! The definitions that every contract of the project cites: graph, meaning, program, machine, and when they agree.
+#![tactic(auto)]
+
+pub mod graph;
+pub mod program;
+pub mod report;

@@ -1,0 +1,20 @@
+//! What a slot of a frame holds.
+
+use crate::token::{Cont, Word};
+
+/// The state of a slot: its presence bits and what they say is there (Papadopoulos and Culler, ISCA 1990, with this
+/// project's credits for k-bounded loops).
+#[derive(Clone, Copy, Debug, PartialEq, Eq)]
+pub enum SlotState {
+    Empty,
+    /// A word that came on the left port waits for its partner.
+    Left(Word),
+    /// A word that came on the right port waits for its partner.
+    Right(Word),
+    /// So many iterations may still begin.
+    Credits(u32),
+    /// No credit is left, and this one waits for the next.
+    Waiter(Cont),
+    /// The loop has ended, and so many iterations have not given their credit back.
+    Draining(u32),
+}
