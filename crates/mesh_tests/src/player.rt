@@ -1,13 +1,12 @@
 //! One element of a ring: it hands each token on to the next, until the token has been all round.
-ghost use Rattle.std.specs.Prelude.{◌≡◌, ◌<◌, ◌≤◌, ◌+◌, ◌^◌, ◌++◌, [], length, IfSome, filter, ◌==◌};
+ghost use Rattle.std.specs.Prelude.{◌≡◌, ◌<◌, ◌≤◌, ◌+◌, ◌^◌, ◌++◌, [], length, IfSome, IfOk, OnOk, filter, ◌==◌};
 ghost use Rattle.tags.specs.Addresses.{element_of};
 ghost use Rattle.mesh.specs.Seats.{AllTo, Has, fresh_seat};
 ghost use Rattle.mesh_tests.specs.Playing.{IsAt, IsPlaying};
 
 use mesh::{Mesh, Seat};
-use std::alloc::Global;
+use std::alloc::{AllocError, Global};
 use std::mem;
-use std::process::Abort;
 use std::sync::Wait;
 use tags::token::{Port, To, Token, Word};
 
@@ -48,6 +47,8 @@ pub struct Player {
     pub tally: Tally,
     /// The reason to stop that it saw, or 0.
     pub reason: u64,
+    /// Whether it found no memory while it played.
+    pub failed: bool,
 }
 
 /// The token as it goes to the next element, or None where it has been all round.
@@ -73,46 +74,51 @@ fn hand_on(token: &Token, next: u32, elements: u32) -> Option<Token>
 
 /// What of a bundle goes on.
 fn forward(
-    rt: &impl Abort,
     alloc: Global,
     bundle: &[Token],
     next: u32,
     elements: u32,
     tally: &mut Tally,
-) -> Vec<Token>
+) -> Result<Vec<Token>, AllocError>
     requires { next < elements }
-    ensures { AllTo elements next result.items }
+    ensures { IfOk result (λ made. AllTo elements next made.items) }
 {
     let mut made = Vec::new(alloc);
     for token in bundle {
         match hand_on(token, next, elements) {
-            Some(more) => made.push(more).expect(rt, "memory"),
+            Some(more) => made.push(more)?,
             None => tally.arrive(token),
         }
     }
-    made
+    Ok(made)
 }
 
 /// Commits a bundle that the player has in hand, and keeps what it made of it.
-fn pass_on(rt: &impl Abort, alloc: Global, mesh: &Mesh<Global>, p: &mut Player, bundle: &[Token])
+fn pass_on(
+    alloc: Global,
+    mesh: &Mesh<Global>,
+    p: &mut Player,
+    bundle: &[Token],
+) -> Result<(), AllocError>
     requires at { IsAt mesh.now p.old }
     requires held { Has p.old.seat.own.held (bundle.now ++ p.old.kept.items) }
     requires mine { AllTo mesh.now.elements p.old.seat.own.element bundle.now }
     requires kept { AllTo mesh.now.elements p.old.next p.old.kept.items }
-    ensures { IsPlaying mesh.now p.new }
+    ensures { OnOk result (IsPlaying mesh.now p.new) }
 {
     if bundle.is_empty() {
-        return;
+        return Ok(());
     }
-    let made = forward(rt, alloc, bundle, p.next, p.elements, &mut p.tally);
+    let made = forward(alloc, bundle, p.next, p.elements, &mut p.tally)?;
     let count = made.len() as u64;
     if count > MOST || p.made > MOST - count {
         p.tally.astray = true;
-        return;
+        return Err(AllocError);
     }
     mesh.commit(&mut p.seat, bundle, &made);
     p.made += count;
-    p.kept.extend_from_slice(&made).expect(rt, "memory");
+    p.kept.extend_from_slice(&made)?;
+    Ok(())
 }
 
 /// Offers all that the player keeps.
@@ -130,12 +136,13 @@ fn offer(alloc: Global, mesh: &Mesh<Global>, p: &mut Player)
 }
 
 /// Takes what the previous element posted, if anything.
-fn receive(rt: &impl Abort, alloc: Global, mesh: &Mesh<Global>, p: &mut Player)
+fn receive(alloc: Global, mesh: &Mesh<Global>, p: &mut Player) -> Result<(), AllocError>
     requires { IsPlaying mesh.now p.old }
-    ensures { IsPlaying mesh.now p.new }
+    ensures { OnOk result (IsPlaying mesh.now p.new) }
 {
-    if let Some(bundle) = mesh.take(&mut p.seat, p.previous) {
-        pass_on(rt, alloc, mesh, p, &bundle);
+    match mesh.take(&mut p.seat, p.previous) {
+        Some(bundle) => pass_on(alloc, mesh, p, &bundle),
+        None => Ok(()),
     }
 }
 
@@ -153,7 +160,6 @@ fn call_stop(mesh: &Mesh<Global>, p: &mut Player, reason: u64)
 impl Player {
     /// The player of a fresh seat. It has handed on the start tokens that are its own.
     pub fn new(
-        rt: &impl Abort,
         alloc: Global,
         mesh: &Mesh<Global>,
         seat: Seat<Global>,
@@ -161,12 +167,12 @@ impl Player {
         elements: u32,
         start: &[Token],
         first: u32,
-    ) -> Player
+    ) -> Result<Player, AllocError>
         requires mesh { (elements ≡ mesh.now.elements) × (start.now ≡ mesh.now.start) × (element < elements) × (elements ≤ 16) }
         requires seat { seat ≡ fresh_seat mesh.now element }
-        ensures { IsPlaying mesh.now result }
+        ensures { IfOk result (λ p. IsPlaying mesh.now p) }
     {
-        let own = own_tokens(rt, alloc, start, element, elements);
+        let own = own_tokens(alloc, start, element, elements)?;
         let mut p = Player {
             seat,
             kept: Vec::new(alloc),
@@ -180,44 +186,50 @@ impl Player {
                 astray: false,
             },
             reason: 0,
+            failed: false,
         };
-        pass_on(rt, alloc, mesh, &mut p, &own);
-        p
+        pass_on(alloc, mesh, &mut p, &own)?;
+        Ok(p)
     }
 
     /// Plays until no token is live.
-    pub fn run<R: Wait + Abort>(&mut self, rt: &R, alloc: Global, mesh: &Mesh<Global>)
+    pub fn run<R: Wait>(
+        &mut self,
+        rt: &R,
+        alloc: Global,
+        mesh: &Mesh<Global>,
+    ) -> Result<(), AllocError>
         requires { IsPlaying mesh.now self.old }
-        ensures { IsPlaying mesh.now self.new }
+        ensures { OnOk result (IsPlaying mesh.now self.new) }
     {
         'rounds: for _ in rt.forever() {
-            receive(rt, alloc, mesh, self);
+            receive(alloc, mesh, self)?;
             offer(alloc, mesh, self);
             if mesh.live(&mut self.seat) == 0 {
-                return;
+                return Ok(());
             }
         }
         unreachable!()
     }
 
     /// Plays until a reason to stop is seen; sets one where `sets` is not 0.
-    pub fn run_to_stop<R: Wait + Abort>(
+    pub fn run_to_stop<R: Wait>(
         &mut self,
         rt: &R,
         alloc: Global,
         mesh: &Mesh<Global>,
         sets: u64,
-    )
+    ) -> Result<(), AllocError>
         requires { IsPlaying mesh.now self.old }
-        ensures { IsPlaying mesh.now self.new }
+        ensures { OnOk result (IsPlaying mesh.now self.new) }
     {
         call_stop(mesh, self, sets);
         'rounds: for _ in rt.forever() {
-            receive(rt, alloc, mesh, self);
+            receive(alloc, mesh, self)?;
             offer(alloc, mesh, self);
             self.reason = mesh.stopped(&mut self.seat);
             if self.reason != 0 {
-                return;
+                return Ok(());
             }
         }
         unreachable!()
@@ -226,19 +238,17 @@ impl Player {
 
 /// The start tokens of an element.
 fn own_tokens(
-    rt: &impl Abort,
     alloc: Global,
     start: &[Token],
     element: u32,
     elements: u32,
-) -> Vec<Token>
+) -> Result<Vec<Token>, AllocError>
     requires { 0 < elements }
-    ensures { result.items ≡ filter (λ t. element_of elements t.to == element) start.now }
+    ensures { IfOk result (λ own. own.items ≡ filter (λ t. element_of elements t.to == element) start.now) }
 {
     start
         .iter()
         .copied()
         .filter(|t| t.to.element(elements) == element)
         .collect(alloc)
-        .expect(rt, "memory")
 }

@@ -1,5 +1,5 @@
 //! Rings of players, each in a thread of its own.
-ghost use Rattle.std.specs.Prelude.{◌≡◌, ◌<◌, ◌≤◌, ◌^◌, All, length};
+ghost use Rattle.std.specs.Prelude.{◌≡◌, ◌<◌, ◌≤◌, ◌^◌, All, IfOk, length};
 ghost use Rattle.mesh.specs.Seats.{AreFresh};
 ghost use Rattle.crossbeam_utils.specs.Padded.{padded_value};
 ghost use Rattle.mesh_tests.specs.Playing.{IsPlaying};
@@ -7,8 +7,7 @@ ghost use Rattle.mesh_tests.specs.Playing.{IsPlaying};
 use crate::player::Player;
 use crossbeam_utils::CachePadded;
 use mesh::{Mesh, Seat};
-use std::alloc::Global;
-use std::process::Abort;
+use std::alloc::{AllocError, Global};
 use std::sync::Wait;
 use std::thread;
 use std::thread::Threads;
@@ -17,9 +16,9 @@ use tags::token::{Port, To, Token, Word};
 const THREADS: usize = 16;
 
 /// Tokens with the numbers from 0 on, `each` of them for each element.
-fn start_tokens(rt: &impl Abort, alloc: Global, elements: u32, each: u32) -> Vec<Token>
+fn start_tokens(alloc: Global, elements: u32, each: u32) -> Result<Vec<Token>, AllocError>
     requires { (elements ≤ 16) × (each ≤ 100000) }
-    ensures { length result.items ≤ 2 ^ 40 }
+    ensures { IfOk result (λ start. length start.items ≤ 2 ^ 40) }
 {
     let mut start = Vec::new(alloc);
     for frame in 0..elements {
@@ -32,46 +31,39 @@ fn start_tokens(rt: &impl Abort, alloc: Global, elements: u32, each: u32) -> Vec
                 },
                 word: Word::Frame(frame * 100000 + k),
             };
-            start.push(token).expect(rt, "memory");
+            start.push(token)?;
         }
     }
-    assert!(rt; start.len() <= 1 << 40);
-    start
+    if start.len() > 1 << 40 {
+        return Err(AllocError);
+    }
+    Ok(start)
 }
 
 /// A player for each seat, the last first.
 fn players(
-    rt: &impl Abort,
     alloc: Global,
     mesh: &Mesh<Global>,
     mut seats: Vec<Seat<Global>>,
     elements: u32,
     start: &[Token],
-) -> Vec<CachePadded<Player>>
+) -> Result<Vec<CachePadded<Player>>, AllocError>
     requires mesh { (elements ≡ mesh.now.elements) × (start.now ≡ mesh.now.start) × (0 < elements) × (elements ≤ 16) }
     requires seats { (length seats.items ≡ elements) × AreFresh mesh.now seats.items }
-    ensures { All (λ p. IsPlaying mesh.now (padded_value p)) result.items }
+    ensures { IfOk result (λ all. All (λ p. IsPlaying mesh.now (padded_value p)) all.items) }
 {
     let mut all = Vec::new(alloc);
     while let Some(seat) = seats.pop() {
         let element = seats.len() as u32;
-        let player = Player::new(
-            rt,
-            alloc,
-            mesh,
-            seat,
-            element,
-            elements,
-            start,
-            element * 100000,
-        );
-        all.push(CachePadded::new(player)).expect(rt, "memory");
+        let first = element * 100000;
+        let player = Player::new(alloc, mesh, seat, element, elements, start, first)?;
+        all.push(CachePadded::new(player))?;
     }
-    all
+    Ok(all)
 }
 
 /// Lets each play until no token is live, in a thread of its own.
-fn play<R: Threads + Wait + Abort + Sync>(
+fn play<R: Threads + Wait + Sync>(
     rt: &R,
     alloc: Global,
     mesh: &Mesh<Global>,
@@ -87,13 +79,13 @@ fn play<R: Threads + Wait + Abort + Sync>(
             requires { IsPlaying mesh.now (padded_value p.old) }
         {
             let player: &mut Player = p;
-            player.run(rt, alloc, mesh);
+            player.failed = player.run(rt, alloc, mesh).is_err();
         },
     );
 }
 
 /// Lets each play until it sees a reason to stop. The one at `setter` sets it.
-fn play_to_stop<R: Threads + Wait + Abort + Sync>(
+fn play_to_stop<R: Threads + Wait + Sync>(
     rt: &R,
     alloc: Global,
     mesh: &Mesh<Global>,
@@ -111,7 +103,8 @@ fn play_to_stop<R: Threads + Wait + Abort + Sync>(
             requires { IsPlaying mesh.now (padded_value p.old) }
         {
             let player: &mut Player = p;
-            player.run_to_stop(rt, alloc, mesh, if i == setter { reason } else { 0 });
+            let sets = if i == setter { reason } else { 0 };
+            player.failed = player.run_to_stop(rt, alloc, mesh, sets).is_err();
         },
     );
 }
@@ -127,13 +120,13 @@ mod tests {
         let alloc = rt.alloc();
         for elements in [2u32, 4, 16] {
             let each = 100000 / elements;
-            let start = start_tokens(&rt, alloc, elements, each);
+            let start = start_tokens(alloc, elements, each)?;
             let (mesh, seats) = Mesh::new(alloc, elements, &start)?;
-            let mut all = players(&rt, alloc, &mesh, seats, elements, &start);
+            let mut all = players(alloc, &mesh, seats, elements, &start)?;
             play(&rt, alloc, &mesh, &mut all);
             for padded in &all {
                 let player: &Player = padded;
-                assert!(rt; !player.tally.astray, "{elements} seats");
+                assert!(rt; !player.failed && !player.tally.astray, "{elements} seats");
                 assert_eq!(rt; player.tally.arrived, each, "{elements} seats");
                 assert_eq!(rt; player.made, 100000, "{elements} seats");
             }
@@ -145,12 +138,13 @@ mod tests {
     fn a_stop_is_seen_by_all(rt: HostRuntime) -> Result<(), Fail> {
         let alloc = rt.alloc();
         for elements in [2u32, 4, 16] {
-            let start = start_tokens(&rt, alloc, elements, 100);
+            let start = start_tokens(alloc, elements, 100)?;
             let (mesh, seats) = Mesh::new(alloc, elements, &start)?;
-            let mut all = players(&rt, alloc, &mesh, seats, elements, &start);
+            let mut all = players(alloc, &mesh, seats, elements, &start)?;
             play_to_stop(&rt, alloc, &mesh, &mut all, 1, 7);
             for padded in &all {
                 let player: &Player = padded;
+                assert!(rt; !player.failed);
                 assert_eq!(rt; player.reason, 7, "{elements} seats");
             }
         }

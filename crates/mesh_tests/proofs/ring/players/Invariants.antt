@@ -6,7 +6,7 @@ use Rattle.mesh_tests.specs.Playing.{IsPlaying}
 use Rattle.mesh_tests.proofs.ring.players.Given as goal
 
 abbrev pub invariant-loop-seat : goal.invariant-loop-seat
-invariant-loop-seat g l = (length l.seats.items ≤ l.elements) × AreFresh l.mesh l.seats.items × All (λ p. IsPlaying l.mesh (padded_value p)) l.all.items
+invariant-loop-seat l = (length l.seats.items ≤ l.elements) × AreFresh l.mesh l.seats.items × All (λ p. IsPlaying l.mesh (padded_value p)) l.all.items
 
 abbrev pub decreases-loop-seat : goal.decreases-loop-seat
-decreases-loop-seat g l = length l.seats.items
+decreases-loop-seat l = length l.seats.items

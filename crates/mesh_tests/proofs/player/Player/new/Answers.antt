@@ -12,7 +12,7 @@ theirs n m e ts own is same = subst (λ (z : ℕ × List Token). AllTo z.0 e z.1
     (λ k d lk. let passes = filter_passes (λ (t : Token). element_of n t.to == e) ts k d lk in eqb-true _ _ passes)
 
 pub pass_on-requires-clause-mine : goal.pass_on-requires-clause-mine
-pass_on-requires-clause-mine g c =
+pass_on-requires-clause-mine c =
     subst (AllTo c.args.mesh.now.elements c.args.seat.own.element) (sym c.deref.ensures.value)
-    (subst (λ (z : ℕ). AllTo c.args.mesh.now.elements z c.own_tokens-own.result.items) (sym (ap (λ (s : SeatView). s.own.element) c.requires.seat))
-    (theirs c.args.elements c.args.mesh.now.elements c.args.element c.args.start.now c.own_tokens-own.result.items c.own_tokens-own.ensures c.requires.mesh.0))
+    (subst (λ (z : ℕ). AllTo c.args.mesh.now.elements z c.in_ok-own.own.items) (sym (ap (λ (s : SeatView). s.own.element) c.requires.seat))
+    (theirs c.args.elements c.args.mesh.now.elements c.args.element c.args.start.now c.in_ok-own.own.items c.in_ok-own.ensures c.requires.mesh.0))
