@@ -1,3 +1,4 @@
 pub mod Limits
 pub mod Truth
 pub mod Compiling
+pub mod InputLines

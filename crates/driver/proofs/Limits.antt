@@ -1,6 +1,6 @@
 -- The program of a straight graph within the limits is one that the machine takes.
-use Rattle.std.proofs.Common.{◌≡◌, ℕ, zero, suc, ◌+◌, ◌*◌, ◌-◌, ◌^◌, ◌<◌, ◌≤◌, Bool, true, false, List, [], ◌∷◌, ◌++◌, map, length, refl, sym, ap, ◌∙◌, subst, arith, Option, Some, None, length-append, if◌then◌else◌}
-use Rattle.std.specs.Prelude.{All, flat_map, slice_get, sum_by, ◌&&◌, ◌==◌, ⊤}
+use Rattle.std.proofs.Common.{◌≡◌, ℕ, zero, suc, ◌+◌, ◌*◌, ◌<◌, ◌≤◌, Bool, true, false, List, [], ◌∷◌, ◌++◌, map, length, refl, arith, Option, Some, None, length-append, if◌then◌else◌}
+use Rattle.std.specs.Prelude.{All, flat_map, slice_get, ◌&&◌, ◌==◌}
 use Rattle.std.proofs.lemmas.List.Elements.{All-append, All-cons, All-nil, All-map, All-weaker, All-head, All-tail}
 use Rattle.semantics.specs.declared.graph.Kind.{Kind}
 use Rattle.semantics.specs.declared.graph.Kind.TheVariants.{Lit, Apply1, Apply2, Cond, Enter, Merge, Fetch, Store, Call, StrictCall, Loop}
@@ -9,16 +9,16 @@ use Rattle.semantics.specs.Graph.{Graph, Block, Flow, Node, node_at, node_count,
 use Rattle.semantics.specs.Text.{HasText, HasBlockText, HasNodeLine, HasLine}
 use Rattle.semantics.specs.Meaning as Meaning
 use Rattle.semantics.specs.Meaning.{Statement, AtNode, Operand, positions, uses_at, uses_in, result_uses}
-use Rattle.semantics.specs.Program.{Instr, CodeBlock, Program}
-use Rattle.semantics.specs.Machine.{results_in, outputs_of}
+use Rattle.semantics.specs.Program.{CodeBlock}
+use Rattle.semantics.specs.Machine.{results_in}
 use Rattle.semantics.specs.Faithful as Faithful
 use Rattle.std.proofs.lemmas.List.{length-map}
 use Rattle.std.proofs.lemmas.List.Sums.{sum_by-cons}
 use Rattle.tags.specs.declared.token.Port.TheVariants.{Left}
-use Rattle.lowering.specs.Roles.{one, Role, Start, Line, Result, Join, Copy, End, Shown, Done, Freed, Inlet, inlet, is_instr, op_for, op_at, op_of, IsThere, IsWire, Wiring}
+use Rattle.lowering.specs.Roles.{one, Role, Start, Line, Result, Join, Copy, End, Shown, Done, Freed, Inlet, inlet, op_for, op_at, op_of, IsThere, IsWire, Wiring}
 use Rattle.lowering.specs.Implements as Implements
 use Rattle.lowering.specs.Implements.{IsStraight}
-use Rattle.lowering.specs.StraightPlan.{count_below, inlet_of, uses_of, is_unused, unused, join_count, or_end, end_to, results_from, straight_wire, straight_place, straight_wiring, straight_slot, straight_roles, counted, dest_to, is_pair_line, instr_for, straight_code, straight_codes, straight_program}
+use Rattle.lowering.specs.StraightPlan.{count_below, inlet_of, uses_of, is_unused, join_count, or_end, end_to, results_from, straight_wire, straight_place, straight_wiring, straight_slot, straight_roles, counted, dest_to, is_pair_line, instr_for, straight_code, straight_codes, straight_program}
 use Rattle.lowering.proofs.Counts.{count-le}
 use Rattle.lowering.proofs.StraightWired.{lawful_wires}
 use Rattle.schedule.specs.Straight.{IsStraightOp, IsShort, IsStraightInstr, IsStraightBlock, inputs_in, inputs_of, size_of, IsStraightProgram}

@@ -1,28 +1,25 @@
 -- A report that shows a run of faithful code tells the truth about the graph.
-use Rattle.std.proofs.Common.{◌≡◌, ◌↔◌, ℕ, ◌+◌, ◌<◌, Bool, false, ℤ, List, length, Option, Some, None, slice_get, refl, sym, ◌∙◌, ap, subst, arith}
-use Rattle.std.specs.Prelude.{Contains, sum, take}
+use Rattle.std.proofs.Common.{◌≡◌, ℕ, ◌+◌, ◌<◌, Bool, false, ℤ, List, length, Option, Some, None, sym, ◌∙◌, ap, subst, arith}
+use Rattle.std.specs.Prelude.{sum, take}
 use Rattle.tags.specs.declared.value.Value.{Value}
-use Rattle.tags.specs.declared.token.Token.{Token}
 use Rattle.semantics.specs.declared.report.End.{End}
 use Rattle.semantics.specs.declared.report.End.TheVariants.{Rest, Clash, Stuck}
-use Rattle.semantics.specs.Graph.{Graph, Flow, flow_of, first_cell}
+use Rattle.semantics.specs.Graph.{Graph, flow_of, first_cell}
 use Rattle.semantics.specs.Text.{IsText}
 use Rattle.semantics.specs.WellFormed.{WellFormed}
-use Rattle.semantics.specs.Meaning as Meaning
-use Rattle.semantics.specs.Meaning.{State, Reached}
+use Rattle.semantics.specs.Meaning.{State}
 use Rattle.semantics.specs.Program.{Program}
 use Rattle.semantics.specs.Rule.{array_base}
 use Rattle.semantics.specs.Cause.{SameSeen}
-use Rattle.semantics.specs.Machine as Machine
-use Rattle.semantics.specs.Machine.{Machine, Size, CellState, Vacant, Full, Deferred, Events, Run, at_start, Resting, Wants, stuck_rule, value_in}
-use Rattle.semantics.specs.Faithful.{Faithful, IsRun, IsExact, IsSecondStore, HasStoreOfFull, inputs_of}
+use Rattle.semantics.specs.Machine.{Machine, Size, CellState, Vacant, Full, Deferred, Events, stuck_rule, value_in}
+use Rattle.semantics.specs.Faithful.{Faithful, IsRun, IsSecondStore, inputs_of}
 use Rattle.semantics.specs.Report.{Report, IsPicture, HasEnd, Shows}
 use Rattle.schedule.specs.declared.config.Config.{Config}
 use Rattle.schedule.specs.State as Machines
 use Rattle.schedule.specs.State.{size}
 use Rattle.schedule.specs.Starts.{Opens}
 use Rattle.schedule.specs.Straight.{inputs_of as inputs_of_program}
-use Rattle.driver.specs.Headline.{ShowsMemory, IsOutcome, TellsOf, one_element}
+use Rattle.driver.specs.Headline.{ShowsMemory, TellsOf, one_element}
 use Rattle.driver.specs.Refused.{IsCompiled}
 use Rattle.driver.proofs.Limits.{inputs_same}
 

@@ -1,3 +1,5 @@
 pub mod Headline
 pub mod Crowded
 pub mod Refused
+pub mod Input
+pub mod Status

@@ -18,7 +18,6 @@ use Rattle.schedule.specs.Starts.{IsGood, IsCause}
 use Rattle.schedule.specs.Straight.{IsStraightProgram, inputs_of}
 use Rattle.driver.specs.Crowded.{IsFirstCrowded}
 use Rattle.driver.specs.declared.emulation.Fault.{Fault}
-use Rattle.driver.specs.declared.emulation.Fault.TheVariants as Fault
 
 -- the graph that a text has, and well formed
 pub record IsGoodText (text : List ℕ) (g : Graph) : Type 0 where

@@ -1,10 +1,11 @@
 //! Standard input: the text of a graph, and the integers after it.
 
-ghost use Rattle.std.specs.Prelude.{◌≡◌, ◌++◌};
+ghost use Rattle.std.specs.Prelude.{◌≡◌, ◌++◌, ◌<◌, ◌≤◌, IfOk, IfSome, MatchResult, Ok, length};
+ghost use Rattle.driver.specs.Input.{begins_main, graph_length, without_end, integers_of, IsBadInput};
 
+use graph_file::{Parts, literal};
 use std::alloc::{AllocError, Allocator};
 use std::io::Read;
-use std::str;
 
 /// The most bytes that standard input may have.
 pub const LIMIT: usize = 67_108_864;
@@ -18,16 +19,18 @@ pub enum InputFault {
 }
 
 impl From<AllocError> for InputFault {
-    fn from(_error: AllocError) -> InputFault {
+    fn from(_error: AllocError) -> InputFault
+        ensures { result ≡ InputFault.Memory }
+    {
         InputFault::Memory
     }
 }
 
 /// All bytes of the reader.
-pub fn read_input<A: Allocator, R: Read>(
-    alloc: A,
-    reader: &mut R,
-) -> Result<Vec<u8, A>, InputFault> {
+pub fn read_input<A: Allocator, R: Read>(alloc: A, reader: &mut R) -> Result<Vec<u8, A>, InputFault>
+    ensures all { IfOk result (λ v. IfSome (R.remaining reader.old) (λ xs. v.items ≡ xs)) }
+    ensures few { IfOk result (λ v. length v.items ≤ 67108864) }
+{
     let mut bytes = Vec::new(alloc);
     let mut chunk = [0u8; 4096];
     for _ in 0..=LIMIT {
@@ -45,36 +48,30 @@ pub fn read_input<A: Allocator, R: Read>(
     Err(InputFault::Input)
 }
 
+#[tactic(auto, unfolding(crate::specs::Input::graph_bytes))]
 /// The graph's text, up to the end of the first line that begins with `main `, and what follows it. Where there is no
 /// such line, all is the graph's text.
 pub fn split_at_main(input: &[u8]) -> (&[u8], &[u8])
-    ensures { result.0.now ++ result.1.now ≡ input.now }
+    ensures whole { result.0.now ++ result.1.now ≡ input.now }
+    ensures end { length result.0.now ≡ graph_length input.now }
 {
-    let mut start = 0;
+    let mut is_main = begins_main(input);
     for (i, byte) in input.iter().enumerate() {
         if *byte == b'\n' {
-            if input[start..].starts_with(b"main ") {
+            if is_main {
                 return input.split_at(i + 1);
             }
-            start = i + 1;
+            is_main = begins_main(&input[i + 1..]);
         }
     }
     input.split_at(input.len())
 }
 
-/// An integer written like a literal of a graph's text: `-` before a number other than 0, and no leading zeros.
-pub fn parse_integer(word: &[u8]) -> Option<i64> {
-    let digits = word.strip_prefix(b"-").unwrap_or(word);
-    let is_well_written = match digits {
-        [] => false,
-        [b'0'] => word.len() == 1,
-        [b'0', ..] => false,
-        _ => digits.iter().all(|byte| byte.is_ascii_digit()),
-    };
-    if !is_well_written {
-        return None;
-    }
-    str::from_utf8(word).ok()?.parse().ok()
+/// Whether the bytes begin with `main `.
+fn begins_main(bytes: &[u8]) -> bool
+    ensures { result ≡ begins_main bytes.now }
+{
+    bytes.starts_with(b"main ")
 }
 
 /// Why the lines after the graph are no inputs.
@@ -85,26 +82,36 @@ pub enum LinesFault {
     Memory,
 }
 
-impl From<AllocError> for LinesFault {
-    fn from(_error: AllocError) -> LinesFault {
-        LinesFault::Memory
+/// The lines without the end of the last one, where it has one.
+fn without_end(lines: &[u8]) -> &[u8]
+    requires { 0 < length lines.now }
+    ensures { result.now ≡ without_end lines.now }
+{
+    let last = lines.len() - 1;
+    if lines[last] == b'\n' {
+        &lines[..last]
+    } else {
+        lines
     }
 }
 
-/// The integers of the lines, one a line. The last line may have no end.
-pub fn parse_integers<A: Allocator>(alloc: A, lines: &[u8]) -> Result<Vec<i64, A>, LinesFault> {
+/// The integers of the lines, one a line, each written like a literal of a graph's text. The last line may have no end.
+pub fn parse_integers<A: Allocator>(alloc: A, lines: &[u8]) -> Result<Vec<i64, A>, LinesFault>
+    ensures { MatchResult result (λ v. integers_of lines.now ≡ Ok v.items) (IsBadInput lines.now) }
+{
     let mut integers = Vec::new(alloc);
     if lines.is_empty() {
         return Ok(integers);
     }
-    let mut number = 0u64;
-    let body = lines.strip_suffix(b"\n").unwrap_or(lines);
-    for line in body.split(|byte| *byte == b'\n') {
-        number = number.wrapping_add(1);
-        match parse_integer(line) {
-            Some(integer) => integers.push(integer).map_err(AllocError::from)?,
-            None => return Err(LinesFault::BadLine(number)),
-        }
+    let mut rest = Parts::of(without_end(lines), b'\n');
+    while let Some((line, after)) = rest.split_first() {
+        let Some(integer) = literal(line) else {
+            return Err(LinesFault::BadLine(integers.len() as u64 + 1));
+        };
+        let Ok(()) = integers.push(integer) else {
+            return Err(LinesFault::Memory);
+        };
+        rest = after;
     }
     Ok(integers)
 }

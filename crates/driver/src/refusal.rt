@@ -1,5 +1,11 @@
 //! Why a command has no result, and the one line that says so.
 
+ghost use Rattle.std.specs.Prelude.{◌≡◌, ℕ};
+ghost use Rattle.graph_file.specs.declared.fault.ReadFault.{ReadFault};
+ghost use Rattle.graph_check.specs.declared.faults.CheckFault.{CheckFault};
+ghost use Rattle.schemas.specs.declared.unbuilt.Unbuilt.{Unbuilt};
+ghost use Rattle.schedule.specs.declared.config.StartFault.{StartFault};
+
 use crate::emulation::Fault;
 use crate::input::{InputFault, LinesFault};
 use graph_check::CheckFault;
@@ -26,7 +32,10 @@ pub enum Refusal {
 }
 
 impl From<InputFault> for Refusal {
-    fn from(fault: InputFault) -> Refusal {
+    fn from(fault: InputFault) -> Refusal
+        ensures input { fault ≡ InputFault.Input → result ≡ Refusal.Input }
+        ensures memory { fault ≡ InputFault.Memory → result ≡ Refusal.Memory }
+    {
         match fault {
             InputFault::Input => Refusal::Input,
             InputFault::Memory => Refusal::Memory,
@@ -35,7 +44,14 @@ impl From<InputFault> for Refusal {
 }
 
 impl From<Fault> for Refusal {
-    fn from(fault: Fault) -> Refusal {
+    fn from(fault: Fault) -> Refusal
+        ensures read { (f : ReadFault) → fault ≡ Fault.Read f → result ≡ Refusal.Read f }
+        ensures check { (f : CheckFault) → fault ≡ Fault.Check f → result ≡ Refusal.Check f }
+        ensures unbuilt { (u : Unbuilt) → fault ≡ Fault.Unbuilt u → result ≡ Refusal.Unbuilt u }
+        ensures slots { (b : ℕ) → fault ≡ Fault.TooManySlots b → result ≡ Refusal.TooManySlots b }
+        ensures start { (f : StartFault) → fault ≡ Fault.Start f → result ≡ Refusal.Start f }
+        ensures memory { fault ≡ Fault.Memory → result ≡ Refusal.Memory }
+    {
         match fault {
             Fault::Read(fault) => Refusal::Read(fault),
             Fault::Check(fault) => Refusal::Check(fault),
@@ -48,7 +64,10 @@ impl From<Fault> for Refusal {
 }
 
 impl From<LinesFault> for Refusal {
-    fn from(fault: LinesFault) -> Refusal {
+    fn from(fault: LinesFault) -> Refusal
+        ensures line { (n : ℕ) → fault ≡ LinesFault.BadLine n → result ≡ Refusal.InputLine n }
+        ensures memory { fault ≡ LinesFault.Memory → result ≡ Refusal.Memory }
+    {
         match fault {
             LinesFault::BadLine(line) => Refusal::InputLine(line),
             LinesFault::Memory => Refusal::Memory,
@@ -57,7 +76,9 @@ impl From<LinesFault> for Refusal {
 }
 
 impl From<AllocError> for Refusal {
-    fn from(_error: AllocError) -> Refusal {
+    fn from(_error: AllocError) -> Refusal
+        ensures { result ≡ Refusal.Memory }
+    {
         Refusal::Memory
     }
 }

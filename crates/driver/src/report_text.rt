@@ -1,5 +1,8 @@
 //! The text of a report.
 
+ghost use Rattle.std.specs.Prelude.{◌≡◌};
+ghost use Rattle.driver.specs.Status.{exit_status};
+
 use graph::Graph;
 use schedule::report::Report;
 use semantics::report::End;
@@ -104,7 +107,9 @@ pub fn write_report<'a, A: Allocator, W: Write>(
 }
 
 /// The exit status that tells the end of a run.
-pub fn status_of(end: End) -> u8 {
+pub fn status_of(end: End) -> u8
+    ensures { result ≡ exit_status end }
+{
     match end {
         End::Rest | End::Stop => 0,
         End::Starved => 2,

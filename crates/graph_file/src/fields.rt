@@ -57,7 +57,7 @@ fn is_literal(bytes: &[u8]) -> bool
 
 /// A number, or `-` and a number other than 0, within an `i64`.
 #[tactic(auto, unfolding(crate::specs::Fields::literal_of))]
-fn literal(bytes: &[u8]) -> Option<i64>
+pub fn literal(bytes: &[u8]) -> Option<i64>
     ensures { result ≡ literal_of bytes.now }
 {
     if !is_literal(bytes) {

@@ -11,6 +11,8 @@ mod words;
 mod writing;
 
 pub use fault::{ReadFault, ReadFaultKind};
+pub use fields::literal;
+pub use parts::Parts;
 pub use reading::read;
 pub use writing::write;
 

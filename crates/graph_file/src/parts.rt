@@ -8,7 +8,7 @@ use std::marker::Model;
 
 /// The parts of some bytes between those of one value, from the first that was not taken. Contracts see the list of them.
 #[derive(Drop)]
-pub(crate) struct Parts<'a> {
+pub struct Parts<'a> {
     /// The bytes from the next part on, or None where no part is left.
     rest: Option<&'a [u8]>,
     separator: u8,
@@ -25,7 +25,7 @@ impl<'a> Model for Parts<'a> {
 
 impl<'a> Parts<'a> {
     /// The parts of the bytes between those that are the separator.
-    pub(crate) fn of(bytes: &'a [u8], separator: u8) -> Parts<'a>
+    pub fn of(bytes: &'a [u8], separator: u8) -> Parts<'a>
         ensures { result ≡ parts separator bytes.now }
     {
         Parts {
@@ -35,7 +35,7 @@ impl<'a> Parts<'a> {
     }
 
     /// The same parts once more.
-    pub(crate) fn again(&self) -> Parts<'a>
+    pub fn again(&self) -> Parts<'a>
         ensures { result ≡ self.now }
     {
         Parts {
@@ -45,7 +45,7 @@ impl<'a> Parts<'a> {
     }
 
     /// The first part, and the parts after it. None where no part is left.
-    pub(crate) fn split_first(self) -> Option<(&'a [u8], Parts<'a>)>
+    pub fn split_first(self) -> Option<(&'a [u8], Parts<'a>)>
         ensures { MatchOption result (self.entry ≡ []) (λ x. self.entry ≡ x.0.now ∷ x.1) }
     {
         let Parts { rest, separator } = self;
@@ -59,7 +59,7 @@ impl<'a> Parts<'a> {
 
     /// Whether so many parts are left.
     #[tactic(auto, using(crate::proofs::Taking::count_parts))]
-    pub(crate) fn has(&self, n: usize) -> bool
+    pub fn has(&self, n: usize) -> bool
         ensures { result ≡ (length self.now == n) }
     {
         match self.rest {
@@ -70,7 +70,7 @@ impl<'a> Parts<'a> {
 
     /// Whether fewer parts are left.
     #[tactic(auto, using(crate::proofs::Taking::count_parts))]
-    pub(crate) fn is_below(&self, n: usize) -> bool
+    pub fn is_below(&self, n: usize) -> bool
         ensures { result ≡ nat_lt (length self.now) n }
     {
         match self.rest {

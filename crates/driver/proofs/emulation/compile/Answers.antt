@@ -1,4 +1,4 @@
-use Rattle.std.proofs.Common.{◌≡◌, ap, ◌∙◌, subst, arith}
+use Rattle.std.proofs.Common.{ap, ◌∙◌, subst}
 use Rattle.semantics.specs.Graph.{Graph, flow_of}
 use Rattle.lowering.specs.StraightPlan.{straight_program}
 use Rattle.lowering.specs.Theorem.{IsStraightLine}
