@@ -14,7 +14,8 @@ use Rattle.semantics.specs.Program.{CodeBlock}
 use Rattle.determinacy.proofs.Resolved.{all_get}
 use Rattle.lowering.specs.Theorem.{IsPlainKind}
 use Rattle.lowering.specs.StraightPlan.{straight_code, straight_codes}
-use Rattle.schemas.specs.Straight.{IsPlainNode, IsPlainBlock, IsStraightLine}
+use Rattle.schemas.specs.Straight.{IsPlainNode, IsPlainBlock}
+use Rattle.lowering.specs.Theorem.{IsStraightLine}
 use Rattle.schemas.specs.Wires.{ComesFrom, IsReady, plain_block}
 
 abbrev Named : Type 0

@@ -9,7 +9,8 @@ use Rattle.semantics.specs.Graph.{Graph, Block, Node, node_at}
 use Rattle.semantics.specs.WellFormed.{WellFormed, IsBlockWell, IsNodeWell, IsEarlier, AllDiffer, region_of}
 use Rattle.semantics.specs.Text.{HasText, HasBlockText, HasNodeLine, IsName, IsWrittenSource}
 use Rattle.schemas.specs.Samples.{Named, source, add_node, cond_node, adder, first, chooser, graph_of}
-use Rattle.schemas.specs.Straight.{IsPlainNode, IsPlainBlock, IsStraightLine}
+use Rattle.schemas.specs.Straight.{IsPlainNode, IsPlainBlock}
+use Rattle.lowering.specs.Theorem.{IsStraightLine}
 
 -- BLOCKS
 no_node : (k : ℕ) (x : Node (List ℕ)) → slice_get [] k ≡ Some x → ⊥

@@ -12,9 +12,6 @@ IsPlainNode n = IsPlainKind n.kind
 abbrev pub IsPlainBlock : List ℕ × Block (List ℕ) → Type 0
 IsPlainBlock named = All IsPlainNode named.1.nodes
 
-abbrev pub IsStraightLine : Graph → Type 0
-IsStraightLine g = All IsPlainBlock g.blocks
-
 -- the word of a kind in a node line
 abbrev pub kind_word : Kind (List ℕ) → List ℕ
 kind_word (Lit v) = codes "lit"

@@ -11,7 +11,7 @@ ghost use Rattle.semantics.specs.Graph.{flow_of, place_of, block_names, same_nam
 ghost use Rattle.lowering.specs.StraightPlan.{straight_program};
 ghost use Rattle.semantics.specs.WellFormed.{WellFormed};
 ghost use Rattle.semantics.specs.Text.{HasText};
-ghost use Rattle.schemas.specs.Straight.{IsStraightLine};
+ghost use Rattle.lowering.specs.Theorem.{IsStraightLine};
 ghost use Rattle.schemas.specs.Samples as Samples;
 
 mod block;

@@ -3,7 +3,8 @@
 ghost use Rattle.std.specs.Prelude.{◌≡◌, ◌+◌, ◌≤◌, MatchOption, IfSome, length};
 ghost use Rattle.semantics.specs.Text.{HasText};
 ghost use Rattle.lowering.specs.Theorem.{IsPlainKind};
-ghost use Rattle.schemas.specs.Straight.{IsPlainBlock, IsStraightLine, IsFirstUnbuilt, IsFirstUnbuiltIn, IsUnbuiltWord};
+ghost use Rattle.lowering.specs.Theorem.{IsStraightLine};
+ghost use Rattle.schemas.specs.Straight.{IsPlainBlock, IsFirstUnbuilt, IsFirstUnbuiltIn, IsUnbuiltWord};
 
 use graph::{Block, Graph, Name};
 use semantics::graph::Kind;

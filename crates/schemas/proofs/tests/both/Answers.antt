@@ -1,7 +1,7 @@
 use Rattle.std.proofs.Common.{◌≡◌, [], ◌∷◌, ◌++◌, sym, ap, ◌∙◌, subst}
 use Rattle.semantics.specs.WellFormed.{WellFormed}
 use Rattle.semantics.specs.Text.{HasText}
-use Rattle.schemas.specs.Straight.{IsStraightLine}
+use Rattle.lowering.specs.Theorem.{IsStraightLine}
 use Rattle.schemas.specs.Samples.{first, graph_of}
 use Rattle.schemas.proofs.Samples.{both, both_well, both_text, both_straight}
 use Rattle.schemas.proofs.tests.both.Goals as goal
