@@ -13,4 +13,6 @@ mod run;
 #[cfg(test)]
 mod served;
 #[cfg(test)]
+mod streams;
+#[cfg(test)]
 mod values;
