@@ -1,3 +1,2 @@
 pub mod Listing
-pub mod Sending
-pub mod Shown
+pub mod Places

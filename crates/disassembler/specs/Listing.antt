@@ -95,11 +95,11 @@ abbrev pub numbered : {X : Type 0} → (ℕ → X → List ℕ) → ℕ → List
 numbered text n [] = []
 numbered text n (x ∷ xs) = text n x ++ numbered text (n + 1) xs
 
-abbrev pub block_line : ℕ → CodeBlock → List ℕ
-block_line n b = line (codes "block " ++ decimal n ++ codes " inputs " ++ decimal b.inputs ++ codes " outputs " ++ decimal b.outputs ++ codes " slots " ++ decimal b.slots)
+abbrev pub block_line : ℕ → ℕ → ℕ → ℕ → List ℕ
+block_line n inputs outputs slots = line (codes "block " ++ decimal n ++ codes " inputs " ++ decimal inputs ++ codes " outputs " ++ decimal outputs ++ codes " slots " ++ decimal slots)
 
 abbrev pub block_lines : ℕ → CodeBlock → List ℕ
-block_lines n b = block_line n b ++ numbered instr_line 0 b.instrs
+block_lines n b = block_line n b.inputs b.outputs b.slots ++ numbered instr_line 0 b.instrs
 
 abbrev pub array_line : ℕ → ℕ → List ℕ
 array_line n len = line (codes "array " ++ decimal n ++ codes " " ++ decimal len)

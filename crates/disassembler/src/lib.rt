@@ -2,4 +2,7 @@
 #![tactic(auto)]
 
 mod line;
+mod listing;
 mod sending;
+
+pub use listing::list;

@@ -5,26 +5,17 @@ ghost use Rattle.semantics.specs.Program.{Instr};
 ghost use Rattle.semantics.specs.Text.{field, unary_word, binary_word};
 ghost use Rattle.semantics.specs.Rule.{slot_of};
 ghost use Rattle.disassembler.specs.Listing.{name_of, right_in, left_in, slot_text, dest_text, port_letter, operand_text, origin_text, instr_line};
-ghost use Rattle.disassembler.specs.Shown.{shown};
-ghost use Rattle.disassembler.specs.Sending.{Sends};
+ghost use Rattle.object_view.specs.Reading.{shown};
+ghost use Rattle.object_view.specs.Sending.{Sends};
 
 use crate::sending::{gap, send, send_all};
 use itoa::Buffer;
+use object_view::CodeInstr;
 use operators::{Binary, Unary};
 use semantics::program::{Dest, Op};
 use std::io::{self, Write};
 use tags::token::Port;
 use tags::value::Origin;
-
-/// An instruction.
-#[derive(Clone, Copy)]
-pub struct CodeInstr {
-    pub op: Op,
-    pub origin: Origin,
-    pub slot: u32,
-    pub first: Option<Dest>,
-    pub second: Option<Dest>,
-}
 
 /// The name of an operator.
 fn unary_word(op: Unary) -> &'static [u8]

@@ -2,7 +2,7 @@
 
 ghost use Rattle.std.specs.Prelude.{◌≡◌, ◌-◌, ◌≤◌, flat_map};
 ghost use Rattle.disassembler.specs.Listing.{gap};
-ghost use Rattle.disassembler.specs.Sending.{Sends};
+ghost use Rattle.object_view.specs.Sending.{Sends};
 
 use std::io::{self, ErrorKind, Write};
 
