@@ -6,3 +6,6 @@ mod listing;
 mod sending;
 
 pub use listing::list;
+
+#[cfg(test)]
+mod tests;

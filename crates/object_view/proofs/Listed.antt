@@ -46,7 +46,7 @@ first_of_listed w p n b e h =
     let z : 0 + b ≡ b = omega arith in
     let s' : sum_by (λ (x : CodeBlock). length x.instrs) (take b (listed (block_in w) 0 n)) ≡ instrs_below w b = omega (arith, s, ap (instrs_below w) z) in
     let m = sum-map (λ (x : CodeBlock). length x.instrs) (take b (listed (block_in w) 0 n)) in
-    ap (λ bs. sum (map (λ (x : CodeBlock). length x.instrs) (take b bs))) e ∙ m ∙ s' 
+    ap (λ bs. sum (map (λ (x : CodeBlock). length x.instrs) (take b bs))) e ∙ m ∙ s'
 
 -- AN INSTRUCTION BY ITS NUMBER
 pub instr_there : (w : ℕ → ℕ) (b k j ip : ℕ) → instrs_below w b + j ≡ ip → ip < instrs_below w (b + k) → instr_from (listed (block_in w) b k) j ≡ Some (shown (instr_in w ip))
@@ -57,6 +57,7 @@ instr_there w b (suc k) j ip e h = go (instr_there w (b + 1) k) (nat_lt j (lengt
   where
     here : List Instr
     here = listed (λ n. shown (instr_in w n)) (instrs_below w b) (count_in (w (6 + b)))
+
     go : ((i jp : ℕ) → instrs_below w (b + 1) + i ≡ jp → jp < instrs_below w ((b + 1) + k) → instr_from (listed (block_in w) (b + 1) k) i ≡ Some (shown (instr_in w jp))) → (t : Bool) → nat_lt j (length here) ≡ t → (if t then slice_get here j else instr_from (listed (block_in w) (b + 1) k) (j - length here)) ≡ Some (shown (instr_in w ip))
     go later true q = get_listed (λ n. shown (instr_in w n)) (instrs_below w b) (count_in (w (6 + b))) j ip (omega (arith, ltb-true _ _ q, length_listed (λ n. shown (instr_in w n)) (instrs_below w b) (count_in (w (6 + b))))) e
     go later false q =
@@ -71,6 +72,7 @@ instr_not_there w b (suc k) j h = go (instr_not_there w (b + 1) k) (nat_lt j (le
   where
     here : List Instr
     here = listed (λ n. shown (instr_in w n)) (instrs_below w b) (count_in (w (6 + b)))
+
     go : ((i : ℕ) → instrs_below w ((b + 1) + k) ≤ instrs_below w (b + 1) + i → instr_from (listed (block_in w) (b + 1) k) i ≡ None) → (t : Bool) → nat_lt j (length here) ≡ t → (if t then slice_get here j else instr_from (listed (block_in w) (b + 1) k) (j - length here)) ≡ None
     go later true q =
         let len = length_listed (λ n. shown (instr_in w n)) (instrs_below w b) (count_in (w (6 + b))) in

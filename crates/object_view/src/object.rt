@@ -48,8 +48,25 @@ impl<'a> Model for Object<'a> {
 
 impl<'a> Object<'a> {
     ghost use Rattle.object_view.specs.Fields.{version_number};
-    ghost use Rattle.object_view.specs.Reading.{shown, block_shown, instr_bytes};
+    ghost use Rattle.object_view.specs.Reading.{opened, shown, block_shown, instr_bytes};
     ghost use Rattle.object_view.specs.Checks.{first_refusal};
+
+    /// Opens the bytes where they lie, or says what is wrong with them first. Takes time in proportion to their number.
+    pub fn open(bytes: &'a [u8]) -> Result<Object<'a>, ObjectFault>
+        ensures refused { MatchResult result
+            (λ o. first_refusal bytes.now ≡ None)
+            (λ e. first_refusal bytes.now ≡ Some e) }
+        ensures opened { IfOk result (λ o. o ≡ opened bytes.now) }
+    {
+        let tables = match Tables::read(bytes) {
+            Ok(tables) => tables,
+            Err(fault) => return Err(fault),
+        };
+        if let Err(fault) = tables.check() {
+            return Err(fault);
+        }
+        Ok(Object { tables })
+    }
 
     pub fn version(&self) -> Version
         ensures { version_number result ≡ self.now.version }
