@@ -1,3 +1,4 @@
 pub mod Headline
 pub mod Crowded
 pub mod Refused
+pub mod Disassembled
