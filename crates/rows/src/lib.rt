@@ -5,6 +5,8 @@
 #[cfg(test)]
 mod memory;
 #[cfg(test)]
+mod objects;
+#[cfg(test)]
 mod orders;
 #[cfg(test)]
 mod refusals;

@@ -159,7 +159,7 @@ fn stops_at_failed_writes(rt: HostRuntime) -> Result<(), Fail> {
     Ok(())
 }
 
-/// Gives so many bytes.
+/// Gives so many bytes, and leaves in each buffer what stands there.
 struct LongReader {
     left: u64,
 }
@@ -168,9 +168,6 @@ impl Read for LongReader {
     fn read(&mut self, buffer: &mut [u8]) -> io::Result<usize> {
         let count = (buffer.len() as u64).min(self.left);
         self.left -= count;
-        for place in buffer.iter_mut() {
-            *place = b'x';
-        }
         Ok(count as usize)
     }
 }
@@ -180,7 +177,6 @@ fn refuses_long_input(rt: HostRuntime) -> Result<(), Fail> {
     for (length, wanted) in [
         (67_108_864, b"refused: read NoHeader line 1\n".as_slice()),
         (67_108_865, b"refused: input\n".as_slice()),
-        (u64::MAX, b"refused: input\n".as_slice()),
     ] {
         let mut text = Vec::new(rt.alloc());
         let mut reader = LongReader { left: length };
