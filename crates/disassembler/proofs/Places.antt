@@ -1,9 +1,9 @@
 -- Where the instructions of a block stand.
-use Rattle.std.proofs.Common.{arith, ◌≡◌, ℕ, zero, suc, ◌+◌, ◌-◌, ◌<◌, ◌≤◌, List, [], ◌∷◌, length, take, map, Option, Some, None, sym, ap, ◌∙◌, refl, nat_lt, true, false}
+use Rattle.std.proofs.Common.{arith, ◌≡◌, ℕ, zero, suc, ◌+◌, ◌-◌, ◌<◌, ◌≤◌, List, [], ◌∷◌, length, take, map, Option, Some, None, ap, ◌∙◌, refl, nat_lt, true, false}
 use Rattle.std.proofs.lemmas.Grind.{common_steps}
 use Rattle.std.proofs.lemmas.List.{take_all}
-use Rattle.std.specs.Prelude.{slice_get, option_map, sum, if◌then◌else◌}
-use Rattle.semantics.specs.Program.{Instr, CodeBlock, Program, first_of, instr_from, instr_at}
+use Rattle.std.specs.Prelude.{slice_get, option_map, sum}
+use Rattle.semantics.specs.Program.{CodeBlock, Program, first_of, instr_from, instr_at}
 
 -- how many instructions some blocks have
 abbrev pub count : List CodeBlock → ℕ

@@ -1,15 +1,7 @@
-use Rattle.std.proofs.Common.{◌≡◌, ℕ, ◌+◌, ◌<◌, ◌≤◌, length, List, Option, Err, arith, refl, sym, ap, ◌∙◌}
-use Rattle.std.specs.Prelude.{Some, None, slice_get, option_map}
-use Rattle.std.proofs.lemmas.Result.{err_from_is_err_and}
-use Rattle.semantics.specs.Program.{Instr, CodeBlock, first_of, instr_at}
+use Rattle.std.proofs.Common.{◌≡◌, ℕ, ◌+◌, arith, ap, ◌∙◌}
+use Rattle.semantics.specs.Program.{first_of, instr_at}
 use Rattle.object_view.specs.declared.object.BlockView.{BlockView}
-use Rattle.object_view.specs.declared.instr.CodeInstr.{CodeInstr}
-use Rattle.object_view.specs.Reading.{shown, block_shown}
-use Rattle.disassembler.specs.Places.{IsBlockAt}
-use Rattle.disassembler.specs.Listing.{numbered, instr_line, array_line, block_line, block_lines}
-use Rattle.disassembler.proofs.Sent.{sends_from, sends_other, sends_less, sends_more, sends_same}
-use Rattle.disassembler.proofs.Numbered.{more, stop, done, outside}
-use Rattle.disassembler.proofs.Places.{here, within, none_shown, some_shown}
+use Rattle.disassembler.proofs.Places.{here, within}
 use Rattle.disassembler.proofs.listing.instr_in.Goals as goal
 
 pub returns-in_default : goal.returns-in_default

@@ -1,8 +1,7 @@
-use Rattle.std.proofs.Common.{◌++◌, ◌∷◌, [], ℕ, List, Option, Err, sym, ap}
-use Rattle.std.specs.Prelude.{codes, decimal, option_to_list}
+use Rattle.std.proofs.Common.{◌++◌, ℕ, List, Option, Err}
 use Rattle.std.proofs.lemmas.Result.{err_from_is_err_and}
 use Rattle.disassembler.specs.Listing.{head_line, block_lines, array_line, numbered}
-use Rattle.disassembler.proofs.Sent.{appends_then, sends_from, sends_more, sends_less, sends_other, sends_same}
+use Rattle.disassembler.proofs.Sent.{appends_then, sends_from, sends_more, sends_less, sends_other}
 use Rattle.disassembler.proofs.listing.list.Goals as goal
 
 pub returns-in_err-list_head : goal.returns-in_err-list_head

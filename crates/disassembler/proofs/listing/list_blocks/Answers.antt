@@ -1,15 +1,12 @@
-use Rattle.std.proofs.Common.{◌≡◌, ℕ, ◌+◌, ◌<◌, ◌≤◌, length, List, Option, Err, arith, refl, sym, ap, ◌∙◌}
-use Rattle.std.specs.Prelude.{Some, None, slice_get, option_map}
+use Rattle.std.proofs.Common.{◌≡◌, arith, refl, sym, ◌∙◌}
+use Rattle.std.specs.Prelude.{None, slice_get}
 use Rattle.std.proofs.lemmas.Result.{err_from_is_err_and}
-use Rattle.semantics.specs.Program.{Instr, CodeBlock, first_of, instr_at}
-use Rattle.object_view.specs.declared.object.BlockView.{BlockView}
-use Rattle.object_view.specs.declared.instr.CodeInstr.{CodeInstr}
-use Rattle.object_view.specs.Reading.{shown, block_shown}
-use Rattle.disassembler.specs.Places.{IsBlockAt}
-use Rattle.disassembler.specs.Listing.{numbered, instr_line, array_line, block_line, block_lines}
-use Rattle.disassembler.proofs.Sent.{sends_from, sends_other, sends_less, sends_more, sends_same}
+use Rattle.semantics.specs.Program.{first_of}
+use Rattle.object_view.specs.Reading.{block_shown}
+use Rattle.disassembler.specs.Listing.{block_lines}
+use Rattle.disassembler.proofs.Sent.{sends_from, sends_other}
 use Rattle.disassembler.proofs.Numbered.{more, stop, done, outside}
-use Rattle.disassembler.proofs.Places.{here, within, none_shown, some_shown}
+use Rattle.disassembler.proofs.Places.{none_shown, some_shown}
 use Rattle.disassembler.proofs.listing.list_blocks.Goals as goal
 
 pub returns-in_default : goal.returns-in_default
