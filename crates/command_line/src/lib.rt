@@ -13,6 +13,8 @@ pub enum Request {
     Check,
     /// Compiles and runs the graph on standard input.
     Run(RunOptions),
+    /// Lists the object on standard input.
+    Dis,
 }
 
 /// How a graph is to be run.
@@ -71,10 +73,12 @@ fn run_command<'a>(alloc: Global) -> Result<Command<'a>, AllocError> {
 
 fn program_command<'a>(alloc: Global) -> Result<Command<'a>, AllocError> {
     let check = Command::new(alloc, "check").about("Says whether standard input has a good graph");
+    let dis = Command::new(alloc, "dis").about("Lists the code of the object on standard input");
     Command::new(alloc, "ets")
         .about("Compiles dataflow graphs for an explicit token store machine and runs them")
         .subcommand_required(true)
         .subcommand(check)?
+        .subcommand(dis)?
         .subcommand(run_command(alloc)?)
 }
 
@@ -87,6 +91,7 @@ fn request_in(matches: &ArgMatches<'_>) -> Option<Request> {
             mode_is_one: run.get_str("mode")? == "one",
         })),
         Some(("check", _)) => Some(Request::Check),
+        Some(("dis", _)) => Some(Request::Dis),
         _ => None,
     }
 }
@@ -134,6 +139,12 @@ mod tests {
                 Ok(Request::Check)
             )
         );
+        assert!(rt;
+            matches!(
+                parse(rt.alloc(), ["ets", "dis"].as_slice()),
+                Ok(Request::Dis)
+            )
+        );
         Ok(())
     }
 
@@ -144,6 +155,7 @@ mod tests {
             ["ets", "run", "--frames", "x"].as_slice(),
             ["ets", "run", "--steps", "1", "--steps", "2"].as_slice(),
             ["ets", "check", "more"].as_slice(),
+            ["ets", "dis", "more"].as_slice(),
             ["ets", "walk"].as_slice(),
             ["ets"].as_slice(),
         ] {

@@ -3,3 +3,4 @@ pub mod Crowded
 pub mod Refused
 pub mod Input
 pub mod Status
+pub mod Disassembled

@@ -10,6 +10,7 @@ use crate::emulation::Fault;
 use crate::input::{InputFault, LinesFault};
 use graph_check::CheckFault;
 use graph_file::ReadFault;
+use object_view::ObjectFault;
 use schedule::config::StartFault;
 use schemas::Unbuilt;
 use std::alloc::AllocError;
@@ -28,6 +29,8 @@ pub enum Refusal {
     /// This line of the inputs, from 1, is no integer.
     InputLine(u64),
     Start(StartFault),
+    /// Standard input is no object.
+    Object(ObjectFault),
     Memory,
 }
 
@@ -120,6 +123,7 @@ impl fmt::Display for Refusal {
             Refusal::TooManySlots(block) => write!(f, "refused: slots TooManySlots block {block}"),
             Refusal::InputLine(line) => write!(f, "refused: input line {line}"),
             Refusal::Start(fault) => write!(f, "refused: start {fault:?}"),
+            Refusal::Object(fault) => write!(f, "refused: object {fault:?}"),
             Refusal::Memory => write!(f, "refused: memory"),
         }
     }

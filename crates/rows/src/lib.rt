@@ -5,6 +5,8 @@
 #[cfg(test)]
 mod memory;
 #[cfg(test)]
+mod objects;
+#[cfg(test)]
 mod orders;
 #[cfg(test)]
 mod refusals;
@@ -12,5 +14,7 @@ mod refusals;
 mod run;
 #[cfg(test)]
 mod served;
+#[cfg(test)]
+mod streams;
 #[cfg(test)]
 mod values;

@@ -1,6 +1,7 @@
 //! What the program refuses, and in which words.
 
 use crate::served::{expect_served, serve_words};
+use std::alloc::Global;
 use std::test::Fail;
 
 const ADD: &[u8] = b"etsgraph 1\nblock m 2 1\n- add 0.0 1.0\nout 2.0\nend\nmain m\n2\n3\n";
@@ -29,6 +30,52 @@ fn refuses_texts(rt: HostRuntime) -> Result<(), Fail> {
     ] {
         expect_served(&rt, rt.alloc(), &["ets", "check"], input, wanted, 1)?;
         expect_served(&rt, rt.alloc(), &["ets", "run"], input, wanted, 1)?;
+    }
+    Ok(())
+}
+
+#[test]
+fn refuses_graphs(rt: HostRuntime) -> Result<(), Fail> {
+    for (text, wanted) in [
+        (
+            b"etsgraph 1\nblock m 1 1\n- lit 1 0.0\n- add 0.0 1.0\n- cond 0.0\n3+ enter 0.0\n3- neg 4.0\nout 2.0\nend\nmain m\n".as_slice(),
+            b"refused: check CrossesRegion block 0 node 5\n".as_slice(),
+        ),
+        (
+            b"etsgraph 1\nblock m 1 1\n- lit 0 0.0\n- lt 0.0 1.0\n- cond 2.0\n3+ enter 0.0\n3+ lit -1 4.0\n3- enter 0.0\n3- cond 6.0\n7+ enter 6.0\n7+ lit 1 8.0\n7- enter 6.0\n- merge 7 9.0 10.0\n- merge 3 5.0 11.0\nout 12.0\nend\nmain m\n",
+            b"refused: check BadRegion block 0 node 11\n",
+        ),
+    ] {
+        expect_served(&rt, rt.alloc(), &["ets", "check"], text, wanted, 1)?;
+    }
+    Ok(())
+}
+
+/// A loop that sums the numbers up to its input, with this bound.
+fn sum_with_bound(alloc: Global, bound: &[u8]) -> Result<Vec<u8>, Fail> {
+    let mut text =
+        b"etsgraph 1\nblock b 3 4\n- lit 1 0.0\n- add 0.0 3.0\n- add 1.0 0.0\n- le 4.0 2.0\nout 6.0 4.0 5.0 2.0\nend\nblock m 1 1\n- lit 1 0.0\n- lit 0 0.0\n- loop b ".to_vec(
+            alloc,
+        )?;
+    text.extend_from_slice(bound)?;
+    text.extend_from_slice(b" 1.0 2.0 0.0\nout 3.1\nend\nmain m\n")?;
+    Ok(text)
+}
+
+#[test]
+fn refuses_bounds(rt: HostRuntime) -> Result<(), Fail> {
+    for (bound, wanted, status) in [
+        (
+            b"1".as_slice(),
+            b"refused: check BadBound block 1 node 3\n".as_slice(),
+            1,
+        ),
+        (b"2", b"ok\n", 0),
+        (b"64", b"ok\n", 0),
+        (b"65", b"refused: check BadBound block 1 node 3\n", 1),
+    ] {
+        let text = sum_with_bound(rt.alloc(), bound)?;
+        expect_served(&rt, rt.alloc(), &["ets", "check"], &text, wanted, status)?;
     }
     Ok(())
 }

@@ -1,0 +1,3 @@
+mod Sent
+mod Numbered
+mod Places
