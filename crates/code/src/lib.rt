@@ -61,3 +61,19 @@ impl<A: Allocator> Model for Program<A> {
 
     ghost view = { λ p. record { blocks = p.blocks.items; arrays = p.arrays.items; main = p.main } };
 }
+
+/// Code: a program with its table of literals, which an object holds in ascending order. It may have literals that no
+/// instruction uses.
+#[derive(Drop)]
+pub struct Code<A: Allocator> {
+    pub program: Program<A>,
+    pub literals: Vec<i64, A>,
+}
+
+impl<A: Allocator> Model for Code<A> {
+    ghost use Rattle.semantics.specs.Program.{Code};
+
+    ghost Value = { Code };
+
+    ghost view = { λ c. record { program = c.program; literals = c.literals.items } };
+}

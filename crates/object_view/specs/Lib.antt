@@ -1,0 +1,4 @@
+pub mod Fields
+pub mod Checks
+pub mod Reading
+pub mod Sending

@@ -1,0 +1,14 @@
+//! Object files: code as bytes. An object is opened where it lies: nothing is copied, and no memory is taken.
+#![tactic(auto)]
+
+mod checks;
+mod fault;
+mod instr;
+mod object;
+mod opcode;
+mod tables;
+mod words;
+
+pub use fault::ObjectFault;
+pub use instr::CodeInstr;
+pub use object::{BlockView, Object, Version};

@@ -1,0 +1,117 @@
+//! The words of an object's bytes.
+
+ghost use Rattle.std.specs.Prelude.{◌≡◌, ◌+◌, ◌*◌, ◌≤◌, length, option_map};
+ghost use Rattle.object_view.specs.Fields as Fields;
+
+use crate::opcode::{self, Opcode};
+use byteorder::{ByteOrder, LittleEndian};
+use semantics::program::Dest;
+use tags::token::Port;
+use tags::value::{NodeNumber, Origin};
+
+#[tactic(auto, unfolding(crate::specs::Fields::word_at))]
+/// The word at a place, counted in words.
+pub fn word_at(bytes: &[u8], place: usize) -> u64
+    requires { 8 * place + 8 ≤ length bytes.now }
+    ensures { result ≡ Fields.word_at bytes.now place }
+{
+    LittleEndian::read_u64(&bytes[8 * place..])
+}
+
+/// An entry of the block table.
+#[derive(Clone, Copy, Debug, PartialEq, Eq)]
+pub struct Entry {
+    pub word: u64,
+}
+
+impl Entry {
+    /// How many instructions the block has.
+    pub fn instrs(self) -> u32
+        ensures { result ≡ Fields.count_in self.word }
+    {
+        (self.word % 0x1_0000_0000) as u32
+    }
+
+    pub fn inputs(self) -> u32
+        ensures { result ≡ Fields.inputs_in self.word }
+    {
+        (self.word / 0x1_0000_0000 % 256) as u32
+    }
+
+    pub fn outputs(self) -> u32
+        ensures { result ≡ Fields.outputs_in self.word }
+    {
+        (self.word / 0x100_0000_0000 % 256) as u32
+    }
+
+    pub fn slots(self) -> u32
+        ensures { result ≡ Fields.slots_in self.word }
+    {
+        (self.word / 0x1_0000_0000_0000) as u32
+    }
+}
+
+/// The first word of an instruction.
+#[derive(Clone, Copy, Debug, PartialEq, Eq)]
+pub struct Head {
+    pub word: u64,
+}
+
+impl Head {
+    /// What the opcode and the flag say, if there are such.
+    pub fn opcode(self) -> Option<Opcode>
+        ensures { result ≡ Fields.opcode_in self.word }
+    {
+        opcode::opcode_of((self.word % 256) as u8, (self.word / 256 % 256) as u8)
+    }
+
+    pub fn slot(self) -> u32
+        ensures { result ≡ Fields.slot_in self.word }
+    {
+        (self.word / 65_536 % 65_536) as u32
+    }
+
+    /// The half word of the first destination.
+    pub fn first(self) -> u32
+        ensures { result ≡ Fields.first_half self.word }
+    {
+        (self.word / 0x1_0000_0000 % 65_536) as u32
+    }
+
+    /// The half word of the second destination.
+    pub fn second(self) -> u32
+        ensures { result ≡ Fields.second_half self.word }
+    {
+        (self.word / 0x1_0000_0000_0000) as u32
+    }
+}
+
+/// The destination that a half word tells, if it tells one.
+pub fn dest_of(half: u32) -> Option<Dest>
+    ensures { result ≡ Fields.dest_of half }
+{
+    let ahead = half % 32_768;
+    if ahead == 0 {
+        return None;
+    }
+    let port = if half / 32_768 == 0 {
+        Port::Left
+    } else {
+        Port::Right
+    };
+    Some(Dest { ahead, port })
+}
+
+/// The origin of a number: 0 for one that is not told, else one more than 1,024 times the block and the node.
+pub fn origin_of(number: u64) -> Origin
+    ensures { result ≡ Fields.origin_of number }
+{
+    if number == 0 {
+        return Origin::Untold;
+    }
+    let place = number - 1;
+    Origin::At {
+        block: (place / 1024 % 256) as u8,
+        node: NodeNumber::new((place % 1024) as u16),
+    }
+}
