@@ -1,6 +1,6 @@
 //! The checks of an object, in their order.
 
-ghost use Rattle.std.specs.Prelude.{◌≡◌, ◌+◌, ◌*◌, ◌<◌, ◌≤◌, ◌^◌, length, Ok, Err, MatchResult, IfOk, option_map};
+ghost use Rattle.std.specs.Prelude.{◌≡◌, ◌+◌, ◌*◌, ◌<◌, ◌≤◌, ◌^◌, length, true, Ok, Err, MatchResult, IfOk, OnOk};
 ghost use Rattle.object_view.specs.Fields as Fields;
 ghost use Rattle.object_view.specs.Reading as Reading;
 ghost use Rattle.object_view.specs.Checks as Checks;
@@ -34,7 +34,8 @@ fn counts_fit(bytes: &[u8]) -> bool
 
 fn check_header(bytes: &[u8]) -> Result<(), ObjectFault>
     requires { 48 ≤ length bytes.now }
-    ensures { result ≡ Checks.header_checked (Fields.word_at bytes.now) }
+    ensures checked { result ≡ Checks.header_checked (Fields.word_at bytes.now) }
+    ensures fit { OnOk result (Checks.counts_fit (Fields.word_at bytes.now) ≡ true) }
 {
     if words::word_at(bytes, 0) != MAGIC {
         return Err(ObjectFault::BadMagic);
@@ -61,6 +62,25 @@ impl Entry {
     }
 }
 
+fn version_of(number: u64) -> Version
+    ensures { result ≡ Reading.version_in number }
+{
+    if number == 2 {
+        Version::Two
+    } else {
+        Version::One
+    }
+}
+
+fn entry_at(bytes: &[u8], block: usize) -> Entry
+    requires { 8 * (6 + block) + 8 ≤ length bytes.now }
+    ensures { result.word ≡ Fields.word_at bytes.now (6 + block) }
+{
+    Entry {
+        word: words::word_at(bytes, HEADER + block),
+    }
+}
+
 /// Looks at the block table, and gives the number of all instructions.
 fn check_entries(bytes: &[u8], blocks: usize) -> Result<usize, ObjectFault>
     requires few { blocks ≤ 512 }
@@ -73,11 +93,9 @@ fn check_entries(bytes: &[u8], blocks: usize) -> Result<usize, ObjectFault>
 {
     let mut instrs = 0;
     for block in 0..blocks {
-        let entry = Entry {
-            word: words::word_at(bytes, HEADER + block),
-        };
-        if !entry.fits() {
-            return Err(ObjectFault::BadTable);
+        let entry = entry_at(bytes, block);
+        if let Err(fault) = unless(entry.fits(), ObjectFault::BadTable) {
+            return Err(fault);
         }
         instrs += entry.instrs() as usize;
     }
@@ -90,7 +108,8 @@ fn check_length(bytes: &[u8], blocks: usize, instrs: usize) -> Result<(), Object
     requires blocks { blocks ≡ Fields.word_at bytes.now 2 }
     requires instrs { instrs ≡ Reading.instr_count (Fields.word_at bytes.now) }
     requires fit { Checks.counts_fit (Fields.word_at bytes.now) ≡ true }
-    ensures { result ≡ Checks.length_checked (length bytes.now) (Fields.word_at bytes.now) }
+    ensures checked { result ≡ Checks.length_checked (length bytes.now) (Fields.word_at bytes.now) }
+    ensures whole { OnOk result (length bytes.now ≡ 8 * Reading.word_count (Fields.word_at bytes.now)) }
 {
     let literals = words::word_at(bytes, 3) as usize;
     let arrays = words::word_at(bytes, 4) as usize;
@@ -131,11 +150,7 @@ impl<'a> Tables<'a> {
         }
         Ok(Tables {
             bytes,
-            version: if words::word_at(bytes, 1) == 2 {
-                Version::Two
-            } else {
-                Version::One
-            },
+            version: version_of(words::word_at(bytes, 1)),
             blocks,
             instrs,
             literals: words::word_at(bytes, 3) as usize,
@@ -144,16 +159,35 @@ impl<'a> Tables<'a> {
         })
     }
 
+    fn check_array(&self, number: usize) -> Result<(), ObjectFault>
+        requires { number < self.now.arrays }
+        ensures checked { result ≡ Checks.array_checked (Fields.word_at self.now.bytes.now) number }
+        ensures few { OnOk result (Reading.array_in (Fields.word_at self.now.bytes.now) number ≤ 65536) }
+    {
+        let len = self.array(number);
+        unless(1 <= len && len <= 65_536, ObjectFault::BadTable)
+    }
+
+    /// Whether a literal is below the next one.
+    fn check_literal(&self, number: usize) -> Result<(), ObjectFault>
+        requires { number + 1 < self.now.literals }
+        ensures { result ≡ Checks.literal_checked (Fields.word_at self.now.bytes.now) number }
+    {
+        unless(
+            self.literal(number) < self.literal(number + 1),
+            ObjectFault::BadLiteral,
+        )
+    }
+
     fn check_arrays(&self) -> Result<(), ObjectFault>
         ensures { result ≡ Checks.arrays_checked (Fields.word_at self.now.bytes.now) }
     {
         let mut cells = 0;
         for number in 0..self.arrays {
-            let len = self.array(number);
-            if len < 1 || len > 65_536 {
-                return Err(ObjectFault::BadTable);
+            if let Err(fault) = self.check_array(number) {
+                return Err(fault);
             }
-            cells += len;
+            cells += self.array(number);
         }
         unless(cells <= 65_536, ObjectFault::BadTable)
     }
@@ -161,9 +195,10 @@ impl<'a> Tables<'a> {
     fn check_literals(&self) -> Result<(), ObjectFault>
         ensures { result ≡ Checks.literals_checked (Fields.word_at self.now.bytes.now) }
     {
-        for number in 0..self.literals.saturating_sub(1) {
-            if self.literal(number) >= self.literal(number + 1) {
-                return Err(ObjectFault::BadLiteral);
+        let pairs = self.literals.saturating_sub(1);
+        for number in 0..pairs {
+            if let Err(fault) = self.check_literal(number) {
+                return Err(fault);
             }
         }
         Ok(())

@@ -146,7 +146,8 @@ impl<'a> Tables<'a> {
     /// The number of a block's first instruction; of the number of blocks, the number of all instructions.
     pub fn first_of(&self, block: usize) -> usize
         requires { block ≤ self.now.blocks }
-        ensures { result ≡ Reading.instrs_below (Fields.word_at self.now.bytes.now) block }
+        ensures counted { result ≡ Reading.instrs_below (Fields.word_at self.now.bytes.now) block }
+        ensures few { result ≤ self.now.instrs }
     {
         let mut first = 0;
         for earlier in 0..block {

@@ -1,0 +1,12 @@
+use Rattle.std.proofs.Common.{◌≡◌, ◌≤◌, arith, subst, sym, ap}
+use Rattle.object_view.specs.Fields.{word_at}
+use Rattle.object_view.specs.Reading.{instrs_below}
+use Rattle.object_view.proofs.Each.{below_all}
+use Rattle.object_view.proofs.tables.Tables.first_of.Goals as goal
+
+pub returns-clause-few : goal.returns-clause-few
+returns-clause-few c =
+    let w = word_at c.args.self.now.bytes.now in
+    let s = c.args.self.now in
+    let all = below_all w c.loop-earlier.earlier (w 2) (omega (arith, s.blocks_told)) in
+    omega (arith, s.instrs_told, all, c.loop-earlier.invariant.counted)
