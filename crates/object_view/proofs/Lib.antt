@@ -1,2 +1,4 @@
 mod Each
 mod Facts
+mod Listed
+mod Views
