@@ -1,11 +1,11 @@
 -- What tests that were passed say.
-use Rattle.std.proofs.Common.{◌≡◌, ℕ, zero, suc, ◌+◌, ◌-◌, ◌*◌, ◌<◌, ◌≤◌, Bool, true, false, ◌&&◌, nat_le, nat_lt, if◌then◌else◌, Ok, Err, refl, sym, ap, ◌∙◌, arith}
+use Rattle.std.proofs.Common.{◌≡◌, ℕ, zero, suc, ◌+◌, ◌-◌, ◌*◌, ◌<◌, ◌≤◌, Bool, true, false, ◌&&◌, nat_le, nat_lt, if◌then◌else◌, Ok, Err, Some, None, List, length, refl, sym, ap, ◌∙◌, arith}
 use Rattle.std.proofs.lemmas.Bool.{and_parts, leb-true, ltb-true, ltb-false}
 use Rattle.object_view.specs.declared.fault.ObjectFault.{ObjectFault}
 use Rattle.object_view.specs.declared.fault.ObjectFault.TheVariants.{BadTable, Truncated, Trailing}
-use Rattle.object_view.specs.Fields.{count_in, inputs_in, outputs_in, slots_in}
+use Rattle.object_view.specs.Fields.{word_at, count_in, inputs_in, outputs_in, slots_in}
 use Rattle.object_view.specs.Reading.{word_count}
-use Rattle.object_view.specs.Checks.{Checked, unless, first_then, counts_fit, entry_fits, length_checked}
+use Rattle.object_view.specs.Checks.{Checked, unless, first_then, counts_fit, entry_fits, length_checked, checked, opening_checked, content_checked, first_refusal, refusal}
 
 pub unless_ok : (b : Bool) (e : ObjectFault) → unless b e ≡ Ok tt → b ≡ true
 unless_ok true e h = refl
@@ -73,3 +73,18 @@ length_from n w h = go (nat_lt n (8 * word_count w)) (nat_lt (8 * word_count w) 
     go true b p q k = absurd cc
     go false true p q k = absurd cc
     go false false p q k = omega (arith, ltb-false _ _ p, ltb-false _ _ q)
+
+pub checked_all : (bytes : List ℕ) → opening_checked (length bytes) (word_at bytes) ≡ Ok tt → content_checked (word_at bytes) ≡ Ok tt → checked bytes ≡ Ok tt
+unfolding checked
+checked_all bytes p q = ap (λ (c : Checked). first_then c (content_checked (word_at bytes))) p ∙ q
+
+pub refused_early : (bytes : List ℕ) (e : ObjectFault) → opening_checked (length bytes) (word_at bytes) ≡ Err e → first_refusal bytes ≡ Some e
+unfolding checked
+refused_early bytes e p = ap (λ (c : Checked). refusal (first_then c (content_checked (word_at bytes)))) p
+
+pub refused_late : (bytes : List ℕ) (e : ObjectFault) → opening_checked (length bytes) (word_at bytes) ≡ Ok tt → content_checked (word_at bytes) ≡ Err e → first_refusal bytes ≡ Some e
+unfolding checked
+refused_late bytes e p q = ap (λ (c : Checked). refusal (first_then c (content_checked (word_at bytes)))) p ∙ ap refusal q
+
+pub none_refused : (bytes : List ℕ) → checked bytes ≡ Ok tt → first_refusal bytes ≡ None
+none_refused bytes p = ap refusal p

@@ -1,4 +1,5 @@
 mod Each
 mod Facts
 mod Listed
+mod Sent
 mod Views

@@ -136,6 +136,10 @@ content_checked w = first_then (arrays_checked w) (first_then (literals_checked 
 unfoldable pub checked : List ℕ → Checked
 checked bytes = first_then (opening_checked (length bytes) (word_at bytes)) (content_checked (word_at bytes))
 
+abbrev pub refusal : Checked → Option ObjectFault
+refusal (Ok x) = None
+refusal (Err e) = Some e
+
 -- why bytes are refused, where they are
 abbrev pub first_refusal : List ℕ → Option ObjectFault
-first_refusal bytes = elim (checked bytes) as (λ r. Option ObjectFault) [ Ok x ↦ None | Err e ↦ Some e ]
+first_refusal bytes = refusal (checked bytes)

@@ -1,8 +1,59 @@
 -- What a writer took.
-use Rattle.std.specs.Prelude.{◌≡◌, ℕ, List, ◌++◌, Option, Result, Ok, Err, ⊤}
+use Rattle.std.specs.Prelude.{◌≡◌, ℕ, ℤ, ◌<◌, ◌≤◌, List, [], ◌∷◌, ◌++◌, length, flat_map, codes, Contains, int_lt, slice_get, true, Some, ◌+◌, Option, Result, Ok, Err, ⊤}
+use Rattle.std.specs.Int.{w64, cast_unsigned, to_le_bytes}
+use Rattle.semantics.specs.declared.program.Dest.{Dest}
+use Rattle.semantics.specs.declared.program.Op.{Op}
+use Rattle.semantics.specs.declared.program.Op.TheVariants.{Apply2Right, Apply2Left, Lit}
+use Rattle.semantics.specs.Program.{Instr, CodeBlock, Code}
+use Rattle.semantics.specs.Bytes.{instr_words, block_word}
 use Rattle.std.specs.Io.KnownBytes.{Appends}
 
 -- all of the bytes, or after a fault a beginning of them
 unfoldable pub Sends : {E : Type 0} → Result ⊤ E → Option (List ℕ) → Option (List ℕ) → List ℕ → Type 0
 Sends (Ok x) old new bytes = Appends old new bytes
 Sends (Err e) old new bytes = (front : List ℕ) × (rest : List ℕ) × (bytes ≡ front ++ rest) × Appends old new front
+
+-- WHAT CAN BE WRITTEN. At most one destination of each kind, and numbers that have room in their bits.
+abbrev pub HasRoom : List Dest → Type 0
+HasRoom [] = ⊤
+HasRoom (d ∷ ds) = (d.ahead < 32768) × (ds ≡ [])
+
+abbrev pub HasLiteral : List ℤ → Op → Type 0
+HasLiteral literals (Apply2Right op z) = Contains literals z
+HasLiteral literals (Apply2Left op z) = Contains literals z
+HasLiteral literals (Lit z) = Contains literals z
+HasLiteral literals op = ⊤
+
+pub record HasWords (literals : List ℤ) (i : Instr) : Type 0 where
+  pub slot : i.slot < 65536
+  pub firsts : HasRoom i.firsts
+  pub seconds : HasRoom i.seconds
+  pub literal : HasLiteral literals i.op
+
+pub record HasEntry (b : CodeBlock) : Type 0 where
+  pub inputs : b.inputs ≤ 16
+  pub outputs : b.outputs ≤ 16
+  pub instrs : length b.instrs ≤ 32768
+  pub slots : b.slots ≤ 512
+
+pub record IsAscending (literals : List ℤ) : Type 0 where
+  pub steps : (k : ℕ) (y z : ℤ) → slice_get literals k ≡ Some y → slice_get literals (k + 1) ≡ Some z → int_lt y z ≡ true
+
+-- the bytes of an instruction
+abbrev pub bytes_of_instr : List ℤ → Instr → List ℕ
+bytes_of_instr literals i = flat_map (to_le_bytes w64) (instr_words literals i)
+
+abbrev pub bytes_of_block : List ℤ → CodeBlock → List ℕ
+bytes_of_block literals b = flat_map (bytes_of_instr literals) b.instrs
+
+abbrev pub bytes_of_entry : CodeBlock → List ℕ
+bytes_of_entry b = to_le_bytes w64 (block_word b)
+
+abbrev pub bytes_of_literal : ℤ → List ℕ
+bytes_of_literal z = to_le_bytes w64 (cast_unsigned w64 z)
+
+abbrev pub bytes_of_array : ℕ → List ℕ
+bytes_of_array n = to_le_bytes w64 n
+
+abbrev pub bytes_of_header : ℕ → Code → List ℕ
+bytes_of_header version c = codes "ETSOBJCT" ++ flat_map (to_le_bytes w64) (version ∷ length c.program.blocks ∷ length c.literals ∷ length c.program.arrays ∷ c.program.main ∷ [])

@@ -8,6 +8,7 @@ mod object;
 mod opcode;
 mod tables;
 mod words;
+mod writing;
 
 pub use fault::ObjectFault;
 pub use instr::CodeInstr;

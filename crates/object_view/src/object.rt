@@ -48,17 +48,23 @@ impl<'a> Model for Object<'a> {
 
 impl<'a> Object<'a> {
     ghost use Rattle.object_view.specs.Fields.{version_number};
-    ghost use Rattle.object_view.specs.Reading.{shown, block_shown, instr_bytes};
+    ghost use Rattle.object_view.specs.Reading.{opened, shown, block_shown, instr_bytes};
     ghost use Rattle.object_view.specs.Checks.{first_refusal};
 
     /// Opens the bytes where they lie, or says what is wrong with them first. Takes time in proportion to their number.
     pub fn open(bytes: &'a [u8]) -> Result<Object<'a>, ObjectFault>
-        ensures same { IfOk result (λ o. o.bytes ≡ bytes.now) }
-        ensures object { IfOk result (λ o. IsObject o.bytes o.version o.code) }
-        ensures refused { IfErr result (λ e. first_refusal bytes.now ≡ Some e) }
+        ensures refused { MatchResult result
+            (λ o. first_refusal bytes.now ≡ None)
+            (λ e. first_refusal bytes.now ≡ Some e) }
+        ensures opened { IfOk result (λ o. o ≡ opened bytes.now) }
     {
-        let tables = Tables::read(bytes)?;
-        tables.check()?;
+        let tables = match Tables::read(bytes) {
+            Ok(tables) => tables,
+            Err(fault) => return Err(fault),
+        };
+        if let Err(fault) = tables.check() {
+            return Err(fault);
+        }
         Ok(Object { tables })
     }
 
@@ -128,16 +134,6 @@ impl<'a> Object<'a> {
             instrs: entry.instrs(),
             first: self.tables.first_of(block as usize) as u32,
         })
-    }
-
-    /// The 16 bytes of an instruction.
-    pub fn word(&self, ip: u32) -> Option<&'a [u8]>
-        ensures { option_map (λ bytes. bytes.now) result ≡ option_map (instr_bytes self.now.code.literals) (instr_at self.now.code.program ip) }
-    {
-        if ip as usize >= self.tables.instrs {
-            return None;
-        }
-        Some(self.tables.instr_bytes(ip as usize))
     }
 
     /// An instruction.
