@@ -1,5 +1,6 @@
 mod Each
 mod Facts
 mod Listed
+mod Numbers
 mod Sent
 mod Views

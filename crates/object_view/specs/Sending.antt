@@ -1,9 +1,7 @@
 -- What a writer took.
-use Rattle.std.specs.Prelude.{◌≡◌, ℕ, ℤ, ◌<◌, ◌≤◌, List, [], ◌∷◌, ◌++◌, length, flat_map, codes, Contains, int_lt, slice_get, true, Some, ◌+◌, Option, Result, Ok, Err, ⊤}
+use Rattle.std.specs.Prelude.{◌≡◌, ℕ, ℤ, ◌<◌, ◌≤◌, List, [], ◌∷◌, ◌++◌, length, flat_map, codes, int_lt, slice_get, true, Some, ◌+◌, Option, Result, Ok, Err, ⊤}
 use Rattle.std.specs.Int.{w64, cast_unsigned, to_le_bytes}
 use Rattle.semantics.specs.declared.program.Dest.{Dest}
-use Rattle.semantics.specs.declared.program.Op.{Op}
-use Rattle.semantics.specs.declared.program.Op.TheVariants.{Apply2Right, Apply2Left, Lit}
 use Rattle.semantics.specs.Program.{Instr, CodeBlock, Code}
 use Rattle.semantics.specs.Bytes.{instr_words, block_word}
 use Rattle.std.specs.Io.KnownBytes.{Appends}
@@ -18,17 +16,10 @@ abbrev pub HasRoom : List Dest → Type 0
 HasRoom [] = ⊤
 HasRoom (d ∷ ds) = (d.ahead < 32768) × (ds ≡ [])
 
-abbrev pub HasLiteral : List ℤ → Op → Type 0
-HasLiteral literals (Apply2Right op z) = Contains literals z
-HasLiteral literals (Apply2Left op z) = Contains literals z
-HasLiteral literals (Lit z) = Contains literals z
-HasLiteral literals op = ⊤
-
-pub record HasWords (literals : List ℤ) (i : Instr) : Type 0 where
+pub record HasWords (i : Instr) : Type 0 where
   pub slot : i.slot < 65536
   pub firsts : HasRoom i.firsts
   pub seconds : HasRoom i.seconds
-  pub literal : HasLiteral literals i.op
 
 pub record HasEntry (b : CodeBlock) : Type 0 where
   pub inputs : b.inputs ≤ 16
@@ -39,21 +30,22 @@ pub record HasEntry (b : CodeBlock) : Type 0 where
 pub record IsAscending (literals : List ℤ) : Type 0 where
   pub steps : (k : ℕ) (y z : ℤ) → slice_get literals k ≡ Some y → slice_get literals (k + 1) ≡ Some z → int_lt y z ≡ true
 
+-- a word as bytes, the lowest first
+unfoldable pub bytes_of_word : ℕ → List ℕ
+bytes_of_word n = to_le_bytes w64 n
+
 -- the bytes of an instruction
 abbrev pub bytes_of_instr : List ℤ → Instr → List ℕ
-bytes_of_instr literals i = flat_map (to_le_bytes w64) (instr_words literals i)
+bytes_of_instr literals i = flat_map bytes_of_word (instr_words literals i)
 
 abbrev pub bytes_of_block : List ℤ → CodeBlock → List ℕ
 bytes_of_block literals b = flat_map (bytes_of_instr literals) b.instrs
 
 abbrev pub bytes_of_entry : CodeBlock → List ℕ
-bytes_of_entry b = to_le_bytes w64 (block_word b)
+bytes_of_entry b = bytes_of_word (block_word b)
 
 abbrev pub bytes_of_literal : ℤ → List ℕ
-bytes_of_literal z = to_le_bytes w64 (cast_unsigned w64 z)
-
-abbrev pub bytes_of_array : ℕ → List ℕ
-bytes_of_array n = to_le_bytes w64 n
+bytes_of_literal z = bytes_of_word (cast_unsigned w64 z)
 
 abbrev pub bytes_of_header : ℕ → Code → List ℕ
-bytes_of_header version c = codes "ETSOBJCT" ++ flat_map (to_le_bytes w64) (version ∷ length c.program.blocks ∷ length c.literals ∷ length c.program.arrays ∷ c.program.main ∷ [])
+bytes_of_header version c = codes "ETSOBJCT" ++ flat_map bytes_of_word (version ∷ length c.program.blocks ∷ length c.literals ∷ length c.program.arrays ∷ c.program.main ∷ [])

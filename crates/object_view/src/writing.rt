@@ -1,10 +1,10 @@
 //! Writing objects.
 
-ghost use Rattle.std.specs.Prelude.{◌≡◌, ◌≤◌, ◌+◌, ◌<◌, ◌++◌, ◌∷◌, [], ℕ, ℤ, List, All, Contains, flat_map, length, int_lt, slice_get, Some, true};
+ghost use Rattle.std.specs.Prelude.{◌≡◌, ◌≤◌, ◌+◌, ◌<◌, ◌++◌, ◌∷◌, [], ℕ, ℤ, List, All, flat_map, length, int_lt, slice_index_or};
 ghost use Rattle.std.specs.Int.{w64, to_le_bytes};
 ghost use Rattle.semantics.specs.Bytes as Bytes;
 ghost use Rattle.object_view.specs.Fields.{version_number};
-ghost use Rattle.object_view.specs.Sending.{Sends, IsAscending, HasRoom, HasLiteral, HasWords, HasEntry, bytes_of_instr, bytes_of_block, bytes_of_entry, bytes_of_literal, bytes_of_array, bytes_of_header};
+ghost use Rattle.object_view.specs.Sending.{Sends, IsAscending, HasRoom, HasWords, HasEntry, bytes_of_instr, bytes_of_block, bytes_of_entry, bytes_of_literal, bytes_of_word, bytes_of_header};
 
 use crate::object::Version;
 use code::{Code, CodeBlock, Instr};
@@ -63,17 +63,31 @@ fn binary_code(op: Binary) -> u8
     }
 }
 
+/// Whether the literal at a place of the table is below another one.
+fn is_below(literals: &[i64], place: usize, literal: i64) -> bool
+    requires { place < length literals.now }
+    ensures { result ≡ int_lt (slice_index_or literals.now place literal) literal }
+{
+    literals[place] < literal
+}
+
 /// The number of a literal in the table, which ascends.
 fn number_of(literals: &[i64], literal: i64) -> u32
     requires ascend { IsAscending literals.now }
     requires few { length literals.now ≤ 65536 }
-    requires there { Contains literals.now literal }
     ensures { result ≡ Bytes.number_from 0 literal literals.now }
 {
-    match literals.binary_search(&literal) {
-        Ok(number) => number as u32,
-        Err(_) => 0,
+    let mut low = 0;
+    let mut high = literals.len();
+    while low < high {
+        let middle = low + (high - low) / 2;
+        if is_below(literals, middle, literal) {
+            low = middle + 1;
+        } else {
+            high = middle;
+        }
     }
+    low as u32
 }
 
 /// An opcode, its flag and its operand.
@@ -100,7 +114,6 @@ fn spelt(opcode: u8, flag: u8, operand: u32) -> Spelling
 fn spelling_of(op: Op, literals: &[i64]) -> Spelling
     requires ascend { IsAscending literals.now }
     requires few { length literals.now ≤ 65536 }
-    requires there { HasLiteral literals.now op }
     ensures opcode { result.opcode ≡ (Bytes.head_of literals.now op).opcode }
     ensures flag { result.flag ≡ (Bytes.head_of literals.now op).flag }
     ensures operand { result.operand ≡ (Bytes.head_of literals.now op).operand }
@@ -145,16 +158,12 @@ fn dest_word(dests: &[Dest]) -> u64
     }
 }
 
-/// An instruction: two words.
-fn send_instr<A: Allocator, W: Write>(
-    writer: &mut W,
-    literals: &[i64],
-    instr: &Instr<A>,
-) -> io::Result<()>
+/// The two words of an instruction.
+fn instr_words<A: Allocator>(literals: &[i64], instr: &Instr<A>) -> [u64; 2]
     requires ascend { IsAscending literals.now }
     requires few { length literals.now ≤ 65536 }
-    requires there { HasWords literals.now instr.now }
-    ensures { Sends result (W.contents writer.old) (W.contents writer.new) (bytes_of_instr literals.now instr.now) }
+    requires there { HasWords instr.now }
+    ensures { result ≡ Bytes.instr_words literals.now instr.now }
 {
     let spelling = spelling_of(instr.op, literals);
     let first = u64::from(spelling.opcode)
@@ -163,5 +172,135 @@ fn send_instr<A: Allocator, W: Write>(
         + 0x1_0000_0000 * dest_word(&instr.firsts)
         + 0x1_0000_0000_0000 * dest_word(&instr.seconds);
     let second = u64::from(spelling.operand) + 0x1_0000_0000 * u64::from(instr.origin.code());
-    send_all(writer, &[&first.to_le_bytes(), &second.to_le_bytes()])
+    [first, second]
+}
+
+/// A block's entry in the block table.
+fn entry_word<A: Allocator>(block: &CodeBlock<A>) -> u64
+    requires { HasEntry block.now }
+    ensures { result ≡ Bytes.block_word block.now }
+{
+    block.instrs.len() as u64
+        + 0x1_0000_0000 * u64::from(block.inputs)
+        + 0x100_0000_0000 * u64::from(block.outputs)
+        + 0x1_0000_0000_0000 * u64::from(block.slots)
+}
+
+/// A word, the lowest byte first.
+#[tactic(auto, unfolding(crate::specs::Sending::bytes_of_word))]
+fn send_word<W: Write>(writer: &mut W, word: u64) -> io::Result<()>
+    ensures { Sends result (W.contents writer.old) (W.contents writer.new) (bytes_of_word word) }
+{
+    send(writer, &word.to_le_bytes())
+}
+
+/// Words, one after the other.
+fn send_words<W: Write>(writer: &mut W, words: &[u64]) -> io::Result<()>
+    ensures { Sends result (W.contents writer.old) (W.contents writer.new) (flat_map bytes_of_word words.now) }
+{
+    for word in words {
+        send_word(writer, *word)?;
+    }
+    Ok(())
+}
+
+/// The literals.
+fn send_literals<W: Write>(writer: &mut W, literals: &[i64]) -> io::Result<()>
+    ensures { Sends result (W.contents writer.old) (W.contents writer.new) (flat_map bytes_of_literal literals.now) }
+{
+    for literal in literals {
+        send_word(writer, literal.cast_unsigned())?;
+    }
+    Ok(())
+}
+
+/// The lengths of the arrays.
+fn send_arrays<W: Write>(writer: &mut W, arrays: &[u32]) -> io::Result<()>
+    ensures { Sends result (W.contents writer.old) (W.contents writer.new) (flat_map bytes_of_word arrays.now) }
+{
+    for len in arrays {
+        send_word(writer, u64::from(*len))?;
+    }
+    Ok(())
+}
+
+/// A block's entry.
+fn send_entry<A: Allocator, W: Write>(writer: &mut W, block: &CodeBlock<A>) -> io::Result<()>
+    requires { HasEntry block.now }
+    ensures { Sends result (W.contents writer.old) (W.contents writer.new) (bytes_of_entry block.now) }
+{
+    send_word(writer, entry_word(block))
+}
+
+/// An instruction.
+fn send_instr<A: Allocator, W: Write>(
+    writer: &mut W,
+    literals: &[i64],
+    instr: &Instr<A>,
+) -> io::Result<()>
+    requires ascend { IsAscending literals.now }
+    requires few { length literals.now ≤ 65536 }
+    requires there { HasWords instr.now }
+    ensures { Sends result (W.contents writer.old) (W.contents writer.new) (bytes_of_instr literals.now instr.now) }
+{
+    send_words(writer, &instr_words(literals, instr))
+}
+
+/// The instructions of a block.
+fn send_block<A: Allocator, W: Write>(
+    writer: &mut W,
+    literals: &[i64],
+    block: &CodeBlock<A>,
+) -> io::Result<()>
+    requires ascend { IsAscending literals.now }
+    requires few { length literals.now ≤ 65536 }
+    requires there { All HasWords block.now.instrs }
+    ensures { Sends result (W.contents writer.old) (W.contents writer.new) (bytes_of_block literals.now block.now) }
+{
+    send_instrs(writer, literals, &block.instrs)
+}
+
+/// The block table.
+fn send_entries<A: Allocator, W: Write>(writer: &mut W, blocks: &[CodeBlock<A>]) -> io::Result<()>
+    requires { All HasEntry blocks.now }
+    ensures { Sends result (W.contents writer.old) (W.contents writer.new) (flat_map bytes_of_entry blocks.now) }
+{
+    for block in blocks {
+        send_entry(writer, block)?;
+    }
+    Ok(())
+}
+
+/// Instructions, one after the other.
+fn send_instrs<A: Allocator, W: Write>(
+    writer: &mut W,
+    literals: &[i64],
+    instrs: &[Instr<A>],
+) -> io::Result<()>
+    requires ascend { IsAscending literals.now }
+    requires few { length literals.now ≤ 65536 }
+    requires there { All HasWords instrs.now }
+    ensures { Sends result (W.contents writer.old) (W.contents writer.new) (flat_map (bytes_of_instr literals.now) instrs.now) }
+{
+    for instr in instrs {
+        send_instr(writer, literals, instr)?;
+    }
+    Ok(())
+}
+
+/// The instructions of all blocks.
+fn send_blocks<A: Allocator, W: Write>(
+    writer: &mut W,
+    literals: &[i64],
+    blocks: &[CodeBlock<A>],
+) -> io::Result<()>
+    requires ascend { IsAscending literals.now }
+    requires few { length literals.now ≤ 65536 }
+    requires there { All (λ b. All HasWords b.instrs) blocks.now }
+    ensures { Sends result (W.contents writer.old) (W.contents writer.new) (flat_map (bytes_of_block literals.now) blocks.now) }
+{
+    for block in blocks {
+        send_block(writer, literals, block)?;
+    }
+    Ok(())
 }

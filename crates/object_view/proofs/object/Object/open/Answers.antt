@@ -1,9 +1,27 @@
-use Rattle.std.proofs.Common.{◌≡◌, Ok, Err, Some, None, sym, ap, ◌∙◌}
-use Rattle.std.specs.Prelude.{option_map, length}
+use Rattle.std.proofs.Common.{◌≡◌, Ok, Err, Some, None, List, ℕ, sym, ap, subst, ◌∙◌}
+use Rattle.std.specs.Prelude.{length}
 use Rattle.object_view.specs.Fields.{word_at}
-use Rattle.object_view.specs.Checks.{first_refusal, opening_checked, content_checked}
+use Rattle.object_view.specs.Checks.{checked, content_checked, first_refusal}
 use Rattle.object_view.proofs.Facts.{checked_all, refused_early, refused_late, none_refused}
 use Rattle.object_view.proofs.object.Object.open.Goals as goal
+
+pub returns-in-Err-check-clause-refused : goal.returns-in-Err-check-clause-refused
+returns-in-Err-check-clause-refused c =
+    let same = c.in-Ok.ensures.same in
+    let late = ap (λ (bs : List ℕ). content_checked (word_at bs)) (sym same) ∙ sym c.in-Err-check.ensures in
+    refused_late c.args.bytes.now c.in-Err-check.fault c.in-Ok.ensures.checked late
+
+pub invariant_of-result : goal.invariant_of-result
+invariant_of-result c =
+    let same = c.in-Ok.ensures.same in
+    let late = ap (λ (bs : List ℕ). content_checked (word_at bs)) (sym same) ∙ sym c.in_default.ensures in
+    ap checked same ∙ checked_all c.args.bytes.now c.in-Ok.ensures.checked late
+
+pub returns-clause-refused : goal.returns-clause-refused
+returns-clause-refused c =
+    let same = c.in-Ok.ensures.same in
+    let late = ap (λ (bs : List ℕ). content_checked (word_at bs)) (sym same) ∙ sym c.in_default.ensures in
+    none_refused c.args.bytes.now (checked_all c.args.bytes.now c.in-Ok.ensures.checked late)
 
 pub returns-in-Err-clause-refused : goal.returns-in-Err-clause-refused
 returns-in-Err-clause-refused c = refused_early c.args.bytes.now c.in-Err.fault c.in-Err.ensures.checked
