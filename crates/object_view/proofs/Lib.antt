@@ -4,3 +4,4 @@ mod Listed
 mod Numbers
 mod Sent
 mod Views
+mod Whole

@@ -13,3 +13,4 @@ mod writing;
 pub use fault::ObjectFault;
 pub use instr::CodeInstr;
 pub use object::{BlockView, Object, Version};
+pub use writing::{upgrade, write};

@@ -68,6 +68,14 @@ impl<'a> Object<'a> {
         Ok(Object { tables })
     }
 
+    /// The bytes that it lies in.
+    pub fn bytes(&self) -> &'a [u8]
+        ensures same { result.now ≡ self.now.bytes }
+        ensures header { 48 ≤ length result.now }
+    {
+        self.tables.bytes
+    }
+
     pub fn version(&self) -> Version
         ensures { version_number result ≡ self.now.version }
     {

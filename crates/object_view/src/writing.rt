@@ -4,9 +4,9 @@ ghost use Rattle.std.specs.Prelude.{◌≡◌, ◌≤◌, ◌+◌, ◌<◌, ◌+
 ghost use Rattle.std.specs.Int.{w64, to_le_bytes};
 ghost use Rattle.semantics.specs.Bytes as Bytes;
 ghost use Rattle.object_view.specs.Fields.{version_number};
-ghost use Rattle.object_view.specs.Sending.{Sends, IsAscending, HasRoom, HasWords, HasEntry, bytes_of_instr, bytes_of_block, bytes_of_entry, bytes_of_literal, bytes_of_word, bytes_of_header};
+ghost use Rattle.object_view.specs.Sending.{Sends, IsAscending, HasRoom, HasWords, HasEntry, bytes_of_instr, bytes_of_block, bytes_of_entry, bytes_of_literal, bytes_of_word, bytes_of_header, upgraded};
 
-use crate::object::Version;
+use crate::object::{Object, Version};
 use code::{Code, CodeBlock, Instr};
 use operators::{Binary, Unary};
 use semantics::program::{Dest, Op};
@@ -204,12 +204,19 @@ fn send_words<W: Write>(writer: &mut W, words: &[u64]) -> io::Result<()>
     Ok(())
 }
 
+/// A literal, in two's complement.
+fn send_literal<W: Write>(writer: &mut W, literal: &i64) -> io::Result<()>
+    ensures { Sends result (W.contents writer.old) (W.contents writer.new) (bytes_of_literal literal.now) }
+{
+    send_word(writer, literal.cast_unsigned())
+}
+
 /// The literals.
 fn send_literals<W: Write>(writer: &mut W, literals: &[i64]) -> io::Result<()>
     ensures { Sends result (W.contents writer.old) (W.contents writer.new) (flat_map bytes_of_literal literals.now) }
 {
     for literal in literals {
-        send_word(writer, literal.cast_unsigned())?;
+        send_literal(writer, literal)?;
     }
     Ok(())
 }
@@ -303,4 +310,100 @@ fn send_blocks<A: Allocator, W: Write>(
         send_block(writer, literals, block)?;
     }
     Ok(())
+}
+
+fn version_word(version: Version) -> u64
+    ensures { result ≡ version_number version }
+{
+    match version {
+        Version::One => 1,
+        Version::Two => 2,
+    }
+}
+
+fn blocks_of<A: Allocator>(code: &Code<A>) -> &[CodeBlock<A>]
+    ensures { result.now ≡ code.now.program.blocks }
+{
+    &code.program.blocks
+}
+
+fn arrays_of<A: Allocator>(code: &Code<A>) -> &[u32]
+    ensures { result.now ≡ code.now.program.arrays }
+{
+    &code.program.arrays
+}
+
+fn literals_of<A: Allocator>(code: &Code<A>) -> &[i64]
+    ensures { result.now ≡ code.now.literals }
+{
+    &code.literals
+}
+
+fn main_of<A: Allocator>(code: &Code<A>) -> u32
+    ensures { result ≡ code.now.program.main }
+{
+    code.program.main
+}
+
+/// The words of the header behind its mark.
+fn counts<A: Allocator>(version: Version, code: &Code<A>) -> [u64; 5]
+    ensures { result ≡ version_number version
+        ∷ length code.now.program.blocks
+        ∷ length code.now.literals
+        ∷ length code.now.program.arrays
+        ∷ code.now.program.main
+        ∷ [] }
+{
+    [
+        version_word(version),
+        blocks_of(code).len() as u64,
+        literals_of(code).len() as u64,
+        arrays_of(code).len() as u64,
+        u64::from(main_of(code)),
+    ]
+}
+
+/// The header.
+fn send_header<A: Allocator, W: Write>(
+    writer: &mut W,
+    version: Version,
+    code: &Code<A>,
+) -> io::Result<()>
+    ensures { Sends result (W.contents writer.old) (W.contents writer.new) (bytes_of_header (version_number version) code.now) }
+{
+    send(writer, b"ETSOBJCT")?;
+    send_words(writer, &counts(version, code))
+}
+
+/// Writes the one object of the code in this version. The writer is called until it has taken all of it; a call that
+/// takes no byte is a fault. After an `Err` a beginning of the object was written.
+pub fn write<A: Allocator, W: Write>(
+    code: &Code<A>,
+    version: Version,
+    writer: &mut W,
+) -> io::Result<()>
+    requires { Bytes.IsCode (version_number version) code.now }
+    ensures { Sends result (W.contents writer.old) (W.contents writer.new) (Bytes.bytes_of (version_number version) code.now) }
+{
+    let blocks = blocks_of(code);
+    let literals = literals_of(code);
+    let arrays = arrays_of(code);
+    send_header(writer, version, code)?;
+    send_entries(writer, blocks)?;
+    send_blocks(writer, literals, blocks)?;
+    send_literals(writer, literals)?;
+    send_arrays(writer, arrays)
+}
+
+/// Writes the same code as an object of version 2; what a version 1 object makes has no origin. The writer is called
+/// until it has taken all of it; a call that takes no byte is a fault. After an `Err` a beginning was written.
+pub fn upgrade<W: Write>(object: &Object<'_>, writer: &mut W) -> io::Result<()>
+    ensures { Sends result (W.contents writer.old) (W.contents writer.new) (upgraded object.now.bytes) }
+{
+    let bytes = object.bytes();
+    let (front, _) = bytes.split_at(8);
+    let (_, rest) = bytes.split_at(16);
+    send(writer, front)?;
+    send_word(writer, 2)?;
+    send(writer, rest)
 }
