@@ -14,3 +14,6 @@ pub use fault::ObjectFault;
 pub use instr::CodeInstr;
 pub use object::{BlockView, Object, Version};
 pub use writing::{upgrade, write};
+
+#[cfg(test)]
+mod tests;
