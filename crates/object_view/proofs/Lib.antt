@@ -1,7 +1,10 @@
+mod ByteWords
 mod Each
 mod Facts
 mod Listed
 mod Numbers
 mod Sent
+mod Sound
+mod Spelling
 mod Views
 mod Whole
