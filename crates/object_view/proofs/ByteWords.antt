@@ -29,7 +29,7 @@ taken [] (suc k) i all = omega arith
 taken (x ∷ xs) (suc k) zero all = all 0
 taken (x ∷ xs) (suc k) (suc i) all = taken xs k i (λ j. all (suc j))
 
-dropped : (s : List ℕ) (k i : ℕ) → AllBytes s → get_or (drop k s) i 0 < 256
+pub dropped : (s : List ℕ) (k i : ℕ) → AllBytes s → get_or (drop k s) i 0 < 256
 dropped s zero i all = all i
 dropped [] (suc k) i all = omega arith
 dropped (x ∷ xs) (suc k) i all = dropped xs k i (λ j. all (suc j))
@@ -50,7 +50,7 @@ first_word (a ∷ b ∷ c ∷ d ∷ e ∷ []) le all = absurd (omega arith)
 first_word (a ∷ b ∷ c ∷ d ∷ e ∷ f ∷ []) le all = absurd (omega arith)
 first_word (a ∷ b ∷ c ∷ d ∷ e ∷ f ∷ g ∷ []) le all = absurd (omega arith)
 
-length_dropped : (s : List ℕ) (k : ℕ) → length (drop k s) ≡ length s - k
+pub length_dropped : (s : List ℕ) (k : ℕ) → length (drop k s) ≡ length s - k
 length_dropped s zero = omega arith
 length_dropped [] (suc k) = omega arith
 length_dropped (x ∷ xs) (suc k) = omega (arith, length_dropped xs k)

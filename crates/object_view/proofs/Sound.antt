@@ -1,9 +1,11 @@
 -- Bytes that no check refuses are an object: they are spelt as the code that they tell.
-use Rattle.std.proofs.Common.{◌≡◌, ℕ, zero, suc, ◌+◌, ◌-◌, ◌*◌, ◌/◌, ◌%◌, ◌^◌, ◌<◌, ◌≤◌, Bool, true, false, ◌&&◌, ◌||◌, ◌==◌, nat_lt, nat_le, if◌then◌else◌, List, [], ◌∷◌, ◌++◌, length, get_or, map, drop, Option, Some, None, Ok, Err, ℤ, pos, negsuc, ◌⊎◌, inl, inr, refl, sym, ap, subst, ◌∙◌, arith, eqb-true}
+use Rattle.std.proofs.Common.{◌≡◌, ℕ, zero, suc, ◌+◌, ◌-◌, ◌*◌, ◌/◌, ◌%◌, ◌^◌, ◌<◌, ◌≤◌, Bool, true, false, ◌&&◌, ◌||◌, ◌==◌, nat_lt, nat_le, if◌then◌else◌, List, [], ◌∷◌, ◌++◌, length, get_or, map, take, drop, Option, Some, None, Ok, Err, ℤ, pos, negsuc, ◌⊎◌, inl, inr, refl, sym, ap, subst, ◌∙◌, arith, eqb-true}
 use Rattle.std.specs.Prelude.{⊤, unwrap_or, option_to_list, flat_map, slice_get, int_lt, codes}
 use Rattle.std.specs.Int.{w64, cast_unsigned, cast_signed, to_le_bytes}
 use Rattle.std.proofs.lemmas.Bool.{and_parts, leb-true, ltb-true, ltb-false, eqb-false, lt-ltb}
 use Rattle.std.proofs.lemmas.Int.{of_z-to_z}
+use Rattle.std.proofs.lemmas.List.{drop-drop}
+use Rattle.byteorder.specs.Endian.{little_number}
 use Rattle.std.proofs.lemmas.Option.{slice_get_within, get_or_from_slice_get}
 use Rattle.semantics.specs.Program.{Instr, CodeBlock, Program, Code}
 use Rattle.semantics.specs.Bytes.{number_from, Head, head, head_of, dest_word, origin_code, instr_words, block_word, words_of, bytes_of}
@@ -14,14 +16,14 @@ use Rattle.object_view.specs.declared.object.Version.TheVariants.{One, Two}
 use Rattle.object_view.specs.declared.opcode.Opcode.{Opcode}
 use Rattle.object_view.specs.declared.opcode.Opcode.TheVariants.{Apply1, Apply2, Apply2Right, Apply2Left, Lit, Copy, Sync, Switch, Fetch, Store, Frame, Link, Send, Return, Ask, Open, Take, Give, Drain, Release}
 use Rattle.object_view.specs.Fields.{word_at, version_number, count_in, inputs_in, outputs_in, slots_in, opcode_in, slot_in, first_half, second_half, dest_of, with, may_have, may_go_to, operand_in, origin_number, origin_of}
-use Rattle.object_view.specs.Reading.{listed, shown, version_in, instrs_below, instr_count, instr_place, literal_place, array_place, word_count, literal_in, literal_or_zero, array_in, instr_as, instr_in, block_in, code_in}
+use Rattle.object_view.specs.Reading.{Opened, opened, instr_bytes, listed, shown, version_in, instrs_below, instr_count, instr_place, literal_place, array_place, word_count, literal_in, literal_or_zero, array_in, instr_as, instr_in, block_in, code_in}
 use Rattle.object_view.specs.Sending.{IsAscending}
 use Rattle.object_view.specs.Checks.{Checked, first_then, unless, each, MAGIC, counts_fit, header_checked, entry_checked, length_checked, tables_checked, arrays_checked, literal_checked, literals_checked, operand_fits, slot_fits, may_take_right, dest_fits, dests_fit, target_fits, number_checked, opcode_checked, instr_checked_as, instr_checked, block_checked, opening_checked, content_checked, checked}
 use Rattle.object_view.proofs.Each.{below_next}
 use Rattle.object_view.proofs.Facts.{unless_ok, first_ok, CountsFit, counts_from, length_from}
 use Rattle.object_view.proofs.Listed.{length_listed, get_listed}
 use Rattle.object_view.proofs.Numbers.{number_stops, number_goes}
-use Rattle.object_view.proofs.ByteWords.{ReadsTo, reads_append, reads_length, AllBytes, spelled, word_fits}
+use Rattle.object_view.proofs.ByteWords.{first_word, dropped, length_dropped, ReadsTo, reads_append, reads_length, AllBytes, spelled, word_fits}
 use Rattle.object_view.proofs.Spelling.{IsSpelt, code_number, flag_number, numbered, spelt_head, half_spelt, word_split, entry_split, origin_spelt, operand_spelt}
 
 -- WHAT EACH CHECK SAID
@@ -332,3 +334,51 @@ is_spelt bytes all ok =
     let r = words_read (length bytes) w p (λ i. word_fits bytes i all) in
     let long : length bytes ≡ 8 * length ws = omega (arith, p.long, reads_length w 0 ws (word_count w) r) in
     spelled bytes ws 0 all long (word_count w) r
+
+pub opened_spelt : (bytes : List ℕ) (o : Opened) → AllBytes bytes → checked bytes ≡ Ok tt → opened bytes ≡ o → bytes ≡ bytes_of o.version o.code
+unfolding opened
+opened_spelt bytes o all ok e = is_spelt bytes all ok ∙ ap (λ (p : Opened). bytes_of p.version p.code) e
+
+-- THE BYTES OF ONE INSTRUCTION
+spelt_at : (w : ℕ → ℕ) (b n ip : ℕ) → CountsFit w → IsNumbered w → ((i : ℕ) → w i < 2 ^ 64) → each (block_checked w) b n ≡ Ok tt → instrs_below w b ≤ ip → ip < instrs_below w (b + n) → instr_words (literals_in w) (shown (instr_in w ip)) ≡ w (instr_place w ip) ∷ w (instr_place w ip + 1) ∷ []
+spelt_at w b zero ip c num few h from to =
+    let same : b + zero ≡ b = omega arith in
+    absurd (omega (arith, ap (instrs_below w) same))
+spelt_at w b (suc n) ip c num few h from to = go (nat_lt ip (instrs_below w (b + 1))) refl (spelt_at w (b + 1) n ip c num few (first_ok (block_checked w b) (each (block_checked w) (b + 1) n) h).1)
+  where
+    slots : ℕ
+    slots = slots_in (w (6 + b))
+
+    end : ℕ
+    end = instrs_below w b + count_in (w (6 + b))
+
+    go : (t : Bool) → nat_lt ip (instrs_below w (b + 1)) ≡ t → (instrs_below w (b + 1) ≤ ip → ip < instrs_below w (b + 1 + n) → instr_words (literals_in w) (shown (instr_in w ip)) ≡ w (instr_place w ip) ∷ w (instr_place w ip + 1) ∷ []) → instr_words (literals_in w) (shown (instr_in w ip)) ≡ w (instr_place w ip) ∷ w (instr_place w ip + 1) ∷ []
+    go true e later =
+        let a = first_ok (block_checked w b) (each (block_checked w) (b + 1) n) h in
+        let lt : ip - instrs_below w b < count_in (w (6 + b)) = omega (arith, from, ltb-true _ _ e, below_next w b) in
+        let at : instrs_below w b + (ip - instrs_below w b) ≡ ip = omega (arith, from) in
+        instr_spelt w slots end ip c num few (ap (instr_checked w slots end) (sym at) ∙ each_at (instr_checked w slots end) (instrs_below w b) (count_in (w (6 + b))) (ip - instrs_below w b) a.0 lt)
+    go false e later =
+        let all : b + suc n ≡ b + 1 + n = omega arith in
+        later (ltb-false _ _ e) (omega (arith, to, ap (instrs_below w) all))
+
+two_words : (bytes : List ℕ) (i : ℕ) → AllBytes bytes → 8 * i + 16 ≤ length bytes → take 16 (drop (8 * i) bytes) ≡ flat_map (to_le_bytes w64) (word_at bytes i ∷ word_at bytes (i + 1) ∷ [])
+unfolding word_at
+two_words bytes i all long =
+    let s : List ℕ = drop (8 * i) bytes in
+    let len = length_dropped bytes (8 * i) in
+    let len8 = length_dropped s 8 in
+    let e : s ≡ to_le_bytes w64 (little_number 8 s) ++ drop 8 s = first_word s (omega (arith, len, long)) (λ k. dropped bytes (8 * i) k all) in
+    let f : drop 8 s ≡ to_le_bytes w64 (little_number 8 (drop 8 s)) ++ drop 8 (drop 8 s) = first_word (drop 8 s) (omega (arith, len, len8, long)) (λ k. dropped s 8 k (λ j. dropped bytes (8 * i) j all)) in
+    let at : 8 * i + 8 ≡ 8 * (i + 1) = omega arith in
+    let next : drop 8 s ≡ drop (8 * (i + 1)) bytes = drop-drop 8 (8 * i) bytes ∙ ap (λ k. drop k bytes) at in
+    let both : s ≡ to_le_bytes w64 (little_number 8 s) ++ (to_le_bytes w64 (little_number 8 (drop 8 s)) ++ drop 8 (drop 8 s)) = e ∙ ap (λ (l : List ℕ). to_le_bytes w64 (little_number 8 s) ++ l) f in
+    ap (take 16) both ∙ ap (λ (l : List ℕ). to_le_bytes w64 (little_number 8 s) ++ (to_le_bytes w64 (little_number 8 l) ++ [])) next
+
+pub instr_bytes_read : (bytes : List ℕ) (ip : ℕ) → AllBytes bytes → checked bytes ≡ Ok tt → ip < instr_count (word_at bytes) → take 16 (drop (8 * instr_place (word_at bytes) ip) bytes) ≡ instr_bytes (literals_in (word_at bytes)) (shown (instr_in (word_at bytes) ip))
+instr_bytes_read bytes ip all ok lt =
+    let w = word_at bytes in
+    let p = passed_from bytes ok in
+    let z : 0 + w 2 ≡ w 2 = omega arith in
+    let same = spelt_at w 0 (w 2) ip p.counts (λ k h. literal_numbered w k p.literals h) (λ i. word_fits bytes i all) p.blocks (omega arith) (omega (arith, lt, ap (instrs_below w) z)) in
+    two_words bytes (instr_place w ip) all (omega (arith, p.long, lt)) ∙ ap (flat_map (to_le_bytes w64)) (sym same)

@@ -11,7 +11,7 @@ use Rattle.semantics.specs.declared.program.Op.TheVariants.{Apply1, Apply2, Appl
 use Rattle.semantics.specs.Rule.{slot_of}
 use Rattle.std.proofs.lemmas.Option.{slice_get-get_or}
 use Rattle.semantics.specs.Bytes.{words_of, bytes_of, block_word, instr_words, HasDests, IsSlot, IsDest, IsInstr, IsCodeBlock, IsCode}
-use Rattle.object_view.specs.Sending.{Sends, HasRoom, HasWords, HasEntry, bytes_of_word, bytes_of_header, bytes_of_entry, bytes_of_block, bytes_of_instr, bytes_of_literal}
+use Rattle.object_view.specs.Sending.{Sends, upgraded, HasRoom, HasWords, HasEntry, bytes_of_word, bytes_of_header, bytes_of_entry, bytes_of_block, bytes_of_instr, bytes_of_literal}
 use Rattle.object_view.proofs.Sent.{sends_same, sends_less, sends_more, sends_other}
 
 flat_map-map : {X Y : Type 0} (f : Y → List ℕ) (g : X → Y) (xs : List X) → flat_map f (map g xs) ≡ flat_map (λ x. f (g x)) xs
@@ -138,3 +138,8 @@ pub entries_fit : (v : ℕ) (c : Code) → IsCode v c → All HasEntry c.program
 entries_fit v c is = λ k d lt.
     let ok : IsCodeBlock v c (get_or c.program.blocks k d) = is.blocks k d lt in
     record { inputs = ok.inputs.1; outputs = ok.outputs.1; instrs = ok.size.1; slots = ok.slots }
+
+-- only the version is another one
+pub upgraded_same : (v : ℕ) (c : Code) (bytes : List ℕ) → bytes ≡ bytes_of v c → upgraded bytes ≡ bytes_of 2 c
+unfolding bytes_of_word
+upgraded_same v c bytes e = ap (λ (l : List ℕ). upgraded l) e

@@ -2,7 +2,7 @@
 
 ghost use Rattle.std.specs.Prelude.{◌≡◌, ◌≢◌, ◌+◌, ◌*◌, ◌<◌, ◌≤◌, ◌++◌, ◌↔◌, Ok, Err, Some, None, IfOk, IfErr, IfSome, IfNone, IsOk, MatchResult, MatchOption, length, take, drop, slice_get, option_map};
 ghost use Rattle.semantics.specs.Program.{first_of, instr_at};
-ghost use Rattle.semantics.specs.Bytes.{IsObject};
+ghost use Rattle.semantics.specs.Bytes.{bytes_of};
 
 use crate::fault::ObjectFault;
 use crate::instr::CodeInstr;
@@ -36,14 +36,14 @@ pub struct Object<'a> {
 impl<'a> Model for Object<'a> {
     ghost use Rattle.std.specs.Prelude.{◌≡◌, Ok, ⊤};
     ghost use Rattle.object_view.specs.declared.fault.ObjectFault.{ObjectFault};
-    ghost use Rattle.object_view.specs.Reading.{Opened, opened};
+    ghost use Rattle.object_view.specs.Reading.{Opened, opened, AreBytes};
     ghost use Rattle.object_view.specs.Checks.{checked};
 
     ghost Value = { Opened };
 
     ghost view = { λ o. opened o.tables.bytes.now };
 
-    ghost invariant = { λ o. checked o.tables.bytes.now ≡ Ok tt };
+    ghost invariant = { λ o. (checked o.tables.bytes.now ≡ Ok tt) × AreBytes o.tables.bytes.now };
 }
 
 impl<'a> Object<'a> {
@@ -72,6 +72,7 @@ impl<'a> Object<'a> {
     pub fn bytes(&self) -> &'a [u8]
         ensures same { result.now ≡ self.now.bytes }
         ensures header { 48 ≤ length result.now }
+        ensures spelt { result.now ≡ bytes_of self.now.version self.now.code }
     {
         self.tables.bytes
     }
@@ -142,6 +143,16 @@ impl<'a> Object<'a> {
             instrs: entry.instrs(),
             first: self.tables.first_of(block as usize) as u32,
         })
+    }
+
+    /// The 16 bytes of an instruction.
+    pub fn word(&self, ip: u32) -> Option<&'a [u8]>
+        ensures { option_map (λ bytes. bytes.now) result ≡ option_map (instr_bytes self.now.code.literals) (instr_at self.now.code.program ip) }
+    {
+        if ip as usize >= self.tables.instrs {
+            return None;
+        }
+        Some(self.tables.instr_bytes(ip as usize))
     }
 
     /// An instruction.

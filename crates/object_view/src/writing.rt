@@ -4,7 +4,7 @@ ghost use Rattle.std.specs.Prelude.{◌≡◌, ◌≤◌, ◌+◌, ◌<◌, ◌+
 ghost use Rattle.std.specs.Int.{w64, to_le_bytes};
 ghost use Rattle.semantics.specs.Bytes as Bytes;
 ghost use Rattle.object_view.specs.Fields.{version_number};
-ghost use Rattle.object_view.specs.Sending.{Sends, IsAscending, HasRoom, HasWords, HasEntry, bytes_of_instr, bytes_of_block, bytes_of_entry, bytes_of_literal, bytes_of_word, bytes_of_header, upgraded};
+ghost use Rattle.object_view.specs.Sending.{Sends, IsAscending, HasRoom, HasWords, HasEntry, bytes_of_instr, bytes_of_block, bytes_of_entry, bytes_of_literal, bytes_of_word, bytes_of_header};
 
 use crate::object::{Object, Version};
 use code::{Code, CodeBlock, Instr};
@@ -398,7 +398,7 @@ pub fn write<A: Allocator, W: Write>(
 /// Writes the same code as an object of version 2; what a version 1 object makes has no origin. The writer is called
 /// until it has taken all of it; a call that takes no byte is a fault. After an `Err` a beginning was written.
 pub fn upgrade<W: Write>(object: &Object<'_>, writer: &mut W) -> io::Result<()>
-    ensures { Sends result (W.contents writer.old) (W.contents writer.new) (upgraded object.now.bytes) }
+    ensures { Sends result (W.contents writer.old) (W.contents writer.new) (Bytes.bytes_of 2 object.now.code) }
 {
     let bytes = object.bytes();
     let (front, _) = bytes.split_at(8);

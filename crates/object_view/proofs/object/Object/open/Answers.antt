@@ -1,4 +1,5 @@
-use Rattle.std.proofs.Common.{◌≡◌, Ok, Err, Some, None, List, ℕ, sym, ap, subst, ◌∙◌}
+use Rattle.object_view.specs.Reading.{AreBytes}
+use Rattle.std.proofs.Common.{rules, ◌≡◌, Ok, Err, Some, None, List, ℕ, sym, ap, subst, ◌∙◌}
 use Rattle.std.specs.Prelude.{length}
 use Rattle.object_view.specs.Fields.{word_at}
 use Rattle.object_view.specs.Checks.{checked, content_checked, first_refusal}
@@ -15,7 +16,7 @@ pub invariant_of-result : goal.invariant_of-result
 invariant_of-result c =
     let same = c.in-Ok.ensures.same in
     let late = ap (λ (bs : List ℕ). content_checked (word_at bs)) (sym same) ∙ sym c.in_default.ensures in
-    ap checked same ∙ checked_all c.args.bytes.now c.in-Ok.ensures.checked late
+    (ap checked same ∙ checked_all c.args.bytes.now c.in-Ok.ensures.checked late, subst (λ (bs : List ℕ). AreBytes bs) (sym same) (search rules))
 
 pub returns-clause-refused : goal.returns-clause-refused
 returns-clause-refused c =
