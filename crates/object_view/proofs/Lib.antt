@@ -1,6 +1,7 @@
 mod ByteWords
 mod Each
 mod Facts
+mod Lawful
 mod Listed
 mod Numbers
 mod Sent

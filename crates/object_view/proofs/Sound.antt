@@ -94,7 +94,7 @@ each_at check i (suc n) (suc k) h lt =
 abbrev pub literals_in : (ℕ → ℕ) → List ℤ
 literals_in w = listed (literal_in w) 0 (w 3)
 
-same_some : {X : Type 0} (x y : X) (o : Option X) → o ≡ Some x → o ≡ Some y → x ≡ y
+pub same_some : {X : Type 0} (x y : X) (o : Option X) → o ≡ Some x → o ≡ Some y → x ≡ y
 same_some x y o p q = cc
 
 pub ascending : (w : ℕ → ℕ) → literals_checked w ≡ Ok tt → IsAscending (literals_in w)
@@ -140,7 +140,7 @@ literal_numbered w k h lt =
     omega (arith, stop, least_after w k h lt)
 
 -- AN INSTRUCTION
-literal_there : (w : ℕ → ℕ) (k : ℕ) → nat_lt k (w 3) ≡ true → literal_or_zero w k ≡ literal_in w k
+pub literal_there : (w : ℕ → ℕ) (k : ℕ) → nat_lt k (w 3) ≡ true → literal_or_zero w k ≡ literal_in w k
 literal_there w k h = ap (λ (t : Bool). if t then literal_in w k else pos 0) h
 
 abbrev IsNumbered : (ℕ → ℕ) → Type 0
@@ -302,7 +302,7 @@ to_place w i xs j k e r = subst (λ (a : ℕ). ReadsTo w i xs a) e r
 from_place : (w : ℕ → ℕ) (i k : ℕ) (xs : List ℕ) (j : ℕ) → i ≡ k → ReadsTo w i xs j → ReadsTo w k xs j
 from_place w i k xs j e r = subst (λ (a : ℕ). ReadsTo w a xs j) e r
 
-version_told : (n : ℕ) → (n ≡ 1) ⊎ (n ≡ 2) → n ≡ version_number (version_in n)
+pub version_told : (n : ℕ) → (n ≡ 1) ⊎ (n ≡ 2) → n ≡ version_number (version_in n)
 version_told n (inl e) = e ∙ ap (λ k. version_number (version_in k)) (sym e)
 version_told n (inr e) = e ∙ ap (λ k. version_number (version_in k)) (sym e)
 
