@@ -193,6 +193,7 @@ origin_there Two o k z y = go (may_fault o) refl
     told : (n : ℕ) → may_fault o ≡ true → (t : Bool) → IsOrigin 2 (with o k z) (if t then Untold else At ((n - 1) / 1024 % 256) ((n - 1) % 1024))
     told n e true = tt
     told n e false = (refl, same_fault o k z ∙ e, omega arith, omega arith)
+
     go : (t : Bool) → may_fault o ≡ t → IsOrigin 2 (with o k z) (origin_of (if t then y / 2 ^ 32 else 0))
     go true e = told (y / 2 ^ 32) e (y / 2 ^ 32 == 0)
     go false e = tt
@@ -243,6 +244,7 @@ left (Some d) h = (refl, all)
     port : (p : Port) → is_left p ≡ true → p ≡ Left
     port Left k = refl
     port Right k = absurd cc
+
     all : (k : ℕ) (x : Dest) → k < 1 → (get_or (d ∷ []) k x).port ≡ Left
     all zero x lt = port d.port h
     all (suc k) x lt = absurd (omega arith)
@@ -320,8 +322,10 @@ dest_there w b n h ok fits = go (h % 2 ^ 15 == 0) refl fits
   where
     first : ℕ
     first = instrs_below w b
+
     count : ℕ
     count = count_in (w (6 + b))
+
     go : (t : Bool) → (h % 2 ^ 15 == 0) ≡ t → (if t then h == 0 else nat_lt (instrs_below w b + n + h % 2 ^ 15) (instrs_below w b + count_in (w (6 + b))) && (h / 2 ^ 15 == 0 || may_take_right (opcode_in (w (instr_place w (instrs_below w b + n + h % 2 ^ 15)))))) ≡ true → All (IsDest (block_in w b) n) (option_to_list (if t then None else Some record { ahead = h % 2 ^ 15; port = port_of (h / 2 ^ 15) }))
     go true e q = λ k d lt. absurd (omega arith)
     go false e q =
@@ -335,9 +339,9 @@ dest_there w b n h ok fits = go (h % 2 ^ 15 == 0) refl fits
         let passed = ap (instr_checked w (slots_in (w (6 + b))) (instrs_below w b + count_in (w (6 + b)))) (sym at) ∙ each_at (instr_checked w (slots_in (w (6 + b))) (instrs_below w b + count_in (w (6 + b)))) (instrs_below w b) (count_in (w (6 + b))) (n + h % 2 ^ 15) ok small in
         let is : IsDest (block_in w b) n dest =
         record {
-        later = omega (arith, eqb-false _ _ e);
-        inside = omega (arith, small, len);
-        right = λ r. ap Bytes.is_dyadic there ∙ target_dyadic w (slots_in (w (6 + b))) (instrs_below w b + count_in (w (6 + b))) (instrs_below w b + n + h % 2 ^ 15) passed (second_of _ _ a.1 (right_half h r))
+          later = omega (arith, eqb-false _ _ e);
+          inside = omega (arith, small, len);
+          right = λ r. ap Bytes.is_dyadic there ∙ target_dyadic w (slots_in (w (6 + b))) (instrs_below w b + count_in (w (6 + b))) (instrs_below w b + n + h % 2 ^ 15) passed (second_of _ _ a.1 (right_half h r));
         } in
         single (IsDest (block_in w b) n) dest is
 
@@ -347,12 +351,12 @@ instr_lawful w b n o x y c ok p =
     let k = operand_in v o y in
     let z = literal_or_zero w k in
     record {
-    operand = operand_there w o k c p.operand p.target p.number;
-    origin = origin_there v o k z y;
-    slot = slot_there o k z (block_in w b) (shown (instr_as w o x y)) p.slot;
-    dests = dests_there o k z (dest_of (first_half x)) (dest_of (second_half x)) p.dests;
-    firsts = dest_there w b n (first_half x) ok p.first;
-    seconds = dest_there w b n (second_half x) ok p.second
+      operand = operand_there w o k c p.operand p.target p.number;
+      origin = origin_there v o k z y;
+      slot = slot_there o k z (block_in w b) (shown (instr_as w o x y)) p.slot;
+      dests = dests_there o k z (dest_of (first_half x)) (dest_of (second_half x)) p.dests;
+      firsts = dest_there w b n (first_half x) ok p.first;
+      seconds = dest_there w b n (second_half x) ok p.second;
     }
 
 instr_at_lawful : (w : ℕ → ℕ) (b n : ℕ) → CountsFit w → block_checked w b ≡ Ok tt → instr_checked w (slots_in (w (6 + b))) (instrs_below w b + count_in (w (6 + b))) (instrs_below w b + n) ≡ Ok tt → IsInstr (version_number (version_in (w 1))) (code_in w) (block_in w b) n (shown (instr_in w (instrs_below w b + n)))
@@ -371,15 +375,15 @@ block_lawful w b c e ok =
     let count = count_in (w (6 + b)) in
     let len = length_listed (λ ip. shown (instr_in w ip)) (instrs_below w b) (count_in (w (6 + b))) in
     record {
-    inputs = (e.some_input, e.few_inputs);
-    outputs = (e.some_output, e.few_outputs);
-    size = (omega (arith, len, e.enough), omega (arith, len, e.few));
-    slots = e.few_slots;
-    instrs = λ n i q.
-    let lt : n < count = subst (λ m. n < m) len (slice_get_within (listed f first count) n i q) in
-    let there = get_listed f first count n (first + n) lt refl in
-    let same : f (first + n) ≡ i = same_some (f (first + n)) i (slice_get (listed f first count) n) there q in
-    subst (λ (j : Instr). IsInstr (version_number (version_in (w 1))) (code_in w) (block_in w b) n j) same (instr_at_lawful w b n c ok (each_at (instr_checked w (slots_in (w (6 + b))) (first + count)) first count n ok lt))
+      inputs = (e.some_input, e.few_inputs);
+      outputs = (e.some_output, e.few_outputs);
+      size = (omega (arith, len, e.enough), omega (arith, len, e.few));
+      slots = e.few_slots;
+      instrs = λ n i q.
+          let lt : n < count = subst (λ m. n < m) len (slice_get_within (listed f first count) n i q) in
+          let there = get_listed f first count n (first + n) lt refl in
+          let same : f (first + n) ≡ i = same_some (f (first + n)) i (slice_get (listed f first count) n) there q in
+          subst (λ (j : Instr). IsInstr (version_number (version_in (w 1))) (code_in w) (block_in w b) n j) same (instr_at_lawful w b n c ok (each_at (instr_checked w (slots_in (w (6 + b))) (first + count)) first count n ok lt));
     }
 
 either_version : (n v : ℕ) → n ≡ v → (n ≡ 1) ⊎ (n ≡ 2) → (v ≡ 1) ⊎ (v ≡ 2)
@@ -390,18 +394,18 @@ pub is_code : (n : ℕ) (w : ℕ → ℕ) → Passed n w → ((i : ℕ) → w i 
 unfolding code_in
 is_code n w p few =
     record {
-    version_known = either_version (w 1) _ (version_told (w 1) p.version) p.version;
-    some_block = (omega (arith, blocks_long w, p.counts.some_block), omega (arith, blocks_long w, p.counts.few_blocks));
-    main = omega (arith, blocks_long w, p.counts.main_there);
-    few_literals = omega (arith, length_listed (literal_in w) 0 (w 3), p.counts.few_literals);
-    literals = all_listed (λ (x : ℤ). FitsSigned w64 x) (literal_in w) (w 3) (λ k lt. cast_fits (w (literal_place w k)) (few (literal_place w k)));
-    ascend = (ascending w p.literals).steps;
-    few_arrays = omega (arith, length_listed (array_in w) 0 (w 4), p.counts.few_arrays);
-    arrays = all_listed (λ (m : ℕ). (1 ≤ m) × (m ≤ 65536)) (array_in w) (w 4) (λ k lt. arrays_fit w k p.arrays lt);
-    cells = cells_few w p.arrays;
-    blocks = all_listed (IsCodeBlock (version_number (version_in (w 1))) (code_in w)) (block_in w) (w 2) (λ k lt.
-    let at : 0 + k ≡ k = omega arith in
-    block_lawful w k p.counts (entry_from (w (6 + k)) (unless_ok (entry_fits (w (6 + k))) BadTable (ap (entry_checked w) (sym at) ∙ each_at (entry_checked w) 0 (w 2) k p.entries lt))) (ap (block_checked w) (sym at) ∙ each_at (block_checked w) 0 (w 2) k p.blocks lt))
+      version_known = either_version (w 1) _ (version_told (w 1) p.version) p.version;
+      some_block = (omega (arith, blocks_long w, p.counts.some_block), omega (arith, blocks_long w, p.counts.few_blocks));
+      main = omega (arith, blocks_long w, p.counts.main_there);
+      few_literals = omega (arith, length_listed (literal_in w) 0 (w 3), p.counts.few_literals);
+      literals = all_listed (λ (x : ℤ). FitsSigned w64 x) (literal_in w) (w 3) (λ k lt. cast_fits (w (literal_place w k)) (few (literal_place w k)));
+      ascend = (ascending w p.literals).steps;
+      few_arrays = omega (arith, length_listed (array_in w) 0 (w 4), p.counts.few_arrays);
+      arrays = all_listed (λ (m : ℕ). (1 ≤ m) × (m ≤ 65536)) (array_in w) (w 4) (λ k lt. arrays_fit w k p.arrays lt);
+      cells = cells_few w p.arrays;
+      blocks = all_listed (IsCodeBlock (version_number (version_in (w 1))) (code_in w)) (block_in w) (w 2) (λ k lt.
+          let at : 0 + k ≡ k = omega arith in
+          block_lawful w k p.counts (entry_from (w (6 + k)) (unless_ok (entry_fits (w (6 + k))) BadTable (ap (entry_checked w) (sym at) ∙ each_at (entry_checked w) 0 (w 2) k p.entries lt))) (ap (block_checked w) (sym at) ∙ each_at (block_checked w) 0 (w 2) k p.blocks lt));
     }
 
 pub opened_lawful : (bytes : List ℕ) (o : Opened) → AllBytes bytes → checked bytes ≡ Ok tt → opened bytes ≡ o → IsCode o.version o.code

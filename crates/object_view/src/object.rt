@@ -2,7 +2,7 @@
 
 ghost use Rattle.std.specs.Prelude.{◌≡◌, ◌≢◌, ◌+◌, ◌*◌, ◌<◌, ◌≤◌, ◌++◌, ◌↔◌, Ok, Err, Some, None, IfOk, IfErr, IfSome, IfNone, IsOk, MatchResult, MatchOption, length, take, drop, slice_get, option_map};
 ghost use Rattle.semantics.specs.Program.{first_of, instr_at};
-ghost use Rattle.semantics.specs.Bytes.{bytes_of};
+ghost use Rattle.semantics.specs.Bytes.{IsObject};
 
 use crate::fault::ObjectFault;
 use crate::instr::CodeInstr;
@@ -57,6 +57,7 @@ impl<'a> Object<'a> {
             (λ o. first_refusal bytes.now ≡ None)
             (λ e. first_refusal bytes.now ≡ Some e) }
         ensures opened { IfOk result (λ o. o ≡ opened bytes.now) }
+        ensures object { IfOk result (λ o. IsObject bytes.now o.version o.code) }
     {
         let tables = match Tables::read(bytes) {
             Ok(tables) => tables,
@@ -72,7 +73,7 @@ impl<'a> Object<'a> {
     pub fn bytes(&self) -> &'a [u8]
         ensures same { result.now ≡ self.now.bytes }
         ensures header { 48 ≤ length result.now }
-        ensures spelt { result.now ≡ bytes_of self.now.version self.now.code }
+        ensures object { IsObject result.now self.now.version self.now.code }
     {
         self.tables.bytes
     }
