@@ -4,3 +4,14 @@ mod Listed
 mod Numbers
 mod Sent
 mod Views
+mod ByteWords
+mod Each
+mod Facts
+mod Lawful
+mod Listed
+mod Numbers
+mod Sent
+mod Sound
+mod Spelling
+mod Views
+mod Whole

@@ -1,5 +1,5 @@
 -- The code that an object's words tell.
-use Rattle.std.specs.Prelude.{ℕ, zero, suc, ◌+◌, ◌*◌, ◌/◌, ◌%◌, ◌^◌, ◌==◌, nat_lt, if◌then◌else◌, Option, Some, None, unwrap_or, ℤ, pos, List, [], ◌∷◌, length, option_to_list, flat_map}
+use Rattle.std.specs.Prelude.{ℕ, zero, suc, ◌+◌, ◌*◌, ◌/◌, ◌%◌, ◌^◌, ◌==◌, nat_lt, if◌then◌else◌, Option, Some, None, unwrap_or, ℤ, pos, List, [], ◌∷◌, length, option_to_list, flat_map, slice_index, ◌<◌}
 use Rattle.std.specs.Int.{w64, cast_signed, to_le_bytes}
 use Rattle.semantics.specs.Program.{Instr, CodeBlock, Program, Code}
 use Rattle.semantics.specs.Bytes.{instr_words}
@@ -98,3 +98,7 @@ block_shown first b = record { inputs = b.inputs; outputs = b.outputs; slots = b
 -- the bytes of an instruction
 abbrev pub instr_bytes : List ℤ → Instr → List ℕ
 instr_bytes literals i = flat_map (to_le_bytes w64) (instr_words literals i)
+
+-- numbers that are bytes
+abbrev pub AreBytes : List ℕ → Type 0
+AreBytes bytes = (i : ℕ) → slice_index bytes i < 256

@@ -1,5 +1,5 @@
 -- What a writer took.
-use Rattle.std.specs.Prelude.{◌≡◌, ℕ, ℤ, ◌<◌, ◌≤◌, List, [], ◌∷◌, ◌++◌, length, flat_map, codes, int_lt, slice_get, true, Some, ◌+◌, Option, Result, Ok, Err, ⊤}
+use Rattle.std.specs.Prelude.{◌≡◌, ℕ, ℤ, ◌<◌, ◌≤◌, List, [], ◌∷◌, ◌++◌, length, flat_map, codes, take, drop, int_lt, slice_get, true, Some, ◌+◌, Option, Result, Ok, Err, ⊤}
 use Rattle.std.specs.Int.{w64, cast_unsigned, to_le_bytes}
 use Rattle.semantics.specs.declared.program.Dest.{Dest}
 use Rattle.semantics.specs.Program.{Instr, CodeBlock, Code}
@@ -49,3 +49,7 @@ bytes_of_literal z = bytes_of_word (cast_unsigned w64 z)
 
 abbrev pub bytes_of_header : ℕ → Code → List ℕ
 bytes_of_header version c = codes "ETSOBJCT" ++ flat_map bytes_of_word (version ∷ length c.program.blocks ∷ length c.literals ∷ length c.program.arrays ∷ c.program.main ∷ [])
+
+-- the bytes with the version 2 in the second word
+abbrev pub upgraded : List ℕ → List ℕ
+upgraded bytes = take 8 bytes ++ (bytes_of_word 2 ++ drop 16 bytes)

@@ -8,7 +8,12 @@ mod object;
 mod opcode;
 mod tables;
 mod words;
+mod writing;
 
 pub use fault::ObjectFault;
 pub use instr::CodeInstr;
 pub use object::{BlockView, Object, Version};
+pub use writing::{upgrade, write};
+
+#[cfg(test)]
+mod tests;

@@ -36,14 +36,14 @@ pub struct Object<'a> {
 impl<'a> Model for Object<'a> {
     ghost use Rattle.std.specs.Prelude.{◌≡◌, Ok, ⊤};
     ghost use Rattle.object_view.specs.declared.fault.ObjectFault.{ObjectFault};
-    ghost use Rattle.object_view.specs.Reading.{Opened, opened};
+    ghost use Rattle.object_view.specs.Reading.{Opened, opened, AreBytes};
     ghost use Rattle.object_view.specs.Checks.{checked};
 
     ghost Value = { Opened };
 
     ghost view = { λ o. opened o.tables.bytes.now };
 
-    ghost invariant = { λ o. checked o.tables.bytes.now ≡ Ok tt };
+    ghost invariant = { λ o. (checked o.tables.bytes.now ≡ Ok tt) × AreBytes o.tables.bytes.now };
 }
 
 impl<'a> Object<'a> {
@@ -57,6 +57,7 @@ impl<'a> Object<'a> {
             (λ o. first_refusal bytes.now ≡ None)
             (λ e. first_refusal bytes.now ≡ Some e) }
         ensures opened { IfOk result (λ o. o ≡ opened bytes.now) }
+        ensures object { IfOk result (λ o. IsObject bytes.now o.version o.code) }
     {
         let tables = match Tables::read(bytes) {
             Ok(tables) => tables,
@@ -66,6 +67,15 @@ impl<'a> Object<'a> {
             return Err(fault);
         }
         Ok(Object { tables })
+    }
+
+    /// The bytes that it lies in.
+    pub fn bytes(&self) -> &'a [u8]
+        ensures same { result.now ≡ self.now.bytes }
+        ensures header { 48 ≤ length result.now }
+        ensures object { IsObject result.now self.now.version self.now.code }
+    {
+        self.tables.bytes
     }
 
     pub fn version(&self) -> Version
@@ -134,6 +144,16 @@ impl<'a> Object<'a> {
             instrs: entry.instrs(),
             first: self.tables.first_of(block as usize) as u32,
         })
+    }
+
+    /// The 16 bytes of an instruction.
+    pub fn word(&self, ip: u32) -> Option<&'a [u8]>
+        ensures { option_map (λ bytes. bytes.now) result ≡ option_map (instr_bytes self.now.code.literals) (instr_at self.now.code.program ip) }
+    {
+        if ip as usize >= self.tables.instrs {
+            return None;
+        }
+        Some(self.tables.instr_bytes(ip as usize))
     }
 
     /// An instruction.

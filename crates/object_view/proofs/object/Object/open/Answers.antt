@@ -1,4 +1,8 @@
-use Rattle.std.proofs.Common.{◌≡◌, Ok, Err, Some, None, List, ℕ, sym, ap, subst, ◌∙◌}
+use Rattle.object_view.specs.Reading.{AreBytes, opened}
+use Rattle.object_view.proofs.Sound.{opened_spelt}
+use Rattle.object_view.proofs.Lawful.{opened_lawful}
+use Rattle.std.proofs.Common.{refl}
+use Rattle.std.proofs.Common.{rules, ◌≡◌, Ok, Err, Some, None, List, ℕ, sym, ap, subst, ◌∙◌}
 use Rattle.std.specs.Prelude.{length}
 use Rattle.object_view.specs.Fields.{word_at}
 use Rattle.object_view.specs.Checks.{checked, content_checked, first_refusal}
@@ -15,7 +19,7 @@ pub invariant_of-result : goal.invariant_of-result
 invariant_of-result c =
     let same = c.in-Ok.ensures.same in
     let late = ap (λ (bs : List ℕ). content_checked (word_at bs)) (sym same) ∙ sym c.in_default.ensures in
-    ap checked same ∙ checked_all c.args.bytes.now c.in-Ok.ensures.checked late
+    (ap checked same ∙ checked_all c.args.bytes.now c.in-Ok.ensures.checked late, subst (λ (bs : List ℕ). AreBytes bs) (sym same) (search rules))
 
 pub returns-clause-refused : goal.returns-clause-refused
 returns-clause-refused c =
@@ -25,3 +29,13 @@ returns-clause-refused c =
 
 pub returns-in-Err-clause-refused : goal.returns-in-Err-clause-refused
 returns-in-Err-clause-refused c = refused_early c.args.bytes.now c.in-Err.fault c.in-Err.ensures.checked
+
+pub returns-clause-object : goal.returns-clause-object
+returns-clause-object c =
+    let t = c.in-Ok.tables.bytes.now in
+    let same = c.in-Ok.ensures.same in
+    let late = ap (λ (bs : List ℕ). content_checked (word_at bs)) (sym same) ∙ sym c.in_default.ensures in
+    let ok = ap checked same ∙ checked_all c.args.bytes.now c.in-Ok.ensures.checked late in
+    let bytes : AreBytes c.args.bytes.now = search rules in
+    let all : AreBytes t = subst (λ (bs : List ℕ). AreBytes bs) (sym same) bytes in
+    (sym same ∙ opened_spelt t (opened t) all ok refl, opened_lawful t (opened t) all ok refl)

@@ -1,0 +1,15 @@
+use Rattle.std.proofs.Common.{◌≡◌, ℕ, List, sym, ap, ◌∙◌}
+use Rattle.semantics.specs.Program.{Code}
+use Rattle.semantics.specs.Bytes.{bytes_of}
+use Rattle.object_view.proofs.Views.{bytes_seen}
+use Rattle.object_view.proofs.Sound.{opened_spelt}
+use Rattle.object_view.proofs.Lawful.{opened_lawful}
+use Rattle.object_view.proofs.object.Object.bytes.Goals as goal
+
+pub returns-clause-same : goal.returns-clause-same
+returns-clause-same c = sym (bytes_seen c.self.inside.tables.bytes.now _ c.self.view_is)
+
+pub returns-clause-object : goal.returns-clause-object
+returns-clause-object c =
+    let b = c.self.inside.tables.bytes.now in
+    (opened_spelt b _ c.self.invariant.1 c.self.invariant.0 c.self.view_is, opened_lawful b _ c.self.invariant.1 c.self.invariant.0 c.self.view_is)
