@@ -1,9 +1,3 @@
-mod Each
-mod Facts
-mod Listed
-mod Numbers
-mod Sent
-mod Views
 mod ByteWords
 mod Each
 mod Facts
