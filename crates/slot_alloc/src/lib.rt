@@ -2,4 +2,5 @@
 #![tactic(auto)]
 
 mod passes;
+mod row;
 mod rows;

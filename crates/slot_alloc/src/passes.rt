@@ -241,7 +241,8 @@ pub(crate) fn pass<A: Allocator>(
     marks: &[Mark],
     chosen: Chosen,
 ) -> Result<Vec<Inlets, A>, AllocError>
-    ensures { IfOk result (λ v. v.items ≡ of_passes.pass plan.now chosen marks.now (replicate (length block.now.instrs) of_passes.bare) 0 block.now.instrs) }
+    ensures all { IfOk result (λ v. length v.items ≡ length block.now.instrs) }
+    ensures exact { IfOk result (λ v. v.items ≡ of_passes.pass plan.now chosen marks.now (replicate (length block.now.instrs) of_passes.bare) 0 block.now.instrs) }
 {
     const BARE: Inlets = Inlets {
         left: Inflow::Bare,
