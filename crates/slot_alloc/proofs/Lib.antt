@@ -1,3 +1,5 @@
 pub mod Passing
 pub mod Places
 pub mod Passed
+pub mod Chosen
+pub mod Shared

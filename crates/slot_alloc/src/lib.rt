@@ -4,3 +4,4 @@
 mod passes;
 mod row;
 mod rows;
+mod table;

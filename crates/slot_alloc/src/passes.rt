@@ -96,7 +96,7 @@ impl Chosen {
 }
 
 /// Whether two instructions are marked by one predicate.
-fn is_same(wanted: Mark, mark: Mark) -> bool
+pub(crate) fn is_same(wanted: Mark, mark: Mark) -> bool
     ensures { result ≡ of_passes.same_mark wanted mark }
 {
     match (wanted, mark) {
