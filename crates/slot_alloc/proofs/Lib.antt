@@ -3,3 +3,5 @@ pub mod Places
 pub mod Passed
 pub mod Chosen
 pub mod Shared
+pub mod Filling
+pub mod Holders

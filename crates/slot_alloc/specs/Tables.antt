@@ -65,3 +65,25 @@ AdmitsAll t ss = (g : ℕ) → g < length ss → (slice_index_or ss g 0 < 512) �
 abbrev pub blocked_by : Table → ℕ → List Bool → ℕ → List ℕ → List Bool
 blocked_by t g blocked h [] = blocked
 blocked_by t g blocked h (s ∷ ss) = blocked_by t g (if may_share t h g then blocked else slice_set blocked s true) (h + 1) ss
+
+-- some earlier holder in that slot may not share with holder h
+abbrev pub IsClosedAt : Table → List ℕ → ℕ → ℕ → Type 0
+IsClosedAt t ss h s = (g : ℕ) × (g < h) × (g < length ss) × (slice_index_or ss g 0 ≡ s) × (may_share t g h ≡ false)
+
+-- the least slot that admits the next holder
+abbrev pub IsLeastOpen : Table → List ℕ → ℕ → Type 0
+IsLeastOpen t ss s = (s < 512) × Admits t ss (length ss) s × ((r : ℕ) → r < s → IsClosedAt t ss (length ss) r)
+
+-- each holder has the least slot that is not closed to it
+abbrev pub AreLeastOpen : Table → List ℕ → Type 0
+AreLeastOpen t ss = (h : ℕ) → h < length ss → (r : ℕ) → r < slice_index_or ss h 0 → IsClosedAt t ss h r
+
+pub record IsFilled (t : Table) (ss : List ℕ) : Type 0 where
+  pub admitted : AdmitsAll t ss
+  pub least : AreLeastOpen t ss
+
+-- no slot is left for the holder after these
+pub record IsFull (t : Table) (holders : ℕ) (ss : List ℕ) : Type 0 where
+  pub left : length ss < holders
+  pub filled : IsFilled t ss
+  pub closed : (s : ℕ) → s < 512 → IsClosedAt t ss (length ss) s

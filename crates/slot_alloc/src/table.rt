@@ -221,4 +221,19 @@ impl<A: Allocator> Table<A> {
         }
         blocked
     }
+
+    /// The least slot in which the next holder may share with each earlier one.
+    pub fn least_open(&self, slots: &[u16]) -> Option<u16>
+        requires { All (λ s. s < 512) slots.now }
+        ensures some { IfSome result (of_tables.IsLeastOpen self.now slots.now) }
+        ensures none { IfNone result ((s : ℕ) → s < 512 → of_tables.IsClosedAt self.now slots.now (length slots.now) s) }
+    {
+        let blocked = self.blocked(slots);
+        for slot in 0..SLOTS {
+            if !blocked[slot] {
+                return Some(slot as u16);
+            }
+        }
+        None
+    }
 }
