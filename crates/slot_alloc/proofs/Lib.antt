@@ -5,3 +5,4 @@ pub mod Chosen
 pub mod Shared
 pub mod Filling
 pub mod Holders
+pub mod Steps

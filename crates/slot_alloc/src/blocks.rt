@@ -68,5 +68,8 @@ pub(crate) fn assign_block<A: Allocator + Clone>(
     ensures refused { IfErr result (IsBlockRefused plan.now number block.now) }
 {
     let table = Table::of(alloc.clone()?, plan, block, plan.marks_of(number))?;
-    fill(alloc, &table, number, block.slots)
+    match fill(alloc, &table, number, block.slots) {
+        Ok(slots) => Ok(slots),
+        Err(fault) => Err(fault),
+    }
 }

@@ -4,7 +4,7 @@
 //! different sides of the switches of one mark (explicit token store: Papadopoulos and Culler, ISCA 1990).
 #![tactic(auto)]
 
-ghost use Rattle.std.specs.Prelude.{◌↔◌, IfOk, IfErr, IsTrue};
+ghost use Rattle.std.specs.Prelude.{◌≡◌, ◌↔◌, IfOk, IfErr, IsTrue};
 ghost use Rattle.semantics.specs.Sharing.{Good};
 ghost use Rattle.slot_alloc.specs.Forward.{IsForward};
 ghost use Rattle.slot_alloc.specs.Assigned.{IsAssigned, IsRefused};
@@ -17,9 +17,15 @@ mod rows;
 mod table;
 
 use blocks::{assign_block, check_block};
-use code::{Plan, Slots};
+use code::{CodeBlock, Plan, Slots};
 pub use faults::AssignFault;
 use std::alloc::{AllocError, Allocator};
+
+fn blocks_of<A: Allocator>(plan: &Plan<A>) -> &[CodeBlock<A>]
+    ensures { result.now ≡ plan.now.program.blocks }
+{
+    &plan.program.blocks
+}
 
 /// Whether the slots are a good choice for the holders of a plan: one list for each block and one slot for each of its
 /// holders, each slot below 512, and any two holders of a block in one slot may share it.
@@ -34,10 +40,10 @@ pub fn check_slots<A: Allocator + Clone>(
     requires { IsForward plan.now }
     ensures { IfOk result (λ yes. IsTrue yes ↔ Good plan.now slots.now) }
 {
-    if slots.len() != plan.program.blocks.len() {
+    if slots.len() != blocks_of(plan).len() {
         return Ok(false);
     }
-    for (number, block) in plan.program.blocks.iter().enumerate() {
+    for (number, block) in blocks_of(plan).iter().enumerate() {
         let Some(list) = slots.block(number) else {
             return Ok(false);
         };
@@ -58,9 +64,12 @@ pub fn assign<A: Allocator + Clone>(alloc: A, plan: &Plan<A>) -> Result<Slots<A>
     ensures assigned { IfOk result (IsAssigned plan.now) }
     ensures refused { IfErr result (IsRefused plan.now) }
 {
-    let mut lists = Vec::with_capacity(alloc.clone()?, plan.program.blocks.len())?;
-    for (number, block) in plan.program.blocks.iter().enumerate() {
-        lists.push(assign_block(alloc.clone()?, plan, number, block)?)?;
+    let mut lists = Vec::with_capacity(alloc.clone()?, blocks_of(plan).len())?;
+    for (number, block) in blocks_of(plan).iter().enumerate() {
+        match assign_block(alloc.clone()?, plan, number, block) {
+            Ok(list) => lists.push(list)?,
+            Err(fault) => return Err(fault),
+        }
     }
     Ok(Slots::of(lists))
 }
