@@ -9,11 +9,10 @@ use Rattle.semantics.specs.Plan.{Plan}
 use Rattle.semantics.specs.Sharing.{MayShare, IsGoodBlock}
 use Rattle.code.specs.Marks.{marks_in}
 use Rattle.slot_alloc.specs.Tables.{Table, table_of, may_share, Admits, AdmitsAll, IsClosedAt, AreLeastOpen, IsFilled, IsFull}
-use Rattle.slot_alloc.specs.Forward.{IsForward}
 use Rattle.slot_alloc.specs.Assigned.{IsClosed, AreLeast, IsBlockAssigned, IsCrowded}
 use Rattle.slot_alloc.proofs.Shared.{shared_exact, other_way}
 
-module _ (p : Plan) (b : ℕ) (c : CodeBlock) (at : slice_get p.program.blocks b ≡ Some c) (forward : IsForward p) where
+module _ (p : Plan) (b : ℕ) (c : CodeBlock) (at : slice_get p.program.blocks b ≡ Some c) where
   abbrev pub the_table : Table
   the_table = table_of p (marks_in p b) c
 
@@ -27,13 +26,13 @@ module _ (p : Plan) (b : ℕ) (c : CodeBlock) (at : slice_get p.program.blocks b
     earlier_shares : AdmitsAll the_table ss → (g h s : ℕ) → slice_get ss g ≡ Some s → slice_get ss h ≡ Some s → g < h → MayShare p b g h
     earlier_shares all g h s gs hs lt =
         let in_h = slice_get_within ss h s hs in
-        (shared_exact p b c at forward g h (omega (arith, lt, in_h, few)) (omega (arith, in_h, few))).0
+        (shared_exact p b c at g h (omega (arith, lt, in_h, few)) (omega (arith, in_h, few))).0
         ((all h in_h).1 g lt (slot_at g s gs ∙ sym (slot_at h s hs)))
 
     share_from : AdmitsAll the_table ss → (g h s : ℕ) → slice_get ss g ≡ Some s → slice_get ss h ≡ Some s → g ≢ h → MayShare p b g h
     share_from all g h s gs hs ne = ⊎_elim
         (λ lt. earlier_shares all g h s gs hs lt)
-        (λ le. let lt : h < g = omega (arith, le, ne) in other_way p b c at forward h g (earlier_shares all h g s hs gs lt))
+        (λ le. let lt : h < g = omega (arith, le, ne) in other_way p b c at h g (earlier_shares all h g s hs gs lt))
         (cases_lt g h)
 
     closed_from : (h s : ℕ) → h < c.slots → IsClosedAt the_table ss h s → IsClosed p b ss h s
@@ -42,7 +41,7 @@ module _ (p : Plan) (b : ℕ) (c : CodeBlock) (at : slice_get p.program.blocks b
           w.0,
           w.1,
           slice_get-get_or ss w.0 0 w.2 ∙ ap (λ (x : ℕ). Some x) w.3,
-          λ m. both_ways (may_share the_table w.0 h) w.4 ((shared_exact p b c at forward w.0 h (omega (arith, lt, below)) below).1 m),
+          λ m. both_ways (may_share the_table w.0 h) w.4 ((shared_exact p b c at w.0 h (omega (arith, lt, below)) below).1 m),
         )
 
     least_from : AreLeastOpen the_table ss → AreLeast p b ss
@@ -65,7 +64,7 @@ module _ (p : Plan) (b : ℕ) (c : CodeBlock) (at : slice_get p.program.blocks b
         let in_h : h < length ss = omega (arith, lt, below) in
         let gs = slice_get-get_or ss g 0 below in
         let hs = slice_get-get_or ss h 0 in_h ∙ ap (λ (x : ℕ). Some x) same in
-        (shared_exact p b c at forward h g (omega (arith, in_h, len)) (omega (arith, below, len))).1
+        (shared_exact p b c at h g (omega (arith, in_h, len)) (omega (arith, below, len))).1
         (good.share h g (get_or ss g 0) hs gs (λ e. omega (arith, e, lt))),
   )
 

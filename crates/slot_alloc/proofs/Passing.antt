@@ -1,14 +1,13 @@
 -- The pass finds exactly the ports that follow: by induction over the instructions, for arcs that go forward.
-use Rattle.std.proofs.Common.{◌≡◌, refl, sym, ap, ◌∙◌, subst, ℕ, zero, suc, ◌+◌, ◌<◌, ◌≤◌, Bool, true, false, not, ◌||◌, List, [], ◌∷◌, ◌++◌, map, length, get_or, set, Option, Some, None, inl, inr, ⊎_elim, arith, ◌⊎◌}
+use Rattle.std.proofs.Common.{◌≡◌, refl, sym, ap, ◌∙◌, subst, ℕ, zero, suc, ◌+◌, ◌<◌, ◌≤◌, Bool, true, false, not, ◌||◌, List, [], ◌∷◌, ◌++◌, map, length, get_or, set, cond, ◌&&◌, nat_lt, ◌==◌, Option, Some, None, inl, inr, ⊎_elim, arith, ◌⊎◌}
 use Rattle.std.specs.Prelude.{Contains, All, slice_get, flat_map}
 use Rattle.std.specs.Bool.{Decides}
-use Rattle.std.proofs.lemmas.Bool.{cases_eq, cases_Bool, both_ways, or_cases, or_left, or_right, false_from_ne_true}
+use Rattle.std.proofs.lemmas.Bool.{ne_eqb, lt-ltb, cases_eq, cases_Bool, both_ways, or_cases, or_left, or_right, false_from_ne_true}
 use Rattle.std.proofs.lemmas.List.{append_assoc, append-nil, get_or-set_same, get_or-set_other, length-set}
 use Rattle.std.proofs.lemmas.List.Elements.{Contains-append_left, Contains-append_right, Contains-append_cases, Contains-push, Contains-push_cases, All-contains, All-nil, All-cons, All-append, All-map, All-from_recursion}
 use Rattle.tags.specs.declared.token.Port.{Port}
 use Rattle.tags.specs.declared.token.Port.TheVariants.{Left, Right}
 use Rattle.semantics.specs.declared.program.Dest.{Dest}
-use Rattle.semantics.specs.declared.program.Mark.{Mark}
 use Rattle.semantics.specs.declared.program.Op.{Op}
 use Rattle.semantics.specs.declared.program.Op.TheVariants.{Link}
 use Rattle.semantics.specs.Program.{Instr}
@@ -17,8 +16,7 @@ use Rattle.semantics.specs.Sharing.{Inlet, inlet, Arc, arc, arcs_to, row, arcs_f
 use Rattle.slot_alloc.specs.declared.passes.Inflow.{Inflow}
 use Rattle.slot_alloc.specs.declared.passes.Inflow.TheVariants.{Bare, AllLead, NotAll}
 use Rattle.slot_alloc.specs.declared.passes.Inlets.{Inlets}
-use Rattle.slot_alloc.specs.declared.passes.Chosen.{Chosen}
-use Rattle.slot_alloc.specs.Passes.{bare, inlets_at, inflow_with, inlets_with, enter, enter_each, enter_row, enter_landings, enter_firsts, all_lead, some_lead, is_chosen, enter_instr, mark_of, pass}
+use Rattle.slot_alloc.specs.Passes.{bare, inlets_at, inflow_with, inlets_with, enter, enter_each, enter_row, enter_landings, enter_firsts, all_lead, own_each, own_landings, own_firsts}
 
 abbrev pub port_of : Inlets → Port → Inflow
 port_of x Left = x.left
@@ -69,19 +67,19 @@ from_firsts p n i op = refl
 
 -- WHERE ARCS START
 abbrev pub IsFrom : ℕ → Bool → Arc → Type 0
-IsFrom n s y = (y.from ≡ n) × (y.second ≡ s)
+IsFrom n s y = (y.from ≡ n) × (y.second ≡ s) × (n ≤ y.to.place)
 
 to_from : (n : ℕ) (s : Bool) (ds : List Dest) → All (IsFrom n s) (arcs_to n s ds)
 to_from n s [] = All-nil (IsFrom n s)
-to_from n s (d ∷ ds) = All-cons (IsFrom n s) (arc n s (inlet (n + d.ahead) d.port)) (arcs_to n s ds) (refl, refl) (to_from n s ds)
+to_from n s (d ∷ ds) = All-cons (IsFrom n s) (arc n s (inlet (n + d.ahead) d.port)) (arcs_to n s ds) (refl, refl, omega arith) (to_from n s ds)
 
-row_from' : (n from k : ℕ) → All (IsFrom n false) (row n from k)
-row_from' n from zero = All-nil (IsFrom n false)
-row_from' n from (suc k) = All-cons (IsFrom n false) (arc n false (inlet from Left)) (row n (from + 1) k) (refl, refl) (row_from' n (from + 1) k)
+row_starts : (n from k : ℕ) → n ≤ from → All (IsFrom n false) (row n from k)
+row_starts n from zero le = All-nil (IsFrom n false)
+row_starts n from (suc k) le = All-cons (IsFrom n false) (arc n false (inlet from Left)) (row n (from + 1) k) (refl, refl, le) (row_starts n (from + 1) k (omega (arith, le)))
 
 landings_from : (n size : ℕ) (ds : List Dest) → All (IsFrom n false) (flat_map (λ (d : Dest). row n (n + d.ahead) size) ds)
 landings_from n size [] = All-nil (IsFrom n false)
-landings_from n size (d ∷ ds) = All-append (IsFrom n false) (row n (n + d.ahead) size) (flat_map (λ (e : Dest). row n (n + e.ahead) size) ds) (row_from' n (n + d.ahead) size) (landings_from n size ds)
+landings_from n size (d ∷ ds) = All-append (IsFrom n false) (row n (n + d.ahead) size) (flat_map (λ (e : Dest). row n (n + e.ahead) size) ds) (row_starts n (n + d.ahead) size (omega arith)) (landings_from n size ds)
 
 firsts_from : (p : Plan) (n : ℕ) (ds : List Dest) (op : Op) → All (IsFrom n false) (firsts_arcs p n ds op)
 firsts_from p n ds (Link t) = landings_from n (landing p t) ds
@@ -93,26 +91,25 @@ is_first p n ds op y there = All-contains (IsFrom n false) (firsts_arcs p n ds o
 pub is_second : (n : ℕ) (ds : List Dest) (y : Arc) → Contains (arcs_to n true ds) y → IsFrom n true y
 is_second n ds y there = All-contains (IsFrom n true) (arcs_to n true ds) y (to_from n true ds) there
 
-pub from_here : (p : Plan) (n : ℕ) (i : Instr) (y : Arc) → Contains (arcs_from p n i i.op) y → y.from ≡ n
+pub from_here : (p : Plan) (n : ℕ) (i : Instr) (y : Arc) → Contains (arcs_from p n i i.op) y → (y.from ≡ n) × (n ≤ y.to.place)
 from_here p n i y there = ⊎_elim
-    (λ a. (is_first p n i.firsts i.op y a).0) (λ a. (is_second n i.seconds y a).0)
+    (λ a. let w = is_first p n i.firsts i.op y a in (w.0, w.2))
+    (λ a. let w = is_second n i.seconds y a in (w.0, w.2))
     (Contains-append_cases (firsts_arcs p n i.firsts i.op) (arcs_to n true i.seconds) y (subst (λ ys. Contains ys y) (from_firsts p n i i.op) there))
 
 none_there : {A : Type 0} (y : A) → Contains [] y → ⊥
 none_there y h = omega (arith, h.1)
 
-pub from_later : (p : Plan) (n : ℕ) (is : List Instr) (y : Arc) → Contains (arcs_of p n is) y → n ≤ y.from
+-- no arc goes back
+pub from_later : (p : Plan) (n : ℕ) (is : List Instr) (y : Arc) → Contains (arcs_of p n is) y → (n ≤ y.from) × (y.from ≤ y.to.place)
 from_later p n [] y there = absurd (none_there y there)
 from_later p n (i ∷ is) y there = ⊎_elim
-    (λ a. let e = from_here p n i y a in omega (arith, e))
-    (λ a. let e = from_later p (n + 1) is y a in omega (arith, e))
+    (λ a. let w = from_here p n i y a in let e = w.0 in let le = w.1 in (omega (arith, e), omega (arith, e, le)))
+    (λ a. let w = from_later p (n + 1) is y a in let le = w.0 in (omega (arith, le), w.1))
     (Contains-append_cases (arcs_from p n i i.op) (arcs_of p (n + 1) is) y there)
 
--- WHAT THE TABLE SHOWS of the arcs entered so far
-module _ (arcs : List Arc) (chosen : Arc → Type 0) where
-  abbrev pub L : Arc → Type 0
-  L y = Leads arcs chosen y
-
+-- WHAT THE TABLE SHOWS of the arcs entered so far: those that lead, and those that do not
+module _ (L : Arc → Type 0) where
   abbrev pub Shown : List Arc → Inlet → Inflow → Type 0
   Shown done q Bare = (y : Arc) → Contains done y → y.to ≡ q → ⊥
   Shown done q AllLead = ((x : Arc) × Contains done x × (x.to ≡ q)) × ((y : Arc) → Contains done y → y.to ≡ q → L y)
@@ -178,9 +175,10 @@ module _ (arcs : List Arc) (chosen : Arc → Type 0) where
           (λ z there. d z (Contains-append_right (y ∷ []) ys z there))
           (enter_shows done xs y b (d y (Contains-append_left (y ∷ []) ys y (0, omega arith, refl))) h))
 
-  -- a port whose arcs are all entered
+-- a port whose arcs are all entered
+module _ (arcs : List Arc) (chosen : Arc → Type 0) where
   pub follows_shown : (done : List Arc) (q : Inlet) (v : Inflow) → ((y : Arc) → Contains done y → Contains arcs y) → ((y : Arc) → Contains arcs y → y.to ≡ q → Contains done y)
-      → Shown done q v → Decides (all_lead v) (Follows arcs chosen q)
+      → Shown (Leads arcs chosen) done q v → Decides (all_lead v) (Follows arcs chosen q)
   follows_shown done q Bare sub all h = (λ e. absurd (both_ways false refl e), λ f. absurd (bare_port f))
     where
       bare_port : Follows arcs chosen q → ⊥
@@ -190,3 +188,67 @@ module _ (arcs : List Arc) (chosen : Arc → Type 0) where
     where
       broken_port : Follows arcs chosen q → ⊥
       broken_port (follows _ x there to each) = h.3 (each h.0 (sub h.0 h.1) h.2)
+
+-- THE OWN ARCS of an instruction are those that come to its ports when all are entered
+module _ (n : ℕ) where
+  enter_own : (xs : List Inlets) (k : ℕ) (q : Port) (b : Bool) → n < length xs → inlets_at (enter xs (n + k) q b) n ≡ cond (k == 0) (inlets_with (inlets_at xs n) q b) (inlets_at xs n)
+  enter_own xs zero q b within =
+      let e : n + zero ≡ n = omega arith in
+      subst (λ m. inlets_at (enter xs m q b) n ≡ inlets_with (inlets_at xs n) q b) (sym e) (get_or-set_same xs n (inlets_with (inlets_at xs n) q b) bare within)
+  enter_own xs (suc k) q b within =
+      let ne : ◌≡◌ {A = ℕ} n (n + suc k) → ⊥ = λ e. omega (arith, e) in
+      let off : ◌≡◌ {A = ℕ} (suc k) 0 → ⊥ = λ e. omega (arith, e) in
+      get_or-set_other xs (n + suc k) n (inlets_with (inlets_at xs (n + suc k)) q b) bare ne
+      ∙ sym (ap (λ t. cond t (inlets_with (inlets_at xs n) q b) (inlets_at xs n)) (ne_eqb (suc k) 0 off))
+
+  enter_long : (xs : List Inlets) (k : ℕ) (q : Port) (b : Bool) → length (enter xs k q b) ≡ length xs
+  enter_long xs k q b = length-set xs k (inlets_with (inlets_at xs k) q b)
+
+  pub each_own : (xs : List Inlets) (b : Bool) (ds : List Dest) → n < length xs → inlets_at (enter_each xs n b ds) n ≡ own_each (inlets_at xs n) b ds
+  each_own xs b [] within = refl
+  each_own xs b (d ∷ ds) within =
+      let len = enter_long xs (n + d.ahead) d.port b in
+      each_own (enter xs (n + d.ahead) d.port b) b ds (omega (arith, within, len))
+      ∙ ap (λ x. own_each x b ds) (enter_own xs d.ahead d.port b within)
+
+  row_long : (xs : List Inlets) (m : ℕ) (b : Bool) (k : ℕ) → length (enter_row xs m b k) ≡ length xs
+  row_long xs m b zero = refl
+  row_long xs m b (suc k) = enter_long (enter_row xs m b k) (m + k) Left b ∙ row_long xs m b k
+
+  row_beyond : (xs : List Inlets) (m : ℕ) (b : Bool) (k : ℕ) → n < m → inlets_at (enter_row xs m b k) n ≡ inlets_at xs n
+  row_beyond xs m b zero lt = refl
+  row_beyond xs m b (suc k) lt =
+      let ys = enter_row xs m b k in
+      let ne : ◌≡◌ {A = ℕ} n (m + k) → ⊥ = λ e. omega (arith, e, lt) in
+      get_or-set_other ys (m + k) n (inlets_with (inlets_at ys (m + k)) Left b) bare ne ∙ row_beyond xs m b k lt
+
+  row_there : (xs : List Inlets) (b : Bool) (k : ℕ) → n < length xs → inlets_at (enter_row xs n b (suc k)) n ≡ inlets_with (inlets_at xs n) Left b
+  row_there xs b zero within = enter_own xs zero Left b within
+  row_there xs b (suc k) within =
+      let ys = enter_row xs n b (suc k) in
+      let ne : ◌≡◌ {A = ℕ} n (n + suc k) → ⊥ = λ e. omega (arith, e) in
+      get_or-set_other ys (n + suc k) n (inlets_with (inlets_at ys (n + suc k)) Left b) bare ne ∙ row_there xs b k within
+
+  row_own : (xs : List Inlets) (a : ℕ) (b : Bool) (k : ℕ) → n < length xs → inlets_at (enter_row xs (n + a) b k) n ≡ cond ((a == 0) && nat_lt 0 k) (inlets_with (inlets_at xs n) Left b) (inlets_at xs n)
+  row_own xs zero b zero within = refl
+  row_own xs zero b (suc k) within =
+      let e : n + zero ≡ n = omega arith in
+      let lt : 0 < suc k = omega arith in
+      ap (λ m. inlets_at (enter_row xs m b (suc k)) n) e ∙ row_there xs b k within
+      ∙ sym (ap (λ t. cond ((zero == 0) && t) (inlets_with (inlets_at xs n) Left b) (inlets_at xs n)) (lt-ltb 0 (suc k) lt))
+  row_own xs (suc a) b k within =
+      let lt : n < n + suc a = omega arith in
+      let off : ◌≡◌ {A = ℕ} (suc a) 0 → ⊥ = λ e. omega (arith, e) in
+      row_beyond xs (n + suc a) b k lt
+      ∙ sym (ap (λ t. cond (t && nat_lt 0 k) (inlets_with (inlets_at xs n) Left b) (inlets_at xs n)) (ne_eqb (suc a) 0 off))
+
+  landings_own : (xs : List Inlets) (b : Bool) (size : ℕ) (ds : List Dest) → n < length xs → inlets_at (enter_landings xs n b size ds) n ≡ own_landings (inlets_at xs n) b size ds
+  landings_own xs b size [] within = refl
+  landings_own xs b size (d ∷ ds) within =
+      let len = row_long xs (n + d.ahead) b size in
+      landings_own (enter_row xs (n + d.ahead) b size) b size ds (omega (arith, within, len))
+      ∙ ap (λ x. own_landings x b size ds) (row_own xs d.ahead b size within)
+
+  pub firsts_own : (p : Plan) (xs : List Inlets) (b : Bool) (ds : List Dest) (op : Op) → n < length xs → inlets_at (enter_firsts p xs n b ds op) n ≡ own_firsts p (inlets_at xs n) b ds op
+  firsts_own p xs b ds (Link t) within = landings_own xs b (landing p t) ds within
+  firsts_own p xs b ds op within = each_own xs b ds within

@@ -22,7 +22,6 @@ use Rattle.slot_alloc.specs.declared.passes.Chosen.TheVariants.{Ends, Side}
 use Rattle.slot_alloc.specs.Passes.{bare, inlets_at, all_lead, is_chosen, mark_of, same_mark, pass}
 use Rattle.slot_alloc.specs.Rows.{ports_lead, row_from, row_of}
 use Rattle.slot_alloc.specs.Tables.{Split, Table, after_rows, split_of, is_marked, with_mark, distinct, table_of, comes_after, is_apart, may_share}
-use Rattle.slot_alloc.specs.Forward.{IsForward}
 use Rattle.slot_alloc.proofs.Passing.{port_of}
 use Rattle.slot_alloc.proofs.Places.{ByPlace, at_place, from_places}
 use Rattle.slot_alloc.proofs.Passed.{Tells, follows_exact, bit, Kept, row_exact, ports_exact}
@@ -30,18 +29,17 @@ use Rattle.slot_alloc.proofs.Chosen.{ends_tell, sides_tell, same_mark_exact, mar
 
 -- A ROW of one block, for chosen arcs that the test tells
 module _ (p : Plan) (c : CodeBlock) (ms : List Mark) (ch : Chosen) (chosen : Arc → Type 0)
-    (forward : (y : Arc) → Contains (arcs_of p 0 c.instrs) y → y.from < y.to.place)
     (tells : (n : ℕ) (i : Instr) → slice_get c.instrs n ≡ Some i → (y : Arc) → y.from ≡ n → Decides (is_chosen ch i (mark_of ms n) y.second) (chosen y)) where
   abbrev pub AllFollow : ℕ → Type 0
   AllFollow g = (q : Inlet) → IsHolderPort (Some c) g q → Follows (arcs_of p 0 c.instrs) chosen q
 
-  told : ByPlace (Tells p ch ms (arcs_of p 0 c.instrs) chosen forward) 0 c.instrs
-  told = from_places (Tells p ch ms (arcs_of p 0 c.instrs) chosen forward) 0 c.instrs
-      (λ k i at. let e : k ≡ 0 + k = omega arith in subst (λ n. Tells p ch ms (arcs_of p 0 c.instrs) chosen forward n i) e (tells k i at))
+  told : ByPlace (Tells p ch ms (arcs_of p 0 c.instrs) chosen) 0 c.instrs
+  told = from_places (Tells p ch ms (arcs_of p 0 c.instrs) chosen) 0 c.instrs
+      (λ k i at. let e : k ≡ 0 + k = omega arith in subst (λ n. Tells p ch ms (arcs_of p 0 c.instrs) chosen n i) e (tells k i at))
 
   port_exact : (k : ℕ) (i : Instr) (s : Port) → slice_get c.instrs k ≡ Some i
       → Decides (all_lead (port_of (inlets_at (pass p ch ms (replicate (length c.instrs) bare) 0 c.instrs) k) s)) (Follows (arcs_of p 0 c.instrs) chosen (inlet k s))
-  port_exact k i s at = follows_exact p ch ms (arcs_of p 0 c.instrs) chosen forward c.instrs refl told k s (slice_get_within c.instrs k i at)
+  port_exact k i s at = follows_exact p ch ms (arcs_of p 0 c.instrs) chosen c.instrs refl told k s (slice_get_within c.instrs k i at)
 
   kept_exact : (g : ℕ) → Decides (bit (row_of p ch ms c) g) ((bit (replicate c.slots true) g ≡ true) × ByPlace (Kept g (pass p ch ms (replicate (length c.instrs) bare) 0 c.instrs)) 0 c.instrs) → g < c.slots
       → Decides (bit (row_of p ch ms c) g) (AllFollow g)
@@ -68,26 +66,23 @@ module _ (p : Plan) (c : CodeBlock) (ms : List Mark) (ch : Chosen) (chosen : Arc
       kept_exact g (row_exact g (pass p ch ms (replicate (length c.instrs) bare) 0 c.instrs) (replicate c.slots true) 0 c.instrs (omega (arith, len, below))) below
 
 -- THE ROWS OF A BLOCK
-module _ (p : Plan) (b : ℕ) (c : CodeBlock) (at : slice_get p.program.blocks b ≡ Some c) (forward : IsForward p) where
+module _ (p : Plan) (b : ℕ) (c : CodeBlock) (at : slice_get p.program.blocks b ≡ Some c) where
   abbrev arcs : List Arc
   arcs = arcs_of p 0 c.instrs
-
-  goes_on : (y : Arc) → Contains (arcs_of p 0 c.instrs) y → y.from < y.to.place
-  goes_on y there = forward b y (subst (λ o. Contains (arcs_in p o) y) (sym at) there)
 
   abbrev AfterIn : Option CodeBlock → ℕ → ℕ → Type 0
   AfterIn o g h = (q : Inlet) → IsHolderPort o g q → Follows (arcs_in p o) (IsEnd o h) q
 
   after_exact : (g h : ℕ) → g < c.slots → Decides (bit (row_of p (Ends h) (marks_in p b) c) g) (AllAfter p b g h)
   after_exact g h below = subst (λ o. Decides (bit (row_of p (Ends h) (marks_in p b) c) g) (AfterIn o g h)) (sym at)
-      (all_follow_exact p c (marks_in p b) (Ends h) (IsEnd (Some c) h) goes_on (λ n i here y from. ends_tell c h n i (mark_of (marks_in p b) n) y here from) g below)
+      (all_follow_exact p c (marks_in p b) (Ends h) (IsEnd (Some c) h) (λ n i here y from. ends_tell c h n i (mark_of (marks_in p b) n) y here from) g below)
 
   abbrev SideIn : Option CodeBlock → ℕ → Mark → Bool → Type 0
   SideIn o g m side = (q : Inlet) → IsHolderPort o g q → Follows (arcs_in p o) (IsSide p b m side) q
 
   side_exact : (g : ℕ) (m : Mark) (side : Bool) → g < c.slots → Decides (bit (row_of p (Side side m) (marks_in p b) c) g) (AllOnSide p b g m side)
   side_exact g m side below = subst (λ o. Decides (bit (row_of p (Side side m) (marks_in p b) c) g) (SideIn o g m side)) (sym at)
-      (all_follow_exact p c (marks_in p b) (Side side m) (IsSide p b m side) goes_on (λ n i here y from. sides_tell p b side m n i y from) g below)
+      (all_follow_exact p c (marks_in p b) (Side side m) (IsSide p b m side) (λ n i here y from. sides_tell p b side m n i y from) g below)
 
   -- the row of each holder
   rows_long : (ms : List Mark) (n : ℕ) → length (after_rows p ms c n) ≡ n

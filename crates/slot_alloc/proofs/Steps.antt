@@ -10,7 +10,6 @@ use Rattle.semantics.specs.Sharing.{IsGoodBlock, Good}
 use Rattle.slot_alloc.specs.declared.faults.AssignFault.{AssignFault}
 use Rattle.slot_alloc.specs.declared.faults.AssignFault.TheVariants.{TooManySlots, Memory}
 use Rattle.slot_alloc.specs.Tables.{Table, IsClosedAt, IsFilled, IsFull}
-use Rattle.slot_alloc.specs.Forward.{IsForward}
 use Rattle.slot_alloc.specs.Assigned.{AreLeast, IsBlockAssigned, IsAssigned, IsCrowded, IsRefused, IsBlockRefused, IsFillRefused}
 use Rattle.slot_alloc.proofs.Holders.{the_table, crowded_from}
 
@@ -90,11 +89,11 @@ refused_first p n lists c (TooManySlots b) at old h = record {
 refused_first p n lists c Memory at old h = tt
 
 -- A BLOCK by its table
-pub fill_refused : (p : Plan) (n : ℕ) (c : CodeBlock) (at : slice_get p.program.blocks n ≡ Some c) (forward : IsForward p) (t : Table) (holders : ℕ) (e : AssignFault)
-    → t ≡ the_table p n c at forward → holders ≡ c.slots → IsFillRefused t n holders e → IsBlockRefused p n c e
-fill_refused p n c at forward t holders (TooManySlots b) same all h =
-    (h.0, crowded_from p n c at forward h.1.0 (subst (λ k. IsFull (the_table p n c at forward) k h.1.0) all (subst (λ x. IsFull x holders h.1.0) same h.1.1)))
-fill_refused p n c at forward t holders Memory same all h = tt
+pub fill_refused : (p : Plan) (n : ℕ) (c : CodeBlock) (at : slice_get p.program.blocks n ≡ Some c) (t : Table) (holders : ℕ) (e : AssignFault)
+    → t ≡ the_table p n c at → holders ≡ c.slots → IsFillRefused t n holders e → IsBlockRefused p n c e
+fill_refused p n c at t holders (TooManySlots b) same all h =
+    (h.0, crowded_from p n c at h.1.0 (subst (λ k. IsFull (the_table p n c at) k h.1.0) all (subst (λ x. IsFull x holders h.1.0) same h.1.1)))
+fill_refused p n c at t holders Memory same all h = tt
 
 pub full_by : (t : Table) (holders n : ℕ) (ss seen : List ℕ) → seen ≡ ss → IsFilled t ss → length ss ≡ n → n < holders → ((s : ℕ) → s < 512 → IsClosedAt t seen (length seen) s) → IsFull t holders ss
 full_by t holders n ss seen same filled len left closed = record {

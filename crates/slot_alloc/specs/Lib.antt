@@ -1,5 +1,4 @@
 pub mod Passes
 pub mod Rows
 pub mod Tables
-pub mod Forward
 pub mod Assigned

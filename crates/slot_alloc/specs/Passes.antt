@@ -1,6 +1,6 @@
 -- One pass over the instructions of a block in their order: of each port it tells whether there is an arc into it, and
 -- whether each arc into it is chosen or starts at an instruction with such a port.
-use Rattle.std.specs.Prelude.{ℕ, zero, suc, ◌+◌, Bool, true, false, not, ◌&&◌, ◌||◌, ◌==◌, List, [], ◌∷◌, Option, Some, None, slice_get, slice_set, slice_index_or, unwrap_or}
+use Rattle.std.specs.Prelude.{ℕ, zero, suc, ◌+◌, Bool, true, false, not, ◌&&◌, ◌||◌, ◌==◌, List, [], ◌∷◌, Option, Some, None, slice_get, slice_set, slice_index_or, unwrap_or, nat_lt, if◌then◌else◌}
 use Rattle.tags.specs.declared.token.Port.{Port}
 use Rattle.tags.specs.declared.token.Port.TheVariants.{Left, Right}
 use Rattle.semantics.specs.declared.program.Dest.{Dest}
@@ -79,9 +79,26 @@ is_chosen (Ends h) i m second = is_holder (slot_of i i.op) h && ends_with i.op
 is_chosen (Side true n) i m second = same_mark n m && not second
 is_chosen (Side false n) i m second = same_mark n m && second
 
+-- the ports of an instruction with those of its own arcs that lead back to itself
+abbrev pub own_each : Inlets → Bool → List Dest → Inlets
+own_each x b [] = x
+own_each x b (d ∷ ds) = own_each (if d.ahead == 0 then inlets_with x d.port b else x) b ds
+
+abbrev pub own_landings : Inlets → Bool → ℕ → List Dest → Inlets
+own_landings x b size [] = x
+own_landings x b size (d ∷ ds) = own_landings (if (d.ahead == 0) && nat_lt 0 size then inlets_with x Left b else x) b size ds
+
+abbrev pub own_firsts : Plan → Inlets → Bool → List Dest → Op → Inlets
+own_firsts p x b ds (Link t) = own_landings x b (landing p t) ds
+own_firsts p x b ds op = own_each x b ds
+
+abbrev pub own_instr : Plan → Chosen → Inlets → Mark → Instr → Inlets
+own_instr p ch x m i = own_each (own_firsts p x (is_chosen ch i m false) i.firsts i.op) (is_chosen ch i m true) i.seconds
+
+-- an instruction's arcs lead by a port of its own, or are chosen
 abbrev pub enter_instr : Plan → Chosen → List Inlets → ℕ → Mark → Instr → List Inlets
 enter_instr p ch xs n m i =
-    enter_each (enter_firsts p xs n (some_lead (inlets_at xs n) || is_chosen ch i m false) i.firsts i.op) n (some_lead (inlets_at xs n) || is_chosen ch i m true) i.seconds
+    enter_each (enter_firsts p xs n (some_lead (own_instr p ch (inlets_at xs n) m i) || is_chosen ch i m false) i.firsts i.op) n (some_lead (own_instr p ch (inlets_at xs n) m i) || is_chosen ch i m true) i.seconds
 
 abbrev pub mark_of : List Mark → ℕ → Mark
 mark_of ms n = unwrap_or (slice_get ms n) Unmarked

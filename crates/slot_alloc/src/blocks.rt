@@ -2,7 +2,6 @@
 
 ghost use Rattle.std.specs.Prelude.{◌≡◌, ◌<◌, ◌↔◌, length, Some, IfOk, IfErr, IsTrue, slice_get};
 ghost use Rattle.semantics.specs.Sharing.{IsGoodBlock};
-ghost use Rattle.slot_alloc.specs.Forward.{IsForward};
 ghost use Rattle.slot_alloc.specs.Tables.{IsFilled};
 ghost use Rattle.slot_alloc.specs.Assigned.{IsBlockAssigned, IsBlockRefused, IsFillRefused};
 
@@ -19,8 +18,7 @@ pub(crate) fn check_block<A: Allocator + Clone>(
     block: &CodeBlock<A>,
     slots: &[u16],
 ) -> Result<bool, AllocError>
-    requires forward { IsForward plan.now }
-    requires here { slice_get plan.now.program.blocks number ≡ Some block.now }
+    requires { slice_get plan.now.program.blocks number ≡ Some block.now }
     ensures { IfOk result (λ yes. IsTrue yes ↔ IsGoodBlock plan.now number block.now slots.now) }
 {
     if slots.len() != block.slots as usize {
@@ -62,8 +60,7 @@ pub(crate) fn assign_block<A: Allocator + Clone>(
     number: usize,
     block: &CodeBlock<A>,
 ) -> Result<Vec<u16, A>, AssignFault>
-    requires forward { IsForward plan.now }
-    requires here { slice_get plan.now.program.blocks number ≡ Some block.now }
+    requires { slice_get plan.now.program.blocks number ≡ Some block.now }
     ensures assigned { IfOk result (λ v. IsBlockAssigned plan.now number block.now v.items) }
     ensures refused { IfErr result (IsBlockRefused plan.now number block.now) }
 {

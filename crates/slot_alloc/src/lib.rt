@@ -6,7 +6,6 @@
 
 ghost use Rattle.std.specs.Prelude.{◌≡◌, ◌↔◌, IfOk, IfErr, IsTrue};
 ghost use Rattle.semantics.specs.Sharing.{Good};
-ghost use Rattle.slot_alloc.specs.Forward.{IsForward};
 ghost use Rattle.slot_alloc.specs.Assigned.{IsAssigned, IsRefused};
 
 mod blocks;
@@ -30,14 +29,13 @@ fn blocks_of<A: Allocator>(plan: &Plan<A>) -> &[CodeBlock<A>]
 /// Whether the slots are a good choice for the holders of a plan: one list for each block and one slot for each of its
 /// holders, each slot below 512, and any two holders of a block in one slot may share it.
 ///
-/// The arcs of the plan must go forward. Of a block with h holders, m marks and n arcs the time is that of
+/// Of a block with h holders, m marks and n arcs the time is that of
 /// (h + 2 m) n steps, and h (h + 2 m) flags are kept meanwhile.
 pub fn check_slots<A: Allocator + Clone>(
     alloc: A,
     plan: &Plan<A>,
     slots: &Slots<A>,
 ) -> Result<bool, AllocError>
-    requires { IsForward plan.now }
     ensures { IfOk result (λ yes. IsTrue yes ↔ Good plan.now slots.now) }
 {
     if slots.len() != blocks_of(plan).len() {
@@ -58,9 +56,8 @@ pub fn check_slots<A: Allocator + Clone>(
 /// holder.
 ///
 /// `TooManySlots` names the first block in which a holder finds none of the 512 slots of a frame open: in each of them
-/// lies an earlier holder that may not share with it. The arcs of the plan must go forward.
+/// lies an earlier holder that may not share with it.
 pub fn assign<A: Allocator + Clone>(alloc: A, plan: &Plan<A>) -> Result<Slots<A>, AssignFault>
-    requires { IsForward plan.now }
     ensures assigned { IfOk result (IsAssigned plan.now) }
     ensures refused { IfErr result (IsRefused plan.now) }
 {

@@ -1,7 +1,8 @@
 //! One pass over the instructions of a block in their order. It finds the ports of which each arc is chosen or starts at
-//! an instruction with such a port. Arcs go forward, so all arcs into an instruction are known when it is reached.
+//! an instruction with such a port. No arc goes back, so all arcs into an instruction but its own are known when it is
+//! reached.
 
-ghost use Rattle.std.specs.Prelude.{◌≡◌, ℕ, ◌+◌, ◌<◌, ◌≤◌, ◌^◌, IfOk, length, replicate};
+ghost use Rattle.std.specs.Prelude.{◌≡◌, ℕ, ◌+◌, ◌<◌, ◌≤◌, ◌^◌, IfOk, length, replicate, if◌then◌else◌};
 ghost use Rattle.semantics.specs.Rule.{slot_of};
 ghost use Rattle.semantics.specs.Sharing.{ends_with};
 ghost use Rattle.semantics.specs.Plan as of_plans;
@@ -64,6 +65,13 @@ impl Inlets {
                 right: self.right.with(leads),
             },
         }
+    }
+
+    /// With one more arc into a port, where there is one.
+    fn with_if(self, there: bool, port: Port, leads: bool) -> Inlets
+        ensures { result ≡ (if there then of_passes.inlets_with self port leads else self) }
+    {
+        if there { self.with(port, leads) } else { self }
     }
 
     /// Whether the arcs that start at the instruction lead by one of its ports.
@@ -205,6 +213,58 @@ fn enter_firsts<A: Allocator>(
     }
 }
 
+/// The ports of an instruction with its arcs to such destinations that lead back to itself.
+fn own_each(inlets: Inlets, leads: bool, dests: &[Dest]) -> Inlets
+    ensures { result ≡ of_passes.own_each inlets leads dests.now }
+{
+    let mut own = inlets;
+    for dest in dests {
+        own = own.with_if(dest.ahead == 0, dest.port, leads);
+    }
+    own
+}
+
+/// The ports of an instruction with its arcs to such landings that lead back to itself.
+fn own_landings(inlets: Inlets, leads: bool, size: u64, dests: &[Dest]) -> Inlets
+    ensures { result ≡ of_passes.own_landings inlets leads size dests.now }
+{
+    let mut own = inlets;
+    for dest in dests {
+        own = own.with_if(dest.ahead == 0 && size > 0, Port::Left, leads);
+    }
+    own
+}
+
+/// The ports of an instruction with its arcs of first destinations that lead back to itself.
+fn own_firsts<A: Allocator>(
+    plan: &Plan<A>,
+    inlets: Inlets,
+    leads: bool,
+    instr: &Instr<A>,
+) -> Inlets
+    ensures { result ≡ of_passes.own_firsts plan.now inlets leads instr.now.firsts instr.now.op }
+{
+    match instr.op {
+        Op::Link { block } => own_landings(inlets, leads, landing(plan, block), &instr.firsts),
+        _ => own_each(inlets, leads, &instr.firsts),
+    }
+}
+
+/// The ports of an instruction with its arcs that lead back to itself: these lead only if they are chosen, or if the
+/// instruction has a port of which each arc leads without them. The compiler makes no such arcs.
+fn own_instr<A: Allocator>(
+    plan: &Plan<A>,
+    chosen: Chosen,
+    inlets: Inlets,
+    mark: Mark,
+    instr: &Instr<A>,
+) -> Inlets
+    ensures { result ≡ of_passes.own_instr plan.now chosen inlets mark instr.now }
+{
+    let firsts = own_firsts(plan, inlets, chosen.has(instr, mark, false), instr);
+    own_each(firsts, chosen.has(instr, mark, true), &instr.seconds)
+}
+
 /// Enters the arcs of the instruction at a place.
 fn enter_instr<A: Allocator>(
     plan: &Plan<A>,
@@ -217,7 +277,7 @@ fn enter_instr<A: Allocator>(
     requires { from < length inlets.old }
     ensures { inlets.new ≡ of_passes.enter_instr plan.now chosen inlets.old from mark instr.now }
 {
-    let leads = inlets[from].some_lead();
+    let leads = own_instr(plan, chosen, inlets[from], mark, instr).some_lead();
     let firsts = leads || chosen.has(instr, mark, false);
     let seconds = leads || chosen.has(instr, mark, true);
     enter_firsts(plan, inlets, from, firsts, instr);
