@@ -70,3 +70,6 @@ pub fn assign<A: Allocator + Clone>(alloc: A, plan: &Plan<A>) -> Result<Slots<A>
     }
     Ok(Slots::of(lists))
 }
+
+#[cfg(test)]
+mod tests;
