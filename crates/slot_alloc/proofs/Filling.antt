@@ -58,9 +58,9 @@ module _ (t : Table) (n : ℕ) where
   closed_at bl h [] s e = inl e
   closed_at bl h (x ∷ ss) s e = ⊎_elim
       (λ a. ⊎_elim
-          (λ old. inl old)
-          (λ new. let m : h ≡ h + zero = omega arith in inr (zero, omega arith, new.0, subst (λ y. may_share t y n ≡ false) m new.1))
-          (one_true bl h x s a))
+      (λ old. inl old)
+      (λ new. let m : h ≡ h + zero = omega arith in inr (zero, omega arith, new.0, subst (λ y. may_share t y n ≡ false) m new.1))
+      (one_true bl h x s a))
       (λ w. let m : (h + 1) + w.0 ≡ h + suc w.0 = omega arith in let lt = w.1 in inr (suc w.0, omega (arith, lt), w.2, subst (λ y. may_share t y n ≡ false) m w.3))
       (closed_at (after_one bl h x) (h + 1) ss s e)
 
@@ -111,27 +111,29 @@ pub filled_more : (t : Table) (ss : List ℕ) (s : ℕ) → IsFilled t ss → Is
 filled_more t ss s old new = record {
   admitted = λ g below. ⊎_elim
       (λ (e : g ≡ length ss).
-          let is : get_or (ss ++ s ∷ []) g 0 ≡ s = get_or_push ss s 0 g (sym e) in
-          (subst (λ x. x < 512) (sym is) new.0,
-          λ h lt f. let inside : h < length ss = omega (arith, lt, e) in subst (λ k. may_share t h k ≡ true) (sym e) (new.1 h inside (sym (kept_at ss s h inside) ∙ f ∙ is))))
+      let is : get_or (ss ++ s ∷ []) g 0 ≡ s = get_or_push ss s 0 g (sym e) in (
+        subst (λ x. x < 512) (sym is) new.0,
+        λ h lt f. let inside : h < length ss = omega (arith, lt, e) in subst (λ k. may_share t h k ≡ true) (sym e) (new.1 h inside (sym (kept_at ss s h inside) ∙ f ∙ is)),
+      ))
       (λ (ne : g ≡ length ss → ⊥).
-          let len = length_push ss s in
-          let lt : g < length ss = omega (arith, below, len, ne) in
-          let is = kept_at ss s g lt in
-          let w = old.admitted g lt in
-          (subst (λ x. x < 512) (sym is) w.0,
-          λ h hg f. w.1 h hg (sym (kept_at ss s h (omega (arith, hg, lt))) ∙ f ∙ is)))
+      let len = length_push ss s in
+      let lt : g < length ss = omega (arith, below, len, ne) in
+      let is = kept_at ss s g lt in
+      let w = old.admitted g lt in (
+        subst (λ x. x < 512) (sym is) w.0,
+        λ h hg f. w.1 h hg (sym (kept_at ss s h (omega (arith, hg, lt))) ∙ f ∙ is),
+      ))
       (cases_eq g (length ss));
   least = λ h below r under. ⊎_elim
       (λ (e : h ≡ length ss).
-          let is : get_or (ss ++ s ∷ []) h 0 ≡ s = get_or_push ss s 0 h (sym e) in
-          let lt : r < s = subst (λ x. r < x) is under in
-          closed_more t ss s h r (subst (λ k. IsClosedAt t ss k r) (sym e) (new.2 r lt)))
+      let is : get_or (ss ++ s ∷ []) h 0 ≡ s = get_or_push ss s 0 h (sym e) in
+      let lt : r < s = subst (λ x. r < x) is under in
+      closed_more t ss s h r (subst (λ k. IsClosedAt t ss k r) (sym e) (new.2 r lt)))
       (λ (ne : h ≡ length ss → ⊥).
-          let len = length_push ss s in
-          let lt : h < length ss = omega (arith, below, len, ne) in
-          let under' : r < get_or ss h 0 = subst (λ x. r < x) (kept_at ss s h lt) under in
-          closed_more t ss s h r (old.least h lt r under'))
+      let len = length_push ss s in
+      let lt : h < length ss = omega (arith, below, len, ne) in
+      let under' : r < get_or ss h 0 = subst (λ x. r < x) (kept_at ss s h lt) under in
+      closed_more t ss s h r (old.least h lt r under'))
       (cases_eq h (length ss));
 }
 

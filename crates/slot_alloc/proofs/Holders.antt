@@ -10,6 +10,7 @@ use Rattle.semantics.specs.Sharing.{MayShare, IsGoodBlock}
 use Rattle.code.specs.Marks.{marks_in}
 use Rattle.slot_alloc.specs.Tables.{Table, table_of, may_share, Admits, AdmitsAll, IsClosedAt, AreLeastOpen, IsFilled, IsFull}
 use Rattle.slot_alloc.specs.Assigned.{IsClosed, AreLeast, IsBlockAssigned, IsCrowded}
+use Rattle.slot_alloc.proofs.Counts.{so_long}
 use Rattle.slot_alloc.proofs.Shared.{shared_exact, other_way}
 
 module _ (p : Plan) (b : ℕ) (c : CodeBlock) (at : slice_get p.program.blocks b ≡ Some c) where
@@ -82,4 +83,7 @@ module _ (p : Plan) (b : ℕ) (c : CodeBlock) (at : slice_get p.program.blocks b
     share = share_from ss few h.filled.admitted;
     least = least_from ss few h.filled.least;
     closed = λ s lt. closed_from ss few (length ss) s h.left (h.closed s lt);
+    many =
+        (let long = so_long 512 ss (λ s lt. let w = h.closed s lt in (w.0, w.2, w.3)) in
+        omega (arith, left, long));
   }

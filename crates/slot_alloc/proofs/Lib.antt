@@ -6,3 +6,4 @@ pub mod Shared
 pub mod Filling
 pub mod Holders
 pub mod Steps
+pub mod Counts

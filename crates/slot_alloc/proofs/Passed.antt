@@ -55,7 +55,7 @@ entered_shown L p done xs n b d i firsts seconds h =
     let two : Shows L ((done ++ ys) ++ zs) (enter_arcs (enter_arcs xs b ys) d zs) = arcs_shown L (done ++ ys) (enter_arcs xs b ys) d zs (λ y there. seconds y (is_second n i.seconds y there)) one in
     let lists : (done ++ ys) ++ zs ≡ done ++ arcs_from p n i i.op = append_assoc done ys zs ∙ ap (λ ws. done ++ ws) (sym (from_firsts p n i i.op)) in
     let tables : enter_arcs (enter_arcs xs b ys) d zs ≡ entered p xs n b d i =
-        sym (each_as_arcs (enter_firsts p xs n b i.firsts i.op) n true d i.seconds ∙ ap (λ ws. enter_arcs ws d zs) (firsts_as_arcs p xs n b i.firsts i.op)) in
+    sym (each_as_arcs (enter_firsts p xs n b i.firsts i.op) n true d i.seconds ∙ ap (λ ws. enter_arcs ws d zs) (firsts_as_arcs p xs n b i.firsts i.op)) in
     subst (λ ws. Shows L ws (entered p xs n b d i)) lists (subst (λ ws. Shows L ((done ++ ys) ++ zs) ws) tables two)
 
 -- what a table shows by one word for leading, it shows by another that agrees on the arcs entered
@@ -124,7 +124,7 @@ module _ (p : Plan) (ch : Chosen) (ms : List Mark) (arcs : List Arc) (chosen : A
         let long = entered_long p xs n b d i in
         let firsts_long : length (enter_firsts p xs n b i.firsts i.op) ≡ length xs = ap length (firsts_as_arcs p xs n b i.firsts i.op) ∙ arcs_long xs b (firsts_arcs p n i.firsts i.op) in
         let same : inlets_at (entered p xs n b d i) n ≡ own_instr p ch (inlets_at xs n) (mark_of ms n) i =
-            each_own n (enter_firsts p xs n b i.firsts i.op) d i.seconds (omega (arith, within, firsts_long)) ∙ ap (λ x. own_each x d i.seconds) (firsts_own n p xs b i.firsts i.op within) in
+        each_own n (enter_firsts p xs n b i.firsts i.op) d i.seconds (omega (arith, within, firsts_long)) ∙ ap (λ x. own_each x d i.seconds) (firsts_own n p xs b i.firsts i.op within) in
         subst (λ x. Shown Led (done ++ arcs_from p n i i.op) (inlet n s) (port_of x s)) same (new n s (omega (arith, within, long)))
 
     port_leads : (s : Port) → all_lead (port_of (own_instr p ch (inlets_at xs n) (mark_of ms n) i) s) ≡ true → some_lead (own_instr p ch (inlets_at xs n) (mark_of ms n) i) ≡ true
@@ -144,9 +144,9 @@ module _ (p : Plan) (ch : Chosen) (ms : List Mark) (arcs : List Arc) (chosen : A
       found q s same (follows _ x there to each) = ⊎_elim
           (λ a. port_leads s a)
           (λ w. ⊎_elim
-              (λ none. absurd (none x (all s x there (to ∙ same)) (to ∙ same)))
-              (λ (u : (y : Arc) × Contains (done ++ arcs_from p n i i.op) y × (y.to ≡ inlet n s) × (Led y → ⊥)). found_by u.0 (from_done u.0 u.1) u.3 (each u.0 (sub u.0 u.1) (u.2 ∙ sym same)))
-              w)
+          (λ none. absurd (none x (all s x there (to ∙ same)) (to ∙ same)))
+          (λ (u : (y : Arc) × Contains (done ++ arcs_from p n i i.op) y × (y.to ≡ inlet n s) × (Led y → ⊥)). found_by u.0 (from_done u.0 u.1) u.3 (each u.0 (sub u.0 u.1) (u.2 ∙ sym same)))
+          w)
           (shown_cases Led (done ++ arcs_from p n i i.op) (inlet n s) (port_of (own_instr p ch (inlets_at xs n) (mark_of ms n) i) s) (own_shown s))
 
       found_by : (y : Arc) → (y.from < n) ⊎ (y.from ≡ n) → (Led y → ⊥) → Leads arcs chosen y → some_lead (own_instr p ch (inlets_at xs n) (mark_of ms n) i) ≡ true
@@ -194,11 +194,11 @@ module _ (p : Plan) (ch : Chosen) (ms : List Mark) (arcs : List Arc) (chosen : A
       let later : (y : Arc) → Contains rest y → (n < y.from) × (y.from ≤ y.to.place) = λ y there. (let w = from_later p (n + 1) is y there in let f = w.0 in (omega (arith, f), w.1)) in
       let within : n < length xs = omega (arith, long) in
       pass_shown (done ++ arcs_from p n i i.op) (enter_instr p ch xs n (mark_of ms n) i) (n + 1) is
-          (e ∙ sym (append_assoc done (arcs_from p n i i.op) rest))
-          (earlier_more done xs n i rest e earlier later within tells.0 h)
-          (omega (arith, long, len))
-          tells.1
-          (instr_shown done xs n i rest e earlier later within tells.0 h)
+      (e ∙ sym (append_assoc done (arcs_from p n i i.op) rest))
+      (earlier_more done xs n i rest e earlier later within tells.0 h)
+      (omega (arith, long, len))
+      tells.1
+      (instr_shown done xs n i rest e earlier later within tells.0 h)
 
   none_shown : (k : ℕ) → Shows (Leads arcs chosen) [] (replicate k bare)
   none_shown k = λ m s below.
@@ -231,12 +231,12 @@ module _ (g : ℕ) (xs : List Inlets) where
   crossed_exact row None below = (λ e. (e, λ f. cc), λ w. w.0)
   crossed_exact row (Some h) below = ⊎_elim
       (λ (same : g ≡ h).
-          let lt : h < length row = subst (λ n. n < length row) same below in
-          let off : bit (crossed row (Some h)) g ≡ false = subst (λ n. bit (crossed row (Some h)) n ≡ false) (sym same) (get_or-set_same row h false false lt) in
-          (λ e. absurd (both_ways (bit (crossed row (Some h)) g) off e), λ w. absurd (w.1 (ap (λ n. Some n) (sym same)))))
+      let lt : h < length row = subst (λ n. n < length row) same below in
+      let off : bit (crossed row (Some h)) g ≡ false = subst (λ n. bit (crossed row (Some h)) n ≡ false) (sym same) (get_or-set_same row h false false lt) in
+      (λ e. absurd (both_ways (bit (crossed row (Some h)) g) off e), λ w. absurd (w.1 (ap (λ n. Some n) (sym same)))))
       (λ (ne : g ≡ h → ⊥).
-          let on : bit (crossed row (Some h)) g ≡ bit row g = get_or-set_other row h g false false ne in
-          (λ e. (sym on ∙ e, λ f. ne (sym (same_Some h g f))), λ w. on ∙ w.0))
+      let on : bit (crossed row (Some h)) g ≡ bit row g = get_or-set_other row h g false false ne in
+      (λ e. (sym on ∙ e, λ f. ne (sym (same_Some h g f))), λ w. on ∙ w.0))
       (cases_eq g h)
 
   noted_exact : (row : List Bool) (n : ℕ) (i : Instr) → g < length row → Decides (bit (noted row i (inlets_at xs n)) g) ((bit row g ≡ true) × Kept n i)

@@ -157,14 +157,14 @@ module _ (L : Arc → Type 0) where
       let new = inlets_with (inlets_at xs y.to.place) y.to.port b in
       ⊎_elim
       (λ (e : k ≡ y.to.place).
-          let within : y.to.place < length xs = subst (λ n. n < length xs) e lt in
-          let at : inlets_at (set xs y.to.place new) k ≡ new = subst (λ n. inlets_at (set xs y.to.place new) n ≡ new) (sym e) (get_or-set_same xs y.to.place new bare within) in
-          subst (λ x. Shown (done ++ y ∷ []) (inlet k s) (port_of x s)) (sym at)
-          (subst (λ n. Shown (done ++ y ∷ []) (inlet n s) (port_of new s)) (sym e)
-          (here_shown done y.to.place (inlets_at xs y.to.place) y y.to.port s b refl d (λ t. h y.to.place t within))))
+      let within : y.to.place < length xs = subst (λ n. n < length xs) e lt in
+      let at : inlets_at (set xs y.to.place new) k ≡ new = subst (λ n. inlets_at (set xs y.to.place new) n ≡ new) (sym e) (get_or-set_same xs y.to.place new bare within) in
+      subst (λ x. Shown (done ++ y ∷ []) (inlet k s) (port_of x s)) (sym at)
+      (subst (λ n. Shown (done ++ y ∷ []) (inlet n s) (port_of new s)) (sym e)
+      (here_shown done y.to.place (inlets_at xs y.to.place) y y.to.port s b refl d (λ t. h y.to.place t within))))
       (λ (ne : k ≡ y.to.place → ⊥).
-          subst (λ x. Shown (done ++ y ∷ []) (inlet k s) (port_of x s)) (sym (get_or-set_other xs y.to.place k new bare ne))
-          (shown_other done (inlet k s) (port_of (inlets_at xs k) s) y (λ e. ne (sym (ap (λ (q : Inlet). q.place) e))) (h k s lt)))
+      subst (λ x. Shown (done ++ y ∷ []) (inlet k s) (port_of x s)) (sym (get_or-set_other xs y.to.place k new bare ne))
+      (shown_other done (inlet k s) (port_of (inlets_at xs k) s) y (λ e. ne (sym (ap (λ (q : Inlet). q.place) e))) (h k s lt)))
       (cases_eq k y.to.place)
 
   pub arcs_shown : (done : List Arc) (xs : List Inlets) (b : Bool) (ys : List Arc) → ((y : Arc) → Contains ys y → Decides b (L y)) → Shows done xs → Shows (done ++ ys) (enter_arcs xs b ys)
@@ -172,8 +172,8 @@ module _ (L : Arc → Type 0) where
   arcs_shown done xs b (y ∷ ys) d h =
       subst (λ zs. Shows zs (enter_arcs (enter xs y.to.place y.to.port b) b ys)) (append_assoc done (y ∷ []) ys)
       (arcs_shown (done ++ y ∷ []) (enter xs y.to.place y.to.port b) b ys
-          (λ z there. d z (Contains-append_right (y ∷ []) ys z there))
-          (enter_shows done xs y b (d y (Contains-append_left (y ∷ []) ys y (0, omega arith, refl))) h))
+      (λ z there. d z (Contains-append_right (y ∷ []) ys z there))
+      (enter_shows done xs y b (d y (Contains-append_left (y ∷ []) ys y (0, omega arith, refl))) h))
 
 -- a port whose arcs are all entered
 module _ (arcs : List Arc) (chosen : Arc → Type 0) where

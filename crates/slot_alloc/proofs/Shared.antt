@@ -49,7 +49,7 @@ module _ (p : Plan) (c : CodeBlock) (ms : List Mark) (ch : Chosen) (chosen : Arc
         let m : 0 + q.place ≡ q.place = omega arith in
         let kept = at_place (Kept g (pass p ch ms (replicate (length c.instrs) bare) 0 c.instrs)) 0 c.instrs w.1 q.place is.0 is.1.0 in
         let leads : ports_lead is.0.op (inlets_at (pass p ch ms (replicate (length c.instrs) bare) 0 c.instrs) q.place) ≡ true =
-            subst (λ n. ports_lead is.0.op (inlets_at (pass p ch ms (replicate (length c.instrs) bare) 0 c.instrs) n) ≡ true) m (kept is.1.1) in
+        subst (λ n. ports_lead is.0.op (inlets_at (pass p ch ms (replicate (length c.instrs) bare) 0 c.instrs) n) ≡ true) m (kept is.1.1) in
         (port_exact q.place is.0 q.port is.1.0).0 ((ports_exact is.0.op (inlets_at (pass p ch ms (replicate (length c.instrs) bare) 0 c.instrs) q.place)).0 leads q.port is.2),
     λ f. d.1 (
       get_or-replicate c.slots g true false below,
@@ -112,9 +112,9 @@ module _ (p : Plan) (b : ℕ) (c : CodeBlock) (at : slice_get p.program.blocks b
   known_apart g h m [] known e = absurd (both_ways false refl known)
   known_apart g h m (x ∷ ms) known e = ⊎_elim
       (λ a.
-          let same : x ≡ m = ((same_mark_exact m x).0 a).0 in
-          or_left (is_apart g h (split_of p (marks_in p b) c x)) (list_any (is_apart g h) (map (split_of p (marks_in p b) c) ms))
-          (subst (λ n. is_apart g h (split_of p (marks_in p b) c n) ≡ true) (sym same) e))
+      let same : x ≡ m = ((same_mark_exact m x).0 a).0 in
+      or_left (is_apart g h (split_of p (marks_in p b) c x)) (list_any (is_apart g h) (map (split_of p (marks_in p b) c) ms))
+      (subst (λ n. is_apart g h (split_of p (marks_in p b) c n) ≡ true) (sym same) e))
       (λ a. or_right (is_apart g h (split_of p (marks_in p b) c x)) (list_any (is_apart g h) (map (split_of p (marks_in p b) c) ms)) (known_apart g h m ms a e))
       (or_cases (same_mark m x) (list_any (same_mark m) ms) known)
 
@@ -208,12 +208,12 @@ module _ (p : Plan) (b : ℕ) (c : CodeBlock) (at : slice_get p.program.blocks b
       let rows = after_rows p (marks_in p b) c c.slots in
       ⊎_elim
       (λ a. ⊎_elim
-          (λ d. inr (inl ((comes_after_exact g h gs hs).0 d)))
-          (λ d. inr (inr ((comes_after_exact h g hs gs).0 d)))
-          (or_cases (comes_after rows g h) (comes_after rows h g) a))
+      (λ d. inr (inl ((comes_after_exact g h gs hs).0 d)))
+      (λ d. inr (inr ((comes_after_exact h g hs gs).0 d)))
+      (or_cases (comes_after rows g h) (comes_after rows h g) a))
       (λ a.
-          let w = any_apart g h (distinct [] (marks_in p b)) a in
-          ⊎_elim (λ s. inl (w.0, true, s.0, s.1)) (λ s. inl (w.0, false, s.0, s.1)) ((apart_exact g h w.0 gs hs).0 w.1))
+      let w = any_apart g h (distinct [] (marks_in p b)) a in
+      ⊎_elim (λ s. inl (w.0, true, s.0, s.1)) (λ s. inl (w.0, false, s.0, s.1)) ((apart_exact g h w.0 gs hs).0 w.1))
       (or_cases (comes_after rows g h || comes_after rows h g) (list_any (is_apart g h) (table_of p (marks_in p b) c).splits) e)
 
   pub shared_exact : (g h : ℕ) → g < c.slots → h < c.slots → Decides (shared g h) (MayShare p b g h)

@@ -21,9 +21,9 @@ pub good_more : (p : Plan) (n : ℕ) (slots : List (List ℕ)) (c : CodeBlock) (
     → GoodBelow p n slots → IsGoodBlock p n c ss → GoodBelow p (n + 1) slots
 good_more p n slots c ss at is old new = λ b d rs below here there. ⊎_elim
     (λ (e : b ≡ n).
-        let block : c ≡ d = same_Some c d (sym at ∙ ap (λ k. slice_get p.program.blocks k) (sym e) ∙ here) in
-        let list : ss ≡ rs = same_Some ss rs (sym is ∙ ap (λ k. slice_get slots k) (sym e) ∙ there) in
-        subst (λ k. IsGoodBlock p k d rs) (sym e) (subst (λ x. IsGoodBlock p n x rs) block (subst (λ x. IsGoodBlock p n c x) list new)))
+    let block : c ≡ d = same_Some c d (sym at ∙ ap (λ k. slice_get p.program.blocks k) (sym e) ∙ here) in
+    let list : ss ≡ rs = same_Some ss rs (sym is ∙ ap (λ k. slice_get slots k) (sym e) ∙ there) in
+    subst (λ k. IsGoodBlock p k d rs) (sym e) (subst (λ x. IsGoodBlock p n x rs) block (subst (λ x. IsGoodBlock p n c x) list new)))
     (λ (ne : b ≡ n → ⊥). old b d rs (omega (arith, below, ne)) here there)
     (cases_eq b n)
 
@@ -52,16 +52,13 @@ pub assigned_more : (p : Plan) (n : ℕ) (lists : List (List ℕ)) (c : CodeBloc
     → AssignedBelow p n lists → IsBlockAssigned p n c new → AssignedBelow p (n + 1) (lists ++ new ∷ [])
 assigned_more p n lists c new at len old is = λ b d below here. ⊎_elim
     (λ (e : b ≡ n).
-        let block : c ≡ d = same_Some c d (sym at ∙ ap (λ k. slice_get p.program.blocks k) (sym e) ∙ here) in (
-          new,
-          get_new lists new b (len ∙ sym e),
-          subst (λ k. IsBlockAssigned p k d new) (sym e) (subst (λ x. IsBlockAssigned p n x new) block is),
-        ))
+    let block : c ≡ d = same_Some c d (sym at ∙ ap (λ k. slice_get p.program.blocks k) (sym e) ∙ here) in (
+      new,
+      get_new lists new b (len ∙ sym e),
+      subst (λ k. IsBlockAssigned p k d new) (sym e) (subst (λ x. IsBlockAssigned p n x new) block is),
+    ))
     (λ (ne : b ≡ n → ⊥). let w = old b d (omega (arith, below, ne)) here in (w.0, get_old lists new w.0 b w.1, w.2))
     (cases_eq b n)
-
-
-
 
 pub assigned_all : (p : Plan) (n : ℕ) (lists : List (List ℕ)) → AssignedBelow p n lists → length lists ≡ n → n ≡ length p.program.blocks → IsAssigned p lists
 assigned_all p n lists h len end = record {

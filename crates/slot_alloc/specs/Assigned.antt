@@ -24,6 +24,7 @@ pub record IsAssigned (p : Plan) (slots : List (List ℕ)) : Type 0 where
   pub least : (b : ℕ) (ss : List ℕ) → slice_get slots b ≡ Some ss → AreLeast p b ss
 
 -- A block has too few slots: its first holders have their least slots, and each slot of a frame is closed to the next one.
+-- So it has more holders than a frame has slots.
 pub record IsCrowded (p : Plan) (b : ℕ) (c : CodeBlock) : Type 0 where
   pub slots : List ℕ
   pub left : length slots < c.slots
@@ -31,6 +32,7 @@ pub record IsCrowded (p : Plan) (b : ℕ) (c : CodeBlock) : Type 0 where
   pub share : (g h s : ℕ) → slice_get slots g ≡ Some s → slice_get slots h ≡ Some s → g ≢ h → MayShare p b g h
   pub least : AreLeast p b slots
   pub closed : (s : ℕ) → s < 512 → IsClosed p b slots (length slots) s
+  pub many : 512 < c.slots
 
 -- It is the first one: each block before it has slots.
 pub record IsFirstCrowded (p : Plan) (b : ℕ) : Type 0 where

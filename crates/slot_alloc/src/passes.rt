@@ -208,7 +208,13 @@ fn enter_firsts<A: Allocator>(
     ensures { inlets.new ≡ of_passes.enter_firsts plan.now inlets.old from leads instr.now.firsts instr.now.op }
 {
     match instr.op {
-        Op::Link { block } => enter_landings(inlets, from, leads, landing(plan, block), &instr.firsts),
+        Op::Link { block } => enter_landings(
+            inlets,
+            from,
+            leads,
+            landing(plan, block),
+            &instr.firsts,
+        ),
         _ => enter_each(inlets, from, leads, &instr.firsts),
     }
 }
@@ -236,12 +242,7 @@ fn own_landings(inlets: Inlets, leads: bool, size: u64, dests: &[Dest]) -> Inlet
 }
 
 /// The ports of an instruction with its arcs of first destinations that lead back to itself.
-fn own_firsts<A: Allocator>(
-    plan: &Plan<A>,
-    inlets: Inlets,
-    leads: bool,
-    instr: &Instr<A>,
-) -> Inlets
+fn own_firsts<A: Allocator>(plan: &Plan<A>, inlets: Inlets, leads: bool, instr: &Instr<A>) -> Inlets
     ensures { result ≡ of_passes.own_firsts plan.now inlets leads instr.now.firsts instr.now.op }
 {
     match instr.op {
@@ -310,7 +311,14 @@ pub(crate) fn pass<A: Allocator>(
     };
     let mut inlets = vec![in alloc; BARE; block.instrs.len()]?;
     for (place, instr) in block.instrs.iter().enumerate() {
-        enter_instr(plan, chosen, &mut inlets, place, mark_of(marks, place), instr);
+        enter_instr(
+            plan,
+            chosen,
+            &mut inlets,
+            place,
+            mark_of(marks, place),
+            instr,
+        );
     }
     Ok(inlets)
 }

@@ -75,8 +75,20 @@ fn split_of<A: Allocator + Clone>(
 ) -> Result<Split<A>, AllocError>
     ensures { IfOk result (λ s. s ≡ of_tables.split_of plan.now marks.now block.now mark) }
 {
-    let yes = row_of(alloc.clone()?, plan, block, marks, Chosen::Side { side: true, mark })?;
-    let no = row_of(alloc, plan, block, marks, Chosen::Side { side: false, mark })?;
+    let yes = row_of(
+        alloc.clone()?,
+        plan,
+        block,
+        marks,
+        Chosen::Side { side: true, mark },
+    )?;
+    let no = row_of(
+        alloc,
+        plan,
+        block,
+        marks,
+        Chosen::Side { side: false, mark },
+    )?;
     Ok(Split { yes, no })
 }
 

@@ -17,12 +17,17 @@ type Dests = &'static [(u32, Port)];
 type Line = (Op, u32, Dests, Dests);
 
 const L: Port = Port::Left;
+
 const R: Port = Port::Right;
+
 const NONE: Dests = &[];
 
 const ADD: Op = Op::Apply2 { op: Binary::Add };
+
 const MUL: Op = Op::Apply2 { op: Binary::Mul };
+
 const AND: Op = Op::Apply2 { op: Binary::And };
+
 const OR: Op = Op::Apply2 { op: Binary::Or };
 
 fn dests_of<A: Allocator>(alloc: A, ahead: &[(u32, Port)]) -> Result<Vec<Dest, A>, AllocError> {
@@ -151,10 +156,7 @@ fn one_comes_after_the_other(rt: HostRuntime) -> Result<(), Fail> {
 }
 
 /// An `add` in the upper arm of a conditional and a `mul` in the lower arm: holders 2 and 3.
-fn arms_plan<A: Allocator + Clone>(
-    alloc: A,
-    mark: Option<Mark>,
-) -> Result<Plan<A>, AllocError> {
+fn arms_plan<A: Allocator + Clone>(alloc: A, mark: Option<Mark>) -> Result<Plan<A>, AllocError> {
     let lines = [
         (Op::Copy, 0, [(8, L), (9, L)].as_slice(), NONE),
         (
@@ -163,8 +165,18 @@ fn arms_plan<A: Allocator + Clone>(
             [(1, L), (1, R), (2, L), (2, R)].as_slice(),
             NONE,
         ),
-        (Op::Switch, 0, [(2, L), (2, R)].as_slice(), [(5, R)].as_slice()),
-        (Op::Switch, 1, [(4, R)].as_slice(), [(2, L), (2, R)].as_slice()),
+        (
+            Op::Switch,
+            0,
+            [(2, L), (2, R)].as_slice(),
+            [(5, R)].as_slice(),
+        ),
+        (
+            Op::Switch,
+            1,
+            [(4, R)].as_slice(),
+            [(2, L), (2, R)].as_slice(),
+        ),
         (ADD, 2, [(2, L)].as_slice(), NONE),
         (MUL, 3, [(1, L)].as_slice(), NONE),
         (Op::Copy, 0, [(2, R)].as_slice(), NONE),
@@ -221,10 +233,7 @@ fn long_chain<A: Allocator + Clone>(alloc: A, count: u32) -> Result<Plan<A>, All
     let mut instrs = Vec::new(alloc.clone()?);
     instrs.push(instr_of(alloc.clone()?, (Op::Copy, 0, &[(1, L), (1, R)], NONE))?)?;
     for holder in 0..count {
-        instrs.push(instr_of(
-            alloc.clone()?,
-            (AND, holder, &[(1, L), (1, R)], NONE),
-        )?)?;
+        instrs.push(instr_of(alloc.clone()?, (AND, holder, &[(1, L), (1, R)], NONE))?)?;
     }
     let marks = Vec::new(alloc.clone()?);
     plan_of(alloc, count, instrs, marks)

@@ -6,9 +6,13 @@ use Rattle.slot_alloc.proofs.Steps.{full_by}
 use Rattle.slot_alloc.proofs.blocks.fill.Goals as goal
 
 pub returns-in-None-clause-refused : goal.returns-in-None-clause-refused
-returns-in-None-clause-refused g c = 
-    (refl, (c.loop-holder.slots.items,
-    full_by c.args.table.now c.args.holders c.loop-holder._holder c.loop-holder.slots.items c.deref.result.now c.deref.ensures.value c.loop-holder.invariant.0 c.loop-holder.invariant.1 c.loop-holder-test.true c.in-None.ensures.none))
+returns-in-None-clause-refused g c = (
+  refl,
+  (
+    c.loop-holder.slots.items,
+    full_by c.args.table.now c.args.holders c.loop-holder._holder c.loop-holder.slots.items c.deref.result.now c.deref.ensures.value c.loop-holder.invariant.0 c.loop-holder.invariant.1 c.loop-holder-test.true c.in-None.ensures.none,
+  ),
+)
 
 pub loop-holder-preserved : goal.loop-holder-preserved
 loop-holder-preserved g c =
