@@ -64,14 +64,19 @@ fn plan_of<A: Allocator + Clone>(
         slots: holders,
         instrs,
     };
+    let mut blocks = Vec::new(alloc.clone()?);
+    blocks.push(block)?;
+    let arrays = Vec::new(alloc.clone()?);
+    let mut all_marks = Vec::new(alloc);
+    all_marks.push(marks)?;
     Ok(Plan {
         program: Program {
-            blocks: vec![in alloc.clone()?; block]?,
-            arrays: Vec::new(alloc.clone()?),
+            blocks,
+            arrays,
             main: 0,
         },
         plain: 1,
-        marks: vec![in alloc; marks]?,
+        marks: all_marks,
     })
 }
 
@@ -101,9 +106,9 @@ fn is_good<A: Allocator + Clone>(
     plan: &Plan<A>,
     slots: &[u16],
 ) -> Result<bool, AllocError> {
-    let list = slots.to_vec(alloc.clone()?)?;
-    let slots = Slots::of(vec![in alloc.clone()?; list]?);
-    check_slots(alloc, plan, &slots)
+    let mut lists = Vec::new(alloc.clone()?);
+    lists.push(slots.to_vec(alloc.clone()?)?)?;
+    check_slots(alloc, plan, &Slots::of(lists))
 }
 
 /// The sum of two inputs: holders 0 to 2 are `add`, `return` and `release`.
