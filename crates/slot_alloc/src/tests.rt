@@ -80,7 +80,7 @@ fn plan_of<A: Allocator + Clone>(
     })
 }
 
-/// A plan of one block with such instructions; the instruction of that number and the next one are switches of a mark.
+/// A plan of one block with such instructions; its switches have that mark.
 fn lines_plan<A: Allocator + Clone>(
     alloc: A,
     holders: u32,
