@@ -1,10 +1,10 @@
 -- Slots by the table: what is blocked, and what one more least slot keeps.
-use Rattle.std.proofs.Common.{◌≡◌, ◌≢◌, refl, sym, ap, ◌∙◌, subst, ℕ, zero, suc, ◌+◌, ◌<◌, ◌≤◌, Bool, true, false, List, [], ◌∷◌, ◌++◌, length, replicate, get_or, set, cond, Option, Some, None, inl, inr, ⊎_elim, arith, ◌⊎◌}
+use Rattle.std.proofs.Common.{◌≡◌, refl, sym, ap, ◌∙◌, subst, ℕ, zero, suc, ◌+◌, ◌<◌, Bool, true, false, List, [], ◌∷◌, ◌++◌, length, replicate, get_or, set, cond, inl, inr, ⊎_elim, arith, ◌⊎◌}
 use Rattle.std.specs.Prelude.{All}
 use Rattle.std.proofs.lemmas.Bool.{both_ways, cases_eq}
 use Rattle.std.proofs.lemmas.List.{get_or_default, length-replicate, get_or-replicate, length_push, get_or_push, get_or_append_left, length-set, get_or-set_same, get_or-set_other}
 use Rattle.std.proofs.lemmas.List.Elements.{All-head, All-tail, All-weaker}
-use Rattle.slot_alloc.specs.Tables.{Table, bit, may_share, Admits, AdmitsAll, blocked_by, IsClosedAt, IsLeastOpen, AreLeastOpen, IsFilled}
+use Rattle.slot_alloc.specs.Tables.{Table, bit, may_share, Admits, blocked_by, IsClosedAt, IsLeastOpen, IsFilled}
 
 module _ (t : Table) (n : ℕ) where
   abbrev after_one : List Bool → ℕ → ℕ → List Bool

@@ -1,14 +1,14 @@
 -- From the table of a block to its holders.
-use Rattle.std.proofs.Common.{◌≡◌, ◌≢◌, refl, sym, ap, ◌∙◌, subst, ℕ, zero, suc, ◌+◌, ◌<◌, ◌≤◌, Bool, true, false, List, [], ◌∷◌, length, get_or, Option, Some, None, inl, inr, ⊎_elim, arith, ◌⊎◌}
+use Rattle.std.proofs.Common.{◌≡◌, ◌≢◌, sym, ap, ◌∙◌, subst, ℕ, ◌<◌, ◌≤◌, List, length, get_or, Some, ⊎_elim, arith}
 use Rattle.std.specs.Prelude.{All, slice_get}
 use Rattle.std.proofs.lemmas.Bool.{both_ways, cases_lt}
 use Rattle.std.proofs.lemmas.List.{get_or_default}
-use Rattle.std.proofs.lemmas.Option.{slice_get_within, slice_get-get_or, get_or_from_slice_get, same_Some}
+use Rattle.std.proofs.lemmas.Option.{slice_get_within, slice_get-get_or, get_or_from_slice_get}
 use Rattle.semantics.specs.Program.{CodeBlock}
 use Rattle.semantics.specs.Plan.{Plan}
 use Rattle.semantics.specs.Sharing.{MayShare, IsGoodBlock}
 use Rattle.code.specs.Marks.{marks_in}
-use Rattle.slot_alloc.specs.Tables.{Table, table_of, may_share, Admits, AdmitsAll, IsClosedAt, AreLeastOpen, IsFilled, IsFull}
+use Rattle.slot_alloc.specs.Tables.{Table, table_of, may_share, AdmitsAll, IsClosedAt, AreLeastOpen, IsFilled, IsFull}
 use Rattle.slot_alloc.specs.Assigned.{IsClosed, AreLeast, IsBlockAssigned, IsCrowded}
 use Rattle.slot_alloc.proofs.Counts.{so_long}
 use Rattle.slot_alloc.proofs.Shared.{shared_exact, other_way}

@@ -1,11 +1,10 @@
 -- The whole pass, and the row of all holders: exactly what follows.
-use Rattle.std.proofs.Common.{◌≡◌, refl, sym, ap, ◌∙◌, subst, ℕ, zero, suc, ◌+◌, ◌<◌, ◌≤◌, Bool, true, false, not, ◌||◌, ◌&&◌, List, [], ◌∷◌, ◌++◌, length, replicate, get_or, cond, Option, Some, None, inl, inr, ⊎_elim, arith, ◌⊎◌}
-use Rattle.std.specs.Prelude.{Contains, slice_get, ⊤}
+use Rattle.std.proofs.Common.{◌≡◌, refl, sym, ap, ◌∙◌, subst, ℕ, ◌+◌, ◌<◌, ◌≤◌, Bool, true, false, not, ◌||◌, List, [], ◌∷◌, ◌++◌, length, replicate, get_or, cond, Option, Some, None, inl, inr, ⊎_elim, arith, ◌⊎◌}
+use Rattle.std.specs.Prelude.{Contains}
 use Rattle.std.specs.Bool.{Decides}
-use Rattle.std.proofs.lemmas.Bool.{cases_eq, cases_Bool, both_ways, or_cases, or_left, or_right, and_parts, and_from}
-use Rattle.std.proofs.lemmas.Bool.Decides.{Decides-or, Decides-like}
+use Rattle.std.proofs.lemmas.Bool.{cases_eq, both_ways, or_cases, or_left, or_right, and_parts, and_from}
 use Rattle.std.proofs.lemmas.List.{append_assoc, append-nil, length-set, length-replicate, get_or-replicate, get_or-set_same, get_or-set_other}
-use Rattle.std.proofs.lemmas.List.Elements.{Contains-append_left, Contains-append_right, Contains-append_cases}
+use Rattle.std.proofs.lemmas.List.Elements.{Contains-append_left, Contains-append_cases}
 use Rattle.std.proofs.lemmas.Option.{same_Some}
 use Rattle.tags.specs.declared.token.Port.{Port}
 use Rattle.tags.specs.declared.token.Port.TheVariants.{Left, Right}
@@ -23,7 +22,7 @@ use Rattle.slot_alloc.specs.declared.passes.Chosen.{Chosen}
 use Rattle.slot_alloc.specs.Passes.{bare, inlets_at, enter, enter_each, enter_firsts, own_each, own_instr, all_lead, some_lead, is_chosen, enter_instr, mark_of, pass}
 use Rattle.slot_alloc.specs.Rows.{ports_lead, crossed, noted, row_from}
 use Rattle.slot_alloc.proofs.Passing.{port_of, enter_arcs, each_as_arcs, firsts_arcs, firsts_as_arcs, from_firsts, IsFrom, is_first, is_second, from_here, from_later, Shown, Shows, arcs_shown, follows_shown, each_own, firsts_own}
-use Rattle.slot_alloc.proofs.Places.{ByPlace, at_place, from_places}
+use Rattle.slot_alloc.proofs.Places.{ByPlace}
 
 -- the tables are as long as before
 arcs_long : (xs : List Inlets) (b : Bool) (ys : List Arc) → length (enter_arcs xs b ys) ≡ length xs

@@ -1,27 +1,25 @@
 -- The table tells exactly which holders may share.
-use Rattle.std.proofs.Common.{◌≡◌, ◌≢◌, refl, sym, ap, ◌∙◌, subst, ℕ, zero, suc, ◌+◌, ◌<◌, ◌≤◌, Bool, true, false, not, ◌&&◌, ◌||◌, List, [], ◌∷◌, ◌++◌, map, length, replicate, get_or, cond, Option, Some, None, inl, inr, ⊎_elim, arith, ◌⊎◌}
-use Rattle.std.specs.Prelude.{Contains, slice_get, unwrap_or}
+use Rattle.std.proofs.Common.{◌≡◌, ◌≢◌, refl, sym, ap, ◌∙◌, subst, ℕ, zero, suc, ◌+◌, ◌<◌, Bool, true, false, not, ◌&&◌, ◌||◌, List, [], ◌∷◌, ◌++◌, map, length, replicate, get_or, cond, Option, Some, inl, inr, ⊎_elim, arith, ◌⊎◌}
+use Rattle.std.specs.Prelude.{slice_get}
 use Rattle.std.specs.Bool.{Decides}
 use Rattle.std.specs.List.{list_any}
-use Rattle.std.proofs.lemmas.Bool.{both_ways, and_parts, and_from, or_cases, or_left, or_right, cases_eq}
-use Rattle.std.proofs.lemmas.Bool.Decides.{Decides-and, Decides-or, Decides-like, Decides-at}
+use Rattle.std.proofs.lemmas.Bool.{both_ways, and_from, or_cases, or_left, or_right, cases_eq}
+use Rattle.std.proofs.lemmas.Bool.Decides.{Decides-and, Decides-or}
 use Rattle.std.proofs.lemmas.List.{length-replicate, get_or-replicate, length_push, get_or_push, get_or_append_left}
 use Rattle.std.proofs.lemmas.List.Folds.{list_any-append}
-use Rattle.std.proofs.lemmas.Option.{same_Some, slice_get_within}
+use Rattle.std.proofs.lemmas.Option.{slice_get_within}
 use Rattle.tags.specs.declared.token.Port.{Port}
 use Rattle.semantics.specs.declared.program.Mark.{Mark}
 use Rattle.semantics.specs.declared.program.Mark.TheVariants.{Unmarked, OfCond, OfFlag}
 use Rattle.semantics.specs.Program.{Instr, CodeBlock}
-use Rattle.semantics.specs.Rule.{slot_of}
-use Rattle.semantics.specs.Plan.{Plan, mark_at}
-use Rattle.semantics.specs.Sharing.{Inlet, inlet, Arc, arcs_of, arcs_in, Follows, follows, Leads, by_choice, by_port, IsEnd, IsSide, is_port, IsHolderPort, AllAfter, AllOnSide, MayShare}
+use Rattle.semantics.specs.Plan.{Plan}
+use Rattle.semantics.specs.Sharing.{Inlet, inlet, Arc, arcs_of, arcs_in, Follows, follows, Leads, by_choice, by_port, IsEnd, IsSide, IsHolderPort, AllAfter, AllOnSide, MayShare}
 use Rattle.code.specs.Marks.{marks_in}
-use Rattle.slot_alloc.specs.declared.passes.Inlets.{Inlets}
 use Rattle.slot_alloc.specs.declared.passes.Chosen.{Chosen}
 use Rattle.slot_alloc.specs.declared.passes.Chosen.TheVariants.{Ends, Side}
 use Rattle.slot_alloc.specs.Passes.{bare, inlets_at, all_lead, is_chosen, mark_of, same_mark, pass}
-use Rattle.slot_alloc.specs.Rows.{ports_lead, row_from, row_of}
-use Rattle.slot_alloc.specs.Tables.{Split, Table, after_rows, split_of, is_marked, with_mark, distinct, table_of, comes_after, is_apart, may_share}
+use Rattle.slot_alloc.specs.Rows.{ports_lead, row_of}
+use Rattle.slot_alloc.specs.Tables.{after_rows, split_of, is_marked, with_mark, distinct, table_of, comes_after, is_apart, may_share}
 use Rattle.slot_alloc.proofs.Passing.{port_of}
 use Rattle.slot_alloc.proofs.Places.{ByPlace, at_place, from_places}
 use Rattle.slot_alloc.proofs.Passed.{Tells, follows_exact, bit, Kept, row_exact, ports_exact}

@@ -1,4 +1,4 @@
-use Rattle.std.proofs.Common.{◌≡◌, refl, sym, ap, ◌∙◌, subst, length}
+use Rattle.std.proofs.Common.{◌≡◌, ap, ◌∙◌, subst}
 use Rattle.slot_alloc.specs.Tables.{IsFilled, table_of}
 use Rattle.slot_alloc.proofs.Holders.{the_table, assigned_from}
 use Rattle.slot_alloc.proofs.Steps.{fill_refused}

@@ -1,4 +1,3 @@
-use Rattle.slot_alloc.specs.Tables.{Admits}
 use Rattle.std.proofs.Common.{◌≡◌, ℕ, ◌<◌, get_or, true}
 use Rattle.slot_alloc.specs.Tables.{may_share}
 use Rattle.slot_alloc.proofs.table.Table.admits_one.Given as goal
