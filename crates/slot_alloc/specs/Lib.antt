@@ -1,0 +1,4 @@
+pub mod Passes
+pub mod Rows
+pub mod Tables
+pub mod Assigned

@@ -1,0 +1,89 @@
+-- Which holders of a block may share a slot, as a table of rows.
+use Rattle.std.specs.Prelude.{ℕ, zero, suc, ◌≡◌, ◌+◌, ◌<◌, Bool, true, false, not, ◌&&◌, ◌||◌, List, [], ◌∷◌, ◌++◌, map, length, slice_set, slice_index_or, if◌then◌else◌}
+use Rattle.std.specs.List.{list_any}
+use Rattle.semantics.specs.declared.program.Mark.{Mark}
+use Rattle.semantics.specs.declared.program.Mark.TheVariants.{Unmarked}
+use Rattle.semantics.specs.Program.{CodeBlock}
+use Rattle.semantics.specs.Plan.{Plan}
+use Rattle.slot_alloc.specs.declared.passes.Chosen.TheVariants.{Ends, Side}
+use Rattle.slot_alloc.specs.Passes.{same_mark}
+use Rattle.slot_alloc.specs.Rows.{row_of}
+
+-- the holders on the two sides of the switches of one mark
+pub record Split : Type 0 where
+  pub yes : List Bool
+  pub no : List Bool
+
+-- `after`: for each holder the row of the holders that come after it
+pub record Table : Type 0 where
+  pub after : List (List Bool)
+  pub splits : List Split
+
+abbrev pub after_rows : Plan → List Mark → CodeBlock → ℕ → List (List Bool)
+after_rows p ms c zero = []
+after_rows p ms c (suc h) = after_rows p ms c h ++ row_of p (Ends h) ms c ∷ []
+
+abbrev pub split_of : Plan → List Mark → CodeBlock → Mark → Split
+split_of p ms c m = record { yes = row_of p (Side true m) ms c; no = row_of p (Side false m) ms c }
+
+-- each mark once, in order
+abbrev pub is_marked : Mark → Bool
+is_marked Unmarked = false
+is_marked m = true
+
+abbrev pub with_mark : List Mark → Mark → List Mark
+with_mark seen m = if is_marked m && not (list_any (same_mark m) seen) then seen ++ m ∷ [] else seen
+
+abbrev pub distinct : List Mark → List Mark → List Mark
+distinct seen [] = seen
+distinct seen (m ∷ ms) = distinct (with_mark seen m) ms
+
+abbrev pub table_of : Plan → List Mark → CodeBlock → Table
+table_of p ms c = record { after = after_rows p ms c c.slots; splits = map (split_of p ms c) (distinct [] ms) }
+
+abbrev pub bit : List Bool → ℕ → Bool
+bit row g = slice_index_or row g false
+
+-- whether holder g comes after holder h
+abbrev pub comes_after : List (List Bool) → ℕ → ℕ → Bool
+comes_after rows g h = bit (slice_index_or rows h []) g
+
+abbrev pub is_apart : ℕ → ℕ → Split → Bool
+is_apart g h s = (bit s.yes g && bit s.no h) || (bit s.no g && bit s.yes h)
+
+abbrev pub may_share : Table → ℕ → ℕ → Bool
+may_share t g h = comes_after t.after g h || comes_after t.after h g || list_any (is_apart g h) t.splits
+
+-- the slots so far admit holder g in slot s
+abbrev pub Admits : Table → List ℕ → ℕ → ℕ → Type 0
+Admits t ss g s = (h : ℕ) → h < g → slice_index_or ss h 0 ≡ s → may_share t h g ≡ true
+
+abbrev pub AdmitsAll : Table → List ℕ → Type 0
+AdmitsAll t ss = (g : ℕ) → g < length ss → (slice_index_or ss g 0 < 512) × Admits t ss g (slice_index_or ss g 0)
+
+-- the slots at which a holder is blocked by an earlier one
+abbrev pub blocked_by : Table → ℕ → List Bool → ℕ → List ℕ → List Bool
+blocked_by t g blocked h [] = blocked
+blocked_by t g blocked h (s ∷ ss) = blocked_by t g (if may_share t h g then blocked else slice_set blocked s true) (h + 1) ss
+
+-- some earlier holder in that slot may not share with holder h
+abbrev pub IsClosedAt : Table → List ℕ → ℕ → ℕ → Type 0
+IsClosedAt t ss h s = (g : ℕ) × (g < h) × (g < length ss) × (slice_index_or ss g 0 ≡ s) × (may_share t g h ≡ false)
+
+-- the least slot that admits the next holder
+abbrev pub IsLeastOpen : Table → List ℕ → ℕ → Type 0
+IsLeastOpen t ss s = (s < 512) × Admits t ss (length ss) s × ((r : ℕ) → r < s → IsClosedAt t ss (length ss) r)
+
+-- each holder has the least slot that is not closed to it
+abbrev pub AreLeastOpen : Table → List ℕ → Type 0
+AreLeastOpen t ss = (h : ℕ) → h < length ss → (r : ℕ) → r < slice_index_or ss h 0 → IsClosedAt t ss h r
+
+pub record IsFilled (t : Table) (ss : List ℕ) : Type 0 where
+  pub admitted : AdmitsAll t ss
+  pub least : AreLeastOpen t ss
+
+-- no slot is left for the holder after these
+pub record IsFull (t : Table) (holders : ℕ) (ss : List ℕ) : Type 0 where
+  pub left : length ss < holders
+  pub filled : IsFilled t ss
+  pub closed : (s : ℕ) → s < 512 → IsClosedAt t ss (length ss) s

@@ -1,0 +1,251 @@
+//! Which holders of a block may share a slot.
+
+ghost use Rattle.std.specs.Prelude.{◌≡◌, ℕ, ◌<◌, ◌↔◌, [], length, map, replicate, IfOk, IfSome, IfNone, IsTrue, All, true, false, slice_get, slice_index_or, slice_set, if◌then◌else◌};
+ghost use Rattle.std.specs.List.{list_any};
+ghost use Rattle.slot_alloc.specs.Passes.{same_mark};
+ghost use Rattle.slot_alloc.specs.Tables as of_tables;
+
+use crate::passes::{Chosen, is_same};
+use crate::row::Row;
+use crate::rows::row_of;
+use code::{CodeBlock, Plan};
+use semantics::program::Mark;
+use std::alloc::{AllocError, Allocator};
+use std::marker::Model;
+
+/// The most slots that a frame has.
+pub(crate) const SLOTS: usize = 512;
+
+/// The holders on the two sides of the switches of one mark.
+#[derive(Drop)]
+pub(crate) struct Split<A: Allocator> {
+    yes: Row<A>,
+    no: Row<A>,
+}
+
+impl<A: Allocator> Model for Split<A> {
+    ghost use Rattle.slot_alloc.specs.Tables.{Split};
+
+    ghost Value = { Split };
+
+    ghost view = { λ s. record { yes = s.yes; no = s.no } };
+}
+
+impl<A: Allocator> Split<A> {
+    /// Whether the two holders are on different sides.
+    fn is_apart(&self, g: usize, h: usize) -> bool
+        ensures { result ≡ of_tables.is_apart g h self.now }
+    {
+        (self.yes.has(g) && self.no.has(h)) || (self.no.has(g) && self.yes.has(h))
+    }
+}
+
+fn is_marked(mark: Mark) -> bool
+    ensures { result ≡ of_tables.is_marked mark }
+{
+    !matches!(mark, Mark::Unmarked)
+}
+
+fn is_known(mark: Mark, seen: &[Mark]) -> bool
+    ensures { result ≡ list_any (same_mark mark) seen.now }
+{
+    seen.iter().any(|other| is_same(mark, *other))
+}
+
+/// Each mark once.
+fn distinct<A: Allocator>(alloc: A, marks: &[Mark]) -> Result<Vec<Mark, A>, AllocError>
+    ensures { IfOk result (λ v. v.items ≡ of_tables.distinct [] marks.now) }
+{
+    let mut seen = Vec::new(alloc);
+    for mark in marks {
+        if is_marked(*mark) && !is_known(*mark, &seen) {
+            seen.push(*mark)?;
+        }
+    }
+    Ok(seen)
+}
+
+/// The holders on the two sides of the switches of a mark.
+fn split_of<A: Allocator + Clone>(
+    alloc: A,
+    plan: &Plan<A>,
+    block: &CodeBlock<A>,
+    marks: &[Mark],
+    mark: Mark,
+) -> Result<Split<A>, AllocError>
+    ensures { IfOk result (λ s. s ≡ of_tables.split_of plan.now marks.now block.now mark) }
+{
+    let yes = row_of(
+        alloc.clone()?,
+        plan,
+        block,
+        marks,
+        Chosen::Side { side: true, mark },
+    )?;
+    let no = row_of(
+        alloc,
+        plan,
+        block,
+        marks,
+        Chosen::Side { side: false, mark },
+    )?;
+    Ok(Split { yes, no })
+}
+
+fn splits_of<A: Allocator + Clone>(
+    alloc: A,
+    plan: &Plan<A>,
+    block: &CodeBlock<A>,
+    marks: &[Mark],
+) -> Result<Vec<Split<A>, A>, AllocError>
+    ensures { IfOk result (λ v. v.items ≡ map (of_tables.split_of plan.now marks.now block.now) (of_tables.distinct [] marks.now)) }
+{
+    let different = distinct(alloc.clone()?, marks)?;
+    let mut splits = Vec::with_capacity(alloc.clone()?, different.len())?;
+    for mark in &different {
+        splits.push(split_of(alloc.clone()?, plan, block, marks, *mark)?)?;
+    }
+    Ok(splits)
+}
+
+/// For each holder the row of the holders that come after it.
+fn after_rows<A: Allocator + Clone>(
+    alloc: A,
+    plan: &Plan<A>,
+    block: &CodeBlock<A>,
+    marks: &[Mark],
+) -> Result<Vec<Row<A>, A>, AllocError>
+    ensures { IfOk result (λ v. v.items ≡ of_tables.after_rows plan.now marks.now block.now block.now.slots) }
+{
+    let mut rows = Vec::with_capacity(alloc.clone()?, block.slots as usize)?;
+    for holder in 0..block.slots {
+        rows.push(row_of(alloc.clone()?, plan, block, marks, Chosen::Ends { holder })?)?;
+    }
+    Ok(rows)
+}
+
+/// Notes that a holder that may not share lies in that slot.
+fn note_blocked(blocked: &mut [bool], slot: usize, may_share: bool)
+    requires { slot < length blocked.old }
+    ensures { blocked.new ≡ (if may_share then blocked.old else slice_set blocked.old slot true) }
+{
+    if !may_share {
+        blocked[slot] = true;
+    }
+}
+
+/// Tells of any two holders of a block whether they may share a slot.
+#[derive(Drop)]
+pub(crate) struct Table<A: Allocator> {
+    after: Vec<Row<A>, A>,
+    splits: Vec<Split<A>, A>,
+}
+
+impl<A: Allocator> Model for Table<A> {
+    ghost use Rattle.slot_alloc.specs.Tables.{Table};
+
+    ghost Value = { Table };
+
+    ghost view = { λ t. record { after = t.after.items; splits = t.splits.items } };
+}
+
+impl<A: Allocator + Clone> Table<A> {
+    /// The table of a block with such marks. It takes one pass over the arcs of the block for each holder, and two for
+    /// each mark.
+    pub fn of(
+        alloc: A,
+        plan: &Plan<A>,
+        block: &CodeBlock<A>,
+        marks: &[Mark],
+    ) -> Result<Table<A>, AllocError>
+        ensures { IfOk result (λ t. t ≡ of_tables.table_of plan.now marks.now block.now) }
+    {
+        let after = after_rows(alloc.clone()?, plan, block, marks)?;
+        let splits = splits_of(alloc, plan, block, marks)?;
+        Ok(Table { after, splits })
+    }
+}
+
+impl<A: Allocator> Table<A> {
+    /// Whether the first holder comes after the second one.
+    fn comes_after(&self, g: usize, h: usize) -> bool
+        ensures { result ≡ of_tables.comes_after self.now.after g h }
+    {
+        match self.after.get(h) {
+            Some(row) => row.has(g),
+            None => false,
+        }
+    }
+
+    /// Whether the switches of one mark put the two holders on different sides.
+    fn are_apart(&self, g: usize, h: usize) -> bool
+        ensures { result ≡ list_any (of_tables.is_apart g h) self.now.splits }
+    {
+        for split in &self.splits {
+            if split.is_apart(g, h) {
+                return true;
+            }
+        }
+        false
+    }
+
+    /// Whether the two holders may share a slot.
+    fn may_share(&self, g: usize, h: usize) -> bool
+        ensures { result ≡ of_tables.may_share self.now g h }
+    {
+        self.comes_after(g, h) || self.comes_after(h, g) || self.are_apart(g, h)
+    }
+
+    /// Whether a holder may share its slot with each earlier holder in it.
+    fn admits_one(&self, slots: &[u16], holder: usize) -> bool
+        requires { holder < length slots.now }
+        ensures { IsTrue result ↔ of_tables.Admits self.now slots.now holder (slice_index_or slots.now holder 0) }
+    {
+        for earlier in 0..holder {
+            if slots[earlier] == slots[holder] && !self.may_share(earlier, holder) {
+                return false;
+            }
+        }
+        true
+    }
+
+    /// Whether each slot is one of a frame's, and any two holders in one slot may share it.
+    pub fn admits(&self, slots: &[u16]) -> bool
+        ensures { IsTrue result ↔ of_tables.AdmitsAll self.now slots.now }
+    {
+        for holder in 0..slots.len() {
+            if slots[holder] as usize >= SLOTS || !self.admits_one(slots, holder) {
+                return false;
+            }
+        }
+        true
+    }
+
+    /// At which slots the next holder meets an earlier one with which it may not share.
+    fn blocked(&self, slots: &[u16]) -> [bool; 512]
+        requires { All (λ s. s < 512) slots.now }
+        ensures { result ≡ of_tables.blocked_by self.now (length slots.now) (replicate 512 false) 0 slots.now }
+    {
+        let next = slots.len();
+        let mut blocked = [false; SLOTS];
+        for (holder, slot) in slots.iter().enumerate() {
+            note_blocked(&mut blocked, *slot as usize, self.may_share(holder, next));
+        }
+        blocked
+    }
+
+    /// The least slot in which the next holder may share with each earlier one.
+    pub fn least_open(&self, slots: &[u16]) -> Option<u16>
+        requires { All (λ s. s < 512) slots.now }
+        ensures some { IfSome result (of_tables.IsLeastOpen self.now slots.now) }
+        ensures none { IfNone result ((s : ℕ) → s < 512 → of_tables.IsClosedAt self.now slots.now (length slots.now) s) }
+    {
+        let blocked = self.blocked(slots);
+        for slot in 0..SLOTS {
+            if !blocked[slot] {
+                return Some(slot as u16);
+            }
+        }
+        None
+    }
+}
