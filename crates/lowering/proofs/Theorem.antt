@@ -8,7 +8,9 @@ use Rattle.determinacy.proofs.Theorems.{determinacy}
 use Rattle.determinacy.proofs.Resolved.{all_get}
 use Rattle.lowering.specs.Roles.{Wiring, IsWired}
 use Rattle.semantics.specs.Machine.{Machine, Size, Events, Run, at_start}
-use Rattle.semantics.specs.Plan.{Plan, Mark, Unmarked, mark_at}
+use Rattle.semantics.specs.declared.program.Mark.{Mark}
+use Rattle.semantics.specs.declared.program.Mark.TheVariants.{Unmarked}
+use Rattle.semantics.specs.Plan.{Plan, mark_at}
 use Rattle.semantics.specs.Orderly as Ordered
 use Rattle.semantics.specs.Orderly.{IsMarked, IsStart, Orderly}
 use Rattle.semantics.specs.Faithful as Faithful

@@ -6,7 +6,8 @@ use Rattle.semantics.specs.Graph.{Graph, Block, Flow, Node, flow_of}
 use Rattle.semantics.specs.WellFormed.{WellFormed}
 use Rattle.semantics.specs.Program.{Program}
 use Rattle.semantics.specs.Machine.{Machine, Size, Events}
-use Rattle.semantics.specs.Plan.{Plan, Unmarked, mark_at}
+use Rattle.semantics.specs.declared.program.Mark.TheVariants.{Unmarked}
+use Rattle.semantics.specs.Plan.{Plan, mark_at}
 use Rattle.semantics.specs.Orderly.{IsFreeAtRelease, Orderly}
 use Rattle.semantics.specs.Faithful.{Faithful, IsRun}
 use Rattle.lowering.specs.Implements.{IsStraight, Implements}

@@ -10,7 +10,8 @@ use Rattle.semantics.specs.Graph.{Flow}
 use Rattle.semantics.specs.Program.{CodeBlock, first_of, instr_at}
 use Rattle.semantics.specs.Rule.{token, signal}
 use Rattle.semantics.specs.Machine.{Events}
-use Rattle.semantics.specs.Plan.{Plan, Unmarked, OfCond, mark_at, landing}
+use Rattle.semantics.specs.declared.program.Mark.TheVariants.{Unmarked, OfCond}
+use Rattle.semantics.specs.Plan.{Plan, mark_at, landing}
 use Rattle.semantics.specs.Sharing.{inlet, arc, arcs_in}
 use Rattle.semantics.specs.Placed.{placed}
 use Rattle.semantics.specs.Handed.{handed_by}

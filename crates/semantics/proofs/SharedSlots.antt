@@ -8,7 +8,9 @@ use Rattle.operators.specs.declared.Binary.TheVariants as B
 use Rattle.semantics.specs.declared.program.Dest.{Dest}
 use Rattle.semantics.specs.declared.program.Op.TheVariants.{Apply2, Copy, Switch}
 use Rattle.semantics.specs.Program.{Instr, CodeBlock}
-use Rattle.semantics.specs.Plan.{Plan, Mark, Unmarked, OfCond, mark_at, instr_in}
+use Rattle.semantics.specs.declared.program.Mark.{Mark}
+use Rattle.semantics.specs.declared.program.Mark.TheVariants.{Unmarked, OfCond}
+use Rattle.semantics.specs.Plan.{Plan, mark_at, instr_in}
 use Rattle.semantics.specs.Machine.{slot_used}
 use Rattle.semantics.specs.Sharing.{Inlet, inlet, Arc, arc, arcs_in, Follows, follows, Leads, by_choice, by_port, Holds, IsEnd, IsSide, IsHolderPort, AllAfter, AllOnSide, MayShare}
 use Rattle.semantics.proofs.Emulator.{instr}

@@ -13,7 +13,9 @@ use Rattle.semantics.specs.declared.program.Op.TheVariants.{Give, Take}
 use Rattle.semantics.specs.Program.{Instr, CodeBlock, first_of, instr_at}
 use Rattle.semantics.specs.Rule.{token}
 use Rattle.semantics.specs.Machine.{Machine, CellState, Deferred, Size, Events, Run, at_start, stuck_rule}
-use Rattle.semantics.specs.Plan.{Plan, Mark, Unmarked, mark_at}
+use Rattle.semantics.specs.declared.program.Mark.{Mark}
+use Rattle.semantics.specs.declared.program.Mark.TheVariants.{Unmarked}
+use Rattle.semantics.specs.Plan.{Plan, mark_at}
 use Rattle.semantics.specs.Arcs.{UsesArc, SomeEvent}
 use Rattle.semantics.specs.Handed.{UsesEachOnce}
 

@@ -1,15 +1,11 @@
 -- A plan: a program in which a slot's number is a holder's number, with what only the compiler knows.
 use Rattle.std.specs.Prelude.{◌≡◌, ◌≢◌, ℕ, ◌+◌, ◌<◌, Bool, true, false, List, length, Option, Some, None, nat_lt, slice_get, All, Contains, ◌⊎◌, ◌&&◌, ⊤}
+use Rattle.semantics.specs.declared.program.Mark.{Mark}
+use Rattle.semantics.specs.declared.program.Mark.TheVariants.{Unmarked}
 use Rattle.semantics.specs.declared.program.Op.{Op}
 use Rattle.semantics.specs.declared.program.Op.TheVariants.{Switch, Open, Take, Give, Drain, Link, Fetch, Store, Frame, Ask, Release}
 use Rattle.semantics.specs.Program.{Instr, CodeBlock, Program}
 use Rattle.semantics.specs.Rule.{slot_of}
-
--- whose predicate a switch takes
-pub data Mark : Type 0 where
-  Unmarked : Mark
-  OfCond : (cond : ℕ) → Mark
-  OfFlag : Mark
 
 -- `plain`: the code blocks below it are plain, and the others are loop variants. `marks`: one for each instruction.
 pub record Plan : Type 0 where

@@ -7,7 +7,9 @@ use Rattle.semantics.specs.declared.program.Op.{Op}
 use Rattle.semantics.specs.declared.program.Op.TheVariants.{Link, Open, Take, Give, Drain}
 use Rattle.semantics.specs.Program.{Instr, CodeBlock}
 use Rattle.semantics.specs.Rule.{slot_of}
-use Rattle.semantics.specs.Plan.{Plan, Mark, Unmarked, mark_at, landing, instr_in}
+use Rattle.semantics.specs.declared.program.Mark.{Mark}
+use Rattle.semantics.specs.declared.program.Mark.TheVariants.{Unmarked}
+use Rattle.semantics.specs.Plan.{Plan, mark_at, landing, instr_in}
 
 -- an input port of a block: an instruction's place in it, and the port
 pub record Inlet : Type 0 where

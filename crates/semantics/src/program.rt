@@ -36,3 +36,12 @@ pub enum Op {
     Drain { bound: u8 },
     Release { offset: u8 },
 }
+
+/// Whose predicate a switch of a plan takes: none, where the instruction is no switch; that of the conditional at a node
+/// of its block; or that of the loop.
+#[derive(Clone, Copy, Debug, PartialEq, Eq)]
+pub enum Mark {
+    Unmarked,
+    OfCond { cond: u32 },
+    OfFlag,
+}

@@ -1,0 +1,55 @@
+//! From a plan with slots to the code of an object.
+//!
+//! Each instruction stands where it stands in the plan, with the slot of its holder (explicit token store: Papadopoulos
+//! and Culler, ISCA 1990). Literals move into a table that ascends.
+#![tactic(auto)]
+
+ghost use Rattle.std.specs.Prelude.{◌≡◌, IfOk, IfErr, OnOk, None};
+ghost use Rattle.select.specs.Emitted.{code_of};
+ghost use Rattle.select.specs.Literals as Literals;
+ghost use Rattle.select.specs.Emittable.{IsEmittable};
+
+mod fault;
+mod instrs;
+mod literals;
+#[cfg(test)]
+mod tests;
+
+use code::{Code, Plan, Program, Slots};
+pub use fault::EmitFault;
+use instrs::emit_blocks;
+use literals::table_of;
+use std::alloc::Allocator;
+
+/// The version of an object: in the second one instructions may have origins.
+#[derive(Clone, Copy, Debug, PartialEq, Eq)]
+pub enum Version {
+    One,
+    Two,
+}
+
+/// The code of a plan whose holders have these slots.
+pub fn emit<A: Allocator + Clone>(
+    alloc: A,
+    plan: &Plan<A>,
+    slots: &Slots<A>,
+    version: Version,
+) -> Result<Code<A>, EmitFault>
+    requires { IsEmittable plan.now slots.now }
+    ensures program { IfOk result (λ c. c.program ≡ code_of version plan.now slots.now) }
+    ensures literals { IfOk result (λ c. c.literals ≡ Literals.table_of plan.now.program.blocks) }
+    ensures not_far { OnOk result (Literals.too_far plan.now.program.blocks ≡ None) }
+    ensures refused { IfErr result (Literals.IsRefused plan.now.program.blocks) }
+{
+    let literals = table_of(alloc.clone()?, &plan.program.blocks)?;
+    let blocks = emit_blocks(alloc.clone()?, &plan.program.blocks, slots, version)?;
+    let arrays = Vec::from_slice(alloc, &plan.program.arrays)?;
+    Ok(Code {
+        program: Program {
+            blocks,
+            arrays,
+            main: plan.program.main,
+        },
+        literals,
+    })
+}
