@@ -1,9 +1,11 @@
 -- One more block in the loops over blocks.
-use Rattle.std.proofs.Common.{◌≡◌, ℕ, ◌+◌, ◌<◌, ◌≤◌, ℤ, Option, List, [], ◌∷◌, ◌++◌, length, get_or, drop, map, refl, ap, sym, ◌∙◌, subst, append_assoc, add-one, arith, rules}
+use Rattle.std.proofs.Common.{◌≡◌, ℕ, zero, suc, ◌+◌, ◌<◌, ◌≤◌, ℤ, Option, List, [], ◌∷◌, ◌++◌, length, get_or, drop, map, refl, ap, sym, ◌∙◌, subst, append_assoc, add-one, arith, rules}
 use Rattle.std.specs.Prelude.{Some, None, nat_lt, false, slice_get}
 use Rattle.std.proofs.Common.{drop-cons}
+use Rattle.std.specs.Ordering.{int_cmp}
+use Rattle.std.specs.BTreeSet.{insert_key}
 use Rattle.std.proofs.lemmas.Grind.{common_steps}
-use Rattle.std.proofs.lemmas.Option.{slice_get_within, get_or_from_slice_get, slice_get-get_or}
+use Rattle.std.proofs.lemmas.Option.{slice_get_within, get_or_from_slice_get}
 use Rattle.semantics.specs.Program.{Instr, CodeBlock}
 use Rattle.semantics.specs.Sharing.{placed_instrs}
 use Rattle.semantics.specs.Placed.{needed, placed_blocks}
@@ -11,11 +13,11 @@ use Rattle.select.specs.Emitted.{emitted_instrs, emitted_block, emitted_blocks}
 use Rattle.select.specs.Literals.{used_by, used_in, entered, first_too_far}
 
 pub opened : {X : Type 0} (xs : List X) (n : ℕ) (x : X) → n < length xs → x ≡ get_or xs n x → drop n xs ≡ x ∷ drop (n + 1) xs
-opened xs n x lt is = drop-cons xs n x lt ∙ ap (λ y. y ∷ drop (n + 1) xs) (sym is)
+opened xs n x lt is = drop-cons xs n x lt ∙ ap (λ y. y ∷ drop (suc n) xs) (sym is) ∙ ap (λ k. x ∷ drop k xs) (sym (add-one n))
 
-pub entered_append : (table xs ys : List ℤ) → entered table (xs ++ ys) ≡ entered (entered table xs) ys
-entered_append table [] ys = refl
-entered_append table (x ∷ xs) ys = entered_append _ xs ys
+pub entered_append : (xs ys table : List ℤ) → entered table (xs ++ ys) ≡ entered (entered table xs) ys
+entered_append [] ys table = refl
+entered_append (x ∷ xs) ys table = entered_append xs ys (insert_key int_cmp table x)
 
 pub not_over : (m n : ℕ) → n ≤ m → nat_lt m n ≡ false
 not_over m n le = grind arith
@@ -24,7 +26,7 @@ pub table_step : (table more all : List ℤ) (n : ℕ) (bs : List CodeBlock) (b 
     → more ≡ entered table (used_by b.instrs) → entered table (used_in (drop n bs)) ≡ all → entered more (used_in (drop (n + 1) bs)) ≡ all
 table_step table more all n bs b lt is made so_far =
     let e = opened bs n b lt is in
-    ap (λ t. entered t (used_in (drop (n + 1) bs))) made ∙ sym (entered_append table (used_by b.instrs) (used_in (drop (n + 1) bs)))
+    ap (λ t. entered t (used_in (drop (n + 1) bs))) made ∙ sym (entered_append (used_by b.instrs) (used_in (drop (n + 1) bs)) table)
     ∙ ap (λ (cs : List CodeBlock). entered table (used_in cs)) (sym e) ∙ so_far
 
 far_on : (n : ℕ) (table : List ℤ) (b : CodeBlock) (rest : List CodeBlock) → nat_lt 32768 (length b.instrs) ≡ false
@@ -70,7 +72,9 @@ blocks_end v n done all slots bs le so_far =
     append_nil (x ∷ xs) = ap (λ zs. x ∷ zs) (append_nil xs)
 
 past : (slots : List (List ℕ)) (n : ℕ) → slice_get slots n ≡ None → length slots ≤ n
-past slots n none = grind (arith, common_steps, slice_get-get_or)
+past [] n none = omega arith
+past (ss ∷ more) zero none = cc
+past (ss ∷ more) (suc n) none = let h = past more n none in omega arith
 
 pub slots_end : (v n : ℕ) (done all : List CodeBlock) (slots : List (List ℕ)) (bs : List CodeBlock) → slice_get slots n ≡ None
     → done ++ emitted_blocks v (placed_blocks (drop n slots) (drop n bs)) ≡ all → done ≡ all
