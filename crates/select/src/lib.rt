@@ -7,7 +7,6 @@
 ghost use Rattle.std.specs.Prelude.{◌≡◌, IfOk, IfErr, OnOk, None};
 ghost use Rattle.select.specs.Emitted.{code_of};
 ghost use Rattle.select.specs.Literals as Literals;
-ghost use Rattle.select.specs.Emittable.{IsEmittable};
 
 mod fault;
 mod instrs;
@@ -35,7 +34,6 @@ pub fn emit<A: Allocator + Clone>(
     slots: &Slots<A>,
     version: Version,
 ) -> Result<Code<A>, EmitFault>
-    requires { IsEmittable plan.now slots.now }
     ensures program { IfOk result (λ c. c.program ≡ code_of version plan.now slots.now) }
     ensures literals { IfOk result (λ c. c.literals ≡ Literals.table_of plan.now.program.blocks) }
     ensures not_far { OnOk result (Literals.too_far plan.now.program.blocks ≡ None) }
