@@ -4,8 +4,10 @@
 //! and Culler, ISCA 1990). Literals move into a table that ascends.
 #![tactic(auto)]
 
-ghost use Rattle.std.specs.Prelude.{◌≡◌, IfOk, IfErr, OnOk, None};
-ghost use Rattle.select.specs.Emitted.{code_of};
+ghost use Rattle.std.specs.Prelude.{◌≡◌, IfOk, IfErr, OnOk, None, All, Contains};
+ghost use Rattle.semantics.specs.Bytes.{IsCode};
+ghost use Rattle.select.specs.Emitted.{version_number, code_of};
+ghost use Rattle.select.specs.Emittable.{IsEmittable};
 ghost use Rattle.select.specs.Literals as Literals;
 
 mod fault;
@@ -36,6 +38,10 @@ pub fn emit<A: Allocator + Clone>(
 ) -> Result<Code<A>, EmitFault>
     ensures program { IfOk result (λ c. c.program ≡ code_of version plan.now slots.now) }
     ensures literals { IfOk result (λ c. c.literals ≡ Literals.table_of plan.now.program.blocks) }
+    ensures ascending { IfOk result (λ c. Literals.IsAscending c.literals) }
+    ensures all_used { IfOk result (λ c. All (Contains c.literals) (Literals.used_in plan.now.program.blocks)) }
+    ensures only_used { IfOk result (λ c. All (Contains (Literals.used_in plan.now.program.blocks)) c.literals) }
+    ensures spelling { IfOk result (λ c. IsEmittable plan.now slots.now → IsCode (version_number version) c) }
     ensures not_far { OnOk result (Literals.too_far plan.now.program.blocks ≡ None) }
     ensures refused { IfErr result (Literals.IsRefused plan.now.program.blocks) }
 {

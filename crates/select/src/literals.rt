@@ -77,6 +77,7 @@ pub(crate) fn table_of<A: Allocator + Clone>(
     ensures table { IfOk result (λ v. v.items ≡ Literals.table_of blocks.now) }
     ensures none { OnOk result (Literals.too_far blocks.now ≡ None) }
     ensures fit { IfOk result (λ v. All (λ z. FitsSigned w64 z) v.items) }
+    ensures ascending { IfOk result (λ v. Literals.IsAscending v.items) }
     ensures refused { IfErr result (Literals.IsRefused blocks.now) }
 {
     let table = gather(alloc.clone()?, blocks)?;

@@ -8,14 +8,6 @@ use std::test::Fail;
 use tags::token::Port;
 use tags::value::{NodeNumber, Origin};
 
-fn list<T: Drop, A: Allocator, const N: usize>(alloc: A, items: [T; N]) -> Result<Vec<T, A>, AllocError> {
-    let mut list = Vec::with_capacity(alloc, N)?;
-    for item in items {
-        list.push(item)?;
-    }
-    Ok(list)
-}
-
 const fn left(ahead: u32) -> Dest {
     Dest {
         ahead,
@@ -66,7 +58,7 @@ fn plan_of<A: Allocator + Clone>(
     };
     Ok(Plan {
         program: Program {
-            blocks: list(alloc.clone()?, [block])?,
+            blocks: vec![in alloc.clone()?; block]?,
             arrays: Vec::new(alloc.clone()?),
             main: 0,
         },
@@ -77,23 +69,20 @@ fn plan_of<A: Allocator + Clone>(
 
 /// A block that adds two inputs.
 fn adder<A: Allocator + Clone>(alloc: A, op: Op) -> Result<Plan<A>, AllocError> {
-    let instrs = list(
-        alloc.clone()?,
-        [
+    let instrs = vec![in alloc.clone()?;
             instr(alloc.clone()?, Op::Copy, 0, &[left(4), left(5)])?,
             instr(alloc.clone()?, Op::Copy, 0, &[left(2)])?,
             instr(alloc.clone()?, Op::Copy, 0, &[right(1)])?,
             instr(alloc.clone()?, op, 0, &[right(1)])?,
             instr(alloc.clone()?, Op::Return { offset: 0 }, 1, &[right(1)])?,
             instr(alloc.clone()?, Op::Release { offset: 1 }, 2, &[])?,
-        ],
-    )?;
+        ]?;
     plan_of(alloc, 3, instrs)
 }
 
 fn slots_of<A: Allocator + Clone>(alloc: A, slots: &[u16]) -> Result<Slots<A>, AllocError> {
     let holders = Vec::from_slice(alloc.clone()?, slots)?;
-    Ok(Slots::of(list(alloc, [holders])?))
+    Ok(Slots::of(vec![in alloc; holders]?))
 }
 
 /// The slot and the destinations of an instruction.
@@ -143,15 +132,12 @@ fn origins_where_they_are_told(rt: HostRuntime) -> Result<(), Fail> {
 }
 
 fn literal_plan<A: Allocator + Clone>(alloc: A) -> Result<Plan<A>, AllocError> {
-    let instrs = list(
-        alloc.clone()?,
-        [
+    let instrs = vec![in alloc.clone()?;
             instr(alloc.clone()?, Op::Lit { literal: 7 }, 0, &[left(1)])?,
             instr(alloc.clone()?, Op::Lit { literal: -7 }, 0, &[left(1)])?,
             instr(alloc.clone()?, Op::Lit { literal: 7 }, 0, &[left(1)])?,
             instr(alloc.clone()?, Op::Copy, 0, &[])?,
-        ],
-    )?;
+        ]?;
     plan_of(alloc, 0, instrs)
 }
 
