@@ -1,10 +1,9 @@
 -- Where a plan with slots can be emitted and nothing goes too far, its code has a spelling.
-use Rattle.std.proofs.Common.{◌≡◌, ℕ, zero, suc, ◌+◌, ◌<◌, ◌≤◌, ℤ, Option, Some, None, List, [], ◌∷◌, ◌++◌, length, refl, ap, sym, ◌∙◌, subst, All, Contains, arith, ◌⊎◌}
-use Rattle.std.specs.Prelude.{slice_get, FitsSigned, int_lt, true}
+use Rattle.std.proofs.Common.{◌≡◌, ℕ, zero, suc, ◌≤◌, ℤ, Some, None, List, [], ◌∷◌, ◌++◌, length, refl, ap, sym, subst, All, Contains, arith, ◌⊎◌}
+use Rattle.std.specs.Prelude.{slice_get, FitsSigned}
 use Rattle.std.specs.Int.{w64}
 use Rattle.std.proofs.lemmas.List.Elements.{All-nil, All-cons, All-head, All-tail}
-use Rattle.semantics.specs.declared.program.Dest.{Dest}
-use Rattle.semantics.specs.Program.{Instr, CodeBlock, Program, Code}
+use Rattle.semantics.specs.Program.{Instr, CodeBlock, Code}
 use Rattle.semantics.specs.Plan.{Plan}
 use Rattle.semantics.specs.Placed.{placed}
 use Rattle.semantics.specs.Bytes.{IsDest, IsInstr, IsCodeBlock, IsCode, may_fault}
@@ -62,7 +61,7 @@ block_spelt v p slots ls c ss same used short e = record {
   size = let count = instr_count v ss c.instrs in let big = e.size in (omega arith, omega arith);
   slots = needed_low ss e.low;
   instrs = λ n x h. let t = instr_there v ss c.instrs n x h in
-  subst (IsInstr v (whole v p slots ls) (coded v ss c) n) t.2 (instr_spelt v p slots ls c ss n t.0 same (used_at (Contains ls) c.instrs n t.0 used t.1) (e.instrs n t.0 t.1));
+      subst (IsInstr v (whole v p slots ls) (coded v ss c) n) t.2 (instr_spelt v p slots ls c ss n t.0 same (used_at (Contains ls) c.instrs n t.0 used t.1) (e.instrs n t.0 t.1));
 }
 
 code_spelt : (v : ℕ) (p : Plan) (slots : List (List ℕ)) (ls : List ℤ) → (v ≡ 1) ⊎ (v ≡ 2) → ls ≡ table_of p.program.blocks → too_far p.program.blocks ≡ None
@@ -85,7 +84,7 @@ code_spelt v p slots ls known table near_all ascend fit e =
       arrays = e.arrays;
       cells = e.cells;
       blocks = each_block (IsCodeBlock v (whole v p slots ls)) v slots bs e.all
-      (λ n c ss here there. block_spelt v p slots ls c ss e.all (used_of (Contains ls) bs n c used here) (all_at (λ (x : CodeBlock). length x.instrs ≤ 32768) bs n c short.0 here) (e.blocks n c ss here there));
+          (λ n c ss here there. block_spelt v p slots ls c ss e.all (used_of (Contains ls) bs n c used here) (all_at (λ (x : CodeBlock). length x.instrs ≤ 32768) bs n c short.0 here) (e.blocks n c ss here there));
     }
 
 pub is_code : (v : ℕ) (p : Plan) (slots : List (List ℕ)) (c : Code) → (v ≡ 1) ⊎ (v ≡ 2) → c.program ≡ emitted_program v (placed p slots) → c.literals ≡ table_of p.program.blocks

@@ -1,24 +1,21 @@
 -- The code of a plan has a spelling.
-use Rattle.std.proofs.Common.{◌≡◌, ℕ, zero, suc, ◌+◌, ◌<◌, ◌≤◌, max, ℤ, Bool, true, false, Option, Some, None, List, [], ◌∷◌, ◌++◌, length, map, take, drop, refl, ap, sym, ◌∙◌, subst, All, Contains, cond, arith, ◌⊎◌, inl, inr}
+use Rattle.std.proofs.Common.{◌≡◌, ℕ, zero, suc, ◌+◌, ◌<◌, ◌≤◌, ℤ, Bool, true, false, Some, None, List, [], ◌∷◌, ◌++◌, length, refl, sym, ◌∙◌, subst, All, Contains, cond, arith}
 use Rattle.std.specs.Prelude.{slice_get, slice_index_or, ◌==◌, if◌then◌else◌}
-use Rattle.std.proofs.lemmas.List.{length-map}
 use Rattle.std.proofs.lemmas.List.Elements.{All-nil, All-cons, All-head, All-tail, All-append, All-take, All-drop}
-use Rattle.std.proofs.lemmas.Grind.{common_steps}
-use Rattle.tags.specs.declared.token.Port.TheVariants.{Right}
 use Rattle.tags.specs.declared.value.Origin.{Origin}
 use Rattle.tags.specs.declared.value.Origin.TheVariants.{Untold, At}
 use Rattle.semantics.specs.declared.program.Dest.{Dest}
 use Rattle.semantics.specs.declared.program.Op.{Op}
 use Rattle.semantics.specs.declared.program.Op.TheVariants.{Apply1, Apply2, Apply2Right, Apply2Left, Lit, Copy, Sync, Switch, Fetch, Store, Frame, Link, Send, Return, Ask, Open, Take, Give, Drain, Release}
-use Rattle.semantics.specs.Program.{Instr, CodeBlock, Program, Code}
+use Rattle.semantics.specs.Program.{Instr, CodeBlock, Program}
 use Rattle.semantics.specs.Rule.{slot_of}
-use Rattle.semantics.specs.Plan.{Plan, is_credit}
+use Rattle.semantics.specs.Plan.{is_credit}
 use Rattle.semantics.specs.Sharing.{placed_slot, placed_instrs}
-use Rattle.semantics.specs.Placed.{needed, placed_blocks, placed}
-use Rattle.semantics.specs.Bytes.{HasOperand, HasDests, IsDest, IsOrigin, IsSlot, IsInstr, IsCodeBlock, IsCode, may_fault, is_dyadic}
-use Rattle.select.specs.Emitted.{told, has_sides, firsts_of, seconds_of, emitted, emitted_instrs, emitted_block, emitted_blocks, emitted_program}
+use Rattle.semantics.specs.Placed.{needed, placed_blocks}
+use Rattle.semantics.specs.Bytes.{HasOperand, IsDest, IsOrigin, IsSlot, may_fault, is_dyadic}
+use Rattle.select.specs.Emitted.{told, firsts_of, seconds_of, emitted, emitted_instrs, emitted_block, emitted_blocks}
 use Rattle.select.specs.Literals.{literal_of, listed}
-use Rattle.select.specs.Emittable.{IsPlace, IsEmittableInstr, IsEmittableBlock, IsEmittable, with_table}
+use Rattle.select.specs.Emittable.{IsPlace, with_table}
 
 -- BLOCKS IN THEIR PLACES
 abbrev pub coded : ℕ → List ℕ → CodeBlock → CodeBlock

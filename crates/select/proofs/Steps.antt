@@ -1,15 +1,15 @@
 -- One more block in the loops over blocks.
-use Rattle.std.proofs.Common.{◌≡◌, ℕ, zero, suc, ◌+◌, ◌<◌, ◌≤◌, ℤ, Option, List, [], ◌∷◌, ◌++◌, length, get_or, drop, map, refl, ap, sym, ◌∙◌, subst, append_assoc, add-one, arith, rules}
+use Rattle.std.proofs.Common.{◌≡◌, ℕ, zero, suc, ◌+◌, ◌<◌, ◌≤◌, ℤ, Option, List, [], ◌∷◌, ◌++◌, length, get_or, drop, refl, ap, sym, ◌∙◌, subst, append_assoc, add-one, arith}
 use Rattle.std.specs.Prelude.{Some, None, nat_lt, false, slice_get}
 use Rattle.std.proofs.Common.{drop-cons}
 use Rattle.std.specs.Ordering.{int_cmp}
 use Rattle.std.specs.BTreeSet.{insert_key}
 use Rattle.std.proofs.lemmas.Grind.{common_steps}
 use Rattle.std.proofs.lemmas.Option.{slice_get_within, get_or_from_slice_get}
-use Rattle.semantics.specs.Program.{Instr, CodeBlock}
+use Rattle.semantics.specs.Program.{CodeBlock}
 use Rattle.semantics.specs.Sharing.{placed_instrs}
 use Rattle.semantics.specs.Placed.{needed, placed_blocks}
-use Rattle.select.specs.Emitted.{emitted_instrs, emitted_block, emitted_blocks}
+use Rattle.select.specs.Emitted.{emitted_block, emitted_blocks}
 use Rattle.select.specs.Literals.{used_by, used_in, entered, first_too_far}
 
 pub opened : {X : Type 0} (xs : List X) (n : ℕ) (x : X) → n < length xs → x ≡ get_or xs n x → drop n xs ≡ x ∷ drop (n + 1) xs

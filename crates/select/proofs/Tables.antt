@@ -1,5 +1,5 @@
 -- The table of literals ascends, and has just the literals that instructions use.
-use Rattle.std.proofs.Common.{◌≡◌, ℕ, zero, suc, ◌+◌, ◌<◌, ◌≤◌, ℤ, Bool, true, false, Option, Some, None, List, [], ◌∷◌, ◌++◌, length, refl, ap, sym, ◌∙◌, subst, All, Contains, cond, Ordering, add-one, arith}
+use Rattle.std.proofs.Common.{◌≡◌, ℕ, zero, suc, ◌+◌, ◌≤◌, ℤ, Bool, true, false, Some, None, List, [], ◌∷◌, length, refl, ap, sym, ◌∙◌, subst, All, Contains, cond, Ordering, add-one, arith}
 use Rattle.std.specs.Prelude.{slice_get, int_lt, nat_lt}
 use Rattle.std.specs.Ordering.{int_cmp, match_ordering}
 use Rattle.std.specs.declared.cmp.Ordering.TheVariants.{Less, Equal, Greater}
@@ -9,8 +9,8 @@ use Rattle.std.proofs.lemmas.List.Elements.{All-nil, All-cons, All-head, All-tai
 use Rattle.std.proofs.lemmas.Map.Lookups.{exact_signed}
 use Rattle.std.proofs.lemmas.Map.Keys.{sorted_tail}
 use Rattle.std.proofs.lemmas.Map.Views.{All-insert_key, All-after_first}
-use Rattle.semantics.specs.Program.{Instr, CodeBlock}
-use Rattle.select.specs.Literals.{used_by, used_in, entered, table_of, first_too_far, too_far, IsAscending}
+use Rattle.semantics.specs.Program.{CodeBlock}
+use Rattle.select.specs.Literals.{used_by, used_in, entered, table_of, first_too_far, IsAscending}
 use Rattle.select.proofs.Steps.{entered_append}
 
 all_with : {X : Type 0} {P Q : X → Type 0} (xs : List X) → ((x : X) → P x → Q x) → All P xs → All Q xs

@@ -1,11 +1,11 @@
 -- The table of literals: each literal that an instruction uses, once, in ascending order; and the first block that goes too
 -- far for an object.
-use Rattle.std.specs.Prelude.{◌≡◌, ℕ, ◌+◌, ℤ, List, [], ◌∷◌, ◌++◌, length, flat_map, Option, Some, None, nat_lt, int_lt, slice_get, if◌then◌else◌, true, ⊤}
+use Rattle.std.specs.Prelude.{◌≡◌, ℕ, ◌+◌, ℤ, List, [], ◌∷◌, length, flat_map, Option, Some, None, nat_lt, int_lt, slice_get, if◌then◌else◌, true, ⊤}
 use Rattle.std.specs.Ordering.{int_cmp}
 use Rattle.std.specs.BTreeSet.{insert_key}
 use Rattle.semantics.specs.declared.program.Op.{Op}
 use Rattle.semantics.specs.declared.program.Op.TheVariants.{Apply2Right, Apply2Left, Lit}
-use Rattle.semantics.specs.Program.{Instr, CodeBlock, Program}
+use Rattle.semantics.specs.Program.{Instr, CodeBlock}
 use Rattle.select.specs.declared.fault.EmitFault.{EmitFault}
 use Rattle.select.specs.declared.fault.EmitFault.TheVariants.{TooFar, Memory}
 

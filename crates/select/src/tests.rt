@@ -70,13 +70,13 @@ fn plan_of<A: Allocator + Clone>(
 /// A block that adds two inputs.
 fn adder<A: Allocator + Clone>(alloc: A, op: Op) -> Result<Plan<A>, AllocError> {
     let instrs = vec![in alloc.clone()?;
-            instr(alloc.clone()?, Op::Copy, 0, &[left(4), left(5)])?,
-            instr(alloc.clone()?, Op::Copy, 0, &[left(2)])?,
-            instr(alloc.clone()?, Op::Copy, 0, &[right(1)])?,
-            instr(alloc.clone()?, op, 0, &[right(1)])?,
-            instr(alloc.clone()?, Op::Return { offset: 0 }, 1, &[right(1)])?,
-            instr(alloc.clone()?, Op::Release { offset: 1 }, 2, &[])?,
-        ]?;
+        instr(alloc.clone()?, Op::Copy, 0, &[left(4), left(5)])?,
+        instr(alloc.clone()?, Op::Copy, 0, &[left(2)])?,
+        instr(alloc.clone()?, Op::Copy, 0, &[right(1)])?,
+        instr(alloc.clone()?, op, 0, &[right(1)])?,
+        instr(alloc.clone()?, Op::Return { offset: 0 }, 1, &[right(1)])?,
+        instr(alloc.clone()?, Op::Release { offset: 1 }, 2, &[])?,
+    ]?;
     plan_of(alloc, 3, instrs)
 }
 
@@ -86,7 +86,10 @@ fn slots_of<A: Allocator + Clone>(alloc: A, slots: &[u16]) -> Result<Slots<A>, A
 }
 
 /// The slot and the destinations of an instruction.
-fn shape_of<A: Allocator>(code: &Code<A>, number: usize) -> Option<(u32, Option<Dest>, Option<Dest>)> {
+fn shape_of<A: Allocator>(
+    code: &Code<A>,
+    number: usize,
+) -> Option<(u32, Option<Dest>, Option<Dest>)> {
     let instr = code.program.blocks.first()?.instrs.get(number)?;
     Some((
         instr.slot,
@@ -133,11 +136,11 @@ fn origins_where_they_are_told(rt: HostRuntime) -> Result<(), Fail> {
 
 fn literal_plan<A: Allocator + Clone>(alloc: A) -> Result<Plan<A>, AllocError> {
     let instrs = vec![in alloc.clone()?;
-            instr(alloc.clone()?, Op::Lit { literal: 7 }, 0, &[left(1)])?,
-            instr(alloc.clone()?, Op::Lit { literal: -7 }, 0, &[left(1)])?,
-            instr(alloc.clone()?, Op::Lit { literal: 7 }, 0, &[left(1)])?,
-            instr(alloc.clone()?, Op::Copy, 0, &[])?,
-        ]?;
+        instr(alloc.clone()?, Op::Lit { literal: 7 }, 0, &[left(1)])?,
+        instr(alloc.clone()?, Op::Lit { literal: -7 }, 0, &[left(1)])?,
+        instr(alloc.clone()?, Op::Lit { literal: 7 }, 0, &[left(1)])?,
+        instr(alloc.clone()?, Op::Copy, 0, &[])?,
+    ]?;
     plan_of(alloc, 0, instrs)
 }
 
@@ -169,7 +172,10 @@ fn copies<A: Allocator + Clone>(alloc: A, count: u32) -> Result<Plan<A>, AllocEr
 fn a_block_too_far(rt: HostRuntime) -> Result<(), Fail> {
     let slots = slots_of(rt.alloc(), &[])?;
     let full = copies(rt.alloc(), 32_768)?;
-    assert_eq!(rt; fault_of(&emit(rt.alloc(), &full, &slots, Version::One)), None);
+    assert_eq!(rt;
+        fault_of(&emit(rt.alloc(), &full, &slots, Version::One)),
+        None
+    );
     let far = copies(rt.alloc(), 32_769)?;
     assert_eq!(rt;
         fault_of(&emit(rt.alloc(), &far, &slots, Version::One)),
@@ -209,6 +215,9 @@ fn refuses_each_growth(rt: HostRuntime) -> Result<(), Fail> {
             stages.push(stage)?;
         }
     }
-    assert_eq!(rt; stages.as_slice(), [Stage::NoPlan, Stage::NoCode, Stage::Code].as_slice());
+    assert_eq!(rt;
+        stages.as_slice(),
+        [Stage::NoPlan, Stage::NoCode, Stage::Code].as_slice()
+    );
     Ok(())
 }

@@ -1,4 +1,4 @@
-use Rattle.std.proofs.Common.{◌≡◌, ◌≤◌, length, ap, sym, ◌∙◌, subst, arith}
+use Rattle.std.proofs.Common.{◌≡◌, ◌≤◌, length, ap, ◌∙◌, arith}
 use Rattle.select.specs.Literals.{entered, used_by, table_of, too_far}
 use Rattle.select.proofs.Steps.{table_step, far_step}
 use Rattle.select.proofs.literals.gather.Goals as goal
