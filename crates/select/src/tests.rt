@@ -56,9 +56,11 @@ fn plan_of<A: Allocator + Clone>(
         slots,
         instrs,
     };
+    let mut blocks = Vec::new(alloc.clone()?);
+    blocks.push(block)?;
     Ok(Plan {
         program: Program {
-            blocks: vec![in alloc.clone()?; block]?,
+            blocks,
             arrays: Vec::new(alloc.clone()?),
             main: 0,
         },
@@ -67,39 +69,76 @@ fn plan_of<A: Allocator + Clone>(
     })
 }
 
-/// A block that adds two inputs.
+/// The instructions of a block that does that operation with two inputs.
+fn adder_instr<A: Allocator + Clone>(
+    alloc: A,
+    number: u32,
+    op: Op,
+) -> Result<Instr<A>, AllocError> {
+    match number {
+        0 => instr(alloc, Op::Copy, 0, &[left(4), left(5)]),
+        1 => instr(alloc, Op::Copy, 0, &[left(2)]),
+        2 => instr(alloc, Op::Copy, 0, &[right(1)]),
+        3 => instr(alloc, op, 0, &[right(1)]),
+        4 => instr(alloc, Op::Return { offset: 0 }, 1, &[right(1)]),
+        _ => instr(alloc, Op::Release { offset: 1 }, 2, &[]),
+    }
+}
+
 fn adder<A: Allocator + Clone>(alloc: A, op: Op) -> Result<Plan<A>, AllocError> {
-    let instrs = vec![in alloc.clone()?;
-        instr(alloc.clone()?, Op::Copy, 0, &[left(4), left(5)])?,
-        instr(alloc.clone()?, Op::Copy, 0, &[left(2)])?,
-        instr(alloc.clone()?, Op::Copy, 0, &[right(1)])?,
-        instr(alloc.clone()?, op, 0, &[right(1)])?,
-        instr(alloc.clone()?, Op::Return { offset: 0 }, 1, &[right(1)])?,
-        instr(alloc.clone()?, Op::Release { offset: 1 }, 2, &[])?,
-    ]?;
+    let mut instrs = Vec::new(alloc.clone()?);
+    for number in 0..6 {
+        instrs.push(adder_instr(alloc.clone()?, number, op)?)?;
+    }
     plan_of(alloc, 3, instrs)
 }
 
 fn slots_of<A: Allocator + Clone>(alloc: A, slots: &[u16]) -> Result<Slots<A>, AllocError> {
     let holders = Vec::from_slice(alloc.clone()?, slots)?;
-    Ok(Slots::of(vec![in alloc; holders]?))
+    let mut lists = Vec::new(alloc);
+    lists.push(holders)?;
+    Ok(Slots::of(lists))
 }
 
-/// The slot and the destinations of an instruction.
-fn shape_of<A: Allocator>(
-    code: &Code<A>,
-    number: usize,
-) -> Option<(u32, Option<Dest>, Option<Dest>)> {
-    let instr = code.program.blocks.first()?.instrs.get(number)?;
-    Some((
+/// The slot and the destinations of an instruction, and whether its origin is told.
+#[derive(Clone, Copy, Debug, PartialEq, Eq)]
+struct Shape {
+    slot: u32,
+    first: Option<Dest>,
+    second: Option<Dest>,
+    told: bool,
+}
+
+const fn make_shape(slot: u32, first: Option<Dest>, second: Option<Dest>, told: bool) -> Shape {
+    Shape {
+        slot,
+        first,
+        second,
+        told,
+    }
+}
+
+fn shape_of<A: Allocator>(instr: &Instr<A>) -> Shape {
+    make_shape(
         instr.slot,
         instr.firsts.first().copied(),
         instr.seconds.first().copied(),
-    ))
+        instr.origin == node_seven(),
+    )
 }
 
-fn origin_of<A: Allocator>(code: &Code<A>, number: usize) -> Option<Origin> {
-    Some(code.program.blocks.first()?.instrs.get(number)?.origin)
+/// The shapes of the instructions of the first block.
+fn shapes_of<A: Allocator, B: Allocator>(
+    alloc: B,
+    code: &Code<A>,
+) -> Result<Vec<Shape, B>, AllocError> {
+    let mut shapes = Vec::new(alloc);
+    if let Some(block) = code.program.blocks.first() {
+        for instr in &block.instrs {
+            shapes.push(shape_of(instr))?;
+        }
+    }
+    Ok(shapes)
 }
 
 #[test]
@@ -107,40 +146,50 @@ fn an_adder(rt: HostRuntime) -> Result<(), Fail> {
     let plan = adder(rt.alloc(), Op::Apply2 { op: Binary::Add })?;
     let slots = slots_of(rt.alloc(), &[0, 1, 2])?;
     let code = emit(rt.alloc(), &plan, &slots, Version::One)?;
-    assert_eq!(rt; shape_of(&code, 0), Some((0, Some(left(4)), Some(left(5)))));
-    assert_eq!(rt; shape_of(&code, 1), Some((0, Some(left(2)), None)));
-    assert_eq!(rt; shape_of(&code, 2), Some((0, Some(right(1)), None)));
-    assert_eq!(rt; shape_of(&code, 3), Some((0, Some(right(1)), None)));
-    assert_eq!(rt; shape_of(&code, 4), Some((1, Some(right(1)), None)));
-    assert_eq!(rt; shape_of(&code, 5), Some((2, None, None)));
-    assert_eq!(rt; shape_of(&code, 6), None);
-    assert_eq!(rt; code.program.blocks.len(), 1);
-    assert_eq!(rt; code.program.arrays.len(), 0);
-    assert_eq!(rt; code.literals.len(), 0);
+    let shapes = shapes_of(rt.alloc(), &code)?;
+    let wanted = [
+        make_shape(0, Some(left(4)), Some(left(5)), false),
+        make_shape(0, Some(left(2)), None, false),
+        make_shape(0, Some(right(1)), None, false),
+        make_shape(0, Some(right(1)), None, false),
+        make_shape(1, Some(right(1)), None, false),
+        make_shape(2, None, None, false),
+    ];
+    assert_eq!(rt; shapes.as_slice(), wanted.as_slice());
     Ok(())
 }
 
 #[test]
-fn origins_where_they_are_told(rt: HostRuntime) -> Result<(), Fail> {
+fn a_divider_tells_its_origin(rt: HostRuntime) -> Result<(), Fail> {
     let plan = adder(rt.alloc(), Op::Apply2 { op: Binary::Div })?;
     let slots = slots_of(rt.alloc(), &[2, 0, 1])?;
-    let first = emit(rt.alloc(), &plan, &slots, Version::One)?;
-    let second = emit(rt.alloc(), &plan, &slots, Version::Two)?;
-    assert_eq!(rt; origin_of(&first, 3), Some(Origin::Untold));
-    assert_eq!(rt; origin_of(&second, 3), Some(node_seven()));
-    assert_eq!(rt; origin_of(&second, 4), Some(Origin::Untold));
-    assert_eq!(rt; shape_of(&second, 3), Some((2, Some(right(1)), None)));
-    assert_eq!(rt; shape_of(&second, 4), Some((0, Some(right(1)), None)));
+    let code = emit(rt.alloc(), &plan, &slots, Version::Two)?;
+    let shapes = shapes_of(rt.alloc(), &code)?;
+    let divider = make_shape(2, Some(right(1)), None, true);
+    let answer = make_shape(0, Some(right(1)), None, false);
+    assert_eq!(rt; shapes.get(3), Some(&divider));
+    assert_eq!(rt; shapes.get(4), Some(&answer));
     Ok(())
 }
 
+#[test]
+fn the_first_version_tells_no_origin(rt: HostRuntime) -> Result<(), Fail> {
+    let plan = adder(rt.alloc(), Op::Apply2 { op: Binary::Div })?;
+    let slots = slots_of(rt.alloc(), &[0, 1, 2])?;
+    let code = emit(rt.alloc(), &plan, &slots, Version::One)?;
+    let shapes = shapes_of(rt.alloc(), &code)?;
+    let divider = make_shape(0, Some(right(1)), None, false);
+    assert_eq!(rt; shapes.get(3), Some(&divider));
+    Ok(())
+}
+
+/// Literals out of order, one of them twice.
 fn literal_plan<A: Allocator + Clone>(alloc: A) -> Result<Plan<A>, AllocError> {
-    let instrs = vec![in alloc.clone()?;
-        instr(alloc.clone()?, Op::Lit { literal: 7 }, 0, &[left(1)])?,
-        instr(alloc.clone()?, Op::Lit { literal: -7 }, 0, &[left(1)])?,
-        instr(alloc.clone()?, Op::Lit { literal: 7 }, 0, &[left(1)])?,
-        instr(alloc.clone()?, Op::Copy, 0, &[])?,
-    ]?;
+    let mut instrs = Vec::new(alloc.clone()?);
+    for literal in &[7, -7, 7] {
+        instrs.push(instr(alloc.clone()?, Op::Lit { literal: *literal }, 0, &[left(1)])?)?;
+    }
+    instrs.push(instr(alloc.clone()?, Op::Copy, 0, &[])?)?;
     plan_of(alloc, 0, instrs)
 }
 
@@ -153,13 +202,6 @@ fn literals_ascend(rt: HostRuntime) -> Result<(), Fail> {
     Ok(())
 }
 
-fn fault_of<A: Allocator>(emitted: &Result<Code<A>, EmitFault>) -> Option<EmitFault> {
-    match emitted {
-        Ok(_) => None,
-        Err(fault) => Some(*fault),
-    }
-}
-
 fn copies<A: Allocator + Clone>(alloc: A, count: u32) -> Result<Plan<A>, AllocError> {
     let mut instrs = Vec::new(alloc.clone()?);
     for _ in 0..count {
@@ -168,19 +210,28 @@ fn copies<A: Allocator + Clone>(alloc: A, count: u32) -> Result<Plan<A>, AllocEr
     plan_of(alloc, 0, instrs)
 }
 
+fn fault_of<A: Allocator>(emitted: &Result<Code<A>, EmitFault>) -> Option<EmitFault> {
+    match emitted {
+        Ok(_) => None,
+        Err(fault) => Some(*fault),
+    }
+}
+
+#[test]
+fn a_full_block(rt: HostRuntime) -> Result<(), Fail> {
+    let slots = slots_of(rt.alloc(), &[])?;
+    let plan = copies(rt.alloc(), 32_768)?;
+    let emitted = emit(rt.alloc(), &plan, &slots, Version::One);
+    assert_eq!(rt; fault_of(&emitted), None);
+    Ok(())
+}
+
 #[test]
 fn a_block_too_far(rt: HostRuntime) -> Result<(), Fail> {
     let slots = slots_of(rt.alloc(), &[])?;
-    let full = copies(rt.alloc(), 32_768)?;
-    assert_eq!(rt;
-        fault_of(&emit(rt.alloc(), &full, &slots, Version::One)),
-        None
-    );
-    let far = copies(rt.alloc(), 32_769)?;
-    assert_eq!(rt;
-        fault_of(&emit(rt.alloc(), &far, &slots, Version::One)),
-        Some(EmitFault::TooFar { block: 0 })
-    );
+    let plan = copies(rt.alloc(), 32_769)?;
+    let emitted = emit(rt.alloc(), &plan, &slots, Version::One);
+    assert_eq!(rt; fault_of(&emitted), Some(EmitFault::TooFar { block: 0 }));
     Ok(())
 }
 
