@@ -29,7 +29,14 @@ pub enum Version {
     Two,
 }
 
-/// The code of a plan whose holders have these slots.
+/// The code of a plan whose holders have these slots, in time n log n of its instructions.
+///
+/// Each instruction stands in its place, with its holder's slot. First and second destinations differ at a switch and at
+/// a link; elsewhere one is the first and the others are second ones. Origins stand where the version tells them. The
+/// table has each literal that an instruction uses, once, in ascending order.
+///
+/// `TooFar` names the first block that has more than 32,768 instructions or with which the table has more than 65,536
+/// literals; `Memory` says that a growth was refused. Where the plan and its slots are fit for an object, so is the code.
 pub fn emit<A: Allocator + Clone>(
     alloc: A,
     plan: &Plan<A>,
