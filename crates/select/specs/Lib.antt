@@ -1,0 +1,3 @@
+pub mod Emitted
+pub mod Literals
+pub mod Emittable
