@@ -1,0 +1,20 @@
+//! What a graph means, run plainly: a list of tagged tokens is rewritten one activity at a time (Arvind and Nikhil, IEEE
+//! Transactions on Computers 39(3), 1990).
+#![tactic(auto)]
+
+mod deeds;
+mod gather;
+mod invocations;
+mod lines;
+mod mean;
+mod report;
+mod sending;
+mod shapes;
+mod state;
+mod tokens;
+
+pub use mean::mean;
+pub use report::{Full, MeanEnd, MeanFault, MeanReport};
+
+#[cfg(test)]
+mod tests;
