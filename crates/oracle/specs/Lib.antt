@@ -1,0 +1,5 @@
+pub mod Acting
+pub mod Lines
+pub mod Meant
+pub mod Running
+pub mod Sending

@@ -1,7 +1,12 @@
 //! What an activity does with the values that it takes.
 
+ghost use Rattle.std.specs.Prelude.{◌≡◌, ◌≤◌, Some};
+ghost use Rattle.operators.specs.Values as Values;
+ghost use Rattle.oracle.specs.Lines.{total_of};
+ghost use Rattle.oracle.specs.Acting as Acting;
+
 use crate::invocations::{Invocation, Made};
-use crate::lines::{Line, array_len, first_cell, line_at, origin_at};
+use crate::lines::{Line, array_len, arrays_of, cell_of, line_at, origin_at, version_of};
 use crate::shapes::Shape;
 use graph_check::Checked;
 use operators::{apply1, apply2_at, truth};
@@ -35,7 +40,7 @@ pub enum Deed {
     /// All values that were taken go to the inputs of an invocation of a block.
     EntersAll { made: Made, block: usize },
     /// Nothing is sent.
-    Nothing,
+    Stops,
     /// What the cell holds goes out, once it is full.
     Reads {
         context: usize,
@@ -56,24 +61,27 @@ pub enum Deed {
 }
 
 /// What an index names in an array.
-enum Indexed {
-    Place(u32),
-    Outside(Value),
+#[derive(Clone, Copy)]
+enum Index {
+    Within(u32),
+    Beyond(Value),
 }
 
-fn index_in(len: u32, index: Value, origin: Origin) -> Indexed {
+fn index_in(len: u32, index: Value, origin: Origin) -> Index
+    ensures { Acting.indexed_of result ≡ Values.index_in len index origin }
+{
     match index {
         Value::Int(number) => {
             if number >= 0 && number < i64::from(len) {
-                Indexed::Place(number as u32)
+                Index::Within(number as u32)
             } else {
-                Indexed::Outside(Value::Fault {
+                Index::Beyond(Value::Fault {
                     kind: FaultKind::Range,
                     origin,
                 })
             }
         }
-        Value::Fault { kind, origin } => Indexed::Outside(Value::Fault { kind, origin }),
+        Value::Fault { kind, origin } => Index::Beyond(Value::Fault { kind, origin }),
     }
 }
 
@@ -84,19 +92,22 @@ fn fetch<'a, A: Allocator>(
     array: usize,
     index: Value,
     origin: Origin,
-) -> Deed {
-    let arrays = &checked.graph().arrays;
+) -> Deed
+    requires { total_of checked.now.arrays ≤ 65536 }
+    ensures { result ≡ Acting.fetch_deed context node (Acting.first_in checked.now array) (Values.index_in (Acting.len_in checked.now array) index origin) }
+{
+    let arrays = arrays_of(checked);
     match index_in(array_len(arrays, array), index, origin) {
-        Indexed::Outside(value) => Deed::Sends {
+        Index::Beyond(value) => Deed::Sends {
             context,
             node,
             port: 0,
             value,
         },
-        Indexed::Place(place) => Deed::Reads {
+        Index::Within(place) => Deed::Reads {
             context,
             node,
-            cell: first_cell(arrays, array).saturating_add(place as usize),
+            cell: cell_of(arrays, array, place),
         },
     }
 }
@@ -108,20 +119,23 @@ fn store<'a, A: Allocator>(
     array: usize,
     operands: (Value, Value),
     origin: Origin,
-) -> Deed {
+) -> Deed
+    requires { total_of checked.now.arrays ≤ 65536 }
+    ensures { result ≡ Acting.store_deed context node (Acting.first_in checked.now array) array operands.1 (Values.index_in (Acting.len_in checked.now array) operands.0 origin) }
+{
     let (index, value) = operands;
-    let arrays = &checked.graph().arrays;
+    let arrays = arrays_of(checked);
     match index_in(array_len(arrays, array), index, origin) {
-        Indexed::Outside(value) => Deed::Sends {
+        Index::Beyond(value) => Deed::Sends {
             context,
             node,
             port: 0,
             value,
         },
-        Indexed::Place(index) => Deed::Fills {
+        Index::Within(index) => Deed::Fills {
             context,
             node,
-            cell: first_cell(arrays, array).saturating_add(index as usize),
+            cell: cell_of(arrays, array, index),
             array,
             index,
             value,
@@ -137,7 +151,10 @@ fn fired_one<'a, A: Allocator>(
     kind: &Kind<usize>,
     value: Value,
     origin: Origin,
-) -> Option<Deed> {
+) -> Option<Deed>
+    requires { total_of checked.now.arrays ≤ 65536 }
+    ensures { result ≡ Acting.one_deed checked.now context node kind.now value origin }
+{
     match kind {
         Kind::Lit { value } => Some(Deed::Sends {
             context,
@@ -169,7 +186,10 @@ fn fired_two<'a, A: Allocator>(
     kind: &Kind<usize>,
     operands: (Value, Value),
     origin: Origin,
-) -> Option<Deed> {
+) -> Option<Deed>
+    requires { total_of checked.now.arrays ≤ 65536 }
+    ensures { result ≡ Acting.two_deed checked.now context node kind.now operands.0 operands.1 origin }
+{
     match kind {
         Kind::Apply2 { op } => Some(Deed::Sends {
             context,
@@ -190,7 +210,10 @@ fn fired<'a, A: Allocator>(
     kind: &Kind<usize>,
     values: &[Value],
     origin: Origin,
-) -> Option<Deed> {
+) -> Option<Deed>
+    requires { total_of checked.now.arrays ≤ 65536 }
+    ensures { result ≡ Acting.fired_deed checked.now context node kind.now values.now origin }
+{
     if let Kind::StrictCall { block } = kind {
         return Some(Deed::EntersAll {
             made: Made::Called { by: context, node },
@@ -211,7 +234,10 @@ fn fired_at<'a, A: Allocator>(
     block: usize,
     node: usize,
     values: &[Value],
-) -> Option<Deed> {
+) -> Option<Deed>
+    requires { total_of checked.now.arrays ≤ 65536 }
+    ensures { result ≡ Acting.fires_deed checked.now context block node values.now }
+{
     match line_at(checked, block, node) {
         Line::Input => match values {
             [value] => Some(Deed::Sends {
@@ -222,8 +248,11 @@ fn fired_at<'a, A: Allocator>(
             }),
             _ => None,
         },
-        Line::Node { kind, .. } => {
-            let origin = origin_at(checked.graph().version, block, node);
+        Line::Node { kind, arity, .. } => {
+            if values.len() != arity {
+                return None;
+            }
+            let origin = origin_at(version_of(checked), block, node);
             fired(checked, context, node, &kind, values, origin)
         }
         Line::Nothing => None,
@@ -231,7 +260,9 @@ fn fired_at<'a, A: Allocator>(
 }
 
 /// What an `enter` does with its source and its predicate.
-fn gated(context: usize, node: usize, line: &Line, value: Value, predicate: Value) -> Option<Deed> {
+fn gated(context: usize, node: usize, line: &Line, value: Value, predicate: Value) -> Option<Deed>
+    ensures { result ≡ Acting.gated_deed context node line.now value predicate }
+{
     match line {
         Line::Node {
             region: Region::Arm { side, .. },
@@ -246,7 +277,7 @@ fn gated(context: usize, node: usize, line: &Line, value: Value, predicate: Valu
                     value,
                 })
             } else {
-                Some(Deed::Nothing)
+                Some(Deed::Stops)
             }
         }
         _ => None,
@@ -254,7 +285,9 @@ fn gated(context: usize, node: usize, line: &Line, value: Value, predicate: Valu
 }
 
 /// What a merge, a call or a loop does with an operand.
-fn passed(context: usize, node: usize, position: usize, line: &Line, value: Value) -> Option<Deed> {
+fn passed(context: usize, node: usize, position: usize, line: &Line, value: Value) -> Option<Deed>
+    ensures { result ≡ Acting.passed_deed context node position line.now value }
+{
     match line {
         Line::Node {
             kind: Kind::Merge { .. },
@@ -292,7 +325,9 @@ fn passed(context: usize, node: usize, position: usize, line: &Line, value: Valu
 }
 
 /// What a turn of an iteration does. There is no number for a turn beyond the last u64.
-fn turned(invocation: Invocation, number: usize, flag: Value, value: Value) -> Option<Deed> {
+fn turned(invocation: Invocation, number: usize, flag: Value, value: Value) -> Option<Deed>
+    ensures { result ≡ Acting.turned_deed invocation.made invocation.block number flag value }
+{
     let Made::Turned { by, node, turn } = invocation.made else {
         return None;
     };
@@ -319,7 +354,9 @@ fn turned(invocation: Invocation, number: usize, flag: Value, value: Value) -> O
 }
 
 /// What a result of a call does.
-fn returned(invocation: Invocation, number: usize, value: Value) -> Option<Deed> {
+fn returned(invocation: Invocation, number: usize, value: Value) -> Option<Deed>
+    ensures { result ≡ Acting.returned_deed invocation.made number value }
+{
     match invocation.made {
         Made::Called { by, node } => Some(Deed::Sends {
             context: by,
@@ -338,7 +375,10 @@ pub fn deed_of<'a, A: Allocator>(
     invocation: Invocation,
     shape: Shape,
     values: &[Value],
-) -> Option<Deed> {
+) -> Option<Deed>
+    requires { total_of checked.now.arrays ≤ 65536 }
+    ensures { result ≡ Acting.deed_in checked.now context invocation shape values.now }
+{
     let block = invocation.block;
     match (shape, values) {
         (Shape::Fires { node, .. }, _) => fired_at(checked, context, block, node, values),

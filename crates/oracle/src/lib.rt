@@ -6,14 +6,14 @@ mod deeds;
 mod gather;
 mod invocations;
 mod lines;
-mod mean;
+mod runs;
 mod report;
 mod sending;
 mod shapes;
 mod state;
 mod tokens;
 
-pub use mean::mean;
+pub use runs::mean;
 pub use report::{Full, MeanEnd, MeanFault, MeanReport};
 
 #[cfg(test)]

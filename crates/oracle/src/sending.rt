@@ -1,5 +1,8 @@
 //! New tokens.
 
+ghost use Rattle.std.specs.Prelude.{◌≡◌, ◌++◌, ◌∷◌, ◌^◌, ◌+◌, ◌<◌, [], length, OnOk};
+ghost use Rattle.oracle.specs.Sending as Sending;
+
 use crate::invocations::Made;
 use crate::tokens::{Spot, Token};
 use graph::{Block, Node};
@@ -16,15 +19,19 @@ pub struct Sent {
 }
 
 /// Whether the source is that port of that node.
-fn is_port(source: Source, node: usize, port: usize) -> bool {
+fn is_port(source: Source, node: usize, port: usize) -> bool
+    ensures { result ≡ Sending.is_port_of source node port }
+{
     source.node as usize == node && source.port as usize == port
 }
 
 fn push<A: Allocator>(
     fresh: &mut VecDeque<Token, A>,
-    sent: Sent,
+    sent: &Sent,
     spot: Spot,
-) -> Result<(), AllocError> {
+) -> Result<(), AllocError>
+    ensures { OnOk result (fresh.new.items ≡ fresh.old.items ++ Sending.token_at sent.now spot ∷ []) }
+{
     fresh.push_back(Token {
         context: sent.context,
         spot,
@@ -36,12 +43,14 @@ fn push<A: Allocator>(
 /// A token for each of a node's operands that comes from the port.
 fn send_to_operands<A: Allocator>(
     fresh: &mut VecDeque<Token, A>,
-    sent: Sent,
+    sent: &Sent,
     node: usize,
     port: usize,
     at: usize,
     sources: &[Source],
-) -> Result<(), AllocError> {
+) -> Result<(), AllocError>
+    ensures { OnOk result (fresh.new.items ≡ fresh.old.items ++ Sending.operand_tokens sent.now node port at 0 sources.now) }
+{
     for (position, source) in sources.iter().enumerate() {
         if is_port(*source, node, port) {
             push(fresh, sent, Spot::Operand { node: at, position })?;
@@ -52,12 +61,15 @@ fn send_to_operands<A: Allocator>(
 
 fn send_to_nodes<'a, A: Allocator>(
     fresh: &mut VecDeque<Token, A>,
-    sent: Sent,
+    sent: &Sent,
     node: usize,
     port: usize,
     inputs: usize,
     nodes: &[Node<'a, A>],
-) -> Result<(), AllocError> {
+) -> Result<(), AllocError>
+    requires { inputs + length nodes.now < 2 ^ 64 }
+    ensures { OnOk result (fresh.new.items ≡ fresh.old.items ++ Sending.node_tokens sent.now node port inputs nodes.now) }
+{
     for (i, line) in nodes.iter().enumerate() {
         send_to_operands(fresh, sent, node, port, inputs + i, &line.sources)?;
     }
@@ -67,9 +79,11 @@ fn send_to_nodes<'a, A: Allocator>(
 /// The flag of an iteration goes to each of its turns.
 fn send_flags<A: Allocator>(
     fresh: &mut VecDeque<Token, A>,
-    sent: Sent,
+    sent: &Sent,
     inputs: usize,
-) -> Result<(), AllocError> {
+) -> Result<(), AllocError>
+    ensures { OnOk result (fresh.new.items ≡ fresh.old.items ++ Sending.flag_tokens sent.now 1 inputs) }
+{
     for i in 0..inputs {
         push(fresh, sent, Spot::Flag { number: i + 1 })?;
     }
@@ -78,11 +92,13 @@ fn send_flags<A: Allocator>(
 
 fn send_as_result<A: Allocator>(
     fresh: &mut VecDeque<Token, A>,
-    sent: Sent,
+    sent: &Sent,
     made: Made,
     inputs: usize,
     number: usize,
-) -> Result<(), AllocError> {
+) -> Result<(), AllocError>
+    ensures { OnOk result (fresh.new.items ≡ fresh.old.items ++ Sending.result_tokens sent.now made inputs number) }
+{
     match made {
         Made::Main | Made::Called { .. } => push(fresh, sent, Spot::Out { number }),
         Made::Turned { .. } => {
@@ -97,12 +113,14 @@ fn send_as_result<A: Allocator>(
 
 fn send_to_results<A: Allocator>(
     fresh: &mut VecDeque<Token, A>,
-    sent: Sent,
+    sent: &Sent,
     made: Made,
     inputs: usize,
     from: (usize, usize),
     results: &[Source],
-) -> Result<(), AllocError> {
+) -> Result<(), AllocError>
+    ensures { OnOk result (fresh.new.items ≡ fresh.old.items ++ Sending.results_tokens sent.now made inputs from.0 from.1 0 results.now) }
+{
     for (number, source) in results.iter().enumerate() {
         if is_port(*source, from.0, from.1) {
             send_as_result(fresh, sent, made, inputs, number)?;
@@ -114,21 +132,35 @@ fn send_to_results<A: Allocator>(
 /// A token for each use of the port in the block.
 pub fn send<'a, A: Allocator>(
     fresh: &mut VecDeque<Token, A>,
-    sent: Sent,
+    sent: &Sent,
     made: Made,
     node: usize,
     port: usize,
     block: &Block<'a, A>,
-) -> Result<(), AllocError> {
+) -> Result<(), AllocError>
+    ensures { OnOk result (fresh.new.items ≡ fresh.old.items ++ Sending.sent_tokens sent.now made node port block.now.1) }
+{
     let inputs = block.inputs as usize;
     send_to_nodes(fresh, sent, node, port, inputs, &block.nodes)?;
     send_to_results(fresh, sent, made, inputs, (node, port), &block.results)
 }
 
+/// Whether the region is an arm of the conditional.
+fn is_arm_of(cond: usize, region: Region) -> bool
+    ensures { result ≡ Sending.is_arm_of cond region }
+{
+    match region {
+        Region::Arm { cond: of, .. } => of as usize == cond,
+        Region::Root => false,
+    }
+}
+
 /// Whether the node is an `enter` of an arm of the conditional.
-fn is_enter_of<'a, A: Allocator>(cond: usize, line: &Node<'a, A>) -> bool {
-    match (line.region, &line.kind) {
-        (Region::Arm { cond: of, .. }, Kind::Enter) => of as usize == cond,
+fn is_gate_of<'a, A: Allocator>(cond: usize, line: &Node<'a, A>) -> bool
+    ensures { result ≡ Sending.is_gate_of cond line.now.region line.now.kind }
+{
+    match line.kind {
+        Kind::Enter => is_arm_of(cond, line.region),
         _ => false,
     }
 }
@@ -136,13 +168,27 @@ fn is_enter_of<'a, A: Allocator>(cond: usize, line: &Node<'a, A>) -> bool {
 /// The predicate, for each `enter` of the conditional's arms.
 pub fn tell<'a, A: Allocator>(
     fresh: &mut VecDeque<Token, A>,
-    sent: Sent,
+    sent: &Sent,
     cond: usize,
     block: &Block<'a, A>,
-) -> Result<(), AllocError> {
-    let inputs = block.inputs as usize;
-    for (i, line) in block.nodes.iter().enumerate() {
-        if is_enter_of(cond, line) {
+) -> Result<(), AllocError>
+    ensures { OnOk result (fresh.new.items ≡ fresh.old.items ++ Sending.told_tokens sent.now cond block.now.1.inputs block.now.1.nodes) }
+{
+    tell_nodes(fresh, sent, cond, block.inputs as usize, &block.nodes)
+}
+
+fn tell_nodes<'a, A: Allocator>(
+    fresh: &mut VecDeque<Token, A>,
+    sent: &Sent,
+    cond: usize,
+    inputs: usize,
+    nodes: &[Node<'a, A>],
+) -> Result<(), AllocError>
+    requires { inputs + length nodes.now < 2 ^ 64 }
+    ensures { OnOk result (fresh.new.items ≡ fresh.old.items ++ Sending.told_tokens sent.now cond inputs nodes.now) }
+{
+    for (i, line) in nodes.iter().enumerate() {
+        if is_gate_of(cond, line) {
             push(fresh, sent, Spot::Predicate { node: inputs + i })?;
         }
     }
@@ -154,13 +200,15 @@ pub fn enter_all<A: Allocator>(
     fresh: &mut VecDeque<Token, A>,
     context: usize,
     values: &[Value],
-) -> Result<(), AllocError> {
+) -> Result<(), AllocError>
+    ensures { OnOk result (fresh.new.items ≡ fresh.old.items ++ Sending.entering_tokens context 0 values.now) }
+{
     for (node, value) in values.iter().enumerate() {
         let sent = Sent {
             context,
             value: *value,
         };
-        push(fresh, sent, Spot::Operand { node, position: 0 })?;
+        push(fresh, &sent, Spot::Operand { node, position: 0 })?;
     }
     Ok(())
 }
@@ -168,9 +216,11 @@ pub fn enter_all<A: Allocator>(
 /// The value, for that input of an invocation.
 pub fn enter<A: Allocator>(
     fresh: &mut VecDeque<Token, A>,
-    sent: Sent,
+    sent: &Sent,
     input: usize,
-) -> Result<(), AllocError> {
+) -> Result<(), AllocError>
+    ensures { OnOk result (fresh.new.items ≡ fresh.old.items ++ Sending.token_at sent.now (Spot.Operand input 0) ∷ []) }
+{
     push(
         fresh,
         sent,

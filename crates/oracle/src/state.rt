@@ -1,11 +1,18 @@
 //! A state of a run: the tokens, the cells, and the outputs.
 
+ghost use Rattle.std.specs.Prelude.{◌≡◌, ◌≤◌, ◌∷◌, ◌++◌, [], Some, slice_get, IfOk, OnOk, MatchOption, MatchResult};
+ghost use Rattle.oracle.specs.Lines.{total_of, spots_in};
+ghost use Rattle.oracle.specs.Acting as Acting;
+ghost use Rattle.oracle.specs.Running.{plain, join_of, Alone, Joins, next_in, Acts, Ends, performed};
+ghost use Rattle.oracle.specs.Running as Running;
+
 use crate::deeds::{Deed, deed_of};
 use crate::gather::{all_there, take_out};
-use crate::invocations::{Invocation, Made, number_of};
-use crate::lines::{Line, line_at};
+use crate::invocations::{Invocation, number_of};
+use crate::lines::block_at;
 use crate::sending::{Sent, enter, enter_all, send, tell};
-use crate::shapes::{Shape, node_of, shape_of, spots_of};
+use crate::report::MeanEnd;
+use crate::shapes::{Shape, shape_of, spots_of};
 use crate::tokens::{Spot, Token};
 use graph_check::Checked;
 use std::alloc::{AllocError, Allocator};
@@ -33,197 +40,368 @@ pub struct Act<A: Allocator> {
     pub deed: Deed,
 }
 
-/// What comes of a token that is looked at.
-#[derive(Drop)]
-pub enum Look<A: Allocator> {
-    /// It acts, with its partners.
-    Acts(Act<A>),
-    /// It waits for partners or for a cell.
-    Waits,
-    /// A store has both operands, and its cell is full.
-    Clashes { array: usize, index: u32 },
+/// What the memory says to a deed.
+#[derive(Clone, Copy, Debug)]
+enum Gate {
+    Free,
+    /// The cell of a fetch is empty.
+    Defers,
+    /// The cell of a store is full.
+    Clashes {
+        array: usize,
+        index: u32,
+    },
 }
 
-/// What comes next in a run.
-#[derive(Drop)]
-pub enum Next<A: Allocator> {
-    Act(Act<A>),
-    Rest,
-    Clash { array: usize, index: u32 },
+/// The invocation with that number.
+fn invocation_at(invocations: &[Invocation], number: usize) -> Option<Invocation>
+    ensures { result ≡ slice_get invocations.now number }
+{
+    invocations.get(number).copied()
 }
 
-impl<A: Allocator + Clone> State<A> {
-    /// The activity that takes the token, if its invocation and its node have one.
-    fn shape<'a>(&self, checked: &Checked<'a, A>, token: Token) -> Option<(Invocation, Shape)> {
-        let invocation = *self.invocations.get(token.context)?;
-        let line = match node_of(token.spot) {
-            Some(node) => line_at(checked, invocation.block, node),
-            None => Line::Nothing,
-        };
-        let shape = shape_of(invocation.made, &line, token.spot)?;
-        Some((invocation, shape))
+/// Takes the partners of a token, all of which wait.
+fn take_all<'a, A: Allocator + Clone>(
+    checked: &Checked<'a, A>,
+    waiting: &mut Vec<Token, A>,
+    token: &Token,
+    invocation: &Invocation,
+    shape: &Shape,
+    spots: &[Spot],
+) -> Result<Act<A>, AllocError>
+    requires few { total_of checked.now.arrays ≤ 65536 }
+    requires spots { spots.now ≡ spots_in shape.now }
+    ensures { IfOk result (λ act. Running.join_all checked.now waiting.old.items token.now invocation.now shape.now ≡ Joins waiting.new.items act.values.items act.deed) }
+{
+    let alloc = waiting.allocator().clone()?;
+    let values = take_out(alloc, waiting, token, spots)?;
+    if values.len() != spots.len() {
+        return Err(AllocError);
     }
+    match deed_of(checked, token.context, *invocation, *shape, &values) {
+        Some(deed) => Ok(Act { values, deed }),
+        None => Err(AllocError),
+    }
+}
 
-    /// Joins a token with its partners, which are taken out. Where one is missing the token is left to wait.
-    fn join<'a>(&mut self, checked: &Checked<'a, A>, token: Token) -> Result<Option<Act<A>>, AllocError> {
-        let Some((invocation, shape)) = self.shape(checked, token) else {
-            self.waiting.push(token)?;
-            return Ok(None);
-        };
-        let alloc = self.waiting.allocator().clone()?;
-        let spots = spots_of(alloc.clone()?, shape)?;
-        if !all_there(&self.waiting, token, &spots) {
-            self.waiting.push(token)?;
-            return Ok(None);
-        }
-        let values = take_out(alloc, &mut self.waiting, token, &spots)?;
-        match deed_of(checked, token.context, invocation, shape, &values) {
-            Some(deed) => Ok(Some(Act { values, deed })),
-            None => Err(AllocError),
+/// Joins a token with its partners for an activity. Where one is missing the token is left to wait.
+fn join_for<'a, A: Allocator + Clone>(
+    checked: &Checked<'a, A>,
+    waiting: &mut Vec<Token, A>,
+    token: &Token,
+    invocation: &Invocation,
+    shape: &Shape,
+) -> Result<Option<Act<A>>, AllocError>
+    requires { total_of checked.now.arrays ≤ 65536 }
+    ensures { IfOk result (λ r. MatchOption r
+        ((Running.join_shape checked.now waiting.old.items token.now invocation.now (Some shape.now) ≡ Alone) × (waiting.new.items ≡ waiting.old.items ++ token.now ∷ []))
+        (λ act. Running.join_shape checked.now waiting.old.items token.now invocation.now (Some shape.now) ≡ Joins waiting.new.items act.values.items act.deed)) }
+{
+    let spots = spots_of(waiting.allocator().clone()?, *shape)?;
+    if all_there(waiting, token, &spots) {
+        let act = take_all(checked, waiting, token, invocation, shape, &spots)?;
+        return Ok(Some(act));
+    }
+    waiting.push(*token)?;
+    Ok(None)
+}
+
+/// Joins a token with its partners, which are taken out. Where one is missing, or where no activity takes the token, it is
+/// left to wait.
+fn join<'a, A: Allocator + Clone>(
+    checked: &Checked<'a, A>,
+    invocations: &[Invocation],
+    waiting: &mut Vec<Token, A>,
+    token: &Token,
+) -> Result<Option<Act<A>>, AllocError>
+    requires { total_of checked.now.arrays ≤ 65536 }
+    ensures { IfOk result (λ r. MatchOption r
+        ((join_of checked.now invocations.now waiting.old.items token.now ≡ Alone) × (waiting.new.items ≡ waiting.old.items ++ token.now ∷ []))
+        (λ act. join_of checked.now invocations.now waiting.old.items token.now ≡ Joins waiting.new.items act.values.items act.deed)) }
+{
+    if let Some(invocation) = invocation_at(invocations, token.context) {
+        if let Some(shape) = shape_of(checked, invocation, token.spot) {
+            return join_for(checked, waiting, token, &invocation, &shape);
         }
     }
+    waiting.push(*token)?;
+    Ok(None)
+}
 
-    fn cell(&self, cell: usize) -> Option<Value> {
-        match self.cells.get(cell) {
-            Some(held) => *held,
-            None => None,
-        }
+/// What the cell holds.
+pub fn held(cells: &[Option<Value>], cell: usize) -> Option<Value>
+    ensures { result ≡ Acting.held_in cells.now cell }
+{
+    match cells.get(cell) {
+        Some(held) => *held,
+        None => None,
     }
+}
 
-    /// Looks at a token: joins it with its partners, and asks the cell of a fetch or a store.
-    fn look<'a>(&mut self, checked: &Checked<'a, A>, token: Token) -> Result<Look<A>, AllocError> {
-        let Some(act) = self.join(checked, token)? else {
-            return Ok(Look::Waits);
-        };
-        match act.deed {
-            Deed::Reads { cell, .. } if self.cell(cell).is_none() => {
-                self.deferred.push(token)?;
-                Ok(Look::Waits)
+/// Asks the cell of a fetch or a store.
+fn ask(cells: &[Option<Value>], deed: &Deed) -> Gate
+    ensures { result ≡ Acting.gate_of cells.now deed.now }
+{
+    match *deed {
+        Deed::Reads { cell, .. } => {
+            if held(cells, cell).is_none() {
+                Gate::Defers
+            } else {
+                Gate::Free
             }
-            Deed::Fills {
-                cell, array, index, ..
-            } if self.cell(cell).is_some() => Ok(Look::Clashes { array, index }),
-            _ => Ok(Look::Acts(act)),
         }
-    }
-
-    /// The first activity of the first token in the list that can act.
-    pub fn next<'a>(&mut self, checked: &Checked<'a, A>) -> Result<Next<A>, AllocError> {
-        while let Some(token) = self.fresh.pop_front() {
-            match self.look(checked, token)? {
-                Look::Waits => {}
-                Look::Acts(act) => return Ok(Next::Act(act)),
-                Look::Clashes { array, index } => return Ok(Next::Clash { array, index }),
+        Deed::Fills {
+            cell, array, index, ..
+        } => {
+            if held(cells, cell).is_some() {
+                Gate::Clashes { array, index }
+            } else {
+                Gate::Free
             }
         }
-        Ok(Next::Rest)
+        _ => Gate::Free,
     }
+}
 
-    /// Sends a value on a port of a node.
-    fn send<'a>(
-        &mut self,
-        checked: &Checked<'a, A>,
-        sent: Sent,
-        node: usize,
-        port: usize,
-    ) -> Result<(), AllocError> {
-        let Some(invocation) = self.invocations.get(sent.context) else {
-            return Ok(());
-        };
-        let Some(block) = checked.graph().blocks.get(invocation.block) else {
-            return Ok(());
-        };
-        send(&mut self.fresh, sent, invocation.made, node, port, block)
-    }
-
-    fn tell<'a>(
-        &mut self,
-        checked: &Checked<'a, A>,
-        sent: Sent,
-        cond: usize,
-    ) -> Result<(), AllocError> {
-        let Some(invocation) = self.invocations.get(sent.context) else {
-            return Ok(());
-        };
-        let Some(block) = checked.graph().blocks.get(invocation.block) else {
-            return Ok(());
-        };
-        tell(&mut self.fresh, sent, cond, block)
-    }
-
-    /// All deferred fetches are to be looked at again.
-    fn wake(&mut self) -> Result<(), AllocError> {
-        for token in &self.deferred {
-            self.fresh.push_back(*token)?;
-        }
-        self.deferred.clear();
-        Ok(())
-    }
-
-    /// Fills a cell.
-    fn fill(&mut self, cell: usize, value: Value) {
-        if let Some(held) = self.cells.get_mut(cell) {
-            *held = Some(value);
+/// The first activity of the first token in the list that can act.
+pub fn next_act<'a, A: Allocator + Clone>(
+    checked: &Checked<'a, A>,
+    state: &mut State<A>,
+) -> Result<Result<Act<A>, MeanEnd>, AllocError>
+    requires { total_of checked.now.arrays ≤ 65536 }
+    ensures { let old = plain state.old.invocations.items state.old.fresh.items state.old.waiting.items state.old.deferred.items state.old.cells.items state.old.outputs.items in
+        let new = plain state.new.invocations.items state.new.fresh.items state.new.waiting.items state.new.deferred.items state.new.cells.items state.new.outputs.items in
+        IfOk result (λ r. MatchResult r (λ act. next_in checked.now old ≡ Acts new act.values.items act.deed) (λ e. next_in checked.now old ≡ Ends new e)) }
+{
+    while let Some(token) = state.fresh.pop_front() {
+        if let Some(act) = join(checked, &state.invocations, &mut state.waiting, &token)? {
+            match ask(&state.cells, &act.deed) {
+                Gate::Free => return Ok(Ok(act)),
+                Gate::Defers => state.deferred.push(token)?,
+                Gate::Clashes { array, index } => return Ok(Err(MeanEnd::Clash { array, index })),
+            }
         }
     }
+    Ok(Err(MeanEnd::Rest))
+}
 
-    fn put(&mut self, number: usize, value: Value) {
-        if let Some(output) = self.outputs.get_mut(number) {
-            *output = Some(value);
-        }
+/// Sends a value on a port of a node of an invocation.
+fn send_at<'a, A: Allocator>(
+    checked: &Checked<'a, A>,
+    fresh: &mut VecDeque<Token, A>,
+    sent: &Sent,
+    invocation: &Invocation,
+    node: usize,
+    port: usize,
+) -> Result<(), AllocError>
+    ensures { OnOk result (fresh.new.items ≡ fresh.old.items ++ Running.sent_if checked.now sent.now node port (Some invocation.now)) }
+{
+    match block_at(checked.graph(), invocation.block) {
+        Some(block) => send(fresh, sent, invocation.made, node, port, block),
+        None => Ok(()),
     }
+}
 
-    /// Does what the activity does.
-    pub fn perform<'a>(&mut self, checked: &Checked<'a, A>, act: &Act<A>) -> Result<(), AllocError> {
-        match act.deed {
-            Deed::Sends {
-                context,
+/// Sends a value on a port of a node.
+fn send_from<'a, A: Allocator>(
+    checked: &Checked<'a, A>,
+    invocations: &[Invocation],
+    fresh: &mut VecDeque<Token, A>,
+    sent: &Sent,
+    node: usize,
+    port: usize,
+) -> Result<(), AllocError>
+    ensures { OnOk result (fresh.new.items ≡ fresh.old.items ++ Running.sent_in checked.now invocations.now sent.now node port) }
+{
+    match invocation_at(invocations, sent.context) {
+        Some(invocation) => send_at(checked, fresh, sent, &invocation, node, port),
+        None => Ok(()),
+    }
+}
+
+/// Tells a predicate to the arms of a conditional of an invocation.
+fn tell_at<'a, A: Allocator>(
+    checked: &Checked<'a, A>,
+    fresh: &mut VecDeque<Token, A>,
+    sent: &Sent,
+    invocation: &Invocation,
+    cond: usize,
+) -> Result<(), AllocError>
+    ensures { OnOk result (fresh.new.items ≡ fresh.old.items ++ Running.told_if checked.now sent.now cond (Some invocation.now)) }
+{
+    match block_at(checked.graph(), invocation.block) {
+        Some(block) => tell(fresh, sent, cond, block),
+        None => Ok(()),
+    }
+}
+
+/// Tells a predicate to the arms of a conditional.
+fn tell_from<'a, A: Allocator>(
+    checked: &Checked<'a, A>,
+    invocations: &[Invocation],
+    fresh: &mut VecDeque<Token, A>,
+    sent: &Sent,
+    cond: usize,
+) -> Result<(), AllocError>
+    ensures { OnOk result (fresh.new.items ≡ fresh.old.items ++ Running.told_in checked.now invocations.now sent.now cond) }
+{
+    match invocation_at(invocations, sent.context) {
+        Some(invocation) => tell_at(checked, fresh, sent, &invocation, cond),
+        None => Ok(()),
+    }
+}
+
+/// All deferred fetches are to be looked at again.
+fn wake<A: Allocator>(
+    fresh: &mut VecDeque<Token, A>,
+    deferred: &mut Vec<Token, A>,
+) -> Result<(), AllocError>
+    ensures { OnOk result ((fresh.new.items ≡ fresh.old.items ++ deferred.old.items) × (deferred.new.items ≡ [])) }
+{
+    append(fresh, deferred)?;
+    deferred.clear();
+    Ok(())
+}
+
+fn append<A: Allocator>(fresh: &mut VecDeque<Token, A>, tokens: &[Token]) -> Result<(), AllocError>
+    ensures { OnOk result (fresh.new.items ≡ fresh.old.items ++ tokens.now) }
+{
+    for token in tokens {
+        fresh.push_back(*token)?;
+    }
+    Ok(())
+}
+
+/// Fills a place, if it is there.
+fn fill(places: &mut [Option<Value>], place: usize, value: Value)
+    ensures { places.new ≡ Acting.filled_in places.old place value }
+{
+    if place < places.len() {
+        places[place] = Some(value);
+    }
+}
+
+/// Does what the activity does.
+pub fn perform<'a, A: Allocator + Clone>(
+    checked: &Checked<'a, A>,
+    state: &mut State<A>,
+    deed: &Deed,
+    values: &[Value],
+) -> Result<(), AllocError>
+    ensures { let old = plain state.old.invocations.items state.old.fresh.items state.old.waiting.items state.old.deferred.items state.old.cells.items state.old.outputs.items in
+        let new = plain state.new.invocations.items state.new.fresh.items state.new.waiting.items state.new.deferred.items state.new.cells.items state.new.outputs.items in
+        OnOk result (new ≡ performed checked.now old values.now deed.now) }
+{
+    match *deed {
+        Deed::Sends {
+            context,
+            node,
+            port,
+            value,
+        } => {
+            let sent = Sent { context, value };
+            send_from(
+                checked,
+                &state.invocations,
+                &mut state.fresh,
+                &sent,
                 node,
                 port,
-                value,
-            } => self.send(checked, Sent { context, value }, node, port),
-            Deed::Tells {
-                context,
-                cond,
-                value,
-            } => self.tell(checked, Sent { context, value }, cond),
-            Deed::Enters {
-                made,
-                block,
-                input,
-                value,
-            } => {
-                let context = number_of(&mut self.invocations, made, block)?;
-                enter(&mut self.fresh, Sent { context, value }, input)
-            }
-            Deed::EntersAll { made, block } => {
-                let context = number_of(&mut self.invocations, made, block)?;
-                enter_all(&mut self.fresh, context, &act.values)
-            }
-            Deed::Nothing => Ok(()),
-            Deed::Reads {
-                context,
-                node,
-                cell,
-            } => match self.cell(cell) {
-                Some(value) => self.send(checked, Sent { context, value }, node, 0),
-                None => Ok(()),
-            },
-            Deed::Fills {
-                context,
-                node,
-                cell,
-                value,
-                ..
-            } => {
-                self.fill(cell, value);
-                self.wake()?;
-                self.send(checked, Sent { context, value }, node, 0)
-            }
-            Deed::Puts { number, value } => {
-                self.put(number, value);
-                Ok(())
-            }
+            )
+        }
+        Deed::Tells {
+            context,
+            cond,
+            value,
+        } => {
+            let sent = Sent { context, value };
+            tell_from(checked, &state.invocations, &mut state.fresh, &sent, cond)
+        }
+        Deed::Enters {
+            made,
+            block,
+            input,
+            value,
+        } => {
+            let context = number_of(&mut state.invocations, &made, block)?;
+            let sent = Sent { context, value };
+            enter(&mut state.fresh, &sent, input)
+        }
+        Deed::EntersAll { made, block } => {
+            let context = number_of(&mut state.invocations, &made, block)?;
+            enter_all(&mut state.fresh, context, values)
+        }
+        Deed::Stops => Ok(()),
+        Deed::Reads {
+            context,
+            node,
+            cell,
+        } => answer(checked, state, context, node, cell),
+        Deed::Fills {
+            context,
+            node,
+            cell,
+            value,
+            ..
+        } => {
+            let sent = Sent { context, value };
+            fill_cell(checked, state, &sent, node, cell)
+        }
+        Deed::Puts { number, value } => {
+            fill(&mut state.outputs, number, value);
+            Ok(())
         }
     }
+}
+
+/// Sends what a cell holds.
+fn answer<'a, A: Allocator>(
+    checked: &Checked<'a, A>,
+    state: &mut State<A>,
+    context: usize,
+    node: usize,
+    cell: usize,
+) -> Result<(), AllocError>
+    ensures { let old = plain state.old.invocations.items state.old.fresh.items state.old.waiting.items state.old.deferred.items state.old.cells.items state.old.outputs.items in
+        let new = plain state.new.invocations.items state.new.fresh.items state.new.waiting.items state.new.deferred.items state.new.cells.items state.new.outputs.items in
+        OnOk result (new ≡ performed checked.now old [] (Deed.Reads context node cell)) }
+{
+    match held(&state.cells, cell) {
+        Some(value) => {
+            let sent = Sent { context, value };
+            send_from(
+                checked,
+                &state.invocations,
+                &mut state.fresh,
+                &sent,
+                node,
+                0,
+            )
+        }
+        None => Ok(()),
+    }
+}
+
+/// Fills a cell, sends the value, and has the deferred fetches looked at again.
+fn fill_cell<'a, A: Allocator>(
+    checked: &Checked<'a, A>,
+    state: &mut State<A>,
+    sent: &Sent,
+    node: usize,
+    cell: usize,
+) -> Result<(), AllocError>
+    ensures { let old = plain state.old.invocations.items state.old.fresh.items state.old.waiting.items state.old.deferred.items state.old.cells.items state.old.outputs.items in
+        let new = plain state.new.invocations.items state.new.fresh.items state.new.waiting.items state.new.deferred.items state.new.cells.items state.new.outputs.items in
+        OnOk result (new ≡ performed checked.now old [] (Deed.Fills sent.now.context node cell 0 0 sent.now.value)) }
+{
+    fill(&mut state.cells, cell, sent.value);
+    wake(&mut state.fresh, &mut state.deferred)?;
+    send_from(
+        checked,
+        &state.invocations,
+        &mut state.fresh,
+        sent,
+        node,
+        0,
+    )
 }

@@ -1,0 +1,4 @@
+mod Counting
+mod DeedLaws
+mod Resolved
+mod Sends
