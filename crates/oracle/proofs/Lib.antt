@@ -1,4 +1,6 @@
+mod Acts
 mod Counting
 mod DeedLaws
+mod Partners
 mod Resolved
 mod Sends

@@ -117,6 +117,11 @@ returned_deed Main j v = None
 returned_deed (Called c n) j v = Some (Sends c n j v)
 returned_deed (Turned c n i) j v = None
 
+abbrev pub shown_deed : Made → ℕ → Value → Option Deed
+shown_deed Main j v = Some (Puts j v)
+shown_deed (Called c n) j v = None
+shown_deed (Turned c n i) j v = None
+
 -- what an activity of a shape does
 abbrev pub deed_in : Graph → ℕ → Invocation → Shape → List Value → Option Deed
 deed_in g c x (Fires n k) vs = fires_deed g c x.block n vs
@@ -124,7 +129,7 @@ deed_in g c x (Gates n) (v ∷ b ∷ []) = gated_deed c n (line_of g x.block n) 
 deed_in g c x (Passes n i) (v ∷ []) = passed_deed c n i (line_of g x.block n) v
 deed_in g c x (Returns j) (v ∷ []) = returned_deed x.made j v
 deed_in g c x (Turns j) (b ∷ v ∷ []) = turned_deed x.made x.block j b v
-deed_in g c x (Outputs j) (v ∷ []) = Some (Puts j v)
+deed_in g c x (Outputs j) (v ∷ []) = shown_deed x.made j v
 deed_in g c x shape vs = None
 
 -- PARTNERS. Where a token is at that spot of that invocation, counted from a first number on.

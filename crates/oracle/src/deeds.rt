@@ -368,6 +368,16 @@ fn returned(invocation: Invocation, number: usize, value: Value) -> Option<Deed>
     }
 }
 
+/// What a result of main does.
+fn shown(invocation: Invocation, number: usize, value: Value) -> Option<Deed>
+    ensures { result ≡ Acting.shown_deed invocation.made number value }
+{
+    match invocation.made {
+        Made::Main => Some(Deed::Puts { number, value }),
+        _ => None,
+    }
+}
+
 /// What an activity of that shape does in an invocation.
 pub fn deed_of<'a, A: Allocator>(
     checked: &Checked<'a, A>,
@@ -392,10 +402,7 @@ pub fn deed_of<'a, A: Allocator>(
         }
         (Shape::Returns { number }, [value]) => returned(invocation, number, *value),
         (Shape::Turns { number }, [flag, value]) => turned(invocation, number, *flag, *value),
-        (Shape::Outputs { number }, [value]) => Some(Deed::Puts {
-            number,
-            value: *value,
-        }),
+        (Shape::Outputs { number }, [value]) => shown(invocation, number, *value),
         _ => None,
     }
 }
