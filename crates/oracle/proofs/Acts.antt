@@ -28,7 +28,8 @@ use Rattle.oracle.specs.declared.deeds.Deed.TheVariants.{Sends, Tells, Enters, E
 use Rattle.oracle.specs.Lines.{line_of, line_in, line_of_row, resolved_in, origin_of}
 use Rattle.oracle.specs.Acting.{line_deed, fires_deed, input_deed, fired_deed, gated_deed, passed_deed, turned_deed, returned_deed, shown_deed, next_turn, deed_in, node_gated, node_passed}
 use Rattle.oracle.specs.Meant.{name_in, made_of, deed_of, activity_of}
-use Rattle.oracle.proofs.Resolved.{block_in, row_in, block_same, rows_same}
+use Rattle.oracle.specs.Agreeing.{block_in, row_in}
+use Rattle.oracle.proofs.Resolved.{block_same, rows_same}
 use Rattle.oracle.proofs.DeedLaws.{fired_same, passed_same}
 
 mapped : (cs : List Context) (vs : List Value) (o : Option Deed) (d : Deed) → o ≡ Some d → option_map (deed_of cs vs) o ≡ Some (deed_of cs vs d)

@@ -4,3 +4,4 @@ mod DeedLaws
 mod Partners
 mod Resolved
 mod Sends
+mod ShapeLaws

@@ -11,6 +11,7 @@ use Rattle.oracle.specs.declared.tokens.Spot.{Spot}
 use Rattle.oracle.specs.declared.tokens.Spot.TheVariants.{Operand, Predicate, Out, Flag, Carried}
 use Rattle.oracle.specs.declared.tokens.Token.{Token}
 use Rattle.oracle.specs.Lines.{same_spot}
+use Rattle.oracle.specs.Agreeing.{token_of, zipped, own}
 use Rattle.oracle.specs.Acting.{is_at, find_from, without, value_of, value_at, left_after, value_here, left_of, values_of}
 
 both : (a b : Bool) → (a && b) ≡ true → (a ≡ true) × (b ≡ true)
@@ -24,14 +25,6 @@ spot_same (Out i) (Out j) h = ap Out (eqb-true i j h)
 spot_same (Flag i) (Flag j) h = ap Flag (eqb-true i j h)
 spot_same (Carried i) (Carried j) h = ap Carried (eqb-true i j h)
 spot_same s t h = cc
-
-abbrev pub token_of : ℕ → Spot → Value → Token
-token_of c s v = record { context = c; spot = s; value = v }
-
-abbrev pub zipped : ℕ → List Spot → List Value → List Token
-zipped c [] vs = []
-zipped c (s ∷ ss) [] = []
-zipped c (s ∷ ss) (v ∷ vs) = token_of c s v ∷ zipped c ss vs
 
 at_same : (c : ℕ) (s : Spot) (t : Token) → is_at c s t ≡ true → t ≡ token_of c s t.value
 at_same c s t h =
@@ -65,10 +58,6 @@ removed c s k ts h =
     let perm : IsPermutation ts (u ∷ remove ts k) = IsPermutation-remove ts k u (get_below ts k u here) (get_of ts k u u here) in
     (u.value, here ∙ ap Some f.4, subst (λ w. IsPermutation ts (w ∷ remove ts k)) f.4 perm)
 
-abbrev pub own : Token → List Spot → ℕ
-own t [] = 0
-own t (s ∷ ss) = if same_spot s t.spot then suc (own t ss) else own t ss
-
 value_of_few : (o : Option Token) → length (value_of o) ≤ 1
 value_of_few None = omega arith
 value_of_few (Some t) = omega arith
@@ -90,13 +79,13 @@ values_few t (s ∷ ss) ts =
 
 -- TAKING
 
-others : (t : Token) (ss : List Spot) (ts : List Token) → own t ss ≡ 0 → length (values_of t ss ts) ≡ length ss → IsPermutation ts (zipped t.context ss (values_of t ss ts) ++ left_of t ss ts)
+others : (t : Token) (ss : List Spot) (ts : List Token) → own t.spot ss ≡ 0 → length (values_of t ss ts) ≡ length ss → IsPermutation ts (zipped t.context ss (values_of t ss ts) ++ left_of t ss ts)
 others t [] ts none full = IsPermutation-refl ts
 others t (s ∷ ss) ts none full =
     let c = t.context in
     let goal : List Value → List Token → Type 0 = λ vs left. IsPermutation ts (zipped c (s ∷ ss) (vs ++ values_of t ss left) ++ left_of t ss left) in
-    let found : (o : Option ℕ) → find_from c s 0 ts ≡ o → own t ss ≡ 0 → length (value_at ts o ++ values_of t ss (without ts o)) ≡ suc (length ss) → goal (value_at ts o) (without ts o)
-    = λ o. elim o as (λ o. find_from c s 0 ts ≡ o → own t ss ≡ 0 → length (value_at ts o ++ values_of t ss (without ts o)) ≡ suc (length ss) → goal (value_at ts o) (without ts o)) [
+    let found : (o : Option ℕ) → find_from c s 0 ts ≡ o → own t.spot ss ≡ 0 → length (value_at ts o ++ values_of t ss (without ts o)) ≡ suc (length ss) → goal (value_at ts o) (without ts o)
+    = λ o. elim o as (λ o. find_from c s 0 ts ≡ o → own t.spot ss ≡ 0 → length (value_at ts o ++ values_of t ss (without ts o)) ≡ suc (length ss) → goal (value_at ts o) (without ts o)) [
         None ↦ λ e z l. let few = values_few t ss ts in absurd (omega (arith, few, l))
       | Some k ↦ λ e z l.
           let r = removed c s k ts e in
@@ -106,23 +95,23 @@ others t (s ∷ ss) ts none full =
           let long : length (values_of t ss rest) ≡ length ss = let m = ap (λ vs. length (vs ++ values_of t ss rest)) at in omega (arith, l, m) in
           let more = others t ss rest z long in
           subst (λ vs. goal vs rest) (sym at) (IsPermutation-trans _ _ _ r.2 (IsPermutation-append_right (token_of c s v ∷ []) rest (zipped c ss (values_of t ss rest) ++ left_of t ss rest) more)) ] in
-    let cases : (b : Bool) → (if b then suc (own t ss) else own t ss) ≡ 0
+    let cases : (b : Bool) → (if b then suc (own t.spot ss) else own t.spot ss) ≡ 0
         → length ((if b then t.value ∷ [] else value_at ts (find_from c s 0 ts)) ++ values_of t ss (if b then ts else without ts (find_from c s 0 ts))) ≡ suc (length ss)
         → goal (if b then t.value ∷ [] else value_at ts (find_from c s 0 ts)) (if b then ts else without ts (find_from c s 0 ts))
-    = λ b. elim b as (λ b. (if b then suc (own t ss) else own t ss) ≡ 0
+    = λ b. elim b as (λ b. (if b then suc (own t.spot ss) else own t.spot ss) ≡ 0
         → length ((if b then t.value ∷ [] else value_at ts (find_from c s 0 ts)) ++ values_of t ss (if b then ts else without ts (find_from c s 0 ts))) ≡ suc (length ss)
         → goal (if b then t.value ∷ [] else value_at ts (find_from c s 0 ts)) (if b then ts else without ts (find_from c s 0 ts))) [
         true ↦ λ z l. absurd (omega (arith, z))
       | false ↦ λ z l. found (find_from c s 0 ts) refl z l ] in
     cases (same_spot s t.spot) none full
 
-pub taken_out : (t : Token) (ss : List Spot) (ts : List Token) → own t ss ≡ 1 → length (values_of t ss ts) ≡ length ss → IsPermutation (t ∷ ts) (zipped t.context ss (values_of t ss ts) ++ left_of t ss ts)
+pub taken_out : (t : Token) (ss : List Spot) (ts : List Token) → own t.spot ss ≡ 1 → length (values_of t ss ts) ≡ length ss → IsPermutation (t ∷ ts) (zipped t.context ss (values_of t ss ts) ++ left_of t ss ts)
 taken_out t [] ts one full = absurd (omega (arith, one))
 taken_out t (s ∷ ss) ts one full =
     let c = t.context in
     let goal : List Value → List Token → Type 0 = λ vs left. IsPermutation (t ∷ ts) (zipped c (s ∷ ss) (vs ++ values_of t ss left) ++ left_of t ss left) in
-    let found : (o : Option ℕ) → find_from c s 0 ts ≡ o → own t ss ≡ 1 → length (value_at ts o ++ values_of t ss (without ts o)) ≡ suc (length ss) → goal (value_at ts o) (without ts o)
-    = λ o. elim o as (λ o. find_from c s 0 ts ≡ o → own t ss ≡ 1 → length (value_at ts o ++ values_of t ss (without ts o)) ≡ suc (length ss) → goal (value_at ts o) (without ts o)) [
+    let found : (o : Option ℕ) → find_from c s 0 ts ≡ o → own t.spot ss ≡ 1 → length (value_at ts o ++ values_of t ss (without ts o)) ≡ suc (length ss) → goal (value_at ts o) (without ts o)
+    = λ o. elim o as (λ o. find_from c s 0 ts ≡ o → own t.spot ss ≡ 1 → length (value_at ts o ++ values_of t ss (without ts o)) ≡ suc (length ss) → goal (value_at ts o) (without ts o)) [
         None ↦ λ e z l. let few = values_few t ss ts in absurd (omega (arith, few, l))
       | Some k ↦ λ e z l.
           let r = removed c s k ts e in
@@ -136,14 +125,14 @@ taken_out t (s ∷ ss) ts one full =
           let second = permutation_exchange (t ∷ []) (u ∷ []) rest in
           let third = IsPermutation-append_right (u ∷ []) (t ∷ rest) (zipped c ss (values_of t ss rest) ++ left_of t ss rest) more in
           subst (λ vs. goal vs rest) (sym at) (IsPermutation-trans _ _ _ (IsPermutation-trans _ _ _ first second) third) ] in
-    let cases : (b : Bool) → same_spot s t.spot ≡ b → (if b then suc (own t ss) else own t ss) ≡ 1
+    let cases : (b : Bool) → same_spot s t.spot ≡ b → (if b then suc (own t.spot ss) else own t.spot ss) ≡ 1
         → length ((if b then t.value ∷ [] else value_at ts (find_from c s 0 ts)) ++ values_of t ss (if b then ts else without ts (find_from c s 0 ts))) ≡ suc (length ss)
         → goal (if b then t.value ∷ [] else value_at ts (find_from c s 0 ts)) (if b then ts else without ts (find_from c s 0 ts))
-    = λ b. elim b as (λ b. same_spot s t.spot ≡ b → (if b then suc (own t ss) else own t ss) ≡ 1
+    = λ b. elim b as (λ b. same_spot s t.spot ≡ b → (if b then suc (own t.spot ss) else own t.spot ss) ≡ 1
         → length ((if b then t.value ∷ [] else value_at ts (find_from c s 0 ts)) ++ values_of t ss (if b then ts else without ts (find_from c s 0 ts))) ≡ suc (length ss)
         → goal (if b then t.value ∷ [] else value_at ts (find_from c s 0 ts)) (if b then ts else without ts (find_from c s 0 ts))) [
         true ↦ λ q z l.
-          let none : own t ss ≡ 0 = omega (arith, z) in
+          let none : own t.spot ss ≡ 0 = omega (arith, z) in
           let long : length (values_of t ss ts) ≡ length ss = omega (arith, l) in
           let is : t ≡ token_of c s t.value = ap (λ k. token_of c k t.value) (sym (spot_same s t.spot q)) in
           let more = IsPermutation-append_right (t ∷ []) ts (zipped c ss (values_of t ss ts) ++ left_of t ss ts) (others t ss ts none long) in

@@ -1,19 +1,12 @@
 -- Looking up in a graph with names, and in the graph with places.
-use Rattle.std.proofs.Common.{◌≡◌, ℕ, zero, suc, ◌+◌, ◌-◌, Bool, true, false, List, [], ◌∷◌, map, length, sum, take, Option, Some, None, nat_lt, slice_get, slice_index_or, if◌then◌else◌, refl, sym, ap, ◌∙◌}
+use Rattle.std.proofs.Common.{◌≡◌, ℕ, zero, suc, ◌+◌, ◌-◌, Bool, true, false, List, [], ◌∷◌, map, length, sum, take, Option, Some, None, nat_lt, slice_get, slice_index_or, if◌then◌else◌, ◌≤◌, refl, sym, ap, ◌∙◌, arith}
 use Rattle.std.specs.Prelude.{option_map}
 use Rattle.std.proofs.lemmas.Option.{slice_get-map}
 use Rattle.std.proofs.lemmas.List.Sums.{sum_by-cons}
 use Rattle.semantics.specs.Graph.{Node as Row, Block, Graph, Flow, flow_of, node_at, first_cell, array_len, resolved_block, resolved_kind, array_names, block_names}
-use Rattle.semantics.specs.Meaning.{block_numbered}
-use Rattle.oracle.specs.declared.lines.Line.{Line}
-use Rattle.oracle.specs.declared.lines.Line.TheVariants.{Input, Node, Nothing}
-use Rattle.oracle.specs.Lines.{line_of, line_in, line_of_row, resolved_in, first_of, len_of, len_in}
-
-abbrev pub block_in : Graph → List ℕ × Block (List ℕ) → Block ℕ
-block_in g b = resolved_block (array_names g) (block_names g) b.1
-
-abbrev pub row_in : Graph → Row (List ℕ) → Row ℕ
-row_in g n = record { region = n.region; kind = resolved_in g n.kind; sources = n.sources }
+use Rattle.semantics.specs.Text.{HasText}
+use Rattle.oracle.specs.Lines.{first_of, len_of, total_of}
+use Rattle.oracle.specs.Agreeing.{block_in, row_in}
 
 pub block_same : (g : Graph) (k : ℕ) → slice_get (flow_of g).blocks k ≡ option_map (block_in g) (slice_get g.blocks k)
 block_same g k = slice_get-map (block_in g) g.blocks k
@@ -32,3 +25,11 @@ pub lens_same : (arrays : List (List ℕ × ℕ)) (a : ℕ) → len_of arrays a 
 lens_same [] a = refl
 lens_same (x ∷ xs) zero = refl
 lens_same (x ∷ xs) (suc a) = lens_same xs a
+
+totals_same : (arrays : List (List ℕ × ℕ)) → total_of arrays ≡ sum (map (λ (x : List ℕ × ℕ). x.1) arrays)
+totals_same [] = refl
+totals_same (x ∷ xs) = ap (λ n. x.1 + n) (totals_same xs) ∙ sym (sum_by-cons (λ (n : ℕ). n) x.1 (map (λ (x : List ℕ × ℕ). x.1) xs))
+
+-- a graph that has a text has few cells
+pub few_cells : (g : Graph) → HasText g → total_of g.arrays ≤ 65536
+few_cells g text = let few = text.cells in omega (arith, few, totals_same g.arrays)

@@ -14,7 +14,7 @@ use Rattle.oracle.specs.declared.tokens.Token.{Token}
 use Rattle.oracle.specs.declared.tokens.Spot.TheVariants.{Operand, Out, Flag, Carried}
 use Rattle.oracle.specs.Sending.{operand_tokens, node_tokens, flag_tokens, turned_tokens, result_tokens, results_tokens, sent_tokens, token_at, is_port_of}
 use Rattle.oracle.specs.Meant.{name_in, tagged_of, made_of}
-use Rattle.oracle.proofs.Resolved.{row_in, block_in}
+use Rattle.oracle.specs.Agreeing.{row_in, block_in}
 
 -- tokens with one value in one invocation, one for each use
 abbrev at_uses : Context → Value → List (Statement × Port) → List Tagged

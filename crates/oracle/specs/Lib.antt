@@ -1,4 +1,5 @@
 pub mod Acting
+pub mod Agreeing
 pub mod Lines
 pub mod Meant
 pub mod Running

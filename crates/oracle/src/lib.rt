@@ -5,6 +5,7 @@
 mod deeds;
 mod gather;
 mod invocations;
+mod laws;
 mod lines;
 mod runs;
 mod report;
@@ -14,6 +15,7 @@ mod state;
 mod tokens;
 
 pub use runs::mean;
+pub use laws::steps_agree;
 pub use report::{Full, MeanEnd, MeanFault, MeanReport};
 
 #[cfg(test)]

@@ -1,6 +1,7 @@
 //! Runs of the meaning.
 
 ghost use Rattle.std.specs.Prelude.{◌≡◌, ◌≢◌, ◌↔◌, ◌≤◌, ◌++◌, map, length, IfOk, OnOk};
+ghost use Rattle.semantics.specs.Text.{HasText};
 ghost use Rattle.oracle.specs.Lines.{total_of, inputs_at};
 ghost use Rattle.oracle.specs.Sending.{entering_tokens};
 ghost use Rattle.oracle.specs.Running.{plain, run_of, nones, no_cells, start_of, main_place, full_if, full_from, full_in, told};
@@ -209,7 +210,7 @@ pub fn mean<'a, A: Allocator + Clone>(
     inputs: &[i64],
     steps: u64,
 ) -> Result<MeanReport<A>, MeanFault>
-    requires limits { total_of checked.now.arrays ≤ 65536 }
+    requires limits { HasText checked.now }
     ensures wrong { result ≡ Err MeanFault.WrongInputs ↔ (length inputs.now ≢ inputs_at checked.now (main_place checked.now)) }
     ensures told { IfOk result (λ r. told checked.now inputs.now steps ≡ Some (r.end, r.outputs.items, r.cells.items)) }
 {
