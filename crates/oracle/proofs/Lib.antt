@@ -1,6 +1,9 @@
 mod Acts
 mod Counting
 mod DeedLaws
+mod Joining
+mod Known
+mod Naming
 mod Partners
 mod Resolved
 mod Sends

@@ -70,7 +70,7 @@ fn full(array: usize, index: u32, number: i64) -> Full {
     }
 }
 
-/// What a text means, where the prover knows that it is one.
+/// What a text means.
 fn meaning<A: Allocator + Clone>(
     rt: &impl Abort,
     alloc: A,
@@ -281,6 +281,38 @@ fn wants_as_many_inputs(rt: HostRuntime) -> Result<(), Fail> {
     for inputs in [[].as_slice(), [2].as_slice(), [1, 2, 3].as_slice()] {
         let fault = meaning(&rt, rt.alloc(), ADD, inputs, ENOUGH).err();
         assert_eq!(rt; fault, Some(MeanFault::WrongInputs));
+    }
+    Ok(())
+}
+
+/// With one growth refused a run is as it would be, or tells that memory ran out.
+fn rationed_rests<B: Allocator + Clone>(
+    rt: &impl Abort,
+    inner: B,
+    text: &[u8],
+    inputs: &[i64],
+    ration: u64,
+) -> Result<(), Fail> {
+    let plenty = Rationed::new(inner.clone()?, 0);
+    let scarce = Rationed::new(inner, ration);
+    let Ok(graph) = graph_file::read(&plenty, text) else {
+        rt.exit(101)
+    };
+    let Ok(checked) = graph_check::check(graph) else {
+        rt.exit(102)
+    };
+    match mean(&scarce, &checked, inputs, ENOUGH) {
+        Ok(report) => assert_eq!(rt; report.end, MeanEnd::Rest),
+        Err(fault) => assert_eq!(rt; fault, MeanFault::Memory),
+    }
+    Ok(())
+}
+
+#[test]
+fn tells_a_refused_growth(rt: HostRuntime) -> Result<(), Fail> {
+    for ration in 1..60 {
+        rationed_rests(&rt, rt.alloc(), READERS, &[8], ration)?;
+        rationed_rests(&rt, rt.alloc(), EARLY, &[4, 3], ration)?;
     }
     Ok(())
 }
