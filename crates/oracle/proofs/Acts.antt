@@ -58,10 +58,11 @@ module _ (g : Graph) (text : HasText g) (cs : List Context) (c block : ℕ) (is 
   row_law b n vs d (Some row) eb eh er e =
       let kind = resolved_in g row.kind in
       let here : (t : Bool) → (if t then fired_deed g c n kind vs (origin_of g.version block n) else None) ≡ Some d
-          → (if t then Meaning.fired (flow_of g) (name_in cs c) n kind vs else None) ≡ Some (deed_of cs vs d)
+      → (if t then Meaning.fired (flow_of g) (name_in cs c) n kind vs else None) ≡ Some (deed_of cs vs d)
       = λ t. elim t as (λ t. (if t then fired_deed g c n kind vs (origin_of g.version block n) else None) ≡ Some d → (if t then Meaning.fired (flow_of g) (name_in cs c) n kind vs else None) ≡ Some (deed_of cs vs d)) [
-          true ↦ λ e. sym (fired_same g cs c n kind vs) ∙ ap (λ o. option_map (deed_of cs vs) (fired_deed g c n kind vs o)) (sym (origin_same b n row eb eh er)) ∙ mapped cs vs _ d e
-        | false ↦ λ e. cc ] in
+        | true ↦ λ e. sym (fired_same g cs c n kind vs) ∙ ap (λ o. option_map (deed_of cs vs) (fired_deed g c n kind vs o)) (sym (origin_same b n row eb eh er)) ∙ mapped cs vs _ d e
+        | false ↦ λ e. cc
+      ] in
       here (length vs == length row.sources) e
 
   inputs_law : (n : ℕ) (vs : List Value) (d : Deed) → input_deed c n vs ≡ Some d → Meaning.input_passed (name_in cs c) n vs ≡ Some (deed_of cs vs d)
@@ -99,8 +100,9 @@ module _ (g : Graph) (text : HasText g) (cs : List Context) (c block : ℕ) (is 
   lines_law n h k d e none_in none_out rows b false eh is_d =
       let last : (o : Option (Row (List ℕ))) → h (line_of_row g o) ≡ Some d → on_node (option_map (row_in g) o) k ≡ Some e
       = λ o. elim o as (λ o. h (line_of_row g o) ≡ Some d → on_node (option_map (row_in g) o) k ≡ Some e) [
-          None ↦ λ q. let no : None ≡ Some d = sym none_out ∙ q in cc
-        | Some row ↦ λ q. rows row q ] in
+        | None ↦ λ q. let no : None ≡ Some d = sym none_out ∙ q in cc
+        | Some row ↦ λ q. rows row q
+      ] in
       ap (λ o. on_node o k) (rows_same g b n eh) ∙ last (slice_get b.1.nodes (n - b.1.inputs)) is_d
 
   all_lines : (n : ℕ) (h : Line → Option Deed) (k : Row ℕ → Option Meaning.Deed) (d : Deed) (e : Meaning.Deed) → h Input ≡ None → h Nothing ≡ None
@@ -109,8 +111,9 @@ module _ (g : Graph) (text : HasText g) (cs : List Context) (c block : ℕ) (is 
   all_lines n h k d e none_in none_out rows is_d =
       let last : (o : Option (List ℕ × Block (List ℕ))) → h (line_in g o n) ≡ Some d → on_block (option_map (block_in g) o) (λ (b : Block ℕ). on_node (node_at b n) k) ≡ Some e
       = λ o. elim o as (λ o. h (line_in g o n) ≡ Some d → on_block (option_map (block_in g) o) (λ (b : Block ℕ). on_node (node_at b n) k) ≡ Some e) [
-          None ↦ λ q. let no : None ≡ Some d = sym none_out ∙ q in cc
-        | Some b ↦ λ q. lines_law n h k d e none_in none_out rows b (nat_lt n b.1.inputs) refl q ] in
+        | None ↦ λ q. let no : None ≡ Some d = sym none_out ∙ q in cc
+        | Some b ↦ λ q. lines_law n h k d e none_in none_out rows b (nat_lt n b.1.inputs) refl q
+      ] in
       ap (λ o. on_block o (λ (b : Block ℕ). on_node (node_at b n) k)) found ∙ last (slice_get g.blocks block) is_d
 
   gate_same : (n : ℕ) (v b : Value) (r : Region) (kind : Kind ℕ) → option_map (deed_of cs (v ∷ b ∷ [])) (node_gated c n r kind v b) ≡ Meaning.gated (name_in cs c) n v b r kind
@@ -135,18 +138,20 @@ turn_law : (g : Graph) (cs : List Context) (c by n i block j : ℕ) (b v : Value
     → deed (flow_of g) (Meaning.Turns (name_in cs by) n i j b v) ≡ Some (deed_of cs (b ∷ v ∷ []) d)
 turn_law g cs c by n i block j b v d e =
     let goes : (t : Bool) → (if t then next_turn by n i block j v else Some (Sends by n (j - 1) v)) ≡ Some d
-        → Some (Meaning.Says (if t then Meaning.Enters (Meaning.Turned (name_in cs by) n (i + 1)) (j - 1) (v ∷ []) else Meaning.Sends (name_in cs by) n (j - 1) v)) ≡ Some (deed_of cs (b ∷ v ∷ []) d)
+    → Some (Meaning.Says (if t then Meaning.Enters (Meaning.Turned (name_in cs by) n (i + 1)) (j - 1) (v ∷ []) else Meaning.Sends (name_in cs by) n (j - 1) v)) ≡ Some (deed_of cs (b ∷ v ∷ []) d)
     = λ t. elim t as (λ t. (if t then next_turn by n i block j v else Some (Sends by n (j - 1) v)) ≡ Some d
-        → Some (Meaning.Says (if t then Meaning.Enters (Meaning.Turned (name_in cs by) n (i + 1)) (j - 1) (v ∷ []) else Meaning.Sends (name_in cs by) n (j - 1) v)) ≡ Some (deed_of cs (b ∷ v ∷ []) d)) [
-        true ↦
+    → Some (Meaning.Says (if t then Meaning.Enters (Meaning.Turned (name_in cs by) n (i + 1)) (j - 1) (v ∷ []) else Meaning.Sends (name_in cs by) n (j - 1) v)) ≡ Some (deed_of cs (b ∷ v ∷ []) d)) [
+      | true ↦
           let small : (u : Bool) → (if u then Some (Enters (Turned by n (i + 1)) block (j - 1) v) else None) ≡ Some d
-              → Some (Meaning.Says (Meaning.Enters (Meaning.Turned (name_in cs by) n (i + 1)) (j - 1) (v ∷ []))) ≡ Some (deed_of cs (b ∷ v ∷ []) d)
+          → Some (Meaning.Says (Meaning.Enters (Meaning.Turned (name_in cs by) n (i + 1)) (j - 1) (v ∷ []))) ≡ Some (deed_of cs (b ∷ v ∷ []) d)
           = λ u. elim u as (λ u. (if u then Some (Enters (Turned by n (i + 1)) block (j - 1) v) else None) ≡ Some d
-              → Some (Meaning.Says (Meaning.Enters (Meaning.Turned (name_in cs by) n (i + 1)) (j - 1) (v ∷ []))) ≡ Some (deed_of cs (b ∷ v ∷ []) d)) [
-              true ↦ λ q. mapped cs (b ∷ v ∷ []) _ d q
-            | false ↦ λ q. cc ] in
+          → Some (Meaning.Says (Meaning.Enters (Meaning.Turned (name_in cs by) n (i + 1)) (j - 1) (v ∷ []))) ≡ Some (deed_of cs (b ∷ v ∷ []) d)) [
+            | true ↦ λ q. mapped cs (b ∷ v ∷ []) _ d q
+            | false ↦ λ q. cc
+          ] in
           small (nat_lt (i + 1) (2 ^ 64))
-      | false ↦ λ q. mapped cs (b ∷ v ∷ []) _ d q ] in
+      | false ↦ λ q. mapped cs (b ∷ v ∷ []) _ d q
+    ] in
     goes (truth b) e
 
 -- The deed of an activity's shape is the activity's own.
@@ -163,16 +168,25 @@ act_law g text cs c x is (Passes n i) (v ∷ w ∷ vs) d e = cc
 act_law g text cs c x is (Returns j) [] d e = cc
 act_law g text cs c x is (Returns j) (v ∷ []) d e =
     elim x.made as (λ made. returned_deed made j v ≡ Some d → deed (flow_of g) (activity_of cs c made (Returns j) (v ∷ [])) ≡ Some (deed_of cs (v ∷ []) d)) [
-      Main ↦ λ q. cc | Called by n ↦ λ q. mapped cs (v ∷ []) _ d q | Turned by n i ↦ λ q. cc ] e
+      | Main ↦ λ q. cc
+      | Called by n ↦ λ q. mapped cs (v ∷ []) _ d q
+      | Turned by n i ↦ λ q. cc
+    ] e
 act_law g text cs c x is (Returns j) (v ∷ w ∷ vs) d e = cc
 act_law g text cs c x is (Turns j) [] d e = cc
 act_law g text cs c x is (Turns j) (v ∷ []) d e = cc
 act_law g text cs c x is (Turns j) (b ∷ v ∷ []) d e =
     elim x.made as (λ made. turned_deed made x.block j b v ≡ Some d → deed (flow_of g) (activity_of cs c made (Turns j) (b ∷ v ∷ [])) ≡ Some (deed_of cs (b ∷ v ∷ []) d)) [
-      Main ↦ λ q. cc | Called by n ↦ λ q. cc | Turned by n i ↦ λ q. turn_law g cs c by n i x.block j b v d q ] e
+      | Main ↦ λ q. cc
+      | Called by n ↦ λ q. cc
+      | Turned by n i ↦ λ q. turn_law g cs c by n i x.block j b v d q
+    ] e
 act_law g text cs c x is (Turns j) (b ∷ v ∷ w ∷ vs) d e = cc
 act_law g text cs c x is (Outputs j) [] d e = cc
 act_law g text cs c x is (Outputs j) (v ∷ []) d e =
     elim x.made as (λ made. shown_deed made j v ≡ Some d → deed (flow_of g) (activity_of cs c made (Outputs j) (v ∷ [])) ≡ Some (deed_of cs (v ∷ []) d)) [
-      Main ↦ λ q. mapped cs (v ∷ []) _ d q | Called by n ↦ λ q. cc | Turned by n i ↦ λ q. cc ] e
+      | Main ↦ λ q. mapped cs (v ∷ []) _ d q
+      | Called by n ↦ λ q. cc
+      | Turned by n i ↦ λ q. cc
+    ] e
 act_law g text cs c x is (Outputs j) (v ∷ w ∷ vs) d e = cc

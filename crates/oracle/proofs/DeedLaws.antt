@@ -58,4 +58,15 @@ fired_same g cs c n kind (v ∷ w ∷ u ∷ us) = refl
 
 pub passed_same : (cs : List Context) (c n i : ℕ) (kind : Kind ℕ) (v : Value) → option_map (deed_of cs (v ∷ [])) (node_passed c n i kind v) ≡ Meaning.passed (name_in cs c) n i v kind
 passed_same cs c n i kind v = elim kind as (λ kind. option_map (deed_of cs (v ∷ [])) (node_passed c n i kind v) ≡ Meaning.passed (name_in cs c) n i v kind) [
-  Lit z ↦ refl | Apply1 op ↦ refl | Apply2 op ↦ refl | Cond ↦ refl | Enter ↦ refl | Merge k ↦ refl | Fetch a ↦ refl | Store a ↦ refl | Call f ↦ refl | StrictCall f ↦ refl | Loop f k ↦ refl ]
+  | Lit z ↦ refl
+  | Apply1 op ↦ refl
+  | Apply2 op ↦ refl
+  | Cond ↦ refl
+  | Enter ↦ refl
+  | Merge k ↦ refl
+  | Fetch a ↦ refl
+  | Store a ↦ refl
+  | Call f ↦ refl
+  | StrictCall f ↦ refl
+  | Loop f k ↦ refl
+]

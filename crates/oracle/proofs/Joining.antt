@@ -37,8 +37,9 @@ module _ (g : Graph) (text : HasText g) (cs : List Context) (t : Token) (x : Inv
       let vs = values_of t ss w in
       let counted : (b : Bool) → (length vs == length ss) ≡ b → IsJoin g cs t w (if b then joins (left_of t ss w) vs (deed_in g t.context x shape vs) else Fails)
       = λ b. elim b as (λ b. (length vs == length ss) ≡ b → IsJoin g cs t w (if b then joins (left_of t ss w) vs (deed_in g t.context x shape vs) else Fails)) [
-          true ↦ λ q. deeds shape e (eqb-true (length vs) (length ss) q) (deed_in g t.context x shape vs) refl
-        | false ↦ λ q. tt ] in
+        | true ↦ λ q. deeds shape e (eqb-true (length vs) (length ss) q) (deed_in g t.context x shape vs) refl
+        | false ↦ λ q. tt
+      ] in
       elim (all_there t ss w) as (λ b. IsJoin g cs t w (if b then join_all g w t x shape else Alone)) [ true ↦ counted (length vs == length ss) refl | false ↦ tt ]
 
 pub join_law : (g : Graph) → HasText g → (cs : List Context) (t : Token) (x : Invocation) → made_of cs x.made ≡ name_in cs t.context → block_number (flow_of g) (name_in cs t.context) ≡ Some x.block

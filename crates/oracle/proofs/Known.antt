@@ -26,27 +26,8 @@ use Rattle.oracle.specs.Lines.{line_of, line_in, line_of_row, resolved_in, origi
 use Rattle.oracle.specs.Acting.{line_deed, fires_deed, input_deed, fired_deed, one_deed, two_deed, fetch_deed, store_deed, gated_deed, passed_deed, turned_deed, returned_deed, shown_deed, next_turn, deed_in, node_gated, node_passed, gate_deed}
 use Rattle.oracle.specs.Meant.{name_in, made_of}
 use Rattle.oracle.specs.Agreeing.{block_in, row_in}
+use Rattle.oracle.specs.Naming.{IsBelow, CanEnter, IsKnown}
 use Rattle.oracle.proofs.Resolved.{block_same, rows_same}
-
-abbrev pub IsBelow : ℕ → Made → Type 0
-IsBelow m Main = ⊤
-IsBelow m (Called by n) = by < m
-IsBelow m (Turned by n i) = by < m
-
--- an invocation of that block can be made there
-abbrev pub CanEnter : Graph → List Context → ℕ → Made → ℕ → Type 0
-CanEnter g cs m made block = IsBelow m made × (block_number (flow_of g) (made_of cs made) ≡ Some block)
-
--- of so many invocations
-abbrev pub IsKnown : Graph → List Context → ℕ → List Value → Deed → Type 0
-IsKnown g cs m vs (Sends c n p v) = c < m
-IsKnown g cs m vs (Tells c k v) = c < m
-IsKnown g cs m vs (Enters made f i v) = CanEnter g cs m made f
-IsKnown g cs m vs (EntersAll made f) = CanEnter g cs m made f
-IsKnown g cs m vs Stops = ⊤
-IsKnown g cs m vs (Reads c n x) = (c < m) × (length vs ≡ 1)
-IsKnown g cs m vs (Fills c n x a i v) = (c < m) × (x ≡ first_of g.arrays a + i) × (i < len_of g.arrays a)
-IsKnown g cs m vs (Puts j v) = ⊤
 
 abbrev KnownIf : Graph → List Context → ℕ → List Value → Option Deed → Type 0
 KnownIf g cs m vs None = ⊤
@@ -60,8 +41,9 @@ store_known : (g : Graph) (cs : List Context) (vs : List Value) (m c n a len : �
 store_known g cs vs m c n a len (Int (pos i)) w o e h =
     let cases : (b : Bool) → nat_lt i len ≡ b → IsKnown g cs m vs (store_deed c n (first_of g.arrays a) a w (if b then Place i else Outside (Fault Range o)))
     = λ b. elim b as (λ b. nat_lt i len ≡ b → IsKnown g cs m vs (store_deed c n (first_of g.arrays a) a w (if b then Place i else Outside (Fault Range o)))) [
-        true ↦ λ q. (h, refl, subst (λ k. i < k) e (ltb-true i len q))
-      | false ↦ λ q. h ] in
+      | true ↦ λ q. (h, refl, subst (λ k. i < k) e (ltb-true i len q))
+      | false ↦ λ q. h
+    ] in
     cases (nat_lt i len) refl
 store_known g cs vs m c n a len (Int (negsuc i)) w o e h = h
 store_known g cs vs m c n a len (Fault k p) w o e h = h
@@ -77,18 +59,21 @@ module _ (g : Graph) (cs : List Context) (m c block : ℕ) (low : c < m) (is : b
       let goal_in : Option (List ℕ × Block (List ℕ)) → Type 0 = λ o. block_of (flow_of g) (name_in cs c) ≡ option_map (block_in g) o → P (line_in g o n) in
       let blocks : (o : Option (List ℕ × Block (List ℕ))) → goal_in o
       = λ o. elim o as (λ o. goal_in o) [
-          None ↦ λ q. at_none
+        | None ↦ λ q. at_none
         | Some b ↦ λ q.
             let sides : (t : Bool) → nat_lt n b.1.inputs ≡ t → P (if t then Input else line_of_row g (slice_get b.1.nodes (n - b.1.inputs)))
             = λ t. elim t as (λ t. nat_lt n b.1.inputs ≡ t → P (if t then Input else line_of_row g (slice_get b.1.nodes (n - b.1.inputs)))) [
-                true ↦ λ e. at_input
+              | true ↦ λ e. at_input
               | false ↦ λ e.
                   let each : (r : Option (Row (List ℕ))) → slice_get b.1.nodes (n - b.1.inputs) ≡ r → P (line_of_row g r)
                   = λ r. elim r as (λ r. slice_get b.1.nodes (n - b.1.inputs) ≡ r → P (line_of_row g r)) [
-                      None ↦ λ z. at_none
-                    | Some row ↦ λ z. rows row (ap (λ o. callee_in o n) q ∙ ap callee_of (rows_same g b n e) ∙ ap (λ o. callee_of (option_map (row_in g) o)) z) ] in
-                  each (slice_get b.1.nodes (n - b.1.inputs)) refl ] in
-            sides (nat_lt n b.1.inputs) refl ] in
+                    | None ↦ λ z. at_none
+                    | Some row ↦ λ z. rows row (ap (λ o. callee_in o n) q ∙ ap callee_of (rows_same g b n e) ∙ ap (λ o. callee_of (option_map (row_in g) o)) z)
+                  ] in
+                  each (slice_get b.1.nodes (n - b.1.inputs)) refl
+            ] in
+            sides (nat_lt n b.1.inputs) refl
+      ] in
       blocks (slice_get g.blocks block) found
 
   input_known : (n : ℕ) (vs : List Value) → KnownIf g cs m vs (input_deed c n vs)
@@ -120,7 +105,9 @@ module _ (g : Graph) (cs : List Context) (m c block : ℕ) (low : c < m) (is : b
       let o = origin_of g.version block n in
       line_cases n (λ l. KnownIf g cs m vs (line_deed g c n l vs o)) (input_known n vs) tt
       (λ row e. elim (length vs == length row.sources) as (λ b. KnownIf g cs m vs (if b then fired_deed g c n (resolved_in g row.kind) vs o else None)) [
-        true ↦ fired_known n (resolved_in g row.kind) vs o e | false ↦ tt ])
+        | true ↦ fired_known n (resolved_in g row.kind) vs o e
+        | false ↦ tt
+      ])
 
   gate_known : (n : ℕ) (v b : Value) (r : Region) (kind : Kind ℕ) → KnownIf g cs m (v ∷ b ∷ []) (node_gated c n r kind v b)
   gate_known n v b Root kind = tt
@@ -129,8 +116,18 @@ module _ (g : Graph) (cs : List Context) (m c block : ℕ) (low : c < m) (is : b
 
   pass_known : (n i : ℕ) (v : Value) (kind : Kind ℕ) → callee_in (block_of (flow_of g) (name_in cs c)) n ≡ callee kind → KnownIf g cs m (v ∷ []) (node_passed c n i kind v)
   pass_known n i v kind = elim kind as (λ kind. callee_in (block_of (flow_of g) (name_in cs c)) n ≡ callee kind → KnownIf g cs m (v ∷ []) (node_passed c n i kind v)) [
-      Lit z ↦ λ e. tt | Apply1 op ↦ λ e. tt | Apply2 op ↦ λ e. tt | Cond ↦ λ e. tt | Enter ↦ λ e. tt | Merge k ↦ λ e. low | Fetch a ↦ λ e. tt | Store a ↦ λ e. tt
-    | Call f ↦ λ e. (low, e) | StrictCall f ↦ λ e. tt | Loop f k ↦ λ e. (low, e) ]
+    | Lit z ↦ λ e. tt
+    | Apply1 op ↦ λ e. tt
+    | Apply2 op ↦ λ e. tt
+    | Cond ↦ λ e. tt
+    | Enter ↦ λ e. tt
+    | Merge k ↦ λ e. low
+    | Fetch a ↦ λ e. tt
+    | Store a ↦ λ e. tt
+    | Call f ↦ λ e. (low, e)
+    | StrictCall f ↦ λ e. tt
+    | Loop f k ↦ λ e. (low, e)
+  ]
 
   gates_known : (n : ℕ) (v b : Value) → KnownIf g cs m (v ∷ b ∷ []) (gated_deed c n (line_of g block n) v b)
   gates_known n v b = line_cases n (λ l. KnownIf g cs m (v ∷ b ∷ []) (gated_deed c n l v b)) tt tt (λ row e. gate_known n v b row.region (resolved_in g row.kind))
@@ -144,8 +141,9 @@ module _ (g : Graph) (cs : List Context) (m c block : ℕ) (low : c < m) (is : b
   turn_known (Turned by n i) j b v h e =
       let same : block_number (flow_of g) (Meaning.Turned (name_in cs by) n i) ≡ Some block = ap (block_number (flow_of g)) e ∙ is in
       elim (truth b) as (λ t. KnownIf g cs m (b ∷ v ∷ []) (if t then next_turn by n i block j v else Some (Sends by n (j - 1) v))) [
-        true ↦ elim (nat_lt (i + 1) (2 ^ 64)) as (λ u. KnownIf g cs m (b ∷ v ∷ []) (if u then Some (Enters (Turned by n (i + 1)) block (j - 1) v) else None)) [ true ↦ (h, same) | false ↦ tt ]
-      | false ↦ h ]
+        | true ↦ elim (nat_lt (i + 1) (2 ^ 64)) as (λ u. KnownIf g cs m (b ∷ v ∷ []) (if u then Some (Enters (Turned by n (i + 1)) block (j - 1) v) else None)) [ true ↦ (h, same) | false ↦ tt ]
+        | false ↦ h
+      ]
 
   return_known : (made : Made) (j : ℕ) (v : Value) → IsBelow m made → KnownIf g cs m (v ∷ []) (returned_deed made j v)
   return_known Main j v h = tt

@@ -1,9 +1,9 @@
 mod Acts
 mod Counting
 mod DeedLaws
+mod Entering
 mod Joining
 mod Known
-mod Naming
 mod Partners
 mod Resolved
 mod Sends

@@ -40,8 +40,9 @@ find_law c s i k [] h = cc
 find_law c s i k (t ∷ ts) h =
     let cases : (b : Bool) → is_at c s t ≡ b → (if b then Some i else find_from c s (i + 1) ts) ≡ Some k → Found c s (t ∷ ts) i k
     = λ b. elim b as (λ b. is_at c s t ≡ b → (if b then Some i else find_from c s (i + 1) ts) ≡ Some k → Found c s (t ∷ ts) i k) [
-        true ↦ λ e q. let is = some_same i k q in (0, t, omega (arith, is), refl, at_same c s t e)
-      | false ↦ λ e q. let r = find_law c s (i + 1) k ts q in let is = r.2 in (suc r.0, r.1, omega (arith, is), r.3, r.4) ] in
+      | true ↦ λ e q. let is = some_same i k q in (0, t, omega (arith, is), refl, at_same c s t e)
+      | false ↦ λ e q. let r = find_law c s (i + 1) k ts q in let is = r.2 in (suc r.0, r.1, omega (arith, is), r.3, r.4)
+    ] in
     cases (is_at c s t) refl h
 
 get_of : (ts : List Token) (i : ℕ) (u d : Token) → slice_get ts i ≡ Some u → u ≡ get_or ts i d
@@ -86,7 +87,7 @@ others t (s ∷ ss) ts none full =
     let goal : List Value → List Token → Type 0 = λ vs left. IsPermutation ts (zipped c (s ∷ ss) (vs ++ values_of t ss left) ++ left_of t ss left) in
     let found : (o : Option ℕ) → find_from c s 0 ts ≡ o → own t.spot ss ≡ 0 → length (value_at ts o ++ values_of t ss (without ts o)) ≡ suc (length ss) → goal (value_at ts o) (without ts o)
     = λ o. elim o as (λ o. find_from c s 0 ts ≡ o → own t.spot ss ≡ 0 → length (value_at ts o ++ values_of t ss (without ts o)) ≡ suc (length ss) → goal (value_at ts o) (without ts o)) [
-        None ↦ λ e z l. let few = values_few t ss ts in absurd (omega (arith, few, l))
+      | None ↦ λ e z l. let few = values_few t ss ts in absurd (omega (arith, few, l))
       | Some k ↦ λ e z l.
           let r = removed c s k ts e in
           let v = r.0 in
@@ -94,15 +95,17 @@ others t (s ∷ ss) ts none full =
           let at : value_of (slice_get ts k) ≡ v ∷ [] = ap value_of r.1 in
           let long : length (values_of t ss rest) ≡ length ss = let m = ap (λ vs. length (vs ++ values_of t ss rest)) at in omega (arith, l, m) in
           let more = others t ss rest z long in
-          subst (λ vs. goal vs rest) (sym at) (IsPermutation-trans _ _ _ r.2 (IsPermutation-append_right (token_of c s v ∷ []) rest (zipped c ss (values_of t ss rest) ++ left_of t ss rest) more)) ] in
+          subst (λ vs. goal vs rest) (sym at) (IsPermutation-trans _ _ _ r.2 (IsPermutation-append_right (token_of c s v ∷ []) rest (zipped c ss (values_of t ss rest) ++ left_of t ss rest) more))
+    ] in
     let cases : (b : Bool) → (if b then suc (own t.spot ss) else own t.spot ss) ≡ 0
-        → length ((if b then t.value ∷ [] else value_at ts (find_from c s 0 ts)) ++ values_of t ss (if b then ts else without ts (find_from c s 0 ts))) ≡ suc (length ss)
-        → goal (if b then t.value ∷ [] else value_at ts (find_from c s 0 ts)) (if b then ts else without ts (find_from c s 0 ts))
+    → length ((if b then t.value ∷ [] else value_at ts (find_from c s 0 ts)) ++ values_of t ss (if b then ts else without ts (find_from c s 0 ts))) ≡ suc (length ss)
+    → goal (if b then t.value ∷ [] else value_at ts (find_from c s 0 ts)) (if b then ts else without ts (find_from c s 0 ts))
     = λ b. elim b as (λ b. (if b then suc (own t.spot ss) else own t.spot ss) ≡ 0
-        → length ((if b then t.value ∷ [] else value_at ts (find_from c s 0 ts)) ++ values_of t ss (if b then ts else without ts (find_from c s 0 ts))) ≡ suc (length ss)
-        → goal (if b then t.value ∷ [] else value_at ts (find_from c s 0 ts)) (if b then ts else without ts (find_from c s 0 ts))) [
-        true ↦ λ z l. absurd (omega (arith, z))
-      | false ↦ λ z l. found (find_from c s 0 ts) refl z l ] in
+    → length ((if b then t.value ∷ [] else value_at ts (find_from c s 0 ts)) ++ values_of t ss (if b then ts else without ts (find_from c s 0 ts))) ≡ suc (length ss)
+    → goal (if b then t.value ∷ [] else value_at ts (find_from c s 0 ts)) (if b then ts else without ts (find_from c s 0 ts))) [
+      | true ↦ λ z l. absurd (omega (arith, z))
+      | false ↦ λ z l. found (find_from c s 0 ts) refl z l
+    ] in
     cases (same_spot s t.spot) none full
 
 pub taken_out : (t : Token) (ss : List Spot) (ts : List Token) → own t.spot ss ≡ 1 → length (values_of t ss ts) ≡ length ss → IsPermutation (t ∷ ts) (zipped t.context ss (values_of t ss ts) ++ left_of t ss ts)
@@ -112,7 +115,7 @@ taken_out t (s ∷ ss) ts one full =
     let goal : List Value → List Token → Type 0 = λ vs left. IsPermutation (t ∷ ts) (zipped c (s ∷ ss) (vs ++ values_of t ss left) ++ left_of t ss left) in
     let found : (o : Option ℕ) → find_from c s 0 ts ≡ o → own t.spot ss ≡ 1 → length (value_at ts o ++ values_of t ss (without ts o)) ≡ suc (length ss) → goal (value_at ts o) (without ts o)
     = λ o. elim o as (λ o. find_from c s 0 ts ≡ o → own t.spot ss ≡ 1 → length (value_at ts o ++ values_of t ss (without ts o)) ≡ suc (length ss) → goal (value_at ts o) (without ts o)) [
-        None ↦ λ e z l. let few = values_few t ss ts in absurd (omega (arith, few, l))
+      | None ↦ λ e z l. let few = values_few t ss ts in absurd (omega (arith, few, l))
       | Some k ↦ λ e z l.
           let r = removed c s k ts e in
           let v = r.0 in
@@ -124,18 +127,20 @@ taken_out t (s ∷ ss) ts one full =
           let first = IsPermutation-append_right (t ∷ []) ts (u ∷ rest) r.2 in
           let second = permutation_exchange (t ∷ []) (u ∷ []) rest in
           let third = IsPermutation-append_right (u ∷ []) (t ∷ rest) (zipped c ss (values_of t ss rest) ++ left_of t ss rest) more in
-          subst (λ vs. goal vs rest) (sym at) (IsPermutation-trans _ _ _ (IsPermutation-trans _ _ _ first second) third) ] in
+          subst (λ vs. goal vs rest) (sym at) (IsPermutation-trans _ _ _ (IsPermutation-trans _ _ _ first second) third)
+    ] in
     let cases : (b : Bool) → same_spot s t.spot ≡ b → (if b then suc (own t.spot ss) else own t.spot ss) ≡ 1
-        → length ((if b then t.value ∷ [] else value_at ts (find_from c s 0 ts)) ++ values_of t ss (if b then ts else without ts (find_from c s 0 ts))) ≡ suc (length ss)
-        → goal (if b then t.value ∷ [] else value_at ts (find_from c s 0 ts)) (if b then ts else without ts (find_from c s 0 ts))
+    → length ((if b then t.value ∷ [] else value_at ts (find_from c s 0 ts)) ++ values_of t ss (if b then ts else without ts (find_from c s 0 ts))) ≡ suc (length ss)
+    → goal (if b then t.value ∷ [] else value_at ts (find_from c s 0 ts)) (if b then ts else without ts (find_from c s 0 ts))
     = λ b. elim b as (λ b. same_spot s t.spot ≡ b → (if b then suc (own t.spot ss) else own t.spot ss) ≡ 1
-        → length ((if b then t.value ∷ [] else value_at ts (find_from c s 0 ts)) ++ values_of t ss (if b then ts else without ts (find_from c s 0 ts))) ≡ suc (length ss)
-        → goal (if b then t.value ∷ [] else value_at ts (find_from c s 0 ts)) (if b then ts else without ts (find_from c s 0 ts))) [
-        true ↦ λ q z l.
+    → length ((if b then t.value ∷ [] else value_at ts (find_from c s 0 ts)) ++ values_of t ss (if b then ts else without ts (find_from c s 0 ts))) ≡ suc (length ss)
+    → goal (if b then t.value ∷ [] else value_at ts (find_from c s 0 ts)) (if b then ts else without ts (find_from c s 0 ts))) [
+      | true ↦ λ q z l.
           let none : own t.spot ss ≡ 0 = omega (arith, z) in
           let long : length (values_of t ss ts) ≡ length ss = omega (arith, l) in
           let is : t ≡ token_of c s t.value = ap (λ k. token_of c k t.value) (sym (spot_same s t.spot q)) in
           let more = IsPermutation-append_right (t ∷ []) ts (zipped c ss (values_of t ss ts) ++ left_of t ss ts) (others t ss ts none long) in
           subst (λ u. IsPermutation (t ∷ ts) (u ∷ (zipped c ss (values_of t ss ts) ++ left_of t ss ts))) is more
-      | false ↦ λ q z l. found (find_from c s 0 ts) refl z l ] in
+      | false ↦ λ q z l. found (find_from c s 0 ts) refl z l
+    ] in
     cases (same_spot s t.spot) refl one full

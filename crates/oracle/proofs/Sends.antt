@@ -20,9 +20,6 @@ use Rattle.oracle.specs.Agreeing.{row_in, block_in}
 abbrev at_uses : Context → Value → List (Statement × Port) → List Tagged
 at_uses c v us = map (λ (u : Statement × Port). tagged c u.0 u.1 v) us
 
-
-
-
 operands_sent : (cs : List Context) (x : Sent) (n p m i : ℕ) (ss : List Source)
     → map (tagged_of cs) (operand_tokens x n p m i ss) ≡ at_uses (name_in cs x.context) x.value (map (λ i. (Meaning.AtNode m, Meaning.Operand i)) (positions n p i ss))
 operands_sent cs x n p m i [] = refl
@@ -32,9 +29,10 @@ operands_sent cs x n p m i (s ∷ ss) =
     let f : ℕ → Tagged = λ i. tagged c (Meaning.AtNode m) (Meaning.Operand i) v in
     let b = is_port_of s n p in
     elim b as (λ b. map (tagged_of cs) (if b then token_at x (Operand m i) ∷ operand_tokens x n p m (i + 1) ss else operand_tokens x n p m (i + 1) ss)
-        ≡ at_uses c v (map (λ i. (Meaning.AtNode m, Meaning.Operand i)) (if b then i ∷ positions n p (i + 1) ss else positions n p (i + 1) ss))) [
-      true ↦ ap (λ zs. f i ∷ zs) (operands_sent cs x n p m (i + 1) ss)
-    | false ↦ operands_sent cs x n p m (i + 1) ss ]
+    ≡ at_uses c v (map (λ i. (Meaning.AtNode m, Meaning.Operand i)) (if b then i ∷ positions n p (i + 1) ss else positions n p (i + 1) ss))) [
+      | true ↦ ap (λ zs. f i ∷ zs) (operands_sent cs x n p m (i + 1) ss)
+      | false ↦ operands_sent cs x n p m (i + 1) ss
+    ]
 
 nodes_sent : (g : Graph) (cs : List Context) (x : Sent) (n p m : ℕ) (nodes : List (Node (List ℕ)))
     → map (tagged_of cs) (node_tokens x n p m nodes) ≡ at_uses (name_in cs x.context) x.value (uses_at n p m (map (row_in g) nodes))
@@ -69,13 +67,14 @@ results_sent cs x made inputs n p j (s ∷ ss) =
     let uses = λ (j : ℕ). result_uses (made_of cs made) inputs j in
     let rest = results_tokens x made inputs n p (j + 1) ss in
     elim (is_port_of s n p) as (λ b. map (tagged_of cs) (if b then result_tokens x made inputs j ++ rest else rest)
-        ≡ at_uses c x.value (flat_map uses (if b then j ∷ positions n p (j + 1) ss else positions n p (j + 1) ss))) [
-      true ↦
-        map-append (tagged_of cs) (result_tokens x made inputs j) rest
-        ∙ ap (λ zs. zs ++ map (tagged_of cs) rest) (result_sent cs x made inputs j)
-        ∙ ap (λ zs. at_uses c x.value (uses j) ++ zs) (results_sent cs x made inputs n p (j + 1) ss)
-        ∙ sym (map-append (λ (u : Statement × Port). tagged c u.0 u.1 x.value) (uses j) (flat_map uses (positions n p (j + 1) ss)))
-    | false ↦ results_sent cs x made inputs n p (j + 1) ss ]
+    ≡ at_uses c x.value (flat_map uses (if b then j ∷ positions n p (j + 1) ss else positions n p (j + 1) ss))) [
+      | true ↦
+          map-append (tagged_of cs) (result_tokens x made inputs j) rest
+          ∙ ap (λ zs. zs ++ map (tagged_of cs) rest) (result_sent cs x made inputs j)
+          ∙ ap (λ zs. at_uses c x.value (uses j) ++ zs) (results_sent cs x made inputs n p (j + 1) ss)
+          ∙ sym (map-append (λ (u : Statement × Port). tagged c u.0 u.1 x.value) (uses j) (flat_map uses (positions n p (j + 1) ss)))
+      | false ↦ results_sent cs x made inputs n p (j + 1) ss
+    ]
 
 pub all_sent : (g : Graph) (cs : List Context) (x : Sent) (made : Made) (n p : ℕ) (b : List ℕ × Block (List ℕ)) → made_of cs made ≡ name_in cs x.context
     → map (tagged_of cs) (sent_tokens x made n p b.1) ≡ at_uses (name_in cs x.context) x.value (uses_in (block_in g b) (name_in cs x.context) n p)

@@ -51,14 +51,15 @@ operands_own n i from (suc k) low high =
     let rest = operand_spots n (from + 1) k in
     let cases : (b : Bool) → (from == i) ≡ b → own (Operand n i) (operand_spots n from (suc k)) ≡ 1
     = λ b. elim b as (λ b. (from == i) ≡ b → own (Operand n i) (operand_spots n from (suc k)) ≡ 1) [
-        true ↦ λ e. let same = eqb-true from i e in
+      | true ↦ λ e. let same = eqb-true from i e in
           ap (λ b. if b then suc (own (Operand n i) rest) else own (Operand n i) rest) (operand_test n i from true e)
           ∙ ap suc (operands_none n i (from + 1) k (omega (arith, same)))
       | false ↦ λ e.
           let other : from ≡ i → ⊥ = λ is. let yes = eq-eqb from i is in let no : true ≡ false = sym yes ∙ e in cc in
           let next : from + 1 ≤ i = above from i low other in
           ap (λ b. if b then suc (own (Operand n i) rest) else own (Operand n i) rest) (operand_test n i from false e)
-          ∙ operands_own n i (from + 1) k next (omega (arith, high)) ] in
+          ∙ operands_own n i (from + 1) k next (omega (arith, high))
+    ] in
     cases (from == i) refl
 
 if_both : (a b : Bool) (x y : Shape) → (if a && b then Some x else None) ≡ Some y → (b ≡ true) × (x ≡ y)
@@ -89,7 +90,7 @@ gates_own n i shape h =
 
 node_own : (kind : Kind ℕ) (arity n i : ℕ) (shape : Shape) → node_shape kind arity n i ≡ Some shape → own (Operand n i) (spots_in shape) ≡ 1
 node_own kind arity n i shape = elim kind as (λ kind. node_shape kind arity n i ≡ Some shape → own (Operand n i) (spots_in shape) ≡ 1) [
-    Lit z ↦ λ h. fires_own (Lit z) arity n i shape h
+  | Lit z ↦ λ h. fires_own (Lit z) arity n i shape h
   | Apply1 op ↦ λ h. fires_own (Apply1 op) arity n i shape h
   | Apply2 op ↦ λ h. fires_own (Apply2 op) arity n i shape h
   | Cond ↦ λ h. fires_own Cond arity n i shape h
@@ -99,7 +100,8 @@ node_own kind arity n i shape = elim kind as (λ kind. node_shape kind arity n i
   | Store a ↦ λ h. fires_own (Store a) arity n i shape h
   | Call f ↦ λ h. passes_own n i shape h
   | StrictCall f ↦ λ h. fires_own (StrictCall f) arity n i shape h
-  | Loop f k ↦ λ h. passes_own n i shape h ]
+  | Loop f k ↦ λ h. passes_own n i shape h
+]
 
 operand_own : (l : Line) (n i : ℕ) (shape : Shape) → operand_shape l n i ≡ Some shape → own (Operand n i) (spots_in shape) ≡ 1
 operand_own Input n i shape h =
@@ -162,20 +164,28 @@ taken_law g cs c x is (Passes n i) (v ∷ w ∷ vs) d e h = cc
 taken_law g cs c x is (Returns j) [] d e h = cc
 taken_law g cs c x is (Returns j) (v ∷ []) d e h =
     elim x.made as (λ made. returned_deed made j v ≡ Some d → made_of cs made ≡ name_in cs c
-        → map (tagged_of cs) (zipped c (Out j ∷ []) (v ∷ [])) ≡ taken (activity_of cs c made (Returns j) (v ∷ []))) [
-      Main ↦ λ q p. cc | Called by n ↦ λ q p. ap (λ k. tagged k (Meaning.AtOut j) (Meaning.Operand 0) v ∷ []) (sym p) | Turned by n i ↦ λ q p. cc ] e is
+    → map (tagged_of cs) (zipped c (Out j ∷ []) (v ∷ [])) ≡ taken (activity_of cs c made (Returns j) (v ∷ []))) [
+      | Main ↦ λ q p. cc
+      | Called by n ↦ λ q p. ap (λ k. tagged k (Meaning.AtOut j) (Meaning.Operand 0) v ∷ []) (sym p)
+      | Turned by n i ↦ λ q p. cc
+    ] e is
 taken_law g cs c x is (Returns j) (v ∷ w ∷ vs) d e h = cc
 taken_law g cs c x is (Turns j) [] d e h = cc
 taken_law g cs c x is (Turns j) (v ∷ []) d e h = cc
 taken_law g cs c x is (Turns j) (b ∷ v ∷ []) d e h =
     elim x.made as (λ made. turned_deed made x.block j b v ≡ Some d → made_of cs made ≡ name_in cs c
-        → map (tagged_of cs) (zipped c (Flag j ∷ Carried j ∷ []) (b ∷ v ∷ [])) ≡ taken (activity_of cs c made (Turns j) (b ∷ v ∷ []))) [
-      Main ↦ λ q p. cc | Called by n ↦ λ q p. cc
-    | Turned by n i ↦ λ q p. ap (λ k. tagged k (Meaning.AtTurn j) Meaning.Flag b ∷ tagged k (Meaning.AtTurn j) Meaning.Carried v ∷ []) (sym p) ] e is
+    → map (tagged_of cs) (zipped c (Flag j ∷ Carried j ∷ []) (b ∷ v ∷ [])) ≡ taken (activity_of cs c made (Turns j) (b ∷ v ∷ []))) [
+      | Main ↦ λ q p. cc
+      | Called by n ↦ λ q p. cc
+      | Turned by n i ↦ λ q p. ap (λ k. tagged k (Meaning.AtTurn j) Meaning.Flag b ∷ tagged k (Meaning.AtTurn j) Meaning.Carried v ∷ []) (sym p)
+    ] e is
 taken_law g cs c x is (Turns j) (b ∷ v ∷ w ∷ vs) d e h = cc
 taken_law g cs c x is (Outputs j) [] d e h = cc
 taken_law g cs c x is (Outputs j) (v ∷ []) d e h =
     elim x.made as (λ made. shown_deed made j v ≡ Some d → made_of cs made ≡ name_in cs c
-        → map (tagged_of cs) (zipped c (Out j ∷ []) (v ∷ [])) ≡ taken (activity_of cs c made (Outputs j) (v ∷ []))) [
-      Main ↦ λ q p. ap (λ k. tagged k (Meaning.AtOut j) (Meaning.Operand 0) v ∷ []) (sym p) | Called by n ↦ λ q p. cc | Turned by n i ↦ λ q p. cc ] e is
+    → map (tagged_of cs) (zipped c (Out j ∷ []) (v ∷ [])) ≡ taken (activity_of cs c made (Outputs j) (v ∷ []))) [
+      | Main ↦ λ q p. ap (λ k. tagged k (Meaning.AtOut j) (Meaning.Operand 0) v ∷ []) (sym p)
+      | Called by n ↦ λ q p. cc
+      | Turned by n i ↦ λ q p. cc
+    ] e is
 taken_law g cs c x is (Outputs j) (v ∷ w ∷ vs) d e h = cc

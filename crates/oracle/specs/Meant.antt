@@ -2,7 +2,7 @@
 use Rattle.std.specs.Prelude.{◌≡◌, ◌↔◌, ℕ, ◌+◌, ◌<◌, ◌≤◌, ℤ, List, [], ◌∷◌, ◌++◌, map, length, All, Option, Some, None, slice_get, slice_index_or, IsPermutation, Contains}
 use Rattle.tags.specs.declared.value.Value.{Value}
 use Rattle.semantics.specs.Graph.{Graph, Flow, flow_of, first_cell, array_len}
-use Rattle.semantics.specs.Meaning.{Context, Statement, AtNode, AtOut, AtTurn, Port, Tagged, tagged, State, Activity, Run, Step, AtRest, Clashes, start, block_number, taken, deed} 
+use Rattle.semantics.specs.Meaning.{Context, Statement, AtNode, AtOut, AtTurn, Port, Tagged, tagged, State, Activity, Run, Step, AtRest, Clashes, start, block_number, taken, deed}
 use Rattle.semantics.specs.Meaning as Meaning
 use Rattle.oracle.specs.declared.invocations.Made.{Made}
 use Rattle.oracle.specs.declared.invocations.Made.TheVariants.{Main, Called, Turned}

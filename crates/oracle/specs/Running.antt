@@ -69,12 +69,14 @@ abbrev pub next_of : Graph → List Invocation → List (Option Value) → List 
 next_of g xs cells outputs [] w d = Ends (plain xs [] w d cells outputs) Rest
 next_of g xs cells outputs (t ∷ ts) w d =
     elim (join_of g xs w t) [
-      Alone ↦ next_of g xs cells outputs ts (w ++ t ∷ []) d
-    | Joins left vs deed ↦ elim (gate_of cells deed) [
-        Free ↦ Acts (plain xs ts left d cells outputs) vs deed
-      | Defers ↦ next_of g xs cells outputs ts left (d ++ t ∷ [])
-      | Clashes a i ↦ Ends (plain xs ts left d cells outputs) (Clash a i) ]
-    | Fails ↦ Broken ]
+      | Alone ↦ next_of g xs cells outputs ts (w ++ t ∷ []) d
+      | Joins left vs deed ↦ elim (gate_of cells deed) [
+        | Free ↦ Acts (plain xs ts left d cells outputs) vs deed
+        | Defers ↦ next_of g xs cells outputs ts left (d ++ t ∷ [])
+        | Clashes a i ↦ Ends (plain xs ts left d cells outputs) (Clash a i)
+      ]
+      | Fails ↦ Broken
+    ]
 
 -- INVOCATIONS
 abbrev pub same_made : Made → Made → Bool

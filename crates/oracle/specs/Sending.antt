@@ -51,7 +51,6 @@ results_tokens x made inputs n p j (s ∷ ss) = if is_port_of s n p then result_
 abbrev pub sent_tokens : Sent → Made → ℕ → ℕ → Block (List ℕ) → List Token
 sent_tokens x made n p b = node_tokens x n p b.inputs b.nodes ++ results_tokens x made b.inputs n p 0 b.results
 
-
 abbrev pub is_arm_of : ℕ → Region → Bool
 is_arm_of k Root = false
 is_arm_of k (Arm c side) = c == k

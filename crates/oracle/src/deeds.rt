@@ -38,7 +38,10 @@ pub enum Deed {
         value: Value,
     },
     /// All values that were taken go to the inputs of an invocation of a block.
-    EntersAll { made: Made, block: usize },
+    EntersAll {
+        made: Made,
+        block: usize,
+    },
     /// Nothing is sent.
     Stops,
     /// What the cell holds goes out, once it is full.
@@ -57,7 +60,10 @@ pub enum Deed {
         value: Value,
     },
     /// An output becomes the value.
-    Puts { number: usize, value: Value },
+    Puts {
+        number: usize,
+        value: Value,
+    },
 }
 
 /// What an index names in an array.

@@ -7,16 +7,16 @@ mod gather;
 mod invocations;
 mod laws;
 mod lines;
-mod runs;
 mod report;
+mod runs;
 mod sending;
 mod shapes;
 mod state;
 mod tokens;
 
-pub use runs::mean;
 pub use laws::steps_agree;
 pub use report::{Full, MeanEnd, MeanFault, MeanReport};
+pub use runs::mean;
 
 #[cfg(test)]
 mod tests;

@@ -87,7 +87,8 @@ fn shape_of_predicate(line: &Line, node: usize) -> Option<Shape>
 {
     match line {
         Line::Node {
-            kind: Kind::Enter, ..
+            kind: Kind::Enter,
+            ..
         } => Some(Shape::Gates { node }),
         _ => None,
     }
@@ -155,7 +156,10 @@ pub fn spots_of<A: Allocator>(alloc: A, shape: Shape) -> Result<Vec<Spot, A>, Al
     match shape {
         Shape::Fires { node, count } => operand_spots(alloc, node, count),
         Shape::Gates { node } => {
-            Ok(vec![in alloc; Spot::Operand { node, position: 0 }, Spot::Predicate { node }]?)
+            Ok(vec![in alloc;
+                Spot::Operand { node, position: 0 },
+                Spot::Predicate { node },
+            ]?)
         }
         Shape::Passes { node, position } => Ok(vec![in alloc; Spot::Operand { node, position }]?),
         Shape::Returns { number } | Shape::Outputs { number } => {

@@ -10,8 +10,8 @@ use crate::deeds::{Deed, deed_of};
 use crate::gather::{all_there, take_out};
 use crate::invocations::{Invocation, number_of};
 use crate::lines::block_at;
-use crate::sending::{Sent, enter, enter_all, send, tell};
 use crate::report::MeanEnd;
+use crate::sending::{Sent, enter, enter_all, send, tell};
 use crate::shapes::{Shape, shape_of, spots_of};
 use crate::tokens::{Spot, Token};
 use graph_check::Checked;
@@ -47,10 +47,7 @@ enum Gate {
     /// The cell of a fetch is empty.
     Defers,
     /// The cell of a store is full.
-    Clashes {
-        array: usize,
-        index: u32,
-    },
+    Clashes { array: usize, index: u32 },
 }
 
 /// The invocation with that number.
@@ -151,7 +148,10 @@ fn ask(cells: &[Option<Value>], deed: &Deed) -> Gate
             }
         }
         Deed::Fills {
-            cell, array, index, ..
+            cell,
+            array,
+            index,
+            ..
         } => {
             if held(cells, cell).is_some() {
                 Gate::Clashes { array, index }
@@ -396,12 +396,5 @@ fn fill_cell<'a, A: Allocator>(
 {
     fill(&mut state.cells, cell, sent.value);
     wake(&mut state.fresh, &mut state.deferred)?;
-    send_from(
-        checked,
-        &state.invocations,
-        &mut state.fresh,
-        sent,
-        node,
-        0,
-    )
+    send_from(checked, &state.invocations, &mut state.fresh, sent, node, 0)
 }

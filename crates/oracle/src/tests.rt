@@ -12,33 +12,47 @@ const ADD: &[u8] = b"etsgraph 1\nblock m 2 1\n- add 0.0 1.0\nout 2.0\nend\nmain 
 const CHOICE: &[u8] =
     b"etsgraph 1\nblock m 2 1\n- cond 0.0\n2+ enter 0.0\n2+ add 3.0 3.0\nout 0.0\nend\nmain m\n";
 
-const FACTORIAL: &[u8] = b"etsgraph 1\nblock fact 1 1\n- cond 0.0\n1+ enter 0.0\n1+ lit 1 2.0\n1+ sub 2.0 3.0\n1+ call fact 4.0\n1+ mul 2.0 5.0\n1- enter 0.0\n1- lit 1 7.0\n- merge 1 6.0 8.0\nout 9.0\nend\nmain fact\n";
+const FACTORIAL: &[u8] =
+    b"etsgraph 1\nblock fact 1 1\n- cond 0.0\n1+ enter 0.0\n1+ lit 1 2.0\n1+ sub 2.0 3.0\n1+ call fact 4.0\n1+ mul 2.0 5.0\n1- enter 0.0\n1- lit 1 7.0\n- merge 1 6.0 8.0\nout 9.0\nend\nmain fact\n";
 
-const EARLY: &[u8] = b"etsgraph 1\narray A 1\nblock g 2 1\nout 0.0\nend\nblock m 2 2\n- lit 0 0.0\n- fetch A 2.0\n- call g 0.0 3.0\n- add 4.0 1.0\n- store A 2.0 5.0\nout 4.0 6.0\nend\nmain m\n";
+const EARLY: &[u8] =
+    b"etsgraph 1\narray A 1\nblock g 2 1\nout 0.0\nend\nblock m 2 2\n- lit 0 0.0\n- fetch A 2.0\n- call g 0.0 3.0\n- add 4.0 1.0\n- store A 2.0 5.0\nout 4.0 6.0\nend\nmain m\n";
 
-const LATE: &[u8] = b"etsgraph 2\narray A 1\nblock g 2 1\nout 0.0\nend\nblock m 2 2\n- lit 0 0.0\n- fetch A 2.0\n- scall g 0.0 3.0\n- add 4.0 1.0\n- store A 2.0 5.0\nout 4.0 6.0\nend\nmain m\n";
+const LATE: &[u8] =
+    b"etsgraph 2\narray A 1\nblock g 2 1\nout 0.0\nend\nblock m 2 2\n- lit 0 0.0\n- fetch A 2.0\n- scall g 0.0 3.0\n- add 4.0 1.0\n- store A 2.0 5.0\nout 4.0 6.0\nend\nmain m\n";
 
-const SUM: &[u8] = b"etsgraph 1\nblock b 3 4\n- lit 1 0.0\n- add 0.0 3.0\n- add 1.0 0.0\n- le 4.0 2.0\nout 6.0 4.0 5.0 2.0\nend\nblock m 1 1\n- lit 1 0.0\n- lit 0 0.0\n- loop b 2 1.0 2.0 0.0\nout 3.1\nend\nmain m\n";
+const SUM: &[u8] =
+    b"etsgraph 1\nblock b 3 4\n- lit 1 0.0\n- add 0.0 3.0\n- add 1.0 0.0\n- le 4.0 2.0\nout 6.0 4.0 5.0 2.0\nend\nblock m 1 1\n- lit 1 0.0\n- lit 0 0.0\n- loop b 2 1.0 2.0 0.0\nout 3.1\nend\nmain m\n";
 
-const FAULTY_FLAG: &[u8] = b"etsgraph 1\nblock b 3 4\n- lit 1 0.0\n- add 0.0 3.0\n- add 1.0 0.0\n- div 0.0 1.0\nout 6.0 4.0 5.0 2.0\nend\nblock m 1 1\n- lit 1 0.0\n- lit 0 0.0\n- loop b 2 1.0 2.0 0.0\nout 3.1\nend\nmain m\n";
+const FAULTY_FLAG: &[u8] =
+    b"etsgraph 1\nblock b 3 4\n- lit 1 0.0\n- add 0.0 3.0\n- add 1.0 0.0\n- div 0.0 1.0\nout 6.0 4.0 5.0 2.0\nend\nblock m 1 1\n- lit 1 0.0\n- lit 0 0.0\n- loop b 2 1.0 2.0 0.0\nout 3.1\nend\nmain m\n";
 
-const READERS: &[u8] = b"etsgraph 1\narray A 2\nblock m 1 3\n- lit 0 0.0\n- fetch A 1.0\n- fetch A 1.0\n- store A 1.0 0.0\nout 2.0 3.0 4.0\nend\nmain m\n";
+const READERS: &[u8] =
+    b"etsgraph 1\narray A 2\nblock m 1 3\n- lit 0 0.0\n- fetch A 1.0\n- fetch A 1.0\n- store A 1.0 0.0\nout 2.0 3.0 4.0\nend\nmain m\n";
 
-const UNANSWERED: &[u8] = b"etsgraph 1\narray A 2\nblock m 1 2\n- lit 1 0.0\n- fetch A 1.0\nout 2.0 0.0\nend\nmain m\n";
+const UNANSWERED: &[u8] =
+    b"etsgraph 1\narray A 2\nblock m 1 2\n- lit 1 0.0\n- fetch A 1.0\nout 2.0 0.0\nend\nmain m\n";
 
-const TWICE: &[u8] = b"etsgraph 1\narray A 1\nblock m 2 2\n- lit 0 0.0\n- store A 2.0 0.0\n- store A 2.0 1.0\nout 3.0 4.0\nend\nmain m\n";
+const TWICE: &[u8] =
+    b"etsgraph 1\narray A 1\nblock m 2 2\n- lit 0 0.0\n- store A 2.0 0.0\n- store A 2.0 1.0\nout 3.0 4.0\nend\nmain m\n";
 
-const CHAIN: &[u8] = b"etsgraph 1\narray A 8\nblock b 2 3\n- lit 1 0.0\n- lit 3 0.0\n- lit 5 0.0\n- add 0.0 2.0\n- add 0.0 3.0\n- store A 0.0 0.0\n- fetch A 6.0\n- add 1.0 8.0\n- lt 5.0 4.0\nout 10.0 5.0 9.0\nend\nblock m 1 1\n- lit 0 0.0\n- lit 5 0.0\n- lit 6 0.0\n- lit 7 0.0\n- store A 2.0 2.0\n- store A 3.0 3.0\n- store A 4.0 4.0\n- loop b 4 1.0 1.0\nout 8.1\nend\nmain m\n";
+const CHAIN: &[u8] =
+    b"etsgraph 1\narray A 8\nblock b 2 3\n- lit 1 0.0\n- lit 3 0.0\n- lit 5 0.0\n- add 0.0 2.0\n- add 0.0 3.0\n- store A 0.0 0.0\n- fetch A 6.0\n- add 1.0 8.0\n- lt 5.0 4.0\nout 10.0 5.0 9.0\nend\nblock m 1 1\n- lit 0 0.0\n- lit 5 0.0\n- lit 6 0.0\n- lit 7 0.0\n- store A 2.0 2.0\n- store A 3.0 3.0\n- store A 4.0 4.0\n- loop b 4 1.0 1.0\nout 8.1\nend\nmain m\n";
 
-const OUTSIDE: &[u8] = b"etsgraph 1\narray A 2\nblock m 2 2\n- fetch A 0.0\n- store A 1.0 0.0\nout 2.0 3.0\nend\nmain m\n";
+const OUTSIDE: &[u8] =
+    b"etsgraph 1\narray A 2\nblock m 2 2\n- fetch A 0.0\n- store A 1.0 0.0\nout 2.0 3.0\nend\nmain m\n";
 
-const TOLD: &[u8] = b"etsgraph 2\narray A 2\nblock m 2 2\n- fetch A 0.0\n- store A 1.0 0.0\nout 2.0 3.0\nend\nmain m\n";
+const TOLD: &[u8] =
+    b"etsgraph 2\narray A 2\nblock m 2 2\n- fetch A 0.0\n- store A 1.0 0.0\nout 2.0 3.0\nend\nmain m\n";
 
-const FAULTY_PREDICATE: &[u8] = b"etsgraph 1\nblock m 2 2\n- div 0.0 1.0\n- cond 2.0\n3+ enter 0.0\n3- enter 1.0\n- merge 3 4.0 5.0\nout 2.0 6.0\nend\nmain m\n";
+const FAULTY_PREDICATE: &[u8] =
+    b"etsgraph 1\nblock m 2 2\n- div 0.0 1.0\n- cond 2.0\n3+ enter 0.0\n3- enter 1.0\n- merge 3 4.0 5.0\nout 2.0 6.0\nend\nmain m\n";
 
-const TOLD_PREDICATE: &[u8] = b"etsgraph 2\nblock m 2 2\n- div 0.0 1.0\n- cond 2.0\n3+ enter 0.0\n3- enter 1.0\n- merge 3 4.0 5.0\nout 2.0 6.0\nend\nmain m\n";
+const TOLD_PREDICATE: &[u8] =
+    b"etsgraph 2\nblock m 2 2\n- div 0.0 1.0\n- cond 2.0\n3+ enter 0.0\n3- enter 1.0\n- merge 3 4.0 5.0\nout 2.0 6.0\nend\nmain m\n";
 
-const INNER: &[u8] = b"etsgraph 2\nblock g 2 1\n- rem 0.0 1.0\nout 2.0\nend\nblock m 2 1\n- call g 0.0 1.0\n- add 2.0 0.0\nout 3.0\nend\nmain m\n";
+const INNER: &[u8] =
+    b"etsgraph 2\nblock g 2 1\n- rem 0.0 1.0\nout 2.0\nend\nblock m 2 1\n- call g 0.0 1.0\n- add 2.0 0.0\nout 3.0\nend\nmain m\n";
 
 /// More activities than any run here has.
 const ENOUGH: u64 = 1_000_000;
@@ -136,13 +150,7 @@ fn takes_an_arm(rt: HostRuntime) -> Result<(), Fail> {
 #[test]
 fn a_faulty_predicate_is_false(rt: HostRuntime) -> Result<(), Fail> {
     let zero = fault(FaultKind::Zero, Origin::Untold);
-    rests(
-        &rt,
-        rt.alloc(),
-        FAULTY_PREDICATE,
-        &[7, 0],
-        &[zero, int(0)],
-    )?;
+    rests(&rt, rt.alloc(), FAULTY_PREDICATE, &[7, 0], &[zero, int(0)])?;
     let told = fault(FaultKind::Zero, at(0, 2));
     rests(&rt, rt.alloc(), TOLD_PREDICATE, &[7, 0], &[told, int(0)])
 }
@@ -239,11 +247,30 @@ fn a_chain_through_cells(rt: HostRuntime) -> Result<(), Fail> {
 
 #[test]
 fn an_index_outside_is_a_fault(rt: HostRuntime) -> Result<(), Fail> {
-    let range = fault(FaultKind::Range, Origin::Untold);
-    rests(&rt, rt.alloc(), OUTSIDE, &[2, -1], &[range, range])?;
-    let fetched = fault(FaultKind::Range, at(0, 2));
-    let stored = fault(FaultKind::Range, at(0, 3));
-    rests(&rt, rt.alloc(), TOLD, &[2, -1], &[fetched, stored])
+    rests(
+        &rt,
+        rt.alloc(),
+        OUTSIDE,
+        &[2, -1],
+        &[
+            fault(FaultKind::Range, Origin::Untold),
+            fault(FaultKind::Range, Origin::Untold),
+        ],
+    )
+}
+
+#[test]
+fn an_index_outside_is_told_of(rt: HostRuntime) -> Result<(), Fail> {
+    rests(
+        &rt,
+        rt.alloc(),
+        TOLD,
+        &[2, -1],
+        &[
+            fault(FaultKind::Range, at(0, 2)),
+            fault(FaultKind::Range, at(0, 3)),
+        ],
+    )
 }
 
 #[test]

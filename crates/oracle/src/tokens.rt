@@ -28,7 +28,16 @@ pub fn same_spot(left: Spot, right: Spot) -> bool
     ensures { result ≡ Lines.same_spot left right }
 {
     match (left, right) {
-        (Spot::Operand { node: n, position: i }, Spot::Operand { node: m, position: j }) => n == m && i == j,
+        (
+            Spot::Operand {
+                node: n,
+                position: i,
+            },
+            Spot::Operand {
+                node: m,
+                position: j,
+            },
+        ) => n == m && i == j,
         (Spot::Predicate { node: n }, Spot::Predicate { node: m }) => n == m,
         (Spot::Out { number: i }, Spot::Out { number: j }) => i == j,
         (Spot::Flag { number: i }, Spot::Flag { number: j }) => i == j,

@@ -10,4 +10,4 @@ loop-index-preserved g c =
     let so_far = c.loop-index.full.items in
     full_more cells c.args.array c.args.first i c.args.len (c.args.full.now.items ++ full_from cells c.args.array c.args.first 0 c.args.len) so_far c.loop-index-test.true c.loop-index.invariant
     ∙ ap (λ y. y ++ full_from cells c.args.array (c.args.first + (i + 1)) (i + 1) (c.args.len - (i + 1)))
-      (ap (λ h. so_far ++ full_if c.args.array i h) (sym c.held.ensures) ∙ sym c.in_ok-push_if.ensures)
+    (ap (λ h. so_far ++ full_if c.args.array i h) (sym c.held.ensures) ∙ sym c.in_ok-push_if.ensures)

@@ -17,4 +17,4 @@ loop-step-preserved g c =
     let came = subst (λ r. MatchResult r (λ act. next_in checked old ≡ Acts mid act.values.items act.deed) (λ e. next_in checked old ≡ Ends mid e)) c.in-Ok.is c.in_ok-act.ensures in
     run_acts checked old mid c.in-Ok.act.values.items c.in-Ok.act.deed i c.args.steps (run_of checked c.args.steps first) c.loop-step-test.true c.loop-step.invariant came
     ∙ ap (λ q. run_of checked (c.args.steps - (i + 1)) q)
-      (ap (λ vs. performed checked mid vs c.in-Ok.act.deed) (sym c.deref.ensures.value) ∙ sym c.in_ok-perform-in-Ok.ensures)
+    (ap (λ vs. performed checked mid vs c.in-Ok.act.deed) (sym c.deref.ensures.value) ∙ sym c.in_ok-perform-in-Ok.ensures)

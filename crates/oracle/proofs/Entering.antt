@@ -1,4 +1,4 @@
--- The names of invocations.
+-- An invocation is entered.
 use Rattle.std.proofs.Common.{◌≡◌, ℕ, zero, suc, ◌+◌, ◌-◌, ◌<◌, ◌≤◌, ◌⊎◌, inl, inr, Bool, true, false, ◌&&◌, ◌==◌, List, [], ◌∷◌, ◌++◌, map, length, Option, Some, None, slice_get, slice_index_or, if◌then◌else◌, refl, sym, ap, ◌∙◌, subst, arith, eqb-true}
 use Rattle.std.specs.Prelude.{⊤}
 use Rattle.std.proofs.lemmas.List.{length-append}
@@ -14,14 +14,7 @@ use Rattle.oracle.specs.declared.invocations.Invocation.{Invocation}
 use Rattle.oracle.specs.declared.tokens.Token.{Token}
 use Rattle.oracle.specs.Running.{same_made, made_from, number_or, more_if, number_in, with_made}
 use Rattle.oracle.specs.Meant.{name_in, made_of, tagged_of, statement_of, port_of}
-use Rattle.oracle.proofs.Known.{IsBelow, CanEnter}
-
--- each number has a name
-pub record Named (g : Graph) (xs : List Invocation) (cs : List Context) : Type 0 where
-  pub count : length cs ≡ length xs
-  pub made : (i : ℕ) (x : Invocation) → slice_get xs i ≡ Some x → made_of cs x.made ≡ name_in cs i
-  pub block : (i : ℕ) (x : Invocation) → slice_get xs i ≡ Some x → block_number (flow_of g) (name_in cs i) ≡ Some x.block
-  pub below : (i : ℕ) (x : Invocation) → slice_get xs i ≡ Some x → IsBelow (length xs) x.made
+use Rattle.oracle.specs.Naming.{IsBelow, CanEnter, Named, IsEntered}
 
 both : (a b : Bool) → (a && b) ≡ true → (a ≡ true) × (b ≡ true)
 both true b h = (refl, h)
@@ -42,8 +35,9 @@ made_found made i k (x ∷ xs) h =
     let Goal : Type 0 = (j : ℕ) × (y : Invocation) × (k ≡ i + j) × (slice_get (x ∷ xs) j ≡ Some y) × (y.made ≡ made) in
     let cases : (b : Bool) → same_made x.made made ≡ b → (if b then Some i else made_from made (i + 1) xs) ≡ Some k → Goal
     = λ b. elim b as (λ b. same_made x.made made ≡ b → (if b then Some i else made_from made (i + 1) xs) ≡ Some k → Goal) [
-        true ↦ λ e q. let is = some_same i k q in (0, x, omega (arith, is), refl, made_same x.made made e)
-      | false ↦ λ e q. let r = made_found made (i + 1) k xs q in let is = r.2 in (suc r.0, r.1, omega (arith, is), r.3, r.4) ] in
+      | true ↦ λ e q. let is = some_same i k q in (0, x, omega (arith, is), refl, made_same x.made made e)
+      | false ↦ λ e q. let r = made_found made (i + 1) k xs q in let is = r.2 in (suc r.0, r.1, omega (arith, is), r.3, r.4)
+    ] in
     cases (same_made x.made made) refl h
 
 -- LISTS with one more at the end
@@ -74,24 +68,15 @@ below_more m n Main le h = tt
 below_more m n (Called by k) le h = omega (arith, le, h)
 below_more m n (Turned by k i) le h = omega (arith, le, h)
 
--- An invocation is entered: it has its number and its name, and all other names stay.
-pub record IsEntered (g : Graph) (xs : List Invocation) (cs : List Context) (made : Made) (block : ℕ) : Type 0 where
-  pub names : List Context
-  pub named : Named g (with_made xs made block) names
-  pub kept : (i : ℕ) → i < length cs → name_in names i ≡ name_in cs i
-  pub more : length cs ≤ length names
-  pub number : number_in xs made < length names
-  pub name : name_in names (number_in xs made) ≡ made_of cs made
-
 pub entered_law : (g : Graph) (xs : List Invocation) (cs : List Context) (made : Made) (block : ℕ) → Named g xs cs → CanEnter g cs (length xs) made block → IsEntered g xs cs made block
 entered_law g xs cs made block named can =
     let d = made_of cs made in
     let y : Invocation = record { made = made; block = block } in
     let Goal : Option ℕ → Type 0 = λ o. (names : List Context) × Named g (more_if xs made block o) names × ((i : ℕ) → i < length cs → name_in names i ≡ name_in cs i) × (length cs ≤ length names)
-        × (number_or xs o < length names) × (name_in names (number_or xs o) ≡ made_of cs made) in
+    × (number_or xs o < length names) × (name_in names (number_or xs o) ≡ made_of cs made) in
     let cases : (o : Option ℕ) → made_from made 0 xs ≡ o → Goal o
     = λ o. elim o as (λ o. made_from made 0 xs ≡ o → Goal o) [
-        None ↦ λ e.
+      | None ↦ λ e.
           let count = named.count in
           let can_here : IsBelow (length cs) made = subst (λ n. IsBelow n made) (sym count) can.0 in
           let long_cs = length-append cs (d ∷ []) in
@@ -104,14 +89,17 @@ entered_law g xs cs made block named can =
           let all : Named g (xs ++ y ∷ []) (cs ++ d ∷ []) = record {
             count = omega (arith, count, long_cs, long_xs);
             made = λ i x h. elim (get_last xs y i x h) as (λ r. made_of (cs ++ d ∷ []) x.made ≡ name_in (cs ++ d ∷ []) i) [
-                inl e ↦ old_made i x e
-              | inr e ↦ subst (λ z. made_of (cs ++ d ∷ []) z.made ≡ name_in (cs ++ d ∷ []) i) e.1 (made_kept cs d made can_here ∙ sym at_end ∙ ap (name_in (cs ++ d ∷ [])) (sym e.0)) ];
+              | inl e ↦ old_made i x e
+              | inr e ↦ subst (λ z. made_of (cs ++ d ∷ []) z.made ≡ name_in (cs ++ d ∷ []) i) e.1 (made_kept cs d made can_here ∙ sym at_end ∙ ap (name_in (cs ++ d ∷ [])) (sym e.0))
+            ];
             block = λ i x h. elim (get_last xs y i x h) as (λ r. block_number (flow_of g) (name_in (cs ++ d ∷ []) i) ≡ Some x.block) [
-                inl e ↦ old_block i x e
-              | inr e ↦ subst (λ z. block_number (flow_of g) (name_in (cs ++ d ∷ []) i) ≡ Some z.block) e.1 (ap (λ k. block_number (flow_of g) (name_in (cs ++ d ∷ []) k)) e.0 ∙ ap (block_number (flow_of g)) at_end ∙ can.1) ];
+              | inl e ↦ old_block i x e
+              | inr e ↦ subst (λ z. block_number (flow_of g) (name_in (cs ++ d ∷ []) i) ≡ Some z.block) e.1 (ap (λ k. block_number (flow_of g) (name_in (cs ++ d ∷ []) k)) e.0 ∙ ap (block_number (flow_of g)) at_end ∙ can.1)
+            ];
             below = λ i x h. elim (get_last xs y i x h) as (λ r. IsBelow (length (xs ++ y ∷ [])) x.made) [
-                inl e ↦ below_more (length xs) (length (xs ++ y ∷ [])) x.made (omega (arith, long_xs)) (named.below i x e)
-              | inr e ↦ subst (λ z. IsBelow (length (xs ++ y ∷ [])) z.made) e.1 (below_more (length xs) (length (xs ++ y ∷ [])) made (omega (arith, long_xs)) can.0) ];
+              | inl e ↦ below_more (length xs) (length (xs ++ y ∷ [])) x.made (omega (arith, long_xs)) (named.below i x e)
+              | inr e ↦ subst (λ z. IsBelow (length (xs ++ y ∷ [])) z.made) e.1 (below_more (length xs) (length (xs ++ y ∷ [])) made (omega (arith, long_xs)) can.0)
+            ];
           } in
           (cs ++ d ∷ [], all, name_kept cs d, omega (arith, long_cs), omega (arith, count, long_cs), at_end)
       | Some k ↦ λ e.
@@ -119,7 +107,8 @@ entered_law g xs cs made block named can =
           let at_k : k ≡ r.0 = let is = r.2 in omega (arith, is) in
           let low = get_below xs r.0 r.1 r.3 in
           let count = named.count in
-          (cs, named, (λ i h. refl), omega arith, omega (arith, at_k, low, count), ap (name_in cs) at_k ∙ sym (named.made r.0 r.1 r.3) ∙ ap (made_of cs) r.4) ] in
+          (cs, named, (λ i h. refl), omega arith, omega (arith, at_k, low, count), ap (name_in cs) at_k ∙ sym (named.made r.0 r.1 r.3) ∙ ap (made_of cs) r.4)
+    ] in
     let all = cases (made_from made 0 xs) refl in
     record { names = all.0; named = all.1; kept = all.2; more = all.3; number = all.4; name = all.5 }
 
