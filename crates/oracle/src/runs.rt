@@ -204,6 +204,8 @@ fn run_to_end<'a, A: Allocator + Clone>(
 /// operands and a full cell, or where one more activity than allowed is enabled.
 ///
 /// `WrongInputs` comes first: there are not as many inputs as main has. `Memory` is answered where a growth was refused.
+/// It also stands for what no run of a well-formed graph brings about: joined tokens for which there is no deed, and a turn
+/// whose number is above the greatest u64.
 pub fn mean<'a, A: Allocator + Clone>(
     alloc: A,
     checked: &Checked<'a, A>,
