@@ -1,0 +1,10 @@
+mod Acts
+mod Counting
+mod DeedLaws
+mod Entering
+mod Joining
+mod Known
+mod Partners
+mod Resolved
+mod Sends
+mod ShapeLaws

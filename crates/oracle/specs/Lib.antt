@@ -1,0 +1,7 @@
+pub mod Acting
+pub mod Agreeing
+pub mod Lines
+pub mod Meant
+pub mod Naming
+pub mod Running
+pub mod Sending

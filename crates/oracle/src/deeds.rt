@@ -1,0 +1,414 @@
+//! What an activity does with the values that it takes.
+
+ghost use Rattle.std.specs.Prelude.{◌≡◌, ◌≤◌, Some};
+ghost use Rattle.operators.specs.Values as Values;
+ghost use Rattle.oracle.specs.Lines.{total_of};
+ghost use Rattle.oracle.specs.Acting as Acting;
+
+use crate::invocations::{Invocation, Made};
+use crate::lines::{Line, array_len, arrays_of, cell_of, line_at, origin_at, version_of};
+use crate::shapes::Shape;
+use graph_check::Checked;
+use operators::{apply1, apply2_at, truth};
+use semantics::graph::{Kind, Region};
+use std::alloc::Allocator;
+use tags::value::{FaultKind, Origin, Value};
+
+/// What an activity does. Each invocation is given by its number.
+#[derive(Clone, Copy, Debug)]
+pub enum Deed {
+    /// A value goes out on a port of a node.
+    Sends {
+        context: usize,
+        node: usize,
+        port: usize,
+        value: Value,
+    },
+    /// A predicate goes to the arms of a conditional.
+    Tells {
+        context: usize,
+        cond: usize,
+        value: Value,
+    },
+    /// One value goes to that input of an invocation of a block.
+    Enters {
+        made: Made,
+        block: usize,
+        input: usize,
+        value: Value,
+    },
+    /// All values that were taken go to the inputs of an invocation of a block.
+    EntersAll {
+        made: Made,
+        block: usize,
+    },
+    /// Nothing is sent.
+    Stops,
+    /// What the cell holds goes out, once it is full.
+    Reads {
+        context: usize,
+        node: usize,
+        cell: usize,
+    },
+    /// The cell, at that index of that array, is filled where it is empty, and the value goes out.
+    Fills {
+        context: usize,
+        node: usize,
+        cell: usize,
+        array: usize,
+        index: u32,
+        value: Value,
+    },
+    /// An output becomes the value.
+    Puts {
+        number: usize,
+        value: Value,
+    },
+}
+
+/// What an index names in an array.
+#[derive(Clone, Copy)]
+enum Index {
+    Within(u32),
+    Beyond(Value),
+}
+
+fn index_in(len: u32, index: Value, origin: Origin) -> Index
+    ensures { Acting.indexed_of result ≡ Values.index_in len index origin }
+{
+    match index {
+        Value::Int(number) => {
+            if number >= 0 && number < i64::from(len) {
+                Index::Within(number as u32)
+            } else {
+                Index::Beyond(Value::Fault {
+                    kind: FaultKind::Range,
+                    origin,
+                })
+            }
+        }
+        Value::Fault { kind, origin } => Index::Beyond(Value::Fault { kind, origin }),
+    }
+}
+
+fn fetch<'a, A: Allocator>(
+    checked: &Checked<'a, A>,
+    context: usize,
+    node: usize,
+    array: usize,
+    index: Value,
+    origin: Origin,
+) -> Deed
+    requires { total_of checked.now.arrays ≤ 65536 }
+    ensures { result ≡ Acting.fetch_deed context node (Acting.first_in checked.now array) (Values.index_in (Acting.len_in checked.now array) index origin) }
+{
+    let arrays = arrays_of(checked);
+    match index_in(array_len(arrays, array), index, origin) {
+        Index::Beyond(value) => Deed::Sends {
+            context,
+            node,
+            port: 0,
+            value,
+        },
+        Index::Within(place) => Deed::Reads {
+            context,
+            node,
+            cell: cell_of(arrays, array, place),
+        },
+    }
+}
+
+fn store<'a, A: Allocator>(
+    checked: &Checked<'a, A>,
+    context: usize,
+    node: usize,
+    array: usize,
+    operands: (Value, Value),
+    origin: Origin,
+) -> Deed
+    requires { total_of checked.now.arrays ≤ 65536 }
+    ensures { result ≡ Acting.store_deed context node (Acting.first_in checked.now array) array operands.1 (Values.index_in (Acting.len_in checked.now array) operands.0 origin) }
+{
+    let (index, value) = operands;
+    let arrays = arrays_of(checked);
+    match index_in(array_len(arrays, array), index, origin) {
+        Index::Beyond(value) => Deed::Sends {
+            context,
+            node,
+            port: 0,
+            value,
+        },
+        Index::Within(index) => Deed::Fills {
+            context,
+            node,
+            cell: cell_of(arrays, array, index),
+            array,
+            index,
+            value,
+        },
+    }
+}
+
+/// What a node does with one operand.
+fn fired_one<'a, A: Allocator>(
+    checked: &Checked<'a, A>,
+    context: usize,
+    node: usize,
+    kind: &Kind<usize>,
+    value: Value,
+    origin: Origin,
+) -> Option<Deed>
+    requires { total_of checked.now.arrays ≤ 65536 }
+    ensures { result ≡ Acting.one_deed checked.now context node kind.now value origin }
+{
+    match kind {
+        Kind::Lit { value } => Some(Deed::Sends {
+            context,
+            node,
+            port: 0,
+            value: Value::Int(*value),
+        }),
+        Kind::Apply1 { op } => Some(Deed::Sends {
+            context,
+            node,
+            port: 0,
+            value: apply1(*op, value),
+        }),
+        Kind::Cond => Some(Deed::Tells {
+            context,
+            cond: node,
+            value,
+        }),
+        Kind::Fetch { array } => Some(fetch(checked, context, node, *array, value, origin)),
+        _ => None,
+    }
+}
+
+/// What a node does with two operands.
+fn fired_two<'a, A: Allocator>(
+    checked: &Checked<'a, A>,
+    context: usize,
+    node: usize,
+    kind: &Kind<usize>,
+    operands: (Value, Value),
+    origin: Origin,
+) -> Option<Deed>
+    requires { total_of checked.now.arrays ≤ 65536 }
+    ensures { result ≡ Acting.two_deed checked.now context node kind.now operands.0 operands.1 origin }
+{
+    match kind {
+        Kind::Apply2 { op } => Some(Deed::Sends {
+            context,
+            node,
+            port: 0,
+            value: apply2_at(*op, operands.0, operands.1, origin),
+        }),
+        Kind::Store { array } => Some(store(checked, context, node, *array, operands, origin)),
+        _ => None,
+    }
+}
+
+/// What a node does with all its operands.
+fn fired<'a, A: Allocator>(
+    checked: &Checked<'a, A>,
+    context: usize,
+    node: usize,
+    kind: &Kind<usize>,
+    values: &[Value],
+    origin: Origin,
+) -> Option<Deed>
+    requires { total_of checked.now.arrays ≤ 65536 }
+    ensures { result ≡ Acting.fired_deed checked.now context node kind.now values.now origin }
+{
+    if let Kind::StrictCall { block } = kind {
+        return Some(Deed::EntersAll {
+            made: Made::Called { by: context, node },
+            block: *block,
+        });
+    }
+    match values {
+        [value] => fired_one(checked, context, node, kind, *value, origin),
+        [left, right] => fired_two(checked, context, node, kind, (*left, *right), origin),
+        _ => None,
+    }
+}
+
+/// What a node or an input does with all its operands.
+fn fired_at<'a, A: Allocator>(
+    checked: &Checked<'a, A>,
+    context: usize,
+    block: usize,
+    node: usize,
+    values: &[Value],
+) -> Option<Deed>
+    requires { total_of checked.now.arrays ≤ 65536 }
+    ensures { result ≡ Acting.fires_deed checked.now context block node values.now }
+{
+    match line_at(checked, block, node) {
+        Line::Input => match values {
+            [value] => Some(Deed::Sends {
+                context,
+                node,
+                port: 0,
+                value: *value,
+            }),
+            _ => None,
+        },
+        Line::Node { kind, arity, .. } => {
+            if values.len() != arity {
+                return None;
+            }
+            let origin = origin_at(version_of(checked), block, node);
+            fired(checked, context, node, &kind, values, origin)
+        }
+        Line::Nothing => None,
+    }
+}
+
+/// What an `enter` does with its source and its predicate.
+fn gated(context: usize, node: usize, line: &Line, value: Value, predicate: Value) -> Option<Deed>
+    ensures { result ≡ Acting.gated_deed context node line.now value predicate }
+{
+    match line {
+        Line::Node {
+            region: Region::Arm { side, .. },
+            kind: Kind::Enter,
+            ..
+        } => {
+            if truth(predicate) == *side {
+                Some(Deed::Sends {
+                    context,
+                    node,
+                    port: 0,
+                    value,
+                })
+            } else {
+                Some(Deed::Stops)
+            }
+        }
+        _ => None,
+    }
+}
+
+/// What a merge, a call or a loop does with an operand.
+fn passed(context: usize, node: usize, position: usize, line: &Line, value: Value) -> Option<Deed>
+    ensures { result ≡ Acting.passed_deed context node position line.now value }
+{
+    match line {
+        Line::Node {
+            kind: Kind::Merge { .. },
+            ..
+        } => Some(Deed::Sends {
+            context,
+            node,
+            port: 0,
+            value,
+        }),
+        Line::Node {
+            kind: Kind::Call { block },
+            ..
+        } => Some(Deed::Enters {
+            made: Made::Called { by: context, node },
+            block: *block,
+            input: position,
+            value,
+        }),
+        Line::Node {
+            kind: Kind::Loop { block, .. },
+            ..
+        } => Some(Deed::Enters {
+            made: Made::Turned {
+                by: context,
+                node,
+                turn: 0,
+            },
+            block: *block,
+            input: position,
+            value,
+        }),
+        _ => None,
+    }
+}
+
+/// What a turn of an iteration does. There is no number for a turn beyond the last u64.
+fn turned(invocation: Invocation, number: usize, flag: Value, value: Value) -> Option<Deed>
+    ensures { result ≡ Acting.turned_deed invocation.made invocation.block number flag value }
+{
+    let Made::Turned { by, node, turn } = invocation.made else {
+        return None;
+    };
+    let place = number.saturating_sub(1);
+    if truth(flag) {
+        Some(Deed::Enters {
+            made: Made::Turned {
+                by,
+                node,
+                turn: turn.checked_add(1)?,
+            },
+            block: invocation.block,
+            input: place,
+            value,
+        })
+    } else {
+        Some(Deed::Sends {
+            context: by,
+            node,
+            port: place,
+            value,
+        })
+    }
+}
+
+/// What a result of a call does.
+fn returned(invocation: Invocation, number: usize, value: Value) -> Option<Deed>
+    ensures { result ≡ Acting.returned_deed invocation.made number value }
+{
+    match invocation.made {
+        Made::Called { by, node } => Some(Deed::Sends {
+            context: by,
+            node,
+            port: number,
+            value,
+        }),
+        _ => None,
+    }
+}
+
+/// What a result of main does.
+fn shown(invocation: Invocation, number: usize, value: Value) -> Option<Deed>
+    ensures { result ≡ Acting.shown_deed invocation.made number value }
+{
+    match invocation.made {
+        Made::Main => Some(Deed::Puts { number, value }),
+        _ => None,
+    }
+}
+
+/// What an activity of that shape does in an invocation.
+pub fn deed_of<'a, A: Allocator>(
+    checked: &Checked<'a, A>,
+    context: usize,
+    invocation: Invocation,
+    shape: Shape,
+    values: &[Value],
+) -> Option<Deed>
+    requires { total_of checked.now.arrays ≤ 65536 }
+    ensures { result ≡ Acting.deed_in checked.now context invocation shape values.now }
+{
+    let block = invocation.block;
+    match (shape, values) {
+        (Shape::Fires { node, .. }, _) => fired_at(checked, context, block, node, values),
+        (Shape::Gates { node }, [value, predicate]) => {
+            let line = line_at(checked, block, node);
+            gated(context, node, &line, *value, *predicate)
+        }
+        (Shape::Passes { node, position }, [value]) => {
+            let line = line_at(checked, block, node);
+            passed(context, node, position, &line, *value)
+        }
+        (Shape::Returns { number }, [value]) => returned(invocation, number, *value),
+        (Shape::Turns { number }, [flag, value]) => turned(invocation, number, *flag, *value),
+        (Shape::Outputs { number }, [value]) => shown(invocation, number, *value),
+        _ => None,
+    }
+}

@@ -1,0 +1,80 @@
+//! The partners of a token.
+
+ghost use Rattle.std.specs.Prelude.{◌≡◌, ◌<◌, ◌++◌, length, IfOk, IfSome, OnOk};
+ghost use Rattle.oracle.specs.Acting as Acting;
+
+use crate::tokens::{Spot, Token, same_spot};
+use std::alloc::{AllocError, Allocator};
+use tags::value::Value;
+
+/// Whether the token is at that spot of that invocation.
+fn is_at(context: usize, spot: Spot, token: Token) -> bool
+    ensures { result ≡ Acting.is_at context spot token }
+{
+    token.context == context && same_spot(token.spot, spot)
+}
+
+/// Where a token waits at that spot of that invocation.
+fn find(waiting: &[Token], context: usize, spot: Spot) -> Option<usize>
+    ensures first { result ≡ Acting.find_from context spot 0 waiting.now }
+    ensures within { IfSome result (λ i. i < length waiting.now) }
+{
+    for (i, token) in waiting.iter().enumerate() {
+        if is_at(context, spot, *token) {
+            return Some(i);
+        }
+    }
+    None
+}
+
+/// Whether the token or one that waits is at the spot.
+fn is_there(waiting: &[Token], token: &Token, spot: Spot) -> bool
+    ensures { result ≡ Acting.is_there token.now spot waiting.now }
+{
+    same_spot(spot, token.spot) || find(waiting, token.context, spot).is_some()
+}
+
+/// Whether the token and those that wait are at all these spots.
+pub fn all_there(waiting: &[Token], token: &Token, spots: &[Spot]) -> bool
+    ensures { result ≡ Acting.all_there token.now spots.now waiting.now }
+{
+    for spot in spots {
+        if !is_there(waiting, token, *spot) {
+            return false;
+        }
+    }
+    true
+}
+
+/// Takes the token's partner at a spot out, and gives the value there, if there is one.
+fn take_one<A: Allocator>(waiting: &mut Vec<Token, A>, token: &Token, spot: Spot) -> Option<Value>
+    ensures left { waiting.new.items ≡ Acting.left_after token.now spot waiting.old.items }
+    ensures value { Acting.listed result ≡ Acting.value_here token.now spot waiting.old.items }
+{
+    if same_spot(spot, token.spot) {
+        return Some(token.value);
+    }
+    match find(waiting, token.context, spot) {
+        Some(place) => Some(waiting.remove(place).value),
+        None => None,
+    }
+}
+
+/// Takes the partners of the token out, and gives the values at all these spots in order.
+pub fn take_out<A: Allocator, B: Allocator>(
+    alloc: B,
+    waiting: &mut Vec<Token, A>,
+    token: &Token,
+    spots: &[Spot],
+) -> Result<Vec<Value, B>, AllocError>
+    ensures left { OnOk result (waiting.new.items ≡ Acting.left_of token.now spots.now waiting.old.items) }
+    ensures values { IfOk result (λ v. v.items ≡ Acting.values_of token.now spots.now waiting.old.items) }
+{
+    let mut values = Vec::new(alloc);
+    for spot in spots {
+        if let Some(value) = take_one(waiting, token, *spot) {
+            values.push(value)?;
+        }
+    }
+    Ok(values)
+}

@@ -1,0 +1,226 @@
+//! Runs of the meaning.
+
+ghost use Rattle.std.specs.Prelude.{◌≡◌, ◌≢◌, ◌↔◌, ◌≤◌, ◌++◌, map, length, IfOk, OnOk};
+ghost use Rattle.semantics.specs.Text.{HasText};
+ghost use Rattle.oracle.specs.Lines.{total_of, inputs_at};
+ghost use Rattle.oracle.specs.Sending.{entering_tokens};
+ghost use Rattle.oracle.specs.Running.{plain, run_of, nones, no_cells, start_of, main_place, full_if, full_from, full_in, told};
+
+use crate::invocations::{Invocation, Made};
+use crate::lines::{arrays_of, input_count, output_count};
+use crate::report::{Full, MeanEnd, MeanFault, MeanReport};
+use crate::state::{State, held, next_act, perform};
+use crate::tokens::{Spot, Token};
+use graph::Array;
+use graph_check::Checked;
+use std::alloc::{AllocError, Allocator};
+use std::collections::VecDeque;
+use tags::value::Value;
+
+/// So many empty places.
+fn empty<A: Allocator>(alloc: A, count: usize) -> Result<Vec<Option<Value>, A>, AllocError>
+    ensures { IfOk result (λ v. v.items ≡ nones count) }
+{
+    let mut places = Vec::new(alloc);
+    push_empty(&mut places, count)?;
+    Ok(places)
+}
+
+/// Adds so many empty places.
+fn push_empty<A: Allocator>(
+    places: &mut Vec<Option<Value>, A>,
+    count: usize,
+) -> Result<(), AllocError>
+    ensures { OnOk result (places.new.items ≡ places.old.items ++ nones count) }
+{
+    for _made in 0..count {
+        places.push(None)?;
+    }
+    Ok(())
+}
+
+/// The cells of all arrays, empty.
+fn empty_cells<'a, A: Allocator>(
+    alloc: A,
+    arrays: &[Array<'a>],
+) -> Result<Vec<Option<Value>, A>, AllocError>
+    ensures { IfOk result (λ v. v.items ≡ no_cells arrays.now) }
+{
+    let mut cells = Vec::new(alloc);
+    for array in arrays {
+        push_empty(&mut cells, array.len as usize)?;
+    }
+    Ok(cells)
+}
+
+/// The tokens for the inputs of main.
+fn entering<A: Allocator>(alloc: A, inputs: &[i64]) -> Result<VecDeque<Token, A>, AllocError>
+    ensures { IfOk result (λ q. q.items ≡ entering_tokens 0 0 (map (λ z. Value.Int z) inputs.now)) }
+{
+    let mut fresh = VecDeque::new(alloc);
+    for (node, input) in inputs.iter().enumerate() {
+        fresh.push_back(Token {
+            context: 0,
+            spot: Spot::Operand { node, position: 0 },
+            value: Value::Int(*input),
+        })?;
+    }
+    Ok(fresh)
+}
+
+/// The start of a run.
+fn start<'a, A: Allocator + Clone>(
+    alloc: A,
+    checked: &Checked<'a, A>,
+    inputs: &[i64],
+) -> Result<State<A>, AllocError>
+    ensures { IfOk result (λ s. plain s.invocations.items s.fresh.items s.waiting.items s.deferred.items s.cells.items s.outputs.items ≡ start_of checked.now inputs.now) }
+{
+    let main = checked.main_place();
+    let mut invocations = Vec::new(alloc.clone()?);
+    invocations.push(Invocation {
+        made: Made::Main,
+        block: main,
+    })?;
+    Ok(State {
+        invocations,
+        fresh: entering(alloc.clone()?, inputs)?,
+        waiting: Vec::new(alloc.clone()?),
+        deferred: Vec::new(alloc.clone()?),
+        cells: empty_cells(alloc.clone()?, arrays_of(checked))?,
+        outputs: empty(alloc, output_count(checked.graph(), main))?,
+    })
+}
+
+/// Does at most so many activities.
+fn run<'a, A: Allocator + Clone>(
+    checked: &Checked<'a, A>,
+    state: &mut State<A>,
+    steps: u64,
+) -> Result<MeanEnd, AllocError>
+    requires { total_of checked.now.arrays ≤ 65536 }
+    ensures { let old = plain state.old.invocations.items state.old.fresh.items state.old.waiting.items state.old.deferred.items state.old.cells.items state.old.outputs.items in
+        let new = plain state.new.invocations.items state.new.fresh.items state.new.waiting.items state.new.deferred.items state.new.cells.items state.new.outputs.items in
+        IfOk result (λ e. run_of checked.now steps old ≡ Some (e, new)) }
+{
+    for _step in 0..steps {
+        match next_act(checked, state)? {
+            Ok(act) => perform(checked, state, &act.deed, &act.values)?,
+            Err(end) => return Ok(end),
+        }
+    }
+    match next_act(checked, state)? {
+        Ok(_) => Ok(MeanEnd::Steps),
+        Err(end) => Ok(end),
+    }
+}
+
+/// Adds a cell, if it is full.
+fn push_if<A: Allocator>(
+    full: &mut Vec<Full, A>,
+    array: usize,
+    index: u32,
+    held: Option<Value>,
+) -> Result<(), AllocError>
+    ensures { OnOk result (full.new.items ≡ full.old.items ++ full_if array index held) }
+{
+    if let Some(value) = held {
+        full.push(Full {
+            array,
+            index,
+            value,
+        })?;
+    }
+    Ok(())
+}
+
+/// Adds the full ones of an array's cells, from a first cell on.
+fn push_full<A: Allocator>(
+    full: &mut Vec<Full, A>,
+    cells: &[Option<Value>],
+    array: usize,
+    first: usize,
+    len: u32,
+) -> Result<(), AllocError>
+    requires { first ≤ 65536 }
+    ensures { OnOk result (full.new.items ≡ full.old.items ++ full_from cells.now array first 0 len) }
+{
+    for index in 0..len {
+        push_if(full, array, index, held(cells, first + index as usize))?;
+    }
+    Ok(())
+}
+
+/// The full cells, in order.
+fn full_cells<'a, A: Allocator>(
+    alloc: A,
+    arrays: &[Array<'a>],
+    cells: &[Option<Value>],
+) -> Result<Vec<Full, A>, AllocError>
+    requires { total_of arrays.now ≤ 65536 }
+    ensures { IfOk result (λ v. v.items ≡ full_in cells.now 0 0 arrays.now) }
+{
+    let mut full = Vec::new(alloc);
+    let mut first: usize = 0;
+    for (i, array) in arrays.iter().enumerate() {
+        push_full(&mut full, cells, i, first, array.len)?;
+        first += array.len as usize;
+    }
+    Ok(full)
+}
+
+fn run_to_end<'a, A: Allocator + Clone>(
+    alloc: A,
+    checked: &Checked<'a, A>,
+    inputs: &[i64],
+    steps: u64,
+) -> Result<MeanReport<A>, AllocError>
+    requires { total_of checked.now.arrays ≤ 65536 }
+    ensures { IfOk result (λ r. told checked.now inputs.now steps ≡ Some (r.end, r.outputs.items, r.cells.items)) }
+{
+    let mut state = start(alloc.clone()?, checked, inputs)?;
+    let end = run(checked, &mut state, steps)?;
+    let cells = full_cells(alloc, arrays_of(checked), &state.cells)?;
+    let State {
+        invocations: _,
+        fresh: _,
+        waiting: _,
+        deferred: _,
+        cells: _,
+        outputs,
+    } = state;
+    Ok(MeanReport {
+        end,
+        outputs,
+        cells,
+    })
+}
+
+/// What the graph means on these inputs: a list of tagged tokens, one for each input at first, is rewritten one activity
+/// at a time, up to so many activities.
+///
+/// The first token in the list's order that can act acts first. New tokens go behind those that were not looked at yet,
+/// and tokens that were looked at and can't act behind all others. A run ends at rest, at the first store that has both
+/// operands and a full cell, or where one more activity than allowed is enabled.
+///
+/// `WrongInputs` comes first: there are not as many inputs as main has. `Memory` is answered where a growth was refused.
+/// It also stands for what no run of a well-formed graph brings about: joined tokens for which there is no deed, and a turn
+/// whose number is above the greatest u64.
+pub fn mean<'a, A: Allocator + Clone>(
+    alloc: A,
+    checked: &Checked<'a, A>,
+    inputs: &[i64],
+    steps: u64,
+) -> Result<MeanReport<A>, MeanFault>
+    requires limits { HasText checked.now }
+    ensures wrong { result ≡ Err MeanFault.WrongInputs ↔ (length inputs.now ≢ inputs_at checked.now (main_place checked.now)) }
+    ensures told { IfOk result (λ r. told checked.now inputs.now steps ≡ Some (r.end, r.outputs.items, r.cells.items)) }
+{
+    if inputs.len() != input_count(checked.graph(), checked.main_place()) {
+        return Err(MeanFault::WrongInputs);
+    }
+    match run_to_end(alloc, checked, inputs, steps) {
+        Ok(report) => Ok(report),
+        Err(_) => Err(MeanFault::Memory),
+    }
+}

@@ -1,0 +1,400 @@
+//! A state of a run: the tokens, the cells, and the outputs.
+
+ghost use Rattle.std.specs.Prelude.{◌≡◌, ◌≤◌, ◌∷◌, ◌++◌, [], Some, slice_get, IfOk, OnOk, MatchOption, MatchResult};
+ghost use Rattle.oracle.specs.Lines.{total_of, spots_in};
+ghost use Rattle.oracle.specs.Acting as Acting;
+ghost use Rattle.oracle.specs.Running.{plain, join_of, Alone, Joins, next_in, Acts, Ends, performed};
+ghost use Rattle.oracle.specs.Running as Running;
+
+use crate::deeds::{Deed, deed_of};
+use crate::gather::{all_there, take_out};
+use crate::invocations::{Invocation, number_of};
+use crate::lines::block_at;
+use crate::report::MeanEnd;
+use crate::sending::{Sent, enter, enter_all, send, tell};
+use crate::shapes::{Shape, shape_of, spots_of};
+use crate::tokens::{Spot, Token};
+use graph_check::Checked;
+use std::alloc::{AllocError, Allocator};
+use std::collections::VecDeque;
+use tags::value::Value;
+
+/// The list of tokens has three parts, in this order. A token that was looked at and could not act goes behind.
+#[derive(Drop)]
+pub struct State<A: Allocator> {
+    pub invocations: Vec<Invocation, A>,
+    /// Tokens that were not looked at since they came.
+    pub fresh: VecDeque<Token, A>,
+    /// Tokens with partners that are not among those that wait.
+    pub waiting: Vec<Token, A>,
+    /// Tokens of fetches whose cells are empty.
+    pub deferred: Vec<Token, A>,
+    pub cells: Vec<Option<Value>, A>,
+    pub outputs: Vec<Option<Value>, A>,
+}
+
+/// An activity with the values that it took, and what it does.
+#[derive(Drop)]
+pub struct Act<A: Allocator> {
+    pub values: Vec<Value, A>,
+    pub deed: Deed,
+}
+
+/// What the memory says to a deed.
+#[derive(Clone, Copy, Debug)]
+enum Gate {
+    Free,
+    /// The cell of a fetch is empty.
+    Defers,
+    /// The cell of a store is full.
+    Clashes { array: usize, index: u32 },
+}
+
+/// The invocation with that number.
+fn invocation_at(invocations: &[Invocation], number: usize) -> Option<Invocation>
+    ensures { result ≡ slice_get invocations.now number }
+{
+    invocations.get(number).copied()
+}
+
+/// Takes the partners of a token, all of which wait.
+fn take_all<'a, A: Allocator + Clone>(
+    checked: &Checked<'a, A>,
+    waiting: &mut Vec<Token, A>,
+    token: &Token,
+    invocation: &Invocation,
+    shape: &Shape,
+    spots: &[Spot],
+) -> Result<Act<A>, AllocError>
+    requires few { total_of checked.now.arrays ≤ 65536 }
+    requires spots { spots.now ≡ spots_in shape.now }
+    ensures { IfOk result (λ act. Running.join_all checked.now waiting.old.items token.now invocation.now shape.now ≡ Joins waiting.new.items act.values.items act.deed) }
+{
+    let alloc = waiting.allocator().clone()?;
+    let values = take_out(alloc, waiting, token, spots)?;
+    if values.len() != spots.len() {
+        return Err(AllocError);
+    }
+    match deed_of(checked, token.context, *invocation, *shape, &values) {
+        Some(deed) => Ok(Act { values, deed }),
+        None => Err(AllocError),
+    }
+}
+
+/// Joins a token with its partners for an activity. Where one is missing the token is left to wait.
+fn join_for<'a, A: Allocator + Clone>(
+    checked: &Checked<'a, A>,
+    waiting: &mut Vec<Token, A>,
+    token: &Token,
+    invocation: &Invocation,
+    shape: &Shape,
+) -> Result<Option<Act<A>>, AllocError>
+    requires { total_of checked.now.arrays ≤ 65536 }
+    ensures { IfOk result (λ r. MatchOption r
+        ((Running.join_shape checked.now waiting.old.items token.now invocation.now (Some shape.now) ≡ Alone) × (waiting.new.items ≡ waiting.old.items ++ token.now ∷ []))
+        (λ act. Running.join_shape checked.now waiting.old.items token.now invocation.now (Some shape.now) ≡ Joins waiting.new.items act.values.items act.deed)) }
+{
+    let spots = spots_of(waiting.allocator().clone()?, *shape)?;
+    if all_there(waiting, token, &spots) {
+        let act = take_all(checked, waiting, token, invocation, shape, &spots)?;
+        return Ok(Some(act));
+    }
+    waiting.push(*token)?;
+    Ok(None)
+}
+
+/// Joins a token with its partners, which are taken out. Where one is missing, or where no activity takes the token, it is
+/// left to wait.
+fn join<'a, A: Allocator + Clone>(
+    checked: &Checked<'a, A>,
+    invocations: &[Invocation],
+    waiting: &mut Vec<Token, A>,
+    token: &Token,
+) -> Result<Option<Act<A>>, AllocError>
+    requires { total_of checked.now.arrays ≤ 65536 }
+    ensures { IfOk result (λ r. MatchOption r
+        ((join_of checked.now invocations.now waiting.old.items token.now ≡ Alone) × (waiting.new.items ≡ waiting.old.items ++ token.now ∷ []))
+        (λ act. join_of checked.now invocations.now waiting.old.items token.now ≡ Joins waiting.new.items act.values.items act.deed)) }
+{
+    if let Some(invocation) = invocation_at(invocations, token.context) {
+        if let Some(shape) = shape_of(checked, invocation, token.spot) {
+            return join_for(checked, waiting, token, &invocation, &shape);
+        }
+    }
+    waiting.push(*token)?;
+    Ok(None)
+}
+
+/// What the cell holds.
+pub fn held(cells: &[Option<Value>], cell: usize) -> Option<Value>
+    ensures { result ≡ Acting.held_in cells.now cell }
+{
+    match cells.get(cell) {
+        Some(held) => *held,
+        None => None,
+    }
+}
+
+/// Asks the cell of a fetch or a store.
+fn ask(cells: &[Option<Value>], deed: &Deed) -> Gate
+    ensures { result ≡ Acting.gate_of cells.now deed.now }
+{
+    match *deed {
+        Deed::Reads { cell, .. } => {
+            if held(cells, cell).is_none() {
+                Gate::Defers
+            } else {
+                Gate::Free
+            }
+        }
+        Deed::Fills {
+            cell,
+            array,
+            index,
+            ..
+        } => {
+            if held(cells, cell).is_some() {
+                Gate::Clashes { array, index }
+            } else {
+                Gate::Free
+            }
+        }
+        _ => Gate::Free,
+    }
+}
+
+/// The first activity of the first token in the list that can act.
+pub fn next_act<'a, A: Allocator + Clone>(
+    checked: &Checked<'a, A>,
+    state: &mut State<A>,
+) -> Result<Result<Act<A>, MeanEnd>, AllocError>
+    requires { total_of checked.now.arrays ≤ 65536 }
+    ensures { let old = plain state.old.invocations.items state.old.fresh.items state.old.waiting.items state.old.deferred.items state.old.cells.items state.old.outputs.items in
+        let new = plain state.new.invocations.items state.new.fresh.items state.new.waiting.items state.new.deferred.items state.new.cells.items state.new.outputs.items in
+        IfOk result (λ r. MatchResult r (λ act. next_in checked.now old ≡ Acts new act.values.items act.deed) (λ e. next_in checked.now old ≡ Ends new e)) }
+{
+    while let Some(token) = state.fresh.pop_front() {
+        if let Some(act) = join(checked, &state.invocations, &mut state.waiting, &token)? {
+            match ask(&state.cells, &act.deed) {
+                Gate::Free => return Ok(Ok(act)),
+                Gate::Defers => state.deferred.push(token)?,
+                Gate::Clashes { array, index } => return Ok(Err(MeanEnd::Clash { array, index })),
+            }
+        }
+    }
+    Ok(Err(MeanEnd::Rest))
+}
+
+/// Sends a value on a port of a node of an invocation.
+fn send_at<'a, A: Allocator>(
+    checked: &Checked<'a, A>,
+    fresh: &mut VecDeque<Token, A>,
+    sent: &Sent,
+    invocation: &Invocation,
+    node: usize,
+    port: usize,
+) -> Result<(), AllocError>
+    ensures { OnOk result (fresh.new.items ≡ fresh.old.items ++ Running.sent_if checked.now sent.now node port (Some invocation.now)) }
+{
+    match block_at(checked.graph(), invocation.block) {
+        Some(block) => send(fresh, sent, invocation.made, node, port, block),
+        None => Ok(()),
+    }
+}
+
+/// Sends a value on a port of a node.
+fn send_from<'a, A: Allocator>(
+    checked: &Checked<'a, A>,
+    invocations: &[Invocation],
+    fresh: &mut VecDeque<Token, A>,
+    sent: &Sent,
+    node: usize,
+    port: usize,
+) -> Result<(), AllocError>
+    ensures { OnOk result (fresh.new.items ≡ fresh.old.items ++ Running.sent_in checked.now invocations.now sent.now node port) }
+{
+    match invocation_at(invocations, sent.context) {
+        Some(invocation) => send_at(checked, fresh, sent, &invocation, node, port),
+        None => Ok(()),
+    }
+}
+
+/// Tells a predicate to the arms of a conditional of an invocation.
+fn tell_at<'a, A: Allocator>(
+    checked: &Checked<'a, A>,
+    fresh: &mut VecDeque<Token, A>,
+    sent: &Sent,
+    invocation: &Invocation,
+    cond: usize,
+) -> Result<(), AllocError>
+    ensures { OnOk result (fresh.new.items ≡ fresh.old.items ++ Running.told_if checked.now sent.now cond (Some invocation.now)) }
+{
+    match block_at(checked.graph(), invocation.block) {
+        Some(block) => tell(fresh, sent, cond, block),
+        None => Ok(()),
+    }
+}
+
+/// Tells a predicate to the arms of a conditional.
+fn tell_from<'a, A: Allocator>(
+    checked: &Checked<'a, A>,
+    invocations: &[Invocation],
+    fresh: &mut VecDeque<Token, A>,
+    sent: &Sent,
+    cond: usize,
+) -> Result<(), AllocError>
+    ensures { OnOk result (fresh.new.items ≡ fresh.old.items ++ Running.told_in checked.now invocations.now sent.now cond) }
+{
+    match invocation_at(invocations, sent.context) {
+        Some(invocation) => tell_at(checked, fresh, sent, &invocation, cond),
+        None => Ok(()),
+    }
+}
+
+/// All deferred fetches are to be looked at again.
+fn wake<A: Allocator>(
+    fresh: &mut VecDeque<Token, A>,
+    deferred: &mut Vec<Token, A>,
+) -> Result<(), AllocError>
+    ensures { OnOk result ((fresh.new.items ≡ fresh.old.items ++ deferred.old.items) × (deferred.new.items ≡ [])) }
+{
+    append(fresh, deferred)?;
+    deferred.clear();
+    Ok(())
+}
+
+fn append<A: Allocator>(fresh: &mut VecDeque<Token, A>, tokens: &[Token]) -> Result<(), AllocError>
+    ensures { OnOk result (fresh.new.items ≡ fresh.old.items ++ tokens.now) }
+{
+    for token in tokens {
+        fresh.push_back(*token)?;
+    }
+    Ok(())
+}
+
+/// Fills a place, if it is there.
+fn fill(places: &mut [Option<Value>], place: usize, value: Value)
+    ensures { places.new ≡ Acting.filled_in places.old place value }
+{
+    if place < places.len() {
+        places[place] = Some(value);
+    }
+}
+
+/// Does what the activity does.
+pub fn perform<'a, A: Allocator + Clone>(
+    checked: &Checked<'a, A>,
+    state: &mut State<A>,
+    deed: &Deed,
+    values: &[Value],
+) -> Result<(), AllocError>
+    ensures { let old = plain state.old.invocations.items state.old.fresh.items state.old.waiting.items state.old.deferred.items state.old.cells.items state.old.outputs.items in
+        let new = plain state.new.invocations.items state.new.fresh.items state.new.waiting.items state.new.deferred.items state.new.cells.items state.new.outputs.items in
+        OnOk result (new ≡ performed checked.now old values.now deed.now) }
+{
+    match *deed {
+        Deed::Sends {
+            context,
+            node,
+            port,
+            value,
+        } => {
+            let sent = Sent { context, value };
+            send_from(
+                checked,
+                &state.invocations,
+                &mut state.fresh,
+                &sent,
+                node,
+                port,
+            )
+        }
+        Deed::Tells {
+            context,
+            cond,
+            value,
+        } => {
+            let sent = Sent { context, value };
+            tell_from(checked, &state.invocations, &mut state.fresh, &sent, cond)
+        }
+        Deed::Enters {
+            made,
+            block,
+            input,
+            value,
+        } => {
+            let context = number_of(&mut state.invocations, &made, block)?;
+            let sent = Sent { context, value };
+            enter(&mut state.fresh, &sent, input)
+        }
+        Deed::EntersAll { made, block } => {
+            let context = number_of(&mut state.invocations, &made, block)?;
+            enter_all(&mut state.fresh, context, values)
+        }
+        Deed::Stops => Ok(()),
+        Deed::Reads {
+            context,
+            node,
+            cell,
+        } => answer(checked, state, context, node, cell),
+        Deed::Fills {
+            context,
+            node,
+            cell,
+            value,
+            ..
+        } => {
+            let sent = Sent { context, value };
+            fill_cell(checked, state, &sent, node, cell)
+        }
+        Deed::Puts { number, value } => {
+            fill(&mut state.outputs, number, value);
+            Ok(())
+        }
+    }
+}
+
+/// Sends what a cell holds.
+fn answer<'a, A: Allocator>(
+    checked: &Checked<'a, A>,
+    state: &mut State<A>,
+    context: usize,
+    node: usize,
+    cell: usize,
+) -> Result<(), AllocError>
+    ensures { let old = plain state.old.invocations.items state.old.fresh.items state.old.waiting.items state.old.deferred.items state.old.cells.items state.old.outputs.items in
+        let new = plain state.new.invocations.items state.new.fresh.items state.new.waiting.items state.new.deferred.items state.new.cells.items state.new.outputs.items in
+        OnOk result (new ≡ performed checked.now old [] (Deed.Reads context node cell)) }
+{
+    match held(&state.cells, cell) {
+        Some(value) => {
+            let sent = Sent { context, value };
+            send_from(
+                checked,
+                &state.invocations,
+                &mut state.fresh,
+                &sent,
+                node,
+                0,
+            )
+        }
+        None => Ok(()),
+    }
+}
+
+/// Fills a cell, sends the value, and has the deferred fetches looked at again.
+fn fill_cell<'a, A: Allocator>(
+    checked: &Checked<'a, A>,
+    state: &mut State<A>,
+    sent: &Sent,
+    node: usize,
+    cell: usize,
+) -> Result<(), AllocError>
+    ensures { let old = plain state.old.invocations.items state.old.fresh.items state.old.waiting.items state.old.deferred.items state.old.cells.items state.old.outputs.items in
+        let new = plain state.new.invocations.items state.new.fresh.items state.new.waiting.items state.new.deferred.items state.new.cells.items state.new.outputs.items in
+        OnOk result (new ≡ performed checked.now old [] (Deed.Fills sent.now.context node cell 0 0 sent.now.value)) }
+{
+    fill(&mut state.cells, cell, sent.value);
+    wake(&mut state.fresh, &mut state.deferred)?;
+    send_from(checked, &state.invocations, &mut state.fresh, sent, node, 0)
+}
