@@ -1,0 +1,5 @@
+//! One element of the explicit token store machine: what it holds, and a step of it.
+#![tactic(auto)]
+
+pub mod firing;
+pub mod instructions;
