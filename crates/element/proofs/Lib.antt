@@ -1,0 +1,5 @@
+pub mod Places
+pub mod Only
+pub mod Nearness
+pub mod Changing
+pub mod Acting

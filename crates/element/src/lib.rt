@@ -3,3 +3,4 @@
 
 pub mod firing;
 pub mod instructions;
+pub mod lane;
