@@ -22,9 +22,11 @@ use Rattle.istructure.specs.Answered.{FetchedAt, StoredAt}
 use Rattle.istructure.specs.Holds.{fetch_tokens, IsFetchAnswer, FetchIsEvent, StoreIsEvent}
 use Rattle.frame_manager.specs.Flags.{flag_at}
 use Rattle.frame_manager.specs.Answered.{Requested, Released, HoldsFrames, RequestIsEvent, ReleaseIsEvent, request_tokens, release_tokens}
+use Rattle.element.specs.declared.lane.HostChange.{HostChange}
+use Rattle.element.specs.declared.lane.HostChange.TheVariants.{Output, Done}
 use Rattle.element.specs.Near.{Bounds, IsNearCont, IsNearWord, IsNearTo, IsNearToken, IsNearSlot, IsNearCell}
 use Rattle.element.specs.Parts.{Shape, Part, Manages, IsPart, IsSoundManager, SameElsewhere, IsSound, bounds}
-use Rattle.element.specs.Changed.{with_state, state_in, with_state_in, with_cells, with_manager, with_output as part_output, with_done as part_done}
+use Rattle.element.specs.Changed.{with_state, state_in, with_state_in, with_cells, with_manager, IsRequested, IsReleased, IsHostChange, filled, with_output as part_output, with_done as part_done}
 use Rattle.element.specs.Acts.{Changes}
 use Rattle.frame_manager.specs.Managed.{Managed}
 use Rattle.element.proofs.Only.{OnlyCell, OnlyFrames, fetch_only, store_only, request_only, release_only, manages_as, part_with_cells, cells_elsewhere, part_with_manager, frames_elsewhere}
@@ -362,3 +364,20 @@ done_changes p h t j sound to_is zero last open_ = record {
   where
     total : ℕ
     total = h.shape.elements * h.shape.frames
+
+-- the same of a manager that may not be there
+pub requested : (p : Program) (h : Part) (t : Token) (c : Cont) (m n : Option Managed) (given : Option ℕ) → IsSound p h → t.to ≡ To.Manager → t.word ≡ Word.Back c → IsNearToken (bounds p h.shape) t
+    → h.shape.element ≡ 0 → h.manager ≡ m → IsRequested m c (Ok given) n → Changes p h t (request_tokens c given) (with_manager h n)
+requested p h t c (Some m) (Some n) given sound to_is word_is near zero has r = request_changes p h t c m n given sound to_is word_is near zero has r.0 r.1
+requested p h t c (Some m) None given sound to_is word_is near zero has r = absurd r
+requested p h t c None n given sound to_is word_is near zero has r = absurd r
+
+pub released : (p : Program) (h : Part) (t : Token) (f : ℕ) (m n : Option Managed) (given : Option (Cont × ℕ)) → IsSound p h → t.to ≡ To.Release f
+    → h.shape.element ≡ 0 → h.manager ≡ m → IsReleased m f (Ok given) n → Changes p h t (release_tokens given) (with_manager h n)
+released p h t f (Some m) (Some n) given sound to_is zero has r = release_changes p h t f m n given sound to_is zero has r.0 r.1
+released p h t f (Some m) None given sound to_is zero has r = absurd r
+released p h t f None n given sound to_is zero has r = absurd r
+
+pub host_changes : (p : Program) (h : Part) (t : Token) (j : ℕ) (change : HostChange) → IsSound p h → t.to ≡ To.Host j → h.shape.element ≡ 0 → IsHostChange h j t.word (Ok change) → Changes p h t [] (filled h j change)
+host_changes p h t j (Output v) sound to_is zero c = output_changes p h t j v sound to_is c.2 zero c.0 c.1
+host_changes p h t j Done sound to_is zero c = done_changes p h t j sound to_is zero c.0 c.1

@@ -3,3 +3,4 @@ pub mod Only
 pub mod Nearness
 pub mod Changing
 pub mod Acting
+pub mod Instructing

@@ -1,5 +1,5 @@
 -- Changes of a part, each in one place.
-use Rattle.std.specs.Prelude.{◌≡◌, ℕ, ◌<◌, Bool, true, false, List, length, Option, Some, None, Result, Ok, Err, slice_set, slice_index_or, if◌then◌else◌, IsSome}
+use Rattle.std.specs.Prelude.{◌≡◌, ℕ, ◌<◌, Bool, true, false, List, length, Option, Some, None, Result, Ok, Err, slice_set, slice_index_or, if◌then◌else◌, IsSome, ⊤}
 use Rattle.std.specs.declared.alloc.AllocError.{AllocError}
 use Rattle.tags.specs.declared.value.Value.{Value}
 use Rattle.tags.specs.declared.token.Cont.{Cont}
@@ -63,3 +63,11 @@ abbrev pub IsHostChange : Part → ℕ → Word → Result HostChange ℕ → Ty
 IsHostChange h j w (Ok (Output v)) = (j < length h.outputs) × (slice_index_or h.outputs j None ≡ None) × (w ≡ Word.Val v)
 IsHostChange h j w (Ok Done) = (j ≡ length h.outputs) × (h.done ≡ false)
 IsHostChange h j w (Err rule) = (s : Store) → ((k : ℕ) → s.outputs k ≡ slice_index_or h.outputs k None) → s.done ≡ h.done → host_rule (length h.outputs) s j w ≡ Some rule
+
+abbrev pub CanFill : Part → ℕ → HostChange → Type 0
+CanFill h j (Output v) = j < length h.outputs
+CanFill h j Done = ⊤
+
+abbrev pub filled : Part → ℕ → HostChange → Part
+filled h j (Output v) = with_output h j v
+filled h j Done = with_done h

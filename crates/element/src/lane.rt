@@ -17,7 +17,7 @@ ghost use Rattle.semantics.specs.Rule.{slot_of};
 ghost use Rattle.element.specs.Decoded.{instr_of};
 ghost use Rattle.element.specs.Near.{IsNearToken};
 ghost use Rattle.element.specs.Acts.{ActsAs};
-ghost use Rattle.element.specs.Changed.{with_state, with_state_in, state_in, UsesSlot, OwnsCell, IsHostChange, IsRequested, IsReleased};
+ghost use Rattle.element.specs.Changed.{with_state, with_state_in, state_in, UsesSlot, OwnsCell, IsHostChange, CanFill, filled, IsRequested, IsReleased};
 ghost use Rattle.element.specs.Fired.{tokens_of};
 
 use crate::firing::{Made, Outcome, Seat, answer, fire};
@@ -413,14 +413,26 @@ impl<'m, A: Allocator> Lane<'m, A> {
         ensures { (p : Program) (before : List Token) → IsSoundLane p (held_of self.old) → ActsAs p (held_of self.old) at token before result (held_of self.new) before }
     {
         match self.host_change(port, token.word) {
-            Ok(HostChange::Output(value)) => {
+            Ok(change) => {
+                self.fill(port, change);
+                self.take(at);
+                Stepped::Did
+            }
+            Err(rule) => Stepped::Stuck { rule },
+        }
+    }
+
+    fn fill(&mut self, port: u32, change: HostChange)
+        requires { CanFill (part_of self.old) port change }
+        ensures held { held_of self.new ≡ with_part (held_of self.old) (filled (part_of self.old) port change) }
+        ensures queue { self.new.queue ≡ self.old.queue }
+    {
+        match change {
+            HostChange::Output(value) => {
                 self.outputs.as_mut_slice()[port as usize] = Some(value);
             }
-            Ok(HostChange::Done) => self.done = true,
-            Err(rule) => return Stepped::Stuck { rule },
+            HostChange::Done => self.done = true,
         }
-        self.take(at);
-        Stepped::Did
     }
 }
 
