@@ -4,3 +4,4 @@ pub mod Nearness
 pub mod Changing
 pub mod Acting
 pub mod Instructing
+pub mod Stepping

@@ -37,12 +37,12 @@ pub record IsSecond (h : Part) (t : Token) (cell : ℕ) : Type 0 where
   pub to : t.to ≡ To.Store cell value
   pub full : (s : Store) → IsPart h s → (w : Value) × (s.cells cell ≡ Full w)
 
-abbrev pub Stays : Held → List Token → Held → List Token → Type 0
-Stays old before new after = (new ≡ old) × (after ≡ before)
+abbrev pub Still : Held → List Token → Held → List Token → Type 0
+Still old before new after = (new ≡ old) × (after ≡ before)
 
 abbrev pub ActsAs : Program → Held → ℕ → Token → List Token → Stepped → Held → List Token → Type 0
 ActsAs p old at t before Idle new after = ⊥
 ActsAs p old at t before Did new after = Acts p old at t before new after
-ActsAs p old at t before (Clash cell) new after = IsSecond old.part t cell × Stays old before new after
-ActsAs p old at t before (Stuck rule) new after = IsStuck p old.part t rule × Stays old before new after
-ActsAs p old at t before Memory new after = Stays old before new after
+ActsAs p old at t before (Clash cell) new after = IsSecond old.part t cell × Still old before new after
+ActsAs p old at t before (Stuck rule) new after = IsStuck p old.part t rule × Still old before new after
+ActsAs p old at t before Memory new after = Still old before new after

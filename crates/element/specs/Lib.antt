@@ -5,3 +5,4 @@ pub mod Parts
 pub mod Held
 pub mod Changed
 pub mod Acts
+pub mod Steps

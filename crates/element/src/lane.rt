@@ -17,6 +17,7 @@ ghost use Rattle.semantics.specs.Rule.{slot_of};
 ghost use Rattle.element.specs.Decoded.{instr_of};
 ghost use Rattle.element.specs.Near.{IsNearToken};
 ghost use Rattle.element.specs.Acts.{ActsAs};
+ghost use Rattle.element.specs.Steps.{Steps};
 ghost use Rattle.element.specs.Changed.{with_state, with_state_in, state_in, UsesSlot, OwnsCell, IsHostChange, CanFill, filled, IsRequested, IsReleased};
 ghost use Rattle.element.specs.Fired.{tokens_of};
 
@@ -285,7 +286,7 @@ impl<'m, A: Allocator> Lane<'m, A> {
         at: usize,
         token: Token,
         cell: u32,
-        value: Value,
+        value: &Value,
         sent: &mut Vec<Token, A>,
     ) -> Stepped
     where
@@ -294,7 +295,7 @@ impl<'m, A: Allocator> Lane<'m, A> {
         requires here { cell % self.old.elements ≡ self.old.element }
         requires there { at < deque_len self.old.queue }
         requires few { self.old.made < 2 ^ 63 }
-        requires address { token.to ≡ To.Store cell value }
+        requires address { token.to ≡ To.Store cell value.now }
         requires own { OwnsCell (part_of self.old) cell }
         requires answered { self.old.answered.items ≡ [] }
         ensures { (p : Program) → IsSoundLane p (held_of self.old) → IsNearToken (bounds p (shape_of self.old)) token → ActsAs p (held_of self.old) at token sent.old.items result (held_of self.new) sent.new.items }
@@ -308,11 +309,11 @@ impl<'m, A: Allocator> Lane<'m, A> {
         if self.make_room(answers, sent).is_err() {
             return Stepped::Memory;
         }
-        match self.cells.store(cell, value, &mut self.answered) {
+        match self.cells.store(cell, *value, &mut self.answered) {
             StoreAnswer::Stored => {
                 self.take(at);
-                self.answer_all(&value, sent);
-                self.send(answer(cont, Word::Val(value)), sent);
+                self.answer_all(value, sent);
+                self.send(answer(cont, Word::Val(*value)), sent);
                 Stepped::Did
             }
             StoreAnswer::Second => Stepped::Clash { cell },
@@ -433,6 +434,65 @@ impl<'m, A: Allocator> Lane<'m, A> {
             }
             HostChange::Done => self.done = true,
         }
+    }
+
+    // What the token at `at` of the queue does.
+    fn act<C: Instructions>(
+        &mut self,
+        code: &C,
+        at: usize,
+        token: Token,
+        sent: &mut Vec<Token, A>,
+    ) -> Stepped
+    where
+        A: Clone,
+        requires sound { IsSoundLane (C.program code.now) (held_of self.old) }
+        requires width { C.width code.now ≤ self.old.bank.width }
+        requires there { at < deque_len self.old.queue }
+        requires few { self.old.made < 2 ^ 63 }
+        requires near { IsNearToken (bounds (C.program code.now) (shape_of self.old)) token }
+        requires addressed { element_of self.old.elements token.to ≡ self.old.element }
+        ensures { ActsAs (C.program code.now) (held_of self.old) at token sent.old.items result (held_of self.new) sent.new.items }
+    {
+        let to = token.to;
+        match to {
+            To::Instr { frame, ip, port } => {
+                self.at_instruction(code, at, token, Seat { frame, ip }, port, sent)
+            }
+            To::Fetch { cell } => self.at_fetch(at, token, cell, sent),
+            To::Store { cell, value } => self.at_store(at, token, cell, &value, sent),
+            To::Manager => self.at_manager(at, token, sent),
+            To::Release { frame } => self.at_release(at, token, frame, sent),
+            To::Host { port } => self.at_host(at, token, port),
+        }
+    }
+
+    /// The element takes the token that `pick`, modulo the number of its tokens, names from the oldest on. The token is
+    /// taken out and the others close up. New tokens go last: into the queue, and those for other elements into `sent`;
+    /// those to the outside come first, then those to the first destination and to the second; a store answers its
+    /// readers in the order in which they came, and whoever stored last. After `Clash`, `Stuck` and `Memory` all stands
+    /// as before.
+    pub fn step<C: Instructions>(
+        &mut self,
+        pick: u64,
+        code: &C,
+        sent: &mut Vec<Token, A>,
+    ) -> Stepped
+    where
+        A: Clone,
+        requires sound { IsSoundLane (C.program code.now) (held_of self.old) }
+        requires width { C.width code.now ≤ self.old.bank.width }
+        requires few { self.old.made < 2 ^ 63 }
+        ensures exact { Steps (C.program code.now) (held_of self.old) pick sent.old.items result (held_of self.new) sent.new.items }
+        ensures sound { IsSoundLane (C.program code.now) (held_of self.new) }
+    {
+        let waiting = self.queue.len();
+        if waiting == 0 {
+            return Stepped::Idle;
+        }
+        let at = (pick % waiting as u64) as usize;
+        let token = self.queue[at];
+        self.act(code, at, token, sent)
     }
 }
 
