@@ -51,7 +51,7 @@ module _ (z : Shape) (made : List Token) where
           (IsPermutation-append_left ((before ++ e) ++ others) (h ++ q) (q ++ h) (IsPermutation-append_comm h q))))
 
 module _ (p : Program) (old : Held) (pick : ℕ) (t : Token) (before : List Token) (sound : IsSoundLane p old) (some : 0 < length old.queue) (is : t ≡ get_or old.queue (place_of old pick) t) where
-  z : Shape
+  abbrev z : Shape
   z = old.part.shape
 
   within : place_of old pick < length old.queue
@@ -60,7 +60,7 @@ module _ (p : Program) (old : Held) (pick : ℕ) (t : Token) (before : List Toke
   picks : Picks old pick t
   picks = record { some = some; token = slice_get-get_or old.queue (place_of old pick) t within ∙ ap (λ (x : Token). Some x) (sym is) }
 
-  rest : List Token
+  abbrev rest : List Token
   rest = remove old.queue (place_of old pick)
 
   takes : IsPermutation old.queue (t ∷ rest)
