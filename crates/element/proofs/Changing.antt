@@ -319,14 +319,18 @@ output_changes p h t j v sound to_is word_is zero there empty = record {
   event = λ s part.
       let n : Store = with_output s j v in
       let low : j < outputs_of p = subst (λ (k : ℕ). j < k) (sound.outputs zero) there in
-      let told : Happens p total s (To.Host j) t.word [] n = inl (low, part.outputs zero j ∙ empty, (v, word_is, refl, refl)) in
-      (n, subst (λ (to : To). Happens p total s to t.word [] n) (sym to_is) told, record {
-        slots = part.slots;
-        cells = part.cells;
-        manager = λ z. manages_as h.manager s n refl refl (part.manager z);
-        outputs = λ z k. outputs_then s part k;
-        done = part.done;
-      }, record { slots = λ f r ne. refl; cells = λ x ne. refl; out = λ ne. refl; requests = λ ne. refl; outputs = λ ne. absurd (ne zero); done = λ ne. refl });
+      let told : Happens p total s (To.Host j) t.word [] n = inl (low, part.outputs zero j ∙ empty, (v, word_is, refl, refl)) in (
+        n,
+        subst (λ (to : To). Happens p total s to t.word [] n) (sym to_is) told,
+        record {
+          slots = part.slots;
+          cells = part.cells;
+          manager = λ z. manages_as h.manager s n refl refl (part.manager z);
+          outputs = λ z k. outputs_then s part k;
+          done = part.done;
+        },
+        record { slots = λ f r ne. refl; cells = λ x ne. refl; out = λ ne. refl; requests = λ ne. refl; outputs = λ ne. absurd (ne zero); done = λ ne. refl },
+      );
 }
   where
     total : ℕ
@@ -352,14 +356,18 @@ done_changes p h t j sound to_is zero last open_ = record {
   near = All-nil (IsNearToken (bounds p h.shape));
   event = λ s part.
       let n : Store = with_done s in
-      let told : Happens p total s (To.Host j) t.word [] n = inr (last ∙ sound.outputs zero, part.done zero ∙ open_, refl, refl) in
-      (n, subst (λ (to : To). Happens p total s to t.word [] n) (sym to_is) told, record {
-        slots = part.slots;
-        cells = part.cells;
-        manager = λ z. manages_as h.manager s n refl refl (part.manager z);
-        outputs = part.outputs;
-        done = λ z. refl;
-      }, record { slots = λ f r ne. refl; cells = λ x ne. refl; out = λ ne. refl; requests = λ ne. refl; outputs = λ ne. refl; done = λ ne. absurd (ne zero) });
+      let told : Happens p total s (To.Host j) t.word [] n = inr (last ∙ sound.outputs zero, part.done zero ∙ open_, refl, refl) in (
+        n,
+        subst (λ (to : To). Happens p total s to t.word [] n) (sym to_is) told,
+        record {
+          slots = part.slots;
+          cells = part.cells;
+          manager = λ z. manages_as h.manager s n refl refl (part.manager z);
+          outputs = part.outputs;
+          done = λ z. refl;
+        },
+        record { slots = λ f r ne. refl; cells = λ x ne. refl; out = λ ne. refl; requests = λ ne. refl; outputs = λ ne. refl; done = λ ne. absurd (ne zero) },
+      );
 }
   where
     total : ℕ

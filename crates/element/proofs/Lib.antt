@@ -5,3 +5,4 @@ pub mod Changing
 pub mod Acting
 pub mod Instructing
 pub mod Stepping
+pub mod Opening

@@ -6,3 +6,4 @@ pub mod Held
 pub mod Changed
 pub mod Acts
 pub mod Steps
+pub mod Openings

@@ -1,13 +1,13 @@
 //! What an element holds, and what it does with a token.
 
-ghost use Rattle.std.specs.Prelude.{◌≡◌, ℕ, ◌+◌, ◌*◌, ◌%◌, ◌<◌, ◌≤◌, ◌^◌, [], ◌∷◌, ◌++◌, length, All, OnOk, IfOk, Some, None, IsSome, vec_len, option_to_list, slice_index_or, remove};
+ghost use Rattle.std.specs.Prelude.{◌≡◌, ℕ, ◌+◌, ◌*◌, ◌%◌, ◌<◌, ◌≤◌, ◌^◌, [], ◌∷◌, ◌++◌, length, All, OnOk, OnErr, IfOk, IfSome, IfNone, Some, None, IsSome, replicate, vec_len, option_to_list, slice_index_or, remove};
 ghost use Rattle.std.specs.Vec.{vec_capacity};
 ghost use Rattle.std.specs.VecDeque.{deque_len, deque_capacity};
 ghost use Rattle.tags.specs.declared.token.Token.{Token};
 ghost use Rattle.tags.specs.declared.token.To.{To};
-ghost use Rattle.element.specs.Held.{held_of, part_of, shape_of, here, elsewhere, queued, taken, cleared, with_part, IsSoundLane};
+ghost use Rattle.element.specs.Held.{held_of, part_of, shape_of, here, elsewhere, queued, taken, cleared, with_queue, with_part, IsSoundLane};
 ghost use Rattle.tags.specs.declared.slot.SlotState.TheVariants.{Empty};
-ghost use Rattle.frame_store.specs.BankViews.{IsBank};
+ghost use Rattle.frame_store.specs.BankViews.{IsBank, bank_states};
 ghost use Rattle.semantics.specs.Machine.{answers};
 ghost use Rattle.element.specs.Parts.{slot_place, bounds};
 ghost use Rattle.std.specs.Prelude.{List};
@@ -17,7 +17,8 @@ ghost use Rattle.semantics.specs.Rule.{slot_of};
 ghost use Rattle.element.specs.Decoded.{instr_of};
 ghost use Rattle.element.specs.Near.{IsNearToken};
 ghost use Rattle.element.specs.Acts.{ActsAs};
-ghost use Rattle.element.specs.Steps.{Steps};
+ghost use Rattle.element.specs.Steps.{Steps, Picks};
+ghost use Rattle.element.specs.Openings.{opened, shape_at, IsOpening, StartsAs};
 ghost use Rattle.element.specs.Changed.{with_state, with_state_in, state_in, UsesSlot, OwnsCell, IsHostChange, CanFill, filled, IsRequested, IsReleased};
 ghost use Rattle.element.specs.Fired.{tokens_of};
 
@@ -68,7 +69,72 @@ pub struct Lane<'m, A: Allocator> {
     pub answered: Vec<Cont, A>,
 }
 
+// So many outputs that are not filled.
+fn no_outputs(count: u32) -> ArrayVec<Option<Value>, 16>
+    requires { count ≤ 16 }
+    ensures { result.items ≡ replicate count None }
+{
+    let mut outputs = ArrayVec::from([None; 16]);
+    outputs.truncate(count as usize);
+    outputs
+}
+
 impl<'m, A: Allocator> Lane<'m, A> {
+    /// A lane with no tokens, over the slots and the cells of its element, and on element 0 with the frame manager and as
+    /// many outputs as main has.
+    pub fn new(
+        alloc: A,
+        element: u32,
+        elements: u32,
+        bank: BankMut<'m>,
+        cells: Cells<A>,
+        manager: Option<Manager<A>>,
+        outputs: u32,
+    ) -> Result<Lane<'m, A>, AllocError>
+    where
+        A: Clone,
+        requires { outputs ≤ 16 }
+        ensures exact { IfOk result (λ lane. held_of lane ≡ opened (shape_at element elements bank.entry) (bank_states bank.entry) cells manager outputs) }
+        ensures starts { IfOk result (λ lane. (p : Program) → IsOpening p (part_of lane) → IsSoundLane p (held_of lane) × StartsAs p (part_of lane)) }
+    {
+        let queue = VecDeque::new(alloc.clone()?);
+        Ok(Lane {
+            element,
+            elements,
+            bank,
+            cells,
+            manager,
+            queue,
+            outputs: no_outputs(outputs),
+            done: false,
+            made: 0,
+            answered: Vec::new(alloc),
+        })
+    }
+
+    /// Puts a token for this element last into the queue. After an error all stands as before.
+    pub fn receive(&mut self, token: Token) -> Result<(), AllocError>
+        ensures ok { OnOk result (held_of self.new ≡ with_queue (held_of self.old) (self.old.queue.items ++ token ∷ [])) }
+        ensures err { OnErr result (held_of self.new ≡ held_of self.old) }
+        ensures sound { (p : Program) → IsSoundLane p (held_of self.old) → IsNearToken (bounds p (shape_of self.old)) token → element_of self.old.elements token.to ≡ self.old.element → IsSoundLane p (held_of self.new) }
+    {
+        self.queue.reserve(1)?;
+        self.queue.push_back_reserved(token);
+        Ok(())
+    }
+
+    /// The token that `pick` names, as `step` takes it.
+    pub fn token(&self, pick: u64) -> Option<Token>
+        ensures some { IfSome result (Picks (held_of self.now) pick) }
+        ensures none { IfNone result (self.now.queue.items ≡ []) }
+    {
+        let waiting = self.queue.len();
+        if waiting == 0 {
+            return None;
+        }
+        Some(self.queue[(pick % waiting as u64) as usize])
+    }
+
     // Makes room for so many tokens. After an error all stands as before.
     fn make_room(&mut self, tokens: usize, sent: &mut Vec<Token, A>) -> Result<(), AllocError>
         ensures held { held_of self.new ≡ held_of self.old }
@@ -165,7 +231,8 @@ impl<'m, A: Allocator> Lane<'m, A> {
         requires slot { slot < self.now.bank.width }
         ensures { result ≡ slice_index_or (part_of self.now).states (slot_place (shape_of self.now) frame slot) Empty }
     {
-        self.bank.state((frame / self.elements) as usize, slot as usize)
+        self.bank
+            .state((frame / self.elements) as usize, slot as usize)
     }
 
     fn set_slot(&mut self, frame: FrameId, slot: u32, state: SlotState)
@@ -176,7 +243,8 @@ impl<'m, A: Allocator> Lane<'m, A> {
         ensures held { held_of self.new ≡ with_part (held_of self.old) (with_state (part_of self.old) (slot_place (shape_of self.old) frame slot) state) }
         ensures queue { self.new.queue ≡ self.old.queue }
     {
-        self.bank.set((frame / self.elements) as usize, slot as usize, state);
+        self.bank
+            .set((frame / self.elements) as usize, slot as usize, state);
     }
 
     fn at_instruction<C: Instructions>(
@@ -243,13 +311,7 @@ impl<'m, A: Allocator> Lane<'m, A> {
         }
     }
 
-    fn at_fetch(
-        &mut self,
-        at: usize,
-        token: Token,
-        cell: u32,
-        sent: &mut Vec<Token, A>,
-    ) -> Stepped
+    fn at_fetch(&mut self, at: usize, token: Token, cell: u32, sent: &mut Vec<Token, A>) -> Stepped
     where
         A: Clone,
         requires some { 0 < self.old.elements }

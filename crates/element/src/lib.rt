@@ -4,3 +4,11 @@
 pub mod firing;
 pub mod instructions;
 pub mod lane;
+
+ghost use Rattle.element.specs.Openings.{OthersStay};
+
+/// Where one element makes an event, the parts of the others stay.
+#[tactic(auto, using(crate::proofs::Opening::others_stay))]
+pub fn others_stay()
+    ensures { OthersStay }
+{}

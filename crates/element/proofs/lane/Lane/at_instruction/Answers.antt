@@ -24,7 +24,7 @@ returns-else-is_err g c =
     let v = c.in-Becomes.slot in
     let made = tokens_of c.in-Becomes.made in
     let changes = instructed p (g.C.Instructions.width c.args.code.now) old.part c.args.token c.args.seat.frame c.args.seat.ip c.args.port i v made c.slot_of-slot.result c.requires.sound.part c.requires.width c.requires.address c.requires.near c.requires.addressed
-        c.in-Some.ensures.short (sym c.in-Some.ensures.exact) c.slot_of-slot.ensures (sym c.in-Becomes.ensures) in
+    c.in-Some.ensures.short (sym c.in-Some.ensures.exact) c.slot_of-slot.ensures (sym c.in-Becomes.ensures) in
     let second = c.take.ensures.held ∙ ap (λ (m : Held). taken m c.args.at) c.keep.ensures.held ∙ ap (λ (m : Held). taken (with_part mid (with_state_in m.part c.args.seat.frame (slot_of (instr_of i) i.op) v)) c.args.at) same in
     acts p old mid (held_of c.take.new.self) (held_of c.send_all.new.self) c.args.at c.args.token made (with_state_in old.part c.args.seat.frame (slot_of (instr_of i) i.op) v) c.args.sent.now.items c.make_room.new.sent.items c.send_all.new.sent.items
     same c.make_room.ensures.sent changes second c.send_all.ensures.held c.send_all.ensures.sent
