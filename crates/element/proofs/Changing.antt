@@ -27,7 +27,7 @@ use Rattle.element.specs.declared.lane.HostChange.TheVariants.{Output, Done}
 use Rattle.element.specs.Near.{Bounds, IsNearCont, IsNearWord, IsNearTo, IsNearToken, IsNearSlot, IsNearCell}
 use Rattle.element.specs.Parts.{Shape, Part, Manages, IsPart, IsSoundManager, SameElsewhere, IsSound, bounds}
 use Rattle.element.specs.Changed.{with_state, state_in, with_state_in, with_cells, with_manager, IsRequested, IsReleased, IsHostChange, filled, with_output as part_output, with_done as part_done}
-use Rattle.element.specs.Acts.{Changes}
+use Rattle.element.specs.Acts.{Changes, ServesFirst}
 use Rattle.frame_manager.specs.Managed.{Managed}
 use Rattle.element.proofs.Only.{OnlyCell, OnlyFrames, fetch_only, store_only, request_only, release_only, manages_as, part_with_cells, cells_elsewhere, part_with_manager, frames_elsewhere}
 use Rattle.element.proofs.Nearness.{back_near, one_near}
@@ -98,6 +98,7 @@ module _ (p : Program) (h : Part) (f : ℕ) (v : SlotState) (sound : IsSound p h
     shape = slot_shape (slot_of i i.op);
     sound = slot_sound (slot_of i i.op) near;
     near = all_near;
+    first = subst (λ (to : To). ServesFirst h to t.word made (with_state_in h f (slot_of i i.op) v)) (sym to_is) tt;
     event = λ s part. (with_slot_in s f (slot_of i i.op) v, happens s part, slot_part (slot_of i i.op) s low part, slot_elsewhere (slot_of i i.op) s);
   }
     where
@@ -165,6 +166,7 @@ fetch_changes p h t x c a cells sound to_is word_is near ours good at event = re
   shape = refl;
   sound = fetched_sound p h x c a cells sound (word_near (bounds p h.shape) t c near word_is) good at;
   near = fetch_tokens_near (bounds p h.shape) c a (word_near (bounds p h.shape) t c near word_is) good;
+  first = subst (λ (to : To). ServesFirst h to t.word (fetch_tokens c a) (with_cells h cells)) (sym to_is) tt;
   event = λ s part.
       let e = event good s part.cells in
       let only = fetch_only s x c (s.cells x) (fetch_tokens c a) e.0 e.1 in
@@ -185,6 +187,7 @@ store_changes p h t x v c room cells listed sound to_is word_is near ours at eve
   shape = refl;
   sound = cells_sound p h x (Full v) cells sound tt at.2;
   near = answers_near b (listed ++ c ∷ []) v (All-push (IsNearCont b) listed c (subst (λ (rs : List Cont). All (IsNearCont b) rs) (sym at.3) (readers_near b h.cells x at.0 sound.readers at.1)) (word_near b t c near word_is));
+  first = subst (λ (to : To). ServesFirst h to t.word (answers (listed ++ c ∷ []) v) (with_cells h cells)) (sym to_is) tt;
   event = λ s part.
       let e = event c s part.cells in
       let stores : Stores s x v c (s.cells x) (answers (listed ++ c ∷ []) v) e.1 = subst (λ (rs : List Cont). Stores s x v c (s.cells x) (answers (rs ++ c ∷ []) v) e.1) (sym e.2) e.3 in
@@ -233,6 +236,9 @@ request_changes p h t c m n given sound to_is word_is near zero has r event = re
   shape = refl;
   sound = frames_sound p h n sound after.0 after.1;
   near = after.2;
+  first = subst (λ (to : To). ServesFirst h to t.word (request_tokens c given) (with_manager h (Some n))) (sym to_is)
+      (subst (λ (w : Word). ServesFirst h To.Manager w (request_tokens c given) (with_manager h (Some n))) (sym word_is)
+      (given, refl, subst (λ (k : Option Managed). IsRequested k c (Ok given) (Some n)) (sym has) (r, event)));
   event = λ s part.
       let held : HoldsFrames m s = subst (λ (k : Option Managed). Manages k s) has (part.manager zero) in
       let e = event s held in
@@ -279,6 +285,8 @@ release_changes p h t f m n given sound to_is zero has r event = record {
   shape = refl;
   sound = frames_sound p h n sound after.0 after.1;
   near = after.2;
+  first = subst (λ (to : To). ServesFirst h to t.word (release_tokens given) (with_manager h (Some n))) (sym to_is)
+      (given, refl, subst (λ (k : Option Managed). IsReleased k f (Ok given) (Some n)) (sym has) (r, event));
   event = λ s part.
       let held : HoldsFrames m s = subst (λ (k : Option Managed). Manages k s) has (part.manager zero) in
       let e = event s held in
@@ -316,6 +324,7 @@ output_changes p h t j v sound to_is word_is zero there empty = record {
     outputs = λ z. length-set h.outputs j (Some v) ∙ sound.outputs z;
   };
   near = All-nil (IsNearToken (bounds p h.shape));
+  first = subst (λ (to : To). ServesFirst h to t.word [] (part_output h j v)) (sym to_is) tt;
   event = λ s part.
       let n : Store = with_output s j v in
       let low : j < outputs_of p = subst (λ (k : ℕ). j < k) (sound.outputs zero) there in
@@ -354,6 +363,7 @@ done_changes p h t j sound to_is zero last open_ = record {
     outputs = sound.outputs;
   };
   near = All-nil (IsNearToken (bounds p h.shape));
+  first = subst (λ (to : To). ServesFirst h to t.word [] (part_done h)) (sym to_is) tt;
   event = λ s part.
       let n : Store = with_done s in
       let told : Happens p total s (To.Host j) t.word [] n = inr (last ∙ sound.outputs zero, part.done zero ∙ open_, refl, refl) in (

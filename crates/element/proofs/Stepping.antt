@@ -15,7 +15,7 @@ use Rattle.element.specs.declared.lane.Stepped.TheVariants.{Idle, Did, Clash, St
 use Rattle.element.specs.Near.{Bounds, IsNearToken}
 use Rattle.element.specs.Parts.{Shape, Part, IsPart, SameElsewhere, IsSound, bounds}
 use Rattle.element.specs.Held.{Held, is_here, here, elsewhere, queued, taken, with_part, IsSoundLane}
-use Rattle.element.specs.Acts.{Changes, Acts, ActsAs}
+use Rattle.element.specs.Acts.{Changes, Acts, ActsAs, ServesFirst}
 use Rattle.element.specs.Steps.{size_of, place_of, Picks, HoldsTokens, IsAfter, Does, Steps}
 
 -- WHERE TOKENS ARE
@@ -102,6 +102,7 @@ module _ (p : Program) (old : Held) (pick : ℕ) (t : Token) (before : List Toke
     queue = ap (λ (h : Held). h.queue) acts.held ∙ ap (λ (s : Shape). rest ++ here s acts.made) acts.changes.shape;
     sent = acts.sent;
     near = acts.changes.near;
+    first = subst (λ (k : Part). ServesFirst old.part t.to t.word acts.made k) (sym (ap (λ (h : Held). h.part) acts.held)) acts.changes.first;
     count = ap (λ (h : Held). h.made) acts.held;
     shape = ap (λ (h : Held). h.part.shape) acts.held ∙ acts.changes.shape;
     event = λ m others part pool. after_event new after acts m others part pool;

@@ -1,6 +1,8 @@
 -- What an element does with one token.
-use Rattle.std.specs.Prelude.{◌≡◌, ℕ, ◌*◌, List, All, Some, ◌++◌}
+use Rattle.std.specs.Prelude.{◌≡◌, ℕ, ◌*◌, List, All, Option, Some, Ok, ◌++◌, ⊤}
 use Rattle.tags.specs.declared.value.Value.{Value}
+use Rattle.tags.specs.declared.token.Cont.{Cont}
+use Rattle.tags.specs.declared.token.Word.{Word}
 use Rattle.tags.specs.declared.token.To.{To}
 use Rattle.tags.specs.declared.token.Token.{Token}
 use Rattle.semantics.specs.Program.{Program}
@@ -9,7 +11,15 @@ use Rattle.element.specs.declared.lane.Stepped.{Stepped}
 use Rattle.element.specs.declared.lane.Stepped.TheVariants.{Idle, Did, Clash, Stuck, Memory}
 use Rattle.element.specs.Near.{IsNearToken}
 use Rattle.element.specs.Parts.{Part, IsPart, SameElsewhere, IsSound, bounds}
+use Rattle.frame_manager.specs.Answered.{request_tokens, release_tokens}
+use Rattle.element.specs.Changed.{IsRequested, IsReleased}
 use Rattle.element.specs.Held.{Held, taken, queued, with_part, elsewhere}
+
+-- The manager hands out the free frame of least number, and serves first the request that has waited longest.
+abbrev pub ServesFirst : Part → To → Word → List Token → Part → Type 0
+ServesFirst old To.Manager (Word.Back c) made new = (given : Option ℕ) × (made ≡ request_tokens c given) × IsRequested old.manager c (Ok given) new.manager
+ServesFirst old (To.Release f) w made new = (given : Option (Cont × ℕ)) × (made ≡ release_tokens given) × IsReleased old.manager f (Ok given) new.manager
+ServesFirst old to w made new = ⊤
 
 -- An event of any machine of which the part is the element's: the token's rule happens there, the new part is the
 -- element's, and what lies on other elements stays.
@@ -17,6 +27,7 @@ pub record Changes (p : Program) (old : Part) (t : Token) (made : List Token) (n
   pub shape : new.shape ≡ old.shape
   pub sound : IsSound p new
   pub near : All (IsNearToken (bounds p old.shape)) made
+  pub first : ServesFirst old t.to t.word made new
   pub event : (s : Store) → IsPart old s → (n : Store) × Happens p (old.shape.elements * old.shape.frames) s t.to t.word made n × IsPart new n × SameElsewhere old.shape s n
 
 -- The token is taken out of the queue. What it makes goes last: into the queue, or to the others.

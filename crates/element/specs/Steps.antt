@@ -10,7 +10,7 @@ use Rattle.element.specs.declared.lane.Stepped.TheVariants.{Idle, Did, Clash, St
 use Rattle.element.specs.Near.{IsNearToken}
 use Rattle.element.specs.Parts.{Shape, Part, IsPart, SameElsewhere, bounds}
 use Rattle.element.specs.Held.{Held, here, elsewhere}
-use Rattle.element.specs.Acts.{IsStuck, IsSecond}
+use Rattle.element.specs.Acts.{ServesFirst, IsStuck, IsSecond}
 
 abbrev pub size_of : Shape → Size
 size_of z = record { elements = z.elements; frames = z.frames }
@@ -46,6 +46,7 @@ pub record Does (p : Program) (old : Held) (pick : ℕ) (before : List Token) (n
   pub queue : new.queue ≡ remove old.queue (place_of old pick) ++ here old.part.shape made
   pub sent : after ≡ before ++ elsewhere old.part.shape made
   pub near : All (IsNearToken (bounds p old.part.shape)) made
+  pub first : ServesFirst old.part token.to token.word made new.part
   pub count : new.made ≡ old.made + 1
   pub shape : new.part.shape ≡ old.part.shape
   pub event : (m : Machine) (others : List Token) → IsPart old.part m.store → HoldsTokens old before others m → IsAfter p old token new after others made m
