@@ -1,5 +1,5 @@
 -- A step is an event of the machine.
-use Rattle.std.proofs.Common.{◌≡◌, refl, sym, ◌∙◌, ap, subst, ℕ, ◌+◌, ◌*◌, ◌%◌, ◌<◌, Bool, true, false, not, List, [], ◌∷◌, ◌++◌, length, get_or, Option, Some, None, arith, append_assoc}
+use Rattle.std.proofs.Common.{◌≡◌, refl, sym, ◌∙◌, ap, subst, ℕ, ◌+◌, ◌*◌, ◌%◌, ◌<◌, ◌≤◌, Bool, true, false, not, List, [], ◌∷◌, ◌++◌, length, get_or, Option, Some, None, arith, append_assoc}
 use Rattle.std.specs.Prelude.{All, remove, slice_get, IsPermutation, ◌==◌}
 use Rattle.std.proofs.Math.Nat.{mod-lt}
 use Rattle.std.proofs.lemmas.Bool.{eqb-true}
@@ -147,3 +147,17 @@ module _ (p : Program) (old : Held) (pick : ℕ) (t : Token) (before : List Toke
   sound_as (Clash cell) new after acts = subst (λ (h : Held). IsSoundLane p h) (sym acts.1.0) sound
   sound_as (Stuck rule) new after acts = subst (λ (h : Held). IsSoundLane p h) (sym acts.1.0) sound
   sound_as Memory new after acts = subst (λ (h : Held). IsSoundLane p h) (sym acts.0) sound
+
+  pub shape_as : (result : Stepped) (new : Held) (after : List Token) → ActsAs p old (place_of old pick) t before result new after → new.part.shape ≡ old.part.shape
+  shape_as Idle new after acts = absurd acts
+  shape_as Did new after acts = ap (λ (h : Held). h.part.shape) acts.held ∙ acts.changes.shape
+  shape_as (Clash cell) new after acts = ap (λ (h : Held). h.part.shape) acts.1.0
+  shape_as (Stuck rule) new after acts = ap (λ (h : Held). h.part.shape) acts.1.0
+  shape_as Memory new after acts = ap (λ (h : Held). h.part.shape) acts.0
+
+  pub made_as : (result : Stepped) (new : Held) (after : List Token) → ActsAs p old (place_of old pick) t before result new after → new.made ≤ old.made + 1
+  made_as Idle new after acts = absurd acts
+  made_as Did new after acts = let e : new.made ≡ old.made + 1 = ap (λ (h : Held). h.made) acts.held in omega arith
+  made_as (Clash cell) new after acts = let e : new.made ≡ old.made = ap (λ (h : Held). h.made) acts.1.0 in omega arith
+  made_as (Stuck rule) new after acts = let e : new.made ≡ old.made = ap (λ (h : Held). h.made) acts.1.0 in omega arith
+  made_as Memory new after acts = let e : new.made ≡ old.made = ap (λ (h : Held). h.made) acts.0 in omega arith

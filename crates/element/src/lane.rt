@@ -547,6 +547,8 @@ impl<'m, A: Allocator> Lane<'m, A> {
         requires few { self.old.made < 2 ^ 63 }
         ensures exact { Steps (C.program code.now) (held_of self.old) pick sent.old.items result (held_of self.new) sent.new.items }
         ensures sound { IsSoundLane (C.program code.now) (held_of self.new) }
+        ensures shape { shape_of self.new ≡ shape_of self.old }
+        ensures made { self.new.made ≤ self.old.made + 1 }
     {
         let waiting = self.queue.len();
         if waiting == 0 {

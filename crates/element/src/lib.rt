@@ -4,6 +4,8 @@
 pub mod firing;
 pub mod instructions;
 pub mod lane;
+#[cfg(test)]
+mod tests;
 
 ghost use Rattle.element.specs.Openings.{OthersStay};
 
