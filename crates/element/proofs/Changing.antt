@@ -1,9 +1,9 @@
 -- Events in any machine of which the part is the element's.
-use Rattle.std.proofs.Common.{◌≡◌, ◌≢◌, refl, sym, ◌∙◌, ap, subst, ℕ, ◌+◌, ◌*◌, ◌/◌, ◌%◌, ◌<◌, ◌≤◌, Bool, true, false, List, [], ◌∷◌, ◌++◌, length, get_or, set, map, Option, Some, None, Ok, inl, inr, arith, length-set, ⊎_elim}
-use Rattle.std.specs.Prelude.{All, sum, slice_get, option_and_then}
+use Rattle.std.proofs.Common.{◌≡◌, refl, sym, ◌∙◌, ap, subst, ℕ, ◌+◌, ◌*◌, ◌/◌, ◌%◌, ◌<◌, ◌≤◌, Bool, true, false, List, [], ◌∷◌, ◌++◌, length, get_or, set, Option, Some, None, Ok, inl, inr, arith, length-set, ⊎_elim}
+use Rattle.std.specs.Prelude.{All, slice_get, option_and_then}
 use Rattle.std.proofs.lemmas.List.{get_or_past}
 use Rattle.std.proofs.lemmas.Option.{same_Some, get_or_from_slice_get, slice_get_within}
-use Rattle.std.proofs.lemmas.List.Elements.{All-nil, All-cons, All-map, All-set, All-append, All-push, All-head, All-tail, All-get_or}
+use Rattle.std.proofs.lemmas.List.Elements.{All-nil, All-map, All-set, All-push, All-head, All-tail}
 use Rattle.tags.specs.declared.value.Value.{Value}
 use Rattle.tags.specs.declared.token.Port.{Port}
 use Rattle.tags.specs.declared.token.Cont.{Cont}
@@ -11,10 +11,9 @@ use Rattle.tags.specs.declared.token.Word.{Word}
 use Rattle.tags.specs.declared.token.To.{To}
 use Rattle.tags.specs.declared.token.Token.{Token}
 use Rattle.tags.specs.declared.slot.SlotState.{SlotState}
-use Rattle.tags.specs.declared.slot.SlotState.TheVariants.{Empty}
 use Rattle.semantics.specs.Program.{Instr, Program, instr_at}
-use Rattle.semantics.specs.Rule.{back_to, Seat, Outcome, Becomes, token, rule_at, outcome_of, slot_of}
-use Rattle.semantics.specs.Machine.{Store, CellState, Vacant, Full, Deferred, Happens, Fires, Fetches, Stores, Requests, Releases, Hosts, slot_in, slot_used, with_slot_in, answer, answers, outputs_of, put_at, with_output, with_done}
+use Rattle.semantics.specs.Rule.{back_to, Seat, Outcome, Becomes, rule_at, outcome_of, slot_of}
+use Rattle.semantics.specs.Machine.{Store, CellState, Vacant, Full, Deferred, Happens, Fires, Stores, Requests, slot_in, slot_used, with_slot_in, answer, answers, outputs_of, put_at, with_output, with_done}
 use Rattle.istructure.specs.declared.FetchAnswer.{FetchAnswer}
 use Rattle.istructure.specs.declared.StoreAnswer.{StoreAnswer}
 use Rattle.istructure.specs.OwnCells.{OwnCells, place_of, with_cell_at, waiting_in, waiting_at}
@@ -24,12 +23,12 @@ use Rattle.frame_manager.specs.Flags.{flag_at}
 use Rattle.frame_manager.specs.Answered.{Requested, Released, HoldsFrames, RequestIsEvent, ReleaseIsEvent, request_tokens, release_tokens}
 use Rattle.element.specs.declared.lane.HostChange.{HostChange}
 use Rattle.element.specs.declared.lane.HostChange.TheVariants.{Output, Done}
-use Rattle.element.specs.Near.{Bounds, IsNearCont, IsNearWord, IsNearTo, IsNearToken, IsNearSlot, IsNearCell}
-use Rattle.element.specs.Parts.{Shape, Part, Manages, IsPart, IsSoundManager, SameElsewhere, IsSound, bounds}
-use Rattle.element.specs.Changed.{with_state, state_in, with_state_in, with_cells, with_manager, IsRequested, IsReleased, IsHostChange, filled, with_output as part_output, with_done as part_done}
+use Rattle.element.specs.Near.{Bounds, IsNearCont, IsNearWord, IsNearToken, IsNearSlot, IsNearCell}
+use Rattle.element.specs.Parts.{Part, Manages, IsPart, IsSoundManager, SameElsewhere, IsSound, bounds}
+use Rattle.element.specs.Changed.{state_in, with_state_in, with_cells, with_manager, IsRequested, IsReleased, IsHostChange, filled, with_output as part_output, with_done as part_done}
 use Rattle.element.specs.Acts.{Changes, ServesFirst}
 use Rattle.frame_manager.specs.Managed.{Managed}
-use Rattle.element.proofs.Only.{OnlyCell, OnlyFrames, fetch_only, store_only, request_only, release_only, manages_as, part_with_cells, cells_elsewhere, part_with_manager, frames_elsewhere}
+use Rattle.element.proofs.Only.{fetch_only, store_only, request_only, release_only, manages_as, part_with_cells, cells_elsewhere, part_with_manager, frames_elsewhere}
 use Rattle.element.proofs.Nearness.{back_near, one_near}
 use Rattle.element.proofs.Places.{put_other, set_at, slot_then, either, agree}
 

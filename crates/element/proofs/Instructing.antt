@@ -1,11 +1,10 @@
 -- An instruction's event.
-use Rattle.std.proofs.Common.{◌≡◌, refl, sym, ◌∙◌, ap, subst, ℕ, ◌+◌, ◌*◌, ◌%◌, ◌<◌, ◌≤◌, ◌^◌, List, [], ◌∷◌, ◌++◌, length, get_or, Option, Some, None, arith, ⊎_elim}
-use Rattle.std.specs.Prelude.{All, sum, IfSome, take, drop, slice_index_or, option_to_list, ⊤}
+use Rattle.std.proofs.Common.{◌≡◌, sym, subst, ℕ, ◌+◌, ◌*◌, ◌%◌, ◌<◌, ◌≤◌, ◌^◌, List, length, Option, Some, None, arith, ⊎_elim}
+use Rattle.std.specs.Prelude.{sum, IfSome, take, slice_index_or, option_to_list}
 use Rattle.std.proofs.lemmas.List.{get_or_past}
 use Rattle.std.proofs.lemmas.List.Sums.{sum_by-take-drop, sum_by-drop_more}
 use Rattle.std.proofs.lemmas.Grind.{common_steps}
 use Rattle.tags.specs.declared.token.Port.{Port}
-use Rattle.tags.specs.declared.token.Port.TheVariants.{Left}
 use Rattle.tags.specs.declared.token.Cont.{Cont}
 use Rattle.tags.specs.declared.token.Word.{Word}
 use Rattle.tags.specs.declared.token.To.{To}
@@ -18,12 +17,12 @@ use Rattle.semantics.specs.declared.program.Dest.{Dest}
 use Rattle.semantics.specs.declared.program.Op.{Op}
 use Rattle.semantics.specs.declared.program.Op.TheVariants.{Apply2, Sync, Switch, Store, Send, Return, Ask, Open, Take, Give, Drain, Release}
 use Rattle.semantics.specs.Program.{Instr, Program, instr_at}
-use Rattle.semantics.specs.Rule.{Seat, Outcome, Becomes, outcome_of, slot_of, answer_to, landing_at, array_base, array_len}
+use Rattle.semantics.specs.Rule.{Outcome, Becomes, outcome_of, slot_of, answer_to, landing_at}
 use Rattle.element.specs.declared.instructions.Instruction.{Instruction}
 use Rattle.element.specs.Decoded.{instr_of, IsShort}
 use Rattle.element.specs.Fired.{HasRoom, HasRoomInWord, HasRoomInSlot}
 use Rattle.element.specs.Near.{Bounds, IsNearCont, IsNearWord, IsNearTo, IsNearToken, IsNearSlot}
-use Rattle.element.specs.Parts.{Shape, Part, IsSound, bounds, slot_place}
+use Rattle.element.specs.Parts.{Part, IsSound, bounds, slot_place}
 use Rattle.element.specs.Changed.{state_in, with_state_in}
 use Rattle.element.specs.Acts.{Changes}
 use Rattle.element.proofs.Places.{either}

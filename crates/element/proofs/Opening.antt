@@ -1,29 +1,26 @@
 -- A lane before the first event, and lanes that make none.
-use Rattle.std.proofs.Common.{◌≡◌, ◌≢◌, refl, sym, ◌∙◌, ap, subst, ℕ, zero, suc, ◌+◌, ◌-◌, ◌*◌, ◌/◌, ◌%◌, ◌<◌, ◌≤◌, Bool, true, false, List, [], ◌∷◌, ◌++◌, length, get_or, replicate, Option, Some, None, arith, ⊎_elim}
-use Rattle.std.specs.Prelude.{All, sum, ◌==◌, slice_get}
-use Rattle.std.proofs.lemmas.List.{get_or_past, length-replicate, get_or-replicate}
+use Rattle.std.proofs.Common.{◌≡◌, ◌≢◌, refl, sym, ◌∙◌, ap, subst, ℕ, zero, suc, ◌-◌, ◌*◌, ◌/◌, ◌%◌, ◌<◌, ◌≤◌, Bool, false, List, [], ◌∷◌, ◌++◌, length, get_or, replicate, Option, Some, None, arith, ⊎_elim}
+use Rattle.std.specs.Prelude.{All, sum, ◌==◌}
+use Rattle.std.proofs.lemmas.List.{get_or_past, length-replicate}
 use Rattle.std.proofs.lemmas.Option.{get_or_from_slice_get}
 use Rattle.std.proofs.Math.Dec.{eqb-suc-zero}
 use Rattle.istructure.proofs.Fresh.{vacant_here}
 use Rattle.std.proofs.lemmas.List.Elements.{All-nil, All-weaker, All-replicate, All-push}
 use Rattle.tags.specs.declared.value.Value.{Value}
-use Rattle.tags.specs.declared.token.Cont.{Cont}
 use Rattle.tags.specs.declared.token.Token.{Token}
 use Rattle.tags.specs.declared.slot.SlotState.{SlotState}
 use Rattle.tags.specs.declared.slot.SlotState.TheVariants.{Empty}
 use Rattle.tags.specs.Addresses.{element_of}
 use Rattle.semantics.specs.Program.{Program}
 use Rattle.semantics.specs.Machine.{Store, CellState, Vacant, at_start}
-use Rattle.istructure.specs.OwnCells.{OwnCells, place_of, cell_at, all_vacant, own_count}
+use Rattle.istructure.specs.OwnCells.{OwnCells, cell_at, all_vacant, own_count}
 use Rattle.istructure.specs.Holds.{HoldsCells}
 use Rattle.istructure.proofs.Places.{place_from_state, place_is}
-use Rattle.frame_manager.specs.Flags.{flag_at}
 use Rattle.frame_manager.specs.Managed.{Managed, is_out, at_first}
-use Rattle.frame_manager.specs.Answered.{HoldsFrames}
 use Rattle.element.specs.Near.{Bounds, IsNearCont, IsNearToken, IsNearSlot, IsNearCell}
-use Rattle.element.specs.Parts.{Shape, Part, Manages, IsPart, SameElsewhere, IsSound, IsSoundManager, bounds}
+use Rattle.element.specs.Parts.{Shape, Part, Manages, IsSound, IsSoundManager, bounds}
 use Rattle.element.specs.Held.{Held, with_queue, IsSoundLane}
-use Rattle.element.specs.Openings.{opened, IsOpening, StartsAs, OthersStay}
+use Rattle.element.specs.Openings.{IsOpening, StartsAs, OthersStay}
 use Rattle.element.proofs.Places.{either}
 use Rattle.element.proofs.Only.{manages_as}
 

@@ -1,22 +1,22 @@
 -- A step is an event of the machine.
-use Rattle.std.proofs.Common.{◌≡◌, refl, sym, ◌∙◌, ap, subst, ℕ, ◌+◌, ◌*◌, ◌%◌, ◌<◌, ◌≤◌, Bool, true, false, not, List, [], ◌∷◌, ◌++◌, length, get_or, Option, Some, None, arith, append_assoc}
-use Rattle.std.specs.Prelude.{All, remove, slice_get, IsPermutation, ◌==◌}
+use Rattle.std.proofs.Common.{◌≡◌, refl, sym, ◌∙◌, ap, subst, ℕ, ◌+◌, ◌<◌, ◌≤◌, true, not, List, ◌∷◌, ◌++◌, length, get_or, Some, arith, append_assoc}
+use Rattle.std.specs.Prelude.{All, remove, IsPermutation}
 use Rattle.std.proofs.Math.Nat.{mod-lt}
 use Rattle.std.proofs.lemmas.Bool.{eqb-true}
 use Rattle.std.proofs.lemmas.List.Elements.{All-append, All-tail, All-filter, All-weaker, filter_passes}
-use Rattle.std.proofs.lemmas.List.Sorted.{IsPermutation-refl, IsPermutation-sym, IsPermutation-trans, IsPermutation-remove, IsPermutation-append, IsPermutation-append_left, IsPermutation-append_right, IsPermutation-append_comm, IsPermutation-filter_both, All-permutation}
+use Rattle.std.proofs.lemmas.List.Sorted.{IsPermutation-refl, IsPermutation-trans, IsPermutation-remove, IsPermutation-append_left, IsPermutation-append_right, IsPermutation-append_comm, IsPermutation-filter_both, All-permutation}
 use Rattle.std.proofs.lemmas.Option.{slice_get-get_or}
 use Rattle.tags.specs.declared.token.Token.{Token}
 use Rattle.tags.specs.Addresses.{element_of}
 use Rattle.semantics.specs.Program.{Program}
-use Rattle.semantics.specs.Machine.{Machine, Store, Event, Happens}
+use Rattle.semantics.specs.Machine.{Machine}
 use Rattle.element.specs.declared.lane.Stepped.{Stepped}
 use Rattle.element.specs.declared.lane.Stepped.TheVariants.{Idle, Did, Clash, Stuck, Memory}
 use Rattle.element.specs.Near.{Bounds, IsNearToken}
-use Rattle.element.specs.Parts.{Shape, Part, IsPart, SameElsewhere, IsSound, bounds}
+use Rattle.element.specs.Parts.{Shape, Part, IsPart, bounds}
 use Rattle.element.specs.Held.{Held, is_here, here, elsewhere, queued, taken, with_part, IsSoundLane}
 use Rattle.element.specs.Acts.{Changes, Acts, ActsAs, ServesFirst}
-use Rattle.element.specs.Steps.{size_of, place_of, Picks, HoldsTokens, IsAfter, Does, Steps}
+use Rattle.element.specs.Steps.{place_of, Picks, HoldsTokens, IsAfter, Does, Steps}
 
 -- WHERE TOKENS ARE
 module _ (z : Shape) (made : List Token) where

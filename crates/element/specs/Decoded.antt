@@ -1,5 +1,5 @@
 -- A decoded instruction as one of the definitions.
-use Rattle.std.specs.Prelude.{ℕ, ◌<◌, ◌^◌, Option, IfSome, option_to_list}
+use Rattle.std.specs.Prelude.{ℕ, ◌<◌, ◌^◌, IfSome, option_to_list}
 use Rattle.semantics.specs.declared.program.Dest.{Dest}
 use Rattle.semantics.specs.Program.{Instr}
 use Rattle.element.specs.declared.instructions.Instruction.{Instruction}

@@ -1,5 +1,5 @@
 -- What a lane holds.
-use Rattle.std.specs.Prelude.{◌≡◌, ℕ, ◌+◌, List, [], ◌++◌, length, All, Bool, not, ◌==◌, remove}
+use Rattle.std.specs.Prelude.{◌≡◌, ℕ, ◌+◌, List, [], ◌++◌, All, Bool, not, ◌==◌, remove}
 use Rattle.std.specs.List.{filter}
 use Rattle.tags.specs.declared.token.Cont.{Cont}
 use Rattle.tags.specs.declared.token.Token.{Token}

@@ -1,10 +1,10 @@
 -- A lane before the first event.
-use Rattle.std.specs.Prelude.{◌≡◌, ◌≢◌, ℕ, ◌+◌, ◌*◌, ◌<◌, ◌≤◌, ℤ, Bool, false, List, [], length, replicate, All, Option, Some, None, sum}
+use Rattle.std.specs.Prelude.{◌≡◌, ◌≢◌, ℕ, ◌+◌, ◌*◌, ◌<◌, ◌≤◌, ℤ, false, List, [], length, replicate, All, Option, Some, None, sum}
 use Rattle.tags.specs.declared.value.Value.{Value}
 use Rattle.tags.specs.declared.slot.SlotState.{SlotState}
 use Rattle.tags.specs.declared.slot.SlotState.TheVariants.{Empty}
 use Rattle.semantics.specs.Program.{Program}
-use Rattle.semantics.specs.Machine.{Store, Vacant, at_start, outputs_of}
+use Rattle.semantics.specs.Machine.{Store, at_start, outputs_of}
 use Rattle.istructure.specs.OwnCells.{OwnCells, all_vacant}
 use Rattle.frame_manager.specs.Managed.{Managed, at_first}
 use Rattle.frame_store.specs.declared.bank.BankMut.{BankMut}

@@ -1,14 +1,12 @@
 -- What a step does.
 use Rattle.std.specs.Prelude.{◌≡◌, ℕ, ◌+◌, ◌<◌, ◌%◌, List, [], ◌++◌, length, remove, All, Some, slice_get, IsPermutation}
-use Rattle.tags.specs.declared.value.Value.{Value}
-use Rattle.tags.specs.declared.token.To.{To}
 use Rattle.tags.specs.declared.token.Token.{Token}
 use Rattle.semantics.specs.Program.{Program}
-use Rattle.semantics.specs.Machine.{Machine, Store, Size, Full, Event, stuck_rule}
+use Rattle.semantics.specs.Machine.{Machine, Size, Event}
 use Rattle.element.specs.declared.lane.Stepped.{Stepped}
 use Rattle.element.specs.declared.lane.Stepped.TheVariants.{Idle, Did, Clash, Stuck, Memory}
 use Rattle.element.specs.Near.{IsNearToken}
-use Rattle.element.specs.Parts.{Shape, Part, IsPart, SameElsewhere, bounds}
+use Rattle.element.specs.Parts.{Shape, IsPart, SameElsewhere, bounds}
 use Rattle.element.specs.Held.{Held, here, elsewhere}
 use Rattle.element.specs.Acts.{ServesFirst, IsStuck, IsSecond}
 

@@ -1,4 +1,4 @@
-use Rattle.std.proofs.Common.{◌≡◌, refl, ap, ◌∙◌}
+use Rattle.std.proofs.Common.{refl, ap, ◌∙◌}
 use Rattle.element.specs.Held.{Held, held_of, taken}
 use Rattle.element.specs.Changed.{filled}
 use Rattle.element.proofs.Acting.{acts_none}

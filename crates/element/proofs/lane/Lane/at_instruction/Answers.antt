@@ -1,11 +1,10 @@
-use Rattle.std.proofs.Common.{◌≡◌, ◌∙◌, refl, sym, ap, subst, List, [], Some}
-use Rattle.tags.specs.declared.token.Token.{Token}
+use Rattle.std.proofs.Common.{◌≡◌, ◌∙◌, sym, ap, subst}
 use Rattle.tags.specs.declared.slot.SlotState.{SlotState}
 use Rattle.semantics.specs.Rule.{slot_of}
 use Rattle.element.specs.Decoded.{instr_of}
-use Rattle.element.specs.Fired.{HasRoomInSlot, outcome_by, tokens_of}
-use Rattle.element.specs.Held.{Held, held_of, shape_of, part_of, taken, queued, elsewhere, with_part}
-use Rattle.element.specs.Changed.{state_in, with_state_in}
+use Rattle.element.specs.Fired.{HasRoomInSlot, tokens_of}
+use Rattle.element.specs.Held.{Held, held_of, part_of, taken, with_part}
+use Rattle.element.specs.Changed.{with_state_in}
 use Rattle.element.proofs.Acting.{acts}
 use Rattle.element.proofs.Instructing.{room_in_slot, instructed}
 use Rattle.element.proofs.lane.Lane.at_instruction.Goals as goal

@@ -1,9 +1,8 @@
-use Rattle.std.proofs.Common.{◌≡◌, ◌∙◌, sym, ap, refl, subst, ℕ, List, ◌∷◌, ◌++◌, [], Option, Some, None, Ok}
+use Rattle.std.proofs.Common.{◌≡◌, ◌∙◌, ap, refl, subst, ℕ, ◌∷◌, ◌++◌, [], Option, Some, None, Ok}
 use Rattle.tags.specs.declared.token.Cont.{Cont}
 use Rattle.tags.specs.declared.token.Word.{Word}
 use Rattle.tags.specs.declared.token.Token.{Token}
 use Rattle.semantics.specs.Machine.{answer}
-use Rattle.frame_manager.specs.Managed.{Managed}
 use Rattle.element.specs.Held.{Held, held_of, shape_of, taken, queued, elsewhere, with_part}
 use Rattle.element.specs.Changed.{with_manager, IsReleased}
 use Rattle.element.proofs.Acting.{acts, acts_none}

@@ -1,9 +1,8 @@
-use Rattle.std.proofs.Common.{◌≡◌, ◌∙◌, sym, ap, subst, List, ◌∷◌, ◌++◌, []}
+use Rattle.std.proofs.Common.{◌≡◌, ◌∙◌, ap, subst, List, ◌∷◌, ◌++◌, []}
 use Rattle.std.specs.Prelude.{vec_capacity}
 use Rattle.tags.specs.declared.token.Cont.{Cont}
-use Rattle.tags.specs.declared.token.Word.{Word}
 use Rattle.tags.specs.declared.token.Token.{Token}
-use Rattle.semantics.specs.Machine.{answer, answers}
+use Rattle.semantics.specs.Machine.{answers}
 use Rattle.istructure.specs.declared.StoreAnswer.{StoreAnswer}
 use Rattle.istructure.specs.Answered.{StoredAt}
 use Rattle.istructure.specs.Holds.{StoreIsEvent}

@@ -1,4 +1,3 @@
-use Rattle.std.proofs.Common.{refl}
 use Rattle.element.proofs.Opening.{lane_opens}
 use Rattle.element.proofs.lane.Lane.new.Goals as goal
 
