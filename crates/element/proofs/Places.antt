@@ -1,0 +1,99 @@
+-- Where slots stand, and what a change of one place leaves.
+use Rattle.std.proofs.Common.{◌≡◌, refl, sym, ◌∙◌, ap, subst, ℕ, ◌+◌, ◌*◌, ◌/◌, ◌%◌, ◌<◌, ◌≤◌, Bool, true, false, cond, List, length, get_or, set, arith, get_or-set_other, get_or-set_same, ◌⊎◌, ⊎_elim, inl, inr, ltb}
+use Rattle.std.proofs.lemmas.Bool.{cases_eq, eq-eqb, ne_eqb, ltb-true, ltb-false}
+use Rattle.std.proofs.Math.Nat.{mul-le-mul_left, mul-le-mul_right}
+use Rattle.tags.specs.declared.slot.SlotState.{SlotState}
+use Rattle.tags.specs.declared.slot.SlotState.TheVariants.{Empty}
+use Rattle.semantics.specs.Machine.{put_at}
+use Rattle.element.specs.Parts.{Shape, slot_place}
+
+-- what is the same at each place is the same
+pub agree : {A : Type 0} {f g : ℕ → A} → ((x : ℕ) → f x ≡ g x) → f ≡ g
+agree h = λ i x. h x i
+
+pub put_same : {A : Type 0} (f : ℕ → A) (x y : ℕ) (a : A) → x ≡ y → put_at f x a y ≡ a
+put_same f x y a e = ap (λ b. cond b a (f y)) (eq-eqb x y e)
+
+pub put_other : {A : Type 0} (f : ℕ → A) (x y : ℕ) (a : A) → (x ≡ y → ⊥) → put_at f x a y ≡ f y
+put_other f x y a e = ap (λ b. cond b a (f y)) (ne_eqb x y e)
+
+-- a list with another item at one place
+pub set_at : {A : Type 0} (xs : List A) (r j : ℕ) (v d : A) → r < length xs → put_at (λ k. get_or xs k d) r v j ≡ get_or (set xs r v) j d
+set_at {A} xs r j v d l = ⊎_elim
+    (λ (e : r ≡ j). put_same (λ k. get_or xs k d) r j v e ∙ sym (subst (λ (x : ℕ). get_or (set xs r v) x d ≡ v) e (get_or-set_same xs r v d l)))
+    (λ (n : r ≡ j → ⊥). put_other (λ k. get_or xs k d) r j v n ∙ sym (get_or-set_other xs r j v d (λ e. n (sym e))))
+    (cases_eq r j)
+
+pub either : (a b : ℕ) → (a < b) ⊎ (b ≤ a)
+either a b = go (ltb a b) refl
+  where
+    go : (t : Bool) → ltb a b ≡ t → (a < b) ⊎ (b ≤ a)
+    go true e = inl (ltb-true a b e)
+    go false e = inr (ltb-false a b e)
+
+div-mod : (a n : ℕ) → n * (a / n) + a % n ≡ a
+div-mod a n = omega arith
+
+-- two frames of one element at one place of it are one frame
+same_frame : (n f g : ℕ) → f % n ≡ g % n → f / n ≡ g / n → f ≡ g
+same_frame n f g e q = omega (arith, e, q, div-mod f n, div-mod g n, ap (λ k. n * k) q)
+
+below : (w a b r q : ℕ) → r < w → a < b → a * w + r < b * w + q
+below w a b r q l m = let h : (a + 1) * w ≤ b * w = mul-le-mul_right w (omega arith) in omega (arith, h, times w a)
+  where
+    times : (w a : ℕ) → (a + 1) * w ≡ a * w + w
+    times w a = omega arith
+
+-- two slots at one place are one slot
+one_slot : (w a b r q : ℕ) → r < w → q < w → a * w + r ≡ b * w + q → (a ≡ b) × (r ≡ q)
+one_slot w a b r q l m e = ⊎_elim
+    (λ (same : a ≡ b). (same, (let h : a * w ≡ b * w = ap (λ k. k * w) same in omega arith)))
+    (λ (ne : a ≡ b → ⊥). absurd (apart ne))
+    (cases_eq a b)
+  where
+    sides : (a b : ℕ) → (a ≡ b → ⊥) → (a < b) ⊎ (b < a)
+    sides a b ne = ⊎_elim (λ (l : a < b). inl l) (λ (l : b ≤ a). inr (omega arith)) (either a b)
+
+    apart : (a ≡ b → ⊥) → ⊥
+    apart ne = ⊎_elim
+        (λ (lt : a < b). let h = below w a b r q l lt in let k : a * w + r < b * w + q = h in omega arith)
+        (λ (gt : b < a). let k : b * w + q < a * w + r = below w b a q r m gt in omega arith)
+        (sides a b ne)
+
+-- the frame lies among those of the element
+frame_there : (n m f : ℕ) → 0 < n → f < n * m → f / n < m
+frame_there n m f some l = ⊎_elim
+    (λ (less : f / n < m). less)
+    (λ (more : m ≤ f / n). absurd (let h : n * m ≤ n * (f / n) = mul-le-mul_left n more in omega (arith, div-mod f n)))
+    (either (f / n) m)
+
+-- the slots of the frames that lie here, after one changed
+module _ (z : Shape) (states : List SlotState) (some : 0 < z.elements) (bank : z.start + z.frames * z.width ≤ length states) where
+  pub place_there : (f r : ℕ) → f < z.elements * z.frames → r < z.width → slot_place z f r < length states
+  place_there f r l m =
+      let h : f / z.elements < z.frames = frame_there z.elements z.frames f some l in
+      let k : (f / z.elements) * z.width + r < z.frames * z.width + 0 = below z.width (f / z.elements) z.frames r 0 m h in
+      omega arith
+
+  pub slot_then : (slots : ℕ → ℕ → SlotState) (f r : ℕ) (v : SlotState) → f % z.elements ≡ z.element → f < z.elements * z.frames → r < z.width
+      → (g q : ℕ) → g % z.elements ≡ z.element → q < z.width → slots g q ≡ get_or states (slot_place z g q) Empty
+      → put_at slots f (put_at (slots f) r v) g q ≡ get_or (set states (slot_place z f r) v) (slot_place z g q) Empty
+  slot_then slots f r v ours there low g q ours2 low2 was = ⊎_elim
+      (λ (e : f ≡ g). ap (λ (k : ℕ → SlotState). k q) (put_same slots f g (put_at (slots f) r v) e) ∙ in_frame e)
+      (λ (n : f ≡ g → ⊥). ap (λ (k : ℕ → SlotState). k q) (put_other slots f g (put_at (slots f) r v) n) ∙ was ∙ sym (get_or-set_other states (slot_place z f r) (slot_place z g q) v Empty (λ e. n (sym (frames_are (sym e))))))
+      (cases_eq f g)
+    where
+      frames_are : slot_place z f r ≡ slot_place z g q → g ≡ f
+      frames_are e = same_frame z.elements g f (ours2 ∙ sym ours) (sym ((one_slot z.width (f / z.elements) (g / z.elements) r q low low2 (omega arith)).0))
+
+      slots_are : slot_place z f r ≡ slot_place z g q → r ≡ q
+      slots_are e = (one_slot z.width (f / z.elements) (g / z.elements) r q low low2 (omega arith)).1
+
+      place_is : f ≡ g → r ≡ q → slot_place z f r ≡ slot_place z g q
+      place_is e same = ap (λ (k : ℕ). slot_place z k r) e ∙ ap (λ (k : ℕ). slot_place z g k) same
+
+      in_frame : f ≡ g → put_at (slots f) r v q ≡ get_or (set states (slot_place z f r) v) (slot_place z g q) Empty
+      in_frame e = ⊎_elim
+          (λ (same : r ≡ q). put_same (slots f) r q v same ∙ sym (subst (λ (k : ℕ). get_or (set states (slot_place z f r) v) k Empty ≡ v) (place_is e same) (get_or-set_same states (slot_place z f r) v Empty (place_there f r there low))))
+          (λ (n : r ≡ q → ⊥). put_other (slots f) r q v n ∙ ap (λ (k : ℕ). slots k q) e ∙ was ∙ sym (get_or-set_other states (slot_place z f r) (slot_place z g q) v Empty (λ same. n (slots_are (sym same)))))
+          (cases_eq r q)

@@ -1,0 +1,63 @@
+-- What the code's outcomes stand for in the definitions.
+use Rattle.std.specs.Prelude.{ℕ, ◌<◌, ◌^◌, List, ◌++◌, option_to_list, ⊤}
+use Rattle.tags.specs.declared.token.Cont.{Cont}
+use Rattle.tags.specs.declared.token.Word.{Word}
+use Rattle.tags.specs.declared.token.Token.{Token}
+use Rattle.tags.specs.declared.slot.SlotState.{SlotState}
+use Rattle.tags.specs.declared.slot.SlotState.TheVariants as slot
+use Rattle.semantics.specs.declared.program.Op.{Op}
+use Rattle.semantics.specs.declared.program.Op.TheVariants.{Apply2, Sync, Switch, Store, Send, Return, Ask, Release}
+use Rattle.operators.specs.Values as values
+use Rattle.semantics.specs.Rule as rule
+use Rattle.element.specs.declared.firing.Seat.{Seat}
+use Rattle.element.specs.declared.firing.Made.{Made}
+use Rattle.element.specs.declared.firing.Indexed.{Indexed}
+use Rattle.element.specs.declared.firing.Indexed.TheVariants.{Place, Outside}
+use Rattle.element.specs.declared.firing.Outcome.{Outcome}
+use Rattle.element.specs.declared.firing.Outcome.TheVariants.{Becomes, Excluded}
+
+abbrev pub seat_of : Seat → rule.Seat
+seat_of s = record { frame = s.frame; ip = s.ip }
+
+-- the tokens, in order
+abbrev pub tokens_of : Made → List Token
+tokens_of m = option_to_list m.first ++ (option_to_list m.second ++ option_to_list m.third)
+
+abbrev pub indexed_of : Indexed → values.Indexed
+indexed_of (Place x) = values.Place x
+indexed_of (Outside v) = values.Outside v
+
+abbrev pub IsWithin : ℕ → Indexed → Type 0
+IsWithin len (Place x) = x < len
+IsWithin len (Outside v) = ⊤
+
+abbrev pub outcome_by : Outcome → rule.Outcome
+outcome_by (Becomes v made) = rule.Becomes v (tokens_of made)
+outcome_by (Excluded n) = rule.Excluded n
+
+-- an offset of 8 bits can be added
+abbrev pub HasRoom : Cont → Type 0
+HasRoom (Cont.Frame f ip p) = ip < 2 ^ 31
+HasRoom (Cont.Host p) = p < 2 ^ 31
+
+abbrev pub HasRoomInWord : Word → Type 0
+HasRoomInWord (Word.Val v) = ⊤
+HasRoomInWord (Word.Frame f) = ⊤
+HasRoomInWord (Word.Back c) = HasRoom c
+
+abbrev pub HasRoomInSlot : SlotState → Type 0
+HasRoomInSlot (slot.Left w) = HasRoomInWord w
+HasRoomInSlot (slot.Right w) = HasRoomInWord w
+HasRoomInSlot s = ⊤
+
+-- it has no right port
+abbrev pub TakesLeftAlone : Op → Type 0
+TakesLeftAlone (Apply2 op) = ⊥
+TakesLeftAlone Sync = ⊥
+TakesLeftAlone Switch = ⊥
+TakesLeftAlone (Store a) = ⊥
+TakesLeftAlone (Send b e) = ⊥
+TakesLeftAlone (Return o) = ⊥
+TakesLeftAlone (Ask o) = ⊥
+TakesLeftAlone (Release o) = ⊥
+TakesLeftAlone op = ⊤

@@ -1,0 +1,621 @@
+//! What an instruction does with a token (Papadopoulos and Culler, ISCA 1990; k-bounded loops after Arvind and Nikhil, IEEE
+//! Transactions on Computers 39(3), 1990).
+
+ghost use Rattle.std.specs.Prelude.{◌≡◌, ◌++◌, ◌<◌, ◌≤◌, ◌^◌, ◌∷◌, [], ◌+◌, IfSome, option_to_list, take, if◌then◌else◌};
+ghost use Rattle.std.specs.Option.{option_map};
+ghost use Rattle.tags.specs.declared.token.Port.TheVariants.{Left};
+ghost use Rattle.tags.specs.declared.token.Word.{Word};
+ghost use Rattle.tags.specs.declared.token.To.{To};
+ghost use Rattle.operators.specs.Values as Values;
+ghost use Rattle.semantics.specs.Rule as Rule;
+ghost use Rattle.element.specs.Decoded.{instr_of, IsShort};
+ghost use Rattle.element.specs.Fired.{seat_of, tokens_of, indexed_of, IsWithin, outcome_by, HasRoom, HasRoomInWord, HasRoomInSlot, TakesLeftAlone};
+
+use crate::instructions::{Instruction, Instructions};
+use operators::{apply1, apply2_at, truth};
+use semantics::program::{Dest, Op};
+use tags::slot::SlotState;
+use tags::token::{Cont, FrameId, Port, To, Token, Word};
+use tags::value::{FaultKind, Origin, Value};
+
+/// Where an instruction stands: its frame, and its number.
+#[derive(Clone, Copy, Debug, PartialEq, Eq)]
+pub struct Seat {
+    pub frame: FrameId,
+    pub ip: u32,
+}
+
+/// The tokens that an instruction makes, at most three, in order.
+#[derive(Clone, Copy, Debug, PartialEq, Eq)]
+pub struct Made {
+    pub first: Option<Token>,
+    pub second: Option<Token>,
+    pub third: Option<Token>,
+}
+
+/// What an index names in an array.
+#[derive(Clone, Copy, Debug, PartialEq, Eq)]
+pub enum Indexed {
+    Place(u32),
+    /// There is no such place: the fault that stands for the element.
+    Outside(Value),
+}
+
+/// What comes of a token at an instruction.
+#[derive(Clone, Copy, Debug, PartialEq, Eq)]
+pub enum Outcome {
+    /// The slot has this state then, and these tokens are made.
+    Becomes { slot: SlotState, made: Made },
+    /// The rule of this number excludes the token.
+    Excluded { rule: u8 },
+}
+
+/// A word that only tells that something happened.
+pub const SIGNAL: Word = Word::Val(Value::Int(0));
+
+const NONE: Made = Made {
+    first: None,
+    second: None,
+    third: None,
+};
+
+fn one(token: Token) -> Made
+    ensures { tokens_of result ≡ token ∷ [] }
+{
+    Made {
+        first: Some(token),
+        second: None,
+        third: None,
+    }
+}
+
+fn nothing() -> Made
+    ensures { tokens_of result ≡ [] }
+{
+    NONE
+}
+
+fn at_dest(seat: Seat, word: Word, dest: Dest) -> Token
+    requires near { seat.ip < 2 ^ 30 }
+    requires short { dest.ahead < 2 ^ 30 }
+    ensures { result ≡ Rule.at_dest (seat_of seat) word dest }
+{
+    Token {
+        to: To::Instr {
+            frame: seat.frame,
+            ip: seat.ip + dest.ahead,
+            port: dest.port,
+        },
+        word,
+    }
+}
+
+fn to_each(seat: Seat, word: &Word, dest: Option<Dest>) -> Option<Token>
+    requires near { seat.ip < 2 ^ 30 }
+    requires short { IfSome dest (λ d. d.ahead < 2 ^ 30) }
+    ensures { option_to_list result ≡ Rule.to_each (seat_of seat) word.now (option_to_list dest) }
+{
+    match dest {
+        Some(dest) => Some(at_dest(seat, *word, dest)),
+        None => None,
+    }
+}
+
+// One token or none, and then a word to each destination.
+fn before_all(outside: Option<Token>, seat: Seat, word: Word, instr: &Instruction) -> Made
+    requires near { seat.ip < 2 ^ 30 }
+    requires first_short { IfSome instr.now.first (λ d. d.ahead < 2 ^ 30) }
+    requires second_short { IfSome instr.now.second (λ d. d.ahead < 2 ^ 30) }
+    ensures { tokens_of result ≡ option_to_list outside ++ Rule.to_all (seat_of seat) word (instr_of instr.now) }
+{
+    let first = instr.first;
+    let second = instr.second;
+    Made {
+        first: outside,
+        second: to_each(seat, &word, first),
+        third: to_each(seat, &word, second),
+    }
+}
+
+fn to_all(seat: Seat, word: Word, instr: &Instruction) -> Made
+    requires near { seat.ip < 2 ^ 30 }
+    requires first_short { IfSome instr.now.first (λ d. d.ahead < 2 ^ 30) }
+    requires second_short { IfSome instr.now.second (λ d. d.ahead < 2 ^ 30) }
+    ensures { tokens_of result ≡ Rule.to_all (seat_of seat) word (instr_of instr.now) }
+{
+    before_all(None, seat, word, instr)
+}
+
+/// The address that lies so far behind a continuation.
+fn beyond(cont: Cont, offset: u8) -> To
+    requires { HasRoom cont }
+    ensures { result ≡ Rule.beyond cont offset }
+{
+    match cont {
+        Cont::Frame { frame, ip, .. } => To::Instr {
+            frame,
+            ip: ip + u32::from(offset),
+            port: Port::Left,
+        },
+        Cont::Host { port } => To::Host {
+            port: port + u32::from(offset),
+        },
+    }
+}
+
+fn back_to(cont: Cont) -> To
+    ensures { result ≡ Rule.back_to cont }
+{
+    match cont {
+        Cont::Frame { frame, ip, port } => To::Instr { frame, ip, port },
+        Cont::Host { port } => To::Host { port },
+    }
+}
+
+/// The token that carries a word to a continuation.
+pub fn answer(cont: Cont, word: Word) -> Token
+    ensures { result ≡ Rule.token (Rule.back_to cont) word }
+{
+    Token {
+        to: back_to(cont),
+        word,
+    }
+}
+
+/// Where an answer comes.
+fn answer_to(seat: Seat, instr: &Instruction) -> Cont
+    requires near { seat.ip < 2 ^ 30 }
+    requires short { IfSome instr.now.first (λ d. d.ahead < 2 ^ 30) }
+    ensures { result ≡ Rule.answer_to (seat_of seat) (instr_of instr.now).firsts }
+{
+    match instr.first {
+        Some(dest) => Cont::Frame {
+            frame: seat.frame,
+            ip: seat.ip + dest.ahead,
+            port: dest.port,
+        },
+        None => Cont::Frame {
+            frame: seat.frame,
+            ip: seat.ip,
+            port: Port::Left,
+        },
+    }
+}
+
+/// Where a link's landing begins.
+fn landing_at(seat: Seat, instr: &Instruction) -> Cont
+    requires near { seat.ip < 2 ^ 30 }
+    requires short { IfSome instr.now.first (λ d. d.ahead < 2 ^ 30) }
+    ensures { result ≡ Rule.landing_at (seat_of seat) (instr_of instr.now).firsts }
+{
+    let ip = match instr.first {
+        Some(dest) => seat.ip + dest.ahead,
+        None => seat.ip,
+    };
+    Cont::Frame {
+        frame: seat.frame,
+        ip,
+        port: Port::Left,
+    }
+}
+
+fn index_in(len: u32, index: Value, origin: Origin) -> Indexed
+    ensures exact { indexed_of result ≡ Values.index_in len index origin }
+    ensures within { IsWithin len result }
+{
+    match index {
+        Value::Int(number) => {
+            if 0 <= number && number < i64::from(len) {
+                Indexed::Place(number as u32)
+            } else {
+                Indexed::Outside(Value::Fault {
+                    kind: FaultKind::Range,
+                    origin,
+                })
+            }
+        }
+        Value::Fault { .. } => Indexed::Outside(index),
+    }
+}
+
+// The request for an element of an array, or the fault where there is none.
+fn asks_for<C: Instructions>(
+    code: &C,
+    seat: Seat,
+    instr: &Instruction,
+    array: u8,
+    index: Value,
+) -> Made
+    requires short { IsShort (C.width code.now) seat.ip instr.now }
+    ensures { tokens_of result ≡ Rule.asks_for (C.program code.now) (seat_of seat) (instr_of instr.now) array (Values.index_in (Rule.array_len (C.program code.now) array) index instr.now.origin) }
+{
+    let cells = code.array(array);
+    match index_in(cells.len, index, instr.origin) {
+        Indexed::Place(place) => one(Token {
+            to: To::Fetch {
+                cell: cells.base + place,
+            },
+            word: Word::Back(answer_to(seat, instr)),
+        }),
+        Indexed::Outside(fault) => to_first(seat, Word::Val(fault), instr),
+    }
+}
+
+// The request to store a value in an array, or the fault where there is no such element.
+fn puts<C: Instructions>(
+    code: &C,
+    seat: Seat,
+    instr: &Instruction,
+    array: u8,
+    index: Value,
+    value: Value,
+) -> Made
+    requires short { IsShort (C.width code.now) seat.ip instr.now }
+    ensures { tokens_of result ≡ Rule.puts (C.program code.now) (seat_of seat) (instr_of instr.now) array value (Values.index_in (Rule.array_len (C.program code.now) array) index instr.now.origin) }
+{
+    let cells = code.array(array);
+    match index_in(cells.len, index, instr.origin) {
+        Indexed::Place(place) => one(Token {
+            to: To::Store {
+                cell: cells.base + place,
+                value,
+            },
+            word: Word::Back(answer_to(seat, instr)),
+        }),
+        Indexed::Outside(fault) => to_first(seat, Word::Val(fault), instr),
+    }
+}
+
+fn to_first(seat: Seat, word: Word, instr: &Instruction) -> Made
+    requires near { seat.ip < 2 ^ 30 }
+    requires short { IfSome instr.now.first (λ d. d.ahead < 2 ^ 30) }
+    ensures { tokens_of result ≡ Rule.to_each (seat_of seat) word (take 1 (instr_of instr.now).firsts) }
+{
+    let first = instr.first;
+    Made {
+        first: to_each(seat, &word, first),
+        second: None,
+        third: None,
+    }
+}
+
+fn to_second(outside: Token, seat: Seat, word: Word, instr: &Instruction) -> Made
+    requires near { seat.ip < 2 ^ 30 }
+    requires short { IfSome instr.now.second (λ d. d.ahead < 2 ^ 30) }
+    ensures { tokens_of result ≡ outside ∷ Rule.to_each (seat_of seat) word (instr_of instr.now).seconds }
+{
+    let second = instr.second;
+    Made {
+        first: Some(outside),
+        second: to_each(seat, &word, second),
+        third: None,
+    }
+}
+
+// What an instruction with one input makes of its word, and `None` where the word is of a wrong kind.
+fn fire_one<C: Instructions>(code: &C, seat: Seat, instr: &Instruction, word: Word) -> Option<Made>
+    requires short { IsShort (C.width code.now) seat.ip instr.now }
+    ensures { option_map tokens_of result ≡ Rule.fire_one (C.program code.now) (seat_of seat) (instr_of instr.now) instr.now.op word }
+{
+    let origin = instr.origin;
+    let value = match (instr.op, word) {
+        (Op::Apply1 { op }, Word::Val(value)) => apply1(op, value),
+        (Op::Apply2Right { op, literal }, Word::Val(value)) => {
+            apply2_at(op, value, Value::Int(literal), origin)
+        }
+        (Op::Apply2Left { op, literal }, Word::Val(value)) => {
+            apply2_at(op, Value::Int(literal), value, origin)
+        }
+        (Op::Lit { literal }, _) => Value::Int(literal),
+        (Op::Copy, _) => return Some(to_all(seat, word, instr)),
+        (Op::Fetch { array }, Word::Val(index)) => {
+            return Some(asks_for(code, seat, instr, array, index));
+        }
+        (Op::Frame, _) => {
+            return Some(one(Token {
+                to: To::Manager,
+                word: Word::Back(answer_to(seat, instr)),
+            }));
+        }
+        (Op::Link { block }, Word::Frame(frame)) => {
+            return Some(link(code.entry(block), frame, seat, instr));
+        }
+        _ => return None,
+    };
+    Some(to_all(seat, Word::Val(value), instr))
+}
+
+// The continuation goes to the first instruction of a block in the frame.
+fn link(first: u32, frame: FrameId, seat: Seat, instr: &Instruction) -> Made
+    requires near { seat.ip < 2 ^ 30 }
+    requires first_short { IfSome instr.now.first (λ d. d.ahead < 2 ^ 30) }
+    requires second_short { IfSome instr.now.second (λ d. d.ahead < 2 ^ 30) }
+    ensures { tokens_of result ≡ Rule.token (To.Instr frame first Left) (Word.Back (Rule.landing_at (seat_of seat) (instr_of instr.now).firsts)) ∷ Rule.to_each (seat_of seat) Rule.signal (instr_of instr.now).seconds }
+{
+    let token = Token {
+        to: To::Instr {
+            frame,
+            ip: first,
+            port: Port::Left,
+        },
+        word: Word::Back(landing_at(seat, instr)),
+    };
+    to_second(token, seat, SIGNAL, instr)
+}
+
+// A token, and then a signal to each destination.
+fn and_signals(token: Token, seat: Seat, instr: &Instruction) -> Made
+    requires near { seat.ip < 2 ^ 30 }
+    requires first_short { IfSome instr.now.first (λ d. d.ahead < 2 ^ 30) }
+    requires second_short { IfSome instr.now.second (λ d. d.ahead < 2 ^ 30) }
+    ensures { tokens_of result ≡ token ∷ Rule.to_all (seat_of seat) Rule.signal (instr_of instr.now) }
+{
+    before_all(Some(token), seat, SIGNAL, instr)
+}
+
+// A switch sends its left word to one side.
+fn choose(holds: bool, seat: Seat, word: Word, instr: &Instruction) -> Made
+    requires near { seat.ip < 2 ^ 30 }
+    requires first_short { IfSome instr.now.first (λ d. d.ahead < 2 ^ 30) }
+    requires second_short { IfSome instr.now.second (λ d. d.ahead < 2 ^ 30) }
+    ensures { tokens_of result ≡ Rule.to_each (seat_of seat) word (if holds then (instr_of instr.now).firsts else (instr_of instr.now).seconds) }
+{
+    let side = if holds { instr.first } else { instr.second };
+    Made {
+        first: to_each(seat, &word, side),
+        second: None,
+        third: None,
+    }
+}
+
+// The release of the frame, and a signal.
+fn released(to: To, frame: FrameId) -> Made
+    ensures { tokens_of result ≡ Rule.token (To.Release frame) Rule.signal ∷ Rule.token to Rule.signal ∷ [] }
+{
+    Made {
+        first: Some(Token {
+            to: To::Release { frame },
+            word: SIGNAL,
+        }),
+        second: Some(Token { to, word: SIGNAL }),
+        third: None,
+    }
+}
+
+// An entry of the block that begins there.
+fn entry_at(first: u32, entry: u16) -> u32
+    requires { first < 2 ^ 30 }
+    ensures { result ≡ first + entry }
+{
+    first + u32::from(entry)
+}
+
+// What an instruction with two inputs makes of its words, and `None` where one is of a wrong kind.
+fn fire_two<C: Instructions>(
+    code: &C,
+    seat: Seat,
+    instr: &Instruction,
+    left: Word,
+    right: Word,
+) -> Option<Made>
+    requires short { IsShort (C.width code.now) seat.ip instr.now }
+    requires room { HasRoomInWord left }
+    ensures { option_map tokens_of result ≡ Rule.fire_two (C.program code.now) (seat_of seat) (instr_of instr.now) instr.now.op left right }
+{
+    match (instr.op, left, right) {
+        (Op::Apply2 { op }, Word::Val(x), Word::Val(y)) => {
+            let value = apply2_at(op, x, y, instr.origin);
+            Some(to_all(seat, Word::Val(value), instr))
+        }
+        (Op::Sync, _, _) => Some(to_all(seat, SIGNAL, instr)),
+        (Op::Switch, _, Word::Val(value)) => Some(choose(truth(value), seat, left, instr)),
+        (Op::Store { array }, Word::Val(index), Word::Val(value)) => {
+            Some(puts(code, seat, instr, array, index, value))
+        }
+        (Op::Send { block, entry }, Word::Frame(frame), _) => {
+            let to = To::Instr {
+                frame,
+                ip: entry_at(code.entry(block), entry),
+                port: Port::Left,
+            };
+            Some(and_signals(Token { to, word: right }, seat, instr))
+        }
+        (Op::Return { offset }, Word::Back(cont), Word::Val(_)) => {
+            let to = beyond(cont, offset);
+            Some(and_signals(Token { to, word: right }, seat, instr))
+        }
+        (Op::Ask { offset }, Word::Back(cont), _) => Some(one(Token {
+            to: beyond(cont, offset),
+            word: Word::Back(answer_to(seat, instr)),
+        })),
+        (Op::Release { offset }, Word::Back(cont), _) => {
+            Some(released(beyond(cont, offset), seat.frame))
+        }
+        _ => None,
+    }
+}
+
+fn becomes(slot: SlotState, made: Made) -> Outcome
+    ensures { outcome_by result ≡ Rule.Becomes slot (tokens_of made) }
+{
+    Outcome::Becomes { slot, made }
+}
+
+fn excluded(rule: u8) -> Outcome
+    ensures { outcome_by result ≡ Rule.Excluded rule }
+{
+    Outcome::Excluded { rule }
+}
+
+fn fires(slot: SlotState, made: Option<Made>) -> Outcome
+    ensures { outcome_by result ≡ Rule.fires slot (option_map tokens_of made) }
+{
+    match made {
+        Some(made) => becomes(slot, made),
+        None => excluded(4),
+    }
+}
+
+// An instruction with two inputs.
+fn meets<C: Instructions>(
+    code: &C,
+    seat: Seat,
+    instr: &Instruction,
+    slot: SlotState,
+    port: Port,
+    word: Word,
+) -> Outcome
+    requires short { IsShort (C.width code.now) seat.ip instr.now }
+    requires slot_room { HasRoomInSlot slot }
+    requires word_room { HasRoomInWord word }
+    ensures { outcome_by result ≡ Rule.meets (C.program code.now) (seat_of seat) (instr_of instr.now) slot port word }
+{
+    match (slot, port) {
+        (SlotState::Empty, Port::Left) => becomes(SlotState::Left(word), nothing()),
+        (SlotState::Empty, Port::Right) => becomes(SlotState::Right(word), nothing()),
+        (SlotState::Left(left), Port::Right) => {
+            fires(SlotState::Empty, fire_two(code, seat, instr, left, word))
+        }
+        (SlotState::Right(right), Port::Left) => {
+            fires(SlotState::Empty, fire_two(code, seat, instr, word, right))
+        }
+        _ => excluded(3),
+    }
+}
+
+// The first credits of a loop, but for the one that begins it.
+fn opens(seat: Seat, instr: &Instruction, bound: u8, slot: SlotState) -> Outcome
+    requires near { seat.ip < 2 ^ 30 }
+    requires first_short { IfSome instr.now.first (λ d. d.ahead < 2 ^ 30) }
+    requires second_short { IfSome instr.now.second (λ d. d.ahead < 2 ^ 30) }
+    ensures { outcome_by result ≡ Rule.opens (seat_of seat) (instr_of instr.now) bound slot }
+{
+    match slot {
+        SlotState::Empty => becomes(
+            SlotState::Credits(u32::from(bound).saturating_sub(1)),
+            to_all(seat, SIGNAL, instr),
+        ),
+        _ => excluded(3),
+    }
+}
+
+// A credit is taken, or whoever asks for it waits.
+fn takes(slot: SlotState, word: Word) -> Outcome
+    ensures { outcome_by result ≡ Rule.takes slot word }
+{
+    match (slot, word) {
+        (SlotState::Credits(0), Word::Back(cont)) => becomes(SlotState::Waiter(cont), nothing()),
+        (SlotState::Credits(credits), Word::Back(cont)) => {
+            becomes(SlotState::Credits(credits - 1), one(answer(cont, SIGNAL)))
+        }
+        (SlotState::Credits(_), _) => excluded(4),
+        _ => excluded(3),
+    }
+}
+
+// A credit comes back.
+fn gives(seat: Seat, instr: &Instruction, bound: u8, slot: SlotState) -> Outcome
+    requires near { seat.ip < 2 ^ 30 }
+    requires first_short { IfSome instr.now.first (λ d. d.ahead < 2 ^ 30) }
+    requires second_short { IfSome instr.now.second (λ d. d.ahead < 2 ^ 30) }
+    ensures { outcome_by result ≡ Rule.gives (seat_of seat) (instr_of instr.now) bound slot }
+{
+    match slot {
+        SlotState::Credits(credits) => {
+            if credits < u32::from(bound) {
+                becomes(SlotState::Credits(credits + 1), nothing())
+            } else {
+                excluded(3)
+            }
+        }
+        SlotState::Waiter(cont) => becomes(SlotState::Credits(0), one(answer(cont, SIGNAL))),
+        SlotState::Draining(0) => excluded(3),
+        SlotState::Draining(1) => becomes(SlotState::Empty, to_all(seat, SIGNAL, instr)),
+        SlotState::Draining(owed) => becomes(SlotState::Draining(owed - 1), nothing()),
+        _ => excluded(3),
+    }
+}
+
+// The loop has ended: the credits that are still out are waited for.
+fn drains(seat: Seat, instr: &Instruction, bound: u8, slot: SlotState) -> Outcome
+    requires near { seat.ip < 2 ^ 30 }
+    requires first_short { IfSome instr.now.first (λ d. d.ahead < 2 ^ 30) }
+    requires second_short { IfSome instr.now.second (λ d. d.ahead < 2 ^ 30) }
+    ensures { outcome_by result ≡ Rule.drains (seat_of seat) (instr_of instr.now) bound slot }
+{
+    let bound = u32::from(bound);
+    match slot {
+        SlotState::Credits(credits) => {
+            if credits == bound {
+                becomes(SlotState::Empty, to_all(seat, SIGNAL, instr))
+            } else if credits < bound {
+                becomes(SlotState::Draining(bound - credits), nothing())
+            } else {
+                excluded(3)
+            }
+        }
+        _ => excluded(3),
+    }
+}
+
+/// What comes of a word at an instruction whose slot has this state; an instruction that uses no slot leaves the state
+/// as it is.
+pub fn fire<C: Instructions>(
+    code: &C,
+    seat: Seat,
+    instr: &Instruction,
+    slot: SlotState,
+    port: Port,
+    word: Word,
+) -> Outcome
+    requires short { IsShort (C.width code.now) seat.ip instr.now }
+    requires slot_room { HasRoomInSlot slot }
+    requires word_room { HasRoomInWord word }
+    ensures { outcome_by result ≡ Rule.outcome_of (C.program code.now) (seat_of seat) (instr_of instr.now) instr.now.op slot port word }
+{
+    match instr.op {
+        Op::Apply2 { .. }
+        | Op::Sync
+        | Op::Switch
+        | Op::Store { .. }
+        | Op::Send { .. }
+        | Op::Return { .. }
+        | Op::Ask { .. }
+        | Op::Release { .. } => meets(code, seat, instr, slot, port, word),
+        _ => match port {
+            Port::Left => fire_left(code, seat, instr, slot, word),
+            Port::Right => excluded(2),
+        },
+    }
+}
+
+// An instruction that takes left tokens alone.
+fn fire_left<C: Instructions>(
+    code: &C,
+    seat: Seat,
+    instr: &Instruction,
+    slot: SlotState,
+    word: Word,
+) -> Outcome
+    requires short { IsShort (C.width code.now) seat.ip instr.now }
+    requires slot_room { HasRoomInSlot slot }
+    requires word_room { HasRoomInWord word }
+    requires lone { TakesLeftAlone instr.now.op }
+    ensures { outcome_by result ≡ Rule.outcome_of (C.program code.now) (seat_of seat) (instr_of instr.now) instr.now.op slot Left word }
+{
+    match instr.op {
+        Op::Open { bound } => opens(seat, instr, bound, slot),
+        Op::Take { .. } => takes(slot, word),
+        Op::Give { bound } => gives(seat, instr, bound, slot),
+        Op::Drain { bound } => drains(seat, instr, bound, slot),
+        Op::Apply1 { .. }
+        | Op::Apply2Right { .. }
+        | Op::Apply2Left { .. }
+        | Op::Lit { .. }
+        | Op::Copy
+        | Op::Fetch { .. }
+        | Op::Frame
+        | Op::Link { .. } => fires(slot, fire_one(code, seat, instr, word)),
+        _ => unreachable!(),
+    }
+}

@@ -1,0 +1,16 @@
+//! One element of the explicit token store machine: what it holds, and a step of it.
+#![tactic(auto)]
+
+pub mod firing;
+pub mod instructions;
+pub mod lane;
+#[cfg(test)]
+mod tests;
+
+ghost use Rattle.element.specs.Openings.{OthersStay};
+
+/// Where one element makes an event, the parts of the others stay.
+#[tactic(auto, using(crate::proofs::Opening::others_stay))]
+pub fn others_stay()
+    ensures { OthersStay }
+{}

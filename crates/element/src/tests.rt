@@ -1,0 +1,459 @@
+//! Firings, and runs of a small program on one element.
+
+ghost use Rattle.std.specs.Prelude.{◌≡◌, true, [], ◌∷◌};
+ghost use Rattle.element.specs.Fired.{HasRoom, HasRoomInWord, HasRoomInSlot};
+
+use crate::firing::{Made, Outcome, Seat, fire};
+use crate::instructions::{Array, Instruction, Instructions};
+use operators::{Binary, Unary};
+use semantics::program::{Dest, Op};
+use tags::slot::SlotState;
+use tags::token::{Cont, Port, To, Token, Word};
+use tags::value::{FaultKind, Origin, Value};
+
+// An instruction without a program: what it makes goes to the next one's left port and to the second next one's.
+struct NoProgram;
+
+impl Instructions for NoProgram {
+    ghost program = { λ s. record { blocks = []; arrays = 4 ∷ []; main = 0 } };
+
+    ghost width = { λ s. 8 };
+
+    fn instr(&self, _ip: u32) -> Option<Instruction> {
+        None
+    }
+
+    fn entry(&self, _block: u16) -> u32 {
+        0
+    }
+
+    fn array(&self, number: u8) -> Array {
+        if number == 0 {
+            Array { base: 0, len: 4 }
+        } else {
+            Array { base: 4, len: 0 }
+        }
+    }
+}
+
+fn has_room(cont: Cont) -> bool
+    ensures { result ≡ true → HasRoom cont }
+{
+    match cont {
+        Cont::Frame { ip, .. } => ip < 2_147_483_648,
+        Cont::Host { port } => port < 2_147_483_648,
+    }
+}
+
+fn word_has_room(word: Word) -> bool
+    ensures { result ≡ true → HasRoomInWord word }
+{
+    match word {
+        Word::Back(cont) => has_room(cont),
+        _ => true,
+    }
+}
+
+fn slot_has_room(slot: SlotState) -> bool
+    ensures { result ≡ true → HasRoomInSlot slot }
+{
+    match slot {
+        SlotState::Left(word) => word_has_room(word),
+        SlotState::Right(word) => word_has_room(word),
+        _ => true,
+    }
+}
+
+fn fired(op: Op, slot: &SlotState, port: Port, word: &Word) -> Outcome {
+    let held = *slot;
+    let came = *word;
+    if !slot_has_room(held) {
+        return Outcome::Excluded { rule: 0 };
+    }
+    if !word_has_room(came) {
+        return Outcome::Excluded { rule: 0 };
+    }
+    let instr = Instruction {
+        op,
+        origin: Origin::Untold,
+        slot: 0,
+        first: Some(Dest {
+            ahead: 1,
+            port: Port::Left,
+        }),
+        second: Some(Dest {
+            ahead: 2,
+            port: Port::Left,
+        }),
+    };
+    fire(
+        &NoProgram,
+        Seat { frame: 2, ip: 1 },
+        &instr,
+        *slot,
+        port,
+        *word,
+    )
+}
+
+fn becomes(slot: SlotState, first: Option<Token>, second: Option<Token>) -> Outcome {
+    Outcome::Becomes {
+        slot,
+        made: Made {
+            first,
+            second,
+            third: None,
+        },
+    }
+}
+
+const fn value(number: i64) -> Word {
+    Word::Val(Value::Int(number))
+}
+
+const fn host(port: u32) -> Word {
+    Word::Back(Cont::Host { port })
+}
+
+const fn back(ip: u32) -> Word {
+    Word::Back(Cont::Frame {
+        frame: 2,
+        ip,
+        port: Port::Left,
+    })
+}
+
+const fn instr_token(frame: u32, ip: u32, word: Word) -> Token {
+    Token {
+        to: To::Instr {
+            frame,
+            ip,
+            port: Port::Left,
+        },
+        word,
+    }
+}
+
+const fn host_token(port: u32, word: Word) -> Token {
+    Token {
+        to: To::Host { port },
+        word,
+    }
+}
+
+// The tokens that carry a word to both destinations.
+fn both(word: &Word) -> Made {
+    Made {
+        first: None,
+        second: Some(instr_token(2, 2, *word)),
+        third: Some(instr_token(2, 3, *word)),
+    }
+}
+
+fn to_both(word: &Word) -> Outcome {
+    Outcome::Becomes {
+        slot: SlotState::Empty,
+        made: both(word),
+    }
+}
+
+fn only(slot: SlotState, first: Option<Token>) -> Outcome {
+    becomes(slot, first, None)
+}
+
+fn with_signals(token: Token) -> Outcome {
+    Outcome::Becomes {
+        slot: SlotState::Empty,
+        made: Made {
+            first: Some(token),
+            second: Some(instr_token(2, 2, value(0))),
+            third: Some(instr_token(2, 3, value(0))),
+        },
+    }
+}
+
+fn becomes_both(slot: SlotState) -> Outcome {
+    Outcome::Becomes {
+        slot,
+        made: both(&value(0)),
+    }
+}
+
+// The instruction's slot is empty, and the word comes on its left port.
+fn alone(op: Op, word: &Word) -> Outcome {
+    fired(op, &SlotState::Empty, Port::Left, word)
+}
+
+// The left word waits, and the right one comes.
+fn met(op: Op, left: Word, right: &Word) -> Outcome {
+    fired(op, &SlotState::Left(left), Port::Right, right)
+}
+
+// A signal comes to a credit instruction.
+fn signalled(op: Op, slot: &SlotState) -> Outcome {
+    fired(op, slot, Port::Left, &value(0))
+}
+
+#[test]
+fn applies_to_one_value(rt: HostRuntime) {
+    assert_eq!(rt;
+        alone(Op::Apply1 { op: Unary::Neg }, &value(3)),
+        to_both(&value(-3))
+    );
+    assert_eq!(rt;
+        alone(
+            Op::Apply2Right {
+                op: Binary::Sub,
+                literal: 5
+            },
+            &value(3)
+        ),
+        to_both(&value(-2))
+    );
+    assert_eq!(rt;
+        alone(
+            Op::Apply2Left {
+                op: Binary::Sub,
+                literal: 5
+            },
+            &value(3)
+        ),
+        to_both(&value(2))
+    );
+    assert_eq!(rt; alone(Op::Lit { literal: 7 }, &host(0)), to_both(&value(7)));
+    assert_eq!(rt; alone(Op::Copy, &host(0)), to_both(&host(0)));
+}
+
+#[test]
+fn refuses_a_right_token_and_a_wrong_word(rt: HostRuntime) {
+    assert_eq!(rt;
+        fired(Op::Copy, &SlotState::Empty, Port::Right, &host(0)),
+        Outcome::Excluded { rule: 2 }
+    );
+    assert_eq!(rt;
+        alone(Op::Apply1 { op: Unary::Neg }, &host(0)),
+        Outcome::Excluded { rule: 4 }
+    );
+    assert_eq!(rt;
+        alone(Op::Link { block: 0 }, &value(5)),
+        Outcome::Excluded { rule: 4 }
+    );
+    assert_eq!(rt;
+        met(Op::Return { offset: 2 }, host(1), &host(6)),
+        Outcome::Excluded { rule: 4 }
+    );
+}
+
+fn range_fault() -> Word {
+    Word::Val(Value::Fault {
+        kind: FaultKind::Range,
+        origin: Origin::Untold,
+    })
+}
+
+#[test]
+fn asks_for_cells(rt: HostRuntime) {
+    assert_eq!(rt;
+        alone(Op::Fetch { array: 0 }, &value(3)),
+        only(
+            SlotState::Empty,
+            Some(Token {
+                to: To::Fetch { cell: 3 },
+                word: back(2)
+            })
+        )
+    );
+    assert_eq!(rt;
+        alone(Op::Fetch { array: 0 }, &value(4)),
+        only(SlotState::Empty, Some(instr_token(2, 2, range_fault())))
+    );
+    assert_eq!(rt;
+        alone(Op::Fetch { array: 0 }, &value(-1)),
+        only(SlotState::Empty, Some(instr_token(2, 2, range_fault())))
+    );
+    assert_eq!(rt;
+        met(Op::Store { array: 0 }, value(1), &value(9)),
+        only(
+            SlotState::Empty,
+            Some(Token {
+                to: To::Store {
+                    cell: 1,
+                    value: Value::Int(9)
+                },
+                word: back(2)
+            })
+        )
+    );
+}
+
+#[test]
+fn asks_for_frames_and_links(rt: HostRuntime) {
+    assert_eq!(rt;
+        alone(Op::Frame, &value(1)),
+        only(
+            SlotState::Empty,
+            Some(Token {
+                to: To::Manager,
+                word: back(2)
+            })
+        )
+    );
+    assert_eq!(rt;
+        alone(Op::Link { block: 0 }, &Word::Frame(5)),
+        becomes(
+            SlotState::Empty,
+            Some(instr_token(5, 0, back(2))),
+            Some(instr_token(2, 3, value(0)))
+        )
+    );
+}
+
+#[test]
+fn meets_two_words(rt: HostRuntime) {
+    assert_eq!(rt;
+        alone(Op::Apply2 { op: Binary::Add }, &value(3)),
+        only(SlotState::Left(value(3)), None)
+    );
+    assert_eq!(rt;
+        fired(Op::Sync, &SlotState::Empty, Port::Right, &host(3)),
+        only(SlotState::Right(host(3)), None)
+    );
+    assert_eq!(rt;
+        met(Op::Apply2 { op: Binary::Sub }, value(3), &value(4)),
+        to_both(&value(-1))
+    );
+    assert_eq!(rt;
+        fired(
+            Op::Apply2 { op: Binary::Sub },
+            &SlotState::Right(value(3)),
+            Port::Left,
+            &value(4)
+        ),
+        to_both(&value(1))
+    );
+    assert_eq!(rt;
+        fired(Op::Sync, &SlotState::Right(host(0)), Port::Right, &value(4)),
+        Outcome::Excluded { rule: 3 }
+    );
+}
+
+#[test]
+fn joins_and_switches(rt: HostRuntime) {
+    assert_eq!(rt; met(Op::Sync, host(0), &value(4)), to_both(&value(0)));
+    assert_eq!(rt;
+        met(Op::Switch, host(0), &value(1)),
+        only(SlotState::Empty, Some(instr_token(2, 2, host(0))))
+    );
+    assert_eq!(rt;
+        met(Op::Switch, host(0), &value(0)),
+        only(SlotState::Empty, Some(instr_token(2, 3, host(0))))
+    );
+    assert_eq!(rt;
+        met(Op::Switch, host(0), &range_fault()),
+        only(SlotState::Empty, Some(instr_token(2, 3, host(0))))
+    );
+}
+
+#[test]
+fn sends_and_returns(rt: HostRuntime) {
+    assert_eq!(rt;
+        met(Op::Send { block: 0, entry: 2 }, Word::Frame(5), &host(1)),
+        with_signals(instr_token(5, 2, host(1)))
+    );
+    assert_eq!(rt;
+        met(Op::Return { offset: 2 }, host(1), &value(6)),
+        with_signals(host_token(3, value(6)))
+    );
+    assert_eq!(rt;
+        met(Op::Ask { offset: 3 }, back(4), &value(6)),
+        only(SlotState::Empty, Some(instr_token(2, 7, back(2))))
+    );
+    assert_eq!(rt;
+        met(Op::Release { offset: 1 }, host(0), &value(6)),
+        becomes(
+            SlotState::Empty,
+            Some(Token {
+                to: To::Release { frame: 2 },
+                word: value(0)
+            }),
+            Some(host_token(1, value(0)))
+        )
+    );
+}
+
+#[test]
+fn opens_and_takes_credits(rt: HostRuntime) {
+    assert_eq!(rt;
+        signalled(Op::Open { bound: 2 }, &SlotState::Empty),
+        becomes_both(SlotState::Credits(1))
+    );
+    assert_eq!(rt;
+        signalled(Op::Open { bound: 2 }, &SlotState::Credits(1)),
+        Outcome::Excluded { rule: 3 }
+    );
+    assert_eq!(rt;
+        fired(
+            Op::Take { bound: 2 },
+            &SlotState::Credits(1),
+            Port::Left,
+            &host(4)
+        ),
+        only(SlotState::Credits(0), Some(host_token(4, value(0))))
+    );
+    assert_eq!(rt;
+        fired(
+            Op::Take { bound: 2 },
+            &SlotState::Credits(0),
+            Port::Left,
+            &host(4)
+        ),
+        only(SlotState::Waiter(Cont::Host { port: 4 }), None)
+    );
+    assert_eq!(rt;
+        signalled(Op::Take { bound: 2 }, &SlotState::Credits(0)),
+        Outcome::Excluded { rule: 4 }
+    );
+}
+
+#[test]
+fn gives_credits_back(rt: HostRuntime) {
+    assert_eq!(rt;
+        signalled(
+            Op::Give { bound: 2 },
+            &SlotState::Waiter(Cont::Host { port: 4 })
+        ),
+        only(SlotState::Credits(0), Some(host_token(4, value(0))))
+    );
+    assert_eq!(rt;
+        signalled(Op::Give { bound: 2 }, &SlotState::Credits(1)),
+        only(SlotState::Credits(2), None)
+    );
+    assert_eq!(rt;
+        signalled(Op::Give { bound: 2 }, &SlotState::Credits(2)),
+        Outcome::Excluded { rule: 3 }
+    );
+    assert_eq!(rt;
+        signalled(Op::Give { bound: 2 }, &SlotState::Draining(2)),
+        only(SlotState::Draining(1), None)
+    );
+    assert_eq!(rt;
+        signalled(Op::Give { bound: 2 }, &SlotState::Draining(1)),
+        becomes_both(SlotState::Empty)
+    );
+}
+
+#[test]
+fn drains_credits(rt: HostRuntime) {
+    assert_eq!(rt;
+        signalled(Op::Drain { bound: 2 }, &SlotState::Credits(2)),
+        becomes_both(SlotState::Empty)
+    );
+    assert_eq!(rt;
+        signalled(Op::Drain { bound: 2 }, &SlotState::Credits(0)),
+        only(SlotState::Draining(2), None)
+    );
+    assert_eq!(rt;
+        signalled(Op::Drain { bound: 2 }, &SlotState::Empty),
+        Outcome::Excluded { rule: 3 }
+    );
+}
