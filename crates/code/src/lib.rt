@@ -65,20 +65,6 @@ impl<A: Allocator> Model for Program<A> {
     ghost view = { λ p. record { blocks = p.blocks.items; arrays = p.arrays.items; main = p.main } };
 }
 
-/// Code: a program with its table of literals, which an object holds in ascending order. It may have literals that no
-/// instruction uses.
-#[derive(Drop)]
-pub struct Code<A: Allocator> {
-    pub program: Program<A>,
-    pub literals: Vec<i64, A>,
-}
-
-impl<A: Allocator> Model for Code<A> {
-    ghost use Rattle.semantics.specs.Program.{Code};
-
-    ghost Value = { Code };
-
-    ghost view = { λ c. record { program = c.program; literals = c.literals.items } };
 /// A plan: a program as the compiler makes it, before slots are chosen. The slot of an instruction that uses one is its
 /// holder's number, and the slots of a block are its holders. The instructions of a loop's slot have one holder; each
 /// other instruction that uses a slot is a holder of its own.
@@ -152,4 +138,20 @@ impl<A: Allocator> Slots<A> {
             None => None,
         }
     }
+}
+
+/// Code: a program with its table of literals, which an object holds in ascending order. It may have literals that no
+/// instruction uses.
+#[derive(Drop)]
+pub struct Code<A: Allocator> {
+    pub program: Program<A>,
+    pub literals: Vec<i64, A>,
+}
+
+impl<A: Allocator> Model for Code<A> {
+    ghost use Rattle.semantics.specs.Program.{Code};
+
+    ghost Value = { Code };
+
+    ghost view = { λ c. record { program = c.program; literals = c.literals.items } };
 }

@@ -15,6 +15,8 @@ pub enum Request {
     Run(RunOptions),
     /// Lists the object on standard input.
     Dis,
+    /// Writes the object on standard input as version 2.
+    Upgrade,
 }
 
 /// How a graph is to be run.
@@ -74,11 +76,14 @@ fn run_command<'a>(alloc: Global) -> Result<Command<'a>, AllocError> {
 fn program_command<'a>(alloc: Global) -> Result<Command<'a>, AllocError> {
     let check = Command::new(alloc, "check").about("Says whether standard input has a good graph");
     let dis = Command::new(alloc, "dis").about("Lists the code of the object on standard input");
+    let upgrade = Command::new(alloc, "upgrade")
+        .about("Writes the object on standard input as version 2 of the object file");
     Command::new(alloc, "ets")
         .about("Compiles dataflow graphs for an explicit token store machine and runs them")
         .subcommand_required(true)
         .subcommand(check)?
         .subcommand(dis)?
+        .subcommand(upgrade)?
         .subcommand(run_command(alloc)?)
 }
 
@@ -92,6 +97,7 @@ fn request_in(matches: &ArgMatches<'_>) -> Option<Request> {
         })),
         Some(("check", _)) => Some(Request::Check),
         Some(("dis", _)) => Some(Request::Dis),
+        Some(("upgrade", _)) => Some(Request::Upgrade),
         _ => None,
     }
 }

@@ -1,17 +1,28 @@
--- What is written of bytes that should be an object.
+-- What is written of bytes that should be an object: its listing, or the same code as version 2.
 use Rattle.std.specs.Prelude.{◌≡◌, ◌++◌, ℕ, List, Option, Some, None, Result, Ok, Err, ⊤}
 use Rattle.std.specs.Io.KnownBytes.{Appends}
 use Rattle.object_view.specs.Reading.{opened}
 use Rattle.object_view.specs.Checks.{first_refusal}
+use Rattle.semantics.specs.Bytes.{bytes_of}
 use Rattle.disassembler.specs.Listing.{listing}
-use Rattle.driver.specs.declared.objects.ListFault.{ListFault}
-use Rattle.driver.specs.declared.objects.ListFault.TheVariants.{Object, Write}
+use Rattle.driver.specs.declared.objects.ObjectRefusal.{ObjectRefusal}
+use Rattle.driver.specs.declared.objects.ObjectRefusal.TheVariants.{Object, Write}
 
 abbrev pub listing_of : List ℕ → List ℕ
 listing_of bytes = listing (opened bytes).version (opened bytes).code.program
 
--- The listing of an object; of other bytes nothing, and the first fault; after a failed write a beginning of the listing.
-abbrev pub Disassembles : Result ⊤ ListFault → Option (List ℕ) → Option (List ℕ) → List ℕ → Type 0
-Disassembles (Ok x) old new bytes = (first_refusal bytes ≡ None) × Appends old new (listing_of bytes)
-Disassembles (Err (Object fault)) old new bytes = (first_refusal bytes ≡ Some fault) × (new ≡ old)
-Disassembles (Err (Write e)) old new bytes = (first_refusal bytes ≡ None) × ((front : List ℕ) × (rest : List ℕ) × (listing_of bytes ≡ front ++ rest) × Appends old new front)
+-- This text of an object; of other bytes nothing, and the first fault; after a failed write a beginning of it.
+abbrev pub Writes : (List ℕ → List ℕ) → Result ⊤ ObjectRefusal → Option (List ℕ) → Option (List ℕ) → List ℕ → Type 0
+Writes text (Ok x) old new bytes = (first_refusal bytes ≡ None) × Appends old new (text bytes)
+Writes text (Err (Object fault)) old new bytes = (first_refusal bytes ≡ Some fault) × (new ≡ old)
+Writes text (Err (Write e)) old new bytes = (first_refusal bytes ≡ None) × ((front : List ℕ) × (rest : List ℕ) × (text bytes ≡ front ++ rest) × Appends old new front)
+
+abbrev pub Disassembles : Result ⊤ ObjectRefusal → Option (List ℕ) → Option (List ℕ) → List ℕ → Type 0
+Disassembles = Writes listing_of
+
+-- the one spelling of the code in version 2
+abbrev pub upgrade_of : List ℕ → List ℕ
+upgrade_of bytes = bytes_of 2 (opened bytes).code
+
+abbrev pub Upgrades : Result ⊤ ObjectRefusal → Option (List ℕ) → Option (List ℕ) → List ℕ → Type 0
+Upgrades = Writes upgrade_of

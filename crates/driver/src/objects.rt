@@ -1,30 +1,45 @@
 //! Object files as input.
 
-ghost use Rattle.driver.specs.Disassembled.{Disassembles};
+ghost use Rattle.driver.specs.Disassembled.{Disassembles, Upgrades};
 
 use disassembler::list;
-use object_view::{Object, ObjectFault};
+use object_view::{Object, ObjectFault, upgrade};
 use std::io::{self, Write};
 
-/// Why there is no listing.
+/// Why nothing was made of an object.
 #[derive(Debug, Drop)]
-pub enum ListFault {
+pub enum ObjectRefusal {
     /// The bytes are no object: their first fault. Nothing was written.
     Object(ObjectFault),
-    /// A write failed. A beginning of the listing was written.
+    /// A write failed. A beginning of what was to be written went out.
     Write(io::Error),
 }
 
 /// Writes the listing of the object that the bytes are.
-pub fn disassemble<W: Write>(bytes: &[u8], writer: &mut W) -> Result<(), ListFault>
+pub fn disassemble<W: Write>(bytes: &[u8], writer: &mut W) -> Result<(), ObjectRefusal>
     ensures { Disassembles result (W.contents writer.old) (W.contents writer.new) bytes.now }
 {
     let object = match Object::open(bytes) {
         Ok(object) => object,
-        Err(fault) => return Err(ListFault::Object(fault)),
+        Err(fault) => return Err(ObjectRefusal::Object(fault)),
     };
     match list(&object, writer) {
         Ok(()) => Ok(()),
-        Err(fault) => Err(ListFault::Write(fault)),
+        Err(fault) => Err(ObjectRefusal::Write(fault)),
+    }
+}
+
+/// Writes the object that the bytes are as version 2 of the object file: the same code, and no origin where version 1 has
+/// none.
+pub fn upgrade_object<W: Write>(bytes: &[u8], writer: &mut W) -> Result<(), ObjectRefusal>
+    ensures { Upgrades result (W.contents writer.old) (W.contents writer.new) bytes.now }
+{
+    let object = match Object::open(bytes) {
+        Ok(object) => object,
+        Err(refusal) => return Err(ObjectRefusal::Object(refusal)),
+    };
+    match upgrade(&object, writer) {
+        Ok(()) => Ok(()),
+        Err(error) => Err(ObjectRefusal::Write(error)),
     }
 }

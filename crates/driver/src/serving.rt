@@ -2,7 +2,7 @@
 
 use crate::emulation::{Emulated, check_text, compile, run_text, start_text};
 use crate::input::{LinesFault, parse_integers, read_input, split_at_main};
-use crate::objects::{ListFault, disassemble};
+use crate::objects::{ObjectRefusal, disassemble, upgrade_object};
 use crate::refusal::Refusal;
 use crate::report_text::{status_of, write_report};
 use command_line::{Request, RunOptions, parse};
@@ -93,19 +93,26 @@ fn serve_run<A: Allocator + Clone, R: Read, W: Write>(
     }
 }
 
-fn serve_dis<A: Allocator, R: Read, W: Write>(
+/// Lists the object of the input, or writes it as version 2.
+fn serve_object<A: Allocator, R: Read, W: Write>(
     alloc: A,
     reader: &mut R,
     writer: &mut W,
+    is_upgrade: bool,
 ) -> io::Result<u8> {
     let input = match read_input(alloc, reader) {
         Ok(input) => input,
         Err(fault) => return refuse(writer, &Refusal::from(fault)),
     };
-    match disassemble(&input, writer) {
+    let written = if is_upgrade {
+        upgrade_object(&input, writer)
+    } else {
+        disassemble(&input, writer)
+    };
+    match written {
         Ok(()) => Ok(0),
-        Err(ListFault::Object(fault)) => refuse(writer, &Refusal::Object(fault)),
-        Err(ListFault::Write(fault)) => Err(fault),
+        Err(ObjectRefusal::Object(fault)) => refuse(writer, &Refusal::Object(fault)),
+        Err(ObjectRefusal::Write(fault)) => Err(fault),
     }
 }
 
@@ -118,7 +125,8 @@ fn answer<A: Allocator + Clone, S: AsStr, R: Read, W: Write>(
 ) -> io::Result<u8> {
     match parse(global, words) {
         Ok(Request::Check) => serve_check(alloc, reader, writer),
-        Ok(Request::Dis) => serve_dis(alloc, reader, writer),
+        Ok(Request::Dis) => serve_object(alloc, reader, writer, false),
+        Ok(Request::Upgrade) => serve_object(alloc, reader, writer, true),
         Ok(Request::Run(options)) => serve_run(alloc, &options, reader, writer),
         Err(command_line::Refusal::Said { text, is_mistake }) => {
             write!(writer, "{text}")?;
