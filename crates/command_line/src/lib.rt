@@ -76,8 +76,9 @@ fn run_command<'a>(alloc: Global) -> Result<Command<'a>, AllocError> {
 fn program_command<'a>(alloc: Global) -> Result<Command<'a>, AllocError> {
     let check = Command::new(alloc, "check").about("Says whether standard input has a good graph");
     let dis = Command::new(alloc, "dis").about("Lists the code of the object on standard input");
-    let upgrade = Command::new(alloc, "upgrade")
-        .about("Writes the object on standard input as version 2 of the object file");
+    let upgrade = Command::new(alloc, "upgrade").about(
+        "Writes the object on standard input as version 2 of the object file",
+    );
     Command::new(alloc, "ets")
         .about("Compiles dataflow graphs for an explicit token store machine and runs them")
         .subcommand_required(true)
