@@ -152,6 +152,12 @@ mod tests {
                 Ok(Request::Dis)
             )
         );
+        assert!(rt;
+            matches!(
+                parse(rt.alloc(), ["ets", "upgrade"].as_slice()),
+                Ok(Request::Upgrade)
+            )
+        );
         Ok(())
     }
 

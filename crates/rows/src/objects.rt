@@ -2,6 +2,7 @@
 
 use crate::served::expect_served;
 use driver::serving::serve;
+use std::alloc::Global;
 use std::io::{self, ErrorKind, Write};
 use std::test::Fail;
 
@@ -50,6 +51,46 @@ fn refuses_objects(rt: HostRuntime) -> Result<(), Fail> {
     longer.extend_from_slice(&[0; 8])?;
     let wanted = b"refused: object Trailing\n";
     expect_served(&rt, rt.alloc(), &["ets", "dis"], &longer, wanted, 1)
+}
+
+const ORIGIN_LISTING: &[u8] = b"ets 2 main 0
+block 0 inputs 2 outputs 1 slots 3
+    0 copy        -     +4l     +5l -
+    1 copy        -     +2l       - -
+    2 copy        -     +1r       - -
+    3 div         0     +1r       - - @0.2
+    4 return      1     +1r       - o0
+    5 release     2       -       - o1
+";
+
+/// The object that adds, with other bytes at these places.
+fn changed(alloc: Global, changes: &[(usize, u8)]) -> Result<Vec<u8>, Fail> {
+    let mut bytes = ADD.to_vec(alloc)?;
+    for (place, byte) in changes {
+        if let Some(old) = bytes.get_mut(*place) {
+            *old = *byte;
+        }
+    }
+    Ok(bytes)
+}
+
+#[test]
+fn upgrades_objects(rt: HostRuntime) -> Result<(), Fail> {
+    let second = changed(rt.alloc(), &[(8, 2)])?;
+    expect_served(&rt, rt.alloc(), &["ets", "upgrade"], ADD, &second, 0)?;
+    expect_served(&rt, rt.alloc(), &["ets", "upgrade"], &second, &second, 0)?;
+    let wanted = b"refused: object Truncated\n";
+    expect_served(&rt, rt.alloc(), &["ets", "upgrade"], b"", wanted, 1)
+}
+
+// A division of version 2 says for which node its fault is made. Version 1 has no such instruction.
+#[test]
+fn lists_origins(rt: HostRuntime) -> Result<(), Fail> {
+    let second = changed(rt.alloc(), &[(8, 2), (104, 4), (116, 3)])?;
+    expect_served(&rt, rt.alloc(), &["ets", "dis"], &second, ORIGIN_LISTING, 0)?;
+    let first = changed(rt.alloc(), &[(104, 4), (116, 3)])?;
+    let wanted = b"refused: object BadOpcode\n";
+    expect_served(&rt, rt.alloc(), &["ets", "dis"], &first, wanted, 1)
 }
 
 /// Takes one byte a call, and fails once its calls are used up.
