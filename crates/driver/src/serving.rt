@@ -9,7 +9,7 @@ use command_line::{Request, RunOptions, parse};
 use schedule::config::{Config, StartFault};
 use std::alloc::{Allocator, Global};
 use std::convert::AsStr;
-use std::io::{self, Read, Write};
+use std::io::{self, ErrorKind, Read, Write};
 
 /// The exit status of a refusal, of a fault of the command line and of a failed write.
 const REFUSED: u8 = 1;
@@ -116,6 +116,25 @@ fn serve_object<A: Allocator, R: Read, W: Write>(
     }
 }
 
+/// A writer each of whose faults is the last: std's loops would call it again after `Interrupted`.
+#[derive(Drop)]
+struct Once<'w, W: Write> {
+    writer: &'w mut W,
+}
+
+impl<'w, W: Write> Write for Once<'w, W> {
+    fn write(&mut self, bytes: &[u8]) -> io::Result<usize> {
+        match self.writer.write(bytes) {
+            Ok(count) => Ok(count),
+            Err(_) => Err(io::Error::from(ErrorKind::Other)),
+        }
+    }
+
+    fn flush(&mut self) -> io::Result<()> {
+        self.writer.flush()
+    }
+}
+
 fn answer<A: Allocator + Clone, S: AsStr, R: Read, W: Write>(
     words: &[S],
     reader: &mut R,
@@ -146,5 +165,5 @@ pub fn serve<A: Allocator + Clone, S: AsStr, R: Read, W: Write>(
     alloc: A,
     global: Global,
 ) -> u8 {
-    answer(words, reader, writer, alloc, global).unwrap_or(REFUSED)
+    answer(words, reader, &mut Once { writer }, alloc, global).unwrap_or(REFUSED)
 }

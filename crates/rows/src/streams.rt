@@ -152,9 +152,10 @@ fn expect_beginning(
 #[test]
 fn stops_at_failed_writes(rt: HostRuntime) -> Result<(), Fail> {
     assert_eq!(rt; REST.len(), 52);
-    for calls in 0..=52u64 {
-        let fault = ErrorKind::BrokenPipe;
-        expect_beginning(&rt, rt.alloc(), &["ets", "run"], REST, calls, fault)?;
+    for fault in [ErrorKind::BrokenPipe, ErrorKind::Interrupted] {
+        for calls in 0..=52u64 {
+            expect_beginning(&rt, rt.alloc(), &["ets", "run"], REST, calls, fault)?;
+        }
     }
     Ok(())
 }
