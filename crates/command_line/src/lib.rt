@@ -17,6 +17,8 @@ pub enum Request {
     Dis,
     /// Writes the object on standard input as version 2.
     Upgrade,
+    /// Runs the meaning of the graph on standard input, for so many activities at most.
+    Mean { steps: u64 },
 }
 
 /// How a graph is to be run.
@@ -73,6 +75,14 @@ fn run_command<'a>(alloc: Global) -> Result<Command<'a>, AllocError> {
         .arg(mode)
 }
 
+fn mean_command<'a>(alloc: Global) -> Result<Command<'a>, AllocError> {
+    Command::new(alloc, "mean")
+        .about(
+            "Runs the meaning of a graph, without code: its text on standard input, then its inputs",
+        )
+        .arg(number(alloc, "steps", "1000000", "activities at most"))
+}
+
 fn program_command<'a>(alloc: Global) -> Result<Command<'a>, AllocError> {
     let check = Command::new(alloc, "check").about("Says whether standard input has a good graph");
     let dis = Command::new(alloc, "dis").about("Lists the code of the object on standard input");
@@ -85,6 +95,7 @@ fn program_command<'a>(alloc: Global) -> Result<Command<'a>, AllocError> {
         .subcommand(check)?
         .subcommand(dis)?
         .subcommand(upgrade)?
+        .subcommand(mean_command(alloc)?)?
         .subcommand(run_command(alloc)?)
 }
 
@@ -99,6 +110,9 @@ fn request_in(matches: &ArgMatches<'_>) -> Option<Request> {
         Some(("check", _)) => Some(Request::Check),
         Some(("dis", _)) => Some(Request::Dis),
         Some(("upgrade", _)) => Some(Request::Upgrade),
+        Some(("mean", mean)) => Some(Request::Mean {
+            steps: mean.get_one::<u64>("steps")?,
+        }),
         _ => None,
     }
 }
@@ -156,6 +170,12 @@ mod tests {
             matches!(
                 parse(rt.alloc(), ["ets", "upgrade"].as_slice()),
                 Ok(Request::Upgrade)
+            )
+        );
+        assert!(rt;
+            matches!(
+                parse(rt.alloc(), ["ets", "mean", "--steps", "7"].as_slice()),
+                Ok(Request::Mean { steps: 7 })
             )
         );
         Ok(())

@@ -4,6 +4,7 @@
 
 pub mod emulation;
 pub mod input;
+pub mod meaning;
 pub mod objects;
 pub mod refusal;
 pub mod report_text;

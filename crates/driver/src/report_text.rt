@@ -1,9 +1,10 @@
 //! The text of a report.
 
 ghost use Rattle.std.specs.Prelude.{◌≡◌};
-ghost use Rattle.driver.specs.Status.{exit_status};
+ghost use Rattle.driver.specs.Status.{exit_status, meaning_status};
 
 use graph::Graph;
+use oracle::{MeanEnd, MeanReport};
 use schedule::report::Report;
 use semantics::report::End;
 use std::alloc::Allocator;
@@ -63,9 +64,7 @@ fn write_end<'a, A: Allocator, W: Write>(
         End::Starved => writeln!(writer, "end Starved"),
         End::Clash { array, index } => {
             write!(writer, "end Clash ")?;
-            if let Some(array) = graph.arrays.get(array as usize) {
-                writer.write_all(array.name.bytes)?;
-            }
+            write_array(writer, graph, array as usize)?;
             writeln!(writer, " {index}")
         }
         End::Steps => writeln!(writer, "end Steps"),
@@ -75,13 +74,9 @@ fn write_end<'a, A: Allocator, W: Write>(
     }
 }
 
-/// Writes the report of a run of the graph: its outputs, its full cells, what waits, and its end.
-pub fn write_report<'a, A: Allocator, W: Write>(
-    writer: &mut W,
-    graph: &Graph<'a, A>,
-    report: &Report<A>,
-) -> io::Result<()> {
-    for (port, output) in report.outputs.as_slice().iter().enumerate() {
+/// Writes the outputs by their ports, `-` for one that is missing.
+fn write_outputs<W: Write>(writer: &mut W, outputs: &[Option<Value>]) -> io::Result<()> {
+    for (port, output) in outputs.iter().enumerate() {
         match output {
             Some(value) => {
                 let value = ValueText(*value);
@@ -90,6 +85,64 @@ pub fn write_report<'a, A: Allocator, W: Write>(
             None => writeln!(writer, "output {port} -")?,
         }
     }
+    Ok(())
+}
+
+/// Writes what the meaning of the graph gave: its outputs, its full cells and its end.
+pub fn write_meaning<'a, A: Allocator, W: Write>(
+    writer: &mut W,
+    graph: &Graph<'a, A>,
+    report: &MeanReport<A>,
+) -> io::Result<()> {
+    write_outputs(writer, &report.outputs)?;
+    for cell in &report.cells {
+        write!(writer, "cell ")?;
+        write_array(writer, graph, cell.array)?;
+        let index = cell.index;
+        let value = ValueText(cell.value);
+        writeln!(writer, " {index} {value}")?;
+    }
+    match report.end {
+        MeanEnd::Rest => writeln!(writer, "end Rest"),
+        MeanEnd::Clash { array, index } => {
+            write!(writer, "end Clash ")?;
+            write_array(writer, graph, array)?;
+            writeln!(writer, " {index}")
+        }
+        MeanEnd::Steps => writeln!(writer, "end Steps"),
+    }
+}
+
+/// Writes the name of the array at that place.
+fn write_array<'a, A: Allocator, W: Write>(
+    writer: &mut W,
+    graph: &Graph<'a, A>,
+    array: usize,
+) -> io::Result<()> {
+    match graph.arrays.get(array) {
+        Some(array) => writer.write_all(array.name.bytes),
+        None => Ok(()),
+    }
+}
+
+/// The exit status that tells the end of a run of the meaning.
+pub fn status_of_meaning(end: MeanEnd) -> u8
+    ensures { result ≡ meaning_status end }
+{
+    match end {
+        MeanEnd::Rest => 0,
+        MeanEnd::Clash { .. } => 3,
+        MeanEnd::Steps => 4,
+    }
+}
+
+/// Writes the report of a run of the graph: its outputs, its full cells, what waits, and its end.
+pub fn write_report<'a, A: Allocator, W: Write>(
+    writer: &mut W,
+    graph: &Graph<'a, A>,
+    report: &Report<A>,
+) -> io::Result<()> {
+    write_outputs(writer, report.outputs.as_slice())?;
     for (cell, value) in &report.cells {
         write!(writer, "cell ")?;
         write_cell(writer, graph, *cell)?;

@@ -2,9 +2,10 @@
 
 use crate::emulation::{Emulated, check_text, compile, run_text, start_text};
 use crate::input::{LinesFault, parse_integers, read_input, split_at_main};
+use crate::meaning::{Meant, mean_text};
 use crate::objects::{ObjectRefusal, disassemble, upgrade_object};
 use crate::refusal::Refusal;
-use crate::report_text::{status_of, write_report};
+use crate::report_text::{status_of, status_of_meaning, write_meaning, write_report};
 use command_line::{Request, RunOptions, parse};
 use schedule::config::{Config, StartFault};
 use std::alloc::{Allocator, Global};
@@ -93,6 +94,46 @@ fn serve_run<A: Allocator + Clone, R: Read, W: Write>(
     }
 }
 
+/// Runs the meaning of the graph of the input on the integers after it. Refusals come in the order of the work.
+fn mean_input<'a, A: Allocator + Clone>(
+    alloc: A,
+    input: &'a [u8],
+    steps: u64,
+) -> Result<Meant<'a, A>, Refusal> {
+    let (text, lines) = split_at_main(input);
+    let integers = match parse_integers(alloc.clone()?, lines) {
+        Ok(integers) => integers,
+        Err(LinesFault::Memory) => return Err(Refusal::Memory),
+        Err(LinesFault::BadLine(line)) => {
+            let _ = check_text(alloc, text)?;
+            return Err(Refusal::InputLine(line));
+        }
+    };
+    Ok(mean_text(alloc, text, &integers, steps)?)
+}
+
+fn serve_mean<A: Allocator + Clone, R: Read, W: Write>(
+    alloc: A,
+    steps: u64,
+    reader: &mut R,
+    writer: &mut W,
+) -> io::Result<u8> {
+    let Ok(room) = alloc.clone() else {
+        return refuse(writer, &Refusal::Memory);
+    };
+    let input = match read_input(room, reader) {
+        Ok(input) => input,
+        Err(fault) => return refuse(writer, &Refusal::from(fault)),
+    };
+    match mean_input(alloc, &input, steps) {
+        Ok(meant) => {
+            write_meaning(writer, meant.checked.graph(), &meant.report)?;
+            Ok(status_of_meaning(meant.report.end))
+        }
+        Err(refusal) => refuse(writer, &refusal),
+    }
+}
+
 /// Lists the object of the input, or writes it as version 2.
 fn serve_object<A: Allocator, R: Read, W: Write>(
     alloc: A,
@@ -147,6 +188,7 @@ fn answer<A: Allocator + Clone, S: AsStr, R: Read, W: Write>(
         Ok(Request::Dis) => serve_object(alloc, reader, writer, false),
         Ok(Request::Upgrade) => serve_object(alloc, reader, writer, true),
         Ok(Request::Run(options)) => serve_run(alloc, &options, reader, writer),
+        Ok(Request::Mean { steps }) => serve_mean(alloc, steps, reader, writer),
         Err(command_line::Refusal::Said { text, is_mistake }) => {
             write!(writer, "{text}")?;
             Ok(if is_mistake { REFUSED } else { 0 })

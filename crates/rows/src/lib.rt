@@ -3,6 +3,8 @@
 #![tactic(auto)]
 
 #[cfg(test)]
+mod meanings;
+#[cfg(test)]
 mod memory;
 #[cfg(test)]
 mod objects;
