@@ -1,5 +1,9 @@
 //! What becomes of bytes that may be an object.
 
+ghost use Rattle.std.specs.Prelude.{◌≡◌, IfOk};
+ghost use Rattle.object_view.specs.Checks.{first_refusal};
+ghost use Rattle.object_changes.specs.Outcomes.{outcome};
+
 use object_view::{Object, ObjectFault, write};
 use std::alloc::Allocator;
 use std::io;
@@ -53,8 +57,10 @@ fn fault_name(fault: ObjectFault) -> &'static str {
     }
 }
 
-/// Opens the bytes, takes the object apart, and writes its code again.
-pub fn outcome_of<A: Allocator + Clone>(alloc: A, bytes: &[u8]) -> io::Result<Outcome> {
+/// Opens the bytes, takes the object apart, and writes its code again. Every object comes back the same.
+pub fn outcome_of<A: Allocator + Clone>(alloc: A, bytes: &[u8]) -> io::Result<Outcome>
+    ensures { IfOk result (λ o. o ≡ outcome (first_refusal bytes.now)) }
+{
     let object = match Object::open(bytes) {
         Ok(object) => object,
         Err(fault) => return Ok(Outcome::Refused(fault)),
