@@ -4,8 +4,10 @@ mod Facts
 mod Lawful
 mod Listed
 mod Numbers
+mod Places
 mod Sent
 mod Sound
 mod Spelling
+mod Taken
 mod Views
 mod Whole

@@ -7,6 +7,7 @@ mod instr;
 mod object;
 mod opcode;
 mod tables;
+mod taking;
 mod words;
 mod writing;
 
