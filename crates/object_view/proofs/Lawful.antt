@@ -125,7 +125,7 @@ operand_there w Give k c m t n = bound_there k m
 operand_there w Drain k c m t n = bound_there k m
 operand_there w Release k c m t n = omega (arith, leb-true k 255 t)
 
-same_fault : (o : Opcode) (k : ℕ) (z : ℤ) → Bytes.may_fault (with o k z) ≡ may_fault o
+pub same_fault : (o : Opcode) (k : ℕ) (z : ℤ) → Bytes.may_fault (with o k z) ≡ may_fault o
 same_fault (Apply2 Add) k z = refl
 same_fault (Apply2 Sub) k z = refl
 same_fault (Apply2 Mul) k z = refl

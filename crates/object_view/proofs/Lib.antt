@@ -1,3 +1,5 @@
+mod BackInstr
+mod BackWords
 mod ByteWords
 mod Each
 mod Facts
