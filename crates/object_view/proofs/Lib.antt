@@ -1,4 +1,5 @@
 mod BackInstr
+mod BackLists
 mod BackWords
 mod ByteWords
 mod Each

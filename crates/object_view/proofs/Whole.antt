@@ -72,7 +72,7 @@ stopped d e a b c front t rest all k p q =
     sends_same (Err e) a c ((front ++ t) ++ rest) all (sym k) (sends_less e a c (front ++ t) rest (sends_more (Err e) a b c front t p (sends_other d e b c t q)))
 
 -- WHAT LAWFUL CODE HAS ROOM FOR
-dests_few : (op : Op) (ds es : List Dest) → HasDests op ds es → (length ds ≤ 1) × (length es ≤ 1)
+pub dests_few : (op : Op) (ds es : List Dest) → HasDests op ds es → (length ds ≤ 1) × (length es ≤ 1)
 dests_few (Apply1 op) ds es h = (omega (arith, h.0, h.1), omega (arith, h.0, h.1))
 dests_few (Apply2 op) ds es h = (omega (arith, h.0, h.1), omega (arith, h.0, h.1))
 dests_few (Apply2Right op z) ds es h = (omega (arith, h.0, h.1), omega (arith, h.0, h.1))
@@ -94,7 +94,7 @@ dests_few (Give k) ds es h = (omega (arith, h.0, h.1), omega (arith, h.0, h.1))
 dests_few (Drain k) ds es h = (omega (arith, h.0, h.1), omega (arith, h.0, h.1))
 dests_few (Release o) ds es h = (omega (arith, h.0, h.1), omega (arith, h.0, h.1))
 
-slot_small : (c : CodeBlock) (i : Instr) (op : Op) → IsSlot c i (slot_of i op) → c.slots ≤ 512 → i.slot < 65536
+pub slot_small : (c : CodeBlock) (i : Instr) (op : Op) → IsSlot c i (slot_of i op) → c.slots ≤ 512 → i.slot < 65536
 slot_small c i (Apply1 op) h few = omega (arith, h, few)
 slot_small c i (Apply2 op) h few = omega (arith, h, few)
 slot_small c i (Apply2Right op z) h few = omega (arith, h, few)
