@@ -1,3 +1,4 @@
+mod Back
 mod BackInstr
 mod BackLists
 mod BackWords

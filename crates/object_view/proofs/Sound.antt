@@ -109,7 +109,7 @@ ascending w h = record { steps = step }
         let ok = unless_ok (int_lt (literal_in w k) (literal_in w (k + 1))) BadLiteral (ap (literal_checked w) (sym at) ∙ each_at (literal_checked w) 0 (w 3 - 1) k h (omega (arith, lt))) in
         ap (λ a. int_lt a z) (sym first) ∙ ap (λ a. int_lt (literal_in w k) a) (sym second) ∙ ok
 
-not_below : (z : ℤ) → int_lt z z ≡ false
+pub not_below : (z : ℤ) → int_lt z z ≡ false
 not_below (pos n) = go (nat_lt n n) refl
   where
     go : (t : Bool) → nat_lt n n ≡ t → t ≡ false
