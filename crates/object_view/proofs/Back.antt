@@ -82,7 +82,7 @@ block_back v c w j is r k b at =
 abbrev code_made : List CodeBlock → List ℕ → ℕ → List ℤ → Code
 code_made blocks arrays main literals = record { program = record { blocks = blocks; arrays = arrays; main = main }; literals = literals }
 
-all_listed_back : {X : Type 0} (f : ℕ → X) (n : ℕ) (xs : List X) → n ≡ length xs → ((k : ℕ) (x : X) → slice_get xs k ≡ Some x → f k ≡ x) → listed f 0 n ≡ xs
+pub all_listed_back : {X : Type 0} (f : ℕ → X) (n : ℕ) (xs : List X) → n ≡ length xs → ((k : ℕ) (x : X) → slice_get xs k ≡ Some x → f k ≡ x) → listed f 0 n ≡ xs
 all_listed_back f n xs e h = ap (listed f 0) e ∙ listed_same f 0 xs (λ k x at. let z : 0 + k ≡ k = omega arith in ap f z ∙ h k x at)
 
 pub code_back : (v : ℕ) (c : Code) (w : ℕ → ℕ) (j : ℕ) → IsCode v c → IsRead v c w j → code_in w ≡ c

@@ -44,11 +44,11 @@ all_listed P f n h = λ k d lt.
 there_listed : {X : Type 0} (f : ℕ → X) (n k : ℕ) → k < n → Contains (listed f 0 n) (f k)
 there_listed f n k lt = (k, subst (λ m. k < m) (sym (length_listed f 0 n)) lt, at_listed f n k (f k) lt)
 
-map_same : (xs : List ℕ) → map (λ x. x) xs ≡ xs
+pub map_same : (xs : List ℕ) → map (λ x. x) xs ≡ xs
 map_same [] = refl
 map_same (x ∷ xs) = ap (λ (l : List ℕ). x ∷ l) (map_same xs)
 
-cells_taken : (w : ℕ → ℕ) (i n : ℕ) → cells_below w i + sum_by (λ x. x) (listed (array_in w) i n) ≡ cells_below w (i + n)
+pub cells_taken : (w : ℕ → ℕ) (i n : ℕ) → cells_below w i + sum_by (λ x. x) (listed (array_in w) i n) ≡ cells_below w (i + n)
 cells_taken w i zero =
     let same : i + zero ≡ i = omega arith in
     rw same (omega arith)

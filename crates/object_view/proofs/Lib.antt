@@ -3,6 +3,7 @@ mod BackInstr
 mod BackLists
 mod BackWords
 mod ByteWords
+mod Complete
 mod Each
 mod Facts
 mod Lawful
