@@ -113,7 +113,7 @@ entry_parts n i o s p q r t = record { count = omega (arith, p); inputs = omega 
 pub entry_back : (v : ℕ) (c : Code) (b : CodeBlock) → IsCodeBlock v c b → EntryParts (block_word b) (length b.instrs) b.inputs b.outputs b.slots
 entry_back v c b ok = entry_parts (length b.instrs) b.inputs b.outputs b.slots (omega (arith, ok.size.1)) (omega (arith, ok.inputs.1)) (omega (arith, ok.outputs.1)) (omega (arith, ok.slots))
 
-origin_few : (v : ℕ) (op : Op) (o : Origin) → IsOrigin v op o → origin_code o ≤ 262144
+pub origin_few : (v : ℕ) (op : Op) (o : Origin) → IsOrigin v op o → origin_code o ≤ 262144
 origin_few v op Untold h = omega arith
 origin_few v op (At b n) h = omega (arith, h.2, h.3)
 

@@ -33,7 +33,7 @@ use Rattle.object_view.proofs.Facts.{checked_all, none_refused}
 use Rattle.object_view.proofs.Lawful.{cells_taken, map_same}
 use Rattle.object_view.proofs.BackWords.{length_words}
 use Rattle.object_view.proofs.BackInstr.{opcode_named, HasPlace, HasHalf, IsLooked, word_one, word_two, opcode_told, second_told, operand_few, half_few, opcode_few, flag_few, first_parts, dest_back, not_zero}
-use Rattle.object_view.proofs.BackLists.{EntryParts, IsRead, block_there, place_there, entry_back}
+use Rattle.object_view.proofs.BackLists.{EntryParts, IsRead, all_at, origin_few, block_there, place_there, entry_back}
 use Rattle.object_view.proofs.Back.{number_there, literal_back, looked, object_read, all_listed_back}
 
 -- CHECKS
@@ -298,3 +298,167 @@ dest_passes w v c j k b n (d ∷ ds) is r at half all =
         let same : instrs_below w k + (n + d.ahead) ≡ instrs_below w k + n + d.ahead = omega arith in
         let right = right_passes w v c j k b is r at (n + d.ahead) one.inside (one.right e) in
         or_right ((d.ahead + 2 ^ 15 * port_bit d.port) / 2 ^ 15 == 0) _ (ap (λ (m : ℕ). may_take_right (opcode_in (w (instr_place w m)))) (sym same) ∙ right)
+
+-- AN INSTRUCTION
+instr_passes : (w : ℕ → ℕ) (v : ℕ) (c : Code) (j k : ℕ) (b : CodeBlock) (n : ℕ) (i : Instr) → IsCode v c → IsRead v c w j → slice_get c.program.blocks k ≡ Some b → slice_get b.instrs n ≡ Some i
+    → opcode_checked w b.slots (instrs_below w k + length b.instrs) (instrs_below w k + n) (opcode_named i.op) (word_one c i) (word_two c i) ≡ Ok tt
+instr_passes w v c j k b n i is r at there =
+    let ok = block_there v c k b is at in
+    let it : IsInstr v c b n i = ok.instrs n i there in
+    let p = place_there v c b n i is ok there in
+    let ls = c.literals in
+    let o = opcode_named i.op in
+    let x = word_one c i in
+    let y = word_two c i in
+    let version = version_in (w 1) in
+    let end = instrs_below w k + length b.instrs in
+    let ip = instrs_below w k + n in
+    let number = (head_of ls i.op).operand in
+    let parts = first_parts (head_of ls i.op).opcode (head_of ls i.op).flag i.slot (dest_word i.firsts) (dest_word i.seconds) (opcode_few ls i.op) (flag_few ls i.op) p.slot (half_few i.firsts p.firsts) (half_few i.seconds p.seconds) in
+    let second = second_told w v c i r.version is.few_literals (looked v c w j is r) p in
+    let operand : operand_fits version o y ≡ true =
+    operand_passes version i.op number (origin_code i.origin) (operand_few ls i.op is.few_literals p.room) (origin_few v i.op i.origin it.origin) (has_passes c i.op it.operand) second.0 in
+    let slot : slot_fits o (slot_in x) b.slots ≡ true = ap (λ (m : ℕ). slot_fits o m b.slots) parts.2 ∙ slot_passes b i i.op it.slot in
+    let first : dest_fits w end ip (first_half x) ≡ true = ap (dest_fits w end ip) parts.3 ∙ dest_passes w v c j k b n i.firsts is r at p.firsts it.firsts in
+    let next : dest_fits w end ip (second_half x) ≡ true = ap (dest_fits w end ip) parts.4 ∙ dest_passes w v c j k b n i.seconds is r at p.seconds it.seconds in
+    let to : may_go_to o (dest_of (first_half x)) (dest_of (second_half x)) ≡ true =
+    ap (λ (d : Option Dest). may_go_to o d (dest_of (second_half x))) (ap dest_of parts.3 ∙ lead_back i.firsts p.firsts)
+    ∙ ap (λ (d : Option Dest). may_go_to o (lead i.firsts) d) (ap dest_of parts.4 ∙ lead_back i.seconds p.seconds)
+    ∙ go_passes i.op i.firsts i.seconds it.dests in
+    let dests : dests_fit w end ip o x ≡ true = and_from _ _ (and_from _ _ first next) to in
+    let target : target_fits w o (operand_in version o y) ≡ true = ap (target_fits w o) second.0 ∙ target_passes w v c j is r i.op it.operand in
+    let numbered : number_checked w o (operand_in version o y) ≡ Ok tt = ap (number_checked w o) second.0 ∙ number_passes w v c j is r i.op it.operand in
+    both_pass (unless (operand_fits version o y) BadOpcode) _ (passes (operand_fits version o y) BadOpcode operand)
+        (both_pass (unless (slot_fits o (slot_in x) b.slots) BadSlot) _ (passes (slot_fits o (slot_in x) b.slots) BadSlot slot)
+        (both_pass (unless (dests_fit w end ip o x && target_fits w o (operand_in version o y)) BadDestination) (number_checked w o (operand_in version o y))
+            (passes (dests_fit w end ip o x && target_fits w o (operand_in version o y)) BadDestination (and_from _ _ dests target)) numbered))
+
+instr_checks : (w : ℕ → ℕ) (v : ℕ) (c : Code) (j k : ℕ) (b : CodeBlock) (n : ℕ) (i : Instr) → IsCode v c → IsRead v c w j → slice_get c.program.blocks k ≡ Some b → slice_get b.instrs n ≡ Some i
+    → instr_checked w b.slots (instrs_below w k + length b.instrs) (instrs_below w k + n) ≡ Ok tt
+unfolding instr_checked
+instr_checks w v c j k b n i is r at there =
+    let ok = block_there v c k b is at in
+    let p = place_there v c b n i is ok there in
+    let o = opcode_named i.op in
+    let end = instrs_below w k + length b.instrs in
+    let ip = instrs_below w k + n in
+    let read = r.instr k b at n i there in
+    ap (instr_checked_as w b.slots end ip) (ap opcode_in read.0 ∙ opcode_told v c i p)
+    ∙ ap (λ (x : ℕ). opcode_checked w b.slots end ip o x (w (instr_place w ip + 1))) read.0
+    ∙ ap (λ (y : ℕ). opcode_checked w b.slots end ip o (word_one c i) y) read.1
+    ∙ instr_passes w v c j k b n i is r at there
+
+-- BLOCKS
+block_passes : (w : ℕ → ℕ) (v : ℕ) (c : Code) (j k : ℕ) (b : CodeBlock) → IsCode v c → IsRead v c w j → slice_get c.program.blocks k ≡ Some b → block_checked w k ≡ Ok tt
+block_passes w v c j k b is r at =
+    let e = r.entry k b at in
+    let parts = entry_back v c b (block_there v c k b is at) in
+    let first = instrs_below w k in
+    let slots : slots_in (w (6 + k)) ≡ b.slots = ap slots_in e ∙ parts.slots in
+    let count : count_in (w (6 + k)) ≡ length b.instrs = ap count_in e ∙ parts.count in
+    ap (λ (s : ℕ). each (instr_checked w s (first + count_in (w (6 + k)))) first (count_in (w (6 + k)))) slots
+    ∙ ap (λ (m : ℕ). each (instr_checked w b.slots (first + m)) first m) count
+    ∙ each_passes (instr_checked w b.slots (first + length b.instrs)) first (length b.instrs) (λ n lt.
+        let i = element b.instrs n lt in
+        instr_checks w v c j k b n i.0 is r at i.1)
+
+entry_passes : (w : ℕ → ℕ) (v : ℕ) (c : Code) (j k : ℕ) (b : CodeBlock) → IsCode v c → IsRead v c w j → slice_get c.program.blocks k ≡ Some b → entry_checked w k ≡ Ok tt
+entry_passes w v c j k b is r at =
+    let ok = block_there v c k b is at in
+    let parts = entry_back v c b ok in
+    let x = block_word b in
+    let fits : entry_fits x ≡ true =
+    and_from _ _ (and_from _ _ (and_from _ _ (and_from _ _ (and_from _ _ (and_from _ _
+        (le-leb 1 (inputs_in x) (omega (arith, parts.inputs, ok.inputs.0)))
+        (le-leb (inputs_in x) 16 (omega (arith, parts.inputs, ok.inputs.1))))
+        (le-leb 1 (outputs_in x) (omega (arith, parts.outputs, ok.outputs.0))))
+        (le-leb (outputs_in x) 16 (omega (arith, parts.outputs, ok.outputs.1))))
+        (le-leb (inputs_in x + 1) (count_in x) (omega (arith, parts.inputs, parts.count, ok.size.0))))
+        (le-leb (count_in x) 32768 (omega (arith, parts.count, ok.size.1))))
+        (le-leb (slots_in x) 512 (omega (arith, parts.slots, ok.slots))) in
+    passes (entry_fits (w (6 + k))) BadTable (ap entry_fits (r.entry k b at) ∙ fits)
+
+-- ARRAYS AND LITERALS
+cells_all : (w : ℕ → ℕ) (n : ℕ) → cells_below w n ≡ sum (listed (array_in w) 0 n)
+cells_all w n =
+    let s = cells_taken w 0 n in
+    let z : 0 + n ≡ n = omega arith in
+    let m = sum-map (λ x. x) (listed (array_in w) 0 n) in
+    let e : sum (listed (array_in w) 0 n) ≡ sum_by (λ x. x) (listed (array_in w) 0 n) = ap sum (sym (map_same (listed (array_in w) 0 n))) ∙ m in
+    omega (arith, s, ap (cells_below w) z, e)
+
+arrays_pass : (w : ℕ → ℕ) (v : ℕ) (c : Code) (j : ℕ) → IsCode v c → IsRead v c w j → arrays_checked w ≡ Ok tt
+arrays_pass w v c j is r =
+    let all = all_listed_back (array_in w) (w 4) c.program.arrays r.arrays r.array in
+    let cells : cells_below w (w 4) ≡ sum c.program.arrays = cells_all w (w 4) ∙ ap sum all in
+    both_pass (each (array_checked w) 0 (w 4)) (unless (nat_le (cells_below w (w 4)) 65536) BadTable)
+        (from_zero (array_checked w) (w 4) (λ k lt.
+            let e = element c.program.arrays k (omega (arith, lt, r.arrays)) in
+            let few = all_at (λ (m : ℕ). (1 ≤ m) × (m ≤ 65536)) c.program.arrays k e.0 is.arrays e.1 in
+            let same : array_in w k ≡ e.0 = r.array k e.0 e.1 in
+            passes (nat_le 1 (array_in w k) && nat_le (array_in w k) 65536) BadTable (and_from _ _ (le-leb 1 (array_in w k) (omega (arith, same, few.0))) (le-leb (array_in w k) 65536 (omega (arith, same, few.1))))))
+        (passes (nat_le (cells_below w (w 4)) 65536) BadTable (le-leb (cells_below w (w 4)) 65536 (omega (arith, cells, is.cells))))
+
+literals_pass : (w : ℕ → ℕ) (v : ℕ) (c : Code) (j : ℕ) → IsCode v c → IsRead v c w j → literals_checked w ≡ Ok tt
+literals_pass w v c j is r = from_zero (literal_checked w) (w 3 - 1) (λ k lt.
+    let y = element c.literals k (omega (arith, lt, r.literals)) in
+    let z = element c.literals (k + 1) (omega (arith, lt, r.literals)) in
+    passes (int_lt (literal_in w k) (literal_in w (k + 1))) BadLiteral
+        (ap (λ (a : ℤ). int_lt a (literal_in w (k + 1))) (literal_back v c w j is r k y.0 y.1) ∙ ap (λ (a : ℤ). int_lt y.0 a) (literal_back v c w j is r (k + 1) z.0 z.1) ∙ is.ascend k y.0 z.0 y.1 z.1))
+
+-- THE HEADER AND THE WHOLE
+counts_pass : (w : ℕ → ℕ) (v : ℕ) (c : Code) (j : ℕ) → IsCode v c → IsRead v c w j → counts_fit w ≡ true
+counts_pass w v c j is r =
+    and_from _ _ (and_from _ _ (and_from _ _ (and_from _ _
+        (le-leb 1 (w 2) (omega (arith, r.blocks, is.some_block.0)))
+        (le-leb (w 2) 512 (omega (arith, r.blocks, is.some_block.1))))
+        (le-leb (w 3) 65536 (omega (arith, r.literals, is.few_literals))))
+        (le-leb (w 4) 64 (omega (arith, r.arrays, is.few_arrays))))
+        (lt-ltb (w 5) (w 2) (omega (arith, r.main, r.blocks, is.main)))
+
+header_passes : (w : ℕ → ℕ) (v : ℕ) (c : Code) (j : ℕ) → IsCode v c → IsRead v c w j → header_checked w ≡ Ok tt
+header_passes w v c j is r =
+    ap (λ (x : ℕ). if x == MAGIC then (if w 1 == 1 || w 1 == 2 then unless (counts_fit w) BadTable else Err BadVersion) else Err BadMagic) r.magic
+    ∙ ap (λ (x : ℕ). if x == 1 || x == 2 then unless (counts_fit w) BadTable else Err BadVersion) r.version
+    ∙ known is.version_known
+    ∙ passes (counts_fit w) BadTable (counts_pass w v c j is r)
+  where
+    known : (v ≡ 1) ⊎ (v ≡ 2) → (if v == 1 || v == 2 then unless (counts_fit w) BadTable else Err BadVersion) ≡ unless (counts_fit w) BadTable
+    known (inl e) = ap (λ (x : ℕ). if x == 1 || x == 2 then unless (counts_fit w) BadTable else Err BadVersion) e
+    known (inr e) = ap (λ (x : ℕ). if x == 1 || x == 2 then unless (counts_fit w) BadTable else Err BadVersion) e
+
+length_passes : (n : ℕ) (w : ℕ → ℕ) → n ≡ 8 * word_count w → length_checked n w ≡ Ok tt
+length_passes n w e =
+    ap (λ (t : Bool). if t then Err Truncated else if nat_lt (8 * word_count w) n then Err Trailing else Ok tt) (le-ltb n (8 * word_count w) (omega (arith, e)))
+    ∙ ap (λ (t : Bool). if t then Err Trailing else Ok tt) (le-ltb (8 * word_count w) n (omega (arith, e)))
+
+tables_pass : (n : ℕ) (w : ℕ → ℕ) (v : ℕ) (c : Code) (j : ℕ) → IsCode v c → IsRead v c w j → n ≡ 8 * word_count w → tables_checked n w ≡ Ok tt
+tables_pass n w v c j is r e =
+    ap (λ (t : Bool). if t then Err Truncated else first_then (each (entry_checked w) 0 (w 2)) (length_checked n w)) (le-ltb n (8 * (6 + w 2)) (omega (arith, e)))
+    ∙ both_pass (each (entry_checked w) 0 (w 2)) (length_checked n w)
+        (from_zero (entry_checked w) (w 2) (λ k lt. let b = element c.program.blocks k (omega (arith, lt, r.blocks)) in entry_passes w v c j k b.0 is r b.1))
+        (length_passes n w e)
+
+opening_passes : (n : ℕ) (w : ℕ → ℕ) (v : ℕ) (c : Code) (j : ℕ) → IsCode v c → IsRead v c w j → n ≡ 8 * word_count w → opening_checked n w ≡ Ok tt
+opening_passes n w v c j is r e =
+    ap (λ (t : Bool). if t then Err Truncated else first_then (header_checked w) (tables_checked n w)) (le-ltb n 48 (omega (arith, e)))
+    ∙ both_pass (header_checked w) (tables_checked n w) (header_passes w v c j is r) (tables_pass n w v c j is r e)
+
+content_passes : (w : ℕ → ℕ) (v : ℕ) (c : Code) (j : ℕ) → IsCode v c → IsRead v c w j → content_checked w ≡ Ok tt
+content_passes w v c j is r =
+    both_pass (arrays_checked w) (first_then (literals_checked w) (each (block_checked w) 0 (w 2))) (arrays_pass w v c j is r)
+        (both_pass (literals_checked w) (each (block_checked w) 0 (w 2)) (literals_pass w v c j is r)
+        (from_zero (block_checked w) (w 2) (λ k lt. let b = element c.program.blocks k (omega (arith, lt, r.blocks)) in block_passes w v c j k b.0 is r b.1)))
+
+pub lawful_opens : (v : ℕ) (c : Code) → IsCode v c → first_refusal (bytes_of v c) ≡ None
+lawful_opens v c is =
+    let bytes = bytes_of v c in
+    let w = word_at bytes in
+    let j = 0 + length (MAGIC ∷ words_of v c) in
+    let r = object_read v c is in
+    let long : length bytes ≡ 8 * word_count w = omega (arith, length_words (MAGIC ∷ words_of v c), r.long) in
+    none_refused bytes (checked_all bytes (opening_passes (length bytes) w v c j is r long) (content_passes w v c j is r))
+
+-- every object is opened
+pub complete : (bytes : List ℕ) (v : ℕ) (c : Code) → IsObject bytes v c → first_refusal bytes ≡ None
+complete bytes v c is = ap first_refusal is.0 ∙ lawful_opens v c is.1
