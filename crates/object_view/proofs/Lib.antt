@@ -12,5 +12,6 @@ mod Numbers
 mod Sent
 mod Sound
 mod Spelling
+mod Unique
 mod Views
 mod Whole

@@ -2,3 +2,4 @@ pub mod Fields
 pub mod Checks
 pub mod Reading
 pub mod Sending
+pub mod Unique
