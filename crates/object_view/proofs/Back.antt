@@ -1,16 +1,16 @@
 -- The bytes of lawful code tell this code.
-use Rattle.std.proofs.Common.{◌≡◌, ℕ, zero, suc, ◌+◌, ◌-◌, ◌*◌, ◌<◌, ◌≤◌, Bool, true, false, nat_lt, if◌then◌else◌, List, [], ◌∷◌, length, Option, Some, None, ℤ, pos, refl, sym, ap, subst, ◌∙◌, arith, get_or}
-use Rattle.std.specs.Prelude.{slice_get, All, Contains, FitsSigned, unwrap_or, int_lt}
-use Rattle.std.specs.Int.{w64, cast_unsigned, cast_signed}
+use Rattle.std.proofs.Common.{◌≡◌, ℕ, zero, suc, ◌+◌, ◌<◌, ◌≤◌, Bool, true, nat_lt, if◌then◌else◌, List, ◌∷◌, length, Option, Some, ℤ, pos, sym, ap, ◌∙◌, arith, get_or}
+use Rattle.std.specs.Prelude.{slice_get, FitsSigned, unwrap_or, int_lt}
+use Rattle.std.specs.Int.{w64, cast_signed}
 use Rattle.std.proofs.lemmas.Bool.{lt-ltb}
 use Rattle.std.proofs.lemmas.Int.{to_z-of_z}
-use Rattle.std.proofs.lemmas.Option.{slice_get_within, get_or_from_slice_get, slice_get-get_or}
-use Rattle.semantics.specs.Program.{Instr, CodeBlock, Program, Code}
-use Rattle.semantics.specs.Bytes.{number_from, block_word, words_of, bytes_of, IsCodeBlock, IsCode}
+use Rattle.std.proofs.lemmas.Option.{slice_get-get_or}
+use Rattle.semantics.specs.Program.{Instr, CodeBlock, Code}
+use Rattle.semantics.specs.Bytes.{number_from, words_of, bytes_of, IsCode}
 use Rattle.object_view.specs.declared.opcode.Opcode.{Opcode}
 use Rattle.object_view.specs.declared.opcode.Opcode.TheVariants.{Copy}
 use Rattle.object_view.specs.Fields.{word_at, version_number, count_in, inputs_in, outputs_in, slots_in, opcode_in}
-use Rattle.object_view.specs.Reading.{Opened, opened, listed, shown, version_in, instrs_below, instr_place, literal_place, literal_in, literal_or_zero, array_in, instr_as, instr_in, block_in, code_in}
+use Rattle.object_view.specs.Reading.{opened, listed, shown, version_in, instrs_below, instr_place, literal_in, literal_or_zero, array_in, instr_as, instr_in, block_in, code_in}
 use Rattle.object_view.specs.Checks.{MAGIC}
 use Rattle.object_view.specs.Sending.{IsAscending}
 use Rattle.object_view.proofs.Numbers.{number_stops, number_goes}

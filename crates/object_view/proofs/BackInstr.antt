@@ -1,7 +1,6 @@
 -- An instruction of lawful code is read back from its two words.
-use Rattle.std.proofs.Common.{◌≡◌, ℕ, zero, suc, ◌+◌, ◌-◌, ◌*◌, ◌/◌, ◌%◌, ◌^◌, ◌<◌, ◌≤◌, Bool, true, false, ◌==◌, if◌then◌else◌, List, [], ◌∷◌, length, Option, Some, None, ℤ, refl, sym, ap, subst, ◌∙◌, arith, eqb-true, get_or}
-use Rattle.std.specs.Prelude.{⊤, option_to_list, Contains, slice_get, All, unwrap_or}
-use Rattle.std.proofs.lemmas.Bool.{eqb-false}
+use Rattle.std.proofs.Common.{◌≡◌, ℕ, ◌+◌, ◌-◌, ◌*◌, ◌/◌, ◌%◌, ◌^◌, ◌<◌, ◌≤◌, Bool, true, false, ◌==◌, if◌then◌else◌, List, [], ◌∷◌, length, Option, Some, None, ℤ, refl, sym, ap, subst, ◌∙◌, arith, eqb-true, get_or}
+use Rattle.std.specs.Prelude.{⊤, option_to_list, Contains, slice_get}
 use Rattle.std.proofs.lemmas.Option.{slice_get_within, get_or_from_slice_get}
 use Rattle.tags.specs.declared.token.Port.{Port}
 use Rattle.tags.specs.declared.token.Port.TheVariants.{Left, Right}
@@ -20,7 +19,7 @@ use Rattle.object_view.specs.declared.object.Version.{Version}
 use Rattle.object_view.specs.declared.object.Version.TheVariants.{One, Two}
 use Rattle.object_view.specs.declared.opcode.Opcode.{Opcode}
 use Rattle.object_view.specs.declared.opcode.Opcode.TheVariants as Named
-use Rattle.object_view.specs.Fields.{binary_of, flagged, unflagged, opcode_from, opcode_of, opcode_in, slot_in, first_half, second_half, with, may_fault, dest_of, port_of, has_origin, operand_in, origin_number, origin_of}
+use Rattle.object_view.specs.Fields.{binary_of, opcode_from, opcode_of, opcode_in, slot_in, first_half, second_half, with, may_fault, dest_of, port_of, operand_in, origin_number, origin_of}
 use Rattle.object_view.specs.Reading.{shown, version_in, instr_as, literal_or_zero}
 use Rattle.object_view.proofs.Lawful.{same_fault}
 use Rattle.object_view.proofs.Numbers.{number_most}
@@ -237,7 +236,7 @@ with_back w c (Fetch a) look h r = let e : a % 256 ≡ a = omega (arith, r) in a
 with_back w c (Store a) look h r = let e : a % 256 ≡ a = omega (arith, r) in ap (λ (x : ℕ). Store x) e
 with_back w c Frame look h r = refl
 with_back w c (Link b) look h r = let e : b % 65536 ≡ b = omega (arith, r) in ap (λ (x : ℕ). Link x) e
-with_back w c (Send b e) look h r = 
+with_back w c (Send b e) look h r =
     let one : (e + 2 ^ 16 * b) / 65536 % 65536 ≡ b = omega (arith, r.0, r.1) in
     let two : (e + 2 ^ 16 * b) % 65536 ≡ e = omega (arith, r.0, r.1) in
     ap (λ (x : ℕ). Send x ((e + 2 ^ 16 * b) % 65536)) one ∙ ap (λ (x : ℕ). Send b x) two

@@ -1,6 +1,6 @@
 -- The words of lawful code are where they are looked for.
-use Rattle.std.proofs.Common.{◌≡◌, ℕ, zero, suc, ◌+◌, ◌-◌, ◌*◌, ◌/◌, ◌%◌, ◌^◌, ◌<◌, ◌≤◌, List, [], ◌∷◌, ◌++◌, length, map, Option, Some, None, ℤ, refl, sym, ap, subst, ◌∙◌, append_assoc, arith, get_or, ◌⊎◌, inl, inr}
-use Rattle.std.specs.Prelude.{⊤, flat_map, slice_get, All, FitsSigned}
+use Rattle.std.proofs.Common.{◌≡◌, ℕ, zero, suc, ◌+◌, ◌*◌, ◌^◌, ◌<◌, ◌≤◌, List, [], ◌∷◌, ◌++◌, length, map, Some, ℤ, refl, sym, ap, subst, ◌∙◌, append_assoc, arith, ◌⊎◌, inl, inr}
+use Rattle.std.specs.Prelude.{flat_map, slice_get, All, FitsSigned}
 use Rattle.std.specs.Int.{w64, cast_unsigned}
 use Rattle.std.proofs.lemmas.Option.{slice_get_within, get_or_from_slice_get}
 use mir.ValLaws as laws
@@ -12,11 +12,11 @@ use Rattle.semantics.specs.declared.program.Op.{Op}
 use Rattle.tags.specs.declared.value.Origin.{Origin}
 use Rattle.tags.specs.declared.value.Origin.TheVariants.{Untold, At}
 use Rattle.object_view.specs.Fields.{count_in, inputs_in, outputs_in, slots_in}
-use Rattle.object_view.specs.Reading.{listed, instrs_below, instr_count, instr_place, literal_place, array_place, word_count}
+use Rattle.object_view.specs.Reading.{listed, instrs_below, instr_place, literal_place, array_place, word_count}
 use Rattle.object_view.specs.Checks.{MAGIC}
 use Rattle.object_view.proofs.ByteWords.{ReadsTo, reads_length}
 use Rattle.object_view.proofs.BackWords.{AreWords, words_append}
-use Rattle.object_view.proofs.BackInstr.{HasPlace, HasHalf, OpRoom, operand_room, operand_few, half_few, opcode_few, flag_few, first_parts, word_one, word_two}
+use Rattle.object_view.proofs.BackInstr.{HasPlace, HasHalf, operand_room, operand_few, half_few, opcode_few, flag_few, first_parts, word_one, word_two}
 use Rattle.object_view.proofs.Each.{below_next}
 use Rattle.object_view.proofs.Whole.{dests_few, slot_small}
 
@@ -228,8 +228,8 @@ is_read v c w j is r =
     let six = r.1.1.1.1.1.1 in
     let entry : (k : ℕ) (b : CodeBlock) → slice_get bs k ≡ Some b → w (6 + k) ≡ block_word b = λ k b at. reads_map block_word w 6 bs (ws ++ (ls ++ lens)) j k b six at in
     let counted : IsCounted w 0 bs = λ k b at.
-        let z : 0 + k ≡ k = omega arith in
-        ap (λ m. count_in (w (6 + m))) z ∙ ap count_in (entry k b at) ∙ (entry_back v c b (block_there v c k b is at)).count in
+    let z : 0 + k ≡ k = omega arith in
+    ap (λ m. count_in (w (6 + m))) z ∙ ap count_in (entry k b at) ∙ (entry_back v c b (block_there v c k b is at)).count in
     let to1 : 6 + length (map block_word bs) ≡ instr_place w (instrs_below w 0) = omega (arith, length_mapped block_word bs, nb) in
     let r1 = subst (λ (a : ℕ). ReadsTo w a (ws ++ (ls ++ lens)) j) to1 (reads_past w 6 (map block_word bs) (ws ++ (ls ++ lens)) j six) in
     let all : 0 + length bs ≡ w 2 = omega (arith, nb) in

@@ -1,15 +1,12 @@
 -- The bytes of lawful code pass each check.
-use Rattle.std.proofs.Common.{◌≡◌, ℕ, zero, suc, ◌+◌, ◌-◌, ◌*◌, ◌/◌, ◌%◌, ◌^◌, ◌<◌, ◌≤◌, Bool, true, false, ◌&&◌, ◌||◌, ◌==◌, nat_lt, nat_le, if◌then◌else◌, List, [], ◌∷◌, length, Option, Some, None, Ok, Err, ℤ, ◌⊎◌, inl, inr, refl, sym, ap, subst, ◌∙◌, arith, get_or, sum}
-use Rattle.std.specs.Prelude.{⊤, slice_get, All, Contains, option_to_list, int_lt, sum_by, is_some, is_none, flat_map}
-use Rattle.std.specs.Int.{w64, to_le_bytes}
+use Rattle.std.proofs.Common.{◌≡◌, ℕ, zero, suc, ◌+◌, ◌-◌, ◌*◌, ◌/◌, ◌%◌, ◌^◌, ◌<◌, ◌≤◌, Bool, true, false, ◌&&◌, ◌||◌, ◌==◌, nat_lt, nat_le, if◌then◌else◌, List, [], ◌∷◌, length, Option, Some, None, Ok, Err, ℤ, ◌⊎◌, inl, inr, refl, sym, ap, ◌∙◌, arith, sum}
+use Rattle.std.specs.Prelude.{slice_get, All, Contains, int_lt, sum_by, is_some, is_none}
 use Rattle.std.proofs.lemmas.Bool.{and_from, or_right, or_left, lt-ltb, le-leb, le-ltb, eq-eqb}
-use Rattle.std.proofs.lemmas.Option.{slice_get_within, get_or_from_slice_get, slice_get-get_or}
+use Rattle.std.proofs.lemmas.Option.{slice_get_within}
 use Rattle.std.proofs.lemmas.List.Sums.{sum-map}
 use Rattle.tags.specs.declared.token.Port.{Port}
 use Rattle.tags.specs.declared.token.Port.TheVariants.{Left, Right}
-use Rattle.tags.specs.declared.value.Origin.{Origin}
 use Rattle.operators.specs.declared.Unary.TheVariants.{Neg, Not}
-use Rattle.operators.specs.declared.Binary.{Binary}
 use Rattle.semantics.specs.declared.program.Dest.{Dest}
 use Rattle.semantics.specs.declared.program.Op.{Op}
 use Rattle.semantics.specs.declared.program.Op.TheVariants.{Apply1, Apply2, Apply2Right, Apply2Left, Lit, Copy, Sync, Switch, Fetch, Store, Frame, Link, Send, Return, Ask, Open, Take, Give, Drain, Release}
@@ -23,17 +20,15 @@ use Rattle.object_view.specs.declared.fault.ObjectFault.{ObjectFault}
 use Rattle.object_view.specs.declared.fault.ObjectFault.TheVariants.{Truncated, Trailing, BadMagic, BadVersion, BadTable, BadOpcode, BadDestination, BadSlot, BadLiteral}
 use Rattle.object_view.specs.declared.object.Version.{Version}
 use Rattle.object_view.specs.declared.object.Version.TheVariants.{One, Two}
-use Rattle.object_view.specs.declared.opcode.Opcode.{Opcode}
-use Rattle.object_view.specs.declared.opcode.Opcode.TheVariants as Named
 use Rattle.object_view.specs.Fields.{word_at, count_in, inputs_in, outputs_in, slots_in, opcode_in, slot_in, dest_of, first_half, second_half, operand_in, origin_number, may_fault, may_have, may_go_to, is_dyadic}
-use Rattle.object_view.specs.Reading.{opened, listed, version_in, instrs_below, instr_place, literal_in, array_in, word_count}
-use Rattle.object_view.specs.Checks.{Checked, first_then, unless, each, MAGIC, counts_fit, header_checked, entry_fits, entry_checked, length_checked, tables_checked, cells_below, array_checked, arrays_checked, literal_checked, literals_checked, operand_fits, slot_fits, may_take_right, dest_fits, dests_fit, target_fits, number_checked, opcode_checked, instr_checked_as, instr_checked, block_checked, opening_checked, content_checked, checked, first_refusal}
+use Rattle.object_view.specs.Reading.{listed, version_in, instrs_below, instr_place, literal_in, array_in, word_count}
+use Rattle.object_view.specs.Checks.{Checked, first_then, unless, each, MAGIC, counts_fit, header_checked, entry_fits, entry_checked, length_checked, tables_checked, cells_below, array_checked, arrays_checked, literal_checked, literals_checked, operand_fits, slot_fits, may_take_right, dest_fits, dests_fit, target_fits, number_checked, opcode_checked, instr_checked_as, instr_checked, block_checked, opening_checked, content_checked, first_refusal}
 use Rattle.object_view.proofs.Each.{passed_first}
 use Rattle.object_view.proofs.Facts.{checked_all, none_refused}
 use Rattle.object_view.proofs.Lawful.{cells_taken, map_same}
 use Rattle.object_view.proofs.BackWords.{length_words}
-use Rattle.object_view.proofs.BackInstr.{opcode_named, HasPlace, HasHalf, IsLooked, word_one, word_two, opcode_told, second_told, operand_few, half_few, opcode_few, flag_few, first_parts, dest_back, not_zero}
-use Rattle.object_view.proofs.BackLists.{EntryParts, IsRead, all_at, origin_few, block_there, place_there, entry_back}
+use Rattle.object_view.proofs.BackInstr.{opcode_named, HasHalf, word_one, word_two, opcode_told, second_told, operand_few, half_few, opcode_few, flag_few, first_parts, dest_back, not_zero}
+use Rattle.object_view.proofs.BackLists.{IsRead, all_at, origin_few, block_there, place_there, entry_back}
 use Rattle.object_view.proofs.Back.{number_there, literal_back, looked, object_read, all_listed_back}
 
 -- CHECKS
@@ -88,8 +83,8 @@ operand_passes Two op k n few small h e =
     let y = k + 2 ^ 32 * n in
     let number : origin_number Two o y ≤ 262144 = go (may_fault o) in
     and_from (nat_le (origin_number Two o y) 262144 && nat_lt (operand_in Two o y) (2 ^ 32)) (may_have o (operand_in Two o y))
-        (and_from (nat_le (origin_number Two o y) 262144) (nat_lt (operand_in Two o y) (2 ^ 32)) (le-leb _ _ number) (lt-ltb _ _ (omega (arith, e, few))))
-        (ap (may_have o) e ∙ h)
+    (and_from (nat_le (origin_number Two o y) 262144) (nat_lt (operand_in Two o y) (2 ^ 32)) (le-leb _ _ number) (lt-ltb _ _ (omega (arith, e, few))))
+    (ap (may_have o) e ∙ h)
   where
     go : (t : Bool) → (if t then (k + 2 ^ 32 * n) / 2 ^ 32 else 0) ≤ 262144
     go true = omega (arith, few, small)
@@ -119,7 +114,7 @@ target_passes w v c j is r (Send b e) h =
     let inputs : inputs_in (w (6 + b)) ≡ x.inputs = ap inputs_in (r.entry b x h.1) ∙ parts.inputs in
     let at : inputs_in (w (6 + (e + 2 ^ 16 * b) / 2 ^ 16)) ≡ x.inputs = ap (λ (m : ℕ). inputs_in (w (6 + m))) high ∙ inputs in
     and_from (nat_lt ((e + 2 ^ 16 * b) / 2 ^ 16) (w 2)) (nat_le ((e + 2 ^ 16 * b) % 2 ^ 16) (inputs_in (w (6 + (e + 2 ^ 16 * b) / 2 ^ 16))))
-        (lt-ltb _ _ (omega (arith, high, lt, r.blocks))) (le-leb _ _ (omega (arith, low, at, h.2)))
+    (lt-ltb _ _ (omega (arith, high, lt, r.blocks))) (le-leb _ _ (omega (arith, low, at, h.2)))
 target_passes w v c j is r (Return o) h = le-leb o 255 h
 target_passes w v c j is r (Ask o) h = le-leb o 255 h
 target_passes w v c j is r (Open k) h = refl
@@ -329,9 +324,9 @@ instr_passes w v c j k b n i is r at there =
     let target : target_fits w o (operand_in version o y) ≡ true = ap (target_fits w o) second.0 ∙ target_passes w v c j is r i.op it.operand in
     let numbered : number_checked w o (operand_in version o y) ≡ Ok tt = ap (number_checked w o) second.0 ∙ number_passes w v c j is r i.op it.operand in
     both_pass (unless (operand_fits version o y) BadOpcode) _ (passes (operand_fits version o y) BadOpcode operand)
-        (both_pass (unless (slot_fits o (slot_in x) b.slots) BadSlot) _ (passes (slot_fits o (slot_in x) b.slots) BadSlot slot)
-        (both_pass (unless (dests_fit w end ip o x && target_fits w o (operand_in version o y)) BadDestination) (number_checked w o (operand_in version o y))
-            (passes (dests_fit w end ip o x && target_fits w o (operand_in version o y)) BadDestination (and_from _ _ dests target)) numbered))
+    (both_pass (unless (slot_fits o (slot_in x) b.slots) BadSlot) _ (passes (slot_fits o (slot_in x) b.slots) BadSlot slot)
+    (both_pass (unless (dests_fit w end ip o x && target_fits w o (operand_in version o y)) BadDestination) (number_checked w o (operand_in version o y))
+    (passes (dests_fit w end ip o x && target_fits w o (operand_in version o y)) BadDestination (and_from _ _ dests target)) numbered))
 
 instr_checks : (w : ℕ → ℕ) (v : ℕ) (c : Code) (j k : ℕ) (b : CodeBlock) (n : ℕ) (i : Instr) → IsCode v c → IsRead v c w j → slice_get c.program.blocks k ≡ Some b → slice_get b.instrs n ≡ Some i
     → instr_checked w b.slots (instrs_below w k + length b.instrs) (instrs_below w k + n) ≡ Ok tt
@@ -359,8 +354,8 @@ block_passes w v c j k b is r at =
     ap (λ (s : ℕ). each (instr_checked w s (first + count_in (w (6 + k)))) first (count_in (w (6 + k)))) slots
     ∙ ap (λ (m : ℕ). each (instr_checked w b.slots (first + m)) first m) count
     ∙ each_passes (instr_checked w b.slots (first + length b.instrs)) first (length b.instrs) (λ n lt.
-        let i = element b.instrs n lt in
-        instr_checks w v c j k b n i.0 is r at i.1)
+    let i = element b.instrs n lt in
+    instr_checks w v c j k b n i.0 is r at i.1)
 
 entry_passes : (w : ℕ → ℕ) (v : ℕ) (c : Code) (j k : ℕ) (b : CodeBlock) → IsCode v c → IsRead v c w j → slice_get c.program.blocks k ≡ Some b → entry_checked w k ≡ Ok tt
 entry_passes w v c j k b is r at =
@@ -369,13 +364,13 @@ entry_passes w v c j k b is r at =
     let x = block_word b in
     let fits : entry_fits x ≡ true =
     and_from _ _ (and_from _ _ (and_from _ _ (and_from _ _ (and_from _ _ (and_from _ _
-        (le-leb 1 (inputs_in x) (omega (arith, parts.inputs, ok.inputs.0)))
-        (le-leb (inputs_in x) 16 (omega (arith, parts.inputs, ok.inputs.1))))
-        (le-leb 1 (outputs_in x) (omega (arith, parts.outputs, ok.outputs.0))))
-        (le-leb (outputs_in x) 16 (omega (arith, parts.outputs, ok.outputs.1))))
-        (le-leb (inputs_in x + 1) (count_in x) (omega (arith, parts.inputs, parts.count, ok.size.0))))
-        (le-leb (count_in x) 32768 (omega (arith, parts.count, ok.size.1))))
-        (le-leb (slots_in x) 512 (omega (arith, parts.slots, ok.slots))) in
+    (le-leb 1 (inputs_in x) (omega (arith, parts.inputs, ok.inputs.0)))
+    (le-leb (inputs_in x) 16 (omega (arith, parts.inputs, ok.inputs.1))))
+    (le-leb 1 (outputs_in x) (omega (arith, parts.outputs, ok.outputs.0))))
+    (le-leb (outputs_in x) 16 (omega (arith, parts.outputs, ok.outputs.1))))
+    (le-leb (inputs_in x + 1) (count_in x) (omega (arith, parts.inputs, parts.count, ok.size.0))))
+    (le-leb (count_in x) 32768 (omega (arith, parts.count, ok.size.1))))
+    (le-leb (slots_in x) 512 (omega (arith, parts.slots, ok.slots))) in
     passes (entry_fits (w (6 + k))) BadTable (ap entry_fits (r.entry k b at) ∙ fits)
 
 -- ARRAYS AND LITERALS
@@ -392,29 +387,29 @@ arrays_pass w v c j is r =
     let all = all_listed_back (array_in w) (w 4) c.program.arrays r.arrays r.array in
     let cells : cells_below w (w 4) ≡ sum c.program.arrays = cells_all w (w 4) ∙ ap sum all in
     both_pass (each (array_checked w) 0 (w 4)) (unless (nat_le (cells_below w (w 4)) 65536) BadTable)
-        (from_zero (array_checked w) (w 4) (λ k lt.
-            let e = element c.program.arrays k (omega (arith, lt, r.arrays)) in
-            let few = all_at (λ (m : ℕ). (1 ≤ m) × (m ≤ 65536)) c.program.arrays k e.0 is.arrays e.1 in
-            let same : array_in w k ≡ e.0 = r.array k e.0 e.1 in
-            passes (nat_le 1 (array_in w k) && nat_le (array_in w k) 65536) BadTable (and_from _ _ (le-leb 1 (array_in w k) (omega (arith, same, few.0))) (le-leb (array_in w k) 65536 (omega (arith, same, few.1))))))
-        (passes (nat_le (cells_below w (w 4)) 65536) BadTable (le-leb (cells_below w (w 4)) 65536 (omega (arith, cells, is.cells))))
+    (from_zero (array_checked w) (w 4) (λ k lt.
+    let e = element c.program.arrays k (omega (arith, lt, r.arrays)) in
+    let few = all_at (λ (m : ℕ). (1 ≤ m) × (m ≤ 65536)) c.program.arrays k e.0 is.arrays e.1 in
+    let same : array_in w k ≡ e.0 = r.array k e.0 e.1 in
+    passes (nat_le 1 (array_in w k) && nat_le (array_in w k) 65536) BadTable (and_from _ _ (le-leb 1 (array_in w k) (omega (arith, same, few.0))) (le-leb (array_in w k) 65536 (omega (arith, same, few.1))))))
+    (passes (nat_le (cells_below w (w 4)) 65536) BadTable (le-leb (cells_below w (w 4)) 65536 (omega (arith, cells, is.cells))))
 
 literals_pass : (w : ℕ → ℕ) (v : ℕ) (c : Code) (j : ℕ) → IsCode v c → IsRead v c w j → literals_checked w ≡ Ok tt
 literals_pass w v c j is r = from_zero (literal_checked w) (w 3 - 1) (λ k lt.
     let y = element c.literals k (omega (arith, lt, r.literals)) in
     let z = element c.literals (k + 1) (omega (arith, lt, r.literals)) in
     passes (int_lt (literal_in w k) (literal_in w (k + 1))) BadLiteral
-        (ap (λ (a : ℤ). int_lt a (literal_in w (k + 1))) (literal_back v c w j is r k y.0 y.1) ∙ ap (λ (a : ℤ). int_lt y.0 a) (literal_back v c w j is r (k + 1) z.0 z.1) ∙ is.ascend k y.0 z.0 y.1 z.1))
+    (ap (λ (a : ℤ). int_lt a (literal_in w (k + 1))) (literal_back v c w j is r k y.0 y.1) ∙ ap (λ (a : ℤ). int_lt y.0 a) (literal_back v c w j is r (k + 1) z.0 z.1) ∙ is.ascend k y.0 z.0 y.1 z.1))
 
 -- THE HEADER AND THE WHOLE
 counts_pass : (w : ℕ → ℕ) (v : ℕ) (c : Code) (j : ℕ) → IsCode v c → IsRead v c w j → counts_fit w ≡ true
 counts_pass w v c j is r =
     and_from _ _ (and_from _ _ (and_from _ _ (and_from _ _
-        (le-leb 1 (w 2) (omega (arith, r.blocks, is.some_block.0)))
-        (le-leb (w 2) 512 (omega (arith, r.blocks, is.some_block.1))))
-        (le-leb (w 3) 65536 (omega (arith, r.literals, is.few_literals))))
-        (le-leb (w 4) 64 (omega (arith, r.arrays, is.few_arrays))))
-        (lt-ltb (w 5) (w 2) (omega (arith, r.main, r.blocks, is.main)))
+    (le-leb 1 (w 2) (omega (arith, r.blocks, is.some_block.0)))
+    (le-leb (w 2) 512 (omega (arith, r.blocks, is.some_block.1))))
+    (le-leb (w 3) 65536 (omega (arith, r.literals, is.few_literals))))
+    (le-leb (w 4) 64 (omega (arith, r.arrays, is.few_arrays))))
+    (lt-ltb (w 5) (w 2) (omega (arith, r.main, r.blocks, is.main)))
 
 header_passes : (w : ℕ → ℕ) (v : ℕ) (c : Code) (j : ℕ) → IsCode v c → IsRead v c w j → header_checked w ≡ Ok tt
 header_passes w v c j is r =
@@ -436,8 +431,8 @@ tables_pass : (n : ℕ) (w : ℕ → ℕ) (v : ℕ) (c : Code) (j : ℕ) → IsC
 tables_pass n w v c j is r e =
     ap (λ (t : Bool). if t then Err Truncated else first_then (each (entry_checked w) 0 (w 2)) (length_checked n w)) (le-ltb n (8 * (6 + w 2)) (omega (arith, e)))
     ∙ both_pass (each (entry_checked w) 0 (w 2)) (length_checked n w)
-        (from_zero (entry_checked w) (w 2) (λ k lt. let b = element c.program.blocks k (omega (arith, lt, r.blocks)) in entry_passes w v c j k b.0 is r b.1))
-        (length_passes n w e)
+    (from_zero (entry_checked w) (w 2) (λ k lt. let b = element c.program.blocks k (omega (arith, lt, r.blocks)) in entry_passes w v c j k b.0 is r b.1))
+    (length_passes n w e)
 
 opening_passes : (n : ℕ) (w : ℕ → ℕ) (v : ℕ) (c : Code) (j : ℕ) → IsCode v c → IsRead v c w j → n ≡ 8 * word_count w → opening_checked n w ≡ Ok tt
 opening_passes n w v c j is r e =
@@ -447,8 +442,8 @@ opening_passes n w v c j is r e =
 content_passes : (w : ℕ → ℕ) (v : ℕ) (c : Code) (j : ℕ) → IsCode v c → IsRead v c w j → content_checked w ≡ Ok tt
 content_passes w v c j is r =
     both_pass (arrays_checked w) (first_then (literals_checked w) (each (block_checked w) 0 (w 2))) (arrays_pass w v c j is r)
-        (both_pass (literals_checked w) (each (block_checked w) 0 (w 2)) (literals_pass w v c j is r)
-        (from_zero (block_checked w) (w 2) (λ k lt. let b = element c.program.blocks k (omega (arith, lt, r.blocks)) in block_passes w v c j k b.0 is r b.1)))
+    (both_pass (literals_checked w) (each (block_checked w) 0 (w 2)) (literals_pass w v c j is r)
+    (from_zero (block_checked w) (w 2) (λ k lt. let b = element c.program.blocks k (omega (arith, lt, r.blocks)) in block_passes w v c j k b.0 is r b.1)))
 
 pub lawful_opens : (v : ℕ) (c : Code) → IsCode v c → first_refusal (bytes_of v c) ≡ None
 lawful_opens v c is =

@@ -1,5 +1,5 @@
 -- An object is opened as the version and the code that it is.
-use Rattle.std.proofs.Common.{◌≡◌, ℕ, List, Option, None, Some, refl, sym, ap, ◌∙◌}
+use Rattle.std.proofs.Common.{◌≡◌, ℕ, List, None, Some, refl, sym, ap, ◌∙◌}
 use Rattle.semantics.specs.Program.{Code}
 use Rattle.semantics.specs.Bytes.{bytes_of, IsObject}
 use Rattle.object_view.specs.declared.fault.ObjectFault.{ObjectFault}

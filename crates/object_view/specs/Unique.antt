@@ -1,5 +1,5 @@
 -- Objects and their bytes: the bytes tell one version and one code, and no object is refused.
-use Rattle.std.specs.Prelude.{◌≡◌, ℕ, List, Option, None}
+use Rattle.std.specs.Prelude.{◌≡◌, ℕ, List, None}
 use Rattle.semantics.specs.Program.{Code}
 use Rattle.semantics.specs.Bytes.{bytes_of, IsCode, IsObject}
 use Rattle.object_view.specs.Reading.{opened}

@@ -2,10 +2,9 @@ use Rattle.object_view.specs.Reading.{AreBytes, opened}
 use Rattle.object_view.proofs.Sound.{opened_spelt}
 use Rattle.object_view.proofs.Lawful.{opened_lawful}
 use Rattle.std.proofs.Common.{refl}
-use Rattle.std.proofs.Common.{rules, ◌≡◌, Ok, Err, Some, None, List, ℕ, sym, ap, subst, ◌∙◌}
-use Rattle.std.specs.Prelude.{length}
+use Rattle.std.proofs.Common.{rules, List, ℕ, sym, ap, subst, ◌∙◌}
 use Rattle.object_view.specs.Fields.{word_at}
-use Rattle.object_view.specs.Checks.{checked, content_checked, first_refusal}
+use Rattle.object_view.specs.Checks.{checked, content_checked}
 use Rattle.object_view.proofs.Unique.{opened_as, never_refused}
 use Rattle.object_view.proofs.Facts.{checked_all, refused_early, refused_late, none_refused}
 use Rattle.object_view.proofs.object.Object.open.Goals as goal
