@@ -1,5 +1,5 @@
 -- Checks of many things in a row.
-use Rattle.std.proofs.Common.{◌≡◌, ℕ, zero, suc, ◌+◌, ◌-◌, ◌<◌, ◌≤◌, Ok, Err, refl, sym, ap, ◌∙◌, arith, add-zero}
+use Rattle.std.proofs.Common.{◌≡◌, ℕ, zero, suc, ◌+◌, ◌-◌, ◌<◌, ◌≤◌, Ok, Err, refl, ap, ◌∙◌, arith, add-zero}
 use Rattle.object_view.specs.declared.fault.ObjectFault.{ObjectFault}
 use Rattle.object_view.specs.Fields.{count_in, slots_in}
 use Rattle.object_view.specs.Reading.{instrs_below, array_in}

@@ -1,8 +1,8 @@
 -- What tests that were passed say.
-use Rattle.std.proofs.Common.{◌≡◌, ℕ, zero, suc, ◌+◌, ◌-◌, ◌*◌, ◌<◌, ◌≤◌, Bool, true, false, ◌&&◌, nat_le, nat_lt, if◌then◌else◌, Ok, Err, Some, None, List, length, refl, sym, ap, ◌∙◌, arith}
+use Rattle.std.proofs.Common.{◌≡◌, ℕ, ◌+◌, ◌*◌, ◌<◌, ◌≤◌, Bool, true, false, nat_lt, if◌then◌else◌, Ok, Err, Some, None, List, length, refl, ap, ◌∙◌, arith}
 use Rattle.std.proofs.lemmas.Bool.{and_parts, leb-true, ltb-true, ltb-false}
 use Rattle.object_view.specs.declared.fault.ObjectFault.{ObjectFault}
-use Rattle.object_view.specs.declared.fault.ObjectFault.TheVariants.{BadTable, Truncated, Trailing}
+use Rattle.object_view.specs.declared.fault.ObjectFault.TheVariants.{Truncated, Trailing}
 use Rattle.object_view.specs.Fields.{word_at, count_in, inputs_in, outputs_in, slots_in}
 use Rattle.object_view.specs.Reading.{word_count}
 use Rattle.object_view.specs.Checks.{Checked, unless, first_then, counts_fit, entry_fits, length_checked, checked, opening_checked, content_checked, first_refusal, refusal}

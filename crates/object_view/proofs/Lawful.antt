@@ -1,31 +1,28 @@
 -- Bytes that no check refuses tell a code of the grammar.
-use Rattle.std.proofs.Common.{◌≡◌, ℕ, zero, suc, ◌+◌, ◌-◌, ◌*◌, ◌/◌, ◌%◌, ◌^◌, ◌<◌, ◌≤◌, Bool, true, false, ◌&&◌, ◌||◌, ◌==◌, nat_lt, nat_le, if◌then◌else◌, List, [], ◌∷◌, ◌++◌, length, get_or, map, Option, Some, None, Ok, Err, ℤ, pos, negsuc, ◌⊎◌, inl, inr, refl, sym, ap, subst, ◌∙◌, arith, eqb-true, sum}
-use Rattle.std.specs.Prelude.{⊤, All, Contains, FitsSigned, unwrap_or, option_to_list, is_some, is_none, slice_get, int_lt, sum_by}
+use Rattle.std.proofs.Common.{◌≡◌, ℕ, zero, suc, ◌+◌, ◌-◌, ◌/◌, ◌%◌, ◌^◌, ◌<◌, ◌≤◌, Bool, true, false, ◌&&◌, ◌||◌, ◌==◌, nat_lt, nat_le, if◌then◌else◌, List, [], ◌∷◌, length, get_or, map, Option, Some, None, Ok, ℤ, pos, negsuc, ◌⊎◌, inl, inr, refl, sym, ap, subst, ◌∙◌, arith, eqb-true, sum}
+use Rattle.std.specs.Prelude.{All, Contains, FitsSigned, unwrap_or, option_to_list, is_some, is_none, slice_get, sum_by}
 use Rattle.std.specs.Int.{w64, cast_signed}
 use mir.Val.{sel}
-use Rattle.std.proofs.lemmas.Bool.{and_parts, leb-true, ltb-true, ltb-false, eqb-false, eq-eqb}
+use Rattle.std.proofs.lemmas.Bool.{and_parts, leb-true, ltb-true, ltb-false, eqb-false}
 use Rattle.std.proofs.lemmas.Option.{slice_get_within, get_or_from_slice_get}
 use Rattle.std.proofs.lemmas.List.Sums.{sum-map, sum_by-cons}
 use Rattle.tags.specs.declared.token.Port.{Port}
 use Rattle.tags.specs.declared.token.Port.TheVariants.{Left, Right}
-use Rattle.tags.specs.declared.value.Origin.{Origin}
 use Rattle.tags.specs.declared.value.Origin.TheVariants.{Untold, At}
-use Rattle.operators.specs.declared.Binary.{Binary}
 use Rattle.operators.specs.declared.Binary.TheVariants.{Add, Sub, Mul, Div, Rem, And, Or, Xor, Shl, Shr, Eq, Ne, Lt, Le}
 use Rattle.semantics.specs.declared.program.Dest.{Dest}
-use Rattle.semantics.specs.declared.program.Op.{Op}
-use Rattle.semantics.specs.Program.{Instr, CodeBlock, Program, Code}
+use Rattle.semantics.specs.Program.{Instr, CodeBlock}
 use Rattle.semantics.specs.Rule.{slot_of}
 use Rattle.semantics.specs.Bytes as Bytes
 use Rattle.semantics.specs.Bytes.{IsDest, HasOperand, HasDests, IsOrigin, IsSlot, IsInstr, IsCodeBlock, IsCode}
-use Rattle.object_view.specs.declared.fault.ObjectFault.TheVariants.{BadTable, BadOpcode, BadLiteral}
+use Rattle.object_view.specs.declared.fault.ObjectFault.TheVariants.{BadTable, BadLiteral}
 use Rattle.object_view.specs.declared.object.Version.{Version}
 use Rattle.object_view.specs.declared.object.Version.TheVariants.{One, Two}
 use Rattle.object_view.specs.declared.opcode.Opcode.{Opcode}
 use Rattle.object_view.specs.declared.opcode.Opcode.TheVariants.{Apply1, Apply2, Apply2Right, Apply2Left, Lit, Copy, Sync, Switch, Fetch, Store, Frame, Link, Send, Return, Ask, Open, Take, Give, Drain, Release}
-use Rattle.object_view.specs.Fields.{word_at, version_number, count_in, inputs_in, outputs_in, slots_in, opcode_in, slot_in, first_half, second_half, dest_of, port_of, with, may_fault, is_division, may_have, may_go_to, goes_left, is_left, is_dyadic, has_origin, operand_in, origin_number, origin_of, uses_slot}
+use Rattle.object_view.specs.Fields.{word_at, version_number, count_in, inputs_in, slots_in, opcode_in, first_half, second_half, dest_of, port_of, with, may_fault, may_have, may_go_to, goes_left, is_left, is_dyadic, operand_in, origin_number, origin_of}
 use Rattle.object_view.specs.Reading.{Opened, opened, literal_place, listed, shown, version_in, instrs_below, instr_place, literal_in, literal_or_zero, array_in, instr_as, instr_in, block_in, code_in}
-use Rattle.object_view.specs.Checks.{Checked, first_then, unless, each, entry_fits, entry_checked, array_checked, arrays_checked, cells_below, slot_fits, may_take_right, dest_fits, target_fits, number_checked, instr_checked_as, instr_checked, block_checked, checked}
+use Rattle.object_view.specs.Checks.{unless, each, entry_fits, entry_checked, array_checked, arrays_checked, cells_below, slot_fits, may_take_right, dest_fits, target_fits, number_checked, instr_checked_as, instr_checked, block_checked, checked}
 use Rattle.object_view.proofs.Each.{cells_next}
 use Rattle.object_view.proofs.Facts.{unless_ok, first_ok, CountsFit, EntryFits, entry_from}
 use Rattle.object_view.proofs.Listed.{length_listed, get_listed}
@@ -44,11 +41,11 @@ all_listed P f n h = λ k d lt.
 there_listed : {X : Type 0} (f : ℕ → X) (n k : ℕ) → k < n → Contains (listed f 0 n) (f k)
 there_listed f n k lt = (k, subst (λ m. k < m) (sym (length_listed f 0 n)) lt, at_listed f n k (f k) lt)
 
-map_same : (xs : List ℕ) → map (λ x. x) xs ≡ xs
+pub map_same : (xs : List ℕ) → map (λ x. x) xs ≡ xs
 map_same [] = refl
 map_same (x ∷ xs) = ap (λ (l : List ℕ). x ∷ l) (map_same xs)
 
-cells_taken : (w : ℕ → ℕ) (i n : ℕ) → cells_below w i + sum_by (λ x. x) (listed (array_in w) i n) ≡ cells_below w (i + n)
+pub cells_taken : (w : ℕ → ℕ) (i n : ℕ) → cells_below w i + sum_by (λ x. x) (listed (array_in w) i n) ≡ cells_below w (i + n)
 cells_taken w i zero =
     let same : i + zero ≡ i = omega arith in
     rw same (omega arith)
@@ -125,7 +122,7 @@ operand_there w Give k c m t n = bound_there k m
 operand_there w Drain k c m t n = bound_there k m
 operand_there w Release k c m t n = omega (arith, leb-true k 255 t)
 
-same_fault : (o : Opcode) (k : ℕ) (z : ℤ) → Bytes.may_fault (with o k z) ≡ may_fault o
+pub same_fault : (o : Opcode) (k : ℕ) (z : ℤ) → Bytes.may_fault (with o k z) ≡ may_fault o
 same_fault (Apply2 Add) k z = refl
 same_fault (Apply2 Sub) k z = refl
 same_fault (Apply2 Mul) k z = refl

@@ -1,4 +1,9 @@
+mod Back
+mod BackInstr
+mod BackLists
+mod BackWords
 mod ByteWords
+mod Complete
 mod Each
 mod Facts
 mod Lawful
@@ -9,5 +14,6 @@ mod Sent
 mod Sound
 mod Spelling
 mod Taken
+mod Unique
 mod Views
 mod Whole

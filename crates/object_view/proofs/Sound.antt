@@ -1,21 +1,20 @@
 -- Bytes that no check refuses are an object: they are spelt as the code that they tell.
 use Rattle.std.proofs.Common.{◌≡◌, ℕ, zero, suc, ◌+◌, ◌-◌, ◌*◌, ◌/◌, ◌%◌, ◌^◌, ◌<◌, ◌≤◌, Bool, true, false, ◌&&◌, ◌||◌, ◌==◌, nat_lt, nat_le, if◌then◌else◌, List, [], ◌∷◌, ◌++◌, length, get_or, map, take, drop, Option, Some, None, Ok, Err, ℤ, pos, negsuc, ◌⊎◌, inl, inr, refl, sym, ap, subst, ◌∙◌, arith, eqb-true}
-use Rattle.std.specs.Prelude.{⊤, unwrap_or, option_to_list, flat_map, slice_get, int_lt, codes}
-use Rattle.std.specs.Int.{w64, cast_unsigned, cast_signed, to_le_bytes}
-use Rattle.std.proofs.lemmas.Bool.{and_parts, leb-true, ltb-true, ltb-false, eqb-false, lt-ltb}
+use Rattle.std.specs.Prelude.{unwrap_or, option_to_list, flat_map, slice_get, int_lt}
+use Rattle.std.specs.Int.{w64, cast_unsigned, to_le_bytes}
+use Rattle.std.proofs.lemmas.Bool.{and_parts, leb-true, ltb-true, ltb-false, eqb-false}
 use Rattle.std.proofs.lemmas.Int.{of_z-to_z}
 use Rattle.std.proofs.lemmas.List.{drop-drop}
 use Rattle.byteorder.specs.Endian.{little_number}
 use Rattle.std.proofs.lemmas.Option.{slice_get_within, get_or_from_slice_get}
-use Rattle.semantics.specs.Program.{Instr, CodeBlock, Program, Code}
-use Rattle.semantics.specs.Bytes.{number_from, Head, head, head_of, dest_word, origin_code, instr_words, block_word, words_of, bytes_of}
-use Rattle.object_view.specs.declared.fault.ObjectFault.{ObjectFault}
+use Rattle.semantics.specs.Program.{CodeBlock}
+use Rattle.semantics.specs.Bytes.{number_from, Head, head_of, dest_word, origin_code, instr_words, block_word, words_of, bytes_of}
 use Rattle.object_view.specs.declared.fault.ObjectFault.TheVariants.{Truncated, BadMagic, BadVersion, BadTable, BadOpcode, BadDestination, BadSlot, BadLiteral}
 use Rattle.object_view.specs.declared.object.Version.{Version}
 use Rattle.object_view.specs.declared.object.Version.TheVariants.{One, Two}
 use Rattle.object_view.specs.declared.opcode.Opcode.{Opcode}
 use Rattle.object_view.specs.declared.opcode.Opcode.TheVariants.{Apply1, Apply2, Apply2Right, Apply2Left, Lit, Copy, Sync, Switch, Fetch, Store, Frame, Link, Send, Return, Ask, Open, Take, Give, Drain, Release}
-use Rattle.object_view.specs.Fields.{word_at, version_number, count_in, inputs_in, outputs_in, slots_in, opcode_in, slot_in, first_half, second_half, dest_of, with, may_have, may_go_to, operand_in, origin_number, origin_of}
+use Rattle.object_view.specs.Fields.{word_at, version_number, count_in, slots_in, opcode_in, slot_in, first_half, second_half, dest_of, with, may_have, may_go_to, operand_in, origin_number, origin_of}
 use Rattle.object_view.specs.Reading.{Opened, opened, instr_bytes, listed, shown, version_in, instrs_below, instr_count, instr_place, literal_place, array_place, word_count, literal_in, literal_or_zero, array_in, instr_as, instr_in, block_in, code_in}
 use Rattle.object_view.specs.Sending.{IsAscending}
 use Rattle.object_view.specs.Checks.{Checked, first_then, unless, each, MAGIC, counts_fit, header_checked, entry_checked, length_checked, tables_checked, arrays_checked, literal_checked, literals_checked, operand_fits, slot_fits, may_take_right, dest_fits, dests_fit, target_fits, number_checked, opcode_checked, instr_checked_as, instr_checked, block_checked, opening_checked, content_checked, checked}
@@ -24,7 +23,7 @@ use Rattle.object_view.proofs.Facts.{unless_ok, first_ok, CountsFit, counts_from
 use Rattle.object_view.proofs.Listed.{length_listed, get_listed}
 use Rattle.object_view.proofs.Numbers.{number_stops, number_goes}
 use Rattle.object_view.proofs.ByteWords.{first_word, dropped, length_dropped, ReadsTo, reads_append, reads_length, AllBytes, spelled, word_fits}
-use Rattle.object_view.proofs.Spelling.{IsSpelt, code_number, flag_number, numbered, spelt_head, half_spelt, word_split, entry_split, origin_spelt, operand_spelt}
+use Rattle.object_view.proofs.Spelling.{IsSpelt, numbered, spelt_head, half_spelt, word_split, entry_split, origin_spelt, operand_spelt}
 
 -- WHAT EACH CHECK SAID
 pub record Passed (n : ℕ) (w : ℕ → ℕ) : Type 0 where
@@ -109,7 +108,7 @@ ascending w h = record { steps = step }
         let ok = unless_ok (int_lt (literal_in w k) (literal_in w (k + 1))) BadLiteral (ap (literal_checked w) (sym at) ∙ each_at (literal_checked w) 0 (w 3 - 1) k h (omega (arith, lt))) in
         ap (λ a. int_lt a z) (sym first) ∙ ap (λ a. int_lt (literal_in w k) a) (sym second) ∙ ok
 
-not_below : (z : ℤ) → int_lt z z ≡ false
+pub not_below : (z : ℤ) → int_lt z z ≡ false
 not_below (pos n) = go (nat_lt n n) refl
   where
     go : (t : Bool) → nat_lt n n ≡ t → t ≡ false

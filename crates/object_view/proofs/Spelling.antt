@@ -1,21 +1,17 @@
 -- An instruction that passed the checks is spelt by its two words.
-use Rattle.std.proofs.Common.{◌≡◌, ℕ, zero, suc, ◌+◌, ◌-◌, ◌*◌, ◌/◌, ◌%◌, ◌^◌, ◌<◌, ◌≤◌, Bool, true, false, ◌&&◌, ◌||◌, ◌==◌, nat_lt, nat_le, if◌then◌else◌, List, [], ◌∷◌, ◌++◌, length, Option, Some, None, Ok, Err, ℤ, refl, sym, ap, subst, ◌∙◌, arith, eqb-true}
-use Rattle.std.specs.Prelude.{⊤, unwrap_or, option_to_list, is_none, is_some, flat_map, map}
+use Rattle.std.proofs.Common.{◌≡◌, ℕ, ◌+◌, ◌-◌, ◌*◌, ◌/◌, ◌%◌, ◌^◌, ◌<◌, ◌≤◌, Bool, true, false, ◌==◌, if◌then◌else◌, List, [], ◌∷◌, Option, Some, None, ℤ, refl, sym, ap, subst, ◌∙◌, arith, eqb-true}
+use Rattle.std.specs.Prelude.{⊤, option_to_list}
 use Rattle.std.proofs.lemmas.Bool.{eqb-false}
-use Rattle.tags.specs.declared.token.Port.{Port}
 use Rattle.tags.specs.declared.token.Port.TheVariants.{Left, Right}
-use Rattle.tags.specs.declared.value.Origin.{Origin}
 use Rattle.tags.specs.declared.value.Origin.TheVariants.{Untold, At}
 use Rattle.operators.specs.declared.Unary.TheVariants.{Neg, Not}
 use Rattle.operators.specs.declared.Binary.{Binary}
 use Rattle.operators.specs.declared.Binary.TheVariants.{Add, Sub, Mul, Div, Rem, And, Or, Xor, Shl, Shr, Eq, Ne, Lt, Le}
-use Rattle.semantics.specs.declared.program.Dest.{Dest}
-use Rattle.semantics.specs.Bytes.{binary_code, number_from, Head, head, head_of, dest_word, port_bit, origin_code, instr_words}
+use Rattle.semantics.specs.Bytes.{binary_code, number_from, head, head_of, dest_word, port_bit, origin_code}
 use Rattle.object_view.specs.declared.object.Version.{Version}
-use Rattle.object_view.specs.declared.object.Version.TheVariants.{One, Two}
 use Rattle.object_view.specs.declared.opcode.Opcode.{Opcode}
 use Rattle.object_view.specs.declared.opcode.Opcode.TheVariants.{Apply1, Apply2, Apply2Right, Apply2Left, Lit, Copy, Sync, Switch, Fetch, Store, Frame, Link, Send, Return, Ask, Open, Take, Give, Drain, Release}
-use Rattle.object_view.specs.Fields.{binary_of, flagged, unflagged, opcode_from, opcode_of, with, is_bound, may_have, dest_of, port_of, has_origin, operand_in, origin_number, origin_of}
+use Rattle.object_view.specs.Fields.{binary_of, flagged, unflagged, opcode_from, opcode_of, with, dest_of, port_of, has_origin, operand_in, origin_number, origin_of}
 
 -- OPCODES BY THEIR NUMBERS
 lookup : {X : Type 0} → ℕ → List (ℕ × X) → Option X

@@ -1,7 +1,5 @@
 -- What is seen of an object that was opened.
-use Rattle.std.proofs.Common.{◌≡◌, ℕ, List, refl, sym, ap, ◌∙◌}
-use Rattle.semantics.specs.Program.{CodeBlock}
-use Rattle.std.specs.Prelude.{ℤ}
+use Rattle.std.proofs.Common.{◌≡◌, ℕ, List, sym, ap}
 use Rattle.object_view.specs.Fields.{word_at, version_number}
 use Rattle.object_view.specs.Reading.{Opened, opened, code_in, listed, block_in, array_in, literal_in, version_in}
 

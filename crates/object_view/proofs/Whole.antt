@@ -1,9 +1,9 @@
 -- The parts of an object, one after the other.
-use Rattle.std.proofs.Common.{◌≡◌, ℕ, ◌+◌, ◌<◌, ◌≤◌, List, [], ◌∷◌, ◌++◌, length, map, Option, Some, None, Result, Ok, Err, ℤ, refl, sym, ap, subst, ◌∙◌, append_assoc, arith, get_or, drop}
-use Rattle.std.specs.Prelude.{flat_map, codes, All, slice_get, ⊤}
+use Rattle.std.proofs.Common.{◌≡◌, ℕ, ◌<◌, ◌≤◌, List, [], ◌∷◌, ◌++◌, length, map, Option, Err, refl, sym, ap, ◌∙◌, append_assoc, arith, get_or}
+use Rattle.std.specs.Prelude.{flat_map, codes, All}
 use Rattle.std.specs.Int.{w64, cast_unsigned, to_le_bytes}
 use Rattle.std.specs.Io.KnownBytes.{Appends}
-use Rattle.std.proofs.lemmas.List.Concat.{flat_map-append, flat_map-cons}
+use Rattle.std.proofs.lemmas.List.Concat.{flat_map-append}
 use Rattle.semantics.specs.declared.program.Dest.{Dest}
 use Rattle.semantics.specs.Program.{Instr, CodeBlock, Code}
 use Rattle.semantics.specs.declared.program.Op.{Op}
@@ -11,7 +11,7 @@ use Rattle.semantics.specs.declared.program.Op.TheVariants.{Apply1, Apply2, Appl
 use Rattle.semantics.specs.Rule.{slot_of}
 use Rattle.std.proofs.lemmas.Option.{slice_get-get_or}
 use Rattle.semantics.specs.Bytes.{words_of, bytes_of, block_word, instr_words, HasDests, IsSlot, IsDest, IsInstr, IsCodeBlock, IsCode}
-use Rattle.object_view.specs.Sending.{Sends, upgraded, HasRoom, HasWords, HasEntry, bytes_of_word, bytes_of_header, bytes_of_entry, bytes_of_block, bytes_of_instr, bytes_of_literal}
+use Rattle.object_view.specs.Sending.{Sends, upgraded, HasRoom, HasWords, HasEntry, bytes_of_word, bytes_of_header, bytes_of_entry, bytes_of_block, bytes_of_literal}
 use Rattle.object_view.proofs.Sent.{sends_same, sends_less, sends_more, sends_other}
 
 flat_map-map : {X Y : Type 0} (f : Y → List ℕ) (g : X → Y) (xs : List X) → flat_map f (map g xs) ≡ flat_map (λ x. f (g x)) xs
@@ -72,7 +72,7 @@ stopped d e a b c front t rest all k p q =
     sends_same (Err e) a c ((front ++ t) ++ rest) all (sym k) (sends_less e a c (front ++ t) rest (sends_more (Err e) a b c front t p (sends_other d e b c t q)))
 
 -- WHAT LAWFUL CODE HAS ROOM FOR
-dests_few : (op : Op) (ds es : List Dest) → HasDests op ds es → (length ds ≤ 1) × (length es ≤ 1)
+pub dests_few : (op : Op) (ds es : List Dest) → HasDests op ds es → (length ds ≤ 1) × (length es ≤ 1)
 dests_few (Apply1 op) ds es h = (omega (arith, h.0, h.1), omega (arith, h.0, h.1))
 dests_few (Apply2 op) ds es h = (omega (arith, h.0, h.1), omega (arith, h.0, h.1))
 dests_few (Apply2Right op z) ds es h = (omega (arith, h.0, h.1), omega (arith, h.0, h.1))
@@ -94,7 +94,7 @@ dests_few (Give k) ds es h = (omega (arith, h.0, h.1), omega (arith, h.0, h.1))
 dests_few (Drain k) ds es h = (omega (arith, h.0, h.1), omega (arith, h.0, h.1))
 dests_few (Release o) ds es h = (omega (arith, h.0, h.1), omega (arith, h.0, h.1))
 
-slot_small : (c : CodeBlock) (i : Instr) (op : Op) → IsSlot c i (slot_of i op) → c.slots ≤ 512 → i.slot < 65536
+pub slot_small : (c : CodeBlock) (i : Instr) (op : Op) → IsSlot c i (slot_of i op) → c.slots ≤ 512 → i.slot < 65536
 slot_small c i (Apply1 op) h few = omega (arith, h, few)
 slot_small c i (Apply2 op) h few = omega (arith, h, few)
 slot_small c i (Apply2Right op z) h few = omega (arith, h, few)

@@ -1,12 +1,12 @@
 -- Which bytes are refused, and why: the first refusal in a fixed order.
-use Rattle.std.specs.Prelude.{ℕ, zero, suc, ◌+◌, ◌-◌, ◌*◌, ◌/◌, ◌%◌, ◌^◌, Bool, true, false, not, ◌&&◌, ◌||◌, ◌==◌, nat_lt, nat_le, if◌then◌else◌, int_lt, Option, Some, None, Result, Ok, Err, ⊤, List, length}
+use Rattle.std.specs.Prelude.{ℕ, zero, suc, ◌+◌, ◌-◌, ◌*◌, ◌/◌, ◌%◌, ◌^◌, Bool, true, ◌&&◌, ◌||◌, ◌==◌, nat_lt, nat_le, if◌then◌else◌, int_lt, Option, Some, None, Result, Ok, Err, ⊤, List, length}
 use Rattle.object_view.specs.declared.fault.ObjectFault.{ObjectFault}
 use Rattle.object_view.specs.declared.fault.ObjectFault.TheVariants.{Truncated, BadMagic, BadVersion, BadTable, BadOpcode, BadDestination, BadSlot, BadLiteral, Trailing}
 use Rattle.object_view.specs.declared.opcode.Opcode.{Opcode}
-use Rattle.object_view.specs.declared.opcode.Opcode.TheVariants.{Apply1, Apply2, Apply2Right, Apply2Left, Lit, Copy, Sync, Switch, Fetch, Store, Frame, Link, Send, Return, Ask, Open, Take, Give, Drain, Release}
+use Rattle.object_view.specs.declared.opcode.Opcode.TheVariants.{Apply2Right, Apply2Left, Lit, Fetch, Store, Link, Send, Return, Ask, Release}
 use Rattle.object_view.specs.declared.object.Version.{Version}
 use Rattle.object_view.specs.declared.object.Version.TheVariants.{One, Two}
-use Rattle.object_view.specs.Fields.{word_at, count_in, inputs_in, outputs_in, slots_in, opcode_in, slot_in, dest_of, first_half, second_half, has_origin, operand_in, origin_number, may_have, may_go_to, is_dyadic, uses_slot}
+use Rattle.object_view.specs.Fields.{word_at, count_in, inputs_in, outputs_in, slots_in, opcode_in, slot_in, dest_of, first_half, second_half, operand_in, origin_number, may_have, may_go_to, is_dyadic, uses_slot}
 use Rattle.object_view.specs.Reading.{version_in, instrs_below, instr_place, literal_in, array_in, word_count}
 
 abbrev pub Checked : Type 0

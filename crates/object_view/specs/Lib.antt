@@ -3,3 +3,4 @@ pub mod Checks
 pub mod Reading
 pub mod Sending
 pub mod Taking
+pub mod Unique

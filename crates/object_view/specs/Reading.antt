@@ -1,7 +1,7 @@
 -- The code that an object's words tell.
-use Rattle.std.specs.Prelude.{ℕ, zero, suc, ◌+◌, ◌*◌, ◌/◌, ◌%◌, ◌^◌, ◌==◌, nat_lt, if◌then◌else◌, Option, Some, None, unwrap_or, ℤ, pos, List, [], ◌∷◌, length, option_to_list, flat_map, slice_index, ◌<◌}
+use Rattle.std.specs.Prelude.{ℕ, zero, suc, ◌+◌, ◌*◌, ◌==◌, nat_lt, if◌then◌else◌, unwrap_or, ℤ, pos, List, [], ◌∷◌, length, option_to_list, flat_map, slice_index, ◌<◌}
 use Rattle.std.specs.Int.{w64, cast_signed, to_le_bytes}
-use Rattle.semantics.specs.Program.{Instr, CodeBlock, Program, Code}
+use Rattle.semantics.specs.Program.{Instr, CodeBlock, Code}
 use Rattle.semantics.specs.Bytes.{instr_words}
 use Rattle.object_view.specs.declared.object.BlockView.{BlockView}
 use Rattle.object_view.specs.declared.object.Version.{Version}

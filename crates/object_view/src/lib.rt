@@ -13,7 +13,7 @@ mod writing;
 
 pub use fault::ObjectFault;
 pub use instr::CodeInstr;
-pub use object::{BlockView, Object, Version};
+pub use object::{BlockView, Object, Version, one_spelling};
 pub use writing::{upgrade, write};
 
 #[cfg(test)]

@@ -1,8 +1,9 @@
 //! Objects where they lie.
 
-ghost use Rattle.std.specs.Prelude.{◌≡◌, ◌≢◌, ◌+◌, ◌*◌, ◌<◌, ◌≤◌, ◌++◌, ◌↔◌, Ok, Err, Some, None, IfOk, IfErr, IfSome, IfNone, IsOk, MatchResult, MatchOption, length, take, drop, slice_get, option_map};
-ghost use Rattle.semantics.specs.Program.{first_of, instr_at};
+ghost use Rattle.std.specs.Prelude.{◌≡◌, ◌≢◌, ℕ, ◌+◌, ◌*◌, ◌<◌, ◌≤◌, ◌++◌, ◌↔◌, Ok, Err, Some, None, IfOk, IfErr, IfSome, IfNone, IsOk, MatchResult, MatchOption, length, take, drop, slice_get, option_map};
+ghost use Rattle.semantics.specs.Program.{Code, first_of, instr_at};
 ghost use Rattle.semantics.specs.Bytes.{IsObject};
+ghost use Rattle.object_view.specs.Unique.{ReadsBack, IsUnique, AllOpen};
 
 use crate::fault::ObjectFault;
 use crate::instr::CodeInstr;
@@ -51,13 +52,17 @@ impl<'a> Object<'a> {
     ghost use Rattle.object_view.specs.Reading.{opened, shown, block_shown, instr_bytes};
     ghost use Rattle.object_view.specs.Checks.{first_refusal};
 
-    /// Opens the bytes where they lie, or says what is wrong with them first. Takes time in proportion to their number.
+    /// Opens the bytes where they lie, or says what is wrong with them first. Every object is opened, as the version and the
+    /// code that it is. Takes time in proportion to their number.
     pub fn open(bytes: &'a [u8]) -> Result<Object<'a>, ObjectFault>
         ensures refused { MatchResult result
             (λ o. first_refusal bytes.now ≡ None)
             (λ e. first_refusal bytes.now ≡ Some e) }
         ensures opened { IfOk result (λ o. o ≡ opened bytes.now) }
         ensures object { IfOk result (λ o. IsObject bytes.now o.version o.code) }
+        ensures complete { (version : ℕ) (c : Code) → IsObject bytes.now version c → MatchResult result
+            (λ o. (o.version ≡ version) × (o.code ≡ c))
+            (λ e. ⊥) }
     {
         let tables = match Tables::read(bytes) {
             Ok(tables) => tables,
@@ -186,3 +191,11 @@ impl<'a> Object<'a> {
         Some(self.tables.array(number as usize))
     }
 }
+
+/// The bytes of an object tell one version and one code, and these are what is read from them. No object is refused.
+#[tactic(auto, using(crate::proofs::Unique::read_back, crate::proofs::Unique::unique, crate::proofs::Unique::all_open))]
+pub fn one_spelling()
+    ensures read_back { ReadsBack }
+    ensures unique { IsUnique }
+    ensures complete { AllOpen }
+{}

@@ -1,12 +1,12 @@
-use Rattle.std.proofs.Common.{◌≡◌, ℕ, ℤ, List, [], ◌∷◌, ◌++◌, length, Option, Err, sym, ap, subst, ◌∙◌, refl, append_assoc}
-use Rattle.std.specs.Prelude.{flat_map, codes, All}
+use Rattle.std.proofs.Common.{◌≡◌, ℕ, ℤ, List, ◌++◌, Option, Err, sym, ap, subst, ◌∙◌, append_assoc}
+use Rattle.std.specs.Prelude.{flat_map, All}
 use Rattle.std.proofs.lemmas.Result.{err_from_is_err_and}
-use Rattle.semantics.specs.Program.{Code, Program, CodeBlock}
+use Rattle.semantics.specs.Program.{CodeBlock}
 use Rattle.semantics.specs.Bytes.{bytes_of}
 use Rattle.object_view.specs.Fields.{version_number}
 use Rattle.object_view.specs.Sending.{bytes_of_word, bytes_of_header, bytes_of_entry, bytes_of_block, bytes_of_literal, HasWords}
-use Rattle.object_view.proofs.Sent.{sends_from, sends_more, sends_less, sends_other, sends_same, appends_then, appends_none}
-use Rattle.object_view.proofs.Whole.{whole, stopped, words_fit, entries_fit, entries, instrs, literals, arrays}
+use Rattle.object_view.proofs.Sent.{sends_from, sends_more, sends_less, sends_other, sends_same, appends_then}
+use Rattle.object_view.proofs.Whole.{whole, stopped, words_fit, entries, instrs, literals, arrays}
 use Rattle.object_view.proofs.writing.write.Goals as goal
 
 pub returns-in_err-send_header : goal.returns-in_err-send_header

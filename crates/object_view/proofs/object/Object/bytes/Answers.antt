@@ -1,6 +1,4 @@
-use Rattle.std.proofs.Common.{◌≡◌, ℕ, List, sym, ap, ◌∙◌}
-use Rattle.semantics.specs.Program.{Code}
-use Rattle.semantics.specs.Bytes.{bytes_of}
+use Rattle.std.proofs.Common.{sym}
 use Rattle.object_view.proofs.Views.{bytes_seen}
 use Rattle.object_view.proofs.Sound.{opened_spelt}
 use Rattle.object_view.proofs.Lawful.{opened_lawful}

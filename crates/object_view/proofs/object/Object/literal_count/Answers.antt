@@ -1,10 +1,8 @@
 use Rattle.object_view.specs.Fields.{word_at}
-use Rattle.object_view.specs.Reading.{listed, block_in, array_in, literal_in, shown, instr_in, instrs_below, block_shown}
-use Rattle.object_view.proofs.Listed.{length_listed, get_listed, past_listed, first_of_listed, instr_there, instr_not_there}
-use Rattle.object_view.proofs.Views.{blocks_seen, arrays_seen, literals_seen, main_seen, version_seen, bytes_seen}
-use Rattle.std.proofs.Common.{◌≡◌, ℕ, ◌+◌, ◌<◌, ◌≤◌, List, length, Some, None, sym, ap, ◌∙◌, arith, refl}
-use Rattle.std.specs.Prelude.{slice_get, option_map, ℤ}
-use Rattle.semantics.specs.Program.{CodeBlock, instr_from, first_of, instr_at, Instr}
+use Rattle.object_view.specs.Reading.{literal_in}
+use Rattle.object_view.proofs.Listed.{length_listed}
+use Rattle.object_view.proofs.Views.{literals_seen}
+use Rattle.std.proofs.Common.{length, sym, ap, ◌∙◌}
 use Rattle.object_view.proofs.object.Object.literal_count.Goals as goal
 
 pub returns : goal.returns

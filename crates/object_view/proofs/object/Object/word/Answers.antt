@@ -1,6 +1,6 @@
-use Rattle.std.proofs.Common.{◌≡◌, ℕ, ◌+◌, List, Option, Some, None, sym, ap, ◌∙◌, arith}
+use Rattle.std.proofs.Common.{◌≡◌, ℕ, ◌+◌, List, Some, None, sym, ap, ◌∙◌, arith}
 use Rattle.std.specs.Prelude.{option_map, ℤ}
-use Rattle.semantics.specs.Program.{CodeBlock, instr_from, instr_at, Instr}
+use Rattle.semantics.specs.Program.{instr_from, instr_at}
 use Rattle.object_view.specs.Fields.{word_at}
 use Rattle.object_view.specs.Reading.{shown, instr_in, instrs_below, instr_bytes}
 use Rattle.object_view.proofs.Listed.{instr_there, instr_not_there}

@@ -1,7 +1,7 @@
-use Rattle.std.proofs.Common.{◌≡◌, ◌+◌, Ok, Err, sym, ap, ◌∙◌, arith}
+use Rattle.std.proofs.Common.{◌≡◌, ◌+◌, Err, sym, ap, ◌∙◌, arith}
 use Rattle.object_view.specs.Fields.{word_at}
 use Rattle.object_view.specs.Reading.{array_in}
-use Rattle.object_view.specs.Checks.{array_checked, arrays_checked, first_then, each}
+use Rattle.object_view.specs.Checks.{array_checked, each}
 use Rattle.object_view.proofs.Each.{each_passed, each_failed, cells_next, failed_first}
 use Rattle.object_view.proofs.tables.Tables.check_arrays.Goals as goal
 

@@ -1,6 +1,6 @@
-use Rattle.std.proofs.Common.{◌≡◌, ◌+◌, ◌-◌, Ok, Err, sym, ap, ◌∙◌, arith}
+use Rattle.std.proofs.Common.{◌+◌, sym, ◌∙◌, arith}
 use Rattle.object_view.specs.Fields.{word_at}
-use Rattle.object_view.specs.Checks.{instr_checked, each}
+use Rattle.object_view.specs.Checks.{instr_checked}
 use Rattle.object_view.proofs.Each.{each_passed, each_failed}
 use Rattle.object_view.proofs.tables.Tables.check_block.Goals as goal
 

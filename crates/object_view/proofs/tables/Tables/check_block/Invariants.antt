@@ -1,4 +1,4 @@
-use Rattle.std.proofs.Common.{◌≡◌, ◌*◌, ◌≤◌, ◌-◌, ◌+◌}
+use Rattle.std.proofs.Common.{◌≡◌, ◌-◌, ◌+◌}
 use Rattle.object_view.specs.Fields.{word_at}
 use Rattle.object_view.specs.Checks.{each, instr_checked}
 use Rattle.object_view.proofs.tables.Tables.check_block.Given as goal

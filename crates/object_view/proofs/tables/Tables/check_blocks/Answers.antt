@@ -1,7 +1,6 @@
-use Rattle.std.proofs.Common.{◌≡◌, ◌+◌, ◌-◌, ◌≤◌, Ok, Err, sym, ap, ◌∙◌, arith}
+use Rattle.std.proofs.Common.{◌+◌, sym, ap, ◌∙◌, arith}
 use Rattle.object_view.specs.Fields.{word_at, count_in, slots_in}
-use Rattle.object_view.specs.Reading.{instrs_below}
-use Rattle.object_view.specs.Checks.{instr_checked, block_checked, each}
+use Rattle.object_view.specs.Checks.{block_checked}
 use Rattle.object_view.proofs.Each.{each_passed, each_failed, below_next, below_all, block_same}
 use Rattle.object_view.proofs.tables.Tables.check_blocks.Goals as goal
 

@@ -1,4 +1,4 @@
-use Rattle.std.proofs.Common.{◌≡◌, ◌+◌, ◌-◌, Ok, Err, sym, ap, ◌∙◌, arith}
+use Rattle.std.proofs.Common.{◌≡◌, ◌-◌, Err, sym, ap, ◌∙◌, arith}
 use Rattle.object_view.specs.Fields.{word_at}
 use Rattle.object_view.specs.Checks.{literal_checked, each}
 use Rattle.object_view.proofs.Each.{each_passed, each_failed}

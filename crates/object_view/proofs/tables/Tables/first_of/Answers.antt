@@ -1,6 +1,5 @@
-use Rattle.std.proofs.Common.{◌≡◌, ◌≤◌, arith, subst, sym, ap}
+use Rattle.std.proofs.Common.{arith}
 use Rattle.object_view.specs.Fields.{word_at}
-use Rattle.object_view.specs.Reading.{instrs_below}
 use Rattle.object_view.proofs.Each.{below_all}
 use Rattle.object_view.proofs.tables.Tables.first_of.Goals as goal
 

@@ -1,4 +1,4 @@
-use Rattle.std.proofs.Common.{arith, rules, ap, ◌∙◌, sym}
+use Rattle.std.proofs.Common.{arith, rules, ap, ◌∙◌}
 use Rattle.object_view.specs.Fields.{word_at}
 use Rattle.object_view.specs.Reading.{instrs_below}
 use Rattle.object_view.proofs.Facts.{counts_from}
