@@ -134,3 +134,16 @@ fn origins(rt: HostRuntime) {
     assert_eq!(rt; instr.origin.code(), 3);
     assert!(rt; object.instr(6).is_none());
 }
+
+#[test]
+fn writes_what_was_taken_apart(rt: HostRuntime) {
+    let bytes = adds();
+    let object = Object::open(&bytes).expect(&rt, "it opens");
+    let code = object.to_code(rt.alloc()).expect(&rt, "there is memory");
+    for room in 0..153usize {
+        let mut out = with_room(room);
+        let written = write(&code, object.version(), &mut out);
+        assert_eq!(rt; written.is_ok(), room == 152);
+        assert_eq!(rt; out.count, room);
+    }
+}
