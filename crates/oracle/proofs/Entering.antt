@@ -50,7 +50,7 @@ name_last : (cs : List Context) (d : Context) → name_in (cs ++ d ∷ []) (leng
 name_last [] d = refl
 name_last (c ∷ cs) d = name_last cs d
 
-get_last : (xs : List Invocation) (y : Invocation) (i : ℕ) (x : Invocation) → slice_get (xs ++ y ∷ []) i ≡ Some x → (slice_get xs i ≡ Some x) ⊎ ((i ≡ length xs) × (y ≡ x))
+pub get_last : (xs : List Invocation) (y : Invocation) (i : ℕ) (x : Invocation) → slice_get (xs ++ y ∷ []) i ≡ Some x → (slice_get xs i ≡ Some x) ⊎ ((i ≡ length xs) × (y ≡ x))
 get_last [] y zero x h = inr (refl, some_same y x h)
 get_last [] y (suc i) x h = cc
 get_last (z ∷ xs) y zero x h = inl h

@@ -50,7 +50,7 @@ get_of [] i u d h = cc
 get_of (t ∷ ts) zero u d h = sym (some_same t u h)
 get_of (t ∷ ts) (suc i) u d h = get_of ts i u d h
 
-removed : (c : ℕ) (s : Spot) (k : ℕ) (ts : List Token) → find_from c s 0 ts ≡ Some k → (v : Value) × (slice_get ts k ≡ Some (token_of c s v)) × IsPermutation ts (token_of c s v ∷ remove ts k)
+pub removed : (c : ℕ) (s : Spot) (k : ℕ) (ts : List Token) → find_from c s 0 ts ≡ Some k → (v : Value) × (slice_get ts k ≡ Some (token_of c s v)) × IsPermutation ts (token_of c s v ∷ remove ts k)
 removed c s k ts h =
     let f = find_law c s 0 k ts h in
     let same : f.0 ≡ k = let is = f.2 in omega (arith, is) in
