@@ -9,6 +9,7 @@ use Rattle.semantics.specs.Meaning as Meaning
 use Rattle.determinacy.proofs.Perm.{Each}
 use Rattle.determinacy.proofs.Diamond.{permutation_exchange}
 use Rattle.oracle.specs.declared.report.MeanEnd.{MeanEnd}
+use Rattle.oracle.specs.declared.report.MeanEnd.TheVariants.{Rest, Clash, Steps}
 use Rattle.oracle.specs.declared.deeds.Deed.{Deed}
 use Rattle.oracle.specs.declared.deeds.Deed.TheVariants.{Puts}
 use Rattle.oracle.specs.declared.state.Gate.TheVariants.{Free}
@@ -85,7 +86,9 @@ pub record Ended (g : Graph) (inputs : List ℤ) (k : ℕ) (cells outputs : List
 
 abbrev pub Outcome : Graph → List ℤ → ℕ → Came → Type 0
 Outcome g inputs k (Acts s vs d) = Ready g inputs k s vs d
-Outcome g inputs k (Ends s e) = Ended g inputs k s.cells s.outputs e
+Outcome g inputs k (Ends s Rest) = Ended g inputs k s.cells s.outputs Rest
+Outcome g inputs k (Ends s (Clash a i)) = Ended g inputs k s.cells s.outputs (Clash a i)
+Outcome g inputs k (Ends s Steps) = ⊥
 Outcome g inputs k Broken = ⊥
 
 -- LISTS IN ANOTHER ORDER

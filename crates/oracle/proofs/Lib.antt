@@ -6,11 +6,13 @@ mod DeedLaws
 mod Entering
 mod Filling
 mod Following
+mod Fulls
 mod Gathered
 mod Joining
 mod Known
 mod Nexting
 mod Partners
+mod Performing
 mod Resolved
 mod Sends
 mod ShapeLaws
@@ -18,3 +20,4 @@ mod Telling
 mod Turning
 mod Views
 mod Waiting
+mod Whole
