@@ -4,6 +4,7 @@ ghost use Rattle.std.specs.Prelude.{◌≡◌, ◌≢◌, ◌↔◌, ◌≤◌, 
 ghost use Rattle.semantics.specs.Text.{HasText};
 ghost use Rattle.oracle.specs.Lines.{total_of, inputs_at};
 ghost use Rattle.oracle.specs.Sending.{entering_tokens};
+ghost use Rattle.oracle.specs.Reporting.{IsMeant};
 ghost use Rattle.oracle.specs.Running.{plain, run_of, nones, no_cells, start_of, main_place, full_if, full_from, full_in, told};
 
 use crate::invocations::{Invocation, Made};
@@ -215,6 +216,7 @@ pub fn mean<'a, A: Allocator + Clone>(
     requires limits { HasText checked.now }
     ensures wrong { result ≡ Err MeanFault.WrongInputs ↔ (length inputs.now ≢ inputs_at checked.now (main_place checked.now)) }
     ensures told { IfOk result (λ r. told checked.now inputs.now steps ≡ Some (r.end, r.outputs.items, r.cells.items)) }
+    ensures meant { IfOk result (λ r. IsMeant checked.now inputs.now steps r.end r.outputs.items r.cells.items) }
 {
     if inputs.len() != input_count(checked.graph(), checked.main_place()) {
         return Err(MeanFault::WrongInputs);
