@@ -14,8 +14,8 @@ pub fn steps_agree()
     ensures sending { SendingAgrees }
 {}
 
-/// The run that `mean` makes comes to an end on each well-formed graph, within any number of steps: it never meets joined
-/// tokens without a deed, nor a turn whose number is above the greatest u64. And what it tells is true of the meaning.
+/// The run that `mean` makes comes to an end on each well-formed graph, within any number of steps below 2^64: it never meets
+/// joined tokens without a deed, nor a turn whose number is above the greatest u64. And what it tells is true of the meaning.
 pub fn runs_are_meant()
     ensures ends { RunsEnd }
     ensures reports { ReportsAreTrue }
