@@ -1,6 +1,6 @@
 -- An activity that takes a token has the shape of the token's place, and takes a token at each spot of that shape.
-use Rattle.std.proofs.Common.{◌≡◌, ℕ, zero, suc, ◌+◌, ◌-◌, ◌<◌, ◌≤◌, ◌⊎◌, inl, inr, Bool, true, false, ◌&&◌, ◌==◌, List, [], ◌∷◌, length, Option, Some, None, nat_lt, slice_get, if◌then◌else◌, refl, sym, ap, ◌∙◌, subst, arith, eqb-true, eq-eqb, lt-ltb, ⊎_elim}
-use Rattle.std.specs.Prelude.{option_map, ⊤}
+use Rattle.std.proofs.Common.{◌≡◌, ℕ, suc, ◌+◌, ◌-◌, ◌<◌, ◌⊎◌, inl, inr, Bool, true, false, ◌&&◌, ◌==◌, List, [], ◌∷◌, length, Option, Some, None, nat_lt, slice_get, if◌then◌else◌, refl, sym, ap, ◌∙◌, subst, arith, eqb-true, eq-eqb, lt-ltb, ⊎_elim}
+use Rattle.std.specs.Prelude.{option_map}
 use Rattle.tags.specs.declared.value.Value.{Value}
 use Rattle.semantics.specs.declared.graph.Region.{Region}
 use Rattle.semantics.specs.declared.graph.Region.TheVariants.{Root, Arm}
@@ -9,12 +9,11 @@ use Rattle.semantics.specs.declared.graph.Kind.TheVariants.{Lit, Apply1, Apply2,
 use Rattle.semantics.specs.Graph.{Node as Row, Block, Graph, flow_of, node_at}
 use Rattle.semantics.specs.Meaning.{Context, Statement, AtNode, AtOut, AtTurn, Port, Tagged, tagged, Activity, taken, operands_from, deed, on_block, on_node, fired, fired_in, input_passed, gated, passed, block_number, block_numbered, block_of}
 use Rattle.semantics.specs.Meaning as Meaning
-use Rattle.determinacy.proofs.Perm.{Within, Each, put_first, each_weaker, within_right}
+use Rattle.determinacy.proofs.Perm.{Within, Each, put_first, each_weaker}
 use Rattle.oracle.specs.declared.invocations.Made.{Made}
 use Rattle.oracle.specs.declared.invocations.Made.TheVariants.{Main, Called, Turned}
 use Rattle.oracle.specs.declared.invocations.Invocation.{Invocation}
-use Rattle.oracle.specs.declared.lines.Line.{Line}
-use Rattle.oracle.specs.declared.lines.Line.TheVariants.{Input, Node, Nothing}
+use Rattle.oracle.specs.declared.lines.Line.TheVariants.{Input, Node}
 use Rattle.oracle.specs.declared.shapes.Shape.{Shape}
 use Rattle.oracle.specs.declared.shapes.Shape.TheVariants.{Fires, Gates, Passes, Returns, Turns, Outputs}
 use Rattle.oracle.specs.declared.tokens.Spot.{Spot}

@@ -1,11 +1,9 @@
 -- A run of numbered invocations follows a run of the meaning.
-use Rattle.std.proofs.Common.{◌≡◌, ℕ, zero, suc, ◌+◌, ◌<◌, ◌≤◌, ◌⊎◌, ℤ, Bool, true, false, List, [], ◌∷◌, ◌++◌, map, length, Option, Some, None, slice_get, if◌then◌else◌, IsPermutation, refl, sym, ap, ◌∙◌, subst, arith, append_assoc, append-nil}
-use Rattle.std.proofs.lemmas.List.{map-append, length-append}
-use Rattle.std.proofs.lemmas.List.Sorted.{IsPermutation-refl, IsPermutation-sym, IsPermutation-trans, IsPermutation-append_left, IsPermutation-append_right}
+use Rattle.std.proofs.Common.{◌≡◌, ℕ, ◌<◌, ℤ, List, [], ◌∷◌, ◌++◌, map, length, Option, Some, IsPermutation, sym, subst, append_assoc, append-nil}
+use Rattle.std.proofs.lemmas.List.Sorted.{IsPermutation-trans, IsPermutation-append_left, IsPermutation-append_right}
 use Rattle.tags.specs.declared.value.Value.{Value}
 use Rattle.semantics.specs.Graph.{Graph, flow_of}
-use Rattle.semantics.specs.Meaning.{Context, Tagged, State, Activity, taken, deed, Run, start}
-use Rattle.semantics.specs.Meaning as Meaning
+use Rattle.semantics.specs.Meaning.{Context, State, Activity, taken, deed, Run, start}
 use Rattle.determinacy.proofs.Perm.{Each}
 use Rattle.determinacy.proofs.Diamond.{permutation_exchange}
 use Rattle.oracle.specs.declared.report.MeanEnd.{MeanEnd}

@@ -1,9 +1,8 @@
 -- The list of full cells has just the full cells, each once.
-use Rattle.std.proofs.Common.{◌≡◌, ℕ, zero, suc, ◌+◌, ◌<◌, ◌≤◌, ◌⊎◌, inl, inr, Bool, true, false, List, [], ◌∷◌, ◌++◌, length, Option, Some, None, nat_lt, slice_get, if◌then◌else◌, refl, sym, ap, ◌∙◌, subst, arith, ⊎_elim, ltb-true, ltb-false}
-use Rattle.std.specs.Prelude.{⊤}
+use Rattle.std.proofs.Common.{◌≡◌, ℕ, zero, suc, ◌+◌, ◌<◌, ◌≤◌, ◌⊎◌, inl, inr, Bool, true, false, List, [], ◌∷◌, length, Option, Some, None, nat_lt, slice_get, refl, sym, ap, ◌∙◌, subst, arith, ⊎_elim, ltb-true, ltb-false}
 use Rattle.std.proofs.lemmas.Bool.{cases_eq}
 use Rattle.tags.specs.declared.value.Value.{Value}
-use Rattle.semantics.specs.Graph.{Graph, flow_of}
+use Rattle.semantics.specs.Graph.{Graph}
 use Rattle.determinacy.proofs.Options.{some_same}
 use Rattle.determinacy.proofs.Perm.{Within, Each, Spread, put_first, put_later, each_within, each_append, each_weaker, spread_append, within_left, within_right}
 use Rattle.oracle.specs.declared.report.Full.{Full}

@@ -1,6 +1,6 @@
 -- A token's partners: those that are there are all taken, each once, and nothing is left that did not wait.
-use Rattle.std.proofs.Common.{◌≡◌, ℕ, zero, suc, ◌+◌, ◌<◌, ◌≤◌, ◌⊎◌, inl, inr, Bool, true, false, ◌&&◌, ◌||◌, ◌==◌, List, [], ◌∷◌, ◌++◌, length, Option, Some, None, slice_get, if◌then◌else◌, IsPermutation, refl, sym, ap, ◌∙◌, subst, arith, eq-eqb, ⊎_elim}
-use Rattle.std.specs.Prelude.{⊤, remove, is_some}
+use Rattle.std.proofs.Common.{◌≡◌, ℕ, zero, suc, ◌+◌, ◌<◌, ◌⊎◌, inl, inr, Bool, true, false, ◌&&◌, ◌||◌, List, [], ◌∷◌, ◌++◌, length, Option, Some, None, if◌then◌else◌, IsPermutation, refl, sym, ap, ◌∙◌, subst, arith, eq-eqb, ⊎_elim}
+use Rattle.std.specs.Prelude.{remove, is_some}
 use Rattle.std.proofs.lemmas.List.{length-append}
 use Rattle.std.proofs.lemmas.List.Sorted.{IsPermutation-sym}
 use Rattle.tags.specs.declared.value.Value.{Value}
@@ -8,7 +8,7 @@ use Rattle.determinacy.proofs.Perm.{Within, Each, Spread, put_first, within_perm
 use Rattle.oracle.specs.declared.shapes.Shape.{Shape}
 use Rattle.oracle.specs.declared.shapes.Shape.TheVariants.{Fires, Gates, Passes, Returns, Turns, Outputs}
 use Rattle.oracle.specs.declared.tokens.Spot.{Spot}
-use Rattle.oracle.specs.declared.tokens.Spot.TheVariants.{Operand, Predicate, Out, Flag, Carried}
+use Rattle.oracle.specs.declared.tokens.Spot.TheVariants.{Operand}
 use Rattle.oracle.specs.declared.tokens.Token.{Token}
 use Rattle.oracle.specs.Lines.{same_spot, operand_spots, spots_in}
 use Rattle.oracle.specs.Agreeing.{token_of, own}

@@ -8,6 +8,7 @@ mod Filling
 mod Following
 mod Fulls
 mod Gathered
+mod Gating
 mod Joining
 mod Known
 mod Nexting

@@ -1,6 +1,6 @@
 -- What an activity does in a run is what it does in the meaning.
-use Rattle.std.proofs.Common.{◌≡◌, ℕ, zero, suc, ◌+◌, ◌<◌, ◌≤◌, ℤ, Bool, true, false, List, [], ◌∷◌, ◌++◌, map, length, Option, Some, None, slice_get, if◌then◌else◌, IsPermutation, refl, sym, ap, ◌∙◌, subst, arith}
-use Rattle.std.specs.Prelude.{is_some, ⊤}
+use Rattle.std.proofs.Common.{◌≡◌, ℕ, suc, ◌+◌, ◌<◌, ◌≤◌, ℤ, List, [], ◌∷◌, ◌++◌, map, length, Option, Some, None, if◌then◌else◌, IsPermutation, refl, sym, ap, ◌∙◌, subst, arith}
+use Rattle.std.specs.Prelude.{is_some}
 use Rattle.std.proofs.lemmas.List.{map-append, length-append}
 use Rattle.std.proofs.lemmas.List.Sorted.{IsPermutation-refl, IsPermutation-map}
 use Rattle.tags.specs.declared.value.Value.{Value}
@@ -17,16 +17,16 @@ use Rattle.oracle.specs.declared.deeds.Deed.TheVariants.{Sends, Tells, Enters, E
 use Rattle.oracle.specs.declared.state.Gate.TheVariants.{Free, Defers, Clashes}
 use Rattle.oracle.specs.declared.tokens.Spot.TheVariants.{Operand}
 use Rattle.oracle.specs.declared.tokens.Token.{Token}
-use Rattle.oracle.specs.Lines.{first_of, total_of}
+use Rattle.oracle.specs.Lines.{first_of}
 use Rattle.oracle.specs.Sending.{token_at, entering_tokens}
 use Rattle.oracle.specs.Acting.{gate_of, held_in, filled_in}
 use Rattle.oracle.specs.Running.{Plain, plain, number_in, with_made, sent_of, sent_in, told_in, answered, performed}
 use Rattle.oracle.specs.Meant.{name_in, made_of, tagged_of, deed_of}
-use Rattle.oracle.specs.Naming.{Named, CanEnter, IsEntered, IsKnown}
+use Rattle.oracle.specs.Naming.{CanEnter}
 use Rattle.oracle.proofs.Apart.{EachMade, mades_more, made_more}
 use Rattle.oracle.proofs.Entering.{AreKnown, entered_law, tokens_kept}
 use Rattle.oracle.proofs.Filling.{memory_of, filled_long, filled_same, cell_low}
-use Rattle.oracle.proofs.Following.{all_tokens, meant, Sound, Follows, PutLow, Ready, to_fresh, to_woken}
+use Rattle.oracle.proofs.Following.{all_tokens, meant, Sound, Follows, Ready, to_fresh, to_woken}
 use Rattle.oracle.proofs.Telling.{AreOf, entering_same, entering_of, sends_same, tells_same}
 use Rattle.oracle.proofs.Turning.{turn_more}
 use Rattle.oracle.proofs.Views.{TurnBelow}

@@ -1,6 +1,6 @@
 -- The tokens that a deed adds, by numbers of invocations and by their names.
-use Rattle.std.proofs.Common.{◌≡◌, ℕ, zero, suc, ◌+◌, ◌<◌, Bool, true, false, ◌&&◌, ◌==◌, List, [], ◌∷◌, ◌++◌, map, length, Option, Some, None, slice_get, if◌then◌else◌, refl, sym, ap, ◌∙◌, subst}
-use Rattle.std.specs.Prelude.{option_map, ⊤}
+use Rattle.std.proofs.Common.{◌≡◌, ℕ, zero, suc, ◌+◌, ◌<◌, Bool, true, false, List, [], ◌∷◌, ◌++◌, map, length, Option, Some, None, slice_get, if◌then◌else◌, refl, sym, ap, ◌∙◌, subst}
+use Rattle.std.specs.Prelude.{option_map}
 use Rattle.tags.specs.declared.value.Value.{Value}
 use Rattle.semantics.specs.declared.graph.Region.{Region}
 use Rattle.semantics.specs.declared.graph.Region.TheVariants.{Root, Arm}
@@ -10,17 +10,17 @@ use Rattle.semantics.specs.declared.graph.Kind.TheVariants.{Lit, Apply1, Apply2,
 use Rattle.semantics.specs.Graph.{Node, Block, Graph, flow_of}
 use Rattle.semantics.specs.Meaning.{Context, Tagged, tagged, sent, entering, predicates_from, predicates_in, is_enter_of, block_numbered, block_of}
 use Rattle.semantics.specs.Meaning as Meaning
-use Rattle.determinacy.proofs.Perm.{Each, each_append, each_weaker}
+use Rattle.determinacy.proofs.Perm.{Each, each_append}
 use Rattle.oracle.specs.declared.invocations.Made.{Made}
 use Rattle.oracle.specs.declared.invocations.Made.TheVariants.{Main, Called, Turned}
 use Rattle.oracle.specs.declared.invocations.Invocation.{Invocation}
 use Rattle.oracle.specs.declared.sending.Sent.{Sent}
 use Rattle.oracle.specs.declared.tokens.Token.{Token}
-use Rattle.oracle.specs.declared.tokens.Spot.TheVariants.{Operand, Predicate, Flag}
+use Rattle.oracle.specs.declared.tokens.Spot.TheVariants.{Operand, Predicate}
 use Rattle.oracle.specs.Lines.{resolved_in}
-use Rattle.oracle.specs.Sending.{token_at, is_port_of, operand_tokens, node_tokens, flag_tokens, turned_tokens, result_tokens, results_tokens, sent_tokens, is_arm_of, is_gate_of, told_tokens, entering_tokens}
+use Rattle.oracle.specs.Sending.{token_at, is_port_of, operand_tokens, node_tokens, flag_tokens, turned_tokens, result_tokens, results_tokens, is_gate_of, told_tokens, entering_tokens}
 use Rattle.oracle.specs.Running.{sent_of, sent_by, sent_if, sent_in, told_by, told_if, told_in}
-use Rattle.oracle.specs.Meant.{name_in, made_of, tagged_of}
+use Rattle.oracle.specs.Meant.{name_in, tagged_of}
 use Rattle.oracle.specs.Naming.{Named}
 use Rattle.oracle.specs.Agreeing.{block_in, row_in}
 use Rattle.oracle.proofs.Apart.{get_there}

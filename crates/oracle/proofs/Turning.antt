@@ -1,6 +1,6 @@
 -- What a deed may name besides: the turn of an iteration, which no run brings above its length, and an output, which main
 -- has.
-use Rattle.std.proofs.Common.{◌≡◌, ℕ, zero, suc, ◌+◌, ◌-◌, ◌<◌, ◌≤◌, ◌^◌, ◌⊎◌, ℤ, Bool, true, false, ◌==◌, List, [], ◌∷◌, ◌++◌, map, length, Option, Some, None, nat_lt, slice_get, if◌then◌else◌, IsPermutation, refl, sym, ap, ◌∙◌, subst, arith, ⊎_elim}
+use Rattle.std.proofs.Common.{◌≡◌, ℕ, zero, suc, ◌+◌, ◌-◌, ◌<◌, ◌^◌, ℤ, true, false, ◌==◌, List, [], ◌∷◌, length, Option, Some, None, nat_lt, slice_get, if◌then◌else◌, refl, sym, ap, ◌∙◌, subst, arith, ⊎_elim}
 use Rattle.std.specs.Prelude.{⊤, option_map}
 use Rattle.tags.specs.declared.value.Value.{Value}
 use Rattle.tags.specs.declared.value.Origin.{Origin}
@@ -10,14 +10,13 @@ use Rattle.semantics.specs.declared.graph.Region.TheVariants.{Root, Arm}
 use Rattle.semantics.specs.declared.graph.Source.{Source}
 use Rattle.semantics.specs.declared.graph.Kind.{Kind}
 use Rattle.semantics.specs.declared.graph.Kind.TheVariants.{Lit, Apply1, Apply2, Cond, Enter, Merge, Fetch, Store, Call, StrictCall, Loop}
-use Rattle.semantics.specs.Graph.{Node as Row, Block, Graph, Flow, flow_of}
+use Rattle.semantics.specs.Graph.{Block, Graph, flow_of}
 use Rattle.semantics.specs.WellFormed.{WellFormed, IsBlockWell}
 use Rattle.semantics.specs.Faithful.{inputs_of, inputs_in}
 use Rattle.semantics.specs.Meaning.{Context, Statement, AtNode, AtOut, Port, Tagged, tagged, State, Activity, Run, start, same_side, block_of, Message}
 use Rattle.semantics.specs.Meaning as Meaning
 use Rattle.determinacy.proofs.Options.{some_same}
 use Rattle.determinacy.proofs.Perm.{Within, within_right}
-use Rattle.determinacy.proofs.Grounds.{get_below}
 use Rattle.determinacy.proofs.Uses.{IsSource, UseOf, AsOperand, AsResult, AsFlag, AsCarried, Member}
 use Rattle.determinacy.proofs.History.{at_start, run_history}
 use Rattle.determinacy.proofs.Resolved.{all_get, flow_well, fits}
@@ -29,7 +28,7 @@ use Rattle.oracle.specs.declared.lines.Line.TheVariants.{Input, Node, Nothing}
 use Rattle.oracle.specs.declared.shapes.Shape.{Shape}
 use Rattle.oracle.specs.declared.shapes.Shape.TheVariants.{Fires, Gates, Passes, Returns, Turns, Outputs}
 use Rattle.oracle.specs.declared.deeds.Deed.{Deed}
-use Rattle.oracle.specs.declared.deeds.Deed.TheVariants.{Sends, Tells, Enters, EntersAll, Stops, Reads, Fills, Puts}
+use Rattle.oracle.specs.declared.deeds.Deed.TheVariants.{Sends, Enters, EntersAll, Stops}
 use Rattle.oracle.specs.Lines.{line_of, origin_of, first_of, len_of, inputs_in as own_inputs, inputs_at, outputs_at, outputs_in}
 use Rattle.oracle.specs.Acting.{fetch_deed, store_deed, one_deed, two_deed, input_deed, fired_deed, line_deed, node_gated, gated_deed, node_passed, passed_deed, next_turn, turned_deed, returned_deed, shown_deed, deed_in}
 use Rattle.oracle.specs.Running.{main_place}

@@ -1,6 +1,6 @@
 -- What a join is: nothing where a partner is missing, else the activity of a shape, which always has a deed in a
 -- well-formed graph.
-use Rattle.std.proofs.Common.{◌≡◌, ℕ, zero, suc, ◌+◌, ◌-◌, ◌<◌, ◌≤◌, ◌^◌, Bool, true, false, ◌&&◌, ◌==◌, List, [], ◌∷◌, length, Option, Some, None, nat_lt, slice_get, if◌then◌else◌, All, refl, sym, ap, ◌∙◌, subst, arith, eqb-true, eq-eqb, lt-ltb}
+use Rattle.std.proofs.Common.{◌≡◌, ℕ, zero, suc, ◌+◌, ◌-◌, ◌<◌, ◌^◌, Bool, true, false, ◌&&◌, ◌==◌, List, [], ◌∷◌, length, Option, Some, None, nat_lt, slice_get, if◌then◌else◌, refl, sym, ap, ◌∙◌, subst, arith, eqb-true, eq-eqb, lt-ltb}
 use Rattle.std.specs.Prelude.{⊤}
 use Rattle.tags.specs.declared.value.Value.{Value}
 use Rattle.tags.specs.declared.value.Origin.{Origin}
@@ -10,7 +10,7 @@ use Rattle.semantics.specs.declared.graph.Region.TheVariants.{Root, Arm}
 use Rattle.semantics.specs.declared.graph.Kind.{Kind}
 use Rattle.semantics.specs.declared.graph.Kind.TheVariants.{Lit, Apply1, Apply2, Cond, Enter, Merge, Fetch, Store, Call, StrictCall, Loop}
 use Rattle.semantics.specs.Graph.{Node as Row, Block, Graph, node_at}
-use Rattle.semantics.specs.WellFormed.{WellFormed, IsBlockWell, IsNodeWell, LiesWell}
+use Rattle.semantics.specs.WellFormed.{WellFormed, IsBlockWell, LiesWell}
 use Rattle.determinacy.proofs.Options.{some_same}
 use Rattle.determinacy.proofs.Resolved.{all_get}
 use Rattle.oracle.specs.declared.invocations.Made.{Made}
@@ -26,10 +26,10 @@ use Rattle.oracle.specs.declared.tokens.Spot.{Spot}
 use Rattle.oracle.specs.declared.tokens.Spot.TheVariants.{Operand, Predicate, Out, Flag, Carried}
 use Rattle.oracle.specs.declared.tokens.Token.{Token}
 use Rattle.oracle.specs.Lines.{line_of, line_in, line_of_row, resolved_in, origin_of, takes_all, fires_shape, node_shape, operand_shape, enter_shape, predicate_shape, out_shape, turn_shape, shape_in, operand_spots, spots_in}
-use Rattle.oracle.specs.Acting.{input_deed, fired_deed, one_deed, two_deed, line_deed, fires_deed, node_gated, gated_deed, passed_deed, next_turn, turned_deed, returned_deed, shown_deed, deed_in, all_there, left_of, values_of}
-use Rattle.oracle.specs.Running.{Joined, Alone, Joins, Fails, joins, join_values, join_all, join_shape, join_in}
+use Rattle.oracle.specs.Acting.{input_deed, fired_deed, one_deed, two_deed, line_deed, gated_deed, passed_deed, next_turn, turned_deed, returned_deed, shown_deed, deed_in, all_there, left_of, values_of}
+use Rattle.oracle.specs.Running.{Alone, Joins, Fails, joins, join_all, join_shape, join_in}
 use Rattle.oracle.proofs.Gathered.{values_full, spots_apart}
-use Rattle.oracle.proofs.ShapeLaws.{if_both, if_one}
+use Rattle.oracle.proofs.ShapeLaws.{if_one}
 
 -- VIEWS
 

@@ -1,6 +1,6 @@
 -- Among the tokens that wait, no activity has all that it takes; and where only they and deferred fetches are left, no
 -- activity is enabled and no store clashes.
-use Rattle.std.proofs.Common.{◌≡◌, ℕ, zero, suc, ◌+◌, ◌<◌, ◌≤◌, ◌⊎◌, inl, inr, Bool, true, false, List, [], ◌∷◌, ◌++◌, map, length, Option, Some, None, slice_get, if◌then◌else◌, refl, sym, ap, ◌∙◌, subst, arith, ⊎_elim}
+use Rattle.std.proofs.Common.{◌≡◌, ℕ, ◌<◌, ◌⊎◌, inl, inr, true, false, List, [], ◌∷◌, ◌++◌, map, length, Option, Some, None, slice_get, if◌then◌else◌, refl, sym, ap, ◌∙◌, subst, arith, ⊎_elim}
 use Rattle.std.proofs.lemmas.List.{map-append}
 use Rattle.tags.specs.declared.value.Value.{Value}
 use Rattle.semantics.specs.Graph.{Graph, Flow, flow_of}
@@ -15,11 +15,10 @@ use Rattle.determinacy.proofs.Diamond.{deed_of, held_from}
 use Rattle.determinacy.proofs.Laws.{IsFlowWell}
 use Rattle.determinacy.proofs.Rest.{takes_some}
 use Rattle.oracle.specs.declared.invocations.Invocation.{Invocation}
-use Rattle.oracle.specs.declared.shapes.Shape.{Shape}
 use Rattle.oracle.specs.declared.tokens.Spot.{Spot}
 use Rattle.oracle.specs.declared.tokens.Token.{Token}
-use Rattle.oracle.specs.Lines.{shape_in, spots_in}
-use Rattle.oracle.specs.Acting.{is_there, all_there, left_of, held_in}
+use Rattle.oracle.specs.Lines.{spots_in}
+use Rattle.oracle.specs.Acting.{is_there, all_there, left_of}
 use Rattle.oracle.specs.Running.{Alone, join_in}
 use Rattle.oracle.specs.Meant.{name_in, made_of, tagged_of, statement_of, port_of}
 use Rattle.oracle.specs.Naming.{Named}
@@ -28,7 +27,7 @@ use Rattle.oracle.proofs.Apart.{key_same, MadesDiffer, names_same}
 use Rattle.oracle.proofs.Entering.{AreKnown}
 use Rattle.oracle.proofs.Gathered.{left_within, own_there, other_there}
 use Rattle.oracle.proofs.Views.{alone_view}
-use Rattle.oracle.proofs.Complete.{TakesAt, HasShape, shaped}
+use Rattle.oracle.proofs.Complete.{TakesAt, shaped}
 
 -- LISTS
 

@@ -1,6 +1,5 @@
 -- A whole run of numbered invocations is a run of the meaning, and what it tells is true.
 use Rattle.std.proofs.Common.{◌≡◌, ℕ, zero, suc, ◌+◌, ◌<◌, ◌≤◌, ◌^◌, ℤ, List, [], ◌∷◌, ◌++◌, map, length, Option, Some, None, slice_get, IsPermutation, refl, sym, ap, ◌∙◌, subst, arith, append-nil}
-use Rattle.std.specs.Prelude.{⊤}
 use Rattle.std.proofs.lemmas.List.Sorted.{IsPermutation-refl}
 use Rattle.tags.specs.declared.value.Value.{Value}
 use Rattle.tags.specs.declared.value.Value.TheVariants.{Int}
@@ -20,15 +19,14 @@ use Rattle.oracle.specs.declared.report.MeanEnd.{MeanEnd}
 use Rattle.oracle.specs.declared.report.MeanEnd.TheVariants.{Rest, Clash, Steps}
 use Rattle.oracle.specs.declared.report.Full.{Full}
 use Rattle.oracle.specs.declared.tokens.Token.{Token}
-use Rattle.oracle.specs.Lines.{inputs_at, outputs_at}
+use Rattle.oracle.specs.Lines.{outputs_at}
 use Rattle.oracle.specs.Sending.{entering_tokens}
-use Rattle.oracle.specs.Acting.{held_in}
-use Rattle.oracle.specs.Running.{Plain, main_place, nones, no_cells, start_of, Came, Acts, Ends, Broken, next_in, performed, run_of, full_in, told_of, told}
+use Rattle.oracle.specs.Running.{Plain, main_place, start_of, Came, Acts, Ends, Broken, next_in, performed, run_of, full_in, told_of}
 use Rattle.oracle.specs.Meant.{name_in, made_of, tagged_of}
 use Rattle.oracle.specs.Naming.{Named, IsBelow}
 use Rattle.oracle.specs.Reporting.{AreFull, IsEnd, IsMeant, RunsEnd, ReportsAreTrue}
-use Rattle.oracle.proofs.Filling.{memory_of, empty_at_start, nones_long, cells_long}
-use Rattle.oracle.proofs.Following.{all_tokens, meant, Sound, Follows, Ready, Ended, Outcome}
+use Rattle.oracle.proofs.Filling.{empty_at_start, nones_long, cells_long}
+use Rattle.oracle.proofs.Following.{Sound, Follows, Ready, Ended, Outcome}
 use Rattle.oracle.proofs.Fulls.{full_law}
 use Rattle.oracle.proofs.Nexting.{next_law}
 use Rattle.oracle.proofs.Performing.{enabled, acted}

@@ -1,6 +1,6 @@
 use Rattle.std.proofs.Common.{◌≡◌, Some, None, length, sym, ap, ◌∙◌, arith}
 use Rattle.oracle.specs.Lines.{inputs_at}
-use Rattle.oracle.specs.Running.{main_place, told}
+use Rattle.oracle.specs.Running.{main_place}
 use Rattle.oracle.proofs.Resolved.{few_cells}
 use Rattle.oracle.proofs.Whole.{runs_end, reports_true}
 use Rattle.oracle.proofs.runs.mean.Goals as goal
