@@ -1,5 +1,5 @@
 -- An activity that takes a token has the shape of the token's place, and takes a token at each spot of that shape.
-use Rattle.std.proofs.Common.{◌≡◌, ℕ, suc, ◌+◌, ◌-◌, ◌<◌, ◌⊎◌, inl, inr, Bool, true, false, ◌&&◌, ◌==◌, List, [], ◌∷◌, length, Option, Some, None, nat_lt, slice_get, if◌then◌else◌, refl, sym, ap, ◌∙◌, subst, arith, eqb-true, eq-eqb, lt-ltb, ⊎_elim}
+use Rattle.std.proofs.Common.{◌≡◌, ℕ, ◌-◌, ◌<◌, ◌⊎◌, inl, inr, Bool, true, false, ◌&&◌, ◌==◌, List, [], ◌∷◌, length, Option, Some, None, nat_lt, slice_get, if◌then◌else◌, refl, sym, ap, ◌∙◌, subst, arith, eqb-true, eq-eqb, lt-ltb, ⊎_elim}
 use Rattle.std.specs.Prelude.{option_map}
 use Rattle.tags.specs.declared.value.Value.{Value}
 use Rattle.semantics.specs.declared.graph.Region.{Region}
@@ -9,7 +9,7 @@ use Rattle.semantics.specs.declared.graph.Kind.TheVariants.{Lit, Apply1, Apply2,
 use Rattle.semantics.specs.Graph.{Node as Row, Block, Graph, flow_of, node_at}
 use Rattle.semantics.specs.Meaning.{Context, Statement, AtNode, AtOut, AtTurn, Port, Tagged, tagged, Activity, taken, operands_from, deed, on_block, on_node, fired, fired_in, input_passed, gated, passed, block_number, block_numbered, block_of}
 use Rattle.semantics.specs.Meaning as Meaning
-use Rattle.determinacy.proofs.Perm.{Within, Each, put_first, each_weaker}
+use Rattle.determinacy.proofs.Perm.{Within, Each, put_first}
 use Rattle.oracle.specs.declared.invocations.Made.{Made}
 use Rattle.oracle.specs.declared.invocations.Made.TheVariants.{Main, Called, Turned}
 use Rattle.oracle.specs.declared.invocations.Invocation.{Invocation}
@@ -24,6 +24,7 @@ use Rattle.oracle.specs.Meant.{name_in, made_of, tagged_of, statement_of, port_o
 use Rattle.oracle.specs.Agreeing.{block_in, row_in}
 use Rattle.oracle.proofs.Resolved.{block_same, rows_same}
 use Rattle.oracle.proofs.Apart.{key_same}
+use Rattle.oracle.proofs.Taken.{operand_at, operands_each, within_one, within_two, no_more}
 
 abbrev pub TakesAt : Activity → Context → Spot → Type 0
 TakesAt a c s = (v : Value) × Within (tagged c (statement_of s) (port_of s) v) (taken a)
@@ -32,37 +33,6 @@ pub record HasShape (g : Graph) (c : Context) (x : Invocation) (s : Spot) (a : A
   pub shape : Shape
   pub here : shape_in g x.made x.block s ≡ Some shape
   pub takes : Each (TakesAt a c) (spots_in shape)
-
--- what is taken
-abbrev OperandAt : Context → Statement → ℕ → List Value → Tagged → Type 0
-OperandAt c s from vs y = (i : ℕ) × (y.context ≡ c) × (y.statement ≡ s) × (y.port ≡ Meaning.Operand (from + i)) × (i < length vs)
-
-operand_at : (c : Context) (s : Statement) (from : ℕ) (vs : List Value) (y : Tagged) → Within y (operands_from c s from vs) → OperandAt c s from vs y
-operand_at c s from [] y h = absurd h.1
-operand_at c s from (v ∷ vs) y (zs, inl p) =
-    (0, ap (λ (t : Tagged). t.context) p.0, ap (λ (t : Tagged). t.statement) p.0, ap (λ (t : Tagged). t.port) p.0 ∙ ap Meaning.Operand (omega arith), omega arith)
-operand_at c s from (v ∷ vs) y (zs, inr p) =
-    let r = operand_at c s (from + 1) vs y (p.0, p.2) in
-    let low = r.4 in
-    (suc r.0, r.1, r.2, r.3 ∙ ap Meaning.Operand (omega arith), omega (arith, low))
-
-no_more : (i : ℕ) → 0 + i ≡ i
-no_more i = omega arith
-
-operands_each : (c : Context) (n from : ℕ) (vs : List Value) → Each (λ s. (v : Value) × Within (tagged c (statement_of s) (port_of s) v) (operands_from c (AtNode n) from vs)) (operand_spots n from (length vs))
-operands_each c n from [] = tt
-operands_each c n from (v ∷ vs) =
-    let first = tagged c (AtNode n) (Meaning.Operand from) v in
-    ((v, (_, put_first first (operands_from c (AtNode n) (from + 1) vs))),
-    each_weaker _ _ (λ s h. (h.0, (first ∷ h.1.0, inr (h.1.0, refl, h.1.1)))) (operand_spots n (from + 1) (length vs)) (operands_each c n (from + 1) vs))
-
-within_one : (t u : Tagged) → Within t (u ∷ []) → t ≡ u
-within_one t u (zs, inl h) = h.0
-within_one t u (zs, inr h) = absurd h.2
-
-within_two : (t u w : Tagged) → Within t (u ∷ w ∷ []) → (t ≡ u) ⊎ (t ≡ w)
-within_two t u w (zs, inl h) = inl h.0
-within_two t u w (zs, inr h) = inr (within_one t w (h.0, h.2))
 
 -- WHAT THE GRAPH HAS AT A NODE
 module _ (g : Graph) (c : Context) (block : ℕ) (is : block_number (flow_of g) c ≡ Some block) where
@@ -75,10 +45,11 @@ module _ (g : Graph) (c : Context) (block : ℕ) (is : block_number (flow_of g) 
   row_found : (n : ℕ) (f : Row ℕ → Option Meaning.Deed) (d : Meaning.Deed) (b : List ℕ × Block (List ℕ)) → slice_get g.blocks block ≡ Some b → nat_lt n b.1.inputs ≡ false
       → (o : Option (Row (List ℕ))) → slice_get b.1.nodes (n - b.1.inputs) ≡ o → on_node (option_map (row_in g) o) f ≡ Some d → HasRow n f d
   row_found n f d b eb et None eo h = cc
-  row_found n f d b eb et (Some row) eo h =
-      (row,
-      ap (λ o. line_in g o n) eb ∙ ap (λ (t : Bool). if t then Input else line_of_row g (slice_get b.1.nodes (n - b.1.inputs))) et ∙ ap (line_of_row g) eo,
-      h)
+  row_found n f d b eb et (Some row) eo h = (
+    row,
+    ap (λ o. line_in g o n) eb ∙ ap (λ (t : Bool). if t then Input else line_of_row g (slice_get b.1.nodes (n - b.1.inputs))) et ∙ ap (line_of_row g) eo,
+    h,
+  )
 
   no_input : (n : ℕ) (f : Row ℕ → Option Meaning.Deed) (d : Meaning.Deed) (b : List ℕ × Block (List ℕ)) → nat_lt n b.1.inputs ≡ true → on_node (node_at (block_in g b) n) f ≡ Some d → ⊥
   no_input n f d b et h =

@@ -116,11 +116,13 @@ all_all cells a x [] y v low h = absurd (omega (arith, low))
 all_all cells a x (b ∷ bs) y v low h =
     let here : y < b.1 → Listed cells a x (b ∷ bs) y v =
     λ less.
-    let array : a ≡ a + 0 = omega arith in
-    (0, y,
-    subst (λ a'. Within (full a' y v) (full_in cells a x (b ∷ bs))) array
-    (within_left (full a y v) (full_from cells a x 0 b.1) (full_in cells (a + 1) (x + b.1) bs) (row_all cells a x 0 b.1 x y v (omega arith) (omega arith) (omega (arith, less)) h)),
-    omega arith) in
+    let array : a ≡ a + 0 = omega arith in (
+      0,
+      y,
+      subst (λ a'. Within (full a' y v) (full_in cells a x (b ∷ bs))) array
+          (within_left (full a y v) (full_from cells a x 0 b.1) (full_in cells (a + 1) (x + b.1) bs) (row_all cells a x 0 b.1 x y v (omega arith) (omega arith) (omega (arith, less)) h)),
+      omega arith,
+    ) in
     let there : b.1 ≤ y → Listed cells a x (b ∷ bs) y v =
     λ past.
     let z : (z : ℕ) × (y ≡ b.1 + z) = minus y b.1 past in
@@ -128,10 +130,12 @@ all_all cells a x (b ∷ bs) y v low h =
     let place : x + b.1 + z.0 ≡ x + y = omega (arith, is) in
     let r = all_all cells (a + 1) (x + b.1) bs z.0 v (omega (arith, low, is)) (ap (held_in cells) place ∙ h) in
     let array : a + 1 + r.0 ≡ a + suc r.0 = omega arith in
-    let cell = r.3 in
-    (suc r.0, r.1,
-    subst (λ a'. Within (full a' r.1 v) (full_in cells a x (b ∷ bs))) array (within_right (full (a + 1 + r.0) r.1 v) (full_from cells a x 0 b.1) (full_in cells (a + 1) (x + b.1) bs) r.2),
-    omega (arith, is, cell)) in
+    let cell = r.3 in (
+      suc r.0,
+      r.1,
+      subst (λ a'. Within (full a' r.1 v) (full_in cells a x (b ∷ bs))) array (within_right (full (a + 1 + r.0) r.1 v) (full_from cells a x 0 b.1) (full_in cells (a + 1) (x + b.1) bs) r.2),
+      omega (arith, is, cell),
+    ) in
     let cases : (t : Bool) → nat_lt y b.1 ≡ t → Listed cells a x (b ∷ bs) y v
     = λ t. elim t as (λ t. nat_lt y b.1 ≡ t → Listed cells a x (b ∷ bs) y v) [ true ↦ λ e. here (ltb-true y b.1 e) | false ↦ λ e. there (ltb-false y b.1 e) ] in
     cases (nat_lt y b.1) refl

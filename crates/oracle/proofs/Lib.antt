@@ -17,6 +17,7 @@ mod Performing
 mod Resolved
 mod Sends
 mod ShapeLaws
+mod Taken
 mod Telling
 mod Turning
 mod Views

@@ -140,12 +140,13 @@ module _ (g : Graph) (xs : List Invocation) (cs : List Context) (named : Named g
         | Some b ↦ (
           all_sent g cs (sent_of c v) made n p b (named.made c x.0 x.1),
           each_append (λ (t : Token). t.context ≡ c) (node_tokens (sent_of c v) n p b.1.inputs b.1.nodes) (results_tokens (sent_of c v) made b.1.inputs n p 0 b.1.results)
-          (nodes_of (sent_of c v) n p b.1.inputs b.1.nodes) (results_of (sent_of c v) made b.1.inputs n p 0 b.1.results),
+              (nodes_of (sent_of c v) n p b.1.inputs b.1.nodes) (results_of (sent_of c v) made b.1.inputs n p 0 b.1.results),
         )
       ] in
-      let r = blocks (slice_get g.blocks x.0.block) in
-      (ap (λ o. map (tagged_of cs) (sent_if g (sent_of c v) n p o)) x.1 ∙ r.0 ∙ ap (λ o. Meaning.sent_in o (name_in cs c) n p v) (sym block),
-      subst (λ o. AreOf c (sent_if g (sent_of c v) n p o)) (sym x.1) r.1)
+      let r = blocks (slice_get g.blocks x.0.block) in (
+        ap (λ o. map (tagged_of cs) (sent_if g (sent_of c v) n p o)) x.1 ∙ r.0 ∙ ap (λ o. Meaning.sent_in o (name_in cs c) n p v) (sym block),
+        subst (λ o. AreOf c (sent_if g (sent_of c v) n p o)) (sym x.1) r.1,
+      )
 
   pub tells_same : (k : ℕ) → (map (tagged_of cs) (told_in g xs (sent_of c v) k) ≡ predicates_in (block_of (flow_of g) (name_in cs c)) (name_in cs c) k v) × AreOf c (told_in g xs (sent_of c v) k)
   tells_same k =
@@ -154,6 +155,7 @@ module _ (g : Graph) (xs : List Invocation) (cs : List Context) (named : Named g
         | None ↦ (refl, tt)
         | Some b ↦ (told_same g cs (sent_of c v) k b.1.inputs b.1.nodes, told_of (sent_of c v) k b.1.inputs b.1.nodes)
       ] in
-      let r = blocks (slice_get g.blocks x.0.block) in
-      (ap (λ o. map (tagged_of cs) (told_if g (sent_of c v) k o)) x.1 ∙ r.0 ∙ ap (λ o. predicates_in o (name_in cs c) k v) (sym block),
-      subst (λ o. AreOf c (told_if g (sent_of c v) k o)) (sym x.1) r.1)
+      let r = blocks (slice_get g.blocks x.0.block) in (
+        ap (λ o. map (tagged_of cs) (told_if g (sent_of c v) k o)) x.1 ∙ r.0 ∙ ap (λ o. predicates_in o (name_in cs c) k v) (sym block),
+        subst (λ o. AreOf c (told_if g (sent_of c v) k o)) (sym x.1) r.1,
+      )

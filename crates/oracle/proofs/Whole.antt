@@ -91,17 +91,21 @@ RunOut g inputs n (Some r) = (j : ℕ) × (e : Ended g inputs j r.1.cells r.1.ou
 module _ (g : Graph) (text : HasText g) (well : WellFormed g) (inputs : List ℤ) (fit : length inputs ≡ inputs_of (flow_of g)) where
   steps_out : (n : ℕ) (s : Plain) (vs : List Value) (d : Deed) → Ready g inputs n s vs d → RunOut g inputs n (Some (Steps, s))
   steps_out n s vs d r =
-      let a = enabled g inputs n s vs d r in
-      (n, record {
-        run = r.run;
-        state = r.old;
-        is_run = r.is_run;
-        count = r.count;
-        memory = r.memory;
-        cell_count = r.sound.cell_count;
-        output_count = r.sound.output_count;
-        ended = (r.count, a);
-      }, omega arith, (r.count, a))
+      let a = enabled g inputs n s vs d r in (
+        n,
+        record {
+          run = r.run;
+          state = r.old;
+          is_run = r.is_run;
+          count = r.count;
+          memory = r.memory;
+          cell_count = r.sound.cell_count;
+          output_count = r.sound.output_count;
+          ended = (r.count, a);
+        },
+        omega arith,
+        (r.count, a),
+      )
 
   -- other ends than by the number of steps
   ends_out : (k n : ℕ) → k ≤ n → (s : Plain) (e : MeanEnd) → Outcome g inputs k (Ends s e) → RunOut g inputs n (Some (e, s))
