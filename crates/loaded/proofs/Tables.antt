@@ -1,15 +1,32 @@
 -- The tables by their numbers.
-use Rattle.std.proofs.Common.{◌≡◌, ℕ, zero, suc, ◌+◌, ◌<◌, ◌≤◌, List, [], ◌∷◌, length, map, take, sum, Option, Some, None, refl, sym, ap, ◌∙◌, arith, max}
+use Rattle.std.proofs.Common.{◌≡◌, ℕ, zero, suc, ◌+◌, ◌<◌, ◌≤◌, List, [], ◌∷◌, ◌++◌, length, map, take, sum, Option, Some, None, refl, sym, ap, ◌∙◌, arith, max}
 use Rattle.std.specs.Prelude.{slice_get, slice_index_or, sum_by}
 use Rattle.std.specs.Option.{option_map}
 use Rattle.std.proofs.lemmas.List.{take_all, get_or_past}
 use Rattle.std.proofs.lemmas.List.Sums.{sum-map, sum_by-cons}
 use Rattle.semantics.specs.Program.{CodeBlock, Program, first_of}
 use Rattle.semantics.specs.Rule.{array_base, array_len}
-use Rattle.object_view.proofs.Taken.{past}
 use Rattle.element.specs.declared.instructions.Array.{Array}
 use Rattle.loaded.specs.Ready.{entries_in, arrays_in, widest}
 
+-- A LIST THAT IS MADE OF ITS ELEMENTS, one after the other
+take_next : {X : Type 0} (n : ℕ) (xs : List X) (x : X) → slice_get xs n ≡ Some x → take (suc n) xs ≡ take n xs ++ x ∷ []
+take_next zero [] x e = absurd cc
+take_next (suc n) [] x e = absurd cc
+take_next zero (y ∷ ys) x e = let same : y ≡ x = cc in ap (λ z. z ∷ []) same
+take_next (suc n) (y ∷ ys) x e = ap (λ zs. y ∷ zs) (take_next n ys x e)
+
+pub one_more : {X : Type 0} (n : ℕ) (xs done next : List X) (x : X) → slice_get xs n ≡ Some x → done ≡ take n xs → next ≡ done ++ x ∷ [] → next ≡ take (n + 1) xs
+one_more n xs done next x e so made =
+    let up : suc n ≡ n + 1 = omega arith in
+    made ∙ ap (λ zs. zs ++ x ∷ []) so ∙ sym (take_next n xs x e) ∙ ap (λ k. take k xs) up
+
+past : {X : Type 0} (xs : List X) (n : ℕ) → slice_get xs n ≡ None → length xs ≤ n
+past [] n e = omega arith
+past (x ∷ xs) zero e = absurd cc
+past (x ∷ xs) (suc n) e = let below = past xs n e in omega arith
+
+-- ENTRIES
 abbrev size : CodeBlock → ℕ
 size b = length b.instrs
 
@@ -28,7 +45,7 @@ entry_there p k e h =
     let total = sum-map size (take k p.blocks) in
     omega arith
 
-count_entries : (first : ℕ) (bs : List CodeBlock) → length (entries_in first bs) ≡ length bs
+pub count_entries : (first : ℕ) (bs : List CodeBlock) → length (entries_in first bs) ≡ length bs
 count_entries first [] = refl
 count_entries first (b ∷ bs) = ap (λ n. suc n) (count_entries (first + length b.instrs) bs)
 
@@ -75,7 +92,7 @@ array_from base (n ∷ ns) (suc k) a h =
 pub array_there : (p : Program) (k : ℕ) (a : Array) → slice_get (arrays_in 0 p.arrays) k ≡ Some a → (a.base ≡ array_base p k) × (a.len ≡ array_len p k)
 array_there p k a h = let t = array_from 0 p.arrays k a h in (omega (arith, t.0), t.1)
 
-count_arrays : (base : ℕ) (ns : List ℕ) → length (arrays_in base ns) ≡ length ns
+pub count_arrays : (base : ℕ) (ns : List ℕ) → length (arrays_in base ns) ≡ length ns
 count_arrays base [] = refl
 count_arrays base (n ∷ ns) = ap (λ k. suc k) (count_arrays (base + n) ns)
 

@@ -64,7 +64,7 @@ impl<'a, A: Allocator> Loaded<'a, A> {
     pub fn new(alloc: A, object: Object<'a>) -> Result<Loaded<'a, A>, AllocError>
     where
         A: Clone,
-        ensures { IfOk result (λ l. l ≡ object) }
+        ensures { IfOk result (λ l. l ≡ object.entry) }
     {
         let entries = entries_of(alloc.clone()?, &object)?;
         let arrays = arrays_of(alloc, &object)?;
