@@ -120,3 +120,10 @@ few_cells v c a code =
         let all = sum_by-cons (λ x. x) n ns in
         let part = sum_by-cons (λ x. x) n (take k ns) in
         omega arith
+
+-- the cells of the first arrays
+pub few_so_far : (v : ℕ) (c : Code) (k : ℕ) → IsCode v c → sum (take k c.program.arrays) ≤ 65536
+few_so_far v c k code =
+    let part = sum_by-take-le (λ x. x) c.program.arrays k in
+    let cells = code.cells in
+    omega arith

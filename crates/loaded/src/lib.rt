@@ -66,6 +66,8 @@ impl<'a, A: Allocator> Loaded<'a, A> {
         A: Clone,
         ensures { IfOk result (λ l. l ≡ object.entry) }
     {
+        // What the bytes promise: the code is lawful.
+        let _bytes = object.bytes();
         let entries = entries_of(alloc.clone()?, &object)?;
         let arrays = arrays_of(alloc, &object)?;
         let cells = cells_of(&object);

@@ -50,9 +50,10 @@ pub fn cells_of(object: &Object<'_>) -> u32
     let _bytes = object.bytes();
     let mut cells = 0;
     for number in 0..object.array_count() {
-        if let Some(len) = object.array(number) {
-            cells += len as u32;
-        }
+        let Some(len) = object.array(number) else {
+            return cells;
+        };
+        cells += len as u32;
     }
     cells
 }
@@ -63,9 +64,10 @@ pub fn most_slots(object: &Object<'_>) -> u32
 {
     let mut most = 1;
     for number in 0..object.block_count() {
-        if let Some(block) = object.block(number) {
-            most = most.max(block.slots);
-        }
+        let Some(block) = object.block(number) else {
+            return most;
+        };
+        most = most.max(block.slots);
     }
     most
 }
