@@ -1,22 +1,21 @@
 -- Emitted code is alike to the placed program, and so is the program of a plan to that with a slot for each holder.
-use Rattle.std.proofs.Common.{◌≡◌, ◌≢◌, refl, sym, ap, ◌∙◌, subst, ℕ, zero, suc, ◌+◌, ◌<◌, ◌≤◌, Bool, true, false, List, [], ◌∷◌, ◌++◌, length, map, Option, Some, None, arith, All, Contains}
-use Rattle.std.specs.Prelude.{slice_get, slice_index_or, take, drop}
+use Rattle.std.proofs.Common.{◌≡◌, refl, sym, ap, ◌∙◌, ℕ, Bool, true, false, List, [], ◌∷◌, ◌++◌, length, Some, arith, All}
+use Rattle.std.specs.Prelude.{take, drop}
 use Rattle.std.proofs.lemmas.List.Elements.{All-head, All-tail}
-use Rattle.tags.specs.declared.value.Origin.{Origin}
 use Rattle.tags.specs.declared.value.Origin.TheVariants.{Untold}
 use Rattle.semantics.specs.declared.program.Dest.{Dest}
 use Rattle.semantics.specs.declared.program.Op.{Op}
-use Rattle.semantics.specs.declared.program.Op.TheVariants.{Apply1, Apply2, Apply2Right, Apply2Left, Lit, Copy, Sync, Switch, Fetch, Store, Frame, Link, Send, Return, Ask, Open, Take, Give, Drain, Release}
-use Rattle.semantics.specs.Program.{Instr, CodeBlock, Program}
+use Rattle.semantics.specs.declared.program.Op.TheVariants.{Apply2, Sync, Switch, Fetch, Store, Frame, Link, Send, Return, Ask, Open, Take, Give, Drain, Release}
+use Rattle.semantics.specs.Program.{Instr, CodeBlock}
 use Rattle.semantics.specs.Rule.{slot_of}
 use Rattle.semantics.specs.Bytes.{may_fault}
-use Rattle.semantics.specs.Plan.{Plan, HasShape, IsPlanBlock, IsPlan}
+use Rattle.semantics.specs.Plan.{Plan, HasShape, IsPlan}
 use Rattle.semantics.specs.Sharing.{placed_slot, placed_instrs}
-use Rattle.semantics.specs.Placed.{needed, placed_blocks, placed}
+use Rattle.semantics.specs.Placed.{placed_blocks, placed}
 use Rattle.select.specs.declared.Version.{Version}
 use Rattle.select.specs.declared.Version.TheVariants.{One, Two}
-use Rattle.select.specs.Emitted.{version_number, told, has_sides, firsts_of, seconds_of, emitted, emitted_instrs, emitted_blocks, emitted_program, code_of}
-use Rattle.emitted.specs.Alike.{is_split, AreAlikeInstrs, AllAlike, AreAlikeBlocks, AllBlocksAlike, AreAlike}
+use Rattle.select.specs.Emitted.{version_number, told, has_sides, firsts_of, seconds_of, emitted, emitted_instrs, emitted_blocks, code_of}
+use Rattle.emitted.specs.Alike.{is_split, AreAlikeInstrs, AllAlike, AllBlocksAlike, AreAlike}
 use Rattle.emitted.specs.SameRuns.{HasOrigins}
 
 -- DESTINATIONS
@@ -112,9 +111,10 @@ blocks_alike : (version : Version) (slots : List (List ℕ)) (cs : List CodeBloc
     → AllBlocksAlike (placed_blocks slots cs) (emitted_blocks (version_number version) (placed_blocks slots cs))
 blocks_alike version [] cs h = tt
 blocks_alike version (ss ∷ more) [] h = tt
-blocks_alike version (ss ∷ more) (c ∷ cs) h =
-    (record { inputs = refl; outputs = refl; instrs = instrs_alike version ss c.instrs (All-head (λ (c : CodeBlock). All (IsShaped version) c.instrs) c cs h) },
-     blocks_alike version more cs (All-tail (λ (c : CodeBlock). All (IsShaped version) c.instrs) c cs h))
+blocks_alike version (ss ∷ more) (c ∷ cs) h = (
+  record { inputs = refl; outputs = refl; instrs = instrs_alike version ss c.instrs (All-head (λ (c : CodeBlock). All (IsShaped version) c.instrs) c cs h) },
+  blocks_alike version more cs (All-tail (λ (c : CodeBlock). All (IsShaped version) c.instrs) c cs h),
+)
 
 tells_all : (version : Version) (p : Plan) → HasOrigins version p → All (λ (c : CodeBlock). All (CanTell version) c.instrs) p.program.blocks
 tells_all One p h = h

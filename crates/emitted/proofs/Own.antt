@@ -1,15 +1,15 @@
 -- A slot for each holder: these slots are good, and the code does what the plan's program does.
-use Rattle.std.proofs.Common.{◌≡◌, ◌≢◌, refl, sym, ap, ◌∙◌, subst, ℕ, zero, suc, ◌+◌, ◌<◌, ◌≤◌, List, [], ◌∷◌, length, map, Option, Some, None, arith, All, Contains}
+use Rattle.std.proofs.Common.{◌≡◌, refl, sym, ap, ◌∙◌, subst, ℕ, zero, suc, ◌+◌, ◌<◌, ◌≤◌, List, [], ◌∷◌, length, map, Option, Some, arith, All, Contains}
 use Rattle.std.specs.Prelude.{slice_get, slice_index_or}
 use Rattle.std.proofs.lemmas.List.Elements.{All-nil, All-cons, All-head, All-tail, All-weaker, All-contains_itself}
 use Rattle.semantics.specs.declared.program.Op.{Op}
-use Rattle.semantics.specs.declared.program.Op.TheVariants.{Apply1, Apply2, Apply2Right, Apply2Left, Lit, Copy, Sync, Switch, Fetch, Store, Frame, Link, Send, Return, Ask, Open, Take, Give, Drain, Release}
-use Rattle.semantics.specs.Program.{Instr, CodeBlock, Program}
+use Rattle.semantics.specs.declared.program.Op.TheVariants.{Apply2, Sync, Switch, Store, Send, Return, Ask, Open, Take, Give, Drain, Release}
+use Rattle.semantics.specs.Program.{Instr, CodeBlock}
 use Rattle.semantics.specs.Rule.{slot_of}
 use Rattle.semantics.specs.Plan.{Plan, IsPlanBlock, IsPlan}
 use Rattle.semantics.specs.Sharing.{placed_slot, placed_instrs, IsGoodBlock, Good}
-use Rattle.semantics.specs.Placed.{needed, placed_blocks, placed}
-use Rattle.emitted.specs.Alike.{AreAlikeInstrs, AllAlike, AreAlikeBlocks, AllBlocksAlike, AreAlike}
+use Rattle.semantics.specs.Placed.{placed_blocks, placed}
+use Rattle.emitted.specs.Alike.{AllAlike, AllBlocksAlike, AreAlike}
 use Rattle.emitted.specs.SameRuns.{row_from, own_slots, HasFewHolders}
 
 row_length : (first n : ℕ) → length (row_from first n) ≡ n
@@ -95,25 +95,29 @@ slot_put n x y op within is = by op (slot_of x op) refl within is
 
 instrs_own : (n : ℕ) (is : List Instr) → All (IsWithin n) is → AllAlike is (placed_instrs (row_from 0 n) is)
 instrs_own n [] h = tt
-instrs_own n (i ∷ is) h =
-    (record {
-      op = refl;
-      slot = slot_put n i (put (row_from 0 n) i) i.op (All-head (IsWithin n) i is h) refl;
-      dests = refl;
-      firsts = λ e. refl;
-      seconds = λ e. refl;
-      origin = λ e. refl;
-    }, instrs_own n is (All-tail (IsWithin n) i is h))
+instrs_own n (i ∷ is) h = (
+  record {
+    op = refl;
+    slot = slot_put n i (put (row_from 0 n) i) i.op (All-head (IsWithin n) i is h) refl;
+    dests = refl;
+    firsts = λ e. refl;
+    seconds = λ e. refl;
+    origin = λ e. refl;
+  },
+  instrs_own n is (All-tail (IsWithin n) i is h),
+)
 
 blocks_own : (cs : List CodeBlock) → All IsPlanBlock cs → AllBlocksAlike cs (placed_blocks (map (λ (c : CodeBlock). row_from 0 c.slots) cs) cs)
 blocks_own [] h = tt
 blocks_own (c ∷ cs) h =
-    let plan : IsPlanBlock c = All-head IsPlanBlock c cs h in
-    (record {
-      inputs = refl;
-      outputs = refl;
-      instrs = instrs_own c.slots c.instrs (All-weaker (Contains c.instrs) (IsWithin c.slots) (λ i has s used. plan.below i s has used) c.instrs (All-contains_itself c.instrs));
-    }, blocks_own cs (All-tail IsPlanBlock c cs h))
+    let plan : IsPlanBlock c = All-head IsPlanBlock c cs h in (
+      record {
+        inputs = refl;
+        outputs = refl;
+        instrs = instrs_own c.slots c.instrs (All-weaker (Contains c.instrs) (IsWithin c.slots) (λ i has s used. plan.below i s has used) c.instrs (All-contains_itself c.instrs));
+      },
+      blocks_own cs (All-tail IsPlanBlock c cs h),
+    )
 
 pub own_alike : (p : Plan) → IsPlan p → AreAlike p.program (placed p (own_slots p))
 own_alike p plan = record { blocks = blocks_own p.program.blocks plan.blocks; arrays = refl; main = refl }

@@ -1,8 +1,8 @@
 -- Alike programs have the same events.
-use Rattle.std.proofs.Common.{◌≡◌, refl, sym, ap, ◌∙◌, subst, ℕ, zero, suc, ◌+◌, ◌-◌, ◌*◌, Bool, true, false, nat_lt, ◌==◌, if◌then◌else◌, ℤ, List, [], ◌∷◌, ◌++◌, length, map, take, sum, Option, Some, None}
-use Rattle.std.specs.Prelude.{slice_get, slice_index_or, IsPermutation, ◌↔◌}
+use Rattle.std.proofs.Common.{◌≡◌, refl, sym, ap, ◌∙◌, subst, ℕ, zero, suc, ◌+◌, ◌-◌, ◌*◌, Bool, true, false, nat_lt, ◌==◌, if◌then◌else◌, ℤ, List, [], ◌∷◌, length, map, take, sum, Option, Some, None}
+use Rattle.std.specs.Prelude.{slice_get, slice_index_or, IsPermutation}
 use Rattle.tags.specs.declared.token.Port.{Port}
-use Rattle.tags.specs.declared.token.Port.TheVariants.{Left, Right}
+use Rattle.tags.specs.declared.token.Port.TheVariants.{Left}
 use Rattle.tags.specs.declared.token.Cont.{Cont}
 use Rattle.tags.specs.declared.token.Word.{Word}
 use Rattle.tags.specs.declared.token.To.{To}
@@ -10,13 +10,12 @@ use Rattle.tags.specs.declared.token.Token.{Token}
 use Rattle.tags.specs.declared.slot.SlotState.{SlotState}
 use Rattle.tags.specs.declared.slot.SlotState.TheVariants.{Empty}
 use Rattle.semantics.specs.Program.{Instr, CodeBlock, Program, first_of, instr_from, instr_at}
-use Rattle.semantics.specs.Rule.{Seat, token, Outcome, rule_at, slot_of, array_base, array_len}
-use Rattle.semantics.specs.Machine.{Machine, Store, Size, CellState, Vacant, Event, Events, Run, Fires, Hosts, Happens, at_start, input_tokens, slot_in, slot_used, excluded_by, host_rule, stuck_rule, results_in, outputs_of}
-use Rattle.semantics.specs.Orderly.{inputs_in}
+use Rattle.semantics.specs.Rule.{Seat, token, Outcome, rule_at}
+use Rattle.semantics.specs.Machine.{Machine, Store, Size, Vacant, Event, Events, Run, Fires, Hosts, Happens, at_start, input_tokens, slot_in, slot_used, excluded_by, host_rule, stuck_rule, results_in, outputs_of}
 use Rattle.semantics.specs.Bytes.{may_fault}
-use Rattle.emitted.specs.Alike.{is_split, AreAlikeInstrs, AllAlike, AreAlikeBlocks, AllBlocksAlike, AreAlike}
+use Rattle.emitted.specs.Alike.{is_split, AreAlikeInstrs, AllAlike, AllBlocksAlike, AreAlike}
 use Rattle.emitted.specs.Same.{HaveSameEvents}
-use Rattle.emitted.proofs.Rules.{TellSame, AreAlikeAt, rule_same}
+use Rattle.emitted.proofs.Rules.{TellSame, rule_same}
 
 -- THE OTHER WAY ROUND
 instr_back : (i j : Instr) → AreAlikeInstrs i j → AreAlikeInstrs j i

@@ -1,25 +1,21 @@
 -- What is promised of a program is kept by each that is alike.
-use Rattle.std.proofs.Common.{◌≡◌, refl, sym, ap, ◌∙◌, subst, ℕ, zero, suc, ◌+◌, ◌*◌, ◌≤◌, ◌<◌, max, Bool, true, false, nat_lt, ◌==◌, ◌&&◌, if◌then◌else◌, ℤ, List, [], ◌∷◌, ◌++◌, length, Option, Some, None, ◌⊎◌, inl, inr, arith}
-use Rattle.std.specs.Prelude.{slice_get, flat_map, count_by, Contains, IsPermutation}
-use Rattle.tags.specs.declared.token.Port.{Port}
-use Rattle.tags.specs.declared.token.Cont.{Cont}
-use Rattle.tags.specs.declared.token.Word.{Word}
+use Rattle.std.proofs.Common.{◌≡◌, refl, sym, ap, ◌∙◌, subst, ℕ, zero, suc, ◌+◌, ◌*◌, ◌≤◌, max, Bool, ◌==◌, ◌&&◌, if◌then◌else◌, ℤ, List, [], ◌∷◌, ◌++◌, length, Option, Some, None, ◌⊎◌, inl, inr, arith}
+use Rattle.std.specs.Prelude.{slice_get, flat_map, count_by, IsPermutation}
 use Rattle.tags.specs.declared.token.To.{To}
 use Rattle.tags.specs.declared.token.Token.{Token}
 use Rattle.tags.specs.declared.slot.SlotState.{SlotState}
-use Rattle.tags.specs.declared.slot.SlotState.TheVariants.{Waiter}
-use Rattle.semantics.specs.Graph.{Flow, Block}
+use Rattle.semantics.specs.Graph.{Flow}
 use Rattle.semantics.specs.declared.program.Op.{Op}
 use Rattle.semantics.specs.declared.program.Op.TheVariants.{Link, Open, Take}
 use Rattle.semantics.specs.Program.{Instr, CodeBlock, Program, instr_at}
 use Rattle.semantics.specs.Rule.{slot_of}
-use Rattle.semantics.specs.Machine.{Machine, Store, Size, Event, Events, Run, at_start, slot_in, slot_used, Resting, stuck_rule}
+use Rattle.semantics.specs.Machine.{Machine, Store, Size, Events, Run, at_start, slot_in, slot_used}
 use Rattle.semantics.specs.Faithful.{Faithful, IsRun, IsBounded, largest}
-use Rattle.semantics.specs.Cause.{HasBounds, HasCause, coded_blocks, loop_bounds, open_bounds, opened_by, seeks_credit, is_credit_event, credit_count, request_count}
+use Rattle.semantics.specs.Cause.{HasBounds, HasCause, loop_bounds, opened_by, seeks_credit, is_credit_event, credit_count, request_count}
 use Rattle.semantics.specs.Reuse.{ReleasesLast}
 use Rattle.semantics.specs.Plan.{Plan}
 use Rattle.semantics.specs.Handed.{Tenure, IsJustOut}
-use Rattle.semantics.specs.Credits.{granted_by, granted_in, granted_at, granted, released_by, released_in, released_at, released, IsPart, IsLink, IsLoop, KeepsBound}
+use Rattle.semantics.specs.Credits.{granted_by, granted_in, granted_at, granted, released_by, released_in, released_at, released, IsPart, IsLink, IsLoop}
 use Rattle.semantics.specs.Holders.{Holder, holder_at, same_holder, held_after, uses_slot, held_by_event, holds}
 use Rattle.emitted.specs.Alike.{AreAlikeInstrs, AllAlike, AreAlikeBlocks, AllBlocksAlike, AreAlike}
 use Rattle.emitted.specs.Same.{KeepsBoundsAs, HoldsAloneAs}
@@ -98,10 +94,11 @@ module _ (p q : Program) (alike : AreAlike p q) where
   credits_same events = ap (λ (test : ℕ × Token → Bool). count_by test events) (λ k ev. credit_same ev k)
 
   pub bounds_kept : (fl : Flow) → HasBounds fl p → HasBounds fl q
-  bounds_kept fl h =
-      (sym (as_many_blocks p.blocks q.blocks alike.blocks) ∙ h.0,
-       λ b d g at graph. let o = other_block q.blocks p.blocks b d there.blocks at in
-           subst (λ (l : List ℕ). IsPermutation l (loop_bounds g)) (sym (same_bounds d.instrs o.0.instrs o.2.instrs)) (h.1 b o.0 g o.1 graph))
+  bounds_kept fl h = (
+    sym (as_many_blocks p.blocks q.blocks alike.blocks) ∙ h.0,
+    λ b d g at graph. let o = other_block q.blocks p.blocks b d there.blocks at in
+        subst (λ (l : List ℕ). IsPermutation l (loop_bounds g)) (sym (same_bounds d.instrs o.0.instrs o.2.instrs)) (h.1 b o.0 g o.1 graph),
+  )
 
   pub bounded_kept : (events : Events) → IsBounded p events → IsBounded q events
   bounded_kept events h = subst (λ (n : ℕ). length events ≤ 6 * (n + 1) * (1 + request_count events)) (same_largest p.blocks q.blocks alike.blocks) h

@@ -1,5 +1,5 @@
 -- Alike instructions do the same with a token.
-use Rattle.std.proofs.Common.{◌≡◌, refl, sym, ap, ◌∙◌, subst, ℕ, zero, suc, ◌+◌, ◌-◌, Bool, true, false, nat_lt, ◌==◌, if◌then◌else◌, ℤ, List, [], ◌∷◌, ◌++◌, Option, Some, None}
+use Rattle.std.proofs.Common.{◌≡◌, refl, sym, ap, ◌∙◌, ℕ, zero, suc, ◌+◌, ◌-◌, Bool, true, false, nat_lt, ◌==◌, if◌then◌else◌, ℤ, List, [], ◌∷◌, ◌++◌, Some}
 use Rattle.std.specs.Prelude.{take}
 use Rattle.tags.specs.declared.value.Value.{Value}
 use Rattle.tags.specs.declared.value.Value.TheVariants.{Int, Fault}
@@ -13,13 +13,13 @@ use Rattle.tags.specs.declared.slot.SlotState.{SlotState}
 use Rattle.tags.specs.declared.slot.SlotState.TheVariants as Slot
 use Rattle.tags.specs.declared.slot.SlotState.TheVariants.{Empty, Credits, Waiter, Draining}
 use Rattle.operators.specs.declared.Binary.{Binary}
-use Rattle.operators.specs.declared.Binary.TheVariants.{Add, Sub, Mul, Div, Rem, And, Or, Xor, Shl, Shr, Eq, Ne, Lt, Le}
-use Rattle.operators.specs.Values.{truth, apply1, apply2, on_ints, unless_zero, is_nonzero, Indexed, Place, Outside, index_in}
+use Rattle.operators.specs.declared.Binary.TheVariants.{Div, Rem}
+use Rattle.operators.specs.Values.{truth, apply1, apply2, on_ints, Indexed, Place, Outside, index_in}
 use Rattle.semantics.specs.declared.program.Dest.{Dest}
 use Rattle.semantics.specs.declared.program.Op.{Op}
 use Rattle.semantics.specs.declared.program.Op.TheVariants.{Apply1, Apply2, Apply2Right, Apply2Left, Lit, Copy, Sync, Switch, Fetch, Store, Frame, Link, Send, Return, Ask, Open, Take, Give, Drain, Release}
 use Rattle.semantics.specs.Program.{Instr, Program, first_of}
-use Rattle.semantics.specs.Rule.{Seat, token, signal, to_each, to_all, answer_to, landing_at, beyond, Outcome, Becomes, Excluded, fires, array_base, array_len, asks_for, puts, fire_one, fire_two, meets, opens, takes, gives, drains, alone, on_left, outcome_of}
+use Rattle.semantics.specs.Rule.{Seat, token, signal, to_each, to_all, answer_to, landing_at, beyond, Becomes, Excluded, fires, array_base, array_len, asks_for, puts, fire_one, fire_two, meets, opens, gives, drains, alone, on_left, outcome_of}
 use Rattle.semantics.specs.Bytes.{may_fault}
 use Rattle.emitted.specs.Alike.{is_split}
 

@@ -1,8 +1,6 @@
 -- Programs that differ only in what no event shows: how destinations are split where all of them are sent to, origins
 -- where no fault is made, and slots where none is used.
-use Rattle.std.specs.Prelude.{◌≡◌, Bool, true, false, List, [], ◌∷◌, ◌++◌, Option, Some, None, ⊤}
-use Rattle.operators.specs.declared.Binary.{Binary}
-use Rattle.operators.specs.declared.Binary.TheVariants.{Div, Rem}
+use Rattle.std.specs.Prelude.{◌≡◌, Bool, true, false, List, [], ◌∷◌, ◌++◌, ⊤}
 use Rattle.semantics.specs.declared.program.Op.{Op}
 use Rattle.semantics.specs.declared.program.Op.TheVariants.{Switch, Fetch, Store, Frame, Link, Ask}
 use Rattle.semantics.specs.Program.{Instr, CodeBlock, Program}

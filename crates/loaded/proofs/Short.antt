@@ -1,13 +1,13 @@
 -- The numbers of lawful code leave room for sums.
-use Rattle.std.proofs.Common.{◌≡◌, ℕ, zero, suc, ◌+◌, ◌-◌, ◌*◌, ◌^◌, ◌<◌, ◌≤◌, Bool, true, false, nat_lt, if◌then◌else◌, List, [], ◌∷◌, length, map, take, sum, Option, Some, None, refl, sym, ap, subst, ◌∙◌, arith, max, All}
-use Rattle.std.specs.Prelude.{slice_get, slice_index_or, sum_by, IfSome, option_to_list}
-use Rattle.std.proofs.lemmas.Bool.{ltb-true, ltb-false}
+use Rattle.std.proofs.Common.{◌≡◌, ℕ, zero, suc, ◌+◌, ◌-◌, ◌*◌, ◌^◌, ◌<◌, ◌≤◌, Bool, true, false, nat_lt, if◌then◌else◌, List, [], ◌∷◌, length, map, take, sum, Option, Some, None, refl, arith, All}
+use Rattle.std.specs.Prelude.{slice_get, slice_index_or, IfSome, option_to_list}
+use Rattle.std.proofs.lemmas.Bool.{ltb-true}
 use Rattle.std.proofs.lemmas.List.Elements.{All-head, All-tail}
-use Rattle.std.proofs.lemmas.List.Sums.{sum-map, sum_by-cons, sum_by-take-le}
+use Rattle.std.proofs.lemmas.List.Sums.{sum_by-cons, sum_by-take-le}
 use Rattle.semantics.specs.declared.program.Dest.{Dest}
 use Rattle.semantics.specs.declared.program.Op.{Op}
 use Rattle.semantics.specs.declared.program.Op.TheVariants.{Apply1, Apply2, Apply2Right, Apply2Left, Lit, Copy, Sync, Switch, Fetch, Store, Frame, Link, Send, Return, Ask, Open, Take, Give, Drain, Release}
-use Rattle.semantics.specs.Program.{Instr, CodeBlock, Program, Code, first_of, instr_from, instr_at}
+use Rattle.semantics.specs.Program.{Instr, CodeBlock, Code, first_of, instr_from, instr_at}
 use Rattle.semantics.specs.Rule.{slot_of, array_base, array_len}
 use Rattle.semantics.specs.Bytes.{IsCode, IsCodeBlock, IsInstr, IsSlot, IsDest}
 use Rattle.element.specs.declared.instructions.Instruction.{Instruction}

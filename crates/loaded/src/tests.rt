@@ -83,8 +83,20 @@ fn its_instructions_are_read(rt: HostRuntime) {
     let loaded = Loaded::new(rt.alloc(), object).expect(&rt, "there is memory");
     let first = loaded.instr(0).expect(&rt, "it is there");
     assert!(rt; first.op == Op::Copy);
-    assert!(rt; first.first == Some(Dest { ahead: 4, port: Port::Left }));
-    assert!(rt; first.second == Some(Dest { ahead: 5, port: Port::Left }));
+    assert!(rt;
+        first.first
+            == Some(Dest {
+                ahead: 4,
+                port: Port::Left
+            })
+    );
+    assert!(rt;
+        first.second
+            == Some(Dest {
+                ahead: 5,
+                port: Port::Left
+            })
+    );
     let second = loaded.instr(1).expect(&rt, "it is there");
     assert!(rt; second.second.is_none());
     assert!(rt; loaded.instr(5).is_some());

@@ -1,5 +1,4 @@
-use Rattle.std.proofs.Common.{◌≡◌, ◌<◌, ◌≤◌, ℕ, length, sym, ap, ◌∙◌, subst}
-use Rattle.std.specs.Prelude.{slice_index_or}
+use Rattle.std.proofs.Common.{◌≡◌, ap, ◌∙◌}
 use Rattle.semantics.specs.Program.{first_of}
 use Rattle.loaded.proofs.Seen.{ready}
 use Rattle.loaded.proofs.Tables.{entry_found, entry_beyond}

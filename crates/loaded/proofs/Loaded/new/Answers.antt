@@ -1,4 +1,3 @@
-use Rattle.std.proofs.Common.{rules}
 use Rattle.loaded.proofs.Loaded.new.Goals as goal
 
 pub invariant_of-result : goal.invariant_of-result

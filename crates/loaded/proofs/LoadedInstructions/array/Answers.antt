@@ -1,4 +1,4 @@
-use Rattle.std.proofs.Common.{◌<◌, ◌^◌, ℕ, sym, subst, arith}
+use Rattle.std.proofs.Common.{arith}
 use Rattle.loaded.proofs.Seen.{ready}
 use Rattle.loaded.proofs.Tables.{array_found, array_beyond}
 use Rattle.loaded.proofs.Short.{few_cells}

@@ -1,4 +1,4 @@
-use Rattle.std.proofs.Common.{◌≡◌, ◌+◌, sym, ◌∙◌, arith, rules}
+use Rattle.std.proofs.Common.{◌≡◌, ◌+◌, sym, ◌∙◌, arith}
 use Rattle.std.specs.Prelude.{Some, slice_get}
 use Rattle.loaded.specs.Ready.{arrays_in}
 use Rattle.loaded.proofs.Tables.{told_array, one_more, all_arrays, sum_next}
@@ -18,10 +18,11 @@ loop-number-preserved g c =
     let p = c.args.object.now.code.program in
     let is : slice_get p.arrays c.loop-number.number ≡ Some c.in-Some.len = sym c.array.ensures ∙ c.in-Some.is in
     let next = sum_next p.arrays c.loop-number.number c.in-Some.len is in
-    let base = c.loop-number.invariant.1 in
-    (one_more c.loop-number.number (arrays_in 0 p.arrays) c.loop-number.arrays.items c.push.new.self.items (record { base = c.loop-number.base; len = c.in-Some.len })
-        (told_array p c.loop-number.base c.loop-number.number c.in-Some.len is base) c.loop-number.invariant.0 c.in_ok-push.ensures.items,
-     omega arith)
+    let base = c.loop-number.invariant.1 in (
+      one_more c.loop-number.number (arrays_in 0 p.arrays) c.loop-number.arrays.items c.push.new.self.items (record { base = c.loop-number.base; len = c.in-Some.len })
+          (told_array p c.loop-number.base c.loop-number.number c.in-Some.len is base) c.loop-number.invariant.0 c.in_ok-push.ensures.items,
+      omega arith,
+    )
 
 pub returns : goal.returns
 returns g c = all_arrays c.args.object.now.code.program.arrays c.loop-number.number c.loop-number.arrays.items c.loop-number.invariant.0 (omega (arith, c.loop-number-test.false, c.array_count-number-end.ensures))

@@ -1,9 +1,7 @@
-use Rattle.std.proofs.Common.{◌≡◌, ◌+◌, sym, ap, ◌∙◌, arith, take, sum}
-use Rattle.std.specs.Prelude.{Some, slice_get}
+use Rattle.std.proofs.Common.{◌+◌, sym, ◌∙◌, arith}
 use Rattle.loaded.proofs.Tables.{sum_next}
 use Rattle.loaded.proofs.Short.{few_so_far}
 use Rattle.loaded.proofs.making.cells_of.Goals as goal
-
 
 pub overflow_add-cells : goal.overflow_add-cells
 overflow_add-cells c =
