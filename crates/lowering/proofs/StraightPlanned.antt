@@ -1,5 +1,5 @@
 -- The plan of a straight graph, which has the graph's program and no marks, is a plan, and it is wired.
-use Rattle.std.proofs.Common.{◌≡◌, ◌≢◌, ℕ, zero, suc, ◌+◌, ◌-◌, ◌<◌, ◌≤◌, Bool, true, false, List, [], ◌∷◌, ◌++◌, map, length, refl, sym, ap, ◌∙◌, subst, inl, inr, ◌⊎◌, arith, Option, Some, None, ◌==◌, if◌then◌else◌}
+use Rattle.std.proofs.Common.{◌≡◌, ℕ, zero, suc, ◌+◌, ◌-◌, ◌<◌, ◌≤◌, Bool, true, false, List, [], ◌∷◌, ◌++◌, map, length, refl, sym, ap, ◌∙◌, subst, inl, inr, ◌⊎◌, arith, Option, Some, None, ◌==◌, if◌then◌else◌}
 use Rattle.std.specs.Prelude.{All, Contains, slice_get, option_map}
 use Rattle.std.proofs.lemmas.Bool.{cases_order}
 use Rattle.std.proofs.lemmas.Option.{slice_get-map, slice_get-get_or}
@@ -15,18 +15,18 @@ use Rattle.semantics.specs.declared.program.Op.TheVariants as Op
 use Rattle.semantics.specs.declared.program.Mark.TheVariants.{Unmarked}
 use Rattle.semantics.specs.Program.{Instr, CodeBlock, Program}
 use Rattle.semantics.specs.Rule.{slot_of}
-use Rattle.semantics.specs.Plan.{Plan, mark_at, HasShape, OneHolder, IsFirst, IsPlanBlock, IsPlan}
+use Rattle.semantics.specs.Plan.{Plan, mark_at, HasShape, IsFirst, IsPlanBlock}
 use Rattle.semantics.specs.Sharing as Sharing
 use Rattle.semantics.specs.Sharing.{Arc, arc, arcs_to, arcs_from, arcs_of}
 use Rattle.semantics.specs.Wired as Wired
 use Rattle.semantics.specs.Wired.{NoPart, part_of, bound_of, StandsAt, LoopsAgree}
-use Rattle.lowering.specs.Roles.{Role, Start, Line, Result, Join, End, Shown, Done, Freed, Copy, is_instr, op_for, op_at, op_of, Inlet, inlet, is_pair, is_pair_at, is_two, IsThere, IsWire, Use}
+use Rattle.lowering.specs.Roles.{Role, Start, Line, Result, Join, End, is_instr, op_for, op_at, op_of, Inlet, inlet, is_pair, is_pair_at, is_two, IsThere, IsWire, Use}
 use Rattle.lowering.specs.Implements.{IsStraightBlock, IsStraight}
 use Rattle.lowering.specs.StraightPlan.{count_below, inlet_of, uses_of, is_unused, unused, join_count, end_to, join_to, or_end, results_from, straight_wire, straight_place, straight_wiring, straight_slot, straight_roles, counted, dest_to, is_pair_line, instr_for, straight_code, straight_codes, straight_program}
 use Rattle.lowering.proofs.Counts.{count-find}
 use Rattle.lowering.proofs.StraightUses.{at_node, at_out}
 use Rattle.lowering.proofs.StraightWired.{lawful_wires}
-use Rattle.lowering.proofs.StraightProgram.{role_at, instr_here, rises, slots_apart, line_slot, line_slot_below}
+use Rattle.lowering.proofs.StraightProgram.{instr_here, rises, slots_apart, line_slot, line_slot_below}
 use Rattle.determinacy.proofs.Resolved.{all_get}
 
 below_or : (m n : ℕ) → (m < n) ⊎ (n ≤ m)
@@ -245,24 +245,21 @@ module _ (version number : ℕ) (b : Block ℕ) (flat : IsStraightBlock b) where
   used_by : (r : Role) (h : ℕ) → IsThere b (straight_wiring b) r → is_instr r ≡ true → is_two b r ≡ true → straight_slot b r ≡ h → IsUsed h
   used_by r h there one two e = (straight_place b r, instr r, instr_here version number b flat r there one, (has r two).0 ∙ ap (λ n. Some n) e, first r)
 
+  abbrev pairs : ℕ
+  pairs = count_below (is_pair_line b) (node_count b)
+
   used : (h : ℕ) → h < straight_slot b End + 1 → IsUsed h
   used h l = in_lines (below_or h pairs)
     where
-      pairs : ℕ
-      pairs = count_below (is_pair_line b) (node_count b)
-
       in_joins : b.outputs + pairs ≤ h → (h < pairs + b.outputs + join_count b) ⊎ (pairs + b.outputs + join_count b ≤ h) → IsUsed h
-      unfolding pairs
       in_joins g (inl k) = used_by (Join (h - (pairs + b.outputs))) h (omega (arith, g, k)) refl refl (omega (arith, g))
       in_joins g (inr k) = used_by End h tt refl refl (omega (arith, k, l))
 
       in_results : pairs ≤ h → (h < pairs + b.outputs) ⊎ (pairs + b.outputs ≤ h) → IsUsed h
-      unfolding pairs
       in_results g (inl k) = used_by (Result (h - pairs)) h (omega (arith, g, k)) refl refl (omega (arith, g))
       in_results g (inr k) = in_joins (omega (arith, k)) (below_or h (pairs + b.outputs + join_count b))
 
       in_lines : (h < pairs) ⊎ (pairs ≤ h) → IsUsed h
-      unfolding pairs
       in_lines (inl k) =
           let f = count-find (is_pair_line b) (node_count b) h k in
           used_by (Line f.0) h f.1 refl f.2 (line_slot version number b flat f.0 f.2 ∙ f.3)
