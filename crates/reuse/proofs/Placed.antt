@@ -17,7 +17,7 @@ use Rattle.semantics.specs.Plan.{Plan}
 use Rattle.semantics.specs.Sharing.{placed_slot}
 use Rattle.semantics.specs.Placed.{placed, placed_blocks}
 use Rattle.reuse.proofs.Fold.{put_same, put_other}
-use Rattle.reuse.proofs.Places.{outcome_same, first_same, moved_to, Agrees, agrees_put}
+use Rattle.reuse.proofs.Places.{outcome_same, first_same, moved_to, Agrees, agrees_at, agrees_put}
 
 abbrev pub in_slot : ℕ → Option ℕ → Option ℕ
 in_slot r None = None
@@ -86,7 +86,7 @@ slot_fires ss f m u new None does made only A e = none_fires ss f m u new (does 
 slot_fires ss f m u new (Some h) does made only A e =
     let s : ℕ = slice_index_or ss h 0 in
     let here = only h refl in
-    let same : m.slots f s ≡ u.slots f h = A s h here.0 here.1 in
+    let same : m.slots f s ≡ u.slots f h = agrees_at ss (m.slots f) (u.slots f) A h s here.0 here.1 in
     put_fires ss f h s m u new (does (u.slots f h)) made here.0 here.1 A (subst (λ (v : SlotState). Fires m f (Some s) (does v) made new) same e)
 
 pub instr_placed : (p : Plan) (slots : List (List ℕ)) → length slots ≡ length p.program.blocks → (t : ℕ) (m u new : MStore) (f ip : ℕ) (q : Port) (w : Word) (made : List Token) (ss : List ℕ) (i : Instr)

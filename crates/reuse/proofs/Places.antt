@@ -1,5 +1,5 @@
 -- The slot half, an instruction: the placed code has the rule of the plan, and a slot that one holder has is that holder's.
-use Rattle.std.proofs.Common.{◌≡◌, refl, sym, ap, ◌∙◌, ℕ, zero, suc, ◌+◌, ◌-◌, ◌⊎◌, inl, inr, Bool, true, false, List, [], ◌∷◌, map, length, take, sum, Some, None, slice_get, arith}
+use Rattle.std.proofs.Common.{◌≡◌, ◌≤◌, zero-add, ltb-false, refl, sym, ap, ◌∙◌, ℕ, zero, suc, ◌+◌, ◌-◌, ◌⊎◌, inl, inr, Bool, true, false, List, [], ◌∷◌, map, length, take, sum, Some, None, slice_get, arith}
 use Rattle.std.specs.Prelude.{if◌then◌else◌, nat_lt}
 use Rattle.std.proofs.lemmas.Bool.{cases_eq}
 use Rattle.tags.specs.declared.token.Port.{Port}
@@ -8,7 +8,7 @@ use Rattle.tags.specs.declared.token.Word.{Word}
 use Rattle.tags.specs.declared.token.To.{To}
 use Rattle.tags.specs.declared.slot.SlotState.{SlotState}
 use Rattle.tags.specs.declared.slot.SlotState.TheVariants as Slot
-use Rattle.tags.specs.declared.slot.SlotState.TheVariants.{Empty}
+use Rattle.tags.specs.declared.slot.SlotState.TheVariants.{Empty, Credits, Waiter, Draining}
 use Rattle.semantics.specs.declared.program.Op.{Op}
 use Rattle.semantics.specs.declared.program.Op.TheVariants.{Apply2, Sync, Switch, Store, Link, Send, Return, Ask, Open, Take, Give, Drain, Release}
 use Rattle.semantics.specs.Program.{Instr, CodeBlock, Program, first_of, instr_from}
@@ -17,6 +17,7 @@ use Rattle.semantics.specs.Machine.{put_at}
 use Rattle.semantics.specs.Sharing.{placed_slot, placed_instrs}
 use Rattle.semantics.specs.Placed.{placed_blocks}
 use Rattle.reuse.proofs.Fold.{put_same, put_other}
+use Rattle.reuse.proofs.Stands.{some_same, first_in, first_next}
 
 -- ---- the same rule
 
@@ -86,7 +87,7 @@ moved_to ss i = record i { slot = placed_slot ss (slot_of i i.op) }
 pub data Located (slots : List (List ℕ)) (cs : List CodeBlock) (ip : ℕ) : Type 0 where
   Nowhere : instr_from cs ip ≡ None → instr_from (placed_blocks slots cs) ip ≡ None → Located slots cs ip
   There : (b n : ℕ) (ss : List ℕ) (c : CodeBlock) (i : Instr) → slice_get slots b ≡ Some ss → slice_get cs b ≡ Some c → slice_get c.instrs n ≡ Some i
-      → instr_from cs ip ≡ Some i → instr_from (placed_blocks slots cs) ip ≡ Some (moved_to ss i) → Located slots cs ip
+      → instr_from cs ip ≡ Some i → instr_from (placed_blocks slots cs) ip ≡ Some (moved_to ss i) → ip ≡ first_in cs b + n → Located slots cs ip
 
 get_placed : (ss : List ℕ) (is : List Instr) (n : ℕ) → ((slice_get is n ≡ None) × (slice_get (placed_instrs ss is) n ≡ None))
     ⊎ ((i : Instr) × (slice_get is n ≡ Some i) × (slice_get (placed_instrs ss is) n ≡ Some (moved_to ss i)))
@@ -112,33 +113,69 @@ located (ss ∷ slots) (c ∷ cs) e ip = go (nat_lt ip (length c.instrs)) refl (
     here : nat_lt ip (length c.instrs) ≡ true → ((slice_get c.instrs ip ≡ None) × (slice_get (placed_instrs ss c.instrs) ip ≡ None))
         ⊎ ((i : Instr) × (slice_get c.instrs ip ≡ Some i) × (slice_get (placed_instrs ss c.instrs) ip ≡ Some (moved_to ss i))) → Located (ss ∷ slots) (c ∷ cs) ip
     here t (inl o) = Nowhere (plan_at true t ∙ o.0) (code_at true t ∙ o.1)
-    here t (inr o) = There 0 ip ss c o.0 refl refl o.1 (plan_at true t ∙ o.1) (code_at true t ∙ o.2)
+    here t (inr o) = There 0 ip ss c o.0 refl refl o.1 (plan_at true t ∙ o.1) (code_at true t ∙ o.2) (sym (zero-add ip))
     later : nat_lt ip (length c.instrs) ≡ false → Located slots cs (ip - length c.instrs) → Located (ss ∷ slots) (c ∷ cs) ip
     later t (Nowhere x y) = Nowhere (plan_at false t ∙ x) (code_at false t ∙ y)
-    later t (There b n ts d i p q r x y) = There (suc b) n ts d i p q r (plan_at false t ∙ x) (code_at false t ∙ y)
+    later t (There b n ts d i p q r x y at) =
+        let far : length c.instrs ≤ ip = ltb-false ip (length c.instrs) t in
+        let next = first_next c cs b in
+        There (suc b) n ts d i p q r (plan_at false t ∙ x) (code_at false t ∙ y) (omega (arith, at, next))
     go : (t : Bool) → nat_lt ip (length c.instrs) ≡ t → Located slots cs (ip - length c.instrs) → Located (ss ∷ slots) (c ∷ cs) ip
     go true t rest = here t (get_placed ss c.instrs ip)
     go false t rest = later t rest
 
--- ---- THE SLOTS OF ONE FRAME: `code` by the placed slots, `plan` by holders. A slot is what its one live holder has.
-abbrev pub Agrees : List ℕ → (ℕ → SlotState) → (ℕ → SlotState) → Type 0
-Agrees ss code plan = (s h : ℕ) → slice_get ss h ≡ Some s → ((k : ℕ) → (k ≡ h → ⊥) → slice_get ss k ≡ Some s → plan k ≡ Empty) → code s ≡ plan h
+-- ---- THE SLOTS OF ONE FRAME: `code` by the slots, `plan` by the holders. What is in a slot is one holder's, and what a
+-- holder has is in its slot.
+pub record Agrees (ss : List ℕ) (code plan : ℕ → SlotState) : Type 0 where
+  pub held : (s : ℕ) → (code s ≡ Empty → ⊥) → (h : ℕ) × (slice_get ss h ≡ Some s) × (plan h ≡ code s)
+  pub shown : (h : ℕ) → (plan h ≡ Empty → ⊥) → (s : ℕ) × (slice_get ss h ≡ Some s) × (plan h ≡ code s)
 
-some_same : {X : Type 0} (x y : X) → Some x ≡ Some y → x ≡ y
-some_same x y e = cc
+pub empty_or : (s : SlotState) → (s ≡ Empty) ⊎ (s ≡ Empty → ⊥)
+empty_or Empty = inl refl
+empty_or (Slot.Left w) = inr (λ e. cc)
+empty_or (Slot.Right w) = inr (λ e. cc)
+empty_or (Credits n) = inr (λ e. cc)
+empty_or (Waiter c) = inr (λ e. cc)
+empty_or (Draining n) = inr (λ e. cc)
+
+-- all slots are empty
+pub agrees_idle : (ss : List ℕ) (code plan : ℕ → SlotState) → ((s : ℕ) → code s ≡ Empty) → ((h : ℕ) → plan h ≡ Empty) → Agrees ss code plan
+agrees_idle ss code plan c p = record { held = λ s full. absurd (full (c s)); shown = λ h full. absurd (full (p h)) }
+
+-- a slot is what its one live holder has
+pub agrees_at : (ss : List ℕ) (code plan : ℕ → SlotState) → Agrees ss code plan → (h s : ℕ) → slice_get ss h ≡ Some s
+    → ((k : ℕ) → (k ≡ h → ⊥) → slice_get ss k ≡ Some s → plan k ≡ Empty) → code s ≡ plan h
+agrees_at ss code plan A h s at only = go (empty_or (plan h)) (empty_or (code s))
+  where
+    go : ((plan h ≡ Empty) ⊎ (plan h ≡ Empty → ⊥)) → ((code s ≡ Empty) ⊎ (code s ≡ Empty → ⊥)) → code s ≡ plan h
+    go (inl e) (inl f) = f ∙ sym e
+    go (inr full) d =
+        let k = A.shown h full in
+        let same : k.0 ≡ s = some_same k.0 s (sym k.1 ∙ at) in
+        sym (k.2 ∙ ap code same)
+    go (inl e) (inr full) = pick (A.held s full)
+      where
+        pick : ((k : ℕ) × (slice_get ss k ≡ Some s) × (plan k ≡ code s)) → code s ≡ plan h
+        pick (k, at_k, e) = other (cases_eq k h)
+          where
+            other : ((k ≡ h) ⊎ (k ≡ h → ⊥)) → code s ≡ plan h
+            other (inl same) = sym e ∙ ap plan same
+            other (inr ne) = absurd (full (sym e ∙ only k ne at_k))
 
 -- EVENT: an instruction of holder h changes its slot while every other holder of the slot is empty
 pub agrees_put : (ss : List ℕ) (code plan : ℕ → SlotState) (h s : ℕ) (v : SlotState) → slice_get ss h ≡ Some s
     → ((k : ℕ) → (k ≡ h → ⊥) → slice_get ss k ≡ Some s → plan k ≡ Empty) → Agrees ss code plan → Agrees ss (put_at code s v) (put_at plan h v)
-agrees_put ss code plan h s v at only A t k at_k others = go (cases_eq s t) (cases_eq h k)
+agrees_put ss code plan h s v at only A = record { held = λ r full. held r (cases_eq s r) full; shown = λ k full. shown k (cases_eq h k) full }
   where
-    go : ((s ≡ t) ⊎ (s ≡ t → ⊥)) → ((h ≡ k) ⊎ (h ≡ k → ⊥)) → put_at code s v t ≡ put_at plan h v k
-    go (inl e) (inl f) = put_same code s v t e ∙ sym (put_same plan h v k f)
-    go (inl e) (inr f) =
-        let at_t : slice_get ss h ≡ Some t = at ∙ ap Some e in
-        let at_s : slice_get ss k ≡ Some s = at_k ∙ ap Some (sym e) in
-        let empty : v ≡ Empty = sym (put_same plan h v h refl) ∙ others h f at_t in
-        put_same code s v t e ∙ empty ∙ sym (put_other plan h v k f ∙ only k (λ q. f (sym q)) at_s)
-    go (inr e) (inl f) = absurd (e (some_same s t (sym at ∙ ap (slice_get ss) f ∙ at_k)))
-    go (inr e) (inr f) =
-        put_other code s v t e ∙ A t k at_k (λ j ne at_j. sym (put_other plan h v j (λ q. e (some_same s t (sym at ∙ ap (slice_get ss) q ∙ at_j)))) ∙ others j ne at_j) ∙ sym (put_other plan h v k f)
+    held : (r : ℕ) → ((s ≡ r) ⊎ (s ≡ r → ⊥)) → (put_at code s v r ≡ Empty → ⊥) → (k : ℕ) × (slice_get ss k ≡ Some r) × (put_at plan h v k ≡ put_at code s v r)
+    held r (inl e) full = (h, at ∙ ap Some e, put_same plan h v h refl ∙ sym (put_same code s v r e))
+    held r (inr ne) full =
+        let before = A.held r (λ e. full (put_other code s v r ne ∙ e)) in
+        (before.0, before.1, put_other plan h v before.0 (λ e. ne (some_same s r (sym at ∙ ap (slice_get ss) e ∙ before.1))) ∙ before.2 ∙ sym (put_other code s v r ne))
+    shown : (k : ℕ) → ((h ≡ k) ⊎ (h ≡ k → ⊥)) → (put_at plan h v k ≡ Empty → ⊥) → (r : ℕ) × (slice_get ss k ≡ Some r) × (put_at plan h v k ≡ put_at code s v r)
+    shown k (inl e) full = (s, ap (slice_get ss) (sym e) ∙ at, put_same plan h v k e ∙ sym (put_same code s v s refl))
+    shown k (inr ne) full =
+        let filled : plan k ≡ Empty → ⊥ = λ e. full (put_other plan h v k ne ∙ e) in
+        let before = A.shown k filled in
+        (before.0, before.1, put_other plan h v k ne ∙ before.2
+          ∙ sym (put_other code s v before.0 (λ e. filled (only k (λ q. ne (sym q)) (before.1 ∙ ap Some (sym e))))))
