@@ -18,7 +18,7 @@ use Rattle.reuse.proofs.Fold.{Fold}
 use Rattle.reuse.proofs.Freed.{empty_back}
 use Rattle.reuse.proofs.Frames.{asking, waits, pool_before, FreesOnce, HasOnce, frames_once}
 
-contains_map : {X Y : Type 0} (f : X → Y) (xs : List X) (x : X) → Contains xs x → Contains (map f xs) (f x)
+pub contains_map : {X Y : Type 0} (f : X → Y) (xs : List X) (x : X) → Contains xs x → Contains (map f xs) (f x)
 contains_map f [] x (i, below, e) = absurd (omega arith)
 contains_map f (y ∷ xs) x (zero, below, e) = (0, omega arith, ap f e)
 contains_map f (y ∷ xs) x (suc i, below, e) =
