@@ -17,6 +17,7 @@ use Rattle.semantics.specs.Rule.{token, Outcome, Becomes, Excluded, rule_at}
 use Rattle.semantics.specs.Machine.{CellState, Vacant, Full, Deferred, Fires, Fetches, Stores, Hosts, Requests, outputs_of, slot_in, slot_used, with_slot_in, Store, Machine, Size, put_at, with_out, with_requests, answer, Releases, Happens, Event, Events, Run, input_tokens, at_start}
 use Rattle.tags.specs.Addresses.{element_of}
 use Rattle.semantics.specs.Orderly.{IsFreeOf, IsFreeAtRelease}
+use Rattle.semantics.specs.Arcs.{SomeEvent}
 use Rattle.semantics.specs.Renamed.{re_cont, re_word, re_to, re_token}
 use Rattle.semantics.specs.Handed.{EachOnce}
 use Rattle.semantics.specs.Handed.{handed_by, handed}
@@ -45,6 +46,19 @@ handed_snoc p z a b c [] e t r ev = append-nil (handed_by t.to ev.made)
 handed_snoc p z a b c (x ∷ events) e t r ev =
     ap (λ (l : List ℕ). handed_by x.1.to r.1.made ++ l) (handed_snoc p z r.0 b c events e t r.2 ev)
     ∙ sym (append_assoc (handed_by x.1.to r.1.made) (handed p z r.0 events b r.2) (handed_by t.to ev.made))
+
+-- some event of the longer run
+pub some_snoc : (K : Token → List Token → Machine → Type 0) (p : Program) (z : Size) (a b c : Machine) (events : Events) (e : ℕ) (t : Token) (r : Run p z a events b) (ev : Event p z e t b c)
+    → SomeEvent K p z a (events ++ (e, t) ∷ []) c (run_snoc p z a b c events e t r ev) → SomeEvent K p z a events b r ⊎ K t ev.made c
+unfolding run_snoc
+some_snoc K p z a b c [] e t r ev (inl k) = inr k
+some_snoc K p z a b c [] e t r ev (inr k) = absurd k
+some_snoc K p z a b c (x ∷ events) e t r ev (inl k) = inl (inl k)
+some_snoc K p z a b c (x ∷ events) e t r ev (inr k) = go (some_snoc K p z r.0 b c events e t r.2 ev k)
+  where
+    go : SomeEvent K p z r.0 events b r.2 ⊎ K t ev.made c → SomeEvent K p z a (x ∷ events) b r ⊎ K t ev.made c
+    go (inl k) = inl (inr k)
+    go (inr k) = inr k
 
 -- a run to here in which each frame is handed out once, and these are the frames that were
 pub record Once (p : Program) (z : Size) (start : Machine) (used : ℕ → Type 0) (u : Machine) : Type 0 where

@@ -116,13 +116,13 @@ pub open_port : (op : Op) → is_open op ≡ true → is_port op Left ≡ true
 open_port (Open k) d = refl
 open_port op d = absurd (true≢false (sym d))
 
-later_port : (op : Op) (q : Port) → is_later op ≡ true → is_port op q ≡ true → ⊥
+pub later_port : (op : Op) (q : Port) → is_later op ≡ true → is_port op q ≡ true → ⊥
 later_port (Take k) q d e = true≢false (sym e)
 later_port (Give k) q d e = true≢false (sym e)
 later_port (Drain k) q d e = true≢false (sym e)
 later_port op q d e = true≢false (sym d)
 
-credit_port : (op : Op) (q : Port) → is_credit op ≡ true → is_port op q ≡ true → (is_open op ≡ true) × (q ≡ Left)
+pub credit_port : (op : Op) (q : Port) → is_credit op ≡ true → is_port op q ≡ true → (is_open op ≡ true) × (q ≡ Left)
 credit_port (Open k) Left d e = (refl, refl)
 credit_port (Open k) Right d e = absurd (true≢false (sym e))
 credit_port (Take k) q d e = absurd (true≢false (sym e))
@@ -138,11 +138,11 @@ often_op op q e = refl
 pub often_port : (i : Instr) (q : Port) → is_port i.op q ≡ true → often (Some i) ≡ false
 often_port i q e = often_op i.op q e
 
-open_end : (op : Op) → is_open op ≡ true → ends_with op ≡ true → ⊥
+pub open_end : (op : Op) → is_open op ≡ true → ends_with op ≡ true → ⊥
 open_end (Open k) d e = true≢false (sym e)
 open_end op d e = true≢false (sym d)
 
-dyadic_slot : (i : Instr) (op : Op) → is_dyadic op ≡ true → slot_of i op ≡ Some i.slot
+pub dyadic_slot : (i : Instr) (op : Op) → is_dyadic op ≡ true → slot_of i op ≡ Some i.slot
 dyadic_slot i (Apply2 op) d = refl
 dyadic_slot i Sync d = refl
 dyadic_slot i Switch d = refl
@@ -153,7 +153,7 @@ dyadic_slot i (Ask o) d = refl
 dyadic_slot i (Release o) d = refl
 dyadic_slot i op d = absurd (true≢false (sym d))
 
-later_slot : (i : Instr) (op : Op) → is_later op ≡ true → slot_of i op ≡ Some i.slot
+pub later_slot : (i : Instr) (op : Op) → is_later op ≡ true → slot_of i op ≡ Some i.slot
 later_slot i (Take k) d = refl
 later_slot i (Give k) d = refl
 later_slot i (Drain k) d = refl
@@ -189,13 +189,13 @@ pub record Used (p : Program) (ts : List Token) (slots : ℕ → ℕ → SlotSta
   pub side : i.op ≡ Switch → (v : Value) × Contains ts (at_port p f b x.from Right (Word.Val v)) × (truth v ≡ not x.second)
   pub over : (h : ℕ) → slot_of i i.op ≡ Some h → ends_with i.op ≡ true → Over p ts slots f b h
 
-came_later : (p : Program) (ts : List Token) (t : Token) (f b n : ℕ) (q : Port) → Came p ts f b n q → Came p (ts ++ t ∷ []) f b n q
+pub came_later : (p : Program) (ts : List Token) (t : Token) (f b n : ℕ) (q : Port) → Came p ts f b n q → Came p (ts ++ t ∷ []) f b n q
 came_later p ts t f b n q c = (c.0, later_on ts t (at_port p f b n q c.0) c.1)
 
 pub same_over : (p : Program) (ts : List Token) (t : Token) (old new : ℕ → ℕ → SlotState) (f b h : ℕ) → new f h ≡ old f h → Over p ts old f b h → Over p (ts ++ t ∷ []) new f b h
 same_over p ts t old new f b h same O = record { empty = same ∙ O.empty; came = λ n j q s holds port. came_later p ts t f b n q (O.came n j q s holds port) }
 
-used_later : (p : Program) (ts : List Token) (t : Token) (old new : ℕ → ℕ → SlotState) (f b : ℕ) (x : Arc) (U : Used p ts old f b x)
+pub used_later : (p : Program) (ts : List Token) (t : Token) (old new : ℕ → ℕ → SlotState) (f b : ℕ) (x : Arc) (U : Used p ts old f b x)
     → ((h : ℕ) → Over p ts old f b h → Over p (ts ++ t ∷ []) new f b h) → Used p (ts ++ t ∷ []) new f b x
 used_later p ts t old new f b x U keeps = record {
   i = U.i;
