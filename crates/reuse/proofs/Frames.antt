@@ -39,7 +39,7 @@ run_snoc p z a b c [] e t r ev =
     }, (IsPermutation-refl c.pool, refl))
 run_snoc p z a b c (x ∷ events) e t r ev = (r.0, r.1, run_snoc p z r.0 b c events e t r.2 ev)
 
-handed_snoc : (p : Program) (z : Size) (a b c : Machine) (events : Events) (e : ℕ) (t : Token) (r : Run p z a events b) (ev : Event p z e t b c)
+pub handed_snoc : (p : Program) (z : Size) (a b c : Machine) (events : Events) (e : ℕ) (t : Token) (r : Run p z a events b) (ev : Event p z e t b c)
     → handed p z a (events ++ (e, t) ∷ []) c (run_snoc p z a b c events e t r ev) ≡ handed p z a events b r ++ handed_by t.to ev.made
 unfolding run_snoc
 handed_snoc p z a b c [] e t r ev = append-nil (handed_by t.to ev.made)

@@ -1,7 +1,7 @@
 -- In an orderly run, two holders that may share a slot are never both live: the facts of one frame's invocation.
 use Rattle.std.proofs.Common.{◌≡◌, ◌≢◌, refl, sym, ap, ◌∙◌, subst, ℕ, zero, suc, ◌+◌, ◌<◌, ◌⊎◌, inl, inr, Bool, true, false, not, true≢false, List, [], ◌∷◌, ◌++◌, length, Option, Some, None, Contains, arith}
 use Rattle.std.specs.Prelude.{slice_get}
-use Rattle.std.proofs.lemmas.Bool.{cases_Bool}
+use Rattle.std.proofs.lemmas.Bool.{cases_Bool, cases_eq}
 use Rattle.std.proofs.lemmas.Option.{slice_get_within}
 use Rattle.std.proofs.lemmas.List.Elements.{Contains-append_left, Contains-append_right, Contains-append_cases}
 use Rattle.operators.specs.Values.{truth}
@@ -28,7 +28,7 @@ use Rattle.semantics.specs.Wired.{is_dyadic, StandsAt, IsWired}
 use Rattle.determinacy.proofs.Resolved.{all_get}
 use Rattle.reuse.proofs.Joined.{alone_from}
 use Rattle.reuse.proofs.Placed.{Alone}
-use Rattle.reuse.proofs.Shares.{IsCaused, IsKept}
+use Rattle.reuse.proofs.Shares.{IsCaused, IsKept, one_live}
 use Rattle.reuse.proofs.Stands.{some_same, past_entries, Stands, stands_at, stands_one, stands_within}
 use Rattle.reuse.proofs.Turns.{Turn, turn_of}
 use Rattle.reuse.proofs.Uses.{at_port, Came, Tells, Filled, EmptyOr}
@@ -205,6 +205,15 @@ module _ (p : Plan) (wired : IsWired p) (z : Size) (start : Machine) (events : E
 
   pub is_kept : IsKept p b Met UsedHere Live
   is_kept = record { caused = record { came = came; fired = fired }; begun = begun; ended = ended; sides = sides }
+
+  -- two holders of one slot never have it both
+  pub full_alone : (slots : List (List ℕ)) → Good p slots → (ss : List ℕ) → slice_get slots b ≡ Some ss → (h k s : ℕ) → slice_get ss h ≡ Some s → slice_get ss k ≡ Some s
+      → (u.store.slots f h ≡ Empty → ⊥) → (u.store.slots f k ≡ Empty → ⊥) → h ≡ k
+  full_alone slots good ss at_ss h k s at_h at_k full_h full_k = go (cases_eq h k)
+    where
+      go : (h ≡ k) ⊎ (h ≡ k → ⊥) → h ≡ k
+      go (inl e) = e
+      go (inr ne) = absurd (one_live p b Met UsedHere Live is_kept h k ((good.blocks b c ss at at_ss).share h k s at_h at_k ne) (inl full_h) (inl full_k))
 
   -- every other holder of the slot of an instruction for which a token waits is empty
   pub alone_here : (slots : List (List ℕ)) → Good p slots → (ss : List ℕ) → slice_get slots b ≡ Some ss → (n : ℕ) (i : Instr) (q : Port) (w : Word) → Stands p.program b n i

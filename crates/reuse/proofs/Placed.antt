@@ -23,7 +23,7 @@ abbrev pub in_slot : ℕ → Option ℕ → Option ℕ
 in_slot r None = None
 in_slot r (Some h) = Some r
 
-slot_moved : (i : Instr) (r : ℕ) (op : Op) → slot_of record i { slot = r } op ≡ in_slot r (slot_of i op)
+pub slot_moved : (i : Instr) (r : ℕ) (op : Op) → slot_of record i { slot = r } op ≡ in_slot r (slot_of i op)
 slot_moved i r (Apply2 op) = refl
 slot_moved i r Sync = refl
 slot_moved i r Switch = refl
@@ -88,6 +88,11 @@ slot_fires ss f m u new (Some h) does made only A e =
     let here = only h refl in
     let same : m.slots f s ≡ u.slots f h = agrees_at ss (m.slots f) (u.slots f) A h s here.0 here.1 in
     put_fires ss f h s m u new (does (u.slots f h)) made here.0 here.1 A (subst (λ (v : SlotState). Fires m f (Some s) (does v) made new) same e)
+
+-- the slot of an instruction is its holder's
+pub slot_same : (ss : List ℕ) (f : ℕ) (m u : MStore) (o : Option ℕ) → Alone ss o (u.slots f) → Agrees ss (m.slots f) (u.slots f) → slot_in m f (in_slot (placed_slot ss o) o) ≡ slot_in u f o
+slot_same ss f m u None only A = refl
+slot_same ss f m u (Some h) only A = let here = only h refl in agrees_at ss (m.slots f) (u.slots f) A h (slice_index_or ss h 0) here.0 here.1
 
 pub instr_placed : (p : Plan) (slots : List (List ℕ)) → length slots ≡ length p.program.blocks → (t : ℕ) (m u new : MStore) (f ip : ℕ) (q : Port) (w : Word) (made : List Token) (ss : List ℕ) (i : Instr)
     → instr_at p.program ip ≡ Some i → instr_at (placed p slots) ip ≡ Some (moved_to ss i) → Alone ss (slot_of i i.op) (u.slots f) → Agrees ss (m.slots f) (u.slots f)
