@@ -66,7 +66,7 @@ request_carried t m u new c made S (inr e) =
     (with_requests u (u.requests ++ c ∷ []), inr (λ f below. ap (λ (o : ℕ → Bool). o f) S.out ∙ e.0 f below, e.1, refl),
     subst (λ (n : Store). Same n (with_requests u (u.requests ++ c ∷ []))) (sym e.2) (same_requests m u (m.requests ++ c ∷ []) (u.requests ++ c ∷ []) (ap (λ (l : List Cont). l ++ c ∷ []) (sym S.requests)) S), ap (λ (n : Store). n.slots) e.2, refl)
 
-results_same : (slots : List (List ℕ)) (cs : List CodeBlock) → length slots ≡ length cs → (b : ℕ) → results_in (slice_get (placed_blocks slots cs) b) ≡ results_in (slice_get cs b)
+pub results_same : (slots : List (List ℕ)) (cs : List CodeBlock) → length slots ≡ length cs → (b : ℕ) → results_in (slice_get (placed_blocks slots cs) b) ≡ results_in (slice_get cs b)
 results_same [] [] e b = refl
 results_same [] (c ∷ cs) e b = absurd (omega (arith, e))
 results_same (ss ∷ slots) [] e b = absurd (omega (arith, e))

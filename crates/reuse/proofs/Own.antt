@@ -1,6 +1,6 @@
 -- A run over good slots that hands out each frame at most once is, event by event, a run of the plan.
 use Rattle.std.proofs.Common.{◌≡◌, refl, sym, ap, ◌∙◌, subst, ℕ, zero, suc, ◌+◌, ◌*◌, ◌<◌, ◌⊎◌, inl, inr, Bool, true, false, ℤ, List, [], ◌∷◌, ◌++◌, map, length, Option, Some, None, Contains, IsPermutation, arith, append_assoc, append-nil}
-use Rattle.std.specs.Prelude.{slice_get, slice_index_or}
+use Rattle.std.specs.Prelude.{slice_get, slice_index_or, if◌then◌else◌, nat_lt, ◌==◌}
 use Rattle.std.proofs.lemmas.Bool.{cases_eq}
 use Rattle.std.proofs.lemmas.List.Elements.{Contains-append_left, Contains-append_right, Contains-push}
 use Rattle.std.proofs.lemmas.List.Sorted.{Contains-permutation, IsPermutation-refl, IsPermutation-sym, IsPermutation-trans}
@@ -15,11 +15,11 @@ use Rattle.tags.specs.declared.token.Token.{Token}
 use Rattle.tags.specs.declared.slot.SlotState.{SlotState}
 use Rattle.tags.specs.declared.slot.SlotState.TheVariants.{Empty}
 use Rattle.semantics.specs.Program.{Instr, CodeBlock, Program, first_of, instr_at}
-use Rattle.semantics.specs.Rule.{token, rule_at, slot_of}
-use Rattle.semantics.specs.Machine.{Machine, Store as MStore, CellState, Size, Event, Events, Run, input_tokens, at_start, slot_in, slot_used, Fires, Happens}
+use Rattle.semantics.specs.Rule.{token, Seat, rule_at, outcome_of, slot_of}
+use Rattle.semantics.specs.Machine.{Machine, Store as MStore, CellState, Size, Event, Events, Run, input_tokens, at_start, slot_in, slot_used, Fires, Happens, outputs_of, excluded_by, unless_value, filled, host_rule, stuck_rule}
 use Rattle.semantics.specs.Plan.{Plan}
-use Rattle.semantics.specs.Sharing.{Good}
-use Rattle.semantics.specs.Placed.{placed}
+use Rattle.semantics.specs.Sharing.{Good, placed_slot}
+use Rattle.semantics.specs.Placed.{placed, placed_blocks}
 use Rattle.semantics.specs.Handed.{handed_by, handed, EachOnce, UsesEachOnce}
 use Rattle.semantics.specs.Orderly.{Orderly, IsStart, IsOrderlyRun}
 use Rattle.semantics.specs.Unfolded.{HasSlot}
@@ -27,9 +27,9 @@ use Rattle.semantics.specs.Wired.{IsWired}
 use Rattle.reuse.specs.OwnSlots.{HasOwnSlots, IsOwnRun, OnceRunsAreOwn}
 use Rattle.reuse.proofs.Fold.{map_append}
 use Rattle.reuse.proofs.Frames.{run_snoc, handed_snoc}
-use Rattle.reuse.proofs.Places.{moved_to, Located, Nowhere, There, located, first_same, Agrees, agrees_idle}
-use Rattle.reuse.proofs.Placed.{Alone, Unmoved, Shown, instr_placed}
-use Rattle.reuse.proofs.Carried.{Same, Carried, fetch_carried, store_carried, request_carried, host_carried, release_carried}
+use Rattle.reuse.proofs.Places.{outcome_same, moved_to, Located, Nowhere, There, located, first_same, Agrees, agrees_idle}
+use Rattle.reuse.proofs.Placed.{Alone, in_slot, slot_moved, Unmoved, Shown, slot_same, instr_placed}
+use Rattle.reuse.proofs.Carried.{Same, Carried, results_same, fetch_carried, store_carried, request_carried, host_carried, release_carried}
 use Rattle.reuse.proofs.Stands.{some_same, Stands}
 use Rattle.reuse.proofs.Uses.{contains_head, at_port, later_on}
 use Rattle.reuse.proofs.Used.{Ports, one_frame}
@@ -239,5 +239,3 @@ module _ (p : Plan) (slots : List (List ℕ)) (wired : IsWired p) (good : Good p
 
   pub own_run : (events : Events) (m : Machine) (r : Run code z (at_start code inputs) events m) → UsesEachOnce code z inputs events m r → Own p slots z inputs events m (handed code z (at_start code inputs) events m r)
   own_run events m r once = own_all events [] (at_start code inputs) m [] own_start r once
-
--- ---- THE LAW FOR RUNS THAT USE EACH FRAME ONCE

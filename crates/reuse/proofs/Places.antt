@@ -62,7 +62,7 @@ module _ (p : Program) (bs : List CodeBlock) (s : Seat) (i : Instr) (r : ℕ) (f
 
 -- ---- the same places
 
-length_placed : (ss : List ℕ) (is : List Instr) → length (placed_instrs ss is) ≡ length is
+pub length_placed : (ss : List ℕ) (is : List Instr) → length (placed_instrs ss is) ≡ length is
 length_placed ss [] = refl
 length_placed ss (i ∷ is) = ap suc (length_placed ss is)
 

@@ -42,13 +42,13 @@ pub data Turn (p : Program) (s : Seat) (i : Instr) (op : Op) (slot : SlotState) 
 becomes_slot : (x v : SlotState) (a b : List Token) → Becomes x a ≡ Becomes v b → v ≡ x
 becomes_slot x v a b e = cc
 
-becomes_made : (x v : SlotState) (a b : List Token) → Becomes x a ≡ Becomes v b → b ≡ a
+pub becomes_made : (x v : SlotState) (a b : List Token) → Becomes x a ≡ Becomes v b → b ≡ a
 becomes_made x v a b e = cc
 
-excluded_not : (n : ℕ) (v : SlotState) (b : List Token) → Excluded n ≡ Becomes v b → ⊥
+pub excluded_not : (n : ℕ) (v : SlotState) (b : List Token) → Excluded n ≡ Becomes v b → ⊥
 excluded_not n v b e = cc
 
-fired : (x v : SlotState) (o : Option (List Token)) (made : List Token) → fires x o ≡ Becomes v made → (v ≡ x) × (o ≡ Some made)
+pub fired : (x v : SlotState) (o : Option (List Token)) (made : List Token) → fires x o ≡ Becomes v made → (v ≡ x) × (o ≡ Some made)
 fired x v None made e = absurd (excluded_not 4 v made e)
 fired x v (Some ts) made e = (becomes_slot x v ts made e, ap (λ (l : List Token). Some l) (sym (becomes_made x v ts made e)))
 

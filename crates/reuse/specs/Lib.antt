@@ -1,1 +1,2 @@
 pub mod OwnSlots
+pub mod Theorem
