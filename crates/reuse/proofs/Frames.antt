@@ -1,9 +1,9 @@
 -- A run in which frames are used again is a run in which each is used once.
-use Rattle.std.proofs.Common.{◌≡◌, refl, sym, ap, ◌∙◌, subst, ℕ, suc, ◌+◌, ◌*◌, ◌<◌, ◌≤◌, ◌⊎◌, inl, inr, ℤ, Bool, true, false, List, [], ◌∷◌, ◌++◌, map, length, Option, Some, None, IsPermutation, arith, append_assoc, append-nil, mul_left_comm, mul-pos, zero-mul}
+use Rattle.std.proofs.Common.{◌≡◌, refl, sym, ap, ◌∙◌, subst, ℕ, suc, ◌+◌, ◌*◌, ◌<◌, ◌≤◌, ◌⊎◌, inl, inr, ℤ, Bool, true, false, List, [], ◌∷◌, ◌++◌, map, length, Option, Some, None, IsPermutation, arith, length-append, append_assoc, append-nil, add-zero, add-suc, mul_left_comm, mul-pos, zero-mul}
 use Rattle.std.specs.Prelude.{◌==◌}
 use Rattle.std.proofs.lemmas.Bool.{cases_eq, cases_lt, eqb-true}
 use Rattle.std.proofs.lemmas.List.Elements.{Contains-append_left, Contains-append_right}
-use Rattle.std.proofs.lemmas.List.Sorted.{IsPermutation-refl, IsPermutation-sym, IsPermutation-trans, IsPermutation-map, IsPermutation-append_left, IsPermutation-append_right, IsPermutation-middle, IsPermutation-to_front}
+use Rattle.std.proofs.lemmas.List.Sorted.{IsPermutation-refl, IsPermutation-sym, IsPermutation-trans, IsPermutation-map, IsPermutation-append_left, IsPermutation-append_right, IsPermutation-middle, IsPermutation-to_front, length_permutation}
 use Rattle.tags.specs.declared.value.Value.{Value}
 use Rattle.tags.specs.declared.value.Value.TheVariants.{Int}
 use Rattle.tags.specs.declared.token.Port.TheVariants.{Left}
@@ -17,59 +17,37 @@ use Rattle.semantics.specs.Rule.{token, Outcome, Becomes, Excluded, rule_at}
 use Rattle.semantics.specs.Machine.{CellState, Vacant, Full, Deferred, Fires, Fetches, Stores, Hosts, Requests, outputs_of, slot_in, slot_used, with_slot_in, Store, Machine, Size, put_at, with_out, with_requests, answer, Releases, Happens, Event, Events, Run, input_tokens, at_start}
 use Rattle.tags.specs.Addresses.{element_of}
 use Rattle.semantics.specs.Orderly.{IsFreeOf, IsFreeAtRelease}
-use Rattle.semantics.specs.Arcs.{SomeEvent}
 use Rattle.semantics.specs.Renamed.{re_cont, re_word, re_to, re_token}
 use Rattle.semantics.specs.Handed.{EachOnce}
+use Rattle.semantics.specs.Holders.{Holder, held_by_event, holds}
+use Rattle.semantics.specs.Plan.{Plan}
+use Rattle.semantics.specs.Cause.{is_request, is_credit_event}
 use Rattle.semantics.specs.Handed.{handed_by, handed}
+use Rattle.reuse.proofs.Snoc.{run_snoc, handed_snoc, holds_snoc}
+use Rattle.reuse.proofs.Counts.{Counted, counted_both, counted_waits, counted_serves}
+use Rattle.reuse.proofs.Tracked.{held_re, holds_none}
 use Rattle.reuse.proofs.Lists.{Each, Spread, Differ, each_append, each_weaker, spread_append, all_differ}
-use Rattle.reuse.proofs.Fold.{Fold, Follows, fold_same, out_fold, instr_step, fetch_step, store_step, request_step, host_step, put_same, put_other, answer_re, map_append, eq_under, ne_eqb}
+use Rattle.reuse.proofs.Fold.{Injective, Fold, Follows, fold_same, out_fold, instr_step, fetch_step, store_step, request_step, host_step, put_same, put_other, answer_re, map_append, eq_under, ne_eqb}
 use Rattle.reuse.proofs.Freed.{place, IsNaming, place_low, place_injective, place_same, next_use, naming_later, naming_next, Renews, renews_next, keep_tokens, free_fold}
 
--- ---- one more event at the end of a run
-
-pub run_snoc : (p : Program) (z : Size) (a b c : Machine) (events : Events) (e : ℕ) (t : Token) → Run p z a events b → Event p z e t b c → Run p z a (events ++ (e, t) ∷ []) c
-run_snoc p z a b c [] e t r ev =
-    (c, record {
-      made = ev.made;
-      rest = ev.rest;
-      addressed = ev.addressed;
-      takes = IsPermutation-trans _ _ _ r.0 ev.takes;
-      happens = subst (λ (s : Store). Happens p (z.elements * z.frames) s t.to t.word ev.made c.store) r.1 ev.happens;
-      leaves = ev.leaves;
-    }, (IsPermutation-refl c.pool, refl))
-run_snoc p z a b c (x ∷ events) e t r ev = (r.0, r.1, run_snoc p z r.0 b c events e t r.2 ev)
-
-pub handed_snoc : (p : Program) (z : Size) (a b c : Machine) (events : Events) (e : ℕ) (t : Token) (r : Run p z a events b) (ev : Event p z e t b c)
-    → handed p z a (events ++ (e, t) ∷ []) c (run_snoc p z a b c events e t r ev) ≡ handed p z a events b r ++ handed_by t.to ev.made
-unfolding run_snoc
-handed_snoc p z a b c [] e t r ev = append-nil (handed_by t.to ev.made)
-handed_snoc p z a b c (x ∷ events) e t r ev =
-    ap (λ (l : List ℕ). handed_by x.1.to r.1.made ++ l) (handed_snoc p z r.0 b c events e t r.2 ev)
-    ∙ sym (append_assoc (handed_by x.1.to r.1.made) (handed p z r.0 events b r.2) (handed_by t.to ev.made))
-
--- some event of the longer run
-pub some_snoc : (K : Token → List Token → Machine → Type 0) (p : Program) (z : Size) (a b c : Machine) (events : Events) (e : ℕ) (t : Token) (r : Run p z a events b) (ev : Event p z e t b c)
-    → SomeEvent K p z a (events ++ (e, t) ∷ []) c (run_snoc p z a b c events e t r ev) → SomeEvent K p z a events b r ⊎ K t ev.made c
-unfolding run_snoc
-some_snoc K p z a b c [] e t r ev (inl k) = inr k
-some_snoc K p z a b c [] e t r ev (inr k) = absurd k
-some_snoc K p z a b c (x ∷ events) e t r ev (inl k) = inl (inl k)
-some_snoc K p z a b c (x ∷ events) e t r ev (inr k) = go (some_snoc K p z r.0 b c events e t r.2 ev k)
-  where
-    go : SomeEvent K p z r.0 events b r.2 ⊎ K t ev.made c → SomeEvent K p z a (x ∷ events) b r ⊎ K t ev.made c
-    go (inl k) = inl (inr k)
-    go (inr k) = inr k
-
 -- a run to here in which each frame is handed out once, and these are the frames that were
-pub record Once (p : Program) (z : Size) (start : Machine) (used : ℕ → Type 0) (u : Machine) : Type 0 where
+pub record Once (p : Program) (z : Size) (start : Machine) (used : ℕ → Type 0) (Tells : (events : Events) (u : Machine) → Run p z start events u → Type 0) (u : Machine) : Type 0 where
   pub events : Events
   pub run : Run p z start events u
   pub among : Each used (0 ∷ handed p z start events u run)
   pub differ : Spread Differ (0 ∷ handed p z start events u run)
+  -- what else is told of it
+  pub told : Tells events u run
 
-once_more : (p : Program) (z : Size) (start : Machine) (used more : ℕ → Type 0) (u v : Machine) (e : ℕ) (t : Token) → Once p z start used u → (ev : Event p z e t u v)
-    → (fs : List ℕ) → handed_by t.to ev.made ≡ fs → Each more fs → Spread Differ fs → Each (λ f. used f → ⊥) fs → ((f : ℕ) → used f → more f) → Once p z start more v
-once_more p z start used more u v e t O ev fs same new apart fresh grows =
+once_told : (p : Program) (z : Size) (start : Machine) (used : ℕ → Type 0) (Tells More : (events : Events) (u : Machine) → Run p z start events u → Type 0) (u : Machine) (O : Once p z start used Tells u)
+    → More O.events u O.run → Once p z start used More u
+once_told p z start used Tells More u O told = record { events = O.events; run = O.run; among = O.among; differ = O.differ; told = told }
+
+once_more : (p : Program) (z : Size) (start : Machine) (used more : ℕ → Type 0) (Tells More : (events : Events) (u : Machine) → Run p z start events u → Type 0) (u v : Machine) (e : ℕ) (t : Token)
+    (O : Once p z start used Tells u) (ev : Event p z e t u v)
+    → (fs : List ℕ) → handed_by t.to ev.made ≡ fs → Each more fs → Spread Differ fs → Each (λ f. used f → ⊥) fs → ((f : ℕ) → used f → more f)
+    → More (O.events ++ (e, t) ∷ []) v (run_snoc p z start u v O.events e t O.run ev) → Once p z start more More v
+once_more p z start used more Tells More u v e t O ev fs same new apart fresh grows told =
     let before : List ℕ = 0 ∷ handed p z start O.events u O.run in
     let both : handed p z start (O.events ++ (e, t) ∷ []) v (run_snoc p z start u v O.events e t O.run ev) ≡ handed p z start O.events u O.run ++ fs =
     handed_snoc p z start u v O.events e t O.run ev ∙ ap (λ (l : List ℕ). handed p z start O.events u O.run ++ l) same in
@@ -80,7 +58,30 @@ once_more p z start used more u v e t O ev fs same new apart fresh grows =
       differ = subst (λ (l : List ℕ). Spread Differ (0 ∷ l)) (sym both)
         (spread_append Differ before fs O.differ apart
         (each_weaker used (λ x. Each (Differ x) fs) (λ x ux. each_weaker (λ f. used f → ⊥) (Differ x) (λ f nf e. nf (subst used e ux)) fs fresh) before O.among));
+      told = told;
     }
+
+request_re : (h : ℕ → ℕ) (to : To) → is_request (re_to h to) ≡ is_request to
+request_re h (To.Instr f ip q) = refl
+request_re h (To.Fetch x) = refl
+request_re h (To.Store x v) = refl
+request_re h To.Manager = refl
+request_re h (To.Release f) = refl
+request_re h (To.Host j) = refl
+
+credit_re : (p : Program) (h : ℕ → ℕ) (to : To) → is_credit_event p (re_to h to) ≡ is_credit_event p to
+credit_re p h (To.Instr f ip q) = refl
+credit_re p h (To.Fetch x) = refl
+credit_re p h (To.Store x v) = refl
+credit_re p h To.Manager = refl
+credit_re p h (To.Release f) = refl
+credit_re p h (To.Host j) = refl
+
+-- What is told of the unfolded run: the events so far are counted by it, and of who holds a slot it tells what `held` tells
+-- of the run.
+pub record Told (P : Plan) (p : Program) (z : Size) (start : Machine) (h : ℕ → ℕ) (done : Events) (waiting : ℕ) (held : ℕ → ℕ → Option Holder) (events : Events) (u : Machine) (run : Run p z start events u) : Type 0 where
+  pub counted : Counted p done events waiting
+  pub holders : (f s : ℕ) → holds P p (h f) s None z start events u run ≡ held f s
 
 -- ---- what the unfolded run holds
 
@@ -175,7 +176,7 @@ hosts_out : (r : ℕ) (m new : Store) (j : ℕ) (w : Word) (made : List Token) �
 hosts_out r m new j w made (inl e) = (ap (λ (n : Store). n.out) e.2.3, ap (λ (n : Store). n.requests) e.2.3)
 hosts_out r m new j w made (inr e) = (ap (λ (n : Store). n.out) e.3, ap (λ (n : Store). n.requests) e.3)
 
-module _ (p : Program) (inputs : List ℤ) (elements frames n : ℕ) (some_frame : 0 < frames) where
+module _ (P : Plan) (p : Program) (inputs : List ℤ) (elements frames n : ℕ) (some_frame : 0 < frames) where
   wide_frame : 0 < suc n * frames
   wide_frame = let one : 0 < suc n = omega arith in mul-pos one some_frame
 
@@ -186,12 +187,19 @@ module _ (p : Program) (inputs : List ℤ) (elements frames n : ℕ) (some_frame
   abbrev pub wide : Size
   wide = record { elements = elements; frames = suc n * frames }
 
-  pub record Next (k : ℕ) (new : Machine) : Type 0 where
+  abbrev pub Telling : (ℕ → ℕ) → Events → List Cont → (ℕ → ℕ → Option Holder) → (events : Events) (u : Machine) → Run p wide (at_start p inputs) events u → Type 0
+  Telling gen done requests held = λ events u run. Told P p wide (at_start p inputs) (place total gen) done (length requests) held events u run
+
+  pub record Next (k : ℕ) (done : Events) (held : ℕ → ℕ → Option Holder) (new : Machine) : Type 0 where
     pub gen : ℕ → ℕ
     pub after : Machine
     pub naming : IsNaming total n k gen
     pub folds : Folds total (place total gen) new after
-    pub once : Once p wide (at_start p inputs) (Used total gen new.store.out) after
+    pub once : Once p wide (at_start p inputs) (Used total gen new.store.out) (Telling gen done new.store.requests held) after
+
+  -- who holds the slots after an event
+  abbrev pub held_next : (ℕ → ℕ → Option Holder) → To → Store → ℕ → ℕ → Option Holder
+  held_next held to new f s = held_by_event P p f s (held f s) to new
 
   place_below : (k : ℕ) (gen : ℕ → ℕ) → IsNaming total n k gen → (f : ℕ) → f < total → place total gen f < elements * (suc n * frames)
   place_below k gen N f below =
@@ -201,11 +209,11 @@ module _ (p : Program) (inputs : List ℤ) (elements frames n : ℕ) (some_frame
       subst (λ (x : ℕ). place total gen f < x) (sym same) low
 
   -- an event that hands out no frame and takes none back
-  plain_step : (k : ℕ) (gen : ℕ → ℕ) (m u new : Machine) (to : To) (w : Word) (made rest : List Token) → IsNaming total n (suc k) gen → Folds total (place total gen) m u
-      → Once p wide (at_start p inputs) (Used total gen m.store.out) u → IsPermutation m.pool (token to w ∷ rest) → IsPermutation new.pool (made ++ rest)
+  plain_step : (k : ℕ) (gen : ℕ → ℕ) (done : Events) (held : ℕ → ℕ → Option Holder) (m u new : Machine) (e : ℕ) (to : To) (w : Word) (made rest : List Token) → IsNaming total n (suc k) gen → Folds total (place total gen) m u
+      → Once p wide (at_start p inputs) (Used total gen m.store.out) (Telling gen done m.store.requests held) u → IsPermutation m.pool (token to w ∷ rest) → IsPermutation new.pool (made ++ rest)
       → handed_by (re_to (place total gen) to) (map (re_token (place total gen)) made) ≡ [] → (new.store.out ≡ m.store.out) × (new.store.requests ≡ m.store.requests)
-      → Follows p total (elements * (suc n * frames)) (place total gen) u.store to w made new.store → Next k new
-  plain_step k gen m u new to w made rest N S O takes leaves none same does =
+      → Follows p total (elements * (suc n * frames)) (place total gen) u.store to w made new.store → Next k (done ++ (e, token to w) ∷ []) (held_next held to new.store) new
+  plain_step k gen done held m u new e to w made rest N S O takes leaves none same does =
       let h : ℕ → ℕ = place total gen in
       let ws : List Token = waits h m.store.requests in
       let left : List Token = map (re_token h) rest ++ ws in
@@ -217,22 +225,31 @@ module _ (p : Program) (inputs : List ℤ) (elements frames n : ℕ) (some_frame
         after = after;
         naming = naming_later total n k gen N;
         folds = record { fold = does.2; pool = subst (λ (cs : List Cont). IsPermutation after.pool (map (re_token h) new.pool ++ waits h cs)) (sym same.1) (pool_after h new.pool made rest ws leaves) };
-        once = once_more p wide (at_start p inputs) (Used total gen m.store.out) (Used total gen new.store.out) u after (element_of elements (re_to h to)) (token (re_to h to) (re_word h w)) O ev
-          [] none tt tt tt (λ f. used_same total gen m.store.out new.store.out (λ g e. ap (λ (o : ℕ → Bool). o g) same.0 ∙ e) f);
+        once = once_more p wide (at_start p inputs) (Used total gen m.store.out) (Used total gen new.store.out) (Telling gen done m.store.requests held)
+          (Telling gen (done ++ (e, token to w) ∷ []) new.store.requests (held_next held to new.store)) u after (element_of elements (re_to h to)) (token (re_to h to) (re_word h w)) O ev
+          [] none tt tt tt (λ f. used_same total gen m.store.out new.store.out (λ g e. ap (λ (o : ℕ → Bool). o g) same.0 ∙ e) f)
+          record {
+            counted = subst (λ (cs : List Cont). Counted p (done ++ (e, token to w) ∷ []) (O.events ++ (element_of elements (re_to h to), token (re_to h to) (re_word h w)) ∷ []) (length cs)) (sym same.1)
+              (counted_both p done O.events (length m.store.requests) e (element_of elements (re_to h to)) (token to w) (token (re_to h to) (re_word h w)) (request_re h to) (credit_re p h to) O.told.counted);
+            holders = λ f s. holds_snoc P p (h f) s None wide (at_start p inputs) u after O.events (element_of elements (re_to h to)) (token (re_to h to) (re_word h w)) O.run ev
+              ∙ ap (λ (x : Option Holder). held_by_event P p (h f) s x (re_to h to) does.0) (O.told.holders f s)
+              ∙ held_re P p h (place_injective total n (suc k) gen N) f s (held f s) to new.store does.0 (does.2.slots f s);
+          };
       }
 
   -- a request that is served, or waits
-  ask_step : (k : ℕ) (gen : ℕ → ℕ) (m u new : Machine) (c : Cont) (made rest : List Token) → IsNaming total n (suc k) gen → Folds total (place total gen) m u
-      → Once p wide (at_start p inputs) (Used total gen m.store.out) u → IsPermutation m.pool (token To.Manager (Word.Back c) ∷ rest) → IsPermutation new.pool (made ++ rest)
-      → Requests total m.store c made new.store → Next k new
-  ask_step k gen m u new c made rest N S O takes leaves asks =
+  ask_step : (k : ℕ) (gen : ℕ → ℕ) (done : Events) (held : ℕ → ℕ → Option Holder) (m u new : Machine) (e : ℕ) (c : Cont) (made rest : List Token) → IsNaming total n (suc k) gen → Folds total (place total gen) m u
+      → Once p wide (at_start p inputs) (Used total gen m.store.out) (Telling gen done m.store.requests held) u
+      → IsPermutation m.pool (token To.Manager (Word.Back c) ∷ rest) → IsPermutation new.pool (made ++ rest)
+      → Requests total m.store c made new.store → Next k (done ++ (e, token To.Manager (Word.Back c)) ∷ []) held new
+  ask_step k gen done held m u new e c made rest N S O takes leaves asks =
       go (request_step p total (elements * (suc n * frames)) (place total gen) (place_injective total n (suc k) gen N) (place_below (suc k) gen N) m.store u.store new.store c made S.fold asks)
     where
       h : ℕ → ℕ
       h = place total gen
       go : ((f : ℕ) × (f < total) × (m.store.out f ≡ false) × (new.store ≡ with_out m.store f true) × (made ≡ answer c (Word.Frame f) ∷ [])
           × Happens p (elements * (suc n * frames)) u.store To.Manager (re_word h (Word.Back c)) (map (re_token h) made) (with_out u.store (h f) true) × Fold total h new.store (with_out u.store (h f) true))
-          ⊎ ((made ≡ []) × (new.store.requests ≡ m.store.requests ++ c ∷ []) × (new.store.out ≡ m.store.out) × Fold total h new.store u.store) → Next k new
+          ⊎ ((made ≡ []) × (new.store.requests ≡ m.store.requests ++ c ∷ []) × (new.store.out ≡ m.store.out) × Fold total h new.store u.store) → Next k (done ++ (e, token To.Manager (Word.Back c)) ∷ []) held new
       go (inl (f, below, was, is, makes, happens, fold)) =
           let ws : List Token = waits h m.store.requests in
           let left : List Token = map (re_token h) rest ++ ws in
@@ -246,10 +263,16 @@ module _ (p : Program) (inputs : List ℤ) (elements frames n : ℕ) (some_frame
             after = after;
             naming = naming_later total n k gen N;
             folds = record { fold = fold; pool = subst (λ (cs : List Cont). IsPermutation after.pool (map (re_token h) new.pool ++ waits h cs)) (sym (ap (λ (s : Store). s.requests) is)) (pool_after h new.pool made rest ws leaves) };
-            once = once_more p wide (at_start p inputs) (Used total gen m.store.out) (Used total gen new.store.out) u after 0 (token To.Manager (re_word h (Word.Back c))) O ev
+            once = once_more p wide (at_start p inputs) (Used total gen m.store.out) (Used total gen new.store.out) (Telling gen done m.store.requests held)
+              (Telling gen (done ++ (e, token To.Manager (Word.Back c)) ∷ []) new.store.requests held) u after 0 (token To.Manager (re_word h (Word.Back c))) O ev
               (h f ∷ []) (ap (λ (l : List Token). handed_by To.Manager (map (re_token h) l)) makes) ((f, gen f, below, refl, inr (refl, is_out)), tt) (tt, tt)
               (used_fresh total gen m.store.out f below was, tt)
-              (λ x. used_same total gen m.store.out new.store.out (λ g e. ap (λ (o : ℕ → Bool). o g) out ∙ stays g f (cases_eq f g) e) x);
+              (λ x. used_same total gen m.store.out new.store.out (λ g e. ap (λ (o : ℕ → Bool). o g) out ∙ stays g f (cases_eq f g) e) x)
+              record {
+                counted = subst (λ (cs : List Cont). Counted p (done ++ (e, token To.Manager (Word.Back c)) ∷ []) (O.events ++ (0, token To.Manager (re_word h (Word.Back c))) ∷ []) (length cs)) (sym (ap (λ (s : Store). s.requests) is))
+                  (counted_both p done O.events (length m.store.requests) e 0 (token To.Manager (Word.Back c)) (token To.Manager (re_word h (Word.Back c))) refl refl O.told.counted);
+                holders = λ f s. holds_snoc P p (h f) s None wide (at_start p inputs) u after O.events 0 (token To.Manager (re_word h (Word.Back c))) O.run ev ∙ O.told.holders f s;
+              };
           }
         where
           stays : (g f : ℕ) → ((f ≡ g) ⊎ (f ≡ g → ⊥)) → m.store.out g ≡ true → put_at m.store.out f true g ≡ true
@@ -274,15 +297,21 @@ module _ (p : Program) (inputs : List ℤ) (elements frames n : ℕ) (some_frame
             after = u;
             naming = naming_later total n k gen N;
             folds = record { fold = fold; pool = IsPermutation-trans _ _ _ whole d };
-            once = subst (λ (o : ℕ → Bool). Once p wide (at_start p inputs) (Used total gen o) u) (sym out) O;
+            once = subst (λ (o : ℕ → Bool). Once p wide (at_start p inputs) (Used total gen o) (Telling gen (done ++ (e, t) ∷ []) new.store.requests held) u) (sym out)
+              (once_told p wide (at_start p inputs) (Used total gen m.store.out) (Telling gen done m.store.requests held) (Telling gen (done ++ (e, t) ∷ []) new.store.requests held) u O record {
+                counted = subst (Counted p (done ++ (e, t) ∷ []) O.events) (sym (ap length more ∙ length-append m.store.requests (c ∷ []))) (counted_waits p done O.events (length m.store.requests) e (Word.Back c) O.told.counted);
+                holders = O.told.holders;
+              });
           }
 
   -- a release, of a frame that nothing else names
-  release_step : (k : ℕ) (gen : ℕ → ℕ) (m u new : Machine) (f : ℕ) (w : Word) (made rest : List Token) → IsNaming total n (suc k) gen → Folds total (place total gen) m u
-      → Once p wide (at_start p inputs) (Used total gen m.store.out) u → FreesOnce p inputs elements
-      → IsPermutation m.pool (token (To.Release f) w ∷ rest) → IsPermutation new.pool (made ++ rest) → Releases m.store f made new.store → Next k new
-  release_step k gen m u new f w made rest N S O frees takes leaves releases = go releases.1
+  release_step : (k : ℕ) (gen : ℕ → ℕ) (done : Events) (held : ℕ → ℕ → Option Holder) (m u new : Machine) (e : ℕ) (f : ℕ) (w : Word) (made rest : List Token) → IsNaming total n (suc k) gen → Folds total (place total gen) m u
+      → Once p wide (at_start p inputs) (Used total gen m.store.out) (Telling gen done m.store.requests held) u → FreesOnce p inputs elements
+      → IsPermutation m.pool (token (To.Release f) w ∷ rest) → IsPermutation new.pool (made ++ rest) → Releases m.store f made new.store → Next k (done ++ (e, token (To.Release f) w) ∷ []) held new
+  release_step k gen done held m u new e f w made rest N S O frees takes leaves releases = go releases.1
     where
+      done2 : Events
+      done2 = done ++ (e, token (To.Release f) w) ∷ []
       h : ℕ → ℕ
       h = place total gen
       gen2 : ℕ → ℕ
@@ -313,13 +342,27 @@ module _ (p : Program) (inputs : List ℤ) (elements frames n : ℕ) (some_frame
       mid = record { store = with_out u.store (h f) false; pool = left }
       ev : Event p wide 0 (token (To.Release (h f)) (re_word h w)) u mid
       ev = record { made = []; rest = left; addressed = refl; takes = before; happens = (is_out, inl (S.fold.none_waits, refl, refl)); leaves = IsPermutation-refl left }
-      once : Once p wide (at_start p inputs) (Used total gen2 (put_at m.store.out f false)) mid
-      once = once_more p wide (at_start p inputs) (Used total gen m.store.out) (Used total gen2 (put_at m.store.out f false)) u mid 0 (token (To.Release (h f)) (re_word h w)) O ev
-          [] refl tt tt tt (used_freed total gen m.store.out f)
+      fresh_slots : (((r : ℕ) → u.store.slots (h2 f) r ≡ Empty) × (u.store.out (h2 f) ≡ false)) ⊎ ((g : ℕ) × (h2 f ≡ h g)) → (r : ℕ) → u.store.slots (h2 f) r ≡ Empty
+      fresh_slots (inl o) = o.0
+      fresh_slots (inr o) = absurd (renews.fresh o.0 o.1)
+      none_before : (g s : ℕ) → u.store.slots g s ≡ Empty → holds P p g s None wide (at_start p inputs) O.events u O.run ≡ None
+      none_before g s empty = holds_none P p g s None wide (at_start p inputs) O.events u O.run (λ e. refl) empty
+      holders2 : (g s : ℕ) → (g ≡ f) ⊎ (g ≡ f → ⊥) → holds P p (h2 g) s None wide (at_start p inputs) O.events u O.run ≡ held g s
+      holders2 g s (inl e) =
+          ap (λ (x : ℕ). holds P p (h2 x) s None wide (at_start p inputs) O.events u O.run) e ∙ none_before (h2 f) s (fresh_slots (S.fold.others (h2 f)) s)
+          ∙ sym (none_before (h f) s (free.slots s)) ∙ O.told.holders f s ∙ ap (λ (x : ℕ). held x s) (sym e)
+      holders2 g s (inr ne) = ap (λ (x : ℕ). holds P p x s None wide (at_start p inputs) O.events u O.run) (renews.same g ne) ∙ O.told.holders g s
+      once : Once p wide (at_start p inputs) (Used total gen2 (put_at m.store.out f false)) (Telling gen2 done2 m.store.requests held) mid
+      once = once_more p wide (at_start p inputs) (Used total gen m.store.out) (Used total gen2 (put_at m.store.out f false)) (Telling gen done m.store.requests held) (Telling gen2 done2 m.store.requests held) u mid 0
+          (token (To.Release (h f)) (re_word h w)) O ev [] refl tt tt tt (used_freed total gen m.store.out f)
+          record {
+            counted = counted_both p done O.events (length m.store.requests) e 0 (token (To.Release f) w) (token (To.Release (h f)) (re_word h w)) refl refl O.told.counted;
+            holders = λ g s. holds_snoc P p (h2 g) s None wide (at_start p inputs) u mid O.events 0 (token (To.Release (h f)) (re_word h w)) O.run ev ∙ holders2 g s (cases_eq g f);
+          }
       same_left : left ≡ map (re_token h2) rest ++ waits h2 m.store.requests
       same_left = ap (λ (l : List Token). l ++ waits h m.store.requests) (sym kept) ∙ ap (λ (l : List Token). map (re_token h2) rest ++ l) (sym kept_waits)
       go : ((m.store.requests ≡ []) × (made ≡ []) × (new.store ≡ with_out m.store f false))
-          ⊎ ((c : Cont) × (cs : List Cont) × IsPermutation m.store.requests (c ∷ cs) × (made ≡ answer c (Word.Frame f) ∷ []) × (new.store ≡ with_requests m.store cs)) → Next k new
+          ⊎ ((c : Cont) × (cs : List Cont) × IsPermutation m.store.requests (c ∷ cs) × (made ≡ answer c (Word.Frame f) ∷ []) × (new.store ≡ with_requests m.store cs)) → Next k done2 held new
       go (inl (idle, none, is)) =
           let after : IsPermutation new.pool rest = subst (λ (l : List Token). IsPermutation new.pool (l ++ rest)) none leaves in
           let same : waits h2 m.store.requests ≡ waits h2 new.store.requests = ap (λ (s : Store). waits h2 s.requests) (sym is) in
@@ -333,7 +376,7 @@ module _ (p : Program) (inputs : List ℤ) (elements frames n : ℕ) (some_frame
               fold = subst (λ (s : Store). Fold total h2 s mid.store) (sym is) fold;
               pool = subst (λ (l : List Token). IsPermutation left (map (re_token h2) new.pool ++ l)) same (subst (λ (l : List Token). IsPermutation l (map (re_token h2) new.pool ++ waits h2 m.store.requests)) (sym same_left) moved);
             };
-            once = subst (λ (o : ℕ → Bool). Once p wide (at_start p inputs) (Used total gen2 o) mid) (sym (ap (λ (s : Store). s.out) is)) once;
+            once = subst (λ (s : Store). Once p wide (at_start p inputs) (Used total gen2 s.out) (Telling gen2 done2 s.requests held) mid) (sym is) once;
           }
       go (inr (c, cs, waiting, makes, is)) =
           let t : Token = token To.Manager (Word.Back c) in
@@ -358,10 +401,16 @@ module _ (p : Program) (inputs : List ℤ) (elements frames n : ℕ) (some_frame
             naming = naming;
             folds = record { fold = subst (λ (s : Store). Fold total h2 s after.store) (sym is) now;
               pool = subst (λ (l : List Cont). IsPermutation after.pool (map (re_token h2) new.pool ++ waits h2 l)) (sym (ap (λ (s : Store). s.requests) is)) (pool_after h2 new.pool made rest ws leaves) };
-            once = once_more p wide (at_start p inputs) (Used total gen2 (put_at m.store.out f false)) (Used total gen2 new.store.out) mid after 0 (re_token h2 t) once ev2
+            once = once_more p wide (at_start p inputs) (Used total gen2 (put_at m.store.out f false)) (Used total gen2 new.store.out) (Telling gen2 done2 m.store.requests held) (Telling gen2 done2 new.store.requests held)
+              mid after 0 (re_token h2 t) once ev2
               (h2 f ∷ []) (ap (λ (l : List Token). handed_by To.Manager (map (re_token h2) l)) makes) ((f, gen2 f, below, refl, inr (refl, ap (λ (o : ℕ → Bool). o f) out ∙ releases.0)), tt) (tt, tt)
               (used_fresh total gen2 (put_at m.store.out f false) f below (put_same m.store.out f false f refl), tt)
-              (λ x. used_same total gen2 (put_at m.store.out f false) new.store.out (λ g e. ap (λ (o : ℕ → Bool). o g) out ∙ back g (cases_eq f g) e) x);
+              (λ x. used_same total gen2 (put_at m.store.out f false) new.store.out (λ g e. ap (λ (o : ℕ → Bool). o g) out ∙ back g (cases_eq f g) e) x)
+              record {
+                counted = subst (λ (cs : List Cont). Counted p done2 (once.events ++ (0, re_token h2 t) ∷ []) (length cs)) (sym (ap (λ (s : Store). s.requests) is))
+                  (counted_serves p done2 once.events (length cs) 0 (re_word h2 (Word.Back c)) (subst (Counted p done2 once.events) (sym (length_permutation _ _ waiting)) once.told.counted));
+                holders = λ g s. holds_snoc P p (h2 g) s None wide (at_start p inputs) mid after once.events 0 (re_token h2 t) once.run ev2 ∙ once.told.holders g s;
+              };
           }
         where
           still_out : (g : ℕ) → ((f ≡ g) ⊎ (f ≡ g → ⊥)) → m.store.out g ≡ put_at (put_at m.store.out f false) f true g
@@ -372,43 +421,49 @@ module _ (p : Program) (inputs : List ℤ) (elements frames n : ℕ) (some_frame
           back g (inr ne) q = sym (put_other m.store.out f false g ne) ∙ q
 
   -- any event
-  any_step : (k : ℕ) (gen : ℕ → ℕ) (m u new : Machine) (to : To) (w : Word) (made rest : List Token) → IsNaming total n (suc k) gen → Folds total (place total gen) m u
-      → Once p wide (at_start p inputs) (Used total gen m.store.out) u → FreesOnce p inputs elements
-      → IsPermutation m.pool (token to w ∷ rest) → IsPermutation new.pool (made ++ rest) → Happens p total m.store to w made new.store → Next k new
-  any_step k gen m u new (To.Instr f ip q) w made rest N S O frees takes leaves happens =
-      plain_step k gen m u new (To.Instr f ip q) w made rest N S O takes leaves refl
+  any_step : (k : ℕ) (gen : ℕ → ℕ) (done : Events) (held : ℕ → ℕ → Option Holder) (m u new : Machine) (e : ℕ) (to : To) (w : Word) (made rest : List Token) → IsNaming total n (suc k) gen → Folds total (place total gen) m u
+      → Once p wide (at_start p inputs) (Used total gen m.store.out) (Telling gen done m.store.requests held) u → FreesOnce p inputs elements
+      → IsPermutation m.pool (token to w ∷ rest) → IsPermutation new.pool (made ++ rest) → Happens p total m.store to w made new.store
+      → Next k (done ++ (e, token to w) ∷ []) (held_next held to new.store) new
+  any_step k gen done held m u new e (To.Instr f ip q) w made rest N S O frees takes leaves happens =
+      plain_step k gen done held m u new e (To.Instr f ip q) w made rest N S O takes leaves refl
       (fires_out m.store new.store f (slot_used (instr_at p ip)) (rule_at p record { frame = f; ip = ip } (instr_at p ip) (slot_in m.store f (slot_used (instr_at p ip))) q w) made happens)
       (instr_step p total (elements * (suc n * frames)) (place total gen) (place_injective total n (suc k) gen N) m.store u.store new.store f ip q w made S.fold happens)
-  any_step k gen m u new (To.Fetch x) (Word.Back c) made rest N S O frees takes leaves happens =
-      plain_step k gen m u new (To.Fetch x) (Word.Back c) made rest N S O takes leaves refl (fetches_out m.store new.store x c (m.store.cells x) made happens)
+  any_step k gen done held m u new e (To.Fetch x) (Word.Back c) made rest N S O frees takes leaves happens =
+      plain_step k gen done held m u new e (To.Fetch x) (Word.Back c) made rest N S O takes leaves refl (fetches_out m.store new.store x c (m.store.cells x) made happens)
       (fetch_step p total (elements * (suc n * frames)) (place total gen) m.store u.store new.store x (Word.Back c) made S.fold happens)
-  any_step k gen m u new (To.Store x v) (Word.Back c) made rest N S O frees takes leaves happens =
-      plain_step k gen m u new (To.Store x v) (Word.Back c) made rest N S O takes leaves refl (stores_out m.store new.store x v c (m.store.cells x) made happens)
+  any_step k gen done held m u new e (To.Store x v) (Word.Back c) made rest N S O frees takes leaves happens =
+      plain_step k gen done held m u new e (To.Store x v) (Word.Back c) made rest N S O takes leaves refl (stores_out m.store new.store x v c (m.store.cells x) made happens)
       (store_step p total (elements * (suc n * frames)) (place total gen) m.store u.store new.store x v (Word.Back c) made S.fold happens)
-  any_step k gen m u new To.Manager (Word.Back c) made rest N S O frees takes leaves happens = ask_step k gen m u new c made rest N S O takes leaves happens
-  any_step k gen m u new (To.Release f) w made rest N S O frees takes leaves happens = release_step k gen m u new f w made rest N S O frees takes leaves happens
-  any_step k gen m u new (To.Host j) w made rest N S O frees takes leaves happens =
-      plain_step k gen m u new (To.Host j) w made rest N S O takes leaves refl (hosts_out (outputs_of p) m.store new.store j w made happens)
+  any_step k gen done held m u new e To.Manager (Word.Back c) made rest N S O frees takes leaves happens = ask_step k gen done held m u new e c made rest N S O takes leaves happens
+  any_step k gen done held m u new e (To.Release f) w made rest N S O frees takes leaves happens = release_step k gen done held m u new e f w made rest N S O frees takes leaves happens
+  any_step k gen done held m u new e (To.Host j) w made rest N S O frees takes leaves happens =
+      plain_step k gen done held m u new e (To.Host j) w made rest N S O takes leaves refl (hosts_out (outputs_of p) m.store new.store j w made happens)
       (host_step p total (elements * (suc n * frames)) (place total gen) m.store u.store new.store j w made S.fold happens)
-  any_step k gen m u new to w made rest N S O frees takes leaves happens = absurd happens
+  any_step k gen done held m u new e to w made rest N S O frees takes leaves happens = absurd happens
 
   -- the rest of a run
-  run_steps : (events : Events) (gen : ℕ → ℕ) (m u new : Machine) → IsNaming total n (length events) gen → Folds total (place total gen) m u
-      → Once p wide (at_start p inputs) (Used total gen m.store.out) u → FreesOnce p inputs elements → Run p record { elements = elements; frames = frames } m events new → Next 0 new
-  run_steps [] gen m u new N S O frees r = record {
+  run_steps : (extra : ℕ) (events : Events) (gen : ℕ → ℕ) (done : Events) (held : ℕ → ℕ → Option Holder) (m u new : Machine) → IsNaming total n (extra + length events) gen → Folds total (place total gen) m u
+      → Once p wide (at_start p inputs) (Used total gen m.store.out) (Telling gen done m.store.requests held) u → FreesOnce p inputs elements
+      → (r : Run p record { elements = elements; frames = frames } m events new)
+      → Next extra (done ++ events) (λ f s. holds P p f s (held f s) record { elements = elements; frames = frames } m events new r) new
+  run_steps extra [] gen done held m u new N S O frees r = record {
       gen = gen;
       after = u;
-      naming = N;
+      naming = subst (λ (k : ℕ). IsNaming total n k gen) (add-zero extra) N;
       folds = record {
         fold = subst (λ (s : Store). Fold total (place total gen) s u.store) (sym r.1) S.fold;
         pool = subst (λ (s : Store). IsPermutation u.pool (map (re_token (place total gen)) new.pool ++ waits (place total gen) s.requests)) (sym r.1)
           (IsPermutation-trans _ _ _ S.pool (IsPermutation-append_left (waits (place total gen) m.store.requests) _ _ (IsPermutation-map (re_token (place total gen)) m.pool new.pool r.0)));
       };
-      once = subst (λ (s : Store). Once p wide (at_start p inputs) (Used total gen s.out) u) (sym r.1) O;
+      once = subst (λ (s : Store). Once p wide (at_start p inputs) (Used total gen s.out) (Telling gen (done ++ []) s.requests held) u) (sym r.1)
+        (subst (λ (l : Events). Once p wide (at_start p inputs) (Used total gen m.store.out) (Telling gen l m.store.requests held) u) (sym (append-nil done)) O);
     }
-  run_steps (x ∷ events) gen m u new N S O frees r =
-      let next : Next (length events) r.0 = any_step (length events) gen m u r.0 x.1.to x.1.word r.1.made r.1.rest N S O frees r.1.takes r.1.leaves r.1.happens in
-      run_steps events next.gen r.0 next.after new next.naming next.folds next.once frees r.2
+  run_steps extra (x ∷ events) gen done held m u new N S O frees r =
+      let next : Next (extra + length events) (done ++ x ∷ []) (held_next held x.1.to r.0.store) r.0 =
+      any_step (extra + length events) gen done held m u r.0 x.0 x.1.to x.1.word r.1.made r.1.rest (subst (λ (k : ℕ). IsNaming total n k gen) (add-suc extra (length events)) N) S O frees r.1.takes r.1.leaves r.1.happens in
+      let rest = run_steps extra events next.gen (done ++ x ∷ []) (held_next held x.1.to r.0.store) r.0 next.after new next.naming next.folds next.once frees r.2 in
+      subst (λ (l : Events). Next extra l (λ f s. holds P p f s (held f s) record { elements = elements; frames = frames } m (x ∷ events) new r) new) (append_assoc done (x ∷ []) events) rest
 
 -- ---- the start
 
@@ -477,37 +532,50 @@ start_folds p inputs t n pos =
 
 -- ---- THE FRAME HALF OF THE LAW
 
-pub record HasOnce (p : Program) (inputs : List ℤ) (z : Size) (m : Machine) : Type 0 where
+-- The run in which each frame is used once, of a run with these events to m. `held` tells who holds the slots of m.
+pub record HasOnce (P : Plan) (p : Program) (inputs : List ℤ) (z : Size) (events : Events) (held : ℕ → ℕ → Option Holder) (m : Machine) : Type 0 where
   pub frames : ℕ
   pub some_frame : 0 < frames
-  pub events : Events
+  pub unfolded : Events
   pub last : Machine
-  pub run : Run p record { elements = z.elements; frames = frames } (at_start p inputs) events last
-  pub once : EachOnce (0 ∷ handed p record { elements = z.elements; frames = frames } (at_start p inputs) events last run)
+  pub run : Run p record { elements = z.elements; frames = frames } (at_start p inputs) unfolded last
+  pub once : EachOnce (0 ∷ handed p record { elements = z.elements; frames = frames } (at_start p inputs) unfolded last run)
   pub gen : ℕ → ℕ
   pub folds : Folds (z.elements * z.frames) (λ g. g + gen g * (z.elements * z.frames)) m last
+  pub counted : Counted p events unfolded (length m.store.requests)
+  pub injective : Injective (λ g. g + gen g * (z.elements * z.frames))
+  pub holders : (f s : ℕ) → holds P p (f + gen f * (z.elements * z.frames)) s None record { elements = z.elements; frames = frames } (at_start p inputs) unfolded last run ≡ held f s
 
-pub frames_once : (p : Program) (inputs : List ℤ) (z : Size) (events : Events) (m : Machine) → 0 < z.elements → 0 < z.frames → FreesOnce p inputs z.elements
-    → Run p z (at_start p inputs) events m → HasOnce p inputs z m
-frames_once p inputs z events m some_element some_frame frees r =
-    let t : ℕ = z.elements * z.frames in
-    let n : ℕ = length events in
-    let pos : 0 < t = mul-pos some_element some_frame in
-    let first = first_place t n pos in
-    let start : Once p (wide p inputs z.elements z.frames n some_frame) (at_start p inputs) (Used t (gen_start t n) (at_start p inputs).store.out) (at_start p inputs) =
-    record { events = []; run = (IsPermutation-refl _, refl); among = ((0, 0, pos, sym (zero-mul t) ∙ sum_zero (0 * t), inr (sym first.0, refl)), tt); differ = (tt, tt) } in
-    let end : Next p inputs z.elements z.frames n some_frame 0 m =
-    run_steps p inputs z.elements z.frames n some_frame events (gen_start t n) (at_start p inputs) (at_start p inputs) m (naming_start t n) (start_folds p inputs t n pos) start frees r in
-    record {
-      frames = suc n * z.frames;
-      some_frame = (let one : 0 < suc n = omega arith in mul-pos one some_frame);
-      events = end.once.events;
-      last = end.after;
-      run = end.once.run;
-      once = all_differ (0 ∷ handed p (wide p inputs z.elements z.frames n some_frame) (at_start p inputs) end.once.events end.after end.once.run) end.once.differ;
-      gen = end.gen;
-      folds = end.folds;
-    }
-  where
-    sum_zero : (x : ℕ) → x ≡ 0 + x
-    sum_zero x = omega arith
+module _ (P : Plan) (p : Program) (inputs : List ℤ) (z : Size) (events : Events) (m : Machine) (some_element : 0 < z.elements) (some_frame : 0 < z.frames) (frees : FreesOnce p inputs z.elements)
+    (r : Run p z (at_start p inputs) events m) where
+  abbrev uses : ℕ
+  uses = length events + length events
+
+  pub last_state : Next P p inputs z.elements z.frames uses some_frame (length events) events (λ f s. holds P p f s None z (at_start p inputs) events m r) m
+  last_state =
+      let t : ℕ = z.elements * z.frames in
+      let pos : 0 < t = mul-pos some_element some_frame in
+      let first = first_place t uses pos in
+      let start : Once p (wide P p inputs z.elements z.frames uses some_frame) (at_start p inputs) (Used t (gen_start t uses) (at_start p inputs).store.out)
+        (Telling P p inputs z.elements z.frames uses some_frame (gen_start t uses) [] [] (λ f s. None)) (at_start p inputs) =
+      record { events = []; run = (IsPermutation-refl _, refl); among = ((0, 0, pos, sym (zero-mul t) ∙ sum_zero (0 * t), inr (sym first.0, refl)), tt); differ = (tt, tt);
+        told = record { counted = record { events = refl; requests = refl; credits = refl }; holders = λ f s. refl } } in
+      run_steps P p inputs z.elements z.frames uses some_frame (length events) events (gen_start t uses) [] (λ f s. None) (at_start p inputs) (at_start p inputs) m (naming_start t uses) (start_folds p inputs t uses pos) start frees r
+    where
+      sum_zero : (x : ℕ) → x ≡ 0 + x
+      sum_zero x = omega arith
+
+  pub frames_once : HasOnce P p inputs z events (λ f s. holds P p f s None z (at_start p inputs) events m r) m
+  frames_once = record {
+    frames = suc uses * z.frames;
+    some_frame = (let one : 0 < suc uses = omega arith in mul-pos one some_frame);
+    unfolded = last_state.once.events;
+    last = last_state.after;
+    run = last_state.once.run;
+    once = all_differ (0 ∷ handed p (wide P p inputs z.elements z.frames uses some_frame) (at_start p inputs) last_state.once.events last_state.after last_state.once.run) last_state.once.differ;
+    gen = last_state.gen;
+    folds = last_state.folds;
+    counted = last_state.once.told.counted;
+    injective = place_injective (z.elements * z.frames) uses (length events) last_state.gen last_state.naming;
+    holders = last_state.once.told.holders;
+  }

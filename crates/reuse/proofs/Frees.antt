@@ -71,13 +71,13 @@ free_back t h f rest m u F free = record {
   slots = λ r. empty_back h (m.store.slots f r) (sym (free.slots r) ∙ F.slots f r);
 }
 
-pub frees_always : (p : Program) (inputs : List ℤ) (z : Size) (events : Events) (m : Machine) → 0 < z.elements → 0 < z.frames → FreesOnce p inputs z.elements
+pub frees_always : (P : Plan) (p : Program) (inputs : List ℤ) (z : Size) (events : Events) (m : Machine) → 0 < z.elements → 0 < z.frames → FreesOnce p inputs z.elements
     → Run p z (at_start p inputs) events m → IsFreeAtRelease m
-frees_always p inputs z events m some_element some_frame frees r f w rest takes is_out =
-    let H : HasOnce p inputs z m = frames_once p inputs z events m some_element some_frame frees r in
+frees_always P p inputs z events m some_element some_frame frees r f w rest takes is_out =
+    let H = frames_once P p inputs z events m some_element some_frame frees r in
     let h : ℕ → ℕ = λ (g : ℕ). g + H.gen g * (z.elements * z.frames) in
     let before = pool_before h m H.last (token (To.Release f) w) rest (waits h m.store.requests) H.folds.pool takes in
-    let free = frees H.frames H.some_frame H.events H.last H.run H.once (h f) (re_word h w) (map (re_token h) rest ++ waits h m.store.requests) before (H.folds.fold.out f ∙ is_out) in
+    let free = frees H.frames H.some_frame H.unfolded H.last H.run H.once (h f) (re_word h w) (map (re_token h) rest ++ waits h m.store.requests) before (H.folds.fold.out f ∙ is_out) in
     (λ e. free.0 (named_word h f w e), free_back (z.elements * z.frames) h f rest m H.last H.folds.fold free.1)
 
 -- for an orderly plan: the release clause in every run, and the unfolded run
@@ -88,4 +88,4 @@ frees_from p inputs elements orderly some_element fit frames some_frame events u
 pub release_always : (p : Plan) (inputs : List ℤ) (z : Size) (events : Events) (m : Machine) → Orderly p → IsStart p z inputs
     → Run p.program z (at_start p.program inputs) events m → IsFreeAtRelease m
 release_always p inputs z events m orderly start r =
-    frees_always p.program inputs z events m start.some_element start.some_frame (frees_from p inputs z.elements orderly start.some_element start.inputs_fit) r
+    frees_always p p.program inputs z events m start.some_element start.some_frame (frees_from p inputs z.elements orderly start.some_element start.inputs_fit) r

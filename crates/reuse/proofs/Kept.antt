@@ -19,7 +19,8 @@ use Rattle.semantics.specs.Arcs.{UsesArc, SomeEvent}
 use Rattle.semantics.specs.Orderly.{is_entry, met, IsOrderlyRun}
 use Rattle.semantics.specs.Wired.{IsWired}
 use Rattle.reuse.proofs.Fold.{map_append}
-use Rattle.reuse.proofs.Frames.{run_snoc, some_snoc}
+use Rattle.reuse.proofs.Snoc.{run_snoc, some_snoc}
+use Rattle.reuse.proofs.Still.{slots_or}
 use Rattle.reuse.proofs.Stands.{some_same, Stands, stands_at, Found, found}
 use Rattle.reuse.proofs.Uses.{contains_head, contains_none, at_port, Filled, EmptyOr, filled_more, Move, move_of, filled_after}
 use Rattle.reuse.proofs.Used.{arc_stands, Ports, Used, used_same}
@@ -36,41 +37,6 @@ pub record Kept (p : Plan) (z : Size) (start : Machine) (events : Events) (u : M
 
 pub ports_of : (p : Plan) (z : Size) (start : Machine) (events : Events) (u : Machine) (run : Run p.program z start events u) → IsOrderlyRun p z start events u run → Ports p (taken events) u.pool
 ports_of p z start events u run O = record { once = O.once; block = O.block }
-
--- ---- EVENTS THAT READ NO SLOT
-
-fetches_slots : (m new : MStore) (x : ℕ) (c : Cont) (y : CellState) (made : List Token) → Fetches m x c y made new → new.slots ≡ m.slots
-fetches_slots m new x c Vacant made e = ap (λ (n : MStore). n.slots) e.1
-fetches_slots m new x c (Deferred cs) made e = ap (λ (n : MStore). n.slots) e.1
-fetches_slots m new x c (Full v) made e = ap (λ (n : MStore). n.slots) e.1
-
-stores_slots : (m new : MStore) (x : ℕ) (v : Value) (c : Cont) (y : CellState) (made : List Token) → Stores m x v c y made new → new.slots ≡ m.slots
-stores_slots m new x v c Vacant made e = ap (λ (n : MStore). n.slots) e.1
-stores_slots m new x v c (Deferred cs) made e = ap (λ (n : MStore). n.slots) e.1
-stores_slots m new x v c (Full w) made e = absurd e
-
-requests_slots : (t : ℕ) (m new : MStore) (c : Cont) (made : List Token) → Requests t m c made new → new.slots ≡ m.slots
-requests_slots t m new c made (inl e) = ap (λ (n : MStore). n.slots) e.4
-requests_slots t m new c made (inr e) = ap (λ (n : MStore). n.slots) e.2
-
-releases_slots : (m new : MStore) (f : ℕ) (made : List Token) → Releases m f made new → new.slots ≡ m.slots
-releases_slots m new f made (out, inl e) = ap (λ (n : MStore). n.slots) e.2
-releases_slots m new f made (out, inr e) = ap (λ (n : MStore). n.slots) e.4
-
-hosts_slots : (r : ℕ) (m new : MStore) (j : ℕ) (w : Word) (made : List Token) → Hosts r m j w made new → new.slots ≡ m.slots
-hosts_slots r m new j w made (inl e) = ap (λ (n : MStore). n.slots) e.2.3
-hosts_slots r m new j w made (inr e) = ap (λ (n : MStore). n.slots) e.3
-
--- the slots are as before, or an instruction's event it was
-pub slots_or : (p : Program) (total : ℕ) (m new : MStore) (to : To) (w : Word) (made : List Token) → Happens p total m to w made new
-    → (new.slots ≡ m.slots) ⊎ ((f : ℕ) × (ip : ℕ) × (q : Port) × (to ≡ To.Instr f ip q))
-slots_or p total m new (To.Instr f ip q) w made e = inr (f, ip, q, refl)
-slots_or p total m new (To.Fetch x) (Word.Back c) made e = inl (fetches_slots m new x c (m.cells x) made e)
-slots_or p total m new (To.Store x v) (Word.Back c) made e = inl (stores_slots m new x v c (m.cells x) made e)
-slots_or p total m new To.Manager (Word.Back c) made e = inl (requests_slots total m new c made e)
-slots_or p total m new (To.Release f) w made e = inl (releases_slots m new f made e)
-slots_or p total m new (To.Host j) w made e = inl (hosts_slots (outputs_of p) m new j w made e)
-slots_or p total m new to w made e = absurd e
 
 -- an instruction's event finds its instruction
 pub instr_found : (p : Program) (total f ip : ℕ) (q : Port) (w : Word) (made : List Token) (m new : MStore) → Happens p total m (To.Instr f ip q) w made new → (i : Instr) × Found p ip i

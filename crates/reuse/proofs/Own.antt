@@ -26,7 +26,7 @@ use Rattle.semantics.specs.Unfolded.{HasSlot}
 use Rattle.semantics.specs.Wired.{IsWired}
 use Rattle.reuse.specs.OwnSlots.{HasOwnSlots, IsOwnRun, OnceRunsAreOwn}
 use Rattle.reuse.proofs.Fold.{map_append}
-use Rattle.reuse.proofs.Frames.{run_snoc, handed_snoc}
+use Rattle.reuse.proofs.Snoc.{run_snoc, handed_snoc}
 use Rattle.reuse.proofs.Places.{outcome_same, moved_to, Located, Nowhere, There, located, first_same, Agrees, agrees_idle}
 use Rattle.reuse.proofs.Placed.{Alone, in_slot, slot_moved, Unmoved, Shown, slot_same, instr_placed}
 use Rattle.reuse.proofs.Carried.{Same, Carried, results_same, fetch_carried, store_carried, request_carried, host_carried, release_carried}
