@@ -43,7 +43,7 @@ once_told : (p : Program) (z : Size) (start : Machine) (used : ℕ → Type 0) (
     → More O.events u O.run → Once p z start used More u
 once_told p z start used Tells More u O told = record { events = O.events; run = O.run; among = O.among; differ = O.differ; told = told }
 
-once_more : (p : Program) (z : Size) (start : Machine) (used more : ℕ → Type 0) (Tells More : (events : Events) (u : Machine) → Run p z start events u → Type 0) (u v : Machine) (e : ℕ) (t : Token)
+pub once_more : (p : Program) (z : Size) (start : Machine) (used more : ℕ → Type 0) (Tells More : (events : Events) (u : Machine) → Run p z start events u → Type 0) (u v : Machine) (e : ℕ) (t : Token)
     (O : Once p z start used Tells u) (ev : Event p z e t u v)
     → (fs : List ℕ) → handed_by t.to ev.made ≡ fs → Each more fs → Spread Differ fs → Each (λ f. used f → ⊥) fs → ((f : ℕ) → used f → more f)
     → More (O.events ++ (e, t) ∷ []) v (run_snoc p z start u v O.events e t O.run ev) → Once p z start more More v
