@@ -134,7 +134,7 @@ out_fold t h inj m u f below F = record {
 
 -- ---- ONE LEMMA FOR EACH KIND OF EVENT
 
-slot_in_re : (t : ℕ) (h : ℕ → ℕ) (m u : Store) (f : ℕ) (r : Option ℕ) → Fold t h m u → slot_in u (h f) r ≡ re_slot h (slot_in m f r)
+pub slot_in_re : (t : ℕ) (h : ℕ → ℕ) (m u : Store) (f : ℕ) (r : Option ℕ) → Fold t h m u → slot_in u (h f) r ≡ re_slot h (slot_in m f r)
 slot_in_re t h m u f None F = refl
 slot_in_re t h m u f (Some r) F = F.slots f r
 

@@ -9,7 +9,7 @@ use Rattle.tags.specs.declared.token.To.{To}
 use Rattle.tags.specs.declared.token.Token.{Token}
 use Rattle.semantics.specs.Program.{Program}
 use Rattle.semantics.specs.Rule.{token}
-use Rattle.semantics.specs.Machine.{CellState, Store, Machine, Size, Event, Events, Run, at_start, put_at, with_out, answer}
+use Rattle.semantics.specs.Machine.{CellState, Vacant, Full, Deferred, value_in, Store, Machine, Size, Event, Events, Run, at_start, put_at, with_out, answer}
 use Rattle.semantics.specs.Plan.{Plan}
 use Rattle.semantics.specs.Handed.{handed, EachOnce}
 use Rattle.semantics.specs.Holders.{Holder, holds}
@@ -94,8 +94,13 @@ module _ (P : Plan) (p : Program) (inputs : List ℤ) (elements frames n : ℕ) 
           (F ∷ []) refl (inr (suc J, omega (arith, low), omega arith, refl), tt) (tt, tt) (fresh J low, tt) grows
           (counted_serves p done O.events (length cs) 0 (Word.Back (re_cont h c)) O.told)
 
+pub value_in_re : (h : ℕ → ℕ) (y : CellState) → value_in (re_cell h y) ≡ value_in y
+value_in_re h Vacant = refl
+value_in_re h (Full v) = refl
+value_in_re h (Deferred cs) = refl
+
 -- ---- all requests of a run's last state
-pub record HasServed (p : Program) (inputs : List ℤ) (z : Size) (events : Events) (gen : ℕ → ℕ) (m : Machine) : Type 0 where
+pub record HasServed (p : Program) (inputs : List ℤ) (z : Size) (events : Events) (m : Machine) : Type 0 where
   pub frames : ℕ
   pub some_frame : 0 < frames
   pub unfolded : Events
@@ -103,7 +108,7 @@ pub record HasServed (p : Program) (inputs : List ℤ) (z : Size) (events : Even
   pub run : Run p record { elements = z.elements; frames = frames } (at_start p inputs) unfolded last
   pub once : EachOnce (0 ∷ handed p record { elements = z.elements; frames = frames } (at_start p inputs) unfolded last run)
   pub counted : Counted p events unfolded 0
-  pub cells : (x : ℕ) → last.store.cells x ≡ re_cell (λ g. g + gen g * (z.elements * z.frames)) (m.store.cells x)
+  pub cells : (x : ℕ) → value_in (last.store.cells x) ≡ value_in (m.store.cells x)
   pub outputs : last.store.outputs ≡ m.store.outputs
 
 module _ (P : Plan) (p : Program) (inputs : List ℤ) (z : Size) (events : Events) (m : Machine) (some_element : 0 < z.elements) (some_frame : 0 < z.frames) (frees : FreesOnce p inputs z.elements)
@@ -143,7 +148,7 @@ module _ (P : Plan) (p : Program) (inputs : List ℤ) (z : Size) (events : Event
         told = N.once.told.counted;
       }
 
-  pub has_served : HasServed p inputs z events N.gen m
+  pub has_served : HasServed p inputs z events m
   has_served = record {
     frames = suc many * z.frames;
     some_frame = (let one : 0 < suc many = omega arith in mul-pos one some_frame);
@@ -152,6 +157,6 @@ module _ (P : Plan) (p : Program) (inputs : List ℤ) (z : Size) (events : Event
     run = served.once.run;
     once = all_differ (0 ∷ handed p (wide P p inputs z.elements z.frames many some_frame) (at_start p inputs) served.once.events served.last served.once.run) served.once.differ;
     counted = served.once.told;
-    cells = λ x. ap (λ (c : ℕ → CellState). c x) served.cells ∙ N.folds.fold.cells x;
+    cells = λ x. ap (λ (c : ℕ → CellState). value_in (c x)) served.cells ∙ ap value_in (N.folds.fold.cells x) ∙ value_in_re (place (z.elements * z.frames) N.gen) (m.store.cells x);
     outputs = served.outputs ∙ N.folds.fold.outputs;
   }
