@@ -16,7 +16,7 @@ use Rattle.tags.specs.declared.slot.SlotState.TheVariants.{Empty, Credits, Waite
 use Rattle.semantics.specs.Graph.{Flow}
 use Rattle.semantics.specs.Meaning as Meaning
 use Rattle.semantics.specs.Program.{Instr, Program, instr_at}
-use Rattle.semantics.specs.Rule.{Outcome, Becomes, Excluded, rule_at}
+use Rattle.semantics.specs.Rule.{token, Outcome, Becomes, Excluded, rule_at}
 use Rattle.semantics.specs.Machine as Machine
 use Rattle.semantics.specs.Machine.{CellState, Vacant, Full, Deferred, Machine, Store, Size, Events, Run, at_start, slot_in, slot_used, Resting, Wants, excluded_by, unless_back, unless_value, filled, host_rule, outputs_of, stuck_rule, reader_count, value_in}
 use Rattle.semantics.specs.Cause.{SameSeen, HasCause, request_count, credit_count, is_turn}
@@ -27,12 +27,17 @@ use Rattle.semantics.specs.Placed.{placed}
 use Rattle.semantics.specs.Orderly.{Orderly, IsStart}
 use Rattle.semantics.specs.Renamed.{re_cont, re_word, re_to, re_token, re_slot, re_cell}
 use Rattle.semantics.specs.Wired.{IsWired}
-use Rattle.reuse.specs.Theorem.{TakesInputs, SharedSlotsAreFaithful, ReleasesAreLast}
+use Rattle.reuse.specs.Theorem.{TakesInputs, SharedSlotsAreFaithful, ReleasesAreLast, HoldersAreAlone}
+use Rattle.semantics.specs.Handed.{handed}
+use Rattle.semantics.specs.Holders.{Holder, holds}
+use Rattle.reuse.proofs.Own.{Own, own_run}
+use Rattle.reuse.proofs.OwnSlots.{own_alone}
+use Rattle.reuse.proofs.Uses.{contains_head}
 use Rattle.reuse.proofs.Renames.{re_outcome, rule_re}
 use Rattle.reuse.proofs.Counts.{Counted}
 use Rattle.reuse.proofs.Fold.{Fold, slot_in_re}
 use Rattle.reuse.proofs.Freed.{empty_back}
-use Rattle.reuse.proofs.Frames.{Folds, FreesOnce, HasOnce, frames_once}
+use Rattle.reuse.proofs.Frames.{waits, Folds, FreesOnce, HasOnce, frames_once}
 use Rattle.reuse.proofs.Served.{HasServed, value_in_re, has_served}
 use Rattle.reuse.proofs.Frees.{contains_map}
 use Rattle.reuse.proofs.Unfold.{frees_shared, release_shared}
@@ -191,3 +196,24 @@ shared_slots_are_faithful fl p slots F orderly wired good takes = faith_kept fl 
 pub releases_are_last : ReleasesAreLast
 releases_are_last fl p slots orderly wired good takes inputs z events m r =
     release_shared p slots wired good orderly inputs z events m (start_of fl p slots takes inputs z events m r) r.run
+
+pub holders_are_alone : HoldersAreAlone
+holders_are_alone fl p slots orderly wired good takes inputs z events m next e t r ev f ip s q x to is_x uses =
+    let start : IsStart p z inputs = start_of fl p slots takes inputs z events m r in
+    let frees : FreesOnce (placed p slots) inputs z.elements = frees_shared p slots wired good orderly inputs z start in
+    let H = frames_once p (placed p slots) inputs z events m r.some_element r.some_frame frees r.run in
+    let h : ℕ → ℕ = λ (g : ℕ). g + H.gen g * (z.elements * z.frames) in
+    let wide : Size = record { elements = z.elements; frames = H.frames } in
+    let wide_start : IsStart p wide inputs = record { some_element = start.some_element; some_frame = H.some_frame; inputs_fit = start.inputs_fit } in
+    let gone : List ℕ = handed (placed p slots) wide (at_start (placed p slots) inputs) H.unfolded H.last H.run in
+    let held : ℕ → ℕ → Option Holder = λ g s. holds p (placed p slots) g s None wide (at_start (placed p slots) inputs) H.unfolded H.last H.run in
+    let own : Own p slots wide inputs H.unfolded H.last gone held = own_run p slots wired good orderly inputs wide wide_start H.unfolded H.last H.run H.once in
+    let here : Contains m.pool t = Contains-permutation _ _ t (IsPermutation-sym _ _ ev.takes) (contains_head t ev.rest) in
+    let there : Contains H.last.pool (re_token h t) =
+    Contains-permutation _ _ _ (IsPermutation-sym _ _ H.folds.pool) (Contains-append_left (map (re_token h) m.pool) (waits h m.store.requests) (re_token h t) (contains_map (re_token h) m.pool t here)) in
+    let waits_there : Contains H.last.pool (token (To.Instr (h f) ip q) (re_word h t.word)) = subst (λ (to : To). Contains H.last.pool (token (re_to h to) (re_word h t.word))) to there in
+    carry (H.holders f s) (own_alone p slots wired good orderly inputs wide wide_start H.unfolded H.last gone held own H.once (h f) ip s q (re_word h t.word) x waits_there is_x uses)
+  where
+    carry : {a b : Option Holder} → a ≡ b → (a ≡ None) ⊎ (a ≡ Some x) → (b ≡ None) ⊎ (b ≡ Some x)
+    carry e (inl d) = inl (sym e ∙ d)
+    carry e (inr d) = inr (sym e ∙ d)
