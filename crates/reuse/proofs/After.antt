@@ -1,5 +1,5 @@
 -- What an instruction's event leaves: the arcs that were used before are used still, and those that it uses itself are.
-use Rattle.std.proofs.Common.{◌≡◌, refl, sym, ap, ◌∙◌, subst, ℕ, zero, suc, ◌+◌, ◌<◌, ◌≤◌, ◌⊎◌, inl, inr, Bool, true, false, not, true≢false, ◌&&◌, List, [], ◌∷◌, ◌++◌, map, length, Option, Some, None, Contains, arith}
+use Rattle.std.proofs.Common.{◌≡◌, refl, sym, ap, ◌∙◌, subst, ℕ, ◌+◌, ◌⊎◌, inl, inr, Bool, true, false, not, true≢false, ◌&&◌, List, [], ◌∷◌, ◌++◌, Some, Contains, arith}
 use Rattle.std.specs.Prelude.{slice_get, if◌then◌else◌}
 use Rattle.std.proofs.lemmas.Bool.{cases_Bool, and_from}
 use Rattle.std.proofs.lemmas.List.Elements.{Contains-append_left, Contains-append_right, Contains-push}
@@ -16,10 +16,10 @@ use Rattle.tags.specs.declared.slot.SlotState.TheVariants.{Empty}
 use Rattle.semantics.specs.declared.program.Dest.{Dest}
 use Rattle.semantics.specs.declared.program.Op.{Op}
 use Rattle.semantics.specs.declared.program.Op.TheVariants.{Apply1, Apply2, Apply2Right, Apply2Left, Lit, Copy, Sync, Switch, Fetch, Store, Frame, Link, Send, Return, Ask, Open, Take, Give, Drain, Release}
-use Rattle.semantics.specs.Program.{Instr, CodeBlock, Program, first_of, instr_at}
-use Rattle.semantics.specs.Rule.{token, Seat, at_dest, to_each, fire_two, Becomes, outcome_of, slot_of}
+use Rattle.semantics.specs.Program.{Instr, CodeBlock, first_of}
+use Rattle.semantics.specs.Rule.{at_dest, to_each, fire_two, Becomes, outcome_of, slot_of}
 use Rattle.semantics.specs.Machine.{Machine, Store as MStore, slot_in}
-use Rattle.semantics.specs.Plan.{Plan, is_credit, is_open, OneHolder, IsPlanBlock}
+use Rattle.semantics.specs.Plan.{Plan, is_credit, is_open, IsPlanBlock}
 use Rattle.semantics.specs.Sharing.{Inlet, inlet, Arc, arc, arcs_to, arcs_from, arcs_in, is_port, ends_with}
 use Rattle.semantics.specs.Arcs.{UsesBy}
 use Rattle.semantics.specs.Wired.{is_dyadic, IsWired}
@@ -27,8 +27,8 @@ use Rattle.determinacy.proofs.Resolved.{all_get}
 use Rattle.reuse.proofs.Frees.{contains_map}
 use Rattle.reuse.proofs.Stands.{some_same, Stands, stands_one}
 use Rattle.reuse.proofs.Turns.{is_counting, is_later, Turn, waits_left, waits_right, meets_right, meets_left, lone, begins, counts, drain_turn, later_not_dyadic, open_not_dyadic, dyadic_not_credit}
-use Rattle.reuse.proofs.Uses.{contains_none, at_port, Came, later_on, Filled, EmptyOr, opened_from, none_some, Move, turn, slot_cases, slot_new}
-use Rattle.reuse.proofs.Used.{contains_mapped, stands_arcs, credit_port, later_port, open_end, dyadic_slot, later_slot, Ports, one_frame, not_twice, Over, Used, came_later, same_over, used_later, no_move}
+use Rattle.reuse.proofs.Uses.{contains_none, at_port, Came, later_on, EmptyOr, opened_from, none_some, Move, turn, slot_cases, slot_new}
+use Rattle.reuse.proofs.Used.{contains_mapped, stands_arcs, credit_port, later_port, open_end, dyadic_slot, Ports, one_frame, not_twice, Over, Used, came_later, same_over, used_later, no_move}
 
 later_credit : (op : Op) → is_later op ≡ true → is_credit op ≡ true
 later_credit (Take k) d = refl

@@ -1,25 +1,24 @@
 -- Who holds a slot of the code, as the plan's run tells it: the holder has something, and the slot is its own.
-use Rattle.std.proofs.Common.{◌≡◌, refl, zero-add, sym, ap, ◌∙◌, subst, ℕ, zero, suc, ◌+◌, ◌-◌, ◌<◌, ◌⊎◌, inl, inr, Bool, true, false, List, [], ◌∷◌, ◌++◌, length, Option, Some, None, Contains, arith, lt-ltb, le-ltb}
-use Rattle.std.specs.Prelude.{slice_get, slice_index_or, if◌then◌else◌, nat_lt, ◌==◌, ⊤}
-use Rattle.std.proofs.lemmas.Bool.{cases_eq, eq-eqb}
+use Rattle.std.proofs.Common.{◌≡◌, refl, zero-add, sym, ap, ◌∙◌, subst, ℕ, zero, suc, ◌+◌, ◌-◌, ◌<◌, ◌⊎◌, inl, inr, Bool, List, [], ◌∷◌, ◌++◌, length, Option, Some, None, Contains, arith, lt-ltb, le-ltb}
+use Rattle.std.specs.Prelude.{slice_get, slice_index_or, if◌then◌else◌, nat_lt, ⊤}
+use Rattle.std.proofs.lemmas.Bool.{cases_eq}
 use Rattle.std.proofs.lemmas.List.Elements.{Contains-append_left, Contains-append_right}
 use Rattle.tags.specs.declared.token.Port.{Port}
 use Rattle.tags.specs.declared.token.Word.{Word}
 use Rattle.tags.specs.declared.token.Token.{Token}
 use Rattle.tags.specs.declared.slot.SlotState.{SlotState}
 use Rattle.tags.specs.declared.slot.SlotState.TheVariants.{Empty}
-use Rattle.semantics.specs.Program.{Instr, CodeBlock, Program, first_of, instr_at}
+use Rattle.semantics.specs.Program.{Instr, CodeBlock, first_of}
 use Rattle.semantics.specs.Rule.{slot_of}
 use Rattle.semantics.specs.Machine.{slot_used}
 use Rattle.semantics.specs.Plan.{Plan}
 use Rattle.semantics.specs.Sharing.{placed_slot}
-use Rattle.semantics.specs.Placed.{placed}
-use Rattle.semantics.specs.Holders.{Holder, holder_of, holder_from, holder_at, uses_slot}
+use Rattle.semantics.specs.Holders.{Holder, holder_of, holder_from, holder_at}
 use Rattle.semantics.specs.Unfolded.{HasSlot}
 use Rattle.reuse.proofs.Places.{moved_to}
 use Rattle.reuse.proofs.Placed.{Alone, in_slot, slot_moved}
 use Rattle.reuse.proofs.Stands.{some_same, first_in, first_next, Stands, stands_within}
-use Rattle.reuse.proofs.Uses.{at_port, later_on, none_some}
+use Rattle.reuse.proofs.Uses.{at_port, later_on}
 use Rattle.reuse.proofs.Used.{Ports, one_frame}
 
 pub index_got : (slots : List (List ℕ)) (b : ℕ) (ss : List ℕ) → slice_get slots b ≡ Some ss → slice_index_or slots b [] ≡ ss

@@ -16,7 +16,7 @@ use Rattle.semantics.specs.Plan.{Plan}
 use Rattle.semantics.specs.Renamed.{re_cont, re_word, re_to, re_token, re_slot, re_cell}
 use Rattle.reuse.proofs.Fold.{Fold}
 use Rattle.reuse.proofs.Freed.{empty_back}
-use Rattle.reuse.proofs.Frames.{asking, waits, pool_before, FreesOnce, HasOnce, frames_once}
+use Rattle.reuse.proofs.Frames.{asking, waits, pool_before, FreesOnce, frames_once}
 
 pub contains_map : {X Y : Type 0} (f : X → Y) (xs : List X) (x : X) → Contains xs x → Contains (map f xs) (f x)
 contains_map f [] x (i, below, e) = absurd (omega arith)

@@ -1,29 +1,27 @@
 -- An orderly run keeps what its states tell: by induction on its history.
-use Rattle.std.proofs.Common.{◌≡◌, refl, sym, ap, ◌∙◌, subst, ℕ, ◌+◌, ◌*◌, ◌⊎◌, inl, inr, Bool, true, false, ℤ, List, [], ◌∷◌, ◌++◌, map, Option, Some, None, Contains}
-use Rattle.std.specs.Prelude.{slice_get, count_by}
-use Rattle.std.proofs.lemmas.List.Elements.{Contains-append_right, Contains-push_cases}
+use Rattle.std.proofs.Common.{◌≡◌, refl, sym, ap, ◌∙◌, subst, ℕ, ◌+◌, ◌*◌, ◌⊎◌, inl, inr, false, ℤ, List, [], ◌∷◌, ◌++◌, map, Option, Some, None, Contains}
+use Rattle.std.specs.Prelude.{slice_get}
+use Rattle.std.proofs.lemmas.List.Elements.{Contains-push_cases}
 use Rattle.std.proofs.lemmas.List.Sorted.{Contains-permutation, IsPermutation-sym}
-use Rattle.tags.specs.declared.value.Value.{Value}
 use Rattle.tags.specs.declared.token.Port.{Port}
-use Rattle.tags.specs.declared.token.Cont.{Cont}
 use Rattle.tags.specs.declared.token.Word.{Word}
 use Rattle.tags.specs.declared.token.To.{To}
 use Rattle.tags.specs.declared.token.Token.{Token}
 use Rattle.tags.specs.declared.slot.SlotState.{SlotState}
 use Rattle.semantics.specs.Program.{Instr, CodeBlock, Program, first_of, instr_at}
 use Rattle.semantics.specs.Rule.{token, rule_at}
-use Rattle.semantics.specs.Machine.{CellState, Vacant, Full, Deferred, Machine, Store as MStore, Size, Event, Events, Run, at_start, outputs_of, slot_in, slot_used, Fires, Fetches, Stores, Requests, Releases, Hosts, Happens}
+use Rattle.semantics.specs.Machine.{Machine, Store as MStore, Size, Event, Events, Run, at_start, slot_in, slot_used, Fires, Happens}
 use Rattle.semantics.specs.Plan.{Plan}
-use Rattle.semantics.specs.Sharing.{Arc, arcs_in}
+use Rattle.semantics.specs.Sharing.{arcs_in}
 use Rattle.semantics.specs.Arcs.{UsesArc, SomeEvent}
-use Rattle.semantics.specs.Orderly.{is_entry, met, IsOrderlyRun}
+use Rattle.semantics.specs.Orderly.{is_entry, IsOrderlyRun}
 use Rattle.semantics.specs.Wired.{IsWired}
 use Rattle.reuse.proofs.Fold.{map_append}
 use Rattle.reuse.proofs.Snoc.{run_snoc, some_snoc}
 use Rattle.reuse.proofs.Still.{slots_or}
 use Rattle.reuse.proofs.Stands.{some_same, Stands, stands_at, Found, found}
 use Rattle.reuse.proofs.Uses.{contains_head, contains_none, at_port, Filled, EmptyOr, filled_more, Move, move_of, filled_after}
-use Rattle.reuse.proofs.Used.{arc_stands, Ports, Used, used_same}
+use Rattle.reuse.proofs.Used.{arc_stands, Ports, used_same}
 use Rattle.reuse.proofs.After.{CausedBy, caused_next, caused_by}
 
 -- the tokens that the events took

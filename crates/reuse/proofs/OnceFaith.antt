@@ -1,24 +1,19 @@
 -- Over good slots, a run that uses each frame once keeps faith as the plan's runs do.
-use Rattle.std.proofs.Common.{◌≡◌, refl, sym, ap, ◌∙◌, subst, ℕ, zero, suc, ◌+◌, ◌⊎◌, inl, inr, ℤ, List, [], ◌∷◌, ◌++◌, length, Option, Some, None, arith}
-use Rattle.std.specs.Prelude.{slice_get}
-use Rattle.semantics.specs.declared.program.Op.TheVariants.{Frame}
+use Rattle.std.proofs.Common.{sym, ◌∙◌, ℕ, ℤ, List, Option, None}
 use Rattle.semantics.specs.Graph.{Flow}
-use Rattle.semantics.specs.Program.{Instr, CodeBlock, Program, instr_at}
-use Rattle.semantics.specs.Machine.{Machine, Size, Events, Run, at_start}
+use Rattle.semantics.specs.Machine.{Machine, Size, Events, at_start}
 use Rattle.semantics.specs.Faithful.{IsRun, Faithful}
 use Rattle.semantics.specs.Plan.{Plan}
 use Rattle.semantics.specs.Sharing.{Good}
 use Rattle.semantics.specs.Placed.{placed}
-use Rattle.semantics.specs.Handed.{handed, EachOnce, UsesEachOnce}
+use Rattle.semantics.specs.Handed.{handed, UsesEachOnce}
 use Rattle.semantics.specs.Orderly.{Orderly, IsStart}
 use Rattle.semantics.specs.Wired.{IsWired}
 use Rattle.reuse.specs.Theorem.{TakesInputs}
-use Rattle.reuse.proofs.Places.{moved_to, Located, Nowhere, There, located}
-use Rattle.reuse.proofs.Stands.{some_same}
 use Rattle.semantics.specs.Holders.{Holder, holds}
 use Rattle.reuse.proofs.Own.{Own, own_run}
 use Rattle.reuse.proofs.OwnSlots.{own_slots, own_matching}
-use Rattle.reuse.proofs.Clauses.{KeepsFaith, keeps_faith, faith_kept, code_bounds, faith_same}
+use Rattle.reuse.proofs.Clauses.{KeepsFaith, keeps_faith, faith_same}
 
 -- a run that uses each frame once keeps faith as the plan does
 pub once_keeps_faith : (fl : Flow) (p : Plan) (slots : List (List ℕ)) → Faithful fl p.program → Orderly p → IsWired p → Good p slots → TakesInputs fl p

@@ -1,11 +1,9 @@
 -- A run over good slots that hands out each frame at most once is, event by event, a run of the plan.
-use Rattle.std.proofs.Common.{◌≡◌, refl, sym, ap, ◌∙◌, subst, ℕ, zero, suc, ◌+◌, ◌*◌, ◌<◌, ◌⊎◌, inl, inr, Bool, true, false, true≢false, ◌&&◌, ℤ, List, [], ◌∷◌, ◌++◌, map, length, Option, Some, None, Contains, IsPermutation, arith, append_assoc, append-nil}
-use Rattle.std.specs.Prelude.{slice_get, slice_index_or, if◌then◌else◌, nat_lt, ◌==◌}
+use Rattle.std.proofs.Common.{◌≡◌, refl, sym, ap, ◌∙◌, subst, ℕ, zero, suc, ◌+◌, ◌*◌, ◌⊎◌, inl, inr, Bool, true, false, true≢false, ◌&&◌, ℤ, List, [], ◌∷◌, ◌++◌, Option, Some, None, Contains, IsPermutation, append_assoc, append-nil}
+use Rattle.std.specs.Prelude.{slice_get, if◌then◌else◌, ◌==◌}
 use Rattle.std.proofs.lemmas.Bool.{cases_eq, and_parts, and_from, eqb-true, eq-eqb}
 use Rattle.std.proofs.lemmas.List.Elements.{Contains-append_left, Contains-append_right, Contains-push}
 use Rattle.std.proofs.lemmas.List.Sorted.{Contains-permutation, IsPermutation-refl, IsPermutation-sym, IsPermutation-trans}
-use Rattle.tags.specs.declared.value.Value.{Value}
-use Rattle.tags.specs.declared.value.Value.TheVariants.{Int}
 use Rattle.tags.specs.declared.token.Port.{Port}
 use Rattle.tags.specs.declared.token.Port.TheVariants.{Left}
 use Rattle.tags.specs.declared.token.Cont.{Cont}
@@ -15,29 +13,28 @@ use Rattle.tags.specs.declared.token.Token.{Token}
 use Rattle.tags.specs.declared.slot.SlotState.{SlotState}
 use Rattle.tags.specs.declared.slot.SlotState.TheVariants as Slot
 use Rattle.tags.specs.declared.slot.SlotState.TheVariants.{Empty, Credits, Waiter, Draining}
-use Rattle.semantics.specs.Program.{Instr, CodeBlock, Program, first_of, instr_at}
-use Rattle.semantics.specs.Rule.{token, Seat, rule_at, outcome_of, slot_of}
-use Rattle.semantics.specs.Machine.{Machine, Store as MStore, CellState, Size, Event, Events, Run, input_tokens, at_start, slot_in, slot_used, Fires, Happens, outputs_of, excluded_by, unless_value, filled, host_rule, stuck_rule}
+use Rattle.semantics.specs.Program.{Instr, Program, instr_at}
+use Rattle.semantics.specs.Rule.{token, rule_at, slot_of}
+use Rattle.semantics.specs.Machine.{Machine, Store as MStore, Size, Event, Events, Run, input_tokens, at_start, slot_in, slot_used, Fires, Happens}
 use Rattle.semantics.specs.Plan.{Plan}
-use Rattle.semantics.specs.Sharing.{Good, placed_slot}
-use Rattle.semantics.specs.Placed.{placed, placed_blocks}
+use Rattle.semantics.specs.Sharing.{Good}
+use Rattle.semantics.specs.Placed.{placed}
 use Rattle.semantics.specs.Handed.{handed_by, handed, EachOnce, UsesEachOnce}
 use Rattle.semantics.specs.Orderly.{Orderly, IsStart, IsOrderlyRun}
 use Rattle.semantics.specs.Unfolded.{HasSlot}
 use Rattle.semantics.specs.Wired.{IsWired}
-use Rattle.reuse.specs.OwnSlots.{HasOwnSlots, IsOwnRun, OnceRunsAreOwn}
 use Rattle.reuse.proofs.Fold.{map_append}
 use Rattle.reuse.proofs.Snoc.{run_snoc, handed_snoc}
 use Rattle.reuse.proofs.Places.{moved_to, Located, Nowhere, There, located, first_same, Agrees, agrees_idle, agrees_at, empty_or}
-use Rattle.reuse.proofs.Placed.{Alone, in_slot, slot_moved, Unmoved, Shown, slot_same, instr_placed}
-use Rattle.reuse.proofs.Carried.{Same, Carried, results_same, fetch_carried, store_carried, request_carried, host_carried, release_carried}
+use Rattle.reuse.proofs.Placed.{Alone, Unmoved, Shown, instr_placed}
+use Rattle.reuse.proofs.Carried.{Same, Carried, fetch_carried, store_carried, request_carried, host_carried, release_carried}
 use Rattle.reuse.proofs.Stands.{some_same, Stands}
 use Rattle.reuse.proofs.Uses.{contains_head, at_port, later_on, Move, move_of, slot_cases}
 use Rattle.reuse.proofs.Used.{Ports, one_frame}
 use Rattle.semantics.specs.Holders.{Holder, holder_of, holder_at, held_after, uses_slot, held_by_event, holds}
 use Rattle.reuse.proofs.Claims.{index_got, holder_here, Claim, ClaimOr, claim_later, claim_slot, claim_same, slot_there, slot_is}
 use Rattle.reuse.proofs.Kept.{taken, Kept, ports_of, kept_next, kept_start}
-use Rattle.reuse.proofs.Owners.{full_alone, alone_here}
+use Rattle.reuse.proofs.Owners.{alone_here}
 
 -- ---- THE TWO STATES
 

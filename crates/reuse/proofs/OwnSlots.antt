@@ -1,44 +1,37 @@
 -- What is in the slots of a run that uses each frame once, by its holders; and no rule excludes a token of the code that
 -- it does not exclude of the plan.
-use Rattle.std.proofs.Common.{◌≡◌, refl, sym, ap, ◌∙◌, subst, ℕ, zero, suc, ◌+◌, ◌*◌, ◌<◌, ◌⊎◌, inl, inr, Bool, true, false, ℤ, List, [], ◌∷◌, ◌++◌, map, length, Option, Some, None, Contains, IsPermutation, arith, append_assoc, append-nil}
-use Rattle.std.specs.Prelude.{slice_get, slice_index_or, if◌then◌else◌, nat_lt, ◌==◌}
-use Rattle.std.proofs.lemmas.Bool.{cases_eq}
-use Rattle.std.proofs.lemmas.List.Elements.{Contains-append_left, Contains-append_right, Contains-push}
-use Rattle.std.proofs.lemmas.List.Sorted.{Contains-permutation, IsPermutation-refl, IsPermutation-sym, IsPermutation-trans}
-use Rattle.tags.specs.declared.value.Value.{Value}
-use Rattle.tags.specs.declared.value.Value.TheVariants.{Int}
+use Rattle.std.proofs.Common.{◌≡◌, refl, sym, ap, ◌∙◌, subst, ℕ, ◌⊎◌, inl, inr, Bool, ℤ, List, ◌∷◌, Option, Some, None, Contains}
+use Rattle.std.specs.Prelude.{slice_get, if◌then◌else◌, nat_lt, ◌==◌}
+use Rattle.std.proofs.lemmas.List.Elements.{Contains-append_left, Contains-append_right}
+use Rattle.std.proofs.lemmas.List.Sorted.{Contains-permutation, IsPermutation-sym}
 use Rattle.tags.specs.declared.token.Port.{Port}
-use Rattle.tags.specs.declared.token.Port.TheVariants.{Left}
-use Rattle.tags.specs.declared.token.Cont.{Cont}
 use Rattle.tags.specs.declared.token.Word.{Word}
 use Rattle.tags.specs.declared.token.To.{To}
 use Rattle.tags.specs.declared.token.Token.{Token}
 use Rattle.tags.specs.declared.slot.SlotState.{SlotState}
 use Rattle.tags.specs.declared.slot.SlotState.TheVariants.{Empty}
-use Rattle.semantics.specs.Program.{Instr, CodeBlock, Program, first_of, instr_at}
+use Rattle.semantics.specs.Program.{Instr, instr_at}
 use Rattle.semantics.specs.Rule.{token, Seat, rule_at, outcome_of, slot_of}
-use Rattle.semantics.specs.Machine.{Machine, Store as MStore, CellState, Size, Event, Events, Run, input_tokens, at_start, slot_in, slot_used, Fires, Happens, outputs_of, excluded_by, unless_value, filled, host_rule, stuck_rule}
+use Rattle.semantics.specs.Machine.{Machine, Size, Events, at_start, slot_in, slot_used, outputs_of, excluded_by, unless_value, filled, host_rule, stuck_rule}
 use Rattle.semantics.specs.Plan.{Plan}
 use Rattle.semantics.specs.Sharing.{Good, placed_slot}
 use Rattle.semantics.specs.Placed.{placed, placed_blocks}
-use Rattle.semantics.specs.Handed.{handed_by, handed, EachOnce, UsesEachOnce}
+use Rattle.semantics.specs.Handed.{handed, EachOnce}
 use Rattle.semantics.specs.Orderly.{Orderly, IsStart, IsOrderlyRun}
 use Rattle.semantics.specs.Unfolded.{HasSlot}
 use Rattle.semantics.specs.Wired.{IsWired}
-use Rattle.reuse.specs.OwnSlots.{HasOwnSlots, IsOwnRun, OnceRunsAreOwn}
-use Rattle.reuse.proofs.Fold.{map_append}
-use Rattle.reuse.proofs.Snoc.{run_snoc, handed_snoc}
-use Rattle.reuse.proofs.Places.{outcome_same, moved_to, Located, Nowhere, There, located, first_same, Agrees, agrees_idle}
-use Rattle.reuse.proofs.Placed.{Alone, in_slot, slot_moved, Unmoved, Shown, slot_same, instr_placed}
-use Rattle.reuse.proofs.Carried.{Same, Carried, results_same, fetch_carried, store_carried, request_carried, host_carried, release_carried}
-use Rattle.reuse.proofs.Stands.{some_same, Stands}
-use Rattle.reuse.proofs.Uses.{contains_head, at_port, later_on}
-use Rattle.reuse.proofs.Used.{Ports, one_frame}
-use Rattle.reuse.proofs.Kept.{taken, Kept, ports_of, kept_next, kept_start}
+use Rattle.reuse.specs.OwnSlots.{HasOwnSlots, OnceRunsAreOwn}
+use Rattle.reuse.proofs.Places.{outcome_same, moved_to, Located, Nowhere, There, located, first_same, Agrees}
+use Rattle.reuse.proofs.Placed.{Alone, in_slot, slot_moved, slot_same}
+use Rattle.reuse.proofs.Carried.{Same, results_same}
+use Rattle.reuse.proofs.Stands.{Stands}
+use Rattle.reuse.proofs.Uses.{at_port}
+use Rattle.reuse.proofs.Used.{Ports}
+use Rattle.reuse.proofs.Kept.{taken, ports_of}
 use Rattle.reuse.proofs.Owners.{full_alone, alone_here}
-use Rattle.reuse.proofs.Claims.{index_got, Claim, ClaimOr, claim_same, slot_there, holder_here}
+use Rattle.reuse.proofs.Claims.{index_got, ClaimOr, claim_same, slot_there, holder_here}
 use Rattle.semantics.specs.Holders.{Holder, holder_of, holder_at, holds}
-use Rattle.reuse.proofs.Own.{Busy, IdleOr, Tied, frame_agrees, Own, orderly_here, own_run}
+use Rattle.reuse.proofs.Own.{IdleOr, frame_agrees, Own, orderly_here, own_run}
 
 busy_block : (p : Plan) (slots : List (List ℕ)) (ts : List Token) (f : ℕ) (code plan : ℕ → SlotState) → IdleOr p slots ts f code plan → ℕ
 busy_block p slots ts f code plan (inl idle) = 0

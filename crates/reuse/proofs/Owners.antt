@@ -1,5 +1,5 @@
 -- In an orderly run, two holders that may share a slot are never both live: the facts of one frame's invocation.
-use Rattle.std.proofs.Common.{◌≡◌, ◌≢◌, refl, sym, ap, ◌∙◌, subst, ℕ, zero, suc, ◌+◌, ◌<◌, ◌⊎◌, inl, inr, Bool, true, false, not, true≢false, List, [], ◌∷◌, ◌++◌, length, Option, Some, None, Contains, arith}
+use Rattle.std.proofs.Common.{◌≡◌, refl, sym, ap, ◌∙◌, subst, ℕ, zero, suc, ◌+◌, ◌<◌, ◌⊎◌, inl, inr, Bool, true, false, not, true≢false, List, [], ◌∷◌, ◌++◌, length, Option, Some, None, Contains, arith}
 use Rattle.std.specs.Prelude.{slice_get}
 use Rattle.std.proofs.lemmas.Bool.{cases_Bool, cases_eq}
 use Rattle.std.proofs.lemmas.Option.{slice_get_within}
@@ -9,29 +9,25 @@ use Rattle.tags.specs.declared.value.Value.{Value}
 use Rattle.tags.specs.declared.token.Port.{Port}
 use Rattle.tags.specs.declared.token.Port.TheVariants.{Left, Right}
 use Rattle.tags.specs.declared.token.Word.{Word}
-use Rattle.tags.specs.declared.token.To.{To}
 use Rattle.tags.specs.declared.token.Token.{Token}
 use Rattle.tags.specs.declared.slot.SlotState.{SlotState}
 use Rattle.tags.specs.declared.slot.SlotState.TheVariants as Slot
 use Rattle.tags.specs.declared.slot.SlotState.TheVariants.{Empty, Credits, Waiter, Draining}
-use Rattle.semantics.specs.declared.program.Op.{Op}
-use Rattle.semantics.specs.declared.program.Op.TheVariants.{Switch}
 use Rattle.semantics.specs.declared.program.Mark.{Mark}
-use Rattle.semantics.specs.declared.program.Mark.TheVariants.{Unmarked}
-use Rattle.semantics.specs.Program.{Instr, CodeBlock, Program, first_of, instr_at}
-use Rattle.semantics.specs.Rule.{token, Outcome, Becomes, Excluded, outcome_of, rule_at, slot_of}
+use Rattle.semantics.specs.Program.{Instr, CodeBlock, Program, first_of}
+use Rattle.semantics.specs.Rule.{Outcome, Becomes, Excluded, outcome_of, rule_at, slot_of}
 use Rattle.semantics.specs.Machine.{Machine, Size, Events, Run, excluded_by, slot_in, slot_used}
-use Rattle.semantics.specs.Plan.{Plan, mark_at, instr_in, is_open, IsPlanBlock}
+use Rattle.semantics.specs.Plan.{Plan, instr_in, IsPlanBlock}
 use Rattle.semantics.specs.Sharing.{Inlet, inlet, Arc, arcs_of, arcs_in, Holds, ends_with, IsEnd, IsSide, is_port, IsHolderPort, Good}
-use Rattle.semantics.specs.Orderly.{is_entry, IsMarked, IsOrderlyRun}
-use Rattle.semantics.specs.Wired.{is_dyadic, StandsAt, IsWired}
+use Rattle.semantics.specs.Orderly.{is_entry, IsOrderlyRun}
+use Rattle.semantics.specs.Wired.{is_dyadic, IsWired}
 use Rattle.determinacy.proofs.Resolved.{all_get}
 use Rattle.reuse.proofs.Joined.{alone_from}
 use Rattle.reuse.proofs.Placed.{Alone}
-use Rattle.reuse.proofs.Shares.{IsCaused, IsKept, one_live}
-use Rattle.reuse.proofs.Stands.{some_same, past_entries, Stands, stands_at, stands_one, stands_within}
-use Rattle.reuse.proofs.Turns.{Turn, turn_of}
-use Rattle.reuse.proofs.Uses.{at_port, Came, Tells, Filled, EmptyOr}
+use Rattle.reuse.proofs.Shares.{IsKept, one_live}
+use Rattle.reuse.proofs.Stands.{some_same, past_entries, Stands, stands_at, stands_one}
+use Rattle.reuse.proofs.Turns.{turn_of}
+use Rattle.reuse.proofs.Uses.{at_port, Came, Tells, EmptyOr}
 use Rattle.reuse.proofs.Used.{dyadic_port, open_port, Ports, one_frame, not_twice, Over, Used, no_move}
 use Rattle.reuse.proofs.After.{CausedBy}
 use Rattle.reuse.proofs.Kept.{taken, Kept, ports_of}

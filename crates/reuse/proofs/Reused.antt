@@ -1,11 +1,10 @@
 -- The clauses of a faithful run, from the run that uses each frame once to that in which frames are used again.
-use Rattle.std.proofs.Common.{◌≡◌, refl, sym, ap, ◌∙◌, subst, ℕ, ◌+◌, ◌*◌, ◌<◌, ◌≤◌, ◌⊎◌, inl, inr, ℤ, Bool, true, false, List, [], ◌∷◌, ◌++◌, map, length, Option, Some, None, Contains, IsPermutation, arith}
+use Rattle.std.proofs.Common.{◌≡◌, refl, sym, ap, ◌∙◌, subst, ℕ, ◌+◌, ◌*◌, ◌≤◌, ◌⊎◌, inl, inr, ℤ, Bool, false, List, [], ◌∷◌, ◌++◌, map, length, Option, Some, None, Contains, IsPermutation, arith}
 use Rattle.std.specs.Prelude.{count_by, if◌then◌else◌, nat_lt, ◌==◌}
 use Rattle.std.proofs.lemmas.List.Sorted.{Contains-permutation, IsPermutation-sym}
 use Rattle.std.proofs.lemmas.List.{length-map}
 use Rattle.std.proofs.lemmas.List.Elements.{Contains-append_left}
 use Rattle.tags.specs.declared.value.Value.{Value}
-use Rattle.tags.specs.declared.token.Port.{Port}
 use Rattle.tags.specs.declared.token.Cont.{Cont}
 use Rattle.tags.specs.declared.token.Word.{Word}
 use Rattle.tags.specs.declared.token.To.{To}
@@ -17,16 +16,13 @@ use Rattle.semantics.specs.Graph.{Flow}
 use Rattle.semantics.specs.Meaning as Meaning
 use Rattle.semantics.specs.Program.{Instr, Program, instr_at}
 use Rattle.semantics.specs.Rule.{token, Outcome, Becomes, Excluded, rule_at}
-use Rattle.semantics.specs.Machine as Machine
-use Rattle.semantics.specs.Machine.{CellState, Vacant, Full, Deferred, Machine, Store, Size, Events, Run, at_start, slot_in, slot_used, Resting, Wants, excluded_by, unless_back, unless_value, filled, host_rule, outputs_of, stuck_rule, reader_count, value_in}
-use Rattle.semantics.specs.Cause.{SameSeen, HasCause, request_count, credit_count, is_turn}
-use Rattle.semantics.specs.Faithful.{IsExact, HasStoreOfFull, NoReader, IsClean, largest, IsRun, Faithful}
+use Rattle.semantics.specs.Machine.{CellState, Vacant, Full, Deferred, Machine, Store, Size, Events, at_start, slot_in, slot_used, Resting, Wants, excluded_by, unless_back, unless_value, filled, outputs_of, stuck_rule, reader_count, value_in}
+use Rattle.semantics.specs.Cause.{SameSeen, request_count, is_turn}
+use Rattle.semantics.specs.Faithful.{largest, IsRun}
 use Rattle.semantics.specs.Plan.{Plan}
-use Rattle.semantics.specs.Sharing.{Good}
 use Rattle.semantics.specs.Placed.{placed}
-use Rattle.semantics.specs.Orderly.{Orderly, IsStart}
+use Rattle.semantics.specs.Orderly.{IsStart}
 use Rattle.semantics.specs.Renamed.{re_cont, re_word, re_to, re_token, re_slot, re_cell}
-use Rattle.semantics.specs.Wired.{IsWired}
 use Rattle.reuse.specs.Theorem.{TakesInputs, SharedSlotsAreFaithful, ReleasesAreLast, HoldersAreAlone}
 use Rattle.semantics.specs.Handed.{handed}
 use Rattle.semantics.specs.Holders.{Holder, holds}
@@ -37,8 +33,8 @@ use Rattle.reuse.proofs.Renames.{re_outcome, rule_re}
 use Rattle.reuse.proofs.Counts.{Counted}
 use Rattle.reuse.proofs.Fold.{Fold, slot_in_re}
 use Rattle.reuse.proofs.Freed.{empty_back}
-use Rattle.reuse.proofs.Frames.{waits, Folds, FreesOnce, HasOnce, frames_once}
-use Rattle.reuse.proofs.Served.{HasServed, value_in_re, has_served}
+use Rattle.reuse.proofs.Frames.{waits, Folds, FreesOnce, frames_once}
+use Rattle.reuse.proofs.Served.{value_in_re, has_served}
 use Rattle.reuse.proofs.Frees.{contains_map}
 use Rattle.reuse.proofs.Unfold.{frees_shared, release_shared}
 use Rattle.reuse.proofs.Clauses.{KeepsFaith, faith_kept, code_bounds, perm_nil}

@@ -1,25 +1,23 @@
 -- The unfolded run led on: each request that waits is served with a frame that was never used.
-use Rattle.std.proofs.Common.{◌≡◌, refl, sym, ap, ◌∙◌, subst, ℕ, zero, suc, ◌+◌, ◌*◌, ◌<◌, ◌≤◌, ◌⊎◌, inl, inr, ℤ, Bool, true, false, List, [], ◌∷◌, ◌++◌, map, length, Option, Some, None, IsPermutation, arith, mul_left_comm, mul-pos}
+use Rattle.std.proofs.Common.{◌≡◌, refl, sym, ap, ◌∙◌, subst, ℕ, suc, ◌+◌, ◌*◌, ◌<◌, ◌≤◌, ◌⊎◌, inl, inr, ℤ, Bool, true, false, List, [], ◌∷◌, ◌++◌, map, length, Option, None, IsPermutation, arith, mul_left_comm, mul-pos}
 use Rattle.std.specs.Prelude.{⊤}
 use Rattle.std.proofs.lemmas.List.Sorted.{IsPermutation-refl, IsPermutation-sym, IsPermutation-trans, IsPermutation-middle, IsPermutation-append_comm}
-use Rattle.tags.specs.declared.value.Value.{Value}
 use Rattle.tags.specs.declared.token.Cont.{Cont}
 use Rattle.tags.specs.declared.token.Word.{Word}
 use Rattle.tags.specs.declared.token.To.{To}
 use Rattle.tags.specs.declared.token.Token.{Token}
 use Rattle.semantics.specs.Program.{Program}
 use Rattle.semantics.specs.Rule.{token}
-use Rattle.semantics.specs.Machine.{CellState, Vacant, Full, Deferred, value_in, Store, Machine, Size, Event, Events, Run, at_start, put_at, with_out, answer}
+use Rattle.semantics.specs.Machine.{CellState, Vacant, Full, Deferred, value_in, Machine, Size, Event, Events, Run, at_start, put_at, with_out, answer}
 use Rattle.semantics.specs.Plan.{Plan}
 use Rattle.semantics.specs.Handed.{handed, EachOnce}
 use Rattle.semantics.specs.Holders.{Holder, holds}
 use Rattle.tags.specs.declared.slot.SlotState.TheVariants.{Empty}
-use Rattle.semantics.specs.Renamed.{re_cont, re_word, re_token, re_cell}
+use Rattle.semantics.specs.Renamed.{re_cont, re_token, re_cell}
 use Rattle.reuse.proofs.Counts.{Counted, counted_serves}
-use Rattle.reuse.proofs.Lists.{Each, Spread, Differ, each_weaker, all_differ}
+use Rattle.reuse.proofs.Lists.{each_weaker, all_differ}
 use Rattle.reuse.proofs.Fold.{put_other}
-use Rattle.reuse.proofs.Freed.{place, IsNaming, place_low, place_same, place_fresh}
-use Rattle.reuse.proofs.Snoc.{run_snoc}
+use Rattle.reuse.proofs.Freed.{place, place_low, place_same, place_fresh}
 use Rattle.reuse.proofs.Frames.{Once, once_more, waits, Used, FreesOnce, Next, wide, last_state}
 
 module _ (P : Plan) (p : Program) (inputs : List ℤ) (elements frames n : ℕ) (some_frame : 0 < frames) (some_element : 0 < elements) (done : Events) (gen : ℕ → ℕ) (out : ℕ → Bool) where

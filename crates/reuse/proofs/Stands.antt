@@ -1,5 +1,5 @@
 -- Where an instruction stands: its block, and its place there.
-use Rattle.std.proofs.Common.{◌≡◌, refl, zero-add, sym, ap, ◌∙◌, subst, ℕ, zero, suc, ◌+◌, ◌-◌, ◌<◌, ◌≤◌, Bool, true, false, true≢false, List, [], ◌∷◌, map, length, sum, take, Option, Some, None, slice_get, nat_lt, lt-ltb, le-ltb, ltb-true, ltb-false, arith, if◌then◌else◌}
+use Rattle.std.proofs.Common.{◌≡◌, refl, zero-add, sym, ap, ◌∙◌, subst, ℕ, zero, suc, ◌+◌, ◌-◌, ◌<◌, ◌≤◌, Bool, true, false, true≢false, List, [], ◌∷◌, map, length, sum, take, Some, slice_get, nat_lt, lt-ltb, le-ltb, ltb-false, arith, if◌then◌else◌}
 use Rattle.std.proofs.lemmas.List.Sums.{sum-map, sum_by-cons}
 use Rattle.std.proofs.lemmas.Option.{slice_get_within}
 use Rattle.semantics.specs.Program.{Instr, CodeBlock, Program, first_of, instr_from, instr_at}

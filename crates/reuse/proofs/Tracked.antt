@@ -1,18 +1,17 @@
 -- Who holds a slot: along a run, under other numbers for the frames, and where the slot is empty.
-use Rattle.std.proofs.Common.{◌≡◌, refl, sym, ap, ◌∙◌, subst, ℕ, ◌+◌, ◌*◌, ◌⊎◌, inl, inr, Bool, true, false, true≢false, ◌&&◌, List, [], ◌∷◌, ◌++◌, Option, Some, None}
+use Rattle.std.proofs.Common.{◌≡◌, refl, sym, ap, ◌∙◌, ℕ, ◌*◌, ◌⊎◌, inl, inr, Bool, true, false, true≢false, ◌&&◌, List, [], ◌∷◌, Option, Some, None}
 use Rattle.std.specs.Prelude.{if◌then◌else◌, ◌==◌}
-use Rattle.std.proofs.lemmas.Bool.{cases_Bool, cases_eq, and_from, eq-eqb}
+use Rattle.std.proofs.lemmas.Bool.{cases_eq, and_from, eq-eqb}
 use Rattle.tags.specs.declared.token.Port.{Port}
-use Rattle.tags.specs.declared.token.Cont.{Cont}
 use Rattle.tags.specs.declared.token.Word.{Word}
 use Rattle.tags.specs.declared.token.To.{To}
 use Rattle.tags.specs.declared.token.Token.{Token}
 use Rattle.tags.specs.declared.slot.SlotState.{SlotState}
 use Rattle.tags.specs.declared.slot.SlotState.TheVariants as Slot
 use Rattle.tags.specs.declared.slot.SlotState.TheVariants.{Empty, Credits, Waiter, Draining}
-use Rattle.semantics.specs.Program.{Instr, Program, instr_at}
+use Rattle.semantics.specs.Program.{Program, instr_at}
 use Rattle.semantics.specs.Rule.{Outcome, Becomes, Excluded, rule_at}
-use Rattle.semantics.specs.Machine.{Machine, Store, Size, Event, Events, Run, put_at, slot_in, with_slot_in, slot_used, Fires, Happens}
+use Rattle.semantics.specs.Machine.{Machine, Store, Size, Events, Run, put_at, slot_in, slot_used, Fires, Happens}
 use Rattle.semantics.specs.Plan.{Plan}
 use Rattle.semantics.specs.Renamed.{re_to, re_slot}
 use Rattle.semantics.specs.Holders.{Holder, holder_at, held_after, uses_slot, held_by_event, holds}

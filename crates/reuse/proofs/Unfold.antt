@@ -1,11 +1,7 @@
 -- Each run over good slots, in which frames are used again, has its unfolded run over the plan.
-use Rattle.std.proofs.Common.{◌≡◌, refl, sym, ap, ◌∙◌, subst, ℕ, ◌+◌, ◌*◌, ◌<◌, ◌⊎◌, inl, inr, ℤ, Bool, true, false, List, [], ◌∷◌, ◌++◌, map, length, Option, Some, None, Contains, IsPermutation}
-use Rattle.std.specs.Prelude.{slice_get}
+use Rattle.std.proofs.Common.{◌≡◌, sym, ap, ◌∙◌, subst, ℕ, ◌*◌, ◌<◌, ◌⊎◌, inl, inr, ℤ, Bool, false, List, map, None, Contains, IsPermutation}
 use Rattle.std.proofs.lemmas.List.Sorted.{IsPermutation-trans}
 use Rattle.tags.specs.declared.token.Cont.{Cont}
-use Rattle.tags.specs.declared.token.Word.{Word}
-use Rattle.tags.specs.declared.token.To.{To}
-use Rattle.tags.specs.declared.token.Token.{Token}
 use Rattle.tags.specs.declared.slot.SlotState.{SlotState}
 use Rattle.tags.specs.declared.slot.SlotState.TheVariants as Slot
 use Rattle.tags.specs.declared.slot.SlotState.TheVariants.{Empty, Credits, Waiter, Draining}
@@ -14,19 +10,17 @@ use Rattle.semantics.specs.Machine.{CellState, Machine, Size, Events, Run, at_st
 use Rattle.semantics.specs.Plan.{Plan}
 use Rattle.semantics.specs.Sharing.{Good}
 use Rattle.semantics.specs.Placed.{placed}
-use Rattle.semantics.specs.Handed.{handed, EachOnce, UsesEachOnce}
-use Rattle.semantics.specs.Orderly.{NamesWord, NamesCont, NamesSlot, readers_of, IsFreeOf, IsFreeAtRelease, Orderly, IsStart, inputs_of}
-use Rattle.semantics.specs.Renamed.{re_token, re_slot}
-use Rattle.semantics.specs.Holders.{Holder, holds}
-use Rattle.semantics.specs.Unfolded.{use_of, request, HasSlot, Unfolds, HasUnfolded, EachRunUnfolds}
+use Rattle.semantics.specs.Orderly.{NamesSlot, readers_of, IsFreeAtRelease, Orderly, IsStart}
+use Rattle.semantics.specs.Renamed.{re_token}
+use Rattle.semantics.specs.Holders.{holds}
+use Rattle.semantics.specs.Unfolded.{use_of, request, Unfolds, HasUnfolded, EachRunUnfolds}
 use Rattle.semantics.specs.Wired.{IsWired}
 use Rattle.reuse.specs.OwnSlots.{HasOwnSlots, IsOwnRun}
 use Rattle.reuse.proofs.Fold.{map_append}
 use Rattle.reuse.proofs.Freed.{empty_back}
-use Rattle.reuse.proofs.Frames.{FreesOnce, Folds, HasOnce, frames_once}
+use Rattle.reuse.proofs.Frames.{FreesOnce, HasOnce, frames_once}
 use Rattle.reuse.proofs.Frees.{frees_always}
 use Rattle.reuse.proofs.Places.{empty_or}
-use Rattle.reuse.proofs.Own.{Own, own_run, orderly_here}
 use Rattle.reuse.proofs.OwnSlots.{once_runs_are_own}
 use Rattle.reuse.proofs.Clauses.{credits_same}
 

@@ -1,12 +1,10 @@
 -- What a state of a run tells of the tokens that were taken before it: who filled a slot, which arcs were used, and that
 -- a holder whose end was reached is empty for good.
-use Rattle.std.proofs.Common.{◌≡◌, refl, sym, ap, ◌∙◌, subst, ℕ, zero, suc, ◌+◌, ◌<◌, ◌≤◌, ◌⊎◌, inl, inr, Bool, true, false, not, true≢false, eq-eqb, cond, List, [], ◌∷◌, ◌++◌, map, length, Option, Some, None, IsPermutation, Contains, arith}
-use Rattle.std.specs.Prelude.{count_by, slice_get, slice_index_or}
-use Rattle.std.proofs.lemmas.Bool.{cases_Bool, cases_eq, and_from}
+use Rattle.std.proofs.Common.{◌≡◌, refl, sym, ap, ◌∙◌, subst, ℕ, zero, suc, ◌+◌, ◌≤◌, ◌⊎◌, inl, inr, Bool, true, true≢false, eq-eqb, cond, List, [], ◌∷◌, ◌++◌, Option, Some, None, Contains, arith}
+use Rattle.std.specs.Prelude.{count_by}
+use Rattle.std.proofs.lemmas.Bool.{cases_eq, and_from}
 use Rattle.std.proofs.lemmas.List.Sums.{sum_by-append, sum_by-cons}
 use Rattle.std.proofs.lemmas.List.Elements.{Contains-append_left, Contains-push}
-use Rattle.operators.specs.Values.{truth}
-use Rattle.tags.specs.declared.value.Value.{Value}
 use Rattle.tags.specs.declared.token.Port.{Port}
 use Rattle.tags.specs.declared.token.Port.TheVariants.{Left, Right}
 use Rattle.tags.specs.declared.token.Word.{Word}
@@ -15,18 +13,15 @@ use Rattle.tags.specs.declared.token.Token.{Token}
 use Rattle.tags.specs.declared.slot.SlotState.{SlotState}
 use Rattle.tags.specs.declared.slot.SlotState.TheVariants as Slot
 use Rattle.tags.specs.declared.slot.SlotState.TheVariants.{Empty, Credits, Waiter, Draining}
-use Rattle.semantics.specs.declared.program.Op.{Op}
-use Rattle.semantics.specs.declared.program.Op.TheVariants.{Apply2, Sync, Switch, Store, Send, Return, Ask, Open, Take, Give, Drain, Release}
-use Rattle.semantics.specs.Program.{Instr, CodeBlock, Program, first_of, instr_at}
+use Rattle.semantics.specs.Program.{Instr, Program, first_of}
 use Rattle.semantics.specs.Rule.{token, Seat, Outcome, Becomes, Excluded, outcome_of, rule_at, slot_of}
-use Rattle.semantics.specs.Machine.{Store as MStore, Events, put_at, with_slot, slot_in, with_slot_in, slot_used, Fires, Happens}
-use Rattle.semantics.specs.Plan.{Plan, is_credit, is_open}
-use Rattle.semantics.specs.Sharing.{Inlet, Arc, arcs_in, is_port, ends_with}
-use Rattle.semantics.specs.Orderly.{is_at, eq_port, often}
+use Rattle.semantics.specs.Machine.{Store as MStore, put_at, slot_in, with_slot_in, slot_used, Fires, Happens}
+use Rattle.semantics.specs.Plan.{is_open}
+use Rattle.semantics.specs.Orderly.{is_at, eq_port}
 use Rattle.semantics.specs.Wired.{is_dyadic}
 use Rattle.reuse.proofs.Fold.{put_same, put_other}
-use Rattle.reuse.proofs.Stands.{Stands, stands_at, stands_one}
-use Rattle.reuse.proofs.Turns.{is_counting, is_later, Turn, waits_left, waits_right, meets_right, meets_left, lone, begins, counts, turn_of}
+use Rattle.reuse.proofs.Stands.{Stands, stands_at}
+use Rattle.reuse.proofs.Turns.{is_counting, Turn, waits_left, waits_right, meets_right, meets_left, lone, begins, counts, turn_of}
 
 -- ---- TOKENS AT PORTS
 
