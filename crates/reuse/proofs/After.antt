@@ -144,6 +144,7 @@ module _ (p : Plan) (wired : IsWired p) (ts pool : List Token) (P : Ports p ts p
       either : (side : Port) → Came p.program now f b n side
       either Left = l
       either Right = r
+
       go : (m : ℕ) (side : Port) (j : Instr) → (m ≡ n) ⊎ ((is_credit j.op ≡ true) × (is_credit i.op ≡ true) × (is_open j.op && is_open i.op ≡ false)) → Came p.program now f b m side
       go m side j (inl e) = subst (λ (x : ℕ). Came p.program now f b x side) (sym e) (either side)
       go m side j (inr c) = absurd (true≢false (sym c.1 ∙ dyadic_not_credit i.op d))
@@ -156,6 +157,7 @@ module _ (p : Plan) (wired : IsWired p) (ts pool : List Token) (P : Ports p ts p
     where
       o : (m : ℕ) × (j : Instr) × Stands p.program b m j × (slot_of j j.op ≡ Some h) × (is_open j.op ≡ true) × Came p.program ts f b m Left
       o = open_came h holds was
+
       go : (m : ℕ) (j : Instr) (side : Port) → Stands p.program b m j → slot_of j j.op ≡ Some h → is_port j.op side ≡ true
           → (m ≡ n) ⊎ ((is_credit j.op ≡ true) × (is_credit i.op ≡ true) × (is_open j.op && is_open i.op ≡ false)) → Came p.program now f b m side
       go m j side s others port (inl e) =
@@ -249,11 +251,11 @@ module _ (p : Plan) (wired : IsWired p) (ts pool : List Token) (P : Ports p ts p
   side_arc is true d c =
       let x : Arc = arc n false (inlet (n + d.ahead) d.port) in
       stands_arcs p b n i x at (subst (λ (op : Op). Contains (arcs_from p n i op) x) (sym is)
-        (Contains-append_left (arcs_to n false i.firsts) (arcs_to n true i.seconds) x (contains_map (λ (d : Dest). arc n false (inlet (n + d.ahead) d.port)) i.firsts d c)))
+      (Contains-append_left (arcs_to n false i.firsts) (arcs_to n true i.seconds) x (contains_map (λ (d : Dest). arc n false (inlet (n + d.ahead) d.port)) i.firsts d c)))
   side_arc is false d c =
       let x : Arc = arc n true (inlet (n + d.ahead) d.port) in
       stands_arcs p b n i x at (subst (λ (op : Op). Contains (arcs_from p n i op) x) (sym is)
-        (Contains-append_right (arcs_to n false i.firsts) (arcs_to n true i.seconds) x (contains_map (λ (d : Dest). arc n true (inlet (n + d.ahead) d.port)) i.seconds d c)))
+      (Contains-append_right (arcs_to n false i.firsts) (arcs_to n true i.seconds) x (contains_map (λ (d : Dest). arc n true (inlet (n + d.ahead) d.port)) i.seconds d c)))
 
   not_twice_over : (z : Bool) → z ≡ not (not z)
   not_twice_over true = refl
@@ -276,8 +278,9 @@ module _ (p : Plan) (wired : IsWired p) (ts pool : List Token) (P : Ports p ts p
             place = omega (arith, at_ip);
             port = sym same.1;
             used = uses_arc (not (truth m.0)) (inlet (n + d.0.ahead) d.0.port) (some_made u inside) (λ late e. absurd (true≢false (sym late ∙ ap is_later is)))
-              (λ e. (m.0, subst (λ (v : Word). Contains now (at_port p.program f b n Right v)) m.1 pred, not_twice_over (truth m.0)));
+                (λ e. (m.0, subst (λ (v : Word). Contains now (at_port p.program f b n Right v)) m.1 pred, not_twice_over (truth m.0)));
           }
+
       go : Turn p.program record { frame = f; ip = first_of p.program b + n } i i.op (slot_in old f (slot_of i i.op)) q w M.v made → CausedBy p now new.slots f ip r
       go (waits_left d was port v none) = absurd (some_made u inside none)
       go (waits_right d was port v none) = absurd (some_made u inside none)
@@ -302,5 +305,5 @@ module _ (p : Plan) (wired : IsWired p) (ts pool : List Token) (P : Ports p ts p
             place = place;
             port = port;
             used = subst (Used p.program now new.slots f b) eq (uses_arc x.second x.to (some_made u inside)
-              (λ late e. ends_op c same ip r u i.op refl uses inside M.becomes late e) (λ e. absurd (ne e)));
+                (λ late e. ends_op c same ip r u i.op refl uses inside M.becomes late e) (λ e. absurd (ne e)));
           }

@@ -34,7 +34,7 @@ holder_in (x ∷ bs) a zero n c e h =
     ap (holder_from a (x ∷ bs)) (zero-add n)
     ∙ subst (λ (y : CodeBlock). (if nat_lt n (length y.instrs) then holder_of a (slot_used (slice_get y.instrs n)) else holder_from (a + 1) bs (n - length y.instrs)) ≡ holder_of (a + 0) (slot_used (slice_get c.instrs n))) (sym same)
     (ap (λ (t : Bool). if t then holder_of a (slot_used (slice_get c.instrs n)) else holder_from (a + 1) bs (n - length c.instrs)) (lt-ltb n (length c.instrs) h)
-      ∙ ap (λ (k : ℕ). holder_of k (slot_used (slice_get c.instrs n))) start)
+    ∙ ap (λ (k : ℕ). holder_of k (slot_used (slice_get c.instrs n))) start)
 holder_in (x ∷ bs) a (suc b) n c e h =
     let m = first_next x bs b in
     let ip = first_in (x ∷ bs) (suc b) + n in

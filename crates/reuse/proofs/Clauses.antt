@@ -81,9 +81,10 @@ block_same (ss ∷ slots) (c ∷ cs) zero d e = (c, refl, ap open_bounds (some_s
 block_same (ss ∷ slots) (c ∷ cs) (suc b) d e = block_same slots cs b d e
 
 pub code_bounds : (fl : Flow) (p : Plan) (slots : List (List ℕ)) → length slots ≡ length p.program.blocks → HasBounds fl p.program → HasBounds fl (placed p slots)
-code_bounds fl p slots long H =
-    (count_same slots p.program.blocks long ∙ H.0,
-      λ b d g at_d at_g. (let c = block_same slots p.program.blocks b d at_d in subst (λ (l : List ℕ). IsPermutation l (loop_bounds g)) (sym c.2) (H.1 b c.0 g c.1 at_g)))
+code_bounds fl p slots long H = (
+  count_same slots p.program.blocks long ∙ H.0,
+  λ b d g at_d at_g. (let c = block_same slots p.program.blocks b d at_d in subst (λ (l : List ℕ). IsPermutation l (loop_bounds g)) (sym c.2) (H.1 b c.0 g c.1 at_g)),
+)
 
 seeks_same : (p : Plan) (slots : List (List ℕ)) (ip : ℕ) → Located slots p.program.blocks ip → seeks_credit (instr_at (placed p slots) ip) ≡ seeks_credit (instr_at p.program ip)
 seeks_same p slots ip (Nowhere at none) = ap seeks_credit none ∙ sym (ap seeks_credit at)

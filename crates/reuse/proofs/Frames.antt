@@ -56,8 +56,8 @@ once_more p z start used more Tells More u v e t O ev fs same new apart fresh gr
       run = run_snoc p z start u v O.events e t O.run ev;
       among = subst (λ (l : List ℕ). Each more (0 ∷ l)) (sym both) (each_append more before fs (each_weaker used more grows before O.among) new);
       differ = subst (λ (l : List ℕ). Spread Differ (0 ∷ l)) (sym both)
-        (spread_append Differ before fs O.differ apart
-        (each_weaker used (λ x. Each (Differ x) fs) (λ x ux. each_weaker (λ f. used f → ⊥) (Differ x) (λ f nf e. nf (subst used e ux)) fs fresh) before O.among));
+          (spread_append Differ before fs O.differ apart
+          (each_weaker used (λ x. Each (Differ x) fs) (λ x ux. each_weaker (λ f. used f → ⊥) (Differ x) (λ f nf e. nf (subst used e ux)) fs fresh) before O.among));
       told = told;
     }
 
@@ -122,6 +122,7 @@ used_fresh t gen out f below was (g, j, lt, e, q) = go q
   where
     both : (f ≡ g) × (gen f ≡ j)
     both = place_same t f g (gen f) j below lt e
+
     go : ((j < gen g) ⊎ ((j ≡ gen g) × (out g ≡ true))) → ⊥
     go (inl less) = let a = both.1 in let b : gen f ≡ gen g = ap gen both.0 in omega (arith, a)
     go (inr q) = let no : false ≡ true = sym was ∙ ap out both.0 ∙ q.1 in absurd (cc)
@@ -226,15 +227,15 @@ module _ (P : Plan) (p : Program) (inputs : List ℤ) (elements frames n : ℕ) 
         naming = naming_later total n k gen N;
         folds = record { fold = does.2; pool = subst (λ (cs : List Cont). IsPermutation after.pool (map (re_token h) new.pool ++ waits h cs)) (sym same.1) (pool_after h new.pool made rest ws leaves) };
         once = once_more p wide (at_start p inputs) (Used total gen m.store.out) (Used total gen new.store.out) (Telling gen done m.store.requests held)
-          (Telling gen (done ++ (e, token to w) ∷ []) new.store.requests (held_next held to new.store)) u after (element_of elements (re_to h to)) (token (re_to h to) (re_word h w)) O ev
-          [] none tt tt tt (λ f. used_same total gen m.store.out new.store.out (λ g e. ap (λ (o : ℕ → Bool). o g) same.0 ∙ e) f)
-          record {
-            counted = subst (λ (cs : List Cont). Counted p (done ++ (e, token to w) ∷ []) (O.events ++ (element_of elements (re_to h to), token (re_to h to) (re_word h w)) ∷ []) (length cs)) (sym same.1)
-              (counted_both p done O.events (length m.store.requests) e (element_of elements (re_to h to)) (token to w) (token (re_to h to) (re_word h w)) (request_re h to) (credit_re p h to) O.told.counted);
-            holders = λ f s. holds_snoc P p (h f) s None wide (at_start p inputs) u after O.events (element_of elements (re_to h to)) (token (re_to h to) (re_word h w)) O.run ev
-              ∙ ap (λ (x : Option Holder). held_by_event P p (h f) s x (re_to h to) does.0) (O.told.holders f s)
-              ∙ held_re P p h (place_injective total n (suc k) gen N) f s (held f s) to new.store does.0 (does.2.slots f s);
-          };
+            (Telling gen (done ++ (e, token to w) ∷ []) new.store.requests (held_next held to new.store)) u after (element_of elements (re_to h to)) (token (re_to h to) (re_word h w)) O ev
+            [] none tt tt tt (λ f. used_same total gen m.store.out new.store.out (λ g e. ap (λ (o : ℕ → Bool). o g) same.0 ∙ e) f)
+            record {
+              counted = subst (λ (cs : List Cont). Counted p (done ++ (e, token to w) ∷ []) (O.events ++ (element_of elements (re_to h to), token (re_to h to) (re_word h w)) ∷ []) (length cs)) (sym same.1)
+                  (counted_both p done O.events (length m.store.requests) e (element_of elements (re_to h to)) (token to w) (token (re_to h to) (re_word h w)) (request_re h to) (credit_re p h to) O.told.counted);
+              holders = λ f s. holds_snoc P p (h f) s None wide (at_start p inputs) u after O.events (element_of elements (re_to h to)) (token (re_to h to) (re_word h w)) O.run ev
+                  ∙ ap (λ (x : Option Holder). held_by_event P p (h f) s x (re_to h to) does.0) (O.told.holders f s)
+                  ∙ held_re P p h (place_injective total n (suc k) gen N) f s (held f s) to new.store does.0 (does.2.slots f s);
+            };
       }
 
   -- a request that is served, or waits
@@ -247,6 +248,7 @@ module _ (P : Plan) (p : Program) (inputs : List ℤ) (elements frames n : ℕ) 
     where
       h : ℕ → ℕ
       h = place total gen
+
       go : ((f : ℕ) × (f < total) × (m.store.out f ≡ false) × (new.store ≡ with_out m.store f true) × (made ≡ answer c (Word.Frame f) ∷ [])
           × Happens p (elements * (suc n * frames)) u.store To.Manager (re_word h (Word.Back c)) (map (re_token h) made) (with_out u.store (h f) true) × Fold total h new.store (with_out u.store (h f) true))
           ⊎ ((made ≡ []) × (new.store.requests ≡ m.store.requests ++ c ∷ []) × (new.store.out ≡ m.store.out) × Fold total h new.store u.store) → Next k (done ++ (e, token To.Manager (Word.Back c)) ∷ []) held new
@@ -264,15 +266,15 @@ module _ (P : Plan) (p : Program) (inputs : List ℤ) (elements frames n : ℕ) 
             naming = naming_later total n k gen N;
             folds = record { fold = fold; pool = subst (λ (cs : List Cont). IsPermutation after.pool (map (re_token h) new.pool ++ waits h cs)) (sym (ap (λ (s : Store). s.requests) is)) (pool_after h new.pool made rest ws leaves) };
             once = once_more p wide (at_start p inputs) (Used total gen m.store.out) (Used total gen new.store.out) (Telling gen done m.store.requests held)
-              (Telling gen (done ++ (e, token To.Manager (Word.Back c)) ∷ []) new.store.requests held) u after 0 (token To.Manager (re_word h (Word.Back c))) O ev
-              (h f ∷ []) (ap (λ (l : List Token). handed_by To.Manager (map (re_token h) l)) makes) ((f, gen f, below, refl, inr (refl, is_out)), tt) (tt, tt)
-              (used_fresh total gen m.store.out f below was, tt)
-              (λ x. used_same total gen m.store.out new.store.out (λ g e. ap (λ (o : ℕ → Bool). o g) out ∙ stays g f (cases_eq f g) e) x)
-              record {
-                counted = subst (λ (cs : List Cont). Counted p (done ++ (e, token To.Manager (Word.Back c)) ∷ []) (O.events ++ (0, token To.Manager (re_word h (Word.Back c))) ∷ []) (length cs)) (sym (ap (λ (s : Store). s.requests) is))
-                  (counted_both p done O.events (length m.store.requests) e 0 (token To.Manager (Word.Back c)) (token To.Manager (re_word h (Word.Back c))) refl refl O.told.counted);
-                holders = λ f s. holds_snoc P p (h f) s None wide (at_start p inputs) u after O.events 0 (token To.Manager (re_word h (Word.Back c))) O.run ev ∙ O.told.holders f s;
-              };
+                (Telling gen (done ++ (e, token To.Manager (Word.Back c)) ∷ []) new.store.requests held) u after 0 (token To.Manager (re_word h (Word.Back c))) O ev
+                (h f ∷ []) (ap (λ (l : List Token). handed_by To.Manager (map (re_token h) l)) makes) ((f, gen f, below, refl, inr (refl, is_out)), tt) (tt, tt)
+                (used_fresh total gen m.store.out f below was, tt)
+                (λ x. used_same total gen m.store.out new.store.out (λ g e. ap (λ (o : ℕ → Bool). o g) out ∙ stays g f (cases_eq f g) e) x)
+                record {
+                  counted = subst (λ (cs : List Cont). Counted p (done ++ (e, token To.Manager (Word.Back c)) ∷ []) (O.events ++ (0, token To.Manager (re_word h (Word.Back c))) ∷ []) (length cs)) (sym (ap (λ (s : Store). s.requests) is))
+                      (counted_both p done O.events (length m.store.requests) e 0 (token To.Manager (Word.Back c)) (token To.Manager (re_word h (Word.Back c))) refl refl O.told.counted);
+                  holders = λ f s. holds_snoc P p (h f) s None wide (at_start p inputs) u after O.events 0 (token To.Manager (re_word h (Word.Back c))) O.run ev ∙ O.told.holders f s;
+                };
           }
         where
           stays : (g f : ℕ) → ((f ≡ g) ⊎ (f ≡ g → ⊥)) → m.store.out g ≡ true → put_at m.store.out f true g ≡ true
@@ -298,10 +300,10 @@ module _ (P : Plan) (p : Program) (inputs : List ℤ) (elements frames n : ℕ) 
             naming = naming_later total n k gen N;
             folds = record { fold = fold; pool = IsPermutation-trans _ _ _ whole d };
             once = subst (λ (o : ℕ → Bool). Once p wide (at_start p inputs) (Used total gen o) (Telling gen (done ++ (e, t) ∷ []) new.store.requests held) u) (sym out)
-              (once_told p wide (at_start p inputs) (Used total gen m.store.out) (Telling gen done m.store.requests held) (Telling gen (done ++ (e, t) ∷ []) new.store.requests held) u O record {
-                counted = subst (Counted p (done ++ (e, t) ∷ []) O.events) (sym (ap length more ∙ length-append m.store.requests (c ∷ []))) (counted_waits p done O.events (length m.store.requests) e (Word.Back c) O.told.counted);
-                holders = O.told.holders;
-              });
+                (once_told p wide (at_start p inputs) (Used total gen m.store.out) (Telling gen done m.store.requests held) (Telling gen (done ++ (e, t) ∷ []) new.store.requests held) u O record {
+                  counted = subst (Counted p (done ++ (e, t) ∷ []) O.events) (sym (ap length more ∙ length-append m.store.requests (c ∷ []))) (counted_waits p done O.events (length m.store.requests) e (Word.Back c) O.told.counted);
+                  holders = O.told.holders;
+                });
           }
 
   -- a release, of a frame that nothing else names
@@ -312,46 +314,65 @@ module _ (P : Plan) (p : Program) (inputs : List ℤ) (elements frames n : ℕ) 
     where
       done2 : Events
       done2 = done ++ (e, token (To.Release f) w) ∷ []
+
       h : ℕ → ℕ
       h = place total gen
+
       gen2 : ℕ → ℕ
       gen2 = next_use gen f
+
       h2 : ℕ → ℕ
       h2 = place total gen2
+
       is_out : u.store.out (h f) ≡ true
       is_out = S.fold.out f ∙ releases.0
+
       below : f < total
       below = S.fold.within f releases.0
+
       left : List Token
       left = map (re_token h) rest ++ waits h m.store.requests
+
       before : IsPermutation u.pool (token (To.Release (h f)) (re_word h w) ∷ left)
       before = pool_before h m u (token (To.Release f) w) rest (waits h m.store.requests) S.pool takes
+
       free : IsFreeOf (h f) left u
       free = (frees (suc n * frames) wide_frame O.events u O.run (all_differ (0 ∷ handed p wide (at_start p inputs) O.events u O.run) O.differ) (h f) (re_word h w) left before is_out).1
+
       renews : Renews h h2 f
       renews = renews_next total n k gen f below N
+
       naming : IsNaming total n k gen2
       naming = naming_next total n k gen f below N
+
       fold : Fold total h2 (with_out m.store f false) (with_out u.store (h f) false)
       fold = free_fold total h h2 (place_injective total n (suc k) gen N) f renews m.store u.store S.fold free.readers free.words free.slots
+
       kept : map (re_token h2) rest ≡ map (re_token h) rest
       kept = keep_tokens h h2 f renews rest (λ t inside. free.tokens t (Contains-append_left (map (re_token h) rest) (waits h m.store.requests) t inside))
+
       kept_waits : waits h2 m.store.requests ≡ waits h m.store.requests
       kept_waits = keep_tokens h h2 f renews (asking m.store.requests) (λ t inside. free.tokens t (Contains-append_right (map (re_token h) rest) (waits h m.store.requests) t inside))
+
       mid : Machine
       mid = record { store = with_out u.store (h f) false; pool = left }
+
       ev : Event p wide 0 (token (To.Release (h f)) (re_word h w)) u mid
       ev = record { made = []; rest = left; addressed = refl; takes = before; happens = (is_out, inl (S.fold.none_waits, refl, refl)); leaves = IsPermutation-refl left }
+
       fresh_slots : (((r : ℕ) → u.store.slots (h2 f) r ≡ Empty) × (u.store.out (h2 f) ≡ false)) ⊎ ((g : ℕ) × (h2 f ≡ h g)) → (r : ℕ) → u.store.slots (h2 f) r ≡ Empty
       fresh_slots (inl o) = o.0
       fresh_slots (inr o) = absurd (renews.fresh o.0 o.1)
+
       none_before : (g s : ℕ) → u.store.slots g s ≡ Empty → holds P p g s None wide (at_start p inputs) O.events u O.run ≡ None
       none_before g s empty = holds_none P p g s None wide (at_start p inputs) O.events u O.run (λ e. refl) empty
+
       holders2 : (g s : ℕ) → (g ≡ f) ⊎ (g ≡ f → ⊥) → holds P p (h2 g) s None wide (at_start p inputs) O.events u O.run ≡ held g s
       holders2 g s (inl e) =
           ap (λ (x : ℕ). holds P p (h2 x) s None wide (at_start p inputs) O.events u O.run) e ∙ none_before (h2 f) s (fresh_slots (S.fold.others (h2 f)) s)
           ∙ sym (none_before (h f) s (free.slots s)) ∙ O.told.holders f s ∙ ap (λ (x : ℕ). held x s) (sym e)
       holders2 g s (inr ne) = ap (λ (x : ℕ). holds P p x s None wide (at_start p inputs) O.events u O.run) (renews.same g ne) ∙ O.told.holders g s
+
       once : Once p wide (at_start p inputs) (Used total gen2 (put_at m.store.out f false)) (Telling gen2 done2 m.store.requests held) mid
       once = once_more p wide (at_start p inputs) (Used total gen m.store.out) (Used total gen2 (put_at m.store.out f false)) (Telling gen done m.store.requests held) (Telling gen2 done2 m.store.requests held) u mid 0
           (token (To.Release (h f)) (re_word h w)) O ev [] refl tt tt tt (used_freed total gen m.store.out f)
@@ -359,8 +380,10 @@ module _ (P : Plan) (p : Program) (inputs : List ℤ) (elements frames n : ℕ) 
             counted = counted_both p done O.events (length m.store.requests) e 0 (token (To.Release f) w) (token (To.Release (h f)) (re_word h w)) refl refl O.told.counted;
             holders = λ g s. holds_snoc P p (h2 g) s None wide (at_start p inputs) u mid O.events 0 (token (To.Release (h f)) (re_word h w)) O.run ev ∙ holders2 g s (cases_eq g f);
           }
+
       same_left : left ≡ map (re_token h2) rest ++ waits h2 m.store.requests
       same_left = ap (λ (l : List Token). l ++ waits h m.store.requests) (sym kept) ∙ ap (λ (l : List Token). map (re_token h2) rest ++ l) (sym kept_waits)
+
       go : ((m.store.requests ≡ []) × (made ≡ []) × (new.store ≡ with_out m.store f false))
           ⊎ ((c : Cont) × (cs : List Cont) × IsPermutation m.store.requests (c ∷ cs) × (made ≡ answer c (Word.Frame f) ∷ []) × (new.store ≡ with_requests m.store cs)) → Next k done2 held new
       go (inl (idle, none, is)) =
@@ -389,8 +412,14 @@ module _ (P : Plan) (p : Program) (inputs : List ℤ) (elements frames n : ℕ) 
           let free_now : mid.store.out (h2 f) ≡ false = fold.out f ∙ put_same m.store.out f false f refl in
           let handed_out : map (re_token h2) made ≡ answer (re_cont h2 c) (Word.Frame (h2 f)) ∷ [] = ap (map (re_token h2)) makes ∙ ap (λ (k : Token). k ∷ []) (answer_re h2 c (Word.Frame f)) in
           let ev2 : Event p wide 0 (re_token h2 t) mid after =
-          record { made = map (re_token h2) made; rest = still; addressed = refl; takes = subst (λ (l : List Token). IsPermutation l (re_token h2 t ∷ still)) (sym same_left) moved;
-            happens = inl (h2 f, place_below k gen2 naming f below, free_now, handed_out, refl); leaves = IsPermutation-refl after.pool } in
+          record {
+            made = map (re_token h2) made;
+            rest = still;
+            addressed = refl;
+            takes = subst (λ (l : List Token). IsPermutation l (re_token h2 t ∷ still)) (sym same_left) moved;
+            happens = inl (h2 f, place_below k gen2 naming f below, free_now, handed_out, refl);
+            leaves = IsPermutation-refl after.pool;
+          } in
           let out_again : Fold total h2 (with_out (with_out m.store f false) f true) after.store = out_fold total h2 (place_injective total n k gen2 naming) (with_out m.store f false) mid.store f below fold in
           let now : Fold total h2 (with_requests m.store cs) after.store =
           fold_same total h2 (with_out (with_out m.store f false) f true) (with_requests m.store cs) after.store refl refl (λ g. still_out g (cases_eq f g)) refl refl out_again in
@@ -399,23 +428,26 @@ module _ (P : Plan) (p : Program) (inputs : List ℤ) (elements frames n : ℕ) 
             gen = gen2;
             after = after;
             naming = naming;
-            folds = record { fold = subst (λ (s : Store). Fold total h2 s after.store) (sym is) now;
-              pool = subst (λ (l : List Cont). IsPermutation after.pool (map (re_token h2) new.pool ++ waits h2 l)) (sym (ap (λ (s : Store). s.requests) is)) (pool_after h2 new.pool made rest ws leaves) };
+            folds = record {
+              fold = subst (λ (s : Store). Fold total h2 s after.store) (sym is) now;
+              pool = subst (λ (l : List Cont). IsPermutation after.pool (map (re_token h2) new.pool ++ waits h2 l)) (sym (ap (λ (s : Store). s.requests) is)) (pool_after h2 new.pool made rest ws leaves);
+            };
             once = once_more p wide (at_start p inputs) (Used total gen2 (put_at m.store.out f false)) (Used total gen2 new.store.out) (Telling gen2 done2 m.store.requests held) (Telling gen2 done2 new.store.requests held)
-              mid after 0 (re_token h2 t) once ev2
-              (h2 f ∷ []) (ap (λ (l : List Token). handed_by To.Manager (map (re_token h2) l)) makes) ((f, gen2 f, below, refl, inr (refl, ap (λ (o : ℕ → Bool). o f) out ∙ releases.0)), tt) (tt, tt)
-              (used_fresh total gen2 (put_at m.store.out f false) f below (put_same m.store.out f false f refl), tt)
-              (λ x. used_same total gen2 (put_at m.store.out f false) new.store.out (λ g e. ap (λ (o : ℕ → Bool). o g) out ∙ back g (cases_eq f g) e) x)
-              record {
-                counted = subst (λ (cs : List Cont). Counted p done2 (once.events ++ (0, re_token h2 t) ∷ []) (length cs)) (sym (ap (λ (s : Store). s.requests) is))
-                  (counted_serves p done2 once.events (length cs) 0 (re_word h2 (Word.Back c)) (subst (Counted p done2 once.events) (sym (length_permutation _ _ waiting)) once.told.counted));
-                holders = λ g s. holds_snoc P p (h2 g) s None wide (at_start p inputs) mid after once.events 0 (re_token h2 t) once.run ev2 ∙ once.told.holders g s;
-              };
+                mid after 0 (re_token h2 t) once ev2
+                (h2 f ∷ []) (ap (λ (l : List Token). handed_by To.Manager (map (re_token h2) l)) makes) ((f, gen2 f, below, refl, inr (refl, ap (λ (o : ℕ → Bool). o f) out ∙ releases.0)), tt) (tt, tt)
+                (used_fresh total gen2 (put_at m.store.out f false) f below (put_same m.store.out f false f refl), tt)
+                (λ x. used_same total gen2 (put_at m.store.out f false) new.store.out (λ g e. ap (λ (o : ℕ → Bool). o g) out ∙ back g (cases_eq f g) e) x)
+                record {
+                  counted = subst (λ (cs : List Cont). Counted p done2 (once.events ++ (0, re_token h2 t) ∷ []) (length cs)) (sym (ap (λ (s : Store). s.requests) is))
+                      (counted_serves p done2 once.events (length cs) 0 (re_word h2 (Word.Back c)) (subst (Counted p done2 once.events) (sym (length_permutation _ _ waiting)) once.told.counted));
+                  holders = λ g s. holds_snoc P p (h2 g) s None wide (at_start p inputs) mid after once.events 0 (re_token h2 t) once.run ev2 ∙ once.told.holders g s;
+                };
           }
         where
           still_out : (g : ℕ) → ((f ≡ g) ⊎ (f ≡ g → ⊥)) → m.store.out g ≡ put_at (put_at m.store.out f false) f true g
           still_out g (inl e) = ap m.store.out (sym e) ∙ releases.0 ∙ sym (put_same (put_at m.store.out f false) f true g e)
           still_out g (inr ne) = sym (put_other (put_at m.store.out f false) f true g ne ∙ put_other m.store.out f false g ne)
+
           back : (g : ℕ) → ((f ≡ g) ⊎ (f ≡ g → ⊥)) → put_at m.store.out f false g ≡ true → m.store.out g ≡ true
           back g (inl e) q = ap m.store.out (sym e) ∙ releases.0
           back g (inr ne) q = sym (put_other m.store.out f false g ne) ∙ q
@@ -448,17 +480,17 @@ module _ (P : Plan) (p : Program) (inputs : List ℤ) (elements frames n : ℕ) 
       → (r : Run p record { elements = elements; frames = frames } m events new)
       → Next extra (done ++ events) (λ f s. holds P p f s (held f s) record { elements = elements; frames = frames } m events new r) new
   run_steps extra [] gen done held m u new N S O frees r = record {
-      gen = gen;
-      after = u;
-      naming = subst (λ (k : ℕ). IsNaming total n k gen) (add-zero extra) N;
-      folds = record {
-        fold = subst (λ (s : Store). Fold total (place total gen) s u.store) (sym r.1) S.fold;
-        pool = subst (λ (s : Store). IsPermutation u.pool (map (re_token (place total gen)) new.pool ++ waits (place total gen) s.requests)) (sym r.1)
+    gen = gen;
+    after = u;
+    naming = subst (λ (k : ℕ). IsNaming total n k gen) (add-zero extra) N;
+    folds = record {
+      fold = subst (λ (s : Store). Fold total (place total gen) s u.store) (sym r.1) S.fold;
+      pool = subst (λ (s : Store). IsPermutation u.pool (map (re_token (place total gen)) new.pool ++ waits (place total gen) s.requests)) (sym r.1)
           (IsPermutation-trans _ _ _ S.pool (IsPermutation-append_left (waits (place total gen) m.store.requests) _ _ (IsPermutation-map (re_token (place total gen)) m.pool new.pool r.0)));
-      };
-      once = subst (λ (s : Store). Once p wide (at_start p inputs) (Used total gen s.out) (Telling gen (done ++ []) s.requests held) u) (sym r.1)
+    };
+    once = subst (λ (s : Store). Once p wide (at_start p inputs) (Used total gen s.out) (Telling gen (done ++ []) s.requests held) u) (sym r.1)
         (subst (λ (l : Events). Once p wide (at_start p inputs) (Used total gen m.store.out) (Telling gen l m.store.requests held) u) (sym (append-nil done)) O);
-    }
+  }
   run_steps extra (x ∷ events) gen done held m u new N S O frees r =
       let next : Next (extra + length events) (done ++ x ∷ []) (held_next held x.1.to r.0.store) r.0 =
       any_step (extra + length events) gen done held m u r.0 x.0 x.1.to x.1.word r.1.made r.1.rest (subst (λ (k : ℕ). IsNaming total n k gen) (add-suc extra (length events)) N) S O frees r.1.takes r.1.leaves r.1.happens in
@@ -557,9 +589,14 @@ module _ (P : Plan) (p : Program) (inputs : List ℤ) (z : Size) (events : Event
       let pos : 0 < t = mul-pos some_element some_frame in
       let first = first_place t uses pos in
       let start : Once p (wide P p inputs z.elements z.frames uses some_frame) (at_start p inputs) (Used t (gen_start t uses) (at_start p inputs).store.out)
-        (Telling P p inputs z.elements z.frames uses some_frame (gen_start t uses) [] [] (λ f s. None)) (at_start p inputs) =
-      record { events = []; run = (IsPermutation-refl _, refl); among = ((0, 0, pos, sym (zero-mul t) ∙ sum_zero (0 * t), inr (sym first.0, refl)), tt); differ = (tt, tt);
-        told = record { counted = record { events = refl; requests = refl; credits = refl }; holders = λ f s. refl } } in
+      (Telling P p inputs z.elements z.frames uses some_frame (gen_start t uses) [] [] (λ f s. None)) (at_start p inputs) =
+      record {
+        events = [];
+        run = (IsPermutation-refl _, refl);
+        among = ((0, 0, pos, sym (zero-mul t) ∙ sum_zero (0 * t), inr (sym first.0, refl)), tt);
+        differ = (tt, tt);
+        told = record { counted = record { events = refl; requests = refl; credits = refl }; holders = λ f s. refl };
+      } in
       run_steps P p inputs z.elements z.frames uses some_frame (length events) events (gen_start t uses) [] (λ f s. None) (at_start p inputs) (at_start p inputs) m (naming_start t uses) (start_folds p inputs t uses pos) start frees r
     where
       sum_zero : (x : ℕ) → x ≡ 0 + x

@@ -26,4 +26,4 @@ once_keeps_faith fl p slots F orderly wired good takes inputs z events m r once 
     let own : Own p slots z inputs events m gone held = own_run p slots wired good orderly inputs z start events m r.run once in
     let plan_run : IsRun fl p.program inputs z events own.last = record { inputs_fit = r.inputs_fit; some_element = r.some_element; some_frame = r.some_frame; run = own.run } in
     faith_same slots m own.last (own_slots p slots wired good orderly inputs z start events m gone held own once) fl p good.all inputs events
-      (own_matching p slots wired good orderly inputs z start events m gone held own once) (keeps_faith fl p.program F inputs z events own.last plan_run)
+    (own_matching p slots wired good orderly inputs z start events m gone held own once) (keeps_faith fl p.program F inputs z events own.last plan_run)

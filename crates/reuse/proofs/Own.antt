@@ -159,7 +159,7 @@ module _ (p : Plan) (slots : List (List ℕ)) (wired : IsWired p) (good : Good p
       same = same;
       frames = λ f. frame_later p slots ts t f (m.store.slots f) (u.store.slots f) (c.store.slots f) (after.slots f) (ap (λ (s : ℕ → ℕ → SlotState). s f) slots_m) (ap (λ (s : ℕ → ℕ → SlotState). s f) slots_u) (own.tied.frames f);
       claims = λ g s. subst (ClaimOr p slots (ts ++ t ∷ []) after.slots g s) (sym (still g s))
-        (claim_later p slots ts t u.store.slots after.slots g s (held g s) (λ x e C empty. ap (λ (s : ℕ → ℕ → SlotState). s g x.number) (sym slots_u) ∙ empty) (own.claims g s));
+          (claim_later p slots ts t u.store.slots after.slots g s (held g s) (λ x e C empty. ap (λ (s : ℕ → ℕ → SlotState). s g x.number) (sym slots_u) ∙ empty) (own.claims g s));
     }
 
     by_instr : (f ip : ℕ) (q : Port) → t.to ≡ To.Instr f ip q → Located slots p.program.blocks ip → Happens code total m.store (To.Instr f ip q) t.word ev.made c.store → Answers ts held (To.Instr f ip q) t.word ev.made t c.store u.store
@@ -170,20 +170,28 @@ module _ (p : Plan) (slots : List (List ℕ)) (wired : IsWired p) (good : Good p
       where
         stands : Stands p.program b n i
         stands = record { code = d; block = at_block; instr = at_instr }
+
         is : t ≡ at_port p.program f b n q t.word
         is = ap (λ (x : To). token x t.word) (to ∙ ap (λ (ip : ℕ). To.Instr f ip q) place)
+
         inside : Contains u.pool (at_port p.program f b n q t.word)
         inside = subst (Contains u.pool) is pending
+
         agrees : Agrees ss (m.store.slots f) (u.store.slots f)
         agrees = frame_agrees p slots ts u.pool (ports_of p z (at_start p.program inputs) events u own.run O) f b n i q t.word ss (m.store.slots f) (u.store.slots f) stands at_slots inside (own.tied.frames f)
+
         alone : Alone ss (slot_of i i.op) (u.store.slots f)
         alone = alone_here p wired z (at_start p.program inputs) events u own.run O own.kept f b d at_block n i q t.word stands (Contains-append_right ts u.pool (at_port p.program f b n q t.word) inside) slots good ss at_slots n i q t.word stands inside
+
         shown : Shown ss f u.store c.store m.store (λ after. Happens p.program total u.store (To.Instr f ip q) t.word ev.made after)
         shown = instr_placed p slots good.all total m.store u.store c.store f ip q t.word ev.made ss i plan_at code_at alone agrees happens
+
         moved_m : Unmoved f m.store c.store
         moved_m = shown.3
+
         moved_u : Unmoved f u.store shown.0
         moved_u = shown.4
+
         same : Same c.store shown.0
         same = record {
           cells = moved_u.cells ∙ own.tied.same.cells ∙ sym moved_m.cells;
@@ -192,16 +200,21 @@ module _ (p : Plan) (slots : List (List ℕ)) (wired : IsWired p) (good : Good p
           outputs = moved_u.outputs ∙ own.tied.same.outputs ∙ sym moved_m.outputs;
           done = moved_u.done ∙ own.tied.same.done ∙ sym moved_m.done;
         }
+
         frame : (g : ℕ) → (f ≡ g) ⊎ (f ≡ g → ⊥) → IdleOr p slots (ts ++ t ∷ []) g (c.store.slots g) (shown.0.slots g)
         frame g (inl e) = subst (λ (g : ℕ). IdleOr p slots (ts ++ t ∷ []) g (c.store.slots g) (shown.0.slots g)) e
             (inr record { b = b; n = n; i = i; q = q; w = t.word; ss = ss; stands = stands; at_slots = at_slots; came = subst (Contains (ts ++ t ∷ [])) is (Contains-push ts t); agrees = shown.2 })
         frame g (inr ne) = frame_later p slots ts t g (m.store.slots g) (u.store.slots g) (c.store.slots g) (shown.0.slots g) (moved_m.slots g ne) (moved_u.slots g ne) (own.tied.frames g)
+
         move : Move p.program f b n q t.word i ev.made u.store shown.0
         move = move_of p.program total f b n q t.word i ev.made u.store shown.0 stands (subst (λ (ip : ℕ). Happens p.program total u.store (To.Instr f ip q) t.word ev.made shown.0) place shown.1)
+
         P : Ports p ts u.pool
         P = ports_of p z (at_start p.program inputs) events u own.run O
+
         some_one : (j k : ℕ) → slot_of i i.op ≡ Some j → slot_of i i.op ≡ Some k → j ≡ k
         some_one j k x y = cc
+
         -- the instruction's holder has the slot after the event, if it is not empty
         filled_now : (k s : ℕ) → slot_of i i.op ≡ Some k → slice_get ss k ≡ Some s → c.store.slots f s ≡ shown.0.slots f k
         filled_now k s holds at_k = agrees_at ss (c.store.slots f) (shown.0.slots f) shown.2 k s at_k (λ j ne at_j. others j ne at_j (slot_cases p.program f b n q t.word i ev.made u.store shown.0 move f j))
@@ -210,24 +223,31 @@ module _ (p : Plan) (slots : List (List ℕ)) (wired : IsWired p) (good : Good p
                 → (shown.0.slots f j ≡ u.store.slots f j) ⊎ ((f ≡ f) × (slot_of i i.op ≡ Some j) × (slot_in u.store f (slot_of i i.op) ≡ u.store.slots f j) × (shown.0.slots f j ≡ move.v)) → shown.0.slots f j ≡ Empty
             others j ne at_j (inl same) = same ∙ (alone k holds).1 j ne (at_j ∙ sym at_k ∙ (alone k holds).0)
             others j ne at_j (inr d) = absurd (ne (some_one j k d.1 holds))
+
         has_slot : (k s : ℕ) → slice_get ss k ≡ Some s → HasSlot slots b k s
         has_slot k s at_k = ap (λ (l : List ℕ). slice_get l k) (index_got slots b ss at_slots) ∙ at_k
+
         by_holder : (k s : ℕ) → slot_of i i.op ≡ Some k → slice_get ss k ≡ Some s → ClaimOr p slots (ts ++ t ∷ []) shown.0.slots f s (held_after (held f s) (holder_at p ip) (c.store.slots f s))
         by_holder k s holds at_k = pick (empty_or (c.store.slots f s)) (held f s) refl (own.claims f s)
           where
             me : Holder
             me = record { block = b; number = k }
+
             is_me : holder_at p ip ≡ Some me
             is_me = ap (holder_at p) place ∙ holder_here p b n i stands ∙ ap (holder_of b) holds
+
             mine : (c.store.slots f s ≡ Empty → ⊥) → Claim p slots (ts ++ t ∷ []) shown.0.slots f s me
             mine full = record { n = n; i = i; q = q; w = t.word; stands = stands; came = subst (Contains (ts ++ t ∷ [])) is (Contains-push ts t); slot = has_slot k s at_k; full = λ e. full (filled_now k s holds at_k ∙ e) }
+
             one_of : (o : Option Holder) → held f s ≡ o → ClaimOr p slots ts u.store.slots f s o → (held f s ≡ None) ⊎ (held f s ≡ Some me)
             one_of None e C = inl e
             one_of (Some x) e C = inr (e ∙ claim_same p slots ts u.pool P f b n i q t.word ss u.store.slots stands at_slots inside alone s k holds at_k x C)
+
             pick : (c.store.slots f s ≡ Empty) ⊎ (c.store.slots f s ≡ Empty → ⊥) → (o : Option Holder) → held f s ≡ o → ClaimOr p slots ts u.store.slots f s o
                 → ClaimOr p slots (ts ++ t ∷ []) shown.0.slots f s (held_after (held f s) (holder_at p ip) (c.store.slots f s))
             pick (inl e) o d C = subst (λ (v : SlotState). ClaimOr p slots (ts ++ t ∷ []) shown.0.slots f s (held_after (held f s) (holder_at p ip) v)) (sym e) tt
             pick (inr full) o d C = subst (ClaimOr p slots (ts ++ t ∷ []) shown.0.slots f s) (sym (held_full (held f s) (holder_at p ip) (c.store.slots f s) me full is_me (one_of o d C))) (mine full)
+
         claim : (g s : ℕ) (x : Bool) → ((f == g) && uses_slot s (slot_used (instr_at code ip))) ≡ x
             → ClaimOr p slots (ts ++ t ∷ []) shown.0.slots g s (if x then held_after (held g s) (holder_at p ip) (c.store.slots g s) else held g s)
         claim g s true e =
@@ -280,7 +300,7 @@ module _ (p : Plan) (slots : List (List ℕ)) (wired : IsWired p) (good : Good p
       hands = handed_snoc p.program z (at_start p.program inputs) u next events e t own.run event ∙ ap (λ (l : List ℕ). l ++ handed_by t.to ev.made) own.hands;
       kept = kept_next p wired z (at_start p.program inputs) events u next own.run e t event O own.kept;
       tied = subst (λ (ts : List Token). Tied p slots ts c next) (sym (map_append (λ (ev : ℕ × Token). ev.1) events ((e, t) ∷ [])))
-        record { pool = IsPermutation-sym _ _ ev.leaves; same = found.same; frames = found.frames };
+          record { pool = IsPermutation-sym _ _ ev.leaves; same = found.same; frames = found.frames };
       claims = λ g s. subst (λ (ts : List Token). ClaimOr p slots ts found.after.slots g s (held_by_event p code g s (held g s) t.to c.store)) (sym (map_append (λ (ev : ℕ × Token). ev.1) events ((e, t) ∷ []))) (found.claims g s);
     }
 
@@ -295,7 +315,7 @@ module _ (p : Plan) (slots : List (List ℕ)) (wired : IsWired p) (good : Good p
         hands = own.hands;
         kept = own.kept;
         tied = subst (λ (c : Machine). Tied p slots (taken before) c own.last) (λ k. record { store = sym r.1 k; pool = c.pool })
-          record { pool = IsPermutation-trans _ _ _ own.tied.pool r.0; same = own.tied.same; frames = own.tied.frames };
+            record { pool = IsPermutation-trans _ _ _ own.tied.pool r.0; same = own.tied.same; frames = own.tied.frames };
         claims = own.claims;
       })
   own_all (x ∷ later) before m c gone held own r once =

@@ -65,8 +65,8 @@ module _ (p : Plan) (slots : List (List ℕ)) (wired : IsWired p) (good : Good p
   frame_alone f (inr B) s h k at_h at_k full_h full_k =
       let row = index_got slots B.b B.ss B.at_slots in
       full_alone p wired z (at_start p.program inputs) events own.last own.run ordered own.kept f B.b (B.stands).code (B.stands).block B.n B.i B.q B.w B.stands
-        (Contains-append_left (taken events) own.last.pool (at_port p.program f B.b B.n B.q B.w) B.came) slots good B.ss B.at_slots h k s
-        (ap (λ (ss : List ℕ). slice_get ss h) (sym row) ∙ at_h) (ap (λ (ss : List ℕ). slice_get ss k) (sym row) ∙ at_k) full_h full_k
+      (Contains-append_left (taken events) own.last.pool (at_port p.program f B.b B.n B.q B.w) B.came) slots good B.ss B.at_slots h k s
+      (ap (λ (ss : List ℕ). slice_get ss h) (sym row) ∙ at_h) (ap (λ (ss : List ℕ). slice_get ss k) (sym row) ∙ at_k) full_h full_k
 
   pub own_slots : HasOwnSlots slots m own.last
   own_slots = record {
@@ -88,6 +88,7 @@ module _ (p : Plan) (slots : List (List ℕ)) (wired : IsWired p) (good : Good p
     where
       inside_u : Contains own.last.pool t
       inside_u = Contains-permutation _ _ t (IsPermutation-sym _ _ own.tied.pool) inside
+
       by_instr : (f ip : ℕ) (q : Port) (w : Word) → t.to ≡ To.Instr f ip q → t.word ≡ w → Located slots p.program.blocks ip
           → stuck_rule (placed p slots) m.store (To.Instr f ip q) w ≡ stuck_rule p.program own.last.store (To.Instr f ip q) w
       by_instr f ip q w to word (Nowhere at none) =
@@ -110,8 +111,10 @@ module _ (p : Plan) (slots : List (List ℕ)) (wired : IsWired p) (good : Good p
           ∙ ap excluded_by (outcome_same p.program (placed_blocks slots p.program.blocks) seat i r (first_same p.program slots good.all) i.op (slot_in m.store f (in_slot r (slot_of i i.op))) q w)
           ∙ ap (λ (s : SlotState). excluded_by (outcome_of p.program seat i i.op s q w)) slot
           ∙ sym (ap (λ (o : Option Instr). excluded_by (rule_at p.program seat o (slot_in u.store f (slot_used o)) q w)) plan_at)
+
       same : Same m.store own.last.store
       same = own.tied.same
+
       go : (to : To) (w : Word) → t.to ≡ to → t.word ≡ w → stuck_rule (placed p slots) m.store to w ≡ stuck_rule p.program own.last.store to w
       go (To.Instr f ip q) w to word = by_instr f ip q w to word (located slots p.program.blocks good.all ip)
       go (To.Fetch x) w to word = refl
@@ -131,25 +134,31 @@ module _ (p : Plan) (slots : List (List ℕ)) (wired : IsWired p) (good : Good p
         where
           no_slot : None ≡ Some s → ⊥
           no_slot e = cc
+
       go : Located slots p.program.blocks ip → (held f s ≡ None) ⊎ (held f s ≡ Some x)
       go (Nowhere at none) = absurd (none_some (instr_at (placed p slots) ip) none uses)
       go (There b n ss d i at_slots at_block at_instr plan_at code_at place) = pick (held f s) refl (own.claims f s)
         where
           stands : Stands p.program b n i
           stands = record { code = d; block = at_block; instr = at_instr }
+
           here : Contains own.last.pool (at_port p.program f b n q w)
           here = Contains-permutation _ _ _ (IsPermutation-sym _ _ own.tied.pool) (subst (λ (ip : ℕ). Contains m.pool (token (To.Instr f ip q) w)) place inside)
+
           P : Ports p (taken events) own.last.pool
           P = ports_of p z (at_start p.program inputs) events own.last own.run ordered
+
           alone : Alone ss (slot_of i i.op) (own.last.store.slots f)
           alone = alone_here p wired z (at_start p.program inputs) events own.last own.run ordered own.kept f b d at_block n i q w stands (Contains-append_right (taken events) own.last.pool (at_port p.program f b n q w) here) slots good ss at_slots n i q w stands here
+
           k : (k : ℕ) × (slot_of i i.op ≡ Some k) × (slice_get ss k ≡ Some s)
           k = slot_there p slots (taken events) own.last.pool P f b n i q w ss own.last.store.slots stands at_slots here alone s (ap slot_used (sym code_at) ∙ uses)
+
           pick : (o : Option Holder) → held f s ≡ o → ClaimOr p slots (taken events) own.last.store.slots f s o → (held f s ≡ None) ⊎ (held f s ≡ Some x)
           pick None e C = inl e
           pick (Some y) e C =
               inr (e ∙ claim_same p slots (taken events) own.last.pool P f b n i q w ss own.last.store.slots stands at_slots here alone s k.0 k.1 k.2 y C
-                ∙ sym (ap (holder_of b) k.1) ∙ sym (holder_here p b n i stands) ∙ ap (holder_at p) (sym place) ∙ is_x)
+              ∙ sym (ap (holder_of b) k.1) ∙ sym (holder_here p b n i stands) ∙ ap (holder_at p) (sym place) ∙ is_x)
 
 pub once_runs_are_own : OnceRunsAreOwn
 once_runs_are_own p slots wired good orderly inputs z events m start r once =

@@ -114,7 +114,7 @@ module _ (fl : Flow) (p : Program) (inputs : List ℤ) (t : ℕ) (h : ℕ → �
   rests_there : Resting m → (Wants m → ⊥) → Resting u
   rests_there rest calm =
       perm_nil u.pool (subst (λ (l : List Token). IsPermutation u.pool (map (re_token h) l ++ [])) rest
-        (subst (λ (cs : List Cont). IsPermutation u.pool (map (re_token h) m.pool ++ map (re_token h) (map (λ (c : Cont). record { to = To.Manager; word = Word.Back c }) cs))) (none_asks calm) F.pool))
+      (subst (λ (cs : List Cont). IsPermutation u.pool (map (re_token h) m.pool ++ map (re_token h) (map (λ (c : Cont). record { to = To.Manager; word = Word.Back c }) cs))) (none_asks calm) F.pool))
 
   calm_there : (Wants m → ⊥) → Wants u → ⊥
   calm_there calm (inl some) = some F.fold.none_waits
@@ -134,21 +134,21 @@ module _ (fl : Flow) (p : Program) (inputs : List ℤ) (t : ℕ) (h : ℕ → �
   faith_back events unfolded served v cells outputs C K L = record {
     reachable = (K.reachable.0, K.reachable.1, seen_back u.store values F.fold.outputs (K.reachable.0).memory K.reachable.2);
     exact = λ rest calm.
-      (let E = K.exact (rests_there rest calm) (calm_there calm) in
-      record {
-        state = E.state;
-        reached = E.reached;
-        seen = seen_back u.store values F.fold.outputs E.state.memory E.seen;
-        at_rest = E.at_rest;
-        only = E.only;
-        no_clash = E.no_clash;
-        readers = λ x. sym (readers_back x) ∙ E.readers x;
-      });
+        (let E = K.exact (rests_there rest calm) (calm_there calm) in
+        record {
+          state = E.state;
+          reached = E.reached;
+          seen = seen_back u.store values F.fold.outputs E.state.memory E.seen;
+          at_rest = E.at_rest;
+          only = E.only;
+          no_clash = E.no_clash;
+          readers = λ x. sym (readers_back x) ∙ E.readers x;
+        });
     second_store = λ x some. K.second_store x (some.0, some.1, re_word h some.2, there (record { to = To.Store x some.0; word = some.2 }) some.3, F.fold.cells x ∙ ap (re_cell h) some.4);
     matching = λ k inside. sym (stuck_re p t h m.store u.store F.fold k.to k.word) ∙ K.matching (re_token h k) (there k inside);
     clean = λ rest calm none.
-      (let E = K.clean (rests_there rest calm) (calm_there calm) (λ x. readers_back x ∙ none x) in
-      record { frames = λ f. sym (F.fold.out f) ∙ E.frames (h f); slots = λ f r. empty_back h (m.store.slots f r) (sym (E.slots (h f) r) ∙ F.fold.slots f r) });
+        (let E = K.clean (rests_there rest calm) (calm_there calm) (λ x. readers_back x ∙ none x) in
+        record { frames = λ f. sym (F.fold.out f) ∙ E.frames (h f); slots = λ f r. empty_back h (m.store.slots f r) (sym (E.slots (h f) r) ∙ F.fold.slots f r) });
     cause = record {
       run = L.cause.run;
       state = L.cause.state;
@@ -160,9 +160,9 @@ module _ (fl : Flow) (p : Program) (inputs : List ℤ) (t : ℕ) (h : ℕ → �
       credits = subst (λ (n : ℕ). n ≤ count_by is_turn L.cause.due) (sym C.credits) L.cause.credits;
     };
     bound =
-      (let a : length events ≡ length served = (let e = C.events in omega (arith, e)) in
-      let b : request_count events ≡ request_count served = (let e = C.requests in omega (arith, e)) in
-      subst (λ (n : ℕ). n ≤ 6 * (largest p.blocks + 1) * (1 + request_count events)) (sym a) (subst (λ (n : ℕ). length served ≤ 6 * (largest p.blocks + 1) * (1 + n)) (sym b) L.bound));
+        (let a : length events ≡ length served = (let e = C.events in omega (arith, e)) in
+        let b : request_count events ≡ request_count served = (let e = C.requests in omega (arith, e)) in
+        subst (λ (n : ℕ). n ≤ 6 * (largest p.blocks + 1) * (1 + request_count events)) (sym a) (subst (λ (n : ℕ). length served ≤ 6 * (largest p.blocks + 1) * (1 + n)) (sym b) L.bound));
   }
 
 -- ---- THE THEOREMS
@@ -175,6 +175,7 @@ shared_slots_are_faithful fl p slots F orderly wired good takes = faith_kept fl 
   where
     code : Program
     code = placed p slots
+
     one : (inputs : List ℤ) (z : Size) (events : Events) (m : Machine) → IsRun fl (placed p slots) inputs z events m → KeepsFaith fl (placed p slots) inputs events m
     one inputs z events m r =
         let start : IsStart p z inputs = start_of fl p slots takes inputs z events m r in
@@ -186,8 +187,8 @@ shared_slots_are_faithful fl p slots F orderly wired good takes = faith_kept fl 
         let here : IsRun fl (placed p slots) inputs wide H.unfolded H.last = record { inputs_fit = r.inputs_fit; some_element = r.some_element; some_frame = H.some_frame; run = H.run } in
         let there : IsRun fl (placed p slots) inputs wider S.unfolded S.last = record { inputs_fit = r.inputs_fit; some_element = r.some_element; some_frame = S.some_frame; run = S.run } in
         faith_back fl (placed p slots) inputs (z.elements * z.frames) (λ g. g + H.gen g * (z.elements * z.frames)) m H.last H.folds events H.unfolded S.unfolded S.last S.cells S.outputs S.counted
-          (once_keeps_faith fl p slots F orderly wired good takes inputs wide H.unfolded H.last here H.once)
-          (once_keeps_faith fl p slots F orderly wired good takes inputs wider S.unfolded S.last there S.once)
+        (once_keeps_faith fl p slots F orderly wired good takes inputs wide H.unfolded H.last here H.once)
+        (once_keeps_faith fl p slots F orderly wired good takes inputs wider S.unfolded S.last there S.once)
 
 pub releases_are_last : ReleasesAreLast
 releases_are_last fl p slots orderly wired good takes inputs z events m r =

@@ -51,7 +51,7 @@ one_block (x ∷ bs) (suc a) zero j k c d e g h l s =
     let one : nat_lt ip (length x.instrs) ≡ false = le-ltb ip (length x.instrs) (omega (arith, m)) in
     let two : nat_lt (0 + k) (length x.instrs) ≡ true = lt-ltb (0 + k) (length x.instrs) (omega (arith, l, n)) in
     absurd (true≢false (sym s ∙ ap (λ (t : Bool). if t then nat_lt (0 + k) (length x.instrs) else if nat_lt (0 + k) (length x.instrs) then false else same_block bs (ip - length x.instrs) (0 + k - length x.instrs)) one
-      ∙ ap (λ (t : Bool). if t then false else same_block bs (ip - length x.instrs) (0 + k - length x.instrs)) two))
+    ∙ ap (λ (t : Bool). if t then false else same_block bs (ip - length x.instrs) (0 + k - length x.instrs)) two))
 one_block (x ∷ bs) (suc a) (suc b) j k c d e g h l s =
     let m = first_next x bs a in
     let n = first_next x bs b in

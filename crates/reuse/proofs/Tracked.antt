@@ -51,6 +51,7 @@ none_from P p f s before to w made total old new happens kept empty = go to (slo
   where
     held_none : (before by : Option Holder) (v : SlotState) → v ≡ Empty → held_after before by v ≡ None
     held_none before by v e = ap (held_after before by) e
+
     same : (to : To) → new.slots ≡ old.slots → held_by_event P p f s before to new ≡ None
     same (To.Instr g ip q) e = pick ((g == f) && uses_slot s (slot_used (instr_at p ip)))
       where
@@ -62,6 +63,7 @@ none_from P p f s before to w made total old new happens kept empty = go to (slo
     same To.Manager e = kept (ap (λ (c : ℕ → ℕ → SlotState). c f s) (sym e) ∙ empty)
     same (To.Release g) e = kept (ap (λ (c : ℕ → ℕ → SlotState). c f s) (sym e) ∙ empty)
     same (To.Host j) e = kept (ap (λ (c : ℕ → ℕ → SlotState). c f s) (sym e) ∙ empty)
+
     -- an instruction's event changes no other slot
     other : (g : ℕ) (o : Option ℕ) (x : Outcome) → ((g == f) && uses_slot s o) ≡ false → Fires old g o x made new → new.slots f s ≡ old.slots f s
     other g o (Excluded n) un e = absurd e
@@ -72,6 +74,7 @@ none_from P p f s before to w made total old new happens kept empty = go to (slo
         pick (inr ne) d = ap (λ (c : ℕ → SlotState). c s) (put_other old.slots g (put_at (old.slots g) r v) f ne)
         pick (inl a) (inr ne) = ap (λ (c : ℕ → SlotState). c s) (put_same old.slots g (put_at (old.slots g) r v) f a) ∙ put_other (old.slots g) r v s ne ∙ ap (λ (x : ℕ). old.slots x s) a
         pick (inl a) (inl b) = absurd (true≢false (sym (and_from _ _ (eq-eqb g f a) (eq-eqb r s b)) ∙ un))
+
     go : (to : To) → (new.slots ≡ old.slots) ⊎ ((g : ℕ) × (ip : ℕ) × (q : Port) × (to ≡ To.Instr g ip q)) → Happens p total old to w made new → held_by_event P p f s before to new ≡ None
     go to (inl e) h = same to e
     go (To.Instr g ip q) (inr d) h = pick ((g == f) && uses_slot s (slot_used (instr_at p ip))) refl

@@ -35,14 +35,16 @@ names_full f (Draining n) h e = absurd h
 -- what the plan's release finds, the code's finds
 free_shared : (slots : List (List ℕ)) (m u : Machine) → HasOwnSlots slots m u → IsFreeAtRelease u → IsFreeAtRelease m
 free_shared slots m u O frees f w rest takes is_out =
-    let free = frees f w rest (IsPermutation-trans _ _ _ O.pool takes) (ap (λ (o : ℕ → Bool). o f) O.out ∙ is_out) in
-    (free.0, record {
-      tokens = free.1.tokens;
-      readers = λ x c inside. free.1.readers x c (subst (λ (y : ℕ → CellState). Contains (readers_of (y x)) c) (sym O.cells) inside);
-      requests = λ c inside. free.1.requests c (subst (λ (cs : List Cont). Contains cs c) (sym O.requests) inside);
-      words = λ g r names. (let h = O.held g r (names_full f (m.store.slots g r) names) in free.1.words g h.0 (subst (NamesSlot f) (sym h.2) names));
-      slots = λ r. empty r free.1.slots (empty_or (m.store.slots f r));
-    })
+    let free = frees f w rest (IsPermutation-trans _ _ _ O.pool takes) (ap (λ (o : ℕ → Bool). o f) O.out ∙ is_out) in (
+      free.0,
+      record {
+        tokens = free.1.tokens;
+        readers = λ x c inside. free.1.readers x c (subst (λ (y : ℕ → CellState). Contains (readers_of (y x)) c) (sym O.cells) inside);
+        requests = λ c inside. free.1.requests c (subst (λ (cs : List Cont). Contains cs c) (sym O.requests) inside);
+        words = λ g r names. (let h = O.held g r (names_full f (m.store.slots g r) names) in free.1.words g h.0 (subst (NamesSlot f) (sym h.2) names));
+        slots = λ r. empty r free.1.slots (empty_or (m.store.slots f r));
+      },
+    )
   where
     empty : (r : ℕ) → ((h : ℕ) → u.store.slots f h ≡ Empty) → (m.store.slots f r ≡ Empty) ⊎ (m.store.slots f r ≡ Empty → ⊥) → m.store.slots f r ≡ Empty
     empty r none (inl e) = e
@@ -86,18 +88,18 @@ module _ (p : Plan) (slots : List (List ℕ)) (wired : IsWired p) (good : Good p
 
     unfolds : Unfolds total slots m own.last
     unfolds = record {
-        gen = H.gen;
-        block = λ g. own.own.block (h g);
-        tokens = IsPermutation-trans _ _ _ own.own.pool (subst (IsPermutation H.last.pool) (sym (map_append (re_token h) m.pool (map request m.store.requests))) H.folds.pool);
-        none_waits = own.own.requests ∙ H.folds.fold.none_waits;
-        cells = λ x. ap (λ (c : ℕ → CellState). c x) own.own.cells ∙ H.folds.fold.cells x;
-        out = λ g. ap (λ (o : ℕ → Bool). o (h g)) own.own.out ∙ H.folds.fold.out g;
-        same = (own.own.outputs ∙ H.folds.fold.outputs, own.own.done ∙ H.folds.fold.done);
-        others = λ f. others f (H.folds.fold.others f);
-        held = λ g s full. (let k = own.own.held (h g) s (full_there g s full) in (k.0, k.1, k.2 ∙ H.folds.fold.slots g s));
-        shown = λ g k full. (let s = own.own.shown (h g) k full in (s.0, s.1, s.2 ∙ H.folds.fold.slots g s.0));
-        alone = λ g s j k at_j at_k full_j full_k. own.own.alone (h g) s j k at_j at_k full_j full_k;
-      }
+      gen = H.gen;
+      block = λ g. own.own.block (h g);
+      tokens = IsPermutation-trans _ _ _ own.own.pool (subst (IsPermutation H.last.pool) (sym (map_append (re_token h) m.pool (map request m.store.requests))) H.folds.pool);
+      none_waits = own.own.requests ∙ H.folds.fold.none_waits;
+      cells = λ x. ap (λ (c : ℕ → CellState). c x) own.own.cells ∙ H.folds.fold.cells x;
+      out = λ g. ap (λ (o : ℕ → Bool). o (h g)) own.own.out ∙ H.folds.fold.out g;
+      same = (own.own.outputs ∙ H.folds.fold.outputs, own.own.done ∙ H.folds.fold.done);
+      others = λ f. others f (H.folds.fold.others f);
+      held = λ g s full. (let k = own.own.held (h g) s (full_there g s full) in (k.0, k.1, k.2 ∙ H.folds.fold.slots g s));
+      shown = λ g k full. (let s = own.own.shown (h g) k full in (s.0, s.1, s.2 ∙ H.folds.fold.slots g s.0));
+      alone = λ g s j k at_j at_k full_j full_k. own.own.alone (h g) s j k at_j at_k full_j full_k;
+    }
       where
         others : (f : ℕ) → (((k : ℕ) → H.last.store.slots f k ≡ Empty) × (H.last.store.out f ≡ false)) ⊎ ((g : ℕ) × (f ≡ h g))
             → (((k : ℕ) → own.last.store.slots f k ≡ Empty) × (own.last.store.out f ≡ false)) ⊎ ((g : ℕ) × (f ≡ h g))

@@ -184,19 +184,26 @@ module _ (p : Program) (f b n : ℕ) (q : Port) (w : Word) (i : Instr) (made : L
         where
           row : ℕ → SlotState
           row = put_at (old.slots f) k M.v
+
           pick : ((f ≡ g) ⊎ (f ≡ g → ⊥)) → ((k ≡ h) ⊎ (k ≡ h → ⊥)) → (new.slots g h ≡ old.slots g h) ⊎ ((f ≡ g) × (slot_of i i.op ≡ Some h) × (slot_in old f (slot_of i i.op) ≡ old.slots g h) × (new.slots g h ≡ M.v))
           pick (inr ne) d = inl (ap (λ (s : MStore). s.slots g h) e ∙ ap (λ (c : ℕ → SlotState). c h) (put_other old.slots f row g ne))
           pick (inl same) (inr ne) =
               inl (ap (λ (s : MStore). s.slots g h) e ∙ ap (λ (c : ℕ → SlotState). c h) (put_same old.slots f row g same) ∙ put_other (old.slots f) k M.v h ne ∙ ap (λ (x : ℕ). old.slots x h) same)
           pick (inl same) (inl eq) =
-              inr (same, at ∙ ap Some eq, ap (slot_in old f) at ∙ (λ t. old.slots (same t) (eq t)),
-              ap (λ (s : MStore). s.slots g h) e ∙ ap (λ (c : ℕ → SlotState). c h) (put_same old.slots f row g same) ∙ put_same (old.slots f) k M.v h eq)
+              inr (
+                same,
+                at ∙ ap Some eq,
+                ap (slot_in old f) at ∙ (λ t. old.slots (same t) (eq t)),
+                ap (λ (s : MStore). s.slots g h) e ∙ ap (λ (c : ℕ → SlotState). c h) (put_same old.slots f row g same) ∙ put_same (old.slots f) k M.v h eq,
+              )
 
   -- the holder's slot, before and after
   pub slot_new : (h : ℕ) → slot_of i i.op ≡ Some h → (new.slots f h ≡ M.v) × (slot_in old f (slot_of i i.op) ≡ old.slots f h)
-  slot_new h holds =
-      (ap (λ (s : MStore). s.slots f h) (M.after ∙ ap (λ (o : Option ℕ). with_slot_in old f o M.v) holds)
-      ∙ ap (λ (c : ℕ → SlotState). c h) (put_same old.slots f (put_at (old.slots f) h M.v) f refl) ∙ put_same (old.slots f) h M.v h refl, ap (slot_in old f) holds)
+  slot_new h holds = (
+    ap (λ (s : MStore). s.slots f h) (M.after ∙ ap (λ (o : Option ℕ). with_slot_in old f o M.v) holds)
+        ∙ ap (λ (c : ℕ → SlotState). c h) (put_same old.slots f (put_at (old.slots f) h M.v) f refl) ∙ put_same (old.slots f) h M.v h refl,
+    ap (slot_in old f) holds,
+  )
 
   pub filled_after : (ts : List Token) → Stands p b n i → ((g h : ℕ) → EmptyOr p ts g h (old.slots g h)) → (g h : ℕ) → EmptyOr p (ts ++ at_port p f b n q w ∷ []) g h (new.slots g h)
   filled_after ts at before g h = go (slot_cases g h) (before g h)
