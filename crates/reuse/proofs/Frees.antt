@@ -17,14 +17,7 @@ use Rattle.semantics.specs.Renamed.{re_cont, re_word, re_to, re_token, re_slot, 
 use Rattle.reuse.proofs.Fold.{Fold}
 use Rattle.reuse.proofs.Freed.{empty_back}
 use Rattle.reuse.proofs.Frames.{asking, waits, pool_before, FreesOnce, frames_once}
-
-pub contains_map : {X Y : Type 0} (f : X → Y) (xs : List X) (x : X) → Contains xs x → Contains (map f xs) (f x)
-contains_map f [] x (i, below, e) = absurd (omega arith)
-contains_map f (y ∷ xs) x (zero, below, e) = (0, omega arith, ap f e)
-contains_map f (y ∷ xs) x (suc i, below, e) =
-    let rest = contains_map f xs x (i, omega arith, e) in
-    let low : rest.0 < length (map f xs) = rest.1 in
-    (suc rest.0, omega arith, rest.2)
+use Rattle.reuse.proofs.Members.{contains_map}
 
 module _ (h : ℕ → ℕ) (f : ℕ) where
   named_cont : (c : Cont) → NamesCont f c → NamesCont (h f) (re_cont h c)

@@ -29,12 +29,13 @@ use Rattle.reuse.proofs.Places.{moved_to, Located, Nowhere, There, located, firs
 use Rattle.reuse.proofs.Placed.{Alone, Unmoved, Shown, instr_placed}
 use Rattle.reuse.proofs.Carried.{Same, Carried, fetch_carried, store_carried, request_carried, host_carried, release_carried}
 use Rattle.reuse.proofs.Stands.{some_same, Stands}
-use Rattle.reuse.proofs.Uses.{contains_head, at_port, later_on, Move, move_of, slot_cases}
+use Rattle.reuse.proofs.Uses.{at_port, later_on, Move, move_of, slot_cases}
 use Rattle.reuse.proofs.Used.{Ports, one_frame}
 use Rattle.semantics.specs.Holders.{Holder, holder_of, holder_at, held_after, uses_slot, held_by_event, holds}
 use Rattle.reuse.proofs.Claims.{index_got, holder_here, Claim, ClaimOr, claim_later, claim_slot, claim_same, slot_there, slot_is}
 use Rattle.reuse.proofs.Kept.{taken, Kept, ports_of, kept_next, kept_start}
 use Rattle.reuse.proofs.Owners.{alone_here}
+use Rattle.reuse.proofs.Members.{contains_head}
 
 -- ---- THE TWO STATES
 

@@ -28,17 +28,16 @@ use Rattle.semantics.specs.Handed.{handed}
 use Rattle.semantics.specs.Holders.{Holder, holds}
 use Rattle.reuse.proofs.Own.{Own, own_run}
 use Rattle.reuse.proofs.OwnSlots.{own_alone}
-use Rattle.reuse.proofs.Uses.{contains_head}
 use Rattle.reuse.proofs.Renames.{re_outcome, rule_re}
 use Rattle.reuse.proofs.Counts.{Counted}
 use Rattle.reuse.proofs.Fold.{Fold, slot_in_re}
 use Rattle.reuse.proofs.Freed.{empty_back}
 use Rattle.reuse.proofs.Frames.{waits, Folds, FreesOnce, frames_once}
 use Rattle.reuse.proofs.Served.{value_in_re, has_served}
-use Rattle.reuse.proofs.Frees.{contains_map}
 use Rattle.reuse.proofs.Unfold.{frees_shared, release_shared}
 use Rattle.reuse.proofs.Clauses.{KeepsFaith, faith_kept, code_bounds, perm_nil}
 use Rattle.reuse.proofs.OnceFaith.{once_keeps_faith}
+use Rattle.reuse.proofs.Members.{contains_head, contains_map}
 
 -- ---- RULES THAT EXCLUDE, UNDER OTHER NUMBERS FOR THE FRAMES
 

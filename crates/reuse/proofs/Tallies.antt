@@ -22,7 +22,7 @@ use Rattle.semantics.specs.Holders.{Holder, holder_at, same_holder}
 use Rattle.semantics.specs.Credits.{granted_by, granted_in, granted_at, released_by, released_in, released_at, granted, released}
 use Rattle.reuse.proofs.Fold.{Injective, eq_under, ne_eqb}
 use Rattle.reuse.proofs.Snoc.{Count, tally}
-use Rattle.reuse.proofs.Uses.{contains_head, contains_tail}
+use Rattle.reuse.proofs.Members.{contains_head, contains_tail}
 
 pub data Counter : Type 0 where
   -- the credits of a loop

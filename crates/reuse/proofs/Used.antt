@@ -22,17 +22,10 @@ use Rattle.semantics.specs.Orderly.{is_at, often, same_block}
 use Rattle.semantics.specs.Wired.{is_dyadic}
 use Rattle.reuse.proofs.Stands.{Stands, stands_at, stands_block}
 use Rattle.reuse.proofs.Turns.{is_counting, is_later, Turn, waits_left, waits_right, meets_right, meets_left, lone, begins, counts}
-use Rattle.reuse.proofs.Uses.{contains_head, contains_tail, contains_cases, contains_none, at_port, Came, later_on, came_twice, none_some}
+use Rattle.reuse.proofs.Uses.{at_port, Came, later_on, came_twice, none_some}
+use Rattle.reuse.proofs.Members.{contains_head, contains_tail, contains_cases, contains_none, contains_mapped}
 
 -- ---- ARCS
-
-pub contains_mapped : {X Y : Type 0} (f : X → Y) (xs : List X) (y : Y) → Contains (map f xs) y → (x : X) × Contains xs x × (f x ≡ y)
-contains_mapped f [] y c = absurd (contains_none y c)
-contains_mapped f (x ∷ xs) y c = go (contains_cases (f x) (map f xs) y c) (λ c. contains_mapped f xs y c)
-  where
-    go : (f x ≡ y) ⊎ Contains (map f xs) y → (Contains (map f xs) y → (x : _) × Contains xs x × (f x ≡ y)) → (z : _) × Contains (x ∷ xs) z × (f z ≡ y)
-    go (inl e) more = (x, contains_head x xs, e)
-    go (inr c) more = let m = more c in (m.0, contains_tail x xs m.0 m.1, m.2)
 
 arcs_to_from : (n : ℕ) (s : Bool) (ds : List Dest) (x : Arc) → Contains (arcs_to n s ds) x → x.from ≡ n
 arcs_to_from n s ds x c = let d = contains_mapped (λ (d : Dest). arc n s (inlet (n + d.ahead) d.port)) ds x c in sym (ap (λ (x : Arc). x.from) d.2)

@@ -22,21 +22,9 @@ use Rattle.semantics.specs.Wired.{is_dyadic}
 use Rattle.reuse.proofs.Fold.{put_same, put_other}
 use Rattle.reuse.proofs.Stands.{Stands, stands_at}
 use Rattle.reuse.proofs.Turns.{is_counting, Turn, waits_left, waits_right, meets_right, meets_left, lone, begins, counts, turn_of}
+use Rattle.reuse.proofs.Members.{contains_cases, contains_none}
 
 -- ---- TOKENS AT PORTS
-
-pub contains_head : {X : Type 0} (x : X) (xs : List X) → Contains (x ∷ xs) x
-contains_head x xs = (0, omega arith, refl)
-
-pub contains_tail : {X : Type 0} (x : X) (xs : List X) (y : X) → Contains xs y → Contains (x ∷ xs) y
-contains_tail x xs y h = (suc h.0, omega (arith, h.1), h.2)
-
-pub contains_cases : {X : Type 0} (x : X) (xs : List X) (y : X) → Contains (x ∷ xs) y → (x ≡ y) ⊎ Contains xs y
-contains_cases x xs y (zero, below, e) = inl e
-contains_cases x xs y (suc k, below, e) = inr (k, omega (arith, below), e)
-
-pub contains_none : {X : Type 0} (y : X) → Contains [] y → ⊥
-contains_none y (k, below, e) = omega (arith, below)
 
 -- the token at a port of an instruction
 abbrev pub at_port : Program → ℕ → ℕ → ℕ → Port → Word → Token
