@@ -18,7 +18,7 @@ use Rattle.reuse.proofs.Counts.{Counted, counted_serves}
 use Rattle.reuse.proofs.Lists.{each_weaker, all_differ}
 use Rattle.reuse.proofs.Fold.{put_other}
 use Rattle.reuse.proofs.Freed.{place, place_low, place_same, place_fresh}
-use Rattle.reuse.proofs.Frames.{Once, once_more, waits, Used, FreesOnce, Next, wide, last_state}
+use Rattle.reuse.proofs.Frames.{So, so_start, so_after, Once, once_more, waits, Used, FreesOnce, Next, wide, last_state}
 
 module _ (P : Plan) (p : Program) (inputs : List ℤ) (elements frames n : ℕ) (some_frame : 0 < frames) (some_element : 0 < elements) (done : Events) (gen : ℕ → ℕ) (out : ℕ → Bool) where
   abbrev total : ℕ
@@ -128,8 +128,8 @@ module _ (P : Plan) (p : Program) (inputs : List ℤ) (z : Size) (events : Event
   abbrev many : ℕ
   many = length events + length events
 
-  abbrev tracked : ℕ → ℕ → Option Holder
-  tracked f s = holds P p f s None z (at_start p inputs) events m r
+  abbrev tracked : So
+  tracked = so_after P p so_start z (at_start p inputs) events m r
 
   abbrev N : Next P p inputs z.elements z.frames many some_frame (length events) events tracked m
   N = last_state P p inputs z events m some_element some_frame frees r

@@ -18,7 +18,7 @@ use Rattle.semantics.specs.Wired.{IsWired}
 use Rattle.reuse.specs.OwnSlots.{HasOwnSlots, IsOwnRun}
 use Rattle.reuse.proofs.Fold.{map_append}
 use Rattle.reuse.proofs.Freed.{empty_back}
-use Rattle.reuse.proofs.Frames.{FreesOnce, HasOnce, frames_once}
+use Rattle.reuse.proofs.Frames.{so_start, so_after, FreesOnce, HasOnce, frames_once}
 use Rattle.reuse.proofs.Frees.{frees_always}
 use Rattle.reuse.proofs.Places.{empty_or}
 use Rattle.reuse.proofs.OwnSlots.{once_runs_are_own}
@@ -71,7 +71,7 @@ module _ (p : Plan) (slots : List (List ℕ)) (wired : IsWired p) (good : Good p
     abbrev total : ℕ
     total = z.elements * z.frames
 
-    abbrev H : HasOnce p code inputs z events (λ f s. holds p code f s None z (at_start code inputs) events m r) m
+    abbrev H : HasOnce p code inputs z events (so_after p code so_start z (at_start code inputs) events m r) m
     H = frames_once p code inputs z events m start.some_element start.some_frame (frees_shared inputs z start) r
 
     abbrev size : Size
