@@ -11,7 +11,8 @@ use Rattle.semantics.specs.Orderly.{Orderly, IsStart}
 use Rattle.semantics.specs.Wired.{IsWired}
 use Rattle.reuse.specs.Theorem.{TakesInputs}
 use Rattle.semantics.specs.Holders.{Holder, holds}
-use Rattle.reuse.proofs.Own.{Own, own_run}
+use Rattle.reuse.proofs.Frames.{So, so_start}
+use Rattle.reuse.proofs.Own.{own_so_after, Own, own_run}
 use Rattle.reuse.proofs.OwnSlots.{own_slots, own_matching}
 use Rattle.reuse.proofs.Clauses.{KeepsFaith, keeps_faith, faith_same}
 
@@ -22,8 +23,8 @@ pub once_keeps_faith : (fl : Flow) (p : Plan) (slots : List (List ℕ)) → Fait
 once_keeps_faith fl p slots F orderly wired good takes inputs z events m r once =
     let start : IsStart p z inputs = record { some_element = r.some_element; some_frame = r.some_frame; inputs_fit = r.inputs_fit ∙ sym takes } in
     let gone : List ℕ = handed (placed p slots) z (at_start (placed p slots) inputs) events m r.run in
-    let held : ℕ → ℕ → Option Holder = λ g s. holds p (placed p slots) g s None z (at_start (placed p slots) inputs) events m r.run in
-    let own : Own p slots z inputs events m gone held = own_run p slots wired good orderly inputs z start events m r.run once in
+    let so : So = own_so_after p (placed p slots) so_start z (at_start (placed p slots) inputs) events m r.run in
+    let own : Own p slots z inputs events m gone so = own_run p slots wired good orderly inputs z start events m r.run once in
     let plan_run : IsRun fl p.program inputs z events own.last = record { inputs_fit = r.inputs_fit; some_element = r.some_element; some_frame = r.some_frame; run = own.run } in
-    faith_same slots m own.last (own_slots p slots wired good orderly inputs z start events m gone held own once) fl p good.all inputs events
-    (own_matching p slots wired good orderly inputs z start events m gone held own once) (keeps_faith fl p.program F inputs z events own.last plan_run)
+    faith_same slots m own.last (own_slots p slots wired good orderly inputs z start events m gone so own once) fl p good.all inputs events
+    (own_matching p slots wired good orderly inputs z start events m gone so own once) (keeps_faith fl p.program F inputs z events own.last plan_run)

@@ -31,7 +31,8 @@ use Rattle.reuse.proofs.Kept.{taken, ports_of}
 use Rattle.reuse.proofs.Owners.{full_alone, alone_here}
 use Rattle.reuse.proofs.Claims.{index_got, ClaimOr, claim_same, slot_there, holder_here}
 use Rattle.semantics.specs.Holders.{Holder, holder_of, holder_at, holds}
-use Rattle.reuse.proofs.Own.{IdleOr, frame_agrees, Own, orderly_here, own_run}
+use Rattle.reuse.proofs.Frames.{So, so_start}
+use Rattle.reuse.proofs.Own.{own_so_after, IdleOr, frame_agrees, Own, orderly_here, own_run}
 
 busy_block : (p : Plan) (slots : List (List ℕ)) (ts : List Token) (f : ℕ) (code plan : ℕ → SlotState) → IdleOr p slots ts f code plan → ℕ
 busy_block p slots ts f code plan (inl idle) = 0
@@ -54,9 +55,9 @@ frame_shown p slots ts f code plan (inr B) h full =
     (s.0, ap (λ (ss : List ℕ). slice_get ss h) (index_got slots B.b B.ss B.at_slots) ∙ s.1, s.2)
 
 module _ (p : Plan) (slots : List (List ℕ)) (wired : IsWired p) (good : Good p slots) (orderly : Orderly p) (inputs : List ℤ) (z : Size) (start : IsStart p z inputs) (events : Events) (m : Machine) (gone : List ℕ)
-    (held : ℕ → ℕ → Option Holder) (own : Own p slots z inputs events m gone held) (once : EachOnce (0 ∷ gone)) where
+    (so : So) (own : Own p slots z inputs events m gone so) (once : EachOnce (0 ∷ gone)) where
   abbrev ordered : IsOrderlyRun p z (at_start p.program inputs) events own.last own.run
-  ordered = orderly_here p slots wired good orderly inputs z start events m gone held own once
+  ordered = orderly_here p slots wired good orderly inputs z start events m gone so own once
 
   frame_alone : (f : ℕ) (x : IdleOr p slots (taken events) f (m.store.slots f) (own.last.store.slots f)) (s h k : ℕ) → HasSlot slots (busy_block p slots (taken events) f (m.store.slots f) (own.last.store.slots f) x) h s
       → HasSlot slots (busy_block p slots (taken events) f (m.store.slots f) (own.last.store.slots f) x) k s → (own.last.store.slots f h ≡ Empty → ⊥) → (own.last.store.slots f k ≡ Empty → ⊥) → h ≡ k
@@ -126,7 +127,7 @@ module _ (p : Plan) (slots : List (List ℕ)) (wired : IsWired p) (good : Good p
           ∙ (λ k. if nat_lt j (outputs_of p.program) then (if filled (sym same.outputs k j) then Some 6 else unless_value w) else if j == outputs_of p.program then (if sym same.done k then Some 6 else None) else Some 6)
 
   -- a holder for which a token waits finds its slot held by none or by itself
-  pub own_alone : (f ip s : ℕ) (q : Port) (w : Word) (x : Holder) → Contains m.pool (token (To.Instr f ip q) w) → holder_at p ip ≡ Some x → slot_used (instr_at (placed p slots) ip) ≡ Some s → (held f s ≡ None) ⊎ (held f s ≡ Some x)
+  pub own_alone : (f ip s : ℕ) (q : Port) (w : Word) (x : Holder) → Contains m.pool (token (To.Instr f ip q) w) → holder_at p ip ≡ Some x → slot_used (instr_at (placed p slots) ip) ≡ Some s → (so.held f s ≡ None) ⊎ (so.held f s ≡ Some x)
   own_alone f ip s q w x inside is_x uses = go (located slots p.program.blocks good.all ip)
     where
       none_some : (o : Option Instr) → o ≡ None → slot_used o ≡ Some s → ⊥
@@ -135,9 +136,9 @@ module _ (p : Plan) (slots : List (List ℕ)) (wired : IsWired p) (good : Good p
           no_slot : None ≡ Some s → ⊥
           no_slot e = cc
 
-      go : Located slots p.program.blocks ip → (held f s ≡ None) ⊎ (held f s ≡ Some x)
+      go : Located slots p.program.blocks ip → (so.held f s ≡ None) ⊎ (so.held f s ≡ Some x)
       go (Nowhere at none) = absurd (none_some (instr_at (placed p slots) ip) none uses)
-      go (There b n ss d i at_slots at_block at_instr plan_at code_at place) = pick (held f s) refl (own.claims f s)
+      go (There b n ss d i at_slots at_block at_instr plan_at code_at place) = pick (so.held f s) refl (own.claims f s)
         where
           stands : Stands p.program b n i
           stands = record { code = d; block = at_block; instr = at_instr }
@@ -154,7 +155,7 @@ module _ (p : Plan) (slots : List (List ℕ)) (wired : IsWired p) (good : Good p
           k : (k : ℕ) × (slot_of i i.op ≡ Some k) × (slice_get ss k ≡ Some s)
           k = slot_there p slots (taken events) own.last.pool P f b n i q w ss own.last.store.slots stands at_slots here alone s (ap slot_used (sym code_at) ∙ uses)
 
-          pick : (o : Option Holder) → held f s ≡ o → ClaimOr p slots (taken events) own.last.store.slots f s o → (held f s ≡ None) ⊎ (held f s ≡ Some x)
+          pick : (o : Option Holder) → so.held f s ≡ o → ClaimOr p slots (taken events) own.last.store.slots f s o → (so.held f s ≡ None) ⊎ (so.held f s ≡ Some x)
           pick None e C = inl e
           pick (Some y) e C =
               inr (e ∙ claim_same p slots (taken events) own.last.pool P f b n i q w ss own.last.store.slots stands at_slots here alone s k.0 k.1 k.2 y C
@@ -167,5 +168,5 @@ once_runs_are_own p slots wired good orderly inputs z events m start r once =
       last = own.last;
       run = own.run;
       once = subst (λ (l : List ℕ). EachOnce (0 ∷ l)) (sym own.hands) once;
-      own = own_slots p slots wired good orderly inputs z start events m (handed (placed p slots) z (at_start (placed p slots) inputs) events m r) (λ g s. holds p (placed p slots) g s None z (at_start (placed p slots) inputs) events m r) own once;
+      own = own_slots p slots wired good orderly inputs z start events m (handed (placed p slots) z (at_start (placed p slots) inputs) events m r) (own_so_after p (placed p slots) so_start z (at_start (placed p slots) inputs) events m r) own once;
     }

@@ -26,13 +26,13 @@ use Rattle.semantics.specs.Renamed.{re_cont, re_word, re_to, re_token, re_slot, 
 use Rattle.reuse.specs.Theorem.{TakesInputs, SharedSlotsAreFaithful, ReleasesAreLast, HoldersAreAlone}
 use Rattle.semantics.specs.Handed.{handed}
 use Rattle.semantics.specs.Holders.{Holder, holds}
-use Rattle.reuse.proofs.Own.{Own, own_run}
+use Rattle.reuse.proofs.Own.{own_so_after, own_held, Own, own_run}
 use Rattle.reuse.proofs.OwnSlots.{own_alone}
 use Rattle.reuse.proofs.Renames.{re_outcome, rule_re}
 use Rattle.reuse.proofs.Counts.{Counted}
 use Rattle.reuse.proofs.Fold.{Fold, slot_in_re}
 use Rattle.reuse.proofs.Freed.{empty_back}
-use Rattle.reuse.proofs.Frames.{so_start, so_held, waits, Folds, FreesOnce, frames_once}
+use Rattle.reuse.proofs.Frames.{So, so_start, so_held, waits, Folds, FreesOnce, frames_once}
 use Rattle.reuse.proofs.Served.{value_in_re, has_served}
 use Rattle.reuse.proofs.Unfold.{frees_shared, release_shared}
 use Rattle.reuse.proofs.Clauses.{KeepsFaith, faith_kept, code_bounds, perm_nil}
@@ -202,13 +202,13 @@ holders_are_alone fl p slots orderly wired good takes inputs z events m next e t
     let wide : Size = record { elements = z.elements; frames = H.frames } in
     let wide_start : IsStart p wide inputs = record { some_element = start.some_element; some_frame = H.some_frame; inputs_fit = start.inputs_fit } in
     let gone : List ℕ = handed (placed p slots) wide (at_start (placed p slots) inputs) H.unfolded H.last H.run in
-    let held : ℕ → ℕ → Option Holder = λ g s. holds p (placed p slots) g s None wide (at_start (placed p slots) inputs) H.unfolded H.last H.run in
-    let own : Own p slots wide inputs H.unfolded H.last gone held = own_run p slots wired good orderly inputs wide wide_start H.unfolded H.last H.run H.once in
+    let so : So = own_so_after p (placed p slots) so_start wide (at_start (placed p slots) inputs) H.unfolded H.last H.run in
+    let own : Own p slots wide inputs H.unfolded H.last gone so = own_run p slots wired good orderly inputs wide wide_start H.unfolded H.last H.run H.once in
     let here : Contains m.pool t = Contains-permutation _ _ t (IsPermutation-sym _ _ ev.takes) (contains_head t ev.rest) in
     let there : Contains H.last.pool (re_token h t) =
     Contains-permutation _ _ _ (IsPermutation-sym _ _ H.folds.pool) (Contains-append_left (map (re_token h) m.pool) (waits h m.store.requests) (re_token h t) (contains_map (re_token h) m.pool t here)) in
     let waits_there : Contains H.last.pool (token (To.Instr (h f) ip q) (re_word h t.word)) = subst (λ (to : To). Contains H.last.pool (token (re_to h to) (re_word h t.word))) to there in
-    carry (H.holders f s ∙ so_held p (placed p slots) so_start z (at_start (placed p slots) inputs) events m r.run f s) (own_alone p slots wired good orderly inputs wide wide_start H.unfolded H.last gone held own H.once (h f) ip s q (re_word h t.word) x waits_there is_x uses)
+    carry (own_held p (placed p slots) so_start wide (at_start (placed p slots) inputs) H.unfolded H.last H.run (h f) s ∙ H.holders f s ∙ so_held p (placed p slots) so_start z (at_start (placed p slots) inputs) events m r.run f s) (own_alone p slots wired good orderly inputs wide wide_start H.unfolded H.last gone so own H.once (h f) ip s q (re_word h t.word) x waits_there is_x uses)
   where
     carry : {a b : Option Holder} → a ≡ b → (a ≡ None) ⊎ (a ≡ Some x) → (b ≡ None) ⊎ (b ≡ Some x)
     carry e (inl d) = inl (sym e ∙ d)

@@ -54,6 +54,20 @@ pub count_release : (P : Plan) (q : Program) (x : Counter) (f g : ℕ) (s : Stor
 count_release P q (Grants loop) f g s made = refl
 count_release P q (Releases base) f g s made = refl
 
+-- only an instruction's event counts
+pub count_apart : (P : Plan) (q : Program) (x : Counter) (f : ℕ) (s : Store) (to : To) (made : List Token) → ((g ip : ℕ) (r : Port) → to ≡ To.Instr g ip r → ⊥) → count_at P q x f s to made ≡ 0
+count_apart P q x f s (To.Instr g ip r) made ne = absurd (ne g ip r refl)
+count_apart P q (Grants loop) f s (To.Fetch y) made ne = refl
+count_apart P q (Releases base) f s (To.Fetch y) made ne = refl
+count_apart P q (Grants loop) f s (To.Store y v) made ne = refl
+count_apart P q (Releases base) f s (To.Store y v) made ne = refl
+count_apart P q (Grants loop) f s To.Manager made ne = refl
+count_apart P q (Releases base) f s To.Manager made ne = refl
+count_apart P q (Grants loop) f s (To.Release g) made ne = refl
+count_apart P q (Releases base) f s (To.Release g) made ne = refl
+count_apart P q (Grants loop) f s (To.Host j) made ne = refl
+count_apart P q (Releases base) f s (To.Host j) made ne = refl
+
 -- ---- UNDER OTHER NUMBERS FOR THE FRAMES
 
 granted_by_re : (h : ℕ → ℕ) (op : Op) (s : SlotState) → granted_by op (re_slot h s) ≡ granted_by op s
