@@ -199,22 +199,30 @@ slot_out : (m : Store) (f : ℕ) (r : Option ℕ) (s : _) → ((with_slot_in m f
 slot_out m f None s = (refl, refl)
 slot_out m f (Some r) s = (refl, refl)
 
-fires_out : (m new : Store) (f : ℕ) (r : Option ℕ) (o : Outcome) (made : List Token) → Fires m f r o made new → (new.out ≡ m.out) × (new.requests ≡ m.requests)
+pub fires_out : (m new : Store) (f : ℕ) (r : Option ℕ) (o : Outcome) (made : List Token) → Fires m f r o made new → (new.out ≡ m.out) × (new.requests ≡ m.requests)
 fires_out m new f r (Excluded n) made e = absurd e
 fires_out m new f r (Becomes s ts) made e =
     let same = slot_out m f r s in (ap (λ (n : Store). n.out) e.1 ∙ same.0, ap (λ (n : Store). n.requests) e.1 ∙ same.1)
 
-fetches_out : (m new : Store) (x : ℕ) (c : Cont) (y : CellState) (made : List Token) → Fetches m x c y made new → (new.out ≡ m.out) × (new.requests ≡ m.requests)
+pub fires_cells : (m new : Store) (f : ℕ) (r : Option ℕ) (o : Outcome) (made : List Token) → Fires m f r o made new → new.cells ≡ m.cells
+fires_cells m new f r (Excluded n) made e = absurd e
+fires_cells m new f r (Becomes s ts) made e = ap (λ (n : Store). n.cells) e.1 ∙ same r
+  where
+    same : (r : Option ℕ) → (with_slot_in m f r s).cells ≡ m.cells
+    same None = refl
+    same (Some r) = refl
+
+pub fetches_out : (m new : Store) (x : ℕ) (c : Cont) (y : CellState) (made : List Token) → Fetches m x c y made new → (new.out ≡ m.out) × (new.requests ≡ m.requests)
 fetches_out m new x c Vacant made e = (ap (λ (n : Store). n.out) e.1, ap (λ (n : Store). n.requests) e.1)
 fetches_out m new x c (Deferred cs) made e = (ap (λ (n : Store). n.out) e.1, ap (λ (n : Store). n.requests) e.1)
 fetches_out m new x c (Full v) made e = (ap (λ (n : Store). n.out) e.1, ap (λ (n : Store). n.requests) e.1)
 
-stores_out : (m new : Store) (x : ℕ) (v : Value) (c : Cont) (y : CellState) (made : List Token) → Stores m x v c y made new → (new.out ≡ m.out) × (new.requests ≡ m.requests)
+pub stores_out : (m new : Store) (x : ℕ) (v : Value) (c : Cont) (y : CellState) (made : List Token) → Stores m x v c y made new → (new.out ≡ m.out) × (new.requests ≡ m.requests)
 stores_out m new x v c Vacant made e = (ap (λ (n : Store). n.out) e.1, ap (λ (n : Store). n.requests) e.1)
 stores_out m new x v c (Deferred cs) made e = (ap (λ (n : Store). n.out) e.1, ap (λ (n : Store). n.requests) e.1)
 stores_out m new x v c (Full w) made e = absurd e
 
-hosts_out : (r : ℕ) (m new : Store) (j : ℕ) (w : Word) (made : List Token) → Hosts r m j w made new → (new.out ≡ m.out) × (new.requests ≡ m.requests)
+pub hosts_out : (r : ℕ) (m new : Store) (j : ℕ) (w : Word) (made : List Token) → Hosts r m j w made new → (new.out ≡ m.out) × (new.requests ≡ m.requests)
 hosts_out r m new j w made (inl e) = (ap (λ (n : Store). n.out) e.2.3, ap (λ (n : Store). n.requests) e.2.3)
 hosts_out r m new j w made (inr e) = (ap (λ (n : Store). n.out) e.3, ap (λ (n : Store). n.requests) e.3)
 
