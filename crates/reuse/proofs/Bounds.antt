@@ -1,5 +1,5 @@
 -- The loops of the code keep their bounds in each tenure, as those of the plan do where each frame is used once.
-use Rattle.std.proofs.Common.{◌≡◌, refl, sym, ap, ◌∙◌, subst, ℕ, zero, suc, ◌+◌, ◌*◌, ◌<◌, ◌≤◌, ◌⊎◌, inl, inr, Bool, true, true≢false, ℤ, List, [], ◌∷◌, ◌++◌, map, length, Option, Some, None, Contains, IsPermutation, arith}
+use Rattle.std.proofs.Common.{◌≡◌, refl, sym, ap, ◌∙◌, subst, ℕ, zero, suc, ◌+◌, ◌*◌, ◌≤◌, inl, inr, true, true≢false, ℤ, List, [], ◌∷◌, ◌++◌, map, Option, Some, None, Contains, arith}
 use Rattle.std.specs.Prelude.{slice_get, slice_index_or}
 use Rattle.std.proofs.lemmas.List.Elements.{Contains-append_left}
 use Rattle.std.proofs.lemmas.List.Sorted.{Contains-permutation, IsPermutation-trans}
@@ -8,27 +8,26 @@ use Rattle.tags.specs.declared.token.Cont.{Cont}
 use Rattle.tags.specs.declared.token.Word.{Word}
 use Rattle.tags.specs.declared.token.To.{To}
 use Rattle.tags.specs.declared.token.Token.{Token}
-use Rattle.tags.specs.declared.slot.SlotState.{SlotState}
 use Rattle.tags.specs.declared.slot.SlotState.TheVariants.{Empty, Waiter}
 use Rattle.semantics.specs.declared.program.Op.{Op}
 use Rattle.semantics.specs.declared.program.Op.TheVariants.{Open, Take}
-use Rattle.semantics.specs.Program.{Instr, CodeBlock, Program, first_of, instr_at}
+use Rattle.semantics.specs.Program.{Instr, Program, first_of, instr_at}
 use Rattle.semantics.specs.Rule.{token, slot_of}
-use Rattle.semantics.specs.Machine.{Machine, Size, Events, Run, at_start, Resting}
+use Rattle.semantics.specs.Machine.{Machine, Size, at_start, Resting}
 use Rattle.semantics.specs.Plan.{Plan, is_open, IsPlanBlock}
 use Rattle.semantics.specs.Sharing.{Good, placed_slot}
 use Rattle.semantics.specs.Placed.{placed}
 use Rattle.semantics.specs.Handed.{handed, EachOnce, Tenure}
-use Rattle.semantics.specs.Orderly.{Orderly, IsStart, IsOrderlyRun, met}
+use Rattle.semantics.specs.Orderly.{Orderly, IsStart}
 use Rattle.semantics.specs.Renamed.{re_cont, re_token, re_slot}
 use Rattle.semantics.specs.Unfolded.{HasSlot}
 use Rattle.semantics.specs.Wired.{IsWired}
 use Rattle.semantics.specs.Holders.{Holder, holder_of, holder_at}
-use Rattle.semantics.specs.Credits.{IsPart, IsLink, IsLoop, granted, released, KeepsBound}
+use Rattle.semantics.specs.Credits.{IsPart, IsLink, IsLoop, granted, released}
 use Rattle.determinacy.proofs.Resolved.{all_get}
-use Rattle.reuse.specs.Bounds.{OnlyAsks, PlanKeepsBound, PlanKeepsBounds, BoundsAreKept, CodeUsesAgain}
-use Rattle.reuse.proofs.Members.{contains_none, contains_mapped}
-use Rattle.reuse.proofs.Stands.{some_same, Stands, stands_at}
+use Rattle.reuse.specs.Bounds.{OnlyAsks, PlanKeepsBound, PlanKeepsBounds, NoLoopKeepsBounds, BoundsAreKept, CodeUsesAgain}
+use Rattle.reuse.proofs.Members.{contains_mapped}
+use Rattle.reuse.proofs.Stands.{found, some_same, Stands, stands_at}
 use Rattle.reuse.proofs.Turns.{is_counting}
 use Rattle.reuse.proofs.Places.{moved_to, Located, Nowhere, There, located}
 use Rattle.reuse.proofs.Joined.{get_index}
@@ -36,11 +35,11 @@ use Rattle.reuse.proofs.Claims.{index_got, holder_here}
 use Rattle.reuse.proofs.Tallies.{Counter, Grants, Releases, count_at, granted_is, released_is}
 use Rattle.reuse.proofs.Snoc.{tally}
 use Rattle.reuse.proofs.Frames.{asking, waits, so_start, so_after, FreesOnce, HasOnce, frames_once}
-use Rattle.reuse.proofs.Uses.{at_port, Filled, EmptyOr, Opened, opened_from}
+use Rattle.reuse.proofs.Uses.{at_port, EmptyOr, Opened, opened_from}
 use Rattle.reuse.proofs.Used.{Ports, one_frame}
 use Rattle.reuse.proofs.Kept.{taken, ports_of}
 use Rattle.reuse.proofs.Owners.{contains_got}
-use Rattle.reuse.proofs.Own.{Busy, Idle, IdleOr, Own, own_so_after, own_counted, own_run, orderly_here}
+use Rattle.reuse.proofs.Own.{IdleOr, Own, own_so_after, own_counted, own_run, orderly_here}
 use Rattle.reuse.proofs.Unfold.{frees_shared, release_shared}
 use Rattle.reuse.proofs.Tenures.{TenureRun, tenure_run}
 use Rattle.reuse.proofs.Reused.{start_of, releases_are_last, holders_are_alone}
@@ -208,9 +207,13 @@ module _ (p : Plan) (slots : List (List ℕ)) (wired : IsWired p) (good : Good p
   only_asks rest k inside =
       let there : Contains (map (re_token h) m.pool ++ waits h m.store.requests) k = Contains-permutation _ _ k (IsPermutation-trans _ _ _ own.tied.pool H.folds.pool) inside in
       let asks : Contains (waits h m.store.requests) k = subst (λ (l : List Token). Contains (map (re_token h) l ++ waits h m.store.requests) k) rest there in
-      let a = contains_mapped (re_token h) (asking m.store.requests) k asks in
-      let c = contains_mapped (λ (c : Cont). token To.Manager (Word.Back c)) m.store.requests a.0 a.1 in
-      sym (ap (λ (k : Token). k.to) a.2) ∙ ap (λ (k : Token). (re_token h k).to) (sym c.2)
+      request (contains_mapped (re_token h) (asking m.store.requests) k asks)
+    where
+      request : ((a : Token) × Contains (asking m.store.requests) a × (re_token h a ≡ k)) → k.to ≡ To.Manager
+      request (a, among, is) = by_cont (contains_mapped (λ (c : Cont). token To.Manager (Word.Back c)) m.store.requests a among)
+        where
+          by_cont : ((c : Cont) × Contains m.store.requests c × (token To.Manager (Word.Back c) ≡ a)) → k.to ≡ To.Manager
+          by_cont (c, waits, e) = sym (ap (λ (k : Token). k.to) (ap (re_token h) e ∙ is))
 
   all_granted : (s : ℕ) (c : Cont) → Resting m → m.store.slots f s ≡ Waiter c
       → (loop : Holder) × (k : ℕ) × (base : ℕ) × IsLoop p (placed p slots) loop k s base × (granted p (placed p slots) f loop z t.first t.part m t.run ≡ released (placed p slots) f base z t.first t.part m t.run + k)
@@ -218,6 +221,7 @@ module _ (p : Plan) (slots : List (List ℕ)) (wired : IsWired p) (good : Good p
     where
       there : H.last.store.slots F s ≡ Waiter (re_cont h c)
       there = H.folds.fold.slots f s ∙ ap (re_slot h) waiting
+
       go : IdleOr p slots (taken H.unfolded) F (H.last.store.slots F) (own.last.store.slots F)
           → (loop : Holder) × (k : ℕ) × (base : ℕ) × IsLoop p (placed p slots) loop k s base × (granted p (placed p slots) f loop z t.first t.part m t.run ≡ released (placed p slots) f base z t.first t.part m t.run + k)
       go (inl idle) = absurd (empty_waits (re_cont h c) (sym (idle.0 s) ∙ there))
@@ -229,6 +233,7 @@ module _ (p : Plan) (slots : List (List ℕ)) (wired : IsWired p) (good : Good p
             where
               waits_here : own.last.store.slots F k ≡ Waiter (re_cont h c)
               waits_here = is ∙ there
+
               by_filled : EmptyOr p.program (taken H.unfolded) F k (own.last.store.slots F k)
                   → (loop : Holder) × (k : ℕ) × (base : ℕ) × IsLoop p (placed p slots) loop k s base × (granted p (placed p slots) f loop z t.first t.part m t.run ≡ released (placed p slots) f base z t.first t.part m t.run + k)
               by_filled (inl e) = absurd (empty_waits (re_cont h c) (sym e ∙ waits_here))
@@ -236,7 +241,7 @@ module _ (p : Plan) (slots : List (List ℕ)) (wired : IsWired p) (good : Good p
                   let o : Opened p.program (taken H.unfolded) F G.b G.n G.i = opened_from p.program (taken H.unfolded) F G.b G.n G.i (own.last.store.slots F k) (ap is_counting waits_here) G.tells in
                   let came = Contains-append_left (taken H.unfolded) own.last.pool (at_port p.program F G.b G.n Left o.1.0) o.1.1 in
                   let block : G.b ≡ B.b = one_frame p (taken H.unfolded) own.last.pool P F G.b B.b G.n B.n G.i B.i Left B.q o.1.0 B.w G.stands B.stands came
-                    (Contains-append_left (taken H.unfolded) own.last.pool (at_port p.program F B.b B.n B.q B.w) B.came) in
+                  (Contains-append_left (taken H.unfolded) own.last.pool (at_port p.program F B.b B.n B.q B.w) B.came) in
                   let op = is_open_of G.i.op o.0 in
                   let loop : Holder = record { block = G.b; number = k } in
                   let part : IsPart p p.program loop (Open op.0) (first_of p.program G.b + G.n) k = record {
@@ -266,3 +271,14 @@ code_uses_again fl p slots orderly wired good takes law = record {
   credits = bounds_are_kept fl p slots orderly wired good takes law;
   alone = holders_are_alone fl p slots orderly wired good takes;
 }
+
+pub no_loop_keeps_bounds : NoLoopKeepsBounds
+no_loop_keeps_bounds p none inputs z events u f start run once = record {
+  never_above = λ loop k ip s part. absurd (open_nowhere loop k ip s part);
+  all_granted = λ loop k ip s w c part came asks waits. absurd (open_nowhere loop k ip s part);
+}
+  where
+    open_nowhere : (loop : Holder) (k ip s : ℕ) → IsPart p p.program loop (Open k) ip s → ⊥
+    open_nowhere loop k ip s part =
+        let at = found p.program ip part.instr part.is_at in
+        none at.b at.n k (at.stands).code part.instr (at.stands).block (at.stands).instr part.does

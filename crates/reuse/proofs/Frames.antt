@@ -29,7 +29,7 @@ use Rattle.reuse.proofs.Members.{contains_mapped}
 use Rattle.reuse.proofs.Counts.{Counted, counted_both, counted_waits, counted_serves}
 use Rattle.reuse.proofs.Tracked.{held_re, holds_none}
 use Rattle.reuse.proofs.Lists.{Each, Spread, Differ, each_append, each_weaker, spread_append, all_differ}
-use Rattle.reuse.proofs.Fold.{Injective, Fold, Follows, fold_same, out_fold, instr_step, fetch_step, store_step, request_step, host_step, put_same, put_other, answer_re, map_append, eq_under, ne_eqb}
+use Rattle.reuse.proofs.Fold.{Fold, Follows, fold_same, out_fold, instr_step, fetch_step, store_step, request_step, host_step, put_same, put_other, answer_re, map_append, eq_under, ne_eqb}
 use Rattle.reuse.proofs.Freed.{place, IsNaming, place_low, place_injective, place_same, next_use, naming_later, naming_next, place_fresh, Renews, renews_next, keep_tokens, free_fold}
 
 -- a run to here in which each frame is handed out once, and these are the frames that were
@@ -683,7 +683,6 @@ pub record HasOnce (P : Plan) (p : Program) (inputs : List ℤ) (z : Size) (even
   pub gen : ℕ → ℕ
   pub folds : Folds (z.elements * z.frames) (λ g. g + gen g * (z.elements * z.frames)) m last
   pub counted : Counted p events unfolded (length m.store.requests)
-  pub injective : Injective (λ g. g + gen g * (z.elements * z.frames))
   pub holders : (f s : ℕ) → holds P p (f + gen f * (z.elements * z.frames)) s None record { elements = z.elements; frames = frames } (at_start p inputs) unfolded last run ≡ so.held f s
   pub tallied : (x : Counter) (f : ℕ) → tally (count_at P p x (f + gen f * (z.elements * z.frames))) p record { elements = z.elements; frames = frames } (at_start p inputs) unfolded last run ≡ so.counted x f
 
@@ -722,7 +721,6 @@ module _ (P : Plan) (p : Program) (inputs : List ℤ) (z : Size) (events : Event
     gen = last_state.gen;
     folds = last_state.folds;
     counted = last_state.once.told.counted;
-    injective = place_injective (z.elements * z.frames) uses (length events) last_state.gen last_state.naming;
     holders = last_state.once.told.holders;
     tallied = last_state.once.told.tallied;
   }

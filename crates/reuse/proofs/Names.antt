@@ -16,7 +16,7 @@ use Rattle.tags.specs.declared.slot.SlotState.{SlotState}
 use Rattle.tags.specs.declared.slot.SlotState.TheVariants as Slot
 use Rattle.tags.specs.declared.slot.SlotState.TheVariants.{Empty, Credits, Waiter, Draining}
 use Rattle.semantics.specs.Program.{Instr, Program, first_of, instr_at}
-use Rattle.semantics.specs.Rule.{token, back_to, Seat, Outcome, Becomes, outcome_of, rule_at, slot_of}
+use Rattle.semantics.specs.Rule.{token, back_to, Seat, Becomes, outcome_of, rule_at, slot_of}
 use Rattle.semantics.specs.Machine.{CellState, Vacant, Full, Deferred, Machine, Store, Size, Event, Events, Run, input_tokens, at_start, answer, answers, put_at, with_cell, slot_in, slot_used, outputs_of, Fetches, Stores, Requests, Releases, Hosts, Happens}
 use Rattle.semantics.specs.Orderly.{NamesCont, NamesWord, NamesTo, NamesSlot, readers_of, IsFreeOf, IsFreeAtRelease}
 use Rattle.semantics.specs.Plan.{Plan}
@@ -25,8 +25,7 @@ use Rattle.reuse.proofs.Members.{contains_head, contains_tail, contains_cases, c
 use Rattle.reuse.proofs.Renames.{re_seat, re_outcome, outcome_re}
 use Rattle.reuse.proofs.Fold.{put_same, put_other, ne_eqb}
 use Rattle.reuse.proofs.Snoc.{run_snoc}
-use Rattle.reuse.proofs.Still.{slots_or}
-use Rattle.reuse.proofs.Tallies.{Counter, count_at, count_off}
+use Rattle.reuse.proofs.Tallies.{Counter, count_off}
 use Rattle.reuse.proofs.Frames.{So, so_next, so_after, counted_next, fires_out, fires_cells, fetches_out, stores_out, hosts_out}
 use Rattle.reuse.proofs.Uses.{Move, move_of, slot_cases}
 use Rattle.reuse.proofs.Kept.{instr_found}
@@ -118,10 +117,13 @@ module _ (F : ℕ) where
     where
       heads : (x y : Token) (xs ys : List Token) → x ∷ xs ≡ y ∷ ys → x ≡ y
       heads x y xs ys e = cc
+
       tails : (x y : Token) (xs ys : List Token) → x ∷ xs ≡ y ∷ ys → xs ≡ ys
       tails x y xs ys e = cc
+
       first : re_token k x ≡ x
       first = heads (re_token k x) x (map (re_token k) ts) ts e
+
       go : (x ≡ t) ⊎ Contains ts t → (Contains ts t → Silent t) → Silent t
       go (inl same) more = subst Silent same (fixed_to x.to (ap (λ (t : Token). t.to) first), fixed_w x.word (ap (λ (t : Token). t.word) first))
       go (inr c) more = more c
@@ -177,6 +179,7 @@ module _ (F : ℕ) where
       one : (c ≡ d) ⊎ Contains [] d → NamesCont F d → ⊥
       one (inl e) = subst (λ (c : Cont). NamesCont F c → ⊥) e ne
       one (inr n) = absurd (contains_none d n)
+
       go : Contains cs d ⊎ Contains (c ∷ []) d → NamesCont F d → ⊥
       go (inl here) = all d here
       go (inr here) = one (contains_cases c [] d here)
@@ -201,9 +204,10 @@ module _ (F : ℕ) where
   store_leaves : (m new : Store) (x : ℕ) (v : Value) (c : Cont) (y : CellState) (made : List Token) → m.cells x ≡ y → Spared m → (NamesCont F c → ⊥) → Stores m x v c y made new → Leaves made new
   store_leaves m new x v c Vacant made at S ne e =
       (subst Spared (sym e.1) (cell_spared m x (Full v) S (λ d n. absurd (contains_none d n))), subst AllSilent (sym e.0) (one_silent (answer c (Word.Val v)) (back_silent c ne, λ is. is)))
-  store_leaves m new x v c (Deferred cs) made at S ne e =
-      (subst Spared (sym e.1) (cell_spared m x (Full v) S (λ d n. absurd (contains_none d n))),
-      subst AllSilent (sym e.0) (answers_silent (cs ++ c ∷ []) v (last_silent cs c (λ d n. S.readers x d (subst (λ (v : CellState). Contains (readers_of v) d) (sym at) n)) ne)))
+  store_leaves m new x v c (Deferred cs) made at S ne e = (
+    subst Spared (sym e.1) (cell_spared m x (Full v) S (λ d n. absurd (contains_none d n))),
+    subst AllSilent (sym e.0) (answers_silent (cs ++ c ∷ []) v (last_silent cs c (λ d n. S.readers x d (subst (λ (v : CellState). Contains (readers_of v) d) (sym at) n)) ne)),
+  )
   store_leaves m new x v c (Full w) made at S ne e = absurd e
 
   same_spared : (m new : Store) → new.cells ≡ m.cells → new.requests ≡ m.requests → new.slots ≡ m.slots → Spared m → Spared new
@@ -250,17 +254,20 @@ module _ (F : ℕ) where
       let at = instr_found p total g ip q w made m new happens in
       let M : Move p g at.1.b at.1.n q w at.0 made m new =
       move_of p total g at.1.b at.1.n q w at.0 made m new at.1.stands (subst (λ (ip : ℕ). Happens p total m (To.Instr g ip q) w made new) at.1.place happens) in
-      let silent = outcome_silent p record { frame = g; ip = first_of p at.1.b + at.1.n } at.0 (slot_in m g (slot_of at.0 at.0.op)) q w M.v made ne (slot_silent m g (slot_of at.0 at.0.op) S) ne_w M.becomes in
-      (record {
-        readers = λ x d inside. S.readers x d (subst (λ (f : ℕ → CellState). Contains (readers_of (f x)) d) cells inside);
-        requests = λ d inside. S.requests d (subst (λ (l : List Cont). Contains l d) requests inside);
-        words = λ x r. words x r M.v silent.0 (slot_cases p g at.1.b at.1.n q w at.0 made m new M x r);
-        slots = λ r. empty r M.v (slot_cases p g at.1.b at.1.n q w at.0 made m new M F r);
-      }, silent.1)
+      let silent = outcome_silent p record { frame = g; ip = first_of p at.1.b + at.1.n } at.0 (slot_in m g (slot_of at.0 at.0.op)) q w M.v made ne (slot_silent m g (slot_of at.0 at.0.op) S) ne_w M.becomes in (
+        record {
+          readers = λ x d inside. S.readers x d (subst (λ (f : ℕ → CellState). Contains (readers_of (f x)) d) cells inside);
+          requests = λ d inside. S.requests d (subst (λ (l : List Cont). Contains l d) requests inside);
+          words = λ x r. words x r M.v silent.0 (slot_cases p g at.1.b at.1.n q w at.0 made m new M x r);
+          slots = λ r. empty r M.v (slot_cases p g at.1.b at.1.n q w at.0 made m new M F r);
+        },
+        silent.1,
+      )
     where
       words : (x r : ℕ) (v : SlotState) {A B : Type 0} → (NamesSlot F v → ⊥) → (new.slots x r ≡ m.slots x r) ⊎ ((g ≡ x) × A × B × (new.slots x r ≡ v)) → NamesSlot F (new.slots x r) → ⊥
       words x r v ne (inl same) is = S.words x r (subst (NamesSlot F) same is)
       words x r v ne (inr d) is = ne (subst (NamesSlot F) d.3 is)
+
       empty : (r : ℕ) (v : SlotState) {A B : Type 0} → (new.slots F r ≡ m.slots F r) ⊎ ((g ≡ F) × A × B × (new.slots F r ≡ v)) → new.slots F r ≡ Empty
       empty r v (inl same) = same ∙ S.slots r
       empty r v (inr d) = absurd (ne d.0)
@@ -313,16 +320,20 @@ module _ (P : Plan) (p : Program) where
     where
       total : ℕ
       total = z.elements * z.frames
+
       here : Contains m.pool t
       here = Contains-permutation _ _ t (IsPermutation-sym _ _ ev.takes) (contains_head t ev.rest)
+
       leaves : (F : ℕ) → c.store.out F ≡ false → m.store.out F ≡ false → Spared F c.store × ((t : Token) → Contains ev.made t → Silent F t)
       leaves F out was =
           let S = K.free F was in
           let s = S.tokens t here in
           event_leaves F p (z.elements * z.frames) m.store c.store t.to t.word ev.made record { readers = S.readers; requests = S.requests; words = S.words; slots = S.slots } out s.0 s.1 ev.happens
+
       pool : (F : ℕ) (u : Token) → m.store.out F ≡ false → ((t : Token) → Contains ev.made t → Silent F t) → Contains ev.made u ⊎ Contains ev.rest u → Silent F u
       pool F u was made (inl inside) = made u inside
       pool F u was made (inr inside) = (K.free F was).tokens u (Contains-permutation _ _ u (IsPermutation-sym _ _ ev.takes) (Contains-append_right (t ∷ []) ev.rest u inside))
+
       free : (F : ℕ) → c.store.out F ≡ false → (m.store.out F ≡ true) ⊎ (m.store.out F ≡ false) → IsFreeOf F c.pool c
       free F out (inr was) =
           let l = leaves F out was in
@@ -343,6 +354,7 @@ module _ (P : Plan) (p : Program) where
             words = λ g q names. S.words g q (subst (λ (s : Store). NamesSlot F (s.slots g q)) r.2 names);
             slots = λ q. ap (λ (s : Store). s.slots F q) r.2 ∙ S.slots q;
           }
+
       zero : (x : Counter) (F : ℕ) → c.store.out F ≡ false → (m.store.out F ≡ true) ⊎ (m.store.out F ≡ false) → counted_next P p so.counted m.store t.to ev.made x F ≡ 0
       zero x F out (inl was) =
           let r = out_kept (z.elements * z.frames) F m.store c.store t.to t.word ev.made was out ev.happens in
@@ -354,6 +366,7 @@ module _ (P : Plan) (p : Program) where
         where
           sum : (a b : ℕ) → a ≡ 0 → b ≡ 0 → a + b ≡ 0
           sum a b p q = omega (arith, p, q)
+
           go : (to : To) → (NamesTo F to → ⊥) → ((u : Token) → Contains ev.made u → NamesTo F u.to → ⊥) → counted_next P p so.counted m.store to ev.made x F ≡ 0
           go (To.Release g) ne made = ap (λ (b : Bool). if b then 0 else so.counted x F) (ne_eqb g F ne) ∙ K.zero x F was
           go (To.Instr g ip q) ne made = sum _ _ (K.zero x F was) (count_off P p x F m.store (To.Instr g ip q) ev.made ne made)
@@ -364,18 +377,19 @@ module _ (P : Plan) (p : Program) where
 
   known_start : (inputs : List ℤ) (so : So) → ((x : Counter) (F : ℕ) → so.counted x F ≡ 0) → Known (at_start p inputs) so
   known_start inputs so none = record {
-      free = λ F out. record {
-        tokens = λ t inside. go F out t (contains_cases (token (To.Instr 0 (first_of p p.main) Left) (Word.Back (Cont.Host 0))) (input_tokens (first_of p p.main + 1) inputs) t inside);
-        readers = λ x c inside. absurd (contains_none c inside);
-        requests = λ c inside. absurd (contains_none c inside);
-        words = λ g r is. is;
-        slots = λ r. refl;
-      };
-      zero = λ x F out. none x F;
-    }
+    free = λ F out. record {
+      tokens = λ t inside. go F out t (contains_cases (token (To.Instr 0 (first_of p p.main) Left) (Word.Back (Cont.Host 0))) (input_tokens (first_of p p.main + 1) inputs) t inside);
+      readers = λ x c inside. absurd (contains_none c inside);
+      requests = λ c inside. absurd (contains_none c inside);
+      words = λ g r is. is;
+      slots = λ r. refl;
+    };
+    zero = λ x F out. none x F;
+  }
     where
       other : (F : ℕ) → (F == 0) ≡ false → 0 ≡ F → ⊥
       other F out e = true≢false (sym (eq-eqb F 0 (sym e)) ∙ out)
+
       values : (F ip : ℕ) (xs : List ℤ) → (F == 0) ≡ false → (t : Token) → Contains (input_tokens ip xs) t → Silent F t
       values F ip [] out t inside = absurd (contains_none t inside)
       values F ip (x ∷ xs) out t inside = pick (contains_cases (token (To.Instr 0 ip Left) (Word.Val (Int x))) (input_tokens (ip + 1) xs) t inside) (λ inside. values F (ip + 1) xs out t inside)
@@ -383,6 +397,7 @@ module _ (P : Plan) (p : Program) where
           pick : (token (To.Instr 0 ip Left) (Word.Val (Int x)) ≡ t) ⊎ Contains (input_tokens (ip + 1) xs) t → (Contains (input_tokens (ip + 1) xs) t → Silent F t) → Silent F t
           pick (inl e) more = subst (Silent F) e (other F out, λ is. is)
           pick (inr n) more = more n
+
       go : (F : ℕ) → (F == 0) ≡ false → (t : Token) → (token (To.Instr 0 (first_of p p.main) Left) (Word.Back (Cont.Host 0)) ≡ t) ⊎ Contains (input_tokens (first_of p p.main + 1) inputs) t → Silent F t
       go F out t (inl e) = subst (Silent F) e (other F out, λ is. is)
       go F out t (inr n) = values F (first_of p p.main + 1) inputs out t n
@@ -391,7 +406,7 @@ module _ (P : Plan) (p : Program) where
   known_run : (z : Size) (inputs : List ℤ) → ((events : Events) (m : Machine) → Run p z (at_start p inputs) events m → IsFreeAtRelease m)
       → (later done : Events) (m c : Machine) (so : So) → Known m so → Run p z (at_start p inputs) done m → (r : Run p z m later c) → Known c (so_after P p so z m later c r)
   known_run z inputs frees [] done m c so K before r = record {
-      free = λ F out.
+    free = λ F out.
         (let S = K.free F (ap (λ (s : Store). s.out F) (sym r.1) ∙ out) in
         record {
           tokens = λ t inside. S.tokens t (Contains-permutation _ _ t (IsPermutation-sym _ _ r.0) inside);
@@ -400,8 +415,8 @@ module _ (P : Plan) (p : Program) where
           words = λ g q names. S.words g q (subst (λ (s : Store). NamesSlot F (s.slots g q)) r.1 names);
           slots = λ q. ap (λ (s : Store). s.slots F q) r.1 ∙ S.slots q;
         });
-      zero = λ x F out. K.zero x F (ap (λ (s : Store). s.out F) (sym r.1) ∙ out);
-    }
+    zero = λ x F out. K.zero x F (ap (λ (s : Store). s.out F) (sym r.1) ∙ out);
+  }
   known_run z inputs frees (x ∷ later) done m c so K before r =
       known_run z inputs frees later (done ++ (x.0, x.1) ∷ []) r.0 c (so_next P p so m.store x.1.to r.1.made r.0.store) (known_next z m r.0 x.0 x.1 so K (frees done m before) r.1)
       (run_snoc p z (at_start p inputs) m r.0 done x.0 x.1 before r.1) r.2

@@ -1,10 +1,9 @@
 -- What is counted at a frame since its last release is what is counted in its tenure.
 use Rattle.std.proofs.Common.{◌≡◌, refl, sym, ap, ◌∙◌, subst, ℕ, ◌+◌, ◌*◌, ◌⊎◌, inl, inr, Bool, ℤ, List, [], ◌∷◌, ◌++◌, Contains, arith}
-use Rattle.std.specs.Prelude.{◌==◌, if◌then◌else◌, All}
+use Rattle.std.specs.Prelude.{◌==◌, if◌then◌else◌}
 use Rattle.std.proofs.lemmas.Bool.{eq-eqb}
 use Rattle.std.proofs.lemmas.List.Elements.{All-head, All-tail}
 use Rattle.std.proofs.lemmas.List.Sorted.{IsPermutation-trans}
-use Rattle.tags.specs.declared.token.Cont.{Cont}
 use Rattle.tags.specs.declared.token.Word.{Word}
 use Rattle.tags.specs.declared.token.To.{To}
 use Rattle.tags.specs.declared.token.Token.{Token}
@@ -23,15 +22,18 @@ use Rattle.reuse.proofs.Names.{Known, known}
 -- ---- an event and a run after a run
 
 run_then : (p : Program) (z : Size) (a b c m : Machine) (before : Events) (e : ℕ) (t : Token) (later : Events) → Run p z a before b → Event p z e t b c → Run p z c later m → Run p z a (before ++ (e, t) ∷ later) m
-run_then p z a b c m [] e t later r ev s =
-    (c, record {
-      made = ev.made;
-      rest = ev.rest;
-      addressed = ev.addressed;
-      takes = IsPermutation-trans _ _ _ r.0 ev.takes;
-      happens = subst (λ (s : Store). Happens p (z.elements * z.frames) s t.to t.word ev.made c.store) r.1 ev.happens;
-      leaves = ev.leaves;
-    }, s)
+run_then p z a b c m [] e t later r ev s = (
+  c,
+  record {
+    made = ev.made;
+    rest = ev.rest;
+    addressed = ev.addressed;
+    takes = IsPermutation-trans _ _ _ r.0 ev.takes;
+    happens = subst (λ (s : Store). Happens p (z.elements * z.frames) s t.to t.word ev.made c.store) r.1 ev.happens;
+    leaves = ev.leaves;
+  },
+  s,
+)
 run_then p z a b c m (x ∷ before) e t later r ev s = (r.0, r.1, run_then p z r.0 b c m before e t later r.2 ev s)
 
 module _ (P : Plan) (p : Program) (z : Size) where
@@ -95,6 +97,7 @@ module _ (P : Plan) (p : Program) (z : Size) where
     where
       at_once : (run : Run p z (at_start p inputs) t.part m) → TenureRun inputs f (at_start p inputs) t.part m run
       at_once run = record { events = t.part; whole = run; counted = λ x. (let a = counted_part so_start (at_start p inputs) m t.part run x f t.stays in omega (arith, a)) }
+
       go : IsJustOut p z inputs f t.first → TenureRun inputs f t.first t.part m t.run
       go (inl (zero, is)) = subst (λ (a : Machine). (run : Run p z a t.part m) → TenureRun inputs f a t.part m run) (sym is) at_once t.run
       go (inr (before, old, e, k, out, run, inside)) =
