@@ -1,0 +1,5 @@
+pub mod Runs
+pub mod Positions
+pub mod Spots
+pub mod Queues
+pub mod Split

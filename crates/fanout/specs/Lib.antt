@@ -1,0 +1,5 @@
+pub mod Sides
+pub mod Rows
+pub mod Places
+pub mod Trees
+pub mod Narrowed
