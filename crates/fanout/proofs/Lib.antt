@@ -3,3 +3,4 @@ pub mod Positions
 pub mod Spots
 pub mod Queues
 pub mod Split
+pub mod Growing
