@@ -89,14 +89,14 @@ module _ (version number : ℕ) (b : Block ℕ) (c : CodeBlock) (w0 : Wiring) (l
     pub count : ℕ
     pub is_copy : r ≡ Copy kind count
     pub of : ℕ
-    pub number : ℕ
+    pub nth : ℕ
     pub whose : Instr
     pub instr : Instr
     pub has : slice_get is of ≡ Some whose
-    pub copied : slice_get (copies_of l of whose) number ≡ Some instr
+    pub copied : slice_get (copies_of l of whose) nth ≡ Some instr
     pub op : instr.op ≡ Program.Copy
-    pub at : spot ≡ base_of l of + number
-    pub when : (of < n) ⊎ ((of ≡ n) × (low ≤ number))
+    pub at : spot ≡ base_of l of + nth
+    pub when : (of < n) ⊎ ((of ≡ n) × (low ≤ nth))
     pub sends : IsPermutation (map (leads_to spot) (instr.firsts ++ instr.seconds)) sent
 
   pub record State (n : ℕ) (mid : Role → List Address) (low : ℕ) : Type 0 where
@@ -114,7 +114,7 @@ module _ (version number : ℕ) (b : Block ℕ) (c : CodeBlock) (w0 : Wiring) (l
     count = m.count;
     is_copy = m.is_copy;
     of = m.of;
-    number = m.number;
+    nth = m.nth;
     whose = m.whose;
     instr = m.instr;
     has = m.has;
@@ -125,7 +125,7 @@ module _ (version number : ℕ) (b : Block ℕ) (c : CodeBlock) (w0 : Wiring) (l
     sends = subst (λ x. IsPermutation (map (leads_to x) (m.instr.firsts ++ m.instr.seconds)) sent') e (subst (IsPermutation (map (leads_to spot) (m.instr.firsts ++ m.instr.seconds))) f m.sends);
   }
     where
-      weaker : (m.of < n) ⊎ ((m.of ≡ n) × (low ≤ m.number)) → (m.of < n) ⊎ ((m.of ≡ n) × (low' ≤ m.number))
+      weaker : (m.of < n) ⊎ ((m.of ≡ n) × (low ≤ m.nth)) → (m.of < n) ⊎ ((m.of ≡ n) × (low' ≤ m.nth))
       weaker (inl k) = inl k
       weaker (inr (k, g)) = inr (k, omega (arith, g, h))
 
@@ -133,7 +133,7 @@ module _ (version number : ℕ) (b : Block ℕ) (c : CodeBlock) (w0 : Wiring) (l
   module _ (r : Role) (h0 : IsThere b w0 r) (i : is_instr r ≡ true) (before : r ≡ End → ⊥) (low : ℕ) (mid mid' : Role → List Address) (s : State (l0.place r) mid (suc low))
       (k : Instr) (copied : slice_get (copies_of l (l0.place r) (part r)) low ≡ Some k) (op : k.op ≡ Program.Copy) (kept_list : List Address) (a d : Address)
       (sends : map (leads_to (base_of l (l0.place r) + low)) (k.firsts ++ k.seconds) ≡ a ∷ d ∷ [])
-      (cut : IsPermutation (mid r) (kept_list ++ a ∷ d ∷ [])) (then : IsPermutation (mid' r) ((base_of l (l0.place r) + low, Left) ∷ kept_list)) where
+      (cut : IsPermutation (mid r) (kept_list ++ a ∷ d ∷ [])) (so : IsPermutation (mid' r) ((base_of l (l0.place r) + low, Left) ∷ kept_list)) where
     abbrev n : ℕ
     n = l0.place r
 
@@ -207,15 +207,15 @@ module _ (version number : ℕ) (b : Block ℕ) (c : CodeBlock) (w0 : Wiring) (l
     fresh : (q : Role) → IsThere b s.w q → is_instr q ≡ true → s.spot q ≡ p → ⊥
     fresh q h j e = pick (s.others q h j)
       where
-        by_when : (m : Made n (suc low) q (s.spot q) (map (stand s.spot) (s.w.wire q))) → (m.of ≡ n) × (m.number ≡ low) → (m.of < n) ⊎ ((m.of ≡ n) × (suc low ≤ m.number)) → ⊥
+        by_when : (m : Made n (suc low) q (s.spot q) (map (stand s.spot) (s.w.wire q))) → (m.of ≡ n) × (m.nth ≡ low) → (m.of < n) ⊎ ((m.of ≡ n) × (suc low ≤ m.nth)) → ⊥
         by_when m (f, g) (inl x) = omega (arith, f, x)
         by_when m (f, g) (inr (x, y)) = omega (arith, g, y)
 
         pick : IsThere b w0 q ⊎ Made n (suc low) q (s.spot q) (map (stand s.spot) (s.w.wire q)) → ⊥
         pick (inl t) = copy_apart ts is all (l0.place q) n low (part q) (part r) (part_at q t j) (part_at r h0 i) low_fits (sym (s.kept q t j).at ∙ e)
         pick (inr m) =
-            let f = slice_get_within (copies_of l m.of m.whose) m.number m.instr m.copied in let z = sized l m.of m.whose in
-            by_when m (copies_differ ts is all m.of n m.number low m.whose (part r) m.has (part_at r h0 i) (omega (arith, f, z)) low_fits (sym m.at ∙ e)) m.when
+            let f = slice_get_within (copies_of l m.of m.whose) m.nth m.instr m.copied in let z = sized l m.of m.whose in
+            by_when m (copies_differ ts is all m.of n m.nth low m.whose (part r) m.has (part_at r h0 i) (omega (arith, f, z)) low_fits (sym m.at ∙ e)) m.when
 
     kept' : (q : Role) → IsThere b w0 q → is_instr q ≡ true → Kept n mid' q (spot' q) (map (stand spot') (w'.wire q))
     kept' q t j = pick (cases_Bool (same_role q r))
@@ -224,7 +224,7 @@ module _ (version number : ℕ) (b : Block ℕ) (c : CodeBlock) (w0 : Wiring) (l
         at_r = record {
           at = spot_old r there ∙ (s.kept r h0 i).at;
           past = λ x. absurd (omega (arith, x));
-          here = λ x. at_last then (sym r_sent);
+          here = λ x. at_last so (sym r_sent);
           ahead = λ x. absurd (omega (arith, x));
         }
 
@@ -245,7 +245,7 @@ module _ (version number : ℕ) (b : Block ℕ) (c : CodeBlock) (w0 : Wiring) (l
       count = s.w.copies (goes_from r);
       is_copy = refl;
       of = n;
-      number = low;
+      nth = low;
       whose = part r;
       instr = k;
       has = part_at r h0 i;
