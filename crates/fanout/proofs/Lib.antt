@@ -4,3 +4,4 @@ pub mod Spots
 pub mod Queues
 pub mod Split
 pub mod Growing
+pub mod Stages
