@@ -5,3 +5,6 @@ pub mod Queues
 pub mod Split
 pub mod Growing
 pub mod Stages
+pub mod Flags
+pub mod Keeps
+pub mod Theorem
