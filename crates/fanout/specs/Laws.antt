@@ -1,5 +1,8 @@
 -- What a plan keeps when it is narrowed.
-use Rattle.std.specs.Prelude.{◌≡◌, ℕ, Bool, true, false, All, length}
+use Rattle.std.specs.Prelude.{◌≡◌, ℕ, ◌≤◌, Bool, true, false, List, All, length, ⊤}
+use Rattle.tags.specs.declared.token.Port.TheVariants.{Left}
+use Rattle.semantics.specs.declared.program.Dest.{Dest}
+use Rattle.semantics.specs.Bytes.{HasDests}
 use Rattle.semantics.specs.Graph.{Graph, Flow, flow_of}
 use Rattle.semantics.specs.WellFormed.{WellFormed}
 use Rattle.semantics.specs.declared.program.Op.{Op}
@@ -43,3 +46,23 @@ StraightIsFaithful = (g : Graph) (p : Plan) → WellFormed g → IsStraightLine 
 -- and its runs are orderly.
 abbrev pub StraightIsOrderly : Type 0
 StraightIsOrderly = (fl : Flow) (p : Plan) → IsStraight fl → p.program ≡ straight_program fl → ((b n : ℕ) → mark_at p b n ≡ Unmarked) → Orderly (narrowed p)
+
+-- FEW DESTINATIONS
+-- what holds of each instruction
+abbrev pub AllInstrs : (Instr → Type 0) → Program → Type 0
+AllInstrs P p = All (λ (c : CodeBlock). All P c.instrs) p.blocks
+
+abbrev pub HasFew : Instr → Type 0
+HasFew i = (length i.firsts ≤ 1) × (length i.seconds ≤ 1)
+
+-- An instruction that is answered is answered at one place, and a landing begins at a left port.
+abbrev pub LandsLeft : Op → List Dest → Type 0
+LandsLeft (Link b) ds = All (λ (d : Dest). d.port ≡ Left) ds
+LandsLeft op ds = ⊤
+
+abbrev pub IsShaped : Instr → Type 0
+IsShaped i = HasShape i.op (length i.firsts) (length i.seconds) × LandsLeft i.op i.firsts
+
+-- It has as many destinations as its kind has in an object.
+abbrev pub HasItsDests : Instr → Type 0
+HasItsDests i = HasDests i.op i.firsts i.seconds
