@@ -9,3 +9,4 @@ pub mod Flags
 pub mod Keeps
 pub mod Theorem
 pub mod Shapes
+pub mod Plans

@@ -32,7 +32,7 @@ module _ (P Q R : Instr → Type 0) (of_moved : (l : Layout) (n : ℕ) (i : Inst
   parts_all [] h = All-nil Q
   parts_all (i ∷ is) h = All-cons Q (parted i) (map parted is) (of_parted i (All-head R i is h)) (parts_all is (All-tail R i is h))
 
-  block_all : (p : Plan) (c : CodeBlock) → All R c.instrs → All P (narrowed_block p c).instrs
+  pub block_all : (p : Plan) (c : CodeBlock) → All R c.instrs → All P (narrowed_block p c).instrs
   block_all p c h = let l = layout_of p c in all_spread l.tied (moved l) (copies_of l) (sized l) P Q (of_moved l) (copies_all l) (parts_of c) (parts_all c.instrs h)
 
   blocks_all : (p : Plan) (cs : List CodeBlock) → All (λ (c : CodeBlock). All R c.instrs) cs → All (λ (c : CodeBlock). All P c.instrs) (narrowed_blocks p cs)
@@ -123,3 +123,31 @@ pub narrowed_dests : (p : Plan) → AllInstrs IsShaped p.program → AllInstrs H
 narrowed_dests p h =
     narrowed_all HasItsDests (λ (i : Instr). IsReady i.op i.firsts i.seconds) IsShaped (λ l n i r. side_ready l n (place_of l n) (base_of l n) (base_of l n + copies i.firsts) i.op i.firsts i.seconds r)
     (λ l n at j ds. (omega arith, omega arith)) (λ i s. part_ready i.op i.firsts i.seconds s) p h
+
+-- THE SHAPE OF A PLAN'S INSTRUCTIONS
+abbrev pub ShapedAs : Instr → Type 0
+ShapedAs i = HasShape i.op (length i.firsts) (length i.seconds)
+
+part_shape : (op : Op) (ds es : List Dest) → HasShape op (length ds) (length es) → HasShape op (length (firsts_of (parting_of op) ds es)) (length (seconds_of (parting_of op) ds es))
+part_shape (Fetch a) ds es h = part_ready (Fetch a) ds es (h, tt)
+part_shape (Store a) ds es h = part_ready (Store a) ds es (h, tt)
+part_shape Frame ds es h = part_ready Frame ds es (h, tt)
+part_shape (Ask o) ds es h = part_ready (Ask o) ds es (h, tt)
+part_shape (Take k) ds es h = part_ready (Take k) ds es (h, tt)
+part_shape (Release o) ds es h = part_ready (Release o) ds es (h, tt)
+part_shape (Link b) ds es h = h
+part_shape op ds es h = tt
+
+side_shape : (l : Layout) (n at r s : ℕ) (op : Op) (ds es : List Dest) → HasShape op (length ds) (length es) → HasShape op (length (side l n at r ds)) (length (side l n at s es))
+side_shape l n at r s (Fetch a) ds es h = side_ready l n at r s (Fetch a) ds es h
+side_shape l n at r s (Store a) ds es h = side_ready l n at r s (Store a) ds es h
+side_shape l n at r s Frame ds es h = side_ready l n at r s Frame ds es h
+side_shape l n at r s (Ask o) ds es h = side_ready l n at r s (Ask o) ds es h
+side_shape l n at r s (Take k) ds es h = side_ready l n at r s (Take k) ds es h
+side_shape l n at r s (Release o) ds es h = side_ready l n at r s (Release o) ds es h
+side_shape l n at r s (Link b) ds es h = let a = side_length l n at r ds in omega (arith, a, h)
+side_shape l n at r s op ds es h = tt
+
+pub block_shapes : (p : Plan) (c : CodeBlock) → All ShapedAs c.instrs → All ShapedAs (narrowed_block p c).instrs
+block_shapes p c h =
+    block_all ShapedAs ShapedAs ShapedAs (λ l n i r. side_shape l n (place_of l n) (base_of l n) (base_of l n + copies i.firsts) i.op i.firsts i.seconds r) (λ l n at j ds. tt) (λ i s. part_shape i.op i.firsts i.seconds s) p c h
