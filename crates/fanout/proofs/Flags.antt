@@ -89,5 +89,5 @@ place_tied ts n before copied (i ∷ is) (suc v) m h e =
     let z : n + 0 ≡ n = omega arith in
     let t : is_tied ts n ≡ true = sym (ap (is_tied ts) z) ∙ h 0 (omega arith) in
     let r = place_tied ts (n + 1) before (copied + size i) is v m (λ k l. let y : n + 1 + k ≡ n + suc k = omega arith in ap (is_tied ts) y ∙ h (suc k) (omega (arith, l)))
-        (sym (ap (λ (t : Bool). slice_get (places_from ts (n + 1) (if t then before else copied + size i) (copied + size i) is) v) t) ∙ e) in
+    (sym (ap (λ (t : Bool). slice_get (places_from ts (n + 1) (if t then before else copied + size i) (copied + size i) is) v) t) ∙ e) in
     omega (arith, r)

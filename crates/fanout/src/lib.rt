@@ -13,9 +13,9 @@ mod blocks;
 mod layout;
 mod rows;
 mod sides;
-mod trees;
 #[cfg(test)]
 mod tests;
+mod trees;
 
 use blocks::narrow_block;
 use code::{Plan, Program};
@@ -28,8 +28,7 @@ pub fn narrowed_code_is_faithful()
     ensures straight { StraightImplements }
     ensures faithful { StraightIsFaithful }
     ensures orderly { StraightIsOrderly }
-{
-}
+{}
 
 /// What any plan keeps when it is narrowed: it stays a plan, marked at its switches and nowhere else, with its loops as
 /// they were. Where each destination leaves the row of the instruction that names it, all destinations lead to later
@@ -39,8 +38,7 @@ pub fn narrowed_plan_is_plan()
     ensures marks { MarksStay }
     ensures loops { LoopsStay }
     ensures dests { DestsStay }
-{
-}
+{}
 
 /// The plan with trees of copies for destinations. Each instruction keeps its slot and its mark.
 ///
