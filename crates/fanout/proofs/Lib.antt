@@ -11,3 +11,4 @@ pub mod Theorem
 pub mod Shapes
 pub mod Plans
 pub mod Arrows
+pub mod Wires

@@ -10,7 +10,7 @@ use Rattle.semantics.specs.declared.program.Op.TheVariants.{Link, Switch}
 use Rattle.semantics.specs.declared.program.Mark.TheVariants.{Unmarked}
 use Rattle.semantics.specs.Program.{Instr, CodeBlock, Program}
 use Rattle.semantics.specs.Plan.{Plan, HasShape, mark_at, IsPlan}
-use Rattle.semantics.specs.Wired.{StandsAt, LoopsAgree}
+use Rattle.semantics.specs.Wired.{StandsAt, LoopsAgree, IsWired}
 use Rattle.semantics.specs.Orderly.{Orderly}
 use Rattle.semantics.specs.Faithful.{Faithful}
 use Rattle.lowering.specs.Implements.{IsStraight, Implements}
@@ -88,6 +88,16 @@ AreDests p = (b n : ℕ) (c : CodeBlock) (d : Dest) → Names p b n c d → IsDe
 
 abbrev pub DestsStay : Type 0
 DestsStay = (p : Plan) → LeavesRows p → AreDests p → AreDests (narrowed p)
+
+-- WIRED PLANS. What a plan keeps to whose copies are wired as well: a destination is no entry, and the entries are there.
+pub record StandsClear (p : Plan) : Type 0 where
+  pub rows : LeavesRows p
+  pub dests : AreDests p
+  pub entries : (b n : ℕ) (c : CodeBlock) (d : Dest) → Names p b n c d → c.inputs < n + d.ahead
+  pub there : (b : ℕ) (c : CodeBlock) → slice_get p.program.blocks b ≡ Some c → c.inputs < length c.instrs
+
+abbrev pub StaysWired : Type 0
+StaysWired = (p : Plan) → StandsClear p → IsWired p → IsWired (narrowed p)
 
 -- FEW DESTINATIONS
 -- what holds of each instruction

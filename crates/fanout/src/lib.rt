@@ -7,7 +7,7 @@
 
 ghost use Rattle.std.specs.Prelude.{◌≡◌, IfOk};
 ghost use Rattle.fanout.specs.Narrowed.{narrowed};
-ghost use Rattle.fanout.specs.Laws.{AllInstrs, HasFew, IsShaped, HasItsDests, StaysPlan, MarksStay, LoopsStay, DestsStay, StillImplements, StraightImplements, StraightIsFaithful, StraightIsOrderly};
+ghost use Rattle.fanout.specs.Laws.{AllInstrs, HasFew, IsShaped, HasItsDests, StaysPlan, MarksStay, LoopsStay, DestsStay, StaysWired, StillImplements, StraightImplements, StraightIsFaithful, StraightIsOrderly};
 
 mod blocks;
 mod layout;
@@ -38,6 +38,7 @@ pub fn narrowed_plan_is_plan()
     ensures marks { MarksStay }
     ensures loops { LoopsStay }
     ensures dests { DestsStay }
+    ensures wired { StaysWired }
 {}
 
 /// The plan with trees of copies for destinations. Each instruction keeps its slot and its mark.
