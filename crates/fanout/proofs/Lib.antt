@@ -1,0 +1,16 @@
+pub mod Runs
+pub mod Positions
+pub mod Spots
+pub mod Queues
+pub mod Split
+pub mod Growing
+pub mod Stages
+pub mod Flags
+pub mod Keeps
+pub mod Theorem
+pub mod Shapes
+pub mod Plans
+pub mod Arrows
+pub mod Wires
+pub mod StraightClear
+pub mod Standing
