@@ -57,7 +57,7 @@ pub record IsLineBlock (version : ℕ) (c : CodeBlock) : Type 0 where
   pub used : (h : ℕ) → h < c.slots → (n : ℕ) × (i : Instr) × (slice_get c.instrs n ≡ Some i) × (slot_of i i.op ≡ Some h)
 
 -- no more than two destinations
-pub HasFew : CodeBlock → Type 0
+abbrev pub HasFew : CodeBlock → Type 0
 HasFew c = (n : ℕ) (i : Instr) → slice_get c.instrs n ≡ Some i → length (i.firsts ++ i.seconds) ≤ 2
 
 -- LISTS
@@ -141,11 +141,10 @@ is_dest c n d f = record {
 }
 
 -- ARCS
-pub IsGoodArc : CodeBlock → Arc → Type 0
+abbrev pub IsGoodArc : CodeBlock → Arc → Type 0
 IsGoodArc c x = (c.inputs < x.to.place) × (x.to.port ≡ Right → (i : Instr) × StandsAt c x.to.place i × (is_dyadic i.op ≡ true))
 
 to_arcs : (c : CodeBlock) (n : ℕ) (side : Bool) (ds : List Dest) → All (IsForward c n) ds → All (IsGoodArc c) (arcs_to n side ds)
-unfolding IsGoodArc
 to_arcs c n side ds all = All-map (IsGoodArc c) (λ (d : Dest). arc n side (inlet (n + d.ahead) d.port)) ds
     (All-weaker (IsForward c n) (λ (d : Dest). IsGoodArc c (arc n side (inlet (n + d.ahead) d.port))) (λ d f. (f.past, λ e. (f.target, f.stands, f.right e))) ds all)
 
@@ -200,7 +199,6 @@ module _ (version : ℕ) (c : CodeBlock) (b : IsLineBlock version c) where
   -- with slots for its holders, it can be spelled
   module _ (p : Program) (slots : List ℕ) (all : length slots ≡ c.slots) (low : All (λ s. s < 512) slots) (few : HasFew c) where
     instr_emittable : (n : ℕ) (i : Instr) → slice_get c.instrs n ≡ Some i → IsEmittableInstr p c slots n i
-    unfolding HasFew
     instr_emittable n i e =
         let l = b.lines n i e in
         record {
