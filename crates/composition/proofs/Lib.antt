@@ -1,3 +1,4 @@
 pub mod Lines
 pub mod Straight
+pub mod Spread
 pub mod Blocks

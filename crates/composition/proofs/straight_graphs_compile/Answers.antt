@@ -1,5 +1,6 @@
 use Rattle.std.proofs.Common.{refl}
 use Rattle.composition.proofs.Blocks.{line_lined, straight_plan_lines, straight_takes}
+use Rattle.composition.proofs.Spread.{stands_back}
 use Rattle.composition.proofs.straight_graphs_compile.Goals as goal
 
 pub returns-clause-plan : goal.returns-clause-plan
