@@ -2,7 +2,7 @@
 use Rattle.std.proofs.Common.{◌≡◌, ℕ, zero, suc, ◌+◌, ◌-◌, ◌<◌, ◌≤◌, Bool, true, false, List, [], ◌∷◌, ◌++◌, length, drop, refl, sym, ap, ◌∙◌, subst, arith, Option, Some, None, if◌then◌else◌, le_of_suc-le-suc, not-suc-le-zero, length-append, true≢false}
 use Rattle.std.specs.Prelude.{slice_get, All}
 use Rattle.std.proofs.lemmas.Option.{slice_get_within}
-use Rattle.std.proofs.lemmas.List.Elements.{All-cons, All-nil, All-head, All-tail}
+use Rattle.std.proofs.lemmas.List.Elements.{All-cons, All-nil, All-head, All-tail, All-append}
 use Rattle.semantics.specs.Program.{Instr}
 use Rattle.fanout.specs.Rows.{is_tied, run}
 use Rattle.fanout.specs.Places.{size, places_from, bases_from}
@@ -47,7 +47,7 @@ base_there ts n copied [] v h = absurd (not-suc-le-zero h)
 base_there ts n copied (i ∷ is) zero h = (n + run (drop n ts) + copied, refl)
 base_there ts n copied (i ∷ is) (suc v) h = base_there ts (n + 1) (copied + size i) is v (le_of_suc-le-suc h)
 
-same_number : (m n : ℕ) → Some m ≡ Some n → m ≡ n
+pub same_number : (m n : ℕ) → Some m ≡ Some n → m ≡ n
 same_number m n e = cc
 
 -- no place is lower than those before it
@@ -237,3 +237,17 @@ module _ {X : Type 0} (ts : List Bool) (one : ℕ → Instr → X) (more : ℕ �
   more_at is n m j i y all at p f =
       let r = more_from 0 0 0 [] is n m n j i y (omega arith) (omega (arith, all)) at p (omega arith) f in let s = r.1 in
       let e : m + j ≡ r.0 = omega (arith, s) in ap (slice_get (spread_of ts one more 0 [] is)) e ∙ r.2
+
+  -- what holds of each, if it holds of what each instruction and each copy stands for
+  all_from : (P : X → Type 0) (Q : Instr → Type 0) → ((n : ℕ) (i : Instr) → Q i → P (one n i)) → ((n : ℕ) (i : Instr) → All P (more n i)) → (n : ℕ) (waiting : List X) (is : List Instr) → All P waiting → All Q is
+      → All P (spread_of ts one more n waiting is)
+  all_from P Q f g n waiting [] h all = h
+  all_from P Q f g n waiting (i ∷ is) h all =
+      let now = All-append P waiting (more n i) h (g n i) in
+      All-cons P (one n i) _ (f n i (All-head Q i is all)) (elim (is_tied ts n) as (λ t. All P (next n waiting i is t)) [
+        | true ↦ all_from P Q f g (n + 1) (waiting ++ more n i) is now (All-tail Q i is all)
+        | false ↦ All-append P (waiting ++ more n i) (spread_of ts one more (n + 1) [] is) now (all_from P Q f g (n + 1) [] is (All-nil P) (All-tail Q i is all))
+      ])
+
+  pub all_spread : (P : X → Type 0) (Q : Instr → Type 0) → ((n : ℕ) (i : Instr) → Q i → P (one n i)) → ((n : ℕ) (i : Instr) → All P (more n i)) → (is : List Instr) → All Q is → All P (spread_of ts one more 0 [] is)
+  all_spread P Q f g is all = all_from P Q f g 0 [] is (All-nil P) all

@@ -3,3 +3,4 @@ pub mod Rows
 pub mod Places
 pub mod Trees
 pub mod Narrowed
+pub mod Laws
