@@ -1,8 +1,8 @@
 -- A plan whose blocks are all straight code, and the blocks of a straight graph's plan.
 use Rattle.std.proofs.Common.{◌≡◌, refl, sym, ap, ◌∙◌, subst, ℕ, zero, suc, ◌+◌, ◌<◌, List, [], ◌∷◌, ◌++◌, map, length, Option, Some, None, arith, add-zero, zero-add}
-use Rattle.std.specs.Prelude.{slice_get, All, option_map}
+use Rattle.std.specs.Prelude.{slice_get, All}
 use Rattle.std.proofs.lemmas.List.{length-map}
-use Rattle.std.proofs.lemmas.Option.{slice_get-map, slice_get_within}
+use Rattle.std.proofs.lemmas.Option.{slice_get_within}
 use Rattle.semantics.specs.declared.program.Op.TheVariants.{Switch}
 use Rattle.semantics.specs.declared.program.Mark.TheVariants.{Unmarked}
 use Rattle.semantics.specs.Graph.{Graph, Block, Flow, Node, flow_of, resolved_block, resolved_kind, array_names, block_names}
@@ -20,7 +20,7 @@ use Rattle.lowering.proofs.StraightGraph.{graph_is_straight}
 use Rattle.reuse.specs.Theorem.{TakesInputs, AsksForNoFrame}
 use Rattle.composition.specs.Straight.{IsStraightGraph, IsStraightPlan}
 use Rattle.composition.specs.Theorem.{IsStraightLined}
-use Rattle.composition.proofs.Lines.{IsLineOp, IsLineBlock, all_of, same, not_frame, plan_block, loops_agree, good_arc}
+use Rattle.composition.proofs.Lines.{IsLineOp, IsLineBlock, all_of, same, not_frame, plan_block, loops_agree, good_arc, map_back}
 use Rattle.composition.proofs.Straight.{IsWithin, straight_lines}
 
 -- PLANS OF STRAIGHT CODE
@@ -50,14 +50,6 @@ module _ (version : ℕ) (p : Plan) (lined : IsLinePlan version p) where
   pub line_lined : (g : Graph) → TakesInputs (flow_of g) p → IsStraightLined g p
   line_lined g takes = record { wired = line_wired; inputs = takes; frames = line_frames; unmarked = lined.unmarked }
 
--- LISTS
-pub map_back : {X Y : Type 0} (f : X → Y) (xs : List X) (k : ℕ) (y : Y) → slice_get (map f xs) k ≡ Some y → (x : X) × (slice_get xs k ≡ Some x) × (f x ≡ y)
-map_back {X = X} f xs k y e = by (slice_get xs k) refl (sym (slice_get-map f xs k) ∙ e)
-  where
-    by : (o : Option X) → slice_get xs k ≡ o → option_map f o ≡ Some y → (x : X) × (slice_get xs k ≡ Some x) × (f x ≡ y)
-    by None at e = absurd (cc)
-    by (Some x) at e = (x, at, same (f x) y e)
-
 -- THE BLOCKS OF A GRAPH
 abbrev Named : Type 0
 Named = List ℕ × Block (List ℕ)
@@ -69,6 +61,10 @@ codes_back version from (b ∷ bs) (suc k) c e =
     let r = codes_back version (from + 1) bs k c e in
     let n : from + suc k ≡ from + 1 + k = omega arith in
     (r.0, r.1, ap (λ n. straight_code version n r.0) n ∙ r.2)
+
+codes_length : (version from : ℕ) (bs : List (Block ℕ)) → length (straight_codes version from bs) ≡ length bs
+codes_length version from [] = refl
+codes_length version from (b ∷ bs) = ap suc (codes_length version (from + 1) bs)
 
 codes_inputs : (version from : ℕ) (bs : List (Block ℕ)) (k : ℕ) → Orderly.inputs_in (slice_get (straight_codes version from bs) k) ≡ Faithful.inputs_in (slice_get bs k)
 codes_inputs version from [] k = refl
@@ -110,3 +106,6 @@ module _ (g : Graph) (p : Plan) (straight : IsStraightGraph g) (plan : IsStraigh
 
   pub straight_takes : TakesInputs fl p
   straight_takes = ap (λ (q : Program). Orderly.inputs_in (slice_get q.blocks q.main)) plan.program ∙ codes_inputs g.version 0 fl.blocks fl.main
+
+  pub program_length : length p.program.blocks ≡ length g.blocks
+  program_length = ap (λ (q : Program). length q.blocks) plan.program ∙ codes_length g.version 0 fl.blocks ∙ length-map g.blocks (λ (named : Named). resolved_block (array_names g) (block_names g) named.1)

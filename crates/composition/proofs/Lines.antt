@@ -1,8 +1,8 @@
 -- What holds of each block of code for a straight graph, whether its destinations are many or few; and what follows.
-use Rattle.std.proofs.Common.{◌≡◌, refl, sym, ap, ◌∙◌, subst, ℕ, zero, suc, ◌+◌, ◌<◌, ◌≤◌, Bool, true, false, true≢false, if◌then◌else◌, ◌⊎◌, inl, inr, List, [], ◌∷◌, ◌++◌, length, take, drop, Option, Some, None, arith, length-append}
-use Rattle.std.specs.Prelude.{slice_get, All, Contains, ⊤}
+use Rattle.std.proofs.Common.{◌≡◌, refl, sym, ap, ◌∙◌, subst, ℕ, zero, suc, ◌+◌, ◌<◌, ◌≤◌, Bool, true, false, true≢false, if◌then◌else◌, ◌⊎◌, inl, inr, List, [], ◌∷◌, ◌++◌, length, map, take, drop, Option, Some, None, arith, length-append}
+use Rattle.std.specs.Prelude.{slice_get, All, Contains, option_map, ⊤}
 use Rattle.std.proofs.lemmas.List.Elements.{All-head, All-tail, All-cons, All-nil, All-append, All-map, All-weaker}
-use Rattle.std.proofs.lemmas.Option.{slice_get_within}
+use Rattle.std.proofs.lemmas.Option.{slice_get-map, slice_get_within}
 use Rattle.tags.specs.declared.token.Port.TheVariants.{Right}
 use Rattle.tags.specs.declared.value.Origin.TheVariants.{Untold}
 use Rattle.semantics.specs.declared.program.Dest.{Dest}
@@ -71,6 +71,13 @@ same x y e = cc
 pub none_empty : {X : Type 0} (xs ys : List X) → xs ++ ys ≡ [] → (xs ≡ []) × (ys ≡ [])
 none_empty [] ys e = (refl, e)
 none_empty (x ∷ xs) ys e = absurd (cc)
+
+pub map_back : {X Y : Type 0} (f : X → Y) (xs : List X) (k : ℕ) (y : Y) → slice_get (map f xs) k ≡ Some y → (x : X) × (slice_get xs k ≡ Some x) × (f x ≡ y)
+map_back {X = X} f xs k y e = by (slice_get xs k) refl (sym (slice_get-map f xs k) ∙ e)
+  where
+    by : (o : Option X) → slice_get xs k ≡ o → option_map f o ≡ Some y → (x : X) × (slice_get xs k ≡ Some x) × (f x ≡ y)
+    by None at e = absurd (cc)
+    by (Some x) at e = (x, at, same (f x) y e)
 
 -- ONE INSTRUCTION, by its operation
 shape : (op : Op) (ds es : List Dest) → IsLineOp op (ds ++ es) → HasShape op (length ds) (length es)

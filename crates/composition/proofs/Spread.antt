@@ -1,8 +1,7 @@
 -- What stands at a place of the new order of a block: one of its instructions, or a copy.
 use Rattle.std.proofs.Common.{◌≡◌, refl, sym, ap, ◌∙◌, subst, ℕ, zero, suc, ◌+◌, ◌-◌, ◌<◌, ◌≤◌, Bool, true, false, if◌then◌else◌, ◌⊎◌, inl, inr, List, [], ◌∷◌, ◌++◌, length, drop, Option, Some, None, arith, length-append}
-use Rattle.std.specs.Prelude.{slice_get, All}
+use Rattle.std.specs.Prelude.{slice_get}
 use Rattle.std.proofs.lemmas.Bool.{cases_lt}
-use Rattle.std.proofs.lemmas.List.Elements.{All-cons, All-nil, All-append}
 use Rattle.semantics.specs.Program.{Instr}
 use Rattle.fanout.specs.Rows.{is_tied, run}
 use Rattle.fanout.specs.Places.{Layout, size, places_from, bases_from, layout_with, place_of, base_of}
@@ -17,17 +16,6 @@ none_left [] zero h = refl
 none_left [] (suc n) h = refl
 none_left (t ∷ ts) zero h = absurd (omega (arith, h))
 none_left (t ∷ ts) (suc n) h = none_left ts n (omega (arith, h))
-
--- what holds of all that is spread
-pub spread_all : {X : Type 0} (P : X → Type 0) (ts : List Bool) (one : ℕ → Instr → X) (more : ℕ → Instr → List X) → ((n : ℕ) (i : Instr) → P (one n i)) → ((n : ℕ) (i : Instr) → All P (more n i))
-    → (n : ℕ) (waiting : List X) (is : List Instr) → All P waiting → All P (spread_of ts one more n waiting is)
-spread_all P ts one more h g n waiting [] all = all
-spread_all P ts one more h g n waiting (i ∷ is) all =
-    let w : All P (waiting ++ more n i) = All-append P waiting (more n i) all (g n i) in
-    All-cons P (one n i) _ (h n i) (elim (is_tied ts n) as (λ t. All P (released t (waiting ++ more n i) ++ spread_of ts one more (n + 1) (held t (waiting ++ more n i)) is)) [
-      | true ↦ spread_all P ts one more h g (n + 1) (waiting ++ more n i) is w
-      | false ↦ All-append P (waiting ++ more n i) (spread_of ts one more (n + 1) [] is) w (spread_all P ts one more h g (n + 1) [] is (All-nil P))
-    ])
 
 module _ {X : Type 0} (ts : List Bool) (one : ℕ → Instr → X) (more : ℕ → Instr → List X) (as_sized : (n : ℕ) (i : Instr) → length (more n i) ≡ size i) where
   -- y is for an instruction from the n-th on that stands at the place, or is a copy of one

@@ -6,7 +6,6 @@ use Rattle.semantics.specs.Plan.{Plan, mark_at}
 use Rattle.semantics.specs.Wired.{IsWired}
 use Rattle.semantics.specs.Sharing.{Good}
 use Rattle.semantics.specs.Faithful.{Faithful}
-use Rattle.lowering.specs.Implements.{Implements}
 use Rattle.fanout.specs.Narrowed.{narrowed}
 use Rattle.reuse.specs.Theorem.{TakesInputs, AsksForNoFrame}
 use Rattle.select.specs.declared.Version.{Version}
@@ -37,11 +36,7 @@ NarrowedIsLined = (g : Graph) (p : Plan) → IsStraightGraph g → IsStraightPla
 abbrev pub CompiledIsEmittable : Type 0
 CompiledIsEmittable = (g : Graph) (p : Plan) (slots : List (List ℕ)) → IsStraightGraph g → IsStraightPlan g p → Good (narrowed p) slots → IsEmittable (narrowed p) slots
 
--- The plan with trees of copies still implements the graph.
-abbrev pub NarrowedImplements : Type 0
-NarrowedImplements = (g : Graph) (p : Plan) → IsStraightGraph g → IsStraightPlan g p → Implements (flow_of g) (narrowed p).program
-
--- And then the code of an object of the graph's version is faithful to the graph.
+-- And the code that the object holds, in the graph's version, is faithful to the graph.
 abbrev pub CompiledIsFaithful : Type 0
 CompiledIsFaithful = (g : Graph) (p : Plan) (slots : List (List ℕ)) (version : Version) → IsStraightGraph g → IsStraightPlan g p → Good (narrowed p) slots
     → version_number version ≡ g.version → Faithful (flow_of g) (code_of version (narrowed p) slots)

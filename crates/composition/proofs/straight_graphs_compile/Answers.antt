@@ -1,10 +1,17 @@
-use Rattle.std.proofs.Common.{refl}
-use Rattle.composition.proofs.Blocks.{line_lined, straight_plan_lines, straight_takes}
-use Rattle.composition.proofs.Spread.{stands_back}
+use Rattle.composition.proofs.Laws.{plan_is_straight, plan_is_lined, narrowed_is_lined, compiled_is_emittable, compiled_is_faithful}
 use Rattle.composition.proofs.straight_graphs_compile.Goals as goal
 
 pub returns-clause-plan : goal.returns-clause-plan
-returns-clause-plan c = λ g. record { program = refl; unmarked = λ b n. refl }
+returns-clause-plan c = plan_is_straight
 
 pub returns-clause-lined : goal.returns-clause-lined
-returns-clause-lined c = λ g p straight plan. line_lined g.version p (straight_plan_lines g p straight plan) g (straight_takes g p straight plan)
+returns-clause-lined c = plan_is_lined
+
+pub returns-clause-narrowed : goal.returns-clause-narrowed
+returns-clause-narrowed c = narrowed_is_lined
+
+pub returns-clause-object : goal.returns-clause-object
+returns-clause-object c = compiled_is_emittable
+
+pub returns-clause-faithful : goal.returns-clause-faithful
+returns-clause-faithful c = compiled_is_faithful
