@@ -1,9 +1,8 @@
 -- A plan whose blocks are all straight code, and the blocks of a straight graph's plan.
-use Rattle.std.proofs.Common.{◌≡◌, refl, sym, ap, ◌∙◌, subst, ℕ, zero, suc, ◌+◌, ◌<◌, List, [], ◌∷◌, ◌++◌, map, length, Option, Some, None, arith, add-zero, zero-add}
-use Rattle.std.specs.Prelude.{slice_get, All}
+use Rattle.std.proofs.Common.{◌≡◌, refl, sym, ap, ◌∙◌, subst, ℕ, zero, suc, ◌+◌, ◌<◌, List, [], ◌∷◌, ◌++◌, length, Some, arith, add-zero, zero-add}
+use Rattle.std.specs.Prelude.{slice_get}
 use Rattle.std.proofs.lemmas.List.{length-map}
 use Rattle.std.proofs.lemmas.Option.{slice_get_within}
-use Rattle.semantics.specs.declared.program.Op.TheVariants.{Switch}
 use Rattle.semantics.specs.declared.program.Mark.TheVariants.{Unmarked}
 use Rattle.semantics.specs.Graph.{Graph, Block, Flow, Node, flow_of, resolved_block, resolved_kind, array_names, block_names}
 use Rattle.semantics.specs.WellFormed.{IsBlockWell}
@@ -15,7 +14,7 @@ use Rattle.semantics.specs.Orderly as Orderly
 use Rattle.semantics.specs.Faithful as Faithful
 use Rattle.determinacy.proofs.Resolved.{all_get}
 use Rattle.lowering.specs.Implements.{IsStraight, IsStraightBlock}
-use Rattle.lowering.specs.StraightPlan.{straight_code, straight_codes, straight_program}
+use Rattle.lowering.specs.StraightPlan.{straight_code, straight_codes}
 use Rattle.lowering.proofs.StraightGraph.{graph_is_straight}
 use Rattle.reuse.specs.Theorem.{TakesInputs, AsksForNoFrame}
 use Rattle.composition.specs.Straight.{IsStraightGraph, IsStraightPlan}

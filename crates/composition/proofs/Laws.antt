@@ -1,6 +1,6 @@
 -- What the compiler makes of a straight graph.
-use Rattle.std.proofs.Common.{◌≡◌, refl, sym, ap, ◌∙◌, subst, ℕ, ◌+◌, ◌<◌, ◌≤◌, inl, inr, List, [], ◌∷◌, map, length, sum, Option, Some, None, arith}
-use Rattle.std.specs.Prelude.{slice_get, All, option_map, ⊤}
+use Rattle.std.proofs.Common.{◌≡◌, refl, sym, ap, ◌∙◌, subst, ℕ, ◌≤◌, List, length, sum, Option, Some, None, arith}
+use Rattle.std.specs.Prelude.{slice_get, All, option_map}
 use Rattle.std.proofs.lemmas.List.{length-map}
 use Rattle.std.proofs.lemmas.Option.{slice_get-map}
 use Rattle.std.proofs.lemmas.List.Elements.{All-map, All-weaker}
@@ -14,7 +14,6 @@ use Rattle.semantics.specs.Placed.{placed}
 use Rattle.semantics.specs.Faithful.{Faithful}
 use Rattle.semantics.specs.Orderly as Orderly
 use Rattle.semantics.specs.Orderly.{Orderly}
-use Rattle.lowering.specs.StraightPlan.{straight_program}
 use Rattle.fanout.specs.Narrowed.{narrowed, narrowed_block}
 use Rattle.fanout.proofs.Theorem.{narrow_is_faithful, narrow_is_orderly, narrow_none}
 use Rattle.reuse.specs.Theorem.{TakesInputs}
@@ -25,7 +24,7 @@ use Rattle.select.specs.declared.Version.{Version}
 use Rattle.select.specs.declared.Version.TheVariants.{One, Two}
 use Rattle.select.specs.Emitted.{version_number}
 use Rattle.select.specs.Emittable.{IsEmittable}
-use Rattle.composition.specs.Straight.{IsStraightGraph, IsStraightPlan, straight_plan}
+use Rattle.composition.specs.Straight.{IsStraightGraph, IsStraightPlan}
 use Rattle.composition.specs.Theorem.{PlanIsStraight, PlanIsLined, NarrowedIsLined, CompiledIsEmittable, CompiledIsFaithful}
 use Rattle.composition.proofs.Lines.{IsLineBlock, HasFew, all_of, map_back, block_emittable}
 use Rattle.composition.proofs.Narrow.{narrow_lines, narrow_few}

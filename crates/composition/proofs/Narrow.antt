@@ -1,7 +1,7 @@
 -- A block of straight code, narrowed: its instructions in their new places, and their copies.
-use Rattle.std.proofs.Common.{◌≡◌, refl, sym, ap, ◌∙◌, subst, ℕ, zero, suc, ◌+◌, ◌-◌, ◌*◌, ◌/◌, ◌<◌, ◌≤◌, Bool, true, false, true≢false, if◌then◌else◌, nat_lt, ◌⊎◌, inl, inr, List, [], ◌∷◌, ◌++◌, map, length, take, drop, Option, Some, None, arith, length-append}
+use Rattle.std.proofs.Common.{◌≡◌, refl, sym, ap, ◌∙◌, subst, ℕ, zero, suc, ◌+◌, ◌-◌, ◌*◌, ◌/◌, ◌<◌, ◌≤◌, Bool, true, false, if◌then◌else◌, nat_lt, ◌⊎◌, inl, inr, List, [], ◌∷◌, ◌++◌, map, length, take, drop, Some, None, arith, length-append}
 use Rattle.std.proofs.lemmas.List.{length-map}
-use Rattle.std.specs.Prelude.{slice_get, All, option_map, ⊤}
+use Rattle.std.specs.Prelude.{slice_get, All, option_map}
 use Rattle.std.proofs.lemmas.Bool.{cases_lt, ltb-true, ltb-false}
 use Rattle.std.proofs.lemmas.Option.{slice_get-map, slice_get_within}
 use Rattle.std.proofs.lemmas.List.Elements.{All-cons, All-nil, All-append, All-map, All-weaker, All-take, All-drop}
@@ -12,13 +12,12 @@ use Rattle.semantics.specs.declared.program.Op.TheVariants.{Apply1, Apply2, Lit,
 use Rattle.semantics.specs.Program.{Instr, CodeBlock}
 use Rattle.semantics.specs.Rule.{slot_of}
 use Rattle.semantics.specs.Plan.{Plan}
-use Rattle.semantics.specs.Wired.{is_dyadic}
 use Rattle.determinacy.proofs.Resolved.{all_get}
 use Rattle.fanout.specs.Sides.{copies, parting_of, firsts_of, seconds_of, parted}
 use Rattle.fanout.specs.Rows.{is_tied, tied_in}
 use Rattle.fanout.specs.Places.{Layout, size, layout_with, place_of, base_of}
 use Rattle.fanout.specs.Trees.{dest_at, leaf, leaf_or, child, copy_at, side, moved, copies_of}
-use Rattle.fanout.specs.Narrowed.{parts_of, spread, narrowed_block}
+use Rattle.fanout.specs.Narrowed.{parts_of, narrowed_block}
 use Rattle.fanout.specs.Laws.{is_link}
 use Rattle.fanout.proofs.Spots.{sized, first_copy, second_copy, stands, copy_stands, place_is, copy_apart, before_copies, past_copies, in_order}
 use Rattle.fanout.proofs.Flags.{tied_length, later_free, entry_tied, place_tied}
@@ -316,7 +315,7 @@ module _ (version : ℕ) (p : Plan) (c : CodeBlock) (b : IsLineBlock version c) 
           let w : base_of l n + copies j.firsts + k ≡ base_of l n + q = omega (arith, h) in
           let m : k < copies j.seconds = omega (arith, h, low) in
           let s : copy_at l n (base_of l n + copies j.firsts + k) k j.seconds ≡ y
-              = same (copy_at l n (base_of l n + copies j.firsts + k) k j.seconds) y (sym (second_copy l n j k m) ∙ ap (slice_get (copies_of l n j)) z ∙ f) in
+          = same (copy_at l n (base_of l n + copies j.firsts + k) k j.seconds) y (sym (second_copy l n j k m) ∙ ap (slice_get (copies_of l n j)) z ∙ f) in
           subst (λ x. IsNew x y) w (subst (IsNew (base_of l n + copies j.firsts + k)) s (record {
             line = copy_line n (copies j.firsts) j j.seconds e fs.seconds (omega arith) k (base_of l n + copies j.firsts + k) refl m;
             few = omega arith;

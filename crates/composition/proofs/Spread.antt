@@ -1,5 +1,5 @@
 -- What stands at a place of the new order of a block: one of its instructions, or a copy.
-use Rattle.std.proofs.Common.{◌≡◌, refl, sym, ap, ◌∙◌, subst, ℕ, zero, suc, ◌+◌, ◌-◌, ◌<◌, ◌≤◌, Bool, true, false, if◌then◌else◌, ◌⊎◌, inl, inr, List, [], ◌∷◌, ◌++◌, length, drop, Option, Some, None, arith, length-append}
+use Rattle.std.proofs.Common.{◌≡◌, refl, sym, ap, ◌∙◌, subst, ℕ, zero, suc, ◌+◌, ◌-◌, ◌<◌, ◌≤◌, Bool, true, false, if◌then◌else◌, ◌⊎◌, inl, inr, List, [], ◌∷◌, ◌++◌, length, drop, Some, arith, length-append}
 use Rattle.std.specs.Prelude.{slice_get}
 use Rattle.std.proofs.lemmas.Bool.{cases_lt}
 use Rattle.semantics.specs.Program.{Instr}
@@ -52,9 +52,16 @@ module _ {X : Type 0} (ts : List Bool) (one : ℕ → Instr → X) (more : ℕ �
       pick (inr l) =
           let z : n + 0 ≡ n = omega arith in
           let w : u ≡ length waiting + (u - length waiting) = omega (arith, l) in
-          inl (inr (0, i, u - length waiting, n + run (drop n ts) + copied, refl, refl,
+          inl (inr (
+            0,
+            i,
+            u - length waiting,
+            n + run (drop n ts) + copied,
+            refl,
+            refl,
             ap (λ n. slice_get (more n i) (u - length waiting)) z ∙ sym (get_right waiting (more n i) (u - length waiting)) ∙ ap (slice_get (waiting ++ more n i)) (sym w) ∙ e,
-            omega (arith, h, q, l)))
+            omega (arith, h, q, l),
+          ))
 
   found : (n before copied : ℕ) (waiting : List X) (is : List Instr) (x : ℕ) (y : X) → before + length waiting ≡ copied → length ts ≡ n + length is → slice_get (spread_of ts one more n waiting is) x ≡ Some y
       → IsFound n before copied waiting is x y
@@ -67,7 +74,7 @@ module _ {X : Type 0} (ts : List Bool) (one : ℕ → Instr → X) (more : ℕ �
       let len : length (waiting ++ more n i) ≡ length waiting + size i = omega (arith, k, s) in
       let low : n < length ts = omega (arith, all) in
       elim (is_tied ts n) as (λ t. is_tied ts n ≡ t → slice_get (released t (waiting ++ more n i) ++ spread_of ts one more (n + 1) (held t (waiting ++ more n i)) is) x ≡ Some y
-          → IsFound n before copied waiting (i ∷ is) (suc x) y) [
+      → IsFound n before copied waiting (i ∷ is) (suc x) y) [
         | true ↦ λ t e. behind t len (run_tied ts n low t) (found (n + 1) before (copied + size i) (waiting ++ more n i) is x y (omega (arith, h, len)) (omega (arith, all)) e)
         | false ↦ λ t e. past t len (run_free ts n low t) e (cases_lt x (length (waiting ++ more n i)))
             (λ m e. found (n + 1) (copied + size i) (copied + size i) [] is m y (omega arith) (omega (arith, all)) e)

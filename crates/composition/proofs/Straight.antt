@@ -1,12 +1,11 @@
 -- The code of a straight block: what stands in it, and where it leads.
-use Rattle.std.proofs.Common.{◌≡◌, refl, sym, ap, ◌∙◌, subst, ℕ, zero, suc, ◌+◌, ◌-◌, ◌<◌, ◌≤◌, Bool, true, false, true≢false, if◌then◌else◌, nat_lt, lt-ltb, ◌⊎◌, inl, inr, List, [], ◌∷◌, ◌++◌, map, length, Option, Some, None, arith, append-nil, add-zero}
+use Rattle.std.proofs.Common.{◌≡◌, refl, sym, ap, ◌∙◌, subst, ℕ, zero, suc, ◌+◌, ◌-◌, ◌<◌, ◌≤◌, Bool, true, false, true≢false, if◌then◌else◌, nat_lt, lt-ltb, ◌⊎◌, inl, inr, List, [], ◌∷◌, ◌++◌, map, Option, Some, None, arith, append-nil, add-zero}
 use Rattle.std.specs.Prelude.{slice_get, All, Contains, option_map}
 use Rattle.std.proofs.lemmas.Bool.{cases_Bool, cases_lt, cases_eq}
 use Rattle.std.proofs.lemmas.Option.{slice_get-map, slice_get_within}
 use Rattle.std.proofs.lemmas.List.Elements.{All-map, All-weaker, All-contains, All-contains_itself}
 use Rattle.tags.specs.declared.token.Port.{Port}
 use Rattle.tags.specs.declared.token.Port.TheVariants.{Left, Right}
-use Rattle.tags.specs.declared.value.Origin.{Origin}
 use Rattle.tags.specs.declared.value.Origin.TheVariants.{Untold, At}
 use Rattle.semantics.specs.declared.graph.Kind.{Kind}
 use Rattle.semantics.specs.declared.graph.Kind.TheVariants.{Lit, Apply1, Apply2}
@@ -21,7 +20,7 @@ use Rattle.select.specs.Emittable.{IsPlace}
 use Rattle.lowering.specs.Roles.{Role, Start, Line, Result, Join, End, Copy, Shown, Done, Freed, is_instr, is_two, is_pair, is_pair_at, op_for, op_at, op_of, Inlet, inlet, same_inlet, same_role, one, hits, outs, given, lines_from, Wiring, IsThere, IsInlet, IsFed, IsWire}
 use Rattle.lowering.specs.Implements.{IsStraightBlock}
 use Rattle.lowering.specs.StraightPlan.{count_below, join_count, straight_wire, straight_place, straight_wiring, straight_slot, straight_roles, counted, dest_to, is_pair_line, origin_for, instr_for, straight_code}
-use Rattle.lowering.proofs.Counts.{count-le, count-lt, count-same, count-find}
+use Rattle.lowering.proofs.Counts.{count-lt, count-same, count-find}
 use Rattle.lowering.proofs.Parts.{same_role-true, one_same}
 use Rattle.lowering.proofs.StraightWired.{hits-contains, lawful_wires, straight_wired}
 use Rattle.composition.proofs.Lines.{IsLineOp, IsForward, IsLine, IsLineBlock, same}
