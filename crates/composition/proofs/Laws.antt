@@ -1,5 +1,5 @@
 -- What the compiler makes of a straight graph.
-use Rattle.std.proofs.Common.{◌≡◌, refl, sym, ap, ◌∙◌, subst, ℕ, ◌≤◌, List, length, sum, Option, Some, None, arith}
+use Rattle.std.proofs.Common.{◌≡◌, refl, sym, ap, ◌∙◌, subst, ℕ, ◌≤◌, List, [], length, sum, Option, Some, None, arith}
 use Rattle.std.specs.Prelude.{slice_get, All, option_map}
 use Rattle.std.proofs.lemmas.List.{length-map}
 use Rattle.std.proofs.lemmas.Option.{slice_get-map}
@@ -25,10 +25,12 @@ use Rattle.select.specs.declared.Version.TheVariants.{One, Two}
 use Rattle.select.specs.Emitted.{version_number}
 use Rattle.select.specs.Emittable.{IsEmittable}
 use Rattle.composition.specs.Straight.{IsStraightGraph, IsStraightPlan}
-use Rattle.composition.specs.Theorem.{PlanIsStraight, PlanIsLined, NarrowedIsLined, CompiledIsEmittable, CompiledIsFaithful}
+use Rattle.composition.specs.Theorem.{PlanIsStraight, PlanIsLined, NarrowedIsLined, CompiledIsEmittable, NarrowedIsNear, CompiledIsFaithful}
 use Rattle.composition.proofs.Lines.{IsLineBlock, HasFew, all_of, map_back, block_emittable}
 use Rattle.composition.proofs.Narrow.{narrow_lines, narrow_few}
-use Rattle.composition.proofs.Blocks.{IsLinePlan, line_plan, line_wired, line_frames, line_lined, flat, straight_plan_lines, straight_takes, program_length}
+use Rattle.composition.proofs.Near.{IsShort, none_too_far}
+use Rattle.composition.proofs.Sizes.{narrow_length}
+use Rattle.composition.proofs.Blocks.{straight_small, IsLinePlan, line_plan, line_wired, line_frames, line_lined, flat, straight_plan_lines, straight_takes, program_length}
 
 pub plan_is_straight : PlanIsStraight
 plan_is_straight g = record { program = refl; unmarked = λ b n. refl }
@@ -94,6 +96,12 @@ module _ (g : Graph) (p : Plan) (straight : IsStraightGraph g) (plan : IsStraigh
         blocks = λ b c ss at to. let h = good.blocks b c ss at to in block_emittable g.version c (lines.blocks b c at) (narrowed p).program ss h.all h.below (few b c at);
       }
 
+  short : All IsShort (narrowed p).program.blocks
+  short = all_of IsShort (narrowed p).program.blocks (λ k c e.
+      let r = map_back (narrowed_block p) p.program.blocks k c e in
+      let n = narrow_length g.version p r.0 (old.blocks k r.0 r.1) in let s = straight_small g p straight plan k r.0 r.1 in let z = ap (λ (c : CodeBlock). length c.instrs) r.2 in
+      omega (arith, n, s, z))
+
   -- FAITHFUL CODE
   origins : (version : Version) → version_number version ≡ g.version → HasOrigins version (narrowed p)
   origins One e = all_of (λ (c : CodeBlock). All (λ (i : Instr). i.origin ≡ Untold) c.instrs) (narrowed p).program.blocks
@@ -109,6 +117,9 @@ narrowed_is_lined g p straight plan = line_lined g.version (narrowed p) (lines g
 
 pub compiled_is_emittable : CompiledIsEmittable
 compiled_is_emittable g p slots straight plan good = emittable g p straight plan slots good
+
+pub narrowed_is_near : NarrowedIsNear
+narrowed_is_near g p straight plan few = none_too_far (narrowed p).program.blocks 0 [] (short g p straight plan) few
 
 pub compiled_is_faithful : CompiledIsFaithful
 compiled_is_faithful g p slots version straight plan good same =

@@ -1,5 +1,5 @@
 -- What the compiler makes of a straight graph: faithful code that has an object.
-use Rattle.std.specs.Prelude.{◌≡◌, ℕ, List}
+use Rattle.std.specs.Prelude.{◌≡◌, ℕ, ◌≤◌, List, length, None}
 use Rattle.semantics.specs.declared.program.Mark.TheVariants.{Unmarked}
 use Rattle.semantics.specs.Graph.{Graph, flow_of}
 use Rattle.semantics.specs.Plan.{Plan, mark_at}
@@ -10,6 +10,7 @@ use Rattle.fanout.specs.Narrowed.{narrowed}
 use Rattle.reuse.specs.Theorem.{TakesInputs, AsksForNoFrame}
 use Rattle.select.specs.declared.Version.{Version}
 use Rattle.select.specs.Emitted.{version_number, code_of}
+use Rattle.select.specs.Literals.{table_of, too_far}
 use Rattle.select.specs.Emittable.{IsEmittable}
 use Rattle.composition.specs.Straight.{IsStraightGraph, IsStraightPlan, straight_plan}
 
@@ -35,6 +36,10 @@ NarrowedIsLined = (g : Graph) (p : Plan) → IsStraightGraph g → IsStraightPla
 -- With any good slots that plan has an object, where its blocks and its table of literals are not too large.
 abbrev pub CompiledIsEmittable : Type 0
 CompiledIsEmittable = (g : Graph) (p : Plan) (slots : List (List ℕ)) → IsStraightGraph g → IsStraightPlan g p → Good (narrowed p) slots → IsEmittable (narrowed p) slots
+
+-- Its blocks are small enough: an object is refused only where there are more than 65,536 literals.
+abbrev pub NarrowedIsNear : Type 0
+NarrowedIsNear = (g : Graph) (p : Plan) → IsStraightGraph g → IsStraightPlan g p → length (table_of (narrowed p).program.blocks) ≤ 65536 → too_far (narrowed p).program.blocks ≡ None
 
 -- And the code that the object holds, in the graph's version, is faithful to the graph.
 abbrev pub CompiledIsFaithful : Type 0

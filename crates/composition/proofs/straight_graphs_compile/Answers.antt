@@ -1,4 +1,4 @@
-use Rattle.composition.proofs.Laws.{plan_is_straight, plan_is_lined, narrowed_is_lined, compiled_is_emittable, compiled_is_faithful}
+use Rattle.composition.proofs.Laws.{plan_is_straight, plan_is_lined, narrowed_is_lined, narrowed_is_near, compiled_is_emittable, compiled_is_faithful}
 use Rattle.composition.proofs.straight_graphs_compile.Goals as goal
 
 pub returns-clause-plan : goal.returns-clause-plan
@@ -9,6 +9,9 @@ returns-clause-lined c = plan_is_lined
 
 pub returns-clause-narrowed : goal.returns-clause-narrowed
 returns-clause-narrowed c = narrowed_is_lined
+
+pub returns-clause-near : goal.returns-clause-near
+returns-clause-near c = narrowed_is_near
 
 pub returns-clause-object : goal.returns-clause-object
 returns-clause-object c = compiled_is_emittable
