@@ -1,8 +1,6 @@
 -- That the code of a faithful plan with good slots is faithful.
-use Rattle.std.specs.Prelude.{◌≡◌, ◌≢◌, ℕ, List, Some, slice_get}
-use Rattle.semantics.specs.declared.program.Op.TheVariants.{Frame}
+use Rattle.std.specs.Prelude.{◌≡◌, ℕ, List}
 use Rattle.semantics.specs.Graph.{Flow}
-use Rattle.semantics.specs.Program.{Instr, CodeBlock, Program}
 use Rattle.semantics.specs.Faithful as Faithful
 use Rattle.semantics.specs.Faithful.{Faithful}
 use Rattle.semantics.specs.Plan.{Plan}
@@ -11,16 +9,26 @@ use Rattle.semantics.specs.Placed.{placed}
 use Rattle.semantics.specs.Orderly as Orderly
 use Rattle.semantics.specs.Orderly.{Orderly}
 use Rattle.semantics.specs.Wired.{IsWired}
+use Rattle.semantics.specs.Reuse.{ReleasesLast}
+use Rattle.semantics.specs.Holders.{HoldsAlone}
+use Rattle.semantics.specs.Unfolded.{EachRunUnfolds}
+
+-- Each run of the code has its unfolded run over the plan.
+abbrev pub RunsUnfold : Type 0
+RunsUnfold = (p : Plan) (slots : List (List ℕ)) → EachRunUnfolds p slots
 
 -- A run of the plan starts with as many inputs as the graph's main block has.
 abbrev pub TakesInputs : Flow → Plan → Type 0
 TakesInputs fl p = Orderly.inputs_of p ≡ Faithful.inputs_of fl
 
--- no instruction asks for a frame
-abbrev pub AsksForNoFrame : Program → Type 0
-AsksForNoFrame p = (b n : ℕ) (c : CodeBlock) (i : Instr) → slice_get p.blocks b ≡ Some c → slice_get c.instrs n ≡ Some i → i.op ≢ Frame
-
--- The code of a plan that asks for no frame is as faithful as the plan.
+-- The code is as faithful as the plan, in all runs: with frames used again, and with slots that holders share.
 abbrev pub SharedSlotsAreFaithful : Type 0
-SharedSlotsAreFaithful = (fl : Flow) (p : Plan) (slots : List (List ℕ)) → Faithful fl p.program → Orderly p → IsWired p → Good p slots
-    → TakesInputs fl p → AsksForNoFrame p.program → Faithful fl (placed p slots)
+SharedSlotsAreFaithful = (fl : Flow) (p : Plan) (slots : List (List ℕ)) → Faithful fl p.program → Orderly p → IsWired p → Good p slots → TakesInputs fl p → Faithful fl (placed p slots)
+
+-- In each run of the code, nothing else names a frame that is released, and its slots are empty.
+abbrev pub ReleasesAreLast : Type 0
+ReleasesAreLast = (fl : Flow) (p : Plan) (slots : List (List ℕ)) → Orderly p → IsWired p → Good p slots → TakesInputs fl p → ReleasesLast fl (placed p slots)
+
+-- And two holders that share a slot never hold it at one moment.
+abbrev pub HoldersAreAlone : Type 0
+HoldersAreAlone = (fl : Flow) (p : Plan) (slots : List (List ℕ)) → Orderly p → IsWired p → Good p slots → TakesInputs fl p → HoldsAlone fl p slots
