@@ -17,9 +17,9 @@ use Rattle.lowering.specs.Roles.{total}
 use Rattle.lowering.specs.Implements.{IsStraight, IsStraightBlock}
 use Rattle.lowering.specs.StraightPlan.{straight_code, straight_codes}
 use Rattle.lowering.proofs.StraightGraph.{graph_is_straight}
-use Rattle.reuse.specs.Theorem.{TakesInputs, AsksForNoFrame}
+use Rattle.reuse.specs.Theorem.{TakesInputs}
 use Rattle.composition.specs.Straight.{IsStraightGraph, IsStraightPlan}
-use Rattle.composition.specs.Theorem.{IsStraightLined}
+use Rattle.composition.specs.Theorem.{AsksForNoFrame, IsStraightLined}
 use Rattle.composition.proofs.Lines.{IsLineOp, IsLineBlock, all_of, same, not_frame, plan_block, loops_agree, good_arc, map_back}
 use Rattle.composition.proofs.Sizes.{dests_of, code_small}
 use Rattle.composition.proofs.Straight.{IsWithin, straight_lines}

@@ -1,13 +1,17 @@
 -- What the compiler makes of a straight graph: faithful code that has an object.
-use Rattle.std.specs.Prelude.{◌≡◌, ℕ, ◌≤◌, List, length, None}
+use Rattle.std.specs.Prelude.{◌≡◌, ◌≢◌, ℕ, ◌≤◌, List, length, Some, None, slice_get}
 use Rattle.semantics.specs.declared.program.Mark.TheVariants.{Unmarked}
 use Rattle.semantics.specs.Graph.{Graph, flow_of}
+use Rattle.semantics.specs.declared.program.Op.TheVariants.{Frame}
+use Rattle.semantics.specs.Program.{Instr, CodeBlock, Program}
 use Rattle.semantics.specs.Plan.{Plan, mark_at}
 use Rattle.semantics.specs.Wired.{IsWired}
 use Rattle.semantics.specs.Sharing.{Good}
 use Rattle.semantics.specs.Faithful.{Faithful}
+use Rattle.semantics.specs.Reuse.{ReleasesLast}
+use Rattle.emitted.specs.Same.{HoldsAloneAs}
 use Rattle.fanout.specs.Narrowed.{narrowed}
-use Rattle.reuse.specs.Theorem.{TakesInputs, AsksForNoFrame}
+use Rattle.reuse.specs.Theorem.{TakesInputs}
 use Rattle.select.specs.declared.Version.{Version}
 use Rattle.select.specs.Emitted.{version_number, code_of}
 use Rattle.select.specs.Literals.{table_of, too_far}
@@ -17,6 +21,10 @@ use Rattle.composition.specs.Straight.{IsStraightGraph, IsStraightPlan, straight
 -- A straight graph has such a plan.
 abbrev pub PlanIsStraight : Type 0
 PlanIsStraight = (g : Graph) → IsStraightPlan g (straight_plan g)
+
+-- no instruction asks for a frame
+abbrev pub AsksForNoFrame : Program → Type 0
+AsksForNoFrame p = (b n : ℕ) (c : CodeBlock) (i : Instr) → slice_get p.blocks b ≡ Some c → slice_get c.instrs n ≡ Some i → i.op ≢ Frame
 
 -- What holds of a plan without conditionals, calls and loops: its arcs, holders and marks keep to the rules of plans, main
 -- has the graph's inputs, nothing asks for a frame, and nothing is marked.
@@ -45,3 +53,13 @@ NarrowedIsNear = (g : Graph) (p : Plan) → IsStraightGraph g → IsStraightPlan
 abbrev pub CompiledIsFaithful : Type 0
 CompiledIsFaithful = (g : Graph) (p : Plan) (slots : List (List ℕ)) (version : Version) → IsStraightGraph g → IsStraightPlan g p → Good (narrowed p) slots
     → version_number version ≡ g.version → Faithful (flow_of g) (code_of version (narrowed p) slots)
+
+-- Nothing else names a frame when it is released,
+abbrev pub CompiledReleasesLast : Type 0
+CompiledReleasesLast = (g : Graph) (p : Plan) (slots : List (List ℕ)) (version : Version) → IsStraightGraph g → IsStraightPlan g p → Good (narrowed p) slots
+    → version_number version ≡ g.version → ReleasesLast (flow_of g) (code_of version (narrowed p) slots)
+
+-- and two holders that share a slot never hold it at one moment.
+abbrev pub CompiledHoldsAlone : Type 0
+CompiledHoldsAlone = (g : Graph) (p : Plan) (slots : List (List ℕ)) (version : Version) → IsStraightGraph g → IsStraightPlan g p → Good (narrowed p) slots
+    → version_number version ≡ g.version → HoldsAloneAs (flow_of g) (narrowed p) (code_of version (narrowed p) slots)

@@ -1,4 +1,4 @@
-use Rattle.composition.proofs.Laws.{plan_is_straight, plan_is_lined, narrowed_is_lined, narrowed_is_near, compiled_is_emittable, compiled_is_faithful}
+use Rattle.composition.proofs.Laws.{plan_is_straight, plan_is_lined, narrowed_is_lined, narrowed_is_near, compiled_is_emittable, compiled_is_faithful, compiled_releases_last, compiled_holds_alone}
 use Rattle.composition.proofs.straight_graphs_compile.Goals as goal
 
 pub returns-clause-plan : goal.returns-clause-plan
@@ -18,3 +18,9 @@ returns-clause-object c = compiled_is_emittable
 
 pub returns-clause-faithful : goal.returns-clause-faithful
 returns-clause-faithful c = compiled_is_faithful
+
+pub returns-clause-release : goal.returns-clause-release
+returns-clause-release c = compiled_releases_last
+
+pub returns-clause-alone : goal.returns-clause-alone
+returns-clause-alone c = compiled_holds_alone
