@@ -1,5 +1,5 @@
 -- What the compiler makes of a straight graph.
-use Rattle.std.proofs.Common.{◌≡◌, refl, sym, ap, ◌∙◌, subst, ℕ, ◌≤◌, List, [], length, sum, Option, Some, None, arith}
+use Rattle.std.proofs.Common.{◌≡◌, refl, sym, ap, ◌∙◌, subst, ℕ, ◌≤◌, List, [], ◌++◌, length, sum, Option, Some, None, arith}
 use Rattle.std.specs.Prelude.{slice_get, All, option_map}
 use Rattle.std.proofs.lemmas.List.{length-map}
 use Rattle.std.proofs.lemmas.Option.{slice_get-map}
@@ -14,6 +14,7 @@ use Rattle.semantics.specs.Placed.{placed}
 use Rattle.semantics.specs.Faithful.{Faithful}
 use Rattle.semantics.specs.Wired.{IsWired}
 use Rattle.semantics.specs.Reuse.{ReleasesLast}
+use Rattle.semantics.specs.Credits.{KeepsBounds}
 use Rattle.semantics.specs.Holders.{HoldsAlone}
 use Rattle.semantics.specs.Orderly as Orderly
 use Rattle.semantics.specs.Orderly.{Orderly}
@@ -22,15 +23,16 @@ use Rattle.fanout.proofs.Theorem.{narrow_is_faithful, narrow_is_orderly, narrow_
 use Rattle.reuse.specs.Theorem.{TakesInputs}
 use Rattle.reuse.proofs.Reused.{shared_slots_are_faithful, releases_are_last, holders_are_alone}
 use Rattle.emitted.specs.SameRuns.{HasOrigins}
-use Rattle.emitted.proofs.Laws.{emitted_faithful, emitted_releases, emitted_holders}
+use Rattle.emitted.proofs.Laws.{emitted_faithful, emitted_releases, emitted_credits, emitted_holders}
 use Rattle.select.specs.declared.Version.{Version}
 use Rattle.select.specs.declared.Version.TheVariants.{One, Two}
 use Rattle.select.specs.Emitted.{version_number}
 use Rattle.select.specs.Emittable.{IsEmittable}
 use Rattle.composition.specs.Straight.{IsStraightGraph, IsStraightPlan}
-use Rattle.composition.specs.Theorem.{PlanIsStraight, PlanIsLined, NarrowedIsLined, CompiledIsEmittable, NarrowedIsNear, CompiledIsFaithful, CompiledReleasesLast, CompiledHoldsAlone}
-use Rattle.composition.proofs.Lines.{IsLineBlock, HasFew, all_of, map_back, block_emittable}
+use Rattle.composition.specs.Theorem.{PlanIsStraight, PlanIsLined, NarrowedIsLined, CompiledIsEmittable, NarrowedIsNear, CompiledIsFaithful, CompiledReleasesLast, CompiledKeepsBounds, CompiledHoldsAlone}
+use Rattle.composition.proofs.Lines.{IsLineBlock, HasFew, not_credit, all_of, map_back, block_emittable}
 use Rattle.composition.proofs.Narrow.{narrow_lines, narrow_few}
+use Rattle.composition.proofs.Credits.{loopless_keeps_bounds}
 use Rattle.composition.proofs.Near.{IsShort, none_too_far}
 use Rattle.composition.proofs.Sizes.{narrow_length}
 use Rattle.composition.proofs.Blocks.{straight_small, IsLinePlan, line_plan, line_wired, line_lined, flat, straight_plan_lines, straight_takes, program_length}
@@ -126,6 +128,9 @@ module _ (g : Graph) (p : Plan) (straight : IsStraightGraph g) (plan : IsStraigh
   alone : (slots : List (List ℕ)) → Good (narrowed p) slots → HoldsAlone fl (narrowed p) slots
   alone slots good = holders_are_alone fl (narrowed p) slots orderly wired good takes
 
+  credits : (slots : List (List ℕ)) → Good (narrowed p) slots → KeepsBounds fl (narrowed p) slots
+  credits slots good = loopless_keeps_bounds fl (narrowed p) slots good.all (λ b n c i at to. not_credit i.op (i.firsts ++ i.seconds) ((lines.blocks b c at).lines n i to).op)
+
 pub narrowed_is_lined : NarrowedIsLined
 narrowed_is_lined g p straight plan = line_lined g.version (narrowed p) (lines g p straight plan) g (takes g p straight plan)
 
@@ -146,3 +151,7 @@ compiled_releases_last g p slots version straight plan good same =
 pub compiled_holds_alone : CompiledHoldsAlone
 compiled_holds_alone g p slots version straight plan good same =
     emitted_holders (flow_of g) (narrowed p) slots version (line_plan g.version (narrowed p) (lines g p straight plan)) (origins g p straight plan version same) (alone g p straight plan slots good)
+
+pub compiled_keeps_bounds : CompiledKeepsBounds
+compiled_keeps_bounds g p slots version straight plan good same =
+    emitted_credits (flow_of g) (narrowed p) slots version (line_plan g.version (narrowed p) (lines g p straight plan)) (origins g p straight plan version same) (credits g p straight plan slots good)

@@ -5,4 +5,5 @@ pub mod Spread
 pub mod Narrow
 pub mod Blocks
 pub mod Near
+pub mod Credits
 pub mod Laws

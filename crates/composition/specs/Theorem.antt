@@ -9,7 +9,7 @@ use Rattle.semantics.specs.Wired.{IsWired}
 use Rattle.semantics.specs.Sharing.{Good}
 use Rattle.semantics.specs.Faithful.{Faithful}
 use Rattle.semantics.specs.Reuse.{ReleasesLast}
-use Rattle.emitted.specs.Same.{HoldsAloneAs}
+use Rattle.emitted.specs.Same.{KeepsBoundsAs, HoldsAloneAs}
 use Rattle.fanout.specs.Narrowed.{narrowed}
 use Rattle.reuse.specs.Theorem.{TakesInputs}
 use Rattle.select.specs.declared.Version.{Version}
@@ -58,6 +58,11 @@ CompiledIsFaithful = (g : Graph) (p : Plan) (slots : List (List ℕ)) (version :
 abbrev pub CompiledReleasesLast : Type 0
 CompiledReleasesLast = (g : Graph) (p : Plan) (slots : List (List ℕ)) (version : Version) → IsStraightGraph g → IsStraightPlan g p → Good (narrowed p) slots
     → version_number version ≡ g.version → ReleasesLast (flow_of g) (code_of version (narrowed p) slots)
+
+-- loops keep their bounds, since there are none,
+abbrev pub CompiledKeepsBounds : Type 0
+CompiledKeepsBounds = (g : Graph) (p : Plan) (slots : List (List ℕ)) (version : Version) → IsStraightGraph g → IsStraightPlan g p → Good (narrowed p) slots
+    → version_number version ≡ g.version → KeepsBoundsAs (flow_of g) (narrowed p) (code_of version (narrowed p) slots)
 
 -- and two holders that share a slot never hold it at one moment.
 abbrev pub CompiledHoldsAlone : Type 0

@@ -1,7 +1,7 @@
 //! What the compiler's passes make of a straight graph is faithful code that has an object.
 #![tactic(auto)]
 
-ghost use Rattle.composition.specs.Theorem.{CompiledHoldsAlone, CompiledIsEmittable, CompiledIsFaithful, CompiledReleasesLast, NarrowedIsLined, NarrowedIsNear, PlanIsLined, PlanIsStraight};
+ghost use Rattle.composition.specs.Theorem.{CompiledHoldsAlone, CompiledIsEmittable, CompiledIsFaithful, CompiledKeepsBounds, CompiledReleasesLast, NarrowedIsLined, NarrowedIsNear, PlanIsLined, PlanIsStraight};
 
 /// A straight graph is well formed, within the limits of a text, and of literals and operators alone. Its plan, and the plan
 /// with trees of copies, keep to the rules of plans, and no instruction asks for a frame.
@@ -16,5 +16,6 @@ pub fn straight_graphs_compile()
     ensures object { CompiledIsEmittable }
     ensures faithful { CompiledIsFaithful }
     ensures release { CompiledReleasesLast }
+    ensures credits { CompiledKeepsBounds }
     ensures alone { CompiledHoldsAlone }
 {}

@@ -1,4 +1,4 @@
-use Rattle.composition.proofs.Laws.{plan_is_straight, plan_is_lined, narrowed_is_lined, narrowed_is_near, compiled_is_emittable, compiled_is_faithful, compiled_releases_last, compiled_holds_alone}
+use Rattle.composition.proofs.Laws.{plan_is_straight, plan_is_lined, narrowed_is_lined, narrowed_is_near, compiled_is_emittable, compiled_is_faithful, compiled_releases_last, compiled_keeps_bounds, compiled_holds_alone}
 use Rattle.composition.proofs.straight_graphs_compile.Goals as goal
 
 pub returns-clause-plan : goal.returns-clause-plan
@@ -21,6 +21,9 @@ returns-clause-faithful c = compiled_is_faithful
 
 pub returns-clause-release : goal.returns-clause-release
 returns-clause-release c = compiled_releases_last
+
+pub returns-clause-credits : goal.returns-clause-credits
+returns-clause-credits c = compiled_keeps_bounds
 
 pub returns-clause-alone : goal.returns-clause-alone
 returns-clause-alone c = compiled_holds_alone
