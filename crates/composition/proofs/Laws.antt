@@ -29,19 +29,19 @@ use Rattle.select.specs.declared.Version.TheVariants.{One, Two}
 use Rattle.select.specs.Emitted.{version_number}
 use Rattle.select.specs.Emittable.{IsEmittable}
 use Rattle.composition.specs.Straight.{IsStraightGraph, IsStraightPlan}
-use Rattle.composition.specs.Theorem.{PlanIsStraight, PlanIsLined, NarrowedIsLined, CompiledIsEmittable, NarrowedIsNear, CompiledIsFaithful, CompiledReleasesLast, CompiledKeepsBounds, CompiledHoldsAlone}
+use Rattle.composition.specs.Theorem.{PlanIsStraight, PlanIsWired, NarrowedIsWired, CompiledIsEmittable, NarrowedIsSmall, CompiledIsFaithful, CompiledReleasesLast, CompiledKeepsBounds, CompiledHoldsAlone}
 use Rattle.composition.proofs.Lines.{IsLineBlock, HasFew, not_credit, all_of, map_back, block_emittable}
 use Rattle.composition.proofs.Narrow.{narrow_lines, narrow_few}
 use Rattle.composition.proofs.Credits.{loopless_keeps_bounds}
 use Rattle.composition.proofs.Near.{IsShort, none_too_far}
 use Rattle.composition.proofs.Sizes.{narrow_length}
-use Rattle.composition.proofs.Blocks.{straight_small, IsLinePlan, line_plan, line_wired, line_lined, flat, straight_plan_lines, straight_takes, program_length}
+use Rattle.composition.proofs.Blocks.{straight_small, IsLinePlan, line_plan, line_wired, line_straight, flat, straight_plan_lines, straight_takes, program_length}
 
 pub plan_is_straight : PlanIsStraight
 plan_is_straight g = record { program = refl; unmarked = λ b n. refl }
 
-pub plan_is_lined : PlanIsLined
-plan_is_lined g p straight plan = line_lined g.version p (straight_plan_lines g p straight plan) g (straight_takes g p straight plan)
+pub plan_is_wired : PlanIsWired
+plan_is_wired g p straight plan = line_straight g.version p (straight_plan_lines g p straight plan) g (straight_takes g p straight plan)
 
 resolved : Graph → List ℕ × Block (List ℕ) → Block ℕ
 resolved g named = resolved_block (array_names g) (block_names g) named.1
@@ -131,14 +131,14 @@ module _ (g : Graph) (p : Plan) (straight : IsStraightGraph g) (plan : IsStraigh
   credits : (slots : List (List ℕ)) → Good (narrowed p) slots → KeepsBounds fl (narrowed p) slots
   credits slots good = loopless_keeps_bounds fl (narrowed p) slots good.all (λ b n c i at to. not_credit i.op (i.firsts ++ i.seconds) ((lines.blocks b c at).lines n i to).op)
 
-pub narrowed_is_lined : NarrowedIsLined
-narrowed_is_lined g p straight plan = line_lined g.version (narrowed p) (lines g p straight plan) g (takes g p straight plan)
+pub narrowed_is_wired : NarrowedIsWired
+narrowed_is_wired g p straight plan = line_straight g.version (narrowed p) (lines g p straight plan) g (takes g p straight plan)
 
 pub compiled_is_emittable : CompiledIsEmittable
 compiled_is_emittable g p slots straight plan good = emittable g p straight plan slots good
 
-pub narrowed_is_near : NarrowedIsNear
-narrowed_is_near g p straight plan few = none_too_far (narrowed p).program.blocks 0 [] (short g p straight plan) few
+pub narrowed_is_small : NarrowedIsSmall
+narrowed_is_small g p straight plan few = none_too_far (narrowed p).program.blocks 0 [] (short g p straight plan) few
 
 pub compiled_is_faithful : CompiledIsFaithful
 compiled_is_faithful g p slots version straight plan good same =

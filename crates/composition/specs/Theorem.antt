@@ -28,26 +28,26 @@ AsksForNoFrame p = (b n : ℕ) (c : CodeBlock) (i : Instr) → slice_get p.block
 
 -- What holds of a plan without conditionals, calls and loops: its arcs, holders and marks keep to the rules of plans, main
 -- has the graph's inputs, nothing asks for a frame, and nothing is marked.
-pub record IsStraightLined (g : Graph) (p : Plan) : Type 0 where
+pub record IsStraightWired (g : Graph) (p : Plan) : Type 0 where
   pub wired : IsWired p
   pub inputs : TakesInputs (flow_of g) p
   pub frames : AsksForNoFrame p.program
   pub unmarked : (b n : ℕ) → mark_at p b n ≡ Unmarked
 
-abbrev pub PlanIsLined : Type 0
-PlanIsLined = (g : Graph) (p : Plan) → IsStraightGraph g → IsStraightPlan g p → IsStraightLined g p
+abbrev pub PlanIsWired : Type 0
+PlanIsWired = (g : Graph) (p : Plan) → IsStraightGraph g → IsStraightPlan g p → IsStraightWired g p
 
 -- So does the plan in which trees of copies stand for more than two destinations.
-abbrev pub NarrowedIsLined : Type 0
-NarrowedIsLined = (g : Graph) (p : Plan) → IsStraightGraph g → IsStraightPlan g p → IsStraightLined g (narrowed p)
+abbrev pub NarrowedIsWired : Type 0
+NarrowedIsWired = (g : Graph) (p : Plan) → IsStraightGraph g → IsStraightPlan g p → IsStraightWired g (narrowed p)
 
 -- With any good slots that plan has an object, where its blocks and its table of literals are not too large.
 abbrev pub CompiledIsEmittable : Type 0
 CompiledIsEmittable = (g : Graph) (p : Plan) (slots : List (List ℕ)) → IsStraightGraph g → IsStraightPlan g p → Good (narrowed p) slots → IsEmittable (narrowed p) slots
 
 -- Its blocks are small enough: an object is refused only where there are more than 65,536 literals.
-abbrev pub NarrowedIsNear : Type 0
-NarrowedIsNear = (g : Graph) (p : Plan) → IsStraightGraph g → IsStraightPlan g p → length (table_of (narrowed p).program.blocks) ≤ 65536 → too_far (narrowed p).program.blocks ≡ None
+abbrev pub NarrowedIsSmall : Type 0
+NarrowedIsSmall = (g : Graph) (p : Plan) → IsStraightGraph g → IsStraightPlan g p → length (table_of (narrowed p).program.blocks) ≤ 65536 → too_far (narrowed p).program.blocks ≡ None
 
 -- And the code that the object holds, in the graph's version, is faithful to the graph.
 abbrev pub CompiledIsFaithful : Type 0
