@@ -8,7 +8,10 @@ use Rattle.tags.specs.declared.value.Origin.TheVariants.{Untold}
 use Rattle.semantics.specs.Graph.{Graph, Block, Flow, flow_of, resolved_block, array_names, block_names}
 use Rattle.semantics.specs.Program.{Instr, CodeBlock, Program}
 use Rattle.semantics.specs.Text.{IsName}
-use Rattle.semantics.specs.Plan.{Plan}
+use Rattle.semantics.specs.declared.program.Mark.{Mark}
+use Rattle.semantics.specs.declared.program.Mark.TheVariants.{Unmarked}
+use Rattle.semantics.specs.Plan.{Plan, mark_in}
+use Rattle.determinacy.proofs.Resolved.{all_get}
 use Rattle.semantics.specs.Sharing.{Good}
 use Rattle.semantics.specs.Placed.{placed}
 use Rattle.semantics.specs.Faithful.{Faithful}
@@ -38,7 +41,15 @@ use Rattle.composition.proofs.Sizes.{narrow_length}
 use Rattle.composition.proofs.Blocks.{straight_small, IsLinePlan, line_plan, line_wired, line_straight, flat, straight_plan_lines, straight_takes, program_length}
 
 pub plan_is_straight : PlanIsStraight
-plan_is_straight g = record { program = refl; unmarked = λ b n. refl }
+plan_is_straight g marks none = record { program = refl; unmarked = λ b n. by_list b n (slice_get marks b) refl }
+  where
+    by_mark : (ms : List Mark) (n : ℕ) (o : Option Mark) → slice_get ms n ≡ o → All (λ (m : Mark). m ≡ Unmarked) ms → (elim o as (λ x. Mark) [ None ↦ Unmarked | Some m ↦ m ]) ≡ Unmarked
+    by_mark ms n None e all = refl
+    by_mark ms n (Some m) e all = all_get (λ (m : Mark). m ≡ Unmarked) ms n m all e
+
+    by_list : (b n : ℕ) (o : Option (List Mark)) → slice_get marks b ≡ o → mark_in o n ≡ Unmarked
+    by_list b n None e = refl
+    by_list b n (Some ms) e = by_mark ms n (slice_get ms n) refl (all_get (λ (ms : List Mark). All (λ (m : Mark). m ≡ Unmarked) ms) marks b ms none e)
 
 pub plan_is_wired : PlanIsWired
 plan_is_wired g p straight plan = line_straight g.version p (straight_plan_lines g p straight plan) g (straight_takes g p straight plan)

@@ -1,5 +1,6 @@
 -- What the compiler makes of a straight graph: faithful code that has an object.
 use Rattle.std.specs.Prelude.{◌≡◌, ◌≢◌, ℕ, ◌≤◌, List, length, Some, None, slice_get}
+use Rattle.semantics.specs.declared.program.Mark.{Mark}
 use Rattle.semantics.specs.declared.program.Mark.TheVariants.{Unmarked}
 use Rattle.semantics.specs.Graph.{Graph, flow_of}
 use Rattle.semantics.specs.declared.program.Op.TheVariants.{Frame}
@@ -16,11 +17,11 @@ use Rattle.select.specs.declared.Version.{Version}
 use Rattle.select.specs.Emitted.{version_number, code_of}
 use Rattle.select.specs.Literals.{table_of, too_far}
 use Rattle.select.specs.Emittable.{IsEmittable}
-use Rattle.composition.specs.Straight.{IsStraightGraph, IsStraightPlan, straight_plan}
+use Rattle.composition.specs.Straight.{IsStraightGraph, IsStraightPlan, MarksNothing, straight_plan}
 
--- A straight graph has such a plan.
+-- A straight graph has such a plan, with any lists that mark nothing.
 abbrev pub PlanIsStraight : Type 0
-PlanIsStraight = (g : Graph) → IsStraightPlan g (straight_plan g)
+PlanIsStraight = (g : Graph) (marks : List (List Mark)) → MarksNothing marks → IsStraightPlan g (straight_plan g marks)
 
 -- no instruction asks for a frame
 abbrev pub AsksForNoFrame : Program → Type 0
