@@ -1,5 +1,5 @@
 -- What the compiler makes of a straight graph.
-use Rattle.std.proofs.Common.{◌≡◌, refl, sym, ap, ◌∙◌, subst, ℕ, ◌≤◌, List, [], ◌++◌, length, sum, Option, Some, None, arith}
+use Rattle.std.proofs.Common.{◌≡◌, refl, sym, ap, ◌∙◌, subst, ℕ, ◌≤◌, List, [], ◌++◌, map, length, sum, Option, Some, None, arith}
 use Rattle.std.specs.Prelude.{slice_get, All, option_map}
 use Rattle.std.proofs.lemmas.List.{length-map}
 use Rattle.std.proofs.lemmas.Option.{slice_get-map}
@@ -30,12 +30,14 @@ use Rattle.emitted.proofs.Laws.{emitted_faithful, emitted_releases, emitted_cred
 use Rattle.select.specs.declared.Version.{Version}
 use Rattle.select.specs.declared.Version.TheVariants.{One, Two}
 use Rattle.select.specs.Emitted.{version_number}
+use Rattle.select.specs.Literals.{entered, used_in}
 use Rattle.select.specs.Emittable.{IsEmittable}
-use Rattle.composition.specs.Straight.{IsStraightGraph, IsStraightPlan}
-use Rattle.composition.specs.Theorem.{PlanIsStraight, PlanIsWired, NarrowedIsWired, CompiledIsEmittable, NarrowedIsSmall, CompiledIsFaithful, CompiledReleasesLast, CompiledKeepsBounds, CompiledHoldsAlone}
+use Rattle.composition.specs.Straight.{literals_in, IsStraightGraph, IsStraightPlan}
+use Rattle.composition.specs.Theorem.{PlanIsStraight, PlanIsWired, NarrowedIsWired, CompiledIsEmittable, NarrowedHasLiterals, NarrowedIsSmall, CompiledIsFaithful, CompiledReleasesLast, CompiledKeepsBounds, CompiledHoldsAlone}
 use Rattle.composition.proofs.Lines.{IsLineBlock, HasFew, not_credit, all_of, map_back, block_emittable}
 use Rattle.composition.proofs.Narrow.{narrow_lines, narrow_few}
 use Rattle.composition.proofs.Credits.{loopless_keeps_bounds}
+use Rattle.composition.proofs.Literals.{narrowed_literals}
 use Rattle.composition.proofs.Near.{IsShort, none_too_far}
 use Rattle.composition.proofs.Sizes.{narrow_length}
 use Rattle.composition.proofs.Blocks.{straight_small, IsLinePlan, line_plan, line_wired, line_straight, flat, straight_plan_lines, straight_takes, program_length}
@@ -148,8 +150,15 @@ narrowed_is_wired g p straight plan = line_straight g.version (narrowed p) (line
 pub compiled_is_emittable : CompiledIsEmittable
 compiled_is_emittable g p slots straight plan good = emittable g p straight plan slots good
 
+literals : (g : Graph) (p : Plan) → IsStraightPlan g p → used_in (narrowed p).program.blocks ≡ literals_in g
+literals g p plan = ap (λ (q : Program). used_in (map (narrowed_block p) q.blocks)) plan.program ∙ narrowed_literals g p
+
+pub narrowed_has_literals : NarrowedHasLiterals
+narrowed_has_literals g p plan = ap (λ zs. entered [] zs) (literals g p plan)
+
 pub narrowed_is_small : NarrowedIsSmall
-narrowed_is_small g p straight plan few = none_too_far (narrowed p).program.blocks 0 [] (short g p straight plan) few
+narrowed_is_small g p straight plan few =
+    none_too_far (narrowed p).program.blocks 0 [] (short g p straight plan) (subst (λ zs. length (entered [] zs) ≤ 65536) (sym (literals g p plan)) few)
 
 pub compiled_is_faithful : CompiledIsFaithful
 compiled_is_faithful g p slots version straight plan good same =

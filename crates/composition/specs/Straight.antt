@@ -1,8 +1,10 @@
 -- The plan of a straight graph, before its slots are chosen.
-use Rattle.std.specs.Prelude.{◌≡◌, ℕ, List, length, All}
+use Rattle.std.specs.Prelude.{◌≡◌, ℕ, ℤ, List, [], ◌∷◌, length, flat_map, All}
 use Rattle.semantics.specs.declared.program.Mark.{Mark}
 use Rattle.semantics.specs.declared.program.Mark.TheVariants.{Unmarked}
-use Rattle.semantics.specs.Graph.{Graph, flow_of}
+use Rattle.semantics.specs.declared.graph.Kind.{Kind}
+use Rattle.semantics.specs.declared.graph.Kind.TheVariants.{Lit}
+use Rattle.semantics.specs.Graph.{Graph, Block, Node, flow_of}
 use Rattle.semantics.specs.WellFormed.{WellFormed}
 use Rattle.semantics.specs.Text.{HasText}
 use Rattle.semantics.specs.Plan.{Plan, mark_at}
@@ -14,6 +16,14 @@ pub record IsStraightGraph (g : Graph) : Type 0 where
   pub text : HasText g
   pub well : WellFormed g
   pub line : IsStraightLine g
+
+-- a graph's literals, in the order of its nodes
+abbrev pub literal_in : Kind (List ℕ) → List ℤ
+literal_in (Lit z) = z ∷ []
+literal_in kind = []
+
+abbrev pub literals_in : Graph → List ℤ
+literals_in g = flat_map (λ (named : List ℕ × Block (List ℕ)). flat_map (λ (n : Node (List ℕ)). literal_in n.kind) named.1.nodes) g.blocks
 
 -- no list marks anything
 abbrev pub MarksNothing : List (List Mark) → Type 0

@@ -1,5 +1,5 @@
 -- What the compiler makes of a straight graph: faithful code that has an object.
-use Rattle.std.specs.Prelude.{◌≡◌, ◌≢◌, ℕ, ◌≤◌, List, length, Some, None, slice_get}
+use Rattle.std.specs.Prelude.{◌≡◌, ◌≢◌, ℕ, ◌≤◌, List, [], length, Some, None, slice_get}
 use Rattle.semantics.specs.declared.program.Mark.{Mark}
 use Rattle.semantics.specs.declared.program.Mark.TheVariants.{Unmarked}
 use Rattle.semantics.specs.Graph.{Graph, flow_of}
@@ -15,9 +15,9 @@ use Rattle.fanout.specs.Narrowed.{narrowed}
 use Rattle.reuse.specs.Theorem.{TakesInputs}
 use Rattle.select.specs.declared.Version.{Version}
 use Rattle.select.specs.Emitted.{version_number, code_of}
-use Rattle.select.specs.Literals.{table_of, too_far}
+use Rattle.select.specs.Literals.{entered, table_of, too_far}
 use Rattle.select.specs.Emittable.{IsEmittable}
-use Rattle.composition.specs.Straight.{IsStraightGraph, IsStraightPlan, MarksNothing, straight_plan}
+use Rattle.composition.specs.Straight.{IsStraightGraph, IsStraightPlan, literals_in, MarksNothing, straight_plan}
 
 -- A straight graph has such a plan, with any lists that mark nothing.
 abbrev pub PlanIsStraight : Type 0
@@ -46,9 +46,13 @@ NarrowedIsWired = (g : Graph) (p : Plan) → IsStraightGraph g → IsStraightPla
 abbrev pub CompiledIsEmittable : Type 0
 CompiledIsEmittable = (g : Graph) (p : Plan) (slots : List (List ℕ)) → IsStraightGraph g → IsStraightPlan g p → Good (narrowed p) slots → IsEmittable (narrowed p) slots
 
--- Its blocks are small enough: an object is refused only where there are more than 65,536 literals.
+-- Its literals are the graph's,
+abbrev pub NarrowedHasLiterals : Type 0
+NarrowedHasLiterals = (g : Graph) (p : Plan) → IsStraightPlan g p → table_of (narrowed p).program.blocks ≡ entered [] (literals_in g)
+
+-- and its blocks are small enough: an object is refused only where the graph has more than 65,536 different literals.
 abbrev pub NarrowedIsSmall : Type 0
-NarrowedIsSmall = (g : Graph) (p : Plan) → IsStraightGraph g → IsStraightPlan g p → length (table_of (narrowed p).program.blocks) ≤ 65536 → too_far (narrowed p).program.blocks ≡ None
+NarrowedIsSmall = (g : Graph) (p : Plan) → IsStraightGraph g → IsStraightPlan g p → length (entered [] (literals_in g)) ≤ 65536 → too_far (narrowed p).program.blocks ≡ None
 
 -- And the code that the object holds, in the graph's version, is faithful to the graph.
 abbrev pub CompiledIsFaithful : Type 0

@@ -1,4 +1,4 @@
-use Rattle.composition.proofs.Laws.{plan_is_straight, plan_is_wired, narrowed_is_wired, narrowed_is_small, compiled_is_emittable, compiled_is_faithful, compiled_releases_last, compiled_keeps_bounds, compiled_holds_alone}
+use Rattle.composition.proofs.Laws.{plan_is_straight, plan_is_wired, narrowed_is_wired, narrowed_has_literals, narrowed_is_small, compiled_is_emittable, compiled_is_faithful, compiled_releases_last, compiled_keeps_bounds, compiled_holds_alone}
 use Rattle.composition.proofs.straight_graphs_compile.Goals as goal
 
 pub returns-clause-plan : goal.returns-clause-plan
@@ -9,6 +9,9 @@ returns-clause-wired c = plan_is_wired
 
 pub returns-clause-narrowed : goal.returns-clause-narrowed
 returns-clause-narrowed c = narrowed_is_wired
+
+pub returns-clause-literals : goal.returns-clause-literals
+returns-clause-literals c = narrowed_has_literals
 
 pub returns-clause-small : goal.returns-clause-small
 returns-clause-small c = narrowed_is_small
