@@ -6,9 +6,9 @@ ghost use Rattle.composition.specs.Theorem.{CompiledHoldsAlone, CompiledIsEmitta
 /// A straight graph is well formed, within the limits of a text, and of literals and operators alone. Its plan, and the plan
 /// with trees of copies, keep to the rules of plans, and no instruction asks for a frame.
 ///
-/// With any good slots the latter has an object. Its blocks are small enough: an object is refused only where the
-/// graph has more than 65,536 different literals. The code that the object holds is faithful to the graph; nothing else names a frame when it is
-/// released, and two holders that share a slot never hold it at one moment.
+/// With any good slots the latter has an object. Its blocks are small enough: but for memory, an object is refused only
+/// where the graph has more than 65,536 different literals. The code that the object holds is faithful to the graph;
+/// nothing else names a frame when it is released, and two holders that share a slot never hold it at one moment.
 pub fn straight_graphs_compile()
     ensures plan { PlanIsStraight }
     ensures wired { PlanIsWired }
