@@ -1,0 +1,4 @@
+pub mod Setting
+pub mod State
+pub mod Starts
+pub mod Steps

@@ -1,0 +1,37 @@
+-- How the machine starts, and why it does not.
+use Rattle.std.specs.Prelude.{◌≡◌, ◌≢◌, ℕ, ◌<◌, ◌≤◌, ◌^◌, ℤ, List, [], length}
+use Rattle.semantics.specs.Program.{Program}
+use Rattle.semantics.specs.Machine.{at_start}
+use Rattle.element.specs.Held.{Held}
+use Rattle.lanes.specs.declared.config.Config.{Config}
+use Rattle.lanes.specs.declared.config.StartFault.{StartFault}
+use Rattle.lanes.specs.declared.config.StartFault.TheVariants.{WrongInputs, NoFrames, BadConfig, Memory}
+use Rattle.lanes.specs.Setting.{Setting, inputs_of}
+use Rattle.lanes.specs.State.{State, AllFrom, Stands}
+
+pub record IsGood (c : Config) : Type 0 where
+  pub elements : 1 ≤ c.elements
+  pub elements_most : c.elements ≤ 16
+  pub frames : c.frames ≤ 1024
+  pub steps : c.steps ≤ 2 ^ 32
+  pub turn : 1 ≤ c.turn
+  pub turn_most : c.turn ≤ 65536
+
+abbrev pub setting_of : Program → ℕ → Config → Setting
+setting_of p width c = record { program = p; elements = c.elements; frames = c.frames; width = width; steps = c.steps }
+
+-- The machine is as at the start on these inputs, and no element has made an event.
+pub record Opens (p : Program) (width : ℕ) (c : Config) (inputs : List ℤ) (s : State) : Type 0 where
+  pub arity : length inputs ≡ inputs_of p
+  pub some_frame : 0 < c.frames
+  pub good : IsGood c
+  pub setting : s.setting ≡ setting_of p width c
+  pub machine : Stands s (at_start p inputs)
+  pub none_made : AllFrom (λ (i : ℕ) (h : Held). h.made ≡ 0) 0 s.lanes
+
+-- why it does not start: the first of the causes that holds
+abbrev pub IsCause : Program → Config → List ℤ → StartFault → Type 0
+IsCause p c inputs WrongInputs = length inputs ≢ inputs_of p
+IsCause p c inputs NoFrames = (length inputs ≡ inputs_of p) × (c.frames ≡ 0)
+IsCause p c inputs BadConfig = (length inputs ≡ inputs_of p) × (0 < c.frames) × (IsGood c → ⊥)
+IsCause p c inputs Memory = (length inputs ≡ inputs_of p) × (0 < c.frames) × IsGood c
