@@ -36,16 +36,16 @@ Splits false true true = Unit {0}
 Splits false false false = Unit {0}
 Splits a b c = ⊥
 
-split_step : {X : Type 0} (x : X) (as bs cs : List X) (a b c : Bool) → Splits a b c → IsPermutation cs (as ++ bs) → IsPermutation (cond c (x ∷ cs) cs) (cond a (x ∷ as) as ++ cond b (x ∷ bs) bs)
-split_step x as bs cs true true true s ih = absurd s
-split_step x as bs cs true true false s ih = absurd s
-split_step x as bs cs true false true s ih = IsPermutation-cons x cs (as ++ bs) ih
-split_step x as bs cs true false false s ih = absurd s
-split_step x as bs cs false true true s ih =
-    IsPermutation-trans (x ∷ cs) (x ∷ (as ++ bs)) (as ++ x ∷ bs) (IsPermutation-cons x cs (as ++ bs) ih) (IsPermutation-sym (as ++ x ∷ bs) (x ∷ (as ++ bs)) (IsPermutation-middle as x bs))
-split_step x as bs cs false true false s ih = absurd s
-split_step x as bs cs false false true s ih = absurd s
-split_step x as bs cs false false false s ih = ih
+split_step : {X : Type 0} (x : X) (us vs ws : List X) (a b c : Bool) → Splits a b c → IsPermutation ws (us ++ vs) → IsPermutation (cond c (x ∷ ws) ws) (cond a (x ∷ us) us ++ cond b (x ∷ vs) vs)
+split_step x us vs ws true true true s ih = absurd s
+split_step x us vs ws true true false s ih = absurd s
+split_step x us vs ws true false true s ih = IsPermutation-cons x ws (us ++ vs) ih
+split_step x us vs ws true false false s ih = absurd s
+split_step x us vs ws false true true s ih =
+    IsPermutation-trans (x ∷ ws) (x ∷ (us ++ vs)) (us ++ x ∷ vs) (IsPermutation-cons x ws (us ++ vs) ih) (IsPermutation-sym (us ++ x ∷ vs) (x ∷ (us ++ vs)) (IsPermutation-middle us x vs))
+split_step x us vs ws false true false s ih = absurd s
+split_step x us vs ws false false true s ih = absurd s
+split_step x us vs ws false false false s ih = ih
 
 split_three : {X : Type 0} (a b c : X → Bool) → ((x : X) → Splits (a x) (b x) (c x)) → (xs : List X) → IsPermutation (filter c xs) (filter a xs ++ filter b xs)
 split_three a b c h [] = IsPermutation-refl []
@@ -122,7 +122,7 @@ tokens_from n k (h ∷ hs) ts all =
     IsPermutation-trans _ _ _ first (IsPermutation-trans _ _ _ second third)
 
 all_among : (n : ℕ) (t : Token) → 0 < n → among n 0 n t ≡ true
-all_among n t some = and_from _ _ (le-leb 0 (element_of n t.to) (omega arith)) (lt-ltb (element_of n t.to) (0 + n) (element_below n t.to some))
+all_among n t some = let low : element_of n t.to < 0 + n = (let l = element_below n t.to some in omega (arith, l)) in and_from _ _ (le-leb 0 (element_of n t.to) (omega arith)) (lt-ltb (element_of n t.to) (0 + n) low)
 
 -- each token comes to one lane
 pub tokens_delivered : (n : ℕ) (lanes : List Held) (ts : List Token) → 0 < n → length lanes ≡ n → AllFrom (IsAt n) 0 lanes → IsPermutation (tokens_in (delivered ts lanes)) (tokens_in lanes ++ ts)

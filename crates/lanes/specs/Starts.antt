@@ -2,7 +2,8 @@
 use Rattle.std.specs.Prelude.{◌≡◌, ◌≢◌, ℕ, ◌<◌, ◌≤◌, ◌^◌, ℤ, List, [], length}
 use Rattle.semantics.specs.Program.{Program}
 use Rattle.semantics.specs.Machine.{at_start}
-use Rattle.element.specs.Held.{Held}
+use Rattle.element.specs.Held.{Held, IsSoundLane}
+use Rattle.element.specs.Openings.{StartsAs}
 use Rattle.lanes.specs.declared.config.Config.{Config}
 use Rattle.lanes.specs.declared.config.StartFault.{StartFault}
 use Rattle.lanes.specs.declared.config.StartFault.TheVariants.{WrongInputs, NoFrames, BadConfig, Memory}
@@ -28,6 +29,20 @@ pub record Opens (p : Program) (width : ℕ) (c : Config) (inputs : List ℤ) (s
   pub setting : s.setting ≡ setting_of p width c
   pub machine : Stands s (at_start p inputs)
   pub none_made : AllFrom (λ (i : ℕ) (h : Held). h.made ≡ 0) 0 s.lanes
+
+-- A lane with no tokens that is its element's part of the machine at the start
+pub record IsFresh (g : Setting) (i : ℕ) (h : Held) : Type 0 where
+  pub element : h.part.shape.element ≡ i
+  pub elements : h.part.shape.elements ≡ g.elements
+  pub frames : h.part.shape.frames ≡ g.frames
+  pub width : h.part.shape.width ≡ g.width
+  pub sound : IsSoundLane g.program h
+  pub starts : StartsAs g.program h.part
+  pub queue : h.queue ≡ []
+  pub made : h.made ≡ 0
+
+abbrev pub sized : Program → ℕ → ℕ → ℕ → ℕ → Setting
+sized p elements frames width steps = record { program = p; elements = elements; frames = frames; width = width; steps = steps }
 
 -- why it does not start: the first of the causes that holds
 abbrev pub IsCause : Program → Config → List ℤ → StartFault → Type 0

@@ -12,7 +12,7 @@ use Rattle.lanes.specs.State.{State, delivered, Stands}
 
 -- The element's lane takes the token that the pick names, and the tokens that it makes for others come to their lanes.
 -- It is one event of each machine that the lanes are the parts of.
-pub record Does (old : State) (e pick : ℕ) (new : State) (events : Events) : Type 0 where
+pub record Does (old : State) (e pick : ℕ) (new : State) (evs : Events) : Type 0 where
   pub lane : Held
   pub there : slice_get old.lanes e ≡ Some lane
   pub allowed : lane.made < old.setting.steps
@@ -22,7 +22,7 @@ pub record Does (old : State) (e pick : ℕ) (new : State) (events : Events) : T
   pub step : one.Does old.setting.program lane pick [] next sent
   pub setting : new.setting ≡ old.setting
   pub lanes : new.lanes ≡ delivered sent (slice_set old.lanes e next)
-  pub events : events ≡ (e, step.token) ∷ []
+  pub events : evs ≡ (e, step.token) ∷ []
   pub event : (m : Machine) → Stands old m → (n : Machine) × Event old.setting.program (size old.setting) e step.token m n × Stands new n
 
 -- the lane of the element
