@@ -1,2 +1,5 @@
 pub mod Places
 pub mod Tokens
+pub mod Opening
+pub mod Bounding
+pub mod Stepping

@@ -48,3 +48,13 @@ module _ {X : Type 0} (P : ℕ → X → Type 0) where
   pub from_both : (Q R : ℕ → X → Type 0) → ((i : ℕ) (x : X) → P i x → Q i x → R i x) → (k : ℕ) (xs : List X) → AllFrom P k xs → AllFrom Q k xs → AllFrom R k xs
   from_both Q R step k [] ps qs = tt
   from_both Q R step k (x ∷ xs) ps qs = (step k x ps.0 qs.0, from_both Q R step (suc k) xs ps.1 qs.1)
+
+  -- the same, counted from the first place
+  pub first_get : (xs : List X) (i : ℕ) (x : X) → AllFrom P 0 xs → slice_get xs i ≡ Some x → P i x
+  first_get xs i x all e = let here : 0 + i ≡ i = omega arith in subst (λ (n : ℕ). P n x) here (from_get 0 xs i x all e)
+
+  pub first_set : (xs : List X) (i : ℕ) (x : X) → AllFrom P 0 xs → P i x → AllFrom P 0 (slice_set xs i x)
+  first_set xs i x all p = let here : i ≡ 0 + i = omega arith in from_set 0 xs i x all (subst (λ (n : ℕ). P n x) here p)
+
+  pub first_push : (xs : List X) (x : X) → AllFrom P 0 xs → P (length xs) x → AllFrom P 0 (xs ++ x ∷ [])
+  first_push xs x all p = let here : length xs ≡ 0 + length xs = omega arith in from_push 0 xs x all (subst (λ (n : ℕ). P n x) here p)

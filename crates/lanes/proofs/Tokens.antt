@@ -189,3 +189,6 @@ delivered_one n k (x ∷ xs) (suc j) t h all is e =
     let ne : element_of n t.to ≡ k → ⊥ = λ (s : element_of n t.to ≡ k). omega arith in
     ap (λ (y : Held). y ∷ delivered (t ∷ []) xs) (gets n k x t false all.0 (ne_eqb (element_of n t.to) k ne) ∙ queued_none x)
     ∙ ap (λ (l : List Held). x ∷ l) (delivered_one n (suc k) xs j t h all.1 past e)
+
+pub append_twice : {X : Type 0} (xs ys zs : List X) → IsPermutation ((xs ++ ys) ++ zs) (xs ++ (zs ++ ys))
+append_twice xs ys zs = subst (λ (l : List _). IsPermutation l (xs ++ (zs ++ ys))) (sym (append_assoc xs ys zs)) (IsPermutation-append_right xs (ys ++ zs) (zs ++ ys) (IsPermutation-append_comm ys zs))

@@ -1,6 +1,6 @@
 //! The elements of the machine: their lanes, and the tokens that are on their way from one to another.
 
-ghost use Rattle.std.specs.Prelude.{◌≡◌, ℕ, ◌+◌, ◌*◌, ◌<◌, ◌≤◌, ◌^◌, ◌↔◌, IfOk, MatchResult, IsTrue, All, length, map};
+ghost use Rattle.std.specs.Prelude.{◌≡◌, ℕ, ◌+◌, ◌*◌, ◌<◌, ◌≤◌, ◌^◌, ◌↔◌, IfOk, Some, MatchResult, IsTrue, All, length, map};
 ghost use Rattle.tags.specs.declared.slot.SlotState.TheVariants.{Empty};
 ghost use Rattle.element.specs.Held.{held_of, part_of, shape_of};
 ghost use Rattle.lanes.specs.Setting.{Setting};
@@ -8,6 +8,7 @@ ghost use Rattle.lanes.specs.State.{State, AllFrom};
 ghost use Rattle.lanes.specs.Starts.{IsFresh, sized};
 ghost use Rattle.frame_store.specs.BankViews.{bank_states};
 ghost use Rattle.frame_store.specs.Slots.{all_empty};
+ghost use Rattle.frame_manager.specs.Managed.{at_first};
 
 use crate::main_code::MainCode;
 use element::lane::Lane;
@@ -52,6 +53,24 @@ impl<'m, C: MainCode, A: Allocator> Model for Elements<'m, C, A> {
     }) };
 }
 
+// The frame manager of so many frames, on element 0.
+fn manager_at<A: Allocator>(
+    alloc: A,
+    element: u32,
+    frames: u32,
+) -> Result<Option<Manager<A>>, AllocError>
+where
+    A: Clone,
+    requires { 0 < frames }
+    ensures { IfOk result (λ manager. element ≡ 0 → manager ≡ Some (at_first frames)) }
+{
+    if element == 0 {
+        Ok(Some(Manager::new(alloc, frames)?))
+    } else {
+        Ok(None)
+    }
+}
+
 // The lane of an element before the first event.
 fn lane_at<'m, C: MainCode, A: Allocator>(
     alloc: A,
@@ -71,12 +90,7 @@ where
     ensures { IfOk result (λ lane. IsFresh (sized (C.program code.now) elements bank.entry.frames bank.entry.width 0) element (held_of lane)) }
 {
     let cells = Cells::new(alloc.clone()?, code.cells(), element, elements)?;
-    let manager = if element == 0 {
-        let frames = elements * bank.frames() as u32;
-        Some(Manager::new(alloc.clone()?, frames)?)
-    } else {
-        None
-    };
+    let manager = manager_at(alloc.clone()?, element, elements * bank.frames() as u32)?;
     Lane::new(
         alloc,
         element,
