@@ -1,5 +1,6 @@
 pub mod Places
 pub mod Tokens
-pub mod Opening
+pub mod Openings
 pub mod Bounding
 pub mod Stepping
+pub mod Memory

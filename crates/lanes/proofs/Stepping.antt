@@ -17,10 +17,12 @@ use Rattle.element.specs.Steps as one
 use Rattle.element.specs.Steps.{size_of, place_of, HoldsTokens, IsAfter}
 use Rattle.element.proofs.Opening.{others_stay}
 use Rattle.lanes.specs.Setting.{Setting, size, total, IsGoodSetting}
-use Rattle.lanes.specs.State.{State, AllFrom, delivered, tokens_in, IsPlaced, IsSoundState, IsBounded, Stands}
-use Rattle.lanes.specs.Steps.{Does}
+use Rattle.lanes.specs.State.{State, AllFrom, IsAt, delivered, tokens_in, IsPlaced, IsSoundState, IsBounded, Stands}
+use Rattle.element.specs.declared.lane.Stepped.{Stepped}
+use Rattle.element.specs.declared.lane.Stepped.TheVariants.{Idle, Did, Clash, Stuck, Memory}
+use Rattle.lanes.specs.Steps.{Does, Steps, events_of}
 use Rattle.lanes.proofs.Places.{first_get, first_set, from_map, from_weaker, from_both}
-use Rattle.lanes.proofs.Tokens.{IsAt, tokens_delivered, tokens_set, tokens_first, append_twice}
+use Rattle.lanes.proofs.Tokens.{tokens_delivered, tokens_set, tokens_first, append_twice, delivered_none, set_same}
 use Rattle.lanes.proofs.Bounding.{bounded_after}
 
 -- what a placed lane's tokens name
@@ -175,3 +177,41 @@ module _ (old : State) (e pick : ℕ) (lane next : Held) (sent : List Token) (so
     events = refl;
     event = λ m stands. stands_after m stands;
   }
+
+-- THE ANSWERS OF A STEP
+unchanged : (old : State) (e : ℕ) (lane next : Held) (sent : List Token) → slice_get old.lanes e ≡ Some lane → next ≡ lane → sent ≡ [] → (let s : State = record { setting = old.setting; lanes = delivered sent (slice_set old.lanes e next) } in s) ≡ old
+unchanged old e lane next sent there same none =
+    let lanes : delivered sent (slice_set old.lanes e next) ≡ old.lanes = ap (λ (ts : List Token). delivered ts (slice_set old.lanes e next)) none ∙ delivered_none (slice_set old.lanes e next) ∙ ap (λ (h : Held). slice_set old.lanes e h) same ∙ set_same old.lanes e lane there in
+    ap (λ (l : List Held). let s : State = record { setting = old.setting; lanes = l } in s) lanes
+
+one_token : (lane : Held) (pick : ℕ) (t u : Token) → one.Picks lane pick t → one.Picks lane pick u → t ≡ u
+one_token lane pick t u p q = let a = p.token in let b = q.token in cc
+
+pub answered : (old : State) (e pick : ℕ) (lane next : Held) (t : Token) (sent : List Token) (result : Stepped) → IsSoundState old → slice_get old.lanes e ≡ Some lane → 0 < length lane.queue → lane.made < old.setting.steps
+    → one.Picks lane pick t → one.Steps old.setting.program lane pick [] result next sent → IsSoundLane old.setting.program next → next.made ≤ lane.made + 1
+    → (let s : State = record { setting = old.setting; lanes = delivered sent (slice_set old.lanes e next) } in IsSoundState s × Steps old e pick (Some result) s (events_of result e t))
+answered old e pick lane next t sent Idle sound there some few picks step next_sound count = absurd (let l : length lane.queue ≡ 0 = ap (λ (q : List Token). length q) step.0 in omega arith)
+answered old e pick lane next t sent Did sound there some few picks step next_sound count =
+    let most : next.made ≤ old.setting.steps = omega arith in
+    let same : step.token ≡ t = one_token lane pick step.token t step.picks picks in
+    (sound_after old e pick lane next sent sound there step next_sound most,
+     subst (λ (u : Token). Does old e pick (record { setting = old.setting; lanes = delivered sent (slice_set old.lanes e next) }) ((e, u) ∷ [])) same (does old e pick lane next sent sound there step few))
+answered old e pick lane next t sent (Clash cell) sound there some few picks step next_sound count =
+    let same = unchanged old e lane next sent there step.1.held step.1.sent in
+    (subst (λ (s : State). IsSoundState s) (sym same) sound, (lane, (record { there = there }, some, few), step.0), (same, refl))
+answered old e pick lane next t sent (Stuck rule) sound there some few picks step next_sound count =
+    let same = unchanged old e lane next sent there step.1.held step.1.sent in
+    (subst (λ (s : State). IsSoundState s) (sym same) sound, (lane, (record { there = there }, some, few), step.0), (same, refl))
+answered old e pick lane next t sent Memory sound there some few picks step next_sound count =
+    let same = unchanged old e lane next sent there step.1.held step.1.sent in
+    (subst (λ (s : State). IsSoundState s) (sym same) sound, (lane, (record { there = there }, some, few)), (same, refl))
+
+-- nothing happens
+pub is_idle : (old new : State) (e pick : ℕ) (lane : Held) → new ≡ old → slice_get old.lanes e ≡ Some lane → lane.queue ≡ [] → Steps old e pick (Some Idle) new []
+is_idle old new e pick lane same there none = ((lane, record { there = there }, none), (same, refl))
+
+pub is_used_up : (old new : State) (e pick : ℕ) (lane : Held) → new ≡ old → slice_get old.lanes e ≡ Some lane → 0 < length lane.queue → lane.made ≡ old.setting.steps → Steps old e pick None new []
+is_used_up old new e pick lane same there some all = ((lane, record { there = there }, some, all), (same, refl))
+
+pub is_refused : (old new : State) (e pick : ℕ) (lane : Held) → new ≡ old → slice_get old.lanes e ≡ Some lane → 0 < length lane.queue → lane.made < old.setting.steps → Steps old e pick (Some Memory) new []
+is_refused old new e pick lane same there some few = ((lane, (record { there = there }, some, few)), (same, refl))

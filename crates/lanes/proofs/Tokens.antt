@@ -12,7 +12,7 @@ use Rattle.tags.specs.declared.token.To.{To}
 use Rattle.tags.specs.Addresses.{element_of}
 use Rattle.element.specs.Parts.{Shape}
 use Rattle.element.specs.Held.{Held, is_here, here, elsewhere, with_queue, queued}
-use Rattle.lanes.specs.State.{AllFrom, delivered, tokens_in}
+use Rattle.lanes.specs.State.{AllFrom, IsAt, delivered, tokens_in}
 
 pub element_below : (n : ℕ) (to : To) → 0 < n → element_of n to < n
 element_below n (To.Instr f ip p) some = mod-lt f some
@@ -87,10 +87,6 @@ splits_at k n e = by_order (cases_order e k)
         (ap (λ (b : Bool). b && nat_lt e (suc k + n)) (le-leb (suc k) e above))
         (ap (λ (b : Bool). b && nat_lt e (k + suc n)) (le-leb k e over) ∙ ap (λ (m : ℕ). nat_lt e m) same)
         (same_split (nat_lt e (suc k + n)))
-
--- the lane is that of its place, of so many
-abbrev pub IsAt : ℕ → ℕ → Held → Type 0
-IsAt n i h = (h.part.shape.element ≡ i) × (h.part.shape.elements ≡ n)
 
 filter_none : {X : Type 0} (p : X → Bool) → ((x : X) → p x ≡ false) → (xs : List X) → filter p xs ≡ []
 filter_none p h [] = refl

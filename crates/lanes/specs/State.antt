@@ -8,6 +8,7 @@ use Rattle.semantics.specs.Machine.{Machine, Store, Vacant}
 use Rattle.element.specs.declared.lane.Lane.{Lane}
 use Rattle.element.specs.Parts.{IsPart}
 use Rattle.element.specs.Held.{Held, held_of, queued, IsSoundLane}
+use Rattle.lanes.specs.declared.elements.Elements.{Elements}
 use Rattle.lanes.specs.Setting.{Setting, total, IsGoodSetting}
 
 pub record State : Type 0 where
@@ -27,6 +28,10 @@ delivered ts lanes = map (λ (h : Held). queued h ts) lanes
 -- all tokens
 abbrev pub tokens_in : List Held → List Token
 tokens_in lanes = flat_map (λ (h : Held). h.queue) lanes
+
+-- the lane is that of its place, of so many
+abbrev pub IsAt : ℕ → ℕ → Held → Type 0
+IsAt n i h = (h.part.shape.element ≡ i) × (h.part.shape.elements ≡ n)
 
 -- what the lanes hold, with the tokens that are on their way
 abbrev pub lanes_of : {A : Type 0} → List (Lane A) → List Token → List Held
@@ -56,3 +61,14 @@ pub record Stands (s : State) (m : Machine) : Type 0 where
   pub parts : AllFrom (λ (i : ℕ) (h : Held). IsPart h.part m.store) 0 s.lanes
   pub tokens : IsPermutation m.pool (tokens_in s.lanes)
   pub bounded : IsBounded s.setting m.store
+
+-- THE MACHINE IN MEMORY. Tokens that are on their way are seen where they are addressed to.
+abbrev pub state_of : {C A : Type 0} → (C → Program) → (C → ℕ) → Elements C A → State
+state_of program width m = record {
+  setting = record { program = program m.code.now; elements = m.elements; frames = m.frames; width = width m.code.now; steps = m.steps };
+  lanes = lanes_of m.lanes.items (drop m.come m.sent.items);
+}
+
+pub record IsWell {C A : Type 0} (program : C → Program) (width : C → ℕ) (m : Elements C A) : Type 0 where
+  pub come : m.come ≤ length m.sent.items
+  pub sound : IsSoundState (state_of program width m)

@@ -25,6 +25,11 @@ pub record Does (old : State) (e pick : ℕ) (new : State) (evs : Events) : Type
   pub events : evs ≡ (e, step.token) ∷ []
   pub event : (m : Machine) → Stands old m → (n : Machine) × Event old.setting.program (size old.setting) e step.token m n × Stands new n
 
+-- the events that an answer stands for
+abbrev pub events_of : Stepped → ℕ → Token → Events
+events_of Did e t = (e, t) ∷ []
+events_of answer e t = []
+
 -- the lane of the element
 pub record IsLane (s : State) (e : ℕ) (h : Held) : Type 0 where
   pub there : slice_get s.lanes e ≡ Some h

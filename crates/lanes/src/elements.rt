@@ -1,134 +1,95 @@
 //! The elements of the machine: their lanes, and the tokens that are on their way from one to another.
 
-ghost use Rattle.std.specs.Prelude.{◌≡◌, ℕ, ◌+◌, ◌*◌, ◌<◌, ◌≤◌, ◌^◌, ◌↔◌, IfOk, Some, MatchResult, IsTrue, All, length, map};
-ghost use Rattle.tags.specs.declared.slot.SlotState.TheVariants.{Empty};
-ghost use Rattle.element.specs.Held.{held_of, part_of, shape_of};
-ghost use Rattle.lanes.specs.Setting.{Setting};
-ghost use Rattle.lanes.specs.State.{State, AllFrom};
-ghost use Rattle.lanes.specs.Starts.{IsFresh, sized};
-ghost use Rattle.frame_store.specs.BankViews.{bank_states};
-ghost use Rattle.frame_store.specs.Slots.{all_empty};
-ghost use Rattle.frame_manager.specs.Managed.{at_first};
+ghost use Rattle.std.specs.Prelude.{◌≡◌, ℕ, ◌<◌, [], ◌++◌, length, Some, true, false, slice_get};
+ghost use Rattle.semantics.specs.Machine.{Events};
+ghost use Rattle.element.specs.Held.{Held};
+ghost use Rattle.lanes.specs.State.{state_of, IsWell};
+ghost use Rattle.lanes.specs.Steps.{Steps};
 
+use crate::delivery::{deliver, has_token_for};
+use crate::log::{Log, note};
 use crate::main_code::MainCode;
-use element::lane::Lane;
-use frame_manager::Manager;
-use frame_store::bank::BankMut;
-use frame_store::store::Store;
-use istructure::Cells;
-use std::alloc::{AllocError, Allocator};
-use std::marker::Model;
+use element::lane::{Lane, Stepped};
+use std::alloc::Allocator;
 use tags::token::Token;
 
-/// The lanes of all elements, and the tokens that are on their way. Contracts see each of these where it is addressed to.
+/// The lanes of all elements, and the tokens that are on their way.
 #[derive(Drop)]
 pub struct Elements<'m, C: MainCode, A: Allocator> {
-    code: &'m C,
-    elements: u32,
-    frames: u32,
+    pub code: &'m C,
+    pub elements: u32,
+    pub frames: u32,
     /// How many events each element may make.
-    steps: u64,
-    lanes: Vec<Lane<'m, A>, A>,
+    pub steps: u64,
+    pub lanes: Vec<Lane<'m, A>, A>,
     /// The tokens that the last event made for other elements.
-    sent: Vec<Token, A>,
+    pub sent: Vec<Token, A>,
     /// How many of these have come.
-    come: usize,
+    pub come: usize,
 }
 
-impl<'m, C: MainCode, A: Allocator> Model for Elements<'m, C, A> {
-    ghost use Rattle.std.specs.Prelude.{◌≡◌, ◌≤◌, drop, length, map};
-    ghost use Rattle.element.specs.Held.{held_of};
-    ghost use Rattle.lanes.specs.State.{State, delivered, IsSoundState};
-
-    ghost Value = { State };
-
-    ghost view = { λ m. record {
-        setting = record { program = C.program m.code.now; elements = m.elements; frames = m.frames; width = C.width m.code.now; steps = m.steps };
-        lanes = delivered (drop m.come m.sent.items) (map held_of m.lanes.items);
-    } };
-
-    ghost invariant = { λ m. (m.come ≤ length m.sent.items) × IsSoundState (record {
-        setting = record { program = C.program m.code.now; elements = m.elements; frames = m.frames; width = C.width m.code.now; steps = m.steps };
-        lanes = delivered (drop m.come m.sent.items) (map held_of m.lanes.items);
-    }) };
-}
-
-// The frame manager of so many frames, on element 0.
-fn manager_at<A: Allocator>(
-    alloc: A,
-    element: u32,
-    frames: u32,
-) -> Result<Option<Manager<A>>, AllocError>
-where
-    A: Clone,
-    requires { 0 < frames }
-    ensures { IfOk result (λ manager. element ≡ 0 → manager ≡ Some (at_first frames)) }
-{
-    if element == 0 {
-        Ok(Some(Manager::new(alloc, frames)?))
-    } else {
-        Ok(None)
+impl<'m, C: MainCode, A: Allocator> Elements<'m, C, A> {
+    // Whether the element has a token.
+    fn has_token(&self, element: u32) -> bool
+        requires well { IsWell C.program C.width self.now }
+        requires element { element < self.now.elements }
+        ensures yes { result ≡ true → (h : Held) → slice_get (state_of C.program C.width self.now).lanes element ≡ Some h → 0 < length h.queue }
+        ensures no { result ≡ false → (h : Held) → slice_get (state_of C.program C.width self.now).lanes element ≡ Some h → h.queue ≡ [] }
+    {
+        let waiting = self.lanes[element as usize].queue.len();
+        waiting != 0 || has_token_for(&self.sent, self.come, self.elements, element)
     }
-}
 
-// The lane of an element before the first event.
-fn lane_at<'m, C: MainCode, A: Allocator>(
-    alloc: A,
-    element: u32,
-    elements: u32,
-    bank: BankMut<'m>,
-    code: &C,
-) -> Result<Lane<'m, A>, AllocError>
-where
-    A: Clone,
-    requires there { element < elements }
-    requires few { elements ≤ 16 }
-    requires some_frames { 0 < bank.frames }
-    requires few_frames { bank.frames ≤ 1024 }
-    requires bank { bank.start + bank.frames * bank.width ≤ length (bank_states bank) }
-    requires empty { All (λ s. s ≡ Empty) (bank_states bank) }
-    ensures { IfOk result (λ lane. IsFresh (sized (C.program code.now) elements bank.entry.frames bank.entry.width 0) element (held_of lane)) }
-{
-    let cells = Cells::new(alloc.clone()?, code.cells(), element, elements)?;
-    let manager = manager_at(alloc.clone()?, element, elements * bank.frames() as u32)?;
-    Lane::new(
-        alloc,
-        element,
-        elements,
-        bank,
-        cells,
-        manager,
-        code.outputs(),
-    )
-}
-
-// The lanes of all elements before the first event.
-fn fresh_lanes<'m, C: MainCode, A: Allocator>(
-    alloc: A,
-    store: &'m mut Store<A>,
-    code: &C,
-) -> Result<Vec<Lane<'m, A>, A>, AllocError>
-where
-    A: Clone,
-    requires some { 0 < store.old.elements }
-    requires few { store.old.elements ≤ 16 }
-    requires some_frames { 0 < store.old.frames }
-    requires few_frames { store.old.frames ≤ 1024 }
-    requires empty { store.old ≡ all_empty store.old.elements store.old.frames store.old.width }
-    requires some_slots { 0 < store.old.width }
-    requires few_slots { store.old.width ≤ 512 }
-    ensures count { IfOk result (λ lanes. length lanes.items ≡ store.old.elements) }
-    ensures fresh { IfOk result (λ lanes. AllFrom (IsFresh (sized (C.program code.now) store.old.elements store.old.frames store.old.width 0)) 0 (map held_of lanes.items)) }
-{
-    let elements = store.elements() as u32;
-    let mut lanes = Vec::with_capacity(alloc.clone()?, elements as usize)?;
-    let mut banks = store.banks();
-    for element in 0..elements {
-        let Some(bank) = banks.next() else {
+    // A step of an element that has a token and may make an event, with no token on its way.
+    fn step_lane<L: Log>(&mut self, element: u32, pick: u64, log: &mut L) -> Stepped
+    where
+        A: Clone,
+        requires well { IsWell C.program C.width self.old }
+        requires element { element < self.old.elements }
+        requires sent { self.old.sent.items ≡ [] }
+        requires come { self.old.come ≡ 0 }
+        requires some { (h : Held) → slice_get (state_of C.program C.width self.old).lanes element ≡ Some h → 0 < length h.queue }
+        requires few { (h : Held) → slice_get (state_of C.program C.width self.old).lanes element ≡ Some h → h.made < self.old.steps }
+        ensures well { IsWell C.program C.width self.new }
+        ensures exact { (events : Events) × Steps (state_of C.program C.width self.old) element pick (Some result) (state_of C.program C.width self.new) events × ((before : Events) → L.noted log.old before → L.noted log.new (before ++ events)) }
+    {
+        if log.make_room().is_err() {
+            return Stepped::Memory;
+        }
+        let lane = &mut self.lanes[element as usize];
+        let Some(token) = lane.token(pick) else {
             unreachable!()
         };
-        let lane = lane_at(alloc.clone()?, element, elements, bank, code)?;
-        lanes.push(lane)?;
+        let stepped = lane.step(pick, self.code, &mut self.sent);
+        note(log, element, token, stepped);
+        stepped
     }
-    Ok(lanes)
+
+    /// The element takes the token that `pick`, modulo the number of its tokens, names from the oldest on; `None` where it
+    /// has a token and has made all its events.
+    pub fn step<L: Log>(&mut self, element: u32, pick: u64, log: &mut L) -> Option<Stepped>
+    where
+        A: Clone,
+        requires well { IsWell C.program C.width self.old }
+        requires element { element < self.old.elements }
+        ensures well { IsWell C.program C.width self.new }
+        ensures exact { (events : Events) × Steps (state_of C.program C.width self.old) element pick result (state_of C.program C.width self.new) events × ((before : Events) → L.noted log.old before → L.noted log.new (before ++ events)) }
+    {
+        let came = deliver(
+            &mut self.lanes,
+            self.elements,
+            &mut self.sent,
+            &mut self.come,
+        );
+        if !self.has_token(element) {
+            return Some(Stepped::Idle);
+        }
+        if self.lanes[element as usize].made == self.steps {
+            return None;
+        }
+        if came.is_err() {
+            return Some(Stepped::Memory);
+        }
+        Some(self.step_lane(element, pick, log))
+    }
 }

@@ -3,5 +3,8 @@
 #![tactic(auto)]
 
 pub mod config;
+mod delivery;
 pub mod elements;
+mod log;
 pub mod main_code;
+mod opening;

@@ -7,8 +7,8 @@ use Rattle.frame_store.specs.BankViews.{bank_states}
 use Rattle.istructure.specs.OwnCells.{all_vacant}
 use Rattle.frame_manager.specs.Managed.{at_first}
 use Rattle.lanes.specs.Starts.{IsFresh, sized}
-use Rattle.lanes.proofs.Opening.{fresh, both_ok}
-use Rattle.lanes.proofs.elements.lane_at.Goals as goal
+use Rattle.lanes.proofs.Openings.{fresh, both_ok}
+use Rattle.lanes.proofs.opening.lane_at.Goals as goal
 
 pub returns : goal.returns
 returns g c =

@@ -11,9 +11,9 @@ use Rattle.frame_store.specs.Banked.{left_of, size_of}
 use Rattle.frame_store.specs.Slots.{Slots}
 use Rattle.lanes.specs.State.{AllFrom}
 use Rattle.lanes.specs.Starts.{IsFresh, sized}
-use Rattle.lanes.proofs.Opening.{bank_states_are, banks_left, banks_come}
+use Rattle.lanes.proofs.Openings.{bank_states_are, banks_left, banks_come}
 use Rattle.lanes.proofs.Places.{from_push}
-use Rattle.lanes.proofs.elements.fresh_lanes.Goals as goal
+use Rattle.lanes.proofs.opening.fresh_lanes.Goals as goal
 
 pub loop-element-init-derived : goal.loop-element-init-derived
 loop-element-init-derived g c =

@@ -5,7 +5,7 @@ use Rattle.element.specs.Held.{held_of}
 use Rattle.frame_store.specs.Banked.{left_of, size_of}
 use Rattle.lanes.specs.State.{AllFrom}
 use Rattle.lanes.specs.Starts.{IsFresh, sized}
-use Rattle.lanes.proofs.elements.fresh_lanes.Given as goal
+use Rattle.lanes.proofs.opening.fresh_lanes.Given as goal
 
 abbrev pub invariant-loop-element : goal.invariant-loop-element
 invariant-loop-element g l = record {
