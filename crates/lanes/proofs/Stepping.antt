@@ -198,13 +198,13 @@ answered old e pick lane next t sent Did sound there some few picks step next_so
      subst (λ (u : Token). Does old e pick (record { setting = old.setting; lanes = delivered sent (slice_set old.lanes e next) }) ((e, u) ∷ [])) same (does old e pick lane next sent sound there step few))
 answered old e pick lane next t sent (Clash cell) sound there some few picks step next_sound count =
     let same = unchanged old e lane next sent there step.1.held step.1.sent in
-    (subst (λ (s : State). IsSoundState s) (sym same) sound, (lane, (record { there = there }, some, few), step.0), (same, refl))
+    (subst (λ (s : State). IsSoundState s) (sym same) sound, ((lane, (record { there = there }, some, few), step.0), (same, refl)))
 answered old e pick lane next t sent (Stuck rule) sound there some few picks step next_sound count =
     let same = unchanged old e lane next sent there step.1.held step.1.sent in
-    (subst (λ (s : State). IsSoundState s) (sym same) sound, (lane, (record { there = there }, some, few), step.0), (same, refl))
+    (subst (λ (s : State). IsSoundState s) (sym same) sound, ((lane, (record { there = there }, some, few), step.0), (same, refl)))
 answered old e pick lane next t sent Memory sound there some few picks step next_sound count =
     let same = unchanged old e lane next sent there step.1.held step.1.sent in
-    (subst (λ (s : State). IsSoundState s) (sym same) sound, (lane, (record { there = there }, some, few)), (same, refl))
+    (subst (λ (s : State). IsSoundState s) (sym same) sound, ((lane, (record { there = there }, some, few)), (same, refl)))
 
 -- nothing happens
 pub is_idle : (old new : State) (e pick : ℕ) (lane : Held) → new ≡ old → slice_get old.lanes e ≡ Some lane → lane.queue ≡ [] → Steps old e pick (Some Idle) new []
