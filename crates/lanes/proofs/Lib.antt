@@ -4,3 +4,5 @@ pub mod Openings
 pub mod Bounding
 pub mod Stepping
 pub mod Memory
+pub mod Starting
+pub mod Playing

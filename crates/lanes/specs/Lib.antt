@@ -1,4 +1,5 @@
 pub mod Setting
 pub mod State
-pub mod Starts
 pub mod Steps
+pub mod Runs
+pub mod Starts

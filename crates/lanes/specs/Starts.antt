@@ -1,14 +1,21 @@
 -- How the machine starts, and why it does not.
-use Rattle.std.specs.Prelude.{◌≡◌, ◌≢◌, ℕ, ◌<◌, ◌≤◌, ◌^◌, ℤ, List, [], length}
+use Rattle.std.specs.Prelude.{◌≡◌, ◌≢◌, ℕ, ◌+◌, ◌<◌, ◌≤◌, ◌^◌, ℤ, List, [], ◌∷◌, length}
 use Rattle.semantics.specs.Program.{Program}
-use Rattle.semantics.specs.Machine.{at_start}
+use Rattle.tags.specs.declared.token.Port.TheVariants.{Left}
+use Rattle.tags.specs.declared.token.Cont.{Cont}
+use Rattle.tags.specs.declared.token.Word.{Word}
+use Rattle.tags.specs.declared.token.To.{To}
+use Rattle.tags.specs.declared.token.Token.{Token}
+use Rattle.semantics.specs.Rule.{token}
+use Rattle.semantics.specs.Machine.{input_tokens}
 use Rattle.element.specs.Held.{Held, IsSoundLane}
 use Rattle.element.specs.Openings.{StartsAs}
 use Rattle.lanes.specs.declared.config.Config.{Config}
 use Rattle.lanes.specs.declared.config.StartFault.{StartFault}
 use Rattle.lanes.specs.declared.config.StartFault.TheVariants.{WrongInputs, NoFrames, BadConfig, Memory}
 use Rattle.lanes.specs.Setting.{Setting, inputs_of}
-use Rattle.lanes.specs.State.{State, AllFrom, Stands}
+use Rattle.lanes.specs.State.{IsSoundState}
+use Rattle.lanes.specs.Runs.{Kept, Began}
 
 pub record IsGood (c : Config) : Type 0 where
   pub elements : 1 ≤ c.elements
@@ -21,14 +28,19 @@ pub record IsGood (c : Config) : Type 0 where
 abbrev pub setting_of : Program → ℕ → Config → Setting
 setting_of p width c = record { program = p; elements = c.elements; frames = c.frames; width = width; steps = c.steps }
 
+-- The tokens at the start: the continuation of the host goes to main's first instruction, and each input to the next ones.
+abbrev pub start_tokens : ℕ → List ℤ → List Token
+start_tokens first inputs = token (To.Instr 0 first Left) (Word.Back (Cont.Host 0)) ∷ input_tokens (first + 1) inputs
+
 -- The machine is as at the start on these inputs, and no element has made an event.
-pub record Opens (p : Program) (width : ℕ) (c : Config) (inputs : List ℤ) (s : State) : Type 0 where
+pub record Opens (p : Program) (width : ℕ) (c : Config) (inputs : List ℤ) (m : Kept) : Type 0 where
   pub arity : length inputs ≡ inputs_of p
   pub some_frame : 0 < c.frames
   pub good : IsGood c
-  pub setting : s.setting ≡ setting_of p width c
-  pub machine : Stands s (at_start p inputs)
-  pub none_made : AllFrom (λ (i : ℕ) (h : Held). h.made ≡ 0) 0 s.lanes
+  pub setting : m.state.setting ≡ setting_of p width c
+  pub sound : IsSoundState m.state
+  pub began : Began inputs m.state m.events
+  pub events : m.events ≡ []
 
 -- A lane with no tokens that is its element's part of the machine at the start
 pub record IsFresh (g : Setting) (i : ℕ) (h : Held) : Type 0 where

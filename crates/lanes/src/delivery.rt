@@ -10,8 +10,8 @@ use element::lane::Lane;
 use std::alloc::{AllocError, Allocator};
 use tags::token::Token;
 
-// Puts a token into the lane of its element. After an error all stands as before.
-fn receive<A: Allocator>(
+/// Puts a token into the lane of its element. After an error all stands as before.
+pub fn receive<A: Allocator>(
     lanes: &mut Vec<Lane<'_, A>, A>,
     elements: u32,
     token: Token,

@@ -4,7 +4,9 @@
 
 pub mod config;
 mod delivery;
-pub mod elements;
+mod elements;
+pub mod halt;
 mod log;
+pub mod machine;
 pub mod main_code;
 mod opening;
