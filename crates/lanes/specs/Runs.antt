@@ -1,5 +1,5 @@
 -- What a run does.
-use Rattle.std.specs.Prelude.{◌≡◌, ℕ, zero, suc, ◌<◌, Bool, true, false, ◌⊎◌, ℤ, List, [], ◌∷◌, ◌++◌, length, Option, Some, None, ◌==◌, count_by}
+use Rattle.std.specs.Prelude.{◌≡◌, ℕ, zero, suc, ◌+◌, ◌-◌, ◌<◌, Bool, true, false, ◌⊎◌, ℤ, List, [], ◌∷◌, ◌++◌, length, Option, Some, None, ◌==◌, count_by}
 use Rattle.tags.specs.declared.token.Token.{Token}
 use Rattle.semantics.specs.Machine.{Machine, Events, Run, at_start}
 use Rattle.element.specs.declared.lane.Stepped.{Stepped}
@@ -68,3 +68,11 @@ in_turn k (suc n) = (k, 0) ∷ in_turn (suc k) n
 abbrev pub rounds_of : ℕ → ℕ → List (ℕ × ℕ)
 rounds_of zero n = []
 rounds_of (suc r) n = in_turn 0 n ++ rounds_of r n
+
+-- how many events lanes may still make
+abbrev pub left_in : ℕ → List Held → ℕ
+left_in steps [] = 0
+left_in steps (h ∷ hs) = (steps - h.made) + left_in steps hs
+
+abbrev pub left_over : State → ℕ
+left_over s = left_in s.setting.steps s.lanes

@@ -166,7 +166,7 @@ impl<'m, C: MainCode, A: Allocator> Elements<'m, C, A> {
         ensures well { IsWell C.program C.width self.new }
         ensures exact { (rounds : ℕ) × (events : Events) × Plays false (rounds_of rounds self.old.elements) (state_of C.program C.width self.old) (state_of C.program C.width self.new) result events × ((before : Events) → L.noted log.old before → L.noted log.new (before ++ events)) }
     {
-        loop {
+        'passes: loop {
             for element in 0..self.elements {
                 match self.advance(false, element, 0, log) {
                     None => {}
