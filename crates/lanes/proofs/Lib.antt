@@ -6,3 +6,5 @@ pub mod Stepping
 pub mod Memory
 pub mod Starting
 pub mod Playing
+pub mod Ending
+pub mod Sums

@@ -64,7 +64,7 @@ delivered_sound s ts near sound = record {
 }
 
 -- one lane is another, and what holds of the others may change
-set_others : (P Q : ℕ → Held → Type 0) (e : ℕ) → ((i : ℕ) (h : Held) → i ≢ e → P i h → Q i h) → (k : ℕ) (xs : List Held) (i : ℕ) (x : Held) → e ≡ k + i → AllFrom P k xs → Q e x → AllFrom Q k (slice_set xs i x)
+pub set_others : (P Q : ℕ → Held → Type 0) (e : ℕ) → ((i : ℕ) (h : Held) → i ≢ e → P i h → Q i h) → (k : ℕ) (xs : List Held) (i : ℕ) (x : Held) → e ≡ k + i → AllFrom P k xs → Q e x → AllFrom Q k (slice_set xs i x)
 set_others P Q e step k [] i x is all q = tt
 set_others P Q e step k (y ∷ ys) zero x is all q =
     let here : e ≡ k = omega arith in

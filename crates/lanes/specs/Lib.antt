@@ -3,3 +3,4 @@ pub mod State
 pub mod Steps
 pub mod Runs
 pub mod Starts
+pub mod Told

@@ -8,7 +8,7 @@ use Rattle.element.specs.Held.{Held}
 use Rattle.lanes.specs.declared.halt.Halt.{Halt}
 use Rattle.lanes.specs.Setting.{size}
 use Rattle.lanes.specs.State.{State, AllFrom, tokens_in, Stands}
-use Rattle.lanes.specs.Steps.{Steps}
+use Rattle.lanes.specs.Steps.{Steps, IsClash, IsUsedUp, IsStuckAt}
 
 -- the machine and what happened so far
 pub record Kept : Type 0 where
@@ -76,3 +76,11 @@ left_in steps (h ∷ hs) = (steps - h.made) + left_in steps hs
 
 abbrev pub left_over : State → ℕ
 left_over s = left_in s.setting.steps s.lanes
+
+-- why a run halts here
+abbrev pub HaltsAs : State → Bool → Halt → Type 0
+HaltsAs s listed Halt.NoToken = tokens_in s.lanes ≡ []
+HaltsAs s listed (Halt.Clash cell) = (e : ℕ) × (pick : ℕ) × IsClash s e pick cell
+HaltsAs s listed Halt.Steps = ((e : ℕ) × IsUsedUp s e) ⊎ ((listed ≡ true) × HasToken s)
+HaltsAs s listed (Halt.Stuck rule) = (e : ℕ) × (pick : ℕ) × IsStuckAt s e pick rule
+HaltsAs s listed Halt.Memory = Unit {0}

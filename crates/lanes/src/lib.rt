@@ -3,6 +3,7 @@
 #![tactic(auto)]
 
 pub mod config;
+mod counting;
 mod delivery;
 mod elements;
 pub mod halt;
@@ -10,3 +11,4 @@ mod log;
 pub mod machine;
 pub mod main_code;
 mod opening;
+pub mod report;

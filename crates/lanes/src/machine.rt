@@ -1,17 +1,19 @@
 //! The machine: its start, its steps, and its runs.
 
-ghost use Rattle.std.specs.Prelude.{◌≡◌, ℤ, List, ◌<◌, ◌≤◌, ◌^◌, ◌↔◌, ◌∷◌, ◌++◌, [], length, map, All, IfOk, OnOk, MatchResult, IsTrue};
+ghost use Rattle.std.specs.Prelude.{◌≡◌, ℕ, ℤ, List, true, false, ◌<◌, ◌≤◌, ◌^◌, ◌↔◌, ◌∷◌, ◌++◌, [], length, map, All, IfOk, OnOk, MatchResult, IsTrue};
 ghost use Rattle.semantics.specs.Machine.{Events};
 ghost use Rattle.element.specs.Held.{held_of};
 ghost use Rattle.lanes.specs.Setting.{inputs_of};
 ghost use Rattle.lanes.specs.State.{AllFrom, IsAt, delivered};
 ghost use Rattle.lanes.specs.Starts.{IsGood, IsCause, Opens, setting_of, start_tokens};
 ghost use Rattle.lanes.specs.Steps.{Steps};
-ghost use Rattle.lanes.specs.Runs.{Kept, Began};
+ghost use Rattle.lanes.specs.Runs.{Kept, Began, Plays, HaltsAs, rounds_of};
 
 use crate::config::{Config, StartFault};
 use crate::delivery::receive;
 use crate::elements::Elements;
+use crate::halt::Halt;
+use crate::log::NoLog;
 use crate::main_code::MainCode;
 use crate::opening::fresh_lanes;
 use element::lane::{Lane, Stepped};
@@ -176,5 +178,74 @@ impl<'m, C: MainCode, A: Allocator> Machine<'m, C, A> {
         ensures { (made : Events) × Steps self.old.state element pick result self.new.state made × (self.new.events ≡ self.old.events ++ made) }
     {
         self.elements.step(element, pick, &mut self.events)
+    }
+
+    /// Makes one step for each element and pick of the list, in order, and answers why it makes no more. It stops early
+    /// where no token is left, where a token stores in a full cell or is excluded, and for want of memory; an element that
+    /// has made all its events is passed over. The answer is `Steps` where the list ends with a token left.
+    pub fn play(&mut self, picks: &[(u32, u64)]) -> Halt
+    where
+        A: Clone,
+        requires { All (λ pick. pick.0 < self.old.state.setting.elements) picks.now }
+        ensures plays { (made : Events) × Plays true picks.now self.old.state self.new.state result made × (self.new.events ≡ self.old.events ++ made) }
+        ensures began { (inputs : List ℤ) → Began inputs self.old.state self.old.events → Began inputs self.new.state self.new.events }
+        ensures halts { HaltsAs self.new.state true result }
+    {
+        self.elements.play(picks, &mut self.events)
+    }
+
+    /// Makes one step after another, each with the oldest token of an element, the elements in turn, and answers why it
+    /// makes no more. It stops where no token is left, where a token stores in a full cell or is excluded, for want of
+    /// memory, and at the first element that has a token and has made all its events.
+    pub fn play_in_turn(&mut self) -> Halt
+    where
+        A: Clone,
+        ensures plays { (rounds : ℕ) × (made : Events) × Plays false (rounds_of rounds self.old.state.setting.elements) self.old.state self.new.state result made × (self.new.events ≡ self.old.events ++ made) }
+        ensures began { (inputs : List ℤ) → Began inputs self.old.state self.old.events → Began inputs self.new.state self.new.events }
+        ensures halts { HaltsAs self.new.state false result }
+    {
+        self.elements.play_in_turn(&mut self.events)
+    }
+
+    /// The same machine without the list of its events.
+    pub fn without_events(self) -> Quiet<'m, C, A>
+        ensures { result ≡ self.entry.state }
+    {
+        let Machine {
+            elements,
+            events: _,
+            alloc,
+        } = self;
+        Quiet { elements, alloc }
+    }
+}
+
+/// A machine that keeps no list of its events: it takes no more memory for a long run than for a short one. Contracts see
+/// what its lanes hold.
+#[derive(Drop)]
+pub struct Quiet<'m, C: MainCode, A: Allocator> {
+    elements: Elements<'m, C, A>,
+    alloc: A,
+}
+
+impl<'m, C: MainCode, A: Allocator> Model for Quiet<'m, C, A> {
+    ghost use Rattle.lanes.specs.State.{State, state_of, IsWell};
+
+    ghost Value = { State };
+
+    ghost view = { λ m. state_of C.program C.width m.elements };
+
+    ghost invariant = { λ m. IsWell C.program C.width m.elements };
+}
+
+impl<'m, C: MainCode, A: Allocator> Quiet<'m, C, A> {
+    /// As `Machine::play_in_turn`: there is a run with the events that it made.
+    pub fn play_in_turn(&mut self) -> Halt
+    where
+        A: Clone,
+        ensures plays { (rounds : ℕ) × (made : Events) × Plays false (rounds_of rounds self.old.setting.elements) self.old self.new result made × ((inputs : List ℤ) (before : Events) → Began inputs self.old before → Began inputs self.new (before ++ made)) }
+        ensures halts { HaltsAs self.new false result }
+    {
+        self.elements.play_in_turn(&mut NoLog)
     }
 }
