@@ -1,12 +1,16 @@
 //! The elements of the machine: their lanes, and the tokens that are on their way from one to another.
 
-ghost use Rattle.std.specs.Prelude.{◌≡◌, ℕ, ◌<◌, [], ◌++◌, length, All, Some, true, false, slice_get};
+ghost use Rattle.std.specs.Prelude.{◌≡◌, ℕ, ◌<◌, [], ◌++◌, length, map, All, Some, true, false, slice_get};
 ghost use Rattle.semantics.specs.Machine.{Events};
-ghost use Rattle.element.specs.Held.{Held};
+ghost use Rattle.semantics.specs.Report.{sum_below};
+ghost use Rattle.element.specs.Held.{Held, held_of};
+ghost use Rattle.lanes.specs.Setting.{total};
+ghost use Rattle.lanes.specs.Told.{credits_below};
 ghost use Rattle.lanes.specs.State.{state_of, IsWell, tokens_in};
 ghost use Rattle.lanes.specs.Steps.{Steps};
 ghost use Rattle.lanes.specs.Runs.{HasToken, Advances, Plays, rounds_of};
 
+use crate::counting::credits_in;
 use crate::delivery::{deliver, has_token_for};
 use crate::halt::Halt;
 use crate::log::{Log, note};
@@ -174,5 +178,19 @@ impl<'m, C: MainCode, A: Allocator> Elements<'m, C, A> {
                 }
             }
         }
+    }
+
+    // How many requests for credits wait.
+    fn credits(&self) -> u64
+        requires { IsWell C.program C.width self.now }
+        ensures { result ≡ sum_below (total (state_of C.program C.width self.now).setting) (λ f. credits_below self.now.elements (map held_of self.now.lanes.items) (C.width self.now.code.now) f) }
+    {
+        let width = self.code.slots();
+        let mut count: u64 = 0;
+        for frame in 0..self.elements * self.frames {
+            let lane = &self.lanes[(frame % self.elements) as usize];
+            count += credits_in(lane, self.elements, frame, width);
+        }
+        count
     }
 }
