@@ -9,3 +9,4 @@ pub mod Playing
 pub mod Ending
 pub mod Sums
 pub mod Pictures
+pub mod Showing

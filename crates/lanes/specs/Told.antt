@@ -62,3 +62,10 @@ pub record Tells (g : Setting) (lanes : List Held) (first : Held) (r : Report) :
   pub requests : r.waiting_frames ≡ requests_in first.part.manager
   pub credits : r.waiting_credits ≡ sum_below (total g) (λ f. credits_below g.elements lanes g.width f)
   pub out : r.frames_out ≡ out_in first.part.manager
+
+-- the same of what a report is made of
+abbrev pub TellsLanes : Setting → List Held → List (Option Value) → List (ℕ × Value) → ℕ → ℕ → ℕ → ℕ → Type 0
+TellsLanes g lanes outputs cells deferred requests credits out =
+    (first : Held) × (slice_get lanes 0 ≡ Some first) × (outputs ≡ first.part.outputs) × (cells ≡ full_below g.elements lanes (sum g.program.arrays))
+    × (deferred ≡ sum_below (sum g.program.arrays) (λ x. cell_readers g.elements lanes x)) × (requests ≡ requests_in first.part.manager)
+    × (credits ≡ sum_below (total g) (λ f. credits_below g.elements lanes g.width f)) × (out ≡ out_in first.part.manager)
