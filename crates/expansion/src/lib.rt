@@ -1,0 +1,4 @@
+//! The compiler's first pass, for every kind of node.
+#![tactic(auto)]
+
+mod flow;
