@@ -1,4 +1,5 @@
 //! The compiler's first pass, for every kind of node.
 #![tactic(auto)]
 
+mod builder;
 mod flow;
