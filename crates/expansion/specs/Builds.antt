@@ -1,8 +1,9 @@
 -- The code of a block as it grows.
-use Rattle.std.specs.Prelude.{ℕ, ◌+◌, ◌-◌, Bool, true, false, not, ◌||◌, List, [], ◌∷◌, ◌++◌, length, slice_set, slice_index_or, if◌then◌else◌}
+use Rattle.std.specs.Prelude.{ℕ, zero, suc, ◌+◌, ◌-◌, Bool, true, false, not, ◌||◌, List, [], ◌∷◌, ◌++◌, length, slice_set, slice_index_or, if◌then◌else◌}
 use Rattle.tags.specs.declared.value.Origin.{Origin}
 use Rattle.tags.specs.declared.value.Origin.TheVariants.{Untold}
 use Rattle.tags.specs.declared.token.Port.{Port}
+use Rattle.tags.specs.declared.token.Port.TheVariants.{Left, Right}
 use Rattle.semantics.specs.declared.graph.Region.{Region}
 use Rattle.semantics.specs.declared.graph.Region.TheVariants.{Root, Arm}
 use Rattle.semantics.specs.declared.graph.Source.{Source}
@@ -93,3 +94,32 @@ trigger_of b (Arm k side) = outlet (exit_at b k).place 0 (not side)
 
 abbrev pub exited : Build → Outlet → Build
 exited b o = record b { exits = b.exits ++ o ∷ [] }
+
+-- SMALL PARTS. An instruction whose left port takes what leaves there.
+abbrev pub behind : Build → Outlet → Op → Region → Build
+behind b from op region = connected (quieted b op region) from (length b.instrs) Left
+
+-- an instruction at which two words meet
+abbrev pub meeting : Build → Op → Mark → Region → Outlet → Outlet → Build
+meeting b op mark region left right = connected (connected (added b op Untold mark region) left (length b.instrs) Left) right (length b.instrs) Right
+
+abbrev pub side : ℕ → Port
+side zero = Left
+side (suc n) = Right
+
+-- the sources of an instruction, from a first position on
+abbrev pub operands : Build → ℕ → ℕ → List Source → Build
+operands b place from [] = b
+operands b place from (s ∷ ss) = operands (connected b (outlet_of b s) place (side from)) place (from + 1) ss
+
+abbrev pub alternatives : Build → ℕ → List Source → Build
+alternatives b place [] = b
+alternatives b place (s ∷ ss) = alternatives (connected b (outlet_of b s) place Left) place ss
+
+abbrev pub copies : Build → Region → ℕ → Build
+copies b region zero = b
+copies b region (suc n) = quieted (copies b region n) Copy region
+
+abbrev pub first_source : List Source → Source
+first_source [] = record { node = 0; port = 0 }
+first_source (s ∷ ss) = s

@@ -1,2 +1,5 @@
 pub mod Flows
 pub mod Builds
+pub mod UseCounts
+pub mod Rows
+pub mod Tails

@@ -257,3 +257,103 @@ impl<A: Allocator + Clone> Builder<A> {
         Ok(())
     }
 }
+
+impl<A: Allocator + Clone> Builder<A> {
+    /// Adds an instruction whose left port takes what leaves there, and answers its place.
+    pub fn behind(&mut self, from: Outlet, op: Op, region: Region) -> Result<u32, AllocError>
+        requires room { length self.old.instrs < 2 ^ 31 }
+        ensures place { IfOk result (λ p. p ≡ length self.old.instrs) }
+        ensures exact { OnOk result (self.new ≡ Builds.behind self.old from op region) }
+        ensures longer { OnOk result (length self.new.instrs ≡ length self.old.instrs + 1) }
+    {
+        let place = self.quiet(op, region)?;
+        self.connect(from, place, Port::Left)?;
+        Ok(place)
+    }
+
+    /// Adds an instruction at which two words meet, and answers its place.
+    pub fn meet(
+        &mut self,
+        op: Op,
+        mark: Mark,
+        region: Region,
+        left: Outlet,
+        right: Outlet,
+    ) -> Result<u32, AllocError>
+        requires room { length self.old.instrs < 2 ^ 31 }
+        ensures place { IfOk result (λ p. p ≡ length self.old.instrs) }
+        ensures exact { OnOk result (self.new ≡ Builds.meeting self.old op mark region left right) }
+        ensures longer { OnOk result (length self.new.instrs ≡ length self.old.instrs + 1) }
+    {
+        let place = self.add(op, Origin::Untold, mark, region)?;
+        self.connect(left, place, Port::Left)?;
+        self.connect(right, place, Port::Right)?;
+        Ok(place)
+    }
+
+    /// Lets output ports go to the two ports of the instruction at a place, the first one to the left one.
+    pub fn operands(&mut self, place: u32, sources: &[Source]) -> Result<(), AllocError>
+        ensures exact { OnOk result (self.new ≡ Builds.operands self.old place 0 sources.now) }
+        ensures same { OnOk result (length self.new.instrs ≡ length self.old.instrs) }
+    {
+        for (position, source) in sources.iter().enumerate() {
+            let outlet = self.outlet(*source);
+            self.connect(outlet, place, side(position))?;
+        }
+        Ok(())
+    }
+
+    /// Lets output ports all go to the left port of the instruction at a place.
+    pub fn alternatives(&mut self, place: u32, sources: &[Source]) -> Result<(), AllocError>
+        ensures exact { OnOk result (self.new ≡ Builds.alternatives self.old place sources.now) }
+        ensures same { OnOk result (length self.new.instrs ≡ length self.old.instrs) }
+    {
+        for source in sources {
+            let outlet = self.outlet(*source);
+            self.connect(outlet, place, Port::Left)?;
+        }
+        Ok(())
+    }
+
+    /// Adds so many copies in a row.
+    pub fn copies(&mut self, count: u32, region: Region) -> Result<(), AllocError>
+        requires room { length self.old.instrs < 2 ^ 30 }
+        requires few { count ≤ 16 }
+        ensures exact { OnOk result (self.new ≡ Builds.copies self.old region count) }
+        ensures longer { OnOk result (length self.new.instrs ≡ length self.old.instrs + count) }
+    {
+        for _copy in 0..count {
+            self.quiet(Op::Copy, region)?;
+        }
+        Ok(())
+    }
+
+    /// The place of the next instruction.
+    pub fn here(&self) -> u32
+        requires { length self.now.instrs < 2 ^ 31 }
+        ensures { result ≡ length self.now.instrs }
+    {
+        self.instrs.len() as u32
+    }
+}
+
+/// The port of an operand: the first one comes at the left.
+fn side(position: usize) -> Port
+    ensures { result ≡ Builds.side position }
+{
+    if position == 0 {
+        Port::Left
+    } else {
+        Port::Right
+    }
+}
+
+/// The first source of a list.
+pub(crate) fn first_source(sources: &[Source]) -> Source
+    ensures { result ≡ Builds.first_source sources.now }
+{
+    match sources.first() {
+        Some(source) => *source,
+        None => Source { node: 0, port: 0 },
+    }
+}

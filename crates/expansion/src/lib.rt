@@ -3,3 +3,6 @@
 
 mod builder;
 mod flow;
+mod rows;
+mod tail;
+mod uses;
