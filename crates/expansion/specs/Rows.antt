@@ -47,7 +47,7 @@ linked b copy block outputs region ss = landed (sends (behind b (first_of copy) 
 abbrev pub invoke : Build → ℕ → ℕ → ℕ → Region → List Source → Build
 invoke b frame block outputs region ss = linked (behind b (first_of frame) Copy region) (length b.instrs) block outputs region ss
 
-abbrev pub called : Build → Outlet → ℕ → ℕ → Region → List Source → Build
+unfoldable pub called : Build → Outlet → ℕ → ℕ → Region → List Source → Build
 called b signal block outputs region ss = quieted (invoke (behind b signal Frame region) (length b.instrs) block outputs region ss) Copy region
 
 abbrev pub call : Build → ℕ → ℕ → Region → List Source → Build

@@ -34,10 +34,10 @@ turned_continuation b flag = meeting b Switch OfFlag Root (first_of 0) flag
 abbrev pub turned_flag : Build → Outlet → Build
 turned_flag b flag = meeting (turned_continuation b flag) Switch OfFlag Root flag flag
 
-abbrev pub turning : Build → Outlet → List Source → Build
+unfoldable pub turning : Build → Outlet → List Source → Build
 turning b flag values = switches (turned_flag b flag) flag values
 
-abbrev pub turn_of : Build → Outlet → ℕ → Turn
+unfoldable pub turn_of : Build → Outlet → ℕ → Turn
 turn_of b flag count = record {
   continuation = length b.instrs;
   flag = length (turned_continuation b flag).instrs;
@@ -57,10 +57,10 @@ framed b frame block region t = sent (behind b (first_of frame) Copy Root) (leng
 abbrev pub asked : Build → ℕ → ℕ → Region → Turn → Build
 asked b ask block region t = framed (behind b (first_of ask) Frame Root) (length b.instrs) block region t
 
-abbrev pub go_on : Build → ℕ → Region → Turn → Build
+unfoldable pub go_on : Build → ℕ → Region → Turn → Build
 go_on b block region t = asked (meeting b (Ask (t.count + 1)) Unmarked Root (first_of t.continuation) (first_of t.flag)) (length b.instrs) block region t
 
-abbrev pub stop : Build → Region → Turn → Build
+unfoldable pub stop : Build → Region → Turn → Build
 stop b region t = meeting (last_values b region (second_of t.continuation) t.values t.count) (Return (t.count + 2)) Unmarked region (second_of t.continuation) (second_of t.flag)
 
 abbrev pub turned : Build → Turn → ℕ → ℕ → Build

@@ -157,6 +157,7 @@ fn invoke<A: Allocator + Clone>(
 
 /// The invocation of a block in a frame that is asked for when a signal comes: `frame`, the invocation, and the copy
 /// that the done signal comes to, an end.
+#[tactic(auto, unfolding(crate::specs::Rows::called))]
 fn called<A: Allocator + Clone>(
     builder: &mut Builder<A>,
     signal: Outlet,

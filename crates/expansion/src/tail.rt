@@ -120,6 +120,7 @@ pub(crate) struct Turn {
 }
 
 /// The switches of an iteration, all by its flag.
+#[tactic(auto, unfolding(crate::specs::Tails::turning, crate::specs::Tails::turn_of))]
 fn turning<A: Allocator + Clone>(
     builder: &mut Builder<A>,
     flag: Outlet,
@@ -152,6 +153,7 @@ fn turning<A: Allocator + Clone>(
 
 /// The next iteration, where the flag is true: `ask` for a credit, whose answer asks for a frame, and one `send` for the
 /// continuation and for each value into the same loop variant.
+#[tactic(auto, unfolding(crate::specs::Tails::go_on))]
 fn go_on<A: Allocator + Clone>(
     builder: &mut Builder<A>,
     block: u16,
@@ -193,6 +195,7 @@ fn go_on<A: Allocator + Clone>(
 }
 
 /// The end of the loop, where the flag is false: one `return` for each value, and one to the loop's `drain`.
+#[tactic(auto, unfolding(crate::specs::Tails::stop))]
 fn stop<A: Allocator + Clone>(
     builder: &mut Builder<A>,
     region: Region,

@@ -1,0 +1,1 @@
+use Rattle.expansion.proofs.rows.strict_call.Goals as goal

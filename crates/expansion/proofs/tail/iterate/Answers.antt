@@ -1,0 +1,1 @@
+use Rattle.expansion.proofs.tail.iterate.Goals as goal
