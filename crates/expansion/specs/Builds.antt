@@ -123,3 +123,9 @@ copies b region (suc n) = quieted (copies b region n) Copy region
 abbrev pub first_source : List Source → Source
 first_source [] = record { node = 0; port = 0 }
 first_source (s ∷ ss) = s
+
+abbrev pub mark_of : List Mark → ℕ → Mark
+mark_of ms n = slice_index_or ms n Unmarked
+
+abbrev pub region_of : List Region → ℕ → Region
+region_of rs n = slice_index_or rs n Root

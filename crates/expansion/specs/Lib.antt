@@ -3,3 +3,4 @@ pub mod Builds
 pub mod UseCounts
 pub mod Rows
 pub mod Tails
+pub mod Ends

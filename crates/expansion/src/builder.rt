@@ -357,3 +357,55 @@ pub(crate) fn first_source(sources: &[Source]) -> Source
         None => Source { node: 0, port: 0 },
     }
 }
+
+impl<A: Allocator> Builder<A> {
+    /// The instructions so far.
+    pub fn instrs(&self) -> &[Instr<A>]
+        ensures { result.now ≡ self.now.instrs }
+    {
+        &self.instrs
+    }
+
+    /// The mark of the instruction at a place.
+    pub fn mark(&self, place: usize) -> Mark
+        ensures { result ≡ Builds.mark_of self.now.marks place }
+    {
+        match self.marks.get(place) {
+            Some(mark) => *mark,
+            None => Mark::Unmarked,
+        }
+    }
+
+    /// The region of the instruction at a place.
+    pub fn region(&self, place: usize) -> Region
+        ensures { result ≡ Builds.region_of self.now.regions place }
+    {
+        match self.regions.get(place) {
+            Some(region) => *region,
+            None => Region::Root,
+        }
+    }
+
+    /// How many holders there are.
+    pub fn holders(&self) -> u32
+        ensures { result ≡ self.now.holders }
+    {
+        self.holders
+    }
+
+    /// The instructions with their marks.
+    pub fn into_parts(self) -> (Vec<Instr<A>, A>, Vec<Mark, A>)
+        ensures instrs { result.0.items ≡ self.instrs }
+        ensures marks { result.1.items ≡ self.marks }
+    {
+        let Builder {
+            instrs,
+            marks,
+            regions: _,
+            holders: _,
+            opened: _,
+            exits: _,
+        } = self;
+        (instrs, marks)
+    }
+}

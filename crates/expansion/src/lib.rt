@@ -2,6 +2,7 @@
 #![tactic(auto)]
 
 mod builder;
+mod ends;
 mod flow;
 mod rows;
 mod tail;

@@ -1,1 +1,0 @@
-use Rattle.expansion.proofs.rows.strict_call.Goals as goal

@@ -1,1 +1,0 @@
-use Rattle.expansion.proofs.tail.iterate.Goals as goal
