@@ -4,3 +4,7 @@ pub mod UseCounts
 pub mod Rows
 pub mod Tails
 pub mod Ends
+pub mod Scopes
+pub mod Blocks
+pub mod Variants
+pub mod Expanded
