@@ -40,10 +40,6 @@ pub record IsSmallBlock (b : Block ℕ) : Type 0 where
   pub nodes : All IsSmallNode b.nodes
   pub results : length b.results ≤ 16
 
--- the outputs of each block are few
-abbrev pub FewOutputs : List (Block ℕ) → Type 0
-FewOutputs bs = (f : ℕ) (b : Block ℕ) → slice_get bs f ≡ Some b → b.outputs ≤ 16
-
 -- LOOKING UP
 abbrev pub variant_of : List ℕ → ℕ → ℕ
 variant_of variants f = slice_index_or variants f 0
@@ -54,6 +50,10 @@ outputs_in (Some b) = b.outputs
 
 abbrev pub outputs_of : List (Block ℕ) → ℕ → ℕ
 outputs_of bs f = outputs_in (slice_get bs f)
+
+-- the outputs of each block are few
+pub record FewOutputs (bs : List (Block ℕ)) : Type 0 where
+  pub each : (f : ℕ) → outputs_of bs f ≤ 16
 
 abbrev pub predicate_in : Option (Node ℕ) → Source
 predicate_in None = first_source []

@@ -16,14 +16,14 @@ abbrev pub some_block_loops : ℕ → List (Block ℕ) → Bool
 some_block_loops f [] = false
 some_block_loops f (b ∷ bs) = if some_node_loops f b.nodes then true else some_block_loops f bs
 
--- how many of the first so many blocks some loop names
-abbrev pub variants_below : List (Block ℕ) → ℕ → ℕ
-variants_below bs zero = 0
-variants_below bs (suc f) = if some_block_loops f bs then variants_below bs f + 1 else variants_below bs f
+-- the number of the next loop variant, after the first so many blocks
+abbrev pub next_variant : List (Block ℕ) → ℕ → ℕ
+next_variant bs zero = length bs
+next_variant bs (suc f) = if some_block_loops f bs then next_variant bs f + 1 else next_variant bs f
 
 abbrev pub variants_from : List (Block ℕ) → ℕ → List ℕ
 variants_from bs zero = []
-variants_from bs (suc f) = variants_from bs f ++ (length bs + variants_below bs f) ∷ []
+variants_from bs (suc f) = variants_from bs f ++ next_variant bs f ∷ []
 
 abbrev pub variants_of : List (Block ℕ) → List ℕ
 variants_of bs = variants_from bs (length bs)

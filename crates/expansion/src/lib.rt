@@ -36,6 +36,7 @@ use std::alloc::{AllocError, Allocator};
 /// The plan of a well-formed graph within the limits.
 ///
 /// It takes all rooms from the allocator, and fails only where a growth is refused. Then nothing is left of the plan.
+#[tactic(auto, using(crate::proofs::Small::small_flow))]
 pub fn expand<'a, A: Allocator + Clone>(
     alloc: A,
     graph: &Graph<'a, A>,

@@ -60,9 +60,7 @@ fn variant_of(variants: &[u16], block: u32) -> u16
 
 /// How many outputs a block has.
 fn outputs_of<A: Allocator>(blocks: &[Block<A>], block: u32) -> u32
-    requires { Blocks.FewOutputs blocks.now }
-    ensures exact { result ≡ Blocks.outputs_of blocks.now block }
-    ensures few { result ≤ 16 }
+    ensures { result ≡ Blocks.outputs_of blocks.now block }
 {
     match blocks.get(block as usize) {
         Some(block) => block.outputs,
@@ -86,6 +84,7 @@ pub(crate) fn predicate_of<A: Allocator>(block: &Block<A>, cond: u32) -> Source
 
 impl<'b, A: Allocator> Scope<'b, A> {
     /// How many outputs a block has.
+    #[tactic(auto, using(crate::proofs::Small::outputs_are_few))]
     pub fn outputs(&self, block: u32) -> u32
         requires { Blocks.FewOutputs self.now.blocks }
         ensures exact { result ≡ Blocks.outputs_of self.now.blocks block }

@@ -1,6 +1,6 @@
 //! Which blocks have a loop variant, and the numbers of their code blocks.
 
-ghost use Rattle.std.specs.Prelude.{◌≡◌, ◌+◌, ◌≤◌, [], length, IfOk};
+ghost use Rattle.std.specs.Prelude.{◌≡◌, ◌+◌, ◌<◌, ◌≤◌, length, IfOk, if◌then◌else◌};
 ghost use Rattle.expansion.specs.Variants as Variants;
 
 use crate::flow::{Block, Node};
@@ -40,6 +40,15 @@ pub(crate) fn is_looped<A: Allocator>(blocks: &[Block<A>], block: u32) -> bool
     false
 }
 
+/// The number after that of a block's loop variant, if it has one.
+fn following(next: u16, looped: bool) -> u16
+    requires { next < 65535 }
+    ensures exact { result ≡ (if looped then next + 1 else next) }
+    ensures few { result ≤ next + 1 }
+{
+    if looped { next + 1 } else { next }
+}
+
 /// For each block the number of its loop variant's code: they follow the plain code, in order of the blocks. A block that
 /// no loop names has the number of the next one.
 pub(crate) fn variants_of<A: Allocator>(
@@ -53,9 +62,7 @@ pub(crate) fn variants_of<A: Allocator>(
     let mut next = blocks.len() as u16;
     for number in 0..blocks.len() {
         variants.push(next)?;
-        if is_looped(blocks, number as u32) {
-            next += 1;
-        }
+        next = following(next, is_looped(blocks, number as u32));
     }
     Ok(variants)
 }

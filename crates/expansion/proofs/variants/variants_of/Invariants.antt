@@ -5,5 +5,5 @@ use Rattle.expansion.proofs.variants.variants_of.Given as goal
 abbrev pub invariant-loop-number : goal.invariant-loop-number
 invariant-loop-number g l =
     (l.variants.items ≡ Variants.variants_from l.blocks l.number)
-    × (l.next ≡ length l.blocks + Variants.variants_below l.blocks l.number)
+    × (l.next ≡ Variants.next_variant l.blocks l.number)
     × (l.next ≤ length l.blocks + l.number)
