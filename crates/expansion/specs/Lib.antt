@@ -9,3 +9,4 @@ pub mod Blocks
 pub mod Variants
 pub mod Expanded
 pub mod Keeping
+pub mod Laws
