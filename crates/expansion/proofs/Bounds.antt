@@ -43,7 +43,6 @@ variant_opens = variant_keeps Opens refl
     (λ xs b o to p h. opens-set b.instrs (o.place + o.port) o.second (record { ahead = (to - o.place) - o.port; port = p }) ∙ h)
     (λ xs b o h. h)
 
-
 -- MARKS
 abbrev pub AreFit : List Instr → List Mark → Type 0
 AreFit [] [] = ⊤

@@ -3,3 +3,4 @@ pub mod Small
 pub mod Keeping
 pub mod Bounds
 pub mod Wholes
+pub mod Samples

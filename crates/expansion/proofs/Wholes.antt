@@ -48,7 +48,7 @@ plain_good cs gs v bs vars n [] h = subst (GoodCodes cs) (sym (append-nil gs)) h
 plain_good cs gs v bs vars n (b ∷ rest) h =
     let x : Coded = plain_code v bs vars n b in
     subst (GoodCodes (plain_codes (with_code cs x) v bs vars (n + 1) rest)) (append_assoc gs (b ∷ []) rest)
-        (plain_good (with_code cs x) (gs ++ b ∷ []) v bs vars (n + 1) rest (good-push cs.blocks cs.marks gs x.code x.marks b h (good_code v bs vars n b)))
+    (plain_good (with_code cs x) (gs ++ b ∷ []) v bs vars (n + 1) rest (good-push cs.blocks cs.marks gs x.code x.marks b h (good_code v bs vars n b)))
 
 abbrev looped_by : List (Block ℕ) → ℕ → List (Block ℕ) → List (Block ℕ)
 looped_by all f [] = []
@@ -62,7 +62,7 @@ variants_good cs gs v bs vars n (b ∷ rest) h =
     let later : List (Block ℕ) = looped_by bs (n + 1) rest in
     let yes_case : GoodCodes (variant_codes (with_code cs x) v bs vars (n + 1) rest) (gs ++ b ∷ later)
     = subst (GoodCodes (variant_codes (with_code cs x) v bs vars (n + 1) rest)) (append_assoc gs (b ∷ []) later)
-        (variants_good (with_code cs x) (gs ++ b ∷ []) v bs vars (n + 1) rest (good-push cs.blocks cs.marks gs x.code x.marks b h (good_variant v bs vars n b))) in
+    (variants_good (with_code cs x) (gs ++ b ∷ []) v bs vars (n + 1) rest (good-push cs.blocks cs.marks gs x.code x.marks b h (good_variant v bs vars n b))) in
     by_test v bs vars n rest cs (with_code cs x) gs b (some_block_loops n bs) yes_case (variants_good cs gs v bs vars (n + 1) rest h)
   where
     by_test : (v : ℕ) (bs : List (Block ℕ)) (vars : List ℕ) (n : ℕ) (rest : List (Block ℕ)) (cs ds : Codes) (gs : List (Block ℕ)) (b : Block ℕ) (t : Bool)
@@ -127,7 +127,7 @@ all_good fl =
     let vars : List ℕ = variants_of fl.blocks in
     let plain : Codes = plain_codes no_codes fl.version fl.blocks vars 0 fl.blocks in
     subst (λ gs. AllGood (expanded fl).program.blocks (expanded fl).marks (fl.blocks ++ gs)) (same_from fl 0 fl.blocks)
-        (variants_good plain fl.blocks fl.version fl.blocks vars 0 fl.blocks (plain_good no_codes [] fl.version fl.blocks vars 0 fl.blocks tt))
+    (variants_good plain fl.blocks fl.version fl.blocks vars 0 fl.blocks (plain_good no_codes [] fl.version fl.blocks vars 0 fl.blocks tt))
 
 good_count : (cs : List CodeBlock) (ms : List (List Mark)) (gs : List (Block ℕ)) → AllGood cs ms gs → length cs ≡ length gs
 good_count [] [] [] h = refl

@@ -10,3 +10,4 @@ pub mod Variants
 pub mod Expanded
 pub mod Keeping
 pub mod Laws
+pub mod Samples
