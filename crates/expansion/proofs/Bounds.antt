@@ -1,4 +1,5 @@
--- The loops of a code block open with the bounds of its graph block, and its switches alone are marked.
+-- The loops of a code block open with the bounds of its graph block, its switches alone are marked, and its holders are
+-- numbered in order.
 use Rattle.std.proofs.Common.{◌≡◌, ℕ, zero, suc, ◌+◌, ◌-◌, Bool, true, false, List, [], ◌∷◌, ◌++◌, length, refl, sym, ap, ◌∙◌, subst, append_assoc, append-nil, if◌then◌else◌}
 use Rattle.std.specs.Prelude.{flat_map, slice_set, slice_index_or, ⊤}
 use Rattle.semantics.specs.declared.program.Dest.{Dest}
@@ -6,8 +7,9 @@ use Rattle.semantics.specs.declared.program.Mark.{Mark}
 use Rattle.semantics.specs.declared.program.Op.{Op}
 use Rattle.semantics.specs.Program.{Instr}
 use Rattle.semantics.specs.Cause.{loop_bounds, opened_by}
-use Rattle.expansion.specs.Keeping.{Fits}
-use Rattle.expansion.specs.Builds.{Build, with_dest, no_instr, bare, slot_in}
+use Rattle.semantics.specs.Plan.{is_credit}
+use Rattle.expansion.specs.Keeping.{Fits, AreNumbered}
+use Rattle.expansion.specs.Builds.{Build, with_dest, no_instr, bare, slot_in, takes_holder}
 use Rattle.expansion.specs.Scopes.{Scope}
 use Rattle.expansion.specs.Blocks.{plain_build, variant_build}
 use Rattle.expansion.proofs.Keeping.{plain_keeps, variant_keeps}
@@ -74,4 +76,34 @@ pub variant_fits : (s : Scope) (code : ℕ) → AreFit (variant_build s code).in
 variant_fits = variant_keeps Marked tt
     (λ xs b op o m r f h. fit-push b.instrs b.marks (bare op o (slot_in b op)) m h f)
     (λ xs b o to p h. fit-set b.instrs b.marks (o.place + o.port) o.second (record { ahead = (to - o.place) - o.port; port = p }) h)
+    (λ xs b o h. h)
+
+-- HOLDERS
+numbered-push : (n : ℕ) (is : List Instr) (count : ℕ) (i : Instr) → AreNumbered n is count → (takes_holder i.op ≡ true → i.slot ≡ count)
+    → AreNumbered n (is ++ i ∷ []) (if takes_holder i.op then count + 1 else count)
+numbered-push n [] count i h f = (λ e. f e ∙ sym h, ap (λ k. if takes_holder i.op then k + 1 else k) h)
+numbered-push n (j ∷ is) count i h f = (h.0, numbered-push (if takes_holder j.op then n + 1 else n) is count i h.1 f)
+
+numbered-set : (n : ℕ) (is : List Instr) (count k : ℕ) (s : Bool) (d : Dest) → AreNumbered n is count → AreNumbered n (slice_set is k (with_dest (slice_index_or is k no_instr) s d)) count
+numbered-set n [] count k s d h = h
+numbered-set n (i ∷ is) count zero true d h = h
+numbered-set n (i ∷ is) count zero false d h = h
+numbered-set n (i ∷ is) count (suc k) s d h = (h.0, numbered-set (if takes_holder i.op then n + 1 else n) is count k s d h.1)
+
+abbrev Numbered : List ℕ → Build → Type 0
+Numbered xs b = AreNumbered 0 b.instrs b.holders
+
+its_slot : (b : Build) (op : Op) → takes_holder op ≡ true → slot_in b op ≡ b.holders
+its_slot b op e = ap (λ t. if t then b.holders else if is_credit op then b.opened else 0) e
+
+pub plain_numbered : (s : Scope) → AreNumbered 0 (plain_build s).instrs (plain_build s).holders
+plain_numbered = plain_keeps Numbered refl
+    (λ xs b op o m r f h. numbered-push 0 b.instrs b.holders (bare op o (slot_in b op)) h (its_slot b op))
+    (λ xs b o to p h. numbered-set 0 b.instrs b.holders (o.place + o.port) o.second (record { ahead = (to - o.place) - o.port; port = p }) h)
+    (λ xs b o h. h)
+
+pub variant_numbered : (s : Scope) (code : ℕ) → AreNumbered 0 (variant_build s code).instrs (variant_build s code).holders
+variant_numbered = variant_keeps Numbered refl
+    (λ xs b op o m r f h. numbered-push 0 b.instrs b.holders (bare op o (slot_in b op)) h (its_slot b op))
+    (λ xs b o to p h. numbered-set 0 b.instrs b.holders (o.place + o.port) o.second (record { ahead = (to - o.place) - o.port; port = p }) h)
     (λ xs b o h. h)

@@ -1,4 +1,4 @@
--- The code blocks of a plan and the graph's blocks: bounds and marks.
+-- The code blocks of a plan and the graph's blocks: bounds, marks and holders.
 use Rattle.std.proofs.Common.{◌≡◌, ℕ, zero, suc, ◌+◌, ◌<◌, Bool, true, false, cond, List, [], ◌∷◌, ◌++◌, map, length, refl, sym, ap, ◌∙◌, subst, arith, append_assoc, append-nil, if◌then◌else◌, Some, None, nat_lt, lt-ltb, zero-add, sum_by}
 use Rattle.std.specs.Prelude.{slice_get, sum, count_by, ⊤}
 use Rattle.std.proofs.lemmas.List.Sums.{sum-map, sum_by-cons}
@@ -11,15 +11,15 @@ use Rattle.semantics.specs.Program.{Instr, CodeBlock}
 use Rattle.semantics.specs.Plan.{mark_in}
 use Rattle.semantics.specs.Cause.{HasBounds, coded_blocks, looped_from, is_looped, loop_bounds}
 use Rattle.semantics.specs.Cause as Cause
-use Rattle.expansion.specs.Keeping.{Fits, MarksFit}
+use Rattle.expansion.specs.Keeping.{Fits, MarksFit, AreNumbered, HoldersInOrder}
 use Rattle.expansion.specs.Scopes.{Scope}
 use Rattle.expansion.specs.Variants.{loops_to, some_node_loops, some_block_loops, variants_of}
 use Rattle.expansion.specs.Blocks.{Coded, variant_of}
 use Rattle.expansion.specs.Expanded.{Codes, with_code, no_codes, scope_of, plain_code, variant_code, plain_codes, variant_codes, expanded}
-use Rattle.expansion.proofs.Bounds.{opens, AreFit, plain_opens, plain_fits, variant_opens, variant_fits}
+use Rattle.expansion.proofs.Bounds.{opens, AreFit, plain_opens, plain_fits, plain_numbered, variant_opens, variant_fits, variant_numbered}
 
 abbrev IsGood : CodeBlock → List Mark → Block ℕ → Type 0
-IsGood c ms g = (opens c.instrs ≡ loop_bounds g) × AreFit c.instrs ms
+IsGood c ms g = (opens c.instrs ≡ loop_bounds g) × AreFit c.instrs ms × AreNumbered 0 c.instrs c.slots
 
 abbrev AllGood : List CodeBlock → List (List Mark) → List (Block ℕ) → Type 0
 AllGood [] [] [] = ⊤
@@ -34,11 +34,11 @@ good-push cs ms gs c m g h q = absurd h
 
 good_code : (v : ℕ) (bs : List (Block ℕ)) (vars : List ℕ) (n : ℕ) (b : Block ℕ) → IsGood (plain_code v bs vars n b).code (plain_code v bs vars n b).marks b
 unfolding plain_code
-good_code v bs vars n b = (plain_opens (scope_of v bs vars n b false), plain_fits (scope_of v bs vars n b false))
+good_code v bs vars n b = (plain_opens (scope_of v bs vars n b false), plain_fits (scope_of v bs vars n b false), plain_numbered (scope_of v bs vars n b false))
 
 good_variant : (v : ℕ) (bs : List (Block ℕ)) (vars : List ℕ) (n : ℕ) (b : Block ℕ) → IsGood (variant_code v bs vars n b).code (variant_code v bs vars n b).marks b
 unfolding variant_code
-good_variant v bs vars n b = (variant_opens (scope_of v bs vars n b true) (variant_of vars n), variant_fits (scope_of v bs vars n b true) (variant_of vars n))
+good_variant v bs vars n b = (variant_opens (scope_of v bs vars n b true) (variant_of vars n), variant_fits (scope_of v bs vars n b true) (variant_of vars n), variant_numbered (scope_of v bs vars n b true) (variant_of vars n))
 
 abbrev GoodCodes : Codes → List (Block ℕ) → Type 0
 GoodCodes cs gs = AllGood cs.blocks cs.marks gs
@@ -153,6 +153,12 @@ good_marks (x ∷ cs) (m ∷ ms) (z ∷ gs) h zero n c i e f = let p : x ≡ c =
 good_marks (x ∷ cs) (m ∷ ms) (z ∷ gs) h (suc b) n c i e f = good_marks cs ms gs h.1 b n c i e f
 good_marks cs ms gs h b n c i e f = absurd h
 
+good_holders : (cs : List CodeBlock) (ms : List (List Mark)) (gs : List (Block ℕ)) → AllGood cs ms gs → (b : ℕ) (c : CodeBlock) → slice_get cs b ≡ Some c → AreNumbered 0 c.instrs c.slots
+good_holders [] [] [] h b c e = absurd (cc)
+good_holders (x ∷ cs) (m ∷ ms) (z ∷ gs) h zero c e = let p : x ≡ c = cc in subst (λ y. AreNumbered 0 y.instrs y.slots) p h.0.2
+good_holders (x ∷ cs) (m ∷ ms) (z ∷ gs) h (suc b) c e = good_holders cs ms gs h.1 b c e
+good_holders cs ms gs h b c e = absurd h
+
 pub has_bounds : (fl : Flow) → HasBounds fl (expanded fl).program
 has_bounds fl =
     let good = all_good fl in (
@@ -162,3 +168,6 @@ has_bounds fl =
 
 pub marks_fit : (fl : Flow) → MarksFit (expanded fl)
 marks_fit fl = good_marks (expanded fl).program.blocks (expanded fl).marks (coded_blocks fl) (all_good fl)
+
+pub holders_in_order : (fl : Flow) → HoldersInOrder (expanded fl)
+holders_in_order fl = good_holders (expanded fl).program.blocks (expanded fl).marks (coded_blocks fl) (all_good fl)
