@@ -1,6 +1,6 @@
 -- The loops of a code block open with the bounds of its graph block, its switches alone are marked, and its holders are
 -- numbered in order.
-use Rattle.std.proofs.Common.{◌≡◌, ℕ, zero, suc, ◌+◌, ◌-◌, Bool, true, false, List, [], ◌∷◌, ◌++◌, length, refl, sym, ap, ◌∙◌, subst, append_assoc, append-nil, if◌then◌else◌}
+use Rattle.std.proofs.Common.{◌≡◌, ℕ, zero, suc, ◌+◌, ◌-◌, Bool, true, false, List, [], ◌∷◌, ◌++◌, refl, sym, ap, ◌∙◌, subst, append_assoc, append-nil, if◌then◌else◌}
 use Rattle.std.specs.Prelude.{flat_map, slice_set, slice_index_or, ⊤}
 use Rattle.semantics.specs.declared.program.Dest.{Dest}
 use Rattle.semantics.specs.declared.program.Mark.{Mark}

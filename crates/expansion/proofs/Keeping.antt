@@ -1,6 +1,6 @@
 -- What each step of a builder keeps, the code of each block has. What is kept may count the loops' bounds.
-use Rattle.std.proofs.Common.{◌≡◌, ℕ, zero, suc, ◌+◌, Bool, true, false, not, List, [], ◌∷◌, ◌++◌, length, refl, sym, ap, ◌∙◌, subst, append-nil, append_assoc, if◌then◌else◌, Option, Some, None}
-use Rattle.std.specs.Prelude.{flat_map, slice_get}
+use Rattle.std.proofs.Common.{◌≡◌, ℕ, zero, suc, ◌+◌, Bool, true, false, List, [], ◌∷◌, ◌++◌, length, refl, sym, ap, ◌∙◌, subst, append-nil, append_assoc, if◌then◌else◌, Option, Some, None}
+use Rattle.std.specs.Prelude.{flat_map}
 use Rattle.tags.specs.declared.value.Origin.{Origin}
 use Rattle.tags.specs.declared.value.Origin.TheVariants.{Untold}
 use Rattle.tags.specs.declared.token.Port.{Port}
@@ -13,7 +13,6 @@ use Rattle.semantics.specs.declared.graph.Kind.TheVariants.{Lit, Apply1, Apply2,
 use Rattle.semantics.specs.declared.program.Mark.{Mark}
 use Rattle.semantics.specs.declared.program.Mark.TheVariants.{Unmarked, OfCond, OfFlag}
 use Rattle.semantics.specs.declared.program.Op.{Op}
-use Rattle.semantics.specs.declared.program.Op.TheVariants as Op
 use Rattle.semantics.specs.Graph.{Node, Block, node_count}
 use Rattle.semantics.specs.Meaning.{origin_in}
 use Rattle.semantics.specs.Cause.{bounds_of, loop_bounds, opened_by}
@@ -24,11 +23,10 @@ use Rattle.expansion.specs.Scopes.{Scope}
 use Rattle.expansion.specs.UseCounts.{is_often, uses_at}
 use Rattle.expansion.specs.Keeping.{is_switch, Fits}
 use Rattle.expansion.specs.Builds.{Build, nothing, outlet, first_of, second_of, added, quieted, connected, outlet_of, trigger_of, exited, behind, meeting, side, operands, alternatives, copies, first_source}
-use Rattle.expansion.specs.Rows.{operator, copied, shared_answer, conditional, enter, merge, sends, landed, linked, invoke, called, call, Joined, join_sources, called_by, strict_call, ended, drained, credits, opened, repeat}
-use Rattle.expansion.specs.Tails.{returns, switches, next_values, last_values, turned_continuation, turned_flag, turning, turn_of, sent, framed, asked, go_on, stop, turned, iterate}
-use Rattle.expansion.specs.Ends.{same_region, Signalled, no_signal, join_with, join_end, join_ends, signalled, Closing, closing, closed_with, closed, closed_kind, closed_node, closed_nodes, released_by, released, ends_of}
-use Rattle.expansion.specs.Ends as Ends
-use Rattle.expansion.specs.Blocks.{answered, entered, repeated, with_kind, with_node, with_nodes, with_input, with_inputs, entries, body, released_from, finished, plain_tail, plain_build, variant_tail, variant_build, predicate_of, outputs_of, variant_of}
+use Rattle.expansion.specs.Rows.{operator, copied, shared_answer, conditional, enter, merge, sends, landed, linked, invoke, called, call, Joined, join_sources, strict_call, credits, repeat}
+use Rattle.expansion.specs.Tails.{returns, switches, next_values, last_values, turned_continuation, turned_flag, turning, turn_of, go_on, stop, iterate}
+use Rattle.expansion.specs.Ends.{same_region, Signalled, join_with, join_end, join_ends, signalled, Closing, closing, closed, closed_kind, closed_nodes, released, ends_of}
+use Rattle.expansion.specs.Blocks.{answered, entered, repeated, with_kind, with_node, with_nodes, with_inputs, entries, body, finished, plain_build, variant_build, predicate_of, outputs_of, variant_of}
 
 module _ (Inv : List ℕ → Build → Type 0) (begins : Inv [] nothing)
     (adds : (xs : List ℕ) (b : Build) (op : Op) (o : Origin) (m : Mark) (r : Region) → Fits op m → Inv xs b → Inv (xs ++ opened_by op) (added b op o m r))

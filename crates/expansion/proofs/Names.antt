@@ -1,7 +1,7 @@
 -- Where a name stands in a list of names.
-use Rattle.std.proofs.Common.{◌≡◌, ℕ, suc, ◌+◌, ◌<◌, Bool, false, if◌then◌else◌, List, [], ◌∷◌, map, drop, length, get_or, refl, sym, ap, ◌∙◌, arith, ◌==◌, nat_lt, ◌&&◌, drop-cons, add-one}
+use Rattle.std.proofs.Common.{◌≡◌, ℕ, Bool, false, if◌then◌else◌, List, [], ◌∷◌, refl, ap, ◌∙◌, arith, ◌==◌, nat_lt, ◌&&◌}
 use Rattle.std.specs.Cmp.Lexicographic.{pointwise}
-use Rattle.semantics.specs.Graph.{Block, same_name, place_from}
+use Rattle.semantics.specs.Graph.{same_name}
 
 head_same : (x y : ℕ) (t : Bool) → (x == y) && t ≡ (if nat_lt x y then false else if nat_lt y x then false else t)
 head_same x y t = grind (arith)

@@ -1,13 +1,13 @@
 -- A well-formed graph that has a text is within the limits.
-use Rattle.std.proofs.Common.{◌≡◌, ℕ, zero, suc, ◌+◌, ◌-◌, ◌<◌, ◌≤◌, Bool, true, false, List, [], ◌∷◌, map, length, get_or, refl, sym, ap, ◌∙◌, subst, arith, Option, Some, None, nat_lt, if◌then◌else◌, add-one}
-use Rattle.std.specs.Prelude.{All, slice_get, ⊤}
+use Rattle.std.proofs.Common.{◌≡◌, ℕ, zero, suc, ◌+◌, ◌-◌, ◌≤◌, Bool, true, false, List, [], ◌∷◌, map, length, get_or, refl, ap, ◌∙◌, subst, arith, Option, Some, None, nat_lt, if◌then◌else◌}
+use Rattle.std.specs.Prelude.{All, slice_get}
 use Rattle.std.proofs.lemmas.Bool.{le-ltb}
 use Rattle.std.proofs.lemmas.List.{length-map}
 use Rattle.std.proofs.lemmas.Option.{slice_get-get_or}
 use Rattle.determinacy.proofs.Resolved.{all_get}
 use Rattle.semantics.specs.declared.graph.Kind.{Kind}
 use Rattle.semantics.specs.declared.graph.Kind.TheVariants.{Lit, Apply1, Apply2, Cond, Enter, Merge, Fetch, Store, Call, StrictCall, Loop}
-use Rattle.semantics.specs.Graph.{Graph, Block, Node, node_at, flow_of, resolved_kind, resolved_block, array_names, block_names, same_name, place_from, place_of}
+use Rattle.semantics.specs.Graph.{Graph, Block, Node, node_at, flow_of, resolved_kind, resolved_block, array_names, block_names, same_name, place_from}
 use Rattle.semantics.specs.WellFormed.{WellFormed, IsBlockWell, IsNodeWell, NamesWell}
 use Rattle.semantics.specs.Text.{HasText, HasBlockText, HasNodeLine, HasLine}
 use Rattle.expansion.specs.Blocks.{IsSmallKind, IsSmallNode, IsSmallBlock, FewOutputs, outputs_in, outputs_of}

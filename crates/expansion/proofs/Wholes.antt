@@ -1,6 +1,6 @@
 -- The code blocks of a plan and the graph's blocks: bounds, marks and holders.
-use Rattle.std.proofs.Common.{◌≡◌, ℕ, zero, suc, ◌+◌, ◌<◌, Bool, true, false, cond, List, [], ◌∷◌, ◌++◌, map, length, refl, sym, ap, ◌∙◌, subst, arith, append_assoc, append-nil, if◌then◌else◌, Some, None, nat_lt, lt-ltb, zero-add, sum_by}
-use Rattle.std.specs.Prelude.{slice_get, sum, count_by, ⊤}
+use Rattle.std.proofs.Common.{◌≡◌, ℕ, zero, suc, ◌+◌, Bool, true, false, cond, List, [], ◌∷◌, ◌++◌, length, refl, sym, ap, ◌∙◌, subst, arith, append_assoc, append-nil, if◌then◌else◌, Some, nat_lt, lt-ltb, zero-add, sum_by}
+use Rattle.std.specs.Prelude.{slice_get, count_by, ⊤}
 use Rattle.std.proofs.lemmas.List.Sums.{sum-map, sum_by-cons}
 use Rattle.lowering.proofs.Orders.{IsPermutation-same}
 use Rattle.semantics.specs.declared.graph.Kind.{Kind}
@@ -12,7 +12,6 @@ use Rattle.semantics.specs.Plan.{mark_in}
 use Rattle.semantics.specs.Cause.{HasBounds, coded_blocks, looped_from, is_looped, loop_bounds}
 use Rattle.semantics.specs.Cause as Cause
 use Rattle.expansion.specs.Keeping.{Fits, MarksFit, AreNumbered, HoldersInOrder}
-use Rattle.expansion.specs.Scopes.{Scope}
 use Rattle.expansion.specs.Variants.{loops_to, some_node_loops, some_block_loops, variants_of}
 use Rattle.expansion.specs.Blocks.{Coded, variant_of}
 use Rattle.expansion.specs.Expanded.{Codes, with_code, no_codes, scope_of, plain_code, variant_code, plain_codes, variant_codes, expanded}

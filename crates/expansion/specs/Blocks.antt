@@ -1,5 +1,5 @@
 -- The code of a block.
-use Rattle.std.specs.Prelude.{◌≡◌, ℕ, zero, suc, ◌+◌, ◌<◌, ◌≤◌, Bool, true, false, List, [], ◌∷◌, ◌++◌, length, Option, Some, None, slice_get, slice_index_or, nat_lt, ◌==◌, ◌||◌, if◌then◌else◌, All, ⊤}
+use Rattle.std.specs.Prelude.{ℕ, zero, suc, ◌+◌, ◌<◌, ◌≤◌, List, [], ◌∷◌, length, Option, Some, None, slice_get, slice_index_or, if◌then◌else◌, All, ⊤}
 use Rattle.semantics.specs.declared.graph.Region.{Region}
 use Rattle.semantics.specs.declared.graph.Region.TheVariants.{Root, Arm}
 use Rattle.semantics.specs.declared.graph.Source.{Source}
@@ -8,13 +8,11 @@ use Rattle.semantics.specs.declared.graph.Kind.TheVariants.{Lit, Apply1, Apply2,
 use Rattle.semantics.specs.declared.program.Mark.{Mark}
 use Rattle.semantics.specs.declared.program.Mark.TheVariants.{Unmarked}
 use Rattle.semantics.specs.declared.program.Op.{Op}
-use Rattle.semantics.specs.declared.program.Op.TheVariants as Op
-use Rattle.semantics.specs.Graph.{Node, Block, Flow, node_at, node_count}
+use Rattle.semantics.specs.Graph.{Node, Block, node_at, node_count}
 use Rattle.semantics.specs.Meaning.{origin_in}
-use Rattle.semantics.specs.Program.{CodeBlock, Program}
-use Rattle.semantics.specs.Plan.{Plan}
+use Rattle.semantics.specs.Program.{CodeBlock}
 use Rattle.expansion.specs.Scopes.{Scope}
-use Rattle.expansion.specs.UseCounts.{is_often, uses_at, uses_of}
+use Rattle.expansion.specs.UseCounts.{is_often, uses_at}
 use Rattle.expansion.specs.Builds.{Build, nothing, added, quieted, exited, first_of, first_source}
 use Rattle.expansion.specs.Rows.{operator, shared_answer, conditional, enter, merge, call, strict_call, repeat}
 use Rattle.expansion.specs.Tails.{returns, iterate}

@@ -2,7 +2,7 @@
 use Rattle.std.specs.Prelude.{ℕ, ◌+◌, ◌≤◌, Bool, true, false, List, [], ◌∷◌, ◌++◌, length, if◌then◌else◌, All}
 use Rattle.semantics.specs.declared.program.Mark.{Mark}
 use Rattle.semantics.specs.Graph.{Block, Flow}
-use Rattle.semantics.specs.Program.{CodeBlock, Program}
+use Rattle.semantics.specs.Program.{CodeBlock}
 use Rattle.semantics.specs.Plan.{Plan}
 use Rattle.expansion.specs.Scopes.{Scope}
 use Rattle.expansion.specs.UseCounts.{uses_of}

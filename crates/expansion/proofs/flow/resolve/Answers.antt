@@ -1,7 +1,7 @@
 use Rattle.std.proofs.Common.{◌≡◌, ℕ, List, map, ap, ◌∙◌}
 use Rattle.graph.specs.Versions.{version_number}
-use Rattle.semantics.specs.Graph.{Flow, Block, flow_of, place_of}
-use Rattle.expansion.specs.Flows.{NamedArray, NamedBlock, array_name, block_name, resolved_named, array_length}
+use Rattle.semantics.specs.Graph.{Flow, Block, place_of}
+use Rattle.expansion.specs.Flows.{block_name, resolved_named, array_length}
 use Rattle.expansion.proofs.flow.resolve.Goals as goal
 
 pub returns : goal.returns
