@@ -1,0 +1,6 @@
+pub mod Names
+pub mod Small
+pub mod Keeping
+pub mod Bounds
+pub mod Wholes
+pub mod Samples
