@@ -1,33 +1,30 @@
 -- An activity by numbers of invocations is an activity of the meaning.
-use Rattle.std.proofs.Common.{◌≡◌, ℕ, zero, suc, ◌+◌, ◌-◌, ◌<◌, ◌≤◌, ◌^◌, ◌&&◌, Bool, true, false, List, [], ◌∷◌, length, Option, Some, None, nat_lt, nat_eq, ◌==◌, slice_get, if◌then◌else◌, All, refl, sym, ap, ◌∙◌, subst, arith, lt-ltb}
+use Rattle.std.proofs.Common.{◌≡◌, ℕ, ◌+◌, ◌-◌, ◌^◌, ◌&&◌, Bool, true, false, List, [], ◌∷◌, length, Option, Some, None, nat_lt, ◌==◌, slice_get, if◌then◌else◌, refl, sym, ap, ◌∙◌, arith, lt-ltb}
 use Rattle.std.specs.Prelude.{option_map}
 use Rattle.tags.specs.declared.value.Value.{Value}
-use Rattle.tags.specs.declared.value.Origin.{Origin}
 use Rattle.tags.specs.declared.value.Origin.TheVariants.{Untold, At}
 use Rattle.operators.specs.Values.{truth}
 use Rattle.semantics.specs.declared.graph.Region.{Region}
 use Rattle.semantics.specs.declared.graph.Region.TheVariants.{Root, Arm}
 use Rattle.semantics.specs.declared.graph.Kind.{Kind}
-use Rattle.semantics.specs.declared.graph.Kind.TheVariants.{Lit, Apply1, Apply2, Cond, Enter, Merge, Fetch, Store, Call, StrictCall, Loop}
-use Rattle.semantics.specs.Graph.{Node as Row, Block, Graph, Flow, flow_of, node_at}
+use Rattle.semantics.specs.declared.graph.Kind.TheVariants.{Enter}
+use Rattle.semantics.specs.Graph.{Node as Row, Block, Graph, flow_of, node_at}
 use Rattle.semantics.specs.Text.{HasText, HasBlockText}
 use Rattle.semantics.specs.Meaning.{Context, origin_at, same_side, block_number, block_numbered, block_of, on_block, on_node, fired_in, Activity, deed}
 use Rattle.semantics.specs.Meaning as Meaning
 use Rattle.determinacy.proofs.Grounds.{get_below}
 use Rattle.determinacy.proofs.Resolved.{all_get}
-use Rattle.determinacy.proofs.Options.{some_same}
-use Rattle.oracle.specs.declared.invocations.Made.{Made}
 use Rattle.oracle.specs.declared.invocations.Made.TheVariants.{Main, Called, Turned}
 use Rattle.oracle.specs.declared.invocations.Invocation.{Invocation}
 use Rattle.oracle.specs.declared.lines.Line.{Line}
-use Rattle.oracle.specs.declared.lines.Line.TheVariants.{Input, Node, Nothing}
+use Rattle.oracle.specs.declared.lines.Line.TheVariants.{Input, Nothing}
 use Rattle.oracle.specs.declared.shapes.Shape.{Shape}
 use Rattle.oracle.specs.declared.shapes.Shape.TheVariants.{Fires, Gates, Passes, Returns, Turns, Outputs}
 use Rattle.oracle.specs.declared.deeds.Deed.{Deed}
-use Rattle.oracle.specs.declared.deeds.Deed.TheVariants.{Sends, Tells, Enters, EntersAll, Stops, Reads, Fills, Puts}
+use Rattle.oracle.specs.declared.deeds.Deed.TheVariants.{Sends, Enters, Stops}
 use Rattle.oracle.specs.Lines.{line_of, line_in, line_of_row, resolved_in, origin_of}
-use Rattle.oracle.specs.Acting.{line_deed, fires_deed, input_deed, fired_deed, gated_deed, passed_deed, turned_deed, returned_deed, shown_deed, next_turn, deed_in, node_gated, node_passed}
-use Rattle.oracle.specs.Meant.{name_in, made_of, deed_of, activity_of}
+use Rattle.oracle.specs.Acting.{line_deed, fires_deed, input_deed, fired_deed, gated_deed, passed_deed, turned_deed, returned_deed, shown_deed, next_turn, deed_in, node_gated}
+use Rattle.oracle.specs.Meant.{name_in, deed_of, activity_of}
 use Rattle.oracle.specs.Agreeing.{block_in, row_in}
 use Rattle.oracle.proofs.Resolved.{block_same, rows_same}
 use Rattle.oracle.proofs.DeedLaws.{fired_same, passed_same}

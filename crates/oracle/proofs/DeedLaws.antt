@@ -1,19 +1,15 @@
 -- What an activity does, by numbers of invocations and by their names.
-use Rattle.std.proofs.Common.{◌≡◌, ℕ, zero, suc, ◌+◌, ◌-◌, ◌^◌, Bool, true, false, List, [], ◌∷◌, length, Option, Some, None, nat_lt, nat_eq, ◌==◌, slice_get, if◌then◌else◌, refl, sym, ap, ◌∙◌, subst}
+use Rattle.std.proofs.Common.{◌≡◌, ℕ, List, [], ◌∷◌, Some, refl, ap, ◌∙◌}
 use Rattle.std.specs.Prelude.{option_map}
 use Rattle.tags.specs.declared.value.Value.{Value}
-use Rattle.operators.specs.Values.{truth, Indexed, Place, Outside, index_in}
-use Rattle.semantics.specs.declared.graph.Region.{Region}
-use Rattle.semantics.specs.declared.graph.Region.TheVariants.{Root, Arm}
+use Rattle.operators.specs.Values.{Indexed, Place, Outside, index_in}
 use Rattle.semantics.specs.declared.graph.Kind.{Kind}
 use Rattle.semantics.specs.declared.graph.Kind.TheVariants.{Lit, Apply1, Apply2, Cond, Enter, Merge, Fetch, Store, Call, StrictCall, Loop}
-use Rattle.semantics.specs.Graph.{Graph, Flow, flow_of, first_cell, array_len}
+use Rattle.semantics.specs.Graph.{Graph, flow_of, first_cell}
 use Rattle.semantics.specs.Meaning.{Context, origin_at, same_side}
 use Rattle.semantics.specs.Meaning as Meaning
-use Rattle.oracle.specs.declared.deeds.Deed.{Deed}
-use Rattle.oracle.specs.declared.deeds.Deed.TheVariants.{Sends, Tells, Enters, EntersAll, Stops, Reads, Fills, Puts}
 use Rattle.oracle.specs.Lines.{first_of, len_of}
-use Rattle.oracle.specs.Acting.{fired_deed, one_deed, two_deed, few_deed, fetch_deed, store_deed, node_passed, node_gated, gate_deed}
+use Rattle.oracle.specs.Acting.{fired_deed, one_deed, two_deed, fetch_deed, store_deed, node_passed}
 use Rattle.oracle.specs.Meant.{name_in, deed_of}
 use Rattle.oracle.proofs.Resolved.{firsts_same, lens_same}
 

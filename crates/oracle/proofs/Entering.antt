@@ -1,6 +1,5 @@
 -- An invocation is entered.
-use Rattle.std.proofs.Common.{◌≡◌, ℕ, zero, suc, ◌+◌, ◌-◌, ◌<◌, ◌≤◌, ◌⊎◌, inl, inr, Bool, true, false, ◌&&◌, ◌==◌, List, [], ◌∷◌, ◌++◌, map, length, Option, Some, None, slice_get, slice_index_or, if◌then◌else◌, refl, sym, ap, ◌∙◌, subst, arith, eqb-true}
-use Rattle.std.specs.Prelude.{⊤}
+use Rattle.std.proofs.Common.{◌≡◌, ℕ, zero, suc, ◌+◌, ◌<◌, ◌≤◌, ◌⊎◌, inl, inr, Bool, true, false, ◌&&◌, ◌==◌, List, [], ◌∷◌, ◌++◌, map, length, Option, Some, None, slice_get, if◌then◌else◌, refl, sym, ap, ◌∙◌, subst, arith, eqb-true}
 use Rattle.std.proofs.lemmas.List.{length-append}
 use Rattle.semantics.specs.Graph.{Graph, flow_of}
 use Rattle.semantics.specs.Meaning.{Context, Tagged, block_number}
@@ -12,7 +11,7 @@ use Rattle.oracle.specs.declared.invocations.Made.{Made}
 use Rattle.oracle.specs.declared.invocations.Made.TheVariants.{Main, Called, Turned}
 use Rattle.oracle.specs.declared.invocations.Invocation.{Invocation}
 use Rattle.oracle.specs.declared.tokens.Token.{Token}
-use Rattle.oracle.specs.Running.{same_made, made_from, number_or, more_if, number_in, with_made}
+use Rattle.oracle.specs.Running.{same_made, made_from, number_or, more_if}
 use Rattle.oracle.specs.Meant.{name_in, made_of, tagged_of, statement_of, port_of}
 use Rattle.oracle.specs.Naming.{IsBelow, CanEnter, Named, IsEntered}
 
@@ -50,7 +49,7 @@ name_last : (cs : List Context) (d : Context) → name_in (cs ++ d ∷ []) (leng
 name_last [] d = refl
 name_last (c ∷ cs) d = name_last cs d
 
-get_last : (xs : List Invocation) (y : Invocation) (i : ℕ) (x : Invocation) → slice_get (xs ++ y ∷ []) i ≡ Some x → (slice_get xs i ≡ Some x) ⊎ ((i ≡ length xs) × (y ≡ x))
+pub get_last : (xs : List Invocation) (y : Invocation) (i : ℕ) (x : Invocation) → slice_get (xs ++ y ∷ []) i ≡ Some x → (slice_get xs i ≡ Some x) ⊎ ((i ≡ length xs) × (y ≡ x))
 get_last [] y zero x h = inr (refl, some_same y x h)
 get_last [] y (suc i) x h = cc
 get_last (z ∷ xs) y zero x h = inl h

@@ -1,5 +1,5 @@
 -- A join is an activity of the meaning.
-use Rattle.std.proofs.Common.{◌≡◌, ℕ, Bool, true, false, ◌==◌, List, [], ◌∷◌, ◌++◌, map, length, Option, Some, None, if◌then◌else◌, IsPermutation, refl, ap, ◌∙◌, subst, eqb-true}
+use Rattle.std.proofs.Common.{◌≡◌, Bool, true, false, ◌==◌, List, ◌∷◌, ◌++◌, map, length, Option, Some, None, if◌then◌else◌, IsPermutation, refl, ap, ◌∙◌, subst, eqb-true}
 use Rattle.std.proofs.lemmas.List.{map-append}
 use Rattle.std.proofs.lemmas.List.Sorted.{IsPermutation-map}
 use Rattle.semantics.specs.Graph.{Graph, flow_of}
@@ -11,7 +11,7 @@ use Rattle.oracle.specs.declared.deeds.Deed.{Deed}
 use Rattle.oracle.specs.declared.tokens.Token.{Token}
 use Rattle.oracle.specs.Lines.{shape_in, spots_in}
 use Rattle.oracle.specs.Acting.{all_there, values_of, left_of, deed_in}
-use Rattle.oracle.specs.Running.{Joined, Alone, Joins, Fails, joins, join_values, join_all, join_shape, join_in}
+use Rattle.oracle.specs.Running.{Alone, Fails, joins, join_all, join_shape, join_in}
 use Rattle.oracle.specs.Meant.{name_in, made_of, tagged_of, activity_of}
 use Rattle.oracle.specs.Agreeing.{zipped, IsJoin}
 use Rattle.oracle.proofs.Acts.{act_law}

@@ -1,6 +1,6 @@
 -- What a deed names is there.
-use Rattle.std.proofs.Common.{◌≡◌, ℕ, zero, suc, ◌+◌, ◌-◌, ◌<◌, ◌≤◌, ◌^◌, Bool, true, false, ◌==◌, List, [], ◌∷◌, length, Option, Some, None, nat_lt, slice_get, if◌then◌else◌, refl, sym, ap, ◌∙◌, subst, arith, ltb-true}
-use Rattle.std.specs.Prelude.{option_map, ⊤, ℤ, pos, negsuc}
+use Rattle.std.proofs.Common.{◌≡◌, ℕ, ◌+◌, ◌-◌, ◌<◌, ◌^◌, Bool, true, false, ◌==◌, List, [], ◌∷◌, length, Option, Some, None, nat_lt, slice_get, if◌then◌else◌, refl, ap, ◌∙◌, subst, ltb-true}
+use Rattle.std.specs.Prelude.{option_map, ⊤, pos, negsuc}
 use Rattle.tags.specs.declared.value.Value.{Value}
 use Rattle.tags.specs.declared.value.Value.TheVariants.{Int, Fault}
 use Rattle.tags.specs.declared.value.Origin.{Origin}
@@ -10,23 +10,23 @@ use Rattle.semantics.specs.declared.graph.Region.{Region}
 use Rattle.semantics.specs.declared.graph.Region.TheVariants.{Root, Arm}
 use Rattle.semantics.specs.declared.graph.Kind.{Kind}
 use Rattle.semantics.specs.declared.graph.Kind.TheVariants.{Lit, Apply1, Apply2, Cond, Enter, Merge, Fetch, Store, Call, StrictCall, Loop}
-use Rattle.semantics.specs.Graph.{Node as Row, Block, Graph, flow_of, node_at}
+use Rattle.semantics.specs.Graph.{Node as Row, Block, Graph, flow_of}
 use Rattle.semantics.specs.Meaning.{Context, same_side, block_number, block_numbered, block_of, callee, callee_of, callee_in}
 use Rattle.semantics.specs.Meaning as Meaning
 use Rattle.oracle.specs.declared.invocations.Made.{Made}
 use Rattle.oracle.specs.declared.invocations.Made.TheVariants.{Main, Called, Turned}
 use Rattle.oracle.specs.declared.invocations.Invocation.{Invocation}
 use Rattle.oracle.specs.declared.lines.Line.{Line}
-use Rattle.oracle.specs.declared.lines.Line.TheVariants.{Input, Node, Nothing}
+use Rattle.oracle.specs.declared.lines.Line.TheVariants.{Input, Nothing}
 use Rattle.oracle.specs.declared.shapes.Shape.{Shape}
 use Rattle.oracle.specs.declared.shapes.Shape.TheVariants.{Fires, Gates, Passes, Returns, Turns, Outputs}
 use Rattle.oracle.specs.declared.deeds.Deed.{Deed}
-use Rattle.oracle.specs.declared.deeds.Deed.TheVariants.{Sends, Tells, Enters, EntersAll, Stops, Reads, Fills, Puts}
+use Rattle.oracle.specs.declared.deeds.Deed.TheVariants.{Sends, Enters, Stops}
 use Rattle.oracle.specs.Lines.{line_of, line_in, line_of_row, resolved_in, origin_of, first_of, len_of}
-use Rattle.oracle.specs.Acting.{line_deed, fires_deed, input_deed, fired_deed, one_deed, two_deed, fetch_deed, store_deed, gated_deed, passed_deed, turned_deed, returned_deed, shown_deed, next_turn, deed_in, node_gated, node_passed, gate_deed}
+use Rattle.oracle.specs.Acting.{line_deed, fires_deed, input_deed, fired_deed, one_deed, two_deed, fetch_deed, store_deed, gated_deed, passed_deed, turned_deed, returned_deed, shown_deed, next_turn, deed_in, node_gated, node_passed}
 use Rattle.oracle.specs.Meant.{name_in, made_of}
 use Rattle.oracle.specs.Agreeing.{block_in, row_in}
-use Rattle.oracle.specs.Naming.{IsBelow, CanEnter, IsKnown}
+use Rattle.oracle.specs.Naming.{IsBelow, IsKnown}
 use Rattle.oracle.proofs.Resolved.{block_same, rows_same}
 
 abbrev KnownIf : Graph → List Context → ℕ → List Value → Option Deed → Type 0

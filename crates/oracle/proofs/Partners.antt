@@ -1,8 +1,8 @@
 -- What is taken out, and what stays: together they are all tokens.
-use Rattle.std.proofs.Common.{◌≡◌, ℕ, zero, suc, ◌+◌, ◌<◌, ◌≤◌, Bool, true, false, ◌&&◌, ◌==◌, List, [], ◌∷◌, ◌++◌, length, map, Option, Some, None, slice_get, get_or, if◌then◌else◌, IsPermutation, refl, sym, ap, ◌∙◌, subst, arith, eqb-true}
+use Rattle.std.proofs.Common.{◌≡◌, ℕ, zero, suc, ◌+◌, ◌≤◌, Bool, true, false, ◌&&◌, ◌==◌, List, [], ◌∷◌, ◌++◌, length, Option, Some, None, slice_get, get_or, if◌then◌else◌, IsPermutation, refl, sym, ap, ◌∙◌, subst, arith, eqb-true}
 use Rattle.std.specs.Prelude.{remove}
 use Rattle.std.proofs.lemmas.List.{length-append}
-use Rattle.std.proofs.lemmas.List.Sorted.{IsPermutation-refl, IsPermutation-sym, IsPermutation-trans, IsPermutation-append_right, IsPermutation-remove}
+use Rattle.std.proofs.lemmas.List.Sorted.{IsPermutation-refl, IsPermutation-trans, IsPermutation-append_right, IsPermutation-remove}
 use Rattle.tags.specs.declared.value.Value.{Value}
 use Rattle.determinacy.proofs.Options.{some_same}
 use Rattle.determinacy.proofs.Diamond.{permutation_exchange}
@@ -50,7 +50,7 @@ get_of [] i u d h = cc
 get_of (t ∷ ts) zero u d h = sym (some_same t u h)
 get_of (t ∷ ts) (suc i) u d h = get_of ts i u d h
 
-removed : (c : ℕ) (s : Spot) (k : ℕ) (ts : List Token) → find_from c s 0 ts ≡ Some k → (v : Value) × (slice_get ts k ≡ Some (token_of c s v)) × IsPermutation ts (token_of c s v ∷ remove ts k)
+pub removed : (c : ℕ) (s : Spot) (k : ℕ) (ts : List Token) → find_from c s 0 ts ≡ Some k → (v : Value) × (slice_get ts k ≡ Some (token_of c s v)) × IsPermutation ts (token_of c s v ∷ remove ts k)
 removed c s k ts h =
     let f = find_law c s 0 k ts h in
     let same : f.0 ≡ k = let is = f.2 in omega (arith, is) in

@@ -1,9 +1,9 @@
 -- Looking up in a graph with names, and in the graph with places.
-use Rattle.std.proofs.Common.{◌≡◌, ℕ, zero, suc, ◌+◌, ◌-◌, Bool, true, false, List, [], ◌∷◌, map, length, sum, take, Option, Some, None, nat_lt, slice_get, slice_index_or, if◌then◌else◌, ◌≤◌, refl, sym, ap, ◌∙◌, arith}
+use Rattle.std.proofs.Common.{◌≡◌, ℕ, zero, suc, ◌+◌, ◌-◌, Bool, false, List, [], ◌∷◌, map, sum, take, None, nat_lt, slice_get, slice_index_or, if◌then◌else◌, ◌≤◌, refl, sym, ap, ◌∙◌, arith}
 use Rattle.std.specs.Prelude.{option_map}
 use Rattle.std.proofs.lemmas.Option.{slice_get-map}
 use Rattle.std.proofs.lemmas.List.Sums.{sum_by-cons}
-use Rattle.semantics.specs.Graph.{Node as Row, Block, Graph, Flow, flow_of, node_at, first_cell, array_len, resolved_block, resolved_kind, array_names, block_names}
+use Rattle.semantics.specs.Graph.{Block, Graph, flow_of, node_at}
 use Rattle.semantics.specs.Text.{HasText}
 use Rattle.oracle.specs.Lines.{first_of, len_of, total_of}
 use Rattle.oracle.specs.Agreeing.{block_in, row_in}

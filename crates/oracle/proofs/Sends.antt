@@ -1,17 +1,15 @@
 -- What is sent, by numbers of invocations and by their names.
-use Rattle.std.proofs.Common.{◌≡◌, ℕ, zero, suc, ◌+◌, Bool, true, false, ◌&&◌, ◌==◌, List, [], ◌∷◌, ◌++◌, map, flat_map, Option, Some, None, if◌then◌else◌, refl, sym, ap, ◌∙◌, append_assoc}
+use Rattle.std.proofs.Common.{◌≡◌, ℕ, zero, suc, ◌+◌, true, false, List, [], ◌∷◌, ◌++◌, map, flat_map, if◌then◌else◌, refl, sym, ap, ◌∙◌}
 use Rattle.std.proofs.lemmas.List.{map-append}
 use Rattle.tags.specs.declared.value.Value.{Value}
 use Rattle.semantics.specs.declared.graph.Source.{Source}
-use Rattle.semantics.specs.declared.graph.Kind.{Kind}
 use Rattle.semantics.specs.Graph.{Node, Block, Graph}
 use Rattle.semantics.specs.Meaning.{Context, Statement, Port, Tagged, tagged, positions, uses_at, turns_from, turns_of, result_uses, uses_in}
 use Rattle.semantics.specs.Meaning as Meaning
 use Rattle.oracle.specs.declared.invocations.Made.{Made}
 use Rattle.oracle.specs.declared.invocations.Made.TheVariants.{Main, Called, Turned}
 use Rattle.oracle.specs.declared.sending.Sent.{Sent}
-use Rattle.oracle.specs.declared.tokens.Token.{Token}
-use Rattle.oracle.specs.declared.tokens.Spot.TheVariants.{Operand, Out, Flag, Carried}
+use Rattle.oracle.specs.declared.tokens.Spot.TheVariants.{Operand}
 use Rattle.oracle.specs.Sending.{operand_tokens, node_tokens, flag_tokens, turned_tokens, result_tokens, results_tokens, sent_tokens, token_at, is_port_of}
 use Rattle.oracle.specs.Meant.{name_in, tagged_of, made_of}
 use Rattle.oracle.specs.Agreeing.{row_in, block_in}

@@ -1,5 +1,5 @@
 -- The tokens that an activity takes.
-use Rattle.std.proofs.Common.{◌≡◌, ℕ, zero, suc, ◌+◌, ◌<◌, ◌≤◌, Bool, true, false, ◌&&◌, ◌==◌, List, [], ◌∷◌, length, map, Option, Some, None, nat_lt, if◌then◌else◌, refl, sym, ap, ◌∙◌, subst, arith, eqb-true, ltb-true, eq-eqb, ne_eqb}
+use Rattle.std.proofs.Common.{◌≡◌, ℕ, zero, suc, ◌+◌, ◌<◌, ◌≤◌, Bool, true, false, ◌&&◌, ◌==◌, List, [], ◌∷◌, length, map, Some, None, nat_lt, if◌then◌else◌, refl, sym, ap, ◌∙◌, subst, arith, eqb-true, ltb-true, eq-eqb, ne_eqb}
 use Rattle.tags.specs.declared.value.Value.{Value}
 use Rattle.semantics.specs.declared.graph.Kind.{Kind}
 use Rattle.semantics.specs.declared.graph.Kind.TheVariants.{Lit, Apply1, Apply2, Cond, Enter, Merge, Fetch, Store, Call, StrictCall, Loop}
@@ -22,7 +22,7 @@ use Rattle.oracle.specs.Acting.{deed_in, returned_deed, turned_deed, shown_deed}
 use Rattle.oracle.specs.Agreeing.{own, zipped}
 use Rattle.oracle.specs.Meant.{name_in, made_of, tagged_of, activity_of}
 
-spot_refl : (q : Spot) → same_spot q q ≡ true
+pub spot_refl : (q : Spot) → same_spot q q ≡ true
 spot_refl (Operand n i) = ap (λ b. b && (i == i)) (eq-eqb n n refl) ∙ ap (λ b. true && b) (eq-eqb i i refl)
 spot_refl (Predicate n) = eq-eqb n n refl
 spot_refl (Out j) = eq-eqb j j refl
@@ -62,12 +62,12 @@ operands_own n i from (suc k) low high =
     ] in
     cases (from == i) refl
 
-if_both : (a b : Bool) (x y : Shape) → (if a && b then Some x else None) ≡ Some y → (b ≡ true) × (x ≡ y)
+pub if_both : (a b : Bool) (x y : Shape) → (if a && b then Some x else None) ≡ Some y → (b ≡ true) × (x ≡ y)
 if_both true true x y h = (refl, some_same x y h)
 if_both true false x y h = cc
 if_both false b x y h = cc
 
-if_one : (a : Bool) (x y : Shape) → (if a then Some x else None) ≡ Some y → (a ≡ true) × (x ≡ y)
+pub if_one : (a : Bool) (x y : Shape) → (if a then Some x else None) ≡ Some y → (a ≡ true) × (x ≡ y)
 if_one true x y h = (refl, some_same x y h)
 if_one false x y h = cc
 

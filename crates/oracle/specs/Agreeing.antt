@@ -1,7 +1,6 @@
--- How the run of numbered invocations agrees with the meaning, whose invocations have names. Not proved yet: what a
--- conditional tells and what an invocation takes as inputs, the memory after an activity, and so that the run as a whole
--- is one of the meaning, and that its end is.
-use Rattle.std.specs.Prelude.{◌≡◌, ℕ, suc, Bool, List, [], ◌∷◌, ◌++◌, map, Some, if◌then◌else◌, IsPermutation, ⊤}
+-- How the steps of a run of numbered invocations agree with the meaning, whose invocations have names. What holds of whole
+-- runs stands in Reporting.
+use Rattle.std.specs.Prelude.{◌≡◌, ℕ, suc, List, [], ◌∷◌, ◌++◌, map, Some, if◌then◌else◌, IsPermutation, ⊤}
 use Rattle.tags.specs.declared.value.Value.{Value}
 use Rattle.semantics.specs.Graph.{Node, Block, Graph, flow_of, resolved_block, array_names, block_names}
 use Rattle.semantics.specs.Text.{HasText}

@@ -3,5 +3,6 @@ pub mod Agreeing
 pub mod Lines
 pub mod Meant
 pub mod Naming
+pub mod Reporting
 pub mod Running
 pub mod Sending

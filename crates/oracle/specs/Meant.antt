@@ -1,12 +1,10 @@
 -- What a run of the meaning tells.
-use Rattle.std.specs.Prelude.{◌≡◌, ◌↔◌, ℕ, ◌+◌, ◌<◌, ◌≤◌, ℤ, List, [], ◌∷◌, ◌++◌, map, length, All, Option, Some, None, slice_get, slice_index_or, IsPermutation, Contains}
+use Rattle.std.specs.Prelude.{ℕ, List, [], ◌∷◌, slice_index_or}
 use Rattle.tags.specs.declared.value.Value.{Value}
-use Rattle.semantics.specs.Graph.{Graph, Flow, flow_of, first_cell, array_len}
 use Rattle.semantics.specs.Meaning.{Context, Statement, AtNode, AtOut, AtTurn, Port, Tagged, tagged, State, Activity, Run, Step, AtRest, Clashes, start, block_number, taken, deed}
 use Rattle.semantics.specs.Meaning as Meaning
 use Rattle.oracle.specs.declared.invocations.Made.{Made}
 use Rattle.oracle.specs.declared.invocations.Made.TheVariants.{Main, Called, Turned}
-use Rattle.oracle.specs.declared.invocations.Invocation.{Invocation}
 use Rattle.oracle.specs.declared.tokens.Spot.{Spot}
 use Rattle.oracle.specs.declared.tokens.Spot.TheVariants.{Operand, Predicate, Out, Flag, Carried}
 use Rattle.oracle.specs.declared.tokens.Token.{Token}

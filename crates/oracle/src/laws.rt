@@ -2,6 +2,7 @@
 
 ghost use Rattle.oracle.specs.Agreeing.{JoinsAgree, SendingAgrees};
 ghost use Rattle.oracle.specs.Naming.{DeedsAreKnown, EnteringAgrees};
+ghost use Rattle.oracle.specs.Reporting.{RunsEnd, ReportsAreTrue};
 
 /// What the steps of a run do is what the meaning says: each join of a token with its partners is an activity of the
 /// meaning, with its deed, and no other token is touched; a deed names only what is there; an invocation that is entered
@@ -11,4 +12,11 @@ pub fn steps_agree()
     ensures known { DeedsAreKnown }
     ensures entering { EnteringAgrees }
     ensures sending { SendingAgrees }
+{}
+
+/// The run that `mean` makes comes to an end on each well-formed graph, within any number of steps below 2^64: it never meets
+/// joined tokens without a deed, nor a turn whose number is above the greatest u64. And what it tells is true of the meaning.
+pub fn runs_are_meant()
+    ensures ends { RunsEnd }
+    ensures reports { ReportsAreTrue }
 {}

@@ -14,7 +14,7 @@ mod shapes;
 mod state;
 mod tokens;
 
-pub use laws::steps_agree;
+pub use laws::{runs_are_meant, steps_agree};
 pub use report::{Full, MeanEnd, MeanFault, MeanReport};
 pub use runs::mean;
 

@@ -1,9 +1,10 @@
 //! Runs of the meaning.
 
-ghost use Rattle.std.specs.Prelude.{◌≡◌, ◌≢◌, ◌↔◌, ◌≤◌, ◌++◌, map, length, IfOk, OnOk};
+ghost use Rattle.std.specs.Prelude.{◌≡◌, ◌≢◌, ◌↔◌, ◌≤◌, ◌++◌, map, length, None, IfOk, OnOk};
 ghost use Rattle.semantics.specs.Text.{HasText};
 ghost use Rattle.oracle.specs.Lines.{total_of, inputs_at};
 ghost use Rattle.oracle.specs.Sending.{entering_tokens};
+ghost use Rattle.oracle.specs.Reporting.{IsMeant};
 ghost use Rattle.oracle.specs.Running.{plain, run_of, nones, no_cells, start_of, main_place, full_if, full_from, full_in, told};
 
 use crate::invocations::{Invocation, Made};
@@ -98,7 +99,8 @@ fn run<'a, A: Allocator + Clone>(
     state: &mut State<A>,
     steps: u64,
 ) -> Result<MeanEnd, AllocError>
-    requires { total_of checked.now.arrays ≤ 65536 }
+    requires few { total_of checked.now.arrays ≤ 65536 }
+    requires comes_to_an_end { run_of checked.now steps (plain state.old.invocations.items state.old.fresh.items state.old.waiting.items state.old.deferred.items state.old.cells.items state.old.outputs.items) ≢ None }
     ensures { let old = plain state.old.invocations.items state.old.fresh.items state.old.waiting.items state.old.deferred.items state.old.cells.items state.old.outputs.items in
         let new = plain state.new.invocations.items state.new.fresh.items state.new.waiting.items state.new.deferred.items state.new.cells.items state.new.outputs.items in
         IfOk result (λ e. run_of checked.now steps old ≡ Some (e, new)) }
@@ -175,7 +177,8 @@ fn run_to_end<'a, A: Allocator + Clone>(
     inputs: &[i64],
     steps: u64,
 ) -> Result<MeanReport<A>, AllocError>
-    requires { total_of checked.now.arrays ≤ 65536 }
+    requires few { total_of checked.now.arrays ≤ 65536 }
+    requires comes_to_an_end { told checked.now inputs.now steps ≢ None }
     ensures { IfOk result (λ r. told checked.now inputs.now steps ≡ Some (r.end, r.outputs.items, r.cells.items)) }
 {
     let mut state = start(alloc.clone()?, checked, inputs)?;
@@ -203,9 +206,13 @@ fn run_to_end<'a, A: Allocator + Clone>(
 /// and tokens that were looked at and can't act behind all others. A run ends at rest, at the first store that has both
 /// operands and a full cell, or where one more activity than allowed is enabled.
 ///
-/// `WrongInputs` comes first: there are not as many inputs as main has. `Memory` is answered where a growth was refused.
-/// It also stands for what no run of a well-formed graph brings about: joined tokens for which there is no deed, and a turn
-/// whose number is above the greatest u64.
+/// The report is true of the meaning: a run of at most so many of its activities, in some order, reaches a state that has
+/// just the outputs and the full cells that are told. `Rest` is told only where no activity is enabled in that state and no
+/// store clashes, `Clash` only where a store clashes at that cell, and `Steps` only after just so many activities with one
+/// more enabled.
+///
+/// `WrongInputs` comes first: there are not as many inputs as main has. `Memory` is answered where a growth was refused, and
+/// only there: no run comes to joined tokens without a deed, nor to a turn whose number is above the greatest u64.
 pub fn mean<'a, A: Allocator + Clone>(
     alloc: A,
     checked: &Checked<'a, A>,
@@ -215,6 +222,7 @@ pub fn mean<'a, A: Allocator + Clone>(
     requires limits { HasText checked.now }
     ensures wrong { result ≡ Err MeanFault.WrongInputs ↔ (length inputs.now ≢ inputs_at checked.now (main_place checked.now)) }
     ensures told { IfOk result (λ r. told checked.now inputs.now steps ≡ Some (r.end, r.outputs.items, r.cells.items)) }
+    ensures meant { IfOk result (λ r. IsMeant checked.now inputs.now steps r.end r.outputs.items r.cells.items) }
 {
     if inputs.len() != input_count(checked.graph(), checked.main_place()) {
         return Err(MeanFault::WrongInputs);

@@ -1,9 +1,9 @@
 //! A state of a run: the tokens, the cells, and the outputs.
 
-ghost use Rattle.std.specs.Prelude.{◌≡◌, ◌≤◌, ◌∷◌, ◌++◌, [], Some, slice_get, IfOk, OnOk, MatchOption, MatchResult};
+ghost use Rattle.std.specs.Prelude.{◌≡◌, ◌≢◌, ◌≤◌, ◌∷◌, ◌++◌, [], Some, slice_get, IfOk, OnOk, MatchOption, MatchResult};
 ghost use Rattle.oracle.specs.Lines.{total_of, spots_in};
 ghost use Rattle.oracle.specs.Acting as Acting;
-ghost use Rattle.oracle.specs.Running.{plain, join_of, Alone, Joins, next_in, Acts, Ends, performed};
+ghost use Rattle.oracle.specs.Running.{plain, join_of, Alone, Joins, Fails, next_in, Acts, Ends, Broken, performed};
 ghost use Rattle.oracle.specs.Running as Running;
 
 use crate::deeds::{Deed, deed_of};
@@ -68,16 +68,17 @@ fn take_all<'a, A: Allocator + Clone>(
 ) -> Result<Act<A>, AllocError>
     requires few { total_of checked.now.arrays ≤ 65536 }
     requires spots { spots.now ≡ spots_in shape.now }
+    requires never_fails { Running.join_all checked.now waiting.old.items token.now invocation.now shape.now ≢ Fails }
     ensures { IfOk result (λ act. Running.join_all checked.now waiting.old.items token.now invocation.now shape.now ≡ Joins waiting.new.items act.values.items act.deed) }
 {
     let alloc = waiting.allocator().clone()?;
     let values = take_out(alloc, waiting, token, spots)?;
     if values.len() != spots.len() {
-        return Err(AllocError);
+        unreachable!()
     }
     match deed_of(checked, token.context, *invocation, *shape, &values) {
         Some(deed) => Ok(Act { values, deed }),
-        None => Err(AllocError),
+        None => unreachable!(),
     }
 }
 
@@ -89,7 +90,8 @@ fn join_for<'a, A: Allocator + Clone>(
     invocation: &Invocation,
     shape: &Shape,
 ) -> Result<Option<Act<A>>, AllocError>
-    requires { total_of checked.now.arrays ≤ 65536 }
+    requires few { total_of checked.now.arrays ≤ 65536 }
+    requires never_fails { Running.join_shape checked.now waiting.old.items token.now invocation.now (Some shape.now) ≢ Fails }
     ensures { IfOk result (λ r. MatchOption r
         ((Running.join_shape checked.now waiting.old.items token.now invocation.now (Some shape.now) ≡ Alone) × (waiting.new.items ≡ waiting.old.items ++ token.now ∷ []))
         (λ act. Running.join_shape checked.now waiting.old.items token.now invocation.now (Some shape.now) ≡ Joins waiting.new.items act.values.items act.deed)) }
@@ -111,7 +113,8 @@ fn join<'a, A: Allocator + Clone>(
     waiting: &mut Vec<Token, A>,
     token: &Token,
 ) -> Result<Option<Act<A>>, AllocError>
-    requires { total_of checked.now.arrays ≤ 65536 }
+    requires few { total_of checked.now.arrays ≤ 65536 }
+    requires never_fails { join_of checked.now invocations.now waiting.old.items token.now ≢ Fails }
     ensures { IfOk result (λ r. MatchOption r
         ((join_of checked.now invocations.now waiting.old.items token.now ≡ Alone) × (waiting.new.items ≡ waiting.old.items ++ token.now ∷ []))
         (λ act. join_of checked.now invocations.now waiting.old.items token.now ≡ Joins waiting.new.items act.values.items act.deed)) }
@@ -168,7 +171,8 @@ pub fn next_act<'a, A: Allocator + Clone>(
     checked: &Checked<'a, A>,
     state: &mut State<A>,
 ) -> Result<Result<Act<A>, MeanEnd>, AllocError>
-    requires { total_of checked.now.arrays ≤ 65536 }
+    requires few { total_of checked.now.arrays ≤ 65536 }
+    requires never_broken { next_in checked.now (plain state.old.invocations.items state.old.fresh.items state.old.waiting.items state.old.deferred.items state.old.cells.items state.old.outputs.items) ≢ Broken }
     ensures { let old = plain state.old.invocations.items state.old.fresh.items state.old.waiting.items state.old.deferred.items state.old.cells.items state.old.outputs.items in
         let new = plain state.new.invocations.items state.new.fresh.items state.new.waiting.items state.new.deferred.items state.new.cells.items state.new.outputs.items in
         IfOk result (λ r. MatchResult r (λ act. next_in checked.now old ≡ Acts new act.values.items act.deed) (λ e. next_in checked.now old ≡ Ends new e)) }

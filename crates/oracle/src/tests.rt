@@ -15,6 +15,9 @@ const CHOICE: &[u8] =
 const FACTORIAL: &[u8] =
     b"etsgraph 1\nblock fact 1 1\n- cond 0.0\n1+ enter 0.0\n1+ lit 1 2.0\n1+ sub 2.0 3.0\n1+ call fact 4.0\n1+ mul 2.0 5.0\n1- enter 0.0\n1- lit 1 7.0\n- merge 1 6.0 8.0\nout 9.0\nend\nmain fact\n";
 
+const STRICT_FACTORIAL: &[u8] =
+    b"etsgraph 2\nblock fact 1 1\n- cond 0.0\n1+ enter 0.0\n1+ lit 1 2.0\n1+ sub 2.0 3.0\n1+ scall fact 4.0\n1+ mul 2.0 5.0\n1- enter 0.0\n1- lit 1 7.0\n- merge 1 6.0 8.0\nout 9.0\nend\nmain fact\n";
+
 const EARLY: &[u8] =
     b"etsgraph 1\narray A 1\nblock g 2 1\nout 0.0\nend\nblock m 2 2\n- lit 0 0.0\n- fetch A 2.0\n- call g 0.0 3.0\n- add 4.0 1.0\n- store A 2.0 5.0\nout 4.0 6.0\nend\nmain m\n";
 
@@ -167,6 +170,17 @@ fn recurs(rt: HostRuntime) -> Result<(), Fail> {
 }
 
 #[test]
+fn recurs_by_strict_calls(rt: HostRuntime) -> Result<(), Fail> {
+    rests(
+        &rt,
+        rt.alloc(),
+        STRICT_FACTORIAL,
+        &[20],
+        &[int(2432902008176640000)],
+    )
+}
+
+#[test]
 fn calls_before_all_arguments_are_there(rt: HostRuntime) -> Result<(), Fail> {
     means(
         &rt,
@@ -190,9 +204,18 @@ fn turns(rt: HostRuntime) -> Result<(), Fail> {
     rests(&rt, rt.alloc(), SUM, &[1], &[int(1)])
 }
 
+/// A turn is ten activities: three inputs, four nodes and three results. Seven more lead in and out.
 #[test]
 fn turns_on_and_on(rt: HostRuntime) -> Result<(), Fail> {
-    rests(&rt, rt.alloc(), SUM, &[10000], &[int(50005000)])
+    means(
+        &rt,
+        rt.alloc(),
+        SUM,
+        (&[10000], 100_007),
+        MeanEnd::Rest,
+        &[int(50005000)],
+        &[],
+    )
 }
 
 #[test]
