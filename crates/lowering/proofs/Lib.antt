@@ -36,6 +36,7 @@ pub mod StraightFed
 pub mod StraightWired
 pub mod StraightProgram
 pub mod OneCopyMore
+pub mod StraightPlanned
 -- the theorem
 pub mod Theorem
 pub mod Example

@@ -38,7 +38,7 @@ module _ (version number : ℕ) (b : Block ℕ) (flat : IsStraightBlock b) where
   later : (k m : ℕ) → m ≡ suc k → slice_get (straight_roles b) m ≡ slice_get (counted Line 0 (node_count b) ++ (counted Result 0 b.outputs ++ (counted Join 0 (join_count b) ++ End ∷ []))) k
   later k m e = ap (slice_get (straight_roles b)) e
 
-  role_at : (r : Role) → IsThere b w r → is_instr r ≡ true → slice_get (straight_roles b) (straight_place b r) ≡ Some r
+  pub role_at : (r : Role) → IsThere b w r → is_instr r ≡ true → slice_get (straight_roles b) (straight_place b r) ≡ Some r
   role_at Start h i = refl
   role_at (Copy kind num) h i = absurd (omega (arith, h))
   role_at (Line n) h i = later n (1 + n) (omega arith) ∙ counted_first Line 0 (node_count b) n _ h ∙ ap (λ m. Some (Line m)) (let q : 0 + n ≡ n = omega arith in q)
@@ -49,7 +49,7 @@ module _ (version number : ℕ) (b : Block ℕ) (flat : IsStraightBlock b) where
   role_at Done h i = absurd (true≢false (sym i))
   role_at Freed h i = absurd (true≢false (sym i))
 
-  instr_here : (r : Role) → IsThere b w r → is_instr r ≡ true → slice_get (map (instr_for version number b) (straight_roles b)) (straight_place b r) ≡ Some (instr_for version number b r)
+  pub instr_here : (r : Role) → IsThere b w r → is_instr r ≡ true → slice_get (map (instr_for version number b) (straight_roles b)) (straight_place b r) ≡ Some (instr_for version number b r)
   instr_here r h i = slice_get-map (instr_for version number b) (straight_roles b) (straight_place b r) ∙ ap (option_map (instr_for version number b)) (role_at r h i)
 
   place_within : (r : Role) → IsThere b w r → is_instr r ≡ true → straight_place b r < length (map (instr_for version number b) (straight_roles b))
@@ -66,7 +66,7 @@ module _ (version number : ℕ) (b : Block ℕ) (flat : IsStraightBlock b) where
   in_outs Done x i = omega arith
   in_outs Freed x i = omega arith
 
-  rises : (r : Role) → IsThere b w r → is_instr r ≡ true → All (λ x. straight_place b r < straight_place b x.role) (straight_wire b r)
+  pub rises : (r : Role) → IsThere b w r → is_instr r ≡ true → All (λ x. straight_place b r < straight_place b x.role) (straight_wire b r)
   rises r h i =
       let wires = lawful_wires b flat r h in
       All-weaker (Contains (straight_wire b r)) (λ x. straight_place b r < straight_place b x.role)
@@ -89,13 +89,13 @@ module _ (version number : ℕ) (b : Block ℕ) (flat : IsStraightBlock b) where
       same_Some r q e = cc
 
   -- slots
-  line_slot : (n : ℕ) → is_two b (Line n) ≡ true → straight_slot b (Line n) ≡ count_below (is_pair_line b) n
+  pub line_slot : (n : ℕ) → is_two b (Line n) ≡ true → straight_slot b (Line n) ≡ count_below (is_pair_line b) n
   line_slot n t = ap (λ (t : Bool). if t then count_below (is_pair_line b) n else 0) t
 
-  line_slot_below : (n : ℕ) → n < node_count b → is_two b (Line n) ≡ true → straight_slot b (Line n) < count_below (is_pair_line b) (node_count b)
+  pub line_slot_below : (n : ℕ) → n < node_count b → is_two b (Line n) ≡ true → straight_slot b (Line n) < count_below (is_pair_line b) (node_count b)
   line_slot_below n h t = let k = count-lt (is_pair_line b) n (node_count b) h t in let e = line_slot n t in omega (arith, k, e)
 
-  slots_apart : (r q : Role) → IsThere b w r → IsThere b w q → is_two b r ≡ true → is_two b q ≡ true → straight_slot b r ≡ straight_slot b q → r ≡ q
+  pub slots_apart : (r q : Role) → IsThere b w r → IsThere b w q → is_two b r ≡ true → is_two b q ≡ true → straight_slot b r ≡ straight_slot b q → r ≡ q
   slots_apart (Line m) (Line n) h g s t e = ap Line (count-same (is_pair_line b) m n s t (sym (line_slot m s) ∙ e ∙ line_slot n t))
   slots_apart (Line m) (Result n) h g s t e = let k = line_slot_below m h s in absurd (omega (arith, k, e))
   slots_apart (Line m) (Join n) h g s t e = let k = line_slot_below m h s in absurd (omega (arith, k, e))

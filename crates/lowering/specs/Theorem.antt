@@ -8,6 +8,7 @@ use Rattle.semantics.specs.Program.{Program}
 use Rattle.semantics.specs.Machine.{Machine, Size, Events}
 use Rattle.semantics.specs.declared.program.Mark.TheVariants.{Unmarked}
 use Rattle.semantics.specs.Plan.{Plan, mark_at}
+use Rattle.semantics.specs.Wired.{IsWired}
 use Rattle.semantics.specs.Orderly.{IsFreeAtRelease, Orderly}
 use Rattle.semantics.specs.Faithful.{Faithful, IsRun}
 use Rattle.lowering.specs.Implements.{IsStraight, Implements}
@@ -50,3 +51,7 @@ ReleaseIsLast = (fl : Flow) (p : Program) → IsStraight fl → Implements fl p
 -- Straight code has no switch, and so its plan no mark. Each run over such a plan is orderly.
 abbrev pub PlanIsOrderly : Type 0
 PlanIsOrderly = (fl : Flow) (p : Plan) → IsStraight fl → Implements fl p.program → ((b n : ℕ) → mark_at p b n ≡ Unmarked) → Orderly p
+
+-- A plan that has the program of a straight graph, and no mark, is wired.
+abbrev pub PlanIsWired : Type 0
+PlanIsWired = (fl : Flow) (p : Plan) → IsStraight fl → p.program ≡ straight_program fl → ((b n : ℕ) → mark_at p b n ≡ Unmarked) → IsWired p

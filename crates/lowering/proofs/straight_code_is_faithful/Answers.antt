@@ -1,5 +1,6 @@
 use Rattle.lowering.proofs.StraightGraph.{graph_is_straight}
 use Rattle.lowering.proofs.Theorem.{code_is_faithful, program_implements, program_is_faithful, release_is_last, plan_is_orderly}
+use Rattle.lowering.proofs.StraightPlanned.{plan_is_wired}
 use Rattle.lowering.proofs.straight_code_is_faithful.Goals as goal
 
 pub returns-clause-code : goal.returns-clause-code
@@ -19,3 +20,6 @@ returns-clause-release c = release_is_last
 
 pub returns-clause-orderly : goal.returns-clause-orderly
 returns-clause-orderly c = plan_is_orderly
+
+pub returns-clause-wired : goal.returns-clause-wired
+returns-clause-wired c = plan_is_wired

@@ -1,0 +1,160 @@
+//! An opened object made ready to be run: where its blocks begin and where its arrays lie are looked up, not counted anew.
+#![tactic(auto)]
+
+ghost use Rattle.std.specs.Prelude.{◌≡◌, ◌≤◌, length, sum, IfOk};
+ghost use Rattle.std.specs.Option.{option_map};
+ghost use Rattle.semantics.specs.Program.{first_of};
+ghost use Rattle.semantics.specs.Machine.{outputs_of};
+ghost use Rattle.element.specs.Decoded.{instr_of};
+ghost use Rattle.object_view.specs.Reading.{shown};
+ghost use Rattle.loaded.specs.Ready.{widest, inputs_of};
+
+mod making;
+#[cfg(test)]
+mod tests;
+
+use element::instructions::{Array, Instruction, Instructions};
+use making::{arrays_of, cells_of, entries_of, most_slots};
+use object_view::{CodeInstr, Object};
+use std::alloc::{AllocError, Allocator};
+use std::marker::Model;
+
+/// An object with the number of each block's first instruction, and with the place of each array among the cells, which
+/// are numbered through all arrays in order. Contracts see the object.
+#[derive(Drop)]
+pub struct Loaded<'a, A: Allocator> {
+    object: Object<'a>,
+    /// The number of each block's first instruction.
+    entries: Vec<u32, A>,
+    arrays: Vec<Array, A>,
+    /// How many instructions all blocks have together.
+    instrs: u32,
+    /// How many cells all arrays have together.
+    cells: u32,
+    /// The most slots of any block, and at least 1.
+    slots: u32,
+}
+
+impl<'a, A: Allocator> Model for Loaded<'a, A> {
+    ghost use Rattle.object_view.specs.Reading.{Opened};
+    ghost use Rattle.loaded.specs.Ready.{IsReady};
+
+    ghost Value = { Opened };
+
+    ghost view = { λ l. l.object };
+
+    ghost invariant = { λ l. IsReady l.object l.entries.items l.arrays.items l.instrs l.cells l.slots };
+}
+
+// With its destinations where an element looks for them.
+fn instruction_of(instr: CodeInstr) -> Instruction
+    ensures { instr_of result ≡ shown instr }
+{
+    Instruction {
+        op: instr.op,
+        origin: instr.origin,
+        slot: instr.slot,
+        first: instr.first,
+        second: instr.second,
+    }
+}
+
+impl<'a, A: Allocator> Loaded<'a, A> {
+    /// Makes an object ready. Takes time in proportion to the square of the number of blocks.
+    pub fn new(alloc: A, object: Object<'a>) -> Result<Loaded<'a, A>, AllocError>
+    where
+        A: Clone,
+        ensures { IfOk result (λ l. l ≡ object.entry) }
+    {
+        // What the bytes promise: the code is lawful.
+        let _bytes = object.bytes();
+        let entries = entries_of(alloc.clone()?, &object)?;
+        let arrays = arrays_of(alloc, &object)?;
+        let cells = cells_of(&object);
+        let instrs = object.instr_count();
+        let slots = most_slots(&object);
+        Ok(Loaded {
+            object,
+            entries,
+            arrays,
+            instrs,
+            cells,
+            slots,
+        })
+    }
+
+    /// The number of the first instruction of the block that is run.
+    pub fn main_entry(&self) -> u32
+        ensures { result ≡ first_of self.now.code.program self.now.code.program.main }
+    {
+        match self.entries.get(self.object.main() as usize) {
+            Some(entry) => *entry,
+            None => self.instrs,
+        }
+    }
+
+    /// How many inputs the block that is run has.
+    pub fn main_inputs(&self) -> u32
+        ensures { result ≡ inputs_of self.now.code.program }
+    {
+        match self.object.block(self.object.main()) {
+            Some(block) => block.inputs,
+            None => 0,
+        }
+    }
+
+    /// How many outputs the block that is run has.
+    pub fn main_outputs(&self) -> u32
+        ensures { result ≡ outputs_of self.now.code.program }
+    {
+        match self.object.block(self.object.main()) {
+            Some(block) => block.outputs,
+            None => 0,
+        }
+    }
+
+    /// How many cells all arrays have together.
+    pub fn cell_count(&self) -> u32
+        ensures cells { result ≡ sum self.now.code.program.arrays }
+        ensures few { result ≤ 65536 }
+    {
+        self.cells
+    }
+
+    /// The most slots of any block, and at least 1.
+    pub fn slot_count(&self) -> u32
+        ensures { result ≡ widest self.now.code.program.blocks }
+    {
+        self.slots
+    }
+}
+
+impl<'a, A: Allocator> Instructions for Loaded<'a, A> {
+    ghost program = { λ l. l.code.program };
+
+    ghost width = { λ l. widest l.code.program.blocks };
+
+    fn instr(&self, ip: u32) -> Option<Instruction> {
+        match self.object.instr(ip) {
+            Some(instr) => Some(instruction_of(instr)),
+            None => None,
+        }
+    }
+
+    fn entry(&self, block: u16) -> u32 {
+        match self.entries.get(block as usize) {
+            Some(entry) => *entry,
+            None => self.instrs,
+        }
+    }
+
+    fn array(&self, number: u8) -> Array {
+        match self.arrays.get(number as usize) {
+            Some(array) => *array,
+            None => Array {
+                base: self.cells,
+                len: 0,
+            },
+        }
+    }
+}
