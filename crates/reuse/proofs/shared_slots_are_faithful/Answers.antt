@@ -1,0 +1,16 @@
+use Rattle.reuse.proofs.OwnSlots.{once_runs_are_own}
+use Rattle.reuse.proofs.Unfold.{each_run_unfolds}
+use Rattle.reuse.proofs.Reused.{shared_slots_are_faithful, releases_are_last}
+use Rattle.reuse.proofs.shared_slots_are_faithful.Goals as goal
+
+pub returns-clause-own : goal.returns-clause-own
+returns-clause-own c = once_runs_are_own
+
+pub returns-clause-unfold : goal.returns-clause-unfold
+returns-clause-unfold c = each_run_unfolds
+
+pub returns-clause-faithful : goal.returns-clause-faithful
+returns-clause-faithful c = shared_slots_are_faithful
+
+pub returns-clause-release : goal.returns-clause-release
+returns-clause-release c = releases_are_last

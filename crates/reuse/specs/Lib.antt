@@ -1,0 +1,2 @@
+pub mod OwnSlots
+pub mod Theorem
