@@ -1,0 +1,10 @@
+pub mod Runs
+pub mod Positions
+pub mod Spots
+pub mod Queues
+pub mod Split
+pub mod Growing
+pub mod Stages
+pub mod Flags
+pub mod Keeps
+pub mod Theorem

@@ -1,0 +1,6 @@
+pub mod Sides
+pub mod Rows
+pub mod Places
+pub mod Trees
+pub mod Narrowed
+pub mod Laws

@@ -1,0 +1,48 @@
+//! From a plan to one in which no instruction has more than two destinations: a tree of `copy` leads to the others, as
+//! deep as the logarithm of their number.
+//!
+//! The copies of an instruction stand directly behind it, or, where it stands in a row that must not be cut, directly
+//! behind the row: the entries of a block, or the landing of a link.
+#![tactic(auto)]
+
+ghost use Rattle.std.specs.Prelude.{◌≡◌, IfOk};
+ghost use Rattle.fanout.specs.Narrowed.{narrowed};
+
+mod blocks;
+mod layout;
+mod rows;
+mod sides;
+mod trees;
+
+use blocks::narrow_block;
+use code::{Plan, Program};
+use std::alloc::{AllocError, Allocator};
+
+/// The plan with trees of copies for destinations. Each instruction keeps its slot and its mark.
+///
+/// An instruction sends to two places, or to one for each of its two kinds of destinations: a switch on either side, a
+/// link with its signals, which keeps its landing. A `give` and a `drain` send to one place. Where there are more
+/// destinations, a copy stands for all those of a place. It takes time in proportion to the plan's instructions and
+/// destinations, and its landings.
+///
+/// It fails where a growth is refused, or where a destination would be 2^32 instructions ahead.
+pub fn narrow<A: Allocator + Clone>(alloc: A, plan: &Plan<A>) -> Result<Plan<A>, AllocError>
+    ensures exact { IfOk result (λ p. p ≡ narrowed plan.now) }
+{
+    let mut blocks = Vec::with_capacity(alloc.clone()?, plan.program.blocks.len())?;
+    let mut marks = Vec::with_capacity(alloc.clone()?, plan.program.blocks.len())?;
+    for (number, block) in plan.program.blocks.iter().enumerate() {
+        let narrow = narrow_block(alloc.clone()?, plan, block, plan.marks_of(number))?;
+        blocks.push(narrow.block)?;
+        marks.push(narrow.marks)?;
+    }
+    Ok(Plan {
+        program: Program {
+            blocks,
+            arrays: Vec::from_slice(alloc, &plan.program.arrays)?,
+            main: plan.program.main,
+        },
+        plain: plan.plain,
+        marks,
+    })
+}
