@@ -2,7 +2,7 @@
 use Rattle.std.specs.Prelude.{ℕ, ◌+◌, List, [], ◌∷◌, map, unwrap_or, slice_get, if◌then◌else◌}
 use Rattle.semantics.specs.declared.program.Mark.{Mark}
 use Rattle.semantics.specs.declared.program.Mark.TheVariants.{Unmarked}
-use Rattle.semantics.specs.Program.{Instr, CodeBlock, Program}
+use Rattle.semantics.specs.Program.{Instr, CodeBlock}
 use Rattle.semantics.specs.Plan.{Plan}
 use Rattle.code.specs.Marks.{marks_in}
 use Rattle.folding.specs.Places.{Layout, layout_of, left_of, gone_at}

@@ -1,5 +1,5 @@
 -- Which operators take an operand from the code, and which literals are left out then.
-use Rattle.std.specs.Prelude.{ℕ, ◌+◌, ℤ, Bool, true, false, ◌&&◌, ◌||◌, List, [], ◌∷◌, ◌++◌, Option, Some, None, ◌==◌, slice_get, slice_index_or, if◌then◌else◌}
+use Rattle.std.specs.Prelude.{ℕ, ◌+◌, ℤ, Bool, true, false, ◌&&◌, List, [], ◌∷◌, Option, Some, None, ◌==◌, slice_get, slice_index_or, if◌then◌else◌}
 use Rattle.tags.specs.declared.token.Port.{Port}
 use Rattle.tags.specs.declared.token.Port.TheVariants.{Left, Right}
 use Rattle.semantics.specs.declared.program.Dest.{Dest}
@@ -8,7 +8,7 @@ use Rattle.semantics.specs.declared.program.Op.TheVariants.{Apply2, Apply2Right,
 use Rattle.semantics.specs.Program.{Instr, CodeBlock}
 use Rattle.semantics.specs.Plan.{Plan}
 use Rattle.folding.specs.declared.namers.Namer.{Namer}
-use Rattle.folding.specs.declared.namers.Namer.TheVariants.{Nobody, One, Many}
+use Rattle.folding.specs.declared.namers.Namer.TheVariants.{One}
 use Rattle.folding.specs.declared.folds.Fold.{Fold}
 use Rattle.folding.specs.declared.folds.Fold.TheVariants.{Kept, OnRight, OnLeft}
 use Rattle.folding.specs.Namers.{Namers, namer_at, namers_of}

@@ -3,3 +3,4 @@ pub mod Folds
 pub mod Places
 pub mod Moved
 pub mod Folded
+pub mod Laws
