@@ -1,9 +1,13 @@
 -- What a plan keeps when it is folded.
-use Rattle.std.specs.Prelude.{◌≡◌, ◌≢◌, ℕ, ◌<◌, false, Some, length, slice_get}
+use Rattle.std.specs.Prelude.{◌≡◌, ◌≢◌, ℕ, ◌+◌, ◌<◌, ◌≤◌, ◌⊎◌, Bool, true, false, List, Some, length, slice_get}
+use Rattle.semantics.specs.declared.program.Dest.{Dest}
 use Rattle.semantics.specs.declared.program.Op.TheVariants.{Switch}
 use Rattle.semantics.specs.declared.program.Mark.TheVariants.{Unmarked}
 use Rattle.semantics.specs.Program.{Instr, CodeBlock}
 use Rattle.semantics.specs.Plan.{Plan, mark_at}
+use Rattle.folding.specs.declared.namers.Namer.{Namer}
+use Rattle.folding.specs.declared.namers.Namer.TheVariants.{One, Many}
+use Rattle.folding.specs.Namers.{namers_of, namer_of}
 use Rattle.folding.specs.Places.{layout_of, new_place, gone_at}
 use Rattle.folding.specs.Moved.{moved}
 use Rattle.folding.specs.Folded.{folded_block, folded}
@@ -21,6 +25,22 @@ HasNoOthers = (p : Plan) (c : CodeBlock) (m : ℕ) (j : Instr) → slice_get (fo
 -- and what stood behind it stands behind it: arcs go forward as they did.
 abbrev pub KeepsOrder : Type 0
 KeepsOrder = (p : Plan) (c : CodeBlock) (m n : ℕ) → m < n → n < length c.instrs → gone_at (layout_of p c) m ≡ false → new_place (layout_of p c) m < new_place (layout_of p c) n
+
+-- The entries stay where they are.
+abbrev pub KeepsEntries : Type 0
+KeepsEntries = (p : Plan) (c : CodeBlock) (n : ℕ) → n ≤ c.inputs → n < length c.instrs → (gone_at (layout_of p c) n ≡ false) × (new_place (layout_of p c) n ≡ n)
+
+-- NAMERS. A port that is named is named by one list of destinations alone, or by more.
+abbrev pub dests_of : Instr → Bool → List Dest
+dests_of i true = i.seconds
+dests_of i false = i.firsts
+
+abbrev pub NamedBy : ℕ → Bool → Namer → Type 0
+NamedBy n s x = (x ≡ One n s) ⊎ (x ≡ Many)
+
+abbrev pub KnowsNamers : Type 0
+KnowsNamers = (p : Plan) (c : CodeBlock) (n k : ℕ) (i : Instr) (s : Bool) (d : Dest) → slice_get c.instrs n ≡ Some i → slice_get (dests_of i s) k ≡ Some d → n + d.ahead < length c.instrs
+    → NamedBy n s (namer_of (namers_of p c) (n + d.ahead) d.port)
 
 -- MARKS. An instruction that is not left out keeps its mark,
 abbrev pub KeepsMarks : Type 0

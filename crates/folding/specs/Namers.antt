@@ -65,3 +65,7 @@ entries_noted inputs n = record { lefts = note_row (nobody n) 0 (inputs + 1); ri
 
 abbrev pub namers_of : Plan → CodeBlock → Namers
 namers_of p c = note_all p (entries_noted c.inputs (length c.instrs)) 0 c.instrs
+
+abbrev pub namer_of : Namers → ℕ → Port → Namer
+namer_of ns m Left = namer_at ns.lefts m
+namer_of ns m Right = namer_at ns.rights m
