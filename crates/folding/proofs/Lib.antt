@@ -1,3 +1,4 @@
 pub mod Standing
 pub mod Marked
 pub mod Naming
+pub mod Taken

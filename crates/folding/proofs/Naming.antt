@@ -98,7 +98,7 @@ all_grow p ns n (i ∷ is) k q = all_then ns (note_instr p ns n i) (note_all p n
 abbrev Sized : Namers → ℕ → Type 0
 Sized ns c = (length ns.lefts ≡ c) × (length ns.rights ≡ c)
 
-row_length : (ns : List Namer) (from count : ℕ) → length (note_row ns from count) ≡ length ns
+pub row_length : (ns : List Namer) (from count : ℕ) → length (note_row ns from count) ≡ length ns
 row_length ns from zero = refl
 row_length ns from (suc c) = length-set (note_row ns from c) (from + c) Many ∙ row_length ns from c
 

@@ -1,14 +1,19 @@
 -- What a plan keeps when it is folded.
-use Rattle.std.specs.Prelude.{◌≡◌, ◌≢◌, ℕ, ◌+◌, ◌<◌, ◌≤◌, ◌⊎◌, Bool, true, false, List, Some, length, slice_get}
+use Rattle.std.specs.Prelude.{◌≡◌, ◌≢◌, ℕ, ℤ, ◌+◌, ◌<◌, ◌≤◌, ◌⊎◌, Bool, true, false, List, Some, length, slice_get}
+use Rattle.tags.specs.declared.token.Port.{Port}
+use Rattle.tags.specs.declared.token.Port.TheVariants.{Left, Right}
+use Rattle.operators.specs.declared.Binary.{Binary}
 use Rattle.semantics.specs.declared.program.Dest.{Dest}
-use Rattle.semantics.specs.declared.program.Op.TheVariants.{Switch}
+use Rattle.semantics.specs.declared.program.Op.TheVariants.{Switch, Apply2, Lit}
 use Rattle.semantics.specs.declared.program.Mark.TheVariants.{Unmarked}
 use Rattle.semantics.specs.Program.{Instr, CodeBlock}
 use Rattle.semantics.specs.Plan.{Plan, mark_at}
 use Rattle.folding.specs.declared.namers.Namer.{Namer}
 use Rattle.folding.specs.declared.namers.Namer.TheVariants.{One, Many}
 use Rattle.folding.specs.Namers.{namers_of, namer_of}
-use Rattle.folding.specs.Places.{layout_of, new_place, gone_at}
+use Rattle.folding.specs.declared.folds.Fold.TheVariants.{OnRight, OnLeft}
+use Rattle.folding.specs.Folds.{is_closed}
+use Rattle.folding.specs.Places.{layout_of, new_place, gone_at, folds_at}
 use Rattle.folding.specs.Moved.{moved}
 use Rattle.folding.specs.Folded.{folded_block, folded}
 
@@ -41,6 +46,39 @@ NamedBy n s x = (x ≡ One n s) ⊎ (x ≡ Many)
 abbrev pub KnowsNamers : Type 0
 KnowsNamers = (p : Plan) (c : CodeBlock) (n k : ℕ) (i : Instr) (s : Bool) (d : Dest) → slice_get c.instrs n ≡ Some i → slice_get (dests_of i s) k ≡ Some d → n + d.ahead < length c.instrs
     → NamedBy n s (namer_of (namers_of p c) (n + d.ahead) d.port)
+
+-- FOLDS. A port whose operand is in the code had it from a `lit` that alone names it. One list of destinations names that
+-- `lit`, and it alone names the other port too.
+abbrev pub other_port : Port → Port
+other_port Left = Right
+other_port Right = Left
+
+pub record TakesLiteral (p : Plan) (c : CodeBlock) (n : ℕ) (q : Port) (z : ℤ) : Type 0 where
+  pub operator : (i : Instr) × (o : Binary) × (slice_get c.instrs n ≡ Some i) × (i.op ≡ Apply2 o)
+  pub lit : ℕ
+  -- which destinations of the `lit` name the port
+  pub lit_side : Bool
+  pub literal : (i : Instr) × (slice_get c.instrs lit ≡ Some i) × (i.op ≡ Lit z)
+  pub alone : namer_of (namers_of p c) n q ≡ One lit lit_side
+  pub source : ℕ
+  pub source_side : Bool
+  pub to_lit : namer_of (namers_of p c) lit Left ≡ One source source_side
+  pub to_operator : namer_of (namers_of p c) n (other_port q) ≡ One source source_side
+
+abbrev pub FoldsOnRight : Type 0
+FoldsOnRight = (p : Plan) (c : CodeBlock) (n : ℕ) (z : ℤ) → folds_at (layout_of p c) n ≡ OnRight z → TakesLiteral p c n Right z
+
+abbrev pub FoldsOnLeft : Type 0
+FoldsOnLeft = (p : Plan) (c : CodeBlock) (n : ℕ) (z : ℤ) → folds_at (layout_of p c) n ≡ OnLeft z → TakesLiteral p c n Left z
+
+-- What is left out is a `lit` that one list of destinations names, and it sends only to ports whose operands are in the code.
+pub record IsLeftOut (p : Plan) (c : CodeBlock) (n : ℕ) (i : Instr) : Type 0 where
+  pub literal : (z : ℤ) × (i.op ≡ Lit z)
+  pub source : (m : ℕ) × (s : Bool) × (namer_of (namers_of p c) n Left ≡ One m s)
+  pub closed : (s : Bool) (k : ℕ) (d : Dest) → slice_get (dests_of i s) k ≡ Some d → is_closed (folds_at (layout_of p c) (n + d.ahead)) d.port ≡ true
+
+abbrev pub LeavesOut : Type 0
+LeavesOut = (p : Plan) (c : CodeBlock) (n : ℕ) (i : Instr) → slice_get c.instrs n ≡ Some i → gone_at (layout_of p c) n ≡ true → IsLeftOut p c n i
 
 -- MARKS. An instruction that is not left out keeps its mark,
 abbrev pub KeepsMarks : Type 0
