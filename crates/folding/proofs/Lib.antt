@@ -2,3 +2,4 @@ pub mod Standing
 pub mod Marked
 pub mod Naming
 pub mod Taken
+pub mod Held

@@ -18,13 +18,13 @@ before [] (suc k) = 0
 before (true ∷ gs) (suc k) = before gs k
 before (false ∷ gs) (suc k) = suc (before gs k)
 
-number_is : (at : ℕ) (gs : List Bool) (k : ℕ) → k < length gs → slice_get (numbers_from at gs) k ≡ Some (at + before gs k)
+pub number_is : (at : ℕ) (gs : List Bool) (k : ℕ) → k < length gs → slice_get (numbers_from at gs) k ≡ Some (at + before gs k)
 number_is at [] k h = absurd (not-suc-le-zero h)
 number_is at (g ∷ gs) zero h = let e : at ≡ at + 0 = omega arith in ap (λ (m : ℕ). Some m) e
 number_is at (true ∷ gs) (suc k) h = number_is at gs k (le_of_suc-le-suc h)
 number_is at (false ∷ gs) (suc k) h = let e : at + 1 + before gs k ≡ at + suc (before gs k) = omega arith in number_is (at + 1) gs k (le_of_suc-le-suc h) ∙ ap (λ (m : ℕ). Some m) e
 
-before_grows : (gs : List Bool) (m n : ℕ) → m < n → m < length gs → slice_index_or gs m false ≡ false → before gs m < before gs n
+pub before_grows : (gs : List Bool) (m n : ℕ) → m < n → m < length gs → slice_index_or gs m false ≡ false → before gs m < before gs n
 before_grows [] m n h l stay = absurd (not-suc-le-zero l)
 before_grows (g ∷ gs) m zero h l stay = absurd (not-suc-le-zero h)
 before_grows (true ∷ gs) zero (suc n) h l stay = absurd (true≢false stay)

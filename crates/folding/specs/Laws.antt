@@ -7,7 +7,8 @@ use Rattle.semantics.specs.declared.program.Dest.{Dest}
 use Rattle.semantics.specs.declared.program.Op.TheVariants.{Switch, Apply2, Lit}
 use Rattle.semantics.specs.declared.program.Mark.TheVariants.{Unmarked}
 use Rattle.semantics.specs.Program.{Instr, CodeBlock}
-use Rattle.semantics.specs.Plan.{Plan, mark_at}
+use Rattle.semantics.specs.Rule.{slot_of}
+use Rattle.semantics.specs.Plan.{Plan, mark_at, OneHolder}
 use Rattle.folding.specs.declared.namers.Namer.{Namer}
 use Rattle.folding.specs.declared.namers.Namer.TheVariants.{One, Many}
 use Rattle.folding.specs.Namers.{namers_of, namer_of}
@@ -98,3 +99,13 @@ StillMarksSwitches = (p : Plan) → MarksSwitches p → MarksSwitches (folded p)
 
 abbrev pub StillMarksNoOthers : Type 0
 StillMarksNoOthers = (p : Plan) → MarksNoOthers p → MarksNoOthers (folded p)
+
+-- HOLDERS. Each is still one, and has a number below how many are left.
+abbrev pub IsBelow : CodeBlock → Type 0
+IsBelow c = (n h : ℕ) (i : Instr) → slice_get c.instrs n ≡ Some i → slot_of i i.op ≡ Some h → h < c.slots
+
+abbrev pub KeepsHolders : Type 0
+KeepsHolders = (p : Plan) (c : CodeBlock) → OneHolder c → IsBelow c → OneHolder (folded_block p c)
+
+abbrev pub KeepsBelow : Type 0
+KeepsBelow = (p : Plan) (c : CodeBlock) → OneHolder c → IsBelow c → IsBelow (folded_block p c)
