@@ -40,7 +40,7 @@ freed_back fs hs n (i ∷ is) h e = earlier (is_folded (fold_at fs n)) refl (fre
     earlier true f (inl s) = by_slot f (sym (ap (λ t. slice_index_or (if t then slice_set hs i.slot true else hs) h false) f) ∙ s) (cases_eq h i.slot)
     earlier false f (inl s) = inl (sym (ap (λ t. slice_index_or (if t then slice_set hs i.slot true else hs) h false) f) ∙ s)
 
-freed_length : (fs : List Fold) (hs : List Bool) (n : ℕ) (is : List Instr) → length (freed_from fs hs n is) ≡ length hs
+pub freed_length : (fs : List Fold) (hs : List Bool) (n : ℕ) (is : List Instr) → length (freed_from fs hs n is) ≡ length hs
 freed_length fs hs n [] = refl
 freed_length fs hs n (i ∷ is) = freed_length fs (if is_folded (fold_at fs n) then slice_set hs i.slot true else hs) (n + 1) is ∙ same (is_folded (fold_at fs n))
   where
@@ -54,7 +54,7 @@ none_freed (suc n) zero = refl
 none_freed (suc n) (suc k) = none_freed n k
 
 -- A slot is the one that the instruction has.
-slot_any : (i j : Instr) (op : Op) (h : ℕ) → slot_of j op ≡ Some h → (h ≡ j.slot) × (slot_of i op ≡ Some i.slot)
+pub slot_any : (i j : Instr) (op : Op) (h : ℕ) → slot_of j op ≡ Some h → (h ≡ j.slot) × (slot_of i op ≡ Some i.slot)
 slot_any i j (Apply2 op) h e = let s : h ≡ j.slot = cc in (s, refl)
 slot_any i j Sync h e = let s : h ≡ j.slot = cc in (s, refl)
 slot_any i j Switch h e = let s : h ≡ j.slot = cc in (s, refl)
@@ -85,7 +85,7 @@ before_apart gs g h a b s t e = pick (cases_lt g h) (cases_lt h g)
     pick (inr l) (inl o) = let k = before_grows gs h g o b t in absurd (omega (arith, k, e))
     pick (inr l) (inr o) = omega (arith, l, o)
 
-folded_is : (p : Plan) (c : CodeBlock) (n : ℕ) → is_folded (folds_at (layout_of p c) n) ≡ true → (i : Instr) × (o : Binary) × (slice_get c.instrs n ≡ Some i) × (i.op ≡ Apply2 o)
+pub folded_is : (p : Plan) (c : CodeBlock) (n : ℕ) → is_folded (folds_at (layout_of p c) n) ≡ true → (i : Instr) × (o : Binary) × (slice_get c.instrs n ≡ Some i) × (i.op ≡ Apply2 o)
 folded_is p c n e = by_fold (folds_at (layout_of p c) n) refl e
   where
     by_fold : (f : Fold) → folds_at (layout_of p c) n ≡ f → is_folded f ≡ true → (i : Instr) × (o : Binary) × (slice_get c.instrs n ≡ Some i) × (i.op ≡ Apply2 o)

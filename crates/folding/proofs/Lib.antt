@@ -3,3 +3,4 @@ pub mod Marked
 pub mod Naming
 pub mod Taken
 pub mod Held
+pub mod Used

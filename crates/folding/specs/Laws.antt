@@ -8,7 +8,7 @@ use Rattle.semantics.specs.declared.program.Op.TheVariants.{Switch, Apply2, Lit}
 use Rattle.semantics.specs.declared.program.Mark.TheVariants.{Unmarked}
 use Rattle.semantics.specs.Program.{Instr, CodeBlock}
 use Rattle.semantics.specs.Rule.{slot_of}
-use Rattle.semantics.specs.Plan.{Plan, mark_at, OneHolder}
+use Rattle.semantics.specs.Plan.{Plan, mark_at, OneHolder, IsFirst}
 use Rattle.folding.specs.declared.namers.Namer.{Namer}
 use Rattle.folding.specs.declared.namers.Namer.TheVariants.{One, Many}
 use Rattle.folding.specs.Namers.{namers_of, namer_of}
@@ -109,3 +109,10 @@ KeepsHolders = (p : Plan) (c : CodeBlock) → OneHolder c → IsBelow c → OneH
 
 abbrev pub KeepsBelow : Type 0
 KeepsBelow = (p : Plan) (c : CodeBlock) → OneHolder c → IsBelow c → IsBelow (folded_block p c)
+
+-- each number is still that of an instruction which a holder is told by
+abbrev pub IsUsed : CodeBlock → Type 0
+IsUsed c = (h : ℕ) → h < c.slots → (n : ℕ) × (i : Instr) × (slice_get c.instrs n ≡ Some i) × (slot_of i i.op ≡ Some h) × IsFirst i.op
+
+abbrev pub KeepsUsed : Type 0
+KeepsUsed = (p : Plan) (c : CodeBlock) → IsUsed c → IsUsed (folded_block p c)
