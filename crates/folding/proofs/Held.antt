@@ -1,5 +1,5 @@
 -- The holders of a folded block.
-use Rattle.std.proofs.Common.{◌≡◌, ℕ, zero, suc, ◌+◌, ◌<◌, ◌≤◌, Bool, true, false, ◌&&◌, List, [], ◌∷◌, length, replicate, refl, sym, ap, ◌∙◌, subst, inl, inr, ◌⊎◌, arith, Option, Some, None, if◌then◌else◌, true≢false, length-set}
+use Rattle.std.proofs.Common.{◌≡◌, ℕ, zero, suc, ◌+◌, ◌<◌, ◌≤◌, Bool, true, false, ◌&&◌, List, [], ◌∷◌, length, replicate, refl, sym, ap, ◌∙◌, inl, inr, ◌⊎◌, arith, Some, if◌then◌else◌, true≢false, length-set}
 use Rattle.std.specs.Prelude.{slice_get, slice_set, slice_index_or}
 use Rattle.std.proofs.lemmas.Bool.{cases_eq, cases_lt}
 use Rattle.std.proofs.lemmas.Option.{get_or_from_slice_get}
@@ -13,10 +13,10 @@ use Rattle.semantics.specs.Plan.{Plan, OneHolder, is_credit, is_open}
 use Rattle.folding.specs.declared.folds.Fold.{Fold}
 use Rattle.folding.specs.declared.folds.Fold.TheVariants.{Kept, OnRight, OnLeft}
 use Rattle.folding.specs.Folds.{folds_of, fold_at, is_folded, new_op}
-use Rattle.folding.specs.Places.{freed_from, freed_in, left_of, layout_of, new_place, new_holder, gone_at, folds_at}
-use Rattle.folding.specs.Moved.{moved, new_slot}
+use Rattle.folding.specs.Places.{freed_from, left_of, layout_of, new_place, new_holder, gone_at, folds_at}
+use Rattle.folding.specs.Moved.{moved}
 use Rattle.folding.specs.Folded.{folded_block}
-use Rattle.folding.specs.Laws.{IsBelow, KeepsHolders, KeepsBelow, TakesLiteral}
+use Rattle.folding.specs.Laws.{IsBelow, KeepsHolders, KeepsBelow}
 use Rattle.folding.proofs.Standing.{before, number_is, before_grows, has_no_others}
 use Rattle.folding.proofs.Taken.{folds_on_right, folds_on_left}
 

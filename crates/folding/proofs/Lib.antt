@@ -4,3 +4,4 @@ pub mod Naming
 pub mod Taken
 pub mod Held
 pub mod Used
+pub mod Named

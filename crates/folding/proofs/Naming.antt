@@ -1,6 +1,6 @@
 -- What the table of namers tells.
-use Rattle.std.proofs.Common.{◌≡◌, ℕ, zero, suc, ◌+◌, ◌<◌, ◌≤◌, Bool, true, false, List, [], ◌∷◌, length, replicate, refl, sym, ap, ◌∙◌, subst, inl, inr, ◌⊎◌, arith, Option, Some, None, le_of_suc-le-suc, not-suc-le-zero, length-set}
-use Rattle.std.specs.Prelude.{slice_get, slice_set, slice_index_or}
+use Rattle.std.proofs.Common.{◌≡◌, ℕ, zero, suc, ◌+◌, ◌<◌, ◌≤◌, Bool, true, false, List, [], ◌∷◌, length, refl, sym, ap, ◌∙◌, subst, inl, inr, ◌⊎◌, arith, Some, length-set}
+use Rattle.std.specs.Prelude.{slice_get, slice_set}
 use Rattle.std.proofs.lemmas.Bool.{cases_eq, cases_lt}
 use Rattle.std.proofs.lemmas.List.{get_or-set_same, get_or-set_other, get_or_past, length-replicate}
 use Rattle.tags.specs.declared.token.Port.{Port}
@@ -8,11 +8,11 @@ use Rattle.tags.specs.declared.token.Port.TheVariants.{Left, Right}
 use Rattle.semantics.specs.declared.program.Dest.{Dest}
 use Rattle.semantics.specs.declared.program.Op.{Op}
 use Rattle.semantics.specs.declared.program.Op.TheVariants.{Link}
-use Rattle.semantics.specs.Program.{Instr, CodeBlock}
+use Rattle.semantics.specs.Program.{Instr}
 use Rattle.semantics.specs.Plan.{Plan, landing}
 use Rattle.folding.specs.declared.namers.Namer.{Namer}
 use Rattle.folding.specs.declared.namers.Namer.TheVariants.{Nobody, One, Many}
-use Rattle.folding.specs.Namers.{Namers, namer_at, namer_of, again, noted_at, noted, note_dests, note_row, note_landings, note_link, note_instr, note_all, nobody, entries_noted, namers_of}
+use Rattle.folding.specs.Namers.{Namers, namer_at, namer_of, again, noted, note_dests, note_row, note_landings, note_link, note_instr, note_all, nobody, entries_noted, namers_of}
 use Rattle.folding.specs.Laws.{dests_of, NamedBy, KnowsNamers}
 
 -- A port that is noted again keeps its namer, or gets many, or had none.
@@ -88,7 +88,7 @@ late ns n i = note_dests (mid ns n i) n true i.seconds
 instr_grows : (p : Plan) (ns : Namers) (n : ℕ) (i : Instr) → AllGrow ns (note_instr p ns n i)
 instr_grows p ns n i =
     all_then ns (mid ns n i) (note_instr p ns n i) (dests_grow ns n false i.firsts)
-        (all_then (mid ns n i) (late ns n i) (note_instr p ns n i) (dests_grow (mid ns n i) n true i.seconds) (link_grows p (late ns n i) n i i.op))
+    (all_then (mid ns n i) (late ns n i) (note_instr p ns n i) (dests_grow (mid ns n i) n true i.seconds) (link_grows p (late ns n i) n i i.op))
 
 pub all_grow : (p : Plan) (ns : Namers) (n : ℕ) (is : List Instr) → AllGrow ns (note_all p ns n is)
 all_grow p ns n [] k q = inl refl
@@ -145,17 +145,17 @@ dests_named ns n s (e ∷ ds) zero d c size at h =
     let same : e ≡ d = cc in
     let ms = noted ns (n + d.ahead) d.port (One n s) in
     subst (λ (x : Dest). NamedBy n s (namer_of (note_dests (noted ns (n + x.ahead) x.port (One n s)) n s ds) (n + d.ahead) d.port)) (sym same)
-        (named_grows n s (namer_of ms (n + d.ahead) d.port) (namer_of (note_dests ms n s ds) (n + d.ahead) d.port) (noted_named ns (n + d.ahead) d.port n s c size h) (dests_grow ms n s ds (n + d.ahead) d.port))
+    (named_grows n s (namer_of ms (n + d.ahead) d.port) (namer_of (note_dests ms n s ds) (n + d.ahead) d.port) (noted_named ns (n + d.ahead) d.port n s c size h) (dests_grow ms n s ds (n + d.ahead) d.port))
 dests_named ns n s (e ∷ ds) (suc k) d c size at h = dests_named (noted ns (n + e.ahead) e.port (One n s)) n s ds k d c (noted_sized ns (n + e.ahead) e.port (One n s) c size) at h
 
 instr_named : (p : Plan) (ns : Namers) (n : ℕ) (i : Instr) (s : Bool) (k : ℕ) (d : Dest) (c : ℕ) → Sized ns c → slice_get (dests_of i s) k ≡ Some d → n + d.ahead < c → NamedBy n s (namer_of (note_instr p ns n i) (n + d.ahead) d.port)
 instr_named p ns n i false k d c size at h =
     named_grows n false (namer_of (mid ns n i) (n + d.ahead) d.port) (namer_of (note_instr p ns n i) (n + d.ahead) d.port) (dests_named ns n false i.firsts k d c size at h)
-        (all_then (mid ns n i) (late ns n i) (note_instr p ns n i) (dests_grow (mid ns n i) n true i.seconds) (link_grows p (late ns n i) n i i.op) (n + d.ahead) d.port)
+    (all_then (mid ns n i) (late ns n i) (note_instr p ns n i) (dests_grow (mid ns n i) n true i.seconds) (link_grows p (late ns n i) n i i.op) (n + d.ahead) d.port)
 instr_named p ns n i true k d c size at h =
     named_grows n true (namer_of (late ns n i) (n + d.ahead) d.port) (namer_of (note_instr p ns n i) (n + d.ahead) d.port)
-        (dests_named (mid ns n i) n true i.seconds k d c (dests_sized ns n false i.firsts c size) at h)
-        (link_grows p (late ns n i) n i i.op (n + d.ahead) d.port)
+    (dests_named (mid ns n i) n true i.seconds k d c (dests_sized ns n false i.firsts c size) at h)
+    (link_grows p (late ns n i) n i i.op (n + d.ahead) d.port)
 
 all_named : (p : Plan) (ns : Namers) (n : ℕ) (is : List Instr) (v : ℕ) (i : Instr) (s : Bool) (k : ℕ) (d : Dest) (c : ℕ) → Sized ns c
     → slice_get is v ≡ Some i → slice_get (dests_of i s) k ≡ Some d → n + v + d.ahead < c → NamedBy (n + v) s (namer_of (note_all p ns n is) (n + v + d.ahead) d.port)
@@ -165,11 +165,11 @@ all_named p ns n (j ∷ is) zero i s k d c size there at h =
     let ms = note_instr p ns n i in
     let one = named_grows n s (namer_of ms (n + d.ahead) d.port) (namer_of (note_all p ms (n + 1) is) (n + d.ahead) d.port) (instr_named p ns n i s k d c size at (omega (arith, h, z))) (all_grow p ms (n + 1) is (n + d.ahead) d.port) in
     subst (λ m. NamedBy m s (namer_of (note_all p ns n (j ∷ is)) (m + d.ahead) d.port)) z
-        (subst (λ (x : Instr). NamedBy n s (namer_of (note_all p (note_instr p ns n x) (n + 1) is) (n + d.ahead) d.port)) (sym e) one)
+    (subst (λ (x : Instr). NamedBy n s (namer_of (note_all p (note_instr p ns n x) (n + 1) is) (n + d.ahead) d.port)) (sym e) one)
 all_named p ns n (j ∷ is) (suc v) i s k d c size there at h =
     let z : n + 1 + v ≡ n + suc v = omega arith in
     subst (λ m. NamedBy m s (namer_of (note_all p ns n (j ∷ is)) (m + d.ahead) d.port)) z
-        (all_named p (note_instr p ns n j) (n + 1) is v i s k d c (instr_sized p ns n j c size) there at (omega (arith, h, z)))
+    (all_named p (note_instr p ns n j) (n + 1) is v i s k d c (instr_sized p ns n j c size) there at (omega (arith, h, z)))
 
 pub entries_sized : (inputs n : ℕ) → Sized (entries_noted inputs n) n
 entries_sized inputs n = (row_length (nobody n) 0 (inputs + 1) ∙ length-replicate n Nobody, length-replicate n Nobody)
@@ -178,4 +178,4 @@ pub knows_namers : KnowsNamers
 knows_namers p c n k i s d there at h =
     let z : 0 + n ≡ n = omega arith in
     subst (λ m. NamedBy m s (namer_of (namers_of p c) (m + d.ahead) d.port)) z
-        (all_named p (entries_noted c.inputs (length c.instrs)) 0 c.instrs n i s k d (length c.instrs) (entries_sized c.inputs (length c.instrs)) there at (omega (arith, h, z)))
+    (all_named p (entries_noted c.inputs (length c.instrs)) 0 c.instrs n i s k d (length c.instrs) (entries_sized c.inputs (length c.instrs)) there at (omega (arith, h, z)))

@@ -18,8 +18,8 @@ use Rattle.folding.specs.declared.folds.Fold.{Fold}
 use Rattle.folding.specs.declared.folds.Fold.TheVariants.{Kept, OnRight, OnLeft}
 use Rattle.folding.specs.Namers.{Namers, namer_at, namer_of, note_row, nobody, entries_noted, namers_of}
 use Rattle.folding.specs.Folds.{literal_in, literal_at, same_side, same_source, literal_by, fold_by, fold_of, folds_from, folds_of, fold_at, is_closed, closed_to, all_closed, is_used, is_lit, is_gone, gone_from}
-use Rattle.folding.specs.Places.{layout_of, new_place, gone_at, folds_at}
-use Rattle.folding.specs.Laws.{KeepsEntries, dests_of, NamedBy, other_port, TakesLiteral, FoldsOnRight, FoldsOnLeft, IsLeftOut, LeavesOut}
+use Rattle.folding.specs.Places.{layout_of, gone_at, folds_at}
+use Rattle.folding.specs.Laws.{KeepsEntries, dests_of, NamedBy, other_port, TakesLiteral, FoldsOnRight, FoldsOnLeft, LeavesOut}
 use Rattle.folding.proofs.Standing.{before, all, place_is}
 use Rattle.folding.proofs.Naming.{all_grow, row_length, entries_sized, knows_namers}
 
@@ -84,15 +84,21 @@ source_is Nobody y e = absurd (true≢false (sym e))
 source_is Many y e = absurd (true≢false (sym e))
 
 by_right : (ns : Namers) (every : List Instr) (n : ℕ) (op : Op) (z : ℤ) → fold_of ns every n op ≡ OnRight z → (o : Binary) × (op ≡ Apply2 o) × Literal ns.lefts every (namer_at ns.rights n) (namer_at ns.lefts n) z
-by_right ns every n (Apply2 o) z e =
-    (o, refl, literal_is ns.lefts every (namer_at ns.rights n) (namer_at ns.lefts n) z
-        (right_of (literal_by ns.lefts every (namer_at ns.lefts n) (namer_at ns.rights n)) (literal_by ns.lefts every (namer_at ns.rights n) (namer_at ns.lefts n)) z e))
+by_right ns every n (Apply2 o) z e = (
+  o,
+  refl,
+  literal_is ns.lefts every (namer_at ns.rights n) (namer_at ns.lefts n) z
+      (right_of (literal_by ns.lefts every (namer_at ns.lefts n) (namer_at ns.rights n)) (literal_by ns.lefts every (namer_at ns.rights n) (namer_at ns.lefts n)) z e),
+)
 by_right ns every n op z e = absurd (cc)
 
 by_left : (ns : Namers) (every : List Instr) (n : ℕ) (op : Op) (z : ℤ) → fold_of ns every n op ≡ OnLeft z → (o : Binary) × (op ≡ Apply2 o) × Literal ns.lefts every (namer_at ns.lefts n) (namer_at ns.rights n) z
-by_left ns every n (Apply2 o) z e =
-    (o, refl, literal_is ns.lefts every (namer_at ns.lefts n) (namer_at ns.rights n) z
-        (left_of (literal_by ns.lefts every (namer_at ns.lefts n) (namer_at ns.rights n)) (literal_by ns.lefts every (namer_at ns.rights n) (namer_at ns.lefts n)) z e))
+by_left ns every n (Apply2 o) z e = (
+  o,
+  refl,
+  literal_is ns.lefts every (namer_at ns.lefts n) (namer_at ns.rights n) z
+      (left_of (literal_by ns.lefts every (namer_at ns.lefts n) (namer_at ns.rights n)) (literal_by ns.lefts every (namer_at ns.rights n) (namer_at ns.lefts n)) z e),
+)
 by_left ns every n op z e = absurd (cc)
 
 module _ (p : Plan) (c : CodeBlock) where

@@ -48,6 +48,11 @@ abbrev pub KnowsNamers : Type 0
 KnowsNamers = (p : Plan) (c : CodeBlock) (n k : ℕ) (i : Instr) (s : Bool) (d : Dest) → slice_get c.instrs n ≡ Some i → slice_get (dests_of i s) k ≡ Some d → n + d.ahead < length c.instrs
     → NamedBy n s (namer_of (namers_of p c) (n + d.ahead) d.port)
 
+-- What is told to name a port does so.
+abbrev pub NamersName : Type 0
+NamersName = (p : Plan) (c : CodeBlock) (m : ℕ) (q : Port) (n : ℕ) (s : Bool) → namer_of (namers_of p c) m q ≡ One n s
+    → (i : Instr) × (k : ℕ) × (d : Dest) × (slice_get c.instrs n ≡ Some i) × (slice_get (dests_of i s) k ≡ Some d) × (n + d.ahead ≡ m) × (d.port ≡ q)
+
 -- FOLDS. A port whose operand is in the code had it from a `lit` that alone names it. One list of destinations names that
 -- `lit`, and it alone names the other port too.
 abbrev pub other_port : Port → Port
