@@ -5,3 +5,4 @@ pub mod Taken
 pub mod Held
 pub mod Used
 pub mod Named
+pub mod Sole

@@ -138,7 +138,7 @@ folds_on_left p c n z e = found (fold_there p c n)
     found (inl kept) = absurd (cc)
     found (inr (i, at, f)) = takes p c n Left z i at (by_left (namers_of p c) c.instrs n i.op z (sym f ∙ e))
 
-closed_takes : (p : Plan) (c : CodeBlock) (n : ℕ) (q : Port) → is_closed (folds_at (layout_of p c) n) q ≡ true → (z : ℤ) × TakesLiteral p c n q z
+pub closed_takes : (p : Plan) (c : CodeBlock) (n : ℕ) (q : Port) → is_closed (folds_at (layout_of p c) n) q ≡ true → (z : ℤ) × TakesLiteral p c n q z
 closed_takes p c n q e = by_fold (folds_at (layout_of p c) n) q refl e
   where
     by_fold : (f : Fold) (q : Port) → folds_at (layout_of p c) n ≡ f → is_closed f q ≡ true → (z : ℤ) × TakesLiteral p c n q z
@@ -175,8 +175,12 @@ a_use [] [] e = absurd (true≢false (sym e))
 a_use [] (d ∷ es) e = inr (d, refl)
 a_use (d ∷ ds) es e = inl (d, refl)
 
+one_of : (i : Instr) → ((d : Dest) × (slice_get i.firsts 0 ≡ Some d)) ⊎ ((d : Dest) × (slice_get i.seconds 0 ≡ Some d)) → (s : Bool) × (d : Dest) × (slice_get (dests_of i s) 0 ≡ Some d)
+one_of i (inl (d, e)) = (false, d, e)
+one_of i (inr (d, e)) = (true, d, e)
+
 pub leaves_out : LeavesOut
-leaves_out p c n i at gone = record { literal = is_lit_of i.op parts.0; source = by_use (a_use i.firsts i.seconds used.0); closed = closed }
+leaves_out p c n i at gone = record { literal = is_lit_of i.op parts.0; source = by_use (a_use i.firsts i.seconds used.0); used = one_of i (a_use i.firsts i.seconds used.0); closed = closed }
   where
     fs : List Fold
     fs = folds_of p c
@@ -238,7 +242,7 @@ entry_many p c n h there = still (all_grow p (entries_noted c.inputs (length c.i
     still (inr (inl e)) = e
     still (inr (inr e)) = let f = first in absurd (cc)
 
-get_there : {X : Type 0} (xs : List X) (n : ℕ) → n < length xs → (x : X) × (slice_get xs n ≡ Some x)
+pub get_there : {X : Type 0} (xs : List X) (n : ℕ) → n < length xs → (x : X) × (slice_get xs n ≡ Some x)
 get_there [] n h = absurd (not-suc-le-zero h)
 get_there (x ∷ xs) zero h = (x, refl)
 get_there (x ∷ xs) (suc n) h = get_there xs n (le_of_suc-le-suc h)

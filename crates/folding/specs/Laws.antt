@@ -1,5 +1,5 @@
 -- What a plan keeps when it is folded.
-use Rattle.std.specs.Prelude.{◌≡◌, ◌≢◌, ℕ, ℤ, ◌+◌, ◌<◌, ◌≤◌, ◌⊎◌, Bool, true, false, List, Some, length, slice_get}
+use Rattle.std.specs.Prelude.{◌≡◌, ◌≢◌, ℕ, ℤ, ◌+◌, ◌<◌, ◌≤◌, ◌⊎◌, Bool, true, false, List, [], ◌∷◌, Some, length, slice_get}
 use Rattle.tags.specs.declared.token.Port.{Port}
 use Rattle.tags.specs.declared.token.Port.TheVariants.{Left, Right}
 use Rattle.operators.specs.declared.Binary.{Binary}
@@ -7,6 +7,7 @@ use Rattle.semantics.specs.declared.program.Dest.{Dest}
 use Rattle.semantics.specs.declared.program.Op.TheVariants.{Switch, Apply2, Lit}
 use Rattle.semantics.specs.declared.program.Mark.TheVariants.{Unmarked}
 use Rattle.semantics.specs.Program.{Instr, CodeBlock}
+use Rattle.semantics.specs.Wired.{is_dyadic}
 use Rattle.semantics.specs.Rule.{slot_of}
 use Rattle.semantics.specs.Plan.{Plan, mark_at, OneHolder, IsFirst}
 use Rattle.folding.specs.declared.namers.Namer.{Namer}
@@ -15,7 +16,7 @@ use Rattle.folding.specs.Namers.{namers_of, namer_of}
 use Rattle.folding.specs.declared.folds.Fold.TheVariants.{OnRight, OnLeft}
 use Rattle.folding.specs.Folds.{is_closed}
 use Rattle.folding.specs.Places.{layout_of, new_place, gone_at, folds_at}
-use Rattle.folding.specs.Moved.{moved}
+use Rattle.folding.specs.Moved.{moved, new_dest}
 use Rattle.folding.specs.Folded.{folded_block, folded}
 
 -- PLACES. An instruction that is not left out stands in its new place,
@@ -81,10 +82,20 @@ FoldsOnLeft = (p : Plan) (c : CodeBlock) (n : ℕ) (z : ℤ) → folds_at (layou
 pub record IsLeftOut (p : Plan) (c : CodeBlock) (n : ℕ) (i : Instr) : Type 0 where
   pub literal : (z : ℤ) × (i.op ≡ Lit z)
   pub source : (m : ℕ) × (s : Bool) × (namer_of (namers_of p c) n Left ≡ One m s)
+  -- it sends to one at least
+  pub used : (s : Bool) × (d : Dest) × (slice_get (dests_of i s) 0 ≡ Some d)
   pub closed : (s : Bool) (k : ℕ) (d : Dest) → slice_get (dests_of i s) k ≡ Some d → is_closed (folds_at (layout_of p c) (n + d.ahead)) d.port ≡ true
 
 abbrev pub LeavesOut : Type 0
 LeavesOut = (p : Plan) (c : CodeBlock) (n : ℕ) (i : Instr) → slice_get c.instrs n ≡ Some i → gone_at (layout_of p c) n ≡ true → IsLeftOut p c n i
+
+-- SHAPES. Where right ports are those of dyadic instructions, an instruction with one destination keeps it, if it is no `lit`.
+abbrev pub SparesLiterals : CodeBlock → Type 0
+SparesLiterals c = (n k : ℕ) (i : Instr) (s : Bool) (d : Dest) (j : Instr) → slice_get c.instrs n ≡ Some i → slice_get (dests_of i s) k ≡ Some d → slice_get c.instrs (n + d.ahead) ≡ Some j → d.port ≡ Right → is_dyadic j.op ≡ true
+
+abbrev pub KeepsSole : Type 0
+KeepsSole = (p : Plan) (c : CodeBlock) → SparesLiterals c → (n : ℕ) (i : Instr) (d : Dest) → slice_get c.instrs n ≡ Some i → i.firsts ≡ d ∷ [] → ((z : ℤ) → i.op ≡ Lit z → ⊥)
+    → (moved (layout_of p c) n i).firsts ≡ new_dest (layout_of p c) n (n + d.ahead) d.port ∷ []
 
 -- MARKS. An instruction that is not left out keeps its mark,
 abbrev pub KeepsMarks : Type 0
