@@ -6,3 +6,4 @@ pub mod Held
 pub mod Used
 pub mod Named
 pub mod Sole
+pub mod Landing

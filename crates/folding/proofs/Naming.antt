@@ -16,7 +16,7 @@ use Rattle.folding.specs.Namers.{Namers, namer_at, namer_of, again, noted, note_
 use Rattle.folding.specs.Laws.{dests_of, NamedBy, KnowsNamers}
 
 -- A port that is noted again keeps its namer, or gets many, or had none.
-abbrev Grows : Namer → Namer → Type 0
+abbrev pub Grows : Namer → Namer → Type 0
 Grows x y = (y ≡ x) ⊎ ((y ≡ Many) ⊎ (x ≡ Nobody))
 
 grows_then : (x y z : Namer) → Grows x y → Grows y z → Grows x z
@@ -51,12 +51,12 @@ row_grows : (ns : List Namer) (from count k : ℕ) → Grows (namer_at ns k) (na
 row_grows ns from zero k = inl refl
 row_grows ns from (suc c) k = grows_then (namer_at ns k) (namer_at (note_row ns from c) k) (namer_at (note_row ns from (suc c)) k) (row_grows ns from c k) (many_grows (note_row ns from c) (from + c) k)
 
-landings_grow : (ns : List Namer) (n size : ℕ) (ds : List Dest) (k : ℕ) → Grows (namer_at ns k) (namer_at (note_landings ns n size ds) k)
+pub landings_grow : (ns : List Namer) (n size : ℕ) (ds : List Dest) (k : ℕ) → Grows (namer_at ns k) (namer_at (note_landings ns n size ds) k)
 landings_grow ns n size [] k = inl refl
 landings_grow ns n size (d ∷ ds) k =
     grows_then (namer_at ns k) (namer_at (note_row ns (n + d.ahead) size) k) (namer_at (note_landings ns n size (d ∷ ds)) k) (row_grows ns (n + d.ahead) size k) (landings_grow (note_row ns (n + d.ahead) size) n size ds k)
 
-abbrev AllGrow : Namers → Namers → Type 0
+abbrev pub AllGrow : Namers → Namers → Type 0
 AllGrow ns ms = (k : ℕ) (q : Port) → Grows (namer_of ns k q) (namer_of ms k q)
 
 all_then : (ns ms os : Namers) → AllGrow ns ms → AllGrow ms os → AllGrow ns os
@@ -73,19 +73,19 @@ dests_grow ns n s [] k q = inl refl
 dests_grow ns n s (d ∷ ds) k q =
     all_then ns (noted ns (n + d.ahead) d.port (One n s)) (note_dests ns n s (d ∷ ds)) (noted_grows ns (n + d.ahead) d.port (One n s)) (dests_grow (noted ns (n + d.ahead) d.port (One n s)) n s ds) k q
 
-link_grows : (p : Plan) (ns : Namers) (n : ℕ) (i : Instr) (op : Op) → AllGrow ns (note_link p ns n i op)
+pub link_grows : (p : Plan) (ns : Namers) (n : ℕ) (i : Instr) (op : Op) → AllGrow ns (note_link p ns n i op)
 link_grows p ns n i (Link b) k Left = landings_grow ns.lefts n (landing p b) i.firsts k
 link_grows p ns n i (Link b) k Right = inl refl
 link_grows p ns n i op k q = inl refl
 
 -- the table after the first destinations of an instruction, and after the second ones
-abbrev mid : Namers → ℕ → Instr → Namers
+abbrev pub mid : Namers → ℕ → Instr → Namers
 mid ns n i = note_dests ns n false i.firsts
 
-abbrev late : Namers → ℕ → Instr → Namers
+abbrev pub late : Namers → ℕ → Instr → Namers
 late ns n i = note_dests (mid ns n i) n true i.seconds
 
-instr_grows : (p : Plan) (ns : Namers) (n : ℕ) (i : Instr) → AllGrow ns (note_instr p ns n i)
+pub instr_grows : (p : Plan) (ns : Namers) (n : ℕ) (i : Instr) → AllGrow ns (note_instr p ns n i)
 instr_grows p ns n i =
     all_then ns (mid ns n i) (note_instr p ns n i) (dests_grow ns n false i.firsts)
     (all_then (mid ns n i) (late ns n i) (note_instr p ns n i) (dests_grow (mid ns n i) n true i.seconds) (link_grows p (late ns n i) n i i.op))
@@ -95,7 +95,7 @@ all_grow p ns n [] k q = inl refl
 all_grow p ns n (i ∷ is) k q = all_then ns (note_instr p ns n i) (note_all p ns n (i ∷ is)) (instr_grows p ns n i) (all_grow p (note_instr p ns n i) (n + 1) is) k q
 
 -- HOW MANY PORTS THERE ARE
-abbrev Sized : Namers → ℕ → Type 0
+abbrev pub Sized : Namers → ℕ → Type 0
 Sized ns c = (length ns.lefts ≡ c) × (length ns.rights ≡ c)
 
 pub row_length : (ns : List Namer) (from count : ℕ) → length (note_row ns from count) ≡ length ns
@@ -110,7 +110,7 @@ noted_sized : (ns : Namers) (m : ℕ) (q : Port) (x : Namer) (c : ℕ) → Sized
 noted_sized ns m Left x c (a, b) = (length-set ns.lefts m (again (namer_at ns.lefts m) x) ∙ a, b)
 noted_sized ns m Right x c (a, b) = (a, length-set ns.rights m (again (namer_at ns.rights m) x) ∙ b)
 
-dests_sized : (ns : Namers) (n : ℕ) (s : Bool) (ds : List Dest) (c : ℕ) → Sized ns c → Sized (note_dests ns n s ds) c
+pub dests_sized : (ns : Namers) (n : ℕ) (s : Bool) (ds : List Dest) (c : ℕ) → Sized ns c → Sized (note_dests ns n s ds) c
 dests_sized ns n s [] c h = h
 dests_sized ns n s (d ∷ ds) c h = dests_sized (noted ns (n + d.ahead) d.port (One n s)) n s ds c (noted_sized ns (n + d.ahead) d.port (One n s) c h)
 
@@ -118,7 +118,7 @@ link_sized : (p : Plan) (ns : Namers) (n : ℕ) (i : Instr) (op : Op) (c : ℕ) 
 link_sized p ns n i (Link b) c (x, y) = (landings_length ns.lefts n (landing p b) i.firsts ∙ x, y)
 link_sized p ns n i op c h = h
 
-instr_sized : (p : Plan) (ns : Namers) (n : ℕ) (i : Instr) (c : ℕ) → Sized ns c → Sized (note_instr p ns n i) c
+pub instr_sized : (p : Plan) (ns : Namers) (n : ℕ) (i : Instr) (c : ℕ) → Sized ns c → Sized (note_instr p ns n i) c
 instr_sized p ns n i c h = link_sized p (late ns n i) n i i.op c (dests_sized (mid ns n i) n true i.seconds c (dests_sized ns n false i.firsts c h))
 
 -- NAMES

@@ -216,7 +216,7 @@ leaves_out p c n i at gone = record { literal = is_lit_of i.op parts.0; source =
     by_use (inr (d, e)) = by_port true d e (closed_takes p c (n + d.ahead) d.port (closed true 0 d e))
 
 -- ENTRIES
-row_many : (ms : List Namer) (from count k : ℕ) → from ≤ k → k < from + count → k < length ms → namer_at (note_row ms from count) k ≡ Many
+pub row_many : (ms : List Namer) (from count k : ℕ) → from ≤ k → k < from + count → k < length ms → namer_at (note_row ms from count) k ≡ Many
 row_many ms from zero k l h there = absurd (omega (arith, l, h))
 row_many ms from (suc c) k l h there = pick (cases_eq k (from + c)) (row_many ms from c k)
   where

@@ -4,12 +4,12 @@ use Rattle.tags.specs.declared.token.Port.{Port}
 use Rattle.tags.specs.declared.token.Port.TheVariants.{Left, Right}
 use Rattle.operators.specs.declared.Binary.{Binary}
 use Rattle.semantics.specs.declared.program.Dest.{Dest}
-use Rattle.semantics.specs.declared.program.Op.TheVariants.{Switch, Apply2, Lit}
+use Rattle.semantics.specs.declared.program.Op.TheVariants.{Switch, Apply2, Lit, Link}
 use Rattle.semantics.specs.declared.program.Mark.TheVariants.{Unmarked}
 use Rattle.semantics.specs.Program.{Instr, CodeBlock}
 use Rattle.semantics.specs.Wired.{is_dyadic}
 use Rattle.semantics.specs.Rule.{slot_of}
-use Rattle.semantics.specs.Plan.{Plan, mark_at, OneHolder, IsFirst}
+use Rattle.semantics.specs.Plan.{Plan, mark_at, OneHolder, IsFirst, landing}
 use Rattle.folding.specs.declared.namers.Namer.{Namer}
 use Rattle.folding.specs.declared.namers.Namer.TheVariants.{One, Many}
 use Rattle.folding.specs.Namers.{namers_of, namer_of}
@@ -36,6 +36,11 @@ KeepsOrder = (p : Plan) (c : CodeBlock) (m n : ℕ) → m < n → n < length c.i
 -- The entries stay where they are.
 abbrev pub KeepsEntries : Type 0
 KeepsEntries = (p : Plan) (c : CodeBlock) (n : ℕ) → n ≤ c.inputs → n < length c.instrs → (gone_at (layout_of p c) n ≡ false) × (new_place (layout_of p c) n ≡ n)
+
+-- A landing stays a row.
+abbrev pub KeepsLandings : Type 0
+KeepsLandings = (p : Plan) (c : CodeBlock) (n v k b : ℕ) (i : Instr) (d : Dest) → slice_get c.instrs n ≡ Some i → i.op ≡ Link b → slice_get i.firsts v ≡ Some d → k < landing p b → n + d.ahead + k < length c.instrs
+    → (gone_at (layout_of p c) (n + d.ahead + k) ≡ false) × (new_place (layout_of p c) (n + d.ahead + k) ≡ new_place (layout_of p c) (n + d.ahead) + k)
 
 -- NAMERS. A port that is named is named by one list of destinations alone, or by more.
 abbrev pub dests_of : Instr → Bool → List Dest
