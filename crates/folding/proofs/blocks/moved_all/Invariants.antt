@@ -1,0 +1,6 @@
+use Rattle.std.proofs.Common.{◌≡◌, ◌++◌, drop}
+use Rattle.folding.specs.Folded as of_blocks
+use Rattle.folding.proofs.blocks.moved_all.Given as goal
+
+abbrev pub invariant-loop-number : goal.invariant-loop-number
+invariant-loop-number g l = l.list.items ++ of_blocks.moved_from l.layout l.number (drop l.number l.instrs) ≡ of_blocks.moved_from l.layout 0 l.instrs

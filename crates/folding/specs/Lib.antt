@@ -1,0 +1,6 @@
+pub mod Namers
+pub mod Folds
+pub mod Places
+pub mod Moved
+pub mod Folded
+pub mod Laws
