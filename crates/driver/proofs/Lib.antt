@@ -1,4 +1,3 @@
-pub mod Limits
 pub mod Truth
 pub mod Compiling
 pub mod InputLines
