@@ -1,6 +1,7 @@
 //! The object that adds its two inputs, ready to be run.
 
 use super::*;
+use operators::Binary;
 use rationed::Rationed;
 use semantics::program::{Dest, Op};
 use tags::token::Port;
@@ -64,6 +65,14 @@ fn fetches() -> [u8; 152] {
     ])
 }
 
+/// The operation of an instruction, of any code.
+fn op_at<I: Instructions>(code: &I, ip: u32) -> Option<Op> {
+    match code.instr(ip) {
+        Some(instr) => Some(instr.op),
+        None => None,
+    }
+}
+
 #[test]
 fn the_adder_is_ready(rt: HostRuntime) {
     let bytes = adds();
@@ -99,6 +108,7 @@ fn its_instructions_are_read(rt: HostRuntime) {
     );
     let second = loaded.instr(1).expect(&rt, "it is there");
     assert!(rt; second.second.is_none());
+    assert!(rt; op_at(&loaded, 3) == Some(Op::Apply2 { op: Binary::Add }));
     assert!(rt; loaded.instr(5).is_some());
     assert!(rt; loaded.instr(6).is_none());
     assert_eq!(rt; loaded.entry(0), 0);

@@ -1,9 +1,10 @@
 -- The plan of a straight graph, which has the graph's program and no marks, is a plan, and it is wired.
-use Rattle.std.proofs.Common.{◌≡◌, ℕ, zero, suc, ◌+◌, ◌-◌, ◌<◌, ◌≤◌, Bool, true, false, List, [], ◌∷◌, ◌++◌, map, length, refl, sym, ap, ◌∙◌, subst, inl, inr, ◌⊎◌, arith, Option, Some, None, ◌==◌, if◌then◌else◌}
+use Rattle.std.proofs.Common.{◌≡◌, ℕ, zero, suc, ◌+◌, ◌-◌, ◌<◌, ◌≤◌, Bool, true, false, List, [], ◌∷◌, ◌++◌, map, length, refl, sym, ap, ◌∙◌, subst, inl, inr, ◌⊎◌, arith, lt-ltb, Option, Some, None, ◌==◌, if◌then◌else◌}
 use Rattle.std.specs.Prelude.{All, Contains, slice_get, option_map}
 use Rattle.std.proofs.lemmas.Bool.{cases_order}
 use Rattle.std.proofs.lemmas.Option.{slice_get-map, slice_get-get_or}
 use Rattle.std.proofs.lemmas.List.Elements.{All-nil, All-cons, All-append, All-map, All-weaker, All-contains, All-contains_itself}
+use Rattle.tags.specs.declared.value.Origin.TheVariants.{Untold, At}
 use Rattle.tags.specs.declared.token.Port.TheVariants.{Left, Right}
 use Rattle.semantics.specs.declared.graph.Kind.{Kind}
 use Rattle.semantics.specs.declared.graph.Kind.TheVariants.{Lit, Apply1, Apply2}
@@ -424,3 +425,19 @@ plan_is_wired fl p flat same unmarked = record {
   switches = λ b n c i at there marked. absurd (marked (unmarked b n));
   loops = λ b c at. (each_wired fl p flat same b c at).loop;
 }
+
+-- ORIGINS. In version 1 none is told.
+abbrev IsUntold : Instr → Type 0
+IsUntold i = i.origin ≡ Untold
+
+untold : (version number : ℕ) (b : Block ℕ) → version < 2 → (r : Role) → IsUntold (instr_for version number b r)
+untold version number b low (Line n) = ap (λ (t : Bool). if t then Untold else At number n) (lt-ltb version 2 low)
+untold version number b low r = refl
+
+untold_codes : (version from : ℕ) (bs : List (Block ℕ)) → version < 2 → All (λ (c : CodeBlock). All IsUntold c.instrs) (straight_codes version from bs)
+untold_codes version from [] low = All-nil (λ (c : CodeBlock). All IsUntold c.instrs)
+untold_codes version from (b ∷ bs) low = All-cons (λ (c : CodeBlock). All IsUntold c.instrs) (straight_code version from b) (straight_codes version (from + 1) bs)
+    (All-map IsUntold (instr_for version from b) (straight_roles b) (λ k d lt. untold version from b low _)) (untold_codes version (from + 1) bs low)
+
+pub plan_tells_nothing : (fl : Flow) (p : Plan) → p.program ≡ straight_program fl → fl.version < 2 → All (λ (c : CodeBlock). All IsUntold c.instrs) p.program.blocks
+plan_tells_nothing fl p same low = subst (λ (q : Program). All (λ (c : CodeBlock). All IsUntold c.instrs) q.blocks) (sym same) (untold_codes fl.version 0 fl.blocks low)

@@ -1,10 +1,11 @@
 -- When straight-line code means what a graph means.
-use Rattle.std.specs.Prelude.{◌≡◌, ℕ, ℤ, List, All, ⊤}
+use Rattle.std.specs.Prelude.{◌≡◌, ℕ, ◌<◌, ℤ, List, All, ⊤}
 use Rattle.semantics.specs.declared.graph.Kind.{Kind}
 use Rattle.semantics.specs.declared.graph.Kind.TheVariants.{Lit, Apply1, Apply2}
 use Rattle.semantics.specs.Graph.{Graph, Block, Flow, Node, flow_of}
 use Rattle.semantics.specs.WellFormed.{WellFormed}
-use Rattle.semantics.specs.Program.{Program}
+use Rattle.tags.specs.declared.value.Origin.TheVariants.{Untold}
+use Rattle.semantics.specs.Program.{Instr, CodeBlock, Program}
 use Rattle.semantics.specs.Machine.{Machine, Size, Events}
 use Rattle.semantics.specs.declared.program.Mark.TheVariants.{Unmarked}
 use Rattle.semantics.specs.Plan.{Plan, mark_at}
@@ -55,3 +56,8 @@ PlanIsOrderly = (fl : Flow) (p : Plan) → IsStraight fl → Implements fl p.pro
 -- A plan that has the program of a straight graph, and no mark, is wired.
 abbrev pub PlanIsWired : Type 0
 PlanIsWired = (fl : Flow) (p : Plan) → IsStraight fl → p.program ≡ straight_program fl → ((b n : ℕ) → mark_at p b n ≡ Unmarked) → IsWired p
+
+-- In version 1 it tells no origin.
+abbrev pub PlanTellsNothing : Type 0
+PlanTellsNothing = (fl : Flow) (p : Plan) → p.program ≡ straight_program fl → fl.version < 2
+    → All (λ (c : CodeBlock). All (λ (i : Instr). i.origin ≡ Untold) c.instrs) p.program.blocks

@@ -8,6 +8,7 @@ use crate::instr::CodeInstr;
 use crate::object::Version;
 use crate::opcode::Opcode;
 use crate::words::{self, Entry, Head};
+use semantics::program::Op;
 
 /// How many words the header has.
 pub const HEADER: usize = 6;
@@ -124,6 +125,38 @@ impl<'a> Tables<'a> {
         }
     }
 
+    /// The operand and the number of the origin of an instruction with this opcode and this second word.
+    fn parted(&self, opcode: Opcode, word: u64) -> (u64, u64)
+        ensures operand { result.0 ≡ Fields.operand_in self.now.version opcode word }
+        ensures origin { result.1 ≡ Fields.origin_number self.now.version opcode word }
+    {
+        if self.has_origin(opcode) {
+            (word % 0x1_0000_0000, word / 0x1_0000_0000)
+        } else {
+            (word, 0)
+        }
+    }
+
+    /// The operation of this opcode with this operand. The table of literals is read where the operand is a literal.
+    fn op(&self, opcode: Opcode, operand: u64) -> Op
+        ensures { result ≡ Fields.with opcode operand (Reading.literal_or_zero (Fields.word_at self.now.bytes.now) operand) }
+    {
+        match opcode {
+            Opcode::Apply2Right { op } => Op::Apply2Right {
+                op,
+                literal: self.literal_or_zero(operand),
+            },
+            Opcode::Apply2Left { op } => Op::Apply2Left {
+                op,
+                literal: self.literal_or_zero(operand),
+            },
+            Opcode::Lit => Op::Lit {
+                literal: self.literal_or_zero(operand),
+            },
+            _ => opcode.with(operand, 0),
+        }
+    }
+
     #[tactic(auto, unfolding(crate::specs::Reading::instr_in))]
     /// An instruction.
     pub fn instr(&self, ip: usize) -> CodeInstr
@@ -133,10 +166,10 @@ impl<'a> Tables<'a> {
         let head = self.head(ip);
         let word = self.operand_word(ip);
         let opcode = head.opcode().unwrap_or(Opcode::Copy);
-        let operand = self.operand(opcode, word);
+        let (operand, origin) = self.parted(opcode, word);
         CodeInstr {
-            op: opcode.with(operand, self.literal_or_zero(operand)),
-            origin: words::origin_of(self.origin(opcode, word)),
+            op: self.op(opcode, operand),
+            origin: words::origin_of(origin),
             slot: head.slot(),
             first: words::dest_of(head.first()),
             second: words::dest_of(head.second()),

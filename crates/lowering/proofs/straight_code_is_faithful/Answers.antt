@@ -1,6 +1,6 @@
 use Rattle.lowering.proofs.StraightGraph.{graph_is_straight}
 use Rattle.lowering.proofs.Theorem.{code_is_faithful, program_implements, program_is_faithful, release_is_last, plan_is_orderly}
-use Rattle.lowering.proofs.StraightPlanned.{plan_is_wired}
+use Rattle.lowering.proofs.StraightPlanned.{plan_is_wired, plan_tells_nothing}
 use Rattle.lowering.proofs.straight_code_is_faithful.Goals as goal
 
 pub returns-clause-code : goal.returns-clause-code
@@ -23,3 +23,6 @@ returns-clause-orderly c = plan_is_orderly
 
 pub returns-clause-wired : goal.returns-clause-wired
 returns-clause-wired c = plan_is_wired
+
+pub returns-clause-origins : goal.returns-clause-origins
+returns-clause-origins c = plan_tells_nothing
