@@ -1,5 +1,5 @@
 -- What an instruction's event leaves: the arcs that were used before are used still, and those that it uses itself are.
-use Rattle.std.proofs.Common.{◌≡◌, refl, sym, ap, ◌∙◌, subst, ℕ, zero, suc, ◌+◌, ◌<◌, ◌≤◌, ◌⊎◌, inl, inr, Bool, true, false, not, true≢false, ◌&&◌, List, [], ◌∷◌, ◌++◌, map, length, Option, Some, None, Contains, arith}
+use Rattle.std.proofs.Common.{◌≡◌, refl, sym, ap, ◌∙◌, subst, ℕ, ◌+◌, ◌⊎◌, inl, inr, Bool, true, false, not, true≢false, ◌&&◌, List, [], ◌∷◌, ◌++◌, Some, Contains, arith}
 use Rattle.std.specs.Prelude.{slice_get, if◌then◌else◌}
 use Rattle.std.proofs.lemmas.Bool.{cases_Bool, and_from}
 use Rattle.std.proofs.lemmas.List.Elements.{Contains-append_left, Contains-append_right, Contains-push}
@@ -16,19 +16,19 @@ use Rattle.tags.specs.declared.slot.SlotState.TheVariants.{Empty}
 use Rattle.semantics.specs.declared.program.Dest.{Dest}
 use Rattle.semantics.specs.declared.program.Op.{Op}
 use Rattle.semantics.specs.declared.program.Op.TheVariants.{Apply1, Apply2, Apply2Right, Apply2Left, Lit, Copy, Sync, Switch, Fetch, Store, Frame, Link, Send, Return, Ask, Open, Take, Give, Drain, Release}
-use Rattle.semantics.specs.Program.{Instr, CodeBlock, Program, first_of, instr_at}
-use Rattle.semantics.specs.Rule.{token, Seat, at_dest, to_each, fire_two, Becomes, outcome_of, slot_of}
+use Rattle.semantics.specs.Program.{Instr, CodeBlock, first_of}
+use Rattle.semantics.specs.Rule.{at_dest, to_each, fire_two, Becomes, outcome_of, slot_of}
 use Rattle.semantics.specs.Machine.{Machine, Store as MStore, slot_in}
-use Rattle.semantics.specs.Plan.{Plan, is_credit, is_open, OneHolder, IsPlanBlock}
+use Rattle.semantics.specs.Plan.{Plan, is_credit, is_open, IsPlanBlock}
 use Rattle.semantics.specs.Sharing.{Inlet, inlet, Arc, arc, arcs_to, arcs_from, arcs_in, is_port, ends_with}
 use Rattle.semantics.specs.Arcs.{UsesBy}
 use Rattle.semantics.specs.Wired.{is_dyadic, IsWired}
 use Rattle.determinacy.proofs.Resolved.{all_get}
-use Rattle.reuse.proofs.Frees.{contains_map}
 use Rattle.reuse.proofs.Stands.{some_same, Stands, stands_one}
 use Rattle.reuse.proofs.Turns.{is_counting, is_later, Turn, waits_left, waits_right, meets_right, meets_left, lone, begins, counts, drain_turn, later_not_dyadic, open_not_dyadic, dyadic_not_credit}
-use Rattle.reuse.proofs.Uses.{contains_none, at_port, Came, later_on, Filled, EmptyOr, opened_from, none_some, Move, turn, slot_cases, slot_new}
-use Rattle.reuse.proofs.Used.{contains_mapped, stands_arcs, credit_port, later_port, open_end, dyadic_slot, later_slot, Ports, one_frame, not_twice, Over, Used, came_later, same_over, used_later, no_move}
+use Rattle.reuse.proofs.Uses.{at_port, Came, later_on, EmptyOr, opened_from, none_some, Move, turn, slot_cases, slot_new}
+use Rattle.reuse.proofs.Used.{stands_arcs, credit_port, later_port, open_end, dyadic_slot, Ports, one_frame, not_twice, Over, Used, came_later, same_over, used_later, no_move}
+use Rattle.reuse.proofs.Members.{contains_map, contains_none, contains_mapped}
 
 later_credit : (op : Op) → is_later op ≡ true → is_credit op ≡ true
 later_credit (Take k) d = refl
@@ -144,6 +144,7 @@ module _ (p : Plan) (wired : IsWired p) (ts pool : List Token) (P : Ports p ts p
       either : (side : Port) → Came p.program now f b n side
       either Left = l
       either Right = r
+
       go : (m : ℕ) (side : Port) (j : Instr) → (m ≡ n) ⊎ ((is_credit j.op ≡ true) × (is_credit i.op ≡ true) × (is_open j.op && is_open i.op ≡ false)) → Came p.program now f b m side
       go m side j (inl e) = subst (λ (x : ℕ). Came p.program now f b x side) (sym e) (either side)
       go m side j (inr c) = absurd (true≢false (sym c.1 ∙ dyadic_not_credit i.op d))
@@ -156,6 +157,7 @@ module _ (p : Plan) (wired : IsWired p) (ts pool : List Token) (P : Ports p ts p
     where
       o : (m : ℕ) × (j : Instr) × Stands p.program b m j × (slot_of j j.op ≡ Some h) × (is_open j.op ≡ true) × Came p.program ts f b m Left
       o = open_came h holds was
+
       go : (m : ℕ) (j : Instr) (side : Port) → Stands p.program b m j → slot_of j j.op ≡ Some h → is_port j.op side ≡ true
           → (m ≡ n) ⊎ ((is_credit j.op ≡ true) × (is_credit i.op ≡ true) × (is_open j.op && is_open i.op ≡ false)) → Came p.program now f b m side
       go m j side s others port (inl e) =
@@ -249,11 +251,11 @@ module _ (p : Plan) (wired : IsWired p) (ts pool : List Token) (P : Ports p ts p
   side_arc is true d c =
       let x : Arc = arc n false (inlet (n + d.ahead) d.port) in
       stands_arcs p b n i x at (subst (λ (op : Op). Contains (arcs_from p n i op) x) (sym is)
-        (Contains-append_left (arcs_to n false i.firsts) (arcs_to n true i.seconds) x (contains_map (λ (d : Dest). arc n false (inlet (n + d.ahead) d.port)) i.firsts d c)))
+      (Contains-append_left (arcs_to n false i.firsts) (arcs_to n true i.seconds) x (contains_map (λ (d : Dest). arc n false (inlet (n + d.ahead) d.port)) i.firsts d c)))
   side_arc is false d c =
       let x : Arc = arc n true (inlet (n + d.ahead) d.port) in
       stands_arcs p b n i x at (subst (λ (op : Op). Contains (arcs_from p n i op) x) (sym is)
-        (Contains-append_right (arcs_to n false i.firsts) (arcs_to n true i.seconds) x (contains_map (λ (d : Dest). arc n true (inlet (n + d.ahead) d.port)) i.seconds d c)))
+      (Contains-append_right (arcs_to n false i.firsts) (arcs_to n true i.seconds) x (contains_map (λ (d : Dest). arc n true (inlet (n + d.ahead) d.port)) i.seconds d c)))
 
   not_twice_over : (z : Bool) → z ≡ not (not z)
   not_twice_over true = refl
@@ -276,8 +278,9 @@ module _ (p : Plan) (wired : IsWired p) (ts pool : List Token) (P : Ports p ts p
             place = omega (arith, at_ip);
             port = sym same.1;
             used = uses_arc (not (truth m.0)) (inlet (n + d.0.ahead) d.0.port) (some_made u inside) (λ late e. absurd (true≢false (sym late ∙ ap is_later is)))
-              (λ e. (m.0, subst (λ (v : Word). Contains now (at_port p.program f b n Right v)) m.1 pred, not_twice_over (truth m.0)));
+                (λ e. (m.0, subst (λ (v : Word). Contains now (at_port p.program f b n Right v)) m.1 pred, not_twice_over (truth m.0)));
           }
+
       go : Turn p.program record { frame = f; ip = first_of p.program b + n } i i.op (slot_in old f (slot_of i i.op)) q w M.v made → CausedBy p now new.slots f ip r
       go (waits_left d was port v none) = absurd (some_made u inside none)
       go (waits_right d was port v none) = absurd (some_made u inside none)
@@ -302,5 +305,5 @@ module _ (p : Plan) (wired : IsWired p) (ts pool : List Token) (P : Ports p ts p
             place = place;
             port = port;
             used = subst (Used p.program now new.slots f b) eq (uses_arc x.second x.to (some_made u inside)
-              (λ late e. ends_op c same ip r u i.op refl uses inside M.becomes late e) (λ e. absurd (ne e)));
+                (λ late e. ends_op c same ip r u i.op refl uses inside M.becomes late e) (λ e. absurd (ne e)));
           }

@@ -62,9 +62,13 @@ same_requests m u cs ds e S = record { cells = S.cells; out = S.out; requests = 
 pub request_carried : (t : ℕ) (m u new : Store) (c : Cont) (made : List Token) → Same m u → Requests t m c made new → Carried m u new (λ after. Requests t u c made after)
 request_carried t m u new c made S (inl e) =
     (with_out u e.0 true, inl (e.0, e.1, ap (λ (o : ℕ → Bool). o e.0) S.out ∙ e.2, e.3, refl), subst (λ (n : Store). Same n (with_out u e.0 true)) (sym e.4) (same_out m u e.0 true S), ap (λ (n : Store). n.slots) e.4, refl)
-request_carried t m u new c made S (inr e) =
-    (with_requests u (u.requests ++ c ∷ []), inr (λ f below. ap (λ (o : ℕ → Bool). o f) S.out ∙ e.0 f below, e.1, refl),
-    subst (λ (n : Store). Same n (with_requests u (u.requests ++ c ∷ []))) (sym e.2) (same_requests m u (m.requests ++ c ∷ []) (u.requests ++ c ∷ []) (ap (λ (l : List Cont). l ++ c ∷ []) (sym S.requests)) S), ap (λ (n : Store). n.slots) e.2, refl)
+request_carried t m u new c made S (inr e) = (
+  with_requests u (u.requests ++ c ∷ []),
+  inr (λ f below. ap (λ (o : ℕ → Bool). o f) S.out ∙ e.0 f below, e.1, refl),
+  subst (λ (n : Store). Same n (with_requests u (u.requests ++ c ∷ []))) (sym e.2) (same_requests m u (m.requests ++ c ∷ []) (u.requests ++ c ∷ []) (ap (λ (l : List Cont). l ++ c ∷ []) (sym S.requests)) S),
+  ap (λ (n : Store). n.slots) e.2,
+  refl,
+)
 
 pub results_same : (slots : List (List ℕ)) (cs : List CodeBlock) → length slots ≡ length cs → (b : ℕ) → results_in (slice_get (placed_blocks slots cs) b) ≡ results_in (slice_get cs b)
 results_same [] [] e b = refl
@@ -74,10 +78,13 @@ results_same (ss ∷ slots) (c ∷ cs) e zero = refl
 results_same (ss ∷ slots) (c ∷ cs) e (suc b) = results_same slots cs (omega (arith, e)) b
 
 hosts_carried : (r : ℕ) (m u new : Store) (j : ℕ) (w : Word) (made : List Token) → Same m u → Hosts r m j w made new → Carried m u new (λ after. Hosts r u j w made after)
-hosts_carried r m u new j w made S (inl e) =
-    (with_output u j e.2.0, inl (e.0, ap (λ (o : ℕ → Option Value). o j) S.outputs ∙ e.1, (e.2.0, e.2.1, e.2.2, refl)),
-    subst (λ (n : Store). Same n (with_output u j e.2.0)) (sym e.2.3) record { cells = S.cells; out = S.out; requests = S.requests; outputs = ap (λ (o : ℕ → Option Value). put_at o j (Some e.2.0)) S.outputs; done = S.done },
-    ap (λ (n : Store). n.slots) e.2.3, refl)
+hosts_carried r m u new j w made S (inl e) = (
+  with_output u j e.2.0,
+  inl (e.0, ap (λ (o : ℕ → Option Value). o j) S.outputs ∙ e.1, (e.2.0, e.2.1, e.2.2, refl)),
+  subst (λ (n : Store). Same n (with_output u j e.2.0)) (sym e.2.3) record { cells = S.cells; out = S.out; requests = S.requests; outputs = ap (λ (o : ℕ → Option Value). put_at o j (Some e.2.0)) S.outputs; done = S.done },
+  ap (λ (n : Store). n.slots) e.2.3,
+  refl,
+)
 hosts_carried r m u new j w made S (inr e) =
     (with_done u, inr (e.0, S.done ∙ e.1, e.2, refl), subst (λ (n : Store). Same n (with_done u)) (sym e.3) record { cells = S.cells; out = S.out; requests = S.requests; outputs = S.outputs; done = refl }, ap (λ (n : Store). n.slots) e.3, refl)
 
@@ -91,10 +98,15 @@ release_carried m u new f made S e = go e.1
   where
     is_out : u.out f ≡ true
     is_out = ap (λ (o : ℕ → Bool). o f) S.out ∙ e.0
+
     go : ((m.requests ≡ []) × (made ≡ []) × (new ≡ with_out m f false))
         ⊎ ((c : Cont) × (cs : List Cont) × IsPermutation m.requests (c ∷ cs) × (made ≡ answer c (Word.Frame f) ∷ []) × (new ≡ with_requests m cs)) → Carried m u new (λ after. Releases u f made after)
     go (inl d) =
         (with_out u f false, (is_out, inl (S.requests ∙ d.0, d.1, refl)), subst (λ (n : Store). Same n (with_out u f false)) (sym d.2) (same_out m u f false S), ap (λ (n : Store). n.slots) d.2, refl)
-    go (inr (c, cs, moved, makes, is)) =
-        (with_requests u cs, (is_out, inr (c, cs, subst (λ (l : List Cont). IsPermutation l (c ∷ cs)) (sym S.requests) moved, makes, refl)),
-        subst (λ (n : Store). Same n (with_requests u cs)) (sym is) (same_requests m u cs cs refl S), ap (λ (n : Store). n.slots) is, refl)
+    go (inr (c, cs, moved, makes, is)) = (
+      with_requests u cs,
+      (is_out, inr (c, cs, subst (λ (l : List Cont). IsPermutation l (c ∷ cs)) (sym S.requests) moved, makes, refl)),
+      subst (λ (n : Store). Same n (with_requests u cs)) (sym is) (same_requests m u cs cs refl S),
+      ap (λ (n : Store). n.slots) is,
+      refl,
+    )

@@ -1,28 +1,23 @@
 -- The clauses of a faithful run, from the plan's run to that over shared slots.
-use Rattle.std.proofs.Common.{◌≡◌, refl, sym, ap, ◌∙◌, subst, ℕ, zero, suc, ◌+◌, ◌*◌, ◌<◌, ◌≤◌, max, ◌⊎◌, inl, inr, Bool, true, false, ℤ, List, [], ◌∷◌, ◌++◌, map, length, Option, Some, None, IsPermutation, Contains, arith}
-use Rattle.std.specs.Prelude.{slice_get, slice_index_or, count_by, flat_map}
+use Rattle.std.proofs.Common.{◌≡◌, refl, sym, ap, ◌∙◌, subst, ℕ, zero, suc, ◌+◌, ◌*◌, ◌≤◌, max, ◌⊎◌, inl, inr, Bool, ℤ, List, [], ◌∷◌, ◌++◌, length, Option, Some, None, IsPermutation, Contains, arith}
+use Rattle.std.specs.Prelude.{slice_get, count_by, flat_map}
 use Rattle.std.proofs.lemmas.List.Sorted.{Contains-permutation, IsPermutation-sym, length_permutation}
 use Rattle.tags.specs.declared.value.Value.{Value}
-use Rattle.tags.specs.declared.token.Port.{Port}
-use Rattle.tags.specs.declared.token.Cont.{Cont}
-use Rattle.tags.specs.declared.token.Word.{Word}
 use Rattle.tags.specs.declared.token.To.{To}
 use Rattle.tags.specs.declared.token.Token.{Token}
-use Rattle.tags.specs.declared.slot.SlotState.{SlotState}
 use Rattle.tags.specs.declared.slot.SlotState.TheVariants.{Empty, Waiter}
-use Rattle.semantics.specs.Graph.{Flow, Block}
+use Rattle.semantics.specs.Graph.{Flow}
 use Rattle.semantics.specs.Meaning as Meaning
 use Rattle.semantics.specs.Meaning.{State, Reached}
 use Rattle.semantics.specs.Program.{Instr, CodeBlock, Program, instr_at}
-use Rattle.semantics.specs.Machine as Machine
-use Rattle.semantics.specs.Machine.{CellState, Machine, Store as MStore, Size, Events, Resting, Wants, stuck_rule, reader_count, value_in}
-use Rattle.semantics.specs.Cause.{SameSeen, HasCause, HasBounds, request_count, seeks_credit, is_credit_event, credit_count, is_turn, opened_by, open_bounds, coded_blocks, loop_bounds}
+use Rattle.semantics.specs.Machine.{CellState, Machine, Size, Events, Resting, Wants, stuck_rule, reader_count, value_in}
+use Rattle.semantics.specs.Cause.{SameSeen, HasCause, HasBounds, request_count, seeks_credit, is_credit_event, credit_count, is_turn, opened_by, open_bounds, loop_bounds}
 use Rattle.semantics.specs.Faithful.{IsExact, IsSecondStore, HasStoreOfFull, NoReader, IsClean, IsBounded, largest, IsRun, Faithful}
 use Rattle.semantics.specs.Plan.{Plan}
 use Rattle.semantics.specs.Sharing.{placed_instrs}
 use Rattle.semantics.specs.Placed.{placed, placed_blocks}
 use Rattle.reuse.specs.OwnSlots.{HasOwnSlots}
-use Rattle.reuse.proofs.Places.{empty_or, length_placed, moved_to, Located, Nowhere, There, located}
+use Rattle.reuse.proofs.Places.{empty_or, length_placed, Located, Nowhere, There, located}
 
 -- all that faithfulness says of one run
 pub record KeepsFaith (fl : Flow) (p : Program) (inputs : List ℤ) (events : Events) (m : Machine) : Type 0 where
@@ -86,9 +81,10 @@ block_same (ss ∷ slots) (c ∷ cs) zero d e = (c, refl, ap open_bounds (some_s
 block_same (ss ∷ slots) (c ∷ cs) (suc b) d e = block_same slots cs b d e
 
 pub code_bounds : (fl : Flow) (p : Plan) (slots : List (List ℕ)) → length slots ≡ length p.program.blocks → HasBounds fl p.program → HasBounds fl (placed p slots)
-code_bounds fl p slots long H =
-    (count_same slots p.program.blocks long ∙ H.0,
-      λ b d g at_d at_g. (let c = block_same slots p.program.blocks b d at_d in subst (λ (l : List ℕ). IsPermutation l (loop_bounds g)) (sym c.2) (H.1 b c.0 g c.1 at_g)))
+code_bounds fl p slots long H = (
+  count_same slots p.program.blocks long ∙ H.0,
+  λ b d g at_d at_g. (let c = block_same slots p.program.blocks b d at_d in subst (λ (l : List ℕ). IsPermutation l (loop_bounds g)) (sym c.2) (H.1 b c.0 g c.1 at_g)),
+)
 
 seeks_same : (p : Plan) (slots : List (List ℕ)) (ip : ℕ) → Located slots p.program.blocks ip → seeks_credit (instr_at (placed p slots) ip) ≡ seeks_credit (instr_at p.program ip)
 seeks_same p slots ip (Nowhere at none) = ap seeks_credit none ∙ sym (ap seeks_credit at)

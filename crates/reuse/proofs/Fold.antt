@@ -78,9 +78,9 @@ fold_same t h m n u es ec eo ej ed F = record {
 slot_fold : (t : ℕ) (h : ℕ → ℕ) → Injective h → (m u : Store) (f r : ℕ) (s : SlotState) → Fold t h m u → Fold t h (with_slot m f r s) (with_slot u (h f) r (re_slot h s))
 slot_fold t h inj m u f r s F = record {
   slots = λ g q. if_at (h f == h g) (put_at (u.slots (h f)) r (re_slot h s)) (u.slots (h g)) q
-    ∙ if_both (re_slot h) (h f == h g) (f == g) (put_at (u.slots (h f)) r (re_slot h s) q) (u.slots (h g) q) (put_at (m.slots f) r s q) (m.slots g q) (eq_under h inj f g)
-    (if_both (re_slot h) (r == q) (r == q) (re_slot h s) (u.slots (h f) q) s (m.slots f q) refl refl (F.slots f q)) (F.slots g q)
-    ∙ ap (re_slot h) (sym (if_at (f == g) (put_at (m.slots f) r s) (m.slots g) q));
+      ∙ if_both (re_slot h) (h f == h g) (f == g) (put_at (u.slots (h f)) r (re_slot h s) q) (u.slots (h g) q) (put_at (m.slots f) r s q) (m.slots g q) (eq_under h inj f g)
+      (if_both (re_slot h) (r == q) (r == q) (re_slot h s) (u.slots (h f) q) s (m.slots f q) refl refl (F.slots f q)) (F.slots g q)
+      ∙ ap (re_slot h) (sym (if_at (f == g) (put_at (m.slots f) r s) (m.slots g) q));
   cells = F.cells;
   out = F.out;
   none_waits = F.none_waits;
@@ -92,6 +92,7 @@ slot_fold t h inj m u f r s F = record {
   where
     new : ℕ → ℕ → SlotState
     new = put_at u.slots (h f) (put_at (u.slots (h f)) r (re_slot h s))
+
     other : (k : ℕ) → ((h f ≡ k) ⊎ (h f ≡ k → ⊥)) → (((q : ℕ) → u.slots k q ≡ Empty) × (u.out k ≡ false)) ⊎ ((g : ℕ) × (k ≡ h g))
         → (((q : ℕ) → put_at u.slots (h f) (put_at (u.slots (h f)) r (re_slot h s)) k q ≡ Empty) × (u.out k ≡ false)) ⊎ ((g : ℕ) × (k ≡ h g))
     other k (inl e) o = inr (f, sym e)
@@ -128,6 +129,7 @@ out_fold t h inj m u f below F = record {
     other k (inl e) o = inr (f, sym e)
     other k (inr ne) (inl o) = inl (o.0, put_other u.out (h f) true k ne ∙ o.1)
     other k (inr ne) (inr o) = inr o
+
     inside : (g : ℕ) → ((f ≡ g) ⊎ (f ≡ g → ⊥)) → put_at m.out f true g ≡ true → g < t
     inside g (inl e) q = subst (λ (k : ℕ). k < t) e below
     inside g (inr ne) q = F.within g (sym (put_other m.out f true g ne) ∙ q)
@@ -176,10 +178,12 @@ fetches_fold : (t : ℕ) (h : ℕ → ℕ) (m u new : Store) (x : ℕ) (c : Cont
 fetches_fold t h m u new x c Vacant made F e =
     (with_cell u x (Deferred (re_cont h c ∷ [])), (ap (map (re_token h)) e.0, refl), subst (λ (n : Store). Fold t h n (with_cell u x (Deferred (re_cont h c ∷ [])))) (sym e.1) (cell_fold t h m u x (Deferred (c ∷ [])) F))
 fetches_fold t h m u new x c (Deferred cs) made F e =
-    let one : Fold t h (with_cell m x (Deferred (cs ++ c ∷ []))) (with_cell u x (Deferred (map (re_cont h) (cs ++ c ∷ [])))) = cell_fold t h m u x (Deferred (cs ++ c ∷ [])) F in
-    (with_cell u x (Deferred (map (re_cont h) cs ++ re_cont h c ∷ [])), (ap (map (re_token h)) e.0, refl),
-    subst (λ (n : Store). Fold t h n (with_cell u x (Deferred (map (re_cont h) cs ++ re_cont h c ∷ [])))) (sym e.1)
-    (subst (λ (l : List Cont). Fold t h (with_cell m x (Deferred (cs ++ c ∷ []))) (with_cell u x (Deferred l))) (map_append (re_cont h) cs (c ∷ [])) one))
+    let one : Fold t h (with_cell m x (Deferred (cs ++ c ∷ []))) (with_cell u x (Deferred (map (re_cont h) (cs ++ c ∷ [])))) = cell_fold t h m u x (Deferred (cs ++ c ∷ [])) F in (
+      with_cell u x (Deferred (map (re_cont h) cs ++ re_cont h c ∷ [])),
+      (ap (map (re_token h)) e.0, refl),
+      subst (λ (n : Store). Fold t h n (with_cell u x (Deferred (map (re_cont h) cs ++ re_cont h c ∷ [])))) (sym e.1)
+          (subst (λ (l : List Cont). Fold t h (with_cell m x (Deferred (cs ++ c ∷ []))) (with_cell u x (Deferred l))) (map_append (re_cont h) cs (c ∷ [])) one),
+    )
 fetches_fold t h m u new x c (Full v) made F e =
     (u, (ap (map (re_token h)) e.0 ∙ ap (λ (k : Token). k ∷ []) (answer_re h c (Word.Val v)), refl), subst (λ (n : Store). Fold t h n u) (sym e.1) F)
 
@@ -195,9 +199,11 @@ stores_fold : (t : ℕ) (h : ℕ → ℕ) (m u new : Store) (x : ℕ) (v : Value
     → (after : Store) × Stores u x v (re_cont h c) (re_cell h y) (map (re_token h) made) after × Fold t h new after
 stores_fold t h m u new x v c Vacant made F e =
     (with_cell u x (Full v), (ap (map (re_token h)) e.0 ∙ ap (λ (k : Token). k ∷ []) (answer_re h c (Word.Val v)), refl), subst (λ (n : Store). Fold t h n (with_cell u x (Full v))) (sym e.1) (cell_fold t h m u x (Full v) F))
-stores_fold t h m u new x v c (Deferred cs) made F e =
-    (with_cell u x (Full v), (ap (map (re_token h)) e.0 ∙ answers_re h (cs ++ c ∷ []) v ∙ ap (λ (l : List Cont). answers l v) (map_append (re_cont h) cs (c ∷ [])), refl),
-    subst (λ (n : Store). Fold t h n (with_cell u x (Full v))) (sym e.1) (cell_fold t h m u x (Full v) F))
+stores_fold t h m u new x v c (Deferred cs) made F e = (
+  with_cell u x (Full v),
+  (ap (map (re_token h)) e.0 ∙ answers_re h (cs ++ c ∷ []) v ∙ ap (λ (l : List Cont). answers l v) (map_append (re_cont h) cs (c ∷ [])), refl),
+  subst (λ (n : Store). Fold t h n (with_cell u x (Full v))) (sym e.1) (cell_fold t h m u x (Full v) F),
+)
 stores_fold t h m u new x v c (Full w) made F e = absurd e
 
 pub store_step : (p : Program) (t tu : ℕ) (h : ℕ → ℕ) (m u new : Store) (x : ℕ) (v : Value) (w : Word) (made : List Token) → Fold t h m u
@@ -215,19 +221,34 @@ pub request_step : (p : Program) (t tu : ℕ) (h : ℕ → ℕ) → Injective h 
     × Happens p tu u To.Manager (re_word h (Word.Back c)) (map (re_token h) made) (with_out u (h f) true) × Fold t h new (with_out u (h f) true))
     ⊎ ((made ≡ []) × (new.requests ≡ m.requests ++ c ∷ []) × (new.out ≡ m.out) × Fold t h new u)
 request_step p t tu h inj below m u new c made F (inl e) =
-    inl (e.0, e.1, e.2, e.4, e.3, inl (h e.0, below e.0 e.1, F.out e.0 ∙ e.2, ap (map (re_token h)) e.3 ∙ ap (λ (k : Token). k ∷ []) (answer_re h c (Word.Frame e.0)), refl),
-    subst (λ (n : Store). Fold t h n (with_out u (h e.0) true)) (sym e.4) (out_fold t h inj m u e.0 e.1 F))
+    inl (
+      e.0,
+      e.1,
+      e.2,
+      e.4,
+      e.3,
+      inl (h e.0, below e.0 e.1, F.out e.0 ∙ e.2, ap (map (re_token h)) e.3 ∙ ap (λ (k : Token). k ∷ []) (answer_re h c (Word.Frame e.0)), refl),
+      subst (λ (n : Store). Fold t h n (with_out u (h e.0) true)) (sym e.4) (out_fold t h inj m u e.0 e.1 F),
+    )
 request_step p t tu h inj below m u new c made F (inr e) =
-    inr (e.1, ap (λ (s : Store). s.requests) e.2, ap (λ (s : Store). s.out) e.2,
-    subst (λ (n : Store). Fold t h n u) (sym e.2) (fold_same t h m (with_requests m (m.requests ++ c ∷ [])) u refl refl (λ g. refl) refl refl F))
+    inr (
+      e.1,
+      ap (λ (s : Store). s.requests) e.2,
+      ap (λ (s : Store). s.out) e.2,
+      subst (λ (n : Store). Fold t h n u) (sym e.2) (fold_same t h m (with_requests m (m.requests ++ c ∷ [])) u refl refl (λ g. refl) refl refl F),
+    )
 
 pub host_step : (p : Program) (t tu : ℕ) (h : ℕ → ℕ) (m u new : Store) (j : ℕ) (w : Word) (made : List Token) → Fold t h m u
     → Happens p t m (To.Host j) w made new → Follows p t tu h u (To.Host j) w made new
-host_step p t tu h m u new j w made F (inl e) =
-    (with_output u j e.2.0, inl (e.0, ap (λ (o : ℕ → Option Value). o j) F.outputs ∙ e.1, (e.2.0, ap (re_word h) e.2.1, ap (map (re_token h)) e.2.2, refl)),
-    subst (λ (n : Store). Fold t h n (with_output u j e.2.0)) (sym e.2.3)
-    record { slots = F.slots; cells = F.cells; out = F.out; none_waits = F.none_waits; outputs = ap (λ (o : ℕ → Option Value). put_at o j (Some e.2.0)) F.outputs; done = F.done; others = F.others; within = F.within })
-host_step p t tu h m u new j w made F (inr e) =
-    (with_done u, inr (e.0, F.done ∙ e.1, ap (map (re_token h)) e.2, refl),
-    subst (λ (n : Store). Fold t h n (with_done u)) (sym e.3)
-    record { slots = F.slots; cells = F.cells; out = F.out; none_waits = F.none_waits; outputs = F.outputs; done = refl; others = F.others; within = F.within })
+host_step p t tu h m u new j w made F (inl e) = (
+  with_output u j e.2.0,
+  inl (e.0, ap (λ (o : ℕ → Option Value). o j) F.outputs ∙ e.1, (e.2.0, ap (re_word h) e.2.1, ap (map (re_token h)) e.2.2, refl)),
+  subst (λ (n : Store). Fold t h n (with_output u j e.2.0)) (sym e.2.3)
+      record { slots = F.slots; cells = F.cells; out = F.out; none_waits = F.none_waits; outputs = ap (λ (o : ℕ → Option Value). put_at o j (Some e.2.0)) F.outputs; done = F.done; others = F.others; within = F.within },
+)
+host_step p t tu h m u new j w made F (inr e) = (
+  with_done u,
+  inr (e.0, F.done ∙ e.1, ap (map (re_token h)) e.2, refl),
+  subst (λ (n : Store). Fold t h n (with_done u)) (sym e.3)
+      record { slots = F.slots; cells = F.cells; out = F.out; none_waits = F.none_waits; outputs = F.outputs; done = refl; others = F.others; within = F.within },
+)

@@ -1,7 +1,7 @@
 -- A run in which frames are used again is a run in which each is used once.
 use Rattle.std.proofs.Common.{◌≡◌, refl, sym, ap, ◌∙◌, subst, ℕ, suc, ◌+◌, ◌*◌, ◌<◌, ◌≤◌, ◌⊎◌, inl, inr, ℤ, Bool, true, false, List, [], ◌∷◌, ◌++◌, map, length, Option, Some, None, IsPermutation, arith, length-append, append_assoc, append-nil, add-zero, add-suc, mul_left_comm, mul-pos, zero-mul}
-use Rattle.std.specs.Prelude.{◌==◌}
-use Rattle.std.proofs.lemmas.Bool.{cases_eq, cases_lt, eqb-true}
+use Rattle.std.specs.Prelude.{◌==◌, if◌then◌else◌}
+use Rattle.std.proofs.lemmas.Bool.{cases_eq, cases_lt, eqb-true, eq-eqb}
 use Rattle.std.proofs.lemmas.List.Elements.{Contains-append_left, Contains-append_right}
 use Rattle.std.proofs.lemmas.List.Sorted.{IsPermutation-refl, IsPermutation-sym, IsPermutation-trans, IsPermutation-map, IsPermutation-append_left, IsPermutation-append_right, IsPermutation-middle, IsPermutation-to_front, length_permutation}
 use Rattle.tags.specs.declared.value.Value.{Value}
@@ -16,19 +16,21 @@ use Rattle.tags.specs.declared.slot.SlotState.TheVariants.{Empty}
 use Rattle.semantics.specs.Rule.{token, Outcome, Becomes, Excluded, rule_at}
 use Rattle.semantics.specs.Machine.{CellState, Vacant, Full, Deferred, Fires, Fetches, Stores, Hosts, Requests, outputs_of, slot_in, slot_used, with_slot_in, Store, Machine, Size, put_at, with_out, with_requests, answer, Releases, Happens, Event, Events, Run, input_tokens, at_start}
 use Rattle.tags.specs.Addresses.{element_of}
-use Rattle.semantics.specs.Orderly.{IsFreeOf, IsFreeAtRelease}
+use Rattle.semantics.specs.Orderly.{NamesTo, IsFreeOf, IsFreeAtRelease}
 use Rattle.semantics.specs.Renamed.{re_cont, re_word, re_to, re_token}
 use Rattle.semantics.specs.Handed.{EachOnce}
 use Rattle.semantics.specs.Holders.{Holder, held_by_event, holds}
 use Rattle.semantics.specs.Plan.{Plan}
 use Rattle.semantics.specs.Cause.{is_request, is_credit_event}
 use Rattle.semantics.specs.Handed.{handed_by, handed}
-use Rattle.reuse.proofs.Snoc.{run_snoc, handed_snoc, holds_snoc}
+use Rattle.reuse.proofs.Snoc.{run_snoc, handed_snoc, holds_snoc, tally, tally_snoc}
+use Rattle.reuse.proofs.Tallies.{Counter, count_at, count_request, count_release, count_re, count_off}
+use Rattle.reuse.proofs.Members.{contains_mapped}
 use Rattle.reuse.proofs.Counts.{Counted, counted_both, counted_waits, counted_serves}
 use Rattle.reuse.proofs.Tracked.{held_re, holds_none}
 use Rattle.reuse.proofs.Lists.{Each, Spread, Differ, each_append, each_weaker, spread_append, all_differ}
 use Rattle.reuse.proofs.Fold.{Injective, Fold, Follows, fold_same, out_fold, instr_step, fetch_step, store_step, request_step, host_step, put_same, put_other, answer_re, map_append, eq_under, ne_eqb}
-use Rattle.reuse.proofs.Freed.{place, IsNaming, place_low, place_injective, place_same, next_use, naming_later, naming_next, Renews, renews_next, keep_tokens, free_fold}
+use Rattle.reuse.proofs.Freed.{place, IsNaming, place_low, place_injective, place_same, next_use, naming_later, naming_next, place_fresh, Renews, renews_next, keep_tokens, free_fold}
 
 -- a run to here in which each frame is handed out once, and these are the frames that were
 pub record Once (p : Program) (z : Size) (start : Machine) (used : ℕ → Type 0) (Tells : (events : Events) (u : Machine) → Run p z start events u → Type 0) (u : Machine) : Type 0 where
@@ -56,8 +58,8 @@ once_more p z start used more Tells More u v e t O ev fs same new apart fresh gr
       run = run_snoc p z start u v O.events e t O.run ev;
       among = subst (λ (l : List ℕ). Each more (0 ∷ l)) (sym both) (each_append more before fs (each_weaker used more grows before O.among) new);
       differ = subst (λ (l : List ℕ). Spread Differ (0 ∷ l)) (sym both)
-        (spread_append Differ before fs O.differ apart
-        (each_weaker used (λ x. Each (Differ x) fs) (λ x ux. each_weaker (λ f. used f → ⊥) (Differ x) (λ f nf e. nf (subst used e ux)) fs fresh) before O.among));
+          (spread_append Differ before fs O.differ apart
+          (each_weaker used (λ x. Each (Differ x) fs) (λ x ux. each_weaker (λ f. used f → ⊥) (Differ x) (λ f nf e. nf (subst used e ux)) fs fresh) before O.among));
       told = told;
     }
 
@@ -77,11 +79,50 @@ credit_re p h To.Manager = refl
 credit_re p h (To.Release f) = refl
 credit_re p h (To.Host j) = refl
 
--- What is told of the unfolded run: the events so far are counted by it, and of who holds a slot it tells what `held` tells
--- of the run.
-pub record Told (P : Plan) (p : Program) (z : Size) (start : Machine) (h : ℕ → ℕ) (done : Events) (waiting : ℕ) (held : ℕ → ℕ → Option Holder) (events : Events) (u : Machine) (run : Run p z start events u) : Type 0 where
+-- ---- WHAT IS TOLD OF A RUN, EVENT BY EVENT: who holds each slot, and what was counted at each frame since its last release.
+pub record So : Type 0 where
+  pub held : ℕ → ℕ → Option Holder
+  pub counted : Counter → ℕ → ℕ
+
+abbrev pub counted_next : Plan → Program → (Counter → ℕ → ℕ) → Store → To → List Token → Counter → ℕ → ℕ
+counted_next P p counted old (To.Release g) made x f = if g == f then 0 else counted x f
+counted_next P p counted old to made x f = counted x f + count_at P p x f old to made
+
+abbrev pub so_next : Plan → Program → So → Store → To → List Token → Store → So
+so_next P p so old to made new = record { held = λ f s. held_by_event P p f s (so.held f s) to new; counted = λ x f. counted_next P p so.counted old to made x f }
+
+abbrev pub so_after : (P : Plan) (p : Program) (so : So) (z : Size) (old : Machine) (events : Events) (new : Machine) → Run p z old events new → So
+so_after P p so z old [] new r = so
+so_after P p so z old (x ∷ events) new r = so_after P p (so_next P p so old.store x.1.to r.1.made r.0.store) z r.0 events new r.2
+
+abbrev pub so_start : So
+so_start = record { held = λ f s. None; counted = λ x f. 0 }
+
+pub so_held : (P : Plan) (p : Program) (so : So) (z : Size) (old : Machine) (events : Events) (new : Machine) (r : Run p z old events new) (f s : ℕ)
+    → (so_after P p so z old events new r).held f s ≡ holds P p f s (so.held f s) z old events new r
+so_held P p so z old [] new r f s = refl
+so_held P p so z old (x ∷ events) new r f s = so_held P p (so_next P p so old.store x.1.to r.1.made r.0.store) z r.0 events new r.2 f s
+
+-- What is told of the unfolded run: it counts the events so far, and tells what `so` tells of the run.
+pub record Told (P : Plan) (p : Program) (z : Size) (start : Machine) (t n : ℕ) (gen : ℕ → ℕ) (done : Events) (waiting : ℕ) (so : So) (events : Events) (u : Machine) (run : Run p z start events u) : Type 0 where
   pub counted : Counted p done events waiting
-  pub holders : (f s : ℕ) → holds P p (h f) s None z start events u run ≡ held f s
+  pub holders : (f s : ℕ) → holds P p (place t gen f) s None z start events u run ≡ so.held f s
+  pub tallied : (x : Counter) (f : ℕ) → tally (count_at P p x (place t gen f)) p z start events u run ≡ so.counted x f
+  -- nothing was counted of a use that is still to come
+  pub fresh : (x : Counter) (f j : ℕ) → f < t → gen f < j → j ≤ n → tally (count_at P p x (f + j * t)) p z start events u run ≡ 0
+
+named_image : (h : ℕ → ℕ) (F : ℕ) (to : To) → NamesTo F (re_to h to) → (g : ℕ) × (h g ≡ F)
+named_image h F (To.Instr g ip q) e = (g, e)
+named_image h F (To.Release g) e = (g, e)
+named_image h F (To.Fetch x) e = absurd e
+named_image h F (To.Store x v) e = absurd e
+named_image h F To.Manager e = absurd e
+named_image h F (To.Host j) e = absurd e
+
+-- an event counts nothing of a frame that is no frame's name
+count_image : (P : Plan) (p : Program) (x : Counter) (h : ℕ → ℕ) (F : ℕ) (s : Store) (to : To) (made : List Token) → ((g : ℕ) → F ≡ h g → ⊥) → count_at P p x F s (re_to h to) (map (re_token h) made) ≡ 0
+count_image P p x h F s to made off = count_off P p x F s (re_to h to) (map (re_token h) made) (λ e. (let g = named_image h F to e in off g.0 (sym g.1)))
+    (λ t inside e. (let k = contains_mapped (re_token h) made t inside in let g = named_image h F k.0.to (subst (λ (t : Token). NamesTo F t.to) (sym k.2) e) in off g.0 (sym g.1)))
 
 -- ---- what the unfolded run holds
 
@@ -122,6 +163,7 @@ used_fresh t gen out f below was (g, j, lt, e, q) = go q
   where
     both : (f ≡ g) × (gen f ≡ j)
     both = place_same t f g (gen f) j below lt e
+
     go : ((j < gen g) ⊎ ((j ≡ gen g) × (out g ≡ true))) → ⊥
     go (inl less) = let a = both.1 in let b : gen f ≡ gen g = ap gen both.0 in omega (arith, a)
     go (inr q) = let no : false ≡ true = sym was ∙ ap out both.0 ∙ q.1 in absurd (cc)
@@ -187,19 +229,18 @@ module _ (P : Plan) (p : Program) (inputs : List ℤ) (elements frames n : ℕ) 
   abbrev pub wide : Size
   wide = record { elements = elements; frames = suc n * frames }
 
-  abbrev pub Telling : (ℕ → ℕ) → Events → List Cont → (ℕ → ℕ → Option Holder) → (events : Events) (u : Machine) → Run p wide (at_start p inputs) events u → Type 0
-  Telling gen done requests held = λ events u run. Told P p wide (at_start p inputs) (place total gen) done (length requests) held events u run
+  abbrev pub Telling : (ℕ → ℕ) → Events → List Cont → So → (events : Events) (u : Machine) → Run p wide (at_start p inputs) events u → Type 0
+  Telling gen done requests so = λ events u run. Told P p wide (at_start p inputs) total n gen done (length requests) so events u run
 
-  pub record Next (k : ℕ) (done : Events) (held : ℕ → ℕ → Option Holder) (new : Machine) : Type 0 where
+  pub record Next (k : ℕ) (done : Events) (so : So) (new : Machine) : Type 0 where
     pub gen : ℕ → ℕ
     pub after : Machine
     pub naming : IsNaming total n k gen
     pub folds : Folds total (place total gen) new after
-    pub once : Once p wide (at_start p inputs) (Used total gen new.store.out) (Telling gen done new.store.requests held) after
+    pub once : Once p wide (at_start p inputs) (Used total gen new.store.out) (Telling gen done new.store.requests so) after
 
-  -- who holds the slots after an event
-  abbrev pub held_next : (ℕ → ℕ → Option Holder) → To → Store → ℕ → ℕ → Option Holder
-  held_next held to new f s = held_by_event P p f s (held f s) to new
+  abbrev pub next : So → Store → To → List Token → Store → So
+  next so old to made new = so_next P p so old to made new
 
   place_below : (k : ℕ) (gen : ℕ → ℕ) → IsNaming total n k gen → (f : ℕ) → f < total → place total gen f < elements * (suc n * frames)
   place_below k gen N f below =
@@ -209,11 +250,12 @@ module _ (P : Plan) (p : Program) (inputs : List ℤ) (elements frames n : ℕ) 
       subst (λ (x : ℕ). place total gen f < x) (sym same) low
 
   -- an event that hands out no frame and takes none back
-  plain_step : (k : ℕ) (gen : ℕ → ℕ) (done : Events) (held : ℕ → ℕ → Option Holder) (m u new : Machine) (e : ℕ) (to : To) (w : Word) (made rest : List Token) → IsNaming total n (suc k) gen → Folds total (place total gen) m u
-      → Once p wide (at_start p inputs) (Used total gen m.store.out) (Telling gen done m.store.requests held) u → IsPermutation m.pool (token to w ∷ rest) → IsPermutation new.pool (made ++ rest)
+  plain_step : (k : ℕ) (gen : ℕ → ℕ) (done : Events) (so : So) (m u new : Machine) (e : ℕ) (to : To) (w : Word) (made rest : List Token) → IsNaming total n (suc k) gen → Folds total (place total gen) m u
+      → Once p wide (at_start p inputs) (Used total gen m.store.out) (Telling gen done m.store.requests so) u → IsPermutation m.pool (token to w ∷ rest) → IsPermutation new.pool (made ++ rest)
       → handed_by (re_to (place total gen) to) (map (re_token (place total gen)) made) ≡ [] → (new.store.out ≡ m.store.out) × (new.store.requests ≡ m.store.requests)
-      → Follows p total (elements * (suc n * frames)) (place total gen) u.store to w made new.store → Next k (done ++ (e, token to w) ∷ []) (held_next held to new.store) new
-  plain_step k gen done held m u new e to w made rest N S O takes leaves none same does =
+      → ((x : Counter) (f : ℕ) → counted_next P p so.counted m.store to made x f ≡ so.counted x f + count_at P p x f m.store to made)
+      → Follows p total (elements * (suc n * frames)) (place total gen) u.store to w made new.store → Next k (done ++ (e, token to w) ∷ []) (next so m.store to made new.store) new
+  plain_step k gen done so m u new e to w made rest N S O takes leaves none same grows does =
       let h : ℕ → ℕ = place total gen in
       let ws : List Token = waits h m.store.requests in
       let left : List Token = map (re_token h) rest ++ ws in
@@ -225,31 +267,41 @@ module _ (P : Plan) (p : Program) (inputs : List ℤ) (elements frames n : ℕ) 
         after = after;
         naming = naming_later total n k gen N;
         folds = record { fold = does.2; pool = subst (λ (cs : List Cont). IsPermutation after.pool (map (re_token h) new.pool ++ waits h cs)) (sym same.1) (pool_after h new.pool made rest ws leaves) };
-        once = once_more p wide (at_start p inputs) (Used total gen m.store.out) (Used total gen new.store.out) (Telling gen done m.store.requests held)
-          (Telling gen (done ++ (e, token to w) ∷ []) new.store.requests (held_next held to new.store)) u after (element_of elements (re_to h to)) (token (re_to h to) (re_word h w)) O ev
-          [] none tt tt tt (λ f. used_same total gen m.store.out new.store.out (λ g e. ap (λ (o : ℕ → Bool). o g) same.0 ∙ e) f)
-          record {
-            counted = subst (λ (cs : List Cont). Counted p (done ++ (e, token to w) ∷ []) (O.events ++ (element_of elements (re_to h to), token (re_to h to) (re_word h w)) ∷ []) (length cs)) (sym same.1)
-              (counted_both p done O.events (length m.store.requests) e (element_of elements (re_to h to)) (token to w) (token (re_to h to) (re_word h w)) (request_re h to) (credit_re p h to) O.told.counted);
-            holders = λ f s. holds_snoc P p (h f) s None wide (at_start p inputs) u after O.events (element_of elements (re_to h to)) (token (re_to h to) (re_word h w)) O.run ev
-              ∙ ap (λ (x : Option Holder). held_by_event P p (h f) s x (re_to h to) does.0) (O.told.holders f s)
-              ∙ held_re P p h (place_injective total n (suc k) gen N) f s (held f s) to new.store does.0 (does.2.slots f s);
-          };
+        once = once_more p wide (at_start p inputs) (Used total gen m.store.out) (Used total gen new.store.out) (Telling gen done m.store.requests so)
+            (Telling gen (done ++ (e, token to w) ∷ []) new.store.requests (next so m.store to made new.store)) u after (element_of elements (re_to h to)) (token (re_to h to) (re_word h w)) O ev
+            [] none tt tt tt (λ f. used_same total gen m.store.out new.store.out (λ g e. ap (λ (o : ℕ → Bool). o g) same.0 ∙ e) f)
+            record {
+              counted = subst (λ (cs : List Cont). Counted p (done ++ (e, token to w) ∷ []) (O.events ++ (element_of elements (re_to h to), token (re_to h to) (re_word h w)) ∷ []) (length cs)) (sym same.1)
+                  (counted_both p done O.events (length m.store.requests) e (element_of elements (re_to h to)) (token to w) (token (re_to h to) (re_word h w)) (request_re h to) (credit_re p h to) O.told.counted);
+              holders = λ f s. holds_snoc P p (h f) s None wide (at_start p inputs) u after O.events (element_of elements (re_to h to)) (token (re_to h to) (re_word h w)) O.run ev
+                  ∙ ap (λ (x : Option Holder). held_by_event P p (h f) s x (re_to h to) does.0) (O.told.holders f s)
+                  ∙ held_re P p h (place_injective total n (suc k) gen N) f s (so.held f s) to new.store does.0 (does.2.slots f s);
+              tallied = λ x f. (let a = tally_snoc (count_at P p x (h f)) p wide (at_start p inputs) u after O.events (element_of elements (re_to h to)) (token (re_to h to) (re_word h w)) O.run ev in
+                  let b = O.told.tallied x f in
+                  let c = count_re P p x h (place_injective total n (suc k) gen N) f m.store u.store S.fold.slots to made in
+                  let d = grows x f in
+                  omega (arith, a, b, c, d));
+              fresh = λ x f j below more within. (let a = tally_snoc (count_at P p x (f + j * total)) p wide (at_start p inputs) u after O.events (element_of elements (re_to h to)) (token (re_to h to) (re_word h w)) O.run ev in
+                  let b = O.told.fresh x f j below more within in
+                  let c = count_image P p x h (f + j * total) u.store to made (λ g e. place_fresh total n (suc k) gen N f j below more within g e) in
+                  omega (arith, a, b, c));
+            };
       }
 
   -- a request that is served, or waits
-  ask_step : (k : ℕ) (gen : ℕ → ℕ) (done : Events) (held : ℕ → ℕ → Option Holder) (m u new : Machine) (e : ℕ) (c : Cont) (made rest : List Token) → IsNaming total n (suc k) gen → Folds total (place total gen) m u
-      → Once p wide (at_start p inputs) (Used total gen m.store.out) (Telling gen done m.store.requests held) u
+  ask_step : (k : ℕ) (gen : ℕ → ℕ) (done : Events) (so : So) (m u new : Machine) (e : ℕ) (c : Cont) (made rest : List Token) → IsNaming total n (suc k) gen → Folds total (place total gen) m u
+      → Once p wide (at_start p inputs) (Used total gen m.store.out) (Telling gen done m.store.requests so) u
       → IsPermutation m.pool (token To.Manager (Word.Back c) ∷ rest) → IsPermutation new.pool (made ++ rest)
-      → Requests total m.store c made new.store → Next k (done ++ (e, token To.Manager (Word.Back c)) ∷ []) held new
-  ask_step k gen done held m u new e c made rest N S O takes leaves asks =
+      → Requests total m.store c made new.store → Next k (done ++ (e, token To.Manager (Word.Back c)) ∷ []) (next so m.store To.Manager made new.store) new
+  ask_step k gen done so m u new e c made rest N S O takes leaves asks =
       go (request_step p total (elements * (suc n * frames)) (place total gen) (place_injective total n (suc k) gen N) (place_below (suc k) gen N) m.store u.store new.store c made S.fold asks)
     where
       h : ℕ → ℕ
       h = place total gen
+
       go : ((f : ℕ) × (f < total) × (m.store.out f ≡ false) × (new.store ≡ with_out m.store f true) × (made ≡ answer c (Word.Frame f) ∷ [])
           × Happens p (elements * (suc n * frames)) u.store To.Manager (re_word h (Word.Back c)) (map (re_token h) made) (with_out u.store (h f) true) × Fold total h new.store (with_out u.store (h f) true))
-          ⊎ ((made ≡ []) × (new.store.requests ≡ m.store.requests ++ c ∷ []) × (new.store.out ≡ m.store.out) × Fold total h new.store u.store) → Next k (done ++ (e, token To.Manager (Word.Back c)) ∷ []) held new
+          ⊎ ((made ≡ []) × (new.store.requests ≡ m.store.requests ++ c ∷ []) × (new.store.out ≡ m.store.out) × Fold total h new.store u.store) → Next k (done ++ (e, token To.Manager (Word.Back c)) ∷ []) (next so m.store To.Manager made new.store) new
       go (inl (f, below, was, is, makes, happens, fold)) =
           let ws : List Token = waits h m.store.requests in
           let left : List Token = map (re_token h) rest ++ ws in
@@ -263,16 +315,25 @@ module _ (P : Plan) (p : Program) (inputs : List ℤ) (elements frames n : ℕ) 
             after = after;
             naming = naming_later total n k gen N;
             folds = record { fold = fold; pool = subst (λ (cs : List Cont). IsPermutation after.pool (map (re_token h) new.pool ++ waits h cs)) (sym (ap (λ (s : Store). s.requests) is)) (pool_after h new.pool made rest ws leaves) };
-            once = once_more p wide (at_start p inputs) (Used total gen m.store.out) (Used total gen new.store.out) (Telling gen done m.store.requests held)
-              (Telling gen (done ++ (e, token To.Manager (Word.Back c)) ∷ []) new.store.requests held) u after 0 (token To.Manager (re_word h (Word.Back c))) O ev
-              (h f ∷ []) (ap (λ (l : List Token). handed_by To.Manager (map (re_token h) l)) makes) ((f, gen f, below, refl, inr (refl, is_out)), tt) (tt, tt)
-              (used_fresh total gen m.store.out f below was, tt)
-              (λ x. used_same total gen m.store.out new.store.out (λ g e. ap (λ (o : ℕ → Bool). o g) out ∙ stays g f (cases_eq f g) e) x)
-              record {
-                counted = subst (λ (cs : List Cont). Counted p (done ++ (e, token To.Manager (Word.Back c)) ∷ []) (O.events ++ (0, token To.Manager (re_word h (Word.Back c))) ∷ []) (length cs)) (sym (ap (λ (s : Store). s.requests) is))
-                  (counted_both p done O.events (length m.store.requests) e 0 (token To.Manager (Word.Back c)) (token To.Manager (re_word h (Word.Back c))) refl refl O.told.counted);
-                holders = λ f s. holds_snoc P p (h f) s None wide (at_start p inputs) u after O.events 0 (token To.Manager (re_word h (Word.Back c))) O.run ev ∙ O.told.holders f s;
-              };
+            once = once_more p wide (at_start p inputs) (Used total gen m.store.out) (Used total gen new.store.out) (Telling gen done m.store.requests so)
+                (Telling gen (done ++ (e, token To.Manager (Word.Back c)) ∷ []) new.store.requests (next so m.store To.Manager made new.store)) u after 0 (token To.Manager (re_word h (Word.Back c))) O ev
+                (h f ∷ []) (ap (λ (l : List Token). handed_by To.Manager (map (re_token h) l)) makes) ((f, gen f, below, refl, inr (refl, is_out)), tt) (tt, tt)
+                (used_fresh total gen m.store.out f below was, tt)
+                (λ x. used_same total gen m.store.out new.store.out (λ g e. ap (λ (o : ℕ → Bool). o g) out ∙ stays g f (cases_eq f g) e) x)
+                record {
+                  counted = subst (λ (cs : List Cont). Counted p (done ++ (e, token To.Manager (Word.Back c)) ∷ []) (O.events ++ (0, token To.Manager (re_word h (Word.Back c))) ∷ []) (length cs)) (sym (ap (λ (s : Store). s.requests) is))
+                      (counted_both p done O.events (length m.store.requests) e 0 (token To.Manager (Word.Back c)) (token To.Manager (re_word h (Word.Back c))) refl refl O.told.counted);
+                  holders = λ f s. holds_snoc P p (h f) s None wide (at_start p inputs) u after O.events 0 (token To.Manager (re_word h (Word.Back c))) O.run ev ∙ O.told.holders f s;
+                  tallied = λ x f. (let a = tally_snoc (count_at P p x (h f)) p wide (at_start p inputs) u after O.events 0 (token To.Manager (re_word h (Word.Back c))) O.run ev in
+                      let b = O.told.tallied x f in
+                      let c = count_request P p x (h f) u.store (map (re_token h) made) in
+                      let d = count_request P p x f m.store made in
+                      omega (arith, a, b, c, d));
+                  fresh = λ x f j below more within. (let a = tally_snoc (count_at P p x (f + j * total)) p wide (at_start p inputs) u after O.events 0 (token To.Manager (re_word h (Word.Back c))) O.run ev in
+                      let b = O.told.fresh x f j below more within in
+                      let c = count_request P p x (f + j * total) u.store (map (re_token h) made) in
+                      omega (arith, a, b, c));
+                };
           }
         where
           stays : (g f : ℕ) → ((f ≡ g) ⊎ (f ≡ g → ⊥)) → m.store.out g ≡ true → put_at m.store.out f true g ≡ true
@@ -297,72 +358,125 @@ module _ (P : Plan) (p : Program) (inputs : List ℤ) (elements frames n : ℕ) 
             after = u;
             naming = naming_later total n k gen N;
             folds = record { fold = fold; pool = IsPermutation-trans _ _ _ whole d };
-            once = subst (λ (o : ℕ → Bool). Once p wide (at_start p inputs) (Used total gen o) (Telling gen (done ++ (e, t) ∷ []) new.store.requests held) u) (sym out)
-              (once_told p wide (at_start p inputs) (Used total gen m.store.out) (Telling gen done m.store.requests held) (Telling gen (done ++ (e, t) ∷ []) new.store.requests held) u O record {
-                counted = subst (Counted p (done ++ (e, t) ∷ []) O.events) (sym (ap length more ∙ length-append m.store.requests (c ∷ []))) (counted_waits p done O.events (length m.store.requests) e (Word.Back c) O.told.counted);
-                holders = O.told.holders;
-              });
+            once = subst (λ (o : ℕ → Bool). Once p wide (at_start p inputs) (Used total gen o) (Telling gen (done ++ (e, t) ∷ []) new.store.requests (next so m.store To.Manager made new.store)) u) (sym out)
+                (once_told p wide (at_start p inputs) (Used total gen m.store.out) (Telling gen done m.store.requests so) (Telling gen (done ++ (e, t) ∷ []) new.store.requests (next so m.store To.Manager made new.store)) u O record {
+                  counted = subst (Counted p (done ++ (e, t) ∷ []) O.events) (sym (ap length more ∙ length-append m.store.requests (c ∷ []))) (counted_waits p done O.events (length m.store.requests) e (Word.Back c) O.told.counted);
+                  holders = O.told.holders;
+                  tallied = λ x f. (let b = O.told.tallied x f in let d = count_request P p x f m.store made in omega (arith, b, d));
+                  fresh = O.told.fresh;
+                });
           }
 
   -- a release, of a frame that nothing else names
-  release_step : (k : ℕ) (gen : ℕ → ℕ) (done : Events) (held : ℕ → ℕ → Option Holder) (m u new : Machine) (e : ℕ) (f : ℕ) (w : Word) (made rest : List Token) → IsNaming total n (suc k) gen → Folds total (place total gen) m u
-      → Once p wide (at_start p inputs) (Used total gen m.store.out) (Telling gen done m.store.requests held) u → FreesOnce p inputs elements
-      → IsPermutation m.pool (token (To.Release f) w ∷ rest) → IsPermutation new.pool (made ++ rest) → Releases m.store f made new.store → Next k (done ++ (e, token (To.Release f) w) ∷ []) held new
-  release_step k gen done held m u new e f w made rest N S O frees takes leaves releases = go releases.1
+  release_step : (k : ℕ) (gen : ℕ → ℕ) (done : Events) (so : So) (m u new : Machine) (e : ℕ) (f : ℕ) (w : Word) (made rest : List Token) → IsNaming total n (suc k) gen → Folds total (place total gen) m u
+      → Once p wide (at_start p inputs) (Used total gen m.store.out) (Telling gen done m.store.requests so) u → FreesOnce p inputs elements
+      → IsPermutation m.pool (token (To.Release f) w ∷ rest) → IsPermutation new.pool (made ++ rest) → Releases m.store f made new.store → Next k (done ++ (e, token (To.Release f) w) ∷ []) (next so m.store (To.Release f) made new.store) new
+  release_step k gen done so m u new e f w made rest N S O frees takes leaves releases = go releases.1
     where
       done2 : Events
       done2 = done ++ (e, token (To.Release f) w) ∷ []
+
       h : ℕ → ℕ
       h = place total gen
+
       gen2 : ℕ → ℕ
       gen2 = next_use gen f
+
       h2 : ℕ → ℕ
       h2 = place total gen2
+
       is_out : u.store.out (h f) ≡ true
       is_out = S.fold.out f ∙ releases.0
+
       below : f < total
       below = S.fold.within f releases.0
+
       left : List Token
       left = map (re_token h) rest ++ waits h m.store.requests
+
       before : IsPermutation u.pool (token (To.Release (h f)) (re_word h w) ∷ left)
       before = pool_before h m u (token (To.Release f) w) rest (waits h m.store.requests) S.pool takes
+
       free : IsFreeOf (h f) left u
       free = (frees (suc n * frames) wide_frame O.events u O.run (all_differ (0 ∷ handed p wide (at_start p inputs) O.events u O.run) O.differ) (h f) (re_word h w) left before is_out).1
+
       renews : Renews h h2 f
       renews = renews_next total n k gen f below N
+
       naming : IsNaming total n k gen2
       naming = naming_next total n k gen f below N
+
       fold : Fold total h2 (with_out m.store f false) (with_out u.store (h f) false)
       fold = free_fold total h h2 (place_injective total n (suc k) gen N) f renews m.store u.store S.fold free.readers free.words free.slots
+
       kept : map (re_token h2) rest ≡ map (re_token h) rest
       kept = keep_tokens h h2 f renews rest (λ t inside. free.tokens t (Contains-append_left (map (re_token h) rest) (waits h m.store.requests) t inside))
+
       kept_waits : waits h2 m.store.requests ≡ waits h m.store.requests
       kept_waits = keep_tokens h h2 f renews (asking m.store.requests) (λ t inside. free.tokens t (Contains-append_right (map (re_token h) rest) (waits h m.store.requests) t inside))
+
       mid : Machine
       mid = record { store = with_out u.store (h f) false; pool = left }
+
       ev : Event p wide 0 (token (To.Release (h f)) (re_word h w)) u mid
       ev = record { made = []; rest = left; addressed = refl; takes = before; happens = (is_out, inl (S.fold.none_waits, refl, refl)); leaves = IsPermutation-refl left }
+
       fresh_slots : (((r : ℕ) → u.store.slots (h2 f) r ≡ Empty) × (u.store.out (h2 f) ≡ false)) ⊎ ((g : ℕ) × (h2 f ≡ h g)) → (r : ℕ) → u.store.slots (h2 f) r ≡ Empty
       fresh_slots (inl o) = o.0
       fresh_slots (inr o) = absurd (renews.fresh o.0 o.1)
+
       none_before : (g s : ℕ) → u.store.slots g s ≡ Empty → holds P p g s None wide (at_start p inputs) O.events u O.run ≡ None
       none_before g s empty = holds_none P p g s None wide (at_start p inputs) O.events u O.run (λ e. refl) empty
-      holders2 : (g s : ℕ) → (g ≡ f) ⊎ (g ≡ f → ⊥) → holds P p (h2 g) s None wide (at_start p inputs) O.events u O.run ≡ held g s
+
+      holders2 : (g s : ℕ) → (g ≡ f) ⊎ (g ≡ f → ⊥) → holds P p (h2 g) s None wide (at_start p inputs) O.events u O.run ≡ so.held g s
       holders2 g s (inl e) =
           ap (λ (x : ℕ). holds P p (h2 x) s None wide (at_start p inputs) O.events u O.run) e ∙ none_before (h2 f) s (fresh_slots (S.fold.others (h2 f)) s)
-          ∙ sym (none_before (h f) s (free.slots s)) ∙ O.told.holders f s ∙ ap (λ (x : ℕ). held x s) (sym e)
+          ∙ sym (none_before (h f) s (free.slots s)) ∙ O.told.holders f s ∙ ap (λ (x : ℕ). so.held x s) (sym e)
       holders2 g s (inr ne) = ap (λ (x : ℕ). holds P p x s None wide (at_start p inputs) O.events u O.run) (renews.same g ne) ∙ O.told.holders g s
-      once : Once p wide (at_start p inputs) (Used total gen2 (put_at m.store.out f false)) (Telling gen2 done2 m.store.requests held) mid
-      once = once_more p wide (at_start p inputs) (Used total gen m.store.out) (Used total gen2 (put_at m.store.out f false)) (Telling gen done m.store.requests held) (Telling gen2 done2 m.store.requests held) u mid 0
+
+      so2 : So
+      so2 = next so m.store (To.Release f) made new.store
+
+      room : gen f + suc k ≤ n
+      room = N.room f below
+
+      gen_at : gen2 f ≡ suc (gen f)
+      gen_at = put_same gen f (suc (gen f)) f refl
+
+      later : (g : ℕ) → (f ≡ g) ⊎ (f ≡ g → ⊥) → gen g ≤ gen2 g
+      later g (inl e) = let a = put_same gen f (suc (gen f)) g e in let b : gen f ≡ gen g = ap gen e in omega (arith, a, b)
+      later g (inr ne) = let a = put_other gen f (suc (gen f)) g ne in omega (arith, a)
+
+      tallied2 : (x : Counter) (g : ℕ) → (f ≡ g) ⊎ (f ≡ g → ⊥) → tally (count_at P p x (h2 g)) p wide (at_start p inputs) O.events u O.run ≡ (if f == g then 0 else so.counted x g)
+      tallied2 x g (inl e) =
+          ap (λ (y : ℕ). tally (count_at P p x (h2 y)) p wide (at_start p inputs) O.events u O.run) (sym e)
+          ∙ ap (λ (j : ℕ). tally (count_at P p x (f + j * total)) p wide (at_start p inputs) O.events u O.run) gen_at
+          ∙ O.told.fresh x f (suc (gen f)) below (omega arith) (omega (arith, room)) ∙ sym (ap (λ (b : Bool). if b then 0 else so.counted x g) (eq-eqb f g e))
+      tallied2 x g (inr ne) =
+          ap (λ (y : ℕ). tally (count_at P p x y) p wide (at_start p inputs) O.events u O.run) (renews.same g (λ e. ne (sym e))) ∙ O.told.tallied x g
+          ∙ sym (ap (λ (b : Bool). if b then 0 else so.counted x g) (ne_eqb f g ne))
+
+      once : Once p wide (at_start p inputs) (Used total gen2 (put_at m.store.out f false)) (Telling gen2 done2 m.store.requests so2) mid
+      once = once_more p wide (at_start p inputs) (Used total gen m.store.out) (Used total gen2 (put_at m.store.out f false)) (Telling gen done m.store.requests so) (Telling gen2 done2 m.store.requests so2) u mid 0
           (token (To.Release (h f)) (re_word h w)) O ev [] refl tt tt tt (used_freed total gen m.store.out f)
           record {
             counted = counted_both p done O.events (length m.store.requests) e 0 (token (To.Release f) w) (token (To.Release (h f)) (re_word h w)) refl refl O.told.counted;
             holders = λ g s. holds_snoc P p (h2 g) s None wide (at_start p inputs) u mid O.events 0 (token (To.Release (h f)) (re_word h w)) O.run ev ∙ holders2 g s (cases_eq g f);
+            tallied = λ x g. (let a = tally_snoc (count_at P p x (h2 g)) p wide (at_start p inputs) u mid O.events 0 (token (To.Release (h f)) (re_word h w)) O.run ev in
+                let b = tallied2 x g (cases_eq f g) in
+                let c = count_release P p x (h2 g) (h f) u.store [] in
+                omega (arith, a, b, c));
+            fresh = λ x g j low more within. (let a = tally_snoc (count_at P p x (g + j * total)) p wide (at_start p inputs) u mid O.events 0 (token (To.Release (h f)) (re_word h w)) O.run ev in
+                let b = O.told.fresh x g j low (let l = later g (cases_eq f g) in omega (arith, l, more)) within in
+                let c = count_release P p x (g + j * total) (h f) u.store [] in
+                omega (arith, a, b, c));
           }
+
       same_left : left ≡ map (re_token h2) rest ++ waits h2 m.store.requests
       same_left = ap (λ (l : List Token). l ++ waits h m.store.requests) (sym kept) ∙ ap (λ (l : List Token). map (re_token h2) rest ++ l) (sym kept_waits)
+
       go : ((m.store.requests ≡ []) × (made ≡ []) × (new.store ≡ with_out m.store f false))
-          ⊎ ((c : Cont) × (cs : List Cont) × IsPermutation m.store.requests (c ∷ cs) × (made ≡ answer c (Word.Frame f) ∷ []) × (new.store ≡ with_requests m.store cs)) → Next k done2 held new
+          ⊎ ((c : Cont) × (cs : List Cont) × IsPermutation m.store.requests (c ∷ cs) × (made ≡ answer c (Word.Frame f) ∷ []) × (new.store ≡ with_requests m.store cs)) → Next k done2 so2 new
       go (inl (idle, none, is)) =
           let after : IsPermutation new.pool rest = subst (λ (l : List Token). IsPermutation new.pool (l ++ rest)) none leaves in
           let same : waits h2 m.store.requests ≡ waits h2 new.store.requests = ap (λ (s : Store). waits h2 s.requests) (sym is) in
@@ -376,7 +490,7 @@ module _ (P : Plan) (p : Program) (inputs : List ℤ) (elements frames n : ℕ) 
               fold = subst (λ (s : Store). Fold total h2 s mid.store) (sym is) fold;
               pool = subst (λ (l : List Token). IsPermutation left (map (re_token h2) new.pool ++ l)) same (subst (λ (l : List Token). IsPermutation l (map (re_token h2) new.pool ++ waits h2 m.store.requests)) (sym same_left) moved);
             };
-            once = subst (λ (s : Store). Once p wide (at_start p inputs) (Used total gen2 s.out) (Telling gen2 done2 s.requests held) mid) (sym is) once;
+            once = subst (λ (s : Store). Once p wide (at_start p inputs) (Used total gen2 s.out) (Telling gen2 done2 s.requests so2) mid) (sym is) once;
           }
       go (inr (c, cs, waiting, makes, is)) =
           let t : Token = token To.Manager (Word.Back c) in
@@ -389,8 +503,14 @@ module _ (P : Plan) (p : Program) (inputs : List ℤ) (elements frames n : ℕ) 
           let free_now : mid.store.out (h2 f) ≡ false = fold.out f ∙ put_same m.store.out f false f refl in
           let handed_out : map (re_token h2) made ≡ answer (re_cont h2 c) (Word.Frame (h2 f)) ∷ [] = ap (map (re_token h2)) makes ∙ ap (λ (k : Token). k ∷ []) (answer_re h2 c (Word.Frame f)) in
           let ev2 : Event p wide 0 (re_token h2 t) mid after =
-          record { made = map (re_token h2) made; rest = still; addressed = refl; takes = subst (λ (l : List Token). IsPermutation l (re_token h2 t ∷ still)) (sym same_left) moved;
-            happens = inl (h2 f, place_below k gen2 naming f below, free_now, handed_out, refl); leaves = IsPermutation-refl after.pool } in
+          record {
+            made = map (re_token h2) made;
+            rest = still;
+            addressed = refl;
+            takes = subst (λ (l : List Token). IsPermutation l (re_token h2 t ∷ still)) (sym same_left) moved;
+            happens = inl (h2 f, place_below k gen2 naming f below, free_now, handed_out, refl);
+            leaves = IsPermutation-refl after.pool;
+          } in
           let out_again : Fold total h2 (with_out (with_out m.store f false) f true) after.store = out_fold total h2 (place_injective total n k gen2 naming) (with_out m.store f false) mid.store f below fold in
           let now : Fold total h2 (with_requests m.store cs) after.store =
           fold_same total h2 (with_out (with_out m.store f false) f true) (with_requests m.store cs) after.store refl refl (λ g. still_out g (cases_eq f g)) refl refl out_again in
@@ -399,71 +519,83 @@ module _ (P : Plan) (p : Program) (inputs : List ℤ) (elements frames n : ℕ) 
             gen = gen2;
             after = after;
             naming = naming;
-            folds = record { fold = subst (λ (s : Store). Fold total h2 s after.store) (sym is) now;
-              pool = subst (λ (l : List Cont). IsPermutation after.pool (map (re_token h2) new.pool ++ waits h2 l)) (sym (ap (λ (s : Store). s.requests) is)) (pool_after h2 new.pool made rest ws leaves) };
-            once = once_more p wide (at_start p inputs) (Used total gen2 (put_at m.store.out f false)) (Used total gen2 new.store.out) (Telling gen2 done2 m.store.requests held) (Telling gen2 done2 new.store.requests held)
-              mid after 0 (re_token h2 t) once ev2
-              (h2 f ∷ []) (ap (λ (l : List Token). handed_by To.Manager (map (re_token h2) l)) makes) ((f, gen2 f, below, refl, inr (refl, ap (λ (o : ℕ → Bool). o f) out ∙ releases.0)), tt) (tt, tt)
-              (used_fresh total gen2 (put_at m.store.out f false) f below (put_same m.store.out f false f refl), tt)
-              (λ x. used_same total gen2 (put_at m.store.out f false) new.store.out (λ g e. ap (λ (o : ℕ → Bool). o g) out ∙ back g (cases_eq f g) e) x)
-              record {
-                counted = subst (λ (cs : List Cont). Counted p done2 (once.events ++ (0, re_token h2 t) ∷ []) (length cs)) (sym (ap (λ (s : Store). s.requests) is))
-                  (counted_serves p done2 once.events (length cs) 0 (re_word h2 (Word.Back c)) (subst (Counted p done2 once.events) (sym (length_permutation _ _ waiting)) once.told.counted));
-                holders = λ g s. holds_snoc P p (h2 g) s None wide (at_start p inputs) mid after once.events 0 (re_token h2 t) once.run ev2 ∙ once.told.holders g s;
-              };
+            folds = record {
+              fold = subst (λ (s : Store). Fold total h2 s after.store) (sym is) now;
+              pool = subst (λ (l : List Cont). IsPermutation after.pool (map (re_token h2) new.pool ++ waits h2 l)) (sym (ap (λ (s : Store). s.requests) is)) (pool_after h2 new.pool made rest ws leaves);
+            };
+            once = once_more p wide (at_start p inputs) (Used total gen2 (put_at m.store.out f false)) (Used total gen2 new.store.out) (Telling gen2 done2 m.store.requests so2) (Telling gen2 done2 new.store.requests so2)
+                mid after 0 (re_token h2 t) once ev2
+                (h2 f ∷ []) (ap (λ (l : List Token). handed_by To.Manager (map (re_token h2) l)) makes) ((f, gen2 f, below, refl, inr (refl, ap (λ (o : ℕ → Bool). o f) out ∙ releases.0)), tt) (tt, tt)
+                (used_fresh total gen2 (put_at m.store.out f false) f below (put_same m.store.out f false f refl), tt)
+                (λ x. used_same total gen2 (put_at m.store.out f false) new.store.out (λ g e. ap (λ (o : ℕ → Bool). o g) out ∙ back g (cases_eq f g) e) x)
+                record {
+                  counted = subst (λ (cs : List Cont). Counted p done2 (once.events ++ (0, re_token h2 t) ∷ []) (length cs)) (sym (ap (λ (s : Store). s.requests) is))
+                      (counted_serves p done2 once.events (length cs) 0 (re_word h2 (Word.Back c)) (subst (Counted p done2 once.events) (sym (length_permutation _ _ waiting)) once.told.counted));
+                  holders = λ g s. holds_snoc P p (h2 g) s None wide (at_start p inputs) mid after once.events 0 (re_token h2 t) once.run ev2 ∙ once.told.holders g s;
+                  tallied = λ x g. (let a = tally_snoc (count_at P p x (h2 g)) p wide (at_start p inputs) mid after once.events 0 (re_token h2 t) once.run ev2 in
+                      let b = once.told.tallied x g in
+                      let c = count_request P p x (h2 g) mid.store (map (re_token h2) made) in
+                      omega (arith, a, b, c));
+                  fresh = λ x g j low more within. (let a = tally_snoc (count_at P p x (g + j * total)) p wide (at_start p inputs) mid after once.events 0 (re_token h2 t) once.run ev2 in
+                      let b = once.told.fresh x g j low more within in
+                      let c = count_request P p x (g + j * total) mid.store (map (re_token h2) made) in
+                      omega (arith, a, b, c));
+                };
           }
         where
           still_out : (g : ℕ) → ((f ≡ g) ⊎ (f ≡ g → ⊥)) → m.store.out g ≡ put_at (put_at m.store.out f false) f true g
           still_out g (inl e) = ap m.store.out (sym e) ∙ releases.0 ∙ sym (put_same (put_at m.store.out f false) f true g e)
           still_out g (inr ne) = sym (put_other (put_at m.store.out f false) f true g ne ∙ put_other m.store.out f false g ne)
+
           back : (g : ℕ) → ((f ≡ g) ⊎ (f ≡ g → ⊥)) → put_at m.store.out f false g ≡ true → m.store.out g ≡ true
           back g (inl e) q = ap m.store.out (sym e) ∙ releases.0
           back g (inr ne) q = sym (put_other m.store.out f false g ne) ∙ q
 
   -- any event
-  any_step : (k : ℕ) (gen : ℕ → ℕ) (done : Events) (held : ℕ → ℕ → Option Holder) (m u new : Machine) (e : ℕ) (to : To) (w : Word) (made rest : List Token) → IsNaming total n (suc k) gen → Folds total (place total gen) m u
-      → Once p wide (at_start p inputs) (Used total gen m.store.out) (Telling gen done m.store.requests held) u → FreesOnce p inputs elements
+  any_step : (k : ℕ) (gen : ℕ → ℕ) (done : Events) (so : So) (m u new : Machine) (e : ℕ) (to : To) (w : Word) (made rest : List Token) → IsNaming total n (suc k) gen → Folds total (place total gen) m u
+      → Once p wide (at_start p inputs) (Used total gen m.store.out) (Telling gen done m.store.requests so) u → FreesOnce p inputs elements
       → IsPermutation m.pool (token to w ∷ rest) → IsPermutation new.pool (made ++ rest) → Happens p total m.store to w made new.store
-      → Next k (done ++ (e, token to w) ∷ []) (held_next held to new.store) new
-  any_step k gen done held m u new e (To.Instr f ip q) w made rest N S O frees takes leaves happens =
-      plain_step k gen done held m u new e (To.Instr f ip q) w made rest N S O takes leaves refl
+      → Next k (done ++ (e, token to w) ∷ []) (next so m.store to made new.store) new
+  any_step k gen done so m u new e (To.Instr f ip q) w made rest N S O frees takes leaves happens =
+      plain_step k gen done so m u new e (To.Instr f ip q) w made rest N S O takes leaves refl
       (fires_out m.store new.store f (slot_used (instr_at p ip)) (rule_at p record { frame = f; ip = ip } (instr_at p ip) (slot_in m.store f (slot_used (instr_at p ip))) q w) made happens)
-      (instr_step p total (elements * (suc n * frames)) (place total gen) (place_injective total n (suc k) gen N) m.store u.store new.store f ip q w made S.fold happens)
-  any_step k gen done held m u new e (To.Fetch x) (Word.Back c) made rest N S O frees takes leaves happens =
-      plain_step k gen done held m u new e (To.Fetch x) (Word.Back c) made rest N S O takes leaves refl (fetches_out m.store new.store x c (m.store.cells x) made happens)
-      (fetch_step p total (elements * (suc n * frames)) (place total gen) m.store u.store new.store x (Word.Back c) made S.fold happens)
-  any_step k gen done held m u new e (To.Store x v) (Word.Back c) made rest N S O frees takes leaves happens =
-      plain_step k gen done held m u new e (To.Store x v) (Word.Back c) made rest N S O takes leaves refl (stores_out m.store new.store x v c (m.store.cells x) made happens)
-      (store_step p total (elements * (suc n * frames)) (place total gen) m.store u.store new.store x v (Word.Back c) made S.fold happens)
-  any_step k gen done held m u new e To.Manager (Word.Back c) made rest N S O frees takes leaves happens = ask_step k gen done held m u new e c made rest N S O takes leaves happens
-  any_step k gen done held m u new e (To.Release f) w made rest N S O frees takes leaves happens = release_step k gen done held m u new e f w made rest N S O frees takes leaves happens
-  any_step k gen done held m u new e (To.Host j) w made rest N S O frees takes leaves happens =
-      plain_step k gen done held m u new e (To.Host j) w made rest N S O takes leaves refl (hosts_out (outputs_of p) m.store new.store j w made happens)
-      (host_step p total (elements * (suc n * frames)) (place total gen) m.store u.store new.store j w made S.fold happens)
-  any_step k gen done held m u new e to w made rest N S O frees takes leaves happens = absurd happens
+      (λ x f. refl) (instr_step p total (elements * (suc n * frames)) (place total gen) (place_injective total n (suc k) gen N) m.store u.store new.store f ip q w made S.fold happens)
+  any_step k gen done so m u new e (To.Fetch x) (Word.Back c) made rest N S O frees takes leaves happens =
+      plain_step k gen done so m u new e (To.Fetch x) (Word.Back c) made rest N S O takes leaves refl (fetches_out m.store new.store x c (m.store.cells x) made happens)
+      (λ x f. refl) (fetch_step p total (elements * (suc n * frames)) (place total gen) m.store u.store new.store x (Word.Back c) made S.fold happens)
+  any_step k gen done so m u new e (To.Store x v) (Word.Back c) made rest N S O frees takes leaves happens =
+      plain_step k gen done so m u new e (To.Store x v) (Word.Back c) made rest N S O takes leaves refl (stores_out m.store new.store x v c (m.store.cells x) made happens)
+      (λ x f. refl) (store_step p total (elements * (suc n * frames)) (place total gen) m.store u.store new.store x v (Word.Back c) made S.fold happens)
+  any_step k gen done so m u new e To.Manager (Word.Back c) made rest N S O frees takes leaves happens = ask_step k gen done so m u new e c made rest N S O takes leaves happens
+  any_step k gen done so m u new e (To.Release f) w made rest N S O frees takes leaves happens = release_step k gen done so m u new e f w made rest N S O frees takes leaves happens
+  any_step k gen done so m u new e (To.Host j) w made rest N S O frees takes leaves happens =
+      plain_step k gen done so m u new e (To.Host j) w made rest N S O takes leaves refl (hosts_out (outputs_of p) m.store new.store j w made happens)
+      (λ x f. refl) (host_step p total (elements * (suc n * frames)) (place total gen) m.store u.store new.store j w made S.fold happens)
+  any_step k gen done so m u new e to w made rest N S O frees takes leaves happens = absurd happens
 
   -- the rest of a run
-  run_steps : (extra : ℕ) (events : Events) (gen : ℕ → ℕ) (done : Events) (held : ℕ → ℕ → Option Holder) (m u new : Machine) → IsNaming total n (extra + length events) gen → Folds total (place total gen) m u
-      → Once p wide (at_start p inputs) (Used total gen m.store.out) (Telling gen done m.store.requests held) u → FreesOnce p inputs elements
+  run_steps : (extra : ℕ) (events : Events) (gen : ℕ → ℕ) (done : Events) (so : So) (m u new : Machine) → IsNaming total n (extra + length events) gen → Folds total (place total gen) m u
+      → Once p wide (at_start p inputs) (Used total gen m.store.out) (Telling gen done m.store.requests so) u → FreesOnce p inputs elements
       → (r : Run p record { elements = elements; frames = frames } m events new)
-      → Next extra (done ++ events) (λ f s. holds P p f s (held f s) record { elements = elements; frames = frames } m events new r) new
-  run_steps extra [] gen done held m u new N S O frees r = record {
-      gen = gen;
-      after = u;
-      naming = subst (λ (k : ℕ). IsNaming total n k gen) (add-zero extra) N;
-      folds = record {
-        fold = subst (λ (s : Store). Fold total (place total gen) s u.store) (sym r.1) S.fold;
-        pool = subst (λ (s : Store). IsPermutation u.pool (map (re_token (place total gen)) new.pool ++ waits (place total gen) s.requests)) (sym r.1)
+      → Next extra (done ++ events) (so_after P p so record { elements = elements; frames = frames } m events new r) new
+  run_steps extra [] gen done so m u new N S O frees r = record {
+    gen = gen;
+    after = u;
+    naming = subst (λ (k : ℕ). IsNaming total n k gen) (add-zero extra) N;
+    folds = record {
+      fold = subst (λ (s : Store). Fold total (place total gen) s u.store) (sym r.1) S.fold;
+      pool = subst (λ (s : Store). IsPermutation u.pool (map (re_token (place total gen)) new.pool ++ waits (place total gen) s.requests)) (sym r.1)
           (IsPermutation-trans _ _ _ S.pool (IsPermutation-append_left (waits (place total gen) m.store.requests) _ _ (IsPermutation-map (re_token (place total gen)) m.pool new.pool r.0)));
-      };
-      once = subst (λ (s : Store). Once p wide (at_start p inputs) (Used total gen s.out) (Telling gen (done ++ []) s.requests held) u) (sym r.1)
-        (subst (λ (l : Events). Once p wide (at_start p inputs) (Used total gen m.store.out) (Telling gen l m.store.requests held) u) (sym (append-nil done)) O);
-    }
-  run_steps extra (x ∷ events) gen done held m u new N S O frees r =
-      let next : Next (extra + length events) (done ++ x ∷ []) (held_next held x.1.to r.0.store) r.0 =
-      any_step (extra + length events) gen done held m u r.0 x.0 x.1.to x.1.word r.1.made r.1.rest (subst (λ (k : ℕ). IsNaming total n k gen) (add-suc extra (length events)) N) S O frees r.1.takes r.1.leaves r.1.happens in
-      let rest = run_steps extra events next.gen (done ++ x ∷ []) (held_next held x.1.to r.0.store) r.0 next.after new next.naming next.folds next.once frees r.2 in
-      subst (λ (l : Events). Next extra l (λ f s. holds P p f s (held f s) record { elements = elements; frames = frames } m (x ∷ events) new r) new) (append_assoc done (x ∷ []) events) rest
+    };
+    once = subst (λ (s : Store). Once p wide (at_start p inputs) (Used total gen s.out) (Telling gen (done ++ []) s.requests so) u) (sym r.1)
+        (subst (λ (l : Events). Once p wide (at_start p inputs) (Used total gen m.store.out) (Telling gen l m.store.requests so) u) (sym (append-nil done)) O);
+  }
+  run_steps extra (x ∷ events) gen done so m u new N S O frees r =
+      let so2 : So = so_next P p so m.store x.1.to r.1.made r.0.store in
+      let one : Next (extra + length events) (done ++ x ∷ []) so2 r.0 =
+      any_step (extra + length events) gen done so m u r.0 x.0 x.1.to x.1.word r.1.made r.1.rest (subst (λ (k : ℕ). IsNaming total n k gen) (add-suc extra (length events)) N) S O frees r.1.takes r.1.leaves r.1.happens in
+      let rest = run_steps extra events one.gen (done ++ x ∷ []) so2 r.0 one.after new one.naming one.folds one.once frees r.2 in
+      subst (λ (l : Events). Next extra l (so_after P p so record { elements = elements; frames = frames } m (x ∷ events) new r) new) (append_assoc done (x ∷ []) events) rest
 
 -- ---- the start
 
@@ -532,8 +664,8 @@ start_folds p inputs t n pos =
 
 -- ---- THE FRAME HALF OF THE LAW
 
--- The run in which each frame is used once, of a run with these events to m. `held` tells who holds the slots of m.
-pub record HasOnce (P : Plan) (p : Program) (inputs : List ℤ) (z : Size) (events : Events) (held : ℕ → ℕ → Option Holder) (m : Machine) : Type 0 where
+-- The run in which each frame is used once, of a run with these events to m, of which `so` is told.
+pub record HasOnce (P : Plan) (p : Program) (inputs : List ℤ) (z : Size) (events : Events) (so : So) (m : Machine) : Type 0 where
   pub frames : ℕ
   pub some_frame : 0 < frames
   pub unfolded : Events
@@ -544,28 +676,34 @@ pub record HasOnce (P : Plan) (p : Program) (inputs : List ℤ) (z : Size) (even
   pub folds : Folds (z.elements * z.frames) (λ g. g + gen g * (z.elements * z.frames)) m last
   pub counted : Counted p events unfolded (length m.store.requests)
   pub injective : Injective (λ g. g + gen g * (z.elements * z.frames))
-  pub holders : (f s : ℕ) → holds P p (f + gen f * (z.elements * z.frames)) s None record { elements = z.elements; frames = frames } (at_start p inputs) unfolded last run ≡ held f s
+  pub holders : (f s : ℕ) → holds P p (f + gen f * (z.elements * z.frames)) s None record { elements = z.elements; frames = frames } (at_start p inputs) unfolded last run ≡ so.held f s
+  pub tallied : (x : Counter) (f : ℕ) → tally (count_at P p x (f + gen f * (z.elements * z.frames))) p record { elements = z.elements; frames = frames } (at_start p inputs) unfolded last run ≡ so.counted x f
 
 module _ (P : Plan) (p : Program) (inputs : List ℤ) (z : Size) (events : Events) (m : Machine) (some_element : 0 < z.elements) (some_frame : 0 < z.frames) (frees : FreesOnce p inputs z.elements)
     (r : Run p z (at_start p inputs) events m) where
   abbrev uses : ℕ
   uses = length events + length events
 
-  pub last_state : Next P p inputs z.elements z.frames uses some_frame (length events) events (λ f s. holds P p f s None z (at_start p inputs) events m r) m
+  pub last_state : Next P p inputs z.elements z.frames uses some_frame (length events) events (so_after P p so_start z (at_start p inputs) events m r) m
   last_state =
       let t : ℕ = z.elements * z.frames in
       let pos : 0 < t = mul-pos some_element some_frame in
       let first = first_place t uses pos in
       let start : Once p (wide P p inputs z.elements z.frames uses some_frame) (at_start p inputs) (Used t (gen_start t uses) (at_start p inputs).store.out)
-        (Telling P p inputs z.elements z.frames uses some_frame (gen_start t uses) [] [] (λ f s. None)) (at_start p inputs) =
-      record { events = []; run = (IsPermutation-refl _, refl); among = ((0, 0, pos, sym (zero-mul t) ∙ sum_zero (0 * t), inr (sym first.0, refl)), tt); differ = (tt, tt);
-        told = record { counted = record { events = refl; requests = refl; credits = refl }; holders = λ f s. refl } } in
-      run_steps P p inputs z.elements z.frames uses some_frame (length events) events (gen_start t uses) [] (λ f s. None) (at_start p inputs) (at_start p inputs) m (naming_start t uses) (start_folds p inputs t uses pos) start frees r
+      (Telling P p inputs z.elements z.frames uses some_frame (gen_start t uses) [] [] so_start) (at_start p inputs) =
+      record {
+        events = [];
+        run = (IsPermutation-refl _, refl);
+        among = ((0, 0, pos, sym (zero-mul t) ∙ sum_zero (0 * t), inr (sym first.0, refl)), tt);
+        differ = (tt, tt);
+        told = record { counted = record { events = refl; requests = refl; credits = refl }; holders = λ f s. refl; tallied = λ x f. refl; fresh = λ x f j below more within. refl };
+      } in
+      run_steps P p inputs z.elements z.frames uses some_frame (length events) events (gen_start t uses) [] so_start (at_start p inputs) (at_start p inputs) m (naming_start t uses) (start_folds p inputs t uses pos) start frees r
     where
       sum_zero : (x : ℕ) → x ≡ 0 + x
       sum_zero x = omega arith
 
-  pub frames_once : HasOnce P p inputs z events (λ f s. holds P p f s None z (at_start p inputs) events m r) m
+  pub frames_once : HasOnce P p inputs z events (so_after P p so_start z (at_start p inputs) events m r) m
   frames_once = record {
     frames = suc uses * z.frames;
     some_frame = (let one : 0 < suc uses = omega arith in mul-pos one some_frame);
@@ -578,4 +716,5 @@ module _ (P : Plan) (p : Program) (inputs : List ℤ) (z : Size) (events : Event
     counted = last_state.once.told.counted;
     injective = place_injective (z.elements * z.frames) uses (length events) last_state.gen last_state.naming;
     holders = last_state.once.told.holders;
+    tallied = last_state.once.told.tallied;
   }

@@ -107,8 +107,8 @@ pub renews_next : (t n k : ℕ) (gen : ℕ → ℕ) (f : ℕ) → f < t → IsNa
 renews_next t n k gen f below N = record {
   same = λ g ne. ap (λ (x : ℕ). g + x * t) (put_other gen f (suc (gen f)) g (λ e. ne (sym e)));
   fresh = λ g e.
-    let r = N.room f below in
-    place_fresh t n (suc k) gen N f (suc (gen f)) below (omega arith) (omega (arith, r)) g (sym (ap (λ (x : ℕ). f + x * t) (put_same gen f (suc (gen f)) f refl)) ∙ e);
+      let r = N.room f below in
+      place_fresh t n (suc k) gen N f (suc (gen f)) below (omega arith) (omega (arith, r)) g (sym (ap (λ (x : ℕ). f + x * t) (put_same gen f (suc (gen f)) f refl)) ∙ e);
 }
 
 module _ (h k : ℕ → ℕ) (f : ℕ) (renews : Renews h k f) where
@@ -194,6 +194,7 @@ free_fold t h k inj f N m u F readers words slots = record {
     fresh : (((r : ℕ) → u.slots (k f) r ≡ Empty) × (u.out (k f) ≡ false)) ⊎ ((g : ℕ) × (k f ≡ h g)) → ((r : ℕ) → u.slots (k f) r ≡ Empty) × (u.out (k f) ≡ false)
     fresh (inl o) = o
     fresh (inr o) = absurd (N.fresh o.0 o.1)
+
     slot : (g r : ℕ) → ((g ≡ f) ⊎ (g ≡ f → ⊥)) → u.slots (k g) r ≡ re_slot k (m.slots g r)
     slot g r (inl e) =
         let none : m.slots f r ≡ Empty = empty_back h (m.slots f r) (sym (slots r) ∙ F.slots f r) in
@@ -201,16 +202,19 @@ free_fold t h k inj f N m u F readers words slots = record {
     slot g r (inr ne) =
         ap (λ (x : ℕ). u.slots x r) (N.same g ne) ∙ F.slots g r
         ∙ sym (keep_slot h k f N (m.slots g r) (λ names. words (h g) r (subst (NamesSlot (h f)) (sym (F.slots g r)) names)))
+
     out : (g : ℕ) → ((g ≡ f) ⊎ (g ≡ f → ⊥)) → put_at u.out (h f) false (k g) ≡ put_at m.out f false g
     out g (inl e) =
         ap (λ (x : ℕ). put_at u.out (h f) false (k x)) e ∙ put_other u.out (h f) false (k f) (λ q. N.fresh f (sym q)) ∙ (fresh (F.others (k f))).1 ∙ sym (put_same m.out f false g (sym e))
     out g (inr ne) =
         ap (put_at u.out (h f) false) (N.same g ne) ∙ put_other u.out (h f) false (h g) (λ q. ne (sym (inj f g q))) ∙ F.out g ∙ sym (put_other m.out f false g (λ q. ne (sym q)))
+
     other : (x : ℕ) → ((h f ≡ x) ⊎ (h f ≡ x → ⊥)) → (((r : ℕ) → u.slots x r ≡ Empty) × (u.out x ≡ false)) ⊎ ((g : ℕ) × (x ≡ h g))
         → (((r : ℕ) → u.slots x r ≡ Empty) × (put_at u.out (h f) false x ≡ false)) ⊎ ((g : ℕ) × (x ≡ k g))
     other x (inl e) o = inl (λ r. ap (λ (y : ℕ). u.slots y r) (sym e) ∙ slots r, put_same u.out (h f) false x e)
     other x (inr ne) (inl o) = inl (o.0, put_other u.out (h f) false x ne ∙ o.1)
     other x (inr ne) (inr o) = inr (o.0, o.1 ∙ sym (N.same o.0 (λ e. ne (sym (ap h e) ∙ sym o.1))))
+
     inside : (g : ℕ) → ((f ≡ g) ⊎ (f ≡ g → ⊥)) → put_at m.out f false g ≡ true → g < t
     inside g (inl e) q = let no : false ≡ true = sym (put_same m.out f false g e) ∙ q in absurd (cc)
     inside g (inr ne) q = F.within g (sym (put_other m.out f false g ne) ∙ q)

@@ -16,15 +16,8 @@ use Rattle.semantics.specs.Plan.{Plan}
 use Rattle.semantics.specs.Renamed.{re_cont, re_word, re_to, re_token, re_slot, re_cell}
 use Rattle.reuse.proofs.Fold.{Fold}
 use Rattle.reuse.proofs.Freed.{empty_back}
-use Rattle.reuse.proofs.Frames.{asking, waits, pool_before, FreesOnce, HasOnce, frames_once}
-
-pub contains_map : {X Y : Type 0} (f : X → Y) (xs : List X) (x : X) → Contains xs x → Contains (map f xs) (f x)
-contains_map f [] x (i, below, e) = absurd (omega arith)
-contains_map f (y ∷ xs) x (zero, below, e) = (0, omega arith, ap f e)
-contains_map f (y ∷ xs) x (suc i, below, e) =
-    let rest = contains_map f xs x (i, omega arith, e) in
-    let low : rest.0 < length (map f xs) = rest.1 in
-    (suc rest.0, omega arith, rest.2)
+use Rattle.reuse.proofs.Frames.{asking, waits, pool_before, FreesOnce, frames_once}
+use Rattle.reuse.proofs.Members.{contains_map}
 
 module _ (h : ℕ → ℕ) (f : ℕ) where
   named_cont : (c : Cont) → NamesCont f c → NamesCont (h f) (re_cont h c)
@@ -60,13 +53,13 @@ reader_re h (Deferred cs) c inside = contains_map (re_cont h) cs c inside
 free_back : (t : ℕ) (h : ℕ → ℕ) (f : ℕ) (rest : List Token) (m u : Machine) → Fold t h m.store u.store → IsFreeOf (h f) (map (re_token h) rest ++ waits h m.store.requests) u → IsFreeOf f rest m
 free_back t h f rest m u F free = record {
   tokens = λ k inside.
-    let none = free.tokens (re_token h k) (Contains-append_left (map (re_token h) rest) (waits h m.store.requests) (re_token h k) (contains_map (re_token h) rest k inside)) in
-    (λ e. none.0 (named_to h f k.to e), λ e. none.1 (named_word h f k.word e));
+      let none = free.tokens (re_token h k) (Contains-append_left (map (re_token h) rest) (waits h m.store.requests) (re_token h k) (contains_map (re_token h) rest k inside)) in
+      (λ e. none.0 (named_to h f k.to e), λ e. none.1 (named_word h f k.word e));
   readers = λ x c inside e. free.readers x (re_cont h c) (subst (λ (y : CellState). Contains (readers_of y) (re_cont h c)) (sym (F.cells x)) (reader_re h (m.store.cells x) c inside)) (named_cont h f c e);
   requests = λ c inside e.
-    let k : Token = token To.Manager (Word.Back c) in
-    let asks : Contains (waits h m.store.requests) (re_token h k) = contains_map (re_token h) (asking m.store.requests) k (contains_map (λ (c : Cont). token To.Manager (Word.Back c)) m.store.requests c inside) in
-    (free.tokens (re_token h k) (Contains-append_right (map (re_token h) rest) (waits h m.store.requests) (re_token h k) asks)).1 (named_cont h f c e);
+      let k : Token = token To.Manager (Word.Back c) in
+      let asks : Contains (waits h m.store.requests) (re_token h k) = contains_map (re_token h) (asking m.store.requests) k (contains_map (λ (c : Cont). token To.Manager (Word.Back c)) m.store.requests c inside) in
+      (free.tokens (re_token h k) (Contains-append_right (map (re_token h) rest) (waits h m.store.requests) (re_token h k) asks)).1 (named_cont h f c e);
   words = λ g r e. free.words (h g) r (subst (NamesSlot (h f)) (sym (F.slots g r)) (named_slot h f (m.store.slots g r) e));
   slots = λ r. empty_back h (m.store.slots f r) (sym (free.slots r) ∙ F.slots f r);
 }

@@ -1,5 +1,5 @@
 -- In an orderly run, two holders that may share a slot are never both live: the facts of one frame's invocation.
-use Rattle.std.proofs.Common.{◌≡◌, ◌≢◌, refl, sym, ap, ◌∙◌, subst, ℕ, zero, suc, ◌+◌, ◌<◌, ◌⊎◌, inl, inr, Bool, true, false, not, true≢false, List, [], ◌∷◌, ◌++◌, length, Option, Some, None, Contains, arith}
+use Rattle.std.proofs.Common.{◌≡◌, refl, sym, ap, ◌∙◌, subst, ℕ, zero, suc, ◌+◌, ◌<◌, ◌⊎◌, inl, inr, Bool, true, false, not, true≢false, List, [], ◌∷◌, ◌++◌, length, Option, Some, None, Contains, arith}
 use Rattle.std.specs.Prelude.{slice_get}
 use Rattle.std.proofs.lemmas.Bool.{cases_Bool, cases_eq}
 use Rattle.std.proofs.lemmas.Option.{slice_get_within}
@@ -9,29 +9,25 @@ use Rattle.tags.specs.declared.value.Value.{Value}
 use Rattle.tags.specs.declared.token.Port.{Port}
 use Rattle.tags.specs.declared.token.Port.TheVariants.{Left, Right}
 use Rattle.tags.specs.declared.token.Word.{Word}
-use Rattle.tags.specs.declared.token.To.{To}
 use Rattle.tags.specs.declared.token.Token.{Token}
 use Rattle.tags.specs.declared.slot.SlotState.{SlotState}
 use Rattle.tags.specs.declared.slot.SlotState.TheVariants as Slot
 use Rattle.tags.specs.declared.slot.SlotState.TheVariants.{Empty, Credits, Waiter, Draining}
-use Rattle.semantics.specs.declared.program.Op.{Op}
-use Rattle.semantics.specs.declared.program.Op.TheVariants.{Switch}
 use Rattle.semantics.specs.declared.program.Mark.{Mark}
-use Rattle.semantics.specs.declared.program.Mark.TheVariants.{Unmarked}
-use Rattle.semantics.specs.Program.{Instr, CodeBlock, Program, first_of, instr_at}
-use Rattle.semantics.specs.Rule.{token, Outcome, Becomes, Excluded, outcome_of, rule_at, slot_of}
+use Rattle.semantics.specs.Program.{Instr, CodeBlock, Program, first_of}
+use Rattle.semantics.specs.Rule.{Outcome, Becomes, Excluded, outcome_of, rule_at, slot_of}
 use Rattle.semantics.specs.Machine.{Machine, Size, Events, Run, excluded_by, slot_in, slot_used}
-use Rattle.semantics.specs.Plan.{Plan, mark_at, instr_in, is_open, IsPlanBlock}
+use Rattle.semantics.specs.Plan.{Plan, instr_in, IsPlanBlock}
 use Rattle.semantics.specs.Sharing.{Inlet, inlet, Arc, arcs_of, arcs_in, Holds, ends_with, IsEnd, IsSide, is_port, IsHolderPort, Good}
-use Rattle.semantics.specs.Orderly.{is_entry, IsMarked, IsOrderlyRun}
-use Rattle.semantics.specs.Wired.{is_dyadic, StandsAt, IsWired}
+use Rattle.semantics.specs.Orderly.{is_entry, IsOrderlyRun}
+use Rattle.semantics.specs.Wired.{is_dyadic, IsWired}
 use Rattle.determinacy.proofs.Resolved.{all_get}
 use Rattle.reuse.proofs.Joined.{alone_from}
 use Rattle.reuse.proofs.Placed.{Alone}
-use Rattle.reuse.proofs.Shares.{IsCaused, IsKept, one_live}
-use Rattle.reuse.proofs.Stands.{some_same, past_entries, Stands, stands_at, stands_one, stands_within}
-use Rattle.reuse.proofs.Turns.{Turn, turn_of}
-use Rattle.reuse.proofs.Uses.{at_port, Came, Tells, Filled, EmptyOr}
+use Rattle.reuse.proofs.Shares.{IsKept, one_live}
+use Rattle.reuse.proofs.Stands.{some_same, past_entries, Stands, stands_at, stands_one}
+use Rattle.reuse.proofs.Turns.{turn_of}
+use Rattle.reuse.proofs.Uses.{at_port, Came, Tells, EmptyOr}
 use Rattle.reuse.proofs.Used.{dyadic_port, open_port, Ports, one_frame, not_twice, Over, Used, no_move}
 use Rattle.reuse.proofs.After.{CausedBy}
 use Rattle.reuse.proofs.Kept.{taken, Kept, ports_of}
@@ -114,6 +110,7 @@ module _ (p : Plan) (wired : IsWired p) (z : Size) (start : Machine) (events : E
     where
       entry : is_entry p.program.blocks (first_of p.program b + q.place) ≡ false
       entry = past_entries p.program.blocks b q.place c at met.0 (let e = wired.entries b c x at (arcs_here x inside) in let s : x.to.place ≡ q.place = ap (λ (q : Inlet). q.place) to in omega (arith, e, s))
+
       go : Contains ts (at_port p.program f b q.place q.port met.1.0) ⊎ Contains u.pool (at_port p.program f b q.place q.port met.1.0) → CausedBy p ts u.store.slots f (first_of p.program b + q.place) q.port
       go (inl k) = K.came f (first_of p.program b + q.place) q.port met.1.0 entry k
       go (inr k) = K.was f (first_of p.program b + q.place) q.port (O.caused f (first_of p.program b + q.place) q.port met.1.0 entry k)
@@ -123,9 +120,12 @@ module _ (p : Plan) (wired : IsWired p) (z : Size) (start : Machine) (events : E
       let C = causes q x inside to met in
       let same : C.b ≡ b = block_is C.b C.x.from C.used.i Left C.used.stands C.used.left in
       let place : first_of p.program b + q.place ≡ first_of p.program b + C.x.to.place = C.place ∙ ap (λ (b : ℕ). first_of p.program b + C.x.to.place) same in
-      let here : C.x.to.place ≡ q.place = omega (arith, place) in
-      (C.x, subst (λ (b : ℕ). Contains (arcs_in p (slice_get p.program.blocks b)) C.x) same C.is_arc,
-        (λ k. record { place = here k; port = sym C.port k }), subst (λ (b : ℕ). Used p.program ts u.store.slots f b C.x) same C.used)
+      let here : C.x.to.place ≡ q.place = omega (arith, place) in (
+        C.x,
+        subst (λ (b : ℕ). Contains (arcs_in p (slice_get p.program.blocks b)) C.x) same C.is_arc,
+        (λ k. record { place = here k; port = sym C.port k }),
+        subst (λ (b : ℕ). Used p.program ts u.store.slots f b C.x) same C.used,
+      )
 
   within : (n : ℕ) (i : Instr) → Stands p.program b n i → n < length c.instrs
   within n i s = slice_get_within c.instrs n i (instr_here n i s)
@@ -151,7 +151,7 @@ module _ (p : Plan) (wired : IsWired p) (z : Size) (start : Machine) (events : E
       let becomes = not_excluded _ here in
       let slot : slot_in u.store f (slot_of w.j (w.j).op) ≡ Empty = ap (slot_in u.store f) w.holds ∙ empty in
       no_move p.program record { frame = f; ip = ip } w.j (slot_in u.store f (slot_of w.j (w.j).op)) w.q w.w becomes.0 becomes.1 h
-        (turn_of p.program record { frame = f; ip = ip } w.j (w.j).op (slot_in u.store f (slot_of w.j (w.j).op)) w.q w.w becomes.0 becomes.1 becomes.2) slot w.holds no_port
+      (turn_of p.program record { frame = f; ip = ip } w.j (w.j).op (slot_in u.store f (slot_of w.j (w.j).op)) w.q w.w becomes.0 becomes.1 becomes.2) slot w.holds no_port
 
   begun_full : (h : ℕ) → (u.store.slots f h ≡ Empty → ⊥) → (q : Inlet) × IsHolderPort (slice_get p.program.blocks b) h q × Met q
   begun_full h full = go (K.filled f h)
@@ -183,6 +183,7 @@ module _ (p : Plan) (wired : IsWired p) (z : Size) (start : Machine) (events : E
       pick : Over p.program ts u.store.slots f b h → (w : Pending p.program u.pool f b h) → (is_port (w.j).op w.q ≡ true) ⊎ (is_port (w.j).op w.q ≡ false) → ⊥
       pick over w (inl port) = let k = over.came w.n w.j w.q w.stands w.holds port in not_twice p ts u.pool P f b w.n w.j w.q k.0 w.w w.stands port k.1 w.waits
       pick over w (inr none) = pending_full h w none over.empty
+
       go : Over p.program ts u.store.slots f b h → Live h → ⊥
       go over (inl full) = full over.empty
       go over (inr w) = pick over w (cases_Bool (is_port (w.j).op w.q))
@@ -199,8 +200,8 @@ module _ (p : Plan) (wired : IsWired p) (z : Size) (start : Machine) (events : E
       let met_s = Contains-append_left ts u.pool (at_port p.program f b x.from Right (Word.Val s.0)) s.1 in
       let met_t = Contains-append_left ts u.pool (at_port p.program f b y.from Right (Word.Val t.0)) t.1 in
       let same = O.agree f (first_of p.program b + x.from) (first_of p.program b + y.from) m (Word.Val s.0) (Word.Val t.0)
-        (b, x.from, c, at, within x.from U.i U.stands, refl, on_x.0, on_x.1) (b, y.from, c, at, within y.from V.i V.stands, refl, on_y.0, on_y.1)
-        (P.block f (first_of p.program b + x.from) (first_of p.program b + y.from) Right Right (Word.Val s.0) (Word.Val t.0) met_s met_t) met_s met_t in
+      (b, x.from, c, at, within x.from U.i U.stands, refl, on_x.0, on_x.1) (b, y.from, c, at, within y.from V.i V.stands, refl, on_y.0, on_y.1)
+      (P.block f (first_of p.program b + x.from) (first_of p.program b + y.from) Right Right (Word.Val s.0) (Word.Val t.0) met_s met_t) met_s met_t in
       apart side x.second y.second on_x.2 on_y.2 (sym s.2 ∙ ap truth (val_same s.0 t.0 same) ∙ t.2)
 
   pub is_kept : IsKept p b Met UsedHere Live
@@ -220,5 +221,7 @@ module _ (p : Plan) (wired : IsWired p) (z : Size) (start : Machine) (events : E
       → Contains u.pool (at_port p.program f b n q w) → Alone ss (slot_of i i.op) (u.store.slots f)
   alone_here slots good ss at_ss n i q w s inside =
       alone_from p slots good b c ss at at_ss Met UsedHere Live is_kept (u.store.slots f) (λ k full. inl full) i
-      (λ h holds. ((all_get IsPlanBlock p.program.blocks b c wired.plan.blocks at).below i h (contains_got c.instrs n i (instr_here n i s)) holds,
-        inr record { n = n; j = i; q = q; w = w; stands = s; holds = holds; waits = inside }))
+      (λ h holds. (
+        (all_get IsPlanBlock p.program.blocks b c wired.plan.blocks at).below i h (contains_got c.instrs n i (instr_here n i s)) holds,
+        inr record { n = n; j = i; q = q; w = w; stands = s; holds = holds; waits = inside },
+      ))

@@ -107,6 +107,6 @@ instr_placed p slots long t m u new f ip q w made ss i at moved only A e =
     subst (λ (o : Option ℕ). Fires m f o (outcome_of code seat (moved_to ss i) i.op (slot_in m f o) q w) made new) (slot_moved i r i.op) one in
     let three : Fires m f (in_slot r (slot_of i i.op)) (outcome_of p.program seat i i.op (slot_in m f (in_slot r (slot_of i i.op))) q w) made new =
     subst (λ (o : Outcome). Fires m f (in_slot r (slot_of i i.op)) o made new)
-      (outcome_same p.program (placed_blocks slots p.program.blocks) seat i r (first_same p.program slots long) i.op (slot_in m f (in_slot r (slot_of i i.op))) q w) two in
+    (outcome_same p.program (placed_blocks slots p.program.blocks) seat i r (first_same p.program slots long) i.op (slot_in m f (in_slot r (slot_of i i.op))) q w) two in
     let shown = slot_fires ss f m u new (slot_of i i.op) (λ (v : SlotState). outcome_of p.program seat i i.op v q w) made only A three in
     (shown.0, subst (λ (o : Option Instr). Fires u f (slot_used o) (rule_at p.program seat o (slot_in u f (slot_used o)) q w) made shown.0) (sym at) shown.1, shown.2, shown.3, shown.4)

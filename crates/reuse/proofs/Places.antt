@@ -103,23 +103,28 @@ located (ss ∷ slots) (c ∷ cs) e ip = go (nat_lt ip (length c.instrs)) refl (
   where
     same : nat_lt ip (length (placed_instrs ss c.instrs)) ≡ nat_lt ip (length c.instrs)
     same = ap (nat_lt ip) (length_placed ss c.instrs)
+
     plan_at : (t : Bool) → nat_lt ip (length c.instrs) ≡ t → instr_from (c ∷ cs) ip ≡ (if t then slice_get c.instrs ip else instr_from cs (ip - length c.instrs))
     plan_at t e = ap (λ (t : Bool). if t then slice_get c.instrs ip else instr_from cs (ip - length c.instrs)) e
+
     code_at : (t : Bool) → nat_lt ip (length c.instrs) ≡ t
         → instr_from (placed_blocks (ss ∷ slots) (c ∷ cs)) ip ≡ (if t then slice_get (placed_instrs ss c.instrs) ip else instr_from (placed_blocks slots cs) (ip - length c.instrs))
     code_at t e =
         ap (λ (k : ℕ). if nat_lt ip (length (placed_instrs ss c.instrs)) then slice_get (placed_instrs ss c.instrs) ip else instr_from (placed_blocks slots cs) (ip - k)) (length_placed ss c.instrs)
         ∙ ap (λ (t : Bool). if t then slice_get (placed_instrs ss c.instrs) ip else instr_from (placed_blocks slots cs) (ip - length c.instrs)) (same ∙ e)
+
     here : nat_lt ip (length c.instrs) ≡ true → ((slice_get c.instrs ip ≡ None) × (slice_get (placed_instrs ss c.instrs) ip ≡ None))
         ⊎ ((i : Instr) × (slice_get c.instrs ip ≡ Some i) × (slice_get (placed_instrs ss c.instrs) ip ≡ Some (moved_to ss i))) → Located (ss ∷ slots) (c ∷ cs) ip
     here t (inl o) = Nowhere (plan_at true t ∙ o.0) (code_at true t ∙ o.1)
     here t (inr o) = There 0 ip ss c o.0 refl refl o.1 (plan_at true t ∙ o.1) (code_at true t ∙ o.2) (sym (zero-add ip))
+
     later : nat_lt ip (length c.instrs) ≡ false → Located slots cs (ip - length c.instrs) → Located (ss ∷ slots) (c ∷ cs) ip
     later t (Nowhere x y) = Nowhere (plan_at false t ∙ x) (code_at false t ∙ y)
     later t (There b n ts d i p q r x y at) =
         let far : length c.instrs ≤ ip = ltb-false ip (length c.instrs) t in
         let next = first_next c cs b in
         There (suc b) n ts d i p q r (plan_at false t ∙ x) (code_at false t ∙ y) (omega (arith, at, next))
+
     go : (t : Bool) → nat_lt ip (length c.instrs) ≡ t → Located slots cs (ip - length c.instrs) → Located (ss ∷ slots) (c ∷ cs) ip
     go true t rest = here t (get_placed ss c.instrs ip)
     go false t rest = later t rest
@@ -172,10 +177,14 @@ agrees_put ss code plan h s v at only A = record { held = λ r full. held r (cas
     held r (inr ne) full =
         let before = A.held r (λ e. full (put_other code s v r ne ∙ e)) in
         (before.0, before.1, put_other plan h v before.0 (λ e. ne (some_same s r (sym at ∙ ap (slice_get ss) e ∙ before.1))) ∙ before.2 ∙ sym (put_other code s v r ne))
+
     shown : (k : ℕ) → ((h ≡ k) ⊎ (h ≡ k → ⊥)) → (put_at plan h v k ≡ Empty → ⊥) → (r : ℕ) × (slice_get ss k ≡ Some r) × (put_at plan h v k ≡ put_at code s v r)
     shown k (inl e) full = (s, ap (slice_get ss) (sym e) ∙ at, put_same plan h v k e ∙ sym (put_same code s v s refl))
     shown k (inr ne) full =
         let filled : plan k ≡ Empty → ⊥ = λ e. full (put_other plan h v k ne ∙ e) in
-        let before = A.shown k filled in
-        (before.0, before.1, put_other plan h v k ne ∙ before.2
-          ∙ sym (put_other code s v before.0 (λ e. filled (only k (λ q. ne (sym q)) (before.1 ∙ ap Some (sym e))))))
+        let before = A.shown k filled in (
+          before.0,
+          before.1,
+          put_other plan h v k ne ∙ before.2
+              ∙ sym (put_other code s v before.0 (λ e. filled (only k (λ q. ne (sym q)) (before.1 ∙ ap Some (sym e))))),
+        )

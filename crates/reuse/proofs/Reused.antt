@@ -1,11 +1,10 @@
 -- The clauses of a faithful run, from the run that uses each frame once to that in which frames are used again.
-use Rattle.std.proofs.Common.{◌≡◌, refl, sym, ap, ◌∙◌, subst, ℕ, ◌+◌, ◌*◌, ◌<◌, ◌≤◌, ◌⊎◌, inl, inr, ℤ, Bool, true, false, List, [], ◌∷◌, ◌++◌, map, length, Option, Some, None, Contains, IsPermutation, arith}
+use Rattle.std.proofs.Common.{◌≡◌, refl, sym, ap, ◌∙◌, subst, ℕ, ◌+◌, ◌*◌, ◌≤◌, ◌⊎◌, inl, inr, ℤ, Bool, false, List, [], ◌∷◌, ◌++◌, map, length, Option, Some, None, Contains, IsPermutation, arith}
 use Rattle.std.specs.Prelude.{count_by, if◌then◌else◌, nat_lt, ◌==◌}
 use Rattle.std.proofs.lemmas.List.Sorted.{Contains-permutation, IsPermutation-sym}
 use Rattle.std.proofs.lemmas.List.{length-map}
 use Rattle.std.proofs.lemmas.List.Elements.{Contains-append_left}
 use Rattle.tags.specs.declared.value.Value.{Value}
-use Rattle.tags.specs.declared.token.Port.{Port}
 use Rattle.tags.specs.declared.token.Cont.{Cont}
 use Rattle.tags.specs.declared.token.Word.{Word}
 use Rattle.tags.specs.declared.token.To.{To}
@@ -16,28 +15,29 @@ use Rattle.tags.specs.declared.slot.SlotState.TheVariants.{Empty, Credits, Waite
 use Rattle.semantics.specs.Graph.{Flow}
 use Rattle.semantics.specs.Meaning as Meaning
 use Rattle.semantics.specs.Program.{Instr, Program, instr_at}
-use Rattle.semantics.specs.Rule.{Outcome, Becomes, Excluded, rule_at}
-use Rattle.semantics.specs.Machine as Machine
-use Rattle.semantics.specs.Machine.{CellState, Vacant, Full, Deferred, Machine, Store, Size, Events, Run, at_start, slot_in, slot_used, Resting, Wants, excluded_by, unless_back, unless_value, filled, host_rule, outputs_of, stuck_rule, reader_count, value_in}
-use Rattle.semantics.specs.Cause.{SameSeen, HasCause, request_count, credit_count, is_turn}
-use Rattle.semantics.specs.Faithful.{IsExact, HasStoreOfFull, NoReader, IsClean, largest, IsRun, Faithful}
+use Rattle.semantics.specs.Rule.{token, Outcome, Becomes, Excluded, rule_at}
+use Rattle.semantics.specs.Machine.{CellState, Vacant, Full, Deferred, Machine, Store, Size, Events, at_start, slot_in, slot_used, Resting, Wants, excluded_by, unless_back, unless_value, filled, outputs_of, stuck_rule, reader_count, value_in}
+use Rattle.semantics.specs.Cause.{SameSeen, request_count, is_turn}
+use Rattle.semantics.specs.Faithful.{largest, IsRun}
 use Rattle.semantics.specs.Plan.{Plan}
-use Rattle.semantics.specs.Sharing.{Good}
 use Rattle.semantics.specs.Placed.{placed}
-use Rattle.semantics.specs.Orderly.{Orderly, IsStart}
+use Rattle.semantics.specs.Orderly.{IsStart}
 use Rattle.semantics.specs.Renamed.{re_cont, re_word, re_to, re_token, re_slot, re_cell}
-use Rattle.semantics.specs.Wired.{IsWired}
-use Rattle.reuse.specs.Theorem.{TakesInputs, SharedSlotsAreFaithful, ReleasesAreLast}
+use Rattle.reuse.specs.Theorem.{TakesInputs, SharedSlotsAreFaithful, ReleasesAreLast, HoldersAreAlone}
+use Rattle.semantics.specs.Handed.{handed}
+use Rattle.semantics.specs.Holders.{Holder, holds}
+use Rattle.reuse.proofs.Own.{own_so_after, own_held, Own, own_run}
+use Rattle.reuse.proofs.OwnSlots.{own_alone}
 use Rattle.reuse.proofs.Renames.{re_outcome, rule_re}
 use Rattle.reuse.proofs.Counts.{Counted}
 use Rattle.reuse.proofs.Fold.{Fold, slot_in_re}
 use Rattle.reuse.proofs.Freed.{empty_back}
-use Rattle.reuse.proofs.Frames.{Folds, FreesOnce, HasOnce, frames_once}
-use Rattle.reuse.proofs.Served.{HasServed, value_in_re, has_served}
-use Rattle.reuse.proofs.Frees.{contains_map}
+use Rattle.reuse.proofs.Frames.{So, so_start, so_held, waits, Folds, FreesOnce, frames_once}
+use Rattle.reuse.proofs.Served.{value_in_re, has_served}
 use Rattle.reuse.proofs.Unfold.{frees_shared, release_shared}
 use Rattle.reuse.proofs.Clauses.{KeepsFaith, faith_kept, code_bounds, perm_nil}
 use Rattle.reuse.proofs.OnceFaith.{once_keeps_faith}
+use Rattle.reuse.proofs.Members.{contains_head, contains_map}
 
 -- ---- RULES THAT EXCLUDE, UNDER OTHER NUMBERS FOR THE FRAMES
 
@@ -113,7 +113,7 @@ module _ (fl : Flow) (p : Program) (inputs : List ℤ) (t : ℕ) (h : ℕ → �
   rests_there : Resting m → (Wants m → ⊥) → Resting u
   rests_there rest calm =
       perm_nil u.pool (subst (λ (l : List Token). IsPermutation u.pool (map (re_token h) l ++ [])) rest
-        (subst (λ (cs : List Cont). IsPermutation u.pool (map (re_token h) m.pool ++ map (re_token h) (map (λ (c : Cont). record { to = To.Manager; word = Word.Back c }) cs))) (none_asks calm) F.pool))
+      (subst (λ (cs : List Cont). IsPermutation u.pool (map (re_token h) m.pool ++ map (re_token h) (map (λ (c : Cont). record { to = To.Manager; word = Word.Back c }) cs))) (none_asks calm) F.pool))
 
   calm_there : (Wants m → ⊥) → Wants u → ⊥
   calm_there calm (inl some) = some F.fold.none_waits
@@ -133,21 +133,21 @@ module _ (fl : Flow) (p : Program) (inputs : List ℤ) (t : ℕ) (h : ℕ → �
   faith_back events unfolded served v cells outputs C K L = record {
     reachable = (K.reachable.0, K.reachable.1, seen_back u.store values F.fold.outputs (K.reachable.0).memory K.reachable.2);
     exact = λ rest calm.
-      (let E = K.exact (rests_there rest calm) (calm_there calm) in
-      record {
-        state = E.state;
-        reached = E.reached;
-        seen = seen_back u.store values F.fold.outputs E.state.memory E.seen;
-        at_rest = E.at_rest;
-        only = E.only;
-        no_clash = E.no_clash;
-        readers = λ x. sym (readers_back x) ∙ E.readers x;
-      });
+        (let E = K.exact (rests_there rest calm) (calm_there calm) in
+        record {
+          state = E.state;
+          reached = E.reached;
+          seen = seen_back u.store values F.fold.outputs E.state.memory E.seen;
+          at_rest = E.at_rest;
+          only = E.only;
+          no_clash = E.no_clash;
+          readers = λ x. sym (readers_back x) ∙ E.readers x;
+        });
     second_store = λ x some. K.second_store x (some.0, some.1, re_word h some.2, there (record { to = To.Store x some.0; word = some.2 }) some.3, F.fold.cells x ∙ ap (re_cell h) some.4);
     matching = λ k inside. sym (stuck_re p t h m.store u.store F.fold k.to k.word) ∙ K.matching (re_token h k) (there k inside);
     clean = λ rest calm none.
-      (let E = K.clean (rests_there rest calm) (calm_there calm) (λ x. readers_back x ∙ none x) in
-      record { frames = λ f. sym (F.fold.out f) ∙ E.frames (h f); slots = λ f r. empty_back h (m.store.slots f r) (sym (E.slots (h f) r) ∙ F.fold.slots f r) });
+        (let E = K.clean (rests_there rest calm) (calm_there calm) (λ x. readers_back x ∙ none x) in
+        record { frames = λ f. sym (F.fold.out f) ∙ E.frames (h f); slots = λ f r. empty_back h (m.store.slots f r) (sym (E.slots (h f) r) ∙ F.fold.slots f r) });
     cause = record {
       run = L.cause.run;
       state = L.cause.state;
@@ -159,9 +159,9 @@ module _ (fl : Flow) (p : Program) (inputs : List ℤ) (t : ℕ) (h : ℕ → �
       credits = subst (λ (n : ℕ). n ≤ count_by is_turn L.cause.due) (sym C.credits) L.cause.credits;
     };
     bound =
-      (let a : length events ≡ length served = (let e = C.events in omega (arith, e)) in
-      let b : request_count events ≡ request_count served = (let e = C.requests in omega (arith, e)) in
-      subst (λ (n : ℕ). n ≤ 6 * (largest p.blocks + 1) * (1 + request_count events)) (sym a) (subst (λ (n : ℕ). length served ≤ 6 * (largest p.blocks + 1) * (1 + n)) (sym b) L.bound));
+        (let a : length events ≡ length served = (let e = C.events in omega (arith, e)) in
+        let b : request_count events ≡ request_count served = (let e = C.requests in omega (arith, e)) in
+        subst (λ (n : ℕ). n ≤ 6 * (largest p.blocks + 1) * (1 + request_count events)) (sym a) (subst (λ (n : ℕ). length served ≤ 6 * (largest p.blocks + 1) * (1 + n)) (sym b) L.bound));
   }
 
 -- ---- THE THEOREMS
@@ -174,6 +174,7 @@ shared_slots_are_faithful fl p slots F orderly wired good takes = faith_kept fl 
   where
     code : Program
     code = placed p slots
+
     one : (inputs : List ℤ) (z : Size) (events : Events) (m : Machine) → IsRun fl (placed p slots) inputs z events m → KeepsFaith fl (placed p slots) inputs events m
     one inputs z events m r =
         let start : IsStart p z inputs = start_of fl p slots takes inputs z events m r in
@@ -185,9 +186,30 @@ shared_slots_are_faithful fl p slots F orderly wired good takes = faith_kept fl 
         let here : IsRun fl (placed p slots) inputs wide H.unfolded H.last = record { inputs_fit = r.inputs_fit; some_element = r.some_element; some_frame = H.some_frame; run = H.run } in
         let there : IsRun fl (placed p slots) inputs wider S.unfolded S.last = record { inputs_fit = r.inputs_fit; some_element = r.some_element; some_frame = S.some_frame; run = S.run } in
         faith_back fl (placed p slots) inputs (z.elements * z.frames) (λ g. g + H.gen g * (z.elements * z.frames)) m H.last H.folds events H.unfolded S.unfolded S.last S.cells S.outputs S.counted
-          (once_keeps_faith fl p slots F orderly wired good takes inputs wide H.unfolded H.last here H.once)
-          (once_keeps_faith fl p slots F orderly wired good takes inputs wider S.unfolded S.last there S.once)
+        (once_keeps_faith fl p slots F orderly wired good takes inputs wide H.unfolded H.last here H.once)
+        (once_keeps_faith fl p slots F orderly wired good takes inputs wider S.unfolded S.last there S.once)
 
 pub releases_are_last : ReleasesAreLast
 releases_are_last fl p slots orderly wired good takes inputs z events m r =
     release_shared p slots wired good orderly inputs z events m (start_of fl p slots takes inputs z events m r) r.run
+
+pub holders_are_alone : HoldersAreAlone
+holders_are_alone fl p slots orderly wired good takes inputs z events m next e t r ev f ip s q x to is_x uses =
+    let start : IsStart p z inputs = start_of fl p slots takes inputs z events m r in
+    let frees : FreesOnce (placed p slots) inputs z.elements = frees_shared p slots wired good orderly inputs z start in
+    let H = frames_once p (placed p slots) inputs z events m r.some_element r.some_frame frees r.run in
+    let h : ℕ → ℕ = λ (g : ℕ). g + H.gen g * (z.elements * z.frames) in
+    let wide : Size = record { elements = z.elements; frames = H.frames } in
+    let wide_start : IsStart p wide inputs = record { some_element = start.some_element; some_frame = H.some_frame; inputs_fit = start.inputs_fit } in
+    let gone : List ℕ = handed (placed p slots) wide (at_start (placed p slots) inputs) H.unfolded H.last H.run in
+    let so : So = own_so_after p (placed p slots) so_start wide (at_start (placed p slots) inputs) H.unfolded H.last H.run in
+    let own : Own p slots wide inputs H.unfolded H.last gone so = own_run p slots wired good orderly inputs wide wide_start H.unfolded H.last H.run H.once in
+    let here : Contains m.pool t = Contains-permutation _ _ t (IsPermutation-sym _ _ ev.takes) (contains_head t ev.rest) in
+    let there : Contains H.last.pool (re_token h t) =
+    Contains-permutation _ _ _ (IsPermutation-sym _ _ H.folds.pool) (Contains-append_left (map (re_token h) m.pool) (waits h m.store.requests) (re_token h t) (contains_map (re_token h) m.pool t here)) in
+    let waits_there : Contains H.last.pool (token (To.Instr (h f) ip q) (re_word h t.word)) = subst (λ (to : To). Contains H.last.pool (token (re_to h to) (re_word h t.word))) to there in
+    carry (own_held p (placed p slots) so_start wide (at_start (placed p slots) inputs) H.unfolded H.last H.run (h f) s ∙ H.holders f s ∙ so_held p (placed p slots) so_start z (at_start (placed p slots) inputs) events m r.run f s) (own_alone p slots wired good orderly inputs wide wide_start H.unfolded H.last gone so own H.once (h f) ip s q (re_word h t.word) x waits_there is_x uses)
+  where
+    carry : {a b : Option Holder} → a ≡ b → (a ≡ None) ⊎ (a ≡ Some x) → (b ≡ None) ⊎ (b ≡ Some x)
+    carry e (inl d) = inl (sym e ∙ d)
+    carry e (inr d) = inr (sym e ∙ d)

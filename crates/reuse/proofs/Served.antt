@@ -1,26 +1,24 @@
 -- The unfolded run led on: each request that waits is served with a frame that was never used.
-use Rattle.std.proofs.Common.{◌≡◌, refl, sym, ap, ◌∙◌, subst, ℕ, zero, suc, ◌+◌, ◌*◌, ◌<◌, ◌≤◌, ◌⊎◌, inl, inr, ℤ, Bool, true, false, List, [], ◌∷◌, ◌++◌, map, length, Option, Some, None, IsPermutation, arith, mul_left_comm, mul-pos}
+use Rattle.std.proofs.Common.{◌≡◌, refl, sym, ap, ◌∙◌, subst, ℕ, suc, ◌+◌, ◌*◌, ◌<◌, ◌≤◌, ◌⊎◌, inl, inr, ℤ, Bool, true, false, List, [], ◌∷◌, ◌++◌, map, length, Option, None, IsPermutation, arith, mul_left_comm, mul-pos}
 use Rattle.std.specs.Prelude.{⊤}
 use Rattle.std.proofs.lemmas.List.Sorted.{IsPermutation-refl, IsPermutation-sym, IsPermutation-trans, IsPermutation-middle, IsPermutation-append_comm}
-use Rattle.tags.specs.declared.value.Value.{Value}
 use Rattle.tags.specs.declared.token.Cont.{Cont}
 use Rattle.tags.specs.declared.token.Word.{Word}
 use Rattle.tags.specs.declared.token.To.{To}
 use Rattle.tags.specs.declared.token.Token.{Token}
 use Rattle.semantics.specs.Program.{Program}
 use Rattle.semantics.specs.Rule.{token}
-use Rattle.semantics.specs.Machine.{CellState, Vacant, Full, Deferred, value_in, Store, Machine, Size, Event, Events, Run, at_start, put_at, with_out, answer}
+use Rattle.semantics.specs.Machine.{CellState, Vacant, Full, Deferred, value_in, Machine, Size, Event, Events, Run, at_start, put_at, with_out, answer}
 use Rattle.semantics.specs.Plan.{Plan}
 use Rattle.semantics.specs.Handed.{handed, EachOnce}
 use Rattle.semantics.specs.Holders.{Holder, holds}
 use Rattle.tags.specs.declared.slot.SlotState.TheVariants.{Empty}
-use Rattle.semantics.specs.Renamed.{re_cont, re_word, re_token, re_cell}
+use Rattle.semantics.specs.Renamed.{re_cont, re_token, re_cell}
 use Rattle.reuse.proofs.Counts.{Counted, counted_serves}
-use Rattle.reuse.proofs.Lists.{Each, Spread, Differ, each_weaker, all_differ}
+use Rattle.reuse.proofs.Lists.{each_weaker, all_differ}
 use Rattle.reuse.proofs.Fold.{put_other}
-use Rattle.reuse.proofs.Freed.{place, IsNaming, place_low, place_same, place_fresh}
-use Rattle.reuse.proofs.Snoc.{run_snoc}
-use Rattle.reuse.proofs.Frames.{Once, once_more, waits, Used, FreesOnce, Next, wide, last_state}
+use Rattle.reuse.proofs.Freed.{place, place_low, place_same, place_fresh}
+use Rattle.reuse.proofs.Frames.{So, so_start, so_after, Once, once_more, waits, Used, FreesOnce, Next, wide, last_state}
 
 module _ (P : Plan) (p : Program) (inputs : List ℤ) (elements frames n : ℕ) (some_frame : 0 < frames) (some_element : 0 < elements) (done : Events) (gen : ℕ → ℕ) (out : ℕ → Bool) where
   abbrev total : ℕ
@@ -47,6 +45,7 @@ module _ (P : Plan) (p : Program) (inputs : List ℤ) (elements frames n : ℕ) 
     where
       both : (0 ≡ g) × (suc J ≡ j)
       both = place_same total 0 g (suc J) j pos below e
+
       go : (j < gen g) ⊎ ((j ≡ gen g) × (out g ≡ true)) → ⊥
       go (inl less) = let a = both.1 in let b : gen 0 ≡ gen g = ap gen both.0 in omega (arith, a, b, less, low)
       go (inr same) = let a = both.1 in let b : gen 0 ≡ gen g = ap gen both.0 in let c = same.0 in omega (arith, a, b, c, low)
@@ -68,27 +67,40 @@ module _ (P : Plan) (p : Program) (inputs : List ℤ) (elements frames n : ℕ) 
   }
   serve (c ∷ cs) J u rest room low pool free O =
       let all = serve cs (suc J) after (answer (re_cont h c) (Word.Frame F) ∷ rest) (omega (arith, room)) (omega (arith, low))
-        (IsPermutation-sym _ _ (IsPermutation-middle (waits h cs) (answer (re_cont h c) (Word.Frame F)) rest)) still once in
+      (IsPermutation-sym _ _ (IsPermutation-middle (waits h cs) (answer (re_cont h c) (Word.Frame F)) rest)) still once in
       record { last = all.last; once = all.once; cells = all.cells; outputs = all.outputs }
     where
       F : ℕ
       F = 0 + suc J * total
+
       below : F < elements * (suc n * frames)
       below = subst (λ (x : ℕ). F < x) (sym (mul_left_comm elements (suc n) frames)) (place_low total n 0 (suc J) pos (omega (arith, room)))
+
       t : Token
       t = token To.Manager (Word.Back (re_cont h c))
+
       after : Machine
       after = record { store = with_out u.store F true; pool = answer (re_cont h c) (Word.Frame F) ∷ (waits h cs ++ rest) }
+
       ev : Event p size 0 t u after
-      ev = record { made = answer (re_cont h c) (Word.Frame F) ∷ []; rest = waits h cs ++ rest; addressed = refl; takes = pool;
-        happens = inl (F, below, free (suc J) (omega arith) (omega (arith, room)), refl, refl); leaves = IsPermutation-refl after.pool }
+      ev = record {
+        made = answer (re_cont h c) (Word.Frame F) ∷ [];
+        rest = waits h cs ++ rest;
+        addressed = refl;
+        takes = pool;
+        happens = inl (F, below, free (suc J) (omega arith) (omega (arith, room)), refl, refl);
+        leaves = IsPermutation-refl after.pool;
+      }
+
       grows : (f : ℕ) → UsedTo J f → UsedTo (suc J) f
       grows f (inl was) = inl was
       grows f (inr (j, more, within, e)) = inr (j, more, omega (arith, within), e)
+
       still : (j : ℕ) → suc J < j → j ≤ n → put_at u.store.out F true (0 + j * total) ≡ false
       still j more within =
           put_other u.store.out F true (0 + j * total) (λ e. (let both = place_same total 0 0 (suc J) j pos pos e in let a = both.1 in omega (arith, a, more)))
           ∙ free j (omega (arith, more)) within
+
       once : Once p size (at_start p inputs) (UsedTo (suc J)) (Counts (length cs)) after
       once = once_more p size (at_start p inputs) (UsedTo J) (UsedTo (suc J)) (Counts (length (c ∷ cs))) (Counts (length cs)) u after 0 t O ev
           (F ∷ []) refl (inr (suc J, omega (arith, low), omega arith, refl), tt) (tt, tt) (fresh J low, tt) grows
@@ -116,8 +128,8 @@ module _ (P : Plan) (p : Program) (inputs : List ℤ) (z : Size) (events : Event
   abbrev many : ℕ
   many = length events + length events
 
-  abbrev tracked : ℕ → ℕ → Option Holder
-  tracked f s = holds P p f s None z (at_start p inputs) events m r
+  abbrev tracked : So
+  tracked = so_after P p so_start z (at_start p inputs) events m r
 
   abbrev N : Next P p inputs z.elements z.frames many some_frame (length events) events tracked m
   N = last_state P p inputs z events m some_element some_frame frees r
@@ -139,11 +151,11 @@ module _ (P : Plan) (p : Program) (inputs : List ℤ) (z : Size) (events : Event
   served =
       let h : ℕ → ℕ = place (z.elements * z.frames) N.gen in
       serve P p inputs z.elements z.frames many some_frame some_element events N.gen m.store.out m.store.requests (N.gen 0) N.after (map (re_token h) m.pool) room (omega arith)
-        (IsPermutation-trans _ _ _ N.folds.pool (IsPermutation-append_comm (map (re_token h) m.pool) (waits h m.store.requests))) free record {
+      (IsPermutation-trans _ _ _ N.folds.pool (IsPermutation-append_comm (map (re_token h) m.pool) (waits h m.store.requests))) free record {
         events = N.once.events;
         run = N.once.run;
         among = each_weaker (Used (z.elements * z.frames) N.gen m.store.out) (λ f. UsedTo P p inputs z.elements z.frames many some_frame some_element events N.gen m.store.out (N.gen 0) f) (λ f x. inl x)
-          (0 ∷ handed p (wide P p inputs z.elements z.frames many some_frame) (at_start p inputs) N.once.events N.after N.once.run) N.once.among;
+            (0 ∷ handed p (wide P p inputs z.elements z.frames many some_frame) (at_start p inputs) N.once.events N.after N.once.run) N.once.among;
         differ = N.once.differ;
         told = N.once.told.counted;
       }

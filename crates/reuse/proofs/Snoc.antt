@@ -1,6 +1,7 @@
 -- One more event at the end of a run.
-use Rattle.std.proofs.Common.{◌≡◌, refl, sym, ap, ◌∙◌, subst, ℕ, ◌*◌, ◌⊎◌, inl, inr, List, [], ◌∷◌, ◌++◌, Option, append_assoc, append-nil}
+use Rattle.std.proofs.Common.{◌≡◌, refl, sym, ap, ◌∙◌, subst, ℕ, ◌*◌, ◌⊎◌, inl, inr, ◌+◌, List, [], ◌∷◌, ◌++◌, Option, append_assoc, append-nil, arith}
 use Rattle.std.proofs.lemmas.List.Sorted.{IsPermutation-refl, IsPermutation-trans}
+use Rattle.tags.specs.declared.token.To.{To}
 use Rattle.tags.specs.declared.token.Token.{Token}
 use Rattle.semantics.specs.Program.{Program}
 use Rattle.semantics.specs.Machine.{Store, Machine, Size, Happens, Event, Events, Run}
@@ -10,15 +11,18 @@ use Rattle.semantics.specs.Holders.{Holder, held_by_event, holds}
 use Rattle.semantics.specs.Plan.{Plan}
 
 pub run_snoc : (p : Program) (z : Size) (a b c : Machine) (events : Events) (e : ℕ) (t : Token) → Run p z a events b → Event p z e t b c → Run p z a (events ++ (e, t) ∷ []) c
-run_snoc p z a b c [] e t r ev =
-    (c, record {
-      made = ev.made;
-      rest = ev.rest;
-      addressed = ev.addressed;
-      takes = IsPermutation-trans _ _ _ r.0 ev.takes;
-      happens = subst (λ (s : Store). Happens p (z.elements * z.frames) s t.to t.word ev.made c.store) r.1 ev.happens;
-      leaves = ev.leaves;
-    }, (IsPermutation-refl c.pool, refl))
+run_snoc p z a b c [] e t r ev = (
+  c,
+  record {
+    made = ev.made;
+    rest = ev.rest;
+    addressed = ev.addressed;
+    takes = IsPermutation-trans _ _ _ r.0 ev.takes;
+    happens = subst (λ (s : Store). Happens p (z.elements * z.frames) s t.to t.word ev.made c.store) r.1 ev.happens;
+    leaves = ev.leaves;
+  },
+  (IsPermutation-refl c.pool, refl),
+)
 run_snoc p z a b c (x ∷ events) e t r ev = (r.0, r.1, run_snoc p z r.0 b c events e t r.2 ev)
 
 pub handed_snoc : (p : Program) (z : Size) (a b c : Machine) (events : Events) (e : ℕ) (t : Token) (r : Run p z a events b) (ev : Event p z e t b c)
@@ -48,3 +52,19 @@ pub holds_snoc : (P : Plan) (p : Program) (f s : ℕ) (before : Option Holder) (
 unfolding run_snoc
 holds_snoc P p f s before z a b c [] e t r ev = refl
 holds_snoc P p f s before z a b c (x ∷ events) e t r ev = holds_snoc P p f s (held_by_event P p f s before x.1.to (r.0).store) z r.0 b c events e t r.2 ev
+
+-- ---- what a run counts
+
+-- of an event: by the state before it, the place of its token, and what it made
+abbrev pub Count : Type 0
+Count = Store → To → List Token → ℕ
+
+abbrev pub tally : (K : Count) (p : Program) (z : Size) (old : Machine) (events : Events) (new : Machine) → Run p z old events new → ℕ
+tally K p z old [] new run = 0
+tally K p z old (ev ∷ later) new run = K old.store ev.1.to run.1.made + tally K p z run.0 later new run.2
+
+pub tally_snoc : (K : Count) (p : Program) (z : Size) (a b c : Machine) (events : Events) (e : ℕ) (t : Token) (r : Run p z a events b) (ev : Event p z e t b c)
+    → tally K p z a (events ++ (e, t) ∷ []) c (run_snoc p z a b c events e t r ev) ≡ tally K p z a events b r + K b.store t.to ev.made
+unfolding run_snoc
+tally_snoc K p z a b c [] e t r ev = let same : K a.store t.to ev.made ≡ K b.store t.to ev.made = ap (λ (s : Store). K s t.to ev.made) (sym r.1) in omega (arith, same)
+tally_snoc K p z a b c (x ∷ events) e t r ev = let more = tally_snoc K p z r.0 b c events e t r.2 ev in omega (arith, more)

@@ -1,5 +1,5 @@
 -- Where an instruction stands: its block, and its place there.
-use Rattle.std.proofs.Common.{◌≡◌, refl, zero-add, sym, ap, ◌∙◌, subst, ℕ, zero, suc, ◌+◌, ◌-◌, ◌<◌, ◌≤◌, Bool, true, false, true≢false, List, [], ◌∷◌, map, length, sum, take, Option, Some, None, slice_get, nat_lt, lt-ltb, le-ltb, ltb-true, ltb-false, arith, if◌then◌else◌}
+use Rattle.std.proofs.Common.{◌≡◌, refl, zero-add, sym, ap, ◌∙◌, subst, ℕ, zero, suc, ◌+◌, ◌-◌, ◌<◌, ◌≤◌, Bool, true, false, true≢false, List, [], ◌∷◌, map, length, sum, take, Some, slice_get, nat_lt, lt-ltb, le-ltb, ltb-false, arith, if◌then◌else◌}
 use Rattle.std.proofs.lemmas.List.Sums.{sum-map, sum_by-cons}
 use Rattle.std.proofs.lemmas.Option.{slice_get_within}
 use Rattle.semantics.specs.Program.{Instr, CodeBlock, Program, first_of, instr_from, instr_at}
@@ -51,7 +51,7 @@ one_block (x ∷ bs) (suc a) zero j k c d e g h l s =
     let one : nat_lt ip (length x.instrs) ≡ false = le-ltb ip (length x.instrs) (omega (arith, m)) in
     let two : nat_lt (0 + k) (length x.instrs) ≡ true = lt-ltb (0 + k) (length x.instrs) (omega (arith, l, n)) in
     absurd (true≢false (sym s ∙ ap (λ (t : Bool). if t then nat_lt (0 + k) (length x.instrs) else if nat_lt (0 + k) (length x.instrs) then false else same_block bs (ip - length x.instrs) (0 + k - length x.instrs)) one
-      ∙ ap (λ (t : Bool). if t then false else same_block bs (ip - length x.instrs) (0 + k - length x.instrs)) two))
+    ∙ ap (λ (t : Bool). if t then false else same_block bs (ip - length x.instrs) (0 + k - length x.instrs)) two))
 one_block (x ∷ bs) (suc a) (suc b) j k c d e g h l s =
     let m = first_next x bs a in
     let n = first_next x bs b in

@@ -1,18 +1,17 @@
 -- Who holds a slot: along a run, under other numbers for the frames, and where the slot is empty.
-use Rattle.std.proofs.Common.{◌≡◌, refl, sym, ap, ◌∙◌, subst, ℕ, ◌+◌, ◌*◌, ◌⊎◌, inl, inr, Bool, true, false, true≢false, ◌&&◌, List, [], ◌∷◌, ◌++◌, Option, Some, None}
+use Rattle.std.proofs.Common.{◌≡◌, refl, sym, ap, ◌∙◌, ℕ, ◌*◌, ◌⊎◌, inl, inr, Bool, true, false, true≢false, ◌&&◌, List, [], ◌∷◌, Option, Some, None}
 use Rattle.std.specs.Prelude.{if◌then◌else◌, ◌==◌}
-use Rattle.std.proofs.lemmas.Bool.{cases_Bool, cases_eq, and_from, eq-eqb}
+use Rattle.std.proofs.lemmas.Bool.{cases_eq, and_from, eq-eqb}
 use Rattle.tags.specs.declared.token.Port.{Port}
-use Rattle.tags.specs.declared.token.Cont.{Cont}
 use Rattle.tags.specs.declared.token.Word.{Word}
 use Rattle.tags.specs.declared.token.To.{To}
 use Rattle.tags.specs.declared.token.Token.{Token}
 use Rattle.tags.specs.declared.slot.SlotState.{SlotState}
 use Rattle.tags.specs.declared.slot.SlotState.TheVariants as Slot
 use Rattle.tags.specs.declared.slot.SlotState.TheVariants.{Empty, Credits, Waiter, Draining}
-use Rattle.semantics.specs.Program.{Instr, Program, instr_at}
+use Rattle.semantics.specs.Program.{Program, instr_at}
 use Rattle.semantics.specs.Rule.{Outcome, Becomes, Excluded, rule_at}
-use Rattle.semantics.specs.Machine.{Machine, Store, Size, Event, Events, Run, put_at, slot_in, with_slot_in, slot_used, Fires, Happens}
+use Rattle.semantics.specs.Machine.{Machine, Store, Size, Events, Run, put_at, slot_in, slot_used, Fires, Happens}
 use Rattle.semantics.specs.Plan.{Plan}
 use Rattle.semantics.specs.Renamed.{re_to, re_slot}
 use Rattle.semantics.specs.Holders.{Holder, holder_at, held_after, uses_slot, held_by_event, holds}
@@ -52,6 +51,7 @@ none_from P p f s before to w made total old new happens kept empty = go to (slo
   where
     held_none : (before by : Option Holder) (v : SlotState) → v ≡ Empty → held_after before by v ≡ None
     held_none before by v e = ap (held_after before by) e
+
     same : (to : To) → new.slots ≡ old.slots → held_by_event P p f s before to new ≡ None
     same (To.Instr g ip q) e = pick ((g == f) && uses_slot s (slot_used (instr_at p ip)))
       where
@@ -63,6 +63,7 @@ none_from P p f s before to w made total old new happens kept empty = go to (slo
     same To.Manager e = kept (ap (λ (c : ℕ → ℕ → SlotState). c f s) (sym e) ∙ empty)
     same (To.Release g) e = kept (ap (λ (c : ℕ → ℕ → SlotState). c f s) (sym e) ∙ empty)
     same (To.Host j) e = kept (ap (λ (c : ℕ → ℕ → SlotState). c f s) (sym e) ∙ empty)
+
     -- an instruction's event changes no other slot
     other : (g : ℕ) (o : Option ℕ) (x : Outcome) → ((g == f) && uses_slot s o) ≡ false → Fires old g o x made new → new.slots f s ≡ old.slots f s
     other g o (Excluded n) un e = absurd e
@@ -73,6 +74,7 @@ none_from P p f s before to w made total old new happens kept empty = go to (slo
         pick (inr ne) d = ap (λ (c : ℕ → SlotState). c s) (put_other old.slots g (put_at (old.slots g) r v) f ne)
         pick (inl a) (inr ne) = ap (λ (c : ℕ → SlotState). c s) (put_same old.slots g (put_at (old.slots g) r v) f a) ∙ put_other (old.slots g) r v s ne ∙ ap (λ (x : ℕ). old.slots x s) a
         pick (inl a) (inl b) = absurd (true≢false (sym (and_from _ _ (eq-eqb g f a) (eq-eqb r s b)) ∙ un))
+
     go : (to : To) → (new.slots ≡ old.slots) ⊎ ((g : ℕ) × (ip : ℕ) × (q : Port) × (to ≡ To.Instr g ip q)) → Happens p total old to w made new → held_by_event P p f s before to new ≡ None
     go to (inl e) h = same to e
     go (To.Instr g ip q) (inr d) h = pick ((g == f) && uses_slot s (slot_used (instr_at p ip))) refl

@@ -1,9 +1,8 @@
 -- What an instruction's event does with the slot: one of seven ways.
-use Rattle.std.proofs.Common.{◌≡◌, refl, sym, ap, ◌∙◌, subst, ℕ, zero, suc, ◌+◌, ◌-◌, ◌⊎◌, inl, inr, Bool, true, false, true≢false, List, [], ◌∷◌, Option, Some, None}
+use Rattle.std.proofs.Common.{◌≡◌, refl, sym, ap, ℕ, zero, suc, ◌+◌, ◌-◌, ◌⊎◌, inl, inr, Bool, true, false, true≢false, List, [], Option, Some, None}
 use Rattle.std.specs.Prelude.{if◌then◌else◌, nat_lt, ◌==◌}
 use Rattle.tags.specs.declared.token.Port.{Port}
 use Rattle.tags.specs.declared.token.Port.TheVariants.{Left, Right}
-use Rattle.tags.specs.declared.token.Cont.{Cont}
 use Rattle.tags.specs.declared.token.Word.{Word}
 use Rattle.tags.specs.declared.token.Token.{Token}
 use Rattle.tags.specs.declared.slot.SlotState.{SlotState}
@@ -12,7 +11,7 @@ use Rattle.tags.specs.declared.slot.SlotState.TheVariants.{Empty, Credits, Waite
 use Rattle.semantics.specs.declared.program.Op.{Op}
 use Rattle.semantics.specs.declared.program.Op.TheVariants.{Apply2, Sync, Switch, Store, Send, Return, Ask, Open, Take, Give, Drain, Release}
 use Rattle.semantics.specs.Program.{Instr, Program}
-use Rattle.semantics.specs.Rule.{Seat, Outcome, Becomes, Excluded, to_all, signal, fires, fire_one, fire_two, meets, alone, opens, takes, gives, drains, on_left, outcome_of, slot_of}
+use Rattle.semantics.specs.Rule.{Seat, Becomes, Excluded, to_all, signal, fires, fire_two, meets, alone, opens, takes, gives, drains, outcome_of, slot_of}
 use Rattle.semantics.specs.Plan.{is_credit, is_open}
 use Rattle.semantics.specs.Wired.{is_dyadic}
 

@@ -1,11 +1,7 @@
 -- Each run over good slots, in which frames are used again, has its unfolded run over the plan.
-use Rattle.std.proofs.Common.{◌≡◌, refl, sym, ap, ◌∙◌, subst, ℕ, ◌+◌, ◌*◌, ◌<◌, ◌⊎◌, inl, inr, ℤ, Bool, true, false, List, [], ◌∷◌, ◌++◌, map, length, Option, Some, None, Contains, IsPermutation}
-use Rattle.std.specs.Prelude.{slice_get}
+use Rattle.std.proofs.Common.{◌≡◌, sym, ap, ◌∙◌, subst, ℕ, ◌*◌, ◌<◌, ◌⊎◌, inl, inr, ℤ, Bool, false, List, map, None, Contains, IsPermutation}
 use Rattle.std.proofs.lemmas.List.Sorted.{IsPermutation-trans}
 use Rattle.tags.specs.declared.token.Cont.{Cont}
-use Rattle.tags.specs.declared.token.Word.{Word}
-use Rattle.tags.specs.declared.token.To.{To}
-use Rattle.tags.specs.declared.token.Token.{Token}
 use Rattle.tags.specs.declared.slot.SlotState.{SlotState}
 use Rattle.tags.specs.declared.slot.SlotState.TheVariants as Slot
 use Rattle.tags.specs.declared.slot.SlotState.TheVariants.{Empty, Credits, Waiter, Draining}
@@ -14,19 +10,17 @@ use Rattle.semantics.specs.Machine.{CellState, Machine, Size, Events, Run, at_st
 use Rattle.semantics.specs.Plan.{Plan}
 use Rattle.semantics.specs.Sharing.{Good}
 use Rattle.semantics.specs.Placed.{placed}
-use Rattle.semantics.specs.Handed.{handed, EachOnce, UsesEachOnce}
-use Rattle.semantics.specs.Orderly.{NamesWord, NamesCont, NamesSlot, readers_of, IsFreeOf, IsFreeAtRelease, Orderly, IsStart, inputs_of}
-use Rattle.semantics.specs.Renamed.{re_token, re_slot}
-use Rattle.semantics.specs.Holders.{Holder, holds}
-use Rattle.semantics.specs.Unfolded.{use_of, request, HasSlot, Unfolds, HasUnfolded, EachRunUnfolds}
+use Rattle.semantics.specs.Orderly.{NamesSlot, readers_of, IsFreeAtRelease, Orderly, IsStart}
+use Rattle.semantics.specs.Renamed.{re_token}
+use Rattle.semantics.specs.Holders.{holds}
+use Rattle.semantics.specs.Unfolded.{use_of, request, Unfolds, HasUnfolded, EachRunUnfolds}
 use Rattle.semantics.specs.Wired.{IsWired}
 use Rattle.reuse.specs.OwnSlots.{HasOwnSlots, IsOwnRun}
 use Rattle.reuse.proofs.Fold.{map_append}
 use Rattle.reuse.proofs.Freed.{empty_back}
-use Rattle.reuse.proofs.Frames.{FreesOnce, Folds, HasOnce, frames_once}
+use Rattle.reuse.proofs.Frames.{so_start, so_after, FreesOnce, HasOnce, frames_once}
 use Rattle.reuse.proofs.Frees.{frees_always}
 use Rattle.reuse.proofs.Places.{empty_or}
-use Rattle.reuse.proofs.Own.{Own, own_run, orderly_here}
 use Rattle.reuse.proofs.OwnSlots.{once_runs_are_own}
 use Rattle.reuse.proofs.Clauses.{credits_same}
 
@@ -41,14 +35,16 @@ names_full f (Draining n) h e = absurd h
 -- what the plan's release finds, the code's finds
 free_shared : (slots : List (List ℕ)) (m u : Machine) → HasOwnSlots slots m u → IsFreeAtRelease u → IsFreeAtRelease m
 free_shared slots m u O frees f w rest takes is_out =
-    let free = frees f w rest (IsPermutation-trans _ _ _ O.pool takes) (ap (λ (o : ℕ → Bool). o f) O.out ∙ is_out) in
-    (free.0, record {
-      tokens = free.1.tokens;
-      readers = λ x c inside. free.1.readers x c (subst (λ (y : ℕ → CellState). Contains (readers_of (y x)) c) (sym O.cells) inside);
-      requests = λ c inside. free.1.requests c (subst (λ (cs : List Cont). Contains cs c) (sym O.requests) inside);
-      words = λ g r names. (let h = O.held g r (names_full f (m.store.slots g r) names) in free.1.words g h.0 (subst (NamesSlot f) (sym h.2) names));
-      slots = λ r. empty r free.1.slots (empty_or (m.store.slots f r));
-    })
+    let free = frees f w rest (IsPermutation-trans _ _ _ O.pool takes) (ap (λ (o : ℕ → Bool). o f) O.out ∙ is_out) in (
+      free.0,
+      record {
+        tokens = free.1.tokens;
+        readers = λ x c inside. free.1.readers x c (subst (λ (y : ℕ → CellState). Contains (readers_of (y x)) c) (sym O.cells) inside);
+        requests = λ c inside. free.1.requests c (subst (λ (cs : List Cont). Contains cs c) (sym O.requests) inside);
+        words = λ g r names. (let h = O.held g r (names_full f (m.store.slots g r) names) in free.1.words g h.0 (subst (NamesSlot f) (sym h.2) names));
+        slots = λ r. empty r free.1.slots (empty_or (m.store.slots f r));
+      },
+    )
   where
     empty : (r : ℕ) → ((h : ℕ) → u.store.slots f h ≡ Empty) → (m.store.slots f r ≡ Empty) ⊎ (m.store.slots f r ≡ Empty → ⊥) → m.store.slots f r ≡ Empty
     empty r none (inl e) = e
@@ -75,7 +71,7 @@ module _ (p : Plan) (slots : List (List ℕ)) (wired : IsWired p) (good : Good p
     abbrev total : ℕ
     total = z.elements * z.frames
 
-    abbrev H : HasOnce p code inputs z events (λ f s. holds p code f s None z (at_start code inputs) events m r) m
+    abbrev H : HasOnce p code inputs z events (so_after p code so_start z (at_start code inputs) events m r) m
     H = frames_once p code inputs z events m start.some_element start.some_frame (frees_shared inputs z start) r
 
     abbrev size : Size
@@ -92,18 +88,18 @@ module _ (p : Plan) (slots : List (List ℕ)) (wired : IsWired p) (good : Good p
 
     unfolds : Unfolds total slots m own.last
     unfolds = record {
-        gen = H.gen;
-        block = λ g. own.own.block (h g);
-        tokens = IsPermutation-trans _ _ _ own.own.pool (subst (IsPermutation H.last.pool) (sym (map_append (re_token h) m.pool (map request m.store.requests))) H.folds.pool);
-        none_waits = own.own.requests ∙ H.folds.fold.none_waits;
-        cells = λ x. ap (λ (c : ℕ → CellState). c x) own.own.cells ∙ H.folds.fold.cells x;
-        out = λ g. ap (λ (o : ℕ → Bool). o (h g)) own.own.out ∙ H.folds.fold.out g;
-        same = (own.own.outputs ∙ H.folds.fold.outputs, own.own.done ∙ H.folds.fold.done);
-        others = λ f. others f (H.folds.fold.others f);
-        held = λ g s full. (let k = own.own.held (h g) s (full_there g s full) in (k.0, k.1, k.2 ∙ H.folds.fold.slots g s));
-        shown = λ g k full. (let s = own.own.shown (h g) k full in (s.0, s.1, s.2 ∙ H.folds.fold.slots g s.0));
-        alone = λ g s j k at_j at_k full_j full_k. own.own.alone (h g) s j k at_j at_k full_j full_k;
-      }
+      gen = H.gen;
+      block = λ g. own.own.block (h g);
+      tokens = IsPermutation-trans _ _ _ own.own.pool (subst (IsPermutation H.last.pool) (sym (map_append (re_token h) m.pool (map request m.store.requests))) H.folds.pool);
+      none_waits = own.own.requests ∙ H.folds.fold.none_waits;
+      cells = λ x. ap (λ (c : ℕ → CellState). c x) own.own.cells ∙ H.folds.fold.cells x;
+      out = λ g. ap (λ (o : ℕ → Bool). o (h g)) own.own.out ∙ H.folds.fold.out g;
+      same = (own.own.outputs ∙ H.folds.fold.outputs, own.own.done ∙ H.folds.fold.done);
+      others = λ f. others f (H.folds.fold.others f);
+      held = λ g s full. (let k = own.own.held (h g) s (full_there g s full) in (k.0, k.1, k.2 ∙ H.folds.fold.slots g s));
+      shown = λ g k full. (let s = own.own.shown (h g) k full in (s.0, s.1, s.2 ∙ H.folds.fold.slots g s.0));
+      alone = λ g s j k at_j at_k full_j full_k. own.own.alone (h g) s j k at_j at_k full_j full_k;
+    }
       where
         others : (f : ℕ) → (((k : ℕ) → H.last.store.slots f k ≡ Empty) × (H.last.store.out f ≡ false)) ⊎ ((g : ℕ) × (f ≡ h g))
             → (((k : ℕ) → own.last.store.slots f k ≡ Empty) × (own.last.store.out f ≡ false)) ⊎ ((g : ℕ) × (f ≡ h g))

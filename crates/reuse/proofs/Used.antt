@@ -1,8 +1,7 @@
 -- Arcs that were used: what was taken at the instruction, and that a holder whose end was reached stays empty.
-use Rattle.std.proofs.Common.{◌≡◌, refl, sym, ap, ◌∙◌, subst, ℕ, zero, suc, ◌+◌, ◌<◌, ◌≤◌, ◌⊎◌, inl, inr, Bool, true, false, not, true≢false, ◌&&◌, List, [], ◌∷◌, ◌++◌, map, length, Option, Some, None, Contains, arith}
-use Rattle.std.specs.Prelude.{count_by, slice_get, flat_map, if◌then◌else◌}
-use Rattle.std.proofs.lemmas.Bool.{cases_Bool}
-use Rattle.std.proofs.lemmas.List.Elements.{Contains-append_left, Contains-append_right, Contains-append_cases, Contains-push}
+use Rattle.std.proofs.Common.{◌≡◌, refl, sym, ap, ◌∙◌, subst, ℕ, zero, suc, ◌+◌, ◌≤◌, ◌⊎◌, inl, inr, Bool, true, false, not, true≢false, List, [], ◌∷◌, ◌++◌, map, Option, Some, Contains, arith}
+use Rattle.std.specs.Prelude.{count_by, slice_get, flat_map}
+use Rattle.std.proofs.lemmas.List.Elements.{Contains-append_left, Contains-append_right, Contains-append_cases}
 use Rattle.operators.specs.Values.{truth}
 use Rattle.tags.specs.declared.value.Value.{Value}
 use Rattle.tags.specs.declared.token.Port.{Port}
@@ -11,34 +10,22 @@ use Rattle.tags.specs.declared.token.Word.{Word}
 use Rattle.tags.specs.declared.token.To.{To}
 use Rattle.tags.specs.declared.token.Token.{Token}
 use Rattle.tags.specs.declared.slot.SlotState.{SlotState}
-use Rattle.tags.specs.declared.slot.SlotState.TheVariants as Slot
-use Rattle.tags.specs.declared.slot.SlotState.TheVariants.{Empty, Credits, Waiter, Draining}
+use Rattle.tags.specs.declared.slot.SlotState.TheVariants.{Empty}
 use Rattle.semantics.specs.declared.program.Dest.{Dest}
 use Rattle.semantics.specs.declared.program.Op.{Op}
-use Rattle.semantics.specs.declared.program.Op.TheVariants.{Apply1, Apply2, Apply2Right, Apply2Left, Lit, Copy, Sync, Switch, Fetch, Store, Frame, Link, Send, Return, Ask, Open, Take, Give, Drain, Release}
+use Rattle.semantics.specs.declared.program.Op.TheVariants.{Apply2, Sync, Switch, Store, Link, Send, Return, Ask, Open, Take, Give, Drain, Release}
 use Rattle.semantics.specs.Program.{Instr, CodeBlock, Program, first_of, instr_at}
-use Rattle.semantics.specs.Rule.{token, Seat, at_dest, to_each, fire_two, Becomes, outcome_of, slot_of}
-use Rattle.semantics.specs.Machine.{Machine, Store as MStore, slot_in}
-use Rattle.semantics.specs.Plan.{Plan, is_credit, is_open, OneHolder, IsPlanBlock, landing}
-use Rattle.semantics.specs.Sharing.{Inlet, inlet, Arc, arc, arcs_to, row, arcs_from, arcs_of, arcs_in, is_port, ends_with}
-use Rattle.semantics.specs.Arcs.{UsesBy}
+use Rattle.semantics.specs.Rule.{token, Seat, slot_of}
+use Rattle.semantics.specs.Plan.{Plan, is_credit, is_open, landing}
+use Rattle.semantics.specs.Sharing.{inlet, Arc, arc, arcs_to, row, arcs_from, arcs_of, arcs_in, is_port, ends_with}
 use Rattle.semantics.specs.Orderly.{is_at, often, same_block}
-use Rattle.semantics.specs.Wired.{is_dyadic, IsWired}
-use Rattle.determinacy.proofs.Resolved.{all_get}
-use Rattle.reuse.proofs.Frees.{contains_map}
-use Rattle.reuse.proofs.Stands.{some_same, Stands, stands_at, stands_one, stands_block}
-use Rattle.reuse.proofs.Turns.{is_counting, is_later, Turn, waits_left, waits_right, meets_right, meets_left, lone, begins, counts, drain_turn, later_not_dyadic, open_not_dyadic, dyadic_not_credit}
-use Rattle.reuse.proofs.Uses.{contains_head, contains_tail, contains_cases, contains_none, at_port, Came, later_on, came_twice, Filled, EmptyOr, opened_from, none_some, Move, turn, slot_cases}
+use Rattle.semantics.specs.Wired.{is_dyadic}
+use Rattle.reuse.proofs.Stands.{Stands, stands_at, stands_block}
+use Rattle.reuse.proofs.Turns.{is_counting, is_later, Turn, waits_left, waits_right, meets_right, meets_left, lone, begins, counts}
+use Rattle.reuse.proofs.Uses.{at_port, Came, later_on, came_twice, none_some}
+use Rattle.reuse.proofs.Members.{contains_head, contains_tail, contains_cases, contains_none, contains_mapped}
 
 -- ---- ARCS
-
-pub contains_mapped : {X Y : Type 0} (f : X → Y) (xs : List X) (y : Y) → Contains (map f xs) y → (x : X) × Contains xs x × (f x ≡ y)
-contains_mapped f [] y c = absurd (contains_none y c)
-contains_mapped f (x ∷ xs) y c = go (contains_cases (f x) (map f xs) y c) (λ c. contains_mapped f xs y c)
-  where
-    go : (f x ≡ y) ⊎ Contains (map f xs) y → (Contains (map f xs) y → (x : _) × Contains xs x × (f x ≡ y)) → (z : _) × Contains (x ∷ xs) z × (f z ≡ y)
-    go (inl e) more = (x, contains_head x xs, e)
-    go (inr c) more = let m = more c in (m.0, contains_tail x xs m.0 m.1, m.2)
 
 arcs_to_from : (n : ℕ) (s : Bool) (ds : List Dest) (x : Arc) → Contains (arcs_to n s ds) x → x.from ≡ n
 arcs_to_from n s ds x c = let d = contains_mapped (λ (d : Dest). arc n s (inlet (n + d.ahead) d.port)) ds x c in sym (ap (λ (x : Arc). x.from) d.2)

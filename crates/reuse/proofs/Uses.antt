@@ -1,12 +1,10 @@
 -- What a state of a run tells of the tokens that were taken before it: who filled a slot, which arcs were used, and that
 -- a holder whose end was reached is empty for good.
-use Rattle.std.proofs.Common.{◌≡◌, refl, sym, ap, ◌∙◌, subst, ℕ, zero, suc, ◌+◌, ◌<◌, ◌≤◌, ◌⊎◌, inl, inr, Bool, true, false, not, true≢false, eq-eqb, cond, List, [], ◌∷◌, ◌++◌, map, length, Option, Some, None, IsPermutation, Contains, arith}
-use Rattle.std.specs.Prelude.{count_by, slice_get, slice_index_or}
-use Rattle.std.proofs.lemmas.Bool.{cases_Bool, cases_eq, and_from}
+use Rattle.std.proofs.Common.{◌≡◌, refl, sym, ap, ◌∙◌, subst, ℕ, zero, suc, ◌+◌, ◌≤◌, ◌⊎◌, inl, inr, Bool, true, true≢false, eq-eqb, cond, List, [], ◌∷◌, ◌++◌, Option, Some, None, Contains, arith}
+use Rattle.std.specs.Prelude.{count_by}
+use Rattle.std.proofs.lemmas.Bool.{cases_eq, and_from}
 use Rattle.std.proofs.lemmas.List.Sums.{sum_by-append, sum_by-cons}
 use Rattle.std.proofs.lemmas.List.Elements.{Contains-append_left, Contains-push}
-use Rattle.operators.specs.Values.{truth}
-use Rattle.tags.specs.declared.value.Value.{Value}
 use Rattle.tags.specs.declared.token.Port.{Port}
 use Rattle.tags.specs.declared.token.Port.TheVariants.{Left, Right}
 use Rattle.tags.specs.declared.token.Word.{Word}
@@ -15,33 +13,18 @@ use Rattle.tags.specs.declared.token.Token.{Token}
 use Rattle.tags.specs.declared.slot.SlotState.{SlotState}
 use Rattle.tags.specs.declared.slot.SlotState.TheVariants as Slot
 use Rattle.tags.specs.declared.slot.SlotState.TheVariants.{Empty, Credits, Waiter, Draining}
-use Rattle.semantics.specs.declared.program.Op.{Op}
-use Rattle.semantics.specs.declared.program.Op.TheVariants.{Apply2, Sync, Switch, Store, Send, Return, Ask, Open, Take, Give, Drain, Release}
-use Rattle.semantics.specs.Program.{Instr, CodeBlock, Program, first_of, instr_at}
+use Rattle.semantics.specs.Program.{Instr, Program, first_of}
 use Rattle.semantics.specs.Rule.{token, Seat, Outcome, Becomes, Excluded, outcome_of, rule_at, slot_of}
-use Rattle.semantics.specs.Machine.{Store as MStore, Events, put_at, with_slot, slot_in, with_slot_in, slot_used, Fires, Happens}
-use Rattle.semantics.specs.Plan.{Plan, is_credit, is_open}
-use Rattle.semantics.specs.Sharing.{Inlet, Arc, arcs_in, is_port, ends_with}
-use Rattle.semantics.specs.Orderly.{is_at, eq_port, often}
+use Rattle.semantics.specs.Machine.{Store as MStore, put_at, slot_in, with_slot_in, slot_used, Fires, Happens}
+use Rattle.semantics.specs.Plan.{is_open}
+use Rattle.semantics.specs.Orderly.{is_at, eq_port}
 use Rattle.semantics.specs.Wired.{is_dyadic}
 use Rattle.reuse.proofs.Fold.{put_same, put_other}
-use Rattle.reuse.proofs.Stands.{Stands, stands_at, stands_one}
-use Rattle.reuse.proofs.Turns.{is_counting, is_later, Turn, waits_left, waits_right, meets_right, meets_left, lone, begins, counts, turn_of}
+use Rattle.reuse.proofs.Stands.{Stands, stands_at}
+use Rattle.reuse.proofs.Turns.{is_counting, Turn, waits_left, waits_right, meets_right, meets_left, lone, begins, counts, turn_of}
+use Rattle.reuse.proofs.Members.{contains_cases, contains_none}
 
 -- ---- TOKENS AT PORTS
-
-pub contains_head : {X : Type 0} (x : X) (xs : List X) → Contains (x ∷ xs) x
-contains_head x xs = (0, omega arith, refl)
-
-pub contains_tail : {X : Type 0} (x : X) (xs : List X) (y : X) → Contains xs y → Contains (x ∷ xs) y
-contains_tail x xs y h = (suc h.0, omega (arith, h.1), h.2)
-
-pub contains_cases : {X : Type 0} (x : X) (xs : List X) (y : X) → Contains (x ∷ xs) y → (x ≡ y) ⊎ Contains xs y
-contains_cases x xs y (zero, below, e) = inl e
-contains_cases x xs y (suc k, below, e) = inr (k, omega (arith, below), e)
-
-pub contains_none : {X : Type 0} (y : X) → Contains [] y → ⊥
-contains_none y (k, below, e) = omega (arith, below)
 
 -- the token at a port of an instruction
 abbrev pub at_port : Program → ℕ → ℕ → ℕ → Port → Word → Token
@@ -189,19 +172,26 @@ module _ (p : Program) (f b n : ℕ) (q : Port) (w : Word) (i : Instr) (made : L
         where
           row : ℕ → SlotState
           row = put_at (old.slots f) k M.v
+
           pick : ((f ≡ g) ⊎ (f ≡ g → ⊥)) → ((k ≡ h) ⊎ (k ≡ h → ⊥)) → (new.slots g h ≡ old.slots g h) ⊎ ((f ≡ g) × (slot_of i i.op ≡ Some h) × (slot_in old f (slot_of i i.op) ≡ old.slots g h) × (new.slots g h ≡ M.v))
           pick (inr ne) d = inl (ap (λ (s : MStore). s.slots g h) e ∙ ap (λ (c : ℕ → SlotState). c h) (put_other old.slots f row g ne))
           pick (inl same) (inr ne) =
               inl (ap (λ (s : MStore). s.slots g h) e ∙ ap (λ (c : ℕ → SlotState). c h) (put_same old.slots f row g same) ∙ put_other (old.slots f) k M.v h ne ∙ ap (λ (x : ℕ). old.slots x h) same)
           pick (inl same) (inl eq) =
-              inr (same, at ∙ ap Some eq, ap (slot_in old f) at ∙ (λ t. old.slots (same t) (eq t)),
-              ap (λ (s : MStore). s.slots g h) e ∙ ap (λ (c : ℕ → SlotState). c h) (put_same old.slots f row g same) ∙ put_same (old.slots f) k M.v h eq)
+              inr (
+                same,
+                at ∙ ap Some eq,
+                ap (slot_in old f) at ∙ (λ t. old.slots (same t) (eq t)),
+                ap (λ (s : MStore). s.slots g h) e ∙ ap (λ (c : ℕ → SlotState). c h) (put_same old.slots f row g same) ∙ put_same (old.slots f) k M.v h eq,
+              )
 
   -- the holder's slot, before and after
   pub slot_new : (h : ℕ) → slot_of i i.op ≡ Some h → (new.slots f h ≡ M.v) × (slot_in old f (slot_of i i.op) ≡ old.slots f h)
-  slot_new h holds =
-      (ap (λ (s : MStore). s.slots f h) (M.after ∙ ap (λ (o : Option ℕ). with_slot_in old f o M.v) holds)
-      ∙ ap (λ (c : ℕ → SlotState). c h) (put_same old.slots f (put_at (old.slots f) h M.v) f refl) ∙ put_same (old.slots f) h M.v h refl, ap (slot_in old f) holds)
+  slot_new h holds = (
+    ap (λ (s : MStore). s.slots f h) (M.after ∙ ap (λ (o : Option ℕ). with_slot_in old f o M.v) holds)
+        ∙ ap (λ (c : ℕ → SlotState). c h) (put_same old.slots f (put_at (old.slots f) h M.v) f refl) ∙ put_same (old.slots f) h M.v h refl,
+    ap (slot_in old f) holds,
+  )
 
   pub filled_after : (ts : List Token) → Stands p b n i → ((g h : ℕ) → EmptyOr p ts g h (old.slots g h)) → (g h : ℕ) → EmptyOr p (ts ++ at_port p f b n q w ∷ []) g h (new.slots g h)
   filled_after ts at before g h = go (slot_cases g h) (before g h)

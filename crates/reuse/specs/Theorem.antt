@@ -10,6 +10,7 @@ use Rattle.semantics.specs.Orderly as Orderly
 use Rattle.semantics.specs.Orderly.{Orderly}
 use Rattle.semantics.specs.Wired.{IsWired}
 use Rattle.semantics.specs.Reuse.{ReleasesLast}
+use Rattle.semantics.specs.Holders.{HoldsAlone}
 use Rattle.semantics.specs.Unfolded.{EachRunUnfolds}
 
 -- Each run of the code has its unfolded run over the plan.
@@ -27,3 +28,7 @@ SharedSlotsAreFaithful = (fl : Flow) (p : Plan) (slots : List (List ℕ)) → Fa
 -- In each run of the code, nothing else names a frame that is released, and its slots are empty.
 abbrev pub ReleasesAreLast : Type 0
 ReleasesAreLast = (fl : Flow) (p : Plan) (slots : List (List ℕ)) → Orderly p → IsWired p → Good p slots → TakesInputs fl p → ReleasesLast fl (placed p slots)
+
+-- And two holders that share a slot never hold it at one moment.
+abbrev pub HoldersAreAlone : Type 0
+HoldersAreAlone = (fl : Flow) (p : Plan) (slots : List (List ℕ)) → Orderly p → IsWired p → Good p slots → TakesInputs fl p → HoldsAlone fl p slots

@@ -1,6 +1,6 @@
 use Rattle.reuse.proofs.OwnSlots.{once_runs_are_own}
 use Rattle.reuse.proofs.Unfold.{each_run_unfolds}
-use Rattle.reuse.proofs.Reused.{shared_slots_are_faithful, releases_are_last}
+use Rattle.reuse.proofs.Reused.{shared_slots_are_faithful, releases_are_last, holders_are_alone}
 use Rattle.reuse.proofs.shared_slots_are_faithful.Goals as goal
 
 pub returns-clause-own : goal.returns-clause-own
@@ -14,3 +14,6 @@ returns-clause-faithful c = shared_slots_are_faithful
 
 pub returns-clause-release : goal.returns-clause-release
 returns-clause-release c = releases_are_last
+
+pub returns-clause-alone : goal.returns-clause-alone
+returns-clause-alone c = holders_are_alone
