@@ -8,3 +8,5 @@ pub mod Stages
 pub mod Flags
 pub mod Keeps
 pub mod Theorem
+pub mod Shapes
+pub mod Plans

@@ -1,5 +1,5 @@
 -- Where the instructions of a block and their copies stand in the new order.
-use Rattle.std.proofs.Common.{◌≡◌, ℕ, zero, suc, ◌+◌, ◌-◌, ◌<◌, ◌≤◌, Bool, true, false, List, [], ◌∷◌, ◌++◌, length, drop, refl, sym, ap, ◌∙◌, subst, arith, Option, Some, None, if◌then◌else◌, le_of_suc-le-suc, not-suc-le-zero, length-append, true≢false}
+use Rattle.std.proofs.Common.{◌≡◌, ℕ, zero, suc, ◌+◌, ◌-◌, ◌<◌, ◌≤◌, Bool, true, false, List, [], ◌∷◌, ◌++◌, length, drop, refl, sym, ap, ◌∙◌, subst, inl, inr, ◌⊎◌, arith, Option, Some, None, if◌then◌else◌, le_of_suc-le-suc, not-suc-le-zero, length-append, true≢false}
 use Rattle.std.specs.Prelude.{slice_get, All}
 use Rattle.std.proofs.lemmas.Option.{slice_get_within}
 use Rattle.std.proofs.lemmas.List.Elements.{All-cons, All-nil, All-head, All-tail, All-append}
@@ -18,6 +18,16 @@ pub get_right : {X : Type 0} (xs ys : List X) (k : ℕ) → slice_get (xs ++ ys)
 get_right [] ys k = let e : 0 + k ≡ k = omega arith in ap (slice_get ys) e
 get_right (x ∷ xs) ys k = let e : length (x ∷ xs) + k ≡ suc (length xs + k) = omega arith in ap (slice_get (x ∷ (xs ++ ys))) e ∙ get_right xs ys k
 
+-- what stands in two lists stands in one of them
+pub get_split : {X : Type 0} (xs ys : List X) (k : ℕ) (y : X) → slice_get (xs ++ ys) k ≡ Some y → (slice_get xs k ≡ Some y) ⊎ ((j : ℕ) × (k ≡ length xs + j) × (slice_get ys j ≡ Some y))
+get_split [] ys k y e = inr (k, omega arith, e)
+get_split (x ∷ xs) ys zero y e = inl e
+get_split (x ∷ xs) ys (suc k) y e = shift (get_split xs ys k y e)
+  where
+    shift : (slice_get xs k ≡ Some y) ⊎ ((j : ℕ) × (k ≡ length xs + j) × (slice_get ys j ≡ Some y)) → (slice_get xs k ≡ Some y) ⊎ ((j : ℕ) × (suc k ≡ length (x ∷ xs) + j) × (slice_get ys j ≡ Some y))
+    shift (inl h) = inl h
+    shift (inr (j, h, g)) = inr (j, omega (arith, h), g)
+
 -- the flag of an instruction, at the head of those that are left
 pub flag_here : (ts : List Bool) (n : ℕ) → n < length ts → drop n ts ≡ is_tied ts n ∷ drop (n + 1) ts
 flag_here [] n h = absurd (not-suc-le-zero h)
@@ -35,6 +45,9 @@ run_none [] zero h = refl
 run_none [] (suc n) h = refl
 run_none (t ∷ ts) zero h = absurd (omega (arith, h))
 run_none (t ∷ ts) (suc n) h = run_none ts n (omega (arith, h))
+
+nothing_there : {X : Type 0} (u : ℕ) (y : X) → slice_get [] u ≡ Some y → ⊥
+nothing_there u y e = absurd (cc)
 
 -- PLACES
 pub place_there : (ts : List Bool) (n before copied : ℕ) (is : List Instr) (v : ℕ) → v < length is → (m : ℕ) × (slice_get (places_from ts n before copied is) v ≡ Some m)
@@ -251,3 +264,118 @@ module _ {X : Type 0} (ts : List Bool) (one : ℕ → Instr → X) (more : ℕ �
 
   pub all_spread : (P : X → Type 0) (Q : Instr → Type 0) → ((n : ℕ) (i : Instr) → Q i → P (one n i)) → ((n : ℕ) (i : Instr) → All P (more n i)) → (is : List Instr) → All Q is → All P (spread_of ts one more 0 [] is)
   all_spread P Q f g is all = all_from P Q f g 0 [] is (All-nil P) all
+
+  -- WHERE SOMETHING COMES FROM
+  -- it stands for an instruction, from the n-th one on
+  pub record IsOne (n before copied : ℕ) (is : List Instr) (x : ℕ) (y : X) : Type 0 where
+    pub v : ℕ
+    pub i : Instr
+    pub m : ℕ
+    pub q : ℕ
+    pub there : slice_get is v ≡ Some i
+    pub place : slice_get (places_from ts n before copied is) v ≡ Some m
+    pub at : n + before + x ≡ m
+    pub nth : q ≡ n + v
+    pub what : one q i ≡ y
+
+  -- or for a copy of one
+  pub record IsMore (n before copied : ℕ) (is : List Instr) (x : ℕ) (y : X) : Type 0 where
+    pub v : ℕ
+    pub i : Instr
+    pub m : ℕ
+    pub q : ℕ
+    pub j : ℕ
+    pub there : slice_get is v ≡ Some i
+    pub base : slice_get (bases_from ts n copied is) v ≡ Some m
+    pub at : n + before + x ≡ m + j
+    pub nth : q ≡ n + v
+    pub what : slice_get (more q i) j ≡ Some y
+
+  -- or it waited
+  pub record HasWaited (n : ℕ) (waiting : List X) (x : ℕ) (y : X) : Type 0 where
+    pub u : ℕ
+    pub there : slice_get waiting u ≡ Some y
+    pub at : x ≡ run (drop n ts) + u
+
+  abbrev Comes : ℕ → ℕ → ℕ → List X → List Instr → ℕ → X → Type 0
+  Comes n before copied waiting is x y = IsOne n before copied is x y ⊎ (IsMore n before copied is x y ⊎ HasWaited n waiting x y)
+
+  one_later : (n before before' copied : ℕ) (i : Instr) (is : List Instr) (x x' : ℕ) (y : X) → n + 1 + before' + x' ≡ n + before + x
+      → (if is_tied ts n then before else copied + size i) ≡ before' → IsOne (n + 1) before' (copied + size i) is x' y → IsOne n before copied (i ∷ is) x y
+  one_later n before before' copied i is x x' y e f h = let a = h.at in let b = h.nth in record {
+    v = suc h.v;
+    i = h.i;
+    m = h.m;
+    q = h.q;
+    there = h.there;
+    place = ap (λ z. slice_get (places_from ts (n + 1) z (copied + size i) is) h.v) f ∙ h.place;
+    at = omega (arith, a, e);
+    nth = omega (arith, b);
+    what = h.what;
+  }
+
+  more_later : (n before before' copied : ℕ) (i : Instr) (is : List Instr) (x x' : ℕ) (y : X) → n + 1 + before' + x' ≡ n + before + x → IsMore (n + 1) before' (copied + size i) is x' y → IsMore n before copied (i ∷ is) x y
+  more_later n before before' copied i is x x' y e h = let a = h.at in let b = h.nth in record {
+    v = suc h.v;
+    i = h.i;
+    m = h.m;
+    q = h.q;
+    j = h.j;
+    there = h.there;
+    base = h.base;
+    at = omega (arith, a, e);
+    nth = omega (arith, b);
+    what = h.what;
+  }
+
+  -- what waits behind an instruction waited before it, or is a copy of it
+  waited_here : (n before copied : ℕ) (waiting : List X) (i : Instr) (is : List Instr) (x u : ℕ) (y : X) → before + length waiting ≡ copied → slice_get (waiting ++ more n i) u ≡ Some y → x ≡ run (drop n ts) + u
+      → Comes n before copied waiting (i ∷ is) x y
+  waited_here n before copied waiting i is x u y h e f = pick (get_split waiting (more n i) u y e)
+    where
+      pick : (slice_get waiting u ≡ Some y) ⊎ ((j : ℕ) × (u ≡ length waiting + j) × (slice_get (more n i) j ≡ Some y)) → Comes n before copied waiting (i ∷ is) x y
+      pick (inl g) = inr (inr (record { u = u; there = g; at = f }))
+      pick (inr (j, g, k)) = inr (inl (record { v = 0; i = i; m = n + run (drop n ts) + copied; q = n; j = j; there = refl; base = refl; at = omega (arith, h, f, g); nth = omega arith; what = k }))
+
+  comes_from : (n before copied : ℕ) (waiting : List X) (is : List Instr) (x : ℕ) (y : X) → before + length waiting ≡ copied → length ts ≡ n + length is
+      → slice_get (spread_of ts one more n waiting is) x ≡ Some y → Comes n before copied waiting is x y
+  comes_from n before copied waiting [] x y h all e = let r = run_none ts n (omega (arith, all)) in inr (inr (record { u = x; there = e; at = omega (arith, r) }))
+  comes_from n before copied waiting (i ∷ is) zero y h all e = let f : one n i ≡ y = cc in inl (record { v = 0; i = i; m = n + before; q = n; there = refl; place = refl; at = omega arith; nth = omega arith; what = f })
+  comes_from n before copied waiting (i ∷ is) (suc x) y h all e =
+      let k = length-append waiting (more n i) in let s = sized n i in
+      let len : length (waiting ++ more n i) ≡ length waiting + size i = omega (arith, k, s) in
+      let here : n < length ts = omega (arith, all) in
+      elim (is_tied ts n) as (λ t. is_tied ts n ≡ t → slice_get (next n waiting i is t) x ≡ Some y → Comes n before copied waiting (i ∷ is) (suc x) y) [
+        | true ↦ λ t e.
+            by_tied n before copied waiting i is x y h t here
+            (comes_from (n + 1) before (copied + size i) (waiting ++ more n i) is x y (omega (arith, h, len)) (omega (arith, all)) e)
+        | false ↦ λ t e.
+            by_free n before copied waiting i is x y h t here len (get_split (waiting ++ more n i) (spread_of ts one more (n + 1) [] is) x y e)
+            (λ x' e. comes_from (n + 1) (copied + size i) (copied + size i) [] is x' y (omega arith) (omega (arith, all)) e)
+      ] refl e
+    where
+      by_tied : (n before copied : ℕ) (waiting : List X) (i : Instr) (is : List Instr) (x : ℕ) (y : X) → before + length waiting ≡ copied → is_tied ts n ≡ true → n < length ts
+          → Comes (n + 1) before (copied + size i) (waiting ++ more n i) is x y → Comes n before copied waiting (i ∷ is) (suc x) y
+      by_tied n before copied waiting i is x y h t here (inl o) = inl (one_later n before before copied i is (suc x) x y (omega arith) (ap (λ (t : Bool). if t then before else copied + size i) t) o)
+      by_tied n before copied waiting i is x y h t here (inr (inl o)) = inr (inl (more_later n before before copied i is (suc x) x y (omega arith) o))
+      by_tied n before copied waiting i is x y h t here (inr (inr o)) =
+          let r = run_tied ts n here t in let a = o.at in waited_here n before copied waiting i is (suc x) o.u y h o.there (omega (arith, a, r))
+
+      by_free : (n before copied : ℕ) (waiting : List X) (i : Instr) (is : List Instr) (x : ℕ) (y : X) → before + length waiting ≡ copied → is_tied ts n ≡ false → n < length ts → length (waiting ++ more n i) ≡ length waiting + size i
+          → (slice_get (waiting ++ more n i) x ≡ Some y) ⊎ ((j : ℕ) × (x ≡ length (waiting ++ more n i) + j) × (slice_get (spread_of ts one more (n + 1) [] is) j ≡ Some y))
+          → ((x' : ℕ) → slice_get (spread_of ts one more (n + 1) [] is) x' ≡ Some y → Comes (n + 1) (copied + size i) (copied + size i) [] is x' y) → Comes n before copied waiting (i ∷ is) (suc x) y
+      by_free n before copied waiting i is x y h t here len (inl e) deeper = let r = run_free ts n here t in waited_here n before copied waiting i is (suc x) x y h e (omega (arith, r))
+      by_free n before copied waiting i is x y h t here len (inr (j, f, e)) deeper = pick (deeper j e)
+        where
+          pick : Comes (n + 1) (copied + size i) (copied + size i) [] is j y → Comes n before copied waiting (i ∷ is) (suc x) y
+          pick (inl o) = inl (one_later n before (copied + size i) copied i is (suc x) j y (omega (arith, f, len, h)) (ap (λ (t : Bool). if t then before else copied + size i) t) o)
+          pick (inr (inl o)) = inr (inl (more_later n before (copied + size i) copied i is (suc x) j y (omega (arith, f, len, h)) o))
+          pick (inr (inr o)) = absurd (nothing_there o.u y o.there)
+
+  pub comes : (is : List Instr) (x : ℕ) (y : X) → length ts ≡ length is → slice_get (spread_of ts one more 0 [] is) x ≡ Some y → IsOne 0 0 0 is x y ⊎ IsMore 0 0 0 is x y
+  comes is x y all e = pick (comes_from 0 0 0 [] is x y (omega arith) (omega (arith, all)) e)
+    where
+      pick : Comes 0 0 0 [] is x y → IsOne 0 0 0 is x y ⊎ IsMore 0 0 0 is x y
+      pick (inl o) = inl o
+      pick (inr (inl o)) = inr o
+      pick (inr (inr o)) = absurd (nothing_there o.u y o.there)

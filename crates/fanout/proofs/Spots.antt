@@ -10,7 +10,7 @@ use Rattle.fanout.specs.Rows.{is_tied}
 use Rattle.fanout.specs.Places.{Layout, size, places_from, bases_from, layout_with, place_of, base_of}
 use Rattle.fanout.specs.Trees.{copy_at, tree, moved, copies_of}
 use Rattle.fanout.specs.Narrowed.{spread_of, spread}
-use Rattle.fanout.proofs.Positions.{get_left, get_right, place_there, base_there, place_base, place_past, place_order, one_at, more_at}
+use Rattle.fanout.proofs.Positions.{get_left, get_right, place_there, base_there, place_base, place_past, place_order, one_at, more_at, IsOne, IsMore, comes}
 
 -- LISTS OF SO MANY
 abbrev pub counted : {X : Type 0} → (ℕ → X) → ℕ → List X
@@ -134,3 +134,38 @@ module _ (ts : List Bool) (is : List Instr) (all : length ts ≡ length is) wher
 
   pub in_order : (n m : ℕ) (i j : Instr) → slice_get is n ≡ Some i → slice_get is m ≡ Some j → n < m → place_of l n < place_of l m
   in_order n m i j at to h = place_order ts 0 0 0 is n m (place_of l n) (place_of l m) (omega arith) (place_is n i at) (place_is m j to) h
+
+  -- WHERE AN INSTRUCTION COMES FROM
+  -- it is one of the old ones in its place, or a copy
+  pub record IsMoved (x : ℕ) (y : Instr) : Type 0 where
+    pub v : ℕ
+    pub i : Instr
+    pub there : slice_get is v ≡ Some i
+    pub at : x ≡ place_of l v
+    pub what : moved l v i ≡ y
+
+  pub record IsCopied (x : ℕ) (y : Instr) : Type 0 where
+    pub v : ℕ
+    pub i : Instr
+    pub j : ℕ
+    pub there : slice_get is v ≡ Some i
+    pub at : x ≡ base_of l v + j
+    pub what : slice_get (copies_of l v i) j ≡ Some y
+
+  pub comes_here : (x : ℕ) (y : Instr) → slice_get (spread l 0 [] is) x ≡ Some y → IsMoved x y ⊎ IsCopied x y
+  comes_here x y e = pick (comes ts (moved l) (copies_of l) (sized l) is x y all e)
+    where
+      some : (a d : ℕ) → Some a ≡ Some d → a ≡ d
+      some a d e = cc
+
+      pick : IsOne ts (moved l) (copies_of l) (sized l) 0 0 0 is x y ⊎ IsMore ts (moved l) (copies_of l) (sized l) 0 0 0 is x y → IsMoved x y ⊎ IsCopied x y
+      pick (inl o) =
+          let z : o.q ≡ o.v = (let a = o.nth in omega (arith, a)) in
+          let m = some (place_of l o.v) o.m (sym (place_is o.v o.i o.there) ∙ o.place) in
+          let a = o.at in
+          inl (record { v = o.v; i = o.i; there = o.there; at = omega (arith, a, m); what = ap (λ q. moved l q o.i) (sym z) ∙ o.what })
+      pick (inr o) =
+          let z : o.q ≡ o.v = (let a = o.nth in omega (arith, a)) in
+          let m = some (base_of l o.v) o.m (sym (base_is o.v o.i o.there) ∙ o.base) in
+          let a = o.at in
+          inr (record { v = o.v; i = o.i; j = o.j; there = o.there; at = omega (arith, a, m); what = ap (λ q. slice_get (copies_of l q o.i) o.j) (sym z) ∙ o.what })

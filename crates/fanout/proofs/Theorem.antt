@@ -26,7 +26,7 @@ use Rattle.fanout.proofs.Positions.{all_spread}
 use Rattle.std.proofs.lemmas.List.{length-replicate}
 use Rattle.fanout.proofs.Keeps.{still_code}
 
-get_map : {X Y : Type 0} (f : X → Y) (xs : List X) (i : ℕ) (y : Y) → slice_get (map f xs) i ≡ Some y → (x : X) × (slice_get xs i ≡ Some x) × (f x ≡ y)
+pub get_map : {X Y : Type 0} (f : X → Y) (xs : List X) (i : ℕ) (y : Y) → slice_get (map f xs) i ≡ Some y → (x : X) × (slice_get xs i ≡ Some x) × (f x ≡ y)
 get_map f [] i y e = absurd (cc)
 get_map f (x ∷ xs) zero y e = (x, refl, cc)
 get_map f (x ∷ xs) (suc i) y e = get_map f xs i y e
@@ -96,11 +96,11 @@ none_of : (n : ℕ) → All IsNone (replicate n Unmarked)
 none_of zero = All-nil IsNone
 none_of (suc n) = All-cons IsNone Unmarked (replicate n Unmarked) refl (none_of n)
 
-one_mark : (o : Option Mark) → unwrap_or o Unmarked ≡ elim o as (λ x. Mark) [ None ↦ Unmarked | Some m ↦ m ]
+pub one_mark : (o : Option Mark) → unwrap_or o Unmarked ≡ elim o as (λ x. Mark) [ None ↦ Unmarked | Some m ↦ m ]
 one_mark None = refl
 one_mark (Some m) = refl
 
-same_mark : (o : Option (List Mark)) (n : ℕ) → mark_of (unwrap_or o []) n ≡ mark_in o n
+pub same_mark : (o : Option (List Mark)) (n : ℕ) → mark_of (unwrap_or o []) n ≡ mark_in o n
 same_mark None n = refl
 same_mark (Some ms) n = one_mark (slice_get ms n)
 

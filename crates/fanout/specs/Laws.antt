@@ -1,12 +1,16 @@
 -- What a plan keeps when it is narrowed.
-use Rattle.std.specs.Prelude.{◌≡◌, ℕ, Bool, true, false, All, length}
+use Rattle.std.specs.Prelude.{◌≡◌, ◌≢◌, ℕ, ◌≤◌, Bool, true, false, List, All, length, Some, slice_get, ⊤}
+use Rattle.tags.specs.declared.token.Port.TheVariants.{Left}
+use Rattle.semantics.specs.declared.program.Dest.{Dest}
+use Rattle.semantics.specs.Bytes.{HasDests}
 use Rattle.semantics.specs.Graph.{Graph, Flow, flow_of}
 use Rattle.semantics.specs.WellFormed.{WellFormed}
 use Rattle.semantics.specs.declared.program.Op.{Op}
-use Rattle.semantics.specs.declared.program.Op.TheVariants.{Link}
+use Rattle.semantics.specs.declared.program.Op.TheVariants.{Link, Switch}
 use Rattle.semantics.specs.declared.program.Mark.TheVariants.{Unmarked}
 use Rattle.semantics.specs.Program.{Instr, CodeBlock, Program}
-use Rattle.semantics.specs.Plan.{Plan, HasShape, mark_at}
+use Rattle.semantics.specs.Plan.{Plan, HasShape, mark_at, IsPlan}
+use Rattle.semantics.specs.Wired.{StandsAt, LoopsAgree}
 use Rattle.semantics.specs.Orderly.{Orderly}
 use Rattle.semantics.specs.Faithful.{Faithful}
 use Rattle.lowering.specs.Implements.{IsStraight, Implements}
@@ -28,6 +32,13 @@ IsPlainCode c = All IsPlain c.instrs
 abbrev pub IsPlainProgram : Program → Type 0
 IsPlainProgram p = All IsPlainCode p.blocks
 
+-- Nothing but a switch is marked.
+abbrev pub MarksSwitches : Plan → Type 0
+MarksSwitches p = (b n : ℕ) (c : CodeBlock) (i : Instr) → slice_get p.program.blocks b ≡ Some c → StandsAt c n i → mark_at p b n ≢ Unmarked → i.op ≡ Switch
+
+abbrev pub AllLoops : Plan → Type 0
+AllLoops p = (b : ℕ) (c : CodeBlock) → slice_get p.program.blocks b ≡ Some c → LoopsAgree c
+
 -- CODE OF A GRAPH. What implements a graph still does, its copies being parts of it.
 abbrev pub StillImplements : Type 0
 StillImplements = (fl : Flow) (p : Plan) → IsPlainProgram p.program → Implements fl p.program → Implements fl (narrowed p).program
@@ -43,3 +54,34 @@ StraightIsFaithful = (g : Graph) (p : Plan) → WellFormed g → IsStraightLine 
 -- and its runs are orderly.
 abbrev pub StraightIsOrderly : Type 0
 StraightIsOrderly = (fl : Flow) (p : Plan) → IsStraight fl → p.program ≡ straight_program fl → ((b n : ℕ) → mark_at p b n ≡ Unmarked) → Orderly (narrowed p)
+
+-- ANY PLAN stays a plan: its shapes, its holders, and its marks at switches and nowhere else.
+abbrev pub StaysPlan : Type 0
+StaysPlan = (p : Plan) → IsPlan p → IsPlan (narrowed p)
+
+abbrev pub MarksStay : Type 0
+MarksStay = (p : Plan) → MarksSwitches p → MarksSwitches (narrowed p)
+
+-- The instructions of a loop stay one of a kind, with one bound.
+abbrev pub LoopsStay : Type 0
+LoopsStay = (p : Plan) → AllLoops p → AllLoops (narrowed p)
+
+-- FEW DESTINATIONS
+-- what holds of each instruction
+abbrev pub AllInstrs : (Instr → Type 0) → Program → Type 0
+AllInstrs P p = All (λ (c : CodeBlock). All P c.instrs) p.blocks
+
+abbrev pub HasFew : Instr → Type 0
+HasFew i = (length i.firsts ≤ 1) × (length i.seconds ≤ 1)
+
+-- An instruction that is answered is answered at one place, and a landing begins at a left port.
+abbrev pub LandsLeft : Op → List Dest → Type 0
+LandsLeft (Link b) ds = All (λ (d : Dest). d.port ≡ Left) ds
+LandsLeft op ds = ⊤
+
+abbrev pub IsShaped : Instr → Type 0
+IsShaped i = HasShape i.op (length i.firsts) (length i.seconds) × LandsLeft i.op i.firsts
+
+-- It has as many destinations as its kind has in an object.
+abbrev pub HasItsDests : Instr → Type 0
+HasItsDests i = HasDests i.op i.firsts i.seconds

@@ -7,16 +7,29 @@
 
 ghost use Rattle.std.specs.Prelude.{◌≡◌, IfOk};
 ghost use Rattle.fanout.specs.Narrowed.{narrowed};
+ghost use Rattle.fanout.specs.Laws.{AllInstrs, HasFew, IsShaped, HasItsDests, StillImplements, StraightImplements, StraightIsFaithful, StraightIsOrderly};
 
 mod blocks;
 mod layout;
 mod rows;
 mod sides;
 mod trees;
+#[cfg(test)]
+mod tests;
 
 use blocks::narrow_block;
 use code::{Plan, Program};
 use std::alloc::{AllocError, Allocator};
+
+/// What implements a graph still does when it is narrowed. So the narrowed plan of a straight graph's program implements
+/// the graph and is faithful to it; and if it has no marks, its runs are orderly.
+pub fn narrowed_code_is_faithful()
+    ensures still { StillImplements }
+    ensures straight { StraightImplements }
+    ensures faithful { StraightIsFaithful }
+    ensures orderly { StraightIsOrderly }
+{
+}
 
 /// The plan with trees of copies for destinations. Each instruction keeps its slot and its mark.
 ///
@@ -28,6 +41,8 @@ use std::alloc::{AllocError, Allocator};
 /// It fails where a growth is refused, or where a destination would be 2^32 instructions ahead.
 pub fn narrow<A: Allocator + Clone>(alloc: A, plan: &Plan<A>) -> Result<Plan<A>, AllocError>
     ensures exact { IfOk result (λ p. p ≡ narrowed plan.now) }
+    ensures few { IfOk result (λ p. AllInstrs HasFew p.program) }
+    ensures dests { IfOk result (λ p. AllInstrs IsShaped plan.now.program → AllInstrs HasItsDests p.program) }
 {
     let mut blocks = Vec::with_capacity(alloc.clone()?, plan.program.blocks.len())?;
     let mut marks = Vec::with_capacity(alloc.clone()?, plan.program.blocks.len())?;
