@@ -1,0 +1,115 @@
+-- What the compiler makes of a straight graph.
+use Rattle.std.proofs.Common.{◌≡◌, refl, sym, ap, ◌∙◌, subst, ℕ, ◌≤◌, List, length, sum, Option, Some, None, arith}
+use Rattle.std.specs.Prelude.{slice_get, All, option_map}
+use Rattle.std.proofs.lemmas.List.{length-map}
+use Rattle.std.proofs.lemmas.Option.{slice_get-map}
+use Rattle.std.proofs.lemmas.List.Elements.{All-map, All-weaker}
+use Rattle.tags.specs.declared.value.Origin.TheVariants.{Untold}
+use Rattle.semantics.specs.Graph.{Graph, Block, Flow, flow_of, resolved_block, array_names, block_names}
+use Rattle.semantics.specs.Program.{Instr, CodeBlock, Program}
+use Rattle.semantics.specs.Text.{IsName}
+use Rattle.semantics.specs.Plan.{Plan}
+use Rattle.semantics.specs.Sharing.{Good}
+use Rattle.semantics.specs.Placed.{placed}
+use Rattle.semantics.specs.Faithful.{Faithful}
+use Rattle.semantics.specs.Orderly as Orderly
+use Rattle.semantics.specs.Orderly.{Orderly}
+use Rattle.fanout.specs.Narrowed.{narrowed, narrowed_block}
+use Rattle.fanout.proofs.Theorem.{narrow_is_faithful, narrow_is_orderly, narrow_none}
+use Rattle.reuse.specs.Theorem.{TakesInputs}
+use Rattle.reuse.proofs.Straight.{shared_slots_are_faithful}
+use Rattle.emitted.specs.SameRuns.{HasOrigins}
+use Rattle.emitted.proofs.Laws.{emitted_faithful}
+use Rattle.select.specs.declared.Version.{Version}
+use Rattle.select.specs.declared.Version.TheVariants.{One, Two}
+use Rattle.select.specs.Emitted.{version_number}
+use Rattle.select.specs.Emittable.{IsEmittable}
+use Rattle.composition.specs.Straight.{IsStraightGraph, IsStraightPlan}
+use Rattle.composition.specs.Theorem.{PlanIsStraight, PlanIsLined, NarrowedIsLined, CompiledIsEmittable, CompiledIsFaithful}
+use Rattle.composition.proofs.Lines.{IsLineBlock, HasFew, all_of, map_back, block_emittable}
+use Rattle.composition.proofs.Narrow.{narrow_lines, narrow_few}
+use Rattle.composition.proofs.Blocks.{IsLinePlan, line_plan, line_wired, line_frames, line_lined, flat, straight_plan_lines, straight_takes, program_length}
+
+pub plan_is_straight : PlanIsStraight
+plan_is_straight g = record { program = refl; unmarked = λ b n. refl }
+
+pub plan_is_lined : PlanIsLined
+plan_is_lined g p straight plan = line_lined g.version p (straight_plan_lines g p straight plan) g (straight_takes g p straight plan)
+
+resolved : Graph → List ℕ × Block (List ℕ) → Block ℕ
+resolved g named = resolved_block (array_names g) (block_names g) named.1
+
+inputs_kept : (p : Plan) (o : Option CodeBlock) → Orderly.inputs_in (option_map (narrowed_block p) o) ≡ Orderly.inputs_in o
+inputs_kept p None = refl
+inputs_kept p (Some c) = refl
+
+module _ (g : Graph) (p : Plan) (straight : IsStraightGraph g) (plan : IsStraightPlan g p) where
+  abbrev fl : Flow
+  fl = flow_of g
+
+  old : IsLinePlan g.version p
+  old = straight_plan_lines g p straight plan
+
+  few : (k : ℕ) (c : CodeBlock) → slice_get (narrowed p).program.blocks k ≡ Some c → HasFew c
+  few k c e =
+      let r = map_back (narrowed_block p) p.program.blocks k c e in
+      subst HasFew r.2 (narrow_few g.version p r.0 (old.blocks k r.0 r.1))
+
+  lines : IsLinePlan g.version (narrowed p)
+  lines = record {
+    blocks = λ k c e.
+        let r = map_back (narrowed_block p) p.program.blocks k c e in
+        subst (IsLineBlock g.version) r.2 (narrow_lines g.version p r.0 (old.blocks k r.0 r.1));
+    unmarked = narrow_none p plan.unmarked;
+  }
+
+  takes : TakesInputs fl (narrowed p)
+  takes = ap Orderly.inputs_in (slice_get-map (narrowed_block p) p.program.blocks p.program.main) ∙ inputs_kept p (slice_get p.program.blocks p.program.main) ∙ straight_takes g p straight plan
+
+  -- AN OBJECT
+  block_count : length (narrowed p).program.blocks ≡ length g.blocks
+  block_count = length-map p.program.blocks (narrowed_block p) ∙ program_length g p straight plan
+
+  arrays_same : (narrowed p).program.arrays ≡ fl.arrays
+  arrays_same = ap (λ (q : Program). q.arrays) plan.program
+
+  main_same : (narrowed p).program.main ≡ fl.main
+  main_same = ap (λ (q : Program). q.main) plan.program
+
+  emittable : (slots : List (List ℕ)) → Good (narrowed p) slots → IsEmittable (narrowed p) slots
+  unfolding resolved
+  emittable slots good =
+      let n = block_count in
+      let m = (flat g p straight plan).main in let k = length-map g.blocks (resolved g) in
+      let most = straight.text.few_blocks in
+      let main = main_same in
+      record {
+        some_block = (omega (arith, n, m, k), omega (arith, n, most));
+        main = omega (arith, main, n, m, k);
+        few_arrays = let e = ap length arrays_same in let f = length-map g.arrays (λ (a : List ℕ × ℕ). a.1) in let t = straight.text.few_arrays in omega (arith, e, f, t);
+        arrays = subst (All (λ n. (1 ≤ n) × (n ≤ 65536))) (sym arrays_same)
+            (All-map (λ n. (1 ≤ n) × (n ≤ 65536)) (λ (a : List ℕ × ℕ). a.1) g.arrays (All-weaker (λ (a : List ℕ × ℕ). IsName a.0 × (1 ≤ a.1) × (a.1 ≤ 65536)) (λ (a : List ℕ × ℕ). (1 ≤ a.1) × (a.1 ≤ 65536)) (λ a h. (h.1, h.2)) g.arrays straight.text.arrays));
+        cells = let e = ap sum arrays_same in let t = straight.text.cells in omega (arith, e, t);
+        all = good.all;
+        blocks = λ b c ss at to. let h = good.blocks b c ss at to in block_emittable g.version c (lines.blocks b c at) (narrowed p).program ss h.all h.below (few b c at);
+      }
+
+  -- FAITHFUL CODE
+  origins : (version : Version) → version_number version ≡ g.version → HasOrigins version (narrowed p)
+  origins One e = all_of (λ (c : CodeBlock). All (λ (i : Instr). i.origin ≡ Untold) c.instrs) (narrowed p).program.blocks
+      (λ k c at. all_of (λ (i : Instr). i.origin ≡ Untold) c.instrs (λ n i to. ((lines.blocks k c at).lines n i to).told (sym e)))
+  origins Two e = tt
+
+  faithful : (slots : List (List ℕ)) → Good (narrowed p) slots → Faithful fl (placed (narrowed p) slots)
+  faithful slots good = shared_slots_are_faithful fl (narrowed p) slots (narrow_is_faithful g p straight.well straight.line plan.program)
+      (narrow_is_orderly fl p (flat g p straight plan) plan.program plan.unmarked) (line_wired g.version (narrowed p) lines) good takes (line_frames g.version (narrowed p) lines)
+
+pub narrowed_is_lined : NarrowedIsLined
+narrowed_is_lined g p straight plan = line_lined g.version (narrowed p) (lines g p straight plan) g (takes g p straight plan)
+
+pub compiled_is_emittable : CompiledIsEmittable
+compiled_is_emittable g p slots straight plan good = emittable g p straight plan slots good
+
+pub compiled_is_faithful : CompiledIsFaithful
+compiled_is_faithful g p slots version straight plan good same =
+    emitted_faithful (flow_of g) (narrowed p) slots version (line_plan g.version (narrowed p) (lines g p straight plan)) (origins g p straight plan version same) (faithful g p straight plan slots good)

@@ -1,0 +1,42 @@
+-- What the compiler makes of a straight graph: faithful code that has an object.
+use Rattle.std.specs.Prelude.{◌≡◌, ℕ, List}
+use Rattle.semantics.specs.declared.program.Mark.TheVariants.{Unmarked}
+use Rattle.semantics.specs.Graph.{Graph, flow_of}
+use Rattle.semantics.specs.Plan.{Plan, mark_at}
+use Rattle.semantics.specs.Wired.{IsWired}
+use Rattle.semantics.specs.Sharing.{Good}
+use Rattle.semantics.specs.Faithful.{Faithful}
+use Rattle.fanout.specs.Narrowed.{narrowed}
+use Rattle.reuse.specs.Theorem.{TakesInputs, AsksForNoFrame}
+use Rattle.select.specs.declared.Version.{Version}
+use Rattle.select.specs.Emitted.{version_number, code_of}
+use Rattle.select.specs.Emittable.{IsEmittable}
+use Rattle.composition.specs.Straight.{IsStraightGraph, IsStraightPlan, straight_plan}
+
+-- A straight graph has such a plan.
+abbrev pub PlanIsStraight : Type 0
+PlanIsStraight = (g : Graph) → IsStraightPlan g (straight_plan g)
+
+-- What holds of a plan without conditionals, calls and loops: its arcs, holders and marks keep to the rules of plans, main
+-- has the graph's inputs, nothing asks for a frame, and nothing is marked.
+pub record IsStraightLined (g : Graph) (p : Plan) : Type 0 where
+  pub wired : IsWired p
+  pub inputs : TakesInputs (flow_of g) p
+  pub frames : AsksForNoFrame p.program
+  pub unmarked : (b n : ℕ) → mark_at p b n ≡ Unmarked
+
+abbrev pub PlanIsLined : Type 0
+PlanIsLined = (g : Graph) (p : Plan) → IsStraightGraph g → IsStraightPlan g p → IsStraightLined g p
+
+-- So does the plan in which trees of copies stand for more than two destinations.
+abbrev pub NarrowedIsLined : Type 0
+NarrowedIsLined = (g : Graph) (p : Plan) → IsStraightGraph g → IsStraightPlan g p → IsStraightLined g (narrowed p)
+
+-- With any good slots that plan has an object, where its blocks and its table of literals are not too large.
+abbrev pub CompiledIsEmittable : Type 0
+CompiledIsEmittable = (g : Graph) (p : Plan) (slots : List (List ℕ)) → IsStraightGraph g → IsStraightPlan g p → Good (narrowed p) slots → IsEmittable (narrowed p) slots
+
+-- And the code that the object holds, in the graph's version, is faithful to the graph.
+abbrev pub CompiledIsFaithful : Type 0
+CompiledIsFaithful = (g : Graph) (p : Plan) (slots : List (List ℕ)) (version : Version) → IsStraightGraph g → IsStraightPlan g p → Good (narrowed p) slots
+    → version_number version ≡ g.version → Faithful (flow_of g) (code_of version (narrowed p) slots)
