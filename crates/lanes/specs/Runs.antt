@@ -1,0 +1,86 @@
+-- What a run does.
+use Rattle.std.specs.Prelude.{◌≡◌, ℕ, zero, suc, ◌+◌, ◌-◌, ◌<◌, Bool, true, false, ◌⊎◌, ℤ, List, [], ◌∷◌, ◌++◌, length, Option, Some, None, ◌==◌, count_by}
+use Rattle.tags.specs.declared.token.Token.{Token}
+use Rattle.semantics.specs.Machine.{Machine, Events, Run, at_start}
+use Rattle.element.specs.declared.lane.Stepped.{Stepped}
+use Rattle.element.specs.declared.lane.Stepped.TheVariants as stepped
+use Rattle.element.specs.Held.{Held}
+use Rattle.lanes.specs.declared.halt.Halt.{Halt}
+use Rattle.lanes.specs.Setting.{size}
+use Rattle.lanes.specs.State.{State, AllFrom, tokens_in, Stands}
+use Rattle.lanes.specs.Steps.{Steps, IsClash, IsUsedUp, IsStuckAt}
+
+-- the machine and what happened so far
+pub record Kept : Type 0 where
+  pub state : State
+  pub events : Events
+
+-- The events lead from the start on these inputs to a machine that the lanes are the parts of, and each element has made
+-- its own.
+pub record Began (inputs : List ℤ) (s : State) (evs : Events) : Type 0 where
+  pub machine : Machine
+  pub run : Run s.setting.program (size s.setting) (at_start s.setting.program inputs) evs machine
+  pub stands : Stands s machine
+  pub counts : AllFrom (λ (i : ℕ) (h : Held). h.made ≡ count_by (λ (ev : ℕ × Token). ev.0 == i) evs) 0 s.lanes
+
+abbrev pub HasToken : State → Type 0
+HasToken s = 0 < length (tokens_in s.lanes)
+
+-- Whether a run halts after an answer. Where no token is left it halts at the next element that has none. Where an
+-- element has made all its events, a run over a list goes on, and another halts.
+abbrev pub IsHalt : Bool → Option Stepped → State → Option Halt → Type 0
+IsHalt true None s halt = halt ≡ None
+IsHalt false None s halt = halt ≡ Some Halt.Steps
+IsHalt listed (Some stepped.Did) s halt = halt ≡ None
+IsHalt listed (Some stepped.Idle) s halt = (HasToken s × (halt ≡ None)) ⊎ ((tokens_in s.lanes ≡ []) × (halt ≡ Some Halt.NoToken))
+IsHalt listed (Some (stepped.Clash cell)) s halt = halt ≡ Some (Halt.Clash cell)
+IsHalt listed (Some (stepped.Stuck rule)) s halt = halt ≡ Some (Halt.Stuck rule)
+IsHalt listed (Some stepped.Memory) s halt = halt ≡ Some Halt.Memory
+
+-- one step, and whether the run halts there
+pub record Advances (listed : Bool) (old : State) (e pick : ℕ) (new : State) (evs : Events) (halt : Option Halt) : Type 0 where
+  pub answer : Option Stepped
+  pub step : Steps old e pick answer new evs
+  pub halts : IsHalt listed answer new halt
+
+-- where no pick is left
+abbrev pub EndsLeft : State → Halt → Type 0
+EndsLeft s halt = ((tokens_in s.lanes ≡ []) × (halt ≡ Halt.NoToken)) ⊎ (HasToken s × (halt ≡ Halt.Steps))
+
+-- what comes of the rest of a run
+abbrev pub Then : Option Halt → State → State → Halt → Events → Type 0 → Type 0
+Then None s last halt later rest = rest
+Then (Some why) s last halt later rest = (last ≡ s) × (halt ≡ why) × (later ≡ [])
+
+-- One step for each entry of a list of elements and picks, in order, up to the halt, with the events that it makes.
+abbrev pub Plays : Bool → List (ℕ × ℕ) → State → State → Halt → Events → Type 0
+Plays listed [] s last halt evs = (listed ≡ true) × (last ≡ s) × (evs ≡ []) × EndsLeft s halt
+Plays listed (p ∷ picks) s last halt evs =
+    (next : State) × (now : Events) × (later : Events) × (why : Option Halt) × Advances listed s p.0 p.1 next now why × (evs ≡ now ++ later)
+    × Then why next last halt later (Plays listed picks next last halt later)
+
+-- the oldest token of each of so many elements from the k-th on
+abbrev pub in_turn : ℕ → ℕ → List (ℕ × ℕ)
+in_turn k zero = []
+in_turn k (suc n) = (k, 0) ∷ in_turn (suc k) n
+
+-- that again and again
+abbrev pub rounds_of : ℕ → ℕ → List (ℕ × ℕ)
+rounds_of zero n = []
+rounds_of (suc r) n = in_turn 0 n ++ rounds_of r n
+
+-- how many events lanes may still make
+abbrev pub left_in : ℕ → List Held → ℕ
+left_in steps [] = 0
+left_in steps (h ∷ hs) = (steps - h.made) + left_in steps hs
+
+abbrev pub left_over : State → ℕ
+left_over s = left_in s.setting.steps s.lanes
+
+-- why a run halts here
+abbrev pub HaltsAs : State → Bool → Halt → Type 0
+HaltsAs s listed Halt.NoToken = tokens_in s.lanes ≡ []
+HaltsAs s listed (Halt.Clash cell) = (e : ℕ) × (pick : ℕ) × IsClash s e pick cell
+HaltsAs s listed Halt.Steps = ((e : ℕ) × IsUsedUp s e) ⊎ ((listed ≡ true) × HasToken s)
+HaltsAs s listed (Halt.Stuck rule) = (e : ℕ) × (pick : ℕ) × IsStuckAt s e pick rule
+HaltsAs s listed Halt.Memory = Unit {0}

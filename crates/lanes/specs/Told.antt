@@ -1,0 +1,53 @@
+-- What a report tells of lanes.
+use Rattle.std.specs.Prelude.{◌≡◌, ℕ, zero, suc, ◌*◌, ◌/◌, ◌%◌, List, [], ◌∷◌, ◌++◌, length, Option, Some, None, slice_get, slice_index_or}
+use Rattle.tags.specs.declared.value.Value.{Value}
+use Rattle.tags.specs.declared.slot.SlotState.{SlotState}
+use Rattle.tags.specs.declared.slot.SlotState.TheVariants.{Empty}
+use Rattle.semantics.specs.Report.{sum_below, waiters}
+use Rattle.istructure.specs.OwnCells.{value_at, cell_at, readers_in}
+use Rattle.frame_manager.specs.Managed.{Managed}
+use Rattle.frame_manager.specs.Flags.{out_count}
+use Rattle.element.specs.Parts.{slot_place}
+use Rattle.element.specs.Held.{Held}
+
+abbrev pub value_of : ℕ → Option Held → Option Value
+value_of x None = None
+value_of x (Some h) = value_at h.part.cells x
+
+abbrev pub readers_of : ℕ → Option Held → ℕ
+readers_of x None = 0
+readers_of x (Some h) = readers_in (cell_at h.part.cells x)
+
+-- cell x and frame f lie on element x mod n and f mod n
+abbrev pub cell_value : ℕ → List Held → ℕ → Option Value
+cell_value n lanes x = value_of x (slice_get lanes (x % n))
+
+abbrev pub cell_readers : ℕ → List Held → ℕ → ℕ
+cell_readers n lanes x = readers_of x (slice_get lanes (x % n))
+
+abbrev pub entry : ℕ → Option Value → List (ℕ × Value)
+entry x None = []
+entry x (Some v) = (x, v) ∷ []
+
+-- the full ones of the first k cells
+abbrev pub full_below : ℕ → List Held → ℕ → List (ℕ × Value)
+full_below n lanes zero = []
+full_below n lanes (suc k) = full_below n lanes k ++ entry k (cell_value n lanes k)
+
+abbrev pub slot_of_lane : ℕ → ℕ → Option Held → SlotState
+slot_of_lane f r None = Empty
+slot_of_lane f r (Some h) = slice_index_or h.part.states (slot_place h.part.shape f r) Empty
+
+abbrev pub slot_at : ℕ → List Held → ℕ → ℕ → SlotState
+slot_at n lanes f r = slot_of_lane f r (slice_get lanes (f % n))
+
+abbrev pub credits_below : ℕ → List Held → ℕ → ℕ → ℕ
+credits_below n lanes width f = sum_below width (λ r. waiters (slot_at n lanes f r))
+
+abbrev pub requests_in : Option Managed → ℕ
+requests_in None = 0
+requests_in (Some m) = length m.requests
+
+abbrev pub out_in : Option Managed → ℕ
+out_in None = 0
+out_in (Some m) = out_count m.out

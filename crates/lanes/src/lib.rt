@@ -1,0 +1,14 @@
+//! The machine that runs code for the explicit token store: up to 16 elements on one thread, one token an event, in any
+//! order that the caller picks.
+#![tactic(auto)]
+
+pub mod config;
+mod counting;
+mod delivery;
+mod elements;
+pub mod halt;
+mod log;
+pub mod machine;
+pub mod main_code;
+mod opening;
+pub mod report;

@@ -1,0 +1,251 @@
+//! The machine: its start, its steps, and its runs.
+
+ghost use Rattle.std.specs.Prelude.{◌≡◌, ℕ, ℤ, List, true, false, ◌<◌, ◌≤◌, ◌^◌, ◌↔◌, ◌∷◌, ◌++◌, [], length, map, All, IfOk, OnOk, MatchResult, IsTrue};
+ghost use Rattle.semantics.specs.Machine.{Events};
+ghost use Rattle.element.specs.Held.{held_of};
+ghost use Rattle.lanes.specs.Setting.{inputs_of};
+ghost use Rattle.lanes.specs.State.{AllFrom, IsAt, delivered};
+ghost use Rattle.lanes.specs.Starts.{IsGood, IsCause, Opens, setting_of, start_tokens};
+ghost use Rattle.lanes.specs.Steps.{Steps};
+ghost use Rattle.lanes.specs.Runs.{Kept, Began, Plays, HaltsAs, rounds_of};
+
+use crate::config::{Config, StartFault};
+use crate::delivery::receive;
+use crate::elements::Elements;
+use crate::halt::Halt;
+use crate::log::NoLog;
+use crate::main_code::MainCode;
+use crate::opening::fresh_lanes;
+use element::lane::{Lane, Stepped};
+use frame_store::store::Store;
+use std::alloc::{AllocError, Allocator};
+use std::marker::Model;
+use tags::token::{Cont, Port, To, Token, Word};
+use tags::value::Value;
+
+/// A machine that runs code. Contracts see what its lanes hold, each token where it is addressed to, and its events.
+#[derive(Drop)]
+pub struct Machine<'m, C: MainCode, A: Allocator> {
+    elements: Elements<'m, C, A>,
+    events: Vec<(u32, Token), A>,
+    alloc: A,
+}
+
+impl<'m, C: MainCode, A: Allocator> Model for Machine<'m, C, A> {
+    ghost use Rattle.lanes.specs.State.{state_of, IsWell};
+    ghost use Rattle.lanes.specs.Runs.{Kept};
+
+    ghost Value = { Kept };
+
+    ghost view = { λ m. record { state = state_of C.program C.width m.elements; events = m.events.items } };
+
+    ghost invariant = { λ m. IsWell C.program C.width m.elements };
+}
+
+fn has_good_numbers(config: &Config) -> bool
+    ensures { IsTrue result ↔ IsGood config.now }
+{
+    1 <= config.elements
+        && config.elements <= 16
+        && config.frames <= 1024
+        && config.steps <= 4_294_967_296
+        && 1 <= config.turn
+        && config.turn <= 65_536
+}
+
+// Gives the lanes the tokens at the start.
+fn give_inputs<A: Allocator>(
+    lanes: &mut Vec<Lane<'_, A>, A>,
+    elements: u32,
+    first: u32,
+    inputs: &[i64],
+) -> Result<(), AllocError>
+    requires some { 0 < elements }
+    requires count { length lanes.old.items ≡ elements }
+    requires at { AllFrom (IsAt elements) 0 (map held_of lanes.old.items) }
+    requires short { first < 2 ^ 30 }
+    requires few { length inputs.now ≤ 16 }
+    ensures ok { OnOk result (map held_of lanes.new.items ≡ delivered (start_tokens first inputs.now) (map held_of lanes.old.items)) }
+    ensures count { length lanes.new.items ≡ length lanes.old.items }
+{
+    receive(
+        lanes,
+        elements,
+        Token {
+            to: To::Instr {
+                frame: 0,
+                ip: first,
+                port: Port::Left,
+            },
+            word: Word::Back(Cont::Host { port: 0 }),
+        },
+    )?;
+    let mut ip = first;
+    for input in inputs {
+        ip += 1;
+        let token = Token {
+            to: To::Instr {
+                frame: 0,
+                ip,
+                port: Port::Left,
+            },
+            word: Word::Val(Value::Int(*input)),
+        };
+        receive(lanes, elements, token)?;
+    }
+    Ok(())
+}
+
+// The machine before its first event, over a store that it makes.
+fn open<'m, C: MainCode, A: Allocator>(
+    alloc: A,
+    store: &'m mut Option<Store<A>>,
+    code: &'m C,
+    inputs: &[i64],
+    config: &Config,
+) -> Result<Machine<'m, C, A>, AllocError>
+where
+    A: Clone,
+    requires good { IsGood config.now }
+    requires some_frame { 0 < config.now.frames }
+    requires few { length inputs.now ≤ 16 }
+    requires arity { length inputs.now ≡ inputs_of (C.program code.now) }
+    ensures { IfOk result (λ machine. Opens (C.program code.now) (C.width code.now) config.now inputs.now machine) }
+{
+    let elements = config.elements as u32;
+    let frames = config.frames as u32;
+    let made = Store::new(
+        alloc.clone()?,
+        elements as usize,
+        frames as usize,
+        code.slots() as usize,
+    )?;
+    let store = store.insert(made);
+    let mut lanes = fresh_lanes(alloc.clone()?, store, code)?;
+    give_inputs(&mut lanes, elements, code.main_entry(), inputs)?;
+    let elements = Elements {
+        code,
+        elements,
+        frames,
+        steps: config.steps,
+        lanes,
+        sent: Vec::new(alloc.clone()?),
+        come: 0,
+    };
+    Ok(Machine {
+        elements,
+        events: Vec::new(alloc.clone()?),
+        alloc,
+    })
+}
+
+impl<'m, C: MainCode, A: Allocator> Machine<'m, C, A> {
+    /// The machine before its first event, or the first cause in the order of `StartFault` that forbids it. Its slots lie
+    /// in `store`, whatever that was.
+    pub fn start(
+        alloc: A,
+        store: &'m mut Option<Store<A>>,
+        code: &'m C,
+        inputs: &[i64],
+        config: Config,
+    ) -> Result<Machine<'m, C, A>, StartFault>
+    where
+        A: Clone,
+        ensures { MatchResult result (λ machine. Opens (C.program code.now) (C.width code.now) config inputs.now machine) (IsCause (C.program code.now) config inputs.now) }
+    {
+        if inputs.len() != code.inputs() as usize {
+            return Err(StartFault::WrongInputs);
+        }
+        if config.frames == 0 {
+            return Err(StartFault::NoFrames);
+        }
+        if !has_good_numbers(&config) {
+            return Err(StartFault::BadConfig);
+        }
+        match open(alloc, store, code, inputs, &config) {
+            Ok(machine) => Ok(machine),
+            Err(_) => Err(StartFault::Memory),
+        }
+    }
+
+    /// The element takes the token that `pick`, modulo the number of its tokens, names from the oldest on; `None` where it
+    /// has a token and has made all its events. The token is taken out, the others close up, and those that the event
+    /// makes go last, each where it is addressed to. After `Clash`, `Stuck` and `Memory` all stands as before.
+    pub fn step(&mut self, element: u32, pick: u64) -> Option<Stepped>
+    where
+        A: Clone,
+        requires { element < self.old.state.setting.elements }
+        ensures { (made : Events) × Steps self.old.state element pick result self.new.state made × (self.new.events ≡ self.old.events ++ made) }
+    {
+        self.elements.step(element, pick, &mut self.events)
+    }
+
+    /// Makes one step for each element and pick of the list, in order, and answers why it makes no more. It stops early
+    /// where no token is left, where a token stores in a full cell or is excluded, and for want of memory; an element that
+    /// has made all its events is passed over. The answer is `Steps` where the list ends with a token left.
+    pub fn play(&mut self, picks: &[(u32, u64)]) -> Halt
+    where
+        A: Clone,
+        requires { All (λ pick. pick.0 < self.old.state.setting.elements) picks.now }
+        ensures plays { (made : Events) × Plays true picks.now self.old.state self.new.state result made × (self.new.events ≡ self.old.events ++ made) }
+        ensures began { (inputs : List ℤ) → Began inputs self.old.state self.old.events → Began inputs self.new.state self.new.events }
+        ensures halts { HaltsAs self.new.state true result }
+    {
+        self.elements.play(picks, &mut self.events)
+    }
+
+    /// Makes one step after another, each with the oldest token of an element, the elements in turn, and answers why it
+    /// makes no more. It stops where no token is left, where a token stores in a full cell or is excluded, for want of
+    /// memory, and at the first element that has a token and has made all its events.
+    pub fn play_in_turn(&mut self) -> Halt
+    where
+        A: Clone,
+        ensures plays { (rounds : ℕ) × (made : Events) × Plays false (rounds_of rounds self.old.state.setting.elements) self.old.state self.new.state result made × (self.new.events ≡ self.old.events ++ made) }
+        ensures began { (inputs : List ℤ) → Began inputs self.old.state self.old.events → Began inputs self.new.state self.new.events }
+        ensures halts { HaltsAs self.new.state false result }
+    {
+        self.elements.play_in_turn(&mut self.events)
+    }
+
+    /// The same machine without the list of its events.
+    pub fn without_events(self) -> Quiet<'m, C, A>
+        ensures { result ≡ self.entry.state }
+    {
+        let Machine {
+            elements,
+            events: _,
+            alloc,
+        } = self;
+        Quiet { elements, alloc }
+    }
+}
+
+/// A machine that keeps no list of its events: it takes no more memory for a long run than for a short one. Contracts see
+/// what its lanes hold.
+#[derive(Drop)]
+pub struct Quiet<'m, C: MainCode, A: Allocator> {
+    elements: Elements<'m, C, A>,
+    alloc: A,
+}
+
+impl<'m, C: MainCode, A: Allocator> Model for Quiet<'m, C, A> {
+    ghost use Rattle.lanes.specs.State.{State, state_of, IsWell};
+
+    ghost Value = { State };
+
+    ghost view = { λ m. state_of C.program C.width m.elements };
+
+    ghost invariant = { λ m. IsWell C.program C.width m.elements };
+}
+
+impl<'m, C: MainCode, A: Allocator> Quiet<'m, C, A> {
+    /// As `Machine::play_in_turn`: there is a run with the events that it made.
+    pub fn play_in_turn(&mut self) -> Halt
+    where
+        A: Clone,
+        ensures plays { (rounds : ℕ) × (made : Events) × Plays false (rounds_of rounds self.old.setting.elements) self.old self.new result made × ((inputs : List ℤ) (before : Events) → Began inputs self.old before → Began inputs self.new (before ++ made)) }
+        ensures halts { HaltsAs self.new false result }
+    {
+        self.elements.play_in_turn(&mut NoLog)
+    }
+}
