@@ -1,0 +1,10 @@
+pub mod Flows
+pub mod Builds
+pub mod UseCounts
+pub mod Rows
+pub mod Tails
+pub mod Ends
+pub mod Scopes
+pub mod Blocks
+pub mod Variants
+pub mod Expanded
