@@ -1,5 +1,6 @@
 -- A run of numbered invocations follows a run of the meaning.
 use Rattle.std.proofs.Common.{◌≡◌, ℕ, ◌<◌, ℤ, List, [], ◌∷◌, ◌++◌, map, length, Option, Some, IsPermutation, sym, subst, append_assoc, append-nil}
+use Rattle.std.specs.Prelude.{⊤}
 use Rattle.std.proofs.lemmas.List.Sorted.{IsPermutation-trans, IsPermutation-append_left, IsPermutation-append_right}
 use Rattle.tags.specs.declared.value.Value.{Value}
 use Rattle.semantics.specs.Graph.{Graph, flow_of}
@@ -51,9 +52,10 @@ pub record Follows (g : Graph) (inputs : List ℤ) (k : ℕ) (s : Plain) : Type 
   pub is_run : Run (flow_of g) (start inputs) run (meant sound.names s)
   pub count : length run ≡ k
 
+-- an output that a deed fills is there
 abbrev pub PutLow : Deed → Plain → Type 0
 PutLow (Puts j v) s = j < length s.outputs
-PutLow d s = length s.outputs ≡ length s.outputs
+PutLow d s = ⊤
 
 -- so many activities lead to a state in which an activity with this deed is enabled; its tokens are out already
 pub record Ready (g : Graph) (inputs : List ℤ) (k : ℕ) (s : Plain) (vs : List Value) (d : Deed) : Type 0 where

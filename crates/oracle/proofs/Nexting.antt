@@ -160,13 +160,13 @@ module _ (g : Graph) (text : HasText g) (well : WellFormed g) (inputs : List ℤ
           let first : Within y (taken a) = subst (λ a. Within y (taken a)) (sym is) ([], put_first y []) in
           let there : Within y (meant cs (plain xs (t ∷ ts) w d cells outputs)).tokens = within_permutation y _ _ (IsPermutation-sym _ _ takes) (within_left y (taken a) (map (tagged_of cs) (ts ++ (left ++ d))) first) in
           subst (λ n. j < n) (sym s.output_count) (out_low g well inputs fit (meant cs (plain xs (t ∷ ts) w d cells outputs)) f.run f.is_run j (Meaning.Operand 0) v there)
-      put_low (Sends c n p v) q = refl
-      put_low (Tells c n v) q = refl
-      put_low (Enters m b i v) q = refl
-      put_low (EntersAll m b) q = refl
-      put_low Stops q = refl
-      put_low (Reads c n y) q = refl
-      put_low (Fills c n y a i v) q = refl
+      put_low (Sends c n p v) q = tt
+      put_low (Tells c n v) q = tt
+      put_low (Enters m b i v) q = tt
+      put_low (EntersAll m b) q = tt
+      put_low Stops q = tt
+      put_low (Reads c n y) q = tt
+      put_low (Fills c n y a i v) q = tt
 
       acts : gate_of cells deed' ≡ Free → Ready g inputs k (plain xs ts left d cells outputs) vs deed'
       acts free = record {

@@ -7,11 +7,12 @@ use Rattle.semantics.specs.Graph.{Graph, flow_of}
 use Rattle.semantics.specs.Text.{HasText}
 use Rattle.semantics.specs.WellFormed.{WellFormed}
 use Rattle.semantics.specs.Faithful.{inputs_of}
-use Rattle.semantics.specs.Meaning.{Context, Tagged, Memory, State, Activity, Step, Run, start, entering}
+use Rattle.semantics.specs.Meaning.{Context, Tagged, Memory, State, Activity, Step, Run, Reached, start, entering}
 use Rattle.semantics.specs.Meaning as Meaning
 use Rattle.determinacy.proofs.Options.{some_same}
 use Rattle.determinacy.proofs.Perm.{each_append, each_weaker}
 use Rattle.determinacy.proofs.Resolved.{flow_well}
+use Rattle.determinacy.proofs.Theorems.{determinacy, second_store_from}
 use Rattle.oracle.specs.declared.invocations.Made.TheVariants.{Main}
 use Rattle.oracle.specs.declared.invocations.Invocation.{Invocation}
 use Rattle.oracle.specs.declared.deeds.Deed.{Deed}
@@ -24,7 +25,7 @@ use Rattle.oracle.specs.Sending.{entering_tokens}
 use Rattle.oracle.specs.Running.{Plain, main_place, start_of, Came, Acts, Ends, Broken, next_in, performed, run_of, full_in, told_of}
 use Rattle.oracle.specs.Meant.{name_in, made_of, tagged_of}
 use Rattle.oracle.specs.Naming.{Named, IsBelow}
-use Rattle.oracle.specs.Reporting.{AreFull, IsEnd, IsMeant, RunsEnd, ReportsAreTrue}
+use Rattle.oracle.specs.Reporting.{cell_at, AreFull, IsEnd, IsOutcome, IsMeant, RunsEnd, ReportsAreTrue}
 use Rattle.oracle.proofs.Filling.{empty_at_start, nones_long, cells_long}
 use Rattle.oracle.proofs.Following.{Sound, Follows, Ready, Ended, Outcome}
 use Rattle.oracle.proofs.Fulls.{full_law}
@@ -142,6 +143,11 @@ module _ (g : Graph) (text : HasText g) (well : WellFormed g) (inputs : List ℤ
   ends_in steps None h = absurd h
   ends_in steps (Some r) h = ((r.0, r.1.outputs, full_in r.1.cells 0 0 g.arrays), refl)
 
+  outcome_of : (n : ℕ) (run : List Activity) (s : State) (e : MeanEnd) → Reached (flow_of g) inputs s → IsEnd g n run s e → IsOutcome g inputs s e
+  outcome_of n run s Rest reached h = determinacy g well inputs fit s reached h.0 h.1
+  outcome_of n run s (Clash a i) reached h = (second_store_from g well inputs fit s (cell_at g a i) reached h.1).always
+  outcome_of n run s Steps reached h = tt
+
   true_in : (steps : ℕ) (r : MeanEnd × Plain) → RunOut g inputs steps (Some r) → IsMeant g inputs steps r.0 r.1.outputs (full_in r.1.cells 0 0 g.arrays)
   true_in steps r h =
       let e = h.1 in
@@ -156,6 +162,7 @@ module _ (g : Graph) (text : HasText g) (well : WellFormed g) (inputs : List ℤ
         shown = λ j. ap (λ (m : Memory). m.outputs j) e.memory;
         cells = subst (λ (m : Memory). AreFull g m.cells (full_in r.1.cells 0 0 g.arrays)) (sym e.memory) (full_law g r.1.cells e.cell_count);
         ended = h.3;
+        outcome = outcome_of steps e.run e.state r.0 record { run = e.run; is_run = e.is_run } h.3;
       }
 
   true_told : (steps : ℕ) (end : MeanEnd) (outputs : List (Option Value)) (listed : List Full) (o : Option (MeanEnd × Plain)) → RunOut g inputs steps o → told_of g o ≡ Some (end, outputs, listed) → IsMeant g inputs steps end outputs listed

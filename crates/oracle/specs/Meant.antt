@@ -1,7 +1,7 @@
--- What a run of the meaning tells.
+-- What the numbers of a run stand for: invocations, tokens, activities and deeds of the meaning.
 use Rattle.std.specs.Prelude.{ℕ, List, [], ◌∷◌, slice_index_or}
 use Rattle.tags.specs.declared.value.Value.{Value}
-use Rattle.semantics.specs.Meaning.{Context, Statement, AtNode, AtOut, AtTurn, Port, Tagged, tagged, State, Activity, Run, Step, AtRest, Clashes, start, block_number, taken, deed}
+use Rattle.semantics.specs.Meaning.{Context, Statement, AtNode, AtOut, AtTurn, Port, Tagged, tagged, Activity}
 use Rattle.semantics.specs.Meaning as Meaning
 use Rattle.oracle.specs.declared.invocations.Made.{Made}
 use Rattle.oracle.specs.declared.invocations.Made.TheVariants.{Main, Called, Turned}

@@ -1,11 +1,11 @@
 -- What a report says of the meaning: a state that a run of the meaning reaches, and how that run ended.
-use Rattle.std.specs.Prelude.{◌≡◌, ℕ, ◌+◌, ◌^◌, ◌<◌, ◌≤◌, ◌⊎◌, ℤ, List, length, Option, Some, slice_get}
+use Rattle.std.specs.Prelude.{◌≡◌, ⊤, ℕ, ◌+◌, ◌^◌, ◌<◌, ◌≤◌, ◌⊎◌, ℤ, List, length, Option, Some, slice_get}
 use Rattle.tags.specs.declared.value.Value.{Value}
 use Rattle.semantics.specs.Graph.{Graph, flow_of, first_cell, array_len}
 use Rattle.semantics.specs.Text.{HasText}
 use Rattle.semantics.specs.WellFormed.{WellFormed}
-use Rattle.semantics.specs.Meaning.{State, Activity, Step, Run, AtRest, Clashes, start}
-use Rattle.determinacy.specs.Outcome.{NoClash}
+use Rattle.semantics.specs.Meaning.{State, Activity, Step, Run, Reached, AtRest, Clashes, start}
+use Rattle.determinacy.specs.Outcome.{NoClash, IsOnlyOutcome}
 use Rattle.oracle.specs.declared.report.MeanEnd.{MeanEnd}
 use Rattle.oracle.specs.declared.report.MeanEnd.TheVariants.{Rest, Clash, Steps}
 use Rattle.oracle.specs.declared.report.Full.{Full}
@@ -32,6 +32,12 @@ IsEnd g steps run s Rest = AtRest (flow_of g) s × NoClash (flow_of g) s
 IsEnd g steps run s (Clash a i) = (i < array_len (flow_of g) a) × Clashes (flow_of g) s (cell_at g a i)
 IsEnd g steps run s Steps = (length run ≡ steps) × ((a : Activity) × (t : State) × Step (flow_of g) a s t)
 
+-- what the end says of every other run of the meaning: all runs come to a rest without a clash, or none does
+abbrev pub IsOutcome : Graph → List ℤ → State → MeanEnd → Type 0
+IsOutcome g inputs s Rest = IsOnlyOutcome (flow_of g) inputs s
+IsOutcome g inputs s (Clash a i) = (other : State) → Reached (flow_of g) inputs other → AtRest (flow_of g) other → NoClash (flow_of g) other → ⊥
+IsOutcome g inputs s Steps = ⊤
+
 -- A report is true: a run of the meaning of at most so many activities reaches a state with these outputs and full cells,
 -- and the end is as it says.
 pub record IsMeant (g : Graph) (inputs : List ℤ) (steps : ℕ) (end : MeanEnd) (outputs : List (Option Value)) (listed : List Full) : Type 0 where
@@ -44,6 +50,7 @@ pub record IsMeant (g : Graph) (inputs : List ℤ) (steps : ℕ) (end : MeanEnd)
   pub shown : (j : ℕ) → state.memory.outputs j ≡ held_in outputs j
   pub cells : AreFull g state.memory.cells listed
   pub ended : IsEnd g steps run state end
+  pub outcome : IsOutcome g inputs state end
 
 -- The run of a well-formed graph always comes to an end of its own: joined tokens have a deed, and no turn has a number of
 -- 2^64 or more.

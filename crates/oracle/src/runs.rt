@@ -209,7 +209,8 @@ fn run_to_end<'a, A: Allocator + Clone>(
 /// The report is true of the meaning: a run of at most so many of its activities, in some order, reaches a state that has
 /// just the outputs and the full cells that are told. `Rest` is told only where no activity is enabled in that state and no
 /// store clashes, `Clash` only where a store clashes at that cell, and `Steps` only after just so many activities with one
-/// more enabled.
+/// more enabled. A rest is the only outcome: every other order of activities comes to the same one. After a clash none comes
+/// to rest without one.
 ///
 /// `WrongInputs` comes first: there are not as many inputs as main has. `Memory` is answered where a growth was refused, and
 /// only there: no run comes to joined tokens without a deed, nor to a turn whose number is above the greatest u64.
