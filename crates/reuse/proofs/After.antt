@@ -30,12 +30,6 @@ use Rattle.reuse.proofs.Uses.{at_port, Came, later_on, EmptyOr, opened_from, non
 use Rattle.reuse.proofs.Used.{stands_arcs, credit_port, later_port, open_end, dyadic_slot, Ports, one_frame, not_twice, Over, Used, came_later, same_over, used_later, no_move}
 use Rattle.reuse.proofs.Members.{contains_map, contains_none, contains_mapped}
 
-later_credit : (op : Op) → is_later op ≡ true → is_credit op ≡ true
-later_credit (Take k) d = refl
-later_credit (Give k) d = refl
-later_credit (Drain k) d = refl
-later_credit op d = absurd (true≢false (sym d))
-
 -- an arc of a block into the port was used in the frame
 pub record CausedBy (p : Plan) (ts : List Token) (slots : ℕ → ℕ → SlotState) (f ip : ℕ) (q : Port) : Type 0 where
   pub b : ℕ

@@ -29,7 +29,7 @@ use Rattle.reuse.proofs.Members.{contains_mapped}
 use Rattle.reuse.proofs.Counts.{Counted, counted_both, counted_waits, counted_serves}
 use Rattle.reuse.proofs.Tracked.{held_re, holds_none}
 use Rattle.reuse.proofs.Lists.{Each, Spread, Differ, each_append, each_weaker, spread_append, all_differ}
-use Rattle.reuse.proofs.Fold.{Injective, Fold, Follows, fold_same, out_fold, instr_step, fetch_step, store_step, request_step, host_step, put_same, put_other, answer_re, map_append, eq_under, ne_eqb}
+use Rattle.reuse.proofs.Fold.{Fold, Follows, fold_same, out_fold, instr_step, fetch_step, store_step, request_step, host_step, put_same, put_other, answer_re, map_append, eq_under, ne_eqb}
 use Rattle.reuse.proofs.Freed.{place, IsNaming, place_low, place_injective, place_same, next_use, naming_later, naming_next, place_fresh, Renews, renews_next, keep_tokens, free_fold}
 
 -- a run to here in which each frame is handed out once, and these are the frames that were
@@ -199,22 +199,30 @@ slot_out : (m : Store) (f : ℕ) (r : Option ℕ) (s : _) → ((with_slot_in m f
 slot_out m f None s = (refl, refl)
 slot_out m f (Some r) s = (refl, refl)
 
-fires_out : (m new : Store) (f : ℕ) (r : Option ℕ) (o : Outcome) (made : List Token) → Fires m f r o made new → (new.out ≡ m.out) × (new.requests ≡ m.requests)
+pub fires_out : (m new : Store) (f : ℕ) (r : Option ℕ) (o : Outcome) (made : List Token) → Fires m f r o made new → (new.out ≡ m.out) × (new.requests ≡ m.requests)
 fires_out m new f r (Excluded n) made e = absurd e
 fires_out m new f r (Becomes s ts) made e =
     let same = slot_out m f r s in (ap (λ (n : Store). n.out) e.1 ∙ same.0, ap (λ (n : Store). n.requests) e.1 ∙ same.1)
 
-fetches_out : (m new : Store) (x : ℕ) (c : Cont) (y : CellState) (made : List Token) → Fetches m x c y made new → (new.out ≡ m.out) × (new.requests ≡ m.requests)
+pub fires_cells : (m new : Store) (f : ℕ) (r : Option ℕ) (o : Outcome) (made : List Token) → Fires m f r o made new → new.cells ≡ m.cells
+fires_cells m new f r (Excluded n) made e = absurd e
+fires_cells m new f r (Becomes s ts) made e = ap (λ (n : Store). n.cells) e.1 ∙ same r
+  where
+    same : (r : Option ℕ) → (with_slot_in m f r s).cells ≡ m.cells
+    same None = refl
+    same (Some r) = refl
+
+pub fetches_out : (m new : Store) (x : ℕ) (c : Cont) (y : CellState) (made : List Token) → Fetches m x c y made new → (new.out ≡ m.out) × (new.requests ≡ m.requests)
 fetches_out m new x c Vacant made e = (ap (λ (n : Store). n.out) e.1, ap (λ (n : Store). n.requests) e.1)
 fetches_out m new x c (Deferred cs) made e = (ap (λ (n : Store). n.out) e.1, ap (λ (n : Store). n.requests) e.1)
 fetches_out m new x c (Full v) made e = (ap (λ (n : Store). n.out) e.1, ap (λ (n : Store). n.requests) e.1)
 
-stores_out : (m new : Store) (x : ℕ) (v : Value) (c : Cont) (y : CellState) (made : List Token) → Stores m x v c y made new → (new.out ≡ m.out) × (new.requests ≡ m.requests)
+pub stores_out : (m new : Store) (x : ℕ) (v : Value) (c : Cont) (y : CellState) (made : List Token) → Stores m x v c y made new → (new.out ≡ m.out) × (new.requests ≡ m.requests)
 stores_out m new x v c Vacant made e = (ap (λ (n : Store). n.out) e.1, ap (λ (n : Store). n.requests) e.1)
 stores_out m new x v c (Deferred cs) made e = (ap (λ (n : Store). n.out) e.1, ap (λ (n : Store). n.requests) e.1)
 stores_out m new x v c (Full w) made e = absurd e
 
-hosts_out : (r : ℕ) (m new : Store) (j : ℕ) (w : Word) (made : List Token) → Hosts r m j w made new → (new.out ≡ m.out) × (new.requests ≡ m.requests)
+pub hosts_out : (r : ℕ) (m new : Store) (j : ℕ) (w : Word) (made : List Token) → Hosts r m j w made new → (new.out ≡ m.out) × (new.requests ≡ m.requests)
 hosts_out r m new j w made (inl e) = (ap (λ (n : Store). n.out) e.2.3, ap (λ (n : Store). n.requests) e.2.3)
 hosts_out r m new j w made (inr e) = (ap (λ (n : Store). n.out) e.3, ap (λ (n : Store). n.requests) e.3)
 
@@ -675,7 +683,6 @@ pub record HasOnce (P : Plan) (p : Program) (inputs : List ℤ) (z : Size) (even
   pub gen : ℕ → ℕ
   pub folds : Folds (z.elements * z.frames) (λ g. g + gen g * (z.elements * z.frames)) m last
   pub counted : Counted p events unfolded (length m.store.requests)
-  pub injective : Injective (λ g. g + gen g * (z.elements * z.frames))
   pub holders : (f s : ℕ) → holds P p (f + gen f * (z.elements * z.frames)) s None record { elements = z.elements; frames = frames } (at_start p inputs) unfolded last run ≡ so.held f s
   pub tallied : (x : Counter) (f : ℕ) → tally (count_at P p x (f + gen f * (z.elements * z.frames))) p record { elements = z.elements; frames = frames } (at_start p inputs) unfolded last run ≡ so.counted x f
 
@@ -714,7 +721,6 @@ module _ (P : Plan) (p : Program) (inputs : List ℤ) (z : Size) (events : Event
     gen = last_state.gen;
     folds = last_state.folds;
     counted = last_state.once.told.counted;
-    injective = place_injective (z.elements * z.frames) uses (length events) last_state.gen last_state.naming;
     holders = last_state.once.told.holders;
     tallied = last_state.once.told.tallied;
   }

@@ -1,5 +1,5 @@
 -- What holds at a release in runs that use each frame once holds in every run.
-use Rattle.std.proofs.Common.{◌≡◌, sym, ap, ◌∙◌, subst, ℕ, zero, suc, ◌+◌, ◌*◌, ◌<◌, ℤ, List, [], ◌∷◌, ◌++◌, map, length, Contains, arith}
+use Rattle.std.proofs.Common.{sym, ap, ◌∙◌, subst, ℕ, ◌+◌, ◌*◌, ◌<◌, ℤ, List, ◌++◌, map, Contains, arith}
 use Rattle.std.proofs.lemmas.List.Elements.{Contains-append_left, Contains-append_right}
 use Rattle.tags.specs.declared.token.Cont.{Cont}
 use Rattle.tags.specs.declared.token.Word.{Word}
@@ -11,7 +11,7 @@ use Rattle.tags.specs.declared.slot.SlotState.TheVariants.{Empty, Credits, Waite
 use Rattle.semantics.specs.Program.{Program}
 use Rattle.semantics.specs.Rule.{token}
 use Rattle.semantics.specs.Machine.{CellState, Vacant, Full, Deferred, Machine, Size, Events, Run, at_start}
-use Rattle.semantics.specs.Orderly.{NamesCont, NamesWord, NamesTo, NamesSlot, readers_of, IsFreeOf, IsFreeAtRelease, IsStart, inputs_of, Orderly}
+use Rattle.semantics.specs.Orderly.{NamesCont, NamesWord, NamesTo, NamesSlot, readers_of, IsFreeOf, IsFreeAtRelease}
 use Rattle.semantics.specs.Plan.{Plan}
 use Rattle.semantics.specs.Renamed.{re_cont, re_word, re_to, re_token, re_slot, re_cell}
 use Rattle.reuse.proofs.Fold.{Fold}
@@ -72,13 +72,3 @@ frees_always P p inputs z events m some_element some_frame frees r f w rest take
     let before = pool_before h m H.last (token (To.Release f) w) rest (waits h m.store.requests) H.folds.pool takes in
     let free = frees H.frames H.some_frame H.unfolded H.last H.run H.once (h f) (re_word h w) (map (re_token h) rest ++ waits h m.store.requests) before (H.folds.fold.out f ∙ is_out) in
     (λ e. free.0 (named_word h f w e), free_back (z.elements * z.frames) h f rest m H.last H.folds.fold free.1)
-
--- for an orderly plan: the release clause in every run, and the unfolded run
-pub frees_from : (p : Plan) (inputs : List ℤ) (elements : ℕ) → Orderly p → 0 < elements → length inputs ≡ inputs_of p → FreesOnce p.program inputs elements
-frees_from p inputs elements orderly some_element fit frames some_frame events u run once =
-    (orderly inputs record { elements = elements; frames = frames } events u record { some_element = some_element; some_frame = some_frame; inputs_fit = fit } run once).release
-
-pub release_always : (p : Plan) (inputs : List ℤ) (z : Size) (events : Events) (m : Machine) → Orderly p → IsStart p z inputs
-    → Run p.program z (at_start p.program inputs) events m → IsFreeAtRelease m
-release_always p inputs z events m orderly start r =
-    frees_always p p.program inputs z events m start.some_element start.some_frame (frees_from p inputs z.elements orderly start.some_element start.inputs_fit) r

@@ -1,5 +1,5 @@
 -- Over good slots, a run that uses each frame once keeps faith as the plan's runs do.
-use Rattle.std.proofs.Common.{sym, ◌∙◌, ℕ, ℤ, List, Option, None}
+use Rattle.std.proofs.Common.{sym, ◌∙◌, ℕ, ℤ, List}
 use Rattle.semantics.specs.Graph.{Flow}
 use Rattle.semantics.specs.Machine.{Machine, Size, Events, at_start}
 use Rattle.semantics.specs.Faithful.{IsRun, Faithful}
@@ -10,7 +10,6 @@ use Rattle.semantics.specs.Handed.{handed, UsesEachOnce}
 use Rattle.semantics.specs.Orderly.{Orderly, IsStart}
 use Rattle.semantics.specs.Wired.{IsWired}
 use Rattle.reuse.specs.Theorem.{TakesInputs}
-use Rattle.semantics.specs.Holders.{Holder, holds}
 use Rattle.reuse.proofs.Frames.{So, so_start}
 use Rattle.reuse.proofs.Own.{own_so_after, Own, own_run}
 use Rattle.reuse.proofs.OwnSlots.{own_slots, own_matching}

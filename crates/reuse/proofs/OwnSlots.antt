@@ -30,7 +30,7 @@ use Rattle.reuse.proofs.Used.{Ports}
 use Rattle.reuse.proofs.Kept.{taken, ports_of}
 use Rattle.reuse.proofs.Owners.{full_alone, alone_here}
 use Rattle.reuse.proofs.Claims.{index_got, ClaimOr, claim_same, slot_there, holder_here}
-use Rattle.semantics.specs.Holders.{Holder, holder_of, holder_at, holds}
+use Rattle.semantics.specs.Holders.{Holder, holder_of, holder_at}
 use Rattle.reuse.proofs.Frames.{So, so_start}
 use Rattle.reuse.proofs.Own.{own_so_after, IdleOr, frame_agrees, Own, orderly_here, own_run}
 

@@ -25,7 +25,7 @@ use Rattle.semantics.specs.Orderly.{IsStart}
 use Rattle.semantics.specs.Renamed.{re_cont, re_word, re_to, re_token, re_slot, re_cell}
 use Rattle.reuse.specs.Theorem.{TakesInputs, SharedSlotsAreFaithful, ReleasesAreLast, HoldersAreAlone}
 use Rattle.semantics.specs.Handed.{handed}
-use Rattle.semantics.specs.Holders.{Holder, holds}
+use Rattle.semantics.specs.Holders.{Holder}
 use Rattle.reuse.proofs.Own.{own_so_after, own_held, Own, own_run}
 use Rattle.reuse.proofs.OwnSlots.{own_alone}
 use Rattle.reuse.proofs.Renames.{re_outcome, rule_re}

@@ -1,5 +1,5 @@
 -- The unfolded run led on: each request that waits is served with a frame that was never used.
-use Rattle.std.proofs.Common.{◌≡◌, refl, sym, ap, ◌∙◌, subst, ℕ, suc, ◌+◌, ◌*◌, ◌<◌, ◌≤◌, ◌⊎◌, inl, inr, ℤ, Bool, true, false, List, [], ◌∷◌, ◌++◌, map, length, Option, None, IsPermutation, arith, mul_left_comm, mul-pos}
+use Rattle.std.proofs.Common.{◌≡◌, refl, sym, ap, ◌∙◌, subst, ℕ, suc, ◌+◌, ◌*◌, ◌<◌, ◌≤◌, ◌⊎◌, inl, inr, ℤ, Bool, true, false, List, [], ◌∷◌, ◌++◌, map, length, IsPermutation, arith, mul_left_comm, mul-pos}
 use Rattle.std.specs.Prelude.{⊤}
 use Rattle.std.proofs.lemmas.List.Sorted.{IsPermutation-refl, IsPermutation-sym, IsPermutation-trans, IsPermutation-middle, IsPermutation-append_comm}
 use Rattle.tags.specs.declared.token.Cont.{Cont}
@@ -11,7 +11,6 @@ use Rattle.semantics.specs.Rule.{token}
 use Rattle.semantics.specs.Machine.{CellState, Vacant, Full, Deferred, value_in, Machine, Size, Event, Events, Run, at_start, put_at, with_out, answer}
 use Rattle.semantics.specs.Plan.{Plan}
 use Rattle.semantics.specs.Handed.{handed, EachOnce}
-use Rattle.semantics.specs.Holders.{Holder, holds}
 use Rattle.tags.specs.declared.slot.SlotState.TheVariants.{Empty}
 use Rattle.semantics.specs.Renamed.{re_cont, re_token, re_cell}
 use Rattle.reuse.proofs.Counts.{Counted, counted_serves}

@@ -1,11 +1,10 @@
 -- What a run counts at a frame: the credits that it grants to a loop, or the iterations of a loop that it releases.
-use Rattle.std.proofs.Common.{◌≡◌, refl, sym, ap, ◌∙◌, subst, ℕ, zero, suc, ◌+◌, ◌⊎◌, inl, inr, Bool, true, false, cond, true≢false, ◌&&◌, List, [], ◌∷◌, ◌++◌, map, Option, Some, None, Contains, arith}
+use Rattle.std.proofs.Common.{◌≡◌, refl, ap, ◌∙◌, ℕ, zero, suc, ◌+◌, Bool, false, cond, ◌&&◌, List, [], ◌∷◌, map, Option, Some, None, Contains, arith}
 use Rattle.std.specs.Prelude.{if◌then◌else◌, ◌==◌, count_by}
 use Rattle.std.proofs.lemmas.Bool.{and_left}
 use Rattle.std.proofs.lemmas.List.Sums.{sum_by-cons}
 use Rattle.tags.specs.declared.token.Port.{Port}
 use Rattle.tags.specs.declared.token.Port.TheVariants.{Left}
-use Rattle.tags.specs.declared.token.Cont.{Cont}
 use Rattle.tags.specs.declared.token.To.{To}
 use Rattle.tags.specs.declared.token.Token.{Token}
 use Rattle.tags.specs.declared.slot.SlotState.{SlotState}

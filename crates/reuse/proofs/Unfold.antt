@@ -1,5 +1,5 @@
 -- Each run over good slots, in which frames are used again, has its unfolded run over the plan.
-use Rattle.std.proofs.Common.{◌≡◌, sym, ap, ◌∙◌, subst, ℕ, ◌*◌, ◌<◌, ◌⊎◌, inl, inr, ℤ, Bool, false, List, map, None, Contains, IsPermutation}
+use Rattle.std.proofs.Common.{◌≡◌, sym, ap, ◌∙◌, subst, ℕ, ◌*◌, ◌<◌, ◌⊎◌, inl, inr, ℤ, Bool, false, List, map, Contains, IsPermutation}
 use Rattle.std.proofs.lemmas.List.Sorted.{IsPermutation-trans}
 use Rattle.tags.specs.declared.token.Cont.{Cont}
 use Rattle.tags.specs.declared.slot.SlotState.{SlotState}
@@ -12,7 +12,6 @@ use Rattle.semantics.specs.Sharing.{Good}
 use Rattle.semantics.specs.Placed.{placed}
 use Rattle.semantics.specs.Orderly.{NamesSlot, readers_of, IsFreeAtRelease, Orderly, IsStart}
 use Rattle.semantics.specs.Renamed.{re_token}
-use Rattle.semantics.specs.Holders.{holds}
 use Rattle.semantics.specs.Unfolded.{use_of, request, Unfolds, HasUnfolded, EachRunUnfolds}
 use Rattle.semantics.specs.Wired.{IsWired}
 use Rattle.reuse.specs.OwnSlots.{HasOwnSlots, IsOwnRun}

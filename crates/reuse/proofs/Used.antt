@@ -1,5 +1,5 @@
 -- Arcs that were used: what was taken at the instruction, and that a holder whose end was reached stays empty.
-use Rattle.std.proofs.Common.{◌≡◌, refl, sym, ap, ◌∙◌, subst, ℕ, zero, suc, ◌+◌, ◌≤◌, ◌⊎◌, inl, inr, Bool, true, false, not, true≢false, List, [], ◌∷◌, ◌++◌, map, Option, Some, Contains, arith}
+use Rattle.std.proofs.Common.{◌≡◌, refl, sym, ap, ◌∙◌, subst, ℕ, zero, suc, ◌+◌, ◌≤◌, ◌⊎◌, inl, inr, Bool, true, false, not, true≢false, List, [], ◌∷◌, ◌++◌, Option, Some, Contains, arith}
 use Rattle.std.specs.Prelude.{count_by, slice_get, flat_map}
 use Rattle.std.proofs.lemmas.List.Elements.{Contains-append_left, Contains-append_right, Contains-append_cases}
 use Rattle.operators.specs.Values.{truth}
@@ -23,7 +23,7 @@ use Rattle.semantics.specs.Wired.{is_dyadic}
 use Rattle.reuse.proofs.Stands.{Stands, stands_at, stands_block}
 use Rattle.reuse.proofs.Turns.{is_counting, is_later, Turn, waits_left, waits_right, meets_right, meets_left, lone, begins, counts}
 use Rattle.reuse.proofs.Uses.{at_port, Came, later_on, came_twice, none_some}
-use Rattle.reuse.proofs.Members.{contains_head, contains_tail, contains_cases, contains_none, contains_mapped}
+use Rattle.reuse.proofs.Members.{contains_cases, contains_none, contains_mapped}
 
 -- ---- ARCS
 
@@ -139,12 +139,6 @@ dyadic_slot i (Return o) d = refl
 dyadic_slot i (Ask o) d = refl
 dyadic_slot i (Release o) d = refl
 dyadic_slot i op d = absurd (true≢false (sym d))
-
-pub later_slot : (i : Instr) (op : Op) → is_later op ≡ true → slot_of i op ≡ Some i.slot
-later_slot i (Take k) d = refl
-later_slot i (Give k) d = refl
-later_slot i (Drain k) d = refl
-later_slot i op d = absurd (true≢false (sym d))
 
 -- ---- WHAT IS KNOWN OF THE PORTS AT ONE STATE
 pub record Ports (p : Plan) (ts pool : List Token) : Type 0 where

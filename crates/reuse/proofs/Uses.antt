@@ -1,6 +1,6 @@
 -- What a state of a run tells of the tokens that were taken before it: who filled a slot, which arcs were used, and that
 -- a holder whose end was reached is empty for good.
-use Rattle.std.proofs.Common.{◌≡◌, refl, sym, ap, ◌∙◌, subst, ℕ, zero, suc, ◌+◌, ◌≤◌, ◌⊎◌, inl, inr, Bool, true, true≢false, eq-eqb, cond, List, [], ◌∷◌, ◌++◌, Option, Some, None, Contains, arith}
+use Rattle.std.proofs.Common.{◌≡◌, refl, sym, ap, ◌∙◌, subst, ℕ, ◌+◌, ◌≤◌, ◌⊎◌, inl, inr, Bool, true, true≢false, eq-eqb, cond, List, [], ◌∷◌, ◌++◌, Option, Some, None, Contains, arith}
 use Rattle.std.specs.Prelude.{count_by}
 use Rattle.std.proofs.lemmas.Bool.{cases_eq, and_from}
 use Rattle.std.proofs.lemmas.List.Sums.{sum_by-append, sum_by-cons}

@@ -1,2 +1,3 @@
 pub mod OwnSlots
 pub mod Theorem
+pub mod Bounds

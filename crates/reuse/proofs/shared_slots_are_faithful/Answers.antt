@@ -1,6 +1,7 @@
 use Rattle.reuse.proofs.OwnSlots.{once_runs_are_own}
 use Rattle.reuse.proofs.Unfold.{each_run_unfolds}
 use Rattle.reuse.proofs.Reused.{shared_slots_are_faithful, releases_are_last, holders_are_alone}
+use Rattle.reuse.proofs.Bounds.{no_loop_keeps_bounds, code_uses_again}
 use Rattle.reuse.proofs.shared_slots_are_faithful.Goals as goal
 
 pub returns-clause-own : goal.returns-clause-own
@@ -17,3 +18,9 @@ returns-clause-release c = releases_are_last
 
 pub returns-clause-alone : goal.returns-clause-alone
 returns-clause-alone c = holders_are_alone
+
+pub returns-clause-no_loop : goal.returns-clause-no_loop
+returns-clause-no_loop c = no_loop_keeps_bounds
+
+pub returns-clause-again : goal.returns-clause-again
+returns-clause-again c = code_uses_again
