@@ -89,5 +89,38 @@ place_tied ts n before copied (i ∷ is) (suc v) m h e =
     let z : n + 0 ≡ n = omega arith in
     let t : is_tied ts n ≡ true = sym (ap (is_tied ts) z) ∙ h 0 (omega arith) in
     let r = place_tied ts (n + 1) before (copied + size i) is v m (λ k l. let y : n + 1 + k ≡ n + suc k = omega arith in ap (is_tied ts) y ∙ h (suc k) (omega (arith, l)))
-        (sym (ap (λ (t : Bool). slice_get (places_from ts (n + 1) (if t then before else copied + size i) (copied + size i) is) v) t) ∙ e) in
+    (sym (ap (λ (t : Bool). slice_get (places_from ts (n + 1) (if t then before else copied + size i) (copied + size i) is) v) t) ∙ e) in
     omega (arith, r)
+
+-- WHERE THERE ARE LINKS the entries are tied, too
+tie_keeps : (ts : List Bool) (from count k : ℕ) → is_tied ts k ≡ true → is_tied (tie ts from count) k ≡ true
+tie_keeps ts from zero k h = h
+tie_keeps ts from (suc c) k h = pick (cases_eq k (from + c)) (tie_keeps ts from c k h)
+  where
+    within : (ts : List Bool) (k : ℕ) → is_tied ts k ≡ true → k < length ts
+    within [] k e = absurd (true≢false (sym e))
+    within (t ∷ ts) zero e = omega arith
+    within (t ∷ ts) (suc k) e = let r = within ts k e in omega (arith, r)
+
+    pick : (k ≡ from + c) ⊎ (k ≡ from + c → ⊥) → is_tied (tie ts from c) k ≡ true → is_tied (slice_set (tie ts from c) (from + c) true) k ≡ true
+    pick (inl e) more =
+        let low = within (tie ts from c) k more in
+        ap (is_tied (slice_set (tie ts from c) (from + c) true)) e ∙ get_or-set_same (tie ts from c) (from + c) true false (omega (arith, low, e))
+    pick (inr d) more = get_or-set_other (tie ts from c) (from + c) k true false d ∙ more
+
+landings_keep : (ts : List Bool) (n size : ℕ) (ds : List Dest) (k : ℕ) → is_tied ts k ≡ true → is_tied (tie_landings ts n size ds) k ≡ true
+landings_keep ts n size [] k h = h
+landings_keep ts n size (d ∷ ds) k h = landings_keep (tie ts (n + d.ahead) (size - 1)) n size ds k (tie_keeps ts (n + d.ahead) (size - 1) k h)
+
+instr_keeps : (p : Plan) (ts : List Bool) (n : ℕ) (i : Instr) (op : Op) (k : ℕ) → is_tied ts k ≡ true → is_tied (tie_instr p ts n i op) k ≡ true
+instr_keeps p ts n i (Link b) k h = landings_keep ts n (landing p b) i.firsts k h
+instr_keeps p ts n i op k h = h
+
+all_keeps : (p : Plan) (ts : List Bool) (n : ℕ) (is : List Instr) (k : ℕ) → is_tied ts k ≡ true → is_tied (tie_all p ts n is) k ≡ true
+all_keeps p ts n [] k h = h
+all_keeps p ts n (i ∷ is) k h = all_keeps p (tie_instr p ts n i i.op) (n + 1) is k (instr_keeps p ts n i i.op k h)
+
+pub entries_tied : (p : Plan) (inputs : ℕ) (is : List Instr) (k : ℕ) → k < inputs → k < length is → is_tied (tied_in p inputs is) k ≡ true
+entries_tied p inputs is k h there =
+    let len = none_length (length is) in
+    all_keeps p (tie (replicate (length is) false) 0 inputs) 0 is k (tie_these (replicate (length is) false) 0 inputs k (omega arith) (omega (arith, h)) (omega (arith, there, len)))

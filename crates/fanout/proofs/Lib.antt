@@ -10,3 +10,5 @@ pub mod Keeps
 pub mod Theorem
 pub mod Shapes
 pub mod Plans
+pub mod Arrows
+pub mod Wires

@@ -46,7 +46,7 @@ no_slot i h e s = impossible (sym (ap (slot_of i) e) ∙ s)
     impossible : None ≡ Some h → ⊥
     impossible x = absurd (cc)
 
-slot_same : (i j : Instr) (op : Op) → i.slot ≡ j.slot → slot_of i op ≡ slot_of j op
+pub slot_same : (i j : Instr) (op : Op) → i.slot ≡ j.slot → slot_of i op ≡ slot_of j op
 slot_same i j (Apply2 op) e = ap Some e
 slot_same i j Sync e = ap Some e
 slot_same i j Switch e = ap Some e
@@ -63,16 +63,16 @@ slot_same i j op e = refl
 
 -- ONE BLOCK
 module _ (p : Plan) (c : CodeBlock) where
-  abbrev is : List Instr
+  abbrev pub is : List Instr
   is = parts_of c
 
-  abbrev ts : List Bool
+  abbrev pub ts : List Bool
   ts = tied_in p c.inputs is
 
-  abbrev l : Layout
+  abbrev pub l : Layout
   l = layout_with ts is
 
-  all : length ts ≡ length is
+  pub all : length ts ≡ length is
   all = tied_length p c.inputs is
 
   -- an old instruction in its place
@@ -139,7 +139,7 @@ module _ (p : Plan) (c : CodeBlock) where
       let k = old a.0.v b.0.v h a.0.i b.0.i a.0.there b.0.there a.1 b.1 in
       (ap (λ op. bound_of (part_of op)) a.0.op ∙ k.0 ∙ sym (ap (λ op. bound_of (part_of op)) b.0.op), λ g. same_place m n i j a.0 b.0 (k.1 (sym (ap part_of a.0.op) ∙ g ∙ ap part_of b.0.op)))
 
-  at_place : (n : ℕ) (i : Instr) → slice_get c.instrs n ≡ Some i → slice_get (narrowed_block p c).instrs (place_of l n) ≡ Some (moved l n (parted i))
+  pub at_place : (n : ℕ) (i : Instr) → slice_get c.instrs n ≡ Some i → slice_get (narrowed_block p c).instrs (place_of l n) ≡ Some (moved l n (parted i))
   at_place n i e = stands ts is all n (parted i) (part_here c.instrs n i e)
     where
       part_here : (is : List Instr) (n : ℕ) (i : Instr) → slice_get is n ≡ Some i → slice_get (map parted is) n ≡ Some (parted i)

@@ -96,12 +96,12 @@ past_first : (ts : List Bool) (n before copied : ℕ) (i : Instr) (is : List Ins
 past_first ts n before copied i is zero m' k h all e l free = absurd (not-suc-le-zero l)
 past_first ts n before copied i is (suc w) m' k h all e l free = elim (is_tied ts n) as (λ t. is_tied ts n ≡ t
     → slice_get (places_from ts (n + 1) (if t then before else copied + size i) (copied + size i) is) w ≡ Some m' → n + run (drop n ts) + copied + size i ≤ m') [
-  | true ↦ λ t e. more k l free t is all e (λ j js k a e l f. past_first ts (n + 1) before (copied + size i) j js w m' k (omega (arith, h)) a e l f)
-  | false ↦ λ t e.
-      let r = run_free ts n (omega (arith, all)) t in
-      let p = place_low ts (n + 1) (copied + size i) (copied + size i) is w m' (omega arith) e in
-      omega (arith, r, p)
-] refl e
+      | true ↦ λ t e. more k l free t is all e (λ j js k a e l f. past_first ts (n + 1) before (copied + size i) j js w m' k (omega (arith, h)) a e l f)
+      | false ↦ λ t e.
+          let r = run_free ts n (omega (arith, all)) t in
+          let p = place_low ts (n + 1) (copied + size i) (copied + size i) is w m' (omega arith) e in
+          omega (arith, r, p)
+    ] refl e
   where
     more : (k : ℕ) → k < suc w → is_tied ts (n + k) ≡ false → is_tied ts n ≡ true → (is : List Instr) → length ts ≡ n + length (i ∷ is) → slice_get (places_from ts (n + 1) before (copied + size i) is) w ≡ Some m'
         → ((j : Instr) (js : List Instr) (k : ℕ) → length ts ≡ n + 1 + length (j ∷ js) → slice_get (places_from ts (n + 1) before (copied + size i) (j ∷ js)) w ≡ Some m' → k < w → is_tied ts (n + 1 + k) ≡ false
@@ -140,9 +140,9 @@ place_order ts n before copied (i ∷ is) zero (suc w) m m' h p q l =
     let a = same_number (n + before) m p in let b = place_low ts n before copied (i ∷ is) (suc w) m' h q in omega (arith, a, b)
 place_order ts n before copied (i ∷ is) (suc v) (suc w) m m' h p q l = elim (is_tied ts n) as (λ t. slice_get (places_from ts (n + 1) (if t then before else copied + size i) (copied + size i) is) v ≡ Some m
     → slice_get (places_from ts (n + 1) (if t then before else copied + size i) (copied + size i) is) w ≡ Some m' → m < m') [
-  | true ↦ λ p q. place_order ts (n + 1) before (copied + size i) is v w m m' (omega (arith, h)) p q (le_of_suc-le-suc l)
-  | false ↦ λ p q. place_order ts (n + 1) (copied + size i) (copied + size i) is v w m m' (omega arith) p q (le_of_suc-le-suc l)
-] p q
+      | true ↦ λ p q. place_order ts (n + 1) before (copied + size i) is v w m m' (omega (arith, h)) p q (le_of_suc-le-suc l)
+      | false ↦ λ p q. place_order ts (n + 1) (copied + size i) (copied + size i) is v w m m' (omega arith) p q (le_of_suc-le-suc l)
+    ] p q
 
 -- WHAT STANDS THERE
 module _ {X : Type 0} (ts : List Bool) (one : ℕ → Instr → X) (more : ℕ → Instr → List X) (sized : (n : ℕ) (i : Instr) → length (more n i) ≡ size i) where
@@ -179,7 +179,7 @@ module _ {X : Type 0} (ts : List Bool) (one : ℕ → Instr → X) (more : ℕ �
       let k = length-append waiting (more n j) in let s = sized n j in
       let len : length (waiting ++ more n j) ≡ length waiting + size j = omega (arith, k, s) in
       elim (is_tied ts n) as (λ t. slice_get (places_from ts (n + 1) (if t then before else copied + size j) (copied + size j) is) v ≡ Some m
-          → (x : ℕ) × (n + before + x ≡ m) × (slice_get (one n j ∷ next n waiting j is t) x ≡ Some (one q i))) [
+      → (x : ℕ) × (n + before + x ≡ m) × (slice_get (one n j ∷ next n waiting j is t) x ≡ Some (one q i))) [
         | true ↦ λ p.
             let r = one_from (n + 1) before (copied + size j) (waiting ++ more n j) is v m q i (omega (arith, h, len)) at p (omega (arith, e)) in
             let s = r.1 in (suc r.0, omega (arith, s), r.2)

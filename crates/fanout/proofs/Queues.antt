@@ -27,7 +27,7 @@ window_end f k (suc a) =
     let e : k + 1 + a ≡ k + suc a = omega arith in
     ap (λ xs. f k ∷ xs) (window_end f (k + 1) a) ∙ (λ z. f k ∷ (window f (k + 1) a ++ f (e z) ∷ f (e z + 1) ∷ []))
 
-there : {X : Type 0} (xs : List X) (i : ℕ) → i < length xs → (x : X) × (slice_get xs i ≡ Some x)
+pub there : {X : Type 0} (xs : List X) (i : ℕ) → i < length xs → (x : X) × (slice_get xs i ≡ Some x)
 there [] i h = absurd (not-suc-le-zero h)
 there (x ∷ xs) zero h = (x, refl)
 there (x ∷ xs) (suc i) h = there xs i (le_of_suc-le-suc h)

@@ -1,8 +1,8 @@
 -- What a plan keeps when it is narrowed.
-use Rattle.std.specs.Prelude.{◌≡◌, ◌≢◌, ℕ, ◌≤◌, Bool, true, false, List, All, length, Some, slice_get, ⊤}
+use Rattle.std.specs.Prelude.{◌≡◌, ◌≢◌, ℕ, ◌+◌, ◌<◌, ◌≤◌, ◌++◌, Bool, true, false, List, All, length, Some, slice_get, Contains, ⊤}
 use Rattle.tags.specs.declared.token.Port.TheVariants.{Left}
 use Rattle.semantics.specs.declared.program.Dest.{Dest}
-use Rattle.semantics.specs.Bytes.{HasDests}
+use Rattle.semantics.specs.Bytes.{HasDests, IsDest}
 use Rattle.semantics.specs.Graph.{Graph, Flow, flow_of}
 use Rattle.semantics.specs.WellFormed.{WellFormed}
 use Rattle.semantics.specs.declared.program.Op.{Op}
@@ -10,13 +10,14 @@ use Rattle.semantics.specs.declared.program.Op.TheVariants.{Link, Switch}
 use Rattle.semantics.specs.declared.program.Mark.TheVariants.{Unmarked}
 use Rattle.semantics.specs.Program.{Instr, CodeBlock, Program}
 use Rattle.semantics.specs.Plan.{Plan, HasShape, mark_at, IsPlan}
-use Rattle.semantics.specs.Wired.{StandsAt, LoopsAgree}
+use Rattle.semantics.specs.Wired.{StandsAt, LoopsAgree, IsWired}
 use Rattle.semantics.specs.Orderly.{Orderly}
 use Rattle.semantics.specs.Faithful.{Faithful}
 use Rattle.lowering.specs.Implements.{IsStraight, Implements}
 use Rattle.lowering.specs.StraightPlan.{straight_program}
 use Rattle.lowering.specs.Theorem.{IsStraightLine}
-use Rattle.fanout.specs.Narrowed.{narrowed}
+use Rattle.fanout.specs.Rows.{is_tied}
+use Rattle.fanout.specs.Narrowed.{narrowed, layout_of}
 
 abbrev pub is_link : Op → Bool
 is_link (Link b) = true
@@ -65,6 +66,38 @@ MarksStay = (p : Plan) → MarksSwitches p → MarksSwitches (narrowed p)
 -- The instructions of a loop stay one of a kind, with one bound.
 abbrev pub LoopsStay : Type 0
 LoopsStay = (p : Plan) → AllLoops p → AllLoops (narrowed p)
+
+-- ROWS. Between the two places an instruction is free of the next one, so they are not of one row.
+abbrev pub AreApart : List Bool → ℕ → ℕ → Type 0
+AreApart ts n m = (k : ℕ) × (n ≤ k) × (k < m) × (is_tied ts k ≡ false)
+
+-- The instruction at a place of a block names the destination.
+pub record Names (p : Plan) (b n : ℕ) (c : CodeBlock) (d : Dest) : Type 0 where
+  pub i : Instr
+  pub block : slice_get p.program.blocks b ≡ Some c
+  pub there : StandsAt c n i
+  pub named : Contains (i.firsts ++ i.seconds) d
+
+-- each destination leaves the row of the instruction that names it
+abbrev pub LeavesRows : Plan → Type 0
+LeavesRows p = (b n : ℕ) (c : CodeBlock) (d : Dest) → Names p b n c d → AreApart (layout_of p c).tied n (n + d.ahead)
+
+-- Each destination is a later instruction of the block, a right port one of an instruction with two operands.
+abbrev pub AreDests : Plan → Type 0
+AreDests p = (b n : ℕ) (c : CodeBlock) (d : Dest) → Names p b n c d → IsDest c n d
+
+abbrev pub DestsStay : Type 0
+DestsStay = (p : Plan) → LeavesRows p → AreDests p → AreDests (narrowed p)
+
+-- WIRED PLANS. What a plan keeps to whose copies are wired as well: a destination is no entry, and the entries are there.
+pub record StandsClear (p : Plan) : Type 0 where
+  pub rows : LeavesRows p
+  pub dests : AreDests p
+  pub entries : (b n : ℕ) (c : CodeBlock) (d : Dest) → Names p b n c d → c.inputs < n + d.ahead
+  pub there : (b : ℕ) (c : CodeBlock) → slice_get p.program.blocks b ≡ Some c → c.inputs < length c.instrs
+
+abbrev pub StaysWired : Type 0
+StaysWired = (p : Plan) → StandsClear p → IsWired p → IsWired (narrowed p)
 
 -- FEW DESTINATIONS
 -- what holds of each instruction

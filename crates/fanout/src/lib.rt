@@ -7,15 +7,15 @@
 
 ghost use Rattle.std.specs.Prelude.{◌≡◌, IfOk};
 ghost use Rattle.fanout.specs.Narrowed.{narrowed};
-ghost use Rattle.fanout.specs.Laws.{AllInstrs, HasFew, IsShaped, HasItsDests, StillImplements, StraightImplements, StraightIsFaithful, StraightIsOrderly};
+ghost use Rattle.fanout.specs.Laws.{AllInstrs, HasFew, IsShaped, HasItsDests, StaysPlan, MarksStay, LoopsStay, DestsStay, StaysWired, StillImplements, StraightImplements, StraightIsFaithful, StraightIsOrderly};
 
 mod blocks;
 mod layout;
 mod rows;
 mod sides;
-mod trees;
 #[cfg(test)]
 mod tests;
+mod trees;
 
 use blocks::narrow_block;
 use code::{Plan, Program};
@@ -28,8 +28,18 @@ pub fn narrowed_code_is_faithful()
     ensures straight { StraightImplements }
     ensures faithful { StraightIsFaithful }
     ensures orderly { StraightIsOrderly }
-{
-}
+{}
+
+/// What any plan keeps when it is narrowed: it stays a plan, marked at its switches and nowhere else, with its loops as
+/// they were. Where each destination leaves the row of the instruction that names it, all destinations lead to later
+/// instructions of their block, as they did before.
+pub fn narrowed_plan_is_plan()
+    ensures plan { StaysPlan }
+    ensures marks { MarksStay }
+    ensures loops { LoopsStay }
+    ensures dests { DestsStay }
+    ensures wired { StaysWired }
+{}
 
 /// The plan with trees of copies for destinations. Each instruction keeps its slot and its mark.
 ///

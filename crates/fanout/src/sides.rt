@@ -81,10 +81,7 @@ fn firsts_of<A: Allocator + Clone>(alloc: A, instr: &Instr<A>) -> Result<Vec<Des
 }
 
 /// The second side of an instruction.
-fn seconds_of<A: Allocator + Clone>(
-    alloc: A,
-    instr: &Instr<A>,
-) -> Result<Vec<Dest, A>, AllocError>
+fn seconds_of<A: Allocator + Clone>(alloc: A, instr: &Instr<A>) -> Result<Vec<Dest, A>, AllocError>
     ensures { IfOk result (λ v. v.items ≡ of_sides.seconds_of (of_sides.parting_of instr.now.op) instr.now.firsts instr.now.seconds) }
 {
     match Parting::of(instr.op) {

@@ -35,11 +35,7 @@ fn dests_of<A: Allocator>(alloc: A, ahead: &[(u32, Port)]) -> Result<Vec<Dest, A
     Ok(dests)
 }
 
-fn instr_of<A: Allocator + Clone>(
-    alloc: A,
-    slot: u32,
-    line: Line,
-) -> Result<Instr<A>, AllocError> {
+fn instr_of<A: Allocator + Clone>(alloc: A, slot: u32, line: Line) -> Result<Instr<A>, AllocError> {
     let (op, firsts, seconds) = line;
     Ok(Instr {
         op,
@@ -108,10 +104,8 @@ fn plan_of<A: Allocator + Clone>(
 
 fn is_same(dests: &[Dest], wanted: &[(u32, Port)]) -> bool {
     dests.len() == wanted.len()
-        && dests
-            .iter()
-            .zip(wanted.iter())
-            .all(|(dest, (ahead, port))| dest.ahead == *ahead && dest.port == *port)
+        && dests.iter().zip(wanted.iter()).all(|(dest, (ahead, port))| dest.ahead == *ahead
+            && dest.port == *port)
 }
 
 /// Whether the first block of the plan has just these instructions.
@@ -285,7 +279,11 @@ fn a_give_sends_to_one_place(rt: HostRuntime) -> Result<(), Fail> {
 }
 
 /// So many instructions in a row, of which each names the next ones.
-fn long_plan<A: Allocator + Clone>(alloc: A, blocks: u32, count: u32) -> Result<Plan<A>, AllocError> {
+fn long_plan<A: Allocator + Clone>(
+    alloc: A,
+    blocks: u32,
+    count: u32,
+) -> Result<Plan<A>, AllocError> {
     let mut list = Vec::new(alloc.clone()?);
     let mut marks = Vec::new(alloc.clone()?);
     for _block in 0..blocks {
