@@ -1,5 +1,5 @@
 -- A plan whose blocks are all straight code, and the blocks of a straight graph's plan.
-use Rattle.std.proofs.Common.{◌≡◌, refl, sym, ap, ◌∙◌, subst, ℕ, zero, suc, ◌+◌, ◌<◌, List, [], ◌∷◌, ◌++◌, length, Some, arith, add-zero, zero-add}
+use Rattle.std.proofs.Common.{◌≡◌, refl, sym, ap, ◌∙◌, subst, ℕ, zero, suc, ◌+◌, ◌≤◌, ◌<◌, List, [], ◌∷◌, ◌++◌, length, Some, arith, add-zero, zero-add}
 use Rattle.std.specs.Prelude.{slice_get}
 use Rattle.std.proofs.lemmas.List.{length-map}
 use Rattle.std.proofs.lemmas.Option.{slice_get_within}
@@ -13,13 +13,15 @@ use Rattle.semantics.specs.Wired.{IsWired}
 use Rattle.semantics.specs.Orderly as Orderly
 use Rattle.semantics.specs.Faithful as Faithful
 use Rattle.determinacy.proofs.Resolved.{all_get}
+use Rattle.lowering.specs.Roles.{total}
 use Rattle.lowering.specs.Implements.{IsStraight, IsStraightBlock}
 use Rattle.lowering.specs.StraightPlan.{straight_code, straight_codes}
 use Rattle.lowering.proofs.StraightGraph.{graph_is_straight}
-use Rattle.reuse.specs.Theorem.{TakesInputs, AsksForNoFrame}
+use Rattle.reuse.specs.Theorem.{TakesInputs}
 use Rattle.composition.specs.Straight.{IsStraightGraph, IsStraightPlan}
-use Rattle.composition.specs.Theorem.{IsStraightLined}
+use Rattle.composition.specs.Theorem.{AsksForNoFrame, IsStraightLined}
 use Rattle.composition.proofs.Lines.{IsLineOp, IsLineBlock, all_of, same, not_frame, plan_block, loops_agree, good_arc, map_back}
+use Rattle.composition.proofs.Sizes.{dests_of, code_small}
 use Rattle.composition.proofs.Straight.{IsWithin, straight_lines}
 
 -- PLANS OF STRAIGHT CODE
@@ -89,16 +91,33 @@ module _ (g : Graph) (p : Plan) (straight : IsStraightGraph g) (plan : IsStraigh
   pub flat : IsStraight fl
   flat = graph_is_straight g straight.well straight.line
 
-  straight_block : (k : ℕ) (c : CodeBlock) → slice_get p.program.blocks k ≡ Some c → IsLineBlock g.version c
-  straight_block k c e =
+  -- the block of the graph whose code a block of the plan is
+  record IsCodeOf (k : ℕ) (c : CodeBlock) : Type 0 where
+    block : Block ℕ
+    is_straight : IsStraightBlock block
+    is_within : IsWithin k block
+    code : straight_code g.version k block ≡ c
+
+  code_of : (k : ℕ) (c : CodeBlock) → slice_get p.program.blocks k ≡ Some c → IsCodeOf k c
+  code_of k c e =
       let r = codes_back g.version 0 fl.blocks k c (sym (ap (λ (q : Program). slice_get q.blocks k) plan.program) ∙ e) in
       let n = map_back (λ (named : Named). resolved_block (array_names g) (block_names g) named.1) g.blocks k r.0 r.1 in
       let low = slice_get_within g.blocks k n.0 n.1 in
       let few = straight.text.few_blocks in
-      let w : IsWithin k r.0 = subst (IsWithin k) n.2 (within g.version k g n.0 (omega (arith, low, few)) (all_get (HasBlockText g.version) g.blocks k n.0 straight.text.blocks n.1)
-      (all_get (λ (named : Named). IsBlockWell g named.1) g.blocks k n.0 straight.well.blocks n.1)) in
-      subst (IsLineBlock g.version) (ap (λ n. straight_code g.version n r.0) (sym (zero-add k)) ∙ r.2)
-      (straight_lines g.version k r.0 (all_get IsStraightBlock fl.blocks k r.0 flat.blocks r.1) w)
+      record {
+        block = r.0;
+        is_straight = all_get IsStraightBlock fl.blocks k r.0 flat.blocks r.1;
+        is_within = subst (IsWithin k) n.2 (within g.version k g n.0 (omega (arith, low, few)) (all_get (HasBlockText g.version) g.blocks k n.0 straight.text.blocks n.1)
+            (all_get (λ (named : Named). IsBlockWell g named.1) g.blocks k n.0 straight.well.blocks n.1));
+        code = ap (λ n. straight_code g.version n r.0) (sym (zero-add k)) ∙ r.2;
+      }
+
+  straight_block : (k : ℕ) (c : CodeBlock) → slice_get p.program.blocks k ≡ Some c → IsLineBlock g.version c
+  straight_block k c e = let o = code_of k c e in subst (IsLineBlock g.version) o.code (straight_lines g.version k o.block o.is_straight o.is_within)
+
+  pub straight_small : (k : ℕ) (c : CodeBlock) → slice_get p.program.blocks k ≡ Some c → length c.instrs + total dests_of c.instrs ≤ 6243
+  straight_small k c e =
+      let o = code_of k c e in subst (λ (c : CodeBlock). length c.instrs + total dests_of c.instrs ≤ 6243) o.code (code_small g.version k o.block o.is_straight o.is_within)
 
   pub straight_plan_lines : IsLinePlan g.version p
   straight_plan_lines = record { blocks = straight_block; unmarked = plan.unmarked }

@@ -1,5 +1,5 @@
 -- What the compiler makes of a straight graph.
-use Rattle.std.proofs.Common.{◌≡◌, refl, sym, ap, ◌∙◌, subst, ℕ, ◌≤◌, List, length, sum, Option, Some, None, arith}
+use Rattle.std.proofs.Common.{◌≡◌, refl, sym, ap, ◌∙◌, subst, ℕ, ◌≤◌, List, [], ◌++◌, length, sum, Option, Some, None, arith}
 use Rattle.std.specs.Prelude.{slice_get, All, option_map}
 use Rattle.std.proofs.lemmas.List.{length-map}
 use Rattle.std.proofs.lemmas.Option.{slice_get-map}
@@ -12,23 +12,30 @@ use Rattle.semantics.specs.Plan.{Plan}
 use Rattle.semantics.specs.Sharing.{Good}
 use Rattle.semantics.specs.Placed.{placed}
 use Rattle.semantics.specs.Faithful.{Faithful}
+use Rattle.semantics.specs.Wired.{IsWired}
+use Rattle.semantics.specs.Reuse.{ReleasesLast}
+use Rattle.semantics.specs.Credits.{KeepsBounds}
+use Rattle.semantics.specs.Holders.{HoldsAlone}
 use Rattle.semantics.specs.Orderly as Orderly
 use Rattle.semantics.specs.Orderly.{Orderly}
 use Rattle.fanout.specs.Narrowed.{narrowed, narrowed_block}
 use Rattle.fanout.proofs.Theorem.{narrow_is_faithful, narrow_is_orderly, narrow_none}
 use Rattle.reuse.specs.Theorem.{TakesInputs}
-use Rattle.reuse.proofs.Straight.{shared_slots_are_faithful}
+use Rattle.reuse.proofs.Reused.{shared_slots_are_faithful, releases_are_last, holders_are_alone}
 use Rattle.emitted.specs.SameRuns.{HasOrigins}
-use Rattle.emitted.proofs.Laws.{emitted_faithful}
+use Rattle.emitted.proofs.Laws.{emitted_faithful, emitted_releases, emitted_credits, emitted_holders}
 use Rattle.select.specs.declared.Version.{Version}
 use Rattle.select.specs.declared.Version.TheVariants.{One, Two}
 use Rattle.select.specs.Emitted.{version_number}
 use Rattle.select.specs.Emittable.{IsEmittable}
 use Rattle.composition.specs.Straight.{IsStraightGraph, IsStraightPlan}
-use Rattle.composition.specs.Theorem.{PlanIsStraight, PlanIsLined, NarrowedIsLined, CompiledIsEmittable, CompiledIsFaithful}
-use Rattle.composition.proofs.Lines.{IsLineBlock, HasFew, all_of, map_back, block_emittable}
+use Rattle.composition.specs.Theorem.{PlanIsStraight, PlanIsLined, NarrowedIsLined, CompiledIsEmittable, NarrowedIsNear, CompiledIsFaithful, CompiledReleasesLast, CompiledKeepsBounds, CompiledHoldsAlone}
+use Rattle.composition.proofs.Lines.{IsLineBlock, HasFew, not_credit, all_of, map_back, block_emittable}
 use Rattle.composition.proofs.Narrow.{narrow_lines, narrow_few}
-use Rattle.composition.proofs.Blocks.{IsLinePlan, line_plan, line_wired, line_frames, line_lined, flat, straight_plan_lines, straight_takes, program_length}
+use Rattle.composition.proofs.Credits.{loopless_keeps_bounds}
+use Rattle.composition.proofs.Near.{IsShort, none_too_far}
+use Rattle.composition.proofs.Sizes.{narrow_length}
+use Rattle.composition.proofs.Blocks.{straight_small, IsLinePlan, line_plan, line_wired, line_lined, flat, straight_plan_lines, straight_takes, program_length}
 
 pub plan_is_straight : PlanIsStraight
 plan_is_straight g = record { program = refl; unmarked = λ b n. refl }
@@ -94,15 +101,35 @@ module _ (g : Graph) (p : Plan) (straight : IsStraightGraph g) (plan : IsStraigh
         blocks = λ b c ss at to. let h = good.blocks b c ss at to in block_emittable g.version c (lines.blocks b c at) (narrowed p).program ss h.all h.below (few b c at);
       }
 
+  short : All IsShort (narrowed p).program.blocks
+  short = all_of IsShort (narrowed p).program.blocks (λ k c e.
+      let r = map_back (narrowed_block p) p.program.blocks k c e in
+      let n = narrow_length g.version p r.0 (old.blocks k r.0 r.1) in let s = straight_small g p straight plan k r.0 r.1 in let z = ap (λ (c : CodeBlock). length c.instrs) r.2 in
+      omega (arith, n, s, z))
+
   -- FAITHFUL CODE
   origins : (version : Version) → version_number version ≡ g.version → HasOrigins version (narrowed p)
   origins One e = all_of (λ (c : CodeBlock). All (λ (i : Instr). i.origin ≡ Untold) c.instrs) (narrowed p).program.blocks
       (λ k c at. all_of (λ (i : Instr). i.origin ≡ Untold) c.instrs (λ n i to. ((lines.blocks k c at).lines n i to).told (sym e)))
   origins Two e = tt
 
+  orderly : Orderly (narrowed p)
+  orderly = narrow_is_orderly fl p (flat g p straight plan) plan.program plan.unmarked
+
+  wired : IsWired (narrowed p)
+  wired = line_wired g.version (narrowed p) lines
+
   faithful : (slots : List (List ℕ)) → Good (narrowed p) slots → Faithful fl (placed (narrowed p) slots)
-  faithful slots good = shared_slots_are_faithful fl (narrowed p) slots (narrow_is_faithful g p straight.well straight.line plan.program)
-      (narrow_is_orderly fl p (flat g p straight plan) plan.program plan.unmarked) (line_wired g.version (narrowed p) lines) good takes (line_frames g.version (narrowed p) lines)
+  faithful slots good = shared_slots_are_faithful fl (narrowed p) slots (narrow_is_faithful g p straight.well straight.line plan.program) orderly wired good takes
+
+  releases : (slots : List (List ℕ)) → Good (narrowed p) slots → ReleasesLast fl (placed (narrowed p) slots)
+  releases slots good = releases_are_last fl (narrowed p) slots orderly wired good takes
+
+  alone : (slots : List (List ℕ)) → Good (narrowed p) slots → HoldsAlone fl (narrowed p) slots
+  alone slots good = holders_are_alone fl (narrowed p) slots orderly wired good takes
+
+  credits : (slots : List (List ℕ)) → Good (narrowed p) slots → KeepsBounds fl (narrowed p) slots
+  credits slots good = loopless_keeps_bounds fl (narrowed p) slots good.all (λ b n c i at to. not_credit i.op (i.firsts ++ i.seconds) ((lines.blocks b c at).lines n i to).op)
 
 pub narrowed_is_lined : NarrowedIsLined
 narrowed_is_lined g p straight plan = line_lined g.version (narrowed p) (lines g p straight plan) g (takes g p straight plan)
@@ -110,6 +137,21 @@ narrowed_is_lined g p straight plan = line_lined g.version (narrowed p) (lines g
 pub compiled_is_emittable : CompiledIsEmittable
 compiled_is_emittable g p slots straight plan good = emittable g p straight plan slots good
 
+pub narrowed_is_near : NarrowedIsNear
+narrowed_is_near g p straight plan few = none_too_far (narrowed p).program.blocks 0 [] (short g p straight plan) few
+
 pub compiled_is_faithful : CompiledIsFaithful
 compiled_is_faithful g p slots version straight plan good same =
     emitted_faithful (flow_of g) (narrowed p) slots version (line_plan g.version (narrowed p) (lines g p straight plan)) (origins g p straight plan version same) (faithful g p straight plan slots good)
+
+pub compiled_releases_last : CompiledReleasesLast
+compiled_releases_last g p slots version straight plan good same =
+    emitted_releases (flow_of g) (narrowed p) slots version (line_plan g.version (narrowed p) (lines g p straight plan)) (origins g p straight plan version same) (releases g p straight plan slots good)
+
+pub compiled_holds_alone : CompiledHoldsAlone
+compiled_holds_alone g p slots version straight plan good same =
+    emitted_holders (flow_of g) (narrowed p) slots version (line_plan g.version (narrowed p) (lines g p straight plan)) (origins g p straight plan version same) (alone g p straight plan slots good)
+
+pub compiled_keeps_bounds : CompiledKeepsBounds
+compiled_keeps_bounds g p slots version straight plan good same =
+    emitted_credits (flow_of g) (narrowed p) slots version (line_plan g.version (narrowed p) (lines g p straight plan)) (origins g p straight plan version same) (credits g p straight plan slots good)

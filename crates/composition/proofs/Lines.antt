@@ -103,6 +103,16 @@ first op ds h = absurd h
 pub not_frame : (op : Op) (ds : List Dest) → IsLineOp op ds → op ≡ Frame → ⊥
 not_frame op ds h e = subst (λ o. IsLineOp o ds) e h
 
+pub not_credit : (op : Op) (ds : List Dest) → IsLineOp op ds → is_credit op ≡ false
+not_credit (Apply1 op) ds h = refl
+not_credit (Apply2 op) ds h = refl
+not_credit (Lit z) ds h = refl
+not_credit Copy ds h = refl
+not_credit Sync ds h = refl
+not_credit (Return o) ds h = refl
+not_credit (Release o) ds h = refl
+not_credit op ds h = absurd h
+
 operand : (p : Program) (op : Op) (ds : List Dest) → IsLineOp op ds → HasOperand (with_table p (listed (literal_of op))) op
 operand p (Apply1 op) ds h = tt
 operand p (Apply2 op) ds h = tt

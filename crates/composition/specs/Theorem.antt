@@ -1,21 +1,30 @@
 -- What the compiler makes of a straight graph: faithful code that has an object.
-use Rattle.std.specs.Prelude.{◌≡◌, ℕ, List}
+use Rattle.std.specs.Prelude.{◌≡◌, ◌≢◌, ℕ, ◌≤◌, List, length, Some, None, slice_get}
 use Rattle.semantics.specs.declared.program.Mark.TheVariants.{Unmarked}
 use Rattle.semantics.specs.Graph.{Graph, flow_of}
+use Rattle.semantics.specs.declared.program.Op.TheVariants.{Frame}
+use Rattle.semantics.specs.Program.{Instr, CodeBlock, Program}
 use Rattle.semantics.specs.Plan.{Plan, mark_at}
 use Rattle.semantics.specs.Wired.{IsWired}
 use Rattle.semantics.specs.Sharing.{Good}
 use Rattle.semantics.specs.Faithful.{Faithful}
+use Rattle.semantics.specs.Reuse.{ReleasesLast}
+use Rattle.emitted.specs.Same.{KeepsBoundsAs, HoldsAloneAs}
 use Rattle.fanout.specs.Narrowed.{narrowed}
-use Rattle.reuse.specs.Theorem.{TakesInputs, AsksForNoFrame}
+use Rattle.reuse.specs.Theorem.{TakesInputs}
 use Rattle.select.specs.declared.Version.{Version}
 use Rattle.select.specs.Emitted.{version_number, code_of}
+use Rattle.select.specs.Literals.{table_of, too_far}
 use Rattle.select.specs.Emittable.{IsEmittable}
 use Rattle.composition.specs.Straight.{IsStraightGraph, IsStraightPlan, straight_plan}
 
 -- A straight graph has such a plan.
 abbrev pub PlanIsStraight : Type 0
 PlanIsStraight = (g : Graph) → IsStraightPlan g (straight_plan g)
+
+-- no instruction asks for a frame
+abbrev pub AsksForNoFrame : Program → Type 0
+AsksForNoFrame p = (b n : ℕ) (c : CodeBlock) (i : Instr) → slice_get p.blocks b ≡ Some c → slice_get c.instrs n ≡ Some i → i.op ≢ Frame
 
 -- What holds of a plan without conditionals, calls and loops: its arcs, holders and marks keep to the rules of plans, main
 -- has the graph's inputs, nothing asks for a frame, and nothing is marked.
@@ -36,7 +45,26 @@ NarrowedIsLined = (g : Graph) (p : Plan) → IsStraightGraph g → IsStraightPla
 abbrev pub CompiledIsEmittable : Type 0
 CompiledIsEmittable = (g : Graph) (p : Plan) (slots : List (List ℕ)) → IsStraightGraph g → IsStraightPlan g p → Good (narrowed p) slots → IsEmittable (narrowed p) slots
 
+-- Its blocks are small enough: an object is refused only where there are more than 65,536 literals.
+abbrev pub NarrowedIsNear : Type 0
+NarrowedIsNear = (g : Graph) (p : Plan) → IsStraightGraph g → IsStraightPlan g p → length (table_of (narrowed p).program.blocks) ≤ 65536 → too_far (narrowed p).program.blocks ≡ None
+
 -- And the code that the object holds, in the graph's version, is faithful to the graph.
 abbrev pub CompiledIsFaithful : Type 0
 CompiledIsFaithful = (g : Graph) (p : Plan) (slots : List (List ℕ)) (version : Version) → IsStraightGraph g → IsStraightPlan g p → Good (narrowed p) slots
     → version_number version ≡ g.version → Faithful (flow_of g) (code_of version (narrowed p) slots)
+
+-- Nothing else names a frame when it is released,
+abbrev pub CompiledReleasesLast : Type 0
+CompiledReleasesLast = (g : Graph) (p : Plan) (slots : List (List ℕ)) (version : Version) → IsStraightGraph g → IsStraightPlan g p → Good (narrowed p) slots
+    → version_number version ≡ g.version → ReleasesLast (flow_of g) (code_of version (narrowed p) slots)
+
+-- loops keep their bounds, since there are none,
+abbrev pub CompiledKeepsBounds : Type 0
+CompiledKeepsBounds = (g : Graph) (p : Plan) (slots : List (List ℕ)) (version : Version) → IsStraightGraph g → IsStraightPlan g p → Good (narrowed p) slots
+    → version_number version ≡ g.version → KeepsBoundsAs (flow_of g) (narrowed p) (code_of version (narrowed p) slots)
+
+-- and two holders that share a slot never hold it at one moment.
+abbrev pub CompiledHoldsAlone : Type 0
+CompiledHoldsAlone = (g : Graph) (p : Plan) (slots : List (List ℕ)) (version : Version) → IsStraightGraph g → IsStraightPlan g p → Good (narrowed p) slots
+    → version_number version ≡ g.version → HoldsAloneAs (flow_of g) (narrowed p) (code_of version (narrowed p) slots)

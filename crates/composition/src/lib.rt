@@ -1,15 +1,21 @@
 //! What the compiler's passes make of a straight graph is faithful code that has an object.
 #![tactic(auto)]
 
-ghost use Rattle.composition.specs.Theorem.{CompiledIsEmittable, CompiledIsFaithful, NarrowedIsLined, PlanIsLined, PlanIsStraight};
+ghost use Rattle.composition.specs.Theorem.{CompiledHoldsAlone, CompiledIsEmittable, CompiledIsFaithful, CompiledKeepsBounds, CompiledReleasesLast, NarrowedIsLined, NarrowedIsNear, PlanIsLined, PlanIsStraight};
 
-/// A well-formed graph of literals and operators, within the limits of a text: its plan and the plan with trees of copies
-/// keep to the rules of plans and ask for no frame. With any good slots the latter has an object, where its blocks and its
-/// table of literals are not too large; and the code that the object holds is faithful to the graph.
+/// A straight graph is well formed, within the limits of a text, and of literals and operators alone. Its plan, and the plan
+/// with trees of copies, keep to the rules of plans, and no instruction asks for a frame.
+///
+/// With any good slots the latter has an object. Its blocks are small enough: an object is refused only where there are
+/// more than 65,536 literals. The code that the object holds is faithful to the graph.
 pub fn straight_graphs_compile()
     ensures plan { PlanIsStraight }
     ensures lined { PlanIsLined }
     ensures narrowed { NarrowedIsLined }
+    ensures near { NarrowedIsNear }
     ensures object { CompiledIsEmittable }
     ensures faithful { CompiledIsFaithful }
+    ensures release { CompiledReleasesLast }
+    ensures credits { CompiledKeepsBounds }
+    ensures alone { CompiledHoldsAlone }
 {}

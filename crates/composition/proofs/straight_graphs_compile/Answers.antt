@@ -1,4 +1,4 @@
-use Rattle.composition.proofs.Laws.{plan_is_straight, plan_is_lined, narrowed_is_lined, compiled_is_emittable, compiled_is_faithful}
+use Rattle.composition.proofs.Laws.{plan_is_straight, plan_is_lined, narrowed_is_lined, narrowed_is_near, compiled_is_emittable, compiled_is_faithful, compiled_releases_last, compiled_keeps_bounds, compiled_holds_alone}
 use Rattle.composition.proofs.straight_graphs_compile.Goals as goal
 
 pub returns-clause-plan : goal.returns-clause-plan
@@ -10,8 +10,20 @@ returns-clause-lined c = plan_is_lined
 pub returns-clause-narrowed : goal.returns-clause-narrowed
 returns-clause-narrowed c = narrowed_is_lined
 
+pub returns-clause-near : goal.returns-clause-near
+returns-clause-near c = narrowed_is_near
+
 pub returns-clause-object : goal.returns-clause-object
 returns-clause-object c = compiled_is_emittable
 
 pub returns-clause-faithful : goal.returns-clause-faithful
 returns-clause-faithful c = compiled_is_faithful
+
+pub returns-clause-release : goal.returns-clause-release
+returns-clause-release c = compiled_releases_last
+
+pub returns-clause-credits : goal.returns-clause-credits
+returns-clause-credits c = compiled_keeps_bounds
+
+pub returns-clause-alone : goal.returns-clause-alone
+returns-clause-alone c = compiled_holds_alone
