@@ -8,3 +8,5 @@ pub mod Starting
 pub mod Playing
 pub mod Ending
 pub mod Sums
+pub mod Pictures
+pub mod Showing

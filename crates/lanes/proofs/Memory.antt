@@ -15,7 +15,7 @@ use Rattle.lanes.specs.Setting.{Setting}
 use Rattle.semantics.specs.Program.{Program}
 use Rattle.lanes.specs.declared.elements.Elements.{Elements}
 use Rattle.lanes.specs.State.{AllFrom, IsAt, IsPlaced, IsWell, delivered, lanes_of, state_of}
-use Rattle.lanes.proofs.Places.{from_map, to_map}
+use Rattle.lanes.proofs.Places.{first_get, from_map, to_map}
 use Rattle.lanes.proofs.Tokens.{set_same, delivered_none, delivered_twice, delivered_one}
 
 pub ok_then : {X Y : Type 0} (r : Result X Y) (P Q : Type 0) → (P → Q) → OnOk r P → OnOk r Q
@@ -131,3 +131,11 @@ lane_there program width m e x well low none first is =
     let count = lane_count m.lanes.items (drop m.come m.sent.items) m.elements well.sound.count in
     let within : e < length m.lanes.items = omega arith in
     subst (λ (l : List Held). slice_get l e ≡ Some (held_of x)) (sym (none_coming m.lanes.items m.sent.items m.come none first)) (held_at m.lanes.items e x within is)
+
+-- what is so of a lane, with the tokens that are on their way
+pub raw_placed : {C A : Type 0} (program : C → Program) (width : C → ℕ) (m : Elements C A) (i : ℕ) (x : Lane A) → IsWell program width m → i < m.elements → x ≡ get_or m.lanes.items i x
+    → IsPlaced (state_of program width m).setting i (queued (held_of x) (drop m.come m.sent.items))
+raw_placed program width m i x well low is =
+    let count = lane_count m.lanes.items (drop m.come m.sent.items) m.elements well.sound.count in
+    let within : i < length m.lanes.items = omega arith in
+    first_get (IsPlaced (state_of program width m).setting) (state_of program width m).lanes i (queued (held_of x) (drop m.come m.sent.items)) well.sound.lanes (seen_at m.lanes.items (drop m.come m.sent.items) i x within is)

@@ -1,6 +1,10 @@
 -- What a run does.
 use Rattle.std.specs.Prelude.{◌≡◌, ℕ, zero, suc, ◌+◌, ◌-◌, ◌<◌, Bool, true, false, ◌⊎◌, ℤ, List, [], ◌∷◌, ◌++◌, length, Option, Some, None, ◌==◌, count_by}
 use Rattle.tags.specs.declared.token.Token.{Token}
+use Rattle.semantics.specs.declared.report.End.{End}
+use Rattle.semantics.specs.Program.{Program}
+use Rattle.semantics.specs.Rule.{array_base, array_len}
+use Rattle.semantics.specs.Report.{Report}
 use Rattle.semantics.specs.Machine.{Machine, Events, Run, at_start}
 use Rattle.element.specs.declared.lane.Stepped.{Stepped}
 use Rattle.element.specs.declared.lane.Stepped.TheVariants as stepped
@@ -84,3 +88,11 @@ HaltsAs s listed (Halt.Clash cell) = (e : ℕ) × (pick : ℕ) × IsClash s e pi
 HaltsAs s listed Halt.Steps = ((e : ℕ) × IsUsedUp s e) ⊎ ((listed ≡ true) × HasToken s)
 HaltsAs s listed (Halt.Stuck rule) = (e : ℕ) × (pick : ℕ) × IsStuckAt s e pick rule
 HaltsAs s listed Halt.Memory = Unit {0}
+
+-- what a report says of a halt: where no token is left, whether requests wait; and which array a cell is in
+abbrev pub EndsAs : Program → Report → Halt → Type 0
+EndsAs p r Halt.NoToken = ((r.end ≡ End.Rest) × (r.waiting_frames ≡ 0) × (r.waiting_credits ≡ 0)) ⊎ ((r.end ≡ End.Starved) × ((0 < r.waiting_frames) ⊎ (0 < r.waiting_credits)))
+EndsAs p r (Halt.Clash cell) = (a : ℕ) × (i : ℕ) × (r.end ≡ End.Clash a i) × (a < length p.arrays) × (i < array_len p a) × (array_base p a + i ≡ cell)
+EndsAs p r Halt.Steps = r.end ≡ End.Steps
+EndsAs p r (Halt.Stuck rule) = r.end ≡ End.Stuck rule
+EndsAs p r Halt.Memory = r.end ≡ End.Memory

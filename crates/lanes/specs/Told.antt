@@ -1,9 +1,10 @@
 -- What a report tells of lanes.
-use Rattle.std.specs.Prelude.{◌≡◌, ℕ, zero, suc, ◌*◌, ◌/◌, ◌%◌, List, [], ◌∷◌, ◌++◌, length, Option, Some, None, slice_get, slice_index_or}
+use Rattle.std.specs.Prelude.{◌≡◌, ℕ, zero, suc, ◌*◌, ◌/◌, ◌%◌, List, [], ◌∷◌, ◌++◌, length, Option, Some, None, slice_get, slice_index_or, sum}
 use Rattle.tags.specs.declared.value.Value.{Value}
 use Rattle.tags.specs.declared.slot.SlotState.{SlotState}
 use Rattle.tags.specs.declared.slot.SlotState.TheVariants.{Empty}
-use Rattle.semantics.specs.Report.{sum_below, waiters}
+use Rattle.semantics.specs.Report.{Report, sum_below, waiters}
+use Rattle.lanes.specs.Setting.{Setting, total}
 use Rattle.istructure.specs.OwnCells.{value_at, cell_at, readers_in}
 use Rattle.frame_manager.specs.Managed.{Managed}
 use Rattle.frame_manager.specs.Flags.{out_count}
@@ -51,3 +52,20 @@ requests_in (Some m) = length m.requests
 abbrev pub out_in : Option Managed → ℕ
 out_in None = 0
 out_in (Some m) = out_count m.out
+
+-- the report tells what lanes hold, of which this is the first
+pub record Tells (g : Setting) (lanes : List Held) (first : Held) (r : Report) : Type 0 where
+  pub there : slice_get lanes 0 ≡ Some first
+  pub outputs : r.outputs ≡ first.part.outputs
+  pub cells : r.cells ≡ full_below g.elements lanes (sum g.program.arrays)
+  pub deferred : r.deferred ≡ sum_below (sum g.program.arrays) (λ x. cell_readers g.elements lanes x)
+  pub requests : r.waiting_frames ≡ requests_in first.part.manager
+  pub credits : r.waiting_credits ≡ sum_below (total g) (λ f. credits_below g.elements lanes g.width f)
+  pub out : r.frames_out ≡ out_in first.part.manager
+
+-- the same of what a report is made of
+abbrev pub TellsLanes : Setting → List Held → List (Option Value) → List (ℕ × Value) → ℕ → ℕ → ℕ → ℕ → Type 0
+TellsLanes g lanes outputs cells deferred requests credits out =
+    (first : Held) × (slice_get lanes 0 ≡ Some first) × (outputs ≡ first.part.outputs) × (cells ≡ full_below g.elements lanes (sum g.program.arrays))
+    × (deferred ≡ sum_below (sum g.program.arrays) (λ x. cell_readers g.elements lanes x)) × (requests ≡ requests_in first.part.manager)
+    × (credits ≡ sum_below (total g) (λ f. credits_below g.elements lanes g.width f)) × (out ≡ out_in first.part.manager)

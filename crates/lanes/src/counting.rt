@@ -76,8 +76,8 @@ fn waits(state: SlotState) -> u64
     }
 }
 
-// How many requests for credits wait in the slots of a frame of the machine.
-fn credits_in<A: Allocator>(lane: &Lane<'_, A>, elements: u32, frame: u32, width: u32) -> u64
+/// How many requests for credits wait in the slots of a frame of the machine.
+pub fn credits_in<A: Allocator>(lane: &Lane<'_, A>, elements: u32, frame: u32, width: u32) -> u64
     requires some { 0 < elements }
     requires elements { lane.now.elements ≡ elements }
     requires bank { IsBank lane.now.bank }

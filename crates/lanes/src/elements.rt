@@ -1,19 +1,25 @@
 //! The elements of the machine: their lanes, and the tokens that are on their way from one to another.
 
-ghost use Rattle.std.specs.Prelude.{◌≡◌, ℕ, ◌<◌, [], ◌++◌, length, All, Some, true, false, slice_get};
+ghost use Rattle.std.specs.Prelude.{◌≡◌, ℕ, ◌<◌, [], ◌++◌, length, map, All, IfOk, Some, true, false, slice_get};
 ghost use Rattle.semantics.specs.Machine.{Events};
-ghost use Rattle.element.specs.Held.{Held};
+ghost use Rattle.semantics.specs.Report.{sum_below};
+ghost use Rattle.element.specs.Held.{Held, held_of};
+ghost use Rattle.lanes.specs.Setting.{total};
+ghost use Rattle.lanes.specs.Told.{credits_below, TellsLanes};
 ghost use Rattle.lanes.specs.State.{state_of, IsWell, tokens_in};
 ghost use Rattle.lanes.specs.Steps.{Steps};
 ghost use Rattle.lanes.specs.Runs.{HasToken, Advances, Plays, rounds_of};
 
+use crate::counting::{credits_in, deferred, frames_out, full_cells, requests};
 use crate::delivery::{deliver, has_token_for};
 use crate::halt::Halt;
 use crate::log::{Log, note};
 use crate::main_code::MainCode;
 use element::lane::{Lane, Stepped};
-use std::alloc::Allocator;
+use arrayvec::ArrayVec;
+use std::alloc::{AllocError, Allocator};
 use tags::token::Token;
+use tags::value::Value;
 
 /// The lanes of all elements, and the tokens that are on their way.
 #[derive(Drop)]
@@ -175,4 +181,53 @@ impl<'m, C: MainCode, A: Allocator> Elements<'m, C, A> {
             }
         }
     }
+
+    // How many requests for credits wait.
+    fn credits(&self) -> u64
+        requires { IsWell C.program C.width self.now }
+        ensures { result ≡ sum_below (total (state_of C.program C.width self.now).setting) (λ f. credits_below self.now.elements (map held_of self.now.lanes.items) (C.width self.now.code.now) f) }
+    {
+        let width = self.code.slots();
+        let mut count: u64 = 0;
+        for frame in 0..self.elements * self.frames {
+            let lane = &self.lanes[(frame % self.elements) as usize];
+            count += credits_in(lane, self.elements, frame, width);
+        }
+        count
+    }
+
+    /// What the lanes hold, for a report.
+    pub fn tell(self, alloc: A) -> Result<Told<A>, AllocError>
+        requires { IsWell C.program C.width self }
+        ensures { IfOk result (λ told. TellsLanes (state_of C.program C.width self.entry).setting (map held_of self.entry.lanes.items) told.outputs.items told.cells.items told.deferred told.requests told.credits told.out) }
+    {
+        let number = self.code.cells();
+        let cells = full_cells(alloc, &self.lanes, self.elements, number)?;
+        let deferred = deferred(&self.lanes, self.elements, number)?;
+        let credits = self.credits();
+        let Elements { mut lanes, .. } = self;
+        let first = lanes.swap_remove(0);
+        let requests = requests(&first.manager);
+        let out = frames_out(&first.manager);
+        let Lane { outputs, .. } = first;
+        Ok(Told {
+            outputs,
+            cells,
+            deferred,
+            requests,
+            credits,
+            out,
+        })
+    }
+}
+
+/// What lanes hold, for a report.
+#[derive(Drop)]
+pub struct Told<A: Allocator> {
+    pub outputs: ArrayVec<Option<Value>, 16>,
+    pub cells: Vec<(u32, Value), A>,
+    pub deferred: u64,
+    pub requests: u64,
+    pub credits: u64,
+    pub out: u64,
 }
