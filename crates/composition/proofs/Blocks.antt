@@ -19,7 +19,7 @@ use Rattle.lowering.specs.StraightPlan.{straight_code, straight_codes}
 use Rattle.lowering.proofs.StraightGraph.{graph_is_straight}
 use Rattle.reuse.specs.Theorem.{TakesInputs}
 use Rattle.composition.specs.Straight.{IsStraightGraph, IsStraightPlan}
-use Rattle.composition.specs.Theorem.{AsksForNoFrame, IsStraightLined}
+use Rattle.composition.specs.Theorem.{AsksForNoFrame, IsStraightWired}
 use Rattle.composition.proofs.Lines.{IsLineOp, IsLineBlock, all_of, same, not_frame, plan_block, loops_agree, good_arc, map_back}
 use Rattle.composition.proofs.Sizes.{dests_of, code_small}
 use Rattle.composition.proofs.Straight.{IsWithin, straight_lines}
@@ -48,8 +48,8 @@ module _ (version : ℕ) (p : Plan) (lined : IsLinePlan version p) where
   pub line_frames : AsksForNoFrame p.program
   line_frames b n c i at to e = not_frame i.op (i.firsts ++ i.seconds) ((lined.blocks b c at).lines n i to).op e
 
-  pub line_lined : (g : Graph) → TakesInputs (flow_of g) p → IsStraightLined g p
-  line_lined g takes = record { wired = line_wired; inputs = takes; frames = line_frames; unmarked = lined.unmarked }
+  pub line_straight : (g : Graph) → TakesInputs (flow_of g) p → IsStraightWired g p
+  line_straight g takes = record { wired = line_wired; inputs = takes; frames = line_frames; unmarked = lined.unmarked }
 
 -- THE BLOCKS OF A GRAPH
 abbrev Named : Type 0

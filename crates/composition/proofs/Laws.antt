@@ -1,5 +1,5 @@
 -- What the compiler makes of a straight graph.
-use Rattle.std.proofs.Common.{◌≡◌, refl, sym, ap, ◌∙◌, subst, ℕ, ◌≤◌, List, [], ◌++◌, length, sum, Option, Some, None, arith}
+use Rattle.std.proofs.Common.{◌≡◌, refl, sym, ap, ◌∙◌, subst, ℕ, ◌≤◌, List, [], ◌++◌, map, length, sum, Option, Some, None, arith}
 use Rattle.std.specs.Prelude.{slice_get, All, option_map}
 use Rattle.std.proofs.lemmas.List.{length-map}
 use Rattle.std.proofs.lemmas.Option.{slice_get-map}
@@ -8,7 +8,10 @@ use Rattle.tags.specs.declared.value.Origin.TheVariants.{Untold}
 use Rattle.semantics.specs.Graph.{Graph, Block, Flow, flow_of, resolved_block, array_names, block_names}
 use Rattle.semantics.specs.Program.{Instr, CodeBlock, Program}
 use Rattle.semantics.specs.Text.{IsName}
-use Rattle.semantics.specs.Plan.{Plan}
+use Rattle.semantics.specs.declared.program.Mark.{Mark}
+use Rattle.semantics.specs.declared.program.Mark.TheVariants.{Unmarked}
+use Rattle.semantics.specs.Plan.{Plan, mark_in}
+use Rattle.determinacy.proofs.Resolved.{all_get}
 use Rattle.semantics.specs.Sharing.{Good}
 use Rattle.semantics.specs.Placed.{placed}
 use Rattle.semantics.specs.Faithful.{Faithful}
@@ -27,21 +30,31 @@ use Rattle.emitted.proofs.Laws.{emitted_faithful, emitted_releases, emitted_cred
 use Rattle.select.specs.declared.Version.{Version}
 use Rattle.select.specs.declared.Version.TheVariants.{One, Two}
 use Rattle.select.specs.Emitted.{version_number}
+use Rattle.select.specs.Literals.{entered, used_in}
 use Rattle.select.specs.Emittable.{IsEmittable}
-use Rattle.composition.specs.Straight.{IsStraightGraph, IsStraightPlan}
-use Rattle.composition.specs.Theorem.{PlanIsStraight, PlanIsLined, NarrowedIsLined, CompiledIsEmittable, NarrowedIsNear, CompiledIsFaithful, CompiledReleasesLast, CompiledKeepsBounds, CompiledHoldsAlone}
+use Rattle.composition.specs.Straight.{literals_in, IsStraightGraph, IsStraightPlan}
+use Rattle.composition.specs.Theorem.{PlanIsStraight, PlanIsWired, NarrowedIsWired, CompiledIsEmittable, NarrowedHasLiterals, NarrowedIsSmall, CompiledIsFaithful, CompiledReleasesLast, CompiledKeepsBounds, CompiledHoldsAlone}
 use Rattle.composition.proofs.Lines.{IsLineBlock, HasFew, not_credit, all_of, map_back, block_emittable}
 use Rattle.composition.proofs.Narrow.{narrow_lines, narrow_few}
 use Rattle.composition.proofs.Credits.{loopless_keeps_bounds}
+use Rattle.composition.proofs.Literals.{narrowed_literals}
 use Rattle.composition.proofs.Near.{IsShort, none_too_far}
 use Rattle.composition.proofs.Sizes.{narrow_length}
-use Rattle.composition.proofs.Blocks.{straight_small, IsLinePlan, line_plan, line_wired, line_lined, flat, straight_plan_lines, straight_takes, program_length}
+use Rattle.composition.proofs.Blocks.{straight_small, IsLinePlan, line_plan, line_wired, line_straight, flat, straight_plan_lines, straight_takes, program_length}
 
 pub plan_is_straight : PlanIsStraight
-plan_is_straight g = record { program = refl; unmarked = λ b n. refl }
+plan_is_straight g marks none = record { program = refl; unmarked = λ b n. by_list b n (slice_get marks b) refl }
+  where
+    by_mark : (ms : List Mark) (n : ℕ) (o : Option Mark) → slice_get ms n ≡ o → All (λ (m : Mark). m ≡ Unmarked) ms → (elim o as (λ x. Mark) [ None ↦ Unmarked | Some m ↦ m ]) ≡ Unmarked
+    by_mark ms n None e all = refl
+    by_mark ms n (Some m) e all = all_get (λ (m : Mark). m ≡ Unmarked) ms n m all e
 
-pub plan_is_lined : PlanIsLined
-plan_is_lined g p straight plan = line_lined g.version p (straight_plan_lines g p straight plan) g (straight_takes g p straight plan)
+    by_list : (b n : ℕ) (o : Option (List Mark)) → slice_get marks b ≡ o → mark_in o n ≡ Unmarked
+    by_list b n None e = refl
+    by_list b n (Some ms) e = by_mark ms n (slice_get ms n) refl (all_get (λ (ms : List Mark). All (λ (m : Mark). m ≡ Unmarked) ms) marks b ms none e)
+
+pub plan_is_wired : PlanIsWired
+plan_is_wired g p straight plan = line_straight g.version p (straight_plan_lines g p straight plan) g (straight_takes g p straight plan)
 
 resolved : Graph → List ℕ × Block (List ℕ) → Block ℕ
 resolved g named = resolved_block (array_names g) (block_names g) named.1
@@ -131,14 +144,21 @@ module _ (g : Graph) (p : Plan) (straight : IsStraightGraph g) (plan : IsStraigh
   credits : (slots : List (List ℕ)) → Good (narrowed p) slots → KeepsBounds fl (narrowed p) slots
   credits slots good = loopless_keeps_bounds fl (narrowed p) slots good.all (λ b n c i at to. not_credit i.op (i.firsts ++ i.seconds) ((lines.blocks b c at).lines n i to).op)
 
-pub narrowed_is_lined : NarrowedIsLined
-narrowed_is_lined g p straight plan = line_lined g.version (narrowed p) (lines g p straight plan) g (takes g p straight plan)
+pub narrowed_is_wired : NarrowedIsWired
+narrowed_is_wired g p straight plan = line_straight g.version (narrowed p) (lines g p straight plan) g (takes g p straight plan)
 
 pub compiled_is_emittable : CompiledIsEmittable
 compiled_is_emittable g p slots straight plan good = emittable g p straight plan slots good
 
-pub narrowed_is_near : NarrowedIsNear
-narrowed_is_near g p straight plan few = none_too_far (narrowed p).program.blocks 0 [] (short g p straight plan) few
+literals : (g : Graph) (p : Plan) → IsStraightPlan g p → used_in (narrowed p).program.blocks ≡ literals_in g
+literals g p plan = ap (λ (q : Program). used_in (map (narrowed_block p) q.blocks)) plan.program ∙ narrowed_literals g p
+
+pub narrowed_has_literals : NarrowedHasLiterals
+narrowed_has_literals g p plan = ap (λ zs. entered [] zs) (literals g p plan)
+
+pub narrowed_is_small : NarrowedIsSmall
+narrowed_is_small g p straight plan few =
+    none_too_far (narrowed p).program.blocks 0 [] (short g p straight plan) (subst (λ zs. length (entered [] zs) ≤ 65536) (sym (literals g p plan)) few)
 
 pub compiled_is_faithful : CompiledIsFaithful
 compiled_is_faithful g p slots version straight plan good same =

@@ -6,4 +6,5 @@ pub mod Narrow
 pub mod Blocks
 pub mod Near
 pub mod Credits
+pub mod Literals
 pub mod Laws

@@ -1,7 +1,10 @@
 -- The plan of a straight graph, before its slots are chosen.
-use Rattle.std.specs.Prelude.{◌≡◌, ℕ, [], length}
+use Rattle.std.specs.Prelude.{◌≡◌, ℕ, ℤ, List, [], ◌∷◌, length, flat_map, All}
+use Rattle.semantics.specs.declared.program.Mark.{Mark}
 use Rattle.semantics.specs.declared.program.Mark.TheVariants.{Unmarked}
-use Rattle.semantics.specs.Graph.{Graph, flow_of}
+use Rattle.semantics.specs.declared.graph.Kind.{Kind}
+use Rattle.semantics.specs.declared.graph.Kind.TheVariants.{Lit}
+use Rattle.semantics.specs.Graph.{Graph, Block, Node, flow_of}
 use Rattle.semantics.specs.WellFormed.{WellFormed}
 use Rattle.semantics.specs.Text.{HasText}
 use Rattle.semantics.specs.Plan.{Plan, mark_at}
@@ -14,9 +17,21 @@ pub record IsStraightGraph (g : Graph) : Type 0 where
   pub well : WellFormed g
   pub line : IsStraightLine g
 
--- its plan: all blocks are plain, and nothing is marked
-abbrev pub straight_plan : Graph → Plan
-straight_plan g = record { program = straight_program (flow_of g); plain = length (straight_program (flow_of g)).blocks; marks = [] }
+-- a graph's literals, in the order of its nodes
+abbrev pub literal_in : Kind (List ℕ) → List ℤ
+literal_in (Lit z) = z ∷ []
+literal_in kind = []
+
+abbrev pub literals_in : Graph → List ℤ
+literals_in g = flat_map (λ (named : List ℕ × Block (List ℕ)). flat_map (λ (n : Node (List ℕ)). literal_in n.kind) named.1.nodes) g.blocks
+
+-- no list marks anything
+abbrev pub MarksNothing : List (List Mark) → Type 0
+MarksNothing marks = All (λ (ms : List Mark). All (λ (m : Mark). m ≡ Unmarked) ms) marks
+
+-- the graph's plan, with lists of marks: all its blocks are plain
+abbrev pub straight_plan : Graph → List (List Mark) → Plan
+straight_plan g marks = record { program = straight_program (flow_of g); plain = length (straight_program (flow_of g)).blocks; marks = marks }
 
 -- A plan of the graph's program without a mark, however that is written: no list of marks, empty lists, or lists that mark
 -- nothing.

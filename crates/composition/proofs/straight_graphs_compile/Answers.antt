@@ -1,17 +1,20 @@
-use Rattle.composition.proofs.Laws.{plan_is_straight, plan_is_lined, narrowed_is_lined, narrowed_is_near, compiled_is_emittable, compiled_is_faithful, compiled_releases_last, compiled_keeps_bounds, compiled_holds_alone}
+use Rattle.composition.proofs.Laws.{plan_is_straight, plan_is_wired, narrowed_is_wired, narrowed_has_literals, narrowed_is_small, compiled_is_emittable, compiled_is_faithful, compiled_releases_last, compiled_keeps_bounds, compiled_holds_alone}
 use Rattle.composition.proofs.straight_graphs_compile.Goals as goal
 
 pub returns-clause-plan : goal.returns-clause-plan
 returns-clause-plan c = plan_is_straight
 
-pub returns-clause-lined : goal.returns-clause-lined
-returns-clause-lined c = plan_is_lined
+pub returns-clause-wired : goal.returns-clause-wired
+returns-clause-wired c = plan_is_wired
 
 pub returns-clause-narrowed : goal.returns-clause-narrowed
-returns-clause-narrowed c = narrowed_is_lined
+returns-clause-narrowed c = narrowed_is_wired
 
-pub returns-clause-near : goal.returns-clause-near
-returns-clause-near c = narrowed_is_near
+pub returns-clause-literals : goal.returns-clause-literals
+returns-clause-literals c = narrowed_has_literals
+
+pub returns-clause-small : goal.returns-clause-small
+returns-clause-small c = narrowed_is_small
 
 pub returns-clause-object : goal.returns-clause-object
 returns-clause-object c = compiled_is_emittable
