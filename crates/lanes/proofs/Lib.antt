@@ -10,3 +10,4 @@ pub mod Ending
 pub mod Sums
 pub mod Pictures
 pub mod Showing
+pub mod Reports

@@ -39,7 +39,7 @@ in_lanes (x ∷ xs) (suc i) h t e c = Contains-append_right x.queue (tokens_in x
 in_pool : (s : State) (m : Machine) (i : ℕ) (h : Held) (t : Token) → Stands s m → slice_get s.lanes i ≡ Some h → Contains h.queue t → Contains m.pool t
 in_pool s m i h t stands e c = Contains-permutation (tokens_in s.lanes) m.pool t (IsPermutation-sym m.pool (tokens_in s.lanes) stands.tokens) (in_lanes s.lanes i h t e c)
 
-picked : (h : Held) (pick : ℕ) (t : Token) → one.Picks h pick t → Contains h.queue t
+pub picked : (h : Held) (pick : ℕ) (t : Token) → one.Picks h pick t → Contains h.queue t
 picked h pick t p = (place_of h pick, mod-lt pick p.some, get_or_from_slice_get h.queue (place_of h pick) t t p.token)
 
 first_in : (q : List Token) → 0 < length q → (t : Token) × Contains q t

@@ -1,5 +1,5 @@
 -- What a run does.
-use Rattle.std.specs.Prelude.{◌≡◌, ℕ, zero, suc, ◌+◌, ◌-◌, ◌<◌, Bool, true, false, ◌⊎◌, ℤ, List, [], ◌∷◌, ◌++◌, length, Option, Some, None, ◌==◌, count_by}
+use Rattle.std.specs.Prelude.{◌≡◌, ℕ, zero, suc, ◌+◌, ◌-◌, ◌<◌, Bool, true, false, ◌⊎◌, ℤ, List, [], ◌∷◌, ◌++◌, length, Option, Some, None, ◌==◌, count_by, sum}
 use Rattle.tags.specs.declared.token.Token.{Token}
 use Rattle.semantics.specs.declared.report.End.{End}
 use Rattle.semantics.specs.Program.{Program}
@@ -89,10 +89,18 @@ HaltsAs s listed Halt.Steps = ((e : ℕ) × IsUsedUp s e) ⊎ ((listed ≡ true)
 HaltsAs s listed (Halt.Stuck rule) = (e : ℕ) × (pick : ℕ) × IsStuckAt s e pick rule
 HaltsAs s listed Halt.Memory = Unit {0}
 
--- what a report says of a halt: where no token is left, whether requests wait; and which array a cell is in
+-- how a run ends that halts so, with so many requests for frames and credits that wait; and which array a cell is in
+abbrev pub EndsWith : Program → End → ℕ → ℕ → Halt → Type 0
+EndsWith p end frames credits Halt.NoToken = ((end ≡ End.Rest) × (frames ≡ 0) × (credits ≡ 0)) ⊎ ((end ≡ End.Starved) × ((0 < frames) ⊎ (0 < credits)))
+EndsWith p end frames credits (Halt.Clash cell) = (a : ℕ) × (i : ℕ) × (end ≡ End.Clash a i) × (a < length p.arrays) × (i < array_len p a) × (array_base p a + i ≡ cell)
+EndsWith p end frames credits Halt.Steps = end ≡ End.Steps
+EndsWith p end frames credits (Halt.Stuck rule) = end ≡ End.Stuck rule
+EndsWith p end frames credits Halt.Memory = end ≡ End.Memory
+
 abbrev pub EndsAs : Program → Report → Halt → Type 0
-EndsAs p r Halt.NoToken = ((r.end ≡ End.Rest) × (r.waiting_frames ≡ 0) × (r.waiting_credits ≡ 0)) ⊎ ((r.end ≡ End.Starved) × ((0 < r.waiting_frames) ⊎ (0 < r.waiting_credits)))
-EndsAs p r (Halt.Clash cell) = (a : ℕ) × (i : ℕ) × (r.end ≡ End.Clash a i) × (a < length p.arrays) × (i < array_len p a) × (array_base p a + i ≡ cell)
-EndsAs p r Halt.Steps = r.end ≡ End.Steps
-EndsAs p r (Halt.Stuck rule) = r.end ≡ End.Stuck rule
-EndsAs p r Halt.Memory = r.end ≡ End.Memory
+EndsAs p r halt = EndsWith p r.end r.waiting_frames r.waiting_credits halt
+
+-- a cell that is named is one of the program's
+abbrev pub NamesCell : Program → Halt → Type 0
+NamesCell p (Halt.Clash cell) = cell < sum p.arrays
+NamesCell p halt = Unit {0}

@@ -1,8 +1,9 @@
 -- What a report tells of lanes.
-use Rattle.std.specs.Prelude.{◌≡◌, ℕ, zero, suc, ◌*◌, ◌/◌, ◌%◌, List, [], ◌∷◌, ◌++◌, length, Option, Some, None, slice_get, slice_index_or, sum}
+use Rattle.std.specs.Prelude.{◌≡◌, ℕ, zero, suc, ◌*◌, ◌/◌, ◌%◌, List, [], ◌∷◌, ◌++◌, length, Option, Some, None, slice_get, slice_index_or, sum, replicate}
 use Rattle.tags.specs.declared.value.Value.{Value}
 use Rattle.tags.specs.declared.slot.SlotState.{SlotState}
 use Rattle.tags.specs.declared.slot.SlotState.TheVariants.{Empty}
+use Rattle.semantics.specs.declared.report.End.{End}
 use Rattle.semantics.specs.Report.{Report, sum_below, waiters}
 use Rattle.lanes.specs.Setting.{Setting, total}
 use Rattle.istructure.specs.OwnCells.{value_at, cell_at, readers_in}
@@ -69,3 +70,7 @@ TellsLanes g lanes outputs cells deferred requests credits out =
     (first : Held) × (slice_get lanes 0 ≡ Some first) × (outputs ≡ first.part.outputs) × (cells ≡ full_below g.elements lanes (sum g.program.arrays))
     × (deferred ≡ sum_below (sum g.program.arrays) (λ x. cell_readers g.elements lanes x)) × (requests ≡ requests_in first.part.manager)
     × (credits ≡ sum_below (total g) (λ f. credits_below g.elements lanes g.width f)) × (out ≡ out_in first.part.manager)
+
+-- the report of the machine before its first event, with so many outputs
+abbrev pub opening_picture : ℕ → Report
+opening_picture outputs = record { end = End.Memory; outputs = replicate outputs None; cells = []; deferred = 0; waiting_frames = 0; waiting_credits = 0; frames_out = 1; events = [] }

@@ -7,6 +7,7 @@ mod counting;
 mod delivery;
 mod elements;
 pub mod halt;
+mod locating;
 mod log;
 pub mod machine;
 pub mod main_code;

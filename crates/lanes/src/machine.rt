@@ -1,23 +1,31 @@
 //! The machine: its start, its steps, and its runs.
 
-ghost use Rattle.std.specs.Prelude.{◌≡◌, ℕ, ℤ, List, true, false, ◌<◌, ◌≤◌, ◌^◌, ◌↔◌, ◌∷◌, ◌++◌, [], length, map, All, IfOk, OnOk, MatchResult, IsTrue};
+ghost use Rattle.std.specs.Prelude.{◌≡◌, ℕ, ℤ, List, Bool, true, false, ◌<◌, ◌≤◌, ◌^◌, ◌↔◌, ◌∷◌, ◌++◌, [], length, map, All, IfOk, OnOk, MatchResult, IsTrue};
 ghost use Rattle.semantics.specs.Machine.{Events};
 ghost use Rattle.element.specs.Held.{held_of};
 ghost use Rattle.lanes.specs.Setting.{inputs_of};
 ghost use Rattle.lanes.specs.State.{AllFrom, IsAt, delivered};
 ghost use Rattle.lanes.specs.Starts.{IsGood, IsCause, Opens, setting_of, start_tokens};
 ghost use Rattle.lanes.specs.Steps.{Steps};
-ghost use Rattle.lanes.specs.Runs.{Kept, Began, Plays, HaltsAs, rounds_of};
+ghost use Rattle.lanes.specs.Runs.{Kept, Began, Plays, HaltsAs, EndsWith, NamesCell, rounds_of};
+ghost use Rattle.semantics.specs.Report.{Shows};
+ghost use Rattle.lanes.specs.Setting.{size};
+ghost use Rattle.lanes.specs.State.{state_of, IsWell};
+ghost use Rattle.lanes.specs.Told.{TellsLanes, opening_picture};
 
 use crate::config::{Config, StartFault};
 use crate::delivery::receive;
-use crate::elements::Elements;
+use crate::elements::{Elements, Told};
 use crate::halt::Halt;
+use crate::locating::locate;
 use crate::log::NoLog;
 use crate::main_code::MainCode;
 use crate::opening::fresh_lanes;
+use crate::report::Report;
+use arrayvec::ArrayVec;
 use element::lane::{Lane, Stepped};
 use frame_store::store::Store;
+use semantics::report::End;
 use std::alloc::{AllocError, Allocator};
 use std::marker::Model;
 use tags::token::{Cont, Port, To, Token, Word};
@@ -207,6 +215,35 @@ impl<'m, C: MainCode, A: Allocator> Machine<'m, C, A> {
         self.elements.play_in_turn(&mut self.events)
     }
 
+    /// What the machine holds and what happened, with the end of a run that halted so. Where its own lists are refused it is
+    /// the report of the machine before its first event, with the end `Memory`.
+    pub fn report(self, halt: Halt) -> Report<A>
+    where
+        A: Clone,
+        requires { NamesCell self.state.setting.program halt }
+        ensures { (inputs : List ℤ) (listed : Bool) → Began inputs self.entry.state self.entry.events → HaltsAs self.entry.state listed halt → Shows self.entry.state.setting.program (size self.entry.state.setting) inputs self.entry.state.setting.steps listed false result }
+    {
+        let Machine {
+            elements,
+            events,
+            alloc,
+        } = self;
+        let code = elements.code;
+        match tell(elements, &alloc) {
+            Ok(told) => Report {
+                end: end_of(code, halt, told.requests, told.credits),
+                outputs: told.outputs,
+                cells: told.cells,
+                deferred: told.deferred,
+                waiting_frames: told.requests,
+                waiting_credits: told.credits,
+                frames_out: told.out,
+                events,
+            },
+            Err(_) => opening_report(alloc, code.outputs(), events),
+        }
+    }
+
     /// The same machine without the list of its events.
     pub fn without_events(self) -> Quiet<'m, C, A>
         ensures { result ≡ self.entry.state }
@@ -218,6 +255,68 @@ impl<'m, C: MainCode, A: Allocator> Machine<'m, C, A> {
         } = self;
         Quiet { elements, alloc }
     }
+}
+
+// How a run ends that halts so, with so many requests that wait.
+fn end_of<C: MainCode>(code: &C, halt: Halt, frames: u64, credits: u64) -> End
+    requires { NamesCell (C.program code.now) halt }
+    ensures { EndsWith (C.program code.now) result frames credits halt }
+{
+    match halt {
+        Halt::NoToken => {
+            if frames == 0 && credits == 0 {
+                End::Rest
+            } else {
+                End::Starved
+            }
+        }
+        Halt::Clash { cell } => match locate(code, cell) {
+            Some(place) => End::Clash {
+                array: place.array,
+                index: place.index,
+            },
+            None => unreachable!(),
+        },
+        Halt::Steps => End::Steps,
+        Halt::Stuck { rule } => End::Stuck { rule },
+        Halt::Memory => End::Memory,
+    }
+}
+
+// The report of the machine before its first event, which is refused memory.
+fn opening_report<A: Allocator>(
+    alloc: A,
+    outputs: u32,
+    mut events: Vec<(u32, Token), A>,
+) -> Report<A>
+    requires { outputs ≤ 16 }
+    ensures { result ≡ opening_picture outputs }
+{
+    let mut none = ArrayVec::from([None; 16]);
+    none.truncate(outputs as usize);
+    events.clear();
+    Report {
+        end: End::Memory,
+        outputs: none,
+        cells: Vec::new(alloc),
+        deferred: 0,
+        waiting_frames: 0,
+        waiting_credits: 0,
+        frames_out: 1,
+        events,
+    }
+}
+
+fn tell<C: MainCode, A: Allocator>(
+    elements: Elements<'_, C, A>,
+    alloc: &A,
+) -> Result<Told<A>, AllocError>
+where
+    A: Clone,
+    requires { IsWell C.program C.width elements }
+    ensures { IfOk result (λ told. TellsLanes (state_of C.program C.width elements.entry).setting (map held_of elements.entry.lanes.items) told.outputs.items told.cells.items told.deferred told.requests told.credits told.out) }
+{
+    elements.tell(alloc.clone()?)
 }
 
 /// A machine that keeps no list of its events: it takes no more memory for a long run than for a short one. Contracts see

@@ -1,6 +1,8 @@
 use Rattle.std.proofs.Common.{◌≡◌, ◌∙◌, refl, sym, ap, subst, ℕ, ◌<◌, ◌≤◌, List, length, map, drop, arith}
 use Rattle.std.proofs.lemmas.Grind.{common_steps}
 use Rattle.element.specs.Held.{held_of}
+use Rattle.semantics.specs.Report.{sum_below}
+use Rattle.lanes.specs.Told.{full_below, cell_readers}
 use Rattle.lanes.proofs.Memory.{lane_count, held_at}
 use Rattle.lanes.proofs.elements.Elements.tell.Goals as goal
 
@@ -18,4 +20,15 @@ swap_remove-first-requires g c =
     grind (arith, common_steps)
 
 pub returns : goal.returns
-returns g c = let e = c.swap_remove-first.ensures in let d = c.deferred-deferred.ensures in let r = c.requests-requests.ensures in let o = c.frames_out-out.ensures in let k = c.credits-credits.ensures in ?
+returns g c =
+    let m = c.args.self in
+    let n = m.elements in
+    let held = held_of {A = g.row.A.Denot} in
+    let lanes = map held m.lanes.items in
+    let number = c.cells-number.result in
+    let count = lane_count m.lanes.items (drop m.come m.sent.items) n c.requires.sound.count in
+    let some : 0 < length m.lanes.items = (let l = c.requires.sound.setting.some in omega arith) in
+    (held c.swap_remove-first.result, held_at m.lanes.items 0 c.swap_remove-first.result some c.swap_remove-first.ensures.value, refl,
+     c.in_ok-cells.ensures ∙ ap (λ (l : List _). full_below n (map held l) number) c.deref.ensures.value ∙ ap (λ (k : ℕ). full_below n lanes k) c.cells-number.ensures,
+     c.in_ok-deferred.ensures ∙ ap (λ (l : List _). sum_below number (λ x. cell_readers n (map held l) x)) c.deref-2.ensures.value ∙ ap (λ (k : ℕ). sum_below k (λ x. cell_readers n lanes x)) c.cells-number.ensures,
+     c.requests-requests.ensures, c.credits-credits.ensures, c.frames_out-out.ensures)
