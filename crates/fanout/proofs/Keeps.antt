@@ -37,7 +37,7 @@ use Rattle.fanout.proofs.Growing.{part_at, first_list, last_list, stand, Kept, M
 use Rattle.fanout.proofs.Stages.{parted_all, stage}
 use Rattle.fanout.proofs.Flags.{tied_length, later_free, entry_tied, place_tied}
 
-contains_get : {X : Type 0} (xs : List X) (k : ℕ) (x : X) → slice_get xs k ≡ Some x → Contains xs x
+pub contains_get : {X : Type 0} (xs : List X) (k : ℕ) (x : X) → slice_get xs k ≡ Some x → Contains xs x
 contains_get xs k x e = (k, slice_get_within xs k x e, get_or_from_slice_get xs k x x e)
 
 no_items : {X : Type 0} (xs : List X) → length xs ≡ 0 → xs ≡ []
@@ -80,7 +80,7 @@ lines_some m from (suc n) h k = pick (cases_eq m from) (lines_some m (from + 1) 
         omega (arith, o, z)
     pick (inr d) more = let r = more (omega (arith, h, d)) (omega (arith, k)) in omega (arith, r)
 
-in_outs : (w : Wiring) (r : Role) (x : Inlet) → is_instr r ≡ true → (r ≡ End → ⊥) → hits x (w.wire r) ≤ hits x (outs w r)
+pub in_outs : (w : Wiring) (r : Role) (x : Inlet) → is_instr r ≡ true → (r ≡ End → ⊥) → hits x (w.wire r) ≤ hits x (outs w r)
 in_outs w Start x i n = omega arith
 in_outs w (Copy kind num) x i n = omega arith
 in_outs w (Line k) x i n = omega arith
@@ -103,7 +103,7 @@ two_is_instr b Done t = absurd (true≢false (sym t))
 two_is_instr b Freed t = absurd (true≢false (sym t))
 
 -- an inlet of an entry is one that the host feeds
-entry_given : (b : Block ℕ) (r : Role) (port : Port) → ((r ≡ Start) ⊎ ((j : ℕ) × (j < b.inputs) × (r ≡ Line j))) → (port ≡ Left) ⊎ (is_two b r ≡ true) → 0 < hits (inlet r port) (given b)
+pub entry_given : (b : Block ℕ) (r : Role) (port : Port) → ((r ≡ Start) ⊎ ((j : ℕ) × (j < b.inputs) × (r ≡ Line j))) → (port ≡ Left) ⊎ (is_two b r ≡ true) → 0 < hits (inlet r port) (given b)
 entry_given b r port (inl e) (inl p) = let z : hits (inlet r port) (given b) ≡ hits (inlet Start Left) (given b) = (λ k. hits (inlet (e k) (p k)) (given b)) in omega (arith, z)
 entry_given b r port (inl e) (inr t) = absurd (true≢false (sym t ∙ ap (is_two b) e))
 entry_given b r port (inr (j, h, e)) (inl p) =

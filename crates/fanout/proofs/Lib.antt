@@ -12,3 +12,4 @@ pub mod Shapes
 pub mod Plans
 pub mod Arrows
 pub mod Wires
+pub mod StraightClear

@@ -63,7 +63,7 @@ link_at : (o : Option (Node ℕ)) → is_link (op_at o) ≡ false
 link_at None = refl
 link_at (Some node) = link_for node.kind
 
-role_plain : (version number : ℕ) (b : Block ℕ) (r : Role) → IsPlain (instr_for version number b r)
+pub role_plain : (version number : ℕ) (b : Block ℕ) (r : Role) → IsPlain (instr_for version number b r)
 role_plain version number b Start = (tt, refl)
 role_plain version number b (Line n) = (shape_at (node_at b n) _ _, link_at (node_at b n))
 role_plain version number b (Result j) = (tt, refl)
@@ -74,11 +74,11 @@ role_plain version number b (Shown j) = (tt, refl)
 role_plain version number b Done = (tt, refl)
 role_plain version number b Freed = (tt, refl)
 
-roles_plain : (version number : ℕ) (b : Block ℕ) (rs : List Role) → All IsPlain (map (instr_for version number b) rs)
+pub roles_plain : (version number : ℕ) (b : Block ℕ) (rs : List Role) → All IsPlain (map (instr_for version number b) rs)
 roles_plain version number b [] = All-nil IsPlain
 roles_plain version number b (r ∷ rs) = All-cons IsPlain (instr_for version number b r) (map (instr_for version number b) rs) (role_plain version number b r) (roles_plain version number b rs)
 
-codes_plain : (version n : ℕ) (bs : List (Block ℕ)) → All IsPlainCode (straight_codes version n bs)
+pub codes_plain : (version n : ℕ) (bs : List (Block ℕ)) → All IsPlainCode (straight_codes version n bs)
 codes_plain version n [] = All-nil IsPlainCode
 codes_plain version n (b ∷ bs) = All-cons IsPlainCode (straight_code version n b) (straight_codes version (n + 1) bs) (roles_plain version n b (straight_roles b)) (codes_plain version (n + 1) bs)
 

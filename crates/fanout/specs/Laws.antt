@@ -118,3 +118,11 @@ IsShaped i = HasShape i.op (length i.firsts) (length i.seconds) × LandsLeft i.o
 -- It has as many destinations as its kind has in an object.
 abbrev pub HasItsDests : Instr → Type 0
 HasItsDests i = HasDests i.op i.firsts i.seconds
+
+-- The narrowed plan of a straight graph's program can be emitted as far as destinations go: each is a later instruction of
+-- its block, and there are as many as each kind has.
+abbrev pub StraightHasDests : Type 0
+StraightHasDests = (fl : Flow) (p : Plan) → IsStraight fl → p.program ≡ straight_program fl → AreDests (narrowed p) × AllInstrs HasItsDests (narrowed p).program
+
+abbrev pub StraightStandsClear : Type 0
+StraightStandsClear = (fl : Flow) (p : Plan) → IsStraight fl → p.program ≡ straight_program fl → StandsClear p

@@ -53,13 +53,15 @@ fn block_of<A: Allocator + Clone>(
     lines: &[Line],
 ) -> Result<CodeBlock<A>, AllocError> {
     let mut instrs = Vec::new(alloc.clone()?);
-    for (slot, line) in lines.iter().enumerate() {
-        instrs.push(instr_of(alloc.clone()?, slot as u32, *line)?)?;
+    let mut slots: u32 = 0;
+    for line in lines {
+        instrs.push(instr_of(alloc.clone()?, slots, *line)?)?;
+        slots = slots.wrapping_add(1);
     }
     Ok(CodeBlock {
         inputs,
         outputs,
-        slots: lines.len() as u32,
+        slots,
         instrs,
     })
 }
