@@ -29,20 +29,20 @@ use Rattle.reuse.specs.Bounds.{OnlyAsks, PlanKeepsBound, PlanKeepsBounds, NoLoop
 use Rattle.reuse.proofs.Members.{contains_mapped}
 use Rattle.reuse.proofs.Stands.{found, some_same, Stands, stands_at}
 use Rattle.reuse.proofs.Turns.{is_counting}
-use Rattle.reuse.proofs.Places.{moved_to, Located, Nowhere, There, located}
-use Rattle.reuse.proofs.Joined.{get_index}
+use Rattle.reuse.proofs.PlacedCode.{moved_to, Located, Nowhere, There, located}
+use Rattle.reuse.proofs.Neighbours.{get_index}
 use Rattle.reuse.proofs.Claims.{index_got, holder_here}
 use Rattle.reuse.proofs.Tallies.{Counter, Grants, Releases, count_at, granted_is, released_is}
 use Rattle.reuse.proofs.Snoc.{tally}
 use Rattle.reuse.proofs.Frames.{asking, waits, so_start, so_after, FreesOnce, HasOnce, frames_once}
-use Rattle.reuse.proofs.Uses.{at_port, EmptyOr, Opened, opened_from}
-use Rattle.reuse.proofs.Used.{Ports, one_frame}
-use Rattle.reuse.proofs.Kept.{taken, ports_of}
-use Rattle.reuse.proofs.Owners.{contains_got}
-use Rattle.reuse.proofs.Own.{IdleOr, Own, own_so_after, own_counted, own_run, orderly_here}
-use Rattle.reuse.proofs.Unfold.{frees_shared, release_shared}
+use Rattle.reuse.proofs.Fillings.{at_port, EmptyOr, Opened, opened_from}
+use Rattle.reuse.proofs.UsedArcs.{Ports, one_frame}
+use Rattle.reuse.proofs.History.{taken, ports_of}
+use Rattle.reuse.proofs.Invocation.{contains_got}
+use Rattle.reuse.proofs.OnceRuns.{IdleOr, Own, own_so_after, own_counted, own_run, orderly_here}
+use Rattle.reuse.proofs.UnfoldedRuns.{frees_shared, release_shared}
 use Rattle.reuse.proofs.Tenures.{TenureRun, tenure_run}
-use Rattle.reuse.proofs.Reused.{start_of, releases_are_last, holders_are_alone}
+use Rattle.reuse.proofs.AllRuns.{start_of, releases_are_last, holders_are_alone}
 
 -- ---- THE PARTS OF A LOOP, IN THE CODE AND IN THE PLAN
 

@@ -15,11 +15,11 @@ use Rattle.semantics.specs.Plan.{Plan}
 use Rattle.semantics.specs.Sharing.{placed_slot}
 use Rattle.semantics.specs.Holders.{Holder, holder_of, holder_from, holder_at}
 use Rattle.semantics.specs.Unfolded.{HasSlot}
-use Rattle.reuse.proofs.Places.{moved_to}
-use Rattle.reuse.proofs.Placed.{Alone, in_slot, slot_moved}
+use Rattle.reuse.proofs.PlacedCode.{moved_to}
+use Rattle.reuse.proofs.PlacedEvents.{Alone, in_slot, slot_moved}
 use Rattle.reuse.proofs.Stands.{some_same, first_in, first_next, Stands, stands_within}
-use Rattle.reuse.proofs.Uses.{at_port, later_on}
-use Rattle.reuse.proofs.Used.{Ports, one_frame}
+use Rattle.reuse.proofs.Fillings.{at_port, later_on}
+use Rattle.reuse.proofs.UsedArcs.{Ports, one_frame}
 
 pub index_got : (slots : List (List ℕ)) (b : ℕ) (ss : List ℕ) → slice_get slots b ≡ Some ss → slice_index_or slots b [] ≡ ss
 index_got [] b ss e = absurd (cc)

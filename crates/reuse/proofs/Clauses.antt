@@ -17,7 +17,7 @@ use Rattle.semantics.specs.Plan.{Plan}
 use Rattle.semantics.specs.Sharing.{placed_instrs}
 use Rattle.semantics.specs.Placed.{placed, placed_blocks}
 use Rattle.reuse.specs.OwnSlots.{HasOwnSlots}
-use Rattle.reuse.proofs.Places.{empty_or, length_placed, Located, Nowhere, There, located}
+use Rattle.reuse.proofs.PlacedCode.{empty_or, length_placed, Located, Nowhere, There, located}
 
 -- all that faithfulness says of one run
 pub record KeepsFaith (fl : Flow) (p : Program) (inputs : List ℤ) (events : Events) (m : Machine) : Type 0 where

@@ -1,4 +1,5 @@
--- The state of a run in which frames are used again, and that of a run in which each is used once: frame g is h g there.
+-- A run in which frames are used again, and one in which each is used once, where frame g is h g: an event of the one is
+-- an event of the other.
 use Rattle.std.proofs.Common.{◌≡◌, refl, sym, ap, ◌∙◌, subst, ℕ, ◌<◌, ◌⊎◌, inl, inr, ⊎_elim, Bool, true, false, List, [], ◌∷◌, ◌++◌, map, Option, Some, None}
 use Rattle.std.specs.Prelude.{if◌then◌else◌, ◌==◌}
 use Rattle.std.proofs.lemmas.Bool.{cases_eq, eq-eqb, eqb-true}

@@ -27,8 +27,8 @@ use Rattle.reuse.proofs.Fold.{put_same, put_other, ne_eqb}
 use Rattle.reuse.proofs.Snoc.{run_snoc}
 use Rattle.reuse.proofs.Tallies.{Counter, count_off}
 use Rattle.reuse.proofs.Frames.{So, so_next, so_after, counted_next, fires_out, fires_cells, fetches_out, stores_out, hosts_out}
-use Rattle.reuse.proofs.Uses.{Move, move_of, slot_cases}
-use Rattle.reuse.proofs.Kept.{instr_found}
+use Rattle.reuse.proofs.Fillings.{Move, move_of, slot_cases}
+use Rattle.reuse.proofs.History.{instr_found}
 
 -- ---- AN INSTRUCTION NAMES WHAT IT IS TOLD, AND NO OTHER FRAME: its rule is the same where frame F has another number.
 module _ (F : ℕ) where

@@ -11,8 +11,8 @@ use Rattle.semantics.specs.Orderly.{Orderly, IsStart}
 use Rattle.semantics.specs.Wired.{IsWired}
 use Rattle.reuse.specs.Theorem.{TakesInputs}
 use Rattle.reuse.proofs.Frames.{So, so_start}
-use Rattle.reuse.proofs.Own.{own_so_after, Own, own_run}
-use Rattle.reuse.proofs.OwnSlots.{own_slots, own_matching}
+use Rattle.reuse.proofs.OnceRuns.{own_so_after, Own, own_run}
+use Rattle.reuse.proofs.OnceLaw.{own_slots, own_matching}
 use Rattle.reuse.proofs.Clauses.{KeepsFaith, keeps_faith, faith_same}
 
 -- a run that uses each frame once keeps faith as the plan does

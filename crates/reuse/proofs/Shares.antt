@@ -1,4 +1,4 @@
--- The key of the slot half, over what one invocation met and used: two holders that may share a slot are never both live.
+-- Two holders that may share a slot are never both live: over what one invocation met and used.
 use Rattle.std.proofs.Common.{◌≡◌, ℕ, inl, inr, Bool, not, List, Contains}
 use Rattle.std.specs.Prelude.{slice_get}
 use Rattle.tags.specs.declared.token.Port.{Port}

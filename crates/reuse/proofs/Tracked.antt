@@ -16,7 +16,7 @@ use Rattle.semantics.specs.Plan.{Plan}
 use Rattle.semantics.specs.Renamed.{re_to, re_slot}
 use Rattle.semantics.specs.Holders.{Holder, holder_at, held_after, uses_slot, held_by_event, holds}
 use Rattle.reuse.proofs.Fold.{Injective, put_same, put_other, eq_under}
-use Rattle.reuse.proofs.Still.{slots_or}
+use Rattle.reuse.proofs.StillSlots.{slots_or}
 
 held_after_re : (h : ℕ → ℕ) (before by : Option Holder) (s : SlotState) → held_after before by (re_slot h s) ≡ held_after before by s
 held_after_re h None by Empty = refl

@@ -1,6 +1,6 @@
-use Rattle.reuse.proofs.OwnSlots.{once_runs_are_own}
-use Rattle.reuse.proofs.Unfold.{each_run_unfolds}
-use Rattle.reuse.proofs.Reused.{shared_slots_are_faithful, releases_are_last, holders_are_alone}
+use Rattle.reuse.proofs.OnceLaw.{once_runs_are_own}
+use Rattle.reuse.proofs.UnfoldedRuns.{each_run_unfolds}
+use Rattle.reuse.proofs.AllRuns.{shared_slots_are_faithful, releases_are_last, holders_are_alone}
 use Rattle.reuse.proofs.Bounds.{no_loop_keeps_bounds, code_uses_again}
 use Rattle.reuse.proofs.shared_slots_are_faithful.Goals as goal
 

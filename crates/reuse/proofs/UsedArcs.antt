@@ -22,7 +22,7 @@ use Rattle.semantics.specs.Orderly.{is_at, often, same_block}
 use Rattle.semantics.specs.Wired.{is_dyadic}
 use Rattle.reuse.proofs.Stands.{Stands, stands_at, stands_block}
 use Rattle.reuse.proofs.Turns.{is_counting, is_later, Turn, waits_left, waits_right, meets_right, meets_left, lone, begins, counts}
-use Rattle.reuse.proofs.Uses.{at_port, Came, later_on, came_twice, none_some}
+use Rattle.reuse.proofs.Fillings.{at_port, Came, later_on, came_twice, none_some}
 use Rattle.reuse.proofs.Members.{contains_cases, contains_none, contains_mapped}
 
 -- ---- ARCS

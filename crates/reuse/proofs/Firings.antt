@@ -26,8 +26,8 @@ use Rattle.semantics.specs.Wired.{is_dyadic, IsWired}
 use Rattle.determinacy.proofs.Resolved.{all_get}
 use Rattle.reuse.proofs.Stands.{some_same, Stands, stands_one}
 use Rattle.reuse.proofs.Turns.{is_counting, is_later, Turn, waits_left, waits_right, meets_right, meets_left, lone, begins, counts, drain_turn, later_not_dyadic, open_not_dyadic, dyadic_not_credit}
-use Rattle.reuse.proofs.Uses.{at_port, Came, later_on, EmptyOr, opened_from, none_some, Move, turn, slot_cases, slot_new}
-use Rattle.reuse.proofs.Used.{stands_arcs, credit_port, later_port, open_end, dyadic_slot, Ports, one_frame, not_twice, Over, Used, came_later, same_over, used_later, no_move}
+use Rattle.reuse.proofs.Fillings.{at_port, Came, later_on, EmptyOr, opened_from, none_some, Move, turn, slot_cases, slot_new}
+use Rattle.reuse.proofs.UsedArcs.{stands_arcs, credit_port, later_port, open_end, dyadic_slot, Ports, one_frame, not_twice, Over, Used, came_later, same_over, used_later, no_move}
 use Rattle.reuse.proofs.Members.{contains_map, contains_none, contains_mapped}
 
 -- an arc of a block into the port was used in the frame

@@ -22,15 +22,15 @@ use Rattle.semantics.specs.Sharing.{Inlet, inlet, Arc, arcs_of, arcs_in, Holds, 
 use Rattle.semantics.specs.Orderly.{is_entry, IsOrderlyRun}
 use Rattle.semantics.specs.Wired.{is_dyadic, IsWired}
 use Rattle.determinacy.proofs.Resolved.{all_get}
-use Rattle.reuse.proofs.Joined.{alone_from}
-use Rattle.reuse.proofs.Placed.{Alone}
+use Rattle.reuse.proofs.Neighbours.{alone_from}
+use Rattle.reuse.proofs.PlacedEvents.{Alone}
 use Rattle.reuse.proofs.Shares.{IsKept, one_live}
 use Rattle.reuse.proofs.Stands.{some_same, past_entries, Stands, stands_at, stands_one}
 use Rattle.reuse.proofs.Turns.{turn_of}
-use Rattle.reuse.proofs.Uses.{at_port, Came, Tells, EmptyOr}
-use Rattle.reuse.proofs.Used.{dyadic_port, open_port, Ports, one_frame, not_twice, Over, Used, no_move}
-use Rattle.reuse.proofs.After.{CausedBy}
-use Rattle.reuse.proofs.Kept.{taken, Kept, ports_of}
+use Rattle.reuse.proofs.Fillings.{at_port, Came, Tells, EmptyOr}
+use Rattle.reuse.proofs.UsedArcs.{dyadic_port, open_port, Ports, one_frame, not_twice, Over, Used, no_move}
+use Rattle.reuse.proofs.Firings.{CausedBy}
+use Rattle.reuse.proofs.History.{taken, Kept, ports_of}
 
 there : {X : Type 0} (xs : List X) (i : ℕ) → i < length xs → (x : X) × (slice_get xs i ≡ Some x)
 there [] i h = absurd (omega (arith, h))

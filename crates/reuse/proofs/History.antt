@@ -18,11 +18,11 @@ use Rattle.semantics.specs.Orderly.{is_entry, IsOrderlyRun}
 use Rattle.semantics.specs.Wired.{IsWired}
 use Rattle.reuse.proofs.Fold.{map_append}
 use Rattle.reuse.proofs.Snoc.{run_snoc, some_snoc}
-use Rattle.reuse.proofs.Still.{slots_or}
+use Rattle.reuse.proofs.StillSlots.{slots_or}
 use Rattle.reuse.proofs.Stands.{some_same, Stands, stands_at, Found, found}
-use Rattle.reuse.proofs.Uses.{at_port, Filled, EmptyOr, filled_more, Move, move_of, filled_after}
-use Rattle.reuse.proofs.Used.{arc_stands, Ports, used_same}
-use Rattle.reuse.proofs.After.{CausedBy, caused_next, caused_by}
+use Rattle.reuse.proofs.Fillings.{at_port, Filled, EmptyOr, filled_more, Move, move_of, filled_after}
+use Rattle.reuse.proofs.UsedArcs.{arc_stands, Ports, used_same}
+use Rattle.reuse.proofs.Firings.{CausedBy, caused_next, caused_by}
 use Rattle.reuse.proofs.Members.{contains_head, contains_none}
 
 -- the tokens that the events took

@@ -26,15 +26,15 @@ use Rattle.semantics.specs.Renamed.{re_cont, re_word, re_to, re_token, re_slot, 
 use Rattle.reuse.specs.Theorem.{TakesInputs, SharedSlotsAreFaithful, ReleasesAreLast, HoldersAreAlone}
 use Rattle.semantics.specs.Handed.{handed}
 use Rattle.semantics.specs.Holders.{Holder}
-use Rattle.reuse.proofs.Own.{own_so_after, own_held, Own, own_run}
-use Rattle.reuse.proofs.OwnSlots.{own_alone}
+use Rattle.reuse.proofs.OnceRuns.{own_so_after, own_held, Own, own_run}
+use Rattle.reuse.proofs.OnceLaw.{own_alone}
 use Rattle.reuse.proofs.Renames.{re_outcome, rule_re}
 use Rattle.reuse.proofs.Counts.{Counted}
 use Rattle.reuse.proofs.Fold.{Fold, slot_in_re}
 use Rattle.reuse.proofs.Freed.{empty_back}
 use Rattle.reuse.proofs.Frames.{So, so_start, so_held, waits, Folds, FreesOnce, frames_once}
 use Rattle.reuse.proofs.Served.{value_in_re, has_served}
-use Rattle.reuse.proofs.Unfold.{frees_shared, release_shared}
+use Rattle.reuse.proofs.UnfoldedRuns.{frees_shared, release_shared}
 use Rattle.reuse.proofs.Clauses.{KeepsFaith, faith_kept, code_bounds, perm_nil}
 use Rattle.reuse.proofs.OnceFaith.{once_keeps_faith}
 use Rattle.reuse.proofs.Members.{contains_head, contains_map}

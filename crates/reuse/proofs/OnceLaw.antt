@@ -21,18 +21,18 @@ use Rattle.semantics.specs.Orderly.{Orderly, IsStart, IsOrderlyRun}
 use Rattle.semantics.specs.Unfolded.{HasSlot}
 use Rattle.semantics.specs.Wired.{IsWired}
 use Rattle.reuse.specs.OwnSlots.{HasOwnSlots, OnceRunsAreOwn}
-use Rattle.reuse.proofs.Places.{outcome_same, moved_to, Located, Nowhere, There, located, first_same, Agrees}
-use Rattle.reuse.proofs.Placed.{Alone, in_slot, slot_moved, slot_same}
-use Rattle.reuse.proofs.Carried.{Same, results_same}
+use Rattle.reuse.proofs.PlacedCode.{outcome_same, moved_to, Located, Nowhere, There, located, first_same, Agrees}
+use Rattle.reuse.proofs.PlacedEvents.{Alone, in_slot, slot_moved, slot_same}
+use Rattle.reuse.proofs.OtherEvents.{Same, results_same}
 use Rattle.reuse.proofs.Stands.{Stands}
-use Rattle.reuse.proofs.Uses.{at_port}
-use Rattle.reuse.proofs.Used.{Ports}
-use Rattle.reuse.proofs.Kept.{taken, ports_of}
-use Rattle.reuse.proofs.Owners.{full_alone, alone_here}
+use Rattle.reuse.proofs.Fillings.{at_port}
+use Rattle.reuse.proofs.UsedArcs.{Ports}
+use Rattle.reuse.proofs.History.{taken, ports_of}
+use Rattle.reuse.proofs.Invocation.{full_alone, alone_here}
 use Rattle.reuse.proofs.Claims.{index_got, ClaimOr, claim_same, slot_there, holder_here}
 use Rattle.semantics.specs.Holders.{Holder, holder_of, holder_at}
 use Rattle.reuse.proofs.Frames.{So, so_start}
-use Rattle.reuse.proofs.Own.{own_so_after, IdleOr, frame_agrees, Own, orderly_here, own_run}
+use Rattle.reuse.proofs.OnceRuns.{own_so_after, IdleOr, frame_agrees, Own, orderly_here, own_run}
 
 busy_block : (p : Plan) (slots : List (List ℕ)) (ts : List Token) (f : ℕ) (code plan : ℕ → SlotState) → IdleOr p slots ts f code plan → ℕ
 busy_block p slots ts f code plan (inl idle) = 0

@@ -18,9 +18,9 @@ use Rattle.reuse.specs.OwnSlots.{HasOwnSlots, IsOwnRun}
 use Rattle.reuse.proofs.Fold.{map_append}
 use Rattle.reuse.proofs.Freed.{empty_back}
 use Rattle.reuse.proofs.Frames.{so_start, so_after, FreesOnce, HasOnce, frames_once}
-use Rattle.reuse.proofs.Frees.{frees_always}
-use Rattle.reuse.proofs.Places.{empty_or}
-use Rattle.reuse.proofs.OwnSlots.{once_runs_are_own}
+use Rattle.reuse.proofs.AlwaysFreed.{frees_always}
+use Rattle.reuse.proofs.PlacedCode.{empty_or}
+use Rattle.reuse.proofs.OnceLaw.{once_runs_are_own}
 use Rattle.reuse.proofs.Clauses.{credits_same}
 
 names_full : (f : ℕ) (s : SlotState) → NamesSlot f s → s ≡ Empty → ⊥

@@ -1,5 +1,4 @@
--- The slot half, an instruction's event: an event of the placed code is one of the plan, where every other holder of the
--- slot is empty.
+-- An instruction's event of the code is one of the plan, where every other holder of the slot is empty.
 use Rattle.std.proofs.Common.{◌≡◌, refl, sym, subst, ℕ, List, length, Option, Some, None, slice_get}
 use Rattle.std.specs.Prelude.{slice_index_or}
 use Rattle.tags.specs.declared.token.Port.{Port}
@@ -17,7 +16,7 @@ use Rattle.semantics.specs.Plan.{Plan}
 use Rattle.semantics.specs.Sharing.{placed_slot}
 use Rattle.semantics.specs.Placed.{placed, placed_blocks}
 use Rattle.reuse.proofs.Fold.{put_same, put_other}
-use Rattle.reuse.proofs.Places.{outcome_same, first_same, moved_to, Agrees, agrees_at, agrees_put}
+use Rattle.reuse.proofs.PlacedCode.{outcome_same, first_same, moved_to, Agrees, agrees_at, agrees_put}
 
 abbrev pub in_slot : ℕ → Option ℕ → Option ℕ
 in_slot r None = None

@@ -1,4 +1,4 @@
--- The slot half, an instruction: the placed code has the rule of the plan, and a slot that one holder has is that holder's.
+-- The code of a plan has the plan's rules, and a slot that one holder has is that holder's.
 use Rattle.std.proofs.Common.{◌≡◌, ◌≤◌, zero-add, ltb-false, refl, sym, ap, ◌∙◌, ℕ, zero, suc, ◌+◌, ◌-◌, ◌⊎◌, inl, inr, Bool, true, false, List, [], ◌∷◌, map, length, take, sum, Some, None, slice_get, arith}
 use Rattle.std.specs.Prelude.{if◌then◌else◌, nat_lt}
 use Rattle.std.proofs.lemmas.Bool.{cases_eq}

@@ -28,16 +28,16 @@ use Rattle.reuse.proofs.Snoc.{run_snoc, handed_snoc, tally, tally_snoc}
 use Rattle.reuse.proofs.Tallies.{Counter, Grants, Releases, count_at, count_apart}
 use Rattle.reuse.proofs.Frames.{So, so_start}
 use Rattle.semantics.specs.Credits.{granted_in, released_in}
-use Rattle.reuse.proofs.Places.{moved_to, Located, Nowhere, There, located, first_same, Agrees, agrees_idle, agrees_at, empty_or}
-use Rattle.reuse.proofs.Placed.{Alone, slot_moved, slot_same, Unmoved, Shown, instr_placed}
-use Rattle.reuse.proofs.Carried.{Same, Carried, fetch_carried, store_carried, request_carried, host_carried, release_carried}
+use Rattle.reuse.proofs.PlacedCode.{moved_to, Located, Nowhere, There, located, first_same, Agrees, agrees_idle, agrees_at, empty_or}
+use Rattle.reuse.proofs.PlacedEvents.{Alone, slot_moved, slot_same, Unmoved, Shown, instr_placed}
+use Rattle.reuse.proofs.OtherEvents.{Same, Carried, fetch_carried, store_carried, request_carried, host_carried, release_carried}
 use Rattle.reuse.proofs.Stands.{some_same, Stands}
-use Rattle.reuse.proofs.Uses.{at_port, later_on, Move, move_of, slot_cases}
-use Rattle.reuse.proofs.Used.{Ports, one_frame}
+use Rattle.reuse.proofs.Fillings.{at_port, later_on, Move, move_of, slot_cases}
+use Rattle.reuse.proofs.UsedArcs.{Ports, one_frame}
 use Rattle.semantics.specs.Holders.{Holder, same_holder, holder_of, holder_at, held_after, uses_slot, held_by_event, holds}
 use Rattle.reuse.proofs.Claims.{index_got, holder_here, Claim, ClaimOr, claim_later, claim_slot, claim_same, slot_there, slot_is}
-use Rattle.reuse.proofs.Kept.{taken, Kept, ports_of, kept_next, kept_start}
-use Rattle.reuse.proofs.Owners.{alone_here}
+use Rattle.reuse.proofs.History.{taken, Kept, ports_of, kept_next, kept_start}
+use Rattle.reuse.proofs.Invocation.{alone_here}
 use Rattle.reuse.proofs.Members.{contains_head}
 
 -- ---- THE TWO STATES

@@ -1,4 +1,4 @@
--- The slot half, all other events: they read no slot.
+-- Events that read no slot are the same over the code's slots and over the plan's.
 use Rattle.std.proofs.Common.{◌≡◌, refl, sym, ap, ◌∙◌, subst, ℕ, zero, suc, ◌⊎◌, inl, inr, Bool, true, false, IsPermutation, List, [], ◌∷◌, ◌++◌, length, Option, Some, slice_get, arith}
 use Rattle.tags.specs.declared.value.Value.{Value}
 use Rattle.tags.specs.declared.token.Cont.{Cont}
