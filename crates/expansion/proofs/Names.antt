@@ -12,4 +12,3 @@ same_name-pointwise [] [] = refl
 same_name-pointwise [] (y ∷ ys) = refl
 same_name-pointwise (x ∷ xs) [] = refl
 same_name-pointwise (x ∷ xs) (y ∷ ys) = ap (λ t. (x == y) && t) (same_name-pointwise xs ys) ∙ head_same x y (same_name xs ys)
-

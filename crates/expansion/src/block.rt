@@ -115,7 +115,13 @@ fn push_node<A: Allocator + Clone>(
     match &node.kind {
         Kind::Lit { value } => {
             let origin = origin_of(scope.version, scope.number, number);
-            rows::operator(builder, Op::Lit { literal: *value }, origin, region, sources)
+            rows::operator(
+                builder,
+                Op::Lit { literal: *value },
+                origin,
+                region,
+                sources,
+            )
         }
         Kind::Apply1 { op } => {
             let origin = origin_of(scope.version, scope.number, number);

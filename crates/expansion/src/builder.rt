@@ -108,11 +108,7 @@ fn is_credit(op: Op) -> bool
 }
 
 /// Adds a destination to an instruction.
-fn add_dest<A: Allocator>(
-    instr: &mut Instr<A>,
-    second: bool,
-    dest: Dest,
-) -> Result<(), AllocError>
+fn add_dest<A: Allocator>(instr: &mut Instr<A>, second: bool, dest: Dest) -> Result<(), AllocError>
     ensures { OnOk result (instr.new ≡ Builds.with_dest instr.old second dest) }
 {
     if second {
@@ -237,11 +233,12 @@ impl<A: Allocator + Clone> Builder<A> {
         match region {
             Region::Root => Outlet::first(0),
             Region::Arm { cond, side } => Outlet {
-                place: self.outlet(Source {
-                    node: cond,
-                    port: 0,
-                })
-                .place,
+                place: self
+                    .outlet(Source {
+                        node: cond,
+                        port: 0,
+                    })
+                    .place,
                 port: 0,
                 second: !side,
             },

@@ -249,10 +249,6 @@ pub(crate) fn release<A: Allocator + Clone>(
     ensures exact { OnOk result (builder.new ≡ Ends.released builder.old ends.now offset) }
 {
     let signal = join_ends(builder, ends, Region::Root)?;
-    let release = builder.behind(
-        Outlet::first(0),
-        Op::Release { offset },
-        Region::Root,
-    )?;
+    let release = builder.behind(Outlet::first(0), Op::Release { offset }, Region::Root)?;
     connect_signal(builder, signal, release, Port::Right)
 }

@@ -48,3 +48,6 @@ pub fn expand<'a, A: Allocator + Clone>(
     let flow = flow::resolve(alloc.clone()?, graph)?;
     plans::plan_of(alloc, flow)
 }
+
+#[cfg(test)]
+mod tests;

@@ -176,10 +176,7 @@ fn codes_of<A: Allocator + Clone>(
 }
 
 /// The plan of a graph with its names resolved.
-pub(crate) fn plan_of<A: Allocator + Clone>(
-    alloc: A,
-    flow: Flow<A>,
-) -> Result<Plan<A>, AllocError>
+pub(crate) fn plan_of<A: Allocator + Clone>(alloc: A, flow: Flow<A>) -> Result<Plan<A>, AllocError>
     requires { Expanded.IsSmallFlow flow }
     ensures { IfOk result (λ p. p ≡ Expanded.expanded flow) }
 {

@@ -276,13 +276,6 @@ pub(crate) fn repeat<A: Allocator + Clone>(
     let trigger = builder.trigger(region);
     let open = builder.behind(trigger, Op::Open { bound }, region)?;
     let frame = builder.behind(Outlet::first(open), Op::Frame, region)?;
-    invoke(
-        builder,
-        frame,
-        block,
-        sources.len() as u32,
-        region,
-        sources,
-    )?;
+    invoke(builder, frame, block, sources.len() as u32, region, sources)?;
     credits(builder, bound, region)
 }

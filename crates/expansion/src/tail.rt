@@ -24,13 +24,7 @@ pub(crate) fn returns<A: Allocator + Clone>(
         let op = Op::Return {
             offset: output as u8,
         };
-        builder.meet(
-            op,
-            Mark::Unmarked,
-            Region::Root,
-            Outlet::first(0),
-            value,
-        )?;
+        builder.meet(op, Mark::Unmarked, Region::Root, Outlet::first(0), value)?;
     }
     Ok(())
 }
