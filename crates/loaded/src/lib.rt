@@ -14,6 +14,7 @@ mod making;
 mod tests;
 
 use element::instructions::{Array, Instruction, Instructions};
+use lanes::main_code::MainCode;
 use making::{arrays_of, cells_of, entries_of, most_slots};
 use object_view::{CodeInstr, Object};
 use std::alloc::{AllocError, Allocator};
@@ -156,5 +157,31 @@ impl<'a, A: Allocator> Instructions for Loaded<'a, A> {
                 len: 0,
             },
         }
+    }
+}
+
+impl<'a, A: Allocator> MainCode for Loaded<'a, A> {
+    fn inputs(&self) -> u32 {
+        self.main_inputs()
+    }
+
+    fn outputs(&self) -> u32 {
+        self.main_outputs()
+    }
+
+    fn main_entry(&self) -> u32 {
+        self.entry(self.object.main() as u16)
+    }
+
+    fn arrays(&self) -> u8 {
+        self.object.array_count() as u8
+    }
+
+    fn cells(&self) -> u32 {
+        self.cell_count()
+    }
+
+    fn slots(&self) -> u32 {
+        self.slot_count()
     }
 }
