@@ -1,6 +1,9 @@
 -- What the compiler makes of a straight-line graph within the limits.
 use Rattle.std.proofs.Common.{arith, ◌≡◌, refl, sym, ap, ◌∙◌, subst, ℕ, zero, suc, List, [], ◌∷◌, length, map, Option, Some, None}
-use Rattle.std.specs.Prelude.{slice_get}
+use Rattle.std.specs.Prelude.{slice_get, All}
+use Rattle.std.proofs.lemmas.List.Elements.{All-nil}
+use Rattle.semantics.specs.declared.program.Mark.{Mark}
+use Rattle.semantics.specs.declared.program.Mark.TheVariants.{Unmarked}
 use Rattle.semantics.specs.Graph.{Graph, flow_of}
 use Rattle.semantics.specs.Program.{CodeBlock, Program, Code}
 use Rattle.semantics.specs.Plan.{Plan}
@@ -16,7 +19,7 @@ use Rattle.select.specs.Emitted.{version_number, code_of, emitted_block}
 use Rattle.select.specs.Emittable.{IsEmittable}
 use Rattle.schedule.specs.Setting.{inputs_in, inputs_of}
 use Rattle.composition.specs.Straight.{IsStraightGraph, IsStraightPlan, straight_plan}
-use Rattle.composition.proofs.Laws.{plan_is_straight, narrowed_is_lined, compiled_is_emittable, compiled_is_faithful}
+use Rattle.composition.proofs.Laws.{plan_is_straight, narrowed_is_wired, compiled_is_emittable, compiled_is_faithful}
 use Rattle.driver.specs.Compiled.{plan_of, IsCodeFor}
 use Rattle.driver.specs.Refused.{IsGoodText}
 
@@ -29,13 +32,17 @@ same_inputs v (s ∷ ss) [] i e = cc
 same_inputs v (s ∷ ss) (c ∷ cs) zero e = refl
 same_inputs v (s ∷ ss) (c ∷ cs) (suc i) e = same_inputs v ss cs i (omega (arith, e))
 
+-- the plan marks nothing
+plain : (g : Graph) → IsStraightPlan g (straight_plan g [])
+plain g = plan_is_straight g [] (All-nil (λ (ms : List Mark). All (λ (m : Mark). m ≡ Unmarked) ms))
+
 pub takes_all : (g : Graph) → IsStraightGraph g → (c : Code) → IsCodeFor g c → inputs_of c.program ≡ Faithful.inputs_of (flow_of g)
 takes_all g straight c made =
     let p : Plan = plan_of g in
     let v = version_number made.version in
-    let lined = narrowed_is_lined g (straight_plan g) straight (plan_is_straight g) in
+    let wired = narrowed_is_wired g (straight_plan g []) straight (plain g) in
     let I : Program → ℕ = λ q. inputs_of q in
-    ap I made.program ∙ same_inputs v made.slots p.program.blocks p.program.main made.assigned.good.all ∙ lined.inputs
+    ap I made.program ∙ same_inputs v made.slots p.program.blocks p.program.main made.assigned.good.all ∙ wired.inputs
 
 -- THE CODE
 pub compiled : (g : Graph) → IsStraightGraph g → (slots : List (List ℕ)) → IsAssigned (plan_of g) slots → (version : Version) → version_number version ≡ g.version
@@ -50,6 +57,6 @@ compiled g straight slots assigned version same c e spelling =
       version = version;
       version_is = same;
       program = e;
-      lawful = subst L same (spelling (compiled_is_emittable g (straight_plan g) slots straight (plan_is_straight g) assigned.good));
-      faithful = subst F (sym e) (compiled_is_faithful g (straight_plan g) slots version straight (plan_is_straight g) assigned.good same);
+      lawful = subst L same (spelling (compiled_is_emittable g (straight_plan g []) slots straight (plain g) assigned.good));
+      faithful = subst F (sym e) (compiled_is_faithful g (straight_plan g []) slots version straight (plain g) assigned.good same);
     }

@@ -1,5 +1,5 @@
 -- What the compiler makes of a straight-line graph, and why it makes nothing.
-use Rattle.std.specs.Prelude.{◌≡◌, ℕ, List, Some, ⊤}
+use Rattle.std.specs.Prelude.{◌≡◌, ℕ, List, [], Some, ⊤}
 use Rattle.semantics.specs.Graph.{Graph, flow_of}
 use Rattle.semantics.specs.Program.{Code}
 use Rattle.semantics.specs.Plan.{Plan}
@@ -16,7 +16,7 @@ use Rattle.driver.specs.declared.fault.Fault.{Fault}
 
 -- the plan that it has before slots are chosen
 abbrev pub plan_of : Graph → Plan
-plan_of g = narrowed (straight_plan g)
+plan_of g = narrowed (straight_plan g [])
 
 -- The code is the plan's with slots, each the least that is open to its holder. It has an object in the version of the
 -- graph's text, and is faithful to the graph.
