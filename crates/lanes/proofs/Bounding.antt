@@ -1,7 +1,7 @@
 -- Nothing comes to lie beyond the frames, the slots and the cells that there are.
-use Rattle.std.proofs.Common.{◌≡◌, refl, sym, ◌∙◌, ap, subst, ℕ, zero, suc, ◌*◌, ◌<◌, ◌≤◌, Bool, true, false, ◌⊎◌, inl, inr, List, [], ◌∷◌, Option, Some, None, arith}
+use Rattle.std.proofs.Common.{◌≡◌, refl, sym, ◌∙◌, ap, subst, ℕ, ◌<◌, Bool, true, false, ◌⊎◌, inl, inr, List, [], ◌∷◌, Option, Some, None, arith}
 use Rattle.std.specs.Prelude.{sum, ◌==◌, if◌then◌else◌}
-use Rattle.std.proofs.lemmas.Bool.{eqb-true, ne_eqb}
+use Rattle.std.proofs.lemmas.Bool.{eqb-true}
 use Rattle.tags.specs.declared.token.Cont.{Cont}
 use Rattle.tags.specs.declared.token.Word.{Word}
 use Rattle.tags.specs.declared.token.To.{To}
@@ -10,10 +10,10 @@ use Rattle.tags.specs.declared.slot.SlotState.{SlotState}
 use Rattle.tags.specs.declared.slot.SlotState.TheVariants.{Empty}
 use Rattle.semantics.specs.declared.program.Op.{Op}
 use Rattle.semantics.specs.declared.program.Op.TheVariants as op
-use Rattle.semantics.specs.Program.{Instr, Program, instr_at}
-use Rattle.semantics.specs.Rule.{slot_of, rule_at, Outcome, Becomes, Excluded}
-use Rattle.semantics.specs.Machine.{Store, CellState, Vacant, Full, Deferred, put_at, with_slot, with_slot_in, with_cell, with_out, with_requests, with_output, with_done, slot_used, slot_in, Happens, Fires, Fetches, Stores, Requests, Releases, Hosts}
-use Rattle.element.specs.Near.{IsNearTo, IsNearToken}
+use Rattle.semantics.specs.Program.{Instr, instr_at}
+use Rattle.semantics.specs.Rule.{slot_of, Outcome, Becomes, Excluded}
+use Rattle.semantics.specs.Machine.{Store, CellState, Vacant, Full, Deferred, put_at, with_slot, with_slot_in, with_cell, with_out, with_requests, with_output, with_done, slot_used, Happens, Fires, Fetches, Stores, Requests, Releases, Hosts}
+use Rattle.element.specs.Near.{IsNearTo}
 use Rattle.lanes.specs.Setting.{Setting, total, FitsSlots}
 use Rattle.lanes.specs.State.{IsBounded}
 

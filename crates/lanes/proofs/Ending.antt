@@ -1,6 +1,6 @@
 -- What a run has done, and why it halts.
-use Rattle.std.proofs.Common.{◌≡◌, ◌≢◌, refl, sym, ◌∙◌, ap, subst, ℕ, zero, suc, ◌+◌, ◌*◌, ◌<◌, ◌≤◌, ◌⊎◌, inl, inr, Bool, true, false, ℤ, List, [], ◌∷◌, ◌++◌, length, map, Option, Some, None, arith, append_assoc}
-use Rattle.std.specs.Prelude.{slice_get, slice_set, count_by, ◌==◌, if◌then◌else◌}
+use Rattle.std.proofs.Common.{◌≡◌, ◌≢◌, refl, sym, ◌∙◌, ap, subst, ℕ, ◌+◌, ◌*◌, inl, inr, Bool, true, false, ℤ, List, [], ◌∷◌, ◌++◌, Option, Some, None, arith, append_assoc}
+use Rattle.std.specs.Prelude.{slice_set, count_by, ◌==◌, if◌then◌else◌}
 use Rattle.std.proofs.lemmas.Bool.{ne_eqb, eq-eqb}
 use Rattle.std.proofs.lemmas.List.{append-nil}
 use Rattle.std.proofs.lemmas.List.Sums.{sum_by-append, sum_by-cons}
@@ -13,10 +13,10 @@ use Rattle.element.specs.declared.lane.Stepped.TheVariants.{Idle, Did, Clash, St
 use Rattle.element.specs.Held.{Held, queued}
 use Rattle.lanes.specs.declared.halt.Halt.{Halt}
 use Rattle.lanes.specs.Setting.{Setting, size}
-use Rattle.lanes.specs.State.{State, AllFrom, delivered, tokens_in, Stands}
+use Rattle.lanes.specs.State.{State, AllFrom}
 use Rattle.lanes.specs.Steps.{Steps, Does, IsClash, IsUsedUp, IsStuckAt}
-use Rattle.lanes.specs.Runs.{Began, HasToken, IsHalt, Advances, Then, Plays, EndsLeft, HaltsAs}
-use Rattle.lanes.proofs.Places.{first_get, from_map, from_weaker}
+use Rattle.lanes.specs.Runs.{Began, IsHalt, Then, Plays, EndsLeft, HaltsAs}
+use Rattle.lanes.proofs.Places.{first_get, from_map}
 use Rattle.lanes.proofs.Stepping.{set_others}
 
 -- one more event at the end of a run
@@ -63,8 +63,8 @@ began_did inputs old new e pick before evs d b =
     let at : e ≡ 0 + e = omega arith in
     let counts : AllFrom (λ (i : ℕ) (h : Held). h.made ≡ made_by i after) 0 (slice_set old.lanes e d.next)
     = set_others (λ (i : ℕ) (h : Held). h.made ≡ made_by i before) (λ (i : ℕ) (h : Held). h.made ≡ made_by i after) e
-        (λ (i : ℕ) (h : Held) ne c. c ∙ sym (made_other i e t before ne)) 0 old.lanes e d.next at b.counts
-        (d.step.count ∙ ap (λ (n : ℕ). n + 1) was ∙ sym (made_same e t before)) in
+    (λ (i : ℕ) (h : Held) ne c. c ∙ sym (made_other i e t before ne)) 0 old.lanes e d.next at b.counts
+    (d.step.count ∙ ap (λ (n : ℕ). n + 1) was ∙ sym (made_same e t before)) in
     let all : AllFrom (λ (i : ℕ) (h : Held). h.made ≡ made_by i after) 0 new.lanes
     = subst (λ (l : List Held). AllFrom (λ (i : ℕ) (h : Held). h.made ≡ made_by i after) 0 l) (sym d.lanes) (from_map (λ (i : ℕ) (h : Held). h.made ≡ made_by i after) (λ (i : ℕ) (h : Held). h.made ≡ made_by i after) (λ (h : Held). queued h d.sent) (λ (i : ℕ) (h : Held) c. c) 0 (slice_set old.lanes e d.next) counts) in
     let run : Run old.setting.program (size old.setting) (at_start old.setting.program inputs) after happened.0 = run_more old.setting.program (size old.setting) (at_start old.setting.program inputs) before e t b.machine happened.0 b.run happened.1 in

@@ -1,5 +1,5 @@
 -- Lanes in memory, and what they hold.
-use Rattle.std.proofs.Common.{◌≡◌, refl, sym, ◌∙◌, ap, subst, ℕ, zero, suc, ◌+◌, ◌<◌, ◌≤◌, Bool, true, false, ◌||◌, cond, List, [], ◌∷◌, ◌++◌, length, map, drop, get_or, Option, Some, None, Result, arith}
+use Rattle.std.proofs.Common.{◌≡◌, refl, sym, ◌∙◌, ap, subst, ℕ, zero, suc, ◌+◌, ◌<◌, Bool, true, false, ◌||◌, cond, List, [], ◌∷◌, ◌++◌, length, map, drop, get_or, Option, Some, Result, arith}
 use Rattle.std.specs.Prelude.{slice_get, slice_set, OnOk, OnErr, ◌==◌}
 use Rattle.std.specs.List.{filter, list_any}
 use Rattle.std.specs.Option.{option_map}
@@ -9,7 +9,6 @@ use Rattle.std.proofs.lemmas.Option.{slice_get-map, slice_get_read}
 use Rattle.tags.specs.declared.token.Token.{Token}
 use Rattle.tags.specs.Addresses.{element_of}
 use Rattle.element.specs.declared.lane.Lane.{Lane}
-use Rattle.element.specs.Parts.{Shape}
 use Rattle.element.specs.Held.{Held, held_of, is_here, here, with_queue, queued}
 use Rattle.lanes.specs.Setting.{Setting}
 use Rattle.semantics.specs.Program.{Program}

@@ -1,5 +1,5 @@
 -- Lanes before the first event.
-use Rattle.std.proofs.Common.{◌≡◌, refl, sym, ◌∙◌, ap, subst, ℕ, zero, suc, ◌+◌, ◌-◌, ◌*◌, ◌<◌, ◌≤◌, false, List, [], ◌∷◌, length, take, drop, replicate, Option, Some, None, Result, arith}
+use Rattle.std.proofs.Common.{◌≡◌, refl, sym, ◌∙◌, ap, subst, ℕ, zero, suc, ◌+◌, ◌-◌, ◌*◌, ◌<◌, ◌≤◌, List, length, take, drop, replicate, Option, Some, None, Result, arith}
 use Rattle.std.specs.Prelude.{All, sum, IfOk}
 use Rattle.std.proofs.Math.Nat.{one-le-mul, suc-mul}
 use Rattle.std.proofs.lemmas.List.{length-replicate, take-replicate, drop-replicate}
@@ -11,10 +11,9 @@ use Rattle.semantics.specs.Program.{Program}
 use Rattle.semantics.specs.Machine.{outputs_of}
 use Rattle.istructure.specs.OwnCells.{OwnCells, all_vacant}
 use Rattle.frame_manager.specs.Managed.{Managed, at_first}
-use Rattle.element.specs.Parts.{Shape, Part}
+use Rattle.element.specs.Parts.{Shape}
 use Rattle.element.specs.Held.{Held, IsSoundLane}
 use Rattle.element.specs.Openings.{opened, IsOpening, StartsAs}
-use Rattle.lanes.specs.Setting.{Setting}
 use Rattle.lanes.specs.Starts.{IsFresh, sized}
 
 pub both_ok : {X Y : Type 0} (r : Result X Y) (P Q R : X → Type 0) → ((x : X) → P x → Q x → R x) → IfOk r P → IfOk r Q → IfOk r R

@@ -1,30 +1,28 @@
 -- What lanes tell is a picture of the machine that they are the parts of.
-use Rattle.std.proofs.Common.{◌≡◌, refl, sym, ◌∙◌, ap, subst, ℕ, zero, suc, ◌+◌, ◌*◌, ◌/◌, ◌%◌, ◌<◌, ◌≤◌, ◌⊎◌, inl, inr, Bool, true, false, List, [], ◌∷◌, ◌++◌, length, map, get_or, take, Option, Some, None, arith, ⊎_elim}
-use Rattle.std.specs.Prelude.{option_and_then, slice_get, sum, nat_lt, ◌==◌, Contains, if◌then◌else◌, ◌↔◌}
+use Rattle.std.proofs.Common.{◌≡◌, refl, sym, ◌∙◌, ap, subst, ℕ, zero, suc, ◌*◌, ◌/◌, ◌%◌, ◌<◌, ◌≤◌, ◌⊎◌, inl, inr, Bool, List, [], ◌∷◌, ◌++◌, length, Option, Some, None, arith, ⊎_elim}
+use Rattle.std.specs.Prelude.{option_and_then, slice_get, sum, nat_lt, Contains, if◌then◌else◌}
 use Rattle.std.proofs.Math.Nat.{mod-lt}
 use Rattle.std.proofs.lemmas.Bool.{eq-eqb, lt-ltb, cases_lt}
 use Rattle.std.proofs.lemmas.List.{take_all, append-nil}
-use Rattle.std.proofs.lemmas.List.Elements.{Contains-append_left, Contains-append_right, Contains-append_cases, Contains-push}
+use Rattle.std.proofs.lemmas.List.Elements.{Contains-append_left, Contains-append_right, Contains-append_cases}
 use Rattle.std.proofs.lemmas.Option.{slice_get_within, get_or_from_slice_get}
 use Rattle.tags.specs.declared.value.Value.{Value}
 use Rattle.tags.specs.declared.slot.SlotState.{SlotState}
-use Rattle.tags.specs.declared.slot.SlotState.TheVariants.{Empty}
-use Rattle.semantics.specs.Program.{Program}
 use Rattle.semantics.specs.Rule.{array_base}
-use Rattle.semantics.specs.Machine.{Machine, Store, CellState, Vacant, Full, Deferred, value_in, reader_count, outputs_of}
+use Rattle.semantics.specs.Machine.{Machine, Store, CellState, Vacant, Full, Deferred, value_in, reader_count}
 use Rattle.semantics.specs.Report.{Report, IsPicture, sum_below, waiters, one_if}
 use Rattle.istructure.specs.OwnCells.{OwnCells, cell_at, value_at, place_of, readers_in}
 use Rattle.istructure.proofs.Places.{cell_at-place}
 use Rattle.frame_manager.specs.Managed.{Managed}
 use Rattle.frame_manager.specs.Flags.{flag_at}
 use Rattle.tags.specs.declared.token.Token.{Token}
-use Rattle.element.specs.Parts.{Part, IsPart, IsSound, IsSoundManager, Manages, bounds, slot_place}
+use Rattle.element.specs.Parts.{IsPart, IsSound, IsSoundManager, Manages, bounds}
 use Rattle.element.specs.Near.{Bounds}
 use Rattle.element.specs.Held.{Held}
 use Rattle.lanes.specs.Setting.{Setting, size, total, IsGoodSetting}
-use Rattle.lanes.specs.State.{State, AllFrom, IsPlaced, IsSoundState, IsBounded, Stands, delivered}
+use Rattle.lanes.specs.State.{State, AllFrom, IsPlaced, IsSoundState, IsBounded, Stands}
 use Rattle.lanes.specs.Told.{value_of, readers_of, cell_value, cell_readers, entry, full_below, slot_of_lane, slot_at, credits_below, requests_in, out_in, Tells}
-use Rattle.lanes.proofs.Places.{first_get, to_map, from_both}
+use Rattle.lanes.proofs.Places.{first_get, from_both}
 use Rattle.lanes.proofs.Memory.{get_there}
 
 sum_same : (n : ℕ) (g h : ℕ → ℕ) → ((k : ℕ) → k < n → g k ≡ h k) → sum_below n g ≡ sum_below n h
@@ -229,7 +227,8 @@ module _ (g : Setting) (m : Store) (lanes : List Held) (good : IsGoodSetting g) 
         ascend = subst (λ (cs : List (ℕ × Value)). Ascends cs) (sym told.cells) (full_ascends n lanes all_cells);
         cells = λ x v. (
           (λ there. let c = in_full n lanes all_cells x v (subst (λ (cs : List (ℕ × Value)). Contains cs (x, v)) told.cells there) in value_holds x v c.0 c.1),
-          (λ full. let low = cell_below x v full in subst (λ (cs : List (ℕ × Value)). Contains cs (x, v)) (sym told.cells) (has_full n lanes all_cells x v low (holds_value x v low full))));
+          (λ full. let low = cell_below x v full in subst (λ (cs : List (ℕ × Value)). Contains cs (x, v)) (sym told.cells) (has_full n lanes all_cells x v low (holds_value x v low full))),
+        );
         deferred = told.deferred ∙ sum_same all_cells (λ x. cell_readers n lanes x) (λ x. reader_count (m.cells x)) readers_are ∙ ap (λ (c : ℕ). sum_below c (λ x. reader_count (m.cells x))) (sym all_are);
         waiting_frames = told.requests ∙ requests_are head.part.manager (k.part.manager k.element);
         waiting_credits = told.credits ∙ sum_same (total g) (λ f. credits_below n lanes g.width f) (λ f. sum_below 512 (λ r. waiters (m.slots f r))) credits_are;
@@ -239,7 +238,13 @@ module _ (g : Setting) (m : Store) (lanes : List Held) (good : IsGoodSetting g) 
 -- what is known of the lanes of a machine that stands
 pub known_lanes : (s : State) (mach : Machine) → IsSoundState s → Stands s mach → AllFrom (IsKnown s.setting mach.store) 0 s.lanes
 known_lanes s mach sound stands = from_both (IsPlaced s.setting) (λ (i : ℕ) (h : Held). IsPart h.part mach.store) (IsKnown s.setting mach.store) (λ (i : ℕ) (h : Held) p part. record {
-  element = p.element; elements = p.elements; frames = p.frames; width = p.width; sound = p.sound.part; part = part }) 0 s.lanes sound.lanes stands.parts
+  element = p.element;
+  elements = p.elements;
+  frames = p.frames;
+  width = p.width;
+  sound = p.sound.part;
+  part = part;
+}) 0 s.lanes sound.lanes stands.parts
 
 pub shows_picture : (s : State) (mach : Machine) (r : Report) (head : Held) → IsSoundState s → Stands s mach → Tells s.setting s.lanes head r → IsPicture s.setting.program (size s.setting) mach r
 shows_picture s mach r head sound stands told = pictured s.setting mach.store s.lanes sound.setting sound.count (known_lanes s mach sound stands) stands.bounded mach.pool r head told

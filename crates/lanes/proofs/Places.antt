@@ -1,5 +1,5 @@
 -- What holds of each lane in its place.
-use Rattle.std.proofs.Common.{◌≡◌, refl, sym, ◌∙◌, ap, subst, ℕ, zero, suc, ◌+◌, ◌<◌, List, [], ◌∷◌, ◌++◌, length, map, Option, Some, None, arith}
+use Rattle.std.proofs.Common.{◌≡◌, subst, ℕ, zero, suc, ◌+◌, List, [], ◌∷◌, ◌++◌, length, map, Some, arith}
 use Rattle.std.specs.Prelude.{slice_get, slice_set}
 use Rattle.lanes.specs.State.{AllFrom}
 

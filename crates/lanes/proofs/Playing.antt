@@ -1,13 +1,13 @@
 -- Runs, step by step.
-use Rattle.std.proofs.Common.{◌≡◌, refl, sym, ◌∙◌, ap, subst, ℕ, zero, suc, ◌+◌, ◌-◌, ◌<◌, ◌≤◌, ◌⊎◌, inl, inr, Bool, true, false, List, [], ◌∷◌, ◌++◌, length, get_or, drop, map, Option, Some, None, arith, append_assoc}
-use Rattle.std.specs.Prelude.{slice_get, slice_set, sum_by}
+use Rattle.std.proofs.Common.{◌≡◌, refl, sym, ◌∙◌, ap, subst, ℕ, zero, suc, ◌+◌, ◌-◌, ◌<◌, ◌≤◌, ◌⊎◌, inl, inr, Bool, true, false, List, [], ◌∷◌, ◌++◌, length, get_or, drop, Option, Some, None, arith, append_assoc}
+use Rattle.std.specs.Prelude.{slice_get, slice_set}
 use Rattle.std.proofs.lemmas.Bool.{cases_eq}
 use Rattle.std.proofs.lemmas.List.{length-append, drop_more, drop_all, append-nil}
 use Rattle.tags.specs.declared.token.Token.{Token}
 use Rattle.semantics.specs.Machine.{Events}
 use Rattle.element.specs.declared.lane.Stepped.{Stepped}
 use Rattle.element.specs.declared.lane.Stepped.TheVariants.{Idle, Did, Clash, Stuck, Memory}
-use Rattle.element.specs.Held.{Held, queued}
+use Rattle.element.specs.Held.{Held}
 use Rattle.lanes.specs.declared.halt.Halt.{Halt}
 use Rattle.lanes.specs.Setting.{Setting}
 use Rattle.lanes.specs.State.{State, tokens_in, delivered}
@@ -147,3 +147,13 @@ pub turn_done : (s last : State) (k n rounds : ℕ) (later : Events) (halt : Hal
 turn_done s last k n rounds later halt e rest =
     let none : in_turn k (n - k) ≡ [] = ap (λ (m : ℕ). in_turn m (n - m)) e ∙ turn_all n in
     subst (λ (ps : List (ℕ × ℕ)). Plays false (ps ++ rounds_of rounds n) s last halt later) (sym none) rest
+
+then_setting : (listed : Bool) (picks : List (ℕ × ℕ)) (next last : State) (halt : Halt) (why : Option Halt) (later : Events) → (Plays listed picks next last halt later → last.setting ≡ next.setting) → Then why next last halt later (Plays listed picks next last halt later) → last.setting ≡ next.setting
+then_setting listed picks next last halt None later go rest = go rest
+then_setting listed picks next last halt (Some h) later go rest = ap (λ (x : State). x.setting) rest.0
+
+-- the setting stays in a run
+pub setting_plays : (listed : Bool) (picks : List (ℕ × ℕ)) (s last : State) (halt : Halt) (evs : Events) → Plays listed picks s last halt evs → last.setting ≡ s.setting
+setting_plays listed [] s last halt evs p = ap (λ (x : State). x.setting) p.1
+setting_plays listed (p ∷ picks) s last halt evs (next, now, later, why, advances, is, rest) =
+    then_setting listed picks next last halt why later (setting_plays listed picks next last halt later) rest ∙ setting_stays s next p.0 p.1 advances.answer now advances.step

@@ -1,6 +1,6 @@
 -- The report of a machine shows a run.
-use Rattle.std.proofs.Common.{◌≡◌, refl, sym, ◌∙◌, ap, subst, ℕ, zero, suc, ◌+◌, ◌*◌, ◌<◌, ◌≤◌, Bool, true, false, ℤ, List, [], ◌∷◌, length, map, drop, get_or, replicate, Option, Some, None, arith}
-use Rattle.std.specs.Prelude.{slice_get, ◌==◌, sum}
+use Rattle.std.proofs.Common.{◌≡◌, refl, sym, ◌∙◌, ap, subst, ℕ, zero, suc, ◌*◌, ◌<◌, ◌≤◌, Bool, false, ℤ, List, [], length, map, drop, replicate, Option, None, arith}
+use Rattle.std.specs.Prelude.{◌==◌}
 use Rattle.std.proofs.Math.Dec.{eqb-suc-zero}
 use Rattle.std.proofs.Math.Nat.{one-le-mul}
 use Rattle.std.proofs.lemmas.List.{length-replicate, length-map}
@@ -9,26 +9,24 @@ use Rattle.std.proofs.lemmas.List.Sorted.{IsPermutation-refl}
 use Rattle.std.proofs.lemmas.Option.{get_or_from_slice_get, slice_get_within}
 use Rattle.tags.specs.declared.value.Value.{Value}
 use Rattle.tags.specs.declared.token.To.{To}
-use Rattle.tags.specs.declared.token.Token.{Token}
 use Rattle.semantics.specs.Program.{Program}
 use Rattle.semantics.specs.Rule.{array_base}
-use Rattle.semantics.specs.Machine.{Machine, Store, CellState, Vacant, Full, Size, Events, Run, at_start, outputs_of, reader_count}
+use Rattle.semantics.specs.Machine.{Machine, CellState, Vacant, Full, Size, Events, at_start, outputs_of, reader_count}
 use Rattle.semantics.specs.declared.report.End.{End}
 use Rattle.semantics.specs.Report.{Report, IsPicture, Shows, sum_below, waiters, one_if}
-use Rattle.element.specs.declared.lane.Lane.{Lane}
 use Rattle.element.specs.Near.{IsNearTo, IsNearToken}
 use Rattle.element.specs.Parts.{bounds}
 use Rattle.element.specs.Held.{Held, held_of, queued}
 use Rattle.lanes.specs.declared.elements.Elements.{Elements}
 use Rattle.lanes.specs.declared.halt.Halt.{Halt}
-use Rattle.lanes.specs.Setting.{Setting, size, total}
-use Rattle.lanes.specs.State.{State, AllFrom, IsPlaced, IsSoundState, Stands, IsWell, state_of}
-use Rattle.lanes.specs.Runs.{Began, HaltsAs, EndsAs, NamesCell}
-use Rattle.lanes.specs.Told.{Tells, TellsLanes, opening_picture}
+use Rattle.lanes.specs.Setting.{size, total}
+use Rattle.lanes.specs.State.{State, IsPlaced, IsSoundState, Stands, IsWell, state_of}
+use Rattle.lanes.specs.Runs.{HaltsAs, NamesCell}
+use Rattle.lanes.specs.Told.{TellsLanes, opening_picture}
 use Rattle.lanes.proofs.Places.{first_get, to_map}
 use Rattle.lanes.proofs.Memory.{lane_count}
 use Rattle.lanes.proofs.Pictures.{IsKnown, known_lanes, pictured}
-use Rattle.lanes.proofs.Showing.{shows_here, picked}
+use Rattle.lanes.proofs.Showing.{picked}
 
 nothing : (n : ℕ) (f : ℕ → ℕ) → ((x : ℕ) → f x ≡ 0) → sum_below n f ≡ 0
 nothing zero f none = refl
@@ -75,10 +73,23 @@ memory_pictured {C} {A} program width m mach r well stands told =
     let s = state_of program width m in
     let raw = map (held_of {A = A}) m.lanes.items in
     let known = to_map (IsKnown s.setting mach.store) (IsKnown s.setting mach.store) (λ (h : Held). queued h (drop m.come m.sent.items)) (λ (i : ℕ) (h : Held) (k : IsKnown s.setting mach.store i (queued h (drop m.come m.sent.items))). record {
-      element = k.element; elements = k.elements; frames = k.frames; width = k.width; sound = k.sound; part = k.part }) 0 raw (known_lanes s mach well.sound stands) in
+      element = k.element;
+      elements = k.elements;
+      frames = k.frames;
+      width = k.width;
+      sound = k.sound;
+      part = k.part;
+    }) 0 raw (known_lanes s mach well.sound stands) in
     let count = length-map m.lanes.items (held_of {A = A}) ∙ lane_count m.lanes.items (drop m.come m.sent.items) m.elements well.sound.count in
     pictured s.setting mach.store raw well.sound.setting count known stands.bounded mach.pool r told.0 (record {
-      there = told.1; outputs = told.2; cells = told.3; deferred = told.4; requests = told.5; credits = told.6; out = told.7 })
+      there = told.1;
+      outputs = told.2;
+      cells = told.3;
+      deferred = told.4;
+      requests = told.5;
+      credits = told.6;
+      out = told.7;
+    })
 
 -- the cell of a clash is one of the program's
 pub clash_cell : (s : State) (listed : Bool) (halt : Halt) → IsSoundState s → HaltsAs s listed halt → NamesCell s.setting.program halt

@@ -1,13 +1,12 @@
 -- A report shows a run.
-use Rattle.std.proofs.Common.{◌≡◌, ◌≢◌, refl, sym, ◌∙◌, ap, subst, ℕ, zero, suc, ◌+◌, ◌*◌, ◌%◌, ◌<◌, ◌≤◌, ◌⊎◌, inl, inr, Bool, true, false, ℤ, List, [], ◌∷◌, ◌++◌, length, get_or, Option, Some, None, arith, ⊎_elim}
-use Rattle.std.specs.Prelude.{slice_get, count_by, Contains, IsPermutation, ◌==◌}
+use Rattle.std.proofs.Common.{◌≡◌, refl, sym, ◌∙◌, ap, subst, ℕ, zero, suc, ◌<◌, ◌≤◌, ◌⊎◌, inl, inr, Bool, false, ℤ, List, [], ◌∷◌, ◌++◌, length, Some, arith, ⊎_elim}
+use Rattle.std.specs.Prelude.{slice_get, count_by, Contains, ◌==◌}
 use Rattle.std.proofs.Math.Nat.{mod-lt}
 use Rattle.std.proofs.lemmas.Bool.{cases_lt}
 use Rattle.std.proofs.lemmas.List.{nil_from_length}
 use Rattle.std.proofs.lemmas.List.Elements.{Contains-append_left, Contains-append_right}
 use Rattle.std.proofs.lemmas.List.Sorted.{IsPermutation-sym, Contains-permutation, length_permutation}
-use Rattle.std.proofs.lemmas.Option.{slice_get_within, get_or_from_slice_get}
-use Rattle.tags.specs.declared.token.Word.{Word}
+use Rattle.std.proofs.lemmas.Option.{get_or_from_slice_get}
 use Rattle.tags.specs.declared.token.Cont.{Cont}
 use Rattle.tags.specs.declared.token.To.{To}
 use Rattle.tags.specs.declared.token.Token.{Token}
@@ -15,8 +14,6 @@ use Rattle.tags.specs.declared.slot.SlotState.{SlotState}
 use Rattle.tags.specs.declared.slot.SlotState.TheVariants as slot
 use Rattle.tags.specs.Addresses.{element_of}
 use Rattle.semantics.specs.declared.report.End.{End}
-use Rattle.semantics.specs.Program.{Program}
-use Rattle.semantics.specs.Rule.{array_base, array_len}
 use Rattle.semantics.specs.Machine.{Machine, Store, Events, Wants, stuck_rule}
 use Rattle.semantics.specs.Report.{Report, IsPicture, Shows, HasEnd, HasTokenFor, sum_below, waiters}
 use Rattle.semantics.specs.Faithful.{HasStoreOfFull}
@@ -26,9 +23,8 @@ use Rattle.element.specs.Steps as one
 use Rattle.element.specs.Steps.{place_of}
 use Rattle.lanes.specs.declared.halt.Halt.{Halt}
 use Rattle.lanes.specs.Setting.{Setting, size, total}
-use Rattle.lanes.specs.State.{State, AllFrom, IsPlaced, IsSoundState, IsBounded, Stands, tokens_in}
-use Rattle.lanes.specs.Steps.{IsLane}
-use Rattle.lanes.specs.Runs.{Began, HaltsAs, EndsAs, HasToken}
+use Rattle.lanes.specs.State.{State, AllFrom, IsPlaced, IsSoundState, Stands, tokens_in}
+use Rattle.lanes.specs.Runs.{Began, HaltsAs, EndsAs}
 use Rattle.lanes.proofs.Places.{first_get}
 
 in_lanes : (lanes : List Held) (i : ℕ) (h : Held) (t : Token) → slice_get lanes i ≡ Some h → Contains h.queue t → Contains (tokens_in lanes) t
@@ -100,13 +96,13 @@ module _ (s : State) (m : Machine) (r : Report) (sound : IsSoundState s) (stands
   none_wait frames credits (inl asks) = asks (nil_from_length m.store.requests (sym picture.waiting_frames ∙ frames))
   none_wait frames credits (inr (f, k, c, waits)) = ⊎_elim
       (λ (low : f < total g). ⊎_elim
-          (λ (within : k < 512).
-              let outer = sum_none (total g) (λ x. sum_below 512 (λ y. waiters (m.store.slots x y))) (sym picture.waiting_credits ∙ credits) f low in
-              let inner : waiters (m.store.slots f k) ≡ 0 = sum_none 512 (λ y. waiters (m.store.slots f y)) outer k within in
-              let one_waits : waiters (m.store.slots f k) ≡ 1 = ap (λ (v : SlotState). waiters v) waits in
-              absurd (omega arith))
-          (λ (past : 512 ≤ k). beyond (λ l w. let few = sound.setting.few_slots in absurd (omega arith)))
-          (cases_lt k 512))
+      (λ (within : k < 512).
+      let outer = sum_none (total g) (λ x. sum_below 512 (λ y. waiters (m.store.slots x y))) (sym picture.waiting_credits ∙ credits) f low in
+      let inner : waiters (m.store.slots f k) ≡ 0 = sum_none 512 (λ y. waiters (m.store.slots f y)) outer k within in
+      let one_waits : waiters (m.store.slots f k) ≡ 1 = ap (λ (v : SlotState). waiters v) waits in
+      absurd (omega arith))
+      (λ (past : 512 ≤ k). beyond (λ l w. let few = sound.setting.few_slots in absurd (omega arith)))
+      (cases_lt k 512))
       (λ (past : total g ≤ f). beyond (λ l w. absurd (omega arith)))
       (cases_lt f (total g))
     where

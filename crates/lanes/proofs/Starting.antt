@@ -1,11 +1,10 @@
 -- The machine at the start.
-use Rattle.std.proofs.Common.{◌≡◌, refl, sym, ◌∙◌, ap, subst, ℕ, zero, suc, ◌+◌, ◌*◌, ◌%◌, ◌<◌, ◌≤◌, ◌^◌, lit<, ℤ, List, [], ◌∷◌, ◌++◌, length, map, drop, get_or, take, arith}
-use Rattle.std.specs.Prelude.{All, sum, IsPermutation}
-use Rattle.std.proofs.Math.Nat.{one-le-mul, mod-lt}
-use Rattle.std.proofs.lemmas.List.{length-take-le, take_more, length-map}
+use Rattle.std.proofs.Common.{◌≡◌, refl, sym, ◌∙◌, ap, subst, ℕ, suc, ◌+◌, ◌<◌, ◌≤◌, lit<, ℤ, List, [], ◌∷◌, ◌++◌, length, map, drop, get_or, take, arith}
+use Rattle.std.specs.Prelude.{All, IsPermutation}
+use Rattle.std.proofs.Math.Nat.{one-le-mul}
+use Rattle.std.proofs.lemmas.List.{length-take-le, take_more}
 use Rattle.std.proofs.lemmas.List.Elements.{All-nil, All-cons}
-use Rattle.std.proofs.lemmas.List.Sorted.{IsPermutation-refl, IsPermutation-sym, IsPermutation-trans}
-use Rattle.std.proofs.lemmas.Nat.{mul-le}
+use Rattle.std.proofs.lemmas.List.Sorted.{IsPermutation-refl, IsPermutation-sym}
 use Rattle.tags.specs.declared.value.Value.TheVariants.{Int}
 use Rattle.tags.specs.declared.token.Port.TheVariants.{Left}
 use Rattle.tags.specs.declared.token.Cont.{Cont}
@@ -14,20 +13,20 @@ use Rattle.tags.specs.declared.token.To.{To}
 use Rattle.tags.specs.declared.token.Token.{Token}
 use Rattle.semantics.specs.Program.{Program, first_of}
 use Rattle.semantics.specs.Rule.{token}
-use Rattle.semantics.specs.Machine.{Machine, input_tokens, at_start}
+use Rattle.semantics.specs.Machine.{input_tokens, at_start}
 use Rattle.element.specs.Near.{IsNearToken}
 use Rattle.element.specs.Parts.{IsPart}
 use Rattle.element.specs.Held.{Held, held_of, queued}
 use Rattle.element.specs.declared.lane.Lane.{Lane}
-use Rattle.lanes.specs.Setting.{Setting, size, total, FitsSlots, IsGoodSetting}
-use Rattle.lanes.specs.State.{State, AllFrom, IsAt, IsPlaced, IsSoundState, IsBounded, Stands, delivered, tokens_in, lanes_of}
+use Rattle.lanes.specs.Setting.{Setting, total, FitsSlots, IsGoodSetting}
+use Rattle.lanes.specs.State.{State, AllFrom, IsAt, IsPlaced, IsSoundState, Stands, delivered, tokens_in, lanes_of}
 use Rattle.lanes.specs.Runs.{Began}
 use Rattle.frame_store.specs.Slots.{Slots, all_empty}
 use Rattle.lanes.specs.declared.config.Config.{Config}
 use Rattle.lanes.specs.Starts.{IsFresh, IsGood, sized, setting_of, start_tokens}
 use Rattle.lanes.proofs.Memory.{none_coming}
 use Rattle.lanes.proofs.Places.{from_map, from_weaker}
-use Rattle.lanes.proofs.Tokens.{tokens_delivered, delivered_none, delivered_twice}
+use Rattle.lanes.proofs.Tokens.{tokens_delivered}
 use Rattle.lanes.proofs.Stepping.{bounds_in, delivered_sound}
 
 inputs_push : (ip : ℕ) (xs : List ℤ) (x : ℤ) → input_tokens ip (xs ++ x ∷ []) ≡ input_tokens ip xs ++ token (To.Instr 0 (ip + length xs) Left) (Word.Val (Int x)) ∷ []
@@ -75,7 +74,13 @@ module _ (g : Setting) (inputs : List ℤ) (lanes : List Held) (good : IsGoodSet
 
   placed : AllFrom (IsPlaced g) 0 lanes
   placed = from_weaker (IsFresh (sized g.program g.elements g.frames g.width 0)) (IsPlaced g) (λ (i : ℕ) (h : Held) f. record {
-    element = f.element; elements = f.elements; frames = f.frames; width = f.width; made = (let m : h.made ≡ 0 = f.made in omega arith); sound = f.sound }) 0 lanes fresh
+    element = f.element;
+    elements = f.elements;
+    frames = f.frames;
+    width = f.width;
+    made = (let m : h.made ≡ 0 = f.made in omega arith);
+    sound = f.sound;
+  }) 0 lanes fresh
 
   pub opens_sound : IsSoundState opened
   opens_sound = delivered_sound (record { setting = g; lanes = lanes }) ts (start_near g some first inputs) (record { setting = good; count = count; lanes = placed })
@@ -120,7 +125,7 @@ good_setting p width slots c good some_frame is some few fits = record {
 }
 
 -- the lanes with what is on its way, before the first event
-pub lanes_are : {A : Type 0} (p : Program) (items : List (Lane A)) (sent : List Token) (first : ℕ) (inputs : List ℤ) (lanes : List Held) → sent ≡ [] → first ≡ first_of p p.main
-    → map (held_of {A = A}) items ≡ delivered (start_tokens first inputs) lanes → delivered (start_tokens (first_of p p.main) inputs) lanes ≡ lanes_of items (drop 0 sent)
-lanes_are p items sent first inputs lanes none is got =
+pub lanes_are : {A : Type 0} (p : Program) (items : List (Lane A)) (sent : List Token) (start : ℕ) (inputs : List ℤ) (lanes : List Held) → sent ≡ [] → start ≡ first_of p p.main
+    → map (held_of {A = A}) items ≡ delivered (start_tokens start inputs) lanes → delivered (start_tokens (first_of p p.main) inputs) lanes ≡ lanes_of items (drop 0 sent)
+lanes_are p items sent start inputs lanes none is got =
     sym (none_coming items sent 0 none refl ∙ got ∙ ap (λ (n : ℕ). delivered (start_tokens n inputs) lanes) is)

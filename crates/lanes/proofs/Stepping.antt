@@ -1,23 +1,22 @@
 -- A step is an event of the machine.
-use Rattle.std.proofs.Common.{◌≡◌, ◌≢◌, refl, sym, ◌∙◌, ap, subst, ℕ, zero, suc, ◌+◌, ◌*◌, ◌<◌, ◌≤◌, Bool, true, false, List, [], ◌∷◌, ◌++◌, length, map, Option, Some, None, arith, get_or, not}
-use Rattle.std.specs.Prelude.{All, sum, slice_get, slice_set, remove, IsPermutation, ◌==◌}
+use Rattle.std.proofs.Common.{◌≡◌, ◌≢◌, refl, sym, ◌∙◌, ap, subst, ℕ, zero, suc, ◌+◌, ◌*◌, ◌<◌, ◌≤◌, true, List, [], ◌∷◌, ◌++◌, length, Some, None, arith, get_or, not}
+use Rattle.std.specs.Prelude.{All, sum, slice_get, slice_set, remove, IsPermutation}
 use Rattle.std.proofs.lemmas.Bool.{eqb-true}
 use Rattle.std.proofs.lemmas.List.{length-map, length-set}
-use Rattle.std.proofs.lemmas.List.Elements.{All-append, All-filter, All-weaker, All-nil, filter_passes}
-use Rattle.std.proofs.lemmas.List.Sorted.{IsPermutation-refl, IsPermutation-sym, IsPermutation-trans, IsPermutation-append_left}
+use Rattle.std.proofs.lemmas.List.Elements.{All-append, All-filter, All-weaker, filter_passes}
+use Rattle.std.proofs.lemmas.List.Sorted.{IsPermutation-sym, IsPermutation-trans, IsPermutation-append_left}
 use Rattle.std.proofs.lemmas.Option.{slice_get_within, get_or_from_slice_get}
 use Rattle.tags.specs.declared.token.Token.{Token}
 use Rattle.tags.specs.Addresses.{element_of}
-use Rattle.semantics.specs.Program.{Program}
-use Rattle.semantics.specs.Machine.{Machine, Store, Size, Event}
+use Rattle.semantics.specs.Machine.{Machine, Size, Event}
 use Rattle.element.specs.Near.{Bounds, IsNearToken}
-use Rattle.element.specs.Parts.{Shape, Part, IsPart, SameElsewhere, bounds}
-use Rattle.element.specs.Held.{Held, is_here, here, elsewhere, queued, with_queue, IsSoundLane}
+use Rattle.element.specs.Parts.{Shape, IsPart, bounds}
+use Rattle.element.specs.Held.{Held, is_here, here, queued, IsSoundLane}
 use Rattle.element.specs.Steps as one
 use Rattle.element.specs.Steps.{size_of, place_of, HoldsTokens, IsAfter}
 use Rattle.element.proofs.Opening.{others_stay}
-use Rattle.lanes.specs.Setting.{Setting, size, total, IsGoodSetting}
-use Rattle.lanes.specs.State.{State, AllFrom, IsAt, delivered, tokens_in, IsPlaced, IsSoundState, IsBounded, Stands}
+use Rattle.lanes.specs.Setting.{Setting, size, total}
+use Rattle.lanes.specs.State.{State, AllFrom, IsAt, delivered, tokens_in, IsPlaced, IsSoundState, Stands}
 use Rattle.element.specs.declared.lane.Stepped.{Stepped}
 use Rattle.element.specs.declared.lane.Stepped.TheVariants.{Idle, Did, Clash, Stuck, Memory}
 use Rattle.lanes.specs.Steps.{Does, Steps, events_of}
@@ -158,11 +157,15 @@ module _ (old : State) (e pick : ℕ) (lane next : Held) (sent : List Token) (so
         subst (λ (b : Bounds). IsNearToken b step.token) (bounds_are g e lane placed) near
 
     pub stands_after : (n : Machine) × Event g.program (size g) e step.token m n × Stands after n
-    stands_after = (made_it.next, event, record {
-      parts = from_map (λ (i : ℕ) (h : Held). IsPart h.part made_it.next.store) (λ (i : ℕ) (h : Held). IsPart h.part made_it.next.store) (λ (h : Held). queued h sent) (λ (i : ℕ) (h : Held) p. p) 0 (slice_set old.lanes e next) parts;
-      tokens = tokens;
-      bounded = bounded_after g m.store stands.bounded sound.setting.fits step.token.to step.token.word event.made made_it.next.store near_token.to event.happens;
-    })
+    stands_after = (
+      made_it.next,
+      event,
+      record {
+        parts = from_map (λ (i : ℕ) (h : Held). IsPart h.part made_it.next.store) (λ (i : ℕ) (h : Held). IsPart h.part made_it.next.store) (λ (h : Held). queued h sent) (λ (i : ℕ) (h : Held) p. p) 0 (slice_set old.lanes e next) parts;
+        tokens = tokens;
+        bounded = bounded_after g m.store stands.bounded sound.setting.fits step.token.to step.token.word event.made made_it.next.store near_token.to event.happens;
+      },
+    )
 
   pub does : (allowed : lane.made < g.steps) → Does old e pick after ((e, step.token) ∷ [])
   does allowed = record {
@@ -193,9 +196,10 @@ pub answered : (old : State) (e pick : ℕ) (lane next : Held) (t : Token) (sent
 answered old e pick lane next t sent Idle sound there some few picks step next_sound count = absurd (let l : length lane.queue ≡ 0 = ap (λ (q : List Token). length q) step.0 in omega arith)
 answered old e pick lane next t sent Did sound there some few picks step next_sound count =
     let most : next.made ≤ old.setting.steps = omega arith in
-    let same : step.token ≡ t = one_token lane pick step.token t step.picks picks in
-    (sound_after old e pick lane next sent sound there step next_sound most,
-     subst (λ (u : Token). Does old e pick (record { setting = old.setting; lanes = delivered sent (slice_set old.lanes e next) }) ((e, u) ∷ [])) same (does old e pick lane next sent sound there step few))
+    let same : step.token ≡ t = one_token lane pick step.token t step.picks picks in (
+      sound_after old e pick lane next sent sound there step next_sound most,
+      subst (λ (u : Token). Does old e pick (record { setting = old.setting; lanes = delivered sent (slice_set old.lanes e next) }) ((e, u) ∷ [])) same (does old e pick lane next sent sound there step few),
+    )
 answered old e pick lane next t sent (Clash cell) sound there some few picks step next_sound count =
     let same = unchanged old e lane next sent there step.1.held step.1.sent in
     (subst (λ (s : State). IsSoundState s) (sym same) sound, ((lane, (record { there = there }, some, few), step.0), (same, refl)))

@@ -1,6 +1,6 @@
 -- Sums and lists over the first so many numbers.
-use Rattle.std.proofs.Common.{◌≡◌, refl, sym, ◌∙◌, ap, subst, ℕ, zero, suc, ◌+◌, ◌<◌, ◌≤◌, List, [], ◌∷◌, ◌++◌, length, map, get_or, Option, Some, None, arith}
-use Rattle.std.specs.Prelude.{slice_get, ◌%◌, ◌*◌, ◌/◌}
+use Rattle.std.proofs.Common.{◌≡◌, sym, ap, subst, ℕ, suc, ◌+◌, ◌<◌, List, ◌++◌, length, map, get_or, Option, Some, arith}
+use Rattle.std.specs.Prelude.{◌%◌, ◌*◌, ◌/◌}
 use Rattle.std.proofs.Math.Nat.{mul_comm}
 use Rattle.std.proofs.lemmas.Nat.{div_below}
 use Rattle.semantics.specs.Report.{sum_below, waiters}

@@ -1,17 +1,16 @@
 -- The tokens of all lanes.
-use Rattle.std.proofs.Common.{◌≡◌, refl, sym, ◌∙◌, ap, subst, ℕ, zero, suc, ◌+◌, ◌%◌, ◌<◌, ◌≤◌, Bool, true, false, ◌&&◌, cond, not, List, [], ◌∷◌, ◌++◌, length, map, take, drop, Option, Some, None, arith, append_assoc, ◌⊎◌, inl, inr}
-use Rattle.std.specs.Prelude.{All, slice_get, slice_set, remove, IsPermutation, nat_lt, nat_le, ◌==◌}
-use Rattle.std.specs.List.{filter, flat_map}
+use Rattle.std.proofs.Common.{◌≡◌, refl, sym, ◌∙◌, ap, subst, ℕ, zero, suc, ◌+◌, ◌<◌, ◌≤◌, Bool, true, false, ◌&&◌, cond, List, [], ◌∷◌, ◌++◌, length, Some, arith, append_assoc, ◌⊎◌, inl, inr}
+use Rattle.std.specs.Prelude.{slice_get, slice_set, remove, IsPermutation, nat_lt, nat_le, ◌==◌}
+use Rattle.std.specs.List.{filter}
 use Rattle.std.proofs.Math.Nat.{mod-lt}
 use Rattle.std.proofs.lemmas.Bool.{cases_order, cases_lt, eq-eqb, ne_eqb, lt-ltb, le-ltb, le-leb, lt-leb, and_left, and_right, and_from}
 use Rattle.std.proofs.lemmas.List.{append-nil}
 use Rattle.std.proofs.lemmas.List.Elements.{filter-append, filter_agree}
-use Rattle.std.proofs.lemmas.List.Sorted.{IsPermutation-refl, IsPermutation-sym, IsPermutation-trans, IsPermutation-cons, IsPermutation-middle, IsPermutation-append, IsPermutation-append_left, IsPermutation-append_right, IsPermutation-append_comm}
+use Rattle.std.proofs.lemmas.List.Sorted.{IsPermutation-refl, IsPermutation-sym, IsPermutation-trans, IsPermutation-cons, IsPermutation-middle, IsPermutation-append_left, IsPermutation-append_right, IsPermutation-append_comm}
 use Rattle.tags.specs.declared.token.Token.{Token}
 use Rattle.tags.specs.declared.token.To.{To}
 use Rattle.tags.specs.Addresses.{element_of}
-use Rattle.element.specs.Parts.{Shape}
-use Rattle.element.specs.Held.{Held, is_here, here, elsewhere, with_queue, queued}
+use Rattle.element.specs.Held.{Held, is_here, here, with_queue, queued}
 use Rattle.lanes.specs.State.{AllFrom, IsAt, delivered, tokens_in}
 
 pub element_below : (n : ℕ) (to : To) → 0 < n → element_of n to < n

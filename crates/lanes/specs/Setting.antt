@@ -1,7 +1,6 @@
 -- What stays the same while a machine runs: its code and its sizes.
 use Rattle.std.specs.Prelude.{◌≡◌, ℕ, ◌*◌, ◌<◌, ◌≤◌, ◌^◌, Option, Some, None, slice_get}
 use Rattle.semantics.specs.Program.{Instr, CodeBlock, Program, instr_at}
-use Rattle.semantics.specs.Rule.{slot_of}
 use Rattle.semantics.specs.Machine.{Size}
 
 abbrev pub inputs_in : Option CodeBlock → ℕ

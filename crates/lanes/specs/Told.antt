@@ -1,10 +1,13 @@
 -- What a report tells of lanes.
-use Rattle.std.specs.Prelude.{◌≡◌, ℕ, zero, suc, ◌*◌, ◌/◌, ◌%◌, List, [], ◌∷◌, ◌++◌, length, Option, Some, None, slice_get, slice_index_or, sum, replicate}
+use Rattle.std.specs.Prelude.{◌≡◌, ℕ, zero, suc, ◌%◌, List, [], ◌∷◌, ◌++◌, length, Option, Some, None, slice_get, slice_index_or, sum, replicate, ◌⊎◌}
 use Rattle.tags.specs.declared.value.Value.{Value}
 use Rattle.tags.specs.declared.slot.SlotState.{SlotState}
 use Rattle.tags.specs.declared.slot.SlotState.TheVariants.{Empty}
 use Rattle.semantics.specs.declared.report.End.{End}
 use Rattle.semantics.specs.Report.{Report, sum_below, waiters}
+use Rattle.semantics.specs.Machine.{outputs_of}
+use Rattle.lanes.specs.declared.halt.Halt.{Halt}
+use Rattle.lanes.specs.Runs.{Kept, EndsAs}
 use Rattle.lanes.specs.Setting.{Setting, total}
 use Rattle.istructure.specs.OwnCells.{value_at, cell_at, readers_in}
 use Rattle.frame_manager.specs.Managed.{Managed}
@@ -74,3 +77,7 @@ TellsLanes g lanes outputs cells deferred requests credits out =
 -- the report of the machine before its first event, with so many outputs
 abbrev pub opening_picture : ℕ → Report
 opening_picture outputs = record { end = End.Memory; outputs = replicate outputs None; cells = []; deferred = 0; waiting_frames = 0; waiting_credits = 0; frames_out = 1; events = [] }
+
+-- The report has the events and the end; where its own lists were refused it is that of the machine before its first event.
+abbrev pub IsReportOf : Kept → Halt → Report → Type 0
+IsReportOf k halt r = (r ≡ opening_picture (outputs_of k.state.setting.program)) ⊎ ((r.events ≡ k.events) × EndsAs k.state.setting.program r halt)

@@ -8,6 +8,8 @@ ghost use Rattle.lanes.specs.State.{AllFrom, IsAt, delivered};
 ghost use Rattle.lanes.specs.Starts.{IsGood, IsCause, Opens, setting_of, start_tokens};
 ghost use Rattle.lanes.specs.Steps.{Steps};
 ghost use Rattle.lanes.specs.Runs.{Kept, Began, Plays, HaltsAs, EndsWith, NamesCell, rounds_of};
+ghost use Rattle.lanes.specs.declared.halt.Halt.{Halt};
+ghost use Rattle.lanes.specs.Told.{IsReportOf};
 ghost use Rattle.semantics.specs.Report.{Shows};
 ghost use Rattle.lanes.specs.Setting.{size};
 ghost use Rattle.lanes.specs.State.{state_of, IsWell};
@@ -198,6 +200,8 @@ impl<'m, C: MainCode, A: Allocator> Machine<'m, C, A> {
         ensures plays { (made : Events) × Plays true picks.now self.old.state self.new.state result made × (self.new.events ≡ self.old.events ++ made) }
         ensures began { (inputs : List ℤ) → Began inputs self.old.state self.old.events → Began inputs self.new.state self.new.events }
         ensures halts { HaltsAs self.new.state true result }
+        ensures setting { self.new.state.setting ≡ self.old.state.setting }
+        ensures cell { NamesCell self.new.state.setting.program result }
     {
         self.elements.play(picks, &mut self.events)
     }
@@ -211,6 +215,8 @@ impl<'m, C: MainCode, A: Allocator> Machine<'m, C, A> {
         ensures plays { (rounds : ℕ) × (made : Events) × Plays false (rounds_of rounds self.old.state.setting.elements) self.old.state self.new.state result made × (self.new.events ≡ self.old.events ++ made) }
         ensures began { (inputs : List ℤ) → Began inputs self.old.state self.old.events → Began inputs self.new.state self.new.events }
         ensures halts { HaltsAs self.new.state false result }
+        ensures setting { self.new.state.setting ≡ self.old.state.setting }
+        ensures cell { NamesCell self.new.state.setting.program result }
     {
         self.elements.play_in_turn(&mut self.events)
     }
@@ -221,7 +227,8 @@ impl<'m, C: MainCode, A: Allocator> Machine<'m, C, A> {
     where
         A: Clone,
         requires { NamesCell self.state.setting.program halt }
-        ensures { (inputs : List ℤ) (listed : Bool) → Began inputs self.entry.state self.entry.events → HaltsAs self.entry.state listed halt → Shows self.entry.state.setting.program (size self.entry.state.setting) inputs self.entry.state.setting.steps listed false result }
+        ensures told { IsReportOf self.entry halt result }
+        ensures shows { (inputs : List ℤ) (listed : Bool) → Began inputs self.entry.state self.entry.events → HaltsAs self.entry.state listed halt → Shows self.entry.state.setting.program (size self.entry.state.setting) inputs self.entry.state.setting.steps listed false result }
     {
         let Machine {
             elements,
@@ -242,6 +249,33 @@ impl<'m, C: MainCode, A: Allocator> Machine<'m, C, A> {
             },
             Err(_) => opening_report(alloc, code.outputs(), events),
         }
+    }
+
+    /// Makes one step for each element and pick of the list, in order, and reports. It stops early where no token is left,
+    /// where a token stores in a full cell or is excluded, and for want of memory; an element that has made all its events
+    /// is passed over. The end is `Steps` where the list ends with a token left.
+    pub fn run(mut self, picks: &[(u32, u64)]) -> Report<A>
+    where
+        A: Clone,
+        requires { All (λ pick. pick.0 < self.state.setting.elements) picks.now }
+        ensures plays { (last : Kept) × (halt : Halt) × (made : Events) × Plays true picks.now self.entry.state last.state halt made × (last.events ≡ self.entry.events ++ made) × IsReportOf last halt result }
+        ensures shows { (inputs : List ℤ) → Began inputs self.entry.state self.entry.events → Shows self.entry.state.setting.program (size self.entry.state.setting) inputs self.entry.state.setting.steps true false result }
+    {
+        let halt = self.play(picks);
+        self.report(halt)
+    }
+
+    /// Makes one step after another, each with the oldest token of an element, the elements in turn, and reports. It stops
+    /// where no token is left, where a token stores in a full cell or is excluded, for want of memory, and with the end
+    /// `Steps` at the first element that has a token and has made all its events.
+    pub fn run_one(mut self) -> Report<A>
+    where
+        A: Clone,
+        ensures plays { (last : Kept) × (halt : Halt) × (rounds : ℕ) × (made : Events) × Plays false (rounds_of rounds self.entry.state.setting.elements) self.entry.state last.state halt made × (last.events ≡ self.entry.events ++ made) × IsReportOf last halt result }
+        ensures shows { (inputs : List ℤ) → Began inputs self.entry.state self.entry.events → Shows self.entry.state.setting.program (size self.entry.state.setting) inputs self.entry.state.setting.steps false false result }
+    {
+        let halt = self.play_in_turn();
+        self.report(halt)
     }
 
     /// The same machine without the list of its events.
@@ -344,6 +378,8 @@ impl<'m, C: MainCode, A: Allocator> Quiet<'m, C, A> {
         A: Clone,
         ensures plays { (rounds : ℕ) × (made : Events) × Plays false (rounds_of rounds self.old.setting.elements) self.old self.new result made × ((inputs : List ℤ) (before : Events) → Began inputs self.old before → Began inputs self.new (before ++ made)) }
         ensures halts { HaltsAs self.new false result }
+        ensures setting { self.new.setting ≡ self.old.setting }
+        ensures cell { NamesCell self.new.setting.program result }
     {
         self.elements.play_in_turn(&mut NoLog)
     }

@@ -1,9 +1,9 @@
-use Rattle.std.proofs.Common.{◌≡◌, ◌∙◌, sym, ap, subst, ℕ, ◌%◌, ◌<◌, ◌++◌, List, length, map, arith}
+use Rattle.std.proofs.Common.{◌≡◌, ◌∙◌, sym, ap, ℕ, ◌%◌, ◌<◌, ◌++◌, List, length, map, arith}
 use Rattle.std.proofs.Math.Nat.{mod-lt}
 use Rattle.tags.specs.declared.value.Value.{Value}
 use Rattle.std.specs.Prelude.{Option}
 use Rattle.element.specs.Held.{held_of}
-use Rattle.lanes.specs.Told.{full_below, entry, cell_value}
+use Rattle.lanes.specs.Told.{full_below, entry}
 use Rattle.lanes.proofs.Sums.{full_next, value_there}
 use Rattle.lanes.proofs.counting.full_cells.Goals as goal
 

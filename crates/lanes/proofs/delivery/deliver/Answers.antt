@@ -1,6 +1,6 @@
-use Rattle.std.proofs.Common.{◌≡◌, ◌∙◌, sym, subst, ◌+◌, ◌<◌, ◌∷◌, [], List, length, map, arith}
+use Rattle.std.proofs.Common.{◌≡◌, ◌∙◌, sym, subst, ◌<◌, ◌∷◌, [], List, length, map, arith}
 use Rattle.element.specs.Held.{Held, held_of}
-use Rattle.lanes.specs.State.{AllFrom, IsAt, delivered, lanes_of}
+use Rattle.lanes.specs.State.{AllFrom, IsAt, delivered}
 use Rattle.lanes.proofs.Memory.{delivered_at, come_more}
 use Rattle.lanes.proofs.delivery.deliver.Goals as goal
 

@@ -1,4 +1,4 @@
-use Rattle.std.proofs.Common.{◌≡◌, ◌∙◌, sym, ap, subst, ℤ, pos, ◌+◌, ◌<◌, ◌∷◌, [], ◌++◌, List, length, map, take, get_or, arith, rules}
+use Rattle.std.proofs.Common.{◌≡◌, ◌∙◌, sym, ap, subst, ℤ, pos, ◌+◌, ◌<◌, ◌∷◌, [], List, length, map, take, get_or, arith, rules}
 use mir.Val.{to_z, of_z}
 use mir.Syntax.{w64}
 use Rattle.std.proofs.lemmas.List.{get_or_default}

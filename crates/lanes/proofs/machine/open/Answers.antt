@@ -1,12 +1,10 @@
-use Rattle.std.proofs.Common.{◌≡◌, refl, ◌∙◌, sym, ap, subst, ◌+◌, ◌<◌, ◌≤◌, ◌∷◌, [], List, length, map, drop, arith, rules}
-use Rattle.std.proofs.lemmas.Grind.{common_steps}
+use Rattle.std.proofs.Common.{◌≡◌, refl, ◌∙◌, sym, ap, subst, List, length, map, arith, rules}
 use Rattle.std.proofs.lemmas.List.{length-map}
-use Rattle.frame_store.specs.Slots.{all_empty}
 use Rattle.semantics.specs.Program.{first_of}
 use Rattle.semantics.specs.Machine.{Events}
 use Rattle.element.specs.Held.{Held, held_of}
 use Rattle.lanes.specs.Setting.{IsGoodSetting}
-use Rattle.lanes.specs.State.{AllFrom, IsAt, IsSoundState, delivered}
+use Rattle.lanes.specs.State.{IsAt, IsSoundState, delivered}
 use Rattle.lanes.specs.Runs.{Began}
 use Rattle.lanes.specs.Starts.{IsFresh, sized, setting_of, start_tokens}
 use Rattle.lanes.proofs.Places.{from_weaker}

@@ -1,13 +1,13 @@
-use Rattle.std.proofs.Common.{◌≡◌, refl, sym, ◌∙◌, ap, subst, ℕ, ◌+◌, ◌*◌, ◌-◌, ◌<◌, ◌≤◌, ◌∷◌, [], ◌++◌, length, map, take, drop, List, arith}
+use Rattle.std.proofs.Common.{◌≡◌, refl, sym, ◌∙◌, ap, subst, ℕ, ◌+◌, ◌*◌, ◌-◌, ◌<◌, ◌≤◌, ◌∷◌, [], length, map, take, drop, List, arith}
 use Rattle.std.specs.Prelude.{All, replicate}
 use Rattle.std.proofs.Math.Nat.{one-le-mul}
 use Rattle.std.proofs.lemmas.List.{length-replicate, map-append, length-map, length_push}
 use Rattle.std.proofs.lemmas.List.Elements.{All-replicate}
 use Rattle.tags.specs.declared.slot.SlotState.{SlotState}
 use Rattle.tags.specs.declared.slot.SlotState.TheVariants.{Empty}
-use Rattle.element.specs.Held.{Held, held_of}
+use Rattle.element.specs.Held.{held_of}
 use Rattle.frame_store.specs.BankViews.{bank_states}
-use Rattle.frame_store.specs.Banked.{left_of, size_of}
+use Rattle.frame_store.specs.Banked.{left_of}
 use Rattle.frame_store.specs.Slots.{Slots}
 use Rattle.lanes.specs.State.{AllFrom}
 use Rattle.lanes.specs.Starts.{IsFresh, sized}

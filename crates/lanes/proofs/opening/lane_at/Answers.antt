@@ -1,7 +1,6 @@
 use Rattle.std.proofs.Common.{◌≡◌, ◌∙◌, ap, ℕ, ◌*◌, Some}
-use Rattle.element.specs.Held.{Held, held_of, part_of, IsSoundLane}
+use Rattle.element.specs.Held.{held_of, part_of, IsSoundLane}
 use Rattle.element.specs.Openings.{opened, shape_at, IsOpening, StartsAs}
-use Rattle.element.specs.declared.lane.Lane.{Lane}
 use Rattle.semantics.specs.Program.{Program}
 use Rattle.frame_store.specs.BankViews.{bank_states}
 use Rattle.istructure.specs.OwnCells.{all_vacant}

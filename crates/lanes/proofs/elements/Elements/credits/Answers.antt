@@ -1,4 +1,4 @@
-use Rattle.std.proofs.Common.{◌≡◌, ◌∙◌, sym, ap, subst, ℕ, ◌+◌, ◌*◌, ◌/◌, ◌%◌, ◌<◌, ◌≤◌, length, map, drop, Some, arith}
+use Rattle.std.proofs.Common.{◌∙◌, sym, ap, subst, ℕ, ◌+◌, ◌/◌, ◌%◌, ◌<◌, length, map, drop, Some, arith}
 use Rattle.std.proofs.Math.Nat.{mod-lt}
 use Rattle.semantics.specs.Report.{sum_below, waiters}
 use Rattle.element.specs.Held.{held_of}

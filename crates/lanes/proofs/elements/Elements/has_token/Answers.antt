@@ -1,7 +1,7 @@
-use Rattle.std.proofs.Common.{◌≡◌, ◌∙◌, sym, ◌<◌, ℕ, [], List, length, map, drop, arith}
+use Rattle.std.proofs.Common.{◌≡◌, ◌∙◌, sym, ◌<◌, length, map, drop, arith}
 use Rattle.std.proofs.lemmas.Grind.{common_steps}
 use Rattle.std.proofs.lemmas.List.{nil_from_length}
-use Rattle.element.specs.Held.{Held, held_of}
+use Rattle.element.specs.Held.{held_of}
 use Rattle.lanes.specs.State.{IsAt, state_of}
 use Rattle.lanes.proofs.Places.{first_get}
 use Rattle.lanes.proofs.Memory.{raw_at, held_at, lane_count, has_waiting, has_coming, has_none}

@@ -1,4 +1,4 @@
-use Rattle.std.proofs.Common.{◌≡◌, ◌<◌, ◌≤◌, length, arith}
+use Rattle.std.proofs.Common.{◌<◌, length, arith}
 use Rattle.lanes.specs.State.{state_of}
 use Rattle.lanes.proofs.Memory.{get_there}
 use Rattle.lanes.proofs.Playing.{tokens_some, tokens_none}

@@ -1,10 +1,10 @@
-use Rattle.std.proofs.Common.{◌≡◌, refl, ◌∙◌, sym, ap, subst, true, ℕ, ◌+◌, ◌<◌, ◌≤◌, [], ◌++◌, List, length, drop, get_or, Some, None, inl, inr, arith, append_assoc}
-use Rattle.std.proofs.lemmas.List.{append-nil, drop_all}
+use Rattle.std.proofs.Common.{◌≡◌, refl, ◌∙◌, sym, ap, subst, true, ◌≤◌, [], ◌++◌, length, Some, None, inl, inr, arith, append_assoc}
+use Rattle.std.proofs.lemmas.List.{append-nil}
 use Rattle.semantics.specs.Machine.{Events}
 use Rattle.lanes.specs.declared.halt.Halt.{Halt}
 use Rattle.lanes.specs.Setting.{Setting}
-use Rattle.lanes.specs.State.{State, state_of}
-use Rattle.lanes.specs.Runs.{Plays, EndsLeft}
+use Rattle.lanes.specs.State.{state_of}
+use Rattle.lanes.specs.Runs.{Plays}
 use Rattle.lanes.proofs.Playing.{play_more, play_rest, noted_more, setting_stays}
 use Rattle.lanes.proofs.elements.Elements.play.Goals as goal
 
@@ -17,10 +17,11 @@ returns-in-Some-clause-exact g c =
     let played = c.loop-element.invariant.played in
     let here = play_more true c.args.picks.now k (0, 0) s next next x.0 [] (Some c.in-Some.halt) c.in-Some.halt c.loop-element-test.true x.1 (refl, refl, refl) in
     let all = played.1 next c.in-Some.halt (x.0 ++ []) here in
-    let same : played.0 ++ (x.0 ++ []) ≡ played.0 ++ x.0 = ap (λ (l : Events). played.0 ++ l) (append-nil x.0) in
-    (played.0 ++ x.0,
-     subst (λ (l : Events). Plays true c.args.picks.now (state_of g.C.Instructions.program g.C.Instructions.width c.args.self.now) next c.in-Some.halt l) same all,
-     noted_more g.L.Log.noted c.args.log.now c.loop-element.log c.advance.new.log played.0 x.0 played.2 x.2)
+    let same : played.0 ++ (x.0 ++ []) ≡ played.0 ++ x.0 = ap (λ (l : Events). played.0 ++ l) (append-nil x.0) in (
+      played.0 ++ x.0,
+      subst (λ (l : Events). Plays true c.args.picks.now (state_of g.C.Instructions.program g.C.Instructions.width c.args.self.now) next c.in-Some.halt l) same all,
+      noted_more g.L.Log.noted c.args.log.now c.loop-element.log c.advance.new.log played.0 x.0 played.2 x.2,
+    )
 
 pub loop-element-preserved : goal.loop-element-preserved
 loop-element-preserved g c =
@@ -33,9 +34,11 @@ loop-element-preserved g c =
     record {
       well = c.in-None.ensures.well;
       elements = ap (λ (z : Setting). z.elements) (setting_stays s next _ _ x.1.answer x.0 x.1.step) ∙ c.loop-element.invariant.elements;
-      played = (played.0 ++ x.0,
+      played = (
+        played.0 ++ x.0,
         (λ last halt later rest. subst (λ (l : Events). Plays true c.args.picks.now s0 last halt l) (sym (append_assoc played.0 x.0 later)) (played.1 last halt (x.0 ++ later) (play_more true c.args.picks.now k (0, 0) s next last x.0 later None halt c.loop-element-test.true x.1 rest))),
-        noted_more g.L.Log.noted c.args.log.now c.loop-element.log c.advance.new.log played.0 x.0 played.2 x.2);
+        noted_more g.L.Log.noted c.args.log.now c.loop-element.log c.advance.new.log played.0 x.0 played.2 x.2,
+      );
     }
 
 pub returns-then-has_tokens-clause-exact : goal.returns-then-has_tokens-clause-exact

@@ -1,9 +1,8 @@
-use Rattle.std.proofs.Common.{◌≡◌, refl, ◌∙◌, sym, ap, subst, false, ℕ, suc, ◌+◌, ◌-◌, ◌<◌, ◌≤◌, [], ◌++◌, List, length, Some, None, inl, inr, arith, append_assoc}
+use Rattle.std.proofs.Common.{◌≡◌, refl, ◌∙◌, sym, ap, subst, false, ℕ, suc, ◌-◌, ◌<◌, [], ◌++◌, length, inr, arith, append_assoc}
 use Rattle.std.proofs.lemmas.List.{append-nil}
 use Rattle.semantics.specs.Machine.{Events}
-use Rattle.lanes.specs.declared.halt.Halt.{Halt}
 use Rattle.lanes.specs.Setting.{Setting}
-use Rattle.lanes.specs.State.{State, state_of}
+use Rattle.lanes.specs.State.{state_of}
 use Rattle.lanes.specs.Runs.{Plays, in_turn, rounds_of}
 use Rattle.lanes.proofs.Playing.{Passes, noted_more, setting_stays, turn_last, turn_on, turn_done, passes_more, passes_all}
 use Rattle.lanes.proofs.elements.Elements.play_in_turn.Goals as goal
@@ -82,10 +81,12 @@ loop-element-preserved g c =
     record {
       well = c.in-None.ensures.well;
       elements = ap (λ (z : Setting). z.elements) (setting_stays s next _ _ x.1.answer x.0 x.1.step) ∙ c.loop-element.invariant.elements;
-      played = (played.0 ++ x.0,
+      played = (
+        played.0 ++ x.0,
         (λ rounds last halt later rest.
             let all = played.1 rounds last halt (x.0 ++ later) (turn_on s next last k n rounds x.0 later halt low x.1 rest) in
             (all.0, subst (λ (l : Events). Plays false (rounds_of all.0 n) s0 last halt l) (sym (append_assoc played.0 x.0 later)) all.1)),
-        noted_more g.L.Log.noted c.args.log.now c.loop-element.log c.advance.new.log played.0 x.0 played.2 x.2);
+        noted_more g.L.Log.noted c.args.log.now c.loop-element.log c.advance.new.log played.0 x.0 played.2 x.2,
+      );
       passes = passes_more first s next k x.0 c.loop-element.invariant.passes x.1;
     }

@@ -12,7 +12,7 @@ invariant-passes g l = record {
   elements : l.self.elements ≡ l.fn.self.elements;
   played : (made : Events)
       × ((rounds : ℕ) (last : State) (halt : Halt) (later : Events) → Plays false (rounds_of rounds l.fn.self.elements) (state_of g.C.Instructions.program g.C.Instructions.width l.self) last halt later
-          → (all : ℕ) × Plays false (rounds_of all l.fn.self.elements) (state_of g.C.Instructions.program g.C.Instructions.width l.fn.self) last halt (made ++ later))
+      → (all : ℕ) × Plays false (rounds_of all l.fn.self.elements) (state_of g.C.Instructions.program g.C.Instructions.width l.fn.self) last halt (made ++ later))
       × ((before : Events) → g.L.Log.noted l.fn.log before → g.L.Log.noted l.log (before ++ made));
 }
 
@@ -25,7 +25,7 @@ invariant-loop-element g l = record {
   elements : l.self.elements ≡ l.fn.self.elements;
   played : (made : Events)
       × ((rounds : ℕ) (last : State) (halt : Halt) (later : Events) → Plays false (in_turn l.element (l.fn.self.elements - l.element) ++ rounds_of rounds l.fn.self.elements) (state_of g.C.Instructions.program g.C.Instructions.width l.self) last halt later
-          → (all : ℕ) × Plays false (rounds_of all l.fn.self.elements) (state_of g.C.Instructions.program g.C.Instructions.width l.fn.self) last halt (made ++ later))
+      → (all : ℕ) × Plays false (rounds_of all l.fn.self.elements) (state_of g.C.Instructions.program g.C.Instructions.width l.fn.self) last halt (made ++ later))
       × ((before : Events) → g.L.Log.noted l.fn.log before → g.L.Log.noted l.log (before ++ made));
   passes : Passes (state_of g.C.Instructions.program g.C.Instructions.width l.initial.self) l.element (state_of g.C.Instructions.program g.C.Instructions.width l.self);
 }

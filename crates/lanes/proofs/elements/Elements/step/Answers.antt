@@ -1,4 +1,4 @@
-use Rattle.std.proofs.Common.{◌≡◌, refl, ◌∙◌, sym, ap, subst, ◌+◌, ◌<◌, ◌≤◌, ℕ, [], ◌++◌, List, length, map, drop, Some, arith}
+use Rattle.std.proofs.Common.{◌≡◌, ◌∙◌, sym, ap, subst, ◌<◌, [], List, length, drop, Some, arith}
 use Rattle.std.specs.Prelude.{slice_get}
 use Rattle.std.proofs.lemmas.List.{append-nil}
 use Rattle.semantics.specs.Machine.{Events}
@@ -32,9 +32,11 @@ returns-then-index-self-clause-exact g c =
     let low : e < length items = (let l = c.requires.element in omega arith) in
     let there = seen_at items ts e c.index.result.now low c.index.ensures in
     let same = c.deliver-came.ensures.same in
-    let some = c.has_token.ensures.yes c.if-not-has_token.false (queued (held_of c.index.result.now) ts) there in
-    ([], is_used_up old _ e c.args.pick (queued (held_of c.index.result.now) ts) (ap (λ (l : List Held). let s : State = record { setting = old.setting; lanes = l } in s) same) (subst (λ (l : List Held). slice_get l e ≡ Some (queued (held_of c.index.result.now) ts)) same there) some c.if-index-self.true,
-     λ before noted. subst (λ (l : Events). g.L.Log.noted c.args.log.now l) (sym (append-nil before)) noted)
+    let some = c.has_token.ensures.yes c.if-not-has_token.false (queued (held_of c.index.result.now) ts) there in (
+      [],
+      is_used_up old _ e c.args.pick (queued (held_of c.index.result.now) ts) (ap (λ (l : List Held). let s : State = record { setting = old.setting; lanes = l } in s) same) (subst (λ (l : List Held). slice_get l e ≡ Some (queued (held_of c.index.result.now) ts)) same there) some c.if-index-self.true,
+      λ before noted. subst (λ (l : Events). g.L.Log.noted c.args.log.now l) (sym (append-nil before)) noted,
+    )
 
 pub returns-then-is_err-clause-exact : goal.returns-then-is_err-clause-exact
 returns-then-is_err-clause-exact g c =
@@ -50,9 +52,11 @@ returns-then-is_err-clause-exact g c =
     let at_old = subst (λ (l : List Held). slice_get l e ≡ Some (queued (held_of c.index.result.now) ts)) same there in
     let most = (first_get (IsPlaced old.setting) old.lanes e (queued (held_of c.index.result.now) ts) c.requires.well.sound.lanes at_old).made in
     let ne = c.if-index-self.false in
-    let few : c.index.result.now.made < c.args.self.now.steps = omega arith in
-    ([], is_refused old _ e c.args.pick (queued (held_of c.index.result.now) ts) (ap (λ (l : List Held). let s : State = record { setting = old.setting; lanes = l } in s) same) at_old some few,
-     λ before noted. subst (λ (l : Events). g.L.Log.noted c.args.log.now l) (sym (append-nil before)) noted)
+    let few : c.index.result.now.made < c.args.self.now.steps = omega arith in (
+      [],
+      is_refused old _ e c.args.pick (queued (held_of c.index.result.now) ts) (ap (λ (l : List Held). let s : State = record { setting = old.setting; lanes = l } in s) same) at_old some few,
+      λ before noted. subst (λ (l : Events). g.L.Log.noted c.args.log.now l) (sym (append-nil before)) noted,
+    )
 
 pub step_lane-requires-clause-few : goal.step_lane-requires-clause-few
 step_lane-requires-clause-few g c = λ h there.

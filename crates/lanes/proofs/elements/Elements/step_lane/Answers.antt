@@ -1,14 +1,12 @@
-use Rattle.std.proofs.Common.{◌≡◌, refl, ◌∙◌, sym, ap, subst, ◌+◌, ◌<◌, ◌≤◌, ℕ, [], ◌++◌, List, length, map, drop, Some, arith}
-use Rattle.std.specs.Prelude.{slice_get, slice_set, IfSome}
+use Rattle.std.proofs.Common.{◌≡◌, refl, sym, ap, subst, ◌<◌, [], List, length, Some, arith}
 use Rattle.std.proofs.lemmas.List.{append-nil}
 use Rattle.semantics.specs.Machine.{Events}
-use Rattle.element.specs.declared.lane.Stepped.TheVariants.{Memory}
 use Rattle.element.specs.Held.{Held, held_of}
 use Rattle.element.specs.Steps.{Picks}
 use Rattle.lanes.specs.State.{State, IsPlaced, state_of}
 use Rattle.lanes.specs.Steps.{Steps, events_of}
 use Rattle.lanes.proofs.Places.{first_get}
-use Rattle.lanes.proofs.Memory.{held_at, lane_count, none_coming, get_there, lane_there, state_next}
+use Rattle.lanes.proofs.Memory.{get_there, lane_there, state_next}
 use Rattle.lanes.proofs.Stepping.{answered, is_refused}
 use Rattle.lanes.proofs.elements.Elements.step_lane.Goals as goal
 
@@ -53,7 +51,7 @@ returns-clause-well g c =
     let there = lane_there g.C.Instructions.program g.C.Instructions.width m c.args.element x c.requires.well c.requires.element c.requires.sent c.requires.come c.index_mut-lane.ensures.value in
     let s = state_of g.C.Instructions.program g.C.Instructions.width m in
     let both = answered s c.args.element c.args.pick (held_of x) (held_of c.step-stepped.new.self) c.in-Some.token c.step-stepped.new.sent.items c.step-stepped.result c.requires.well.sound there (c.requires.some (held_of x) there) (c.requires.few (held_of x) there) c.in-Some.ensures.some
-        (subst (λ (ts : List _). Rattle.element.specs.Steps.Steps s.setting.program (held_of x) c.args.pick ts c.step-stepped.result (held_of c.step-stepped.new.self) c.step-stepped.new.sent.items) c.requires.sent c.step-stepped.ensures.exact) c.step-stepped.ensures.sound c.step-stepped.ensures.made in
+    (subst (λ (ts : List _). Rattle.element.specs.Steps.Steps s.setting.program (held_of x) c.args.pick ts c.step-stepped.result (held_of c.step-stepped.new.self) c.step-stepped.new.sent.items) c.requires.sent c.step-stepped.ensures.exact) c.step-stepped.ensures.sound c.step-stepped.ensures.made in
     let first = c.requires.come in
     record {
       come = omega arith;
@@ -68,7 +66,8 @@ returns-clause-exact g c =
     let s = state_of g.C.Instructions.program g.C.Instructions.width m in
     let events = events_of c.step-stepped.result c.args.element c.in-Some.token in
     let both = answered s c.args.element c.args.pick (held_of x) (held_of c.step-stepped.new.self) c.in-Some.token c.step-stepped.new.sent.items c.step-stepped.result c.requires.well.sound there (c.requires.some (held_of x) there) (c.requires.few (held_of x) there) c.in-Some.ensures.some
-        (subst (λ (ts : List _). Rattle.element.specs.Steps.Steps s.setting.program (held_of x) c.args.pick ts c.step-stepped.result (held_of c.step-stepped.new.self) c.step-stepped.new.sent.items) c.requires.sent c.step-stepped.ensures.exact) c.step-stepped.ensures.sound c.step-stepped.ensures.made in
-    (events,
-     subst (λ (l : List Held). Steps s c.args.element c.args.pick (Some c.step-stepped.result) (record { setting = s.setting; lanes = l }) events) (state_next m.lanes.items m.sent.items c.step-stepped.new.sent.items m.come c.args.element c.step-stepped.new.self c.requires.sent c.requires.come) both.1,
-     λ before noted. c.note.ensures before (c.make_room.ensures.same before noted))
+    (subst (λ (ts : List _). Rattle.element.specs.Steps.Steps s.setting.program (held_of x) c.args.pick ts c.step-stepped.result (held_of c.step-stepped.new.self) c.step-stepped.new.sent.items) c.requires.sent c.step-stepped.ensures.exact) c.step-stepped.ensures.sound c.step-stepped.ensures.made in (
+      events,
+      subst (λ (l : List Held). Steps s c.args.element c.args.pick (Some c.step-stepped.result) (record { setting = s.setting; lanes = l }) events) (state_next m.lanes.items m.sent.items c.step-stepped.new.sent.items m.come c.args.element c.step-stepped.new.self c.requires.sent c.requires.come) both.1,
+      λ before noted. c.note.ensures before (c.make_room.ensures.same before noted),
+    )

@@ -1,4 +1,4 @@
-use Rattle.std.proofs.Common.{◌≡◌, ◌∙◌, refl, sym, ap, subst, ℕ, ◌<◌, ◌≤◌, List, length, map, drop, arith}
+use Rattle.std.proofs.Common.{◌∙◌, refl, ap, ℕ, ◌<◌, List, length, map, drop, arith}
 use Rattle.std.proofs.lemmas.Grind.{common_steps}
 use Rattle.element.specs.Held.{held_of}
 use Rattle.semantics.specs.Report.{sum_below}
@@ -27,8 +27,13 @@ returns g c =
     let lanes = map held m.lanes.items in
     let number = c.cells-number.result in
     let count = lane_count m.lanes.items (drop m.come m.sent.items) n c.requires.sound.count in
-    let some : 0 < length m.lanes.items = (let l = c.requires.sound.setting.some in omega arith) in
-    (held c.swap_remove-first.result, held_at m.lanes.items 0 c.swap_remove-first.result some c.swap_remove-first.ensures.value, refl,
-     c.in_ok-cells.ensures ∙ ap (λ (l : List _). full_below n (map held l) number) c.deref.ensures.value ∙ ap (λ (k : ℕ). full_below n lanes k) c.cells-number.ensures,
-     c.in_ok-deferred.ensures ∙ ap (λ (l : List _). sum_below number (λ x. cell_readers n (map held l) x)) c.deref-2.ensures.value ∙ ap (λ (k : ℕ). sum_below k (λ x. cell_readers n lanes x)) c.cells-number.ensures,
-     c.requests-requests.ensures, c.credits-credits.ensures, c.frames_out-out.ensures)
+    let some : 0 < length m.lanes.items = (let l = c.requires.sound.setting.some in omega arith) in (
+      held c.swap_remove-first.result,
+      held_at m.lanes.items 0 c.swap_remove-first.result some c.swap_remove-first.ensures.value,
+      refl,
+      c.in_ok-cells.ensures ∙ ap (λ (l : List _). full_below n (map held l) number) c.deref.ensures.value ∙ ap (λ (k : ℕ). full_below n lanes k) c.cells-number.ensures,
+      c.in_ok-deferred.ensures ∙ ap (λ (l : List _). sum_below number (λ x. cell_readers n (map held l) x)) c.deref-2.ensures.value ∙ ap (λ (k : ℕ). sum_below k (λ x. cell_readers n lanes x)) c.cells-number.ensures,
+      c.requests-requests.ensures,
+      c.credits-credits.ensures,
+      c.frames_out-out.ensures,
+    )

@@ -1,7 +1,10 @@
-use Rattle.std.proofs.Common.{refl, sym, subst, true}
+use Rattle.std.proofs.Common.{◌≡◌, refl, sym, subst, true}
 use Rattle.semantics.specs.Machine.{Events}
 use Rattle.lanes.specs.State.{state_of}
 use Rattle.lanes.specs.Runs.{Kept, Began}
+use Rattle.lanes.specs.Setting.{Setting}
+use Rattle.lanes.proofs.Playing.{setting_plays}
+use Rattle.lanes.proofs.Reports.{clash_cell}
 use Rattle.lanes.proofs.Ending.{began_plays, halts_as}
 use Rattle.lanes.proofs.machine.Machine.play.Goals as goal
 
@@ -18,3 +21,18 @@ pub returns-clause-halts : goal.returns-clause-halts
 returns-clause-halts g c =
     let e = c.play.ensures.exact in
     halts_as true c.args.picks.now (state_of g.C.Instructions.program g.C.Instructions.width c.self.inside.elements) (state_of g.C.Instructions.program g.C.Instructions.width c.play.new.self) c.play.result e.0 e.1
+
+pub returns-clause-setting : goal.returns-clause-setting
+returns-clause-setting g c =
+    let old = state_of g.C.Instructions.program g.C.Instructions.width c.self.inside.elements in
+    let new = state_of g.C.Instructions.program g.C.Instructions.width c.play.new.self in
+    let e = c.play.ensures.exact in
+    let z : Setting = new.setting in
+    subst (λ (k : Kept). z ≡ k.state.setting) c.self.view_is (setting_plays true c.args.picks.now old new c.play.result e.0 e.1)
+
+pub returns-clause-cell : goal.returns-clause-cell
+returns-clause-cell g c =
+    let old = state_of g.C.Instructions.program g.C.Instructions.width c.self.inside.elements in
+    let new = state_of g.C.Instructions.program g.C.Instructions.width c.play.new.self in
+    let e = c.play.ensures.exact in
+    clash_cell new true c.play.result c.play.ensures.well.sound (halts_as true c.args.picks.now old new c.play.result e.0 e.1)

@@ -1,15 +1,16 @@
-use Rattle.std.proofs.Common.{◌≡◌, refl, ◌∙◌, sym, subst, false}
+use Rattle.std.proofs.Common.{◌≡◌, refl, ◌∙◌, sym, ap, subst, ℕ, inl, inr, false}
 use Rattle.semantics.specs.Report.{Report, Shows}
 use Rattle.lanes.specs.Setting.{size}
-use Rattle.lanes.specs.State.{State, state_of}
+use Rattle.lanes.specs.State.{state_of}
 use Rattle.lanes.specs.Runs.{Kept, Began, HaltsAs}
-use Rattle.lanes.specs.Told.{opening_picture}
+use Rattle.lanes.specs.Told.{opening_picture, IsReportOf}
+use Rattle.semantics.specs.Machine.{outputs_of}
 use Rattle.lanes.proofs.Showing.{shows_here}
 use Rattle.lanes.proofs.Reports.{memory_pictured, shows_opening}
 use Rattle.lanes.proofs.machine.Machine.report.Goals as goal
 
-pub returns-in-Ok : goal.returns-in-Ok
-returns-in-Ok g c = λ inputs listed began halts.
+pub returns-in-Ok-clause-shows : goal.returns-in-Ok-clause-shows
+returns-in-Ok-clause-shows g c = λ inputs listed began halts.
     let m = c.self.inside.elements in
     let s = state_of g.C.Instructions.program g.C.Instructions.width m in
     let told = c.in-Ok.told in
@@ -21,10 +22,22 @@ returns-in-Ok g c = λ inputs listed began halts.
     let shown : Shows s.setting.program (size s.setting) inputs s.setting.steps listed false r = shows_here inputs s evs listed c.args.halt r c.self.invariant.sound b h c.end_of.ensures refl picture in
     subst (λ (k : Kept). Shows k.state.setting.program (size k.state.setting) inputs k.state.setting.steps listed false r) c.self.view_is shown
 
-pub returns-in-Err : goal.returns-in-Err
-returns-in-Err g c = λ inputs listed began halts.
+pub returns-in-Err-clause-shows : goal.returns-in-Err-clause-shows
+returns-in-Err-clause-shows g c = λ inputs listed began halts.
     let m = c.self.inside.elements in
     let s = state_of g.C.Instructions.program g.C.Instructions.width m in
     let shown = shows_opening s inputs listed c.outputs.result c.self.invariant.sound c.outputs.ensures.exact in
     let at_view = subst (λ (k : Kept). Shows k.state.setting.program (size k.state.setting) inputs k.state.setting.steps listed false (opening_picture c.outputs.result)) c.self.view_is shown in
     subst (λ (r : Report). Shows c.args.self.state.setting.program (size c.args.self.state.setting) inputs c.args.self.state.setting.steps listed false r) (sym c.opening_report.ensures) at_view
+
+pub returns-in-Ok-clause-told : goal.returns-in-Ok-clause-told
+returns-in-Ok-clause-told g c =
+    let told = c.in-Ok.told in
+    let r : Report = record { end = c.end_of.result; outputs = told.outputs.items; cells = told.cells.items; deferred = told.deferred; waiting_frames = told.requests; waiting_credits = told.credits; frames_out = told.out; events = c.self.inside.events.items } in
+    subst (λ (k : Kept). IsReportOf k c.args.halt r) c.self.view_is (inr (refl, c.end_of.ensures))
+
+pub returns-in-Err-clause-told : goal.returns-in-Err-clause-told
+returns-in-Err-clause-told g c =
+    let r = opening_picture c.outputs.result in
+    let same : opening_picture c.outputs.result ≡ opening_picture (outputs_of (g.C.Instructions.program c.self.inside.elements.code.now)) = ap (λ (n : ℕ). opening_picture n) c.outputs.ensures.exact in
+    subst (λ (k : Kept). IsReportOf k c.args.halt c.opening_report.result) c.self.view_is (inl (c.opening_report.ensures ∙ same))
