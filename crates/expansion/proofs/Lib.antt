@@ -1,2 +1,4 @@
 pub mod Names
 pub mod Small
+pub mod Keeping
+pub mod Bounds

@@ -8,3 +8,4 @@ pub mod Scopes
 pub mod Blocks
 pub mod Variants
 pub mod Expanded
+pub mod Keeping

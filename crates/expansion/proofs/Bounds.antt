@@ -1,0 +1,45 @@
+-- The loops of a code block open with the bounds of its graph block, and its switches alone are marked.
+use Rattle.std.proofs.Common.{◌≡◌, ℕ, zero, suc, ◌+◌, ◌-◌, Bool, true, false, List, [], ◌∷◌, ◌++◌, length, refl, sym, ap, ◌∙◌, append_assoc, append-nil, if◌then◌else◌}
+use Rattle.std.specs.Prelude.{flat_map, slice_set, slice_index_or}
+use Rattle.semantics.specs.declared.program.Dest.{Dest}
+use Rattle.semantics.specs.declared.program.Mark.{Mark}
+use Rattle.semantics.specs.declared.program.Op.{Op}
+use Rattle.semantics.specs.Program.{Instr}
+use Rattle.semantics.specs.Cause.{loop_bounds, opened_by}
+use Rattle.expansion.specs.Keeping.{Fits}
+use Rattle.expansion.specs.Builds.{Build, with_dest, no_instr, bare, slot_in}
+use Rattle.expansion.specs.Scopes.{Scope}
+use Rattle.expansion.specs.Blocks.{plain_build, variant_build}
+use Rattle.expansion.proofs.Keeping.{plain_keeps, variant_keeps}
+
+abbrev opens : List Instr → List ℕ
+opens is = flat_map (λ (i : Instr). opened_by i.op) is
+
+opens-push : (is : List Instr) (i : Instr) → opens (is ++ i ∷ []) ≡ opens is ++ opened_by i.op
+opens-push [] i = append-nil (opened_by i.op)
+opens-push (j ∷ is) i = ap (λ ys. opened_by j.op ++ ys) (opens-push is i) ∙ sym (append_assoc (opened_by j.op) (opens is) (opened_by i.op))
+
+same_op : (i : Instr) (s : Bool) (d : Dest) → (with_dest i s d).op ≡ i.op
+same_op i true d = refl
+same_op i false d = refl
+
+opens-set : (is : List Instr) (n : ℕ) (s : Bool) (d : Dest) → opens (slice_set is n (with_dest (slice_index_or is n no_instr) s d)) ≡ opens is
+opens-set [] n s d = refl
+opens-set (i ∷ is) zero s d = ap (λ op. opened_by op ++ opens is) (same_op i s d)
+opens-set (i ∷ is) (suc n) s d = ap (λ ys. opened_by i.op ++ ys) (opens-set is n s d)
+
+abbrev Opens : List ℕ → Build → Type 0
+Opens xs b = opens b.instrs ≡ xs
+
+pub plain_opens : (s : Scope) → opens (plain_build s).instrs ≡ loop_bounds s.block
+plain_opens = plain_keeps Opens refl
+    (λ xs b op o m r f h. opens-push b.instrs (bare op o (slot_in b op)) ∙ ap (λ ys. ys ++ opened_by op) h)
+    (λ xs b o to p h. opens-set b.instrs (o.place + o.port) o.second (record { ahead = (to - o.place) - o.port; port = p }) ∙ h)
+    (λ xs b o h. h)
+
+pub variant_opens : (s : Scope) (code : ℕ) → opens (variant_build s code).instrs ≡ loop_bounds s.block
+variant_opens = variant_keeps Opens refl
+    (λ xs b op o m r f h. opens-push b.instrs (bare op o (slot_in b op)) ∙ ap (λ ys. ys ++ opened_by op) h)
+    (λ xs b o to p h. opens-set b.instrs (o.place + o.port) o.second (record { ahead = (to - o.place) - o.port; port = p }) ∙ h)
+    (λ xs b o h. h)
+
