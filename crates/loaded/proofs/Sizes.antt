@@ -5,7 +5,7 @@ use Rattle.std.proofs.lemmas.List.Elements.{All-head, All-tail}
 use Rattle.semantics.specs.Program.{Instr, CodeBlock, Code}
 use Rattle.semantics.specs.Machine.{results_in, outputs_of}
 use Rattle.semantics.specs.Bytes.{IsCode, IsCodeBlock, IsInstr}
-use Rattle.lanes.specs.Setting.{inputs_in, inputs_of, FitsSlots}
+use Rattle.schedule.specs.Setting.{inputs_in, inputs_of, FitsSlots}
 use Rattle.loaded.specs.Ready.{widest}
 use Rattle.loaded.proofs.Short.{found, low_slot, some_width}
 

@@ -14,7 +14,7 @@ mod making;
 mod tests;
 
 use element::instructions::{Array, Instruction, Instructions};
-use lanes::main_code::MainCode;
+use schedule::main_code::MainCode;
 use making::{arrays_of, cells_of, entries_of, most_slots};
 use object_view::{CodeInstr, Object};
 use std::alloc::{AllocError, Allocator};
