@@ -1,11 +1,10 @@
 -- Destinations of a narrowed plan: each is a later instruction of its block.
-use Rattle.std.proofs.Common.{◌≡◌, ℕ, zero, suc, ◌+◌, ◌-◌, ◌*◌, ◌<◌, ◌≤◌, Bool, true, false, List, [], ◌∷◌, ◌++◌, map, length, refl, sym, ap, ◌∙◌, subst, inl, inr, ◌⊎◌, arith, Option, Some, None, nat_lt, if◌then◌else◌}
+use Rattle.std.proofs.Common.{◌≡◌, ℕ, ◌+◌, ◌-◌, ◌*◌, ◌<◌, ◌≤◌, Bool, true, false, List, [], ◌∷◌, ◌++◌, map, length, refl, sym, ap, ◌∙◌, subst, inl, inr, ◌⊎◌, arith, Option, Some, None, nat_lt, if◌then◌else◌}
 use Rattle.std.specs.Prelude.{slice_get, Contains}
 use Rattle.std.proofs.lemmas.Bool.{ltb-true, ltb-false}
 use Rattle.std.specs.Option.{option_map}
 use Rattle.std.proofs.lemmas.Option.{slice_get_within, get_or_from_slice_get, slice_get-map}
 use Rattle.std.proofs.lemmas.List.Elements.{Contains-append_left, Contains-append_right, Contains-append_cases}
-use Rattle.tags.specs.declared.token.Port.{Port}
 use Rattle.tags.specs.declared.token.Port.TheVariants.{Left, Right}
 use Rattle.semantics.specs.declared.program.Dest.{Dest}
 use Rattle.semantics.specs.Program.{Instr, CodeBlock}
@@ -15,13 +14,12 @@ use Rattle.semantics.specs.Bytes.{is_dyadic, IsDest}
 use Rattle.lowering.proofs.Members.{contains_cases, contains_none}
 use Rattle.lowering.proofs.Ends.{contains_map}
 use Rattle.fanout.specs.Sides.{copies, parted}
-use Rattle.fanout.specs.Rows.{tied_in, is_tied}
-use Rattle.fanout.specs.Places.{Layout, size, layout_with, place_of, base_of}
+use Rattle.fanout.specs.Places.{Layout, size, place_of, base_of}
 use Rattle.fanout.specs.Trees.{dest_at, leaf, leaf_or, child, side, tree, copy_at, copies_of, moved}
-use Rattle.fanout.specs.Narrowed.{parts_of, narrowed, narrowed_block}
-use Rattle.fanout.specs.Laws.{AreApart, Names, LeavesRows, AreDests, DestsStay}
+use Rattle.fanout.specs.Narrowed.{parts_of, narrowed_block}
+use Rattle.fanout.specs.Laws.{AreApart, DestsStay}
 use Rattle.fanout.proofs.Positions.{get_split}
-use Rattle.fanout.proofs.Spots.{length-tree, get-tree, sized, stands, copy_stands, before_copies, past_copies, IsMoved, IsCopied, comes_here}
+use Rattle.fanout.proofs.Spots.{length-tree, get-tree, sized, copy_stands, before_copies, past_copies, IsMoved, IsCopied, comes_here}
 use Rattle.fanout.proofs.Queues.{there}
 use Rattle.fanout.proofs.Stages.{parted_all}
 use Rattle.fanout.proofs.Theorem.{get_map}

@@ -1,8 +1,8 @@
 -- Which instructions are tied, where there is no link: the entries but the last one.
-use Rattle.std.proofs.Common.{◌≡◌, ◌≢◌, ℕ, zero, suc, ◌+◌, ◌-◌, ◌<◌, ◌≤◌, Bool, true, false, List, [], ◌∷◌, ◌++◌, map, length, replicate, refl, sym, ap, ◌∙◌, subst, inl, inr, ◌⊎◌, arith, true≢false, Option, Some, None, if◌then◌else◌, le_of_suc-le-suc, not-suc-le-zero, length-set}
-use Rattle.std.specs.Prelude.{slice_get, slice_set, slice_index_or, All}
+use Rattle.std.proofs.Common.{◌≡◌, ℕ, zero, suc, ◌+◌, ◌-◌, ◌<◌, ◌≤◌, Bool, true, false, List, [], ◌∷◌, length, replicate, refl, sym, ap, ◌∙◌, inl, inr, ◌⊎◌, arith, true≢false, Some, if◌then◌else◌, length-set}
+use Rattle.std.specs.Prelude.{slice_get, slice_set, All}
 use Rattle.std.proofs.lemmas.Bool.{cases_eq}
-use Rattle.std.proofs.lemmas.List.{get_or-set_same, get_or-set_other, length-replicate}
+use Rattle.std.proofs.lemmas.List.{get_or-set_same, get_or-set_other}
 use Rattle.std.proofs.lemmas.List.Elements.{All-head, All-tail}
 use Rattle.semantics.specs.declared.program.Dest.{Dest}
 use Rattle.semantics.specs.declared.program.Op.{Op}
@@ -15,7 +15,7 @@ use Rattle.fanout.specs.Laws.{is_link}
 use Rattle.fanout.proofs.Positions.{same_number}
 
 -- there are as many flags as instructions
-tie_length : (ts : List Bool) (from k : ℕ) → length (tie ts from k) ≡ length ts
+pub tie_length : (ts : List Bool) (from k : ℕ) → length (tie ts from k) ≡ length ts
 tie_length ts from zero = refl
 tie_length ts from (suc k) = length-set (tie ts from k) (from + k) true ∙ tie_length ts from k
 
@@ -23,7 +23,7 @@ landings_length : (ts : List Bool) (n size : ℕ) (ds : List Dest) → length (t
 landings_length ts n size [] = refl
 landings_length ts n size (d ∷ ds) = landings_length (tie ts (n + d.ahead) (size - 1)) n size ds ∙ tie_length ts (n + d.ahead) (size - 1)
 
-instr_length : (p : Plan) (ts : List Bool) (n : ℕ) (i : Instr) (op : Op) → length (tie_instr p ts n i op) ≡ length ts
+pub instr_length : (p : Plan) (ts : List Bool) (n : ℕ) (i : Instr) (op : Op) → length (tie_instr p ts n i op) ≡ length ts
 instr_length p ts n i (Link b) = landings_length ts n (landing p b) i.firsts
 instr_length p ts n i op = refl
 
@@ -31,7 +31,7 @@ all_length : (p : Plan) (ts : List Bool) (n : ℕ) (is : List Instr) → length 
 all_length p ts n [] = refl
 all_length p ts n (i ∷ is) = all_length p (tie_instr p ts n i i.op) (n + 1) is ∙ instr_length p ts n i i.op
 
-none_length : (n : ℕ) → length (replicate n false) ≡ n
+pub none_length : (n : ℕ) → length (replicate n false) ≡ n
 none_length zero = refl
 none_length (suc n) = ap suc (none_length n)
 
@@ -49,7 +49,7 @@ tie_others : (ts : List Bool) (from count k : ℕ) → from + count ≤ k → is
 tie_others ts from zero k h = refl
 tie_others ts from (suc c) k h = get_or-set_other (tie ts from c) (from + c) k true false (λ e. omega (arith, h, e)) ∙ tie_others ts from c k (omega (arith, h))
 
-tie_these : (ts : List Bool) (from count k : ℕ) → from ≤ k → k < from + count → k < length ts → is_tied (tie ts from count) k ≡ true
+pub tie_these : (ts : List Bool) (from count k : ℕ) → from ≤ k → k < from + count → k < length ts → is_tied (tie ts from count) k ≡ true
 tie_these ts from zero k l h there = absurd (omega (arith, l, h))
 tie_these ts from (suc c) k l h there = pick (cases_eq k (from + c)) (tie_these ts from c k)
   where
@@ -108,7 +108,7 @@ tie_keeps ts from (suc c) k h = pick (cases_eq k (from + c)) (tie_keeps ts from 
         ap (is_tied (slice_set (tie ts from c) (from + c) true)) e ∙ get_or-set_same (tie ts from c) (from + c) true false (omega (arith, low, e))
     pick (inr d) more = get_or-set_other (tie ts from c) (from + c) k true false d ∙ more
 
-landings_keep : (ts : List Bool) (n size : ℕ) (ds : List Dest) (k : ℕ) → is_tied ts k ≡ true → is_tied (tie_landings ts n size ds) k ≡ true
+pub landings_keep : (ts : List Bool) (n size : ℕ) (ds : List Dest) (k : ℕ) → is_tied ts k ≡ true → is_tied (tie_landings ts n size ds) k ≡ true
 landings_keep ts n size [] k h = h
 landings_keep ts n size (d ∷ ds) k h = landings_keep (tie ts (n + d.ahead) (size - 1)) n size ds k (tie_keeps ts (n + d.ahead) (size - 1) k h)
 
@@ -116,7 +116,7 @@ instr_keeps : (p : Plan) (ts : List Bool) (n : ℕ) (i : Instr) (op : Op) (k : �
 instr_keeps p ts n i (Link b) k h = landings_keep ts n (landing p b) i.firsts k h
 instr_keeps p ts n i op k h = h
 
-all_keeps : (p : Plan) (ts : List Bool) (n : ℕ) (is : List Instr) (k : ℕ) → is_tied ts k ≡ true → is_tied (tie_all p ts n is) k ≡ true
+pub all_keeps : (p : Plan) (ts : List Bool) (n : ℕ) (is : List Instr) (k : ℕ) → is_tied ts k ≡ true → is_tied (tie_all p ts n is) k ≡ true
 all_keeps p ts n [] k h = h
 all_keeps p ts n (i ∷ is) k h = all_keeps p (tie_instr p ts n i i.op) (n + 1) is k (instr_keeps p ts n i i.op k h)
 

@@ -1,32 +1,29 @@
 -- The wires of a narrowed block, copy by copy. The instructions are passed in their order; those passed send to what they
 -- send to at last, and the others to what they sent to at first.
-use Rattle.std.proofs.Common.{◌≡◌, ℕ, zero, suc, ◌+◌, ◌-◌, ◌<◌, ◌≤◌, Bool, true, false, List, [], ◌∷◌, ◌++◌, map, length, refl, sym, ap, ◌∙◌, subst, inl, inr, ◌⊎◌, arith, true≢false, Option, Some, None, if◌then◌else◌, append_assoc}
+use Rattle.std.proofs.Common.{◌≡◌, ℕ, suc, ◌+◌, ◌<◌, ◌≤◌, Bool, true, false, List, [], ◌∷◌, ◌++◌, map, length, refl, sym, ap, ◌∙◌, subst, inl, inr, ◌⊎◌, arith, true≢false, Some, if◌then◌else◌}
 use Rattle.std.specs.Prelude.{slice_get, All, IsPermutation}
-use Rattle.std.proofs.lemmas.Bool.{cases_Bool, cases_lt, cases_eq}
+use Rattle.std.proofs.lemmas.Bool.{cases_Bool}
 use Rattle.std.proofs.lemmas.Option.{slice_get_within, slice_get-map}
 use Rattle.std.specs.Option.{option_map}
-use Rattle.std.proofs.lemmas.List.{map-append}
-use Rattle.std.proofs.lemmas.List.Sorted.{IsPermutation-refl, IsPermutation-sym, IsPermutation-trans, IsPermutation-append_comm, All-permutation}
+use Rattle.std.proofs.lemmas.List.Sorted.{IsPermutation-sym, IsPermutation-trans, All-permutation}
 use Rattle.std.proofs.lemmas.List.Elements.{All-head, All-tail}
-use Rattle.tags.specs.declared.token.Port.{Port}
 use Rattle.tags.specs.declared.token.Port.TheVariants.{Left}
 use Rattle.semantics.specs.declared.program.Op.TheVariants as Program
-use Rattle.semantics.specs.declared.program.Dest.{Dest}
 use Rattle.semantics.specs.Graph.{Block}
 use Rattle.semantics.specs.Program.{Instr, CodeBlock}
-use Rattle.lowering.specs.Roles.{Role, End, Copy, is_instr, same_role, Inlet, inlet, Carried, goes_from, Wiring, IsThere, IsWire, IsWired}
+use Rattle.lowering.specs.Roles.{Role, End, Copy, is_instr, same_role, Inlet, Carried, goes_from, Wiring, IsThere, IsWire, IsWired}
 use Rattle.lowering.specs.Implements.{Layout, code_of, leads_to, IsBlockCode}
-use Rattle.lowering.proofs.Orders.{lifted, shuffled, Part, ◌⊕◌, at_first, at_last, IsPermutation-same}
+use Rattle.lowering.proofs.Orders.{lifted, at_last, IsPermutation-same}
 use Rattle.lowering.proofs.Parts.{same_role-true, same_role-refl}
 use Rattle.lowering.proofs.Net.{All-append_left, All-append_right}
 use Rattle.lowering.proofs.OneCopyMore.{split_wired}
-use Rattle.fanout.specs.Sides.{copies, parted}
+use Rattle.fanout.specs.Sides.{parted}
 use Rattle.fanout.specs.Places as Places
 use Rattle.fanout.specs.Places.{size, layout_with, place_of, base_of}
-use Rattle.fanout.specs.Trees.{copy_at, copies_of, side, moved}
+use Rattle.fanout.specs.Trees.{copies_of, moved}
 use Rattle.fanout.specs.Narrowed.{parts_of}
-use Rattle.fanout.proofs.Spots.{places_differ, copies_differ, copy_apart, sized, first_copy, second_copy}
-use Rattle.fanout.proofs.Queues.{Address, to, Reaches, tip, window, queue, copy_goes, queue_last, queue_first, queue_all, side_goes}
+use Rattle.fanout.proofs.Spots.{copies_differ, copy_apart, sized}
+use Rattle.fanout.proofs.Queues.{Address, to}
 use Rattle.fanout.proofs.Split.{after, new, there_up, there_down, new_apart, wire_of_r, wire_of_new, wire_of}
 
 -- an image that ends with two, and what they are images of

@@ -1,25 +1,24 @@
 -- A narrowed block is code of the same graph block.
-use Rattle.std.proofs.Common.{◌≡◌, ℕ, zero, suc, ◌+◌, ◌-◌, ◌<◌, ◌≤◌, Bool, true, false, List, [], ◌∷◌, ◌++◌, map, length, refl, sym, ap, ◌∙◌, subst, inl, inr, ◌⊎◌, arith, true≢false, Option, Some, None, unwrap_or, ◌==◌, if◌then◌else◌, lt-ltb}
+use Rattle.std.proofs.Common.{◌≡◌, ℕ, zero, suc, ◌+◌, ◌-◌, ◌<◌, ◌≤◌, Bool, true, false, List, [], ◌∷◌, ◌++◌, map, length, refl, sym, ap, ◌∙◌, subst, inl, inr, ◌⊎◌, arith, true≢false, Some, None, unwrap_or, if◌then◌else◌, lt-ltb}
 use Rattle.std.specs.Prelude.{slice_get, All, Contains, flat_map, IsPermutation}
 use Rattle.std.specs.Option.{option_map}
 use Rattle.std.proofs.lemmas.Bool.{cases_lt, cases_eq}
 use Rattle.std.proofs.lemmas.Option.{slice_get_within, slice_get-map, get_or_from_slice_get}
-use Rattle.std.proofs.lemmas.List.Sorted.{IsPermutation-sym, Contains-permutation}
+use Rattle.std.proofs.lemmas.List.Sorted.{Contains-permutation}
 use Rattle.std.proofs.lemmas.List.Elements.{All-cons, All-nil, All-head, All-tail, All-contains, All-append, All-map, All-weaker}
 use Rattle.tags.specs.declared.value.Origin.TheVariants.{Untold}
 use Rattle.tags.specs.declared.token.Port.{Port}
 use Rattle.tags.specs.declared.token.Port.TheVariants.{Left}
 use Rattle.semantics.specs.declared.program.Op.TheVariants as Program
 use Rattle.semantics.specs.declared.program.Dest.{Dest}
-use Rattle.semantics.specs.Graph.{Block, Node, node_at, node_count}
+use Rattle.semantics.specs.Graph.{Block, node_at}
 use Rattle.semantics.specs.Program.{Instr, CodeBlock}
 use Rattle.semantics.specs.Cause.{opened_by, open_bounds}
-use Rattle.semantics.specs.Plan.{Plan, HasShape}
-use Rattle.lowering.specs.Roles.{Role, Start, Line, Result, Join, End, Copy, Shown, Done, Freed, is_instr, same_role, same_inlet, Inlet, inlet, one, hits, is_two, is_pair_at, outs, given, lines_from, op_of, Wiring, IsThere, IsInlet, IsFed, IsWire, IsWired}
+use Rattle.semantics.specs.Plan.{Plan}
+use Rattle.lowering.specs.Roles.{Role, Start, Line, Result, Join, End, Copy, Shown, Done, Freed, is_instr, same_inlet, Inlet, inlet, one, hits, is_two, is_pair_at, outs, given, lines_from, op_of, Wiring, IsThere, IsFed, IsWire, IsWired}
 use Rattle.lowering.specs.Implements.{Layout, code_of, leads_to, stands_at, IsBlockCode, IsCodeOf}
-use Rattle.lowering.proofs.Orders.{at_first, at_last}
+use Rattle.lowering.proofs.Orders.{at_first}
 use Rattle.lowering.proofs.Parts.{one_same}
-use Rattle.lowering.proofs.Members.{contains_none}
 use Rattle.lowering.proofs.Ends.{contains_map}
 use Rattle.lowering.proofs.StraightWired.{wire_rises, hits-contains}
 use Rattle.determinacy.proofs.Resolved.{all_get}
@@ -31,9 +30,9 @@ use Rattle.fanout.specs.Trees.{copy_at, tree, copies_of, moved}
 use Rattle.fanout.specs.Narrowed.{parts_of, spread, narrowed_block}
 use Rattle.fanout.specs.Laws.{is_link, IsPlain, IsPlainCode}
 use Rattle.fanout.proofs.Positions.{all_spread}
-use Rattle.fanout.proofs.Spots.{tree_is, counted, sized, stands, copy_stands, past_copies, place_is}
+use Rattle.fanout.proofs.Spots.{sized, stands, copy_stands, past_copies, place_is}
 use Rattle.fanout.proofs.Queues.{Address, Reaches}
-use Rattle.fanout.proofs.Growing.{part_at, first_list, last_list, stand, Kept, Made, State}
+use Rattle.fanout.proofs.Growing.{part_at, first_list, last_list, stand, Made, State}
 use Rattle.fanout.proofs.Stages.{parted_all, stage}
 use Rattle.fanout.proofs.Flags.{tied_length, later_free, entry_tied, place_tied}
 

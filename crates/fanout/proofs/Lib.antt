@@ -13,3 +13,4 @@ pub mod Plans
 pub mod Arrows
 pub mod Wires
 pub mod StraightClear
+pub mod Standing

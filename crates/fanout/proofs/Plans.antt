@@ -1,7 +1,7 @@
 -- A narrowed plan is a plan: each of its instructions is an old one in its place, or a copy.
-use Rattle.std.proofs.Common.{◌≡◌, ◌≢◌, ℕ, zero, suc, ◌+◌, ◌<◌, Bool, true, false, ◌&&◌, List, [], ◌∷◌, ◌++◌, length, replicate, refl, sym, ap, ◌∙◌, subst, inl, inr, ◌⊎◌, arith, Option, Some, None, unwrap_or, not-suc-le-zero, le_of_suc-le-suc, map}
+use Rattle.std.proofs.Common.{◌≡◌, ◌≢◌, ℕ, zero, suc, ◌+◌, ◌<◌, Bool, true, false, ◌&&◌, List, [], ◌∷◌, length, replicate, refl, sym, ap, ◌∙◌, subst, inl, inr, ◌⊎◌, arith, Some, None, not-suc-le-zero, le_of_suc-le-suc, map}
 use Rattle.std.specs.Option.{option_map}
-use Rattle.std.specs.Prelude.{slice_get, All, Contains}
+use Rattle.std.specs.Prelude.{slice_get, All}
 use Rattle.std.proofs.lemmas.Option.{slice_get_within, slice_get-get_or, get_or_from_slice_get, slice_get-map}
 use Rattle.std.proofs.lemmas.List.{length-replicate}
 use Rattle.std.proofs.lemmas.List.Elements.{All-cons, All-nil, All-append, All-head, All-tail}
@@ -13,7 +13,7 @@ use Rattle.semantics.specs.declared.program.Mark.{Mark}
 use Rattle.semantics.specs.declared.program.Mark.TheVariants.{Unmarked}
 use Rattle.semantics.specs.Program.{Instr, CodeBlock}
 use Rattle.semantics.specs.Rule.{slot_of}
-use Rattle.semantics.specs.Plan.{Plan, mark_in, mark_at, is_credit, is_open, OneHolder, IsFirst, IsPlanBlock, IsPlan}
+use Rattle.semantics.specs.Plan.{Plan, mark_in, mark_at, is_credit, is_open, OneHolder, IsPlanBlock}
 use Rattle.semantics.specs.Wired.{bound_of, part_of, LoopsAgree}
 use Rattle.code.specs.Marks.{marks_in}
 use Rattle.determinacy.proofs.Resolved.{all_get}
@@ -21,7 +21,7 @@ use Rattle.fanout.specs.Sides.{copies, parted}
 use Rattle.fanout.specs.Rows.{tied_in}
 use Rattle.fanout.specs.Places.{Layout, size, layout_with, place_of, base_of}
 use Rattle.fanout.specs.Trees.{copy_at, tree, copies_of, moved}
-use Rattle.fanout.specs.Narrowed.{parts_of, layout_of, mark_of, unmarked, spread, narrowed, narrowed_block, narrowed_marks, narrowed_blocks, all_marks}
+use Rattle.fanout.specs.Narrowed.{parts_of, mark_of, unmarked, narrowed, narrowed_block, narrowed_marks, narrowed_blocks, all_marks}
 use Rattle.fanout.specs.Laws.{StaysPlan, MarksStay, LoopsStay}
 use Rattle.fanout.proofs.Positions.{one_at, more_at}
 use Rattle.fanout.proofs.Spots.{sized, stands, place_is, base_is, IsMoved, IsCopied, comes_here}

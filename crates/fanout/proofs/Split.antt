@@ -5,7 +5,7 @@ use Rattle.std.proofs.lemmas.Bool.{cases_Bool, cases_eq}
 use Rattle.tags.specs.declared.token.Port.TheVariants.{Left}
 use Rattle.semantics.specs.Graph.{Block}
 use Rattle.lowering.specs.Roles.{Role, Start, Line, Result, Join, End, Copy, Shown, Done, Freed, is_instr, same_role, Inlet, inlet, Carried, Plain, Return, same_carried, goes_from, Wiring, IsThere, IsWired}
-use Rattle.lowering.proofs.Parts.{same_carried-refl, same_role-true, same_role-refl}
+use Rattle.lowering.proofs.Parts.{same_role-true, same_role-refl}
 use Rattle.lowering.proofs.OneCopyMore.{split}
 
 module _ (b : Block ℕ) (w : Wiring) (laws : IsWired b w) (r : Role) (kept : List Inlet) (m : Inlet) (ms : List Inlet)

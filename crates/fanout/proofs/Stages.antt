@@ -1,15 +1,15 @@
 -- All copies of a block: instruction by instruction, and of each those of its second side and then those of its first one.
-use Rattle.std.proofs.Common.{◌≡◌, ℕ, zero, suc, ◌+◌, ◌-◌, ◌*◌, ◌<◌, ◌≤◌, Bool, true, false, List, [], ◌∷◌, ◌++◌, map, length, take, drop, refl, sym, ap, ◌∙◌, subst, inl, inr, ◌⊎◌, arith, true≢false, Option, Some, None, append_assoc, append-nil, length-append, not-suc-le-zero}
+use Rattle.std.proofs.Common.{◌≡◌, ℕ, zero, suc, ◌+◌, ◌*◌, ◌<◌, ◌≤◌, Bool, true, List, [], ◌∷◌, ◌++◌, map, length, refl, sym, ap, ◌∙◌, subst, inl, inr, ◌⊎◌, arith, true≢false, Some, append_assoc, append-nil, length-append, not-suc-le-zero}
 use Rattle.std.specs.Prelude.{slice_get, IsPermutation}
 use Rattle.std.proofs.lemmas.Bool.{cases_eq}
 use Rattle.std.proofs.lemmas.List.{map-append, take-append-drop}
-use Rattle.std.proofs.lemmas.List.Sorted.{IsPermutation-refl, IsPermutation-trans, IsPermutation-append_comm, IsPermutation-map}
+use Rattle.std.proofs.lemmas.List.Sorted.{IsPermutation-trans, IsPermutation-append_comm, IsPermutation-map}
 use Rattle.tags.specs.declared.token.Port.{Port}
 use Rattle.tags.specs.declared.token.Port.TheVariants.{Left}
 use Rattle.semantics.specs.declared.program.Dest.{Dest}
 use Rattle.semantics.specs.Graph.{Block, node_count}
 use Rattle.semantics.specs.Program.{Instr, CodeBlock}
-use Rattle.lowering.specs.Roles.{Role, Start, Line, Result, Join, End, Copy, Shown, Done, Freed, Plain, Return, is_instr, Inlet, Wiring, IsThere, IsWired}
+use Rattle.lowering.specs.Roles.{Role, Start, Line, Result, Join, End, Copy, Shown, Done, Freed, Plain, Return, is_instr, Wiring, IsThere, IsWired}
 use Rattle.lowering.specs.Implements.{Layout, code_of, leads_to, stands_at, IsBlockCode}
 use Rattle.lowering.proofs.Orders.{shuffled, Part, ◌⊕◌, at_first, at_last, IsPermutation-same, map-map}
 use Rattle.fanout.specs.declared.sides.Parting.{Parting}
@@ -17,13 +17,13 @@ use Rattle.fanout.specs.declared.sides.Parting.TheVariants.{AsTheyAre, InOne, In
 use Rattle.fanout.specs.Sides.{copies, parted, parting_of, firsts_of, seconds_of}
 use Rattle.fanout.specs.Places as Places
 use Rattle.fanout.specs.Places.{size, layout_with, place_of, base_of}
-use Rattle.fanout.specs.Trees.{copy_at, copies_of, side, moved}
+use Rattle.fanout.specs.Trees.{copy_at, copies_of, side}
 use Rattle.fanout.specs.Narrowed.{parts_of}
 use Rattle.std.proofs.lemmas.Option.{slice_get_within}
 use Rattle.fanout.proofs.Positions.{get_left, get_right}
-use Rattle.fanout.proofs.Spots.{places_differ, before_copies, sized, first_copy, second_copy}
+use Rattle.fanout.proofs.Spots.{places_differ, before_copies, first_copy, second_copy}
 use Rattle.fanout.proofs.Queues.{Address, to, Reaches, tip, window, queue, copy_goes, queue_last, queue_first, queue_all, side_goes}
-use Rattle.fanout.proofs.Growing.{stand, part, part_at, first_list, last_list, Kept, Made, State, grow}
+use Rattle.fanout.proofs.Growing.{stand, part_at, first_list, last_list, Made, State, grow}
 
 -- the two sides are all destinations
 sides_join : (p : Parting) (ds es : List Dest) → firsts_of p ds es ++ seconds_of p ds es ≡ ds ++ es

@@ -1,14 +1,13 @@
 -- The program of a straight graph: each destination is a later instruction, and no entry.
-use Rattle.std.proofs.Common.{◌≡◌, ℕ, zero, suc, ◌+◌, ◌-◌, ◌<◌, ◌≤◌, Bool, true, false, List, [], ◌∷◌, ◌++◌, map, length, refl, sym, ap, ◌∙◌, subst, inl, inr, ◌⊎◌, arith, true≢false, Option, Some, None, append-nil, length-append}
+use Rattle.std.proofs.Common.{◌≡◌, ℕ, zero, suc, ◌+◌, ◌<◌, ◌≤◌, true, false, List, [], ◌∷◌, ◌++◌, map, length, refl, sym, ap, ◌∙◌, subst, inl, inr, ◌⊎◌, arith, true≢false, Option, Some, None, append-nil}
 use Rattle.std.specs.Prelude.{slice_get, All, Contains}
 use Rattle.std.specs.Option.{option_map}
 use Rattle.std.proofs.lemmas.Bool.{cases_lt}
 use Rattle.std.proofs.lemmas.Option.{slice_get_within, slice_get-map}
-use Rattle.std.proofs.lemmas.List.Elements.{All-cons, All-nil, All-head, All-tail, All-contains, All-map, All-weaker}
-use Rattle.tags.specs.declared.token.Port.{Port}
+use Rattle.std.proofs.lemmas.List.Elements.{All-cons, All-nil, All-contains, All-map, All-weaker}
 use Rattle.tags.specs.declared.token.Port.TheVariants.{Left, Right}
 use Rattle.semantics.specs.declared.graph.Kind.{Kind}
-use Rattle.semantics.specs.declared.graph.Kind.TheVariants.{Lit, Apply1, Apply2}
+use Rattle.semantics.specs.declared.graph.Kind.TheVariants.{Apply2}
 use Rattle.semantics.specs.Graph.{Block, Flow, Node, node_at, node_count}
 use Rattle.semantics.specs.declared.program.Dest.{Dest}
 use Rattle.semantics.specs.declared.program.Op.{Op}
@@ -17,7 +16,7 @@ use Rattle.semantics.specs.Program.{Instr, CodeBlock, Program}
 use Rattle.semantics.specs.Plan.{Plan}
 use Rattle.semantics.specs.Bytes.{is_dyadic, IsDest}
 use Rattle.determinacy.proofs.Resolved.{all_get}
-use Rattle.lowering.specs.Roles.{Role, Start, Line, Result, Join, End, Copy, Shown, Done, Freed, is_instr, is_two, is_pair, is_pair_at, op_for, op_at, op_of, Inlet, hits, outs, given, Wiring, IsThere, IsFed, IsWire}
+use Rattle.lowering.specs.Roles.{Role, Start, Line, Result, Join, End, Copy, Shown, Done, Freed, is_instr, is_two, is_pair, is_pair_at, op_for, op_at, Inlet, hits, outs, given, Wiring, IsThere, IsFed, IsWire}
 use Rattle.lowering.specs.Implements.{IsStraightBlock, IsStraight}
 use Rattle.lowering.specs.StraightPlan.{join_count, straight_wire, straight_place, straight_wiring, straight_roles, counted, dest_to, instr_for, straight_code, straight_codes, straight_program}
 use Rattle.lowering.proofs.Members.{contains_none}
@@ -26,13 +25,13 @@ use Rattle.lowering.proofs.StraightFed.{all_fed}
 use Rattle.lowering.proofs.StraightWired.{wire_rises, hits-contains, lawful_wires}
 use Rattle.fanout.specs.Sides.{parted}
 use Rattle.fanout.specs.Rows.{tied_in, is_tied}
-use Rattle.fanout.specs.Narrowed.{parts_of, layout_of, narrowed}
-use Rattle.fanout.specs.Laws.{is_link, IsPlain, LandsLeft, IsShaped, AllInstrs, HasItsDests, AreApart, Names, AreDests, StandsClear, StraightHasDests, StraightStandsClear}
+use Rattle.fanout.specs.Narrowed.{parts_of, layout_of}
+use Rattle.fanout.specs.Laws.{is_link, IsPlain, LandsLeft, IsShaped, AllInstrs, AreApart, Names, StandsClear, StraightHasDests, StraightStandsClear}
 use Rattle.fanout.proofs.Positions.{get_split}
 use Rattle.fanout.proofs.Flags.{later_free}
 use Rattle.fanout.proofs.Keeps.{entry_given, in_outs}
 use Rattle.fanout.proofs.Shapes.{narrowed_dests}
-use Rattle.fanout.proofs.Theorem.{get_map, role_plain, roles_plain}
+use Rattle.fanout.proofs.Theorem.{get_map, roles_plain}
 use Rattle.fanout.proofs.Arrows.{dests_stay}
 
 -- THE PARTS IN THEIR ORDER

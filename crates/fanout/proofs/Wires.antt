@@ -1,15 +1,13 @@
 -- A narrowed plan is wired: no arc leads to an entry, and a right port is one of an instruction with two operands.
-use Rattle.std.proofs.Common.{◌≡◌, ℕ, zero, suc, ◌+◌, ◌-◌, ◌<◌, ◌≤◌, Bool, true, false, List, [], ◌∷◌, ◌++◌, map, length, refl, sym, ap, ◌∙◌, subst, inl, inr, ◌⊎◌, arith, true≢false, Option, Some, None, not-suc-le-zero, if◌then◌else◌}
+use Rattle.std.proofs.Common.{◌≡◌, ℕ, zero, suc, ◌+◌, ◌<◌, ◌≤◌, Bool, true, false, List, [], ◌∷◌, ◌++◌, refl, sym, ap, ◌∙◌, inl, inr, ◌⊎◌, arith, true≢false, Option, Some, None, if◌then◌else◌}
 use Rattle.std.specs.Prelude.{slice_get, Contains, flat_map}
 use Rattle.std.proofs.lemmas.Bool.{cases_lt}
 use Rattle.std.proofs.lemmas.Option.{slice_get_within}
-use Rattle.std.proofs.lemmas.List.{length-map}
 use Rattle.std.proofs.lemmas.List.Elements.{Contains-append_left, Contains-append_right, Contains-append_cases}
-use Rattle.tags.specs.declared.token.Port.{Port}
 use Rattle.tags.specs.declared.token.Port.TheVariants.{Left, Right}
 use Rattle.semantics.specs.declared.program.Dest.{Dest}
 use Rattle.semantics.specs.declared.program.Op.{Op}
-use Rattle.semantics.specs.declared.program.Op.TheVariants.{Apply2, Sync, Switch, Store, Send, Return, Ask, Release, Open, Take, Give, Drain, Link}
+use Rattle.semantics.specs.declared.program.Op.TheVariants.{Apply2, Sync, Switch, Store, Send, Return, Ask, Release, Link}
 use Rattle.semantics.specs.Program.{Instr, CodeBlock}
 use Rattle.semantics.specs.Rule.{slot_of}
 use Rattle.semantics.specs.Plan.{Plan, landing, is_credit}
@@ -21,9 +19,9 @@ use Rattle.lowering.proofs.Members.{contains_cases, contains_none, contains_head
 use Rattle.lowering.proofs.Ends.{contains_map}
 use Rattle.fanout.specs.Sides.{parted}
 use Rattle.fanout.specs.Rows.{is_tied}
-use Rattle.fanout.specs.Places.{size, places_from, place_of, base_of}
+use Rattle.fanout.specs.Places.{size, place_of, base_of}
 use Rattle.fanout.specs.Trees.{leaf}
-use Rattle.fanout.specs.Narrowed.{parts_of, narrowed, narrowed_block}
+use Rattle.fanout.specs.Narrowed.{narrowed, narrowed_block}
 use Rattle.fanout.specs.Laws.{Names, StandsClear, StaysWired}
 use Rattle.fanout.proofs.Positions.{place_low}
 use Rattle.fanout.proofs.Spots.{place_is, copy_apart}

@@ -9,15 +9,18 @@ use Rattle.semantics.specs.declared.program.Op.{Op}
 use Rattle.semantics.specs.declared.program.Op.TheVariants.{Link, Switch}
 use Rattle.semantics.specs.declared.program.Mark.TheVariants.{Unmarked}
 use Rattle.semantics.specs.Program.{Instr, CodeBlock, Program}
-use Rattle.semantics.specs.Plan.{Plan, HasShape, mark_at, IsPlan}
+use Rattle.semantics.specs.Plan.{Plan, HasShape, mark_at, landing, IsPlan}
 use Rattle.semantics.specs.Wired.{StandsAt, LoopsAgree, IsWired}
 use Rattle.semantics.specs.Orderly.{Orderly}
 use Rattle.semantics.specs.Faithful.{Faithful}
 use Rattle.lowering.specs.Implements.{IsStraight, Implements}
 use Rattle.lowering.specs.StraightPlan.{straight_program}
 use Rattle.lowering.specs.Theorem.{IsStraightLine}
+use Rattle.fanout.specs.Sides.{parted}
 use Rattle.fanout.specs.Rows.{is_tied}
-use Rattle.fanout.specs.Narrowed.{narrowed, layout_of}
+use Rattle.fanout.specs.Places.{place_of}
+use Rattle.fanout.specs.Trees.{moved}
+use Rattle.fanout.specs.Narrowed.{narrowed, narrowed_block, layout_of}
 
 abbrev pub is_link : Op → Bool
 is_link (Link b) = true
@@ -66,6 +69,15 @@ MarksStay = (p : Plan) → MarksSwitches p → MarksSwitches (narrowed p)
 -- The instructions of a loop stay one of a kind, with one bound.
 abbrev pub LoopsStay : Type 0
 LoopsStay = (p : Plan) → AllLoops p → AllLoops (narrowed p)
+
+-- WHERE THEY STAND. Each instruction is in its place, with its operation, origin and slot; and a link's landing stays in a
+-- row.
+abbrev pub InstrsStay : Type 0
+InstrsStay = (p : Plan) (c : CodeBlock) (n : ℕ) (i : Instr) → StandsAt c n i → StandsAt (narrowed_block p c) (place_of (layout_of p c) n) (moved (layout_of p c) n (parted i))
+
+abbrev pub LandingsStay : Type 0
+LandingsStay = (p : Plan) (n t k : ℕ) (c : CodeBlock) (i j : Instr) (d : Dest) → StandsAt c n i → i.op ≡ Link t → Contains i.firsts d → k < landing p t → StandsAt c (n + d.ahead + k) j
+    → place_of (layout_of p c) (n + d.ahead + k) ≡ place_of (layout_of p c) (n + d.ahead) + k
 
 -- ROWS. Between the two places an instruction is free of the next one, so they are not of one row.
 abbrev pub AreApart : List Bool → ℕ → ℕ → Type 0

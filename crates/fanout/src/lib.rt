@@ -7,7 +7,7 @@
 
 ghost use Rattle.std.specs.Prelude.{◌≡◌, IfOk};
 ghost use Rattle.fanout.specs.Narrowed.{narrowed};
-ghost use Rattle.fanout.specs.Laws.{AllInstrs, HasFew, IsShaped, HasItsDests, StaysPlan, MarksStay, LoopsStay, DestsStay, StaysWired, StillImplements, StraightImplements, StraightIsFaithful, StraightIsOrderly, StraightHasDests, StraightStandsClear};
+ghost use Rattle.fanout.specs.Laws.{AllInstrs, HasFew, IsShaped, HasItsDests, StaysPlan, MarksStay, LoopsStay, InstrsStay, LandingsStay, DestsStay, StaysWired, StillImplements, StraightImplements, StraightIsFaithful, StraightIsOrderly, StraightHasDests, StraightStandsClear};
 
 mod blocks;
 mod layout;
@@ -34,12 +34,14 @@ pub fn narrowed_code_is_faithful()
 {}
 
 /// What any plan keeps when it is narrowed: it stays a plan, marked at its switches and nowhere else, with its loops as
-/// they were. Where each destination leaves the row of the instruction that names it, all destinations lead to later
-/// instructions of their block, as they did before.
+/// they were, each instruction in its place and each landing of a link in a row. Where each destination leaves the row of
+/// the instruction that names it, all destinations lead to later instructions of their block, as they did before.
 pub fn narrowed_plan_is_plan()
     ensures plan { StaysPlan }
     ensures marks { MarksStay }
     ensures loops { LoopsStay }
+    ensures places { InstrsStay }
+    ensures landings { LandingsStay }
     ensures dests { DestsStay }
     ensures wired { StaysWired }
 {}
