@@ -1,6 +1,6 @@
 -- The loops of a code block open with the bounds of its graph block, and its switches alone are marked.
-use Rattle.std.proofs.Common.{◌≡◌, ℕ, zero, suc, ◌+◌, ◌-◌, Bool, true, false, List, [], ◌∷◌, ◌++◌, length, refl, sym, ap, ◌∙◌, append_assoc, append-nil, if◌then◌else◌}
-use Rattle.std.specs.Prelude.{flat_map, slice_set, slice_index_or}
+use Rattle.std.proofs.Common.{◌≡◌, ℕ, zero, suc, ◌+◌, ◌-◌, Bool, true, false, List, [], ◌∷◌, ◌++◌, length, refl, sym, ap, ◌∙◌, subst, append_assoc, append-nil, if◌then◌else◌}
+use Rattle.std.specs.Prelude.{flat_map, slice_set, slice_index_or, ⊤}
 use Rattle.semantics.specs.declared.program.Dest.{Dest}
 use Rattle.semantics.specs.declared.program.Mark.{Mark}
 use Rattle.semantics.specs.declared.program.Op.{Op}
@@ -12,7 +12,7 @@ use Rattle.expansion.specs.Scopes.{Scope}
 use Rattle.expansion.specs.Blocks.{plain_build, variant_build}
 use Rattle.expansion.proofs.Keeping.{plain_keeps, variant_keeps}
 
-abbrev opens : List Instr → List ℕ
+abbrev pub opens : List Instr → List ℕ
 opens is = flat_map (λ (i : Instr). opened_by i.op) is
 
 opens-push : (is : List Instr) (i : Instr) → opens (is ++ i ∷ []) ≡ opens is ++ opened_by i.op
@@ -43,3 +43,35 @@ variant_opens = variant_keeps Opens refl
     (λ xs b o to p h. opens-set b.instrs (o.place + o.port) o.second (record { ahead = (to - o.place) - o.port; port = p }) ∙ h)
     (λ xs b o h. h)
 
+-- MARKS
+abbrev pub AreFit : List Instr → List Mark → Type 0
+AreFit [] [] = ⊤
+AreFit (i ∷ is) (m ∷ ms) = Fits i.op m × AreFit is ms
+AreFit is ms = ⊥
+
+fit-push : (is : List Instr) (ms : List Mark) (i : Instr) (m : Mark) → AreFit is ms → Fits i.op m → AreFit (is ++ i ∷ []) (ms ++ m ∷ [])
+fit-push [] [] i m h f = (f, tt)
+fit-push (j ∷ is) (n ∷ ms) i m h f = (h.0, fit-push is ms i m h.1 f)
+fit-push [] (n ∷ ms) i m h f = absurd h
+fit-push (j ∷ is) [] i m h f = absurd h
+
+fit-set : (is : List Instr) (ms : List Mark) (n : ℕ) (s : Bool) (d : Dest) → AreFit is ms → AreFit (slice_set is n (with_dest (slice_index_or is n no_instr) s d)) ms
+fit-set [] ms n s d h = h
+fit-set (i ∷ is) (m ∷ ms) zero s d h = (subst (λ op. Fits op m) (sym (same_op i s d)) h.0, h.1)
+fit-set (i ∷ is) (m ∷ ms) (suc n) s d h = (h.0, fit-set is ms n s d h.1)
+fit-set (i ∷ is) [] n s d h = absurd h
+
+abbrev Marked : List ℕ → Build → Type 0
+Marked xs b = AreFit b.instrs b.marks
+
+pub plain_fits : (s : Scope) → AreFit (plain_build s).instrs (plain_build s).marks
+plain_fits = plain_keeps Marked tt
+    (λ xs b op o m r f h. fit-push b.instrs b.marks (bare op o (slot_in b op)) m h f)
+    (λ xs b o to p h. fit-set b.instrs b.marks (o.place + o.port) o.second (record { ahead = (to - o.place) - o.port; port = p }) h)
+    (λ xs b o h. h)
+
+pub variant_fits : (s : Scope) (code : ℕ) → AreFit (variant_build s code).instrs (variant_build s code).marks
+variant_fits = variant_keeps Marked tt
+    (λ xs b op o m r f h. fit-push b.instrs b.marks (bare op o (slot_in b op)) m h f)
+    (λ xs b o to p h. fit-set b.instrs b.marks (o.place + o.port) o.second (record { ahead = (to - o.place) - o.port; port = p }) h)
+    (λ xs b o h. h)

@@ -34,7 +34,6 @@ module _ (Inv : List ℕ → Build → Type 0) (begins : Inv [] nothing)
     (adds : (xs : List ℕ) (b : Build) (op : Op) (o : Origin) (m : Mark) (r : Region) → Fits op m → Inv xs b → Inv (xs ++ opened_by op) (added b op o m r))
     (links : (xs : List ℕ) (b : Build) (o : Outlet) (to : ℕ) (p : Port) → Inv xs b → Inv xs (connected b o to p))
     (exits : (xs : List ℕ) (b : Build) (o : Outlet) → Inv xs b → Inv xs (exited b o)) where
-
   -- SMALL PARTS
   adds_plain : (xs : List ℕ) (b : Build) (op : Op) (o : Origin) (m : Mark) (r : Region) → opened_by op ≡ [] → Fits op m → Inv xs b → Inv xs (added b op o m r)
   adds_plain xs b op o m r e f h = subst (λ ys. Inv ys (added b op o m r)) (ap (λ zs. xs ++ zs) e ∙ append-nil xs) (adds xs b op o m r f h)
@@ -48,7 +47,7 @@ module _ (Inv : List ℕ → Build → Type 0) (begins : Inv [] nothing)
   meets : (xs : List ℕ) (b : Build) (op : Op) (m : Mark) (r : Region) (l q : Outlet) → opened_by op ≡ [] → Fits op m → Inv xs b → Inv xs (meeting b op m r l q)
   meets xs b op m r l q e f h =
       links xs (connected (added b op Untold m r) l (length b.instrs) Left) q (length b.instrs) Right
-          (links xs (added b op Untold m r) l (length b.instrs) Left (adds_plain xs b op Untold m r e f h))
+      (links xs (added b op Untold m r) l (length b.instrs) Left (adds_plain xs b op Untold m r e f h))
 
   operands_keep : (xs : List ℕ) (b : Build) (place from : ℕ) (ss : List Source) → Inv xs b → Inv xs (operands b place from ss)
   operands_keep xs b place from [] h = h
@@ -67,7 +66,7 @@ module _ (Inv : List ℕ → Build → Type 0) (begins : Inv [] nothing)
   operator_keeps : (xs : List ℕ) (b : Build) (op : Op) (o : Origin) (r : Region) (ss : List Source) → opened_by op ≡ [] → is_switch op ≡ false → Inv xs b → Inv xs (operator b op o r ss)
   operator_keeps xs b op o r ss e f h =
       exits xs (operands (added b op o Unmarked r) (length b.instrs) 0 ss) (first_of (length b.instrs))
-          (operands_keep xs (added b op o Unmarked r) (length b.instrs) 0 ss (adds_plain xs b op o Unmarked r e f h))
+      (operands_keep xs (added b op o Unmarked r) (length b.instrs) 0 ss (adds_plain xs b op o Unmarked r e f h))
 
   copied_keeps : (xs : List ℕ) (b : Build) (place : ℕ) (r : Region) → Inv xs b → Inv xs (copied b place r)
   copied_keeps xs b place r h = exits xs (behind b (first_of place) Op.Copy r) (first_of (length b.instrs)) (behinds xs b (first_of place) Op.Copy r refl refl h)
@@ -75,38 +74,38 @@ module _ (Inv : List ℕ → Build → Type 0) (begins : Inv [] nothing)
   shared_keeps : (xs : List ℕ) (b : Build) (op : Op) (o : Origin) (r : Region) (ss : List Source) → opened_by op ≡ [] → is_switch op ≡ false → Inv xs b → Inv xs (shared_answer b op o r ss)
   shared_keeps xs b op o r ss e f h =
       copied_keeps xs (operands (added b op o Unmarked r) (length b.instrs) 0 ss) (length b.instrs) r
-          (operands_keep xs (added b op o Unmarked r) (length b.instrs) 0 ss (adds_plain xs b op o Unmarked r e f h))
+      (operands_keep xs (added b op o Unmarked r) (length b.instrs) 0 ss (adds_plain xs b op o Unmarked r e f h))
 
   conditional_keeps : (xs : List ℕ) (b : Build) (k : ℕ) (r : Region) (ss : List Source) → Inv xs b → Inv xs (conditional b k r ss)
   conditional_keeps xs b k r ss h =
       exits xs (meeting b Op.Switch (OfCond k) r (outlet_of b (first_source ss)) (outlet_of b (first_source ss))) (first_of (length b.instrs))
-          (meets xs b Op.Switch (OfCond k) r (outlet_of b (first_source ss)) (outlet_of b (first_source ss)) refl refl h)
+      (meets xs b Op.Switch (OfCond k) r (outlet_of b (first_source ss)) (outlet_of b (first_source ss)) refl refl h)
 
   enter_keeps : (xs : List ℕ) (b : Build) (k : ℕ) (s : Bool) (ss : List Source) (p : Source) → Inv xs b → Inv xs (enter b k s ss p)
   enter_keeps xs b k s ss p h =
       exits xs (meeting b Op.Switch (OfCond k) (Arm k s) (outlet_of b (first_source ss)) (outlet_of b p)) (if s then first_of (length b.instrs) else second_of (length b.instrs))
-          (meets xs b Op.Switch (OfCond k) (Arm k s) (outlet_of b (first_source ss)) (outlet_of b p) refl refl h)
+      (meets xs b Op.Switch (OfCond k) (Arm k s) (outlet_of b (first_source ss)) (outlet_of b p) refl refl h)
 
   merge_keeps : (xs : List ℕ) (b : Build) (r : Region) (ss : List Source) → Inv xs b → Inv xs (merge b r ss)
   merge_keeps xs b r ss h =
       exits xs (alternatives (quieted b Op.Copy r) (length b.instrs) ss) (first_of (length b.instrs))
-          (alternatives_keep xs (quieted b Op.Copy r) (length b.instrs) ss (quiets xs b Op.Copy r refl refl h))
+      (alternatives_keep xs (quieted b Op.Copy r) (length b.instrs) ss (quiets xs b Op.Copy r refl refl h))
 
   sends_keep : (xs : List ℕ) (b : Build) (frame : Outlet) (block : ℕ) (r : Region) (from : ℕ) (ss : List Source) → Inv xs b → Inv xs (sends b frame block r from ss)
   sends_keep xs b frame block r from [] h = h
   sends_keep xs b frame block r from (s ∷ ss) h =
       sends_keep xs (meeting b (Op.Send block (from + 1)) Unmarked r frame (outlet_of b s)) frame block r (from + 1) ss
-          (meets xs b (Op.Send block (from + 1)) Unmarked r frame (outlet_of b s) refl refl h)
+      (meets xs b (Op.Send block (from + 1)) Unmarked r frame (outlet_of b s) refl refl h)
 
   landed_keeps : (xs : List ℕ) (b : Build) (link outputs : ℕ) (r : Region) → Inv xs b → Inv xs (landed b link outputs r)
   landed_keeps xs b link outputs r h =
       exits xs (connected (copies b r outputs) (first_of link) (length b.instrs) Left) (first_of (length b.instrs))
-          (links xs (copies b r outputs) (first_of link) (length b.instrs) Left (copies_keep xs b r outputs h))
+      (links xs (copies b r outputs) (first_of link) (length b.instrs) Left (copies_keep xs b r outputs h))
 
   linked_keeps : (xs : List ℕ) (b : Build) (copy block outputs : ℕ) (r : Region) (ss : List Source) → Inv xs b → Inv xs (linked b copy block outputs r ss)
   linked_keeps xs b copy block outputs r ss h =
       landed_keeps xs (sends (behind b (first_of copy) (Op.Link block) r) (first_of copy) block r 0 ss) (length b.instrs) outputs r
-          (sends_keep xs (behind b (first_of copy) (Op.Link block) r) (first_of copy) block r 0 ss (behinds xs b (first_of copy) (Op.Link block) r refl refl h))
+      (sends_keep xs (behind b (first_of copy) (Op.Link block) r) (first_of copy) block r 0 ss (behinds xs b (first_of copy) (Op.Link block) r refl refl h))
 
   invoke_keeps : (xs : List ℕ) (b : Build) (frame block outputs : ℕ) (r : Region) (ss : List Source) → Inv xs b → Inv xs (invoke b frame block outputs r ss)
   invoke_keeps xs b frame block outputs r ss h =
@@ -116,7 +115,7 @@ module _ (Inv : List ℕ → Build → Type 0) (begins : Inv [] nothing)
   unfolding called
   called_keeps xs b signal block outputs r ss h =
       quiets xs (invoke (behind b signal Op.Frame r) (length b.instrs) block outputs r ss) Op.Copy r refl refl
-          (invoke_keeps xs (behind b signal Op.Frame r) (length b.instrs) block outputs r ss (behinds xs b signal Op.Frame r refl refl h))
+      (invoke_keeps xs (behind b signal Op.Frame r) (length b.instrs) block outputs r ss (behinds xs b signal Op.Frame r refl refl h))
 
   join_sources_keep : (xs : List ℕ) (b : Build) (signal : Outlet) (r : Region) (ss : List Source) → Inv xs b → Inv xs (join_sources b signal r ss).build
   join_sources_keep xs b signal r [] h = h
@@ -135,8 +134,8 @@ module _ (Inv : List ℕ → Build → Type 0) (begins : Inv [] nothing)
       let take : Build = quieted give (Op.Take k) r in
       let drain : Build = quieted take (Op.Drain k) r in
       links xs (behind drain (first_of (length b.instrs)) Op.Copy r) (first_of (length take.instrs)) (length drain.instrs) Left
-          (behinds xs drain (first_of (length b.instrs)) Op.Copy r refl refl
-              (quiets xs take (Op.Drain k) r refl refl (quiets xs give (Op.Take k) r refl refl (quiets xs b (Op.Give k) r refl refl h))))
+      (behinds xs drain (first_of (length b.instrs)) Op.Copy r refl refl
+      (quiets xs take (Op.Drain k) r refl refl (quiets xs give (Op.Take k) r refl refl (quiets xs b (Op.Give k) r refl refl h))))
 
   repeat_keeps : (xs : List ℕ) (b : Build) (block k : ℕ) (r : Region) (ss : List Source) → Inv xs b → Inv (xs ++ k ∷ []) (repeat b block k r ss)
   repeat_keeps xs b block k r ss h =
@@ -144,9 +143,9 @@ module _ (Inv : List ℕ → Build → Type 0) (begins : Inv [] nothing)
       let begun : Build = behind b (trigger_of b r) (Op.Open k) r in
       let frame : Build = behind begun (first_of (length b.instrs)) Op.Frame r in
       credits_keep ys (invoke frame (length begun.instrs) block (length ss) r ss) k r
-          (invoke_keeps ys frame (length begun.instrs) block (length ss) r ss
-              (behinds ys begun (first_of (length b.instrs)) Op.Frame r refl refl
-                  (links ys (quieted b (Op.Open k) r) (trigger_of b r) (length b.instrs) Left (adds xs b (Op.Open k) Untold Unmarked r refl h))))
+      (invoke_keeps ys frame (length begun.instrs) block (length ss) r ss
+      (behinds ys begun (first_of (length b.instrs)) Op.Frame r refl refl
+      (links ys (quieted b (Op.Open k) r) (trigger_of b r) (length b.instrs) Left (adds xs b (Op.Open k) Untold Unmarked r refl h))))
 
   answered_keeps : (xs : List ℕ) (b : Build) (s : Scope) (op : Op) (n : ℕ) (r : Region) (ss : List Source) → opened_by op ≡ [] → is_switch op ≡ false → Inv xs b → Inv xs (answered b s op n r ss)
   answered_keeps xs b s op n r ss e f h = go (is_often (uses_at s.uses n))
@@ -187,7 +186,7 @@ module _ (Inv : List ℕ → Build → Type 0) (begins : Inv [] nothing)
   nodes_keep xs b s n [] h = same xs b h
   nodes_keep xs b s n (x ∷ ns) h =
       subst (λ ys. Inv ys (with_nodes (with_node b s n x) s (n + 1) ns)) (append_assoc xs (bounds_of x.kind) (bounds_in ns))
-          (nodes_keep (xs ++ bounds_of x.kind) (with_node b s n x) s (n + 1) ns (kind_keeps xs b s n x.kind x.region x.sources h))
+      (nodes_keep (xs ++ bounds_of x.kind) (with_node b s n x) s (n + 1) ns (kind_keeps xs b s n x.kind x.region x.sources h))
 
   -- ENTRIES
   inputs_keep : (xs : List ℕ) (b : Build) (s : Scope) (n : ℕ) → Inv xs b → Inv xs (with_inputs b s n)
@@ -195,7 +194,7 @@ module _ (Inv : List ℕ → Build → Type 0) (begins : Inv [] nothing)
   inputs_keep xs b s (suc n) h =
       let c : Build = with_inputs b s n in
       exits xs (added c Op.Copy (origin_in s.version (Some s.number) n) Unmarked Root) (first_of (length c.instrs))
-          (adds_plain xs c Op.Copy (origin_in s.version (Some s.number) n) Unmarked Root refl refl (inputs_keep xs b s n h))
+      (adds_plain xs c Op.Copy (origin_in s.version (Some s.number) n) Unmarked Root refl refl (inputs_keep xs b s n h))
 
   entries_keep : (s : Scope) → Inv [] (entries s)
   unfolding entries
@@ -228,7 +227,7 @@ module _ (Inv : List ℕ → Build → Type 0) (begins : Inv [] nothing)
   unfolding turning
   turning_keeps xs b flag ss h =
       switches_keep xs (turned_flag b flag) flag ss
-          (meets xs (turned_continuation b flag) Op.Switch OfFlag Root flag flag refl refl (meets xs b Op.Switch OfFlag Root (first_of 0) flag refl refl h))
+      (meets xs (turned_continuation b flag) Op.Switch OfFlag Root flag flag refl refl (meets xs b Op.Switch OfFlag Root (first_of 0) flag refl refl h))
 
   go_on_keeps : (xs : List ℕ) (b : Build) (block : ℕ) (r : Region) (t : Turn) → Inv xs b → Inv xs (go_on b block r t)
   unfolding go_on
@@ -238,16 +237,16 @@ module _ (Inv : List ℕ → Build → Type 0) (begins : Inv [] nothing)
       let copy : Build = behind frame (first_of (length ask.instrs)) Op.Copy Root in
       let entry : Build = meeting copy (Op.Send block 0) Unmarked r (first_of (length frame.instrs)) (first_of t.continuation) in
       next_keep xs entry block r (first_of (length frame.instrs)) t.values t.count
-          (meets xs copy (Op.Send block 0) Unmarked r (first_of (length frame.instrs)) (first_of t.continuation) refl refl
-              (behinds xs frame (first_of (length ask.instrs)) Op.Copy Root refl refl
-                  (behinds xs ask (first_of (length b.instrs)) Op.Frame Root refl refl
-                      (meets xs b (Op.Ask (t.count + 1)) Unmarked Root (first_of t.continuation) (first_of t.flag) refl refl h))))
+      (meets xs copy (Op.Send block 0) Unmarked r (first_of (length frame.instrs)) (first_of t.continuation) refl refl
+      (behinds xs frame (first_of (length ask.instrs)) Op.Copy Root refl refl
+      (behinds xs ask (first_of (length b.instrs)) Op.Frame Root refl refl
+      (meets xs b (Op.Ask (t.count + 1)) Unmarked Root (first_of t.continuation) (first_of t.flag) refl refl h))))
 
   stop_keeps : (xs : List ℕ) (b : Build) (r : Region) (t : Turn) → Inv xs b → Inv xs (stop b r t)
   unfolding stop
   stop_keeps xs b r t h =
       meets xs (last_values b r (second_of t.continuation) t.values t.count) (Op.Return (t.count + 2)) Unmarked r (second_of t.continuation) (second_of t.flag) refl refl
-          (last_keep xs b r (second_of t.continuation) t.values t.count h)
+      (last_keep xs b r (second_of t.continuation) t.values t.count h)
 
   iterate_keeps : (xs : List ℕ) (b : Build) (block k : ℕ) (ss : List Source) → Inv xs b → Inv xs (iterate b block k ss)
   iterate_keeps xs b block k [] h = h
@@ -287,8 +286,8 @@ module _ (Inv : List ℕ → Build → Type 0) (begins : Inv [] nothing)
       let two : Signalled = join_ends one.build None (Arm k false) es in
       let n : ℕ = length two.build.instrs in
       signalled_keeps xs (signalled (quieted two.build Op.Copy r) one.signal n Left) two.signal n Left
-          (signalled_keeps xs (quieted two.build Op.Copy r) one.signal n Left
-              (quiets xs two.build Op.Copy r refl refl (join_ends_keep xs one.build None (Arm k false) es (join_ends_keep xs b None (Arm k true) es h))))
+      (signalled_keeps xs (quieted two.build Op.Copy r) one.signal n Left
+      (quiets xs two.build Op.Copy r refl refl (join_ends_keep xs one.build None (Arm k false) es (join_ends_keep xs b None (Arm k true) es h))))
 
   closed_kind_keeps : (xs : List ℕ) (c : Closing) (n : ℕ) (k : Kind ℕ) (r : Region) → Inv xs c.build → Inv xs (closed_kind c n k r).build
   closed_kind_keeps xs c n (Lit z) r h = h
@@ -313,7 +312,7 @@ module _ (Inv : List ℕ → Build → Type 0) (begins : Inv [] nothing)
   released_keeps xs b es offset h =
       let s : Signalled = join_ends b None Root es in
       signalled_keeps xs (behind s.build (first_of 0) (Op.Release offset) Root) s.signal (length s.build.instrs) Right
-          (behinds xs s.build (first_of 0) (Op.Release offset) Root refl refl (join_ends_keep xs b None Root es h))
+      (behinds xs s.build (first_of 0) (Op.Release offset) Root refl refl (join_ends_keep xs b None Root es h))
 
   finished_keeps : (xs : List ℕ) (c : Closing) (block : Block ℕ) (offset : ℕ) → Inv xs c.build → Inv xs (finished c block offset)
   unfolding finished
@@ -333,4 +332,4 @@ module _ (Inv : List ℕ → Build → Type 0) (begins : Inv [] nothing)
       let xs : List ℕ = loop_bounds s.block in
       let b : Build = iterate (body s) code (node_count s.block) s.block.results in
       finished_keeps xs (closed b (ends_of b) (node_count s.block) Root) s.block s.block.inputs
-          (closed_keeps xs b (ends_of b) (node_count s.block) Root (iterate_keeps xs (body s) code (node_count s.block) s.block.results (body_keeps s)))
+      (closed_keeps xs b (ends_of b) (node_count s.block) Root (iterate_keeps xs (body s) code (node_count s.block) s.block.results (body_keeps s)))

@@ -2,3 +2,5 @@ pub mod Names
 pub mod Small
 pub mod Keeping
 pub mod Bounds
+pub mod Wholes
+pub mod Samples

@@ -9,3 +9,5 @@ pub mod Blocks
 pub mod Variants
 pub mod Expanded
 pub mod Keeping
+pub mod Laws
+pub mod Samples

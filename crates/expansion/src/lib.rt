@@ -22,6 +22,7 @@ mod block;
 mod builder;
 mod ends;
 mod flow;
+mod laws;
 mod plans;
 mod rows;
 mod scope;
@@ -31,6 +32,7 @@ mod variants;
 
 use code::Plan;
 use graph::Graph;
+pub use laws::plans_keep_to_their_graphs;
 use std::alloc::{AllocError, Allocator};
 
 /// The plan of a well-formed graph within the limits.
@@ -48,3 +50,6 @@ pub fn expand<'a, A: Allocator + Clone>(
     let flow = flow::resolve(alloc.clone()?, graph)?;
     plans::plan_of(alloc, flow)
 }
+
+#[cfg(test)]
+mod tests;

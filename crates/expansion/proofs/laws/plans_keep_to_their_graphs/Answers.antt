@@ -1,0 +1,8 @@
+use Rattle.expansion.proofs.Wholes.{has_bounds, marks_fit}
+use Rattle.expansion.proofs.laws.plans_keep_to_their_graphs.Goals as goal
+
+pub returns-clause-bounds : goal.returns-clause-bounds
+returns-clause-bounds c = has_bounds
+
+pub returns-clause-marks : goal.returns-clause-marks
+returns-clause-marks c = marks_fit
