@@ -21,7 +21,7 @@ use Rattle.semantics.specs.Machine.{Machine, CellState, Vacant, Deferred, Full, 
 use Rattle.semantics.specs.Plan.{Plan, is_credit}
 use Rattle.semantics.specs.Placed.{placed}
 use Rattle.semantics.specs.Credits.{KeepsBounds}
-use Rattle.reuse.proofs.Places.{moved_to, Located, Nowhere, There, located}
+use Rattle.reuse.proofs.PlacedCode.{moved_to, Located, Nowhere, There, located}
 use Rattle.composition.proofs.Lines.{same}
 
 -- no waiter

@@ -24,7 +24,7 @@ use Rattle.semantics.specs.Orderly.{Orderly}
 use Rattle.fanout.specs.Narrowed.{narrowed, narrowed_block}
 use Rattle.fanout.proofs.Theorem.{narrow_is_faithful, narrow_is_orderly, narrow_none}
 use Rattle.reuse.specs.Theorem.{TakesInputs}
-use Rattle.reuse.proofs.Reused.{shared_slots_are_faithful, releases_are_last, holders_are_alone}
+use Rattle.reuse.proofs.AllRuns.{shared_slots_are_faithful, releases_are_last, holders_are_alone}
 use Rattle.emitted.specs.SameRuns.{HasOrigins}
 use Rattle.emitted.proofs.Laws.{emitted_faithful, emitted_releases, emitted_credits, emitted_holders}
 use Rattle.select.specs.declared.Version.{Version}

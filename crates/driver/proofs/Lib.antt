@@ -1,3 +1,3 @@
 pub mod Truth
-pub mod Compiling
+pub mod StraightObjects
 pub mod InputLines

@@ -20,7 +20,7 @@ use Rattle.schedule.specs.Setting.{inputs_of as inputs_of_program}
 use Rattle.driver.specs.Headline.{ShowsMemory, ShowsObject, TellsOf, size_of}
 use Rattle.driver.specs.Compiled.{IsCodeFor}
 use Rattle.driver.specs.Refused.{IsCompiled}
-use Rattle.driver.proofs.Compiling.{takes_all}
+use Rattle.driver.proofs.StraightObjects.{takes_all}
 
 -- a cell that is full has its value, and no other
 full_value : (c : CellState) (v : Value) → c ≡ Full v → value_in c ≡ Some v
