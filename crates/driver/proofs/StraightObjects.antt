@@ -18,9 +18,9 @@ use Rattle.select.specs.declared.Version.{Version}
 use Rattle.select.specs.Emitted.{version_number, code_of, emitted_block}
 use Rattle.select.specs.Emittable.{IsEmittable}
 use Rattle.schedule.specs.Setting.{inputs_in, inputs_of}
-use Rattle.composition.specs.Straight.{IsStraightGraph, IsStraightPlan, straight_plan}
+use Rattle.composition.specs.Straight.{IsStraightGraph, IsStraightPlan}
 use Rattle.composition.proofs.Laws.{plan_is_straight, narrowed_is_wired, compiled_is_emittable, compiled_is_faithful}
-use Rattle.driver.specs.Compiled.{plan_of, IsCodeFor}
+use Rattle.driver.specs.Compiled.{wide_plan, plan_of, IsCodeFor}
 use Rattle.driver.specs.Refused.{IsGoodText}
 
 -- THE INPUTS OF A BLOCK stay.
@@ -33,14 +33,14 @@ same_inputs v (s ∷ ss) (c ∷ cs) zero e = refl
 same_inputs v (s ∷ ss) (c ∷ cs) (suc i) e = same_inputs v ss cs i (omega (arith, e))
 
 -- the plan marks nothing
-plain : (g : Graph) → IsStraightPlan g (straight_plan g [])
-plain g = plan_is_straight g [] (All-nil (λ (ms : List Mark). All (λ (m : Mark). m ≡ Unmarked) ms))
+plain : (g : Graph) → IsStraightPlan g (wide_plan g)
+plain g = record { program = refl; unmarked = (plan_is_straight g [] (All-nil (λ (ms : List Mark). All (λ (m : Mark). m ≡ Unmarked) ms))).unmarked }
 
 pub takes_all : (g : Graph) → IsStraightGraph g → (c : Code) → IsCodeFor g c → inputs_of c.program ≡ Faithful.inputs_of (flow_of g)
 takes_all g straight c made =
     let p : Plan = plan_of g in
     let v = version_number made.version in
-    let wired = narrowed_is_wired g (straight_plan g []) straight (plain g) in
+    let wired = narrowed_is_wired g (wide_plan g) straight (plain g) in
     let I : Program → ℕ = λ q. inputs_of q in
     ap I made.program ∙ same_inputs v made.slots p.program.blocks p.program.main made.assigned.good.all ∙ wired.inputs
 
@@ -57,6 +57,6 @@ compiled g straight slots assigned version same c e spelling =
       version = version;
       version_is = same;
       program = e;
-      lawful = subst L same (spelling (compiled_is_emittable g (straight_plan g []) slots straight (plain g) assigned.good));
-      faithful = subst F (sym e) (compiled_is_faithful g (straight_plan g []) slots version straight (plain g) assigned.good same);
+      lawful = subst L same (spelling (compiled_is_emittable g (wide_plan g) slots straight (plain g) assigned.good));
+      faithful = subst F (sym e) (compiled_is_faithful g (wide_plan g) slots version straight (plain g) assigned.good same);
     }

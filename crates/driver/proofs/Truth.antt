@@ -14,7 +14,6 @@ use Rattle.semantics.specs.Cause.{SameSeen}
 use Rattle.semantics.specs.Machine.{Machine, Size, CellState, Vacant, Full, Deferred, Events, stuck_rule, value_in}
 use Rattle.semantics.specs.Faithful.{Faithful, IsRun, IsSecondStore, inputs_of}
 use Rattle.semantics.specs.Report.{Report, IsPicture, HasEnd, Shows}
-use Rattle.object_view.proofs.Unique.{unique}
 use Rattle.schedule.specs.declared.config.Config.{Config}
 use Rattle.schedule.specs.Setting.{inputs_of as inputs_of_program}
 use Rattle.driver.specs.Headline.{ShowsMemory, ShowsObject, TellsOf, size_of}
@@ -87,7 +86,7 @@ pub tells_truth : (text : List ℕ) (g : Graph) (bytes : List ℕ) (inputs : Lis
 tells_truth text g bytes inputs c listed r compiled shown =
     let made = compiled.object.made in
     let code : Code = compiled.object.code in
-    let same : shown.code ≡ code = (unique bytes shown.version g.version shown.code code shown.object compiled.object.object).1 in
+    let same : shown.code ≡ code = shown.only g.version code compiled.object.object in
     let S : Code → Type 0 = λ x. Shows x.program (size_of c) inputs c.steps listed false r in
     let F : Code → Type 0 = λ x. length inputs ≡ inputs_of_program x.program in
     tells_of text inputs (size_of c) c.steps listed r g code.program compiled.good.is_text compiled.good.well_formed

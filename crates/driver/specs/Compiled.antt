@@ -1,5 +1,5 @@
 -- What the compiler makes of a straight-line graph, and why it makes nothing.
-use Rattle.std.specs.Prelude.{◌≡◌, ℕ, List, [], Some, ⊤}
+use Rattle.std.specs.Prelude.{◌≡◌, ℕ, List, [], length, Some, ⊤}
 use Rattle.semantics.specs.Graph.{Graph, flow_of}
 use Rattle.semantics.specs.Program.{Code}
 use Rattle.semantics.specs.Plan.{Plan}
@@ -11,12 +11,16 @@ use Rattle.slot_alloc.specs.Assigned.{IsAssigned, IsFirstCrowded}
 use Rattle.select.specs.declared.Version.{Version}
 use Rattle.select.specs.Emitted.{version_number, code_of}
 use Rattle.select.specs.Literals.{too_far}
-use Rattle.composition.specs.Straight.{straight_plan}
+use Rattle.lowering.specs.StraightPlan.{straight_program}
 use Rattle.driver.specs.declared.fault.Fault.{Fault}
+
+-- its plan with any number of destinations: all its code is plain, and nothing is marked
+abbrev pub wide_plan : Graph → Plan
+wide_plan g = record { program = straight_program (flow_of g); plain = length g.blocks; marks = [] }
 
 -- the plan that it has before slots are chosen
 abbrev pub plan_of : Graph → Plan
-plan_of g = narrowed (straight_plan g [])
+plan_of g = narrowed (wide_plan g)
 
 -- The code is the plan's with slots, each the least that is open to its holder. It has an object in the version of the
 -- graph's text, and is faithful to the graph.

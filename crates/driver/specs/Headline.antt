@@ -64,6 +64,8 @@ pub record ShowsObject (bytes : List ℕ) (inputs : List ℤ) (c : Config) (list
   pub version : ℕ
   pub code : Code
   pub object : IsObject bytes version code
+  -- and of no other code
+  pub only : (v : ℕ) (c : Code) → IsObject bytes v c → code ≡ c
   pub inputs_fit : length inputs ≡ inputs_in_code code.program
   pub some_element : 0 < c.elements
   pub some_frame : 0 < c.frames

@@ -64,7 +64,8 @@ IsRefused text inputs config fault = IsRefusedText text fault
 
 -- and of an object's
 abbrev pub IsRefusedObject : List ℕ → List ℤ → Config → Fault → Type 0
-IsRefusedObject bytes inputs config (Fault.Object f) = first_refusal bytes ≡ Some f
-IsRefusedObject bytes inputs config (Fault.Start f) = (version : ℕ) × (c : Code) × IsObject bytes version c × IsCause c.program config inputs f × (f ≢ StartFault.Memory)
+IsRefusedObject bytes inputs config (Fault.Object f) = (first_refusal bytes ≡ Some f) × ((v : ℕ) (c : Code) → IsObject bytes v c → ⊥)
+IsRefusedObject bytes inputs config (Fault.Start f) =
+    (version : ℕ) × (c : Code) × IsObject bytes version c × ((v : ℕ) (d : Code) → IsObject bytes v d → c ≡ d) × IsCause c.program config inputs f × (f ≢ StartFault.Memory)
 IsRefusedObject bytes inputs config Fault.Memory = ⊤
 IsRefusedObject bytes inputs config fault = ⊥

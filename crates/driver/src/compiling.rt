@@ -1,7 +1,7 @@
 //! The compiler, pass by pass: text to graph, graph to plan, plan to plan with trees of copies, to slots, to code, to the
 //! bytes of an object.
 
-ghost use Rattle.std.specs.Prelude.{◌≡◌, IfOk, MatchResult};
+ghost use Rattle.std.specs.Prelude.{◌≡◌, ◌≤◌, length, IfOk, MatchResult};
 ghost use Rattle.semantics.specs.Text.{HasText, IsText};
 ghost use Rattle.semantics.specs.WellFormed.{WellFormed};
 ghost use Rattle.lowering.specs.Theorem.{IsStraightLine};
@@ -71,21 +71,27 @@ pub fn check_text<'a, A: Allocator + Clone>(
     }
 }
 
+/// How many blocks the graph has: its code is plain.
+fn block_count<'a, A: Allocator>(graph: &Graph<'a, A>) -> u32
+    requires { length graph.now.blocks ≤ 256 }
+    ensures { result ≡ length graph.now.blocks }
+{
+    graph.blocks.len() as u32
+}
+
 /// The plan of a straight-line graph: at most two destinations at an instruction, and a number for each holder of a slot.
-fn plan<'a, A: Allocator + Clone>(alloc: A, graph: &Graph<'a, A>) -> Result<Plan<A>, AllocError>
+fn plan<'a, A: Allocator + Clone>(alloc: &A, graph: &Graph<'a, A>) -> Result<Plan<A>, AllocError>
     requires well_formed { WellFormed graph.now }
     requires straight { IsStraightLine graph.now }
     requires limits { HasText graph.now }
     ensures { IfOk result (λ p. p ≡ plan_of graph.now) }
 {
-    let program = expand(alloc.clone()?, graph)?;
-    let plain = program.blocks.len() as u32;
     let wide = Plan {
-        program,
-        plain,
+        program: expand(alloc.clone()?, graph)?,
+        plain: block_count(graph),
         marks: Vec::new(alloc.clone()?),
     };
-    narrow(alloc, &wide)
+    narrow(alloc.clone()?, &wide)
 }
 
 /// The version of the graph's object: that of its text.
@@ -114,8 +120,13 @@ fn code_of<'a, A: Allocator + Clone>(alloc: A, graph: &Graph<'a, A>) -> Result<C
     requires limits { HasText graph.now }
     ensures { MatchResult result (IsCodeFor graph.now) (IsTooLarge graph.now) }
 {
-    let plan = plan(alloc.clone()?, graph)?;
-    let slots = match assign(alloc.clone()?, &plan) {
+    let Ok(plan) = plan(&alloc, graph) else {
+        return Err(Fault::Memory);
+    };
+    let Ok(room) = alloc.clone() else {
+        return Err(Fault::Memory);
+    };
+    let slots = match assign(room, &plan) {
         Ok(slots) => slots,
         Err(AssignFault::TooManySlots { block }) => return Err(Fault::TooManySlots(block)),
         Err(AssignFault::Memory) => return Err(Fault::Memory),
@@ -146,8 +157,20 @@ fn code_of_checked<'a, A: Allocator + Clone>(
 pub fn compile<'a, A: Allocator + Clone>(alloc: A, text: &'a [u8]) -> Result<Compiled<'a, A>, Fault>
     ensures { MatchResult result (λ c. IsCompiled text.now c.checked c.object.items) (IsRefusedText text.now) }
 {
-    let checked = check_text(alloc.clone()?, text)?;
-    let code = code_of_checked(alloc.clone()?, &checked)?;
+    let Ok(room) = alloc.clone() else {
+        return Err(Fault::Memory);
+    };
+    let checked = match check_text(room, text) {
+        Ok(checked) => checked,
+        Err(fault) => return Err(fault),
+    };
+    let Ok(room) = alloc.clone() else {
+        return Err(Fault::Memory);
+    };
+    let code = match code_of_checked(room, &checked) {
+        Ok(code) => code,
+        Err(fault) => return Err(fault),
+    };
     let mut object = Vec::new(alloc);
     match write(&code, object_version(checked.graph()), &mut object) {
         Ok(()) => Ok(Compiled { checked, object }),

@@ -1,6 +1,6 @@
 //! The whole way: text to object, object to machine, machine to report. The headline is the contract of `emulate`.
 
-ghost use Rattle.std.specs.Prelude.{◌≡◌, ◌<◌, All, MatchResult, true, false};
+ghost use Rattle.std.specs.Prelude.{◌≡◌, ◌<◌, All, IfOk, MatchResult, true, false};
 ghost use Rattle.semantics.specs.Graph as Graphs;
 ghost use Rattle.driver.specs.Refused.{IsCompiled, IsReady, IsRefused, IsRefusedObject};
 ghost use Rattle.driver.specs.Headline.{TellsTruth, TellsTruthListed, ShowsObject};
@@ -13,13 +13,22 @@ use object_view::Object;
 use schedule::config::{Config, StartFault};
 use schedule::machine::Machine;
 use schedule::report::Report;
-use std::alloc::Allocator;
+use std::alloc::{AllocError, Allocator};
 
 /// A run of the graph that the text has.
 #[derive(Drop)]
 pub struct Emulated<'a, A: Allocator> {
     pub checked: Checked<'a, A>,
     pub report: Report<A>,
+}
+
+fn load<'a, A: Allocator + Clone>(
+    alloc: &A,
+    object: Object<'a>,
+) -> Result<Loaded<'a, A>, AllocError>
+    ensures { IfOk result (λ code. code ≡ object.entry) }
+{
+    Loaded::new(alloc.clone()?, object)
 }
 
 /// The report of a run of the object that the bytes are: each element in turn takes its oldest token.
@@ -35,7 +44,9 @@ pub fn emulate_object<A: Allocator + Clone>(
         Ok(object) => object,
         Err(fault) => return Err(Fault::Object(fault)),
     };
-    let code = Loaded::new(alloc.clone()?, object)?;
+    let Ok(code) = load(&alloc, object) else {
+        return Err(Fault::Memory);
+    };
     let mut store = None;
     match Machine::start(alloc, &mut store, &code, inputs, config) {
         Ok(machine) => Ok(machine.run_one()),
@@ -60,7 +71,9 @@ pub fn emulate_object_picks<A: Allocator + Clone>(
         Ok(object) => object,
         Err(fault) => return Err(Fault::Object(fault)),
     };
-    let code = Loaded::new(alloc.clone()?, object)?;
+    let Ok(code) = load(&alloc, object) else {
+        return Err(Fault::Memory);
+    };
     let mut store = None;
     match Machine::start(alloc, &mut store, &code, inputs, config) {
         Ok(machine) => Ok(machine.run(picks)),
@@ -78,12 +91,20 @@ pub fn start_text<A: Allocator + Clone>(
 ) -> Result<(), Fault>
     ensures { MatchResult result (λ _. IsReady text.now inputs.now config) (IsRefused text.now inputs.now config) }
 {
-    let compiled = compile(alloc.clone()?, text)?;
+    let Ok(room) = alloc.clone() else {
+        return Err(Fault::Memory);
+    };
+    let compiled = match compile(room, text) {
+        Ok(compiled) => compiled,
+        Err(fault) => return Err(fault),
+    };
     let object = match Object::open(&compiled.object) {
         Ok(object) => object,
         Err(_) => unreachable!(),
     };
-    let code = Loaded::new(alloc.clone()?, object)?;
+    let Ok(code) = load(&alloc, object) else {
+        return Err(Fault::Memory);
+    };
     let mut store = None;
     match Machine::start(alloc, &mut store, &code, inputs, config) {
         Ok(_) => Ok(()),
@@ -101,7 +122,13 @@ pub fn run_text<'a, A: Allocator + Clone>(
 ) -> Result<Emulated<'a, A>, Fault>
     ensures { MatchResult result (λ e. TellsTruth text.now e.checked inputs.now config e.report) (IsRefused text.now inputs.now config) }
 {
-    let Compiled { checked, object } = compile(alloc.clone()?, text)?;
+    let Ok(room) = alloc.clone() else {
+        return Err(Fault::Memory);
+    };
+    let Compiled { checked, object } = match compile(room, text) {
+        Ok(compiled) => compiled,
+        Err(fault) => return Err(fault),
+    };
     match emulate_object(alloc, &object, inputs, config) {
         Ok(report) => Ok(Emulated { checked, report }),
         Err(fault) => Err(fault),
@@ -135,7 +162,13 @@ pub fn emulate_picks<A: Allocator + Clone>(
     requires { All (λ pick. pick.0 < config.elements) picks.now }
     ensures { MatchResult result (λ report. (g : Graphs.Graph) × TellsTruthListed text.now g inputs.now config report) (IsRefused text.now inputs.now config) }
 {
-    let compiled = compile(alloc.clone()?, text)?;
+    let Ok(room) = alloc.clone() else {
+        return Err(Fault::Memory);
+    };
+    let compiled = match compile(room, text) {
+        Ok(compiled) => compiled,
+        Err(fault) => return Err(fault),
+    };
     match emulate_object_picks(alloc, &compiled.object, inputs, config, picks) {
         Ok(report) => Ok(report),
         Err(fault) => Err(fault),

@@ -1,10 +1,13 @@
-use Rattle.std.proofs.Common.{true}
-use Rattle.driver.proofs.Truth.{tells_truth}
+use Rattle.std.proofs.Common.{rules, ◌≡◌, ◌<◌, All, IfOk, MatchResult, true, false, ℕ, ◌+◌, ◌-◌, ◌*◌, ◌≤◌, length, ◌/◌, ◌%◌, Bool, nat_eq, nat_lt, List, [], ◌∷◌, ◌++◌, slice_index_or, slice_set, bit_and, bit_or, Fits, w8, w32, w64, Bor, MutBor}
+use Rattle.semantics.specs.Graph as Graphs
+use Rattle.driver.specs.Refused.{IsCompiled, IsReady, IsRefused, IsRefusedObject}
+use Rattle.driver.specs.Headline.{TellsTruth, TellsTruthListed, ShowsObject}
 use Rattle.driver.proofs.emulation.emulate_picks.Goals as goal
 
-pub returns-in-Ok-start : goal.returns-in-Ok-start
-returns-in-Ok-start g c = (
-  c.in-Ok-compile.compiled.checked,
-  tells_truth c.args.text.now c.in-Ok-compile.compiled.checked c.in-Ok-compile.compiled.program c.args.inputs.now c.args.config c.in-Ok-start.machine true c.run.result
-      c.in-Ok-compile.ensures c.in-Ok-start.ensures.exact (c.run.ensures.shows c.args.inputs.now c.in-Ok-start.ensures.began),
-)
+-- src/emulation.rt:164:1
+pub returns-in-Ok-emulate_object_picks : goal.returns-in-Ok-emulate_object_picks
+returns-in-Ok-emulate_object_picks g c = ?
+
+-- src/emulation.rt:155:1
+pub returns : goal.returns
+returns g c = ?
