@@ -16,7 +16,7 @@ use Rattle.schedule.specs.Runs.{Kept}
 use Rattle.driver.specs.declared.fault.Fault.{Fault}
 use Rattle.driver.specs.declared.fault.Fault.TheVariants as Fault
 use Rattle.driver.specs.Compiled.{IsCodeFor}
-use Rattle.driver.specs.Refused.{IsGoodText, IsCompiled, IsReady, IsRefused, IsRefusedText, IsRefusedObject}
+use Rattle.driver.specs.Refused.{IsGoodText, IsCompiled, refusal_of, IsReady, IsRefused, IsRefusedText, IsRefusedObject}
 
 -- WRITING
 pub sends_whole : (E : Type 0) (x : ⊤) (old new : Option (List ℕ)) (bytes : List ℕ) → Sends {E = E} (Ok x) old new bytes → Appends old new bytes
@@ -74,3 +74,39 @@ refused_as_text text g bytes inputs c k (Fault.Start f) (version, d, is, only, c
     let C : Code → Type 0 = λ x. IsCause x.program c inputs f in
     (g, bytes, k, subst C (only g.version k.object.code k.object.object) cause, other)
 refused_as_text text g bytes inputs c k Fault.Memory h = tt
+
+-- A MACHINE THAT DOES NOT START
+wrong_inputs_is_no_want : StartFault.WrongInputs ≡ StartFault.Memory → ⊥
+wrong_inputs_is_no_want e = cc
+
+no_frames_is_no_want : StartFault.NoFrames ≡ StartFault.Memory → ⊥
+no_frames_is_no_want e = cc
+
+bad_config_is_no_want : StartFault.BadConfig ≡ StartFault.Memory → ⊥
+bad_config_is_no_want e = cc
+
+pub text_refused : (text : List ℕ) (g : Graph) (bytes : List ℕ) (inputs : List ℤ) (c : Config) (k : IsCompiled text g bytes) (o loaded : Opened) → loaded ≡ o
+    → ((v : ℕ) (d : Code) → IsObject bytes v d → (o.version ≡ v) × (o.code ≡ d)) → (f : StartFault) → IsCause loaded.code.program c inputs f → IsRefused text inputs c (refusal_of f)
+text_refused text g bytes inputs c k o loaded e complete StartFault.WrongInputs h = is_refused text g bytes inputs c k o loaded e complete StartFault.WrongInputs h wrong_inputs_is_no_want
+text_refused text g bytes inputs c k o loaded e complete StartFault.NoFrames h = is_refused text g bytes inputs c k o loaded e complete StartFault.NoFrames h no_frames_is_no_want
+text_refused text g bytes inputs c k o loaded e complete StartFault.BadConfig h = is_refused text g bytes inputs c k o loaded e complete StartFault.BadConfig h bad_config_is_no_want
+text_refused text g bytes inputs c k o loaded e complete StartFault.Memory h = tt
+
+object_is_refused : (bytes : List ℕ) (inputs : List ℤ) (c : Config) (o loaded : Opened) → loaded ≡ o → IsObject bytes o.version o.code
+    → ((v : ℕ) (d : Code) → IsObject bytes v d → (o.version ≡ v) × (o.code ≡ d)) → (f : StartFault) → IsCause loaded.code.program c inputs f → f ≢ StartFault.Memory
+    → IsRefusedObject bytes inputs c (Fault.Start f)
+object_is_refused bytes inputs c o loaded e object complete f cause other =
+    let O : Opened → Type 0 = λ x. IsObject bytes x.version x.code in
+    (loaded.version, loaded.code, subst O (sym e) object, (λ v d h. ap (λ (x : Opened). x.code) e ∙ (complete v d h).1), cause, other)
+
+pub object_refused : (bytes : List ℕ) (inputs : List ℤ) (c : Config) (o loaded : Opened) → loaded ≡ o → IsObject bytes o.version o.code
+    → ((v : ℕ) (d : Code) → IsObject bytes v d → (o.version ≡ v) × (o.code ≡ d)) → (f : StartFault) → IsCause loaded.code.program c inputs f → IsRefusedObject bytes inputs c (refusal_of f)
+object_refused bytes inputs c o loaded e object complete StartFault.WrongInputs h = object_is_refused bytes inputs c o loaded e object complete StartFault.WrongInputs h wrong_inputs_is_no_want
+object_refused bytes inputs c o loaded e object complete StartFault.NoFrames h = object_is_refused bytes inputs c o loaded e object complete StartFault.NoFrames h no_frames_is_no_want
+object_refused bytes inputs c o loaded e object complete StartFault.BadConfig h = object_is_refused bytes inputs c o loaded e object complete StartFault.BadConfig h bad_config_is_no_want
+object_refused bytes inputs c o loaded e object complete StartFault.Memory h = tt
+
+-- what an opened slice tells of the bytes that it is
+pub opened_all : (slice bytes : List ℕ) → slice ≡ bytes → (o : Opened) → ((v : ℕ) (d : Code) → IsObject slice v d → (o.version ≡ v) × (o.code ≡ d))
+    → (v : ℕ) (d : Code) → IsObject bytes v d → (o.version ≡ v) × (o.code ≡ d)
+opened_all slice bytes e o all v d h = let O : List ℕ → Type 0 = λ bs. IsObject bs v d in all v d (subst O (sym e) h)

@@ -12,6 +12,7 @@ use Rattle.graph_check.specs.declared.faults.CheckFaultKind.TheVariants as Check
 use Rattle.graph_check.specs.FirstFault.{first_fault}
 use Rattle.schemas.specs.Straight.{IsFirstUnbuilt}
 use Rattle.schedule.specs.declared.config.Config.{Config}
+use Rattle.schedule.specs.declared.config.StartFault.{StartFault}
 use Rattle.schedule.specs.declared.config.StartFault.TheVariants as StartFault
 use Rattle.schedule.specs.Starts.{IsGood, IsCause}
 use Rattle.schedule.specs.Setting.{inputs_of}
@@ -56,6 +57,13 @@ IsRefusedText text (Fault.TooFar b) = (g : Graph) × IsGoodText text g × IsUnco
 IsRefusedText text (Fault.Object f) = ⊥
 IsRefusedText text (Fault.Start f) = ⊥
 IsRefusedText text Fault.Memory = ⊤
+
+-- what a machine that does not start is told as
+abbrev pub refusal_of : StartFault → Fault
+refusal_of StartFault.WrongInputs = Fault.Start StartFault.WrongInputs
+refusal_of StartFault.NoFrames = Fault.Start StartFault.NoFrames
+refusal_of StartFault.BadConfig = Fault.Start StartFault.BadConfig
+refusal_of StartFault.Memory = Fault.Memory
 
 -- and of a run's: the first cause why it cannot start
 abbrev pub IsRefused : List ℕ → List ℤ → Config → Fault → Type 0

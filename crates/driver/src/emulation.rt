@@ -2,7 +2,7 @@
 
 ghost use Rattle.std.specs.Prelude.{◌≡◌, ◌<◌, All, IfOk, MatchResult, true, false};
 ghost use Rattle.semantics.specs.Graph as Graphs;
-ghost use Rattle.driver.specs.Refused.{IsCompiled, IsReady, IsRefused, IsRefusedObject};
+ghost use Rattle.driver.specs.Refused.{IsCompiled, refusal_of, IsReady, IsRefused, IsRefusedObject};
 ghost use Rattle.driver.specs.Headline.{TellsTruth, TellsTruthListed, ShowsObject};
 
 use crate::compiling::{Compiled, compile};
@@ -20,6 +20,18 @@ use std::alloc::{AllocError, Allocator};
 pub struct Emulated<'a, A: Allocator> {
     pub checked: Checked<'a, A>,
     pub report: Report<A>,
+}
+
+/// Why there is no run, where the machine does not start.
+fn start_refusal(fault: StartFault) -> Fault
+    ensures { result ≡ refusal_of fault }
+{
+    match fault {
+        StartFault::Memory => Fault::Memory,
+        StartFault::WrongInputs => Fault::Start(StartFault::WrongInputs),
+        StartFault::NoFrames => Fault::Start(StartFault::NoFrames),
+        StartFault::BadConfig => Fault::Start(StartFault::BadConfig),
+    }
 }
 
 fn load<'a, A: Allocator + Clone>(
@@ -50,8 +62,7 @@ pub fn emulate_object<A: Allocator + Clone>(
     let mut store = None;
     match Machine::start(alloc, &mut store, &code, inputs, config) {
         Ok(machine) => Ok(machine.run_one()),
-        Err(StartFault::Memory) => Err(Fault::Memory),
-        Err(fault) => Err(Fault::Start(fault)),
+        Err(fault) => Err(start_refusal(fault)),
     }
 }
 
@@ -77,8 +88,7 @@ pub fn emulate_object_picks<A: Allocator + Clone>(
     let mut store = None;
     match Machine::start(alloc, &mut store, &code, inputs, config) {
         Ok(machine) => Ok(machine.run(picks)),
-        Err(StartFault::Memory) => Err(Fault::Memory),
-        Err(fault) => Err(Fault::Start(fault)),
+        Err(fault) => Err(start_refusal(fault)),
     }
 }
 
@@ -107,9 +117,8 @@ pub fn start_text<A: Allocator + Clone>(
     };
     let mut store = None;
     match Machine::start(alloc, &mut store, &code, inputs, config) {
-        Ok(_) => Ok(()),
-        Err(StartFault::Memory) => Err(Fault::Memory),
-        Err(fault) => Err(Fault::Start(fault)),
+        Ok(_machine) => Ok(()),
+        Err(fault) => Err(start_refusal(fault)),
     }
 }
 

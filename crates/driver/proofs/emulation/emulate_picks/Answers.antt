@@ -1,13 +1,18 @@
-use Rattle.std.proofs.Common.{rules, ◌≡◌, ◌<◌, All, IfOk, MatchResult, true, false, ℕ, ◌+◌, ◌-◌, ◌*◌, ◌≤◌, length, ◌/◌, ◌%◌, Bool, nat_eq, nat_lt, List, [], ◌∷◌, ◌++◌, slice_index_or, slice_set, bit_and, bit_or, Fits, w8, w32, w64, Bor, MutBor}
-use Rattle.semantics.specs.Graph as Graphs
-use Rattle.driver.specs.Refused.{IsCompiled, IsReady, IsRefused, IsRefusedObject}
-use Rattle.driver.specs.Headline.{TellsTruth, TellsTruthListed, ShowsObject}
+use Rattle.std.proofs.Common.{subst, List, ℕ, true}
+use Rattle.driver.specs.Headline.{ShowsObject}
+use Rattle.driver.specs.Refused.{IsRefusedObject}
+use Rattle.driver.proofs.Truth.{tells_truth}
+use Rattle.driver.proofs.TextObjects.{refused_as_text}
 use Rattle.driver.proofs.emulation.emulate_picks.Goals as goal
 
--- src/emulation.rt:164:1
 pub returns-in-Ok-emulate_object_picks : goal.returns-in-Ok-emulate_object_picks
-returns-in-Ok-emulate_object_picks g c = ?
+returns-in-Ok-emulate_object_picks g c = (
+  c.in-Ok-compile.compiled.checked,
+  tells_truth c.args.text.now c.in-Ok-compile.compiled.checked _ c.args.inputs.now c.args.config true c.in-Ok-emulate_object_picks.report c.in-Ok-compile.ensures
+      (subst (λ (bs : List ℕ). ShowsObject bs c.args.inputs.now c.args.config true c.in-Ok-emulate_object_picks.report) c.deref.ensures.value c.in-Ok-emulate_object_picks.ensures),
+)
 
--- src/emulation.rt:155:1
 pub returns : goal.returns
-returns g c = ?
+returns g c =
+    refused_as_text c.args.text.now c.in-Ok-compile.compiled.checked _ c.args.inputs.now c.args.config c.in-Ok-compile.ensures c.in-Err-emulate_object_picks.fault
+    (subst (λ (bs : List ℕ). IsRefusedObject bs c.args.inputs.now c.args.config c.in-Err-emulate_object_picks.fault) c.deref.ensures.value c.in-Err-emulate_object_picks.ensures)
