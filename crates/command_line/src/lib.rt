@@ -87,7 +87,9 @@ fn mean_command<'a>(alloc: Global) -> Result<Command<'a>, AllocError> {
 
 fn program_command<'a>(alloc: Global) -> Result<Command<'a>, AllocError> {
     let check = Command::new(alloc, "check").about("Says whether standard input has a good graph");
-    let compile = Command::new(alloc, "compile").about("Writes the object of the graph on standard input");
+    let compile = Command::new(alloc, "compile").about(
+        "Writes the object of the graph on standard input",
+    );
     let dis = Command::new(alloc, "dis").about("Lists the code of the object on standard input");
     let upgrade = Command::new(alloc, "upgrade").about(
         "Writes the object on standard input as version 2 of the object file",

@@ -15,9 +15,9 @@ mod making;
 mod tests;
 
 use element::instructions::{Array, Instruction, Instructions};
-use schedule::main_code::MainCode;
 use making::{arrays_of, cells_of, entries_of, most_slots};
 use object_view::{CodeInstr, Object};
+use schedule::main_code::MainCode;
 use std::alloc::{AllocError, Allocator};
 use std::marker::Model;
 

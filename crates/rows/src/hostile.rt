@@ -51,7 +51,10 @@ fn picks(alloc: Global, elements: u32, seed: u64) -> Result<Vec<(u32, u64)>, All
     let mut picks = Vec::with_capacity(alloc, 30_000)?;
     for i in 0..30_000u64 {
         let element = (seed.wrapping_add(i.wrapping_mul(5)) % elements as u64) as u32;
-        picks.push((element, seed.wrapping_mul(31).wrapping_add(i.wrapping_mul(17))))?;
+        picks.push((
+            element,
+            seed.wrapping_mul(31).wrapping_add(i.wrapping_mul(17)),
+        ))?;
     }
     Ok(picks)
 }
@@ -88,13 +91,20 @@ fn expect_always<R: Abort>(
     outputs: &[Option<i64>],
 ) -> Result<(), Fail> {
     for elements in SIZES {
-        let report = emulate_object(alloc, object, inputs, config(elements)).map_err(|_| "a report")?;
+        let report = emulate_object(alloc, object, inputs, config(elements)).map_err(
+            |_| "a report",
+        )?;
         expect_report(rt, &report, end, outputs, elements);
         if elements > 0 {
             for seed in 0..10u64 {
                 let picks = picks(alloc, elements, seed)?;
-                let report = emulate_object_picks(alloc, object, inputs, config(elements), &picks)
-                    .map_err(|_| "a report")?;
+                let report = emulate_object_picks(
+                    alloc,
+                    object,
+                    inputs,
+                    config(elements),
+                    &picks,
+                ).map_err(|_| "a report")?;
                 expect_report(rt, &report, end, outputs, elements);
             }
         }
@@ -112,7 +122,15 @@ fn excluded_tokens_are_told(rt: HostRuntime) -> Result<(), Fail> {
         ([(60, 3), (76, 3)].as_slice(), 4),
         (
             [
-                (108, 1), (109, 0x80), (110, 2), (111, 0x80), (120, 0x20), (124, 0), (125, 0), (128, 1), (144, 0),
+                (108, 1),
+                (109, 0x80),
+                (110, 2),
+                (111, 0x80),
+                (120, 0x20),
+                (124, 0),
+                (125, 0),
+                (128, 1),
+                (144, 0),
             ]
             .as_slice(),
             5,
@@ -138,13 +156,29 @@ fn a_result_may_stay_away(rt: HostRuntime) -> Result<(), Fail> {
 fn calls_readers_and_loops_run(rt: HostRuntime) -> Result<(), Fail> {
     let alloc = rt.alloc();
     expect_always(&rt, alloc, CALLS, &[4, 3], End::Rest, &[Some(-4), Some(4)])?;
-    expect_always(&rt, alloc, READERS, &[8], End::Rest, &[Some(8), Some(8), Some(8)])?;
+    expect_always(
+        &rt,
+        alloc,
+        READERS,
+        &[8],
+        End::Rest,
+        &[Some(8), Some(8), Some(8)],
+    )?;
     expect_always(&rt, alloc, LOOP, &[10], End::Rest, &[Some(55)])
 }
 
 #[test]
 fn an_object_is_refused(rt: HostRuntime) -> Result<(), Fail> {
-    let changes = [(24, 255), (25, 255), (26, 255), (27, 255), (28, 255), (29, 255), (30, 255), (31, 255)];
+    let changes = [
+        (24, 255),
+        (25, 255),
+        (26, 255),
+        (27, 255),
+        (28, 255),
+        (29, 255),
+        (30, 255),
+        (31, 255),
+    ];
     let object = changed(rt.alloc(), &changes)?;
     match emulate_object(rt.alloc(), &object, &[2, 3], config(1)) {
         Err(Fault::Object(fault)) => assert_eq!(rt; fault, ObjectFault::BadTable),

@@ -56,7 +56,8 @@ fn orders(rt: HostRuntime) -> Result<(), Fail> {
                 inputs.as_slice(),
                 CONFIG,
                 &picks,
-            ).map_err(|_| "a report")?;
+            )
+            .map_err(|_| "a report")?;
             assert_eq!(rt; report.end, End::Rest);
             assert_eq!(rt; report.frames_out, 0);
             assert_eq!(rt; report.outputs.as_slice().len(), wanted.len());
