@@ -11,6 +11,8 @@ use std::convert::AsStr;
 pub enum Request {
     /// Says whether standard input has a good graph.
     Check,
+    /// Writes the object of the graph on standard input.
+    Compile,
     /// Compiles and runs the graph on standard input.
     Run(RunOptions),
     /// Lists the object on standard input.
@@ -85,6 +87,9 @@ fn mean_command<'a>(alloc: Global) -> Result<Command<'a>, AllocError> {
 
 fn program_command<'a>(alloc: Global) -> Result<Command<'a>, AllocError> {
     let check = Command::new(alloc, "check").about("Says whether standard input has a good graph");
+    let compile = Command::new(alloc, "compile").about(
+        "Writes the object of the graph on standard input",
+    );
     let dis = Command::new(alloc, "dis").about("Lists the code of the object on standard input");
     let upgrade = Command::new(alloc, "upgrade").about(
         "Writes the object on standard input as version 2 of the object file",
@@ -93,6 +98,7 @@ fn program_command<'a>(alloc: Global) -> Result<Command<'a>, AllocError> {
         .about("Compiles dataflow graphs for an explicit token store machine and runs them")
         .subcommand_required(true)
         .subcommand(check)?
+        .subcommand(compile)?
         .subcommand(dis)?
         .subcommand(upgrade)?
         .subcommand(mean_command(alloc)?)?
@@ -108,6 +114,7 @@ fn request_in(matches: &ArgMatches<'_>) -> Option<Request> {
             mode_is_one: run.get_str("mode")? == "one",
         })),
         Some(("check", _)) => Some(Request::Check),
+        Some(("compile", _)) => Some(Request::Compile),
         Some(("dis", _)) => Some(Request::Dis),
         Some(("upgrade", _)) => Some(Request::Upgrade),
         Some(("mean", mean)) => Some(Request::Mean {
@@ -158,6 +165,12 @@ mod tests {
             matches!(
                 parse(rt.alloc(), ["ets", "check"].as_slice()),
                 Ok(Request::Check)
+            )
+        );
+        assert!(rt;
+            matches!(
+                parse(rt.alloc(), ["ets", "compile"].as_slice()),
+                Ok(Request::Compile)
             )
         );
         assert!(rt;

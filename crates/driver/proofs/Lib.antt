@@ -1,4 +1,5 @@
-pub mod Limits
 pub mod Truth
-pub mod Compiling
+pub mod StraightObjects
 pub mod InputLines
+pub mod ObjectRuns
+pub mod TextObjects

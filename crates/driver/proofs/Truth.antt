@@ -8,20 +8,18 @@ use Rattle.semantics.specs.Graph.{Graph, flow_of, first_cell}
 use Rattle.semantics.specs.Text.{IsText}
 use Rattle.semantics.specs.WellFormed.{WellFormed}
 use Rattle.semantics.specs.Meaning.{State}
-use Rattle.semantics.specs.Program.{Program}
+use Rattle.semantics.specs.Program.{Program, Code}
 use Rattle.semantics.specs.Rule.{array_base}
 use Rattle.semantics.specs.Cause.{SameSeen}
 use Rattle.semantics.specs.Machine.{Machine, Size, CellState, Vacant, Full, Deferred, Events, stuck_rule, value_in}
 use Rattle.semantics.specs.Faithful.{Faithful, IsRun, IsSecondStore, inputs_of}
 use Rattle.semantics.specs.Report.{Report, IsPicture, HasEnd, Shows}
 use Rattle.schedule.specs.declared.config.Config.{Config}
-use Rattle.schedule.specs.State as Machines
-use Rattle.schedule.specs.State.{size}
-use Rattle.schedule.specs.Starts.{Opens}
-use Rattle.schedule.specs.Straight.{inputs_of as inputs_of_program}
-use Rattle.driver.specs.Headline.{ShowsMemory, TellsOf, one_element}
+use Rattle.schedule.specs.Setting.{inputs_of as inputs_of_program}
+use Rattle.driver.specs.Headline.{ShowsMemory, ShowsObject, TellsOf, size_of}
+use Rattle.driver.specs.Compiled.{IsCodeFor}
 use Rattle.driver.specs.Refused.{IsCompiled}
-use Rattle.driver.proofs.Limits.{inputs_same}
+use Rattle.driver.proofs.StraightObjects.{takes_all}
 
 -- a cell that is full has its value, and no other
 full_value : (c : CellState) (v : Value) → c ≡ Full v → value_in c ≡ Some v
@@ -82,19 +80,15 @@ tells_of text inputs z steps listed r g p is_text well fit elements frames faith
           never_both (stuck_rule p m.store ended.0.to ended.0.word) n (faithful.matching inputs z r.events m ended.0 run ended.1) ended.2;
     }
 
--- A machine that starts on a program opens with its numbers; what it shows is shown of the program.
-shows_program : (p : Program) (c : Config) (inputs : List ℤ) (s : Machines.State) (listed : Bool) (r : Report) → Opens p c inputs s
-    → Shows s.program (size s) inputs s.steps listed false r → Shows p (one_element c) inputs c.steps listed false r
-shows_program p c inputs s listed r o shows =
-    let A : Program → Type 0 = λ q. Shows q (size s) inputs s.steps listed false r in
-    let B : ℕ → Type 0 = λ f. Shows p (record { elements = 1; frames = f }) inputs s.steps listed false r in
-    let C : ℕ → Type 0 = λ n. Shows p (one_element c) inputs n listed false r in
-    subst C o.steps (subst B o.frames (subst A o.program shows))
-
-pub tells_truth : (text : List ℕ) (g : Graph) (p : Program) (inputs : List ℤ) (c : Config) (s : Machines.State) (listed : Bool) (r : Report)
-    → IsCompiled text g p → Opens p c inputs s → Shows s.program (size s) inputs s.steps listed false r
-    → TellsOf text g inputs (one_element c) c.steps listed r
-tells_truth text g p inputs c s listed r compiled o shows =
-    tells_of text inputs (one_element c) c.steps listed r g p compiled.good.is_text compiled.good.well_formed
-    (o.arity ∙ ap inputs_of_program compiled.exact ∙ inputs_same (flow_of g)) (omega arith) o.some_frame compiled.faithful
-    (shows_program p c inputs s listed r o shows)
+-- A report of a run of the graph's object tells the truth: the object has one code.
+pub tells_truth : (text : List ℕ) (g : Graph) (bytes : List ℕ) (inputs : List ℤ) (c : Config) (listed : Bool) (r : Report)
+    → IsCompiled text g bytes → ShowsObject bytes inputs c listed r → TellsOf text g inputs (size_of c) c.steps listed r
+tells_truth text g bytes inputs c listed r compiled shown =
+    let made = compiled.object.made in
+    let code : Code = compiled.object.code in
+    let same : shown.code ≡ code = shown.only g.version code compiled.object.object in
+    let S : Code → Type 0 = λ x. Shows x.program (size_of c) inputs c.steps listed false r in
+    let F : Code → Type 0 = λ x. length inputs ≡ inputs_of_program x.program in
+    tells_of text inputs (size_of c) c.steps listed r g code.program compiled.good.is_text compiled.good.well_formed
+    (subst F same shown.inputs_fit ∙ takes_all g record { text = compiled.good.is_text.1; well = compiled.good.well_formed; line = made.straight } code made)
+    shown.some_element shown.some_frame made.faithful (subst S same shown.shows)

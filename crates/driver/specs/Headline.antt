@@ -1,5 +1,5 @@
 -- What a report promises about the graph that a text has: the project's headline.
-use Rattle.std.specs.Prelude.{◌≡◌, ◌↔◌, ℕ, ◌+◌, Bool, true, false, ℤ, List, length, Option, Some, slice_get, Contains}
+use Rattle.std.specs.Prelude.{◌≡◌, ◌↔◌, ℕ, ◌+◌, ◌<◌, Bool, true, false, ℤ, List, length, Option, Some, slice_get, Contains}
 use Rattle.tags.specs.declared.value.Value.{Value}
 use Rattle.semantics.specs.declared.report.End.TheVariants.{Rest, Clash, Stuck}
 use Rattle.semantics.specs.Graph.{Graph, Flow, flow_of, first_cell}
@@ -7,11 +7,13 @@ use Rattle.semantics.specs.Text.{IsText}
 use Rattle.semantics.specs.WellFormed.{WellFormed}
 use Rattle.semantics.specs.Meaning as Meaning
 use Rattle.semantics.specs.Meaning.{State, Reached, Leads, AtRest, Clashes}
-use Rattle.semantics.specs.Program.{Program}
+use Rattle.semantics.specs.Program.{Program, Code}
+use Rattle.semantics.specs.Bytes.{IsObject}
 use Rattle.semantics.specs.Machine.{Size}
 use Rattle.semantics.specs.Faithful.{Faithful, IsSecondStore, inputs_of}
 use Rattle.semantics.specs.Report.{Report, Shows}
 use Rattle.schedule.specs.declared.config.Config.{Config}
+use Rattle.schedule.specs.Setting.{inputs_of as inputs_in_code}
 
 -- The report's outputs and full cells are just those of a memory of the meaning.
 pub record ShowsMemory (r : Report) (m : Meaning.Memory) : Type 0 where
@@ -45,14 +47,26 @@ pub record TellsOf (text : List ℕ) (g : Graph) (inputs : List ℤ) (z : Size) 
   -- no token meets a case that its rule excludes
   pub matching : (n : ℕ) → r.end ≡ Stuck n → ⊥
 
--- so many frames on one element
-abbrev pub one_element : Config → Size
-one_element c = record { elements = 1; frames = c.frames }
+-- so many elements, each with so many frames
+abbrev pub size_of : Config → Size
+size_of c = record { elements = c.elements; frames = c.frames }
 
--- THE HEADLINE, of a run in which the element takes its oldest token each time
+-- THE HEADLINE, of a run in which each element in turn takes its oldest token
 abbrev pub TellsTruth : List ℕ → Graph → List ℤ → Config → Report → Type 0
-TellsTruth text g inputs c r = TellsOf text g inputs (one_element c) c.steps false r
+TellsTruth text g inputs c r = TellsOf text g inputs (size_of c) c.steps false r
 
--- and of a run in the order of a list of picks
+-- and of a run in the order of a list of elements and picks
 abbrev pub TellsTruthListed : List ℕ → Graph → List ℤ → Config → Report → Type 0
-TellsTruthListed text g inputs c r = TellsOf text g inputs (one_element c) c.steps true r
+TellsTruthListed text g inputs c r = TellsOf text g inputs (size_of c) c.steps true r
+
+-- OBJECTS. The bytes are an object, and the report is of a run of its code.
+pub record ShowsObject (bytes : List ℕ) (inputs : List ℤ) (c : Config) (listed : Bool) (r : Report) : Type 0 where
+  pub version : ℕ
+  pub code : Code
+  pub object : IsObject bytes version code
+  -- and of no other code
+  pub only : (v : ℕ) (c : Code) → IsObject bytes v c → code ≡ c
+  pub inputs_fit : length inputs ≡ inputs_in_code code.program
+  pub some_element : 0 < c.elements
+  pub some_frame : 0 < c.frames
+  pub shows : Shows code.program (size_of c) inputs c.steps listed false r

@@ -1,5 +1,6 @@
 pub mod Headline
-pub mod Crowded
+pub mod Compiled
+pub mod Written
 pub mod Refused
 pub mod Input
 pub mod Status

@@ -1,11 +1,10 @@
--- Why a text has no report: each refusal with its cause.
+-- Why a text or an object has no report: each refusal with its cause.
 use Rattle.std.specs.Prelude.{◌≡◌, ◌≢◌, ℕ, ◌<◌, ℤ, List, length, Some, Err, ⊤}
 use Rattle.semantics.specs.Graph.{Graph, flow_of}
 use Rattle.semantics.specs.Text.{IsText}
 use Rattle.semantics.specs.WellFormed.{WellFormed}
-use Rattle.semantics.specs.Program.{Program}
-use Rattle.semantics.specs.Faithful.{Faithful}
-use Rattle.lowering.specs.StraightPlan.{straight_program}
+use Rattle.semantics.specs.Program.{Code}
+use Rattle.semantics.specs.Bytes.{IsObject}
 use Rattle.lowering.specs.Theorem.{IsStraightLine}
 use Rattle.graph_file.specs.declared.fault.ReadFaultKind.TheVariants as ReadFaultKind
 use Rattle.graph_file.specs.Reading.{text_from}
@@ -13,29 +12,38 @@ use Rattle.graph_check.specs.declared.faults.CheckFaultKind.TheVariants as Check
 use Rattle.graph_check.specs.FirstFault.{first_fault}
 use Rattle.schemas.specs.Straight.{IsFirstUnbuilt}
 use Rattle.schedule.specs.declared.config.Config.{Config}
+use Rattle.schedule.specs.declared.config.StartFault.{StartFault}
 use Rattle.schedule.specs.declared.config.StartFault.TheVariants as StartFault
 use Rattle.schedule.specs.Starts.{IsGood, IsCause}
-use Rattle.schedule.specs.Straight.{IsStraightProgram, inputs_of}
-use Rattle.driver.specs.Crowded.{IsFirstCrowded}
-use Rattle.driver.specs.declared.emulation.Fault.{Fault}
+use Rattle.schedule.specs.Setting.{inputs_of}
+use Rattle.object_view.specs.Checks.{first_refusal}
+use Rattle.driver.specs.Compiled.{IsObjectOf, IsTooLarge}
+use Rattle.driver.specs.declared.fault.Fault.{Fault}
 
 -- the graph that a text has, and well formed
 pub record IsGoodText (text : List ℕ) (g : Graph) : Type 0 where
   pub is_text : IsText text g
   pub well_formed : WellFormed g
 
--- the program is the code of the graph that the text has, faithful to it, and one that the machine takes
-pub record IsCompiled (text : List ℕ) (g : Graph) (p : Program) : Type 0 where
+-- the bytes are the object of the graph that the text has
+pub record IsCompiled (text : List ℕ) (g : Graph) (bytes : List ℕ) : Type 0 where
   pub good : IsGoodText text g
-  pub exact : p ≡ straight_program (flow_of g)
-  pub faithful : Faithful (flow_of g) p
-  pub fits : IsStraightProgram p
+  pub object : IsObjectOf g bytes
+
+-- why a well-formed graph has no code: a kind of node that the compiler does not know, or its size
+abbrev pub IsUncompiled : Graph → Fault → Type 0
+IsUncompiled g (Fault.Unbuilt u) = IsFirstUnbuilt g u.block u.node u.name.now
+IsUncompiled g (Fault.TooManySlots b) = IsStraightLine g × IsTooLarge g (Fault.TooManySlots b)
+IsUncompiled g (Fault.TooFar b) = IsStraightLine g × IsTooLarge g (Fault.TooFar b)
+IsUncompiled g Fault.Memory = ⊤
+IsUncompiled g fault = ⊥
 
 -- a run of it can start
 pub record IsReady (text : List ℕ) (inputs : List ℤ) (config : Config) : Type 0 where
   pub graph : Graph
-  pub compiled : IsCompiled text graph (straight_program (flow_of graph))
-  pub inputs_fit : length inputs ≡ inputs_of (straight_program (flow_of graph))
+  pub bytes : List ℕ
+  pub compiled : IsCompiled text graph bytes
+  pub inputs_fit : length inputs ≡ inputs_of compiled.object.code.program
   pub some_frame : 0 < config.frames
   pub good : IsGood config
 
@@ -43,12 +51,29 @@ pub record IsReady (text : List ℕ) (inputs : List ℤ) (config : Config) : Typ
 abbrev pub IsRefusedText : List ℕ → Fault → Type 0
 IsRefusedText text (Fault.Read f) = (text_from text ≡ Err f) × (f.kind ≢ ReadFaultKind.Memory)
 IsRefusedText text (Fault.Check f) = (g : Graph) × IsText text g × (first_fault g ≡ Some f) × (f.kind ≢ CheckFaultKind.Memory) × (WellFormed g → ⊥)
-IsRefusedText text (Fault.Unbuilt u) = (g : Graph) × IsGoodText text g × IsFirstUnbuilt g u.block u.node u.name.now
-IsRefusedText text (Fault.TooManySlots b) = (g : Graph) × IsGoodText text g × IsStraightLine g × IsFirstCrowded (straight_program (flow_of g)).blocks b
+IsRefusedText text (Fault.Unbuilt u) = (g : Graph) × IsGoodText text g × IsUncompiled g (Fault.Unbuilt u)
+IsRefusedText text (Fault.TooManySlots b) = (g : Graph) × IsGoodText text g × IsUncompiled g (Fault.TooManySlots b)
+IsRefusedText text (Fault.TooFar b) = (g : Graph) × IsGoodText text g × IsUncompiled g (Fault.TooFar b)
+IsRefusedText text (Fault.Object f) = ⊥
 IsRefusedText text (Fault.Start f) = ⊥
 IsRefusedText text Fault.Memory = ⊤
 
+-- what a machine that does not start is told as
+abbrev pub refusal_of : StartFault → Fault
+refusal_of StartFault.WrongInputs = Fault.Start StartFault.WrongInputs
+refusal_of StartFault.NoFrames = Fault.Start StartFault.NoFrames
+refusal_of StartFault.BadConfig = Fault.Start StartFault.BadConfig
+refusal_of StartFault.Memory = Fault.Memory
+
 -- and of a run's: the first cause why it cannot start
 abbrev pub IsRefused : List ℕ → List ℤ → Config → Fault → Type 0
-IsRefused text inputs config (Fault.Start f) = (g : Graph) × IsCompiled text g (straight_program (flow_of g)) × IsCause (straight_program (flow_of g)) config inputs f × (f ≢ StartFault.Memory)
+IsRefused text inputs config (Fault.Start f) = (g : Graph) × (bytes : List ℕ) × (c : IsCompiled text g bytes) × IsCause c.object.code.program config inputs f × (f ≢ StartFault.Memory)
 IsRefused text inputs config fault = IsRefusedText text fault
+
+-- and of an object's
+abbrev pub IsRefusedObject : List ℕ → List ℤ → Config → Fault → Type 0
+IsRefusedObject bytes inputs config (Fault.Object f) = (first_refusal bytes ≡ Some f) × ((v : ℕ) (c : Code) → IsObject bytes v c → ⊥)
+IsRefusedObject bytes inputs config (Fault.Start f) =
+    (version : ℕ) × (c : Code) × IsObject bytes version c × ((v : ℕ) (d : Code) → IsObject bytes v d → c ≡ d) × IsCause c.program config inputs f × (f ≢ StartFault.Memory)
+IsRefusedObject bytes inputs config Fault.Memory = ⊤
+IsRefusedObject bytes inputs config fault = ⊥

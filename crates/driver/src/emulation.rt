@@ -1,44 +1,19 @@
-//! The composition: text to graph, graph to program, program to report. The headline is the contract of `emulate`.
+//! The whole way: text to object, object to machine, machine to report. The headline is the contract of `emulate`.
 
-ghost use Rattle.std.specs.Prelude.{◌≡◌, ◌<◌, All, MatchResult};
+ghost use Rattle.std.specs.Prelude.{◌≡◌, ◌<◌, All, IfOk, MatchResult, true, false};
 ghost use Rattle.semantics.specs.Graph as Graphs;
-ghost use Rattle.semantics.specs.Text.{IsText};
-ghost use Rattle.driver.specs.Refused.{IsGoodText, IsCompiled, IsReady, IsRefusedText, IsRefused};
-ghost use Rattle.driver.specs.Headline.{TellsTruth, TellsTruthListed};
+ghost use Rattle.driver.specs.Refused.{IsCompiled, refusal_of, IsReady, IsRefused, IsRefusedObject};
+ghost use Rattle.driver.specs.Headline.{TellsTruth, TellsTruthListed, ShowsObject};
 
-use crate::slots::first_crowded;
-use code::Program;
-use graph::Graph;
-use graph_check::{CheckFault, CheckFaultKind, Checked, check};
-use graph_file::{ReadFault, ReadFaultKind, read};
+use crate::compiling::{Compiled, compile};
+use crate::fault::Fault;
+use graph_check::Checked;
+use loaded::Loaded;
+use object_view::Object;
 use schedule::config::{Config, StartFault};
 use schedule::machine::Machine;
 use schedule::report::Report;
-use schemas::{Unbuilt, expand, first_unbuilt};
-use std::alloc::Allocator;
-
-/// Why a text has no report.
-#[derive(Debug, Drop)]
-pub enum Fault {
-    /// The text is no graph's: its first fault, never for want of memory.
-    Read(ReadFault),
-    /// The graph is not well formed: its first fault, never for want of memory.
-    Check(CheckFault),
-    /// The compiler does not know the kind of this node yet; the first such node.
-    Unbuilt(Unbuilt),
-    /// The code block of this number is the first that needs more slots than a frame has.
-    TooManySlots(u64),
-    /// The run cannot start, but not for want of memory.
-    Start(StartFault),
-    Memory,
-}
-
-/// A graph with its code.
-#[derive(Drop)]
-pub struct Compiled<'a, A: Allocator> {
-    pub checked: Checked<'a, A>,
-    pub program: Program<A>,
-}
+use std::alloc::{AllocError, Allocator};
 
 /// A run of the graph that the text has.
 #[derive(Drop)]
@@ -47,66 +22,74 @@ pub struct Emulated<'a, A: Allocator> {
     pub report: Report<A>,
 }
 
-/// The graph that the text has.
-fn read_text<'a, A: Allocator + Clone>(alloc: A, text: &'a [u8]) -> Result<Graph<'a, A>, Fault>
-    ensures { MatchResult result (IsText text.now) (IsRefusedText text.now) }
+/// Why there is no run, where the machine does not start.
+fn start_refusal(fault: StartFault) -> Fault
+    ensures { result ≡ refusal_of fault }
 {
-    match read(alloc, text) {
-        Ok(graph) => Ok(graph),
-        Err(fault) => {
-            if fault.kind == ReadFaultKind::Memory {
-                Err(Fault::Memory)
-            } else {
-                Err(Fault::Read(fault))
-            }
-        }
+    match fault {
+        StartFault::Memory => Fault::Memory,
+        StartFault::WrongInputs => Fault::Start(StartFault::WrongInputs),
+        StartFault::NoFrames => Fault::Start(StartFault::NoFrames),
+        StartFault::BadConfig => Fault::Start(StartFault::BadConfig),
     }
 }
 
-/// The graph that the text has, if it is well formed.
-pub fn check_text<'a, A: Allocator + Clone>(
+fn load<'a, A: Allocator + Clone>(
+    alloc: &A,
+    object: Object<'a>,
+) -> Result<Loaded<'a, A>, AllocError>
+    ensures { IfOk result (λ code. code ≡ object.entry) }
+{
+    Loaded::new(alloc.clone()?, object)
+}
+
+/// The report of a run of the object that the bytes are: each element in turn takes its oldest token.
+pub fn emulate_object<A: Allocator + Clone>(
     alloc: A,
-    text: &'a [u8],
-) -> Result<Checked<'a, A>, Fault>
-    ensures { MatchResult result (IsGoodText text.now) (IsRefusedText text.now) }
+    bytes: &[u8],
+    inputs: &[i64],
+    config: Config,
+) -> Result<Report<A>, Fault>
+    ensures { MatchResult result (ShowsObject bytes.now inputs.now config false) (IsRefusedObject bytes.now inputs.now config) }
 {
-    let graph = match read_text(alloc, text) {
-        Ok(graph) => graph,
-        Err(fault) => return Err(fault),
+    let object = match Object::open(bytes) {
+        Ok(object) => object,
+        Err(fault) => return Err(Fault::Object(fault)),
     };
-    match check(graph) {
-        Ok(checked) => Ok(checked),
-        Err(fault) => {
-            if fault.kind == CheckFaultKind::Memory {
-                Err(Fault::Memory)
-            } else {
-                Err(Fault::Check(fault))
-            }
-        }
+    let Ok(code) = load(&alloc, object) else {
+        return Err(Fault::Memory);
+    };
+    let mut store = None;
+    match Machine::start(alloc, &mut store, &code, inputs, config) {
+        Ok(machine) => Ok(machine.run_one()),
+        Err(fault) => Err(start_refusal(fault)),
     }
 }
 
-/// The graph that the text has, and its code.
-pub fn compile<'a, A: Allocator + Clone>(alloc: A, text: &'a [u8]) -> Result<Compiled<'a, A>, Fault>
-    ensures { MatchResult result (λ c. IsCompiled text.now c.checked c.program) (IsRefusedText text.now) }
+/// The report of a run of the object that the bytes are, in the order of a list: each entry names an element, and one of its
+/// tokens by its place in the queue, modulo the queue's length.
+pub fn emulate_object_picks<A: Allocator + Clone>(
+    alloc: A,
+    bytes: &[u8],
+    inputs: &[i64],
+    config: Config,
+    picks: &[(u32, u64)],
+) -> Result<Report<A>, Fault>
+    requires { All (λ pick. pick.0 < config.elements) picks.now }
+    ensures { MatchResult result (ShowsObject bytes.now inputs.now config true) (IsRefusedObject bytes.now inputs.now config) }
 {
-    let Ok(room) = alloc.clone() else {
+    let object = match Object::open(bytes) {
+        Ok(object) => object,
+        Err(fault) => return Err(Fault::Object(fault)),
+    };
+    let Ok(code) = load(&alloc, object) else {
         return Err(Fault::Memory);
     };
-    let checked = match check_text(room, text) {
-        Ok(checked) => checked,
-        Err(fault) => return Err(fault),
-    };
-    if let Some(unbuilt) = first_unbuilt(checked.graph()) {
-        return Err(Fault::Unbuilt(unbuilt));
+    let mut store = None;
+    match Machine::start(alloc, &mut store, &code, inputs, config) {
+        Ok(machine) => Ok(machine.run(picks)),
+        Err(fault) => Err(start_refusal(fault)),
     }
-    let Ok(program) = expand(alloc, checked.graph()) else {
-        return Err(Fault::Memory);
-    };
-    if let Some(block) = first_crowded(&program) {
-        return Err(Fault::TooManySlots(block));
-    }
-    Ok(Compiled { checked, program })
 }
 
 /// Whether a run of the graph that the text has can start: what refuses it, if anything does.
@@ -121,21 +104,25 @@ pub fn start_text<A: Allocator + Clone>(
     let Ok(room) = alloc.clone() else {
         return Err(Fault::Memory);
     };
-    let Compiled {
-        checked: _,
-        program,
-    } = match compile(room, text) {
+    let compiled = match compile(room, text) {
         Ok(compiled) => compiled,
         Err(fault) => return Err(fault),
     };
-    match Machine::start(alloc, &program, inputs, config) {
-        Ok(_) => Ok(()),
-        Err(StartFault::Memory) => Err(Fault::Memory),
-        Err(fault) => Err(Fault::Start(fault)),
+    let object = match Object::open(&compiled.object) {
+        Ok(object) => object,
+        Err(_) => unreachable!(),
+    };
+    let Ok(code) = load(&alloc, object) else {
+        return Err(Fault::Memory);
+    };
+    let mut store = None;
+    match Machine::start(alloc, &mut store, &code, inputs, config) {
+        Ok(_machine) => Ok(()),
+        Err(fault) => Err(start_refusal(fault)),
     }
 }
 
-/// Runs the graph that the text has, the element taking its oldest token each time. Gives the graph with the report.
+/// Runs the graph that the text has, each element in turn taking its oldest token. Gives the graph with the report.
 pub fn run_text<'a, A: Allocator + Clone>(
     alloc: A,
     text: &'a [u8],
@@ -147,21 +134,17 @@ pub fn run_text<'a, A: Allocator + Clone>(
     let Ok(room) = alloc.clone() else {
         return Err(Fault::Memory);
     };
-    let Compiled { checked, program } = match compile(room, text) {
+    let Compiled { checked, object } = match compile(room, text) {
         Ok(compiled) => compiled,
         Err(fault) => return Err(fault),
     };
-    match Machine::start(alloc, &program, inputs, config) {
-        Ok(machine) => Ok(Emulated {
-            checked,
-            report: machine.run_one(),
-        }),
-        Err(StartFault::Memory) => Err(Fault::Memory),
-        Err(fault) => Err(Fault::Start(fault)),
+    match emulate_object(alloc, &object, inputs, config) {
+        Ok(report) => Ok(Emulated { checked, report }),
+        Err(fault) => Err(fault),
     }
 }
 
-/// The report of a run of the graph that the text has, the element taking its oldest token each time.
+/// The report of a run of the graph that the text has, each element in turn taking its oldest token.
 pub fn emulate<A: Allocator + Clone>(
     alloc: A,
     text: &[u8],
@@ -176,8 +159,8 @@ pub fn emulate<A: Allocator + Clone>(
     }
 }
 
-/// The report of a run of the graph that the text has, in the order of a list of picks: each entry names a token of the
-/// element (which is 0) by its place in the queue, modulo the queue's length.
+/// The report of a run of the graph that the text has, in the order of a list: each entry names an element, and one of its
+/// tokens by its place in the queue, modulo the queue's length.
 pub fn emulate_picks<A: Allocator + Clone>(
     alloc: A,
     text: &[u8],
@@ -185,22 +168,18 @@ pub fn emulate_picks<A: Allocator + Clone>(
     config: Config,
     picks: &[(u32, u64)],
 ) -> Result<Report<A>, Fault>
-    requires { All (λ pick. pick.0 < 1) picks.now }
+    requires { All (λ pick. pick.0 < config.elements) picks.now }
     ensures { MatchResult result (λ report. (g : Graphs.Graph) × TellsTruthListed text.now g inputs.now config report) (IsRefused text.now inputs.now config) }
 {
     let Ok(room) = alloc.clone() else {
         return Err(Fault::Memory);
     };
-    let Compiled {
-        checked: _,
-        program,
-    } = match compile(room, text) {
+    let compiled = match compile(room, text) {
         Ok(compiled) => compiled,
         Err(fault) => return Err(fault),
     };
-    match Machine::start(alloc, &program, inputs, config) {
-        Ok(machine) => Ok(machine.run(picks)),
-        Err(StartFault::Memory) => Err(Fault::Memory),
-        Err(fault) => Err(Fault::Start(fault)),
+    match emulate_object_picks(alloc, &compiled.object, inputs, config, picks) {
+        Ok(report) => Ok(report),
+        Err(fault) => Err(fault),
     }
 }

@@ -2,11 +2,12 @@
 //! `emulation::emulate`.
 #![tactic(auto)]
 
+pub mod compiling;
 pub mod emulation;
+pub mod fault;
 pub mod input;
 pub mod meaning;
 pub mod objects;
 pub mod refusal;
 pub mod report_text;
 pub mod serving;
-pub mod slots;

@@ -4,7 +4,8 @@ ghost use Rattle.std.specs.Prelude.{◌≡◌, IfOk, Some};
 ghost use Rattle.driver.specs.Refused.{IsGoodText};
 ghost use Rattle.oracle.specs.Running.{told};
 
-use crate::emulation::{Fault, check_text};
+use crate::compiling::check_text;
+use crate::fault::Fault;
 use graph_check::Checked;
 use oracle::{MeanFault, MeanReport, mean};
 use schedule::config::StartFault;

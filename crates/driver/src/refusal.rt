@@ -4,9 +4,10 @@ ghost use Rattle.std.specs.Prelude.{◌≡◌, ℕ};
 ghost use Rattle.graph_file.specs.declared.fault.ReadFault.{ReadFault};
 ghost use Rattle.graph_check.specs.declared.faults.CheckFault.{CheckFault};
 ghost use Rattle.schemas.specs.declared.unbuilt.Unbuilt.{Unbuilt};
+ghost use Rattle.object_view.specs.declared.fault.ObjectFault.{ObjectFault};
 ghost use Rattle.schedule.specs.declared.config.StartFault.{StartFault};
 
-use crate::emulation::Fault;
+use crate::fault::Fault;
 use crate::input::{InputFault, LinesFault};
 use graph_check::CheckFault;
 use graph_file::ReadFault;
@@ -24,8 +25,10 @@ pub enum Refusal {
     Read(ReadFault),
     Check(CheckFault),
     Unbuilt(Unbuilt),
-    /// The code block of this number needs more slots than a frame has.
+    /// The holders of the code block of this number do not fit into the slots of a frame.
     TooManySlots(u64),
+    /// The code block of this number is too long for an object, or has too many literals.
+    TooFar(u64),
     /// This line of the inputs, from 1, is no integer.
     InputLine(u64),
     Start(StartFault),
@@ -52,6 +55,8 @@ impl From<Fault> for Refusal {
         ensures check { (f : CheckFault) → fault ≡ Fault.Check f → result ≡ Refusal.Check f }
         ensures unbuilt { (u : Unbuilt) → fault ≡ Fault.Unbuilt u → result ≡ Refusal.Unbuilt u }
         ensures slots { (b : ℕ) → fault ≡ Fault.TooManySlots b → result ≡ Refusal.TooManySlots b }
+        ensures far { (b : ℕ) → fault ≡ Fault.TooFar b → result ≡ Refusal.TooFar b }
+        ensures object { (f : ObjectFault) → fault ≡ Fault.Object f → result ≡ Refusal.Object f }
         ensures start { (f : StartFault) → fault ≡ Fault.Start f → result ≡ Refusal.Start f }
         ensures memory { fault ≡ Fault.Memory → result ≡ Refusal.Memory }
     {
@@ -60,6 +65,8 @@ impl From<Fault> for Refusal {
             Fault::Check(fault) => Refusal::Check(fault),
             Fault::Unbuilt(unbuilt) => Refusal::Unbuilt(unbuilt),
             Fault::TooManySlots(block) => Refusal::TooManySlots(block),
+            Fault::TooFar(block) => Refusal::TooFar(block),
+            Fault::Object(fault) => Refusal::Object(fault),
             Fault::Start(fault) => Refusal::Start(fault),
             Fault::Memory => Refusal::Memory,
         }
@@ -121,6 +128,7 @@ impl fmt::Display for Refusal {
                 write!(f, "refused: unbuilt {name} block {block} node {node}")
             }
             Refusal::TooManySlots(block) => write!(f, "refused: slots TooManySlots block {block}"),
+            Refusal::TooFar(block) => write!(f, "refused: emit TooFar block {block}"),
             Refusal::InputLine(line) => write!(f, "refused: input line {line}"),
             Refusal::Start(fault) => write!(f, "refused: start {fault:?}"),
             Refusal::Object(fault) => write!(f, "refused: object {fault:?}"),

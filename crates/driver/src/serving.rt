@@ -1,6 +1,7 @@
 //! The program over a reader and a writer.
 
-use crate::emulation::{Emulated, check_text, compile, run_text, start_text};
+use crate::compiling::{CompileRefusal, check_text, compile, write_object};
+use crate::emulation::{Emulated, run_text, start_text};
 use crate::input::{LinesFault, parse_integers, read_input, split_at_main};
 use crate::meaning::{Meant, mean_text};
 use crate::objects::{ObjectRefusal, disassemble, upgrade_object};
@@ -134,6 +135,26 @@ fn serve_mean<A: Allocator + Clone, R: Read, W: Write>(
     }
 }
 
+/// Writes the object of the graph of the input.
+fn serve_compile<A: Allocator + Clone, R: Read, W: Write>(
+    alloc: A,
+    reader: &mut R,
+    writer: &mut W,
+) -> io::Result<u8> {
+    let Ok(room) = alloc.clone() else {
+        return refuse(writer, &Refusal::Memory);
+    };
+    let input = match read_input(room, reader) {
+        Ok(input) => input,
+        Err(fault) => return refuse(writer, &Refusal::from(fault)),
+    };
+    match write_object(alloc, &input, writer) {
+        Ok(()) => Ok(0),
+        Err(CompileRefusal::Fault(fault)) => refuse(writer, &Refusal::from(fault)),
+        Err(CompileRefusal::Write(fault)) => Err(fault),
+    }
+}
+
 /// Lists the object of the input, or writes it as version 2.
 fn serve_object<A: Allocator, R: Read, W: Write>(
     alloc: A,
@@ -185,6 +206,7 @@ fn answer<A: Allocator + Clone, S: AsStr, R: Read, W: Write>(
 ) -> io::Result<u8> {
     match parse(global, words) {
         Ok(Request::Check) => serve_check(alloc, reader, writer),
+        Ok(Request::Compile) => serve_compile(alloc, reader, writer),
         Ok(Request::Dis) => serve_object(alloc, reader, writer, false),
         Ok(Request::Upgrade) => serve_object(alloc, reader, writer, true),
         Ok(Request::Run(options)) => serve_run(alloc, &options, reader, writer),

@@ -1,3 +1,4 @@
 pub mod Seen
 pub mod Tables
 pub mod Short
+pub mod Sizes

@@ -15,15 +15,15 @@ use Rattle.element.specs.Decoded.{instr_of, IsShort}
 use Rattle.loaded.specs.Ready.{widest}
 
 -- an instruction in its block
-record Found (v : ℕ) (c : Code) (bs : List CodeBlock) (ip : ℕ) (i : Instr) : Type 0 where
-  block : CodeBlock
-  place : ℕ
-  lawful : IsCodeBlock v c block
-  here : slice_get block.instrs place ≡ Some i
-  slots : block.slots ≤ widest bs
-  below : ip < 32768 * length bs
+pub record Found (v : ℕ) (c : Code) (bs : List CodeBlock) (ip : ℕ) (i : Instr) : Type 0 where
+  pub block : CodeBlock
+  pub place : ℕ
+  pub lawful : IsCodeBlock v c block
+  pub here : slice_get block.instrs place ≡ Some i
+  pub slots : block.slots ≤ widest bs
+  pub below : ip < 32768 * length bs
 
-found : (v : ℕ) (c : Code) (bs : List CodeBlock) (ip : ℕ) (i : Instr) → All (IsCodeBlock v c) bs → instr_from bs ip ≡ Some i → Found v c bs ip i
+pub found : (v : ℕ) (c : Code) (bs : List CodeBlock) (ip : ℕ) (i : Instr) → All (IsCodeBlock v c) bs → instr_from bs ip ≡ Some i → Found v c bs ip i
 found v c [] ip i all h = cc
 found v c (b ∷ bs) ip i all h = by (nat_lt ip (length b.instrs)) refl h (found v c bs (ip - length b.instrs) i (All-tail (IsCodeBlock v c) b bs all))
   where
@@ -42,7 +42,7 @@ found v c (b ∷ bs) ip i all h = by (nat_lt ip (length b.instrs)) refl h (found
         let slots = rest.slots in
         record { block = rest.block; place = rest.place; lawful = rest.lawful; here = rest.here; slots = omega arith; below = omega arith }
 
-low_slot : (c : CodeBlock) (i : Instr) (op : Op) (width : ℕ) → IsSlot c i (slot_of i op) → c.slots ≤ width → 1 ≤ width → i.slot < width
+pub low_slot : (c : CodeBlock) (i : Instr) (op : Op) (width : ℕ) → IsSlot c i (slot_of i op) → c.slots ≤ width → 1 ≤ width → i.slot < width
 low_slot c i (Apply1 op) width h few some = omega (arith, h, few, some)
 low_slot c i (Apply2 op) width h few some = omega (arith, h, few, some)
 low_slot c i (Apply2Right op z) width h few some = omega (arith, h, few, some)
@@ -64,7 +64,7 @@ low_slot c i (Give k) width h few some = omega (arith, h, few, some)
 low_slot c i (Drain k) width h few some = omega (arith, h, few, some)
 low_slot c i (Release o) width h few some = omega (arith, h, few, some)
 
-some_width : (bs : List CodeBlock) → 1 ≤ widest bs
+pub some_width : (bs : List CodeBlock) → 1 ≤ widest bs
 some_width [] = omega arith
 some_width (b ∷ bs) = let rest = some_width bs in omega arith
 

@@ -1,12 +1,13 @@
 //! An opened object made ready to be run: where its blocks begin and where its arrays lie are looked up, not counted anew.
 #![tactic(auto)]
 
-ghost use Rattle.std.specs.Prelude.{◌≡◌, ◌≤◌, length, sum, IfOk};
+ghost use Rattle.std.specs.Prelude.{◌≡◌, ◌≤◌, ◌<◌, length, sum, IfOk};
 ghost use Rattle.std.specs.Option.{option_map};
 ghost use Rattle.semantics.specs.Program.{first_of};
 ghost use Rattle.semantics.specs.Machine.{outputs_of};
 ghost use Rattle.element.specs.Decoded.{instr_of};
 ghost use Rattle.object_view.specs.Reading.{shown};
+ghost use Rattle.schedule.specs.Setting.{FitsSlots};
 ghost use Rattle.loaded.specs.Ready.{widest, inputs_of};
 
 mod making;
@@ -16,6 +17,7 @@ mod tests;
 use element::instructions::{Array, Instruction, Instructions};
 use making::{arrays_of, cells_of, entries_of, most_slots};
 use object_view::{CodeInstr, Object};
+use schedule::main_code::MainCode;
 use std::alloc::{AllocError, Allocator};
 use std::marker::Model;
 
@@ -95,7 +97,8 @@ impl<'a, A: Allocator> Loaded<'a, A> {
 
     /// How many inputs the block that is run has.
     pub fn main_inputs(&self) -> u32
-        ensures { result ≡ inputs_of self.now.code.program }
+        ensures exact { result ≡ inputs_of self.now.code.program }
+        ensures few { result ≤ 16 }
     {
         match self.object.block(self.object.main()) {
             Some(block) => block.inputs,
@@ -105,7 +108,8 @@ impl<'a, A: Allocator> Loaded<'a, A> {
 
     /// How many outputs the block that is run has.
     pub fn main_outputs(&self) -> u32
-        ensures { result ≡ outputs_of self.now.code.program }
+        ensures exact { result ≡ outputs_of self.now.code.program }
+        ensures few { result ≤ 16 }
     {
         match self.object.block(self.object.main()) {
             Some(block) => block.outputs,
@@ -123,7 +127,10 @@ impl<'a, A: Allocator> Loaded<'a, A> {
 
     /// The most slots of any block, and at least 1.
     pub fn slot_count(&self) -> u32
-        ensures { result ≡ widest self.now.code.program.blocks }
+        ensures exact { result ≡ widest self.now.code.program.blocks }
+        ensures some { 0 < result }
+        ensures few { result ≤ 512 }
+        ensures fits { FitsSlots self.now.code.program result }
     {
         self.slots
     }
@@ -156,5 +163,31 @@ impl<'a, A: Allocator> Instructions for Loaded<'a, A> {
                 len: 0,
             },
         }
+    }
+}
+
+impl<'a, A: Allocator> MainCode for Loaded<'a, A> {
+    fn inputs(&self) -> u32 {
+        self.main_inputs()
+    }
+
+    fn outputs(&self) -> u32 {
+        self.main_outputs()
+    }
+
+    fn main_entry(&self) -> u32 {
+        self.entry(self.object.main() as u16)
+    }
+
+    fn arrays(&self) -> u8 {
+        self.object.array_count() as u8
+    }
+
+    fn cells(&self) -> u32 {
+        self.cell_count()
+    }
+
+    fn slots(&self) -> u32 {
+        self.slot_count()
     }
 }

@@ -64,7 +64,7 @@ block 0 inputs 2 outputs 1 slots 3
 ";
 
 /// The object that adds, with other bytes at these places.
-fn changed(alloc: Global, changes: &[(usize, u8)]) -> Result<Vec<u8>, Fail> {
+pub fn changed(alloc: Global, changes: &[(usize, u8)]) -> Result<Vec<u8>, Fail> {
     let mut bytes = ADD.to_vec(alloc)?;
     for (place, byte) in changes {
         if let Some(old) = bytes.get_mut(*place) {

@@ -2,9 +2,9 @@
 
 ghost use Rattle.std.specs.Prelude.{◌<◌, All, IfOk};
 
-use driver::emulation::compile;
+use driver::compiling::compile;
+use driver::emulation::emulate_object_picks;
 use schedule::config::Config;
-use schedule::machine::Machine;
 use semantics::report::End;
 use std::alloc::{AllocError, Global};
 use std::test::Fail;
@@ -50,13 +50,14 @@ fn orders(rt: HostRuntime) -> Result<(), Fail> {
         let compiled = compile(rt.alloc(), text).map_err(|_| "compiled")?;
         for seed in 0..100u64 {
             let picks = picks(rt.alloc(), seed)?;
-            let machine = Machine::start(
+            let report = emulate_object_picks(
                 rt.alloc(),
-                &compiled.program,
+                &compiled.object,
                 inputs.as_slice(),
                 CONFIG,
-            ).map_err(|_| "started")?;
-            let report = machine.run(&picks);
+                &picks,
+            )
+            .map_err(|_| "a report")?;
             assert_eq!(rt; report.end, End::Rest);
             assert_eq!(rt; report.frames_out, 0);
             assert_eq!(rt; report.outputs.as_slice().len(), wanted.len());

@@ -1,110 +1,87 @@
--- What is held before the first event.
-use Rattle.std.proofs.Common.{◌≡◌, refl, sym, ◌∙◌, ap, subst, ℕ, zero, suc, ◌+◌, ◌<◌, ◌≤◌, ◌^◌, lit<, Bool, true, false, ℤ, List, [], ◌∷◌, ◌++◌, length, get_or, take, replicate, Option, Some, None, arith}
-use Rattle.std.proofs.lemmas.List.{length-take-le, length-replicate}
-use Rattle.std.specs.Prelude.{All, slice_get, ◌==◌, if◌then◌else◌}
-use Rattle.std.specs.List.Sorted.{IsPermutation}
-use Rattle.std.proofs.lemmas.List.{take_more}
-use Rattle.std.proofs.lemmas.List.Elements.{All-nil, All-cons, All-replicate}
-use Rattle.std.proofs.lemmas.List.Sorted.{IsPermutation-refl}
+-- Lanes before the first event.
+use Rattle.std.proofs.Common.{◌≡◌, refl, sym, ◌∙◌, ap, subst, ℕ, zero, suc, ◌+◌, ◌-◌, ◌*◌, ◌<◌, ◌≤◌, List, length, take, drop, replicate, Option, Some, None, Result, arith}
+use Rattle.std.specs.Prelude.{All, sum, IfOk}
+use Rattle.std.proofs.Math.Nat.{one-le-mul, suc-mul}
+use Rattle.std.proofs.lemmas.List.{length-replicate, take-replicate, drop-replicate}
+use Rattle.std.proofs.lemmas.List.Elements.{All-replicate}
 use Rattle.tags.specs.declared.value.Value.{Value}
-use Rattle.tags.specs.declared.value.Value.TheVariants.{Int}
-use Rattle.tags.specs.declared.token.Port.TheVariants.{Left}
-use Rattle.tags.specs.declared.token.Cont.{Cont}
-use Rattle.tags.specs.declared.token.Word.{Word}
-use Rattle.tags.specs.declared.token.To.{To}
-use Rattle.tags.specs.declared.token.Token.{Token}
 use Rattle.tags.specs.declared.slot.SlotState.{SlotState}
 use Rattle.tags.specs.declared.slot.SlotState.TheVariants.{Empty}
-use Rattle.semantics.specs.Program.{CodeBlock, Program, first_of}
-use Rattle.semantics.specs.Rule.{token}
-use Rattle.semantics.specs.Machine.{Machine, Store, Events, Vacant, Run, input_tokens, at_start, outputs_of, results_in}
-use Rattle.schedule.specs.Straight.{IsStraightProgram, IsNearToken, IsNearSlot, inputs_of, inputs_in}
-use Rattle.schedule.specs.Held.{Held, store_of, opening}
-use Rattle.schedule.specs.State.{State, size, machine_of, IsSound}
-use Rattle.schedule.specs.Runs.{Began}
+use Rattle.semantics.specs.Program.{Program}
+use Rattle.semantics.specs.Machine.{outputs_of}
+use Rattle.istructure.specs.OwnCells.{OwnCells, all_vacant}
+use Rattle.frame_manager.specs.Managed.{Managed, at_first}
+use Rattle.element.specs.Parts.{Shape}
+use Rattle.element.specs.Held.{Held, IsSoundLane}
+use Rattle.element.specs.Openings.{opened, IsOpening, StartsAs}
+use Rattle.schedule.specs.Starts.{IsFresh, sized}
 
-inputs_push : (ip : ℕ) (xs : List ℤ) (x : ℤ) → input_tokens ip (xs ++ x ∷ []) ≡ input_tokens ip xs ++ token (To.Instr 0 (ip + length xs) Left) (Word.Val (Int x)) ∷ []
-inputs_push ip [] x = let e : ip ≡ ip + 0 = omega arith in ap (λ (n : ℕ). token (To.Instr 0 n Left) (Word.Val (Int x)) ∷ []) e
-inputs_push ip (y ∷ ys) x =
-    let e : (ip + 1) + length ys ≡ ip + suc (length ys) = omega arith in
-    ap (λ (ts : List Token). token (To.Instr 0 ip Left) (Word.Val (Int y)) ∷ ts)
-    (inputs_push (ip + 1) ys x ∙ ap (λ (n : ℕ). input_tokens (ip + 1) ys ++ token (To.Instr 0 n Left) (Word.Val (Int x)) ∷ []) e)
+pub both_ok : {X Y : Type 0} (r : Result X Y) (P Q R : X → Type 0) → ((x : X) → P x → Q x → R x) → IfOk r P → IfOk r Q → IfOk r R
+both_ok (Result.Ok x) P Q R f p q = f x p q
+both_ok (Result.Err e) P Q R f p q = tt
 
--- one more input
-pub opening_more : (first ip i : ℕ) (inputs : List ℤ) (x : ℤ) → i < length inputs → x ≡ get_or inputs i x → ip ≡ first + i
-    → (opening first 0 (take i inputs)).queue ++ token (To.Instr 0 (ip + 1) Left) (Word.Val (Int x)) ∷ [] ≡ (opening first 0 (take (i + 1) inputs)).queue
-opening_more first ip i inputs x low is ip_is =
-    let count : length (take i inputs) ≡ i = length-take-le i inputs (omega arith) in
-    let number : ip + 1 ≡ (first + 1) + length (take i inputs) = omega arith in
-    let taken : take (i + 1) inputs ≡ take i inputs ++ x ∷ [] = take_more inputs i x low ∙ ap (λ (y : ℤ). take i inputs ++ y ∷ []) (sym is) in
-    ap (λ (ts : List Token). token (To.Instr 0 first Left) (Word.Back (Cont.Host 0)) ∷ ts)
-    (ap (λ (n : ℕ). input_tokens (first + 1) (take i inputs) ++ token (To.Instr 0 n Left) (Word.Val (Int x)) ∷ []) number
-    ∙ sym (inputs_push (first + 1) (take i inputs) x)
-    ∙ ap (λ (xs : List ℤ). input_tokens (first + 1) xs) (sym taken))
+module _ (p : Program) (z : Shape) (states : List SlotState) (cells : OwnCells) (manager : Option Managed) (outputs : ℕ) (h : Held) (is : h ≡ opened z states cells manager outputs) where
+  shape_is : h.part.shape ≡ z
+  shape_is = ap (λ (x : Held). x.part.shape) is
 
--- THE STORE AT THE START
-agree : {A : Type 0} {f g : ℕ → A} → ((x : ℕ) → f x ≡ g x) → f ≡ g
-agree h = λ i x. h x i
+  opening : z.element < z.elements → 0 < z.frames → z.start + z.frames * z.width ≤ length states → All (λ (s : SlotState). s ≡ Empty) states
+      → cells ≡ all_vacant (sum p.arrays) z.element z.elements → (z.element ≡ 0 → manager ≡ Some (at_first (z.elements * z.frames))) → outputs ≡ outputs_of p → IsOpening p h.part
+  opening there frames bank empty cells_are manager_is outputs_are =
+      let some : 1 ≤ z.elements * z.frames = one-le-mul {a = z.elements} {b = z.frames} (omega arith) (omega arith) in
+      subst (λ (x : Held). IsOpening p x.part) (sym is) (record {
+        there = there;
+        some = some;
+        bank = bank;
+        empty = empty;
+        cells = cells_are;
+        manager = manager_is;
+        outputs = λ first. length-replicate outputs None ∙ outputs_are;
+        none = All-replicate (λ (o : Option Value). o ≡ None) outputs None refl;
+        done = refl;
+      })
 
-all_same : {A : Type 0} (n i : ℕ) (d : A) → get_or (replicate n d) i d ≡ d
-all_same zero i d = refl
-all_same (suc n) zero d = refl
-all_same (suc n) (suc i) d = all_same n i d
+  pub fresh : ((q : Program) → IsOpening q h.part → IsSoundLane q h × StartsAs q h.part) → z.element < z.elements → 0 < z.frames → z.start + z.frames * z.width ≤ length states → All (λ (s : SlotState). s ≡ Empty) states
+      → cells ≡ all_vacant (sum p.arrays) z.element z.elements → (z.element ≡ 0 → manager ≡ Some (at_first (z.elements * z.frames))) → outputs ≡ outputs_of p
+      → IsFresh (sized p z.elements z.frames z.width 0) z.element h
+  fresh opens there frames bank empty cells_are manager_is outputs_are =
+      let both = opens p (opening there frames bank empty cells_are manager_is outputs_are) in
+      record {
+        element = ap (λ (x : Shape). x.element) shape_is;
+        elements = ap (λ (x : Shape). x.elements) shape_is;
+        frames = ap (λ (x : Shape). x.frames) shape_is;
+        width = ap (λ (x : Shape). x.width) shape_is;
+        sound = both.0;
+        starts = both.1;
+        queue = ap (λ (x : Held). x.queue) is;
+        made = ap (λ (x : Held). x.made) is;
+      }
 
-same_arms : {A : Type 0} (t : Bool) (x y : A) → x ≡ y → (if t then x else y) ≡ y
-same_arms true x y e = e
-same_arms false x y e = refl
+-- SO MANY BANKS
+pub at_least : (k s : ℕ) → 0 < k → s ≤ k * s
+at_least zero s some = absurd (omega arith)
+at_least (suc j) s some = let e : suc j * s ≡ j * s + s = suc-mul j s in omega (arith, e)
 
-is_it : (t : Bool) → (if t then true else false) ≡ t
-is_it true = refl
-is_it false = refl
+one_less : (k s : ℕ) → 0 < k → k * s - s ≡ (k - 1) * s
+one_less zero s some = absurd (omega arith)
+one_less (suc j) s some =
+    let e : suc j * s ≡ j * s + s = suc-mul j s in
+    let f : suc j - 1 ≡ j = omega arith in
+    let g : (suc j - 1) * s ≡ j * s = ap (λ (n : ℕ). n * s) f in
+    omega (arith, e, g)
 
-start_store : (first outputs : ℕ) (inputs : List ℤ) (p : Program) → store_of (opening first outputs inputs) ≡ (at_start p inputs).store
-start_store first outputs inputs p =
-    let store : (ℕ → ℕ → SlotState) → (ℕ → Bool) → (ℕ → Option Value) → Store = λ slots out filled. record { slots = slots; cells = λ x. Vacant; out = out; requests = []; outputs = filled; done = false } in
-    let slots_are = agree (λ (f : ℕ). agree (λ (r : ℕ). same_arms (f == 0) (get_or (replicate 512 Empty) r Empty) Empty (all_same 512 r Empty))) in
-    let outs_are = agree (λ (f : ℕ). is_it (f == 0)) in
-    let outputs_are = agree (λ (j : ℕ). all_same {A = Option Value} outputs j None) in
-    ap (λ s. store s (store_of (opening first outputs inputs)).out (store_of (opening first outputs inputs)).outputs) slots_are
-    ∙ ap (λ o. store (λ f r. Empty) o (store_of (opening first outputs inputs)).outputs) outs_are
-    ∙ ap (λ f. store (λ f r. Empty) (λ f. f == 0) f) outputs_are
+pub bank_states_are : (k s : ℕ) (states left : List SlotState) → 0 < k → left ≡ replicate (k * s) Empty → states ≡ take s left → states ≡ replicate s Empty
+bank_states_are k s states left some left_is is = is ∙ ap (λ (l : List SlotState). take s l) left_is ∙ take-replicate s (k * s) Empty (at_least k s some)
 
-pub start_machine : (s : State) (p : Program) (inputs : List ℤ) (outputs : ℕ) → s.held ≡ opening (first_of p p.main) outputs inputs → machine_of s ≡ at_start p inputs
-start_machine s p inputs outputs held_is =
-    ap (λ (h : Held). let m : Machine = record { store = store_of h; pool = h.queue } in m) held_is
-    ∙ ap (λ (st : Store). let m : Machine = record { store = st; pool = (at_start p inputs).pool } in m) (start_store (first_of p p.main) outputs inputs p)
+pub banks_left : (n e s : ℕ) (left new : List SlotState) → e < n → left ≡ replicate ((n - e) * s) Empty → new ≡ drop s left → new ≡ replicate ((n - (e + 1)) * s) Empty
+banks_left n e s left new low left_is is =
+    let some : 0 < n - e = omega arith in
+    let less : (n - e) * s - s ≡ (n - e - 1) * s = one_less (n - e) s some in
+    let count : n - e - 1 ≡ n - (e + 1) = omega arith in
+    is ∙ ap (λ (l : List SlotState). drop s l) left_is ∙ drop-replicate s ((n - e) * s) Empty ∙ ap (λ (m : ℕ). replicate m Empty) (less ∙ ap (λ (m : ℕ). m * s) count)
 
-pub began_at_start : (s : State) (inputs : List ℤ) → machine_of s ≡ at_start s.program inputs → s.held.events ≡ [] → Began inputs s
-began_at_start s inputs machine_is none =
-    subst (λ evs. Run s.program (size s) (at_start s.program inputs) evs (machine_of s)) (sym none)
-    (subst (λ (xs : List Token). IsPermutation (at_start s.program inputs).pool xs) (sym (ap (λ (m : Machine). m.pool) machine_is)) (IsPermutation-refl (at_start s.program inputs).pool), ap (λ (m : Machine). m.store) machine_is)
-
-inputs_near : (ip : ℕ) (xs : List ℤ) → All IsNearToken (input_tokens ip xs)
-inputs_near ip [] = All-nil IsNearToken
-inputs_near ip (x ∷ xs) = All-cons IsNearToken (token (To.Instr 0 ip Left) (Word.Val (Int x))) (input_tokens (ip + 1) xs) (record { to = refl; word = tt }) (inputs_near (ip + 1) xs)
-
-pub start_sound : (p : Program) (frames steps first outputs : ℕ) (inputs : List ℤ) (held : Held) → IsStraightProgram p → 0 < frames → steps ≤ 2 ^ 32 → outputs ≡ outputs_of p
-    → held ≡ opening first outputs inputs → IsSound (record { program = p; frames = frames; steps = steps; held = held })
-start_sound p frames steps first outputs inputs held straight some low outputs_are held_is =
-    subst (λ (h : Held). IsSound (record { program = p; frames = frames; steps = steps; held = h })) (sym held_is) (record {
-      straight = straight;
-      frames = some;
-      steps = low;
-      held = record {
-        tokens = All-cons IsNearToken (token (To.Instr 0 first Left) (Word.Back (Cont.Host 0))) (input_tokens (first + 1) inputs) (record { to = refl; word = lit< tt }) (inputs_near (first + 1) inputs);
-        slots = All-replicate IsNearSlot 512 Empty tt;
-        slot_count = length-replicate 512 Empty;
-        output_count = length-replicate outputs None ∙ outputs_are;
-      };
-      events = All-nil (λ (ev : ℕ × Token). ev.0 ≡ 0);
-      event_count = omega arith;
-    })
-
--- what main says
-pub main_says : (p : Program) (b : CodeBlock) → slice_get p.blocks p.main ≡ Some b → (inputs_of p ≡ b.inputs) × (outputs_of p ≡ b.outputs)
-main_says p b e = (ap inputs_in e, ap results_in e)
-
-pub held_opens : (first outputs : ℕ) (inputs : List ℤ) (queue : List Token) (slots : List SlotState) (filled : List (Option Value)) (events : Events)
-    → queue ≡ (opening first 0 inputs).queue → slots ≡ replicate 512 Empty → filled ≡ replicate outputs None → events ≡ []
-    → (let h : Held = record { queue = queue; slots = slots; out = true; outputs = filled; done = false; events = events } in h) ≡ opening first outputs inputs
-held_opens first outputs inputs queue slots filled events queue_is slots_are outputs_are none = λ i. record { queue = queue_is i; slots = slots_are i; out = true; outputs = outputs_are i; done = false; events = none i }
+pub banks_come : (n e s : ℕ) (left : List SlotState) → e < n → left ≡ replicate ((n - e) * s) Empty → s ≤ length left
+banks_come n e s left low left_is =
+    let some : 0 < n - e = omega arith in
+    let least = at_least (n - e) s some in
+    let count : length left ≡ (n - e) * s = ap (λ (l : List SlotState). length l) left_is ∙ length-replicate ((n - e) * s) Empty in
+    omega arith

@@ -1,105 +1,159 @@
--- A run's report shows a run.
-use Rattle.std.proofs.Common.{◌≡◌, refl, sym, ◌∙◌, ap, subst, ℕ, ◌+◌, ◌<◌, ◌⊎◌, inl, inr, Bool, true, false, ℤ, List, [], ◌∷◌, length, get_or, drop, Option, arith}
-use Rattle.std.specs.Prelude.{All, Contains, count_by, ◌==◌, if◌then◌else◌}
-use Rattle.std.proofs.lemmas.List.{drop_more}
-use Rattle.std.proofs.lemmas.List.Elements.{All-head, All-tail}
-use Rattle.std.proofs.lemmas.List.Sums.{sum_by-cons}
-use Rattle.std.proofs.lemmas.Option.{get_or_from_slice_get}
+-- A report shows a run.
+use Rattle.std.proofs.Common.{◌≡◌, refl, sym, ◌∙◌, ap, subst, ℕ, zero, suc, ◌<◌, ◌≤◌, ◌⊎◌, inl, inr, Bool, false, ℤ, List, [], ◌∷◌, ◌++◌, length, Some, arith, ⊎_elim}
+use Rattle.std.specs.Prelude.{slice_get, count_by, Contains, ◌==◌}
 use Rattle.std.proofs.Math.Nat.{mod-lt}
+use Rattle.std.proofs.lemmas.Bool.{cases_lt}
+use Rattle.std.proofs.lemmas.List.{nil_from_length}
+use Rattle.std.proofs.lemmas.List.Elements.{Contains-append_left, Contains-append_right}
+use Rattle.std.proofs.lemmas.List.Sorted.{IsPermutation-sym, Contains-permutation, length_permutation}
+use Rattle.std.proofs.lemmas.Option.{get_or_from_slice_get}
+use Rattle.tags.specs.declared.token.Cont.{Cont}
+use Rattle.tags.specs.declared.token.To.{To}
 use Rattle.tags.specs.declared.token.Token.{Token}
+use Rattle.tags.specs.declared.slot.SlotState.{SlotState}
+use Rattle.tags.specs.declared.slot.SlotState.TheVariants as slot
 use Rattle.tags.specs.Addresses.{element_of}
 use Rattle.semantics.specs.declared.report.End.{End}
-use Rattle.semantics.specs.Program.{Program}
-use Rattle.semantics.specs.Machine.{Size, Events, Wants, Run, at_start}
-use Rattle.semantics.specs.Report.{Report, HasEnd, HasTokenFor, Shows}
-use Rattle.schedule.specs.declared.config.Stepped.{Stepped}
-use Rattle.schedule.specs.Straight.{IsNearToken, IsNearSlot}
-use Rattle.schedule.specs.State.{State, size, machine_of, IsSound}
-use Rattle.schedule.specs.Steps.{place_of, IsStuck, IsUsedUp, Steps}
-use Rattle.schedule.specs.Runs.{Began, EndsLeft, Goes, Plays, Tells}
-use Rattle.schedule.proofs.Pictures.{all_near}
-use Rattle.schedule.proofs.Stepping.{near_address}
+use Rattle.semantics.specs.Machine.{Machine, Store, Events, Wants, stuck_rule}
+use Rattle.semantics.specs.Report.{Report, IsPicture, Shows, HasEnd, HasTokenFor, sum_below, waiters}
+use Rattle.semantics.specs.Faithful.{HasStoreOfFull}
+use Rattle.element.specs.Parts.{IsPart}
+use Rattle.element.specs.Held.{Held}
+use Rattle.element.specs.Steps as one
+use Rattle.element.specs.Steps.{place_of}
+use Rattle.schedule.specs.declared.halt.Halt.{Halt}
+use Rattle.schedule.specs.Setting.{Setting, size, total}
+use Rattle.schedule.specs.State.{State, AllFrom, IsPlaced, IsSoundState, Stands, tokens_in}
+use Rattle.schedule.specs.Runs.{Began, HaltsAs, EndsAs}
+use Rattle.schedule.proofs.Places.{first_get}
 
--- why a run ends
-abbrev pub EndsAs : State → Bool → End → Type 0
-EndsAs s listed End.Rest = s.held.queue ≡ []
-EndsAs s listed End.Steps = (0 < length s.held.queue) × ((listed ≡ true) ⊎ (length s.held.events ≡ s.steps))
-EndsAs s listed (End.Stuck n) = (pick : ℕ) × IsStuck s pick n
-EndsAs s listed End.Memory = Unit {0}
-EndsAs s listed end = ⊥
+in_lanes : (lanes : List Held) (i : ℕ) (h : Held) (t : Token) → slice_get lanes i ≡ Some h → Contains h.queue t → Contains (tokens_in lanes) t
+in_lanes [] i h t e c = absurd (let no : ⊥ = cc in no)
+in_lanes (x ∷ xs) zero h t e c = let same : x ≡ h = cc in Contains-append_left x.queue (tokens_in xs) t (subst (λ (y : Held). Contains y.queue t) (sym same) c)
+in_lanes (x ∷ xs) (suc i) h t e c = Contains-append_right x.queue (tokens_in xs) t (in_lanes xs i h t e c)
 
-wants_nothing : (s : State) → IsSound s → Wants (machine_of s) → ⊥
-wants_nothing s sound (inl asks) = asks refl
-wants_nothing s sound (inr (f, r, k, waits)) = subst IsNearSlot waits (all_near s.held.slots sound.held.slots f r)
+in_pool : (s : State) (m : Machine) (i : ℕ) (h : Held) (t : Token) → Stands s m → slice_get s.lanes i ≡ Some h → Contains h.queue t → Contains m.pool t
+in_pool s m i h t stands e c = Contains-permutation (tokens_in s.lanes) m.pool t (IsPermutation-sym m.pool (tokens_in s.lanes) stands.tokens) (in_lanes s.lanes i h t e c)
 
-has_token : (z : Size) (s : State) → z.elements ≡ 1 → IsSound s → 0 < length s.held.queue → HasTokenFor z 0 (machine_of s)
-has_token z s one sound some = go s.held.queue sound.held.tokens some
+pub picked : (h : Held) (pick : ℕ) (t : Token) → one.Picks h pick t → Contains h.queue t
+picked h pick t p = (place_of h pick, mod-lt pick p.some, get_or_from_slice_get h.queue (place_of h pick) t t p.token)
+
+first_in : (q : List Token) → 0 < length q → (t : Token) × Contains q t
+first_in [] some = absurd (omega arith)
+first_in (t ∷ ts) some = (t, (0, some, refl))
+
+lane_with : (lanes : List Held) → 0 < length (tokens_in lanes) → (i : ℕ) × (h : Held) × (slice_get lanes i ≡ Some h) × (0 < length h.queue)
+lane_with [] some = absurd (omega arith)
+lane_with (x ∷ xs) some = by_queue (cases_lt 0 (length x.queue)) (λ (l : 0 < length (tokens_in xs)). lane_with xs l)
   where
-    go : (q : List Token) → All IsNearToken q → 0 < length q → (t : Token) × Contains q t × (element_of z.elements t.to ≡ 0)
-    go [] all l = absurd (omega arith)
-    go (t ∷ ts) all l = (t, (0, l, refl), subst (λ (n : ℕ). element_of n t.to ≡ 0) (sym one) (near_address t.to (All-head IsNearToken t ts all).to))
+    by_queue : (0 < length x.queue) ⊎ (length x.queue ≤ 0) → (0 < length (tokens_in xs) → (i : ℕ) × (h : Held) × (slice_get xs i ≡ Some h) × (0 < length h.queue)) → (i : ℕ) × (h : Held) × (slice_get (x ∷ xs) i ≡ Some h) × (0 < length h.queue)
+    by_queue (inl l) rest = (0, x, refl, l)
+    by_queue (inr l) rest =
+        let none : length x.queue ≡ 0 = omega arith in
+        let empty : x.queue ≡ [] = nil_from_length x.queue none in
+        let later = rest (subst (λ (q : List Token). 0 < length (q ++ tokens_in xs)) empty some) in
+        (suc later.0, later.1, later.2, later.3)
 
-count_all : (evs : Events) → All (λ (ev : ℕ × Token). ev.0 ≡ 0) evs → count_by (λ (ev : ℕ × Token). ev.0 == 0) evs ≡ length evs
-count_all [] all = refl
-count_all (ev ∷ evs) all =
-    let p : ℕ × Token → ℕ = λ x. if x.0 == 0 then 1 else 0 in
-    let step : count_by (λ (x : ℕ × Token). x.0 == 0) (ev ∷ evs) ≡ p ev + count_by (λ (x : ℕ × Token). x.0 == 0) evs = sum_by-cons p ev evs in
-    let one : p ev ≡ 1 = subst (λ (n : ℕ). let m : ℕ = (if n == 0 then 1 else 0) in m ≡ 1) (sym (All-head (λ (x : ℕ × Token). x.0 ≡ 0) ev evs all)) refl in
-    let rest : count_by (λ (x : ℕ × Token). x.0 == 0) evs ≡ length evs = count_all evs (All-tail (λ (x : ℕ × Token). x.0 ≡ 0) ev evs all) in
-    omega (arith, step, one, rest)
+pool_empty : (s : State) (m : Machine) → Stands s m → tokens_in s.lanes ≡ [] → m.pool ≡ []
+pool_empty s m stands none =
+    let e : length (tokens_in s.lanes) ≡ length m.pool = stands_length in
+    let z : length (tokens_in s.lanes) ≡ 0 = ap (λ (ts : List Token). length ts) none in
+    nil_from_length m.pool (omega arith)
+  where
+    stands_length : length (tokens_in s.lanes) ≡ length m.pool
+    stands_length = length_permutation m.pool (tokens_in s.lanes) stands.tokens
 
-stuck_token : (s : State) (pick n : ℕ) → (st : IsStuck s pick n) → Contains s.held.queue st.token
-stuck_token s pick n st = (place_of s pick, mod-lt pick st.picks.some, get_or_from_slice_get s.held.queue (place_of s pick) st.token st.token st.picks.token)
+-- WAITING REQUESTS
+sum_none : (n : ℕ) (f : ℕ → ℕ) → sum_below n f ≡ 0 → (x : ℕ) → x < n → f x ≡ 0
+sum_none zero f e x low = absurd (omega arith)
+sum_none (suc n) f e x low = by_place (cases_lt x n) (λ (l : x < n). sum_none n f (omega arith) x l)
+  where
+    by_place : (x < n) ⊎ (n ≤ x) → (x < n → f x ≡ 0) → f x ≡ 0
+    by_place (inl l) rest = rest l
+    by_place (inr l) rest = let same : x ≡ n = omega arith in let z : f n ≡ 0 = omega arith in ap f same ∙ z
 
-has_end : (s : State) (listed : Bool) (end : End) → IsSound s → EndsAs s listed end → HasEnd s.program (size s) s.steps listed false s.held.events (machine_of s) end
-has_end s listed End.Rest sound ends = (ends, wants_nothing s sound)
-has_end s listed End.Steps sound (some, inl e) = inr (e, (0, has_token (size s) s refl sound some))
-has_end s listed End.Steps sound (some, inr e) = inl (0, count_all s.held.events sound.events ∙ e, has_token (size s) s refl sound some)
-has_end s listed (End.Stuck n) sound (pick, st) = (st.token, stuck_token s pick n st, st.excluded)
-has_end s listed End.Memory sound ends = tt
-has_end s listed End.Starved sound ends = absurd ends
-has_end s listed (End.Clash a i) sound ends = absurd ends
-has_end s listed End.Stop sound ends = absurd ends
+sum_some : (n : ℕ) (f : ℕ → ℕ) → 0 < sum_below n f → (x : ℕ) × (x < n) × (0 < f x)
+sum_some zero f some = absurd (omega arith)
+sum_some (suc n) f some = by_last (cases_lt 0 (f n)) (λ (l : 0 < sum_below n f). sum_some n f l)
+  where
+    by_last : (0 < f n) ⊎ (f n ≤ 0) → (0 < sum_below n f → (x : ℕ) × (x < n) × (0 < f x)) → (x : ℕ) × (x < suc n) × (0 < f x)
+    by_last (inl l) rest = (n, omega arith, l)
+    by_last (inr l) rest = let r = rest (omega arith) in let low : r.0 < n = r.1 in (r.0, omega arith, r.2)
 
-pub shows_here : (s : State) (inputs : List ℤ) (listed : Bool) (r : Report) → IsSound s → Began inputs s → Tells s r → EndsAs s listed r.end → Shows s.program (size s) inputs s.steps listed false r
-shows_here s inputs listed r sound began told ends = record {
-  last = machine_of s;
-  run = subst (λ (evs : Events). Run s.program (size s) (at_start s.program inputs) evs (machine_of s)) (sym told.events) began;
-  picture = told.picture;
-  ends = subst (λ (evs : Events). HasEnd s.program (size s) s.steps listed false evs (machine_of s) r.end) (sym told.events) (has_end s listed r.end sound ends);
-}
+waits_some : (v : SlotState) → 0 < waiters v → (c : Cont) × (v ≡ slot.Waiter c)
+waits_some slot.Empty l = absurd (omega arith)
+waits_some (slot.Left w) l = absurd (omega arith)
+waits_some (slot.Right w) l = absurd (omega arith)
+waits_some (slot.Credits k) l = absurd (omega arith)
+waits_some (slot.Waiter c) l = (c, refl)
+waits_some (slot.Draining k) l = absurd (omega arith)
 
--- the same of the machine that the run began with
-pub shows_as : (s0 s : State) (inputs : List ℤ) (listed : Bool) (r : Report) → s.program ≡ s0.program → size s ≡ size s0 → s.steps ≡ s0.steps
-    → IsSound s → Began inputs s → Tells s r → EndsAs s listed r.end → Shows s0.program (size s0) inputs s0.steps listed false r
-shows_as s0 s inputs listed r program_is size_is steps_is sound began told ends =
-    let here = shows_here s inputs listed r sound began told ends in
-    let a = subst (λ (p : Program). Shows p (size s) inputs s.steps listed false r) program_is here in
-    let b = subst (λ (z : Size). Shows s0.program z inputs s.steps listed false r) size_is a in
-    subst (λ (n : ℕ). Shows s0.program (size s0) inputs n listed false r) steps_is b
+module _ (s : State) (m : Machine) (r : Report) (sound : IsSoundState s) (stands : Stands s m) (picture : IsPicture s.setting.program (size s.setting) m r) where
+  abbrev g : Setting
+  g = s.setting
 
--- ONE STEP OF A RUN. What is left of the list gives the whole, one entry on
-pub run_more : (picks : List (ℕ × ℕ)) (k : ℕ) (d : ℕ × ℕ) (s0 s next last : State) (end : End) (answer : Option Stepped) → k < length picks
-    → ((u : State) (e : End) → Plays (drop k picks) s u e → Plays picks s0 u e)
-    → Steps s (get_or picks k d).1 answer next → Goes answer next last end (Plays (drop (k + 1) picks) next last end) → Plays picks s0 last end
-run_more picks k d s0 s next last end answer low all stepped goes =
-    all last end (subst (λ (ps : List (ℕ × ℕ)). Plays ps s last end) (sym (drop_more picks k d low)) (answer, next, stepped, goes))
+  none_wait : r.waiting_frames ≡ 0 → r.waiting_credits ≡ 0 → Wants m → ⊥
+  none_wait frames credits (inl asks) = asks (nil_from_length m.store.requests (sym picture.waiting_frames ∙ frames))
+  none_wait frames credits (inr (f, k, c, waits)) = ⊎_elim
+      (λ (low : f < total g). ⊎_elim
+      (λ (within : k < 512).
+      let outer = sum_none (total g) (λ x. sum_below 512 (λ y. waiters (m.store.slots x y))) (sym picture.waiting_credits ∙ credits) f low in
+      let inner : waiters (m.store.slots f k) ≡ 0 = sum_none 512 (λ y. waiters (m.store.slots f y)) outer k within in
+      let one_waits : waiters (m.store.slots f k) ≡ 1 = ap (λ (v : SlotState). waiters v) waits in
+      absurd (omega arith))
+      (λ (past : 512 ≤ k). beyond (λ l w. let few = sound.setting.few_slots in absurd (omega arith)))
+      (cases_lt k 512))
+      (λ (past : total g ≤ f). beyond (λ l w. absurd (omega arith)))
+      (cases_lt f (total g))
+    where
+      beyond : (f < total g → k < g.width → ⊥) → ⊥
+      beyond out = let empty = stands.bounded.slots f k out in let no : ⊥ = cc in no
 
--- HOW IT ENDS
-pub idle_ends : (old new : State) (end : End) (listed : Bool) → (old.held.queue ≡ []) × (new ≡ old) → end ≡ End.Rest → EndsAs new listed end
-idle_ends old new end listed (none, same) e = subst (λ (x : End). EndsAs new listed x) (sym e) (ap (λ (s : State). s.held.queue) same ∙ none)
+  some_wait : (0 < r.waiting_frames) ⊎ (0 < r.waiting_credits) → Wants m
+  some_wait (inl l) = inl (λ none. let z : length m.store.requests ≡ 0 = ap (λ (cs : List Cont). length cs) none in let e = picture.waiting_frames in absurd (omega arith))
+  some_wait (inr l) =
+      let outer = sum_some (total g) (λ x. sum_below 512 (λ y. waiters (m.store.slots x y))) (subst (λ (n : ℕ). 0 < n) picture.waiting_credits l) in
+      let inner = sum_some 512 (λ y. waiters (m.store.slots outer.0 y)) outer.2 in
+      let waits = waits_some (m.store.slots outer.0 inner.0) inner.2 in
+      inr (outer.0, inner.0, waits.0, waits.1)
 
-pub stuck_ends : (old new : State) (pick rule : ℕ) (end : End) (listed : Bool) → IsStuck old pick rule × (new ≡ old) → end ≡ End.Stuck rule → EndsAs new listed end
-stuck_ends old new pick rule end listed (stuck, same) e = subst (λ (x : End). EndsAs new listed x) (sym e) (pick, subst (λ (s : State). IsStuck s pick rule) (sym same) stuck)
+  has_token : (i : ℕ) (h : Held) → slice_get s.lanes i ≡ Some h → 0 < length h.queue → HasTokenFor (size g) i m
+  has_token i h there some =
+      let p = first_get (IsPlaced g) s.lanes i h sound.lanes there in
+      let t = first_in h.queue some in
+      let at : element_of h.part.shape.elements t.0.to ≡ h.part.shape.element = subst (λ (u : Token). element_of h.part.shape.elements u.to ≡ h.part.shape.element) t.1.2 (p.sound.addressed t.1.0 t.0 t.1.1) in
+      (t.0, in_pool s m i h t.0 stands there t.1, ap (λ (n : ℕ). element_of n t.0.to) (sym p.elements) ∙ at ∙ p.element)
 
-pub used_ends : (old new : State) (end : End) (listed : Bool) → IsUsedUp old × (new ≡ old) → end ≡ End.Steps → EndsAs new listed end
-used_ends old new end listed (used, same) e =
-    let there : IsUsedUp new = subst (λ (s : State). IsUsedUp s) (sym same) used in
-    subst (λ (x : End). EndsAs new listed x) (sym e) (there.some, inr there.all)
+  part_of_lane : (i : ℕ) (h : Held) → slice_get s.lanes i ≡ Some h → IsPart h.part m.store
+  part_of_lane i h there = first_get (λ (k : ℕ) (x : Held). IsPart x.part m.store) s.lanes i h stands.parts there
 
-pub memory_ends : (s : State) (end : End) (listed : Bool) → end ≡ End.Memory → EndsAs s listed end
-memory_ends s end listed e = subst (λ (x : End). EndsAs s listed x) (sym e) tt
+  pub has_end : (listed : Bool) (evs : Events) (halt : Halt) → AllFrom (λ (i : ℕ) (h : Held). h.made ≡ count_by (λ (ev : ℕ × Token). ev.0 == i) evs) 0 s.lanes
+      → HaltsAs s listed halt → EndsAs g.program r halt → HasEnd g.program (size g) g.steps listed false evs m r.end
+  has_end listed evs Halt.NoToken counts none (inl (e, frames, credits)) = subst (λ (x : End). HasEnd g.program (size g) g.steps listed false evs m x) (sym e) (pool_empty s m stands none, none_wait frames credits)
+  has_end listed evs Halt.NoToken counts none (inr (e, some)) = subst (λ (x : End). HasEnd g.program (size g) g.steps listed false evs m x) (sym e) (pool_empty s m stands none, some_wait some)
+  has_end listed evs (Halt.Clash cell) counts (i, pick, (h, can, clash)) (a, k, e, array, index, is) =
+      let t : Token = clash.token in
+      let full = clash.second.full m.store (part_of_lane i h can.0.there) in
+      let as_store : t ≡ record { to = To.Store cell clash.second.value; word = t.word } = ap (λ (to : To). let u : Token = record { to = to; word = t.word } in u) clash.second.to in
+      let there : Contains m.pool record { to = To.Store cell clash.second.value; word = t.word } = subst (λ (u : Token). Contains m.pool u) as_store (in_pool s m i h t stands can.0.there (picked h pick t clash.picks)) in
+      subst (λ (x : End). HasEnd g.program (size g) g.steps listed false evs m x) (sym e) (array, index, subst (λ (x : ℕ). HasStoreOfFull m x) (sym is) (clash.second.value, full.0, t.word, there, full.1))
+  has_end listed evs Halt.Steps counts (inl (i, (h, lane, some, all))) e =
+      subst (λ (x : End). HasEnd g.program (size g) g.steps listed false evs m x) (sym e) (inl (i, sym (first_get (λ (k : ℕ) (x : Held). x.made ≡ count_by (λ (ev : ℕ × Token). ev.0 == k) evs) s.lanes i h counts lane.there) ∙ all, has_token i h lane.there some))
+  has_end listed evs Halt.Steps counts (inr (is_listed, has)) e =
+      let l = lane_with s.lanes has in
+      subst (λ (x : End). HasEnd g.program (size g) g.steps listed false evs m x) (sym e) (inr (is_listed, (l.0, has_token l.0 l.1 l.2 l.3)))
+  has_end listed evs (Halt.Stuck rule) counts (i, pick, (h, can, stuck)) e =
+      subst (λ (x : End). HasEnd g.program (size g) g.steps listed false evs m x) (sym e) (stuck.token, in_pool s m i h stuck.token stands can.0.there (picked h pick stuck.token stuck.picks), stuck.excluded m.store (part_of_lane i h can.0.there))
+  has_end listed evs Halt.Memory counts halts e = subst (λ (x : End). HasEnd g.program (size g) g.steps listed false evs m x) (sym e) tt
 
-pub left_ends : (s : State) (end : End) → EndsLeft s end → EndsAs s true end
-left_ends s end (inl (none, e)) = subst (λ (x : End). EndsAs s true x) (sym e) none
-left_ends s end (inr (some, e)) = subst (λ (x : End). EndsAs s true x) (sym e) (some, inl refl)
+-- the report of a run that halts here shows it
+pub shows_here : (inputs : List ℤ) (s : State) (evs : Events) (listed : Bool) (halt : Halt) (r : Report) → IsSoundState s → (b : Began inputs s evs) → HaltsAs s listed halt → EndsAs s.setting.program r halt → r.events ≡ evs
+    → IsPicture s.setting.program (size s.setting) b.machine r → Shows s.setting.program (size s.setting) inputs s.setting.steps listed false r
+shows_here inputs s evs listed halt r sound b halts ends told picture =
+    let end = has_end s b.machine r sound b.stands picture listed evs halt b.counts halts ends in
+    record {
+      last = b.machine;
+      run = subst (λ (l : Events). Rattle.semantics.specs.Machine.Run s.setting.program (size s.setting) (Rattle.semantics.specs.Machine.at_start s.setting.program inputs) l b.machine) (sym told) b.run;
+      picture = picture;
+      ends = subst (λ (l : Events). HasEnd s.setting.program (size s.setting) s.setting.steps listed false l b.machine r.end) (sym told) end;
+    }

@@ -1,153 +1,221 @@
--- A token's act is a step of the machine.
-use Rattle.std.proofs.Common.{◌≡◌, refl, sym, ◌∙◌, ap, subst, ℕ, ◌+◌, ◌*◌, ◌<◌, ℤ, List, [], ◌∷◌, ◌++◌, length, get_or, Option, Some, arith, length-set}
-use Rattle.std.specs.Prelude.{All, remove}
-use Rattle.std.specs.List.Sorted.{IsPermutation}
-use Rattle.std.proofs.Math.Nat.{mod-lt, mod-one}
-use Rattle.std.proofs.lemmas.List.{length_push}
-use Rattle.std.proofs.lemmas.List.Elements.{All-append, All-set, All-push, All-tail, All-get_or}
-use Rattle.std.proofs.lemmas.List.Sorted.{IsPermutation-refl, IsPermutation-trans, IsPermutation-remove, IsPermutation-append_comm, All-permutation}
-use Rattle.std.proofs.lemmas.Option.{slice_get-get_or}
-use Rattle.tags.specs.declared.value.Value.{Value}
-use Rattle.tags.specs.declared.token.To.{To}
+-- A step is an event of the machine.
+use Rattle.std.proofs.Common.{◌≡◌, ◌≢◌, refl, sym, ◌∙◌, ap, subst, ℕ, zero, suc, ◌+◌, ◌*◌, ◌<◌, ◌≤◌, true, List, [], ◌∷◌, ◌++◌, length, Some, None, arith, get_or, not}
+use Rattle.std.specs.Prelude.{All, sum, slice_get, slice_set, remove, IsPermutation}
+use Rattle.std.proofs.lemmas.Bool.{eqb-true}
+use Rattle.std.proofs.lemmas.List.{length-map, length-set}
+use Rattle.std.proofs.lemmas.List.Elements.{All-append, All-filter, All-weaker, filter_passes}
+use Rattle.std.proofs.lemmas.List.Sorted.{IsPermutation-sym, IsPermutation-trans, IsPermutation-append_left}
+use Rattle.std.proofs.lemmas.Option.{slice_get_within, get_or_from_slice_get}
 use Rattle.tags.specs.declared.token.Token.{Token}
-use Rattle.tags.specs.declared.slot.SlotState.{SlotState}
 use Rattle.tags.specs.Addresses.{element_of}
-use Rattle.semantics.specs.Program.{Program}
-use Rattle.semantics.specs.Machine.{Machine, Store, Size, Event, Events, Run, Happens, at_start}
-use Rattle.schedule.specs.declared.lane.Change.{Change}
-use Rattle.schedule.specs.declared.lane.Change.TheVariants.{Nothing, Slot, Frees, Output, Done}
-use Rattle.schedule.specs.declared.config.Stepped.{Stepped}
-use Rattle.schedule.specs.declared.config.Stepped.TheVariants.{Idle, Did, Stuck, Memory}
-use Rattle.schedule.specs.Straight.{IsNearTo, IsNearToken, IsNearSlot}
-use Rattle.schedule.specs.Held.{Held, took, slots_after, outputs_after, IsWithin, Acts, ActsAs}
-use Rattle.schedule.specs.State.{State, size, machine_of, IsSound}
-use Rattle.schedule.specs.Steps.{place_of, Picks, Does, Steps}
-use Rattle.schedule.specs.Runs.{Began}
+use Rattle.semantics.specs.Machine.{Machine, Size, Event}
+use Rattle.element.specs.Near.{Bounds, IsNearToken}
+use Rattle.element.specs.Parts.{Shape, IsPart, bounds}
+use Rattle.element.specs.Held.{Held, is_here, here, queued, IsSoundLane}
+use Rattle.element.specs.Steps as one
+use Rattle.element.specs.Steps.{size_of, place_of, HoldsTokens, IsAfter}
+use Rattle.element.proofs.Opening.{others_stay}
+use Rattle.schedule.specs.Setting.{Setting, size, total}
+use Rattle.schedule.specs.State.{State, AllFrom, IsAt, delivered, tokens_in, IsPlaced, IsSoundState, Stands}
+use Rattle.element.specs.declared.lane.Stepped.{Stepped}
+use Rattle.element.specs.declared.lane.Stepped.TheVariants.{Idle, Did, Clash, Stuck, Memory}
+use Rattle.schedule.specs.Steps.{Does, Steps, events_of}
+use Rattle.schedule.proofs.Places.{first_get, first_set, from_map, from_weaker, from_both}
+use Rattle.schedule.proofs.Tokens.{tokens_delivered, tokens_set, tokens_first, append_twice, delivered_none, set_same}
+use Rattle.schedule.proofs.Bounding.{bounded_after}
 
--- one more event at the end of a run
-pub run_more : (p : Program) (z : Size) (start : Machine) (events : Events) (e : ℕ) (t : Token) (mid last : Machine)
-    → Run p z start events mid → Event p z e t mid last → Run p z start (events ++ (e, t) ∷ []) last
-run_more p z start [] e t mid last run ev = (
-  last,
-  record {
-    made = ev.made;
-    rest = ev.rest;
-    addressed = ev.addressed;
-    takes = IsPermutation-trans start.pool mid.pool (t ∷ ev.rest) run.0 ev.takes;
-    happens = subst (λ (s : Store). Happens p (z.elements * z.frames) s t.to t.word ev.made last.store) run.1 ev.happens;
-    leaves = ev.leaves;
-  },
-  (IsPermutation-refl last.pool, refl),
-)
-run_more p z start (x ∷ later) e t mid last run ev = (run.0, run.1, run_more p z run.0 later e t mid last run.2 ev)
+-- what a placed lane's tokens name
+abbrev pub bounds_in : Setting → Bounds
+bounds_in g = record { frames = total g; cells = sum g.program.arrays }
 
-pub near_address : (to : To) → IsNearTo to → element_of 1 to ≡ 0
-near_address (To.Instr f ip port) near = mod-one f
-near_address (To.Fetch x) near = absurd near
-near_address (To.Store x v) near = absurd near
-near_address To.Manager near = absurd near
-near_address (To.Release f) near = refl
-near_address (To.Host j) near = refl
+pub bounds_are : (g : Setting) (i : ℕ) (h : Held) → IsPlaced g i h → bounds g.program h.part.shape ≡ bounds_in g
+bounds_are g i h p = ap (λ (n : ℕ). let b : Bounds = record { frames = n * h.part.shape.frames; cells = sum g.program.arrays } in b) p.elements ∙ ap (λ (n : ℕ). let b : Bounds = record { frames = g.elements * n; cells = sum g.program.arrays } in b) p.frames
 
-abbrev pub with_held : State → Held → State
-with_held s h = record { program = s.program; frames = s.frames; steps = s.steps; held = h }
+pub at_place : (g : Setting) (i : ℕ) (h : Held) → IsPlaced g i h → IsAt g.elements i h
+at_place g i h p = (p.element, p.elements)
 
-slots_stay : (change : Change) (h : Held) → IsWithin change h → All IsNearSlot h.slots → All IsNearSlot (slots_after change h.slots)
-slots_stay Nothing h within all = all
-slots_stay (Slot r v) h within all = All-set IsNearSlot h.slots r v within.1 all
-slots_stay Frees h within all = all
-slots_stay (Output j v) h within all = all
-slots_stay Done h within all = all
+-- a lane that gets tokens stays sound
+pub queued_placed : (g : Setting) (ts : List Token) → All (IsNearToken (bounds_in g)) ts → (i : ℕ) (h : Held) → IsPlaced g i h → IsPlaced g i (queued h ts)
+queued_placed g ts near i h p =
+    let z : Shape = h.part.shape in
+    let mine : List Token = here z ts in
+    let near_here : All (IsNearToken (bounds g.program z)) mine = subst (λ (b : Bounds). All (IsNearToken b) mine) (sym (bounds_are g i h p)) (All-filter (is_here z) (IsNearToken (bounds_in g)) ts near) in
+    let addressed_here : All (λ (t : Token). element_of z.elements t.to ≡ z.element) mine = All-weaker (λ (t : Token). is_here z t ≡ true) (λ (t : Token). element_of z.elements t.to ≡ z.element) (λ (t : Token) e. eqb-true (element_of z.elements t.to) z.element e) mine (filter_passes (is_here z) ts) in
+    record {
+      element = p.element;
+      elements = p.elements;
+      frames = p.frames;
+      width = p.width;
+      made = p.made;
+      sound = record {
+        part = p.sound.part;
+        near = All-append (IsNearToken (bounds g.program z)) h.queue mine p.sound.near near_here;
+        addressed = All-append (λ (t : Token). element_of z.elements t.to ≡ z.element) h.queue mine p.sound.addressed addressed_here;
+        answered = p.sound.answered;
+      };
+    }
 
-slot_count : (change : Change) (slots : List SlotState) → length (slots_after change slots) ≡ length slots
-slot_count Nothing slots = refl
-slot_count (Slot r v) slots = length-set slots r v
-slot_count Frees slots = refl
-slot_count (Output j v) slots = refl
-slot_count Done slots = refl
+pub delivered_sound : (s : State) (ts : List Token) → All (IsNearToken (bounds_in s.setting)) ts → IsSoundState s → IsSoundState (record { setting = s.setting; lanes = delivered ts s.lanes })
+delivered_sound s ts near sound = record {
+  setting = sound.setting;
+  count = length-map s.lanes (λ (h : Held). queued h ts) ∙ sound.count;
+  lanes = from_map (IsPlaced s.setting) (IsPlaced s.setting) (λ (h : Held). queued h ts) (queued_placed s.setting ts near) 0 s.lanes sound.lanes;
+}
 
-output_count : (change : Change) (outputs : List (Option Value)) → length (outputs_after change outputs) ≡ length outputs
-output_count Nothing outputs = refl
-output_count (Slot r v) outputs = refl
-output_count Frees outputs = refl
-output_count (Output j v) outputs = length-set outputs j (Some v)
-output_count Done outputs = refl
+-- one lane is another, and what holds of the others may change
+pub set_others : (P Q : ℕ → Held → Type 0) (e : ℕ) → ((i : ℕ) (h : Held) → i ≢ e → P i h → Q i h) → (k : ℕ) (xs : List Held) (i : ℕ) (x : Held) → e ≡ k + i → AllFrom P k xs → Q e x → AllFrom Q k (slice_set xs i x)
+set_others P Q e step k [] i x is all q = tt
+set_others P Q e step k (y ∷ ys) zero x is all q =
+    let here : e ≡ k = omega arith in
+    let low : e < suc k = omega arith in
+    (subst (λ (n : ℕ). Q n x) here q, later (suc k) ys low all.1)
+  where
+    later : (k : ℕ) (ys : List Held) → e < k → AllFrom P k ys → AllFrom Q k ys
+    later k [] low all = tt
+    later k (z ∷ zs) low all = let ne : k ≢ e = λ (s : k ≡ e). omega arith in let lower : e < suc k = omega arith in (step k z ne all.0, later (suc k) zs lower all.1)
+set_others P Q e step k (y ∷ ys) (suc i) x is all q =
+    let ne : k ≢ e = λ (s : k ≡ e). omega arith in
+    let there : e ≡ suc k + i = omega arith in
+    (step k y ne all.0, set_others P Q e step (suc k) ys i x there all.1 q)
 
-module _ (old : State) (pick : ℕ) (t : Token) (sound : IsSound old) (some : 0 < length old.held.queue) (low : length old.held.events < old.steps) (is : t ≡ get_or old.held.queue (place_of old pick) t) where
-  within_queue : place_of old pick < length old.held.queue
-  within_queue = mod-lt pick some
+module _ (old : State) (e pick : ℕ) (lane next : Held) (sent : List Token) (sound : IsSoundState old) (there : slice_get old.lanes e ≡ Some lane) (step : one.Does old.setting.program lane pick [] next sent) where
+  abbrev g : Setting
+  g = old.setting
 
-  picks : Picks old pick t
-  picks = record { some = some; token = slice_get-get_or old.held.queue (place_of old pick) t within_queue ∙ ap Some (sym is) }
+  placed : IsPlaced g e lane
+  placed = first_get (IsPlaced g) old.lanes e lane sound.lanes there
 
-  takes : IsPermutation old.held.queue (t ∷ remove old.held.queue (place_of old pick))
-  takes = IsPermutation-remove old.held.queue (place_of old pick) t within_queue is
+  near_sent : All (IsNearToken (bounds_in g)) sent
+  near_sent =
+      let all = subst (λ (b : Bounds). All (IsNearToken b) step.made) (bounds_are g e lane placed) step.near in
+      subst (λ (ts : List Token). All (IsNearToken (bounds_in g)) ts) (sym step.sent) (All-filter (λ (t : Token). not (is_here lane.part.shape t)) (IsNearToken (bounds_in g)) step.made all)
 
-  near : IsNearToken t
-  near = subst IsNearToken (sym is) (All-get_or IsNearToken old.held.queue (place_of old pick) t within_queue sound.held.tokens)
+  next_placed : IsSoundLane g.program next → next.made ≤ g.steps → IsPlaced g e next
+  next_placed next_sound few = record {
+    element = ap (λ (z : Shape). z.element) step.shape ∙ placed.element;
+    elements = ap (λ (z : Shape). z.elements) step.shape ∙ placed.elements;
+    frames = ap (λ (z : Shape). z.frames) step.shape ∙ placed.frames;
+    width = ap (λ (z : Shape). z.width) step.shape ∙ placed.width;
+    made = few;
+    sound = next_sound;
+  }
 
-  does : (new : Held) → Acts old.program old.held (place_of old pick) t new → Does old pick (with_held old new)
-  does new acts =
-      let queue_is : new.queue ≡ remove old.held.queue (place_of old pick) ++ acts.made = ap (λ (h : Held). h.queue) acts.is in
+  abbrev pub after : State
+  after = record { setting = old.setting; lanes = delivered sent (slice_set old.lanes e next) }
+
+  pub sound_after : IsSoundLane g.program next → next.made ≤ g.steps → IsSoundState after
+  sound_after next_sound few = delivered_sound (record { setting = g; lanes = slice_set old.lanes e next }) sent near_sent (record {
+    setting = sound.setting;
+    count = length-set old.lanes e next ∙ sound.count;
+    lanes = first_set (IsPlaced g) old.lanes e next sound.lanes (next_placed next_sound few);
+  })
+
+  abbrev others : List Token
+  others = tokens_in (remove old.lanes e)
+
+  module _ (m : Machine) (stands : Stands old m) where
+    holds : HoldsTokens lane [] others m
+    holds = IsPermutation-trans m.pool (tokens_in old.lanes) (lane.queue ++ others) stands.tokens (tokens_first old.lanes e lane there)
+
+    part : IsPart lane.part m.store
+    part = first_get (λ (i : ℕ) (h : Held). IsPart h.part m.store) old.lanes e lane stands.parts there
+
+    made_it : IsAfter g.program lane step.token next sent others step.made m
+    made_it = step.event m others part holds
+
+    size_is : size_of lane.part.shape ≡ size g
+    size_is = ap (λ (n : ℕ). let z : Size = record { elements = n; frames = lane.part.shape.frames } in z) placed.elements ∙ ap (λ (n : ℕ). let z : Size = record { elements = g.elements; frames = n } in z) placed.frames
+
+    event : Event g.program (size g) e step.token m made_it.next
+    event = subst (λ (z : Size). Event g.program z e step.token m made_it.next) size_is (subst (λ (n : ℕ). Event g.program (size_of lane.part.shape) n step.token m made_it.next) placed.element made_it.event)
+
+    parts : AllFrom (λ (i : ℕ) (h : Held). IsPart h.part made_it.next.store) 0 (slice_set old.lanes e next)
+    parts = let at : e ≡ 0 + e = omega arith in set_others (λ (i : ℕ) (h : Held). IsPlaced g i h × IsPart h.part m.store) (λ (i : ℕ) (h : Held). IsPart h.part made_it.next.store) e
+        (λ (i : ℕ) (h : Held) ne both. others_stay g.program lane.part.shape h.part m.store made_it.next.store made_it.same (both.0.elements ∙ sym placed.elements) (λ (same : h.part.shape.element ≡ lane.part.shape.element). ne (sym both.0.element ∙ same ∙ placed.element)) both.0.sound.part.own_element both.0.sound.part.own_elements both.1)
+        0 old.lanes e next at
+        (from_both (IsPlaced g) (λ (i : ℕ) (h : Held). IsPart h.part m.store) (λ (i : ℕ) (h : Held). IsPlaced g i h × IsPart h.part m.store) (λ (i : ℕ) (h : Held) a b. (a, b)) 0 old.lanes sound.lanes stands.parts)
+        made_it.part
+
+    at_places : AllFrom (IsAt g.elements) 0 (slice_set old.lanes e next)
+    at_places = first_set (IsAt g.elements) old.lanes e next (from_weaker (IsPlaced g) (IsAt g.elements) (at_place g) 0 old.lanes sound.lanes)
+        (ap (λ (z : Shape). z.element) step.shape ∙ placed.element, ap (λ (z : Shape). z.elements) step.shape ∙ placed.elements)
+
+    tokens : IsPermutation made_it.next.pool (tokens_in after.lanes)
+    tokens =
+        let set : List Held = slice_set old.lanes e next in
+        let first : IsPermutation (tokens_in after.lanes) (tokens_in set ++ sent) = tokens_delivered g.elements set sent sound.setting.some (length-set old.lanes e next ∙ sound.count) at_places in
+        let second : IsPermutation (tokens_in set ++ sent) ((next.queue ++ others) ++ sent) = IsPermutation-append_left sent _ _ (tokens_set old.lanes e lane next there) in
+        let third : IsPermutation ((next.queue ++ others) ++ sent) (next.queue ++ (sent ++ others)) = append_twice next.queue others sent in
+        IsPermutation-trans made_it.next.pool (next.queue ++ (sent ++ others)) (tokens_in after.lanes) made_it.tokens
+        (IsPermutation-sym (tokens_in after.lanes) (next.queue ++ (sent ++ others)) (IsPermutation-trans _ _ _ first (IsPermutation-trans _ _ _ second third)))
+
+    near_token : IsNearToken (bounds_in g) step.token
+    near_token =
+        let place : ℕ = place_of lane pick in
+        let is : get_or lane.queue place step.token ≡ step.token = get_or_from_slice_get lane.queue place step.token step.token step.picks.token in
+        let near : IsNearToken (bounds g.program lane.part.shape) step.token = subst (λ (t : Token). IsNearToken (bounds g.program lane.part.shape) t) is (placed.sound.near place step.token (slice_get_within lane.queue place step.token step.picks.token)) in
+        subst (λ (b : Bounds). IsNearToken b step.token) (bounds_are g e lane placed) near
+
+    pub stands_after : (n : Machine) × Event g.program (size g) e step.token m n × Stands after n
+    stands_after = (
+      made_it.next,
+      event,
       record {
-        token = t;
-        picks = picks;
-        allowed = low;
-        event = record {
-          made = acts.made;
-          rest = remove old.held.queue (place_of old pick);
-          addressed = near_address t.to near.to;
-          takes = takes;
-          happens = acts.happens (1 * old.frames);
-          leaves = subst (λ (xs : List Token). IsPermutation xs (acts.made ++ remove old.held.queue (place_of old pick))) (sym queue_is) (IsPermutation-append_comm (remove old.held.queue (place_of old pick)) acts.made);
-        };
-        queue = queue_is;
-        events = ap (λ (h : Held). h.events) acts.is;
-        program = refl;
-        frames = refl;
-        steps = refl;
-      }
+        parts = from_map (λ (i : ℕ) (h : Held). IsPart h.part made_it.next.store) (λ (i : ℕ) (h : Held). IsPart h.part made_it.next.store) (λ (h : Held). queued h sent) (λ (i : ℕ) (h : Held) p. p) 0 (slice_set old.lanes e next) parts;
+        tokens = tokens;
+        bounded = bounded_after g m.store stands.bounded sound.setting.fits step.token.to step.token.word event.made made_it.next.store near_token.to event.happens;
+      },
+    )
 
-  pub steps_as : (result : Stepped) (new : Held) → ActsAs old.program old.held (place_of old pick) t result new → Steps old pick (Some result) (with_held old new)
-  steps_as Idle new acts = absurd acts
-  steps_as Did new acts = does new acts
-  steps_as (Stuck rule) new acts = (record { token = t; picks = picks; allowed = low; excluded = acts.0 }, ap (λ (h : Held). with_held old h) acts.1)
-  steps_as Memory new acts = (some, low, ap (λ (h : Held). with_held old h) acts)
+  pub does : (allowed : lane.made < g.steps) → Does old e pick after ((e, step.token) ∷ [])
+  does allowed = record {
+    lane = lane;
+    there = there;
+    allowed = allowed;
+    next = next;
+    sent = sent;
+    step = step;
+    setting = refl;
+    lanes = refl;
+    events = refl;
+    event = λ m stands. stands_after m stands;
+  }
 
-  sound_then : (new : Held) → Acts old.program old.held (place_of old pick) t new → IsSound (with_held old new)
-  sound_then new acts =
-      let rest_near : All IsNearToken (remove old.held.queue (place_of old pick))
-      = All-tail IsNearToken t (remove old.held.queue (place_of old pick)) (All-permutation IsNearToken old.held.queue (t ∷ remove old.held.queue (place_of old pick)) takes sound.held.tokens) in
-      let after : IsSound (with_held old (took acts.change old.held (place_of old pick) t acts.made)) = record {
-        straight = sound.straight;
-        frames = sound.frames;
-        steps = sound.steps;
-        held = record {
-          tokens = All-append IsNearToken (remove old.held.queue (place_of old pick)) acts.made rest_near acts.near;
-          slots = slots_stay acts.change old.held acts.within sound.held.slots;
-          slot_count = slot_count acts.change old.held.slots ∙ sound.held.slot_count;
-          output_count = output_count acts.change old.held.outputs ∙ sound.held.output_count;
-        };
-        events = All-push (λ (ev : ℕ × Token). ev.0 ≡ 0) old.held.events (0, t) sound.events refl;
-        event_count = let e : length (old.held.events ++ (0, t) ∷ []) ≡ length old.held.events + 1 = length_push old.held.events (0, t) in omega arith;
-      } in
-      subst (λ (h : Held). IsSound (with_held old h)) (sym acts.is) after
+-- THE ANSWERS OF A STEP
+unchanged : (old : State) (e : ℕ) (lane next : Held) (sent : List Token) → slice_get old.lanes e ≡ Some lane → next ≡ lane → sent ≡ [] → (let s : State = record { setting = old.setting; lanes = delivered sent (slice_set old.lanes e next) } in s) ≡ old
+unchanged old e lane next sent there same none =
+    let lanes : delivered sent (slice_set old.lanes e next) ≡ old.lanes = ap (λ (ts : List Token). delivered ts (slice_set old.lanes e next)) none ∙ delivered_none (slice_set old.lanes e next) ∙ ap (λ (h : Held). slice_set old.lanes e h) same ∙ set_same old.lanes e lane there in
+    ap (λ (l : List Held). let s : State = record { setting = old.setting; lanes = l } in s) lanes
 
-  pub sound_as : (result : Stepped) (new : Held) → ActsAs old.program old.held (place_of old pick) t result new → IsSound (with_held old new)
-  sound_as Idle new acts = absurd acts
-  sound_as Did new acts = sound_then new acts
-  sound_as (Stuck rule) new acts = subst (λ (h : Held). IsSound (with_held old h)) (sym acts.1) sound
-  sound_as Memory new acts = subst (λ (h : Held). IsSound (with_held old h)) (sym acts) sound
+one_token : (lane : Held) (pick : ℕ) (t u : Token) → one.Picks lane pick t → one.Picks lane pick u → t ≡ u
+one_token lane pick t u p q = let a = p.token in let b = q.token in cc
 
-  began_then : (inputs : List ℤ) (new : Held) → Acts old.program old.held (place_of old pick) t new → Began inputs old → Began inputs (with_held old new)
-  unfolding does
-  began_then inputs new acts began =
-      let done = does new acts in
-      subst (λ (evs : Events). Run old.program (size old) (at_start old.program inputs) evs (machine_of (with_held old new))) (sym done.events)
-      (run_more old.program (size old) (at_start old.program inputs) old.held.events 0 t (machine_of old) (machine_of (with_held old new)) began done.event)
+pub answered : (old : State) (e pick : ℕ) (lane next : Held) (t : Token) (sent : List Token) (result : Stepped) → IsSoundState old → slice_get old.lanes e ≡ Some lane → 0 < length lane.queue → lane.made < old.setting.steps
+    → one.Picks lane pick t → one.Steps old.setting.program lane pick [] result next sent → IsSoundLane old.setting.program next → next.made ≤ lane.made + 1
+    → (let s : State = record { setting = old.setting; lanes = delivered sent (slice_set old.lanes e next) } in IsSoundState s × Steps old e pick (Some result) s (events_of result e t))
+answered old e pick lane next t sent Idle sound there some few picks step next_sound count = absurd (let l : length lane.queue ≡ 0 = ap (λ (q : List Token). length q) step.0 in omega arith)
+answered old e pick lane next t sent Did sound there some few picks step next_sound count =
+    let most : next.made ≤ old.setting.steps = omega arith in
+    let same : step.token ≡ t = one_token lane pick step.token t step.picks picks in (
+      sound_after old e pick lane next sent sound there step next_sound most,
+      subst (λ (u : Token). Does old e pick (record { setting = old.setting; lanes = delivered sent (slice_set old.lanes e next) }) ((e, u) ∷ [])) same (does old e pick lane next sent sound there step few),
+    )
+answered old e pick lane next t sent (Clash cell) sound there some few picks step next_sound count =
+    let same = unchanged old e lane next sent there step.1.held step.1.sent in
+    (subst (λ (s : State). IsSoundState s) (sym same) sound, ((lane, (record { there = there }, some, few), step.0), (same, refl)))
+answered old e pick lane next t sent (Stuck rule) sound there some few picks step next_sound count =
+    let same = unchanged old e lane next sent there step.1.held step.1.sent in
+    (subst (λ (s : State). IsSoundState s) (sym same) sound, ((lane, (record { there = there }, some, few), step.0), (same, refl)))
+answered old e pick lane next t sent Memory sound there some few picks step next_sound count =
+    let same = unchanged old e lane next sent there step.1.held step.1.sent in
+    (subst (λ (s : State). IsSoundState s) (sym same) sound, ((lane, (record { there = there }, some, few)), (same, refl)))
 
-  pub began_as : (inputs : List ℤ) (result : Stepped) (new : Held) → ActsAs old.program old.held (place_of old pick) t result new → Began inputs old → Began inputs (with_held old new)
-  began_as inputs Idle new acts began = absurd acts
-  began_as inputs Did new acts began = began_then inputs new acts began
-  began_as inputs (Stuck rule) new acts began = subst (λ (h : Held). Began inputs (with_held old h)) (sym acts.1) began
-  began_as inputs Memory new acts began = subst (λ (h : Held). Began inputs (with_held old h)) (sym acts) began
+-- nothing happens
+pub is_idle : (old new : State) (e pick : ℕ) (lane : Held) → new ≡ old → slice_get old.lanes e ≡ Some lane → lane.queue ≡ [] → Steps old e pick (Some Idle) new []
+is_idle old new e pick lane same there none = ((lane, record { there = there }, none), (same, refl))
+
+pub is_used_up : (old new : State) (e pick : ℕ) (lane : Held) → new ≡ old → slice_get old.lanes e ≡ Some lane → 0 < length lane.queue → lane.made ≡ old.setting.steps → Steps old e pick None new []
+is_used_up old new e pick lane same there some all = ((lane, record { there = there }, some, all), (same, refl))
+
+pub is_refused : (old new : State) (e pick : ℕ) (lane : Held) → new ≡ old → slice_get old.lanes e ≡ Some lane → 0 < length lane.queue → lane.made < old.setting.steps → Steps old e pick (Some Memory) new []
+is_refused old new e pick lane same there some few = ((lane, (record { there = there }, some, few)), (same, refl))

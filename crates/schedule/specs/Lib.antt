@@ -1,8 +1,6 @@
-pub mod Straight
-pub mod Firings
-pub mod Held
+pub mod Setting
 pub mod State
-pub mod Starts
 pub mod Steps
 pub mod Runs
-pub mod Adder
+pub mod Starts
+pub mod Told

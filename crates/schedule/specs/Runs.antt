@@ -1,48 +1,106 @@
--- What a run does, and what its report tells.
-use Rattle.std.specs.Prelude.{◌≡◌, ℕ, zero, suc, ◌<◌, ◌⊎◌, ℤ, List, [], ◌∷◌, length, Option, Some, None}
+-- What a run does.
+use Rattle.std.specs.Prelude.{◌≡◌, ℕ, zero, suc, ◌+◌, ◌-◌, ◌<◌, Bool, true, false, ◌⊎◌, ℤ, List, [], ◌∷◌, ◌++◌, length, Option, Some, None, ◌==◌, count_by, sum}
+use Rattle.tags.specs.declared.token.Token.{Token}
 use Rattle.semantics.specs.declared.report.End.{End}
-use Rattle.semantics.specs.Machine.{Run, at_start}
-use Rattle.semantics.specs.Report.{Report, IsPicture}
-use Rattle.schedule.specs.declared.config.Stepped.{Stepped}
-use Rattle.schedule.specs.State.{State, size, machine_of}
-use Rattle.schedule.specs.Steps.{Steps}
+use Rattle.semantics.specs.Program.{Program}
+use Rattle.semantics.specs.Rule.{array_base, array_len}
+use Rattle.semantics.specs.Report.{Report}
+use Rattle.semantics.specs.Machine.{Machine, Events, Run, at_start}
+use Rattle.element.specs.declared.lane.Stepped.{Stepped}
+use Rattle.element.specs.declared.lane.Stepped.TheVariants as stepped
+use Rattle.element.specs.Held.{Held}
+use Rattle.schedule.specs.declared.halt.Halt.{Halt}
+use Rattle.schedule.specs.Setting.{size}
+use Rattle.schedule.specs.State.{State, AllFrom, tokens_in, Stands}
+use Rattle.schedule.specs.Steps.{Steps, IsClash, IsUsedUp, IsStuckAt}
 
--- the events so far lead from the start on these inputs to where the machine is now
-abbrev pub Began : List ℤ → State → Type 0
-Began inputs s = Run s.program (size s) (at_start s.program inputs) s.held.events (machine_of s)
+-- the machine and what happened so far
+pub record Kept : Type 0 where
+  pub state : State
+  pub events : Events
 
--- Where no pick is left, the run has come to rest or stops for want of steps.
-abbrev pub EndsLeft : State → End → Type 0
-EndsLeft s end = ((s.held.queue ≡ []) × (end ≡ End.Rest)) ⊎ ((0 < length s.held.queue) × (end ≡ End.Steps))
+-- The events lead from the start on these inputs to a machine that the lanes are the parts of, and each element has made
+-- its own.
+pub record Began (inputs : List ℤ) (s : State) (evs : Events) : Type 0 where
+  pub machine : Machine
+  pub run : Run s.setting.program (size s.setting) (at_start s.setting.program inputs) evs machine
+  pub stands : Stands s machine
+  pub counts : AllFrom (λ (i : ℕ) (h : Held). h.made ≡ count_by (λ (ev : ℕ × Token). ev.0 == i) evs) 0 s.lanes
 
--- a run goes on after an event, and where the element has made all its events; any other answer of a step ends it
-abbrev pub Goes : Option Stepped → State → State → End → Type 0 → Type 0
-Goes None s last end later = later
-Goes (Some Stepped.Did) s last end later = later
-Goes (Some Stepped.Idle) s last end later = (last ≡ s) × (end ≡ End.Rest)
-Goes (Some (Stepped.Stuck rule)) s last end later = (last ≡ s) × (end ≡ End.Stuck rule)
-Goes (Some Stepped.Memory) s last end later = (last ≡ s) × (end ≡ End.Memory)
+abbrev pub HasToken : State → Type 0
+HasToken s = 0 < length (tokens_in s.lanes)
 
--- One step for each entry of a list of elements and picks, in order, up to the end.
-abbrev pub Plays : List (ℕ × ℕ) → State → State → End → Type 0
-Plays [] s last end = (last ≡ s) × EndsLeft s end
-Plays (p ∷ picks) s last end = (answer : Option Stepped) × (next : State) × Steps s p.1 answer next × Goes answer next last end (Plays picks next last end)
+-- Whether a run halts after an answer. Where no token is left it halts at the next element that has none. Where an
+-- element has made all its events, a run over a list goes on, and another halts.
+abbrev pub IsHalt : Bool → Option Stepped → State → Option Halt → Type 0
+IsHalt true None s halt = halt ≡ None
+IsHalt false None s halt = halt ≡ Some Halt.Steps
+IsHalt listed (Some stepped.Did) s halt = halt ≡ None
+IsHalt listed (Some stepped.Idle) s halt = (HasToken s × (halt ≡ None)) ⊎ ((tokens_in s.lanes ≡ []) × (halt ≡ Some Halt.NoToken))
+IsHalt listed (Some (stepped.Clash cell)) s halt = halt ≡ Some (Halt.Clash cell)
+IsHalt listed (Some (stepped.Stuck rule)) s halt = halt ≡ Some (Halt.Stuck rule)
+IsHalt listed (Some stepped.Memory) s halt = halt ≡ Some Halt.Memory
 
--- the end that an answer of a step gives where each step takes the oldest token
-abbrev pub Ends : Option Stepped → End → Type 0
-Ends None end = end ≡ End.Steps
-Ends (Some Stepped.Idle) end = end ≡ End.Rest
-Ends (Some Stepped.Did) end = ⊥
-Ends (Some (Stepped.Stuck rule)) end = end ≡ End.Stuck rule
-Ends (Some Stepped.Memory) end = end ≡ End.Memory
+-- one step, and whether the run halts there
+pub record Advances (listed : Bool) (old : State) (e pick : ℕ) (new : State) (evs : Events) (halt : Option Halt) : Type 0 where
+  pub answer : Option Stepped
+  pub step : Steps old e pick answer new evs
+  pub halts : IsHalt listed answer new halt
 
--- One step after another, each with the oldest token: so many events, and then a step that is none.
-abbrev pub PlaysOldest : ℕ → State → State → End → Type 0
-PlaysOldest zero s last end = (answer : Option Stepped) × Steps s 0 answer last × Ends answer end
-PlaysOldest (suc n) s last end = (next : State) × Steps s 0 (Some Stepped.Did) next × PlaysOldest n next last end
+-- where no pick is left
+abbrev pub EndsLeft : State → Halt → Type 0
+EndsLeft s halt = ((tokens_in s.lanes ≡ []) × (halt ≡ Halt.NoToken)) ⊎ (HasToken s × (halt ≡ Halt.Steps))
 
--- the report tells of this state
-pub record Tells (s : State) (r : Report) : Type 0 where
-  pub events : r.events ≡ s.held.events
-  pub outputs : r.outputs ≡ s.held.outputs
-  pub picture : IsPicture s.program (size s) (machine_of s) r
+-- what comes of the rest of a run
+abbrev pub Then : Option Halt → State → State → Halt → Events → Type 0 → Type 0
+Then None s last halt later rest = rest
+Then (Some why) s last halt later rest = (last ≡ s) × (halt ≡ why) × (later ≡ [])
+
+-- One step for each entry of a list of elements and picks, in order, up to the halt, with the events that it makes.
+abbrev pub Plays : Bool → List (ℕ × ℕ) → State → State → Halt → Events → Type 0
+Plays listed [] s last halt evs = (listed ≡ true) × (last ≡ s) × (evs ≡ []) × EndsLeft s halt
+Plays listed (p ∷ picks) s last halt evs =
+    (next : State) × (now : Events) × (later : Events) × (why : Option Halt) × Advances listed s p.0 p.1 next now why × (evs ≡ now ++ later)
+    × Then why next last halt later (Plays listed picks next last halt later)
+
+-- the oldest token of each of so many elements from the k-th on
+abbrev pub in_turn : ℕ → ℕ → List (ℕ × ℕ)
+in_turn k zero = []
+in_turn k (suc n) = (k, 0) ∷ in_turn (suc k) n
+
+-- that again and again
+abbrev pub rounds_of : ℕ → ℕ → List (ℕ × ℕ)
+rounds_of zero n = []
+rounds_of (suc r) n = in_turn 0 n ++ rounds_of r n
+
+-- how many events lanes may still make
+abbrev pub left_in : ℕ → List Held → ℕ
+left_in steps [] = 0
+left_in steps (h ∷ hs) = (steps - h.made) + left_in steps hs
+
+abbrev pub left_over : State → ℕ
+left_over s = left_in s.setting.steps s.lanes
+
+-- why a run halts here
+abbrev pub HaltsAs : State → Bool → Halt → Type 0
+HaltsAs s listed Halt.NoToken = tokens_in s.lanes ≡ []
+HaltsAs s listed (Halt.Clash cell) = (e : ℕ) × (pick : ℕ) × IsClash s e pick cell
+HaltsAs s listed Halt.Steps = ((e : ℕ) × IsUsedUp s e) ⊎ ((listed ≡ true) × HasToken s)
+HaltsAs s listed (Halt.Stuck rule) = (e : ℕ) × (pick : ℕ) × IsStuckAt s e pick rule
+HaltsAs s listed Halt.Memory = Unit {0}
+
+-- how a run ends that halts so, with so many requests for frames and credits that wait; and which array a cell is in
+abbrev pub EndsWith : Program → End → ℕ → ℕ → Halt → Type 0
+EndsWith p end frames credits Halt.NoToken = ((end ≡ End.Rest) × (frames ≡ 0) × (credits ≡ 0)) ⊎ ((end ≡ End.Starved) × ((0 < frames) ⊎ (0 < credits)))
+EndsWith p end frames credits (Halt.Clash cell) = (a : ℕ) × (i : ℕ) × (end ≡ End.Clash a i) × (a < length p.arrays) × (i < array_len p a) × (array_base p a + i ≡ cell)
+EndsWith p end frames credits Halt.Steps = end ≡ End.Steps
+EndsWith p end frames credits (Halt.Stuck rule) = end ≡ End.Stuck rule
+EndsWith p end frames credits Halt.Memory = end ≡ End.Memory
+
+abbrev pub EndsAs : Program → Report → Halt → Type 0
+EndsAs p r halt = EndsWith p r.end r.waiting_frames r.waiting_credits halt
+
+-- a cell that is named is one of the program's
+abbrev pub NamesCell : Program → Halt → Type 0
+NamesCell p (Halt.Clash cell) = cell < sum p.arrays
+NamesCell p halt = Unit {0}

@@ -1,31 +1,74 @@
--- What contracts see of the machine, and the machine of the definitions that it stands for.
-use Rattle.std.specs.Prelude.{◌≡◌, ℕ, ◌<◌, ◌≤◌, ◌^◌, length, All}
+-- What contracts see of the machine.
+use Rattle.std.specs.Prelude.{◌≡◌, ℕ, suc, ◌<◌, ◌≤◌, List, [], ◌∷◌, map, drop, length, ⊤, sum, IsPermutation}
+use Rattle.std.specs.List.{flat_map}
 use Rattle.tags.specs.declared.token.Token.{Token}
+use Rattle.tags.specs.declared.slot.SlotState.TheVariants.{Empty}
 use Rattle.semantics.specs.Program.{Program}
-use Rattle.semantics.specs.Machine.{Machine, Size}
-use Rattle.schedule.specs.Straight.{IsStraightProgram}
-use Rattle.schedule.specs.Held.{Held, IsSoundFor, store_of}
+use Rattle.semantics.specs.Machine.{Machine, Store, Vacant}
+use Rattle.element.specs.declared.lane.Lane.{Lane}
+use Rattle.element.specs.Parts.{IsPart}
+use Rattle.element.specs.Held.{Held, held_of, queued, IsSoundLane}
+use Rattle.schedule.specs.declared.elements.Elements.{Elements}
+use Rattle.schedule.specs.Setting.{Setting, total, IsGoodSetting}
 
 pub record State : Type 0 where
-  pub program : Program
-  -- how many frames the element has
-  pub frames : ℕ
-  -- how many events it may make
-  pub steps : ℕ
-  pub held : Held
+  pub setting : Setting
+  -- what each element holds
+  pub lanes : List Held
 
--- one element
-abbrev pub size : State → Size
-size s = record { elements = 1; frames = s.frames }
+-- P holds of each with its place, counted from k
+abbrev pub AllFrom : {X : Type 0} → (ℕ → X → Type 0) → ℕ → List X → Type 0
+AllFrom P k [] = ⊤
+AllFrom P k (x ∷ xs) = P k x × AllFrom P (suc k) xs
 
-abbrev pub machine_of : State → Machine
-machine_of s = record { store = store_of s.held; pool = s.held.queue }
+-- new tokens go last, each where it is addressed to
+abbrev pub delivered : List Token → List Held → List Held
+delivered ts lanes = map (λ (h : Held). queued h ts) lanes
+
+-- all tokens
+abbrev pub tokens_in : List Held → List Token
+tokens_in lanes = flat_map (λ (h : Held). h.queue) lanes
+
+-- the lane is that of its place, of so many
+abbrev pub IsAt : ℕ → ℕ → Held → Type 0
+IsAt n i h = (h.part.shape.element ≡ i) × (h.part.shape.elements ≡ n)
+
+-- what the lanes hold, with the tokens that are on their way
+abbrev pub lanes_of : {A : Type 0} → List (Lane A) → List Token → List Held
+lanes_of lanes ts = delivered ts (map held_of lanes)
+
+pub record IsPlaced (g : Setting) (i : ℕ) (h : Held) : Type 0 where
+  pub element : h.part.shape.element ≡ i
+  pub elements : h.part.shape.elements ≡ g.elements
+  pub frames : h.part.shape.frames ≡ g.frames
+  pub width : h.part.shape.width ≡ g.width
+  pub made : h.made ≤ g.steps
+  pub sound : IsSoundLane g.program h
 
 -- what holds of the machine at all times
-pub record IsSound (s : State) : Type 0 where
-  pub straight : IsStraightProgram s.program
-  pub frames : 0 < s.frames
-  pub steps : s.steps ≤ 2 ^ 32
-  pub held : IsSoundFor s.program s.held
-  pub events : All (λ (ev : ℕ × Token). ev.0 ≡ 0) s.held.events
-  pub event_count : length s.held.events ≤ s.steps
+pub record IsSoundState (s : State) : Type 0 where
+  pub setting : IsGoodSetting s.setting
+  pub count : length s.lanes ≡ s.setting.elements
+  pub lanes : AllFrom (IsPlaced s.setting) 0 s.lanes
+
+-- THE MACHINE OF THE DEFINITIONS. Nothing lies beyond the frames, the slots and the cells that there are.
+pub record IsBounded (g : Setting) (s : Store) : Type 0 where
+  pub slots : (f r : ℕ) → (f < total g → r < g.width → ⊥) → s.slots f r ≡ Empty
+  pub cells : (x : ℕ) → sum g.program.arrays ≤ x → s.cells x ≡ Vacant
+
+-- The lanes are the parts of one machine, and its tokens are theirs.
+pub record Stands (s : State) (m : Machine) : Type 0 where
+  pub parts : AllFrom (λ (i : ℕ) (h : Held). IsPart h.part m.store) 0 s.lanes
+  pub tokens : IsPermutation m.pool (tokens_in s.lanes)
+  pub bounded : IsBounded s.setting m.store
+
+-- THE MACHINE IN MEMORY. Tokens that are on their way are seen where they are addressed to.
+abbrev pub state_of : {C A : Type 0} → (C → Program) → (C → ℕ) → Elements C A → State
+state_of program width m = record {
+  setting = record { program = program m.code.now; elements = m.elements; frames = m.frames; width = width m.code.now; steps = m.steps };
+  lanes = lanes_of m.lanes.items (drop m.come m.sent.items);
+}
+
+pub record IsWell {C A : Type 0} (program : C → Program) (width : C → ℕ) (m : Elements C A) : Type 0 where
+  pub come : m.come ≤ length m.sent.items
+  pub sound : IsSoundState (state_of program width m)

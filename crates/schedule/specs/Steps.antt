@@ -1,44 +1,65 @@
 -- What a step does.
-use Rattle.std.specs.Prelude.{◌≡◌, ℕ, ◌<◌, ◌%◌, [], ◌∷◌, ◌++◌, length, remove, Option, Some, None, slice_get}
+use Rattle.std.specs.Prelude.{◌≡◌, ℕ, ◌<◌, List, [], ◌∷◌, length, Option, Some, None, slice_get, slice_set}
 use Rattle.tags.specs.declared.token.Token.{Token}
-use Rattle.semantics.specs.Machine.{Event, stuck_rule}
-use Rattle.schedule.specs.declared.config.Stepped.{Stepped}
-use Rattle.schedule.specs.State.{State, size, machine_of}
+use Rattle.semantics.specs.Machine.{Machine, Event, Events}
+use Rattle.element.specs.declared.lane.Stepped.{Stepped}
+use Rattle.element.specs.declared.lane.Stepped.TheVariants.{Idle, Did, Clash, Stuck, Memory}
+use Rattle.element.specs.Held.{Held}
+use Rattle.element.specs.Steps as one
+use Rattle.element.specs.Steps.{Excludes, Clashes}
+use Rattle.schedule.specs.Setting.{size}
+use Rattle.schedule.specs.State.{State, delivered, Stands}
 
--- The token that a pick names
-abbrev pub place_of : State → ℕ → ℕ
-place_of s pick = pick % length s.held.queue
+-- The element's lane takes the token that the pick names, and the tokens that it makes for others come to their lanes.
+-- It is one event of each machine that the lanes are the parts of.
+pub record Does (old : State) (e pick : ℕ) (new : State) (evs : Events) : Type 0 where
+  pub lane : Held
+  pub there : slice_get old.lanes e ≡ Some lane
+  pub allowed : lane.made < old.setting.steps
+  -- what the lane holds afterwards, and what it made for others
+  pub next : Held
+  pub sent : List Token
+  pub step : one.Does old.setting.program lane pick [] next sent
+  pub setting : new.setting ≡ old.setting
+  pub lanes : new.lanes ≡ delivered sent (slice_set old.lanes e next)
+  pub events : evs ≡ (e, step.token) ∷ []
+  pub event : (m : Machine) → Stands old m → (n : Machine) × Event old.setting.program (size old.setting) e step.token m n × Stands new n
 
-pub record Picks (s : State) (pick : ℕ) (t : Token) : Type 0 where
-  pub some : 0 < length s.held.queue
-  pub token : slice_get s.held.queue (place_of s pick) ≡ Some t
+-- the events that an answer stands for
+abbrev pub events_of : Stepped → ℕ → Token → Events
+events_of Did e t = (e, t) ∷ []
+events_of answer e t = []
 
--- One event of the machine. The token is taken out of the queue, the others close up, and new ones go last.
-pub record Does (old : State) (pick : ℕ) (new : State) : Type 0 where
-  pub token : Token
-  pub picks : Picks old pick token
-  pub allowed : length old.held.events < old.steps
-  pub event : Event old.program (size old) 0 token (machine_of old) (machine_of new)
-  pub queue : new.held.queue ≡ remove old.held.queue (place_of old pick) ++ event.made
-  pub events : new.held.events ≡ old.held.events ++ (0, token) ∷ []
-  pub program : new.program ≡ old.program
-  pub frames : new.frames ≡ old.frames
-  pub steps : new.steps ≡ old.steps
+-- the lane of the element
+pub record IsLane (s : State) (e : ℕ) (h : Held) : Type 0 where
+  pub there : slice_get s.lanes e ≡ Some h
 
-pub record IsStuck (s : State) (pick rule : ℕ) : Type 0 where
-  pub token : Token
-  pub picks : Picks s pick token
-  pub allowed : length s.held.events < s.steps
-  pub excluded : stuck_rule s.program (machine_of s).store token.to token.word ≡ Some rule
+abbrev pub IsIdle : State → ℕ → Type 0
+IsIdle s e = (h : Held) × IsLane s e h × (h.queue ≡ [])
 
 -- it has a token, and has made all its events
-pub record IsUsedUp (s : State) : Type 0 where
-  pub some : 0 < length s.held.queue
-  pub all : length s.held.events ≡ s.steps
+abbrev pub IsUsedUp : State → ℕ → Type 0
+IsUsedUp s e = (h : Held) × IsLane s e h × (0 < length h.queue) × (h.made ≡ s.setting.steps)
 
-abbrev pub Steps : State → ℕ → Option Stepped → State → Type 0
-Steps old pick None new = IsUsedUp old × (new ≡ old)
-Steps old pick (Some Stepped.Idle) new = (old.held.queue ≡ []) × (new ≡ old)
-Steps old pick (Some Stepped.Did) new = Does old pick new
-Steps old pick (Some (Stepped.Stuck rule)) new = IsStuck old pick rule × (new ≡ old)
-Steps old pick (Some Stepped.Memory) new = (0 < length old.held.queue) × (length old.held.events < old.steps) × (new ≡ old)
+-- it has a token, and may make one more event
+abbrev pub CanStep : State → ℕ → Held → Type 0
+CanStep s e h = IsLane s e h × (0 < length h.queue) × (h.made < s.setting.steps)
+
+-- all stands as before
+abbrev pub Stays : State → State → Events → Type 0
+Stays old new events = (new ≡ old) × (events ≡ [])
+
+abbrev pub IsClash : State → ℕ → ℕ → ℕ → Type 0
+IsClash s e pick cell = (h : Held) × CanStep s e h × Clashes h pick cell
+
+abbrev pub IsStuckAt : State → ℕ → ℕ → ℕ → Type 0
+IsStuckAt s e pick rule = (h : Held) × CanStep s e h × Excludes s.setting.program h pick rule
+
+-- with the events that it made, one or none
+abbrev pub Steps : State → ℕ → ℕ → Option Stepped → State → Events → Type 0
+Steps old e pick None new events = IsUsedUp old e × Stays old new events
+Steps old e pick (Some Idle) new events = IsIdle old e × Stays old new events
+Steps old e pick (Some Did) new events = Does old e pick new events
+Steps old e pick (Some (Clash cell)) new events = IsClash old e pick cell × Stays old new events
+Steps old e pick (Some (Stuck rule)) new events = IsStuckAt old e pick rule × Stays old new events
+Steps old e pick (Some Memory) new events = ((h : Held) × CanStep old e h) × Stays old new events

@@ -1,9 +1,9 @@
-//! How a machine is to run, and what its calls answer.
+//! How a machine is to run, and why it does not start.
 
 /// How the machine is to run.
 #[derive(Clone, Copy, Debug, PartialEq, Eq)]
 pub struct Config {
-    /// How many elements: 1.
+    /// How many elements: 1 to 16.
     pub elements: u64,
     /// How many frames each element has: 1 to 1,024.
     pub frames: u64,
@@ -23,18 +23,5 @@ pub enum StartFault {
     /// Another number of the configuration is outside its limits.
     BadConfig,
     /// A growth was refused.
-    Memory,
-}
-
-/// What a step did.
-#[derive(Clone, Copy, Debug, PartialEq, Eq)]
-pub enum Stepped {
-    /// There was no token.
-    Idle,
-    /// One event.
-    Did,
-    /// Nothing: the rule of this number excludes the token.
-    Stuck { rule: u8 },
-    /// Nothing: a growth was refused.
     Memory,
 }

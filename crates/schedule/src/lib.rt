@@ -1,12 +1,15 @@
-//! The machine that runs code for the explicit token store on one element: one token an event, in any order that the
-//! caller picks. It takes straight-line code.
+//! The machine that runs code for the explicit token store: up to 16 elements on one thread, one token an event, in any
+//! order that the caller picks.
 #![tactic(auto)]
 
 pub mod config;
-mod find;
-mod firing;
-mod lane;
+mod counting;
+mod delivery;
+mod elements;
+pub mod halt;
+mod locating;
+mod log;
 pub mod machine;
+pub mod main_code;
+mod opening;
 pub mod report;
-#[cfg(test)]
-mod tests;

@@ -1,69 +1,169 @@
 //! The machine: its start, its steps, and its runs.
 
-ghost use Rattle.std.specs.Prelude.{◌≡◌, ℕ, ℤ, List, ◌+◌, ◌<◌, ◌≤◌, ◌^◌, ◌↔◌, [], ◌∷◌, ◌++◌, length, All, IfOk, IfErr, MatchResult, IsTrue, true, false, Option, Some, None, replicate, vec_len};
-ghost use Rattle.semantics.specs.Report.{Shows};
-ghost use Rattle.schedule.specs.Straight.{IsStraightProgram};
-ghost use Rattle.schedule.specs.State.{State, size, IsSound};
-ghost use Rattle.schedule.specs.Starts.{IsGood, IsCause, Opens};
+ghost use Rattle.std.specs.Prelude.{◌≡◌, ℕ, ℤ, List, Bool, true, false, ◌<◌, ◌≤◌, ◌^◌, ◌↔◌, ◌∷◌, ◌++◌, [], length, map, All, IfOk, OnOk, MatchResult, IsTrue};
+ghost use Rattle.semantics.specs.Machine.{Events};
+ghost use Rattle.element.specs.Held.{held_of};
+ghost use Rattle.schedule.specs.Setting.{inputs_of};
+ghost use Rattle.schedule.specs.State.{AllFrom, IsAt, delivered};
+ghost use Rattle.schedule.specs.Starts.{IsGood, IsCause, Opens, setting_of, start_tokens};
 ghost use Rattle.schedule.specs.Steps.{Steps};
-ghost use Rattle.schedule.specs.Runs.{Began, EndsLeft, Plays, PlaysOldest, Tells};
+ghost use Rattle.schedule.specs.Runs.{Kept, Began, Plays, HaltsAs, EndsWith, NamesCell, rounds_of};
+ghost use Rattle.schedule.specs.declared.halt.Halt.{Halt};
+ghost use Rattle.schedule.specs.Told.{IsReportOf};
+ghost use Rattle.semantics.specs.Report.{Shows};
+ghost use Rattle.schedule.specs.Setting.{size};
+ghost use Rattle.schedule.specs.State.{state_of, IsWell};
+ghost use Rattle.schedule.specs.Told.{TellsLanes, opening_picture};
 
-use crate::config::{Config, StartFault, Stepped};
-use crate::find::{first_of, main_block};
-use crate::lane::Lane;
+use crate::config::{Config, StartFault};
+use crate::delivery::receive;
+use crate::elements::{Elements, Told};
+use crate::halt::Halt;
+use crate::locating::locate;
+use crate::log::NoLog;
+use crate::main_code::MainCode;
+use crate::opening::fresh_lanes;
 use crate::report::Report;
-use code::Program;
+use arrayvec::ArrayVec;
+use element::lane::{Lane, Stepped};
+use frame_store::store::Store;
 use semantics::report::End;
-use std::alloc::Allocator;
+use std::alloc::{AllocError, Allocator};
 use std::marker::Model;
+use tags::token::{Cont, Port, To, Token, Word};
+use tags::value::Value;
 
-/// A machine of one element that runs a program. Contracts see its tokens, slots, outputs and events as lists.
+/// A machine that runs code. Contracts see what its lanes hold, each token where it is addressed to, and its events.
 #[derive(Drop)]
-pub struct Machine<'p, A: Allocator> {
-    program: &'p Program<A>,
-    frames: u64,
-    steps: u64,
-    lane: Lane<A>,
+pub struct Machine<'m, C: MainCode, A: Allocator> {
+    elements: Elements<'m, C, A>,
+    events: Vec<(u32, Token), A>,
     alloc: A,
 }
 
-impl<'p, A: Allocator> Model for Machine<'p, A> {
-    ghost use Rattle.schedule.specs.State.{State, IsSound};
-    ghost use Rattle.schedule.specs.Held.{held_of};
+impl<'m, C: MainCode, A: Allocator> Model for Machine<'m, C, A> {
+    ghost use Rattle.schedule.specs.State.{state_of, IsWell};
+    ghost use Rattle.schedule.specs.Runs.{Kept};
 
-    ghost Value = { State };
+    ghost Value = { Kept };
 
-    ghost view = { λ m. record { program = m.program.now; frames = m.frames; steps = m.steps; held = held_of m.lane } };
+    ghost view = { λ m. record { state = state_of C.program C.width m.elements; events = m.events.items } };
 
-    ghost invariant = { λ m. IsSound (record { program = m.program.now; frames = m.frames; steps = m.steps; held = held_of m.lane }) };
+    ghost invariant = { λ m. IsWell C.program C.width m.elements };
 }
 
 fn has_good_numbers(config: &Config) -> bool
     ensures { IsTrue result ↔ IsGood config.now }
 {
-    config.elements == 1
+    1 <= config.elements
+        && config.elements <= 16
         && config.frames <= 1024
         && config.steps <= 4_294_967_296
         && 1 <= config.turn
         && config.turn <= 65_536
 }
 
-impl<'p, A: Allocator> Machine<'p, A> {
-    /// The machine before its first event, or the first cause in the order of `StartFault` that forbids it.
+// Gives the lanes the tokens at the start.
+fn give_inputs<A: Allocator>(
+    lanes: &mut Vec<Lane<'_, A>, A>,
+    elements: u32,
+    first: u32,
+    inputs: &[i64],
+) -> Result<(), AllocError>
+    requires some { 0 < elements }
+    requires count { length lanes.old.items ≡ elements }
+    requires at { AllFrom (IsAt elements) 0 (map held_of lanes.old.items) }
+    requires short { first < 2 ^ 30 }
+    requires few { length inputs.now ≤ 16 }
+    ensures ok { OnOk result (map held_of lanes.new.items ≡ delivered (start_tokens first inputs.now) (map held_of lanes.old.items)) }
+    ensures count { length lanes.new.items ≡ length lanes.old.items }
+{
+    receive(
+        lanes,
+        elements,
+        Token {
+            to: To::Instr {
+                frame: 0,
+                ip: first,
+                port: Port::Left,
+            },
+            word: Word::Back(Cont::Host { port: 0 }),
+        },
+    )?;
+    let mut ip = first;
+    for input in inputs {
+        ip += 1;
+        let token = Token {
+            to: To::Instr {
+                frame: 0,
+                ip,
+                port: Port::Left,
+            },
+            word: Word::Val(Value::Int(*input)),
+        };
+        receive(lanes, elements, token)?;
+    }
+    Ok(())
+}
+
+// The machine before its first event, over a store that it makes.
+fn open<'m, C: MainCode, A: Allocator>(
+    alloc: A,
+    store: &'m mut Option<Store<A>>,
+    code: &'m C,
+    inputs: &[i64],
+    config: &Config,
+) -> Result<Machine<'m, C, A>, AllocError>
+where
+    A: Clone,
+    requires good { IsGood config.now }
+    requires some_frame { 0 < config.now.frames }
+    requires few { length inputs.now ≤ 16 }
+    requires arity { length inputs.now ≡ inputs_of (C.program code.now) }
+    ensures { IfOk result (λ machine. Opens (C.program code.now) (C.width code.now) config.now inputs.now machine) }
+{
+    let elements = config.elements as u32;
+    let frames = config.frames as u32;
+    let made = Store::new(
+        alloc.clone()?,
+        elements as usize,
+        frames as usize,
+        code.slots() as usize,
+    )?;
+    let store = store.insert(made);
+    let mut lanes = fresh_lanes(alloc.clone()?, store, code)?;
+    give_inputs(&mut lanes, elements, code.main_entry(), inputs)?;
+    let elements = Elements {
+        code,
+        elements,
+        frames,
+        steps: config.steps,
+        lanes,
+        sent: Vec::new(alloc.clone()?),
+        come: 0,
+    };
+    Ok(Machine {
+        elements,
+        events: Vec::new(alloc.clone()?),
+        alloc,
+    })
+}
+
+impl<'m, C: MainCode, A: Allocator> Machine<'m, C, A> {
+    /// The machine before its first event, or the first cause in the order of `StartFault` that forbids it. Its slots lie
+    /// in `store`, whatever that was.
     pub fn start(
         alloc: A,
-        program: &'p Program<A>,
+        store: &'m mut Option<Store<A>>,
+        code: &'m C,
         inputs: &[i64],
         config: Config,
-    ) -> Result<Machine<'p, A>, StartFault>
+    ) -> Result<Machine<'m, C, A>, StartFault>
     where
         A: Clone,
-        requires { IsStraightProgram program.now }
-        ensures exact { MatchResult result (λ machine. Opens program.now config inputs.now machine) (IsCause program.now config inputs.now) }
-        ensures began { IfOk result (λ machine. Began inputs.now machine) }
+        ensures { MatchResult result (λ machine. Opens (C.program code.now) (C.width code.now) config inputs.now machine) (IsCause (C.program code.now) config inputs.now) }
     {
-        let main = main_block(program);
-        if inputs.len() != main.inputs as usize {
+        if inputs.len() != code.inputs() as usize {
             return Err(StartFault::WrongInputs);
         }
         if config.frames == 0 {
@@ -72,120 +172,215 @@ impl<'p, A: Allocator> Machine<'p, A> {
         if !has_good_numbers(&config) {
             return Err(StartFault::BadConfig);
         }
-        let first = first_of(program, program.main as usize);
-        let Ok(lane) = Lane::open(&alloc, main.outputs, first, inputs) else {
-            return Err(StartFault::Memory);
-        };
-        Ok(Machine {
-            program,
-            frames: config.frames,
-            steps: config.steps,
-            lane,
-            alloc,
-        })
+        match open(alloc, store, code, inputs, &config) {
+            Ok(machine) => Ok(machine),
+            Err(_) => Err(StartFault::Memory),
+        }
     }
 
-    /// Element 0 takes the token that `pick`, modulo the number of its tokens, names from the oldest on; `None` where it
+    /// The element takes the token that `pick`, modulo the number of its tokens, names from the oldest on; `None` where it
     /// has a token and has made all its events. The token is taken out, the others close up, and those that the event
-    /// makes go last. After `Stuck` and `Memory` all stands as before.
+    /// makes go last, each where it is addressed to. After `Clash`, `Stuck` and `Memory` all stands as before.
     pub fn step(&mut self, element: u32, pick: u64) -> Option<Stepped>
-        requires { element < 1 }
-        ensures exact { Steps self.old pick result self.new }
-        ensures program { self.new.program ≡ self.old.program }
-        ensures size { size self.new ≡ size self.old }
-        ensures steps { self.new.steps ≡ self.old.steps }
-        ensures began { (inputs : List ℤ) → Began inputs self.old → Began inputs self.new }
+    where
+        A: Clone,
+        requires { element < self.old.state.setting.elements }
+        ensures { (made : Events) × Steps self.old.state element pick result self.new.state made × (self.new.events ≡ self.old.events ++ made) }
     {
-        let waiting = self.lane.queue.len();
-        if waiting == 0 {
-            return Some(Stepped::Idle);
-        }
-        if self.lane.events.len() as u64 == self.steps {
-            return None;
-        }
-        let at = (pick % waiting as u64) as usize;
-        let token = self.lane.queue[at];
-        Some(self.lane.act(self.program, at, token))
+        self.elements.step(element, pick, &mut self.events)
     }
 
-    fn report(self, end: End) -> Report<A>
-        ensures end { result.end ≡ end }
-        ensures tells { Tells self.entry result }
-        ensures sound { IsSound self.entry }
+    /// Makes one step for each element and pick of the list, in order, and answers why it makes no more. It stops early
+    /// where no token is left, where a token stores in a full cell or is excluded, and for want of memory; an element that
+    /// has made all its events is passed over. The answer is `Steps` where the list ends with a token left.
+    pub fn play(&mut self, picks: &[(u32, u64)]) -> Halt
+    where
+        A: Clone,
+        requires { All (λ pick. pick.0 < self.old.state.setting.elements) picks.now }
+        ensures plays { (made : Events) × Plays true picks.now self.old.state self.new.state result made × (self.new.events ≡ self.old.events ++ made) }
+        ensures began { (inputs : List ℤ) → Began inputs self.old.state self.old.events → Began inputs self.new.state self.new.events }
+        ensures halts { HaltsAs self.new.state true result }
+        ensures setting { self.new.state.setting ≡ self.old.state.setting }
+        ensures cell { NamesCell self.new.state.setting.program result }
+    {
+        self.elements.play(picks, &mut self.events)
+    }
+
+    /// Makes one step after another, each with the oldest token of an element, the elements in turn, and answers why it
+    /// makes no more. It stops where no token is left, where a token stores in a full cell or is excluded, for want of
+    /// memory, and at the first element that has a token and has made all its events.
+    pub fn play_in_turn(&mut self) -> Halt
+    where
+        A: Clone,
+        ensures plays { (rounds : ℕ) × (made : Events) × Plays false (rounds_of rounds self.old.state.setting.elements) self.old.state self.new.state result made × (self.new.events ≡ self.old.events ++ made) }
+        ensures began { (inputs : List ℤ) → Began inputs self.old.state self.old.events → Began inputs self.new.state self.new.events }
+        ensures halts { HaltsAs self.new.state false result }
+        ensures setting { self.new.state.setting ≡ self.old.state.setting }
+        ensures cell { NamesCell self.new.state.setting.program result }
+    {
+        self.elements.play_in_turn(&mut self.events)
+    }
+
+    /// What the machine holds and what happened, with the end of a run that halted so. Where its own lists are refused it is
+    /// the report of the machine before its first event, with the end `Memory`.
+    pub fn report(self, halt: Halt) -> Report<A>
+    where
+        A: Clone,
+        requires { NamesCell self.state.setting.program halt }
+        ensures told { IsReportOf self.entry halt result }
+        ensures shows { (inputs : List ℤ) (listed : Bool) → Began inputs self.entry.state self.entry.events → HaltsAs self.entry.state listed halt → Shows self.entry.state.setting.program (size self.entry.state.setting) inputs self.entry.state.setting.steps listed false result }
     {
         let Machine {
-            program: _,
-            frames: _,
-            steps: _,
-            lane,
+            elements,
+            events,
             alloc,
         } = self;
-        let Lane {
-            queue: _,
-            slots: _,
-            out,
-            outputs,
-            done: _,
-            events,
-        } = lane;
-        Report {
-            end,
-            outputs,
-            cells: Vec::new(alloc),
-            deferred: 0,
-            waiting_frames: 0,
-            waiting_credits: 0,
-            frames_out: u64::from(out),
-            events,
+        let code = elements.code;
+        match tell(elements, &alloc) {
+            Ok(told) => Report {
+                end: end_of(code, halt, told.requests, told.credits),
+                outputs: told.outputs,
+                cells: told.cells,
+                deferred: told.deferred,
+                waiting_frames: told.requests,
+                waiting_credits: told.credits,
+                frames_out: told.out,
+                events,
+            },
+            Err(_) => opening_report(alloc, code.outputs(), events),
         }
     }
 
-    // The report where no pick is left.
-    fn report_left(self) -> Report<A>
-        ensures ends { EndsLeft self.entry result.end }
-        ensures tells { Tells self.entry result }
-        ensures sound { IsSound self.entry }
-    {
-        if self.lane.queue.is_empty() {
-            self.report(End::Rest)
-        } else {
-            self.report(End::Steps)
-        }
-    }
-
-    /// Makes one step for each element and pick of the list, in order, and tells what there is then. It stops early where
-    /// no token is left, where a token is excluded, and for want of memory; an element that has made all its events is
-    /// passed over. The end is `Steps` where the list ends with a token left.
+    /// Makes one step for each element and pick of the list, in order, and reports. It stops early where no token is left,
+    /// where a token stores in a full cell or is excluded, and for want of memory; an element that has made all its events
+    /// is passed over. The end is `Steps` where the list ends with a token left.
     pub fn run(mut self, picks: &[(u32, u64)]) -> Report<A>
-        requires { All (λ pick. pick.0 < 1) picks.now }
-        ensures plays { (last : State) × Plays picks.now self.entry last result.end × Tells last result }
-        ensures shows { (inputs : List ℤ) → Began inputs self.entry → Shows self.entry.program (size self.entry) inputs self.entry.steps true false result }
+    where
+        A: Clone,
+        requires { All (λ pick. pick.0 < self.state.setting.elements) picks.now }
+        ensures plays { (last : Kept) × (halt : Halt) × (made : Events) × Plays true picks.now self.entry.state last.state halt made × (last.events ≡ self.entry.events ++ made) × IsReportOf last halt result }
+        ensures shows { (inputs : List ℤ) → Began inputs self.entry.state self.entry.events → Shows self.entry.state.setting.program (size self.entry.state.setting) inputs self.entry.state.setting.steps true false result }
     {
-        for (element, pick) in picks {
-            match self.step(*element, *pick) {
-                None | Some(Stepped::Did) => {}
-                Some(Stepped::Idle) => return self.report(End::Rest),
-                Some(Stepped::Stuck { rule }) => return self.report(End::Stuck { rule }),
-                Some(Stepped::Memory) => return self.report(End::Memory),
-            }
-        }
-        self.report_left()
+        let halt = self.play(picks);
+        self.report(halt)
     }
 
-    /// Makes one step after another, each with the oldest token, until no token is left, a token is excluded, memory is
-    /// refused, or the element has made all its events with a token left; and tells what there is then.
+    /// Makes one step after another, each with the oldest token of an element, the elements in turn, and reports. It stops
+    /// where no token is left, where a token stores in a full cell or is excluded, for want of memory, and with the end
+    /// `Steps` at the first element that has a token and has made all its events.
     pub fn run_one(mut self) -> Report<A>
-        ensures plays { (count : ℕ) × (last : State) × PlaysOldest count self.entry last result.end × Tells last result }
-        ensures shows { (inputs : List ℤ) → Began inputs self.entry → Shows self.entry.program (size self.entry) inputs self.entry.steps false false result }
+    where
+        A: Clone,
+        ensures plays { (last : Kept) × (halt : Halt) × (rounds : ℕ) × (made : Events) × Plays false (rounds_of rounds self.entry.state.setting.elements) self.entry.state last.state halt made × (last.events ≡ self.entry.events ++ made) × IsReportOf last halt result }
+        ensures shows { (inputs : List ℤ) → Began inputs self.entry.state self.entry.events → Shows self.entry.state.setting.program (size self.entry.state.setting) inputs self.entry.state.setting.steps false false result }
     {
-        loop {
-            match self.step(0, 0) {
-                Some(Stepped::Did) => {}
-                Some(Stepped::Idle) => return self.report(End::Rest),
-                Some(Stepped::Stuck { rule }) => return self.report(End::Stuck { rule }),
-                Some(Stepped::Memory) => return self.report(End::Memory),
-                None => return self.report(End::Steps),
+        let halt = self.play_in_turn();
+        self.report(halt)
+    }
+
+    /// The same machine without the list of its events.
+    pub fn without_events(self) -> Quiet<'m, C, A>
+        ensures { result ≡ self.entry.state }
+    {
+        let Machine {
+            elements,
+            events: _,
+            alloc,
+        } = self;
+        Quiet { elements, alloc }
+    }
+}
+
+// How a run ends that halts so, with so many requests that wait.
+fn end_of<C: MainCode>(code: &C, halt: Halt, frames: u64, credits: u64) -> End
+    requires { NamesCell (C.program code.now) halt }
+    ensures { EndsWith (C.program code.now) result frames credits halt }
+{
+    match halt {
+        Halt::NoToken => {
+            if frames == 0 && credits == 0 {
+                End::Rest
+            } else {
+                End::Starved
             }
         }
+        Halt::Clash { cell } => match locate(code, cell) {
+            Some(place) => End::Clash {
+                array: place.array,
+                index: place.index,
+            },
+            None => unreachable!(),
+        },
+        Halt::Steps => End::Steps,
+        Halt::Stuck { rule } => End::Stuck { rule },
+        Halt::Memory => End::Memory,
+    }
+}
+
+// The report of the machine before its first event, which is refused memory.
+fn opening_report<A: Allocator>(
+    alloc: A,
+    outputs: u32,
+    mut events: Vec<(u32, Token), A>,
+) -> Report<A>
+    requires { outputs ≤ 16 }
+    ensures { result ≡ opening_picture outputs }
+{
+    let mut none = ArrayVec::from([None; 16]);
+    none.truncate(outputs as usize);
+    events.clear();
+    Report {
+        end: End::Memory,
+        outputs: none,
+        cells: Vec::new(alloc),
+        deferred: 0,
+        waiting_frames: 0,
+        waiting_credits: 0,
+        frames_out: 1,
+        events,
+    }
+}
+
+fn tell<C: MainCode, A: Allocator>(
+    elements: Elements<'_, C, A>,
+    alloc: &A,
+) -> Result<Told<A>, AllocError>
+where
+    A: Clone,
+    requires { IsWell C.program C.width elements }
+    ensures { IfOk result (λ told. TellsLanes (state_of C.program C.width elements.entry).setting (map held_of elements.entry.lanes.items) told.outputs.items told.cells.items told.deferred told.requests told.credits told.out) }
+{
+    elements.tell(alloc.clone()?)
+}
+
+/// A machine that keeps no list of its events: it takes no more memory for a long run than for a short one. Contracts see
+/// what its lanes hold.
+#[derive(Drop)]
+pub struct Quiet<'m, C: MainCode, A: Allocator> {
+    elements: Elements<'m, C, A>,
+    alloc: A,
+}
+
+impl<'m, C: MainCode, A: Allocator> Model for Quiet<'m, C, A> {
+    ghost use Rattle.schedule.specs.State.{State, state_of, IsWell};
+
+    ghost Value = { State };
+
+    ghost view = { λ m. state_of C.program C.width m.elements };
+
+    ghost invariant = { λ m. IsWell C.program C.width m.elements };
+}
+
+impl<'m, C: MainCode, A: Allocator> Quiet<'m, C, A> {
+    /// As `Machine::play_in_turn`: there is a run with the events that it made.
+    pub fn play_in_turn(&mut self) -> Halt
+    where
+        A: Clone,
+        ensures plays { (rounds : ℕ) × (made : Events) × Plays false (rounds_of rounds self.old.setting.elements) self.old self.new result made × ((inputs : List ℤ) (before : Events) → Began inputs self.old before → Began inputs self.new (before ++ made)) }
+        ensures halts { HaltsAs self.new false result }
+        ensures setting { self.new.setting ≡ self.old.setting }
+        ensures cell { NamesCell self.new.setting.program result }
+    {
+        self.elements.play_in_turn(&mut NoLog)
     }
 }

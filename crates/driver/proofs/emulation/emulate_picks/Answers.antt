@@ -1,10 +1,18 @@
-use Rattle.std.proofs.Common.{true}
+use Rattle.std.proofs.Common.{subst, List, ℕ, true}
+use Rattle.driver.specs.Headline.{ShowsObject}
+use Rattle.driver.specs.Refused.{IsRefusedObject}
 use Rattle.driver.proofs.Truth.{tells_truth}
+use Rattle.driver.proofs.TextObjects.{refused_as_text}
 use Rattle.driver.proofs.emulation.emulate_picks.Goals as goal
 
-pub returns-in-Ok-start : goal.returns-in-Ok-start
-returns-in-Ok-start g c = (
+pub returns-in-Ok-emulate_object_picks : goal.returns-in-Ok-emulate_object_picks
+returns-in-Ok-emulate_object_picks g c = (
   c.in-Ok-compile.compiled.checked,
-  tells_truth c.args.text.now c.in-Ok-compile.compiled.checked c.in-Ok-compile.compiled.program c.args.inputs.now c.args.config c.in-Ok-start.machine true c.run.result
-      c.in-Ok-compile.ensures c.in-Ok-start.ensures.exact (c.run.ensures.shows c.args.inputs.now c.in-Ok-start.ensures.began),
+  tells_truth c.args.text.now c.in-Ok-compile.compiled.checked _ c.args.inputs.now c.args.config true c.in-Ok-emulate_object_picks.report c.in-Ok-compile.ensures
+      (subst (λ (bs : List ℕ). ShowsObject bs c.args.inputs.now c.args.config true c.in-Ok-emulate_object_picks.report) c.deref.ensures.value c.in-Ok-emulate_object_picks.ensures),
 )
+
+pub returns : goal.returns
+returns g c =
+    refused_as_text c.args.text.now c.in-Ok-compile.compiled.checked _ c.args.inputs.now c.args.config c.in-Ok-compile.ensures c.in-Err-emulate_object_picks.fault
+    (subst (λ (bs : List ℕ). IsRefusedObject bs c.args.inputs.now c.args.config c.in-Err-emulate_object_picks.fault) c.deref.ensures.value c.in-Err-emulate_object_picks.ensures)

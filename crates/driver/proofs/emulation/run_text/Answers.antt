@@ -1,8 +1,16 @@
-use Rattle.std.proofs.Common.{false}
+use Rattle.std.proofs.Common.{subst, List, ℕ, false}
+use Rattle.driver.specs.Headline.{ShowsObject}
+use Rattle.driver.specs.Refused.{IsRefusedObject}
 use Rattle.driver.proofs.Truth.{tells_truth}
+use Rattle.driver.proofs.TextObjects.{refused_as_text}
 use Rattle.driver.proofs.emulation.run_text.Goals as goal
 
-pub returns-in-Ok-start : goal.returns-in-Ok-start
-returns-in-Ok-start g c =
-    tells_truth c.args.text.now c.in-Ok-compile.compiled.checked c.in-Ok-compile.compiled.program c.args.inputs.now c.args.config c.in-Ok-start.machine false c.run_one.result
-    c.in-Ok-compile.ensures c.in-Ok-start.ensures.exact (c.run_one.ensures.shows c.args.inputs.now c.in-Ok-start.ensures.began)
+pub returns-in-Ok-emulate_object : goal.returns-in-Ok-emulate_object
+returns-in-Ok-emulate_object g c =
+    tells_truth c.args.text.now c.in-Ok-compile.compiled.checked _ c.args.inputs.now c.args.config false c.in-Ok-emulate_object.report c.in-Ok-compile.ensures
+    (subst (λ (bs : List ℕ). ShowsObject bs c.args.inputs.now c.args.config false c.in-Ok-emulate_object.report) c.deref.ensures.value c.in-Ok-emulate_object.ensures)
+
+pub returns : goal.returns
+returns g c =
+    refused_as_text c.args.text.now c.in-Ok-compile.compiled.checked _ c.args.inputs.now c.args.config c.in-Ok-compile.ensures c.in-Err-emulate_object.fault
+    (subst (λ (bs : List ℕ). IsRefusedObject bs c.args.inputs.now c.args.config c.in-Err-emulate_object.fault) c.deref.ensures.value c.in-Err-emulate_object.ensures)

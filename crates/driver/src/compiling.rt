@@ -1,0 +1,213 @@
+//! The compiler, pass by pass: text to graph, graph to plan, plan to plan with trees of copies, to slots, to code, to the
+//! bytes of an object.
+
+ghost use Rattle.std.specs.Prelude.{◌≡◌, ◌≤◌, length, IfOk, MatchResult};
+ghost use Rattle.semantics.specs.Text.{HasText, IsText};
+ghost use Rattle.semantics.specs.WellFormed.{WellFormed};
+ghost use Rattle.lowering.specs.Theorem.{IsStraightLine};
+ghost use Rattle.select.specs.Emitted.{version_number as emitted_number};
+ghost use Rattle.object_view.specs.Fields.{version_number as written_number};
+ghost use Rattle.driver.specs.Compiled.{plan_of, IsCodeFor, IsTooLarge};
+ghost use Rattle.driver.specs.Refused.{IsGoodText, IsCompiled, IsUncompiled, IsRefusedText};
+ghost use Rattle.driver.specs.Written.{WritesObject};
+
+use crate::fault::Fault;
+use code::{Code, Plan};
+use fanout::narrow;
+use graph::{Graph, Version};
+use graph_check::{CheckFaultKind, Checked, check};
+use graph_file::{ReadFaultKind, read};
+use object_view::write;
+use schemas::{expand, first_unbuilt};
+use select::{EmitFault, emit};
+use slot_alloc::{AssignFault, assign};
+use std::alloc::{AllocError, Allocator};
+use std::io::{self, Write};
+
+/// A graph with the object of its code.
+#[derive(Drop)]
+pub struct Compiled<'a, A: Allocator> {
+    pub checked: Checked<'a, A>,
+    /// The bytes of the object.
+    pub object: Vec<u8, A>,
+}
+
+/// The graph that the text has.
+fn read_text<'a, A: Allocator + Clone>(alloc: A, text: &'a [u8]) -> Result<Graph<'a, A>, Fault>
+    ensures { MatchResult result (IsText text.now) (IsRefusedText text.now) }
+{
+    match read(alloc, text) {
+        Ok(graph) => Ok(graph),
+        Err(fault) => {
+            if fault.kind == ReadFaultKind::Memory {
+                Err(Fault::Memory)
+            } else {
+                Err(Fault::Read(fault))
+            }
+        }
+    }
+}
+
+/// The graph that the text has, if it is well formed.
+pub fn check_text<'a, A: Allocator + Clone>(
+    alloc: A,
+    text: &'a [u8],
+) -> Result<Checked<'a, A>, Fault>
+    ensures { MatchResult result (IsGoodText text.now) (IsRefusedText text.now) }
+{
+    let graph = match read_text(alloc, text) {
+        Ok(graph) => graph,
+        Err(fault) => return Err(fault),
+    };
+    match check(graph) {
+        Ok(checked) => Ok(checked),
+        Err(fault) => {
+            if fault.kind == CheckFaultKind::Memory {
+                Err(Fault::Memory)
+            } else {
+                Err(Fault::Check(fault))
+            }
+        }
+    }
+}
+
+/// How many blocks the graph has: its code is plain.
+fn block_count<'a, A: Allocator>(graph: &Graph<'a, A>) -> u32
+    requires { length graph.now.blocks ≤ 256 }
+    ensures { result ≡ length graph.now.blocks }
+{
+    graph.blocks.len() as u32
+}
+
+/// The plan of a straight-line graph: at most two destinations at an instruction, and a number for each holder of a slot.
+fn plan<'a, A: Allocator + Clone>(alloc: &A, graph: &Graph<'a, A>) -> Result<Plan<A>, AllocError>
+    requires well_formed { WellFormed graph.now }
+    requires straight { IsStraightLine graph.now }
+    requires limits { HasText graph.now }
+    ensures { IfOk result (λ p. p ≡ plan_of graph.now) }
+{
+    let wide = Plan {
+        program: expand(alloc.clone()?, graph)?,
+        plain: block_count(graph),
+        marks: Vec::new(alloc.clone()?),
+    };
+    narrow(alloc.clone()?, &wide)
+}
+
+/// The version of the graph's object: that of its text.
+fn version_of<'a, A: Allocator>(graph: &Graph<'a, A>) -> select::Version
+    ensures { emitted_number result ≡ graph.now.version }
+{
+    match graph.version {
+        Version::One => select::Version::One,
+        Version::Two => select::Version::Two,
+    }
+}
+
+fn object_version<'a, A: Allocator>(graph: &Graph<'a, A>) -> object_view::Version
+    ensures { written_number result ≡ graph.now.version }
+{
+    match graph.version {
+        Version::One => object_view::Version::One,
+        Version::Two => object_view::Version::Two,
+    }
+}
+
+/// The code of a straight-line graph.
+fn code_of<'a, A: Allocator + Clone>(alloc: A, graph: &Graph<'a, A>) -> Result<Code<A>, Fault>
+    requires well_formed { WellFormed graph.now }
+    requires straight { IsStraightLine graph.now }
+    requires limits { HasText graph.now }
+    ensures { MatchResult result (IsCodeFor graph.now) (IsTooLarge graph.now) }
+{
+    let Ok(plan) = plan(&alloc, graph) else {
+        return Err(Fault::Memory);
+    };
+    let Ok(room) = alloc.clone() else {
+        return Err(Fault::Memory);
+    };
+    let slots = match assign(room, &plan) {
+        Ok(slots) => slots,
+        Err(AssignFault::TooManySlots { block }) => return Err(Fault::TooManySlots(block)),
+        Err(AssignFault::Memory) => return Err(Fault::Memory),
+    };
+    match emit(alloc, &plan, &slots, version_of(graph)) {
+        Ok(code) => Ok(code),
+        Err(EmitFault::TooFar { block }) => Err(Fault::TooFar(block)),
+        Err(EmitFault::Memory) => Err(Fault::Memory),
+    }
+}
+
+/// The code of the graph that a text has, if the compiler knows all its kinds.
+fn code_of_checked<'a, A: Allocator + Clone>(
+    alloc: A,
+    checked: &Checked<'a, A>,
+) -> Result<Code<A>, Fault>
+    requires limits { HasText checked.now }
+    requires well_formed { WellFormed checked.now }
+    ensures { MatchResult result (IsCodeFor checked.now) (IsUncompiled checked.now) }
+{
+    if let Some(unbuilt) = first_unbuilt(checked.graph()) {
+        return Err(Fault::Unbuilt(unbuilt));
+    }
+    code_of(alloc, checked.graph())
+}
+
+/// The graph that the text has, and the object of its code.
+pub fn compile<'a, A: Allocator + Clone>(alloc: A, text: &'a [u8]) -> Result<Compiled<'a, A>, Fault>
+    ensures { MatchResult result (λ c. IsCompiled text.now c.checked c.object.items) (IsRefusedText text.now) }
+{
+    let Ok(room) = alloc.clone() else {
+        return Err(Fault::Memory);
+    };
+    let checked = match check_text(room, text) {
+        Ok(checked) => checked,
+        Err(fault) => return Err(fault),
+    };
+    let Ok(room) = alloc.clone() else {
+        return Err(Fault::Memory);
+    };
+    let code = match code_of_checked(room, &checked) {
+        Ok(code) => code,
+        Err(fault) => return Err(fault),
+    };
+    let mut object = Vec::new(alloc);
+    match write(&code, object_version(checked.graph()), &mut object) {
+        Ok(()) => Ok(Compiled { checked, object }),
+        Err(_) => Err(Fault::Memory),
+    }
+}
+
+/// Why no object, or only a beginning of it, was written.
+#[derive(Debug, Drop)]
+pub enum CompileRefusal {
+    /// There is none, and nothing was written.
+    Fault(Fault),
+    /// A write failed. A beginning of the object went out.
+    Write(io::Error),
+}
+
+/// Writes the object of the graph that the text has.
+pub fn write_object<A: Allocator + Clone, W: Write>(
+    alloc: A,
+    text: &[u8],
+    writer: &mut W,
+) -> Result<(), CompileRefusal>
+    ensures { WritesObject result (W.contents writer.old) (W.contents writer.new) text.now }
+{
+    let Ok(room) = alloc.clone() else {
+        return Err(CompileRefusal::Fault(Fault::Memory));
+    };
+    let checked = match check_text(room, text) {
+        Ok(checked) => checked,
+        Err(fault) => return Err(CompileRefusal::Fault(fault)),
+    };
+    let code = match code_of_checked(alloc, &checked) {
+        Ok(code) => code,
+        Err(fault) => return Err(CompileRefusal::Fault(fault)),
+    };
+    match write(&code, object_version(checked.graph()), writer) {
+        Ok(()) => Ok(()),
+        Err(fault) => Err(CompileRefusal::Write(fault)),
+    }
+}

@@ -1,8 +1,0 @@
-use Rattle.std.proofs.Common.{◌≡◌, map}
-use Rattle.semantics.specs.Report.{sum_below}
-use Rattle.element.specs.Held.{held_of}
-use Rattle.lanes.specs.Told.{cell_readers}
-use Rattle.lanes.proofs.counting.deferred.Given as goal
-
-abbrev pub invariant-loop-cell : goal.invariant-loop-cell
-invariant-loop-cell g l = l.count ≡ sum_below l.cell (λ x. cell_readers l.elements (map held_of l.lanes) x)

@@ -1,7 +1,0 @@
-use Rattle.std.proofs.Common.{◌≡◌, map}
-use Rattle.element.specs.Held.{held_of}
-use Rattle.lanes.specs.Told.{full_below}
-use Rattle.lanes.proofs.counting.full_cells.Given as goal
-
-abbrev pub invariant-loop-cell : goal.invariant-loop-cell
-invariant-loop-cell g l = l.full.items ≡ full_below l.elements (map held_of l.lanes) l.cell

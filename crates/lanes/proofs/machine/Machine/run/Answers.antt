@@ -1,8 +1,0 @@
-use Rattle.std.proofs.Common.{subst, true, false}
-use Rattle.semantics.specs.Report.{Shows}
-use Rattle.lanes.specs.Setting.{Setting, size}
-use Rattle.lanes.proofs.machine.Machine.run.Goals as goal
-
-pub returns-clause-shows : goal.returns-clause-shows
-returns-clause-shows g c = λ inputs began.
-    subst (λ (z : Setting). Shows z.program (size z) inputs z.steps true false c.report.result) c.play-halt.ensures.setting (c.report.ensures.shows inputs true (c.play-halt.ensures.began inputs began) c.play-halt.ensures.halts)

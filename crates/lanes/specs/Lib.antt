@@ -1,6 +1,0 @@
-pub mod Setting
-pub mod State
-pub mod Steps
-pub mod Runs
-pub mod Starts
-pub mod Told

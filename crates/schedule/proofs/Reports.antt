@@ -1,0 +1,107 @@
+-- The report of a machine shows a run.
+use Rattle.std.proofs.Common.{◌≡◌, refl, sym, ◌∙◌, ap, subst, ℕ, zero, suc, ◌*◌, ◌<◌, ◌≤◌, Bool, false, ℤ, List, [], length, map, drop, replicate, Option, None, arith}
+use Rattle.std.specs.Prelude.{◌==◌}
+use Rattle.std.proofs.Math.Dec.{eqb-suc-zero}
+use Rattle.std.proofs.Math.Nat.{one-le-mul}
+use Rattle.std.proofs.lemmas.List.{length-replicate, length-map}
+use Rattle.std.proofs.lemmas.List.Elements.{All-contains, All-replicate}
+use Rattle.std.proofs.lemmas.List.Sorted.{IsPermutation-refl}
+use Rattle.std.proofs.lemmas.Option.{get_or_from_slice_get, slice_get_within}
+use Rattle.tags.specs.declared.value.Value.{Value}
+use Rattle.tags.specs.declared.token.To.{To}
+use Rattle.semantics.specs.Program.{Program}
+use Rattle.semantics.specs.Rule.{array_base}
+use Rattle.semantics.specs.Machine.{Machine, CellState, Vacant, Full, Size, Events, at_start, outputs_of, reader_count}
+use Rattle.semantics.specs.declared.report.End.{End}
+use Rattle.semantics.specs.Report.{Report, IsPicture, Shows, sum_below, waiters, one_if}
+use Rattle.element.specs.Near.{IsNearTo, IsNearToken}
+use Rattle.element.specs.Parts.{bounds}
+use Rattle.element.specs.Held.{Held, held_of, queued}
+use Rattle.schedule.specs.declared.elements.Elements.{Elements}
+use Rattle.schedule.specs.declared.halt.Halt.{Halt}
+use Rattle.schedule.specs.Setting.{size, total}
+use Rattle.schedule.specs.State.{State, IsPlaced, IsSoundState, Stands, IsWell, state_of}
+use Rattle.schedule.specs.Runs.{HaltsAs, NamesCell}
+use Rattle.schedule.specs.Told.{TellsLanes, opening_picture}
+use Rattle.schedule.proofs.Places.{first_get, to_map}
+use Rattle.schedule.proofs.Memory.{lane_count}
+use Rattle.schedule.proofs.Pictures.{IsKnown, known_lanes, pictured}
+use Rattle.schedule.proofs.Showing.{picked}
+
+nothing : (n : ℕ) (f : ℕ → ℕ) → ((x : ℕ) → f x ≡ 0) → sum_below n f ≡ 0
+nothing zero f none = refl
+nothing (suc n) f none = let a : sum_below n f ≡ 0 = nothing n f none in let b : f n ≡ 0 = none n in omega arith
+
+only_first : (n : ℕ) (f : ℕ → ℕ) → ((x : ℕ) → f (suc x) ≡ 0) → sum_below (suc n) f ≡ f 0
+only_first zero f none = omega arith
+only_first (suc n) f none = let a : sum_below (suc n) f ≡ f 0 = only_first n f none in let b : f (suc n) ≡ 0 = none n in omega arith
+
+first_of_some : (n : ℕ) (f : ℕ → ℕ) → 0 < n → ((x : ℕ) → f (suc x) ≡ 0) → sum_below n f ≡ f 0
+first_of_some zero f some none = absurd (omega arith)
+first_of_some (suc n) f some none = only_first n f none
+
+vacant_not_full : (v : Value) → (let c : CellState = Vacant in c) ≡ Full v → ⊥
+vacant_not_full v e = let no : ⊥ = cc in no
+
+opening_pictured : (p : Program) (z : Size) (inputs : List ℤ) → 0 < z.elements * z.frames → IsPicture p z (at_start p inputs) (opening_picture (outputs_of p))
+opening_pictured p z inputs some = record {
+  output_count = length-replicate (outputs_of p) None;
+  outputs = λ j v got. sym (get_or_from_slice_get (replicate (outputs_of p) None) j v None got) ∙ All-replicate (λ (o : Option Value). o ≡ None) (outputs_of p) None refl j None (slice_get_within (replicate (outputs_of p) None) j v got);
+  ascend = λ i j a b low got. absurd (let no : ⊥ = cc in no);
+  cells = λ x v. ((λ there. absurd (omega (arith, there.1))), (λ full. absurd (vacant_not_full v full)));
+  deferred = sym (nothing (array_base p (length p.arrays)) (λ x. reader_count ((at_start p inputs).store.cells x)) (λ x. refl));
+  waiting_frames = refl;
+  waiting_credits = sym (nothing (z.elements * z.frames) (λ f. sum_below 512 (λ r. waiters ((at_start p inputs).store.slots f r))) (λ f. nothing 512 (λ r. waiters ((at_start p inputs).store.slots f r)) (λ r. refl)));
+  frames_out = sym (first_of_some (z.elements * z.frames) (λ f. one_if (f == 0)) some (λ f. ap (λ (b : Bool). one_if b) (eqb-suc-zero f)));
+}
+
+pub shows_opening : (s : State) (inputs : List ℤ) (listed : Bool) (outputs : ℕ) → IsSoundState s → outputs ≡ outputs_of s.setting.program → Shows s.setting.program (size s.setting) inputs s.setting.steps listed false (opening_picture outputs)
+shows_opening s inputs listed outputs sound is =
+    let some : 1 ≤ total s.setting = (let a = sound.setting.some in let b = sound.setting.some_frames in one-le-mul {a = s.setting.elements} {b = s.setting.frames} (omega arith) (omega arith)) in
+    subst (λ (n : ℕ). Shows s.setting.program (size s.setting) inputs s.setting.steps listed false (opening_picture n)) (sym is) (record {
+      last = at_start s.setting.program inputs;
+      run = (IsPermutation-refl (at_start s.setting.program inputs).pool, refl);
+      picture = opening_pictured s.setting.program (size s.setting) inputs some;
+      ends = tt;
+    })
+
+-- what is told of lanes in memory, with tokens on their way, is a picture
+pub memory_pictured : {C A : Type 0} (program : C → Program) (width : C → ℕ) (m : Elements C A) (mach : Machine) (r : Report) → IsWell program width m → Stands (state_of program width m) mach
+    → TellsLanes (state_of program width m).setting (map (held_of {A = A}) m.lanes.items) r.outputs r.cells r.deferred r.waiting_frames r.waiting_credits r.frames_out
+    → IsPicture (state_of program width m).setting.program (size (state_of program width m).setting) mach r
+memory_pictured {C} {A} program width m mach r well stands told =
+    let s = state_of program width m in
+    let raw = map (held_of {A = A}) m.lanes.items in
+    let known = to_map (IsKnown s.setting mach.store) (IsKnown s.setting mach.store) (λ (h : Held). queued h (drop m.come m.sent.items)) (λ (i : ℕ) (h : Held) (k : IsKnown s.setting mach.store i (queued h (drop m.come m.sent.items))). record {
+      element = k.element;
+      elements = k.elements;
+      frames = k.frames;
+      width = k.width;
+      sound = k.sound;
+      part = k.part;
+    }) 0 raw (known_lanes s mach well.sound stands) in
+    let count = length-map m.lanes.items (held_of {A = A}) ∙ lane_count m.lanes.items (drop m.come m.sent.items) m.elements well.sound.count in
+    pictured s.setting mach.store raw well.sound.setting count known stands.bounded mach.pool r told.0 (record {
+      there = told.1;
+      outputs = told.2;
+      cells = told.3;
+      deferred = told.4;
+      requests = told.5;
+      credits = told.6;
+      out = told.7;
+    })
+
+-- the cell of a clash is one of the program's
+pub clash_cell : (s : State) (listed : Bool) (halt : Halt) → IsSoundState s → HaltsAs s listed halt → NamesCell s.setting.program halt
+clash_cell s listed (Halt.Clash cell) sound (i, pick, (h, can, clash)) =
+    let p = first_get (IsPlaced s.setting) s.lanes i h sound.lanes can.0.there in
+    let near : IsNearToken (bounds s.setting.program h.part.shape) clash.token = All-contains (IsNearToken (bounds s.setting.program h.part.shape)) h.queue clash.token p.sound.near (picked h pick clash.token clash.picks) in
+    subst (λ (to : To). IsNearTo (bounds s.setting.program h.part.shape) to) clash.second.to near.to
+clash_cell s listed Halt.NoToken sound halts = tt
+clash_cell s listed Halt.Steps sound halts = tt
+clash_cell s listed (Halt.Stuck rule) sound halts = tt
+clash_cell s listed Halt.Memory sound halts = tt
+
+pub opening_is : (n : ℕ) (outputs : List (Option Value)) (cells : List (ℕ × Value)) (evs : Events) → outputs ≡ replicate n None → cells ≡ [] → evs ≡ []
+    → (let r : Report = record { end = End.Memory; outputs = outputs; cells = cells; deferred = 0; waiting_frames = 0; waiting_credits = 0; frames_out = 1; events = evs } in r) ≡ opening_picture n
+opening_is n outputs cells evs o c e = λ i. record { end = End.Memory; outputs = o i; cells = c i; deferred = 0; waiting_frames = 0; waiting_credits = 0; frames_out = 1; events = e i }

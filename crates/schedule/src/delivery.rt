@@ -1,0 +1,76 @@
+//! Tokens on their way to other elements.
+
+ghost use Rattle.std.specs.Prelude.{◌≡◌, ◌<◌, ◌≤◌, ◌==◌, [], ◌∷◌, length, map, drop, OnOk, OnErr};
+ghost use Rattle.std.specs.List.{list_any};
+ghost use Rattle.tags.specs.Addresses.{element_of};
+ghost use Rattle.element.specs.Held.{held_of};
+ghost use Rattle.schedule.specs.State.{AllFrom, IsAt, delivered, lanes_of};
+
+use element::lane::Lane;
+use std::alloc::{AllocError, Allocator};
+use tags::token::Token;
+
+/// Puts a token into the lane of its element. After an error all stands as before.
+pub fn receive<A: Allocator>(
+    lanes: &mut Vec<Lane<'_, A>, A>,
+    elements: u32,
+    token: Token,
+) -> Result<(), AllocError>
+    requires some { 0 < elements }
+    requires count { length lanes.old.items ≡ elements }
+    requires at { AllFrom (IsAt elements) 0 (map held_of lanes.old.items) }
+    ensures ok { OnOk result (map held_of lanes.new.items ≡ delivered (token ∷ []) (map held_of lanes.old.items)) }
+    ensures err { OnErr result (map held_of lanes.new.items ≡ map held_of lanes.old.items) }
+    ensures count { length lanes.new.items ≡ length lanes.old.items }
+{
+    let element = token.to.element(elements) as usize;
+    let lane = &mut lanes[element];
+    lane.receive(token)
+}
+
+/// Lets the tokens that are on their way come, from the first that has not come on. After an error the others are still
+/// on their way.
+pub fn deliver<A: Allocator>(
+    lanes: &mut Vec<Lane<'_, A>, A>,
+    elements: u32,
+    sent: &mut Vec<Token, A>,
+    come: &mut usize,
+) -> Result<(), AllocError>
+    requires some { 0 < elements }
+    requires count { length lanes.old.items ≡ elements }
+    requires at { AllFrom (IsAt elements) 0 (map held_of lanes.old.items) }
+    requires come { come.old ≤ length sent.old.items }
+    ensures same { lanes_of lanes.new.items (drop come.new sent.new.items) ≡ lanes_of lanes.old.items (drop come.old sent.old.items) }
+    ensures sent { OnOk result (sent.new.items ≡ []) }
+    ensures come { OnOk result (come.new ≡ 0) }
+    ensures within { come.new ≤ length sent.new.items }
+    ensures count { length lanes.new.items ≡ length lanes.old.items }
+{
+    for place in *come..sent.len() {
+        let token = sent[place];
+        match receive(lanes, elements, token) {
+            Ok(()) => {}
+            Err(error) => {
+                *come = place;
+                return Err(error);
+            }
+        }
+    }
+    sent.clear();
+    *come = 0;
+    Ok(())
+}
+
+/// Whether some of the tokens from the place on is for the element.
+pub fn has_token_for(tokens: &[Token], start: usize, elements: u32, element: u32) -> bool
+    requires some { 0 < elements }
+    requires start { start ≤ length tokens.now }
+    ensures { result ≡ list_any (λ t. element_of elements t.to == element) (drop start tokens.now) }
+{
+    for place in start..tokens.len() {
+        if tokens[place].to.element(elements) == element {
+            return true;
+        }
+    }
+    false
+}

@@ -1,0 +1,233 @@
+//! The elements of the machine: their lanes, and the tokens that are on their way from one to another.
+
+ghost use Rattle.std.specs.Prelude.{◌≡◌, ℕ, ◌<◌, [], ◌++◌, length, map, All, IfOk, Some, true, false, slice_get};
+ghost use Rattle.semantics.specs.Machine.{Events};
+ghost use Rattle.semantics.specs.Report.{sum_below};
+ghost use Rattle.element.specs.Held.{Held, held_of};
+ghost use Rattle.schedule.specs.Setting.{total};
+ghost use Rattle.schedule.specs.Told.{credits_below, TellsLanes};
+ghost use Rattle.schedule.specs.State.{state_of, IsWell, tokens_in};
+ghost use Rattle.schedule.specs.Steps.{Steps};
+ghost use Rattle.schedule.specs.Runs.{HasToken, Advances, Plays, rounds_of};
+
+use crate::counting::{credits_in, deferred, frames_out, full_cells, requests};
+use crate::delivery::{deliver, has_token_for};
+use crate::halt::Halt;
+use crate::log::{Log, note};
+use crate::main_code::MainCode;
+use arrayvec::ArrayVec;
+use element::lane::{Lane, Stepped};
+use std::alloc::{AllocError, Allocator};
+use tags::token::Token;
+use tags::value::Value;
+
+/// The lanes of all elements, and the tokens that are on their way.
+#[derive(Drop)]
+pub struct Elements<'m, C: MainCode, A: Allocator> {
+    pub code: &'m C,
+    pub elements: u32,
+    pub frames: u32,
+    /// How many events each element may make.
+    pub steps: u64,
+    pub lanes: Vec<Lane<'m, A>, A>,
+    /// The tokens that the last event made for other elements.
+    pub sent: Vec<Token, A>,
+    /// How many of these have come.
+    pub come: usize,
+}
+
+impl<'m, C: MainCode, A: Allocator> Elements<'m, C, A> {
+    // Whether the element has a token.
+    fn has_token(&self, element: u32) -> bool
+        requires well { IsWell C.program C.width self.now }
+        requires element { element < self.now.elements }
+        ensures yes { result ≡ true → (h : Held) → slice_get (state_of C.program C.width self.now).lanes element ≡ Some h → 0 < length h.queue }
+        ensures no { result ≡ false → (h : Held) → slice_get (state_of C.program C.width self.now).lanes element ≡ Some h → h.queue ≡ [] }
+    {
+        let waiting = self.lanes[element as usize].queue.len();
+        waiting != 0 || has_token_for(&self.sent, self.come, self.elements, element)
+    }
+
+    // A step of an element that has a token and may make an event, with no token on its way.
+    fn step_lane<L: Log>(&mut self, element: u32, pick: u64, log: &mut L) -> Stepped
+    where
+        A: Clone,
+        requires well { IsWell C.program C.width self.old }
+        requires element { element < self.old.elements }
+        requires sent { self.old.sent.items ≡ [] }
+        requires come { self.old.come ≡ 0 }
+        requires some { (h : Held) → slice_get (state_of C.program C.width self.old).lanes element ≡ Some h → 0 < length h.queue }
+        requires few { (h : Held) → slice_get (state_of C.program C.width self.old).lanes element ≡ Some h → h.made < self.old.steps }
+        ensures well { IsWell C.program C.width self.new }
+        ensures exact { (events : Events) × Steps (state_of C.program C.width self.old) element pick (Some result) (state_of C.program C.width self.new) events × ((before : Events) → L.noted log.old before → L.noted log.new (before ++ events)) }
+    {
+        if log.make_room().is_err() {
+            return Stepped::Memory;
+        }
+        let lane = &mut self.lanes[element as usize];
+        let Some(token) = lane.token(pick) else {
+            unreachable!()
+        };
+        let stepped = lane.step(pick, self.code, &mut self.sent);
+        note(log, element, token, stepped);
+        stepped
+    }
+
+    /// The element takes the token that `pick`, modulo the number of its tokens, names from the oldest on; `None` where it
+    /// has a token and has made all its events.
+    pub fn step<L: Log>(&mut self, element: u32, pick: u64, log: &mut L) -> Option<Stepped>
+    where
+        A: Clone,
+        requires well { IsWell C.program C.width self.old }
+        requires element { element < self.old.elements }
+        ensures well { IsWell C.program C.width self.new }
+        ensures exact { (events : Events) × Steps (state_of C.program C.width self.old) element pick result (state_of C.program C.width self.new) events × ((before : Events) → L.noted log.old before → L.noted log.new (before ++ events)) }
+    {
+        let came = deliver(
+            &mut self.lanes,
+            self.elements,
+            &mut self.sent,
+            &mut self.come,
+        );
+        if !self.has_token(element) {
+            return Some(Stepped::Idle);
+        }
+        if self.lanes[element as usize].made == self.steps {
+            return None;
+        }
+        if came.is_err() {
+            return Some(Stepped::Memory);
+        }
+        Some(self.step_lane(element, pick, log))
+    }
+
+    // Whether there is a token.
+    fn has_tokens(&self) -> bool
+        requires well { IsWell C.program C.width self.now }
+        ensures yes { result ≡ true → HasToken (state_of C.program C.width self.now) }
+        ensures no { result ≡ false → tokens_in (state_of C.program C.width self.now).lanes ≡ [] }
+    {
+        for element in 0..self.elements {
+            if self.has_token(element) {
+                return true;
+            }
+        }
+        false
+    }
+
+    // Makes one step of a run, and answers whether the run halts there. A run over a list passes over an element that has
+    // made all its events.
+    fn advance<L: Log>(
+        &mut self,
+        listed: bool,
+        element: u32,
+        pick: u64,
+        log: &mut L,
+    ) -> Option<Halt>
+    where
+        A: Clone,
+        requires well { IsWell C.program C.width self.old }
+        requires element { element < self.old.elements }
+        ensures well { IsWell C.program C.width self.new }
+        ensures exact { (events : Events) × Advances listed (state_of C.program C.width self.old) element pick (state_of C.program C.width self.new) events result × ((before : Events) → L.noted log.old before → L.noted log.new (before ++ events)) }
+    {
+        match self.step(element, pick, log) {
+            Some(Stepped::Did) => None,
+            None => (!listed).then_some(Halt::Steps),
+            Some(Stepped::Idle) => (!self.has_tokens()).then_some(Halt::NoToken),
+            Some(Stepped::Clash { cell }) => Some(Halt::Clash { cell }),
+            Some(Stepped::Stuck { rule }) => Some(Halt::Stuck { rule }),
+            Some(Stepped::Memory) => Some(Halt::Memory),
+        }
+    }
+
+    /// Makes one step for each element and pick of the list, in order, and answers why it makes no more.
+    pub fn play<L: Log>(&mut self, picks: &[(u32, u64)], log: &mut L) -> Halt
+    where
+        A: Clone,
+        requires well { IsWell C.program C.width self.old }
+        requires elements { All (λ pick. pick.0 < self.old.elements) picks.now }
+        ensures well { IsWell C.program C.width self.new }
+        ensures exact { (events : Events) × Plays true picks.now (state_of C.program C.width self.old) (state_of C.program C.width self.new) result events × ((before : Events) → L.noted log.old before → L.noted log.new (before ++ events)) }
+    {
+        for (element, pick) in picks {
+            match self.advance(true, *element, *pick, log) {
+                None => {}
+                Some(halt) => return halt,
+            }
+        }
+        if self.has_tokens() {
+            Halt::Steps
+        } else {
+            Halt::NoToken
+        }
+    }
+
+    /// Makes one step after another, each with the oldest token of an element, the elements in turn, and answers why it
+    /// makes no more.
+    pub fn play_in_turn<L: Log>(&mut self, log: &mut L) -> Halt
+    where
+        A: Clone,
+        requires { IsWell C.program C.width self.old }
+        ensures well { IsWell C.program C.width self.new }
+        ensures exact { (rounds : ℕ) × (events : Events) × Plays false (rounds_of rounds self.old.elements) (state_of C.program C.width self.old) (state_of C.program C.width self.new) result events × ((before : Events) → L.noted log.old before → L.noted log.new (before ++ events)) }
+    {
+        'passes: loop {
+            for element in 0..self.elements {
+                match self.advance(false, element, 0, log) {
+                    None => {}
+                    Some(halt) => return halt,
+                }
+            }
+        }
+    }
+
+    // How many requests for credits wait.
+    fn credits(&self) -> u64
+        requires { IsWell C.program C.width self.now }
+        ensures { result ≡ sum_below (total (state_of C.program C.width self.now).setting) (λ f. credits_below self.now.elements (map held_of self.now.lanes.items) (C.width self.now.code.now) f) }
+    {
+        let width = self.code.slots();
+        let mut count: u64 = 0;
+        for frame in 0..self.elements * self.frames {
+            let lane = &self.lanes[(frame % self.elements) as usize];
+            count += credits_in(lane, self.elements, frame, width);
+        }
+        count
+    }
+
+    /// What the lanes hold, for a report.
+    pub fn tell(self, alloc: A) -> Result<Told<A>, AllocError>
+        requires { IsWell C.program C.width self }
+        ensures { IfOk result (λ told. TellsLanes (state_of C.program C.width self.entry).setting (map held_of self.entry.lanes.items) told.outputs.items told.cells.items told.deferred told.requests told.credits told.out) }
+    {
+        let number = self.code.cells();
+        let cells = full_cells(alloc, &self.lanes, self.elements, number)?;
+        let deferred = deferred(&self.lanes, self.elements, number)?;
+        let credits = self.credits();
+        let Elements { mut lanes, .. } = self;
+        let first = lanes.swap_remove(0);
+        let requests = requests(&first.manager);
+        let out = frames_out(&first.manager);
+        let Lane { outputs, .. } = first;
+        Ok(Told {
+            outputs,
+            cells,
+            deferred,
+            requests,
+            credits,
+            out,
+        })
+    }
+}
+
+/// What lanes hold, for a report.
+#[derive(Drop)]
+pub struct Told<A: Allocator> {
+    pub outputs: ArrayVec<Option<Value>, 16>,
+    pub cells: Vec<(u32, Value), A>,
+    pub deferred: u64,
+    pub requests: u64,
+    pub credits: u64,
+    pub out: u64,
+}
