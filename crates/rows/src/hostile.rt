@@ -43,6 +43,14 @@ fn config(elements: u32) -> Config
     }
 }
 
+/// The element that a pick names.
+fn element_of(number: u64, elements: u32) -> u32
+    requires { 0 < elements }
+    ensures { result < elements }
+{
+    (number % elements as u64) as u32
+}
+
 /// Thirty thousand picks, in an order that the seed chooses.
 fn picks(alloc: Global, elements: u32, seed: u64) -> Result<Vec<(u32, u64)>, AllocError>
     requires { 0 < elements }
@@ -50,7 +58,7 @@ fn picks(alloc: Global, elements: u32, seed: u64) -> Result<Vec<(u32, u64)>, All
 {
     let mut picks = Vec::with_capacity(alloc, 30_000)?;
     for i in 0..30_000u64 {
-        let element = (seed.wrapping_add(i.wrapping_mul(5)) % elements as u64) as u32;
+        let element = element_of(seed.wrapping_add(i.wrapping_mul(5)), elements);
         picks.push((
             element,
             seed.wrapping_mul(31).wrapping_add(i.wrapping_mul(17)),

@@ -92,7 +92,7 @@ fn refuses_starts(rt: HostRuntime) -> Result<(), Fail> {
             b"refused: start BadConfig\n".as_slice(),
         ),
         (
-            ["ets", "run", "--elements", "2"].as_slice(),
+            ["ets", "run", "--elements", "0"].as_slice(),
             b"refused: start BadConfig\n".as_slice(),
         ),
         (
