@@ -4,7 +4,6 @@
 ghost use Rattle.std.specs.Prelude.{◌≡◌, ◌≤◌, length, IfOk, MatchResult};
 ghost use Rattle.semantics.specs.Text.{HasText, IsText};
 ghost use Rattle.semantics.specs.WellFormed.{WellFormed};
-ghost use Rattle.lowering.specs.Theorem.{IsStraightLine};
 ghost use Rattle.select.specs.Emitted.{version_number as emitted_number};
 ghost use Rattle.object_view.specs.Fields.{version_number as written_number};
 ghost use Rattle.driver.specs.Compiled.{plan_of, IsCodeFor, IsTooLarge};
@@ -13,12 +12,13 @@ ghost use Rattle.driver.specs.Written.{WritesObject};
 
 use crate::fault::Fault;
 use code::{Code, Plan};
+use expansion::expand;
 use fanout::narrow;
+use folding::fold;
 use graph::{Graph, Version};
 use graph_check::{CheckFaultKind, Checked, check};
 use graph_file::{ReadFaultKind, read};
 use object_view::write;
-use schemas::{expand, first_unbuilt};
 use select::{EmitFault, emit};
 use slot_alloc::{AssignFault, assign};
 use std::alloc::{AllocError, Allocator};
@@ -71,27 +71,16 @@ pub fn check_text<'a, A: Allocator + Clone>(
     }
 }
 
-/// How many blocks the graph has: its code is plain.
-fn block_count<'a, A: Allocator>(graph: &Graph<'a, A>) -> u32
-    requires { length graph.now.blocks ≤ 256 }
-    ensures { result ≡ length graph.now.blocks }
-{
-    graph.blocks.len() as u32
-}
-
-/// The plan of a straight-line graph: at most two destinations at an instruction, and a number for each holder of a slot.
+/// The plan of a graph, pass by pass: with any number of destinations at an instruction, with literal operands, and with
+/// at most two destinations.
 fn plan<'a, A: Allocator + Clone>(alloc: &A, graph: &Graph<'a, A>) -> Result<Plan<A>, AllocError>
     requires well_formed { WellFormed graph.now }
-    requires straight { IsStraightLine graph.now }
     requires limits { HasText graph.now }
     ensures { IfOk result (λ p. p ≡ plan_of graph.now) }
 {
-    let wide = Plan {
-        program: expand(alloc.clone()?, graph)?,
-        plain: block_count(graph),
-        marks: Vec::new(alloc.clone()?),
-    };
-    narrow(alloc.clone()?, &wide)
+    let wide = expand(alloc.clone()?, graph)?;
+    let folded = fold(alloc.clone()?, &wide)?;
+    narrow(alloc.clone()?, &folded)
 }
 
 /// The version of the graph's object: that of its text.
@@ -113,10 +102,9 @@ fn object_version<'a, A: Allocator>(graph: &Graph<'a, A>) -> object_view::Versio
     }
 }
 
-/// The code of a straight-line graph.
+/// The code of a graph.
 fn code_of<'a, A: Allocator + Clone>(alloc: A, graph: &Graph<'a, A>) -> Result<Code<A>, Fault>
     requires well_formed { WellFormed graph.now }
-    requires straight { IsStraightLine graph.now }
     requires limits { HasText graph.now }
     ensures { MatchResult result (IsCodeFor graph.now) (IsTooLarge graph.now) }
 {
@@ -138,21 +126,6 @@ fn code_of<'a, A: Allocator + Clone>(alloc: A, graph: &Graph<'a, A>) -> Result<C
     }
 }
 
-/// The code of the graph that a text has, if the compiler knows all its kinds.
-fn code_of_checked<'a, A: Allocator + Clone>(
-    alloc: A,
-    checked: &Checked<'a, A>,
-) -> Result<Code<A>, Fault>
-    requires limits { HasText checked.now }
-    requires well_formed { WellFormed checked.now }
-    ensures { MatchResult result (IsCodeFor checked.now) (IsUncompiled checked.now) }
-{
-    if let Some(unbuilt) = first_unbuilt(checked.graph()) {
-        return Err(Fault::Unbuilt(unbuilt));
-    }
-    code_of(alloc, checked.graph())
-}
-
 /// The graph that the text has, and the object of its code.
 pub fn compile<'a, A: Allocator + Clone>(alloc: A, text: &'a [u8]) -> Result<Compiled<'a, A>, Fault>
     ensures { MatchResult result (λ c. IsCompiled text.now c.checked c.object.items) (IsRefusedText text.now) }
@@ -167,7 +140,7 @@ pub fn compile<'a, A: Allocator + Clone>(alloc: A, text: &'a [u8]) -> Result<Com
     let Ok(room) = alloc.clone() else {
         return Err(Fault::Memory);
     };
-    let code = match code_of_checked(room, &checked) {
+    let code = match code_of(room, checked.graph()) {
         Ok(code) => code,
         Err(fault) => return Err(fault),
     };
@@ -202,7 +175,7 @@ pub fn write_object<A: Allocator + Clone, W: Write>(
         Ok(checked) => checked,
         Err(fault) => return Err(CompileRefusal::Fault(fault)),
     };
-    let code = match code_of_checked(alloc, &checked) {
+    let code = match code_of(alloc, checked.graph()) {
         Ok(code) => code,
         Err(fault) => return Err(CompileRefusal::Fault(fault)),
     };
