@@ -1,5 +1,5 @@
 pub mod Truth
-pub mod StraightObjects
+pub mod GraphObjects
 pub mod InputLines
 pub mod ObjectRuns
 pub mod TextObjects

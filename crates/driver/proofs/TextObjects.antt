@@ -66,7 +66,6 @@ is_refused text g bytes inputs c k o loaded e complete f cause other =
 pub refused_as_text : (text : List ℕ) (g : Graph) (bytes : List ℕ) (inputs : List ℤ) (c : Config) → IsCompiled text g bytes → (f : Fault) → IsRefusedObject bytes inputs c f → IsRefused text inputs c f
 refused_as_text text g bytes inputs c k (Fault.Read f) h = absurd h
 refused_as_text text g bytes inputs c k (Fault.Check f) h = absurd h
-refused_as_text text g bytes inputs c k (Fault.Unbuilt f) h = absurd h
 refused_as_text text g bytes inputs c k (Fault.TooManySlots b) h = absurd h
 refused_as_text text g bytes inputs c k (Fault.TooFar b) h = absurd h
 refused_as_text text g bytes inputs c k (Fault.Object f) h = absurd (h.1 g.version k.object.code k.object.object)

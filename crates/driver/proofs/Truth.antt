@@ -4,9 +4,7 @@ use Rattle.std.specs.Prelude.{sum, take}
 use Rattle.tags.specs.declared.value.Value.{Value}
 use Rattle.semantics.specs.declared.report.End.{End}
 use Rattle.semantics.specs.declared.report.End.TheVariants.{Rest, Clash, Stuck}
-use Rattle.semantics.specs.Graph.{Graph, flow_of, first_cell}
-use Rattle.semantics.specs.Text.{IsText}
-use Rattle.semantics.specs.WellFormed.{WellFormed}
+use Rattle.semantics.specs.Graph.{Graph, Flow, flow_of, first_cell}
 use Rattle.semantics.specs.Meaning.{State}
 use Rattle.semantics.specs.Program.{Program, Code}
 use Rattle.semantics.specs.Rule.{array_base}
@@ -16,10 +14,8 @@ use Rattle.semantics.specs.Faithful.{Faithful, IsRun, IsSecondStore, inputs_of}
 use Rattle.semantics.specs.Report.{Report, IsPicture, HasEnd, Shows}
 use Rattle.schedule.specs.declared.config.Config.{Config}
 use Rattle.schedule.specs.Setting.{inputs_of as inputs_of_program}
-use Rattle.driver.specs.Headline.{ShowsMemory, ShowsObject, TellsOf, size_of}
-use Rattle.driver.specs.Compiled.{IsCodeFor}
+use Rattle.driver.specs.Headline.{ShowsMemory, ShowsObject, TellsMeaning, TellsOf, size_of}
 use Rattle.driver.specs.Refused.{IsCompiled}
-use Rattle.driver.proofs.StraightObjects.{takes_all}
 
 -- a cell that is full has its value, and no other
 full_value : (c : CellState) (v : Value) → c ≡ Full v → value_in c ≡ Some v
@@ -47,20 +43,15 @@ ends_at p z steps listed events m e d eq h = let P : End → Type 0 = λ x. HasE
 never_both : (o : Option ℕ) (n : ℕ) → o ≡ None → o ≡ Some n → ⊥
 never_both o n a b = cc
 
-pub tells_of : (text : List ℕ) (inputs : List ℤ) (z : Size) (steps : ℕ) (listed : Bool) (r : Report) (g : Graph) (p : Program)
-    → IsText text g → WellFormed g → length inputs ≡ inputs_of (flow_of g) → 0 < z.elements → 0 < z.frames
-    → Faithful (flow_of g) p → Shows p z inputs steps listed false r → TellsOf text g inputs z steps listed r
-tells_of text inputs z steps listed r g p is_text well fit elements frames faithful shows =
+pub tells_meaning : (inputs : List ℤ) (z : Size) (steps : ℕ) (listed : Bool) (r : Report) (fl : Flow) (p : Program)
+    → length inputs ≡ inputs_of fl → 0 < z.elements → 0 < z.frames
+    → Faithful fl p → Shows p z inputs steps listed false r → TellsMeaning fl inputs p r
+tells_meaning inputs z steps listed r fl p fit elements frames faithful shows =
     let m : Machine = shows.last in
-    let run : IsRun (flow_of g) p inputs z r.events m = record { inputs_fit = fit; some_element = elements; some_frame = frames; run = shows.run } in
+    let run : IsRun fl p inputs z r.events m = record { inputs_fit = fit; some_element = elements; some_frame = frames; run = shows.run } in
     let reached = faithful.reachable inputs z r.events m run in
     record {
-      is_text = is_text;
-      well_formed = well;
-      inputs_fit = fit;
-      program = p;
       faithful = faithful;
-      shows = shows;
       reached = (reached.0, reached.1, shown p z m r reached.0 shows.picture reached.2);
       rest = λ e. let ended = ends_at p z steps listed r.events m r.end Rest e shows.ends in
           let exact = faithful.exact inputs z r.events m run ended.0 ended.1 in
@@ -73,8 +64,8 @@ tells_of text inputs z steps listed r g p is_text well fit elements frames faith
             no_clash = exact.no_clash;
           };
       second_store = λ a i e. let ended = ends_at p z steps listed r.events m r.end (Clash a i) e shows.ends in
-          let same : array_base p a + i ≡ first_cell (flow_of g) a + i = ap (λ ls. sum (take a ls) + i) faithful.arrays in
-          let P : ℕ → Type 0 = λ x. IsSecondStore (flow_of g) inputs x in
+          let same : array_base p a + i ≡ first_cell fl a + i = ap (λ ls. sum (take a ls) + i) faithful.arrays in
+          let P : ℕ → Type 0 = λ x. IsSecondStore fl inputs x in
           subst P same (faithful.second_store inputs z r.events m (array_base p a + i) run ended.2);
       matching = λ n e. let ended = ends_at p z steps listed r.events m r.end (Stuck n) e shows.ends in
           never_both (stuck_rule p m.store ended.0.to ended.0.word) n (faithful.matching inputs z r.events m ended.0 run ended.1) ended.2;
@@ -89,6 +80,14 @@ tells_truth text g bytes inputs c listed r compiled shown =
     let same : shown.code ≡ code = shown.only g.version code compiled.object.object in
     let S : Code → Type 0 = λ x. Shows x.program (size_of c) inputs c.steps listed false r in
     let F : Code → Type 0 = λ x. length inputs ≡ inputs_of_program x.program in
-    tells_of text inputs (size_of c) c.steps listed r g code.program compiled.good.is_text compiled.good.well_formed
-    (subst F same shown.inputs_fit ∙ takes_all g record { text = compiled.good.is_text.1; well = compiled.good.well_formed; line = made.straight } code made)
-    shown.some_element shown.some_frame made.faithful (subst S same shown.shows)
+    let fit : length inputs ≡ inputs_of (flow_of g) = subst F same shown.inputs_fit ∙ made.inputs in
+    let shows = subst S same shown.shows in
+    record {
+      is_text = compiled.good.is_text;
+      well_formed = compiled.good.well_formed;
+      inputs_fit = fit;
+      code = code;
+      made = made;
+      shows = shows;
+      straight = λ line. tells_meaning inputs (size_of c) c.steps listed r (flow_of g) code.program fit shown.some_element shown.some_frame (made.faithful line) shows;
+    }

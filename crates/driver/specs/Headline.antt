@@ -12,8 +12,10 @@ use Rattle.semantics.specs.Bytes.{IsObject}
 use Rattle.semantics.specs.Machine.{Size}
 use Rattle.semantics.specs.Faithful.{Faithful, IsSecondStore, inputs_of}
 use Rattle.semantics.specs.Report.{Report, Shows}
+use Rattle.lowering.specs.Theorem.{IsStraightLine}
 use Rattle.schedule.specs.declared.config.Config.{Config}
 use Rattle.schedule.specs.Setting.{inputs_of as inputs_in_code}
+use Rattle.driver.specs.Compiled.{IsCodeFor}
 
 -- The report's outputs and full cells are just those of a memory of the meaning.
 pub record ShowsMemory (r : Report) (m : Meaning.Memory) : Type 0 where
@@ -30,22 +32,28 @@ pub record IsOutcome (fl : Flow) (inputs : List ℤ) (r : Report) : Type 0 where
   pub leads : (other : State) → Reached fl inputs other → Leads fl other state
   pub no_clash : (other : State) (x : ℕ) → Reached fl inputs other → Clashes fl other x → ⊥
 
--- The report is of a run of faithful code for the graph that the text has. `listed`: the order of the run was a list.
+-- What a report of a run of faithful code tells of the meaning.
+pub record TellsMeaning (fl : Flow) (inputs : List ℤ) (p : Program) (r : Report) : Type 0 where
+  pub faithful : Faithful fl p
+  -- whatever its end, its outputs and cells are those of a state that the meaning reaches
+  pub reached : (s : State) × Reached fl inputs s × ShowsMemory r s.memory
+  -- at rest, with no request waiting, they are those of the meaning's only outcome
+  pub rest : r.end ≡ Rest → IsOutcome fl inputs r
+  -- a second store is told only where the meaning has one, whatever the order
+  pub second_store : (a i : ℕ) → r.end ≡ Clash a i → IsSecondStore fl inputs (first_cell fl a + i)
+  -- no token meets a case that its rule excludes
+  pub matching : (n : ℕ) → r.end ≡ Stuck n → ⊥
+
+-- The report is of a run of the compiler's code for the graph that the text has; and if the graph is straight, it tells of
+-- the meaning. `listed`: the order of the run was a list.
 pub record TellsOf (text : List ℕ) (g : Graph) (inputs : List ℤ) (z : Size) (steps : ℕ) (listed : Bool) (r : Report) : Type 0 where
   pub is_text : IsText text g
   pub well_formed : WellFormed g
   pub inputs_fit : length inputs ≡ inputs_of (flow_of g)
-  pub program : Program
-  pub faithful : Faithful (flow_of g) program
-  pub shows : Shows program z inputs steps listed false r
-  -- whatever its end, its outputs and cells are those of a state that the meaning reaches
-  pub reached : (s : State) × Reached (flow_of g) inputs s × ShowsMemory r s.memory
-  -- at rest, with no request waiting, they are those of the meaning's only outcome
-  pub rest : r.end ≡ Rest → IsOutcome (flow_of g) inputs r
-  -- a second store is told only where the meaning has one, whatever the order
-  pub second_store : (a i : ℕ) → r.end ≡ Clash a i → IsSecondStore (flow_of g) inputs (first_cell (flow_of g) a + i)
-  -- no token meets a case that its rule excludes
-  pub matching : (n : ℕ) → r.end ≡ Stuck n → ⊥
+  pub code : Code
+  pub made : IsCodeFor g code
+  pub shows : Shows code.program z inputs steps listed false r
+  pub straight : IsStraightLine g → TellsMeaning (flow_of g) inputs code.program r
 
 -- so many elements, each with so many frames
 abbrev pub size_of : Config → Size

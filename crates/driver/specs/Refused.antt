@@ -5,12 +5,10 @@ use Rattle.semantics.specs.Text.{IsText}
 use Rattle.semantics.specs.WellFormed.{WellFormed}
 use Rattle.semantics.specs.Program.{Code}
 use Rattle.semantics.specs.Bytes.{IsObject}
-use Rattle.lowering.specs.Theorem.{IsStraightLine}
 use Rattle.graph_file.specs.declared.fault.ReadFaultKind.TheVariants as ReadFaultKind
 use Rattle.graph_file.specs.Reading.{text_from}
 use Rattle.graph_check.specs.declared.faults.CheckFaultKind.TheVariants as CheckFaultKind
 use Rattle.graph_check.specs.FirstFault.{first_fault}
-use Rattle.schemas.specs.Straight.{IsFirstUnbuilt}
 use Rattle.schedule.specs.declared.config.Config.{Config}
 use Rattle.schedule.specs.declared.config.StartFault.{StartFault}
 use Rattle.schedule.specs.declared.config.StartFault.TheVariants as StartFault
@@ -30,14 +28,6 @@ pub record IsCompiled (text : List ℕ) (g : Graph) (bytes : List ℕ) : Type 0 
   pub good : IsGoodText text g
   pub object : IsObjectOf g bytes
 
--- why a well-formed graph has no code: a kind of node that the compiler does not know, or its size
-abbrev pub IsUncompiled : Graph → Fault → Type 0
-IsUncompiled g (Fault.Unbuilt u) = IsFirstUnbuilt g u.block u.node u.name.now
-IsUncompiled g (Fault.TooManySlots b) = IsStraightLine g × IsTooLarge g (Fault.TooManySlots b)
-IsUncompiled g (Fault.TooFar b) = IsStraightLine g × IsTooLarge g (Fault.TooFar b)
-IsUncompiled g Fault.Memory = ⊤
-IsUncompiled g fault = ⊥
-
 -- a run of it can start
 pub record IsReady (text : List ℕ) (inputs : List ℤ) (config : Config) : Type 0 where
   pub graph : Graph
@@ -51,9 +41,8 @@ pub record IsReady (text : List ℕ) (inputs : List ℤ) (config : Config) : Typ
 abbrev pub IsRefusedText : List ℕ → Fault → Type 0
 IsRefusedText text (Fault.Read f) = (text_from text ≡ Err f) × (f.kind ≢ ReadFaultKind.Memory)
 IsRefusedText text (Fault.Check f) = (g : Graph) × IsText text g × (first_fault g ≡ Some f) × (f.kind ≢ CheckFaultKind.Memory) × (WellFormed g → ⊥)
-IsRefusedText text (Fault.Unbuilt u) = (g : Graph) × IsGoodText text g × IsUncompiled g (Fault.Unbuilt u)
-IsRefusedText text (Fault.TooManySlots b) = (g : Graph) × IsGoodText text g × IsUncompiled g (Fault.TooManySlots b)
-IsRefusedText text (Fault.TooFar b) = (g : Graph) × IsGoodText text g × IsUncompiled g (Fault.TooFar b)
+IsRefusedText text (Fault.TooManySlots b) = (g : Graph) × IsGoodText text g × IsTooLarge g (Fault.TooManySlots b)
+IsRefusedText text (Fault.TooFar b) = (g : Graph) × IsGoodText text g × IsTooLarge g (Fault.TooFar b)
 IsRefusedText text (Fault.Object f) = ⊥
 IsRefusedText text (Fault.Start f) = ⊥
 IsRefusedText text Fault.Memory = ⊤

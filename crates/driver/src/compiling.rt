@@ -1,13 +1,14 @@
 //! The compiler, pass by pass: text to graph, graph to plan, plan to plan with trees of copies, to slots, to code, to the
 //! bytes of an object.
 
-ghost use Rattle.std.specs.Prelude.{◌≡◌, ◌≤◌, length, IfOk, MatchResult};
+ghost use Rattle.std.specs.Prelude.{◌≡◌, IfOk, MatchResult};
 ghost use Rattle.semantics.specs.Text.{HasText, IsText};
 ghost use Rattle.semantics.specs.WellFormed.{WellFormed};
 ghost use Rattle.select.specs.Emitted.{version_number as emitted_number};
 ghost use Rattle.object_view.specs.Fields.{version_number as written_number};
-ghost use Rattle.driver.specs.Compiled.{plan_of, IsCodeFor, IsTooLarge};
-ghost use Rattle.driver.specs.Refused.{IsGoodText, IsCompiled, IsUncompiled, IsRefusedText};
+ghost use Rattle.composition.specs.Graphs.{plan_of};
+ghost use Rattle.driver.specs.Compiled.{IsCodeFor, IsTooLarge};
+ghost use Rattle.driver.specs.Refused.{IsGoodText, IsCompiled, IsRefusedText};
 ghost use Rattle.driver.specs.Written.{WritesObject};
 
 use crate::fault::Fault;

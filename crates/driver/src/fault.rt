@@ -6,7 +6,6 @@ use graph_check::CheckFault;
 use graph_file::ReadFault;
 use object_view::ObjectFault;
 use schedule::config::StartFault;
-use schemas::Unbuilt;
 use std::alloc::AllocError;
 
 /// Why a text or an object has no report.
@@ -16,8 +15,6 @@ pub enum Fault {
     Read(ReadFault),
     /// The graph is not well formed: its first fault, never for want of memory.
     Check(CheckFault),
-    /// The compiler does not know the kind of this node yet; the first such node.
-    Unbuilt(Unbuilt),
     /// The code block of this number is the first whose holders do not fit into the slots of a frame.
     TooManySlots(u64),
     /// The code block of this number is the first that is too long for an object, or with which there are too many

@@ -3,7 +3,6 @@
 ghost use Rattle.std.specs.Prelude.{◌≡◌, ℕ};
 ghost use Rattle.graph_file.specs.declared.fault.ReadFault.{ReadFault};
 ghost use Rattle.graph_check.specs.declared.faults.CheckFault.{CheckFault};
-ghost use Rattle.schemas.specs.declared.unbuilt.Unbuilt.{Unbuilt};
 ghost use Rattle.object_view.specs.declared.fault.ObjectFault.{ObjectFault};
 ghost use Rattle.schedule.specs.declared.config.StartFault.{StartFault};
 
@@ -13,7 +12,6 @@ use graph_check::CheckFault;
 use graph_file::ReadFault;
 use object_view::ObjectFault;
 use schedule::config::StartFault;
-use schemas::Unbuilt;
 use std::alloc::AllocError;
 use std::fmt;
 
@@ -24,7 +22,6 @@ pub enum Refusal {
     Input,
     Read(ReadFault),
     Check(CheckFault),
-    Unbuilt(Unbuilt),
     /// The holders of the code block of this number do not fit into the slots of a frame.
     TooManySlots(u64),
     /// The code block of this number is too long for an object, or has too many literals.
@@ -53,7 +50,6 @@ impl From<Fault> for Refusal {
     fn from(fault: Fault) -> Refusal
         ensures read { (f : ReadFault) → fault ≡ Fault.Read f → result ≡ Refusal.Read f }
         ensures check { (f : CheckFault) → fault ≡ Fault.Check f → result ≡ Refusal.Check f }
-        ensures unbuilt { (u : Unbuilt) → fault ≡ Fault.Unbuilt u → result ≡ Refusal.Unbuilt u }
         ensures slots { (b : ℕ) → fault ≡ Fault.TooManySlots b → result ≡ Refusal.TooManySlots b }
         ensures far { (b : ℕ) → fault ≡ Fault.TooFar b → result ≡ Refusal.TooFar b }
         ensures object { (f : ObjectFault) → fault ≡ Fault.Object f → result ≡ Refusal.Object f }
@@ -63,7 +59,6 @@ impl From<Fault> for Refusal {
         match fault {
             Fault::Read(fault) => Refusal::Read(fault),
             Fault::Check(fault) => Refusal::Check(fault),
-            Fault::Unbuilt(unbuilt) => Refusal::Unbuilt(unbuilt),
             Fault::TooManySlots(block) => Refusal::TooManySlots(block),
             Fault::TooFar(block) => Refusal::TooFar(block),
             Fault::Object(fault) => Refusal::Object(fault),
@@ -120,12 +115,6 @@ impl fmt::Display for Refusal {
                 let block = NumberOrDash(fault.block);
                 let node = NumberOrDash(fault.node);
                 write!(f, "refused: check {kind:?} block {block} node {node}")
-            }
-            Refusal::Unbuilt(unbuilt) => {
-                let name = unbuilt.name;
-                let block = unbuilt.block;
-                let node = unbuilt.node;
-                write!(f, "refused: unbuilt {name} block {block} node {node}")
             }
             Refusal::TooManySlots(block) => write!(f, "refused: slots TooManySlots block {block}"),
             Refusal::TooFar(block) => write!(f, "refused: emit TooFar block {block}"),

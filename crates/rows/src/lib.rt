@@ -3,7 +3,13 @@
 #![tactic(auto)]
 
 #[cfg(test)]
+mod compiled;
+#[cfg(test)]
 mod hostile;
+#[cfg(test)]
+mod literals;
+#[cfg(test)]
+mod many_elements;
 #[cfg(test)]
 mod meanings;
 #[cfg(test)]
@@ -18,6 +24,8 @@ mod refusals;
 mod run;
 #[cfg(test)]
 mod served;
+#[cfg(test)]
+mod sizes;
 #[cfg(test)]
 mod streams;
 #[cfg(test)]

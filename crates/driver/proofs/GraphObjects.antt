@@ -1,0 +1,50 @@
+-- What the compiler makes of a well-formed graph within the limits.
+use Rattle.std.proofs.Common.{arith, ◌≡◌, refl, sym, ap, ◌∙◌, subst, ℕ, zero, suc, List, [], ◌∷◌, length, map, Option, Some, None}
+use Rattle.std.specs.Prelude.{slice_get}
+use Rattle.semantics.specs.Graph.{Graph, flow_of}
+use Rattle.semantics.specs.WellFormed.{WellFormed}
+use Rattle.semantics.specs.Text.{HasText}
+use Rattle.semantics.specs.Program.{CodeBlock, Program, Code}
+use Rattle.semantics.specs.Plan.{Plan}
+use Rattle.semantics.specs.Placed.{placed_blocks}
+use Rattle.semantics.specs.Bytes.{IsCode}
+use Rattle.semantics.specs.Faithful as Faithful
+use Rattle.semantics.specs.Faithful.{Faithful}
+use Rattle.semantics.specs.Orderly as Orderly
+use Rattle.slot_alloc.specs.Assigned.{IsAssigned}
+use Rattle.select.specs.declared.Version.{Version}
+use Rattle.select.specs.Emitted.{version_number, code_of, emitted_block}
+use Rattle.select.specs.Emittable.{IsEmittable}
+use Rattle.schedule.specs.Setting.{inputs_in, inputs_of}
+use Rattle.composition.specs.Graphs.{plan_of}
+use Rattle.composition.proofs.Graphs.{plans_have_objects, plans_take_inputs, straight_code_is_faithful}
+use Rattle.driver.specs.Compiled.{IsCodeFor}
+
+-- THE INPUTS OF A BLOCK stay.
+same_inputs : (v : ℕ) (ss : List (List ℕ)) (cs : List CodeBlock) (i : ℕ) → length ss ≡ length cs
+    → inputs_in (slice_get (map (emitted_block v) (placed_blocks ss cs)) i) ≡ Orderly.inputs_in (slice_get cs i)
+same_inputs v [] [] i e = refl
+same_inputs v [] (c ∷ cs) i e = cc
+same_inputs v (s ∷ ss) [] i e = cc
+same_inputs v (s ∷ ss) (c ∷ cs) zero e = refl
+same_inputs v (s ∷ ss) (c ∷ cs) (suc i) e = same_inputs v ss cs i (omega (arith, e))
+
+-- THE CODE
+pub compiled : (g : Graph) → HasText g → WellFormed g → (slots : List (List ℕ)) → IsAssigned (plan_of g) slots → (version : Version) → version_number version ≡ g.version
+    → (c : Code) → c.program ≡ code_of version (plan_of g) slots → (IsEmittable (plan_of g) slots → IsCode (version_number version) c) → IsCodeFor g c
+compiled g text well slots assigned version same c e spelling =
+    let p : Plan = plan_of g in
+    let F : Program → Type 0 = λ q. Faithful (flow_of g) q in
+    let L : ℕ → Type 0 = λ n. IsCode n c in
+    let I : Program → ℕ = λ q. inputs_of q in
+    record {
+      slots = slots;
+      assigned = assigned;
+      version = version;
+      version_is = same;
+      program = e;
+      lawful = subst L same (spelling (plans_have_objects g slots text well assigned.good));
+      inputs = ap I e ∙ same_inputs (version_number version) slots p.program.blocks p.program.main assigned.good.all ∙ plans_take_inputs g text well;
+      arrays = ap (λ (q : Program). q.arrays) e;
+      faithful = λ line. subst F (sym e) (straight_code_is_faithful g slots version record { text = text; well = well; line = line } assigned.good same);
+    }
