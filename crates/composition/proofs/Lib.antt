@@ -8,3 +8,4 @@ pub mod Near
 pub mod Credits
 pub mod Literals
 pub mod Laws
+pub mod SoundObjects

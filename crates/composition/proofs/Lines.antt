@@ -19,7 +19,8 @@ use Rattle.determinacy.proofs.Resolved.{all_get, contains_get}
 use Rattle.lowering.proofs.Net.{All-append_left, All-append_right}
 use Rattle.select.specs.Emitted.{has_sides, firsts_of, seconds_of}
 use Rattle.select.specs.Literals.{literal_of, listed}
-use Rattle.select.specs.Emittable.{IsPlace, with_table, IsEmittableInstr, IsEmittableBlock}
+use Rattle.code.specs.Sound.{IsPlace}
+use Rattle.select.specs.Emittable.{with_table, IsEmittableInstr, IsEmittableBlock}
 
 -- the operations of straight code, each with its destinations
 abbrev pub IsLineOp : Op → List Dest → Type 0

@@ -16,7 +16,7 @@ use Rattle.semantics.specs.declared.program.Op.TheVariants as Code
 use Rattle.semantics.specs.Program.{Instr, CodeBlock}
 use Rattle.semantics.specs.Rule.{slot_of}
 use Rattle.semantics.specs.Wired.{is_dyadic}
-use Rattle.select.specs.Emittable.{IsPlace}
+use Rattle.code.specs.Sound.{IsPlace}
 use Rattle.lowering.specs.Roles.{Role, Start, Line, Result, Join, End, Copy, Shown, Done, Freed, is_instr, is_two, is_pair, is_pair_at, op_for, op_at, op_of, Inlet, inlet, same_inlet, same_role, one, hits, outs, given, lines_from, Wiring, IsThere, IsInlet, IsFed, IsWire}
 use Rattle.lowering.specs.Implements.{IsStraightBlock}
 use Rattle.lowering.specs.StraightPlan.{count_below, join_count, straight_wire, straight_place, straight_wiring, straight_slot, straight_roles, counted, dest_to, is_pair_line, origin_for, instr_for, straight_code}

@@ -1,3 +1,4 @@
 pub mod Straight
 pub mod Theorem
 pub mod Graphs
+pub mod Sound

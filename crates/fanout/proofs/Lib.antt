@@ -14,3 +14,6 @@ pub mod Arrows
 pub mod Wires
 pub mod StraightClear
 pub mod Standing
+pub mod SoundFlags
+pub mod SoundRows
+pub mod SoundPlans

@@ -4,3 +4,4 @@ pub mod Places
 pub mod Trees
 pub mod Narrowed
 pub mod Laws
+pub mod Sound

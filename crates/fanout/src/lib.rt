@@ -13,6 +13,7 @@ mod blocks;
 mod layout;
 mod rows;
 mod sides;
+pub mod sound;
 #[cfg(test)]
 mod tests;
 mod trees;

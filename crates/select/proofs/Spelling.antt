@@ -15,7 +15,8 @@ use Rattle.semantics.specs.Placed.{needed, placed_blocks}
 use Rattle.semantics.specs.Bytes.{HasOperand, IsDest, IsOrigin, IsSlot, may_fault, is_dyadic}
 use Rattle.select.specs.Emitted.{told, firsts_of, seconds_of, emitted, emitted_instrs, emitted_block, emitted_blocks}
 use Rattle.select.specs.Literals.{literal_of, listed}
-use Rattle.select.specs.Emittable.{IsPlace, with_table}
+use Rattle.code.specs.Sound.{IsPlace}
+use Rattle.select.specs.Emittable.{with_table}
 
 -- BLOCKS IN THEIR PLACES
 abbrev pub coded : ℕ → List ℕ → CodeBlock → CodeBlock

@@ -1,18 +1,12 @@
 -- Which plans with slots have an object, but for the sizes that are refused.
-use Rattle.std.specs.Prelude.{◌≡◌, ℕ, ◌+◌, ◌<◌, ◌≤◌, ℤ, List, length, sum, Some, slice_get, All, ⊤}
-use Rattle.tags.specs.declared.value.Origin.{Origin}
-use Rattle.tags.specs.declared.value.Origin.TheVariants.{Untold, At}
+use Rattle.std.specs.Prelude.{◌≡◌, ℕ, ◌+◌, ◌<◌, ◌≤◌, ℤ, List, length, sum, Some, slice_get, All}
 use Rattle.semantics.specs.Program.{Instr, CodeBlock, Program, Code}
 use Rattle.semantics.specs.Plan.{Plan}
 use Rattle.semantics.specs.Rule.{slot_of}
 use Rattle.semantics.specs.Bytes.{HasOperand, HasDests, IsDest}
+use Rattle.code.specs.Sound.{IsPlace}
 use Rattle.select.specs.Emitted.{has_sides, firsts_of, seconds_of}
 use Rattle.select.specs.Literals.{literal_of, listed}
-
--- a node of a graph
-abbrev pub IsPlace : Origin → Type 0
-IsPlace Untold = ⊤
-IsPlace (At b n) = (b < 256) × (n < 1024)
 
 abbrev pub with_table : Program → List ℤ → Code
 with_table p ls = record { program = p; literals = ls }
