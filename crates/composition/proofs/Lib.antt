@@ -9,3 +9,4 @@ pub mod Credits
 pub mod Literals
 pub mod Laws
 pub mod SoundObjects
+pub mod Graphs

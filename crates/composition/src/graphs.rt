@@ -1,0 +1,12 @@
+//! Any graph, through all passes.
+
+ghost use Rattle.composition.specs.Graphs.{PlansAreSound, PlansHaveObjects, PlansTakeInputs, StraightCodeIsFaithful};
+
+/// The plan of each well-formed graph within the limits of a text is sound, and has main's inputs; with any good slots it
+/// has an object. A straight graph's code is faithful to it.
+pub fn graphs_compile()
+    ensures sound { PlansAreSound }
+    ensures objects { PlansHaveObjects }
+    ensures inputs { PlansTakeInputs }
+    ensures straight { StraightCodeIsFaithful }
+{}
