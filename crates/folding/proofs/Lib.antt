@@ -7,3 +7,4 @@ pub mod Used
 pub mod Named
 pub mod Sole
 pub mod Landing
+mod SoundLists
