@@ -8,3 +8,4 @@ pub mod Named
 pub mod Sole
 pub mod Landing
 mod SoundLists
+mod SoundRows
