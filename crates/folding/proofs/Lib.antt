@@ -9,3 +9,8 @@ pub mod Sole
 pub mod Landing
 mod SoundLists
 mod SoundRows
+mod SoundDests
+mod SoundInstrs
+mod SoundArcs
+mod SoundLoops
+mod SoundPlans
