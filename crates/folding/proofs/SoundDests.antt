@@ -1,10 +1,10 @@
 -- The destinations of a folded plan are sound.
-use Rattle.std.proofs.Common.{◌≡◌, ℕ, ◌+◌, ◌-◌, ◌<◌, ◌≤◌, Bool, true, false, ◌++◌, length, refl, sym, ap, ◌∙◌, subst, inl, inr, ◌⊎◌, arith, Some, None, true≢false, if◌then◌else◌}
+use Rattle.std.proofs.Common.{◌≡◌, ℕ, ◌+◌, ◌-◌, ◌<◌, ◌≤◌, Bool, true, false, ◌++◌, length, refl, sym, ap, ◌∙◌, subst, inl, inr, ◌⊎◌, arith, Some, None, if◌then◌else◌}
 use Rattle.std.specs.Prelude.{slice_get, Contains}
 use Rattle.std.proofs.lemmas.Option.{slice_get_within}
 use Rattle.std.proofs.lemmas.List.Elements.{Contains-append_left, Contains-append_right, Contains-append_cases}
 use Rattle.tags.specs.declared.token.Port.{Port}
-use Rattle.tags.specs.declared.token.Port.TheVariants.{Left, Right}
+use Rattle.tags.specs.declared.token.Port.TheVariants.{Right}
 use Rattle.semantics.specs.declared.program.Dest.{Dest}
 use Rattle.semantics.specs.declared.program.Op.{Op}
 use Rattle.semantics.specs.declared.program.Op.TheVariants.{Apply2, Sync, Switch, Store, Send, Return, Ask, Release, Open, Take, Give, Drain}
@@ -14,7 +14,7 @@ use Rattle.semantics.specs.Plan.{Plan, is_credit}
 use Rattle.semantics.specs.Bytes.{IsDest}
 use Rattle.semantics.specs.Bytes as Bytes
 use Rattle.semantics.specs.Wired as Wired
-use Rattle.code.specs.Sound.{NamesDest, StandApart, IsSoundDest, DestsAreSound}
+use Rattle.code.specs.Sound.{StandApart, IsSoundDest, DestsAreSound}
 use Rattle.folding.specs.declared.folds.Fold.{Fold}
 use Rattle.folding.specs.declared.folds.Fold.TheVariants.{Kept, OnRight, OnLeft}
 use Rattle.folding.specs.Folds.{new_op, new_port}
@@ -23,7 +23,7 @@ use Rattle.folding.specs.Moved.{is_shut, moved, moved_dests, new_dest}
 use Rattle.folding.specs.Folded.{folded_block, folded}
 use Rattle.folding.proofs.Standing.{keeps_order, keeps_instrs, has_no_others}
 use Rattle.folding.proofs.Taken.{keeps_entries, get_there}
-use Rattle.folding.proofs.SoundLists.{Stood, moved_back, block_back}
+use Rattle.folding.proofs.SoundLists.{moved_back, block_back}
 use Rattle.folding.proofs.SoundRows.{shut_stays, sound_dest, stand_apart}
 
 dyadic_op : (i : Instr) (op : Op) → (elim (slot_of i op) as (λ x. Bool) [ None ↦ false | Some r ↦ if is_credit op then false else true ]) ≡ Wired.is_dyadic op

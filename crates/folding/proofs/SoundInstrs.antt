@@ -1,23 +1,22 @@
 -- The instructions and the blocks of a folded plan are sound.
-use Rattle.std.proofs.Common.{◌≡◌, ℕ, ℤ, ◌+◌, ◌<◌, ◌≤◌, Bool, true, false, List, [], ◌∷◌, ◌++◌, length, refl, sym, ap, ◌∙◌, subst, arith, Some, true≢false}
-use Rattle.std.specs.Prelude.{slice_get, Contains, All}
+use Rattle.std.proofs.Common.{◌≡◌, ℕ, ℤ, ◌+◌, ◌≤◌, Bool, true, false, List, [], ◌∷◌, ◌++◌, length, refl, sym, ap, ◌∙◌, subst, arith, Some, true≢false}
+use Rattle.std.specs.Prelude.{slice_get, Contains}
 use Rattle.std.proofs.lemmas.Option.{slice_get_within}
 use Rattle.std.proofs.lemmas.List.{length-map}
 use Rattle.std.proofs.lemmas.List.Elements.{Contains-append_left, Contains-append_right, All-contains}
 use Rattle.tags.specs.declared.token.Port.{Port}
-use Rattle.tags.specs.declared.token.Port.TheVariants.{Left, Right}
+use Rattle.tags.specs.declared.token.Port.TheVariants.{Left}
 use Rattle.semantics.specs.declared.program.Dest.{Dest}
 use Rattle.semantics.specs.declared.program.Op.{Op}
 use Rattle.semantics.specs.declared.program.Op.TheVariants.{Apply2, Lit, Fetch, Store, Frame, Link, Send, Ask, Take, Release}
-use Rattle.semantics.specs.Program.{Instr, CodeBlock, Program}
+use Rattle.semantics.specs.Program.{Instr, CodeBlock}
 use Rattle.semantics.specs.Plan.{Plan, HasShape}
 use Rattle.semantics.specs.Bytes as Bytes
-use Rattle.semantics.specs.Wired as Wired
 use Rattle.code.specs.Sound.{NamesRightly, LandsLeft, IsSoundInstr, IsSoundBlock, IsSoundProgram, IsSound}
 use Rattle.folding.specs.declared.folds.Fold.{Fold}
 use Rattle.folding.specs.declared.folds.Fold.TheVariants.{Kept, OnRight, OnLeft}
 use Rattle.folding.specs.Folds.{is_lit, new_op, new_port}
-use Rattle.folding.specs.Places.{Layout, layout_of, new_place, gone_at, folds_at}
+use Rattle.folding.specs.Places.{Layout, layout_of, new_place, folds_at}
 use Rattle.folding.specs.Moved.{moved, moved_dests}
 use Rattle.folding.specs.Folded.{folded_block, folded}
 use Rattle.folding.specs.Laws.{dests_of, SparesLiterals}

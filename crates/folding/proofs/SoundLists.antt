@@ -9,7 +9,7 @@ use Rattle.semantics.specs.Program.{CodeBlock}
 use Rattle.semantics.specs.Plan.{Plan, landing, landing_in}
 use Rattle.folding.specs.Places.{Layout}
 use Rattle.folding.specs.Moved.{is_shut, new_dest, moved_dest, moved_dests}
-use Rattle.folding.specs.Folded.{folded_block, folded_blocks, folded}
+use Rattle.folding.specs.Folded.{folded_block, folded}
 
 module _ {X : Type 0} where
   pub contains_head : (x : X) (xs : List X) → Contains (x ∷ xs) x

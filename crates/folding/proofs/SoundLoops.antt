@@ -1,17 +1,17 @@
 -- The loops of a folded block agree on their bounds.
-use Rattle.std.proofs.Common.{◌≡◌, ℕ, ◌<◌, ◌≤◌, Bool, true, false, ◌&&◌, length, refl, sym, ap, ◌∙◌, inl, inr, ◌⊎◌, arith, Some, true≢false, if◌then◌else◌}
+use Rattle.std.proofs.Common.{◌≡◌, ℕ, ◌<◌, ◌≤◌, Bool, true, false, ◌&&◌, refl, sym, ap, ◌∙◌, inl, inr, ◌⊎◌, arith, Some, true≢false, if◌then◌else◌}
 use Rattle.std.specs.Prelude.{slice_get}
 use Rattle.std.proofs.lemmas.Bool.{cases_lt}
 use Rattle.std.proofs.lemmas.Option.{slice_get_within}
 use Rattle.operators.specs.declared.Binary.{Binary}
 use Rattle.semantics.specs.declared.program.Op.{Op}
-use Rattle.semantics.specs.declared.program.Op.TheVariants.{Apply2, Lit, Open, Take, Give, Drain}
+use Rattle.semantics.specs.declared.program.Op.TheVariants.{Apply2, Open, Take, Give, Drain}
 use Rattle.semantics.specs.Program.{Instr, CodeBlock}
 use Rattle.semantics.specs.Rule.{slot_of}
 use Rattle.semantics.specs.Plan.{Plan, OneHolder, IsFirst, is_credit, is_open}
 use Rattle.semantics.specs.Wired.{bound_of, part_of, LoopsAgree}
 use Rattle.folding.specs.declared.folds.Fold.{Fold}
-use Rattle.folding.specs.declared.folds.Fold.TheVariants.{Kept, OnRight, OnLeft}
+use Rattle.folding.specs.declared.folds.Fold.TheVariants.{OnRight, OnLeft}
 use Rattle.folding.specs.Folds.{is_folded, new_op}
 use Rattle.folding.specs.Places.{Layout, layout_of, new_place, new_holder, gone_at, folds_at}
 use Rattle.folding.specs.Moved.{moved}

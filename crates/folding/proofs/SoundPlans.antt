@@ -1,6 +1,6 @@
 -- A sound plan stays sound when it is folded.
-use Rattle.std.proofs.Common.{◌≡◌, ℕ, ◌+◌, ◌<◌, ◌≤◌, length, subst, Some}
-use Rattle.std.specs.Prelude.{slice_get, Contains}
+use Rattle.std.proofs.Common.{◌≡◌, ℕ, length, subst, Some}
+use Rattle.std.specs.Prelude.{slice_get}
 use Rattle.semantics.specs.Program.{Instr, CodeBlock}
 use Rattle.semantics.specs.Plan.{Plan, HasShape, IsPlanBlock, IsPlan}
 use Rattle.semantics.specs.Wired.{LoopsAgree, IsWired}

@@ -1,7 +1,7 @@
 -- Rows: what stands apart in a block does so in the folded one.
-use Rattle.std.proofs.Common.{◌≡◌, ℕ, zero, suc, ◌+◌, ◌-◌, ◌<◌, ◌≤◌, Bool, true, false, ◌||◌, List, ◌++◌, length, refl, sym, ap, ◌∙◌, subst, inl, inr, ◌⊎◌, arith, Some, true≢false}
+use Rattle.std.proofs.Common.{◌≡◌, ℕ, zero, suc, ◌+◌, ◌-◌, ◌<◌, ◌≤◌, Bool, true, false, ◌||◌, ◌++◌, length, refl, sym, ap, ◌∙◌, subst, inl, inr, ◌⊎◌, arith, Some, true≢false}
 use Rattle.std.specs.Prelude.{slice_get, Contains}
-use Rattle.std.proofs.lemmas.Bool.{cases_lt, cases_eq}
+use Rattle.std.proofs.lemmas.Bool.{cases_lt}
 use Rattle.std.proofs.lemmas.List.Elements.{Contains-append_left}
 use Rattle.tags.specs.declared.token.Port.{Port}
 use Rattle.semantics.specs.declared.program.Dest.{Dest}
@@ -9,12 +9,12 @@ use Rattle.semantics.specs.declared.program.Op.{Op}
 use Rattle.semantics.specs.declared.program.Op.TheVariants.{Apply2, Link}
 use Rattle.semantics.specs.Program.{Instr, CodeBlock}
 use Rattle.semantics.specs.Plan.{Plan, landing}
-use Rattle.code.specs.Sound.{NamesDest, IsInLanding, IsTied, StandApart, IsSoundDest, DestsAreSound}
+use Rattle.code.specs.Sound.{IsInLanding, IsTied, StandApart, IsSoundDest, DestsAreSound}
 use Rattle.folding.specs.declared.folds.Fold.{Fold}
-use Rattle.folding.specs.declared.folds.Fold.TheVariants.{Kept, OnRight, OnLeft}
+use Rattle.folding.specs.declared.folds.Fold.TheVariants.{OnRight, OnLeft}
 use Rattle.folding.specs.Folds.{is_closed, new_op}
 use Rattle.folding.specs.Places.{Layout, layout_of, new_place, gone_at, folds_at}
-use Rattle.folding.specs.Moved.{is_shut, moved, moved_dests, new_dest}
+use Rattle.folding.specs.Moved.{is_shut, moved}
 use Rattle.folding.specs.Folded.{folded_block, folded}
 use Rattle.folding.proofs.Standing.{keeps_order, has_no_others}
 use Rattle.folding.proofs.Taken.{keeps_entries}
