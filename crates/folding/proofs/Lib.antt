@@ -7,10 +7,10 @@ pub mod Used
 pub mod Named
 pub mod Sole
 pub mod Landing
-mod SoundLists
-mod SoundRows
-mod SoundDests
-mod SoundInstrs
-mod SoundArcs
-mod SoundLoops
-mod SoundPlans
+pub mod SoundLists
+pub mod SoundRows
+pub mod SoundDests
+pub mod SoundInstrs
+pub mod SoundArcs
+pub mod SoundLoops
+pub mod SoundPlans
