@@ -7,3 +7,10 @@ pub mod Used
 pub mod Named
 pub mod Sole
 pub mod Landing
+pub mod SoundLists
+pub mod SoundRows
+pub mod SoundDests
+pub mod SoundInstrs
+pub mod SoundArcs
+pub mod SoundLoops
+pub mod SoundPlans

@@ -13,11 +13,13 @@ mod folds;
 mod layout;
 mod moved;
 mod namers;
+mod sound;
 #[cfg(test)]
 mod tests;
 
 use blocks::fold_block;
 use code::{Plan, Program};
+pub use sound::folding_keeps_plans_sound;
 use std::alloc::{AllocError, Allocator};
 
 /// The plan with literal operands. A `lit` that nothing else uses is left out; entries, landings and marks stay with
