@@ -4,3 +4,5 @@ pub mod Keeping
 pub mod Bounds
 pub mod Wholes
 pub mod Samples
+pub mod StraightLaid
+pub mod StraightTests
