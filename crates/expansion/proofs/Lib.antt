@@ -5,4 +5,5 @@ pub mod Bounds
 pub mod Wholes
 pub mod Samples
 pub mod StraightLaid
+pub mod StraightBody
 pub mod StraightTests
