@@ -6,4 +6,10 @@ pub mod Wholes
 pub mod Samples
 pub mod StraightLaid
 pub mod StraightBody
+pub mod StraightEnds
+pub mod StraightChain
+pub mod StraightUses
+pub mod StraightJoins
+pub mod StraightBlock
+pub mod StraightWhole
 pub mod StraightTests

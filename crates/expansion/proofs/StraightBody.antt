@@ -119,7 +119,7 @@ module _ (s : Scope) where
   abbrev HasLines : Build → List Arc → ℕ → Type 0
   HasLines b arcs n = IsLaid b arcs (bares s.version s.number s.block (line_roles n)) (count_below (is_pair_line s.block) n) n
 
-  lines_size : (n : ℕ) → length (bares s.version s.number s.block (line_roles n)) ≡ 1 + n
+  pub lines_size : (n : ℕ) → length (bares s.version s.number s.block (line_roles n)) ≡ 1 + n
   lines_size n = let mapped = map-length (bare_of s.version s.number s.block) (counted Line 0 n) in let count = counted-length Line 0 n in omega (arith, mapped, count)
     where
       map-length : {X Y : Type 0} (f : X → Y) (xs : List X) → length (map f xs) ≡ length xs
