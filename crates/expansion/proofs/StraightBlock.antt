@@ -114,9 +114,6 @@ same_empty b n [] = refl
 same_empty b n (u ∷ us) = refl
 
 module _ (s : Scope) (flat : IsStraightBlock s.block) (root : InRoot s.block) where
-  abbrev b : Block ℕ
-  b = s.block
-
   abbrev nodes : ℕ
   nodes = node_count s.block
 
@@ -177,7 +174,7 @@ module _ (s : Scope) (flat : IsStraightBlock s.block) (root : InRoot s.block) wh
       omega (arith, split, lines, all)
 
   ends_count : length ends ≡ 1 + join_count s.block
-  ends_count = let count = results_count s.block.outputs in let some = flat.some_output in omega (arith, count, some)
+  ends_count = let count = results_count s.block.outputs in let some = flat.some_output in let joined_count : join_count s.block ≡ (unused s.block + s.block.outputs) - 1 = refl in omega (arith, count, some, joined_count)
 
   ends_low : Lower joins ends
   ends_low = sift-lower test 0 joins joins (omega arith)

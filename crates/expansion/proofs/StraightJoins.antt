@@ -97,13 +97,15 @@ chain_join place last (suc k) n (e ∷ es) l low at lt =
     ends a b c d p q = grind (arith, p, q)
 
 pub chain_below : (place last : ℕ) (es : List ℕ) → last < place → Lower place es → Below (place + length es) (chain place last es)
-chain_below place last [] l low = (omega (arith, l), omega (arith, l), tt)
+chain_below place last [] l low = (omega (arith, l), (omega (arith, l), tt))
 chain_below place last (e ∷ es) l low =
     let first = low.0 in
     let n : (place + 1) + length es ≡ place + length (e ∷ es) = omega arith in (
       omega (arith, l),
-      omega (arith, first),
-      subst (λ m. Below m (chain (place + 1) place es)) n (chain_below (place + 1) place es (omega arith) (lower-more place (place + 1) es (omega arith) low.1)),
+      (
+        omega (arith, first),
+        subst (λ m. Below m (chain (place + 1) place es)) n (chain_below (place + 1) place es (omega arith) (lower-more place (place + 1) es (omega arith) low.1)),
+      ),
     )
 
 -- SIFTED PLACES

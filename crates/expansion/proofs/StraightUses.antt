@@ -150,7 +150,7 @@ pub return_below : (n place : ℕ) (ss : List Source) → All (ComesFrom n) ss �
 return_below n place [] h = tt
 return_below n place (s ∷ ss) h =
     let c : ComesFrom n s = All-head (ComesFrom n) s ss h in
-    let low = c.0 in (omega arith, omega (arith, low), return_below n (place + 1) ss (All-tail (ComesFrom n) s ss h))
+    let low = c.0 in (omega arith, (omega (arith, low), return_below n (place + 1) ss (All-tail (ComesFrom n) s ss h)))
 
 -- A NODE'S LINE, and the entry for the continuation
 abbrev pub all_arcs : Block ℕ → List Arc
