@@ -1,12 +1,10 @@
 -- The code of a straight block is the same in both plans.
-use Rattle.std.proofs.Common.{◌≡◌, ℕ, zero, suc, ◌+◌, ◌-◌, ◌<◌, ◌≤◌, Bool, true, false, List, [], ◌∷◌, ◌++◌, map, length, refl, sym, ap, ◌∙◌, subst, arith, append_assoc, append-nil, Option, Some, None, ◌==◌, nat_lt, le-ltb, if◌then◌else◌}
+use Rattle.std.proofs.Common.{◌≡◌, ℕ, zero, suc, ◌+◌, ◌-◌, ◌<◌, Bool, true, false, List, [], ◌∷◌, ◌++◌, map, length, refl, sym, ap, ◌∙◌, subst, arith, append_assoc, append-nil, Some, None, ◌==◌, nat_lt, le-ltb, if◌then◌else◌}
 use Rattle.std.specs.Prelude.{slice_get, ⊤}
 use Rattle.std.proofs.lemmas.List.{map-append, length-append, length-map}
-use Rattle.tags.specs.declared.token.Port.{Port}
 use Rattle.tags.specs.declared.token.Port.TheVariants.{Left, Right}
 use Rattle.semantics.specs.declared.graph.Region.TheVariants.{Root}
 use Rattle.semantics.specs.declared.program.Mark.TheVariants.{Unmarked}
-use Rattle.semantics.specs.declared.program.Dest.{Dest}
 use Rattle.semantics.specs.Graph.{Node, Block, node_at, node_count}
 use Rattle.semantics.specs.Meaning as Meaning
 use Rattle.semantics.specs.Meaning.{Statement}
@@ -20,7 +18,7 @@ use Rattle.expansion.specs.Builds.{Build, first_of, mark_of}
 use Rattle.expansion.specs.Tails.{returns}
 use Rattle.expansion.specs.Ends.{is_empty, Closing, closing, ends_from, ends_of, closed_nodes, join_ends, released_by, released}
 use Rattle.expansion.specs.Blocks.{body, finished, plain_build}
-use Rattle.expansion.proofs.StraightLaid.{Arc, goes, goes-append, laid, with_firsts, IsLaid, Below, below-append, below-none, other}
+use Rattle.expansion.proofs.StraightLaid.{Arc, goes, goes-append, laid, with_firsts, IsLaid, Below, below-append, below-none}
 use Rattle.expansion.proofs.StraightBody.{node_arcs, return_arcs, bare_of, bares, line_roles, counted-length, lines_size, laid_body, laid_returns}
 use Rattle.expansion.proofs.StraightEnds.{sift, ends_at, is_free, laid_ends, roles_no_take, nodes_close}
 use Rattle.expansion.proofs.StraightChain.{Lower, laid_chain}
@@ -256,12 +254,12 @@ module _ (s : Scope) (flat : IsStraightBlock s.block) (root : InRoot s.block) wh
       let more = counted-length Join 0 (join_count s.block) in (
         start_wire,
         wires-append s.block arcs (0 + 1) (1 + nodes) (counted Line 0 nodes) (counted Result 0 s.block.outputs ++ (counted Join 0 (join_count s.block) ++ End ∷ []))
-        (wires-counted s.block arcs Line (0 + 1) 0 nodes (λ k lt. subst (λ x. Wire ((0 + 1) + k) (Line x)) (let z : k ≡ 0 + k = omega arith in z) (subst (λ x. Wire x (Line k)) (let z : 1 + k ≡ (0 + 1) + k = omega arith in z) (line_wire k lt)))) (omega (arith, lines))
-        (wires-append s.block arcs (1 + nodes) joins (counted Result 0 s.block.outputs) (counted Join 0 (join_count s.block) ++ End ∷ [])
-        (wires-counted s.block arcs Result (1 + nodes) 0 s.block.outputs (λ k lt. subst (λ x. Wire ((1 + nodes) + k) (Result x)) (let z : k ≡ 0 + k = omega arith in z) (result_wire k lt))) (omega (arith, results))
-        (wires-append s.block arcs joins (joins + join_count s.block) (counted Join 0 (join_count s.block)) (End ∷ [])
-        (wires-counted s.block arcs Join joins 0 (join_count s.block) (λ k lt. subst (λ x. Wire (joins + k) (Join x)) (let z : k ≡ 0 + k = omega arith in z) (join_wire k lt))) (omega (arith, more))
-        (end_wire, tt))),
+            (wires-counted s.block arcs Line (0 + 1) 0 nodes (λ k lt. subst (λ x. Wire ((0 + 1) + k) (Line x)) (let z : k ≡ 0 + k = omega arith in z) (subst (λ x. Wire x (Line k)) (let z : 1 + k ≡ (0 + 1) + k = omega arith in z) (line_wire k lt)))) (omega (arith, lines))
+            (wires-append s.block arcs (1 + nodes) joins (counted Result 0 s.block.outputs) (counted Join 0 (join_count s.block) ++ End ∷ [])
+            (wires-counted s.block arcs Result (1 + nodes) 0 s.block.outputs (λ k lt. subst (λ x. Wire ((1 + nodes) + k) (Result x)) (let z : k ≡ 0 + k = omega arith in z) (result_wire k lt))) (omega (arith, results))
+            (wires-append s.block arcs joins (joins + join_count s.block) (counted Join 0 (join_count s.block)) (End ∷ [])
+            (wires-counted s.block arcs Join joins 0 (join_count s.block) (λ k lt. subst (λ x. Wire (joins + k) (Join x)) (let z : k ≡ 0 + k = omega arith in z) (join_wire k lt))) (omega (arith, more))
+            (end_wire, tt))),
       )
 
   -- THE WHOLE BLOCK

@@ -1,5 +1,5 @@
 -- The entries, the nodes and the returns of a straight block: their instructions and arcs.
-use Rattle.std.proofs.Common.{◌≡◌, ℕ, zero, suc, ◌+◌, ◌-◌, ◌<◌, ◌≤◌, Bool, true, false, List, [], ◌∷◌, ◌++◌, map, length, refl, sym, ap, ◌∙◌, subst, arith, append-nil, append_assoc, Option, Some, None, nat_lt, lt-ltb, if◌then◌else◌, add-zero}
+use Rattle.std.proofs.Common.{◌≡◌, ℕ, zero, suc, ◌+◌, ◌-◌, ◌<◌, ◌≤◌, false, List, [], ◌∷◌, ◌++◌, map, length, refl, sym, ap, ◌∙◌, subst, arith, append-nil, append_assoc, Some, None, lt-ltb, if◌then◌else◌, add-zero}
 use Rattle.std.specs.Prelude.{All, slice_get}
 use Rattle.std.proofs.lemmas.List.{map-append}
 use Rattle.std.proofs.lemmas.List.Elements.{All-head, All-tail}
@@ -20,7 +20,7 @@ use Rattle.lowering.specs.Roles.{Role, Start, Line, Result, one, op_for, op_at, 
 use Rattle.lowering.specs.Implements.{IsStraightKind, ComesFrom, IsStraightBlock}
 use Rattle.lowering.specs.StraightPlan.{count_below, counted, is_pair_line, straight_slot, origin_for}
 use Rattle.expansion.specs.declared.builder.Outlet.{Outlet}
-use Rattle.expansion.specs.Builds.{Build, nothing, outlet, first_of, bare, added, quieted, connected, outlet_of, exited, meeting, side, operands}
+use Rattle.expansion.specs.Builds.{Build, nothing, outlet, first_of, bare, added, quieted, connected, outlet_of, meeting, side, operands}
 use Rattle.expansion.specs.Scopes.{Scope}
 use Rattle.expansion.specs.Rows.{operator}
 use Rattle.expansion.specs.Tails.{returns}

@@ -1,5 +1,5 @@
 -- The chain that joins the ends of a straight block.
-use Rattle.std.proofs.Common.{◌≡◌, ℕ, zero, suc, ◌+◌, ◌<◌, List, [], ◌∷◌, ◌++◌, length, refl, sym, ap, ◌∙◌, subst, arith, append_assoc, Option, Some}
+use Rattle.std.proofs.Common.{◌≡◌, ℕ, ◌+◌, ◌<◌, List, [], ◌∷◌, ◌++◌, length, refl, ap, ◌∙◌, subst, arith, append_assoc, Some}
 use Rattle.std.specs.Prelude.{⊤}
 use Rattle.tags.specs.declared.value.Origin.TheVariants.{Untold}
 use Rattle.tags.specs.declared.token.Port.TheVariants.{Left, Right}
@@ -12,7 +12,7 @@ use Rattle.lowering.specs.Roles.{Join, End}
 use Rattle.lowering.specs.StraightPlan.{count_below, counted, is_pair_line, join_count}
 use Rattle.expansion.specs.declared.builder.Outlet.{Outlet}
 use Rattle.expansion.specs.Builds.{Build, first_of, bare, meeting}
-use Rattle.expansion.specs.Ends.{Signalled, end_at, join_ends, released_by}
+use Rattle.expansion.specs.Ends.{join_ends, released_by}
 use Rattle.expansion.proofs.StraightLaid.{Arc, arc, IsLaid, laid_size, laid_meeting, push-length}
 use Rattle.expansion.proofs.StraightBody.{bares}
 use Rattle.expansion.proofs.StraightEnds.{ends_at}

@@ -1,26 +1,20 @@
 -- The ends of a straight block, and the chain that joins them.
-use Rattle.std.proofs.Common.{◌≡◌, ℕ, zero, suc, ◌+◌, ◌<◌, Bool, true, false, not, ◌&&◌, List, [], ◌∷◌, ◌++◌, map, length, refl, sym, ap, ◌∙◌, subst, arith, append-nil, append_assoc, Option, Some, None, if◌then◌else◌}
+use Rattle.std.proofs.Common.{◌≡◌, ℕ, zero, suc, ◌+◌, Bool, true, false, not, ◌&&◌, List, [], ◌∷◌, ◌++◌, map, length, refl, sym, ap, ◌∙◌, append-nil, append_assoc, Option, Some, None, if◌then◌else◌}
 use Rattle.std.specs.Prelude.{slice_get, ⊤}
-use Rattle.tags.specs.declared.value.Origin.TheVariants.{Untold}
-use Rattle.tags.specs.declared.token.Port.TheVariants.{Left, Right}
 use Rattle.semantics.specs.declared.graph.Region.{Region}
 use Rattle.semantics.specs.declared.graph.Region.TheVariants.{Root}
 use Rattle.semantics.specs.declared.graph.Kind.{Kind}
 use Rattle.semantics.specs.declared.graph.Kind.TheVariants.{Lit, Apply1, Apply2}
-use Rattle.semantics.specs.declared.program.Mark.{Mark}
 use Rattle.semantics.specs.declared.program.Mark.TheVariants.{Unmarked}
-use Rattle.semantics.specs.declared.program.Op.{Op}
-use Rattle.semantics.specs.Graph.{Node, Block, node_at, node_count}
+use Rattle.semantics.specs.Graph.{Node, Block, node_at}
 use Rattle.semantics.specs.Program.{Instr}
 use Rattle.lowering.specs.Roles.{Role, Line, Result, Join, End as Last, op_for, op_at, op_of}
 use Rattle.lowering.specs.Implements.{IsStraightKind}
-use Rattle.lowering.specs.StraightPlan.{count_below, counted, is_pair_line, join_count}
-use Rattle.expansion.specs.declared.builder.Outlet.{Outlet}
 use Rattle.expansion.specs.declared.ends.End.{End}
-use Rattle.expansion.specs.Builds.{Build, first_of, bare, meeting, mark_of, region_of}
-use Rattle.expansion.specs.Ends.{end_at, is_empty, is_take, is_end, pushed_if, noted, ends_from, Closing, closed_kind, closed_nodes, join_ends, released_by}
-use Rattle.expansion.proofs.StraightLaid.{Arc, arc, goes, laid, with_firsts, IsLaid, laid_size, laid_meeting, push-length}
-use Rattle.expansion.proofs.StraightBody.{bares, bare_of}
+use Rattle.expansion.specs.Builds.{Build, first_of, mark_of, region_of}
+use Rattle.expansion.specs.Ends.{end_at, is_empty, is_take, pushed_if, noted, ends_from, Closing, closed_kind, closed_nodes}
+use Rattle.expansion.proofs.StraightLaid.{Arc, goes, laid, with_firsts}
+use Rattle.expansion.proofs.StraightBody.{bares}
 
 -- so many places from one on, those that pass a test
 abbrev pub sift : (ℕ → Bool) → ℕ → ℕ → List ℕ

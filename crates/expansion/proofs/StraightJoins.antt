@@ -1,13 +1,13 @@
 -- Where the chain of joins leads from each place.
-use Rattle.std.proofs.Common.{◌≡◌, ℕ, zero, suc, ◌+◌, ◌-◌, ◌<◌, ◌≤◌, Bool, true, false, List, [], ◌∷◌, ◌++◌, map, length, refl, sym, ap, ◌∙◌, subst, arith, ◌==◌, if◌then◌else◌, true≢false, append_assoc}
+use Rattle.std.proofs.Common.{◌≡◌, ℕ, zero, suc, ◌+◌, ◌-◌, ◌<◌, ◌≤◌, Bool, true, false, List, [], ◌∷◌, ◌++◌, length, refl, sym, ap, ◌∙◌, subst, arith, ◌==◌, if◌then◌else◌, true≢false}
 use Rattle.std.specs.Prelude.{⊤}
 use Rattle.tags.specs.declared.token.Port.{Port}
 use Rattle.tags.specs.declared.token.Port.TheVariants.{Left, Right}
 use Rattle.semantics.specs.declared.program.Dest.{Dest}
 use Rattle.semantics.specs.Graph.{Block, node_count}
 use Rattle.lowering.specs.Roles.{Role, Join, End, one, inlet}
-use Rattle.lowering.specs.StraightPlan.{count_below, dest_to, end_to, join_to, join_count, straight_place}
-use Rattle.expansion.proofs.StraightLaid.{Arc, arc, goes, Below, below-more, other, same_number}
+use Rattle.lowering.specs.StraightPlan.{count_below, dest_to, end_to, join_count, straight_place}
+use Rattle.expansion.proofs.StraightLaid.{Arc, arc, goes, Below, other, same_number}
 use Rattle.expansion.proofs.StraightEnds.{sift}
 use Rattle.expansion.proofs.StraightChain.{chain, Lower, lower-more}
 

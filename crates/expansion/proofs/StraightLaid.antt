@@ -10,7 +10,7 @@ use Rattle.semantics.specs.declared.program.Dest.{Dest}
 use Rattle.semantics.specs.declared.program.Mark.TheVariants.{Unmarked}
 use Rattle.semantics.specs.declared.program.Op.{Op}
 use Rattle.semantics.specs.Program.{Instr}
-use Rattle.semantics.specs.Plan.{is_open, is_credit}
+use Rattle.semantics.specs.Plan.{is_credit}
 use Rattle.expansion.specs.declared.builder.Outlet.{Outlet}
 use Rattle.expansion.specs.Builds.{Build, nothing, nowhere, first_of, takes_holder, slot_in, bare, added, connected, no_instr, with_dest, dest_of, exit_at, exited, meeting, mark_of, region_of}
 

@@ -1,9 +1,8 @@
 -- Where the arcs of a straight block lead: to the uses of its nodes.
-use Rattle.std.proofs.Common.{◌≡◌, ℕ, zero, suc, ◌+◌, ◌-◌, ◌<◌, Bool, true, false, ◌&&◌, List, [], ◌∷◌, ◌++◌, map, length, refl, sym, ap, ◌∙◌, arith, ◌==◌, if◌then◌else◌}
+use Rattle.std.proofs.Common.{◌≡◌, ℕ, zero, suc, ◌+◌, ◌-◌, Bool, true, false, ◌&&◌, List, [], ◌∷◌, ◌++◌, map, length, refl, sym, ap, ◌∙◌, arith, ◌==◌, if◌then◌else◌}
 use Rattle.std.specs.Prelude.{All, flat_map, ⊤}
 use Rattle.std.proofs.lemmas.List.{map-append}
 use Rattle.std.proofs.lemmas.List.Elements.{All-head, All-tail}
-use Rattle.tags.specs.declared.token.Port.{Port}
 use Rattle.tags.specs.declared.token.Port.TheVariants.{Left, Right}
 use Rattle.semantics.specs.declared.graph.Source.{Source}
 use Rattle.semantics.specs.declared.program.Dest.{Dest}
@@ -14,7 +13,7 @@ use Rattle.lowering.specs.Roles.{Start, Line}
 use Rattle.lowering.specs.Implements.{ComesFrom}
 use Rattle.lowering.specs.StraightPlan.{dest_to, inlet_of, port_at, uses_of, results_from}
 use Rattle.expansion.specs.Builds.{side}
-use Rattle.expansion.proofs.StraightLaid.{Arc, arc, goes, goes-append, Below, below-append, other}
+use Rattle.expansion.proofs.StraightLaid.{Arc, arc, goes, goes-append, Below, other}
 use Rattle.expansion.proofs.StraightBody.{operand_arcs, node_arcs, return_arcs}
 
 abbrev Use : Type 0
@@ -61,12 +60,7 @@ dests_of b n us = map (dest_to b (Line n)) (map inlet_of us)
 pub dests-append : (b : Block ℕ) (n : ℕ) (us vs : List Use) → dests_of b n (us ++ vs) ≡ dests_of b n us ++ dests_of b n vs
 dests-append b n us vs = ap (map (dest_to b (Line n))) (map-append inlet_of us vs) ∙ map-append (dest_to b (Line n)) (map inlet_of us) (map inlet_of vs)
 
-
-
-
 -- NODES
-
-
 
 operand_goes : (b : Block ℕ) (n m from : ℕ) (ss : List Source) → Simple ss
     → goes (operand_arcs (1 + m) from ss) (1 + n) ≡ dests_of b n (map (λ i. (AtNode m, Operand i)) (positions n 0 from ss))

@@ -11,17 +11,17 @@ use Rattle.semantics.specs.declared.graph.Kind.TheVariants.{Lit, Apply1, Apply2}
 use Rattle.semantics.specs.declared.program.Mark.{Mark}
 use Rattle.semantics.specs.declared.program.Mark.TheVariants.{Unmarked}
 use Rattle.semantics.specs.Graph.{Graph, Flow, Node, Block, node_at, flow_of, resolved_kind, resolved_block, array_names, block_names}
-use Rattle.semantics.specs.WellFormed.{WellFormed, IsBlockWell, IsRegion, IsCondNode}
+use Rattle.semantics.specs.WellFormed.{IsBlockWell, IsRegion, IsCondNode}
 use Rattle.semantics.specs.Program.{CodeBlock, Program}
 use Rattle.semantics.specs.Plan.{mark_in}
 use Rattle.lowering.specs.Implements.{IsStraightKind, IsStraightBlock}
 use Rattle.lowering.specs.StraightPlan.{straight_code, straight_codes}
-use Rattle.lowering.specs.Theorem.{IsPlainKind, IsPlainBlock, IsStraightLine}
+use Rattle.lowering.specs.Theorem.{IsPlainKind, IsPlainBlock}
 use Rattle.lowering.proofs.StraightGraph.{graph_is_straight}
 use Rattle.expansion.specs.Builds.{mark_of}
 use Rattle.expansion.specs.Scopes.{Scope}
 use Rattle.expansion.specs.Variants.{loops_to, some_node_loops, some_block_loops, variants_of}
-use Rattle.expansion.specs.Expanded.{Codes, with_code, no_codes, scope_of, plain_code, variant_code, plain_codes, variant_codes, expanded}
+use Rattle.expansion.specs.Expanded.{Codes, with_code, no_codes, scope_of, plain_code, variant_code, plain_codes, variant_codes}
 use Rattle.expansion.specs.Straight.{StraightPlansAgree}
 use Rattle.expansion.proofs.StraightBlock.{InRoot, node_line, straight_instrs, straight_holders, straight_marks}
 

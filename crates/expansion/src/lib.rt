@@ -34,8 +34,8 @@ mod variants;
 use code::Plan;
 use graph::Graph;
 pub use laws::plans_keep_to_their_graphs;
-pub use straight::straight_plans_are_the_same;
 use std::alloc::{AllocError, Allocator};
+pub use straight::straight_plans_are_the_same;
 
 /// The plan of a well-formed graph within the limits.
 ///
