@@ -12,4 +12,3 @@ pub mod StraightUses
 pub mod StraightJoins
 pub mod StraightBlock
 pub mod StraightWhole
-pub mod StraightTests

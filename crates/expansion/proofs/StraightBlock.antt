@@ -22,7 +22,7 @@ use Rattle.expansion.proofs.StraightLaid.{Arc, goes, goes-append, laid, with_fir
 use Rattle.expansion.proofs.StraightBody.{node_arcs, return_arcs, bare_of, bares, line_roles, counted-length, lines_size, laid_body, laid_returns}
 use Rattle.expansion.proofs.StraightEnds.{sift, ends_at, is_free, laid_ends, roles_no_take, nodes_close}
 use Rattle.expansion.proofs.StraightChain.{Lower, laid_chain}
-use Rattle.expansion.proofs.StraightUses.{AllSimple, Simple, simple_from, dests_of, all_arcs, line_goes, start_goes, return_below}
+use Rattle.expansion.proofs.StraightUses.{AllFirstPorts, FirstPorts, first_ports_from, dests_of, all_arcs, line_goes, start_goes, return_below}
 use Rattle.expansion.proofs.StraightJoins.{to_place, Apart, joined, chain_miss, chain_start, chain_join, chain_below, sift-append, one_sifted, sift-count, sift-all, sift-lower, sift-before, sift-failed, sift-parts, end_goes}
 
 -- A CHAIN of at least one end
@@ -93,9 +93,9 @@ module _ (b : Block ℕ) (arcs : List Arc) where
   laid_wires version number n (r ∷ rs) h = (λ i. with_firsts (bare_of version number b r) (h.0 i) ∷ laid_wires version number (n + 1) rs h.1 i)
 
 -- ONE BLOCK
-all_simple : (xs : List (Node ℕ)) → ((k : ℕ) (x : Node ℕ) → slice_get xs k ≡ Some x → Simple x.sources) → AllSimple xs
-all_simple [] h = tt
-all_simple (x ∷ xs) h = (h 0 x refl, all_simple xs (λ k y e. h (suc k) y e))
+all_first_ports : (xs : List (Node ℕ)) → ((k : ℕ) (x : Node ℕ) → slice_get xs k ≡ Some x → FirstPorts x.sources) → AllFirstPorts xs
+all_first_ports [] h = tt
+all_first_ports (x ∷ xs) h = (h 0 x refl, all_first_ports xs (λ k y e. h (suc k) y e))
 
 pub node_line : {N : Type 0} (b : Block N) (i : ℕ) → node_at b (b.inputs + i) ≡ slice_get b.nodes i
 node_line b i =
@@ -128,15 +128,15 @@ module _ (s : Scope) (flat : IsStraightBlock s.block) (root : InRoot s.block) wh
   abbrev arcs : List Arc
   arcs = all_arcs s.block ++ joined joins ends
 
-  simple : AllSimple s.block.nodes
-  simple = all_simple s.block.nodes (λ k x e. simple_from (s.block.inputs + k) x.sources (flat.earlier (s.block.inputs + k) x (node_line s.block k ∙ e)))
+  node_ports : AllFirstPorts s.block.nodes
+  node_ports = all_first_ports s.block.nodes (λ k x e. first_ports_from (s.block.inputs + k) x.sources (flat.earlier (s.block.inputs + k) x (node_line s.block k ∙ e)))
 
-  simple_results : Simple s.block.results
-  simple_results = simple_from nodes s.block.results flat.results
+  result_ports : FirstPorts s.block.results
+  result_ports = first_ports_from nodes s.block.results flat.results
 
   -- WHICH PLACES ARE FREE
   line_free : (n : ℕ) → test (1 + n) ≡ is_unused s.block n
-  line_free n = ap is_empty (line_goes s.block n simple simple_results) ∙ same_empty s.block n (uses_of s.block n)
+  line_free n = ap is_empty (line_goes s.block n node_ports result_ports) ∙ same_empty s.block n (uses_of s.block n)
 
   has_results : (n : ℕ) → 0 < n → is_empty (map (dest_to s.block Start) (results_from 0 n)) ≡ false
   has_results zero h = absurd (omega (arith, h))
@@ -209,7 +209,7 @@ module _ (s : Scope) (flat : IsStraightBlock s.block) (root : InRoot s.block) wh
   line_wire : (n : ℕ) → n < nodes → Wire (1 + n) (Line n)
   line_wire n lt =
       goes-append (all_arcs s.block) (joined joins ends) (1 + n)
-      ∙ ap (λ ds. ds ++ goes (joined joins ends) (1 + n)) (line_goes s.block n simple simple_results)
+      ∙ ap (λ ds. ds ++ goes (joined joins ends) (1 + n)) (line_goes s.block n node_ports result_ports)
       ∙ go (uses_of s.block n) (line_free n)
     where
       go : (us : List (Statement × Meaning.Port)) → test (1 + n) ≡ Plan.is_empty us

@@ -40,18 +40,18 @@ its_side : (k : ℕ) → side k ≡ port_at (Operand k)
 its_side zero = refl
 its_side (suc k) = refl
 
--- what comes from port 0 of an earlier node
-abbrev pub Simple : List Source → Type 0
-Simple [] = ⊤
-Simple (s ∷ ss) = (s.port ≡ 0) × Simple ss
+-- each source is the first output port of its node
+abbrev pub FirstPorts : List Source → Type 0
+FirstPorts [] = ⊤
+FirstPorts (s ∷ ss) = (s.port ≡ 0) × FirstPorts ss
 
-pub simple_from : (n : ℕ) (ss : List Source) → All (ComesFrom n) ss → Simple ss
-simple_from n [] h = tt
-simple_from n (s ∷ ss) h = let c : ComesFrom n s = All-head (ComesFrom n) s ss h in (c.1, simple_from n ss (All-tail (ComesFrom n) s ss h))
+pub first_ports_from : (n : ℕ) (ss : List Source) → All (ComesFrom n) ss → FirstPorts ss
+first_ports_from n [] h = tt
+first_ports_from n (s ∷ ss) h = let c : ComesFrom n s = All-head (ComesFrom n) s ss h in (c.1, first_ports_from n ss (All-tail (ComesFrom n) s ss h))
 
-abbrev pub AllSimple : List (Node ℕ) → Type 0
-AllSimple [] = ⊤
-AllSimple (x ∷ xs) = Simple x.sources × AllSimple xs
+abbrev pub AllFirstPorts : List (Node ℕ) → Type 0
+AllFirstPorts [] = ⊤
+AllFirstPorts (x ∷ xs) = FirstPorts x.sources × AllFirstPorts xs
 
 -- the uses of node n, as destinations of its line
 abbrev pub dests_of : Block ℕ → ℕ → List Use → List Dest
@@ -62,7 +62,7 @@ dests-append b n us vs = ap (map (dest_to b (Line n))) (map-append inlet_of us v
 
 -- NODES
 
-operand_goes : (b : Block ℕ) (n m from : ℕ) (ss : List Source) → Simple ss
+operand_goes : (b : Block ℕ) (n m from : ℕ) (ss : List Source) → FirstPorts ss
     → goes (operand_arcs (1 + m) from ss) (1 + n) ≡ dests_of b n (map (λ i. (AtNode m, Operand i)) (positions n 0 from ss))
 operand_goes b n m from [] h = refl
 operand_goes b n m from (s ∷ ss) h =
@@ -84,7 +84,7 @@ operand_goes b n m from (s ∷ ss) h =
         (λ i. d i ∷ ih i)
     go false t ih = ih
 
-pub node_goes : (b : Block ℕ) (n m : ℕ) (xs : List (Node ℕ)) → AllSimple xs → goes (node_arcs m xs) (1 + n) ≡ dests_of b n (uses_at n 0 m xs)
+pub node_goes : (b : Block ℕ) (n m : ℕ) (xs : List (Node ℕ)) → AllFirstPorts xs → goes (node_arcs m xs) (1 + n) ≡ dests_of b n (uses_at n 0 m xs)
 node_goes b n m [] h = refl
 node_goes b n m (x ∷ xs) h =
     goes-append (operand_arcs (1 + m) 0 x.sources) (node_arcs (m + 1) xs) (1 + n)
@@ -106,7 +106,7 @@ node_zero m (x ∷ xs) =
     ∙ ap (λ ds. ds ++ goes (node_arcs (m + 1) xs) 0) (operand_zero (1 + m) 0 x.sources) ∙ node_zero (m + 1) xs
 
 -- RETURNS
-pub return_goes : (b : Block ℕ) (n place from : ℕ) (ss : List Source) → Simple ss → place ≡ 1 + node_count b + from
+pub return_goes : (b : Block ℕ) (n place from : ℕ) (ss : List Source) → FirstPorts ss → place ≡ 1 + node_count b + from
     → goes (return_arcs place ss) (1 + n) ≡ dests_of b n (flat_map (λ j. result_uses Meaning.Main b.inputs j) (positions n 0 from ss))
 return_goes b n place from [] h e = refl
 return_goes b n place from (s ∷ ss) h e =
@@ -150,7 +150,7 @@ return_below n place (s ∷ ss) h =
 abbrev pub all_arcs : Block ℕ → List Arc
 all_arcs b = node_arcs b.inputs b.nodes ++ return_arcs (1 + node_count b) b.results
 
-pub line_goes : (b : Block ℕ) (n : ℕ) → AllSimple b.nodes → Simple b.results → goes (all_arcs b) (1 + n) ≡ dests_of b n (uses_of b n)
+pub line_goes : (b : Block ℕ) (n : ℕ) → AllFirstPorts b.nodes → FirstPorts b.results → goes (all_arcs b) (1 + n) ≡ dests_of b n (uses_of b n)
 line_goes b n nodes results =
     let zeroless : 1 + node_count b ≡ 1 + node_count b + 0 = omega arith in
     goes-append (node_arcs b.inputs b.nodes) (return_arcs (1 + node_count b) b.results) (1 + n)
