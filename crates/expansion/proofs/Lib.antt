@@ -5,3 +5,11 @@ pub mod Bounds
 pub mod Wholes
 pub mod Samples
 pub mod Inputs
+pub mod StraightLaid
+pub mod StraightBody
+pub mod StraightEnds
+pub mod StraightChain
+pub mod StraightUses
+pub mod StraightJoins
+pub mod StraightBlock
+pub mod StraightWhole

@@ -26,6 +26,7 @@ mod laws;
 mod plans;
 mod rows;
 mod scope;
+mod straight;
 mod tail;
 mod uses;
 mod variants;
@@ -34,6 +35,7 @@ use code::Plan;
 use graph::Graph;
 pub use laws::plans_keep_to_their_graphs;
 use std::alloc::{AllocError, Allocator};
+pub use straight::straight_plans_are_the_same;
 
 /// The plan of a well-formed graph within the limits.
 ///
