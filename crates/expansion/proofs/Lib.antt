@@ -5,3 +5,6 @@ pub mod Bounds
 pub mod Wholes
 pub mod Samples
 pub mod FactsSteps
+pub mod FactsHeads
+pub mod FactsHolders
+pub mod FactsHeld
