@@ -45,8 +45,8 @@ pub data Step (s : Stage) (op : Op) (t : Stage) : Type 0 where
   Taken : (k : ℕ) (part : op ≡ Op.Take k) (before : s ≡ Giving k) (after : t ≡ Taking k) → Step s op t
   Drained : (k : ℕ) (part : op ≡ Op.Drain k) (before : s ≡ Taking k) (after : t ≡ Idle) → Step s op t
 
--- WHAT IS ALLOWED. Operations that name nothing, and small offsets
-pub record Basics (Ok : Op → Type 0) : Type 0 where
+-- WHAT IS ALLOWED. Operations that name nothing, and offsets up to a greatest one
+pub record Basics (Ok : Op → Type 0) (most : ℕ) : Type 0 where
   pub copy : Ok Op.Copy
   pub sync : Ok Op.Sync
   pub switch : Ok Op.Switch
@@ -54,9 +54,9 @@ pub record Basics (Ok : Op → Type 0) : Type 0 where
   pub literal : (z : _) → Ok (Op.Lit z)
   pub one : (op : Unary) → Ok (Op.Apply1 op)
   pub two : (op : Binary) → Ok (Op.Apply2 op)
-  pub return : (o : ℕ) → o ≤ 255 → Ok (Op.Return o)
-  pub ask : (o : ℕ) → o ≤ 255 → Ok (Op.Ask o)
-  pub release : (o : ℕ) → o ≤ 255 → Ok (Op.Release o)
+  pub return : (o : ℕ) → o ≤ most → Ok (Op.Return o)
+  pub ask : (o : ℕ) → o ≤ most → Ok (Op.Ask o)
+  pub release : (o : ℕ) → o ≤ most → Ok (Op.Release o)
 
 -- an invocation of a code block with so many arguments
 abbrev pub Invokes : (Op → Type 0) → ℕ → ℕ → Type 0
@@ -71,14 +71,14 @@ AllowsKind Ok vars (StrictCall f) n = Invokes Ok f n
 AllowsKind Ok vars (Loop f k) n = Invokes Ok (variant_of vars f) n × Ok (Op.Open k) × Ok (Op.Give k) × Ok (Op.Take k) × Ok (Op.Drain k)
 AllowsKind Ok vars kind n = ⊤
 
-pub record Allows (Ok : Op → Type 0) (Fit : Origin → Type 0) (s : Scope) : Type 0 where
+pub record Allows (Ok : Op → Type 0) (Fit : Origin → Type 0) (most : ℕ) (s : Scope) : Type 0 where
   pub origins : (n : ℕ) → n < node_count s.block → Fit (origin_in s.version (Some s.number) n)
   pub kinds : (k : ℕ) (node : Node ℕ) → slice_get s.block.nodes k ≡ Some node → AllowsKind Ok s.variants node.kind (length node.sources)
-  pub inputs : s.block.inputs ≤ 16
-  pub outputs : s.block.outputs ≤ 16
-  pub results : length s.block.results ≤ 16
+  pub inputs : s.block.inputs ≤ most
+  pub outputs : s.block.outputs ≤ most
+  pub results : length s.block.results + 1 ≤ most
 
-module _ (Inv : Stage → Build → Type 0) (Ok : Op → Type 0) (Fit : Origin → Type 0) (base : Basics Ok) (untold : Fit Untold)
+module _ (Inv : Stage → Build → Type 0) (Ok : Op → Type 0) (Fit : Origin → Type 0) (most : ℕ) (base : Basics Ok most) (untold : Fit Untold)
     (adds : (s t : Stage) (b : Build) (op : Op) (o : Origin) (m : Mark) (r : Region) → Step s op t → Ok op → Fit o → Inv s b → Inv t (added b op o m r))
     (links : (s : Stage) (b : Build) (o : Outlet) (to : ℕ) (p : Port) → Inv s b → Inv s (connected b o to p))
     (exits : (s : Stage) (b : Build) (o : Outlet) → Inv s b → Inv s (exited b o)) where
@@ -245,17 +245,17 @@ module _ (Inv : Stage → Build → Type 0) (Ok : Op → Type 0) (Fit : Origin �
       (adds Idle Idle c Op.Copy (origin_in s.version (Some s.number) n) Unmarked Root (Plain refl refl) base.copy (f n (omega arith))
       (inputs_keep b s n (λ k l. f k (omega (arith, l))) h))
 
-  pub entries_keep : (s : Scope) → Allows Ok Fit s → Inv Idle nothing → Inv Idle (entries s)
+  pub entries_keep : (s : Scope) → Allows Ok Fit most s → Inv Idle nothing → Inv Idle (entries s)
   unfolding entries
   entries_keep s a h =
       inputs_keep (quieted nothing Op.Copy Root) s s.block.inputs (λ k l. a.origins k (omega (arith, l)))
       (quiets Idle Idle nothing Op.Copy Root (Plain refl refl) base.copy h)
 
-  body_keeps : (s : Scope) → Allows Ok Fit s → Inv Idle (entries s) → Inv Idle (body s)
+  body_keeps : (s : Scope) → Allows Ok Fit most s → Inv Idle (entries s) → Inv Idle (body s)
   body_keeps s a h = nodes_keep (entries s) s s.block.inputs s.block.nodes a.kinds a.origins h
 
   -- OUTPUTS
-  returns_keep : (b : Build) (from : ℕ) (ss : List Source) → from + length ss ≤ 255 → Inv Idle b → Inv Idle (returns b from ss)
+  returns_keep : (b : Build) (from : ℕ) (ss : List Source) → from + length ss ≤ most → Inv Idle b → Inv Idle (returns b from ss)
   returns_keep b from [] l h = h
   returns_keep b from (x ∷ ss) l h =
       returns_keep (meeting b (Op.Return from) Unmarked Root (first_of 0) (outlet_of b x)) (from + 1) ss (omega (arith, l))
@@ -266,14 +266,14 @@ module _ (Inv : Stage → Build → Type 0) (Ok : Op → Type 0) (Fit : Origin �
   switches_keep b flag (x ∷ ss) h =
       switches_keep (meeting b Op.Switch OfFlag Root (outlet_of b x) flag) flag ss (meets Idle b Op.Switch OfFlag Root (outlet_of b x) flag refl base.switch h)
 
-  next_keep : (b : Build) (block : ℕ) (r : Region) (frame : Outlet) (values n most : ℕ) → ((e : ℕ) → e ≤ most → Ok (Op.Send block e)) → n ≤ most → Inv Idle b → Inv Idle (next_values b block r frame values n)
-  next_keep b block r frame values zero most k l h = h
-  next_keep b block r frame values (suc n) most k l h =
-      let here : n + 1 ≤ most = omega (arith, l) in
+  next_keep : (b : Build) (block : ℕ) (r : Region) (frame : Outlet) (values n last : ℕ) → ((e : ℕ) → e ≤ last → Ok (Op.Send block e)) → n ≤ last → Inv Idle b → Inv Idle (next_values b block r frame values n)
+  next_keep b block r frame values zero last k l h = h
+  next_keep b block r frame values (suc n) last k l h =
+      let here : n + 1 ≤ last = omega (arith, l) in
       meets Idle (next_values b block r frame values n) (Op.Send block (n + 1)) Unmarked r frame (outlet values n false) refl (k (n + 1) here)
-      (next_keep b block r frame values n most k (omega (arith, l)) h)
+      (next_keep b block r frame values n last k (omega (arith, l)) h)
 
-  last_keep : (b : Build) (r : Region) (c : Outlet) (values n : ℕ) → n ≤ 255 → Inv Idle b → Inv Idle (last_values b r c values n)
+  last_keep : (b : Build) (r : Region) (c : Outlet) (values n : ℕ) → n ≤ most → Inv Idle b → Inv Idle (last_values b r c values n)
   last_keep b r c values zero l h = h
   last_keep b r c values (suc n) l h =
       meets Idle (last_values b r c values n) (Op.Return n) Unmarked r c (outlet values n true) refl (base.return n (omega (arith, l))) (last_keep b r c values n (omega (arith, l)) h)
@@ -284,7 +284,7 @@ module _ (Inv : Stage → Build → Type 0) (Ok : Op → Type 0) (Fit : Origin �
       switches_keep (turned_flag b flag) flag ss
       (meets Idle (turned_continuation b flag) Op.Switch OfFlag Root flag flag refl base.switch (meets Idle b Op.Switch OfFlag Root (first_of 0) flag refl base.switch h))
 
-  go_on_keeps : (b : Build) (block : ℕ) (r : Region) (t : Turn) → t.count ≤ 16 → ((e : ℕ) → e ≤ t.count → Ok (Op.Send block e)) → Inv Idle b → Inv Idle (go_on b block r t)
+  go_on_keeps : (b : Build) (block : ℕ) (r : Region) (t : Turn) → t.count + 2 ≤ most → ((e : ℕ) → e ≤ t.count → Ok (Op.Send block e)) → Inv Idle b → Inv Idle (go_on b block r t)
   unfolding go_on
   go_on_keeps b block r t l k h =
       let ask : Build = meeting b (Op.Ask (t.count + 1)) Unmarked Root (first_of t.continuation) (first_of t.flag) in
@@ -297,19 +297,19 @@ module _ (Inv : Stage → Build → Type 0) (Ok : Op → Type 0) (Fit : Origin �
       (behinds Idle Idle ask (first_of (length b.instrs)) Op.Frame Root (Plain refl refl) base.frame
       (meets Idle b (Op.Ask (t.count + 1)) Unmarked Root (first_of t.continuation) (first_of t.flag) refl (base.ask (t.count + 1) (omega (arith, l))) h))))
 
-  stop_keeps : (b : Build) (r : Region) (t : Turn) → t.count ≤ 16 → Inv Idle b → Inv Idle (stop b r t)
+  stop_keeps : (b : Build) (r : Region) (t : Turn) → t.count + 2 ≤ most → Inv Idle b → Inv Idle (stop b r t)
   unfolding stop
   stop_keeps b r t l h =
       meets Idle (last_values b r (second_of t.continuation) t.values t.count) (Op.Return (t.count + 2)) Unmarked r (second_of t.continuation) (second_of t.flag) refl (base.return (t.count + 2) (omega (arith, l)))
       (last_keep b r (second_of t.continuation) t.values t.count (omega (arith, l)) h)
 
-  iterate_keeps : (b : Build) (block k : ℕ) (ss : List Source) → length ss ≤ 16 → ((e : ℕ) → e < length ss → Ok (Op.Send block e)) → Inv Idle b → Inv Idle (iterate b block k ss)
+  iterate_keeps : (b : Build) (block k : ℕ) (ss : List Source) → length ss + 1 ≤ most → ((e : ℕ) → e < length ss → Ok (Op.Send block e)) → Inv Idle b → Inv Idle (iterate b block k ss)
   unfolding turn_of
   iterate_keeps b block k [] l a h = h
   iterate_keeps b block k (x ∷ ss) l a h =
       let t : Turn = turn_of b (outlet_of b x) (length ss) in
       let begun : Build = turning b (outlet_of b x) ss in
-      let few : length ss ≤ 16 = omega (arith, l) in
+      let few : length ss + 2 ≤ most = omega (arith, l) in
       stop_keeps (go_on begun block (Arm k true) t) (Arm k false) t few (go_on_keeps begun block (Arm k true) t few (λ e m. a e (omega (arith, m))) (turning_keeps b (outlet_of b x) ss h))
 
   -- ENDS
@@ -364,32 +364,30 @@ module _ (Inv : Stage → Build → Type 0) (Ok : Op → Type 0) (Fit : Origin �
   closed_nodes_keep c n [] h = h
   closed_nodes_keep c n (x ∷ ns) h = closed_kind_keeps (closed_nodes c (n + 1) ns) n x.kind x.region (closed_nodes_keep c (n + 1) ns h)
 
-  released_keeps : (b : Build) (es : List End) (offset : ℕ) → offset ≤ 255 → Inv Idle b → Inv Idle (released b es offset)
+  released_keeps : (b : Build) (es : List End) (offset : ℕ) → offset ≤ most → Inv Idle b → Inv Idle (released b es offset)
   unfolding released
   released_keeps b es offset l h =
       let s : Signalled = join_ends b None Root es in
       signalled_keeps (behind s.build (first_of 0) (Op.Release offset) Root) s.signal (length s.build.instrs) Right
       (behinds Idle Idle s.build (first_of 0) (Op.Release offset) Root (Plain refl refl) (base.release offset l) (join_ends_keep b None Root es h))
 
-  finished_keeps : (c : Closing) (block : Block ℕ) (offset : ℕ) → offset ≤ 255 → Inv Idle c.build → Inv Idle (finished c block offset)
+  finished_keeps : (c : Closing) (block : Block ℕ) (offset : ℕ) → offset ≤ most → Inv Idle c.build → Inv Idle (finished c block offset)
   unfolding finished
   finished_keeps c block offset l h =
       let d : Closing = closed_nodes c block.inputs block.nodes in released_keeps d.build d.ends offset l (closed_nodes_keep c block.inputs block.nodes h)
 
   -- BLOCKS
-  pub plain_keeps : (s : Scope) → Allows Ok Fit s → Inv Idle (entries s) → Inv Idle (plain_build s)
+  pub plain_keeps : (s : Scope) → Allows Ok Fit most s → Inv Idle (entries s) → Inv Idle (plain_build s)
   unfolding plain_build
   plain_keeps s a h =
       let b : Build = returns (body s) 0 s.block.results in
       let few = a.results in
-      let outputs = a.outputs in
-      finished_keeps (closing b (ends_of b)) s.block s.block.outputs (omega (arith, outputs))
+      finished_keeps (closing b (ends_of b)) s.block s.block.outputs a.outputs
       (returns_keep (body s) 0 s.block.results (omega (arith, few)) (body_keeps s a h))
 
-  pub variant_keeps : (s : Scope) (code : ℕ) → Allows Ok Fit s → ((e : ℕ) → e < length s.block.results → Ok (Op.Send code e)) → Inv Idle (entries s) → Inv Idle (variant_build s code)
+  pub variant_keeps : (s : Scope) (code : ℕ) → Allows Ok Fit most s → ((e : ℕ) → e < length s.block.results → Ok (Op.Send code e)) → Inv Idle (entries s) → Inv Idle (variant_build s code)
   unfolding variant_build
   variant_keeps s code a k h =
       let b : Build = iterate (body s) code (node_count s.block) s.block.results in
-      let inputs = a.inputs in
-      finished_keeps (closed b (ends_of b) (node_count s.block) Root) s.block s.block.inputs (omega (arith, inputs))
+      finished_keeps (closed b (ends_of b) (node_count s.block) Root) s.block s.block.inputs a.inputs
       (closed_keeps b (ends_of b) (node_count s.block) Root (iterate_keeps (body s) code (node_count s.block) s.block.results a.results k (body_keeps s a h)))

@@ -8,3 +8,7 @@ pub mod FactsSteps
 pub mod FactsHeads
 pub mod FactsHolders
 pub mod FactsHeld
+pub mod FactsCodes
+pub mod FactsFlows
+pub mod FactsOperands
+pub mod FactsWholes
