@@ -1,7 +1,7 @@
 -- Which code blocks a plan has, and where.
 use Rattle.std.proofs.Common.{◌≡◌, ℕ, zero, suc, ◌+◌, ◌<◌, ◌≤◌, ◌⊎◌, Bool, true, false, List, [], ◌∷◌, ◌++◌, length, get_or, refl, sym, ap, ◌∙◌, subst, arith, append_assoc, append-nil, if◌then◌else◌, inl, inr, Some, None, ◌==◌}
 use Rattle.std.specs.Prelude.{slice_get, slice_index_or}
-use Rattle.std.proofs.lemmas.Bool.{cases_lt}
+use Rattle.std.proofs.lemmas.Bool.{cases_lt, eqb-true, eq-eqb}
 use Rattle.std.proofs.lemmas.List.{length-append, length_push, get_or_append_left, get_or_push}
 use Rattle.std.proofs.lemmas.Option.{slice_get_within}
 use Rattle.semantics.specs.declared.graph.Kind.{Kind}
@@ -35,7 +35,7 @@ get_right (x ∷ xs) ys (suc m) k y s e = get_right xs ys m k y (omega (arith, s
 -- WHICH LOOPS
 module _ (f : ℕ) where
   self : (f == f) ≡ true
-  self = grind (arith)
+  self = eq-eqb f f refl
 
   node_loops : (ns : List (Node ℕ)) (k : ℕ) (n : Node ℕ) (bound : ℕ) → slice_get ns k ≡ Some n → n.kind ≡ Loop f bound → some_node_loops f ns ≡ true
   node_loops [] k n bound e q = absurd (cc)
@@ -63,7 +63,7 @@ module _ (f : ℕ) where
       go false h = h
 
   loops_back : (k : Kind ℕ) → loops_to f k ≡ true → (bound : ℕ) × (k ≡ Loop f bound)
-  loops_back (Loop g bound) e = let same : g ≡ f = grind (arith) in (bound, ap (λ x. Loop x bound) same)
+  loops_back (Loop g bound) e = let same : g ≡ f = eqb-true g f e in (bound, ap (λ x. Loop x bound) same)
   loops_back k e = absurd (cc)
 
   some_node : (ns : List (Node ℕ)) → some_node_loops f ns ≡ true → (k : ℕ) × (n : Node ℕ) × (bound : ℕ) × (slice_get ns k ≡ Some n) × (n.kind ≡ Loop f bound)
@@ -271,9 +271,9 @@ module _ (v : ℕ) (bs : List (Block ℕ)) where
   variant_at f x e l =
       let at : 0 + f ≡ f = omega arith in
       let m = variant_there v bs vars 0 f bs x e (ap (λ i. some_block_loops i bs) at ∙ l) in
-      let number = variant_number bs (length bs) f (slice_get_within bs f x e) in
+      let number : variant_of vars f ≡ next_variant bs f = variant_number bs (length bs) f (slice_get_within bs f x e) in
       let next : next_variant bs (0 + f) ≡ next_variant bs f = ap (next_variant bs) at in
-      let there = m.1 in
+      let there : next_variant bs (0 + f) ≡ length bs + m.0 = m.1 in
       let long = plain_length v bs vars 0 bs in
       let place : variant_of vars f ≡ length (plain_list v bs vars 0 bs) + m.0 = omega (arith, number, next, there, long) in
       ap (λ xs. slice_get xs (variant_of vars f)) all_are

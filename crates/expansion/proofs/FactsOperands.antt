@@ -145,7 +145,7 @@ module _ (fl : Flow) (fits : FlowFits fl) where
       let outputs = fit.outputs.1 in
       let results = fit.results in
       record {
-        origins = λ n l. place n (nat_lt fl.version 2) number (omega (arith, l, size));
+        origins = λ n l. let below : n < node_count b = l in place n (nat_lt fl.version 2) number (omega (arith, below, size));
         kinds = λ k n g. allows_kind i b k n e g (length n.sources) n.kind refl (fit.nodes k n g);
         inputs = omega (arith, inputs);
         outputs = omega (arith, outputs);
@@ -179,7 +179,7 @@ module _ (fl : Flow) (fits : FlowFits fl) where
       let m = some_loop i fl.blocks loops in
       let n : Node ℕ = m.3 in
       let fit : KindFits fl n.kind (length n.sources) = (fits.blocks m.0 m.1 m.5).nodes m.2 n m.6 in
-      let turn = (subst (λ k. KindFits fl k (length n.sources)) m.7 fit).0 in
+      let turn : Turns fl i (length n.sources) = (subst (λ k. KindFits fl k (length n.sources)) m.7 fit).0 in
       let same : turn.0 ≡ b = same_at fl.blocks i i turn.0 b refl turn.1 at in
       let outputs : b.outputs ≡ length n.sources + 1 = ap (λ (x : Block ℕ). x.outputs) (sym same) ∙ turn.3 in
       let results = (fits.blocks i b at).results in
