@@ -12,3 +12,4 @@ pub mod FactsCodes
 pub mod FactsFlows
 pub mod FactsOperands
 pub mod FactsWholes
+pub mod FactsSound
