@@ -218,13 +218,13 @@ variants_length bs (suc n) = let l = length_push (variants_from bs n) (next_vari
 
 variant_number : (bs : List (Block ℕ)) (n f : ℕ) → f < n → slice_index_or (variants_from bs n) f 0 ≡ next_variant bs f
 variant_number bs zero f l = absurd (omega (arith, l))
-variant_number bs (suc n) f l = go (cases_lt f n)
+variant_number bs (suc n) f l = go (cases_lt f n) (variant_number bs n f)
   where
-    go : (f < n) ⊎ (n ≤ f) → slice_index_or (variants_from bs n ++ next_variant bs n ∷ []) f 0 ≡ next_variant bs f
-    go (inl a) =
+    go : (f < n) ⊎ (n ≤ f) → (f < n → slice_index_or (variants_from bs n) f 0 ≡ next_variant bs f) → slice_index_or (variants_from bs n ++ next_variant bs n ∷ []) f 0 ≡ next_variant bs f
+    go (inl a) earlier =
         let long = variants_length bs n in
-        get_or_append_left (variants_from bs n) (next_variant bs n ∷ []) 0 f (omega (arith, long, a)) ∙ variant_number bs n f a
-    go (inr a) =
+        get_or_append_left (variants_from bs n) (next_variant bs n ∷ []) 0 f (omega (arith, long, a)) ∙ earlier a
+    go (inr a) earlier =
         let long = variants_length bs n in
         let same : n ≡ f = omega (arith, a, l) in
         get_or_push (variants_from bs n) (next_variant bs n) 0 f (omega (arith, long, same)) ∙ ap (next_variant bs) same
