@@ -1,5 +1,5 @@
 -- Which code blocks a plan has, and where.
-use Rattle.std.proofs.Common.{◌≡◌, ℕ, zero, suc, ◌+◌, ◌<◌, ◌≤◌, ◌⊎◌, Bool, true, false, List, [], ◌∷◌, ◌++◌, length, get_or, refl, sym, ap, ◌∙◌, subst, arith, append_assoc, append-nil, if◌then◌else◌, inl, inr, Some, None, ◌==◌}
+use Rattle.std.proofs.Common.{◌≡◌, ℕ, zero, suc, ◌+◌, ◌<◌, ◌≤◌, ◌⊎◌, Bool, true, false, List, [], ◌∷◌, ◌++◌, length, refl, sym, ap, ◌∙◌, subst, arith, append_assoc, append-nil, if◌then◌else◌, inl, inr, Some, ◌==◌}
 use Rattle.std.specs.Prelude.{slice_get, slice_index_or}
 use Rattle.std.proofs.lemmas.Bool.{cases_lt, eqb-true, eq-eqb}
 use Rattle.std.proofs.lemmas.List.{length-append, length_push, get_or_append_left, get_or_push}
@@ -173,7 +173,7 @@ module _ (v : ℕ) (bs : List (Block ℕ)) (vars : List ℕ) where
         0,
         omega (arith, next),
         ap (λ t. slice_get (if t then (variant_code v bs vars n x).code ∷ more else more) 0) here ∙ ap (λ y. Some (variant_code v bs vars n y).code) p
-        ∙ ap (λ m. Some (variant_code v bs vars m b).code) (sym at),
+            ∙ ap (λ m. Some (variant_code v bs vars m b).code) (sym at),
       )
   variant_there n (suc k) (x ∷ rest) b e l =
       let at : n + 1 + k ≡ n + suc k = omega arith in
@@ -184,7 +184,7 @@ module _ (v : ℕ) (bs : List (Block ℕ)) (vars : List ℕ) where
       go : (y : CodeBlock) (t : Bool) (d : ℕ) → next_variant bs (n + suc k) ≡ next_variant bs (n + 1) + d → next_variant bs (n + 1) ≡ (if t then next_variant bs n + 1 else next_variant bs n)
           → slice_get (variant_list (n + 1) rest) d ≡ Some (variant_code v bs vars (n + suc k) b).code
           → (d : ℕ) × (next_variant bs (n + suc k) ≡ next_variant bs n + d)
-              × (slice_get (if t then y ∷ variant_list (n + 1) rest else variant_list (n + 1) rest) d ≡ Some (variant_code v bs vars (n + suc k) b).code)
+          × (slice_get (if t then y ∷ variant_list (n + 1) rest else variant_list (n + 1) rest) d ≡ Some (variant_code v bs vars (n + suc k) b).code)
       go y true d p q r = (suc d, omega (arith, p, q), r)
       go y false d p q r = (d, omega (arith, p, q), r)
 

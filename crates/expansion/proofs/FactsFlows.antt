@@ -1,5 +1,5 @@
 -- The resolved flow of a well-formed graph that has a text is within its ranges.
-use Rattle.std.proofs.Common.{◌≡◌, ℕ, zero, suc, ◌+◌, ◌-◌, ◌<◌, ◌≤◌, Bool, true, false, List, [], ◌∷◌, map, length, get_or, refl, sym, ap, ◌∙◌, subst, arith, Option, Some, None, nat_lt, if◌then◌else◌}
+use Rattle.std.proofs.Common.{◌≡◌, ℕ, ◌+◌, ◌-◌, ◌<◌, ◌≤◌, false, List, map, length, get_or, sym, ap, ◌∙◌, subst, arith, Some, None, nat_lt, if◌then◌else◌}
 use Rattle.std.specs.Prelude.{All, Contains, slice_get, sum, ⊤}
 use Rattle.std.proofs.lemmas.Bool.{le-ltb}
 use Rattle.std.proofs.lemmas.List.{length-map}

@@ -1,5 +1,5 @@
 -- What a code block's holders keep to, from how its instructions were added.
-use Rattle.std.proofs.Common.{◌≡◌, ℕ, ◌<◌, ◌⊎◌, ◌&&◌, Bool, true, false, List, refl, sym, ap, ◌∙◌, subst, inl, inr, Some}
+use Rattle.std.proofs.Common.{◌≡◌, ℕ, ◌<◌, ◌⊎◌, ◌&&◌, Bool, true, false, refl, sym, ap, ◌∙◌, subst, inl, inr, Some}
 use Rattle.std.specs.Prelude.{slice_get, Contains}
 use Rattle.determinacy.proofs.Resolved.{contains_get}
 use Rattle.semantics.specs.declared.program.Op.{Op}

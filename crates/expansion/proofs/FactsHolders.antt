@@ -1,5 +1,5 @@
 -- The holders of a code block: each loop's instructions have the number of its `open`, and no two of them are alike.
-use Rattle.std.proofs.Common.{◌≡◌, ℕ, zero, suc, ◌+◌, ◌<◌, ◌≤◌, ◌⊎◌, ◌&&◌, ◌||◌, Bool, true, false, List, [], ◌∷◌, ◌++◌, length, refl, sym, ap, ◌∙◌, subst, arith, if◌then◌else◌, inl, inr, Some, None}
+use Rattle.std.proofs.Common.{◌≡◌, ℕ, ◌+◌, ◌<◌, ◌≤◌, ◌⊎◌, Bool, true, false, List, [], ◌∷◌, ◌++◌, length, refl, sym, ap, ◌∙◌, subst, arith, if◌then◌else◌, inl, inr, Some}
 use Rattle.std.specs.Prelude.{slice_get, ⊤}
 use Rattle.std.proofs.lemmas.Bool.{cases_lt}
 use Rattle.tags.specs.declared.value.Origin.{Origin}
@@ -10,9 +10,9 @@ use Rattle.semantics.specs.declared.program.Op.{Op}
 use Rattle.semantics.specs.declared.program.Op.TheVariants.{Apply1, Apply2, Apply2Right, Apply2Left, Lit, Copy, Sync, Switch, Fetch, Store, Frame, Link, Send, Return, Ask, Open, Take, Give, Drain, Release}
 use Rattle.semantics.specs.Program.{Instr}
 use Rattle.semantics.specs.Plan.{is_open, is_credit}
-use Rattle.semantics.specs.Wired.{LoopPart, Opens, Takes, Gives, Drains, NoPart, part_of, bound_of}
+use Rattle.semantics.specs.Wired.{LoopPart, Takes, Gives, Drains, NoPart, part_of, bound_of}
 use Rattle.expansion.specs.declared.builder.Outlet.{Outlet}
-use Rattle.expansion.specs.Builds.{Build, nothing, takes_holder, bare, slot_in, added, connected, exited}
+use Rattle.expansion.specs.Builds.{Build, nothing, takes_holder, bare, slot_in, added, connected}
 use Rattle.expansion.proofs.FactsHeads.{push_cases, push_old, push_new, heads, heads_connected, heads_added}
 use Rattle.expansion.proofs.FactsSteps.{Stage, Idle, Opening, Giving, Taking, Step, Plain, Opened, Given, Taken, Drained}
 

@@ -1,6 +1,6 @@
 -- What the instructions of a plan name is there.
-use Rattle.std.proofs.Common.{◌≡◌, ℕ, zero, suc, ◌+◌, ◌-◌, ◌<◌, ◌≤◌, ◌⊎◌, Bool, true, false, List, [], ◌∷◌, ◌++◌, length, refl, sym, ap, ◌∙◌, subst, arith, inl, inr, Some, nat_lt, if◌then◌else◌}
-use Rattle.std.specs.Prelude.{slice_get, slice_set, slice_index_or, ⊤}
+use Rattle.std.proofs.Common.{◌≡◌, ℕ, zero, suc, ◌+◌, ◌<◌, ◌≤◌, ◌⊎◌, Bool, true, false, List, length, refl, sym, ap, ◌∙◌, subst, arith, inl, inr, Some, nat_lt, if◌then◌else◌}
+use Rattle.std.specs.Prelude.{slice_get, slice_index_or}
 use Rattle.std.proofs.lemmas.List.{length_push, length-set}
 use Rattle.std.proofs.lemmas.Option.{slice_get_within}
 use Rattle.tags.specs.declared.value.Origin.{Origin}
@@ -17,7 +17,7 @@ use Rattle.semantics.specs.Meaning.{origin_in}
 use Rattle.semantics.specs.Program.{Instr, CodeBlock, Program}
 use Rattle.code.specs.Sound.{NamesRightly, IsPlace}
 use Rattle.expansion.specs.declared.builder.Outlet.{Outlet}
-use Rattle.expansion.specs.Builds.{Build, nothing, bare, slot_in, added, quieted, connected, connected_in, exited, with_dest, no_instr, dest_of}
+use Rattle.expansion.specs.Builds.{Build, nothing, bare, slot_in, added, quieted, connected, with_dest, no_instr, dest_of}
 use Rattle.expansion.specs.Scopes.{Scope}
 use Rattle.expansion.specs.Variants.{some_block_loops, variants_of}
 use Rattle.expansion.specs.Blocks.{entries, with_inputs, plain_build, variant_build, variant_of}

@@ -12,7 +12,7 @@ use Rattle.semantics.specs.Sharing.{Arc, arcs_of}
 use Rattle.semantics.specs.Wired.{StandsAt, IsWired, is_dyadic}
 use Rattle.code.specs.Sound.{LandsLeft, IsSoundProgram, DestsAreSound, IsSound}
 use Rattle.expansion.specs.Expanded.{expanded}
-use Rattle.expansion.specs.Facts.{NamesAllRightly, HoldsRightly, MarksRightly}
+use Rattle.expansion.specs.Facts.{NamesAllRightly, HoldsRightly}
 use Rattle.expansion.proofs.FactsWholes.{plans_name_rightly, plans_hold_rightly, plans_mark_rightly}
 
 -- each instruction of a program has as many destinations as its operation says

@@ -18,14 +18,14 @@ use Rattle.semantics.specs.declared.program.Mark.TheVariants.{Unmarked, OfCond, 
 use Rattle.semantics.specs.declared.program.Op.{Op}
 use Rattle.semantics.specs.Graph.{Node, Block, node_count}
 use Rattle.semantics.specs.Meaning.{origin_in}
-use Rattle.semantics.specs.Wired.{LoopPart, Opens, Takes, Gives, Drains, NoPart, part_of}
+use Rattle.semantics.specs.Wired.{NoPart, part_of}
 use Rattle.expansion.specs.declared.builder.Outlet.{Outlet}
 use Rattle.expansion.specs.declared.ends.End.{End}
 use Rattle.expansion.specs.declared.tail.Turn.{Turn}
 use Rattle.expansion.specs.Scopes.{Scope}
 use Rattle.expansion.specs.UseCounts.{is_often, uses_at}
 use Rattle.expansion.specs.Builds.{Build, nothing, outlet, first_of, second_of, added, quieted, connected, outlet_of, trigger_of, exited, behind, meeting, side, operands, alternatives, copies, first_source}
-use Rattle.expansion.specs.Rows.{operator, copied, shared_answer, conditional, enter, merge, sends, landed, linked, invoke, called, call, Joined, join_sources, strict_call, credits, repeat}
+use Rattle.expansion.specs.Rows.{operator, shared_answer, conditional, enter, merge, sends, landed, linked, invoke, called, Joined, join_sources, strict_call, credits, repeat}
 use Rattle.expansion.specs.Tails.{returns, switches, next_values, last_values, turned_continuation, turned_flag, turning, turn_of, go_on, stop, iterate}
 use Rattle.expansion.specs.Ends.{same_region, Signalled, join_with, join_end, join_ends, signalled, Closing, closing, closed, closed_kind, closed_nodes, released, ends_of}
 use Rattle.expansion.specs.Blocks.{answered, entered, repeated, with_kind, with_node, with_nodes, with_inputs, entries, body, finished, plain_build, variant_build, predicate_of, outputs_of, variant_of}

@@ -1,5 +1,5 @@
 -- The laws of plans besides their destinations: what they name, their holders, their marks.
-use Rattle.std.proofs.Common.{◌≡◌, ◌≢◌, ℕ, ◌+◌, ◌≤◌, ◌⊎◌, Bool, true, false, List, length, refl, sym, ap, ◌∙◌, subst, arith, inl, inr, Some}
+use Rattle.std.proofs.Common.{◌≡◌, ◌≢◌, ℕ, ◌+◌, ◌⊎◌, true, false, List, length, refl, ap, subst, arith, inl, inr, Some}
 use Rattle.std.specs.Prelude.{slice_get, ⊤}
 use Rattle.tags.specs.declared.value.Origin.{Origin}
 use Rattle.semantics.specs.declared.graph.Kind.{Kind}
@@ -8,7 +8,7 @@ use Rattle.semantics.specs.declared.program.Mark.{Mark}
 use Rattle.semantics.specs.declared.program.Mark.TheVariants.{Unmarked, OfCond, OfFlag}
 use Rattle.semantics.specs.declared.program.Op.{Op}
 use Rattle.semantics.specs.declared.program.Op.TheVariants.{Switch}
-use Rattle.semantics.specs.Graph.{Node, Block, Flow, Graph, flow_of}
+use Rattle.semantics.specs.Graph.{Block, Flow, Graph, flow_of}
 use Rattle.semantics.specs.Text.{HasText}
 use Rattle.semantics.specs.WellFormed.{WellFormed}
 use Rattle.semantics.specs.Program.{CodeBlock}

@@ -32,8 +32,8 @@ mod uses;
 mod variants;
 
 use code::Plan;
-use graph::Graph;
 pub use facts::plans_name_rightly;
+use graph::Graph;
 pub use laws::plans_keep_to_their_graphs;
 use std::alloc::{AllocError, Allocator};
 
