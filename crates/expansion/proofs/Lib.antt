@@ -13,3 +13,12 @@ pub mod StraightUses
 pub mod StraightJoins
 pub mod StraightBlock
 pub mod StraightWhole
+pub mod FactsSteps
+pub mod FactsHeads
+pub mod FactsHolders
+pub mod FactsHeld
+pub mod FactsCodes
+pub mod FactsFlows
+pub mod FactsOperands
+pub mod FactsWholes
+pub mod FactsSound

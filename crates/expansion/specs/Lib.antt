@@ -10,5 +10,6 @@ pub mod Variants
 pub mod Expanded
 pub mod Keeping
 pub mod Laws
+pub mod Facts
 pub mod Samples
 pub mod Straight

@@ -21,6 +21,7 @@ ghost use Rattle.expansion.specs.Expanded as Expanded;
 mod block;
 mod builder;
 mod ends;
+mod facts;
 mod flow;
 mod laws;
 mod plans;
@@ -32,6 +33,7 @@ mod uses;
 mod variants;
 
 use code::Plan;
+pub use facts::plans_name_rightly;
 use graph::Graph;
 pub use laws::plans_keep_to_their_graphs;
 use std::alloc::{AllocError, Allocator};
