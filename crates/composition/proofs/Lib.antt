@@ -9,4 +9,4 @@ pub mod Credits
 pub mod Literals
 pub mod Laws
 pub mod SoundObjects
-pub mod Graphs
+pub mod AnyGraph

@@ -17,7 +17,7 @@ use Rattle.select.specs.Emitted.{version_number, code_of, emitted_block}
 use Rattle.select.specs.Emittable.{IsEmittable}
 use Rattle.schedule.specs.Setting.{inputs_in, inputs_of}
 use Rattle.composition.specs.Graphs.{plan_of}
-use Rattle.composition.proofs.Graphs.{plans_have_objects, plans_take_inputs, straight_code_is_faithful}
+use Rattle.composition.proofs.AnyGraph.{plans_have_objects, plans_take_inputs, straight_code_is_faithful}
 use Rattle.driver.specs.Compiled.{IsCodeFor}
 
 -- THE INPUTS OF A BLOCK stay.

@@ -9,6 +9,9 @@ use Rattle.semantics.specs.Plan.{Plan}
 use Rattle.semantics.specs.Orderly as Orderly
 use Rattle.determinacy.proofs.Resolved.{contains_get, place_get}
 use Rattle.expansion.proofs.Inputs.{takes_inputs}
+use Rattle.expansion.proofs.FactsSound.{is_sound}
+use Rattle.expansion.proofs.StraightWhole.{straight_plans_agree}
+use Rattle.folding.proofs.SoundPlans.{still_sound}
 use Rattle.semantics.specs.WellFormed.{WellFormed}
 use Rattle.semantics.specs.Text.{HasText}
 use Rattle.semantics.specs.Sharing.{Good}
@@ -22,10 +25,11 @@ use Rattle.composition.specs.Graphs.{plan_of, PlansAreSound, PlansHaveObjects, P
 use Rattle.composition.proofs.SoundObjects.{sound_have_objects}
 
 expanded_is_sound : (g : Graph) → HasText g → WellFormed g → IsSound (expanded (flow_of g))
-expanded_is_sound g text well = ?
+expanded_is_sound g text well =
+    is_sound g text well ? ? ? ? ?
 
 folded_is_sound : (g : Graph) → HasText g → WellFormed g → IsSound (folded (expanded (flow_of g)))
-folded_is_sound g text well = ?
+folded_is_sound g text well = still_sound (expanded (flow_of g)) (expanded_is_sound g text well)
 
 pub plans_are_sound : PlansAreSound
 plans_are_sound g text well = stays_sound (folded (expanded (flow_of g))) (folded_is_sound g text well)
