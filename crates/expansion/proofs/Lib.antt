@@ -4,3 +4,7 @@ pub mod Keeping
 pub mod Bounds
 pub mod Wholes
 pub mod Samples
+pub mod ShapesStates
+pub mod ShapesTrack
+pub mod ShapesRows
+pub mod ShapesUses

@@ -11,3 +11,4 @@ pub mod Expanded
 pub mod Keeping
 pub mod Laws
 pub mod Samples
+pub mod Shapes
