@@ -8,3 +8,5 @@ pub mod ShapesStates
 pub mod ShapesTrack
 pub mod ShapesRows
 pub mod ShapesUses
+pub mod ShapesNodes
+pub mod ShapesBody
