@@ -10,3 +10,6 @@ pub mod ShapesRows
 pub mod ShapesUses
 pub mod ShapesNodes
 pub mod ShapesBody
+pub mod ShapesCounts
+pub mod ShapesEnds
+pub mod ShapesOpen
