@@ -13,3 +13,4 @@ pub mod ShapesBody
 pub mod ShapesCounts
 pub mod ShapesEnds
 pub mod ShapesOpen
+pub mod ShapesBlocks

@@ -65,7 +65,7 @@ input_ports s k l = ap (λ t. ports_in s.blocks (if t then None else slice_get s
 abbrev pub no_uses : Scope → List Uses
 no_uses s = replicate (node_count s.block) Never
 
-long_never : (k : ℕ) → length (replicate k Never) ≡ k
+pub long_never : (k : ℕ) → length (replicate k Never) ≡ k
 long_never zero = refl
 long_never (suc k) = ap suc (long_never k)
 
