@@ -14,3 +14,5 @@ pub mod ShapesCounts
 pub mod ShapesEnds
 pub mod ShapesOpen
 pub mod ShapesBlocks
+pub mod ShapesWell
+pub mod ShapesPlans

@@ -1,6 +1,6 @@
 -- Each instruction of a block's code has as many destinations as its kind wants.
-use Rattle.std.proofs.Common.{◌≡◌, ◌≢◌, ℕ, zero, suc, ◌+◌, ◌-◌, ◌<◌, ◌≤◌, Bool, true, false, not, ◌&&◌, List, [], ◌∷◌, ◌++◌, length, Option, Some, None, refl, sym, ap, ◌∙◌, subst, arith, inl, inr, ◌⊎◌, if◌then◌else◌, nat_lt, ltb-false}
-use Rattle.std.specs.Prelude.{slice_get, slice_index_or, ⊤}
+use Rattle.std.proofs.Common.{◌≡◌, ◌≢◌, ℕ, ◌+◌, ◌-◌, ◌<◌, ◌≤◌, Bool, true, false, not, ◌&&◌, List, [], ◌∷◌, ◌++◌, length, Option, Some, None, refl, sym, ap, ◌∙◌, subst, arith, inl, inr, ◌⊎◌, if◌then◌else◌, nat_lt, ltb-false}
+use Rattle.std.specs.Prelude.{slice_get}
 use Rattle.std.proofs.lemmas.Option.{slice_get_within}
 use Rattle.tags.specs.declared.token.Port.TheVariants.{Left, Right}
 use Rattle.tags.specs.declared.value.Origin.TheVariants.{Untold}
@@ -12,7 +12,6 @@ use Rattle.semantics.specs.declared.program.Mark.TheVariants.{Unmarked, OfCond, 
 use Rattle.semantics.specs.declared.program.Op.{Op}
 use Rattle.semantics.specs.Graph.{Node, Block, node_at, node_count}
 use Rattle.semantics.specs.Program.{Instr}
-use Rattle.semantics.specs.Plan.{HasShape}
 use Rattle.expansion.specs.declared.uses.Uses.{Uses}
 use Rattle.expansion.specs.declared.uses.Uses.TheVariants.{Never, Once, Often}
 use Rattle.expansion.specs.declared.ends.End.{End}
@@ -26,9 +25,9 @@ use Rattle.expansion.specs.Blocks.{body, finished, plain_build, variant_build}
 use Rattle.expansion.proofs.ShapesStates.{State, Free, Shut, Waits, Owned, Wants, Joined, Fits, amount, is_free, is_cond_in, is_cond_kind, fit_at}
 use Rattle.expansion.proofs.ShapesTrack.{Track, track_length}
 use Rattle.expansion.proofs.ShapesRows.{AreValid}
-use Rattle.expansion.proofs.ShapesNodes.{Tracked, PredicatesOften}
+use Rattle.expansion.proofs.ShapesNodes.{PredicatesOften}
 use Rattle.expansion.proofs.ShapesBody.{AllFit, HasUses, plain_track, variant_track}
-use Rattle.expansion.proofs.ShapesCounts.{hit_at, hit_other, start, AllFair, hits, held, At, add_at, connect_at, join_ends_at, signalled_at, Held, closed_at}
+use Rattle.expansion.proofs.ShapesCounts.{hit_at, hit_other, start, held, At, add_at, connect_at, join_ends_at, signalled_at, Held, closed_at}
 use Rattle.expansion.proofs.ShapesEnds.{own_hits, ends_hits, ends_fair, joined_from, nodes_at, only, other_arm, from_none, from_one}
 use Rattle.expansion.proofs.ShapesOpen.{wants_shape, AllFree, AllBelow, SoundClosing, closed_free, nodes_free, ShapedBut, released_free}
 

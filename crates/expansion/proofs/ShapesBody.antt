@@ -1,28 +1,28 @@
 -- The body of a block and its tails: what each instruction still waits for when they stand.
-use Rattle.std.proofs.Common.{◌≡◌, ◌≢◌, ℕ, zero, suc, ◌+◌, ◌-◌, ◌<◌, ◌≤◌, Bool, true, false, List, [], ◌∷◌, ◌++◌, length, Option, Some, None, refl, sym, ap, ◌∙◌, subst, arith, inl, inr, if◌then◌else◌, lt-ltb, append_assoc, replicate}
-use Rattle.std.specs.Prelude.{slice_get, slice_index_or, ⊤}
+use Rattle.std.proofs.Common.{◌≡◌, ℕ, zero, suc, ◌+◌, ◌-◌, ◌<◌, ◌≤◌, Bool, true, false, List, [], ◌∷◌, ◌++◌, length, Some, None, refl, sym, ap, ◌∙◌, subst, arith, inl, inr, if◌then◌else◌, lt-ltb, append_assoc, replicate}
+use Rattle.std.specs.Prelude.{slice_get, ⊤}
 use Rattle.tags.specs.declared.value.Origin.TheVariants.{Untold}
-use Rattle.tags.specs.declared.token.Port.TheVariants.{Left, Right}
+use Rattle.tags.specs.declared.token.Port.TheVariants.{Left}
 use Rattle.semantics.specs.declared.graph.Region.{Region}
 use Rattle.semantics.specs.declared.graph.Region.TheVariants.{Root, Arm}
 use Rattle.semantics.specs.declared.graph.Source.{Source}
 use Rattle.semantics.specs.declared.program.Mark.TheVariants.{Unmarked, OfFlag}
 use Rattle.semantics.specs.declared.program.Op.{Op}
-use Rattle.semantics.specs.Graph.{Node, Block, node_at, node_count}
+use Rattle.semantics.specs.Graph.{Node, node_count}
 use Rattle.semantics.specs.Meaning.{origin_in}
 use Rattle.expansion.specs.declared.builder.Outlet.{Outlet}
 use Rattle.expansion.specs.declared.tail.Turn.{Turn}
 use Rattle.expansion.specs.declared.uses.Uses.{Uses}
 use Rattle.expansion.specs.declared.uses.Uses.TheVariants.{Never}
 use Rattle.expansion.specs.Scopes.{Scope}
-use Rattle.expansion.specs.UseCounts.{is_often, uses_at, noted, takes_twice, noted_sources, noted_nodes, noted_results, uses_of}
+use Rattle.expansion.specs.UseCounts.{is_often, uses_at, noted, takes_twice, noted_sources, noted_nodes, noted_results}
 use Rattle.expansion.specs.Builds.{Build, nothing, outlet, first_of, second_of, added, quieted, outlet_of, behind, meeting}
 use Rattle.expansion.specs.Tails.{returns, switches, next_values, last_values, turned_continuation, turned_flag, turning, turn_of, go_on, stop, iterate}
 use Rattle.expansion.specs.Blocks.{with_node, with_nodes, with_input, with_inputs, entries, body}
-use Rattle.expansion.proofs.ShapesStates.{State, Free, Shut, Waits, Owned, length_push}
+use Rattle.expansion.proofs.ShapesStates.{State, Free, Shut, Waits, Owned}
 use Rattle.expansion.proofs.ShapesTrack.{FreeAt, Track, ports_at, ports_in, track_length, often_free}
-use Rattle.expansion.proofs.ShapesRows.{push_free, still_free, behind_free, behind_waits, meets_free, meets_waits, meets_source, source_meets, push_waits, zone_track, zone_free, zone_shut, zone_place, AreValid, Plays, frees, frees_get, one_free, no_more, AllOften}
-use Rattle.expansion.proofs.ShapesUses.{Below, sources_length, nodes_length, plays_once, rare_sources, rare_nodes, rare_results, noted_twice, often_end, twice_track}
+use Rattle.expansion.proofs.ShapesRows.{push_free, still_free, meets_free, meets_waits, meets_source, source_meets, push_waits, zone_track, zone_free, zone_shut, zone_place, AreValid, Plays, frees, frees_get, one_free, no_more}
+use Rattle.expansion.proofs.ShapesUses.{Below, sources_length, plays_once, rare_sources, rare_nodes, rare_results, noted_twice, often_end, twice_track}
 use Rattle.expansion.proofs.ShapesNodes.{Tracked, NodeFits, PredicatesOften, exit_one, node_track}
 
 -- INPUTS
@@ -220,9 +220,11 @@ stop_track : (s : Scope) (us : List Uses) (n : ℕ) (b : Build) (ts : List State
 unfolding stop
 stop_track s us n b ts r t h f =
     let before : Build = last_values b r (second_of t.continuation) t.values t.count in
-    let all : List State = ts ++ frees t.count in
-    (all ++ Free ∷ [], meets_free s us n before all (Op.Return (t.count + 2)) Unmarked r (second_of t.continuation) (second_of t.flag)
-    (last_track s us n b ts r (second_of t.continuation) t.values t.count h f.continuation f.values) refl (still_free ts (frees t.count) (second_of t.continuation) f.continuation) (still_free ts (frees t.count) (second_of t.flag) f.flag))
+    let all : List State = ts ++ frees t.count in (
+      all ++ Free ∷ [],
+      meets_free s us n before all (Op.Return (t.count + 2)) Unmarked r (second_of t.continuation) (second_of t.flag)
+          (last_track s us n b ts r (second_of t.continuation) t.values t.count h f.continuation f.values) refl (still_free ts (frees t.count) (second_of t.continuation) f.continuation) (still_free ts (frees t.count) (second_of t.flag) f.flag),
+    )
 
 abbrev TurnTracked : Scope → List Uses → ℕ → Build → Turn → Type 0
 TurnTracked s us n b t = (ts : List State) × Track s us n b ts × TurnFree ts t
@@ -241,13 +243,16 @@ turning_track s us n b ts flag ss vs h f v p =
     let second : Track s us n two (ts ++ pair) = zone_track s us n two ts (Free ∷ []) (Free ∷ []) (meets_free s us n one (ts ++ Free ∷ []) Op.Switch OfFlag Root flag flag first refl still still) in
     let at_values = zone_place s us n two ts pair second in
     let mid : List State = Free ∷ Free ∷ frees (length ss) in
-    let last : Track s vs n (switches two flag ss) (ts ++ mid) = zone_track s vs n (switches two flag ss) ts pair (frees (length ss)) (switches_track s us n two (ts ++ pair) flag ss vs second (still_free ts pair flag f) v p) in
-    (ts ++ mid, last, record {
-      continuation = zone_free ts mid (first_of (length b.instrs)) 0 (omega (arith, at)) refl;
-      flag = zone_free ts mid (first_of (length one.instrs)) 1 (omega (arith, at_flag)) refl;
-      values = λ i l. subst (λ xs. slice_get xs (length two.instrs + i) ≡ Some Free) (append_assoc ts pair (frees (length ss)))
-          (zone_free (ts ++ pair) (frees (length ss)) (outlet (length two.instrs) i false) i (let whole = track_length s us n two (ts ++ pair) second in omega (arith, whole)) (frees_get (length ss) i l));
-    })
+    let last : Track s vs n (switches two flag ss) (ts ++ mid) = zone_track s vs n (switches two flag ss) ts pair (frees (length ss)) (switches_track s us n two (ts ++ pair) flag ss vs second (still_free ts pair flag f) v p) in (
+      ts ++ mid,
+      last,
+      record {
+        continuation = zone_free ts mid (first_of (length b.instrs)) 0 (omega (arith, at)) refl;
+        flag = zone_free ts mid (first_of (length one.instrs)) 1 (omega (arith, at_flag)) refl;
+        values = λ i l. subst (λ xs. slice_get xs (length two.instrs + i) ≡ Some Free) (append_assoc ts pair (frees (length ss)))
+            (zone_free (ts ++ pair) (frees (length ss)) (outlet (length two.instrs) i false) i (let whole = track_length s us n two (ts ++ pair) second in omega (arith, whole)) (frees_get (length ss) i l));
+      },
+    )
 
 turned_track : (s : Scope) (us : List Uses) (n : ℕ) (b : Build) (ts : List State) (block k : ℕ) (t : Turn) → Track s us n b ts → TurnFree ts t → Tracked s us n (stop (go_on b block (Arm k true) t) (Arm k false) t)
 turned_track s us n b ts block k t h f =

@@ -1,5 +1,5 @@
 -- How many arcs the joins of ends lay from one place.
-use Rattle.std.proofs.Common.{◌≡◌, ◌≢◌, ℕ, zero, suc, ◌+◌, ◌<◌, ◌≤◌, Bool, true, false, List, [], ◌∷◌, ◌++◌, length, Option, Some, None, refl, sym, ap, ◌∙◌, subst, arith, inl, inr, ◌⊎◌, if◌then◌else◌}
+use Rattle.std.proofs.Common.{◌≡◌, ◌≢◌, ℕ, zero, suc, ◌+◌, ◌<◌, Bool, true, false, List, [], ◌∷◌, ◌++◌, length, Option, Some, None, refl, sym, ap, ◌∙◌, subst, arith, inl, inr, ◌⊎◌, if◌then◌else◌}
 use Rattle.std.specs.Prelude.{slice_get, slice_set, slice_index_or, ⊤}
 use Rattle.std.proofs.lemmas.Option.{slice_get_within}
 use Rattle.tags.specs.declared.value.Origin.{Origin}
@@ -7,7 +7,7 @@ use Rattle.tags.specs.declared.value.Origin.TheVariants.{Untold}
 use Rattle.tags.specs.declared.token.Port.{Port}
 use Rattle.tags.specs.declared.token.Port.TheVariants.{Left, Right}
 use Rattle.semantics.specs.declared.graph.Region.{Region}
-use Rattle.semantics.specs.declared.graph.Region.TheVariants.{Root, Arm}
+use Rattle.semantics.specs.declared.graph.Region.TheVariants.{Arm}
 use Rattle.semantics.specs.declared.program.Dest.{Dest}
 use Rattle.semantics.specs.declared.program.Mark.{Mark}
 use Rattle.semantics.specs.declared.program.Mark.TheVariants.{Unmarked}
@@ -15,7 +15,7 @@ use Rattle.semantics.specs.declared.program.Op.{Op}
 use Rattle.semantics.specs.Program.{Instr}
 use Rattle.expansion.specs.declared.builder.Outlet.{Outlet}
 use Rattle.expansion.specs.declared.ends.End.{End}
-use Rattle.expansion.specs.Builds.{Build, first_of, added, quieted, connected, with_dest, no_instr, dest_of, behind, meeting}
+use Rattle.expansion.specs.Builds.{Build, first_of, added, quieted, connected, with_dest, no_instr, dest_of, meeting}
 use Rattle.expansion.specs.Ends.{end_at, same_region, Signalled, join_with, join_end, join_ends, signalled, Closing, closing, closed}
 use Rattle.expansion.proofs.ShapesStates.{get_left, length_push}
 

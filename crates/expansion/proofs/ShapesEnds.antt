@@ -1,9 +1,9 @@
 -- What the ends of a block are, seen from one place, and that all regions are joined once.
-use Rattle.std.proofs.Common.{◌≡◌, ◌≢◌, ℕ, zero, suc, ◌+◌, ◌<◌, ◌≤◌, Bool, true, false, not, ◌&&◌, ◌==◌, List, [], ◌∷◌, ◌++◌, length, Option, Some, None, refl, sym, ap, ◌∙◌, subst, arith, inl, inr, ◌⊎◌, if◌then◌else◌}
-use Rattle.std.specs.Prelude.{slice_get, ⊤}
+use Rattle.std.proofs.Common.{◌≡◌, ◌≢◌, ℕ, zero, suc, ◌+◌, ◌<◌, ◌≤◌, Bool, true, false, not, ◌&&◌, List, [], ◌∷◌, ◌++◌, length, Some, refl, sym, ap, ◌∙◌, subst, arith, if◌then◌else◌}
+use Rattle.std.specs.Prelude.{slice_get}
 use Rattle.std.proofs.lemmas.Bool.{eq-eqb, ne_eqb}
 use Rattle.semantics.specs.declared.graph.Region.{Region}
-use Rattle.semantics.specs.declared.graph.Region.TheVariants.{Root, Arm}
+use Rattle.semantics.specs.declared.graph.Region.TheVariants.{Arm}
 use Rattle.semantics.specs.declared.graph.Kind.{Kind}
 use Rattle.semantics.specs.declared.graph.Kind.TheVariants.{Lit, Apply1, Apply2, Cond, Enter, Merge, Fetch, Store, Call, StrictCall, Loop}
 use Rattle.semantics.specs.declared.program.Mark.{Mark}
@@ -14,7 +14,7 @@ use Rattle.semantics.specs.Program.{Instr}
 use Rattle.expansion.specs.declared.builder.Outlet.{Outlet}
 use Rattle.expansion.specs.declared.ends.End.{End}
 use Rattle.expansion.specs.Builds.{Build, first_of, second_of, mark_of, region_of}
-use Rattle.expansion.specs.Ends.{end_at, is_empty, is_end, pushed_if, noted, ends_from, ends_of, same_region, Closing, closing, closed, closed_kind, closed_node, closed_nodes}
+use Rattle.expansion.specs.Ends.{end_at, is_empty, is_end, pushed_if, noted, ends_from, ends_of, same_region, Closing, closed_kind, closed_nodes}
 use Rattle.expansion.proofs.ShapesStates.{is_cond_kind}
 use Rattle.expansion.proofs.ShapesCounts.{hit_at, hit_same, hit_other, start, Fair, AllFair, hits, Held, closed_at}
 

@@ -1,9 +1,9 @@
 -- How the code of a node keeps what each instruction waits for.
-use Rattle.std.proofs.Common.{◌≡◌, ◌≢◌, ℕ, zero, suc, ◌+◌, ◌<◌, ◌≤◌, Bool, true, false, List, [], ◌∷◌, ◌++◌, length, Option, Some, None, refl, sym, ap, ◌∙◌, subst, arith, inl, inr, if◌then◌else◌}
+use Rattle.std.proofs.Common.{◌≡◌, ℕ, ◌+◌, ◌<◌, ◌≤◌, Bool, true, false, List, [], ◌∷◌, ◌++◌, length, Some, refl, sym, ap, subst, arith, if◌then◌else◌}
 use Rattle.std.specs.Prelude.{slice_get, slice_set, ⊤}
 use Rattle.tags.specs.declared.value.Origin.{Origin}
 use Rattle.tags.specs.declared.value.Origin.TheVariants.{Untold}
-use Rattle.tags.specs.declared.token.Port.TheVariants.{Left, Right}
+use Rattle.tags.specs.declared.token.Port.TheVariants.{Left}
 use Rattle.semantics.specs.declared.graph.Region.{Region}
 use Rattle.semantics.specs.declared.graph.Region.TheVariants.{Root, Arm}
 use Rattle.semantics.specs.declared.graph.Source.{Source}
@@ -17,14 +17,14 @@ use Rattle.expansion.specs.declared.builder.Outlet.{Outlet}
 use Rattle.expansion.specs.declared.uses.Uses.{Uses}
 use Rattle.expansion.specs.Scopes.{Scope}
 use Rattle.expansion.specs.UseCounts.{is_often, uses_at, noted, noted_sources, takes_twice}
-use Rattle.expansion.specs.Builds.{Build, first_of, second_of, added, quieted, connected, outlet_of, trigger_of, exited, behind, meeting, operands, alternatives, first_source}
-use Rattle.expansion.specs.Rows.{operator, copied, shared_answer, conditional, enter, merge, invoke, called, call, Joined, join_sources, strict_call, credits, repeat}
-use Rattle.expansion.specs.Blocks.{answered, entered, repeated, with_kind, with_node, predicate_of, outputs_of, variant_of}
+use Rattle.expansion.specs.Builds.{Build, first_of, second_of, added, quieted, outlet_of, trigger_of, exited, behind, meeting, operands, alternatives}
+use Rattle.expansion.specs.Rows.{operator, shared_answer, conditional, enter, merge, invoke, called, Joined, join_sources, strict_call, credits, repeat}
+use Rattle.expansion.specs.Blocks.{answered, entered, repeated, with_kind, predicate_of, outputs_of, variant_of}
 use Rattle.expansion.proofs.ShapesStates.{State, Free, Shut, Waits, Owned, Wants, is_free, is_cond_in, get_right, length_push, length_both}
 use Rattle.expansion.proofs.ShapesStates as States
 use Rattle.expansion.proofs.ShapesTrack.{FreeAt, Track, ports_at, ports_of, ports_in, owns_in, LiesIn, joined, track_length, track_free, track_exit, track_owned, often_free, trigger_free}
 use Rattle.expansion.proofs.ShapesRows.{push_free, push_waits, push_take, still_free, behind_free, behind_waits, meets_free, source_meets, zone_track, zone_free, zone_shut, zone_place, AreValid, Plays, operands_track, alternatives_track, frees, AllOften, join_sources_track, invoked, invoke_track}
-use Rattle.expansion.proofs.ShapesUses.{Below, sources_length, plays_once, plays_often, all_often, twice_track, rare_sources}
+use Rattle.expansion.proofs.ShapesUses.{Below, sources_length, plays_once, plays_often, all_often, twice_track}
 
 -- a build of so many nodes is tracked
 abbrev pub Tracked : Scope → List Uses → ℕ → Build → Type 0
@@ -133,9 +133,11 @@ unfolding called
 called_track s us n b ts signal block outputs r ss vs h f e j v p l =
     let one : Build = behind b signal Op.Frame r in
     let place = track_length s us n b ts h in
-    let all : List State = ts ++ invoked (length ss) outputs in
-    (all ++ Free ∷ [], push_free s vs (n + 1) (invoke one (length b.instrs) block outputs r ss) all Op.Copy Untold Unmarked r
-    (invoke_track s us n one ts (length b.instrs) block outputs r ss vs (behind_waits s us n b ts signal Op.Frame r h refl j f) place e j v p l) refl)
+    let all : List State = ts ++ invoked (length ss) outputs in (
+      all ++ Free ∷ [],
+      push_free s vs (n + 1) (invoke one (length b.instrs) block outputs r ss) all Op.Copy Untold Unmarked r
+          (invoke_track s us n one ts (length b.instrs) block outputs r ss vs (behind_waits s us n b ts signal Op.Frame r h refl j f) place e j v p l) refl,
+    )
 
 abbrev pub IsSome : List Source → Type 0
 IsSome [] = ⊥
@@ -162,9 +164,11 @@ credits_track s us n b ts k r h j =
     let all : List State = (ts ++ Free ∷ Shut ∷ Free ∷ []) ++ Free ∷ [] in
     let copy : Build = behind drain (first_of (length b.instrs)) Op.Copy r in
     let copied : Track s us n copy all
-    = behind_free s us n drain (ts ++ Free ∷ Shut ∷ Free ∷ []) (first_of (length b.instrs)) Op.Copy r drained refl (zone_free ts (Free ∷ Shut ∷ Free ∷ []) (first_of (length b.instrs)) 0 (omega (arith, place)) refl) in
-    (all, track_free s us n copy all (first_of (length take.instrs)) (length drain.instrs) Left copied
-    (still_free (ts ++ Free ∷ Shut ∷ Free ∷ []) (Free ∷ []) (first_of (length take.instrs)) (zone_free ts (Free ∷ Shut ∷ Free ∷ []) (first_of (length take.instrs)) 2 (omega (arith, at_drain)) refl)))
+    = behind_free s us n drain (ts ++ Free ∷ Shut ∷ Free ∷ []) (first_of (length b.instrs)) Op.Copy r drained refl (zone_free ts (Free ∷ Shut ∷ Free ∷ []) (first_of (length b.instrs)) 0 (omega (arith, place)) refl) in (
+      all,
+      track_free s us n copy all (first_of (length take.instrs)) (length drain.instrs) Left copied
+          (still_free (ts ++ Free ∷ Shut ∷ Free ∷ []) (Free ∷ []) (first_of (length take.instrs)) (zone_free ts (Free ∷ Shut ∷ Free ∷ []) (first_of (length take.instrs)) 2 (omega (arith, at_drain)) refl)),
+    )
 
 repeat_track : (s : Scope) (us : List Uses) (n : ℕ) (b : Build) (ts : List State) (block k : ℕ) (r : Region) (ss : List Source) (vs : List Uses)
     → Track s us n b ts → LiesIn s n r → length ss ≡ ports_at s n → AreValid s n ss → Plays s us ss vs → n + 1 ≤ length vs → Tracked s vs (n + 1) (repeat b block k r ss)

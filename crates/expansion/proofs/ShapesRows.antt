@@ -1,6 +1,6 @@
 -- How the small rows of a builder keep what each instruction waits for.
-use Rattle.std.proofs.Common.{◌≡◌, ℕ, zero, suc, ◌+◌, ◌<◌, ◌≤◌, Bool, true, false, List, [], ◌∷◌, ◌++◌, length, Option, Some, None, refl, sym, ap, ◌∙◌, subst, arith, ◌≢◌, inl, inr, ◌⊎◌, append-nil, append_assoc}
-use Rattle.std.specs.Prelude.{slice_get, slice_set, slice_index_or, ⊤}
+use Rattle.std.proofs.Common.{◌≡◌, ℕ, zero, suc, ◌+◌, ◌<◌, ◌≤◌, true, false, List, [], ◌∷◌, ◌++◌, length, Some, refl, sym, ap, ◌∙◌, subst, arith, ◌≢◌, inl, inr, ◌⊎◌, append-nil, append_assoc}
+use Rattle.std.specs.Prelude.{slice_get, slice_set, ⊤}
 use Rattle.tags.specs.declared.value.Origin.{Origin}
 use Rattle.tags.specs.declared.value.Origin.TheVariants.{Untold}
 use Rattle.tags.specs.declared.token.Port.{Port}
@@ -12,11 +12,10 @@ use Rattle.semantics.specs.declared.program.Mark.TheVariants.{Unmarked}
 use Rattle.semantics.specs.declared.program.Op.{Op}
 use Rattle.expansion.specs.declared.builder.Outlet.{Outlet}
 use Rattle.expansion.specs.declared.uses.Uses.{Uses}
-use Rattle.expansion.specs.declared.uses.Uses.TheVariants.{Never, Once, Often}
 use Rattle.expansion.specs.Scopes.{Scope}
-use Rattle.expansion.specs.UseCounts.{is_often, uses_at, noted, noted_sources}
-use Rattle.expansion.specs.Builds.{Build, outlet, first_of, added, quieted, connected, outlet_of, trigger_of, exited, behind, meeting, side, operands, alternatives, copies}
-use Rattle.expansion.specs.Rows.{sends, landed, linked, invoke, Joined, join_sources}
+use Rattle.expansion.specs.UseCounts.{is_often, uses_at, noted}
+use Rattle.expansion.specs.Builds.{Build, first_of, added, quieted, connected, outlet_of, behind, meeting, side, operands, alternatives, copies}
+use Rattle.expansion.specs.Rows.{sends, invoke, Joined, join_sources}
 use Rattle.expansion.proofs.ShapesStates.{State, Free, Shut, Waits, Owned, Wants, is_free, get_left, get_right, set_right, length_both}
 use Rattle.expansion.proofs.ShapesStates as States
 use Rattle.expansion.proofs.ShapesTrack.{FreeAt, Track, ports_at, track_length, track_push, track_free, track_shut, track_exit, often_free, track_source}
@@ -191,7 +190,7 @@ join_sources_track s us n b ts signal r (x ∷ ss) h f v o =
     let next : Build = meeting b Op.Sync Unmarked r signal (outlet_of b x) in
     let place = track_length s us n b ts h in
     let rest = join_sources_track s us n next (ts ++ Free ∷ []) (first_of (length b.instrs)) r ss (meets_free s us n b ts Op.Sync Unmarked r signal (outlet_of b x) h refl f (often_free s us n b ts x h v.0 v.1 o.0))
-        (zone_free ts (Free ∷ []) (first_of (length b.instrs)) 0 (omega (arith, place)) refl) v.2 o.1 in
+    (zone_free ts (Free ∷ []) (first_of (length b.instrs)) 0 (omega (arith, place)) refl) v.2 o.1 in
     let j : Joined = join_sources next (first_of (length b.instrs)) r ss in
     (one_free s us n j.build ts (length ss) rest.0, subst (λ vs. FreeAt vs j.signal) (append_assoc ts (Free ∷ []) (frees (length ss))) rest.1)
 

@@ -1,5 +1,5 @@
 -- What each instruction of a growing build still waits for, and how arcs change it.
-use Rattle.std.proofs.Common.{◌≡◌, ℕ, zero, suc, ◌+◌, ◌<◌, ◌≤◌, Bool, true, false, List, [], ◌∷◌, ◌++◌, length, Option, Some, None, refl, sym, ap, ◌∙◌, subst, arith, ◌≢◌, ◌⊎◌, inl, inr}
+use Rattle.std.proofs.Common.{◌≡◌, ℕ, zero, suc, ◌+◌, Bool, true, false, List, [], ◌∷◌, ◌++◌, length, Option, Some, None, refl, sym, ap, ◌∙◌, subst, arith, ◌≢◌, ◌⊎◌, inl, inr}
 use Rattle.std.specs.Prelude.{slice_get, slice_set, slice_index_or, ⊤}
 use Rattle.semantics.specs.declared.graph.Region.{Region}
 use Rattle.semantics.specs.declared.graph.Region.TheVariants.{Root, Arm}
@@ -14,7 +14,7 @@ use Rattle.semantics.specs.Graph.{Node, Block, node_at}
 use Rattle.semantics.specs.Program.{Instr}
 use Rattle.expansion.specs.declared.uses.Uses.{Uses}
 use Rattle.expansion.specs.declared.uses.Uses.TheVariants.{Never, Once, Often}
-use Rattle.expansion.specs.UseCounts.{is_often, uses_at}
+use Rattle.expansion.specs.UseCounts.{uses_at}
 use Rattle.expansion.specs.Builds.{with_dest, no_instr}
 
 -- LISTS

@@ -1,9 +1,9 @@
 -- How many destinations the instructions of every plan have.
-use Rattle.std.specs.Prelude.{ℕ, length, All}
+use Rattle.std.specs.Prelude.{length, All}
 use Rattle.semantics.specs.Graph.{Graph, flow_of}
 use Rattle.semantics.specs.WellFormed.{WellFormed}
 use Rattle.semantics.specs.Program.{Instr, CodeBlock}
-use Rattle.semantics.specs.Plan.{Plan, HasShape}
+use Rattle.semantics.specs.Plan.{HasShape}
 use Rattle.expansion.specs.Expanded.{expanded}
 
 -- it has as many destinations as its kind wants

@@ -26,6 +26,7 @@ mod laws;
 mod plans;
 mod rows;
 mod scope;
+mod shapes;
 mod tail;
 mod uses;
 mod variants;
@@ -33,6 +34,7 @@ mod variants;
 use code::Plan;
 use graph::Graph;
 pub use laws::plans_keep_to_their_graphs;
+pub use shapes::plans_are_shaped;
 use std::alloc::{AllocError, Allocator};
 
 /// The plan of a well-formed graph within the limits.
