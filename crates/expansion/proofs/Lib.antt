@@ -22,3 +22,15 @@ pub mod FactsFlows
 pub mod FactsOperands
 pub mod FactsWholes
 pub mod FactsSound
+pub mod ShapesStates
+pub mod ShapesTrack
+pub mod ShapesRows
+pub mod ShapesUses
+pub mod ShapesNodes
+pub mod ShapesBody
+pub mod ShapesCounts
+pub mod ShapesEnds
+pub mod ShapesOpen
+pub mod ShapesBlocks
+pub mod ShapesWell
+pub mod ShapesPlans

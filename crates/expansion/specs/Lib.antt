@@ -13,3 +13,4 @@ pub mod Laws
 pub mod Facts
 pub mod Samples
 pub mod Straight
+pub mod Shapes

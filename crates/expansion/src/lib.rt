@@ -28,6 +28,7 @@ mod plans;
 mod rows;
 mod scope;
 mod straight;
+mod shapes;
 mod tail;
 mod uses;
 mod variants;
@@ -36,6 +37,7 @@ use code::Plan;
 pub use facts::plans_name_rightly;
 use graph::Graph;
 pub use laws::plans_keep_to_their_graphs;
+pub use shapes::plans_are_shaped;
 use std::alloc::{AllocError, Allocator};
 pub use straight::straight_plans_are_the_same;
 

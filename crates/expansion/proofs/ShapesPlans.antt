@@ -1,0 +1,101 @@
+-- Each instruction of a plan has as many destinations as its kind wants.
+use Rattle.std.proofs.Common.{◌≡◌, ℕ, zero, suc, ◌+◌, Bool, true, false, List, [], ◌∷◌, ◌++◌, length, get_or, Some, refl, subst, inl, inr, ◌⊎◌, if◌then◌else◌}
+use Rattle.std.specs.Prelude.{slice_get, All, map}
+use Rattle.std.proofs.lemmas.Option.{slice_get-get_or}
+use Rattle.determinacy.proofs.Resolved.{all_get, block_in}
+use Rattle.semantics.specs.Graph.{Graph, Block, flow_of}
+use Rattle.semantics.specs.WellFormed.{WellFormed, IsBlockWell}
+use Rattle.semantics.specs.Program.{Instr, CodeBlock}
+use Rattle.expansion.specs.Shapes.{IsShaped, AreShaped, PlansAreShaped}
+use Rattle.expansion.specs.Variants.{some_block_loops, variants_of}
+use Rattle.expansion.specs.Blocks.{variant_of, plain_build, variant_build}
+use Rattle.expansion.specs.Expanded.{Codes, with_code, no_codes, scope_of, plain_code, variant_code, plain_codes, variant_codes, expanded}
+use Rattle.expansion.proofs.ShapesStates.{get_push}
+use Rattle.expansion.proofs.ShapesBlocks.{plain_shaped, variant_shaped}
+use Rattle.expansion.proofs.ShapesWell.{nodes_fit, results_valid, uses_noted, predicates_often}
+
+all_of : (is : List Instr) → ((p : ℕ) (i : Instr) → slice_get is p ≡ Some i → IsShaped i) → All IsShaped is
+all_of is h = λ k d l. h k (get_or is k d) (slice_get-get_or is k d l)
+
+map_back : {X Y : Type 0} (f : X → Y) (xs : List X) (i : ℕ) (y : Y) → slice_get (map f xs) i ≡ Some y → (x : X) × (slice_get xs i ≡ Some x) × (f x ≡ y)
+map_back f [] i y e = cc
+map_back f (x ∷ xs) zero y e = (x, refl, cc)
+map_back f (x ∷ xs) (suc i) y e = map_back f xs i y e
+
+module _ (g : Graph) (well : WellFormed g) where
+  abbrev blocks : List (Block ℕ)
+  blocks = (flow_of g).blocks
+
+  -- the block is one of the graph's, with its names resolved
+  abbrev IsMade : Block ℕ → Type 0
+  IsMade x = (b : Block (List ℕ)) × IsBlockWell g b × (block_in g b ≡ x)
+
+  plain_made : (version : ℕ) (variants : List ℕ) (n : ℕ) (x : Block ℕ) → IsMade x → AreShaped (plain_code version blocks variants n x).code
+  unfolding plain_code
+  plain_made version variants n x h =
+      let b : Block (List ℕ) = h.0 in
+      let build = plain_build (scope_of version blocks variants n (block_in g b) false) in
+      let shaped : All IsShaped build.instrs
+      = all_of build.instrs (plain_shaped (scope_of version blocks variants n (block_in g b) false) (predicates_often g well b h.1 version variants n false) (nodes_fit g well b h.1 version variants n false)
+      (results_valid g well b h.1 version variants n false) (uses_noted g well b h.1 version variants n false)) in
+      subst (λ y. All IsShaped (plain_build (scope_of version blocks variants n y false)).instrs) h.2 shaped
+
+  variant_made : (version : ℕ) (variants : List ℕ) (n : ℕ) (x : Block ℕ) → IsMade x → AreShaped (variant_code version blocks variants n x).code
+  unfolding variant_code
+  variant_made version variants n x h =
+      let b : Block (List ℕ) = h.0 in
+      let build = variant_build (scope_of version blocks variants n (block_in g b) true) (variant_of variants n) in
+      let shaped : All IsShaped build.instrs
+      = all_of build.instrs (variant_shaped (scope_of version blocks variants n (block_in g b) true) (variant_of variants n) (predicates_often g well b h.1 version variants n true)
+      (nodes_fit g well b h.1 version variants n true) (results_valid g well b h.1 version variants n true) (uses_noted g well b h.1 version variants n true)) in
+      subst (λ y. All IsShaped (variant_build (scope_of version blocks variants n y true) (variant_of variants n)).instrs) h.2 shaped
+
+  -- CODES
+  abbrev AllShaped : List CodeBlock → Type 0
+  AllShaped cs = (k : ℕ) (c : CodeBlock) → slice_get cs k ≡ Some c → AreShaped c
+
+  abbrev AllMade : List (Block ℕ) → Type 0
+  AllMade xs = (k : ℕ) (x : Block ℕ) → slice_get xs k ≡ Some x → IsMade x
+
+  shaped_push : (cs : List CodeBlock) (c : CodeBlock) → AllShaped cs → AreShaped c → AllShaped (cs ++ c ∷ [])
+  shaped_push cs c h s k d e = by_place (get_push cs c k d e)
+    where
+      by_place : (slice_get cs k ≡ Some d) ⊎ ((k ≡ length cs) × (c ≡ d)) → AreShaped d
+      by_place (inl f) = h k d f
+      by_place (inr f) = subst AreShaped f.1 s
+
+  plain_all : (cs : Codes) (version : ℕ) (variants : List ℕ) (n : ℕ) (rest : List (Block ℕ)) → AllMade rest → AllShaped cs.blocks → AllShaped (plain_codes cs version blocks variants n rest).blocks
+  plain_all cs version variants n [] m h = h
+  plain_all cs version variants n (x ∷ rest) m h =
+      plain_all (with_code cs (plain_code version blocks variants n x)) version variants (n + 1) rest (λ k y e. m (suc k) y e)
+      (shaped_push cs.blocks (plain_code version blocks variants n x).code h (plain_made version variants n x (m 0 x refl)))
+
+  variant_all : (cs : Codes) (version : ℕ) (variants : List ℕ) (n : ℕ) (rest : List (Block ℕ)) → AllMade rest → AllShaped cs.blocks → AllShaped (variant_codes cs version blocks variants n rest).blocks
+  variant_all cs version variants n [] m h = h
+  variant_all cs version variants n (x ∷ rest) m h = variant_all (next (some_block_loops n blocks)) version variants (n + 1) rest (λ k y e. m (suc k) y e) (by_test (some_block_loops n blocks))
+    where
+      next : Bool → Codes
+      next t = if t then with_code cs (variant_code version blocks variants n x) else cs
+
+      by_test : (t : Bool) → AllShaped (next t).blocks
+      by_test true = shaped_push cs.blocks (variant_code version blocks variants n x).code h (variant_made version variants n x (m 0 x refl))
+      by_test false = h
+
+  all_made : AllMade blocks
+  all_made k x e =
+      let named = map_back (λ (b : List ℕ × Block (List ℕ)). block_in g b.1) g.blocks k x e in
+      (named.0.1, all_get (λ (n : List ℕ × Block (List ℕ)). IsBlockWell g n.1) g.blocks k named.0 well.blocks named.1, named.2)
+
+  none_shaped : AllShaped []
+  none_shaped k c e = cc
+
+  all_shaped : AllShaped (expanded (flow_of g)).program.blocks
+  all_shaped =
+      let variants : List ℕ = variants_of blocks in
+      variant_all (plain_codes no_codes g.version blocks variants 0 blocks) g.version variants 0 blocks all_made
+      (plain_all no_codes g.version variants 0 blocks all_made none_shaped)
+
+pub plans_are_shaped : PlansAreShaped
+plans_are_shaped g well =
+    let cs : List CodeBlock = (expanded (flow_of g)).program.blocks in
+    λ k d l. all_shaped g well k (get_or cs k d) (slice_get-get_or cs k d l)

@@ -1,0 +1,9 @@
+//! How many destinations the instructions of every plan have.
+
+ghost use Rattle.expansion.specs.Shapes.{PlansAreShaped};
+
+/// Each instruction of the plan of a well-formed graph has as many destinations as its kind wants: one that is answered has
+/// one first destination and no second one, a link has one landing, and `take` and `release` have none.
+pub fn plans_are_shaped()
+    ensures shapes { PlansAreShaped }
+{}
