@@ -4,3 +4,4 @@ pub mod Keeping
 pub mod Bounds
 pub mod Wholes
 pub mod Samples
+pub mod ArcsLists
