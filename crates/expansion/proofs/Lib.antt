@@ -5,3 +5,4 @@ pub mod Bounds
 pub mod Wholes
 pub mod Samples
 pub mod ArcsLists
+pub mod ArcsKept

@@ -10,4 +10,5 @@ pub mod Variants
 pub mod Expanded
 pub mod Keeping
 pub mod Laws
+pub mod Arcs
 pub mod Samples
