@@ -123,7 +123,7 @@ leads_on e is js frees n d g h = record {
 }
 
 -- ADDING
-split : (k n : ℕ) → k < suc n → (k < n) ⊎ (k ≡ n)
+pub split : (k n : ℕ) → k < suc n → (k < n) ⊎ (k ≡ n)
 split zero zero h = inr refl
 split zero (suc n) h = inl (omega arith)
 split (suc k) zero h = absurd (omega (arith, h))

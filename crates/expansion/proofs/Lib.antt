@@ -6,3 +6,10 @@ pub mod Wholes
 pub mod Samples
 pub mod ArcsLists
 pub mod ArcsKept
+pub mod ArcsSettled
+pub mod ArcsSteps
+pub mod ArcsLandings
+pub mod ArcsNodes
+pub mod ArcsTails
+pub mod ArcsEnds
+pub mod ArcsFlows
