@@ -172,7 +172,7 @@ kind_settled e s n b (Merge c) r ss at f k h = merge_settled e n b r ss f k h
 kind_settled e s n b (Fetch a) r ss at f k h = answered_settled e s n b (Op.Fetch a) r ss refl (inr k.1) f k.0 h
 kind_settled e s n b (Store a) r ss at f k h = answered_settled e s n b (Op.Store a) r ss refl (inl refl) f k h
 kind_settled e s n b (Call g) r ss at f k h = called_settled e n b (trigger_of b r) g (outputs_of s.blocks g) r ss (trigger_leaves e 0 n b r at h) f k.0 k.1 k.2 h
-kind_settled e s n b (StrictCall g) r ss at f k h = strict_settled e n b g (outputs_of s.blocks g) r ss k.0 f k.1 k.2 k.3 h
+kind_settled e s n b (StrictCall g) r ss at f k h = strict_settled e n b g (outputs_of s.blocks g) r ss k.0 f k.1.0 k.1.1 k.1.2 h
 kind_settled e s n b (Loop g c) r ss at f k h = repeat_settled e n b (variant_of s.variants g) c r ss at f k.0 k.1 k.2 h
 
 abbrev pub NodesFit : Env → Scope → ℕ → List (Node ℕ) → Type 0

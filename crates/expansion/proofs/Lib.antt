@@ -13,3 +13,5 @@ pub mod ArcsNodes
 pub mod ArcsTails
 pub mod ArcsEnds
 pub mod ArcsFlows
+pub mod ArcsCodes
+pub mod ArcsLaws
