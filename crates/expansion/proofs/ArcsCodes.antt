@@ -1,5 +1,5 @@
 -- The code blocks of a plan at their numbers, and how long its landings are.
-use Rattle.std.proofs.Common.{◌≡◌, ℕ, zero, suc, ◌+◌, ◌<◌, ◌≤◌, ◌⊎◌, Bool, true, false, inl, inr, List, [], ◌∷◌, ◌++◌, length, refl, sym, ap, ◌∙◌, subst, arith, append_assoc, append-nil, if◌then◌else◌, Option, Some, nat_lt, lt-ltb, le-ltb}
+use Rattle.std.proofs.Common.{◌≡◌, ℕ, zero, suc, ◌+◌, ◌<◌, ◌⊎◌, Bool, true, false, inl, inr, List, [], ◌∷◌, ◌++◌, length, refl, sym, ap, ◌∙◌, subst, arith, append_assoc, append-nil, if◌then◌else◌, Some, nat_lt, lt-ltb, le-ltb}
 use Rattle.std.specs.Prelude.{slice_get, slice_index_or, ⊤}
 use Rattle.semantics.specs.Graph.{Block, Flow, Graph, flow_of}
 use Rattle.semantics.specs.WellFormed.{WellFormed}
@@ -10,7 +10,7 @@ use Rattle.expansion.specs.Variants.{some_block_loops, next_variant, variants_fr
 use Rattle.expansion.specs.Blocks.{Coded, variant_of}
 use Rattle.expansion.specs.Expanded.{Codes, with_code, no_codes, scope_of, plain_code, variant_code, plain_codes, variant_codes, codes_of, expanded}
 use Rattle.expansion.proofs.ArcsLists.{get_within, length_push}
-use Rattle.expansion.proofs.ArcsKept.{Env, Kept, split}
+use Rattle.expansion.proofs.ArcsKept.{Kept, split}
 use Rattle.expansion.proofs.ArcsSettled.{Settled}
 use Rattle.expansion.proofs.ArcsFlows.{env_of, SizesFit, block_fits}
 use Rattle.expansion.proofs.ArcsEnds.{plain_settled, variant_settled}
@@ -149,7 +149,7 @@ plain_landing fl f b e =
     let first : List CodeBlock = plains fl.version fl.blocks vars 0 fl.blocks in
     let c : CodeBlock = (plain_code fl.version fl.blocks vars (0 + f) b).code in
     let here : slice_get (expanded fl).program.blocks f ≡ Some c
-        = ap (λ xs. slice_get xs f) (codes_are fl.version fl.blocks) ∙ get_left first (turns fl.version fl.blocks vars 0 fl.blocks) f c (get_plain fl.version fl.blocks vars 0 fl.blocks f b e) in
+    = ap (λ xs. slice_get xs f) (codes_are fl.version fl.blocks) ∙ get_left first (turns fl.version fl.blocks vars 0 fl.blocks) f c (get_plain fl.version fl.blocks vars 0 fl.blocks f b e) in
     let below : nat_lt f (length fl.blocks) ≡ true = lt-ltb f (length fl.blocks) (get_within fl.blocks f b e) in
     ap (λ t. landing_in t (slice_get (expanded fl).program.blocks f)) below ∙ ap (landing_in true) here ∙ ap (λ k. k + 1) (plain_outputs fl.version fl.blocks vars (0 + f) b)
 
@@ -168,8 +168,8 @@ turn_landing fl f b e t =
     let same : next_variant bs (0 + f) ≡ next_variant bs f = ap (next_variant bs) zeros in
     let at : length first + looped_below bs 0 f ≡ place = omega (arith, count, number, added, same) in
     let there : slice_get (first ++ later) place ≡ Some c
-        = subst (λ m. slice_get (first ++ later) m ≡ Some c) at
-        (get_right first later (looped_below bs 0 f) c (get_turn fl.version bs vars 0 bs f b e (ap (λ m. some_block_loops m bs) zeros ∙ t))) in
+    = subst (λ m. slice_get (first ++ later) m ≡ Some c) at
+    (get_right first later (looped_below bs 0 f) c (get_turn fl.version bs vars 0 bs f b e (ap (λ m. some_block_loops m bs) zeros ∙ t))) in
     let here : slice_get (expanded fl).program.blocks place ≡ Some c = ap (λ xs. slice_get xs place) (codes_are fl.version bs) ∙ there in
     let past : nat_lt place (length bs) ≡ false = le-ltb place (length bs) (omega (arith, at, count)) in
     ap (λ u. landing_in u (slice_get (expanded fl).program.blocks place)) past ∙ ap (landing_in false) here ∙ ap (λ k. k + 3) (variant_inputs fl.version bs vars (0 + f) b)

@@ -1,5 +1,5 @@
 -- The joins of a block's ends keep the law of arcs, and so does the whole block.
-use Rattle.std.proofs.Common.{◌≡◌, ℕ, zero, suc, ◌+◌, Bool, true, false, not, ◌&&◌, inl, inr, List, [], ◌∷◌, ◌++◌, length, refl, sym, ap, ◌∙◌, subst, arith, Option, Some, None, if◌then◌else◌}
+use Rattle.std.proofs.Common.{◌≡◌, ℕ, suc, ◌+◌, Bool, true, false, not, ◌&&◌, inl, inr, List, [], ◌∷◌, ◌++◌, length, refl, sym, ap, ◌∙◌, subst, arith, Option, Some, None, if◌then◌else◌}
 use Rattle.std.specs.Prelude.{slice_get, ⊤}
 use Rattle.tags.specs.declared.token.Port.{Port}
 use Rattle.tags.specs.declared.token.Port.TheVariants.{Left, Right}
@@ -17,7 +17,7 @@ use Rattle.semantics.specs.Wired.{is_dyadic}
 use Rattle.expansion.specs.declared.builder.Outlet.{Outlet}
 use Rattle.expansion.specs.declared.ends.End.{End}
 use Rattle.expansion.specs.Scopes.{Scope}
-use Rattle.expansion.specs.Builds.{Build, first_of, second_of, quieted, connected, behind, meeting, mark_of, region_of}
+use Rattle.expansion.specs.Builds.{Build, first_of, second_of, quieted, behind, meeting, mark_of, region_of}
 use Rattle.expansion.specs.Tails.{returns, iterate}
 use Rattle.expansion.specs.Ends.{end_at, is_empty, is_take, is_end, pushed_if, noted, ends_from, ends_of, same_region, Signalled, join_with, join_end, join_ends, signalled, Closing, closing, closed, closed_kind, closed_nodes, released}
 use Rattle.expansion.specs.Blocks.{body, finished, plain_build, variant_build}

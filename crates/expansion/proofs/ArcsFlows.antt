@@ -9,7 +9,7 @@ use Rattle.semantics.specs.declared.graph.Region.TheVariants.{Root, Arm}
 use Rattle.semantics.specs.declared.graph.Source.{Source}
 use Rattle.semantics.specs.declared.graph.Kind.{Kind}
 use Rattle.semantics.specs.declared.graph.Kind.TheVariants.{Lit, Apply1, Apply2, Cond, Enter, Merge, Fetch, Store, Call, StrictCall, Loop}
-use Rattle.semantics.specs.Graph.{Graph, Block, Node, Flow, node_at, node_count, flow_of, resolved_kind, place_of, array_names, block_names}
+use Rattle.semantics.specs.Graph.{Graph, Block, Node, node_at, node_count, flow_of, resolved_kind, place_of, array_names, block_names}
 use Rattle.semantics.specs.WellFormed.{WellFormed, IsBlockWell, IsNodeWell, NamesWell, LiesWell, IsRegion, IsCond, IsCondNode, IsEarlier, HasPortOf, HasPortIn, HasShape}
 use Rattle.expansion.specs.Builds.{first_source}
 use Rattle.expansion.specs.Blocks.{outputs_in, outputs_of, predicate_in, predicate_of, variant_of}
@@ -175,7 +175,7 @@ module _ (g : Graph) (well : WellFormed g) (size : ℕ → ℕ) (sizes : SizesFi
   arm_port : (b : Block (List ℕ)) (k : ℕ) → IsArm b k → 0 < ports_in (flow_of g).blocks (node_at (block_in g b) k)
   arm_port b k a =
       let one : ports_in (flow_of g).blocks (node_at (block_in g b) k) ≡ 1
-          = ap (ports_in (flow_of g).blocks) a.resolved ∙ ap (λ c. ports_of (flow_of g).blocks (kind_of c) a.line.sources) a.is_cond in
+      = ap (ports_in (flow_of g).blocks) a.resolved ∙ ap (λ c. ports_of (flow_of g).blocks (kind_of c) a.line.sources) a.is_cond in
       omega (arith, one)
 
   region_fits : (b : Block (List ℕ)) (n : ℕ) (r : Region) → IsRegion b n r → RegionFits (env b) n r

@@ -1,7 +1,6 @@
 -- What the instructions of a block keep to as they grow: each destination leads forward over a free place.
 use Rattle.std.proofs.Common.{◌≡◌, ℕ, zero, suc, ◌+◌, ◌-◌, ◌<◌, ◌≤◌, Bool, true, false, ◌⊎◌, inl, inr, List, [], ◌∷◌, ◌++◌, length, refl, sym, ap, ◌∙◌, subst, arith, Some}
 use Rattle.std.specs.Prelude.{slice_get, Contains}
-use Rattle.std.proofs.lemmas.List.Elements.{Contains-push_cases}
 use Rattle.lowering.proofs.Members.{contains_none}
 use Rattle.tags.specs.declared.value.Origin.{Origin}
 use Rattle.tags.specs.declared.token.Port.TheVariants.{Left, Right}
@@ -13,7 +12,7 @@ use Rattle.semantics.specs.Wired.{is_dyadic}
 use Rattle.expansion.specs.Arcs.{is_row}
 use Rattle.expansion.specs.Ends.{is_empty}
 use Rattle.expansion.specs.Builds.{with_dest, bare}
-use Rattle.expansion.proofs.ArcsLists.{get_push, get_old, get_new, length_push, get_within, linked_in, length_linked, get_linked, same_op, keep_linked, dest_cases, first_cases, still_some, now_some}
+use Rattle.expansion.proofs.ArcsLists.{get_push, get_old, get_new, length_push, linked_in, length_linked, get_linked, same_op, keep_linked, dest_cases, first_cases, still_some, now_some}
 
 -- of a block: how many inputs it has, how long the landing of a link to each block is, and how many ports each node has
 pub record Env : Type 0 where

@@ -1,5 +1,5 @@
 -- A link with its landing, and what returns a loop's credits.
-use Rattle.std.proofs.Common.{◌≡◌, ℕ, zero, suc, ◌+◌, ◌-◌, ◌<◌, ◌≤◌, Bool, true, false, ◌⊎◌, inl, inr, List, [], ◌∷◌, ◌++◌, length, refl, sym, ap, ◌∙◌, subst, arith, Some}
+use Rattle.std.proofs.Common.{◌≡◌, ℕ, zero, suc, ◌+◌, ◌-◌, ◌<◌, ◌≤◌, true, false, ◌⊎◌, inl, inr, List, [], ◌∷◌, ◌++◌, length, refl, sym, ap, ◌∙◌, subst, arith, Some}
 use Rattle.std.specs.Prelude.{slice_get}
 use Rattle.tags.specs.declared.value.Origin.TheVariants.{Untold}
 use Rattle.tags.specs.declared.token.Port.TheVariants.{Left}
@@ -7,17 +7,17 @@ use Rattle.semantics.specs.declared.graph.Region.{Region}
 use Rattle.semantics.specs.declared.graph.Source.{Source}
 use Rattle.semantics.specs.declared.program.Mark.TheVariants.{Unmarked}
 use Rattle.semantics.specs.declared.program.Op.{Op}
-use Rattle.semantics.specs.declared.program.Op.TheVariants.{Copy, Frame, Link, Send, Take, Give, Drain}
+use Rattle.semantics.specs.declared.program.Op.TheVariants.{Copy, Link, Send, Take, Give, Drain}
 use Rattle.semantics.specs.Program.{Instr}
 use Rattle.expansion.specs.Arcs.{is_row}
 use Rattle.expansion.specs.declared.builder.Outlet.{Outlet}
-use Rattle.expansion.specs.Builds.{Build, bare, slot_in, first_of, quieted, connected, dest_of, outlet_of, exited, behind, meeting, copies}
+use Rattle.expansion.specs.Builds.{Build, bare, slot_in, first_of, quieted, connected, dest_of, outlet_of, behind, meeting, copies}
 use Rattle.expansion.specs.Ends.{is_empty}
 use Rattle.expansion.specs.Rows.{sends, landed, linked, invoke, credits}
-use Rattle.expansion.proofs.ArcsLists.{get_old, get_new, length_push, get_within, length_linked}
-use Rattle.expansion.proofs.ArcsKept.{Env, is_link, Has, OpAt, Leaves, RowAt, Grows, grows_same, grows_on, grows_push, grows_linked, leaves_on, op_on, Leads, Lands, Kept, split, adds, links, frees_last}
+use Rattle.expansion.proofs.ArcsLists.{get_new, length_push, get_within, length_linked}
+use Rattle.expansion.proofs.ArcsKept.{Env, is_link, OpAt, Leaves, Grows, grows_same, grows_on, grows_push, grows_linked, leaves_on, op_on, Leads, Lands, Kept, split, adds, links, frees_last}
 use Rattle.expansion.proofs.ArcsSettled.{Settled, Joining, Step, Grown, Outlets, Exits, exits_on, exits_also, first_out, left_right, false_true, SourcesFit, source_leaves}
-use Rattle.expansion.proofs.ArcsSteps.{joins_end, joins_more, joins_behind, grown, behinds, meets}
+use Rattle.expansion.proofs.ArcsSteps.{joins_end, joins_more, joins_behind, behinds, meets}
 
 -- so many instructions of the last landing are missing
 pub record Pending (e : Env) (missing n : ℕ) (b : Build) : Type 0 where
@@ -195,7 +195,7 @@ sends_step e waiting n a frame block r from (s ∷ ss) out f h =
     let b : Build = meeting a (Send block (from + 1)) Unmarked r frame (outlet_of a s) in
     let one : Grown e waiting n a b = meets e waiting n a (Send block (from + 1)) Unmarked r frame (outlet_of a s) refl refl out (source_leaves e waiting n a s f.0 h) h in
     let more : Step e waiting n b (sends b frame block r (from + 1) ss)
-        = sends_step e waiting n b frame block r (from + 1) ss (leaves_on a.instrs b.instrs (frame.place + frame.port) frame.second one.grows out) f.1 one.settled in
+    = sends_step e waiting n b frame block r (from + 1) ss (leaves_on a.instrs b.instrs (frame.place + frame.port) frame.second one.grows out) f.1 one.settled in
     record { settled = more.settled; grows = grows_on a.instrs b.instrs (sends b frame block r (from + 1) ss).instrs one.grows more.grows }
 
 -- each link has its landing
@@ -218,7 +218,12 @@ waits_next : (e : Env) (n later : ℕ) (a : Build) → Settled e 0 n a → Settl
 waits_next e n later a h = record {
   frees = h.frees;
   kept = record { arcs = h.kept.arcs; lands = h.kept.lands; landed = λ m i f g. inr (links_landed e n a h m i f g); entries = h.kept.entries; within = h.kept.within };
-  last = h.last; long = h.long; past = h.past; free = h.free; zero = h.zero; exits = h.exits;
+  last = h.last;
+  long = h.long;
+  past = h.past;
+  free = h.free;
+  zero = h.zero;
+  exits = h.exits;
 }
 
 pub linked_pending : (e : Env) (n : ℕ) (a : Build) (copy block outputs missing : ℕ) (r : Region) (ss : List Source) → Leaves a.instrs copy false → SourcesFit e n ss
@@ -229,7 +234,7 @@ linked_pending e n a copy block outputs missing r ss out f size some few h =
     let waits : Settled e link n a = waits_next e n link a h in
     let join : Joining e link a (Link block) b = joins_behind e link n a (first_of copy) (Link block) r (λ t. refl) (first_out a.instrs copy out) waits in
     let sent : Step e link n b (sends b (first_of copy) block r 0 ss)
-        = sends_step e link n b (first_of copy) block r 0 ss (first_out b.instrs copy (leaves_on a.instrs b.instrs copy false join.grows out)) f (joins_end e link n a (Link block) b waits join) in
+    = sends_step e link n b (first_of copy) block r 0 ss (first_out b.instrs copy (leaves_on a.instrs b.instrs copy false join.grows out)) f (joins_end e link n a (Link block) b waits join) in
     lands_pending e link block outputs missing n (sends b (first_of copy) block r 0 ss) r sent.settled (op_on b.instrs (sends b (first_of copy) block r 0 ss).instrs link (Link block) sent.grows join.at) size some few
 
 pub invoke_pending : (e : Env) (n : ℕ) (a : Build) (frame block outputs missing : ℕ) (r : Region) (ss : List Source) → Leaves a.instrs frame false → SourcesFit e n ss
@@ -250,8 +255,8 @@ credits_settled e n a bound r h =
     let three : More e 0 n take drain = adds_row e 0 n take (Drain bound) r refl refl two.pending in
     let all : Settled e 0 n drain = settles e n drain three.pending in
     let from_give : Leaves drain.instrs (length a.instrs) false
-        = leaves_on take.instrs drain.instrs (length a.instrs) false three.grows (leaves_on give.instrs take.instrs (length a.instrs) false two.grows one.fresh) in
+    = leaves_on take.instrs drain.instrs (length a.instrs) false three.grows (leaves_on give.instrs take.instrs (length a.instrs) false two.grows one.fresh) in
     let copied : Joining e 0 drain Copy (behind drain (first_of (length a.instrs)) Copy r)
-        = joins_behind e 0 n drain (first_of (length a.instrs)) Copy r (λ t. false_true t) (first_out drain.instrs (length a.instrs) from_give) all in
+    = joins_behind e 0 n drain (first_of (length a.instrs)) Copy r (λ t. false_true t) (first_out drain.instrs (length a.instrs) from_give) all in
     joins_end e 0 n drain Copy (connected (behind drain (first_of (length a.instrs)) Copy r) (first_of (length take.instrs)) (length drain.instrs) Left) all
     (joins_more e 0 drain Copy (behind drain (first_of (length a.instrs)) Copy r) (first_of (length take.instrs)) Left (first_out drain.instrs (length take.instrs) three.fresh) (λ q. left_right q) copied)

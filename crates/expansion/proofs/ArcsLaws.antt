@@ -1,9 +1,8 @@
 -- The arcs of the plan of a well-formed graph go forward.
-use Rattle.std.proofs.Common.{◌≡◌, ℕ, zero, suc, ◌+◌, ◌<◌, ◌≤◌, Bool, true, false, ◌⊎◌, inl, inr, List, [], ◌∷◌, ◌++◌, map, length, refl, sym, ap, ◌∙◌, subst, arith, if◌then◌else◌, Option, Some, None}
-use Rattle.std.specs.Prelude.{slice_get, slice_index_or, Contains, All, flat_map}
+use Rattle.std.proofs.Common.{◌≡◌, ℕ, zero, suc, ◌+◌, ◌<◌, ◌≤◌, Bool, true, false, ◌⊎◌, inl, inr, List, [], ◌∷◌, ◌++◌, map, refl, sym, ap, ◌∙◌, subst, arith, if◌then◌else◌, Some, None}
+use Rattle.std.specs.Prelude.{slice_get, Contains, flat_map}
 use Rattle.std.proofs.lemmas.List.Elements.{All-weaker, All-contains_itself, Contains-append_left, Contains-append_right, Contains-append_cases}
 use Rattle.lowering.proofs.Members.{contains_cases, contains_none, contains_head, contains_tail}
-use Rattle.tags.specs.declared.token.Port.{Port}
 use Rattle.tags.specs.declared.token.Port.TheVariants.{Left, Right}
 use Rattle.semantics.specs.declared.program.Dest.{Dest}
 use Rattle.semantics.specs.declared.program.Op.{Op}
@@ -17,11 +16,10 @@ use Rattle.semantics.specs.Rule.{slot_of}
 use Rattle.semantics.specs.Bytes as Bytes
 use Rattle.semantics.specs.Wired.{is_dyadic, StandsAt}
 use Rattle.semantics.specs.Sharing.{Arc, Inlet, inlet, arc, arcs_to, row, arcs_from, arcs_of}
-use Rattle.code.specs.Sound.{LandsLeft, NamesDest, IsInLanding, IsTied, StandApart, IsSoundDest, DestsAreSound}
-use Rattle.expansion.specs.Arcs.{is_row, LinksLandLeft, ArcsPassEntries, RightArcsMeet, LandingsStand, ArcsAreSound}
+use Rattle.code.specs.Sound.{LandsLeft, IsTied, IsSoundDest, DestsAreSound}
+use Rattle.expansion.specs.Arcs.{LinksLandLeft, ArcsPassEntries, RightArcsMeet, LandingsStand, ArcsAreSound}
 use Rattle.expansion.specs.Expanded.{expanded}
-use Rattle.expansion.proofs.ArcsLists.{get_within, get_some}
-use Rattle.expansion.proofs.ArcsKept.{Env, Has, MeetsAt, RowAt, Leads, Lands, Kept}
+use Rattle.expansion.proofs.ArcsKept.{Env, Has, MeetsAt, RowAt, Leads, Lands}
 use Rattle.expansion.proofs.ArcsSettled.{left_right}
 use Rattle.expansion.proofs.ArcsCodes.{CodeKept, code_kept}
 

@@ -1,5 +1,5 @@
 -- The code of each kind of node keeps the law of arcs.
-use Rattle.std.proofs.Common.{◌≡◌, ℕ, zero, suc, ◌+◌, ◌<◌, ◌≤◌, Bool, true, false, ◌⊎◌, inl, inr, List, [], ◌∷◌, length, refl, sym, ap, ◌∙◌, subst, arith, Some, if◌then◌else◌}
+use Rattle.std.proofs.Common.{◌≡◌, ℕ, suc, ◌+◌, ◌≤◌, Bool, true, false, ◌⊎◌, inl, inr, List, [], ◌∷◌, length, refl, sym, ◌∙◌, subst, arith, Some, if◌then◌else◌}
 use Rattle.std.specs.Prelude.{⊤}
 use Rattle.tags.specs.declared.value.Origin.{Origin}
 use Rattle.tags.specs.declared.value.Origin.TheVariants.{Untold}
@@ -14,14 +14,14 @@ use Rattle.semantics.specs.Graph.{Node}
 use Rattle.semantics.specs.Meaning.{origin_in}
 use Rattle.semantics.specs.Wired.{is_dyadic}
 use Rattle.expansion.specs.declared.builder.Outlet.{Outlet}
-use Rattle.expansion.specs.Builds.{Build, first_of, second_of, added, quieted, connected, outlet_of, trigger_of, exited, behind, meeting, operands, alternatives, first_source}
+use Rattle.expansion.specs.Builds.{Build, first_of, second_of, added, quieted, outlet_of, trigger_of, exited, behind, meeting, operands, alternatives, first_source}
 use Rattle.expansion.specs.Rows.{operator, copied, shared_answer, conditional, enter, merge, invoke, called, Joined, join_sources, strict_call, repeat}
 use Rattle.expansion.specs.Scopes.{Scope}
 use Rattle.expansion.specs.UseCounts.{is_often, uses_at}
 use Rattle.expansion.specs.Blocks.{answered, entered, repeated, with_kind, with_node, with_nodes, predicate_of, outputs_of, variant_of}
-use Rattle.expansion.proofs.ArcsKept.{Env, is_link, OpAt, Leaves, Grows, grows_same, grows_on, leaves_on}
-use Rattle.expansion.proofs.ArcsSettled.{Settled, Joining, Step, Grown, Outlets, first_out, one_port, leaves_exit, false_true, SourceFits, SourcesFit, RegionFits, source_leaves, trigger_leaves}
-use Rattle.expansion.proofs.ArcsSteps.{joins_begin, joins_end, joins_fresh, behinds, meets, joins_operands, joins_alternatives, grown}
+use Rattle.expansion.proofs.ArcsKept.{Env, is_link, Leaves}
+use Rattle.expansion.proofs.ArcsSettled.{Settled, Grown, Outlets, first_out, one_port, leaves_exit, false_true, SourceFits, SourcesFit, RegionFits, source_leaves, trigger_leaves}
+use Rattle.expansion.proofs.ArcsSteps.{joins_begin, behinds, meets, joins_operands, joins_alternatives, grown}
 use Rattle.expansion.proofs.ArcsLandings.{Pending, More, settles, adds_row, invoke_pending, credits_settled}
 
 -- OPERATORS

@@ -1,23 +1,16 @@
 -- A block between two steps, and where the ports of its nodes leave.
-use Rattle.std.proofs.Common.{◌≡◌, ℕ, zero, suc, ◌+◌, ◌-◌, ◌<◌, ◌≤◌, Bool, true, false, ◌⊎◌, inl, inr, List, [], ◌∷◌, ◌++◌, length, refl, sym, ap, ◌∙◌, subst, arith, Some}
-use Rattle.std.specs.Prelude.{slice_get, slice_index_or, ⊤}
-use Rattle.tags.specs.declared.value.Origin.{Origin}
-use Rattle.tags.specs.declared.value.Origin.TheVariants.{Untold}
-use Rattle.tags.specs.declared.token.Port.{Port}
+use Rattle.std.proofs.Common.{◌≡◌, ℕ, zero, suc, ◌+◌, ◌<◌, ◌≤◌, Bool, true, false, ◌⊎◌, inl, inr, List, [], ◌∷◌, ◌++◌, length, refl, sym, ap, ◌∙◌, subst, arith}
+use Rattle.std.specs.Prelude.{slice_index_or, ⊤}
 use Rattle.tags.specs.declared.token.Port.TheVariants.{Left, Right}
 use Rattle.semantics.specs.declared.graph.Region.{Region}
 use Rattle.semantics.specs.declared.graph.Region.TheVariants.{Root, Arm}
 use Rattle.semantics.specs.declared.graph.Source.{Source}
-use Rattle.semantics.specs.declared.program.Mark.{Mark}
-use Rattle.semantics.specs.declared.program.Mark.TheVariants.{Unmarked}
 use Rattle.semantics.specs.declared.program.Op.{Op}
-use Rattle.semantics.specs.declared.program.Op.TheVariants.{Link}
 use Rattle.semantics.specs.Program.{Instr}
-use Rattle.semantics.specs.Wired.{is_dyadic}
 use Rattle.expansion.specs.declared.builder.Outlet.{Outlet}
-use Rattle.expansion.specs.Builds.{Build, bare, slot_in, first_of, added, quieted, connected, dest_of, nowhere, exit_at, outlet_of, trigger_of, exited, behind, meeting, side, operands, alternatives}
-use Rattle.expansion.proofs.ArcsLists.{get_new, length_push, get_within, length_linked}
-use Rattle.expansion.proofs.ArcsKept.{Env, is_link, Has, OpAt, Leaves, MeetsAt, Grows, grows_same, grows_on, grows_push, grows_linked, leaves_on, op_on, Leads, Lands, Kept, split, adds, links, frees_last}
+use Rattle.expansion.specs.Builds.{Build, first_of, nowhere, exit_at, outlet_of, trigger_of, exited, side}
+use Rattle.expansion.proofs.ArcsLists.{length_push}
+use Rattle.expansion.proofs.ArcsKept.{Env, Has, OpAt, Leaves, Grows, leaves_on, Kept, split}
 
 -- where the ports of the first n nodes leave
 pub record Exits (e : Env) (n : ℕ) (b : Build) : Type 0 where
@@ -109,7 +102,13 @@ exits_more e n b o new h = record {
 
 pub leaves_exit : (e : Env) (waiting n : ℕ) (b : Build) (o : Outlet) → ((p : ℕ) → p < e.ports n → Leaves b.instrs (o.place + p) false) → Settled e waiting n b → Settled e waiting (suc n) (exited b o)
 leaves_exit e waiting n b o new h = record {
-  frees = h.frees; kept = h.kept; last = h.last; long = h.long; past = h.past; free = h.free; zero = h.zero;
+  frees = h.frees;
+  kept = h.kept;
+  last = h.last;
+  long = h.long;
+  past = h.past;
+  free = h.free;
+  zero = h.zero;
   exits = exits_more e n b o new h.exits;
 }
 
@@ -138,4 +137,3 @@ source_leaves e waiting n b s f h = any_side b.instrs ((exit_at b s.node).place 
 pub trigger_leaves : (e : Env) (waiting n : ℕ) (b : Build) (r : Region) → RegionFits e n r → Settled e waiting n b → Outlets b.instrs (trigger_of b r)
 trigger_leaves e waiting n b Root f h = first_out b.instrs 0 h.zero
 trigger_leaves e waiting n b (Arm k side) f h = any_side b.instrs ((exit_at b k).place + 0) (trigger_of b (Arm k side)).second (h.exits.leave k 0 f.0 f.1)
-

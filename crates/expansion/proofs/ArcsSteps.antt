@@ -1,12 +1,11 @@
 -- A block between two steps, and one instruction more with its arcs.
-use Rattle.std.proofs.Common.{◌≡◌, ℕ, zero, suc, ◌+◌, ◌-◌, ◌<◌, ◌≤◌, Bool, true, false, ◌⊎◌, inl, inr, List, [], ◌∷◌, ◌++◌, length, refl, sym, ap, ◌∙◌, subst, arith, Some}
-use Rattle.std.specs.Prelude.{slice_get, slice_index_or, ⊤}
+use Rattle.std.proofs.Common.{◌≡◌, ℕ, zero, suc, ◌+◌, ◌-◌, ◌<◌, ◌≤◌, Bool, true, false, ◌⊎◌, inl, inr, List, [], ◌∷◌, length, refl, sym, ap, ◌∙◌, subst, arith, Some}
+use Rattle.std.specs.Prelude.{slice_get, slice_index_or}
 use Rattle.tags.specs.declared.value.Origin.{Origin}
 use Rattle.tags.specs.declared.value.Origin.TheVariants.{Untold}
 use Rattle.tags.specs.declared.token.Port.{Port}
 use Rattle.tags.specs.declared.token.Port.TheVariants.{Left, Right}
 use Rattle.semantics.specs.declared.graph.Region.{Region}
-use Rattle.semantics.specs.declared.graph.Region.TheVariants.{Root, Arm}
 use Rattle.semantics.specs.declared.graph.Source.{Source}
 use Rattle.semantics.specs.declared.program.Mark.{Mark}
 use Rattle.semantics.specs.declared.program.Mark.TheVariants.{Unmarked}
@@ -15,10 +14,10 @@ use Rattle.semantics.specs.declared.program.Op.TheVariants.{Link}
 use Rattle.semantics.specs.Program.{Instr}
 use Rattle.semantics.specs.Wired.{is_dyadic}
 use Rattle.expansion.specs.declared.builder.Outlet.{Outlet}
-use Rattle.expansion.specs.Builds.{Build, bare, slot_in, first_of, added, quieted, connected, dest_of, nowhere, exit_at, outlet_of, trigger_of, exited, behind, meeting, side, operands, alternatives}
+use Rattle.expansion.specs.Builds.{Build, bare, slot_in, added, quieted, connected, dest_of, nowhere, outlet_of, behind, meeting, side, operands, alternatives}
 use Rattle.expansion.proofs.ArcsLists.{get_new, length_push, get_within, length_linked}
 use Rattle.expansion.proofs.ArcsSettled.{Settled, Joining, Grown, Outlets, false_true, left_right, exits_on, SourceFits, SourcesFit, source_leaves}
-use Rattle.expansion.proofs.ArcsKept.{Env, is_link, Has, OpAt, Leaves, MeetsAt, Grows, grows_same, grows_on, grows_push, grows_linked, leaves_on, op_on, Leads, Lands, Kept, split, adds, links, frees_last}
+use Rattle.expansion.proofs.ArcsKept.{Env, is_link, Leaves, grows_on, grows_push, grows_linked, leaves_on, op_on, Leads, adds, links, frees_last}
 
 -- JOINING
 same_some : (k j : Instr) → Some k ≡ Some j → k ≡ j

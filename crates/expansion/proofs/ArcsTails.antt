@@ -1,10 +1,9 @@
 -- Entries and outputs of a block keep the law of arcs.
-use Rattle.std.proofs.Common.{◌≡◌, ℕ, zero, suc, ◌+◌, ◌<◌, ◌≤◌, Bool, true, false, inl, inr, List, [], ◌∷◌, ◌++◌, length, refl, sym, ap, ◌∙◌, subst, arith, Some}
+use Rattle.std.proofs.Common.{◌≡◌, ℕ, zero, suc, ◌+◌, ◌<◌, ◌≤◌, true, false, inl, inr, List, [], ◌∷◌, length, refl, subst, arith, Some}
 use Rattle.semantics.specs.declared.graph.Region.{Region}
 use Rattle.semantics.specs.declared.graph.Region.TheVariants.{Root, Arm}
 use Rattle.semantics.specs.declared.graph.Source.{Source}
 use Rattle.semantics.specs.declared.program.Mark.TheVariants.{Unmarked, OfFlag}
-use Rattle.semantics.specs.declared.program.Op.{Op}
 use Rattle.semantics.specs.declared.program.Op.TheVariants.{Copy, Switch, Frame, Send, Return, Ask}
 use Rattle.semantics.specs.Program.{Instr}
 use Rattle.semantics.specs.Graph.{node_count}
@@ -14,7 +13,7 @@ use Rattle.tags.specs.declared.value.Origin.TheVariants.{Untold}
 use Rattle.expansion.specs.declared.builder.Outlet.{Outlet}
 use Rattle.expansion.specs.declared.tail.Turn.{Turn}
 use Rattle.expansion.specs.Scopes.{Scope}
-use Rattle.expansion.specs.Builds.{Build, nothing, bare, slot_in, outlet, first_of, second_of, added, quieted, outlet_of, exited, behind, meeting}
+use Rattle.expansion.specs.Builds.{Build, nothing, bare, slot_in, outlet, first_of, second_of, added, quieted, outlet_of, behind, meeting}
 use Rattle.expansion.specs.Tails.{returns, switches, next_values, last_values, turned_continuation, turned_flag, turning, turn_of, go_on, stop, iterate}
 use Rattle.expansion.specs.Blocks.{with_input, with_inputs, entries, body}
 use Rattle.expansion.proofs.ArcsLists.{get_new, length_push}
@@ -126,8 +125,8 @@ next_step e n a block r frame at (suc count) out values h =
     let all : Step e 0 n a b = next_step e n a block r frame at count out (λ k l. values k (omega (arith, l))) h in
     let c : Build = meeting b (Send block (count + 1)) Unmarked r frame (outlet at count false) in
     let one : Grown e 0 n b c = meets e 0 n b (Send block (count + 1)) Unmarked r frame (outlet at count false) refl refl
-        (leaves_on a.instrs b.instrs (frame.place + frame.port) frame.second all.grows out)
-        (leaves_on a.instrs b.instrs (at + count) false all.grows (values count (omega arith))) all.settled in
+    (leaves_on a.instrs b.instrs (frame.place + frame.port) frame.second all.grows out)
+    (leaves_on a.instrs b.instrs (at + count) false all.grows (values count (omega arith))) all.settled in
     record { settled = one.settled; grows = grows_on a.instrs b.instrs c.instrs all.grows one.grows }
 
 last_step : (e : Env) (n : ℕ) (a : Build) (r : Region) (o : Outlet) (at count : ℕ) → Outlets a.instrs o → Values a.instrs at count → Settled e 0 n a → Step e 0 n a (last_values a r o at count)
@@ -137,8 +136,8 @@ last_step e n a r o at (suc count) out values h =
     let all : Step e 0 n a b = last_step e n a r o at count out (λ k l. values k (omega (arith, l))) h in
     let c : Build = meeting b (Return count) Unmarked r o (outlet at count true) in
     let one : Grown e 0 n b c = meets e 0 n b (Return count) Unmarked r o (outlet at count true) refl refl
-        (leaves_on a.instrs b.instrs (o.place + o.port) o.second all.grows out)
-        (any_side b.instrs (at + count) true (leaves_on a.instrs b.instrs (at + count) false all.grows (values count (omega arith)))) all.settled in
+    (leaves_on a.instrs b.instrs (o.place + o.port) o.second all.grows out)
+    (any_side b.instrs (at + count) true (leaves_on a.instrs b.instrs (at + count) false all.grows (values count (omega arith)))) all.settled in
     record { settled = one.settled; grows = grows_on a.instrs b.instrs c.instrs all.grows one.grows }
 
 -- where an iteration's switches stand
@@ -185,7 +184,7 @@ unfolding go_on
 goes_on e n a block r t turns h =
     let ask : Build = meeting a (Ask (t.count + 1)) Unmarked Root (first_of t.continuation) (first_of t.flag) in
     let one : Grown e 0 n a ask = meets e 0 n a (Ask (t.count + 1)) Unmarked Root (first_of t.continuation) (first_of t.flag) refl refl
-        (first_out a.instrs t.continuation turns.continuation) (first_out a.instrs t.flag turns.flag) h in
+    (first_out a.instrs t.continuation turns.continuation) (first_out a.instrs t.flag turns.flag) h in
     let frame : Build = behind ask (first_of (length a.instrs)) Frame Root in
     let two : Grown e 0 n ask frame = behinds e 0 n ask (first_of (length a.instrs)) Frame Root refl (first_out ask.instrs (length a.instrs) one.fresh) one.settled in
     let copy : Build = behind frame (first_of (length ask.instrs)) Copy Root in
@@ -193,13 +192,13 @@ goes_on e n a block r t turns h =
     let to_copy : Grows a.instrs copy.instrs = grows_on a.instrs frame.instrs copy.instrs (grows_on a.instrs ask.instrs frame.instrs one.grows two.grows) three.grows in
     let sent : Build = meeting copy (Send block 0) Unmarked r (first_of (length frame.instrs)) (first_of t.continuation) in
     let four : Grown e 0 n copy sent = meets e 0 n copy (Send block 0) Unmarked r (first_of (length frame.instrs)) (first_of t.continuation) refl refl
-        (first_out copy.instrs (length frame.instrs) three.fresh)
-        (first_out copy.instrs t.continuation (leaves_on a.instrs copy.instrs t.continuation false to_copy turns.continuation)) three.settled in
+    (first_out copy.instrs (length frame.instrs) three.fresh)
+    (first_out copy.instrs t.continuation (leaves_on a.instrs copy.instrs t.continuation false to_copy turns.continuation)) three.settled in
     let to_sent : Grows a.instrs sent.instrs = grows_on a.instrs copy.instrs sent.instrs to_copy four.grows in
     let done : Build = next_values sent block r (first_of (length frame.instrs)) t.values t.count in
     let five : Step e 0 n sent done = next_step e n sent block r (first_of (length frame.instrs)) t.values t.count
-        (first_out sent.instrs (length frame.instrs) (leaves_on copy.instrs sent.instrs (length frame.instrs) false four.grows three.fresh))
-        (turns_on a.instrs sent.instrs t to_sent turns).values four.settled in
+    (first_out sent.instrs (length frame.instrs) (leaves_on copy.instrs sent.instrs (length frame.instrs) false four.grows three.fresh))
+    (turns_on a.instrs sent.instrs t to_sent turns).values four.settled in
     record { settled = five.settled; grows = grows_on a.instrs sent.instrs done.instrs to_sent five.grows }
 
 stops : (e : Env) (n : ℕ) (a : Build) (r : Region) (t : Turn) → Turns a.instrs t → Settled e 0 n a → Settled e 0 n (stop a r t)
@@ -209,8 +208,8 @@ stops e n a r t turns h =
     let all : Step e 0 n a b = last_step e n a r (second_of t.continuation) t.values t.count (second_out a.instrs t.continuation turns.continuation) turns.values h in
     let now : Turns b.instrs t = turns_on a.instrs b.instrs t all.grows turns in
     let one : Grown e 0 n b (meeting b (Return (t.count + 2)) Unmarked r (second_of t.continuation) (second_of t.flag))
-        = meets e 0 n b (Return (t.count + 2)) Unmarked r (second_of t.continuation) (second_of t.flag) refl refl
-        (second_out b.instrs t.continuation now.continuation) (second_out b.instrs t.flag now.flag) all.settled in
+    = meets e 0 n b (Return (t.count + 2)) Unmarked r (second_of t.continuation) (second_of t.flag) refl refl
+    (second_out b.instrs t.continuation now.continuation) (second_out b.instrs t.flag now.flag) all.settled in
     one.settled
 
 pub iterate_settled : (e : Env) (n : ℕ) (b : Build) (block k : ℕ) (ss : List Source) → SourcesFit e n ss → Settled e 0 n b → Settled e 0 n (iterate b block k ss)
