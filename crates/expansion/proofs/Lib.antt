@@ -34,3 +34,14 @@ pub mod ShapesOpen
 pub mod ShapesBlocks
 pub mod ShapesWell
 pub mod ShapesPlans
+pub mod ArcsLists
+pub mod ArcsKept
+pub mod ArcsSettled
+pub mod ArcsSteps
+pub mod ArcsLandings
+pub mod ArcsNodes
+pub mod ArcsTails
+pub mod ArcsEnds
+pub mod ArcsFlows
+pub mod ArcsCodes
+pub mod ArcsLaws

@@ -11,6 +11,7 @@ pub mod Expanded
 pub mod Keeping
 pub mod Laws
 pub mod Facts
+pub mod Arcs
 pub mod Samples
 pub mod Straight
 pub mod Shapes

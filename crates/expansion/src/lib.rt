@@ -18,6 +18,7 @@ ghost use Rattle.semantics.specs.Text.{HasText};
 ghost use Rattle.expansion.specs.Blocks as Blocks;
 ghost use Rattle.expansion.specs.Expanded as Expanded;
 
+mod arcs;
 mod block;
 mod builder;
 mod ends;
@@ -33,6 +34,7 @@ mod tail;
 mod uses;
 mod variants;
 
+pub use arcs::arcs_go_forward;
 use code::Plan;
 pub use facts::plans_name_rightly;
 use graph::Graph;
