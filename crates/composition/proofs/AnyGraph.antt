@@ -7,9 +7,12 @@ use Rattle.semantics.specs.Graph.{Graph, Block, flow_of, place_of, block_names, 
 use Rattle.semantics.specs.Program.{CodeBlock}
 use Rattle.semantics.specs.Plan.{Plan}
 use Rattle.semantics.specs.Orderly as Orderly
-use Rattle.determinacy.proofs.Resolved.{contains_get, place_get}
+use Rattle.determinacy.proofs.Resolved.{all_get, contains_get, place_get}
 use Rattle.expansion.proofs.Inputs.{takes_inputs}
+use Rattle.expansion.specs.Shapes.{IsShaped, AreShaped}
 use Rattle.expansion.proofs.FactsSound.{is_sound}
+use Rattle.expansion.proofs.ArcsLaws.{arcs_go_forward}
+use Rattle.expansion.proofs.ShapesPlans.{plans_are_shaped}
 use Rattle.expansion.proofs.StraightWhole.{straight_plans_agree}
 use Rattle.folding.proofs.SoundPlans.{still_sound}
 use Rattle.semantics.specs.WellFormed.{WellFormed}
@@ -26,7 +29,9 @@ use Rattle.composition.proofs.SoundObjects.{sound_have_objects}
 
 expanded_is_sound : (g : Graph) → HasText g → WellFormed g → IsSound (expanded (flow_of g))
 expanded_is_sound g text well =
-    is_sound g text well ? ? ? ? ?
+    let arcs = arcs_go_forward g text well in
+    let p : Plan = expanded (flow_of g) in
+    is_sound g text well (λ b n c i at there. all_get IsShaped c.instrs n i (all_get AreShaped p.program.blocks b c (plans_are_shaped g well) at) there) arcs.lefts arcs.dests arcs.entries arcs.rights
 
 folded_is_sound : (g : Graph) → HasText g → WellFormed g → IsSound (folded (expanded (flow_of g)))
 folded_is_sound g text well = still_sound (expanded (flow_of g)) (expanded_is_sound g text well)
