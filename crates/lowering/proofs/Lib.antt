@@ -11,6 +11,8 @@ pub mod NetRests
 pub mod NetEnds
 pub mod NetChains
 pub mod Arms
+pub mod Forms
+pub mod Settling
 -- the machine over the code of a straight block
 pub mod Placed
 pub mod BlockNet
