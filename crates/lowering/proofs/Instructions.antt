@@ -148,7 +148,7 @@ module _ (fl : Flow) (p : Program) (b : Block ℕ) (w : Wiring) (l : Layout) (la
     where
       by_kind : (k : Kind ℕ) → is_pair k ≡ true → Alone n (formed (OnRight z) (op_for k)) s v made new → Sends n (value_for k (origin_at fl Meaning.Main n) v (Int z)) s made new
       by_kind (Apply2 op) t g = (
-        at_last (at_first g.0 (sent_along (Line n) h refl (apply2 op v (Int z) (l.origin (Line n))))) (ap (λ o. map (tok b l) (each (apply2 op v (Int z) o) (w.wire (Line n)))) (placed.origins n (line_below b w n h))),
+        at_last (at_first g.0 (sent_along (Line n) h refl (apply2 op v (Int z) (l.origin (Line n))))) (ap (λ o. map (tok b l) (each (apply2 op v (Int z) o) (w.wire (Line n)))) (placed.origins n h)),
         g.1,
       )
       by_kind k t g = absurd (true≢false (sym t))
@@ -160,7 +160,7 @@ module _ (fl : Flow) (p : Program) (b : Block ℕ) (w : Wiring) (l : Layout) (la
     where
       by_kind : (k : Kind ℕ) → is_pair k ≡ true → Alone n (formed (OnLeft z) (op_for k)) s v made new → Sends n (value_for k (origin_at fl Meaning.Main n) (Int z) v) s made new
       by_kind (Apply2 op) t g = (
-        at_last (at_first g.0 (sent_along (Line n) h refl (apply2 op (Int z) v (l.origin (Line n))))) (ap (λ o. map (tok b l) (each (apply2 op (Int z) v o) (w.wire (Line n)))) (placed.origins n (line_below b w n h))),
+        at_last (at_first g.0 (sent_along (Line n) h refl (apply2 op (Int z) v (l.origin (Line n))))) (ap (λ o. map (tok b l) (each (apply2 op (Int z) v o) (w.wire (Line n)))) (placed.origins n h)),
         g.1,
       )
       by_kind k t g = absurd (true≢false (sym t))
@@ -220,7 +220,7 @@ module _ (fl : Flow) (p : Program) (b : Block ℕ) (w : Wiring) (l : Layout) (la
       by_kind : (k : Kind ℕ) → is_pair k ≡ true
           → (made : List Token) × (fire_two p (seat_of l (Line n)) (line_code n (op_for k)) (op_for k) (Word.Val v) (Word.Val u) ≡ Some made)
           × IsPermutation made (map (tok b l) (each (value_for k (origin_at fl Meaning.Main n) v u) (w.wire (Line n))))
-      by_kind (Apply2 op) t = (_, refl, at_last (sent_along (Line n) h refl (apply2 op v u (l.origin (Line n)))) (ap (λ o. map (tok b l) (each (apply2 op v u o) (w.wire (Line n)))) (placed.origins n (line_below b w n h))))
+      by_kind (Apply2 op) t = (_, refl, at_last (sent_along (Line n) h refl (apply2 op v u (l.origin (Line n)))) (ap (λ o. map (tok b l) (each (apply2 op v u o) (w.wire (Line n)))) (placed.origins n h)))
       by_kind k t = absurd (true≢false (sym t))
 
   both_in : (n : ℕ) → IsThere b w (Line n) → (f : Form) → waits_as f (is_pair_at (node_at b n)) ≡ true → (v u : Value)

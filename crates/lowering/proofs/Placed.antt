@@ -28,7 +28,7 @@ main_length p (Some c) = length c.instrs
 -- The same as the code of a block, with places in the whole program.
 pub record IsPlaced (fl : Flow) (p : Program) (b : Block ℕ) (w : Wiring) (l : Layout) : Type 0 where
   pub here : (r : Role) → IsThere b w r → is_instr r ≡ true → instr_at p (l.place r) ≡ Some (code_of b w l r)
-  pub origins : (n : ℕ) → n < node_count b → l.origin (Line n) ≡ origin_at fl Meaning.Main n
+  pub origins : (n : ℕ) → IsThere b w (Line n) → l.origin (Line n) ≡ origin_at fl Meaning.Main n
   pub goes : (r : Role) → IsThere b w r → is_instr r ≡ true
       → IsPermutation (map (leads_to (l.place r)) (l.firsts r ++ l.seconds r)) (map (stands_at l) (w.wire r))
   pub apart : (r q : Role) → IsThere b w r → IsThere b w q → is_instr r ≡ true → is_instr q ≡ true → l.place r ≡ l.place q → r ≡ q

@@ -61,7 +61,7 @@ stands_at l x = (l.place x.role, x.port)
 -- and it opens no loop.
 pub record IsBlockCode (version number : ℕ) (b : Block ℕ) (c : CodeBlock) (w : Wiring) (l : Layout) : Type 0 where
   pub here : (r : Role) → IsThere b w r → is_instr r ≡ true → slice_get c.instrs (l.place r) ≡ Some (code_of b w l r)
-  pub origins : (n : ℕ) → n < node_count b → l.origin (Line n) ≡ origin_in version (Some number) n
+  pub origins : (n : ℕ) → IsThere b w (Line n) → l.origin (Line n) ≡ origin_in version (Some number) n
   pub goes : (r : Role) → IsThere b w r → is_instr r ≡ true
       → IsPermutation (map (leads_to (l.place r)) (l.firsts r ++ l.seconds r)) (map (stands_at l) (w.wire r))
   pub apart : (r q : Role) → IsThere b w r → IsThere b w q → is_instr r ≡ true → is_instr q ≡ true → l.place r ≡ l.place q → r ≡ q
