@@ -184,7 +184,7 @@ module _ (fl : Flow) (b : Block ℕ) (w : Wiring) (laws : IsWired b w) where
   there-inputs from (y ∷ ys) h = All-cons (λ (i : Item). IsInlet b w i.inlet) (item (Line from) Left (Int y)) (input_items (from + 1) ys) (record { there = input_there b w laws from (omega (arith, h)) (omega (arith, h)); port = inl refl }) (there-inputs (from + 1) ys (omega (arith, h)))
 
   -- at most one
-  few_outs : (x : Inlet) (r : Role) → IsThere b w r → IsFed b w x → hits x (outs w r) ≤ 1
+  pub few_outs : (x : Inlet) (r : Role) → IsThere b w r → IsFed b w x → hits x (outs w r) ≤ 1
   few_outs x r h (inl (g, none)) = let k = none r h in omega (arith, k)
   few_outs x r h (inr (q, there, lower, g, o, only)) = pick (one-cases (same_role r q))
     where

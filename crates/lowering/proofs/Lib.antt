@@ -38,6 +38,7 @@ pub mod StraightFed
 pub mod StraightWired
 pub mod StraightProgram
 pub mod OneCopyMore
+pub mod OneFoldMore
 pub mod StraightPlanned
 -- the theorem
 pub mod Theorem

@@ -18,19 +18,19 @@ use Rattle.lowering.proofs.StraightWired.{wire_rises}
 use Rattle.lowering.proofs.StraightFed.{lines_miss}
 
 -- what a part makes: along its wires, and elsewhere
-abbrev extra : Role → List Inlet
+abbrev pub extra : Role → List Inlet
 extra (Result j) = inlet (Shown j) Left ∷ []
 extra End = inlet Freed Left ∷ inlet Done Left ∷ []
 extra r = []
 
-abbrev sends : Wiring → Role → List Inlet
+abbrev pub sends : Wiring → Role → List Inlet
 sends w End = []
 sends w (Shown j) = []
 sends w Done = []
 sends w Freed = []
 sends w r = w.wire r
 
-outs_hits : (w : Wiring) (r : Role) (x : Inlet) → hits x (outs w r) ≡ hits x (extra r) + hits x (sends w r)
+pub outs_hits : (w : Wiring) (r : Role) (x : Inlet) → hits x (outs w r) ≡ hits x (extra r) + hits x (sends w r)
 outs_hits w Start x = omega arith
 outs_hits w (Line n) x = omega arith
 outs_hits w (Result j) x = omega arith
