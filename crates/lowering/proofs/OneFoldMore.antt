@@ -531,3 +531,332 @@ module _ (b : Block ℕ) (w : Wiring) (laws : IsWired b w) (f : Fold) (can : Can
       pick : (x.role ≡ Line n) ⊎ (x.role ≡ Line n → ⊥) → IsFed b new x
       pick (inl e) = subst (IsFed b new) (sym (of_node_now x i e)) node_fed
       pick (inr d) = other_fed x d (λ l e. true≢false (sym l ∙ lit_stays (subst (λ (x : Inlet). IsThere b new x.role) e i.there))) (laws.fed x (inlet_down x i))
+
+  -- MEANING
+  stands_same : (q : Role) (p : Port) → (q ≡ Line n → ⊥) → (q ≡ lit → ⊥) → stands_for new q p ≡ stands_for w q p
+  stands_same (Line m) Left d g = ap (λ form. stands_as form m) (form_else m (λ e. d (ap Line e)) (λ e. g (ap Line e)))
+  stands_same (Line m) Right d g = refl
+  stands_same Start p d g = refl
+  stands_same (Result j) Left d g = refl
+  stands_same (Result j) Right d g = refl
+  stands_same (Join k) p d g = refl
+  stands_same (Copy c k) p d g = refl
+  stands_same End p d g = refl
+  stands_same (Shown j) p d g = refl
+  stands_same Done p d g = refl
+  stands_same Freed p d g = refl
+
+  -- wires without the operator's other port and the literal's node stand for what they stood for
+  along_clear : (q : Role) (xs : List Inlet) → All (IsWire b w q) xs → hits (other_inlet f) xs ≡ 0 → hits at_lit xs ≡ 0 → uses_along new (flat_map (moved_to w f) xs) ≡ uses_along w (without (lit_inlet f) xs)
+  along_clear q [] h o l = refl
+  along_clear q (x ∷ xs) h o l = here (case x) (along_clear q xs (All-tail (IsWire b w q) x xs h) (omega (arith, o)) (omega (arith, l)))
+    where
+      wire : IsWire b w q x
+      wire = All-head (IsWire b w q) x xs h
+
+      same_test : (t : Bool) → same_inlet (lit_inlet f) x ≡ t → without (lit_inlet f) (x ∷ xs) ≡ (if t then [] else x ∷ []) ++ without (lit_inlet f) xs
+      same_test t e = ap (λ (t : Bool). (if t then [] else x ∷ []) ++ without (lit_inlet f) xs) e
+
+      here : Case x → uses_along new (flat_map (moved_to w f) xs) ≡ uses_along w (without (lit_inlet f) xs) → uses_along new (flat_map (moved_to w f) (x ∷ xs)) ≡ uses_along w (without (lit_inlet f) (x ∷ xs))
+      here (AtLit e m) more =
+          ap (λ ys. uses_along new (ys ++ flat_map (moved_to w f) xs)) m ∙ more
+          ∙ sym (ap (uses_along w) (same_test true (ap (λ x. same_inlet (lit_inlet f) x) (sym e) ∙ same_inlet-refl (lit_inlet f))))
+      here (AtOther e m) more = let s = ap (λ x. one (same_inlet (other_inlet f) x)) (sym e) ∙ one_same (other_inlet f) in absurd (omega (arith, o, s))
+      here (AtGone e g m) more = let s = ap (λ x. one (same_inlet at_lit x)) (sym e) ∙ one_same at_lit in absurd (omega (arith, l, s))
+      here (Elsewhere s) more =
+          ap (λ ys. uses_along new (ys ++ flat_map (moved_to w f) xs)) s.is
+          ∙ (λ k. stands_same x.role x.port (stays_node x s) not_lit k ++ more k)
+          ∙ sym (ap (uses_along w) (same_test false (no_test (cases_Bool (same_inlet (lit_inlet f) x)))))
+        where
+          no_test : (same_inlet (lit_inlet f) x ≡ true) ⊎ (same_inlet (lit_inlet f) x ≡ false) → same_inlet (lit_inlet f) x ≡ false
+          no_test (inl e) = absurd (s.no_lit (same_inlet-true _ _ e))
+          no_test (inr e) = e
+
+          not_lit : x.role ≡ lit → ⊥
+          not_lit e = let k = ap (λ x. one (same_inlet at_lit x)) (of_lit x wire.is_inlet e) ∙ one_same at_lit in omega (arith, l, k)
+
+  once : (x : Inlet) (q : Role) → IsInlet b w x → IsThere b w q → is_instr q ≡ true → (q ≡ End → ⊥) → 0 < hits x (w.wire q) → hits x (w.wire q) ≡ 1
+  once x q i h instr before some =
+      let few = few_outs no_flow b w laws x q h (laws.fed x i) in let a = outs_hits w q x in let s = ap (hits x) (sends_wire w q instr before) in omega (arith, few, a, s, some)
+
+  -- what the operands stand for
+  abbrev number : Port → ℕ
+  number Left = 0
+  number Right = 1
+
+  stands_plain : (p : Port) → stands_for w (Line n) p ≡ own (operand n (number p)) ∷ []
+  stands_plain Left = ap (λ form. stands_as form n) can.as_it_is
+  stands_plain Right = refl
+
+  some_meant : (m : Meant) (ms : List Meant) → m ∷ ms ≡ [] → ⊥
+  some_meant m ms e = cc
+
+  loud_node : (p : Port) → stands_for w (Line n) p ≡ [] → ⊥
+  loud_node p e = some_meant _ [] (sym (stands_plain p) ∙ e)
+
+  no_forms : (form : Form) → w.form f.lit ≡ form → FitsForm b f.lit form
+  no_forms form e = subst (FitsForm b f.lit) e (laws.forms f.lit (line_below b w f.lit can.lit_there))
+
+  same_literal : (y : ℤ) → op_of b lit ≡ Program.Lit y → y ≡ z
+  same_literal y e = literals y z (sym e ∙ can.is_lit)
+    where
+      literals : (x y : ℤ) → Program.Lit x ≡ Program.Lit y → x ≡ y
+      literals x y e = cc
+
+  -- what comes to the literal's node settles into what it sends
+  abbrev sent : List Meant
+  sent = uses_along w (w.wire lit)
+
+  lit_uses : (form : Form) → w.form f.lit ≡ form → Settles b (sends_as form (all_uses b f.lit)) sent
+  lit_uses form e = subst (λ form. Settles b (sends_as form (all_uses b f.lit)) sent) e (laws.uses lit can.lit_there)
+
+  lit_settles : (form : Form) → w.form f.lit ≡ form → Settles b (stands_as form f.lit) (map (given_as z) sent)
+  lit_settles AsItIs e =
+      settles_then b (own (operand f.lit 0) ∷ []) (map (given_as z) (all_uses b f.lit)) (map (given_as z) sent)
+      (settles_last b (own (operand f.lit 0) ∷ []) (map (given_as z) (all_uses b f.lit) ++ []) (map (given_as z) (all_uses b f.lit)) (settles_literal b f.lit z None [] (line_below b w f.lit can.lit_there, can.is_lit)) (IsPermutation-same _ _ (append-nil _)))
+      (settles_given b z (all_uses b f.lit) sent (lit_uses AsItIs e))
+  lit_settles (OnRight y) e = absurd (true≢false (sym (no_forms (OnRight y) e) ∙ lit_one))
+  lit_settles (OnLeft y) e = absurd (true≢false (sym (no_forms (OnLeft y) e) ∙ lit_one))
+  lit_settles (Settled y ys) e =
+      subst (λ y. Settles b (map (given_as y) ys) (map (given_as z) sent)) (sym (same_literal y (no_forms (Settled y ys) e))) (settles_given b z ys sent (lit_uses (Settled y ys) e))
+  lit_settles Gone e = absurd (subst (λ form. there_as form (f.lit < node_count b)) e can.lit_there)
+
+  -- it sends to the operator, and elsewhere
+  sent_parts : IsPermutation sent (own (operand n (number f.side)) ∷ us)
+  sent_parts = at_last (flat_map-IsPermutation (λ (x : Inlet). stands_for w x.role x.port) _ _ (taken_out (lit_inlet f) (w.wire lit) (once (lit_inlet f) lit (node_inlet f.side) can.lit_there refl (λ e. cc) can.from_lit)))
+      (ap (λ l. l ++ us) (stands_plain f.side))
+
+  loud_lit : stands_for w lit Left ≡ [] → ⊥
+  loud_lit e = none (map (given_as z) sent) (settles_none b (stands_for w lit Left) (map (given_as z) sent) (lit_settles (w.form f.lit) refl) e)
+    where
+      none : (ms : List Meant) → map (given_as z) sent ≡ [] → ⊥
+      none ms q = let k = length_permutation _ _ sent_parts in let m = empty sent q in let s = ap length m in omega (arith, k, s)
+        where
+          empty : (ms : List Meant) → map (given_as z) ms ≡ [] → ms ≡ []
+          empty [] e = refl
+          empty (x ∷ xs) e = absurd (some_meant _ _ e)
+
+  -- other parts
+  clear_other : (q : Role) → IsThere b w q → (q ≡ r → ⊥) → hits (other_inlet f) (w.wire q) ≡ 0
+  clear_other q h d = clear (other_inlet f) r (node_inlet (other f.side)) can.there node_by_r (loud_node (other f.side)) q h d
+
+  clear_at_lit : (q : Role) → IsThere b w q → (q ≡ r → ⊥) → hits at_lit (w.wire q) ≡ 0
+  clear_at_lit q h d = clear at_lit r lit_inlet_in can.there lit_by_r loud_lit q h d
+
+  clear_lit : (q : Role) → IsThere b w q → (q ≡ lit → ⊥) → hits (lit_inlet f) (w.wire q) ≡ 0
+  clear_lit q h d = clear (lit_inlet f) lit (node_inlet f.side) can.lit_there node_by_lit (loud_node f.side) q h d
+
+  along_other : (q : Role) → IsThere b w q → (q ≡ r → ⊥) → uses_along new (new.wire q) ≡ uses_along w (without (lit_inlet f) (w.wire q))
+  along_other q h d = along_clear q (w.wire q) (laws.wires q h) (clear_other q h d) (clear_at_lit q h d)
+
+  uses_same : (q : Role) → (q ≡ lit → ⊥) → uses_for b new q ≡ uses_for b w q
+  uses_same (Line m) d =
+      by_node (λ m. (Line m ≡ lit → ⊥) → uses_for b new (Line m) ≡ uses_for b w (Line m)) m
+      (λ d. ap (λ form. sends_as form (all_uses b n)) form_node ∙ side_sends f.side ∙ sym (ap (λ form. sends_as form (all_uses b n)) can.as_it_is))
+      (λ d. absurd (d refl)) (λ d g k. ap (λ form. sends_as form (all_uses b m)) (form_else m d g)) d
+    where
+      side_sends : (p : Port) → sends_as (side_form p z) (all_uses b n) ≡ all_uses b n
+      side_sends Left = refl
+      side_sends Right = refl
+  uses_same Start d = refl
+  uses_same (Result j) d = refl
+  uses_same (Join k) d = refl
+  uses_same (Copy c k) d = refl
+  uses_same End d = refl
+  uses_same (Shown j) d = refl
+  uses_same Done d = refl
+  uses_same Freed d = refl
+
+  -- the source
+  abbrev rest : List Inlet
+  rest = without at_lit (without (other_inlet f) (w.wire r))
+
+  source_wires : IsPermutation (w.wire r) (other_inlet f ∷ at_lit ∷ rest)
+  source_wires =
+      let first = taken_out (other_inlet f) (w.wire r) (once (other_inlet f) r (node_inlet (other f.side)) can.there can.instr can.before can.to_node) in
+      let c = total-IsPermutation (λ y. one (same_inlet at_lit y)) _ _ first in
+      let m = miss at_lit (other_inlet f) (lit_no_node (other f.side)) in
+      let o = once at_lit r lit_inlet_in can.there can.instr can.before can.to_lit in
+      IsPermutation-trans _ _ _ first (IsPermutation-cons (other_inlet f) _ _ (taken_out at_lit (without (other_inlet f) (w.wire r)) (omega (arith, c, m, o))))
+
+  rest_wires : All (IsWire b w r) rest
+  rest_wires = All-tail (IsWire b w r) at_lit rest (All-tail (IsWire b w r) (other_inlet f) (at_lit ∷ rest) (All-permutation (IsWire b w r) _ _ source_wires (laws.wires r can.there)))
+
+  count_rest : (x : Inlet) → hits x (w.wire r) ≡ one (same_inlet x (other_inlet f)) + (one (same_inlet x at_lit) + hits x rest)
+  count_rest x = total-IsPermutation (λ y. one (same_inlet x y)) _ _ source_wires
+
+  along_rest : uses_along new (flat_map (moved_to w f) rest) ≡ uses_along w rest
+  along_rest =
+      let c = count_rest (other_inlet f) in let o = once (other_inlet f) r (node_inlet (other f.side)) can.there can.instr can.before can.to_node in let s = one_same (other_inlet f) in
+      let c' = count_rest at_lit in let o' = once at_lit r lit_inlet_in can.there can.instr can.before can.to_lit in let s' = one_same at_lit in
+      let c'' = count_rest (lit_inlet f) in let o'' = clear_lit r can.there (λ e. r_apart (sym e)) in
+      along_clear r rest rest_wires (omega (arith, c, o, s)) (omega (arith, c', o', s')) ∙ ap (uses_along w) (without_none (lit_inlet f) rest (omega (arith, c'', o'')))
+
+  -- where the literal's node leaves, it sends to nothing else
+  none_left : leaves w f ≡ true → us ≡ []
+  none_left l =
+      let p = taken_out (lit_inlet f) (w.wire lit) (once (lit_inlet f) lit (node_inlet f.side) can.lit_there refl (λ e. cc) can.from_lit) in
+      let len = length_permutation _ _ p in let one_long = eqb-true _ _ l in
+      ap (uses_along w) (none (without (lit_inlet f) (w.wire lit)) (omega (arith, len, one_long)))
+    where
+      none : (ys : List Inlet) → length ys ≡ 0 → ys ≡ []
+      none [] e = refl
+      none (y ∷ ys) e = absurd (omega (arith, e))
+
+  along_at_lit : uses_along new (moved_to w f at_lit) ≡ map (given_as z) us
+  along_at_lit = here (case at_lit) (cases_Bool (leaves w f))
+    where
+      here : Case at_lit → (leaves w f ≡ true) ⊎ (leaves w f ≡ false) → uses_along new (moved_to w f at_lit) ≡ map (given_as z) us
+      here (AtLit e m) k = absurd (lit_no_node f.side (sym e))
+      here (AtOther e m) k = absurd (lit_no_node (other f.side) (sym e))
+      here (AtGone e l m) k = ap (uses_along new) m ∙ sym (ap (map (given_as z)) (none_left l))
+      here (Elsewhere s) (inl l) = absurd (s.no_gone l refl)
+      here (Elsewhere s) (inr l) = ap (uses_along new) s.is ∙ append-nil _ ∙ ap (λ form. stands_as form f.lit) (lit_settled l)
+
+  along_other_inlet : uses_along new (moved_to w f (other_inlet f)) ≡ stands_as (side_form f.side z) n
+  along_other_inlet = here (case (other_inlet f))
+    where
+      here : Case (other_inlet f) → uses_along new (moved_to w f (other_inlet f)) ≡ stands_as (side_form f.side z) n
+      here (AtLit e m) = absurd (sides e)
+      here (AtOther e m) = ap (uses_along new) m ∙ append-nil _ ∙ ap (λ form. stands_as form n) form_node
+      here (AtGone e l m) = absurd (lit_no_node (other f.side) e)
+      here (Elsewhere s) = absurd (s.no_other refl)
+
+  abbrev mine : List Meant
+  mine = own (operand n (number (other f.side))) ∷ []
+
+  abbrev its : List Meant
+  its = (operand n (number f.side), Some z) ∷ []
+
+  both_operands : (p : Port) → IsPermutation ((operand n (number p), Some z) ∷ own (operand n (number (other p))) ∷ []) (stands_as (side_form p z) n)
+  both_operands Left = IsPermutation-refl _
+  both_operands Right = shuffled (((operand n 1, Some z) ∷ []) ∷ (own (operand n 0) ∷ []) ∷ []) (Part 0 ⊕ Part 1) (Part 1 ⊕ Part 0) refl
+
+  along_source : IsPermutation (uses_along new (new.wire r)) (stands_as (side_form f.side z) n ++ (map (given_as z) us ++ uses_along w rest))
+  along_source =
+      at_last (flat_map-IsPermutation (λ (x : Inlet). stands_for new x.role x.port) _ _ (flat_map-IsPermutation (moved_to w f) _ _ source_wires))
+      (flat_map-append (λ (x : Inlet). stands_for new x.role x.port) (moved_to w f (other_inlet f)) (moved_to w f at_lit ++ flat_map (moved_to w f) rest)
+      ∙ ap (λ l. l ++ uses_along new (moved_to w f at_lit ++ flat_map (moved_to w f) rest)) along_other_inlet
+      ∙ ap (λ l. stands_as (side_form f.side z) n ++ l) (flat_map-append (λ (x : Inlet). stands_for new x.role x.port) (moved_to w f at_lit) (flat_map (moved_to w f) rest)
+      ∙ (λ k. along_at_lit k ++ along_rest k)))
+
+  source_uses : Settles b (uses_for b new r) (uses_along new (new.wire r))
+  source_uses =
+      let S = stands_for w lit Left in
+      let C = uses_along w rest in
+      let G = map (given_as z) sent in
+      let A = stands_as (side_form f.side z) n in
+      let B = map (given_as z) us in
+      let was : IsPermutation (uses_along w (w.wire r)) (mine ++ (S ++ C)) =
+      at_last (flat_map-IsPermutation (λ (x : Inlet). stands_for w x.role x.port) _ _ source_wires) (ap (λ l. l ++ (S ++ C)) (stands_plain (other f.side))) in
+      let begun : Settles b (uses_for b w r) (S ++ (mine ++ C)) =
+      settles_last b (uses_for b w r) (uses_along w (w.wire r)) (S ++ (mine ++ C)) (laws.uses r can.there)
+      (IsPermutation-trans _ _ _ was (shuffled (mine ∷ S ∷ C ∷ []) (Part 0 ⊕ (Part 1 ⊕ Part 2)) (Part 1 ⊕ (Part 0 ⊕ Part 2)) refl)) in
+      let acted : Settles b (S ++ (mine ++ C)) (G ++ (mine ++ C)) = settles_beside b S G (mine ++ C) (lit_settles (w.form f.lit) refl) in
+      let parts : IsPermutation (G ++ (mine ++ C)) ((its ++ B) ++ (mine ++ C)) = IsPermutation-append_left (mine ++ C) G (its ++ B) (IsPermutation-map (given_as z) _ _ sent_parts) in
+      let ordered : IsPermutation ((its ++ B) ++ (mine ++ C)) ((its ++ mine) ++ (B ++ C)) = shuffled (its ∷ B ∷ mine ∷ C ∷ []) ((Part 0 ⊕ Part 1) ⊕ (Part 2 ⊕ Part 3)) ((Part 0 ⊕ Part 2) ⊕ (Part 1 ⊕ Part 3)) refl in
+      let last : IsPermutation ((its ++ mine) ++ (B ++ C)) (A ++ (B ++ C)) = IsPermutation-append_left (B ++ C) (its ++ mine) A (both_operands f.side) in
+      let now : IsPermutation (G ++ (mine ++ C)) (uses_along new (new.wire r)) =
+      IsPermutation-trans _ _ _ parts (IsPermutation-trans _ _ _ ordered (IsPermutation-trans _ _ _ last (IsPermutation-sym _ _ along_source))) in
+      subst (λ us. Settles b us (uses_along new (new.wire r))) (sym (uses_same r (λ e. r_apart (sym e))))
+      (settles_then b (uses_for b w r) (S ++ (mine ++ C)) (uses_along new (new.wire r)) begun (settles_last b (S ++ (mine ++ C)) (G ++ (mine ++ C)) (uses_along new (new.wire r)) acted now))
+
+  uses : (q : Role) → IsThere b new q → Settles b (uses_for b new q) (uses_along new (new.wire q))
+  uses q h = pick (is_source q) (is_lit q)
+    where
+      pick : (q ≡ r) ⊎ (q ≡ r → ⊥) → (q ≡ lit) ⊎ (q ≡ lit → ⊥) → Settles b (uses_for b new q) (uses_along new (new.wire q))
+      pick (inl e) l = subst (λ q. Settles b (uses_for b new q) (uses_along new (new.wire q))) (sym e) source_uses
+      pick (inr d) (inl e) =
+          let h' = subst (IsThere b new) e h in
+          subst (λ q. Settles b (uses_for b new q) (uses_along new (new.wire q))) (sym e)
+          (settles_same b _ _ (IsPermutation-same _ _ (ap (λ form. sends_as form (all_uses b f.lit)) (lit_settled (lit_stays h')) ∙ sym (along_other lit can.lit_there r_apart))))
+      pick (inr d) (inr g) =
+          subst (λ us. Settles b us (uses_along new (new.wire q))) (sym (uses_same q g))
+          (subst (Settles b (uses_for b w q)) (sym (along_other q (there_down q h) d ∙ ap (uses_along w) (without_none (lit_inlet f) (w.wire q) (clear_lit q (there_down q h) g)))) (laws.uses q (there_down q h)))
+
+  -- PROGRESS
+  leads_on : (q : Role) → IsThere b new q → is_instr q ≡ true → (q ≡ End) ⊎ ((x : Inlet) × (0 < hits x (new.wire q)))
+  leads_on q h i = pick (is_source q) (is_lit q)
+    where
+      stays : (x : Inlet) → (x.role ≡ Line n → ⊥) → (leaves w f ≡ true → x ≡ at_lit → ⊥) → (p : Role) → 0 < hits x (w.wire p) → 0 < hits x (new.wire p)
+      stays x d g p k = let m = moved_same x d g (w.wire p) in omega (arith, m, k)
+
+      -- what else the literal's node sends to
+      lit_more : leaves w f ≡ false → (x : Inlet) × (0 < hits x (new.wire lit))
+      lit_more l = from (without (lit_inlet f) (w.wire lit)) refl
+        where
+          p : IsPermutation (w.wire lit) (lit_inlet f ∷ without (lit_inlet f) (w.wire lit))
+          p = taken_out (lit_inlet f) (w.wire lit) (once (lit_inlet f) lit (node_inlet f.side) can.lit_there refl (λ e. cc) can.from_lit)
+
+          from : (ys : List Inlet) → without (lit_inlet f) (w.wire lit) ≡ ys → (x : Inlet) × (0 < hits x (new.wire lit))
+          from [] e = let len = length_permutation _ _ p in let s = ap length e in let one_long : length (w.wire lit) ≡ 1 = omega (arith, len, s) in absurd (true≢false (sym (eq-eqb _ _ one_long) ∙ l))
+          from (y ∷ ys) e = (y, stays y not_node (λ g. absurd (true≢false (sym g ∙ l))) lit y_some)
+            where
+              count : (x : Inlet) → hits x (w.wire lit) ≡ one (same_inlet x (lit_inlet f)) + (one (same_inlet x y) + hits x ys)
+              count x = total-IsPermutation (λ u. one (same_inlet x u)) _ _ (at_last p (ap (λ l. lit_inlet f ∷ l) e))
+
+              y_some : 0 < hits y (w.wire lit)
+              y_some = let c = count y in let o = one_same y in omega (arith, c, o)
+
+              not_node : y.role ≡ Line n → ⊥
+              not_node s = by_side (of_node y s)
+                where
+                  by_side : (y ≡ lit_inlet f) ⊎ (y ≡ other_inlet f) → ⊥
+                  by_side (inl s) =
+                      let c = count (lit_inlet f) in let o = one_same (lit_inlet f) in let m = ap (λ y. one (same_inlet (lit_inlet f) y)) s ∙ one_same (lit_inlet f) in
+                      let k = once (lit_inlet f) lit (node_inlet f.side) can.lit_there refl (λ e. cc) can.from_lit in omega (arith, c, o, m, k)
+                  by_side (inr s) = let k = clear_other lit can.lit_there r_apart in let m = ap (λ y. hits y (w.wire lit)) s in omega (arith, k, m, y_some)
+
+      others : (q ≡ r → ⊥) → (q ≡ lit → ⊥) → (q ≡ End) ⊎ ((x : Inlet) × (0 < hits x (w.wire q))) → (q ≡ End) ⊎ ((x : Inlet) × (0 < hits x (new.wire q)))
+      others d g (inl e) = inl e
+      others d g (inr (x, k)) = inr (x, stays x not_node (λ l e. let s = ap (λ x. hits x (w.wire q)) e in let c = clear_at_lit q (there_down q h) d in omega (arith, s, c, k)) q k)
+        where
+          not_node : x.role ≡ Line n → ⊥
+          not_node s = by_side (of_node x s)
+            where
+              by_side : (x ≡ lit_inlet f) ⊎ (x ≡ other_inlet f) → ⊥
+              by_side (inl e) = let c = clear_lit q (there_down q h) g in let m = ap (λ x. hits x (w.wire q)) e in omega (arith, c, m, k)
+              by_side (inr e) = let c = clear_other q (there_down q h) d in let m = ap (λ x. hits x (w.wire q)) e in omega (arith, c, m, k)
+
+      pick : (q ≡ r) ⊎ (q ≡ r → ⊥) → (q ≡ lit) ⊎ (q ≡ lit → ⊥) → (q ≡ End) ⊎ ((x : Inlet) × (0 < hits x (new.wire q)))
+      pick (inl e) l = inr (at_node, let m = moved_node (w.wire q) in let k = can.to_node in let s = ap (λ q. hits (other_inlet f) (w.wire q)) e in omega (arith, m, k, s))
+      pick (inr d) (inl e) = inr (let m = lit_more (lit_stays (subst (IsThere b new) e h)) in (m.0, let s = ap (λ q. hits m.0 (new.wire q)) e in let k = m.1 in omega (arith, s, k)))
+      pick (inr d) (inr g) = others d g (laws.leads_on q (there_down q h) i)
+
+  side_fits : (p : Port) → FitsForm b n (side_form p z)
+  side_fits Left = can.two
+  side_fits Right = can.two
+
+  fits_lit : (leaves w f ≡ true) ⊎ (leaves w f ≡ false) → FitsForm b f.lit (new.form f.lit)
+  fits_lit (inl l) = subst (FitsForm b f.lit) (sym (lit_gone l)) tt
+  fits_lit (inr l) = subst (FitsForm b f.lit) (sym (lit_settled l)) can.is_lit
+
+  forms : (m : ℕ) → m < node_count b → FitsForm b m (new.form m)
+  forms m h = by_node (λ m. m < node_count b → FitsForm b m (new.form m)) m (λ h. subst (FitsForm b n) (sym form_node) (side_fits f.side)) (λ h. fits_lit (cases_Bool (leaves w f))) (λ d g h. subst (FitsForm b m) (sym (form_else m d g)) (laws.forms m h)) h
+
+  inputs : (m : ℕ) → m < b.inputs → new.form m ≡ AsItIs
+  inputs m h = form_else m not_node not_lit ∙ laws.inputs m h
+    where
+      none : node_at b m ≡ None
+      none = ap (λ (t : Bool). if t then None else slice_get b.nodes (m - b.inputs)) (lt-ltb m b.inputs h)
+
+      not_node : m ≡ n → ⊥
+      not_node e = true≢false (sym can.two ∙ ap (λ m. is_two b (Line m)) (sym e) ∙ ap is_pair_at none)
+
+      copy_lit : Program.Copy ≡ Program.Lit z → ⊥
+      copy_lit e = cc
+
+      not_lit : m ≡ f.lit → ⊥
+      not_lit e = copy_lit (sym (ap op_at none) ∙ ap (λ m. op_of b (Line m)) e ∙ can.is_lit)
+
+  -- ONE LITERAL OPERAND MORE
+  pub fold_wired : IsWired b new
+  fold_wired = record {
+    wires = λ q h. wires_moved q (w.wire q) (laws.wires q (there_down q h));
+    fed = fed;
+    uses = uses;
+    leads_on = leads_on;
+    highest = λ q h i. laws.highest q (there_down q h) i;
+    forms = forms;
+    inputs = inputs;
+  }
