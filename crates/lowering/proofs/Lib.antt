@@ -39,6 +39,7 @@ pub mod StraightWired
 pub mod StraightProgram
 pub mod OneCopyMore
 pub mod OneFoldMore
+pub mod ManyFolds
 pub mod StraightPlanned
 -- the theorem
 pub mod Theorem

@@ -22,7 +22,7 @@ use Rattle.lowering.proofs.StraightWired.{wire_rises}
 use Rattle.lowering.proofs.StraightFed.{lines_miss}
 
 -- INLETS
-miss : (y x : Inlet) → (y ≡ x → ⊥) → one (same_inlet y x) ≡ 0
+pub miss : (y x : Inlet) → (y ≡ x → ⊥) → one (same_inlet y x) ≡ 0
 miss y x d = pick (one-cases (same_inlet y x))
   where
     pick : ((same_inlet y x ≡ true) × (one (same_inlet y x) ≡ 1)) ⊎ ((same_inlet y x ≡ false) × (one (same_inlet y x) ≡ 0)) → one (same_inlet y x) ≡ 0
@@ -36,13 +36,13 @@ nothing_of : (k : ℕ) → (0 < k → ⊥) → k ≡ 0
 nothing_of zero h = refl
 nothing_of (suc k) h = absurd (h (omega arith))
 
-both_sides : (p q : Port) → (p ≡ q) ⊎ (p ≡ other q)
+pub both_sides : (p q : Port) → (p ≡ q) ⊎ (p ≡ other q)
 both_sides Left Left = inl refl
 both_sides Right Right = inl refl
 both_sides Left Right = inr refl
 both_sides Right Left = inr refl
 
-sides_apart : (p : Port) → p ≡ other p → ⊥
+pub sides_apart : (p : Port) → p ≡ other p → ⊥
 sides_apart Left e = cc
 sides_apart Right e = cc
 
@@ -162,17 +162,17 @@ module _ (b : Block ℕ) (w : Wiring) (laws : IsWired b w) (f : Fold) (can : Can
   node_inlet : (p : Port) → IsInlet b w (inlet (Line n) p)
   node_inlet p = record { there = node_there; port = inr node_waits }
 
-  lit_one : is_two b lit ≡ false
+  pub lit_one : is_two b lit ≡ false
   lit_one = lit_alone (node_at b f.lit) z can.is_lit
 
   lit_inlet_in : IsInlet b w at_lit
   lit_inlet_in = record { there = can.lit_there; port = inl refl }
 
-  lit_apart : f.lit ≡ n → ⊥
+  pub lit_apart : f.lit ≡ n → ⊥
   lit_apart e = true≢false (sym can.two ∙ ap (λ m. is_two b (Line m)) (sym e) ∙ lit_one)
 
   -- an inlet of the literal's node is its left one
-  of_lit : (x : Inlet) → IsInlet b w x → x.role ≡ lit → x ≡ at_lit
+  pub of_lit : (x : Inlet) → IsInlet b w x → x.role ≡ lit → x ≡ at_lit
   of_lit x i e = (λ k. record { role = e k; port = left i.port k })
     where
       left : (x.port ≡ Left) ⊎ (waits b w x.role ≡ true) → x.port ≡ Left
@@ -196,13 +196,13 @@ module _ (b : Block ℕ) (w : Wiring) (laws : IsWired b w) (f : Fold) (can : Can
   sides e = sides_apart f.side (ap (λ (x : Inlet). x.port) e)
 
   -- what becomes of an inlet
-  record Stays (x : Inlet) : Type 0 where
-    no_lit : lit_inlet f ≡ x → ⊥
-    no_other : other_inlet f ≡ x → ⊥
-    no_gone : leaves w f ≡ true → at_lit ≡ x → ⊥
-    is : moved_to w f x ≡ x ∷ []
+  pub record Stays (x : Inlet) : Type 0 where
+    pub no_lit : lit_inlet f ≡ x → ⊥
+    pub no_other : other_inlet f ≡ x → ⊥
+    pub no_gone : leaves w f ≡ true → at_lit ≡ x → ⊥
+    pub is : moved_to w f x ≡ x ∷ []
 
-  data Case (x : Inlet) : Type 0 where
+  pub data Case (x : Inlet) : Type 0 where
     AtLit : lit_inlet f ≡ x → moved_to w f x ≡ [] → Case x
     AtOther : other_inlet f ≡ x → moved_to w f x ≡ at_node ∷ [] → Case x
     AtGone : at_lit ≡ x → leaves w f ≡ true → moved_to w f x ≡ [] → Case x
@@ -211,7 +211,7 @@ module _ (b : Block ℕ) (w : Wiring) (laws : IsWired b w) (f : Fold) (can : Can
   abbrev by_tests : Bool → Bool → Bool → Inlet → List Inlet
   by_tests s t u x = if s then [] else if t then at_node ∷ [] else if u then [] else x ∷ []
 
-  case : (x : Inlet) → Case x
+  pub case : (x : Inlet) → Case x
   case x = pick (cases_Bool (same_inlet (lit_inlet f) x)) (cases_Bool (same_inlet (other_inlet f) x)) (cases_Bool (leaves w f)) (cases_Bool (same_inlet at_lit x))
     where
       and_no : (t : Bool) → (t && false) ≡ false
@@ -313,7 +313,7 @@ module _ (b : Block ℕ) (w : Wiring) (laws : IsWired b w) (f : Fold) (can : Can
       pick k (inr quiet) = loud (silent w x (w.wire q) (settles_none b _ _ (laws.uses q g) quiet) k)
 
   -- FORMS
-  form_node : new.form n ≡ side_form f.side z
+  pub form_node : new.form n ≡ side_form f.side z
   form_node = ap (λ (t : Bool). if t then side_form f.side z else if n == f.lit then lit_form w f else w.form n) (eq-eqb n n refl)
 
   form_lit : new.form f.lit ≡ lit_form w f
@@ -321,7 +321,7 @@ module _ (b : Block ℕ) (w : Wiring) (laws : IsWired b w) (f : Fold) (can : Can
       ap (λ (t : Bool). if t then side_form f.side z else if f.lit == f.lit then lit_form w f else w.form f.lit) (ne_eqb f.lit n lit_apart)
       ∙ ap (λ (t : Bool). if t then lit_form w f else w.form f.lit) (eq-eqb f.lit f.lit refl)
 
-  form_else : (m : ℕ) → (m ≡ n → ⊥) → (m ≡ f.lit → ⊥) → new.form m ≡ w.form m
+  pub form_else : (m : ℕ) → (m ≡ n → ⊥) → (m ≡ f.lit → ⊥) → new.form m ≡ w.form m
   form_else m d g =
       ap (λ (t : Bool). if t then side_form f.side z else if m == f.lit then lit_form w f else w.form m) (ne_eqb m n d)
       ∙ ap (λ (t : Bool). if t then lit_form w f else w.form m) (ne_eqb m f.lit g)
@@ -329,10 +329,10 @@ module _ (b : Block ℕ) (w : Wiring) (laws : IsWired b w) (f : Fold) (can : Can
   abbrev us : List Meant
   us = uses_along w (without (lit_inlet f) (w.wire lit))
 
-  lit_gone : leaves w f ≡ true → new.form f.lit ≡ Gone
+  pub lit_gone : leaves w f ≡ true → new.form f.lit ≡ Gone
   lit_gone l = form_lit ∙ ap (λ (t : Bool). if t then Gone else Settled z us) l
 
-  lit_settled : leaves w f ≡ false → new.form f.lit ≡ Settled z us
+  pub lit_settled : leaves w f ≡ false → new.form f.lit ≡ Settled z us
   lit_settled l = form_lit ∙ ap (λ (t : Bool). if t then Gone else Settled z us) l
 
   -- what holds of a node, whichever it is
@@ -354,7 +354,7 @@ module _ (b : Block ℕ) (w : Wiring) (laws : IsWired b w) (f : Fold) (can : Can
   new_lit : leaves w f ≡ false → IsThere b new lit
   new_lit l = subst (λ form. there_as form (f.lit < node_count b)) (sym (lit_settled l)) (line_below b w f.lit can.lit_there)
 
-  there_down : (q : Role) → IsThere b new q → IsThere b w q
+  pub there_down : (q : Role) → IsThere b new q → IsThere b w q
   there_down (Line m) h = by_node (λ m. IsThere b new (Line m) → IsThere b w (Line m)) m (λ h. node_there) (λ h. can.lit_there) (λ d g h. subst (λ form. there_as form (m < node_count b)) (form_else m d g) h) h
   there_down Start h = h
   there_down (Result j) h = h
@@ -365,7 +365,7 @@ module _ (b : Block ℕ) (w : Wiring) (laws : IsWired b w) (f : Fold) (can : Can
   there_down Done h = h
   there_down Freed h = h
 
-  there_up : (q : Role) → (leaves w f ≡ true → q ≡ lit → ⊥) → IsThere b w q → IsThere b new q
+  pub there_up : (q : Role) → (leaves w f ≡ true → q ≡ lit → ⊥) → IsThere b w q → IsThere b new q
   there_up (Line m) k h =
       by_node (λ m. (leaves w f ≡ true → Line m ≡ lit → ⊥) → IsThere b w (Line m) → IsThere b new (Line m)) m (λ k h. new_node) (λ k h. at (cases_Bool (leaves w f)) k)
       (λ d g k h. subst (λ form. there_as form (m < node_count b)) (sym (form_else m d g)) h) k h
