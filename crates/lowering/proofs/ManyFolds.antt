@@ -19,11 +19,11 @@ use Rattle.lowering.proofs.Forms.{line_below, is_there, lit_alone}
 use Rattle.lowering.proofs.OneFoldMore.{miss, both_sides, sides_apart, Stays, Case, AtLit, AtOther, AtGone, Elsewhere, case, form_node, form_else, lit_gone, lit_settled, there_down, there_up, of_lit, fold_wired}
 
 -- what is not hit by wires along which nothing comes
-none_hit : (x : Inlet) (xs : List Inlet) → xs ≡ [] → 0 < hits x xs → ⊥
+pub none_hit : (x : Inlet) (xs : List Inlet) → xs ≡ [] → 0 < hits x xs → ⊥
 none_hit x xs e h = let k = ap (hits x) e in omega (arith, h, k)
 
 -- an inlet that stays is still hit
-hits_through : (g : Inlet → List Inlet) (y : Inlet) → g y ≡ y ∷ [] → (xs : List Inlet) → 0 < hits y xs → 0 < hits y (flat_map g xs)
+pub hits_through : (g : Inlet → List Inlet) (y : Inlet) → g y ≡ y ∷ [] → (xs : List Inlet) → 0 < hits y xs → 0 < hits y (flat_map g xs)
 hits_through g y e [] h = absurd (omega (arith, h))
 hits_through g y e (x ∷ xs) h = pick (one-cases (same_inlet y x)) (hits_through g y e xs)
   where
@@ -58,21 +58,21 @@ lit_or : (o : Option (Node ℕ)) → ((z : ℤ) × (op_at o ≡ Program.Lit z)) 
 lit_or None = inr (λ z e. cc)
 lit_or (Some node) = kind_lit_or node.kind
 
-formed_lit : (f : Form) (z : ℤ) → formed f (Program.Lit z) ≡ Program.Lit z
+pub formed_lit : (f : Form) (z : ℤ) → formed f (Program.Lit z) ≡ Program.Lit z
 formed_lit AsItIs z = refl
 formed_lit (OnRight y) z = refl
 formed_lit (OnLeft y) z = refl
 formed_lit (Settled y us) z = refl
 formed_lit Gone z = refl
 
-not_gone : (f : Form) (A : Type 0) → there_as f A → is_gone f ≡ false
+pub not_gone : (f : Form) (A : Type 0) → there_as f A → is_gone f ≡ false
 not_gone AsItIs A h = refl
 not_gone (OnRight z) A h = refl
 not_gone (OnLeft z) A h = refl
 not_gone (Settled z us) A h = refl
 not_gone Gone A h = absurd h
 
-side_not_gone : (p : Port) (z : ℤ) → is_gone (side_form p z) ≡ false
+pub side_not_gone : (p : Port) (z : ℤ) → is_gone (side_form p z) ≡ false
 side_not_gone Left z = refl
 side_not_gone Right z = refl
 
@@ -475,6 +475,7 @@ module _ (b : Block ℕ) (w : Wiring) (folds : ℕ → Option Fold) (laws : IsWi
     wired = all.wired;
     wires = λ q h. all.wires q h ∙ flat_map_same (sent_to last.form (done_below (node_count b))) (sent_to last.form folds) (w.wire q) (λ x. same_sent x.role x.port);
     ops = ops;
+    forms = λ m f e. all.did m f (let a = are m f e in let node = a.0 in let k = a.1.below in omega (arith, node, k)) e;
     down = all.down;
     up = all.up;
   }

@@ -81,7 +81,7 @@ silent w x (y ∷ ys) e h = pick (one-cases (same_inlet x y)) (silent w x ys (bo
     pick (inl (s, o)) more = ap (λ (x : Inlet). stands_for w x.role x.port) (same_inlet-true x y s) ∙ (both (stands_for w y.role y.port) (uses_along w ys) e).0
     pick (inr (s, o)) more = more (omega (arith, h, o))
 
-extra_line : (n : ℕ) (p : Port) (q : Role) → hits (inlet (Line n) p) (extra q) ≡ 0
+pub extra_line : (n : ℕ) (p : Port) (q : Role) → hits (inlet (Line n) p) (extra q) ≡ 0
 extra_line n p Start = refl
 extra_line n p (Line m) = refl
 extra_line n p (Result j) = refl
@@ -92,7 +92,7 @@ extra_line n p (Shown j) = refl
 extra_line n p Done = refl
 extra_line n p Freed = refl
 
-sends_wire : (w : Wiring) (q : Role) → is_instr q ≡ true → (q ≡ End → ⊥) → sends w q ≡ w.wire q
+pub sends_wire : (w : Wiring) (q : Role) → is_instr q ≡ true → (q ≡ End → ⊥) → sends w q ≡ w.wire q
 sends_wire w Start i d = refl
 sends_wire w (Line n) i d = refl
 sends_wire w (Result j) i d = refl
@@ -129,6 +129,13 @@ waits_never Gone = refl
 -- any graph
 abbrev no_flow : Flow
 no_flow = record { version = 0; arrays = []; blocks = []; main = 0 }
+
+-- two instructions whose wires lead to one inlet are one
+pub fed_once : (b : Block ℕ) (w : Wiring) → IsWired b w → (x : Inlet) (q p : Role) → IsInlet b w x → IsThere b w q → IsThere b w p → is_instr q ≡ true → (q ≡ End → ⊥) → is_instr p ≡ true → (p ≡ End → ⊥)
+    → 0 < hits x (w.wire q) → 0 < hits x (w.wire p) → q ≡ p
+fed_once b w laws x q p i h g iq dq ip dp k m =
+    let a = outs_hits w q x in let s = ap (hits x) (sends_wire w q iq dq) in let a' = outs_hits w p x in let s' = ap (hits x) (sends_wire w p ip dp) in
+    one_feeder no_flow b w laws x q p h g (laws.fed x i) (omega (arith, a, s, k)) (omega (arith, a', s', m))
 
 module _ (b : Block ℕ) (w : Wiring) (laws : IsWired b w) (f : Fold) (can : CanFold b w f) where
   abbrev n : ℕ

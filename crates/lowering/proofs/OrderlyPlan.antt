@@ -31,7 +31,7 @@ use Rattle.lowering.proofs.History.{Feeds, SomeFeeds}
 use Rattle.lowering.proofs.Ports.{IsAt}
 
 -- MEMBERS
-contains_image : {X Y : Type 0} (f : X → Y) (xs : List X) (x : X) → Contains xs x → Contains (map f xs) (f x)
+pub contains_image : {X Y : Type 0} (f : X → Y) (xs : List X) (x : X) → Contains xs x → Contains (map f xs) (f x)
 contains_image f [] x c = absurd (contains_none x c)
 contains_image f (y ∷ xs) x c = pick (contains_cases y xs x c) (contains_image f xs x)
   where
@@ -39,7 +39,7 @@ contains_image f (y ∷ xs) x c = pick (contains_cases y xs x c) (contains_image
     pick (inl e) more = subst (λ z. Contains (f y ∷ map f xs) (f z)) e (contains_head (f y) (map f xs))
     pick (inr k) more = contains_tail (f y) (map f xs) (f x) (more k)
 
-hits_contain : (x : Inlet) (xs : List Inlet) → 0 < hits x xs → Contains xs x
+pub hits_contain : (x : Inlet) (xs : List Inlet) → 0 < hits x xs → Contains xs x
 hits_contain x xs h = hits_all (Contains xs) x xs (All-contains_itself xs) h
 
 -- an item at an inlet that is counted

@@ -123,6 +123,7 @@ pub record HasFolds (b : Block ℕ) (w : Wiring) (folds : ℕ → Option Fold) (
   pub wires : (q : Role) → IsThere b w q → new.wire q ≡ flat_map (sent_to new.form folds) (w.wire q)
   -- operators have the literals, and all else is as it was
   pub ops : (q : Role) → IsThere b w q → op_in b new q ≡ formed (fold_form (fold_of folds q)) (op_in b w q)
+  pub forms : (n : ℕ) (f : Fold) → folds n ≡ Some f → new.form n ≡ side_form f.side f.literal
   -- a part is left out if it sends to nothing any more
   pub down : (q : Role) → IsThere b new q → IsThere b w q
   pub up : (q : Role) → IsThere b w q → IsThere b new q ⊎ (new.wire q ≡ [])
