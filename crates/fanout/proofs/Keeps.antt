@@ -312,7 +312,7 @@ module _ (version number : ℕ) (b : Block ℕ) (c : CodeBlock) (w0 : Wiring) (l
       let at = there_is r h i in
       let there = slice_get_within is (l0.place r) (part r) at in
       let m = place_tied ts 0 0 0 is (l0.place r) (place_of l (l0.place r)) (λ k u. let z : 0 + k ≡ k = omega arith in ap (is_tied ts) z ∙ entry_tied p c.inputs is linkless k (omega (arith, low, u)) (omega (arith, there, u)))
-          (place_is ts is all (l0.place r) (part r) at) in
+      (place_is ts is all (l0.place r) (part r) at) in
       (done.kept r h i).at ∙ omega (arith, m)
 
   start : done.spot Start ≡ 0

@@ -10,7 +10,7 @@ use Rattle.semantics.specs.Graph.{Block, Flow, node_at}
 use Rattle.semantics.specs.Meaning as Meaning
 use Rattle.semantics.specs.Meaning.{origin_at}
 use Rattle.semantics.specs.Machine.{put_at}
-use Rattle.lowering.specs.Roles.{Role, Start, Line, Result, Join, End, Shown, Done, Freed, same_role, same_inlet, Inlet, inlet, Item, item, one, total, hits, is_two, waits, ins, outs, given, lines_from, Wiring, each, zero_value, value_at, value_as, IsThere, IsInlet, IsWired, IsWire, IsFed, Copy}
+use Rattle.lowering.specs.Roles.{Role, Start, Line, Result, Join, End, Shown, Done, Freed, same_role, same_inlet, Inlet, inlet, Item, item, one, total, hits, waits, ins, outs, given, lines_from, Wiring, each, zero_value, value_at, value_as, IsThere, IsInlet, IsWired, IsWire, IsFed, Copy}
 use Rattle.lowering.proofs.Parts.{same_role-true, same_inlet-true, one-cases, one_same_role, held, held-each, hits_left}
 use Rattle.lowering.proofs.Forms.{input_there}
 use Rattle.lowering.proofs.Net.{NetConfig, IsLawful, IsNetSound, weigh}

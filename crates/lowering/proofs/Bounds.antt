@@ -9,7 +9,7 @@ use Rattle.tags.specs.declared.token.Port.TheVariants.{Left, Right}
 use Rattle.semantics.specs.Graph.{Block, Flow}
 use Rattle.semantics.specs.Program.{Program, CodeBlock, first_of}
 use Rattle.semantics.specs.Faithful.{largest}
-use Rattle.lowering.specs.Roles.{Role, Start, Line, Result, Join, End, Shown, Done, Freed, is_instr, same_inlet, Inlet, Item, one, total, hits, is_two, waits, Wiring, IsThere, IsInlet, Copy}
+use Rattle.lowering.specs.Roles.{Role, Start, Line, Result, Join, End, Shown, Done, Freed, is_instr, same_inlet, Inlet, Item, one, total, hits, waits, Wiring, IsThere, IsInlet, Copy}
 use Rattle.lowering.specs.Implements.{Layout}
 use Rattle.lowering.proofs.Placed.{IsPlaced, main_length}
 use Rattle.lowering.proofs.Orders.{total-append, total-map}

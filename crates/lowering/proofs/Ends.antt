@@ -15,7 +15,7 @@ use Rattle.semantics.specs.Program.{Program}
 use Rattle.semantics.specs.Rule.{token}
 use Rattle.semantics.specs.Machine.{Machine, Size, Events}
 use Rattle.semantics.specs.Faithful.{IsRun}
-use Rattle.lowering.specs.Roles.{Role, Start, Line, Result, Join, End, Shown, Done, Freed, is_instr, same_role, same_inlet, Inlet, inlet, Item, one, hits, outs, given, is_two, waits, Wiring, IsThere, IsInlet, IsWire, IsWired, IsFed, Copy}
+use Rattle.lowering.specs.Roles.{Role, Start, Line, Result, Join, End, Shown, Done, Freed, is_instr, same_role, same_inlet, Inlet, inlet, Item, one, hits, outs, given, waits, Wiring, IsThere, IsInlet, IsWire, IsWired, IsFed, Copy}
 use Rattle.lowering.specs.Implements.{Layout}
 use Rattle.lowering.proofs.Placed.{IsPlaced, IsMain}
 use Rattle.lowering.proofs.Parts.{one_same, one_same_role, one-cases, same_inlet-true, held, same_role-refl, same_role-true}

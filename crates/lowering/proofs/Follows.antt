@@ -16,7 +16,7 @@ use Rattle.semantics.specs.Meaning.{State, Activity, Step, Run, Reached, start, 
 use Rattle.lowering.specs.Roles.{Role, Start, Line, Result, Join, End, Shown, Done, Freed, Inlet, Item, item, is_two, waits, waits_as, is_pair, is_pair_at, value_for, value_at, value_as, value_of, Wiring, each, zero_value, told, token_of, there_as, IsThere, IsInlet, IsWired, Meant, own, operand, literal_or, given_as, all_uses, sends_as, stands_as, stands_for, uses_along, uses_for, SettlesBy, Form, AsItIs, OnRight, OnLeft, Settled, Gone, FitsForm, Copy}
 use Rattle.lowering.specs.Implements.{IsStraightKind}
 use Rattle.lowering.proofs.Placed.{IsMain}
-use Rattle.lowering.proofs.Orders.{at_first, at_last, map-map, IsPermutation-same}
+use Rattle.lowering.proofs.Orders.{at_last, map-map, IsPermutation-same}
 use Rattle.lowering.proofs.NetFollows.{Simulates, state_of, run_join}
 use Rattle.lowering.proofs.Forms.{line_below, is_there, lit_alone, lit_value, waits_plain, waits_two}
 use Rattle.lowering.proofs.Settling.{settles_none}

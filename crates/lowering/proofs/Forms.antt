@@ -6,9 +6,8 @@ use Rattle.tags.specs.declared.value.Value.TheVariants.{Int}
 use Rattle.tags.specs.declared.value.Origin.{Origin}
 use Rattle.semantics.specs.declared.graph.Kind.{Kind}
 use Rattle.semantics.specs.declared.graph.Kind.TheVariants.{Lit, Apply1, Apply2}
-use Rattle.semantics.specs.Graph.{Block, Node, node_at, node_count}
+use Rattle.semantics.specs.Graph.{Block, Node, node_count}
 use Rattle.semantics.specs.declared.program.Op.TheVariants as Program
-use Rattle.semantics.specs.declared.program.Op.{Op}
 use Rattle.lowering.specs.Roles.{Role, Line, Form, AsItIs, OnRight, OnLeft, Settled, Gone, form_of, waits_as, waits, is_two, is_pair, is_pair_at, op_for, op_at, value_for, value_at, there_as, Wiring, IsThere, IsWired}
 
 -- a node that is there is one of the block

@@ -1,5 +1,5 @@
 -- What the machine does with a token at a part's instruction.
-use Rattle.std.proofs.Common.{◌≡◌, ℕ, ◌<◌, Bool, true, false, List, [], ◌∷◌, ◌++◌, map, refl, sym, ap, ◌∙◌, subst, true≢false, Option, Some, None, zero-add}
+use Rattle.std.proofs.Common.{◌≡◌, ℕ, Bool, true, false, List, [], ◌∷◌, ◌++◌, map, refl, sym, ap, ◌∙◌, subst, true≢false, Option, Some, None, zero-add}
 use Rattle.std.specs.Prelude.{IsPermutation, ℤ, ⊤}
 use Rattle.std.proofs.lemmas.List.Sorted.{IsPermutation-refl, IsPermutation-map, IsPermutation-cons}
 use Rattle.std.proofs.lemmas.List.Elements.{All-weaker}
@@ -14,7 +14,7 @@ use Rattle.tags.specs.declared.slot.SlotState.{SlotState}
 use Rattle.operators.specs.Values.{apply2}
 use Rattle.semantics.specs.declared.graph.Kind.{Kind}
 use Rattle.semantics.specs.declared.graph.Kind.TheVariants.{Lit, Apply1, Apply2}
-use Rattle.semantics.specs.Graph.{Block, Flow, Node, node_at, node_count}
+use Rattle.semantics.specs.Graph.{Block, Flow, Node, node_at}
 use Rattle.semantics.specs.Meaning as Meaning
 use Rattle.semantics.specs.Meaning.{origin_at}
 use Rattle.semantics.specs.declared.program.Op.TheVariants as Program

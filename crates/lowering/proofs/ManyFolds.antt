@@ -1,5 +1,5 @@
 -- All folds of a block, one after another.
-use Rattle.std.proofs.Common.{◌≡◌, ℕ, ℤ, zero, suc, ◌+◌, ◌<◌, ◌≤◌, Bool, true, false, List, [], ◌∷◌, ◌++◌, length, refl, sym, ap, ◌∙◌, subst, inl, inr, ◌⊎◌, arith, true≢false, Option, Some, None, ◌==◌, ◌&&◌, eq-eqb, eqb-true, nat_lt, lt-ltb, le-ltb, ltb-true, ltb-false, if◌then◌else◌, append-nil, append_assoc}
+use Rattle.std.proofs.Common.{◌≡◌, ℕ, ℤ, zero, suc, ◌+◌, ◌<◌, ◌≤◌, Bool, true, false, List, [], ◌∷◌, ◌++◌, length, refl, sym, ap, ◌∙◌, subst, inl, inr, ◌⊎◌, arith, true≢false, Option, Some, None, eqb-true, nat_lt, lt-ltb, le-ltb, ltb-true, ltb-false, if◌then◌else◌, append-nil}
 use Rattle.std.specs.Prelude.{All, flat_map}
 use Rattle.std.proofs.lemmas.Bool.{cases_Bool, cases_eq}
 use Rattle.std.proofs.lemmas.List.Concat.{flat_map-append}
@@ -10,13 +10,12 @@ use Rattle.semantics.specs.declared.graph.Kind.{Kind}
 use Rattle.semantics.specs.declared.graph.Kind.TheVariants.{Lit, Apply1, Apply2}
 use Rattle.semantics.specs.Graph.{Block, Node, node_at, node_count}
 use Rattle.semantics.specs.declared.program.Op.TheVariants as Program
-use Rattle.semantics.specs.declared.program.Op.{Op}
-use Rattle.lowering.specs.Roles.{Role, Start, Line, Result, Join, End, Copy, Shown, Done, Freed, same_role, same_port, same_inlet, Inlet, inlet, one, hits, is_two, op_for, op_at, op_of, op_in, formed, form_of, there_as, Form, AsItIs, OnRight, OnLeft, Settled, Gone, Wiring, IsThere, IsInlet, IsWire, IsWired}
+use Rattle.lowering.specs.Roles.{Role, Start, Line, Result, Join, End, Copy, Shown, Done, Freed, same_role, same_port, same_inlet, Inlet, inlet, one, hits, is_two, op_for, op_at, op_of, op_in, formed, there_as, Form, AsItIs, OnRight, OnLeft, Settled, Gone, Wiring, IsThere, IsInlet, IsWire, IsWired}
 use Rattle.lowering.specs.Folding.{other, Fold, lit_inlet, other_inlet, CanFold, leaves, moved_to, side_form, folded, fold_if, folds_below, AreFolds, all_folded, closed, port_to, is_gone, sent_at, sent_to, fold_form, fold_of, HasFolds}
 use Rattle.lowering.proofs.Orders.{total-append}
 use Rattle.lowering.proofs.Parts.{same_role-true, same_role-refl, same_inlet-true, same_port-refl, one-cases, one_same}
-use Rattle.lowering.proofs.Forms.{line_below, is_there, lit_alone}
-use Rattle.lowering.proofs.OneFoldMore.{miss, both_sides, sides_apart, Stays, Case, AtLit, AtOther, AtGone, Elsewhere, case, form_node, form_else, lit_gone, lit_settled, there_down, there_up, of_lit, fold_wired}
+use Rattle.lowering.proofs.Forms.{lit_alone}
+use Rattle.lowering.proofs.OneFoldMore.{both_sides, Case, AtLit, AtOther, AtGone, Elsewhere, case, form_node, form_else, lit_gone, lit_settled, there_down, there_up, of_lit, fold_wired}
 
 -- what is not hit by wires along which nothing comes
 pub none_hit : (x : Inlet) (xs : List Inlet) → xs ≡ [] → 0 < hits x xs → ⊥

@@ -18,7 +18,7 @@ use Rattle.semantics.specs.Program.{Program}
 use Rattle.semantics.specs.declared.program.Op.{Op}
 use Rattle.semantics.specs.Rule.{fires, meets, outcome_of, slot_of, fire_two, rule_at}
 use Rattle.semantics.specs.Machine.{Store, slot_in, slot_used, stuck_rule, excluded_by, host_rule, outputs_of, filled, unless_value}
-use Rattle.lowering.specs.Roles.{Role, Start, Line, Result, Join, End, Shown, Done, Freed, is_instr, same_inlet, Inlet, inlet, Item, item, one, is_two, waits, waits_as, Form, AsItIs, OnRight, OnLeft, Settled, Gone, formed, FitsForm, there_as, is_pair, is_pair_at, op_for, op_at, op_of, op_in, Wiring, word_at, IsThere, IsInlet, IsWired, Copy}
+use Rattle.lowering.specs.Roles.{Role, Start, Line, Result, Join, End, Shown, Done, Freed, is_instr, same_inlet, Inlet, inlet, Item, item, one, waits, waits_as, Form, AsItIs, OnRight, OnLeft, Settled, Gone, formed, FitsForm, there_as, is_pair, is_pair_at, op_for, op_at, op_in, Wiring, word_at, IsThere, IsInlet, IsWired, Copy}
 use Rattle.lowering.specs.Implements.{Layout, code_of}
 use Rattle.lowering.proofs.Placed.{IsPlaced}
 use Rattle.lowering.proofs.Parts.{one_same, held, roles_in}
@@ -85,11 +85,11 @@ module _ (fl : Flow) (p : Program) (b : Block ℕ) (w : Wiring) (l : Layout) (la
       by_kind k t = absurd (true≢false (sym t))
 
   line_at : (n : ℕ) (f : Form) → FitsForm b n f → there_as f ⊤ → waits_as f (is_pair_at (node_at b n)) ≡ false → (slot : SlotState) (v : Value) → Taken n (formed f (op_at (node_at b n))) slot v
-  line_at n AsItIs fits there two slot v = one_at n (node_at b n) two slot v
-  line_at n (OnRight z) fits there two slot v = right_at n z (node_at b n) fits slot v
-  line_at n (OnLeft z) fits there two slot v = left_at n z (node_at b n) fits slot v
-  line_at n (Settled z us) fits there two slot v = one_at n (node_at b n) (lit_alone (node_at b n) z fits) slot v
-  line_at n Gone fits there two slot v = absurd there
+  line_at n AsItIs shape there two slot v = one_at n (node_at b n) two slot v
+  line_at n (OnRight z) shape there two slot v = right_at n z (node_at b n) shape slot v
+  line_at n (OnLeft z) shape there two slot v = left_at n z (node_at b n) shape slot v
+  line_at n (Settled z us) shape there two slot v = one_at n (node_at b n) (lit_alone (node_at b n) z shape) slot v
+  line_at n Gone shape there two slot v = absurd there
 
   one_free : (r : Role) → IsThere b w r → is_instr r ≡ true → waits b w r ≡ false → (v : Value) → stuck_rule p store (To.Instr 0 (l.place r) Left) (word_at r Left v) ≡ None
   one_free Start h i two v = at_part Start h i Left (word_at Start Left v)

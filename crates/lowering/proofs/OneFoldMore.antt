@@ -1,25 +1,23 @@
 -- One literal operand more: the wires stay lawful.
-use Rattle.std.proofs.Common.{◌≡◌, ℕ, ℤ, zero, suc, ◌+◌, ◌-◌, ◌<◌, ◌≤◌, Bool, true, false, List, [], ◌∷◌, ◌++◌, map, length, refl, sym, ap, ◌∙◌, subst, inl, inr, ◌⊎◌, arith, true≢false, Option, Some, None, ◌==◌, ◌&&◌, eq-eqb, eqb-true, ne_eqb, lt-ltb, if◌then◌else◌, append-nil}
+use Rattle.std.proofs.Common.{◌≡◌, ℕ, ℤ, zero, suc, ◌+◌, ◌-◌, ◌<◌, Bool, true, false, List, [], ◌∷◌, ◌++◌, map, length, refl, sym, ap, ◌∙◌, subst, inl, inr, ◌⊎◌, arith, true≢false, Some, None, ◌==◌, ◌&&◌, eq-eqb, eqb-true, ne_eqb, lt-ltb, if◌then◌else◌, append-nil}
 use Rattle.std.specs.Prelude.{All, IsPermutation, flat_map, slice_get}
 use Rattle.std.proofs.lemmas.Bool.{cases_Bool, cases_eq}
-use Rattle.std.proofs.lemmas.List.{map-append}
 use Rattle.std.proofs.lemmas.List.Concat.{flat_map-append}
 use Rattle.std.proofs.lemmas.List.Sorted.{IsPermutation-refl, IsPermutation-sym, IsPermutation-trans, IsPermutation-cons, IsPermutation-map, IsPermutation-append_left, All-permutation, length_permutation}
 use Rattle.std.proofs.lemmas.List.Elements.{All-cons, All-nil, All-head, All-tail, All-append}
 use Rattle.tags.specs.declared.token.Port.{Port}
 use Rattle.tags.specs.declared.token.Port.TheVariants.{Left, Right}
-use Rattle.semantics.specs.Graph.{Block, Flow, Node, node_at, node_count}
+use Rattle.semantics.specs.Graph.{Block, Flow, node_at, node_count}
 use Rattle.semantics.specs.declared.program.Op.TheVariants as Program
-use Rattle.lowering.specs.Roles.{Role, Start, Line, Result, Join, End, Copy, Shown, Done, Freed, is_instr, same_role, same_inlet, Inlet, inlet, one, hits, is_two, is_pair_at, op_at, op_of, outs, given, Plain, comes_at, goes_from, Meant, own, operand, given_as, all_uses, sends_as, stands_as, stands_for, uses_along, uses_for, Settles, Form, AsItIs, OnRight, OnLeft, Settled, Gone, form_of, waits_as, waits, there_as, FitsForm, Wiring, IsThere, IsInlet, IsFed, IsWire, IsWired}
+use Rattle.lowering.specs.Roles.{Role, Start, Line, Result, Join, End, Copy, Shown, Done, Freed, is_instr, same_role, same_inlet, Inlet, inlet, one, hits, is_two, is_pair_at, op_at, op_of, outs, given, Plain, comes_at, goes_from, Meant, own, operand, given_as, all_uses, sends_as, stands_as, stands_for, uses_along, uses_for, Settles, Form, AsItIs, OnRight, OnLeft, Settled, Gone, waits_as, waits, there_as, FitsForm, Wiring, IsThere, IsInlet, IsFed, IsWire, IsWired}
 use Rattle.lowering.specs.Folding.{other, Fold, lit_inlet, other_inlet, CanFold, leaves, moved_to, side_form, without, lit_form, folded}
-use Rattle.lowering.proofs.Orders.{IsPermutation-same, at_first, at_last, flat_map-IsPermutation, total-append, total-IsPermutation, shuffled, Part, ◌⊕◌}
+use Rattle.lowering.proofs.Orders.{IsPermutation-same, at_last, flat_map-IsPermutation, total-append, total-IsPermutation, shuffled, Part, ◌⊕◌}
 use Rattle.lowering.proofs.Parts.{same_role-true, same_role-refl, same_inlet-true, same_inlet-refl, one-cases, one_same}
 use Rattle.lowering.proofs.Forms.{line_below, plain_there, lit_alone}
-use Rattle.lowering.proofs.Settling.{settles_same, settles_first, settles_last, settles_none, settles_then, settles_literal, settles_beside, settles_given}
+use Rattle.lowering.proofs.Settling.{settles_same, settles_last, settles_none, settles_then, settles_literal, settles_beside, settles_given}
 use Rattle.lowering.proofs.BlockNet.{one_feeder, few_outs}
 use Rattle.lowering.proofs.OneCopyMore.{extra, sends, outs_hits}
 use Rattle.lowering.proofs.StraightWired.{wire_rises}
-use Rattle.lowering.proofs.StraightFed.{lines_miss}
 
 -- INLETS
 pub miss : (y x : Inlet) → (y ≡ x → ⊥) → one (same_inlet y x) ≡ 0

@@ -6,7 +6,7 @@ use Rattle.std.proofs.lemmas.List.Sums.{sum-map, sum_by-cons}
 use Rattle.std.proofs.lemmas.List.Sorted.{IsPermutation-map}
 use Rattle.std.proofs.lemmas.Option.{slice_get_within}
 use Rattle.tags.specs.declared.token.Port.{Port}
-use Rattle.semantics.specs.Graph.{Block, Flow, node_count}
+use Rattle.semantics.specs.Graph.{Block, Flow}
 use Rattle.semantics.specs.Meaning as Meaning
 use Rattle.semantics.specs.Meaning.{origin_at}
 use Rattle.semantics.specs.declared.program.Dest.{Dest}

@@ -15,7 +15,7 @@ use Rattle.semantics.specs.Rule.{token}
 use Rattle.semantics.specs.Machine.{Machine, Size, Events}
 use Rattle.semantics.specs.Orderly.{NamesWord, NamesTo, NamesSlot, readers_of, IsFreeAtRelease}
 use Rattle.semantics.specs.Faithful.{IsRun}
-use Rattle.lowering.specs.Roles.{Role, Start, Line, Result, Join, End, Shown, Done, Freed, same_inlet, Inlet, inlet, Item, one, is_two, waits, Wiring, word_at, IsInlet, IsWired, Copy, Plain, Return}
+use Rattle.lowering.specs.Roles.{Role, Start, Line, Result, Join, End, Shown, Done, Freed, same_inlet, Inlet, inlet, Item, one, waits, Wiring, word_at, IsInlet, IsWired, Copy, Plain, Return}
 use Rattle.lowering.specs.Implements.{Layout}
 use Rattle.lowering.proofs.Placed.{IsPlaced, IsMain}
 use Rattle.lowering.proofs.Orders.{first_lifted, total-IsPermutation}

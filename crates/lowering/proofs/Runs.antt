@@ -20,7 +20,7 @@ use Rattle.semantics.specs.Meaning.{State, start, entering}
 use Rattle.semantics.specs.Machine.{Machine, Size, Event, Events, Run, at_start, input_tokens}
 use Rattle.semantics.specs.Cause.{is_request, request_count, seeks_credit, is_credit_event, credit_count}
 use Rattle.semantics.specs.Faithful.{IsRun, inputs_of, inputs_in}
-use Rattle.lowering.specs.Roles.{Role, Start, Line, Result, Join, End, Shown, Done, Freed, same_inlet, Item, total, is_two, waits, op_for, op_at, Form, OnRight, OnLeft, formed, Wiring, told, token_of, stands_as, IsThere, IsInlet, IsWired, host, Copy}
+use Rattle.lowering.specs.Roles.{Role, Start, Line, Result, Join, End, Shown, Done, Freed, same_inlet, Item, total, waits, op_for, op_at, Form, OnRight, OnLeft, formed, Wiring, told, token_of, stands_as, IsThere, IsInlet, IsWired, host, Copy}
 use Rattle.lowering.specs.Implements.{Layout}
 use Rattle.lowering.proofs.Placed.{IsPlaced, IsMain}
 use Rattle.lowering.proofs.Orders.{total-sum_by}
@@ -137,9 +137,9 @@ module _ (fl : Flow) (p : Program) (b : Block ℕ) (w : Wiring) (l : Layout) (la
   no_credit : (r : Role) (port : Port) → IsThere b w r → is_credit_event p (to_at b l r port) ≡ false
   no_credit Start port h = ap seeks_credit (placed.here Start h refl)
   no_credit (Copy kind num) port h = ap seeks_credit (placed.here (Copy kind num) h refl)
-  no_credit (Line n) port h = ap seeks_credit (placed.here (Line n) h refl) 
+  no_credit (Line n) port h = ap seeks_credit (placed.here (Line n) h refl)
       ∙ form_seeks_none (w.form n) (op_at (node_at b n)) (l.origin (Line n)) (l.slot (Line n)) (l.firsts (Line n)) (l.seconds (Line n))
-          (line_seeks_none (node_at b n) (l.origin (Line n)) (l.slot (Line n)) (l.firsts (Line n)) (l.seconds (Line n)))
+      (line_seeks_none (node_at b n) (l.origin (Line n)) (l.slot (Line n)) (l.firsts (Line n)) (l.seconds (Line n)))
   no_credit (Result n) port h = ap seeks_credit (placed.here (Result n) h refl)
   no_credit (Join n) port h = ap seeks_credit (placed.here (Join n) h refl)
   no_credit End port h = ap seeks_credit (placed.here End h refl)

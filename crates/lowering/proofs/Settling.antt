@@ -1,11 +1,11 @@
 -- Uses that settle into others: the meaning leads from the tokens at the ones to those at the others.
-use Rattle.std.proofs.Common.{◌≡◌, ℕ, ◌<◌, Bool, true, false, ℤ, List, [], ◌∷◌, ◌++◌, map, refl, sym, ap, ◌∙◌, subst, Option, Some, None, true≢false, append-nil}
+use Rattle.std.proofs.Common.{◌≡◌, ℕ, ℤ, List, [], ◌∷◌, ◌++◌, map, refl, ap, ◌∙◌, subst, Option, Some, None}
 use Rattle.std.specs.Prelude.{IsPermutation}
 use Rattle.std.proofs.lemmas.List.{map-append}
-use Rattle.std.proofs.lemmas.List.Sorted.{IsPermutation-refl, IsPermutation-sym, IsPermutation-trans, IsPermutation-append_left, IsPermutation-append_right, IsPermutation-map}
+use Rattle.std.proofs.lemmas.List.Sorted.{IsPermutation-refl, IsPermutation-sym, IsPermutation-trans, IsPermutation-append_left, IsPermutation-map}
 use Rattle.semantics.specs.Graph.{Block}
-use Rattle.lowering.specs.Roles.{Use, Meant, own, operand, literal_or, given_as, all_uses, IsLiteral, SettlesBy, Settles}
-use Rattle.lowering.proofs.Orders.{at_first, at_last, empty_list, map-map, shuffled, Part, ◌⊕◌}
+use Rattle.lowering.specs.Roles.{Meant, operand, literal_or, given_as, all_uses, IsLiteral, SettlesBy, Settles}
+use Rattle.lowering.proofs.Orders.{empty_list, shuffled, Part, ◌⊕◌}
 
 module _ (b : Block ℕ) where
   pub settles_same : (us vs : List Meant) → IsPermutation us vs → Settles b us vs

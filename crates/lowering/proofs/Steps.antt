@@ -17,7 +17,7 @@ use Rattle.semantics.specs.Graph.{Block, Flow}
 use Rattle.semantics.specs.Program.{Program}
 use Rattle.semantics.specs.Rule.{fires}
 use Rattle.semantics.specs.Machine.{Machine, Store, Size, Event, Happens, Vacant, put_at, with_slot, Hosts, Releases, outputs_of, Fires}
-use Rattle.lowering.specs.Roles.{Role, Start, Line, Result, Join, End, Shown, Done, Freed, is_instr, same_role, inlet, Item, item, one, is_two, waits, form_of, Wiring, zero_value, word_at, IsThere, IsInlet, IsWired, Copy}
+use Rattle.lowering.specs.Roles.{Role, Start, Line, Result, Join, End, Shown, Done, Freed, is_instr, same_role, inlet, Item, item, one, waits, Wiring, zero_value, word_at, IsThere, IsInlet, IsWired, Copy}
 use Rattle.lowering.specs.Implements.{Layout}
 use Rattle.lowering.proofs.Placed.{IsPlaced}
 use Rattle.lowering.proofs.Orders.{first_lifted, IsPermutation-same, at_first, at_last, total-IsPermutation, shuffled, Part, ◌⊕◌}

@@ -1,6 +1,6 @@
 -- The wires of a straight block's code obey the laws of wires.
 use Rattle.std.proofs.Common.{◌≡◌, ℕ, zero, suc, ◌+◌, ◌-◌, ◌<◌, ◌≤◌, Bool, true, false, List, [], ◌∷◌, ◌++◌, map, length, refl, sym, ap, ◌∙◌, subst, inl, inr, ◌⊎◌, arith, true≢false, Some, None, ◌==◌, ◌&&◌, le-ltb, if◌then◌else◌, add-zero}
-use Rattle.std.specs.Prelude.{All, slice_get, IsPermutation, Contains}
+use Rattle.std.specs.Prelude.{All, slice_get, Contains}
 use Rattle.std.proofs.lemmas.Bool.{cases_Bool, cases_eq}
 use Rattle.std.proofs.lemmas.Option.{slice_get_within}
 use Rattle.std.proofs.lemmas.List.Elements.{All-head, All-tail, All-cons, All-nil, All-append, All-map, All-weaker, All-contains}
