@@ -5,3 +5,8 @@ pub mod Taken
 pub mod Held
 pub mod Used
 pub mod Named
+pub mod PortNames
+pub mod Numbers
+pub mod Choice
+pub mod Joined
+pub mod KeepsMeaning
