@@ -1,6 +1,6 @@
 -- What the pass folds can be folded: its operators, literals and their sources are parts of the code.
-use Rattle.std.proofs.Common.{◌≡◌, ℕ, ℤ, zero, suc, ◌+◌, ◌-◌, ◌<◌, ◌≤◌, Bool, true, false, ◌&&◌, List, [], ◌∷◌, ◌++◌, map, length, refl, sym, ap, ◌∙◌, subst, inl, inr, ◌⊎◌, arith, true≢false, Option, Some, None, ◌==◌, if◌then◌else◌, eqb-true, nat_lt, lt-ltb, ltb-true, ltb-false}
-use Rattle.std.specs.Prelude.{slice_get, slice_index_or, All, Contains}
+use Rattle.std.proofs.Common.{◌≡◌, ℕ, ℤ, zero, suc, ◌+◌, ◌-◌, ◌<◌, ◌≤◌, Bool, true, false, List, ◌++◌, length, refl, sym, ap, ◌∙◌, subst, inl, inr, ◌⊎◌, arith, true≢false, Option, Some, None, if◌then◌else◌, eqb-true, lt-ltb}
+use Rattle.std.specs.Prelude.{slice_get, All, Contains}
 use Rattle.std.proofs.lemmas.Bool.{cases_Bool, cases_lt, and_parts}
 use Rattle.std.proofs.lemmas.Option.{slice_get_within, slice_get-get_or}
 use Rattle.std.proofs.lemmas.List.Sorted.{Contains-permutation, IsPermutation-sym}
@@ -20,8 +20,8 @@ use Rattle.lowering.specs.Roles.{Role, Start, Line, Result, Join, End, Copy, Sho
 use Rattle.lowering.specs.Implements.{Layout, code_of, leads_to, stands_at, IsBlockCode}
 use Rattle.lowering.specs.Folding as Wires
 use Rattle.lowering.specs.Folding.{other, CanFold}
-use Rattle.lowering.proofs.Forms.{line_below, node_pair, plain_there}
-use Rattle.lowering.proofs.OneCopyMore.{extra, sends, outs_hits}
+use Rattle.lowering.proofs.Forms.{line_below, node_pair}
+use Rattle.lowering.proofs.OneCopyMore.{sends, outs_hits}
 use Rattle.lowering.proofs.OneFoldMore.{extra_line}
 use Rattle.lowering.proofs.OrderlyPlan.{contains_image, hits_contain}
 use Rattle.lowering.proofs.Ends.{contains_map, hits_all}
@@ -30,7 +30,7 @@ use Rattle.folding.specs.declared.namers.Namer.TheVariants.{Nobody, One, Many}
 use Rattle.folding.specs.declared.folds.Fold.{Fold}
 use Rattle.folding.specs.declared.folds.Fold.TheVariants as Pass
 use Rattle.folding.specs.Namers.{Namers, namer_at, namers_of}
-use Rattle.folding.specs.Folds.{literal_in, literal_at, same_side, same_source, literal_by, fold_by, fold_of, folds_of, fold_at}
+use Rattle.folding.specs.Folds.{literal_in, literal_at, same_source, literal_by, fold_by, fold_of, folds_of, fold_at}
 use Rattle.folding.proofs.PortNames.{side_of, dests_in, Named, port_named}
 use Rattle.folding.proofs.Numbers.{fold_is}
 
@@ -229,9 +229,11 @@ module _ (version number : ℕ) (b : Block ℕ) (c : CodeBlock) (w : Wiring) (l0
   named : (q : Role) (x : Inlet) → IsThere b w q → is_instr q ≡ true → IsThere b w x.role → is_instr x.role ≡ true → 0 < hits x (w.wire q) → (t : Bool) × Named ns (l0.place x.role) x.port (l0.place q) t
   named q x h i g j k =
       let d = dests_of q x h i k in
-      let low = place_below x.role g j in let place = d.place in
-      (d.side, (subst (λ port. Named ns (l0.place x.role) port (l0.place q) d.side) d.port (subst (λ at. Named ns at d.dest.port (l0.place q) d.side) d.place
-      (port_named p c (l0.place q) (instr_of q) d.side d.nth d.dest (code.here q h i) d.has (omega (arith, low, place))))))
+      let low = place_below x.role g j in let place = d.place in (
+        d.side,
+        (subst (λ port. Named ns (l0.place x.role) port (l0.place q) d.side) d.port (subst (λ at. Named ns at d.dest.port (l0.place q) d.side) d.place
+            (port_named p c (l0.place q) (instr_of q) d.side d.nth d.dest (code.here q h i) d.has (omega (arith, low, place))))),
+      )
 
   -- the one that names a port is the part that feeds it
   one_named : (x y : Namer) (m k : ℕ) (s t : Bool) → x ≡ One m s → (x ≡ One k t) ⊎ (x ≡ Many) → m ≡ k

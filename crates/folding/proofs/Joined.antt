@@ -1,11 +1,11 @@
 -- A block with literal operands is code of the same graph block.
 use Rattle.std.proofs.Common.{◌≡◌, ℕ, ℤ, zero, suc, ◌+◌, ◌-◌, ◌<◌, ◌≤◌, Bool, true, false, not, ◌&&◌, ◌||◌, List, [], ◌∷◌, ◌++◌, map, length, replicate, refl, sym, ap, ◌∙◌, subst, inl, inr, ◌⊎◌, arith, true≢false, Option, Some, None, if◌then◌else◌}
 use Rattle.std.specs.Prelude.{slice_get, slice_index_or, All, Contains, flat_map, IsPermutation}
-use Rattle.std.proofs.lemmas.Bool.{cases_Bool, cases_lt, cases_eq, and_parts, and_from}
+use Rattle.std.proofs.lemmas.Bool.{cases_Bool, cases_lt, and_parts, and_from}
 use Rattle.std.proofs.lemmas.Option.{slice_get_within, get_or_from_slice_get}
 use Rattle.std.proofs.lemmas.List.{map-append, length-replicate}
 use Rattle.std.proofs.lemmas.List.Concat.{flat_map-append}
-use Rattle.std.proofs.lemmas.List.Sorted.{IsPermutation-sym, IsPermutation-trans, All-permutation, Contains-permutation}
+use Rattle.std.proofs.lemmas.List.Sorted.{IsPermutation-sym, All-permutation, Contains-permutation}
 use Rattle.std.proofs.lemmas.List.Elements.{All-cons, All-nil, All-head, All-tail, All-append, All-map, All-weaker, All-contains, All-contains_itself}
 use Rattle.tags.specs.declared.token.Port.{Port}
 use Rattle.tags.specs.declared.token.Port.TheVariants.{Left, Right}
@@ -16,16 +16,16 @@ use Rattle.semantics.specs.declared.program.Op.{Op}
 use Rattle.semantics.specs.declared.program.Op.TheVariants as Program
 use Rattle.semantics.specs.Rule.{slot_of}
 use Rattle.semantics.specs.Program.{Instr, CodeBlock}
-use Rattle.semantics.specs.Cause.{opened_by, open_bounds}
+use Rattle.semantics.specs.Cause.{opened_by}
 use Rattle.semantics.specs.Plan.{Plan, IsPlanBlock, is_credit, is_open}
-use Rattle.lowering.specs.Roles.{one, op_at, Role, Start, Line, Result, Join, End, Copy, Shown, Done, Freed, is_instr, same_port, Inlet, inlet, hits, op_of, op_in, formed, form_of, waits, waits_as, is_two, outs, there_as, Form, AsItIs, OnRight, OnLeft, Settled, Gone, Wiring, IsThere, IsInlet, IsWire, IsWired}
+use Rattle.lowering.specs.Roles.{one, op_at, Role, Start, Line, Result, Join, End, Copy, Shown, Done, Freed, is_instr, same_port, Inlet, inlet, hits, op_of, op_in, formed, waits, waits_as, is_two, there_as, Form, AsItIs, OnRight, OnLeft, Settled, Gone, Wiring, IsThere, IsWire, IsWired}
 use Rattle.lowering.specs.Implements as Code
 use Rattle.lowering.specs.Implements.{code_of, leads_to, stands_at, IsBlockCode, IsCodeOf}
 use Rattle.lowering.specs.StraightPlan.{count_below}
 use Rattle.lowering.specs.Folding as Wires
 use Rattle.lowering.specs.Folding.{other, side_form, all_folded, closed, port_to, is_gone as lost, sent_at, sent_to, fold_form, HasFolds, lit_inlet, other_inlet, CanFold}
 use Rattle.lowering.specs.Folding.{fold_of as fold_for}
-use Rattle.lowering.proofs.Orders.{at_first, at_last, flat_map-IsPermutation, IsPermutation-same, map-map}
+use Rattle.lowering.proofs.Orders.{at_first, at_last, flat_map-IsPermutation}
 use Rattle.lowering.proofs.Forms.{line_below, node_pair, waits_plain, waits_two, input_there}
 use Rattle.lowering.proofs.Instructions.{pairs_meet, two-pairs}
 use Rattle.lowering.proofs.Counts.{count-le, count-same}
@@ -41,9 +41,9 @@ use Rattle.folding.specs.declared.folds.Fold.{Fold}
 use Rattle.folding.specs.declared.folds.Fold.TheVariants as Pass
 use Rattle.folding.specs.Namers.{namers_of}
 use Rattle.folding.specs.Folds.{fold_of, folds_of, fold_at, is_folded, is_closed, new_port, new_op, closed_to, all_closed, is_used, is_lit, is_gone, gone_from}
-use Rattle.folding.specs.Places.{Layout, numbers_from, layout_of, freed_in, left_of, new_place, new_holder, gone_at, folds_at}
-use Rattle.folding.specs.Moved.{is_shut, dest_at, new_dest, moved_dest, moved_dests, new_slot, moved}
-use Rattle.folding.specs.Folded.{left_from, moved_from, folded_block}
+use Rattle.folding.specs.Places.{Layout, numbers_from, layout_of, freed_in, new_place, new_holder, gone_at, folds_at}
+use Rattle.folding.specs.Moved.{is_shut, new_dest, moved_dest, moved_dests, new_slot, moved}
+use Rattle.folding.specs.Folded.{moved_from, folded_block}
 use Rattle.folding.proofs.Numbers.{counts_agree, counts_all, left_in, number_is, stays, left_get, gone_is, gone_long, Frees, freed_frees, freed_long, fold_is}
 use Rattle.folding.proofs.Choice.{as_fold, folds_pair, plain_two, pair_op, input_none, is_line, place_below, fold_there, folds, chosen, are_folds}
 
@@ -260,6 +260,7 @@ module _ (version number : ℕ) (b : Block ℕ) (c : CodeBlock) (w : Wiring) (l0
               let to : 0 < hits (other_inlet cb.fold) (w.wire q) = subst (λ q. 0 < hits (other_inlet cb.fold) (w.wire q)) (sym source) cb.can.to_node in
               no_item (inlet (Line cb.fold.node) Left) (sym (other_open cb.fold cb.pick cb.form)
               ∙ nothing_of (sent_to new.form picks) (other_inlet cb.fold) (w.wire q) (sym (done.wires q h) ∙ quiet) (hits_contain (other_inlet cb.fold) (w.wire q) to))
+
           by_up : IsThere b new (Line m) ⊎ (new.wire (Line m) ≡ []) → ⊥
           by_up (inl t) = true≢false (sym g ∙ not_gone (new.form m) (m < node_count b) t)
           by_up (inr none) = by_some k below low none (laws.leads_on (Line m) there refl)
@@ -357,8 +358,8 @@ module _ (version number : ℕ) (b : Block ℕ) (c : CodeBlock) (w : Wiring) (l0
       nothing : new.wire r ≡ []
       nothing = done.wires r h ∙ flat_map_none (sent_to new.form picks) (w.wire r)
           (All-weaker (Contains (w.wire r)) (λ x. sent_to new.form picks x ≡ []) (λ x k.
-              let wire = All-contains (IsWire b w r) (w.wire r) x (laws.wires r h) k in
-              closed_sent x (sym (closed_here x wire.is_inlet.there wire.is_instr) ∙ All-contains (λ x. P (stands_at l0 x)) (w.wire r) x stand k)) (w.wire r) (All-contains_itself (w.wire r)))
+          let wire = All-contains (IsWire b w r) (w.wire r) x (laws.wires r h) k in
+          closed_sent x (sym (closed_here x wire.is_inlet.there wire.is_instr) ∙ All-contains (λ x. P (stands_at l0 x)) (w.wire r) x stand k)) (w.wire r) (All-contains_itself (w.wire r)))
 
       by_leads : (r ≡ End) ⊎ ((x : Inlet) × (0 < hits x (new.wire r))) → ⊥
       by_leads (inl e) = let z = lit_op (op_in b w r) parts.0 in let m = is_line b w r z.0 z.1 in (let q : Line m.0 ≡ End = sym m.1 ∙ e in cc)

@@ -1,13 +1,12 @@
 -- Code of a graph stays code of the graph when its operators get literal operands; and so the folded program of a straight
 -- graph is faithful to it, and orderly.
 use Rattle.std.proofs.Common.{◌≡◌, ℕ, zero, suc, ◌+◌, ◌⊎◌, inl, inr, Bool, true, false, List, [], ◌∷◌, map, length, refl, sym, ap, ◌∙◌, subst, arith, Option, Some, None, unwrap_or, if◌then◌else◌}
-use Rattle.std.specs.Prelude.{slice_get, All, ⊤, flat_map}
+use Rattle.std.specs.Prelude.{slice_get, All, ⊤}
 use Rattle.std.proofs.lemmas.List.{length-map}
 use Rattle.std.proofs.lemmas.List.Elements.{All-cons, All-nil, All-head, All-tail}
 use Rattle.semantics.specs.declared.graph.Kind.{Kind}
 use Rattle.semantics.specs.declared.graph.Kind.TheVariants.{Lit, Apply1, Apply2}
 use Rattle.semantics.specs.Graph.{Block, Flow, Node, node_at, flow_of}
-use Rattle.semantics.specs.declared.program.Dest.{Dest}
 use Rattle.semantics.specs.declared.program.Mark.{Mark}
 use Rattle.semantics.specs.declared.program.Mark.TheVariants.{Unmarked}
 use Rattle.semantics.specs.declared.program.Op.{Op}
@@ -16,9 +15,9 @@ use Rattle.semantics.specs.Program.{Instr, CodeBlock}
 use Rattle.semantics.specs.Plan.{Plan, IsPlanBlock, HasShape, mark_in, mark_at}
 use Rattle.code.specs.Marks.{marks_in}
 use Rattle.determinacy.proofs.Resolved.{all_get}
-use Rattle.lowering.specs.Roles.{Role, Start, Line, Result, Join, End, Copy, Shown, Done, Freed, op_for, op_at, op_of}
+use Rattle.lowering.specs.Roles.{Role, Start, Line, Result, Join, End, Copy, Shown, Done, Freed, op_for, op_at}
 use Rattle.lowering.specs.Implements.{Implements, IsCodeOf, IsStraight}
-use Rattle.lowering.specs.StraightPlan.{instr_for, straight_wire, straight_roles, straight_code, straight_codes, straight_program}
+use Rattle.lowering.specs.StraightPlan.{instr_for, straight_roles, straight_code, straight_codes, straight_program}
 use Rattle.lowering.proofs.StraightGraph.{graph_is_straight}
 use Rattle.lowering.proofs.StraightProgram.{straight_implements}
 use Rattle.lowering.proofs.StraightPlanned.{plan_is_wired}

@@ -1,18 +1,15 @@
 -- Where what is left stands.
-use Rattle.std.proofs.Common.{◌≡◌, ℕ, zero, suc, ◌+◌, ◌<◌, ◌≤◌, Bool, true, false, not, List, [], ◌∷◌, length, replicate, refl, sym, ap, ◌∙◌, subst, inl, inr, ◌⊎◌, arith, Some, if◌then◌else◌, length-set, true≢false}
+use Rattle.std.proofs.Common.{◌≡◌, ℕ, zero, suc, ◌+◌, ◌<◌, Bool, true, false, not, List, [], ◌∷◌, length, replicate, refl, sym, ap, ◌∙◌, subst, inl, inr, ◌⊎◌, arith, Some, if◌then◌else◌, length-set, true≢false}
 use Rattle.std.specs.Prelude.{slice_get, slice_set, slice_index_or}
 use Rattle.std.proofs.lemmas.Bool.{cases_Bool, cases_eq}
-use Rattle.std.proofs.lemmas.List.{get_or-set_same, get_or-set_other, length-replicate}
-use Rattle.std.proofs.lemmas.Option.{slice_get_within}
-use Rattle.semantics.specs.Program.{Instr, CodeBlock}
+use Rattle.std.proofs.lemmas.List.{get_or-set_other}
+use Rattle.semantics.specs.Program.{Instr}
 use Rattle.lowering.specs.Roles.{one}
 use Rattle.lowering.specs.StraightPlan.{count_below}
-use Rattle.lowering.proofs.Counts.{count-le}
 use Rattle.folding.specs.declared.folds.Fold.{Fold}
-use Rattle.folding.specs.declared.folds.Fold.TheVariants.{Kept, OnRight, OnLeft}
 use Rattle.folding.specs.Namers.{Namers}
 use Rattle.folding.specs.Folds.{fold_of, folds_from, fold_at, is_folded, is_gone, gone_from}
-use Rattle.folding.specs.Places.{Layout, numbers_from, left_of, freed_from, new_place, gone_at}
+use Rattle.folding.specs.Places.{Layout, numbers_from, freed_from, gone_at}
 use Rattle.folding.specs.Folded.{left_from}
 
 -- COUNTS
