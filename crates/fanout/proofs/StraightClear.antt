@@ -180,7 +180,7 @@ module _ (version number : ℕ) (b : Block ℕ) (flat : IsStraightBlock b) where
     no_line j e h = by_fed (all_fed b flat x.role x.port is_wire.is_inlet)
       where
         some : 0 < hits x (given b)
-        some = entry_given b x.role x.port (inr (j, h, e)) is_wire.is_inlet.port
+        some = entry_given b w x.role x.port (inr (j, h, e)) is_wire.is_inlet.port
 
         by_fed : IsFed b w x → ⊥
         by_fed (inl (g, none)) = let k = none r stands.0 in omega (arith, k, fed)

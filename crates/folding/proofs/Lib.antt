@@ -7,3 +7,8 @@ pub mod Used
 pub mod Named
 pub mod Sole
 pub mod Landing
+pub mod PortNames
+pub mod Numbers
+pub mod Choice
+pub mod Joined
+pub mod KeepsMeaning

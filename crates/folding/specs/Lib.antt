@@ -4,3 +4,4 @@ pub mod Places
 pub mod Moved
 pub mod Folded
 pub mod Laws
+pub mod Meaning
