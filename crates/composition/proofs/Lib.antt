@@ -8,3 +8,8 @@ pub mod Near
 pub mod Credits
 pub mod Literals
 pub mod Laws
+pub mod FoldedInstrs
+pub mod FoldedTables
+pub mod FoldedLiterals
+pub mod FoldedObject
+pub mod FoldedLaws

@@ -3,6 +3,8 @@
 
 ghost use Rattle.composition.specs.Theorem.{CompiledHoldsAlone, CompiledIsEmittable, CompiledIsFaithful, CompiledKeepsBounds, CompiledReleasesLast, NarrowedHasLiterals, NarrowedIsWired, NarrowedIsSmall, PlanIsWired, PlanIsStraight};
 
+pub mod folded;
+
 /// A straight graph is well formed, within the limits of a text, and of literals and operators alone. Its plan, and the plan
 /// with trees of copies, keep to the rules of plans, and no instruction asks for a frame.
 ///
