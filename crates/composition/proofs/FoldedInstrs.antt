@@ -18,9 +18,7 @@ use Rattle.fanout.specs.Narrowed.{parts_of, narrowed, narrowed_block}
 use Rattle.fanout.specs.Laws.{is_link, IsPlain, IsPlainProgram}
 use Rattle.fanout.proofs.Positions.{all_spread}
 use Rattle.fanout.proofs.Spots.{sized}
-use Rattle.folding.specs.declared.folds.Fold.{Fold}
-use Rattle.folding.specs.declared.folds.Fold.TheVariants.{OnRight, OnLeft}
-use Rattle.folding.specs.Folds.{new_op}
+use Rattle.folding.proofs.FoldedLiterals.{op_still}
 use Rattle.folding.specs.Places.{Layout, layout_of, gone_at, folds_at}
 use Rattle.folding.specs.Moved.{moved}
 use Rattle.folding.specs.Folded.{folded, folded_block, moved_from}
@@ -96,11 +94,6 @@ IsSimple (Program.Return o) = ⊤
 IsSimple (Program.Release o) = ⊤
 IsSimple op = ⊥
 
-simple_still : (f : Fold) (op : Op) → IsSimple op → IsSimple (new_op f op)
-simple_still (OnRight z) (Program.Apply2 o) h = tt
-simple_still (OnLeft z) (Program.Apply2 o) h = tt
-simple_still f op h = h
-
 pub line_simple : (op : Op) (ds : List Dest) → IsLineOp op ds → IsSimple op
 line_simple (Program.Apply1 o) ds h = tt
 line_simple (Program.Apply2 o) ds h = tt
@@ -115,7 +108,7 @@ abbrev pub HasSimple : Instr → Type 0
 HasSimple i = IsSimple i.op
 
 pub all_simple : (p : Plan) → AllInstrs HasSimple p.program.blocks → AllInstrs HasSimple (narrowed (folded p)).program.blocks
-all_simple p h = all_both HasSimple (record { when_moved = λ l n i k. k; when_parted = λ i k. k; when_copied = λ l n at j ds. tt }) (λ l n i k. simple_still (folds_at l n) i.op k) p h
+all_simple p h = all_both HasSimple (record { when_moved = λ l n i k. k; when_parted = λ i k. k; when_copied = λ l n at j ds. tt }) (λ l n i k. op_still IsSimple (λ o z. tt) (λ o z. tt) (folds_at l n) i.op k) p h
 
 pub simple_no_credit : (op : Op) → IsSimple op → is_credit op ≡ false
 simple_no_credit (Program.Apply1 o) h = refl

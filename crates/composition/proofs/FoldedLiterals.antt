@@ -1,38 +1,17 @@
--- A folded plan uses the literals that the plan uses: each that is left out is in an operator's code.
-use Rattle.std.proofs.Common.{◌≡◌, refl, sym, ap, ◌∙◌, subst, ℕ, zero, suc, ◌+◌, ◌<◌, ◌⊎◌, inl, inr, Bool, true, false, true≢false, ℤ, List, [], ◌∷◌, ◌++◌, map, length, Option, Some, None, arith}
+-- A folded plan uses the literals that the plan uses.
+use Rattle.std.proofs.Common.{◌≡◌, refl, sym, ap, ◌∙◌, subst, ℕ, zero, suc, ℤ, List, [], ◌∷◌, ◌++◌, map, Option, Some, None, arith}
 use Rattle.std.specs.Prelude.{slice_get, All, Contains}
-use Rattle.std.proofs.lemmas.Bool.{cases_Bool}
-use Rattle.std.proofs.lemmas.Option.{slice_get_within}
-use Rattle.std.proofs.lemmas.List.Elements.{All-nil, All-cons, All-append, All-contains, All-weaker, Contains-append_left, Contains-append_right}
-use Rattle.tags.specs.declared.token.Port.{Port}
-use Rattle.tags.specs.declared.token.Port.TheVariants.{Left, Right}
-use Rattle.operators.specs.declared.Binary.{Binary}
-use Rattle.semantics.specs.declared.program.Dest.{Dest}
-use Rattle.semantics.specs.declared.program.Op.{Op}
-use Rattle.semantics.specs.declared.program.Op.TheVariants.{Apply2, Apply2Right, Apply2Left, Lit}
+use Rattle.std.proofs.lemmas.List.Elements.{All-nil, All-cons, All-append, All-weaker, Contains-append_left, Contains-append_right}
 use Rattle.semantics.specs.Program.{Instr, CodeBlock}
 use Rattle.semantics.specs.Plan.{Plan}
-use Rattle.folding.specs.declared.namers.Namer.{Namer}
-use Rattle.folding.specs.declared.namers.Namer.TheVariants.{One, Many}
-use Rattle.folding.specs.declared.folds.Fold.{Fold}
-use Rattle.folding.specs.declared.folds.Fold.TheVariants.{Kept, OnRight, OnLeft}
-use Rattle.folding.specs.Namers.{namers_of, namer_of}
-use Rattle.folding.specs.Folds.{is_closed, new_op}
-use Rattle.folding.specs.Places.{Layout, layout_of, new_place, gone_at, folds_at}
-use Rattle.folding.specs.Moved.{moved}
 use Rattle.folding.specs.Folded.{folded_block}
-use Rattle.folding.specs.Laws.{TakesLiteral, IsLeftOut, NamedBy, dests_of}
-use Rattle.folding.proofs.Standing.{keeps_instrs, has_no_others}
-use Rattle.folding.proofs.Naming.{knows_namers}
-use Rattle.folding.proofs.Taken.{folds_on_right, folds_on_left, leaves_out}
+use Rattle.folding.proofs.FoldedLiterals as Block
+use Rattle.folding.proofs.FoldedLiterals.{TellsLiterals}
 use Rattle.select.specs.Literals.{literal_of, listed, used_by, used_in}
 use Rattle.composition.proofs.Lines.{same}
 
 -- LITERALS OF INSTRUCTIONS
-abbrev Uses : List Instr → ℤ → Type 0
-Uses is z = Contains (used_by is) z
-
-uses_at : (is : List Instr) (n : ℕ) (i : Instr) (z : ℤ) → slice_get is n ≡ Some i → literal_of i.op ≡ Some z → Uses is z
+uses_at : (is : List Instr) (n : ℕ) (i : Instr) (z : ℤ) → slice_get is n ≡ Some i → literal_of i.op ≡ Some z → Contains (used_by is) z
 uses_at [] n i z at e = absurd (cc)
 uses_at (j ∷ is) zero i z at e =
     let here : literal_of j.op ≡ Some z = ap (λ (i : Instr). literal_of i.op) (same j i at) ∙ e in
@@ -47,129 +26,16 @@ all_used P (i ∷ is) f = All-append P (listed (literal_of i.op)) (used_by is) (
     one None f = All-nil P
     one (Some z) f = All-cons P z [] (f z refl) (All-nil P)
 
--- OPERATIONS. A literal stays, and a new one is that of the fold.
-stays : (f : Fold) (op : Op) (z : ℤ) → literal_of op ≡ Some z → literal_of (new_op f op) ≡ Some z
-stays (OnRight y) (Apply2 o) z e = absurd (cc)
-stays (OnLeft y) (Apply2 o) z e = absurd (cc)
-stays f op z e = e
+tells : TellsLiterals literal_of
+tells = record { lit = λ z. refl; right = λ o z. refl; left = λ o z. refl; none = λ o. refl }
 
-abbrev Took : Fold → ℤ → Type 0
-Took f z = (f ≡ OnRight z) ⊎ (f ≡ OnLeft z)
+no_more : (p : Plan) (c : CodeBlock) → All (Contains (used_by c.instrs)) (used_by (folded_block p c).instrs)
+no_more p c = all_used (Contains (used_by c.instrs)) (folded_block p c).instrs (λ n i z at e.
+    let o = Block.none_more literal_of tells p c z (n, i, at, e) in uses_at c.instrs o.0 o.1 z o.2 o.3)
 
-taken : (f : Fold) (op : Op) (z : ℤ) → literal_of (new_op f op) ≡ Some z → (literal_of op ≡ Some z) ⊎ Took f z
-taken (OnRight y) (Apply2 o) z e = inr (inl (ap OnRight (same y z e)))
-taken (OnLeft y) (Apply2 o) z e = inr (inr (ap OnLeft (same y z e)))
-taken f op z e = inl e
-
-on_right : (f : Fold) (op : Op) (o : Binary) (z : ℤ) → f ≡ OnRight z → op ≡ Apply2 o → literal_of (new_op f op) ≡ Some z
-on_right f op o z e k = (λ i. literal_of (new_op (e i) (k i)))
-
-on_left : (f : Fold) (op : Op) (o : Binary) (z : ℤ) → f ≡ OnLeft z → op ≡ Apply2 o → literal_of (new_op f op) ≡ Some z
-on_left f op o z e k = (λ i. literal_of (new_op (e i) (k i)))
-
-lit_is : (op : Op) (y z : ℤ) → op ≡ Lit y → literal_of op ≡ Some z → y ≡ z
-lit_is op y z e h = same y z (sym (ap literal_of e) ∙ h)
-
--- what is shut has taken a literal
-shut_by : (f : Fold) (q : Port) → is_closed f q ≡ true → (z : ℤ) × (((f ≡ OnRight z) × (q ≡ Right)) ⊎ ((f ≡ OnLeft z) × (q ≡ Left)))
-shut_by (OnRight z) Right h = (z, inl (refl, refl))
-shut_by (OnLeft z) Left h = (z, inr (refl, refl))
-shut_by (OnRight z) Left h = absurd (true≢false (sym h))
-shut_by (OnLeft z) Right h = absurd (true≢false (sym h))
-shut_by Kept q h = absurd (true≢false (sym h))
-
--- one name alone
-named_once : (x : Namer) (n m : ℕ) (s t : Bool) → NamedBy n s x → x ≡ One m t → n ≡ m
-named_once x n m s t (inl e) k = cc
-named_once x n m s t (inr e) k = absurd (cc)
-
-module _ (p : Plan) (c : CodeBlock) where
-  abbrev l : Layout
-  l = layout_of p c
-
-  abbrev is : List Instr
-  is = c.instrs
-
-  abbrev new : List Instr
-  new = (folded_block p c).instrs
-
-  -- a literal that is taken was one of the block
-  taken_used : (n : ℕ) (q : Port) (z : ℤ) → TakesLiteral p c n q z → Uses is z
-  taken_used n q z t = let i = t.literal in uses_at is t.lit i.0 z i.1 (ap literal_of i.2)
-
-  no_more : All (Uses is) (used_by new)
-  no_more = all_used (Uses is) new (λ m j z at e. from m j z e (has_no_others p c m j at))
-    where
-      from : (m : ℕ) (j : Instr) (z : ℤ) → literal_of j.op ≡ Some z
-          → (n : ℕ) × (i : Instr) × (slice_get is n ≡ Some i) × (gone_at l n ≡ false) × (new_place l n ≡ m) × (j ≡ moved l n i) → Uses is z
-      from m j z e (n, i, at, there, place, k) = by (taken (folds_at l n) i.op z (sym (ap (λ (j : Instr). literal_of j.op) k) ∙ e))
-        where
-          by : (literal_of i.op ≡ Some z) ⊎ Took (folds_at l n) z → Uses is z
-          by (inl h) = uses_at is n i z at h
-          by (inr (inl h)) = taken_used n Right z (folds_on_right p c n z h)
-          by (inr (inr h)) = taken_used n Left z (folds_on_left p c n z h)
-
-  -- an operator stays
-  operator_stays : (m : ℕ) (j : Instr) (o : Binary) → slice_get is m ≡ Some j → j.op ≡ Apply2 o → gone_at l m ≡ false
-  operator_stays m j o at e = pick (cases_Bool (gone_at l m))
-    where
-      no_lit : (y : ℤ) → j.op ≡ Lit y → ⊥
-      no_lit y k = impossible y (sym e ∙ k)
-        where
-          impossible : (y : ℤ) → Apply2 o ≡ Lit y → ⊥
-          impossible y q = absurd (cc)
-
-      pick : (gone_at l m ≡ true) ⊎ (gone_at l m ≡ false) → gone_at l m ≡ false
-      pick (inl g) = let x = (leaves_out p c m j at g).literal in absurd (no_lit x.0 x.1)
-      pick (inr g) = g
-
-  -- what took the literal has it in its code
-  took_uses : (m : ℕ) (q : Port) (y : ℤ) → TakesLiteral p c m q y → Took (folds_at l m) y → Uses new y
-  took_uses m q y t f =
-      let x = t.operator in
-      uses_at new (new_place l m) (moved l m x.0) y (keeps_instrs p c m x.0 x.2 (operator_stays m x.0 x.1 x.2 x.3)) (by f)
-    where
-      by : Took (folds_at l m) y → literal_of (new_op (folds_at l m) t.operator.0.op) ≡ Some y
-      by (inl e) = on_right (folds_at l m) t.operator.0.op t.operator.1 y e t.operator.3
-      by (inr e) = on_left (folds_at l m) t.operator.0.op t.operator.1 y e t.operator.3
-
-  -- and it is the literal that named it
-  same_literal : (n : ℕ) (i : Instr) (y z : ℤ) (s : Bool) (d : Dest) (q : Port) → slice_get is n ≡ Some i → i.op ≡ Lit z → slice_get (dests_of i s) 0 ≡ Some d → d.port ≡ q → TakesLiteral p c (n + d.ahead) q y → y ≡ z
-  same_literal n i y z s d q at e to port t =
-      let x = t.operator in
-      let low : n + d.ahead < length is = slice_get_within is (n + d.ahead) x.0 x.2 in
-      let names = knows_namers p c n 0 i s d at to low in
-      let alone : namer_of (namers_of p c) (n + d.ahead) d.port ≡ One t.lit t.lit_side = ap (namer_of (namers_of p c) (n + d.ahead)) port ∙ t.alone in
-      let here = named_once (namer_of (namers_of p c) (n + d.ahead) d.port) n t.lit s t.lit_side names alone in
-      let k = t.literal in
-      let one : i ≡ k.0 = same i k.0 (sym at ∙ ap (slice_get is) here ∙ k.1) in
-      same_number (sym k.2 ∙ sym (ap (λ (i : Instr). i.op) one) ∙ e)
-    where
-      same_number : Lit y ≡ Lit z → y ≡ z
-      same_number q = cc
-
-  left_out_used : (n : ℕ) (i : Instr) (z : ℤ) → slice_get is n ≡ Some i → i.op ≡ Lit z → IsLeftOut p c n i → Uses new z
-  left_out_used n i z at e out =
-      let u = out.used in
-      by (shut_by (folds_at l (n + u.1.ahead)) u.1.port (out.closed u.0 0 u.1 u.2))
-    where
-      by : (y : ℤ) × (((folds_at l (n + out.used.1.ahead) ≡ OnRight y) × (out.used.1.port ≡ Right)) ⊎ ((folds_at l (n + out.used.1.ahead) ≡ OnLeft y) × (out.used.1.port ≡ Left))) → Uses new z
-      by (y, inl (f, q)) =
-          let t = folds_on_right p c (n + out.used.1.ahead) y f in
-          subst (Uses new) (same_literal n i y z out.used.0 out.used.1 Right at e out.used.2 q t) (took_uses (n + out.used.1.ahead) Right y t (inl f))
-      by (y, inr (f, q)) =
-          let t = folds_on_left p c (n + out.used.1.ahead) y f in
-          subst (Uses new) (same_literal n i y z out.used.0 out.used.1 Left at e out.used.2 q t) (took_uses (n + out.used.1.ahead) Left y t (inr f))
-
-  no_less : All (Uses new) (used_by is)
-  no_less = all_used (Uses new) is (λ n i z at e. pick n i z at e (cases_Bool (gone_at l n)))
-    where
-      pick : (n : ℕ) (i : Instr) (z : ℤ) → slice_get is n ≡ Some i → literal_of i.op ≡ Some z → (gone_at l n ≡ true) ⊎ (gone_at l n ≡ false) → Uses new z
-      pick n i z at e (inl g) =
-          let out = leaves_out p c n i at g in
-          let y = lit_is i.op out.literal.0 z out.literal.1 e in
-          left_out_used n i z at (out.literal.1 ∙ ap Lit y) out
-      pick n i z at e (inr g) = uses_at new (new_place l n) (moved l n i) z (keeps_instrs p c n i at g) (stays (folds_at l n) i.op z e)
+no_less : (p : Plan) (c : CodeBlock) → All (Contains (used_by (folded_block p c).instrs)) (used_by c.instrs)
+no_less p c = all_used (Contains (used_by (folded_block p c).instrs)) c.instrs (λ n i z at e.
+    let o = Block.none_less literal_of tells p c z (n, i, at, e) in uses_at (folded_block p c).instrs o.0 o.1 z o.2 o.3)
 
 -- ALL BLOCKS
 pub none_more : (p : Plan) (cs : List CodeBlock) → All (Contains (used_in cs)) (used_in (map (folded_block p) cs))

@@ -3,12 +3,12 @@ use Rattle.std.proofs.Common.{◌≡◌, refl, sym, ap, ◌∙◌, subst, ℕ, z
 use Rattle.std.specs.Prelude.{slice_get, All}
 use Rattle.std.proofs.lemmas.List.{length-map}
 use Rattle.semantics.specs.declared.program.Dest.{Dest}
+use Rattle.semantics.specs.declared.program.Op.{Op}
+use Rattle.semantics.specs.declared.program.Op.TheVariants.{Switch, Link, Give, Drain}
 use Rattle.semantics.specs.Program.{Instr, CodeBlock, Program}
 use Rattle.semantics.specs.Plan.{Plan}
 use Rattle.semantics.specs.Graph.{Graph}
 use Rattle.lowering.specs.Roles.{total}
-use Rattle.fanout.specs.declared.sides.Parting.{Parting}
-use Rattle.fanout.specs.declared.sides.Parting.TheVariants.{AsTheyAre, InOne, InHalves}
 use Rattle.fanout.specs.Sides.{copies, parting_of, firsts_of, seconds_of, parted}
 use Rattle.fanout.specs.Rows.{tied_in}
 use Rattle.fanout.specs.Places as Narrow
@@ -41,14 +41,16 @@ folded_has_literals g p plan =
     ∙ ap (λ zs. entered [] zs) (straight_used g p plan)
 
 -- NARROWED. An instruction has no more copies than destinations.
-sides_few : (s : Parting) (ds es : List Dest) → copies (firsts_of s ds es) + copies (seconds_of s ds es) ≤ length (ds ++ es)
-sides_few AsTheyAre ds es = let k = length-append ds es in omega (arith, k)
-sides_few InOne ds es = omega arith
-sides_few InHalves ds es = halves_few (ds ++ es)
+sides_few : (op : Op) (ds es : List Dest) → copies (firsts_of (parting_of op) ds es) + copies (seconds_of (parting_of op) ds es) ≤ length (ds ++ es)
+sides_few Switch ds es = let k = length-append ds es in omega (arith, k)
+sides_few (Link b) ds es = let k = length-append ds es in omega (arith, k)
+sides_few (Give k) ds es = omega arith
+sides_few (Drain k) ds es = omega arith
+sides_few op ds es = halves_few (ds ++ es)
 
 copies_few : (is : List Instr) → total size (map parted is) ≤ total dests_of is
 copies_few [] = omega arith
-copies_few (i ∷ is) = let here = sides_few (parting_of i.op) i.firsts i.seconds in let more = copies_few is in omega (arith, here, more)
+copies_few (i ∷ is) = let here = sides_few i.op i.firsts i.seconds in let more = copies_few is in omega (arith, here, more)
 
 block_length : (p : Plan) (c : CodeBlock) → length (narrowed_block p c).instrs ≤ length c.instrs + total dests_of c.instrs
 block_length p c =

@@ -12,3 +12,4 @@ pub mod Numbers
 pub mod Choice
 pub mod Joined
 pub mod KeepsMeaning
+pub mod FoldedLiterals
