@@ -26,6 +26,7 @@ use Rattle.fanout.proofs.SoundPlans.{stays_sound}
 use Rattle.select.specs.Emittable.{IsEmittable}
 use Rattle.composition.specs.Graphs.{plan_of, PlansAreSound, PlansHaveObjects, PlansTakeInputs, StraightCodeIsFaithful}
 use Rattle.composition.proofs.SoundObjects.{sound_have_objects}
+use Rattle.composition.proofs.FoldedLaws.{folded_is_faithful}
 
 expanded_is_sound : (g : Graph) → HasText g → WellFormed g → IsSound (expanded (flow_of g))
 expanded_is_sound g text well =
@@ -64,4 +65,7 @@ plans_take_inputs g text well =
     kept (narrowed_block q) (λ c. refl) q.program.blocks p.program.main ∙ kept (folded_block p) (λ c. refl) p.program.blocks p.program.main ∙ takes_inputs (flow_of g) (main_there g well)
 
 pub straight_code_is_faithful : StraightCodeIsFaithful
-straight_code_is_faithful g slots version straight good same = ?
+straight_code_is_faithful g slots version straight good same =
+    let p : Plan = expanded (flow_of g) in
+    let agree = straight_plans_agree g straight.well straight.line in
+    folded_is_faithful g p slots version straight (record { program = agree.0; unmarked = agree.1.0 }) (plans_are_sound g straight.text straight.well).wired good same

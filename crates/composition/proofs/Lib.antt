@@ -10,3 +10,8 @@ pub mod Literals
 pub mod Laws
 pub mod SoundObjects
 pub mod AnyGraph
+pub mod FoldedInstrs
+pub mod FoldedTables
+pub mod FoldedLiterals
+pub mod FoldedObject
+pub mod FoldedLaws

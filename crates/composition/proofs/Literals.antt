@@ -47,7 +47,7 @@ parts_same : (is : List Instr) → used_by (map parted is) ≡ used_by is
 parts_same [] = refl
 parts_same (i ∷ is) = ap (λ zs. listed (literal_of i.op) ++ zs) (parts_same is)
 
-narrow_same : (p : Plan) (cs : List CodeBlock) → used_in (map (narrowed_block p) cs) ≡ used_in cs
+pub narrow_same : (p : Plan) (cs : List CodeBlock) → used_in (map (narrowed_block p) cs) ≡ used_in cs
 narrow_same p [] = refl
 narrow_same p (c ∷ cs) =
     let l = layout_with (tied_in p c.inputs (parts_of c)) (parts_of c) in

@@ -38,7 +38,7 @@ split_length (suc k) (x ∷ xs) = let e = split_length k xs in omega (arith, e)
 abbrev pub dests_of : Instr → ℕ
 dests_of i = length (i.firsts ++ i.seconds)
 
-halves_few : (xs : List Dest) → copies (take (length xs - length xs / 2) xs) + copies (drop (length xs - length xs / 2) xs) ≤ length xs
+pub halves_few : (xs : List Dest) → copies (take (length xs - length xs / 2) xs) + copies (drop (length xs - length xs / 2) xs) ≤ length xs
 halves_few xs = let e = split_length (length xs - length xs / 2) xs in omega (arith, e)
 
 sides_few : (op : Op) (ds es : List Dest) → IsLineOp op (ds ++ es) → copies (firsts_of (parting_of op) ds es) + copies (seconds_of (parting_of op) ds es) ≤ length (ds ++ es)
@@ -61,7 +61,7 @@ copies_few (i ∷ is) h =
     omega (arith, here, more)
 
 module _ {X : Type 0} (ts : List Bool) (one_of : ℕ → Instr → X) (more : ℕ → Instr → List X) (as_sized : (n : ℕ) (i : Instr) → length (more n i) ≡ size i) where
-  spread_length : (n : ℕ) (waiting : List X) (is : List Instr) → length (spread_of ts one_of more n waiting is) ≡ length waiting + length is + total size is
+  pub spread_length : (n : ℕ) (waiting : List X) (is : List Instr) → length (spread_of ts one_of more n waiting is) ≡ length waiting + length is + total size is
   spread_length n waiting [] = omega arith
   spread_length n waiting (i ∷ is) =
       let k = length-append waiting (more n i) in let s = as_sized n i in

@@ -17,9 +17,10 @@ use Rattle.semantics.specs.Program.{Instr, CodeBlock}
 use Rattle.semantics.specs.Rule.{slot_of}
 use Rattle.semantics.specs.Wired.{is_dyadic}
 use Rattle.code.specs.Sound.{IsPlace}
-use Rattle.lowering.specs.Roles.{Role, Start, Line, Result, Join, End, Copy, Shown, Done, Freed, is_instr, is_two, is_pair, is_pair_at, op_for, op_at, op_of, Inlet, inlet, same_inlet, same_role, one, hits, outs, given, lines_from, Wiring, IsThere, IsInlet, IsFed, IsWire}
+use Rattle.lowering.specs.Roles.{Role, Start, Line, Result, Join, End, Copy, Shown, Done, Freed, is_instr, is_two, is_pair, is_pair_at, op_for, op_at, op_of, waits, Inlet, inlet, same_inlet, same_role, one, hits, outs, given, lines_from, Wiring, IsThere, IsInlet, IsFed, IsWire}
 use Rattle.lowering.specs.Implements.{IsStraightBlock}
 use Rattle.lowering.specs.StraightPlan.{count_below, join_count, straight_wire, straight_place, straight_wiring, straight_slot, straight_roles, counted, dest_to, is_pair_line, origin_for, instr_for, straight_code}
+use Rattle.lowering.proofs.Forms.{waits_two}
 use Rattle.lowering.proofs.Counts.{count-lt, count-same, count-find}
 use Rattle.lowering.proofs.Parts.{same_role-true, one_same}
 use Rattle.lowering.proofs.StraightWired.{hits-contains, lawful_wires, straight_wired}
@@ -252,9 +253,9 @@ module _ (version number : ℕ) (b : Block ℕ) (flat : IsStraightBlock b) (with
         right = λ e. by e wire.is_inlet.port;
       }
     where
-      by : x.port ≡ Right → (x.port ≡ Left) ⊎ (is_two b x.role ≡ true) → is_dyadic (op_of b x.role) ≡ true
+      by : x.port ≡ Right → (x.port ≡ Left) ⊎ (waits b w x.role ≡ true) → is_dyadic (op_of b x.role) ≡ true
       by e (inl f) = absurd (cc)
-      by e (inr t) = two_dyadic x.role t
+      by e (inr t) = two_dyadic x.role (waits_two b w x.role t)
 
   all_forward : (r : Role) → IsThere b w r → is_instr r ≡ true → All (IsForward code (straight_place b r)) (map (dest_to b r) (straight_wire b r))
   all_forward r h i = All-map (IsForward code (straight_place b r)) (dest_to b r) (straight_wire b r)

@@ -60,7 +60,7 @@ module _ (version number : ℕ) (b : Block ℕ) (c : CodeBlock) (w0 : Wiring) (l
 
   -- the instruction of a part, with its destinations in two sides
   abbrev pub part : Role → Instr
-  part r = parted (code_of b l0 r)
+  part r = parted (code_of b w0 l0 r)
 
   pub part_at : (r : Role) → IsThere b w0 r → is_instr r ≡ true → slice_get is (l0.place r) ≡ Some (part r)
   part_at r h i = slice_get-map parted c.instrs (l0.place r) ∙ ap (option_map parted) (code.here r h i)
@@ -99,6 +99,7 @@ module _ (version number : ℕ) (b : Block ℕ) (c : CodeBlock) (w0 : Wiring) (l
   pub record State (n : ℕ) (mid : Role → List Address) (low : ℕ) : Type 0 where
     pub w : Wiring
     pub laws : IsWired b w
+    pub same_forms : w.form ≡ w0.form
     pub spot : Role → ℕ
     pub grown : (r : Role) → IsThere b w0 r → IsThere b w r
     pub kept : (r : Role) → IsThere b w0 r → is_instr r ≡ true → Kept n mid r (spot r) (map (stand spot) (w.wire r))
@@ -281,6 +282,7 @@ module _ (version number : ℕ) (b : Block ℕ) (c : CodeBlock) (w0 : Wiring) (l
     grow = record {
       w = w';
       laws = laws';
+      same_forms = s.same_forms;
       spot = spot';
       grown = λ q h. there_up b s.w s.laws r two.before two.first (two.last ∷ []) there i before (goes_from r) refl cut_wires q (s.grown q h);
       kept = kept';

@@ -11,14 +11,17 @@ use Rattle.tags.specs.declared.token.Port.{Port}
 use Rattle.tags.specs.declared.token.Port.TheVariants.{Left}
 use Rattle.semantics.specs.declared.program.Op.TheVariants as Program
 use Rattle.semantics.specs.declared.program.Dest.{Dest}
-use Rattle.semantics.specs.Graph.{Block, node_at}
+use Rattle.semantics.specs.declared.program.Op.{Op}
+use Rattle.semantics.specs.Graph.{Block, Node, node_at, node_count}
 use Rattle.semantics.specs.Program.{Instr, CodeBlock}
 use Rattle.semantics.specs.Cause.{opened_by, open_bounds}
-use Rattle.semantics.specs.Plan.{Plan}
-use Rattle.lowering.specs.Roles.{Role, Start, Line, Result, Join, End, Copy, Shown, Done, Freed, is_instr, same_inlet, Inlet, inlet, one, hits, is_two, is_pair_at, outs, given, lines_from, op_of, Wiring, IsThere, IsFed, IsWire, IsWired}
+use Rattle.semantics.specs.Plan.{Plan, HasShape}
+use Rattle.lowering.specs.Roles.{Role, Start, Line, Result, Join, End, Copy, Shown, Done, Freed, is_instr, same_role, same_inlet, Inlet, inlet, one, hits, is_two, is_pair_at, outs, given, lines_from, op_of, op_in, Form, form_of, formed, waits, waits_as, there_as, Wiring, IsThere, IsInlet, IsFed, IsWire, IsWired}
 use Rattle.lowering.specs.Implements.{Layout, code_of, leads_to, stands_at, IsBlockCode, IsCodeOf}
 use Rattle.lowering.proofs.Orders.{at_first}
 use Rattle.lowering.proofs.Parts.{one_same}
+use Rattle.lowering.proofs.Forms.{input_there, waits_two}
+use Rattle.lowering.proofs.Members.{contains_none}
 use Rattle.lowering.proofs.Ends.{contains_map}
 use Rattle.lowering.proofs.StraightWired.{wire_rises, hits-contains}
 use Rattle.determinacy.proofs.Resolved.{all_get}
@@ -102,15 +105,15 @@ two_is_instr b Done t = absurd (true≢false (sym t))
 two_is_instr b Freed t = absurd (true≢false (sym t))
 
 -- an inlet of an entry is one that the host feeds
-pub entry_given : (b : Block ℕ) (r : Role) (port : Port) → ((r ≡ Start) ⊎ ((j : ℕ) × (j < b.inputs) × (r ≡ Line j))) → (port ≡ Left) ⊎ (is_two b r ≡ true) → 0 < hits (inlet r port) (given b)
-entry_given b r port (inl e) (inl p) = let z : hits (inlet r port) (given b) ≡ hits (inlet Start Left) (given b) = (λ k. hits (inlet (e k) (p k)) (given b)) in omega (arith, z)
-entry_given b r port (inl e) (inr t) = absurd (true≢false (sym t ∙ ap (is_two b) e))
-entry_given b r port (inr (j, h, e)) (inl p) =
+pub entry_given : (b : Block ℕ) (w : Wiring) (r : Role) (port : Port) → ((r ≡ Start) ⊎ ((j : ℕ) × (j < b.inputs) × (r ≡ Line j))) → (port ≡ Left) ⊎ (waits b w r ≡ true) → 0 < hits (inlet r port) (given b)
+entry_given b w r port (inl e) (inl p) = let z : hits (inlet r port) (given b) ≡ hits (inlet Start Left) (given b) = (λ k. hits (inlet (e k) (p k)) (given b)) in omega (arith, z)
+entry_given b w r port (inl e) (inr t) = absurd (true≢false (sym t ∙ ap (waits b w) e))
+entry_given b w r port (inr (j, h, e)) (inl p) =
     let z : hits (inlet r port) (given b) ≡ hits (inlet (Line j) Left) (given b) = (λ k. hits (inlet (e k) (p k)) (given b)) in
     let o = lines_some j 0 b.inputs (omega arith) (omega (arith, h)) in omega (arith, z, o)
-entry_given b r port (inr (j, h, e)) (inr t) =
+entry_given b w r port (inr (j, h, e)) (inr t) =
     let z : node_at b j ≡ None = ap (λ (t : Bool). if t then None else slice_get b.nodes (j - b.inputs)) (lt-ltb j b.inputs h) in
-    absurd (true≢false (sym t ∙ ap (is_two b) e ∙ ap is_pair_at z))
+    absurd (true≢false (sym (waits_two b w r t) ∙ ap (is_two b) e ∙ ap is_pair_at z))
 
 module _ (version number : ℕ) (b : Block ℕ) (c : CodeBlock) (w0 : Wiring) (l0 : Layout) (laws : IsWired b w0) (code : IsBlockCode version number b c w0 l0) (p : Plan) (plain : IsPlainCode c) where
   abbrev is : List Instr
@@ -129,7 +132,7 @@ module _ (version number : ℕ) (b : Block ℕ) (c : CodeBlock) (w0 : Wiring) (l
   linkless = All-map (λ (i : Instr). is_link i.op ≡ false) parted c.instrs (All-weaker IsPlain (λ (i : Instr). is_link i.op ≡ false) (λ i h. h.1) c.instrs plain)
 
   abbrev part : Role → Instr
-  part r = parted (code_of b l0 r)
+  part r = parted (code_of b w0 l0 r)
 
   there_is : (r : Role) → IsThere b w0 r → is_instr r ≡ true → slice_get is (l0.place r) ≡ Some (part r)
   there_is = part_at version number b c w0 l0 code ts all
@@ -137,9 +140,9 @@ module _ (version number : ℕ) (b : Block ℕ) (c : CodeBlock) (w0 : Wiring) (l
   -- the release sends to nothing
   ends : (part End).firsts ++ (part End).seconds ≡ []
   ends =
-      let h = (all_get IsPlain c.instrs (l0.place End) (code_of b l0 End) plain (code.here End tt refl)).0 in
+      let h = (all_get IsPlain c.instrs (l0.place End) (code_of b w0 l0 End) plain (code.here End tt refl)).0 in
       let f = no_items (l0.firsts End) h.0 in let s = no_items (l0.seconds End) h.1 in
-      parted_all (code_of b l0 End) ∙ (λ k. f k ++ s k)
+      parted_all (code_of b w0 l0 End) ∙ (λ k. f k ++ s k)
 
   not_end : (r : Role) (k : ℕ) (d : Dest) → slice_get ((part r).firsts ++ (part r).seconds) k ≡ Some d → r ≡ End → ⊥
   not_end r k d e x = impossible d (sym (ap (λ ds. slice_get ds k) (ap (λ q. (part q).firsts ++ (part q).seconds) x ∙ ends)) ∙ e)
@@ -153,7 +156,7 @@ module _ (version number : ℕ) (b : Block ℕ) (c : CodeBlock) (w0 : Wiring) (l
     n = l0.place r
 
     old : slice_get (l0.firsts r ++ l0.seconds r) k ≡ Some d
-    old = sym (ap (λ ds. slice_get ds k) (parted_all (code_of b l0 r))) ∙ e
+    old = sym (ap (λ ds. slice_get ds k) (parted_all (code_of b w0 l0 r))) ∙ e
 
     wire : (x : Inlet) × Contains (w0.wire r) x × (stands_at l0 x ≡ leads_to n d)
     wire = contains_map (stands_at l0) (w0.wire r) (leads_to n d)
@@ -192,7 +195,7 @@ module _ (version number : ℕ) (b : Block ℕ) (c : CodeBlock) (w0 : Wiring) (l
         by_fed (inr (q, s, lower, g, o, only)) = g
 
     no_entry : ((x.role ≡ Start) ⊎ ((j : ℕ) × (j < b.inputs) × (x.role ≡ Line j))) → ⊥
-    no_entry o = let g = entry_given b x.role x.port o is_wire.is_inlet.port in omega (arith, g, not_given)
+    no_entry o = let g = entry_given b w0 x.role x.port o is_wire.is_inlet.port in omega (arith, g, not_given)
 
     past_entries : c.inputs < t
     past_entries = pick (cases_lt c.inputs t)
@@ -203,7 +206,7 @@ module _ (version number : ℕ) (b : Block ℕ) (c : CodeBlock) (w0 : Wiring) (l
             let same = code.inputs in
             let under : j < b.inputs = omega (arith, u, same) in
             let place = code.entries j under in
-            no_entry (inr (j, under, code.apart x.role (Line j) is_wire.is_inlet.there (omega (arith, under)) is_wire.is_instr refl (omega (arith, z, place))))
+            no_entry (inr (j, under, code.apart x.role (Line j) is_wire.is_inlet.there (input_there b w0 laws j under (omega (arith, under))) is_wire.is_instr refl (omega (arith, z, place))))
 
         pick : (c.inputs < t) ⊎ (t ≤ c.inputs) → c.inputs < t
         pick (inl z) = z
@@ -257,15 +260,29 @@ module _ (version number : ℕ) (b : Block ℕ) (c : CodeBlock) (w0 : Wiring) (l
   now_made : (r : Role) (m : IsMade r) → now r ≡ m.instr
   now_made r m = ap (λ o. unwrap_or o nothing) (made_is r m)
 
-  here : (r : Role) → IsThere b done.w r → is_instr r ≡ true → slice_get made (done.spot r) ≡ Some (code_of b new_layout r)
+  -- the forms are those of the old code
+  same_form : (r : Role) → form_of done.w r ≡ form_of w0 r
+  same_form (Line n) = ap (λ (f : ℕ → Form). f n) done.same_forms
+  same_form r = refl
+
+  same_op : (r : Role) → op_in b done.w r ≡ op_in b w0 r
+  same_op r = ap (λ f. formed f (op_of b r)) (same_form r)
+
+  same_waits : (r : Role) → waits b done.w r ≡ waits b w0 r
+  same_waits r = ap (λ f. waits_as f (is_two b r)) (same_form r)
+
+  line_kept : (n : ℕ) → IsThere b done.w (Line n) → IsThere b w0 (Line n)
+  line_kept n h = subst (λ f. there_as f (n < node_count b)) (same_form (Line n)) h
+
+  here : (r : Role) → IsThere b done.w r → is_instr r ≡ true → slice_get made (done.spot r) ≡ Some (code_of b done.w new_layout r)
   here r h i = pick (done.others r h i)
     where
-      pick : IsThere b w0 r ⊎ IsMade r → slice_get made (done.spot r) ≡ Some (code_of b new_layout r)
-      pick (inl t) = kept_is r t i ∙ ap (λ (i : Instr). Some (record { op = op_of b r; origin = i.origin; slot = i.slot; firsts = i.firsts; seconds = i.seconds })) (sym (now_kept r t i))
+      pick : IsThere b w0 r ⊎ IsMade r → slice_get made (done.spot r) ≡ Some (code_of b done.w new_layout r)
+      pick (inl t) = kept_is r t i ∙ ap (λ (op : Op). Some (record { op = op; origin = (moved l (l0.place r) (part r)).origin; slot = (moved l (l0.place r) (part r)).slot; firsts = (moved l (l0.place r) (part r)).firsts; seconds = (moved l (l0.place r) (part r)).seconds })) (sym (same_op r)) ∙ ap (λ (i : Instr). Some (record { op = op_in b done.w r; origin = i.origin; slot = i.slot; firsts = i.firsts; seconds = i.seconds })) (sym (now_kept r t i))
       pick (inr m) =
           made_is r m
-          ∙ (λ k. Some (record { op = (m.op ∙ ap (op_of b) (sym m.is_copy)) k; origin = m.instr.origin; slot = m.instr.slot; firsts = m.instr.firsts; seconds = m.instr.seconds }))
-          ∙ ap (λ (i : Instr). Some (record { op = op_of b r; origin = i.origin; slot = i.slot; firsts = i.firsts; seconds = i.seconds })) (sym (now_made r m))
+          ∙ (λ k. Some (record { op = (m.op ∙ ap (op_in b done.w) (sym m.is_copy)) k; origin = m.instr.origin; slot = m.instr.slot; firsts = m.instr.firsts; seconds = m.instr.seconds }))
+          ∙ ap (λ (i : Instr). Some (record { op = op_in b done.w r; origin = i.origin; slot = i.slot; firsts = i.firsts; seconds = i.seconds })) (sym (now_made r m))
 
   goes : (r : Role) → IsThere b done.w r → is_instr r ≡ true → IsPermutation (map (leads_to (done.spot r)) ((now r).firsts ++ (now r).seconds)) (map (stands_at new_layout) (done.w.wire r))
   goes r h i = pick (done.others r h i)
@@ -277,17 +294,17 @@ module _ (version number : ℕ) (b : Block ℕ) (c : CodeBlock) (w0 : Wiring) (l
       pick (inr m) = let f = now_made r m in at_first (λ k. map (leads_to (done.spot r)) ((f k).firsts ++ (f k).seconds)) m.sends
 
   -- a part that waits for two words is of the old code
-  two_kept : (r : Role) → IsThere b done.w r → is_two b r ≡ true → IsThere b w0 r
-  two_kept r h t = pick (done.others r h (two_is_instr b r t))
+  two_kept : (r : Role) → IsThere b done.w r → waits b done.w r ≡ true → IsThere b w0 r
+  two_kept r h t = pick (done.others r h (two_is_instr b r (waits_two b done.w r t)))
     where
       pick : IsThere b w0 r ⊎ IsMade r → IsThere b w0 r
       pick (inl u) = u
-      pick (inr m) = absurd (true≢false (sym t ∙ ap (is_two b) m.is_copy))
+      pick (inr m) = absurd (true≢false (sym (waits_two b done.w r t) ∙ ap (is_two b) m.is_copy))
 
-  slots : (r q : Role) → IsThere b done.w r → IsThere b done.w q → is_two b r ≡ true → is_two b q ≡ true → (now r).slot ≡ (now q).slot → r ≡ q
+  slots : (r q : Role) → IsThere b done.w r → IsThere b done.w q → waits b done.w r ≡ true → waits b done.w q ≡ true → (now r).slot ≡ (now q).slot → r ≡ q
   slots r q h g t u e =
       let h0 = two_kept r h t in let g0 = two_kept q g u in
-      code.slots r q h0 g0 t u (sym (ap (λ (i : Instr). i.slot) (now_kept r h0 (two_is_instr b r t))) ∙ e ∙ ap (λ (i : Instr). i.slot) (now_kept q g0 (two_is_instr b q u)))
+      code.slots r q h0 g0 (sym (same_waits r) ∙ t) (sym (same_waits q) ∙ u) (sym (ap (λ (i : Instr). i.slot) (now_kept r h0 (two_is_instr b r (waits_two b done.w r t)))) ∙ e ∙ ap (λ (i : Instr). i.slot) (now_kept q g0 (two_is_instr b q (waits_two b done.w q u))))
 
   -- the entries keep their places
   entry_place : (r : Role) (h : IsThere b w0 r) (i : is_instr r ≡ true) → l0.place r ≤ c.inputs → done.spot r ≡ l0.place r
@@ -302,7 +319,7 @@ module _ (version number : ℕ) (b : Block ℕ) (c : CodeBlock) (w0 : Wiring) (l
   start = let s = code.start in entry_place Start tt refl (omega (arith, s)) ∙ s
 
   entries : (n : ℕ) → n < b.inputs → done.spot (Line n) ≡ 1 + n
-  entries n h = let s = code.entries n h in let i = code.inputs in entry_place (Line n) (omega (arith, h)) refl (omega (arith, s, i, h)) ∙ s
+  entries n h = let s = code.entries n h in let i = code.inputs in entry_place (Line n) (input_there b w0 laws n h (omega (arith, h))) refl (omega (arith, s, i, h)) ∙ s
 
   opens : open_bounds (narrowed_block p c) ≡ []
   opens = none_open made (all_spread ts (moved l) (copies_of l) (sized l) OpensNone OpensNone (λ n i h. h) (copies_open l) is (parts_open c.instrs code.opens))
@@ -310,7 +327,7 @@ module _ (version number : ℕ) (b : Block ℕ) (c : CodeBlock) (w0 : Wiring) (l
   new_code : IsBlockCode version number b (narrowed_block p c) done.w new_layout
   new_code = record {
     here = here;
-    origins = λ n h. ap (λ (i : Instr). i.origin) (now_kept (Line n) h refl) ∙ code.origins n h;
+    origins = λ n h. let h0 = line_kept n h in ap (λ (i : Instr). i.origin) (now_kept (Line n) h0 refl) ∙ code.origins n h0;
     goes = goes;
     apart = done.apart;
     slots = slots;

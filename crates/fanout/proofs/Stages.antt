@@ -9,8 +9,9 @@ use Rattle.tags.specs.declared.token.Port.TheVariants.{Left}
 use Rattle.semantics.specs.declared.program.Dest.{Dest}
 use Rattle.semantics.specs.Graph.{Block, node_count}
 use Rattle.semantics.specs.Program.{Instr, CodeBlock}
-use Rattle.lowering.specs.Roles.{Role, Start, Line, Result, Join, End, Copy, Shown, Done, Freed, Plain, Return, is_instr, Wiring, IsThere, IsWired}
+use Rattle.lowering.specs.Roles.{Role, Start, Line, Result, Join, End, Copy, Shown, Done, Freed, Plain, Return, is_instr, Inlet, Form, AsItIs, OnRight, OnLeft, Settled, Gone, there_as, Wiring, IsThere, IsWired}
 use Rattle.lowering.specs.Implements.{Layout, code_of, leads_to, stands_at, IsBlockCode}
+use Rattle.lowering.proofs.Forms.{line_below}
 use Rattle.lowering.proofs.Orders.{shuffled, Part, ◌⊕◌, at_first, at_last, IsPermutation-same, map-map}
 use Rattle.fanout.specs.declared.sides.Parting.{Parting}
 use Rattle.fanout.specs.declared.sides.Parting.TheVariants.{AsTheyAre, InOne, InHalves}
@@ -47,7 +48,7 @@ module _ (version number : ℕ) (b : Block ℕ) (c : CodeBlock) (w0 : Wiring) (l
   l = layout_with ts is
 
   abbrev part' : Role → Instr
-  part' r = parted (code_of b l0 r)
+  part' r = parted (code_of b w0 l0 r)
 
   abbrev Stage : ℕ → (Role → List Address) → ℕ → Type 0
   Stage = State version number b c w0 l0 code ts all
@@ -66,6 +67,7 @@ module _ (version number : ℕ) (b : Block ℕ) (c : CodeBlock) (w0 : Wiring) (l
   retold n low mid mid' s h = record {
     w = s.w;
     laws = s.laws;
+    same_forms = s.same_forms;
     spot = s.spot;
     grown = s.grown;
     kept = λ q t i. let o = s.kept q t i in record { at = o.at; past = o.past; here = λ x. IsPermutation-trans _ _ _ (h q t i x) (o.here x); ahead = o.ahead };
@@ -99,6 +101,7 @@ module _ (version number : ℕ) (b : Block ℕ) (c : CodeBlock) (w0 : Wiring) (l
   next n low low' mid s h = record {
     w = s.w;
     laws = s.laws;
+    same_forms = s.same_forms;
     spot = s.spot;
     grown = s.grown;
     kept = λ q t i. let o = s.kept q t i in
@@ -219,13 +222,14 @@ module _ (version number : ℕ) (b : Block ℕ) (c : CodeBlock) (w0 : Wiring) (l
 
   first_sent : (r : Role) → IsThere b w0 r → is_instr r ≡ true → IsPermutation (first' r) (map (stand spot0) (w0.wire r))
   first_sent r h i =
-      at_first (ap (map (to l (l0.place r))) (parted_all (code_of b l0 r)) ∙ sym (map-map put (leads_to (l0.place r)) (l0.firsts r ++ l0.seconds r)))
+      at_first (ap (map (to l (l0.place r))) (parted_all (code_of b w0 l0 r)) ∙ sym (map-map put (leads_to (l0.place r)) (l0.firsts r ++ l0.seconds r)))
       (at_last (IsPermutation-map put _ _ (code.goes r h i)) (map-map put (stands_at l0) (w0.wire r)))
 
   begin : IsWired b w0 → (low : ℕ) → Stage 0 first' low
   begin laws low = record {
     w = w0;
     laws = laws;
+    same_forms = refl;
     spot = spot0;
     grown = λ r h. h;
     kept = λ r h i. record { at = refl; past = λ x. absurd (not-suc-le-zero x); here = λ x. first_sent r h i; ahead = λ x. first_sent r h i };
@@ -251,6 +255,37 @@ module _ (version number : ℕ) (b : Block ℕ) (c : CodeBlock) (w0 : Wiring) (l
           by_last j h e (inl x) = d (ap (λ j. l0.place (f j)) (sym x) ∙ e)
           by_last j h e (inr x) = none j (omega (arith, h, x)) e
 
+  -- a node's instruction is there, or left out
+  line_there : (j : ℕ) → j < node_count b → IsThere b w0 (Line j) ⊎ (IsThere b w0 (Line j) → ⊥)
+  line_there j h = by_form (w0.form j)
+    where
+      by_form : (f : Form) → there_as f (j < node_count b) ⊎ (there_as f (j < node_count b) → ⊥)
+      by_form AsItIs = inl h
+      by_form (OnRight z) = inl h
+      by_form (OnLeft z) = inl h
+      by_form (Settled z us) = inl h
+      by_form Gone = inr (λ x. x)
+
+  abbrev FoundLine : ℕ → ℕ → Type 0
+  FoundLine n k = ((j : ℕ) × IsThere b w0 (Line j) × (l0.place (Line j) ≡ n)) ⊎ ((j : ℕ) → j < k → IsThere b w0 (Line j) → l0.place (Line j) ≡ n → ⊥)
+
+  lines_below : (n k : ℕ) → k ≤ node_count b → FoundLine n k
+  lines_below n zero h = inr (λ j h t e. not-suc-le-zero h)
+  lines_below n (suc k) h = pick (line_there k h) (cases_eq (l0.place (Line k)) n) (lines_below n k (omega (arith, h)))
+    where
+      others : (IsThere b w0 (Line k) → l0.place (Line k) ≡ n → ⊥) → ((j : ℕ) → j < k → IsThere b w0 (Line j) → l0.place (Line j) ≡ n → ⊥) → (j : ℕ) → j < suc k → IsThere b w0 (Line j) → l0.place (Line j) ≡ n → ⊥
+      others last none j h t e = by_last (cases_eq j k)
+        where
+          by_last : (j ≡ k) ⊎ (j ≡ k → ⊥) → ⊥
+          by_last (inl x) = last (subst (λ j. IsThere b w0 (Line j)) x t) (ap (λ j. l0.place (Line j)) (sym x) ∙ e)
+          by_last (inr x) = none j (omega (arith, h, x)) t e
+
+      pick : IsThere b w0 (Line k) ⊎ (IsThere b w0 (Line k) → ⊥) → (l0.place (Line k) ≡ n) ⊎ (l0.place (Line k) ≡ n → ⊥) → FoundLine n k → FoundLine n (suc k)
+      pick t d (inl found) = inl found
+      pick (inl t) (inl e) (inr none) = inl (k, t, e)
+      pick (inr x) d (inr none) = inr (others (λ t e. x t) none)
+      pick t (inr d) (inr none) = inr (others (λ t e. d e) none)
+
   abbrev Found : ℕ → Type 0
   Found n = ((r : Role) × AtPlace n r) ⊎ ((r : Role) → IsThere b w0 r → is_instr r ≡ true → l0.place r ≡ n → ⊥)
 
@@ -260,7 +295,7 @@ module _ (version number : ℕ) (b : Block ℕ) (c : CodeBlock) (w0 : Wiring) (l
   abbrev One : ℕ → Role → Type 0
   One n r = (l0.place r ≡ n) ⊎ (l0.place r ≡ n → ⊥)
 
-  found : (n : ℕ) → One n Start → One n End → Counted n Line (node_count b) → Counted n Result b.outputs → Counted n Join w0.joins → Counted n (Copy Plain) (w0.copies Plain) → Counted n (Copy Return) (w0.copies Return) → Found n
+  found : (n : ℕ) → One n Start → One n End → FoundLine n (node_count b) → Counted n Result b.outputs → Counted n Join w0.joins → Counted n (Copy Plain) (w0.copies Plain) → Counted n (Copy Return) (w0.copies Return) → Found n
   found n (inl e) o1 o2 o3 o4 o5 o6 = inl (Start, (tt, refl, e))
   found n (inr d) (inl e) o2 o3 o4 o5 o6 = inl (End, (tt, refl, e))
   found n (inr d) (inr d1) (inl (j, h, e)) o3 o4 o5 o6 = inl (Line j, (h, refl, e))
@@ -273,7 +308,7 @@ module _ (version number : ℕ) (b : Block ℕ) (c : CodeBlock) (w0 : Wiring) (l
       none : (r : Role) → IsThere b w0 r → is_instr r ≡ true → l0.place r ≡ n → ⊥
       none Start h i e = d e
       none End h i e = d1 e
-      none (Line j) h i e = d2 j h e
+      none (Line j) h i e = d2 j (line_below b w0 j h) h e
       none (Result j) h i e = d3 j h e
       none (Join j) h i e = d4 j h e
       none (Copy Plain j) h i e = d5 j h e
@@ -284,7 +319,7 @@ module _ (version number : ℕ) (b : Block ℕ) (c : CodeBlock) (w0 : Wiring) (l
 
   role_at : (n : ℕ) → Found n
   role_at n =
-      found n (cases_eq (l0.place Start) n) (cases_eq (l0.place End) n) (counted_role Line n (node_count b)) (counted_role Result n b.outputs) (counted_role Join n w0.joins)
+      found n (cases_eq (l0.place Start) n) (cases_eq (l0.place End) n) (lines_below n (node_count b) (omega arith)) (counted_role Result n b.outputs) (counted_role Join n w0.joins)
       (counted_role (Copy Plain) n (w0.copies Plain)) (counted_role (Copy Return) n (w0.copies Return))
 
   -- ALL INSTRUCTIONS

@@ -16,9 +16,10 @@ use Rattle.semantics.specs.Program.{Instr, CodeBlock, Program}
 use Rattle.semantics.specs.Plan.{Plan}
 use Rattle.semantics.specs.Bytes.{is_dyadic, IsDest}
 use Rattle.determinacy.proofs.Resolved.{all_get}
-use Rattle.lowering.specs.Roles.{Role, Start, Line, Result, Join, End, Copy, Shown, Done, Freed, is_instr, is_two, is_pair, is_pair_at, op_for, op_at, Inlet, hits, outs, given, Wiring, IsThere, IsFed, IsWire}
+use Rattle.lowering.specs.Roles.{Role, Start, Line, Result, Join, End, Copy, Shown, Done, Freed, is_instr, is_two, is_pair, is_pair_at, op_for, op_at, waits, Inlet, hits, outs, given, Wiring, IsThere, IsFed, IsWire}
 use Rattle.lowering.specs.Implements.{IsStraightBlock, IsStraight}
 use Rattle.lowering.specs.StraightPlan.{join_count, straight_wire, straight_place, straight_wiring, straight_roles, counted, dest_to, instr_for, straight_code, straight_codes, straight_program}
+use Rattle.lowering.proofs.Forms.{waits_two}
 use Rattle.lowering.proofs.Members.{contains_none}
 use Rattle.lowering.proofs.Ends.{contains_map}
 use Rattle.lowering.proofs.StraightFed.{all_fed}
@@ -180,7 +181,7 @@ module _ (version number : ℕ) (b : Block ℕ) (flat : IsStraightBlock b) where
     no_line j e h = by_fed (all_fed b flat x.role x.port is_wire.is_inlet)
       where
         some : 0 < hits x (given b)
-        some = entry_given b x.role x.port (inr (j, h, e)) is_wire.is_inlet.port
+        some = entry_given b w x.role x.port (inr (j, h, e)) is_wire.is_inlet.port
 
         by_fed : IsFed b w x → ⊥
         by_fed (inl (g, none)) = let k = none r stands.0 in omega (arith, k, fed)
@@ -211,12 +212,12 @@ module _ (version number : ℕ) (b : Block ℕ) (flat : IsStraightBlock b) where
       right = λ e. ap (λ m. is_dyadic (slice_get c.instrs m)) leads ∙ ap is_dyadic (instr_at x.role is_wire.is_inlet.there is_wire.is_instr) ∙ role_two x.role (two (ap (λ (d : Dest). d.port) wire.2 ∙ e) is_wire.is_inlet.port);
     }
       where
-        two : x.port ≡ Right → (x.port ≡ Left) ⊎ (is_two b x.role ≡ true) → is_two b x.role ≡ true
+        two : x.port ≡ Right → (x.port ≡ Left) ⊎ (waits b w x.role ≡ true) → is_two b x.role ≡ true
         two e (inl f) = absurd (not_both (sym f ∙ e))
           where
             not_both : Left ≡ Right → ⊥
             not_both e = absurd (cc)
-        two e (inr t) = t
+        two e (inr t) = waits_two b w x.role t
 
   pub entries_there : b.inputs < length c.instrs
   entries_there =

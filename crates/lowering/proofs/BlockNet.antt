@@ -10,8 +10,9 @@ use Rattle.semantics.specs.Graph.{Block, Flow, node_at}
 use Rattle.semantics.specs.Meaning as Meaning
 use Rattle.semantics.specs.Meaning.{origin_at}
 use Rattle.semantics.specs.Machine.{put_at}
-use Rattle.lowering.specs.Roles.{Role, Start, Line, Result, Join, End, Shown, Done, Freed, same_role, same_inlet, Inlet, inlet, Item, item, one, total, hits, is_two, ins, outs, given, lines_from, Wiring, each, zero_value, value_at, IsThere, IsInlet, IsWired, IsWire, IsFed, Copy}
+use Rattle.lowering.specs.Roles.{Role, Start, Line, Result, Join, End, Shown, Done, Freed, same_role, same_inlet, Inlet, inlet, Item, item, one, total, hits, waits, ins, outs, given, lines_from, Wiring, each, zero_value, value_at, value_as, IsThere, IsInlet, IsWired, IsWire, IsFed, Copy}
 use Rattle.lowering.proofs.Parts.{same_role-true, same_inlet-true, one-cases, one_same_role, held, held-each, hits_left}
+use Rattle.lowering.proofs.Forms.{input_there}
 use Rattle.lowering.proofs.Net.{NetConfig, IsLawful, IsNetSound, weigh}
 
 -- a part and its words
@@ -28,7 +29,7 @@ Config = NetConfig Item Firing
 
 -- the items that a part makes of its words
 abbrev pub emits : Flow → Block ℕ → Wiring → Role → Value → Value → List Item
-emits fl b w (Line n) v u = each (value_at (node_at b n) (origin_at fl Meaning.Main n) v u) (w.wire (Line n))
+emits fl b w (Line n) v u = each (value_as (w.form n) (value_at (node_at b n) (origin_at fl Meaning.Main n)) v u) (w.wire (Line n))
 emits fl b w (Result j) v u = item (Shown j) Left u ∷ each zero_value (w.wire (Result j))
 emits fl b w End v u = item Freed Left zero_value ∷ item Done Left zero_value ∷ []
 emits fl b w Start v u = each zero_value (w.wire Start)
@@ -36,8 +37,8 @@ emits fl b w (Copy kind k) v u = each v (w.wire (Copy kind k))
 emits fl b w (Join k) v u = each zero_value (w.wire (Join k))
 emits fl b w r v u = []
 
-abbrev pub takes : Block ℕ → Firing → List Item
-takes b f = item f.role Left f.left ∷ (if is_two b f.role then item f.role Right f.right ∷ [] else [])
+abbrev pub takes : Block ℕ → Wiring → Firing → List Item
+takes b w f = item f.role Left f.left ∷ (if waits b w f.role then item f.role Right f.right ∷ [] else [])
 
 abbrev pub makes : Flow → Block ℕ → Wiring → Firing → List Item
 makes fl b w f = emits fl b w f.role f.left f.right
@@ -74,11 +75,11 @@ Fits b w fired i = IsInlet b w i.inlet
 abbrev pub made : Flow → Block ℕ → Wiring → List ℤ → Inlet → List Firing → ℕ
 made fl b w inputs x fired = held x (begin_items inputs) + weigh (makes fl b w) (λ (i : Item). one (same_inlet x i.inlet)) fired
 
-abbrev pub spent : Block ℕ → Inlet → List Firing → ℕ
-spent b x fired = weigh (takes b) (λ (i : Item). one (same_inlet x i.inlet)) fired
+abbrev pub spent : Block ℕ → Wiring → Inlet → List Firing → ℕ
+spent b w x fired = weigh (takes b w) (λ (i : Item). one (same_inlet x i.inlet)) fired
 
 abbrev pub Sound : Flow → Block ℕ → Wiring → List ℤ → Config → Type 0
-Sound fl b w inputs c = IsNetSound inlet_at same_inlet (takes b) (makes fl b w) (begin_items inputs) role_of (Fits b w) c
+Sound fl b w inputs c = IsNetSound inlet_at same_inlet (takes b w) (makes fl b w) (begin_items inputs) role_of (Fits b w) c
 
 pub held-inputs : (x : Inlet) (from : ℕ) (xs : List ℤ) → held x (input_items from xs) ≡ hits x (lines_from from (length xs))
 held-inputs x from [] = refl
@@ -101,31 +102,31 @@ held-emits fl b w x Done v u = refl
 held-emits fl b w x Freed v u = refl
 
 -- what a firing takes
-pub takes_one : (b : Block ℕ) (r : Role) (v u : Value) → is_two b r ≡ false → takes b (firing r v u) ≡ item r Left v ∷ []
-takes_one b r v u e = ap (λ (t : Bool). item r Left v ∷ (if t then item r Right u ∷ [] else [])) e
+pub takes_one : (b : Block ℕ) (w : Wiring) (r : Role) (v u : Value) → waits b w r ≡ false → takes b w (firing r v u) ≡ item r Left v ∷ []
+takes_one b w r v u e = ap (λ (t : Bool). item r Left v ∷ (if t then item r Right u ∷ [] else [])) e
 
-pub takes_two : (b : Block ℕ) (r : Role) (v u : Value) → is_two b r ≡ true → takes b (firing r v u) ≡ item r Left v ∷ item r Right u ∷ []
-takes_two b r v u e = ap (λ (t : Bool). item r Left v ∷ (if t then item r Right u ∷ [] else [])) e
+pub takes_two : (b : Block ℕ) (w : Wiring) (r : Role) (v u : Value) → waits b w r ≡ true → takes b w (firing r v u) ≡ item r Left v ∷ item r Right u ∷ []
+takes_two b w r v u e = ap (λ (t : Bool). item r Left v ∷ (if t then item r Right u ∷ [] else [])) e
 
 -- what a firing takes, by inlets
-held-takes : (b : Block ℕ) (x : Inlet) (f : Firing) → held x (takes b f) ≡ hits x (ins b f.role)
-held-takes b x f = by_test (is_two b f.role)
+held-takes : (b : Block ℕ) (w : Wiring) (x : Inlet) (f : Firing) → held x (takes b w f) ≡ hits x (ins b w f.role)
+held-takes b w x f = by_test (waits b w f.role)
   where
     by_test : (t : Bool) → held x (item f.role Left f.left ∷ (if t then item f.role Right f.right ∷ [] else [])) ≡ hits x (inlet f.role Left ∷ (if t then inlet f.role Right ∷ [] else []))
     by_test true = refl
     by_test false = refl
 
-pub takes_left : (b : Block ℕ) (r : Role) (f : Firing) → held (inlet r Left) (takes b f) ≡ one (same_role r f.role)
-takes_left b r f = held-takes b (inlet r Left) f ∙ hits_left b r f.role
+pub takes_left : (b : Block ℕ) (w : Wiring) (r : Role) (f : Firing) → held (inlet r Left) (takes b w f) ≡ one (same_role r f.role)
+takes_left b w r f = held-takes b w (inlet r Left) f ∙ hits_left b w r f.role
 
 -- a part has taken its left inlet as often as it fired
-pub spent_left : (b : Block ℕ) (r : Role) (fired : List Firing) → spent b (inlet r Left) fired ≡ times r fired
-spent_left b r [] = refl
-spent_left b r (f ∷ fs) = (λ k. takes_left b r f k + spent_left b r fs k)
+pub spent_left : (b : Block ℕ) (w : Wiring) (r : Role) (fired : List Firing) → spent b w (inlet r Left) fired ≡ times r fired
+spent_left b w r [] = refl
+spent_left b w r (f ∷ fs) = (λ k. takes_left b w r f k + spent_left b w r fs k)
 
-pub spent-ins : (b : Block ℕ) (x : Inlet) (fired : List Firing) → spent b x fired ≡ total (λ (f : Firing). hits x (ins b f.role)) fired
-spent-ins b x [] = refl
-spent-ins b x (f ∷ fs) = (λ k. held-takes b x f k + spent-ins b x fs k)
+pub spent-ins : (b : Block ℕ) (w : Wiring) (x : Inlet) (fired : List Firing) → spent b w x fired ≡ total (λ (f : Firing). hits x (ins b w f.role)) fired
+spent-ins b w x [] = refl
+spent-ins b w x (f ∷ fs) = (λ k. held-takes b w x f k + spent-ins b w x fs k)
 
 -- what stands among items has what holds of each
 pub held-all : (P : Inlet → Type 0) (x : Inlet) (items : List Item) → All (λ (i : Item). P i.inlet) items → 0 < held x items → P x
@@ -175,15 +176,15 @@ module _ (fl : Flow) (b : Block ℕ) (w : Wiring) (laws : IsWired b w) where
   emits_there Freed h v u = All-nil _
 
   -- a part that takes what fits is there
-  pub role_there : (f : Firing) → All (λ (i : Item). IsInlet b w i.inlet) (takes b f) → IsThere b w f.role
-  role_there f all = (All-head (λ (i : Item). IsInlet b w i.inlet) (item f.role Left f.left) (if is_two b f.role then item f.role Right f.right ∷ [] else []) all).there
+  pub role_there : (f : Firing) → All (λ (i : Item). IsInlet b w i.inlet) (takes b w f) → IsThere b w f.role
+  role_there f all = (All-head (λ (i : Item). IsInlet b w i.inlet) (item f.role Left f.left) (if waits b w f.role then item f.role Right f.right ∷ [] else []) all).there
 
   pub there-inputs : (from : ℕ) (xs : List ℤ) → from + length xs ≤ b.inputs → All (λ (i : Item). IsInlet b w i.inlet) (input_items from xs)
   there-inputs from [] h = All-nil (λ (i : Item). IsInlet b w i.inlet)
-  there-inputs from (y ∷ ys) h = All-cons (λ (i : Item). IsInlet b w i.inlet) (item (Line from) Left (Int y)) (input_items (from + 1) ys) (record { there = omega (arith, h); port = inl refl }) (there-inputs (from + 1) ys (omega (arith, h)))
+  there-inputs from (y ∷ ys) h = All-cons (λ (i : Item). IsInlet b w i.inlet) (item (Line from) Left (Int y)) (input_items (from + 1) ys) (record { there = input_there b w laws from (omega (arith, h)) (omega (arith, h)); port = inl refl }) (there-inputs (from + 1) ys (omega (arith, h)))
 
   -- at most one
-  few_outs : (x : Inlet) (r : Role) → IsThere b w r → IsFed b w x → hits x (outs w r) ≤ 1
+  pub few_outs : (x : Inlet) (r : Role) → IsThere b w r → IsFed b w x → hits x (outs w r) ≤ 1
   few_outs x r h (inl (g, none)) = let k = none r h in omega (arith, k)
   few_outs x r h (inr (q, there, lower, g, o, only)) = pick (one-cases (same_role r q))
     where
@@ -206,7 +207,7 @@ module _ (fl : Flow) (b : Block ℕ) (w : Wiring) (laws : IsWired b w) where
       pick (inl a) (inr d) = let k = only q g d in absurd (omega (arith, k, m))
 
   -- THE NET IS LAWFUL: each inlet is made at most once, and each part fires at most once
-  pub lawful : (inputs : List ℤ) → length inputs ≡ b.inputs → IsLawful inlet_at same_inlet (takes b) (makes fl b w) (begin_items inputs) role_of (Fits b w)
+  pub lawful : (inputs : List ℤ) → length inputs ≡ b.inputs → IsLawful inlet_at same_inlet (takes b w) (makes fl b w) (begin_items inputs) role_of (Fits b w)
   lawful inputs fits = record {
     later = λ f fired i a. a;
     makes_allowed = λ f fired all. emits_there f.role (role_there f all) f.left f.right;
@@ -220,14 +221,14 @@ module _ (fl : Flow) (b : Block ℕ) (w : Wiring) (laws : IsWired b w) where
         let e = held-emits fl b w x f.role f.left f.right in let d = held-emits fl b w x g.role g.left g.right in
         one_feeder x f.role g.role (role_there f mine) (role_there g theirs) (laws.fed x (fits_made f x mine h)) (omega (arith, e, h)) (omega (arith, d, k));
     rivals = λ f g fired once c mine theirs same.
-        let a = takes_left b f.role f in let a' = takes_left b f.role g in let o = one_same_role f.role in let o' = ap (λ r. one (same_role f.role r)) (sym same) in
+        let a = takes_left b w f.role f in let a' = takes_left b w f.role g in let o = one_same_role f.role in let o' = ap (λ r. one (same_role f.role r)) (sym same) in
         (inlet f.role Left, omega (arith, a, o), omega (arith, a', o, o'));
   }
     where
       begins : All (λ (i : Item). IsInlet b w i.inlet) (begin_items inputs)
       begins = All-cons (λ (i : Item). IsInlet b w i.inlet) (item Start Left zero_value) (input_items 0 inputs) (left_there Start tt) (there-inputs 0 inputs (omega (arith, fits)))
 
-      fits_made : (f : Firing) (x : Inlet) → All (λ (i : Item). IsInlet b w i.inlet) (takes b f) → 0 < held x (makes fl b w f) → IsInlet b w x
+      fits_made : (f : Firing) (x : Inlet) → All (λ (i : Item). IsInlet b w i.inlet) (takes b w f) → 0 < held x (makes fl b w f) → IsInlet b w x
       fits_made f x all h = held-all (IsInlet b w) x (makes fl b w f) (emits_there f.role (role_there f all) f.left f.right) h
 
       given_once : (x : Inlet) → IsFed b w x → hits x (given b) ≤ 1
@@ -240,7 +241,7 @@ module _ (fl : Flow) (b : Block ℕ) (w : Wiring) (laws : IsWired b w) where
           let i = held-all (IsInlet b w) x (begin_items inputs) begins (omega (arith, n)) in
           let k = held-begins b inputs fits x in let l = given_once x (laws.fed x i) in omega (arith, k, l)
 
-      at_makes : (f : Firing) (x : Inlet) → All (λ (i : Item). IsInlet b w i.inlet) (takes b f) → (held x (makes fl b w f) ≡ 0) ⊎ (held x (makes fl b w f) ≡ 0 → ⊥) → held x (makes fl b w f) ≤ 1
+      at_makes : (f : Firing) (x : Inlet) → All (λ (i : Item). IsInlet b w i.inlet) (takes b w f) → (held x (makes fl b w f) ≡ 0) ⊎ (held x (makes fl b w f) ≡ 0 → ⊥) → held x (makes fl b w f) ≤ 1
       at_makes f x all (inl e) = omega (arith, e)
       at_makes f x all (inr n) =
           let i = fits_made f x all (omega (arith, n)) in let e = held-emits fl b w x f.role f.left f.right in let k = few_outs x f.role (role_there f all) (laws.fed x i) in omega (arith, e, k)

@@ -9,7 +9,7 @@ use Rattle.tags.specs.declared.token.Port.TheVariants.{Left, Right}
 use Rattle.semantics.specs.Graph.{Block, Flow}
 use Rattle.semantics.specs.Program.{Program, CodeBlock, first_of}
 use Rattle.semantics.specs.Faithful.{largest}
-use Rattle.lowering.specs.Roles.{Role, Start, Line, Result, Join, End, Shown, Done, Freed, is_instr, same_inlet, Inlet, Item, one, total, hits, is_two, Wiring, IsThere, IsInlet, Copy}
+use Rattle.lowering.specs.Roles.{Role, Start, Line, Result, Join, End, Shown, Done, Freed, is_instr, same_inlet, Inlet, Item, one, total, hits, waits, Wiring, IsThere, IsInlet, Copy}
 use Rattle.lowering.specs.Implements.{Layout}
 use Rattle.lowering.proofs.Placed.{IsPlaced, main_length}
 use Rattle.lowering.proofs.Orders.{total-append, total-map}
@@ -124,13 +124,13 @@ module _ (fl : Flow) (p : Program) (b : Block ℕ) (w : Wiring) (l : Layout) (pl
   only_left : (x : Inlet) → IsInlet b w x → is_instr x.role ≡ false → x.port ≡ Left
   only_left x h i = pick h.port
     where
-      not_two : (r : Role) → is_instr r ≡ false → is_two b r ≡ true → ⊥
+      not_two : (r : Role) → is_instr r ≡ false → waits b w r ≡ true → ⊥
       not_two (Shown j) i t = true≢false (sym t)
       not_two Done i t = true≢false (sym t)
       not_two Freed i t = true≢false (sym t)
       not_two r i t = true≢false i
 
-      pick : (x.port ≡ Left) ⊎ (is_two b x.role ≡ true) → x.port ≡ Left
+      pick : (x.port ≡ Left) ⊎ (waits b w x.role ≡ true) → x.port ≡ Left
       pick (inl e) = e
       pick (inr t) = absurd (not_two x.role i t)
 
@@ -198,17 +198,17 @@ module _ (fl : Flow) (p : Program) (b : Block ℕ) (w : Wiring) (l : Layout) (pl
   -- A BOUND: each inlet is taken at most once, and there are not more inlets than this
   pub size-le : (inputs : List ℤ) (c : Config) → Sound fl b w inputs c → size fl b w inputs c ≤ 3 * n + 2
   size-le inputs c s =
-      let items = c.waiting ++ flat_map (takes b) c.fired in
+      let items = c.waiting ++ flat_map (takes b w) c.fired in
       let xs : List Inlet = map (λ (i : Item). i.inlet) items in
       let all = All-map (IsInlet b w) (λ (i : Item). i.inlet) items (All-append_right (λ (i : Item). IsInlet b w i.inlet) c.pending items s.allowed) in
       let few : (x : Inlet) → IsInlet b w x → hits x xs ≤ 1 = λ x h.
       let d = total-map (λ (i : Item). i.inlet) (λ y. one (same_inlet x y)) items in
-      let a = total-append (λ (i : Item). one (same_inlet x i.inlet)) c.waiting (flat_map (takes b) c.fired) in
-      let g = held-flat_map x (takes b) c.fired in
+      let a = total-append (λ (i : Item). one (same_inlet x i.inlet)) c.waiting (flat_map (takes b w) c.fired) in
+      let g = held-flat_map x (takes b w) c.fired in
       let m = s.marked (λ (i : Item). one (same_inlet x i.inlet)) in let k = s.safe x in
       omega (arith, a, d, g, m, k) in
       let q = pigeons number (3 * n + 2) xs (All-weaker (IsInlet b w) (λ x. number x < 3 * n + 2) number-below xs all) (once xs all few) in
-      let d = length-map items (λ (i : Item). i.inlet) in let a = length-append c.waiting (flat_map (takes b) c.fired) in let g = length-flat_map (takes b) c.fired in
+      let d = length-map items (λ (i : Item). i.inlet) in let a = length-append c.waiting (flat_map (takes b w) c.fired) in let g = length-flat_map (takes b w) c.fired in
       omega (arith, q, a, d, g)
 
   -- main's block is one of them

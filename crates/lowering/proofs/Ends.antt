@@ -15,7 +15,7 @@ use Rattle.semantics.specs.Program.{Program}
 use Rattle.semantics.specs.Rule.{token}
 use Rattle.semantics.specs.Machine.{Machine, Size, Events}
 use Rattle.semantics.specs.Faithful.{IsRun}
-use Rattle.lowering.specs.Roles.{Role, Start, Line, Result, Join, End, Shown, Done, Freed, is_instr, same_role, same_inlet, Inlet, inlet, Item, one, hits, outs, given, is_two, Wiring, IsThere, IsInlet, IsWire, IsWired, IsFed, Copy}
+use Rattle.lowering.specs.Roles.{Role, Start, Line, Result, Join, End, Shown, Done, Freed, is_instr, same_role, same_inlet, Inlet, inlet, Item, one, hits, outs, given, waits, Wiring, IsThere, IsInlet, IsWire, IsWired, IsFed, Copy}
 use Rattle.lowering.specs.Implements.{Layout}
 use Rattle.lowering.proofs.Placed.{IsPlaced, IsMain}
 use Rattle.lowering.proofs.Parts.{one_same, one_same_role, one-cases, same_inlet-true, held, same_role-refl, same_role-true}
@@ -79,7 +79,7 @@ module _ (fl : Flow) (p : Program) (b : Block ℕ) (w : Wiring) (l : Layout) (la
   module _ (inputs : List ℤ) (fits : length inputs ≡ b.inputs) (c : Config) (s : Sound fl b w inputs c) where
     -- what only r feeds was made by r
     made_means : (x : Inlet) (r : Role) → IsThere b w r → IsInlet b w x → 0 < hits x (outs w r) → 0 < held x (begin_items inputs) + weigh (makes fl b w) (λ (i : Item). one (same_inlet x i.inlet)) c.fired → 0 < times r c.fired
-    made_means x r there i o m = pick (maker inlet_at same_inlet (takes b) (makes fl b w) (begin_items inputs) role_of (Fits b w) (lawful fl b w laws inputs fits) x c.fired)
+    made_means x r there i o m = pick (maker inlet_at same_inlet (takes b w) (makes fl b w) (begin_items inputs) role_of (Fits b w) (lawful fl b w laws inputs fits) x c.fired)
       where
         none_given : hits x (given b) ≡ 0
         none_given = by_fed (laws.fed x i)
@@ -92,18 +92,18 @@ module _ (fl : Flow) (p : Program) (b : Block ℕ) (w : Wiring) (l : Layout) (la
         pick (inl e) = let k = held-begins b inputs fits x in absurd (omega (arith, m, e, k, none_given))
         pick (inr (h, k, g)) =
             let e = held-emits fl b w x h.role h.left h.right in
-            let t = role_there fl b w laws h (takes_allowed inlet_at same_inlet (takes b) (makes fl b w) (begin_items inputs) role_of (Fits b w) (lawful fl b w laws inputs fits) c s h k) in
+            let t = role_there fl b w laws h (takes_allowed inlet_at same_inlet (takes b w) (makes fl b w) (begin_items inputs) role_of (Fits b w) (lawful fl b w laws inputs fits) c s h k) in
             fired_counts r c.fired h k (one_feeder fl b w laws x h.role r t there (laws.fed x i) (omega (arith, e, g)) o)
 
-    has_fired : (r : Role) → 0 < times r c.fired → HasFired inlet_at same_inlet one_same (takes b) (makes fl b w) (begin_items inputs) role_of (Fits b w) (λ x. x.role) (IsInlet b w) CalledFor near c.fired r
+    has_fired : (r : Role) → 0 < times r c.fired → HasFired inlet_at same_inlet one_same (takes b w) (makes fl b w) (begin_items inputs) role_of (Fits b w) (λ x. x.role) (IsInlet b w) CalledFor near c.fired r
     has_fired r t x i e = let k = spent-times b w x c.fired i in let z = ap (λ q. times q c.fired) e in omega (arith, t, k, z)
 
-    leads : LeadsOn inlet_at same_inlet one_same (takes b) (makes fl b w) (begin_items inputs) role_of (Fits b w) (λ x. x.role) (IsInlet b w) CalledFor near End c.fired
+    leads : LeadsOn inlet_at same_inlet one_same (takes b w) (makes fl b w) (begin_items inputs) role_of (Fits b w) (λ x. x.role) (IsInlet b w) CalledFor near End c.fired
     leads r called = pick (laws.leads_on r called.0 called.1)
       where
         pick : (r ≡ End) ⊎ ((x : Inlet) × (0 < hits x (w.wire r))) → (r ≡ End) ⊎ ((x : Inlet) × IsInlet b w x × CalledFor c.fired x.role × (near x.role < near r)
-            × (0 < made_of inlet_at same_inlet one_same (takes b) (makes fl b w) (begin_items inputs) role_of (Fits b w) (λ x. x.role) (IsInlet b w) CalledFor near x c.fired
-            → HasFired inlet_at same_inlet one_same (takes b) (makes fl b w) (begin_items inputs) role_of (Fits b w) (λ x. x.role) (IsInlet b w) CalledFor near c.fired r))
+            × (0 < made_of inlet_at same_inlet one_same (takes b w) (makes fl b w) (begin_items inputs) role_of (Fits b w) (λ x. x.role) (IsInlet b w) CalledFor near x c.fired
+            → HasFired inlet_at same_inlet one_same (takes b w) (makes fl b w) (begin_items inputs) role_of (Fits b w) (λ x. x.role) (IsInlet b w) CalledFor near c.fired r))
         pick (inl e) = inl e
         pick (inr (x, h)) = by_end (cases_Bool (same_role r End))
           where
@@ -111,8 +111,8 @@ module _ (fl : Flow) (p : Program) (b : Block ℕ) (w : Wiring) (l : Layout) (la
             wire = hits_all (IsWire b w r) x (w.wire r) (laws.wires r called.0) h
 
             by_end : (same_role r End ≡ true) ⊎ (same_role r End ≡ false) → (r ≡ End) ⊎ ((x : Inlet) × IsInlet b w x × CalledFor c.fired x.role × (near x.role < near r)
-                × (0 < made_of inlet_at same_inlet one_same (takes b) (makes fl b w) (begin_items inputs) role_of (Fits b w) (λ x. x.role) (IsInlet b w) CalledFor near x c.fired
-                → HasFired inlet_at same_inlet one_same (takes b) (makes fl b w) (begin_items inputs) role_of (Fits b w) (λ x. x.role) (IsInlet b w) CalledFor near c.fired r))
+                × (0 < made_of inlet_at same_inlet one_same (takes b w) (makes fl b w) (begin_items inputs) role_of (Fits b w) (λ x. x.role) (IsInlet b w) CalledFor near x c.fired
+                → HasFired inlet_at same_inlet one_same (takes b w) (makes fl b w) (begin_items inputs) role_of (Fits b w) (λ x. x.role) (IsInlet b w) CalledFor near c.fired r))
             by_end (inl e) = inl (same_role-true r End e)
             by_end (inr e) =
                 let o : 0 < hits x (outs w r) = (let k = in_outs r x called.1 (λ q. true≢false (sym (same_role-refl End) ∙ ap (λ z. same_role z End) (sym q) ∙ e)) in omega (arith, k, h)) in
@@ -128,7 +128,7 @@ module _ (fl : Flow) (p : Program) (b : Block ℕ) (w : Wiring) (l : Layout) (la
     -- once the last part has fired, nothing is on its way to an instruction, and nothing waits
     pub none_named : 0 < held (inlet Freed Left) c.pending → (i : Item) → IsInlet b w i.inlet → is_instr i.inlet.role ≡ true → Contains c.pending i ⊎ Contains c.waiting i → ⊥
     none_named h i need instr k =
-        none_left inlet_at same_inlet one_same (takes b) (makes fl b w) (begin_items inputs) role_of (Fits b w) (λ x. x.role) (IsInlet b w) CalledFor near End c s leads (has_fired End (ended h)) i need (need.there, instr) k
+        none_left inlet_at same_inlet one_same (takes b w) (makes fl b w) (begin_items inputs) role_of (Fits b w) (λ x. x.role) (IsInlet b w) CalledFor near End c s leads (has_fired End (ended h)) i need (need.there, instr) k
 
   to_instr : (r : Role) (port : Port) (f ip : ℕ) (q : Port) → to_at b l r port ≡ To.Instr f ip q → is_instr r ≡ true
   to_instr Start port f ip q e = refl
@@ -172,12 +172,12 @@ module _ (fl : Flow) (p : Program) (b : Block ℕ) (w : Wiring) (l : Layout) (la
       port_left : (x : Inlet) → x.role ≡ Freed → IsInlet b w x → x.port ≡ Left
       port_left x e i = pick i.port
         where
-          pick : (x.port ≡ Left) ⊎ (is_two b x.role ≡ true) → x.port ≡ Left
+          pick : (x.port ≡ Left) ⊎ (waits b w x.role ≡ true) → x.port ≡ Left
           pick (inl q) = q
-          pick (inr t) = absurd (true≢false (sym t ∙ ap (is_two b) e))
+          pick (inr t) = absurd (true≢false (sym t ∙ ap (waits b w) e))
 
       fit : (i : Item) → Contains cur.config.pending i → IsInlet b w i.inlet
-      fit i k = All-contains (λ (i : Item). IsInlet b w i.inlet) cur.config.pending i (All-append_left (λ (i : Item). IsInlet b w i.inlet) cur.config.pending (cur.config.waiting ++ flat_map (takes b) cur.config.fired) cur.sound.allowed) k
+      fit i k = All-contains (λ (i : Item). IsInlet b w i.inlet) cur.config.pending i (All-append_left (λ (i : Item). IsInlet b w i.inlet) cur.config.pending (cur.config.waiting ++ flat_map (takes b w) cur.config.fired) cur.sound.allowed) k
 
       freed : 0 < held (inlet Freed Left) cur.config.pending
       freed =
@@ -194,5 +194,5 @@ module _ (fl : Flow) (p : Program) (b : Block ℕ) (w : Wiring) (l : Layout) (la
       no_slot : (f q : ℕ) → (m.store.slots f q ≡ Empty) ⊎ AtSlot frame_for (slot_for l) held_word no_base cur.config.waiting f q → m.store.slots f q ≡ Empty
       no_slot f q (inl e) = e
       no_slot f q (inr (i, k, a, d)) =
-          let pair = All-contains (λ (i : Item). IsInlet b w i.inlet × (is_two b i.inlet.role ≡ true)) cur.config.waiting i cur.holds.slots.pairs k in
+          let pair = All-contains (λ (i : Item). IsInlet b w i.inlet × (waits b w i.inlet.role ≡ true)) cur.config.waiting i cur.holds.slots.pairs k in
           absurd (none_named inputs cur.fits cur.config cur.sound freed i pair.0 (instr_two fl p b w l laws placed i.inlet.role pair.1) (inr k))

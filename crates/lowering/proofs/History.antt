@@ -9,7 +9,7 @@ use Rattle.semantics.specs.Graph.{Block, Flow}
 use Rattle.semantics.specs.Program.{Program}
 use Rattle.semantics.specs.Machine.{Machine, Size, Events, Run, at_start}
 use Rattle.semantics.specs.Faithful.{IsRun}
-use Rattle.lowering.specs.Roles.{same_inlet, Inlet, Item, item, one, is_two, Wiring, IsThere, IsWired}
+use Rattle.lowering.specs.Roles.{same_inlet, Inlet, Item, item, one, waits, Wiring, IsThere, IsWired}
 use Rattle.lowering.specs.Implements.{Layout}
 use Rattle.lowering.proofs.Placed.{IsPlaced, IsMain}
 use Rattle.lowering.proofs.Orders.{shuffled, Part, ◌⊕◌}
@@ -21,8 +21,8 @@ use Rattle.lowering.proofs.Instructions.{tok}
 use Rattle.lowering.proofs.Runs.{Current, Next, next, after, current_begins, inputs_count, ended}
 
 -- what a firing takes is at its part
-taken_role : (b : Block ℕ) (f : Firing) (i : Item) → Contains (takes b f) i → i.inlet.role ≡ f.role
-taken_role b f i c = pick (contains_cases (item f.role Left f.left) _ i c)
+taken_role : (b : Block ℕ) (w : Wiring) (f : Firing) (i : Item) → Contains (takes b w f) i → i.inlet.role ≡ f.role
+taken_role b w f i c = pick (contains_cases (item f.role Left f.left) _ i c)
   where
     rest : (t : Bool) → Contains (if t then item f.role Right f.right ∷ [] else []) i → i.inlet.role ≡ f.role
     rest true k = later (contains_cases _ [] i k)
@@ -32,9 +32,9 @@ taken_role b f i c = pick (contains_cases (item f.role Left f.left) _ i c)
         later (inr n) = absurd (contains_none i n)
     rest false k = absurd (contains_none i k)
 
-    pick : (item f.role Left f.left ≡ i) ⊎ Contains (if is_two b f.role then item f.role Right f.right ∷ [] else []) i → i.inlet.role ≡ f.role
+    pick : (item f.role Left f.left ≡ i) ⊎ Contains (if waits b w f.role then item f.role Right f.right ∷ [] else []) i → i.inlet.role ≡ f.role
     pick (inl e) = sym (ap (λ (i : Item). i.inlet.role) e)
-    pick (inr k) = rest (is_two b f.role) k
+    pick (inr k) = rest (waits b w f.role) k
 
 module _ (fl : Flow) (p : Program) (b : Block ℕ) (w : Wiring) (l : Layout) (laws : IsWired b w) (main : IsMain fl b) (placed : IsPlaced fl p b w l) where
   -- An event in which a part fired that feeds the inlet: what it took, and what it made.
@@ -52,7 +52,7 @@ module _ (fl : Flow) (p : Program) (b : Block ℕ) (w : Wiring) (l : Layout) (la
   SomeFeeds x z old (ev ∷ later) new r = Feeds x ev.1 r.1.made ⊎ SomeFeeds x z r.0 later new r.2
 
   abbrev pub all_up : Config → List Item
-  all_up c = c.waiting ++ flat_map (takes b) c.fired
+  all_up c = c.waiting ++ flat_map (takes b w) c.fired
 
   abbrev made_at : Inlet → Config → ℕ
   made_at x c = weigh (makes fl b w) (λ (i : Item). one (same_inlet x i.inlet)) c.fired
@@ -70,19 +70,19 @@ module _ (fl : Flow) (p : Program) (b : Block ℕ) (w : Wiring) (l : Layout) (la
       → 0 < made_at x n.step.config → (0 < made_at x c) ⊎ Feeds x t made
   feeds_now inputs mid t made c n x h = by_move n.step.config n.step.move n.step.taken n.step.made_is h
     where
-      by_move : (d : Config) (m : NetMove (takes b) (makes fl b w) c d) → takes_up m ≡ n.item ∷ [] → IsPermutation made (map (tok b l) (made_by m)) → 0 < made_at x d → (0 < made_at x c) ⊎ Feeds x t made
+      by_move : (d : Config) (m : NetMove (takes b w) (makes fl b w) c d) → takes_up m ≡ n.item ∷ [] → IsPermutation made (map (tok b l) (made_by m)) → 0 < made_at x d → (0 < made_at x c) ⊎ Feeds x t made
       by_move d (Waits i rest q e) one mk k = inl (let s = ap (made_at x) e in omega (arith, s, k))
       by_move d (Goes f now kept rest others q q' both e) one mk k = pick (cases_eq (held x (makes fl b w f)) 0)
         where
           of_part : n.item.inlet.role ≡ f.role
-          of_part = taken_role b f n.item (Contains-permutation _ _ n.item both (subst (λ now. Contains (now ++ kept) n.item) (sym one) (contains_head n.item kept)))
+          of_part = taken_role b w f n.item (Contains-permutation _ _ n.item both (subst (λ now. Contains (now ++ kept) n.item) (sym one) (contains_head n.item kept)))
 
           pick : (held x (makes fl b w f) ≡ 0) ⊎ (held x (makes fl b w f) ≡ 0 → ⊥) → (0 < made_at x c) ⊎ Feeds x t made
           pick (inl none) = inl (let s = ap (made_at x) e in omega (arith, s, k, none))
           pick (inr some) = inr (record { firing = f; item = n.item; is = n.is; of_part = of_part; there = subst (IsThere b w) of_part n.fits.there; feeds = omega (arith, some); made_is = mk })
 
   up_now : (inputs : List ℤ) (mid : Machine) (t : Token) (made : List Token) (c : Config) (n : Next fl p b w l laws main placed inputs mid t made c) → IsPermutation (n.item ∷ all_up c) (all_up n.step.config)
-  up_now inputs mid t made c n = subst (λ now. IsPermutation (now ++ all_up c) (all_up n.step.config)) n.step.taken (up_moves inlet_at same_inlet (takes b) (makes fl b w) (begin_items inputs) role_of c n.step.config n.step.move)
+  up_now inputs mid t made c n = subst (λ now. IsPermutation (now ++ all_up c) (all_up n.step.config)) n.step.taken (up_moves inlet_at same_inlet (takes b w) (makes fl b w) (begin_items inputs) role_of c n.step.config n.step.move)
 
   -- each run has its history
   pub history : (inputs : List ℤ) (z : Size) (events : Events) (old new : Machine) (cur : Current fl p b w l laws main placed inputs old) (r : Run p z old events new) → History inputs z old new events cur r

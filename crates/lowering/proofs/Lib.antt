@@ -11,6 +11,8 @@ pub mod NetRests
 pub mod NetEnds
 pub mod NetChains
 pub mod Arms
+pub mod Forms
+pub mod Settling
 -- the machine over the code of a straight block
 pub mod Placed
 pub mod BlockNet
@@ -36,6 +38,8 @@ pub mod StraightFed
 pub mod StraightWired
 pub mod StraightProgram
 pub mod OneCopyMore
+pub mod OneFoldMore
+pub mod ManyFolds
 pub mod StraightPlanned
 -- the theorem
 pub mod Theorem

@@ -4,32 +4,33 @@ use Rattle.std.proofs.Common.{◌≡◌, ℕ, ◌+◌, ◌*◌, ◌<◌, ◌≤�
 use Rattle.std.specs.Prelude.{All, IsPermutation}
 use Rattle.std.proofs.lemmas.Bool.{cases_Bool, cases_eq}
 use Rattle.std.proofs.lemmas.List.Concat.{flat_map-append}
-use Rattle.std.proofs.lemmas.List.Sorted.{IsPermutation-sym, IsPermutation-trans, All-permutation}
+use Rattle.std.proofs.lemmas.List.Sorted.{IsPermutation-trans, All-permutation}
 use Rattle.std.proofs.lemmas.List.Elements.{All-cons, All-head, All-tail, All-weaker}
 use Rattle.tags.specs.declared.token.Port.{Port}
 use Rattle.tags.specs.declared.token.Port.TheVariants.{Left, Right}
 use Rattle.semantics.specs.Graph.{Block}
-use Rattle.lowering.specs.Roles.{Role, Start, Line, Result, Join, End, Copy, Shown, Done, Freed, is_instr, same_role, same_inlet, Inlet, inlet, one, hits, is_two, outs, given, stands_for, uses_along, uses_for, Carried, Plain, Return, same_carried, goes_from, Wiring, IsThere, IsInlet, IsFed, IsWire, IsWired}
-use Rattle.lowering.proofs.Orders.{IsPermutation-same, at_first, flat_map-IsPermutation, total-append, total-IsPermutation, shuffled, Part, ◌⊕◌}
+use Rattle.lowering.specs.Roles.{Role, Start, Line, Result, Join, End, Copy, Shown, Done, Freed, is_instr, same_role, same_inlet, Inlet, inlet, one, hits, waits, outs, given, stands_for, uses_along, uses_for, Settles, Carried, Plain, Return, same_carried, goes_from, Wiring, IsThere, IsInlet, IsFed, IsWire, IsWired}
+use Rattle.lowering.proofs.Orders.{IsPermutation-same, at_last, flat_map-IsPermutation, total-append, total-IsPermutation, shuffled, Part, ◌⊕◌}
+use Rattle.lowering.proofs.Settling.{settles_same, settles_last}
 use Rattle.lowering.proofs.Parts.{same_carried-refl, same_role-true, same_role-refl, same_inlet-true, one_same}
 use Rattle.lowering.proofs.Net.{All-append_left, All-append_right}
 use Rattle.lowering.proofs.StraightWired.{wire_rises}
 use Rattle.lowering.proofs.StraightFed.{lines_miss}
 
 -- what a part makes: along its wires, and elsewhere
-abbrev extra : Role → List Inlet
+abbrev pub extra : Role → List Inlet
 extra (Result j) = inlet (Shown j) Left ∷ []
 extra End = inlet Freed Left ∷ inlet Done Left ∷ []
 extra r = []
 
-abbrev sends : Wiring → Role → List Inlet
+abbrev pub sends : Wiring → Role → List Inlet
 sends w End = []
 sends w (Shown j) = []
 sends w Done = []
 sends w Freed = []
 sends w r = w.wire r
 
-outs_hits : (w : Wiring) (r : Role) (x : Inlet) → hits x (outs w r) ≡ hits x (extra r) + hits x (sends w r)
+pub outs_hits : (w : Wiring) (r : Role) (x : Inlet) → hits x (outs w r) ≡ hits x (extra r) + hits x (sends w r)
 outs_hits w Start x = omega arith
 outs_hits w (Line n) x = omega arith
 outs_hits w (Result j) x = omega arith
@@ -55,6 +56,7 @@ module _ (b : Block ℕ) (w : Wiring) (laws : IsWired b w) (r : Role) (kept : Li
     rank = λ q. if same_role q (Copy c (w.copies c)) then 2 * w.rank r + 1 else 2 * w.rank q;
     copies = λ d. if same_carried d c then w.copies d + 1 else w.copies d;
     behind = λ d k. if same_role (Copy d k) (Copy c (w.copies c)) then uses_along w (m ∷ ms) else w.behind d k;
+    form = w.form;
   }
 
   -- WHICH PARTS THERE ARE
@@ -130,10 +132,10 @@ module _ (b : Block ℕ) (w : Wiring) (laws : IsWired b w) (r : Role) (kept : Li
   inlet_down : (x : Inlet) → IsInlet b split x → (x ≡ inlet new Left) ⊎ IsInlet b w x
   inlet_down x h = pick (there_down x.role h.there) h.port
     where
-      pick : (x.role ≡ new) ⊎ IsThere b w x.role → (x.port ≡ Left) ⊎ (is_two b x.role ≡ true) → (x ≡ inlet new Left) ⊎ IsInlet b w x
+      pick : (x.role ≡ new) ⊎ IsThere b w x.role → (x.port ≡ Left) ⊎ (waits b w x.role ≡ true) → (x ≡ inlet new Left) ⊎ IsInlet b w x
       pick (inr t) p = inr (record { there = t; port = p })
       pick (inl e) (inl p) = inl (λ k. record { role = e k; port = p k })
-      pick (inl e) (inr two) = absurd (true≢false (sym two ∙ ap (is_two b) e))
+      pick (inl e) (inr two) = absurd (true≢false (sym two ∙ ap (waits b w) e))
 
   -- WIRES
   wire_of_r : split_wire r ≡ inlet new Left ∷ kept
@@ -202,7 +204,7 @@ module _ (b : Block ℕ) (w : Wiring) (laws : IsWired b w) (r : Role) (kept : Li
   uses_same Done h = refl
   uses_same Freed h = refl
 
-  split_uses : (q : Role) → IsThere b split q → IsPermutation (uses_along split (split_wire q)) (uses_for b split q)
+  split_uses : (q : Role) → IsThere b split q → Settles b (uses_for b split q) (uses_along split (split_wire q))
   split_uses q h = pick (there_down q h) (cases_Bool (same_role q r))
     where
       left : All (IsWire b w r) kept
@@ -211,22 +213,23 @@ module _ (b : Block ℕ) (w : Wiring) (laws : IsWired b w) (r : Role) (kept : Li
       right : All (IsWire b w r) (m ∷ ms)
       right = All-append_right (IsWire b w r) kept (m ∷ ms) cut_wires
 
-      at_r : IsPermutation (uses_along split (split_wire r)) (uses_for b split r)
+      at_r : Settles b (uses_for b split r) (uses_along split (split_wire r))
       at_r =
           let e : uses_along split (split_wire r) ≡ uses_along w (m ∷ ms) ++ uses_along w kept = ap (uses_along split) wire_of_r ∙ (λ k. behind_new k ++ along_same r kept left k) in
           let p : IsPermutation (uses_along w (w.wire r)) (uses_along w kept ++ uses_along w (m ∷ ms)) =
           subst (IsPermutation (uses_along w (w.wire r))) (flat_map-append (λ (x : Inlet). stands_for w x.role x.port) kept (m ∷ ms)) (flat_map-IsPermutation (λ (x : Inlet). stands_for w x.role x.port) _ _ cut) in
-          at_first e (IsPermutation-trans _ _ _ (shuffled (uses_along w (m ∷ ms) ∷ uses_along w kept ∷ []) (Part 0 ⊕ Part 1) (Part 1 ⊕ Part 0) refl)
-          (IsPermutation-trans _ _ _ (IsPermutation-sym _ _ p) (subst (IsPermutation (uses_along w (w.wire r))) (sym (uses_same r there)) (laws.uses r there))))
+          subst (λ us. Settles b us (uses_along split (split_wire r))) (sym (uses_same r there))
+          (settles_last b (uses_for b w r) (uses_along w (w.wire r)) (uses_along split (split_wire r)) (laws.uses r there)
+          (at_last (IsPermutation-trans _ _ _ p (shuffled (uses_along w kept ∷ uses_along w (m ∷ ms) ∷ []) (Part 0 ⊕ Part 1) (Part 1 ⊕ Part 0) refl)) (sym e)))
 
-      pick : (q ≡ new) ⊎ IsThere b w q → (same_role q r ≡ true) ⊎ (same_role q r ≡ false) → IsPermutation (uses_along split (split_wire q)) (uses_for b split q)
+      pick : (q ≡ new) ⊎ IsThere b w q → (same_role q r ≡ true) ⊎ (same_role q r ≡ false) → Settles b (uses_for b split q) (uses_along split (split_wire q))
       pick (inl e) s =
-          subst (λ q. IsPermutation (uses_along split (split_wire q)) (uses_for b split q)) (sym e)
-          (IsPermutation-same _ _ (ap (uses_along split) wire_of_new ∙ along_same r (m ∷ ms) right ∙ sym behind_new))
-      pick (inr t) (inl s) = subst (λ q. IsPermutation (uses_along split (split_wire q)) (uses_for b split q)) (sym (same_role-true q r s)) at_r
+          subst (λ q. Settles b (uses_for b split q) (uses_along split (split_wire q))) (sym e)
+          (settles_same b _ _ (IsPermutation-same _ _ (sym (ap (uses_along split) wire_of_new ∙ along_same r (m ∷ ms) right ∙ sym behind_new))))
+      pick (inr t) (inl s) = subst (λ q. Settles b (uses_for b split q) (uses_along split (split_wire q))) (sym (same_role-true q r s)) at_r
       pick (inr t) (inr s) =
-          at_first (ap (uses_along split) (wire_of q t s) ∙ along_same q (w.wire q) (laws.wires q t))
-          (subst (IsPermutation (uses_along w (w.wire q))) (sym (uses_same q t)) (laws.uses q t))
+          subst (λ us. Settles b us (uses_along split (split_wire q))) (sym (uses_same q t))
+          (subst (Settles b (uses_for b w q)) (sym (ap (uses_along split) (wire_of q t s) ∙ along_same q (w.wire q) (laws.wires q t))) (laws.uses q t))
 
   -- FEEDING
   and-false : (s t : Bool) → s ≡ false → (s && t) ≡ false
@@ -434,4 +437,4 @@ module _ (b : Block ℕ) (w : Wiring) (laws : IsWired b w) (r : Role) (kept : Li
 
   -- ONE COPY MORE
   pub split_wired : IsWired b split
-  split_wired = record { wires = split_wires; fed = split_fed; uses = split_uses; leads_on = split_leads; highest = split_highest }
+  split_wired = record { wires = split_wires; fed = split_fed; uses = split_uses; leads_on = split_leads; highest = split_highest; forms = laws.forms; inputs = laws.inputs }

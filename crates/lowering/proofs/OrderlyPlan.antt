@@ -19,7 +19,7 @@ use Rattle.semantics.specs.Plan.{Plan}
 use Rattle.semantics.specs.Sharing as Sharing
 use Rattle.semantics.specs.Sharing.{Arc, arc, arcs_to, arcs_from, arcs_of, arcs_in}
 use Rattle.semantics.specs.Arcs.{GoesTo, UsesBy, UsesArc, SomeEvent}
-use Rattle.lowering.specs.Roles.{Role, Start, Line, Result, Join, End, Shown, Done, Freed, is_instr, same_inlet, Inlet, inlet, Item, one, hits, outs, op_for, op_at, op_of, Wiring, IsThere, IsWired, Copy}
+use Rattle.lowering.specs.Roles.{Role, Start, Line, Result, Join, End, Shown, Done, Freed, is_instr, same_inlet, Inlet, inlet, Item, one, hits, outs, op_for, op_at, op_in, Form, AsItIs, OnRight, OnLeft, formed, Wiring, IsThere, IsWired, Copy}
 use Rattle.lowering.specs.Implements.{Layout, code_of, leads_to, stands_at, IsBlockCode}
 use Rattle.lowering.proofs.Placed.{IsPlaced, IsMain, moved, placed}
 use Rattle.lowering.proofs.Parts.{held, one-cases, same_inlet-true}
@@ -31,7 +31,7 @@ use Rattle.lowering.proofs.History.{Feeds, SomeFeeds}
 use Rattle.lowering.proofs.Ports.{IsAt}
 
 -- MEMBERS
-contains_image : {X Y : Type 0} (f : X → Y) (xs : List X) (x : X) → Contains xs x → Contains (map f xs) (f x)
+pub contains_image : {X Y : Type 0} (f : X → Y) (xs : List X) (x : X) → Contains xs x → Contains (map f xs) (f x)
 contains_image f [] x c = absurd (contains_none x c)
 contains_image f (y ∷ xs) x c = pick (contains_cases y xs x c) (contains_image f xs x)
   where
@@ -39,7 +39,7 @@ contains_image f (y ∷ xs) x c = pick (contains_cases y xs x c) (contains_image
     pick (inl e) more = subst (λ z. Contains (f y ∷ map f xs) (f z)) e (contains_head (f y) (map f xs))
     pick (inr k) more = contains_tail (f y) (map f xs) (f x) (more k)
 
-hits_contain : (x : Inlet) (xs : List Inlet) → 0 < hits x xs → Contains xs x
+pub hits_contain : (x : Inlet) (xs : List Inlet) → 0 < hits x xs → Contains xs x
 hits_contain x xs h = hits_all (Contains xs) x xs (All-contains_itself xs) h
 
 -- an item at an inlet that is counted
@@ -55,6 +55,8 @@ held_item x (i ∷ items) h = pick (one-cases (same_inlet x i.inlet)) (held_item
 abbrev is_plain : Op → Bool
 is_plain (Program.Apply1 op) = true
 is_plain (Program.Apply2 op) = true
+is_plain (Program.Apply2Right op z) = true
+is_plain (Program.Apply2Left op z) = true
 is_plain (Program.Lit z) = true
 is_plain Program.Copy = true
 is_plain Program.Sync = true
@@ -72,16 +74,24 @@ plain_at : (o : Option (Node ℕ)) → is_plain (op_at o) ≡ true
 plain_at None = refl
 plain_at (Some n) = plain_for n.kind
 
-plain_of : (b : Block ℕ) (r : Role) → is_plain (op_of b r) ≡ true
-plain_of b (Line n) = plain_at (node_at b n)
-plain_of b (Result j) = refl
-plain_of b (Join k) = refl
-plain_of b End = refl
-plain_of b r = refl
+form_plain : (f : Form) (op : Op) → is_plain op ≡ true → is_plain (formed f op) ≡ true
+form_plain AsItIs op h = h
+form_plain (OnRight z) (Program.Apply2 op) h = refl
+form_plain (OnLeft z) (Program.Apply2 op) h = refl
+form_plain f op h = h
+
+plain_of : (b : Block ℕ) (w : Wiring) (r : Role) → is_plain (op_in b w r) ≡ true
+plain_of b w (Line n) = form_plain (w.form n) (op_at (node_at b n)) (plain_at (node_at b n))
+plain_of b w (Result j) = refl
+plain_of b w (Join k) = refl
+plain_of b w End = refl
+plain_of b w r = refl
 
 plain_arcs : (p : Plan) (n : ℕ) (i : Instr) (op : Op) → is_plain op ≡ true → arcs_from p n i op ≡ arcs_to n false i.firsts ++ arcs_to n true i.seconds
 plain_arcs p n i (Program.Apply1 op) h = refl
 plain_arcs p n i (Program.Apply2 op) h = refl
+plain_arcs p n i (Program.Apply2Right op z) h = refl
+plain_arcs p n i (Program.Apply2Left op z) h = refl
 plain_arcs p n i (Program.Lit z) h = refl
 plain_arcs p n i Program.Copy h = refl
 plain_arcs p n i Program.Sync h = refl
@@ -92,6 +102,8 @@ plain_arcs p n i op h = absurd (true≢false (sym h))
 plain_uses : (p : Plan) (f ip : ℕ) (q : Port) (i : Instr) (op : Op) (t : Token) (new : Machine) → is_plain op ≡ true → GoesTo f ip q t → UsesBy p f ip q i op t new
 plain_uses p f ip q i (Program.Apply1 op) t new h g = g
 plain_uses p f ip q i (Program.Apply2 op) t new h g = g
+plain_uses p f ip q i (Program.Apply2Right op z) t new h g = g
+plain_uses p f ip q i (Program.Apply2Left op z) t new h g = g
 plain_uses p f ip q i (Program.Lit z) t new h g = g
 plain_uses p f ip q i Program.Copy t new h g = g
 plain_uses p f ip q i Program.Sync t new h g = g
@@ -137,8 +149,8 @@ module _ (fl : Flow) (plan : Plan) (b : Block ℕ) (c : CodeBlock) (w : Wiring) 
       in_block : (y : Arc) → Contains (arcs_to (l.place r) false (l.firsts r) ++ arcs_to (l.place r) true (l.seconds r)) y → Contains (arcs_in plan (slice_get p.blocks p.main)) y
       in_block y m =
           subst (λ o. Contains (arcs_in plan o) y) (sym at)
-          (arcs_there plan 0 c.instrs (l.place r) (l.place r) (code_of b l r) y (code.here r h i) (omega arith)
-          (subst (λ ys. Contains ys y) (sym (plain_arcs plan (l.place r) (code_of b l r) (op_of b r) (plain_of b r))) m))
+          (arcs_there plan 0 c.instrs (l.place r) (l.place r) (code_of b w l r) y (code.here r h i) (omega arith)
+          (subst (λ ys. Contains ys y) (sym (plain_arcs plan (l.place r) (code_of b w l r) (op_in b w r) (plain_of b w r))) m))
 
       of_dest : (d : Dest) → Contains (l.firsts r) d ⊎ Contains (l.seconds r) d → leads_to (l.place r) d ≡ stands_at l x → (y : Arc) × IsArc r x y
       of_dest d (inl m) e =
@@ -205,7 +217,7 @@ module _ (fl : Flow) (plan : Plan) (b : Block ℕ) (c : CodeBlock) (w : Wiring) 
         b = p.main;
         x = y.0;
         side = g.item.inlet.port;
-        i = code_of b l r;
+        i = code_of b w l r;
         t = tok b far j.0;
         is_arc = y.1.there;
         place = let s = a.place in let e = y.1.place in omega (arith, s, e);
@@ -214,7 +226,7 @@ module _ (fl : Flow) (plan : Plan) (b : Block ℕ) (c : CodeBlock) (w : Wiring) 
             ∙ (λ k. To.Instr (sym a.frame k) (first_of p p.main + sym y.1.from k) g.item.inlet.port);
         fired = ap (λ n. Rattle.semantics.specs.Program.instr_at p (first_of p p.main + n)) y.1.from ∙ put.here r g.there wire.0;
         is_made = Contains-permutation _ _ _ (IsPermutation-sym _ _ g.made_is) (contains_image (tok b far) (makes fl b w g.firing) j.0 j.1);
-        uses = plain_uses plan f ip q (code_of b l r) (op_of b r) (tok b far j.0) new (plain_of b r)
+        uses = plain_uses plan f ip q (code_of b w l r) (op_in b w r) (tok b far j.0) new (plain_of b w r)
             ((λ k. to_at b far (j.2 k).role (j.2 k).port) ∙ to_instr x.role x.port a.instr ∙ (λ k. To.Instr (sym a.frame k) (a.place k) (a.port k)));
       }
 

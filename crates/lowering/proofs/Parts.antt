@@ -5,7 +5,7 @@ use Rattle.tags.specs.declared.value.Value.{Value}
 use Rattle.tags.specs.declared.token.Port.{Port}
 use Rattle.tags.specs.declared.token.Port.TheVariants.{Left, Right}
 use Rattle.semantics.specs.Graph.{Block}
-use Rattle.lowering.specs.Roles.{Role, Start, Line, Result, Join, End, Shown, Done, Freed, same_role, same_port, same_inlet, Inlet, inlet, Item, one, total, hits, is_two, ins, each, Copy, Carried, Plain, Return, same_carried}
+use Rattle.lowering.specs.Roles.{Role, Start, Line, Result, Join, End, Shown, Done, Freed, same_role, same_port, same_inlet, Inlet, inlet, Item, one, total, hits, waits, ins, Wiring, each, Copy, Carried, Plain, Return, same_carried}
 use Rattle.lowering.proofs.Orders.{total-map}
 
 pub same_carried-true : (c d : Carried) → same_carried c d ≡ true → c ≡ d
@@ -75,19 +75,19 @@ roles_in r items = total (λ (i : Item). one (same_role r i.inlet.role)) items
 pub held-each : (x : Inlet) (v : Value) (xs : List Inlet) → held x (each v xs) ≡ hits x xs
 held-each x v xs = total-map _ (λ (i : Item). one (same_inlet x i.inlet)) xs
 
-pub hits-ins_two : (b : Block ℕ) (r : Role) (x : Inlet) → is_two b r ≡ true → hits x (ins b r) ≡ one (same_inlet x (inlet r Left)) + one (same_inlet x (inlet r Right))
-hits-ins_two b r x e = rw e (omega arith)
+pub hits-ins_two : (b : Block ℕ) (w : Wiring) (r : Role) (x : Inlet) → waits b w r ≡ true → hits x (ins b w r) ≡ one (same_inlet x (inlet r Left)) + one (same_inlet x (inlet r Right))
+hits-ins_two b w r x e = rw e (omega arith)
 
-pub hits-ins_one : (b : Block ℕ) (r : Role) (x : Inlet) → is_two b r ≡ false → hits x (ins b r) ≡ one (same_inlet x (inlet r Left))
-hits-ins_one b r x e = rw e (omega arith)
+pub hits-ins_one : (b : Block ℕ) (w : Wiring) (r : Role) (x : Inlet) → waits b w r ≡ false → hits x (ins b w r) ≡ one (same_inlet x (inlet r Left))
+hits-ins_one b w r x e = rw e (omega arith)
 
 and-true_false : (a : Bool) → (a && true ≡ a) × (a && false ≡ false)
 and-true_false true = (refl, refl)
 and-true_false false = (refl, refl)
 
 -- a part takes its left inlet just once
-pub hits_left : (b : Block ℕ) (r q : Role) → hits (inlet r Left) (ins b q) ≡ one (same_role r q)
-hits_left b r q = elim (is_two b q) as (λ t. hits (inlet r Left) (inlet q Left ∷ (if t then inlet q Right ∷ [] else [])) ≡ one (same_role r q)) [
+pub hits_left : (b : Block ℕ) (w : Wiring) (r q : Role) → hits (inlet r Left) (ins b w q) ≡ one (same_role r q)
+hits_left b w r q = elim (waits b w q) as (λ t. hits (inlet r Left) (inlet q Left ∷ (if t then inlet q Right ∷ [] else [])) ≡ one (same_role r q)) [
   | true ↦ let h = ap one (and-true_false (same_role r q)).0 in let k = ap one (and-true_false (same_role r q)).1 in omega (arith, h, k)
   | false ↦ let h = ap one (and-true_false (same_role r q)).0 in omega (arith, h)
 ]

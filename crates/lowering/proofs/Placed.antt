@@ -6,13 +6,13 @@ use Rattle.std.proofs.lemmas.List.Sums.{sum-map, sum_by-cons}
 use Rattle.std.proofs.lemmas.List.Sorted.{IsPermutation-map}
 use Rattle.std.proofs.lemmas.Option.{slice_get_within}
 use Rattle.tags.specs.declared.token.Port.{Port}
-use Rattle.semantics.specs.Graph.{Block, Flow, node_count}
+use Rattle.semantics.specs.Graph.{Block, Flow}
 use Rattle.semantics.specs.Meaning as Meaning
 use Rattle.semantics.specs.Meaning.{origin_at}
 use Rattle.semantics.specs.declared.program.Dest.{Dest}
 use Rattle.semantics.specs.Program.{Program, CodeBlock, first_of, instr_from, instr_at}
 use Rattle.semantics.specs.Machine.{outputs_of, results_in}
-use Rattle.lowering.specs.Roles.{Role, Start, Line, Inlet, is_instr, is_two, Wiring, IsThere}
+use Rattle.lowering.specs.Roles.{Role, Start, Line, Inlet, is_instr, waits, Wiring, IsThere}
 use Rattle.lowering.specs.Implements.{IsStraightBlock, Layout, code_of, leads_to, stands_at, IsBlockCode}
 use Rattle.lowering.proofs.Orders.{map-map}
 
@@ -27,12 +27,12 @@ main_length p (Some c) = length c.instrs
 
 -- The same as the code of a block, with places in the whole program.
 pub record IsPlaced (fl : Flow) (p : Program) (b : Block ℕ) (w : Wiring) (l : Layout) : Type 0 where
-  pub here : (r : Role) → IsThere b w r → is_instr r ≡ true → instr_at p (l.place r) ≡ Some (code_of b l r)
-  pub origins : (n : ℕ) → n < node_count b → l.origin (Line n) ≡ origin_at fl Meaning.Main n
+  pub here : (r : Role) → IsThere b w r → is_instr r ≡ true → instr_at p (l.place r) ≡ Some (code_of b w l r)
+  pub origins : (n : ℕ) → IsThere b w (Line n) → l.origin (Line n) ≡ origin_at fl Meaning.Main n
   pub goes : (r : Role) → IsThere b w r → is_instr r ≡ true
       → IsPermutation (map (leads_to (l.place r)) (l.firsts r ++ l.seconds r)) (map (stands_at l) (w.wire r))
   pub apart : (r q : Role) → IsThere b w r → IsThere b w q → is_instr r ≡ true → is_instr q ≡ true → l.place r ≡ l.place q → r ≡ q
-  pub slots : (r q : Role) → IsThere b w r → IsThere b w q → is_two b r ≡ true → is_two b q ≡ true → l.slot r ≡ l.slot q → r ≡ q
+  pub slots : (r q : Role) → IsThere b w r → IsThere b w q → waits b w r ≡ true → waits b w q ≡ true → l.slot r ≡ l.slot q → r ≡ q
   pub start : l.place Start ≡ first_of p p.main
   pub inputs : (n : ℕ) → n < b.inputs → l.place (Line n) ≡ first_of p p.main + 1 + n
   pub within : (r : Role) → IsThere b w r → is_instr r ≡ true
@@ -82,7 +82,7 @@ module _ (fl : Flow) (p : Program) (b : Block ℕ) (c : CodeBlock) (w : Wiring) 
   base = first_of p p.main
 
   place_within : (r : Role) → IsThere b w r → is_instr r ≡ true → l.place r < length c.instrs
-  place_within r h i = slice_get_within c.instrs (l.place r) (code_of b l r) (code.here r h i)
+  place_within r h i = slice_get_within c.instrs (l.place r) (code_of b w l r) (code.here r h i)
 
   -- where the code of main's block stands in the program
   pub placed : IsPlaced fl p b w (moved base l)

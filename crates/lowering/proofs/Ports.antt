@@ -159,8 +159,8 @@ module _ (fl : Flow) (p : Program) (b : Block ℕ) (w : Wiring) (l : Layout) (la
         let g : Item → ℕ = λ (i : Item). one (same_inlet x i.inlet) in
         let a = total-append g h.items h.last.config.pending in
         let d = total-IsPermutation g _ _ up_is in
-        let e = total-append g h.last.config.waiting (flat_map (takes b) h.last.config.fired) in
-        let k = held-flat_map x (takes b) h.last.config.fired in
+        let e = total-append g h.last.config.waiting (flat_map (takes b w) h.last.config.fired) in
+        let k = held-flat_map x (takes b w) h.last.config.fired in
         let s = h.last.sound.safe x in let u = h.last.sound.marked g in
         omega (arith, a, d, e, k, s, u)
 

@@ -15,7 +15,7 @@ use Rattle.semantics.specs.Rule.{token}
 use Rattle.semantics.specs.Machine.{Machine, Size, Events}
 use Rattle.semantics.specs.Orderly.{NamesWord, NamesTo, NamesSlot, readers_of, IsFreeAtRelease}
 use Rattle.semantics.specs.Faithful.{IsRun}
-use Rattle.lowering.specs.Roles.{Role, Start, Line, Result, Join, End, Shown, Done, Freed, same_inlet, Inlet, inlet, Item, one, is_two, Wiring, word_at, IsInlet, IsWired, Copy, Plain, Return}
+use Rattle.lowering.specs.Roles.{Role, Start, Line, Result, Join, End, Shown, Done, Freed, same_inlet, Inlet, inlet, Item, one, waits, Wiring, word_at, IsInlet, IsWired, Copy, Plain, Return}
 use Rattle.lowering.specs.Implements.{Layout}
 use Rattle.lowering.proofs.Placed.{IsPlaced, IsMain}
 use Rattle.lowering.proofs.Orders.{first_lifted, total-IsPermutation}
@@ -70,9 +70,9 @@ module _ (fl : Flow) (p : Program) (b : Block ℕ) (w : Wiring) (l : Layout) (la
   freed_inlet : (x : Inlet) → x.role ≡ Freed → IsInlet b w x → x ≡ inlet Freed Left
   freed_inlet x e i = (λ k. record { role = e k; port = pick i.port k })
     where
-      pick : (x.port ≡ Left) ⊎ (is_two b x.role ≡ true) → x.port ≡ Left
+      pick : (x.port ≡ Left) ⊎ (waits b w x.role ≡ true) → x.port ≡ Left
       pick (inl q) = q
-      pick (inr t) = absurd (true≢false (sym t ∙ ap (is_two b) e))
+      pick (inr t) = absurd (true≢false (sym t ∙ ap (waits b w) e))
 
   -- THE RELEASE IS LAST
   pub straight_free : (inputs : List ℤ) (z : Size) (events : Events) (m : Machine) → IsRun fl p inputs z events m → IsFreeAtRelease m
@@ -97,7 +97,7 @@ module _ (fl : Flow) (p : Program) (b : Block ℕ) (w : Wiring) (l : Layout) (la
       is_freed = to_freed first.0.inlet.role first.0.inlet.port f (ap (λ (t : Token). t.to) first.3)
 
       fit : (i : Item) → Contains cur.config.pending i → IsInlet b w i.inlet
-      fit i k = All-contains (λ (i : Item). IsInlet b w i.inlet) cur.config.pending i (All-append_left (λ (i : Item). IsInlet b w i.inlet) cur.config.pending (cur.config.waiting ++ flat_map (takes b) cur.config.fired) cur.sound.allowed) k
+      fit i k = All-contains (λ (i : Item). IsInlet b w i.inlet) cur.config.pending i (All-append_left (λ (i : Item). IsInlet b w i.inlet) cur.config.pending (cur.config.waiting ++ flat_map (takes b w) cur.config.fired) cur.sound.allowed) k
 
       back_in : (i : Item) → Contains (first.0 ∷ first.1) i → Contains cur.config.pending i
       back_in i k = Contains-permutation _ _ i (IsPermutation-sym _ _ first.2) k

@@ -12,13 +12,15 @@ use Rattle.semantics.specs.declared.graph.Kind.{Kind}
 use Rattle.semantics.specs.declared.graph.Kind.TheVariants.{Lit, Apply1, Apply2}
 use Rattle.semantics.specs.Graph.{Block, Flow, Node, node_at}
 use Rattle.semantics.specs.declared.program.Dest.{Dest}
+use Rattle.semantics.specs.declared.program.Op.{Op}
+use Rattle.semantics.specs.declared.program.Op.TheVariants as Program
 use Rattle.semantics.specs.Program.{Program, first_of}
 use Rattle.semantics.specs.Meaning as Meaning
 use Rattle.semantics.specs.Meaning.{State, start, entering}
 use Rattle.semantics.specs.Machine.{Machine, Size, Event, Events, Run, at_start, input_tokens}
 use Rattle.semantics.specs.Cause.{is_request, request_count, seeks_credit, is_credit_event, credit_count}
 use Rattle.semantics.specs.Faithful.{IsRun, inputs_of, inputs_in}
-use Rattle.lowering.specs.Roles.{Role, Start, Line, Result, Join, End, Shown, Done, Freed, same_inlet, Item, total, is_two, op_for, op_at, Wiring, told, IsThere, IsInlet, IsWired, host, Copy}
+use Rattle.lowering.specs.Roles.{Role, Start, Line, Result, Join, End, Shown, Done, Freed, same_inlet, Item, total, waits, op_for, op_at, Form, OnRight, OnLeft, formed, Wiring, told, token_of, stands_as, IsThere, IsInlet, IsWired, host, Copy}
 use Rattle.lowering.specs.Implements.{Layout}
 use Rattle.lowering.proofs.Placed.{IsPlaced, IsMain}
 use Rattle.lowering.proofs.Orders.{total-sum_by}
@@ -36,13 +38,15 @@ use Rattle.tags.specs.declared.token.Word.{Word}
 abbrev pub begins : List ℤ → Config
 begins inputs = record { pending = begin_items inputs; waiting = []; fired = [] }
 
-told-inputs : (w : Wiring) (from : ℕ) (xs : List ℤ) → flat_map (told w Meaning.Main) (input_items from xs) ≡ entering Meaning.Main from (map (λ (z : ℤ). Int z) xs)
-told-inputs w from [] = refl
-told-inputs w from (y ∷ ys) = ap (λ l. Meaning.tagged Meaning.Main (Meaning.AtNode from) (Meaning.Operand 0) (Int y) ∷ l) (told-inputs w (from + 1) ys)
+told-inputs : (b : Block ℕ) (w : Wiring) (laws : IsWired b w) (from : ℕ) (xs : List ℤ) → from + length xs ≤ b.inputs → flat_map (told w Meaning.Main) (input_items from xs) ≡ entering Meaning.Main from (map (λ (z : ℤ). Int z) xs)
+told-inputs b w laws from [] h = refl
+told-inputs b w laws from (y ∷ ys) h =
+    ap (λ f. map (token_of Meaning.Main (Int y)) (stands_as f from) ++ flat_map (told w Meaning.Main) (input_items (from + 1) ys)) (laws.inputs from (omega (arith, h)))
+    ∙ ap (λ l. Meaning.tagged Meaning.Main (Meaning.AtNode from) (Meaning.Operand 0) (Int y) ∷ l) (told-inputs b w laws (from + 1) ys (omega (arith, h)))
 
 -- how many events a state of the net is from the start
 abbrev pub size : Flow → Block ℕ → Wiring → List ℤ → Config → ℕ
-size fl b w inputs c = net_size inlet_at same_inlet (takes b) (makes fl b w) (begin_items inputs) role_of c
+size fl b w inputs c = net_size inlet_at same_inlet (takes b w) (makes fl b w) (begin_items inputs) role_of c
 
 module _ (fl : Flow) (p : Program) (b : Block ℕ) (w : Wiring) (l : Layout) (laws : IsWired b w) (main : IsMain fl b) (placed : IsPlaced fl p b w l) where
   tokens-inputs : (from ip : ℕ) (xs : List ℤ) → ip ≡ first_of p p.main + 1 + from → from + length xs ≤ b.inputs → map (tok b l) (input_items from xs) ≡ input_tokens ip xs
@@ -57,11 +61,11 @@ module _ (fl : Flow) (p : Program) (b : Block ℕ) (w : Wiring) (l : Layout) (la
   inputs_count = ap inputs_in (block_main fl [] b w laws main)
 
   pub Sound-begins : (inputs : List ℤ) → length inputs ≡ b.inputs → Sound fl b w inputs (begins inputs)
-  Sound-begins inputs e = net_sound_begins inlet_at same_inlet (takes b) (makes fl b w) (begin_items inputs) role_of (Fits b w) (lawful fl b w laws inputs e)
+  Sound-begins inputs e = net_sound_begins inlet_at same_inlet (takes b w) (makes fl b w) (begin_items inputs) role_of (Fits b w) (lawful fl b w laws inputs e)
 
   pub Holds-begins : (inputs : List ℤ) → Holds b w l (begins inputs) (at_start p inputs).store
   Holds-begins inputs = record {
-    slots = record { pairs = All-nil (λ (i : Item). IsInlet b w i.inlet × (is_two b i.inlet.role ≡ true)); single = λ r. omega arith; holds = record { waits = λ i c. absurd (contains_none i c); empty = λ f q. inl refl } };
+    slots = record { pairs = All-nil (λ (i : Item). IsInlet b w i.inlet × (waits b w i.inlet.role ≡ true)); single = λ r. omega arith; holds = record { waits = λ i c. absurd (contains_none i c); empty = λ f q. inl refl } };
     cells = λ x. refl;
     out = λ t. refl;
     free = λ t. absurd (omega (arith, t));
@@ -76,10 +80,10 @@ module _ (fl : Flow) (p : Program) (b : Block ℕ) (w : Wiring) (l : Layout) (la
       let more = tokens-inputs 0 (first_of p p.main + 1) inputs (sym (add-zero (first_of p p.main + 1))) (omega (arith, e)) in
       (λ j. token (To.Instr 0 (sym placed.start j) Left) host ∷ sym more j)
 
-  pub Follows-begins : (inputs : List ℤ) → NetFollows fl inputs (takes b) (makes fl b w) (told w Meaning.Main) (memory_of fl inputs b w laws main) (begins inputs) (start inputs)
-  Follows-begins inputs = record {
+  pub Follows-begins : (inputs : List ℤ) → length inputs ≡ b.inputs → NetFollows fl inputs (takes b w) (makes fl b w) (told w Meaning.Main) (memory_of fl inputs b w laws main) (begins inputs) (start inputs)
+  Follows-begins inputs fits = record {
     reached = record { run = []; is_run = (IsPermutation-refl _, refl) };
-    tokens = subst (λ l. IsPermutation (start inputs).tokens l) (sym (told-inputs w 0 inputs) ∙ ap (flat_map (told w Meaning.Main)) (sym (append-nil (input_items 0 inputs)))) (IsPermutation-refl _);
+    tokens = subst (λ l. IsPermutation (start inputs).tokens l) (sym (told-inputs b w laws 0 inputs (omega (arith, fits))) ∙ ap (flat_map (told w Meaning.Main)) (sym (append-nil (input_items 0 inputs)))) (IsPermutation-refl _);
     memory_is = refl;
   }
 
@@ -91,7 +95,7 @@ module _ (fl : Flow) (p : Program) (b : Block ℕ) (w : Wiring) (l : Layout) (la
     pub sound : Sound fl b w inputs config
     pub holds : Holds b w l config m.store
     pub pool : IsPermutation m.pool (map (tok b l) config.pending)
-    pub follows : NetFollows fl inputs (takes b) (makes fl b w) (told w Meaning.Main) (memory_of fl inputs b w laws main) config state
+    pub follows : NetFollows fl inputs (takes b w) (makes fl b w) (told w Meaning.Main) (memory_of fl inputs b w laws main) config state
 
   no_request : (r : Role) (port : Port) → is_request (to_at b l r port) ≡ false
   no_request Start port = refl
@@ -120,6 +124,12 @@ module _ (fl : Flow) (p : Program) (b : Block ℕ) (w : Wiring) (l : Layout) (la
   kind_seeks_none (Apply2 op) o s ds es = refl
   kind_seeks_none k o s ds es = refl
 
+  form_seeks_none : (f : Form) (op : Op) (o : Origin) (s : ℕ) (ds es : List Dest) → seeks_credit (Some (record { op = op; origin = o; slot = s; firsts = ds; seconds = es })) ≡ false
+      → seeks_credit (Some (record { op = formed f op; origin = o; slot = s; firsts = ds; seconds = es })) ≡ false
+  form_seeks_none (OnRight z) (Program.Apply2 op) o s ds es h = refl
+  form_seeks_none (OnLeft z) (Program.Apply2 op) o s ds es h = refl
+  form_seeks_none f op o s ds es h = h
+
   line_seeks_none : (x : Option (Node ℕ)) (o : Origin) (s : ℕ) (ds es : List Dest) → seeks_credit (Some (record { op = op_at x; origin = o; slot = s; firsts = ds; seconds = es })) ≡ false
   line_seeks_none None o s ds es = refl
   line_seeks_none (Some n) o s ds es = kind_seeks_none n.kind o s ds es
@@ -127,7 +137,9 @@ module _ (fl : Flow) (p : Program) (b : Block ℕ) (w : Wiring) (l : Layout) (la
   no_credit : (r : Role) (port : Port) → IsThere b w r → is_credit_event p (to_at b l r port) ≡ false
   no_credit Start port h = ap seeks_credit (placed.here Start h refl)
   no_credit (Copy kind num) port h = ap seeks_credit (placed.here (Copy kind num) h refl)
-  no_credit (Line n) port h = ap seeks_credit (placed.here (Line n) h refl) ∙ line_seeks_none (node_at b n) (l.origin (Line n)) (l.slot (Line n)) (l.firsts (Line n)) (l.seconds (Line n))
+  no_credit (Line n) port h = ap seeks_credit (placed.here (Line n) h refl)
+      ∙ form_seeks_none (w.form n) (op_at (node_at b n)) (l.origin (Line n)) (l.slot (Line n)) (l.firsts (Line n)) (l.seconds (Line n))
+      (line_seeks_none (node_at b n) (l.origin (Line n)) (l.slot (Line n)) (l.firsts (Line n)) (l.seconds (Line n)))
   no_credit (Result n) port h = ap seeks_credit (placed.here (Result n) h refl)
   no_credit (Join n) port h = ap seeks_credit (placed.here (Join n) h refl)
   no_credit End port h = ap seeks_credit (placed.here End h refl)
@@ -150,10 +162,10 @@ module _ (fl : Flow) (p : Program) (b : Block ℕ) (w : Wiring) (l : Layout) (la
     pub requests : total asks events ≡ 0
     pub credits : total seeks events ≡ 0
 
-  on_fires : (inputs : List ℤ) → length inputs ≡ b.inputs → (c d : Config) (m : NetMove (takes b) (makes fl b w) c d) → Sound fl b w inputs c → OnFires fl inputs (takes b) (makes fl b w) (told w Meaning.Main) (memory_of fl inputs b w laws main) c c d m
+  on_fires : (inputs : List ℤ) → length inputs ≡ b.inputs → (c d : Config) (m : NetMove (takes b w) (makes fl b w) c d) → Sound fl b w inputs c → OnFires fl inputs (takes b w) (makes fl b w) (told w Meaning.Main) (memory_of fl inputs b w laws main) c c d m
   on_fires inputs fits c d (Waits i rest q e) s = tt
   on_fires inputs fits c d (Fires f now kept rest others q q' both e) s =
-      firing_means fl inputs b w laws main f c.fired (fires_allowed inlet_at same_inlet (takes b) (makes fl b w) (begin_items inputs) role_of (Fits b w) (lawful fl b w laws inputs fits) c s f now kept rest others q q' both)
+      firing_means fl inputs b w laws main f c.fired (fires_allowed inlet_at same_inlet (takes b w) (makes fl b w) (begin_items inputs) role_of (Fits b w) (lawful fl b w laws inputs fits) c s f now kept rest others q q' both)
 
   -- an event leads from one such state to the next
   pub record Next (inputs : List ℤ) (mid : Machine) (t : Token) (made : List Token) (c : Config) : Type 0 where
@@ -163,21 +175,21 @@ module _ (fl : Flow) (p : Program) (b : Block ℕ) (w : Wiring) (l : Layout) (la
     pub step : Stepped fl p b w l laws placed c item made mid.store mid.pool
     pub state : State
     pub sound : Sound fl b w inputs step.config
-    pub follows : NetFollows fl inputs (takes b) (makes fl b w) (told w Meaning.Main) (memory_of fl inputs b w laws main) step.config state
+    pub follows : NetFollows fl inputs (takes b w) (makes fl b w) (told w Meaning.Main) (memory_of fl inputs b w laws main) step.config state
 
   pub next : (inputs : List ℤ) (z : Size) (e : ℕ) (t : Token) (old mid : Machine) (cur : Current inputs old) (ev : Event p z e t old mid) → Next inputs mid t ev.made cur.config
   next inputs z e t old mid cur ev =
       let P : Item → Type 0 = Fits b w cur.config.fired in
-      let fits = All-append_left P cur.config.pending (cur.config.waiting ++ flat_map (takes b) cur.config.fired) cur.sound.allowed in
+      let fits = All-append_left P cur.config.pending (cur.config.waiting ++ flat_map (takes b w) cur.config.fired) cur.sound.allowed in
       let st = event_moves fl p b w l laws placed z e t old mid cur.config fits cur.holds cur.pool ev in
-      let fo = net_follows fl inputs (takes b) (makes fl b w) (told w Meaning.Main) (memory_of fl inputs b w laws main) cur.config st.3.config cur.state cur.follows st.3.move (on_fires inputs cur.fits cur.config st.3.config st.3.move cur.sound) in
+      let fo = net_follows fl inputs (takes b w) (makes fl b w) (told w Meaning.Main) (memory_of fl inputs b w laws main) cur.config st.3.config cur.state cur.follows st.3.move (on_fires inputs cur.fits cur.config st.3.config st.3.move cur.sound) in
       record {
         item = st.0;
         fits = st.1;
         is = st.2;
         step = st.3;
         state = fo.0;
-        sound = net_sound_moves inlet_at same_inlet (takes b) (makes fl b w) (begin_items inputs) role_of (Fits b w) (lawful fl b w laws inputs cur.fits) cur.config st.3.config cur.sound st.3.move;
+        sound = net_sound_moves inlet_at same_inlet (takes b w) (makes fl b w) (begin_items inputs) role_of (Fits b w) (lawful fl b w laws inputs cur.fits) cur.config st.3.config cur.sound st.3.move;
         follows = fo.1;
       }
 
@@ -206,7 +218,7 @@ module _ (fl : Flow) (p : Program) (b : Block ℕ) (w : Wiring) (l : Layout) (la
   runs_on inputs z (ev ∷ events) old new cur (mid, happened, r) =
       let n = next inputs z ev.0 ev.1 old mid cur happened in
       let rest = runs_on inputs z events mid new (after cur.fits n) r in
-      let size = size_moves inlet_at same_inlet (takes b) (makes fl b w) (begin_items inputs) role_of cur.config n.step.config n.step.move in
+      let size = size_moves inlet_at same_inlet (takes b w) (makes fl b w) (begin_items inputs) role_of cur.config n.step.config n.step.move in
       let one : taken_up n.step.move ≡ 1 = taken_length n.step.move ∙ ap length n.step.taken in
       let k = rest.count in
       let q : asks ev ≡ 0 = asks_item ev.1 n.item n.is in
@@ -223,7 +235,7 @@ module _ (fl : Flow) (p : Program) (b : Block ℕ) (w : Wiring) (l : Layout) (la
     sound = Sound-begins inputs e;
     holds = Holds-begins inputs;
     pool = subst (λ l. IsPermutation (at_start p inputs).pool l) (pool-begins inputs e) (IsPermutation-refl _);
-    follows = Follows-begins inputs;
+    follows = Follows-begins inputs e;
   }
 
   -- WHOLE RUNS: at the end of each run all of this holds

@@ -17,7 +17,7 @@ use Rattle.semantics.specs.Graph.{Block, Flow}
 use Rattle.semantics.specs.Program.{Program}
 use Rattle.semantics.specs.Rule.{fires}
 use Rattle.semantics.specs.Machine.{Machine, Store, Size, Event, Happens, Vacant, put_at, with_slot, Hosts, Releases, outputs_of, Fires}
-use Rattle.lowering.specs.Roles.{Role, Start, Line, Result, Join, End, Shown, Done, Freed, is_instr, same_role, inlet, Item, item, one, is_two, Wiring, zero_value, word_at, IsThere, IsInlet, IsWired, Copy}
+use Rattle.lowering.specs.Roles.{Role, Start, Line, Result, Join, End, Shown, Done, Freed, is_instr, same_role, inlet, Item, item, one, waits, Wiring, zero_value, word_at, IsThere, IsInlet, IsWired, Copy}
 use Rattle.lowering.specs.Implements.{Layout}
 use Rattle.lowering.proofs.Placed.{IsPlaced}
 use Rattle.lowering.proofs.Orders.{first_lifted, IsPermutation-same, at_first, at_last, total-IsPermutation, shuffled, Part, ◌⊕◌}
@@ -48,7 +48,7 @@ no_base f q = Empty
 
 -- only parts with two operands wait, each for one word, and the slots hold just what waits
 pub record Keeps (b : Block ℕ) (w : Wiring) (l : Layout) (waiting : List Item) (slots : ℕ → ℕ → SlotState) : Type 0 where
-  pub pairs : All (λ (i : Item). IsInlet b w i.inlet × (is_two b i.inlet.role ≡ true)) waiting
+  pub pairs : All (λ (i : Item). IsInlet b w i.inlet × (waits b w i.inlet.role ≡ true)) waiting
   pub single : (r : Role) → roles_in r waiting ≤ 1
   pub holds : InSlots frame_for (slot_for l) held_word no_base waiting slots
 
@@ -68,17 +68,17 @@ put_later f n a = put_other f 0 (suc n) a (λ e. omega (arith, e))
 
 module _ (fl : Flow) (p : Program) (b : Block ℕ) (w : Wiring) (l : Layout) (laws : IsWired b w) (placed : IsPlaced fl p b w l) where
   abbrev AllTwo : List Item → Type 0
-  AllTwo items = All (λ (i : Item). IsInlet b w i.inlet × (is_two b i.inlet.role ≡ true)) items
+  AllTwo items = All (λ (i : Item). IsInlet b w i.inlet × (waits b w i.inlet.role ≡ true)) items
 
-  slot_apart : (r : Role) → IsThere b w r → is_two b r ≡ true → (items : List Item) → AllTwo items → roles_in r items ≡ 0 → (j : Item) → Contains items j → l.slot r ≡ l.slot j.inlet.role → ⊥
+  slot_apart : (r : Role) → IsThere b w r → waits b w r ≡ true → (items : List Item) → AllTwo items → roles_in r items ≡ 0 → (j : Item) → Contains items j → l.slot r ≡ l.slot j.inlet.role → ⊥
   slot_apart r h two items all none j c e =
-      let k = All-contains (λ (i : Item). IsInlet b w i.inlet × (is_two b i.inlet.role ≡ true)) items j all c in
+      let k = All-contains (λ (i : Item). IsInlet b w i.inlet × (waits b w i.inlet.role ≡ true)) items j all c in
       lone r items none j c (sym (placed.slots r j.inlet.role h k.0.there two k.1 e))
 
-  keeps_add : (i : Item) → IsInlet b w i.inlet → is_two b i.inlet.role ≡ true → (items : List Item) → roles_in i.inlet.role items ≡ 0 → (s : Store) → Keeps b w l items s.slots
+  keeps_add : (i : Item) → IsInlet b w i.inlet → waits b w i.inlet.role ≡ true → (items : List Item) → roles_in i.inlet.role items ≡ 0 → (s : Store) → Keeps b w l items s.slots
       → Keeps b w l (i ∷ items) (with_slot s 0 (l.slot i.inlet.role) (held_word i)).slots
   keeps_add i h two items none s k = record {
-    pairs = All-cons (λ (i : Item). IsInlet b w i.inlet × (is_two b i.inlet.role ≡ true)) i items (h, two) k.pairs;
+    pairs = All-cons (λ (i : Item). IsInlet b w i.inlet × (waits b w i.inlet.role ≡ true)) i items (h, two) k.pairs;
     single = λ r. at_most r (one-cases (same_role r i.inlet.role));
     holds = slots_add frame_for (slot_for l) held_word no_base i items (λ j c a d. slot_apart i.inlet.role h.there two items k.pairs none j c d) s k.holds;
   }
@@ -87,7 +87,7 @@ module _ (fl : Flow) (p : Program) (b : Block ℕ) (w : Wiring) (l : Layout) (la
       at_most r (inl (e, o)) = let n = subst (λ z. roles_in z items ≡ 0) (sym (same_role-true r i.inlet.role e)) none in omega (arith, o, n)
       at_most r (inr (e, o)) = let n = k.single r in omega (arith, o, n)
 
-  keeps_drop : (r : Role) → IsThere b w r → is_two b r ≡ true → (j : Item) (items others : List Item) → IsPermutation items (j ∷ others) → j.inlet.role ≡ r → AllTwo others → roles_in r others ≡ 0 → (s : Store) → Keeps b w l items s.slots
+  keeps_drop : (r : Role) → IsThere b w r → waits b w r ≡ true → (j : Item) (items others : List Item) → IsPermutation items (j ∷ others) → j.inlet.role ≡ r → AllTwo others → roles_in r others ≡ 0 → (s : Store) → Keeps b w l items s.slots
       → Keeps b w l others (with_slot s 0 (l.slot r) Empty).slots
   keeps_drop r h two j items others perm jr all none s k = record {
     pairs = all;
@@ -109,7 +109,7 @@ module _ (fl : Flow) (p : Program) (b : Block ℕ) (w : Wiring) (l : Layout) (la
   instr_apart Freed i = absurd (true≢false (sym i))
 
   -- only instructions have two inlets
-  pub instr_two : (r : Role) → is_two b r ≡ true → is_instr r ≡ true
+  pub instr_two : (r : Role) → waits b w r ≡ true → is_instr r ≡ true
   instr_two Start t = refl
   instr_two (Copy kind num) t = refl
   instr_two (Line n) t = refl
@@ -123,7 +123,7 @@ module _ (fl : Flow) (p : Program) (b : Block ℕ) (w : Wiring) (l : Layout) (la
   -- THE STEP: an event that takes item i's token and makes these tokens is a move that takes up i and makes the items of the tokens
   pub record Stepped (c : Config) (i : Item) (made : List Token) (store : Store) (tokens : List Token) : Type 0 where
     pub config : Config
-    pub move : NetMove (takes b) (makes fl b w) c config
+    pub move : NetMove (takes b w) (makes fl b w) c config
     pub taken : takes_up move ≡ i ∷ []
     pub made_is : IsPermutation made (map (tok b l) (made_by move))
     pub holds : Holds b w l config store
@@ -136,12 +136,12 @@ module _ (fl : Flow) (p : Program) (b : Block ℕ) (w : Wiring) (l : Layout) (la
   pool_same pool made rest p e = at_last p (ap (λ m. m ++ map (tok b l) rest) e)
 
   module _ (c : Config) (old : Store) (fits : All (λ (i : Item). IsInlet b w i.inlet) c.pending) (holds : Holds b w l c old) (made : List Token) (new : Store) (pool : List Token) where
-    abbrev goes_alone : (r : Role) (v : Value) (rest : List Item) → is_two b r ≡ false → IsPermutation c.pending (item r Left v ∷ rest)
-        → NetMove (takes b) (makes fl b w) c (record { pending = emits fl b w r v zero_value ++ rest; waiting = c.waiting; fired = firing r v zero_value ∷ c.fired })
-    goes_alone r v rest two perm = Goes (firing r v zero_value) (item r Left v ∷ []) [] rest c.waiting perm (IsPermutation-refl c.waiting) (at_last (IsPermutation-refl (item r Left v ∷ [])) (sym (takes_one b r v zero_value two))) refl
+    abbrev goes_alone : (r : Role) (v : Value) (rest : List Item) → waits b w r ≡ false → IsPermutation c.pending (item r Left v ∷ rest)
+        → NetMove (takes b w) (makes fl b w) c (record { pending = emits fl b w r v zero_value ++ rest; waiting = c.waiting; fired = firing r v zero_value ∷ c.fired })
+    goes_alone r v rest two perm = Goes (firing r v zero_value) (item r Left v ∷ []) [] rest c.waiting perm (IsPermutation-refl c.waiting) (at_last (IsPermutation-refl (item r Left v ∷ [])) (sym (takes_one b w r v zero_value two))) refl
 
     -- an instruction with one operand
-    alone_steps : (r : Role) (v : Value) (rest : List Item) → IsThere b w r → is_instr r ≡ true → is_two b r ≡ false → IsPermutation c.pending (item r Left v ∷ rest)
+    alone_steps : (r : Role) (v : Value) (rest : List Item) → IsThere b w r → is_instr r ≡ true → waits b w r ≡ false → IsPermutation c.pending (item r Left v ∷ rest)
         → IsPermutation made (map (tok b l) (emits fl b w r v zero_value)) × (new ≡ old) → IsPermutation pool (made ++ map (tok b l) rest) → Stepped c (item r Left v) made new pool
     alone_steps r v rest h i two perm did left =
         let a = instr_apart r i in
@@ -165,7 +165,7 @@ module _ (fl : Flow) (p : Program) (b : Block ℕ) (w : Wiring) (l : Layout) (la
         }
 
     -- a word that waits
-    waits_steps : (i : Item) (rest : List Item) → IsInlet b w i.inlet → is_two b i.inlet.role ≡ true → IsPermutation c.pending (i ∷ rest) → roles_in i.inlet.role c.waiting ≡ 0
+    waits_steps : (i : Item) (rest : List Item) → IsInlet b w i.inlet → waits b w i.inlet.role ≡ true → IsPermutation c.pending (i ∷ rest) → roles_in i.inlet.role c.waiting ≡ 0
         → made ≡ [] → new ≡ with_slot old 0 (l.slot i.inlet.role) (held_word i) → IsPermutation pool (made ++ map (tok b l) rest) → Stepped c i made new pool
     waits_steps i rest h two perm none e n left =
         let d : Config = record { pending = rest; waiting = i ∷ c.waiting; fired = c.fired } in
@@ -188,18 +188,18 @@ module _ (fl : Flow) (p : Program) (b : Block ℕ) (w : Wiring) (l : Layout) (la
         }
 
     -- two words that meet
-    meets_steps : (r : Role) (v u : Value) (i j : Item) (rest others : List Item) → IsThere b w r → is_two b r ≡ true → IsPermutation c.pending (i ∷ rest) → IsPermutation c.waiting (j ∷ others) → j.inlet.role ≡ r
+    meets_steps : (r : Role) (v u : Value) (i j : Item) (rest others : List Item) → IsThere b w r → waits b w r ≡ true → IsPermutation c.pending (i ∷ rest) → IsPermutation c.waiting (j ∷ others) → j.inlet.role ≡ r
         → IsPermutation (i ∷ j ∷ []) (item r Left v ∷ item r Right u ∷ [])
         → IsPermutation made (map (tok b l) (emits fl b w r v u)) → new ≡ with_slot old 0 (l.slot r) Empty → IsPermutation pool (made ++ map (tok b l) rest) → Stepped c i made new pool
     meets_steps r v u i j rest others h two perm wperm jr both made_is n left =
         let a = instr_apart r (instr_two r two) in
         let d : Config = record { pending = emits fl b w r v u ++ rest; waiting = others; fired = firing r v u ∷ c.fired } in
-        let all = All-tail (λ (i : Item). IsInlet b w i.inlet × (is_two b i.inlet.role ≡ true)) j others (All-permutation (λ (i : Item). IsInlet b w i.inlet × (is_two b i.inlet.role ≡ true)) c.waiting (j ∷ others) wperm holds.slots.pairs) in
+        let all = All-tail (λ (i : Item). IsInlet b w i.inlet × (waits b w i.inlet.role ≡ true)) j others (All-permutation (λ (i : Item). IsInlet b w i.inlet × (waits b w i.inlet.role ≡ true)) c.waiting (j ∷ others) wperm holds.slots.pairs) in
         let none : roles_in r others ≡ 0 = subst (λ z. roles_in z others ≡ 0) jr
         (let s = holds.slots.single j.inlet.role in let e = total-IsPermutation (λ (i : Item). one (same_role j.inlet.role i.inlet.role)) c.waiting (j ∷ others) wperm in let o = roles_in-here j others in omega (arith, s, e, o)) in
         record {
           config = d;
-          move = Goes (firing r v u) (i ∷ []) (j ∷ []) rest others perm wperm (at_last both (sym (takes_two b r v u two))) refl;
+          move = Goes (firing r v u) (i ∷ []) (j ∷ []) rest others perm wperm (at_last both (sym (takes_two b w r v u two))) refl;
           taken = refl;
           made_is = made_is;
           holds = subst (Holds b w l d) (sym n) (record {
@@ -216,7 +216,7 @@ module _ (fl : Flow) (p : Program) (b : Block ℕ) (w : Wiring) (l : Layout) (la
         }
 
     -- the slot of a part where nothing waits
-    pub slot_empty : (r : Role) → IsThere b w r → is_two b r ≡ true → roles_in r c.waiting ≡ 0 → old.slots 0 (l.slot r) ≡ Empty
+    pub slot_empty : (r : Role) → IsThere b w r → waits b w r ≡ true → roles_in r c.waiting ≡ 0 → old.slots 0 (l.slot r) ≡ Empty
     slot_empty r h two none = pick (holds.slots.holds.empty 0 (l.slot r))
       where
         pick : (old.slots 0 (l.slot r) ≡ Empty) ⊎ AtSlot frame_for (slot_for l) held_word no_base c.waiting 0 (l.slot r) → old.slots 0 (l.slot r) ≡ Empty
@@ -227,7 +227,7 @@ module _ (fl : Flow) (p : Program) (b : Block ℕ) (w : Wiring) (l : Layout) (la
     into_empty r Left wd m = m
     into_empty r Right wd m = m
 
-    two_steps : (r : Role) (port : Port) (v : Value) (rest : List Item) → IsInlet b w (inlet r port) → is_two b r ≡ true → IsPermutation c.pending (item r port v ∷ rest)
+    two_steps : (r : Role) (port : Port) (v : Value) (rest : List Item) → IsInlet b w (inlet r port) → waits b w r ≡ true → IsPermutation c.pending (item r port v ∷ rest)
         → Met fl p b w l laws placed r old (old.slots 0 (l.slot r)) port (word_at r port v) made new → IsPermutation pool (made ++ map (tok b l) rest) → Stepped c (item r port v) made new pool
     two_steps r port v rest h two perm met left = pick (waiting_cases r c.waiting)
       where
@@ -260,14 +260,14 @@ module _ (fl : Flow) (p : Program) (b : Block ℕ) (w : Wiring) (l : Layout) (la
             partner j.inlet.role j.inlet.port j.value others e wp port refl (subst (λ s. Met fl p b w l laws placed r old s port (word_at r port v) made new) slot met)
 
     -- a part with one inlet has it on the left
-    pub only_left : (r : Role) (port : Port) → is_two b r ≡ false → IsInlet b w (inlet r port) → port ≡ Left
+    pub only_left : (r : Role) (port : Port) → waits b w r ≡ false → IsInlet b w (inlet r port) → port ≡ Left
     only_left r port two h = pick h.port
       where
-        pick : (port ≡ Left) ⊎ (is_two b r ≡ true) → port ≡ Left
+        pick : (port ≡ Left) ⊎ (waits b w r ≡ true) → port ≡ Left
         pick (inl e) = e
         pick (inr e) = absurd (true≢false (sym e ∙ two))
 
-    one_steps : (r : Role) (port : Port) (v : Value) (rest : List Item) → IsInlet b w (inlet r port) → is_instr r ≡ true → is_two b r ≡ false → IsPermutation c.pending (item r port v ∷ rest)
+    one_steps : (r : Role) (port : Port) (v : Value) (rest : List Item) → IsInlet b w (inlet r port) → is_instr r ≡ true → waits b w r ≡ false → IsPermutation c.pending (item r port v ∷ rest)
         → (total : ℕ) → Happens p total old (To.Instr 0 (l.place r) port) (word_at r port v) made new → IsPermutation pool (made ++ map (tok b l) rest) → Stepped c (item r port v) made new pool
     one_steps r port v rest h i two perm total m left =
         let e = only_left r port two h in
@@ -277,9 +277,9 @@ module _ (fl : Flow) (p : Program) (b : Block ℕ) (w : Wiring) (l : Layout) (la
 
     instr_steps : (r : Role) (port : Port) (v : Value) (rest : List Item) → IsInlet b w (inlet r port) → is_instr r ≡ true → IsPermutation c.pending (item r port v ∷ rest)
         → (total : ℕ) → Happens p total old (To.Instr 0 (l.place r) port) (word_at r port v) made new → IsPermutation pool (made ++ map (tok b l) rest) → Stepped c (item r port v) made new pool
-    instr_steps r port v rest h i perm total m left = by_count (is_two b r) refl
+    instr_steps r port v rest h i perm total m left = by_count (waits b w r) refl
       where
-        by_count : (t : Bool) → is_two b r ≡ t → Stepped c (item r port v) made new pool
+        by_count : (t : Bool) → waits b w r ≡ t → Stepped c (item r port v) made new pool
         by_count true e = two_steps r port v rest h e perm (two_operands fl p b w l laws placed r h.there i e total old port (word_at r port v) made new m) left
         by_count false e = one_steps r port v rest h i e perm total m left
 

@@ -21,13 +21,13 @@ use Rattle.semantics.specs.Sharing as Sharing
 use Rattle.semantics.specs.Sharing.{Arc, arc, arcs_to, arcs_from, arcs_of}
 use Rattle.semantics.specs.Wired as Wired
 use Rattle.semantics.specs.Wired.{NoPart, part_of, bound_of, StandsAt, LoopsAgree}
-use Rattle.lowering.specs.Roles.{Role, Start, Line, Result, Join, End, is_instr, op_for, op_at, op_of, Inlet, inlet, is_pair, is_pair_at, is_two, IsThere, IsWire, Use}
+use Rattle.lowering.specs.Roles.{Role, Start, Line, Result, Join, End, is_instr, op_for, op_at, op_of, Inlet, inlet, is_pair, is_pair_at, is_two, waits, IsThere, IsWire, Use}
 use Rattle.lowering.specs.Implements.{IsStraightBlock, IsStraight}
 use Rattle.lowering.specs.StraightPlan.{count_below, inlet_of, uses_of, is_unused, unused, join_count, end_to, join_to, or_end, results_from, straight_wire, straight_place, straight_wiring, straight_slot, straight_roles, counted, dest_to, is_pair_line, instr_for, straight_code, straight_codes, straight_program}
 use Rattle.lowering.proofs.Counts.{count-find}
 use Rattle.lowering.proofs.StraightUses.{at_node, at_out}
 use Rattle.lowering.proofs.StraightWired.{lawful_wires}
-use Rattle.lowering.proofs.StraightProgram.{instr_here, rises, slots_apart, line_slot, line_slot_below}
+use Rattle.lowering.proofs.StraightProgram.{instr_here, rises, slots_apart, straight_waits, line_slot, line_slot_below}
 use Rattle.determinacy.proofs.Resolved.{all_get}
 
 below_or : (m n : ℕ) → (m < n) ⊎ (n ≤ m)
@@ -345,10 +345,10 @@ module _ (version number : ℕ) (b : Block ℕ) (flat : IsStraightBlock b) where
         right = λ e. pick e (subst (λ (k : ℕ). StandsAt code k (instr y.role)) (sym place) (instr_here version number b flat y.role wire.is_inlet.there wire.is_instr)) wire.is_inlet.port;
       }
     where
-      pick : y.port ≡ Right → StandsAt code (n + (straight_place b y.role - straight_place b r)) (instr y.role) → (y.port ≡ Left) ⊎ (is_two b y.role ≡ true)
+      pick : y.port ≡ Right → StandsAt code (n + (straight_place b y.role - straight_place b r)) (instr y.role) → (y.port ≡ Left) ⊎ (waits b (straight_wiring b) y.role ≡ true)
           → (i : Instr) × StandsAt code (n + (straight_place b y.role - straight_place b r)) i × (Wired.is_dyadic i.op ≡ true)
       pick e there (inl l) = absurd (let both : Right ≡ Left = sym e ∙ l in cc)
-      pick e there (inr two) = (instr y.role, there, (has y.role two).1)
+      pick e there (inr two) = (instr y.role, there, (has y.role (sym (straight_waits version number b flat y.role) ∙ two)).1)
 
   flat_arcs : (p : Plan) (n : ℕ) (r : Role) → arcs_from p n (instr r) (op_of b r) ≡ arcs_to n false (instr r).firsts ++ arcs_to n true (instr r).seconds
   flat_arcs p n (Line m) = node_arcs p n (instr (Line m)) (node_at b m)

@@ -9,8 +9,8 @@ use Rattle.semantics.specs.declared.graph.Kind.TheVariants.{Lit, Apply1, Apply2}
 use Rattle.semantics.specs.Graph.{Block, Flow, Node, node_at, node_count}
 use Rattle.semantics.specs.Program.{Instr, CodeBlock}
 use Rattle.semantics.specs.Cause.{opened_by}
-use Rattle.lowering.specs.Roles.{Role, Start, Line, Result, Join, End, Shown, Done, Freed, is_instr, op_for, op_at, op_of, Inlet, hits, is_two, outs, Wiring, IsThere, IsWire, Copy}
-use Rattle.lowering.specs.Implements.{IsStraightBlock, IsStraight, Layout, leads_to, stands_at, IsBlockCode, IsCodeOf, Implements}
+use Rattle.lowering.specs.Roles.{Role, Start, Line, Result, Join, End, Shown, Done, Freed, is_instr, op_for, op_at, op_of, Inlet, hits, is_two, AsItIs, form_of, formed, waits_as, waits, outs, Wiring, IsThere, IsWire, Copy}
+use Rattle.lowering.specs.Implements.{IsStraightBlock, IsStraight, Layout, code_of, leads_to, stands_at, IsBlockCode, IsCodeOf, Implements}
 use Rattle.lowering.specs.StraightPlan.{count_below, join_count, straight_wire, straight_place, straight_wiring, straight_slot, straight_layout, straight_roles, counted, dest_to, is_pair_line, instr_for, straight_code, straight_codes, straight_program}
 use Rattle.lowering.proofs.Orders.{IsPermutation-same, map_agree, map-map}
 use Rattle.lowering.proofs.Counts.{count-lt, count-same}
@@ -160,13 +160,24 @@ module _ (version number : ℕ) (b : Block ℕ) (flat : IsStraightBlock b) where
   roles_open [] = refl
   roles_open (r ∷ rs) = let o = role_opens r in let ih = roles_open rs in (λ t. o t ++ ih t)
 
+  -- each node stands as it is
+  as_it_is : (r : Role) → form_of w r ≡ AsItIs
+  as_it_is (Line n) = refl
+  as_it_is r = refl
+
+  pub straight_waits : (r : Role) → waits b w r ≡ is_two b r
+  straight_waits r = ap (λ f. waits_as f (is_two b r)) (as_it_is r)
+
+  straight_instr : (r : Role) → instr_for version number b r ≡ code_of b w l r
+  straight_instr r = ap (λ f. record { op = formed f (op_of b r); origin = l.origin r; slot = l.slot r; firsts = l.firsts r; seconds = l.seconds r }) (sym (as_it_is r))
+
   straight_block_code : IsBlockCode version number b (straight_code version number b) w l
   straight_block_code = record {
-    here = instr_here;
+    here = λ r h i. instr_here r h i ∙ ap Some (straight_instr r);
     origins = λ n h. refl;
     goes = goes;
     apart = apart;
-    slots = slots_apart;
+    slots = λ r q h g s t e. slots_apart r q h g (sym (straight_waits r) ∙ s) (sym (straight_waits q) ∙ t) e;
     start = refl;
     entries = λ n h. refl;
     inputs = refl;

@@ -1,6 +1,6 @@
 -- The wires of a straight block's code obey the laws of wires.
-use Rattle.std.proofs.Common.{◌≡◌, ℕ, zero, suc, ◌+◌, ◌-◌, ◌<◌, ◌≤◌, Bool, true, false, List, [], ◌∷◌, ◌++◌, length, refl, sym, ap, ◌∙◌, subst, inl, inr, ◌⊎◌, arith, true≢false, Some, None, ◌==◌, ◌&&◌, le-ltb, if◌then◌else◌, add-zero}
-use Rattle.std.specs.Prelude.{All, slice_get, IsPermutation, Contains}
+use Rattle.std.proofs.Common.{◌≡◌, ℕ, zero, suc, ◌+◌, ◌-◌, ◌<◌, ◌≤◌, Bool, true, false, List, [], ◌∷◌, ◌++◌, map, length, refl, sym, ap, ◌∙◌, subst, inl, inr, ◌⊎◌, arith, true≢false, Some, None, ◌==◌, ◌&&◌, le-ltb, if◌then◌else◌, add-zero}
+use Rattle.std.specs.Prelude.{All, slice_get, Contains}
 use Rattle.std.proofs.lemmas.Bool.{cases_Bool, cases_eq}
 use Rattle.std.proofs.lemmas.Option.{slice_get_within}
 use Rattle.std.proofs.lemmas.List.Elements.{All-head, All-tail, All-cons, All-nil, All-append, All-map, All-weaker, All-contains}
@@ -9,11 +9,12 @@ use Rattle.semantics.specs.declared.graph.Source.{Source}
 use Rattle.semantics.specs.Graph.{Block, Node, node_at, node_count}
 use Rattle.semantics.specs.Meaning as Meaning
 use Rattle.semantics.specs.Meaning.{Statement, AtNode, AtOut, AtTurn, positions, uses_at, sent, sent_in, tagged, Tagged, block_of}
-use Rattle.lowering.specs.Roles.{Role, Use, Start, Line, Result, Join, End, Shown, Done, Freed, same_inlet, same_role, is_instr, Inlet, inlet, one, hits, is_pair_at, outs, stands_for, uses_along, uses_for, Plain, goes_from, Wiring, IsThere, IsInlet, IsFed, IsWire, IsWired, Copy}
+use Rattle.lowering.specs.Roles.{Role, Use, Meant, own, Settles, Start, Line, Result, Join, End, Shown, Done, Freed, same_inlet, same_role, is_instr, Inlet, inlet, one, hits, is_pair_at, outs, stands_for, uses_along, uses_for, Plain, goes_from, Wiring, IsThere, IsInlet, IsFed, IsWire, IsWired, Copy}
 use Rattle.lowering.specs.Implements.{IsStraightBlock}
 use Rattle.lowering.specs.StraightPlan.{count_below, inlet_of, uses_of, is_unused, unused, end_count, join_count, end_to, join_to, or_end, results_from, straight_wire, straight_place, straight_wiring}
 use Rattle.lowering.proofs.Orders.{total-append, IsPermutation-same}
 use Rattle.lowering.proofs.Parts.{same_role-true, one_same}
+use Rattle.lowering.proofs.Settling.{settles_same}
 use Rattle.lowering.proofs.Counts.{count-le}
 use Rattle.lowering.proofs.StraightUses.{inlets, kind_len, at_node, at_out}
 use Rattle.lowering.proofs.StraightFed.{all_fed, end_is_first, end_is_last, join_is_end, join_is_next}
@@ -58,7 +59,7 @@ module _ (b : Block ℕ) (flat : IsStraightBlock b) where
   -- the use is an inlet, and means what it is
   record IsGood (n : ℕ) (u : Use) : Type 0 where
     is_wire : IsWire b w (Line n) (inlet_of u)
-    means : stands_for w (inlet_of u).role (inlet_of u).port ≡ u ∷ []
+    means : stands_for w (inlet_of u).role (inlet_of u).port ≡ own u ∷ []
 
   good_node : (n m : ℕ) (node : Node ℕ) → m < node_count b → node_at b m ≡ Some node → (i : ℕ) → i < 0 + length node.sources → IsGood n (AtNode m, Meaning.Operand i)
   good_node n m node h e zero l = record { is_wire = record { is_inlet = record { there = h; port = inl refl }; is_instr = refl; fits = refl }; means = refl }
@@ -153,20 +154,27 @@ module _ (b : Block ℕ) (flat : IsStraightBlock b) where
   quiet_results from zero x q = (λ k. q k ++ [])
   quiet_results from (suc n) x q = quiet_results (from + 1) n x q
 
-  stand_uses : (n : ℕ) (us : List Use) → All (IsGood n) us → uses_along w (inlets us) ≡ us
+  stand_uses : (n : ℕ) (us : List Use) → All (IsGood n) us → uses_along w (inlets us) ≡ map own us
   stand_uses n [] h = refl
   stand_uses n (u ∷ us) h = (λ k. (All-head (IsGood n) u us h).means k ++ stand_uses n us (All-tail (IsGood n) u us h) k)
 
-  line_uses : (n : ℕ) (us : List Use) → All (IsGood n) us → uses_along w (or_end (end_to b (count_below (is_unused b) n)) (inlets us)) ≡ us
+  line_uses : (n : ℕ) (us : List Use) → All (IsGood n) us → uses_along w (or_end (end_to b (count_below (is_unused b) n)) (inlets us)) ≡ map own us
   line_uses n [] g = (λ k. quiet_end (count_below (is_unused b) n) k ++ [])
   line_uses n (u ∷ us) g = stand_uses n (u ∷ us) g
 
-  lawful_uses : (r : Role) → IsThere b w r → IsPermutation (uses_along w (straight_wire b r)) (uses_for b w r)
-  lawful_uses Start h = IsPermutation-same _ _ (quiet_results 0 b.outputs (inlet End Left) refl)
-  lawful_uses (Line n) h = IsPermutation-same _ _ (line_uses n (uses_of b n) (good_uses n))
-  lawful_uses (Result j) h = IsPermutation-same _ _ (λ k. quiet_end (unused b + j) k ++ [])
-  lawful_uses (Join i) h = IsPermutation-same _ _ (λ k. quiet_join i k ++ [])
-  lawful_uses r h = IsPermutation-same _ _ refl
+  to : (us vs : List Meant) → vs ≡ us → Settles b us vs
+  to us vs e = settles_same b us vs (IsPermutation-same us vs (sym e))
+
+  lawful_uses : (r : Role) → IsThere b w r → Settles b (uses_for b w r) (uses_along w (straight_wire b r))
+  lawful_uses Start h = to (uses_for b w Start) (uses_along w (straight_wire b Start)) (quiet_results 0 b.outputs (inlet End Left) refl)
+  lawful_uses (Line n) h = to (uses_for b w (Line n)) (uses_along w (straight_wire b (Line n))) (line_uses n (uses_of b n) (good_uses n))
+  lawful_uses (Result j) h = to (uses_for b w (Result j)) (uses_along w (straight_wire b (Result j))) (λ k. quiet_end (unused b + j) k ++ [])
+  lawful_uses (Join i) h = to (uses_for b w (Join i)) (uses_along w (straight_wire b (Join i))) (λ k. quiet_join i k ++ [])
+  lawful_uses End h = to [] [] refl
+  lawful_uses (Copy kind num) h = to [] [] refl
+  lawful_uses (Shown j) h = to [] [] refl
+  lawful_uses Done h = to [] [] refl
+  lawful_uses Freed h = to [] [] refl
 
   some_use : (y : Inlet) (us : List Inlet) → (x : Inlet) × (0 < hits x (or_end y us))
   some_use y [] = (y, let o = one_same y in omega (arith, o))
@@ -202,4 +210,6 @@ module _ (b : Block ℕ) (flat : IsStraightBlock b) where
     uses = lawful_uses;
     leads_on = lawful_leads;
     highest = lawful_highest;
+    forms = λ n h. tt;
+    inputs = λ n h. refl;
   }

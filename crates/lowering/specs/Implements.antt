@@ -10,7 +10,7 @@ use Rattle.semantics.specs.Meaning.{origin_in}
 use Rattle.semantics.specs.declared.program.Dest.{Dest}
 use Rattle.semantics.specs.Program.{Program, CodeBlock, Instr}
 use Rattle.semantics.specs.Cause.{open_bounds}
-use Rattle.lowering.specs.Roles.{Role, Start, Line, Inlet, is_instr, is_two, op_of, Wiring, IsThere, IsWired}
+use Rattle.lowering.specs.Roles.{Role, Start, Line, Inlet, is_instr, waits, op_in, Wiring, IsThere, IsWired}
 
 -- STRAIGHT GRAPHS. Each node of a straight block is a literal or an operator, has as many sources as it takes, and comes
 -- after them. Such a node has one output port, and lies in the root, since there are no conditionals.
@@ -46,8 +46,8 @@ pub record Layout : Type 0 where
   pub seconds : Role → List Dest
 
 -- the instruction of a part
-abbrev pub code_of : Block ℕ → Layout → Role → Instr
-code_of b l r = record { op = op_of b r; origin = l.origin r; slot = l.slot r; firsts = l.firsts r; seconds = l.seconds r }
+abbrev pub code_of : Block ℕ → Wiring → Layout → Role → Instr
+code_of b w l r = record { op = op_in b w r; origin = l.origin r; slot = l.slot r; firsts = l.firsts r; seconds = l.seconds r }
 
 -- where a destination leads to, and where an inlet is
 abbrev pub leads_to : ℕ → Dest → ℕ × Port
@@ -60,12 +60,12 @@ stands_at l x = (l.place x.role, x.port)
 -- destinations, in any order, and with a slot of its own where it needs one. What the block is entered by stands first,
 -- and it opens no loop.
 pub record IsBlockCode (version number : ℕ) (b : Block ℕ) (c : CodeBlock) (w : Wiring) (l : Layout) : Type 0 where
-  pub here : (r : Role) → IsThere b w r → is_instr r ≡ true → slice_get c.instrs (l.place r) ≡ Some (code_of b l r)
-  pub origins : (n : ℕ) → n < node_count b → l.origin (Line n) ≡ origin_in version (Some number) n
+  pub here : (r : Role) → IsThere b w r → is_instr r ≡ true → slice_get c.instrs (l.place r) ≡ Some (code_of b w l r)
+  pub origins : (n : ℕ) → IsThere b w (Line n) → l.origin (Line n) ≡ origin_in version (Some number) n
   pub goes : (r : Role) → IsThere b w r → is_instr r ≡ true
       → IsPermutation (map (leads_to (l.place r)) (l.firsts r ++ l.seconds r)) (map (stands_at l) (w.wire r))
   pub apart : (r q : Role) → IsThere b w r → IsThere b w q → is_instr r ≡ true → is_instr q ≡ true → l.place r ≡ l.place q → r ≡ q
-  pub slots : (r q : Role) → IsThere b w r → IsThere b w q → is_two b r ≡ true → is_two b q ≡ true → l.slot r ≡ l.slot q → r ≡ q
+  pub slots : (r q : Role) → IsThere b w r → IsThere b w q → waits b w r ≡ true → waits b w q ≡ true → l.slot r ≡ l.slot q → r ≡ q
   pub start : l.place Start ≡ 0
   pub entries : (n : ℕ) → n < b.inputs → l.place (Line n) ≡ 1 + n
   pub inputs : c.inputs ≡ b.inputs

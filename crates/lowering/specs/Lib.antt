@@ -1,4 +1,5 @@
 pub mod Roles
 pub mod Implements
+pub mod Folding
 pub mod StraightPlan
 pub mod Theorem

@@ -1,6 +1,6 @@
 -- The code of one block, by the part that each instruction plays in it, and when a program has that code. A block here
 -- is straight: its nodes lie in the root, and are literals and operators.
-use Rattle.std.specs.Prelude.{◌≡◌, ℕ, zero, suc, ◌+◌, ◌<◌, ◌≤◌, Bool, true, false, ◌&&◌, ◌⊎◌, pos, List, [], ◌∷◌, map, Option, Some, None, ◌==◌, if◌then◌else◌, flat_map, IsPermutation, All, ⊤}
+use Rattle.std.specs.Prelude.{◌≡◌, ℕ, ℤ, zero, suc, ◌+◌, ◌<◌, ◌≤◌, Bool, true, false, ◌&&◌, ◌⊎◌, pos, List, [], ◌∷◌, ◌++◌, map, Option, Some, None, ◌==◌, if◌then◌else◌, flat_map, IsPermutation, All, ⊤}
 use Rattle.tags.specs.declared.value.Value.{Value}
 use Rattle.tags.specs.declared.value.Value.TheVariants.{Int}
 use Rattle.tags.specs.declared.value.Origin.{Origin}
@@ -153,6 +153,42 @@ value_at (Some n) o v w = value_for n.kind o v w
 abbrev pub Use : Type 0
 Use = Meaning.Statement × Meaning.Port
 
+-- a use, and the literal that comes there; with none, a part's own value
+abbrev pub Meant : Type 0
+Meant = Use × Option ℤ
+
+abbrev pub own : Use → Meant
+own u = (u, None)
+
+-- where an own value is the literal z
+abbrev pub literal_or : Option ℤ → ℤ → Option ℤ
+literal_or None z = Some z
+literal_or (Some y) z = Some y
+
+abbrev pub given_as : ℤ → Meant → Meant
+given_as z m = (m.0, literal_or m.1 z)
+
+abbrev pub value_of : Option ℤ → Value → Value
+value_of None v = v
+value_of (Some z) v = Int z
+
+abbrev pub token_of : Meaning.Context → Value → Meant → Tagged
+token_of c v m = tagged c m.0.0 m.0.1 (value_of m.1 v)
+
+-- FORMS. How a node's instruction stands in the code.
+pub data Form : Type 0 where
+  -- as the node is
+  AsItIs : Form
+  -- an operator with a literal for its right operand: it takes the left one alone, and does not wait for the literal's node
+  OnRight : (literal : ℤ) → Form
+  -- an operator with a literal for its left operand: it takes the right one alone, at its left port
+  OnLeft : (literal : ℤ) → Form
+  -- a literal's node of which some uses are in operators: it sends to the others alone. In the meaning it has acted as soon
+  -- as its source has, and so what comes to it stands for what it sends.
+  Settled : (literal : ℤ) (uses : List Meant) → Form
+  -- a literal's node of which all uses are in operators: it is left out
+  Gone : Form
+
 -- WIRES
 pub record Wiring : Type 0 where
   pub joins : ℕ
@@ -162,10 +198,43 @@ pub record Wiring : Type 0 where
   pub rank : Role → ℕ
   -- how many copies there are of either kind, and the uses in the graph to which a copy leads in the end
   pub copies : Carried → ℕ
-  pub behind : Carried → ℕ → List Use
+  pub behind : Carried → ℕ → List Meant
+  -- the forms of the nodes
+  pub form : ℕ → Form
+
+abbrev pub form_of : Wiring → Role → Form
+form_of w (Line n) = w.form n
+form_of w r = AsItIs
+
+-- an operation in a form
+abbrev pub formed : Form → Op → Op
+formed (OnRight z) (Program.Apply2 op) = Program.Apply2Right op z
+formed (OnLeft z) (Program.Apply2 op) = Program.Apply2Left op z
+formed f op = op
+
+abbrev pub op_in : Block ℕ → Wiring → Role → Op
+op_in b w r = formed (form_of w r) (op_of b r)
+
+-- whether it waits for two words, in its form
+abbrev pub waits_as : Form → Bool → Bool
+waits_as AsItIs t = t
+waits_as f t = false
+
+abbrev pub waits : Block ℕ → Wiring → Role → Bool
+waits b w r = waits_as (form_of w r) (is_two b r)
+
+-- what a form makes of a function of two operands
+abbrev pub value_as : Form → (Value → Value → Value) → Value → Value → Value
+value_as (OnRight z) f v u = f v (Int z)
+value_as (OnLeft z) f v u = f (Int z) v
+value_as form f v u = f v u
+
+abbrev pub there_as : Form → Type 0 → Type 0
+there_as Gone t = ⊥
+there_as f t = t
 
 abbrev pub IsThere : Block ℕ → Wiring → Role → Type 0
-IsThere b w (Line n) = n < node_count b
+IsThere b w (Line n) = there_as (w.form n) (n < node_count b)
 IsThere b w (Result j) = j < b.outputs
 IsThere b w (Join k) = k < w.joins
 IsThere b w (Copy c k) = k < w.copies c
@@ -174,11 +243,11 @@ IsThere b w r = ⊤
 
 pub record IsInlet (b : Block ℕ) (w : Wiring) (x : Inlet) : Type 0 where
   pub there : IsThere b w x.role
-  pub port : (x.port ≡ Left) ⊎ (is_two b x.role ≡ true)
+  pub port : (x.port ≡ Left) ⊎ (waits b w x.role ≡ true)
 
 -- what a part takes, and what it makes
-abbrev pub ins : Block ℕ → Role → List Inlet
-ins b r = inlet r Left ∷ (if is_two b r then inlet r Right ∷ [] else [])
+abbrev pub ins : Block ℕ → Wiring → Role → List Inlet
+ins b w r = inlet r Left ∷ (if waits b w r then inlet r Right ∷ [] else [])
 
 abbrev pub outs : Wiring → Role → List Inlet
 outs w (Result j) = inlet (Shown j) Left ∷ w.wire (Result j)
@@ -224,27 +293,59 @@ abbrev pub emitted : Role → Value → Word
 emitted r v = word_of (goes_from r) v
 
 -- MEANING
+abbrev pub operand : ℕ → ℕ → Use
+operand n i = (Meaning.AtNode n, Meaning.Operand i)
+
+-- what comes to a node's left port stands for
+abbrev pub stands_as : Form → ℕ → List Meant
+stands_as AsItIs n = own (operand n 0) ∷ []
+stands_as (OnRight z) n = own (operand n 0) ∷ (operand n 1, Some z) ∷ []
+stands_as (OnLeft z) n = (operand n 0, Some z) ∷ own (operand n 1) ∷ []
+stands_as (Settled z us) n = map (given_as z) us
+stands_as Gone n = []
+
 -- the places of the tokens that what comes at a part's port stands for
-abbrev pub stands_for : Wiring → Role → Port → List Use
-stands_for w (Line n) Left = (Meaning.AtNode n, Meaning.Operand 0) ∷ []
-stands_for w (Line n) Right = (Meaning.AtNode n, Meaning.Operand 1) ∷ []
-stands_for w (Result j) Right = (Meaning.AtOut j, Meaning.Operand 0) ∷ []
-stands_for w (Shown j) port = (Meaning.AtOut j, Meaning.Operand 0) ∷ []
+abbrev pub stands_for : Wiring → Role → Port → List Meant
+stands_for w (Line n) Left = stands_as (w.form n) n
+stands_for w (Line n) Right = own (operand n 1) ∷ []
+stands_for w (Result j) Right = own (Meaning.AtOut j, Meaning.Operand 0) ∷ []
+stands_for w (Shown j) port = own (Meaning.AtOut j, Meaning.Operand 0) ∷ []
 stands_for w (Copy c k) port = w.behind c k
 stands_for w r port = []
 
-abbrev pub uses_along : Wiring → List Inlet → List Use
+abbrev pub uses_along : Wiring → List Inlet → List Meant
 uses_along w xs = flat_map (λ (x : Inlet). stands_for w x.role x.port) xs
 
 -- the tokens that an item stands for, in an invocation of the block
 abbrev pub told : Wiring → Meaning.Context → Item → List Tagged
-told w c i = map (λ (u : Use). tagged c u.0 u.1 i.value) (stands_for w i.inlet.role i.inlet.port)
+told w c i = map (token_of c i.value) (stands_for w i.inlet.role i.inlet.port)
+
+-- the uses of a node's output port, in the graph
+abbrev pub all_uses : Block ℕ → ℕ → List Meant
+all_uses b n = map own (Meaning.uses_in b Meaning.Main n 0)
+
+-- to which uses a node sends what it takes
+abbrev pub sends_as : Form → List Meant → List Meant
+sends_as (Settled z us) all = us
+sends_as f all = all
 
 -- the uses to which a part's value goes: those of a node's output port, and for a copy those behind it
-abbrev pub uses_for : Block ℕ → Wiring → Role → List Use
-uses_for b w (Line n) = Meaning.uses_in b Meaning.Main n 0
+abbrev pub uses_for : Block ℕ → Wiring → Role → List Meant
+uses_for b w (Line n) = sends_as (w.form n) (all_uses b n)
 uses_for b w (Copy c k) = w.behind c k
 uses_for b w r = []
+
+-- SETTLING. The node is a literal, and its token acts: there are the uses of its port instead.
+abbrev pub IsLiteral : Block ℕ → ℕ → ℤ → Type 0
+IsLiteral b n z = (n < node_count b) × (op_of b (Line n) ≡ Program.Lit z)
+
+abbrev pub SettlesBy : Block ℕ → List ℕ → List Meant → List Meant → Type 0
+SettlesBy b [] us vs = IsPermutation us vs
+SettlesBy b (n ∷ ns) us vs = (z : ℤ) × (o : Option ℤ) × (rest : List Meant) × IsLiteral b n z × IsPermutation us ((operand n 0, o) ∷ rest) × SettlesBy b ns (map (given_as z) (all_uses b n) ++ rest) vs
+
+-- the ones become the others, in any order, when some literals have acted
+abbrev pub Settles : Block ℕ → List Meant → List Meant → Type 0
+Settles b us vs = (ns : List ℕ) × SettlesBy b ns us vs
 
 abbrev pub each : Value → List Inlet → List Item
 each v xs = map (λ (x : Inlet). record { inlet = x; value = v }) xs
@@ -263,11 +364,21 @@ pub record IsWire (b : Block ℕ) (w : Wiring) (r : Role) (x : Inlet) : Type 0 w
   pub is_instr : is_instr x.role ≡ true
   pub fits : comes_at x.role x.port ≡ goes_from r
 
+-- only operators have literals for operands, and only literals are settled
+abbrev pub FitsForm : Block ℕ → ℕ → Form → Type 0
+FitsForm b n (OnRight z) = is_two b (Line n) ≡ true
+FitsForm b n (OnLeft z) = is_two b (Line n) ≡ true
+FitsForm b n (Settled z us) = op_of b (Line n) ≡ Program.Lit z
+FitsForm b n f = ⊤
+
 pub record IsWired (b : Block ℕ) (w : Wiring) : Type 0 where
   pub wires : (r : Role) → IsThere b w r → All (IsWire b w r) (w.wire r)
   pub fed : (x : Inlet) → IsInlet b w x → IsFed b w x
-  -- a value goes to its uses, and elsewhere only where it counts as a signal
-  pub uses : (r : Role) → IsThere b w r → IsPermutation (uses_along w (w.wire r)) (uses_for b w r)
+  -- a value goes to its uses, once literals have acted, and elsewhere only where it counts as a signal
+  pub uses : (r : Role) → IsThere b w r → Settles b (uses_for b w r) (uses_along w (w.wire r))
   -- each instruction but the last leads on, and the last is highest
   pub leads_on : (r : Role) → IsThere b w r → is_instr r ≡ true → (r ≡ End) ⊎ ((x : Inlet) × (0 < hits x (w.wire r)))
   pub highest : (r : Role) → IsThere b w r → is_instr r ≡ true → w.rank r ≤ w.rank End
+  -- each node is of its form's kind, and the inputs are as they are
+  pub forms : (n : ℕ) → n < node_count b → FitsForm b n (w.form n)
+  pub inputs : (n : ℕ) → n < b.inputs → w.form n ≡ AsItIs

@@ -9,7 +9,7 @@ use Rattle.semantics.specs.Meaning as Meaning
 use Rattle.semantics.specs.Meaning.{Statement, AtNode, AtOut, AtTurn, uses_in, origin_in}
 use Rattle.semantics.specs.declared.program.Dest.{Dest}
 use Rattle.semantics.specs.Program.{Instr, CodeBlock, Program}
-use Rattle.lowering.specs.Roles.{Role, Start, Line, Result, Join, End, Inlet, inlet, one, Wiring, op_of, is_pair_at}
+use Rattle.lowering.specs.Roles.{Role, Start, Line, Result, Join, End, Inlet, inlet, one, Wiring, op_of, is_pair_at, AsItIs}
 use Rattle.lowering.specs.Implements.{Layout}
 
 -- so many numbers below n pass the test
@@ -80,7 +80,7 @@ straight_place b End = 1 + node_count b + b.outputs + join_count b
 straight_place b r = 2 + node_count b + b.outputs + join_count b
 
 abbrev pub straight_wiring : Block ℕ → Wiring
-straight_wiring b = record { joins = join_count b; wire = straight_wire b; rank = straight_place b; copies = λ c. 0; behind = λ c k. [] }
+straight_wiring b = record { joins = join_count b; wire = straight_wire b; rank = straight_place b; copies = λ c. 0; behind = λ c k. []; form = λ n. AsItIs }
 
 -- slots, each for one part
 abbrev pub is_pair_line : Block ℕ → ℕ → Bool

@@ -1,5 +1,5 @@
 -- When straight-line code means what a graph means.
-use Rattle.std.specs.Prelude.{◌≡◌, ℕ, ◌<◌, ℤ, List, All, ⊤}
+use Rattle.std.specs.Prelude.{◌≡◌, ℕ, ◌<◌, ℤ, List, Option, All, ⊤}
 use Rattle.semantics.specs.declared.graph.Kind.{Kind}
 use Rattle.semantics.specs.declared.graph.Kind.TheVariants.{Lit, Apply1, Apply2}
 use Rattle.semantics.specs.Graph.{Graph, Block, Flow, Node, flow_of}
@@ -13,6 +13,9 @@ use Rattle.semantics.specs.Wired.{IsWired}
 use Rattle.semantics.specs.Orderly.{IsFreeAtRelease, Orderly}
 use Rattle.semantics.specs.Faithful.{Faithful, IsRun}
 use Rattle.lowering.specs.Implements.{IsStraight, Implements}
+use Rattle.lowering.specs.Roles as Roles
+use Rattle.lowering.specs.Roles.{Wiring}
+use Rattle.lowering.specs.Folding.{Fold, CanFold, folded, AreFolds, all_folded, HasFolds}
 use Rattle.lowering.specs.StraightPlan.{straight_program}
 
 -- A graph in which each node of each block is a literal or an operator.
@@ -61,3 +64,11 @@ PlanIsWired = (fl : Flow) (p : Plan) → IsStraight fl → p.program ≡ straigh
 abbrev pub PlanTellsNothing : Type 0
 PlanTellsNothing = (fl : Flow) (p : Plan) → p.program ≡ straight_program fl → fl.version < 2
     → All (λ (c : CodeBlock). All (λ (i : Instr). i.origin ≡ Untold) c.instrs) p.program.blocks
+
+-- LITERAL OPERANDS. Lawful wires stay lawful when one operand more is a literal.
+abbrev pub FoldIsWired : Type 0
+FoldIsWired = (b : Block ℕ) (w : Wiring) (f : Fold) → Roles.IsWired b w → CanFold b w f → Roles.IsWired b (folded w f)
+
+-- And so they do when all operands that can be literals are.
+abbrev pub FoldsAreDone : Type 0
+FoldsAreDone = (b : Block ℕ) (w : Wiring) (folds : ℕ → Option Fold) → Roles.IsWired b w → AreFolds b w folds → HasFolds b w folds (all_folded b w folds)

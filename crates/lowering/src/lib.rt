@@ -1,12 +1,13 @@
 //! Code that implements a graph is faithful to it.
 #![tactic(auto)]
 
-ghost use Rattle.lowering.specs.Theorem.{CodeIsFaithful, GraphIsStraight, PlanIsOrderly, PlanIsWired, PlanTellsNothing, ProgramImplements, ProgramIsFaithful, ReleaseIsLast};
+ghost use Rattle.lowering.specs.Theorem.{CodeIsFaithful, FoldIsWired, FoldsAreDone, GraphIsStraight, PlanIsOrderly, PlanIsWired, PlanTellsNothing, ProgramImplements, ProgramIsFaithful, ReleaseIsLast};
 
 /// Straight-line code: all of it that implements a well-formed graph is faithful to it. A well-formed graph of literals
 /// and operators, in any number of blocks, is straight; its program implements it, and so is faithful to it. When the
 /// frame of such code can be released, nothing is left that names it; and each run over its plan is orderly. The plan
-/// that has the program of a straight graph, and no mark, is wired, and in version 1 it tells no origin.
+/// that has the program of a straight graph, and no mark, is wired, and in version 1 it tells no origin. Code may have
+/// literal operands: lawful wires stay lawful when one operand more is a literal, and when all are that can be.
 pub fn straight_code_is_faithful()
     ensures code { CodeIsFaithful }
     ensures implements { ProgramImplements }
@@ -16,4 +17,6 @@ pub fn straight_code_is_faithful()
     ensures orderly { PlanIsOrderly }
     ensures wired { PlanIsWired }
     ensures origins { PlanTellsNothing }
+    ensures fold { FoldIsWired }
+    ensures folds { FoldsAreDone }
 {}
