@@ -68,4 +68,4 @@ pub straight_code_is_faithful : StraightCodeIsFaithful
 straight_code_is_faithful g slots version straight good same =
     let p : Plan = expanded (flow_of g) in
     let agree = straight_plans_agree g straight.well straight.line in
-    folded_is_faithful g p slots version straight (record { program = agree.0; unmarked = agree.1.0 }) (plans_are_sound g straight.text straight.well).wired good same
+    folded_is_faithful g p slots version straight (record { program = agree.0; unmarked = agree.1 }) (plans_are_sound g straight.text straight.well).wired good same
