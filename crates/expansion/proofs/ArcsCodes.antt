@@ -1,5 +1,5 @@
 -- The code blocks of a plan at their numbers, and how long its landings are.
-use Rattle.std.proofs.Common.{◌≡◌, ℕ, zero, suc, ◌+◌, ◌<◌, ◌⊎◌, Bool, true, false, inl, inr, List, [], ◌∷◌, ◌++◌, length, refl, sym, ap, ◌∙◌, subst, arith, append_assoc, append-nil, if◌then◌else◌, Some, nat_lt, lt-ltb, le-ltb}
+use Rattle.std.proofs.Common.{◌≡◌, ℕ, zero, suc, ◌+◌, ◌≤◌, ◌<◌, ◌⊎◌, Bool, true, false, inl, inr, List, [], ◌∷◌, ◌++◌, length, refl, sym, ap, ◌∙◌, subst, arith, append_assoc, append-nil, if◌then◌else◌, Some, nat_lt, lt-ltb, le-ltb}
 use Rattle.std.specs.Prelude.{slice_get, slice_index_or, ⊤}
 use Rattle.semantics.specs.Graph.{Block, Flow, Graph, flow_of}
 use Rattle.semantics.specs.WellFormed.{WellFormed}
@@ -7,10 +7,11 @@ use Rattle.semantics.specs.Program.{CodeBlock}
 use Rattle.semantics.specs.Plan.{landing, landing_in}
 use Rattle.expansion.specs.Scopes.{Scope}
 use Rattle.expansion.specs.Variants.{some_block_loops, next_variant, variants_from, variants_of}
-use Rattle.expansion.specs.Blocks.{Coded, variant_of}
+use Rattle.expansion.specs.Builds.{Build}
+use Rattle.expansion.specs.Blocks.{plain_build, variant_build, code_of, Coded, variant_of}
 use Rattle.expansion.specs.Expanded.{Codes, with_code, no_codes, scope_of, plain_code, variant_code, plain_codes, variant_codes, codes_of, expanded}
-use Rattle.expansion.proofs.ArcsLists.{get_within, length_push}
-use Rattle.expansion.proofs.ArcsKept.{Kept, split}
+use Rattle.expansion.proofs.ArcsLists.{index_old, index_new, get_within, length_push}
+use Rattle.expansion.proofs.ArcsKept.{Env, Kept, split}
 use Rattle.expansion.proofs.ArcsSettled.{Settled}
 use Rattle.expansion.proofs.ArcsFlows.{env_of, SizesFit, block_fits}
 use Rattle.expansion.proofs.ArcsEnds.{plain_settled, variant_settled}
@@ -25,15 +26,6 @@ get_left (x ∷ xs) ys (suc k) y e = get_left xs ys k y e
 get_right : {X : Type 0} (xs ys : List X) (k : ℕ) (y : X) → slice_get ys k ≡ Some y → slice_get (xs ++ ys) (length xs + k) ≡ Some y
 get_right [] ys k y e = subst (λ m. slice_get ys m ≡ Some y) (let is_so : k ≡ 0 + k = omega arith in is_so) e
 get_right (x ∷ xs) ys k y e = subst (λ m. slice_get (x ∷ (xs ++ ys)) m ≡ Some y) (let is_so : suc (length xs + k) ≡ length (x ∷ xs) + k = omega arith in is_so) (get_right xs ys k y e)
-
-index_old : {X : Type 0} (xs : List X) (x d : X) (j : ℕ) → j < length xs → slice_index_or (xs ++ x ∷ []) j d ≡ slice_index_or xs j d
-index_old [] x d j h = absurd (omega (arith, h))
-index_old (y ∷ xs) x d zero h = refl
-index_old (y ∷ xs) x d (suc j) h = index_old xs x d j (omega (arith, h))
-
-index_new : {X : Type 0} (xs : List X) (x d : X) → slice_index_or (xs ++ x ∷ []) (length xs) d ≡ x
-index_new [] x d = refl
-index_new (y ∷ xs) x d = index_new xs x d
 
 -- PARTS
 abbrev plains : ℕ → List (Block ℕ) → List ℕ → ℕ → List (Block ℕ) → List CodeBlock
@@ -178,68 +170,109 @@ pub sizes_fit : (fl : Flow) → SizesFit fl.blocks (landing (expanded fl))
 sizes_fit fl = record { plain = plain_landing fl; looped = turn_landing fl }
 
 -- ALL OF THEM
+abbrev AllCodes : (CodeBlock → Type 0) → List CodeBlock → Type 0
+AllCodes P [] = ⊤
+AllCodes P (c ∷ cs) = P c × AllCodes P cs
+
+codes_append : (P : CodeBlock → Type 0) (xs ys : List CodeBlock) → AllCodes P xs → AllCodes P ys → AllCodes P (xs ++ ys)
+codes_append P [] ys p q = q
+codes_append P (x ∷ xs) ys p q = (p.0, codes_append P xs ys p.1 q)
+
+codes_get : (P : CodeBlock → Type 0) (xs : List CodeBlock) (k : ℕ) (c : CodeBlock) → AllCodes P xs → slice_get xs k ≡ Some c → P c
+codes_get P [] k c h e = absurd (cc)
+codes_get P (x ∷ xs) zero c h e = let same : x ≡ c = cc in subst P same h.0
+codes_get P (x ∷ xs) (suc k) c h e = codes_get P xs k c h.1 e
+
+module _ (fl : Flow) (P : CodeBlock → Type 0) (plain : (k : ℕ) (b : Block ℕ) → slice_get fl.blocks k ≡ Some b → P (plain_code fl.version fl.blocks (variants_of fl.blocks) k b).code)
+    (turn : (k : ℕ) (b : Block ℕ) → slice_get fl.blocks k ≡ Some b → P (variant_code fl.version fl.blocks (variants_of fl.blocks) k b).code) where
+  abbrev AreAt : ℕ → List (Block ℕ) → Type 0
+  AreAt n rest = (k : ℕ) (b : Block ℕ) → slice_get rest k ≡ Some b → slice_get fl.blocks (n + k) ≡ Some b
+
+  first_at : (n : ℕ) (b : Block ℕ) (rest : List (Block ℕ)) → AreAt n (b ∷ rest) → slice_get fl.blocks n ≡ Some b
+  first_at n b rest at = ap (slice_get fl.blocks) (let is_so : n ≡ n + 0 = omega arith in is_so) ∙ at 0 b refl
+
+  rest_at : (n : ℕ) (b : Block ℕ) (rest : List (Block ℕ)) → AreAt n (b ∷ rest) → AreAt (n + 1) rest
+  rest_at n b rest at k c e = ap (slice_get fl.blocks) (let is_so : (n + 1) + k ≡ n + suc k = omega arith in is_so) ∙ at (suc k) c e
+
+  all_plain : (n : ℕ) (rest : List (Block ℕ)) → AreAt n rest → AllCodes P (plains fl.version fl.blocks (variants_of fl.blocks) n rest)
+  all_plain n [] at = tt
+  all_plain n (b ∷ rest) at = (plain n b (first_at n b rest at), all_plain (n + 1) rest (rest_at n b rest at))
+
+  if_so : (t : Bool) (x : CodeBlock) (xs : List CodeBlock) → P x → AllCodes P xs → AllCodes P (if t then x ∷ xs else xs)
+  if_so true x xs h q = (h, q)
+  if_so false x xs h q = q
+
+  all_turns : (n : ℕ) (rest : List (Block ℕ)) → AreAt n rest → AllCodes P (turns fl.version fl.blocks (variants_of fl.blocks) n rest)
+  all_turns n [] at = tt
+  all_turns n (b ∷ rest) at =
+      if_so (some_block_loops n fl.blocks) (variant_code fl.version fl.blocks (variants_of fl.blocks) n b).code (turns fl.version fl.blocks (variants_of fl.blocks) (n + 1) rest)
+      (turn n b (first_at n b rest at)) (all_turns (n + 1) rest (rest_at n b rest at))
+
+  -- what the code of each block has, and of each loop variant, each code block of the plan has
+  pub every_code : (k : ℕ) (c : CodeBlock) → slice_get (expanded fl).program.blocks k ≡ Some c → P c
+  every_code k c e =
+      let first : List CodeBlock = plains fl.version fl.blocks (variants_of fl.blocks) 0 fl.blocks in
+      let later : List CodeBlock = turns fl.version fl.blocks (variants_of fl.blocks) 0 fl.blocks in
+      let at : AreAt 0 fl.blocks = λ i b f. ap (slice_get fl.blocks) (let is_so : 0 + i ≡ i = omega arith in is_so) ∙ f in
+      codes_get P (first ++ later) k c (codes_append P first later (all_plain 0 fl.blocks at) (all_turns 0 fl.blocks at)) (ap (λ xs. slice_get xs k) (sym (codes_are fl.version fl.blocks)) ∙ e)
+
+-- THEIR ARCS
 pub record CodeKept (size : ℕ → ℕ) (c : CodeBlock) : Type 0 where
   pub ports : ℕ → ℕ
   pub frees : List ℕ
   pub kept : Kept (record { inputs = c.inputs; size = size; ports = ports }) c.instrs frees 0 0
+  pub long : c.inputs + 1 ≤ length c.instrs
 
-abbrev AllCodes : (ℕ → ℕ) → List CodeBlock → Type 0
-AllCodes size [] = ⊤
-AllCodes size (c ∷ cs) = CodeKept size c × AllCodes size cs
-
-codes_append : (size : ℕ → ℕ) (xs ys : List CodeBlock) → AllCodes size xs → AllCodes size ys → AllCodes size (xs ++ ys)
-codes_append size [] ys p q = q
-codes_append size (x ∷ xs) ys p q = (p.0, codes_append size xs ys p.1 q)
-
-codes_get : (size : ℕ → ℕ) (xs : List CodeBlock) (k : ℕ) (c : CodeBlock) → AllCodes size xs → slice_get xs k ≡ Some c → CodeKept size c
-codes_get size [] k c h e = absurd (cc)
-codes_get size (x ∷ xs) zero c h e = let same : x ≡ c = cc in subst (CodeKept size) same h.0
-codes_get size (x ∷ xs) (suc k) c h e = codes_get size xs k c h.1 e
+kept_code : (e : Env) (n : ℕ) (b : Build) (c : CodeBlock) → e.inputs ≡ c.inputs → b.instrs ≡ c.instrs → Settled e 0 n b → CodeKept e.size c
+kept_code e n b c p q h = record {
+  ports = e.ports;
+  frees = h.frees;
+  kept = subst (λ is. Kept (record { inputs = c.inputs; size = e.size; ports = e.ports }) is h.frees 0 0) q
+      (subst (λ k. Kept (record { inputs = k; size = e.size; ports = e.ports }) b.instrs h.frees 0 0) p h.kept);
+  long = let past = h.past in let long = h.long in let same : length b.instrs ≡ length c.instrs = ap length q in omega (arith, p, past, long, same);
+}
 
 module _ (g : Graph) (well : WellFormed g) where
-  abbrev fl : Flow
-  fl = flow_of g
+  abbrev resolved : Flow
+  resolved = flow_of g
 
   abbrev size : ℕ → ℕ
   size = landing (expanded (flow_of g))
 
-  plain_kept : (k : ℕ) (b : Block ℕ) → slice_get (flow_of g).blocks k ≡ Some b → CodeKept size (plain_code fl.version fl.blocks (variants_of fl.blocks) k b).code
+  plain_kept : (k : ℕ) (b : Block ℕ) → slice_get (flow_of g).blocks k ≡ Some b → CodeKept size (plain_code resolved.version resolved.blocks (variants_of resolved.blocks) k b).code
   unfolding plain_code
   plain_kept k b e =
-      let s : Scope = scope_of fl.version fl.blocks (variants_of fl.blocks) k b false in
-      let all : Settled (env_of fl.blocks size b) 0 (node_count b) _ = plain_settled (env_of fl.blocks size b) s (block_fits g well size (sizes_fit fl) k b fl.version k false e) in
-      record { ports = (env_of fl.blocks size b).ports; frees = all.frees; kept = all.kept }
+      let s : Scope = scope_of resolved.version resolved.blocks (variants_of resolved.blocks) k b false in
+      kept_code (env_of resolved.blocks size b) (node_count b) (plain_build s) (code_of b (plain_build s)).code refl refl
+      (plain_settled (env_of resolved.blocks size b) s (block_fits g well size (sizes_fit resolved) k b resolved.version k false e))
 
-  variant_kept : (k : ℕ) (b : Block ℕ) → slice_get (flow_of g).blocks k ≡ Some b → CodeKept size (variant_code fl.version fl.blocks (variants_of fl.blocks) k b).code
+  variant_kept : (k : ℕ) (b : Block ℕ) → slice_get (flow_of g).blocks k ≡ Some b → CodeKept size (variant_code resolved.version resolved.blocks (variants_of resolved.blocks) k b).code
   unfolding variant_code
   variant_kept k b e =
-      let s : Scope = scope_of fl.version fl.blocks (variants_of fl.blocks) k b true in
-      let all : Settled (env_of fl.blocks size b) 0 (node_count b) _ = variant_settled (env_of fl.blocks size b) s (variant_of (variants_of fl.blocks) k) (block_fits g well size (sizes_fit fl) k b fl.version k true e) in
-      record { ports = (env_of fl.blocks size b).ports; frees = all.frees; kept = all.kept }
-
-  plains_kept : (n : ℕ) (rest : List (Block ℕ)) → ((k : ℕ) (b : Block ℕ) → slice_get rest k ≡ Some b → slice_get (flow_of g).blocks (n + k) ≡ Some b) → AllCodes size (plains fl.version fl.blocks (variants_of fl.blocks) n rest)
-  plains_kept n [] at = tt
-  plains_kept n (b ∷ rest) at = (
-    plain_kept n b (ap (slice_get (flow_of g).blocks) (let is_so : n ≡ n + 0 = omega arith in is_so) ∙ at 0 b refl),
-    plains_kept (n + 1) rest (λ k c e. ap (slice_get (flow_of g).blocks) (let is_so : (n + 1) + k ≡ n + suc k = omega arith in is_so) ∙ at (suc k) c e),
-  )
-
-  if_kept : (t : Bool) (x : CodeBlock) (xs : List CodeBlock) → CodeKept size x → AllCodes size xs → AllCodes size (if t then x ∷ xs else xs)
-  if_kept true x xs h q = (h, q)
-  if_kept false x xs h q = q
-
-  turns_kept : (n : ℕ) (rest : List (Block ℕ)) → ((k : ℕ) (b : Block ℕ) → slice_get rest k ≡ Some b → slice_get (flow_of g).blocks (n + k) ≡ Some b) → AllCodes size (turns fl.version fl.blocks (variants_of fl.blocks) n rest)
-  turns_kept n [] at = tt
-  turns_kept n (b ∷ rest) at =
-      if_kept (some_block_loops n fl.blocks) (variant_code fl.version fl.blocks (variants_of fl.blocks) n b).code (turns fl.version fl.blocks (variants_of fl.blocks) (n + 1) rest)
-      (variant_kept n b (ap (slice_get (flow_of g).blocks) (let is_so : n ≡ n + 0 = omega arith in is_so) ∙ at 0 b refl))
-      (turns_kept (n + 1) rest (λ k c e. ap (slice_get (flow_of g).blocks) (let is_so : (n + 1) + k ≡ n + suc k = omega arith in is_so) ∙ at (suc k) c e))
-
-  from_start : (k : ℕ) (b : Block ℕ) → slice_get (flow_of g).blocks k ≡ Some b → slice_get (flow_of g).blocks (0 + k) ≡ Some b
-  from_start k b e = ap (slice_get (flow_of g).blocks) (let is_so : 0 + k ≡ k = omega arith in is_so) ∙ e
+      let s : Scope = scope_of resolved.version resolved.blocks (variants_of resolved.blocks) k b true in
+      let code : ℕ = variant_of (variants_of resolved.blocks) k in
+      kept_code (env_of resolved.blocks size b) (node_count b) (variant_build s code) (code_of b (variant_build s code)).code refl refl
+      (variant_settled (env_of resolved.blocks size b) s code (block_fits g well size (sizes_fit resolved) k b resolved.version k true e))
 
   pub code_kept : (k : ℕ) (c : CodeBlock) → slice_get (expanded (flow_of g)).program.blocks k ≡ Some c → CodeKept (landing (expanded (flow_of g))) c
-  code_kept k c e =
-      codes_get size (plains fl.version fl.blocks (variants_of fl.blocks) 0 fl.blocks ++ turns fl.version fl.blocks (variants_of fl.blocks) 0 fl.blocks) k c
-      (codes_append size (plains fl.version fl.blocks (variants_of fl.blocks) 0 fl.blocks) (turns fl.version fl.blocks (variants_of fl.blocks) 0 fl.blocks) (plains_kept 0 fl.blocks from_start) (turns_kept 0 fl.blocks from_start))
-      (ap (λ xs. slice_get xs k) (sym (codes_are fl.version fl.blocks)) ∙ e)
+  code_kept k c e = every_code resolved (CodeKept size) plain_kept variant_kept k c e
+
+-- THEIR GRAPH BLOCKS
+pub record IsOf (bs : List (Block ℕ)) (c : CodeBlock) : Type 0 where
+  pub place : ℕ
+  pub block : Block ℕ
+  pub there : slice_get bs place ≡ Some block
+  pub inputs : c.inputs ≡ block.inputs
+  pub outputs : c.outputs ≡ block.outputs
+
+plain_is_of : (fl : Flow) (k : ℕ) (b : Block ℕ) → slice_get fl.blocks k ≡ Some b → IsOf fl.blocks (plain_code fl.version fl.blocks (variants_of fl.blocks) k b).code
+unfolding plain_code
+plain_is_of fl k b e = record { place = k; block = b; there = e; inputs = refl; outputs = refl }
+
+variant_is_of : (fl : Flow) (k : ℕ) (b : Block ℕ) → slice_get fl.blocks k ≡ Some b → IsOf fl.blocks (variant_code fl.version fl.blocks (variants_of fl.blocks) k b).code
+unfolding variant_code
+variant_is_of fl k b e = record { place = k; block = b; there = e; inputs = refl; outputs = refl }
+
+-- each code block has the inputs and the outputs of a block of the graph
+pub code_is_of : (fl : Flow) (k : ℕ) (c : CodeBlock) → slice_get (expanded fl).program.blocks k ≡ Some c → IsOf fl.blocks c
+code_is_of fl k c e = every_code fl (IsOf fl.blocks) (plain_is_of fl) (variant_is_of fl) k c e

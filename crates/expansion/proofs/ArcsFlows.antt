@@ -282,3 +282,10 @@ module _ (g : Graph) (well : WellFormed g) (size : ℕ → ℕ) (sizes : SizesFi
       let good : IsBlockWell g named.0.1 = all_get (λ (x : Named). IsBlockWell g x.1) g.blocks place named.0 well.blocks named.1 in
       subst (λ c. BlockFits (env_of (flow_of g).blocks size c) (scope_of v (flow_of g).blocks (variants_of (flow_of g).blocks) number c turns)) named.2
       (line_fits named.0.1 place v number turns (e ∙ ap (λ c. Some c) (sym named.2)) good)
+
+  -- each block has an input and an output
+  pub block_some : (place : ℕ) (b : Block ℕ) → slice_get (flow_of g).blocks place ≡ Some b → (1 ≤ b.inputs) × (1 ≤ b.outputs)
+  block_some place b e =
+      let named = get_map_back (λ (x : Named). block_in g x.1) g.blocks place b e in
+      let good : IsBlockWell g named.0.1 = all_get (λ (x : Named). IsBlockWell g x.1) g.blocks place named.0 well.blocks named.1 in
+      subst (λ (c : Block ℕ). (1 ≤ c.inputs) × (1 ≤ c.outputs)) named.2 (good.some_input, good.some_output)

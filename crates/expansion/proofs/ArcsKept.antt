@@ -92,7 +92,7 @@ pub record Lands (e : Env) (is : List Instr) (frees : List ℕ) (missing m block
   pub row : (k : ℕ) → m + d.ahead ≤ k → k < (m + d.ahead) + e.size block → k < length is → RowAt is k
   pub apart : (k : ℕ) → Has frees k → m + d.ahead ≤ k → (m + d.ahead) + e.size block ≤ k + 1
 
--- `frees`: places that are tied to no next one. `open`: the link that has no landing so far, or 0.
+-- `frees`: places that are tied to no next one. `missing`: of the last landing. `waiting`: the link that has no landing so far, or 0.
 pub record Kept (e : Env) (is : List Instr) (frees : List ℕ) (missing waiting : ℕ) : Type 0 where
   pub arcs : (n : ℕ) (i : Instr) (d : Dest) → slice_get is n ≡ Some i → Contains (i.firsts ++ i.seconds) d → Leads e is frees n d
   pub lands : (m block : ℕ) (i : Instr) (d : Dest) → slice_get is m ≡ Some i → i.op ≡ Link block → Contains i.firsts d → Lands e is frees missing m block d

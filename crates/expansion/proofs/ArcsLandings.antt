@@ -16,7 +16,7 @@ use Rattle.expansion.specs.Ends.{is_empty}
 use Rattle.expansion.specs.Rows.{sends, landed, linked, invoke, credits}
 use Rattle.expansion.proofs.ArcsLists.{get_new, length_push, get_within, length_linked}
 use Rattle.expansion.proofs.ArcsKept.{Env, is_link, OpAt, Leaves, Grows, grows_same, grows_on, grows_push, grows_linked, leaves_on, op_on, Leads, Lands, Kept, split, adds, links, frees_last}
-use Rattle.expansion.proofs.ArcsSettled.{Settled, Joining, Step, Grown, Outlets, Exits, exits_on, exits_also, first_out, left_right, false_true, SourcesFit, source_leaves}
+use Rattle.expansion.proofs.ArcsSettled.{Settled, Joining, Step, Grown, Outlets, Exits, exits_on, exits_more, first_out, left_right, false_true, SourcesFit, source_leaves}
 use Rattle.expansion.proofs.ArcsSteps.{joins_end, joins_more, joins_behind, behinds, meets}
 
 -- so many instructions of the last landing are missing
@@ -184,7 +184,7 @@ module _ (e : Env) (link block outputs missing n : ℕ) (a : Build) (r : Region)
         long = omega (arith, long, now);
         past = omega (arith, past);
         zero = leaves_on a.instrs d.instrs 0 false grows_all h.zero;
-        exits = exits_also e n d (first_of (length a.instrs)) leave (exits_on e n a d grows_all in_row.exits h.exits);
+        exits = exits_more e n d (first_of (length a.instrs)) leave (exits_on e n a d grows_all in_row.exits h.exits);
       }
 
 -- THE INVOCATION

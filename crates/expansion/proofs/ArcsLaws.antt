@@ -17,11 +17,15 @@ use Rattle.semantics.specs.Bytes as Bytes
 use Rattle.semantics.specs.Wired.{is_dyadic, StandsAt}
 use Rattle.semantics.specs.Sharing.{Arc, Inlet, inlet, arc, arcs_to, row, arcs_from, arcs_of}
 use Rattle.code.specs.Sound.{LandsLeft, IsTied, IsSoundDest, DestsAreSound}
-use Rattle.expansion.specs.Arcs.{LinksLandLeft, ArcsPassEntries, RightArcsMeet, LandingsStand, ArcsAreSound}
+use Rattle.expansion.specs.Arcs.{LinksLandLeft, ArcsPassEntries, RightArcsMeet, LandingsStand, ArcsAreSound, HasSizes, BlocksHaveSizes}
 use Rattle.expansion.specs.Expanded.{expanded}
 use Rattle.expansion.proofs.ArcsKept.{Env, Has, MeetsAt, RowAt, Leads, Lands}
 use Rattle.expansion.proofs.ArcsSettled.{left_right}
-use Rattle.expansion.proofs.ArcsCodes.{CodeKept, code_kept}
+use Rattle.determinacy.proofs.Resolved.{all_get}
+use Rattle.expansion.specs.Blocks.{IsSmallBlock}
+use Rattle.expansion.proofs.Small.{small_flow}
+use Rattle.expansion.proofs.ArcsFlows.{block_some}
+use Rattle.expansion.proofs.ArcsCodes.{CodeKept, code_kept, IsOf, code_is_of, sizes_fit}
 
 -- MEMBERS
 map_back : {X Y : Type 0} (f : X → Y) (xs : List X) (y : Y) → Contains (map f xs) y → (x : X) × Contains xs x × (f x ≡ y)
@@ -199,3 +203,19 @@ arcs_go_forward g text well = record {
   rights = right_arcs_meet g well;
   landings = landings_stand g well;
 }
+
+has_sizes : (g : Graph) → HasText g → WellFormed g → (b : ℕ) (c : CodeBlock) → slice_get (expanded (flow_of g)).program.blocks b ≡ Some c → HasSizes c
+has_sizes g text well b c e =
+    let of : IsOf (flow_of g).blocks c = code_is_of (flow_of g) b c e in
+    let some = block_some g well (landing (expanded (flow_of g))) (sizes_fit (flow_of g)) of.place of.block of.there in
+    let small : IsSmallBlock of.block = all_get IsSmallBlock (flow_of g).blocks of.place of.block (small_flow g well text).small of.there in
+    let p = of.inputs in
+    let q = of.outputs in
+    let s = some.0 in
+    let t = some.1 in
+    let u = small.inputs in
+    let v = small.outputs in
+    record { inputs = (omega (arith, p, s), omega (arith, p, u)); outputs = (omega (arith, q, t), omega (arith, q, v)); size = (code_kept g well b c e).long }
+
+pub plans_have_sizes : (g : Graph) → HasText g → WellFormed g → BlocksHaveSizes (expanded (flow_of g))
+plans_have_sizes g text well = record { each = has_sizes g text well }

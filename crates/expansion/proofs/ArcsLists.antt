@@ -41,6 +41,15 @@ get_some [] n h = absurd (omega (arith, h))
 get_some (x ∷ xs) zero h = (x, refl)
 get_some (x ∷ xs) (suc n) h = get_some xs n (omega (arith, h))
 
+pub index_old : {X : Type 0} (xs : List X) (x d : X) (j : ℕ) → j < length xs → slice_index_or (xs ++ x ∷ []) j d ≡ slice_index_or xs j d
+index_old [] x d j h = absurd (omega (arith, h))
+index_old (y ∷ xs) x d zero h = refl
+index_old (y ∷ xs) x d (suc j) h = index_old xs x d j (omega (arith, h))
+
+pub index_new : {X : Type 0} (xs : List X) (x d : X) → slice_index_or (xs ++ x ∷ []) (length xs) d ≡ x
+index_new [] x d = refl
+index_new (y ∷ xs) x d = index_new xs x d
+
 -- ONE MORE DESTINATION
 abbrev pub linked_in : List Instr → ℕ → Bool → Dest → List Instr
 linked_in is n s d = slice_set is n (with_dest (slice_index_or is n no_instr) s d)

@@ -1,5 +1,5 @@
 -- A block between two steps, and where the ports of its nodes leave.
-use Rattle.std.proofs.Common.{◌≡◌, ℕ, zero, suc, ◌+◌, ◌<◌, ◌≤◌, Bool, true, false, ◌⊎◌, inl, inr, List, [], ◌∷◌, ◌++◌, length, refl, sym, ap, ◌∙◌, subst, arith}
+use Rattle.std.proofs.Common.{◌≡◌, ℕ, suc, ◌+◌, ◌<◌, ◌≤◌, Bool, true, false, ◌⊎◌, inl, inr, List, [], ◌∷◌, ◌++◌, length, sym, ap, ◌∙◌, subst, arith}
 use Rattle.std.specs.Prelude.{slice_index_or, ⊤}
 use Rattle.tags.specs.declared.token.Port.TheVariants.{Left, Right}
 use Rattle.semantics.specs.declared.graph.Region.{Region}
@@ -9,7 +9,7 @@ use Rattle.semantics.specs.declared.program.Op.{Op}
 use Rattle.semantics.specs.Program.{Instr}
 use Rattle.expansion.specs.declared.builder.Outlet.{Outlet}
 use Rattle.expansion.specs.Builds.{Build, first_of, nowhere, exit_at, outlet_of, trigger_of, exited, side}
-use Rattle.expansion.proofs.ArcsLists.{length_push}
+use Rattle.expansion.proofs.ArcsLists.{index_old, index_new, length_push}
 use Rattle.expansion.proofs.ArcsKept.{Env, Has, OpAt, Leaves, Grows, leaves_on, Kept, split}
 
 -- where the ports of the first n nodes leave
@@ -76,16 +76,7 @@ exits_on e n a b g same h = record {
       (subst (λ xs. Leaves a.instrs ((slice_index_or xs j nowhere).place + p) false) (sym same) (h.leave j p l q));
 }
 
-index_old : (xs : List Outlet) (x : Outlet) (j : ℕ) → j < length xs → slice_index_or (xs ++ x ∷ []) j nowhere ≡ slice_index_or xs j nowhere
-index_old [] x j h = absurd (omega (arith, h))
-index_old (y ∷ xs) x zero h = refl
-index_old (y ∷ xs) x (suc j) h = index_old xs x j (omega (arith, h))
-
-index_new : (xs : List Outlet) (x : Outlet) → slice_index_or (xs ++ x ∷ []) (length xs) nowhere ≡ x
-index_new [] x = refl
-index_new (y ∷ xs) x = index_new xs x
-
-exits_more : (e : Env) (n : ℕ) (b : Build) (o : Outlet) → ((p : ℕ) → p < e.ports n → Leaves b.instrs (o.place + p) false) → Exits e n b → Exits e (suc n) (exited b o)
+pub exits_more : (e : Env) (n : ℕ) (b : Build) (o : Outlet) → ((p : ℕ) → p < e.ports n → Leaves b.instrs (o.place + p) false) → Exits e n b → Exits e (suc n) (exited b o)
 exits_more e n b o new h = record {
   count = let a = length_push b.exits o in let c = h.count in omega (arith, a, c);
   leave = λ j p l q. leave j p q (split j n l);
@@ -94,10 +85,10 @@ exits_more e n b o new h = record {
     leave : (j p : ℕ) → p < e.ports j → (j < n) ⊎ (j ≡ n) → Leaves b.instrs ((exit_at (exited b o) j).place + p) false
     leave j p q (inl l) =
         let c = h.count in
-        subst (λ x. Leaves b.instrs (x.place + p) false) (sym (index_old b.exits o j (omega (arith, l, c)))) (h.leave j p l q)
+        subst (λ x. Leaves b.instrs (x.place + p) false) (sym (index_old b.exits o nowhere j (omega (arith, l, c)))) (h.leave j p l q)
     leave j p q (inr l) =
         let at : j ≡ length b.exits = l ∙ sym h.count in
-        subst (λ x. Leaves b.instrs (x.place + p) false) (sym (ap (λ k. slice_index_or (b.exits ++ o ∷ []) k nowhere) at ∙ index_new b.exits o))
+        subst (λ x. Leaves b.instrs (x.place + p) false) (sym (ap (λ k. slice_index_or (b.exits ++ o ∷ []) k nowhere) at ∙ index_new b.exits o nowhere))
         (new p (subst (λ k. p < e.ports k) l q))
 
 pub leaves_exit : (e : Env) (waiting n : ℕ) (b : Build) (o : Outlet) → ((p : ℕ) → p < e.ports n → Leaves b.instrs (o.place + p) false) → Settled e waiting n b → Settled e waiting (suc n) (exited b o)
@@ -111,9 +102,6 @@ leaves_exit e waiting n b o new h = record {
   zero = h.zero;
   exits = exits_more e n b o new h.exits;
 }
-
-pub exits_also : (e : Env) (n : ℕ) (b : Build) (o : Outlet) → ((p : ℕ) → p < e.ports n → Leaves b.instrs (o.place + p) false) → Exits e n b → Exits e (suc n) (exited b o)
-exits_also = exits_more
 
 -- a node with one port
 pub one_port : (is : List Instr) (place ports : ℕ) → ports ≤ 1 → Leaves is place false → (p : ℕ) → p < ports → Leaves is (place + p) false

@@ -18,7 +18,7 @@ use Rattle.expansion.specs.Tails.{returns, switches, next_values, last_values, t
 use Rattle.expansion.specs.Blocks.{with_input, with_inputs, entries, body}
 use Rattle.expansion.proofs.ArcsLists.{get_new, length_push}
 use Rattle.expansion.proofs.ArcsKept.{Env, Leaves, Grows, grows_same, grows_on, grows_push, leaves_on, Kept, nothing_kept, adds, frees_last}
-use Rattle.expansion.proofs.ArcsSettled.{Settled, Step, Grown, Outlets, Exits, exits_on, exits_also, any_side, first_out, one_port, false_true, SourcesFit, source_leaves}
+use Rattle.expansion.proofs.ArcsSettled.{Settled, Step, Grown, Outlets, Exits, exits_on, exits_more, any_side, first_out, one_port, false_true, SourcesFit, source_leaves}
 use Rattle.expansion.proofs.ArcsSteps.{behinds, meets}
 use Rattle.expansion.proofs.ArcsNodes.{NodesFit, nodes_settled}
 
@@ -49,7 +49,7 @@ next_entered e s n b few h =
       kept = adds e b.instrs [] 0 0 Copy o (slot_in b Copy) (inl refl) (λ t. false_true t) h.kept;
       long = omega (arith, one, long);
       zero = leaves_on b.instrs c.instrs 0 false (grows_push b.instrs x) h.zero;
-      exits = exits_also e n c (first_of (length b.instrs)) (one_port c.instrs (length b.instrs) (e.ports n) few fresh) (exits_on e n b c (grows_push b.instrs x) refl h.exits);
+      exits = exits_more e n c (first_of (length b.instrs)) (one_port c.instrs (length b.instrs) (e.ports n) few fresh) (exits_on e n b c (grows_push b.instrs x) refl h.exits);
     }
 
 inputs_entered : (e : Env) (s : Scope) (n : ℕ) → ((j : ℕ) → j < n → e.ports j ≤ 1) → Entered e n (with_inputs (quieted nothing Copy Root) s n)

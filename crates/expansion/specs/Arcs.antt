@@ -1,5 +1,5 @@
 -- Where the destinations of a plan lead.
-use Rattle.std.specs.Prelude.{◌≡◌, ℕ, ◌+◌, ◌<◌, ◌≤◌, Bool, true, false, Some, slice_get, Contains}
+use Rattle.std.specs.Prelude.{◌≡◌, ℕ, ◌+◌, ◌<◌, ◌≤◌, Bool, true, false, length, Some, slice_get, Contains}
 use Rattle.semantics.specs.declared.program.Dest.{Dest}
 use Rattle.semantics.specs.declared.program.Op.{Op}
 use Rattle.semantics.specs.declared.program.Op.TheVariants.{Copy, Take, Give, Drain, Link}
@@ -40,6 +40,16 @@ abbrev pub LandingsStand : Plan → Type 0
 LandingsStand p = (b m k block : ℕ) (c : CodeBlock) (i : Instr) (d : Dest) → slice_get p.program.blocks b ≡ Some c → StandsAt c m i → i.op ≡ Link block → Contains i.firsts d
     → m + d.ahead ≤ k → k < m + d.ahead + landing p block → (j : Instr) × StandsAt c k j × (is_row j.op ≡ true)
 
+-- a code block has 1 to 16 inputs and outputs, and more than its entries
+pub record HasSizes (c : CodeBlock) : Type 0 where
+  pub inputs : (1 ≤ c.inputs) × (c.inputs ≤ 16)
+  pub outputs : (1 ≤ c.outputs) × (c.outputs ≤ 16)
+  pub size : c.inputs + 1 ≤ length c.instrs
+
+pub record BlocksHaveSizes (p : Plan) : Type 0 where
+  pub each : (b : ℕ) (c : CodeBlock) → slice_get p.program.blocks b ≡ Some c → HasSizes c
+
+-- where destinations and arcs lead, and what landings are
 pub record ArcsAreSound (p : Plan) : Type 0 where
   pub dests : DestsAreSound p
   pub lefts : LinksLandLeft p
@@ -50,3 +60,7 @@ pub record ArcsAreSound (p : Plan) : Type 0 where
 -- The arcs of the plan of a well-formed graph go forward.
 abbrev pub ArcsGoForward : Type 0
 ArcsGoForward = (g : Graph) → HasText g → WellFormed g → ArcsAreSound (expanded (flow_of g))
+
+-- The code blocks of the plan of a well-formed graph within the limits have their sizes.
+abbrev pub PlansHaveSizes : Type 0
+PlansHaveSizes = (g : Graph) → HasText g → WellFormed g → BlocksHaveSizes (expanded (flow_of g))
