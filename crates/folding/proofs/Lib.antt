@@ -14,3 +14,4 @@ pub mod SoundInstrs
 pub mod SoundArcs
 pub mod SoundLoops
 pub mod SoundPlans
+pub mod LoopsStay

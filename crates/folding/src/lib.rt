@@ -11,6 +11,7 @@ ghost use Rattle.folding.specs.Folded.{folded};
 mod blocks;
 mod folds;
 mod layout;
+mod loops;
 mod moved;
 mod namers;
 mod sound;
@@ -19,6 +20,7 @@ mod tests;
 
 use blocks::fold_block;
 use code::{Plan, Program};
+pub use loops::folding_keeps_loops;
 pub use sound::folding_keeps_plans_sound;
 use std::alloc::{AllocError, Allocator};
 
