@@ -45,7 +45,7 @@ opens_from l n (i ∷ is) none = by_test (gone_at l n) refl (opens_from l (n + 1
     by_test true gone rest = rest ∙ sym (ap (λ xs. xs ++ opens is) (first gone))
     by_test false stays rest = ap (λ xs. xs ++ opens (moved_from l (n + 1) is)) (opened_same (folds_at l n) i.op) ∙ ap (λ xs. opened_by i.op ++ xs) rest
 
-block_opens : (p : Plan) (c : CodeBlock) → open_bounds (folded_block p c) ≡ open_bounds c
+pub block_opens : (p : Plan) (c : CodeBlock) → open_bounds (folded_block p c) ≡ open_bounds c
 block_opens p c = opens_from (layout_of p c) 0 c.instrs none
   where
     none : OpensNone (layout_of p c) 0 c.instrs
