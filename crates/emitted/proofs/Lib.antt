@@ -4,3 +4,4 @@ pub mod Promises
 pub mod Emits
 pub mod Own
 pub mod Laws
+pub mod LoopsStay

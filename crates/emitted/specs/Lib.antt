@@ -1,3 +1,4 @@
 pub mod Alike
 pub mod Same
 pub mod SameRuns
+pub mod Loops

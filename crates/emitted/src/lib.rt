@@ -3,6 +3,10 @@
 
 ghost use Rattle.emitted.specs.SameRuns.{EmittedHasSameEvents, EmittedIsFaithful, EmittedReleasesLast, EmittedKeepsBounds, EmittedHoldsAlone, OwnSlotsAreGood, OwnSlotsHaveSameEvents, OwnSlotsAreFaithful};
 
+mod loops;
+
+pub use loops::emitted_code_keeps_loops;
+
 /// Emitted code has the events of the plan with its slots: each token does the same, in each store, and so each run of
 /// the one is a run of the other. What is promised of the plan's code is kept by what an object holds of it: that it is
 /// faithful to a graph, that nothing names a frame when it is released, that loops keep their bounds, and that a slot has

@@ -17,3 +17,4 @@ pub mod Standing
 pub mod SoundFlags
 pub mod SoundRows
 pub mod SoundPlans
+pub mod LoopsStay

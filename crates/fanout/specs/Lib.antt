@@ -5,3 +5,4 @@ pub mod Trees
 pub mod Narrowed
 pub mod Laws
 pub mod Sound
+pub mod Loops

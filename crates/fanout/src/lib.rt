@@ -11,6 +11,7 @@ ghost use Rattle.fanout.specs.Laws.{AllInstrs, HasFew, IsShaped, HasItsDests, St
 
 mod blocks;
 mod layout;
+pub mod loops;
 mod rows;
 mod sides;
 pub mod sound;

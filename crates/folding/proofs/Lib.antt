@@ -20,3 +20,4 @@ pub mod Choice
 pub mod Joined
 pub mod KeepsMeaning
 pub mod FoldedLiterals
+pub mod LoopsStay

@@ -6,3 +6,4 @@ pub mod Folded
 pub mod Laws
 pub mod Sound
 pub mod Meaning
+pub mod Loops

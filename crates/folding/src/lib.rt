@@ -12,6 +12,7 @@ ghost use Rattle.folding.specs.Meaning.{StillImplements, StraightImplements, Str
 mod blocks;
 mod folds;
 mod layout;
+mod loops;
 mod moved;
 mod namers;
 mod sound;
@@ -20,6 +21,7 @@ mod tests;
 
 use blocks::fold_block;
 use code::{Plan, Program};
+pub use loops::folding_keeps_loops;
 pub use sound::folding_keeps_plans_sound;
 use std::alloc::{AllocError, Allocator};
 

@@ -1,0 +1,10 @@
+//! What folding keeps of a plan's loops.
+
+ghost use Rattle.folding.specs.Loops.{KeepsArrays, StillHasBounds};
+
+/// The loops of a folded plan open with the bounds of the graph's loops, if those of the plan do. Its arrays are the
+/// plan's.
+pub fn folding_keeps_loops()
+    ensures bounds { StillHasBounds }
+    ensures arrays { KeepsArrays }
+{}
