@@ -15,17 +15,16 @@ use Rattle.semantics.specs.declared.program.Mark.TheVariants.{Unmarked}
 use Rattle.semantics.specs.declared.program.Op.{Op}
 use Rattle.semantics.specs.Graph.{Node}
 use Rattle.semantics.specs.Program.{Instr}
-use Rattle.semantics.specs.Plan.{HasShape}
 use Rattle.expansion.specs.declared.builder.Outlet.{Outlet}
 use Rattle.expansion.specs.declared.ends.End.{End}
-use Rattle.expansion.specs.Shapes.{IsShaped}
+use Rattle.expansion.specs.Shapes.{HasExactShape, IsExact}
 use Rattle.expansion.specs.Builds.{Build, first_of, added, quieted, connected, with_dest, no_instr, bare, slot_in, behind, meeting}
 use Rattle.expansion.specs.Ends.{end_at, same_region, Signalled, join_with, join_end, join_ends, signalled, Closing, closing, closed, closed_kind, closed_nodes, released}
 use Rattle.expansion.proofs.ShapesStates.{Wants, is_free, get_right, get_push, length_push}
 use Rattle.expansion.proofs.ShapesCounts.{start, hit_at, hit_other, held, FairSignal, At, connect_at, signalled_at}
 
 -- SHAPES
-pub free_shape : (op : Op) (m n : ℕ) → is_free op ≡ true → HasShape op m n
+pub free_shape : (op : Op) (m n : ℕ) → is_free op ≡ true → HasExactShape op m n
 free_shape (Op.Apply1 o) m n e = tt
 free_shape (Op.Apply2 o) m n e = tt
 free_shape (Op.Apply2Right o z) m n e = tt
@@ -37,16 +36,16 @@ free_shape Op.Switch m n e = tt
 free_shape (Op.Send b k) m n e = tt
 free_shape (Op.Return k) m n e = tt
 free_shape (Op.Open k) m n e = tt
-free_shape (Op.Give k) m n e = tt
-free_shape (Op.Drain k) m n e = tt
 free_shape op m n e = absurd (cc)
 
-pub wants_shape : (op : Op) (m n : ℕ) → Wants op m → n ≡ 0 → HasShape op m n
+pub wants_shape : (op : Op) (m n : ℕ) → Wants op m → n ≡ 0 → HasExactShape op m n
 wants_shape (Op.Fetch a) m n w e = (w, e)
 wants_shape (Op.Store a) m n w e = (w, e)
 wants_shape Op.Frame m n w e = (w, e)
 wants_shape (Op.Ask o) m n w e = (w, e)
-wants_shape (Op.Link b) m n w e = w
+wants_shape (Op.Link b) m n w e = (w, e)
+wants_shape (Op.Give k) m n w e = (w, e)
+wants_shape (Op.Drain k) m n w e = (w, e)
 wants_shape (Op.Take k) m n w e = (w, e)
 wants_shape op m n w e = absurd w
 
@@ -196,7 +195,7 @@ module _ (X : ℕ → Type 0) where
 
   -- RELEASE
   abbrev pub ShapedBut : Build → Type 0
-  ShapedBut b = (p : ℕ) (i : Instr) → slice_get b.instrs p ≡ Some i → IsShaped i ⊎ X p
+  ShapedBut b = (p : ℕ) (i : Instr) → slice_get b.instrs p ≡ Some i → IsExact i ⊎ X p
 
   pub released_free : (b : Build) (es : List End) (offset : ℕ) → SoundClosing (closing b es) → ShapedBut (released b es offset)
   unfolding released
@@ -255,13 +254,13 @@ module _ (X : ℕ → Type 0) where
           let same : 0 + hit_at 0 at ≡ hit_at 0 at = omega arith in
           subst (λ k. At at op k whole) total (signalled_at at op (hit_at 0 at) placed made.signal at Right (subst (λ k. At at op k placed) same first) none.1)
 
-      by_op : Before begun → IsShaped i ⊎ X p
+      by_op : Before begun → IsExact i ⊎ X p
       by_op x = by_place (get_push made.build.instrs (bare op Untold (slot_in made.build op)) p x.0 x.1)
         where
-          by_place : (slice_get made.build.instrs p ≡ Some x.0) ⊎ ((p ≡ at) × (bare op Untold (slot_in made.build op) ≡ x.0)) → IsShaped i ⊎ X p
-          by_place (inl f) = elim (sound.0 p x.0 f) as (λ u. IsShaped i ⊎ X p) [ inl y ↦ inl (free_shape i.op (length i.firsts) (length i.seconds) (ap is_free (sym x.2) ∙ y)) | inr y ↦ inr y ]
+          by_place : (slice_get made.build.instrs p ≡ Some x.0) ⊎ ((p ≡ at) × (bare op Untold (slot_in made.build op) ≡ x.0)) → IsExact i ⊎ X p
+          by_place (inl f) = elim (sound.0 p x.0 f) as (λ u. IsExact i ⊎ X p) [ inl y ↦ inl (free_shape i.op (length i.firsts) (length i.seconds) (ap is_free (sym x.2) ∙ y)) | inr y ↦ inr y ]
           by_place (inr f) =
               let there : slice_get whole.instrs p ≡ Some alone.0 = ap (λ k. slice_get whole.instrs k) f.0 ∙ alone.1 in
               let same : alone.0 ≡ i = cc in
-              let shape : HasShape op (length alone.0.firsts) (length alone.0.seconds) = (alone.2.1, alone.2.2) in
-              inl (subst IsShaped same (subst (λ o. HasShape o (length alone.0.firsts) (length alone.0.seconds)) (sym alone.2.0) shape))
+              let shape : HasExactShape op (length alone.0.firsts) (length alone.0.seconds) = (alone.2.1, alone.2.2) in
+              inl (subst IsExact same (subst (λ o. HasExactShape o (length alone.0.firsts) (length alone.0.seconds)) (sym alone.2.0) shape))
