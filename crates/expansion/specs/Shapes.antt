@@ -1,5 +1,5 @@
 -- How many destinations the instructions of every plan have.
-use Rattle.std.specs.Prelude.{◌≡◌, ℕ, length, All, ⊤}
+use Rattle.std.specs.Prelude.{◌≡◌, ℕ, ◌+◌, Bool, true, false, List, length, Some, slice_get, All, ⊤}
 use Rattle.semantics.specs.Graph.{Graph, flow_of}
 use Rattle.semantics.specs.WellFormed.{WellFormed}
 use Rattle.semantics.specs.declared.program.Op.{Op}
@@ -41,3 +41,15 @@ AreExact c = All IsExact c.instrs
 -- the same of loops' credits, and a link signals to none
 abbrev pub PlansAreExact : Type 0
 PlansAreExact = (g : Graph) → WellFormed g → All AreExact (expanded (flow_of g)).program.blocks
+
+abbrev pub is_release : Op → Bool
+is_release (Release o) = true
+is_release op = false
+
+-- an instruction is `release` just where it is the last one
+abbrev pub EndsInRelease : List Instr → Type 0
+EndsInRelease is = (p : ℕ) (i : Instr) → slice_get is p ≡ Some i → (is_release i.op ≡ true → p + 1 ≡ length is) × (p + 1 ≡ length is → is_release i.op ≡ true)
+
+-- the code blocks of the plan of every well-formed graph end in `release`, which stands nowhere else
+abbrev pub PlansEndInRelease : Type 0
+PlansEndInRelease = (g : Graph) → WellFormed g → (b : ℕ) (c : CodeBlock) → slice_get (expanded (flow_of g)).program.blocks b ≡ Some c → EndsInRelease c.instrs
