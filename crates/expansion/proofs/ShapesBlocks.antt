@@ -16,7 +16,7 @@ use Rattle.expansion.specs.declared.uses.Uses.{Uses}
 use Rattle.expansion.specs.declared.uses.Uses.TheVariants.{Never, Once, Often}
 use Rattle.expansion.specs.declared.ends.End.{End}
 use Rattle.expansion.specs.Scopes.{Scope}
-use Rattle.expansion.specs.Shapes.{IsShaped}
+use Rattle.expansion.specs.Shapes.{IsExact, is_release}
 use Rattle.expansion.specs.UseCounts.{is_often, uses_at}
 use Rattle.expansion.specs.Builds.{Build, first_of, second_of, quieted, behind, mark_of, region_of}
 use Rattle.expansion.specs.Tails.{returns, iterate}
@@ -29,7 +29,7 @@ use Rattle.expansion.proofs.ShapesNodes.{PredicatesOften}
 use Rattle.expansion.proofs.ShapesBody.{AllFit, HasUses, plain_track, variant_track}
 use Rattle.expansion.proofs.ShapesCounts.{hit_at, hit_other, start, held, At, add_at, connect_at, join_ends_at, signalled_at, Held, closed_at}
 use Rattle.expansion.proofs.ShapesEnds.{own_hits, ends_hits, ends_fair, joined_from, nodes_at, only, other_arm, from_none, from_one}
-use Rattle.expansion.proofs.ShapesOpen.{wants_shape, AllFree, AllBelow, SoundClosing, closed_free, nodes_free, ShapedBut, released_free}
+use Rattle.expansion.proofs.ShapesOpen.{wants_shape, wants_release, IsDone, AllFree, AllBelow, SoundClosing, closed_free, nodes_free, ShapedBut, released_free}
 
 -- THE SPECIAL INSTRUCTIONS. Before the joins, each has what it wants, or is an end that wants one destination.
 pub record Ready (s : Scope) (b : Build) (p : ℕ) : Type 0 where
@@ -53,6 +53,10 @@ shut_end (Op.Ask o) [] w = absurd (omega (arith, w))
 shut_end (Op.Ask o) (d ∷ ds) w = refl
 shut_end (Op.Link b) [] w = absurd (omega (arith, w))
 shut_end (Op.Link b) (d ∷ ds) w = refl
+shut_end (Op.Give k) [] w = absurd (omega (arith, w))
+shut_end (Op.Give k) (d ∷ ds) w = refl
+shut_end (Op.Drain k) [] w = absurd (omega (arith, w))
+shut_end (Op.Drain k) (d ∷ ds) w = refl
 shut_end op ds w = absurd w
 
 wait_take : (op : Op) → Wants op 1 → is_take op ≡ false
@@ -62,6 +66,8 @@ wait_take (Op.Store a) w = refl
 wait_take Op.Frame w = refl
 wait_take (Op.Ask o) w = refl
 wait_take (Op.Link b) w = refl
+wait_take (Op.Give k) w = refl
+wait_take (Op.Drain k) w = refl
 wait_take op w = absurd w
 
 none_empty : (ds : List Dest) → length ds ≡ 0 → is_empty ds ≡ true
@@ -186,7 +192,7 @@ below_from n es b k (i ∷ is) h e =
 
 -- BLOCKS
 abbrev pub ShapedBuild : Build → Type 0
-ShapedBuild b = (p : ℕ) (i : Instr) → slice_get b.instrs p ≡ Some i → IsShaped i
+ShapedBuild b = (p : ℕ) (i : Instr) → slice_get b.instrs p ≡ Some i → IsDone (length b.instrs) p i
 
 begins_sound : (s : Scope) (n : ℕ) (b : Build) (ts : List State) → Track s s.uses n b ts → SoundClosing (Ready s b) (closing b (ends_of b))
 begins_sound s n b ts h =
@@ -211,14 +217,16 @@ wants_all s b p r = by_want r.wants
         let same : 1 ≡ length r.instr.firsts + due (is_end r.instr) = omega (arith, one, zero_firsts) in
         subst (λ k. Wants r.instr.op k) same x.0
 
-shape_ready : (s : Scope) (b c : Build) (p : ℕ) (r : Ready s b p) → At p r.instr.op (length r.instr.firsts + due (is_end r.instr)) c → (i : Instr) → slice_get c.instrs p ≡ Some i → IsShaped i
-shape_ready s b c p r h i e =
+shape_ready : (s : Scope) (b c : Build) (p : ℕ) (r : Ready s b p) → At p r.instr.op (length r.instr.firsts + due (is_end r.instr)) c → (i : Instr) → slice_get c.instrs p ≡ Some i → p + 1 ≢ length c.instrs → IsDone (length c.instrs) p i
+shape_ready s b c p r h i e d =
     let same : h.0 ≡ i = let there = h.1 in cc in
     let w : Wants h.0.op (length h.0.firsts) = subst (λ op. Wants op (length h.0.firsts)) (sym h.2.0) (subst (λ k. Wants r.instr.op k) (sym h.2.1) (wants_all s b p r)) in
-    subst IsShaped same (wants_shape h.0.op (length h.0.firsts) (length h.0.seconds) w h.2.2)
+    let other = wants_release h.0.op (length h.0.firsts) w in
+    let kind : is_release i.op ≡ false = ap (λ (j : Instr). is_release j.op) (sym same) ∙ other in
+    (subst IsExact same (wants_shape h.0.op (length h.0.firsts) (length h.0.seconds) w h.2.2), λ q. absurd (cc), λ q. absurd (d q))
 
 shaped_by : (s : Scope) (b c : Build) → ShapedBut (Ready s b) c → ((p : ℕ) (r : Ready s b p) → At p r.instr.op (length r.instr.firsts + due (is_end r.instr)) c) → ShapedBuild c
-shaped_by s b c all ready p i e = elim (all p i e) as (λ u. IsShaped i) [ inl x ↦ x | inr r ↦ shape_ready s b c p r (ready p r) i e ]
+shaped_by s b c all ready p i e = elim (all p i e) as (λ u. IsDone (length c.instrs) p i) [ inl x ↦ x | inr r ↦ shape_ready s b c p r.0 (ready p r.0) i e r.1 ]
 
 pub plain_shaped : (s : Scope) → PredicatesOften s → AllFit s s.block.inputs s.block.nodes → AreValid s (node_count s.block) s.block.results → HasUses s false → ShapedBuild (plain_build s)
 unfolding plain_build finished

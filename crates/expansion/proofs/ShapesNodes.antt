@@ -22,8 +22,8 @@ use Rattle.expansion.specs.Rows.{operator, shared_answer, conditional, enter, me
 use Rattle.expansion.specs.Blocks.{answered, entered, repeated, with_kind, predicate_of, outputs_of, variant_of}
 use Rattle.expansion.proofs.ShapesStates.{State, Free, Shut, Waits, Owned, Wants, is_free, is_cond_in, get_right, length_push, length_both}
 use Rattle.expansion.proofs.ShapesStates as States
-use Rattle.expansion.proofs.ShapesTrack.{FreeAt, Track, ports_at, ports_of, ports_in, owns_in, LiesIn, joined, track_length, track_free, track_exit, track_owned, often_free, trigger_free}
-use Rattle.expansion.proofs.ShapesRows.{push_free, push_waits, push_take, still_free, behind_free, behind_waits, meets_free, source_meets, zone_track, zone_free, zone_shut, zone_place, AreValid, Plays, operands_track, alternatives_track, frees, AllOften, join_sources_track, invoked, invoke_track}
+use Rattle.expansion.proofs.ShapesTrack.{FreeAt, Track, ports_at, ports_of, ports_in, owns_in, LiesIn, joined, track_length, track_exit, track_owned, often_free, trigger_free}
+use Rattle.expansion.proofs.ShapesRows.{push_free, push_waits, push_take, behind_free, behind_waits, meets_free, source_meets, zone_track, zone_free, zone_shut, zone_place, AreValid, Plays, operands_track, alternatives_track, frees, AllOften, join_sources_track, invoked, invoke_track}
 use Rattle.expansion.proofs.ShapesUses.{Below, sources_length, plays_once, plays_often, all_often, twice_track}
 
 -- a build of so many nodes is tracked
@@ -157,17 +157,17 @@ credits_track s us n b ts k r h j =
     let take : Build = quieted give (Op.Take k) r in
     let drain : Build = quieted take (Op.Drain k) r in
     let place = track_length s us n b ts h in
-    let given : Track s us n give (ts ++ Free ∷ []) = push_free s us n b ts (Op.Give k) Untold Unmarked r h refl in
-    let taken : Track s us n take (ts ++ Free ∷ Shut ∷ []) = zone_track s us n take ts (Free ∷ []) (Shut ∷ []) (push_take s us n give (ts ++ Free ∷ []) k r given j) in
-    let at_drain = zone_place s us n take ts (Free ∷ Shut ∷ []) taken in
-    let drained : Track s us n drain (ts ++ Free ∷ Shut ∷ Free ∷ []) = zone_track s us n drain ts (Free ∷ Shut ∷ []) (Free ∷ []) (push_free s us n take (ts ++ Free ∷ Shut ∷ []) (Op.Drain k) Untold Unmarked r taken refl) in
-    let all : List State = (ts ++ Free ∷ Shut ∷ Free ∷ []) ++ Free ∷ [] in
+    let given : Track s us n give (ts ++ Waits ∷ []) = push_waits s us n b ts (Op.Give k) Untold r h refl j in
+    let taken : Track s us n take (ts ++ Waits ∷ Shut ∷ []) = zone_track s us n take ts (Waits ∷ []) (Shut ∷ []) (push_take s us n give (ts ++ Waits ∷ []) k r given j) in
+    let at_drain = zone_place s us n take ts (Waits ∷ Shut ∷ []) taken in
+    let drained : Track s us n drain (ts ++ Waits ∷ Shut ∷ Waits ∷ []) = zone_track s us n drain ts (Waits ∷ Shut ∷ []) (Waits ∷ []) (push_waits s us n take (ts ++ Waits ∷ Shut ∷ []) (Op.Drain k) Untold r taken refl j) in
+    let pushed : Track s us n (quieted drain Op.Copy r) (ts ++ Waits ∷ Shut ∷ Waits ∷ Free ∷ [])
+    = zone_track s us n (quieted drain Op.Copy r) ts (Waits ∷ Shut ∷ Waits ∷ []) (Free ∷ []) (push_free s us n drain (ts ++ Waits ∷ Shut ∷ Waits ∷ []) Op.Copy Untold Unmarked r drained refl) in
     let copy : Build = behind drain (first_of (length b.instrs)) Op.Copy r in
-    let copied : Track s us n copy all
-    = behind_free s us n drain (ts ++ Free ∷ Shut ∷ Free ∷ []) (first_of (length b.instrs)) Op.Copy r drained refl (zone_free ts (Free ∷ Shut ∷ Free ∷ []) (first_of (length b.instrs)) 0 (omega (arith, place)) refl) in (
-      all,
-      track_free s us n copy all (first_of (length take.instrs)) (length drain.instrs) Left copied
-          (still_free (ts ++ Free ∷ Shut ∷ Free ∷ []) (Free ∷ []) (first_of (length take.instrs)) (zone_free ts (Free ∷ Shut ∷ Free ∷ []) (first_of (length take.instrs)) 2 (omega (arith, at_drain)) refl)),
+    let copied : Track s us n copy (ts ++ Shut ∷ Shut ∷ Waits ∷ Free ∷ [])
+    = zone_shut s us n (quieted drain Op.Copy r) ts (Waits ∷ Shut ∷ Waits ∷ Free ∷ []) (first_of (length b.instrs)) 0 (length drain.instrs) Left pushed (omega (arith, place)) refl refl in (
+      ts ++ Shut ∷ Shut ∷ Shut ∷ Free ∷ [],
+      zone_shut s us n copy ts (Shut ∷ Shut ∷ Waits ∷ Free ∷ []) (first_of (length take.instrs)) 2 (length drain.instrs) Left copied (omega (arith, at_drain)) refl refl,
     )
 
 repeat_track : (s : Scope) (us : List Uses) (n : ℕ) (b : Build) (ts : List State) (block k : ℕ) (r : Region) (ss : List Source) (vs : List Uses)

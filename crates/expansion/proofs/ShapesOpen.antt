@@ -1,6 +1,7 @@
 -- The joins add only instructions that may have any destinations, and `release`, from which no arc leads.
-use Rattle.std.proofs.Common.{◌≡◌, ℕ, zero, suc, ◌+◌, ◌<◌, ◌≤◌, Bool, true, false, List, [], ◌∷◌, ◌++◌, length, Option, Some, None, refl, sym, ap, ◌∙◌, subst, arith, inl, inr, ◌⊎◌, if◌then◌else◌}
+use Rattle.std.proofs.Common.{◌≡◌, ◌≢◌, ℕ, zero, suc, ◌+◌, ◌<◌, ◌≤◌, Bool, true, false, List, [], ◌∷◌, ◌++◌, length, Option, Some, None, refl, sym, ap, ◌∙◌, subst, arith, inl, inr, ◌⊎◌, if◌then◌else◌}
 use Rattle.std.specs.Prelude.{slice_get, slice_set, slice_index_or, ⊤}
+use Rattle.std.proofs.lemmas.Option.{slice_get_within}
 use Rattle.tags.specs.declared.value.Origin.{Origin}
 use Rattle.tags.specs.declared.value.Origin.TheVariants.{Untold}
 use Rattle.tags.specs.declared.token.Port.{Port}
@@ -15,17 +16,16 @@ use Rattle.semantics.specs.declared.program.Mark.TheVariants.{Unmarked}
 use Rattle.semantics.specs.declared.program.Op.{Op}
 use Rattle.semantics.specs.Graph.{Node}
 use Rattle.semantics.specs.Program.{Instr}
-use Rattle.semantics.specs.Plan.{HasShape}
 use Rattle.expansion.specs.declared.builder.Outlet.{Outlet}
 use Rattle.expansion.specs.declared.ends.End.{End}
-use Rattle.expansion.specs.Shapes.{IsShaped}
+use Rattle.expansion.specs.Shapes.{HasExactShape, IsExact, is_release}
 use Rattle.expansion.specs.Builds.{Build, first_of, added, quieted, connected, with_dest, no_instr, bare, slot_in, behind, meeting}
 use Rattle.expansion.specs.Ends.{end_at, same_region, Signalled, join_with, join_end, join_ends, signalled, Closing, closing, closed, closed_kind, closed_nodes, released}
 use Rattle.expansion.proofs.ShapesStates.{Wants, is_free, get_right, get_push, length_push}
 use Rattle.expansion.proofs.ShapesCounts.{start, hit_at, hit_other, held, FairSignal, At, connect_at, signalled_at}
 
 -- SHAPES
-pub free_shape : (op : Op) (m n : ℕ) → is_free op ≡ true → HasShape op m n
+pub free_shape : (op : Op) (m n : ℕ) → is_free op ≡ true → HasExactShape op m n
 free_shape (Op.Apply1 o) m n e = tt
 free_shape (Op.Apply2 o) m n e = tt
 free_shape (Op.Apply2Right o z) m n e = tt
@@ -37,18 +37,30 @@ free_shape Op.Switch m n e = tt
 free_shape (Op.Send b k) m n e = tt
 free_shape (Op.Return k) m n e = tt
 free_shape (Op.Open k) m n e = tt
-free_shape (Op.Give k) m n e = tt
-free_shape (Op.Drain k) m n e = tt
 free_shape op m n e = absurd (cc)
 
-pub wants_shape : (op : Op) (m n : ℕ) → Wants op m → n ≡ 0 → HasShape op m n
+pub wants_shape : (op : Op) (m n : ℕ) → Wants op m → n ≡ 0 → HasExactShape op m n
 wants_shape (Op.Fetch a) m n w e = (w, e)
 wants_shape (Op.Store a) m n w e = (w, e)
 wants_shape Op.Frame m n w e = (w, e)
 wants_shape (Op.Ask o) m n w e = (w, e)
-wants_shape (Op.Link b) m n w e = w
+wants_shape (Op.Link b) m n w e = (w, e)
+wants_shape (Op.Give k) m n w e = (w, e)
+wants_shape (Op.Drain k) m n w e = (w, e)
 wants_shape (Op.Take k) m n w e = (w, e)
 wants_shape op m n w e = absurd w
+
+free_release : (op : Op) → is_free op ≡ true → is_release op ≡ false
+free_release (Op.Release o) e = cc
+free_release op e = refl
+
+pub wants_release : (op : Op) (m : ℕ) → Wants op m → is_release op ≡ false
+wants_release (Op.Release o) m w = absurd w
+wants_release op m w = refl
+
+-- the instruction at that place, of so many, has as many destinations as it wants, and is `release` just where it is last
+abbrev pub IsDone : ℕ → ℕ → Instr → Type 0
+IsDone count p i = IsExact i × (is_release i.op ≡ true → p + 1 ≡ count) × (p + 1 ≡ count → is_release i.op ≡ true)
 
 -- each instruction may have any destinations, but those at special places
 abbrev pub AllFree : (ℕ → Type 0) → Build → Type 0
@@ -196,7 +208,7 @@ module _ (X : ℕ → Type 0) where
 
   -- RELEASE
   abbrev pub ShapedBut : Build → Type 0
-  ShapedBut b = (p : ℕ) (i : Instr) → slice_get b.instrs p ≡ Some i → IsShaped i ⊎ X p
+  ShapedBut b = (p : ℕ) (i : Instr) → slice_get b.instrs p ≡ Some i → IsDone (length b.instrs) p i ⊎ (X p × (p + 1 ≢ length b.instrs))
 
   pub released_free : (b : Build) (es : List End) (offset : ℕ) → SoundClosing (closing b es) → ShapedBut (released b es offset)
   unfolding released
@@ -255,13 +267,31 @@ module _ (X : ℕ → Type 0) where
           let same : 0 + hit_at 0 at ≡ hit_at 0 at = omega arith in
           subst (λ k. At at op k whole) total (signalled_at at op (hit_at 0 at) placed made.signal at Right (subst (λ k. At at op k placed) same first) none.1)
 
-      by_op : Before begun → IsShaped i ⊎ X p
+      count : length whole.instrs ≡ at + 1
+      count = signalled_length placed made.signal at Right ∙ connected_length begun (first_of 0) at Left ∙ added_length made.build op Untold Unmarked Root
+
+      Found : Type 0
+      Found = IsDone (length whole.instrs) p i ⊎ (X p × (p + 1 ≢ length whole.instrs))
+
+      by_op : Before begun → Found
       by_op x = by_place (get_push made.build.instrs (bare op Untold (slot_in made.build op)) p x.0 x.1)
         where
-          by_place : (slice_get made.build.instrs p ≡ Some x.0) ⊎ ((p ≡ at) × (bare op Untold (slot_in made.build op) ≡ x.0)) → IsShaped i ⊎ X p
-          by_place (inl f) = elim (sound.0 p x.0 f) as (λ u. IsShaped i ⊎ X p) [ inl y ↦ inl (free_shape i.op (length i.firsts) (length i.seconds) (ap is_free (sym x.2) ∙ y)) | inr y ↦ inr y ]
+          early : slice_get made.build.instrs p ≡ Some x.0 → p + 1 ≢ length whole.instrs
+          early f q = let below = slice_get_within made.build.instrs p x.0 f in omega (arith, q, below, count)
+
+          by_state : slice_get made.build.instrs p ≡ Some x.0 → (is_free x.0.op ≡ true) ⊎ X p → Found
+          by_state f (inl y) =
+              let free : is_free i.op ≡ true = ap is_free (sym x.2) ∙ y in
+              let other = free_release i.op free in
+              inl (free_shape i.op (length i.firsts) (length i.seconds) free, λ q. absurd (cc), λ q. absurd (early f q))
+          by_state f (inr y) = inr (y, early f)
+
+          by_place : (slice_get made.build.instrs p ≡ Some x.0) ⊎ ((p ≡ at) × (bare op Untold (slot_in made.build op) ≡ x.0)) → Found
+          by_place (inl f) = by_state f (sound.0 p x.0 f)
           by_place (inr f) =
               let there : slice_get whole.instrs p ≡ Some alone.0 = ap (λ k. slice_get whole.instrs k) f.0 ∙ alone.1 in
               let same : alone.0 ≡ i = cc in
-              let shape : HasShape op (length alone.0.firsts) (length alone.0.seconds) = (alone.2.1, alone.2.2) in
-              inl (subst IsShaped same (subst (λ o. HasShape o (length alone.0.firsts) (length alone.0.seconds)) (sym alone.2.0) shape))
+              let shape : HasExactShape op (length alone.0.firsts) (length alone.0.seconds) = (alone.2.1, alone.2.2) in
+              let last = f.0 in
+              let kind : is_release i.op ≡ true = ap (λ (j : Instr). is_release j.op) (sym same) ∙ ap is_release alone.2.0 in
+              inl (subst IsExact same (subst (λ o. HasExactShape o (length alone.0.firsts) (length alone.0.seconds)) (sym alone.2.0) shape), λ q. omega (arith, last, count), λ q. kind)

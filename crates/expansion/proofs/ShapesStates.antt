@@ -9,7 +9,7 @@ use Rattle.semantics.specs.declared.program.Dest.{Dest}
 use Rattle.semantics.specs.declared.program.Mark.{Mark}
 use Rattle.semantics.specs.declared.program.Mark.TheVariants.{Unmarked}
 use Rattle.semantics.specs.declared.program.Op.{Op}
-use Rattle.semantics.specs.declared.program.Op.TheVariants.{Fetch, Store, Frame, Ask, Link, Take, Release}
+use Rattle.semantics.specs.declared.program.Op.TheVariants.{Fetch, Store, Frame, Ask, Link, Take, Give, Drain, Release}
 use Rattle.semantics.specs.Graph.{Node, Block, node_at}
 use Rattle.semantics.specs.Program.{Instr}
 use Rattle.expansion.specs.declared.uses.Uses.{Uses}
@@ -82,6 +82,8 @@ Wants Frame m = m ≡ 1
 Wants (Ask o) m = m ≡ 1
 Wants (Link b) m = m ≡ 1
 Wants (Take k) m = m ≡ 0
+Wants (Give k) m = m ≡ 1
+Wants (Drain k) m = m ≡ 1
 Wants op m = ⊥
 
 abbrev pub is_free : Op → Bool
@@ -91,6 +93,8 @@ is_free Frame = false
 is_free (Ask o) = false
 is_free (Link b) = false
 is_free (Take k) = false
+is_free (Give k) = false
+is_free (Drain k) = false
 is_free (Release o) = false
 is_free op = true
 
