@@ -3,7 +3,7 @@ use Rattle.std.proofs.Common.{◌≡◌, refl, sym, ap, ◌∙◌, subst, ℕ, z
 use Rattle.std.specs.Prelude.{slice_get}
 use Rattle.std.proofs.lemmas.List.{length-map}
 use Rattle.std.proofs.lemmas.Option.{slice_get_within}
-use Rattle.semantics.specs.Graph.{Graph, Block, flow_of, place_of, block_names, array_names, resolved_block}
+use Rattle.semantics.specs.Graph.{Graph, Block, Flow, flow_of, place_of, block_names, array_names, resolved_block}
 use Rattle.semantics.specs.Program.{CodeBlock}
 use Rattle.semantics.specs.Plan.{Plan}
 use Rattle.semantics.specs.Orderly as Orderly
@@ -24,7 +24,11 @@ use Rattle.folding.specs.Folded.{folded, folded_block}
 use Rattle.fanout.specs.Narrowed.{narrowed, narrowed_block}
 use Rattle.fanout.proofs.SoundPlans.{stays_sound}
 use Rattle.select.specs.Emittable.{IsEmittable}
-use Rattle.composition.specs.Graphs.{plan_of, PlansAreSound, PlansHaveObjects, PlansTakeInputs, StraightCodeIsFaithful}
+use Rattle.composition.specs.Graphs.{plan_of, PlansAreSound, PlansHaveObjects, PlansTakeInputs, CodeHasBounds, StraightCodeIsFaithful}
+use Rattle.folding.proofs.LoopsStay as Folding
+use Rattle.fanout.proofs.LoopsStay as Fanout
+use Rattle.emitted.proofs.LoopsStay.{emitted_bounds}
+use Rattle.expansion.proofs.Wholes.{has_bounds}
 use Rattle.composition.proofs.SoundObjects.{sound_have_objects}
 use Rattle.composition.proofs.FoldedLaws.{folded_is_faithful}
 
@@ -63,6 +67,13 @@ plans_take_inputs g text well =
     let p : Plan = expanded (flow_of g) in
     let q : Plan = folded p in
     kept (narrowed_block q) (λ c. refl) q.program.blocks p.program.main ∙ kept (folded_block p) (λ c. refl) p.program.blocks p.program.main ∙ takes_inputs (flow_of g) (main_there g well)
+
+-- BOUNDS
+pub code_has_bounds : CodeHasBounds
+code_has_bounds g slots version good =
+    let fl : Flow = flow_of g in
+    let p : Plan = expanded fl in
+    emitted_bounds fl version (plan_of g) slots good.all (Fanout.still_has_bounds fl (folded p) (Folding.still_has_bounds fl p (has_bounds fl)))
 
 pub straight_code_is_faithful : StraightCodeIsFaithful
 straight_code_is_faithful g slots version straight good same =

@@ -8,6 +8,7 @@ use Rattle.semantics.specs.Orderly as Orderly
 use Rattle.semantics.specs.Sharing.{Good}
 use Rattle.semantics.specs.Faithful as Faithful
 use Rattle.semantics.specs.Faithful.{Faithful}
+use Rattle.semantics.specs.Cause.{HasBounds}
 use Rattle.code.specs.Sound.{IsSound}
 use Rattle.expansion.specs.Expanded.{expanded}
 use Rattle.folding.specs.Folded.{folded}
@@ -33,6 +34,10 @@ PlansHaveObjects = (g : Graph) (slots : List (List ℕ)) → HasText g → WellF
 -- Its main block has as many inputs as the graph's.
 abbrev pub PlansTakeInputs : Type 0
 PlansTakeInputs = (g : Graph) → HasText g → WellFormed g → Orderly.inputs_of (plan_of g) ≡ Faithful.inputs_of (flow_of g)
+
+-- Its code's loops open with the graph's bounds.
+abbrev pub CodeHasBounds : Type 0
+CodeHasBounds = (g : Graph) (slots : List (List ℕ)) (version : Version) → Good (plan_of g) slots → HasBounds (flow_of g) (code_of version (plan_of g) slots)
 
 -- A straight graph's code is faithful to it.
 abbrev pub StraightCodeIsFaithful : Type 0

@@ -1,12 +1,13 @@
 //! Any graph, through all passes.
 
-ghost use Rattle.composition.specs.Graphs.{PlansAreSound, PlansHaveObjects, PlansTakeInputs, StraightCodeIsFaithful};
+ghost use Rattle.composition.specs.Graphs.{PlansAreSound, PlansHaveObjects, PlansTakeInputs, CodeHasBounds, StraightCodeIsFaithful};
 
 /// The plan of each well-formed graph within the limits of a text is sound, and has main's inputs; with any good slots it
-/// has an object. A straight graph's code is faithful to it.
+/// has an object, whose loops open with the graph's bounds. A straight graph's code is faithful to it.
 pub fn graphs_compile()
     ensures sound { PlansAreSound }
     ensures objects { PlansHaveObjects }
     ensures inputs { PlansTakeInputs }
+    ensures bounds { CodeHasBounds }
     ensures straight { StraightCodeIsFaithful }
 {}

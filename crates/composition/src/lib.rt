@@ -7,6 +7,7 @@ mod graphs;
 pub mod sound;
 
 pub use graphs::graphs_compile;
+
 pub mod folded;
 
 /// A straight graph is well formed, within the limits of a text, and of literals and operators alone. Its plan, and the plan
