@@ -8,6 +8,7 @@ use Rattle.semantics.specs.Program.{CodeBlock, Program, Code}
 use Rattle.semantics.specs.Plan.{Plan}
 use Rattle.semantics.specs.Placed.{placed_blocks}
 use Rattle.semantics.specs.Bytes.{IsCode}
+use Rattle.semantics.specs.Cause.{HasBounds}
 use Rattle.semantics.specs.Faithful as Faithful
 use Rattle.semantics.specs.Faithful.{Faithful}
 use Rattle.semantics.specs.Orderly as Orderly
@@ -17,7 +18,7 @@ use Rattle.select.specs.Emitted.{version_number, code_of, emitted_block}
 use Rattle.select.specs.Emittable.{IsEmittable}
 use Rattle.schedule.specs.Setting.{inputs_in, inputs_of}
 use Rattle.composition.specs.Graphs.{plan_of}
-use Rattle.composition.proofs.AnyGraph.{plans_have_objects, plans_take_inputs, straight_code_is_faithful}
+use Rattle.composition.proofs.AnyGraph.{plans_have_objects, plans_take_inputs, code_has_bounds, straight_code_is_faithful}
 use Rattle.driver.specs.Compiled.{IsCodeFor}
 
 -- THE INPUTS OF A BLOCK stay.
@@ -35,6 +36,7 @@ pub compiled : (g : Graph) → HasText g → WellFormed g → (slots : List (Lis
 compiled g text well slots assigned version same c e spelling =
     let p : Plan = plan_of g in
     let F : Program → Type 0 = λ q. Faithful (flow_of g) q in
+    let B : Program → Type 0 = λ q. HasBounds (flow_of g) q in
     let L : ℕ → Type 0 = λ n. IsCode n c in
     let I : Program → ℕ = λ q. inputs_of q in
     record {
@@ -46,5 +48,6 @@ compiled g text well slots assigned version same c e spelling =
       lawful = subst L same (spelling (plans_have_objects g slots text well assigned.good));
       inputs = ap I e ∙ same_inputs (version_number version) slots p.program.blocks p.program.main assigned.good.all ∙ plans_take_inputs g text well;
       arrays = ap (λ (q : Program). q.arrays) e;
+      bounds = subst B (sym e) (code_has_bounds g slots version assigned.good);
       faithful = λ line. subst F (sym e) (straight_code_is_faithful g slots version record { text = text; well = well; line = line } assigned.good same);
     }

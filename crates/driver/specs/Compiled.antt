@@ -3,6 +3,7 @@ use Rattle.std.specs.Prelude.{◌≡◌, ℕ, List, Some, ⊤}
 use Rattle.semantics.specs.Graph.{Graph, flow_of}
 use Rattle.semantics.specs.Program.{Code}
 use Rattle.semantics.specs.Bytes.{IsCode, IsObject}
+use Rattle.semantics.specs.Cause.{HasBounds}
 use Rattle.semantics.specs.Faithful.{Faithful, inputs_of}
 use Rattle.lowering.specs.Theorem.{IsStraightLine}
 use Rattle.slot_alloc.specs.Assigned.{IsAssigned, IsFirstCrowded}
@@ -14,7 +15,7 @@ use Rattle.composition.specs.Graphs.{plan_of}
 use Rattle.driver.specs.declared.fault.Fault.{Fault}
 
 -- The code is the plan's with slots, each the least that is open to its holder. It has an object in the version of the
--- graph's text, main's inputs and the graph's arrays; and if the graph is straight, it is faithful to the graph.
+-- graph's text, main's inputs, the graph's arrays, and the bounds of its loops; and if the graph is straight, it is faithful to the graph.
 pub record IsCodeFor (g : Graph) (code : Code) : Type 0 where
   pub slots : List (List ℕ)
   pub assigned : IsAssigned (plan_of g) slots
@@ -24,6 +25,7 @@ pub record IsCodeFor (g : Graph) (code : Code) : Type 0 where
   pub lawful : IsCode g.version code
   pub inputs : inputs_in_code code.program ≡ inputs_of (flow_of g)
   pub arrays : code.program.arrays ≡ (flow_of g).arrays
+  pub bounds : HasBounds (flow_of g) code.program
   pub faithful : IsStraightLine g → Faithful (flow_of g) code.program
 
 -- the bytes are the one object of that code
