@@ -2,10 +2,9 @@
 use Rattle.std.proofs.Common.{◌≡◌, refl, sym, ap, ◌∙◌, ℕ, List, ◌++◌, Option, Some, None, false}
 use Rattle.std.specs.Prelude.{slice_get, All, option_map}
 use Rattle.std.proofs.lemmas.Option.{slice_get-map}
-use Rattle.tags.specs.declared.value.Origin.TheVariants.{Untold}
 use Rattle.semantics.specs.Graph.{Graph, Flow, flow_of}
 use Rattle.semantics.specs.declared.program.Mark.TheVariants.{Unmarked}
-use Rattle.semantics.specs.Program.{Instr, CodeBlock, Program}
+use Rattle.semantics.specs.Program.{Instr, CodeBlock}
 use Rattle.semantics.specs.Plan.{Plan, mark_at, is_credit}
 use Rattle.semantics.specs.Sharing.{Good}
 use Rattle.semantics.specs.Placed.{placed}

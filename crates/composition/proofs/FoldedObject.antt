@@ -1,6 +1,6 @@
 -- The literals and the size of the code of a straight graph whose operators have literal operands.
-use Rattle.std.proofs.Common.{◌≡◌, refl, sym, ap, ◌∙◌, subst, ℕ, zero, suc, ◌+◌, ◌≤◌, Bool, true, false, if◌then◌else◌, ℤ, List, [], ◌∷◌, ◌++◌, map, length, arith, length-append}
-use Rattle.std.specs.Prelude.{slice_get, All}
+use Rattle.std.proofs.Common.{◌≡◌, sym, ap, ◌∙◌, subst, ℕ, ◌+◌, ◌≤◌, Bool, true, false, if◌then◌else◌, ℤ, List, [], ◌∷◌, ◌++◌, map, length, arith, length-append}
+use Rattle.std.specs.Prelude.{All}
 use Rattle.std.proofs.lemmas.List.{length-map}
 use Rattle.semantics.specs.declared.program.Dest.{Dest}
 use Rattle.semantics.specs.declared.program.Op.{Op}
@@ -19,7 +19,7 @@ use Rattle.fanout.proofs.Spots.{sized}
 use Rattle.folding.specs.Places.{Layout, layout_of, gone_at}
 use Rattle.folding.specs.Moved.{is_shut, moved, moved_dest, moved_dests, new_dest}
 use Rattle.folding.specs.Folded.{folded, folded_block, moved_from}
-use Rattle.select.specs.Literals.{entered, table_of, used_in}
+use Rattle.select.specs.Literals.{entered, used_in}
 use Rattle.composition.specs.Straight.{IsStraightPlan, literals_in}
 use Rattle.composition.specs.Folded.{FoldedHasLiterals, FoldedIsSmall}
 use Rattle.composition.proofs.Lines.{all_of, map_back}

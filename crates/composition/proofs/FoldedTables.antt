@@ -1,5 +1,5 @@
 -- Two programs that use the same literals have one table of them.
-use Rattle.std.proofs.Common.{◌≡◌, refl, sym, ap, ◌∙◌, subst, ℕ, zero, suc, ◌<◌, ◌⊎◌, inl, inr, ℤ, List, [], ◌∷◌, Ordering, arith}
+use Rattle.std.proofs.Common.{◌≡◌, refl, sym, ap, ◌∙◌, subst, zero, suc, ◌⊎◌, inl, inr, ℤ, List, [], ◌∷◌, Ordering, arith}
 use Rattle.std.specs.Prelude.{All, Contains, ⊤}
 use Rattle.std.specs.Ordering.{int_cmp, match_ordering, ordering_reverse}
 use Rattle.std.specs.declared.cmp.Ordering.TheVariants.{Less, Equal, Greater}

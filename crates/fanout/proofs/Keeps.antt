@@ -12,16 +12,15 @@ use Rattle.tags.specs.declared.token.Port.TheVariants.{Left}
 use Rattle.semantics.specs.declared.program.Op.TheVariants as Program
 use Rattle.semantics.specs.declared.program.Dest.{Dest}
 use Rattle.semantics.specs.declared.program.Op.{Op}
-use Rattle.semantics.specs.Graph.{Block, Node, node_at, node_count}
+use Rattle.semantics.specs.Graph.{Block, node_at, node_count}
 use Rattle.semantics.specs.Program.{Instr, CodeBlock}
 use Rattle.semantics.specs.Cause.{opened_by, open_bounds}
-use Rattle.semantics.specs.Plan.{Plan, HasShape}
-use Rattle.lowering.specs.Roles.{Role, Start, Line, Result, Join, End, Copy, Shown, Done, Freed, is_instr, same_role, same_inlet, Inlet, inlet, one, hits, is_two, is_pair_at, outs, given, lines_from, op_of, op_in, Form, form_of, formed, waits, waits_as, there_as, Wiring, IsThere, IsInlet, IsFed, IsWire, IsWired}
+use Rattle.semantics.specs.Plan.{Plan}
+use Rattle.lowering.specs.Roles.{Role, Start, Line, Result, Join, End, Copy, Shown, Done, Freed, is_instr, same_inlet, Inlet, inlet, one, hits, is_two, is_pair_at, outs, given, lines_from, op_of, op_in, Form, form_of, formed, waits, waits_as, there_as, Wiring, IsThere, IsFed, IsWire, IsWired}
 use Rattle.lowering.specs.Implements.{Layout, code_of, leads_to, stands_at, IsBlockCode, IsCodeOf}
 use Rattle.lowering.proofs.Orders.{at_first}
 use Rattle.lowering.proofs.Parts.{one_same}
 use Rattle.lowering.proofs.Forms.{input_there, waits_two}
-use Rattle.lowering.proofs.Members.{contains_none}
 use Rattle.lowering.proofs.Ends.{contains_map}
 use Rattle.lowering.proofs.StraightWired.{wire_rises, hits-contains}
 use Rattle.determinacy.proofs.Resolved.{all_get}

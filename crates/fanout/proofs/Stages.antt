@@ -9,7 +9,7 @@ use Rattle.tags.specs.declared.token.Port.TheVariants.{Left}
 use Rattle.semantics.specs.declared.program.Dest.{Dest}
 use Rattle.semantics.specs.Graph.{Block, node_count}
 use Rattle.semantics.specs.Program.{Instr, CodeBlock}
-use Rattle.lowering.specs.Roles.{Role, Start, Line, Result, Join, End, Copy, Shown, Done, Freed, Plain, Return, is_instr, Inlet, Form, AsItIs, OnRight, OnLeft, Settled, Gone, there_as, Wiring, IsThere, IsWired}
+use Rattle.lowering.specs.Roles.{Role, Start, Line, Result, Join, End, Copy, Shown, Done, Freed, Plain, Return, is_instr, Form, AsItIs, OnRight, OnLeft, Settled, Gone, there_as, Wiring, IsThere, IsWired}
 use Rattle.lowering.specs.Implements.{Layout, code_of, leads_to, stands_at, IsBlockCode}
 use Rattle.lowering.proofs.Forms.{line_below}
 use Rattle.lowering.proofs.Orders.{shuffled, Part, ◌⊕◌, at_first, at_last, IsPermutation-same, map-map}

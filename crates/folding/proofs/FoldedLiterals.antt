@@ -13,7 +13,7 @@ use Rattle.semantics.specs.declared.program.Op.TheVariants.{Apply2, Apply2Right,
 use Rattle.semantics.specs.Program.{Instr, CodeBlock}
 use Rattle.semantics.specs.Plan.{Plan}
 use Rattle.folding.specs.declared.namers.Namer.{Namer}
-use Rattle.folding.specs.declared.namers.Namer.TheVariants.{One, Many}
+use Rattle.folding.specs.declared.namers.Namer.TheVariants.{One}
 use Rattle.folding.specs.declared.folds.Fold.{Fold}
 use Rattle.folding.specs.declared.folds.Fold.TheVariants.{Kept, OnRight, OnLeft}
 use Rattle.folding.specs.Namers.{namers_of, namer_of}
