@@ -1,6 +1,6 @@
 //! What an element holds, and what it does with a token.
 
-ghost use Rattle.std.specs.Prelude.{◌≡◌, ℕ, ◌+◌, ◌*◌, ◌%◌, ◌<◌, ◌≤◌, ◌^◌, [], ◌∷◌, ◌++◌, length, All, OnOk, OnErr, IfOk, IfSome, IfNone, Some, None, IsSome, replicate, vec_len, option_to_list, slice_index_or, remove};
+ghost use Rattle.std.specs.Prelude.{◌≡◌, ℕ, ◌+◌, ◌*◌, ◌%◌, ◌<◌, ◌≤◌, ◌^◌, [], ◌∷◌, ◌++◌, ◌/◌, ◌==◌, length, All, OnOk, OnErr, IfOk, IfSome, IfNone, Some, None, IsSome, replicate, vec_len, option_to_list, slice_index_or, remove};
 ghost use Rattle.std.specs.Vec.{vec_capacity};
 ghost use Rattle.std.specs.VecDeque.{deque_len, deque_capacity};
 ghost use Rattle.tags.specs.declared.token.Token.{Token};
@@ -69,6 +69,20 @@ pub struct Lane<'m, A: Allocator> {
     pub answered: Vec<Cont, A>,
 }
 
+// Which one of so many a pick names.
+#[tactic(auto, using(crate::proofs::Quotients::below))]
+fn among(pick: u64, count: usize) -> usize
+    requires { 0 < count }
+    ensures exact { result ≡ pick % count }
+    ensures within { result < count }
+{
+    let count = count as u64;
+    if pick < count {
+        return pick as usize;
+    }
+    (pick % count) as usize
+}
+
 // So many outputs that are not filled.
 fn no_outputs(count: u32) -> ArrayVec<Option<Value>, 16>
     requires { count ≤ 16 }
@@ -132,7 +146,8 @@ impl<'m, A: Allocator> Lane<'m, A> {
         if waiting == 0 {
             return None;
         }
-        Some(self.queue[(pick % waiting as u64) as usize])
+        let at = among(pick, waiting);
+        Some(self.queue[at])
     }
 
     // Makes room for so many tokens. After an error all stands as before.
@@ -154,8 +169,36 @@ impl<'m, A: Allocator> Lane<'m, A> {
         ensures len { deque_len self.new.queue ≤ deque_len self.old.queue }
         ensures capacity { deque_capacity self.new.queue ≡ deque_capacity self.old.queue }
     {
-        let _ = self.queue.remove(at);
+        if at == 0 {
+            let _ = self.queue.pop_front();
+        } else {
+            let _ = self.queue.remove(at);
+        }
         self.made += 1;
+    }
+
+    // Whether this element takes tokens with this address.
+    #[tactic(auto, using(crate::proofs::Quotients::served_alone))]
+    fn serves(&self, to: &To) -> bool
+        requires some { 0 < self.now.elements }
+        ensures { result ≡ (element_of self.now.elements to.now == self.now.element) }
+    {
+        if self.elements == 1 {
+            return 0 == self.element;
+        }
+        to.element(self.elements) == self.element
+    }
+
+    // The place of a frame that lies here among those that do.
+    #[tactic(auto, using(crate::proofs::Quotients::alone))]
+    fn own_frame(&self, frame: FrameId) -> usize
+        requires some { 0 < self.now.elements }
+        ensures { result ≡ frame / self.now.elements }
+    {
+        if self.elements == 1 {
+            return frame as usize;
+        }
+        (frame / self.elements) as usize
     }
 
     // Puts a token last into the queue, or last among those for other elements.
@@ -170,7 +213,7 @@ impl<'m, A: Allocator> Lane<'m, A> {
         ensures sent_len { vec_len sent.new ≤ vec_len sent.old + 1 }
         ensures sent_capacity { vec_capacity sent.new ≡ vec_capacity sent.old }
     {
-        if token.to.element(self.elements) == self.element {
+        if self.serves(&token.to) {
             self.queue.push_back_reserved(token);
         } else {
             sent.push_reserved(token);
@@ -231,8 +274,7 @@ impl<'m, A: Allocator> Lane<'m, A> {
         requires slot { slot < self.now.bank.width }
         ensures { result ≡ slice_index_or (part_of self.now).states (slot_place (shape_of self.now) frame slot) Empty }
     {
-        self.bank
-            .state((frame / self.elements) as usize, slot as usize)
+        self.bank.state(self.own_frame(frame), slot as usize)
     }
 
     fn set_slot(&mut self, frame: FrameId, slot: u32, state: SlotState)
@@ -243,8 +285,8 @@ impl<'m, A: Allocator> Lane<'m, A> {
         ensures held { held_of self.new ≡ with_part (held_of self.old) (with_state (part_of self.old) (slot_place (shape_of self.old) frame slot) state) }
         ensures queue { self.new.queue ≡ self.old.queue }
     {
-        self.bank
-            .set((frame / self.elements) as usize, slot as usize, state);
+        let own = self.own_frame(frame);
+        self.bank.set(own, slot as usize, state);
     }
 
     fn at_instruction<C: Instructions>(
@@ -554,7 +596,7 @@ impl<'m, A: Allocator> Lane<'m, A> {
         if waiting == 0 {
             return Stepped::Idle;
         }
-        let at = (pick % waiting as u64) as usize;
+        let at = among(pick, waiting);
         let token = self.queue[at];
         self.act(code, at, token, sent)
     }
