@@ -22,7 +22,7 @@ ghost use Rattle.element.specs.Openings.{opened, shape_at, IsOpening, StartsAs};
 ghost use Rattle.element.specs.Changed.{with_state, with_state_in, state_in, UsesSlot, OwnsCell, IsHostChange, CanFill, filled, IsRequested, IsReleased};
 ghost use Rattle.element.specs.Fired.{tokens_of};
 
-use crate::firing::{Made, Outcome, Seat, answer, fire};
+use crate::firing::{Made, NONE, Outcome, Seat, answer, fire};
 use crate::instructions::{Instruction, Instructions};
 use arrayvec::ArrayVec;
 use frame_manager::{Manager, NotOut};
@@ -237,12 +237,12 @@ impl<'m, A: Allocator> Lane<'m, A> {
     }
 
     // Sends what an instruction made, in order.
-    fn send_all(&mut self, made: Made, sent: &mut Vec<Token, A>)
+    fn send_all(&mut self, made: &Made, sent: &mut Vec<Token, A>)
         requires some { 0 < self.old.elements }
         requires room { deque_len self.old.queue + 3 ≤ deque_capacity self.old.queue }
         requires sent_room { vec_len sent.old + 3 ≤ vec_capacity sent.old }
-        ensures held { held_of self.new ≡ queued (held_of self.old) (tokens_of made) }
-        ensures sent { sent.new.items ≡ sent.old.items ++ elsewhere (shape_of self.old) (tokens_of made) }
+        ensures held { held_of self.new ≡ queued (held_of self.old) (tokens_of made.now) }
+        ensures sent { sent.new.items ≡ sent.old.items ++ elsewhere (shape_of self.old) (tokens_of made.now) }
     {
         self.send_some(made.first, sent);
         self.send_some(made.second, sent);
@@ -311,15 +311,16 @@ impl<'m, A: Allocator> Lane<'m, A> {
             return Stepped::Stuck { rule: 1 };
         };
         let slot = self.slot_of(seat.frame, &instr);
-        match fire(code, seat, &instr, slot, port, token.word) {
+        let mut made = NONE;
+        match fire(code, seat, &instr, slot, port, token.word, &mut made) {
             Outcome::Excluded { rule } => Stepped::Stuck { rule },
-            Outcome::Becomes { slot, made } => {
+            Outcome::Becomes { slot } => {
                 if self.make_room(3, sent).is_err() {
                     return Stepped::Memory;
                 }
                 self.keep(seat.frame, &instr, slot);
                 self.take(at);
-                self.send_all(made, sent);
+                self.send_all(&made, sent);
                 Stepped::Did
             }
         }
