@@ -1,7 +1,11 @@
 //! The machine's inner loop in plain Rust, for comparison: the same object, tokens in queues, slots as two words, each
 //! instruction decoded from its 16 bytes when it is run, one match on its opcode. It is no part of what is proved.
 //!
-//! Build: rustc --edition 2021 -O plain_machine.rs. Run: plain_machine OBJECT INPUT [ELEMENTS [FRAMES]].
+//! Build: rustc --edition 2021 -O plain_machine.rs. Run: plain_machine INPUT [ELEMENTS [FRAMES [OBJECT]]]; the object is that
+//! of crates/loop_events, where none is given. An object is taken to be sound.
+
+#[path = "../../crates/loop_events/src/sum_loop.rt"]
+mod sum_loop;
 
 use std::collections::VecDeque;
 use std::time::Instant;
@@ -525,11 +529,14 @@ fn run(code: &Code, lanes: &mut [Lane], host: &mut Host, steps: u64) -> Option<E
 
 fn main() {
     let args: Vec<String> = std::env::args().collect();
-    let bytes = std::fs::read(&args[1]).expect("an object");
+    let bytes = match args.get(4) {
+        Some(path) => std::fs::read(path).expect("an object"),
+        None => sum_loop::SUM_LOOP.to_vec(),
+    };
     let number = |place: usize, other: u32| args.get(place).map_or(other, |it| it.parse().expect("a number"));
-    let input: i64 = args[2].parse().expect("a number");
-    let elements = number(3, 1);
-    let frames = number(4, 8);
+    let input: i64 = args[1].parse().expect("a number");
+    let elements = number(2, 1);
+    let frames = number(3, 8);
     let code = Code::new(&bytes);
     let mut free = vec![0u64; (elements * frames) as usize / 64 + 1];
     for frame in 1..elements * frames {

@@ -1,6 +1,6 @@
 //! Each growth refused in turn.
 
-use crate::objects::CALL;
+use crate::objects::{CALL, STORES};
 use crate::tests::{is_rest, on};
 use element::lane::Stepped;
 use loaded::Loaded;
@@ -107,13 +107,53 @@ fn refusals(rt: HostRuntime, elements: u64, is_quiet: bool) -> Option<(u64, u64,
     None
 }
 
+/// The report of a run that ends at a full cell, and so lists one; `None` where a growth was refused before.
+fn is_told<A: Allocator + Clone>(alloc: A) -> Option<bool> {
+    let object = Object::open(STORES).ok()?;
+    let code = Loaded::new(alloc.clone().ok()?, object).ok()?;
+    let mut store = None;
+    let mut machine = Machine::start(alloc, &mut store, &code, &[2], on(1)).ok()?;
+    let halt = machine.play_in_turn();
+    if halt == Halt::Memory {
+        return None;
+    }
+    let report = machine.report(halt);
+    if is_opening(&report) {
+        return Some(false);
+    }
+    let is_clash = report.end == End::Clash { array: 1, index: 2 };
+    (is_clash && report.cells.len() == 1).then_some(true)
+}
+
+#[test]
+fn the_lists_of_a_report_are_refused(rt: HostRuntime) {
+    let mut opening = 0;
+    let mut whole = 0;
+    for ration in 1..100 {
+        let heap = Rationed::new(rt.alloc(), ration);
+        match is_told(&heap) {
+            Some(true) => whole += 1,
+            Some(false) => opening += 1,
+            None => {}
+        }
+    }
+    assert_eq!(rt; opening, 1);
+    assert!(rt; whole > 10);
+}
+
 #[test]
 fn each_growth_is_refused(rt: HostRuntime) -> Result<(), Fail> {
     for elements in [1, 2, 7, 16] {
         let counts = refusals(rt, elements, false);
-        assert!(rt; matches!(counts, Some((1.., 1.., 0))), "{elements}: {counts:?}");
+        assert!(rt;
+            matches!(counts, Some((1.., 1.., 0))),
+            "{elements}: {counts:?}"
+        );
         let counts = refusals(rt, elements, true);
-        assert!(rt; matches!(counts, Some((1.., 1.., 0))), "quietly on {elements}: {counts:?}");
+        assert!(rt;
+            matches!(counts, Some((1.., 1.., 0))),
+            "quietly on {elements}: {counts:?}"
+        );
     }
     Ok(())
 }

@@ -63,13 +63,19 @@ fn runs_in_other_orders(rt: HostRuntime) -> Result<(), Fail> {
             let mut picks = Vec::new(rt.alloc());
             for _ in 0..2000 {
                 seed = next_of(seed);
-                picks.push((((seed / 65_536) % u64::from(elements)) as u32, seed / 4_294_967_296))?;
+                picks.push((
+                    ((seed / 65_536) % u64::from(elements)) as u32,
+                    seed / 4_294_967_296,
+                ))?;
             }
             let code = Loaded::new(rt.alloc(), Object::open(CALL)?)?;
             let mut store = None;
             let config = on(u64::from(elements));
             let machine = Machine::start(rt.alloc(), &mut store, &code, &[7], config)?;
-            assert!(rt; is_rest(&machine.run(&picks), 33), "order {order} on {elements}");
+            assert!(rt;
+                is_rest(&machine.run(&picks), 33),
+                "order {order} on {elements}"
+            );
         }
     }
     Ok(())
@@ -109,7 +115,10 @@ fn goes_on_without_events(rt: HostRuntime) -> Result<(), Fail> {
 fn starts_on_good_numbers_alone(rt: HostRuntime) -> Result<(), Fail> {
     let code = Loaded::new(rt.alloc(), Object::open(CALL)?)?;
     let mut store = None;
-    let none = Config { frames: 0, ..on(17) };
+    let none = Config {
+        frames: 0,
+        ..on(17)
+    };
     let wrong = Machine::start(rt.alloc(), &mut store, &code, &[7, 8], none).err();
     assert_eq!(rt; wrong, Some(StartFault::WrongInputs));
     let wrong = Machine::start(rt.alloc(), &mut store, &code, &[7], none).err();
@@ -151,7 +160,10 @@ fn stores_once_and_reads(rt: HostRuntime) -> Result<(), Fail> {
         let mut store = None;
         let machine = Machine::start(rt.alloc(), &mut store, &code, &[2], on(elements))?;
         let report = machine.run_one();
-        assert!(rt; report.end == End::Clash { array: 1, index: 2 }, "{elements}");
+        assert!(rt;
+            report.end == End::Clash { array: 1, index: 2 },
+            "{elements}"
+        );
         assert_eq!(rt; report.deferred, 1);
         assert!(rt; report.cells.as_slice() == [(5, Value::Int(2))].as_slice());
     }
