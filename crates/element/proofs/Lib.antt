@@ -6,3 +6,4 @@ pub mod Acting
 pub mod Instructing
 pub mod Stepping
 pub mod Opening
+pub mod Quotients

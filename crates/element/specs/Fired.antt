@@ -1,5 +1,5 @@
 -- What the code's outcomes stand for in the definitions.
-use Rattle.std.specs.Prelude.{ℕ, ◌<◌, ◌^◌, List, ◌++◌, option_to_list, ⊤}
+use Rattle.std.specs.Prelude.{ℕ, Bool, true, false, Option, Some, None, ◌<◌, ◌^◌, List, ◌++◌, option_to_list, ⊤}
 use Rattle.tags.specs.declared.token.Cont.{Cont}
 use Rattle.tags.specs.declared.token.Word.{Word}
 use Rattle.tags.specs.declared.token.Token.{Token}
@@ -31,9 +31,14 @@ abbrev pub IsWithin : ℕ → Indexed → Type 0
 IsWithin len (Place x) = x < len
 IsWithin len (Outside v) = ⊤
 
-abbrev pub outcome_by : Outcome → rule.Outcome
-outcome_by (Becomes v made) = rule.Becomes v (tokens_of made)
-outcome_by (Excluded n) = rule.Excluded n
+-- the tokens, where it fired
+abbrev pub fired_by : Bool → Made → Option (List Token)
+fired_by true made = Some (tokens_of made)
+fired_by false made = None
+
+abbrev pub outcome_by : Outcome → Made → rule.Outcome
+outcome_by (Becomes v) made = rule.Becomes v (tokens_of made)
+outcome_by (Excluded n) made = rule.Excluded n
 
 -- an offset of 8 bits can be added
 abbrev pub HasRoom : Cont → Type 0

@@ -8,8 +8,9 @@ ghost use Rattle.tags.specs.declared.token.Word.{Word};
 ghost use Rattle.tags.specs.declared.token.To.{To};
 ghost use Rattle.operators.specs.Values as Values;
 ghost use Rattle.semantics.specs.Rule as Rule;
+ghost use Rattle.element.specs.declared.firing.Made.{Made};
 ghost use Rattle.element.specs.Decoded.{instr_of, IsShort};
-ghost use Rattle.element.specs.Fired.{seat_of, tokens_of, indexed_of, IsWithin, outcome_by, HasRoom, HasRoomInWord, HasRoomInSlot, TakesLeftAlone};
+ghost use Rattle.element.specs.Fired.{seat_of, tokens_of, fired_by, indexed_of, IsWithin, outcome_by, HasRoom, HasRoomInWord, HasRoomInSlot, TakesLeftAlone};
 
 use crate::instructions::{Instruction, Instructions};
 use operators::{apply1, apply2_at, truth};
@@ -41,11 +42,11 @@ pub enum Indexed {
     Outside(Value),
 }
 
-/// What comes of a token at an instruction.
+/// What comes of a token at an instruction, beside the tokens that are made.
 #[derive(Clone, Copy, Debug, PartialEq, Eq)]
 pub enum Outcome {
-    /// The slot has this state then, and these tokens are made.
-    Becomes { slot: SlotState, made: Made },
+    /// The slot has this state then.
+    Becomes { slot: SlotState },
     /// The rule of this number excludes the token.
     Excluded { rule: u8 },
 }
@@ -53,26 +54,27 @@ pub enum Outcome {
 /// A word that only tells that something happened.
 pub const SIGNAL: Word = Word::Val(Value::Int(0));
 
-const NONE: Made = Made {
+/// No tokens.
+pub const NONE: Made = Made {
     first: None,
     second: None,
     third: None,
 };
 
-fn one(token: Token) -> Made
-    ensures { tokens_of result ≡ token ∷ [] }
+fn one(token: Token, made: &mut Made)
+    ensures { tokens_of made.new ≡ token ∷ [] }
 {
-    Made {
-        first: Some(token),
-        second: None,
-        third: None,
-    }
+    made.first = Some(token);
+    made.second = None;
+    made.third = None;
 }
 
-fn nothing() -> Made
-    ensures { tokens_of result ≡ [] }
+fn nothing(made: &mut Made)
+    ensures { tokens_of made.new ≡ [] }
 {
-    NONE
+    made.first = None;
+    made.second = None;
+    made.third = None;
 }
 
 fn at_dest(seat: Seat, word: Word, dest: Dest) -> Token
@@ -102,28 +104,26 @@ fn to_each(seat: Seat, word: &Word, dest: Option<Dest>) -> Option<Token>
 }
 
 // One token or none, and then a word to each destination.
-fn before_all(outside: Option<Token>, seat: Seat, word: Word, instr: &Instruction) -> Made
+fn before_all(outside: Option<Token>, seat: Seat, word: Word, instr: &Instruction, made: &mut Made)
     requires near { seat.ip < 2 ^ 30 }
     requires first_short { IfSome instr.now.first (λ d. d.ahead < 2 ^ 30) }
     requires second_short { IfSome instr.now.second (λ d. d.ahead < 2 ^ 30) }
-    ensures { tokens_of result ≡ option_to_list outside ++ Rule.to_all (seat_of seat) word (instr_of instr.now) }
+    ensures { tokens_of made.new ≡ option_to_list outside ++ Rule.to_all (seat_of seat) word (instr_of instr.now) }
 {
     let first = instr.first;
     let second = instr.second;
-    Made {
-        first: outside,
-        second: to_each(seat, &word, first),
-        third: to_each(seat, &word, second),
-    }
+    made.first = outside;
+    made.second = to_each(seat, &word, first);
+    made.third = to_each(seat, &word, second);
 }
 
-fn to_all(seat: Seat, word: Word, instr: &Instruction) -> Made
+fn to_all(seat: Seat, word: Word, instr: &Instruction, made: &mut Made)
     requires near { seat.ip < 2 ^ 30 }
     requires first_short { IfSome instr.now.first (λ d. d.ahead < 2 ^ 30) }
     requires second_short { IfSome instr.now.second (λ d. d.ahead < 2 ^ 30) }
-    ensures { tokens_of result ≡ Rule.to_all (seat_of seat) word (instr_of instr.now) }
+    ensures { tokens_of made.new ≡ Rule.to_all (seat_of seat) word (instr_of instr.now) }
 {
-    before_all(None, seat, word, instr)
+    before_all(None, seat, word, instr, made);
 }
 
 /// The address that lies so far behind a continuation.
@@ -225,19 +225,23 @@ fn asks_for<C: Instructions>(
     instr: &Instruction,
     array: u8,
     index: Value,
-) -> Made
+    made: &mut Made,
+)
     requires short { IsShort (C.width code.now) seat.ip instr.now }
-    ensures { tokens_of result ≡ Rule.asks_for (C.program code.now) (seat_of seat) (instr_of instr.now) array (Values.index_in (Rule.array_len (C.program code.now) array) index instr.now.origin) }
+    ensures { tokens_of made.new ≡ Rule.asks_for (C.program code.now) (seat_of seat) (instr_of instr.now) array (Values.index_in (Rule.array_len (C.program code.now) array) index instr.now.origin) }
 {
     let cells = code.array(array);
     match index_in(cells.len, index, instr.origin) {
-        Indexed::Place(place) => one(Token {
-            to: To::Fetch {
-                cell: cells.base + place,
+        Indexed::Place(place) => one(
+            Token {
+                to: To::Fetch {
+                    cell: cells.base + place,
+                },
+                word: Word::Back(answer_to(seat, instr)),
             },
-            word: Word::Back(answer_to(seat, instr)),
-        }),
-        Indexed::Outside(fault) => to_first(seat, Word::Val(fault), instr),
+            made,
+        ),
+        Indexed::Outside(fault) => to_first(seat, Word::Val(fault), instr, made),
     }
 }
 
@@ -249,53 +253,59 @@ fn puts<C: Instructions>(
     array: u8,
     index: Value,
     value: Value,
-) -> Made
+    made: &mut Made,
+)
     requires short { IsShort (C.width code.now) seat.ip instr.now }
-    ensures { tokens_of result ≡ Rule.puts (C.program code.now) (seat_of seat) (instr_of instr.now) array value (Values.index_in (Rule.array_len (C.program code.now) array) index instr.now.origin) }
+    ensures { tokens_of made.new ≡ Rule.puts (C.program code.now) (seat_of seat) (instr_of instr.now) array value (Values.index_in (Rule.array_len (C.program code.now) array) index instr.now.origin) }
 {
     let cells = code.array(array);
     match index_in(cells.len, index, instr.origin) {
-        Indexed::Place(place) => one(Token {
-            to: To::Store {
-                cell: cells.base + place,
-                value,
+        Indexed::Place(place) => one(
+            Token {
+                to: To::Store {
+                    cell: cells.base + place,
+                    value,
+                },
+                word: Word::Back(answer_to(seat, instr)),
             },
-            word: Word::Back(answer_to(seat, instr)),
-        }),
-        Indexed::Outside(fault) => to_first(seat, Word::Val(fault), instr),
+            made,
+        ),
+        Indexed::Outside(fault) => to_first(seat, Word::Val(fault), instr, made),
     }
 }
 
-fn to_first(seat: Seat, word: Word, instr: &Instruction) -> Made
+fn to_first(seat: Seat, word: Word, instr: &Instruction, made: &mut Made)
     requires near { seat.ip < 2 ^ 30 }
     requires short { IfSome instr.now.first (λ d. d.ahead < 2 ^ 30) }
-    ensures { tokens_of result ≡ Rule.to_each (seat_of seat) word (take 1 (instr_of instr.now).firsts) }
+    ensures { tokens_of made.new ≡ Rule.to_each (seat_of seat) word (take 1 (instr_of instr.now).firsts) }
 {
     let first = instr.first;
-    Made {
-        first: to_each(seat, &word, first),
-        second: None,
-        third: None,
-    }
+    made.first = to_each(seat, &word, first);
+    made.second = None;
+    made.third = None;
 }
 
-fn to_second(outside: Token, seat: Seat, word: Word, instr: &Instruction) -> Made
+fn to_second(outside: Token, seat: Seat, word: Word, instr: &Instruction, made: &mut Made)
     requires near { seat.ip < 2 ^ 30 }
     requires short { IfSome instr.now.second (λ d. d.ahead < 2 ^ 30) }
-    ensures { tokens_of result ≡ outside ∷ Rule.to_each (seat_of seat) word (instr_of instr.now).seconds }
+    ensures { tokens_of made.new ≡ outside ∷ Rule.to_each (seat_of seat) word (instr_of instr.now).seconds }
 {
     let second = instr.second;
-    Made {
-        first: Some(outside),
-        second: to_each(seat, &word, second),
-        third: None,
-    }
+    made.first = Some(outside);
+    made.second = to_each(seat, &word, second);
+    made.third = None;
 }
 
-// What an instruction with one input makes of its word, and `None` where the word is of a wrong kind.
-fn fire_one<C: Instructions>(code: &C, seat: Seat, instr: &Instruction, word: Word) -> Option<Made>
+// What an instruction with one input makes of its word; false where the word is of a wrong kind.
+fn fire_one<C: Instructions>(
+    code: &C,
+    seat: Seat,
+    instr: &Instruction,
+    word: Word,
+    made: &mut Made,
+) -> bool
     requires short { IsShort (C.width code.now) seat.ip instr.now }
-    ensures { option_map tokens_of result ≡ Rule.fire_one (C.program code.now) (seat_of seat) (instr_of instr.now) instr.now.op word }
+    ensures { fired_by result made.new ≡ Rule.fire_one (C.program code.now) (seat_of seat) (instr_of instr.now) instr.now.op word }
 {
     let origin = instr.origin;
     let value = match (instr.op, word) {
@@ -307,30 +317,47 @@ fn fire_one<C: Instructions>(code: &C, seat: Seat, instr: &Instruction, word: Wo
             apply2_at(op, Value::Int(literal), value, origin)
         }
         (Op::Lit { literal }, _) => Value::Int(literal),
-        (Op::Copy, _) => return Some(to_all(seat, word, instr)),
+        (Op::Copy, _) => {
+            to_all(seat, word, instr, made);
+            return true;
+        }
         (Op::Fetch { array }, Word::Val(index)) => {
-            return Some(asks_for(code, seat, instr, array, index));
+            asks_for(code, seat, instr, array, index, made);
+            return true;
         }
         (Op::Frame, _) => {
-            return Some(one(Token {
-                to: To::Manager,
-                word: Word::Back(answer_to(seat, instr)),
-            }));
+            asks_for_frame(seat, instr, made);
+            return true;
         }
         (Op::Link { block }, Word::Frame(frame)) => {
-            return Some(link(code.entry(block), frame, seat, instr));
+            link(code.entry(block), frame, seat, instr, made);
+            return true;
         }
-        _ => return None,
+        _ => return false,
     };
-    Some(to_all(seat, Word::Val(value), instr))
+    to_all(seat, Word::Val(value), instr, made);
+    true
+}
+
+// The request for a frame.
+fn asks_for_frame(seat: Seat, instr: &Instruction, made: &mut Made)
+    requires near { seat.ip < 2 ^ 30 }
+    requires short { IfSome instr.now.first (λ d. d.ahead < 2 ^ 30) }
+    ensures { tokens_of made.new ≡ Rule.token To.Manager (Word.Back (Rule.answer_to (seat_of seat) (instr_of instr.now).firsts)) ∷ [] }
+{
+    let token = Token {
+        to: To::Manager,
+        word: Word::Back(answer_to(seat, instr)),
+    };
+    one(token, made);
 }
 
 // The continuation goes to the first instruction of a block in the frame.
-fn link(first: u32, frame: FrameId, seat: Seat, instr: &Instruction) -> Made
+fn link(first: u32, frame: FrameId, seat: Seat, instr: &Instruction, made: &mut Made)
     requires near { seat.ip < 2 ^ 30 }
     requires first_short { IfSome instr.now.first (λ d. d.ahead < 2 ^ 30) }
     requires second_short { IfSome instr.now.second (λ d. d.ahead < 2 ^ 30) }
-    ensures { tokens_of result ≡ Rule.token (To.Instr frame first Left) (Word.Back (Rule.landing_at (seat_of seat) (instr_of instr.now).firsts)) ∷ Rule.to_each (seat_of seat) Rule.signal (instr_of instr.now).seconds }
+    ensures { tokens_of made.new ≡ Rule.token (To.Instr frame first Left) (Word.Back (Rule.landing_at (seat_of seat) (instr_of instr.now).firsts)) ∷ Rule.to_each (seat_of seat) Rule.signal (instr_of instr.now).seconds }
 {
     let token = Token {
         to: To::Instr {
@@ -340,46 +367,42 @@ fn link(first: u32, frame: FrameId, seat: Seat, instr: &Instruction) -> Made
         },
         word: Word::Back(landing_at(seat, instr)),
     };
-    to_second(token, seat, SIGNAL, instr)
+    to_second(token, seat, SIGNAL, instr, made);
 }
 
 // A token, and then a signal to each destination.
-fn and_signals(token: Token, seat: Seat, instr: &Instruction) -> Made
+fn and_signals(token: Token, seat: Seat, instr: &Instruction, made: &mut Made)
     requires near { seat.ip < 2 ^ 30 }
     requires first_short { IfSome instr.now.first (λ d. d.ahead < 2 ^ 30) }
     requires second_short { IfSome instr.now.second (λ d. d.ahead < 2 ^ 30) }
-    ensures { tokens_of result ≡ token ∷ Rule.to_all (seat_of seat) Rule.signal (instr_of instr.now) }
+    ensures { tokens_of made.new ≡ token ∷ Rule.to_all (seat_of seat) Rule.signal (instr_of instr.now) }
 {
-    before_all(Some(token), seat, SIGNAL, instr)
+    before_all(Some(token), seat, SIGNAL, instr, made);
 }
 
 // A switch sends its left word to one side.
-fn choose(holds: bool, seat: Seat, word: Word, instr: &Instruction) -> Made
+fn choose(holds: bool, seat: Seat, word: Word, instr: &Instruction, made: &mut Made)
     requires near { seat.ip < 2 ^ 30 }
     requires first_short { IfSome instr.now.first (λ d. d.ahead < 2 ^ 30) }
     requires second_short { IfSome instr.now.second (λ d. d.ahead < 2 ^ 30) }
-    ensures { tokens_of result ≡ Rule.to_each (seat_of seat) word (if holds then (instr_of instr.now).firsts else (instr_of instr.now).seconds) }
+    ensures { tokens_of made.new ≡ Rule.to_each (seat_of seat) word (if holds then (instr_of instr.now).firsts else (instr_of instr.now).seconds) }
 {
     let side = if holds { instr.first } else { instr.second };
-    Made {
-        first: to_each(seat, &word, side),
-        second: None,
-        third: None,
-    }
+    made.first = to_each(seat, &word, side);
+    made.second = None;
+    made.third = None;
 }
 
 // The release of the frame, and a signal.
-fn released(to: To, frame: FrameId) -> Made
-    ensures { tokens_of result ≡ Rule.token (To.Release frame) Rule.signal ∷ Rule.token to Rule.signal ∷ [] }
+fn released(to: To, frame: FrameId, made: &mut Made)
+    ensures { tokens_of made.new ≡ Rule.token (To.Release frame) Rule.signal ∷ Rule.token to Rule.signal ∷ [] }
 {
-    Made {
-        first: Some(Token {
-            to: To::Release { frame },
-            word: SIGNAL,
-        }),
-        second: Some(Token { to, word: SIGNAL }),
-        third: None,
-    }
+    made.first = Some(Token {
+        to: To::Release { frame },
+        word: SIGNAL,
+    });
+    made.second = Some(Token { to, word: SIGNAL });
+    made.third = None;
 }
 
 // An entry of the block that begins there.
@@ -390,27 +413,36 @@ fn entry_at(first: u32, entry: u16) -> u32
     first + u32::from(entry)
 }
 
-// What an instruction with two inputs makes of its words, and `None` where one is of a wrong kind.
+// What an instruction with two inputs makes of its words; false where one is of a wrong kind.
 fn fire_two<C: Instructions>(
     code: &C,
     seat: Seat,
     instr: &Instruction,
     left: Word,
     right: Word,
-) -> Option<Made>
+    made: &mut Made,
+) -> bool
     requires short { IsShort (C.width code.now) seat.ip instr.now }
     requires room { HasRoomInWord left }
-    ensures { option_map tokens_of result ≡ Rule.fire_two (C.program code.now) (seat_of seat) (instr_of instr.now) instr.now.op left right }
+    ensures { fired_by result made.new ≡ Rule.fire_two (C.program code.now) (seat_of seat) (instr_of instr.now) instr.now.op left right }
 {
     match (instr.op, left, right) {
         (Op::Apply2 { op }, Word::Val(x), Word::Val(y)) => {
             let value = apply2_at(op, x, y, instr.origin);
-            Some(to_all(seat, Word::Val(value), instr))
+            to_all(seat, Word::Val(value), instr, made);
+            true
         }
-        (Op::Sync, _, _) => Some(to_all(seat, SIGNAL, instr)),
-        (Op::Switch, _, Word::Val(value)) => Some(choose(truth(value), seat, left, instr)),
+        (Op::Sync, _, _) => {
+            to_all(seat, SIGNAL, instr, made);
+            true
+        }
+        (Op::Switch, _, Word::Val(value)) => {
+            choose(truth(value), seat, left, instr, made);
+            true
+        }
         (Op::Store { array }, Word::Val(index), Word::Val(value)) => {
-            Some(puts(code, seat, instr, array, index, value))
+            puts(code, seat, instr, array, index, value, made);
+            true
         }
         (Op::Send { block, entry }, Word::Frame(frame), _) => {
             let to = To::Instr {
@@ -418,42 +450,70 @@ fn fire_two<C: Instructions>(
                 ip: entry_at(code.entry(block), entry),
                 port: Port::Left,
             };
-            Some(and_signals(Token { to, word: right }, seat, instr))
+            and_signals(Token { to, word: right }, seat, instr, made);
+            true
         }
         (Op::Return { offset }, Word::Back(cont), Word::Val(_)) => {
             let to = beyond(cont, offset);
-            Some(and_signals(Token { to, word: right }, seat, instr))
+            and_signals(Token { to, word: right }, seat, instr, made);
+            true
         }
-        (Op::Ask { offset }, Word::Back(cont), _) => Some(one(Token {
-            to: beyond(cont, offset),
-            word: Word::Back(answer_to(seat, instr)),
-        })),
+        (Op::Ask { offset }, Word::Back(cont), _) => {
+            let to = beyond(cont, offset);
+            let word = Word::Back(answer_to(seat, instr));
+            one(Token { to, word }, made);
+            true
+        }
         (Op::Release { offset }, Word::Back(cont), _) => {
-            Some(released(beyond(cont, offset), seat.frame))
+            released(beyond(cont, offset), seat.frame, made);
+            true
         }
-        _ => None,
+        _ => false,
     }
 }
 
-fn becomes(slot: SlotState, made: Made) -> Outcome
-    ensures { outcome_by result ≡ Rule.Becomes slot (tokens_of made) }
+// The slot changes where the instruction fired.
+fn fires(slot: SlotState, fired: bool) -> Outcome
+    ensures { (made : Made) → outcome_by result made ≡ Rule.fires slot (fired_by fired made) }
 {
-    Outcome::Becomes { slot, made }
+    if fired {
+        Outcome::Becomes { slot }
+    } else {
+        Outcome::Excluded { rule: 4 }
+    }
+}
+
+// The slot changes, and nothing is made.
+fn becomes(slot: SlotState, made: &mut Made) -> Outcome
+    ensures { outcome_by result made.new ≡ Rule.Becomes slot [] }
+{
+    nothing(made);
+    Outcome::Becomes { slot }
+}
+
+// The slot changes, and one token is made.
+fn becomes_with(slot: SlotState, token: Token, made: &mut Made) -> Outcome
+    ensures { outcome_by result made.new ≡ Rule.Becomes slot (token ∷ []) }
+{
+    one(token, made);
+    Outcome::Becomes { slot }
+}
+
+// The slot changes, and a signal goes to each destination.
+fn becomes_signalled(slot: SlotState, seat: Seat, instr: &Instruction, made: &mut Made) -> Outcome
+    requires near { seat.ip < 2 ^ 30 }
+    requires first_short { IfSome instr.now.first (λ d. d.ahead < 2 ^ 30) }
+    requires second_short { IfSome instr.now.second (λ d. d.ahead < 2 ^ 30) }
+    ensures { outcome_by result made.new ≡ Rule.Becomes slot (Rule.to_all (seat_of seat) Rule.signal (instr_of instr.now)) }
+{
+    to_all(seat, SIGNAL, instr, made);
+    Outcome::Becomes { slot }
 }
 
 fn excluded(rule: u8) -> Outcome
-    ensures { outcome_by result ≡ Rule.Excluded rule }
+    ensures { (made : Made) → outcome_by result made ≡ Rule.Excluded rule }
 {
     Outcome::Excluded { rule }
-}
-
-fn fires(slot: SlotState, made: Option<Made>) -> Outcome
-    ensures { outcome_by result ≡ Rule.fires slot (option_map tokens_of made) }
-{
-    match made {
-        Some(made) => becomes(slot, made),
-        None => excluded(4),
-    }
 }
 
 // An instruction with two inputs.
@@ -464,49 +524,52 @@ fn meets<C: Instructions>(
     slot: SlotState,
     port: Port,
     word: Word,
+    made: &mut Made,
 ) -> Outcome
     requires short { IsShort (C.width code.now) seat.ip instr.now }
     requires slot_room { HasRoomInSlot slot }
     requires word_room { HasRoomInWord word }
-    ensures { outcome_by result ≡ Rule.meets (C.program code.now) (seat_of seat) (instr_of instr.now) slot port word }
+    ensures { outcome_by result made.new ≡ Rule.meets (C.program code.now) (seat_of seat) (instr_of instr.now) slot port word }
 {
     match (slot, port) {
-        (SlotState::Empty, Port::Left) => becomes(SlotState::Left(word), nothing()),
-        (SlotState::Empty, Port::Right) => becomes(SlotState::Right(word), nothing()),
+        (SlotState::Empty, Port::Left) => becomes(SlotState::Left(word), made),
+        (SlotState::Empty, Port::Right) => becomes(SlotState::Right(word), made),
         (SlotState::Left(left), Port::Right) => {
-            fires(SlotState::Empty, fire_two(code, seat, instr, left, word))
+            let fired = fire_two(code, seat, instr, left, word, made);
+            fires(SlotState::Empty, fired)
         }
         (SlotState::Right(right), Port::Left) => {
-            fires(SlotState::Empty, fire_two(code, seat, instr, word, right))
+            let fired = fire_two(code, seat, instr, word, right, made);
+            fires(SlotState::Empty, fired)
         }
         _ => excluded(3),
     }
 }
 
 // The first credits of a loop, but for the one that begins it.
-fn opens(seat: Seat, instr: &Instruction, bound: u8, slot: SlotState) -> Outcome
+fn opens(seat: Seat, instr: &Instruction, bound: u8, slot: SlotState, made: &mut Made) -> Outcome
     requires near { seat.ip < 2 ^ 30 }
     requires first_short { IfSome instr.now.first (λ d. d.ahead < 2 ^ 30) }
     requires second_short { IfSome instr.now.second (λ d. d.ahead < 2 ^ 30) }
-    ensures { outcome_by result ≡ Rule.opens (seat_of seat) (instr_of instr.now) bound slot }
+    ensures { outcome_by result made.new ≡ Rule.opens (seat_of seat) (instr_of instr.now) bound slot }
 {
     match slot {
-        SlotState::Empty => becomes(
-            SlotState::Credits(u32::from(bound).saturating_sub(1)),
-            to_all(seat, SIGNAL, instr),
-        ),
+        SlotState::Empty => {
+            let credits = u32::from(bound).saturating_sub(1);
+            becomes_signalled(SlotState::Credits(credits), seat, instr, made)
+        }
         _ => excluded(3),
     }
 }
 
 // A credit is taken, or whoever asks for it waits.
-fn takes(slot: SlotState, word: Word) -> Outcome
-    ensures { outcome_by result ≡ Rule.takes slot word }
+fn takes(slot: SlotState, word: Word, made: &mut Made) -> Outcome
+    ensures { outcome_by result made.new ≡ Rule.takes slot word }
 {
     match (slot, word) {
-        (SlotState::Credits(0), Word::Back(cont)) => becomes(SlotState::Waiter(cont), nothing()),
+        (SlotState::Credits(0), Word::Back(cont)) => becomes(SlotState::Waiter(cont), made),
         (SlotState::Credits(credits), Word::Back(cont)) => {
-            becomes(SlotState::Credits(credits - 1), one(answer(cont, SIGNAL)))
+            becomes_with(SlotState::Credits(credits - 1), answer(cont, SIGNAL), made)
         }
         (SlotState::Credits(_), _) => excluded(4),
         _ => excluded(3),
@@ -514,42 +577,42 @@ fn takes(slot: SlotState, word: Word) -> Outcome
 }
 
 // A credit comes back.
-fn gives(seat: Seat, instr: &Instruction, bound: u8, slot: SlotState) -> Outcome
+fn gives(seat: Seat, instr: &Instruction, bound: u8, slot: SlotState, made: &mut Made) -> Outcome
     requires near { seat.ip < 2 ^ 30 }
     requires first_short { IfSome instr.now.first (λ d. d.ahead < 2 ^ 30) }
     requires second_short { IfSome instr.now.second (λ d. d.ahead < 2 ^ 30) }
-    ensures { outcome_by result ≡ Rule.gives (seat_of seat) (instr_of instr.now) bound slot }
+    ensures { outcome_by result made.new ≡ Rule.gives (seat_of seat) (instr_of instr.now) bound slot }
 {
     match slot {
         SlotState::Credits(credits) => {
             if credits < u32::from(bound) {
-                becomes(SlotState::Credits(credits + 1), nothing())
+                becomes(SlotState::Credits(credits + 1), made)
             } else {
                 excluded(3)
             }
         }
-        SlotState::Waiter(cont) => becomes(SlotState::Credits(0), one(answer(cont, SIGNAL))),
+        SlotState::Waiter(cont) => becomes_with(SlotState::Credits(0), answer(cont, SIGNAL), made),
         SlotState::Draining(0) => excluded(3),
-        SlotState::Draining(1) => becomes(SlotState::Empty, to_all(seat, SIGNAL, instr)),
-        SlotState::Draining(owed) => becomes(SlotState::Draining(owed - 1), nothing()),
+        SlotState::Draining(1) => becomes_signalled(SlotState::Empty, seat, instr, made),
+        SlotState::Draining(owed) => becomes(SlotState::Draining(owed - 1), made),
         _ => excluded(3),
     }
 }
 
 // The loop has ended: the credits that are still out are waited for.
-fn drains(seat: Seat, instr: &Instruction, bound: u8, slot: SlotState) -> Outcome
+fn drains(seat: Seat, instr: &Instruction, bound: u8, slot: SlotState, made: &mut Made) -> Outcome
     requires near { seat.ip < 2 ^ 30 }
     requires first_short { IfSome instr.now.first (λ d. d.ahead < 2 ^ 30) }
     requires second_short { IfSome instr.now.second (λ d. d.ahead < 2 ^ 30) }
-    ensures { outcome_by result ≡ Rule.drains (seat_of seat) (instr_of instr.now) bound slot }
+    ensures { outcome_by result made.new ≡ Rule.drains (seat_of seat) (instr_of instr.now) bound slot }
 {
     let bound = u32::from(bound);
     match slot {
         SlotState::Credits(credits) => {
             if credits == bound {
-                becomes(SlotState::Empty, to_all(seat, SIGNAL, instr))
+                becomes_signalled(SlotState::Empty, seat, instr, made)
             } else if credits < bound {
-                becomes(SlotState::Draining(bound - credits), nothing())
+                becomes(SlotState::Draining(bound - credits), made)
             } else {
                 excluded(3)
             }
@@ -567,11 +630,12 @@ pub fn fire<C: Instructions>(
     slot: SlotState,
     port: Port,
     word: Word,
+    made: &mut Made,
 ) -> Outcome
     requires short { IsShort (C.width code.now) seat.ip instr.now }
     requires slot_room { HasRoomInSlot slot }
     requires word_room { HasRoomInWord word }
-    ensures { outcome_by result ≡ Rule.outcome_of (C.program code.now) (seat_of seat) (instr_of instr.now) instr.now.op slot port word }
+    ensures { outcome_by result made.new ≡ Rule.outcome_of (C.program code.now) (seat_of seat) (instr_of instr.now) instr.now.op slot port word }
 {
     match instr.op {
         Op::Apply2 { .. }
@@ -581,9 +645,9 @@ pub fn fire<C: Instructions>(
         | Op::Send { .. }
         | Op::Return { .. }
         | Op::Ask { .. }
-        | Op::Release { .. } => meets(code, seat, instr, slot, port, word),
+        | Op::Release { .. } => meets(code, seat, instr, slot, port, word, made),
         _ => match port {
-            Port::Left => fire_left(code, seat, instr, slot, word),
+            Port::Left => fire_left(code, seat, instr, slot, word, made),
             Port::Right => excluded(2),
         },
     }
@@ -596,18 +660,19 @@ fn fire_left<C: Instructions>(
     instr: &Instruction,
     slot: SlotState,
     word: Word,
+    made: &mut Made,
 ) -> Outcome
     requires short { IsShort (C.width code.now) seat.ip instr.now }
     requires slot_room { HasRoomInSlot slot }
     requires word_room { HasRoomInWord word }
     requires lone { TakesLeftAlone instr.now.op }
-    ensures { outcome_by result ≡ Rule.outcome_of (C.program code.now) (seat_of seat) (instr_of instr.now) instr.now.op slot Left word }
+    ensures { outcome_by result made.new ≡ Rule.outcome_of (C.program code.now) (seat_of seat) (instr_of instr.now) instr.now.op slot Left word }
 {
     match instr.op {
-        Op::Open { bound } => opens(seat, instr, bound, slot),
-        Op::Take { .. } => takes(slot, word),
-        Op::Give { bound } => gives(seat, instr, bound, slot),
-        Op::Drain { bound } => drains(seat, instr, bound, slot),
+        Op::Open { bound } => opens(seat, instr, bound, slot, made),
+        Op::Take { .. } => takes(slot, word, made),
+        Op::Give { bound } => gives(seat, instr, bound, slot, made),
+        Op::Drain { bound } => drains(seat, instr, bound, slot, made),
         Op::Apply1 { .. }
         | Op::Apply2Right { .. }
         | Op::Apply2Left { .. }
@@ -615,7 +680,10 @@ fn fire_left<C: Instructions>(
         | Op::Copy
         | Op::Fetch { .. }
         | Op::Frame
-        | Op::Link { .. } => fires(slot, fire_one(code, seat, instr, word)),
+        | Op::Link { .. } => {
+            let fired = fire_one(code, seat, instr, word, made);
+            fires(slot, fired)
+        }
         _ => unreachable!(),
     }
 }

@@ -1,6 +1,6 @@
 //! What an element holds, and what it does with a token.
 
-ghost use Rattle.std.specs.Prelude.{◌≡◌, ℕ, ◌+◌, ◌*◌, ◌%◌, ◌<◌, ◌≤◌, ◌^◌, [], ◌∷◌, ◌++◌, length, All, OnOk, OnErr, IfOk, IfSome, IfNone, Some, None, IsSome, replicate, vec_len, option_to_list, slice_index_or, remove};
+ghost use Rattle.std.specs.Prelude.{◌≡◌, ℕ, ◌+◌, ◌*◌, ◌%◌, ◌<◌, ◌≤◌, ◌^◌, [], ◌∷◌, ◌++◌, ◌/◌, ◌==◌, length, All, OnOk, OnErr, IfOk, IfSome, IfNone, Some, None, IsSome, replicate, vec_len, option_to_list, slice_index_or, remove};
 ghost use Rattle.std.specs.Vec.{vec_capacity};
 ghost use Rattle.std.specs.VecDeque.{deque_len, deque_capacity};
 ghost use Rattle.tags.specs.declared.token.Token.{Token};
@@ -22,7 +22,7 @@ ghost use Rattle.element.specs.Openings.{opened, shape_at, IsOpening, StartsAs};
 ghost use Rattle.element.specs.Changed.{with_state, with_state_in, state_in, UsesSlot, OwnsCell, IsHostChange, CanFill, filled, IsRequested, IsReleased};
 ghost use Rattle.element.specs.Fired.{tokens_of};
 
-use crate::firing::{Made, Outcome, Seat, answer, fire};
+use crate::firing::{Made, NONE, Outcome, Seat, answer, fire};
 use crate::instructions::{Instruction, Instructions};
 use arrayvec::ArrayVec;
 use frame_manager::{Manager, NotOut};
@@ -67,6 +67,20 @@ pub struct Lane<'m, A: Allocator> {
     pub made: u64,
     /// The readers that a store answers; empty between the events.
     pub answered: Vec<Cont, A>,
+}
+
+// Which one of so many a pick names.
+#[tactic(auto, using(crate::proofs::Quotients::below))]
+fn among(pick: u64, count: usize) -> usize
+    requires { 0 < count }
+    ensures exact { result ≡ pick % count }
+    ensures within { result < count }
+{
+    let count = count as u64;
+    if pick < count {
+        return pick as usize;
+    }
+    (pick % count) as usize
 }
 
 // So many outputs that are not filled.
@@ -132,7 +146,8 @@ impl<'m, A: Allocator> Lane<'m, A> {
         if waiting == 0 {
             return None;
         }
-        Some(self.queue[(pick % waiting as u64) as usize])
+        let at = among(pick, waiting);
+        Some(self.queue[at])
     }
 
     // Makes room for so many tokens. After an error all stands as before.
@@ -154,8 +169,36 @@ impl<'m, A: Allocator> Lane<'m, A> {
         ensures len { deque_len self.new.queue ≤ deque_len self.old.queue }
         ensures capacity { deque_capacity self.new.queue ≡ deque_capacity self.old.queue }
     {
-        let _ = self.queue.remove(at);
+        if at == 0 {
+            let _ = self.queue.pop_front();
+        } else {
+            let _ = self.queue.remove(at);
+        }
         self.made += 1;
+    }
+
+    // Whether this element takes tokens with this address.
+    #[tactic(auto, using(crate::proofs::Quotients::served_alone))]
+    fn serves(&self, to: &To) -> bool
+        requires some { 0 < self.now.elements }
+        ensures { result ≡ (element_of self.now.elements to.now == self.now.element) }
+    {
+        if self.elements == 1 {
+            return 0 == self.element;
+        }
+        to.element(self.elements) == self.element
+    }
+
+    // The place of a frame that lies here among those that do.
+    #[tactic(auto, using(crate::proofs::Quotients::alone))]
+    fn own_frame(&self, frame: FrameId) -> usize
+        requires some { 0 < self.now.elements }
+        ensures { result ≡ frame / self.now.elements }
+    {
+        if self.elements == 1 {
+            return frame as usize;
+        }
+        (frame / self.elements) as usize
     }
 
     // Puts a token last into the queue, or last among those for other elements.
@@ -170,7 +213,7 @@ impl<'m, A: Allocator> Lane<'m, A> {
         ensures sent_len { vec_len sent.new ≤ vec_len sent.old + 1 }
         ensures sent_capacity { vec_capacity sent.new ≡ vec_capacity sent.old }
     {
-        if token.to.element(self.elements) == self.element {
+        if self.serves(&token.to) {
             self.queue.push_back_reserved(token);
         } else {
             sent.push_reserved(token);
@@ -194,12 +237,12 @@ impl<'m, A: Allocator> Lane<'m, A> {
     }
 
     // Sends what an instruction made, in order.
-    fn send_all(&mut self, made: Made, sent: &mut Vec<Token, A>)
+    fn send_all(&mut self, made: &Made, sent: &mut Vec<Token, A>)
         requires some { 0 < self.old.elements }
         requires room { deque_len self.old.queue + 3 ≤ deque_capacity self.old.queue }
         requires sent_room { vec_len sent.old + 3 ≤ vec_capacity sent.old }
-        ensures held { held_of self.new ≡ queued (held_of self.old) (tokens_of made) }
-        ensures sent { sent.new.items ≡ sent.old.items ++ elsewhere (shape_of self.old) (tokens_of made) }
+        ensures held { held_of self.new ≡ queued (held_of self.old) (tokens_of made.now) }
+        ensures sent { sent.new.items ≡ sent.old.items ++ elsewhere (shape_of self.old) (tokens_of made.now) }
     {
         self.send_some(made.first, sent);
         self.send_some(made.second, sent);
@@ -231,8 +274,7 @@ impl<'m, A: Allocator> Lane<'m, A> {
         requires slot { slot < self.now.bank.width }
         ensures { result ≡ slice_index_or (part_of self.now).states (slot_place (shape_of self.now) frame slot) Empty }
     {
-        self.bank
-            .state((frame / self.elements) as usize, slot as usize)
+        self.bank.state(self.own_frame(frame), slot as usize)
     }
 
     fn set_slot(&mut self, frame: FrameId, slot: u32, state: SlotState)
@@ -243,8 +285,8 @@ impl<'m, A: Allocator> Lane<'m, A> {
         ensures held { held_of self.new ≡ with_part (held_of self.old) (with_state (part_of self.old) (slot_place (shape_of self.old) frame slot) state) }
         ensures queue { self.new.queue ≡ self.old.queue }
     {
-        self.bank
-            .set((frame / self.elements) as usize, slot as usize, state);
+        let own = self.own_frame(frame);
+        self.bank.set(own, slot as usize, state);
     }
 
     fn at_instruction<C: Instructions>(
@@ -269,15 +311,16 @@ impl<'m, A: Allocator> Lane<'m, A> {
             return Stepped::Stuck { rule: 1 };
         };
         let slot = self.slot_of(seat.frame, &instr);
-        match fire(code, seat, &instr, slot, port, token.word) {
+        let mut made = NONE;
+        match fire(code, seat, &instr, slot, port, token.word, &mut made) {
             Outcome::Excluded { rule } => Stepped::Stuck { rule },
-            Outcome::Becomes { slot, made } => {
+            Outcome::Becomes { slot } => {
                 if self.make_room(3, sent).is_err() {
                     return Stepped::Memory;
                 }
                 self.keep(seat.frame, &instr, slot);
                 self.take(at);
-                self.send_all(made, sent);
+                self.send_all(&made, sent);
                 Stepped::Did
             }
         }
@@ -554,7 +597,7 @@ impl<'m, A: Allocator> Lane<'m, A> {
         if waiting == 0 {
             return Stepped::Idle;
         }
-        let at = (pick % waiting as u64) as usize;
+        let at = among(pick, waiting);
         let token = self.queue[at];
         self.act(code, at, token, sent)
     }

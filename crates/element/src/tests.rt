@@ -3,13 +3,20 @@
 ghost use Rattle.std.specs.Prelude.{◌≡◌, true, [], ◌∷◌};
 ghost use Rattle.element.specs.Fired.{HasRoom, HasRoomInWord, HasRoomInSlot};
 
-use crate::firing::{Made, Outcome, Seat, fire};
+use crate::firing::{Made, NONE, Outcome, Seat, fire};
 use crate::instructions::{Array, Instruction, Instructions};
 use operators::{Binary, Unary};
 use semantics::program::{Dest, Op};
 use tags::slot::SlotState;
 use tags::token::{Cont, Port, To, Token, Word};
 use tags::value::{FaultKind, Origin, Value};
+
+/// What came of a token at an instruction.
+#[derive(Clone, Copy, Debug, PartialEq, Eq)]
+enum Came {
+    Becomes { slot: SlotState, made: Made },
+    Excluded { rule: u8 },
+}
 
 // An instruction without a program: what it makes goes to the next one's left port and to the second next one's.
 struct NoProgram;
@@ -64,14 +71,14 @@ fn slot_has_room(slot: SlotState) -> bool
     }
 }
 
-fn fired(op: Op, slot: &SlotState, port: Port, word: &Word) -> Outcome {
+fn fired(op: Op, slot: &SlotState, port: Port, word: &Word) -> Came {
     let held = *slot;
     let came = *word;
     if !slot_has_room(held) {
-        return Outcome::Excluded { rule: 0 };
+        return Came::Excluded { rule: 0 };
     }
     if !word_has_room(came) {
-        return Outcome::Excluded { rule: 0 };
+        return Came::Excluded { rule: 0 };
     }
     let instr = Instruction {
         op,
@@ -86,18 +93,24 @@ fn fired(op: Op, slot: &SlotState, port: Port, word: &Word) -> Outcome {
             port: Port::Left,
         }),
     };
-    fire(
+    let mut made = NONE;
+    let outcome = fire(
         &NoProgram,
         Seat { frame: 2, ip: 1 },
         &instr,
         *slot,
         port,
         *word,
-    )
+        &mut made,
+    );
+    match outcome {
+        Outcome::Becomes { slot } => Came::Becomes { slot, made },
+        Outcome::Excluded { rule } => Came::Excluded { rule },
+    }
 }
 
-fn becomes(slot: SlotState, first: Option<Token>, second: Option<Token>) -> Outcome {
-    Outcome::Becomes {
+fn becomes(slot: SlotState, first: Option<Token>, second: Option<Token>) -> Came {
+    Came::Becomes {
         slot,
         made: Made {
             first,
@@ -150,19 +163,19 @@ fn both(word: &Word) -> Made {
     }
 }
 
-fn to_both(word: &Word) -> Outcome {
-    Outcome::Becomes {
+fn to_both(word: &Word) -> Came {
+    Came::Becomes {
         slot: SlotState::Empty,
         made: both(word),
     }
 }
 
-fn only(slot: SlotState, first: Option<Token>) -> Outcome {
+fn only(slot: SlotState, first: Option<Token>) -> Came {
     becomes(slot, first, None)
 }
 
-fn with_signals(token: Token) -> Outcome {
-    Outcome::Becomes {
+fn with_signals(token: Token) -> Came {
+    Came::Becomes {
         slot: SlotState::Empty,
         made: Made {
             first: Some(token),
@@ -172,25 +185,25 @@ fn with_signals(token: Token) -> Outcome {
     }
 }
 
-fn becomes_both(slot: SlotState) -> Outcome {
-    Outcome::Becomes {
+fn becomes_both(slot: SlotState) -> Came {
+    Came::Becomes {
         slot,
         made: both(&value(0)),
     }
 }
 
 // The instruction's slot is empty, and the word comes on its left port.
-fn alone(op: Op, word: &Word) -> Outcome {
+fn alone(op: Op, word: &Word) -> Came {
     fired(op, &SlotState::Empty, Port::Left, word)
 }
 
 // The left word waits, and the right one comes.
-fn met(op: Op, left: Word, right: &Word) -> Outcome {
+fn met(op: Op, left: Word, right: &Word) -> Came {
     fired(op, &SlotState::Left(left), Port::Right, right)
 }
 
 // A signal comes to a credit instruction.
-fn signalled(op: Op, slot: &SlotState) -> Outcome {
+fn signalled(op: Op, slot: &SlotState) -> Came {
     fired(op, slot, Port::Left, &value(0))
 }
 
@@ -228,19 +241,19 @@ fn applies_to_one_value(rt: HostRuntime) {
 fn refuses_a_right_token_and_a_wrong_word(rt: HostRuntime) {
     assert_eq!(rt;
         fired(Op::Copy, &SlotState::Empty, Port::Right, &host(0)),
-        Outcome::Excluded { rule: 2 }
+        Came::Excluded { rule: 2 }
     );
     assert_eq!(rt;
         alone(Op::Apply1 { op: Unary::Neg }, &host(0)),
-        Outcome::Excluded { rule: 4 }
+        Came::Excluded { rule: 4 }
     );
     assert_eq!(rt;
         alone(Op::Link { block: 0 }, &value(5)),
-        Outcome::Excluded { rule: 4 }
+        Came::Excluded { rule: 4 }
     );
     assert_eq!(rt;
         met(Op::Return { offset: 2 }, host(1), &host(6)),
-        Outcome::Excluded { rule: 4 }
+        Came::Excluded { rule: 4 }
     );
 }
 
@@ -333,7 +346,7 @@ fn meets_two_words(rt: HostRuntime) {
     );
     assert_eq!(rt;
         fired(Op::Sync, &SlotState::Right(host(0)), Port::Right, &value(4)),
-        Outcome::Excluded { rule: 3 }
+        Came::Excluded { rule: 3 }
     );
 }
 
@@ -389,7 +402,7 @@ fn opens_and_takes_credits(rt: HostRuntime) {
     );
     assert_eq!(rt;
         signalled(Op::Open { bound: 2 }, &SlotState::Credits(1)),
-        Outcome::Excluded { rule: 3 }
+        Came::Excluded { rule: 3 }
     );
     assert_eq!(rt;
         fired(
@@ -411,7 +424,7 @@ fn opens_and_takes_credits(rt: HostRuntime) {
     );
     assert_eq!(rt;
         signalled(Op::Take { bound: 2 }, &SlotState::Credits(0)),
-        Outcome::Excluded { rule: 4 }
+        Came::Excluded { rule: 4 }
     );
 }
 
@@ -430,7 +443,7 @@ fn gives_credits_back(rt: HostRuntime) {
     );
     assert_eq!(rt;
         signalled(Op::Give { bound: 2 }, &SlotState::Credits(2)),
-        Outcome::Excluded { rule: 3 }
+        Came::Excluded { rule: 3 }
     );
     assert_eq!(rt;
         signalled(Op::Give { bound: 2 }, &SlotState::Draining(2)),
@@ -454,6 +467,6 @@ fn drains_credits(rt: HostRuntime) {
     );
     assert_eq!(rt;
         signalled(Op::Drain { bound: 2 }, &SlotState::Empty),
-        Outcome::Excluded { rule: 3 }
+        Came::Excluded { rule: 3 }
     );
 }

@@ -1,5 +1,5 @@
 -- The report of a machine shows a run.
-use Rattle.std.proofs.Common.{◌≡◌, refl, sym, ◌∙◌, ap, subst, ℕ, zero, suc, ◌*◌, ◌<◌, ◌≤◌, Bool, false, ℤ, List, [], length, map, drop, replicate, Option, None, arith}
+use Rattle.std.proofs.Common.{◌≡◌, refl, sym, ◌∙◌, ap, subst, ℕ, zero, suc, ◌*◌, ◌<◌, ◌≤◌, Bool, false, ℤ, List, [], length, map, drop, replicate, Option, None, arith, inl, inr}
 use Rattle.std.specs.Prelude.{◌==◌}
 use Rattle.std.proofs.Math.Dec.{eqb-suc-zero}
 use Rattle.std.proofs.Math.Nat.{one-le-mul}
@@ -21,12 +21,13 @@ use Rattle.schedule.specs.declared.elements.Elements.{Elements}
 use Rattle.schedule.specs.declared.halt.Halt.{Halt}
 use Rattle.schedule.specs.Setting.{size, total}
 use Rattle.schedule.specs.State.{State, IsPlaced, IsSoundState, Stands, IsWell, state_of}
-use Rattle.schedule.specs.Runs.{HaltsAs, NamesCell}
-use Rattle.schedule.specs.Told.{TellsLanes, opening_picture}
+use Rattle.schedule.specs.Runs.{Kept, Began, HaltsAs, NamesCell}
+use Rattle.schedule.specs.Told.{TellsLanes, opening_picture, IsReportOf, Reports}
+use Rattle.schedule.specs.Unlisted.{with_events, ShowsQuietly}
 use Rattle.schedule.proofs.Places.{first_get, to_map}
 use Rattle.schedule.proofs.Memory.{lane_count}
 use Rattle.schedule.proofs.Pictures.{IsKnown, known_lanes, pictured}
-use Rattle.schedule.proofs.Showing.{picked}
+use Rattle.schedule.proofs.Showing.{picked, shows_here}
 
 nothing : (n : ℕ) (f : ℕ → ℕ) → ((x : ℕ) → f x ≡ 0) → sum_below n f ≡ 0
 nothing zero f none = refl
@@ -105,3 +106,38 @@ clash_cell s listed Halt.Memory sound halts = tt
 pub opening_is : (n : ℕ) (outputs : List (Option Value)) (cells : List (ℕ × Value)) (evs : Events) → outputs ≡ replicate n None → cells ≡ [] → evs ≡ []
     → (let r : Report = record { end = End.Memory; outputs = outputs; cells = cells; deferred = 0; waiting_frames = 0; waiting_credits = 0; frames_out = 1; events = evs } in r) ≡ opening_picture n
 opening_is n outputs cells evs o c e = λ i. record { end = End.Memory; outputs = o i; cells = c i; deferred = 0; waiting_frames = 0; waiting_credits = 0; frames_out = 1; events = e i }
+
+-- the report of elements is one of the machine with these events
+pub told_of : {C A : Type 0} (program : C → Program) (width : C → ℕ) (m : Elements C A) (list : Events) (halt : Halt) (r : Report) → Reports program width m list halt r
+    → (let k : Kept = record { state = state_of program width m; events = list } in IsReportOf k halt r)
+told_of program width m list halt r (inl is) = inl is
+told_of program width m list halt r (inr (has, ends, told)) = inr (has, ends)
+
+-- with the events of a run, or with none, it shows that run
+pub shows_reported : {C A : Type 0} (program : C → Program) (width : C → ℕ) (m : Elements C A) (list : Events) (halt : Halt) (r : Report) → IsWell program width m → Reports program width m list halt r
+    → (inputs : List ℤ) (listed : Bool) (evs : Events) → Began inputs (state_of program width m) evs → HaltsAs (state_of program width m) listed halt
+    → (shown : Events) × Shows (state_of program width m).setting.program (size (state_of program width m).setting) inputs (state_of program width m).setting.steps listed false (with_events r shown) × (list ≡ evs → r.events ≡ shown)
+shows_reported program width m list halt r well (inl is) inputs listed evs began halts =
+    let s = state_of program width m in
+    let shown = shows_opening s inputs listed (outputs_of s.setting.program) well.sound refl in
+    ([], subst (λ (x : Report). Shows s.setting.program (size s.setting) inputs s.setting.steps listed false (with_events x [])) (sym is) shown, λ same. ap (λ (x : Report). x.events) is)
+shows_reported program width m list halt r well (inr (has, ends, told)) inputs listed evs began halts =
+    let s = state_of program width m in
+    let picture = memory_pictured program width m began.machine (with_events r evs) well began.stands told in
+    (evs, shows_here inputs s evs listed halt (with_events r evs) well.sound began halts ends refl picture, λ same. has ∙ same)
+
+unlisted : {C A : Type 0} (program : C → Program) (width : C → ℕ) (m : Elements C A) (list : Events) (halt : Halt) (r : Report) → Reports program width m list halt r → list ≡ [] → r.events ≡ []
+unlisted program width m list halt r (inl is) none = ap (λ (x : Report). x.events) is
+unlisted program width m list halt r (inr (has, ends, told)) none = has ∙ none
+
+-- with no events listed there is a run that it shows
+pub shows_quietly : {C A : Type 0} (program : C → Program) (width : C → ℕ) (m : Elements C A) (list : Events) (halt : Halt) (r : Report) → IsWell program width m → Reports program width m list halt r → list ≡ []
+    → (inputs : List ℤ) (listed : Bool) (evs : Events) → Began inputs (state_of program width m) evs → HaltsAs (state_of program width m) listed halt
+    → ShowsQuietly (state_of program width m).setting.program (size (state_of program width m).setting) inputs (state_of program width m).setting.steps listed false r
+shows_quietly program width m list halt r well reported none inputs listed evs began halts =
+    let found = shows_reported program width m list halt r well reported inputs listed evs began halts in
+    record {
+      unlisted = unlisted program width m list halt r reported none;
+      events = found.0;
+      shows = found.1;
+    }

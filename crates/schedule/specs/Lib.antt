@@ -4,3 +4,4 @@ pub mod Steps
 pub mod Runs
 pub mod Starts
 pub mod Told
+pub mod Unlisted

@@ -1,11 +1,12 @@
 -- What a report tells of lanes.
-use Rattle.std.specs.Prelude.{◌≡◌, ℕ, zero, suc, ◌%◌, List, [], ◌∷◌, ◌++◌, length, Option, Some, None, slice_get, slice_index_or, sum, replicate, ◌⊎◌}
+use Rattle.std.specs.Prelude.{◌≡◌, ℕ, zero, suc, ◌%◌, List, [], ◌∷◌, ◌++◌, length, Option, Some, None, slice_get, slice_index_or, sum, replicate, ◌⊎◌, map}
 use Rattle.tags.specs.declared.value.Value.{Value}
 use Rattle.tags.specs.declared.slot.SlotState.{SlotState}
 use Rattle.tags.specs.declared.slot.SlotState.TheVariants.{Empty}
 use Rattle.semantics.specs.declared.report.End.{End}
 use Rattle.semantics.specs.Report.{Report, sum_below, waiters}
-use Rattle.semantics.specs.Machine.{outputs_of}
+use Rattle.semantics.specs.Program.{Program}
+use Rattle.semantics.specs.Machine.{Events, outputs_of}
 use Rattle.schedule.specs.declared.halt.Halt.{Halt}
 use Rattle.schedule.specs.Runs.{Kept, EndsAs}
 use Rattle.schedule.specs.Setting.{Setting, total}
@@ -13,7 +14,9 @@ use Rattle.istructure.specs.OwnCells.{value_at, cell_at, readers_in}
 use Rattle.frame_manager.specs.Managed.{Managed}
 use Rattle.frame_manager.specs.Flags.{out_count}
 use Rattle.element.specs.Parts.{slot_place}
-use Rattle.element.specs.Held.{Held}
+use Rattle.element.specs.Held.{Held, held_of}
+use Rattle.schedule.specs.declared.elements.Elements.{Elements}
+use Rattle.schedule.specs.State.{state_of}
 
 abbrev pub value_of : ℕ → Option Held → Option Value
 value_of x None = None
@@ -81,3 +84,11 @@ opening_picture outputs = record { end = End.Memory; outputs = replicate outputs
 -- The report has the events and the end; where its own lists were refused it is that of the machine before its first event.
 abbrev pub IsReportOf : Kept → Halt → Report → Type 0
 IsReportOf k halt r = (r ≡ opening_picture (outputs_of k.state.setting.program)) ⊎ ((r.events ≡ k.events) × EndsAs k.state.setting.program r halt)
+
+-- The report of elements in memory: it has these events and the end, and tells what they hold; or its own lists were
+-- refused.
+abbrev pub Reports : {C A : Type 0} → (C → Program) → (C → ℕ) → Elements C A → Events → Halt → Report → Type 0
+Reports program width m evs halt r =
+    (r ≡ opening_picture (outputs_of (program m.code.now)))
+    ⊎ ((r.events ≡ evs) × EndsAs (program m.code.now) r halt
+    × TellsLanes (state_of program width m).setting (map held_of m.lanes.items) r.outputs r.cells r.deferred r.waiting_frames r.waiting_credits r.frames_out)

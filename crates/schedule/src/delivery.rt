@@ -28,9 +28,8 @@ pub fn receive<A: Allocator>(
     lane.receive(token)
 }
 
-/// Lets the tokens that are on their way come, from the first that has not come on. After an error the others are still
-/// on their way.
-pub fn deliver<A: Allocator>(
+// Lets them come one by one.
+fn deliver_all<A: Allocator>(
     lanes: &mut Vec<Lane<'_, A>, A>,
     elements: u32,
     sent: &mut Vec<Token, A>,
@@ -59,6 +58,31 @@ pub fn deliver<A: Allocator>(
     sent.clear();
     *come = 0;
     Ok(())
+}
+
+/// Lets the tokens that are on their way come, from the first that has not come on. After an error the others are still
+/// on their way.
+#[inline(always)]
+pub fn deliver<A: Allocator>(
+    lanes: &mut Vec<Lane<'_, A>, A>,
+    elements: u32,
+    sent: &mut Vec<Token, A>,
+    come: &mut usize,
+) -> Result<(), AllocError>
+    requires some { 0 < elements }
+    requires count { length lanes.old.items ≡ elements }
+    requires at { AllFrom (IsAt elements) 0 (map held_of lanes.old.items) }
+    requires come { come.old ≤ length sent.old.items }
+    ensures same { lanes_of lanes.new.items (drop come.new sent.new.items) ≡ lanes_of lanes.old.items (drop come.old sent.old.items) }
+    ensures sent { OnOk result (sent.new.items ≡ []) }
+    ensures come { OnOk result (come.new ≡ 0) }
+    ensures within { come.new ≤ length sent.new.items }
+    ensures count { length lanes.new.items ≡ length lanes.old.items }
+{
+    if sent.is_empty() {
+        return Ok(());
+    }
+    deliver_all(lanes, elements, sent, come)
 }
 
 /// Whether some of the tokens from the place on is for the element.

@@ -12,4 +12,6 @@ mod log;
 pub mod machine;
 pub mod main_code;
 mod opening;
+pub mod quiet;
 pub mod report;
+mod reporting;

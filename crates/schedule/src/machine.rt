@@ -7,27 +7,25 @@ ghost use Rattle.schedule.specs.Setting.{inputs_of};
 ghost use Rattle.schedule.specs.State.{AllFrom, IsAt, delivered};
 ghost use Rattle.schedule.specs.Starts.{IsGood, IsCause, Opens, setting_of, start_tokens};
 ghost use Rattle.schedule.specs.Steps.{Steps};
-ghost use Rattle.schedule.specs.Runs.{Kept, Began, Plays, HaltsAs, EndsWith, NamesCell, rounds_of};
+ghost use Rattle.schedule.specs.Runs.{Kept, Began, Plays, HaltsAs, NamesCell, rounds_of};
 ghost use Rattle.schedule.specs.declared.halt.Halt.{Halt};
 ghost use Rattle.schedule.specs.Told.{IsReportOf};
 ghost use Rattle.semantics.specs.Report.{Shows};
 ghost use Rattle.schedule.specs.Setting.{size};
-ghost use Rattle.schedule.specs.State.{state_of, IsWell};
-ghost use Rattle.schedule.specs.Told.{TellsLanes, opening_picture};
+ghost use Rattle.schedule.specs.State.{State};
+ghost use Rattle.schedule.specs.Unlisted.{ShowsQuietly, without_events};
 
 use crate::config::{Config, StartFault};
 use crate::delivery::receive;
-use crate::elements::{Elements, Told};
+use crate::elements::Elements;
 use crate::halt::Halt;
-use crate::locating::locate;
-use crate::log::NoLog;
 use crate::main_code::MainCode;
 use crate::opening::fresh_lanes;
+use crate::quiet::Quiet;
 use crate::report::Report;
-use arrayvec::ArrayVec;
+use crate::reporting::report_of;
 use element::lane::{Lane, Stepped};
 use frame_store::store::Store;
-use semantics::report::End;
 use std::alloc::{AllocError, Allocator};
 use std::marker::Model;
 use tags::token::{Cont, Port, To, Token, Word};
@@ -235,20 +233,7 @@ impl<'m, C: MainCode, A: Allocator> Machine<'m, C, A> {
             events,
             alloc,
         } = self;
-        let code = elements.code;
-        match tell(elements, &alloc) {
-            Ok(told) => Report {
-                end: end_of(code, halt, told.requests, told.credits),
-                outputs: told.outputs,
-                cells: told.cells,
-                deferred: told.deferred,
-                waiting_frames: told.requests,
-                waiting_credits: told.credits,
-                frames_out: told.out,
-                events,
-            },
-            Err(_) => opening_report(alloc, code.outputs(), events),
-        }
+        report_of(elements, events, alloc, halt)
     }
 
     /// Makes one step for each element and pick of the list, in order, and reports. It stops early where no token is left,
@@ -284,103 +269,26 @@ impl<'m, C: MainCode, A: Allocator> Machine<'m, C, A> {
     {
         let Machine {
             elements,
-            events: _,
+            events,
             alloc,
         } = self;
-        Quiet { elements, alloc }
-    }
-}
-
-// How a run ends that halts so, with so many requests that wait.
-fn end_of<C: MainCode>(code: &C, halt: Halt, frames: u64, credits: u64) -> End
-    requires { NamesCell (C.program code.now) halt }
-    ensures { EndsWith (C.program code.now) result frames credits halt }
-{
-    match halt {
-        Halt::NoToken => {
-            if frames == 0 && credits == 0 {
-                End::Rest
-            } else {
-                End::Starved
-            }
+        Quiet {
+            elements,
+            events,
+            alloc,
         }
-        Halt::Clash { cell } => match locate(code, cell) {
-            Some(place) => End::Clash {
-                array: place.array,
-                index: place.index,
-            },
-            None => unreachable!(),
-        },
-        Halt::Steps => End::Steps,
-        Halt::Stuck { rule } => End::Stuck { rule },
-        Halt::Memory => End::Memory,
     }
-}
 
-// The report of the machine before its first event, which is refused memory.
-fn opening_report<A: Allocator>(
-    alloc: A,
-    outputs: u32,
-    mut events: Vec<(u32, Token), A>,
-) -> Report<A>
-    requires { outputs ≤ 16 }
-    ensures { result ≡ opening_picture outputs }
-{
-    let mut none = ArrayVec::from([None; 16]);
-    none.truncate(outputs as usize);
-    events.clear();
-    Report {
-        end: End::Memory,
-        outputs: none,
-        cells: Vec::new(alloc),
-        deferred: 0,
-        waiting_frames: 0,
-        waiting_credits: 0,
-        frames_out: 1,
-        events,
-    }
-}
-
-fn tell<C: MainCode, A: Allocator>(
-    elements: Elements<'_, C, A>,
-    alloc: &A,
-) -> Result<Told<A>, AllocError>
-where
-    A: Clone,
-    requires { IsWell C.program C.width elements }
-    ensures { IfOk result (λ told. TellsLanes (state_of C.program C.width elements.entry).setting (map held_of elements.entry.lanes.items) told.outputs.items told.cells.items told.deferred told.requests told.credits told.out) }
-{
-    elements.tell(alloc.clone()?)
-}
-
-/// A machine that keeps no list of its events: it takes no more memory for a long run than for a short one. Contracts see
-/// what its lanes hold.
-#[derive(Drop)]
-pub struct Quiet<'m, C: MainCode, A: Allocator> {
-    elements: Elements<'m, C, A>,
-    alloc: A,
-}
-
-impl<'m, C: MainCode, A: Allocator> Model for Quiet<'m, C, A> {
-    ghost use Rattle.schedule.specs.State.{State, state_of, IsWell};
-
-    ghost Value = { State };
-
-    ghost view = { λ m. state_of C.program C.width m.elements };
-
-    ghost invariant = { λ m. IsWell C.program C.width m.elements };
-}
-
-impl<'m, C: MainCode, A: Allocator> Quiet<'m, C, A> {
-    /// As `Machine::play_in_turn`: there is a run with the events that it made.
-    pub fn play_in_turn(&mut self) -> Halt
+    /// As `run_one`, but the report lists no events: there is a run that it shows. A long run takes no more memory than a
+    /// short one.
+    pub fn run_quietly(self) -> Report<A>
     where
         A: Clone,
-        ensures plays { (rounds : ℕ) × (made : Events) × Plays false (rounds_of rounds self.old.setting.elements) self.old self.new result made × ((inputs : List ℤ) (before : Events) → Began inputs self.old before → Began inputs self.new (before ++ made)) }
-        ensures halts { HaltsAs self.new false result }
-        ensures setting { self.new.setting ≡ self.old.setting }
-        ensures cell { NamesCell self.new.setting.program result }
+        ensures plays { (last : State) × (halt : Halt) × (rounds : ℕ) × (made : Events) × Plays false (rounds_of rounds self.entry.state.setting.elements) self.entry.state last halt made × IsReportOf (without_events last) halt result }
+        ensures shows { (inputs : List ℤ) → Began inputs self.entry.state self.entry.events → ShowsQuietly self.entry.state.setting.program (size self.entry.state.setting) inputs self.entry.state.setting.steps false false result }
     {
-        self.elements.play_in_turn(&mut NoLog)
+        let mut quiet = self.without_events();
+        let halt = quiet.play_in_turn();
+        quiet.report(halt)
     }
 }

@@ -21,7 +21,7 @@ returns-else-is_err g c =
     let same : mid ≡ old = c.make_room.ensures.held in
     let i = c.in-Some.instr in
     let v = c.in-Becomes.slot in
-    let made = tokens_of c.in-Becomes.made in
+    let made = tokens_of c.fire.new.made in
     let changes = instructed p (g.C.Instructions.width c.args.code.now) old.part c.args.token c.args.seat.frame c.args.seat.ip c.args.port i v made c.slot_of-slot.result c.requires.sound.part c.requires.width c.requires.address c.requires.near c.requires.addressed
     c.in-Some.ensures.short (sym c.in-Some.ensures.exact) c.slot_of-slot.ensures (sym c.in-Becomes.ensures) in
     let second = c.take.ensures.held ∙ ap (λ (m : Held). taken m c.args.at) c.keep.ensures.held ∙ ap (λ (m : Held). taken (with_part mid (with_state_in m.part c.args.seat.frame (slot_of (instr_of i) i.op) v)) c.args.at) same in

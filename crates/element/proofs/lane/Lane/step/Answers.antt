@@ -1,4 +1,4 @@
-use Rattle.std.proofs.Common.{◌≡◌, subst, ℕ, ◌<◌, ◌%◌, length, get_or, arith}
+use Rattle.std.proofs.Common.{◌≡◌, ◌∙◌, ap, subst, ℕ, ◌<◌, ◌%◌, length, get_or, arith}
 use Rattle.std.proofs.lemmas.Grind.{common_steps}
 use Rattle.element.specs.Held.{Held, held_of}
 use Rattle.element.specs.Acts.{ActsAs}
@@ -14,7 +14,7 @@ returns-clause-exact g c =
     let is : c.index-token.result.now ≡ get_or old.queue (place_of old c.args.pick) c.index-token.result.now = grind (arith, common_steps) in
     let count : c.len-waiting.result ≡ length old.queue = grind (arith, common_steps) in
     let acts : ActsAs p old (place_of old c.args.pick) c.index-token.result.now c.args.sent.now.items c.act.result (held_of c.act.new.self) c.act.new.sent.items
-    = subst (λ (n : ℕ). ActsAs p old (c.args.pick % n) c.index-token.result.now c.args.sent.now.items c.act.result (held_of c.act.new.self) c.act.new.sent.items) count c.act.ensures in
+    = subst (λ (n : ℕ). ActsAs p old n c.index-token.result.now c.args.sent.now.items c.act.result (held_of c.act.new.self) c.act.new.sent.items) (c.among-at.ensures.exact ∙ ap (λ (n : ℕ). c.args.pick % n) count) c.act.ensures in
     steps_as p old c.args.pick c.index-token.result.now c.args.sent.now.items c.requires.sound some is c.act.result (held_of c.act.new.self) c.act.new.sent.items acts
 
 pub returns-clause-sound : goal.returns-clause-sound
@@ -25,7 +25,7 @@ returns-clause-sound g c =
     let is : c.index-token.result.now ≡ get_or old.queue (place_of old c.args.pick) c.index-token.result.now = grind (arith, common_steps) in
     let count : c.len-waiting.result ≡ length old.queue = grind (arith, common_steps) in
     let acts : ActsAs p old (place_of old c.args.pick) c.index-token.result.now c.args.sent.now.items c.act.result (held_of c.act.new.self) c.act.new.sent.items
-    = subst (λ (n : ℕ). ActsAs p old (c.args.pick % n) c.index-token.result.now c.args.sent.now.items c.act.result (held_of c.act.new.self) c.act.new.sent.items) count c.act.ensures in
+    = subst (λ (n : ℕ). ActsAs p old n c.index-token.result.now c.args.sent.now.items c.act.result (held_of c.act.new.self) c.act.new.sent.items) (c.among-at.ensures.exact ∙ ap (λ (n : ℕ). c.args.pick % n) count) c.act.ensures in
     sound_as p old c.args.pick c.index-token.result.now c.args.sent.now.items c.requires.sound some is c.act.result (held_of c.act.new.self) c.act.new.sent.items acts
 
 pub returns-clause-shape : goal.returns-clause-shape
@@ -36,7 +36,7 @@ returns-clause-shape g c =
     let is : c.index-token.result.now ≡ get_or old.queue (place_of old c.args.pick) c.index-token.result.now = grind (arith, common_steps) in
     let count : c.len-waiting.result ≡ length old.queue = grind (arith, common_steps) in
     let acts : ActsAs p old (place_of old c.args.pick) c.index-token.result.now c.args.sent.now.items c.act.result (held_of c.act.new.self) c.act.new.sent.items
-    = subst (λ (n : ℕ). ActsAs p old (c.args.pick % n) c.index-token.result.now c.args.sent.now.items c.act.result (held_of c.act.new.self) c.act.new.sent.items) count c.act.ensures in
+    = subst (λ (n : ℕ). ActsAs p old n c.index-token.result.now c.args.sent.now.items c.act.result (held_of c.act.new.self) c.act.new.sent.items) (c.among-at.ensures.exact ∙ ap (λ (n : ℕ). c.args.pick % n) count) c.act.ensures in
     shape_as p old c.args.pick c.index-token.result.now c.args.sent.now.items c.requires.sound some is c.act.result (held_of c.act.new.self) c.act.new.sent.items acts
 
 pub returns-clause-made : goal.returns-clause-made
@@ -47,5 +47,5 @@ returns-clause-made g c =
     let is : c.index-token.result.now ≡ get_or old.queue (place_of old c.args.pick) c.index-token.result.now = grind (arith, common_steps) in
     let count : c.len-waiting.result ≡ length old.queue = grind (arith, common_steps) in
     let acts : ActsAs p old (place_of old c.args.pick) c.index-token.result.now c.args.sent.now.items c.act.result (held_of c.act.new.self) c.act.new.sent.items
-    = subst (λ (n : ℕ). ActsAs p old (c.args.pick % n) c.index-token.result.now c.args.sent.now.items c.act.result (held_of c.act.new.self) c.act.new.sent.items) count c.act.ensures in
+    = subst (λ (n : ℕ). ActsAs p old n c.index-token.result.now c.args.sent.now.items c.act.result (held_of c.act.new.self) c.act.new.sent.items) (c.among-at.ensures.exact ∙ ap (λ (n : ℕ). c.args.pick % n) count) c.act.ensures in
     made_as p old c.args.pick c.index-token.result.now c.args.sent.now.items c.requires.sound some is c.act.result (held_of c.act.new.self) c.act.new.sent.items acts

@@ -6,7 +6,7 @@ use Rattle.schedule.specs.Setting.{Setting}
 use Rattle.schedule.proofs.Playing.{setting_plays}
 use Rattle.schedule.proofs.Reports.{clash_cell}
 use Rattle.schedule.proofs.Ending.{began_plays, halts_as}
-use Rattle.schedule.proofs.machine.Quiet.play_in_turn.Goals as goal
+use Rattle.schedule.proofs.quiet.Quiet.play_in_turn.Goals as goal
 
 pub returns-clause-plays : goal.returns-clause-plays
 returns-clause-plays g c =

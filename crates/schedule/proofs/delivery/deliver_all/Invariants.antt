@@ -1,7 +1,7 @@
 use Rattle.std.proofs.Common.{◌≡◌, length, map, drop}
 use Rattle.element.specs.Held.{held_of}
 use Rattle.schedule.specs.State.{AllFrom, IsAt, lanes_of}
-use Rattle.schedule.proofs.delivery.deliver.Given as goal
+use Rattle.schedule.proofs.delivery.deliver_all.Given as goal
 
 abbrev pub invariant-loop-place : goal.invariant-loop-place
 invariant-loop-place g l = record {

@@ -2,7 +2,7 @@ use Rattle.std.proofs.Common.{◌≡◌, ◌∙◌, sym, subst, ◌<◌, ◌∷�
 use Rattle.element.specs.Held.{Held, held_of}
 use Rattle.schedule.specs.State.{AllFrom, IsAt, delivered}
 use Rattle.schedule.proofs.Memory.{delivered_at, come_more}
-use Rattle.schedule.proofs.delivery.deliver.Goals as goal
+use Rattle.schedule.proofs.delivery.deliver_all.Goals as goal
 
 pub loop-place-preserved : goal.loop-place-preserved
 loop-place-preserved g c =

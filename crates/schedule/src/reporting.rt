@@ -1,0 +1,109 @@
+//! The report of elements.
+
+ghost use Rattle.std.specs.Prelude.{◌≡◌, ◌≤◌, map, IfOk};
+ghost use Rattle.element.specs.Held.{held_of};
+ghost use Rattle.schedule.specs.State.{state_of, IsWell};
+ghost use Rattle.schedule.specs.Runs.{EndsWith, NamesCell};
+ghost use Rattle.schedule.specs.Told.{Reports, TellsLanes, opening_picture};
+
+use crate::elements::{Elements, Told};
+use crate::halt::Halt;
+use crate::locating::locate;
+use crate::main_code::MainCode;
+use crate::report::Report;
+use arrayvec::ArrayVec;
+use semantics::report::End;
+use std::alloc::{AllocError, Allocator};
+use tags::token::Token;
+
+// How a run ends that halts so, with so many requests that wait.
+fn end_of<C: MainCode>(code: &C, halt: Halt, frames: u64, credits: u64) -> End
+    requires { NamesCell (C.program code.now) halt }
+    ensures { EndsWith (C.program code.now) result frames credits halt }
+{
+    match halt {
+        Halt::NoToken => {
+            if frames == 0 && credits == 0 {
+                End::Rest
+            } else {
+                End::Starved
+            }
+        }
+        Halt::Clash { cell } => match locate(code, cell) {
+            Some(place) => End::Clash {
+                array: place.array,
+                index: place.index,
+            },
+            None => unreachable!(),
+        },
+        Halt::Steps => End::Steps,
+        Halt::Stuck { rule } => End::Stuck { rule },
+        Halt::Memory => End::Memory,
+    }
+}
+
+// The report of the machine before its first event, which is refused memory.
+fn opening_report<A: Allocator>(
+    alloc: A,
+    outputs: u32,
+    mut events: Vec<(u32, Token), A>,
+) -> Report<A>
+    requires { outputs ≤ 16 }
+    ensures { result ≡ opening_picture outputs }
+{
+    let mut none = ArrayVec::from([None; 16]);
+    none.truncate(outputs as usize);
+    events.clear();
+    Report {
+        end: End::Memory,
+        outputs: none,
+        cells: Vec::new(alloc),
+        deferred: 0,
+        waiting_frames: 0,
+        waiting_credits: 0,
+        frames_out: 1,
+        events,
+    }
+}
+
+fn tell<C: MainCode, A: Allocator>(
+    elements: Elements<'_, C, A>,
+    alloc: &A,
+) -> Result<Told<A>, AllocError>
+where
+    A: Clone,
+    requires { IsWell C.program C.width elements }
+    ensures { IfOk result (λ told. TellsLanes (state_of C.program C.width elements.entry).setting (map held_of elements.entry.lanes.items) told.outputs.items told.cells.items told.deferred told.requests told.credits told.out) }
+{
+    elements.tell(alloc.clone()?)
+}
+
+/// What the elements hold, with these events and the end of a run that halted so. Where its own lists are refused it is the
+/// report of the machine before its first event, with the end `Memory`.
+pub fn report_of<C: MainCode, A: Allocator>(
+    elements: Elements<'_, C, A>,
+    events: Vec<(u32, Token), A>,
+    alloc: A,
+    halt: Halt,
+) -> Report<A>
+where
+    A: Clone,
+    requires well { IsWell C.program C.width elements }
+    requires cell { NamesCell (C.program elements.code.now) halt }
+    ensures { Reports C.program C.width elements.entry events.items halt result }
+{
+    let code = elements.code;
+    match tell(elements, &alloc) {
+        Ok(told) => Report {
+            end: end_of(code, halt, told.requests, told.credits),
+            outputs: told.outputs,
+            cells: told.cells,
+            deferred: told.deferred,
+            waiting_frames: told.requests,
+            waiting_credits: told.credits,
+            frames_out: told.out,
+            events,
+        },
+        Err(_) => opening_report(alloc, code.outputs(), events),
+    }
+}
