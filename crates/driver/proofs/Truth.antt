@@ -14,7 +14,8 @@ use Rattle.semantics.specs.Faithful.{Faithful, IsRun, IsSecondStore, inputs_of}
 use Rattle.semantics.specs.Report.{Report, IsPicture, HasEnd, Shows}
 use Rattle.schedule.specs.declared.config.Config.{Config}
 use Rattle.schedule.specs.Setting.{inputs_of as inputs_of_program}
-use Rattle.driver.specs.Headline.{ShowsMemory, ShowsObject, TellsMeaning, TellsOf, size_of}
+use Rattle.schedule.specs.Unlisted.{with_events}
+use Rattle.driver.specs.Headline.{ShowsMemory, ShowsObject, TellsMeaning, TellsOf, Quietly, size_of}
 use Rattle.driver.specs.Refused.{IsCompiled}
 
 -- a cell that is full has its value, and no other
@@ -91,3 +92,8 @@ tells_truth text g bytes inputs c listed r compiled shown =
       shows = shows;
       straight = λ line. tells_meaning inputs (size_of c) c.steps listed r (flow_of g) code.program fit shown.some_element shown.some_frame (made.faithful line) shows;
     }
+
+-- So does a report that lists no events.
+pub tells_quietly : (text : List ℕ) (g : Graph) (bytes : List ℕ) (inputs : List ℤ) (c : Config) (listed : Bool) (r : Report)
+    → IsCompiled text g bytes → Quietly (ShowsObject bytes inputs c listed) r → Quietly (TellsOf text g inputs (size_of c) c.steps listed) r
+tells_quietly text g bytes inputs c listed r compiled shown = (shown.0, shown.1, tells_truth text g bytes inputs c listed (with_events r shown.1) compiled shown.2)

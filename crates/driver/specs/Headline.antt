@@ -1,5 +1,5 @@
 -- What a report promises about the graph that a text has: the project's headline.
-use Rattle.std.specs.Prelude.{◌≡◌, ◌↔◌, ℕ, ◌+◌, ◌<◌, Bool, true, false, ℤ, List, length, Option, Some, slice_get, Contains}
+use Rattle.std.specs.Prelude.{◌≡◌, ◌↔◌, ℕ, ◌+◌, ◌<◌, Bool, true, false, ℤ, List, [], length, Option, Some, slice_get, Contains}
 use Rattle.tags.specs.declared.value.Value.{Value}
 use Rattle.semantics.specs.declared.report.End.TheVariants.{Rest, Clash, Stuck}
 use Rattle.semantics.specs.Graph.{Graph, Flow, flow_of, first_cell}
@@ -9,12 +9,13 @@ use Rattle.semantics.specs.Meaning as Meaning
 use Rattle.semantics.specs.Meaning.{State, Reached, Leads, AtRest, Clashes}
 use Rattle.semantics.specs.Program.{Program, Code}
 use Rattle.semantics.specs.Bytes.{IsObject}
-use Rattle.semantics.specs.Machine.{Size}
+use Rattle.semantics.specs.Machine.{Size, Events}
 use Rattle.semantics.specs.Faithful.{Faithful, IsSecondStore, inputs_of}
 use Rattle.semantics.specs.Report.{Report, Shows}
 use Rattle.lowering.specs.Theorem.{IsStraightLine}
 use Rattle.schedule.specs.declared.config.Config.{Config}
 use Rattle.schedule.specs.Setting.{inputs_of as inputs_in_code}
+use Rattle.schedule.specs.Unlisted.{with_events}
 use Rattle.driver.specs.Compiled.{IsCodeFor}
 
 -- The report's outputs and full cells are just those of a memory of the meaning.
@@ -78,3 +79,7 @@ pub record ShowsObject (bytes : List ℕ) (inputs : List ℤ) (c : Config) (list
   pub some_element : 0 < c.elements
   pub some_frame : 0 < c.frames
   pub shows : Shows code.program (size_of c) inputs c.steps listed false r
+
+-- RUNS OF ANY LENGTH. The report lists no events; with those of some run it is such a report.
+abbrev pub Quietly : (Report → Type 0) → Report → Type 0
+Quietly Tells r = (r.events ≡ []) × (events : Events) × Tells (with_events r events)

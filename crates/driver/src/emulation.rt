@@ -3,7 +3,7 @@
 ghost use Rattle.std.specs.Prelude.{◌≡◌, ◌<◌, All, IfOk, MatchResult, true, false};
 ghost use Rattle.semantics.specs.Graph as Graphs;
 ghost use Rattle.driver.specs.Refused.{IsCompiled, refusal_of, IsReady, IsRefused, IsRefusedObject};
-ghost use Rattle.driver.specs.Headline.{TellsTruth, TellsTruthListed, ShowsObject};
+ghost use Rattle.driver.specs.Headline.{TellsTruth, TellsTruthListed, ShowsObject, Quietly};
 
 use crate::compiling::{Compiled, compile};
 use crate::fault::Fault;
@@ -66,6 +66,29 @@ pub fn emulate_object<A: Allocator + Clone>(
     }
 }
 
+/// As `emulate_object`, but the report lists no events: a long run takes no more memory than a short one.
+pub fn emulate_object_quietly<A: Allocator + Clone>(
+    alloc: A,
+    bytes: &[u8],
+    inputs: &[i64],
+    config: Config,
+) -> Result<Report<A>, Fault>
+    ensures { MatchResult result (Quietly (ShowsObject bytes.now inputs.now config false)) (IsRefusedObject bytes.now inputs.now config) }
+{
+    let object = match Object::open(bytes) {
+        Ok(object) => object,
+        Err(fault) => return Err(Fault::Object(fault)),
+    };
+    let Ok(code) = load(&alloc, object) else {
+        return Err(Fault::Memory);
+    };
+    let mut store = None;
+    match Machine::start(alloc, &mut store, &code, inputs, config) {
+        Ok(machine) => Ok(machine.run_quietly()),
+        Err(fault) => Err(start_refusal(fault)),
+    }
+}
+
 /// The report of a run of the object that the bytes are, in the order of a list: each entry names an element, and one of its
 /// tokens by its place in the queue, modulo the queue's length.
 pub fn emulate_object_picks<A: Allocator + Clone>(
@@ -122,14 +145,15 @@ pub fn start_text<A: Allocator + Clone>(
     }
 }
 
-/// Runs the graph that the text has, each element in turn taking its oldest token. Gives the graph with the report.
+/// Runs the graph that the text has, each element in turn taking its oldest token. Gives the graph with a report that lists
+/// no events: a long run takes no more memory than a short one.
 pub fn run_text<'a, A: Allocator + Clone>(
     alloc: A,
     text: &'a [u8],
     inputs: &[i64],
     config: Config,
 ) -> Result<Emulated<'a, A>, Fault>
-    ensures { MatchResult result (λ e. TellsTruth text.now e.checked inputs.now config e.report) (IsRefused text.now inputs.now config) }
+    ensures { MatchResult result (λ e. Quietly (TellsTruth text.now e.checked inputs.now config) e.report) (IsRefused text.now inputs.now config) }
 {
     let Ok(room) = alloc.clone() else {
         return Err(Fault::Memory);
@@ -138,7 +162,7 @@ pub fn run_text<'a, A: Allocator + Clone>(
         Ok(compiled) => compiled,
         Err(fault) => return Err(fault),
     };
-    match emulate_object(alloc, &object, inputs, config) {
+    match emulate_object_quietly(alloc, &object, inputs, config) {
         Ok(report) => Ok(Emulated { checked, report }),
         Err(fault) => Err(fault),
     }
@@ -153,8 +177,15 @@ pub fn emulate<A: Allocator + Clone>(
 ) -> Result<Report<A>, Fault>
     ensures { MatchResult result (λ report. (g : Graphs.Graph) × TellsTruth text.now g inputs.now config report) (IsRefused text.now inputs.now config) }
 {
-    match run_text(alloc, text, inputs, config) {
-        Ok(Emulated { checked: _, report }) => Ok(report),
+    let Ok(room) = alloc.clone() else {
+        return Err(Fault::Memory);
+    };
+    let compiled = match compile(room, text) {
+        Ok(compiled) => compiled,
+        Err(fault) => return Err(fault),
+    };
+    match emulate_object(alloc, &compiled.object, inputs, config) {
+        Ok(report) => Ok(report),
         Err(fault) => Err(fault),
     }
 }
