@@ -1,8 +1,8 @@
 //! The meaning of the graph that a text has, run plainly.
 
-ghost use Rattle.std.specs.Prelude.{◌≡◌, IfOk, Some};
+ghost use Rattle.std.specs.Prelude.{IfOk};
 ghost use Rattle.driver.specs.Refused.{IsGoodText};
-ghost use Rattle.oracle.specs.Running.{told};
+ghost use Rattle.oracle.specs.Reporting.{IsMeant};
 
 use crate::compiling::check_text;
 use crate::fault::Fault;
@@ -26,7 +26,7 @@ pub fn mean_text<'a, A: Allocator + Clone>(
     steps: u64,
 ) -> Result<Meant<'a, A>, Fault>
     ensures good { IfOk result (λ m. IsGoodText text.now m.checked) }
-    ensures told { IfOk result (λ m. told m.checked inputs.now steps ≡ Some (m.report.end, m.report.outputs.items, m.report.cells.items)) }
+    ensures meant { IfOk result (λ m. IsMeant m.checked inputs.now steps m.report.end m.report.outputs.items m.report.cells.items) }
 {
     let Ok(room) = alloc.clone() else {
         return Err(Fault::Memory);
