@@ -66,7 +66,7 @@ fn run_command<'a>(alloc: Global) -> Result<Command<'a>, AllocError> {
         .help("one: the elements take their oldest tokens in turn");
     Command::new(alloc, "run")
         .about("Compiles and runs a graph: its text on standard input, then its inputs, one a line")
-        .arg(number(alloc, "elements", "1", "processing elements"))?
+        .arg(number(alloc, "elements", "1", "processing elements, 1 to 16"))?
         .arg(number(alloc, "frames", "256", "frames for each element, 1 to 1024"))?
         .arg(number(
             alloc,

@@ -26,7 +26,7 @@ fn a_long_chain_shares_its_slots(rt: HostRuntime) -> Result<(), Fail> {
     assert!(rt;
         listing
             .text
-            .starts_with(b"ets 1 main 0\nblock 0 inputs 1 outputs 1 slots ")
+            .starts_with(b"ets 1 main 0\nblock 0 inputs 1 outputs 1 slots 3\n")
     );
     text.extend_from_slice(b"7\n")?;
     let wanted = b"output 0 7\ndeferred 0\nwaiting 0 0\nframes 0\nend Rest\n";
