@@ -11,7 +11,7 @@ use Rattle.semantics.specs.Rule.{slot_of}
 use Rattle.semantics.specs.Plan.{Plan, mark_at, mark_in}
 use Rattle.semantics.specs.Sharing.{Arc, IsEnd, IsSide, ends_with}
 use Rattle.code.specs.Marks.{marks_in}
-use Rattle.slot_alloc.specs.declared.passes.Chosen.TheVariants.{Ends, Side}
+use Rattle.slot_alloc.specs.Passes.{Ends, Side}
 use Rattle.slot_alloc.specs.Passes.{is_holder, same_mark, is_chosen, mark_of}
 
 is_holder_exact : (o : Option ℕ) (h : ℕ) → Decides (is_holder o h) (o ≡ Some h)

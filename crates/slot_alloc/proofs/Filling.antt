@@ -4,7 +4,8 @@ use Rattle.std.specs.Prelude.{All}
 use Rattle.std.proofs.lemmas.Bool.{both_ways, cases_eq}
 use Rattle.std.proofs.lemmas.List.{get_or_default, length-replicate, get_or-replicate, length_push, get_or_push, get_or_append_left, length-set, get_or-set_same, get_or-set_other}
 use Rattle.std.proofs.lemmas.List.Elements.{All-head, All-tail, All-weaker}
-use Rattle.slot_alloc.specs.Tables.{Table, bit, may_share, Admits, blocked_by, IsClosedAt, IsLeastOpen, IsFilled}
+use Rattle.slot_alloc.specs.Tables.{Table, may_share, Admits, blocked_by, IsClosedAt, IsLeastOpen, IsFilled}
+use Rattle.slot_alloc.proofs.Passed.{bit}
 
 module _ (t : Table) (n : ℕ) where
   abbrev after_one : List Bool → ℕ → ℕ → List Bool

@@ -2,6 +2,8 @@ pub mod Passing
 pub mod Places
 pub mod Passed
 pub mod Chosen
+pub mod Lanes
+pub mod Groups
 pub mod Shared
 pub mod Filling
 pub mod Holders

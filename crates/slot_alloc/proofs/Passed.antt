@@ -15,10 +15,9 @@ use Rattle.semantics.specs.Program.{Instr}
 use Rattle.semantics.specs.Rule.{slot_of}
 use Rattle.semantics.specs.Plan.{Plan}
 use Rattle.semantics.specs.Sharing.{Inlet, inlet, Arc, arcs_to, arcs_from, arcs_of, Follows, follows, Leads, by_choice, by_port, is_port}
-use Rattle.slot_alloc.specs.declared.passes.Inflow.{Inflow}
-use Rattle.slot_alloc.specs.declared.passes.Inflow.TheVariants.{Bare, AllLead, NotAll}
-use Rattle.slot_alloc.specs.declared.passes.Inlets.{Inlets}
-use Rattle.slot_alloc.specs.declared.passes.Chosen.{Chosen}
+use Rattle.slot_alloc.specs.Passes.{Inflow, Bare, AllLead, NotAll}
+use Rattle.slot_alloc.specs.Passes.{Inlets}
+use Rattle.slot_alloc.specs.Passes.{Chosen}
 use Rattle.slot_alloc.specs.Passes.{bare, inlets_at, enter, enter_each, enter_firsts, own_each, own_instr, all_lead, some_lead, is_chosen, enter_instr, mark_of, pass}
 use Rattle.slot_alloc.specs.Rows.{ports_lead, crossed, noted, row_from}
 use Rattle.slot_alloc.proofs.Passing.{port_of, enter_arcs, each_as_arcs, firsts_arcs, firsts_as_arcs, from_firsts, IsFrom, is_first, is_second, from_here, from_later, Shown, Shows, arcs_shown, follows_shown, each_own, firsts_own}

@@ -13,9 +13,8 @@ use Rattle.semantics.specs.declared.program.Op.TheVariants.{Link}
 use Rattle.semantics.specs.Program.{Instr}
 use Rattle.semantics.specs.Plan.{Plan, landing}
 use Rattle.semantics.specs.Sharing.{Inlet, inlet, Arc, arc, arcs_to, row, arcs_from, arcs_of, Follows, follows, Leads}
-use Rattle.slot_alloc.specs.declared.passes.Inflow.{Inflow}
-use Rattle.slot_alloc.specs.declared.passes.Inflow.TheVariants.{Bare, AllLead, NotAll}
-use Rattle.slot_alloc.specs.declared.passes.Inlets.{Inlets}
+use Rattle.slot_alloc.specs.Passes.{Inflow, Bare, AllLead, NotAll}
+use Rattle.slot_alloc.specs.Passes.{Inlets}
 use Rattle.slot_alloc.specs.Passes.{bare, inlets_at, inflow_with, inlets_with, enter, enter_each, enter_row, enter_landings, enter_firsts, all_lead, own_each, own_landings, own_firsts}
 
 abbrev pub port_of : Inlets → Port → Inflow

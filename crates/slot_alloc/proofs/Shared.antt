@@ -1,11 +1,11 @@
 -- The table tells exactly which holders may share.
-use Rattle.std.proofs.Common.{◌≡◌, ◌≢◌, refl, sym, ap, ◌∙◌, subst, ℕ, zero, suc, ◌+◌, ◌<◌, Bool, true, false, not, ◌&&◌, ◌||◌, List, [], ◌∷◌, ◌++◌, map, length, replicate, get_or, cond, Option, Some, inl, inr, ⊎_elim, arith, ◌⊎◌}
+use Rattle.std.proofs.Common.{◌≡◌, ◌≢◌, refl, sym, ap, ◌∙◌, subst, ℕ, zero, suc, ◌+◌, ◌<◌, Bool, true, false, not, ◌&&◌, ◌||◌, List, [], ◌∷◌, ◌++◌, length, replicate, cond, Option, Some, inl, inr, ⊎_elim, arith, ◌⊎◌}
 use Rattle.std.specs.Prelude.{slice_get}
 use Rattle.std.specs.Bool.{Decides}
 use Rattle.std.specs.List.{list_any}
-use Rattle.std.proofs.lemmas.Bool.{both_ways, and_from, or_cases, or_left, or_right, cases_eq}
+use Rattle.std.proofs.lemmas.Bool.{both_ways, and_from, or_cases, or_left, or_right}
 use Rattle.std.proofs.lemmas.Bool.Decides.{Decides-and, Decides-or}
-use Rattle.std.proofs.lemmas.List.{length-replicate, get_or-replicate, length_push, get_or_push, get_or_append_left}
+use Rattle.std.proofs.lemmas.List.{length-replicate, get_or-replicate}
 use Rattle.std.proofs.lemmas.List.Folds.{list_any-append}
 use Rattle.std.proofs.lemmas.Option.{slice_get_within}
 use Rattle.tags.specs.declared.token.Port.{Port}
@@ -15,14 +15,15 @@ use Rattle.semantics.specs.Program.{Instr, CodeBlock}
 use Rattle.semantics.specs.Plan.{Plan}
 use Rattle.semantics.specs.Sharing.{Inlet, inlet, Arc, arcs_of, arcs_in, Follows, follows, Leads, by_choice, by_port, IsEnd, IsSide, IsHolderPort, AllAfter, AllOnSide, MayShare}
 use Rattle.code.specs.Marks.{marks_in}
-use Rattle.slot_alloc.specs.declared.passes.Chosen.{Chosen}
-use Rattle.slot_alloc.specs.declared.passes.Chosen.TheVariants.{Ends, Side}
-use Rattle.slot_alloc.specs.Passes.{bare, inlets_at, all_lead, is_chosen, mark_of, same_mark, pass}
+use Rattle.slot_alloc.specs.Passes.{Chosen}
+use Rattle.slot_alloc.specs.Passes.{Ends, Side}
+use Rattle.slot_alloc.specs.Passes.{bare, inlets_at, all_lead, is_chosen, is_marked, mark_of, same_mark, pass}
 use Rattle.slot_alloc.specs.Rows.{ports_lead, row_of}
-use Rattle.slot_alloc.specs.Tables.{after_rows, split_of, is_marked, with_mark, distinct, table_of, comes_after, is_apart, may_share}
+use Rattle.slot_alloc.specs.Tables.{groups, after_rows, with_mark, distinct, table_of, comes_after, is_apart, may_share}
 use Rattle.slot_alloc.proofs.Passing.{port_of}
 use Rattle.slot_alloc.proofs.Places.{ByPlace, at_place, from_places}
 use Rattle.slot_alloc.proofs.Passed.{Tells, follows_exact, bit, Kept, row_exact, ports_exact}
+use Rattle.slot_alloc.proofs.Groups.{after_bit, one_apart, any_apart, known_apart}
 use Rattle.slot_alloc.proofs.Chosen.{ends_tell, sides_tell, same_mark_exact, mark_at_of}
 
 -- A ROW of one block, for chosen arcs that the test tells
@@ -82,44 +83,14 @@ module _ (p : Plan) (b : ℕ) (c : CodeBlock) (at : slice_get p.program.blocks b
   side_exact g m side below = subst (λ o. Decides (bit (row_of p (Side side m) (marks_in p b) c) g) (SideIn o g m side)) (sym at)
       (all_follow_exact p c (marks_in p b) (Side side m) (IsSide p b m side) (λ n i here y from. sides_tell p b side m n i y from) g below)
 
-  -- the row of each holder
-  rows_long : (ms : List Mark) (n : ℕ) → length (after_rows p ms c n) ≡ n
-  rows_long ms zero = refl
-  rows_long ms (suc n) = let e = rows_long ms n in let f = length_push (after_rows p ms c n) (row_of p (Ends n) ms c) in omega (arith, e, f)
-
-  row_at : (ms : List Mark) (n h : ℕ) → h < n → get_or (after_rows p ms c n) h [] ≡ row_of p (Ends h) ms c
-  row_at ms zero h below = let none : h < 0 → ⊥ = λ lt. omega (arith, lt) in absurd (none below)
-  row_at ms (suc n) h below =
-      let len = rows_long ms n in
-      let r = row_of p (Ends n) ms c in
-      ⊎_elim
-      (λ (e : h ≡ n). get_or_push (after_rows p ms c n) r [] h (len ∙ sym e) ∙ ap (λ k. row_of p (Ends k) ms c) (sym e))
-      (λ (ne : h ≡ n → ⊥). let lt : h < n = omega (arith, below, ne) in get_or_append_left (after_rows p ms c n) (r ∷ []) [] h (omega (arith, lt, len)) ∙ row_at ms n h lt)
-      (cases_eq h n)
-
-  pub comes_after_exact : (g h : ℕ) → g < c.slots → h < c.slots → Decides (comes_after (after_rows p (marks_in p b) c c.slots) g h) (AllAfter p b g h)
-  comes_after_exact g h gs hs = subst (λ row. Decides (bit row g) (AllAfter p b g h)) (sym (row_at (marks_in p b) c.slots h hs)) (after_exact g h gs)
+  pub comes_after_exact : (g h : ℕ) → g < c.slots → h < c.slots → Decides (comes_after (after_rows p (marks_in p b) c (groups c.slots)) g h) (AllAfter p b g h)
+  comes_after_exact g h gs hs = subst (λ t. Decides t (AllAfter p b g h)) (sym (after_bit p c (marks_in p b) g h hs)) (after_exact g h gs)
 
   -- THE SIDES of all marks
-  any_apart : (g h : ℕ) (ms : List Mark) → list_any (is_apart g h) (map (split_of p (marks_in p b) c) ms) ≡ true → (m : Mark) × (is_apart g h (split_of p (marks_in p b) c m) ≡ true)
-  any_apart g h [] e = absurd (both_ways false refl e)
-  any_apart g h (m ∷ ms) e = ⊎_elim (λ a. (m, a)) (λ a. any_apart g h ms a)
-      (or_cases (is_apart g h (split_of p (marks_in p b) c m)) (list_any (is_apart g h) (map (split_of p (marks_in p b) c) ms)) e)
-
-  known_apart : (g h : ℕ) (m : Mark) (ms : List Mark) → list_any (same_mark m) ms ≡ true → is_apart g h (split_of p (marks_in p b) c m) ≡ true → list_any (is_apart g h) (map (split_of p (marks_in p b) c) ms) ≡ true
-  known_apart g h m [] known e = absurd (both_ways false refl known)
-  known_apart g h m (x ∷ ms) known e = ⊎_elim
-      (λ a.
-      let same : x ≡ m = ((same_mark_exact m x).0 a).0 in
-      or_left (is_apart g h (split_of p (marks_in p b) c x)) (list_any (is_apart g h) (map (split_of p (marks_in p b) c) ms))
-      (subst (λ n. is_apart g h (split_of p (marks_in p b) c n) ≡ true) (sym same) e))
-      (λ a. or_right (is_apart g h (split_of p (marks_in p b) c x)) (list_any (is_apart g h) (map (split_of p (marks_in p b) c) ms)) (known_apart g h m ms a e))
-      (or_cases (same_mark m x) (list_any (same_mark m) ms) known)
-
   abbrev OnSides : ℕ → ℕ → Mark → Type 0
   OnSides g h m = (AllOnSide p b g m true × AllOnSide p b h m false) ⊎ (AllOnSide p b g m false × AllOnSide p b h m true)
 
-  apart_exact : (g h : ℕ) (m : Mark) → g < c.slots → h < c.slots → Decides (is_apart g h (split_of p (marks_in p b) c m)) (OnSides g h m)
+  apart_exact : (g h : ℕ) (m : Mark) → g < c.slots → h < c.slots → Decides (one_apart p c (marks_in p b) g h m) (OnSides g h m)
   apart_exact g h m gs hs =
       let yes = row_of p (Side true m) (marks_in p b) c in
       let no = row_of p (Side false m) (marks_in p b) c in
@@ -177,13 +148,13 @@ module _ (p : Plan) (b : ℕ) (c : CodeBlock) (at : slice_get p.program.blocks b
 
   after_shares : (g h : ℕ) → g < c.slots → h < c.slots → AllAfter p b g h → shared g h ≡ true
   after_shares g h gs hs all =
-      let rows = after_rows p (marks_in p b) c c.slots in
+      let rows = after_rows p (marks_in p b) c (groups c.slots) in
       or_left (comes_after rows g h || comes_after rows h g) (list_any (is_apart g h) (table_of p (marks_in p b) c).splits)
       (or_left (comes_after rows g h) (comes_after rows h g) ((comes_after_exact g h gs hs).1 all))
 
   before_shares : (g h : ℕ) → g < c.slots → h < c.slots → AllAfter p b h g → shared g h ≡ true
   before_shares g h gs hs all =
-      let rows = after_rows p (marks_in p b) c c.slots in
+      let rows = after_rows p (marks_in p b) c (groups c.slots) in
       or_left (comes_after rows g h || comes_after rows h g) (list_any (is_apart g h) (table_of p (marks_in p b) c).splits)
       (or_right (comes_after rows g h) (comes_after rows h g) ((comes_after_exact h g hs gs).1 all))
 
@@ -196,21 +167,21 @@ module _ (p : Plan) (b : ℕ) (c : CodeBlock) (at : slice_get p.program.blocks b
 
       by_test : (t : Bool) → list_any (same_mark m) (distinct [] (marks_in p b)) ≡ t → shared g h ≡ true
       by_test true known =
-          let rows = after_rows p (marks_in p b) c c.slots in
+          let rows = after_rows p (marks_in p b) c (groups c.slots) in
           or_right (comes_after rows g h || comes_after rows h g) (list_any (is_apart g h) (table_of p (marks_in p b) c).splits)
-          (known_apart g h m (distinct [] (marks_in p b)) known ((apart_exact g h m gs hs).1 (apart side one other)))
+          (known_apart p c (marks_in p b) g h m (distinct [] (marks_in p b)) known ((apart_exact g h m gs hs).1 (apart side one other)))
       by_test false unknown = after_shares g h gs hs (λ q is. absurd (nothing_follows (IsSide p b m side) (no_side m side unknown) q (one q is)))
 
   from_shared : (g h : ℕ) → g < c.slots → h < c.slots → shared g h ≡ true → MayShare p b g h
   from_shared g h gs hs e =
-      let rows = after_rows p (marks_in p b) c c.slots in
+      let rows = after_rows p (marks_in p b) c (groups c.slots) in
       ⊎_elim
       (λ a. ⊎_elim
       (λ d. inr (inl ((comes_after_exact g h gs hs).0 d)))
       (λ d. inr (inr ((comes_after_exact h g hs gs).0 d)))
       (or_cases (comes_after rows g h) (comes_after rows h g) a))
       (λ a.
-      let w = any_apart g h (distinct [] (marks_in p b)) a in
+      let w = any_apart p c (marks_in p b) g h (distinct [] (marks_in p b)) (groups (length (distinct [] (marks_in p b)))) a in
       ⊎_elim (λ s. inl (w.0, true, s.0, s.1)) (λ s. inl (w.0, false, s.0, s.1)) ((apart_exact g h w.0 gs hs).0 w.1))
       (or_cases (comes_after rows g h || comes_after rows h g) (list_any (is_apart g h) (table_of p (marks_in p b) c).splits) e)
 

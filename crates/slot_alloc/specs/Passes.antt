@@ -12,11 +12,20 @@ use Rattle.semantics.specs.Program.{Instr}
 use Rattle.semantics.specs.Rule.{slot_of}
 use Rattle.semantics.specs.Plan.{Plan, landing}
 use Rattle.semantics.specs.Sharing.{ends_with}
-use Rattle.slot_alloc.specs.declared.passes.Inflow.{Inflow}
-use Rattle.slot_alloc.specs.declared.passes.Inflow.TheVariants.{Bare, AllLead, NotAll}
-use Rattle.slot_alloc.specs.declared.passes.Inlets.{Inlets}
-use Rattle.slot_alloc.specs.declared.passes.Chosen.{Chosen}
-use Rattle.slot_alloc.specs.declared.passes.Chosen.TheVariants.{Ends, Side}
+
+-- what is known of the arcs into a port: there is none, each one leads, or one does not
+pub data Inflow : Type 0 where
+  Bare AllLead NotAll : Inflow
+
+-- the two ports of an instruction
+pub record Inlets : Type 0 where
+  pub left : Inflow
+  pub right : Inflow
+
+-- which arcs are chosen: the end arcs of a holder, or the arcs of the switches of a mark on one side
+pub data Chosen : Type 0 where
+  Ends : ℕ → Chosen
+  Side : Bool → Mark → Chosen
 
 abbrev pub bare : Inlets
 bare = record { left = Bare; right = Bare }
@@ -73,6 +82,10 @@ abbrev pub same_mark : Mark → Mark → Bool
 same_mark (OfCond c) (OfCond d) = c == d
 same_mark OfFlag OfFlag = true
 same_mark m n = false
+
+abbrev pub is_marked : Mark → Bool
+is_marked Unmarked = false
+is_marked m = true
 
 abbrev pub is_chosen : Chosen → Instr → Mark → Bool → Bool
 is_chosen (Ends h) i m second = is_holder (slot_of i i.op) h && ends_with i.op

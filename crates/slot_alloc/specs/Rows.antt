@@ -6,9 +6,7 @@ use Rattle.semantics.specs.declared.program.Op.TheVariants.{Open, Take, Give, Dr
 use Rattle.semantics.specs.Program.{Instr, CodeBlock}
 use Rattle.semantics.specs.Rule.{slot_of}
 use Rattle.semantics.specs.Plan.{Plan}
-use Rattle.slot_alloc.specs.declared.passes.Inlets.{Inlets}
-use Rattle.slot_alloc.specs.declared.passes.Chosen.{Chosen}
-use Rattle.slot_alloc.specs.Passes.{bare, inlets_at, all_lead, pass}
+use Rattle.slot_alloc.specs.Passes.{Inlets, Chosen, bare, inlets_at, all_lead, pass}
 
 -- whether the ports at which a holder is met lead at an instruction
 abbrev pub ports_lead : Op → Inlets → Bool

@@ -1,36 +1,40 @@
 -- Which holders of a block may share a slot, as a table of rows.
-use Rattle.std.specs.Prelude.{ℕ, zero, suc, ◌≡◌, ◌+◌, ◌<◌, Bool, true, false, not, ◌&&◌, ◌||◌, List, [], ◌∷◌, ◌++◌, map, length, slice_set, slice_index_or, if◌then◌else◌}
+use Rattle.std.specs.Prelude.{ℕ, zero, suc, ◌≡◌, ◌+◌, ◌*◌, ◌/◌, ◌%◌, ◌^◌, ◌<◌, Bool, true, false, not, ◌&&◌, ◌||◌, ◌==◌, List, [], ◌∷◌, ◌++◌, length, drop, slice_set, slice_index_or, bit_and, bit_or, if◌then◌else◌}
 use Rattle.std.specs.List.{list_any}
 use Rattle.semantics.specs.declared.program.Mark.{Mark}
-use Rattle.semantics.specs.declared.program.Mark.TheVariants.{Unmarked}
 use Rattle.semantics.specs.Program.{CodeBlock}
 use Rattle.semantics.specs.Plan.{Plan}
-use Rattle.slot_alloc.specs.declared.passes.Chosen.TheVariants.{Ends, Side}
-use Rattle.slot_alloc.specs.Passes.{same_mark}
-use Rattle.slot_alloc.specs.Rows.{row_of}
+use Rattle.slot_alloc.specs.declared.choices.Choice.TheVariants.{Ends, Sides}
+use Rattle.slot_alloc.specs.Passes.{same_mark, is_marked}
+use Rattle.slot_alloc.specs.Words.{row_of}
 
--- the holders on the two sides of the switches of one mark
+-- the holders on the two sides of the switches of 64 marks, a lane for each mark
 pub record Split : Type 0 where
-  pub yes : List Bool
-  pub no : List Bool
+  pub yes : List ℕ
+  pub no : List ℕ
 
--- `after`: for each holder the row of the holders that come after it
+-- `after`: for each 64 holders a row that tells which holders come after them, a lane for each
 pub record Table : Type 0 where
-  pub after : List (List Bool)
+  pub after : List (List ℕ)
   pub splits : List Split
 
-abbrev pub after_rows : Plan → List Mark → CodeBlock → ℕ → List (List Bool)
-after_rows p ms c zero = []
-after_rows p ms c (suc h) = after_rows p ms c h ++ row_of p (Ends h) ms c ∷ []
+-- how many groups of 64 so many things need
+abbrev pub groups : ℕ → ℕ
+groups n = (n + 63) / 64
 
-abbrev pub split_of : Plan → List Mark → CodeBlock → Mark → Split
-split_of p ms c m = record { yes = row_of p (Side true m) ms c; no = row_of p (Side false m) ms c }
+abbrev pub after_rows : Plan → List Mark → CodeBlock → ℕ → List (List ℕ)
+after_rows p ms c zero = []
+after_rows p ms c (suc k) = after_rows p ms c k ++ row_of p (Ends (k * 64)) [] ms c ∷ []
+
+abbrev pub split_of : Plan → List Mark → CodeBlock → List Mark → Split
+split_of p ms c known = record { yes = row_of p (Sides true) known ms c; no = row_of p (Sides false) known ms c }
+
+-- the first groups of such marks
+abbrev pub splits_of : Plan → List Mark → CodeBlock → List Mark → ℕ → List Split
+splits_of p ms c known zero = []
+splits_of p ms c known (suc k) = splits_of p ms c known k ++ split_of p ms c (drop (k * 64) known) ∷ []
 
 -- each mark once, in order
-abbrev pub is_marked : Mark → Bool
-is_marked Unmarked = false
-is_marked m = true
-
 abbrev pub with_mark : List Mark → Mark → List Mark
 with_mark seen m = if is_marked m && not (list_any (same_mark m) seen) then seen ++ m ∷ [] else seen
 
@@ -39,17 +43,17 @@ distinct seen [] = seen
 distinct seen (m ∷ ms) = distinct (with_mark seen m) ms
 
 abbrev pub table_of : Plan → List Mark → CodeBlock → Table
-table_of p ms c = record { after = after_rows p ms c c.slots; splits = map (split_of p ms c) (distinct [] ms) }
+table_of p ms c = record { after = after_rows p ms c (groups c.slots); splits = splits_of p ms c (distinct [] ms) (groups (length (distinct [] ms))) }
 
-abbrev pub bit : List Bool → ℕ → Bool
-bit row g = slice_index_or row g false
+abbrev pub word : List ℕ → ℕ → ℕ
+word row g = slice_index_or row g 0
 
 -- whether holder g comes after holder h
-abbrev pub comes_after : List (List Bool) → ℕ → ℕ → Bool
-comes_after rows g h = bit (slice_index_or rows h []) g
+abbrev pub comes_after : List (List ℕ) → ℕ → ℕ → Bool
+comes_after rows g h = bit_and (word (slice_index_or rows (h / 64) []) g / 2 ^ (h % 64)) 1 == 1
 
 abbrev pub is_apart : ℕ → ℕ → Split → Bool
-is_apart g h s = (bit s.yes g && bit s.no h) || (bit s.no g && bit s.yes h)
+is_apart g h s = not (bit_or (bit_and (word s.yes g) (word s.no h)) (bit_and (word s.no g) (word s.yes h)) == 0)
 
 abbrev pub may_share : Table → ℕ → ℕ → Bool
 may_share t g h = comes_after t.after g h || comes_after t.after h g || list_any (is_apart g h) t.splits

@@ -9,6 +9,7 @@ ghost use Rattle.semantics.specs.Sharing.{Good};
 ghost use Rattle.slot_alloc.specs.Assigned.{IsAssigned, IsRefused};
 
 mod blocks;
+mod choices;
 mod faults;
 mod passes;
 mod row;
@@ -29,8 +30,8 @@ fn blocks_of<A: Allocator>(plan: &Plan<A>) -> &[CodeBlock<A>]
 /// Whether the slots are a good choice for the holders of a plan: one list for each block and one slot for each of its
 /// holders, each slot below 512, and any two holders of a block in one slot may share it.
 ///
-/// Of a block with h holders, m marks and n arcs the time is that of
-/// (h + 2 m) n steps, and h (h + 2 m) flags are kept meanwhile.
+/// Of a block with h holders, m marks and n arcs the time is that of (h + 2 m) n / 64 steps and of a look at each two
+/// holders, and h (h + 2 m) bits are kept meanwhile.
 pub fn check_slots<A: Allocator + Clone>(
     alloc: A,
     plan: &Plan<A>,

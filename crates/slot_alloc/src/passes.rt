@@ -1,13 +1,12 @@
-//! One pass over the instructions of a block in their order. It finds the ports of which each arc is chosen or starts at
-//! an instruction with such a port. No arc goes back, so all arcs into an instruction but its own are known when it is
-//! reached.
+//! One pass over the instructions of a block in their order, for 64 choices of arcs at once. It finds the ports of which
+//! each arc is chosen or starts at an instruction with such a port. No arc goes back, so all arcs into an instruction but
+//! its own are known when it is reached.
 
 ghost use Rattle.std.specs.Prelude.{◌≡◌, ℕ, ◌+◌, ◌<◌, ◌≤◌, ◌^◌, IfOk, length, replicate, if◌then◌else◌};
-ghost use Rattle.semantics.specs.Rule.{slot_of};
-ghost use Rattle.semantics.specs.Sharing.{ends_with};
 ghost use Rattle.semantics.specs.Plan as of_plans;
-ghost use Rattle.slot_alloc.specs.Passes as of_passes;
+ghost use Rattle.slot_alloc.specs.Words as of_words;
 
+use crate::choices::{Choice, mark_of};
 use code::{CodeBlock, Instr, Plan};
 use semantics::program::{Dest, Mark, Op};
 use std::alloc::{AllocError, Allocator};
@@ -15,172 +14,110 @@ use tags::token::Port;
 
 /// What is known of the arcs into a port.
 #[derive(Clone, Copy)]
-pub(crate) enum Inflow {
-    /// There is none.
-    Bare,
-    /// Each one leads: it is chosen, or starts at an instruction with a port of this kind.
-    AllLead,
-    /// One does not lead.
-    NotAll,
+pub(crate) struct Flow {
+    /// Whether there is one.
+    pub some: bool,
+    /// If so, the lanes in which each one leads: it is chosen, or starts at an instruction with a port of this kind.
+    pub lanes: u64,
 }
 
-impl Inflow {
-    /// With one more arc.
-    fn with(self, leads: bool) -> Inflow
-        ensures { result ≡ of_passes.inflow_with self leads }
+impl Flow {
+    /// With one more arc, which leads in such lanes.
+    fn with(self, lanes: u64) -> Flow
+        ensures { result ≡ of_words.flow_with self lanes }
     {
-        match (self, leads) {
-            (Inflow::NotAll, _) | (_, false) => Inflow::NotAll,
-            _ => Inflow::AllLead,
+        Flow {
+            some: true,
+            lanes: if self.some { self.lanes & lanes } else { lanes },
         }
     }
 
-    /// Whether there is an arc and each one leads.
-    pub fn all_lead(self) -> bool
-        ensures { result ≡ of_passes.all_lead self }
+    /// The lanes in which there is an arc and each one leads.
+    pub fn led(self) -> u64
+        ensures { result ≡ of_words.led self }
     {
-        matches!(self, Inflow::AllLead)
+        if self.some { self.lanes } else { 0 }
     }
 }
 
 /// The two ports of an instruction.
 #[derive(Clone, Copy)]
-pub(crate) struct Inlets {
-    pub left: Inflow,
-    pub right: Inflow,
+pub(crate) struct Flows {
+    pub left: Flow,
+    pub right: Flow,
 }
 
-impl Inlets {
+impl Flows {
     /// With one more arc into a port.
-    fn with(self, port: Port, leads: bool) -> Inlets
-        ensures { result ≡ of_passes.inlets_with self port leads }
+    fn with(self, port: Port, lanes: u64) -> Flows
+        ensures { result ≡ of_words.flows_with self port lanes }
     {
         match port {
-            Port::Left => Inlets {
-                left: self.left.with(leads),
+            Port::Left => Flows {
+                left: self.left.with(lanes),
                 right: self.right,
             },
-            Port::Right => Inlets {
+            Port::Right => Flows {
                 left: self.left,
-                right: self.right.with(leads),
+                right: self.right.with(lanes),
             },
         }
     }
 
     /// With one more arc into a port, where there is one.
-    fn with_if(self, there: bool, port: Port, leads: bool) -> Inlets
-        ensures { result ≡ (if there then of_passes.inlets_with self port leads else self) }
+    fn with_if(self, there: bool, port: Port, lanes: u64) -> Flows
+        ensures { result ≡ (if there then of_words.flows_with self port lanes else self) }
     {
-        if there { self.with(port, leads) } else { self }
+        if there { self.with(port, lanes) } else { self }
     }
 
-    /// Whether the arcs that start at the instruction lead by one of its ports.
-    fn some_lead(self) -> bool
-        ensures { result ≡ of_passes.some_lead self }
+    /// The lanes in which the arcs that start at the instruction lead by one of its ports.
+    fn some_led(self) -> u64
+        ensures { result ≡ of_words.some_led self }
     {
-        self.left.all_lead() || self.right.all_lead()
-    }
-}
-
-/// Which arcs are chosen.
-#[derive(Clone, Copy)]
-pub(crate) enum Chosen {
-    /// The end arcs of the holder of that number.
-    Ends { holder: u32 },
-    /// The arcs of the switches of a mark on one side.
-    Side { side: bool, mark: Mark },
-}
-
-impl Chosen {
-    /// Whether the first or the second destinations of an instruction with that mark are chosen.
-    fn has<A: Allocator>(self, instr: &Instr<A>, mark: Mark, second: bool) -> bool
-        ensures { result ≡ of_passes.is_chosen self instr.now mark second }
-    {
-        match self {
-            Chosen::Ends { holder } => ends(instr.op) && holder_of(instr) == Some(holder),
-            Chosen::Side { side, mark: wanted } => is_same(wanted, mark) && second != side,
-        }
-    }
-}
-
-/// Whether two instructions are marked by one predicate.
-pub(crate) fn is_same(wanted: Mark, mark: Mark) -> bool
-    ensures { result ≡ of_passes.same_mark wanted mark }
-{
-    match (wanted, mark) {
-        (Mark::OfCond { cond }, Mark::OfCond { cond: other }) => cond == other,
-        (Mark::OfFlag, Mark::OfFlag) => true,
-        _ => false,
-    }
-}
-
-/// Whether a holder of such an instruction ends with its arcs.
-fn ends(op: Op) -> bool
-    ensures { result ≡ ends_with op }
-{
-    !matches!(op, Op::Open { .. } | Op::Take { .. })
-}
-
-/// The holder of an instruction, if it uses a slot.
-pub(crate) fn holder_of<A: Allocator>(instr: &Instr<A>) -> Option<u32>
-    ensures { result ≡ slot_of instr.now instr.now.op }
-{
-    match instr.op {
-        Op::Apply2 { .. }
-        | Op::Sync
-        | Op::Switch
-        | Op::Store { .. }
-        | Op::Send { .. }
-        | Op::Return { .. }
-        | Op::Ask { .. }
-        | Op::Release { .. }
-        | Op::Open { .. }
-        | Op::Take { .. }
-        | Op::Give { .. }
-        | Op::Drain { .. } => Some(instr.slot),
-        _ => None,
+        self.left.led() | self.right.led()
     }
 }
 
 /// Enters an arc from the instruction at a place, so far ahead. An arc out of the block changes nothing.
-fn enter(inlets: &mut [Inlets], from: usize, ahead: usize, port: Port, leads: bool)
-    requires { from ≤ length inlets.old }
-    ensures { inlets.new ≡ of_passes.enter inlets.old (from + ahead) port leads }
+fn enter(flows: &mut [Flows], from: usize, ahead: usize, port: Port, lanes: u64)
+    requires { from ≤ length flows.old }
+    ensures { flows.new ≡ of_words.enter flows.old (from + ahead) port lanes }
 {
-    if ahead < inlets.len() - from {
-        inlets[from + ahead] = inlets[from + ahead].with(port, leads);
+    if ahead < flows.len() - from {
+        flows[from + ahead] = flows[from + ahead].with(port, lanes);
     }
 }
 
 /// Enters the arcs from the instruction at a place to such destinations.
-fn enter_each(inlets: &mut [Inlets], from: usize, leads: bool, dests: &[Dest])
-    requires { from ≤ length inlets.old }
-    ensures { inlets.new ≡ of_passes.enter_each inlets.old from leads dests.now }
+fn enter_each(flows: &mut [Flows], from: usize, lanes: u64, dests: &[Dest])
+    requires { from ≤ length flows.old }
+    ensures { flows.new ≡ of_words.enter_each flows.old from lanes dests.now }
 {
     for dest in dests {
-        enter(inlets, from, dest.ahead as usize, dest.port, leads);
+        enter(flows, from, dest.ahead as usize, dest.port, lanes);
     }
 }
 
 /// Enters the arcs to a landing of so many instructions.
-fn enter_row(inlets: &mut [Inlets], from: usize, ahead: u32, leads: bool, size: u64)
-    requires from { from ≤ length inlets.old }
+fn enter_row(flows: &mut [Flows], from: usize, ahead: u32, lanes: u64, size: u64)
+    requires from { from ≤ length flows.old }
     requires few { size < 2 ^ 33 }
-    ensures { inlets.new ≡ of_passes.enter_row inlets.old (from + ahead) leads size }
+    ensures { flows.new ≡ of_words.enter_row flows.old (from + ahead) lanes size }
 {
     for k in 0..size {
-        enter(inlets, from, ahead as usize + k as usize, Port::Left, leads);
+        enter(flows, from, ahead as usize + k as usize, Port::Left, lanes);
     }
 }
 
 /// Enters the arcs to landings that begin at such destinations.
-fn enter_landings(inlets: &mut [Inlets], from: usize, leads: bool, size: u64, dests: &[Dest])
-    requires from { from ≤ length inlets.old }
+fn enter_landings(flows: &mut [Flows], from: usize, lanes: u64, size: u64, dests: &[Dest])
+    requires from { from ≤ length flows.old }
     requires few { size < 2 ^ 33 }
-    ensures { inlets.new ≡ of_passes.enter_landings inlets.old from leads size dests.now }
+    ensures { flows.new ≡ of_words.enter_landings flows.old from lanes size dests.now }
 {
     for dest in dests {
-        enter_row(inlets, from, dest.ahead, leads, size);
+        enter_row(flows, from, dest.ahead, lanes, size);
     }
 }
 
@@ -199,55 +136,55 @@ fn landing<A: Allocator>(plan: &Plan<A>, block: u16) -> u64
 /// Enters the arcs of an instruction's first destinations.
 fn enter_firsts<A: Allocator>(
     plan: &Plan<A>,
-    inlets: &mut [Inlets],
+    flows: &mut [Flows],
     from: usize,
-    leads: bool,
+    lanes: u64,
     instr: &Instr<A>,
 )
-    requires { from ≤ length inlets.old }
-    ensures { inlets.new ≡ of_passes.enter_firsts plan.now inlets.old from leads instr.now.firsts instr.now.op }
+    requires { from ≤ length flows.old }
+    ensures { flows.new ≡ of_words.enter_firsts plan.now flows.old from lanes instr.now.firsts instr.now.op }
 {
     match instr.op {
         Op::Link { block } => enter_landings(
-            inlets,
+            flows,
             from,
-            leads,
+            lanes,
             landing(plan, block),
             &instr.firsts,
         ),
-        _ => enter_each(inlets, from, leads, &instr.firsts),
+        _ => enter_each(flows, from, lanes, &instr.firsts),
     }
 }
 
 /// The ports of an instruction with its arcs to such destinations that lead back to itself.
-fn own_each(inlets: Inlets, leads: bool, dests: &[Dest]) -> Inlets
-    ensures { result ≡ of_passes.own_each inlets leads dests.now }
+fn own_each(flows: Flows, lanes: u64, dests: &[Dest]) -> Flows
+    ensures { result ≡ of_words.own_each flows lanes dests.now }
 {
-    let mut own = inlets;
+    let mut own = flows;
     for dest in dests {
-        own = own.with_if(dest.ahead == 0, dest.port, leads);
+        own = own.with_if(dest.ahead == 0, dest.port, lanes);
     }
     own
 }
 
 /// The ports of an instruction with its arcs to such landings that lead back to itself.
-fn own_landings(inlets: Inlets, leads: bool, size: u64, dests: &[Dest]) -> Inlets
-    ensures { result ≡ of_passes.own_landings inlets leads size dests.now }
+fn own_landings(flows: Flows, lanes: u64, size: u64, dests: &[Dest]) -> Flows
+    ensures { result ≡ of_words.own_landings flows lanes size dests.now }
 {
-    let mut own = inlets;
+    let mut own = flows;
     for dest in dests {
-        own = own.with_if(dest.ahead == 0 && size > 0, Port::Left, leads);
+        own = own.with_if(dest.ahead == 0 && size > 0, Port::Left, lanes);
     }
     own
 }
 
 /// The ports of an instruction with its arcs of first destinations that lead back to itself.
-fn own_firsts<A: Allocator>(plan: &Plan<A>, inlets: Inlets, leads: bool, instr: &Instr<A>) -> Inlets
-    ensures { result ≡ of_passes.own_firsts plan.now inlets leads instr.now.firsts instr.now.op }
+fn own_firsts<A: Allocator>(plan: &Plan<A>, flows: Flows, lanes: u64, instr: &Instr<A>) -> Flows
+    ensures { result ≡ of_words.own_firsts plan.now flows lanes instr.now.firsts instr.now.op }
 {
     match instr.op {
-        Op::Link { block } => own_landings(inlets, leads, landing(plan, block), &instr.firsts),
-        _ => own_each(inlets, leads, &instr.firsts),
+        Op::Link { block } => own_landings(flows, lanes, landing(plan, block), &instr.firsts),
+        _ => own_each(flows, lanes, &instr.firsts),
     }
 }
 
@@ -255,43 +192,35 @@ fn own_firsts<A: Allocator>(plan: &Plan<A>, inlets: Inlets, leads: bool, instr: 
 /// instruction has a port of which each arc leads without them. The compiler makes no such arcs.
 fn own_instr<A: Allocator>(
     plan: &Plan<A>,
-    chosen: Chosen,
-    inlets: Inlets,
-    mark: Mark,
+    flows: Flows,
+    firsts: u64,
+    seconds: u64,
     instr: &Instr<A>,
-) -> Inlets
-    ensures { result ≡ of_passes.own_instr plan.now chosen inlets mark instr.now }
+) -> Flows
+    ensures { result ≡ of_words.own_instr plan.now flows firsts seconds instr.now }
 {
-    let firsts = own_firsts(plan, inlets, chosen.has(instr, mark, false), instr);
-    own_each(firsts, chosen.has(instr, mark, true), &instr.seconds)
+    own_each(
+        own_firsts(plan, flows, firsts, instr),
+        seconds,
+        &instr.seconds,
+    )
 }
 
-/// Enters the arcs of the instruction at a place.
+/// Enters the arcs of the instruction at a place, whose first and second destinations are chosen in such lanes.
 fn enter_instr<A: Allocator>(
     plan: &Plan<A>,
-    chosen: Chosen,
-    inlets: &mut [Inlets],
+    flows: &mut [Flows],
     from: usize,
-    mark: Mark,
+    firsts: u64,
+    seconds: u64,
     instr: &Instr<A>,
 )
-    requires { from < length inlets.old }
-    ensures { inlets.new ≡ of_passes.enter_instr plan.now chosen inlets.old from mark instr.now }
+    requires { from < length flows.old }
+    ensures { flows.new ≡ of_words.enter_instr plan.now flows.old from firsts seconds instr.now }
 {
-    let leads = own_instr(plan, chosen, inlets[from], mark, instr).some_lead();
-    let firsts = leads || chosen.has(instr, mark, false);
-    let seconds = leads || chosen.has(instr, mark, true);
-    enter_firsts(plan, inlets, from, firsts, instr);
-    enter_each(inlets, from, seconds, &instr.seconds);
-}
-
-fn mark_of(marks: &[Mark], place: usize) -> Mark
-    ensures { result ≡ of_passes.mark_of marks.now place }
-{
-    match marks.get(place) {
-        Some(mark) => *mark,
-        None => Mark::Unmarked,
-    }
+    let led = own_instr(plan, flows[from], firsts, seconds, instr).some_led();
+    enter_firsts(plan, flows, from, led | firsts, instr);
+    enter_each(flows, from, led | seconds, &instr.seconds);
 }
 
 /// The pass over the instructions of a block with such marks: the ports of each instruction.
@@ -300,25 +229,26 @@ pub(crate) fn pass<A: Allocator>(
     plan: &Plan<A>,
     block: &CodeBlock<A>,
     marks: &[Mark],
-    chosen: Chosen,
-) -> Result<Vec<Inlets, A>, AllocError>
+    choice: Choice,
+    known: &[Mark],
+) -> Result<Vec<Flows, A>, AllocError>
     ensures all { IfOk result (λ v. length v.items ≡ length block.now.instrs) }
-    ensures exact { IfOk result (λ v. v.items ≡ of_passes.pass plan.now chosen marks.now (replicate (length block.now.instrs) of_passes.bare) 0 block.now.instrs) }
+    ensures exact { IfOk result (λ v. v.items ≡ of_words.pass plan.now choice known.now marks.now (replicate (length block.now.instrs) of_words.bare) 0 block.now.instrs) }
 {
-    const BARE: Inlets = Inlets {
-        left: Inflow::Bare,
-        right: Inflow::Bare,
+    const BARE: Flow = Flow {
+        some: false,
+        lanes: 0,
     };
-    let mut inlets = vec![in alloc; BARE; block.instrs.len()]?;
+    const NONE: Flows = Flows {
+        left: BARE,
+        right: BARE,
+    };
+    let mut flows = vec![in alloc; NONE; block.instrs.len()]?;
     for (place, instr) in block.instrs.iter().enumerate() {
-        enter_instr(
-            plan,
-            chosen,
-            &mut inlets,
-            place,
-            mark_of(marks, place),
-            instr,
-        );
+        let mark = mark_of(marks, place);
+        let firsts = choice.lanes(known, instr, mark, false);
+        let seconds = choice.lanes(known, instr, mark, true);
+        enter_instr(plan, &mut flows, place, firsts, seconds, instr);
     }
-    Ok(inlets)
+    Ok(flows)
 }

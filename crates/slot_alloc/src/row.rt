@@ -1,49 +1,49 @@
-//! A flag for each holder of a block.
+//! A word for each holder of a block.
 
-ghost use Rattle.std.specs.Prelude.{◌≡◌, ◌<◌, true, false, IfOk, length, replicate, slice_set, slice_index_or};
+ghost use Rattle.std.specs.Prelude.{◌≡◌, ◌<◌, ◌-◌, ◌^◌, IfOk, length, replicate, slice_set, slice_index_or, bit_and};
 
 use std::alloc::{AllocError, Allocator};
 use std::marker::Model;
 
-/// A flag for each holder. Contracts see the list.
+/// A word for each holder, of 64 lanes. Contracts see the list.
 #[derive(Drop)]
 pub(crate) struct Row<A: Allocator> {
-    flags: Vec<bool, A>,
+    words: Vec<u64, A>,
 }
 
 impl<A: Allocator> Model for Row<A> {
-    ghost use Rattle.std.specs.Prelude.{List, Bool};
+    ghost use Rattle.std.specs.Prelude.{List, ℕ};
 
-    ghost Value = { List Bool };
+    ghost Value = { List ℕ };
 
-    ghost view = { λ r. r.flags.items };
+    ghost view = { λ r. r.words.items };
 }
 
 impl<A: Allocator> Row<A> {
-    /// So many flags, all set.
+    /// So many words with all lanes.
     pub fn full(alloc: A, count: usize) -> Result<Row<A>, AllocError>
-        ensures { IfOk result (λ r. r ≡ replicate count true) }
+        ensures { IfOk result (λ r. r ≡ replicate count (2 ^ 64 - 1)) }
     {
-        let flags = vec![in alloc; true; count]?;
-        Ok(Row { flags })
+        let words = vec![in alloc; u64::MAX; count]?;
+        Ok(Row { words })
     }
 
-    /// Whether that flag is there and set.
-    pub fn has(&self, number: usize) -> bool
-        ensures { result ≡ slice_index_or self.now number false }
+    /// The lanes of that holder; none if there is no such word.
+    pub fn at(&self, number: usize) -> u64
+        ensures { result ≡ slice_index_or self.now number 0 }
     {
-        match self.flags.get(number) {
-            Some(flag) => *flag,
-            None => false,
+        match self.words.get(number) {
+            Some(word) => *word,
+            None => 0,
         }
     }
 
-    /// Clears that flag, if it is there.
-    pub fn clear(&mut self, number: usize)
-        ensures { self.new ≡ slice_set self.old number false }
+    /// Clears all but such lanes of that holder, if it is there.
+    pub fn keep(&mut self, number: usize, lanes: u64)
+        ensures { self.new ≡ slice_set self.old number (bit_and (slice_index_or self.old number 0) lanes) }
     {
-        if number < self.flags.len() {
-            self.flags[number] = false;
+        if number < self.words.len() {
+            self.words[number] &= lanes;
         }
     }
 }

@@ -1,11 +1,11 @@
 //! Which holders of a block may share a slot.
 
-ghost use Rattle.std.specs.Prelude.{◌≡◌, ℕ, ◌<◌, ◌↔◌, [], length, map, replicate, IfOk, IfSome, IfNone, IsTrue, All, true, false, slice_get, slice_index_or, slice_set, if◌then◌else◌};
+ghost use Rattle.std.specs.Prelude.{◌≡◌, ℕ, ◌<◌, ◌^◌, ◌↔◌, [], length, replicate, IfOk, IfSome, IfNone, IsTrue, All, true, false, slice_get, slice_index_or, slice_set, if◌then◌else◌};
 ghost use Rattle.std.specs.List.{list_any};
 ghost use Rattle.slot_alloc.specs.Passes.{same_mark};
 ghost use Rattle.slot_alloc.specs.Tables as of_tables;
 
-use crate::passes::{Chosen, is_same};
+use crate::choices::{Choice, is_marked, is_same};
 use crate::row::Row;
 use crate::rows::row_of;
 use code::{CodeBlock, Plan};
@@ -16,7 +16,7 @@ use std::marker::Model;
 /// The most slots that a frame has.
 pub(crate) const SLOTS: usize = 512;
 
-/// The holders on the two sides of the switches of one mark.
+/// The holders on the two sides of the switches of up to 64 marks, a lane for each mark.
 #[derive(Drop)]
 pub(crate) struct Split<A: Allocator> {
     yes: Row<A>,
@@ -32,18 +32,12 @@ impl<A: Allocator> Model for Split<A> {
 }
 
 impl<A: Allocator> Split<A> {
-    /// Whether the two holders are on different sides.
+    /// Whether the two holders are on different sides of one mark.
     fn is_apart(&self, g: usize, h: usize) -> bool
         ensures { result ≡ of_tables.is_apart g h self.now }
     {
-        (self.yes.has(g) && self.no.has(h)) || (self.no.has(g) && self.yes.has(h))
+        (self.yes.at(g) & self.no.at(h)) | (self.no.at(g) & self.yes.at(h)) != 0
     }
-}
-
-fn is_marked(mark: Mark) -> bool
-    ensures { result ≡ of_tables.is_marked mark }
-{
-    !matches!(mark, Mark::Unmarked)
 }
 
 fn is_known(mark: Mark, seen: &[Mark]) -> bool
@@ -65,61 +59,63 @@ fn distinct<A: Allocator>(alloc: A, marks: &[Mark]) -> Result<Vec<Mark, A>, Allo
     Ok(seen)
 }
 
-/// The holders on the two sides of the switches of a mark.
+/// The holders on the two sides of the switches of the first 64 marks of a list.
 fn split_of<A: Allocator + Clone>(
     alloc: A,
     plan: &Plan<A>,
     block: &CodeBlock<A>,
     marks: &[Mark],
-    mark: Mark,
+    known: &[Mark],
 ) -> Result<Split<A>, AllocError>
-    ensures { IfOk result (λ s. s ≡ of_tables.split_of plan.now marks.now block.now mark) }
+    ensures { IfOk result (λ s. s ≡ of_tables.split_of plan.now marks.now block.now known.now) }
 {
-    let yes = row_of(
-        alloc.clone()?,
-        plan,
-        block,
-        marks,
-        Chosen::Side { side: true, mark },
-    )?;
-    let no = row_of(
-        alloc,
-        plan,
-        block,
-        marks,
-        Chosen::Side { side: false, mark },
-    )?;
+    let on_yes = Choice::Sides { side: true };
+    let on_no = Choice::Sides { side: false };
+    let yes = row_of(alloc.clone()?, plan, block, marks, on_yes, known)?;
+    let no = row_of(alloc, plan, block, marks, on_no, known)?;
     Ok(Split { yes, no })
 }
 
+/// In how many groups of 64 so many things lie.
+fn groups(count: usize) -> usize
+    requires { count < 2 ^ 63 }
+    ensures { result ≡ of_tables.groups count }
+{
+    (count + 63) / 64
+}
+
+/// The sides of all marks, 64 at a time.
 fn splits_of<A: Allocator + Clone>(
     alloc: A,
     plan: &Plan<A>,
     block: &CodeBlock<A>,
     marks: &[Mark],
 ) -> Result<Vec<Split<A>, A>, AllocError>
-    ensures { IfOk result (λ v. v.items ≡ map (of_tables.split_of plan.now marks.now block.now) (of_tables.distinct [] marks.now)) }
+    ensures { IfOk result (λ v. v.items ≡ of_tables.splits_of plan.now marks.now block.now (of_tables.distinct [] marks.now) (of_tables.groups (length (of_tables.distinct [] marks.now)))) }
 {
-    let different = distinct(alloc.clone()?, marks)?;
-    let mut splits = Vec::with_capacity(alloc.clone()?, different.len())?;
-    for mark in &different {
-        splits.push(split_of(alloc.clone()?, plan, block, marks, *mark)?)?;
+    let known = distinct(alloc.clone()?, marks)?;
+    let mut splits = Vec::new(alloc.clone()?);
+    for group in 0..groups(known.len()) {
+        let rest = &known[group * 64..];
+        splits.push(split_of(alloc.clone()?, plan, block, marks, rest)?)?;
     }
     Ok(splits)
 }
 
-/// For each holder the row of the holders that come after it.
+/// For each 64 holders the row that tells which holders come after them.
 fn after_rows<A: Allocator + Clone>(
     alloc: A,
     plan: &Plan<A>,
     block: &CodeBlock<A>,
     marks: &[Mark],
 ) -> Result<Vec<Row<A>, A>, AllocError>
-    ensures { IfOk result (λ v. v.items ≡ of_tables.after_rows plan.now marks.now block.now block.now.slots) }
+    ensures { IfOk result (λ v. v.items ≡ of_tables.after_rows plan.now marks.now block.now (of_tables.groups block.now.slots)) }
 {
-    let mut rows = Vec::with_capacity(alloc.clone()?, block.slots as usize)?;
-    for holder in 0..block.slots {
-        rows.push(row_of(alloc.clone()?, plan, block, marks, Chosen::Ends { holder })?)?;
+    let count = groups(block.slots as usize);
+    let mut rows = Vec::with_capacity(alloc.clone()?, count)?;
+    for group in 0..count {
+        let choice = Choice::Ends { first: group * 64 };
+        rows.push(row_of(alloc.clone()?, plan, block, marks, choice, &[])?)?;
     }
     Ok(rows)
 }
@@ -150,8 +146,8 @@ impl<A: Allocator> Model for Table<A> {
 }
 
 impl<A: Allocator + Clone> Table<A> {
-    /// The table of a block with such marks. It takes one pass over the arcs of the block for each holder, and two for
-    /// each mark.
+    /// The table of a block with such marks. It takes one pass over the arcs of the block for each 64 holders, and two
+    /// for each 64 marks.
     pub fn of(
         alloc: A,
         plan: &Plan<A>,
@@ -171,8 +167,8 @@ impl<A: Allocator> Table<A> {
     fn comes_after(&self, g: usize, h: usize) -> bool
         ensures { result ≡ of_tables.comes_after self.now.after g h }
     {
-        match self.after.get(h) {
-            Some(row) => row.has(g),
+        match self.after.get(h / 64) {
+            Some(row) => (row.at(g) >> (h % 64)) & 1 == 1,
             None => false,
         }
     }

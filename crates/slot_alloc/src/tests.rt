@@ -300,7 +300,7 @@ fn each_growth_is_refused_in_turn(rt: HostRuntime) -> Result<(), Fail> {
             }
         }
     }
-    assert!(rt; refused > 10);
+    assert!(rt; refused > 5);
     assert!(rt; done > 10);
     Ok(())
 }
