@@ -4,3 +4,4 @@ pub mod Slots
 pub mod BankViews
 pub mod Lends
 pub mod Banked
+pub mod LendsSlots
