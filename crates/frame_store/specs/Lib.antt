@@ -5,3 +5,4 @@ pub mod BankViews
 pub mod Lends
 pub mod Banked
 pub mod LendsSlots
+pub mod LendsFrames

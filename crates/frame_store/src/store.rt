@@ -6,6 +6,7 @@ ghost use Rattle.frame_store.specs.Slots.{all_empty, bank_size, place_of};
 ghost use Rattle.frame_store.specs.BankViews.{IsBank, bank_states};
 
 use crate::bank::{BankMut, Banks};
+use crate::frame::FrameMut;
 use crate::slot::Slot;
 use std::alloc::{AllocError, Allocator};
 use std::marker::Model;
@@ -92,6 +93,16 @@ impl<A: Allocator> Store<A> {
     {
         let place = element * (self.frames * self.width) + (frame * self.width + slot);
         &mut self.slots[place]
+    }
+
+    /// A frame of an element. What is changed in it is changed in the store.
+    pub fn frame(&mut self, element: usize, frame: usize) -> FrameMut<'_, A>
+        ensures same_reference { result.store.ghost_name ≡ self.entry.ghost_name }
+        ensures value { result.store.now ≡ self.old }
+        ensures element { result.element ≡ element }
+        ensures frame { result.frame ≡ frame }
+    {
+        FrameMut::new(self, element, frame)
     }
 
     /// Hands out each bank once, all apart from one another.

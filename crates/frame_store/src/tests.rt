@@ -1,5 +1,5 @@
 use crate::bank::BankMut;
-use crate::frame::{FrameMut, LendSlot};
+use crate::frame::LendSlot;
 use crate::store::Store;
 use rationed::Rationed;
 use std::alloc::Allocator;
@@ -59,8 +59,8 @@ fn keeps_each_state(rt: HostRuntime) -> Result<(), Fail> {
 fn lends_each_slot(rt: HostRuntime) -> Result<(), Fail> {
     let mut store = Store::new(rt.alloc(), 2, 3, 4)?;
     for state in states() {
-        let slot = store.slot(1, 2, 1);
-        slot.set(state);
+        let mut frame = store.frame(1, 2);
+        frame.slot(1).set(state);
         assert_eq!(rt; store.slot(1, 2, 1).state(), state);
         assert_eq!(rt; store.slot(1, 2, 2).state(), SlotState::Empty);
         assert_eq!(rt; store.slot(1, 1, 1).state(), SlotState::Empty);
@@ -69,7 +69,7 @@ fn lends_each_slot(rt: HostRuntime) -> Result<(), Fail> {
     let bank = store.bank(1);
     assert!(rt; bank.holds(2, 1));
     let place = bank.place(2, 1);
-    let slots: FrameMut<'_> = &mut *bank.slots;
+    let slots = &mut *bank.slots;
     assert!(rt;
         slots
             .slot(place)
