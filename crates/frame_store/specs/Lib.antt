@@ -4,3 +4,5 @@ pub mod Slots
 pub mod BankViews
 pub mod Lends
 pub mod Banked
+pub mod LendsSlots
+pub mod LendsFrames

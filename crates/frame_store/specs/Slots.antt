@@ -1,5 +1,5 @@
 -- The slots of all frames, in banks.
-use Rattle.std.specs.Prelude.{◌≡◌, ℕ, ◌+◌, ◌*◌, ◌<◌, List, ◌++◌, length, take, drop, replicate, slice_index_or}
+use Rattle.std.specs.Prelude.{◌≡◌, ℕ, ◌+◌, ◌*◌, ◌<◌, List, ◌++◌, length, take, drop, replicate, slice_index_or, slice_set}
 use Rattle.tags.specs.declared.slot.SlotState.{SlotState}
 use Rattle.tags.specs.declared.slot.SlotState.TheVariants.{Empty}
 
@@ -26,3 +26,11 @@ with_states s ys = record { elements = s.elements; frames = s.frames; width = s.
 -- the state of a slot of a frame of an element's bank
 abbrev pub state_at : Slots → ℕ → ℕ → ℕ → SlotState
 state_at s e f r = slice_index_or s.states (e * bank_size s + (f * s.width + r)) Empty
+
+-- where slot r of frame f of an element stands
+abbrev pub place_of : Slots → ℕ → ℕ → ℕ → ℕ
+place_of s e f r = e * bank_size s + (f * s.width + r)
+
+-- the slot at a place has this state, and every other slot of every frame of every element is as it was
+abbrev pub with_state : Slots → ℕ → SlotState → Slots
+with_state s place w = record { elements = s.elements; frames = s.frames; width = s.width; states = slice_set s.states place w }

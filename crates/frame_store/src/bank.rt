@@ -10,7 +10,8 @@ use tags::slot::SlotState;
 /// The slots of the frames of one element: so many frames of so many slots, from some place of the slice on.
 #[derive(Drop)]
 pub struct BankMut<'a> {
-    slots: &'a mut [Slot],
+    /// The slots behind the bank. One is lent by `let slots = &mut *bank.slots;` and `slots.slot(place)`.
+    pub slots: &'a mut [Slot],
     start: usize,
     frames: usize,
     width: usize,
@@ -63,7 +64,8 @@ impl<'a> BankMut<'a> {
             && self.frames <= (slots.len() - self.start) / self.width
     }
 
-    fn place(&self, frame: usize, slot: usize) -> usize
+    /// Where a slot of a frame stands among the slots behind the bank.
+    pub fn place(&self, frame: usize, slot: usize) -> usize
         requires bank { IsBank self.now }
         requires frame { frame < self.now.frames }
         requires slot { slot < self.now.width }

@@ -2,6 +2,7 @@
 #![tactic(auto)]
 
 pub mod bank;
+pub mod frame;
 pub mod packing;
 pub mod slot;
 pub mod store;

@@ -1,11 +1,12 @@
 //! All slots of all frames.
 
-ghost use Rattle.std.specs.Prelude.{◌≡◌, ◌+◌, ◌*◌, ◌^◌, ◌≤◌, ◌<◌, length, IfOk};
+ghost use Rattle.std.specs.Prelude.{◌≡◌, ◌+◌, ◌*◌, ◌^◌, ◌≤◌, ◌<◌, length, IfOk, slice_index_or};
 ghost use Rattle.std.specs.Borrow.{sem};
-ghost use Rattle.frame_store.specs.Slots.{all_empty, bank_size};
+ghost use Rattle.frame_store.specs.Slots.{all_empty, bank_size, place_of};
 ghost use Rattle.frame_store.specs.BankViews.{IsBank, bank_states};
 
 use crate::bank::{BankMut, Banks};
+use crate::frame::FrameMut;
 use crate::slot::Slot;
 use std::alloc::{AllocError, Allocator};
 use std::marker::Model;
@@ -31,7 +32,7 @@ impl<A: Allocator> Model for Store<A> {
 }
 
 impl<A: Allocator> Store<A> {
-    ghost use Rattle.frame_store.specs.Lends.{LendsBank};
+    ghost use Rattle.frame_store.specs.Lends.{LendsBank, LendsSlotAt};
     ghost use Rattle.frame_store.specs.Banked.{left_of, size_of};
 
     /// Slots that are all empty: so many elements, frames an element and slots a frame.
@@ -80,6 +81,28 @@ impl<A: Allocator> Store<A> {
         let width = self.width;
         let start = element * (frames * width);
         BankMut::new(self.slots.as_mut_slice(), start, frames, width)
+    }
+
+    /// A slot of a frame of an element. What it is set to is in the store, and every other slot of every frame stays.
+    pub fn slot(&mut self, element: usize, frame: usize, slot: usize) -> &mut Slot
+        requires element { element < self.old.elements }
+        requires frame { frame < self.old.frames }
+        requires slot { slot < self.old.width }
+        ensures* lends { sem 𝓛 (LendsSlotAt A.row A.Allocator self.entry (place_of self.old element frame slot) result) }
+        ensures value { result.now ≡ slice_index_or self.old.states (place_of self.old element frame slot) result.now }
+    {
+        let place = element * (self.frames * self.width) + (frame * self.width + slot);
+        &mut self.slots[place]
+    }
+
+    /// A frame of an element. What is changed in it is changed in the store.
+    pub fn frame(&mut self, element: usize, frame: usize) -> FrameMut<'_, A>
+        ensures same_reference { result.store.ghost_name ≡ self.entry.ghost_name }
+        ensures value { result.store.now ≡ self.old }
+        ensures element { result.element ≡ element }
+        ensures frame { result.frame ≡ frame }
+    {
+        FrameMut::new(self, element, frame)
     }
 
     /// Hands out each bank once, all apart from one another.

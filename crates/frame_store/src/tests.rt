@@ -1,4 +1,5 @@
 use crate::bank::BankMut;
+use crate::frame::LendSlot;
 use crate::store::Store;
 use rationed::Rationed;
 use std::alloc::Allocator;
@@ -54,13 +55,41 @@ fn keeps_each_state(rt: HostRuntime) -> Result<(), Fail> {
     Ok(())
 }
 
-/// Writes the bank's number and the slot's into each slot.
+#[test]
+fn lends_each_slot(rt: HostRuntime) -> Result<(), Fail> {
+    let mut store = Store::new(rt.alloc(), 2, 3, 4)?;
+    for state in states() {
+        let mut frame = store.frame(1, 2);
+        frame.slot(1).set(state);
+        assert_eq!(rt; store.slot(1, 2, 1).state(), state);
+        assert_eq!(rt; store.slot(1, 2, 2).state(), SlotState::Empty);
+        assert_eq!(rt; store.slot(1, 1, 1).state(), SlotState::Empty);
+        assert_eq!(rt; store.slot(0, 2, 1).state(), SlotState::Empty);
+    }
+    let bank = store.bank(1);
+    assert!(rt; bank.holds(2, 1));
+    let place = bank.place(2, 1);
+    let slots = &mut *bank.slots;
+    assert!(rt;
+        slots
+            .slot(place)
+            .is_some_and(|slot| slot.state() == SlotState::Draining(7))
+    );
+    assert!(rt; slots.slot(24).is_none());
+    Ok(())
+}
+
+/// Writes the bank's number and the slot's into each slot, which is lent for it.
 fn fill(number: usize, bank: &mut BankMut<'_>) {
     for frame in 0..bank.frames() {
         for slot in 0..bank.width() {
             if bank.holds(frame, slot) {
                 let count = (number % 100 * 10_000 + frame % 100 * 100 + slot % 100) as u32;
-                bank.set(frame, slot, SlotState::Credits(count));
+                let place = bank.place(frame, slot);
+                let slots = &mut *bank.slots;
+                if let Some(lent) = slots.slot(place) {
+                    lent.set(SlotState::Credits(count));
+                }
             }
         }
     }
