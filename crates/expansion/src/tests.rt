@@ -1,4 +1,4 @@
-//! The plan of a small graph, instruction by instruction.
+//! The plans of small graphs, instruction by instruction.
 
 ghost use Rattle.std.specs.Prelude.{◌≡◌, IfOk};
 ghost use Rattle.semantics.specs.WellFormed.{WellFormed};
@@ -43,11 +43,39 @@ fn adder<A: Allocator + Clone>(alloc: A) -> Result<Block<'static, A>, AllocError
     })
 }
 
-/// The graph of that block.
+/// The block `g`, which gives its first input and does not use its second one.
+fn first<A: Allocator + Clone>(alloc: A) -> Result<Block<'static, A>, AllocError>
+    ensures { IfOk result (λ b. b ≡ Samples.first) }
+{
+    Ok(Block {
+        name: Name { bytes: b"g" },
+        inputs: 2,
+        outputs: 1,
+        nodes: Vec::new(alloc.clone()?),
+        results: [source(0)].to_vec(alloc)?,
+    })
+}
+
+/// The graph of the block `m` alone.
 fn alone<A: Allocator + Clone>(alloc: A) -> Result<Graph<'static, A>, AllocError>
     ensures { IfOk result (λ g. g ≡ Samples.alone) }
 {
     let mut blocks = Vec::new(alloc.clone()?);
+    blocks.push(adder(alloc.clone()?)?)?;
+    Ok(Graph {
+        version: Version::One,
+        arrays: Vec::new(alloc),
+        blocks,
+        main: Name { bytes: b"m" },
+    })
+}
+
+/// The graph of the blocks `g` and `m`, which runs `m`.
+fn both<A: Allocator + Clone>(alloc: A) -> Result<Graph<'static, A>, AllocError>
+    ensures { IfOk result (λ g. g ≡ Samples.both) }
+{
+    let mut blocks = Vec::new(alloc.clone()?);
+    blocks.push(first(alloc.clone()?)?)?;
     blocks.push(adder(alloc.clone()?)?)?;
     Ok(Graph {
         version: Version::One,
@@ -76,14 +104,7 @@ fn expect_code<R: Abort, A: Allocator>(
     }
 }
 
-#[test]
-fn adds_two_inputs(rt: HostRuntime) -> Result<(), Fail> {
-    let graph = alone(rt.alloc())?;
-    let plan = expand(rt.alloc(), &graph)?;
-    assert_eq!(rt; plan.program.main, 0);
-    assert_eq!(rt; plan.plain, 1);
-    assert_eq!(rt; plan.program.blocks.len(), 1);
-    let block = &plan.program.blocks[0];
+fn expect_adder<R: Abort, A: Allocator>(rt: &R, block: &CodeBlock<A>) {
     assert_eq!(rt; block.slots, 3);
     let expected: [(Op, u32, &[Dest]); 6] = [
         (Op::Copy, 0, &[to(4, Left), to(5, Left)]),
@@ -93,30 +114,55 @@ fn adds_two_inputs(rt: HostRuntime) -> Result<(), Fail> {
         (Op::Return { offset: 0 }, 1, &[to(1, Right)]),
         (Op::Release { offset: 1 }, 2, &[]),
     ];
-    expect_code(&rt, block, &expected);
+    expect_code(rt, block, &expected);
+}
+
+#[test]
+fn adds_two_inputs(rt: HostRuntime) -> Result<(), Fail> {
+    let graph = alone(rt.alloc())?;
+    let plan = expand(rt.alloc(), &graph)?;
+    assert_eq!(rt; plan.program.main, 0);
+    assert_eq!(rt; plan.plain, 1);
+    assert_eq!(rt; plan.program.blocks.len(), 1);
+    expect_adder(&rt, &plan.program.blocks[0]);
     assert_eq!(rt; plan.marks_of(0), [Mark::Unmarked; 6].as_slice());
     Ok(())
 }
 
-/// Makes the graph, and its plan.
-fn expand_alone<A: Allocator + Clone>(alloc: A) -> Result<u32, AllocError> {
-    let graph = alone(alloc.clone()?)?;
-    let plan = expand(alloc, &graph)?;
-    Ok(plan.plain)
+/// The unused input goes to the join at its left, and the signal of the `return` at its right.
+#[test]
+fn an_unused_input_is_an_end(rt: HostRuntime) -> Result<(), Fail> {
+    let graph = both(rt.alloc())?;
+    let plan = expand(rt.alloc(), &graph)?;
+    assert_eq!(rt; plan.program.main, 1);
+    assert_eq!(rt; plan.plain, 2);
+    assert_eq!(rt; plan.program.blocks.len(), 2);
+    let expected: [(Op, u32, &[Dest]); 6] = [
+        (Op::Copy, 0, &[to(3, Left), to(5, Left)]),
+        (Op::Copy, 0, &[to(2, Right)]),
+        (Op::Copy, 0, &[to(2, Left)]),
+        (Op::Return { offset: 0 }, 0, &[to(1, Right)]),
+        (Op::Sync, 1, &[to(1, Right)]),
+        (Op::Release { offset: 1 }, 2, &[]),
+    ];
+    expect_code(&rt, &plan.program.blocks[0], &expected);
+    expect_adder(&rt, &plan.program.blocks[1]);
+    Ok(())
 }
 
-/// Each growth in turn is refused, until a run meets no refusal.
+/// Makes the graph of two blocks, and its plan.
+fn expand_both<A: Allocator + Clone>(alloc: A) -> Result<u32, AllocError> {
+    let graph = both(alloc.clone()?)?;
+    let plan = expand(alloc, &graph)?;
+    Ok(plan.program.main)
+}
+
+/// Each growth in turn is refused: the answer is the error, and after the last one the plan.
 #[test]
 fn refuses_each_growth(rt: HostRuntime) -> Result<(), Fail> {
-    let mut refused = 0u64;
-    for at in 1..200u64 {
+    for at in 1..300u64 {
         let heap = Rationed::new(rt.alloc(), at);
-        if expand_alone(&heap).is_ok() {
-            break;
-        }
-        refused = at;
+        assert_eq!(rt; expand_both(&heap).is_err(), at <= 41);
     }
-    assert!(rt; refused > 20);
-    assert!(rt; refused < 100);
     Ok(())
 }

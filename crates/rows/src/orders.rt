@@ -17,12 +17,12 @@ const CONFIG: Config = Config {
     turn: 64,
 };
 
-/// Twenty thousand picks, in an order that the seed chooses.
-fn picks(alloc: Global, seed: u64) -> Result<Vec<(u32, u64)>, AllocError>
+/// So many picks, in an order that the seed chooses.
+fn picks(alloc: Global, seed: u64, count: u64) -> Result<Vec<(u32, u64)>, AllocError>
     ensures { IfOk result (λ v. All (λ pick. pick.0 < 1) v.items) }
 {
-    let mut picks = Vec::with_capacity(alloc, 20_000)?;
-    for i in 0..20_000u64 {
+    let mut picks = Vec::with_capacity(alloc, count as usize)?;
+    for i in 0..count {
         picks.push((0, seed.wrapping_mul(31).wrapping_add(i.wrapping_mul(17))))?;
     }
     Ok(picks)
@@ -49,7 +49,7 @@ fn orders(rt: HostRuntime) -> Result<(), Fail> {
     ] {
         let compiled = compile(rt.alloc(), text).map_err(|_| "compiled")?;
         for seed in 0..100u64 {
-            let picks = picks(rt.alloc(), seed)?;
+            let picks = picks(rt.alloc(), seed, 20_000)?;
             let report = emulate_object_picks(
                 rt.alloc(),
                 &compiled.object,
@@ -66,5 +66,33 @@ fn orders(rt: HostRuntime) -> Result<(), Fail> {
             }
         }
     }
+    Ok(())
+}
+
+/// A list of one entry makes one event, with the token that the entry chooses.
+#[test]
+fn follows_the_list(rt: HostRuntime) -> Result<(), Fail> {
+    let text = b"etsgraph 1\nblock m 2 1\n- add 0.0 1.0\nout 2.0\nend\nmain m\n".as_slice();
+    let compiled = compile(rt.alloc(), text).map_err(|_| "compiled")?;
+    let mut tokens = Vec::new(rt.alloc());
+    for seed in 0..3u64 {
+        let picks = picks(rt.alloc(), seed, 1)?;
+        let report = emulate_object_picks(
+            rt.alloc(),
+            &compiled.object,
+            [2, 3].as_slice(),
+            CONFIG,
+            &picks,
+        )
+        .map_err(|_| "a report")?;
+        assert_eq!(rt; report.end, End::Steps);
+        assert_eq!(rt; report.events.len(), 1);
+        for (_, token) in &report.events {
+            tokens.push(*token)?;
+        }
+    }
+    assert_eq!(rt; tokens.len(), 3);
+    assert!(rt; tokens.get(0) != tokens.get(1));
+    assert!(rt; tokens.get(1) != tokens.get(2));
     Ok(())
 }
