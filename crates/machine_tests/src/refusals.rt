@@ -1,5 +1,7 @@
 //! Each growth refused in turn.
 
+ghost use Rattle.std.specs.Prelude.{◌<◌};
+
 use crate::objects::{CALL, STORES};
 use crate::tests::{is_rest, on};
 use element::lane::Stepped;
@@ -46,7 +48,9 @@ fn told<A: Allocator>(report: &Report<A>, listed: usize, refused: Refused) -> Re
 }
 
 /// The call on so many elements; where a growth is refused in the run, the same step is done when it is made again.
-fn call_on<A: Allocator + Clone>(alloc: A, elements: u64, is_quiet: bool) -> Refused {
+fn call_on<A: Allocator + Clone>(alloc: A, elements: u32, is_quiet: bool) -> Refused
+    requires { 0 < elements }
+{
     let Ok(object) = Object::open(CALL) else {
         return Refused::Wrongly;
     };
@@ -57,7 +61,7 @@ fn call_on<A: Allocator + Clone>(alloc: A, elements: u64, is_quiet: bool) -> Ref
         return Refused::AtTheStart;
     };
     let mut store = None;
-    let mut machine = match Machine::start(alloc, &mut store, &code, &[7], on(elements)) {
+    let mut machine = match Machine::start(alloc, &mut store, &code, &[7], on(u64::from(elements))) {
         Ok(machine) => machine,
         Err(StartFault::Memory) => return Refused::AtTheStart,
         Err(_) => return Refused::Wrongly,
@@ -72,7 +76,7 @@ fn call_on<A: Allocator + Clone>(alloc: A, elements: u64, is_quiet: bool) -> Ref
         return told(&quiet.report(halt), 0, Refused::Nowhere);
     }
     for element in 0..2000 {
-        let element = element % (elements as u32);
+        let element = element % elements;
         match machine.step(element, 0) {
             Some(Stepped::Memory) => {
                 if machine.step(element, 0) != Some(Stepped::Did) {
@@ -90,7 +94,9 @@ fn call_on<A: Allocator + Clone>(alloc: A, elements: u64, is_quiet: bool) -> Ref
 
 /// How often a growth was refused at the start, in the run and in the report, before none was; `None` where something else
 /// came.
-fn refusals(rt: HostRuntime, elements: u64, is_quiet: bool) -> Option<(u64, u64, u64)> {
+fn refusals(rt: HostRuntime, elements: u32, is_quiet: bool) -> Option<(u64, u64, u64)>
+    requires { 0 < elements }
+{
     let mut at_start = 0;
     let mut in_run = 0;
     let mut in_report = 0;
@@ -127,13 +133,13 @@ fn is_told<A: Allocator + Clone>(alloc: A) -> Option<bool> {
 
 #[test]
 fn the_lists_of_a_report_are_refused(rt: HostRuntime) {
-    let mut opening = 0;
-    let mut whole = 0;
+    let mut opening = 0u64;
+    let mut whole = 0u64;
     for ration in 1..100 {
         let heap = Rationed::new(rt.alloc(), ration);
         match is_told(&heap) {
-            Some(true) => whole += 1,
-            Some(false) => opening += 1,
+            Some(true) => whole = whole.wrapping_add(1),
+            Some(false) => opening = opening.wrapping_add(1),
             None => {}
         }
     }

@@ -1,5 +1,7 @@
 //! Each call of the machine, and its ends.
 
+ghost use Rattle.std.specs.Prelude.{◌≡◌, ◌<◌, All, IfOk};
+
 use crate::objects::{CALL, STORES, STUCK};
 use element::lane::Stepped;
 use loaded::Loaded;
@@ -9,12 +11,14 @@ use schedule::halt::Halt;
 use schedule::machine::Machine;
 use schedule::report::Report;
 use semantics::report::End;
-use std::alloc::Allocator;
+use std::alloc::{AllocError, Allocator};
 use std::test::Fail;
 use tags::value::Value;
 
 /// So many elements, with two frames each.
-pub const fn on(elements: u64) -> Config {
+pub const fn on(elements: u64) -> Config
+    ensures { result.elements ≡ elements }
+{
     Config {
         elements,
         frames: 2,
@@ -55,23 +59,35 @@ fn next_of(seed: u64) -> u64 {
         .wrapping_add(1_442_695_040_888_963_407)
 }
 
+/// Elements and picks in an order that looks like chance.
+fn picks_of<A: Allocator>(
+    alloc: A,
+    elements: u32,
+    order: u64,
+) -> Result<Vec<(u32, u64), A>, AllocError>
+    requires { 0 < elements }
+    ensures { IfOk result (λ picks. All (λ pick. pick.0 < elements) picks.items) }
+{
+    let mut seed = order;
+    let mut picks = Vec::new(alloc);
+    for _ in 0..2000 {
+        seed = next_of(seed);
+        let element = ((seed / 65_536) % u64::from(elements)) as u32;
+        picks.push((element, seed / 4_294_967_296))?;
+    }
+    Ok(picks)
+}
+
 #[test]
 fn runs_in_other_orders(rt: HostRuntime) -> Result<(), Fail> {
-    let mut seed = 1;
-    for elements in [1u32, 2, 7, 16] {
+    for elements in [1, 2, 7, 16] {
         for order in 0..10 {
-            let mut picks = Vec::new(rt.alloc());
-            for _ in 0..2000 {
-                seed = next_of(seed);
-                picks.push((
-                    ((seed / 65_536) % u64::from(elements)) as u32,
-                    seed / 4_294_967_296,
-                ))?;
-            }
+            let picks = picks_of(rt.alloc(), elements, order)?;
             let code = Loaded::new(rt.alloc(), Object::open(CALL)?)?;
             let mut store = None;
             let config = on(u64::from(elements));
-            let machine = Machine::start(rt.alloc(), &mut store, &code, &[7], config)?;
+            let machine = Machine::start(rt.alloc(), &mut store, &code, &[7], config)
+                .expect(&rt, "it starts");
             assert!(rt;
                 is_rest(&machine.run(&picks), 33),
                 "order {order} on {elements}"
@@ -86,7 +102,8 @@ fn steps_one_by_one(rt: HostRuntime) -> Result<(), Fail> {
     let code = Loaded::new(rt.alloc(), Object::open(CALL)?)?;
     let mut store = None;
     let config = Config { steps: 2, ..on(2) };
-    let mut machine = Machine::start(rt.alloc(), &mut store, &code, &[7], config)?;
+    let mut machine =
+        Machine::start(rt.alloc(), &mut store, &code, &[7], config).expect(&rt, "it starts");
     assert_eq!(rt; machine.step(1, 5), Some(Stepped::Idle));
     assert_eq!(rt; machine.play(&[]), Halt::Steps);
     assert_eq!(rt; machine.step(0, 1), Some(Stepped::Did));
@@ -103,7 +120,8 @@ fn steps_one_by_one(rt: HostRuntime) -> Result<(), Fail> {
 fn goes_on_without_events(rt: HostRuntime) -> Result<(), Fail> {
     let code = Loaded::new(rt.alloc(), Object::open(CALL)?)?;
     let mut store = None;
-    let mut machine = Machine::start(rt.alloc(), &mut store, &code, &[7], on(7))?;
+    let mut machine =
+        Machine::start(rt.alloc(), &mut store, &code, &[7], on(7)).expect(&rt, "it starts");
     assert_eq!(rt; machine.play(&[(0, 0), (0, 1), (0, 2)]), Halt::Steps);
     let mut quiet = machine.without_events();
     assert_eq!(rt; quiet.play_in_turn(), Halt::NoToken);
@@ -167,5 +185,46 @@ fn stores_once_and_reads(rt: HostRuntime) -> Result<(), Fail> {
         assert_eq!(rt; report.deferred, 1);
         assert!(rt; report.cells.as_slice() == [(5, Value::Int(2))].as_slice());
     }
+    Ok(())
+}
+
+#[test]
+fn reports_on_lanes(rt: HostRuntime) -> Result<(), Fail> {
+    for elements in [1, 2, 7, 16] {
+        let code = Loaded::new(rt.alloc(), Object::open(CALL)?)?;
+        let mut store = None;
+        let mut machine = Machine::start(rt.alloc(), &mut store, &code, &[7], on(elements))
+            .expect(&rt, "it starts");
+        let halt = machine.play_in_turn();
+        let Ok((setup, lanes)) = machine.into_lanes() else {
+            unreachable!(&rt)
+        };
+        assert_eq!(rt; lanes.len() as u64, elements);
+        assert_eq!(rt; (setup.steps, setup.turn), (1000, 1));
+        assert!(rt; is_rest(&setup.report(lanes, halt), 33), "{elements}");
+    }
+    Ok(())
+}
+
+#[test]
+fn takes_a_machine_apart(rt: HostRuntime) -> Result<(), Fail> {
+    let code = Loaded::new(rt.alloc(), Object::open(CALL)?)?;
+    let mut store = None;
+    let mut machine =
+        Machine::start(rt.alloc(), &mut store, &code, &[7], on(2)).expect(&rt, "it starts");
+    for _ in 0..8 {
+        assert_eq!(rt; machine.step(0, 0), Some(Stepped::Did));
+    }
+    let Ok((setup, lanes)) = machine.into_lanes() else {
+        unreachable!(&rt)
+    };
+    let mut tokens = 0;
+    for lane in &lanes {
+        tokens += lane.queue.len();
+    }
+    assert_eq!(rt; tokens, 1);
+    let report = setup.report(lanes, Halt::Steps);
+    assert!(rt; report.end == End::Steps);
+    assert_eq!(rt; report.events.len(), 8);
     Ok(())
 }

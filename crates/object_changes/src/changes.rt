@@ -1,40 +1,48 @@
 //! The base with one byte changed, with its end missing, and with more behind its end.
 
 use crate::outcome::{FAULTS, Outcome, outcome_of};
-use object_view::ObjectFault;
+use crate::runs::{ENDINGS, Ending, ending_of};
+use object_view::{Object, ObjectFault};
 use std::alloc::{AllocError, Allocator};
 use std::io::{self, Write};
 
-/// How many objects had each outcome.
+/// How many objects had each outcome, and how many runs each ending.
 #[derive(Drop)]
 struct Counts<A: Allocator> {
     outcomes: Vec<Outcome, A>,
+    endings: Vec<Ending, A>,
 }
 
-impl<A: Allocator> Counts<A> {
-    fn new(alloc: A) -> Counts<A> {
-        Counts {
-            outcomes: Vec::new(alloc),
-        }
+impl<A: Allocator + Clone> Counts<A> {
+    fn new(alloc: A) -> Result<Counts<A>, AllocError> {
+        Ok(Counts {
+            outcomes: Vec::new(alloc.clone()?),
+            endings: Vec::new(alloc),
+        })
     }
 
-    fn enter(&mut self, outcome: Outcome) -> Result<(), AllocError> {
-        self.outcomes.push(outcome)?;
+    /// Enters what becomes of the bytes, and how the run ends of an object.
+    fn enter(&mut self, alloc: A, bytes: &[u8]) -> io::Result<()> {
+        self.outcomes.push(outcome_of(alloc.clone()?, bytes)?)?;
+        if let Ok(object) = Object::open(bytes) {
+            self.endings.push(ending_of(alloc, object)?)?;
+        }
         Ok(())
     }
-
-    fn count(&self, wanted: Outcome) -> u64 {
-        let mut count = 0u64;
-        for outcome in self.outcomes.as_slice() {
-            if *outcome == wanted {
-                count = count.wrapping_add(1);
-            }
-        }
-        count
-    }
 }
 
-/// Enters what becomes of each object that differs from this one in one byte. It is the same again after.
+/// How often it is listed.
+fn count<T: PartialEq>(listed: &[T], wanted: &T) -> u64 {
+    let mut count = 0u64;
+    for one in listed {
+        if one == wanted {
+            count = count.wrapping_add(1);
+        }
+    }
+    count
+}
+
+/// Enters each object that differs from this one in one byte. It is the same again after.
 fn change_each<A: Allocator + Clone>(
     alloc: A,
     object: &mut [u8],
@@ -45,7 +53,7 @@ fn change_each<A: Allocator + Clone>(
         for byte in 0..=255u8 {
             if byte != before {
                 object[place] = byte;
-                counts.enter(outcome_of(alloc.clone()?, object)?)?;
+                counts.enter(alloc.clone()?, object)?;
             }
         }
         object[place] = before;
@@ -53,25 +61,32 @@ fn change_each<A: Allocator + Clone>(
     Ok(())
 }
 
-/// Says how many objects that differ from this one in one byte had each outcome.
+/// Says how many objects that differ from this one in one byte had each outcome, and how many of their runs each ending.
 pub fn report_changes<A: Allocator + Clone, W: Write>(
     alloc: A,
     object: &mut [u8],
     writer: &mut W,
 ) -> io::Result<()> {
-    let mut counts = Counts::new(alloc.clone()?);
+    let mut counts = Counts::new(alloc.clone()?)?;
     change_each(alloc, object, &mut counts)?;
     let all = counts.outcomes.len();
-    let same = counts.count(Outcome::Same);
-    let other = counts.count(Outcome::Other);
+    let same = count(&counts.outcomes, &Outcome::Same);
+    let other = count(&counts.outcomes, &Outcome::Other);
     writeln!(writer, "{all} objects with one byte changed")?;
     writeln!(writer, "{same} come back the same")?;
     writeln!(writer, "{other} come back with other bytes")?;
     for fault in FAULTS {
         let outcome = Outcome::Refused(fault);
-        let count = counts.count(outcome);
+        let refused = count(&counts.outcomes, &outcome);
         let name = outcome.name();
-        writeln!(writer, "{count} are refused: {name}")?;
+        writeln!(writer, "{refused} are refused: {name}")?;
+    }
+    let runs = counts.endings.len();
+    writeln!(writer, "{runs} are run")?;
+    for ending in ENDINGS {
+        let ended = count(&counts.endings, &ending);
+        let name = ending.name();
+        writeln!(writer, "{ended} {name}")?;
     }
     Ok(())
 }

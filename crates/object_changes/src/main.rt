@@ -1,9 +1,10 @@
-//! What becomes of objects that are changed: each is refused, or taken apart and written again to the same bytes. The
-//! table is standard input. Its lines:
+//! What becomes of objects that are changed: each is refused, or taken apart and written again to the same bytes, and
+//! run. The table is standard input. Its lines:
 //!
 //! - `: HEX..` appends bytes, two digits each, to the object at hand, and `* COUNT HEX..` appends them so many times;
-//! - `base` makes the object at hand the base, and says what becomes of it when any one byte is changed, when it ends
-//!   too early, and when eight bytes stand behind it;
+//! - `base` makes the object at hand the base, and says what becomes of it when any one byte is changed, how the runs of
+//!   those end that are no longer refused, and what becomes of it when it ends too early, and when eight bytes stand
+//!   behind it;
 //! - `= ANSWER` begins a changed base that has this answer: `ok`, or the refusal;
 //! - `@ PLACE HEX..` puts bytes in place of those from this one on;
 //! - `cut COUNT` leaves so many bytes, and `empty` none.
@@ -13,6 +14,7 @@
 
 mod changes;
 mod outcome;
+mod runs;
 mod table;
 
 use std::io;

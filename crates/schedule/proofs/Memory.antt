@@ -3,6 +3,7 @@ use Rattle.std.proofs.Common.{◌≡◌, refl, sym, ◌∙◌, ap, subst, ℕ, z
 use Rattle.std.specs.Prelude.{slice_get, slice_set, OnOk, OnErr, ◌==◌}
 use Rattle.std.specs.List.{filter, list_any}
 use Rattle.std.specs.Option.{option_map}
+use Rattle.std.specs.Result.{is_err}
 use Rattle.std.proofs.lemmas.List.{map-set, drop_more, length-append, length-map}
 use Rattle.std.proofs.lemmas.List.Elements.{filter_agree}
 use Rattle.std.proofs.lemmas.Option.{slice_get-map, slice_get_read}
@@ -24,6 +25,10 @@ ok_then (Result.Err e) P Q f p = tt
 pub err_then : {X Y : Type 0} (r : Result X Y) (P Q : Type 0) → (P → Q) → OnErr r P → OnErr r Q
 err_then (Result.Ok x) P Q f p = tt
 err_then (Result.Err e) P Q f p = f p
+
+pub when_ok : {X Y : Type 0} (r : Result X Y) (P : Type 0) → is_err r ≡ false → OnOk r P → P
+when_ok (Result.Ok x) P good p = p
+when_ok (Result.Err e) P good p = absurd (let no : ⊥ = cc in no)
 
 pub get_there : {X : Type 0} (xs : List X) (i : ℕ) → i < length xs → (x : X) × (slice_get xs i ≡ Some x)
 get_there [] i low = absurd (omega arith)

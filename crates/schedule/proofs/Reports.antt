@@ -9,6 +9,7 @@ use Rattle.std.proofs.lemmas.List.Sorted.{IsPermutation-refl}
 use Rattle.std.proofs.lemmas.Option.{get_or_from_slice_get, slice_get_within}
 use Rattle.tags.specs.declared.value.Value.{Value}
 use Rattle.tags.specs.declared.token.To.{To}
+use Rattle.tags.specs.declared.token.Token.{Token}
 use Rattle.semantics.specs.Program.{Program}
 use Rattle.semantics.specs.Rule.{array_base}
 use Rattle.semantics.specs.Machine.{Machine, CellState, Vacant, Full, Size, Events, at_start, outputs_of, reader_count}
@@ -19,10 +20,10 @@ use Rattle.element.specs.Parts.{bounds}
 use Rattle.element.specs.Held.{Held, held_of, queued}
 use Rattle.schedule.specs.declared.elements.Elements.{Elements}
 use Rattle.schedule.specs.declared.halt.Halt.{Halt}
-use Rattle.schedule.specs.Setting.{size, total}
-use Rattle.schedule.specs.State.{State, IsPlaced, IsSoundState, Stands, IsWell, state_of}
+use Rattle.schedule.specs.Setting.{Setting, size, total}
+use Rattle.schedule.specs.State.{State, IsPlaced, IsSoundState, Stands, IsWell, state_of, delivered}
 use Rattle.schedule.specs.Runs.{Kept, Began, HaltsAs, NamesCell}
-use Rattle.schedule.specs.Told.{TellsLanes, opening_picture, IsReportOf, Reports}
+use Rattle.schedule.specs.Told.{TellsLanes, opening_picture, IsReportOf, ReportsLanes, Reports}
 use Rattle.schedule.specs.Unlisted.{with_events, ShowsQuietly}
 use Rattle.schedule.proofs.Places.{first_get, to_map}
 use Rattle.schedule.proofs.Memory.{lane_count}
@@ -66,23 +67,24 @@ shows_opening s inputs listed outputs sound is =
       ends = tt;
     })
 
--- what is told of lanes in memory, with tokens on their way, is a picture
-pub memory_pictured : {C A : Type 0} (program : C → Program) (width : C → ℕ) (m : Elements C A) (mach : Machine) (r : Report) → IsWell program width m → Stands (state_of program width m) mach
-    → TellsLanes (state_of program width m).setting (map (held_of {A = A}) m.lanes.items) r.outputs r.cells r.deferred r.waiting_frames r.waiting_credits r.frames_out
-    → IsPicture (state_of program width m).setting.program (size (state_of program width m).setting) mach r
-memory_pictured {C} {A} program width m mach r well stands told =
-    let s = state_of program width m in
-    let raw = map (held_of {A = A}) m.lanes.items in
-    let known = to_map (IsKnown s.setting mach.store) (IsKnown s.setting mach.store) (λ (h : Held). queued h (drop m.come m.sent.items)) (λ (i : ℕ) (h : Held) (k : IsKnown s.setting mach.store i (queued h (drop m.come m.sent.items))). record {
+-- lanes with tokens that are on their way, each seen where it is addressed to
+abbrev coming : Setting → List Held → List Token → State
+coming g raw ts = record { setting = g; lanes = delivered ts raw }
+
+-- what is told of lanes is a picture, whatever tokens are on their way
+pub lanes_pictured : (g : Setting) (raw : List Held) (ts : List Token) (mach : Machine) (r : Report) → IsSoundState (coming g raw ts) → Stands (coming g raw ts) mach
+    → TellsLanes g raw r.outputs r.cells r.deferred r.waiting_frames r.waiting_credits r.frames_out → IsPicture g.program (size g) mach r
+lanes_pictured g raw ts mach r sound stands told =
+    let known = to_map (IsKnown g mach.store) (IsKnown g mach.store) (λ (h : Held). queued h ts) (λ (i : ℕ) (h : Held) (k : IsKnown g mach.store i (queued h ts)). record {
       element = k.element;
       elements = k.elements;
       frames = k.frames;
       width = k.width;
       sound = k.sound;
       part = k.part;
-    }) 0 raw (known_lanes s mach well.sound stands) in
-    let count = length-map m.lanes.items (held_of {A = A}) ∙ lane_count m.lanes.items (drop m.come m.sent.items) m.elements well.sound.count in
-    pictured s.setting mach.store raw well.sound.setting count known stands.bounded mach.pool r told.0 (record {
+    }) 0 raw (known_lanes (coming g raw ts) mach sound stands) in
+    let count = sym (length-map raw (λ (h : Held). queued h ts)) ∙ sound.count in
+    pictured g mach.store raw sound.setting count known stands.bounded mach.pool r told.0 (record {
       there = told.1;
       outputs = told.2;
       cells = told.3;
@@ -113,18 +115,35 @@ pub told_of : {C A : Type 0} (program : C → Program) (width : C → ℕ) (m : 
 told_of program width m list halt r (inl is) = inl is
 told_of program width m list halt r (inr (has, ends, told)) = inr (has, ends)
 
--- with the events of a run, or with none, it shows that run
+pub told_lanes : (g : Setting) (raw : List Held) (list : Events) (halt : Halt) (r : Report) → ReportsLanes g raw list halt r
+    → (let s : State = record { setting = g; lanes = raw } in let k : Kept = record { state = s; events = list } in IsReportOf k halt r)
+told_lanes g raw list halt r (inl is) = inl is
+told_lanes g raw list halt r (inr (has, ends, told)) = inr (has, ends)
+
+-- with the events of a run, or with none, the report of lanes shows that run, whatever tokens are on their way
+pub shows_lanes : (g : Setting) (raw : List Held) (ts : List Token) (list : Events) (halt : Halt) (r : Report) → IsSoundState (coming g raw ts) → ReportsLanes g raw list halt r
+    → (inputs : List ℤ) (listed : Bool) (evs : Events) → Began inputs (coming g raw ts) evs → HaltsAs (coming g raw ts) listed halt
+    → (shown : Events) × Shows g.program (size g) inputs g.steps listed false (with_events r shown) × (list ≡ evs → r.events ≡ shown)
+shows_lanes g raw ts list halt r sound (inl is) inputs listed evs began halts =
+    let shown = shows_opening (coming g raw ts) inputs listed (outputs_of g.program) sound refl in
+    ([], subst (λ (x : Report). Shows g.program (size g) inputs g.steps listed false (with_events x [])) (sym is) shown, λ same. ap (λ (x : Report). x.events) is)
+shows_lanes g raw ts list halt r sound (inr (has, ends, told)) inputs listed evs began halts =
+    let picture = lanes_pictured g raw ts began.machine (with_events r evs) sound began.stands told in
+    (evs, shows_here inputs (coming g raw ts) evs listed halt (with_events r evs) sound began halts ends refl picture, λ same. has ∙ same)
+
+-- the same with the events themselves
+pub shows_listed : (g : Setting) (raw : List Held) (ts : List Token) (evs : Events) (halt : Halt) (r : Report) → IsSoundState (coming g raw ts) → ReportsLanes g raw evs halt r
+    → (inputs : List ℤ) (listed : Bool) → Began inputs (coming g raw ts) evs → HaltsAs (coming g raw ts) listed halt → Shows g.program (size g) inputs g.steps listed false r
+shows_listed g raw ts evs halt r sound reported inputs listed began halts =
+    let found = shows_lanes g raw ts evs halt r sound reported inputs listed evs began halts in
+    subst (λ (l : Events). Shows g.program (size g) inputs g.steps listed false (with_events r l)) (sym (found.2 refl)) found.1
+
+-- the same of elements in memory
 pub shows_reported : {C A : Type 0} (program : C → Program) (width : C → ℕ) (m : Elements C A) (list : Events) (halt : Halt) (r : Report) → IsWell program width m → Reports program width m list halt r
     → (inputs : List ℤ) (listed : Bool) (evs : Events) → Began inputs (state_of program width m) evs → HaltsAs (state_of program width m) listed halt
     → (shown : Events) × Shows (state_of program width m).setting.program (size (state_of program width m).setting) inputs (state_of program width m).setting.steps listed false (with_events r shown) × (list ≡ evs → r.events ≡ shown)
-shows_reported program width m list halt r well (inl is) inputs listed evs began halts =
-    let s = state_of program width m in
-    let shown = shows_opening s inputs listed (outputs_of s.setting.program) well.sound refl in
-    ([], subst (λ (x : Report). Shows s.setting.program (size s.setting) inputs s.setting.steps listed false (with_events x [])) (sym is) shown, λ same. ap (λ (x : Report). x.events) is)
-shows_reported program width m list halt r well (inr (has, ends, told)) inputs listed evs began halts =
-    let s = state_of program width m in
-    let picture = memory_pictured program width m began.machine (with_events r evs) well began.stands told in
-    (evs, shows_here inputs s evs listed halt (with_events r evs) well.sound began halts ends refl picture, λ same. has ∙ same)
+shows_reported {C} {A} program width m list halt r well reported inputs listed evs began halts =
+    shows_lanes (state_of program width m).setting (map (held_of {A = A}) m.lanes.items) (drop m.come m.sent.items) list halt r well.sound reported inputs listed evs began halts
 
 unlisted : {C A : Type 0} (program : C → Program) (width : C → ℕ) (m : Elements C A) (list : Events) (halt : Halt) (r : Report) → Reports program width m list halt r → list ≡ [] → r.events ≡ []
 unlisted program width m list halt r (inl is) none = ap (λ (x : Report). x.events) is

@@ -121,6 +121,8 @@ good_setting p width slots c good some_frame is some few fits = record {
   some_slots = subst (λ (n : ℕ). 0 < n) is some;
   few_slots = subst (λ (n : ℕ). n ≤ 512) is few;
   steps = good.steps;
+  some_turn = good.turn;
+  few_turn = good.turn_most;
   fits = fits;
 }
 

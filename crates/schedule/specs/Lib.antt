@@ -5,3 +5,4 @@ pub mod Runs
 pub mod Starts
 pub mod Told
 pub mod Unlisted
+pub mod Apart

@@ -24,6 +24,8 @@ pub record Setting : Type 0 where
   pub width : ℕ
   -- how many events an element may make
   pub steps : ℕ
+  -- how many events a turn has
+  pub turn : ℕ
 
 abbrev pub size : Setting → Size
 size g = record { elements = g.elements; frames = g.frames }
@@ -40,4 +42,6 @@ pub record IsGoodSetting (g : Setting) : Type 0 where
   pub some_slots : 0 < g.width
   pub few_slots : g.width ≤ 512
   pub steps : g.steps ≤ 2 ^ 32
+  pub some_turn : 0 < g.turn
+  pub few_turn : g.turn ≤ 65536
   pub fits : FitsSlots g.program g.width

@@ -26,7 +26,7 @@ pub record IsGood (c : Config) : Type 0 where
   pub turn_most : c.turn ≤ 65536
 
 abbrev pub setting_of : Program → ℕ → Config → Setting
-setting_of p width c = record { program = p; elements = c.elements; frames = c.frames; width = width; steps = c.steps }
+setting_of p width c = record { program = p; elements = c.elements; frames = c.frames; width = width; steps = c.steps; turn = c.turn }
 
 -- The tokens at the start: the continuation of the host goes to main's first instruction, and each input to the next ones.
 abbrev pub start_tokens : ℕ → List ℤ → List Token
@@ -54,7 +54,7 @@ pub record IsFresh (g : Setting) (i : ℕ) (h : Held) : Type 0 where
   pub made : h.made ≡ 0
 
 abbrev pub sized : Program → ℕ → ℕ → ℕ → ℕ → Setting
-sized p elements frames width steps = record { program = p; elements = elements; frames = frames; width = width; steps = steps }
+sized p elements frames width steps = record { program = p; elements = elements; frames = frames; width = width; steps = steps; turn = 1 }
 
 -- why it does not start: the first of the causes that holds
 abbrev pub IsCause : Program → Config → List ℤ → StartFault → Type 0

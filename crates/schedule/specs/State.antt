@@ -65,7 +65,7 @@ pub record Stands (s : State) (m : Machine) : Type 0 where
 -- THE MACHINE IN MEMORY. Tokens that are on their way are seen where they are addressed to.
 abbrev pub state_of : {C A : Type 0} → (C → Program) → (C → ℕ) → Elements C A → State
 state_of program width m = record {
-  setting = record { program = program m.code.now; elements = m.elements; frames = m.frames; width = width m.code.now; steps = m.steps };
+  setting = record { program = program m.code.now; elements = m.elements; frames = m.frames; width = width m.code.now; steps = m.steps; turn = m.turn };
   lanes = lanes_of m.lanes.items (drop m.come m.sent.items);
 }
 

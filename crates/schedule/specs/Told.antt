@@ -85,10 +85,12 @@ opening_picture outputs = record { end = End.Memory; outputs = replicate outputs
 abbrev pub IsReportOf : Kept → Halt → Report → Type 0
 IsReportOf k halt r = (r ≡ opening_picture (outputs_of k.state.setting.program)) ⊎ ((r.events ≡ k.events) × EndsAs k.state.setting.program r halt)
 
--- The report of elements in memory: it has these events and the end, and tells what they hold; or its own lists were
--- refused.
+-- The report of lanes: it has these events and the end, and tells what they hold; or its own lists were refused.
+abbrev pub ReportsLanes : Setting → List Held → Events → Halt → Report → Type 0
+ReportsLanes g lanes evs halt r =
+    (r ≡ opening_picture (outputs_of g.program))
+    ⊎ ((r.events ≡ evs) × EndsAs g.program r halt × TellsLanes g lanes r.outputs r.cells r.deferred r.waiting_frames r.waiting_credits r.frames_out)
+
+-- the same of elements in memory
 abbrev pub Reports : {C A : Type 0} → (C → Program) → (C → ℕ) → Elements C A → Events → Halt → Report → Type 0
-Reports program width m evs halt r =
-    (r ≡ opening_picture (outputs_of (program m.code.now)))
-    ⊎ ((r.events ≡ evs) × EndsAs (program m.code.now) r halt
-    × TellsLanes (state_of program width m).setting (map held_of m.lanes.items) r.outputs r.cells r.deferred r.waiting_frames r.waiting_credits r.frames_out)
+Reports program width m evs halt r = ReportsLanes (state_of program width m).setting (map held_of m.lanes.items) evs halt r

@@ -1,6 +1,6 @@
 //! The elements of the machine: their lanes, and the tokens that are on their way from one to another.
 
-ghost use Rattle.std.specs.Prelude.{◌≡◌, ℕ, ◌<◌, [], ◌++◌, length, map, All, IfOk, Some, true, false, slice_get};
+ghost use Rattle.std.specs.Prelude.{◌≡◌, ℕ, ◌<◌, [], ◌++◌, length, map, All, IfOk, OnOk, Some, true, false, slice_get};
 ghost use Rattle.semantics.specs.Machine.{Events};
 ghost use Rattle.semantics.specs.Report.{sum_below};
 ghost use Rattle.element.specs.Held.{Held, held_of};
@@ -29,6 +29,8 @@ pub struct Elements<'m, C: MainCode, A: Allocator> {
     pub frames: u32,
     /// How many events each element may make.
     pub steps: u64,
+    /// How many events a turn has.
+    pub turn: u64,
     pub lanes: Vec<Lane<'m, A>, A>,
     /// The tokens that the last event made for other elements.
     pub sent: Vec<Token, A>,
@@ -37,6 +39,22 @@ pub struct Elements<'m, C: MainCode, A: Allocator> {
 }
 
 impl<'m, C: MainCode, A: Allocator> Elements<'m, C, A> {
+    /// Lets the tokens that are on their way come.
+    pub fn settle(&mut self) -> Result<(), AllocError>
+        requires { IsWell C.program C.width self.old }
+        ensures well { IsWell C.program C.width self.new }
+        ensures same { state_of C.program C.width self.new ≡ state_of C.program C.width self.old }
+        ensures sent { OnOk result (self.new.sent.items ≡ []) }
+        ensures come { OnOk result (self.new.come ≡ 0) }
+    {
+        deliver(
+            &mut self.lanes,
+            self.elements,
+            &mut self.sent,
+            &mut self.come,
+        )
+    }
+
     // Whether the element has a token.
     fn has_token(&self, element: u32) -> bool
         requires well { IsWell C.program C.width self.now }

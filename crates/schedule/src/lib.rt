@@ -15,3 +15,4 @@ mod opening;
 pub mod quiet;
 pub mod report;
 mod reporting;
+pub mod setup;

@@ -14,6 +14,8 @@ ghost use Rattle.semantics.specs.Report.{Shows};
 ghost use Rattle.schedule.specs.Setting.{size};
 ghost use Rattle.schedule.specs.State.{State};
 ghost use Rattle.schedule.specs.Unlisted.{ShowsQuietly, without_events};
+ghost use Rattle.schedule.specs.State.{IsSoundState};
+ghost use Rattle.schedule.specs.Apart.{kept_of, state_in};
 
 use crate::config::{Config, StartFault};
 use crate::delivery::receive;
@@ -24,6 +26,7 @@ use crate::opening::fresh_lanes;
 use crate::quiet::Quiet;
 use crate::report::Report;
 use crate::reporting::report_of;
+use crate::setup::{Apart, Setup};
 use element::lane::{Lane, Stepped};
 use frame_store::store::Store;
 use std::alloc::{AllocError, Allocator};
@@ -136,6 +139,7 @@ where
         elements,
         frames,
         steps: config.steps,
+        turn: config.turn,
         lanes,
         sent: Vec::new(alloc.clone()?),
         come: 0,
@@ -183,7 +187,9 @@ impl<'m, C: MainCode, A: Allocator> Machine<'m, C, A> {
     where
         A: Clone,
         requires { element < self.old.state.setting.elements }
-        ensures { (made : Events) × Steps self.old.state element pick result self.new.state made × (self.new.events ≡ self.old.events ++ made) }
+        ensures steps { (made : Events) × Steps self.old.state element pick result self.new.state made × (self.new.events ≡ self.old.events ++ made) }
+        ensures began { (inputs : List ℤ) → Began inputs self.old.state self.old.events → Began inputs self.new.state self.new.events }
+        ensures setting { self.new.state.setting ≡ self.old.state.setting }
     {
         self.elements.step(element, pick, &mut self.events)
     }
@@ -261,6 +267,47 @@ impl<'m, C: MainCode, A: Allocator> Machine<'m, C, A> {
     {
         let halt = self.play_in_turn();
         self.report(halt)
+    }
+
+    /// The machine taken apart, with each token in the queue of the lane that it is addressed to. After an error it is as
+    /// before.
+    pub fn into_lanes(self) -> Result<Apart<'m, C, A>, Machine<'m, C, A>>
+    where
+        ensures { MatchResult result (λ apart. (kept_of C.program C.width apart.0 apart.1.items ≡ self.entry) × IsSoundState (state_in C.program C.width apart.0 apart.1.items)) (λ machine. machine ≡ self.entry) }
+    {
+        let Machine {
+            mut elements,
+            events,
+            alloc,
+        } = self;
+        if elements.settle().is_err() {
+            return Err(Machine {
+                elements,
+                events,
+                alloc,
+            });
+        }
+        let Elements {
+            code,
+            elements,
+            frames,
+            steps,
+            turn,
+            lanes,
+            sent,
+            ..
+        } = elements;
+        let setup = Setup {
+            code,
+            elements,
+            frames,
+            steps,
+            turn,
+            events,
+            sent,
+            alloc,
+        };
+        Ok((setup, lanes))
     }
 
     /// The same machine without the list of its events.

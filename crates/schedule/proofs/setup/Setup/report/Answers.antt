@@ -1,0 +1,23 @@
+use Rattle.std.proofs.Common.{refl, sym, subst, List, map, arith}
+use Rattle.element.specs.Held.{Held, held_of}
+use Rattle.schedule.specs.State.{State, IsSoundState}
+use Rattle.schedule.specs.Apart.{setting_in}
+use Rattle.schedule.proofs.Memory.{none_coming}
+use Rattle.schedule.proofs.Reports.{told_lanes, shows_listed}
+use Rattle.schedule.proofs.setup.Setup.report.Goals as goal
+
+pub report_of-requires-clause-well : goal.report_of-requires-clause-well
+report_of-requires-clause-well g c =
+    let z = setting_in g.C.Instructions.program g.C.Instructions.width c.args.self in
+    record {
+      come = omega arith;
+      sound = subst (λ (l : List Held). let s : State = record { setting = z; lanes = l } in IsSoundState s) (sym (none_coming {A = g.row.A.Denot} c.args.lanes.items c.clear.new.self.items 0 c.clear.ensures.items refl)) c.requires.sound;
+    }
+
+pub returns-clause-told : goal.returns-clause-told
+returns-clause-told g c =
+    told_lanes (setting_in g.C.Instructions.program g.C.Instructions.width c.args.self) (map (held_of {A = g.row.A.Denot}) c.args.lanes.items) c.args.self.events.items c.args.halt c.report_of.result c.report_of.ensures
+
+pub returns-clause-shows : goal.returns-clause-shows
+returns-clause-shows g c = λ inputs listed coming sound began halts.
+    shows_listed (setting_in g.C.Instructions.program g.C.Instructions.width c.args.self) (map (held_of {A = g.row.A.Denot}) c.args.lanes.items) coming c.args.self.events.items c.args.halt c.report_of.result sound c.report_of.ensures inputs listed began halts

@@ -1,0 +1,77 @@
+//! A machine that is taken apart.
+
+ghost use Rattle.std.specs.Prelude.{◌≡◌, ℤ, List, Bool, false};
+ghost use Rattle.tags.specs.declared.token.Token.{Token};
+ghost use Rattle.semantics.specs.Report.{Shows};
+ghost use Rattle.schedule.specs.Setting.{size};
+ghost use Rattle.schedule.specs.State.{IsSoundState};
+ghost use Rattle.schedule.specs.Runs.{Began, HaltsAs, NamesCell};
+ghost use Rattle.schedule.specs.Told.{IsReportOf};
+ghost use Rattle.schedule.specs.Apart.{setting_in, state_in, kept_of, with_coming};
+
+use crate::elements::Elements;
+use crate::halt::Halt;
+use crate::main_code::MainCode;
+use crate::report::Report;
+use crate::reporting::report_of;
+use element::lane::Lane;
+use std::alloc::Allocator;
+use tags::token::Token;
+
+/// What a machine has beside its lanes.
+#[derive(Drop)]
+pub struct Setup<'m, C: MainCode, A: Allocator> {
+    pub code: &'m C,
+    /// How many lanes there are.
+    pub elements: u32,
+    /// How many frames each element has.
+    pub frames: u32,
+    /// How many events each element may make.
+    pub steps: u64,
+    /// How many events a turn has.
+    pub turn: u64,
+    /// Each event so far.
+    pub events: Vec<(u32, Token), A>,
+    // The list in which tokens were on their way.
+    pub(crate) sent: Vec<Token, A>,
+    pub alloc: A,
+}
+
+/// A machine taken apart: its lanes in order, and the rest.
+pub type Apart<'m, C, A> = (Setup<'m, C, A>, Vec<Lane<'m, A>, A>);
+
+impl<'m, C: MainCode, A: Allocator> Setup<'m, C, A> {
+    /// What all lanes hold as they stand, with the events and the end of a run that halted so, whatever tokens are on their
+    /// way. Where its own lists are refused it is the report of the machine before its first event, with the end `Memory`.
+    pub fn report(self, lanes: Vec<Lane<'m, A>, A>, halt: Halt) -> Report<A>
+    where
+        A: Clone,
+        requires sound { IsSoundState (state_in C.program C.width self lanes.items) }
+        requires cell { NamesCell (C.program self.code.now) halt }
+        ensures told { IsReportOf (kept_of C.program C.width self.entry lanes.entry.items) halt result }
+        ensures shows { (inputs : List ℤ) (listed : Bool) (coming : List Token) → IsSoundState (with_coming (state_in C.program C.width self.entry lanes.entry.items) coming) → Began inputs (with_coming (state_in C.program C.width self.entry lanes.entry.items) coming) self.entry.events.items → HaltsAs (with_coming (state_in C.program C.width self.entry lanes.entry.items) coming) listed halt → Shows (C.program self.entry.code.now) (size (setting_in C.program C.width self.entry)) inputs self.entry.steps listed false result }
+    {
+        let Setup {
+            code,
+            elements,
+            frames,
+            steps,
+            turn,
+            events,
+            mut sent,
+            alloc,
+        } = self;
+        sent.clear();
+        let elements = Elements {
+            code,
+            elements,
+            frames,
+            steps,
+            turn,
+            lanes,
+            sent,
+            come: 0,
+        };
+        report_of(elements, events, alloc, halt)
+    }
+}
