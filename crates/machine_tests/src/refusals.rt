@@ -61,7 +61,13 @@ fn call_on<A: Allocator + Clone>(alloc: A, elements: u32, is_quiet: bool) -> Ref
         return Refused::AtTheStart;
     };
     let mut store = None;
-    let mut machine = match Machine::start(alloc, &mut store, &code, &[7], on(u64::from(elements))) {
+    let mut machine = match Machine::start(
+        alloc,
+        &mut store,
+        &code,
+        &[7],
+        on(u64::from(elements)),
+    ) {
         Ok(machine) => machine,
         Err(StartFault::Memory) => return Refused::AtTheStart,
         Err(_) => return Refused::Wrongly,
