@@ -86,8 +86,10 @@ fn runs_in_other_orders(rt: HostRuntime) -> Result<(), Fail> {
             let code = Loaded::new(rt.alloc(), Object::open(CALL)?)?;
             let mut store = None;
             let config = on(u64::from(elements));
-            let machine = Machine::start(rt.alloc(), &mut store, &code, &[7], config)
-                .expect(&rt, "it starts");
+            let machine = Machine::start(rt.alloc(), &mut store, &code, &[7], config).expect(
+                &rt,
+                "it starts",
+            );
             assert!(rt;
                 is_rest(&machine.run(&picks), 33),
                 "order {order} on {elements}"
@@ -102,8 +104,10 @@ fn steps_one_by_one(rt: HostRuntime) -> Result<(), Fail> {
     let code = Loaded::new(rt.alloc(), Object::open(CALL)?)?;
     let mut store = None;
     let config = Config { steps: 2, ..on(2) };
-    let mut machine =
-        Machine::start(rt.alloc(), &mut store, &code, &[7], config).expect(&rt, "it starts");
+    let mut machine = Machine::start(rt.alloc(), &mut store, &code, &[7], config).expect(
+        &rt,
+        "it starts",
+    );
     assert_eq!(rt; machine.step(1, 5), Some(Stepped::Idle));
     assert_eq!(rt; machine.play(&[]), Halt::Steps);
     assert_eq!(rt; machine.step(0, 1), Some(Stepped::Did));
@@ -120,8 +124,10 @@ fn steps_one_by_one(rt: HostRuntime) -> Result<(), Fail> {
 fn goes_on_without_events(rt: HostRuntime) -> Result<(), Fail> {
     let code = Loaded::new(rt.alloc(), Object::open(CALL)?)?;
     let mut store = None;
-    let mut machine =
-        Machine::start(rt.alloc(), &mut store, &code, &[7], on(7)).expect(&rt, "it starts");
+    let mut machine = Machine::start(rt.alloc(), &mut store, &code, &[7], on(7)).expect(
+        &rt,
+        "it starts",
+    );
     assert_eq!(rt; machine.play(&[(0, 0), (0, 1), (0, 2)]), Halt::Steps);
     let mut quiet = machine.without_events();
     assert_eq!(rt; quiet.play_in_turn(), Halt::NoToken);
@@ -193,11 +199,13 @@ fn reports_on_lanes(rt: HostRuntime) -> Result<(), Fail> {
     for elements in [1, 2, 7, 16] {
         let code = Loaded::new(rt.alloc(), Object::open(CALL)?)?;
         let mut store = None;
-        let mut machine = Machine::start(rt.alloc(), &mut store, &code, &[7], on(elements))
-            .expect(&rt, "it starts");
+        let mut machine = Machine::start(rt.alloc(), &mut store, &code, &[7], on(elements)).expect(
+            &rt,
+            "it starts",
+        );
         let halt = machine.play_in_turn();
         let Ok((setup, lanes)) = machine.into_lanes() else {
-            unreachable!(&rt)
+            panic!(rt; "there is memory")
         };
         assert_eq!(rt; lanes.len() as u64, elements);
         assert_eq!(rt; (setup.steps, setup.turn), (1000, 1));
@@ -210,17 +218,27 @@ fn reports_on_lanes(rt: HostRuntime) -> Result<(), Fail> {
 fn takes_a_machine_apart(rt: HostRuntime) -> Result<(), Fail> {
     let code = Loaded::new(rt.alloc(), Object::open(CALL)?)?;
     let mut store = None;
-    let mut machine =
-        Machine::start(rt.alloc(), &mut store, &code, &[7], on(2)).expect(&rt, "it starts");
-    for _ in 0..8 {
-        assert_eq!(rt; machine.step(0, 0), Some(Stepped::Did));
-    }
+    let mut machine = Machine::start(rt.alloc(), &mut store, &code, &[7], on(2)).expect(
+        &rt,
+        "it starts",
+    );
+    let picks = [
+        (0, 0),
+        (0, 0),
+        (0, 0),
+        (0, 0),
+        (0, 0),
+        (0, 0),
+        (0, 0),
+        (0, 0),
+    ];
+    assert_eq!(rt; machine.play(&picks), Halt::Steps);
     let Ok((setup, lanes)) = machine.into_lanes() else {
-        unreachable!(&rt)
+        panic!(rt; "there is memory")
     };
-    let mut tokens = 0;
+    let mut tokens = 0usize;
     for lane in &lanes {
-        tokens += lane.queue.len();
+        tokens = tokens.wrapping_add(lane.queue.len());
     }
     assert_eq!(rt; tokens, 1);
     let report = setup.report(lanes, Halt::Steps);
