@@ -81,8 +81,8 @@ fn call_on<A: Allocator + Clone>(alloc: A, elements: u32, is_quiet: bool) -> Ref
         }
         return told(&quiet.report(halt), 0, Refused::Nowhere);
     }
-    for element in 0..2000 {
-        let element = element % elements;
+    for turn in 0..2000 {
+        let element = turn % elements;
         match machine.step(element, 0) {
             Some(Stepped::Memory) => {
                 if machine.step(element, 0) != Some(Stepped::Did) {
