@@ -57,8 +57,8 @@ fn keeps_each_state(rt: HostRuntime) -> Result<(), Fail> {
 
 #[test]
 fn lends_each_slot(rt: HostRuntime) -> Result<(), Fail> {
-    let mut store = Store::new(rt.alloc(), 2, 3, 4)?;
     for state in states() {
+        let mut store = Store::new(rt.alloc(), 2, 3, 4)?;
         let mut frame = store.frame(1, 2);
         frame.slot(1).set(state);
         assert_eq!(rt; store.slot(1, 2, 1).state(), state);
@@ -66,7 +66,15 @@ fn lends_each_slot(rt: HostRuntime) -> Result<(), Fail> {
         assert_eq!(rt; store.slot(1, 1, 1).state(), SlotState::Empty);
         assert_eq!(rt; store.slot(0, 2, 1).state(), SlotState::Empty);
     }
-    let bank = store.bank(1);
+    Ok(())
+}
+
+#[test]
+fn lends_the_slots_of_a_bank(rt: HostRuntime) -> Result<(), Fail> {
+    let mut store = Store::new(rt.alloc(), 2, 3, 4)?;
+    let mut bank = store.bank(1);
+    assert!(rt; bank.holds(2, 1));
+    bank.set(2, 1, SlotState::Draining(7));
     assert!(rt; bank.holds(2, 1));
     let place = bank.place(2, 1);
     let slots = &mut *bank.slots;
