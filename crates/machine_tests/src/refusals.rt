@@ -103,15 +103,15 @@ fn call_on<A: Allocator + Clone>(alloc: A, elements: u32, is_quiet: bool) -> Ref
 fn refusals(rt: HostRuntime, elements: u32, is_quiet: bool) -> Option<(u64, u64, u64)>
     requires { 0 < elements }
 {
-    let mut at_start = 0;
-    let mut in_run = 0;
-    let mut in_report = 0;
+    let mut at_start = 0u64;
+    let mut in_run = 0u64;
+    let mut in_report = 0u64;
     for ration in 1..200 {
         let heap = Rationed::new(rt.alloc(), ration);
         match call_on(&heap, elements, is_quiet) {
-            Refused::AtTheStart => at_start += 1,
-            Refused::InTheRun => in_run += 1,
-            Refused::InTheReport => in_report += 1,
+            Refused::AtTheStart => at_start = at_start.wrapping_add(1),
+            Refused::InTheRun => in_run = in_run.wrapping_add(1),
+            Refused::InTheReport => in_report = in_report.wrapping_add(1),
             Refused::Nowhere => return Some((at_start, in_run, in_report)),
             Refused::Wrongly => return None,
         }
