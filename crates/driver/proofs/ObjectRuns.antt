@@ -1,15 +1,18 @@
 -- A run of a machine that started on an object's code is shown of the object.
-use Rattle.std.proofs.Common.{◌≡◌, ℕ, ◌<◌, Bool, false, ℤ, List, length, sym, ap, ◌∙◌, subst, arith}
+use Rattle.std.proofs.Common.{◌≡◌, ℕ, ◌<◌, ◌++◌, Bool, true, false, ℤ, List, length, sym, ap, ◌∙◌, subst, arith}
 use Rattle.semantics.specs.Program.{Program, Code}
 use Rattle.semantics.specs.Bytes.{IsObject}
+use Rattle.semantics.specs.Machine.{Events}
 use Rattle.semantics.specs.Report.{Report, Shows}
 use Rattle.object_view.specs.Reading.{Opened}
 use Rattle.schedule.specs.declared.config.Config.{Config}
 use Rattle.schedule.specs.Setting.{Setting, size}
 use Rattle.schedule.specs.Starts.{Opens}
-use Rattle.schedule.specs.Runs.{Kept, Began}
+use Rattle.schedule.specs.declared.halt.Halt.{Halt}
+use Rattle.schedule.specs.Runs.{Kept, Began, Plays, rounds_of}
+use Rattle.schedule.specs.Told.{IsReportOf}
 use Rattle.schedule.specs.Unlisted.{with_events, ShowsQuietly}
-use Rattle.driver.specs.Headline.{ShowsObject, Quietly}
+use Rattle.driver.specs.Headline.{ShowsObject, Quietly, Follows, FollowsTurns, FollowsList, RunsObject}
 
 pub elements_of : (p : Program) (width : ℕ) (c : Config) (inputs : List ℤ) (k : Kept) → Opens p width c inputs k → k.state.setting.elements ≡ c.elements
 elements_of p width c inputs k o = ap (λ (g : Setting). g.elements) o.setting
@@ -46,3 +49,40 @@ pub shows_object_quietly : (bytes : List ℕ) (inputs : List ℤ) (c : Config) (
 shows_object_quietly bytes inputs c listed r o loaded e object only width k opens shows =
     let q = shows inputs opens.began in
     (q.unlisted, q.events, shown_object bytes inputs c listed (with_events r q.events) o loaded e object only width k opens q.shows)
+
+-- ORDER. What is played from the start on is what the report tells.
+follows : (p : Program) (c : Config) (inputs : List ℤ) (listed : Bool) (picks : List (ℕ × ℕ)) (r : Report) (width : ℕ) (k : Kept) → Opens p width c inputs k → (last : Kept) (halt : Halt) (made : Events)
+    → Plays listed picks k.state last.state halt made → last.events ≡ k.events ++ made → IsReportOf last halt r → Follows p c inputs listed picks r
+follows p c inputs listed picks r width k opens last halt made plays events told = record {
+  width = width;
+  start = k;
+  opens = opens;
+  last = last;
+  halt = halt;
+  made = made;
+  plays = plays;
+  events = events ∙ ap (λ (evs : Events). evs ++ made) opens.events;
+  told = told;
+}
+
+runs : (bytes : List ℕ) (inputs : List ℤ) (c : Config) (Ordered : Program → Config → List ℤ → Report → Type 0) (r : Report) (o loaded : Opened) → loaded ≡ o → IsObject bytes o.version o.code
+    → Ordered loaded.code.program c inputs r → RunsObject bytes inputs c Ordered r
+runs bytes inputs c Ordered r o loaded e object ordered =
+    let O : Opened → Type 0 = λ x. IsObject bytes x.version x.code in
+    record { version = loaded.version; code = loaded.code; object = subst O (sym e) object; ordered = ordered }
+
+pub follows_list : (bytes : List ℕ) (inputs : List ℤ) (c : Config) (picks : List (ℕ × ℕ)) (r : Report) (o loaded : Opened) → loaded ≡ o → IsObject bytes o.version o.code
+    → (width : ℕ) (k : Kept) → Opens loaded.code.program width c inputs k
+    → (last : Kept) × (halt : Halt) × (made : Events) × Plays true picks k.state last.state halt made × (last.events ≡ k.events ++ made) × IsReportOf last halt r
+    → RunsObject bytes inputs c (FollowsList picks) r
+follows_list bytes inputs c picks r o loaded e object width k opens h =
+    runs bytes inputs c (FollowsList picks) r o loaded e object (follows loaded.code.program c inputs true picks r width k opens h.0 h.1 h.2 h.3 h.4 h.5)
+
+pub follows_turns : (bytes : List ℕ) (inputs : List ℤ) (c : Config) (r : Report) (o loaded : Opened) → loaded ≡ o → IsObject bytes o.version o.code
+    → (width : ℕ) (k : Kept) → Opens loaded.code.program width c inputs k
+    → (last : Kept) × (halt : Halt) × (rounds : ℕ) × (made : Events) × Plays false (rounds_of rounds k.state.setting.elements) k.state last.state halt made × (last.events ≡ k.events ++ made) × IsReportOf last halt r
+    → RunsObject bytes inputs c FollowsTurns r
+follows_turns bytes inputs c r o loaded e object width k opens h =
+    let P : ℕ → Type 0 = λ n. Plays false (rounds_of h.2 n) k.state (h.0).state h.1 h.3 in
+    let plays = subst P (elements_of loaded.code.program width c inputs k opens) h.4 in
+    runs bytes inputs c FollowsTurns r o loaded e object (h.2, follows loaded.code.program c inputs false (rounds_of h.2 c.elements) r width k opens h.0 h.1 h.3 plays h.5 h.6)

@@ -1,5 +1,5 @@
 -- A report that shows a run of faithful code tells the truth about the graph.
-use Rattle.std.proofs.Common.{◌≡◌, ℕ, ◌+◌, ◌<◌, Bool, false, ℤ, List, length, Option, Some, None, sym, ◌∙◌, ap, subst, arith}
+use Rattle.std.proofs.Common.{◌≡◌, ℕ, ◌+◌, ◌<◌, Bool, true, false, ℤ, List, length, Option, Some, None, sym, ◌∙◌, ap, subst, arith}
 use Rattle.std.specs.Prelude.{sum, take}
 use Rattle.tags.specs.declared.value.Value.{Value}
 use Rattle.semantics.specs.declared.report.End.{End}
@@ -15,7 +15,7 @@ use Rattle.semantics.specs.Report.{Report, IsPicture, HasEnd, Shows}
 use Rattle.schedule.specs.declared.config.Config.{Config}
 use Rattle.schedule.specs.Setting.{inputs_of as inputs_of_program}
 use Rattle.schedule.specs.Unlisted.{with_events}
-use Rattle.driver.specs.Headline.{ShowsMemory, ShowsObject, TellsMeaning, TellsOf, Quietly, size_of}
+use Rattle.driver.specs.Headline.{ShowsMemory, ShowsObject, RunsObject, FollowsTurns, FollowsList, TellsMeaning, TellsOf, TellsTruth, TellsTruthListed, Quietly, size_of}
 use Rattle.driver.specs.Refused.{IsCompiled}
 
 -- a cell that is full has its value, and no other
@@ -97,3 +97,21 @@ tells_truth text g bytes inputs c listed r compiled shown =
 pub tells_quietly : (text : List ℕ) (g : Graph) (bytes : List ℕ) (inputs : List ℤ) (c : Config) (listed : Bool) (r : Report)
     → IsCompiled text g bytes → Quietly (ShowsObject bytes inputs c listed) r → Quietly (TellsOf text g inputs (size_of c) c.steps listed) r
 tells_quietly text g bytes inputs c listed r compiled shown = (shown.0, shown.1, tells_truth text g bytes inputs c listed (with_events r shown.1) compiled shown.2)
+
+-- The order of a run of the object's code is that of a run of the graph's code.
+ordered : (text : List ℕ) (g : Graph) (bytes : List ℕ) (inputs : List ℤ) (c : Config) (listed : Bool) (r : Report) (Ordered : Program → Config → List ℤ → Report → Type 0)
+    → (compiled : IsCompiled text g bytes) → ShowsObject bytes inputs c listed r → RunsObject bytes inputs c Ordered r → Ordered compiled.object.code.program c inputs r
+ordered text g bytes inputs c listed r Ordered compiled shown runs =
+    let O : Code → Type 0 = λ x. Ordered x.program c inputs r in
+    subst O (sym (shown.only runs.version runs.code runs.object) ∙ shown.only g.version compiled.object.code compiled.object.object) runs.ordered
+
+pub tells_in_turn : (text : List ℕ) (g : Graph) (bytes : List ℕ) (inputs : List ℤ) (c : Config) (r : Report)
+    → IsCompiled text g bytes → ShowsObject bytes inputs c false r → RunsObject bytes inputs c FollowsTurns r → TellsTruth text g inputs c r
+unfolding tells_truth
+tells_in_turn text g bytes inputs c r compiled shown runs = (tells_truth text g bytes inputs c false r compiled shown, ordered text g bytes inputs c false r FollowsTurns compiled shown runs)
+
+pub tells_listed : (text : List ℕ) (g : Graph) (bytes : List ℕ) (inputs : List ℤ) (c : Config) (picks : List (ℕ × ℕ)) (r : Report)
+    → IsCompiled text g bytes → ShowsObject bytes inputs c true r → RunsObject bytes inputs c (FollowsList picks) r → TellsTruthListed text g inputs c picks r
+unfolding tells_truth
+tells_listed text g bytes inputs c picks r compiled shown runs =
+    (tells_truth text g bytes inputs c true r compiled shown, ordered text g bytes inputs c true r (FollowsList picks) compiled shown runs)

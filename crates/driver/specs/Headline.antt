@@ -14,7 +14,11 @@ use Rattle.semantics.specs.Faithful.{Faithful, IsSecondStore, inputs_of}
 use Rattle.semantics.specs.Report.{Report, Shows}
 use Rattle.lowering.specs.Theorem.{IsStraightLine}
 use Rattle.schedule.specs.declared.config.Config.{Config}
+use Rattle.schedule.specs.declared.halt.Halt.{Halt}
 use Rattle.schedule.specs.Setting.{inputs_of as inputs_in_code}
+use Rattle.schedule.specs.Starts.{Opens}
+use Rattle.schedule.specs.Runs.{Kept, Plays, rounds_of}
+use Rattle.schedule.specs.Told.{IsReportOf}
 use Rattle.schedule.specs.Unlisted.{with_events}
 use Rattle.driver.specs.Compiled.{IsCodeFor}
 
@@ -60,13 +64,34 @@ pub record TellsOf (text : List ℕ) (g : Graph) (inputs : List ℤ) (z : Size) 
 abbrev pub size_of : Config → Size
 size_of c = record { elements = c.elements; frames = c.frames }
 
+-- ORDER. The events are the steps that a list names, in its order: an entry is an element and a pick among its tokens, and
+-- makes an event where the element then has a token and may make one. The report is of the machine where the run halts.
+pub record Follows (p : Program) (c : Config) (inputs : List ℤ) (listed : Bool) (picks : List (ℕ × ℕ)) (r : Report) : Type 0 where
+  pub width : ℕ
+  pub start : Kept
+  pub opens : Opens p width c inputs start
+  pub last : Kept
+  pub halt : Halt
+  pub made : Events
+  pub plays : Plays listed picks start.state last.state halt made
+  pub events : last.events ≡ made
+  pub told : IsReportOf last halt r
+
+-- the elements take turns, each with its oldest token
+abbrev pub FollowsTurns : Program → Config → List ℤ → Report → Type 0
+FollowsTurns p c inputs r = (rounds : ℕ) × Follows p c inputs false (rounds_of rounds c.elements) r
+
+-- they go by this list
+abbrev pub FollowsList : List (ℕ × ℕ) → Program → Config → List ℤ → Report → Type 0
+FollowsList picks p c inputs r = Follows p c inputs true picks r
+
 -- THE HEADLINE, of a run in which each element in turn takes its oldest token
 abbrev pub TellsTruth : List ℕ → Graph → List ℤ → Config → Report → Type 0
-TellsTruth text g inputs c r = TellsOf text g inputs (size_of c) c.steps false r
+TellsTruth text g inputs c r = (tells : TellsOf text g inputs (size_of c) c.steps false r) × FollowsTurns tells.code.program c inputs r
 
 -- and of a run in the order of a list of elements and picks
-abbrev pub TellsTruthListed : List ℕ → Graph → List ℤ → Config → Report → Type 0
-TellsTruthListed text g inputs c r = TellsOf text g inputs (size_of c) c.steps true r
+abbrev pub TellsTruthListed : List ℕ → Graph → List ℤ → Config → List (ℕ × ℕ) → Report → Type 0
+TellsTruthListed text g inputs c picks r = (tells : TellsOf text g inputs (size_of c) c.steps true r) × FollowsList picks tells.code.program c inputs r
 
 -- OBJECTS. The bytes are an object, and the report is of a run of its code.
 pub record ShowsObject (bytes : List ℕ) (inputs : List ℤ) (c : Config) (listed : Bool) (r : Report) : Type 0 where
@@ -80,6 +105,16 @@ pub record ShowsObject (bytes : List ℕ) (inputs : List ℤ) (c : Config) (list
   pub some_frame : 0 < c.frames
   pub shows : Shows code.program (size_of c) inputs c.steps listed false r
 
+-- The order of the run of the object's code is as that says.
+pub record RunsObject (bytes : List ℕ) (inputs : List ℤ) (c : Config) (Ordered : Program → Config → List ℤ → Report → Type 0) (r : Report) : Type 0 where
+  pub version : ℕ
+  pub code : Code
+  pub object : IsObject bytes version code
+  pub ordered : Ordered code.program c inputs r
+
 -- RUNS OF ANY LENGTH. The report lists no events; with those of some run it is such a report.
 abbrev pub Quietly : (Report → Type 0) → Report → Type 0
 Quietly Tells r = (r.events ≡ []) × (events : Events) × Tells (with_events r events)
+
+abbrev pub TellsQuietly : List ℕ → Graph → List ℤ → Config → Report → Type 0
+TellsQuietly text g inputs c r = Quietly (TellsOf text g inputs (size_of c) c.steps false) r

@@ -3,7 +3,7 @@
 ghost use Rattle.std.specs.Prelude.{◌≡◌, ◌<◌, All, IfOk, MatchResult, true, false};
 ghost use Rattle.semantics.specs.Graph as Graphs;
 ghost use Rattle.driver.specs.Refused.{IsCompiled, refusal_of, IsReady, IsRefused, IsRefusedObject};
-ghost use Rattle.driver.specs.Headline.{TellsTruth, TellsTruthListed, ShowsObject, Quietly};
+ghost use Rattle.driver.specs.Headline.{TellsTruth, TellsTruthListed, TellsQuietly, ShowsObject, RunsObject, FollowsTurns, FollowsList, Quietly};
 
 use crate::compiling::{Compiled, compile};
 use crate::fault::Fault;
@@ -50,7 +50,8 @@ pub fn emulate_object<A: Allocator + Clone>(
     inputs: &[i64],
     config: Config,
 ) -> Result<Report<A>, Fault>
-    ensures { MatchResult result (ShowsObject bytes.now inputs.now config false) (IsRefusedObject bytes.now inputs.now config) }
+    ensures shows { MatchResult result (ShowsObject bytes.now inputs.now config false) (IsRefusedObject bytes.now inputs.now config) }
+    ensures turns { IfOk result (RunsObject bytes.now inputs.now config FollowsTurns) }
 {
     let object = match Object::open(bytes) {
         Ok(object) => object,
@@ -99,7 +100,8 @@ pub fn emulate_object_picks<A: Allocator + Clone>(
     picks: &[(u32, u64)],
 ) -> Result<Report<A>, Fault>
     requires { All (λ pick. pick.0 < config.elements) picks.now }
-    ensures { MatchResult result (ShowsObject bytes.now inputs.now config true) (IsRefusedObject bytes.now inputs.now config) }
+    ensures shows { MatchResult result (ShowsObject bytes.now inputs.now config true) (IsRefusedObject bytes.now inputs.now config) }
+    ensures list { IfOk result (RunsObject bytes.now inputs.now config (FollowsList picks.now)) }
 {
     let object = match Object::open(bytes) {
         Ok(object) => object,
@@ -153,7 +155,7 @@ pub fn run_text<'a, A: Allocator + Clone>(
     inputs: &[i64],
     config: Config,
 ) -> Result<Emulated<'a, A>, Fault>
-    ensures { MatchResult result (λ e. Quietly (TellsTruth text.now e.checked inputs.now config) e.report) (IsRefused text.now inputs.now config) }
+    ensures { MatchResult result (λ e. TellsQuietly text.now e.checked inputs.now config e.report) (IsRefused text.now inputs.now config) }
 {
     let Ok(room) = alloc.clone() else {
         return Err(Fault::Memory);
@@ -200,7 +202,7 @@ pub fn emulate_picks<A: Allocator + Clone>(
     picks: &[(u32, u64)],
 ) -> Result<Report<A>, Fault>
     requires { All (λ pick. pick.0 < config.elements) picks.now }
-    ensures { MatchResult result (λ report. (g : Graphs.Graph) × TellsTruthListed text.now g inputs.now config report) (IsRefused text.now inputs.now config) }
+    ensures { MatchResult result (λ report. (g : Graphs.Graph) × TellsTruthListed text.now g inputs.now config picks.now report) (IsRefused text.now inputs.now config) }
 {
     let Ok(room) = alloc.clone() else {
         return Err(Fault::Memory);

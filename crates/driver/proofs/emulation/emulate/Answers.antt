@@ -1,18 +1,19 @@
 use Rattle.std.proofs.Common.{subst, List, ℕ, false}
-use Rattle.driver.specs.Headline.{ShowsObject}
+use Rattle.driver.specs.Headline.{ShowsObject, RunsObject, FollowsTurns}
 use Rattle.driver.specs.Refused.{IsRefusedObject}
-use Rattle.driver.proofs.Truth.{tells_truth}
+use Rattle.driver.proofs.Truth.{tells_in_turn}
 use Rattle.driver.proofs.TextObjects.{refused_as_text}
 use Rattle.driver.proofs.emulation.emulate.Goals as goal
 
 pub returns-in-Ok-emulate_object : goal.returns-in-Ok-emulate_object
 returns-in-Ok-emulate_object g c = (
   c.in-Ok-compile.compiled.checked,
-  tells_truth c.args.text.now c.in-Ok-compile.compiled.checked _ c.args.inputs.now c.args.config false c.in-Ok-emulate_object.report c.in-Ok-compile.ensures
-      (subst (λ (bs : List ℕ). ShowsObject bs c.args.inputs.now c.args.config false c.in-Ok-emulate_object.report) c.deref.ensures.value c.in-Ok-emulate_object.ensures),
+  tells_in_turn c.args.text.now c.in-Ok-compile.compiled.checked _ c.args.inputs.now c.args.config c.in-Ok-emulate_object.report c.in-Ok-compile.ensures
+      (subst (λ (bs : List ℕ). ShowsObject bs c.args.inputs.now c.args.config false c.in-Ok-emulate_object.report) c.deref.ensures.value c.in-Ok-emulate_object.ensures.shows)
+      (subst (λ (bs : List ℕ). RunsObject bs c.args.inputs.now c.args.config FollowsTurns c.in-Ok-emulate_object.report) c.deref.ensures.value c.in-Ok-emulate_object.ensures.turns),
 )
 
 pub returns : goal.returns
 returns g c =
     refused_as_text c.args.text.now c.in-Ok-compile.compiled.checked _ c.args.inputs.now c.args.config c.in-Ok-compile.ensures c.in-Err-emulate_object.fault
-    (subst (λ (bs : List ℕ). IsRefusedObject bs c.args.inputs.now c.args.config c.in-Err-emulate_object.fault) c.deref.ensures.value c.in-Err-emulate_object.ensures)
+    (subst (λ (bs : List ℕ). IsRefusedObject bs c.args.inputs.now c.args.config c.in-Err-emulate_object.fault) c.deref.ensures.value c.in-Err-emulate_object.ensures.shows)
