@@ -1,6 +1,6 @@
 -- How the machine starts, and why it does not.
 use Rattle.std.specs.Prelude.{◌≡◌, ◌≢◌, ℕ, ◌+◌, ◌<◌, ◌≤◌, ◌^◌, ℤ, List, [], ◌∷◌, length}
-use Rattle.semantics.specs.Program.{Program}
+use Rattle.semantics.specs.Program.{Program, first_of}
 use Rattle.tags.specs.declared.token.Port.TheVariants.{Left}
 use Rattle.tags.specs.declared.token.Cont.{Cont}
 use Rattle.tags.specs.declared.token.Word.{Word}
@@ -14,7 +14,7 @@ use Rattle.schedule.specs.declared.config.Config.{Config}
 use Rattle.schedule.specs.declared.config.StartFault.{StartFault}
 use Rattle.schedule.specs.declared.config.StartFault.TheVariants.{WrongInputs, NoFrames, BadConfig, Memory}
 use Rattle.schedule.specs.Setting.{Setting, inputs_of}
-use Rattle.schedule.specs.State.{IsSoundState}
+use Rattle.schedule.specs.State.{AllFrom, IsSoundState, delivered}
 use Rattle.schedule.specs.Runs.{Kept, Began}
 
 pub record IsGood (c : Config) : Type 0 where
@@ -32,16 +32,6 @@ setting_of p width c = record { program = p; elements = c.elements; frames = c.f
 abbrev pub start_tokens : ℕ → List ℤ → List Token
 start_tokens first inputs = token (To.Instr 0 first Left) (Word.Back (Cont.Host 0)) ∷ input_tokens (first + 1) inputs
 
--- The machine is as at the start on these inputs, and no element has made an event.
-pub record Opens (p : Program) (width : ℕ) (c : Config) (inputs : List ℤ) (m : Kept) : Type 0 where
-  pub arity : length inputs ≡ inputs_of p
-  pub some_frame : 0 < c.frames
-  pub good : IsGood c
-  pub setting : m.state.setting ≡ setting_of p width c
-  pub sound : IsSoundState m.state
-  pub began : Began inputs m.state m.events
-  pub events : m.events ≡ []
-
 -- A lane with no tokens that is its element's part of the machine at the start
 pub record IsFresh (g : Setting) (i : ℕ) (h : Held) : Type 0 where
   pub element : h.part.shape.element ≡ i
@@ -55,6 +45,22 @@ pub record IsFresh (g : Setting) (i : ℕ) (h : Held) : Type 0 where
 
 abbrev pub sized : Program → ℕ → ℕ → ℕ → ℕ → Setting
 sized p elements frames width steps = record { program = p; elements = elements; frames = frames; width = width; steps = steps; turn = 1 }
+
+-- lanes with no tokens, to which those at the start came in order
+abbrev pub HasOpenLanes : Program → ℕ → Config → List ℤ → List Held → Type 0
+HasOpenLanes p width c inputs lanes =
+    (fresh : List Held) × AllFrom (IsFresh (sized p c.elements c.frames width 0)) 0 fresh × (lanes ≡ delivered (start_tokens (first_of p p.main) inputs) fresh)
+
+-- The machine is as at the start on these inputs, and no element has made an event.
+pub record Opens (p : Program) (width : ℕ) (c : Config) (inputs : List ℤ) (m : Kept) : Type 0 where
+  pub arity : length inputs ≡ inputs_of p
+  pub some_frame : 0 < c.frames
+  pub good : IsGood c
+  pub setting : m.state.setting ≡ setting_of p width c
+  pub sound : IsSoundState m.state
+  pub lanes : HasOpenLanes p width c inputs m.state.lanes
+  pub began : Began inputs m.state m.events
+  pub events : m.events ≡ []
 
 -- why it does not start: the first of the causes that holds
 abbrev pub IsCause : Program → Config → List ℤ → StartFault → Type 0
