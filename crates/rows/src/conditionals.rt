@@ -13,7 +13,8 @@ fn push_name(names: &mut Vec<u8>, line: &[u8]) -> Result<(), AllocError> {
         }
         names.push(*byte)?;
     }
-    names.push(b' ')
+    names.push(b' ')?;
+    Ok(())
 }
 
 /// Says that these are the instructions of the graph's code blocks, in order.
@@ -55,14 +56,15 @@ fn a_call_in_an_arm_has_a_trigger(rt: HostRuntime) -> Result<(), Fail> {
     )
 }
 
-/// A strict call's frame is asked for by its arguments.
+/// A strict call's frame is asked for by its arguments. A side of a switch has one destination, so a copy gives the argument
+/// to the frame's request and to the call.
 #[test]
 fn a_strict_call_in_an_arm_has_none(rt: HostRuntime) -> Result<(), Fail> {
     expect_code(
         &rt,
         rt.alloc(),
         b"etsgraph 2\nblock m 2 1\n- cond 0.0\n2- enter 1.0\n2- scall g 3.0\nout 1.0\nend\nblock g 1 1\n- neg 0.0\nout 1.0\nend\nmain m\n",
-        b"copy copy copy switch frame copy link send copy copy return sync sync copy sync release copy copy neg return release ",
+        b"copy copy copy switch copy frame copy link send copy copy return sync sync copy sync release copy copy neg return release ",
     )
 }
 
@@ -95,14 +97,15 @@ fn empty_arms_in_an_arm_cost_nothing(rt: HostRuntime) -> Result<(), Fail> {
     )
 }
 
-/// A call in an arm of a conditional in an arm: the inner one alone has a trigger, which its own predicate gives.
+/// A call in an arm of a conditional in an arm: the inner one alone has a trigger, which its own predicate gives. Three copies
+/// take the predicate from a side of its switch to four places.
 #[test]
 fn a_call_needs_the_trigger_of_its_own_arm_alone(rt: HostRuntime) -> Result<(), Fail> {
     expect_code(
         &rt,
         rt.alloc(),
         b"etsgraph 1\nblock m 2 1\n- cond 0.0\n2+ enter 1.0\n2+ cond 3.0\n4- enter 3.0\n4- call g 5.0\nout 1.0\nend\nblock g 1 1\n- neg 0.0\nout 1.0\nend\nmain m\n",
-        b"copy copy copy switch copy copy switch switch frame copy link send copy copy return sync sync sync copy copy sync release copy copy neg return release ",
+        b"copy copy copy switch copy copy copy switch switch frame copy link send copy copy return sync sync sync copy copy sync release copy copy neg return release ",
     )
 }
 
