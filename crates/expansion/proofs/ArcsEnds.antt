@@ -19,7 +19,7 @@ use Rattle.expansion.specs.declared.ends.End.{End}
 use Rattle.expansion.specs.Scopes.{Scope}
 use Rattle.expansion.specs.Builds.{Build, first_of, second_of, quieted, behind, meeting, mark_of, region_of}
 use Rattle.expansion.specs.Tails.{returns, iterate}
-use Rattle.expansion.specs.Ends.{end_at, is_empty, is_take, is_end, pushed_if, noted, ends_from, ends_of, same_region, Signalled, join_with, join_end, join_ends, signalled, Closing, closing, closed, closed_kind, closed_nodes, released}
+use Rattle.expansion.specs.Ends.{end_at, is_empty, is_take, is_end, pushed_if, noted, ends_from, ends_of, same_region, Signalled, join_with, join_end, join_ends, signalled, Closing, closing, copied, ended, closed, closed_kind, closed_nodes, released}
 use Rattle.expansion.specs.Blocks.{body, finished, plain_build, variant_build}
 use Rattle.expansion.proofs.ArcsKept.{Env, is_link, Leaves, Grows, grows_same, grows_on, leaves_on}
 use Rattle.expansion.proofs.ArcsSettled.{Settled, Joining, Grown, Outlets, first_out, false_true}
@@ -131,6 +131,24 @@ record Closes (e : Env) (n : ℕ) (c : Closing) : Type 0 where
 left_dyadic : (op : Op) → Left ≡ Right → is_dyadic op ≡ true
 left_dyadic op h = absurd (cc)
 
+copied_closes : (e : Env) (n : ℕ) (b : Build) (f g : Option Outlet) (es : List End) (r : Region) → SignalOut b.instrs f → SignalOut b.instrs g → AllEnds b.instrs es → Settled e 0 n b → Closes e n (copied b f g es r)
+copied_closes e n b f g es r left right all h =
+    let c : Build = quieted b Op.Copy r in
+    let c1 : Build = signalled c f (length b.instrs) Left in
+    let c2 : Build = signalled c1 g (length b.instrs) Left in
+    let first : Joining e 0 b Op.Copy c = joins_begin e 0 n b Op.Copy Untold Unmarked r (λ t. false_true t) h in
+    let second : Joining e 0 b Op.Copy c1 = joins_signal e b Op.Copy c f Left left (left_dyadic Op.Copy) first in
+    let third : Joining e 0 b Op.Copy c2 = joins_signal e b Op.Copy c1 g Left right (left_dyadic Op.Copy) second in
+    record {
+      settled = joins_end e 0 n b Op.Copy c2 h third;
+      ends = ends_push c2.instrs es r (first_of (length b.instrs)) (ends_on b.instrs c2.instrs es third.grows all) (first_out c2.instrs (length b.instrs) (joins_fresh e 0 b Op.Copy c2 refl third));
+    }
+
+ended_closes : (e : Env) (n : ℕ) (b : Build) (f g : Option Outlet) (es : List End) (r : Region) → SignalOut b.instrs f → SignalOut b.instrs g → AllEnds b.instrs es → Settled e 0 n b → Closes e n (ended b f g es r)
+ended_closes e n b None None es r left right all h = record { settled = h; ends = all }
+ended_closes e n b None (Some o) es r left right all h = copied_closes e n b None (Some o) es r left right all h
+ended_closes e n b (Some o) g es r left right all h = copied_closes e n b (Some o) g es r left right all h
+
 closed_closes : (e : Env) (n : ℕ) (b : Build) (es : List End) (k : ℕ) (r : Region) → AllEnds b.instrs es → Settled e 0 n b → Closes e n (closed b es k r)
 unfolding closed
 closed_closes e n b es k r all h =
@@ -139,17 +157,7 @@ closed_closes e n b es k r all h =
     let mid : AllEnds x.build.instrs es = ends_on b.instrs x.build.instrs es one.grows all in
     let y : Signalled = join_ends x.build None (Arm k false) es in
     let two : Joins e n x.build y = ends_join e n x.build None (Arm k false) es tt mid one.settled in
-    let c : Build = quieted y.build Op.Copy r in
-    let c1 : Build = signalled c x.signal (length y.build.instrs) Left in
-    let c2 : Build = signalled c1 y.signal (length y.build.instrs) Left in
-    let first : Joining e 0 y.build Op.Copy c = joins_begin e 0 n y.build Op.Copy Untold Unmarked r (λ t. false_true t) two.settled in
-    let second : Joining e 0 y.build Op.Copy c1 = joins_signal e y.build Op.Copy c x.signal Left (signal_on x.build.instrs y.build.instrs x.signal two.grows one.out) (left_dyadic Op.Copy) first in
-    let third : Joining e 0 y.build Op.Copy c2 = joins_signal e y.build Op.Copy c1 y.signal Left two.out (left_dyadic Op.Copy) second in
-    record {
-      settled = joins_end e 0 n y.build Op.Copy c2 two.settled third;
-      ends = ends_push c2.instrs es r (first_of (length y.build.instrs)) (ends_on y.build.instrs c2.instrs es third.grows (ends_on x.build.instrs y.build.instrs es two.grows mid))
-          (first_out c2.instrs (length y.build.instrs) (joins_fresh e 0 y.build Op.Copy c2 refl third));
-    }
+    ended_closes e n y.build x.signal y.signal es r (signal_on x.build.instrs y.build.instrs x.signal two.grows one.out) two.out (ends_on x.build.instrs y.build.instrs es two.grows mid) two.settled
 
 kind_closes : (e : Env) (m : ℕ) (c : Closing) (n : ℕ) (k : Kind ℕ) (r : Region) → Closes e m c → Closes e m (closed_kind c n k r)
 kind_closes e m c n (Lit z) r h = h

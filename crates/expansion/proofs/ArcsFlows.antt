@@ -12,9 +12,9 @@ use Rattle.semantics.specs.declared.graph.Kind.TheVariants.{Lit, Apply1, Apply2,
 use Rattle.semantics.specs.Graph.{Graph, Block, Node, node_at, node_count, flow_of, resolved_kind, place_of, array_names, block_names}
 use Rattle.semantics.specs.WellFormed.{WellFormed, IsBlockWell, IsNodeWell, NamesWell, LiesWell, IsRegion, IsCond, IsCondNode, IsEarlier, HasPortOf, HasPortIn, HasShape}
 use Rattle.expansion.specs.Builds.{first_source}
-use Rattle.expansion.specs.Blocks.{outputs_in, outputs_of, predicate_in, predicate_of, variant_of}
+use Rattle.expansion.specs.Blocks.{outputs_in, outputs_of, variant_of}
 use Rattle.expansion.specs.Variants.{loops_to, some_node_loops, some_block_loops, variants_of}
-use Rattle.expansion.specs.Scopes.{Scope}
+use Rattle.expansion.specs.Scopes.{Scope, predicate_in, predicate_of}
 use Rattle.expansion.specs.Expanded.{scope_of}
 use Rattle.expansion.proofs.ArcsKept.{Env}
 use Rattle.expansion.proofs.ArcsSettled.{SourceFits, SourcesFit, RegionFits}

@@ -14,11 +14,12 @@ use Rattle.semantics.specs.Graph.{Node}
 use Rattle.semantics.specs.Meaning.{origin_in}
 use Rattle.semantics.specs.Wired.{is_dyadic}
 use Rattle.expansion.specs.declared.builder.Outlet.{Outlet}
-use Rattle.expansion.specs.Builds.{Build, first_of, second_of, added, quieted, outlet_of, trigger_of, exited, behind, meeting, operands, alternatives, first_source}
-use Rattle.expansion.specs.Rows.{operator, copied, shared_answer, conditional, enter, merge, invoke, called, Joined, join_sources, strict_call, repeat}
-use Rattle.expansion.specs.Scopes.{Scope}
+use Rattle.expansion.specs.Builds.{Build, nowhere, first_of, second_of, added, quieted, outlet_of, trigger_of, exited, behind, meeting, operands, alternatives, first_source}
+use Rattle.expansion.specs.Rows.{operator, copied, shared_answer, trigger_switch, conditional, enter, merge, invoke, called, Joined, join_sources, strict_call, repeat}
+use Rattle.expansion.specs.Scopes.{Scope, predicate_of}
+use Rattle.expansion.specs.Triggers.{has_trigger}
 use Rattle.expansion.specs.UseCounts.{is_often, uses_at}
-use Rattle.expansion.specs.Blocks.{answered, entered, repeated, with_kind, with_node, with_nodes, predicate_of, outputs_of, variant_of}
+use Rattle.expansion.specs.Blocks.{answered, entered, repeated, with_kind, with_node, with_nodes, outputs_of, variant_of}
 use Rattle.expansion.proofs.ArcsKept.{Env, is_link, Leaves}
 use Rattle.expansion.proofs.ArcsSettled.{Settled, Grown, Outlets, first_out, one_port, leaves_exit, false_true, SourceFits, SourcesFit, RegionFits, source_leaves, trigger_leaves}
 use Rattle.expansion.proofs.ArcsSteps.{joins_begin, behinds, meets, joins_operands, joins_alternatives, grown}
@@ -62,11 +63,15 @@ answered_settled e s n b op r ss l d f few h = go (is_often (uses_at s.uses n))
     go false = operator_settled e n b op (origin_in s.version (Some s.number) n) r ss l d f few h
 
 -- CONDITIONALS
-conditional_settled : (e : Env) (n : ℕ) (b : Build) (k : ℕ) (r : Region) (ss : List Source) → SourceFits e n (first_source ss) → e.ports n ≤ 1 → Settled e 0 n b → Settled e 0 (suc n) (conditional b k r ss)
-conditional_settled e n b k r ss f few h =
+switch_settled : (e : Env) (n : ℕ) (b : Build) (k : ℕ) (r : Region) (ss : List Source) → SourceFits e n (first_source ss) → e.ports n ≤ 1 → Settled e 0 n b → Settled e 0 (suc n) (trigger_switch b k r ss)
+switch_settled e n b k r ss f few h =
     let o : Outlet = outlet_of b (first_source ss) in
     let out : Outlets b.instrs o = source_leaves e 0 n b (first_source ss) f h in
     exits_fresh e n b (meeting b Op.Switch (OfCond k) r o o) few (meets e 0 n b Op.Switch (OfCond k) r o o refl refl out out h)
+
+conditional_settled : (e : Env) (n : ℕ) (b : Build) (t : Bool) (k : ℕ) (r : Region) (ss : List Source) → SourceFits e n (first_source ss) → e.ports n ≤ 1 → Settled e 0 n b → Settled e 0 (suc n) (conditional b t k r ss)
+conditional_settled e n b true k r ss f few h = switch_settled e n b k r ss f few h
+conditional_settled e n b false k r ss f few h = leaves_exit e 0 n b nowhere (one_port b.instrs 0 (e.ports n) few h.zero) h
 
 enter_settled : (e : Env) (n : ℕ) (b : Build) (k : ℕ) (side : Bool) (ss : List Source) (p : Source) → SourceFits e n (first_source ss) → SourceFits e n p → e.ports n ≤ 1
     → Settled e 0 n b → Settled e 0 (suc n) (enter b k side ss p)
@@ -166,7 +171,7 @@ unfolding with_kind repeated
 kind_settled e s n b (Lit z) r ss at f k h = operator_settled e n b (Op.Lit z) (origin_in s.version (Some s.number) n) r ss refl (inr k.1) f k.0 h
 kind_settled e s n b (Apply1 op) r ss at f k h = operator_settled e n b (Op.Apply1 op) (origin_in s.version (Some s.number) n) r ss refl (inr k.1) f k.0 h
 kind_settled e s n b (Apply2 op) r ss at f k h = operator_settled e n b (Op.Apply2 op) (origin_in s.version (Some s.number) n) r ss refl (inl refl) f k h
-kind_settled e s n b Cond r ss at f k h = conditional_settled e n b n r ss k.1 k.0 h
+kind_settled e s n b Cond r ss at f k h = conditional_settled e n b (has_trigger s.triggers n) n r ss k.1 k.0 h
 kind_settled e s n b Enter r ss at f k h = entered_settled e s n b r ss k.1 k.2 k.0 h
 kind_settled e s n b (Merge c) r ss at f k h = merge_settled e n b r ss f k h
 kind_settled e s n b (Fetch a) r ss at f k h = answered_settled e s n b (Op.Fetch a) r ss refl (inr k.1) f k.0 h

@@ -22,13 +22,14 @@ use Rattle.semantics.specs.Wired.{NoPart, part_of}
 use Rattle.expansion.specs.declared.builder.Outlet.{Outlet}
 use Rattle.expansion.specs.declared.ends.End.{End}
 use Rattle.expansion.specs.declared.tail.Turn.{Turn}
-use Rattle.expansion.specs.Scopes.{Scope}
+use Rattle.expansion.specs.Scopes.{Scope, predicate_of}
+use Rattle.expansion.specs.Triggers.{has_trigger}
 use Rattle.expansion.specs.UseCounts.{is_often, uses_at}
-use Rattle.expansion.specs.Builds.{Build, nothing, outlet, first_of, second_of, added, quieted, connected, outlet_of, trigger_of, exited, behind, meeting, side, operands, alternatives, copies, first_source}
-use Rattle.expansion.specs.Rows.{operator, shared_answer, conditional, enter, merge, sends, landed, linked, invoke, called, Joined, join_sources, strict_call, credits, repeat}
+use Rattle.expansion.specs.Builds.{Build, nothing, nowhere, outlet, first_of, second_of, added, quieted, connected, outlet_of, trigger_of, exited, behind, meeting, side, operands, alternatives, copies, first_source}
+use Rattle.expansion.specs.Rows.{operator, shared_answer, trigger_switch, conditional, enter, merge, sends, landed, linked, invoke, called, Joined, join_sources, strict_call, credits, repeat}
 use Rattle.expansion.specs.Tails.{returns, switches, next_values, last_values, turned_continuation, turned_flag, turning, turn_of, go_on, stop, iterate}
-use Rattle.expansion.specs.Ends.{same_region, Signalled, join_with, join_end, join_ends, signalled, Closing, closing, closed, closed_kind, closed_nodes, released, ends_of}
-use Rattle.expansion.specs.Blocks.{answered, entered, repeated, with_kind, with_node, with_nodes, with_inputs, entries, body, finished, plain_build, variant_build, predicate_of, outputs_of, variant_of}
+use Rattle.expansion.specs.Ends.{same_region, Signalled, join_with, join_end, join_ends, signalled, Closing, closing, copied, ended, closed, closed_kind, closed_nodes, released, ends_of}
+use Rattle.expansion.specs.Blocks.{answered, entered, repeated, with_kind, with_node, with_nodes, with_inputs, entries, body, finished, plain_build, variant_build, outputs_of, variant_of}
 
 -- STAGES: which of a loop's instructions came last
 pub data Stage : Type 0 where
@@ -123,10 +124,14 @@ module _ (Inv : Stage → Build → Type 0) (Ok : Op → Type 0) (Fit : Origin �
       (copy_behind s c (first_of (length b.instrs)) r
       (operands_keep s (added b op o Unmarked r) (length b.instrs) 0 ss (adds s s b op o Unmarked r (Plain e refl) k f h)))
 
-  conditional_keeps : (s : Stage) (b : Build) (k : ℕ) (r : Region) (ss : List Source) → Inv s b → Inv s (conditional b k r ss)
-  conditional_keeps s b k r ss h =
+  switch_keeps : (s : Stage) (b : Build) (k : ℕ) (r : Region) (ss : List Source) → Inv s b → Inv s (trigger_switch b k r ss)
+  switch_keeps s b k r ss h =
       exits s (meeting b Op.Switch (OfCond k) r (outlet_of b (first_source ss)) (outlet_of b (first_source ss))) (first_of (length b.instrs))
       (meets s b Op.Switch (OfCond k) r (outlet_of b (first_source ss)) (outlet_of b (first_source ss)) refl base.switch h)
+
+  conditional_keeps : (s : Stage) (b : Build) (t : Bool) (k : ℕ) (r : Region) (ss : List Source) → Inv s b → Inv s (conditional b t k r ss)
+  conditional_keeps s b true k r ss h = switch_keeps s b k r ss h
+  conditional_keeps s b false k r ss h = exits s b nowhere h
 
   enter_keeps : (s : Stage) (b : Build) (k : ℕ) (e : Bool) (ss : List Source) (p : Source) → Inv s b → Inv s (enter b k e ss p)
   enter_keeps s b k e ss p h =
@@ -217,7 +222,7 @@ module _ (Inv : Stage → Build → Type 0) (Ok : Op → Type 0) (Fit : Origin �
   kind_keeps b s n (Lit z) r ss a f h = operator_keeps Idle b (Op.Lit z) (origin_in s.version (Some s.number) n) r ss refl (base.literal z) f h
   kind_keeps b s n (Apply1 op) r ss a f h = operator_keeps Idle b (Op.Apply1 op) (origin_in s.version (Some s.number) n) r ss refl (base.one op) f h
   kind_keeps b s n (Apply2 op) r ss a f h = operator_keeps Idle b (Op.Apply2 op) (origin_in s.version (Some s.number) n) r ss refl (base.two op) f h
-  kind_keeps b s n Cond r ss a f h = conditional_keeps Idle b n r ss h
+  kind_keeps b s n Cond r ss a f h = conditional_keeps Idle b (has_trigger s.triggers n) n r ss h
   kind_keeps b s n Enter r ss a f h = entered_keeps b s r ss h
   kind_keeps b s n (Merge k) r ss a f h = merge_keeps Idle b r ss h
   kind_keeps b s n (Fetch x) r ss a f h = answered_keeps b s (Op.Fetch x) n r ss refl a f h
@@ -336,15 +341,23 @@ module _ (Inv : Stage → Build → Type 0) (Ok : Op → Type 0) (Fit : Origin �
   signalled_keeps b None place p h = h
   signalled_keeps b (Some o) place p h = links Idle b o place p h
 
+  copied_keeps : (b : Build) (f g : Option Outlet) (es : List End) (r : Region) → Inv Idle b → Inv Idle (copied b f g es r).build
+  copied_keeps b f g es r h =
+      let n : ℕ = length b.instrs in
+      let copy : Build = quieted b Op.Copy r in
+      signalled_keeps (signalled copy f n Left) g n Left (signalled_keeps copy f n Left (quiets Idle Idle b Op.Copy r (Plain refl refl) base.copy h))
+
+  ended_keeps : (b : Build) (f g : Option Outlet) (es : List End) (r : Region) → Inv Idle b → Inv Idle (ended b f g es r).build
+  ended_keeps b None None es r h = h
+  ended_keeps b None (Some o) es r h = copied_keeps b None (Some o) es r h
+  ended_keeps b (Some o) g es r h = copied_keeps b (Some o) g es r h
+
   closed_keeps : (b : Build) (es : List End) (k : ℕ) (r : Region) → Inv Idle b → Inv Idle (closed b es k r).build
   unfolding closed
   closed_keeps b es k r h =
       let one : Signalled = join_ends b None (Arm k true) es in
       let two : Signalled = join_ends one.build None (Arm k false) es in
-      let n : ℕ = length two.build.instrs in
-      signalled_keeps (signalled (quieted two.build Op.Copy r) one.signal n Left) two.signal n Left
-      (signalled_keeps (quieted two.build Op.Copy r) one.signal n Left
-      (quiets Idle Idle two.build Op.Copy r (Plain refl refl) base.copy (join_ends_keep one.build None (Arm k false) es (join_ends_keep b None (Arm k true) es h))))
+      ended_keeps two.build one.signal two.signal es r (join_ends_keep one.build None (Arm k false) es (join_ends_keep b None (Arm k true) es h))
 
   closed_kind_keeps : (c : Closing) (n : ℕ) (k : Kind ℕ) (r : Region) → Inv Idle c.build → Inv Idle (closed_kind c n k r).build
   closed_kind_keeps c n (Lit z) r h = h

@@ -19,14 +19,16 @@ use Rattle.semantics.specs.Cause.{bounds_of, loop_bounds, opened_by}
 use Rattle.expansion.specs.declared.builder.Outlet.{Outlet}
 use Rattle.expansion.specs.declared.ends.End.{End}
 use Rattle.expansion.specs.declared.tail.Turn.{Turn}
-use Rattle.expansion.specs.Scopes.{Scope}
+use Rattle.expansion.specs.Scopes.{Scope, predicate_of}
+use Rattle.expansion.specs.Triggers.{has_trigger}
 use Rattle.expansion.specs.UseCounts.{is_often, uses_at}
 use Rattle.expansion.specs.Keeping.{is_switch, Fits}
-use Rattle.expansion.specs.Builds.{Build, nothing, outlet, first_of, second_of, added, quieted, connected, outlet_of, trigger_of, exited, behind, meeting, side, operands, alternatives, copies, first_source}
-use Rattle.expansion.specs.Rows.{operator, copied, shared_answer, conditional, enter, merge, sends, landed, linked, invoke, called, call, Joined, join_sources, strict_call, credits, repeat}
+use Rattle.expansion.specs.Builds.{Build, nothing, nowhere, outlet, first_of, second_of, added, quieted, connected, outlet_of, trigger_of, exited, behind, meeting, side, operands, alternatives, copies, first_source}
+use Rattle.expansion.specs.Rows.{operator, copied, shared_answer, trigger_switch, conditional, enter, merge, sends, landed, linked, invoke, called, call, Joined, join_sources, strict_call, credits, repeat}
 use Rattle.expansion.specs.Tails.{returns, switches, next_values, last_values, turned_continuation, turned_flag, turning, turn_of, go_on, stop, iterate}
-use Rattle.expansion.specs.Ends.{same_region, Signalled, join_with, join_end, join_ends, signalled, Closing, closing, closed, closed_kind, closed_nodes, released, ends_of}
-use Rattle.expansion.specs.Blocks.{answered, entered, repeated, with_kind, with_node, with_nodes, with_inputs, entries, body, finished, plain_build, variant_build, predicate_of, outputs_of, variant_of}
+use Rattle.expansion.specs.Ends as Ends
+use Rattle.expansion.specs.Ends.{same_region, Signalled, join_with, join_end, join_ends, signalled, Closing, closing, ended, closed, closed_kind, closed_nodes, released, ends_of}
+use Rattle.expansion.specs.Blocks.{answered, entered, repeated, with_kind, with_node, with_nodes, with_inputs, entries, body, finished, plain_build, variant_build, outputs_of, variant_of}
 
 module _ (Inv : List ℕ → Build → Type 0) (begins : Inv [] nothing)
     (adds : (xs : List ℕ) (b : Build) (op : Op) (o : Origin) (m : Mark) (r : Region) → Fits op m → Inv xs b → Inv (xs ++ opened_by op) (added b op o m r))
@@ -74,10 +76,14 @@ module _ (Inv : List ℕ → Build → Type 0) (begins : Inv [] nothing)
       copied_keeps xs (operands (added b op o Unmarked r) (length b.instrs) 0 ss) (length b.instrs) r
       (operands_keep xs (added b op o Unmarked r) (length b.instrs) 0 ss (adds_plain xs b op o Unmarked r e f h))
 
-  conditional_keeps : (xs : List ℕ) (b : Build) (k : ℕ) (r : Region) (ss : List Source) → Inv xs b → Inv xs (conditional b k r ss)
-  conditional_keeps xs b k r ss h =
+  switch_keeps : (xs : List ℕ) (b : Build) (k : ℕ) (r : Region) (ss : List Source) → Inv xs b → Inv xs (trigger_switch b k r ss)
+  switch_keeps xs b k r ss h =
       exits xs (meeting b Op.Switch (OfCond k) r (outlet_of b (first_source ss)) (outlet_of b (first_source ss))) (first_of (length b.instrs))
       (meets xs b Op.Switch (OfCond k) r (outlet_of b (first_source ss)) (outlet_of b (first_source ss)) refl refl h)
+
+  conditional_keeps : (xs : List ℕ) (b : Build) (t : Bool) (k : ℕ) (r : Region) (ss : List Source) → Inv xs b → Inv xs (conditional b t k r ss)
+  conditional_keeps xs b true k r ss h = switch_keeps xs b k r ss h
+  conditional_keeps xs b false k r ss h = exits xs b nowhere h
 
   enter_keeps : (xs : List ℕ) (b : Build) (k : ℕ) (s : Bool) (ss : List Source) (p : Source) → Inv xs b → Inv xs (enter b k s ss p)
   enter_keeps xs b k s ss p h =
@@ -166,7 +172,7 @@ module _ (Inv : List ℕ → Build → Type 0) (begins : Inv [] nothing)
       same xs (operator b (Op.Apply1 op) (origin_in s.version (Some s.number) n) r ss) (operator_keeps xs b (Op.Apply1 op) (origin_in s.version (Some s.number) n) r ss refl refl h)
   kind_keeps xs b s n (Apply2 op) r ss h =
       same xs (operator b (Op.Apply2 op) (origin_in s.version (Some s.number) n) r ss) (operator_keeps xs b (Op.Apply2 op) (origin_in s.version (Some s.number) n) r ss refl refl h)
-  kind_keeps xs b s n Cond r ss h = same xs (conditional b n r ss) (conditional_keeps xs b n r ss h)
+  kind_keeps xs b s n Cond r ss h = same xs (conditional b (has_trigger s.triggers n) n r ss) (conditional_keeps xs b (has_trigger s.triggers n) n r ss h)
   kind_keeps xs b s n Enter r ss h = same xs (entered b s r ss) (entered_keeps xs b s r ss h)
   kind_keeps xs b s n (Merge k) r ss h = same xs (merge b r ss) (merge_keeps xs b r ss h)
   kind_keeps xs b s n (Fetch a) r ss h = same xs (answered b s (Op.Fetch a) n r ss) (answered_keeps xs b s (Op.Fetch a) n r ss refl refl h)
@@ -277,15 +283,23 @@ module _ (Inv : List ℕ → Build → Type 0) (begins : Inv [] nothing)
   signalled_keeps xs b None place p h = h
   signalled_keeps xs b (Some o) place p h = links xs b o place p h
 
+  copy_keeps : (xs : List ℕ) (b : Build) (f g : Option Outlet) (es : List End) (r : Region) → Inv xs b → Inv xs (Ends.copied b f g es r).build
+  copy_keeps xs b f g es r h =
+      let n : ℕ = length b.instrs in
+      let copy : Build = quieted b Op.Copy r in
+      signalled_keeps xs (signalled copy f n Left) g n Left (signalled_keeps xs copy f n Left (quiets xs b Op.Copy r refl refl h))
+
+  ended_keeps : (xs : List ℕ) (b : Build) (f g : Option Outlet) (es : List End) (r : Region) → Inv xs b → Inv xs (ended b f g es r).build
+  ended_keeps xs b None None es r h = h
+  ended_keeps xs b None (Some o) es r h = copy_keeps xs b None (Some o) es r h
+  ended_keeps xs b (Some o) g es r h = copy_keeps xs b (Some o) g es r h
+
   closed_keeps : (xs : List ℕ) (b : Build) (es : List End) (k : ℕ) (r : Region) → Inv xs b → Inv xs (closed b es k r).build
   unfolding closed
   closed_keeps xs b es k r h =
       let one : Signalled = join_ends b None (Arm k true) es in
       let two : Signalled = join_ends one.build None (Arm k false) es in
-      let n : ℕ = length two.build.instrs in
-      signalled_keeps xs (signalled (quieted two.build Op.Copy r) one.signal n Left) two.signal n Left
-      (signalled_keeps xs (quieted two.build Op.Copy r) one.signal n Left
-      (quiets xs two.build Op.Copy r refl refl (join_ends_keep xs one.build None (Arm k false) es (join_ends_keep xs b None (Arm k true) es h))))
+      ended_keeps xs two.build one.signal two.signal es r (join_ends_keep xs one.build None (Arm k false) es (join_ends_keep xs b None (Arm k true) es h))
 
   closed_kind_keeps : (xs : List ℕ) (c : Closing) (n : ℕ) (k : Kind ℕ) (r : Region) → Inv xs c.build → Inv xs (closed_kind c n k r).build
   closed_kind_keeps xs c n (Lit z) r h = h

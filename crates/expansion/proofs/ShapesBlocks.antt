@@ -25,7 +25,7 @@ use Rattle.expansion.specs.Blocks.{body, finished, plain_build, variant_build}
 use Rattle.expansion.proofs.ShapesStates.{State, Free, Shut, Waits, Owned, Wants, Joined, Fits, amount, is_free, is_cond_in, is_cond_kind, fit_at}
 use Rattle.expansion.proofs.ShapesTrack.{Track, track_length}
 use Rattle.expansion.proofs.ShapesRows.{AreValid}
-use Rattle.expansion.proofs.ShapesNodes.{PredicatesOften}
+use Rattle.expansion.proofs.ShapesNodes.{PredicatesValid}
 use Rattle.expansion.proofs.ShapesBody.{AllFit, HasUses, plain_track, variant_track}
 use Rattle.expansion.proofs.ShapesCounts.{hit_at, hit_other, start, held, At, add_at, connect_at, join_ends_at, signalled_at, Held, closed_at}
 use Rattle.expansion.proofs.ShapesEnds.{own_hits, ends_hits, ends_fair, joined_from, nodes_at, only, other_arm, from_none, from_one}
@@ -228,7 +228,7 @@ shape_ready s b c p r h i e d =
 shaped_by : (s : Scope) (b c : Build) → ShapedBut (Ready s b) c → ((p : ℕ) (r : Ready s b p) → At p r.instr.op (length r.instr.firsts + due (is_end r.instr)) c) → ShapedBuild c
 shaped_by s b c all ready p i e = elim (all p i e) as (λ u. IsDone (length c.instrs) p i) [ inl x ↦ x | inr r ↦ shape_ready s b c p r.0 (ready p r.0) i e r.1 ]
 
-pub plain_shaped : (s : Scope) → PredicatesOften s → AllFit s s.block.inputs s.block.nodes → AreValid s (node_count s.block) s.block.results → HasUses s false → ShapedBuild (plain_build s)
+pub plain_shaped : (s : Scope) → PredicatesValid s → AllFit s s.block.inputs s.block.nodes → AreValid s (node_count s.block) s.block.results → HasUses s false → ShapedBuild (plain_build s)
 unfolding plain_build finished
 plain_shaped s q fits v e =
     let tracked = plain_track s q fits v e in
@@ -249,7 +249,7 @@ plain_shaped s q fits v e =
         let total : (firsts + joined_from h s.block.inputs s.block.nodes) + h Root ≡ firsts + due (is_end r.instr) = omega (arith, sum) in
         subst (λ k. At p r.instr.op k (released x.build x.ends s.block.outputs)) total whole
 
-pub variant_shaped : (s : Scope) (code : ℕ) → PredicatesOften s → AllFit s s.block.inputs s.block.nodes → AreValid s (node_count s.block) s.block.results → HasUses s true → ShapedBuild (variant_build s code)
+pub variant_shaped : (s : Scope) (code : ℕ) → PredicatesValid s → AllFit s s.block.inputs s.block.nodes → AreValid s (node_count s.block) s.block.results → HasUses s true → ShapedBuild (variant_build s code)
 unfolding variant_build finished
 variant_shaped s code q fits v e =
     let tracked = variant_track s code q fits v e in

@@ -15,15 +15,15 @@ use Rattle.expansion.specs.declared.tail.Turn.{Turn}
 use Rattle.expansion.specs.declared.uses.Uses.{Uses}
 use Rattle.expansion.specs.declared.uses.Uses.TheVariants.{Never}
 use Rattle.expansion.specs.Scopes.{Scope}
-use Rattle.expansion.specs.UseCounts.{is_often, uses_at, noted, takes_twice, noted_sources, noted_nodes, noted_results}
+use Rattle.expansion.specs.UseCounts.{is_often, uses_at, noted, noted_sources, noted_node, noted_nodes, noted_results}
 use Rattle.expansion.specs.Builds.{Build, nothing, outlet, first_of, second_of, added, quieted, outlet_of, behind, meeting}
 use Rattle.expansion.specs.Tails.{returns, switches, next_values, last_values, turned_continuation, turned_flag, turning, turn_of, go_on, stop, iterate}
 use Rattle.expansion.specs.Blocks.{with_node, with_nodes, with_input, with_inputs, entries, body}
 use Rattle.expansion.proofs.ShapesStates.{State, Free, Shut, Waits, Owned}
 use Rattle.expansion.proofs.ShapesTrack.{FreeAt, Track, ports_at, ports_in, track_length, often_free}
 use Rattle.expansion.proofs.ShapesRows.{push_free, still_free, meets_free, meets_waits, meets_source, source_meets, push_waits, zone_track, zone_free, zone_shut, zone_place, AreValid, Plays, frees, frees_get, one_free, no_more}
-use Rattle.expansion.proofs.ShapesUses.{Below, sources_length, plays_once, rare_sources, rare_nodes, rare_results, noted_twice, often_end, twice_track}
-use Rattle.expansion.proofs.ShapesNodes.{Tracked, NodeFits, PredicatesOften, exit_one, node_track}
+use Rattle.expansion.proofs.ShapesUses.{Below, kind_length, plays_once, rare_sources, rare_nodes, rare_results, noted_twice, often_end, twice_track}
+use Rattle.expansion.proofs.ShapesNodes.{Tracked, NodeFits, PredicatesValid, exit_one, node_track}
 
 -- INPUTS
 never_used : (k m : ℕ) → uses_at (replicate k Never) m ≡ Never
@@ -80,22 +80,22 @@ abbrev pub AllFit : Scope → ℕ → List (Node ℕ) → Type 0
 AllFit s n [] = ⊤
 AllFit s n (x ∷ ns) = NodeFits s n x × AllFit s (n + 1) ns
 
-nodes_track : (s : Scope) (us : List Uses) (n : ℕ) (b : Build) (ts : List State) (ns : List (Node ℕ)) → PredicatesOften s → AllFit s n ns → Track s us n b ts → Below s (noted_nodes us ns) → n + length ns ≤ length us
-    → Tracked s (noted_nodes us ns) (n + length ns) (with_nodes b s n ns)
+nodes_track : (s : Scope) (us : List Uses) (n : ℕ) (b : Build) (ts : List State) (ns : List (Node ℕ)) → PredicatesValid s → AllFit s n ns → Track s us n b ts
+    → Below s (noted_nodes us s.block s.triggers n ns) → n + length ns ≤ length us → Tracked s (noted_nodes us s.block s.triggers n ns) (n + length ns) (with_nodes b s n ns)
 unfolding with_nodes
 nodes_track s us n b ts [] q fits h below l = let same : n ≡ n + 0 = omega arith in (ts, subst (λ k. Track s us k b ts) same h)
 nodes_track s us n b ts (x ∷ ns) q fits h below l =
-    let vs : List Uses = noted_sources us x.sources (takes_twice x.kind) in
-    let one : Tracked s vs (n + 1) (with_node b s n x) = node_track s us n b ts x.kind x.region x.sources q fits.0 h (λ m e. rare_nodes vs ns m (below m e)) (omega (arith, l)) in
-    let long = sources_length us x.sources (takes_twice x.kind) in
-    let rest : Tracked s (noted_nodes vs ns) ((n + 1) + length ns) (with_nodes (with_node b s n x) s (n + 1) ns) = nodes_track s vs (n + 1) (with_node b s n x) one.0 ns q fits.1 one.1 below (omega (arith, l, long)) in
+    let vs : List Uses = noted_node us s.block s.triggers n x in
+    let one : Tracked s vs (n + 1) (with_node b s n x) = node_track s us n b ts x.kind x.region x.sources q fits.0 h (λ m e. rare_nodes vs s.block s.triggers (n + 1) ns m (below m e)) (omega (arith, l)) in
+    let long : length vs ≡ length us = kind_length us s.block s.triggers n x.kind x.region x.sources in
+    let rest : Tracked s (noted_nodes vs s.block s.triggers (n + 1) ns) ((n + 1) + length ns) (with_nodes (with_node b s n x) s (n + 1) ns) = nodes_track s vs (n + 1) (with_node b s n x) one.0 ns q fits.1 one.1 below (omega (arith, l, long)) in
     let same : (n + 1) + length ns ≡ n + length (x ∷ ns) = omega arith in
-    subst (λ k. Tracked s (noted_nodes vs ns) k (with_nodes (with_node b s n x) s (n + 1) ns)) same rest
+    subst (λ k. Tracked s (noted_nodes vs s.block s.triggers (n + 1) ns) k (with_nodes (with_node b s n x) s (n + 1) ns)) same rest
 
 abbrev pub body_uses : Scope → List Uses
-body_uses s = noted_nodes (no_uses s) s.block.nodes
+body_uses s = noted_nodes (no_uses s) s.block s.triggers s.block.inputs s.block.nodes
 
-pub body_track : (s : Scope) → PredicatesOften s → AllFit s s.block.inputs s.block.nodes → Below s (body_uses s) → Tracked s (body_uses s) (node_count s.block) (body s)
+pub body_track : (s : Scope) → PredicatesValid s → AllFit s s.block.inputs s.block.nodes → Below s (body_uses s) → Tracked s (body_uses s) (node_count s.block) (body s)
 body_track s q fits below =
     let begun : Tracked s (no_uses s) s.block.inputs (entries s) = entries_track s in
     let count = long_never (node_count s.block) in
@@ -128,7 +128,7 @@ plain_same : (us : List Uses) (ss : List Source) → noted_sources us ss false �
 plain_same us [] = refl
 plain_same us (x ∷ ss) = refl
 
-pub plain_track : (s : Scope) → PredicatesOften s → AllFit s s.block.inputs s.block.nodes → AreValid s (node_count s.block) s.block.results → HasUses s false
+pub plain_track : (s : Scope) → PredicatesValid s → AllFit s s.block.inputs s.block.nodes → AreValid s (node_count s.block) s.block.results → HasUses s false
     → Tracked s s.uses (node_count s.block) (returns (body s) 0 s.block.results)
 plain_track s q fits v e =
     let us : List Uses = body_uses s in
@@ -272,7 +272,7 @@ iterate_track s us n b ts block k (x ∷ ss) h v below =
     let turn = turning_track s ws n b ts (outlet_of b x) ss vs begun (often_free s us n b ts x h v.0 v.1 often) v.2 (plays_once s ws ss below) in
     turned_track s vs n (turning b (outlet_of b x) ss) turn.0 block k (turn_of b (outlet_of b x) (length ss)) turn.1 turn.2
 
-pub variant_track : (s : Scope) (code : ℕ) → PredicatesOften s → AllFit s s.block.inputs s.block.nodes → AreValid s (node_count s.block) s.block.results → HasUses s true
+pub variant_track : (s : Scope) (code : ℕ) → PredicatesValid s → AllFit s s.block.inputs s.block.nodes → AreValid s (node_count s.block) s.block.results → HasUses s true
     → Tracked s s.uses (node_count s.block) (iterate (body s) code (node_count s.block) s.block.results)
 variant_track s code q fits v e =
     let us : List Uses = body_uses s in

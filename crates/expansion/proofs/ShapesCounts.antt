@@ -16,7 +16,7 @@ use Rattle.semantics.specs.Program.{Instr}
 use Rattle.expansion.specs.declared.builder.Outlet.{Outlet}
 use Rattle.expansion.specs.declared.ends.End.{End}
 use Rattle.expansion.specs.Builds.{Build, first_of, added, quieted, connected, with_dest, no_instr, dest_of, meeting}
-use Rattle.expansion.specs.Ends.{end_at, same_region, Signalled, join_with, join_end, join_ends, signalled, Closing, closing, closed}
+use Rattle.expansion.specs.Ends.{end_at, same_region, Signalled, join_with, join_end, join_ends, signalled, Closing, closing, copied, ended, closed}
 use Rattle.expansion.proofs.ShapesStates.{get_left, length_push}
 
 -- HITS
@@ -179,6 +179,25 @@ fair_push : (p : ℕ) (es : List End) (e : End) → AllFair p es → Fair p e.ou
 fair_push p [] e h f = (f, tt)
 fair_push p (x ∷ es) e h f = (h.0, fair_push p es e h.1 f)
 
+copied_at : (p : ℕ) (op : Op) (c : ℕ) (h : Region → ℕ) (b : Build) (f g : Option Outlet) (es : List End) (r : Region) → At p op c b → FairSignal p f → FairSignal p g → AllFair p es
+    → ((q : Region) → hits p q es ≡ h q) → Held p op ((c + held p f) + held p g) h (copied b f g es r)
+copied_at p op c h b f g es r at left right fair same =
+    let to : ℕ = length b.instrs in
+    let copy : Build = quieted b Op.Copy r in
+    let half : Build = signalled copy f to Left in
+    let first : At p op (c + held p f) half = signalled_at p op c copy f to Left (add_at p op c b Op.Copy Untold Unmarked r at) left in
+    let below = at_below p op c b at in (
+      signalled_at p op (c + held p f) half g to Left first right,
+      fair_push p es (end_at r (first_of to)) fair (λ e. refl),
+      λ s. hits_push p s es (end_at r (first_of to)) (λ e. omega (arith, e, below)) ∙ same s,
+    )
+
+ended_at : (p : ℕ) (op : Op) (c : ℕ) (h : Region → ℕ) (b : Build) (f g : Option Outlet) (es : List End) (r : Region) → At p op c b → FairSignal p f → FairSignal p g → AllFair p es
+    → ((q : Region) → hits p q es ≡ h q) → Held p op ((c + held p f) + held p g) h (ended b f g es r)
+ended_at p op c h b None None es r at left right fair same = let none : c ≡ (c + 0) + 0 = omega arith in (subst (λ n. At p op n b) none at, fair, same)
+ended_at p op c h b None (Some o) es r at left right fair same = copied_at p op c h b None (Some o) es r at left right fair same
+ended_at p op c h b (Some o) g es r at left right fair same = copied_at p op c h b (Some o) g es r at left right fair same
+
 pub closed_at : (p : ℕ) (op : Op) (c : ℕ) (h : Region → ℕ) (b : Build) (es : List End) (k : ℕ) (r : Region) → Held p op c h (closing b es) → Held p op (c + (h (Arm k true) + h (Arm k false))) h (closed b es k r)
 unfolding closed
 closed_at p op c h b es k r x =
@@ -188,18 +207,9 @@ closed_at p op c h b es k r x =
     let zero_more : one.0 + 0 ≡ one.0 = omega arith in
     let two = join_ends_at p op made.build None one.0 (Arm k false) es (one.0, one.1, tt, zero_more) x.1 in
     let both : Signalled = join_ends made.build None (Arm k false) es in
-    let at : ℕ = length both.build.instrs in
-    let copy : Build = quieted both.build Op.Copy r in
-    let first : At p op (two.0 + held p made.signal) (signalled copy made.signal at Left) = signalled_at p op two.0 copy made.signal at Left (add_at p op two.0 both.build Op.Copy Untold Unmarked r two.1) one.2 in
-    let last : At p op ((two.0 + held p made.signal) + held p both.signal) (signalled (signalled copy made.signal at Left) both.signal at Left)
-    = signalled_at p op (two.0 + held p made.signal) (signalled copy made.signal at Left) both.signal at Left first two.2 in
     let left_sum = one.3 in
     let right_sum = two.3 in
     let left_hits = x.2 (Arm k true) in
     let right_hits = x.2 (Arm k false) in
     let total : (two.0 + held p made.signal) + held p both.signal ≡ c + (h (Arm k true) + h (Arm k false)) = omega (arith, left_sum, right_sum, left_hits, right_hits) in
-    let below = at_below p op two.0 both.build two.1 in (
-      subst (λ n. At p op n (signalled (signalled copy made.signal at Left) both.signal at Left)) total last,
-      fair_push p es (end_at r (first_of at)) x.1 (λ e. refl),
-      λ s. hits_push p s es (end_at r (first_of at)) (λ e. omega (arith, e, below)) ∙ x.2 s,
-    )
+    subst (λ n. Held p op n h (ended both.build made.signal both.signal es r)) total (ended_at p op two.0 h both.build made.signal both.signal es r two.1 one.2 two.2 x.1 x.2)

@@ -1,30 +1,32 @@
 -- How the code of a node keeps what each instruction waits for.
-use Rattle.std.proofs.Common.{◌≡◌, ℕ, ◌+◌, ◌<◌, ◌≤◌, Bool, true, false, List, [], ◌∷◌, ◌++◌, length, Some, refl, sym, ap, subst, arith, if◌then◌else◌}
+use Rattle.std.proofs.Common.{◌≡◌, ℕ, ◌+◌, ◌<◌, ◌≤◌, Bool, true, false, List, [], ◌∷◌, ◌++◌, length, Some, refl, sym, ap, ◌∙◌, subst, arith, if◌then◌else◌}
 use Rattle.std.specs.Prelude.{slice_get, slice_set, ⊤}
 use Rattle.tags.specs.declared.value.Origin.{Origin}
 use Rattle.tags.specs.declared.value.Origin.TheVariants.{Untold}
-use Rattle.tags.specs.declared.token.Port.TheVariants.{Left}
+use Rattle.tags.specs.declared.token.Port.TheVariants.{Left, Right}
 use Rattle.semantics.specs.declared.graph.Region.{Region}
 use Rattle.semantics.specs.declared.graph.Region.TheVariants.{Root, Arm}
 use Rattle.semantics.specs.declared.graph.Source.{Source}
 use Rattle.semantics.specs.declared.graph.Kind.{Kind}
 use Rattle.semantics.specs.declared.graph.Kind.TheVariants.{Lit, Apply1, Apply2, Cond, Enter, Merge, Fetch, Store, Call, StrictCall, Loop}
+use Rattle.semantics.specs.declared.program.Mark.{Mark}
 use Rattle.semantics.specs.declared.program.Mark.TheVariants.{Unmarked, OfCond}
 use Rattle.semantics.specs.declared.program.Op.{Op}
 use Rattle.semantics.specs.Graph.{Node, node_at}
 use Rattle.semantics.specs.Meaning.{origin_in}
 use Rattle.expansion.specs.declared.builder.Outlet.{Outlet}
 use Rattle.expansion.specs.declared.uses.Uses.{Uses}
-use Rattle.expansion.specs.Scopes.{Scope}
-use Rattle.expansion.specs.UseCounts.{is_often, uses_at, noted, noted_sources, takes_twice}
-use Rattle.expansion.specs.Builds.{Build, first_of, second_of, added, quieted, outlet_of, trigger_of, exited, behind, meeting, operands, alternatives}
-use Rattle.expansion.specs.Rows.{operator, shared_answer, conditional, enter, merge, invoke, called, Joined, join_sources, strict_call, credits, repeat}
-use Rattle.expansion.specs.Blocks.{answered, entered, repeated, with_kind, predicate_of, outputs_of, variant_of}
+use Rattle.expansion.specs.Scopes.{Scope, predicate_of}
+use Rattle.expansion.specs.Triggers.{has_trigger}
+use Rattle.expansion.specs.UseCounts.{is_often, uses_at, noted, noted_sources, noted_predicate, noted_conditional, noted_kind}
+use Rattle.expansion.specs.Builds.{Build, nowhere, first_of, second_of, added, quieted, connected, outlet_of, trigger_of, exited, behind, meeting, operands, alternatives}
+use Rattle.expansion.specs.Rows.{operator, shared_answer, trigger_switch, conditional, enter, merge, invoke, called, Joined, join_sources, strict_call, credits, repeat}
+use Rattle.expansion.specs.Blocks.{answered, entered, repeated, with_kind, outputs_of, variant_of}
 use Rattle.expansion.proofs.ShapesStates.{State, Free, Shut, Waits, Owned, Wants, is_free, is_cond_in, get_right, length_push, length_both}
 use Rattle.expansion.proofs.ShapesStates as States
-use Rattle.expansion.proofs.ShapesTrack.{FreeAt, Track, ports_at, ports_of, ports_in, owns_in, LiesIn, joined, track_length, track_exit, track_owned, often_free, trigger_free}
-use Rattle.expansion.proofs.ShapesRows.{push_free, push_waits, push_take, behind_free, behind_waits, meets_free, source_meets, zone_track, zone_free, zone_shut, zone_place, AreValid, Plays, operands_track, alternatives_track, frees, AllOften, join_sources_track, invoked, invoke_track}
-use Rattle.expansion.proofs.ShapesUses.{Below, sources_length, plays_once, plays_often, all_often, twice_track}
+use Rattle.expansion.proofs.ShapesTrack.{FreeAt, Track, ports_at, ports_of, ports_in, owns_in, LiesIn, joined, noted_length, track_length, track_exit, track_owned, track_source, often_free, trigger_free}
+use Rattle.expansion.proofs.ShapesRows.{push_free, push_waits, push_take, behind_free, behind_waits, meets_free, zone_track, zone_free, zone_shut, zone_place, AreValid, Plays, operands_track, alternatives_track, frees, AllOften, join_sources_track, invoked, invoke_track}
+use Rattle.expansion.proofs.ShapesUses.{Below, rare_noted, sources_length, plays_once, plays_often, all_often, twice_track}
 
 -- a build of so many nodes is tracked
 abbrev pub Tracked : Scope → List Uses → ℕ → Build → Type 0
@@ -90,41 +92,62 @@ IsSingle [] = ⊥
 IsSingle (x ∷ []) = ⊤
 IsSingle (x ∷ y ∷ ss) = ⊥
 
-conditional_track : (s : Scope) (us : List Uses) (n : ℕ) (b : Build) (ts : List State) (k : ℕ) (r : Region) (ss : List Source)
-    → Track s us n b ts → IsSingle ss → ports_at s n ≡ 1 → AreValid s n ss → AllOften s ss → n + 1 ≤ length us → Track s us (n + 1) (conditional b k r ss) (ts ++ Free ∷ [])
-conditional_track s us n b ts k r [] h one e v o l = absurd one
-conditional_track s us n b ts k r (x ∷ y ∷ ss) h one e v o l = absurd one
-conditional_track s us n b ts k r (x ∷ []) h one e v o l =
+switch_track : (s : Scope) (us : List Uses) (n : ℕ) (b : Build) (ts : List State) (k : ℕ) (r : Region) (ss : List Source)
+    → Track s us n b ts → IsSingle ss → ports_at s n ≡ 1 → AreValid s n ss → AllOften s ss → n + 1 ≤ length us → Track s us (n + 1) (trigger_switch b k r ss) (ts ++ Free ∷ [])
+switch_track s us n b ts k r [] h one e v o l = absurd one
+switch_track s us n b ts k r (x ∷ y ∷ ss) h one e v o l = absurd one
+switch_track s us n b ts k r (x ∷ []) h one e v o l =
     let place = track_length s us n b ts h in
     let free : FreeAt ts (outlet_of b x) = often_free s us n b ts x h v.0 v.1 o.0 in
     exit_one s us n (meeting b Op.Switch (OfCond k) r (outlet_of b x) (outlet_of b x)) (ts ++ Free ∷ []) (first_of (length b.instrs))
     (meets_free s us n b ts Op.Switch (OfCond k) r (outlet_of b x) (outlet_of b x) h refl free free) e (zone_free ts (Free ∷ []) (first_of (length b.instrs)) 0 (omega (arith, place)) refl) l
 
-abbrev pub IsOftenAt : Scope → ℕ → Source → Type 0
-IsOftenAt s n x = (x.node < n) × (x.port < ports_at s x.node) × (is_often (uses_at s.uses x.node) ≡ true)
+-- without the switch it leaves nowhere
+conditional_track : (s : Scope) (us : List Uses) (n : ℕ) (b : Build) (ts : List State) (t : Bool) (k : ℕ) (r : Region) (ss : List Source)
+    → Track s us n b ts → IsSingle ss → ports_at s n ≡ 1 → AreValid s n ss → Below s (noted_conditional us t ss) → n + 1 ≤ length us → Tracked s (noted_conditional us t ss) (n + 1) (conditional b t k r ss)
+conditional_track s us n b ts true k r ss h one e v below l =
+    let often : AllOften s ss = all_often s us n ss v (omega (arith, l)) below in
+    let long = sources_length us ss true in
+    (ts ++ Free ∷ [], switch_track s (noted_sources us ss true) n b ts k r ss (twice_track s us n b ts ss h v often) one e v often (omega (arith, long, l)))
+conditional_track s us n b ts false k r ss h one e v below l = (ts, exit_one s us n b ts nowhere h e h.root l)
+
+abbrev pub IsValid : Scope → ℕ → Source → Type 0
+IsValid s n x = (x.node < n) × (x.port < ports_at s x.node)
+
+-- an instruction at which two sources meet
+sources_meet : (s : Scope) (us : List Uses) (n : ℕ) (b : Build) (ts : List State) (op : Op) (m : Mark) (r : Region) (x y : Source) → Track s us n b ts → is_free op ≡ true → IsValid s n x → IsValid s n y
+    → Below s (noted (noted us x) y) → Track s (noted (noted us x) y) n (meeting b op m r (outlet_of b x) (outlet_of b y)) (ts ++ Free ∷ [])
+sources_meet s us n b ts op m r x y h f v w below =
+    let one : Build = added b op Untold m r in
+    let vs : List State = ts ++ Free ∷ [] in
+    track_source s (noted us x) n (connected one (outlet_of b x) (length b.instrs) Left) vs y (length b.instrs) Right
+    (track_source s us n one vs x (length b.instrs) Left (push_free s us n b ts op Untold m r h f) v.0 v.1 (λ e. rare_noted (noted us x) y x.node (below x.node e))) w.0 w.1 (below y.node)
 
 enter_track : (s : Scope) (us : List Uses) (n : ℕ) (b : Build) (ts : List State) (k : ℕ) (side : Bool) (ss : List Source) (predicate : Source)
-    → Track s us n b ts → IsSingle ss → ports_at s n ≡ 1 → AreValid s n ss → Below s (noted_sources us ss false) → IsOftenAt s n predicate → n + 1 ≤ length us
-    → Track s (noted_sources us ss false) (n + 1) (enter b k side ss predicate) (ts ++ Free ∷ [])
-enter_track s us n b ts k side [] q h one e v below o l = absurd one
-enter_track s us n b ts k side (x ∷ y ∷ ss) q h one e v below o l = absurd one
-enter_track s us n b ts k side (x ∷ []) q h one e v below o l = by_side side
+    → Track s us n b ts → IsSingle ss → ports_at s n ≡ 1 → AreValid s n ss → IsValid s n predicate → Below s (noted (noted_sources us ss false) predicate) → n + 1 ≤ length us
+    → Track s (noted (noted_sources us ss false) predicate) (n + 1) (enter b k side ss predicate) (ts ++ Free ∷ [])
+enter_track s us n b ts k side [] q h one e v w below l = absurd one
+enter_track s us n b ts k side (x ∷ y ∷ ss) q h one e v w below l = absurd one
+enter_track s us n b ts k side (x ∷ []) q h one e v w below l = by_side side
   where
     switch : Build
     switch = meeting b Op.Switch (OfCond k) (Arm k side) (outlet_of b x) (outlet_of b q)
 
-    met : Track s (noted us x) n switch (ts ++ Free ∷ [])
-    met = source_meets s us n b ts Op.Switch (OfCond k) (Arm k side) x (outlet_of b q) h refl (often_free s us n b ts q h o.0 o.1 o.2) v.0 v.1 (below x.node)
+    vs : List Uses
+    vs = noted (noted us x) q
+
+    met : Track s vs n switch (ts ++ Free ∷ [])
+    met = sources_meet s us n b ts Op.Switch (OfCond k) (Arm k side) x q h refl (v.0, v.1) w below
 
     at : FreeAt (ts ++ Free ∷ []) (first_of (length b.instrs))
     at = let place = track_length s us n b ts h in zone_free ts (Free ∷ []) (first_of (length b.instrs)) 0 (omega (arith, place)) refl
 
-    room : n + 1 ≤ length (noted us x)
-    room = let same = sources_length us (x ∷ []) false in omega (arith, same, l)
+    room : n + 1 ≤ length vs
+    room = let last : length vs ≡ length us = noted_length (noted us x) q ∙ noted_length us x in omega (arith, last, l)
 
-    by_side : (t : Bool) → Track s (noted us x) (n + 1) (exited switch (if t then first_of (length b.instrs) else second_of (length b.instrs))) (ts ++ Free ∷ [])
-    by_side true = exit_one s (noted us x) n switch (ts ++ Free ∷ []) (first_of (length b.instrs)) met e at room
-    by_side false = exit_one s (noted us x) n switch (ts ++ Free ∷ []) (second_of (length b.instrs)) met e at room
+    by_side : (t : Bool) → Track s vs (n + 1) (exited switch (if t then first_of (length b.instrs) else second_of (length b.instrs))) (ts ++ Free ∷ [])
+    by_side true = exit_one s vs n switch (ts ++ Free ∷ []) (first_of (length b.instrs)) met e at room
+    by_side false = exit_one s vs n switch (ts ++ Free ∷ []) (second_of (length b.instrs)) met e at room
 
 called_track : (s : Scope) (us : List Uses) (n : ℕ) (b : Build) (ts : List State) (signal : Outlet) (block outputs : ℕ) (r : Region) (ss : List Source) (vs : List Uses)
     → Track s us n b ts → FreeAt ts signal → outputs ≡ ports_at s n → States.Joined s.block r → AreValid s n ss → Plays s us ss vs → n + 1 ≤ length vs
@@ -201,26 +224,26 @@ pub record NodeFits (s : Scope) (n : ℕ) (node : Node ℕ) : Type 0 where
   pub lies : LiesIn s n node.region
   pub kind : KindFits node.kind node.region node.sources
 
--- the predicate of each conditional is used often
-abbrev pub PredicatesOften : Scope → Type 0
-PredicatesOften s = (k : ℕ) → is_cond_in (node_at s.block k) ≡ true → IsOftenAt s k (predicate_of s.block k)
+-- the predicate of each conditional is a port of an earlier node
+abbrev pub PredicatesValid : Scope → Type 0
+PredicatesValid s = (k : ℕ) → is_cond_in (node_at s.block k) ≡ true → IsValid s k (predicate_of s.block k)
 
 abbrev node_of : Kind ℕ → Region → List Source → Node ℕ
 node_of k r ss = record { region = r; kind = k; sources = ss }
 
 entered_track : (s : Scope) (us : List Uses) (n : ℕ) (b : Build) (ts : List State) (r : Region) (ss : List Source)
-    → PredicatesOften s → Track s us n b ts → IsArm r → IsSingle ss → LiesIn s n r → ports_at s n ≡ 1 → AreValid s n ss → Below s (noted_sources us ss false) → n + 1 ≤ length us
-    → Tracked s (noted_sources us ss false) (n + 1) (entered b s r ss)
+    → PredicatesValid s → Track s us n b ts → IsArm r → IsSingle ss → LiesIn s n r → ports_at s n ≡ 1 → AreValid s n ss → Below s (noted_predicate (noted_sources us ss false) s.block r) → n + 1 ≤ length us
+    → Tracked s (noted_predicate (noted_sources us ss false) s.block r) (n + 1) (entered b s r ss)
 entered_track s us n b ts Root ss q h arm one lies e v below l = absurd arm
 entered_track s us n b ts (Arm k side) ss q h arm one lies e v below l =
-    let often = q k lies.1 in
-    let earlier = often.0 in
+    let valid = q k lies.1 in
+    let earlier = valid.0 in
     let under = lies.0 in
-    (ts ++ Free ∷ [], enter_track s us n b ts k side ss (predicate_of s.block k) h one e v below (omega (arith, earlier, under), often.1, often.2) l)
+    (ts ++ Free ∷ [], enter_track s us n b ts k side ss (predicate_of s.block k) h one e v (omega (arith, earlier, under), valid.1) below l)
 
 pub node_track : (s : Scope) (us : List Uses) (n : ℕ) (b : Build) (ts : List State) (k : Kind ℕ) (r : Region) (ss : List Source)
-    → PredicatesOften s → NodeFits s n (node_of k r ss) → Track s us n b ts → Below s (noted_sources us ss (takes_twice k)) → n + 1 ≤ length us
-    → Tracked s (noted_sources us ss (takes_twice k)) (n + 1) (with_kind b s n k r ss)
+    → PredicatesValid s → NodeFits s n (node_of k r ss) → Track s us n b ts → Below s (noted_kind us s.block s.triggers n k r ss) → n + 1 ≤ length us
+    → Tracked s (noted_kind us s.block s.triggers n k r ss) (n + 1) (with_kind b s n k r ss)
 unfolding with_kind repeated
 node_track s us n b ts k r ss q c h below l = by_kind k c below
   where
@@ -239,13 +262,11 @@ node_track s us n b ts k r ss q c h below l = by_kind k c below
     early : n ≤ length us
     early = omega (arith, l)
 
-    by_kind : (k : Kind ℕ) → NodeFits s n (node_of k r ss) → Below s (after (takes_twice k)) → Tracked s (after (takes_twice k)) (n + 1) (with_kind b s n k r ss)
+    by_kind : (k : Kind ℕ) → NodeFits s n (node_of k r ss) → Below s (noted_kind us s.block s.triggers n k r ss) → Tracked s (noted_kind us s.block s.triggers n k r ss) (n + 1) (with_kind b s n k r ss)
     by_kind (Lit z) c below = (ts ++ Free ∷ [], operator_track s us n b ts (Op.Lit z) o r ss (after false) h refl (ports (Lit z) c) c.valid (plays_once s us ss below) (room false))
     by_kind (Apply1 op) c below = (ts ++ Free ∷ [], operator_track s us n b ts (Op.Apply1 op) o r ss (after false) h refl (ports (Apply1 op) c) c.valid (plays_once s us ss below) (room false))
     by_kind (Apply2 op) c below = (ts ++ Free ∷ [], operator_track s us n b ts (Op.Apply2 op) o r ss (after false) h refl (ports (Apply2 op) c) c.valid (plays_once s us ss below) (room false))
-    by_kind Cond c below =
-        let often : AllOften s ss = all_often s us n ss c.valid early below in
-        (ts ++ Free ∷ [], conditional_track s (after true) n b ts n r ss (twice_track s us n b ts ss h c.valid often) c.kind (ports Cond c) c.valid often (room true))
+    by_kind Cond c below = conditional_track s us n b ts (has_trigger s.triggers n) n r ss h c.kind (ports Cond c) c.valid below l
     by_kind Enter c below = entered_track s us n b ts r ss q h c.kind.0 c.kind.1 c.lies (ports Enter c) c.valid below l
     by_kind (Merge m) c below = (ts ++ Free ∷ [], merge_track s us n b ts r ss (after false) h (ports (Merge m) c) c.valid (plays_once s us ss below) (room false))
     by_kind (Fetch a) c below =

@@ -20,7 +20,7 @@ use Rattle.expansion.specs.declared.builder.Outlet.{Outlet}
 use Rattle.expansion.specs.declared.ends.End.{End}
 use Rattle.expansion.specs.Shapes.{HasExactShape, IsExact, is_release}
 use Rattle.expansion.specs.Builds.{Build, first_of, added, quieted, connected, with_dest, no_instr, bare, slot_in, behind, meeting}
-use Rattle.expansion.specs.Ends.{end_at, same_region, Signalled, join_with, join_end, join_ends, signalled, Closing, closing, closed, closed_kind, closed_nodes, released}
+use Rattle.expansion.specs.Ends.{end_at, same_region, Signalled, join_with, join_end, join_ends, signalled, Closing, closing, copied, ended, closed, closed_kind, closed_nodes, released}
 use Rattle.expansion.proofs.ShapesStates.{Wants, is_free, get_right, get_push, length_push}
 use Rattle.expansion.proofs.ShapesCounts.{start, hit_at, hit_other, held, FairSignal, At, connect_at, signalled_at}
 
@@ -168,25 +168,33 @@ module _ (X : ℕ → Type 0) where
   below_push n [] e h l = (l, tt)
   below_push n (x ∷ es) e h l = (h.0, below_push n es e h.1 l)
 
+  copied_free : (b : Build) (f g : Option Outlet) (es : List End) (r : Region) → SoundClosing (closing b es) → SoundClosing (copied b f g es r)
+  copied_free b f g es r h =
+      let at : ℕ = length b.instrs in
+      let copy : Build = quieted b Op.Copy r in
+      let half : Build = signalled copy f at Left in
+      let last : Build = signalled half g at Left in
+      let count : length last.instrs ≡ at + 1 = signalled_length half g at Left ∙ signalled_length copy f at Left ∙ added_length b Op.Copy Untold Unmarked r in (
+        signalled_free half g at Left (signalled_free copy f at Left (add_free b Op.Copy Untold Unmarked r refl h.0)),
+        below_push (length last.instrs) es (end_at r (first_of at)) (more_below at (length last.instrs) es (omega (arith, count)) h.1) (omega (arith, count)),
+        omega (arith, count),
+      )
+
+  ended_free : (b : Build) (f g : Option Outlet) (es : List End) (r : Region) → SoundClosing (closing b es) → SoundClosing (ended b f g es r)
+  ended_free b None None es r h = h
+  ended_free b None (Some o) es r h = copied_free b None (Some o) es r h
+  ended_free b (Some o) g es r h = copied_free b (Some o) g es r h
+
   pub closed_free : (b : Build) (es : List End) (k : ℕ) (r : Region) → SoundClosing (closing b es) → SoundClosing (closed b es k r)
   unfolding closed
   closed_free b es k r h =
-      let n : ℕ = length b.instrs in
       let one : Signalled = join_ends b None (Arm k true) es in
-      let first = join_ends_free n b None (Arm k true) es (h.0, tt, omega arith) h.1 in
+      let first = join_ends_free (length b.instrs) b None (Arm k true) es (h.0, tt, omega arith) h.1 in
       let two : Signalled = join_ends one.build None (Arm k false) es in
-      let second = join_ends_free n one.build None (Arm k false) es (first.0, tt, first.2) h.1 in
-      let at : ℕ = length two.build.instrs in
-      let copy : Build = quieted two.build Op.Copy r in
-      let half : Build = signalled copy one.signal at Left in
-      let last : Build = signalled half two.signal at Left in
-      let count : length last.instrs ≡ at + 1 = signalled_length half two.signal at Left ∙ signalled_length copy one.signal at Left ∙ added_length two.build Op.Copy Untold Unmarked r in
-      let long = second.2 in
-      let some = h.2 in (
-        signalled_free half two.signal at Left (signalled_free copy one.signal at Left (add_free two.build Op.Copy Untold Unmarked r refl second.0)),
-        below_push (length last.instrs) es (end_at r (first_of at)) (more_below n (length last.instrs) es (omega (arith, long, count)) h.1) (omega (arith, count)),
-        omega (arith, count),
-      )
+      let second = join_ends_free (length b.instrs) one.build None (Arm k false) es (first.0, tt, first.2) h.1 in
+      let long : length b.instrs ≤ length two.build.instrs = second.2 in
+      let some : 0 < length b.instrs = h.2 in
+      ended_free two.build one.signal two.signal es r (second.0, more_below (length b.instrs) (length two.build.instrs) es long h.1, omega (arith, long, some))
 
   kind_free : (x : Closing) (n : ℕ) (k : Kind ℕ) (r : Region) → SoundClosing x → SoundClosing (closed_kind x n k r)
   kind_free x n Cond r h = closed_free x.build x.ends n r h

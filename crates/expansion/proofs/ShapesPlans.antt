@@ -15,7 +15,7 @@ use Rattle.expansion.specs.Expanded.{Codes, with_code, no_codes, scope_of, plain
 use Rattle.expansion.proofs.ShapesStates.{get_push}
 use Rattle.expansion.proofs.ShapesOpen.{IsDone}
 use Rattle.expansion.proofs.ShapesBlocks.{plain_shaped, variant_shaped}
-use Rattle.expansion.proofs.ShapesWell.{nodes_fit, results_valid, uses_noted, predicates_often}
+use Rattle.expansion.proofs.ShapesWell.{nodes_fit, results_valid, uses_noted, predicates_valid}
 
 abbrev AllDone : List Instr → Type 0
 AllDone is = (p : ℕ) (i : Instr) → slice_get is p ≡ Some i → IsDone (length is) p i
@@ -42,7 +42,7 @@ module _ (g : Graph) (well : WellFormed g) where
       let b : Block (List ℕ) = h.0 in
       let build = plain_build (scope_of version blocks variants n (block_in g b) false) in
       let shaped : AllDone build.instrs
-      = plain_shaped (scope_of version blocks variants n (block_in g b) false) (predicates_often g well b h.1 version variants n false) (nodes_fit g well b h.1 version variants n false)
+      = plain_shaped (scope_of version blocks variants n (block_in g b) false) (predicates_valid g well b h.1 version variants n false) (nodes_fit g well b h.1 version variants n false)
       (results_valid g well b h.1 version variants n false) (uses_noted g well b h.1 version variants n false) in
       subst (λ y. AllDone (plain_build (scope_of version blocks variants n y false)).instrs) h.2 shaped
 
@@ -52,7 +52,7 @@ module _ (g : Graph) (well : WellFormed g) where
       let b : Block (List ℕ) = h.0 in
       let build = variant_build (scope_of version blocks variants n (block_in g b) true) (variant_of variants n) in
       let shaped : AllDone build.instrs
-      = variant_shaped (scope_of version blocks variants n (block_in g b) true) (variant_of variants n) (predicates_often g well b h.1 version variants n true)
+      = variant_shaped (scope_of version blocks variants n (block_in g b) true) (variant_of variants n) (predicates_valid g well b h.1 version variants n true)
       (nodes_fit g well b h.1 version variants n true) (results_valid g well b h.1 version variants n true) (uses_noted g well b h.1 version variants n true) in
       subst (λ y. AllDone (variant_build (scope_of version blocks variants n y true) (variant_of variants n)).instrs) h.2 shaped
 

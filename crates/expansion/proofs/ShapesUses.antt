@@ -1,13 +1,18 @@
 -- Uses are only ever noted: what is rare in the end was rare before.
-use Rattle.std.proofs.Common.{◌≡◌, ℕ, zero, suc, ◌<◌, ◌≤◌, Bool, true, false, List, [], ◌∷◌, length, refl, ap, ◌∙◌, arith, inl, inr}
+use Rattle.std.proofs.Common.{◌≡◌, ℕ, zero, suc, ◌+◌, ◌<◌, ◌≤◌, Bool, true, false, List, [], ◌∷◌, length, refl, ap, ◌∙◌, arith, inl, inr}
 use Rattle.std.specs.Prelude.{slice_get, slice_set, slice_index_or, Some}
+use Rattle.semantics.specs.declared.graph.Region.{Region}
+use Rattle.semantics.specs.declared.graph.Region.TheVariants.{Root, Arm}
 use Rattle.semantics.specs.declared.graph.Source.{Source}
-use Rattle.semantics.specs.Graph.{Node}
+use Rattle.semantics.specs.declared.graph.Kind.{Kind}
+use Rattle.semantics.specs.declared.graph.Kind.TheVariants.{Lit, Apply1, Apply2, Cond, Enter, Merge, Fetch, Store, Call, StrictCall, Loop}
+use Rattle.semantics.specs.Graph.{Node, Block}
 use Rattle.expansion.specs.declared.uses.Uses.{Uses}
 use Rattle.expansion.specs.declared.uses.Uses.TheVariants.{Never, Once, Often}
 use Rattle.expansion.specs.Builds.{Build}
-use Rattle.expansion.specs.Scopes.{Scope}
-use Rattle.expansion.specs.UseCounts.{more, is_often, uses_at, noted, noted_use, takes_twice, noted_sources, noted_nodes, noted_results}
+use Rattle.expansion.specs.Scopes.{Scope, predicate_of}
+use Rattle.expansion.specs.Triggers.{has_trigger}
+use Rattle.expansion.specs.UseCounts.{more, is_often, uses_at, noted, noted_use, noted_sources, noted_predicate, noted_conditional, noted_kind, noted_node, noted_nodes, noted_results}
 use Rattle.expansion.proofs.ShapesStates.{State, Owned}
 use Rattle.expansion.proofs.ShapesTrack.{Track, IsOwner, noted_other, noted_here, noted_length, track_used}
 use Rattle.expansion.proofs.ShapesRows.{AreValid, AllOften, Plays}
@@ -35,9 +40,30 @@ pub rare_sources : (us : List Uses) (ss : List Source) (t : Bool) (m : ℕ) → 
 rare_sources us [] t m e = e
 rare_sources us (x ∷ ss) t m e = rare_use us x t m (rare_sources (noted_use us x t) ss t m e)
 
-pub rare_nodes : (us : List Uses) (ns : List (Node ℕ)) (m : ℕ) → is_often (uses_at (noted_nodes us ns) m) ≡ false → is_often (uses_at us m) ≡ false
-rare_nodes us [] m e = e
-rare_nodes us (n ∷ ns) m e = rare_sources us n.sources (takes_twice n.kind) m (rare_nodes (noted_sources us n.sources (takes_twice n.kind)) ns m e)
+rare_predicate : (us : List Uses) (b : Block ℕ) (r : Region) (m : ℕ) → is_often (uses_at (noted_predicate us b r) m) ≡ false → is_often (uses_at us m) ≡ false
+rare_predicate us b Root m e = e
+rare_predicate us b (Arm k side) m e = rare_noted us (predicate_of b k) m e
+
+rare_conditional : (us : List Uses) (t : Bool) (ss : List Source) (m : ℕ) → is_often (uses_at (noted_conditional us t ss) m) ≡ false → is_often (uses_at us m) ≡ false
+rare_conditional us true ss m e = rare_sources us ss true m e
+rare_conditional us false ss m e = e
+
+rare_kind : (us : List Uses) (b : Block ℕ) (ts : List Bool) (n : ℕ) (k : Kind ℕ) (r : Region) (ss : List Source) (m : ℕ) → is_often (uses_at (noted_kind us b ts n k r ss) m) ≡ false → is_often (uses_at us m) ≡ false
+rare_kind us b ts n (Lit z) r ss m e = rare_sources us ss false m e
+rare_kind us b ts n (Apply1 op) r ss m e = rare_sources us ss false m e
+rare_kind us b ts n (Apply2 op) r ss m e = rare_sources us ss false m e
+rare_kind us b ts n Cond r ss m e = rare_conditional us (has_trigger ts n) ss m e
+rare_kind us b ts n Enter r ss m e = rare_sources us ss false m (rare_predicate (noted_sources us ss false) b r m e)
+rare_kind us b ts n (Merge k) r ss m e = rare_sources us ss false m e
+rare_kind us b ts n (Fetch a) r ss m e = rare_sources us ss false m e
+rare_kind us b ts n (Store a) r ss m e = rare_sources us ss false m e
+rare_kind us b ts n (Call f) r ss m e = rare_sources us ss false m e
+rare_kind us b ts n (StrictCall f) r ss m e = rare_sources us ss true m e
+rare_kind us b ts n (Loop f k) r ss m e = rare_sources us ss false m e
+
+pub rare_nodes : (us : List Uses) (b : Block ℕ) (ts : List Bool) (n : ℕ) (ns : List (Node ℕ)) (m : ℕ) → is_often (uses_at (noted_nodes us b ts n ns) m) ≡ false → is_often (uses_at us m) ≡ false
+rare_nodes us b ts n [] m e = e
+rare_nodes us b ts n (x ∷ ns) m e = rare_kind us b ts n x.kind x.region x.sources m (rare_nodes (noted_node us b ts n x) b ts (n + 1) ns m e)
 
 pub rare_results : (us : List Uses) (t : Bool) (ss : List Source) (m : ℕ) → is_often (uses_at (noted_results us t ss) m) ≡ false → is_often (uses_at us m) ≡ false
 rare_results us t [] m e = e
@@ -51,9 +77,26 @@ pub sources_length : (us : List Uses) (ss : List Source) (t : Bool) → length (
 sources_length us [] t = refl
 sources_length us (x ∷ ss) t = sources_length (noted_use us x t) ss t ∙ use_length us x t
 
-pub nodes_length : (us : List Uses) (ns : List (Node ℕ)) → length (noted_nodes us ns) ≡ length us
-nodes_length us [] = refl
-nodes_length us (n ∷ ns) = nodes_length (noted_sources us n.sources (takes_twice n.kind)) ns ∙ sources_length us n.sources (takes_twice n.kind)
+predicate_length : (us : List Uses) (b : Block ℕ) (r : Region) → length (noted_predicate us b r) ≡ length us
+predicate_length us b Root = refl
+predicate_length us b (Arm k side) = noted_length us (predicate_of b k)
+
+conditional_length : (us : List Uses) (t : Bool) (ss : List Source) → length (noted_conditional us t ss) ≡ length us
+conditional_length us true ss = sources_length us ss true
+conditional_length us false ss = refl
+
+pub kind_length : (us : List Uses) (b : Block ℕ) (ts : List Bool) (n : ℕ) (k : Kind ℕ) (r : Region) (ss : List Source) → length (noted_kind us b ts n k r ss) ≡ length us
+kind_length us b ts n (Lit z) r ss = sources_length us ss false
+kind_length us b ts n (Apply1 op) r ss = sources_length us ss false
+kind_length us b ts n (Apply2 op) r ss = sources_length us ss false
+kind_length us b ts n Cond r ss = conditional_length us (has_trigger ts n) ss
+kind_length us b ts n Enter r ss = predicate_length (noted_sources us ss false) b r ∙ sources_length us ss false
+kind_length us b ts n (Merge k) r ss = sources_length us ss false
+kind_length us b ts n (Fetch a) r ss = sources_length us ss false
+kind_length us b ts n (Store a) r ss = sources_length us ss false
+kind_length us b ts n (Call f) r ss = sources_length us ss false
+kind_length us b ts n (StrictCall f) r ss = sources_length us ss true
+kind_length us b ts n (Loop f k) r ss = sources_length us ss false
 
 -- what is rare in the end is rare in these uses
 abbrev pub Below : Scope → List Uses → Type 0

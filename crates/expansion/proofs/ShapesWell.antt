@@ -1,7 +1,6 @@
 -- The blocks of a well-formed graph fit: their sources and regions, and what each kind of node takes.
-use Rattle.std.proofs.Common.{◌≡◌, ◌≢◌, ℕ, zero, suc, ◌+◌, ◌-◌, ◌<◌, ◌≤◌, Bool, true, false, List, [], ◌∷◌, map, length, Option, Some, None, refl, sym, ap, ◌∙◌, subst, arith, if◌then◌else◌, nat_lt, ltb-false, le-ltb}
+use Rattle.std.proofs.Common.{◌≡◌, ◌≢◌, ℕ, zero, suc, ◌+◌, ◌-◌, ◌<◌, ◌≤◌, Bool, true, false, List, [], ◌∷◌, map, length, Option, Some, None, refl, sym, ap, ◌∙◌, subst, arith, if◌then◌else◌, nat_lt, le-ltb}
 use Rattle.std.specs.Prelude.{slice_get, All, Contains}
-use Rattle.std.proofs.lemmas.Option.{slice_get_within}
 use Rattle.std.proofs.lemmas.List.{length-map}
 use Rattle.std.proofs.lemmas.List.Elements.{All-contains}
 use Rattle.determinacy.proofs.Resolved.{all_get, contains_get, place_get, block_in, node_in, node_back}
@@ -12,18 +11,15 @@ use Rattle.semantics.specs.declared.graph.Kind.{Kind}
 use Rattle.semantics.specs.declared.graph.Kind.TheVariants.{Lit, Apply1, Apply2, Cond, Enter, Merge, Fetch, Store, Call, StrictCall, Loop}
 use Rattle.semantics.specs.Graph.{Graph, Node, Block, node_at, node_count, flow_of, array_names, block_names, resolved_kind, place_of}
 use Rattle.semantics.specs.WellFormed.{WellFormed, IsBlockWell, IsNodeWell, IsEarlier, HasPortOf, HasPortIn, IsRegion, IsCond, IsCondNode, NamesWell, LiesWell}
-use Rattle.expansion.specs.declared.uses.Uses.{Uses}
-use Rattle.expansion.specs.Scopes.{Scope}
-use Rattle.expansion.specs.UseCounts.{is_often, uses_at, takes_twice, noted_sources, noted_nodes}
+use Rattle.expansion.specs.Scopes.{Scope, predicate_in}
 use Rattle.expansion.specs.Builds.{first_source}
-use Rattle.expansion.specs.Blocks.{outputs_of, outputs_in, predicate_in}
+use Rattle.expansion.specs.Blocks.{outputs_of, outputs_in}
 use Rattle.expansion.specs.Expanded.{scope_of}
 use Rattle.expansion.proofs.ShapesStates.{is_cond_kind, is_cond_in}
 use Rattle.expansion.proofs.ShapesTrack.{ports_of, ports_in, LiesIn}
 use Rattle.expansion.proofs.ShapesRows.{AreValid}
-use Rattle.expansion.proofs.ShapesUses.{sources_length, rare_nodes, rare_results, noted_twice}
-use Rattle.expansion.proofs.ShapesNodes.{IsSingle, IsSome, IsArm, IsOftenAt, KindFits, NodeFits, PredicatesOften}
-use Rattle.expansion.proofs.ShapesBody.{AllFit, HasUses, no_uses, body_uses, long_never}
+use Rattle.expansion.proofs.ShapesNodes.{IsSingle, IsSome, IsArm, IsValid, KindFits, NodeFits, PredicatesValid}
+use Rattle.expansion.proofs.ShapesBody.{AllFit, HasUses}
 
 -- LISTS
 map_get : {X Y : Type 0} (f : X → Y) (xs : List X) (i : ℕ) (x : X) → slice_get xs i ≡ Some x → slice_get (map f xs) i ≡ Some (f x)
@@ -36,29 +32,6 @@ all_head P x xs h = all_get P (x ∷ xs) 0 x h refl
 
 all_tail : {X : Type 0} (P : X → Type 0) (x : X) (xs : List X) → All P (x ∷ xs) → All P xs
 all_tail P x xs h = λ k d l. h (suc k) d (omega (arith, l))
-
--- OFTEN USED
-often_by : (t u : Bool) → (u ≡ false → t ≡ false) → t ≡ true → u ≡ true
-often_by t true f e = refl
-often_by t false f e = let no = f refl in cc
-
--- the source of a node that takes it twice
-twice_noted : (us : List Uses) (ns : List (Node ℕ)) (j : ℕ) (node : Node ℕ) (x : Source) → slice_get ns j ≡ Some node → takes_twice node.kind ≡ true → node.sources ≡ x ∷ [] → x.node < length us
-    → is_often (uses_at (noted_nodes us ns) x.node) ≡ true
-twice_noted us [] j node x e t f l = absurd (cc)
-twice_noted us (y ∷ ns) zero node x e t f l =
-    let same : y ≡ node = cc in
-    let first : noted_sources us y.sources (takes_twice y.kind) ≡ noted_sources us (x ∷ []) true
-    = ap (λ (n : Node ℕ). noted_sources us n.sources (takes_twice n.kind)) same ∙ ap (λ b. noted_sources us node.sources b) t ∙ ap (λ ss. noted_sources us ss true) f in
-    often_by (is_often (uses_at (noted_sources us y.sources (takes_twice y.kind)) x.node)) (is_often (uses_at (noted_nodes us (y ∷ ns)) x.node))
-    (rare_nodes (noted_sources us y.sources (takes_twice y.kind)) ns x.node) (ap (λ vs. is_often (uses_at vs x.node)) first ∙ noted_twice us x l)
-twice_noted us (y ∷ ns) (suc j) node x e t f l =
-    let long = sources_length us y.sources (takes_twice y.kind) in
-    twice_noted (noted_sources us y.sources (takes_twice y.kind)) ns j node x e t f (omega (arith, l, long))
-
-cond_twice : (k : Kind ℕ) → is_cond_kind k ≡ true → takes_twice k ≡ true
-cond_twice Cond e = refl
-cond_twice k e = absurd (cc)
 
 -- NODES OF A GRAPH
 module _ (g : Graph) (well : WellFormed g) where
@@ -196,37 +169,20 @@ module _ (g : Graph) (well : WellFormed g) where
     pub uses_noted : HasUses scope turns
     uses_noted = refl
 
-    often_in : (k : ℕ) (o : Option (Node ℕ)) → node_at (block_in g b) k ≡ o → is_cond_in o ≡ true → IsOftenAt scope k (predicate_in o)
-    often_in k None e c = absurd (cc)
-    often_in k (Some node) e c =
+    valid_in : (k : ℕ) (o : Option (Node ℕ)) → node_at (block_in g b) k ≡ o → is_cond_in o ≡ true → IsValid scope k (predicate_in o)
+    valid_in k None e c = absurd (cc)
+    valid_in k (Some node) e c =
         let fits = node_fits k node e in
-        by_sources node.sources refl fits.valid (by_kind node.kind c fits.kind)
+        by_sources node.sources fits.valid (by_kind node.kind c fits.kind)
       where
         by_kind : (kind : Kind ℕ) → is_cond_kind kind ≡ true → KindFits kind node.region node.sources → IsSingle node.sources
         by_kind Cond c h = h
         by_kind kind c h = absurd (cc)
 
-        placed : (b.inputs ≤ k) × (slice_get (block_in g b).nodes (k - b.inputs) ≡ Some node)
-        placed = go (nat_lt k b.inputs) refl e
-          where
-            go : (t : Bool) → nat_lt k b.inputs ≡ t → (if t then None else slice_get (block_in g b).nodes (k - b.inputs)) ≡ Some node → (b.inputs ≤ k) × (slice_get (block_in g b).nodes (k - b.inputs) ≡ Some node)
-            go true f q = absurd (cc)
-            go false f q = (ltb-false k b.inputs f, q)
+        by_sources : (ss : List Source) → AreValid scope k ss → IsSingle ss → IsValid scope k (first_source ss)
+        by_sources [] v one = absurd one
+        by_sources (x ∷ y ∷ ss) v one = absurd one
+        by_sources (x ∷ []) v one = (v.0, v.1)
 
-        often : (x : Source) → node.sources ≡ x ∷ [] → x.node < k → is_often (uses_at scope.uses x.node) ≡ true
-        often x f l =
-            let below = slice_get_within (block_in g b).nodes (k - b.inputs) node placed.1 in
-            let low = placed.0 in
-            let long : length (no_uses scope) ≡ node_count (block_in g b) = long_never (node_count (block_in g b)) in
-            often_by (is_often (uses_at (body_uses scope) x.node)) (is_often (uses_at scope.uses x.node)) (rare_results (body_uses scope) turns b.results x.node)
-            (twice_noted (no_uses scope) (block_in g b).nodes (k - b.inputs) node x placed.1 (cond_twice node.kind c) f (omega (arith, l, below, low, long)))
-
-        by_sources : (ss : List Source) → node.sources ≡ ss → AreValid scope k node.sources → IsSingle node.sources → IsOftenAt scope k (first_source node.sources)
-        by_sources [] f v one = absurd (subst IsSingle f one)
-        by_sources (x ∷ y ∷ ss) f v one = absurd (subst IsSingle f one)
-        by_sources (x ∷ []) f v one =
-            let first : AreValid scope k (x ∷ []) = subst (AreValid scope k) f v in
-            subst (λ ss. IsOftenAt scope k (first_source ss)) (sym f) (first.0, first.1, often x f first.0)
-
-    pub predicates_often : PredicatesOften scope
-    predicates_often k c = often_in k (node_at (block_in g b) k) refl c
+    pub predicates_valid : PredicatesValid scope
+    predicates_valid k c = valid_in k (node_at (block_in g b) k) refl c

@@ -8,12 +8,13 @@ use Rattle.semantics.specs.declared.graph.Kind.TheVariants.{Lit, Apply1, Apply2,
 use Rattle.semantics.specs.declared.program.Mark.{Mark}
 use Rattle.semantics.specs.declared.program.Mark.TheVariants.{Unmarked}
 use Rattle.semantics.specs.declared.program.Op.{Op}
-use Rattle.semantics.specs.Graph.{Node, Block, node_at, node_count}
+use Rattle.semantics.specs.Graph.{Node, Block, node_count}
 use Rattle.semantics.specs.Meaning.{origin_in}
 use Rattle.semantics.specs.Program.{CodeBlock}
-use Rattle.expansion.specs.Scopes.{Scope}
+use Rattle.expansion.specs.Scopes.{Scope, predicate_of}
+use Rattle.expansion.specs.Triggers.{has_trigger}
 use Rattle.expansion.specs.UseCounts.{is_often, uses_at}
-use Rattle.expansion.specs.Builds.{Build, nothing, added, quieted, exited, first_of, first_source}
+use Rattle.expansion.specs.Builds.{Build, nothing, added, quieted, exited, first_of}
 use Rattle.expansion.specs.Rows.{operator, shared_answer, conditional, enter, merge, call, strict_call, repeat}
 use Rattle.expansion.specs.Tails.{returns, iterate}
 use Rattle.expansion.specs.Ends.{Closing, closing, ends_of, closed, closed_nodes, released}
@@ -53,13 +54,6 @@ outputs_of bs f = outputs_in (slice_get bs f)
 pub record FewOutputs (bs : List (Block ℕ)) : Type 0 where
   pub each : (f : ℕ) → outputs_of bs f ≤ 16
 
-abbrev pub predicate_in : Option (Node ℕ) → Source
-predicate_in None = first_source []
-predicate_in (Some n) = first_source n.sources
-
-abbrev pub predicate_of : Block ℕ → ℕ → Source
-predicate_of b k = predicate_in (node_at b k)
-
 -- NODES
 abbrev pub answered : Build → Scope → Op → ℕ → Region → List Source → Build
 answered b s op n region ss = if is_often (uses_at s.uses n) then shared_answer b op (origin_in s.version (Some s.number) n) region ss else operator b op (origin_in s.version (Some s.number) n) region ss
@@ -75,7 +69,7 @@ unfoldable pub with_kind : Build → Scope → ℕ → Kind ℕ → Region → L
 with_kind b s n (Lit z) region ss = operator b (Op.Lit z) (origin_in s.version (Some s.number) n) region ss
 with_kind b s n (Apply1 op) region ss = operator b (Op.Apply1 op) (origin_in s.version (Some s.number) n) region ss
 with_kind b s n (Apply2 op) region ss = operator b (Op.Apply2 op) (origin_in s.version (Some s.number) n) region ss
-with_kind b s n Cond region ss = conditional b n region ss
+with_kind b s n Cond region ss = conditional b (has_trigger s.triggers n) n region ss
 with_kind b s n Enter region ss = entered b s region ss
 with_kind b s n (Merge k) region ss = merge b region ss
 with_kind b s n (Fetch a) region ss = answered b s (Op.Fetch a) n region ss

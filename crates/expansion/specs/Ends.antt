@@ -82,12 +82,19 @@ pub record Closing : Type 0 where
 abbrev pub closing : Build → List End → Closing
 closing b ends = record { build = b; ends = ends }
 
+-- the copy in which it ends, to which the signals of the arms go
 abbrev pub copied : Build → Option Outlet → Option Outlet → List End → Region → Closing
 copied b first second ends region = closing (signalled (signalled (quieted b Copy region) first (length b.instrs) Left) second (length b.instrs) Left) (ends ++ end_at region (first_of (length b.instrs)) ∷ [])
 
+-- none where neither arm has an end
+abbrev pub ended : Build → Option Outlet → Option Outlet → List End → Region → Closing
+ended b None None ends region = closing b ends
+ended b None (Some o) ends region = copied b None (Some o) ends region
+ended b (Some o) second ends region = copied b (Some o) second ends region
+
 -- with the signal of the one arm
 abbrev pub closed_with : Signalled → List End → ℕ → Region → Closing
-closed_with s ends k region = copied (join_ends s.build None (Arm k false) ends).build s.signal (join_ends s.build None (Arm k false) ends).signal ends region
+closed_with s ends k region = ended (join_ends s.build None (Arm k false) ends).build s.signal (join_ends s.build None (Arm k false) ends).signal ends region
 
 unfoldable pub closed : Build → List End → ℕ → Region → Closing
 closed b ends k region = closed_with (join_ends b None (Arm k true) ends) ends k region

@@ -5,6 +5,7 @@ use Rattle.semantics.specs.Graph.{Block, Flow}
 use Rattle.semantics.specs.Program.{CodeBlock}
 use Rattle.semantics.specs.Plan.{Plan}
 use Rattle.expansion.specs.Scopes.{Scope}
+use Rattle.expansion.specs.Triggers.{triggers_of}
 use Rattle.expansion.specs.UseCounts.{uses_of}
 use Rattle.expansion.specs.Variants.{some_block_loops, variants_of}
 use Rattle.expansion.specs.Blocks.{IsSmallBlock, FewOutputs, Coded, code_of, plain_build, variant_build, variant_of}
@@ -23,7 +24,8 @@ scope_of version blocks variants number b turns = record {
   blocks = blocks;
   variants = variants;
   block = b;
-  uses = uses_of b turns (b.inputs + length b.nodes);
+  triggers = triggers_of b (b.inputs + length b.nodes);
+  uses = uses_of b (triggers_of b (b.inputs + length b.nodes)) turns (b.inputs + length b.nodes);
 }
 
 unfoldable pub plain_code : ℕ → List (Block ℕ) → List ℕ → ℕ → Block ℕ → Coded

@@ -1,5 +1,6 @@
 pub mod Flows
 pub mod Builds
+pub mod Triggers
 pub mod UseCounts
 pub mod Rows
 pub mod Tails

@@ -9,7 +9,7 @@ use Rattle.semantics.specs.declared.program.Mark.TheVariants.{Unmarked, OfCond}
 use Rattle.semantics.specs.declared.program.Op.{Op}
 use Rattle.semantics.specs.declared.program.Op.TheVariants.{Copy, Sync, Switch, Frame, Link, Send, Open, Take, Give, Drain}
 use Rattle.expansion.specs.declared.builder.Outlet.{Outlet}
-use Rattle.expansion.specs.Builds.{Build, first_of, second_of, added, quieted, connected, outlet_of, trigger_of, exited, behind, meeting, operands, alternatives, copies, first_source}
+use Rattle.expansion.specs.Builds.{Build, nowhere, first_of, second_of, added, quieted, connected, outlet_of, trigger_of, exited, behind, meeting, operands, alternatives, copies, first_source}
 
 abbrev pub operator : Build → Op → Origin → Region → List Source → Build
 operator b op origin region ss = exited (operands (added b op origin Unmarked region) (length b.instrs) 0 ss) (first_of (length b.instrs))
@@ -21,8 +21,12 @@ copied b place region = exited (behind b (first_of place) Copy region) (first_of
 abbrev pub shared_answer : Build → Op → Origin → Region → List Source → Build
 shared_answer b op origin region ss = copied (operands (added b op origin Unmarked region) (length b.instrs) 0 ss) (length b.instrs) region
 
-abbrev pub conditional : Build → ℕ → Region → List Source → Build
-conditional b k region ss = exited (meeting b Switch (OfCond k) region (outlet_of b (first_source ss)) (outlet_of b (first_source ss))) (first_of (length b.instrs))
+abbrev pub trigger_switch : Build → ℕ → Region → List Source → Build
+trigger_switch b k region ss = exited (meeting b Switch (OfCond k) region (outlet_of b (first_source ss)) (outlet_of b (first_source ss))) (first_of (length b.instrs))
+
+-- where nothing takes a trigger, it has no instruction
+abbrev pub conditional : Build → Bool → ℕ → Region → List Source → Build
+conditional b triggered k region ss = if triggered then trigger_switch b k region ss else exited b nowhere
 
 abbrev pub enter : Build → ℕ → Bool → List Source → Source → Build
 enter b k side ss predicate =

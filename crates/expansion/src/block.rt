@@ -13,6 +13,7 @@ use crate::flow::{Block, Node};
 use crate::rows;
 use crate::scope::{Scope, origin_of, predicate_of};
 use crate::tail::{iterate, returns};
+use crate::triggers::has_trigger;
 use crate::uses::uses_at;
 use code::CodeBlock;
 use semantics::graph::{Kind, Region, Source};
@@ -131,7 +132,10 @@ fn push_node<A: Allocator + Clone>(
             let origin = origin_of(scope.version, scope.number, number);
             rows::operator(builder, Op::Apply2 { op: *op }, origin, region, sources)
         }
-        Kind::Cond => rows::conditional(builder, number, region, sources),
+        Kind::Cond => {
+            let triggered = has_trigger(scope.triggers, number);
+            rows::conditional(builder, triggered, number, region, sources)
+        }
         Kind::Enter => entered(builder, scope, region, sources),
         Kind::Merge { .. } => rows::merge(builder, region, sources),
         Kind::Fetch { array } => {

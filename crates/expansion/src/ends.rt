@@ -169,7 +169,58 @@ fn connect_signal<A: Allocator + Clone>(
     }
 }
 
-/// The end of a conditional: the joined ends of either arm go to one copy, an end of the conditional's region.
+/// The copy in which a conditional ends: the signals of its arms go to it, and it is an end of the conditional's region.
+fn push_copy<A: Allocator + Clone>(
+    builder: &mut Builder<A>,
+    ends: &mut Vec<End, A>,
+    yes: Option<Outlet>,
+    no: Option<Outlet>,
+    region: Region,
+) -> Result<(), AllocError>
+    requires room { length builder.old.instrs < 2 ^ 31 - 1 }
+    ensures build { OnOk result (builder.new ≡ (Ends.copied builder.old yes no ends.old.items region).build) }
+    ensures ends { OnOk result (ends.new.items ≡ (Ends.copied builder.old yes no ends.old.items region).ends) }
+    ensures longer { OnOk result (length builder.new.instrs ≡ length builder.old.instrs + 1) }
+    ensures more { OnOk result (length ends.new.items ≡ length ends.old.items + 1) }
+{
+    let copy = builder.quiet(Op::Copy, region)?;
+    connect_signal(builder, yes, copy, Port::Left)?;
+    connect_signal(builder, no, copy, Port::Left)?;
+    ends.push(End {
+        region,
+        outlet: Outlet::first(copy),
+    })?;
+    Ok(())
+}
+
+/// The end of a conditional of whose arms these are the signals: the copy, or nothing where there is neither signal.
+fn end_arms<A: Allocator + Clone>(
+    builder: &mut Builder<A>,
+    ends: &mut Vec<End, A>,
+    yes: Option<Outlet>,
+    no: Option<Outlet>,
+    region: Region,
+) -> Result<(), AllocError>
+    requires room { length builder.old.instrs < 2 ^ 31 - 1 }
+    ensures build { OnOk result (builder.new ≡ (Ends.ended builder.old yes no ends.old.items region).build) }
+    ensures ends { OnOk result (ends.new.items ≡ (Ends.ended builder.old yes no ends.old.items region).ends) }
+    ensures longer { OnOk result (length builder.new.instrs ≤ length builder.old.instrs + 1) }
+    ensures more { OnOk result (length ends.new.items ≤ length ends.old.items + 1) }
+{
+    match (yes, no) {
+        (None, None) => Ok(()),
+        (yes, no) => push_copy(builder, ends, yes, no, region),
+    }
+}
+
+/// The end of a conditional: the joined ends of either arm go to one copy, an end of the conditional's region. Where
+/// neither arm has an end, there is nothing to wait for, and no copy.
+///
+/// In a well-formed graph both arms have ends or neither has one. The first node of an arm is an `enter`, whose other side
+/// is an end of the other arm. So if both arms have nodes, both have ends. If one alone has nodes, no merge takes from it,
+/// and it has an end of its own: the done signal of a call or a loop, the copy of a conditional in whose arms there are
+/// nodes, or else the last of its nodes that have code, from which nothing takes. A trigger switch stands only where a call
+/// or a loop is in an arm, and its other side leads to one or is an end.
 #[tactic(auto, unfolding(crate::specs::Ends::closed))]
 pub(crate) fn close<A: Allocator + Clone>(
     builder: &mut Builder<A>,
@@ -181,18 +232,11 @@ pub(crate) fn close<A: Allocator + Clone>(
     ensures build { OnOk result (builder.new ≡ (Ends.closed builder.old ends.old.items cond region).build) }
     ensures ends { OnOk result (ends.new.items ≡ (Ends.closed builder.old ends.old.items cond region).ends) }
     ensures longer { OnOk result (length builder.new.instrs ≤ length builder.old.instrs + 2 * length ends.old.items + 1) }
-    ensures more { OnOk result (length ends.new.items ≡ length ends.old.items + 1) }
+    ensures more { OnOk result (length ends.new.items ≤ length ends.old.items + 1) }
 {
     let yes = join_ends(builder, ends, Region::Arm { cond, side: true })?;
     let no = join_ends(builder, ends, Region::Arm { cond, side: false })?;
-    let copy = builder.quiet(Op::Copy, region)?;
-    connect_signal(builder, yes, copy, Port::Left)?;
-    connect_signal(builder, no, copy, Port::Left)?;
-    ends.push(End {
-        region,
-        outlet: Outlet::first(copy),
-    })?;
-    Ok(())
+    end_arms(builder, ends, yes, no, region)
 }
 
 /// The same of a node, if it is a conditional.

@@ -31,6 +31,7 @@ mod scope;
 mod shapes;
 mod straight;
 mod tail;
+mod triggers;
 mod uses;
 mod variants;
 

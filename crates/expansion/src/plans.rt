@@ -10,6 +10,7 @@ ghost use Rattle.expansion.specs.Variants as Variants;
 use crate::block::{self, Coded};
 use crate::flow::{Block, Flow};
 use crate::scope::Scope;
+use crate::triggers::triggers_of;
 use crate::uses::uses_of;
 use crate::variants::{is_looped, variants_of};
 use code::{CodeBlock, Plan, Program};
@@ -60,13 +61,15 @@ fn plain_code<A: Allocator + Clone>(
     ensures { IfOk result (λ c. c ≡ Expanded.plain_code (version_number version) blocks.now variants.now number block.now) }
 {
     let nodes = block.inputs as usize + block.nodes.len();
-    let uses = uses_of(alloc.clone()?, block, nodes, false)?;
+    let triggers = triggers_of(alloc.clone()?, block, nodes)?;
+    let uses = uses_of(alloc.clone()?, block, &triggers, nodes, false)?;
     let scope = Scope {
         version,
         number,
         blocks,
         variants,
         block,
+        triggers: &triggers,
         uses: &uses,
     };
     block::plain(alloc, &scope, block)
@@ -87,13 +90,15 @@ fn variant_code<A: Allocator + Clone>(
     ensures { IfOk result (λ c. c ≡ Expanded.variant_code (version_number version) blocks.now variants.now number block.now) }
 {
     let nodes = block.inputs as usize + block.nodes.len();
-    let uses = uses_of(alloc.clone()?, block, nodes, true)?;
+    let triggers = triggers_of(alloc.clone()?, block, nodes)?;
+    let uses = uses_of(alloc.clone()?, block, &triggers, nodes, true)?;
     let scope = Scope {
         version,
         number,
         blocks,
         variants,
         block,
+        triggers: &triggers,
         uses: &uses,
     };
     let code = scope.variant(u32::from(number));

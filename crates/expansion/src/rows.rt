@@ -46,15 +46,15 @@ pub(crate) fn shared_answer<A: Allocator + Clone>(
     builder.exit(Outlet::first(copy))
 }
 
-/// A conditional: a switch of its source by its source, which gives the triggers of the arms.
-pub(crate) fn conditional<A: Allocator + Clone>(
+/// The switch of a conditional's source by its source, which gives the triggers of the arms.
+fn trigger_switch<A: Allocator + Clone>(
     builder: &mut Builder<A>,
     cond: u32,
     region: Region,
     sources: &[Source],
 ) -> Result<(), AllocError>
     requires room { length builder.old.instrs < 2 ^ 30 }
-    ensures exact { OnOk result (builder.new ≡ Rows.conditional builder.old cond region sources.now) }
+    ensures exact { OnOk result (builder.new ≡ Rows.trigger_switch builder.old cond region sources.now) }
     ensures longer { OnOk result (length builder.new.instrs ≡ length builder.old.instrs + 1) }
 {
     let predicate = builder.outlet(first_source(sources));
@@ -66,6 +66,25 @@ pub(crate) fn conditional<A: Allocator + Clone>(
         predicate,
     )?;
     builder.exit(Outlet::first(place))
+}
+
+/// A conditional: the switch of its triggers, if something takes one of them, and else no instruction.
+pub(crate) fn conditional<A: Allocator + Clone>(
+    builder: &mut Builder<A>,
+    triggered: bool,
+    cond: u32,
+    region: Region,
+    sources: &[Source],
+) -> Result<(), AllocError>
+    requires room { length builder.old.instrs < 2 ^ 30 }
+    ensures exact { OnOk result (builder.new ≡ Rows.conditional builder.old triggered cond region sources.now) }
+    ensures longer { OnOk result (length builder.new.instrs ≤ length builder.old.instrs + 1) }
+{
+    if triggered {
+        trigger_switch(builder, cond, region, sources)
+    } else {
+        builder.exit(Outlet::first(0))
+    }
 }
 
 /// An `enter` in an arm: a switch of its source by the conditional's source. Its other side is an end of the other arm.

@@ -4,6 +4,7 @@ ghost use Rattle.std.specs.Prelude.{◌≡◌, ◌<◌, ◌≤◌, Some};
 ghost use Rattle.graph.specs.Versions.{version_number};
 ghost use Rattle.semantics.specs.Meaning.{origin_in};
 ghost use Rattle.expansion.specs.Blocks as Blocks;
+ghost use Rattle.expansion.specs.Scopes as Scopes;
 
 use crate::flow::Block;
 use crate::uses::Uses;
@@ -13,8 +14,8 @@ use std::alloc::Allocator;
 use std::marker::Model;
 use tags::value::{NodeNumber, Origin};
 
-/// A block with what its code rests on: its number, all blocks, the numbers of the loop variants' code, and how often its
-/// nodes are used. Contracts see the record of these.
+/// A block with what its code rests on: its number, all blocks, the numbers of the loop variants' code, which of its
+/// conditionals have triggers that something takes, and how often its nodes are used. Contracts see the record of these.
 #[derive(Drop)]
 pub(crate) struct Scope<'b, A: Allocator> {
     pub version: Version,
@@ -22,6 +23,7 @@ pub(crate) struct Scope<'b, A: Allocator> {
     pub blocks: &'b [Block<A>],
     pub variants: &'b [u16],
     pub block: &'b Block<A>,
+    pub triggers: &'b [bool],
     pub uses: &'b [Uses],
 }
 
@@ -31,7 +33,7 @@ impl<'b, A: Allocator> Model for Scope<'b, A> {
 
     ghost Value = { Scope };
 
-    ghost view = { λ s. record { version = version_number s.version; number = s.number; blocks = s.blocks.now; variants = s.variants.now; block = s.block.now; uses = s.uses.now } };
+    ghost view = { λ s. record { version = version_number s.version; number = s.number; blocks = s.blocks.now; variants = s.variants.now; block = s.block.now; triggers = s.triggers.now; uses = s.uses.now } };
 }
 
 /// Where a fault of that node says that it was made: only faults of the second version say it.
@@ -70,7 +72,7 @@ fn outputs_of<A: Allocator>(blocks: &[Block<A>], block: u32) -> u32
 
 /// The source of a conditional's predicate.
 pub(crate) fn predicate_of<A: Allocator>(block: &Block<A>, cond: u32) -> Source
-    ensures { result ≡ Blocks.predicate_of block.now cond }
+    ensures { result ≡ Scopes.predicate_of block.now cond }
 {
     const NOWHERE: Source = Source { node: 0, port: 0 };
     if cond < block.inputs {

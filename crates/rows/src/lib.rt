@@ -5,6 +5,8 @@
 #[cfg(test)]
 mod compiled;
 #[cfg(test)]
+mod conditionals;
+#[cfg(test)]
 mod hostile;
 #[cfg(test)]
 mod literals;
