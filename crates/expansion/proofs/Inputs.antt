@@ -1,13 +1,13 @@
 -- Each graph block's plain code has the block's inputs.
-use Rattle.std.proofs.Common.{◌≡◌, ℕ, zero, suc, ◌+◌, ◌<◌, Bool, true, false, List, [], ◌∷◌, ◌++◌, length, refl, sym, ap, ◌∙◌, subst, arith, append_assoc, append-nil, if◌then◌else◌, Option, Some, None, length-append}
+use Rattle.std.proofs.Common.{◌≡◌, ℕ, zero, suc, ◌+◌, ◌<◌, Bool, true, false, List, [], ◌∷◌, ◌++◌, length, refl, sym, subst, arith, append_assoc, append-nil, if◌then◌else◌, length-append}
 use Rattle.std.specs.Prelude.{slice_get, ⊤}
 use Rattle.semantics.specs.Graph.{Block, Flow}
 use Rattle.semantics.specs.Program.{CodeBlock}
 use Rattle.semantics.specs.Orderly as Orderly
 use Rattle.semantics.specs.Faithful as Faithful
 use Rattle.expansion.specs.Variants.{some_block_loops, variants_of}
-use Rattle.expansion.specs.Blocks.{Coded, variant_of}
-use Rattle.expansion.specs.Expanded.{Codes, with_code, no_codes, scope_of, plain_code, variant_code, plain_codes, variant_codes, expanded}
+use Rattle.expansion.specs.Blocks.{Coded}
+use Rattle.expansion.specs.Expanded.{Codes, with_code, no_codes, plain_code, variant_code, plain_codes, variant_codes, expanded}
 
 -- the first code blocks have the inputs of these blocks
 abbrev SameInputs : List CodeBlock → List (Block ℕ) → Type 0
