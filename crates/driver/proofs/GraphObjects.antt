@@ -1,5 +1,5 @@
 -- What the compiler makes of a well-formed graph within the limits.
-use Rattle.std.proofs.Common.{arith, ◌≡◌, refl, sym, ap, ◌∙◌, subst, ℕ, zero, suc, List, [], ◌∷◌, length, map, Option, Some, None}
+use Rattle.std.proofs.Common.{arith, ◌≡◌, refl, sym, ap, ◌∙◌, subst, ℕ, zero, suc, List, [], ◌∷◌, length, map}
 use Rattle.std.specs.Prelude.{slice_get}
 use Rattle.semantics.specs.Graph.{Graph, flow_of}
 use Rattle.semantics.specs.WellFormed.{WellFormed}
@@ -9,7 +9,6 @@ use Rattle.semantics.specs.Plan.{Plan}
 use Rattle.semantics.specs.Placed.{placed_blocks}
 use Rattle.semantics.specs.Bytes.{IsCode}
 use Rattle.semantics.specs.Cause.{HasBounds}
-use Rattle.semantics.specs.Faithful as Faithful
 use Rattle.semantics.specs.Faithful.{Faithful}
 use Rattle.semantics.specs.Orderly as Orderly
 use Rattle.slot_alloc.specs.Assigned.{IsAssigned}

@@ -1,22 +1,20 @@
 -- The object of a text's graph: what is written of it, and what refuses a run of it.
-use Rattle.std.proofs.Common.{◌≡◌, ◌≢◌, ℕ, ◌<◌, ◌++◌, ℤ, List, [], Option, Some, None, Result, Ok, Err, refl, sym, ap, ◌∙◌, subst, length}
+use Rattle.std.proofs.Common.{◌≡◌, ◌≢◌, ℕ, ◌++◌, ℤ, List, [], Option, Some, Ok, Err, refl, sym, ap, ◌∙◌, subst}
 use Rattle.std.specs.Prelude.{⊤}
 use Rattle.std.specs.Io.KnownBytes.{Appends}
 use Rattle.semantics.specs.Graph.{Graph}
-use Rattle.semantics.specs.Program.{Program, Code}
+use Rattle.semantics.specs.Program.{Code}
 use Rattle.semantics.specs.Bytes.{IsObject, bytes_of}
 use Rattle.object_view.specs.Sending.{Sends}
 use Rattle.object_view.specs.Reading.{Opened}
 use Rattle.schedule.specs.declared.config.Config.{Config}
 use Rattle.schedule.specs.declared.config.StartFault.{StartFault}
-use Rattle.schedule.specs.declared.config.StartFault.TheVariants as StartFault
 use Rattle.schedule.specs.Setting.{inputs_of}
 use Rattle.schedule.specs.Starts.{Opens, IsCause}
 use Rattle.schedule.specs.Runs.{Kept}
 use Rattle.driver.specs.declared.fault.Fault.{Fault}
-use Rattle.driver.specs.declared.fault.Fault.TheVariants as Fault
 use Rattle.driver.specs.Compiled.{IsCodeFor}
-use Rattle.driver.specs.Refused.{IsGoodText, IsCompiled, refusal_of, IsReady, IsRefused, IsRefusedText, IsRefusedObject}
+use Rattle.driver.specs.Refused.{IsGoodText, IsCompiled, refusal_of, IsReady, IsRefused, IsRefusedObject}
 
 -- WRITING
 pub sends_whole : (E : Type 0) (x : ⊤) (old new : Option (List ℕ)) (bytes : List ℕ) → Sends {E = E} (Ok x) old new bytes → Appends old new bytes

@@ -1,6 +1,6 @@
 -- Why a text or an object has no report: each refusal with its cause.
 use Rattle.std.specs.Prelude.{◌≡◌, ◌≢◌, ℕ, ◌<◌, ℤ, List, length, Some, Err, ⊤}
-use Rattle.semantics.specs.Graph.{Graph, flow_of}
+use Rattle.semantics.specs.Graph.{Graph}
 use Rattle.semantics.specs.Text.{IsText}
 use Rattle.semantics.specs.WellFormed.{WellFormed}
 use Rattle.semantics.specs.Program.{Code}
@@ -11,7 +11,6 @@ use Rattle.graph_check.specs.declared.faults.CheckFaultKind.TheVariants as Check
 use Rattle.graph_check.specs.FirstFault.{first_fault}
 use Rattle.schedule.specs.declared.config.Config.{Config}
 use Rattle.schedule.specs.declared.config.StartFault.{StartFault}
-use Rattle.schedule.specs.declared.config.StartFault.TheVariants as StartFault
 use Rattle.schedule.specs.Starts.{IsGood, IsCause}
 use Rattle.schedule.specs.Setting.{inputs_of}
 use Rattle.object_view.specs.Checks.{first_refusal}

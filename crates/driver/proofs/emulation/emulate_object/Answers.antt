@@ -1,5 +1,4 @@
-use Rattle.std.proofs.Common.{ℕ, ◌<◌, sym, subst, true, false}
-use Rattle.std.specs.Prelude.{slice_index_or}
+use Rattle.std.proofs.Common.{sym, subst, false}
 use Rattle.driver.specs.declared.fault.Fault.{Fault}
 use Rattle.driver.specs.Refused.{IsRefusedObject}
 use Rattle.driver.proofs.TextObjects.{object_refused}

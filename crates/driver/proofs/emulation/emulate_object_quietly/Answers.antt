@@ -1,9 +1,8 @@
-use Rattle.std.proofs.Common.{ℕ, ◌<◌, sym, subst, true, false}
-use Rattle.std.specs.Prelude.{slice_index_or}
+use Rattle.std.proofs.Common.{sym, subst, false}
 use Rattle.driver.specs.declared.fault.Fault.{Fault}
 use Rattle.driver.specs.Refused.{IsRefusedObject}
 use Rattle.driver.proofs.TextObjects.{object_refused}
-use Rattle.driver.proofs.ObjectRuns.{elements_of, shows_object_quietly}
+use Rattle.driver.proofs.ObjectRuns.{shows_object_quietly}
 use Rattle.driver.proofs.emulation.emulate_object_quietly.Goals as goal
 
 pub returns-in-Ok-start : goal.returns-in-Ok-start
