@@ -65,7 +65,8 @@ abbrev pub size_of : Config → Size
 size_of c = record { elements = c.elements; frames = c.frames }
 
 -- ORDER. The events are the steps that a list names, in its order: an entry is an element and a pick among its tokens, and
--- makes an event where the element then has a token and may make one. The report is of the machine where the run halts.
+-- makes an event where the element then has a token and may make one. The report is of the machine where the run halts, or
+-- of the machine at the start where its own lists are refused.
 pub record Follows (p : Program) (c : Config) (inputs : List ℤ) (listed : Bool) (picks : List (ℕ × ℕ)) (r : Report) : Type 0 where
   pub width : ℕ
   pub start : Kept
