@@ -10,7 +10,7 @@ ghost use Rattle.operators.specs.Values as Values;
 ghost use Rattle.semantics.specs.Rule as Rule;
 ghost use Rattle.element.specs.declared.firing.Made.{Made};
 ghost use Rattle.element.specs.Decoded.{instr_of, IsShort};
-ghost use Rattle.element.specs.Fired.{seat_of, tokens_of, fired_by, indexed_of, IsWithin, outcome_by, HasRoom, HasRoomInWord, HasRoomInSlot, TakesLeftAlone};
+ghost use Rattle.element.specs.Fired.{seat_of, to_target, tokens_of, fired_by, indexed_of, IsWithin, outcome_by, HasRoom, HasRoomInWord, HasRoomInSlot, TakesLeftAlone};
 
 use crate::instructions::{Instruction, Instructions};
 use operators::{apply1, apply2_at, truth};
@@ -26,12 +26,23 @@ pub struct Seat {
     pub ip: u32,
 }
 
-/// The tokens that an instruction makes, at most three, in order.
+/// A port of an instruction of the same frame.
+#[derive(Clone, Copy, Debug, PartialEq, Eq)]
+pub struct Target {
+    pub ip: u32,
+    pub port: Port,
+}
+
+/// The tokens that an instruction makes, at most four, in order: the release of a frame, a token that leaves, and a word
+/// to each of two ports of its own frame.
 #[derive(Clone, Copy, Debug, PartialEq, Eq)]
 pub struct Made {
-    pub first: Option<Token>,
-    pub second: Option<Token>,
-    pub third: Option<Token>,
+    pub released: Option<FrameId>,
+    pub outside: Option<Token>,
+    pub frame: FrameId,
+    pub word: Word,
+    pub first: Option<Target>,
+    pub second: Option<Target>,
 }
 
 /// What an index names in an array.
@@ -56,49 +67,43 @@ pub const SIGNAL: Word = Word::Val(Value::Int(0));
 
 /// No tokens.
 pub const NONE: Made = Made {
+    released: None,
+    outside: None,
+    frame: 0,
+    word: SIGNAL,
     first: None,
     second: None,
-    third: None,
 };
 
 fn one(token: Token, made: &mut Made)
     ensures { tokens_of made.new ≡ token ∷ [] }
 {
-    made.first = Some(token);
+    made.released = None;
+    made.outside = Some(token);
+    made.first = None;
     made.second = None;
-    made.third = None;
 }
 
 fn nothing(made: &mut Made)
     ensures { tokens_of made.new ≡ [] }
 {
+    made.released = None;
+    made.outside = None;
     made.first = None;
     made.second = None;
-    made.third = None;
 }
 
-fn at_dest(seat: Seat, word: Word, dest: Dest) -> Token
-    requires near { seat.ip < 2 ^ 30 }
-    requires short { dest.ahead < 2 ^ 30 }
-    ensures { result ≡ Rule.at_dest (seat_of seat) word dest }
-{
-    Token {
-        to: To::Instr {
-            frame: seat.frame,
-            ip: seat.ip + dest.ahead,
-            port: dest.port,
-        },
-        word,
-    }
-}
-
-fn to_each(seat: Seat, word: &Word, dest: Option<Dest>) -> Option<Token>
+// Where a destination is.
+fn target_of(seat: Seat, dest: Option<Dest>) -> Option<Target>
     requires near { seat.ip < 2 ^ 30 }
     requires short { IfSome dest (λ d. d.ahead < 2 ^ 30) }
-    ensures { option_to_list result ≡ Rule.to_each (seat_of seat) word.now (option_to_list dest) }
+    ensures { (word : Word) → to_target seat.frame word result ≡ Rule.to_each (seat_of seat) word (option_to_list dest) }
 {
     match dest {
-        Some(dest) => Some(at_dest(seat, *word, dest)),
+        Some(dest) => Some(Target {
+            ip: seat.ip + dest.ahead,
+            port: dest.port,
+        }),
         None => None,
     }
 }
@@ -110,11 +115,12 @@ fn before_all(outside: Option<Token>, seat: Seat, word: Word, instr: &Instructio
     requires second_short { IfSome instr.now.second (λ d. d.ahead < 2 ^ 30) }
     ensures { tokens_of made.new ≡ option_to_list outside ++ Rule.to_all (seat_of seat) word (instr_of instr.now) }
 {
-    let first = instr.first;
-    let second = instr.second;
-    made.first = outside;
-    made.second = to_each(seat, &word, first);
-    made.third = to_each(seat, &word, second);
+    made.released = None;
+    made.outside = outside;
+    made.frame = seat.frame;
+    made.word = word;
+    made.first = target_of(seat, instr.first);
+    made.second = target_of(seat, instr.second);
 }
 
 fn to_all(seat: Seat, word: Word, instr: &Instruction, made: &mut Made)
@@ -279,10 +285,12 @@ fn to_first(seat: Seat, word: Word, instr: &Instruction, made: &mut Made)
     requires short { IfSome instr.now.first (λ d. d.ahead < 2 ^ 30) }
     ensures { tokens_of made.new ≡ Rule.to_each (seat_of seat) word (take 1 (instr_of instr.now).firsts) }
 {
-    let first = instr.first;
-    made.first = to_each(seat, &word, first);
+    made.released = None;
+    made.outside = None;
+    made.frame = seat.frame;
+    made.word = word;
+    made.first = target_of(seat, instr.first);
     made.second = None;
-    made.third = None;
 }
 
 fn to_second(outside: Token, seat: Seat, word: Word, instr: &Instruction, made: &mut Made)
@@ -290,14 +298,16 @@ fn to_second(outside: Token, seat: Seat, word: Word, instr: &Instruction, made: 
     requires short { IfSome instr.now.second (λ d. d.ahead < 2 ^ 30) }
     ensures { tokens_of made.new ≡ outside ∷ Rule.to_each (seat_of seat) word (instr_of instr.now).seconds }
 {
-    let second = instr.second;
-    made.first = Some(outside);
-    made.second = to_each(seat, &word, second);
-    made.third = None;
+    made.released = None;
+    made.outside = Some(outside);
+    made.frame = seat.frame;
+    made.word = word;
+    made.first = None;
+    made.second = target_of(seat, instr.second);
 }
 
-// What an instruction with one input makes of its word; false where the word is of a wrong kind.
-fn fire_one<C: Instructions>(
+/// What an instruction with one input makes of its word; false where the word is of a wrong kind.
+pub fn fire_one<C: Instructions>(
     code: &C,
     seat: Seat,
     instr: &Instruction,
@@ -388,21 +398,22 @@ fn choose(holds: bool, seat: Seat, word: Word, instr: &Instruction, made: &mut M
     ensures { tokens_of made.new ≡ Rule.to_each (seat_of seat) word (if holds then (instr_of instr.now).firsts else (instr_of instr.now).seconds) }
 {
     let side = if holds { instr.first } else { instr.second };
-    made.first = to_each(seat, &word, side);
+    made.released = None;
+    made.outside = None;
+    made.frame = seat.frame;
+    made.word = word;
+    made.first = target_of(seat, side);
     made.second = None;
-    made.third = None;
 }
 
 // The release of the frame, and a signal.
 fn released(to: To, frame: FrameId, made: &mut Made)
     ensures { tokens_of made.new ≡ Rule.token (To.Release frame) Rule.signal ∷ Rule.token to Rule.signal ∷ [] }
 {
-    made.first = Some(Token {
-        to: To::Release { frame },
-        word: SIGNAL,
-    });
-    made.second = Some(Token { to, word: SIGNAL });
-    made.third = None;
+    made.released = Some(frame);
+    made.outside = Some(Token { to, word: SIGNAL });
+    made.first = None;
+    made.second = None;
 }
 
 // An entry of the block that begins there.
@@ -413,8 +424,8 @@ fn entry_at(first: u32, entry: u16) -> u32
     first + u32::from(entry)
 }
 
-// What an instruction with two inputs makes of its words; false where one is of a wrong kind.
-fn fire_two<C: Instructions>(
+/// What an instruction with two inputs makes of its words; false where one is of a wrong kind.
+pub fn fire_two<C: Instructions>(
     code: &C,
     seat: Seat,
     instr: &Instruction,
@@ -665,7 +676,7 @@ fn fire_left<C: Instructions>(
     requires short { IsShort (C.width code.now) seat.ip instr.now }
     requires slot_room { HasRoomInSlot slot }
     requires word_room { HasRoomInWord word }
-    requires lone { TakesLeftAlone instr.now.op }
+    requires left { TakesLeftAlone instr.now.op }
     ensures { outcome_by result made.new ≡ Rule.outcome_of (C.program code.now) (seat_of seat) (instr_of instr.now) instr.now.op slot Left word }
 {
     match instr.op {

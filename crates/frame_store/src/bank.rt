@@ -77,6 +77,7 @@ impl<'a> BankMut<'a> {
     }
 
     /// The state of a slot of a frame.
+    #[inline(always)]
     pub fn state(&self, frame: usize, slot: usize) -> SlotState
         requires bank { IsBank self.now }
         requires frame { frame < self.now.frames }

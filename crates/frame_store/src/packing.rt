@@ -183,6 +183,7 @@ pub fn pack(state: SlotState) -> [u64; 2]
 }
 
 /// The state that two words stand for.
+#[inline(always)]
 pub fn unpack(head: u64, body: u64) -> SlotState
     ensures { result ≡ slot_from head body }
 {

@@ -36,6 +36,7 @@ impl Slot {
     }
 
     /// What the slot holds.
+    #[inline(always)]
     pub fn state(&self) -> SlotState
         ensures { result ≡ self.now }
     {
