@@ -10,7 +10,7 @@ use Rattle.semantics.specs.declared.program.Op.{Op}
 use Rattle.semantics.specs.declared.program.Op.TheVariants.{Apply1, Apply2, Apply2Right, Apply2Left, Lit, Copy, Sync, Switch, Fetch, Store, Frame, Link, Send, Return, Ask, Open, Take, Give, Drain, Release}
 use Rattle.semantics.specs.Program.{Instr, Program, instr_at}
 use Rattle.semantics.specs.Rule.{Seat, Outcome, Becomes, Excluded, outcome_of, slot_of, fires, meets, alone, rule_at}
-use Rattle.semantics.specs.Machine.{Store, slot_in, slot_used, excluded_by, stuck_rule}
+use Rattle.semantics.specs.Machine.{slot_in, slot_used, excluded_by, stuck_rule}
 use Rattle.element.specs.declared.instructions.Instruction.{Instruction}
 use Rattle.element.specs.declared.lane.Stepped.{Stepped}
 use Rattle.element.specs.declared.lane.Stepped.TheVariants as Step
