@@ -75,6 +75,7 @@ pub const NONE: Made = Made {
     second: None,
 };
 
+#[inline(always)]
 fn one(token: Token, made: &mut Made)
     ensures { tokens_of made.new ≡ token ∷ [] }
 {
@@ -84,6 +85,7 @@ fn one(token: Token, made: &mut Made)
     made.second = None;
 }
 
+#[inline(always)]
 fn nothing(made: &mut Made)
     ensures { tokens_of made.new ≡ [] }
 {
@@ -94,6 +96,7 @@ fn nothing(made: &mut Made)
 }
 
 // Where a destination is.
+#[inline(always)]
 fn target_of(seat: Seat, dest: Option<Dest>) -> Option<Target>
     requires near { seat.ip < 2 ^ 30 }
     requires short { IfSome dest (λ d. d.ahead < 2 ^ 30) }
@@ -109,6 +112,7 @@ fn target_of(seat: Seat, dest: Option<Dest>) -> Option<Target>
 }
 
 // One token or none, and then a word to each destination.
+#[inline(always)]
 fn before_all(outside: Option<Token>, seat: Seat, word: Word, instr: &Instruction, made: &mut Made)
     requires near { seat.ip < 2 ^ 30 }
     requires first_short { IfSome instr.now.first (λ d. d.ahead < 2 ^ 30) }
@@ -123,6 +127,7 @@ fn before_all(outside: Option<Token>, seat: Seat, word: Word, instr: &Instructio
     made.second = target_of(seat, instr.second);
 }
 
+#[inline(always)]
 fn to_all(seat: Seat, word: Word, instr: &Instruction, made: &mut Made)
     requires near { seat.ip < 2 ^ 30 }
     requires first_short { IfSome instr.now.first (λ d. d.ahead < 2 ^ 30) }
@@ -133,6 +138,7 @@ fn to_all(seat: Seat, word: Word, instr: &Instruction, made: &mut Made)
 }
 
 /// The address that lies so far behind a continuation.
+#[inline(always)]
 fn beyond(cont: Cont, offset: u8) -> To
     requires { HasRoom cont }
     ensures { result ≡ Rule.beyond cont offset }
@@ -169,6 +175,7 @@ pub fn answer(cont: Cont, word: Word) -> Token
 }
 
 /// Where an answer comes.
+#[inline(always)]
 fn answer_to(seat: Seat, instr: &Instruction) -> Cont
     requires near { seat.ip < 2 ^ 30 }
     requires short { IfSome instr.now.first (λ d. d.ahead < 2 ^ 30) }
@@ -189,6 +196,7 @@ fn answer_to(seat: Seat, instr: &Instruction) -> Cont
 }
 
 /// Where a link's landing begins.
+#[inline(always)]
 fn landing_at(seat: Seat, instr: &Instruction) -> Cont
     requires near { seat.ip < 2 ^ 30 }
     requires short { IfSome instr.now.first (λ d. d.ahead < 2 ^ 30) }
@@ -205,6 +213,7 @@ fn landing_at(seat: Seat, instr: &Instruction) -> Cont
     }
 }
 
+#[inline(always)]
 fn index_in(len: u32, index: Value, origin: Origin) -> Indexed
     ensures exact { indexed_of result ≡ Values.index_in len index origin }
     ensures within { IsWithin len result }
@@ -225,6 +234,7 @@ fn index_in(len: u32, index: Value, origin: Origin) -> Indexed
 }
 
 // The request for an element of an array, or the fault where there is none.
+#[inline(always)]
 fn asks_for<C: Instructions>(
     code: &C,
     seat: Seat,
@@ -252,6 +262,7 @@ fn asks_for<C: Instructions>(
 }
 
 // The request to store a value in an array, or the fault where there is no such element.
+#[inline(always)]
 fn puts<C: Instructions>(
     code: &C,
     seat: Seat,
@@ -280,6 +291,7 @@ fn puts<C: Instructions>(
     }
 }
 
+#[inline(always)]
 fn to_first(seat: Seat, word: Word, instr: &Instruction, made: &mut Made)
     requires near { seat.ip < 2 ^ 30 }
     requires short { IfSome instr.now.first (λ d. d.ahead < 2 ^ 30) }
@@ -293,6 +305,7 @@ fn to_first(seat: Seat, word: Word, instr: &Instruction, made: &mut Made)
     made.second = None;
 }
 
+#[inline(always)]
 fn to_second(outside: Token, seat: Seat, word: Word, instr: &Instruction, made: &mut Made)
     requires near { seat.ip < 2 ^ 30 }
     requires short { IfSome instr.now.second (λ d. d.ahead < 2 ^ 30) }
@@ -307,6 +320,7 @@ fn to_second(outside: Token, seat: Seat, word: Word, instr: &Instruction, made: 
 }
 
 /// What an instruction with one input makes of its word; false where the word is of a wrong kind.
+#[inline(always)]
 pub fn fire_one<C: Instructions>(
     code: &C,
     seat: Seat,
@@ -350,6 +364,7 @@ pub fn fire_one<C: Instructions>(
 }
 
 // The request for a frame.
+#[inline(always)]
 fn asks_for_frame(seat: Seat, instr: &Instruction, made: &mut Made)
     requires near { seat.ip < 2 ^ 30 }
     requires short { IfSome instr.now.first (λ d. d.ahead < 2 ^ 30) }
@@ -363,6 +378,7 @@ fn asks_for_frame(seat: Seat, instr: &Instruction, made: &mut Made)
 }
 
 // The continuation goes to the first instruction of a block in the frame.
+#[inline(always)]
 fn link(first: u32, frame: FrameId, seat: Seat, instr: &Instruction, made: &mut Made)
     requires near { seat.ip < 2 ^ 30 }
     requires first_short { IfSome instr.now.first (λ d. d.ahead < 2 ^ 30) }
@@ -381,6 +397,7 @@ fn link(first: u32, frame: FrameId, seat: Seat, instr: &Instruction, made: &mut 
 }
 
 // A token, and then a signal to each destination.
+#[inline(always)]
 fn and_signals(token: Token, seat: Seat, instr: &Instruction, made: &mut Made)
     requires near { seat.ip < 2 ^ 30 }
     requires first_short { IfSome instr.now.first (λ d. d.ahead < 2 ^ 30) }
@@ -391,6 +408,7 @@ fn and_signals(token: Token, seat: Seat, instr: &Instruction, made: &mut Made)
 }
 
 // A switch sends its left word to one side.
+#[inline(always)]
 fn choose(holds: bool, seat: Seat, word: Word, instr: &Instruction, made: &mut Made)
     requires near { seat.ip < 2 ^ 30 }
     requires first_short { IfSome instr.now.first (λ d. d.ahead < 2 ^ 30) }
@@ -407,6 +425,7 @@ fn choose(holds: bool, seat: Seat, word: Word, instr: &Instruction, made: &mut M
 }
 
 // The release of the frame, and a signal.
+#[inline(always)]
 fn released(to: To, frame: FrameId, made: &mut Made)
     ensures { tokens_of made.new ≡ Rule.token (To.Release frame) Rule.signal ∷ Rule.token to Rule.signal ∷ [] }
 {
@@ -425,6 +444,7 @@ fn entry_at(first: u32, entry: u16) -> u32
 }
 
 /// What an instruction with two inputs makes of its words; false where one is of a wrong kind.
+#[inline(always)]
 pub fn fire_two<C: Instructions>(
     code: &C,
     seat: Seat,

@@ -71,6 +71,7 @@ pub struct Lane<'m, A: Allocator> {
 
 // Which one of so many a pick names.
 #[tactic(auto, using(crate::proofs::Quotients::below))]
+#[inline(always)]
 fn among(pick: u64, count: usize) -> usize
     requires { 0 < count }
     ensures exact { result ≡ pick % count }
@@ -138,6 +139,7 @@ impl<'m, A: Allocator> Lane<'m, A> {
     }
 
     /// The token that `pick` names, as `step` takes it.
+    #[inline(always)]
     pub fn token(&self, pick: u64) -> Option<Token>
         ensures some { IfSome result (Picks (held_of self.now) pick) }
         ensures none { IfNone result (self.now.queue.items ≡ []) }
@@ -151,6 +153,7 @@ impl<'m, A: Allocator> Lane<'m, A> {
     }
 
     // Makes room for so many tokens. After an error all stands as before.
+    #[inline(always)]
     fn make_room(&mut self, tokens: usize, sent: &mut Vec<Token, A>) -> Result<(), AllocError>
         ensures held { held_of self.new ≡ held_of self.old }
         ensures sent { sent.new.items ≡ sent.old.items }
@@ -162,6 +165,7 @@ impl<'m, A: Allocator> Lane<'m, A> {
     }
 
     // Takes the token at `at` out of the queue.
+    #[inline(always)]
     fn take(&mut self, at: usize)
         requires there { at < deque_len self.old.queue }
         requires few { self.old.made < 2 ^ 63 }
@@ -179,6 +183,7 @@ impl<'m, A: Allocator> Lane<'m, A> {
 
     // Whether this element takes tokens with this address.
     #[tactic(auto, using(crate::proofs::Quotients::served_alone))]
+    #[inline(always)]
     fn serves(&self, to: &To) -> bool
         requires some { 0 < self.now.elements }
         ensures { result ≡ (element_of self.now.elements to.now == self.now.element) }
@@ -191,6 +196,7 @@ impl<'m, A: Allocator> Lane<'m, A> {
 
     // The place of a frame that lies here among those that do.
     #[tactic(auto, using(crate::proofs::Quotients::alone))]
+    #[inline(always)]
     fn own_frame(&self, frame: FrameId) -> usize
         requires some { 0 < self.now.elements }
         ensures { result ≡ frame / self.now.elements }
@@ -304,6 +310,7 @@ impl<'m, A: Allocator> Lane<'m, A> {
     }
 
     // What the slot of an instruction holds, in a frame that lies here.
+    #[inline(always)]
     fn slot_state(&self, frame: FrameId, slot: u32) -> SlotState
         requires some { 0 < self.now.elements }
         requires bank { IsBank self.now.bank }
@@ -314,6 +321,7 @@ impl<'m, A: Allocator> Lane<'m, A> {
         self.bank.state(self.own_frame(frame), slot as usize)
     }
 
+    #[inline(always)]
     fn set_slot(&mut self, frame: FrameId, slot: u32, state: SlotState)
         requires some { 0 < self.old.elements }
         requires bank { IsBank self.old.bank }
@@ -326,6 +334,7 @@ impl<'m, A: Allocator> Lane<'m, A> {
         self.bank.set(own, slot as usize, state);
     }
 
+    #[inline(always)]
     fn at_instruction<C: Instructions>(
         &mut self,
         code: &C,
@@ -364,12 +373,38 @@ impl<'m, A: Allocator> Lane<'m, A> {
             | Op::Fetch { .. }
             | Op::Frame
             | Op::Link { .. } => self.at_lone(code, at, token, seat, &instr, port, sent),
-            _ => self.at_any(code, at, token, seat, instr, port, sent),
+            _ => self.read_again(code, at, token, seat, port, sent),
         }
     }
 
-    // Any instruction: those with one input and with two have shorter ways.
+    // Any instruction: those with one input and with two have shorter ways. It is read again, so that on those it stays in
+    // registers.
     #[inline(never)]
+    fn read_again<C: Instructions>(
+        &mut self,
+        code: &C,
+        at: usize,
+        token: Token,
+        seat: Seat,
+        port: Port,
+        sent: &mut Vec<Token, A>,
+    ) -> Stepped
+        requires sound { IsSoundLane (C.program code.now) (held_of self.old) }
+        requires width { C.width code.now ≤ self.old.bank.width }
+        requires there { at < deque_len self.old.queue }
+        requires few { self.old.made < 2 ^ 63 }
+        requires address { token.to ≡ To.Instr seat.frame seat.ip port }
+        requires near { IsNearToken (bounds (C.program code.now) (shape_of self.old)) token }
+        requires addressed { element_of self.old.elements token.to ≡ self.old.element }
+        ensures { ActsAs (C.program code.now) (held_of self.old) at token sent.old.items result (held_of self.new) sent.new.items }
+    {
+        let Some(instr) = code.instr(seat.ip) else {
+            return Stepped::Stuck { rule: 1 };
+        };
+        self.at_any(code, at, token, seat, instr, port, sent)
+    }
+
+    // Any instruction that was read.
     fn at_any<C: Instructions>(
         &mut self,
         code: &C,
@@ -775,7 +810,35 @@ impl<'m, A: Allocator> Lane<'m, A> {
     }
 
     // What the token at `at` of the queue does.
+    #[inline(always)]
     fn act<C: Instructions>(
+        &mut self,
+        code: &C,
+        at: usize,
+        token: Token,
+        sent: &mut Vec<Token, A>,
+    ) -> Stepped
+    where
+        A: Clone,
+        requires sound { IsSoundLane (C.program code.now) (held_of self.old) }
+        requires width { C.width code.now ≤ self.old.bank.width }
+        requires there { at < deque_len self.old.queue }
+        requires few { self.old.made < 2 ^ 63 }
+        requires near { IsNearToken (bounds (C.program code.now) (shape_of self.old)) token }
+        requires addressed { element_of self.old.elements token.to ≡ self.old.element }
+        ensures { ActsAs (C.program code.now) (held_of self.old) at token sent.old.items result (held_of self.new) sent.new.items }
+    {
+        match token.to {
+            To::Instr { frame, ip, port } => {
+                self.at_instruction(code, at, token, Seat { frame, ip }, port, sent)
+            }
+            _ => self.act_anywhere(code, at, token, sent),
+        }
+    }
+
+    // The same, apart from the short way to an instruction.
+    #[inline(never)]
+    fn act_anywhere<C: Instructions>(
         &mut self,
         code: &C,
         at: usize,
@@ -795,7 +858,7 @@ impl<'m, A: Allocator> Lane<'m, A> {
         let to = token.to;
         match to {
             To::Instr { frame, ip, port } => {
-                self.at_instruction(code, at, token, Seat { frame, ip }, port, sent)
+                self.read_again(code, at, token, Seat { frame, ip }, port, sent)
             }
             To::Fetch { cell } => self.at_fetch(at, token, cell, sent),
             To::Store { cell, value } => self.at_store(at, token, cell, &value, sent),
@@ -810,6 +873,7 @@ impl<'m, A: Allocator> Lane<'m, A> {
     /// those to the outside come first, then those to the first destination and to the second; a store answers its
     /// readers in the order in which they came, and whoever stored last. After `Clash`, `Stuck` and `Memory` all stands
     /// as before.
+    #[inline(always)]
     pub fn step<C: Instructions>(
         &mut self,
         pick: u64,

@@ -51,6 +51,7 @@ impl Slot {
     }
 
     /// Changes what the slot holds.
+    #[inline(always)]
     pub fn set(&mut self, state: SlotState)
         ensures { self.new ≡ state }
     {
