@@ -86,7 +86,7 @@ module _ (p : Program) (h : Part) (f : ℕ) (v : SlotState) (sound : IsSound p h
   slot_shape None = refl
   slot_shape (Some r) = refl
 
-  slot_same : (r : Option ℕ) (s : Store) → IsLow h.shape.width r → IsPart h s → slot_in s f r ≡ state_in h f r
+  pub slot_same : (r : Option ℕ) (s : Store) → IsLow h.shape.width r → IsPart h s → slot_in s f r ≡ state_in h f r
   slot_same None s low part = refl
   slot_same (Some r) s low part = part.slots f r ours there low
 

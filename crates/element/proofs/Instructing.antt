@@ -53,7 +53,7 @@ state_near p h f (Some r) sound = ⊎_elim
 pub room_in_slot : (p : Program) (h : Part) (f : ℕ) (r : Option ℕ) → IsSound p h → HasRoomInSlot (state_in h f r)
 room_in_slot p h f r sound = room_slot (bounds p h.shape) (state_in h f r) (state_near p h f r sound)
 
-low_slot : (i : Instr) (op : Op) (width : ℕ) → i.slot < width → IsLow width (slot_of i op)
+pub low_slot : (i : Instr) (op : Op) (width : ℕ) → i.slot < width → IsLow width (slot_of i op)
 low_slot i (Apply2 op) width l = l
 low_slot i Sync width l = l
 low_slot i Switch width l = l

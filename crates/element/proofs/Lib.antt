@@ -7,3 +7,4 @@ pub mod Instructing
 pub mod Stepping
 pub mod Opening
 pub mod Quotients
+pub mod Classes

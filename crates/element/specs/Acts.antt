@@ -1,5 +1,5 @@
 -- What an element does with one token.
-use Rattle.std.specs.Prelude.{◌≡◌, ℕ, ◌*◌, List, All, Option, Some, Ok, ◌++◌, ⊤}
+use Rattle.std.specs.Prelude.{◌≡◌, ℕ, ◌*◌, List, All, Option, Some, None, Ok, ◌++◌, ⊤}
 use Rattle.tags.specs.declared.value.Value.{Value}
 use Rattle.tags.specs.declared.token.Cont.{Cont}
 use Rattle.tags.specs.declared.token.Word.{Word}
@@ -57,3 +57,11 @@ ActsAs p old at t before Did new after = Acts p old at t before new after
 ActsAs p old at t before (Clash cell) new after = IsSecond old.part t cell × Still old before new after
 ActsAs p old at t before (Stuck rule) new after = IsStuck p old.part t rule × Still old before new after
 ActsAs p old at t before Memory new after = Still old before new after
+
+-- What comes of a token where these tokens are made, if any, and the part is this then.
+abbrev pub FiresAs : Option (List Token) → Part → Held → ℕ → List Token → Stepped → Held → List Token → Type 0
+FiresAs fired part old at before Did new after = (made : List Token) × (fired ≡ Some made) × (new ≡ queued (taken (with_part old part) at) made) × (after ≡ before ++ elsewhere old.part.shape made)
+FiresAs fired part old at before (Stuck rule) new after = (fired ≡ None) × (rule ≡ 4) × Still old before new after
+FiresAs fired part old at before Memory new after = Still old before new after
+FiresAs fired part old at before Idle new after = ⊥
+FiresAs fired part old at before (Clash cell) new after = ⊥

@@ -1,7 +1,8 @@
 -- What the code's outcomes stand for in the definitions.
-use Rattle.std.specs.Prelude.{ℕ, Bool, true, false, Option, Some, None, ◌<◌, ◌^◌, List, ◌++◌, option_to_list, ⊤}
+use Rattle.std.specs.Prelude.{ℕ, Bool, true, false, Option, Some, None, ◌<◌, ◌^◌, List, [], ◌∷◌, ◌++◌, option_to_list, ⊤}
 use Rattle.tags.specs.declared.token.Cont.{Cont}
 use Rattle.tags.specs.declared.token.Word.{Word}
+use Rattle.tags.specs.declared.token.To.{To}
 use Rattle.tags.specs.declared.token.Token.{Token}
 use Rattle.tags.specs.declared.slot.SlotState.{SlotState}
 use Rattle.tags.specs.declared.slot.SlotState.TheVariants as slot
@@ -10,6 +11,7 @@ use Rattle.semantics.specs.declared.program.Op.TheVariants.{Apply2, Sync, Switch
 use Rattle.operators.specs.Values as values
 use Rattle.semantics.specs.Rule as rule
 use Rattle.element.specs.declared.firing.Seat.{Seat}
+use Rattle.element.specs.declared.firing.Target.{Target}
 use Rattle.element.specs.declared.firing.Made.{Made}
 use Rattle.element.specs.declared.firing.Indexed.{Indexed}
 use Rattle.element.specs.declared.firing.Indexed.TheVariants.{Place, Outside}
@@ -19,9 +21,23 @@ use Rattle.element.specs.declared.firing.Outcome.TheVariants.{Becomes, Excluded}
 abbrev pub seat_of : Seat → rule.Seat
 seat_of s = record { frame = s.frame; ip = s.ip }
 
+-- a word to a port of a frame, if there is one
+abbrev pub to_target : ℕ → Word → Option Target → List Token
+to_target f w None = []
+to_target f w (Some t) = rule.token (To.Instr f t.ip t.port) w ∷ []
+
+-- the release of a frame, if there is one
+abbrev pub released_of : Option ℕ → List Token
+released_of None = []
+released_of (Some f) = rule.token (To.Release f) rule.signal ∷ []
+
+-- the tokens that leave the frame, in order
+abbrev pub outside_of : Made → List Token
+outside_of m = released_of m.released ++ option_to_list m.outside
+
 -- the tokens, in order
 abbrev pub tokens_of : Made → List Token
-tokens_of m = option_to_list m.first ++ (option_to_list m.second ++ option_to_list m.third)
+tokens_of m = outside_of m ++ (to_target m.frame m.word m.first ++ to_target m.frame m.word m.second)
 
 abbrev pub indexed_of : Indexed → values.Indexed
 indexed_of (Place x) = values.Place x

@@ -10,7 +10,7 @@ ghost use Rattle.operators.specs.Values as Values;
 ghost use Rattle.semantics.specs.Rule as Rule;
 ghost use Rattle.element.specs.declared.firing.Made.{Made};
 ghost use Rattle.element.specs.Decoded.{instr_of, IsShort};
-ghost use Rattle.element.specs.Fired.{seat_of, tokens_of, fired_by, indexed_of, IsWithin, outcome_by, HasRoom, HasRoomInWord, HasRoomInSlot, TakesLeftAlone};
+ghost use Rattle.element.specs.Fired.{seat_of, to_target, tokens_of, fired_by, indexed_of, IsWithin, outcome_by, HasRoom, HasRoomInWord, HasRoomInSlot, TakesLeftAlone};
 
 use crate::instructions::{Instruction, Instructions};
 use operators::{apply1, apply2_at, truth};
@@ -26,12 +26,23 @@ pub struct Seat {
     pub ip: u32,
 }
 
-/// The tokens that an instruction makes, at most three, in order.
+/// A port of an instruction of the same frame.
+#[derive(Clone, Copy, Debug, PartialEq, Eq)]
+pub struct Target {
+    pub ip: u32,
+    pub port: Port,
+}
+
+/// The tokens that an instruction makes, at most four, in order: the release of a frame, a token that leaves, and a word
+/// to each of two ports of its own frame.
 #[derive(Clone, Copy, Debug, PartialEq, Eq)]
 pub struct Made {
-    pub first: Option<Token>,
-    pub second: Option<Token>,
-    pub third: Option<Token>,
+    pub released: Option<FrameId>,
+    pub outside: Option<Token>,
+    pub frame: FrameId,
+    pub word: Word,
+    pub first: Option<Target>,
+    pub second: Option<Target>,
 }
 
 /// What an index names in an array.
@@ -56,67 +67,67 @@ pub const SIGNAL: Word = Word::Val(Value::Int(0));
 
 /// No tokens.
 pub const NONE: Made = Made {
+    released: None,
+    outside: None,
+    frame: 0,
+    word: SIGNAL,
     first: None,
     second: None,
-    third: None,
 };
 
+#[inline(always)]
 fn one(token: Token, made: &mut Made)
     ensures { tokens_of made.new ≡ token ∷ [] }
 {
-    made.first = Some(token);
+    made.released = None;
+    made.outside = Some(token);
+    made.first = None;
     made.second = None;
-    made.third = None;
 }
 
+#[inline(always)]
 fn nothing(made: &mut Made)
     ensures { tokens_of made.new ≡ [] }
 {
+    made.released = None;
+    made.outside = None;
     made.first = None;
     made.second = None;
-    made.third = None;
 }
 
-fn at_dest(seat: Seat, word: Word, dest: Dest) -> Token
-    requires near { seat.ip < 2 ^ 30 }
-    requires short { dest.ahead < 2 ^ 30 }
-    ensures { result ≡ Rule.at_dest (seat_of seat) word dest }
-{
-    Token {
-        to: To::Instr {
-            frame: seat.frame,
-            ip: seat.ip + dest.ahead,
-            port: dest.port,
-        },
-        word,
-    }
-}
-
-fn to_each(seat: Seat, word: &Word, dest: Option<Dest>) -> Option<Token>
+// Where a destination is.
+#[inline(always)]
+fn target_of(seat: Seat, dest: Option<Dest>) -> Option<Target>
     requires near { seat.ip < 2 ^ 30 }
     requires short { IfSome dest (λ d. d.ahead < 2 ^ 30) }
-    ensures { option_to_list result ≡ Rule.to_each (seat_of seat) word.now (option_to_list dest) }
+    ensures { (word : Word) → to_target seat.frame word result ≡ Rule.to_each (seat_of seat) word (option_to_list dest) }
 {
     match dest {
-        Some(dest) => Some(at_dest(seat, *word, dest)),
+        Some(dest) => Some(Target {
+            ip: seat.ip + dest.ahead,
+            port: dest.port,
+        }),
         None => None,
     }
 }
 
 // One token or none, and then a word to each destination.
+#[inline(always)]
 fn before_all(outside: Option<Token>, seat: Seat, word: Word, instr: &Instruction, made: &mut Made)
     requires near { seat.ip < 2 ^ 30 }
     requires first_short { IfSome instr.now.first (λ d. d.ahead < 2 ^ 30) }
     requires second_short { IfSome instr.now.second (λ d. d.ahead < 2 ^ 30) }
     ensures { tokens_of made.new ≡ option_to_list outside ++ Rule.to_all (seat_of seat) word (instr_of instr.now) }
 {
-    let first = instr.first;
-    let second = instr.second;
-    made.first = outside;
-    made.second = to_each(seat, &word, first);
-    made.third = to_each(seat, &word, second);
+    made.released = None;
+    made.outside = outside;
+    made.frame = seat.frame;
+    made.word = word;
+    made.first = target_of(seat, instr.first);
+    made.second = target_of(seat, instr.second);
 }
 
+#[inline(always)]
 fn to_all(seat: Seat, word: Word, instr: &Instruction, made: &mut Made)
     requires near { seat.ip < 2 ^ 30 }
     requires first_short { IfSome instr.now.first (λ d. d.ahead < 2 ^ 30) }
@@ -127,6 +138,7 @@ fn to_all(seat: Seat, word: Word, instr: &Instruction, made: &mut Made)
 }
 
 /// The address that lies so far behind a continuation.
+#[inline(always)]
 fn beyond(cont: Cont, offset: u8) -> To
     requires { HasRoom cont }
     ensures { result ≡ Rule.beyond cont offset }
@@ -163,6 +175,7 @@ pub fn answer(cont: Cont, word: Word) -> Token
 }
 
 /// Where an answer comes.
+#[inline(always)]
 fn answer_to(seat: Seat, instr: &Instruction) -> Cont
     requires near { seat.ip < 2 ^ 30 }
     requires short { IfSome instr.now.first (λ d. d.ahead < 2 ^ 30) }
@@ -183,6 +196,7 @@ fn answer_to(seat: Seat, instr: &Instruction) -> Cont
 }
 
 /// Where a link's landing begins.
+#[inline(always)]
 fn landing_at(seat: Seat, instr: &Instruction) -> Cont
     requires near { seat.ip < 2 ^ 30 }
     requires short { IfSome instr.now.first (λ d. d.ahead < 2 ^ 30) }
@@ -199,6 +213,7 @@ fn landing_at(seat: Seat, instr: &Instruction) -> Cont
     }
 }
 
+#[inline(always)]
 fn index_in(len: u32, index: Value, origin: Origin) -> Indexed
     ensures exact { indexed_of result ≡ Values.index_in len index origin }
     ensures within { IsWithin len result }
@@ -219,6 +234,7 @@ fn index_in(len: u32, index: Value, origin: Origin) -> Indexed
 }
 
 // The request for an element of an array, or the fault where there is none.
+#[inline(always)]
 fn asks_for<C: Instructions>(
     code: &C,
     seat: Seat,
@@ -246,6 +262,7 @@ fn asks_for<C: Instructions>(
 }
 
 // The request to store a value in an array, or the fault where there is no such element.
+#[inline(always)]
 fn puts<C: Instructions>(
     code: &C,
     seat: Seat,
@@ -274,30 +291,37 @@ fn puts<C: Instructions>(
     }
 }
 
+#[inline(always)]
 fn to_first(seat: Seat, word: Word, instr: &Instruction, made: &mut Made)
     requires near { seat.ip < 2 ^ 30 }
     requires short { IfSome instr.now.first (λ d. d.ahead < 2 ^ 30) }
     ensures { tokens_of made.new ≡ Rule.to_each (seat_of seat) word (take 1 (instr_of instr.now).firsts) }
 {
-    let first = instr.first;
-    made.first = to_each(seat, &word, first);
+    made.released = None;
+    made.outside = None;
+    made.frame = seat.frame;
+    made.word = word;
+    made.first = target_of(seat, instr.first);
     made.second = None;
-    made.third = None;
 }
 
+#[inline(always)]
 fn to_second(outside: Token, seat: Seat, word: Word, instr: &Instruction, made: &mut Made)
     requires near { seat.ip < 2 ^ 30 }
     requires short { IfSome instr.now.second (λ d. d.ahead < 2 ^ 30) }
     ensures { tokens_of made.new ≡ outside ∷ Rule.to_each (seat_of seat) word (instr_of instr.now).seconds }
 {
-    let second = instr.second;
-    made.first = Some(outside);
-    made.second = to_each(seat, &word, second);
-    made.third = None;
+    made.released = None;
+    made.outside = Some(outside);
+    made.frame = seat.frame;
+    made.word = word;
+    made.first = None;
+    made.second = target_of(seat, instr.second);
 }
 
-// What an instruction with one input makes of its word; false where the word is of a wrong kind.
-fn fire_one<C: Instructions>(
+/// What an instruction with one input makes of its word; false where the word is of a wrong kind.
+#[inline(always)]
+pub fn fire_one<C: Instructions>(
     code: &C,
     seat: Seat,
     instr: &Instruction,
@@ -340,6 +364,7 @@ fn fire_one<C: Instructions>(
 }
 
 // The request for a frame.
+#[inline(always)]
 fn asks_for_frame(seat: Seat, instr: &Instruction, made: &mut Made)
     requires near { seat.ip < 2 ^ 30 }
     requires short { IfSome instr.now.first (λ d. d.ahead < 2 ^ 30) }
@@ -353,6 +378,7 @@ fn asks_for_frame(seat: Seat, instr: &Instruction, made: &mut Made)
 }
 
 // The continuation goes to the first instruction of a block in the frame.
+#[inline(always)]
 fn link(first: u32, frame: FrameId, seat: Seat, instr: &Instruction, made: &mut Made)
     requires near { seat.ip < 2 ^ 30 }
     requires first_short { IfSome instr.now.first (λ d. d.ahead < 2 ^ 30) }
@@ -371,6 +397,7 @@ fn link(first: u32, frame: FrameId, seat: Seat, instr: &Instruction, made: &mut 
 }
 
 // A token, and then a signal to each destination.
+#[inline(always)]
 fn and_signals(token: Token, seat: Seat, instr: &Instruction, made: &mut Made)
     requires near { seat.ip < 2 ^ 30 }
     requires first_short { IfSome instr.now.first (λ d. d.ahead < 2 ^ 30) }
@@ -381,6 +408,7 @@ fn and_signals(token: Token, seat: Seat, instr: &Instruction, made: &mut Made)
 }
 
 // A switch sends its left word to one side.
+#[inline(always)]
 fn choose(holds: bool, seat: Seat, word: Word, instr: &Instruction, made: &mut Made)
     requires near { seat.ip < 2 ^ 30 }
     requires first_short { IfSome instr.now.first (λ d. d.ahead < 2 ^ 30) }
@@ -388,21 +416,23 @@ fn choose(holds: bool, seat: Seat, word: Word, instr: &Instruction, made: &mut M
     ensures { tokens_of made.new ≡ Rule.to_each (seat_of seat) word (if holds then (instr_of instr.now).firsts else (instr_of instr.now).seconds) }
 {
     let side = if holds { instr.first } else { instr.second };
-    made.first = to_each(seat, &word, side);
+    made.released = None;
+    made.outside = None;
+    made.frame = seat.frame;
+    made.word = word;
+    made.first = target_of(seat, side);
     made.second = None;
-    made.third = None;
 }
 
 // The release of the frame, and a signal.
+#[inline(always)]
 fn released(to: To, frame: FrameId, made: &mut Made)
     ensures { tokens_of made.new ≡ Rule.token (To.Release frame) Rule.signal ∷ Rule.token to Rule.signal ∷ [] }
 {
-    made.first = Some(Token {
-        to: To::Release { frame },
-        word: SIGNAL,
-    });
-    made.second = Some(Token { to, word: SIGNAL });
-    made.third = None;
+    made.released = Some(frame);
+    made.outside = Some(Token { to, word: SIGNAL });
+    made.first = None;
+    made.second = None;
 }
 
 // An entry of the block that begins there.
@@ -413,8 +443,9 @@ fn entry_at(first: u32, entry: u16) -> u32
     first + u32::from(entry)
 }
 
-// What an instruction with two inputs makes of its words; false where one is of a wrong kind.
-fn fire_two<C: Instructions>(
+/// What an instruction with two inputs makes of its words; false where one is of a wrong kind.
+#[inline(always)]
+pub fn fire_two<C: Instructions>(
     code: &C,
     seat: Seat,
     instr: &Instruction,
@@ -665,7 +696,7 @@ fn fire_left<C: Instructions>(
     requires short { IsShort (C.width code.now) seat.ip instr.now }
     requires slot_room { HasRoomInSlot slot }
     requires word_room { HasRoomInWord word }
-    requires lone { TakesLeftAlone instr.now.op }
+    requires left { TakesLeftAlone instr.now.op }
     ensures { outcome_by result made.new ≡ Rule.outcome_of (C.program code.now) (seat_of seat) (instr_of instr.now) instr.now.op slot Left word }
 {
     match instr.op {

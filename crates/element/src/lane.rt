@@ -12,17 +12,17 @@ ghost use Rattle.semantics.specs.Machine.{answers};
 ghost use Rattle.element.specs.Parts.{slot_place, bounds};
 ghost use Rattle.std.specs.Prelude.{List};
 ghost use Rattle.tags.specs.Addresses.{element_of};
-ghost use Rattle.semantics.specs.Program.{Program};
-ghost use Rattle.semantics.specs.Rule.{slot_of};
-ghost use Rattle.element.specs.Decoded.{instr_of};
+ghost use Rattle.semantics.specs.Program.{Program, instr_at};
+ghost use Rattle.semantics.specs.Rule.{slot_of, fire_one, fire_two};
+ghost use Rattle.element.specs.Decoded.{instr_of, IsShort, IsPair, IsLone};
 ghost use Rattle.element.specs.Near.{IsNearToken};
-ghost use Rattle.element.specs.Acts.{ActsAs};
+ghost use Rattle.element.specs.Acts.{ActsAs, FiresAs};
 ghost use Rattle.element.specs.Steps.{Steps, Picks};
 ghost use Rattle.element.specs.Openings.{opened, shape_at, IsOpening, StartsAs};
 ghost use Rattle.element.specs.Changed.{with_state, with_state_in, state_in, UsesSlot, OwnsCell, IsHostChange, CanFill, filled, IsRequested, IsReleased};
-ghost use Rattle.element.specs.Fired.{tokens_of};
+ghost use Rattle.element.specs.Fired.{seat_of, tokens_of, outside_of, to_target, HasRoomInWord};
 
-use crate::firing::{Made, NONE, Outcome, Seat, answer, fire};
+use crate::firing::{Made, NONE, Outcome, SIGNAL, Seat, Target, answer, fire, fire_one, fire_two};
 use crate::instructions::{Instruction, Instructions};
 use arrayvec::ArrayVec;
 use frame_manager::{Manager, NotOut};
@@ -71,6 +71,7 @@ pub struct Lane<'m, A: Allocator> {
 
 // Which one of so many a pick names.
 #[tactic(auto, using(crate::proofs::Quotients::below))]
+#[inline(always)]
 fn among(pick: u64, count: usize) -> usize
     requires { 0 < count }
     ensures exact { result ≡ pick % count }
@@ -138,6 +139,7 @@ impl<'m, A: Allocator> Lane<'m, A> {
     }
 
     /// The token that `pick` names, as `step` takes it.
+    #[inline(always)]
     pub fn token(&self, pick: u64) -> Option<Token>
         ensures some { IfSome result (Picks (held_of self.now) pick) }
         ensures none { IfNone result (self.now.queue.items ≡ []) }
@@ -151,6 +153,7 @@ impl<'m, A: Allocator> Lane<'m, A> {
     }
 
     // Makes room for so many tokens. After an error all stands as before.
+    #[inline(always)]
     fn make_room(&mut self, tokens: usize, sent: &mut Vec<Token, A>) -> Result<(), AllocError>
         ensures held { held_of self.new ≡ held_of self.old }
         ensures sent { sent.new.items ≡ sent.old.items }
@@ -162,6 +165,7 @@ impl<'m, A: Allocator> Lane<'m, A> {
     }
 
     // Takes the token at `at` out of the queue.
+    #[inline(always)]
     fn take(&mut self, at: usize)
         requires there { at < deque_len self.old.queue }
         requires few { self.old.made < 2 ^ 63 }
@@ -179,6 +183,7 @@ impl<'m, A: Allocator> Lane<'m, A> {
 
     // Whether this element takes tokens with this address.
     #[tactic(auto, using(crate::proofs::Quotients::served_alone))]
+    #[inline(always)]
     fn serves(&self, to: &To) -> bool
         requires some { 0 < self.now.elements }
         ensures { result ≡ (element_of self.now.elements to.now == self.now.element) }
@@ -191,6 +196,7 @@ impl<'m, A: Allocator> Lane<'m, A> {
 
     // The place of a frame that lies here among those that do.
     #[tactic(auto, using(crate::proofs::Quotients::alone))]
+    #[inline(always)]
     fn own_frame(&self, frame: FrameId) -> usize
         requires some { 0 < self.now.elements }
         ensures { result ≡ frame / self.now.elements }
@@ -202,6 +208,7 @@ impl<'m, A: Allocator> Lane<'m, A> {
     }
 
     // Puts a token last into the queue, or last among those for other elements.
+    #[inline(always)]
     fn send(&mut self, token: Token, sent: &mut Vec<Token, A>)
         requires some { 0 < self.old.elements }
         requires room { deque_len self.old.queue < deque_capacity self.old.queue }
@@ -220,33 +227,69 @@ impl<'m, A: Allocator> Lane<'m, A> {
         }
     }
 
-    fn send_some(&mut self, token: Option<Token>, sent: &mut Vec<Token, A>)
+    // Sends a word to a port of a frame, if there is one.
+    #[inline(always)]
+    fn send_to(
+        &mut self,
+        frame: FrameId,
+        word: &Word,
+        target: Option<Target>,
+        sent: &mut Vec<Token, A>,
+    )
         requires some { 0 < self.old.elements }
         requires room { deque_len self.old.queue < deque_capacity self.old.queue }
         requires sent_room { vec_len sent.old < vec_capacity sent.old }
-        ensures held { held_of self.new ≡ queued (held_of self.old) (option_to_list token) }
-        ensures sent { sent.new.items ≡ sent.old.items ++ elsewhere (shape_of self.old) (option_to_list token) }
+        ensures held { held_of self.new ≡ queued (held_of self.old) (to_target frame word.now target) }
+        ensures sent { sent.new.items ≡ sent.old.items ++ elsewhere (shape_of self.old) (to_target frame word.now target) }
         ensures len { deque_len self.new.queue ≤ deque_len self.old.queue + 1 }
         ensures capacity { deque_capacity self.new.queue ≡ deque_capacity self.old.queue }
         ensures sent_len { vec_len sent.new ≤ vec_len sent.old + 1 }
         ensures sent_capacity { vec_capacity sent.new ≡ vec_capacity sent.old }
     {
-        if let Some(token) = token {
+        if let Some(target) = target {
+            let to = To::Instr {
+                frame,
+                ip: target.ip,
+                port: target.port,
+            };
+            self.send(Token { to, word: *word }, sent);
+        }
+    }
+
+    // Sends what leaves the frame, in order.
+    #[inline(always)]
+    fn send_outside(&mut self, made: &Made, sent: &mut Vec<Token, A>)
+        requires some { 0 < self.old.elements }
+        requires room { deque_len self.old.queue + 2 ≤ deque_capacity self.old.queue }
+        requires sent_room { vec_len sent.old + 2 ≤ vec_capacity sent.old }
+        ensures held { held_of self.new ≡ queued (held_of self.old) (outside_of made.now) }
+        ensures sent { sent.new.items ≡ sent.old.items ++ elsewhere (shape_of self.old) (outside_of made.now) }
+        ensures len { deque_len self.new.queue ≤ deque_len self.old.queue + 2 }
+        ensures capacity { deque_capacity self.new.queue ≡ deque_capacity self.old.queue }
+        ensures sent_len { vec_len sent.new ≤ vec_len sent.old + 2 }
+        ensures sent_capacity { vec_capacity sent.new ≡ vec_capacity sent.old }
+    {
+        if let Some(frame) = made.released {
+            let to = To::Release { frame };
+            self.send(Token { to, word: SIGNAL }, sent);
+        }
+        if let Some(token) = made.outside {
             self.send(token, sent);
         }
     }
 
     // Sends what an instruction made, in order.
+    #[inline(always)]
     fn send_all(&mut self, made: &Made, sent: &mut Vec<Token, A>)
         requires some { 0 < self.old.elements }
-        requires room { deque_len self.old.queue + 3 ≤ deque_capacity self.old.queue }
-        requires sent_room { vec_len sent.old + 3 ≤ vec_capacity sent.old }
+        requires room { deque_len self.old.queue + 4 ≤ deque_capacity self.old.queue }
+        requires sent_room { vec_len sent.old + 4 ≤ vec_capacity sent.old }
         ensures held { held_of self.new ≡ queued (held_of self.old) (tokens_of made.now) }
         ensures sent { sent.new.items ≡ sent.old.items ++ elsewhere (shape_of self.old) (tokens_of made.now) }
     {
-        self.send_some(made.first, sent);
-        self.send_some(made.second, sent);
-        self.send_some(made.third, sent);
+        self.send_outside(made, sent);
+        self.send_to(made.frame, &made.word, made.first, sent);
+        self.send_to(made.frame, &made.word, made.second, sent);
     }
 
     // Sends a value to each reader that is listed, in order, and clears the list.
@@ -267,6 +310,7 @@ impl<'m, A: Allocator> Lane<'m, A> {
     }
 
     // What the slot of an instruction holds, in a frame that lies here.
+    #[inline(always)]
     fn slot_state(&self, frame: FrameId, slot: u32) -> SlotState
         requires some { 0 < self.now.elements }
         requires bank { IsBank self.now.bank }
@@ -277,6 +321,7 @@ impl<'m, A: Allocator> Lane<'m, A> {
         self.bank.state(self.own_frame(frame), slot as usize)
     }
 
+    #[inline(always)]
     fn set_slot(&mut self, frame: FrameId, slot: u32, state: SlotState)
         requires some { 0 < self.old.elements }
         requires bank { IsBank self.old.bank }
@@ -289,6 +334,7 @@ impl<'m, A: Allocator> Lane<'m, A> {
         self.bank.set(own, slot as usize, state);
     }
 
+    #[inline(always)]
     fn at_instruction<C: Instructions>(
         &mut self,
         code: &C,
@@ -310,12 +356,82 @@ impl<'m, A: Allocator> Lane<'m, A> {
         let Some(instr) = code.instr(seat.ip) else {
             return Stepped::Stuck { rule: 1 };
         };
+        match instr.op {
+            Op::Apply2 { .. }
+            | Op::Sync
+            | Op::Switch
+            | Op::Store { .. }
+            | Op::Send { .. }
+            | Op::Return { .. }
+            | Op::Ask { .. }
+            | Op::Release { .. } => self.at_pair(code, at, token, seat, &instr, port, sent),
+            Op::Apply1 { .. }
+            | Op::Apply2Right { .. }
+            | Op::Apply2Left { .. }
+            | Op::Lit { .. }
+            | Op::Copy
+            | Op::Fetch { .. }
+            | Op::Frame
+            | Op::Link { .. } => self.at_lone(code, at, token, seat, &instr, port, sent),
+            _ => self.read_again(code, at, token, seat, port, sent),
+        }
+    }
+
+    // Any instruction: those with one input and with two have shorter ways. It is read again, so that on those it stays in
+    // registers.
+    #[inline(never)]
+    fn read_again<C: Instructions>(
+        &mut self,
+        code: &C,
+        at: usize,
+        token: Token,
+        seat: Seat,
+        port: Port,
+        sent: &mut Vec<Token, A>,
+    ) -> Stepped
+        requires sound { IsSoundLane (C.program code.now) (held_of self.old) }
+        requires width { C.width code.now ≤ self.old.bank.width }
+        requires there { at < deque_len self.old.queue }
+        requires few { self.old.made < 2 ^ 63 }
+        requires address { token.to ≡ To.Instr seat.frame seat.ip port }
+        requires near { IsNearToken (bounds (C.program code.now) (shape_of self.old)) token }
+        requires addressed { element_of self.old.elements token.to ≡ self.old.element }
+        ensures { ActsAs (C.program code.now) (held_of self.old) at token sent.old.items result (held_of self.new) sent.new.items }
+    {
+        let Some(instr) = code.instr(seat.ip) else {
+            return Stepped::Stuck { rule: 1 };
+        };
+        self.at_any(code, at, token, seat, instr, port, sent)
+    }
+
+    // Any instruction that was read.
+    fn at_any<C: Instructions>(
+        &mut self,
+        code: &C,
+        at: usize,
+        token: Token,
+        seat: Seat,
+        instr: Instruction,
+        port: Port,
+        sent: &mut Vec<Token, A>,
+    ) -> Stepped
+        requires sound { IsSoundLane (C.program code.now) (held_of self.old) }
+        requires width { C.width code.now ≤ self.old.bank.width }
+        requires there { at < deque_len self.old.queue }
+        requires few { self.old.made < 2 ^ 63 }
+        requires address { token.to ≡ To.Instr seat.frame seat.ip port }
+        requires near { IsNearToken (bounds (C.program code.now) (shape_of self.old)) token }
+        requires addressed { element_of self.old.elements token.to ≡ self.old.element }
+        requires found { instr_at (C.program code.now) seat.ip ≡ Some (instr_of instr) }
+        requires short { IsShort (C.width code.now) seat.ip instr }
+        ensures { ActsAs (C.program code.now) (held_of self.old) at token sent.old.items result (held_of self.new) sent.new.items }
+    {
         let slot = self.slot_of(seat.frame, &instr);
         let mut made = NONE;
         match fire(code, seat, &instr, slot, port, token.word, &mut made) {
             Outcome::Excluded { rule } => Stepped::Stuck { rule },
             Outcome::Becomes { slot } => {
-                if self.make_room(3, sent).is_err() {
+                if self.make_room(4, sent).is_err() {
                     return Stepped::Memory;
                 }
                 self.keep(seat.frame, &instr, slot);
@@ -324,6 +440,158 @@ impl<'m, A: Allocator> Lane<'m, A> {
                 Stepped::Did
             }
         }
+    }
+
+    // An instruction with two inputs: the first token waits in the slot for the second.
+    #[inline(always)]
+    fn at_pair<C: Instructions>(
+        &mut self,
+        code: &C,
+        at: usize,
+        token: Token,
+        seat: Seat,
+        instr: &Instruction,
+        port: Port,
+        sent: &mut Vec<Token, A>,
+    ) -> Stepped
+        requires sound { IsSoundLane (C.program code.now) (held_of self.old) }
+        requires width { C.width code.now ≤ self.old.bank.width }
+        requires there { at < deque_len self.old.queue }
+        requires few { self.old.made < 2 ^ 63 }
+        requires address { token.to ≡ To.Instr seat.frame seat.ip port }
+        requires near { IsNearToken (bounds (C.program code.now) (shape_of self.old)) token }
+        requires addressed { element_of self.old.elements token.to ≡ self.old.element }
+        requires found { instr_at (C.program code.now) seat.ip ≡ Some (instr_of instr.now) }
+        requires short { IsShort (C.width code.now) seat.ip instr.now }
+        requires pair { IsPair instr.now.op }
+        ensures { ActsAs (C.program code.now) (held_of self.old) at token sent.old.items result (held_of self.new) sent.new.items }
+    {
+        let held = self.slot_state(seat.frame, instr.slot);
+        match (held, port) {
+            (SlotState::Empty, Port::Left) => {
+                self.wait(at, seat.frame, instr.slot, SlotState::Left(token.word));
+                Stepped::Did
+            }
+            (SlotState::Empty, Port::Right) => {
+                self.wait(at, seat.frame, instr.slot, SlotState::Right(token.word));
+                Stepped::Did
+            }
+            (SlotState::Left(left), Port::Right) => {
+                self.fire_pair(code, at, seat, instr, left, token.word, sent)
+            }
+            (SlotState::Right(right), Port::Left) => {
+                self.fire_pair(code, at, seat, instr, token.word, right, sent)
+            }
+            _ => Stepped::Stuck { rule: 3 },
+        }
+    }
+
+    // The slot changes, the token is taken out, and nothing is made.
+    #[inline(always)]
+    fn wait(&mut self, at: usize, frame: FrameId, slot: u32, state: SlotState)
+        requires some { 0 < self.old.elements }
+        requires bank { IsBank self.old.bank }
+        requires frame { frame < self.old.elements * self.old.bank.frames }
+        requires slot { slot < self.old.bank.width }
+        requires there { at < deque_len self.old.queue }
+        requires few { self.old.made < 2 ^ 63 }
+        ensures { held_of self.new ≡ taken (with_part (held_of self.old) (with_state (part_of self.old) (slot_place (shape_of self.old) frame slot) state)) at }
+    {
+        self.set_slot(frame, slot, state);
+        self.take(at);
+    }
+
+    // Both words are there: the slot is empty then.
+    #[inline(always)]
+    fn fire_pair<C: Instructions>(
+        &mut self,
+        code: &C,
+        at: usize,
+        seat: Seat,
+        instr: &Instruction,
+        left: Word,
+        right: Word,
+        sent: &mut Vec<Token, A>,
+    ) -> Stepped
+        requires some { 0 < self.old.elements }
+        requires bank { IsBank self.old.bank }
+        requires frame { seat.frame < self.old.elements * self.old.bank.frames }
+        requires slot { instr.now.slot < self.old.bank.width }
+        requires there { at < deque_len self.old.queue }
+        requires few { self.old.made < 2 ^ 63 }
+        requires short { IsShort (C.width code.now) seat.ip instr.now }
+        requires room { HasRoomInWord left }
+        ensures { FiresAs (fire_two (C.program code.now) (seat_of seat) (instr_of instr.now) instr.now.op left right) (with_state (part_of self.old) (slot_place (shape_of self.old) seat.frame instr.now.slot) Empty) (held_of self.old) at sent.old.items result (held_of self.new) sent.new.items }
+    {
+        let mut made = NONE;
+        if !fire_two(code, seat, instr, left, right, &mut made) {
+            return Stepped::Stuck { rule: 4 };
+        }
+        if self.make_room(4, sent).is_err() {
+            return Stepped::Memory;
+        }
+        self.set_slot(seat.frame, instr.slot, SlotState::Empty);
+        self.take(at);
+        self.send_all(&made, sent);
+        Stepped::Did
+    }
+
+    // An instruction with one input.
+    #[inline(always)]
+    fn at_lone<C: Instructions>(
+        &mut self,
+        code: &C,
+        at: usize,
+        token: Token,
+        seat: Seat,
+        instr: &Instruction,
+        port: Port,
+        sent: &mut Vec<Token, A>,
+    ) -> Stepped
+        requires sound { IsSoundLane (C.program code.now) (held_of self.old) }
+        requires width { C.width code.now ≤ self.old.bank.width }
+        requires there { at < deque_len self.old.queue }
+        requires few { self.old.made < 2 ^ 63 }
+        requires address { token.to ≡ To.Instr seat.frame seat.ip port }
+        requires near { IsNearToken (bounds (C.program code.now) (shape_of self.old)) token }
+        requires addressed { element_of self.old.elements token.to ≡ self.old.element }
+        requires found { instr_at (C.program code.now) seat.ip ≡ Some (instr_of instr.now) }
+        requires short { IsShort (C.width code.now) seat.ip instr.now }
+        requires lone { IsLone instr.now.op }
+        ensures { ActsAs (C.program code.now) (held_of self.old) at token sent.old.items result (held_of self.new) sent.new.items }
+    {
+        match port {
+            Port::Left => self.fire_lone(code, at, token.word, seat, instr, sent),
+            Port::Right => Stepped::Stuck { rule: 2 },
+        }
+    }
+
+    #[inline(always)]
+    fn fire_lone<C: Instructions>(
+        &mut self,
+        code: &C,
+        at: usize,
+        word: Word,
+        seat: Seat,
+        instr: &Instruction,
+        sent: &mut Vec<Token, A>,
+    ) -> Stepped
+        requires some { 0 < self.old.elements }
+        requires there { at < deque_len self.old.queue }
+        requires few { self.old.made < 2 ^ 63 }
+        requires short { IsShort (C.width code.now) seat.ip instr.now }
+        ensures { FiresAs (fire_one (C.program code.now) (seat_of seat) (instr_of instr.now) instr.now.op word) (part_of self.old) (held_of self.old) at sent.old.items result (held_of self.new) sent.new.items }
+    {
+        let mut made = NONE;
+        if !fire_one(code, seat, instr, word, &mut made) {
+            return Stepped::Stuck { rule: 4 };
+        }
+        if self.make_room(4, sent).is_err() {
+            return Stepped::Memory;
+        }
+        self.take(at);
+        self.send_all(&made, sent);
+        Stepped::Did
     }
 
     // What the instruction's slot holds; an instruction that uses none sees an empty one.
@@ -542,7 +810,35 @@ impl<'m, A: Allocator> Lane<'m, A> {
     }
 
     // What the token at `at` of the queue does.
+    #[inline(always)]
     fn act<C: Instructions>(
+        &mut self,
+        code: &C,
+        at: usize,
+        token: Token,
+        sent: &mut Vec<Token, A>,
+    ) -> Stepped
+    where
+        A: Clone,
+        requires sound { IsSoundLane (C.program code.now) (held_of self.old) }
+        requires width { C.width code.now ≤ self.old.bank.width }
+        requires there { at < deque_len self.old.queue }
+        requires few { self.old.made < 2 ^ 63 }
+        requires near { IsNearToken (bounds (C.program code.now) (shape_of self.old)) token }
+        requires addressed { element_of self.old.elements token.to ≡ self.old.element }
+        ensures { ActsAs (C.program code.now) (held_of self.old) at token sent.old.items result (held_of self.new) sent.new.items }
+    {
+        match token.to {
+            To::Instr { frame, ip, port } => {
+                self.at_instruction(code, at, token, Seat { frame, ip }, port, sent)
+            }
+            _ => self.act_anywhere(code, at, token, sent),
+        }
+    }
+
+    // The same, apart from the short way to an instruction.
+    #[inline(never)]
+    fn act_anywhere<C: Instructions>(
         &mut self,
         code: &C,
         at: usize,
@@ -562,7 +858,7 @@ impl<'m, A: Allocator> Lane<'m, A> {
         let to = token.to;
         match to {
             To::Instr { frame, ip, port } => {
-                self.at_instruction(code, at, token, Seat { frame, ip }, port, sent)
+                self.read_again(code, at, token, Seat { frame, ip }, port, sent)
             }
             To::Fetch { cell } => self.at_fetch(at, token, cell, sent),
             To::Store { cell, value } => self.at_store(at, token, cell, &value, sent),
@@ -577,6 +873,7 @@ impl<'m, A: Allocator> Lane<'m, A> {
     /// those to the outside come first, then those to the first destination and to the second; a store answers its
     /// readers in the order in which they came, and whoever stored last. After `Clash`, `Stuck` and `Memory` all stands
     /// as before.
+    #[inline(always)]
     pub fn step<C: Instructions>(
         &mut self,
         pick: u64,

@@ -3,7 +3,7 @@
 ghost use Rattle.std.specs.Prelude.{◌≡◌, true, [], ◌∷◌};
 ghost use Rattle.element.specs.Fired.{HasRoom, HasRoomInWord, HasRoomInSlot};
 
-use crate::firing::{Made, NONE, Outcome, Seat, fire};
+use crate::firing::{Made, NONE, Outcome, SIGNAL, Seat, Target, fire};
 use crate::instructions::{Array, Instruction, Instructions};
 use operators::{Binary, Unary};
 use semantics::program::{Dest, Op};
@@ -11,10 +11,13 @@ use tags::slot::SlotState;
 use tags::token::{Cont, Port, To, Token, Word};
 use tags::value::{FaultKind, Origin, Value};
 
+/// At most four tokens, in order.
+type Tokens = [Option<Token>; 4];
+
 /// What came of a token at an instruction.
 #[derive(Clone, Copy, Debug, PartialEq, Eq)]
 enum Came {
-    Becomes { slot: SlotState, made: Made },
+    Becomes { slot: SlotState, made: Tokens },
     Excluded { rule: u8 },
 }
 
@@ -104,19 +107,62 @@ fn fired(op: Op, slot: &SlotState, port: Port, word: &Word) -> Came {
         &mut made,
     );
     match outcome {
-        Outcome::Becomes { slot } => Came::Becomes { slot, made },
+        Outcome::Becomes { slot } => Came::Becomes {
+            slot,
+            made: tokens_of(&made),
+        },
         Outcome::Excluded { rule } => Came::Excluded { rule },
+    }
+}
+
+// A token before others, if there is one.
+fn before(first: Option<Token>, rest: [Option<Token>; 3]) -> Tokens {
+    match first {
+        Some(_) => [first, rest[0], rest[1], rest[2]],
+        None => [rest[0], rest[1], rest[2], None],
+    }
+}
+
+fn sent_to(made: &Made, target: Option<Target>) -> Option<Token> {
+    match target {
+        Some(target) => Some(Token {
+            to: To::Instr {
+                frame: made.frame,
+                ip: target.ip,
+                port: target.port,
+            },
+            word: made.word,
+        }),
+        None => None,
+    }
+}
+
+fn tokens_of(made: &Made) -> Tokens {
+    let first = sent_to(made, made.first);
+    let second = sent_to(made, made.second);
+    let inside = match first {
+        Some(_) => [first, second, None],
+        None => [second, None, None],
+    };
+    let made_outside = before(made.outside, inside);
+    match made.released {
+        Some(frame) => [
+            Some(Token {
+                to: To::Release { frame },
+                word: SIGNAL,
+            }),
+            made_outside[0],
+            made_outside[1],
+            made_outside[2],
+        ],
+        None => made_outside,
     }
 }
 
 fn becomes(slot: SlotState, first: Option<Token>, second: Option<Token>) -> Came {
     Came::Becomes {
         slot,
-        made: Made {
-            first,
-            second,
-            third: None,
-        },
+        made: [first, second, None, None],
     }
 }
 
@@ -155,12 +201,13 @@ const fn host_token(port: u32, word: Word) -> Token {
 }
 
 // The tokens that carry a word to both destinations.
-fn both(word: &Word) -> Made {
-    Made {
-        first: None,
-        second: Some(instr_token(2, 2, *word)),
-        third: Some(instr_token(2, 3, *word)),
-    }
+fn both(word: &Word) -> Tokens {
+    [
+        Some(instr_token(2, 2, *word)),
+        Some(instr_token(2, 3, *word)),
+        None,
+        None,
+    ]
 }
 
 fn to_both(word: &Word) -> Came {
@@ -177,11 +224,12 @@ fn only(slot: SlotState, first: Option<Token>) -> Came {
 fn with_signals(token: Token) -> Came {
     Came::Becomes {
         slot: SlotState::Empty,
-        made: Made {
-            first: Some(token),
-            second: Some(instr_token(2, 2, value(0))),
-            third: Some(instr_token(2, 3, value(0))),
-        },
+        made: [
+            Some(token),
+            Some(instr_token(2, 2, value(0))),
+            Some(instr_token(2, 3, value(0))),
+            None,
+        ],
     }
 }
 

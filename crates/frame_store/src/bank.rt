@@ -65,6 +65,7 @@ impl<'a> BankMut<'a> {
     }
 
     /// Where a slot of a frame stands among the slots behind the bank.
+    #[inline(always)]
     pub fn place(&self, frame: usize, slot: usize) -> usize
         requires bank { IsBank self.now }
         requires frame { frame < self.now.frames }
@@ -77,6 +78,7 @@ impl<'a> BankMut<'a> {
     }
 
     /// The state of a slot of a frame.
+    #[inline(always)]
     pub fn state(&self, frame: usize, slot: usize) -> SlotState
         requires bank { IsBank self.now }
         requires frame { frame < self.now.frames }
@@ -89,6 +91,7 @@ impl<'a> BankMut<'a> {
     }
 
     /// Changes the state of one slot, and of no other.
+    #[inline(always)]
     pub fn set(&mut self, frame: usize, slot: usize, state: SlotState)
         requires bank { IsBank self.old }
         requires frame { frame < self.old.frames }

@@ -21,6 +21,7 @@ impl Fields {
     ghost use Rattle.frame_store.specs.FieldsOf.{parts_of};
 
     /// The two words, with so many for the state.
+    #[inline(always)]
     pub fn words(self, state: u8) -> [u64; 2]
         ensures { result ≡ words_of state (parts_of self) }
     {
@@ -32,6 +33,7 @@ impl Fields {
     }
 
     /// The fields that two words tell.
+    #[inline(always)]
     pub fn from_words(head: u64, body: u64) -> Fields
         ensures { parts_of result ≡ parts_from head body }
     {
@@ -55,6 +57,7 @@ impl Fields {
         }
     }
 
+    #[inline(always)]
     fn of_cont(cont: Cont) -> Fields
         ensures fields { parts_of result ≡ cont_parts cont }
         ensures there { IsCont cont }
@@ -78,6 +81,7 @@ impl Fields {
         }
     }
 
+    #[inline(always)]
     fn of_word(word: Word) -> Fields
         ensures fields { parts_of result ≡ word_parts word }
         ensures there { IsWord word }
@@ -107,6 +111,7 @@ impl Fields {
         }
     }
 
+    #[inline(always)]
     fn cont(self) -> Cont
         ensures { result ≡ cont_from (parts_of self) }
     {
@@ -125,6 +130,7 @@ impl Fields {
         }
     }
 
+    #[inline(always)]
     fn word(self) -> Word
         ensures { result ≡ word_from (parts_of self) }
     {
@@ -154,6 +160,7 @@ fn code_of(origin: Origin) -> u32
     }
 }
 
+#[inline(always)]
 fn origin_in(code: u64) -> Origin
     ensures { result ≡ origin_from code }
 {
@@ -168,6 +175,7 @@ fn origin_in(code: u64) -> Origin
 }
 
 /// The two words of a state.
+#[inline(always)]
 pub fn pack(state: SlotState) -> [u64; 2]
     ensures words { result ≡ slot_words state }
     ensures there { IsSlotState state }
@@ -183,6 +191,7 @@ pub fn pack(state: SlotState) -> [u64; 2]
 }
 
 /// The state that two words stand for.
+#[inline(always)]
 pub fn unpack(head: u64, body: u64) -> SlotState
     ensures { result ≡ slot_from head body }
 {

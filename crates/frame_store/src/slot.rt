@@ -36,6 +36,7 @@ impl Slot {
     }
 
     /// What the slot holds.
+    #[inline(always)]
     pub fn state(&self) -> SlotState
         ensures { result ≡ self.now }
     {
@@ -50,6 +51,7 @@ impl Slot {
     }
 
     /// Changes what the slot holds.
+    #[inline(always)]
     pub fn set(&mut self, state: SlotState)
         ensures { self.new ≡ state }
     {

@@ -49,6 +49,7 @@ impl<'a, A: Allocator> Model for Loaded<'a, A> {
 }
 
 // With its destinations where an element looks for them.
+#[inline(always)]
 fn instruction_of(instr: CodeInstr) -> Instruction
     ensures { instr_of result ≡ shown instr }
 {
@@ -141,6 +142,7 @@ impl<'a, A: Allocator> Instructions for Loaded<'a, A> {
 
     ghost width = { λ l. widest l.code.program.blocks };
 
+    #[inline(always)]
     fn instr(&self, ip: u32) -> Option<Instruction> {
         match self.object.instr(ip) {
             Some(instr) => Some(instruction_of(instr)),

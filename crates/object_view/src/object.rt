@@ -162,6 +162,7 @@ impl<'a> Object<'a> {
     }
 
     /// An instruction.
+    #[inline(always)]
     pub fn instr(&self, ip: u32) -> Option<CodeInstr>
         ensures { option_map shown result ≡ instr_at self.now.code.program ip }
     {

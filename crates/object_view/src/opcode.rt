@@ -32,6 +32,7 @@ pub enum Opcode {
     Release,
 }
 
+#[inline(always)]
 fn binary_of(code: u8) -> Option<Binary>
     ensures { result ≡ Fields.binary_of code }
 {
@@ -54,6 +55,7 @@ fn binary_of(code: u8) -> Option<Binary>
     }
 }
 
+#[inline(always)]
 fn flagged(op: Binary, flag: u8) -> Option<Opcode>
     ensures { result ≡ Fields.flagged op flag }
 {
@@ -65,6 +67,7 @@ fn flagged(op: Binary, flag: u8) -> Option<Opcode>
     }
 }
 
+#[inline(always)]
 fn unflagged(code: u8) -> Option<Opcode>
     ensures { result ≡ Fields.unflagged code }
 {
@@ -93,6 +96,7 @@ fn unflagged(code: u8) -> Option<Opcode>
 
 #[tactic(auto, unfolding(crate::specs::Fields::opcode_of))]
 /// What the opcode and the flag say, and `None` where there is no such opcode or it has no such flag.
+#[inline(always)]
 pub fn opcode_of(code: u8, flag: u8) -> Option<Opcode>
     ensures { result ≡ Fields.opcode_of code flag }
 {
@@ -102,6 +106,7 @@ pub fn opcode_of(code: u8, flag: u8) -> Option<Opcode>
     }
 }
 
+#[inline(always)]
 fn is_division(op: Binary) -> bool
     ensures { result ≡ Fields.is_division op }
 {
@@ -110,6 +115,7 @@ fn is_division(op: Binary) -> bool
 
 impl Opcode {
     /// Whether it may make a fault, so that it may have an origin.
+    #[inline(always)]
     pub fn may_fault(self) -> bool
         ensures { result ≡ Fields.may_fault self }
     {
@@ -186,6 +192,7 @@ impl Opcode {
     }
 
     /// The operation with its operand: a literal, or the number that the operand is.
+    #[inline(always)]
     pub fn with(self, operand: u64, literal: i64) -> Op
         ensures { result ≡ Fields.with self operand literal }
     {

@@ -50,6 +50,7 @@ impl<'a> Tables<'a> {
     }
 
     /// The first word of an instruction.
+    #[inline(always)]
     pub fn head(&self, ip: usize) -> Head
         requires { ip < self.now.instrs }
         ensures { result.word ≡ Fields.word_at self.now.bytes.now (Reading.instr_place (Fields.word_at self.now.bytes.now) ip) }
@@ -60,6 +61,7 @@ impl<'a> Tables<'a> {
     }
 
     /// The second word of an instruction.
+    #[inline(always)]
     pub fn operand_word(&self, ip: usize) -> u64
         requires { ip < self.now.instrs }
         ensures { result ≡ Fields.word_at self.now.bytes.now (Reading.instr_place (Fields.word_at self.now.bytes.now) ip + 1) }
@@ -67,6 +69,7 @@ impl<'a> Tables<'a> {
         words::word_at(self.bytes, HEADER + self.blocks + 2 * ip + 1)
     }
 
+    #[inline(always)]
     pub fn literal(&self, number: usize) -> i64
         requires { number < self.now.literals }
         ensures { result ≡ Reading.literal_in (Fields.word_at self.now.bytes.now) number }
@@ -84,6 +87,7 @@ impl<'a> Tables<'a> {
         )
     }
 
+    #[inline(always)]
     fn has_origin(&self, opcode: Opcode) -> bool
         ensures { result ≡ Fields.has_origin self.now.version opcode }
     {
@@ -115,6 +119,7 @@ impl<'a> Tables<'a> {
         }
     }
 
+    #[inline(always)]
     fn literal_or_zero(&self, number: u64) -> i64
         ensures { result ≡ Reading.literal_or_zero (Fields.word_at self.now.bytes.now) number }
     {
@@ -126,6 +131,7 @@ impl<'a> Tables<'a> {
     }
 
     /// The operand and the number of the origin of an instruction with this opcode and this second word.
+    #[inline(always)]
     fn parted(&self, opcode: Opcode, word: u64) -> (u64, u64)
         ensures operand { result.0 ≡ Fields.operand_in self.now.version opcode word }
         ensures origin { result.1 ≡ Fields.origin_number self.now.version opcode word }
@@ -138,6 +144,7 @@ impl<'a> Tables<'a> {
     }
 
     /// The operation of this opcode with this operand. The table of literals is read where the operand is a literal.
+    #[inline(always)]
     fn op(&self, opcode: Opcode, operand: u64) -> Op
         ensures { result ≡ Fields.with opcode operand (Reading.literal_or_zero (Fields.word_at self.now.bytes.now) operand) }
     {
@@ -159,6 +166,7 @@ impl<'a> Tables<'a> {
 
     #[tactic(auto, unfolding(crate::specs::Reading::instr_in))]
     /// An instruction.
+    #[inline(always)]
     pub fn instr(&self, ip: usize) -> CodeInstr
         requires { ip < self.now.instrs }
         ensures { result ≡ Reading.instr_in (Fields.word_at self.now.bytes.now) ip }

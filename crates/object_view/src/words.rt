@@ -11,6 +11,7 @@ use tags::value::{NodeNumber, Origin};
 
 #[tactic(auto, unfolding(crate::specs::Fields::word_at))]
 /// The word at a place, counted in words.
+#[inline(always)]
 pub fn word_at(bytes: &[u8], place: usize) -> u64
     requires { 8 * place + 8 ≤ length bytes.now }
     ensures { result ≡ Fields.word_at bytes.now place }
@@ -59,12 +60,14 @@ pub struct Head {
 
 impl Head {
     /// What the opcode and the flag say, if there are such.
+    #[inline(always)]
     pub fn opcode(self) -> Option<Opcode>
         ensures { result ≡ Fields.opcode_in self.word }
     {
         opcode::opcode_of((self.word % 256) as u8, (self.word / 256 % 256) as u8)
     }
 
+    #[inline(always)]
     pub fn slot(self) -> u32
         ensures { result ≡ Fields.slot_in self.word }
     {
@@ -72,6 +75,7 @@ impl Head {
     }
 
     /// The half word of the first destination.
+    #[inline(always)]
     pub fn first(self) -> u32
         ensures { result ≡ Fields.first_half self.word }
     {
@@ -79,6 +83,7 @@ impl Head {
     }
 
     /// The half word of the second destination.
+    #[inline(always)]
     pub fn second(self) -> u32
         ensures { result ≡ Fields.second_half self.word }
     {
@@ -87,6 +92,7 @@ impl Head {
 }
 
 /// The destination that a half word tells, if it tells one.
+#[inline(always)]
 pub fn dest_of(half: u32) -> Option<Dest>
     ensures { result ≡ Fields.dest_of half }
 {
@@ -103,6 +109,7 @@ pub fn dest_of(half: u32) -> Option<Dest>
 }
 
 /// The origin of a number: 0 for one that is not told, else one more than 1,024 times the block and the node.
+#[inline(always)]
 pub fn origin_of(number: u64) -> Origin
     ensures { result ≡ Fields.origin_of number }
 {

@@ -56,6 +56,7 @@ impl<'m, C: MainCode, A: Allocator> Elements<'m, C, A> {
     }
 
     // Whether the element has a token.
+    #[inline(always)]
     fn has_token(&self, element: u32) -> bool
         requires well { IsWell C.program C.width self.now }
         requires element { element < self.now.elements }
@@ -67,6 +68,7 @@ impl<'m, C: MainCode, A: Allocator> Elements<'m, C, A> {
     }
 
     // A step of an element that has a token and may make an event, with no token on its way.
+    #[inline(always)]
     fn step_lane<L: Log>(&mut self, element: u32, pick: u64, log: &mut L) -> Stepped
     where
         A: Clone,
@@ -93,6 +95,7 @@ impl<'m, C: MainCode, A: Allocator> Elements<'m, C, A> {
 
     /// The element takes the token that `pick`, modulo the number of its tokens, names from the oldest on; `None` where it
     /// has a token and has made all its events.
+    #[inline(always)]
     pub fn step<L: Log>(&mut self, element: u32, pick: u64, log: &mut L) -> Option<Stepped>
     where
         A: Clone,
@@ -135,6 +138,7 @@ impl<'m, C: MainCode, A: Allocator> Elements<'m, C, A> {
 
     // Makes one step of a run, and answers whether the run halts there. A run over a list passes over an element that has
     // made all its events.
+    #[inline(always)]
     fn advance<L: Log>(
         &mut self,
         listed: bool,

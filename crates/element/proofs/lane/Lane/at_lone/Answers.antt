@@ -1,0 +1,20 @@
+use Rattle.std.proofs.Common.{◌≡◌, refl, ◌∙◌, ap, None}
+use Rattle.tags.specs.declared.token.Port.{Port}
+use Rattle.tags.specs.declared.slot.SlotState.TheVariants as Slot
+use Rattle.semantics.specs.Rule.{alone, fire_one}
+use Rattle.element.specs.Decoded.{instr_of}
+use Rattle.element.specs.Fired.{seat_of}
+use Rattle.element.specs.Held.{Held, held_of}
+use Rattle.element.proofs.Classes.{lone_slot, lone_alone, fired_as}
+use Rattle.element.proofs.lane.Lane.at_lone.Goals as goal
+
+pub returns-in-Left : goal.returns-in-Left
+returns-in-Left g c =
+    let p = g.C.Instructions.program c.args.code.now in
+    let old : Held = held_of c.args.self.now in
+    let s = c.args.seat in
+    let i = c.args.instr.now in
+    let w = c.args.token.word in
+    fired_as p (g.C.Instructions.width c.args.code.now) old c.args.token s.frame s.ip c.args.port i None Slot.Empty c.requires.sound.part c.requires.width c.requires.address c.requires.near c.requires.addressed c.requires.short
+    c.requires.found (lone_slot (instr_of i) i.op c.requires.lone) refl Slot.Empty (fire_one p (seat_of s) (instr_of i) i.op w) c.args.at c.args.sent.now.items c.fire_lone.result (held_of c.fire_lone.new.self)
+    c.fire_lone.new.sent.items (lone_alone p (seat_of s) (instr_of i) i.op Slot.Empty c.args.port w c.requires.lone ∙ ap (λ (q : Port). alone p (seat_of s) (instr_of i) Slot.Empty q w) c.in-Left.is) c.fire_lone.ensures
