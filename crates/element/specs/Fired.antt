@@ -10,8 +10,8 @@ use Rattle.semantics.specs.declared.program.Op.{Op}
 use Rattle.semantics.specs.declared.program.Op.TheVariants.{Apply2, Sync, Switch, Store, Send, Return, Ask, Release}
 use Rattle.operators.specs.Values as values
 use Rattle.semantics.specs.Rule as rule
+use Rattle.element.specs.Decoded.{dest_in}
 use Rattle.element.specs.declared.firing.Seat.{Seat}
-use Rattle.element.specs.declared.firing.Target.{Target}
 use Rattle.element.specs.declared.firing.Made.{Made}
 use Rattle.element.specs.declared.firing.Indexed.{Indexed}
 use Rattle.element.specs.declared.firing.Indexed.TheVariants.{Place, Outside}
@@ -21,10 +21,9 @@ use Rattle.element.specs.declared.firing.Outcome.TheVariants.{Becomes, Excluded}
 abbrev pub seat_of : Seat → rule.Seat
 seat_of s = record { frame = s.frame; ip = s.ip }
 
--- a word to a port of a frame, if there is one
-abbrev pub to_target : ℕ → Word → Option Target → List Token
-to_target f w None = []
-to_target f w (Some t) = rule.token (To.Instr f t.ip t.port) w ∷ []
+-- a word to the destination in a half word, if it has one
+abbrev pub to_half : rule.Seat → Word → ℕ → List Token
+to_half s w h = rule.to_each s w (option_to_list (dest_in h))
 
 -- the release of a frame, if there is one
 abbrev pub released_of : Option ℕ → List Token
@@ -35,9 +34,9 @@ released_of (Some f) = rule.token (To.Release f) rule.signal ∷ []
 abbrev pub outside_of : Made → List Token
 outside_of m = released_of m.released ++ option_to_list m.outside
 
--- the tokens, in order
-abbrev pub tokens_of : Made → List Token
-tokens_of m = outside_of m ++ (to_target m.frame m.word m.first ++ to_target m.frame m.word m.second)
+-- the tokens that are made at a seat, in order
+abbrev pub tokens_of : rule.Seat → Made → List Token
+tokens_of s m = outside_of m ++ (to_half s m.word m.first ++ to_half s m.word m.second)
 
 abbrev pub indexed_of : Indexed → values.Indexed
 indexed_of (Place x) = values.Place x
@@ -48,12 +47,12 @@ IsWithin len (Place x) = x < len
 IsWithin len (Outside v) = ⊤
 
 -- the tokens, where it fired
-abbrev pub fired_by : Bool → Made → Option (List Token)
-fired_by true made = Some (tokens_of made)
+abbrev pub fired_by : Bool → List Token → Option (List Token)
+fired_by true made = Some made
 fired_by false made = None
 
-abbrev pub outcome_by : Outcome → Made → rule.Outcome
-outcome_by (Becomes v) made = rule.Becomes v (tokens_of made)
+abbrev pub outcome_by : Outcome → List Token → rule.Outcome
+outcome_by (Becomes v) made = rule.Becomes v made
 outcome_by (Excluded n) made = rule.Excluded n
 
 -- an offset of 8 bits can be added

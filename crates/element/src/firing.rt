@@ -8,11 +8,18 @@ ghost use Rattle.tags.specs.declared.token.Word.{Word};
 ghost use Rattle.tags.specs.declared.token.To.{To};
 ghost use Rattle.operators.specs.Values as Values;
 ghost use Rattle.semantics.specs.Rule as Rule;
-ghost use Rattle.element.specs.declared.firing.Made.{Made};
-ghost use Rattle.element.specs.Decoded.{instr_of, IsShort};
-ghost use Rattle.element.specs.Fired.{seat_of, to_target, tokens_of, fired_by, indexed_of, IsWithin, outcome_by, HasRoom, HasRoomInWord, HasRoomInSlot, TakesLeftAlone};
+ghost use Rattle.std.specs.Prelude.{List};
+ghost use Rattle.tags.specs.declared.token.Token.{Token};
+ghost use Rattle.element.specs.Decoded.{instr_of, dest_in, origin_in, IsShort, IsLone};
+ghost use Rattle.element.specs.Fired.{seat_of, tokens_of, fired_by, indexed_of, IsWithin, outcome_by, HasRoom, HasRoomInWord, HasRoomInSlot, TakesLeftAlone};
 
-use crate::instructions::{Instruction, Instructions};
+ghost use Rattle.semantics.specs.Program.{Program, Instr};
+ghost use Rattle.element.specs.Parts.{Part};
+ghost use Rattle.element.specs.declared.firing.Firing.{Firing};
+ghost use Rattle.element.specs.declared.firing.Firing.TheVariants.{Fires};
+ghost use Rattle.element.specs.Outcomes.{FiringIs, MeetingIs, LeftHasRoom};
+
+use crate::instructions::{Instruction, Instructions, dest_in};
 use operators::{apply1, apply2_at, truth};
 use semantics::program::{Dest, Op};
 use tags::slot::SlotState;
@@ -26,23 +33,15 @@ pub struct Seat {
     pub ip: u32,
 }
 
-/// A port of an instruction of the same frame.
-#[derive(Clone, Copy, Debug, PartialEq, Eq)]
-pub struct Target {
-    pub ip: u32,
-    pub port: Port,
-}
-
 /// The tokens that an instruction makes, at most four, in order: the release of a frame, a token that leaves, and a word
-/// to each of two ports of its own frame.
+/// to each of two destinations, which are the half words of the instruction, or 0.
 #[derive(Clone, Copy, Debug, PartialEq, Eq)]
 pub struct Made {
     pub released: Option<FrameId>,
     pub outside: Option<Token>,
-    pub frame: FrameId,
     pub word: Word,
-    pub first: Option<Target>,
-    pub second: Option<Target>,
+    pub first: u32,
+    pub second: u32,
 }
 
 /// What an index names in an array.
@@ -69,70 +68,46 @@ pub const SIGNAL: Word = Word::Val(Value::Int(0));
 pub const NONE: Made = Made {
     released: None,
     outside: None,
-    frame: 0,
     word: SIGNAL,
-    first: None,
-    second: None,
+    first: 0,
+    second: 0,
 };
 
 #[inline(always)]
 fn one(token: Token, made: &mut Made)
-    ensures { tokens_of made.new ≡ token ∷ [] }
+    ensures { (s : Rule.Seat) → tokens_of s made.new ≡ token ∷ [] }
 {
     made.released = None;
     made.outside = Some(token);
-    made.first = None;
-    made.second = None;
+    made.first = 0;
+    made.second = 0;
 }
 
 #[inline(always)]
 fn nothing(made: &mut Made)
-    ensures { tokens_of made.new ≡ [] }
+    ensures { (s : Rule.Seat) → tokens_of s made.new ≡ [] }
 {
     made.released = None;
     made.outside = None;
-    made.first = None;
-    made.second = None;
-}
-
-// Where a destination is.
-#[inline(always)]
-fn target_of(seat: Seat, dest: Option<Dest>) -> Option<Target>
-    requires near { seat.ip < 2 ^ 30 }
-    requires short { IfSome dest (λ d. d.ahead < 2 ^ 30) }
-    ensures { (word : Word) → to_target seat.frame word result ≡ Rule.to_each (seat_of seat) word (option_to_list dest) }
-{
-    match dest {
-        Some(dest) => Some(Target {
-            ip: seat.ip + dest.ahead,
-            port: dest.port,
-        }),
-        None => None,
-    }
+    made.first = 0;
+    made.second = 0;
 }
 
 // One token or none, and then a word to each destination.
 #[inline(always)]
 fn before_all(outside: Option<Token>, seat: Seat, word: Word, instr: &Instruction, made: &mut Made)
-    requires near { seat.ip < 2 ^ 30 }
-    requires first_short { IfSome instr.now.first (λ d. d.ahead < 2 ^ 30) }
-    requires second_short { IfSome instr.now.second (λ d. d.ahead < 2 ^ 30) }
-    ensures { tokens_of made.new ≡ option_to_list outside ++ Rule.to_all (seat_of seat) word (instr_of instr.now) }
+    ensures { tokens_of (seat_of seat) made.new ≡ option_to_list outside ++ Rule.to_all (seat_of seat) word (instr_of instr.now) }
 {
     made.released = None;
     made.outside = outside;
-    made.frame = seat.frame;
     made.word = word;
-    made.first = target_of(seat, instr.first);
-    made.second = target_of(seat, instr.second);
+    made.first = instr.first;
+    made.second = instr.second;
 }
 
 #[inline(always)]
 fn to_all(seat: Seat, word: Word, instr: &Instruction, made: &mut Made)
-    requires near { seat.ip < 2 ^ 30 }
-    requires first_short { IfSome instr.now.first (λ d. d.ahead < 2 ^ 30) }
-    requires second_short { IfSome instr.now.second (λ d. d.ahead < 2 ^ 30) }
-    ensures { tokens_of made.new ≡ Rule.to_all (seat_of seat) word (instr_of instr.now) }
+    ensures { tokens_of (seat_of seat) made.new ≡ Rule.to_all (seat_of seat) word (instr_of instr.now) }
 {
     before_all(None, seat, word, instr, made);
 }
@@ -178,10 +153,10 @@ pub fn answer(cont: Cont, word: Word) -> Token
 #[inline(always)]
 fn answer_to(seat: Seat, instr: &Instruction) -> Cont
     requires near { seat.ip < 2 ^ 30 }
-    requires short { IfSome instr.now.first (λ d. d.ahead < 2 ^ 30) }
+    requires short { IfSome (dest_in instr.now.first) (λ d. d.ahead < 2 ^ 30) }
     ensures { result ≡ Rule.answer_to (seat_of seat) (instr_of instr.now).firsts }
 {
-    match instr.first {
+    match dest_in(instr.first) {
         Some(dest) => Cont::Frame {
             frame: seat.frame,
             ip: seat.ip + dest.ahead,
@@ -199,10 +174,10 @@ fn answer_to(seat: Seat, instr: &Instruction) -> Cont
 #[inline(always)]
 fn landing_at(seat: Seat, instr: &Instruction) -> Cont
     requires near { seat.ip < 2 ^ 30 }
-    requires short { IfSome instr.now.first (λ d. d.ahead < 2 ^ 30) }
+    requires short { IfSome (dest_in instr.now.first) (λ d. d.ahead < 2 ^ 30) }
     ensures { result ≡ Rule.landing_at (seat_of seat) (instr_of instr.now).firsts }
 {
-    let ip = match instr.first {
+    let ip = match dest_in(instr.first) {
         Some(dest) => seat.ip + dest.ahead,
         None => seat.ip,
     };
@@ -244,10 +219,10 @@ fn asks_for<C: Instructions>(
     made: &mut Made,
 )
     requires short { IsShort (C.width code.now) seat.ip instr.now }
-    ensures { tokens_of made.new ≡ Rule.asks_for (C.program code.now) (seat_of seat) (instr_of instr.now) array (Values.index_in (Rule.array_len (C.program code.now) array) index instr.now.origin) }
+    ensures { tokens_of (seat_of seat) made.new ≡ Rule.asks_for (C.program code.now) (seat_of seat) (instr_of instr.now) array (Values.index_in (Rule.array_len (C.program code.now) array) index (origin_in instr.now.origin)) }
 {
     let cells = code.array(array);
-    match index_in(cells.len, index, instr.origin) {
+    match index_in(cells.len, index, instr.origin()) {
         Indexed::Place(place) => one(
             Token {
                 to: To::Fetch {
@@ -273,10 +248,10 @@ fn puts<C: Instructions>(
     made: &mut Made,
 )
     requires short { IsShort (C.width code.now) seat.ip instr.now }
-    ensures { tokens_of made.new ≡ Rule.puts (C.program code.now) (seat_of seat) (instr_of instr.now) array value (Values.index_in (Rule.array_len (C.program code.now) array) index instr.now.origin) }
+    ensures { tokens_of (seat_of seat) made.new ≡ Rule.puts (C.program code.now) (seat_of seat) (instr_of instr.now) array value (Values.index_in (Rule.array_len (C.program code.now) array) index (origin_in instr.now.origin)) }
 {
     let cells = code.array(array);
-    match index_in(cells.len, index, instr.origin) {
+    match index_in(cells.len, index, instr.origin()) {
         Indexed::Place(place) => one(
             Token {
                 to: To::Store {
@@ -293,30 +268,24 @@ fn puts<C: Instructions>(
 
 #[inline(always)]
 fn to_first(seat: Seat, word: Word, instr: &Instruction, made: &mut Made)
-    requires near { seat.ip < 2 ^ 30 }
-    requires short { IfSome instr.now.first (λ d. d.ahead < 2 ^ 30) }
-    ensures { tokens_of made.new ≡ Rule.to_each (seat_of seat) word (take 1 (instr_of instr.now).firsts) }
+    ensures { tokens_of (seat_of seat) made.new ≡ Rule.to_each (seat_of seat) word (take 1 (instr_of instr.now).firsts) }
 {
     made.released = None;
     made.outside = None;
-    made.frame = seat.frame;
     made.word = word;
-    made.first = target_of(seat, instr.first);
-    made.second = None;
+    made.first = instr.first;
+    made.second = 0;
 }
 
 #[inline(always)]
 fn to_second(outside: Token, seat: Seat, word: Word, instr: &Instruction, made: &mut Made)
-    requires near { seat.ip < 2 ^ 30 }
-    requires short { IfSome instr.now.second (λ d. d.ahead < 2 ^ 30) }
-    ensures { tokens_of made.new ≡ outside ∷ Rule.to_each (seat_of seat) word (instr_of instr.now).seconds }
+    ensures { tokens_of (seat_of seat) made.new ≡ outside ∷ Rule.to_each (seat_of seat) word (instr_of instr.now).seconds }
 {
     made.released = None;
     made.outside = Some(outside);
-    made.frame = seat.frame;
     made.word = word;
-    made.first = None;
-    made.second = target_of(seat, instr.second);
+    made.first = 0;
+    made.second = instr.second;
 }
 
 /// What an instruction with one input makes of its word; false where the word is of a wrong kind.
@@ -325,20 +294,20 @@ pub fn fire_one<C: Instructions>(
     code: &C,
     seat: Seat,
     instr: &Instruction,
+    op: Op,
     word: Word,
     made: &mut Made,
 ) -> bool
     requires short { IsShort (C.width code.now) seat.ip instr.now }
-    ensures { fired_by result made.new ≡ Rule.fire_one (C.program code.now) (seat_of seat) (instr_of instr.now) instr.now.op word }
+    ensures { fired_by result (tokens_of (seat_of seat) made.new) ≡ Rule.fire_one (C.program code.now) (seat_of seat) (instr_of instr.now) op word }
 {
-    let origin = instr.origin;
-    let value = match (instr.op, word) {
+    let value = match (op, word) {
         (Op::Apply1 { op }, Word::Val(value)) => apply1(op, value),
         (Op::Apply2Right { op, literal }, Word::Val(value)) => {
-            apply2_at(op, value, Value::Int(literal), origin)
+            apply2_at(op, value, Value::Int(literal), instr.origin())
         }
         (Op::Apply2Left { op, literal }, Word::Val(value)) => {
-            apply2_at(op, Value::Int(literal), value, origin)
+            apply2_at(op, Value::Int(literal), value, instr.origin())
         }
         (Op::Lit { literal }, _) => Value::Int(literal),
         (Op::Copy, _) => {
@@ -367,8 +336,8 @@ pub fn fire_one<C: Instructions>(
 #[inline(always)]
 fn asks_for_frame(seat: Seat, instr: &Instruction, made: &mut Made)
     requires near { seat.ip < 2 ^ 30 }
-    requires short { IfSome instr.now.first (λ d. d.ahead < 2 ^ 30) }
-    ensures { tokens_of made.new ≡ Rule.token To.Manager (Word.Back (Rule.answer_to (seat_of seat) (instr_of instr.now).firsts)) ∷ [] }
+    requires short { IfSome (dest_in instr.now.first) (λ d. d.ahead < 2 ^ 30) }
+    ensures { tokens_of (seat_of seat) made.new ≡ Rule.token To.Manager (Word.Back (Rule.answer_to (seat_of seat) (instr_of instr.now).firsts)) ∷ [] }
 {
     let token = Token {
         to: To::Manager,
@@ -381,9 +350,8 @@ fn asks_for_frame(seat: Seat, instr: &Instruction, made: &mut Made)
 #[inline(always)]
 fn link(first: u32, frame: FrameId, seat: Seat, instr: &Instruction, made: &mut Made)
     requires near { seat.ip < 2 ^ 30 }
-    requires first_short { IfSome instr.now.first (λ d. d.ahead < 2 ^ 30) }
-    requires second_short { IfSome instr.now.second (λ d. d.ahead < 2 ^ 30) }
-    ensures { tokens_of made.new ≡ Rule.token (To.Instr frame first Left) (Word.Back (Rule.landing_at (seat_of seat) (instr_of instr.now).firsts)) ∷ Rule.to_each (seat_of seat) Rule.signal (instr_of instr.now).seconds }
+    requires short { IfSome (dest_in instr.now.first) (λ d. d.ahead < 2 ^ 30) }
+    ensures { tokens_of (seat_of seat) made.new ≡ Rule.token (To.Instr frame first Left) (Word.Back (Rule.landing_at (seat_of seat) (instr_of instr.now).firsts)) ∷ Rule.to_each (seat_of seat) Rule.signal (instr_of instr.now).seconds }
 {
     let token = Token {
         to: To::Instr {
@@ -399,10 +367,7 @@ fn link(first: u32, frame: FrameId, seat: Seat, instr: &Instruction, made: &mut 
 // A token, and then a signal to each destination.
 #[inline(always)]
 fn and_signals(token: Token, seat: Seat, instr: &Instruction, made: &mut Made)
-    requires near { seat.ip < 2 ^ 30 }
-    requires first_short { IfSome instr.now.first (λ d. d.ahead < 2 ^ 30) }
-    requires second_short { IfSome instr.now.second (λ d. d.ahead < 2 ^ 30) }
-    ensures { tokens_of made.new ≡ token ∷ Rule.to_all (seat_of seat) Rule.signal (instr_of instr.now) }
+    ensures { tokens_of (seat_of seat) made.new ≡ token ∷ Rule.to_all (seat_of seat) Rule.signal (instr_of instr.now) }
 {
     before_all(Some(token), seat, SIGNAL, instr, made);
 }
@@ -410,29 +375,25 @@ fn and_signals(token: Token, seat: Seat, instr: &Instruction, made: &mut Made)
 // A switch sends its left word to one side.
 #[inline(always)]
 fn choose(holds: bool, seat: Seat, word: Word, instr: &Instruction, made: &mut Made)
-    requires near { seat.ip < 2 ^ 30 }
-    requires first_short { IfSome instr.now.first (λ d. d.ahead < 2 ^ 30) }
-    requires second_short { IfSome instr.now.second (λ d. d.ahead < 2 ^ 30) }
-    ensures { tokens_of made.new ≡ Rule.to_each (seat_of seat) word (if holds then (instr_of instr.now).firsts else (instr_of instr.now).seconds) }
+    ensures { tokens_of (seat_of seat) made.new ≡ Rule.to_each (seat_of seat) word (if holds then (instr_of instr.now).firsts else (instr_of instr.now).seconds) }
 {
     let side = if holds { instr.first } else { instr.second };
     made.released = None;
     made.outside = None;
-    made.frame = seat.frame;
     made.word = word;
-    made.first = target_of(seat, side);
-    made.second = None;
+    made.first = side;
+    made.second = 0;
 }
 
 // The release of the frame, and a signal.
 #[inline(always)]
 fn released(to: To, frame: FrameId, made: &mut Made)
-    ensures { tokens_of made.new ≡ Rule.token (To.Release frame) Rule.signal ∷ Rule.token to Rule.signal ∷ [] }
+    ensures { (s : Rule.Seat) → tokens_of s made.new ≡ Rule.token (To.Release frame) Rule.signal ∷ Rule.token to Rule.signal ∷ [] }
 {
     made.released = Some(frame);
     made.outside = Some(Token { to, word: SIGNAL });
-    made.first = None;
-    made.second = None;
+    made.first = 0;
+    made.second = 0;
 }
 
 // An entry of the block that begins there.
@@ -449,17 +410,18 @@ pub fn fire_two<C: Instructions>(
     code: &C,
     seat: Seat,
     instr: &Instruction,
+    op: Op,
     left: Word,
     right: Word,
     made: &mut Made,
 ) -> bool
     requires short { IsShort (C.width code.now) seat.ip instr.now }
     requires room { HasRoomInWord left }
-    ensures { fired_by result made.new ≡ Rule.fire_two (C.program code.now) (seat_of seat) (instr_of instr.now) instr.now.op left right }
+    ensures { fired_by result (tokens_of (seat_of seat) made.new) ≡ Rule.fire_two (C.program code.now) (seat_of seat) (instr_of instr.now) op left right }
 {
-    match (instr.op, left, right) {
+    match (op, left, right) {
         (Op::Apply2 { op }, Word::Val(x), Word::Val(y)) => {
-            let value = apply2_at(op, x, y, instr.origin);
+            let value = apply2_at(op, x, y, instr.origin());
             to_all(seat, Word::Val(value), instr, made);
             true
         }
@@ -503,9 +465,91 @@ pub fn fire_two<C: Instructions>(
     }
 }
 
+/// What a token meets at an instruction with two inputs.
+#[derive(Clone, Copy, Debug, PartialEq, Eq)]
+pub enum Meeting {
+    /// The other one: both words.
+    Both { left: Word, right: Word },
+    /// None: it waits in the slot, which has this state then.
+    Waits { state: SlotState },
+    /// What it can't meet.
+    Apart,
+}
+
+/// What comes of a token at an instruction with one input or with two, beside the tokens that are made.
+#[derive(Clone, Copy, Debug, PartialEq, Eq)]
+pub enum Firing {
+    /// It waits in the instruction's slot, which has this state then.
+    Waits { state: SlotState },
+    /// All inputs are there; this slot is empty then.
+    Fires { cleared: Option<u32> },
+    /// The rule of this number excludes the token.
+    Excluded { rule: u8 },
+    /// The instruction has other inputs.
+    Other,
+}
+
+/// What a token meets in its slot.
+#[inline(always)]
+pub fn meeting(held: SlotState, port: Port, word: Word) -> Meeting
+    requires slot_room { HasRoomInSlot held }
+    requires word_room { HasRoomInWord word }
+    ensures meets { (p : Program) (s : Rule.Seat) (i : Instr) → MeetingIs p s i (Rule.meets p s i held port word) result }
+    ensures room { LeftHasRoom result }
+{
+    match (held, port) {
+        (SlotState::Empty, Port::Left) => Meeting::Waits {
+            state: SlotState::Left(word),
+        },
+        (SlotState::Empty, Port::Right) => Meeting::Waits {
+            state: SlotState::Right(word),
+        },
+        (SlotState::Left(left), Port::Right) => Meeting::Both { left, right: word },
+        (SlotState::Right(right), Port::Left) => Meeting::Both { left: word, right },
+        _ => Meeting::Apart,
+    }
+}
+
+/// The slot is cleared where the instruction fired.
+#[inline(always)]
+pub fn firing_of(cleared: Option<u32>, fired: bool) -> Firing
+    ensures { result ≡ (if fired then Fires cleared else Firing.Excluded 4) }
+{
+    if fired {
+        Firing::Fires { cleared }
+    } else {
+        Firing::Excluded { rule: 4 }
+    }
+}
+
+/// An instruction with one input.
+#[inline(always)]
+pub fn at_lone<C: Instructions>(
+    code: &C,
+    seat: Seat,
+    instr: &Instruction,
+    op: Op,
+    port: Port,
+    word: Word,
+    made: &mut Made,
+) -> Firing
+    requires short { IsShort (C.width code.now) seat.ip instr.now }
+    requires same { instr.now.op ≡ op }
+    requires lone { IsLone op }
+    ensures { (h : Part) → FiringIs (C.program code.now) h (seat_of seat) (instr_of instr.now) port word result (tokens_of (seat_of seat) made.new) }
+{
+    match port {
+        Port::Right => Firing::Excluded { rule: 2 },
+        Port::Left => {
+            let fired = fire_one(code, seat, instr, op, word, made);
+            firing_of(None, fired)
+        }
+    }
+}
+
 // The slot changes where the instruction fired.
 fn fires(slot: SlotState, fired: bool) -> Outcome
-    ensures { (made : Made) → outcome_by result made ≡ Rule.fires slot (fired_by fired made) }
+    ensures { (made : List Token) → outcome_by result made ≡ Rule.fires slot (fired_by fired made) }
 {
     if fired {
         Outcome::Becomes { slot }
@@ -516,7 +560,7 @@ fn fires(slot: SlotState, fired: bool) -> Outcome
 
 // The slot changes, and nothing is made.
 fn becomes(slot: SlotState, made: &mut Made) -> Outcome
-    ensures { outcome_by result made.new ≡ Rule.Becomes slot [] }
+    ensures { (s : Rule.Seat) → outcome_by result (tokens_of s made.new) ≡ Rule.Becomes slot [] }
 {
     nothing(made);
     Outcome::Becomes { slot }
@@ -524,7 +568,7 @@ fn becomes(slot: SlotState, made: &mut Made) -> Outcome
 
 // The slot changes, and one token is made.
 fn becomes_with(slot: SlotState, token: Token, made: &mut Made) -> Outcome
-    ensures { outcome_by result made.new ≡ Rule.Becomes slot (token ∷ []) }
+    ensures { (s : Rule.Seat) → outcome_by result (tokens_of s made.new) ≡ Rule.Becomes slot (token ∷ []) }
 {
     one(token, made);
     Outcome::Becomes { slot }
@@ -532,17 +576,14 @@ fn becomes_with(slot: SlotState, token: Token, made: &mut Made) -> Outcome
 
 // The slot changes, and a signal goes to each destination.
 fn becomes_signalled(slot: SlotState, seat: Seat, instr: &Instruction, made: &mut Made) -> Outcome
-    requires near { seat.ip < 2 ^ 30 }
-    requires first_short { IfSome instr.now.first (λ d. d.ahead < 2 ^ 30) }
-    requires second_short { IfSome instr.now.second (λ d. d.ahead < 2 ^ 30) }
-    ensures { outcome_by result made.new ≡ Rule.Becomes slot (Rule.to_all (seat_of seat) Rule.signal (instr_of instr.now)) }
+    ensures { outcome_by result (tokens_of (seat_of seat) made.new) ≡ Rule.Becomes slot (Rule.to_all (seat_of seat) Rule.signal (instr_of instr.now)) }
 {
     to_all(seat, SIGNAL, instr, made);
     Outcome::Becomes { slot }
 }
 
 fn excluded(rule: u8) -> Outcome
-    ensures { (made : Made) → outcome_by result made ≡ Rule.Excluded rule }
+    ensures { (made : List Token) → outcome_by result made ≡ Rule.Excluded rule }
 {
     Outcome::Excluded { rule }
 }
@@ -560,17 +601,17 @@ fn meets<C: Instructions>(
     requires short { IsShort (C.width code.now) seat.ip instr.now }
     requires slot_room { HasRoomInSlot slot }
     requires word_room { HasRoomInWord word }
-    ensures { outcome_by result made.new ≡ Rule.meets (C.program code.now) (seat_of seat) (instr_of instr.now) slot port word }
+    ensures { outcome_by result (tokens_of (seat_of seat) made.new) ≡ Rule.meets (C.program code.now) (seat_of seat) (instr_of instr.now) slot port word }
 {
     match (slot, port) {
         (SlotState::Empty, Port::Left) => becomes(SlotState::Left(word), made),
         (SlotState::Empty, Port::Right) => becomes(SlotState::Right(word), made),
         (SlotState::Left(left), Port::Right) => {
-            let fired = fire_two(code, seat, instr, left, word, made);
+            let fired = fire_two(code, seat, instr, instr.op, left, word, made);
             fires(SlotState::Empty, fired)
         }
         (SlotState::Right(right), Port::Left) => {
-            let fired = fire_two(code, seat, instr, word, right, made);
+            let fired = fire_two(code, seat, instr, instr.op, word, right, made);
             fires(SlotState::Empty, fired)
         }
         _ => excluded(3),
@@ -579,10 +620,7 @@ fn meets<C: Instructions>(
 
 // The first credits of a loop, but for the one that begins it.
 fn opens(seat: Seat, instr: &Instruction, bound: u8, slot: SlotState, made: &mut Made) -> Outcome
-    requires near { seat.ip < 2 ^ 30 }
-    requires first_short { IfSome instr.now.first (λ d. d.ahead < 2 ^ 30) }
-    requires second_short { IfSome instr.now.second (λ d. d.ahead < 2 ^ 30) }
-    ensures { outcome_by result made.new ≡ Rule.opens (seat_of seat) (instr_of instr.now) bound slot }
+    ensures { outcome_by result (tokens_of (seat_of seat) made.new) ≡ Rule.opens (seat_of seat) (instr_of instr.now) bound slot }
 {
     match slot {
         SlotState::Empty => {
@@ -595,7 +633,7 @@ fn opens(seat: Seat, instr: &Instruction, bound: u8, slot: SlotState, made: &mut
 
 // A credit is taken, or whoever asks for it waits.
 fn takes(slot: SlotState, word: Word, made: &mut Made) -> Outcome
-    ensures { outcome_by result made.new ≡ Rule.takes slot word }
+    ensures { (s : Rule.Seat) → outcome_by result (tokens_of s made.new) ≡ Rule.takes slot word }
 {
     match (slot, word) {
         (SlotState::Credits(0), Word::Back(cont)) => becomes(SlotState::Waiter(cont), made),
@@ -609,10 +647,7 @@ fn takes(slot: SlotState, word: Word, made: &mut Made) -> Outcome
 
 // A credit comes back.
 fn gives(seat: Seat, instr: &Instruction, bound: u8, slot: SlotState, made: &mut Made) -> Outcome
-    requires near { seat.ip < 2 ^ 30 }
-    requires first_short { IfSome instr.now.first (λ d. d.ahead < 2 ^ 30) }
-    requires second_short { IfSome instr.now.second (λ d. d.ahead < 2 ^ 30) }
-    ensures { outcome_by result made.new ≡ Rule.gives (seat_of seat) (instr_of instr.now) bound slot }
+    ensures { outcome_by result (tokens_of (seat_of seat) made.new) ≡ Rule.gives (seat_of seat) (instr_of instr.now) bound slot }
 {
     match slot {
         SlotState::Credits(credits) => {
@@ -632,10 +667,7 @@ fn gives(seat: Seat, instr: &Instruction, bound: u8, slot: SlotState, made: &mut
 
 // The loop has ended: the credits that are still out are waited for.
 fn drains(seat: Seat, instr: &Instruction, bound: u8, slot: SlotState, made: &mut Made) -> Outcome
-    requires near { seat.ip < 2 ^ 30 }
-    requires first_short { IfSome instr.now.first (λ d. d.ahead < 2 ^ 30) }
-    requires second_short { IfSome instr.now.second (λ d. d.ahead < 2 ^ 30) }
-    ensures { outcome_by result made.new ≡ Rule.drains (seat_of seat) (instr_of instr.now) bound slot }
+    ensures { outcome_by result (tokens_of (seat_of seat) made.new) ≡ Rule.drains (seat_of seat) (instr_of instr.now) bound slot }
 {
     let bound = u32::from(bound);
     match slot {
@@ -666,7 +698,7 @@ pub fn fire<C: Instructions>(
     requires short { IsShort (C.width code.now) seat.ip instr.now }
     requires slot_room { HasRoomInSlot slot }
     requires word_room { HasRoomInWord word }
-    ensures { outcome_by result made.new ≡ Rule.outcome_of (C.program code.now) (seat_of seat) (instr_of instr.now) instr.now.op slot port word }
+    ensures { outcome_by result (tokens_of (seat_of seat) made.new) ≡ Rule.outcome_of (C.program code.now) (seat_of seat) (instr_of instr.now) instr.now.op slot port word }
 {
     match instr.op {
         Op::Apply2 { .. }
@@ -697,7 +729,7 @@ fn fire_left<C: Instructions>(
     requires slot_room { HasRoomInSlot slot }
     requires word_room { HasRoomInWord word }
     requires left { TakesLeftAlone instr.now.op }
-    ensures { outcome_by result made.new ≡ Rule.outcome_of (C.program code.now) (seat_of seat) (instr_of instr.now) instr.now.op slot Left word }
+    ensures { outcome_by result (tokens_of (seat_of seat) made.new) ≡ Rule.outcome_of (C.program code.now) (seat_of seat) (instr_of instr.now) instr.now.op slot Left word }
 {
     match instr.op {
         Op::Open { bound } => opens(seat, instr, bound, slot, made),
@@ -712,7 +744,7 @@ fn fire_left<C: Instructions>(
         | Op::Fetch { .. }
         | Op::Frame
         | Op::Link { .. } => {
-            let fired = fire_one(code, seat, instr, word, made);
+            let fired = fire_one(code, seat, instr, instr.op, word, made);
             fires(slot, fired)
         }
         _ => unreachable!(),

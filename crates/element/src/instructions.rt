@@ -4,22 +4,62 @@ ghost use Rattle.std.specs.Prelude.{◌≡◌, ℕ, ◌+◌, ◌<◌, ◌^◌, I
 ghost use Rattle.std.specs.Option.{option_map};
 ghost use Rattle.semantics.specs.Program.{Program, instr_at, first_of};
 ghost use Rattle.semantics.specs.Rule.{array_base, array_len};
-ghost use Rattle.element.specs.Decoded.{instr_of, IsShort};
+ghost use Rattle.element.specs.Decoded as Decoded;
+ghost use Rattle.element.specs.Decoded.{instr_of, origin_in, IsShort};
 
 use semantics::program::{Dest, Op};
-use tags::value::Origin;
+use tags::token::Port;
+use tags::value::{NodeNumber, Origin};
 
 /// An instruction with at most two destinations. A switch sends to the first where it is true and else to the second; a
-/// link has its landing in the first and a signal to the second; any other sends to both.
+/// link has its landing in the first and a signal to the second; any other sends to both. Destinations and origin are the
+/// bits of an object, so that only what is needed of them is unpacked.
 #[derive(Clone, Copy, Debug, PartialEq, Eq)]
 pub struct Instruction {
     pub op: Op,
-    /// Where a fault that the instruction makes says that it was made.
-    pub origin: Origin,
+    /// The number of the origin: 0 for one that is not told, else one more than 1,024 times the block and the node.
+    pub origin: u64,
     /// The slot of its frame in which its operands meet; 0 where it has none.
     pub slot: u32,
-    pub first: Option<Dest>,
-    pub second: Option<Dest>,
+    /// The half word of the first destination: 15 bits of how many instructions it lies ahead, 0 where there is none, and
+    /// above them the bit of the right port.
+    pub first: u32,
+    /// That of the second one.
+    pub second: u32,
+}
+
+impl Instruction {
+    /// Where a fault that the instruction makes says that it was made.
+    #[inline(always)]
+    pub fn origin(&self) -> Origin
+        ensures { result ≡ origin_in self.now.origin }
+    {
+        if self.origin == 0 {
+            return Origin::Untold;
+        }
+        let place = self.origin - 1;
+        Origin::At {
+            block: (place / 1024 % 256) as u8,
+            node: NodeNumber::new((place % 1024) as u16),
+        }
+    }
+}
+
+/// The destination that a half word tells, if it tells one.
+#[inline(always)]
+pub fn dest_in(half: u32) -> Option<Dest>
+    ensures { result ≡ Decoded.dest_in half }
+{
+    let ahead = half % 32_768;
+    if ahead == 0 {
+        return None;
+    }
+    let port = if half / 32_768 == 0 {
+        Port::Left
+    } else {
+        Port::Right
+    };
+    Some(Dest { ahead, port })
 }
 
 /// An array among the cells of all arrays.

@@ -13,17 +13,18 @@ ghost use Rattle.element.specs.Parts.{slot_place, bounds};
 ghost use Rattle.std.specs.Prelude.{List};
 ghost use Rattle.tags.specs.Addresses.{element_of};
 ghost use Rattle.semantics.specs.Program.{Program, instr_at};
-ghost use Rattle.semantics.specs.Rule.{slot_of, fire_one, fire_two};
-ghost use Rattle.element.specs.Decoded.{instr_of, IsShort, IsPair, IsLone};
+ghost use Rattle.semantics.specs.Rule.{slot_of};
+ghost use Rattle.element.specs.Decoded.{instr_of, IsShort, IsPair};
+ghost use Rattle.element.specs.Outcomes.{FiringIs};
 ghost use Rattle.element.specs.Near.{IsNearToken};
 ghost use Rattle.element.specs.Acts.{ActsAs, FiresAs};
 ghost use Rattle.element.specs.Steps.{Steps, Picks};
 ghost use Rattle.element.specs.Openings.{opened, shape_at, IsOpening, StartsAs};
 ghost use Rattle.element.specs.Changed.{with_state, with_state_in, state_in, UsesSlot, OwnsCell, IsHostChange, CanFill, filled, IsRequested, IsReleased};
-ghost use Rattle.element.specs.Fired.{seat_of, tokens_of, outside_of, to_target, HasRoomInWord};
+ghost use Rattle.element.specs.Fired.{seat_of, tokens_of, outside_of, to_half, HasRoomInWord, HasRoomInSlot};
 
-use crate::firing::{Made, NONE, Outcome, SIGNAL, Seat, Target, answer, fire, fire_one, fire_two};
-use crate::instructions::{Instruction, Instructions};
+use crate::firing::{Firing, Made, Meeting, NONE, Outcome, SIGNAL, Seat, answer, at_lone, fire, fire_two, firing_of, meeting};
+use crate::instructions::{Instruction, Instructions, dest_in};
 use arrayvec::ArrayVec;
 use frame_manager::{Manager, NotOut};
 use frame_store::bank::BankMut;
@@ -227,30 +228,25 @@ impl<'m, A: Allocator> Lane<'m, A> {
         }
     }
 
-    // Sends a word to a port of a frame, if there is one.
+    // Sends a word to the destination that a half word tells, if it tells one.
     #[inline(always)]
-    fn send_to(
-        &mut self,
-        frame: FrameId,
-        word: &Word,
-        target: Option<Target>,
-        sent: &mut Vec<Token, A>,
-    )
+    fn send_to(&mut self, seat: Seat, word: &Word, half: u32, sent: &mut Vec<Token, A>)
         requires some { 0 < self.old.elements }
+        requires near { seat.ip < 2 ^ 30 }
         requires room { deque_len self.old.queue < deque_capacity self.old.queue }
         requires sent_room { vec_len sent.old < vec_capacity sent.old }
-        ensures held { held_of self.new ≡ queued (held_of self.old) (to_target frame word.now target) }
-        ensures sent { sent.new.items ≡ sent.old.items ++ elsewhere (shape_of self.old) (to_target frame word.now target) }
+        ensures held { held_of self.new ≡ queued (held_of self.old) (to_half (seat_of seat) word.now half) }
+        ensures sent { sent.new.items ≡ sent.old.items ++ elsewhere (shape_of self.old) (to_half (seat_of seat) word.now half) }
         ensures len { deque_len self.new.queue ≤ deque_len self.old.queue + 1 }
         ensures capacity { deque_capacity self.new.queue ≡ deque_capacity self.old.queue }
         ensures sent_len { vec_len sent.new ≤ vec_len sent.old + 1 }
         ensures sent_capacity { vec_capacity sent.new ≡ vec_capacity sent.old }
     {
-        if let Some(target) = target {
+        if let Some(dest) = dest_in(half) {
             let to = To::Instr {
-                frame,
-                ip: target.ip,
-                port: target.port,
+                frame: seat.frame,
+                ip: seat.ip + dest.ahead,
+                port: dest.port,
             };
             self.send(Token { to, word: *word }, sent);
         }
@@ -280,16 +276,17 @@ impl<'m, A: Allocator> Lane<'m, A> {
 
     // Sends what an instruction made, in order.
     #[inline(always)]
-    fn send_all(&mut self, made: &Made, sent: &mut Vec<Token, A>)
+    fn send_all(&mut self, seat: Seat, made: &Made, sent: &mut Vec<Token, A>)
         requires some { 0 < self.old.elements }
+        requires near { seat.ip < 2 ^ 30 }
         requires room { deque_len self.old.queue + 4 ≤ deque_capacity self.old.queue }
         requires sent_room { vec_len sent.old + 4 ≤ vec_capacity sent.old }
-        ensures held { held_of self.new ≡ queued (held_of self.old) (tokens_of made.now) }
-        ensures sent { sent.new.items ≡ sent.old.items ++ elsewhere (shape_of self.old) (tokens_of made.now) }
+        ensures held { held_of self.new ≡ queued (held_of self.old) (tokens_of (seat_of seat) made.now) }
+        ensures sent { sent.new.items ≡ sent.old.items ++ elsewhere (shape_of self.old) (tokens_of (seat_of seat) made.now) }
     {
         self.send_outside(made, sent);
-        self.send_to(made.frame, &made.word, made.first, sent);
-        self.send_to(made.frame, &made.word, made.second, sent);
+        self.send_to(seat, &made.word, made.first, sent);
+        self.send_to(seat, &made.word, made.second, sent);
     }
 
     // Sends a value to each reader that is listed, in order, and clears the list.
@@ -356,24 +353,15 @@ impl<'m, A: Allocator> Lane<'m, A> {
         let Some(instr) = code.instr(seat.ip) else {
             return Stepped::Stuck { rule: 1 };
         };
-        match instr.op {
-            Op::Apply2 { .. }
-            | Op::Sync
-            | Op::Switch
-            | Op::Store { .. }
-            | Op::Send { .. }
-            | Op::Return { .. }
-            | Op::Ask { .. }
-            | Op::Release { .. } => self.at_pair(code, at, token, seat, &instr, port, sent),
-            Op::Apply1 { .. }
-            | Op::Apply2Right { .. }
-            | Op::Apply2Left { .. }
-            | Op::Lit { .. }
-            | Op::Copy
-            | Op::Fetch { .. }
-            | Op::Frame
-            | Op::Link { .. } => self.at_lone(code, at, token, seat, &instr, port, sent),
-            _ => self.read_again(code, at, token, seat, port, sent),
+        let mut made = NONE;
+        match self.firing(code, seat, &instr, port, token.word, &mut made) {
+            Firing::Waits { state } => {
+                self.wait(at, seat.frame, instr.slot, state);
+                Stepped::Did
+            }
+            Firing::Fires { cleared } => self.finish(at, seat, cleared, &made, sent),
+            Firing::Excluded { rule } => Stepped::Stuck { rule },
+            Firing::Other => self.read_again(code, at, token, seat, port, sent),
         }
     }
 
@@ -436,53 +424,84 @@ impl<'m, A: Allocator> Lane<'m, A> {
                 }
                 self.keep(seat.frame, &instr, slot);
                 self.take(at);
-                self.send_all(&made, sent);
+                self.send_all(seat, &made, sent);
                 Stepped::Did
             }
+        }
+    }
+
+    // What comes of a token at an instruction with one input or with two.
+    #[inline(always)]
+    fn firing<C: Instructions>(
+        &self,
+        code: &C,
+        seat: Seat,
+        instr: &Instruction,
+        port: Port,
+        word: Word,
+        made: &mut Made,
+    ) -> Firing
+        requires some { 0 < self.now.elements }
+        requires bank { IsBank self.now.bank }
+        requires frame { seat.frame < self.now.elements * self.now.bank.frames }
+        requires slot { instr.now.slot < self.now.bank.width }
+        requires short { IsShort (C.width code.now) seat.ip instr.now }
+        requires held { HasRoomInSlot (slice_index_or (part_of self.now).states (slot_place (shape_of self.now) seat.frame instr.now.slot) Empty) }
+        requires word { HasRoomInWord word }
+        ensures { FiringIs (C.program code.now) (part_of self.now) (seat_of seat) (instr_of instr.now) port word result (tokens_of (seat_of seat) made.new) }
+    {
+        match instr.op {
+            Op::Apply2 { op } => self.at_pair(code, seat, instr, Op::Apply2 { op }, port, word, made),
+            Op::Sync => self.at_pair(code, seat, instr, Op::Sync, port, word, made),
+            Op::Switch => self.at_pair(code, seat, instr, Op::Switch, port, word, made),
+            Op::Store { array } => self.at_pair(code, seat, instr, Op::Store { array }, port, word, made),
+            Op::Send { block, entry } => self.at_pair(code, seat, instr, Op::Send { block, entry }, port, word, made),
+            Op::Return { offset } => self.at_pair(code, seat, instr, Op::Return { offset }, port, word, made),
+            Op::Ask { offset } => self.at_pair(code, seat, instr, Op::Ask { offset }, port, word, made),
+            Op::Release { offset } => self.at_pair(code, seat, instr, Op::Release { offset }, port, word, made),
+            Op::Apply1 { op } => at_lone(code, seat, instr, Op::Apply1 { op }, port, word, made),
+            Op::Apply2Right { op, literal } => at_lone(code, seat, instr, Op::Apply2Right { op, literal }, port, word, made),
+            Op::Apply2Left { op, literal } => at_lone(code, seat, instr, Op::Apply2Left { op, literal }, port, word, made),
+            Op::Lit { literal } => at_lone(code, seat, instr, Op::Lit { literal }, port, word, made),
+            Op::Copy => at_lone(code, seat, instr, Op::Copy, port, word, made),
+            Op::Fetch { array } => at_lone(code, seat, instr, Op::Fetch { array }, port, word, made),
+            Op::Frame => at_lone(code, seat, instr, Op::Frame, port, word, made),
+            Op::Link { block } => at_lone(code, seat, instr, Op::Link { block }, port, word, made),
+            _ => Firing::Other,
         }
     }
 
     // An instruction with two inputs: the first token waits in the slot for the second.
     #[inline(always)]
     fn at_pair<C: Instructions>(
-        &mut self,
+        &self,
         code: &C,
-        at: usize,
-        token: Token,
         seat: Seat,
         instr: &Instruction,
+        op: Op,
         port: Port,
-        sent: &mut Vec<Token, A>,
-    ) -> Stepped
-        requires sound { IsSoundLane (C.program code.now) (held_of self.old) }
-        requires width { C.width code.now ≤ self.old.bank.width }
-        requires there { at < deque_len self.old.queue }
-        requires few { self.old.made < 2 ^ 63 }
-        requires address { token.to ≡ To.Instr seat.frame seat.ip port }
-        requires near { IsNearToken (bounds (C.program code.now) (shape_of self.old)) token }
-        requires addressed { element_of self.old.elements token.to ≡ self.old.element }
-        requires found { instr_at (C.program code.now) seat.ip ≡ Some (instr_of instr.now) }
+        word: Word,
+        made: &mut Made,
+    ) -> Firing
+        requires some { 0 < self.now.elements }
+        requires bank { IsBank self.now.bank }
+        requires frame { seat.frame < self.now.elements * self.now.bank.frames }
+        requires slot { instr.now.slot < self.now.bank.width }
         requires short { IsShort (C.width code.now) seat.ip instr.now }
-        requires pair { IsPair instr.now.op }
-        ensures { ActsAs (C.program code.now) (held_of self.old) at token sent.old.items result (held_of self.new) sent.new.items }
+        requires same { instr.now.op ≡ op }
+        requires pair { IsPair op }
+        requires held { HasRoomInSlot (slice_index_or (part_of self.now).states (slot_place (shape_of self.now) seat.frame instr.now.slot) Empty) }
+        requires word { HasRoomInWord word }
+        ensures { FiringIs (C.program code.now) (part_of self.now) (seat_of seat) (instr_of instr.now) port word result (tokens_of (seat_of seat) made.new) }
     {
         let held = self.slot_state(seat.frame, instr.slot);
-        match (held, port) {
-            (SlotState::Empty, Port::Left) => {
-                self.wait(at, seat.frame, instr.slot, SlotState::Left(token.word));
-                Stepped::Did
+        match meeting(held, port, word) {
+            Meeting::Both { left, right } => {
+                let fired = fire_two(code, seat, instr, op, left, right, made);
+                firing_of(Some(instr.slot), fired)
             }
-            (SlotState::Empty, Port::Right) => {
-                self.wait(at, seat.frame, instr.slot, SlotState::Right(token.word));
-                Stepped::Did
-            }
-            (SlotState::Left(left), Port::Right) => {
-                self.fire_pair(code, at, seat, instr, left, token.word, sent)
-            }
-            (SlotState::Right(right), Port::Left) => {
-                self.fire_pair(code, at, seat, instr, token.word, right, sent)
-            }
-            _ => Stepped::Stuck { rule: 3 },
+            Meeting::Waits { state } => Firing::Waits { state },
+            Meeting::Apart => Firing::Excluded { rule: 3 },
         }
     }
 
@@ -501,96 +520,33 @@ impl<'m, A: Allocator> Lane<'m, A> {
         self.take(at);
     }
 
-    // Both words are there: the slot is empty then.
+    // The slot that is cleared is empty then, the token is taken out, and what was made is sent.
     #[inline(always)]
-    fn fire_pair<C: Instructions>(
+    fn finish(
         &mut self,
-        code: &C,
         at: usize,
         seat: Seat,
-        instr: &Instruction,
-        left: Word,
-        right: Word,
+        cleared: Option<u32>,
+        made: &Made,
         sent: &mut Vec<Token, A>,
     ) -> Stepped
         requires some { 0 < self.old.elements }
         requires bank { IsBank self.old.bank }
+        requires near { seat.ip < 2 ^ 30 }
         requires frame { seat.frame < self.old.elements * self.old.bank.frames }
-        requires slot { instr.now.slot < self.old.bank.width }
+        requires slot { IfSome cleared (λ slot. slot < self.old.bank.width) }
         requires there { at < deque_len self.old.queue }
         requires few { self.old.made < 2 ^ 63 }
-        requires short { IsShort (C.width code.now) seat.ip instr.now }
-        requires room { HasRoomInWord left }
-        ensures { FiresAs (fire_two (C.program code.now) (seat_of seat) (instr_of instr.now) instr.now.op left right) (with_state (part_of self.old) (slot_place (shape_of self.old) seat.frame instr.now.slot) Empty) (held_of self.old) at sent.old.items result (held_of self.new) sent.new.items }
+        ensures { FiresAs (Some (tokens_of (seat_of seat) made.now)) (with_state_in (part_of self.old) seat.frame cleared Empty) (held_of self.old) at sent.old.items result (held_of self.new) sent.new.items }
     {
-        let mut made = NONE;
-        if !fire_two(code, seat, instr, left, right, &mut made) {
-            return Stepped::Stuck { rule: 4 };
-        }
         if self.make_room(4, sent).is_err() {
             return Stepped::Memory;
         }
-        self.set_slot(seat.frame, instr.slot, SlotState::Empty);
-        self.take(at);
-        self.send_all(&made, sent);
-        Stepped::Did
-    }
-
-    // An instruction with one input.
-    #[inline(always)]
-    fn at_lone<C: Instructions>(
-        &mut self,
-        code: &C,
-        at: usize,
-        token: Token,
-        seat: Seat,
-        instr: &Instruction,
-        port: Port,
-        sent: &mut Vec<Token, A>,
-    ) -> Stepped
-        requires sound { IsSoundLane (C.program code.now) (held_of self.old) }
-        requires width { C.width code.now ≤ self.old.bank.width }
-        requires there { at < deque_len self.old.queue }
-        requires few { self.old.made < 2 ^ 63 }
-        requires address { token.to ≡ To.Instr seat.frame seat.ip port }
-        requires near { IsNearToken (bounds (C.program code.now) (shape_of self.old)) token }
-        requires addressed { element_of self.old.elements token.to ≡ self.old.element }
-        requires found { instr_at (C.program code.now) seat.ip ≡ Some (instr_of instr.now) }
-        requires short { IsShort (C.width code.now) seat.ip instr.now }
-        requires lone { IsLone instr.now.op }
-        ensures { ActsAs (C.program code.now) (held_of self.old) at token sent.old.items result (held_of self.new) sent.new.items }
-    {
-        match port {
-            Port::Left => self.fire_lone(code, at, token.word, seat, instr, sent),
-            Port::Right => Stepped::Stuck { rule: 2 },
-        }
-    }
-
-    #[inline(always)]
-    fn fire_lone<C: Instructions>(
-        &mut self,
-        code: &C,
-        at: usize,
-        word: Word,
-        seat: Seat,
-        instr: &Instruction,
-        sent: &mut Vec<Token, A>,
-    ) -> Stepped
-        requires some { 0 < self.old.elements }
-        requires there { at < deque_len self.old.queue }
-        requires few { self.old.made < 2 ^ 63 }
-        requires short { IsShort (C.width code.now) seat.ip instr.now }
-        ensures { FiresAs (fire_one (C.program code.now) (seat_of seat) (instr_of instr.now) instr.now.op word) (part_of self.old) (held_of self.old) at sent.old.items result (held_of self.new) sent.new.items }
-    {
-        let mut made = NONE;
-        if !fire_one(code, seat, instr, word, &mut made) {
-            return Stepped::Stuck { rule: 4 };
-        }
-        if self.make_room(4, sent).is_err() {
-            return Stepped::Memory;
+        if let Some(slot) = cleared {
+            self.set_slot(seat.frame, slot, SlotState::Empty);
         }
         self.take(at);
-        self.send_all(&made, sent);
+        self.send_all(seat, made, sent);
         Stepped::Did
     }
 

@@ -6,7 +6,7 @@ ghost use Rattle.std.specs.Option.{option_map};
 ghost use Rattle.semantics.specs.Program.{first_of};
 ghost use Rattle.semantics.specs.Machine.{outputs_of};
 ghost use Rattle.element.specs.Decoded.{instr_of};
-ghost use Rattle.object_view.specs.Reading.{shown};
+ghost use Rattle.object_view.specs.Reading.{shown, unpacked};
 ghost use Rattle.schedule.specs.Setting.{FitsSlots};
 ghost use Rattle.loaded.specs.Ready.{widest, inputs_of};
 
@@ -16,7 +16,7 @@ mod tests;
 
 use element::instructions::{Array, Instruction, Instructions};
 use making::{arrays_of, cells_of, entries_of, most_slots};
-use object_view::{CodeInstr, Object};
+use object_view::{Object, PackedInstr};
 use schedule::main_code::MainCode;
 use std::alloc::{AllocError, Allocator};
 use std::marker::Model;
@@ -48,10 +48,10 @@ impl<'a, A: Allocator> Model for Loaded<'a, A> {
     ghost invariant = { λ l. IsReady l.object l.entries.items l.arrays.items l.instrs l.cells l.slots };
 }
 
-// With its destinations where an element looks for them.
+// The same instruction, as an element reads it.
 #[inline(always)]
-fn instruction_of(instr: CodeInstr) -> Instruction
-    ensures { instr_of result ≡ shown instr }
+fn instruction_of(instr: PackedInstr) -> Instruction
+    ensures { instr_of result ≡ shown (unpacked instr) }
 {
     Instruction {
         op: instr.op,
@@ -144,7 +144,7 @@ impl<'a, A: Allocator> Instructions for Loaded<'a, A> {
 
     #[inline(always)]
     fn instr(&self, ip: u32) -> Option<Instruction> {
-        match self.object.instr(ip) {
+        match self.object.packed(ip) {
             Some(instr) => Some(instruction_of(instr)),
             None => None,
         }

@@ -9,6 +9,7 @@ use Rattle.object_view.specs.declared.object.Version.TheVariants.{One, Two}
 use Rattle.object_view.specs.declared.opcode.Opcode.{Opcode}
 use Rattle.object_view.specs.declared.opcode.Opcode.TheVariants.{Copy}
 use Rattle.object_view.specs.declared.instr.CodeInstr.{CodeInstr}
+use Rattle.object_view.specs.declared.instr.PackedInstr.{PackedInstr}
 use Rattle.object_view.specs.Fields.{word_at, version_number, count_in, inputs_in, outputs_in, slots_in, opcode_in, slot_in, dest_of, first_half, second_half, operand_in, origin_number, origin_of, with}
 
 -- what a function gives for so many numbers in a row
@@ -19,6 +20,10 @@ listed f i (suc k) = f i ∷ listed f (i + 1) k
 -- what stands behind an instruction without memory: at most one destination of each kind
 abbrev pub shown : CodeInstr → Instr
 shown i = record { op = i.op; origin = i.origin; slot = i.slot; firsts = option_to_list i.first; seconds = option_to_list i.second }
+
+-- an instruction whose destinations and origin are bits
+abbrev pub unpacked : PackedInstr → CodeInstr
+unpacked i = record { op = i.op; origin = origin_of i.origin; slot = i.slot; first = dest_of i.first; second = dest_of i.second }
 
 -- WHERE THINGS STAND. Word 0 is the mark, word 1 the version, word 2 the number of blocks, word 3 of literals, word 4 of
 -- arrays, and word 5 the block that is run.

@@ -1,5 +1,9 @@
 //! Instructions as they stand in an object.
 
+ghost use Rattle.std.specs.Prelude.{◌≡◌};
+ghost use Rattle.object_view.specs.Reading as Reading;
+
+use crate::words;
 use semantics::program::{Dest, Op};
 use tags::value::Origin;
 
@@ -14,4 +18,34 @@ pub struct CodeInstr {
     pub slot: u32,
     pub first: Option<Dest>,
     pub second: Option<Dest>,
+}
+
+/// An instruction of which the destinations and the origin are still the bits of the object, for whoever may not need them.
+#[derive(Clone, Copy, Debug, PartialEq, Eq)]
+pub struct PackedInstr {
+    pub op: Op,
+    /// The number of the origin: 0 for one that is not told, else one more than 1,024 times the block and the node.
+    pub origin: u64,
+    pub slot: u32,
+    /// The half word of the first destination: 15 bits of how many instructions it lies ahead, 0 where there is none, and
+    /// above them the bit of the right port.
+    pub first: u32,
+    /// That of the second one.
+    pub second: u32,
+}
+
+impl PackedInstr {
+    /// The instruction.
+    #[inline(always)]
+    pub fn unpacked(self) -> CodeInstr
+        ensures { result ≡ Reading.unpacked self }
+    {
+        CodeInstr {
+            op: self.op,
+            origin: words::origin_of(self.origin),
+            slot: self.slot,
+            first: words::dest_of(self.first),
+            second: words::dest_of(self.second),
+        }
+    }
 }

@@ -12,7 +12,7 @@ mod words;
 mod writing;
 
 pub use fault::ObjectFault;
-pub use instr::CodeInstr;
+pub use instr::{CodeInstr, PackedInstr};
 pub use object::{BlockView, Object, Version, one_spelling};
 pub use writing::{upgrade, write};
 

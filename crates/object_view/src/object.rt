@@ -6,7 +6,7 @@ ghost use Rattle.semantics.specs.Bytes.{IsObject};
 ghost use Rattle.object_view.specs.Unique.{ReadsBack, IsUnique, AllOpen};
 
 use crate::fault::ObjectFault;
-use crate::instr::CodeInstr;
+use crate::instr::{CodeInstr, PackedInstr};
 use crate::tables::Tables;
 use std::marker::Model;
 
@@ -49,7 +49,7 @@ impl<'a> Model for Object<'a> {
 
 impl<'a> Object<'a> {
     ghost use Rattle.object_view.specs.Fields.{version_number};
-    ghost use Rattle.object_view.specs.Reading.{opened, shown, block_shown, instr_bytes};
+    ghost use Rattle.object_view.specs.Reading.{opened, shown, unpacked, block_shown, instr_bytes};
     ghost use Rattle.object_view.specs.Checks.{first_refusal};
 
     /// Opens the bytes where they lie, or says what is wrong with them first. Every object is opened, as the version and the
@@ -161,8 +161,18 @@ impl<'a> Object<'a> {
         Some(self.tables.instr_bytes(ip as usize))
     }
 
-    /// An instruction.
+    /// An instruction, with its destinations and its origin as they stand there.
     #[inline(always)]
+    pub fn packed(&self, ip: u32) -> Option<PackedInstr>
+        ensures { option_map (λ i. shown (unpacked i)) result ≡ instr_at self.now.code.program ip }
+    {
+        if ip as usize >= self.tables.instrs {
+            return None;
+        }
+        Some(self.tables.packed(ip as usize))
+    }
+
+    /// An instruction.
     pub fn instr(&self, ip: u32) -> Option<CodeInstr>
         ensures { option_map shown result ≡ instr_at self.now.code.program ip }
     {

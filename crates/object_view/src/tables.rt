@@ -4,7 +4,7 @@ ghost use Rattle.std.specs.Prelude.{◌≡◌, ◌+◌, ◌*◌, ◌<◌, ◌≤
 ghost use Rattle.object_view.specs.Fields as Fields;
 ghost use Rattle.object_view.specs.Reading as Reading;
 
-use crate::instr::CodeInstr;
+use crate::instr::{CodeInstr, PackedInstr};
 use crate::object::Version;
 use crate::opcode::Opcode;
 use crate::words::{self, Entry, Head};
@@ -165,23 +165,31 @@ impl<'a> Tables<'a> {
     }
 
     #[tactic(auto, unfolding(crate::specs::Reading::instr_in))]
-    /// An instruction.
+    /// An instruction, with its destinations and its origin as they stand there.
     #[inline(always)]
-    pub fn instr(&self, ip: usize) -> CodeInstr
+    pub fn packed(&self, ip: usize) -> PackedInstr
         requires { ip < self.now.instrs }
-        ensures { result ≡ Reading.instr_in (Fields.word_at self.now.bytes.now) ip }
+        ensures { Reading.unpacked result ≡ Reading.instr_in (Fields.word_at self.now.bytes.now) ip }
     {
         let head = self.head(ip);
         let word = self.operand_word(ip);
         let opcode = head.opcode().unwrap_or(Opcode::Copy);
         let (operand, origin) = self.parted(opcode, word);
-        CodeInstr {
-            op: self.op(opcode, operand),
-            origin: words::origin_of(origin),
+        PackedInstr {
+            origin,
             slot: head.slot(),
-            first: words::dest_of(head.first()),
-            second: words::dest_of(head.second()),
+            first: head.first(),
+            second: head.second(),
+            op: self.op(opcode, operand),
         }
+    }
+
+    /// An instruction.
+    pub fn instr(&self, ip: usize) -> CodeInstr
+        requires { ip < self.now.instrs }
+        ensures { result ≡ Reading.instr_in (Fields.word_at self.now.bytes.now) ip }
+    {
+        self.packed(ip).unpacked()
     }
 
     /// The number of a block's first instruction; of the number of blocks, the number of all instructions.

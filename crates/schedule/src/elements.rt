@@ -155,6 +155,20 @@ impl<'m, C: MainCode, A: Allocator> Elements<'m, C, A> {
     {
         match self.step(element, pick, log) {
             Some(Stepped::Did) => None,
+            other => self.halted(listed, other),
+        }
+    }
+
+    // Whether a run halts at a step that made no event.
+    #[cold]
+    #[inline(never)]
+    fn halted(&self, listed: bool, stepped: Option<Stepped>) -> Option<Halt>
+        requires well { IsWell C.program C.width self.now }
+        requires other { stepped ≢ Some Did }
+        ensures { Halts (state_of C.program C.width self.now) listed stepped result }
+    {
+        match stepped {
+            Some(Stepped::Did) => unreachable!(),
             None => (!listed).then_some(Halt::Steps),
             Some(Stepped::Idle) => (!self.has_tokens()).then_some(Halt::NoToken),
             Some(Stepped::Clash { cell }) => Some(Halt::Clash { cell }),
