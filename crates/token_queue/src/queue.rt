@@ -69,7 +69,6 @@ impl<A: Allocator> TokenQueue<A> {
     pub fn len(&self) -> usize
         ensures { result ≡ length self.now.items }
     {
-        let _ = self.places.len();
         self.count
     }
 
