@@ -109,8 +109,8 @@ module _ {X : Type 0} where
       is ∙ sym (get_or-ring N k n ys head count places (i + 1) x within) ∙ ap (λ zs. get_or zs (i + 1) x) was ∙ read xs at i x behind (omega arith) in
       ring_set N k n ys head count places i x (omega arith) ∙ ap (λ zs. set zs i x) was ∙ ap (set (closing xs at i) i) is_next ∙ closing_more xs at i x behind (omega arith)
 
-  pub closed_all : (k n : ℕ) (ys xs : List X) (at : ℕ) → n + 1 ≡ length xs → ring k (n + 1) ys ≡ closing xs at n → at < n + 1 → ring k n ys ≡ remove xs at
-  closed_all k n ys xs at long was there =
-      sym (take-take n (n + 1) (drop k ys ++ take k ys) (omega arith)) ∙ ap (take n) was
+  pub closed_all : (k m n : ℕ) (ys xs : List X) (at : ℕ) → m ≡ length xs → n + 1 ≡ m → ring k m ys ≡ closing xs at n → at < m → ring k n ys ≡ remove xs at
+  closed_all k m n ys xs at long more was there =
+      sym (take-take n m (drop k ys ++ take k ys) (omega arith)) ∙ ap (take n) was
       ∙ take_at (take n (remove xs at)) (drop n xs) n (front xs at n (omega arith) (omega arith))
       ∙ take_all n (remove xs at) (omega (arith, length-remove xs at (omega arith)))

@@ -147,10 +147,11 @@ impl<A: Allocator> TokenQueue<A> {
         ensures room { self.new.room ≡ self.old.room }
     {
         let places = self.places.len();
-        self.count -= 1;
-        for before in at..self.count {
+        let last = self.count - 1;
+        for before in at..last {
             let next = self.places[place(places, self.head, before + 1)];
             self.places[place(places, self.head, before)] = next;
         }
+        self.count = last;
     }
 }

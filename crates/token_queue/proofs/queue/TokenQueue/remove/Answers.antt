@@ -1,4 +1,4 @@
-use Rattle.std.proofs.Common.{◌≡◌, ◌+◌, length, set, get_or, sym, ap, ◌∙◌, arith, length-set}
+use Rattle.std.proofs.Common.{◌≡◌, ◌-◌, length, set, get_or, sym, ap, ◌∙◌, arith, length-set}
 use Rattle.token_queue.specs.Ring.{ring}
 use Rattle.token_queue.specs.Tokens.{Tokens}
 use Rattle.token_queue.proofs.Rings.{ring_long, closed_more, closed_all, closing}
@@ -20,8 +20,8 @@ loop-before-preserved g c =
       head = inv.head;
       count = inv.count;
       items =
-          ap (λ at. ring q.head (q.count + 1) (set ys at c.index-next.result.now)) c.place-in-loop-before.ensures.exact
-          ∙ closed_more N q.head (q.count + 1) ys c.args.self.now.items c.args.at i c.index-next.result.now (omega arith) (omega arith) same (omega arith) inv.items (omega arith) (omega arith)
+          ap (λ at. ring q.head q.count (set ys at c.index-next.result.now)) c.place-in-loop-before.ensures.exact
+          ∙ closed_more N q.head q.count ys c.args.self.now.items c.args.at i c.index-next.result.now (omega arith) (omega arith) same (omega arith) inv.items (omega arith) (omega arith)
           (c.index-next.ensures ∙ ap (λ at. get_or ys at c.index-next.result.now) c.place.ensures.exact);
     }
 
@@ -32,5 +32,5 @@ returns-clause-items g c =
     let long : length c.args.self.now.items ≡ c.self.inside.count = ap (λ (t : Tokens). length t.items) (sym c.self.view_is) ∙ ring_long c.self.inside.head c.self.inside.count c.self.inside.places.items c.self.invariant.fits in
     let some = c.requires in
     let done = c.loop-before-test.false in
-    let last : c.loop-before.before ≡ q.count = omega arith in
-    closed_all q.head q.count q.places.items c.args.self.now.items c.args.at (omega arith) (inv.items ∙ ap (λ i. closing c.args.self.now.items c.args.at i) last) (omega arith)
+    let last : c.loop-before.before ≡ c.self.inside.count - 1 = omega arith in
+    closed_all q.head q.count (c.self.inside.count - 1) q.places.items c.args.self.now.items c.args.at (omega arith) (omega arith) (inv.items ∙ ap (λ i. closing c.args.self.now.items c.args.at i) last) (omega arith)
