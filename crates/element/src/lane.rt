@@ -2,7 +2,6 @@
 
 ghost use Rattle.std.specs.Prelude.{◌≡◌, ℕ, ◌+◌, ◌*◌, ◌%◌, ◌<◌, ◌≤◌, ◌^◌, [], ◌∷◌, ◌++◌, ◌/◌, ◌==◌, length, All, OnOk, OnErr, IfOk, IfSome, IfNone, Some, None, IsSome, replicate, vec_len, option_to_list, slice_index_or, remove};
 ghost use Rattle.std.specs.Vec.{vec_capacity};
-ghost use Rattle.std.specs.VecDeque.{deque_len, deque_capacity};
 ghost use Rattle.tags.specs.declared.token.Token.{Token};
 ghost use Rattle.tags.specs.declared.token.To.{To};
 ghost use Rattle.element.specs.Held.{held_of, part_of, shape_of, here, elsewhere, queued, taken, cleared, with_queue, with_part, IsSoundLane};
@@ -30,10 +29,10 @@ use frame_store::bank::BankMut;
 use istructure::{Cells, FetchAnswer, StoreAnswer};
 use semantics::program::Op;
 use std::alloc::{AllocError, Allocator};
-use std::collections::VecDeque;
 use tags::slot::SlotState;
 use tags::token::{Cont, FrameId, Port, To, Token, Word};
 use tags::value::Value;
+use token_queue::queue::TokenQueue;
 
 /// What a step did.
 #[derive(Clone, Copy, Debug, PartialEq, Eq)]
@@ -60,7 +59,7 @@ pub struct Lane<'m, A: Allocator> {
     pub cells: Cells<A>,
     pub manager: Option<Manager<A>>,
     /// The tokens, oldest first.
-    pub queue: VecDeque<Token, A>,
+    pub queue: TokenQueue<A>,
     pub outputs: ArrayVec<Option<Value>, 16>,
     pub done: bool,
     /// How many events it has made.
@@ -112,7 +111,7 @@ impl<'m, A: Allocator> Lane<'m, A> {
         ensures exact { IfOk result (λ lane. held_of lane ≡ opened (shape_at element elements bank.entry) (bank_states bank.entry) cells manager outputs) }
         ensures starts { IfOk result (λ lane. (p : Program) → IsOpening p (part_of lane) → IsSoundLane p (held_of lane) × StartsAs p (part_of lane)) }
     {
-        let queue = VecDeque::new(alloc.clone()?);
+        let queue = TokenQueue::new(alloc.clone()?);
         Ok(Lane {
             element,
             elements,
@@ -149,7 +148,7 @@ impl<'m, A: Allocator> Lane<'m, A> {
             return None;
         }
         let at = among(pick, waiting);
-        Some(self.queue[at])
+        Some(self.queue.get(at))
     }
 
     // Makes room for so many tokens. After an error all stands as before.
@@ -157,7 +156,7 @@ impl<'m, A: Allocator> Lane<'m, A> {
     fn make_room(&mut self, tokens: usize, sent: &mut Vec<Token, A>) -> Result<(), AllocError>
         ensures held { held_of self.new ≡ held_of self.old }
         ensures sent { sent.new.items ≡ sent.old.items }
-        ensures room { OnOk result (deque_len self.new.queue + tokens ≤ deque_capacity self.new.queue) }
+        ensures room { OnOk result (length self.new.queue.items + tokens ≤ self.new.queue.room) }
         ensures sent_room { OnOk result (vec_len sent.new + tokens ≤ vec_capacity sent.new) }
     {
         self.queue.reserve(tokens)?;
@@ -167,16 +166,16 @@ impl<'m, A: Allocator> Lane<'m, A> {
     // Takes the token at `at` out of the queue.
     #[inline(always)]
     fn take(&mut self, at: usize)
-        requires there { at < deque_len self.old.queue }
+        requires there { at < length self.old.queue.items }
         requires few { self.old.made < 2 ^ 63 }
         ensures held { held_of self.new ≡ taken (held_of self.old) at }
-        ensures len { deque_len self.new.queue ≤ deque_len self.old.queue }
-        ensures capacity { deque_capacity self.new.queue ≡ deque_capacity self.old.queue }
+        ensures len { length self.new.queue.items ≤ length self.old.queue.items }
+        ensures capacity { self.new.queue.room ≡ self.old.queue.room }
     {
         if at == 0 {
-            let _ = self.queue.pop_front();
+            self.queue.pop_front();
         } else {
-            let _ = self.queue.remove(at);
+            self.queue.remove(at);
         }
         self.made += 1;
     }
@@ -211,12 +210,12 @@ impl<'m, A: Allocator> Lane<'m, A> {
     #[inline(always)]
     fn send(&mut self, token: Token, sent: &mut Vec<Token, A>)
         requires some { 0 < self.old.elements }
-        requires room { deque_len self.old.queue < deque_capacity self.old.queue }
+        requires room { length self.old.queue.items < self.old.queue.room }
         requires sent_room { vec_len sent.old < vec_capacity sent.old }
         ensures held { held_of self.new ≡ queued (held_of self.old) (token ∷ []) }
         ensures sent { sent.new.items ≡ sent.old.items ++ elsewhere (shape_of self.old) (token ∷ []) }
-        ensures len { deque_len self.new.queue ≤ deque_len self.old.queue + 1 }
-        ensures capacity { deque_capacity self.new.queue ≡ deque_capacity self.old.queue }
+        ensures len { length self.new.queue.items ≤ length self.old.queue.items + 1 }
+        ensures capacity { self.new.queue.room ≡ self.old.queue.room }
         ensures sent_len { vec_len sent.new ≤ vec_len sent.old + 1 }
         ensures sent_capacity { vec_capacity sent.new ≡ vec_capacity sent.old }
     {
@@ -237,12 +236,12 @@ impl<'m, A: Allocator> Lane<'m, A> {
         sent: &mut Vec<Token, A>,
     )
         requires some { 0 < self.old.elements }
-        requires room { deque_len self.old.queue < deque_capacity self.old.queue }
+        requires room { length self.old.queue.items < self.old.queue.room }
         requires sent_room { vec_len sent.old < vec_capacity sent.old }
         ensures held { held_of self.new ≡ queued (held_of self.old) (to_target frame word.now target) }
         ensures sent { sent.new.items ≡ sent.old.items ++ elsewhere (shape_of self.old) (to_target frame word.now target) }
-        ensures len { deque_len self.new.queue ≤ deque_len self.old.queue + 1 }
-        ensures capacity { deque_capacity self.new.queue ≡ deque_capacity self.old.queue }
+        ensures len { length self.new.queue.items ≤ length self.old.queue.items + 1 }
+        ensures capacity { self.new.queue.room ≡ self.old.queue.room }
         ensures sent_len { vec_len sent.new ≤ vec_len sent.old + 1 }
         ensures sent_capacity { vec_capacity sent.new ≡ vec_capacity sent.old }
     {
@@ -260,12 +259,12 @@ impl<'m, A: Allocator> Lane<'m, A> {
     #[inline(always)]
     fn send_outside(&mut self, made: &Made, sent: &mut Vec<Token, A>)
         requires some { 0 < self.old.elements }
-        requires room { deque_len self.old.queue + 2 ≤ deque_capacity self.old.queue }
+        requires room { length self.old.queue.items + 2 ≤ self.old.queue.room }
         requires sent_room { vec_len sent.old + 2 ≤ vec_capacity sent.old }
         ensures held { held_of self.new ≡ queued (held_of self.old) (outside_of made.now) }
         ensures sent { sent.new.items ≡ sent.old.items ++ elsewhere (shape_of self.old) (outside_of made.now) }
-        ensures len { deque_len self.new.queue ≤ deque_len self.old.queue + 2 }
-        ensures capacity { deque_capacity self.new.queue ≡ deque_capacity self.old.queue }
+        ensures len { length self.new.queue.items ≤ length self.old.queue.items + 2 }
+        ensures capacity { self.new.queue.room ≡ self.old.queue.room }
         ensures sent_len { vec_len sent.new ≤ vec_len sent.old + 2 }
         ensures sent_capacity { vec_capacity sent.new ≡ vec_capacity sent.old }
     {
@@ -282,7 +281,7 @@ impl<'m, A: Allocator> Lane<'m, A> {
     #[inline(always)]
     fn send_all(&mut self, made: &Made, sent: &mut Vec<Token, A>)
         requires some { 0 < self.old.elements }
-        requires room { deque_len self.old.queue + 4 ≤ deque_capacity self.old.queue }
+        requires room { length self.old.queue.items + 4 ≤ self.old.queue.room }
         requires sent_room { vec_len sent.old + 4 ≤ vec_capacity sent.old }
         ensures held { held_of self.new ≡ queued (held_of self.old) (tokens_of made.now) }
         ensures sent { sent.new.items ≡ sent.old.items ++ elsewhere (shape_of self.old) (tokens_of made.now) }
@@ -295,11 +294,11 @@ impl<'m, A: Allocator> Lane<'m, A> {
     // Sends a value to each reader that is listed, in order, and clears the list.
     fn answer_all(&mut self, value: &Value, sent: &mut Vec<Token, A>)
         requires some { 0 < self.old.elements }
-        requires room { deque_len self.old.queue + vec_len self.old.answered + 1 ≤ deque_capacity self.old.queue }
+        requires room { length self.old.queue.items + vec_len self.old.answered + 1 ≤ self.old.queue.room }
         requires sent_room { vec_len sent.old + vec_len self.old.answered + 1 ≤ vec_capacity sent.old }
         ensures held { held_of self.new ≡ cleared (queued (held_of self.old) (answers self.old.answered.items value.now)) }
         ensures sent { sent.new.items ≡ sent.old.items ++ elsewhere (shape_of self.old) (answers self.old.answered.items value.now) }
-        ensures room { deque_len self.new.queue < deque_capacity self.new.queue }
+        ensures room { length self.new.queue.items < self.new.queue.room }
         ensures sent_room { vec_len sent.new < vec_capacity sent.new }
     {
         for k in 0..self.answered.len() {
@@ -346,7 +345,7 @@ impl<'m, A: Allocator> Lane<'m, A> {
     ) -> Stepped
         requires sound { IsSoundLane (C.program code.now) (held_of self.old) }
         requires width { C.width code.now ≤ self.old.bank.width }
-        requires there { at < deque_len self.old.queue }
+        requires there { at < length self.old.queue.items }
         requires few { self.old.made < 2 ^ 63 }
         requires address { token.to ≡ To.Instr seat.frame seat.ip port }
         requires near { IsNearToken (bounds (C.program code.now) (shape_of self.old)) token }
@@ -391,7 +390,7 @@ impl<'m, A: Allocator> Lane<'m, A> {
     ) -> Stepped
         requires sound { IsSoundLane (C.program code.now) (held_of self.old) }
         requires width { C.width code.now ≤ self.old.bank.width }
-        requires there { at < deque_len self.old.queue }
+        requires there { at < length self.old.queue.items }
         requires few { self.old.made < 2 ^ 63 }
         requires address { token.to ≡ To.Instr seat.frame seat.ip port }
         requires near { IsNearToken (bounds (C.program code.now) (shape_of self.old)) token }
@@ -417,7 +416,7 @@ impl<'m, A: Allocator> Lane<'m, A> {
     ) -> Stepped
         requires sound { IsSoundLane (C.program code.now) (held_of self.old) }
         requires width { C.width code.now ≤ self.old.bank.width }
-        requires there { at < deque_len self.old.queue }
+        requires there { at < length self.old.queue.items }
         requires few { self.old.made < 2 ^ 63 }
         requires address { token.to ≡ To.Instr seat.frame seat.ip port }
         requires near { IsNearToken (bounds (C.program code.now) (shape_of self.old)) token }
@@ -456,7 +455,7 @@ impl<'m, A: Allocator> Lane<'m, A> {
     ) -> Stepped
         requires sound { IsSoundLane (C.program code.now) (held_of self.old) }
         requires width { C.width code.now ≤ self.old.bank.width }
-        requires there { at < deque_len self.old.queue }
+        requires there { at < length self.old.queue.items }
         requires few { self.old.made < 2 ^ 63 }
         requires address { token.to ≡ To.Instr seat.frame seat.ip port }
         requires near { IsNearToken (bounds (C.program code.now) (shape_of self.old)) token }
@@ -493,7 +492,7 @@ impl<'m, A: Allocator> Lane<'m, A> {
         requires bank { IsBank self.old.bank }
         requires frame { frame < self.old.elements * self.old.bank.frames }
         requires slot { slot < self.old.bank.width }
-        requires there { at < deque_len self.old.queue }
+        requires there { at < length self.old.queue.items }
         requires few { self.old.made < 2 ^ 63 }
         ensures { held_of self.new ≡ taken (with_part (held_of self.old) (with_state (part_of self.old) (slot_place (shape_of self.old) frame slot) state)) at }
     {
@@ -517,7 +516,7 @@ impl<'m, A: Allocator> Lane<'m, A> {
         requires bank { IsBank self.old.bank }
         requires frame { seat.frame < self.old.elements * self.old.bank.frames }
         requires slot { instr.now.slot < self.old.bank.width }
-        requires there { at < deque_len self.old.queue }
+        requires there { at < length self.old.queue.items }
         requires few { self.old.made < 2 ^ 63 }
         requires short { IsShort (C.width code.now) seat.ip instr.now }
         requires room { HasRoomInWord left }
@@ -550,7 +549,7 @@ impl<'m, A: Allocator> Lane<'m, A> {
     ) -> Stepped
         requires sound { IsSoundLane (C.program code.now) (held_of self.old) }
         requires width { C.width code.now ≤ self.old.bank.width }
-        requires there { at < deque_len self.old.queue }
+        requires there { at < length self.old.queue.items }
         requires few { self.old.made < 2 ^ 63 }
         requires address { token.to ≡ To.Instr seat.frame seat.ip port }
         requires near { IsNearToken (bounds (C.program code.now) (shape_of self.old)) token }
@@ -577,7 +576,7 @@ impl<'m, A: Allocator> Lane<'m, A> {
         sent: &mut Vec<Token, A>,
     ) -> Stepped
         requires some { 0 < self.old.elements }
-        requires there { at < deque_len self.old.queue }
+        requires there { at < length self.old.queue.items }
         requires few { self.old.made < 2 ^ 63 }
         requires short { IsShort (C.width code.now) seat.ip instr.now }
         ensures { FiresAs (fire_one (C.program code.now) (seat_of seat) (instr_of instr.now) instr.now.op word) (part_of self.old) (held_of self.old) at sent.old.items result (held_of self.new) sent.new.items }
@@ -627,7 +626,7 @@ impl<'m, A: Allocator> Lane<'m, A> {
         A: Clone,
         requires some { 0 < self.old.elements }
         requires here { cell % self.old.elements ≡ self.old.element }
-        requires there { at < deque_len self.old.queue }
+        requires there { at < length self.old.queue.items }
         requires few { self.old.made < 2 ^ 63 }
         requires address { token.to ≡ To.Fetch cell }
         requires own { OwnsCell (part_of self.old) cell }
@@ -666,7 +665,7 @@ impl<'m, A: Allocator> Lane<'m, A> {
         A: Clone,
         requires some { 0 < self.old.elements }
         requires here { cell % self.old.elements ≡ self.old.element }
-        requires there { at < deque_len self.old.queue }
+        requires there { at < length self.old.queue.items }
         requires few { self.old.made < 2 ^ 63 }
         requires address { token.to ≡ To.Store cell value.now }
         requires own { OwnsCell (part_of self.old) cell }
@@ -697,7 +696,7 @@ impl<'m, A: Allocator> Lane<'m, A> {
 
     fn at_manager(&mut self, at: usize, token: Token, sent: &mut Vec<Token, A>) -> Stepped
         requires some { 0 < self.old.elements }
-        requires there { at < deque_len self.old.queue }
+        requires there { at < length self.old.queue.items }
         requires few { self.old.made < 2 ^ 63 }
         requires address { token.to ≡ To.Manager }
         requires served { self.old.element ≡ 0 }
@@ -732,7 +731,7 @@ impl<'m, A: Allocator> Lane<'m, A> {
         sent: &mut Vec<Token, A>,
     ) -> Stepped
         requires some { 0 < self.old.elements }
-        requires there { at < deque_len self.old.queue }
+        requires there { at < length self.old.queue.items }
         requires few { self.old.made < 2 ^ 63 }
         requires address { token.to ≡ To.Release frame }
         requires served { self.old.element ≡ 0 }
@@ -780,7 +779,7 @@ impl<'m, A: Allocator> Lane<'m, A> {
     }
 
     fn at_host(&mut self, at: usize, token: Token, port: u32) -> Stepped
-        requires there { at < deque_len self.old.queue }
+        requires there { at < length self.old.queue.items }
         requires few { self.old.made < 2 ^ 63 }
         requires address { token.to ≡ To.Host port }
         requires served { self.old.element ≡ 0 }
@@ -822,7 +821,7 @@ impl<'m, A: Allocator> Lane<'m, A> {
         A: Clone,
         requires sound { IsSoundLane (C.program code.now) (held_of self.old) }
         requires width { C.width code.now ≤ self.old.bank.width }
-        requires there { at < deque_len self.old.queue }
+        requires there { at < length self.old.queue.items }
         requires few { self.old.made < 2 ^ 63 }
         requires near { IsNearToken (bounds (C.program code.now) (shape_of self.old)) token }
         requires addressed { element_of self.old.elements token.to ≡ self.old.element }
@@ -849,7 +848,7 @@ impl<'m, A: Allocator> Lane<'m, A> {
         A: Clone,
         requires sound { IsSoundLane (C.program code.now) (held_of self.old) }
         requires width { C.width code.now ≤ self.old.bank.width }
-        requires there { at < deque_len self.old.queue }
+        requires there { at < length self.old.queue.items }
         requires few { self.old.made < 2 ^ 63 }
         requires near { IsNearToken (bounds (C.program code.now) (shape_of self.old)) token }
         requires addressed { element_of self.old.elements token.to ≡ self.old.element }
@@ -895,7 +894,7 @@ impl<'m, A: Allocator> Lane<'m, A> {
             return Stepped::Idle;
         }
         let at = among(pick, waiting);
-        let token = self.queue[at];
+        let token = self.queue.get(at);
         self.act(code, at, token, sent)
     }
 }

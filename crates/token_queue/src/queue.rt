@@ -76,7 +76,7 @@ impl<A: Allocator> TokenQueue<A> {
     #[inline(always)]
     pub fn reserve(&mut self, tokens: usize) -> Result<(), AllocError>
         ensures items { self.new.items ≡ self.old.items }
-        ensures room { OnOk result (length self.old.items + tokens ≤ self.new.room) }
+        ensures room { OnOk result (length self.new.items + tokens ≤ self.new.room) }
         ensures enough { length self.old.items + tokens ≤ self.old.room → OnOk result (self.new ≡ self.old) }
         ensures doubled { OnOk result ((self.new ≡ self.old) ⊎ (2 * self.old.room ≤ self.new.room)) }
         ensures err { OnErr result (self.new ≡ self.old) }
@@ -92,7 +92,7 @@ impl<A: Allocator> TokenQueue<A> {
     #[inline(never)]
     fn grow(&mut self, tokens: usize) -> Result<(), AllocError>
         ensures items { self.new.items ≡ self.old.items }
-        ensures room { OnOk result (length self.old.items + tokens ≤ self.new.room) }
+        ensures room { OnOk result (length self.new.items + tokens ≤ self.new.room) }
         ensures doubled { OnOk result (2 * self.old.room ≤ self.new.room) }
         ensures err { OnErr result (self.new ≡ self.old) }
     {
@@ -113,6 +113,7 @@ impl<A: Allocator> TokenQueue<A> {
     pub fn push_back_reserved(&mut self, token: Token)
         requires { length self.old.items < self.old.room }
         ensures items { self.new.items ≡ self.old.items ++ token ∷ [] }
+        ensures len { length self.new.items ≡ length self.old.items + 1 }
         ensures room { self.new.room ≡ self.old.room }
     {
         let at = place(self.places.len(), self.head, self.count);
@@ -134,6 +135,7 @@ impl<A: Allocator> TokenQueue<A> {
     pub fn pop_front(&mut self)
         requires { 0 < length self.old.items }
         ensures items { self.new.items ≡ remove self.old.items 0 }
+        ensures len { length self.new.items + 1 ≡ length self.old.items }
         ensures room { self.new.room ≡ self.old.room }
     {
         self.head = place(self.places.len(), self.head, 1);
@@ -144,6 +146,7 @@ impl<A: Allocator> TokenQueue<A> {
     pub fn remove(&mut self, at: usize)
         requires { at < length self.old.items }
         ensures items { self.new.items ≡ remove self.old.items at }
+        ensures len { length self.new.items + 1 ≡ length self.old.items }
         ensures room { self.new.room ≡ self.old.room }
     {
         let places = self.places.len();
