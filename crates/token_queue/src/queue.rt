@@ -143,6 +143,7 @@ impl<A: Allocator> TokenQueue<A> {
     }
 
     /// Takes the token of this number out, the oldest being 0. Those behind it close up.
+    #[inline(never)]
     pub fn remove(&mut self, at: usize)
         requires { at < length self.old.items }
         ensures items { self.new.items ≡ remove self.old.items at }
