@@ -7,3 +7,4 @@ pub mod Changed
 pub mod Acts
 pub mod Steps
 pub mod Openings
+pub mod Outcomes

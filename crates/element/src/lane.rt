@@ -2,7 +2,6 @@
 
 ghost use Rattle.std.specs.Prelude.{◌≡◌, ℕ, ◌+◌, ◌*◌, ◌%◌, ◌<◌, ◌≤◌, ◌^◌, [], ◌∷◌, ◌++◌, ◌/◌, ◌==◌, length, All, OnOk, OnErr, IfOk, IfSome, IfNone, Some, None, IsSome, replicate, vec_len, option_to_list, slice_index_or, remove};
 ghost use Rattle.std.specs.Vec.{vec_capacity};
-ghost use Rattle.std.specs.VecDeque.{deque_len, deque_capacity};
 ghost use Rattle.tags.specs.declared.token.Token.{Token};
 ghost use Rattle.tags.specs.declared.token.To.{To};
 ghost use Rattle.element.specs.Held.{held_of, part_of, shape_of, here, elsewhere, queued, taken, cleared, with_queue, with_part, IsSoundLane};
@@ -31,10 +30,10 @@ use frame_store::bank::BankMut;
 use istructure::{Cells, FetchAnswer, StoreAnswer};
 use semantics::program::Op;
 use std::alloc::{AllocError, Allocator};
-use std::collections::VecDeque;
 use tags::slot::SlotState;
 use tags::token::{Cont, FrameId, Port, To, Token, Word};
 use tags::value::Value;
+use token_queue::queue::TokenQueue;
 
 /// What a step did.
 #[derive(Clone, Copy, Debug, PartialEq, Eq)]
@@ -61,7 +60,7 @@ pub struct Lane<'m, A: Allocator> {
     pub cells: Cells<A>,
     pub manager: Option<Manager<A>>,
     /// The tokens, oldest first.
-    pub queue: VecDeque<Token, A>,
+    pub queue: TokenQueue<A>,
     pub outputs: ArrayVec<Option<Value>, 16>,
     pub done: bool,
     /// How many events it has made.
@@ -113,7 +112,7 @@ impl<'m, A: Allocator> Lane<'m, A> {
         ensures exact { IfOk result (λ lane. held_of lane ≡ opened (shape_at element elements bank.entry) (bank_states bank.entry) cells manager outputs) }
         ensures starts { IfOk result (λ lane. (p : Program) → IsOpening p (part_of lane) → IsSoundLane p (held_of lane) × StartsAs p (part_of lane)) }
     {
-        let queue = VecDeque::new(alloc.clone()?);
+        let queue = TokenQueue::new(alloc.clone()?);
         Ok(Lane {
             element,
             elements,
@@ -150,7 +149,7 @@ impl<'m, A: Allocator> Lane<'m, A> {
             return None;
         }
         let at = among(pick, waiting);
-        Some(self.queue[at])
+        Some(self.queue.get(at))
     }
 
     // Makes room for so many tokens. After an error all stands as before.
@@ -158,7 +157,7 @@ impl<'m, A: Allocator> Lane<'m, A> {
     fn make_room(&mut self, tokens: usize, sent: &mut Vec<Token, A>) -> Result<(), AllocError>
         ensures held { held_of self.new ≡ held_of self.old }
         ensures sent { sent.new.items ≡ sent.old.items }
-        ensures room { OnOk result (deque_len self.new.queue + tokens ≤ deque_capacity self.new.queue) }
+        ensures room { OnOk result (length self.new.queue.items + tokens ≤ self.new.queue.room) }
         ensures sent_room { OnOk result (vec_len sent.new + tokens ≤ vec_capacity sent.new) }
     {
         self.queue.reserve(tokens)?;
@@ -168,16 +167,16 @@ impl<'m, A: Allocator> Lane<'m, A> {
     // Takes the token at `at` out of the queue.
     #[inline(always)]
     fn take(&mut self, at: usize)
-        requires there { at < deque_len self.old.queue }
+        requires there { at < length self.old.queue.items }
         requires few { self.old.made < 2 ^ 63 }
         ensures held { held_of self.new ≡ taken (held_of self.old) at }
-        ensures len { deque_len self.new.queue ≤ deque_len self.old.queue }
-        ensures capacity { deque_capacity self.new.queue ≡ deque_capacity self.old.queue }
+        ensures len { length self.new.queue.items ≤ length self.old.queue.items }
+        ensures capacity { self.new.queue.room ≡ self.old.queue.room }
     {
         if at == 0 {
-            let _ = self.queue.pop_front();
+            self.queue.pop_front();
         } else {
-            let _ = self.queue.remove(at);
+            self.queue.remove(at);
         }
         self.made += 1;
     }
@@ -212,12 +211,12 @@ impl<'m, A: Allocator> Lane<'m, A> {
     #[inline(always)]
     fn send(&mut self, token: Token, sent: &mut Vec<Token, A>)
         requires some { 0 < self.old.elements }
-        requires room { deque_len self.old.queue < deque_capacity self.old.queue }
+        requires room { length self.old.queue.items < self.old.queue.room }
         requires sent_room { vec_len sent.old < vec_capacity sent.old }
         ensures held { held_of self.new ≡ queued (held_of self.old) (token ∷ []) }
         ensures sent { sent.new.items ≡ sent.old.items ++ elsewhere (shape_of self.old) (token ∷ []) }
-        ensures len { deque_len self.new.queue ≤ deque_len self.old.queue + 1 }
-        ensures capacity { deque_capacity self.new.queue ≡ deque_capacity self.old.queue }
+        ensures len { length self.new.queue.items ≤ length self.old.queue.items + 1 }
+        ensures capacity { self.new.queue.room ≡ self.old.queue.room }
         ensures sent_len { vec_len sent.new ≤ vec_len sent.old + 1 }
         ensures sent_capacity { vec_capacity sent.new ≡ vec_capacity sent.old }
     {
@@ -233,12 +232,12 @@ impl<'m, A: Allocator> Lane<'m, A> {
     fn send_to(&mut self, seat: Seat, word: &Word, half: u32, sent: &mut Vec<Token, A>)
         requires some { 0 < self.old.elements }
         requires near { seat.ip < 2 ^ 30 }
-        requires room { deque_len self.old.queue < deque_capacity self.old.queue }
+        requires room { length self.old.queue.items < self.old.queue.room }
         requires sent_room { vec_len sent.old < vec_capacity sent.old }
         ensures held { held_of self.new ≡ queued (held_of self.old) (to_half (seat_of seat) word.now half) }
         ensures sent { sent.new.items ≡ sent.old.items ++ elsewhere (shape_of self.old) (to_half (seat_of seat) word.now half) }
-        ensures len { deque_len self.new.queue ≤ deque_len self.old.queue + 1 }
-        ensures capacity { deque_capacity self.new.queue ≡ deque_capacity self.old.queue }
+        ensures len { length self.new.queue.items ≤ length self.old.queue.items + 1 }
+        ensures capacity { self.new.queue.room ≡ self.old.queue.room }
         ensures sent_len { vec_len sent.new ≤ vec_len sent.old + 1 }
         ensures sent_capacity { vec_capacity sent.new ≡ vec_capacity sent.old }
     {
@@ -256,12 +255,12 @@ impl<'m, A: Allocator> Lane<'m, A> {
     #[inline(always)]
     fn send_outside(&mut self, made: &Made, sent: &mut Vec<Token, A>)
         requires some { 0 < self.old.elements }
-        requires room { deque_len self.old.queue + 2 ≤ deque_capacity self.old.queue }
+        requires room { length self.old.queue.items + 2 ≤ self.old.queue.room }
         requires sent_room { vec_len sent.old + 2 ≤ vec_capacity sent.old }
         ensures held { held_of self.new ≡ queued (held_of self.old) (outside_of made.now) }
         ensures sent { sent.new.items ≡ sent.old.items ++ elsewhere (shape_of self.old) (outside_of made.now) }
-        ensures len { deque_len self.new.queue ≤ deque_len self.old.queue + 2 }
-        ensures capacity { deque_capacity self.new.queue ≡ deque_capacity self.old.queue }
+        ensures len { length self.new.queue.items ≤ length self.old.queue.items + 2 }
+        ensures capacity { self.new.queue.room ≡ self.old.queue.room }
         ensures sent_len { vec_len sent.new ≤ vec_len sent.old + 2 }
         ensures sent_capacity { vec_capacity sent.new ≡ vec_capacity sent.old }
     {
@@ -279,7 +278,7 @@ impl<'m, A: Allocator> Lane<'m, A> {
     fn send_all(&mut self, seat: Seat, made: &Made, sent: &mut Vec<Token, A>)
         requires some { 0 < self.old.elements }
         requires near { seat.ip < 2 ^ 30 }
-        requires room { deque_len self.old.queue + 4 ≤ deque_capacity self.old.queue }
+        requires room { length self.old.queue.items + 4 ≤ self.old.queue.room }
         requires sent_room { vec_len sent.old + 4 ≤ vec_capacity sent.old }
         ensures held { held_of self.new ≡ queued (held_of self.old) (tokens_of (seat_of seat) made.now) }
         ensures sent { sent.new.items ≡ sent.old.items ++ elsewhere (shape_of self.old) (tokens_of (seat_of seat) made.now) }
@@ -292,11 +291,11 @@ impl<'m, A: Allocator> Lane<'m, A> {
     // Sends a value to each reader that is listed, in order, and clears the list.
     fn answer_all(&mut self, value: &Value, sent: &mut Vec<Token, A>)
         requires some { 0 < self.old.elements }
-        requires room { deque_len self.old.queue + vec_len self.old.answered + 1 ≤ deque_capacity self.old.queue }
+        requires room { length self.old.queue.items + vec_len self.old.answered + 1 ≤ self.old.queue.room }
         requires sent_room { vec_len sent.old + vec_len self.old.answered + 1 ≤ vec_capacity sent.old }
         ensures held { held_of self.new ≡ cleared (queued (held_of self.old) (answers self.old.answered.items value.now)) }
         ensures sent { sent.new.items ≡ sent.old.items ++ elsewhere (shape_of self.old) (answers self.old.answered.items value.now) }
-        ensures room { deque_len self.new.queue < deque_capacity self.new.queue }
+        ensures room { length self.new.queue.items < self.new.queue.room }
         ensures sent_room { vec_len sent.new < vec_capacity sent.new }
     {
         for k in 0..self.answered.len() {
@@ -343,7 +342,7 @@ impl<'m, A: Allocator> Lane<'m, A> {
     ) -> Stepped
         requires sound { IsSoundLane (C.program code.now) (held_of self.old) }
         requires width { C.width code.now ≤ self.old.bank.width }
-        requires there { at < deque_len self.old.queue }
+        requires there { at < length self.old.queue.items }
         requires few { self.old.made < 2 ^ 63 }
         requires address { token.to ≡ To.Instr seat.frame seat.ip port }
         requires near { IsNearToken (bounds (C.program code.now) (shape_of self.old)) token }
@@ -379,7 +378,7 @@ impl<'m, A: Allocator> Lane<'m, A> {
     ) -> Stepped
         requires sound { IsSoundLane (C.program code.now) (held_of self.old) }
         requires width { C.width code.now ≤ self.old.bank.width }
-        requires there { at < deque_len self.old.queue }
+        requires there { at < length self.old.queue.items }
         requires few { self.old.made < 2 ^ 63 }
         requires address { token.to ≡ To.Instr seat.frame seat.ip port }
         requires near { IsNearToken (bounds (C.program code.now) (shape_of self.old)) token }
@@ -405,7 +404,7 @@ impl<'m, A: Allocator> Lane<'m, A> {
     ) -> Stepped
         requires sound { IsSoundLane (C.program code.now) (held_of self.old) }
         requires width { C.width code.now ≤ self.old.bank.width }
-        requires there { at < deque_len self.old.queue }
+        requires there { at < length self.old.queue.items }
         requires few { self.old.made < 2 ^ 63 }
         requires address { token.to ≡ To.Instr seat.frame seat.ip port }
         requires near { IsNearToken (bounds (C.program code.now) (shape_of self.old)) token }
@@ -512,7 +511,7 @@ impl<'m, A: Allocator> Lane<'m, A> {
         requires bank { IsBank self.old.bank }
         requires frame { frame < self.old.elements * self.old.bank.frames }
         requires slot { slot < self.old.bank.width }
-        requires there { at < deque_len self.old.queue }
+        requires there { at < length self.old.queue.items }
         requires few { self.old.made < 2 ^ 63 }
         ensures { held_of self.new ≡ taken (with_part (held_of self.old) (with_state (part_of self.old) (slot_place (shape_of self.old) frame slot) state)) at }
     {
@@ -535,7 +534,7 @@ impl<'m, A: Allocator> Lane<'m, A> {
         requires near { seat.ip < 2 ^ 30 }
         requires frame { seat.frame < self.old.elements * self.old.bank.frames }
         requires slot { IfSome cleared (λ slot. slot < self.old.bank.width) }
-        requires there { at < deque_len self.old.queue }
+        requires there { at < length self.old.queue.items }
         requires few { self.old.made < 2 ^ 63 }
         ensures { FiresAs (Some (tokens_of (seat_of seat) made.now)) (with_state_in (part_of self.old) seat.frame cleared Empty) (held_of self.old) at sent.old.items result (held_of self.new) sent.new.items }
     {
@@ -583,7 +582,7 @@ impl<'m, A: Allocator> Lane<'m, A> {
         A: Clone,
         requires some { 0 < self.old.elements }
         requires here { cell % self.old.elements ≡ self.old.element }
-        requires there { at < deque_len self.old.queue }
+        requires there { at < length self.old.queue.items }
         requires few { self.old.made < 2 ^ 63 }
         requires address { token.to ≡ To.Fetch cell }
         requires own { OwnsCell (part_of self.old) cell }
@@ -622,7 +621,7 @@ impl<'m, A: Allocator> Lane<'m, A> {
         A: Clone,
         requires some { 0 < self.old.elements }
         requires here { cell % self.old.elements ≡ self.old.element }
-        requires there { at < deque_len self.old.queue }
+        requires there { at < length self.old.queue.items }
         requires few { self.old.made < 2 ^ 63 }
         requires address { token.to ≡ To.Store cell value.now }
         requires own { OwnsCell (part_of self.old) cell }
@@ -653,7 +652,7 @@ impl<'m, A: Allocator> Lane<'m, A> {
 
     fn at_manager(&mut self, at: usize, token: Token, sent: &mut Vec<Token, A>) -> Stepped
         requires some { 0 < self.old.elements }
-        requires there { at < deque_len self.old.queue }
+        requires there { at < length self.old.queue.items }
         requires few { self.old.made < 2 ^ 63 }
         requires address { token.to ≡ To.Manager }
         requires served { self.old.element ≡ 0 }
@@ -688,7 +687,7 @@ impl<'m, A: Allocator> Lane<'m, A> {
         sent: &mut Vec<Token, A>,
     ) -> Stepped
         requires some { 0 < self.old.elements }
-        requires there { at < deque_len self.old.queue }
+        requires there { at < length self.old.queue.items }
         requires few { self.old.made < 2 ^ 63 }
         requires address { token.to ≡ To.Release frame }
         requires served { self.old.element ≡ 0 }
@@ -736,7 +735,7 @@ impl<'m, A: Allocator> Lane<'m, A> {
     }
 
     fn at_host(&mut self, at: usize, token: Token, port: u32) -> Stepped
-        requires there { at < deque_len self.old.queue }
+        requires there { at < length self.old.queue.items }
         requires few { self.old.made < 2 ^ 63 }
         requires address { token.to ≡ To.Host port }
         requires served { self.old.element ≡ 0 }
@@ -778,7 +777,7 @@ impl<'m, A: Allocator> Lane<'m, A> {
         A: Clone,
         requires sound { IsSoundLane (C.program code.now) (held_of self.old) }
         requires width { C.width code.now ≤ self.old.bank.width }
-        requires there { at < deque_len self.old.queue }
+        requires there { at < length self.old.queue.items }
         requires few { self.old.made < 2 ^ 63 }
         requires near { IsNearToken (bounds (C.program code.now) (shape_of self.old)) token }
         requires addressed { element_of self.old.elements token.to ≡ self.old.element }
@@ -805,7 +804,7 @@ impl<'m, A: Allocator> Lane<'m, A> {
         A: Clone,
         requires sound { IsSoundLane (C.program code.now) (held_of self.old) }
         requires width { C.width code.now ≤ self.old.bank.width }
-        requires there { at < deque_len self.old.queue }
+        requires there { at < length self.old.queue.items }
         requires few { self.old.made < 2 ^ 63 }
         requires near { IsNearToken (bounds (C.program code.now) (shape_of self.old)) token }
         requires addressed { element_of self.old.elements token.to ≡ self.old.element }
@@ -851,7 +850,7 @@ impl<'m, A: Allocator> Lane<'m, A> {
             return Stepped::Idle;
         }
         let at = among(pick, waiting);
-        let token = self.queue[at];
+        let token = self.queue.get(at);
         self.act(code, at, token, sent)
     }
 }

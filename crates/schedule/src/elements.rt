@@ -8,7 +8,7 @@ ghost use Rattle.schedule.specs.Setting.{total};
 ghost use Rattle.schedule.specs.Told.{credits_below, TellsLanes};
 ghost use Rattle.schedule.specs.State.{state_of, IsWell, tokens_in};
 ghost use Rattle.schedule.specs.Steps.{Steps};
-ghost use Rattle.schedule.specs.Runs.{HasToken, Advances, Plays, rounds_of};
+ghost use Rattle.schedule.specs.Runs.{HasToken, IsHalt, Advances, Plays, rounds_of};
 
 use crate::counting::{credits_in, deferred, frames_out, full_cells, requests};
 use crate::delivery::{deliver, has_token_for};
@@ -164,11 +164,10 @@ impl<'m, C: MainCode, A: Allocator> Elements<'m, C, A> {
     #[inline(never)]
     fn halted(&self, listed: bool, stepped: Option<Stepped>) -> Option<Halt>
         requires well { IsWell C.program C.width self.now }
-        requires other { stepped ≢ Some Did }
-        ensures { Halts (state_of C.program C.width self.now) listed stepped result }
+        ensures { IsHalt listed stepped (state_of C.program C.width self.now) result }
     {
         match stepped {
-            Some(Stepped::Did) => unreachable!(),
+            Some(Stepped::Did) => None,
             None => (!listed).then_some(Halt::Steps),
             Some(Stepped::Idle) => (!self.has_tokens()).then_some(Halt::NoToken),
             Some(Stepped::Clash { cell }) => Some(Halt::Clash { cell }),

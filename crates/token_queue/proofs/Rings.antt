@@ -1,0 +1,116 @@
+-- What is done in a ring, as seen in its list.
+use Rattle.std.proofs.Common.{◌≡◌, ℕ, ◌+◌, ◌-◌, ◌%◌, ◌<◌, ◌≤◌, ◌⊎◌, List, [], ◌∷◌, ◌++◌, length, get_or, take, drop, set, bit_and, sym, ap, ◌∙◌, subst, inl, inr, mod-eq_of_lt, arith, length-append, length-drop, length-set, length-take-le, get_or-drop, get_or-take, append_assoc}
+use native.Mathlib.Nat.{mod-eq-sub-mod, mod-add-mod}
+use Rattle.std.specs.List.{remove}
+use Rattle.std.proofs.lemmas.List.{same_lists, get_or_append_left, get_or-append_right, take_all, take_at, take-take, set_at, take_more, drop_more, length-take}
+use Rattle.std.proofs.lemmas.List.Edits.{length-remove, get_or-remove_above}
+use Rattle.std.proofs.lemmas.Nat.{and_mask}
+use Rattle.std.proofs.lemmas.Bool.{cases_lt}
+use Rattle.std.proofs.lemmas.Grind.{common_steps}
+use Rattle.token_queue.specs.Ring.{ring, IsPower}
+
+-- a place below two rounds is past the end once at most
+rounds : (N j : ℕ) → j < N + N → ((j < N) × (j % N ≡ j)) ⊎ ((N ≤ j) × (j % N ≡ j - N))
+rounds N j below = elim (cases_lt j N) [
+  | inl low ↦ inl (low, mod-eq_of_lt low)
+  | inr high ↦ inr (high, mod-eq-sub-mod high ∙ mod-eq_of_lt (omega arith))
+]
+
+pub masked : (n x : ℕ) → IsPower n → bit_and x (n - 1) ≡ x % n
+masked n x (k, is) = subst (λ (m : ℕ). bit_and x (m - 1) ≡ x % m) (sym is) (and_mask x k)
+
+pub ring_long : {X : Type 0} (k n : ℕ) (xs : List X) → n ≤ length xs → length (ring k n xs) ≡ n
+ring_long k n xs fits = length-take-le n _ (simp (length-append, length-drop) (omega (arith, length-take k xs)))
+
+module _ {X : Type 0} (N k n : ℕ) (xs : List X) (head : k < N) (count : n ≤ N) (places : length xs ≡ N) where
+  length-ring : length (ring k n xs) ≡ n
+  length-ring = ring_long k n xs (omega arith)
+
+  pub get_or-ring : (i : ℕ) (d : X) → i < n → get_or (ring k n xs) i d ≡ get_or xs ((k + i) % N) d
+  get_or-ring i d within =
+      let length_tail = length-drop k xs in
+      get_or-take n _ i d within ∙ elim (rounds N (k + i) (omega arith)) [
+        | inl low ↦ get_or_append_left _ _ d i (omega arith) ∙ get_or-drop k xs i d ∙ ap (λ j. get_or xs j d) (omega arith)
+        | inr high ↦ get_or-append_right _ _ (N - k) i d (omega arith) (omega arith) ∙ get_or-take k xs _ d (omega arith) ∙ ap (λ j. get_or xs j d) (omega arith)
+      ]
+
+-- these use those above at other rings
+module _ {X : Type 0} (N k n : ℕ) (xs : List X) (head : k < N) (count : n ≤ N) (places : length xs ≡ N) where
+  pub ring_pushed : (x : X) → n < N → ring k (n + 1) (set xs ((k + n) % N) x) ≡ ring k n xs ++ x ∷ []
+  ring_pushed x room =
+      let ys = set xs ((k + n) % N) x in
+      let length_ys = length-set xs ((k + n) % N) x ∙ places in
+      let length_old = length-ring N k n xs head count places in
+      let length_new = length-ring N k (n + 1) ys head (omega arith) length_ys in
+      let written = rounds N (k + n) (omega arith) in
+      same_lists _ _ (grind (arith, common_steps)) (λ i d within. grind (
+        arith,
+        common_steps,
+        rounds N (k + i) (omega arith),
+        get_or-ring N k n xs head count places i d,
+        get_or-ring N k (n + 1) ys head (omega arith) length_ys i d,
+      ))
+
+  pub ring_set : (i : ℕ) (x : X) → i < n → ring k n (set xs ((k + i) % N) x) ≡ set (ring k n xs) i x
+  ring_set i x there =
+      let ys = set xs ((k + i) % N) x in
+      let length_ys = length-set xs ((k + i) % N) x ∙ places in
+      let length_old = length-ring N k n xs head count places in
+      let length_new = length-ring N k n ys head count length_ys in
+      let written = rounds N (k + i) (omega arith) in
+      same_lists _ _ (grind (arith, common_steps)) (λ j d within. grind (
+        arith,
+        common_steps,
+        rounds N (k + j) (omega arith),
+        get_or-ring N k n xs head count places j d,
+        get_or-ring N k n ys head count length_ys j d,
+      ))
+
+  pub ring_popped : 0 < n → ring ((k + 1) % N) (n - 1) xs ≡ drop 1 (ring k n xs)
+  ring_popped some =
+      let next : (k + 1) % N < N = grind (arith, rounds N (k + 1) (omega arith)) in
+      let length_old = length-ring N k n xs head count places in
+      let length_new = length-ring N ((k + 1) % N) (n - 1) xs next (omega arith) places in
+      same_lists _ _ (simp length-drop (omega arith)) (λ i d within. grind (
+        arith,
+        get_or-drop 1 (ring k n xs) i d,
+        mod-add-mod (k + 1) N i,
+        get_or-ring N k n xs head count places (1 + i) d,
+        get_or-ring N _ (n - 1) xs next (omega arith) places i d,
+      ))
+
+module _ {X : Type 0} where
+  -- a list without the item at `at`, with those behind it moved up as far as the place i
+  abbrev pub closing : List X → ℕ → ℕ → List X
+  closing xs at i = take i (remove xs at) ++ drop i xs
+
+  front : (xs : List X) (at i : ℕ) → at < length xs → i < length xs → length (take i (remove xs at)) ≡ i
+  front xs at i there within = length-take-le i (remove xs at) (omega (arith, length-remove xs at there))
+
+  closing_more : (xs : List X) (at i : ℕ) (d : X) → at ≤ i → i + 1 < length xs → set (closing xs at i) i (get_or xs (i + 1) d) ≡ closing xs at (i + 1)
+  closing_more xs at i d behind within =
+      let there : at < length xs = omega arith in
+      let kept : length (take i (remove xs at)) ≡ i = front xs at i there (omega arith) in
+      ap (λ ys. set (take i (remove xs at) ++ ys) i (get_or xs (i + 1) d)) (drop_more xs i d (omega arith))
+      ∙ set_at (take i (remove xs at)) (get_or xs i d) (drop (i + 1) xs) (get_or xs (i + 1) d) i kept
+      ∙ sym (append_assoc (take i (remove xs at)) (get_or xs (i + 1) d ∷ []) (drop (i + 1) xs))
+      ∙ ap (λ y. (take i (remove xs at) ++ y ∷ []) ++ drop (i + 1) xs) (sym (get_or-remove_above xs at d i behind there))
+      ∙ ap (λ ys. ys ++ drop (i + 1) xs) (sym (take_more (remove xs at) i d (omega (arith, length-remove xs at there))))
+
+  read : (xs : List X) (at i : ℕ) (d : X) → at ≤ i → i + 1 < length xs → get_or (closing xs at i) (i + 1) d ≡ get_or xs (i + 1) d
+  read xs at i d behind within =
+      get_or-append_right (take i (remove xs at)) (drop i xs) i (i + 1) d (front xs at i (omega arith) (omega arith)) (omega arith)
+      ∙ get_or-drop i xs (i + 1 - i) d ∙ ap (λ j. get_or xs j d) (omega arith)
+
+  pub closed_more : (N k n : ℕ) (ys xs : List X) (at i : ℕ) (x : X) → k < N → n ≤ N → length ys ≡ N → n ≡ length xs → ring k n ys ≡ closing xs at i → at ≤ i → i + 1 < n
+      → x ≡ get_or ys ((k + (i + 1)) % N) x → ring k n (set ys ((k + i) % N) x) ≡ closing xs at (i + 1)
+  closed_more N k n ys xs at i x head count places long was behind within is =
+      let is_next : x ≡ get_or xs (i + 1) x =
+      is ∙ sym (get_or-ring N k n ys head count places (i + 1) x within) ∙ ap (λ zs. get_or zs (i + 1) x) was ∙ read xs at i x behind (omega arith) in
+      ring_set N k n ys head count places i x (omega arith) ∙ ap (λ zs. set zs i x) was ∙ ap (set (closing xs at i) i) is_next ∙ closing_more xs at i x behind (omega arith)
+
+  pub closed_all : (k m n : ℕ) (ys xs : List X) (at : ℕ) → m ≡ length xs → n + 1 ≡ m → ring k m ys ≡ closing xs at n → at < m → ring k n ys ≡ remove xs at
+  closed_all k m n ys xs at long more was there =
+      sym (take-take n m (drop k ys ++ take k ys) (omega arith)) ∙ ap (take n) was
+      ∙ take_at (take n (remove xs at)) (drop n xs) n (front xs at n (omega arith) (omega arith))
+      ∙ take_all n (remove xs at) (omega (arith, length-remove xs at (omega arith)))

@@ -1,0 +1,8 @@
+-- What a contract sees of a queue.
+use Rattle.std.specs.Prelude.{ℕ, List}
+use Rattle.tags.specs.declared.token.Token.{Token}
+
+-- the tokens, oldest first, and how many there may be before the queue grows
+pub record Tokens : Type 0 where
+  pub items : List Token
+  pub room : ℕ
