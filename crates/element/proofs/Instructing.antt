@@ -19,7 +19,7 @@ use Rattle.semantics.specs.declared.program.Op.TheVariants.{Apply2, Sync, Switch
 use Rattle.semantics.specs.Program.{Instr, Program, instr_at}
 use Rattle.semantics.specs.Rule.{Outcome, Becomes, outcome_of, slot_of, answer_to, landing_at}
 use Rattle.element.specs.declared.instructions.Instruction.{Instruction}
-use Rattle.element.specs.Decoded.{instr_of, IsShort}
+use Rattle.element.specs.Decoded.{instr_of, dest_in, IsShort}
 use Rattle.element.specs.Fired.{HasRoom, HasRoomInWord, HasRoomInSlot}
 use Rattle.element.specs.Near.{Bounds, IsNearCont, IsNearWord, IsNearTo, IsNearToken, IsNearSlot}
 use Rattle.element.specs.Parts.{Part, IsSound, bounds, slot_place}
@@ -103,7 +103,7 @@ instructed p width h t f ip port i v made slot sound wide to_is near addressed s
     at_slot = subst (λ (s : SlotState). outcome_of p record { frame = f; ip = ip } (instr_of i) i.op s port t.word ≡ Becomes v made) slot_is comes
 
     at_seat : IsNearSeat p b record { frame = f; ip = ip } (instr_of i)
-    at_seat = record { frame = there; back = answer_near b f ip i.first there short.near short.first; land = landing_near b f ip i.first there short.near short.first; cells = λ a x l. cell_there p.arrays a x l }
+    at_seat = record { frame = there; back = answer_near b f ip (dest_in i.first) there short.near short.first; land = landing_near b f ip (dest_in i.first) there short.near short.first; cells = λ a x l. cell_there p.arrays a x l }
 
     after : NearOutcome b (Becomes v made)
     after = subst (λ (o : Outcome). NearOutcome b o) at_slot (outcome_near p b record { frame = f; ip = ip } (instr_of i) at_seat i.op (state_in h f (slot_of (instr_of i) i.op)) port t.word (state_near p h f (slot_of (instr_of i) i.op) sound) near.word)

@@ -12,7 +12,6 @@ ghost use Rattle.std.specs.Prelude.{List};
 ghost use Rattle.tags.specs.declared.token.Token.{Token};
 ghost use Rattle.element.specs.Decoded.{instr_of, dest_in, origin_in, IsShort, IsLone};
 ghost use Rattle.element.specs.Fired.{seat_of, tokens_of, fired_by, indexed_of, IsWithin, outcome_by, HasRoom, HasRoomInWord, HasRoomInSlot, TakesLeftAlone};
-
 ghost use Rattle.semantics.specs.Program.{Program, Instr};
 ghost use Rattle.element.specs.Parts.{Part};
 ghost use Rattle.element.specs.declared.firing.Firing.{Firing};
@@ -491,7 +490,7 @@ pub enum Firing {
 
 /// What a token meets in its slot.
 #[inline(always)]
-pub fn meeting(held: SlotState, port: Port, word: Word) -> Meeting
+pub fn meet(held: SlotState, port: Port, word: Word) -> Meeting
     requires slot_room { HasRoomInSlot held }
     requires word_room { HasRoomInWord word }
     ensures meets { (p : Program) (s : Rule.Seat) (i : Instr) → MeetingIs p s i (Rule.meets p s i held port word) result }

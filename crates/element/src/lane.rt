@@ -22,7 +22,10 @@ ghost use Rattle.element.specs.Openings.{opened, shape_at, IsOpening, StartsAs};
 ghost use Rattle.element.specs.Changed.{with_state, with_state_in, state_in, UsesSlot, OwnsCell, IsHostChange, CanFill, filled, IsRequested, IsReleased};
 ghost use Rattle.element.specs.Fired.{seat_of, tokens_of, outside_of, to_half, HasRoomInWord, HasRoomInSlot};
 
-use crate::firing::{Firing, Made, Meeting, NONE, Outcome, SIGNAL, Seat, answer, at_lone, fire, fire_two, firing_of, meeting};
+use crate::firing::{
+    Firing, Made, Meeting, NONE, Outcome, SIGNAL, Seat, answer, at_lone, fire, fire_two, firing_of,
+    meet,
+};
 use crate::instructions::{Instruction, Instructions, dest_in};
 use arrayvec::ArrayVec;
 use frame_manager::{Manager, NotOut};
@@ -450,20 +453,100 @@ impl<'m, A: Allocator> Lane<'m, A> {
         ensures { FiringIs (C.program code.now) (part_of self.now) (seat_of seat) (instr_of instr.now) port word result (tokens_of (seat_of seat) made.new) }
     {
         match instr.op {
-            Op::Apply2 { op } => self.at_pair(code, seat, instr, Op::Apply2 { op }, port, word, made),
+            Op::Apply2 { op } => self.at_pair(
+                code,
+                seat,
+                instr,
+                Op::Apply2 { op },
+                port,
+                word,
+                made,
+            ),
             Op::Sync => self.at_pair(code, seat, instr, Op::Sync, port, word, made),
             Op::Switch => self.at_pair(code, seat, instr, Op::Switch, port, word, made),
-            Op::Store { array } => self.at_pair(code, seat, instr, Op::Store { array }, port, word, made),
-            Op::Send { block, entry } => self.at_pair(code, seat, instr, Op::Send { block, entry }, port, word, made),
-            Op::Return { offset } => self.at_pair(code, seat, instr, Op::Return { offset }, port, word, made),
-            Op::Ask { offset } => self.at_pair(code, seat, instr, Op::Ask { offset }, port, word, made),
-            Op::Release { offset } => self.at_pair(code, seat, instr, Op::Release { offset }, port, word, made),
+            Op::Store { array } => self.at_pair(
+                code,
+                seat,
+                instr,
+                Op::Store { array },
+                port,
+                word,
+                made,
+            ),
+            Op::Send { block, entry } => self.at_pair(
+                code,
+                seat,
+                instr,
+                Op::Send { block, entry },
+                port,
+                word,
+                made,
+            ),
+            Op::Return { offset } => self.at_pair(
+                code,
+                seat,
+                instr,
+                Op::Return { offset },
+                port,
+                word,
+                made,
+            ),
+            Op::Ask { offset } => self.at_pair(
+                code,
+                seat,
+                instr,
+                Op::Ask { offset },
+                port,
+                word,
+                made,
+            ),
+            Op::Release { offset } => self.at_pair(
+                code,
+                seat,
+                instr,
+                Op::Release { offset },
+                port,
+                word,
+                made,
+            ),
             Op::Apply1 { op } => at_lone(code, seat, instr, Op::Apply1 { op }, port, word, made),
-            Op::Apply2Right { op, literal } => at_lone(code, seat, instr, Op::Apply2Right { op, literal }, port, word, made),
-            Op::Apply2Left { op, literal } => at_lone(code, seat, instr, Op::Apply2Left { op, literal }, port, word, made),
-            Op::Lit { literal } => at_lone(code, seat, instr, Op::Lit { literal }, port, word, made),
+            Op::Apply2Right { op, literal } => at_lone(
+                code,
+                seat,
+                instr,
+                Op::Apply2Right { op, literal },
+                port,
+                word,
+                made,
+            ),
+            Op::Apply2Left { op, literal } => at_lone(
+                code,
+                seat,
+                instr,
+                Op::Apply2Left { op, literal },
+                port,
+                word,
+                made,
+            ),
+            Op::Lit { literal } => at_lone(
+                code,
+                seat,
+                instr,
+                Op::Lit { literal },
+                port,
+                word,
+                made,
+            ),
             Op::Copy => at_lone(code, seat, instr, Op::Copy, port, word, made),
-            Op::Fetch { array } => at_lone(code, seat, instr, Op::Fetch { array }, port, word, made),
+            Op::Fetch { array } => at_lone(
+                code,
+                seat,
+                instr,
+                Op::Fetch { array },
+                port,
+                word,
+                made,
+            ),
             Op::Frame => at_lone(code, seat, instr, Op::Frame, port, word, made),
             Op::Link { block } => at_lone(code, seat, instr, Op::Link { block }, port, word, made),
             _ => Firing::Other,
@@ -494,7 +577,7 @@ impl<'m, A: Allocator> Lane<'m, A> {
         ensures { FiringIs (C.program code.now) (part_of self.now) (seat_of seat) (instr_of instr.now) port word result (tokens_of (seat_of seat) made.new) }
     {
         let held = self.slot_state(seat.frame, instr.slot);
-        match meeting(held, port, word) {
+        match meet(held, port, word) {
             Meeting::Both { left, right } => {
                 let fired = fire_two(code, seat, instr, op, left, right, made);
                 firing_of(Some(instr.slot), fired)

@@ -2,7 +2,7 @@ use Rattle.std.proofs.Common.{◌≡◌, ◌∙◌, sym, ap, subst, ℕ, ◌<◌
 use Rattle.tags.specs.declared.slot.SlotState.{SlotState}
 use Rattle.semantics.specs.Rule.{slot_of}
 use Rattle.element.specs.Decoded.{instr_of}
-use Rattle.element.specs.Fired.{HasRoomInSlot, tokens_of}
+use Rattle.element.specs.Fired.{HasRoomInSlot, seat_of, tokens_of}
 use Rattle.element.specs.Parts.{Shape}
 use Rattle.element.specs.Held.{Held, held_of, part_of, taken, with_part}
 use Rattle.element.specs.Changed.{with_state_in}
@@ -22,7 +22,7 @@ send_all-requires-clause-some g c =
     let same : mid ≡ old = c.make_room.ensures.held in
     let i = c.args.instr in
     let v = c.in-Becomes.slot in
-    let made = tokens_of c.fire.new.made in
+    let made = tokens_of (seat_of c.args.seat) c.fire.new.made in
     let changes = instructed p (g.C.Instructions.width c.args.code.now) old.part c.args.token c.args.seat.frame c.args.seat.ip c.args.port i v made c.slot_of-slot.result c.requires.sound.part c.requires.width c.requires.address c.requires.near c.requires.addressed
     c.requires.short c.requires.found c.slot_of-slot.ensures (sym c.in-Becomes.ensures) in
     let second = c.take.ensures.held ∙ ap (λ (m : Held). taken m c.args.at) c.keep.ensures.held ∙ ap (λ (m : Held). taken (with_part mid (with_state_in m.part c.args.seat.frame (slot_of (instr_of i) i.op) v)) c.args.at) same in
@@ -37,7 +37,7 @@ returns-else-is_err g c =
     let same : mid ≡ old = c.make_room.ensures.held in
     let i = c.args.instr in
     let v = c.in-Becomes.slot in
-    let made = tokens_of c.fire.new.made in
+    let made = tokens_of (seat_of c.args.seat) c.fire.new.made in
     let changes = instructed p (g.C.Instructions.width c.args.code.now) old.part c.args.token c.args.seat.frame c.args.seat.ip c.args.port i v made c.slot_of-slot.result c.requires.sound.part c.requires.width c.requires.address c.requires.near c.requires.addressed
     c.requires.short c.requires.found c.slot_of-slot.ensures (sym c.in-Becomes.ensures) in
     let second = c.take.ensures.held ∙ ap (λ (m : Held). taken m c.args.at) c.keep.ensures.held ∙ ap (λ (m : Held). taken (with_part mid (with_state_in m.part c.args.seat.frame (slot_of (instr_of i) i.op) v)) c.args.at) same in
