@@ -1,5 +1,5 @@
 -- What comes of an instruction that fires or not, put together.
-use Rattle.std.proofs.Common.{◌≡◌, refl, sym, ◌∙◌, ap, subst, Bool, true, false, if◌then◌else◌, ℕ, ◌+◌, ◌*◌, ◌%◌, ◌<◌, ◌≤◌, List, [], ◌++◌, Option, Some, None, arith}
+use Rattle.std.proofs.Common.{◌≡◌, refl, sym, ◌∙◌, ap, subst, ℕ, ◌*◌, ◌%◌, ◌<◌, ◌≤◌, List, [], ◌++◌, Option, Some, None, arith}
 use Rattle.tags.specs.declared.token.Port.{Port}
 use Rattle.tags.specs.declared.token.Word.{Word}
 use Rattle.tags.specs.declared.token.To.{To}
@@ -7,22 +7,16 @@ use Rattle.tags.specs.declared.token.Token.{Token}
 use Rattle.tags.specs.declared.slot.SlotState.{SlotState}
 use Rattle.tags.specs.Addresses.{element_of}
 use Rattle.semantics.specs.declared.program.Op.{Op}
-use Rattle.semantics.specs.declared.program.Op.TheVariants.{Apply1, Apply2, Apply2Right, Apply2Left, Lit, Copy, Sync, Switch, Fetch, Store, Frame, Link, Send, Return, Ask, Open, Take, Give, Drain, Release}
+use Rattle.semantics.specs.declared.program.Op.TheVariants.{Apply1, Apply2, Apply2Right, Apply2Left, Lit, Copy, Sync, Switch, Fetch, Store, Frame, Link, Send, Return, Ask, Release}
 use Rattle.semantics.specs.Program.{Instr, Program, instr_at}
-use Rattle.semantics.specs.Rule.{Seat, Outcome, Becomes, Excluded, outcome_of, slot_of, fires, meets, alone, rule_at, fire_two}
+use Rattle.semantics.specs.Rule.{Seat, Outcome, Becomes, Excluded, outcome_of, slot_of, fires, meets, alone, rule_at}
 use Rattle.semantics.specs.Machine.{slot_in, slot_used, excluded_by, stuck_rule}
 use Rattle.element.specs.declared.instructions.Instruction.{Instruction}
-use Rattle.tags.specs.declared.slot.SlotState.TheVariants.{Empty}
-use Rattle.element.specs.declared.firing.Firing.{Firing}
-use Rattle.element.specs.declared.firing.Firing.TheVariants.{Fires}
-use Rattle.element.specs.declared.firing.Firing.TheVariants as firing
-use Rattle.element.specs.Fired.{fired_by}
-use Rattle.element.specs.Outcomes.{FiringIs}
 use Rattle.element.specs.declared.lane.Stepped.{Stepped}
 use Rattle.element.specs.declared.lane.Stepped.TheVariants as Step
 use Rattle.element.specs.Decoded.{instr_of, IsShort, IsPair, IsLone}
 use Rattle.element.specs.Near.{IsNearToken, IsNearTo}
-use Rattle.element.specs.Parts.{Shape, Part, IsPart, IsSound, bounds}
+use Rattle.element.specs.Parts.{Shape, Part, IsSound, bounds}
 use Rattle.element.specs.Held.{Held, queued, taken, with_part, elsewhere}
 use Rattle.element.specs.Changed.{state_in, with_state_in}
 use Rattle.element.specs.Acts.{Changes, Acts, ActsAs, FiresAs, IsStuck}
@@ -120,24 +114,6 @@ module _ (p : Program) (width : ℕ) (old : Held) (t : Token) (f ip : ℕ) (port
   fired_as v fired at before Step.Memory new after comes still = still
   fired_as v fired at before Step.Idle new after comes bad = absurd bad
   fired_as v fired at before (Step.Clash cell) new after comes bad = absurd bad
-
--- WHAT IS MADE OF A PAIR
-pub pair_fires : (p : Program) (h : Part) (s : Seat) (i : Instr) (op : Op) (port : Port) (w l r : Word) (fired : Bool) (made : List Token) (f : Firing) (held : SlotState) → i.op ≡ op → IsPair op
-    → held ≡ state_in h s.frame (Some i.slot) → meets p s i held port w ≡ fires Empty (fire_two p s i i.op l r) → fired_by fired made ≡ fire_two p s i op l r
-    → f ≡ (if fired then Fires (Some i.slot) else firing.Excluded 4) → FiringIs p h s i port w f made
-pair_fires p h s i op port w l r fired made f held same k e comes fires_is f_is = by fired fires_is f_is
-  where
-    pair : IsPair i.op
-    pair = subst (λ (o : Op). IsPair o) (sym same) k
-
-    at_slot : outcome_of p s i i.op (state_in h s.frame (Some i.slot)) port w ≡ fires Empty (fire_two p s i op l r)
-    at_slot = pair_meets p s i i.op (state_in h s.frame (Some i.slot)) port w pair ∙ ap (λ (v : SlotState). meets p s i v port w) (sym e) ∙ comes
-        ∙ ap (λ (o : Op). fires Empty (fire_two p s i o l r)) same
-
-    by : (b : Bool) → fired_by b made ≡ fire_two p s i op l r → f ≡ (if b then Fires (Some i.slot) else firing.Excluded 4) → FiringIs p h s i port w f made
-    by true is f_as = subst (λ (x : Firing). FiringIs p h s i port w x made) (sym f_as) (pair_slot i i.op pair, at_slot ∙ ap (λ (o : Option (List Token)). fires Empty o) (sym is))
-    by false is f_as = subst (λ (x : Firing). FiringIs p h s i port w x made) (sym f_as)
-        (ap (λ (q : Option ℕ). outcome_of p s i i.op (state_in h s.frame q) port w) (pair_slot i i.op pair) ∙ at_slot ∙ ap (λ (o : Option (List Token)). fires Empty o) (sym is))
 
 -- WHERE IT FIRES
 pub fires_did : (fired : Option (List Token)) (part : Part) (old mid second new : Held) (at : ℕ) (made before between after : List Token)

@@ -13,6 +13,7 @@ use Rattle.semantics.specs.Rule as rule
 use Rattle.element.specs.Decoded.{dest_in}
 use Rattle.element.specs.declared.firing.Seat.{Seat}
 use Rattle.element.specs.declared.firing.Made.{Made}
+use Rattle.element.specs.declared.firing.Passed.{Passed}
 use Rattle.element.specs.declared.firing.Indexed.{Indexed}
 use Rattle.element.specs.declared.firing.Indexed.TheVariants.{Place, Outside}
 use Rattle.element.specs.declared.firing.Outcome.{Outcome}
@@ -37,6 +38,10 @@ outside_of m = released_of m.released ++ option_to_list m.outside
 -- the tokens that are made at a seat, in order
 abbrev pub tokens_of : rule.Seat → Made → List Token
 tokens_of s m = outside_of m ++ (to_half s m.word m.first ++ to_half s m.word m.second)
+
+-- and those that pass a word on
+abbrev pub passed_on : rule.Seat → Passed → List Token
+passed_on s x = to_half s x.word x.first ++ to_half s x.word x.second
 
 abbrev pub indexed_of : Indexed → values.Indexed
 indexed_of (Place x) = values.Place x

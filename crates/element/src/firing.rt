@@ -10,13 +10,10 @@ ghost use Rattle.operators.specs.Values as Values;
 ghost use Rattle.semantics.specs.Rule as Rule;
 ghost use Rattle.std.specs.Prelude.{List};
 ghost use Rattle.tags.specs.declared.token.Token.{Token};
-ghost use Rattle.element.specs.Decoded.{instr_of, dest_in, origin_in, IsShort, IsLone};
-ghost use Rattle.element.specs.Fired.{seat_of, tokens_of, fired_by, indexed_of, IsWithin, outcome_by, HasRoom, HasRoomInWord, HasRoomInSlot, TakesLeftAlone};
+ghost use Rattle.element.specs.Decoded.{instr_of, dest_in, origin_in, IsShort};
+ghost use Rattle.element.specs.Fired.{seat_of, tokens_of, passed_on, fired_by, indexed_of, IsWithin, outcome_by, HasRoom, HasRoomInWord, HasRoomInSlot, TakesLeftAlone};
 ghost use Rattle.semantics.specs.Program.{Program, Instr};
-ghost use Rattle.element.specs.Parts.{Part};
-ghost use Rattle.element.specs.declared.firing.Firing.{Firing};
-ghost use Rattle.element.specs.declared.firing.Firing.TheVariants.{Fires};
-ghost use Rattle.element.specs.Outcomes.{FiringIs, MeetingIs, LeftHasRoom};
+ghost use Rattle.element.specs.Outcomes.{MeetingIs, LeftHasRoom};
 
 use crate::instructions::{Instruction, Instructions, dest_in};
 use operators::{apply1, apply2_at, truth};
@@ -293,14 +290,13 @@ pub fn fire_one<C: Instructions>(
     code: &C,
     seat: Seat,
     instr: &Instruction,
-    op: Op,
     word: Word,
     made: &mut Made,
 ) -> bool
     requires short { IsShort (C.width code.now) seat.ip instr.now }
-    ensures { fired_by result (tokens_of (seat_of seat) made.new) ≡ Rule.fire_one (C.program code.now) (seat_of seat) (instr_of instr.now) op word }
+    ensures { fired_by result (tokens_of (seat_of seat) made.new) ≡ Rule.fire_one (C.program code.now) (seat_of seat) (instr_of instr.now) instr.now.op word }
 {
-    let value = match (op, word) {
+    let value = match (instr.op, word) {
         (Op::Apply1 { op }, Word::Val(value)) => apply1(op, value),
         (Op::Apply2Right { op, literal }, Word::Val(value)) => {
             apply2_at(op, value, Value::Int(literal), instr.origin())
@@ -409,16 +405,15 @@ pub fn fire_two<C: Instructions>(
     code: &C,
     seat: Seat,
     instr: &Instruction,
-    op: Op,
     left: Word,
     right: Word,
     made: &mut Made,
 ) -> bool
     requires short { IsShort (C.width code.now) seat.ip instr.now }
     requires room { HasRoomInWord left }
-    ensures { fired_by result (tokens_of (seat_of seat) made.new) ≡ Rule.fire_two (C.program code.now) (seat_of seat) (instr_of instr.now) op left right }
+    ensures { fired_by result (tokens_of (seat_of seat) made.new) ≡ Rule.fire_two (C.program code.now) (seat_of seat) (instr_of instr.now) instr.now.op left right }
 {
-    match (op, left, right) {
+    match (instr.op, left, right) {
         (Op::Apply2 { op }, Word::Val(x), Word::Val(y)) => {
             let value = apply2_at(op, x, y, instr.origin());
             to_all(seat, Word::Val(value), instr, made);
@@ -475,17 +470,12 @@ pub enum Meeting {
     Apart,
 }
 
-/// What comes of a token at an instruction with one input or with two, beside the tokens that are made.
+/// A word that goes to destinations of its own frame, which are half words of the instruction, or 0.
 #[derive(Clone, Copy, Debug, PartialEq, Eq)]
-pub enum Firing {
-    /// It waits in the instruction's slot, which has this state then.
-    Waits { state: SlotState },
-    /// All inputs are there; this slot is empty then.
-    Fires { cleared: Option<u32> },
-    /// The rule of this number excludes the token.
-    Excluded { rule: u8 },
-    /// The instruction has other inputs.
-    Other,
+pub struct Passed {
+    pub word: Word,
+    pub first: u32,
+    pub second: u32,
 }
 
 /// What a token meets in its slot.
@@ -509,40 +499,59 @@ pub fn meet(held: SlotState, port: Port, word: Word) -> Meeting
     }
 }
 
-/// The slot is cleared where the instruction fired.
+/// What an instruction with one input passes on to its destinations, where it is one that does and the word is of its kind.
 #[inline(always)]
-pub fn firing_of(cleared: Option<u32>, fired: bool) -> Firing
-    ensures { result ≡ (if fired then Fires cleared else Firing.Excluded 4) }
+pub fn pass_one(instr: &Instruction, word: Word) -> Option<Passed>
+    ensures { IfSome result (λ x. (p : Program) (s : Rule.Seat) → Rule.fire_one p s (instr_of instr.now) instr.now.op word ≡ Some (passed_on s x)) }
 {
-    if fired {
-        Firing::Fires { cleared }
-    } else {
-        Firing::Excluded { rule: 4 }
+    match (instr.op, word) {
+        (Op::Apply1 { op }, Word::Val(value)) => Some(to_both(instr, Word::Val(apply1(op, value)))),
+        (Op::Apply2Right { op, literal }, Word::Val(value)) => {
+            let value = apply2_at(op, value, Value::Int(literal), instr.origin());
+            Some(to_both(instr, Word::Val(value)))
+        }
+        (Op::Apply2Left { op, literal }, Word::Val(value)) => {
+            let value = apply2_at(op, Value::Int(literal), value, instr.origin());
+            Some(to_both(instr, Word::Val(value)))
+        }
+        (Op::Lit { literal }, _) => Some(to_both(instr, Word::Val(Value::Int(literal)))),
+        (Op::Copy, _) => Some(to_both(instr, word)),
+        _ => None,
     }
 }
 
-/// An instruction with one input.
+/// The same for an instruction with two inputs.
 #[inline(always)]
-pub fn at_lone<C: Instructions>(
-    code: &C,
-    seat: Seat,
-    instr: &Instruction,
-    op: Op,
-    port: Port,
-    word: Word,
-    made: &mut Made,
-) -> Firing
-    requires short { IsShort (C.width code.now) seat.ip instr.now }
-    requires same { instr.now.op ≡ op }
-    requires lone { IsLone op }
-    ensures { (h : Part) → FiringIs (C.program code.now) h (seat_of seat) (instr_of instr.now) port word result (tokens_of (seat_of seat) made.new) }
+pub fn pass_two(instr: &Instruction, left: &Word, right: &Word) -> Option<Passed>
+    ensures { IfSome result (λ x. (p : Program) (s : Rule.Seat) → Rule.fire_two p s (instr_of instr.now) instr.now.op left.now right.now ≡ Some (passed_on s x)) }
 {
-    match port {
-        Port::Right => Firing::Excluded { rule: 2 },
-        Port::Left => {
-            let fired = fire_one(code, seat, instr, op, word, made);
-            firing_of(None, fired)
+    match (instr.op, *left, *right) {
+        (Op::Apply2 { op }, Word::Val(x), Word::Val(y)) => {
+            let value = apply2_at(op, x, y, instr.origin());
+            Some(to_both(instr, Word::Val(value)))
         }
+        (Op::Sync, _, _) => Some(to_both(instr, SIGNAL)),
+        (Op::Switch, _, Word::Val(value)) => Some(Passed {
+            word: *left,
+            first: if truth(value) {
+                instr.first
+            } else {
+                instr.second
+            },
+            second: 0,
+        }),
+        _ => None,
+    }
+}
+
+#[inline(always)]
+fn to_both(instr: &Instruction, word: Word) -> Passed
+    ensures { (s : Rule.Seat) → passed_on s result ≡ Rule.to_all s word (instr_of instr.now) }
+{
+    Passed {
+        word,
+        first: instr.first,
+        second: instr.second,
     }
 }
 
@@ -606,11 +615,11 @@ fn meets<C: Instructions>(
         (SlotState::Empty, Port::Left) => becomes(SlotState::Left(word), made),
         (SlotState::Empty, Port::Right) => becomes(SlotState::Right(word), made),
         (SlotState::Left(left), Port::Right) => {
-            let fired = fire_two(code, seat, instr, instr.op, left, word, made);
+            let fired = fire_two(code, seat, instr, left, word, made);
             fires(SlotState::Empty, fired)
         }
         (SlotState::Right(right), Port::Left) => {
-            let fired = fire_two(code, seat, instr, instr.op, word, right, made);
+            let fired = fire_two(code, seat, instr, word, right, made);
             fires(SlotState::Empty, fired)
         }
         _ => excluded(3),
@@ -743,7 +752,7 @@ fn fire_left<C: Instructions>(
         | Op::Fetch { .. }
         | Op::Frame
         | Op::Link { .. } => {
-            let fired = fire_one(code, seat, instr, instr.op, word, made);
+            let fired = fire_one(code, seat, instr, word, made);
             fires(slot, fired)
         }
         _ => unreachable!(),

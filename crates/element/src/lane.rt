@@ -12,19 +12,18 @@ ghost use Rattle.element.specs.Parts.{slot_place, bounds};
 ghost use Rattle.std.specs.Prelude.{List};
 ghost use Rattle.tags.specs.Addresses.{element_of};
 ghost use Rattle.semantics.specs.Program.{Program, instr_at};
-ghost use Rattle.semantics.specs.Rule.{slot_of};
-ghost use Rattle.element.specs.Decoded.{instr_of, IsShort, IsPair};
-ghost use Rattle.element.specs.Outcomes.{FiringIs};
+ghost use Rattle.semantics.specs.Rule.{slot_of, fire_two};
+ghost use Rattle.element.specs.Decoded.{instr_of, IsShort, IsPair, IsLone};
 ghost use Rattle.element.specs.Near.{IsNearToken};
 ghost use Rattle.element.specs.Acts.{ActsAs, FiresAs};
 ghost use Rattle.element.specs.Steps.{Steps, Picks};
 ghost use Rattle.element.specs.Openings.{opened, shape_at, IsOpening, StartsAs};
 ghost use Rattle.element.specs.Changed.{with_state, with_state_in, state_in, UsesSlot, OwnsCell, IsHostChange, CanFill, filled, IsRequested, IsReleased};
-ghost use Rattle.element.specs.Fired.{seat_of, tokens_of, outside_of, to_half, HasRoomInWord, HasRoomInSlot};
+ghost use Rattle.element.specs.Fired.{seat_of, tokens_of, outside_of, to_half, passed_on, HasRoomInWord, HasRoomInSlot};
 
 use crate::firing::{
-    Firing, Made, Meeting, NONE, Outcome, SIGNAL, Seat, answer, at_lone, fire, fire_two, firing_of,
-    meet,
+    Made, Meeting, NONE, Outcome, Passed, SIGNAL, Seat, answer, fire, fire_two, meet, pass_one,
+    pass_two,
 };
 use crate::instructions::{Instruction, Instructions, dest_in};
 use arrayvec::ArrayVec;
@@ -355,15 +354,21 @@ impl<'m, A: Allocator> Lane<'m, A> {
         let Some(instr) = code.instr(seat.ip) else {
             return Stepped::Stuck { rule: 1 };
         };
-        let mut made = NONE;
-        match self.firing(code, seat, &instr, port, token.word, &mut made) {
-            Firing::Waits { state } => {
-                self.wait(at, seat.frame, instr.slot, state);
-                Stepped::Did
-            }
-            Firing::Fires { cleared } => self.finish(at, seat, cleared, &made, sent),
-            Firing::Excluded { rule } => Stepped::Stuck { rule },
-            Firing::Other => self.read_again(code, at, token, seat, port, sent),
+        match instr.op {
+            Op::Apply2 { .. }
+            | Op::Sync
+            | Op::Switch
+            | Op::Store { .. }
+            | Op::Send { .. }
+            | Op::Return { .. }
+            | Op::Ask { .. }
+            | Op::Release { .. } => self.at_pair(code, at, token, seat, &instr, port, sent),
+            Op::Apply1 { .. }
+            | Op::Apply2Right { .. }
+            | Op::Apply2Left { .. }
+            | Op::Lit { .. }
+            | Op::Copy => self.at_lone(code, at, token, seat, &instr, port, sent),
+            _ => self.read_again(code, at, token, seat, port, sent),
         }
     }
 
@@ -432,158 +437,74 @@ impl<'m, A: Allocator> Lane<'m, A> {
         }
     }
 
-    // What comes of a token at an instruction with one input or with two.
-    #[inline(always)]
-    fn firing<C: Instructions>(
-        &self,
-        code: &C,
-        seat: Seat,
-        instr: &Instruction,
-        port: Port,
-        word: Word,
-        made: &mut Made,
-    ) -> Firing
-        requires some { 0 < self.now.elements }
-        requires bank { IsBank self.now.bank }
-        requires frame { seat.frame < self.now.elements * self.now.bank.frames }
-        requires slot { instr.now.slot < self.now.bank.width }
-        requires short { IsShort (C.width code.now) seat.ip instr.now }
-        requires held { HasRoomInSlot (slice_index_or (part_of self.now).states (slot_place (shape_of self.now) seat.frame instr.now.slot) Empty) }
-        requires word { HasRoomInWord word }
-        ensures { FiringIs (C.program code.now) (part_of self.now) (seat_of seat) (instr_of instr.now) port word result (tokens_of (seat_of seat) made.new) }
-    {
-        match instr.op {
-            Op::Apply2 { op } => self.at_pair(
-                code,
-                seat,
-                instr,
-                Op::Apply2 { op },
-                port,
-                word,
-                made,
-            ),
-            Op::Sync => self.at_pair(code, seat, instr, Op::Sync, port, word, made),
-            Op::Switch => self.at_pair(code, seat, instr, Op::Switch, port, word, made),
-            Op::Store { array } => self.at_pair(
-                code,
-                seat,
-                instr,
-                Op::Store { array },
-                port,
-                word,
-                made,
-            ),
-            Op::Send { block, entry } => self.at_pair(
-                code,
-                seat,
-                instr,
-                Op::Send { block, entry },
-                port,
-                word,
-                made,
-            ),
-            Op::Return { offset } => self.at_pair(
-                code,
-                seat,
-                instr,
-                Op::Return { offset },
-                port,
-                word,
-                made,
-            ),
-            Op::Ask { offset } => self.at_pair(
-                code,
-                seat,
-                instr,
-                Op::Ask { offset },
-                port,
-                word,
-                made,
-            ),
-            Op::Release { offset } => self.at_pair(
-                code,
-                seat,
-                instr,
-                Op::Release { offset },
-                port,
-                word,
-                made,
-            ),
-            Op::Apply1 { op } => at_lone(code, seat, instr, Op::Apply1 { op }, port, word, made),
-            Op::Apply2Right { op, literal } => at_lone(
-                code,
-                seat,
-                instr,
-                Op::Apply2Right { op, literal },
-                port,
-                word,
-                made,
-            ),
-            Op::Apply2Left { op, literal } => at_lone(
-                code,
-                seat,
-                instr,
-                Op::Apply2Left { op, literal },
-                port,
-                word,
-                made,
-            ),
-            Op::Lit { literal } => at_lone(
-                code,
-                seat,
-                instr,
-                Op::Lit { literal },
-                port,
-                word,
-                made,
-            ),
-            Op::Copy => at_lone(code, seat, instr, Op::Copy, port, word, made),
-            Op::Fetch { array } => at_lone(
-                code,
-                seat,
-                instr,
-                Op::Fetch { array },
-                port,
-                word,
-                made,
-            ),
-            Op::Frame => at_lone(code, seat, instr, Op::Frame, port, word, made),
-            Op::Link { block } => at_lone(code, seat, instr, Op::Link { block }, port, word, made),
-            _ => Firing::Other,
-        }
-    }
-
     // An instruction with two inputs: the first token waits in the slot for the second.
     #[inline(always)]
     fn at_pair<C: Instructions>(
-        &self,
+        &mut self,
         code: &C,
+        at: usize,
+        token: Token,
         seat: Seat,
         instr: &Instruction,
-        op: Op,
         port: Port,
-        word: Word,
-        made: &mut Made,
-    ) -> Firing
-        requires some { 0 < self.now.elements }
-        requires bank { IsBank self.now.bank }
-        requires frame { seat.frame < self.now.elements * self.now.bank.frames }
-        requires slot { instr.now.slot < self.now.bank.width }
+        sent: &mut Vec<Token, A>,
+    ) -> Stepped
+        requires sound { IsSoundLane (C.program code.now) (held_of self.old) }
+        requires width { C.width code.now ≤ self.old.bank.width }
+        requires there { at < length self.old.queue.items }
+        requires few { self.old.made < 2 ^ 63 }
+        requires address { token.to ≡ To.Instr seat.frame seat.ip port }
+        requires near { IsNearToken (bounds (C.program code.now) (shape_of self.old)) token }
+        requires addressed { element_of self.old.elements token.to ≡ self.old.element }
+        requires found { instr_at (C.program code.now) seat.ip ≡ Some (instr_of instr.now) }
         requires short { IsShort (C.width code.now) seat.ip instr.now }
-        requires same { instr.now.op ≡ op }
-        requires pair { IsPair op }
-        requires held { HasRoomInSlot (slice_index_or (part_of self.now).states (slot_place (shape_of self.now) seat.frame instr.now.slot) Empty) }
-        requires word { HasRoomInWord word }
-        ensures { FiringIs (C.program code.now) (part_of self.now) (seat_of seat) (instr_of instr.now) port word result (tokens_of (seat_of seat) made.new) }
+        requires pair { IsPair instr.now.op }
+        ensures { ActsAs (C.program code.now) (held_of self.old) at token sent.old.items result (held_of self.new) sent.new.items }
     {
         let held = self.slot_state(seat.frame, instr.slot);
-        match meet(held, port, word) {
-            Meeting::Both { left, right } => {
-                let fired = fire_two(code, seat, instr, op, left, right, made);
-                firing_of(Some(instr.slot), fired)
+        match meet(held, port, token.word) {
+            Meeting::Waits { state } => {
+                self.wait(at, seat.frame, instr.slot, state);
+                Stepped::Did
             }
-            Meeting::Waits { state } => Firing::Waits { state },
-            Meeting::Apart => Firing::Excluded { rule: 3 },
+            Meeting::Apart => Stepped::Stuck { rule: 3 },
+            Meeting::Both { left, right } => match pass_two(instr, &left, &right) {
+                Some(passed) => self.pass(at, seat, Some(instr.slot), &passed, sent),
+                None => self.fire_pair(code, at, seat, *instr, &left, &right, sent),
+            },
+        }
+    }
+
+    // An instruction with one input, which goes to its own destinations.
+    #[inline(always)]
+    fn at_lone<C: Instructions>(
+        &mut self,
+        code: &C,
+        at: usize,
+        token: Token,
+        seat: Seat,
+        instr: &Instruction,
+        port: Port,
+        sent: &mut Vec<Token, A>,
+    ) -> Stepped
+        requires sound { IsSoundLane (C.program code.now) (held_of self.old) }
+        requires width { C.width code.now ≤ self.old.bank.width }
+        requires there { at < length self.old.queue.items }
+        requires few { self.old.made < 2 ^ 63 }
+        requires address { token.to ≡ To.Instr seat.frame seat.ip port }
+        requires near { IsNearToken (bounds (C.program code.now) (shape_of self.old)) token }
+        requires addressed { element_of self.old.elements token.to ≡ self.old.element }
+        requires found { instr_at (C.program code.now) seat.ip ≡ Some (instr_of instr.now) }
+        requires short { IsShort (C.width code.now) seat.ip instr.now }
+        requires lone { IsLone instr.now.op }
+        ensures { ActsAs (C.program code.now) (held_of self.old) at token sent.old.items result (held_of self.new) sent.new.items }
+    {
+        match port {
+            Port::Right => Stepped::Stuck { rule: 2 },
+            Port::Left => match pass_one(instr, token.word) {
+                Some(passed) => self.pass(at, seat, None, &passed, sent),
+                None => self.read_again(code, at, token, seat, port, sent),
+            },
         }
     }
 
@@ -602,14 +523,14 @@ impl<'m, A: Allocator> Lane<'m, A> {
         self.take(at);
     }
 
-    // The slot that is cleared is empty then, the token is taken out, and what was made is sent.
+    // The slot that is cleared is empty then, the token is taken out, and a word goes to the destinations.
     #[inline(always)]
-    fn finish(
+    fn pass(
         &mut self,
         at: usize,
         seat: Seat,
         cleared: Option<u32>,
-        made: &Made,
+        passed: &Passed,
         sent: &mut Vec<Token, A>,
     ) -> Stepped
         requires some { 0 < self.old.elements }
@@ -619,16 +540,52 @@ impl<'m, A: Allocator> Lane<'m, A> {
         requires slot { IfSome cleared (λ slot. slot < self.old.bank.width) }
         requires there { at < length self.old.queue.items }
         requires few { self.old.made < 2 ^ 63 }
-        ensures { FiresAs (Some (tokens_of (seat_of seat) made.now)) (with_state_in (part_of self.old) seat.frame cleared Empty) (held_of self.old) at sent.old.items result (held_of self.new) sent.new.items }
+        ensures { FiresAs (Some (passed_on (seat_of seat) passed.now)) (with_state_in (part_of self.old) seat.frame cleared Empty) (held_of self.old) at sent.old.items result (held_of self.new) sent.new.items }
     {
-        if self.make_room(4, sent).is_err() {
+        if self.make_room(2, sent).is_err() {
             return Stepped::Memory;
         }
         if let Some(slot) = cleared {
             self.set_slot(seat.frame, slot, SlotState::Empty);
         }
         self.take(at);
-        self.send_all(seat, made, sent);
+        self.send_to(seat, &passed.word, passed.first, sent);
+        self.send_to(seat, &passed.word, passed.second, sent);
+        Stepped::Did
+    }
+
+    // Both words are there, of any instruction with two inputs: the slot is empty then.
+    #[inline(never)]
+    fn fire_pair<C: Instructions>(
+        &mut self,
+        code: &C,
+        at: usize,
+        seat: Seat,
+        instr: Instruction,
+        left: &Word,
+        right: &Word,
+        sent: &mut Vec<Token, A>,
+    ) -> Stepped
+        requires some { 0 < self.old.elements }
+        requires bank { IsBank self.old.bank }
+        requires frame { seat.frame < self.old.elements * self.old.bank.frames }
+        requires slot { instr.slot < self.old.bank.width }
+        requires there { at < length self.old.queue.items }
+        requires few { self.old.made < 2 ^ 63 }
+        requires short { IsShort (C.width code.now) seat.ip instr }
+        requires room { HasRoomInWord left.now }
+        ensures { FiresAs (fire_two (C.program code.now) (seat_of seat) (instr_of instr) instr.op left.now right.now) (with_state (part_of self.old) (slot_place (shape_of self.old) seat.frame instr.slot) Empty) (held_of self.old) at sent.old.items result (held_of self.new) sent.new.items }
+    {
+        let mut made = NONE;
+        if !fire_two(code, seat, &instr, *left, *right, &mut made) {
+            return Stepped::Stuck { rule: 4 };
+        }
+        if self.make_room(4, sent).is_err() {
+            return Stepped::Memory;
+        }
+        self.set_slot(seat.frame, instr.slot, SlotState::Empty);
+        self.take(at);
+        self.send_all(seat, &made, sent);
         Stepped::Did
     }
 

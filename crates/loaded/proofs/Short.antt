@@ -11,7 +11,7 @@ use Rattle.semantics.specs.Program.{Instr, CodeBlock, Code, first_of, instr_from
 use Rattle.semantics.specs.Rule.{slot_of, array_base, array_len}
 use Rattle.semantics.specs.Bytes.{IsCode, IsCodeBlock, IsInstr, IsSlot, IsDest}
 use Rattle.element.specs.declared.instructions.Instruction.{Instruction}
-use Rattle.element.specs.Decoded.{instr_of, IsShort}
+use Rattle.element.specs.Decoded.{instr_of, dest_in, IsShort}
 use Rattle.loaded.specs.Ready.{widest}
 
 -- an instruction in its block
@@ -82,8 +82,8 @@ short v c ip i code h =
     record {
       near = omega arith;
       slot = low_slot f.block (instr_of i) i.op (widest c.program.blocks) is.slot f.slots (some_width c.program.blocks);
-      first = near_dest f.block f.place i.first size is.firsts;
-      second = near_dest f.block f.place i.second size is.seconds;
+      first = near_dest f.block f.place (dest_in i.first) size is.firsts;
+      second = near_dest f.block f.place (dest_in i.second) size is.seconds;
     }
 
 few_from : (v : ℕ) (c : Code) (bs : List CodeBlock) (k : ℕ) → All (IsCodeBlock v c) bs → sum (map (λ (x : CodeBlock). length x.instrs) (take k bs)) ≤ 32768 * length bs
