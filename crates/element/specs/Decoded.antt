@@ -54,15 +54,3 @@ IsLone (Fetch a) = ⊤
 IsLone Frame = ⊤
 IsLone (Link b) = ⊤
 IsLone op = ⊥
-
--- it passes a word on to its destinations, and makes nothing else
-abbrev pub PassesOn : Op → Type 0
-PassesOn (Apply1 op) = ⊤
-PassesOn (Apply2Right op z) = ⊤
-PassesOn (Apply2Left op z) = ⊤
-PassesOn (Lit z) = ⊤
-PassesOn Copy = ⊤
-PassesOn (Apply2 op) = ⊤
-PassesOn Sync = ⊤
-PassesOn Switch = ⊤
-PassesOn op = ⊥

@@ -1,7 +1,6 @@
 -- What the code's outcomes stand for in the definitions.
 use Rattle.std.specs.Prelude.{ℕ, Bool, true, false, Option, Some, None, ◌<◌, ◌^◌, List, [], ◌∷◌, ◌++◌, option_to_list, ⊤}
 use Rattle.tags.specs.declared.token.Cont.{Cont}
-use Rattle.tags.specs.declared.token.Port.{Port}
 use Rattle.tags.specs.declared.token.Word.{Word}
 use Rattle.tags.specs.declared.token.To.{To}
 use Rattle.tags.specs.declared.token.Token.{Token}
@@ -22,10 +21,6 @@ use Rattle.element.specs.declared.firing.Outcome.TheVariants.{Becomes, Excluded}
 
 abbrev pub seat_of : Seat → rule.Seat
 seat_of s = record { frame = s.frame; ip = s.ip }
-
--- a token that comes to a seat
-abbrev pub token_at : Seat → Port → Word → Token
-token_at s port w = record { to = To.Instr s.frame s.ip port; word = w }
 
 -- a word to the destination in a half word, if it has one
 abbrev pub to_half : rule.Seat → Word → ℕ → List Token

@@ -8,9 +8,9 @@ ghost use Rattle.tags.specs.declared.token.Word.{Word};
 ghost use Rattle.tags.specs.declared.token.To.{To};
 ghost use Rattle.operators.specs.Values as Values;
 ghost use Rattle.semantics.specs.Rule as Rule;
-ghost use Rattle.std.specs.Prelude.{List, true};
+ghost use Rattle.std.specs.Prelude.{List};
 ghost use Rattle.tags.specs.declared.token.Token.{Token};
-ghost use Rattle.element.specs.Decoded.{instr_of, dest_in, origin_in, IsShort, PassesOn};
+ghost use Rattle.element.specs.Decoded.{instr_of, dest_in, origin_in, IsShort};
 ghost use Rattle.element.specs.Fired.{seat_of, tokens_of, passed_on, fired_by, indexed_of, IsWithin, outcome_by, HasRoom, HasRoomInWord, HasRoomInSlot, TakesLeftAlone};
 ghost use Rattle.semantics.specs.Program.{Program, Instr};
 ghost use Rattle.element.specs.Outcomes.{MeetingIs, LeftHasRoom};
@@ -499,12 +499,10 @@ pub fn meet(held: SlotState, port: Port, word: Word) -> Meeting
     }
 }
 
-/// What an instruction with one input passes on to its destinations, where it makes nothing else; `None` where the word is of
-/// a wrong kind.
+/// What an instruction with one input passes on to its destinations, where it is one that does and the word is of its kind.
 #[inline(always)]
 pub fn pass_one(instr: &Instruction, word: Word) -> Option<Passed>
-    requires { PassesOn instr.now.op }
-    ensures { (p : Program) (s : Rule.Seat) → Rule.fire_one p s (instr_of instr.now) instr.now.op word ≡ option_map (passed_on s) result }
+    ensures { IfSome result (λ x. (p : Program) (s : Rule.Seat) → Rule.fire_one p s (instr_of instr.now) instr.now.op word ≡ Some (passed_on s x)) }
 {
     match (instr.op, word) {
         (Op::Apply1 { op }, Word::Val(value)) => Some(to_both(instr, Word::Val(apply1(op, value)))),
@@ -522,28 +520,19 @@ pub fn pass_one(instr: &Instruction, word: Word) -> Option<Passed>
     }
 }
 
-/// Whether an instruction with two inputs passes a word on to its destinations, and makes nothing else.
+/// The same for an instruction with two inputs.
 #[inline(always)]
-pub fn passes_on(op: Op) -> bool
-    ensures yes { result ≡ true → PassesOn op }
+pub fn pass_two(instr: &Instruction, left: &Word, right: &Word) -> Option<Passed>
+    ensures { IfSome result (λ x. (p : Program) (s : Rule.Seat) → Rule.fire_two p s (instr_of instr.now) instr.now.op left.now right.now ≡ Some (passed_on s x)) }
 {
-    matches!(op, Op::Apply2 { .. } | Op::Sync | Op::Switch)
-}
-
-/// What such an instruction passes on; `None` where a word is of a wrong kind.
-#[inline(always)]
-pub fn pass_two(instr: &Instruction, left: Word, right: Word) -> Option<Passed>
-    requires { PassesOn instr.now.op }
-    ensures { (p : Program) (s : Rule.Seat) → Rule.fire_two p s (instr_of instr.now) instr.now.op left right ≡ option_map (passed_on s) result }
-{
-    match (instr.op, left, right) {
+    match (instr.op, *left, *right) {
         (Op::Apply2 { op }, Word::Val(x), Word::Val(y)) => {
             let value = apply2_at(op, x, y, instr.origin());
             Some(to_both(instr, Word::Val(value)))
         }
         (Op::Sync, _, _) => Some(to_both(instr, SIGNAL)),
         (Op::Switch, _, Word::Val(value)) => Some(Passed {
-            word: left,
+            word: *left,
             first: if truth(value) {
                 instr.first
             } else {

@@ -13,17 +13,17 @@ ghost use Rattle.std.specs.Prelude.{List};
 ghost use Rattle.tags.specs.Addresses.{element_of};
 ghost use Rattle.semantics.specs.Program.{Program, instr_at};
 ghost use Rattle.semantics.specs.Rule.{slot_of, fire_two};
-ghost use Rattle.element.specs.Decoded.{instr_of, IsShort, IsPair, IsLone, PassesOn};
+ghost use Rattle.element.specs.Decoded.{instr_of, IsShort, IsPair, IsLone};
 ghost use Rattle.element.specs.Near.{IsNearToken};
 ghost use Rattle.element.specs.Acts.{ActsAs, FiresAs};
 ghost use Rattle.element.specs.Steps.{Steps, Picks};
 ghost use Rattle.element.specs.Openings.{opened, shape_at, IsOpening, StartsAs};
 ghost use Rattle.element.specs.Changed.{with_state, with_state_in, state_in, UsesSlot, OwnsCell, IsHostChange, CanFill, filled, IsRequested, IsReleased};
-ghost use Rattle.element.specs.Fired.{seat_of, tokens_of, outside_of, to_half, passed_on, token_at, HasRoomInWord, HasRoomInSlot};
+ghost use Rattle.element.specs.Fired.{seat_of, tokens_of, outside_of, to_half, passed_on, HasRoomInWord, HasRoomInSlot};
 
 use crate::firing::{
     Made, Meeting, NONE, Outcome, Passed, SIGNAL, Seat, answer, fire, fire_two, meet, pass_one,
-    pass_two, passes_on,
+    pass_two,
 };
 use crate::instructions::{Instruction, Instructions, dest_in};
 use arrayvec::ArrayVec;
@@ -337,18 +337,19 @@ impl<'m, A: Allocator> Lane<'m, A> {
         &mut self,
         code: &C,
         at: usize,
+        token: &Token,
         seat: Seat,
         port: Port,
-        word: Word,
         sent: &mut Vec<Token, A>,
     ) -> Stepped
         requires sound { IsSoundLane (C.program code.now) (held_of self.old) }
         requires width { C.width code.now ≤ self.old.bank.width }
         requires there { at < length self.old.queue.items }
         requires few { self.old.made < 2 ^ 63 }
-        requires near { IsNearToken (bounds (C.program code.now) (shape_of self.old)) (token_at seat port word) }
-        requires addressed { element_of self.old.elements (To.Instr seat.frame seat.ip port) ≡ self.old.element }
-        ensures { ActsAs (C.program code.now) (held_of self.old) at (token_at seat port word) sent.old.items result (held_of self.new) sent.new.items }
+        requires address { token.now.to ≡ To.Instr seat.frame seat.ip port }
+        requires near { IsNearToken (bounds (C.program code.now) (shape_of self.old)) token.now }
+        requires addressed { element_of self.old.elements token.now.to ≡ self.old.element }
+        ensures { ActsAs (C.program code.now) (held_of self.old) at token.now sent.old.items result (held_of self.new) sent.new.items }
     {
         let Some(instr) = code.instr(seat.ip) else {
             return Stepped::Stuck { rule: 1 };
@@ -361,13 +362,13 @@ impl<'m, A: Allocator> Lane<'m, A> {
             | Op::Send { .. }
             | Op::Return { .. }
             | Op::Ask { .. }
-            | Op::Release { .. } => self.at_pair(code, at, seat, &instr, port, word, sent),
+            | Op::Release { .. } => self.at_pair(code, at, token, seat, &instr, port, sent),
             Op::Apply1 { .. }
             | Op::Apply2Right { .. }
             | Op::Apply2Left { .. }
             | Op::Lit { .. }
-            | Op::Copy => self.at_lone(code, at, seat, &instr, port, word, sent),
-            _ => self.read_again(code, at, seat, port, word, sent),
+            | Op::Copy => self.at_lone(code, at, token, seat, &instr, port, sent),
+            _ => self.read_again(code, at, token, seat, port, sent),
         }
     }
 
@@ -378,23 +379,24 @@ impl<'m, A: Allocator> Lane<'m, A> {
         &mut self,
         code: &C,
         at: usize,
+        token: &Token,
         seat: Seat,
         port: Port,
-        word: Word,
         sent: &mut Vec<Token, A>,
     ) -> Stepped
         requires sound { IsSoundLane (C.program code.now) (held_of self.old) }
         requires width { C.width code.now ≤ self.old.bank.width }
         requires there { at < length self.old.queue.items }
         requires few { self.old.made < 2 ^ 63 }
-        requires near { IsNearToken (bounds (C.program code.now) (shape_of self.old)) (token_at seat port word) }
-        requires addressed { element_of self.old.elements (To.Instr seat.frame seat.ip port) ≡ self.old.element }
-        ensures { ActsAs (C.program code.now) (held_of self.old) at (token_at seat port word) sent.old.items result (held_of self.new) sent.new.items }
+        requires address { token.now.to ≡ To.Instr seat.frame seat.ip port }
+        requires near { IsNearToken (bounds (C.program code.now) (shape_of self.old)) token.now }
+        requires addressed { element_of self.old.elements token.now.to ≡ self.old.element }
+        ensures { ActsAs (C.program code.now) (held_of self.old) at token.now sent.old.items result (held_of self.new) sent.new.items }
     {
         let Some(instr) = code.instr(seat.ip) else {
             return Stepped::Stuck { rule: 1 };
         };
-        self.at_any(code, at, seat, instr, port, word, sent)
+        self.at_any(code, at, token, seat, instr, port, sent)
     }
 
     // Any instruction that was read.
@@ -402,25 +404,26 @@ impl<'m, A: Allocator> Lane<'m, A> {
         &mut self,
         code: &C,
         at: usize,
+        token: &Token,
         seat: Seat,
         instr: Instruction,
         port: Port,
-        word: Word,
         sent: &mut Vec<Token, A>,
     ) -> Stepped
         requires sound { IsSoundLane (C.program code.now) (held_of self.old) }
         requires width { C.width code.now ≤ self.old.bank.width }
         requires there { at < length self.old.queue.items }
         requires few { self.old.made < 2 ^ 63 }
-        requires near { IsNearToken (bounds (C.program code.now) (shape_of self.old)) (token_at seat port word) }
-        requires addressed { element_of self.old.elements (To.Instr seat.frame seat.ip port) ≡ self.old.element }
+        requires address { token.now.to ≡ To.Instr seat.frame seat.ip port }
+        requires near { IsNearToken (bounds (C.program code.now) (shape_of self.old)) token.now }
+        requires addressed { element_of self.old.elements token.now.to ≡ self.old.element }
         requires found { instr_at (C.program code.now) seat.ip ≡ Some (instr_of instr) }
         requires short { IsShort (C.width code.now) seat.ip instr }
-        ensures { ActsAs (C.program code.now) (held_of self.old) at (token_at seat port word) sent.old.items result (held_of self.new) sent.new.items }
+        ensures { ActsAs (C.program code.now) (held_of self.old) at token.now sent.old.items result (held_of self.new) sent.new.items }
     {
         let slot = self.slot_of(seat.frame, &instr);
         let mut made = NONE;
-        match fire(code, seat, &instr, slot, port, word, &mut made) {
+        match fire(code, seat, &instr, slot, port, token.word, &mut made) {
             Outcome::Excluded { rule } => Stepped::Stuck { rule },
             Outcome::Becomes { slot } => {
                 if self.make_room(4, sent).is_err() {
@@ -440,39 +443,35 @@ impl<'m, A: Allocator> Lane<'m, A> {
         &mut self,
         code: &C,
         at: usize,
+        token: &Token,
         seat: Seat,
         instr: &Instruction,
         port: Port,
-        word: Word,
         sent: &mut Vec<Token, A>,
     ) -> Stepped
         requires sound { IsSoundLane (C.program code.now) (held_of self.old) }
         requires width { C.width code.now ≤ self.old.bank.width }
         requires there { at < length self.old.queue.items }
         requires few { self.old.made < 2 ^ 63 }
-        requires near { IsNearToken (bounds (C.program code.now) (shape_of self.old)) (token_at seat port word) }
-        requires addressed { element_of self.old.elements (To.Instr seat.frame seat.ip port) ≡ self.old.element }
+        requires address { token.now.to ≡ To.Instr seat.frame seat.ip port }
+        requires near { IsNearToken (bounds (C.program code.now) (shape_of self.old)) token.now }
+        requires addressed { element_of self.old.elements token.now.to ≡ self.old.element }
         requires found { instr_at (C.program code.now) seat.ip ≡ Some (instr_of instr.now) }
         requires short { IsShort (C.width code.now) seat.ip instr.now }
         requires pair { IsPair instr.now.op }
-        ensures { ActsAs (C.program code.now) (held_of self.old) at (token_at seat port word) sent.old.items result (held_of self.new) sent.new.items }
+        ensures { ActsAs (C.program code.now) (held_of self.old) at token.now sent.old.items result (held_of self.new) sent.new.items }
     {
         let held = self.slot_state(seat.frame, instr.slot);
-        match meet(held, port, word) {
+        match meet(held, port, token.word) {
             Meeting::Waits { state } => {
                 self.wait(at, seat.frame, instr.slot, state);
                 Stepped::Did
             }
             Meeting::Apart => Stepped::Stuck { rule: 3 },
-            Meeting::Both { left, right } => {
-                if !passes_on(instr.op) {
-                    return self.fire_pair(code, at, seat, *instr, left, right, sent);
-                }
-                match pass_two(instr, left, right) {
-                    Some(passed) => self.pass(at, seat, Some(instr.slot), &passed, sent),
-                    None => Stepped::Stuck { rule: 4 },
-                }
-            }
+            Meeting::Both { left, right } => match pass_two(instr, &left, &right) {
+                Some(passed) => self.pass(at, seat, Some(instr.slot), &passed, sent),
+                None => self.fire_pair(code, at, seat, *instr, &left, &right, sent),
+            },
         }
     }
 
@@ -482,29 +481,29 @@ impl<'m, A: Allocator> Lane<'m, A> {
         &mut self,
         code: &C,
         at: usize,
+        token: &Token,
         seat: Seat,
         instr: &Instruction,
         port: Port,
-        word: Word,
         sent: &mut Vec<Token, A>,
     ) -> Stepped
         requires sound { IsSoundLane (C.program code.now) (held_of self.old) }
         requires width { C.width code.now ≤ self.old.bank.width }
         requires there { at < length self.old.queue.items }
         requires few { self.old.made < 2 ^ 63 }
-        requires near { IsNearToken (bounds (C.program code.now) (shape_of self.old)) (token_at seat port word) }
-        requires addressed { element_of self.old.elements (To.Instr seat.frame seat.ip port) ≡ self.old.element }
+        requires address { token.now.to ≡ To.Instr seat.frame seat.ip port }
+        requires near { IsNearToken (bounds (C.program code.now) (shape_of self.old)) token.now }
+        requires addressed { element_of self.old.elements token.now.to ≡ self.old.element }
         requires found { instr_at (C.program code.now) seat.ip ≡ Some (instr_of instr.now) }
         requires short { IsShort (C.width code.now) seat.ip instr.now }
         requires lone { IsLone instr.now.op }
-        requires passes { PassesOn instr.now.op }
-        ensures { ActsAs (C.program code.now) (held_of self.old) at (token_at seat port word) sent.old.items result (held_of self.new) sent.new.items }
+        ensures { ActsAs (C.program code.now) (held_of self.old) at token.now sent.old.items result (held_of self.new) sent.new.items }
     {
         match port {
             Port::Right => Stepped::Stuck { rule: 2 },
-            Port::Left => match pass_one(instr, word) {
+            Port::Left => match pass_one(instr, token.word) {
                 Some(passed) => self.pass(at, seat, None, &passed, sent),
-                None => Stepped::Stuck { rule: 4 },
+                None => self.read_again(code, at, token, seat, port, sent),
             },
         }
     }
@@ -563,8 +562,8 @@ impl<'m, A: Allocator> Lane<'m, A> {
         at: usize,
         seat: Seat,
         instr: Instruction,
-        left: Word,
-        right: Word,
+        left: &Word,
+        right: &Word,
         sent: &mut Vec<Token, A>,
     ) -> Stepped
         requires some { 0 < self.old.elements }
@@ -574,11 +573,11 @@ impl<'m, A: Allocator> Lane<'m, A> {
         requires there { at < length self.old.queue.items }
         requires few { self.old.made < 2 ^ 63 }
         requires short { IsShort (C.width code.now) seat.ip instr }
-        requires room { HasRoomInWord left }
-        ensures { FiresAs (fire_two (C.program code.now) (seat_of seat) (instr_of instr) instr.op left right) (with_state (part_of self.old) (slot_place (shape_of self.old) seat.frame instr.slot) Empty) (held_of self.old) at sent.old.items result (held_of self.new) sent.new.items }
+        requires room { HasRoomInWord left.now }
+        ensures { FiresAs (fire_two (C.program code.now) (seat_of seat) (instr_of instr) instr.op left.now right.now) (with_state (part_of self.old) (slot_place (shape_of self.old) seat.frame instr.slot) Empty) (held_of self.old) at sent.old.items result (held_of self.new) sent.new.items }
     {
         let mut made = NONE;
-        if !fire_two(code, seat, &instr, left, right, &mut made) {
+        if !fire_two(code, seat, &instr, *left, *right, &mut made) {
             return Stepped::Stuck { rule: 4 };
         }
         if self.make_room(4, sent).is_err() {
@@ -826,7 +825,7 @@ impl<'m, A: Allocator> Lane<'m, A> {
     {
         match token.to {
             To::Instr { frame, ip, port } => {
-                self.at_instruction(code, at, Seat { frame, ip }, port, token.word, sent)
+                self.at_instruction(code, at, &token, Seat { frame, ip }, port, sent)
             }
             _ => self.act_anywhere(code, at, token, sent),
         }
@@ -854,7 +853,7 @@ impl<'m, A: Allocator> Lane<'m, A> {
         let to = token.to;
         match to {
             To::Instr { frame, ip, port } => {
-                self.read_again(code, at, Seat { frame, ip }, port, token.word, sent)
+                self.read_again(code, at, &token, Seat { frame, ip }, port, sent)
             }
             To::Fetch { cell } => self.at_fetch(at, token, cell, sent),
             To::Store { cell, value } => self.at_store(at, token, cell, &value, sent),

@@ -1,8 +1,8 @@
-use Rattle.std.proofs.Common.{◌≡◌, refl, ◌∙◌, sym, ap, subst, ℕ, ◌<◌, arith}
+use Rattle.std.proofs.Common.{◌≡◌, ◌∙◌, sym, ap, subst, ℕ, ◌<◌, arith}
 use Rattle.tags.specs.declared.slot.SlotState.{SlotState}
 use Rattle.semantics.specs.Rule.{slot_of}
 use Rattle.element.specs.Decoded.{instr_of}
-use Rattle.element.specs.Fired.{HasRoomInSlot, seat_of, tokens_of, token_at}
+use Rattle.element.specs.Fired.{HasRoomInSlot, seat_of, tokens_of}
 use Rattle.element.specs.Parts.{Shape}
 use Rattle.element.specs.Held.{Held, held_of, part_of, taken, with_part}
 use Rattle.element.specs.Changed.{with_state_in}
@@ -23,7 +23,7 @@ send_all-requires-clause-some g c =
     let i = c.args.instr in
     let v = c.in-Becomes.slot in
     let made = tokens_of (seat_of c.args.seat) c.fire.new.made in
-    let changes = instructed p (g.C.Instructions.width c.args.code.now) old.part (token_at c.args.seat c.args.port c.args.word) c.args.seat.frame c.args.seat.ip c.args.port i v made c.slot_of-slot.result c.requires.sound.part c.requires.width refl c.requires.near c.requires.addressed
+    let changes = instructed p (g.C.Instructions.width c.args.code.now) old.part c.args.token.now c.args.seat.frame c.args.seat.ip c.args.port i v made c.slot_of-slot.result c.requires.sound.part c.requires.width c.requires.address c.requires.near c.requires.addressed
     c.requires.short c.requires.found c.slot_of-slot.ensures (sym c.in-Becomes.ensures) in
     let second = c.take.ensures.held ∙ ap (λ (m : Held). taken m c.args.at) c.keep.ensures.held ∙ ap (λ (m : Held). taken (with_part mid (with_state_in m.part c.args.seat.frame (slot_of (instr_of i) i.op) v)) c.args.at) same in
     let some : 0 < c.args.self.now.elements = (let l = c.requires.sound.part.there in omega (arith, l)) in
@@ -38,8 +38,8 @@ returns-else-is_err g c =
     let i = c.args.instr in
     let v = c.in-Becomes.slot in
     let made = tokens_of (seat_of c.args.seat) c.fire.new.made in
-    let changes = instructed p (g.C.Instructions.width c.args.code.now) old.part (token_at c.args.seat c.args.port c.args.word) c.args.seat.frame c.args.seat.ip c.args.port i v made c.slot_of-slot.result c.requires.sound.part c.requires.width refl c.requires.near c.requires.addressed
+    let changes = instructed p (g.C.Instructions.width c.args.code.now) old.part c.args.token.now c.args.seat.frame c.args.seat.ip c.args.port i v made c.slot_of-slot.result c.requires.sound.part c.requires.width c.requires.address c.requires.near c.requires.addressed
     c.requires.short c.requires.found c.slot_of-slot.ensures (sym c.in-Becomes.ensures) in
     let second = c.take.ensures.held ∙ ap (λ (m : Held). taken m c.args.at) c.keep.ensures.held ∙ ap (λ (m : Held). taken (with_part mid (with_state_in m.part c.args.seat.frame (slot_of (instr_of i) i.op) v)) c.args.at) same in
-    acts p old mid (held_of c.take.new.self) (held_of c.send_all.new.self) c.args.at (token_at c.args.seat c.args.port c.args.word) made (with_state_in old.part c.args.seat.frame (slot_of (instr_of i) i.op) v) c.args.sent.now.items c.make_room.new.sent.items c.send_all.new.sent.items
+    acts p old mid (held_of c.take.new.self) (held_of c.send_all.new.self) c.args.at c.args.token.now made (with_state_in old.part c.args.seat.frame (slot_of (instr_of i) i.op) v) c.args.sent.now.items c.make_room.new.sent.items c.send_all.new.sent.items
     same c.make_room.ensures.sent changes second c.send_all.ensures.held c.send_all.ensures.sent

@@ -4,7 +4,7 @@ use Rattle.tags.specs.declared.token.Token.{Token}
 use Rattle.tags.specs.declared.slot.SlotState.TheVariants.{Empty}
 use Rattle.semantics.specs.Rule.{alone, fire_one}
 use Rattle.element.specs.Decoded.{instr_of}
-use Rattle.element.specs.Fired.{seat_of, token_at}
+use Rattle.element.specs.Fired.{seat_of}
 use Rattle.element.specs.Held.{Held, held_of}
 use Rattle.element.specs.Changed.{with_state_in}
 use Rattle.element.specs.Acts.{FiresAs}
@@ -17,8 +17,8 @@ returns-in-Some g c =
     let old : Held = held_of c.args.self.now in
     let s = c.args.seat in
     let i = c.args.instr.now in
-    let w = c.args.word in
+    let w = c.args.token.now.word in
     let made : Option (List Token) → Type 0 = λ m. FiresAs m (with_state_in old.part s.frame None Empty) old c.args.at c.args.sent.now.items c.pass.result (held_of c.pass.new.self) c.pass.new.sent.items in
-    fired_as p (g.C.Instructions.width c.args.code.now) old (token_at c.args.seat c.args.port c.args.word) s.frame s.ip c.args.port i None Empty c.requires.sound.part c.requires.width refl c.requires.near c.requires.addressed c.requires.short
+    fired_as p (g.C.Instructions.width c.args.code.now) old c.args.token.now s.frame s.ip c.args.port i None Empty c.requires.sound.part c.requires.width c.requires.address c.requires.near c.requires.addressed c.requires.short
     c.requires.found (lone_slot (instr_of i) i.op c.requires.lone) refl Empty (fire_one p (seat_of s) (instr_of i) i.op w) c.args.at c.args.sent.now.items c.pass.result (held_of c.pass.new.self) c.pass.new.sent.items
     (lone_alone p (seat_of s) (instr_of i) i.op Empty c.args.port w c.requires.lone ∙ ap (λ (q : Port). alone p (seat_of s) (instr_of i) Empty q w) c.in-Left.is) (subst made (sym (c.in-Some.ensures p (seat_of s))) c.pass.ensures)
