@@ -14,6 +14,8 @@ use Rattle.schedule.specs.declared.config.StartFault.{StartFault}
 use Rattle.schedule.specs.Starts.{IsGood, IsCause}
 use Rattle.schedule.specs.Setting.{inputs_of}
 use Rattle.object_view.specs.Checks.{first_refusal}
+use Rattle.oracle.specs.Lines.{inputs_at}
+use Rattle.oracle.specs.Running.{main_place}
 use Rattle.driver.specs.Compiled.{IsObjectOf, IsTooLarge}
 use Rattle.driver.specs.declared.fault.Fault.{Fault}
 
@@ -36,15 +38,23 @@ pub record IsReady (text : List ℕ) (inputs : List ℤ) (config : Config) : Typ
   pub some_frame : 0 < config.frames
   pub good : IsGood config
 
--- The cause of a text's refusal, before a run is asked for. Memory is answered only where a growth was refused.
+-- The cause why a text has no well-formed graph. Memory is answered only where a growth was refused.
+abbrev pub IsBadText : List ℕ → Fault → Type 0
+IsBadText text (Fault.Read f) = (text_from text ≡ Err f) × (f.kind ≢ ReadFaultKind.Memory)
+IsBadText text (Fault.Check f) = (g : Graph) × IsText text g × (first_fault g ≡ Some f) × (f.kind ≢ CheckFaultKind.Memory) × (WellFormed g → ⊥)
+IsBadText text Fault.Memory = ⊤
+IsBadText text fault = ⊥
+
+-- and why it has no object
 abbrev pub IsRefusedText : List ℕ → Fault → Type 0
-IsRefusedText text (Fault.Read f) = (text_from text ≡ Err f) × (f.kind ≢ ReadFaultKind.Memory)
-IsRefusedText text (Fault.Check f) = (g : Graph) × IsText text g × (first_fault g ≡ Some f) × (f.kind ≢ CheckFaultKind.Memory) × (WellFormed g → ⊥)
 IsRefusedText text (Fault.TooManySlots b) = (g : Graph) × IsGoodText text g × IsTooLarge g (Fault.TooManySlots b)
 IsRefusedText text (Fault.TooFar b) = (g : Graph) × IsGoodText text g × IsTooLarge g (Fault.TooFar b)
-IsRefusedText text (Fault.Object f) = ⊥
-IsRefusedText text (Fault.Start f) = ⊥
-IsRefusedText text Fault.Memory = ⊤
+IsRefusedText text fault = IsBadText text fault
+
+-- and why its meaning is not run: main has another number of inputs
+abbrev pub IsRefusedMeaning : List ℕ → List ℤ → Fault → Type 0
+IsRefusedMeaning text inputs (Fault.Start StartFault.WrongInputs) = (g : Graph) × IsGoodText text g × (length inputs ≢ inputs_at g (main_place g))
+IsRefusedMeaning text inputs fault = IsBadText text fault
 
 -- what a machine that does not start is told as
 abbrev pub refusal_of : StartFault → Fault

@@ -8,7 +8,7 @@ ghost use Rattle.select.specs.Emitted.{version_number as emitted_number};
 ghost use Rattle.object_view.specs.Fields.{version_number as written_number};
 ghost use Rattle.composition.specs.Graphs.{plan_of};
 ghost use Rattle.driver.specs.Compiled.{IsCodeFor, IsTooLarge};
-ghost use Rattle.driver.specs.Refused.{IsGoodText, IsCompiled, IsRefusedText};
+ghost use Rattle.driver.specs.Refused.{IsGoodText, IsCompiled, IsBadText, IsRefusedText};
 ghost use Rattle.driver.specs.Written.{WritesObject};
 
 use crate::fault::Fault;
@@ -35,7 +35,7 @@ pub struct Compiled<'a, A: Allocator> {
 
 /// The graph that the text has.
 fn read_text<'a, A: Allocator + Clone>(alloc: A, text: &'a [u8]) -> Result<Graph<'a, A>, Fault>
-    ensures { MatchResult result (IsText text.now) (IsRefusedText text.now) }
+    ensures { MatchResult result (IsText text.now) (IsBadText text.now) }
 {
     match read(alloc, text) {
         Ok(graph) => Ok(graph),
@@ -54,7 +54,7 @@ pub fn check_text<'a, A: Allocator + Clone>(
     alloc: A,
     text: &'a [u8],
 ) -> Result<Checked<'a, A>, Fault>
-    ensures { MatchResult result (IsGoodText text.now) (IsRefusedText text.now) }
+    ensures { MatchResult result (IsGoodText text.now) (IsBadText text.now) }
 {
     let graph = match read_text(alloc, text) {
         Ok(graph) => graph,

@@ -1,7 +1,7 @@
 //! The meaning of the graph that a text has, run plainly.
 
-ghost use Rattle.std.specs.Prelude.{IfOk};
-ghost use Rattle.driver.specs.Refused.{IsGoodText};
+ghost use Rattle.std.specs.Prelude.{IfErr, IfOk};
+ghost use Rattle.driver.specs.Refused.{IsGoodText, IsRefusedMeaning};
 ghost use Rattle.oracle.specs.Reporting.{IsMeant};
 
 use crate::compiling::check_text;
@@ -27,6 +27,7 @@ pub fn mean_text<'a, A: Allocator + Clone>(
 ) -> Result<Meant<'a, A>, Fault>
     ensures good { IfOk result (λ m. IsGoodText text.now m.checked) }
     ensures meant { IfOk result (λ m. IsMeant m.checked inputs.now steps m.report.end m.report.outputs.items m.report.cells.items) }
+    ensures refused { IfErr result (IsRefusedMeaning text.now inputs.now) }
 {
     let Ok(room) = alloc.clone() else {
         return Err(Fault::Memory);
