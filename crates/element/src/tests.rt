@@ -3,13 +3,16 @@
 ghost use Rattle.std.specs.Prelude.{◌≡◌, true, [], ◌∷◌};
 ghost use Rattle.element.specs.Fired.{HasRoom, HasRoomInWord, HasRoomInSlot};
 
-use crate::firing::{Made, NONE, Outcome, SIGNAL, Seat, Target, fire};
-use crate::instructions::{Array, Instruction, Instructions};
+use crate::firing::{Made, NONE, Outcome, SIGNAL, Seat, fire};
+use crate::instructions::{Array, Instruction, Instructions, dest_in};
 use operators::{Binary, Unary};
 use semantics::program::{Dest, Op};
 use tags::slot::SlotState;
 use tags::token::{Cont, Port, To, Token, Word};
-use tags::value::{FaultKind, Origin, Value};
+use tags::value::{FaultKind, NodeNumber, Origin, Value};
+
+/// Where the instructions stand.
+const SEAT: Seat = Seat { frame: 2, ip: 1 };
 
 /// At most four tokens, in order.
 type Tokens = [Option<Token>; 4];
@@ -85,27 +88,13 @@ fn fired(op: Op, slot: &SlotState, port: Port, word: &Word) -> Came {
     }
     let instr = Instruction {
         op,
-        origin: Origin::Untold,
+        origin: 0,
         slot: 0,
-        first: Some(Dest {
-            ahead: 1,
-            port: Port::Left,
-        }),
-        second: Some(Dest {
-            ahead: 2,
-            port: Port::Left,
-        }),
+        first: 1,
+        second: 2,
     };
     let mut made = NONE;
-    let outcome = fire(
-        &NoProgram,
-        Seat { frame: 2, ip: 1 },
-        &instr,
-        *slot,
-        port,
-        *word,
-        &mut made,
-    );
+    let outcome = fire(&NoProgram, SEAT, &instr, *slot, port, *word, &mut made);
     match outcome {
         Outcome::Becomes { slot } => Came::Becomes {
             slot,
@@ -123,13 +112,13 @@ fn before(first: Option<Token>, rest: [Option<Token>; 3]) -> Tokens {
     }
 }
 
-fn sent_to(made: &Made, target: Option<Target>) -> Option<Token> {
-    match target {
-        Some(target) => Some(Token {
+fn sent_to(made: &Made, half: u32) -> Option<Token> {
+    match dest_in(half) {
+        Some(dest) => Some(Token {
             to: To::Instr {
-                frame: made.frame,
-                ip: target.ip,
-                port: target.port,
+                frame: SEAT.frame,
+                ip: SEAT.ip + dest.ahead,
+                port: dest.port,
             },
             word: made.word,
         }),
@@ -516,5 +505,43 @@ fn drains_credits(rt: HostRuntime) {
     assert_eq!(rt;
         signalled(Op::Drain { bound: 2 }, &SlotState::Empty),
         Came::Excluded { rule: 3 }
+    );
+}
+
+fn with_origin(origin: u64) -> Instruction {
+    Instruction {
+        op: Op::Copy,
+        origin,
+        slot: 0,
+        first: 0,
+        second: 0,
+    }
+}
+
+#[test]
+fn unpacks_destinations_and_origins(rt: HostRuntime) {
+    assert!(rt; dest_in(0).is_none());
+    assert!(rt; dest_in(32_768).is_none());
+    assert_eq!(rt;
+        dest_in(5),
+        Some(Dest {
+            ahead: 5,
+            port: Port::Left
+        })
+    );
+    assert_eq!(rt;
+        dest_in(32_773),
+        Some(Dest {
+            ahead: 5,
+            port: Port::Right
+        })
+    );
+    assert_eq!(rt; with_origin(0).origin(), Origin::Untold);
+    assert_eq!(rt;
+        with_origin(1 + 1024 * 3 + 7).origin(),
+        Origin::At {
+            block: 3,
+            node: NodeNumber::new(7)
+        }
     );
 }

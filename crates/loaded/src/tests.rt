@@ -1,6 +1,7 @@
 //! The object that adds its two inputs, ready to be run.
 
 use super::*;
+use element::instructions::dest_in;
 use operators::Binary;
 use rationed::Rationed;
 use semantics::program::{Dest, Op};
@@ -93,21 +94,21 @@ fn its_instructions_are_read(rt: HostRuntime) {
     let first = loaded.instr(0).expect(&rt, "it is there");
     assert!(rt; first.op == Op::Copy);
     assert!(rt;
-        first.first
+        dest_in(first.first)
             == Some(Dest {
                 ahead: 4,
                 port: Port::Left
             })
     );
     assert!(rt;
-        first.second
+        dest_in(first.second)
             == Some(Dest {
                 ahead: 5,
                 port: Port::Left
             })
     );
     let second = loaded.instr(1).expect(&rt, "it is there");
-    assert!(rt; second.second.is_none());
+    assert!(rt; second.second == 0);
     assert!(rt; op_at(&loaded, 3) == Some(Op::Apply2 { op: Binary::Add }));
     assert!(rt; loaded.instr(5).is_some());
     assert!(rt; loaded.instr(6).is_none());
