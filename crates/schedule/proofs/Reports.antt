@@ -26,7 +26,6 @@ use Rattle.schedule.specs.Runs.{Kept, Began, HaltsAs, NamesCell}
 use Rattle.schedule.specs.Told.{TellsLanes, opening_picture, IsReportOf, ReportsLanes, Reports}
 use Rattle.schedule.specs.Unlisted.{with_events, ShowsQuietly}
 use Rattle.schedule.proofs.Places.{first_get, to_map}
-use Rattle.schedule.proofs.Memory.{lane_count}
 use Rattle.schedule.proofs.Pictures.{IsKnown, known_lanes, pictured}
 use Rattle.schedule.proofs.Showing.{picked, shows_here}
 

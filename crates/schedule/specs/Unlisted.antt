@@ -1,5 +1,5 @@
 -- What a report says that lists no events.
-use Rattle.std.specs.Prelude.{◌≡◌, ℕ, Bool, ◌⊎◌, ℤ, List, []}
+use Rattle.std.specs.Prelude.{◌≡◌, ℕ, Bool, ℤ, List, []}
 use Rattle.semantics.specs.Program.{Program}
 use Rattle.semantics.specs.Machine.{Size, Events}
 use Rattle.semantics.specs.Report.{Report, Shows}

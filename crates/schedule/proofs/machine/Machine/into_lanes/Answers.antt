@@ -1,5 +1,5 @@
-use Rattle.std.proofs.Common.{◌≡◌, ◌∙◌, sym, ap, subst, [], List, map, drop}
-use Rattle.element.specs.Held.{Held, held_of}
+use Rattle.std.proofs.Common.{◌≡◌, ◌∙◌, sym, ap, subst, [], List}
+use Rattle.element.specs.Held.{Held}
 use Rattle.schedule.specs.Setting.{Setting}
 use Rattle.schedule.specs.State.{State, IsSoundState, state_of}
 use Rattle.schedule.specs.Runs.{Kept}

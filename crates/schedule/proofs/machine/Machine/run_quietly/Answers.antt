@@ -1,4 +1,4 @@
-use Rattle.std.proofs.Common.{◌≡◌, sym, ◌∙◌, ap, subst, ◌++◌, false}
+use Rattle.std.proofs.Common.{sym, ◌∙◌, ap, subst, ◌++◌, false}
 use Rattle.schedule.specs.Setting.{Setting, size}
 use Rattle.schedule.specs.State.{State}
 use Rattle.schedule.specs.Runs.{Began, Plays, rounds_of}

@@ -1,6 +1,5 @@
-use Rattle.std.proofs.Common.{◌≡◌, sym, ◌∙◌, ap, subst, inl, inr, false, []}
+use Rattle.std.proofs.Common.{sym, subst, false}
 use Rattle.semantics.specs.Machine.{Events}
-use Rattle.semantics.specs.Report.{Report}
 use Rattle.schedule.specs.Setting.{size}
 use Rattle.schedule.specs.State.{State, state_of}
 use Rattle.schedule.specs.Runs.{Kept, Began, HaltsAs, NamesCell}
