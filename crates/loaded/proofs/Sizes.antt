@@ -1,8 +1,8 @@
 -- What lawful code has of inputs, outputs and slots.
-use Rattle.std.proofs.Common.{◌≡◌, ℕ, zero, suc, ◌<◌, ◌≤◌, List, [], ◌∷◌, Option, Some, None, arith, All}
+use Rattle.std.proofs.Common.{ℕ, zero, suc, ◌<◌, ◌≤◌, List, [], ◌∷◌, arith, All}
 use Rattle.std.specs.Prelude.{slice_get}
 use Rattle.std.proofs.lemmas.List.Elements.{All-head, All-tail}
-use Rattle.semantics.specs.Program.{Instr, CodeBlock, Code}
+use Rattle.semantics.specs.Program.{CodeBlock, Code}
 use Rattle.semantics.specs.Machine.{results_in, outputs_of}
 use Rattle.semantics.specs.Bytes.{IsCode, IsCodeBlock, IsInstr}
 use Rattle.schedule.specs.Setting.{inputs_in, inputs_of, FitsSlots}
