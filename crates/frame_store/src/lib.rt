@@ -3,6 +3,7 @@
 
 pub mod bank;
 pub mod frame;
+pub mod lent;
 pub mod packing;
 pub mod slot;
 pub mod store;

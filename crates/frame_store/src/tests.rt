@@ -1,3 +1,6 @@
+ghost use Rattle.std.specs.Prelude.{◌≡◌, ◌<◌, slice_set};
+ghost use Rattle.frame_store.specs.BankViews.{bank_states, IsBank, place_in};
+
 use crate::bank::BankMut;
 use crate::frame::LendSlot;
 use crate::store::Store;
@@ -138,4 +141,40 @@ fn refuses_its_growth(rt: HostRuntime) -> Result<(), Fail> {
     let heap = Rationed::new(rt.alloc(), 2);
     assert!(rt; is_made(&heap));
     Ok(())
+}
+
+#[test]
+fn a_bank_goes_into_its_slots_and_comes_back(rt: HostRuntime) -> Result<(), Fail> {
+    let mut store = Store::new(rt.alloc(), 2, 3, 4)?;
+    let mut bank = store.bank(1);
+    for state in states() {
+        assert!(rt; bank.holds(2, 1));
+        let mut slot = bank.frame(2).slot(1);
+        slot.set(state);
+        assert_eq!(rt; slot.state(), state);
+        bank = slot.bank();
+        assert!(rt; bank.holds(2, 1));
+        assert_eq!(rt; bank.state(2, 1), state);
+        assert!(rt; bank.holds(2, 2));
+        assert_eq!(rt; bank.state(2, 2), SlotState::Empty);
+        assert!(rt; bank.holds(1, 1));
+        assert_eq!(rt; bank.state(1, 1), SlotState::Empty);
+    }
+    assert!(rt; bank.holds(0, 0));
+    let bank = change_first(bank, SlotState::Credits(5));
+    assert!(rt; bank.holds(0, 0));
+    assert_eq!(rt; bank.state(0, 0), SlotState::Credits(5));
+    Ok(())
+}
+
+// A slot of a bank is changed by way of its frame: that slot of the bank, and no other.
+fn change_first(bank: BankMut<'_>, state: SlotState) -> BankMut<'_>
+    requires bank { IsBank bank }
+    requires frame { 0 < bank.frames }
+    requires slot { 0 < bank.width }
+    ensures { bank_states result ≡ slice_set (bank_states bank.entry) (place_in bank.entry 0 0) state }
+{
+    let mut slot = bank.frame(0).slot(0);
+    slot.set(state);
+    slot.bank()
 }
