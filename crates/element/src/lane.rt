@@ -475,7 +475,7 @@ impl<'m, A: Allocator> Lane<'m, A> {
         }
     }
 
-    // An instruction with one input, which goes to its own destinations.
+    // An instruction with one input, whose word goes to its own destinations.
     #[inline(always)]
     fn at_lone<C: Instructions>(
         &mut self,
