@@ -1,9 +1,8 @@
 -- What was packed is what is unpacked.
-use Rattle.std.proofs.Common.{◌≡◌, ◌==◌, ℕ, ◌+◌, ◌-◌, ◌*◌, ◌/◌, ◌%◌, ◌<◌, List, [], ◌∷◌, sym, ap, ◌∙◌, refl, arith, subst, cond, eqb, false, get_or}
-use Rattle.std.specs.Int.{w64, cast_unsigned, cast_signed}
+use Rattle.std.proofs.Common.{◌≡◌, ℕ, ◌+◌, ◌-◌, ◌*◌, ◌/◌, ◌%◌, ◌<◌, List, [], ◌∷◌, sym, ap, ◌∙◌, refl, arith, cond, eqb, false, get_or}
+use Rattle.std.specs.Int.{w64}
 use Rattle.std.proofs.lemmas.Int.{to_z-of_z}
-use Rattle.std.proofs.lemmas.Bool.{ne_eqb, eq-eqb}
-use Rattle.tags.specs.declared.value.Value.{Value}
+use Rattle.std.proofs.lemmas.Bool.{ne_eqb}
 use Rattle.tags.specs.declared.value.Value.TheVariants.{Int, Fault}
 use Rattle.tags.specs.declared.value.FaultKind.TheVariants.{Zero, Range}
 use Rattle.tags.specs.declared.value.Origin.{Origin}
@@ -15,7 +14,7 @@ use Rattle.tags.specs.declared.token.Word.{Word}
 use Rattle.tags.specs.declared.slot.SlotState.{SlotState}
 use Rattle.tags.specs.declared.slot.SlotState.TheVariants.{Empty, Left, Right, Credits, Waiter, Draining}
 use Rattle.tags.specs.Packed.{origin_code, IsOrigin}
-use Rattle.frame_store.specs.Packing.{Parts, port_bit, cont_parts, word_parts, words_of, count_parts, slot_words, port_from, origin_from, cont_from, word_from, parts_from, state_from, slot_from, IsCont, IsWord, IsSlotState}
+use Rattle.frame_store.specs.Packing.{Parts, port_bit, cont_parts, word_parts, count_parts, slot_words, port_from, origin_from, cont_from, word_from, parts_from, state_from, slot_from, IsCont, IsWord, IsSlotState}
 
 port_back : (p : Port) → port_from (port_bit p) ≡ p
 port_back port.Left = refl

@@ -1,5 +1,5 @@
 -- A bank that is lent: where its slots stand among those behind it.
-use Rattle.std.specs.Prelude.{◌≡◌, ℕ, ◌+◌, ◌*◌, ◌≤◌, List, length, slice_index_or, slice_set}
+use Rattle.std.specs.Prelude.{◌≡◌, ℕ, ◌+◌, ◌*◌, ◌≤◌, List, length}
 use Rattle.std.specs.Borrow.{GName}
 use Rattle.tags.specs.declared.slot.SlotState.{SlotState}
 use Rattle.frame_store.specs.declared.bank.BankMut.{BankMut}

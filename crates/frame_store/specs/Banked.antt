@@ -1,5 +1,5 @@
 -- The banks that are still to be handed out.
-use Rattle.std.specs.Prelude.{◌≡◌, ℕ, ◌*◌, ◌<◌, List, length, take, drop, Option, Some, None}
+use Rattle.std.specs.Prelude.{◌≡◌, ℕ, ◌<◌, List, length, take, drop, Option, Some, None}
 use Rattle.std.specs.Slice.Iter.{chunks_exact_mut_rest, chunks_exact_mut_size}
 use Rattle.tags.specs.declared.slot.SlotState.{SlotState}
 use Rattle.frame_store.specs.declared.bank.BankMut.{BankMut}

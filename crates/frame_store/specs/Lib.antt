@@ -6,3 +6,4 @@ pub mod Lends
 pub mod Banked
 pub mod LendsSlots
 pub mod LendsFrames
+pub mod LendsBanks

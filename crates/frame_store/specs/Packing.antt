@@ -1,9 +1,8 @@
 -- A slot's state as two words of 64 bits. Word 0: bits 0 to 7 tell the state, bits 8 to 15 the kind of its word, bit 16
 -- the port of a continuation, and bits 32 to 63 its instruction or the host's port. Word 1 is the integer, the number
 -- of the frame, the count, or the code of a fault's origin.
-use Rattle.std.specs.Prelude.{◌≡◌, ◌==◌, ℕ, ◌+◌, ◌-◌, ◌*◌, ◌/◌, ◌%◌, ◌^◌, ◌<◌, List, [], ◌∷◌, FitsSigned, ⊤, if◌then◌else◌}
+use Rattle.std.specs.Prelude.{◌≡◌, ◌==◌, ℕ, ◌+◌, ◌-◌, ◌*◌, ◌/◌, ◌%◌, ◌<◌, List, [], ◌∷◌, ⊤, if◌then◌else◌}
 use Rattle.std.specs.Int.{w64, cast_unsigned, cast_signed}
-use Rattle.tags.specs.declared.value.Value.{Value}
 use Rattle.tags.specs.declared.value.Value.TheVariants.{Int, Fault}
 use Rattle.tags.specs.declared.value.FaultKind.TheVariants.{Zero, Range}
 use Rattle.tags.specs.declared.value.Origin.{Origin}

@@ -1,5 +1,5 @@
 -- The slots of all frames, in banks.
-use Rattle.std.specs.Prelude.{◌≡◌, ℕ, ◌+◌, ◌*◌, ◌<◌, List, ◌++◌, length, take, drop, replicate, slice_index_or, slice_set}
+use Rattle.std.specs.Prelude.{ℕ, ◌+◌, ◌*◌, List, replicate, slice_index_or, slice_set}
 use Rattle.tags.specs.declared.slot.SlotState.{SlotState}
 use Rattle.tags.specs.declared.slot.SlotState.TheVariants.{Empty}
 
@@ -15,13 +15,6 @@ bank_size s = s.frames * s.width
 
 abbrev pub all_empty : ℕ → ℕ → ℕ → Slots
 all_empty elements frames width = record { elements = elements; frames = frames; width = width; states = replicate (elements * (frames * width)) Empty }
-
--- the states are as many as before, whatever list is given
-abbrev pub refilled : List SlotState → List SlotState → List SlotState
-refilled xs ys = take (length xs) (ys ++ drop (length ys) xs)
-
-abbrev pub with_states : Slots → List SlotState → Slots
-with_states s ys = record { elements = s.elements; frames = s.frames; width = s.width; states = refilled s.states ys }
 
 -- the state of a slot of a frame of an element's bank
 abbrev pub state_at : Slots → ℕ → ℕ → ℕ → SlotState

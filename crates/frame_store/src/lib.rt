@@ -7,5 +7,6 @@ pub mod lent;
 pub mod packing;
 pub mod slot;
 pub mod store;
+pub mod store_bank;
 #[cfg(test)]
 mod tests;

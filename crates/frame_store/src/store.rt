@@ -3,11 +3,11 @@
 ghost use Rattle.std.specs.Prelude.{◌≡◌, ◌+◌, ◌*◌, ◌^◌, ◌≤◌, ◌<◌, length, IfOk, slice_index_or};
 ghost use Rattle.std.specs.Borrow.{sem};
 ghost use Rattle.frame_store.specs.Slots.{all_empty, bank_size, place_of};
-ghost use Rattle.frame_store.specs.BankViews.{IsBank, bank_states};
 
-use crate::bank::{BankMut, Banks};
+use crate::bank::Banks;
 use crate::frame::FrameMut;
 use crate::slot::Slot;
+use crate::store_bank::StoreBank;
 use std::alloc::{AllocError, Allocator};
 use std::marker::Model;
 
@@ -32,7 +32,7 @@ impl<A: Allocator> Model for Store<A> {
 }
 
 impl<A: Allocator> Store<A> {
-    ghost use Rattle.frame_store.specs.Lends.{LendsBank, LendsSlotAt};
+    ghost use Rattle.frame_store.specs.Lends.{LendsSlotAt};
     ghost use Rattle.frame_store.specs.Banked.{left_of, size_of};
 
     /// Slots that are all empty: so many elements, frames an element and slots a frame.
@@ -67,20 +67,28 @@ impl<A: Allocator> Store<A> {
         self.elements
     }
 
-    /// The bank of an element. What is changed in it is changed in the store.
-    pub fn bank(&mut self, element: usize) -> BankMut<'_>
-        requires { element < self.old.elements }
-        ensures* lends { sem 𝓛 (LendsBank A.row A.Allocator self.entry result) }
-        ensures value { bank_states result ≡ self.old.states }
-        ensures start { result.start ≡ element * bank_size self.old }
-        ensures frames { result.frames ≡ self.old.frames }
-        ensures width { result.width ≡ self.old.width }
-        ensures bank { IsBank result }
+    /// How many frames each bank has.
+    pub fn frames(&self) -> usize
+        ensures { result ≡ self.now.frames }
     {
-        let frames = self.frames;
-        let width = self.width;
-        let start = element * (frames * width);
-        BankMut::new(self.slots.as_mut_slice(), start, frames, width)
+        self.frames
+    }
+
+    /// How many slots each frame has.
+    pub fn width(&self) -> usize
+        ensures { result ≡ self.now.width }
+    {
+        self.width
+    }
+
+    /// The bank of an element. What is changed in it is changed in the store.
+    pub fn bank(&mut self, element: usize) -> StoreBank<'_, A>
+        requires { element < self.old.elements }
+        ensures same_reference { result.store.ghost_name ≡ self.entry.ghost_name }
+        ensures value { result.store.now ≡ self.old }
+        ensures element { result.element ≡ element }
+    {
+        StoreBank::new(self, element)
     }
 
     /// A slot of a frame of an element. What it is set to is in the store, and every other slot of every frame stays.
@@ -110,6 +118,7 @@ impl<A: Allocator> Store<A> {
         requires { 0 < self.old.elements }
         ensures left { left_of result ≡ self.old.states }
         ensures size { size_of result ≡ bank_size self.old }
+        ensures some { 0 < size_of result }
         ensures frames { result.frames ≡ self.old.frames }
         ensures width { result.width ≡ self.old.width }
     {

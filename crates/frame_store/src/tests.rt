@@ -1,5 +1,6 @@
-ghost use Rattle.std.specs.Prelude.{◌≡◌, ◌<◌, slice_set};
+ghost use Rattle.std.specs.Prelude.{◌≡◌, ◌<◌, slice_set, true};
 ghost use Rattle.frame_store.specs.BankViews.{bank_states, IsBank, place_in};
+ghost use Rattle.frame_store.specs.Slots.{place_of, with_state};
 
 use crate::bank::BankMut;
 use crate::frame::LendSlot;
@@ -39,10 +40,23 @@ fn states() -> [SlotState; 9] {
     ]
 }
 
+/// The last bank, for itself.
+fn last_bank<A: Allocator>(store: &mut Store<A>) -> Option<BankMut<'_>>
+    requires { 0 < store.old.elements }
+{
+    let mut last = None;
+    for bank in store.banks() {
+        last = Some(bank);
+    }
+    last
+}
+
 #[test]
 fn keeps_each_state(rt: HostRuntime) -> Result<(), Fail> {
     let mut store = Store::new(rt.alloc(), 2, 3, 4)?;
-    let mut bank = store.bank(1);
+    let Some(mut bank) = last_bank(&mut store) else {
+        return Err(Fail::new("there is no bank"));
+    };
     assert_eq!(rt; bank.frames(), 3);
     assert_eq!(rt; bank.width(), 4);
     for state in states() {
@@ -56,6 +70,82 @@ fn keeps_each_state(rt: HostRuntime) -> Result<(), Fail> {
         assert_eq!(rt; bank.state(1, 1), SlotState::Empty);
     }
     Ok(())
+}
+
+/// Whether the store has this slot.
+fn has<A: Allocator>(store: &Store<A>, element: usize, frame: usize, slot: usize) -> bool
+    ensures { result ≡ true → (element < store.now.elements) × (frame < store.now.frames) × (slot < store.now.width) }
+{
+    element < store.elements() && frame < store.frames() && slot < store.width()
+}
+
+#[test]
+fn a_bank_of_the_store_lends_each_slot(rt: HostRuntime) -> Result<(), Fail> {
+    for state in states() {
+        let mut store = Store::new(rt.alloc(), 2, 3, 4)?;
+        set_in_bank(&mut store, 1, 2, 1, state);
+        assert_eq!(rt; store.slot(1, 2, 1).state(), state);
+        assert_eq!(rt; store.slot(1, 2, 2).state(), SlotState::Empty);
+        assert_eq!(rt; store.slot(1, 1, 1).state(), SlotState::Empty);
+        assert_eq!(rt; store.slot(0, 2, 1).state(), SlotState::Empty);
+        set_in_frame(&mut store, 0, 2, 3, state);
+        assert_eq!(rt; store.slot(0, 2, 3).state(), state);
+        set_in_frame_of_bank(&mut store, 1, 0, 3, state);
+        assert!(rt; has(&store, 1, 0, 3));
+        assert_eq!(rt; store.slot(1, 0, 3).state(), state);
+    }
+    Ok(())
+}
+
+// A slot is lent through its bank and set: the store has the change once the bank is gone, and nothing else changes.
+fn set_in_bank<A: Allocator>(
+    store: &mut Store<A>,
+    element: usize,
+    frame: usize,
+    slot: usize,
+    state: SlotState,
+)
+    requires element { element < store.old.elements }
+    requires frame { frame < store.old.frames }
+    requires slot { slot < store.old.width }
+    ensures { store.new ≡ with_state store.old (place_of store.old element frame slot) state }
+{
+    let mut bank = store.bank(element);
+    bank.slot(frame, slot).set(state);
+}
+
+// The same through its frame.
+fn set_in_frame<A: Allocator>(
+    store: &mut Store<A>,
+    element: usize,
+    frame: usize,
+    slot: usize,
+    state: SlotState,
+)
+    requires element { element < store.old.elements }
+    requires frame { frame < store.old.frames }
+    requires slot { slot < store.old.width }
+    ensures { store.new ≡ with_state store.old (place_of store.old element frame slot) state }
+{
+    let mut lent = store.frame(element, frame);
+    lent.slot(slot).set(state);
+}
+
+// A frame is lent out of its bank, and a slot out of the frame.
+fn set_in_frame_of_bank<A: Allocator>(
+    store: &mut Store<A>,
+    element: usize,
+    frame: usize,
+    slot: usize,
+    state: SlotState,
+)
+    requires element { element < store.old.elements }
+    requires frame { frame < store.old.frames }
+    requires slot { slot < store.old.width }
+{
+    let mut bank = store.bank(element);
+    let mut lent = bank.frame(frame);
+    lent.slot(slot).set(state);
 }
 
 #[test]
@@ -75,7 +165,9 @@ fn lends_each_slot(rt: HostRuntime) -> Result<(), Fail> {
 #[test]
 fn lends_the_slots_of_a_bank(rt: HostRuntime) -> Result<(), Fail> {
     let mut store = Store::new(rt.alloc(), 2, 3, 4)?;
-    let mut bank = store.bank(1);
+    let Some(mut bank) = last_bank(&mut store) else {
+        return Err(Fail::new("there is no bank"));
+    };
     assert!(rt; bank.holds(2, 1));
     bank.set(2, 1, SlotState::Draining(7));
     assert!(rt; bank.holds(2, 1));
@@ -118,12 +210,12 @@ fn two_threads_fill_two_banks(rt: HostRuntime) -> Result<(), Fail> {
     drop(banks);
     for element in 0..2usize {
         assert!(rt; element < store.elements());
-        let bank = store.bank(element);
         for frame in 0..3usize {
             for slot in 0..4usize {
                 let count = (element * 10_000 + frame * 100 + slot) as u32;
-                assert!(rt; bank.holds(frame, slot));
-                assert_eq!(rt; bank.state(frame, slot), SlotState::Credits(count));
+                assert!(rt; has(&store, element, frame, slot));
+                let held = store.slot(element, frame, slot).state();
+                assert_eq!(rt; held, SlotState::Credits(count));
             }
         }
     }
@@ -146,7 +238,9 @@ fn refuses_its_growth(rt: HostRuntime) -> Result<(), Fail> {
 #[test]
 fn a_bank_goes_into_its_slots_and_comes_back(rt: HostRuntime) -> Result<(), Fail> {
     let mut store = Store::new(rt.alloc(), 2, 3, 4)?;
-    let mut bank = store.bank(1);
+    let Some(mut bank) = last_bank(&mut store) else {
+        return Err(Fail::new("there is no bank"));
+    };
     for state in states() {
         assert!(rt; bank.holds(2, 1));
         let mut slot = bank.frame(2).slot(1);
