@@ -4,6 +4,7 @@ ghost use Rattle.frame_store.specs.Slots.{place_of, with_state};
 
 use crate::bank::BankMut;
 use crate::frame::LendSlot;
+use crate::slot::Slot;
 use crate::store::Store;
 use rationed::Rationed;
 use std::alloc::Allocator;
@@ -72,6 +73,14 @@ fn keeps_each_state(rt: HostRuntime) -> Result<(), Fail> {
     Ok(())
 }
 
+#[test]
+fn a_slot_is_two_words(rt: HostRuntime) {
+    let mut slot = Slot::empty();
+    assert_eq!(rt; slot.words(), [0, 0]);
+    slot.set(SlotState::Draining(7));
+    assert_eq!(rt; slot.words(), [5, 7]);
+}
+
 /// Whether the store has this slot.
 fn has<A: Allocator>(store: &Store<A>, element: usize, frame: usize, slot: usize) -> bool
     ensures { result ≡ true → (element < store.now.elements) × (frame < store.now.frames) × (slot < store.now.width) }
@@ -83,6 +92,8 @@ fn has<A: Allocator>(store: &Store<A>, element: usize, frame: usize, slot: usize
 fn a_bank_of_the_store_lends_each_slot(rt: HostRuntime) -> Result<(), Fail> {
     for state in states() {
         let mut store = Store::new(rt.alloc(), 2, 3, 4)?;
+        let bank = store.bank(1);
+        assert_eq!(rt; (bank.frames(), bank.width()), (3, 4));
         set_in_bank(&mut store, 1, 2, 1, state);
         assert_eq!(rt; store.slot(1, 2, 1).state(), state);
         assert_eq!(rt; store.slot(1, 2, 2).state(), SlotState::Empty);

@@ -2,19 +2,20 @@
 
 ghost use Rattle.std.specs.Prelude.{◌<◌};
 
-use crate::objects::{CALL, STORES};
-use crate::tests::{is_rest, on};
+use crate::objects::{CALL, LOOP, READERS, STORES};
+use crate::tests::on;
 use element::lane::Stepped;
 use loaded::Loaded;
 use object_view::Object;
 use rationed::Rationed;
-use schedule::config::StartFault;
+use schedule::config::{Config, StartFault};
 use schedule::halt::Halt;
 use schedule::machine::Machine;
 use schedule::report::Report;
 use semantics::report::End;
 use std::alloc::Allocator;
 use std::test::Fail;
+use tags::value::Value;
 
 /// Where a growth was refused.
 #[derive(Clone, Copy, Debug, PartialEq, Eq)]
@@ -27,18 +28,102 @@ enum Refused {
     Wrongly,
 }
 
+/// A run: its object, inputs and frames, and what it gives at rest, after so many events.
+#[derive(Clone, Copy)]
+struct Case {
+    object: &'static [u8],
+    input: i64,
+    frames: u64,
+    outputs: &'static [i64],
+    /// The value of cell 0; no other one is full.
+    cell: Option<i64>,
+    events: usize,
+}
+
+/// A call, two readers that wait for a store, and a loop.
+const CASES: [Case; 3] = [
+    Case {
+        object: CALL,
+        input: 7,
+        frames: 2,
+        outputs: &[14],
+        cell: None,
+        events: 33,
+    },
+    Case {
+        object: READERS,
+        input: 8,
+        frames: 2,
+        outputs: &[8, 8, 8],
+        cell: Some(8),
+        events: 30,
+    },
+    Case {
+        object: LOOP,
+        input: 3,
+        frames: 8,
+        outputs: &[6],
+        cell: None,
+        events: 199,
+    },
+];
+
+/// How a run is made.
+#[derive(Clone, Copy, Debug, PartialEq, Eq)]
+enum Way {
+    /// To its end, whatever comes.
+    Whole,
+    /// Step by step; a step that is refused its growth is made again.
+    StepByStep,
+    /// The same, with no list of events.
+    Quietly,
+}
+
 /// Whether the report is that of the machine before its first event, which is refused memory.
 fn is_opening<A: Allocator>(report: &Report<A>) -> bool {
     report.end == End::Memory
-        && report.outputs.as_slice() == [None].as_slice()
+        && report
+            .outputs
+            .as_slice()
+            .iter()
+            .all(|output| output.is_none())
         && report.cells.is_empty()
         && report.frames_out == 1
         && report.events.is_empty()
 }
 
+fn has_outputs<A: Allocator>(report: &Report<A>, numbers: &[i64]) -> bool {
+    report.outputs.len() == numbers.len()
+        && report
+            .outputs
+            .as_slice()
+            .iter()
+            .zip(numbers)
+            .all(|(output, number)| *output == Some(Value::Int(*number)))
+}
+
+fn has_cell<A: Allocator>(report: &Report<A>, cell: Option<i64>) -> bool {
+    match cell {
+        Some(number) => report.cells.as_slice() == [(0, Value::Int(number))].as_slice(),
+        None => report.cells.is_empty(),
+    }
+}
+
+/// Whether the report is that of the whole run, with so many events listed.
+fn is_whole<A: Allocator>(report: &Report<A>, case: Case, listed: usize) -> bool {
+    report.end == End::Rest
+        && has_outputs(report, case.outputs)
+        && has_cell(report, case.cell)
+        && report.deferred == 0
+        && report.waiting_frames == 0
+        && report.waiting_credits == 0
+        && report.frames_out == 0
+        && report.events.len() == listed
+}
+
 /// What a report is after a run that halted where it must.
-fn told<A: Allocator>(report: &Report<A>, listed: usize, refused: Refused) -> Refused {
-    if is_rest(report, listed) {
+fn told<A: Allocator>(report: &Report<A>, case: Case, listed: usize, refused: Refused) -> Refused {
+    if is_whole(report, case, listed) {
         refused
     } else if refused == Refused::Nowhere && is_opening(report) {
         Refused::InTheReport
@@ -47,11 +132,22 @@ fn told<A: Allocator>(report: &Report<A>, listed: usize, refused: Refused) -> Re
     }
 }
 
-/// The call on so many elements; where a growth is refused in the run, the same step is done when it is made again.
-fn call_on<A: Allocator + Clone>(alloc: A, elements: u32, is_quiet: bool) -> Refused
+/// What the report of a run is that was not taken up again.
+fn told_once<A: Allocator>(report: &Report<A>, case: Case) -> Refused {
+    if is_whole(report, case, case.events) {
+        Refused::Nowhere
+    } else if report.end == End::Memory && report.events.len() < case.events {
+        Refused::InTheRun
+    } else {
+        Refused::Wrongly
+    }
+}
+
+/// The run on so many elements; where a growth is refused in the run, the same step is done when it is made again.
+fn run_on<A: Allocator + Clone>(alloc: A, case: Case, elements: u32, way: Way) -> Refused
     requires { 0 < elements }
 {
-    let Ok(object) = Object::open(CALL) else {
+    let Ok(object) = Object::open(case.object) else {
         return Refused::Wrongly;
     };
     let Ok(own) = alloc.clone() else {
@@ -61,27 +157,28 @@ fn call_on<A: Allocator + Clone>(alloc: A, elements: u32, is_quiet: bool) -> Ref
         return Refused::AtTheStart;
     };
     let mut store = None;
-    let mut machine = match Machine::start(
-        alloc,
-        &mut store,
-        &code,
-        &[7],
-        on(u64::from(elements)),
-    ) {
+    let config = Config {
+        frames: case.frames,
+        ..on(u64::from(elements))
+    };
+    let mut machine = match Machine::start(alloc, &mut store, &code, &[case.input], config) {
         Ok(machine) => machine,
         Err(StartFault::Memory) => return Refused::AtTheStart,
         Err(_) => return Refused::Wrongly,
     };
-    if is_quiet {
+    if way == Way::Whole {
+        return told_once(&machine.run_one(), case);
+    }
+    if way == Way::Quietly {
         let mut quiet = machine.without_events();
         let halt = quiet.play_in_turn();
         if halt == Halt::Memory {
             let halt = quiet.play_in_turn();
-            return told(&quiet.report(halt), 0, Refused::InTheRun);
+            return told(&quiet.report(halt), case, 0, Refused::InTheRun);
         }
-        return told(&quiet.report(halt), 0, Refused::Nowhere);
+        return told(&quiet.report(halt), case, 0, Refused::Nowhere);
     }
-    for turn in 0..2000 {
+    for turn in 0..20_000 {
         let element = turn % elements;
         match machine.step(element, 0) {
             Some(Stepped::Memory) => {
@@ -89,26 +186,31 @@ fn call_on<A: Allocator + Clone>(alloc: A, elements: u32, is_quiet: bool) -> Ref
                     return Refused::Wrongly;
                 }
                 let halt = machine.play_in_turn();
-                return told(&machine.report(halt), 33, Refused::InTheRun);
+                return told(&machine.report(halt), case, case.events, Refused::InTheRun);
             }
             Some(_) => {}
             None => return Refused::Wrongly,
         }
     }
-    told(&machine.report(Halt::NoToken), 33, Refused::Nowhere)
+    told(
+        &machine.report(Halt::NoToken),
+        case,
+        case.events,
+        Refused::Nowhere,
+    )
 }
 
 /// How often a growth was refused at the start, in the run and in the report, before none was; `None` where something else
 /// came.
-fn refusals(rt: HostRuntime, elements: u32, is_quiet: bool) -> Option<(u64, u64, u64)>
+fn refusals(rt: HostRuntime, case: Case, elements: u32, way: Way) -> Option<(u64, u64, u64)>
     requires { 0 < elements }
 {
     let mut at_start = 0u64;
     let mut in_run = 0u64;
     let mut in_report = 0u64;
-    for ration in 1..200 {
+    for ration in 1..1000 {
         let heap = Rationed::new(rt.alloc(), ration);
-        match call_on(&heap, elements, is_quiet) {
+        match run_on(&heap, case, elements, way) {
             Refused::AtTheStart => at_start = at_start.wrapping_add(1),
             Refused::InTheRun => in_run = in_run.wrapping_add(1),
             Refused::InTheReport => in_report = in_report.wrapping_add(1),
@@ -155,17 +257,17 @@ fn the_lists_of_a_report_are_refused(rt: HostRuntime) {
 
 #[test]
 fn each_growth_is_refused(rt: HostRuntime) -> Result<(), Fail> {
-    for elements in [1, 2, 7, 16] {
-        let counts = refusals(rt, elements, false);
-        assert!(rt;
-            matches!(counts, Some((1.., 1.., 0))),
-            "{elements}: {counts:?}"
-        );
-        let counts = refusals(rt, elements, true);
-        assert!(rt;
-            matches!(counts, Some((1.., 1.., 0))),
-            "quietly on {elements}: {counts:?}"
-        );
+    for case in CASES {
+        for elements in [1, 2, 7, 16] {
+            for way in [Way::Whole, Way::StepByStep, Way::Quietly] {
+                let counts = refusals(rt, case, elements, way);
+                assert!(rt;
+                    matches!(counts, Some((1.., 1.., _))),
+                    "{} bytes on {elements}, {way:?}: {counts:?}",
+                    case.object.len()
+                );
+            }
+        }
     }
     Ok(())
 }

@@ -2,7 +2,7 @@
 
 ghost use Rattle.std.specs.Prelude.{◌≡◌, ◌<◌, All, IfOk};
 
-use crate::objects::{CALL, STORES, STUCK};
+use crate::objects::{ADD, CALL, STORES, STUCK};
 use element::lane::Stepped;
 use loaded::Loaded;
 use object_view::Object;
@@ -37,6 +37,19 @@ pub fn is_rest<A: Allocator>(report: &Report<A>, listed: usize) -> bool {
         && report.waiting_credits == 0
         && report.frames_out == 0
         && report.events.len() == listed
+}
+
+#[test]
+fn adds_two_numbers(rt: HostRuntime) -> Result<(), Fail> {
+    let code = Loaded::new(rt.alloc(), Object::open(ADD)?)?;
+    let mut store = None;
+    let machine = Machine::start(rt.alloc(), &mut store, &code, &[2, 3], on(1))?;
+    let report = machine.run_one();
+    assert!(rt; report.end == End::Rest);
+    assert!(rt; report.outputs.as_slice() == [Some(Value::Int(5))].as_slice());
+    assert_eq!(rt; report.frames_out, 0);
+    assert_eq!(rt; report.events.len(), 12);
+    Ok(())
 }
 
 #[test]

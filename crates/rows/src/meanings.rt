@@ -1,4 +1,4 @@
-//! Meanings of graphs, of kinds that the compiler does not know yet among them.
+//! Meanings of graphs of every kind.
 
 use crate::served::expect_served;
 use std::test::Fail;

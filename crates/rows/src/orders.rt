@@ -3,10 +3,12 @@
 ghost use Rattle.std.specs.Prelude.{◌<◌, All, IfOk};
 
 use driver::compiling::compile;
-use driver::emulation::emulate_object_picks;
+use driver::emulation::{emulate, emulate_object_picks, emulate_picks};
 use schedule::config::Config;
+use schedule::report::Report;
 use semantics::report::End;
 use std::alloc::{AllocError, Global};
+use std::process::Abort;
 use std::test::Fail;
 use tags::value::Value;
 
@@ -28,6 +30,20 @@ fn picks(alloc: Global, seed: u64, count: u64) -> Result<Vec<(u32, u64)>, AllocE
     Ok(picks)
 }
 
+/// Ends the process unless the report is that of a run to rest with these outputs, and nothing left behind.
+fn expect_row<R: Abort>(rt: &R, report: &Report<Global>, wanted: &[i64]) {
+    assert_eq!(rt; report.end, End::Rest);
+    assert_eq!(rt; report.outputs.as_slice().len(), wanted.len());
+    for (output, number) in report.outputs.as_slice().iter().zip(wanted) {
+        assert_eq!(rt; *output, Some(Value::Int(*number)));
+    }
+    assert!(rt; report.cells.is_empty());
+    assert_eq!(rt; report.deferred, 0);
+    assert_eq!(rt; report.waiting_frames, 0);
+    assert_eq!(rt; report.waiting_credits, 0);
+    assert_eq!(rt; report.frames_out, 0);
+}
+
 #[test]
 fn orders(rt: HostRuntime) -> Result<(), Fail> {
     for (text, inputs, wanted) in [
@@ -47,23 +63,20 @@ fn orders(rt: HostRuntime) -> Result<(), Fail> {
             [7, 13, 30, 2, 0].as_slice(),
         ),
     ] {
-        let compiled = compile(rt.alloc(), text).map_err(|_| "compiled")?;
+        let first = emulate(rt.alloc(), text, inputs.as_slice(), CONFIG).map_err(|_| "a report")?;
+        expect_row(&rt, &first, wanted);
         for seed in 0..100u64 {
             let picks = picks(rt.alloc(), seed, 20_000)?;
-            let report = emulate_object_picks(
+            let report = emulate_picks(
                 rt.alloc(),
-                &compiled.object,
+                text,
                 inputs.as_slice(),
                 CONFIG,
                 &picks,
             )
             .map_err(|_| "a report")?;
-            assert_eq!(rt; report.end, End::Rest);
-            assert_eq!(rt; report.frames_out, 0);
-            assert_eq!(rt; report.outputs.as_slice().len(), wanted.len());
-            for (output, number) in report.outputs.as_slice().iter().zip(wanted) {
-                assert_eq!(rt; *output, Some(Value::Int(*number)), "seed {seed}");
-            }
+            expect_row(&rt, &report, wanted);
+            assert_eq!(rt; report.events.len(), first.events.len(), "seed {seed}");
         }
     }
     Ok(())
