@@ -3,7 +3,6 @@ pub mod Small
 pub mod Keeping
 pub mod Bounds
 pub mod Wholes
-pub mod Samples
 pub mod Inputs
 pub mod StraightLaid
 pub mod StraightBody

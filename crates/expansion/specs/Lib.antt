@@ -13,6 +13,5 @@ pub mod Keeping
 pub mod Laws
 pub mod Facts
 pub mod Arcs
-pub mod Samples
 pub mod Straight
 pub mod Shapes

@@ -60,5 +60,3 @@ pub fn expand<'a, A: Allocator + Clone>(
     plans::plan_of(alloc, flow)
 }
 
-#[cfg(test)]
-mod tests;

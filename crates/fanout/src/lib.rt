@@ -15,8 +15,6 @@ pub mod loops;
 mod rows;
 mod sides;
 pub mod sound;
-#[cfg(test)]
-mod tests;
 mod trees;
 
 use blocks::narrow_block;

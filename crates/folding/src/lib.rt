@@ -16,8 +16,6 @@ mod loops;
 mod moved;
 mod namers;
 mod sound;
-#[cfg(test)]
-mod tests;
 
 use blocks::fold_block;
 use code::{Plan, Program};

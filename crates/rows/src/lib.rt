@@ -9,6 +9,8 @@ mod conditionals;
 #[cfg(test)]
 mod hostile;
 #[cfg(test)]
+mod inputs;
+#[cfg(test)]
 mod literals;
 #[cfg(test)]
 mod many_elements;

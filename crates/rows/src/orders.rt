@@ -67,14 +67,9 @@ fn orders(rt: HostRuntime) -> Result<(), Fail> {
         expect_row(&rt, &first, wanted);
         for seed in 0..100u64 {
             let picks = picks(rt.alloc(), seed, 20_000)?;
-            let report = emulate_picks(
-                rt.alloc(),
-                text,
-                inputs.as_slice(),
-                CONFIG,
-                &picks,
-            )
-            .map_err(|_| "a report")?;
+            let report = emulate_picks(rt.alloc(), text, inputs.as_slice(), CONFIG, &picks).map_err(
+                |_| "a report",
+            )?;
             expect_row(&rt, &report, wanted);
             assert_eq!(rt; report.events.len(), first.events.len(), "seed {seed}");
         }

@@ -1,5 +1,5 @@
-use Rattle.expansion.proofs.Samples.{well_of, text_of}
-use Rattle.expansion.proofs.tests.adds_two_inputs.Goals as goal
+use Rattle.pass_tests.proofs.Samples.{well_of, text_of}
+use Rattle.pass_tests.proofs.expanded.adds_two_inputs.Goals as goal
 
 pub expand-requires-clause-well_formed : goal.expand-requires-clause-well_formed
 expand-requires-clause-well_formed g c = well_of c.in_ok-graph.graph c.in_ok-graph.ensures

@@ -3,10 +3,10 @@
 ghost use Rattle.std.specs.Prelude.{◌≡◌, IfOk};
 ghost use Rattle.semantics.specs.WellFormed.{WellFormed};
 ghost use Rattle.semantics.specs.Text.{HasText};
-ghost use Rattle.expansion.specs.Samples as Samples;
+ghost use Rattle.pass_tests.specs.Samples as Samples;
 
-use crate::expand;
 use code::CodeBlock;
+use expansion::expand;
 use graph::{Block, Graph, Name, Node, Version};
 use operators::Binary;
 use rationed::Rationed;

@@ -8,7 +8,7 @@ use Rattle.semantics.specs.declared.graph.Region.TheVariants.{Root}
 use Rattle.semantics.specs.Graph.{Graph, Block, Node, node_at}
 use Rattle.semantics.specs.WellFormed.{WellFormed, IsBlockWell, IsNodeWell, IsEarlier, AllDiffer, region_of}
 use Rattle.semantics.specs.Text.{HasText, HasBlockText, HasNodeLine, IsName, IsWrittenSource}
-use Rattle.expansion.specs.Samples.{Named, source, add_node, adder, first, alone, both}
+use Rattle.pass_tests.specs.Samples.{Named, source, add_node, adder, first, alone, both}
 
 -- BLOCKS
 no_node : (k : ℕ) (x : Node (List ℕ)) → slice_get [] k ≡ Some x → ⊥

@@ -1,7 +1,7 @@
 //! Plans made by hand, and where their copies stand.
 
-use super::narrow;
 use code::{CodeBlock, Instr, Plan, Program};
+use fanout::narrow;
 use operators::Binary;
 use rationed::Rationed;
 use semantics::program::{Dest, Mark, Op};

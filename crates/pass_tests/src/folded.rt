@@ -1,7 +1,7 @@
 //! Plans made by hand, and their literal operands.
 
-use super::fold;
 use code::{CodeBlock, Instr, Plan, Program};
+use folding::fold;
 use operators::Binary;
 use rationed::Rationed;
 use semantics::program::{Dest, Mark, Op};
