@@ -59,4 +59,3 @@ pub fn expand<'a, A: Allocator + Clone>(
     let flow = flow::resolve(alloc.clone()?, graph)?;
     plans::plan_of(alloc, flow)
 }
-
