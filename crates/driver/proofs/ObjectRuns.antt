@@ -1,5 +1,5 @@
 -- A run of a machine that started on an object's code is shown of the object.
-use Rattle.std.proofs.Common.{◌≡◌, ℕ, ◌++◌, Bool, true, false, ℤ, List, sym, ap, ◌∙◌, subst, arith}
+use Rattle.std.proofs.Common.{◌≡◌, ℕ, ◌++◌, Bool, true, false, ℤ, List, sym, ap, ◌∙◌, subst}
 use Rattle.semantics.specs.Program.{Program, Code}
 use Rattle.semantics.specs.Bytes.{IsObject}
 use Rattle.semantics.specs.Machine.{Events}
@@ -24,14 +24,13 @@ shown_object : (bytes : List ℕ) (inputs : List ℤ) (c : Config) (listed : Boo
 shown_object bytes inputs c listed r o loaded e object only width k opens shows =
     let S : Setting → Type 0 = λ g. Shows g.program (size g) inputs g.steps listed false r in
     let O : Opened → Type 0 = λ x. IsObject bytes x.version x.code in
-    let some = opens.good.elements in
     record {
       version = loaded.version;
       code = loaded.code;
       object = subst O (sym e) object;
       only = λ v d h. ap (λ (x : Opened). x.code) e ∙ (only v d h).1;
       inputs_fit = opens.arity;
-      some_element = omega (arith, some);
+      good = opens.good;
       some_frame = opens.some_frame;
       shows = subst S opens.setting shows;
     }

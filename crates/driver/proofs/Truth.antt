@@ -1,5 +1,5 @@
 -- A report that shows a run of faithful code tells the truth about the graph.
-use Rattle.std.proofs.Common.{◌≡◌, ℕ, ◌+◌, ◌<◌, Bool, true, false, ℤ, List, length, Option, Some, None, sym, ◌∙◌, ap, subst}
+use Rattle.std.proofs.Common.{◌≡◌, ℕ, ◌+◌, ◌<◌, Bool, true, false, ℤ, List, length, Option, Some, None, sym, ◌∙◌, ap, subst, arith}
 use Rattle.std.specs.Prelude.{sum, take}
 use Rattle.tags.specs.declared.value.Value.{Value}
 use Rattle.semantics.specs.declared.report.End.{End}
@@ -15,7 +15,7 @@ use Rattle.semantics.specs.Report.{Report, IsPicture, HasEnd, Shows}
 use Rattle.schedule.specs.declared.config.Config.{Config}
 use Rattle.schedule.specs.Setting.{inputs_of as inputs_of_program}
 use Rattle.schedule.specs.Unlisted.{with_events}
-use Rattle.driver.specs.Headline.{ShowsMemory, ShowsObject, RunsObject, FollowsTurns, FollowsList, TellsMeaning, TellsOf, TellsTruth, TellsTruthListed, Quietly, size_of}
+use Rattle.driver.specs.Headline.{ShowsMemory, ShowsObject, RunsObject, FollowsTurns, FollowsList, TellsMeaning, TellsOf, TellsTruth, TellsTruthListed, TellsQuietly, Quietly, size_of}
 use Rattle.driver.specs.Refused.{IsCompiled}
 
 -- a cell that is full has its value, and no other
@@ -83,6 +83,8 @@ tells_truth text g bytes inputs c listed r compiled shown =
     let F : Code → Type 0 = λ x. length inputs ≡ inputs_of_program x.program in
     let fit : length inputs ≡ inputs_of (flow_of g) = subst F same shown.inputs_fit ∙ made.inputs in
     let shows = subst S same shown.shows in
+    let some = shown.good.elements in
+    let some_element : 0 < c.elements = omega (arith, some) in
     record {
       is_text = compiled.good.is_text;
       well_formed = compiled.good.well_formed;
@@ -90,13 +92,14 @@ tells_truth text g bytes inputs c listed r compiled shown =
       code = code;
       made = made;
       shows = shows;
-      straight = λ line. tells_meaning inputs (size_of c) c.steps listed r (flow_of g) code.program fit shown.some_element shown.some_frame (made.faithful line) shows;
+      straight = λ line. tells_meaning inputs (size_of c) c.steps listed r (flow_of g) code.program fit some_element shown.some_frame (made.faithful line) shows;
     }
 
 -- So does a report that lists no events.
-pub tells_quietly : (text : List ℕ) (g : Graph) (bytes : List ℕ) (inputs : List ℤ) (c : Config) (listed : Bool) (r : Report)
-    → IsCompiled text g bytes → Quietly (ShowsObject bytes inputs c listed) r → Quietly (TellsOf text g inputs (size_of c) c.steps listed) r
-tells_quietly text g bytes inputs c listed r compiled shown = (shown.0, shown.1, tells_truth text g bytes inputs c listed (with_events r shown.1) compiled shown.2)
+pub tells_quietly : (text : List ℕ) (g : Graph) (bytes : List ℕ) (inputs : List ℤ) (c : Config) (r : Report)
+    → IsCompiled text g bytes → Quietly (ShowsObject bytes inputs c false) r → TellsQuietly text g inputs c r
+tells_quietly text g bytes inputs c r compiled shown =
+    ((shown.2).good, (shown.2).some_frame, (shown.0, shown.1, tells_truth text g bytes inputs c false (with_events r shown.1) compiled shown.2))
 
 -- The order of a run of the object's code is that of a run of the graph's code.
 ordered : (text : List ℕ) (g : Graph) (bytes : List ℕ) (inputs : List ℤ) (c : Config) (listed : Bool) (r : Report) (Ordered : Program → Config → List ℤ → Report → Type 0)

@@ -16,7 +16,7 @@ use Rattle.lowering.specs.Theorem.{IsStraightLine}
 use Rattle.schedule.specs.declared.config.Config.{Config}
 use Rattle.schedule.specs.declared.halt.Halt.{Halt}
 use Rattle.schedule.specs.Setting.{inputs_of as inputs_in_code}
-use Rattle.schedule.specs.Starts.{Opens}
+use Rattle.schedule.specs.Starts.{IsGood, Opens}
 use Rattle.schedule.specs.Runs.{Kept, Plays, rounds_of}
 use Rattle.schedule.specs.Told.{IsReportOf}
 use Rattle.schedule.specs.Unlisted.{with_events}
@@ -102,7 +102,8 @@ pub record ShowsObject (bytes : List ℕ) (inputs : List ℤ) (c : Config) (list
   -- and of no other code
   pub only : (v : ℕ) (c : Code) → IsObject bytes v c → code ≡ c
   pub inputs_fit : length inputs ≡ inputs_in_code code.program
-  pub some_element : 0 < c.elements
+  -- the configuration is one that the machine takes
+  pub good : IsGood c
   pub some_frame : 0 < c.frames
   pub shows : Shows code.program (size_of c) inputs c.steps listed false r
 
@@ -118,4 +119,4 @@ abbrev pub Quietly : (Report → Type 0) → Report → Type 0
 Quietly Tells r = (r.events ≡ []) × (events : Events) × Tells (with_events r events)
 
 abbrev pub TellsQuietly : List ℕ → Graph → List ℤ → Config → Report → Type 0
-TellsQuietly text g inputs c r = Quietly (TellsOf text g inputs (size_of c) c.steps false) r
+TellsQuietly text g inputs c r = IsGood c × (0 < c.frames) × Quietly (TellsOf text g inputs (size_of c) c.steps false) r

@@ -1,4 +1,4 @@
-//! Firings, and runs of a small program on one element.
+//! What instructions make of the words that come.
 
 ghost use Rattle.std.specs.Prelude.{◌≡◌, true, [], ◌∷◌};
 ghost use Rattle.element.specs.Fired.{HasRoom, HasRoomInWord, HasRoomInSlot};

@@ -118,6 +118,3 @@ pub fn check<'a, A: Allocator + Clone>(graph: Graph<'a, A>) -> Result<Checked<'a
     check_blocks(&named, blocks_of(named.graph()))?;
     Ok(Checked { named })
 }
-
-#[cfg(test)]
-mod tests;

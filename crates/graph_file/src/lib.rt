@@ -15,6 +15,3 @@ pub use fields::literal;
 pub use parts::Parts;
 pub use reading::read;
 pub use writing::write;
-
-#[cfg(test)]
-mod tests;

@@ -39,32 +39,39 @@ fn answers_each_call(rt: HostRuntime) -> Result<(), Fail> {
     Ok(())
 }
 
-/// Makes cells, defers two readers, fills the cell, and says how far that came.
+/// Makes cells, defers eight readers of one of them, fills it, and says how far that came. A reader that is refused room
+/// changes nothing.
 fn steps_made<A: Allocator + Clone>(alloc: A, answers: &mut Vec<Cont, A>) -> u32 {
     let Ok(mut cells) = Cells::new(alloc, 4, 0, 1) else {
         return 0;
     };
-    if cells.fetch(2, reader(1)) == FetchAnswer::Memory {
-        return 1;
+    for number in 0..8u32 {
+        if cells.fetch(2, reader(number)) == FetchAnswer::Memory {
+            return if cells.readers(2) == number as usize {
+                1 + number
+            } else {
+                99
+            };
+        }
     }
     if cells.store(2, Value::Int(1), answers) == StoreAnswer::Memory {
-        return 2;
+        return if cells.readers(2) == 8 { 9 } else { 99 };
     }
-    if cells.fetch(2, reader(2)) == FetchAnswer::Memory {
-        return 3;
+    if cells.fetch(2, reader(8)) == FetchAnswer::Memory {
+        return 10;
     }
-    4
+    11
 }
 
 #[test]
 fn refuses_each_growth(rt: HostRuntime) -> Result<(), Fail> {
     let mut seen = Vec::new(rt.alloc());
-    for at in 1..6u64 {
+    for at in 1..7u64 {
         let heap = Rationed::new(rt.alloc(), at);
         let mut answers = Vec::new(&heap);
         seen.push(steps_made(&heap, &mut answers))?;
         drop(answers);
     }
-    assert_eq!(rt; seen.as_slice(), [0, 1, 2, 4, 4].as_slice());
+    assert_eq!(rt; seen.as_slice(), [0, 1, 5, 9, 11, 11].as_slice());
     Ok(())
 }

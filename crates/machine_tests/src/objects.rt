@@ -75,7 +75,8 @@ pub const ADD: &[u8] = b"\
     \x1a\0\x01\0\x01\x80\0\0\0\0\0\0\0\0\0\0\
     \x20\0\x02\0\0\0\0\0\x01\0\0\0\0\0\0\0";
 
-/// Two fetches of a cell, and the store that fills it with the input. Outputs are the three values.
+/// Two fetches of cell 1, and the store that fills it with the input. Outputs are the three values. On many elements the cell
+/// lies on another one than the frame.
 pub const READERS: &[u8] = b"\
     ETSOBJCT\
     \x01\0\0\0\0\0\0\0\x01\0\0\0\0\0\0\0\
@@ -97,7 +98,7 @@ pub const READERS: &[u8] = b"\
     \x13\0\x04\0\x01\0\0\0\0\0\0\0\0\0\0\0\
     \x13\0\x05\0\x01\x80\0\0\0\0\0\0\0\0\0\0\
     \x20\0\x06\0\0\0\0\0\x03\0\0\0\0\0\0\0\
-    \0\0\0\0\0\0\0\0\
+    \x01\0\0\0\0\0\0\0\
     \x02\0\0\0\0\0\0\0";
 
 /// A loop with bound 2 that sums the numbers up to its input.

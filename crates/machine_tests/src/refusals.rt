@@ -35,8 +35,8 @@ struct Case {
     input: i64,
     frames: u64,
     outputs: &'static [i64],
-    /// The value of cell 0; no other one is full.
-    cell: Option<i64>,
+    /// The cell that is full, with its value; no other one is.
+    cell: Option<(u32, i64)>,
     events: usize,
 }
 
@@ -55,7 +55,7 @@ const CASES: [Case; 3] = [
         input: 8,
         frames: 2,
         outputs: &[8, 8, 8],
-        cell: Some(8),
+        cell: Some((1, 8)),
         events: 30,
     },
     Case {
@@ -102,9 +102,9 @@ fn has_outputs<A: Allocator>(report: &Report<A>, numbers: &[i64]) -> bool {
             .all(|(output, number)| *output == Some(Value::Int(*number)))
 }
 
-fn has_cell<A: Allocator>(report: &Report<A>, cell: Option<i64>) -> bool {
+fn has_cell<A: Allocator>(report: &Report<A>, cell: Option<(u32, i64)>) -> bool {
     match cell {
-        Some(number) => report.cells.as_slice() == [(0, Value::Int(number))].as_slice(),
+        Some((cell, number)) => report.cells.as_slice() == [(cell, Value::Int(number))].as_slice(),
         None => report.cells.is_empty(),
     }
 }

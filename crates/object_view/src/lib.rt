@@ -15,6 +15,3 @@ pub use fault::ObjectFault;
 pub use instr::{CodeInstr, PackedInstr};
 pub use object::{BlockView, Object, Version, one_spelling};
 pub use writing::{upgrade, write};
-
-#[cfg(test)]
-mod tests;

@@ -17,6 +17,3 @@ mod tokens;
 pub use laws::{runs_are_meant, steps_agree};
 pub use report::{Full, MeanEnd, MeanFault, MeanReport};
 pub use runs::mean;
-
-#[cfg(test)]
-mod tests;

@@ -5,6 +5,8 @@ ghost use Rattle.std.specs.Prelude.{◌≡◌, ◌<◌, ℕ, All, IfOk};
 use crate::objects::changed;
 use driver::emulation::{emulate_object, emulate_object_picks};
 use driver::fault::Fault;
+use driver::report_text::write_report;
+use graph_file::read;
 use object_view::ObjectFault;
 use schedule::config::Config;
 use schedule::report::Report;
@@ -22,9 +24,9 @@ const ASTRAY: &[u8] =
 const CALLS: &[u8] =
     b"ETSOBJCT\x01\0\0\0\0\0\0\0\x02\0\0\0\0\0\0\0\0\0\0\0\0\0\0\0\0\0\0\0\0\0\0\0\x01\0\0\0\0\0\0\0\x07\0\0\0\x02\x01\x03\0\x21\0\0\0\x02\x02\x0e\0\x12\0\0\0\x04\0\x06\0\0\0\0\0\0\0\0\0\x12\0\0\0\x02\0\0\0\0\0\0\0\0\0\0\0\x12\0\0\0\x03\0\0\0\0\0\0\0\0\0\0\0\x0f\0\0\0\x01\x80\0\0\0\0\0\0\0\0\0\0\x1a\0\0\0\x01\x80\0\0\0\0\0\0\0\0\0\0\x13\0\x01\0\x01\x80\0\0\0\0\0\0\0\0\0\0\x20\0\x02\0\0\0\0\0\x01\0\0\0\0\0\0\0\x12\0\0\0\x03\0\x05\0\0\0\0\0\0\0\0\0\x12\0\0\0\x09\x80\0\0\0\0\0\0\0\0\0\0\x12\0\0\0\x09\x80\0\0\0\0\0\0\0\0\0\0\x12\0\0\0\x01\0\x14\0\0\0\0\0\0\0\0\0\x12\0\0\0\x02\0\x0b\0\0\0\0\0\0\0\0\0\x12\0\0\0\x13\0\x1b\0\0\0\0\0\0\0\0\0\x17\0\0\0\x01\0\0\0\0\0\0\0\0\0\0\0\x12\0\0\0\x01\0\x04\0\0\0\0\0\0\0\0\0\x12\0\0\0\x01\0\x02\0\0\0\0\0\0\0\0\0\x18\0\0\0\x03\0\0\0\0\0\0\0\0\0\0\0\x19\0\0\0\x0f\0\0\0\x01\0\0\0\0\0\0\0\x19\0\x01\0\x0e\x80\0\0\x02\0\0\0\0\0\0\0\x12\0\0\0\x02\0\x0b\x80\0\0\0\0\0\0\0\0\x12\0\0\0\x0d\x80\0\0\0\0\0\0\0\0\0\0\x12\0\0\0\x05\x80\x06\x80\0\0\0\0\0\0\0\0\x17\0\0\0\x01\0\0\0\0\0\0\0\0\0\0\0\x12\0\0\0\x01\0\x04\0\0\0\0\0\0\0\0\0\x12\0\0\0\x01\0\x02\0\0\0\0\0\0\0\0\0\x18\0\0\0\x03\0\0\0\0\0\0\0\0\0\0\0\x19\0\x02\0\x08\x80\0\0\x01\0\0\0\0\0\0\0\x19\0\x03\0\x08\x80\0\0\x02\0\0\0\0\0\0\0\x12\0\0\0\x03\x80\0\0\0\0\0\0\0\0\0\0\x12\0\0\0\x07\x80\0\0\0\0\0\0\0\0\0\0\x1a\0\x04\0\x07\x80\0\0\0\0\0\0\0\0\0\0\x1a\0\x05\0\x07\x80\0\0\x01\0\0\0\0\0\0\0\x13\0\x06\0\x01\0\0\0\0\0\0\0\0\0\0\0\x13\0\x07\0\x01\0\0\0\0\0\0\0\0\0\0\0\x13\0\x08\0\x01\0\0\0\0\0\0\0\0\0\0\0\x13\0\x09\0\x01\0\0\0\0\0\0\0\0\0\0\0\x13\0\x0a\0\x01\0\0\0\0\0\0\0\0\0\0\0\x13\0\x0b\0\x01\0\0\0\0\0\0\0\0\0\0\0\x13\0\x0c\0\x01\x80\0\0\0\0\0\0\0\0\0\0\x20\0\x0d\0\0\0\0\0\x02\0\0\0\0\0\0\0";
 
-/// Two fetches of a cell, and the store that fills it.
+/// Two fetches of cell 1, and the store that fills it. On many elements the cell lies on another one than the frame.
 const READERS: &[u8] =
-    b"ETSOBJCT\x01\0\0\0\0\0\0\0\x01\0\0\0\0\0\0\0\x01\0\0\0\0\0\0\0\x01\0\0\0\0\0\0\0\0\0\0\0\0\0\0\0\x0f\0\0\0\x01\x03\x07\0\x12\0\0\0\x02\0\x03\0\0\0\0\0\0\0\0\0\x12\0\0\0\x03\0\x07\x80\0\0\0\0\0\0\0\0\x12\0\0\0\x07\0\x08\0\0\0\0\0\0\0\0\0\x12\0\0\0\x08\0\x0b\0\0\0\0\0\0\0\0\0\x11\0\0\0\x01\0\x04\0\0\0\0\0\0\0\0\0\x12\0\0\0\x01\0\x02\0\0\0\0\0\0\0\0\0\x15\0\0\0\x03\x80\0\0\0\0\0\0\0\0\0\0\x15\0\0\0\x03\x80\0\0\0\0\0\0\0\0\0\0\x16\0\0\0\x03\x80\0\0\0\0\0\0\0\0\0\0\x1a\0\x01\0\x03\0\0\0\0\0\0\0\0\0\0\0\x1a\0\x02\0\x02\x80\0\0\x01\0\0\0\0\0\0\0\x1a\0\x03\0\x02\x80\0\0\x02\0\0\0\0\0\0\0\x13\0\x04\0\x01\0\0\0\0\0\0\0\0\0\0\0\x13\0\x05\0\x01\x80\0\0\0\0\0\0\0\0\0\0\x20\0\x06\0\0\0\0\0\x03\0\0\0\0\0\0\0\0\0\0\0\0\0\0\0\x02\0\0\0\0\0\0\0";
+    b"ETSOBJCT\x01\0\0\0\0\0\0\0\x01\0\0\0\0\0\0\0\x01\0\0\0\0\0\0\0\x01\0\0\0\0\0\0\0\0\0\0\0\0\0\0\0\x0f\0\0\0\x01\x03\x07\0\x12\0\0\0\x02\0\x03\0\0\0\0\0\0\0\0\0\x12\0\0\0\x03\0\x07\x80\0\0\0\0\0\0\0\0\x12\0\0\0\x07\0\x08\0\0\0\0\0\0\0\0\0\x12\0\0\0\x08\0\x0b\0\0\0\0\0\0\0\0\0\x11\0\0\0\x01\0\x04\0\0\0\0\0\0\0\0\0\x12\0\0\0\x01\0\x02\0\0\0\0\0\0\0\0\0\x15\0\0\0\x03\x80\0\0\0\0\0\0\0\0\0\0\x15\0\0\0\x03\x80\0\0\0\0\0\0\0\0\0\0\x16\0\0\0\x03\x80\0\0\0\0\0\0\0\0\0\0\x1a\0\x01\0\x03\0\0\0\0\0\0\0\0\0\0\0\x1a\0\x02\0\x02\x80\0\0\x01\0\0\0\0\0\0\0\x1a\0\x03\0\x02\x80\0\0\x02\0\0\0\0\0\0\0\x13\0\x04\0\x01\0\0\0\0\0\0\0\0\0\0\0\x13\0\x05\0\x01\x80\0\0\0\0\0\0\0\0\0\0\x20\0\x06\0\0\0\0\0\x03\0\0\0\0\0\0\0\x01\0\0\0\0\0\0\0\x02\0\0\0\0\0\0\0";
 
 /// A loop with bound 2 that sums the numbers up to its input.
 const LOOP: &[u8] =
@@ -67,24 +69,57 @@ fn picks(alloc: Global, elements: u32, seed: u64) -> Result<Vec<(u32, u64)>, All
     Ok(picks)
 }
 
-/// Ends the process unless the report has that end and these outputs.
-fn expect_report<R: Abort>(
-    rt: &R,
-    report: &Report<Global>,
-    end: End,
-    outputs: &[Option<i64>],
-    elements: u32,
-) {
-    assert_eq!(rt; report.end, end, "{elements} elements");
-    if end == End::Rest {
-        assert_eq!(rt; report.frames_out, 0);
-        assert_eq!(rt; report.outputs.as_slice().len(), outputs.len());
-        for (output, wanted) in report.outputs.as_slice().iter().zip(outputs) {
-            let wanted = match wanted {
-                Some(number) => Some(Value::Int(*number)),
-                None => None,
-            };
-            assert_eq!(rt; *output, wanted);
+/// What a run comes to.
+#[derive(Clone, Copy)]
+enum Wanted<'a> {
+    /// A token meets a case that this rule excludes.
+    Stuck(u8),
+    /// Rest, after so many events, with these outputs and full cells. Nothing waits, and no frame is out.
+    Rest {
+        events: usize,
+        outputs: &'a [Option<i64>],
+        cells: &'a [(u32, i64)],
+    },
+}
+
+/// Ends the process unless these are the outputs.
+fn expect_outputs<R: Abort>(rt: &R, report: &Report<Global>, outputs: &[Option<i64>]) {
+    assert_eq!(rt; report.outputs.as_slice().len(), outputs.len());
+    for (output, wanted) in report.outputs.as_slice().iter().zip(outputs) {
+        let wanted = match wanted {
+            Some(number) => Some(Value::Int(*number)),
+            None => None,
+        };
+        assert_eq!(rt; *output, wanted);
+    }
+}
+
+/// Ends the process unless these are the full cells.
+fn expect_cells<R: Abort>(rt: &R, report: &Report<Global>, cells: &[(u32, i64)]) {
+    assert_eq!(rt; report.cells.len(), cells.len());
+    for ((cell, value), (wanted, number)) in report.cells.as_slice().iter().zip(cells) {
+        assert_eq!(rt; (*cell, *value), (*wanted, Value::Int(*number)));
+    }
+}
+
+/// Ends the process unless the report is the wanted one.
+fn expect_report<R: Abort>(rt: &R, report: &Report<Global>, wanted: Wanted<'_>, elements: u32) {
+    match wanted {
+        Wanted::Stuck(rule) => {
+            assert_eq!(rt; report.end, End::Stuck { rule }, "{elements} elements")
+        }
+        Wanted::Rest {
+            events,
+            outputs,
+            cells,
+        } => {
+            assert_eq!(rt; report.end, End::Rest, "{elements} elements");
+            expect_outputs(rt, report, outputs);
+            expect_cells(rt, report, cells);
+            assert_eq!(rt; report.deferred, 0);
+            assert_eq!(rt; (report.waiting_frames, report.waiting_credits), (0, 0));
+            assert_eq!(rt; report.frames_out, 0);
+            assert_eq!(rt; report.events.len(), events, "{elements} elements");
         }
     }
 }
@@ -95,14 +130,13 @@ fn expect_always<R: Abort>(
     alloc: Global,
     object: &[u8],
     inputs: &[i64],
-    end: End,
-    outputs: &[Option<i64>],
+    wanted: Wanted<'_>,
 ) -> Result<(), Fail> {
     for elements in SIZES {
         let report = emulate_object(alloc, object, inputs, config(elements)).map_err(
             |_| "a report",
         )?;
-        expect_report(rt, &report, end, outputs, elements);
+        expect_report(rt, &report, wanted, elements);
         if elements > 0 {
             for seed in 0..10u64 {
                 let picks = picks(alloc, elements, seed)?;
@@ -113,7 +147,7 @@ fn expect_always<R: Abort>(
                     config(elements),
                     &picks,
                 ).map_err(|_| "a report")?;
-                expect_report(rt, &report, end, outputs, elements);
+                expect_report(rt, &report, wanted, elements);
             }
         }
     }
@@ -123,7 +157,7 @@ fn expect_always<R: Abort>(
 #[test]
 fn excluded_tokens_are_told(rt: HostRuntime) -> Result<(), Fail> {
     let alloc = rt.alloc();
-    expect_always(&rt, alloc, ASTRAY, &[2], End::Stuck { rule: 1 }, &[])?;
+    expect_always(&rt, alloc, ASTRAY, &[2], Wanted::Stuck(1))?;
     for (changes, rule) in [
         ([(93, 0)].as_slice(), 3),
         ([(60, 5)].as_slice(), 3),
@@ -146,33 +180,57 @@ fn excluded_tokens_are_told(rt: HostRuntime) -> Result<(), Fail> {
         ([(128, 3)].as_slice(), 6),
     ] {
         let object = changed(alloc, changes)?;
-        expect_always(&rt, alloc, &object, &[2, 3], End::Stuck { rule }, &[])?;
+        expect_always(&rt, alloc, &object, &[2, 3], Wanted::Stuck(rule))?;
     }
+    Ok(())
+}
+
+#[test]
+fn a_stuck_run_is_printed(rt: HostRuntime) -> Result<(), Fail> {
+    let alloc = rt.alloc();
+    let graph = read(
+        alloc,
+        b"etsgraph 1\nblock m 1 1\n- neg 0.0\nout 1.0\nend\nmain m\n",
+    )?;
+    let report = emulate_object(alloc, ASTRAY, &[2], config(1)).map_err(|_| "a report")?;
+    let mut text = Vec::new(alloc);
+    write_report(&mut text, &graph, &report)?;
+    assert!(rt; text.as_slice().ends_with(b"\nend Stuck 1\n"));
     Ok(())
 }
 
 #[test]
 fn a_result_may_stay_away(rt: HostRuntime) -> Result<(), Fail> {
     let object = changed(rt.alloc(), &[(108, 2)])?;
-    expect_always(&rt, rt.alloc(), &object, &[2, 3], End::Rest, &[None])?;
-    let report = emulate_object(rt.alloc(), &object, &[2, 3], config(1)).map_err(|_| "a report")?;
-    assert_eq!(rt; report.events.len(), 10);
-    Ok(())
+    let wanted = Wanted::Rest {
+        events: 10,
+        outputs: &[None],
+        cells: &[],
+    };
+    expect_always(&rt, rt.alloc(), &object, &[2, 3], wanted)
 }
 
 #[test]
 fn calls_readers_and_loops_run(rt: HostRuntime) -> Result<(), Fail> {
     let alloc = rt.alloc();
-    expect_always(&rt, alloc, CALLS, &[4, 3], End::Rest, &[Some(-4), Some(4)])?;
-    expect_always(
-        &rt,
-        alloc,
-        READERS,
-        &[8],
-        End::Rest,
-        &[Some(8), Some(8), Some(8)],
-    )?;
-    expect_always(&rt, alloc, LOOP, &[10], End::Rest, &[Some(55)])
+    let called = Wanted::Rest {
+        events: 75,
+        outputs: &[Some(-4), Some(4)],
+        cells: &[],
+    };
+    expect_always(&rt, alloc, CALLS, &[4, 3], called)?;
+    let read = Wanted::Rest {
+        events: 30,
+        outputs: &[Some(8), Some(8), Some(8)],
+        cells: &[(1, 8)],
+    };
+    expect_always(&rt, alloc, READERS, &[8], read)?;
+    let summed = Wanted::Rest {
+        events: 577,
+        outputs: &[Some(55)],
+        cells: &[],
+    };
+    expect_always(&rt, alloc, LOOP, &[10], summed)
 }
 
 #[test]

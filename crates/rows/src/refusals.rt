@@ -113,6 +113,14 @@ fn refuses_starts(rt: HostRuntime) -> Result<(), Fail> {
         ADD_ONE_INPUT,
         b"refused: start WrongInputs\n",
         1,
+    )?;
+    expect_served(
+        &rt,
+        rt.alloc(),
+        &["ets", "run"],
+        ADD_ONE_INPUT,
+        b"refused: start WrongInputs\n",
+        1,
     )
 }
 

@@ -33,6 +33,18 @@ fn a_long_chain_shares_its_slots(rt: HostRuntime) -> Result<(), Fail> {
     expect_served(&rt, alloc, &["ets", "run"], &text, wanted, 0)
 }
 
+#[test]
+fn slots_run_out(rt: HostRuntime) -> Result<(), Fail> {
+    let alloc = rt.alloc();
+    let mut text = b"etsgraph 1\nblock m 1 1\n".to_vec(alloc)?;
+    for _ in 0..600u32 {
+        text.extend_from_slice(b"- and 0.0 0.0\n")?;
+    }
+    text.extend_from_slice(b"out 1.0\nend\nmain m\n")?;
+    let wanted = b"refused: slots TooManySlots block 0\n";
+    expect_served(&rt, alloc, &["ets", "compile"], &text, wanted, 1)
+}
+
 /// The text of so many blocks, each a chain of 1,023 literals that differ from all others.
 fn literals(alloc: Global, blocks: u32) -> Result<Vec<u8>, Fail> {
     let mut text = b"etsgraph 1\n".to_vec(alloc)?;

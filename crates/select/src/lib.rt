@@ -13,8 +13,6 @@ ghost use Rattle.select.specs.Literals as Literals;
 mod fault;
 mod instrs;
 mod literals;
-#[cfg(test)]
-mod tests;
 
 use code::{Code, Plan, Program, Slots};
 pub use fault::EmitFault;

@@ -71,6 +71,3 @@ pub fn assign<A: Allocator + Clone>(alloc: A, plan: &Plan<A>) -> Result<Slots<A>
     }
     Ok(Slots::of(lists))
 }
-
-#[cfg(test)]
-mod tests;

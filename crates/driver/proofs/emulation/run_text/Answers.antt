@@ -7,7 +7,7 @@ use Rattle.driver.proofs.emulation.run_text.Goals as goal
 
 pub returns-in-Ok-emulate_object_quietly : goal.returns-in-Ok-emulate_object_quietly
 returns-in-Ok-emulate_object_quietly g c =
-    tells_quietly c.args.text.now c.in-Ok-compile.compiled.checked _ c.args.inputs.now c.args.config false c.in-Ok-emulate_object_quietly.report c.in-Ok-compile.ensures
+    tells_quietly c.args.text.now c.in-Ok-compile.compiled.checked _ c.args.inputs.now c.args.config c.in-Ok-emulate_object_quietly.report c.in-Ok-compile.ensures
     (subst (λ (bs : List ℕ). Quietly (ShowsObject bs c.args.inputs.now c.args.config false) c.in-Ok-emulate_object_quietly.report) c.deref.ensures.value c.in-Ok-emulate_object_quietly.ensures)
 
 pub returns : goal.returns

@@ -1,7 +1,7 @@
 //! Graphs made by hand, and what is answered of them.
 
-use super::{CheckFault, CheckFaultKind, check};
 use graph::{Array, Block, Graph, Name, Node, Version};
+use graph_check::{CheckFault, CheckFaultKind, check};
 use operators::{Binary, Unary};
 use rationed::Rationed;
 use semantics::graph::{Kind, Region, Source};

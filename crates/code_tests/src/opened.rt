@@ -1,4 +1,6 @@
-use super::*;
+//! An object that adds its two inputs: opened, refused, upgraded and written.
+
+use object_view::{Object, ObjectFault, upgrade, write};
 use std::io::{self, ErrorKind, Write};
 
 /// Adds two inputs.

@@ -1,6 +1,6 @@
 //! Worked examples.
 
-use crate::{Full, MeanEnd, MeanFault, MeanReport, mean};
+use oracle::{Full, MeanEnd, MeanFault, MeanReport, mean};
 use rationed::Rationed;
 use std::alloc::Allocator;
 use std::process::Abort;

@@ -1,10 +1,10 @@
 //! Plans made by hand, and which slots are good for them.
 
-use super::{AssignFault, assign, check_slots};
 use code::{CodeBlock, Instr, Plan, Program, Slots};
 use operators::Binary;
 use rationed::Rationed;
 use semantics::program::{Dest, Mark, Op};
+use slot_alloc::{AssignFault, assign, check_slots};
 use std::alloc::{AllocError, Allocator};
 use std::test::Fail;
 use tags::token::Port;

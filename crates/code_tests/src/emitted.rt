@@ -1,9 +1,11 @@
-use super::*;
-use code::{CodeBlock, Instr};
+//! Plans made by hand, and the code that is made of them.
+
+use code::{Code, CodeBlock, Instr, Plan, Program, Slots};
 use operators::Binary;
 use rationed::Rationed;
+use select::{EmitFault, Version, emit};
 use semantics::program::{Dest, Op};
-use std::alloc::AllocError;
+use std::alloc::{AllocError, Allocator};
 use std::test::Fail;
 use tags::token::Port;
 use tags::value::{NodeNumber, Origin};

@@ -1,4 +1,6 @@
-use super::*;
+//! Texts that are graphs, texts that are none, and what is written.
+
+use graph_file::{ReadFault, ReadFaultKind, read, write};
 use rationed::Rationed;
 use std::io::{self, ErrorKind, Write};
 use std::test::Fail;
