@@ -1,3 +1,1 @@
-mod Sent
-mod Numbered
 mod Places

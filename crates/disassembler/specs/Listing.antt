@@ -1,5 +1,5 @@
 -- The listing of an object: its code as lines of text.
-use Rattle.std.specs.Prelude.{ℕ, zero, suc, ◌+◌, ◌-◌, Option, Some, None, List, [], ◌∷◌, ◌++◌, length, decimal, codes}
+use Rattle.std.specs.Prelude.{ℕ, zero, suc, ◌-◌, Option, Some, None, List, [], ◌∷◌, ◌++◌, length, decimal, codes}
 use Rattle.tags.specs.declared.token.Port.{Port}
 use Rattle.tags.specs.declared.token.Port.TheVariants.{Left, Right}
 use Rattle.tags.specs.declared.value.Origin.{Origin}
@@ -9,6 +9,7 @@ use Rattle.semantics.specs.declared.program.Op.{Op}
 use Rattle.semantics.specs.declared.program.Op.TheVariants.{Apply1, Apply2, Apply2Right, Apply2Left, Lit, Copy, Sync, Switch, Fetch, Store, Frame, Link, Send, Return, Ask, Open, Take, Give, Drain, Release}
 use Rattle.semantics.specs.Program.{Instr, CodeBlock, Program}
 use Rattle.semantics.specs.Rule.{slot_of}
+use Rattle.sink.specs.Numbered.{numbered}
 use Rattle.semantics.specs.Text.{field, line, literal, unary_word, binary_word}
 
 -- COLUMNS
@@ -90,11 +91,7 @@ abbrev pub instr_line : ℕ → Instr → List ℕ
 instr_line n i = line (right_in 5 (decimal n) ++ field (left_in 8 (name_of i.op)) ++ field (right_in 4 (slot_text (slot_of i i.op)))
     ++ field (right_in 7 (dest_text i.firsts)) ++ field (right_in 7 (dest_text i.seconds)) ++ field (operand_text i.op) ++ origin_text i.origin)
 
--- THE WHOLE. The texts of a list's things, which are numbered from n on
-abbrev pub numbered : {X : Type 0} → (ℕ → X → List ℕ) → ℕ → List X → List ℕ
-numbered text n [] = []
-numbered text n (x ∷ xs) = text n x ++ numbered text (n + 1) xs
-
+-- THE WHOLE
 abbrev pub block_line : ℕ → ℕ → ℕ → ℕ → List ℕ
 block_line n inputs outputs slots = line (codes "block " ++ decimal n ++ codes " inputs " ++ decimal inputs ++ codes " outputs " ++ decimal outputs ++ codes " slots " ++ decimal slots)
 

@@ -1,9 +1,9 @@
 //! The listing of an object: its code as lines of text.
 #![tactic(auto)]
 
+mod column;
 mod line;
 mod listing;
-mod sending;
 
 pub use listing::list;
 

@@ -6,13 +6,14 @@ ghost use Rattle.semantics.specs.Text.{field, unary_word, binary_word};
 ghost use Rattle.semantics.specs.Rule.{slot_of};
 ghost use Rattle.disassembler.specs.Listing.{name_of, right_in, left_in, slot_text, dest_text, port_letter, operand_text, origin_text, instr_line};
 ghost use Rattle.object_view.specs.Reading.{shown};
-ghost use Rattle.object_view.specs.Sending.{Sends};
+ghost use Rattle.sink.specs.Sends.{Sends};
 
-use crate::sending::{gap, send, send_all};
+use crate::column::gap;
 use itoa::Buffer;
 use object_view::CodeInstr;
 use operators::{Binary, Unary};
 use semantics::program::{Dest, Op};
+use sink::{send, send_all};
 use std::io::{self, Write};
 use tags::token::Port;
 use tags::value::Origin;

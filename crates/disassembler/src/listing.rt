@@ -5,13 +5,14 @@ ghost use Rattle.semantics.specs.Program.{CodeBlock};
 ghost use Rattle.object_view.specs.Fields.{version_number};
 ghost use Rattle.object_view.specs.Reading.{shown};
 ghost use Rattle.disassembler.specs.Places.{IsBlockAt};
-ghost use Rattle.object_view.specs.Sending.{Sends};
-ghost use Rattle.disassembler.specs.Listing.{numbered, instr_line, block_line, block_lines, array_line, head_line, listing};
+ghost use Rattle.sink.specs.Sends.{Sends};
+ghost use Rattle.disassembler.specs.Listing.{instr_line, block_line, block_lines, array_line, head_line, listing};
+ghost use Rattle.sink.specs.Numbered.{numbered};
 
 use crate::line::list_instr;
-use crate::sending::send_all;
 use itoa::Buffer;
 use object_view::{BlockView, CodeInstr, Object, Version};
+use sink::send_all;
 use std::io::{self, Write};
 
 fn version_number(version: Version) -> u32

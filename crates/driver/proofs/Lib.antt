@@ -3,3 +3,5 @@ pub mod GraphObjects
 pub mod InputLines
 pub mod ObjectRuns
 pub mod TextObjects
+pub mod Joined
+pub mod Served

@@ -5,7 +5,7 @@ use Rattle.std.specs.Io.KnownBytes.{Appends}
 use Rattle.semantics.specs.Graph.{Graph}
 use Rattle.semantics.specs.Program.{Code}
 use Rattle.semantics.specs.Bytes.{IsObject, bytes_of}
-use Rattle.object_view.specs.Sending.{Sends}
+use Rattle.sink.specs.Sends.{Sends}
 use Rattle.object_view.specs.Reading.{Opened}
 use Rattle.schedule.specs.declared.config.Config.{Config}
 use Rattle.schedule.specs.declared.config.StartFault.{StartFault}

@@ -5,3 +5,5 @@ pub mod Refused
 pub mod Input
 pub mod Status
 pub mod Disassembled
+pub mod Refusals
+pub mod Served

@@ -1,5 +1,5 @@
 //! The whole tool: from the text of a graph to the report of its run. The headline is the contract of
-//! `emulation::emulate`.
+//! `emulation::emulate`; what a command prints is that of `serving::serve_request`.
 #![tactic(auto)]
 
 pub mod compiling;
@@ -9,5 +9,6 @@ pub mod input;
 pub mod meaning;
 pub mod objects;
 pub mod refusal;
-pub mod report_text;
+pub mod refusal_text;
 pub mod serving;
+pub mod status;

@@ -1,17 +1,24 @@
 //! The program over a reader and a writer.
 
+ghost use Rattle.std.specs.Prelude.{◌≡◌, MatchResult};
+ghost use Rattle.driver.specs.Disassembled.{listing_of, upgrade_of};
+ghost use Rattle.driver.specs.Served.{config_of, IsRefusedLine, IsRunOf, IsNoRunOf, IsMeaningOf, IsNoMeaningOf, Refuses, PrintsRun, PrintsMeaning, PrintsCheck, PrintsObject, PrintsOf, Answers, ServesRequest};
+
 use crate::compiling::{CompileRefusal, check_text, compile, write_object};
 use crate::emulation::{Emulated, run_text, start_text};
 use crate::input::{LinesFault, parse_integers, read_input, split_at_main};
 use crate::meaning::{Meant, mean_text};
 use crate::objects::{ObjectRefusal, disassemble, upgrade_object};
 use crate::refusal::Refusal;
-use crate::report_text::{status_of, status_of_meaning, write_meaning, write_report};
+use crate::refusal_text::write_refusal;
+use crate::status::{status_of, status_of_meaning};
 use command_line::{Request, RunOptions, parse};
+use report_text::{write_meaning, write_report};
 use schedule::config::{Config, StartFault};
+use sink::send;
 use std::alloc::{Allocator, Global};
 use std::convert::AsStr;
-use std::io::{self, ErrorKind, Read, Write};
+use std::io::{self, Read, Write};
 
 /// The exit status of a refusal, of a fault of the command line and of a failed write.
 const REFUSED: u8 = 1;
@@ -19,10 +26,26 @@ const REFUSED: u8 = 1;
 /// Steps of an element in one turn.
 const TURN: u64 = 64;
 
-fn check_input<A: Allocator + Clone, R: Read>(alloc: A, reader: &mut R) -> Result<(), Refusal> {
-    let input = read_input(alloc.clone()?, reader)?;
-    let _ = check_text(alloc, &input)?;
-    Ok(())
+/// How the machine is to be set.
+fn config_of(options: &RunOptions) -> Config
+    ensures { result ≡ config_of options.now }
+{
+    Config {
+        elements: options.elements,
+        frames: options.frames,
+        steps: options.steps,
+        turn: TURN,
+    }
+}
+
+/// What refuses an input with a line that is no integer.
+fn line_refusal<A: Allocator + Clone>(alloc: A, text: &[u8], line: u64) -> Refusal
+    ensures { IsRefusedLine text.now line result }
+{
+    match compile(alloc, text) {
+        Ok(_compiled) => Refusal::InputLine(line),
+        Err(fault) => Refusal::from(fault),
+    }
 }
 
 /// Runs the graph of the input on the integers after it. Refusals come in the order of the work; a mode that is not there
@@ -31,66 +54,56 @@ fn run_input<'a, A: Allocator + Clone>(
     alloc: A,
     input: &'a [u8],
     options: &RunOptions,
-) -> Result<Emulated<'a, A>, Refusal> {
+) -> Result<Emulated<'a, A>, Refusal>
+    ensures { MatchResult result (λ e. IsRunOf input.now options.now e.checked e.report) (IsNoRunOf input.now options.now) }
+{
     let (text, lines) = split_at_main(input);
-    let integers = match parse_integers(alloc.clone()?, lines) {
+    let Ok(room) = alloc.clone() else {
+        return Err(Refusal::Memory);
+    };
+    let integers = match parse_integers(room, lines) {
         Ok(integers) => integers,
         Err(LinesFault::Memory) => return Err(Refusal::Memory),
-        Err(LinesFault::BadLine(line)) => {
-            let _ = compile(alloc, text)?;
-            return Err(Refusal::InputLine(line));
-        }
+        Err(LinesFault::BadLine(line)) => return Err(line_refusal(alloc, text, line)),
     };
-    let config = Config {
-        elements: options.elements,
-        frames: options.frames,
-        steps: options.steps,
-        turn: TURN,
-    };
-    if !options.mode_is_one {
-        start_text(alloc, text, &integers, config)?;
-        return Err(Refusal::Start(StartFault::BadConfig));
-    }
-    Ok(run_text(alloc, text, &integers, config)?)
-}
-
-fn refuse<W: Write>(writer: &mut W, refusal: &Refusal) -> io::Result<u8> {
-    writeln!(writer, "{refusal}")?;
-    Ok(REFUSED)
-}
-
-fn serve_check<A: Allocator + Clone, R: Read, W: Write>(
-    alloc: A,
-    reader: &mut R,
-    writer: &mut W,
-) -> io::Result<u8> {
-    match check_input(alloc, reader) {
-        Ok(()) => {
-            writeln!(writer, "ok")?;
-            Ok(0)
+    let config = config_of(options);
+    if options.mode_is_one {
+        match run_text(alloc, text, &integers, config) {
+            Ok(emulated) => Ok(emulated),
+            Err(fault) => Err(Refusal::from(fault)),
         }
-        Err(refusal) => refuse(writer, &refusal),
+    } else {
+        match start_text(alloc, text, &integers, config) {
+            Ok(()) => Err(Refusal::Start(StartFault::BadConfig)),
+            Err(fault) => Err(Refusal::from(fault)),
+        }
     }
 }
 
-fn serve_run<A: Allocator + Clone, R: Read, W: Write>(
+/// Prints the line of the refusal, and gives its status.
+fn refuse<W: Write>(writer: &mut W, refusal: &Refusal) -> io::Result<u8>
+    ensures { Refuses result (W.contents writer.old) (W.contents writer.new) refusal.now }
+{
+    match write_refusal(writer, refusal) {
+        Ok(()) => Ok(REFUSED),
+        Err(fault) => Err(fault),
+    }
+}
+
+/// Runs the graph of the input on the integers after it, and prints the report, or why there is none. Gives the exit status.
+pub fn print_run<A: Allocator + Clone, W: Write>(
     alloc: A,
+    input: &[u8],
     options: &RunOptions,
-    reader: &mut R,
     writer: &mut W,
-) -> io::Result<u8> {
-    let Ok(room) = alloc.clone() else {
-        return refuse(writer, &Refusal::Memory);
-    };
-    let input = match read_input(room, reader) {
-        Ok(input) => input,
-        Err(fault) => return refuse(writer, &Refusal::from(fault)),
-    };
-    match run_input(alloc, &input, options) {
-        Ok(emulated) => {
-            write_report(writer, emulated.checked.graph(), &emulated.report)?;
-            Ok(status_of(emulated.report.end))
-        }
+) -> io::Result<u8>
+    ensures { PrintsRun result (W.contents writer.old) (W.contents writer.new) input.now options.now }
+{
+    match run_input(alloc, input, options) {
+        Ok(emulated) => match write_report(writer, emulated.checked.graph(), &emulated.report) {
+            Ok(()) => Ok(status_of(emulated.report.end)),
+            Err(fault) => Err(fault),
+        },
         Err(refusal) => refuse(writer, &refusal),
     }
 }
@@ -100,104 +113,141 @@ fn mean_input<'a, A: Allocator + Clone>(
     alloc: A,
     input: &'a [u8],
     steps: u64,
-) -> Result<Meant<'a, A>, Refusal> {
+) -> Result<Meant<'a, A>, Refusal>
+    ensures { MatchResult result (λ m. IsMeaningOf input.now steps m.checked m.report.end m.report.outputs.items m.report.cells.items) (IsNoMeaningOf input.now) }
+{
     let (text, lines) = split_at_main(input);
-    let integers = match parse_integers(alloc.clone()?, lines) {
+    let Ok(room) = alloc.clone() else {
+        return Err(Refusal::Memory);
+    };
+    let integers = match parse_integers(room, lines) {
         Ok(integers) => integers,
         Err(LinesFault::Memory) => return Err(Refusal::Memory),
         Err(LinesFault::BadLine(line)) => {
-            let _ = check_text(alloc, text)?;
-            return Err(Refusal::InputLine(line));
+            return match check_text(alloc, text) {
+                Ok(_checked) => Err(Refusal::InputLine(line)),
+                Err(fault) => Err(Refusal::from(fault)),
+            };
         }
     };
-    Ok(mean_text(alloc, text, &integers, steps)?)
+    match mean_text(alloc, text, &integers, steps) {
+        Ok(meant) => Ok(meant),
+        Err(fault) => Err(Refusal::from(fault)),
+    }
 }
 
-fn serve_mean<A: Allocator + Clone, R: Read, W: Write>(
+/// Runs the meaning of the graph of the input on the integers after it, for so many activities at most, and prints what it
+/// gave, or why it was not run. Gives the exit status.
+pub fn print_meaning<A: Allocator + Clone, W: Write>(
     alloc: A,
+    input: &[u8],
     steps: u64,
-    reader: &mut R,
     writer: &mut W,
-) -> io::Result<u8> {
-    let Ok(room) = alloc.clone() else {
-        return refuse(writer, &Refusal::Memory);
-    };
-    let input = match read_input(room, reader) {
-        Ok(input) => input,
-        Err(fault) => return refuse(writer, &Refusal::from(fault)),
-    };
-    match mean_input(alloc, &input, steps) {
-        Ok(meant) => {
-            write_meaning(writer, meant.checked.graph(), &meant.report)?;
-            Ok(status_of_meaning(meant.report.end))
-        }
+) -> io::Result<u8>
+    ensures { PrintsMeaning result (W.contents writer.old) (W.contents writer.new) input.now steps }
+{
+    match mean_input(alloc, input, steps) {
+        Ok(meant) => match write_meaning(writer, meant.checked.graph(), &meant.report) {
+            Ok(()) => Ok(status_of_meaning(meant.report.end)),
+            Err(fault) => Err(fault),
+        },
         Err(refusal) => refuse(writer, &refusal),
     }
 }
 
-/// Writes the object of the graph of the input.
-fn serve_compile<A: Allocator + Clone, R: Read, W: Write>(
+/// Prints `ok` where the text has a well-formed graph, or what is wrong with it. Gives the exit status.
+pub fn print_check<A: Allocator + Clone, W: Write>(
     alloc: A,
-    reader: &mut R,
+    text: &[u8],
     writer: &mut W,
-) -> io::Result<u8> {
-    let Ok(room) = alloc.clone() else {
-        return refuse(writer, &Refusal::Memory);
-    };
-    let input = match read_input(room, reader) {
-        Ok(input) => input,
-        Err(fault) => return refuse(writer, &Refusal::from(fault)),
-    };
-    match write_object(alloc, &input, writer) {
+) -> io::Result<u8>
+    ensures { PrintsCheck result (W.contents writer.old) (W.contents writer.new) text.now }
+{
+    match check_text(alloc, text) {
+        Ok(_checked) => match send(writer, b"ok\n") {
+            Ok(()) => Ok(0),
+            Err(fault) => Err(fault),
+        },
+        Err(fault) => refuse(writer, &Refusal::from(fault)),
+    }
+}
+
+/// Prints the object of the graph that the text has, or why there is none. Gives the exit status.
+pub fn print_object<A: Allocator + Clone, W: Write>(
+    alloc: A,
+    text: &[u8],
+    writer: &mut W,
+) -> io::Result<u8>
+    ensures { PrintsObject result (W.contents writer.old) (W.contents writer.new) text.now }
+{
+    match write_object(alloc, text, writer) {
         Ok(()) => Ok(0),
         Err(CompileRefusal::Fault(fault)) => refuse(writer, &Refusal::from(fault)),
         Err(CompileRefusal::Write(fault)) => Err(fault),
     }
 }
 
-/// Lists the object of the input, or writes it as version 2.
-fn serve_object<A: Allocator, R: Read, W: Write>(
-    alloc: A,
-    reader: &mut R,
-    writer: &mut W,
-    is_upgrade: bool,
-) -> io::Result<u8> {
-    let input = match read_input(alloc, reader) {
-        Ok(input) => input,
-        Err(fault) => return refuse(writer, &Refusal::from(fault)),
-    };
-    let written = if is_upgrade {
-        upgrade_object(&input, writer)
-    } else {
-        disassemble(&input, writer)
-    };
-    match written {
+/// Prints the listing of the object that the bytes are, or why they are none. Gives the exit status.
+pub fn print_listing<W: Write>(bytes: &[u8], writer: &mut W) -> io::Result<u8>
+    ensures { PrintsOf listing_of result (W.contents writer.old) (W.contents writer.new) bytes.now }
+{
+    match disassemble(bytes, writer) {
         Ok(()) => Ok(0),
         Err(ObjectRefusal::Object(fault)) => refuse(writer, &Refusal::Object(fault)),
         Err(ObjectRefusal::Write(fault)) => Err(fault),
     }
 }
 
-/// A writer each of whose faults is the last: std's loops would call it again after `Interrupted`.
-#[derive(Drop)]
-struct Once<'w, W: Write> {
-    writer: &'w mut W,
-}
-
-impl<'w, W: Write> Write for Once<'w, W> {
-    fn write(&mut self, bytes: &[u8]) -> io::Result<usize> {
-        match self.writer.write(bytes) {
-            Ok(count) => Ok(count),
-            Err(_) => Err(io::Error::from(ErrorKind::Other)),
-        }
-    }
-
-    fn flush(&mut self) -> io::Result<()> {
-        self.writer.flush()
+/// Prints the object that the bytes are as version 2, or why they are none. Gives the exit status.
+pub fn print_upgrade<W: Write>(bytes: &[u8], writer: &mut W) -> io::Result<u8>
+    ensures { PrintsOf upgrade_of result (W.contents writer.old) (W.contents writer.new) bytes.now }
+{
+    match upgrade_object(bytes, writer) {
+        Ok(()) => Ok(0),
+        Err(ObjectRefusal::Object(fault)) => refuse(writer, &Refusal::Object(fault)),
+        Err(ObjectRefusal::Write(fault)) => Err(fault),
     }
 }
 
-fn answer<A: Allocator + Clone, S: AsStr, R: Read, W: Write>(
+/// All that the reader has, printed on by what the words of the command line ask for.
+fn answer<A: Allocator + Clone, W: Write>(
+    request: &Request,
+    input: &[u8],
+    writer: &mut W,
+    alloc: A,
+) -> io::Result<u8>
+    ensures { Answers result (W.contents writer.old) (W.contents writer.new) input.now request.now }
+{
+    match request {
+        Request::Check => print_check(alloc, input, writer),
+        Request::Compile => print_object(alloc, input, writer),
+        Request::Dis => print_listing(input, writer),
+        Request::Upgrade => print_upgrade(input, writer),
+        Request::Run(options) => print_run(alloc, input, options, writer),
+        Request::Mean { steps } => print_meaning(alloc, input, *steps, writer),
+    }
+}
+
+/// Reads all of the reader, and prints what is asked for, or why it is not. Gives the exit status.
+pub fn serve_request<A: Allocator + Clone, R: Read, W: Write>(
+    request: &Request,
+    reader: &mut R,
+    writer: &mut W,
+    alloc: A,
+) -> io::Result<u8>
+    ensures { ServesRequest (R.remaining reader.old) result (W.contents writer.old) (W.contents writer.new) request.now }
+{
+    let Ok(room) = alloc.clone() else {
+        return refuse(writer, &Refusal::Memory);
+    };
+    match read_input(room, reader) {
+        Ok(input) => answer(request, &input, writer, alloc),
+        Err(fault) => refuse(writer, &Refusal::from(fault)),
+    }
+}
+
+/// Prints what the words of the command line ask for.
+fn serve_words<A: Allocator + Clone, S: AsStr, R: Read, W: Write>(
     words: &[S],
     reader: &mut R,
     writer: &mut W,
@@ -205,14 +255,9 @@ fn answer<A: Allocator + Clone, S: AsStr, R: Read, W: Write>(
     global: Global,
 ) -> io::Result<u8> {
     match parse(global, words) {
-        Ok(Request::Check) => serve_check(alloc, reader, writer),
-        Ok(Request::Compile) => serve_compile(alloc, reader, writer),
-        Ok(Request::Dis) => serve_object(alloc, reader, writer, false),
-        Ok(Request::Upgrade) => serve_object(alloc, reader, writer, true),
-        Ok(Request::Run(options)) => serve_run(alloc, &options, reader, writer),
-        Ok(Request::Mean { steps }) => serve_mean(alloc, steps, reader, writer),
+        Ok(request) => serve_request(&request, reader, writer, alloc),
         Err(command_line::Refusal::Said { text, is_mistake }) => {
-            write!(writer, "{text}")?;
+            send(writer, text.as_bytes())?;
             Ok(if is_mistake { REFUSED } else { 0 })
         }
         Err(command_line::Refusal::OutOfMemory) => refuse(writer, &Refusal::Memory),
@@ -229,5 +274,5 @@ pub fn serve<A: Allocator + Clone, S: AsStr, R: Read, W: Write>(
     alloc: A,
     global: Global,
 ) -> u8 {
-    answer(words, reader, &mut Once { writer }, alloc, global).unwrap_or(REFUSED)
+    serve_words(words, reader, writer, alloc, global).unwrap_or(REFUSED)
 }

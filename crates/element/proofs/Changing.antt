@@ -30,7 +30,8 @@ use Rattle.element.specs.Acts.{Changes, ServesFirst}
 use Rattle.frame_manager.specs.Managed.{Managed}
 use Rattle.element.proofs.Only.{fetch_only, store_only, request_only, release_only, manages_as, part_with_cells, cells_elsewhere, part_with_manager, frames_elsewhere}
 use Rattle.element.proofs.Nearness.{back_near, one_near}
-use Rattle.element.proofs.Places.{put_other, set_at, slot_then, either, agree}
+use Rattle.frame_store.proofs.Apart.{either}
+use Rattle.element.proofs.Places.{put_other, set_at, slot_then, agree}
 
 abbrev seat : ℕ → ℕ → Seat
 seat f ip = record { frame = f; ip = ip }

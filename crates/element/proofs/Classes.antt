@@ -114,15 +114,3 @@ module _ (p : Program) (width : ℕ) (old : Held) (t : Token) (f ip : ℕ) (port
   fired_as v fired at before Step.Memory new after comes still = still
   fired_as v fired at before Step.Idle new after comes bad = absurd bad
   fired_as v fired at before (Step.Clash cell) new after comes bad = absurd bad
-
--- WHERE IT FIRES
-pub fires_did : (fired : Option (List Token)) (part : Part) (old mid second new : Held) (at : ℕ) (made before between after : List Token)
-    → fired ≡ Some made → mid ≡ old → between ≡ before → part.shape ≡ old.part.shape → second ≡ taken (with_part mid part) at → new ≡ queued second made → after ≡ between ++ elsewhere second.part.shape made
-    → FiresAs fired part old at before Step.Did new after
-fires_did fired part old mid second new at made before between after e_fired e_mid e_between e_shape e_second e_new e_after = (
-  made,
-  e_fired,
-  e_new ∙ ap (λ (h : Held). queued h made) (e_second ∙ ap (λ (m : Held). taken (with_part m part) at) e_mid),
-  e_after ∙ ap (λ (b : List Token). b ++ elsewhere second.part.shape made) e_between
-      ∙ ap (λ (z : Shape). before ++ elsewhere z made) (ap (λ (h : Held). h.part.shape) e_second ∙ e_shape),
-)

@@ -25,7 +25,7 @@ use Rattle.element.specs.Near.{Bounds, IsNearCont, IsNearWord, IsNearTo, IsNearT
 use Rattle.element.specs.Parts.{Part, IsSound, bounds, slot_place}
 use Rattle.element.specs.Changed.{state_in, with_state_in}
 use Rattle.element.specs.Acts.{Changes}
-use Rattle.element.proofs.Places.{either}
+use Rattle.frame_store.proofs.Apart.{either}
 use Rattle.element.proofs.Nearness.{IsNearSeat, NearOutcome, outcome_near}
 use Rattle.element.proofs.Changing.{IsLow, instr_changes}
 

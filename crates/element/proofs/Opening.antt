@@ -21,7 +21,7 @@ use Rattle.element.specs.Near.{Bounds, IsNearCont, IsNearToken, IsNearSlot, IsNe
 use Rattle.element.specs.Parts.{Shape, Part, Manages, IsSound, IsSoundManager, bounds}
 use Rattle.element.specs.Held.{Held, with_queue, IsSoundLane}
 use Rattle.element.specs.Openings.{IsOpening, StartsAs, OthersStay}
-use Rattle.element.proofs.Places.{either}
+use Rattle.frame_store.proofs.Apart.{either}
 use Rattle.element.proofs.Only.{manages_as}
 
 pub others_stay : OthersStay

@@ -1,10 +1,11 @@
 -- Where slots stand, and what a change of one place leaves.
-use Rattle.std.proofs.Common.{◌≡◌, refl, sym, ◌∙◌, ap, subst, ℕ, ◌+◌, ◌*◌, ◌/◌, ◌%◌, ◌<◌, ◌≤◌, Bool, true, false, cond, List, length, get_or, set, arith, get_or-set_other, get_or-set_same, ◌⊎◌, ⊎_elim, inl, inr, ltb}
-use Rattle.std.proofs.lemmas.Bool.{cases_eq, eq-eqb, ne_eqb, ltb-true, ltb-false}
-use Rattle.std.proofs.Math.Nat.{mul-le-mul_left, mul-le-mul_right}
+use Rattle.std.proofs.Common.{◌≡◌, refl, sym, ◌∙◌, ap, subst, ℕ, ◌+◌, ◌*◌, ◌/◌, ◌%◌, ◌<◌, ◌≤◌, cond, List, length, get_or, set, arith, get_or-set_other, get_or-set_same, ⊎_elim}
+use Rattle.std.proofs.lemmas.Bool.{cases_eq, eq-eqb, ne_eqb}
+use Rattle.std.proofs.Math.Nat.{mul-le-mul_left}
 use Rattle.tags.specs.declared.slot.SlotState.{SlotState}
 use Rattle.tags.specs.declared.slot.SlotState.TheVariants.{Empty}
 use Rattle.semantics.specs.Machine.{put_at}
+use Rattle.frame_store.proofs.Apart.{either, below, one_slot}
 use Rattle.element.specs.Parts.{Shape, slot_place}
 
 -- what is the same at each place is the same
@@ -24,41 +25,12 @@ set_at {A} xs r j v d l = ⊎_elim
     (λ (n : r ≡ j → ⊥). put_other (λ k. get_or xs k d) r j v n ∙ sym (get_or-set_other xs r j v d (λ e. n (sym e))))
     (cases_eq r j)
 
-pub either : (a b : ℕ) → (a < b) ⊎ (b ≤ a)
-either a b = go (ltb a b) refl
-  where
-    go : (t : Bool) → ltb a b ≡ t → (a < b) ⊎ (b ≤ a)
-    go true e = inl (ltb-true a b e)
-    go false e = inr (ltb-false a b e)
-
 div-mod : (a n : ℕ) → n * (a / n) + a % n ≡ a
 div-mod a n = omega arith
 
 -- two frames of one element at one place of it are one frame
 same_frame : (n f g : ℕ) → f % n ≡ g % n → f / n ≡ g / n → f ≡ g
 same_frame n f g e q = omega (arith, e, q, div-mod f n, div-mod g n, ap (λ k. n * k) q)
-
-below : (w a b r q : ℕ) → r < w → a < b → a * w + r < b * w + q
-below w a b r q l m = let h : (a + 1) * w ≤ b * w = mul-le-mul_right w (omega arith) in omega (arith, h, times w a)
-  where
-    times : (w a : ℕ) → (a + 1) * w ≡ a * w + w
-    times w a = omega arith
-
--- two slots at one place are one slot
-one_slot : (w a b r q : ℕ) → r < w → q < w → a * w + r ≡ b * w + q → (a ≡ b) × (r ≡ q)
-one_slot w a b r q l m e = ⊎_elim
-    (λ (same : a ≡ b). (same, (let h : a * w ≡ b * w = ap (λ k. k * w) same in omega arith)))
-    (λ (ne : a ≡ b → ⊥). absurd (apart ne))
-    (cases_eq a b)
-  where
-    sides : (a b : ℕ) → (a ≡ b → ⊥) → (a < b) ⊎ (b < a)
-    sides a b ne = ⊎_elim (λ (l : a < b). inl l) (λ (l : b ≤ a). inr (omega arith)) (either a b)
-
-    apart : (a ≡ b → ⊥) → ⊥
-    apart ne = ⊎_elim
-        (λ (lt : a < b). let h = below w a b r q l lt in let k : a * w + r < b * w + q = h in omega arith)
-        (λ (gt : b < a). let k : b * w + q < a * w + r = below w b a q r m gt in omega arith)
-        (sides a b ne)
 
 -- the frame lies among those of the element
 frame_there : (n m f : ℕ) → 0 < n → f < n * m → f / n < m

@@ -1,12 +1,10 @@
--- What a bank that is lent out of the store ends as, where a frame or a slot of it was lent.
+-- What a bank that is lent out of the store ends as, where a slot of it was lent.
 use Rattle.std.specs.Prelude.{ℕ, []}
-use Rattle.std.specs.Borrow.{Lends, follows, MutBor, Fml, RattleType}
+use Rattle.std.specs.Borrow.{Lends, MutBor, Fml, RattleType}
 use Rattle.std.specs.declared.alloc.Allocator.{Ghosts}
 use Rattle.tags.specs.declared.slot.SlotState.{SlotState}
 use Rattle.frame_store.specs.contracts.slot.Slot as slot
-use Rattle.frame_store.specs.contracts.store.Store as store
 use Rattle.frame_store.specs.contracts.store_bank.StoreBank as bank
-use Rattle.frame_store.specs.declared.frame.FrameMut.{FrameMut}
 use Rattle.frame_store.specs.declared.store_bank.StoreBank.{StoreBank}
 use Rattle.frame_store.specs.Slots.{Slots, with_state}
 use mir.Syntax.{named}
@@ -14,10 +12,6 @@ use mir.Syntax.{named}
 -- the bank, with its store as it is now
 abbrev pub over : {a : Type 0} → StoreBank a → Slots → StoreBank a
 over b s = record b { store = record b.store { now = s } }
-
--- the bank's store ends as the frame leaves it
-abbrev pub LendsFrameIn : (A : RattleType) → Ghosts A.Denot → MutBor (StoreBank A.Denot) → FrameMut A.Denot → Fml
-LendsFrameIn A alloc b f = follows (bank.the_row (record { mir = named 1; lft = [] }) A alloc) (store.the_row A alloc) b.ghost_name f.store.ghost_name (over b.now)
 
 -- the bank's store ends with what the slot at the place is left at, and with all others as they were
 abbrev pub LendsSlotIn : (A : RattleType) → Ghosts A.Denot → MutBor (StoreBank A.Denot) → ℕ → MutBor SlotState → Fml

@@ -10,7 +10,8 @@ use tags::slot::SlotState;
 /// The slots of the frames of one element: so many frames of so many slots, from some place of the slice on.
 #[derive(Drop)]
 pub struct BankMut<'a> {
-    /// The slots behind the bank. One is lent by `let slots = &mut *bank.slots;` and `slots.slot(place)`.
+    /// The slots behind the bank. A function over `&mut [Slot]` lends one by `slots.slot(place)`, and whoever calls it with
+    /// `&mut *bank.slots` knows the bank afterwards.
     pub slots: &'a mut [Slot],
     start: usize,
     frames: usize,

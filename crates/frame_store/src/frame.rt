@@ -54,16 +54,19 @@ impl<'a, A: Allocator> FrameMut<'a, A> {
         }
     }
 
-    /// A slot of the frame. What it is left at is in the store, and every other slot of every frame stays.
-    pub fn slot(&mut self, slot: usize) -> &mut Slot
-        requires element { self.old.element < self.old.store.now.elements }
-        requires frame { self.old.frame < self.old.store.now.frames }
-        requires slot { slot < self.old.store.now.width }
-        ensures* lends { sem 𝓛 (LendsSlotOf A.row A.Allocator self.entry (place_of self.old.store.now self.old.element self.old.frame slot) result) }
-        ensures value { result.now ≡ slice_index_or self.old.store.now.states (place_of self.old.store.now self.old.element self.old.frame slot) result.now }
+    /// Turns the frame into one of its slots. What the slot is left at is in the store, and every other slot of every frame of
+    /// every element stays.
+    pub fn slot(self, slot: usize) -> &'a mut Slot
+        requires element { self.element < self.store.now.elements }
+        requires frame { self.frame < self.store.now.frames }
+        requires slot { slot < self.store.now.width }
+        ensures* lends { sem 𝓛 (LendsSlotOf A.row A.Allocator self.entry (place_of self.entry.store.now self.entry.element self.entry.frame slot) result) }
+        ensures value { result.now ≡ slice_index_or self.entry.store.now.states (place_of self.entry.store.now self.entry.element self.entry.frame slot) result.now }
+        ensures there { place_of self.entry.store.now self.entry.element self.entry.frame slot < length self.entry.store.now.states }
     {
         let element = self.element;
         let frame = self.frame;
-        self.store.slot(element, frame, slot)
+        let store = self.store;
+        store.slot(element, frame, slot)
     }
 }

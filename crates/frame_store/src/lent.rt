@@ -45,6 +45,14 @@ impl<'a> BankFrame<'a> {
             slot,
         }
     }
+
+    /// The bank, as it was.
+    pub fn bank(self) -> BankMut<'a>
+        ensures { result ≡ self.entry.bank }
+    {
+        let BankFrame { bank, .. } = self;
+        bank
+    }
 }
 
 impl<'a> BankSlot<'a> {

@@ -2,7 +2,7 @@
 
 ghost use Rattle.std.specs.Prelude.{◌≡◌, ◌+◌, ◌*◌, ◌^◌, ◌≤◌, ◌<◌, length, IfOk, slice_index_or};
 ghost use Rattle.std.specs.Borrow.{sem};
-ghost use Rattle.frame_store.specs.Slots.{all_empty, bank_size, place_of};
+ghost use Rattle.frame_store.specs.Slots.{all_empty, bank_size, place_of, SlotsStandApart};
 
 use crate::bank::Banks;
 use crate::frame::FrameMut;
@@ -98,6 +98,7 @@ impl<A: Allocator> Store<A> {
         requires slot { slot < self.old.width }
         ensures* lends { sem 𝓛 (LendsSlotAt A.row A.Allocator self.entry (place_of self.old element frame slot) result) }
         ensures value { result.now ≡ slice_index_or self.old.states (place_of self.old element frame slot) result.now }
+        ensures there { place_of self.old element frame slot < length self.old.states }
     {
         let place = element * (self.frames * self.width) + (frame * self.width + slot);
         &mut self.slots[place]
@@ -127,3 +128,9 @@ impl<A: Allocator> Store<A> {
         Banks::new(self.slots.as_mut_slice(), frames, width)
     }
 }
+
+/// No two slots stand at one place: a slot that is set has its new state, and every other slot of every frame of every
+/// element has the state that it had.
+pub fn slots_stand_apart()
+    ensures { SlotsStandApart }
+{}

@@ -1,6 +1,6 @@
 //! A bank that is lent out of the store.
 
-ghost use Rattle.std.specs.Prelude.{◌≡◌, ◌<◌, slice_index_or};
+ghost use Rattle.std.specs.Prelude.{◌≡◌, ◌<◌, length, slice_index_or};
 ghost use Rattle.std.specs.Borrow.{sem};
 ghost use Rattle.frame_store.specs.Slots.{place_of};
 
@@ -17,7 +17,7 @@ pub struct StoreBank<'a, A: Allocator> {
 }
 
 impl<'a, A: Allocator> StoreBank<'a, A> {
-    ghost use Rattle.frame_store.specs.LendsBanks.{LendsFrameIn, LendsSlotIn};
+    ghost use Rattle.frame_store.specs.LendsBanks.{LendsSlotIn};
 
     pub(crate) fn new(store: &'a mut Store<A>, element: usize) -> StoreBank<'a, A>
         ensures same_reference { result.store.ghost_name ≡ store.entry.ghost_name }
@@ -41,11 +41,11 @@ impl<'a, A: Allocator> StoreBank<'a, A> {
         self.store.width()
     }
 
-    /// A frame of the bank. What it leaves in the store is in the bank's store.
-    pub fn frame(&mut self, frame: usize) -> FrameMut<'_, A>
-        ensures* lends { sem 𝓛 (LendsFrameIn A.row A.Allocator self.entry result) }
-        ensures value { result.store.now ≡ self.old.store.now }
-        ensures element { result.element ≡ self.old.element }
+    /// Turns the bank into one of its frames. What is changed in the frame is changed in the store.
+    pub fn frame(self, frame: usize) -> FrameMut<'a, A>
+        ensures same_reference { result.store.ghost_name ≡ self.entry.store.ghost_name }
+        ensures value { result.store.now ≡ self.entry.store.now }
+        ensures element { result.element ≡ self.entry.element }
         ensures frame { result.frame ≡ frame }
     {
         let element = self.element;
@@ -60,6 +60,7 @@ impl<'a, A: Allocator> StoreBank<'a, A> {
         requires slot { slot < self.old.store.now.width }
         ensures* lends { sem 𝓛 (LendsSlotIn A.row A.Allocator self.entry (place_of self.old.store.now self.old.element frame slot) result) }
         ensures value { result.now ≡ slice_index_or self.old.store.now.states (place_of self.old.store.now self.old.element frame slot) result.now }
+        ensures there { place_of self.old.store.now self.old.element frame slot < length self.old.store.now.states }
     {
         let element = self.element;
         self.store.slot(element, frame, slot)

@@ -1,9 +1,10 @@
-ghost use Rattle.std.specs.Prelude.{◌≡◌, ◌<◌, slice_set, true};
+ghost use Rattle.std.specs.Prelude.{◌≡◌, ◌<◌, length, slice_set, true};
 ghost use Rattle.frame_store.specs.BankViews.{bank_states, IsBank, place_in};
 ghost use Rattle.frame_store.specs.Slots.{place_of, with_state};
 
 use crate::bank::BankMut;
 use crate::frame::LendSlot;
+use crate::packing::{pack, unpack};
 use crate::slot::Slot;
 use crate::store::Store;
 use rationed::Rationed;
@@ -14,7 +15,7 @@ use tags::slot::SlotState;
 use tags::token::{Cont, Port, Word};
 use tags::value::{FaultKind, NodeNumber, Origin, Value};
 
-fn states() -> [SlotState; 9] {
+fn states() -> [SlotState; 12] {
     let back = Cont::Frame {
         frame: 9,
         ip: u32::MAX,
@@ -28,6 +29,10 @@ fn states() -> [SlotState; 9] {
         kind: FaultKind::Range,
         origin,
     };
+    let zero = Value::Fault {
+        kind: FaultKind::Zero,
+        origin: Origin::Untold,
+    };
     [
         SlotState::Empty,
         SlotState::Left(Word::Val(Value::Int(i64::MIN))),
@@ -38,6 +43,13 @@ fn states() -> [SlotState; 9] {
         SlotState::Credits(u32::MAX),
         SlotState::Waiter(back),
         SlotState::Draining(7),
+        SlotState::Left(Word::Val(zero)),
+        SlotState::Waiter(Cont::Host { port: 3 }),
+        SlotState::Right(Word::Back(Cont::Frame {
+            frame: u32::MAX,
+            ip: 0,
+            port: Port::Left,
+        })),
     ]
 }
 
@@ -79,6 +91,16 @@ fn a_slot_is_two_words(rt: HostRuntime) {
     assert_eq!(rt; slot.words(), [0, 0]);
     slot.set(SlotState::Draining(7));
     assert_eq!(rt; slot.words(), [5, 7]);
+    slot.set(SlotState::Right(Word::Back(Cont::Frame {
+        frame: 6,
+        ip: 3,
+        port: Port::Right,
+    })));
+    assert_eq!(rt; slot.words(), [2 + 5 * 256 + 65_536 + 3 * 4_294_967_296, 6]);
+    for state in states() {
+        let words = pack(state);
+        assert_eq!(rt; unpack(words[0], words[1]), state);
+    }
 }
 
 /// Whether the store has this slot.
@@ -102,13 +124,54 @@ fn a_bank_of_the_store_lends_each_slot(rt: HostRuntime) -> Result<(), Fail> {
         set_in_frame(&mut store, 0, 2, 3, state);
         assert_eq!(rt; store.slot(0, 2, 3).state(), state);
         set_in_frame_of_bank(&mut store, 1, 0, 3, state);
-        assert!(rt; has(&store, 1, 0, 3));
         assert_eq!(rt; store.slot(1, 0, 3).state(), state);
+        set_in_store(&mut store, 0, 1, 0, state);
+        assert_eq!(rt; store.slot(0, 1, 0).state(), state);
+        set_two_in_bank(&mut store, 0, state, SlotState::Empty);
+        assert_eq!(rt; store.slot(0, 0, 0).state(), state);
+        set_two_in_frames_of_bank(&mut store, 0, SlotState::Empty, state);
+        assert_eq!(rt; store.slot(0, 0, 0).state(), SlotState::Empty);
+        assert_eq!(rt; store.slot(0, 0, 1).state(), state);
+        assert_eq!(rt; store.slot(1, 2, 1).state(), state);
+        assert_eq!(rt; set_then_read(&mut store, 1, 1, 3, state), state);
     }
     Ok(())
 }
 
-// A slot is lent through its bank and set: the store has the change once the bank is gone, and nothing else changes.
+// A slot is lent out of the store and set: the store has the change, and nothing else changes.
+fn set_in_store<A: Allocator>(
+    store: &mut Store<A>,
+    element: usize,
+    frame: usize,
+    slot: usize,
+    state: SlotState,
+)
+    requires element { element < store.old.elements }
+    requires frame { frame < store.old.frames }
+    requires slot { slot < store.old.width }
+    ensures { store.new ≡ with_state store.old (place_of store.old element frame slot) state }
+{
+    store.slot(element, frame, slot).set(state);
+}
+
+// What is set is read.
+fn set_then_read<A: Allocator>(
+    store: &mut Store<A>,
+    element: usize,
+    frame: usize,
+    slot: usize,
+    state: SlotState,
+) -> SlotState
+    requires element { element < store.old.elements }
+    requires frame { frame < store.old.frames }
+    requires slot { slot < store.old.width }
+    ensures { result ≡ state }
+{
+    store.slot(element, frame, slot).set(state);
+    store.slot(element, frame, slot).state()
+}
+
+// The same through its bank: the store has the change once the bank is gone.
 fn set_in_bank<A: Allocator>(
     store: &mut Store<A>,
     element: usize,
@@ -138,11 +201,11 @@ fn set_in_frame<A: Allocator>(
     requires slot { slot < store.old.width }
     ensures { store.new ≡ with_state store.old (place_of store.old element frame slot) state }
 {
-    let mut lent = store.frame(element, frame);
+    let lent = store.frame(element, frame);
     lent.slot(slot).set(state);
 }
 
-// A frame is lent out of its bank, and a slot out of the frame.
+// The bank goes into its frame, and the frame into the slot.
 fn set_in_frame_of_bank<A: Allocator>(
     store: &mut Store<A>,
     element: usize,
@@ -153,17 +216,49 @@ fn set_in_frame_of_bank<A: Allocator>(
     requires element { element < store.old.elements }
     requires frame { frame < store.old.frames }
     requires slot { slot < store.old.width }
+    ensures { store.new ≡ with_state store.old (place_of store.old element frame slot) state }
+{
+    store.bank(element).frame(frame).slot(slot).set(state);
+}
+
+// Two slots are set, one after the other, through their bank, and the second also through its frame.
+fn set_two_in_bank<A: Allocator>(
+    store: &mut Store<A>,
+    element: usize,
+    first: SlotState,
+    second: SlotState,
+)
+    requires element { element < store.old.elements }
+    requires frame { 0 < store.old.frames }
+    requires slots { 1 < store.old.width }
+    ensures { store.new ≡ with_state (with_state store.old (place_of store.old element 0 0) first) (place_of store.old element 0 1) second }
 {
     let mut bank = store.bank(element);
-    let mut lent = bank.frame(frame);
-    lent.slot(slot).set(state);
+    bank.slot(0, 0).set(first);
+    bank.frame(0).slot(1).set(second);
+}
+
+// The same through two frames, for each of which the bank is lent again.
+fn set_two_in_frames_of_bank<A: Allocator>(
+    store: &mut Store<A>,
+    element: usize,
+    first: SlotState,
+    second: SlotState,
+)
+    requires element { element < store.old.elements }
+    requires frame { 0 < store.old.frames }
+    requires slots { 1 < store.old.width }
+    ensures { store.new ≡ with_state (with_state store.old (place_of store.old element 0 0) first) (place_of store.old element 0 1) second }
+{
+    store.bank(element).frame(0).slot(0).set(first);
+    store.bank(element).frame(0).slot(1).set(second);
 }
 
 #[test]
 fn lends_each_slot(rt: HostRuntime) -> Result<(), Fail> {
     for state in states() {
         let mut store = Store::new(rt.alloc(), 2, 3, 4)?;
-        let mut frame = store.frame(1, 2);
+        let frame = store.frame(1, 2);
         frame.slot(1).set(state);
         assert_eq!(rt; store.slot(1, 2, 1).state(), state);
         assert_eq!(rt; store.slot(1, 2, 2).state(), SlotState::Empty);
@@ -180,7 +275,7 @@ fn lends_the_slots_of_a_bank(rt: HostRuntime) -> Result<(), Fail> {
         return Err(Fail::new("there is no bank"));
     };
     assert!(rt; bank.holds(2, 1));
-    bank.set(2, 1, SlotState::Draining(7));
+    set_lent(&mut bank, 2, 1, SlotState::Draining(7));
     assert!(rt; bank.holds(2, 1));
     let place = bank.place(2, 1);
     let slots = &mut *bank.slots;
@@ -191,6 +286,27 @@ fn lends_the_slots_of_a_bank(rt: HostRuntime) -> Result<(), Fail> {
     );
     assert!(rt; slots.slot(24).is_none());
     Ok(())
+}
+
+// A slot is lent out of the slots behind a bank and set.
+fn set_at(slots: &mut [Slot], place: usize, state: SlotState)
+    requires { place < length slots.old }
+    ensures { slots.new ≡ slice_set slots.old place state }
+{
+    if let Some(lent) = slots.slot(place) {
+        lent.set(state);
+    }
+}
+
+// A slot of a bank that is held is lent and set: that slot of the bank, and no other.
+fn set_lent(bank: &mut BankMut<'_>, frame: usize, slot: usize, state: SlotState)
+    requires bank { IsBank bank.old }
+    requires frame { frame < bank.old.frames }
+    requires slot { slot < bank.old.width }
+    ensures { bank_states bank.new ≡ slice_set (bank_states bank.old) (place_in bank.old frame slot) state }
+{
+    let place = bank.place(frame, slot);
+    set_at(&mut *bank.slots, place, state);
 }
 
 /// Writes the bank's number and the slot's into each slot, which is lent for it.
@@ -265,6 +381,7 @@ fn a_bank_goes_into_its_slots_and_comes_back(rt: HostRuntime) -> Result<(), Fail
         assert!(rt; bank.holds(1, 1));
         assert_eq!(rt; bank.state(1, 1), SlotState::Empty);
     }
+    bank = bank.frame(0).bank();
     assert!(rt; bank.holds(0, 0));
     let bank = change_first(bank, SlotState::Credits(5));
     assert!(rt; bank.holds(0, 0));

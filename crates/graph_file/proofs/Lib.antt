@@ -11,4 +11,3 @@ pub mod Texts
 pub mod Sound
 pub mod Ends
 pub mod Complete
-pub mod Sent

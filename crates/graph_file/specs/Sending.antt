@@ -1,14 +1,8 @@
--- What a writer took.
-use Rattle.std.specs.Prelude.{◌≡◌, ℕ, List, ◌++◌, Option, Result, Ok, Err, ⊤, codes, decimal}
-use Rattle.std.specs.Io.KnownBytes.{Appends}
+-- The texts of the parts of a graph that are written one after the other.
+use Rattle.std.specs.Prelude.{ℕ, List, ◌++◌, codes, decimal}
 use Rattle.semantics.specs.declared.graph.Source.{Source}
 use Rattle.semantics.specs.Text.{field, line, sources_text}
 use Rattle.semantics.specs.Graph.{Block}
-
--- all of the bytes, or after a fault a beginning of them
-unfoldable pub Sends : {E : Type 0} → Result ⊤ E → Option (List ℕ) → Option (List ℕ) → List ℕ → Type 0
-Sends (Ok x) old new bytes = Appends old new bytes
-Sends (Err e) old new bytes = (front : List ℕ) × (rest : List ℕ) × (bytes ≡ front ++ rest) × Appends old new front
 
 -- a source, with the space before it
 abbrev pub source_text : Source → List ℕ

@@ -2,43 +2,17 @@
 
 ghost use Rattle.std.specs.Prelude.{◌≡◌, ◌++◌, ◌∷◌, [], ℕ, List, flat_map};
 ghost use Rattle.semantics.specs.Text.{field, sources_text, region_text, unary_word, binary_word, kind_text, node_line, block_text, array_line, text_of};
-ghost use Rattle.graph_file.specs.Sending.{Sends, source_text, head_text, out_text, version_text, main_text};
+ghost use Rattle.graph_file.specs.Sending.{source_text, head_text, out_text, version_text, main_text};
+ghost use Rattle.sink.specs.Sends.{Sends};
 ghost use Rattle.graph.specs.Versions.{version_number};
 
 use graph::{Array, Block, Graph, Name, Node, Version};
 use itoa::Buffer;
 use operators::{Binary, Unary};
 use semantics::graph::{Kind, Region, Source};
+use sink::{send, send_all};
 use std::alloc::Allocator;
-use std::io::{self, ErrorKind, Write};
-
-/// Hands the bytes to the writer, in as many calls as it takes. A call that takes no byte is a fault.
-fn send<W: Write>(writer: &mut W, bytes: &[u8]) -> io::Result<()>
-    ensures { Sends result (W.contents writer.old) (W.contents writer.new) bytes.now }
-{
-    let mut rest = bytes;
-    while !rest.is_empty() {
-        match writer.write(rest) {
-            Ok(0) => return Err(io::Error::from(ErrorKind::WriteZero)),
-            Ok(n) => {
-                let (_, after) = rest.split_at(n);
-                rest = after;
-            }
-            Err(e) => return Err(e),
-        }
-    }
-    Ok(())
-}
-
-/// Hands the pieces to the writer, one after the other.
-fn send_all<W: Write>(writer: &mut W, pieces: &[&[u8]]) -> io::Result<()>
-    ensures { Sends result (W.contents writer.old) (W.contents writer.new) (flat_map (λ p. p.now) pieces.now) }
-{
-    for piece in pieces {
-        send(writer, piece)?;
-    }
-    Ok(())
-}
+use std::io::{self, Write};
 
 /// A source, with the space before it.
 fn send_source<W: Write>(writer: &mut W, source: &Source) -> io::Result<()>

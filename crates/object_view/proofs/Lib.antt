@@ -10,7 +10,6 @@ mod Lawful
 mod Listed
 mod Numbers
 mod Places
-mod Sent
 mod Sound
 mod Spelling
 mod Taken

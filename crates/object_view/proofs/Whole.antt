@@ -11,8 +11,9 @@ use Rattle.semantics.specs.declared.program.Op.TheVariants.{Apply1, Apply2, Appl
 use Rattle.semantics.specs.Rule.{slot_of}
 use Rattle.std.proofs.lemmas.Option.{slice_get-get_or}
 use Rattle.semantics.specs.Bytes.{words_of, bytes_of, block_word, instr_words, HasDests, IsSlot, IsDest, IsInstr, IsCodeBlock, IsCode}
-use Rattle.object_view.specs.Sending.{Sends, upgraded, HasRoom, HasWords, HasEntry, bytes_of_word, bytes_of_header, bytes_of_entry, bytes_of_block, bytes_of_literal}
-use Rattle.object_view.proofs.Sent.{sends_same, sends_less, sends_more, sends_other}
+use Rattle.object_view.specs.Sending.{upgraded, HasRoom, HasWords, HasEntry, bytes_of_word, bytes_of_header, bytes_of_entry, bytes_of_block, bytes_of_literal}
+use Rattle.sink.specs.Sends.{Sends}
+use Rattle.sink.proofs.Sent.{sends_same, sends_less, sends_more, sends_other}
 
 flat_map-map : {X Y : Type 0} (f : Y → List ℕ) (g : X → Y) (xs : List X) → flat_map f (map g xs) ≡ flat_map (λ x. f (g x)) xs
 flat_map-map f g [] = refl

@@ -1,15 +1,9 @@
--- What a writer took.
-use Rattle.std.specs.Prelude.{◌≡◌, ℕ, ℤ, ◌<◌, ◌≤◌, List, [], ◌∷◌, ◌++◌, length, flat_map, codes, take, drop, int_lt, slice_get, true, Some, ◌+◌, Option, Result, Ok, Err, ⊤}
+-- What can be written, and its bytes.
+use Rattle.std.specs.Prelude.{◌≡◌, ℕ, ℤ, ◌<◌, ◌≤◌, List, [], ◌∷◌, ◌++◌, length, flat_map, codes, take, drop, int_lt, slice_get, true, Some, ◌+◌, ⊤}
 use Rattle.std.specs.Int.{w64, cast_unsigned, to_le_bytes}
 use Rattle.semantics.specs.declared.program.Dest.{Dest}
 use Rattle.semantics.specs.Program.{Instr, CodeBlock, Code}
 use Rattle.semantics.specs.Bytes.{instr_words, block_word}
-use Rattle.std.specs.Io.KnownBytes.{Appends}
-
--- all of the bytes, or after a fault a beginning of them
-unfoldable pub Sends : {E : Type 0} → Result ⊤ E → Option (List ℕ) → Option (List ℕ) → List ℕ → Type 0
-Sends (Ok x) old new bytes = Appends old new bytes
-Sends (Err e) old new bytes = (front : List ℕ) × (rest : List ℕ) × (bytes ≡ front ++ rest) × Appends old new front
 
 -- WHAT CAN BE WRITTEN. At most one destination of each kind, and numbers that have room in their bits.
 abbrev pub HasRoom : List Dest → Type 0

@@ -4,43 +4,17 @@ ghost use Rattle.std.specs.Prelude.{◌≡◌, ◌≤◌, ◌+◌, ◌<◌, ◌+
 ghost use Rattle.std.specs.Int.{w64, to_le_bytes};
 ghost use Rattle.semantics.specs.Bytes as Bytes;
 ghost use Rattle.object_view.specs.Fields.{version_number};
-ghost use Rattle.object_view.specs.Sending.{Sends, IsAscending, HasRoom, HasWords, HasEntry, bytes_of_instr, bytes_of_block, bytes_of_entry, bytes_of_literal, bytes_of_word, bytes_of_header};
+ghost use Rattle.object_view.specs.Sending.{IsAscending, HasRoom, HasWords, HasEntry, bytes_of_instr, bytes_of_block, bytes_of_entry, bytes_of_literal, bytes_of_word, bytes_of_header};
+ghost use Rattle.sink.specs.Sends.{Sends};
 
 use crate::object::{Object, Version};
 use code::{Code, CodeBlock, Instr};
 use operators::{Binary, Unary};
 use semantics::program::{Dest, Op};
+use sink::send;
 use std::alloc::Allocator;
-use std::io::{self, ErrorKind, Write};
+use std::io::{self, Write};
 use tags::token::Port;
-
-/// Hands the bytes to the writer, in as many calls as it takes. A call that takes no byte is a fault.
-fn send<W: Write>(writer: &mut W, bytes: &[u8]) -> io::Result<()>
-    ensures { Sends result (W.contents writer.old) (W.contents writer.new) bytes.now }
-{
-    let mut rest = bytes;
-    while !rest.is_empty() {
-        match writer.write(rest) {
-            Ok(0) => return Err(io::Error::from(ErrorKind::WriteZero)),
-            Ok(n) => {
-                let (_, after) = rest.split_at(n);
-                rest = after;
-            }
-            Err(e) => return Err(e),
-        }
-    }
-    Ok(())
-}
-
-/// Hands the pieces to the writer, one after the other.
-fn send_all<W: Write>(writer: &mut W, pieces: &[&[u8]]) -> io::Result<()>
-    ensures { Sends result (W.contents writer.old) (W.contents writer.new) (flat_map (λ p. p.now) pieces.now) }
-{
-    for piece in pieces {
-        send(writer, piece)?;
-    }
-    Ok(())
-}
 
 fn binary_code(op: Binary) -> u8
     ensures { result ≡ Bytes.binary_code op }

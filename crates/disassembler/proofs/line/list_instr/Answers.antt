@@ -5,7 +5,7 @@ use Rattle.semantics.specs.Text.{field}
 use Rattle.semantics.specs.Rule.{slot_of}
 use Rattle.object_view.specs.Reading.{shown}
 use Rattle.disassembler.specs.Listing.{name_of, right_in, left_in, slot_text, dest_text, operand_text, origin_text}
-use Rattle.disassembler.proofs.Sent.{appends_then, sends_from, sends_more, sends_less, sends_other}
+use Rattle.sink.proofs.Sent.{appends_then, sends_from, sends_more, sends_less, sends_other}
 use Rattle.disassembler.proofs.line.list_instr.Goals as goal
 
 pub returns-in_err-list_number : goal.returns-in_err-list_number

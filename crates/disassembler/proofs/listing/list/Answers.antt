@@ -1,7 +1,8 @@
 use Rattle.std.proofs.Common.{◌++◌, ℕ, List, Option, Err}
 use Rattle.std.proofs.lemmas.Result.{err_from_is_err_and}
-use Rattle.disassembler.specs.Listing.{head_line, block_lines, array_line, numbered}
-use Rattle.disassembler.proofs.Sent.{appends_then, sends_from, sends_more, sends_less, sends_other}
+use Rattle.disassembler.specs.Listing.{head_line, block_lines, array_line}
+use Rattle.sink.specs.Numbered.{numbered}
+use Rattle.sink.proofs.Sent.{appends_then, sends_from, sends_more, sends_less, sends_other}
 use Rattle.disassembler.proofs.listing.list.Goals as goal
 
 pub returns-in_err-list_head : goal.returns-in_err-list_head

@@ -2,8 +2,8 @@ use Rattle.std.proofs.Common.{◌≡◌, arith, refl, sym, ◌∙◌}
 use Rattle.std.specs.Prelude.{Some, slice_get}
 use Rattle.std.proofs.lemmas.Result.{err_from_is_err_and}
 use Rattle.disassembler.specs.Listing.{array_line}
-use Rattle.disassembler.proofs.Sent.{sends_from, sends_other}
-use Rattle.disassembler.proofs.Numbered.{more, stop, done, outside}
+use Rattle.sink.proofs.Sent.{sends_from, sends_other}
+use Rattle.sink.proofs.Numbered.{more, stop, done, outside}
 use Rattle.disassembler.proofs.listing.list_arrays.Goals as goal
 
 pub returns-in_default : goal.returns-in_default

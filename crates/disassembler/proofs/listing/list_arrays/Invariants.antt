@@ -1,6 +1,7 @@
 use Rattle.std.proofs.Common.{take}
 use Rattle.std.specs.Io.KnownBytes.{Appends}
-use Rattle.disassembler.specs.Listing.{numbered, array_line}
+use Rattle.disassembler.specs.Listing.{array_line}
+use Rattle.sink.specs.Numbered.{numbered}
 use Rattle.disassembler.proofs.listing.list_arrays.Given as goal
 
 abbrev pub invariant-loop-number : goal.invariant-loop-number

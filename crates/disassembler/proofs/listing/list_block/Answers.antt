@@ -1,8 +1,9 @@
 use Rattle.std.proofs.Common.{ℕ, List, Option, Err, ap}
 use Rattle.std.proofs.lemmas.Result.{err_from_is_err_and}
 use Rattle.object_view.specs.declared.object.BlockView.{BlockView}
-use Rattle.disassembler.specs.Listing.{numbered, instr_line, block_line}
-use Rattle.disassembler.proofs.Sent.{sends_from, sends_other, sends_less, sends_more, sends_same}
+use Rattle.disassembler.specs.Listing.{instr_line, block_line}
+use Rattle.sink.specs.Numbered.{numbered}
+use Rattle.sink.proofs.Sent.{sends_from, sends_other, sends_less, sends_more, sends_same}
 use Rattle.disassembler.proofs.listing.list_block.Goals as goal
 
 pub returns-in_err-list_block_line : goal.returns-in_err-list_block_line

@@ -4,8 +4,8 @@ use Rattle.std.proofs.lemmas.Result.{err_from_is_err_and}
 use Rattle.semantics.specs.Program.{first_of}
 use Rattle.object_view.specs.Reading.{block_shown}
 use Rattle.disassembler.specs.Listing.{block_lines}
-use Rattle.disassembler.proofs.Sent.{sends_from, sends_other}
-use Rattle.disassembler.proofs.Numbered.{more, stop, done, outside}
+use Rattle.sink.proofs.Sent.{sends_from, sends_other}
+use Rattle.sink.proofs.Numbered.{more, stop, done, outside}
 use Rattle.disassembler.proofs.Places.{none_shown, some_shown}
 use Rattle.disassembler.proofs.listing.list_blocks.Goals as goal
 

@@ -1,6 +1,7 @@
 use Rattle.std.proofs.Common.{take}
 use Rattle.std.specs.Io.KnownBytes.{Appends}
-use Rattle.disassembler.specs.Listing.{numbered, block_lines}
+use Rattle.disassembler.specs.Listing.{block_lines}
+use Rattle.sink.specs.Numbered.{numbered}
 use Rattle.disassembler.proofs.listing.list_blocks.Given as goal
 
 abbrev pub invariant-loop-number : goal.invariant-loop-number

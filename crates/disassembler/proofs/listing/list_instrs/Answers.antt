@@ -5,8 +5,8 @@ use Rattle.object_view.specs.declared.object.BlockView.{BlockView}
 use Rattle.object_view.specs.declared.instr.CodeInstr.{CodeInstr}
 use Rattle.object_view.specs.Reading.{shown}
 use Rattle.disassembler.specs.Listing.{instr_line}
-use Rattle.disassembler.proofs.Sent.{sends_from, sends_other}
-use Rattle.disassembler.proofs.Numbered.{more, stop, done, outside}
+use Rattle.sink.proofs.Sent.{sends_from, sends_other}
+use Rattle.sink.proofs.Numbered.{more, stop, done, outside}
 use Rattle.disassembler.proofs.listing.list_instrs.Goals as goal
 
 pub returns-in_default : goal.returns-in_default

@@ -2,7 +2,8 @@ use Rattle.std.proofs.Common.{ℕ, take}
 use Rattle.std.specs.Io.KnownBytes.{Appends}
 use Rattle.semantics.specs.Program.{CodeBlock}
 use Rattle.disassembler.specs.Places.{IsBlockAt}
-use Rattle.disassembler.specs.Listing.{numbered, instr_line}
+use Rattle.disassembler.specs.Listing.{instr_line}
+use Rattle.sink.specs.Numbered.{numbered}
 use Rattle.disassembler.proofs.listing.list_instrs.Given as goal
 
 abbrev pub invariant-loop-number : goal.invariant-loop-number

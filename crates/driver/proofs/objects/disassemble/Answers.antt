@@ -1,7 +1,7 @@
 use Rattle.std.proofs.Common.{◌≡◌, ◌++◌, ℕ, List, Option, subst}
 use Rattle.std.specs.Io.KnownBytes.{Appends}
 use Rattle.object_view.specs.Reading.{Opened}
-use Rattle.object_view.specs.Sending.{Sends}
+use Rattle.sink.specs.Sends.{Sends}
 use Rattle.disassembler.specs.Listing.{listing}
 use Rattle.driver.proofs.objects.disassemble.Goals as goal
 

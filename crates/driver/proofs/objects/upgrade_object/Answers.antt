@@ -2,7 +2,7 @@ use Rattle.std.proofs.Common.{◌≡◌, ◌++◌, ℕ, List, Option, subst}
 use Rattle.std.specs.Io.KnownBytes.{Appends}
 use Rattle.semantics.specs.Bytes.{bytes_of}
 use Rattle.object_view.specs.Reading.{Opened}
-use Rattle.object_view.specs.Sending.{Sends}
+use Rattle.sink.specs.Sends.{Sends}
 use Rattle.driver.proofs.objects.upgrade_object.Goals as goal
 
 pub returns-in-Ok-upgrade : goal.returns-in-Ok-upgrade

@@ -5,7 +5,7 @@ use Rattle.semantics.specs.Text.{node_line}
 use Rattle.std.specs.Prelude.{flat_map}
 use Rattle.semantics.specs.Graph.{Block}
 use Rattle.graph_file.specs.Sending.{head_text, out_text}
-use Rattle.graph_file.proofs.Sent.{appends_then, sends_from, sends_more, sends_less, sends_other, sends_same}
+use Rattle.sink.proofs.Sent.{appends_then, sends_from, sends_more, sends_less, sends_other, sends_same}
 use Rattle.graph_file.proofs.writing.send_block.Goals as goal
 
 pub returns-in_err-send_head : goal.returns-in_err-send_head

@@ -2,7 +2,7 @@ use Rattle.std.proofs.Common.{◌++◌, ◌∷◌, [], ◌∙◌, ℕ, List, Opt
 use Rattle.std.proofs.lemmas.Result.{err_from_is_err_and}
 use Rattle.semantics.specs.Text.{field, kind_text, region_text, sources_text}
 use Rattle.semantics.specs.Graph.{Node}
-use Rattle.graph_file.proofs.Sent.{appends_then, sends_from, sends_more, sends_less, sends_other, sends_same}
+use Rattle.sink.proofs.Sent.{appends_then, sends_from, sends_more, sends_less, sends_other, sends_same}
 use Rattle.graph_file.proofs.writing.send_node.Goals as goal
 
 pub returns-in_err-send_region : goal.returns-in_err-send_region

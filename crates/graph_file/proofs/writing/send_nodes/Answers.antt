@@ -1,7 +1,7 @@
 use Rattle.std.proofs.Common.{refl}
 use Rattle.std.proofs.lemmas.Result.{err_from_is_err_and}
 use Rattle.semantics.specs.Text.{node_line}
-use Rattle.graph_file.proofs.Sent.{loop_more_at, loop_stop_at, loop_done, sends_other, sends_from}
+use Rattle.sink.proofs.Sent.{loop_more_at, loop_stop_at, loop_done, sends_other, sends_from}
 use Rattle.graph_file.proofs.writing.send_nodes.Goals as goal
 
 pub returns-in_err-send_node : goal.returns-in_err-send_node

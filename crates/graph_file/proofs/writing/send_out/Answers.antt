@@ -2,7 +2,7 @@ use Rattle.std.proofs.Common.{◌++◌, ◌∷◌, [], ℕ, List, Option, Err}
 use Rattle.std.specs.Prelude.{codes}
 use Rattle.std.proofs.lemmas.Result.{err_from_is_err_and}
 use Rattle.semantics.specs.Text.{sources_text}
-use Rattle.graph_file.proofs.Sent.{appends_then, sends_from, sends_more, sends_less, sends_other}
+use Rattle.sink.proofs.Sent.{appends_then, sends_from, sends_more, sends_less, sends_other}
 use Rattle.graph_file.proofs.writing.send_out.Goals as goal
 
 pub returns-in_err-send : goal.returns-in_err-send

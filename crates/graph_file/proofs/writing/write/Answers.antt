@@ -4,7 +4,7 @@ use Rattle.semantics.specs.Text.{array_line, block_text}
 use Rattle.std.specs.Prelude.{flat_map}
 use Rattle.semantics.specs.Graph.{Graph}
 use Rattle.graph_file.specs.Sending.{version_text, main_text}
-use Rattle.graph_file.proofs.Sent.{appends_then, sends_from, sends_more, sends_less, sends_other, sends_same}
+use Rattle.sink.proofs.Sent.{appends_then, sends_from, sends_more, sends_less, sends_other, sends_same}
 use Rattle.graph_file.proofs.writing.write.Goals as goal
 
 pub returns-in_err-send_header : goal.returns-in_err-send_header

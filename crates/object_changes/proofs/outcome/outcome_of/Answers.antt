@@ -4,7 +4,7 @@ use Rattle.std.specs.Io.KnownBytes.{Appends}
 use Rattle.std.specs.Cmp.Lexicographic.{other_text}
 use Rattle.semantics.specs.Program.{Code}
 use Rattle.semantics.specs.Bytes.{bytes_of}
-use Rattle.object_view.specs.Sending.{Sends}
+use Rattle.sink.specs.Sends.{Sends}
 use Rattle.object_view.specs.Fields.{version_number}
 use Rattle.object_changes.proofs.outcome.outcome_of.Goals as goal
 

@@ -1,7 +1,7 @@
 use Rattle.std.proofs.Common.{refl, ap}
 use Rattle.std.proofs.lemmas.Result.{err_from_is_err_and}
 use Rattle.object_view.specs.Sending.{bytes_of_word}
-use Rattle.object_view.proofs.Sent.{loop_more, loop_stop, loop_done, sends_other, sends_from, sends_same}
+use Rattle.sink.proofs.Sent.{loop_more, loop_stop, loop_done, sends_other, sends_from, sends_same}
 use Rattle.object_view.proofs.writing.send_arrays.Goals as goal
 
 pub returns-in_err-send_word : goal.returns-in_err-send_word

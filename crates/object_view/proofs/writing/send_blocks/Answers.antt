@@ -1,7 +1,7 @@
 use Rattle.std.proofs.Common.{refl}
 use Rattle.std.proofs.lemmas.Result.{err_from_is_err_and}
 use Rattle.object_view.specs.Sending.{bytes_of_block}
-use Rattle.object_view.proofs.Sent.{loop_more_at, loop_stop_at, loop_done, sends_other, sends_from}
+use Rattle.sink.proofs.Sent.{loop_more_at, loop_stop_at, loop_done, sends_other, sends_from}
 use Rattle.object_view.proofs.writing.send_blocks.Goals as goal
 
 pub returns-in_err-send_block : goal.returns-in_err-send_block

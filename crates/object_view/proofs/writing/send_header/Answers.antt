@@ -2,7 +2,7 @@ use Rattle.std.proofs.Common.{ap}
 use Rattle.std.specs.Prelude.{flat_map, codes}
 use Rattle.std.proofs.lemmas.Result.{err_from_is_err_and}
 use Rattle.object_view.specs.Sending.{bytes_of_word}
-use Rattle.object_view.proofs.Sent.{sends_from, sends_more, sends_less, sends_other, sends_same}
+use Rattle.sink.proofs.Sent.{sends_from, sends_more, sends_less, sends_other, sends_same}
 use Rattle.object_view.proofs.writing.send_header.Goals as goal
 
 pub returns-in_err-send : goal.returns-in_err-send

@@ -1,7 +1,7 @@
 use Rattle.std.proofs.Common.{◌≡◌, ℕ, List, ◌++◌, take, drop, Err, sym, ap, ◌∙◌, append_assoc}
 use Rattle.std.proofs.lemmas.Result.{err_from_is_err_and}
 use Rattle.object_view.specs.Sending.{bytes_of_word, upgraded}
-use Rattle.object_view.proofs.Sent.{sends_from, sends_more, sends_less, sends_other, sends_same}
+use Rattle.sink.proofs.Sent.{sends_from, sends_more, sends_less, sends_other, sends_same}
 use Rattle.object_view.proofs.Whole.{stopped, upgraded_same}
 use Rattle.object_view.proofs.writing.upgrade.Goals as goal
 

@@ -1,0 +1,99 @@
+-- What refuses an input, or what is made of it.
+use Rattle.std.proofs.Common.{◌≡◌, ℕ, ℤ, List, ◌++◌, length, true, false, inl, inr, Result, Ok, Err, refl, sym, ◌∙◌, subst}
+use Rattle.std.specs.Prelude.{Option, ⊤}
+use Rattle.std.specs.Io.KnownBytes.{Appends}
+use Rattle.sink.specs.Sends.{Sends}
+use Rattle.tags.specs.declared.value.Value.{Value}
+use Rattle.semantics.specs.Graph.{Graph}
+use Rattle.semantics.specs.Report.{Report}
+use Rattle.schedule.specs.declared.config.Config.{Config}
+use Rattle.schedule.specs.declared.config.StartFault.{StartFault}
+use Rattle.oracle.specs.declared.report.MeanEnd.{MeanEnd}
+use Rattle.oracle.specs.declared.report.Full.{Full}
+use Rattle.oracle.specs.Reporting.{IsMeant}
+use Rattle.command_line.specs.declared.RunOptions.{RunOptions}
+use Rattle.driver.specs.declared.fault.Fault.{Fault}
+use Rattle.driver.specs.declared.input.LinesFault.{LinesFault}
+use Rattle.driver.specs.declared.refusal.Refusal.{Refusal}
+use Rattle.driver.specs.Headline.{TellsQuietly}
+use Rattle.driver.specs.Input.{graph_length, integers_of, IsBadInput}
+use Rattle.driver.specs.Refused.{IsGoodText, IsReady, IsBadText, IsRefused, IsRefusedMeaning}
+use Rattle.driver.specs.Refusals.{told_as}
+use Rattle.driver.specs.Served.{Prints, Parts, config_of, IsRefusedLine, IsRunOf, IsNoRunOf, WhyNoRun, IsMeaningOf, IsNoMeaningOf, WhyNoMeaning}
+
+-- WHAT IS PRINTED
+pub printed : (E : Type 0) (x : ⊤) (n : ℕ) (old new : Option (List ℕ)) (sent text : List ℕ) (status : ℕ) → sent ≡ text → n ≡ status → Sends {E = E} (Ok x) old new sent → Prints {E = E} (Ok n) old new text status
+unfolding Sends
+printed E x n old new sent text status same is h = (is, subst (λ (l : List ℕ). Appends old new l) same h)
+
+pub stopped : (E : Type 0) (e : E) (old new : Option (List ℕ)) (sent text : List ℕ) (status : ℕ) → sent ≡ text → Sends {E = E} (Err e) old new sent → Prints {E = E} (Err e) old new text status
+unfolding Sends
+stopped E e old new sent text status same h = (h.0, h.1, sym same ∙ h.2, h.3)
+
+-- a line that is no integer
+pub bad_line_of : (lines : List ℕ) (f : LinesFault) (n : ℕ) → f ≡ LinesFault.BadLine n → IsBadInput lines f → integers_of lines ≡ Err n
+bad_line_of lines f n is bad = subst (λ (x : LinesFault). IsBadInput lines x) is bad
+
+module _ (input text lines : List ℕ) (whole : text ++ lines ≡ input) (end : length text ≡ graph_length input) where
+  abbrev parts : Parts input
+  parts = record { text = text; lines = lines; whole = whole; end = end }
+
+  -- RUN
+  pub ran : (o : RunOptions) (g : Graph) (r : Report) (inputs : List ℤ) → integers_of lines ≡ Ok inputs → o.mode_is_one ≡ true → (c : Config) → c ≡ config_of o
+      → TellsQuietly text g inputs c r → IsRunOf input o g r
+  ran o g r inputs integers mode c same tells = record {
+    parts = parts;
+    inputs = inputs;
+    integers = integers;
+    mode = mode;
+    tells = subst (λ (d : Config). TellsQuietly text g inputs d r) same tells;
+  }
+
+  pub no_memory : (o : RunOptions) → IsNoRunOf input o Refusal.Memory
+  no_memory o = record { parts = parts; why = inl refl }
+
+  pub refused_run : (o : RunOptions) (inputs : List ℤ) → integers_of lines ≡ Ok inputs → (c : Config) → c ≡ config_of o → (fault : Fault) → IsRefused text inputs c fault
+      → (f : Refusal) → f ≡ told_as fault → IsNoRunOf input o f
+  refused_run o inputs integers c same fault refused f told = record {
+    parts = parts;
+    why = inr (subst (λ (z : Result (List ℤ) ℕ). WhyNoRun z text o f) (sym integers) (inl (fault, subst (λ (d : Config). IsRefused text inputs d fault) same refused, told)));
+  }
+
+  pub no_mode : (o : RunOptions) (inputs : List ℤ) → integers_of lines ≡ Ok inputs → (c : Config) → c ≡ config_of o → IsReady text inputs c → o.mode_is_one ≡ false
+      → IsNoRunOf input o (Refusal.Start StartFault.BadConfig)
+  no_mode o inputs integers c same ready mode = record {
+    parts = parts;
+    why = inr (subst (λ (z : Result (List ℤ) ℕ). WhyNoRun z text o (Refusal.Start StartFault.BadConfig)) (sym integers) (inr (subst (λ (d : Config). IsReady text inputs d) same ready, mode, refl)));
+  }
+
+  pub bad_line : (o : RunOptions) (n : ℕ) (f : Refusal) → integers_of lines ≡ Err n → IsRefusedLine text n f → IsNoRunOf input o f
+  bad_line o n f integers refused = record {
+    parts = parts;
+    why = inr (subst (λ (z : Result (List ℤ) ℕ). WhyNoRun z text o f) (sym integers) refused);
+  }
+
+  -- MEAN
+  pub meant : (steps : ℕ) (g : Graph) (e : MeanEnd) (outputs : List (Option Value)) (cells : List Full) (inputs : List ℤ) → integers_of lines ≡ Ok inputs
+      → IsGoodText text g → IsMeant g inputs steps e outputs cells → IsMeaningOf input steps g e outputs cells
+  meant steps g e outputs cells inputs integers good is = record { parts = parts; inputs = inputs; integers = integers; good = good; meant = is }
+
+  pub no_memory_to_mean : IsNoMeaningOf input Refusal.Memory
+  no_memory_to_mean = record { parts = parts; why = inl refl }
+
+  pub refused_meaning : (inputs : List ℤ) → integers_of lines ≡ Ok inputs → (fault : Fault) → IsRefusedMeaning text inputs fault → (f : Refusal) → f ≡ told_as fault → IsNoMeaningOf input f
+  refused_meaning inputs integers fault refused f told = record {
+    parts = parts;
+    why = inr (subst (λ (z : Result (List ℤ) ℕ). WhyNoMeaning z text f) (sym integers) (fault, refused, told));
+  }
+
+  pub bad_text : (n : ℕ) → integers_of lines ≡ Err n → (fault : Fault) → IsBadText text fault → (f : Refusal) → f ≡ told_as fault → IsNoMeaningOf input f
+  bad_text n integers fault bad f told = record {
+    parts = parts;
+    why = inr (subst (λ (z : Result (List ℤ) ℕ). WhyNoMeaning z text f) (sym integers) (inl (fault, bad, told)));
+  }
+
+  pub bad_line_to_mean : (n : ℕ) (g : Graph) → integers_of lines ≡ Err n → IsGoodText text g → IsNoMeaningOf input (Refusal.InputLine n)
+  bad_line_to_mean n g integers good = record {
+    parts = parts;
+    why = inr (subst (λ (z : Result (List ℤ) ℕ). WhyNoMeaning z text (Refusal.InputLine n)) (sym integers) (inr ((g, good), refl)));
+  }
