@@ -35,24 +35,41 @@ fn hands_out_all_frames_in_order(rt: HostRuntime) -> Result<(), Fail> {
     Ok(())
 }
 
-/// Makes a manager of one frame, lets a request wait, and says how far that came.
-fn steps_made<A: Allocator + Clone>(alloc: A) -> u32 {
+/// What a manager of one frame reaches whose allocator runs out.
+#[derive(Clone, Copy, Debug, PartialEq, Eq)]
+enum Reached {
+    NotMade,
+    /// Its request was refused room, and all is as it was.
+    Refused,
+    /// Its request was refused room, and something has changed.
+    Changed,
+    /// Its request waits.
+    Waits,
+}
+
+/// Makes a manager of one frame, lets a request wait, and says what it reached.
+fn make_and_use<A: Allocator + Clone>(alloc: A) -> Reached {
     let Ok(mut manager) = Manager::new(alloc, 1) else {
-        return 0;
+        return Reached::NotMade;
     };
     match manager.request(Cont::Host { port: 0 }) {
-        Err(_) => 1,
-        Ok(_) => 2,
+        Ok(_) => Reached::Waits,
+        Err(_) if manager.out() == 1 && manager.waiting() == 0 => Reached::Refused,
+        Err(_) => Reached::Changed,
     }
 }
 
 #[test]
 fn refuses_each_growth(rt: HostRuntime) -> Result<(), Fail> {
-    let mut seen = Vec::new(rt.alloc());
-    for at in 1..6u64 {
-        let heap = Rationed::new(rt.alloc(), at);
-        seen.push(steps_made(&heap))?;
+    for (growths, wanted) in [
+        (1, Reached::NotMade),
+        (2, Reached::NotMade),
+        (3, Reached::Refused),
+        (4, Reached::Waits),
+        (5, Reached::Waits),
+    ] {
+        let heap = Rationed::new(rt.alloc(), growths);
+        assert_eq!(rt; make_and_use(&heap), wanted);
     }
-    assert_eq!(rt; seen.as_slice(), [0, 0, 1, 2, 2].as_slice());
     Ok(())
 }

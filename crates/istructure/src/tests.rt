@@ -39,39 +39,66 @@ fn answers_each_call(rt: HostRuntime) -> Result<(), Fail> {
     Ok(())
 }
 
-/// Makes cells, defers eight readers of one of them, fills it, and says how far that came. A reader that is refused room
-/// changes nothing.
-fn steps_made<A: Allocator + Clone>(alloc: A, answers: &mut Vec<Cont, A>) -> u32 {
+/// What eight readers reach of a cell that is filled after them, if the allocator runs out.
+#[derive(Clone, Copy, Debug, PartialEq, Eq)]
+enum Reached {
+    NotMade,
+    /// The reader of this number was refused room, and those before it wait.
+    ReaderRefused(u32),
+    /// The store was refused room: the cell is empty, all readers wait, and none is answered.
+    StoreRefused,
+    /// A call was refused room, and something has changed.
+    Changed,
+    /// All are answered in their order, and the value is read again.
+    Answered,
+}
+
+/// Makes cells, defers eight readers of one of them, fills it, reads it once more, and says what it reached.
+fn make_and_use<A: Allocator + Clone>(alloc: A, answers: &mut Vec<Cont, A>) -> Reached {
     let Ok(mut cells) = Cells::new(alloc, 4, 0, 1) else {
-        return 0;
+        return Reached::NotMade;
     };
     for number in 0..8u32 {
         if cells.fetch(2, reader(number)) == FetchAnswer::Memory {
             return if cells.readers(2) == number as usize {
-                1 + number
+                Reached::ReaderRefused(number)
             } else {
-                99
+                Reached::Changed
             };
         }
     }
-    if cells.store(2, Value::Int(1), answers) == StoreAnswer::Memory {
-        return if cells.readers(2) == 8 { 9 } else { 99 };
+    let stored = cells.store(2, Value::Int(1), answers);
+    if stored == StoreAnswer::Memory
+        && cells.readers(2) == 8
+        && cells.value(2) == None
+        && answers.is_empty()
+    {
+        return Reached::StoreRefused;
     }
-    if cells.fetch(2, reader(8)) == FetchAnswer::Memory {
-        return 10;
+    let is_answered = stored == StoreAnswer::Stored
+        && answers.len() == 8
+        && cells.fetch(2, reader(8)) == FetchAnswer::Now(Value::Int(1));
+    if is_answered {
+        Reached::Answered
+    } else {
+        Reached::Changed
     }
-    11
 }
 
 #[test]
 fn refuses_each_growth(rt: HostRuntime) -> Result<(), Fail> {
-    let mut seen = Vec::new(rt.alloc());
-    for at in 1..7u64 {
-        let heap = Rationed::new(rt.alloc(), at);
+    for (growths, wanted) in [
+        (1, Reached::NotMade),
+        (2, Reached::ReaderRefused(0)),
+        (3, Reached::ReaderRefused(4)),
+        (4, Reached::StoreRefused),
+        (5, Reached::Answered),
+        (6, Reached::Answered),
+    ] {
+        let heap = Rationed::new(rt.alloc(), growths);
         let mut answers = Vec::new(&heap);
-        seen.push(steps_made(&heap, &mut answers))?;
+        assert_eq!(rt; make_and_use(&heap, &mut answers), wanted);
         drop(answers);
     }
-    assert_eq!(rt; seen.as_slice(), [0, 1, 5, 9, 11, 11].as_slice());
     Ok(())
 }
