@@ -8,12 +8,12 @@ use Rattle.semantics.specs.Program.{CodeBlock}
 use Rattle.semantics.specs.Plan.{Plan}
 use Rattle.semantics.specs.Orderly as Orderly
 use Rattle.determinacy.proofs.Resolved.{all_get, contains_get, place_get}
-use Rattle.expansion.proofs.Inputs.{takes_inputs}
-use Rattle.expansion.specs.Shapes.{IsShaped, AreShaped}
-use Rattle.expansion.proofs.FactsSound.{is_sound}
-use Rattle.expansion.proofs.ArcsLaws.{arcs_go_forward}
-use Rattle.expansion.proofs.ShapesPlans.{plans_are_shaped}
-use Rattle.expansion.proofs.StraightWhole.{straight_plans_agree}
+use Rattle.law_expansion.proofs.Inputs.{takes_inputs}
+use Rattle.law_expansion.specs.Shapes.{IsShaped, AreShaped}
+use Rattle.law_expansion.proofs.FactsSound.{is_sound}
+use Rattle.law_expansion.proofs.ArcsLaws.{arcs_go_forward}
+use Rattle.law_expansion.proofs.ShapesPlans.{plans_are_shaped}
+use Rattle.law_expansion.proofs.StraightWhole.{straight_plans_agree}
 use Rattle.folding.proofs.SoundPlans.{still_sound}
 use Rattle.semantics.specs.WellFormed.{WellFormed}
 use Rattle.semantics.specs.Text.{HasText}
@@ -28,7 +28,7 @@ use Rattle.composition.specs.Graphs.{plan_of, PlansAreSound, PlansHaveObjects, P
 use Rattle.folding.proofs.LoopsStay as Folding
 use Rattle.fanout.proofs.LoopsStay as Fanout
 use Rattle.emitted.proofs.LoopsStay.{emitted_bounds}
-use Rattle.expansion.proofs.Wholes.{has_bounds}
+use Rattle.law_expansion.proofs.Wholes.{has_bounds}
 use Rattle.composition.proofs.SoundObjects.{sound_have_objects}
 use Rattle.composition.proofs.FoldedLaws.{folded_is_faithful}
 

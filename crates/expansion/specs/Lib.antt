@@ -9,9 +9,3 @@ pub mod Scopes
 pub mod Blocks
 pub mod Variants
 pub mod Expanded
-pub mod Keeping
-pub mod Laws
-pub mod Facts
-pub mod Arcs
-pub mod Straight
-pub mod Shapes

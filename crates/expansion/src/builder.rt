@@ -18,7 +18,7 @@ use tags::value::Origin;
 /// Where a value leaves: an instruction of a row, with the place of the first one and the number in the row, and whether
 /// by its second destinations.
 #[derive(Clone, Copy)]
-pub(crate) struct Outlet {
+pub struct Outlet {
     pub place: u32,
     pub port: u32,
     pub second: bool,

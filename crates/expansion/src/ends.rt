@@ -14,7 +14,7 @@ use tags::token::Port;
 
 /// An end of a region: a signal that `release` waits for, where the region is entered.
 #[derive(Clone, Copy)]
-pub(crate) struct End {
+pub struct End {
     pub region: Region,
     pub outlet: Outlet,
 }

@@ -18,31 +18,21 @@ ghost use Rattle.semantics.specs.Text.{HasText};
 ghost use Rattle.expansion.specs.Blocks as Blocks;
 ghost use Rattle.expansion.specs.Expanded as Expanded;
 
-mod arcs;
 mod block;
 mod builder;
 mod ends;
-mod facts;
 mod flow;
-mod laws;
 mod plans;
 mod rows;
 mod scope;
-mod shapes;
-mod straight;
 mod tail;
 mod triggers;
 mod uses;
 mod variants;
 
-pub use arcs::arcs_go_forward;
 use code::Plan;
-pub use facts::plans_name_rightly;
 use graph::Graph;
-pub use laws::plans_keep_to_their_graphs;
-pub use shapes::plans_are_shaped;
 use std::alloc::{AllocError, Allocator};
-pub use straight::straight_plans_are_the_same;
 
 /// The plan of a well-formed graph within the limits.
 ///

@@ -106,7 +106,7 @@ fn last_values<A: Allocator + Clone>(
 /// Where what an iteration hands on leaves: the switches of the continuation and of the flag, and the first one of the
 /// values' switches, which are in a row.
 #[derive(Clone, Copy)]
-pub(crate) struct Turn {
+pub struct Turn {
     pub continuation: u32,
     pub flag: u32,
     pub values: u32,

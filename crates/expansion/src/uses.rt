@@ -13,7 +13,7 @@ use std::alloc::{AllocError, Allocator};
 
 /// How often a value is used.
 #[derive(Clone, Copy)]
-pub(crate) enum Uses {
+pub enum Uses {
     Never,
     Once,
     Often,

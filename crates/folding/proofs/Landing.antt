@@ -37,7 +37,7 @@ link_many p ns n i b v k c d size op at h l =
     let len : length (late ns n i).lefts ≡ c = s.0 in
     ap (λ o. namer_at (note_link p (late ns n i) n i o).lefts (n + d.ahead + k)) op ∙ landing_many (late ns n i).lefts n (landing p b) i.firsts v d k at h (omega (arith, l, len))
 
-all_many : (p : Plan) (ns : Namers) (n : ℕ) (is : List Instr) (u : ℕ) (i : Instr) (b v k c : ℕ) (d : Dest) → Sized ns c → slice_get is u ≡ Some i → i.op ≡ Link b → slice_get i.firsts v ≡ Some d → k < landing p b
+pub all_many : (p : Plan) (ns : Namers) (n : ℕ) (is : List Instr) (u : ℕ) (i : Instr) (b v k c : ℕ) (d : Dest) → Sized ns c → slice_get is u ≡ Some i → i.op ≡ Link b → slice_get i.firsts v ≡ Some d → k < landing p b
     → n + u + d.ahead + k < c → namer_at (note_all p ns n is).lefts (n + u + d.ahead + k) ≡ Many
 all_many p ns n [] u i b v k c d size there op at h l = absurd (cc)
 all_many p ns n (j ∷ is) zero i b v k c d size there op at h l =

@@ -21,3 +21,8 @@ pub mod Joined
 pub mod KeepsMeaning
 pub mod FoldedLiterals
 pub mod LoopsStay
+pub mod Perms
+pub mod NamedOnce
+pub mod Pairs
+pub mod Cases
+pub mod Plain

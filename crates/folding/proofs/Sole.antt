@@ -24,14 +24,14 @@ use Rattle.folding.proofs.Naming.{knows_namers}
 use Rattle.folding.proofs.Named.{namers_name}
 use Rattle.folding.proofs.Taken.{closed_takes, leaves_out, get_there}
 
-this_one : (a b : ℕ) (s t : Bool) (x : Namer) → NamedBy a s x → x ≡ One b t → One a s ≡ One b t
+pub this_one : (a b : ℕ) (s t : Bool) (x : Namer) → NamedBy a s x → x ≡ One b t → One a s ≡ One b t
 this_one a b s t x (inl e) f = sym e ∙ f
 this_one a b s t x (inr e) f = absurd (cc)
 
-number_of : (a b : ℕ) (s t : Bool) → One a s ≡ One b t → a ≡ b
+pub number_of : (a b : ℕ) (s t : Bool) → One a s ≡ One b t → a ≡ b
 number_of a b s t e = cc
 
-list_of : (a b : ℕ) (s t : Bool) → One a s ≡ One b t → s ≡ t
+pub list_of : (a b : ℕ) (s t : Bool) → One a s ≡ One b t → s ≡ t
 list_of a b s t e = cc
 
 one_only : (d x : Dest) (k : ℕ) → slice_get (d ∷ []) k ≡ Some x → x ≡ d

@@ -149,7 +149,7 @@ closed_takes p c n q e = by_fold (folds_at (layout_of p c) n) q refl e
     by_fold Kept q f e = absurd (true≢false (sym e))
 
 -- WHAT IS LEFT OUT
-gone_is : (fs : List Fold) (n : ℕ) (is : List Instr) (k : ℕ) (i : Instr) → slice_get is k ≡ Some i → slice_index_or (gone_from fs n is) k false ≡ is_gone fs (n + k) i
+pub gone_is : (fs : List Fold) (n : ℕ) (is : List Instr) (k : ℕ) (i : Instr) → slice_get is k ≡ Some i → slice_index_or (gone_from fs n is) k false ≡ is_gone fs (n + k) i
 gone_is fs n [] k i at = absurd (cc)
 gone_is fs n (j ∷ is) zero i at = let e : j ≡ i = cc in let z : n ≡ n + 0 = omega arith in (λ k. is_gone fs (z k) (e k))
 gone_is fs n (j ∷ is) (suc k) i at = let z : n + 1 + k ≡ n + suc k = omega arith in gone_is fs (n + 1) is k i at ∙ ap (λ m. is_gone fs m i) z
@@ -227,7 +227,7 @@ row_many ms from (suc c) k l h there = pick (cases_eq k (from + c)) (row_many ms
     pick (inl e) more = ap (namer_at (slice_set (note_row ms from c) (from + c) Many)) e ∙ get_or-set_same (note_row ms from c) (from + c) Many Nobody (omega (arith, there, len, e))
     pick (inr d) more = get_or-set_other (note_row ms from c) (from + c) k Many Nobody d ∙ more l (omega (arith, h, d)) there
 
-entry_many : (p : Plan) (c : CodeBlock) (n : ℕ) → n ≤ c.inputs → n < length c.instrs → namer_of (namers_of p c) n Left ≡ Many
+pub entry_many : (p : Plan) (c : CodeBlock) (n : ℕ) → n ≤ c.inputs → n < length c.instrs → namer_of (namers_of p c) n Left ≡ Many
 entry_many p c n h there = still (all_grow p (entries_noted c.inputs (length c.instrs)) 0 c.instrs n Left)
   where
     first : namer_at (entries_noted c.inputs (length c.instrs)).lefts n ≡ Many

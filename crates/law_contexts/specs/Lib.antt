@@ -1,0 +1,14 @@
+pub mod Parts
+pub mod Blocks
+pub mod Contexts
+pub mod Told
+pub mod Around
+pub mod Credits
+pub mod Wires
+pub mod Firings
+pub mod Laws
+pub mod Stands
+pub mod Operands
+pub mod Theorem
+pub mod Packages
+pub mod Expanded

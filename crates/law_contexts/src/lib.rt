@@ -1,0 +1,16 @@
+//! The net of contexts, between the machine's runs and the meaning's.
+#![tactic(auto)]
+
+ghost use Rattle.law_contexts.specs.Packages.{PackagesSuffice, PackagesSufficeForCode};
+ghost use Rattle.law_contexts.specs.Theorem.{FaithGoesOn, FaithThroughPass};
+ghost use Rattle.law_contexts.specs.Expanded.{StaticSuffices};
+
+/// The lemmas of all packages make the theorem: a wired plan keeps faith, and so does its code; and the
+/// plan of a graph is wired.
+pub fn packages_suffice()
+    ensures plan { PackagesSuffice }
+    ensures code { PackagesSufficeForCode }
+    ensures goes_on { FaithGoesOn }
+    ensures passes { FaithThroughPass }
+    ensures wired { StaticSuffices }
+{}

@@ -1,0 +1,6 @@
+pub mod Keeping
+pub mod Laws
+pub mod Facts
+pub mod Arcs
+pub mod Straight
+pub mod Shapes

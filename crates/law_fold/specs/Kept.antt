@@ -1,0 +1,76 @@
+-- The folded plan before its holders are numbered again: each instruction has the slot that it had.
+use Rattle.std.specs.Prelude.{◌≡◌, ℕ, ℤ, false, List, map, Contains}
+use Rattle.tags.specs.declared.token.Port.{Port}
+use Rattle.tags.specs.declared.token.Word.{Word}
+use Rattle.tags.specs.declared.token.To.{To}
+use Rattle.semantics.specs.Rule.{token}
+use Rattle.semantics.specs.Machine.{Machine, Size, Events, Run, at_start}
+use Rattle.semantics.specs.Handed.{UsesEachOnce}
+use Rattle.semantics.specs.Arcs.{UsesArc, SomeEvent}
+use Rattle.reuse.specs.Bounds.{PlanKeepsBounds}
+use Rattle.semantics.specs.Program.{Instr, CodeBlock}
+use Rattle.semantics.specs.Graph.{Flow}
+use Rattle.semantics.specs.Plan.{Plan}
+use Rattle.semantics.specs.Orderly.{Orderly, IsStart, is_entry}
+use Rattle.reuse.specs.Theorem.{TakesInputs}
+use Rattle.code.specs.Sound.{IsSound}
+use Rattle.folding.specs.Folds.{new_op}
+use Rattle.folding.specs.Places.{Layout, layout_of, folds_at}
+use Rattle.folding.specs.Moved.{moved_dests}
+use Rattle.folding.specs.Folded.{left_from, all_marks}
+use Rattle.law_once.specs.Once.{FaithfulOnce}
+use Rattle.law_once.specs.Alike.{RunsAlike, LandsRightly, IsTidy, Keeps, PassKeeps}
+use Rattle.law_fold.specs.Folds.{Folds}
+
+abbrev pub slotted : Layout → ℕ → Instr → Instr
+slotted l n i = record { op = new_op (folds_at l n) i.op; origin = i.origin; slot = i.slot; firsts = moved_dests l n i.firsts; seconds = moved_dests l n i.seconds }
+
+abbrev pub kept_block : Plan → CodeBlock → CodeBlock
+kept_block p c = record c { instrs = left_from (layout_of p c) (slotted (layout_of p c)) 0 c.instrs }
+
+abbrev pub kept_blocks : Plan → List CodeBlock → List CodeBlock
+kept_blocks p cs = map (kept_block p) cs
+
+abbrev pub kept_slots : Plan → Plan
+kept_slots p = record {
+  program = record { blocks = kept_blocks p p.program.blocks; arrays = p.program.arrays; main = p.program.main };
+  plain = p.plain;
+  marks = all_marks p 0 p.program.blocks;
+}
+
+-- (F1, static)
+abbrev pub KeptSlotsFolds : Type 0
+KeptSlotsFolds = (p : Plan) → IsSound p → Folds p (kept_slots p)
+
+-- (F1, runs)
+abbrev pub KeptSlotsRunsAlike : Type 0
+KeptSlotsRunsAlike = (p : Plan) → IsSound p → Orderly p → LandsRightly p → RunsAlike p (kept_slots p)
+
+-- (F1, faith)
+abbrev pub KeptSlotsFaithful : Type 0
+KeptSlotsFaithful = (fl : Flow) (p : Plan) → IsSound p → Orderly p → LandsRightly p → TakesInputs fl p → FaithfulOnce fl p.program → FaithfulOnce fl (kept_slots p).program
+
+-- (F1, tidiness)
+abbrev pub KeptSlotsTidy : Type 0
+KeptSlotsTidy = (p : Plan) → IsSound p → IsTidy p → IsTidy (kept_slots p)
+
+-- (F1, landings)
+abbrev pub KeptSlotsLands : Type 0
+KeptSlotsLands = (p : Plan) → IsSound p → Orderly p → LandsRightly p → LandsRightly (kept_slots p)
+
+-- (F1, bounds)
+abbrev pub KeptSlotsKeepBounds : Type 0
+KeptSlotsKeepBounds = (p : Plan) → IsSound p → IsTidy p → Orderly p → LandsRightly p → PlanKeepsBounds p → PlanKeepsBounds (kept_slots p)
+
+-- a token of the pool comes by an arc
+abbrev pub IsCaused : Plan → Type 0
+IsCaused p = (inputs : List ℤ) (z : Size) (events : Events) (m : Machine) → IsStart p z inputs → (run : Run p.program z (at_start p.program inputs) events m) → UsesEachOnce p.program z inputs events m run
+    → (f ip : ℕ) (r : Port) (w : Word) → is_entry p.program.blocks ip ≡ false → Contains m.pool (token (To.Instr f ip r) w) → SomeEvent (UsesArc p f ip r) p.program z (at_start p.program inputs) events m run
+
+-- (F1, order)
+abbrev pub KeptSlotsOrderly : Type 0
+KeptSlotsOrderly = (p : Plan) → IsSound p → IsTidy p → Orderly p → LandsRightly p → IsCaused (kept_slots p) → Orderly (kept_slots p)
+
+-- (F1, all but the causes)
+abbrev pub KeptSlotsKeepIfCaused : Type 0
+KeptSlotsKeepIfCaused = (p : Plan) → IsSound p → Orderly p → LandsRightly p → IsTidy p → IsCaused (kept_slots p) → Keeps p (kept_slots p)

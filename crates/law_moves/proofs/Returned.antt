@@ -1,0 +1,163 @@
+-- The results of a call go to where it was made.
+use Rattle.std.proofs.Common.{◌≡◌, ℕ, ◌+◌, ◌<◌, Bool, true, false, ◌&&◌, ◌||◌, [], ◌∷◌, ◌++◌, length, refl, sym, ap, ◌∙◌, subst, inr, arith, true≢false, Option, Some, None, nat_lt, lt-ltb, ltb-true}
+use Rattle.std.specs.Prelude.{Contains, slice_get}
+use Rattle.std.proofs.lemmas.Option.{slice_get_within}
+use Rattle.tags.specs.declared.value.Value.{Value}
+use Rattle.tags.specs.declared.token.Port.TheVariants.{Left}
+use Rattle.tags.specs.declared.token.Word.{Word}
+use Rattle.tags.specs.declared.token.To.{To}
+use Rattle.tags.specs.declared.slot.SlotState.TheVariants.{Empty}
+use Rattle.semantics.specs.declared.graph.Kind.{Kind}
+use Rattle.semantics.specs.declared.graph.Kind.TheVariants as Kinds
+use Rattle.semantics.specs.declared.program.Op.TheVariants as Ops
+use Rattle.semantics.specs.Graph.{Node, Block, Flow, node_at}
+use Rattle.semantics.specs.Meaning.{Context, Called, callee, callee_of, callee_in, block_of, block_numbered}
+use Rattle.semantics.specs.Plan.{Plan, landing, landing_in}
+use Rattle.semantics.specs.Rule.{token, fires, fire_two}
+use Rattle.semantics.specs.Machine.{Fires}
+use Rattle.law_contexts.specs.Parts.{Result, Landing, inlet, Note, Datum, FrameOf, BackTo, ToHost, Item, item}
+use Rattle.law_contexts.specs.Blocks.{is_loop, call_kind, result_count, kind_results, outputs_in, callee_code, code_called, there_in}
+use Rattle.law_contexts.specs.Contexts.{Wires, block_in, site_in, wiring_in, or_none, IsContext, HasBlock}
+use Rattle.law_contexts.specs.Firings.{Config, frame_at}
+use Rattle.law_contexts.specs.Stands.{frame_of, ip_of, word_of, slot_of, is_instr, named_by, row_of, WasUsed}
+use Rattle.law_contexts.specs.Theorem.{IsGood}
+use Rattle.law_moves.specs.Cases.{Taking, IsCaused, net_of, Followed, is_quiet}
+use Rattle.law_moves.proofs.Lists.{contains_one}
+use Rattle.law_moves.proofs.Sites.{coded}
+use Rattle.law_moves.proofs.Fitted.{fits, there, among, taken_here}
+use Rattle.law_moves.proofs.Rules.{at, instr, stood, dyadic_grants, free_of, releases}
+use Rattle.law_moves.proofs.Pairs as Pairs
+use Rattle.law_moves.proofs.Pairs.{Second, dyadic, left_here}
+use Rattle.law_moves.proofs.Along.{both, all_lead, pair_follows}
+use Rattle.law_moves.proofs.Inwards.{told_at, carried, has_block}
+use Rattle.law_moves.proofs.Results.{beside_follows}
+use Rattle.law_once.specs.Alike.{plain_dests}
+
+-- THE BLOCK THAT A CALL RUNS
+pub record Callee (fl : Flow) (p : Plan) (w : Wires) (d : Context) (n : ℕ) : Type 0 where
+  pub number : ℕ
+  pub code : callee_code w.variant (block_in fl d) n ≡ number
+  pub block : slice_get fl.blocks number ≡ Some (block_in fl (Called d n))
+  pub results : result_count fl (block_in fl d) n ≡ (block_in fl (Called d n)).outputs
+
+in_block : (fl : Flow) (d : Context) (n : ℕ) → HasBlock fl d → callee_in (block_of fl d) n ≡ callee_of (node_at (block_in fl d) n)
+in_block fl d n (b, e) = subst (λ (o : Option (Block ℕ)). callee_in o n ≡ callee_of (node_at (or_none o) n)) (sym e) refl
+
+pub callee_is : (fl : Flow) (p : Plan) (w : Wires) (d : Context) (n : ℕ) → IsContext fl (Called d n) → Callee fl p w d n
+callee_is fl p w d n h = go (node_at (block_in fl d) n) refl h.1
+  where
+    found : (f : ℕ) → callee_of (node_at (block_in fl d) n) ≡ Some f → slice_get fl.blocks f ≡ Some (block_in fl (Called d n))
+    found f e =
+        let k = h.2 in
+        let same : block_of fl (Called d n) ≡ slice_get fl.blocks f = ap (block_numbered fl) (in_block fl d n (has_block fl d h.0) ∙ e) in
+        sym same ∙ k.1 ∙ ap (λ (b : Block ℕ). Some b) (sym (ap or_none k.1))
+
+    outputs : (f : ℕ) → slice_get fl.blocks f ≡ Some (block_in fl (Called d n)) → outputs_in (slice_get fl.blocks f) ≡ (block_in fl (Called d n)).outputs
+    outputs f e = ap outputs_in e
+
+    by_kind : (line : Node ℕ) → node_at (block_in fl d) n ≡ Some line → (k : Kind ℕ) → line.kind ≡ k → call_kind k ≡ true → Callee fl p w d n
+    by_kind line at (Kinds.Call f) q e =
+        let b = found f (ap callee_of at ∙ ap callee q) in record {
+          number = f;
+          code = ap (λ (x : Option (Node ℕ)). elim x as (λ y. ℕ) [ None ↦ 0 | Some line ↦ code_called w.variant line.kind ]) at ∙ ap (code_called w.variant) q;
+          block = b;
+          results = ap (λ (x : Option (Node ℕ)). elim x as (λ y. ℕ) [ None ↦ 0 | Some line ↦ kind_results fl (length line.sources) line.kind ]) at ∙ ap (kind_results fl (length line.sources)) q ∙ outputs f b;
+        }
+    by_kind line at (Kinds.StrictCall f) q e =
+        let b = found f (ap callee_of at ∙ ap callee q) in record {
+          number = f;
+          code = ap (λ (x : Option (Node ℕ)). elim x as (λ y. ℕ) [ None ↦ 0 | Some line ↦ code_called w.variant line.kind ]) at ∙ ap (code_called w.variant) q;
+          block = b;
+          results = ap (λ (x : Option (Node ℕ)). elim x as (λ y. ℕ) [ None ↦ 0 | Some line ↦ kind_results fl (length line.sources) line.kind ]) at ∙ ap (kind_results fl (length line.sources)) q ∙ outputs f b;
+        }
+    by_kind line at k q e = absurd (true≢false (sym e))
+
+    go : (x : Option (Node ℕ)) → node_at (block_in fl d) n ≡ x → elim x as (λ y. Bool) [ None ↦ false | Some line ↦ call_kind line.kind ] ≡ true → Callee fl p w d n
+    go None at e = absurd (true≢false (sym e))
+    go (Some line) at e = by_kind line at line.kind refl e
+
+-- how long its landing is
+pub call_landing : {stage : ℕ} (fl : Flow) (p : Plan) (w : Wires) (good : IsGood stage fl p w) (d : Context) (n : ℕ) → IsContext fl (Called d n) → row_of fl p w d (Landing n 0) ≡ (block_in fl (Called d n)).outputs + 1
+call_landing fl p w good d n h =
+    let k = callee_is fl p w d n h in
+    let c = good.wired.plain k.number (block_in fl (Called d n)) k.block in
+    let l = slice_get_within fl.blocks k.number (block_in fl (Called d n)) k.block in
+    let m = good.wired.plain_count in
+    let plain : nat_lt k.number p.plain ≡ true = lt-ltb k.number p.plain (omega (arith, l, m)) in
+    ap (landing p) k.code ∙ (λ t. landing_in (plain t) (c.there t)) ∙ ap (λ m. m + 1) c.laid.outputs
+
+-- A RESULT of a call
+module _ {stage : ℕ} (s : Taking stage) (d : Context) (n j : ℕ) (in_call : s.i.context ≡ Called d n) (e : s.i.inlet.part ≡ Result j) where
+  abbrev l : Taking stage
+  l = told_at s (Called d n) (Result j) in_call e
+
+  abbrev net : Config
+  net = net_of s
+
+  abbrev is_result : is_instr (Result j) ≡ true
+  is_result = Pairs.is l refl refl
+
+  abbrev W : Note → Word
+  W k = word_of s.fl s.p s.w net.fired k
+
+  context : IsContext s.fl (Called d n)
+  context = (fits l l.i (taken_here l)).is_context
+
+  within : j < (block_in s.fl (Called d n)).outputs
+  within = ltb-true j (block_in s.fl (Called d n)).outputs (there l l.i (taken_here l) is_result)
+
+  lands : there_in s.fl (site_in s.fl s.w d) (wiring_in s.fl s.w d) (Landing n j) ≡ true
+  lands =
+      let k = callee_is s.fl s.p s.w d n context in let w = within in let r = k.results in
+      let less : nat_lt j (result_count s.fl (block_in s.fl d) n) ≡ true = lt-ltb j (result_count s.fl (block_in s.fl d) n) (omega (arith, w, r)) in
+      ap (λ t. (t || is_loop (block_in s.fl d) n) && nat_lt j (result_count s.fl (block_in s.fl d) n)) context.1 ∙ less
+
+  row : ip_of s.fl s.p s.w d (Landing n 0) + j ≡ ip_of s.fl s.p s.w d (Landing n j)
+  row = let k = (coded s.fl s.p s.w s.good.wired d context.0).laid.landing n j lands in omega (arith, k)
+
+  abbrev Comes : Word → Word → Type 0
+  Comes x y = Fires s.m.store (frame_of s.fl net.fired (Called d n)) (Some (slot_of s.fl s.w l.i)) (fires Empty (fire_two s.p.program (at l is_result) (instr l is_result) (Ops.Return j) x y)) s.event.made s.new.store
+
+  module _ (sec : Second l refl refl) where
+    abbrev left_item : Item
+    left_item = item (Called d n) (inlet (Result j) Left 0) sec.left
+
+    left_is : sec.left ≡ BackTo d (inlet (Landing n 0) Left 0)
+    left_is = carried l left_item (left_here l refl refl sec)
+
+    has_frame : (g : ℕ) × (frame_at s.fl net.fired d ≡ Some g)
+    has_frame = s.keeps.follows.stands.named left_item d (among l left_item (left_here l refl refl sec)) (ap named_by left_is)
+
+    was_used : WasUsed s.p s.q.steps (frame_of s.fl net.fired d) (ip_of s.fl s.p s.w d (Landing n j)) Left
+    was_used =
+        let w = within in let r = call_landing s.fl s.p s.w s.good d n context in
+        subst (λ ip. WasUsed s.p s.q.steps (frame_of s.fl net.fired d) ip Left) row (s.keeps.follows.asked left_item d (inlet (Landing n 0) Left 0) j (left_here l refl refl sec) left_is (omega (arith, w, r)))
+
+    sends_back : (v : Value) → sec.right ≡ Datum v → Comes (W (BackTo d (inlet (Landing n 0) Left 0))) (W (Datum v)) → Followed s
+    sends_back v r m = beside_follows l refl refl refl sec (record {
+      items = item d (inlet (Landing n j) Left 0) sec.right ∷ [];
+      tokens = token (To.Instr (frame_of s.fl net.fired d) (ip_of s.fl s.p s.w d (Landing n 0) + j) Left) (Word.Val v) ∷ [];
+      are = λ t. token (To.Instr (frame_of s.fl net.fired d) (row t) Left) (W (sym r t)) ∷ [];
+      quiet = λ x h. ap (λ (x : Item). is_quiet x.inlet.part) (sym (contains_one (item d (inlet (Landing n j) Left 0) sec.right) x h));
+      known = λ x h. subst (λ (x : Item). (g : ℕ) × (frame_at s.fl net.fired x.context ≡ Some g)) (contains_one (item d (inlet (Landing n j) Left 0) sec.right) x h) has_frame;
+      named = λ x y h k. absurd (unnamed x y (contains_one (item d (inlet (Landing n j) Left 0) sec.right) x h) k);
+      caused = λ x h i. subst (IsCaused l) (contains_one (item d (inlet (Landing n j) Left 0) sec.right) x h) (inr was_used);
+      dests = (instr l is_result).firsts ++ (instr l is_result).seconds;
+      makes_is = refl;
+      leads = all_lead l refl is_result refl refl;
+      plain_dest = λ x h. subst (λ o. Contains (plain_dests (instr l is_result) o) x) (sym (stood l is_result).is.op) h;
+      did = m;
+      free = free_of l is_result (dyadic_grants (instr l is_result).op (dyadic l refl refl)) (ap releases (stood l is_result).is.op);
+    })
+      where
+        unnamed : (x : Item) (y : Context) → item d (inlet (Landing n j) Left 0) sec.right ≡ x → named_by x.word ≡ Some y → ⊥
+        unnamed x y h k = let z : None ≡ Some y = ap named_by (sym r) ∙ ap (λ (x : Item). named_by x.word) h ∙ k in absurd (cc)
+
+    by_word : (k : Note) → sec.right ≡ k → Comes (W (BackTo d (inlet (Landing n 0) Left 0))) (W k) → Followed s
+    by_word (Datum v) r m = sends_back v r m
+    by_word (FrameOf y) r m = absurd m
+    by_word (BackTo y x) r m = absurd m
+    by_word ToHost r m = absurd m
+
+  pub call_returns : Followed s
+  call_returns = pair_follows l refl refl refl (λ sec. by_word sec sec.right refl (subst (λ k. Comes (W k) (W sec.right)) (left_is sec) (both l refl refl refl sec (Ops.Return j) refl)))

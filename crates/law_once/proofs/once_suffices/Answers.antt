@@ -1,0 +1,28 @@
+use Rattle.law_once.proofs.OnceFaith.{once_suffices}
+use Rattle.law_once.proofs.Alike.{alike_is_faithful}
+use Rattle.law_once.proofs.Bounded.{orderly_is_bounded}
+use Rattle.law_once.proofs.SpreadKeeps.{spread_plans_keep}
+use Rattle.law_once.proofs.SpreadTidy.{spread_plans_stay_tidy}
+use Rattle.law_once.proofs.Ready.{ready_stays, ready_code_is_faithful}
+use Rattle.law_once.proofs.once_suffices.Goals as goal
+
+pub returns-clause-faithful : goal.returns-clause-faithful
+returns-clause-faithful c = once_suffices
+
+pub returns-clause-bounded : goal.returns-clause-bounded
+returns-clause-bounded c = orderly_is_bounded
+
+pub returns-clause-alike : goal.returns-clause-alike
+returns-clause-alike c = alike_is_faithful
+
+pub returns-clause-spread : goal.returns-clause-spread
+returns-clause-spread c = spread_plans_keep
+
+pub returns-clause-tidy : goal.returns-clause-tidy
+returns-clause-tidy c = spread_plans_stay_tidy
+
+pub returns-clause-stays : goal.returns-clause-stays
+returns-clause-stays c = ready_stays
+
+pub returns-clause-code : goal.returns-clause-code
+returns-clause-code c = ready_code_is_faithful

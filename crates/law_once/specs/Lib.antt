@@ -1,0 +1,5 @@
+pub mod Once
+pub mod Bounded
+pub mod Alike
+pub mod Spreads
+pub mod Ready

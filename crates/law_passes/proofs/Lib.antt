@@ -1,0 +1,3 @@
+pub mod Tidy
+pub mod FoldedTidy
+pub mod Passes

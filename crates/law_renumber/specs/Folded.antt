@@ -1,0 +1,15 @@
+-- Folding in two passes: one that leaves each instruction its slot, and one that numbers the holders anew.
+use Rattle.semantics.specs.Plan.{Plan}
+use Rattle.code.specs.Sound.{IsSound}
+use Rattle.folding.specs.Folded.{folded}
+use Rattle.law_once.specs.Alike.{Keeps}
+use Rattle.law_fold.specs.Kept.{kept_slots}
+use Rattle.law_renumber.specs.Renumbers.{Renumbers}
+
+-- the second pass only numbers the holders anew,
+abbrev pub FoldingRenumbers : Type 0
+FoldingRenumbers = (p : Plan) → IsSound p → Renumbers (kept_slots p) (folded p)
+
+-- so what the first one keeps of a plan both keep.
+abbrev pub KeptSlotsSuffice : Type 0
+KeptSlotsSuffice = (p : Plan) → IsSound p → Keeps p (kept_slots p) → Keeps p (folded p)

@@ -1,0 +1,3 @@
+pub mod Renumbers
+pub mod Keeps
+pub mod Folded

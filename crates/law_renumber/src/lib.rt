@@ -1,0 +1,13 @@
+//! Plans that are alike but for the numbers of their holders.
+#![tactic(auto)]
+
+ghost use Rattle.law_renumber.specs.Folded.{FoldingRenumbers, KeptSlotsSuffice};
+ghost use Rattle.law_renumber.specs.Keeps.{RenumberedKeeps};
+
+/// A plan whose holders get other numbers keeps its runs, their order and its bounds. Folding numbers holders anew after
+/// all else is done, so it keeps what it keeps without that.
+pub fn renumbering_keeps()
+    ensures keeps { RenumberedKeeps }
+    ensures folding { FoldingRenumbers }
+    ensures suffices { KeptSlotsSuffice }
+{}

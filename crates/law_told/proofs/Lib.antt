@@ -1,0 +1,11 @@
+pub mod Acts
+pub mod Settles
+pub mod Words
+pub mod Nodes
+pub mod Control
+pub mod Calls
+pub mod Sites
+pub mod Cells
+pub mod Told
+pub mod First
+pub mod Graphs

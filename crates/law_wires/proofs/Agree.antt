@@ -1,0 +1,205 @@
+-- The parts that are written down are those of the wiring that is read off the code.
+use Rattle.std.proofs.Common.{◌≡◌, ℕ, zero, suc, ◌+◌, ◌-◌, ◌<◌, Bool, true, false, List, [], ◌∷◌, ◌++◌, map, length, refl, sym, ap, ◌∙◌, arith, append-nil, append_assoc, if◌then◌else◌, nat_lt}
+use Rattle.std.specs.Prelude.{slice_index_or, replicate}
+use Rattle.std.proofs.lemmas.Bool.{lt-ltb}
+use Rattle.semantics.specs.declared.graph.Region.{Region}
+use Rattle.semantics.specs.declared.graph.Region.TheVariants.{Root, Arm}
+use Rattle.semantics.specs.declared.graph.Kind.{Kind}
+use Rattle.semantics.specs.declared.graph.Kind.TheVariants.{Lit, Apply1, Apply2, Cond, Enter, Merge, Fetch, Store, Call, StrictCall, Loop}
+use Rattle.semantics.specs.Graph.{Node, Block, Flow}
+use Rattle.semantics.specs.Meaning.{arm_of}
+use Rattle.lowering.specs.Roles.{one}
+use Rattle.expansion.specs.Triggers as Triggers
+use Rattle.expansion.specs.Triggers.{has_trigger, takes_trigger, triggers_of}
+use Rattle.expansion.specs.Tails.{returns}
+use Rattle.expansion.specs.Blocks.{body}
+use Rattle.expansion.specs.Ends.{same_region, ends_of}
+use Rattle.law_contexts.specs.Parts as Parts
+use Rattle.law_contexts.specs.Parts.{Part, Entry, Line, Result, Join, CondEnd, same_part}
+use Rattle.law_contexts.specs.Blocks.{Side, leaves_in}
+use Rattle.law_contexts.specs.Expanded as Expanded
+use Rattle.law_contexts.specs.Expanded.{row, plain_scope, plain_parts, body_parts, Ending, ending, end_node, end_parts, join_parts, ends_in, has_end, closing_parts, regions_of, regions_by, place_from}
+use Rattle.law_wires.specs.Types.{End}
+use Rattle.law_wires.specs.Written as Written
+use Rattle.law_wires.specs.Written.{is_shared, answer_parts, kind_parts, node_parts, inner_parts, in_region, joined_parts, cond_parts, cond_sides, Ended, arm_ends, close, close_kind, close_nodes, inner, first_ends, root_ends, parts_in}
+use Rattle.law_wires.specs.Fit.{Takes, IsFit}
+use Rattle.law_wires.proofs.Same.{same_is}
+use Rattle.law_wires.proofs.Laid.{Env}
+use Rattle.law_wires.proofs.LaidNodes.{Stand, stand_left, env}
+use Rattle.law_wires.proofs.LaidEnds.{AreEnds}
+use Rattle.law_wires.proofs.LaidWhole.{first_ends_laid, closed_stands}
+use Rattle.law_wires.proofs.Counts.{tally, count_is, Follow, follow_more, follow_here}
+use Rattle.law_wires.proofs.Parts.{follow}
+
+module _ (fl : Flow) (number : ℕ) (b : Block ℕ) (fit : IsFit b) where
+  -- TRIGGERS. There are none.
+  takes_none : (k : Kind ℕ) (m : ℕ) → Takes k m → takes_trigger k ≡ false
+  takes_none Cond m t = refl
+  takes_none Enter m t = refl
+  takes_none (Merge c) m t = refl
+  takes_none (Lit z) m t = refl
+  takes_none (Apply1 op) m t = refl
+  takes_none (Apply2 op) m t = refl
+  takes_none (Fetch a) m t = refl
+  takes_none (Store a) m t = refl
+  takes_none (Call f) m t = absurd t
+  takes_none (StrictCall f) m t = absurd t
+  takes_none (Loop f c) m t = absurd t
+
+  triggers_same : (n : ℕ) (xs : List (Node ℕ)) (ts : List Bool) → Follow b n xs → Triggers.with_nodes ts xs ≡ ts
+  triggers_same n [] ts f = refl
+  triggers_same n (x ∷ xs) ts f =
+      let none = takes_none x.kind (length x.sources) (fit.nodes n x (follow_here b n x xs f)).takes in
+      ap (λ t. Triggers.with_nodes (if t then Triggers.with_region ts x.region else ts) xs) none ∙ triggers_same (n + 1) xs ts (follow_more b n x xs f)
+
+  all_false : (m n : ℕ) → slice_index_or (replicate m false) n false ≡ false
+  all_false zero n = refl
+  all_false (suc m) zero = refl
+  all_false (suc m) (suc n) = all_false m n
+
+  pub no_triggers : (n : ℕ) → has_trigger (plain_scope fl number b).triggers n ≡ false
+  no_triggers n = ap (λ ts. slice_index_or ts n false) (triggers_same b.inputs b.nodes (replicate (b.inputs + length b.nodes) false) (follow b fit)) ∙ all_false (b.inputs + length b.nodes) n
+
+  -- NODES
+  shared_agree : (n : ℕ) (t : Bool) → (if t then Parts.Line n ∷ Parts.Answer n ∷ [] else Parts.Line n ∷ []) ≡ Parts.Line n ∷ answer_parts n t
+  shared_agree n true = refl
+  shared_agree n false = refl
+
+  kinds_agree : (n m : ℕ) (k : Kind ℕ) → Takes k m → Expanded.kind_parts (plain_scope fl number b) n m k ≡ kind_parts b n k
+  kinds_agree n m Cond t = ap (λ x. if x then Parts.Trigger n ∷ [] else []) (no_triggers n)
+  kinds_agree n m Enter t = refl
+  kinds_agree n m (Merge c) t = refl
+  kinds_agree n m (Lit z) t = refl
+  kinds_agree n m (Apply1 op) t = refl
+  kinds_agree n m (Apply2 op) t = refl
+  kinds_agree n m (Fetch a) t = shared_agree n (is_shared b n)
+  kinds_agree n m (Store a) t = shared_agree n (is_shared b n)
+  kinds_agree n m (Call f) t = absurd t
+  kinds_agree n m (StrictCall f) t = absurd t
+  kinds_agree n m (Loop f c) t = absurd t
+
+  nodes_agree : (n : ℕ) (xs : List (Node ℕ)) → Follow b n xs → Expanded.node_parts (plain_scope fl number b) n xs ≡ node_parts b n xs
+  nodes_agree n [] f = refl
+  nodes_agree n (x ∷ xs) f =
+      let here = kinds_agree n (length x.sources) x.kind (fit.nodes n x (follow_here b n x xs f)).takes in
+      let rest = nodes_agree (n + 1) xs (follow_more b n x xs f) in
+      (λ i. here i ++ rest i)
+
+  -- ENDS
+  abbrev region : Side → Region
+  region t = leaves_in b t.part t.second
+
+  ends_count : (r : Region) (ts : List Side) → ends_in r (map region ts) ≡ length (in_region b r ts)
+  ends_count r ts = count_is (λ (q : Region). same_region q r) (map region ts) ∙ tallied ts
+    where
+      tallied : (ts : List Side) → tally (λ (q : Region). same_region q r) (map region ts) ≡ length (in_region b r ts)
+      tallied [] = refl
+      tallied (t ∷ ts) = go (same_region (region t) r) (tallied ts)
+        where
+          go : (x : Bool) → tally (λ (q : Region). same_region q r) (map region ts) ≡ length (in_region b r ts)
+              → one x + tally (λ (q : Region). same_region q r) (map region ts) ≡ length (if x then t ∷ in_region b r ts else in_region b r ts)
+          go true h = omega (arith, h)
+          go false h = omega (arith, h)
+
+  joins_agree : (r : Region) (ts : List Side) → join_parts r (map region ts) ≡ joined_parts r (in_region b r ts)
+  joins_agree r ts = ap (λ n. row (Join r) 0 (n - 1)) (ends_count r ts) ∙ go (in_region b r ts)
+    where
+      go : (us : List Side) → row (Join r) 0 (length us - 1) ≡ joined_parts r us
+      go [] = refl
+      go (u ∷ us) = let same : suc (length us) - 1 ≡ length us = omega arith in ap (row (Join r) 0) same
+
+  some_end : (k : ℕ) (ts : List Side) → has_end k (map region ts) ≡ nat_lt 0 (length (in_region b (Arm k true) ts) + length (in_region b (Arm k false) ts))
+  some_end k ts = let x = ends_count (Arm k true) ts in let y = ends_count (Arm k false) ts in (λ i. nat_lt 0 (x i + y i))
+
+  both_sizes : {X : Type 0} {A : Type 0} (us vs : List X) (none some : A) (f : List X → A) → f [] ≡ none → ((x : X) (xs : List X) → f (x ∷ xs) ≡ some) → (if nat_lt 0 (length us + length vs) then some else none) ≡ f (us ++ vs)
+  both_sizes [] [] none some f p q = sym p
+  both_sizes [] (v ∷ vs) none some f p q = let t : nat_lt 0 (0 + suc (length vs)) ≡ true = positive (0 + suc (length vs)) (omega arith) in ap (λ x. if x then some else none) t ∙ sym (q v vs)
+    where
+      positive : (n : ℕ) → 0 < n → nat_lt 0 n ≡ true
+      positive n h = lt-ltb 0 n h
+  both_sizes (u ∷ us) vs none some f p q = let t : nat_lt 0 (suc (length us) + length vs) ≡ true = lt-ltb 0 (suc (length us) + length vs) (omega arith) in ap (λ x. if x then some else none) t ∙ sym (q u (us ++ vs))
+
+  conds_agree : (k : ℕ) (ts : List Side) → (if has_end k (map region ts) then CondEnd k ∷ [] else []) ≡ cond_parts k (in_region b (Arm k true) ts ++ in_region b (Arm k false) ts)
+  conds_agree k ts =
+      ap (λ x. if x then CondEnd k ∷ [] else []) (some_end k ts)
+      ∙ both_sizes (in_region b (Arm k true) ts) (in_region b (Arm k false) ts) [] (CondEnd k ∷ []) (cond_parts k) refl (λ x xs. refl)
+
+  map_both : (ts us : List Side) → map region (ts ++ us) ≡ map region ts ++ map region us
+  map_both [] us = refl
+  map_both (t ∷ ts) us = ap (λ rs. region t ∷ rs) (map_both ts us)
+
+  sides_agree : (k : ℕ) (r : Region) (ts : List Side) → r ≡ leaves_in b (CondEnd k) false
+      → Expanded.ended k r (map region ts) ≡ map region (ts ++ cond_sides k (in_region b (Arm k true) ts ++ in_region b (Arm k false) ts))
+  sides_agree k r ts e =
+      ap (λ x. if x then map region ts ++ r ∷ [] else map region ts) (some_end k ts)
+      ∙ both_sizes (in_region b (Arm k true) ts) (in_region b (Arm k false) ts) (map region ts) (map region ts ++ r ∷ []) (λ us. map region (ts ++ cond_sides k us))
+      (ap (map region) (append-nil ts)) (λ x xs. map_both ts (Blocks_side k ∷ []) ∙ ap (λ q. map region ts ++ q ∷ []) (sym e))
+    where
+      Blocks_side : ℕ → Side
+      Blocks_side k = record { part = CondEnd k; second = false }
+
+  -- the parts of the ends so far, behind what came before
+  record Matches (x : Ended) (q : Ending) (y : Ended) : Type 0 where
+    parts : x.parts ++ q.parts ≡ y.parts
+    regions : q.regions ≡ map region y.ends
+
+  kind_matches : (n : ℕ) (x y : Ended) (q : Ending) (r : Region) (k : Kind ℕ) → r ≡ leaves_in b (CondEnd n) false → Matches x q y → Matches x (end_node n r q k) (close_kind b n y k)
+  kind_matches n x y q r Cond e h = record {
+    parts = sym (append_assoc x.parts q.parts (end_parts n q.regions)) ∙ (λ i. h.parts i ++ ends i);
+    regions = ap (Expanded.ended n r) h.regions ∙ sides_agree n r y.ends e;
+  }
+    where
+      ends : end_parts n q.regions ≡ joined_parts (Arm n true) (arm_ends b n true y) ++ (joined_parts (Arm n false) (arm_ends b n false y) ++ cond_parts n (arm_ends b n true y ++ arm_ends b n false y))
+      ends = ap (end_parts n) h.regions ∙ (λ i. joins_agree (Arm n true) y.ends i ++ (joins_agree (Arm n false) y.ends i ++ conds_agree n y.ends i))
+  kind_matches n x y q r Enter e h = h
+  kind_matches n x y q r (Merge c) e h = h
+  kind_matches n x y q r (Lit z) e h = h
+  kind_matches n x y q r (Apply1 op) e h = h
+  kind_matches n x y q r (Apply2 op) e h = h
+  kind_matches n x y q r (Fetch a) e h = h
+  kind_matches n x y q r (Store a) e h = h
+  kind_matches n x y q r (Call f) e h = h
+  kind_matches n x y q r (StrictCall f) e h = h
+  kind_matches n x y q r (Loop f c) e h = h
+
+  nodes_match : (n : ℕ) (xs : List (Node ℕ)) (x : Ended) (q : Ending) → Follow b n xs → Matches x q x → Matches x (ending n xs q) (close_nodes b n xs x)
+  nodes_match n [] x q f h = h
+  nodes_match n (y ∷ xs) x q f h =
+      kind_matches n x (close_nodes b (n + 1) xs x) (ending (n + 1) xs q) y.region y.kind (sym (ap arm_of (follow_here b n y xs f))) (nodes_match (n + 1) xs x q (follow_more b n y xs f) h)
+
+  ends_regions : (e : Env) (rs : List Part) (es : List End) (ts : List Side) → AreEnds e rs es ts → regions_by es (λ x. x.region) ≡ map (λ (t : Side). leaves_in e.site.block t.part t.second) ts
+  ends_regions e rs [] [] h = refl
+  ends_regions e rs [] (t ∷ ts) h = absurd h
+  ends_regions e rs (x ∷ es) [] h = absurd h
+  ends_regions e rs (x ∷ es) (t ∷ ts) h = let a = h.0 in let r = ends_regions e rs es ts h.2 in (λ i. a i ∷ r i)
+
+  -- ALL PARTS
+  abbrev pub place : Part → ℕ
+  place r = place_from r 0 (parts_in b)
+
+  pub apart : (r q : Part) → same_part r q ≡ true → place r ≡ place q
+  apart r q h = ap place (same_is r q h)
+
+  pub parts_agree : Stand place 0 (parts_in b) → plain_parts (plain_scope fl number b) ≡ parts_in b
+  parts_agree at =
+      let s = plain_scope fl number b in
+      let all = stand_left place 0 (Written.closed b).parts (joined_parts Root (root_ends b) ++ Parts.End ∷ []) at in
+      let inside = closed_stands fl number b place apart fit no_triggers b.inputs b.nodes (inner b) all in
+      let firsts = first_ends_laid fl number b place apart fit no_triggers inside in
+      let rs : List Region = regions_of (returns (body s) 0 b.results) in
+      let regions : rs ≡ map region (first_ends b) = ends_regions (env fl number b place apart) (inner_parts b) (ends_of (returns (body s) 0 b.results)) (first_ends b) firsts in
+      let q : Ending = record { parts = []; regions = rs } in
+      let start : Matches (inner b) q (inner b) = record { parts = append-nil (inner_parts b); regions = regions } in
+      let m = nodes_match b.inputs b.nodes (inner b) q (follow b fit) start in
+      let e : Ending = ending b.inputs b.nodes q in
+      let joins : join_parts Root e.regions ≡ joined_parts Root (root_ends b) = ap (join_parts Root) m.regions ∙ joins_agree Root (Written.closed b).ends in
+      let first : body_parts s ≡ Entry ∷ row Line 0 b.inputs ++ node_parts b b.inputs b.nodes = ap (λ xs. Entry ∷ row Line 0 b.inputs ++ xs) (nodes_agree b.inputs b.nodes (follow b fit)) in
+      let results : List Part = row Result 0 (length b.results) in
+      let tail : List Part = joined_parts Root (root_ends b) ++ Parts.End ∷ [] in
+      ap (λ xs. xs ++ (results ++ (e.parts ++ (join_parts Root e.regions ++ Parts.End ∷ [])))) first
+      ∙ ap (λ xs. (Entry ∷ row Line 0 b.inputs ++ node_parts b b.inputs b.nodes) ++ (results ++ (e.parts ++ (xs ++ Parts.End ∷ [])))) joins
+      ∙ regroup (Entry ∷ row Line 0 b.inputs ++ node_parts b b.inputs b.nodes) results e.parts tail
+      ∙ ap (λ xs. xs ++ tail) m.parts
+    where
+      regroup : (u v x y : List Part) → u ++ (v ++ (x ++ y)) ≡ ((u ++ v) ++ x) ++ y
+      regroup u v x y = sym (simp append_assoc)

@@ -1,0 +1,231 @@
+-- What leaves at a node goes to its uses, in any order.
+use Rattle.std.proofs.Common.{◌≡◌, ◌≢◌, ℕ, ◌+◌, ◌<◌, ◌≤◌, ◌⊎◌, inl, inr, Bool, true, false, ◌&&◌, List, [], ◌∷◌, ◌++◌, map, length, refl, sym, ap, ◌∙◌, subst, arith, append-nil, if◌then◌else◌, Some, ◌==◌, All}
+use Rattle.std.specs.Prelude.{flat_map, IsPermutation}
+use Rattle.std.proofs.lemmas.Bool.{cases_lt, ne_eqb}
+use Rattle.std.proofs.lemmas.List.Elements.{All-head}
+use Rattle.std.proofs.lemmas.List.Sorted.{IsPermutation-refl, IsPermutation-sym, IsPermutation-trans, IsPermutation-append_comm, IsPermutation-append_left, IsPermutation-append_right}
+use Rattle.tags.specs.declared.value.Value.{Value}
+use Rattle.semantics.specs.declared.graph.Region.{Region}
+use Rattle.semantics.specs.declared.graph.Region.TheVariants.{Root, Arm}
+use Rattle.semantics.specs.declared.graph.Source.{Source}
+use Rattle.semantics.specs.declared.graph.Kind.{Kind}
+use Rattle.semantics.specs.declared.graph.Kind.TheVariants.{Lit, Apply1, Apply2, Cond, Enter, Merge, Fetch, Store, Call, StrictCall, Loop}
+use Rattle.semantics.specs.Graph.{Node, Block, Flow, node_at}
+use Rattle.semantics.specs.Meaning.{Context, AtNode, AtOut, Operand, Predicate, Tagged, tagged, block_of, positions, uses_at, result_uses, sent_in, is_enter_of, predicates_from}
+use Rattle.lowering.proofs.Orders.{IsPermutation-same, shuffled, Part, ◌⊕◌}
+use Rattle.determinacy.proofs.Perm.{permutation_cancel}
+use Rattle.expansion.specs.Builds.{first_source}
+use Rattle.expansion.specs.Scopes.{predicate_of, predicate_in}
+use Rattle.law_contexts.specs.Blocks.{cond_kind}
+use Rattle.law_contexts.specs.Told.{settled_sent}
+use Rattle.law_contexts.specs.Wires.{told_along}
+use Rattle.law_wires.specs.Written.{Wire, along, same_side, leaves, kind_wires, node_wires, result_wires, wires_in}
+use Rattle.law_wires.specs.Fit.{Takes, ComesBefore, IsFit}
+use Rattle.law_wires.proofs.Counts.{Follow, follow_more, follow_here, same_number, same_some}
+use Rattle.law_wires.proofs.Parts.{follow, node_within}
+use Rattle.law_wires.proofs.Both.{node_some, cond_is}
+use Rattle.law_wires.proofs.Uses.{heard, heard_both, all_heard, side_test, settle, made, settle_both, results_heard, used, gated, decides, kind_row}
+
+-- four lists, the two in the middle exchanged
+middle : {X : Type 0} (a b c d : List X) → IsPermutation ((a ++ b) ++ (c ++ d)) ((a ++ c) ++ (b ++ d))
+middle a b c d = shuffled (a ∷ b ∷ c ∷ d ∷ []) ((Part 0 ⊕ Part 1) ⊕ (Part 2 ⊕ Part 3)) ((Part 0 ⊕ Part 2) ⊕ (Part 1 ⊕ Part 3)) refl
+
+module _ (fl : Flow) (b : Block ℕ) (fit : IsFit b) (c : Context) (v : Value) (there : block_of fl c ≡ Some b) (plain : (j : ℕ) → result_uses c b.inputs j ≡ (AtOut j, Operand 0) ∷ []) (n : ℕ) where
+  abbrev H : List Wire → List Tagged
+  H ws = heard fl b fit c v (leaves b n) ws
+
+  abbrev U : ℕ → List Source → List Tagged
+  U m ss = used fl b fit c v there plain n m ss
+
+  abbrev G : ℕ → Kind ℕ → Region → List Tagged
+  G m k r = gated fl b fit c v there plain n m k r
+
+  abbrev D : Node ℕ → Bool
+  D x = decides fl b fit c v there plain n x.kind x.sources
+
+  -- the predicates of the conditionals that the value decides, among some nodes; those that gates tell; and the uses
+  abbrev conds : ℕ → List (Node ℕ) → ℕ → List (Node ℕ) → List Tagged
+  conds m [] g gs = []
+  conds m (x ∷ xs) g gs = (if D x then predicates_from c m v g gs else []) ++ conds (m + 1) xs g gs
+
+  abbrev gates : ℕ → List (Node ℕ) → List Tagged
+  gates m [] = []
+  gates m (x ∷ xs) = G m x.kind x.region ++ gates (m + 1) xs
+
+  abbrev uses : ℕ → List (Node ℕ) → List Tagged
+  uses m [] = []
+  uses m (x ∷ xs) = U m x.sources ++ uses (m + 1) xs
+
+  rows : (m : ℕ) (xs : List (Node ℕ)) → Follow b m xs → IsPermutation (H (node_wires b m xs) ++ conds m xs b.inputs b.nodes) (uses m xs ++ gates m xs)
+  rows m [] f = IsPermutation-refl []
+  rows m (x ∷ xs) f =
+      let a = H (kind_wires b m x.region x.kind x.sources) in
+      let r = H (node_wires b (m + 1) xs) in
+      let d = if D x then predicates_from c m v b.inputs b.nodes else [] in
+      let e = conds (m + 1) xs b.inputs b.nodes in
+      let u = U m x.sources in
+      let g = G m x.kind x.region in
+      let us = uses (m + 1) xs in
+      let gs = gates (m + 1) xs in
+      let row : a ++ d ≡ u ++ g = kind_row fl b fit c v there plain n m x (follow_here b m x xs f) in
+      let split : H (node_wires b m (x ∷ xs)) ≡ a ++ r = heard_both fl b fit c v (leaves b n) (kind_wires b m x.region x.kind x.sources) (node_wires b (m + 1) xs) in
+      subst (λ zs. IsPermutation (zs ++ (d ++ e)) ((u ++ us) ++ (g ++ gs))) (sym split)
+      (IsPermutation-trans ((a ++ r) ++ (d ++ e)) ((a ++ d) ++ (r ++ e)) ((u ++ us) ++ (g ++ gs)) (middle a r d e)
+      (subst (λ zs. IsPermutation (zs ++ (r ++ e)) ((u ++ us) ++ (g ++ gs))) (sym row)
+      (IsPermutation-trans ((u ++ g) ++ (r ++ e)) ((u ++ g) ++ (us ++ gs)) ((u ++ us) ++ (g ++ gs)) (IsPermutation-append_right (u ++ g) (r ++ e) (us ++ gs) (rows (m + 1) xs (follow_more b m x xs f))) (middle u g us gs))))
+
+  -- EXCHANGE of the sums over conditionals and over gates
+  no_conds : (m : ℕ) (xs : List (Node ℕ)) (g : ℕ) → conds m xs g [] ≡ []
+  no_conds m [] g = refl
+  no_conds m (x ∷ xs) g = go (D x) ∙ no_conds (m + 1) xs g
+    where
+      go : (t : Bool) → (if t then [] else []) ++ conds (m + 1) xs g [] ≡ conds (m + 1) xs g []
+      go true = refl
+      go false = refl
+
+  -- what one node gets from a conditional
+  abbrev from_cond : ℕ → ℕ → Node ℕ → List Tagged
+  from_cond m g y = if is_enter_of m y.region y.kind then tagged c (AtNode g) Predicate v ∷ [] else []
+
+  abbrev from_conds : ℕ → List (Node ℕ) → ℕ → Node ℕ → List Tagged
+  from_conds m [] g y = []
+  from_conds m (x ∷ xs) g y = (if D x then from_cond m g y else []) ++ from_conds (m + 1) xs g y
+
+  predicates_split : (m g : ℕ) (y : Node ℕ) (gs : List (Node ℕ)) → predicates_from c m v g (y ∷ gs) ≡ from_cond m g y ++ predicates_from c m v (g + 1) gs
+  predicates_split m g y gs = go (is_enter_of m y.region y.kind)
+    where
+      go : (t : Bool) → (if t then tagged c (AtNode g) Predicate v ∷ predicates_from c m v (g + 1) gs else predicates_from c m v (g + 1) gs)
+          ≡ (if t then tagged c (AtNode g) Predicate v ∷ [] else []) ++ predicates_from c m v (g + 1) gs
+      go true = refl
+      go false = refl
+
+  conds_split : (m : ℕ) (xs : List (Node ℕ)) (g : ℕ) (y : Node ℕ) (gs : List (Node ℕ)) → IsPermutation (conds m xs g (y ∷ gs)) (from_conds m xs g y ++ conds m xs (g + 1) gs)
+  conds_split m [] g y gs = IsPermutation-refl []
+  conds_split m (x ∷ xs) g y gs =
+      let h = if D x then from_cond m g y else [] in
+      let p = if D x then predicates_from c m v (g + 1) gs else [] in
+      let hs = from_conds (m + 1) xs g y in
+      let ps = conds (m + 1) xs (g + 1) gs in
+      subst (λ zs. IsPermutation (zs ++ conds (m + 1) xs g (y ∷ gs)) ((h ++ hs) ++ (p ++ ps))) (sym (go (D x)))
+      (IsPermutation-trans ((h ++ p) ++ conds (m + 1) xs g (y ∷ gs)) ((h ++ p) ++ (hs ++ ps)) ((h ++ hs) ++ (p ++ ps))
+      (IsPermutation-append_right (h ++ p) (conds (m + 1) xs g (y ∷ gs)) (hs ++ ps) (conds_split (m + 1) xs g y gs)) (middle h p hs ps))
+    where
+      go : (t : Bool) → (if t then predicates_from c m v g (y ∷ gs) else []) ≡ (if t then from_cond m g y else []) ++ (if t then predicates_from c m v (g + 1) gs else [])
+      go true = predicates_split m g y gs
+      go false = refl
+
+  none_if : (t : Bool) (zs : List Tagged) → zs ≡ [] → (if t then zs else []) ≡ []
+  none_if true zs e = e
+  none_if false zs e = refl
+
+  none_from : (m : ℕ) (xs : List (Node ℕ)) (g : ℕ) (y : Node ℕ) → ((j : ℕ) → m ≤ j → from_cond j g y ≡ []) → from_conds m xs g y ≡ []
+  none_from m [] g y h = refl
+  none_from m (x ∷ xs) g y h = (λ i. none_if (D x) (from_cond m g y) (h m (omega arith)) i ++ none_from (m + 1) xs g y (λ j l. h j (omega (arith, l))) i)
+
+  one_from : (k m : ℕ) (xs : List (Node ℕ)) (g : ℕ) (y z : Node ℕ) → Follow b m xs → m ≤ k → k < m + length xs → node_at b k ≡ Some z → ((j : ℕ) → j ≢ k → from_cond j g y ≡ []) → from_conds m xs g y ≡ (if D z then from_cond k g y else [])
+  one_from k m [] g y z f l u e h = absurd (omega (arith, l, u))
+  one_from k m (x ∷ xs) g y z f l u e h = go (cases_lt m k) (λ a d. one_from k (m + 1) xs g y z (follow_more b m x xs f) a d e h)
+    where
+      go : (m < k) ⊎ (k ≤ m) → (m + 1 ≤ k → k < (m + 1) + length xs → from_conds (m + 1) xs g y ≡ (if D z then from_cond k g y else []))
+          → (if D x then from_cond m g y else []) ++ from_conds (m + 1) xs g y ≡ (if D z then from_cond k g y else [])
+      go (inl a) more = ap (λ zs. zs ++ from_conds (m + 1) xs g y) (none_if (D x) (from_cond m g y) (h m (λ q. omega (arith, q, a)))) ∙ more (omega (arith, a)) (omega (arith, u))
+      go (inr a) more =
+          let same : m ≡ k = omega (arith, l, a) in
+          let its : x ≡ z = same_some x z (sym (follow_here b m x xs f) ∙ ap (node_at b) same ∙ e) in
+          ap (λ zs. (if D x then from_cond m g y else []) ++ zs) (none_from (m + 1) xs g y (λ j d. h j (λ q. omega (arith, q, d, same))))
+          ∙ append-nil (if D x then from_cond m g y else []) ∙ (λ i. if D (its i) then from_cond (same i) g y else [])
+
+  first_port : (k : ℕ) (z : Node ℕ) → node_at b k ≡ Some z → z.kind ≡ Cond → (first_source z.sources).port ≡ 0
+  first_port k z e q = go z.sources (subst (λ i. Takes i (length z.sources)) q (fit.nodes k z e).takes) (fit.nodes k z e).earlier
+    where
+      go : (ss : List Source) → length ss ≡ 1 → All (ComesBefore b k) ss → (first_source ss).port ≡ 0
+      go [] l h = absurd (omega (arith, l))
+      go (s ∷ ss) l h = (All-head (ComesBefore b k) s ss h).first
+
+  -- a gate gets its predicate from its conditional alone
+  gate_from : (g : ℕ) (y : Node ℕ) (k : ℕ) (t : Bool) → node_at b g ≡ Some y → y.kind ≡ Enter → y.region ≡ Arm k t → from_conds b.inputs b.nodes g y ≡ G g Enter (Arm k t)
+  gate_from g y k t e q r =
+      let z = node_some b fit cond_kind k ((fit.nodes g y e).round k t r).1 in
+      let w = node_within b fit k z.0 z.1 in
+      let cond = cond_is b fit z.0.kind z.2 in
+      let enters : (j : ℕ) → from_cond j g y ≡ (if k == j then tagged c (AtNode g) Predicate v ∷ [] else []) = λ j. (λ i. if is_enter_of j (r i) (q i) then tagged c (AtNode g) Predicate v ∷ [] else []) in
+      let other : (j : ℕ) → j ≢ k → from_cond j g y ≡ [] = λ j ne. enters j ∙ ap (λ x. if x then tagged c (AtNode g) Predicate v ∷ [] else []) (ne_eqb k j (λ i. ne (sym i))) in
+      let its : from_cond k g y ≡ tagged c (AtNode g) Predicate v ∷ [] = enters k ∙ ap (λ x. if x then tagged c (AtNode g) Predicate v ∷ [] else []) (same_number k) in
+      let s : Source = first_source z.0.sources in
+      let port : s.port ≡ 0 = first_port k z.0 z.1 cond in
+      let decided : D z.0 ≡ (s.node == n) = ap (λ i. decides fl b fit c v there plain n i z.0.sources) cond in
+      let tested : same_side (leaves b n) (leaves b s.node) ≡ (s.node == n) = side_test fl b fit c v n s port ∙ ap (λ p. (s.node == n) && (p == 0)) port ∙ and_true (s.node == n) in
+      let predicate : predicate_of b k ≡ s = ap predicate_in z.1 in
+      one_from k b.inputs b.nodes g y z.0 (follow b fit) w.0 w.1 z.1 other
+      ∙ ap (λ zs. if D z.0 then zs else []) its
+      ∙ ap (λ x. if x then tagged c (AtNode g) Predicate v ∷ [] else []) (decided ∙ sym tested ∙ ap (λ p. same_side (leaves b n) (leaves b p.node)) (sym predicate))
+    where
+      and_true : (t : Bool) → (t && true) ≡ t
+      and_true true = refl
+      and_true false = refl
+
+  node_from : (g : ℕ) (y : Node ℕ) → node_at b g ≡ Some y → from_conds b.inputs b.nodes g y ≡ G g y.kind y.region
+  node_from g y e = go y.kind refl y.region refl
+    where
+      never : ((j : ℕ) → from_cond j g y ≡ []) → from_conds b.inputs b.nodes g y ≡ []
+      never h = none_from b.inputs b.nodes g y (λ j l. h j)
+
+      no_enter : (k : Kind ℕ) → y.kind ≡ k → ((j : ℕ) → is_enter_of j Root k ≡ false) → ((j i : ℕ) (t : Bool) → is_enter_of j (Arm i t) k ≡ false) → from_conds b.inputs b.nodes g y ≡ []
+      no_enter k q h a = never (λ j. ap (λ x. if x then tagged c (AtNode g) Predicate v ∷ [] else []) (ap (is_enter_of j y.region) q ∙ by_region j y.region))
+        where
+          by_region : (j : ℕ) (r : Region) → is_enter_of j r k ≡ false
+          by_region j Root = h j
+          by_region j (Arm i t) = a j i t
+
+      go : (k : Kind ℕ) → y.kind ≡ k → (r : Region) → y.region ≡ r → from_conds b.inputs b.nodes g y ≡ G g k r
+      go Enter q Root r = never (λ j. ap (λ x. if x then tagged c (AtNode g) Predicate v ∷ [] else []) (λ i. is_enter_of j (r i) (q i)))
+      go Enter q (Arm k t) r = gate_from g y k t e q r
+      go Cond q s r = no_enter Cond q (λ j. refl) (λ j i t. refl)
+      go (Merge x) q s r = no_enter (Merge x) q (λ j. refl) (λ j i t. refl)
+      go (Lit z) q s r = no_enter (Lit z) q (λ j. refl) (λ j i t. refl)
+      go (Apply1 op) q s r = no_enter (Apply1 op) q (λ j. refl) (λ j i t. refl)
+      go (Apply2 op) q s r = no_enter (Apply2 op) q (λ j. refl) (λ j i t. refl)
+      go (Fetch a) q s r = no_enter (Fetch a) q (λ j. refl) (λ j i t. refl)
+      go (Store a) q s r = no_enter (Store a) q (λ j. refl) (λ j i t. refl)
+      go (Call f) q s r = no_enter (Call f) q (λ j. refl) (λ j i t. refl)
+      go (StrictCall f) q s r = no_enter (StrictCall f) q (λ j. refl) (λ j i t. refl)
+      go (Loop f x) q s r = no_enter (Loop f x) q (λ j. refl) (λ j i t. refl)
+
+  exchange : (g : ℕ) (gs : List (Node ℕ)) → Follow b g gs → IsPermutation (conds b.inputs b.nodes g gs) (gates g gs)
+  exchange g [] f = IsPermutation-same (conds b.inputs b.nodes g []) [] (no_conds b.inputs b.nodes g)
+  exchange g (y ∷ gs) f =
+      let first = from_conds b.inputs b.nodes g y in
+      let rest = conds b.inputs b.nodes (g + 1) gs in
+      IsPermutation-trans (conds b.inputs b.nodes g (y ∷ gs)) (first ++ rest) (gates g (y ∷ gs)) (conds_split b.inputs b.nodes g y gs)
+      (subst (λ zs. IsPermutation (first ++ rest) (zs ++ gates (g + 1) gs)) (node_from g y (follow_here b g y gs f))
+      (IsPermutation-append_right first rest (gates (g + 1) gs) (exchange (g + 1) gs (follow_more b g y gs f))))
+
+  -- THE NODES, and all
+  nodes_told : IsPermutation (H (node_wires b b.inputs b.nodes)) (uses b.inputs b.nodes)
+  nodes_told =
+      let h = H (node_wires b b.inputs b.nodes) in
+      let d = conds b.inputs b.nodes b.inputs b.nodes in
+      let u = uses b.inputs b.nodes in
+      let g = gates b.inputs b.nodes in
+      permutation_cancel d h u
+      (IsPermutation-trans (d ++ h) (h ++ d) (d ++ u) (IsPermutation-append_comm d h)
+      (IsPermutation-trans (h ++ d) (u ++ g) (d ++ u) (rows b.inputs b.nodes (follow b fit))
+      (IsPermutation-trans (u ++ g) (u ++ d) (d ++ u) (IsPermutation-append_right u g d (IsPermutation-sym d g (exchange b.inputs b.nodes (follow b fit)))) (IsPermutation-append_comm u d))))
+
+  uses_are : (m : ℕ) (xs : List (Node ℕ)) → uses m xs ≡ settle fl b fit c v (made fl b fit c v (uses_at n 0 m xs))
+  uses_are m [] = refl
+  uses_are m (x ∷ xs) =
+      ap (λ zs. U m x.sources ++ zs) (uses_are (m + 1) xs)
+      ∙ sym (settle_both fl b fit c v (map (λ i. (AtNode m, Operand i)) (positions n 0 0 x.sources)) (uses_at n 0 (m + 1) xs))
+
+  pub all_told : IsPermutation (told_along fl c v (along b (leaves b n) (wires_in b))) (settled_sent fl c n 0 v)
+  all_told =
+      let nodes = H (node_wires b b.inputs b.nodes) in
+      let results = H (result_wires b 0 b.results) in
+      let after = flat_map (λ j. result_uses c b.inputs j) (positions n 0 0 b.results) in
+      let split : H (wires_in b) ≡ nodes ++ results = all_heard fl b fit c v (leaves b n) ∙ heard_both fl b fit c v (leaves b n) (node_wires b b.inputs b.nodes) (result_wires b 0 b.results) in
+      let last : results ≡ settle fl b fit c v (made fl b fit c v after) = results_heard fl b fit c v there plain n 0 b.results (b.inputs + length b.nodes) fit.results in
+      let meaning : settled_sent fl c n 0 v ≡ uses b.inputs b.nodes ++ results
+      = ap (λ o. settle fl b fit c v (sent_in o c n 0 v)) there ∙ settle_both fl b fit c v (uses_at n 0 b.inputs b.nodes) after ∙ ap (λ zs. zs ++ settle fl b fit c v (made fl b fit c v after)) (sym (uses_are b.inputs b.nodes)) ∙ ap (λ zs. uses b.inputs b.nodes ++ zs) (sym last) in
+      subst (λ zs. IsPermutation zs (settled_sent fl c n 0 v)) (sym split)
+      (subst (λ zs. IsPermutation (nodes ++ results) zs) (sym meaning) (IsPermutation-append_left results nodes (uses b.inputs b.nodes) nodes_told))

@@ -1,0 +1,4 @@
+pub mod Types
+pub mod Written
+pub mod Fit
+pub mod Halves
