@@ -23,6 +23,15 @@ pub enum Request {
     Mean { steps: u64 },
 }
 
+/// How the elements take turns.
+#[derive(Clone, Copy, Debug, PartialEq, Eq)]
+pub enum Mode {
+    /// One event after another, on one thread.
+    One,
+    /// In rounds, each element in a thread of its own.
+    Rounds,
+}
+
 /// How a graph is to be run.
 #[derive(Debug, Drop)]
 pub struct RunOptions {
@@ -31,8 +40,8 @@ pub struct RunOptions {
     pub frames: u64,
     /// Steps for each element.
     pub steps: u64,
-    /// Whether the mode's word is `one`.
-    pub mode_is_one: bool,
+    /// `None` where the mode's word is that of no mode.
+    pub mode: Option<Mode>,
 }
 
 /// Why there is nothing to do.
@@ -63,7 +72,9 @@ fn run_command<'a>(alloc: Global) -> Result<Command<'a>, AllocError> {
         .long("mode")
         .value_name("MODE")
         .default_value("one")
-        .help("one: the elements take their oldest tokens in turn");
+        .help(
+            "one: the elements take their oldest tokens in turn; rounds: each takes up to 64 in a thread of its own",
+        );
     Command::new(alloc, "run")
         .about("Compiles and runs a graph: its text on standard input, then its inputs, one a line")
         .arg(number(alloc, "elements", "1", "processing elements, 1 to 16"))?
@@ -105,13 +116,23 @@ fn program_command<'a>(alloc: Global) -> Result<Command<'a>, AllocError> {
         .subcommand(run_command(alloc)?)
 }
 
+fn mode_in(word: &str) -> Option<Mode> {
+    if word == "one" {
+        Some(Mode::One)
+    } else if word == "rounds" {
+        Some(Mode::Rounds)
+    } else {
+        None
+    }
+}
+
 fn request_in(matches: &ArgMatches<'_>) -> Option<Request> {
     match matches.subcommand() {
         Some(("run", run)) => Some(Request::Run(RunOptions {
             elements: run.get_one::<u64>("elements")?,
             frames: run.get_one::<u64>("frames")?,
             steps: run.get_one::<u64>("steps")?,
-            mode_is_one: run.get_str("mode")? == "one",
+            mode: mode_in(run.get_str("mode")?),
         })),
         Some(("check", _)) => Some(Request::Check),
         Some(("compile", _)) => Some(Request::Compile),
@@ -153,13 +174,20 @@ mod tests {
                 assert_eq!(rt; options.elements, 1);
                 assert_eq!(rt; options.frames, 21);
                 assert_eq!(rt; options.steps, 1_000_000);
-                assert!(rt; options.mode_is_one);
+                assert!(rt; options.mode == Some(Mode::One));
             }
             _ => assert!(rt; false, "run"),
         }
-        match parse(rt.alloc(), ["ets", "run", "--mode", "rounds"].as_slice()) {
-            Ok(Request::Run(options)) => assert!(rt; !options.mode_is_one),
-            _ => assert!(rt; false, "mode"),
+        for (word, mode) in [
+            ("one", Some(Mode::One)),
+            ("rounds", Some(Mode::Rounds)),
+            ("Rounds", None),
+            ("", None),
+        ] {
+            match parse(rt.alloc(), ["ets", "run", "--mode", word].as_slice()) {
+                Ok(Request::Run(options)) => assert!(rt; options.mode == mode, "{word}"),
+                _ => assert!(rt; false, "mode"),
+            }
         }
         assert!(rt;
             matches!(

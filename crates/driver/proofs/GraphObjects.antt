@@ -9,7 +9,6 @@ use Rattle.semantics.specs.Plan.{Plan}
 use Rattle.semantics.specs.Placed.{placed_blocks}
 use Rattle.semantics.specs.Bytes.{IsCode}
 use Rattle.semantics.specs.Cause.{HasBounds}
-use Rattle.semantics.specs.Faithful.{Faithful}
 use Rattle.semantics.specs.Orderly as Orderly
 use Rattle.slot_alloc.specs.Assigned.{IsAssigned}
 use Rattle.select.specs.declared.Version.{Version}
@@ -17,7 +16,8 @@ use Rattle.select.specs.Emitted.{version_number, code_of, emitted_block}
 use Rattle.select.specs.Emittable.{IsEmittable}
 use Rattle.schedule.specs.Setting.{inputs_in, inputs_of}
 use Rattle.composition.specs.Graphs.{plan_of}
-use Rattle.composition.proofs.AnyGraph.{plans_have_objects, plans_take_inputs, code_has_bounds, straight_code_is_faithful}
+use Rattle.composition.proofs.AnyGraph.{plans_have_objects, plans_take_inputs, code_has_bounds}
+use Rattle.law_whole.proofs.Conditionals.{conditional_graphs_keep_promises}
 use Rattle.driver.specs.Compiled.{IsCodeFor}
 
 -- THE INPUTS OF A BLOCK stay.
@@ -34,7 +34,6 @@ pub compiled : (g : Graph) → HasText g → WellFormed g → (slots : List (Lis
     → (c : Code) → c.program ≡ code_of version (plan_of g) slots → (IsEmittable (plan_of g) slots → IsCode (version_number version) c) → IsCodeFor g c
 compiled g text well slots assigned version same c e spelling =
     let p : Plan = plan_of g in
-    let F : Program → Type 0 = λ q. Faithful (flow_of g) q in
     let B : Program → Type 0 = λ q. HasBounds (flow_of g) q in
     let L : ℕ → Type 0 = λ n. IsCode n c in
     let I : Program → ℕ = λ q. inputs_of q in
@@ -48,5 +47,5 @@ compiled g text well slots assigned version same c e spelling =
       inputs = ap I e ∙ same_inputs (version_number version) slots p.program.blocks p.program.main assigned.good.all ∙ plans_take_inputs g text well;
       arrays = ap (λ (q : Program). q.arrays) e;
       bounds = subst B (sym e) (code_has_bounds g slots version assigned.good);
-      faithful = λ line. subst F (sym e) (straight_code_is_faithful g slots version record { text = text; well = well; line = line } assigned.good same);
+      promises = λ only. conditional_graphs_keep_promises g slots version text well only assigned.good same;
     }

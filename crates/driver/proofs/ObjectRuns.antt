@@ -18,11 +18,11 @@ pub elements_of : (p : Program) (width : ℕ) (c : Config) (inputs : List ℤ) (
 elements_of p width c inputs k o = ap (λ (g : Setting). g.elements) o.setting
 
 -- the report shows a run on these inputs
-shown_object : (bytes : List ℕ) (inputs : List ℤ) (c : Config) (listed : Bool) (r : Report) (o loaded : Opened) → loaded ≡ o → IsObject bytes o.version o.code
+shown_object : (bytes : List ℕ) (inputs : List ℤ) (c : Config) (listed may_stop : Bool) (r : Report) (o loaded : Opened) → loaded ≡ o → IsObject bytes o.version o.code
     → ((v : ℕ) (d : Code) → IsObject bytes v d → (o.version ≡ v) × (o.code ≡ d)) → (width : ℕ) (k : Kept) → Opens loaded.code.program width c inputs k
-    → Shows k.state.setting.program (size k.state.setting) inputs k.state.setting.steps listed false r → ShowsObject bytes inputs c listed r
-shown_object bytes inputs c listed r o loaded e object only width k opens shows =
-    let S : Setting → Type 0 = λ g. Shows g.program (size g) inputs g.steps listed false r in
+    → Shows k.state.setting.program (size k.state.setting) inputs k.state.setting.steps listed may_stop r → ShowsObject bytes inputs c listed may_stop r
+shown_object bytes inputs c listed may_stop r o loaded e object only width k opens shows =
+    let S : Setting → Type 0 = λ g. Shows g.program (size g) inputs g.steps listed may_stop r in
     let O : Opened → Type 0 = λ x. IsObject bytes x.version x.code in
     record {
       version = loaded.version;
@@ -35,19 +35,19 @@ shown_object bytes inputs c listed r o loaded e object only width k opens shows 
       shows = subst S opens.setting shows;
     }
 
-pub shows_object : (bytes : List ℕ) (inputs : List ℤ) (c : Config) (listed : Bool) (r : Report) (o loaded : Opened) → loaded ≡ o → IsObject bytes o.version o.code
+pub shows_object : (bytes : List ℕ) (inputs : List ℤ) (c : Config) (listed may_stop : Bool) (r : Report) (o loaded : Opened) → loaded ≡ o → IsObject bytes o.version o.code
     → ((v : ℕ) (d : Code) → IsObject bytes v d → (o.version ≡ v) × (o.code ≡ d)) → (width : ℕ) (k : Kept) → Opens loaded.code.program width c inputs k
-    → ((ins : List ℤ) → Began ins k.state k.events → Shows k.state.setting.program (size k.state.setting) ins k.state.setting.steps listed false r) → ShowsObject bytes inputs c listed r
-shows_object bytes inputs c listed r o loaded e object only width k opens shows =
-    shown_object bytes inputs c listed r o loaded e object only width k opens (shows inputs opens.began)
+    → ((ins : List ℤ) → Began ins k.state k.events → Shows k.state.setting.program (size k.state.setting) ins k.state.setting.steps listed may_stop r) → ShowsObject bytes inputs c listed may_stop r
+shows_object bytes inputs c listed may_stop r o loaded e object only width k opens shows =
+    shown_object bytes inputs c listed may_stop r o loaded e object only width k opens (shows inputs opens.began)
 
-pub shows_object_quietly : (bytes : List ℕ) (inputs : List ℤ) (c : Config) (listed : Bool) (r : Report) (o loaded : Opened) → loaded ≡ o → IsObject bytes o.version o.code
+pub shows_object_quietly : (bytes : List ℕ) (inputs : List ℤ) (c : Config) (listed may_stop : Bool) (r : Report) (o loaded : Opened) → loaded ≡ o → IsObject bytes o.version o.code
     → ((v : ℕ) (d : Code) → IsObject bytes v d → (o.version ≡ v) × (o.code ≡ d)) → (width : ℕ) (k : Kept) → Opens loaded.code.program width c inputs k
-    → ((ins : List ℤ) → Began ins k.state k.events → ShowsQuietly k.state.setting.program (size k.state.setting) ins k.state.setting.steps listed false r)
-    → Quietly (ShowsObject bytes inputs c listed) r
-shows_object_quietly bytes inputs c listed r o loaded e object only width k opens shows =
+    → ((ins : List ℤ) → Began ins k.state k.events → ShowsQuietly k.state.setting.program (size k.state.setting) ins k.state.setting.steps listed may_stop r)
+    → Quietly (ShowsObject bytes inputs c listed may_stop) r
+shows_object_quietly bytes inputs c listed may_stop r o loaded e object only width k opens shows =
     let q = shows inputs opens.began in
-    (q.unlisted, q.events, shown_object bytes inputs c listed (with_events r q.events) o loaded e object only width k opens q.shows)
+    (q.unlisted, q.events, shown_object bytes inputs c listed may_stop (with_events r q.events) o loaded e object only width k opens q.shows)
 
 -- ORDER. What is played from the start on is what the report tells.
 follows : (p : Program) (c : Config) (inputs : List ℤ) (listed : Bool) (picks : List (ℕ × ℕ)) (r : Report) (width : ℕ) (k : Kept) → Opens p width c inputs k → (last : Kept) (halt : Halt) (made : Events)

@@ -1,6 +1,6 @@
 -- What refuses an input, or what is made of it.
-use Rattle.std.proofs.Common.{◌≡◌, ℕ, ℤ, List, ◌++◌, length, true, false, inl, inr, Result, Ok, Err, refl, sym, ◌∙◌, subst}
-use Rattle.std.specs.Prelude.{Option, ⊤}
+use Rattle.std.proofs.Common.{◌≡◌, ℕ, ℤ, List, ◌++◌, length, Bool, false, inl, inr, Result, Ok, Err, refl, sym, ◌∙◌, subst}
+use Rattle.std.specs.Prelude.{Option, Some, None, ⊤}
 use Rattle.std.specs.Io.KnownBytes.{Appends}
 use Rattle.sink.specs.Sends.{Sends}
 use Rattle.tags.specs.declared.value.Value.{Value}
@@ -11,11 +11,12 @@ use Rattle.schedule.specs.declared.config.StartFault.{StartFault}
 use Rattle.oracle.specs.declared.report.MeanEnd.{MeanEnd}
 use Rattle.oracle.specs.declared.report.Full.{Full}
 use Rattle.oracle.specs.Reporting.{IsMeant}
+use Rattle.command_line.specs.declared.Mode.{Mode}
 use Rattle.command_line.specs.declared.RunOptions.{RunOptions}
 use Rattle.driver.specs.declared.fault.Fault.{Fault}
 use Rattle.driver.specs.declared.input.LinesFault.{LinesFault}
 use Rattle.driver.specs.declared.refusal.Refusal.{Refusal}
-use Rattle.driver.specs.Headline.{TellsQuietly}
+use Rattle.driver.specs.Headline.{TellsQuietly, stops_in}
 use Rattle.driver.specs.Input.{graph_length, integers_of, IsBadInput}
 use Rattle.driver.specs.Refused.{IsGoodText, IsReady, IsBadText, IsRefused, IsRefusedMeaning}
 use Rattle.driver.specs.Refusals.{told_as}
@@ -30,6 +31,11 @@ pub stopped : (E : Type 0) (e : E) (old new : Option (List ℕ)) (sent text : Li
 unfolding Sends
 stopped E e old new sent text status same h = (h.0, h.1, sym same ∙ h.2, h.3)
 
+-- no run is stopped by a gate that stops none
+pub never_stops : (mode : Mode) (may_stop : Bool) → may_stop ≡ false → stops_in mode may_stop ≡ false
+never_stops Mode.One may_stop never = refl
+never_stops Mode.Rounds may_stop never = never
+
 -- a line that is no integer
 pub bad_line_of : (lines : List ℕ) (f : LinesFault) (n : ℕ) → f ≡ LinesFault.BadLine n → IsBadInput lines f → integers_of lines ≡ Err n
 bad_line_of lines f n is bad = subst (λ (x : LinesFault). IsBadInput lines x) is bad
@@ -39,14 +45,15 @@ module _ (input text lines : List ℕ) (whole : text ++ lines ≡ input) (end : 
   parts = record { text = text; lines = lines; whole = whole; end = end }
 
   -- RUN
-  pub ran : (o : RunOptions) (g : Graph) (r : Report) (inputs : List ℤ) → integers_of lines ≡ Ok inputs → o.mode_is_one ≡ true → (c : Config) → c ≡ config_of o
-      → TellsQuietly text g inputs c r → IsRunOf input o g r
-  ran o g r inputs integers mode c same tells = record {
+  pub ran : (o : RunOptions) (g : Graph) (r : Report) (inputs : List ℤ) → integers_of lines ≡ Ok inputs → (mode : Mode) → o.mode ≡ Some mode → (c : Config) → c ≡ config_of o
+      → TellsQuietly text g inputs c false r → IsRunOf input o g r
+  ran o g r inputs integers mode named c same tells = record {
     parts = parts;
     inputs = inputs;
     integers = integers;
     mode = mode;
-    tells = subst (λ (d : Config). TellsQuietly text g inputs d r) same tells;
+    named = named;
+    tells = subst (λ (d : Config). TellsQuietly text g inputs d false r) same tells;
   }
 
   pub no_memory : (o : RunOptions) → IsNoRunOf input o Refusal.Memory
@@ -59,7 +66,7 @@ module _ (input text lines : List ℕ) (whole : text ++ lines ≡ input) (end : 
     why = inr (subst (λ (z : Result (List ℤ) ℕ). WhyNoRun z text o f) (sym integers) (inl (fault, subst (λ (d : Config). IsRefused text inputs d fault) same refused, told)));
   }
 
-  pub no_mode : (o : RunOptions) (inputs : List ℤ) → integers_of lines ≡ Ok inputs → (c : Config) → c ≡ config_of o → IsReady text inputs c → o.mode_is_one ≡ false
+  pub no_mode : (o : RunOptions) (inputs : List ℤ) → integers_of lines ≡ Ok inputs → (c : Config) → c ≡ config_of o → IsReady text inputs c → o.mode ≡ None
       → IsNoRunOf input o (Refusal.Start StartFault.BadConfig)
   no_mode o inputs integers c same ready mode = record {
     parts = parts;

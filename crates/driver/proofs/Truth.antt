@@ -1,5 +1,5 @@
 -- A report that shows a run of faithful code tells the truth about the graph.
-use Rattle.std.proofs.Common.{◌≡◌, ℕ, ◌+◌, ◌<◌, Bool, true, false, ℤ, List, length, Option, Some, None, sym, ◌∙◌, ap, subst, arith}
+use Rattle.std.proofs.Common.{◌≡◌, ℕ, ◌+◌, ◌<◌, Bool, true, false, ℤ, List, length, Option, Some, None, refl, sym, ◌∙◌, ap, subst, arith}
 use Rattle.std.specs.Prelude.{sum, take}
 use Rattle.tags.specs.declared.value.Value.{Value}
 use Rattle.semantics.specs.declared.report.End.{End}
@@ -15,7 +15,8 @@ use Rattle.semantics.specs.Report.{Report, IsPicture, HasEnd, Shows}
 use Rattle.schedule.specs.declared.config.Config.{Config}
 use Rattle.schedule.specs.Setting.{inputs_of as inputs_of_program}
 use Rattle.schedule.specs.Unlisted.{with_events}
-use Rattle.driver.specs.Headline.{ShowsMemory, ShowsObject, RunsObject, FollowsTurns, FollowsList, TellsMeaning, TellsOf, TellsTruth, TellsTruthListed, TellsQuietly, Quietly, size_of}
+use Rattle.driver.specs.Headline.{ShowsMemory, ShowsObject, RunsObject, FollowsTurns, FollowsList, TellsMeaning, TellsOf, TellsTruth, TellsTruthListed, TellsTruthIn, stops_in, TellsQuietly, Quietly, size_of}
+use Rattle.command_line.specs.declared.Mode.{Mode}
 use Rattle.driver.specs.Refused.{IsCompiled}
 
 -- a cell that is full has its value, and no other
@@ -37,24 +38,24 @@ shown p z m r s pic same = record {
   );
 }
 
-ends_at : (p : Program) (z : Size) (steps : ℕ) (listed : Bool) (events : Events) (m : Machine) (e d : End) → e ≡ d
-    → HasEnd p z steps listed false events m e → HasEnd p z steps listed false events m d
-ends_at p z steps listed events m e d eq h = let P : End → Type 0 = λ x. HasEnd p z steps listed false events m x in subst P eq h
+ends_at : (p : Program) (z : Size) (steps : ℕ) (listed may_stop : Bool) (events : Events) (m : Machine) (e d : End) → e ≡ d
+    → HasEnd p z steps listed may_stop events m e → HasEnd p z steps listed may_stop events m d
+ends_at p z steps listed may_stop events m e d eq h = let P : End → Type 0 = λ x. HasEnd p z steps listed may_stop events m x in subst P eq h
 
 never_both : (o : Option ℕ) (n : ℕ) → o ≡ None → o ≡ Some n → ⊥
 never_both o n a b = cc
 
-pub tells_meaning : (inputs : List ℤ) (z : Size) (steps : ℕ) (listed : Bool) (r : Report) (fl : Flow) (p : Program)
+pub tells_meaning : (inputs : List ℤ) (z : Size) (steps : ℕ) (listed may_stop : Bool) (r : Report) (fl : Flow) (p : Program)
     → length inputs ≡ inputs_of fl → 0 < z.elements → 0 < z.frames
-    → Faithful fl p → Shows p z inputs steps listed false r → TellsMeaning fl inputs p r
-tells_meaning inputs z steps listed r fl p fit elements frames faithful shows =
+    → Faithful fl p → Shows p z inputs steps listed may_stop r → TellsMeaning fl inputs p r
+tells_meaning inputs z steps listed may_stop r fl p fit elements frames faithful shows =
     let m : Machine = shows.last in
     let run : IsRun fl p inputs z r.events m = record { inputs_fit = fit; some_element = elements; some_frame = frames; run = shows.run } in
     let reached = faithful.reachable inputs z r.events m run in
     record {
       faithful = faithful;
       reached = (reached.0, reached.1, shown p z m r reached.0 shows.picture reached.2);
-      rest = λ e. let ended = ends_at p z steps listed r.events m r.end Rest e shows.ends in
+      rest = λ e. let ended = ends_at p z steps listed may_stop r.events m r.end Rest e shows.ends in
           let exact = faithful.exact inputs z r.events m run ended.0 ended.1 in
           record {
             state = exact.state;
@@ -64,22 +65,22 @@ tells_meaning inputs z steps listed r fl p fit elements frames faithful shows =
             leads = exact.only;
             no_clash = exact.no_clash;
           };
-      second_store = λ a i e. let ended = ends_at p z steps listed r.events m r.end (Clash a i) e shows.ends in
+      second_store = λ a i e. let ended = ends_at p z steps listed may_stop r.events m r.end (Clash a i) e shows.ends in
           let same : array_base p a + i ≡ first_cell fl a + i = ap (λ ls. sum (take a ls) + i) faithful.arrays in
           let P : ℕ → Type 0 = λ x. IsSecondStore fl inputs x in
           subst P same (faithful.second_store inputs z r.events m (array_base p a + i) run ended.2);
-      matching = λ n e. let ended = ends_at p z steps listed r.events m r.end (Stuck n) e shows.ends in
+      matching = λ n e. let ended = ends_at p z steps listed may_stop r.events m r.end (Stuck n) e shows.ends in
           never_both (stuck_rule p m.store ended.0.to ended.0.word) n (faithful.matching inputs z r.events m ended.0 run ended.1) ended.2;
     }
 
 -- A report of a run of the graph's object tells the truth: the object has one code.
-pub tells_truth : (text : List ℕ) (g : Graph) (bytes : List ℕ) (inputs : List ℤ) (c : Config) (listed : Bool) (r : Report)
-    → IsCompiled text g bytes → ShowsObject bytes inputs c listed r → TellsOf text g inputs (size_of c) c.steps listed r
-tells_truth text g bytes inputs c listed r compiled shown =
+pub tells_truth : (text : List ℕ) (g : Graph) (bytes : List ℕ) (inputs : List ℤ) (c : Config) (listed may_stop : Bool) (r : Report)
+    → IsCompiled text g bytes → ShowsObject bytes inputs c listed may_stop r → TellsOf text g inputs (size_of c) c.steps listed may_stop r
+tells_truth text g bytes inputs c listed may_stop r compiled shown =
     let made = compiled.object.made in
     let code : Code = compiled.object.code in
     let same : shown.code ≡ code = shown.only g.version code compiled.object.object in
-    let S : Code → Type 0 = λ x. Shows x.program (size_of c) inputs c.steps listed false r in
+    let S : Code → Type 0 = λ x. Shows x.program (size_of c) inputs c.steps listed may_stop r in
     let F : Code → Type 0 = λ x. length inputs ≡ inputs_of_program x.program in
     let fit : length inputs ≡ inputs_of (flow_of g) = subst F same shown.inputs_fit ∙ made.inputs in
     let shows = subst S same shown.shows in
@@ -92,29 +93,37 @@ tells_truth text g bytes inputs c listed r compiled shown =
       code = code;
       made = made;
       shows = shows;
-      straight = λ line. tells_meaning inputs (size_of c) c.steps listed r (flow_of g) code.program fit some_element shown.some_frame (made.faithful line) shows;
+      tells = λ only.
+          let P : Program → Type 0 = λ q. Faithful (flow_of g) q in
+          tells_meaning inputs (size_of c) c.steps listed may_stop r (flow_of g) code.program fit some_element shown.some_frame (subst P (sym made.program) (made.promises only).faithful) shows;
     }
 
 -- So does a report that lists no events.
-pub tells_quietly : (text : List ℕ) (g : Graph) (bytes : List ℕ) (inputs : List ℤ) (c : Config) (r : Report)
-    → IsCompiled text g bytes → Quietly (ShowsObject bytes inputs c false) r → TellsQuietly text g inputs c r
-tells_quietly text g bytes inputs c r compiled shown =
-    ((shown.2).good, (shown.2).some_frame, (shown.0, shown.1, tells_truth text g bytes inputs c false (with_events r shown.1) compiled shown.2))
+pub tells_quietly : (text : List ℕ) (g : Graph) (bytes : List ℕ) (inputs : List ℤ) (c : Config) (may_stop : Bool) (r : Report)
+    → IsCompiled text g bytes → Quietly (ShowsObject bytes inputs c false may_stop) r → TellsQuietly text g inputs c may_stop r
+tells_quietly text g bytes inputs c may_stop r compiled shown =
+    ((shown.2).good, (shown.2).some_frame, (shown.0, shown.1, tells_truth text g bytes inputs c false may_stop (with_events r shown.1) compiled shown.2))
 
 -- The order of a run of the object's code is that of a run of the graph's code.
-ordered : (text : List ℕ) (g : Graph) (bytes : List ℕ) (inputs : List ℤ) (c : Config) (listed : Bool) (r : Report) (Ordered : Program → Config → List ℤ → Report → Type 0)
-    → (compiled : IsCompiled text g bytes) → ShowsObject bytes inputs c listed r → RunsObject bytes inputs c Ordered r → Ordered compiled.object.code.program c inputs r
-ordered text g bytes inputs c listed r Ordered compiled shown runs =
+ordered : (text : List ℕ) (g : Graph) (bytes : List ℕ) (inputs : List ℤ) (c : Config) (listed may_stop : Bool) (r : Report) (Ordered : Program → Config → List ℤ → Report → Type 0)
+    → (compiled : IsCompiled text g bytes) → ShowsObject bytes inputs c listed may_stop r → RunsObject bytes inputs c Ordered r → Ordered compiled.object.code.program c inputs r
+ordered text g bytes inputs c listed may_stop r Ordered compiled shown runs =
     let O : Code → Type 0 = λ x. Ordered x.program c inputs r in
     subst O (sym (shown.only runs.version runs.code runs.object) ∙ shown.only g.version compiled.object.code compiled.object.object) runs.ordered
 
 pub tells_in_turn : (text : List ℕ) (g : Graph) (bytes : List ℕ) (inputs : List ℤ) (c : Config) (r : Report)
-    → IsCompiled text g bytes → ShowsObject bytes inputs c false r → RunsObject bytes inputs c FollowsTurns r → TellsTruth text g inputs c r
+    → IsCompiled text g bytes → ShowsObject bytes inputs c false false r → RunsObject bytes inputs c FollowsTurns r → TellsTruth text g inputs c r
 unfolding tells_truth
-tells_in_turn text g bytes inputs c r compiled shown runs = (tells_truth text g bytes inputs c false r compiled shown, ordered text g bytes inputs c false r FollowsTurns compiled shown runs)
+tells_in_turn text g bytes inputs c r compiled shown runs = (tells_truth text g bytes inputs c false false r compiled shown, ordered text g bytes inputs c false false r FollowsTurns compiled shown runs)
 
 pub tells_listed : (text : List ℕ) (g : Graph) (bytes : List ℕ) (inputs : List ℤ) (c : Config) (picks : List (ℕ × ℕ)) (r : Report)
-    → IsCompiled text g bytes → ShowsObject bytes inputs c true r → RunsObject bytes inputs c (FollowsList picks) r → TellsTruthListed text g inputs c picks r
+    → IsCompiled text g bytes → ShowsObject bytes inputs c true false r → RunsObject bytes inputs c (FollowsList picks) r → TellsTruthListed text g inputs c picks r
 unfolding tells_truth
 tells_listed text g bytes inputs c picks r compiled shown runs =
-    (tells_truth text g bytes inputs c true r compiled shown, ordered text g bytes inputs c true r (FollowsList picks) compiled shown runs)
+    (tells_truth text g bytes inputs c true false r compiled shown, ordered text g bytes inputs c true false r (FollowsList picks) compiled shown runs)
+
+-- In each mode: only where the elements take turns on one thread is the order known.
+pub tells_in : (mode : Mode) (text : List ℕ) (g : Graph) (bytes : List ℕ) (inputs : List ℤ) (c : Config) (may_stop : Bool) (r : Report)
+    → IsCompiled text g bytes → ShowsObject bytes inputs c false (stops_in mode may_stop) r → (mode ≡ Mode.One → RunsObject bytes inputs c FollowsTurns r) → TellsTruthIn mode text g inputs c may_stop r
+tells_in Mode.One text g bytes inputs c may_stop r compiled shown runs = tells_in_turn text g bytes inputs c r compiled shown (runs refl)
+tells_in Mode.Rounds text g bytes inputs c may_stop r compiled shown runs = tells_truth text g bytes inputs c false may_stop r compiled shown

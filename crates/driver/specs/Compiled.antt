@@ -4,8 +4,10 @@ use Rattle.semantics.specs.Graph.{Graph, flow_of}
 use Rattle.semantics.specs.Program.{Code}
 use Rattle.semantics.specs.Bytes.{IsCode, IsObject}
 use Rattle.semantics.specs.Cause.{HasBounds}
-use Rattle.semantics.specs.Faithful.{Faithful, inputs_of}
-use Rattle.lowering.specs.Theorem.{IsStraightLine}
+use Rattle.semantics.specs.Faithful.{inputs_of}
+use Rattle.law_contexts.specs.Theorem.{HasOnly}
+use Rattle.law_graphs.specs.Graphs.{KeepsPromises}
+use Rattle.law_whole.specs.Whole.{conditionals}
 use Rattle.slot_alloc.specs.Assigned.{IsAssigned, IsFirstCrowded}
 use Rattle.select.specs.declared.Version.{Version}
 use Rattle.select.specs.Emitted.{version_number, code_of}
@@ -15,7 +17,8 @@ use Rattle.composition.specs.Graphs.{plan_of}
 use Rattle.driver.specs.declared.fault.Fault.{Fault}
 
 -- The code is the plan's with slots, each the least that is open to its holder. It has an object in the version of the
--- graph's text, main's inputs, the graph's arrays, and the bounds of its loops; and if the graph is straight, it is faithful to the graph.
+-- graph's text, main's inputs, the graph's arrays, and the bounds of its loops; and if the graph has no call,
+-- loop or array, it is faithful to the graph, and uses frames and slots again as is promised.
 pub record IsCodeFor (g : Graph) (code : Code) : Type 0 where
   pub slots : List (List ℕ)
   pub assigned : IsAssigned (plan_of g) slots
@@ -26,7 +29,7 @@ pub record IsCodeFor (g : Graph) (code : Code) : Type 0 where
   pub inputs : inputs_in_code code.program ≡ inputs_of (flow_of g)
   pub arrays : code.program.arrays ≡ (flow_of g).arrays
   pub bounds : HasBounds (flow_of g) code.program
-  pub faithful : IsStraightLine g → Faithful (flow_of g) code.program
+  pub promises : HasOnly conditionals (flow_of g) → KeepsPromises g slots version
 
 -- the bytes are the one object of that code
 pub record IsObjectOf (g : Graph) (bytes : List ℕ) : Type 0 where

@@ -12,7 +12,8 @@ use Rattle.semantics.specs.Bytes.{IsObject}
 use Rattle.semantics.specs.Machine.{Size, Events}
 use Rattle.semantics.specs.Faithful.{Faithful, IsSecondStore, inputs_of}
 use Rattle.semantics.specs.Report.{Report, Shows}
-use Rattle.lowering.specs.Theorem.{IsStraightLine}
+use Rattle.law_contexts.specs.Theorem.{HasOnly}
+use Rattle.law_whole.specs.Whole.{conditionals}
 use Rattle.schedule.specs.declared.config.Config.{Config}
 use Rattle.schedule.specs.declared.halt.Halt.{Halt}
 use Rattle.schedule.specs.Setting.{inputs_of as inputs_in_code}
@@ -20,6 +21,7 @@ use Rattle.schedule.specs.Starts.{IsGood, Opens}
 use Rattle.schedule.specs.Runs.{Kept, Plays, rounds_of}
 use Rattle.schedule.specs.Told.{IsReportOf}
 use Rattle.schedule.specs.Unlisted.{with_events}
+use Rattle.command_line.specs.declared.Mode.{Mode}
 use Rattle.driver.specs.Compiled.{IsCodeFor}
 
 -- The report's outputs and full cells are just those of a memory of the meaning.
@@ -49,16 +51,16 @@ pub record TellsMeaning (fl : Flow) (inputs : List ℤ) (p : Program) (r : Repor
   -- no token meets a case that its rule excludes
   pub matching : (n : ℕ) → r.end ≡ Stuck n → ⊥
 
--- The report is of a run of the compiler's code for the graph that the text has; and if the graph is straight, it tells of
--- the meaning. `listed`: the order of the run was a list.
-pub record TellsOf (text : List ℕ) (g : Graph) (inputs : List ℤ) (z : Size) (steps : ℕ) (listed : Bool) (r : Report) : Type 0 where
+-- The report is of a run of the compiler's code for the graph that the text has; and if the graph has no call, loop or array,
+-- it tells of the meaning. `listed`: the order of the run was a list. `may_stop`: a gate may have stopped it.
+pub record TellsOf (text : List ℕ) (g : Graph) (inputs : List ℤ) (z : Size) (steps : ℕ) (listed may_stop : Bool) (r : Report) : Type 0 where
   pub is_text : IsText text g
   pub well_formed : WellFormed g
   pub inputs_fit : length inputs ≡ inputs_of (flow_of g)
   pub code : Code
   pub made : IsCodeFor g code
-  pub shows : Shows code.program z inputs steps listed false r
-  pub straight : IsStraightLine g → TellsMeaning (flow_of g) inputs code.program r
+  pub shows : Shows code.program z inputs steps listed may_stop r
+  pub tells : HasOnly conditionals (flow_of g) → TellsMeaning (flow_of g) inputs code.program r
 
 -- so many elements, each with so many frames
 abbrev pub size_of : Config → Size
@@ -88,14 +90,28 @@ FollowsList picks p c inputs r = Follows p c inputs true picks r
 
 -- THE HEADLINE, of a run in which each element in turn takes its oldest token
 abbrev pub TellsTruth : List ℕ → Graph → List ℤ → Config → Report → Type 0
-TellsTruth text g inputs c r = (tells : TellsOf text g inputs (size_of c) c.steps false r) × FollowsTurns tells.code.program c inputs r
+TellsTruth text g inputs c r = (tells : TellsOf text g inputs (size_of c) c.steps false false r) × FollowsTurns tells.code.program c inputs r
 
 -- and of a run in the order of a list of elements and picks
 abbrev pub TellsTruthListed : List ℕ → Graph → List ℤ → Config → List (ℕ × ℕ) → Report → Type 0
-TellsTruthListed text g inputs c picks r = (tells : TellsOf text g inputs (size_of c) c.steps true r) × FollowsList picks tells.code.program c inputs r
+TellsTruthListed text g inputs c picks r = (tells : TellsOf text g inputs (size_of c) c.steps true false r) × FollowsList picks tells.code.program c inputs r
+
+-- and of a run in rounds, in which each element asks a gate
+abbrev pub TellsTruthInRounds : List ℕ → Graph → List ℤ → Config → Bool → Report → Type 0
+TellsTruthInRounds text g inputs c may_stop r = TellsOf text g inputs (size_of c) c.steps false may_stop r
+
+-- in each mode
+abbrev pub TellsTruthIn : Mode → List ℕ → Graph → List ℤ → Config → Bool → Report → Type 0
+TellsTruthIn Mode.One text g inputs c may_stop r = TellsTruth text g inputs c r
+TellsTruthIn Mode.Rounds text g inputs c may_stop r = TellsTruthInRounds text g inputs c may_stop r
+
+-- only rounds ask the gate
+abbrev pub stops_in : Mode → Bool → Bool
+stops_in Mode.One may_stop = false
+stops_in Mode.Rounds may_stop = may_stop
 
 -- OBJECTS. The bytes are an object, and the report is of a run of its code.
-pub record ShowsObject (bytes : List ℕ) (inputs : List ℤ) (c : Config) (listed : Bool) (r : Report) : Type 0 where
+pub record ShowsObject (bytes : List ℕ) (inputs : List ℤ) (c : Config) (listed may_stop : Bool) (r : Report) : Type 0 where
   pub version : ℕ
   pub code : Code
   pub object : IsObject bytes version code
@@ -105,7 +121,7 @@ pub record ShowsObject (bytes : List ℕ) (inputs : List ℤ) (c : Config) (list
   -- the configuration is one that the machine takes
   pub good : IsGood c
   pub some_frame : 0 < c.frames
-  pub shows : Shows code.program (size_of c) inputs c.steps listed false r
+  pub shows : Shows code.program (size_of c) inputs c.steps listed may_stop r
 
 -- The order of the run of the object's code is as that says.
 pub record RunsObject (bytes : List ℕ) (inputs : List ℤ) (c : Config) (Ordered : Program → Config → List ℤ → Report → Type 0) (r : Report) : Type 0 where
@@ -118,5 +134,5 @@ pub record RunsObject (bytes : List ℕ) (inputs : List ℤ) (c : Config) (Order
 abbrev pub Quietly : (Report → Type 0) → Report → Type 0
 Quietly Tells r = (r.events ≡ []) × (events : Events) × Tells (with_events r events)
 
-abbrev pub TellsQuietly : List ℕ → Graph → List ℤ → Config → Report → Type 0
-TellsQuietly text g inputs c r = IsGood c × (0 < c.frames) × Quietly (TellsOf text g inputs (size_of c) c.steps false) r
+abbrev pub TellsQuietly : List ℕ → Graph → List ℤ → Config → Bool → Report → Type 0
+TellsQuietly text g inputs c may_stop r = IsGood c × (0 < c.frames) × Quietly (TellsOf text g inputs (size_of c) c.steps false may_stop) r

@@ -1,5 +1,5 @@
 -- What the commands print, and the status of their exit.
-use Rattle.std.specs.Prelude.{◌≡◌, ℕ, ℤ, true, false, ◌⊎◌, List, ◌++◌, length, Option, Some, None, Result, Ok, Err, IfSome, codes}
+use Rattle.std.specs.Prelude.{◌≡◌, ℕ, ℤ, false, ◌⊎◌, List, ◌++◌, length, Option, Some, None, Result, Ok, Err, IfSome, codes}
 use Rattle.std.specs.Io.KnownBytes.{Appends}
 use Rattle.tags.specs.declared.value.Value.{Value}
 use Rattle.semantics.specs.Graph.{Graph}
@@ -13,6 +13,7 @@ use Rattle.oracle.specs.Reporting.{IsMeant}
 use Rattle.object_view.specs.Checks.{first_refusal}
 use Rattle.object_view.specs.declared.fault.ObjectFault.{ObjectFault}
 use Rattle.report_text.specs.ReportText.{report_text, meaning_text}
+use Rattle.command_line.specs.declared.Mode.{Mode}
 use Rattle.command_line.specs.declared.Request.{Request}
 use Rattle.command_line.specs.declared.RunOptions.{RunOptions}
 use Rattle.driver.specs.declared.fault.Fault.{Fault}
@@ -54,8 +55,9 @@ pub record IsRunOf (input : List ℕ) (o : RunOptions) (g : Graph) (r : Report) 
   pub parts : Parts input
   pub inputs : List ℤ
   pub integers : integers_of parts.lines ≡ Ok inputs
-  pub mode : o.mode_is_one ≡ true
-  pub tells : TellsQuietly parts.text g inputs (config_of o) r
+  pub mode : Mode
+  pub named : o.mode ≡ Some mode
+  pub tells : TellsQuietly parts.text g inputs (config_of o) false r
 
 -- Why there is none: the first cause in the order of the work. A line that is no integer is told of a graph that has an
 -- object, and a mode that is not there where a run is ready.
@@ -63,7 +65,7 @@ abbrev pub IsRefusedLine : List ℕ → ℕ → Refusal → Type 0
 IsRefusedLine text n f = IsTold (IsRefusedText text) f ⊎ (((g : Graph) × (bytes : List ℕ) × IsCompiled text g bytes) × (f ≡ Refusal.InputLine n))
 
 abbrev pub WhyNoRun : Result (List ℤ) ℕ → List ℕ → RunOptions → Refusal → Type 0
-WhyNoRun (Ok inputs) text o f = IsTold (IsRefused text inputs (config_of o)) f ⊎ (IsReady text inputs (config_of o) × (o.mode_is_one ≡ false) × (f ≡ Refusal.Start StartFault.BadConfig))
+WhyNoRun (Ok inputs) text o f = IsTold (IsRefused text inputs (config_of o)) f ⊎ (IsReady text inputs (config_of o) × (o.mode ≡ None) × (f ≡ Refusal.Start StartFault.BadConfig))
 WhyNoRun (Err n) text o f = IsRefusedLine text n f
 
 pub record IsNoRunOf (input : List ℕ) (o : RunOptions) (f : Refusal) : Type 0 where

@@ -3,17 +3,23 @@
 ghost use Rattle.std.specs.Prelude.{◌≡◌, ◌<◌, All, IfOk, MatchResult, true, false};
 ghost use Rattle.semantics.specs.Graph as Graphs;
 ghost use Rattle.driver.specs.Refused.{IsCompiled, refusal_of, IsReady, IsRefused, IsRefusedObject};
-ghost use Rattle.driver.specs.Headline.{TellsTruth, TellsTruthListed, TellsQuietly, ShowsObject, RunsObject, FollowsTurns, FollowsList, Quietly};
+ghost use Rattle.command_line.specs.declared.Mode.{Mode};
+ghost use Rattle.driver.specs.Headline.{TellsTruthIn, TellsTruthListed, TellsQuietly, stops_in, ShowsObject, RunsObject, FollowsTurns, FollowsList, Quietly};
 
 use crate::compiling::{Compiled, compile};
 use crate::fault::Fault;
+use crate::modes::{run_in, run_quietly_in};
+use command_line::Mode;
 use graph_check::Checked;
 use loaded::Loaded;
 use object_view::Object;
+use rounds::Gate;
 use schedule::config::{Config, StartFault};
 use schedule::machine::Machine;
 use schedule::report::Report;
 use std::alloc::{AllocError, Allocator};
+use std::sync::Wait;
+use std::thread::Threads;
 
 /// A run of the graph that the text has.
 #[derive(Drop)]
@@ -43,15 +49,19 @@ fn load<'a, A: Allocator + Clone>(
     Loaded::new(alloc.clone()?, object)
 }
 
-/// The report of a run of the object that the bytes are: each element in turn takes its oldest token.
-pub fn emulate_object<A: Allocator + Clone>(
+/// The report of a run of the object that the bytes are, in that mode. In the mode `One` each element in turn takes its
+/// oldest token.
+pub fn emulate_object<R: Threads + Wait + Sync, A: Allocator + Clone + Send + Sync, G: Gate + Sync>(
     alloc: A,
     bytes: &[u8],
     inputs: &[i64],
     config: Config,
+    mode: Mode,
+    rt: &R,
+    gate: &G,
 ) -> Result<Report<A>, Fault>
-    ensures shows { MatchResult result (ShowsObject bytes.now inputs.now config false) (IsRefusedObject bytes.now inputs.now config) }
-    ensures turns { IfOk result (RunsObject bytes.now inputs.now config FollowsTurns) }
+    ensures shows { MatchResult result (ShowsObject bytes.now inputs.now config false (stops_in mode G.may_stop)) (IsRefusedObject bytes.now inputs.now config) }
+    ensures turns { mode ≡ Mode.One → IfOk result (RunsObject bytes.now inputs.now config FollowsTurns) }
 {
     let object = match Object::open(bytes) {
         Ok(object) => object,
@@ -62,19 +72,26 @@ pub fn emulate_object<A: Allocator + Clone>(
     };
     let mut store = None;
     match Machine::start(alloc, &mut store, &code, inputs, config) {
-        Ok(machine) => Ok(machine.run_one()),
+        Ok(machine) => Ok(run_in(machine, mode, rt, gate)),
         Err(fault) => Err(start_refusal(fault)),
     }
 }
 
 /// As `emulate_object`, but the report lists no events: a long run takes no more memory than a short one.
-pub fn emulate_object_quietly<A: Allocator + Clone>(
+pub fn emulate_object_quietly<
+    R: Threads + Wait + Sync,
+    A: Allocator + Clone + Send + Sync,
+    G: Gate + Sync,
+>(
     alloc: A,
     bytes: &[u8],
     inputs: &[i64],
     config: Config,
+    mode: Mode,
+    rt: &R,
+    gate: &G,
 ) -> Result<Report<A>, Fault>
-    ensures { MatchResult result (Quietly (ShowsObject bytes.now inputs.now config false)) (IsRefusedObject bytes.now inputs.now config) }
+    ensures { MatchResult result (Quietly (ShowsObject bytes.now inputs.now config false (stops_in mode G.may_stop))) (IsRefusedObject bytes.now inputs.now config) }
 {
     let object = match Object::open(bytes) {
         Ok(object) => object,
@@ -85,7 +102,7 @@ pub fn emulate_object_quietly<A: Allocator + Clone>(
     };
     let mut store = None;
     match Machine::start(alloc, &mut store, &code, inputs, config) {
-        Ok(machine) => Ok(machine.run_quietly()),
+        Ok(machine) => Ok(run_quietly_in(machine, mode, rt, gate)),
         Err(fault) => Err(start_refusal(fault)),
     }
 }
@@ -100,7 +117,7 @@ pub fn emulate_object_picks<A: Allocator + Clone>(
     picks: &[(u32, u64)],
 ) -> Result<Report<A>, Fault>
     requires { All (λ pick. pick.0 < config.elements) picks.now }
-    ensures shows { MatchResult result (ShowsObject bytes.now inputs.now config true) (IsRefusedObject bytes.now inputs.now config) }
+    ensures shows { MatchResult result (ShowsObject bytes.now inputs.now config true false) (IsRefusedObject bytes.now inputs.now config) }
     ensures list { IfOk result (RunsObject bytes.now inputs.now config (FollowsList picks.now)) }
 {
     let object = match Object::open(bytes) {
@@ -147,15 +164,18 @@ pub fn start_text<A: Allocator + Clone>(
     }
 }
 
-/// Runs the graph that the text has, each element in turn taking its oldest token. Gives the graph with a report that lists
-/// no events: a long run takes no more memory than a short one.
-pub fn run_text<'a, A: Allocator + Clone>(
+/// Runs the graph that the text has, in that mode. Gives the graph with a report that lists no events: a long run takes no
+/// more memory than a short one.
+pub fn run_text<'a, R: Threads + Wait + Sync, A: Allocator + Clone + Send + Sync, G: Gate + Sync>(
     alloc: A,
     text: &'a [u8],
     inputs: &[i64],
     config: Config,
+    mode: Mode,
+    rt: &R,
+    gate: &G,
 ) -> Result<Emulated<'a, A>, Fault>
-    ensures { MatchResult result (λ e. TellsQuietly text.now e.checked inputs.now config e.report) (IsRefused text.now inputs.now config) }
+    ensures { MatchResult result (λ e. TellsQuietly text.now e.checked inputs.now config (stops_in mode G.may_stop) e.report) (IsRefused text.now inputs.now config) }
 {
     let Ok(room) = alloc.clone() else {
         return Err(Fault::Memory);
@@ -164,20 +184,24 @@ pub fn run_text<'a, A: Allocator + Clone>(
         Ok(compiled) => compiled,
         Err(fault) => return Err(fault),
     };
-    match emulate_object_quietly(alloc, &object, inputs, config) {
+    match emulate_object_quietly(alloc, &object, inputs, config, mode, rt, gate) {
         Ok(report) => Ok(Emulated { checked, report }),
         Err(fault) => Err(fault),
     }
 }
 
-/// The report of a run of the graph that the text has, each element in turn taking its oldest token.
-pub fn emulate<A: Allocator + Clone>(
+/// The report of a run of the graph that the text has, in that mode. In the mode `One` each element in turn takes its oldest
+/// token.
+pub fn emulate<R: Threads + Wait + Sync, A: Allocator + Clone + Send + Sync, G: Gate + Sync>(
     alloc: A,
     text: &[u8],
     inputs: &[i64],
     config: Config,
+    mode: Mode,
+    rt: &R,
+    gate: &G,
 ) -> Result<Report<A>, Fault>
-    ensures { MatchResult result (λ report. (g : Graphs.Graph) × TellsTruth text.now g inputs.now config report) (IsRefused text.now inputs.now config) }
+    ensures { MatchResult result (λ report. (g : Graphs.Graph) × TellsTruthIn mode text.now g inputs.now config G.may_stop report) (IsRefused text.now inputs.now config) }
 {
     let Ok(room) = alloc.clone() else {
         return Err(Fault::Memory);
@@ -186,7 +210,7 @@ pub fn emulate<A: Allocator + Clone>(
         Ok(compiled) => compiled,
         Err(fault) => return Err(fault),
     };
-    match emulate_object(alloc, &compiled.object, inputs, config) {
+    match emulate_object(alloc, &compiled.object, inputs, config, mode, rt, gate) {
         Ok(report) => Ok(report),
         Err(fault) => Err(fault),
     }

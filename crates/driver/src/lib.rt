@@ -7,6 +7,7 @@ pub mod emulation;
 pub mod fault;
 pub mod input;
 pub mod meaning;
+pub mod modes;
 pub mod objects;
 pub mod refusal;
 pub mod refusal_text;

@@ -1,6 +1,6 @@
 //! The program over a reader and a writer.
 
-ghost use Rattle.std.specs.Prelude.{◌≡◌, MatchResult};
+ghost use Rattle.std.specs.Prelude.{◌≡◌, MatchResult, false};
 ghost use Rattle.driver.specs.Disassembled.{listing_of, upgrade_of};
 ghost use Rattle.driver.specs.Served.{config_of, IsRefusedLine, IsRunOf, IsNoRunOf, IsMeaningOf, IsNoMeaningOf, Refuses, PrintsRun, PrintsMeaning, PrintsCheck, PrintsObject, PrintsOf, Answers, ServesRequest};
 
@@ -14,11 +14,14 @@ use crate::refusal_text::write_refusal;
 use crate::status::{status_of, status_of_meaning};
 use command_line::{Request, RunOptions, parse};
 use report_text::{write_meaning, write_report};
+use rounds::Gate;
 use schedule::config::{Config, StartFault};
 use sink::send;
 use std::alloc::{Allocator, Global};
 use std::convert::AsStr;
 use std::io::{self, Read, Write};
+use std::sync::Wait;
+use std::thread::Threads;
 
 /// The exit status of a refusal, of a fault of the command line and of a failed write.
 const REFUSED: u8 = 1;
@@ -50,11 +53,14 @@ fn line_refusal<A: Allocator + Clone>(alloc: A, text: &[u8], line: u64) -> Refus
 
 /// Runs the graph of the input on the integers after it. Refusals come in the order of the work; a mode that is not there
 /// is looked for last.
-fn run_input<'a, A: Allocator + Clone>(
+fn run_input<'a, R: Threads + Wait + Sync, A: Allocator + Clone + Send + Sync, G: Gate + Sync>(
     alloc: A,
     input: &'a [u8],
     options: &RunOptions,
+    rt: &R,
+    gate: &G,
 ) -> Result<Emulated<'a, A>, Refusal>
+    requires { G.may_stop ≡ false }
     ensures { MatchResult result (λ e. IsRunOf input.now options.now e.checked e.report) (IsNoRunOf input.now options.now) }
 {
     let (text, lines) = split_at_main(input);
@@ -67,16 +73,15 @@ fn run_input<'a, A: Allocator + Clone>(
         Err(LinesFault::BadLine(line)) => return Err(line_refusal(alloc, text, line)),
     };
     let config = config_of(options);
-    if options.mode_is_one {
-        match run_text(alloc, text, &integers, config) {
+    match options.mode {
+        Some(mode) => match run_text(alloc, text, &integers, config, mode, rt, gate) {
             Ok(emulated) => Ok(emulated),
             Err(fault) => Err(Refusal::from(fault)),
-        }
-    } else {
-        match start_text(alloc, text, &integers, config) {
+        },
+        None => match start_text(alloc, text, &integers, config) {
             Ok(()) => Err(Refusal::Start(StartFault::BadConfig)),
             Err(fault) => Err(Refusal::from(fault)),
-        }
+        },
     }
 }
 
@@ -91,15 +96,16 @@ fn refuse<W: Write>(writer: &mut W, refusal: &Refusal) -> io::Result<u8>
 }
 
 /// Runs the graph of the input on the integers after it, and prints the report, or why there is none. Gives the exit status.
-pub fn print_run<A: Allocator + Clone, W: Write>(
-    alloc: A,
-    input: &[u8],
-    options: &RunOptions,
-    writer: &mut W,
-) -> io::Result<u8>
+pub fn print_run<
+    R: Threads + Wait + Sync,
+    A: Allocator + Clone + Send + Sync,
+    G: Gate + Sync,
+    W: Write,
+>(alloc: A, input: &[u8], options: &RunOptions, writer: &mut W, rt: &R, gate: &G) -> io::Result<u8>
+    requires { G.may_stop ≡ false }
     ensures { PrintsRun result (W.contents writer.old) (W.contents writer.new) input.now options.now }
 {
-    match run_input(alloc, input, options) {
+    match run_input(alloc, input, options, rt, gate) {
         Ok(emulated) => match write_report(writer, emulated.checked.graph(), &emulated.report) {
             Ok(()) => Ok(status_of(emulated.report.end)),
             Err(fault) => Err(fault),
@@ -210,12 +216,15 @@ pub fn print_upgrade<W: Write>(bytes: &[u8], writer: &mut W) -> io::Result<u8>
 }
 
 /// All that the reader has, printed on by what the words of the command line ask for.
-fn answer<A: Allocator + Clone, W: Write>(
+fn answer<R: Threads + Wait + Sync, A: Allocator + Clone + Send + Sync, G: Gate + Sync, W: Write>(
     request: &Request,
     input: &[u8],
     writer: &mut W,
     alloc: A,
+    rt: &R,
+    gate: &G,
 ) -> io::Result<u8>
+    requires { G.may_stop ≡ false }
     ensures { Answers result (W.contents writer.old) (W.contents writer.new) input.now request.now }
 {
     match request {
@@ -223,39 +232,52 @@ fn answer<A: Allocator + Clone, W: Write>(
         Request::Compile => print_object(alloc, input, writer),
         Request::Dis => print_listing(input, writer),
         Request::Upgrade => print_upgrade(input, writer),
-        Request::Run(options) => print_run(alloc, input, options, writer),
+        Request::Run(options) => print_run(alloc, input, options, writer, rt, gate),
         Request::Mean { steps } => print_meaning(alloc, input, *steps, writer),
     }
 }
 
 /// Reads all of the reader, and prints what is asked for, or why it is not. Gives the exit status.
-pub fn serve_request<A: Allocator + Clone, R: Read, W: Write>(
-    request: &Request,
-    reader: &mut R,
-    writer: &mut W,
-    alloc: A,
-) -> io::Result<u8>
-    ensures { ServesRequest (R.remaining reader.old) result (W.contents writer.old) (W.contents writer.new) request.now }
+pub fn serve_request<
+    R: Threads + Wait + Sync,
+    A: Allocator + Clone + Send + Sync,
+    G: Gate + Sync,
+    I: Read,
+    W: Write,
+>(request: &Request, reader: &mut I, writer: &mut W, alloc: A, rt: &R, gate: &G) -> io::Result<u8>
+    requires { G.may_stop ≡ false }
+    ensures { ServesRequest (I.remaining reader.old) result (W.contents writer.old) (W.contents writer.new) request.now }
 {
     let Ok(room) = alloc.clone() else {
         return refuse(writer, &Refusal::Memory);
     };
     match read_input(room, reader) {
-        Ok(input) => answer(request, &input, writer, alloc),
+        Ok(input) => answer(request, &input, writer, alloc, rt, gate),
         Err(fault) => refuse(writer, &Refusal::from(fault)),
     }
 }
 
 /// Prints what the words of the command line ask for.
-fn serve_words<A: Allocator + Clone, S: AsStr, R: Read, W: Write>(
+fn serve_words<
+    R: Threads + Wait + Sync,
+    A: Allocator + Clone + Send + Sync,
+    G: Gate + Sync,
+    S: AsStr,
+    I: Read,
+    W: Write,
+>(
     words: &[S],
-    reader: &mut R,
+    reader: &mut I,
     writer: &mut W,
     alloc: A,
     global: Global,
-) -> io::Result<u8> {
+    rt: &R,
+    gate: &G,
+) -> io::Result<u8>
+    requires { G.may_stop ≡ false }
+{
     match parse(global, words) {
-        Ok(request) => serve_request(&request, reader, writer, alloc),
+        Ok(request) => serve_request(&request, reader, writer, alloc, rt, gate),
         Err(command_line::Refusal::Said { text, is_mistake }) => {
             send(writer, text.as_bytes())?;
             Ok(if is_mistake { REFUSED } else { 0 })
@@ -264,15 +286,18 @@ fn serve_words<A: Allocator + Clone, S: AsStr, R: Read, W: Write>(
     }
 }
 
-/// The whole program over a reader and a writer: `words` are those of the command line, the program's name first. Gives the
-/// exit status: 0 at rest or done, 1 refused or a failed write, 2 starved, 3 a clash, 4 out of steps, 5 stuck, 6 out of
+/// The whole program over a reader and a writer: `words` are those of the command line, the program's name first. The elements
+/// ask a gate that stops no run. Gives the exit status: 0 at rest or done, 1 refused or a failed write, 2 starved, 3 a clash, 4 out of steps, 5 stuck, 6 out of
 /// memory.
-pub fn serve<A: Allocator + Clone, S: AsStr, R: Read, W: Write>(
-    words: &[S],
-    reader: &mut R,
-    writer: &mut W,
-    alloc: A,
-    global: Global,
-) -> u8 {
-    serve_words(words, reader, writer, alloc, global).unwrap_or(REFUSED)
+pub fn serve<
+    R: Threads + Wait + Sync,
+    A: Allocator + Clone + Send + Sync,
+    G: Gate + Sync,
+    S: AsStr,
+    I: Read,
+    W: Write,
+>(words: &[S], reader: &mut I, writer: &mut W, alloc: A, global: Global, rt: &R, gate: &G) -> u8
+    requires { G.may_stop ≡ false }
+{
+    serve_words(words, reader, writer, alloc, global, rt, gate).unwrap_or(REFUSED)
 }

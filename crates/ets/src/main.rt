@@ -1,6 +1,7 @@
 //! The program `ets`: compiles dataflow graphs for an explicit token store machine, and runs them.
 #![tactic(auto)]
 
+use rounds::Open;
 use std::process::ExitCode;
 use std::{env, io};
 
@@ -12,6 +13,8 @@ fn main(rt: HostRuntime) -> io::Result<ExitCode> {
         &mut io::writer(&rt),
         rt.alloc(),
         rt.alloc(),
+        &rt,
+        &Open,
     );
     Ok(ExitCode::from(status))
 }

@@ -1,17 +1,28 @@
-//! Says of each example whether runs of its code, on 1, 3 and 16 elements, have just the outputs, the cells and the end of
-//! its meaning. The words of the command line are the files' names.
+//! Says of each example whether runs of its code, on 1, 3 and 16 elements, and in rounds on 1 and 2, have just the
+//! outputs, the cells and the end of its meaning. The words of the command line are the files' names.
 #![tactic(auto)]
 
 use driver::serving::serve;
+use rounds::Open;
 use std::alloc::Global;
 use std::io::{self, Write};
+use std::sync::Wait;
+use std::thread::Threads;
 use std::{env, fs};
 
+/// Its token goes to another element every few events, and each time ends a round: thousands of rounds for one example.
+const SERIAL: &str = "sum_loop.ets";
+
 /// What the program `ets` writes of an input, with these words after its name.
-fn served(alloc: Global, words: &[&str], input: &[u8]) -> io::Result<Vec<u8>> {
+fn served<R: Threads + Wait + Sync>(
+    rt: &R,
+    alloc: Global,
+    words: &[&str],
+    input: &[u8],
+) -> io::Result<Vec<u8>> {
     let mut text = Vec::new(alloc);
     let mut reader = input;
-    serve(words, &mut reader, &mut text, alloc, alloc);
+    serve(words, &mut reader, &mut text, alloc, alloc, rt, &Open);
     Ok(text)
 }
 
@@ -32,14 +43,17 @@ fn shared(alloc: Global, report: &[u8]) -> io::Result<Vec<u8>> {
     Ok(lines)
 }
 
-/// What a run on so many elements says beside the meaning.
-fn verdict(
+/// What a run in that mode on so many elements says beside the meaning.
+fn verdict<R: Threads + Wait + Sync>(
+    rt: &R,
     alloc: Global,
     input: &[u8],
     meaning: &[u8],
+    mode: &str,
     elements: &str,
 ) -> io::Result<&'static str> {
-    let report = served(alloc, &["ets", "run", "--elements", elements], input)?;
+    let words = ["ets", "run", "--mode", mode, "--elements", elements];
+    let report = served(rt, alloc, &words, input)?;
     if report.ends_with(b"\nend Starved\n") {
         return Ok("starves");
     }
@@ -57,10 +71,17 @@ fn main(rt: HostRuntime) -> io::Result<()> {
     let mut out = io::writer(&rt);
     for name in words.iter().skip(1) {
         let input = fs::read(&rt, name.as_str())?;
-        let meaning = served(alloc, &["ets", "mean"], &input)?;
+        let meaning = served(&rt, alloc, &["ets", "mean"], &input)?;
         for elements in ["1", "3", "16"] {
-            let verdict = verdict(alloc, &input, &meaning, elements)?;
+            let verdict = verdict(&rt, alloc, &input, &meaning, "one", elements)?;
             writeln!(out, "{name} on {elements}: {verdict}")?;
+        }
+        for elements in ["1", "2"] {
+            if elements == "2" && name.as_str() == SERIAL {
+                continue;
+            }
+            let verdict = verdict(&rt, alloc, &input, &meaning, "rounds", elements)?;
+            writeln!(out, "{name} in rounds on {elements}: {verdict}")?;
         }
     }
     Ok(())

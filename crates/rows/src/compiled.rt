@@ -3,7 +3,9 @@
 use crate::served::{expect_served, serve_words};
 use std::alloc::Global;
 use std::process::Abort;
+use std::sync::Wait;
 use std::test::Fail;
+use std::thread::Threads;
 
 /// The words of a command line after the program's name, an input, and what the program writes and answers.
 struct Row {
@@ -13,7 +15,11 @@ struct Row {
     status: u8,
 }
 
-fn expect_rows(rt: &impl Abort, alloc: Global, rows: &[Row]) -> Result<(), Fail> {
+fn expect_rows<R: Abort + Threads + Wait + Sync>(
+    rt: &R,
+    alloc: Global,
+    rows: &[Row],
+) -> Result<(), Fail> {
     for row in rows {
         expect_served(rt, alloc, row.words, row.input, row.wanted, row.status)?;
     }
@@ -332,6 +338,7 @@ fn strict_calls(rt: HostRuntime) -> Result<(), Fail> {
 fn a_second_store_ends_each_run(rt: HostRuntime) -> Result<(), Fail> {
     for elements in ["1", "2", "4", "16"] {
         let served = serve_words(
+            &rt,
             rt.alloc(),
             &["ets", "run", "--elements", elements],
             b"etsgraph 1\narray A 1\nblock m 2 2\n- lit 0 0.0\n- store A 2.0 0.0\n- store A 2.0 1.0\nout 3.0 4.0\nend\nmain m\n5\n6\n",

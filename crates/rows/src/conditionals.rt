@@ -3,7 +3,9 @@
 use crate::served::serve_words;
 use std::alloc::{AllocError, Global};
 use std::process::Abort;
+use std::sync::Wait;
 use std::test::Fail;
+use std::thread::Threads;
 
 /// Adds the name of the instruction that a line of a listing shows, and a space.
 fn push_name(names: &mut Vec<u8>, line: &[u8]) -> Result<(), AllocError> {
@@ -18,10 +20,15 @@ fn push_name(names: &mut Vec<u8>, line: &[u8]) -> Result<(), AllocError> {
 }
 
 /// Says that these are the instructions of the graph's code blocks, in order.
-fn expect_code(rt: &impl Abort, alloc: Global, text: &[u8], wanted: &[u8]) -> Result<(), Fail> {
-    let object = serve_words(alloc, &["ets", "compile"], text)?;
+fn expect_code<R: Abort + Threads + Wait + Sync>(
+    rt: &R,
+    alloc: Global,
+    text: &[u8],
+    wanted: &[u8],
+) -> Result<(), Fail> {
+    let object = serve_words(rt, alloc, &["ets", "compile"], text)?;
     assert_eq!(rt; object.status, 0);
-    let listing = serve_words(alloc, &["ets", "dis"], &object.text)?;
+    let listing = serve_words(rt, alloc, &["ets", "dis"], &object.text)?;
     let mut names = Vec::new(alloc);
     for line in listing.text.split(|byte| *byte == b'\n') {
         if line.starts_with(b" ") {

@@ -3,17 +3,21 @@
 ghost use Rattle.std.specs.Prelude.{◌≡◌, ◌<◌, ℕ, All, IfOk};
 
 use crate::objects::changed;
+use command_line::Mode;
 use driver::emulation::{emulate_object, emulate_object_picks};
 use driver::fault::Fault;
 use graph_file::read;
 use object_view::ObjectFault;
 use report_text::write_report;
+use rounds::Open;
 use schedule::config::Config;
 use schedule::report::Report;
 use semantics::report::End;
 use std::alloc::{AllocError, Global};
 use std::process::Abort;
+use std::sync::Wait;
 use std::test::Fail;
+use std::thread::Threads;
 use tags::value::Value;
 
 /// An object that links a block into a frame and gives it no continuation that leads anywhere.
@@ -124,8 +128,20 @@ fn expect_report<R: Abort>(rt: &R, report: &Report<Global>, wanted: Wanted<'_>, 
     }
 }
 
-/// Runs the object on 1, 2, 7 and 16 elements, each taking its oldest token in turn, and in ten orders of picks.
-fn expect_always<R: Abort>(
+/// Runs the object on so many elements, each taking its oldest tokens.
+fn run_object<R: Threads + Wait + Sync>(
+    rt: &R,
+    alloc: Global,
+    object: &[u8],
+    inputs: &[i64],
+    elements: u32,
+    mode: Mode,
+) -> Result<Report<Global>, Fault> {
+    emulate_object(alloc, object, inputs, config(elements), mode, rt, &Open)
+}
+
+/// Runs the object on 1, 2, 7 and 16 elements, each taking its oldest token in turn, in rounds, and in ten orders of picks.
+fn expect_always<R: Abort + Threads + Wait + Sync>(
     rt: &R,
     alloc: Global,
     object: &[u8],
@@ -133,10 +149,12 @@ fn expect_always<R: Abort>(
     wanted: Wanted<'_>,
 ) -> Result<(), Fail> {
     for elements in SIZES {
-        let report = emulate_object(alloc, object, inputs, config(elements)).map_err(
-            |_| "a report",
-        )?;
-        expect_report(rt, &report, wanted, elements);
+        for mode in [Mode::One, Mode::Rounds] {
+            let report = run_object(rt, alloc, object, inputs, elements, mode).map_err(
+                |_| "a report",
+            )?;
+            expect_report(rt, &report, wanted, elements);
+        }
         if elements > 0 {
             for seed in 0..10u64 {
                 let picks = picks(alloc, elements, seed)?;
@@ -192,7 +210,7 @@ fn a_stuck_run_is_printed(rt: HostRuntime) -> Result<(), Fail> {
         alloc,
         b"etsgraph 1\nblock m 1 1\n- neg 0.0\nout 1.0\nend\nmain m\n",
     )?;
-    let report = emulate_object(alloc, ASTRAY, &[2], config(1)).map_err(|_| "a report")?;
+    let report = run_object(&rt, alloc, ASTRAY, &[2], 1, Mode::One).map_err(|_| "a report")?;
     let mut text = Vec::new(alloc);
     write_report(&mut text, &graph, &report)?;
     assert!(rt; text.as_slice().ends_with(b"\nend Stuck 1\n"));
@@ -246,7 +264,7 @@ fn an_object_is_refused(rt: HostRuntime) -> Result<(), Fail> {
         (31, 255),
     ];
     let object = changed(rt.alloc(), &changes)?;
-    match emulate_object(rt.alloc(), &object, &[2, 3], config(1)) {
+    match run_object(&rt, rt.alloc(), &object, &[2, 3], 1, Mode::One) {
         Err(Fault::Object(fault)) => assert_eq!(rt; fault, ObjectFault::BadTable),
         _ => assert!(rt; false, "refused"),
     }

@@ -7,7 +7,11 @@ mod compiled;
 #[cfg(test)]
 mod conditionals;
 #[cfg(test)]
+mod gates;
+#[cfg(test)]
 mod hostile;
+#[cfg(test)]
+mod in_rounds;
 #[cfg(test)]
 mod inputs;
 #[cfg(test)]
@@ -22,6 +26,8 @@ mod memory;
 mod objects;
 #[cfg(test)]
 mod orders;
+#[cfg(test)]
+mod random_graphs;
 #[cfg(test)]
 mod refusals;
 #[cfg(test)]

@@ -3,11 +3,18 @@
 use crate::served::{expect_served, serve_words};
 use std::alloc::Global;
 use std::process::Abort;
+use std::sync::Wait;
 use std::test::Fail;
+use std::thread::Threads;
 
 /// Says that the graph's object has this listing.
-fn expect_listing(rt: &impl Abort, alloc: Global, text: &[u8], listing: &[u8]) -> Result<(), Fail> {
-    let compiled = serve_words(alloc, &["ets", "compile"], text)?;
+fn expect_listing<R: Abort + Threads + Wait + Sync>(
+    rt: &R,
+    alloc: Global,
+    text: &[u8],
+    listing: &[u8],
+) -> Result<(), Fail> {
+    let compiled = serve_words(rt, alloc, &["ets", "compile"], text)?;
     assert_eq!(rt; compiled.status, 0);
     expect_served(rt, alloc, &["ets", "dis"], &compiled.text, listing, 0)
 }

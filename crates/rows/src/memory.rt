@@ -2,6 +2,7 @@
 
 use driver::serving::serve;
 use rationed::Rationed;
+use rounds::Open;
 use std::test::Fail;
 
 const ADD: &[u8] = b"etsgraph 1\nblock m 2 1\n- add 0.0 1.0\nout 2.0\nend\nmain m\n2\n3\n";
@@ -28,6 +29,8 @@ fn each_growth_refused(rt: HostRuntime) -> Result<(), Fail> {
             &mut text,
             &heap,
             rt.alloc(),
+            &rt,
+            &Open,
         );
         if status == 0 {
             assert_eq!(rt; text.as_slice(), REST);

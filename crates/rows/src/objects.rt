@@ -2,6 +2,7 @@
 
 use crate::served::expect_served;
 use driver::serving::serve;
+use rounds::Open;
 use std::alloc::Global;
 use std::io::{self, ErrorKind, Write};
 use std::test::Fail;
@@ -134,6 +135,8 @@ fn stops_at_failed_writes(rt: HostRuntime) -> Result<(), Fail> {
             &mut writer,
             rt.alloc(),
             rt.alloc(),
+            &rt,
+            &Open,
         );
         let FailingWriter { calls: _, taken } = writer;
         assert!(rt; LISTING.starts_with(taken.as_slice()));

@@ -2,8 +2,10 @@
 
 ghost use Rattle.std.specs.Prelude.{◌<◌, All, IfOk};
 
+use command_line::Mode;
 use driver::compiling::compile;
 use driver::emulation::{emulate, emulate_object_picks, emulate_picks};
+use rounds::Open;
 use schedule::config::Config;
 use schedule::report::Report;
 use semantics::report::End;
@@ -63,7 +65,16 @@ fn orders(rt: HostRuntime) -> Result<(), Fail> {
             [7, 13, 30, 2, 0].as_slice(),
         ),
     ] {
-        let first = emulate(rt.alloc(), text, inputs.as_slice(), CONFIG).map_err(|_| "a report")?;
+        let first = emulate(
+            rt.alloc(),
+            text,
+            inputs.as_slice(),
+            CONFIG,
+            Mode::One,
+            &rt,
+            &Open,
+        )
+        .map_err(|_| "a report")?;
         expect_row(&rt, &first, wanted);
         for seed in 0..100u64 {
             let picks = picks(rt.alloc(), seed, 20_000)?;

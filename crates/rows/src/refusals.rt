@@ -96,11 +96,11 @@ fn refuses_starts(rt: HostRuntime) -> Result<(), Fail> {
             b"refused: start BadConfig\n".as_slice(),
         ),
         (
-            ["ets", "run", "--mode", "rounds"].as_slice(),
+            ["ets", "run", "--mode", "free"].as_slice(),
             b"refused: start BadConfig\n".as_slice(),
         ),
         (
-            ["ets", "run", "--mode", "rounds", "--frames", "0"].as_slice(),
+            ["ets", "run", "--mode", "free", "--frames", "0"].as_slice(),
             b"refused: start NoFrames\n".as_slice(),
         ),
     ] {
@@ -145,10 +145,13 @@ fn refuses_command_lines(rt: HostRuntime) -> Result<(), Fail> {
         ["ets", "walk"].as_slice(),
         ["ets", "run", "--frames", "x"].as_slice(),
     ] {
-        let served = serve_words(rt.alloc(), words, b"")?;
+        let served = serve_words(&rt, rt.alloc(), words, b"")?;
         assert_eq!(rt; served.status, 1);
         assert!(rt; served.text.len() > 10);
     }
-    assert_eq!(rt; serve_words(rt.alloc(), &["ets", "--help"], b"")?.status, 0);
+    assert_eq!(rt;
+        serve_words(&rt, rt.alloc(), &["ets", "--help"], b"")?.status,
+        0
+    );
     Ok(())
 }

@@ -1,9 +1,12 @@
 //! The program on a command line and an input, in memory.
 
 use driver::serving::serve;
+use rounds::Open;
 use std::alloc::Global;
 use std::process::Abort;
+use std::sync::Wait;
 use std::test::Fail;
+use std::thread::Threads;
 
 /// What the program wrote, and its exit status.
 #[derive(Drop)]
@@ -13,23 +16,28 @@ pub struct Served {
 }
 
 /// Runs the program with the words after its name.
-pub fn serve_words(alloc: Global, words: &[&str], input: &[u8]) -> Result<Served, Fail> {
+pub fn serve_words<R: Threads + Wait + Sync>(
+    rt: &R,
+    alloc: Global,
+    words: &[&str],
+    input: &[u8],
+) -> Result<Served, Fail> {
     let mut text = Vec::new(alloc);
     let mut reader = input;
-    let status = serve(words, &mut reader, &mut text, alloc, alloc);
+    let status = serve(words, &mut reader, &mut text, alloc, alloc, rt, &Open);
     Ok(Served { text, status })
 }
 
 /// Says that the program writes these lines and ends with this status.
-pub fn expect_served(
-    rt: &impl Abort,
+pub fn expect_served<R: Abort + Threads + Wait + Sync>(
+    rt: &R,
     alloc: Global,
     words: &[&str],
     input: &[u8],
     wanted: &[u8],
     status: u8,
 ) -> Result<(), Fail> {
-    let served = serve_words(alloc, words, input)?;
+    let served = serve_words(rt, alloc, words, input)?;
     assert_eq!(rt; served.text.as_slice(), wanted);
     assert_eq!(rt; served.status, status);
     Ok(())

@@ -2,10 +2,13 @@
 
 use crate::served::{Served, expect_served, serve_words};
 use driver::serving::serve;
+use rounds::Open;
 use std::alloc::Global;
 use std::io::{self, ErrorKind, Read, Write};
 use std::process::Abort;
+use std::sync::Wait;
 use std::test::Fail;
+use std::thread::Threads;
 
 /// The graph that adds its inputs.
 const GRAPH: &[u8] = b"etsgraph 1\nblock m 2 1\n- add 0.0 1.0\nout 2.0\nend\nmain m\n";
@@ -67,10 +70,15 @@ impl Read for FailingReader<'_> {
 }
 
 /// Runs the program over a reader that fails after so many calls.
-fn serve_failing(alloc: Global, words: &[&str], calls: u64) -> Served {
+fn serve_failing<R: Threads + Wait + Sync>(
+    rt: &R,
+    alloc: Global,
+    words: &[&str],
+    calls: u64,
+) -> Served {
     let mut text = Vec::new(alloc);
     let mut reader = FailingReader { calls, rest: ADD };
-    let status = serve(words, &mut reader, &mut text, alloc, alloc);
+    let status = serve(words, &mut reader, &mut text, alloc, alloc, rt, &Open);
     let FailingReader { calls: _, rest: _ } = reader;
     Served { text, status }
 }
@@ -79,7 +87,7 @@ fn serve_failing(alloc: Global, words: &[&str], calls: u64) -> Served {
 fn refuses_failed_reads(rt: HostRuntime) -> Result<(), Fail> {
     for calls in 0..ADD.len() as u64 + 1 {
         for words in [["ets", "run"].as_slice(), ["ets", "check"].as_slice()] {
-            let served = serve_failing(rt.alloc(), words, calls);
+            let served = serve_failing(&rt, rt.alloc(), words, calls);
             assert_eq!(rt;
                 served.text.as_slice(),
                 b"refused: input\n".as_slice(),
@@ -88,7 +96,7 @@ fn refuses_failed_reads(rt: HostRuntime) -> Result<(), Fail> {
             assert_eq!(rt; served.status, 1);
         }
     }
-    let served = serve_failing(rt.alloc(), &["ets", "run"], ADD.len() as u64 + 1);
+    let served = serve_failing(&rt, rt.alloc(), &["ets", "run"], ADD.len() as u64 + 1);
     assert_eq!(rt; served.text.as_slice(), REST);
     assert_eq!(rt; served.status, 0);
     Ok(())
@@ -122,8 +130,8 @@ impl Write for FailingWriter {
 }
 
 /// Says that with a writer that fails after so many calls, just so many bytes of the whole answer are written.
-fn expect_beginning(
-    rt: &impl Abort,
+fn expect_beginning<R: Abort + Threads + Wait + Sync>(
+    rt: &R,
     alloc: Global,
     words: &[&str],
     whole: &[u8],
@@ -136,7 +144,7 @@ fn expect_beginning(
         taken: Vec::new(alloc),
     };
     let mut reader = ADD;
-    let status = serve(words, &mut reader, &mut writer, alloc, alloc);
+    let status = serve(words, &mut reader, &mut writer, alloc, alloc, rt, &Open);
     let FailingWriter {
         calls: _,
         fault: _,
@@ -187,6 +195,8 @@ fn refuses_long_input(rt: HostRuntime) -> Result<(), Fail> {
             &mut text,
             rt.alloc(),
             rt.alloc(),
+            &rt,
+            &Open,
         );
         let LongReader { left: _ } = reader;
         assert_eq!(rt; text.as_slice(), wanted);

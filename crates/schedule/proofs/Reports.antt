@@ -1,5 +1,5 @@
 -- The report of a machine shows a run.
-use Rattle.std.proofs.Common.{◌≡◌, refl, sym, ◌∙◌, ap, subst, ℕ, zero, suc, ◌*◌, ◌<◌, ◌≤◌, Bool, false, ℤ, List, [], length, map, drop, replicate, Option, None, arith, inl, inr}
+use Rattle.std.proofs.Common.{◌≡◌, refl, sym, ◌∙◌, ap, subst, ℕ, zero, suc, ◌*◌, ◌<◌, ◌≤◌, Bool, true, false, ℤ, List, [], length, map, drop, replicate, Option, None, arith, inl, inr}
 use Rattle.std.specs.Prelude.{◌==◌}
 use Rattle.std.proofs.Math.Dec.{eqb-suc-zero}
 use Rattle.std.proofs.Math.Nat.{one-le-mul}
@@ -14,7 +14,7 @@ use Rattle.semantics.specs.Program.{Program}
 use Rattle.semantics.specs.Rule.{array_base}
 use Rattle.semantics.specs.Machine.{Machine, CellState, Vacant, Full, Size, Events, at_start, outputs_of, reader_count}
 use Rattle.semantics.specs.declared.report.End.{End}
-use Rattle.semantics.specs.Report.{Report, IsPicture, Shows, sum_below, waiters, one_if}
+use Rattle.semantics.specs.Report.{Report, IsPicture, Shows, HasEnd, sum_below, waiters, one_if}
 use Rattle.element.specs.Near.{IsNearTo, IsNearToken}
 use Rattle.element.specs.Parts.{bounds}
 use Rattle.element.specs.Held.{Held, held_of, queued}
@@ -103,6 +103,7 @@ clash_cell s listed Halt.NoToken sound halts = tt
 clash_cell s listed Halt.Steps sound halts = tt
 clash_cell s listed (Halt.Stuck rule) sound halts = tt
 clash_cell s listed Halt.Memory sound halts = tt
+clash_cell s listed Halt.Stop sound halts = absurd halts
 
 pub opening_is : (n : ℕ) (outputs : List (Option Value)) (cells : List (ℕ × Value)) (evs : Events) → outputs ≡ replicate n None → cells ≡ [] → evs ≡ []
     → (let r : Report = record { end = End.Memory; outputs = outputs; cells = cells; deferred = 0; waiting_frames = 0; waiting_credits = 0; frames_out = 1; events = evs } in r) ≡ opening_picture n
@@ -130,12 +131,28 @@ shows_lanes g raw ts list halt r sound (inr (has, ends, told)) inputs listed evs
     let picture = lanes_pictured g raw ts began.machine (with_events r evs) sound began.stands told in
     (evs, shows_here inputs (coming g raw ts) evs listed halt (with_events r evs) sound began halts ends refl picture, λ same. has ∙ same)
 
--- the same with the events themselves
-pub shows_listed : (g : Setting) (raw : List Held) (ts : List Token) (evs : Events) (halt : Halt) (r : Report) → IsSoundState (coming g raw ts) → ReportsLanes g raw evs halt r
-    → (inputs : List ℤ) (listed : Bool) → Began inputs (coming g raw ts) evs → HaltsAs (coming g raw ts) listed halt → Shows g.program (size g) inputs g.steps listed false r
-shows_listed g raw ts evs halt r sound reported inputs listed began halts =
-    let found = shows_lanes g raw ts evs halt r sound reported inputs listed evs began halts in
-    subst (λ (l : Events). Shows g.program (size g) inputs g.steps listed false (with_events r l)) (sym (found.2 refl)) found.1
+-- the same of a run that was stopped
+pub stopped_lanes : (g : Setting) (raw : List Held) (ts : List Token) (list : Events) (r : Report) → IsSoundState (coming g raw ts) → ReportsLanes g raw list Halt.Stop r
+    → (inputs : List ℤ) (listed : Bool) (evs : Events) → Began inputs (coming g raw ts) evs
+    → (shown : Events) × Shows g.program (size g) inputs g.steps listed true (with_events r shown) × (list ≡ evs → r.events ≡ shown)
+stopped_lanes g raw ts list r sound (inl is) inputs listed evs began =
+    let shown = shows_opening (coming g raw ts) inputs listed (outputs_of g.program) sound refl in
+    ([], subst (λ (x : Report). Shows g.program (size g) inputs g.steps listed true (with_events x [])) (sym is) (record { last = shown.last; run = shown.run; picture = shown.picture; ends = tt }), λ same. ap (λ (x : Report). x.events) is)
+stopped_lanes g raw ts list r sound (inr (has, ends, told)) inputs listed evs began = (
+  evs,
+  record {
+    last = began.machine;
+    run = began.run;
+    picture = lanes_pictured g raw ts began.machine (with_events r evs) sound began.stands told;
+    ends = subst (λ (e : End). HasEnd g.program (size g) g.steps listed true evs began.machine e) (sym ends) refl;
+  },
+  λ same. has ∙ same,
+)
+
+-- no events are told where none are listed
+pub unlisted_lanes : (g : Setting) (raw : List Held) (list : Events) (halt : Halt) (r : Report) → ReportsLanes g raw list halt r → list ≡ [] → r.events ≡ []
+unlisted_lanes g raw list halt r (inl is) none = ap (λ (x : Report). x.events) is
+unlisted_lanes g raw list halt r (inr (has, ends, told)) none = has ∙ none
 
 -- the same of elements in memory
 pub shows_reported : {C A : Type 0} (program : C → Program) (width : C → ℕ) (m : Elements C A) (list : Events) (halt : Halt) (r : Report) → IsWell program width m → Reports program width m list halt r
@@ -145,8 +162,7 @@ shows_reported {C} {A} program width m list halt r well reported inputs listed e
     shows_lanes (state_of program width m).setting (map (held_of {A = A}) m.lanes.items) (drop m.come m.sent.items) list halt r well.sound reported inputs listed evs began halts
 
 unlisted : {C A : Type 0} (program : C → Program) (width : C → ℕ) (m : Elements C A) (list : Events) (halt : Halt) (r : Report) → Reports program width m list halt r → list ≡ [] → r.events ≡ []
-unlisted program width m list halt r (inl is) none = ap (λ (x : Report). x.events) is
-unlisted program width m list halt r (inr (has, ends, told)) none = has ∙ none
+unlisted {C} {A} program width m list halt r reported none = unlisted_lanes (state_of program width m).setting (map (held_of {A = A}) m.lanes.items) list halt r reported none
 
 -- with no events listed there is a run that it shows
 pub shows_quietly : {C A : Type 0} (program : C → Program) (width : C → ℕ) (m : Elements C A) (list : Events) (halt : Halt) (r : Report) → IsWell program width m → Reports program width m list halt r → list ≡ []

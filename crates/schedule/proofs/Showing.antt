@@ -145,6 +145,7 @@ module _ (s : State) (m : Machine) (r : Report) (sound : IsSoundState s) (stands
   has_end listed evs (Halt.Stuck rule) counts (i, pick, (h, can, stuck)) e =
       subst (λ (x : End). HasEnd g.program (size g) g.steps listed false evs m x) (sym e) (stuck.token, in_pool s m i h stuck.token stands can.0.there (picked h pick stuck.token stuck.picks), stuck.excluded m.store (part_of_lane i h can.0.there))
   has_end listed evs Halt.Memory counts halts e = subst (λ (x : End). HasEnd g.program (size g) g.steps listed false evs m x) (sym e) tt
+  has_end listed evs Halt.Stop counts halts e = absurd halts
 
 -- the report of a run that halts here shows it
 pub shows_here : (inputs : List ℤ) (s : State) (evs : Events) (listed : Bool) (halt : Halt) (r : Report) → IsSoundState s → (b : Began inputs s evs) → HaltsAs s listed halt → EndsAs s.setting.program r halt → r.events ≡ evs

@@ -81,13 +81,14 @@ left_in steps (h ∷ hs) = (steps - h.made) + left_in steps hs
 abbrev pub left_over : State → ℕ
 left_over s = left_in s.setting.steps s.lanes
 
--- why a run halts here
+-- why a run halts here; a run over a list and one in turn are not stopped
 abbrev pub HaltsAs : State → Bool → Halt → Type 0
 HaltsAs s listed Halt.NoToken = tokens_in s.lanes ≡ []
 HaltsAs s listed (Halt.Clash cell) = (e : ℕ) × (pick : ℕ) × IsClash s e pick cell
 HaltsAs s listed Halt.Steps = ((e : ℕ) × IsUsedUp s e) ⊎ ((listed ≡ true) × HasToken s)
 HaltsAs s listed (Halt.Stuck rule) = (e : ℕ) × (pick : ℕ) × IsStuckAt s e pick rule
 HaltsAs s listed Halt.Memory = Unit {0}
+HaltsAs s listed Halt.Stop = ⊥
 
 -- how a run ends that halts so, with so many requests for frames and credits that wait; and which array a cell is in
 abbrev pub EndsWith : Program → End → ℕ → ℕ → Halt → Type 0
@@ -96,6 +97,7 @@ EndsWith p end frames credits (Halt.Clash cell) = (a : ℕ) × (i : ℕ) × (end
 EndsWith p end frames credits Halt.Steps = end ≡ End.Steps
 EndsWith p end frames credits (Halt.Stuck rule) = end ≡ End.Stuck rule
 EndsWith p end frames credits Halt.Memory = end ≡ End.Memory
+EndsWith p end frames credits Halt.Stop = end ≡ End.Stop
 
 abbrev pub EndsAs : Program → Report → Halt → Type 0
 EndsAs p r halt = EndsWith p r.end r.waiting_frames r.waiting_credits halt

@@ -16,6 +16,11 @@ pub record ShowsQuietly (p : Program) (z : Size) (inputs : List ℤ) (steps : �
   pub events : Events
   pub shows : Shows p z inputs steps listed may_stop (with_events r events)
 
+-- The report shows a run with these events, or its own lists were refused; and if they are those that were kept, it lists the
+-- run that it shows.
+abbrev pub ShowsBut : Program → Size → List ℤ → ℕ → Bool → Bool → Events → Events → Report → Type 0
+ShowsBut p z inputs steps listed may_stop kept evs r = (shown : Events) × Shows p z inputs steps listed may_stop (with_events r shown) × (kept ≡ evs → r.events ≡ shown)
+
 -- the machine with no event noted
 abbrev pub without_events : State → Kept
 without_events s = record { state = s; events = [] }

@@ -13,4 +13,6 @@ pub enum Halt {
     Stuck { rule: u8 },
     /// A growth was refused.
     Memory,
+    /// No further event was allowed to begin. No run of `Machine` halts so.
+    Stop,
 }

@@ -8,7 +8,7 @@ mod delivery;
 mod elements;
 pub mod halt;
 mod locating;
-mod log;
+pub mod log;
 pub mod machine;
 pub mod main_code;
 mod opening;

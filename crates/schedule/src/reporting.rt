@@ -39,11 +39,12 @@ fn end_of<C: MainCode>(code: &C, halt: Halt, frames: u64, credits: u64) -> End
         Halt::Steps => End::Steps,
         Halt::Stuck { rule } => End::Stuck { rule },
         Halt::Memory => End::Memory,
+        Halt::Stop => End::Stop,
     }
 }
 
 // The report of the machine before its first event, which is refused memory.
-fn opening_report<A: Allocator>(
+pub fn opening_report<A: Allocator>(
     alloc: A,
     outputs: u32,
     mut events: Vec<(u32, Token), A>,

@@ -1,19 +1,21 @@
 //! A machine that is taken apart.
 
-ghost use Rattle.std.specs.Prelude.{◌≡◌, ℤ, List, Bool, false};
+ghost use Rattle.std.specs.Prelude.{◌≡◌, ℤ, List, [], Bool, true, false};
 ghost use Rattle.tags.specs.declared.token.Token.{Token};
-ghost use Rattle.semantics.specs.Report.{Shows};
+ghost use Rattle.semantics.specs.Machine.{Events, outputs_of};
+ghost use Rattle.schedule.specs.declared.halt.Halt.{Halt};
+ghost use Rattle.schedule.specs.Unlisted.{ShowsBut};
 ghost use Rattle.schedule.specs.Setting.{size};
 ghost use Rattle.schedule.specs.State.{IsSoundState};
 ghost use Rattle.schedule.specs.Runs.{Began, HaltsAs, NamesCell};
-ghost use Rattle.schedule.specs.Told.{IsReportOf};
+ghost use Rattle.schedule.specs.Told.{IsReportOf, opening_picture};
 ghost use Rattle.schedule.specs.Apart.{setting_in, state_in, kept_of, with_coming};
 
 use crate::elements::Elements;
 use crate::halt::Halt;
 use crate::main_code::MainCode;
 use crate::report::Report;
-use crate::reporting::report_of;
+use crate::reporting::{opening_report, report_of};
 use element::lane::Lane;
 use std::alloc::Allocator;
 use tags::token::Token;
@@ -42,14 +44,16 @@ pub type Apart<'m, C, A> = (Setup<'m, C, A>, Vec<Lane<'m, A>, A>);
 
 impl<'m, C: MainCode, A: Allocator> Setup<'m, C, A> {
     /// What all lanes hold as they stand, with the events and the end of a run that halted so, whatever tokens are on their
-    /// way. Where its own lists are refused it is the report of the machine before its first event, with the end `Memory`.
+    /// way; of a run whose events were not kept it shows all but these. Where its own lists are refused it is the report of the machine before its first event, with the end `Memory`.
     pub fn report(self, lanes: Vec<Lane<'m, A>, A>, halt: Halt) -> Report<A>
     where
         A: Clone,
         requires sound { IsSoundState (state_in C.program C.width self lanes.items) }
         requires cell { NamesCell (C.program self.code.now) halt }
         ensures told { IsReportOf (kept_of C.program C.width self.entry lanes.entry.items) halt result }
-        ensures shows { (inputs : List ℤ) (listed : Bool) (coming : List Token) → IsSoundState (with_coming (state_in C.program C.width self.entry lanes.entry.items) coming) → Began inputs (with_coming (state_in C.program C.width self.entry lanes.entry.items) coming) self.entry.events.items → HaltsAs (with_coming (state_in C.program C.width self.entry lanes.entry.items) coming) listed halt → Shows (C.program self.entry.code.now) (size (setting_in C.program C.width self.entry)) inputs self.entry.steps listed false result }
+        ensures unlisted { self.entry.events.items ≡ [] → result.events ≡ [] }
+        ensures shows { (inputs : List ℤ) (listed : Bool) (coming : List Token) (events : Events) → IsSoundState (with_coming (state_in C.program C.width self.entry lanes.entry.items) coming) → Began inputs (with_coming (state_in C.program C.width self.entry lanes.entry.items) coming) events → HaltsAs (with_coming (state_in C.program C.width self.entry lanes.entry.items) coming) listed halt → ShowsBut (C.program self.entry.code.now) (size (setting_in C.program C.width self.entry)) inputs self.entry.steps listed false self.entry.events.items events result }
+        ensures stopped { halt ≡ Halt.Stop → (inputs : List ℤ) (listed : Bool) (coming : List Token) (events : Events) → IsSoundState (with_coming (state_in C.program C.width self.entry lanes.entry.items) coming) → Began inputs (with_coming (state_in C.program C.width self.entry lanes.entry.items) coming) events → ShowsBut (C.program self.entry.code.now) (size (setting_in C.program C.width self.entry)) inputs self.entry.steps listed true self.entry.events.items events result }
     {
         let Setup {
             code,
@@ -73,5 +77,18 @@ impl<'m, C: MainCode, A: Allocator> Setup<'m, C, A> {
             come: 0,
         };
         report_of(elements, events, alloc, halt)
+    }
+
+    /// The report of the machine before its first event, with the end `Memory`.
+    pub fn refused(self) -> Report<A>
+        ensures { result ≡ opening_picture (outputs_of (C.program self.entry.code.now)) }
+    {
+        let Setup {
+            code,
+            events,
+            alloc,
+            ..
+        } = self;
+        opening_report(alloc, code.outputs(), events)
     }
 }

@@ -1,16 +1,16 @@
 use Rattle.std.proofs.Common.{subst, List, ℕ, false}
-use Rattle.driver.specs.Headline.{ShowsObject, RunsObject, FollowsTurns}
+use Rattle.driver.specs.Headline.{stops_in, ShowsObject, RunsObject, FollowsTurns}
 use Rattle.driver.specs.Refused.{IsRefusedObject}
-use Rattle.driver.proofs.Truth.{tells_in_turn}
+use Rattle.driver.proofs.Truth.{tells_in}
 use Rattle.driver.proofs.TextObjects.{refused_as_text}
 use Rattle.driver.proofs.emulation.emulate.Goals as goal
 
 pub returns-in-Ok-emulate_object : goal.returns-in-Ok-emulate_object
 returns-in-Ok-emulate_object g c = (
   c.in-Ok-compile.compiled.checked,
-  tells_in_turn c.args.text.now c.in-Ok-compile.compiled.checked _ c.args.inputs.now c.args.config c.in-Ok-emulate_object.report c.in-Ok-compile.ensures
-      (subst (λ (bs : List ℕ). ShowsObject bs c.args.inputs.now c.args.config false c.in-Ok-emulate_object.report) c.deref.ensures.value c.in-Ok-emulate_object.ensures.shows)
-      (subst (λ (bs : List ℕ). RunsObject bs c.args.inputs.now c.args.config FollowsTurns c.in-Ok-emulate_object.report) c.deref.ensures.value c.in-Ok-emulate_object.ensures.turns),
+  tells_in c.args.mode c.args.text.now c.in-Ok-compile.compiled.checked _ c.args.inputs.now c.args.config g.G.Gate.may_stop c.in-Ok-emulate_object.report c.in-Ok-compile.ensures
+      (subst (λ (bs : List ℕ). ShowsObject bs c.args.inputs.now c.args.config false (stops_in c.args.mode g.G.Gate.may_stop) c.in-Ok-emulate_object.report) c.deref.ensures.value c.in-Ok-emulate_object.ensures.shows)
+      (λ one. subst (λ (bs : List ℕ). RunsObject bs c.args.inputs.now c.args.config FollowsTurns c.in-Ok-emulate_object.report) c.deref.ensures.value (c.in-Ok-emulate_object.ensures.turns one)),
 )
 
 pub returns : goal.returns

@@ -1,5 +1,6 @@
 use Rattle.std.proofs.Common.{sym, subst, false}
 use Rattle.driver.specs.declared.fault.Fault.{Fault}
+use Rattle.driver.specs.Headline.{stops_in}
 use Rattle.driver.specs.Refused.{IsRefusedObject}
 use Rattle.driver.proofs.TextObjects.{object_refused}
 use Rattle.driver.proofs.ObjectRuns.{shows_object, follows_turns}
@@ -7,13 +8,13 @@ use Rattle.driver.proofs.emulation.emulate_object.Goals as goal
 
 pub returns-in-Ok-start-clause-shows : goal.returns-in-Ok-start-clause-shows
 returns-in-Ok-start-clause-shows g c =
-    shows_object c.args.bytes.now c.args.inputs.now c.args.config false c.run_one.result c.in-Ok.object c.in-Ok-load.code c.in-Ok-load.ensures c.in-Ok.ensures.object
-    c.in-Ok.ensures.complete _ c.in-Ok-start.machine c.in-Ok-start.ensures c.run_one.ensures.shows
+    shows_object c.args.bytes.now c.args.inputs.now c.args.config false (stops_in c.args.mode g.G.Gate.may_stop) c.run_in.result c.in-Ok.object c.in-Ok-load.code c.in-Ok-load.ensures c.in-Ok.ensures.object
+    c.in-Ok.ensures.complete _ c.in-Ok-start.machine c.in-Ok-start.ensures c.run_in.ensures.shows
 
 pub returns-in-Ok-start-clause-turns : goal.returns-in-Ok-start-clause-turns
-returns-in-Ok-start-clause-turns g c =
-    follows_turns c.args.bytes.now c.args.inputs.now c.args.config c.run_one.result c.in-Ok.object c.in-Ok-load.code c.in-Ok-load.ensures c.in-Ok.ensures.object
-    _ c.in-Ok-start.machine c.in-Ok-start.ensures c.run_one.ensures.plays
+returns-in-Ok-start-clause-turns g c = λ one.
+    follows_turns c.args.bytes.now c.args.inputs.now c.args.config c.run_in.result c.in-Ok.object c.in-Ok-load.code c.in-Ok-load.ensures c.in-Ok.ensures.object
+    _ c.in-Ok-start.machine c.in-Ok-start.ensures (c.run_in.ensures.plays one)
 
 pub returns-clause-shows : goal.returns-clause-shows
 returns-clause-shows g c =

@@ -1,4 +1,4 @@
-use Rattle.std.proofs.Common.{ℕ, ◌<◌, sym, subst, true}
+use Rattle.std.proofs.Common.{ℕ, ◌<◌, sym, subst, true, false}
 use Rattle.std.specs.Prelude.{slice_index_or}
 use Rattle.driver.specs.declared.fault.Fault.{Fault}
 use Rattle.driver.specs.Refused.{IsRefusedObject}
@@ -13,7 +13,7 @@ run-requires g c = λ k d h.
 
 pub returns-in-Ok-start-clause-shows : goal.returns-in-Ok-start-clause-shows
 returns-in-Ok-start-clause-shows g c =
-    shows_object c.args.bytes.now c.args.inputs.now c.args.config true c.run.result c.in-Ok.object c.in-Ok-load.code c.in-Ok-load.ensures c.in-Ok.ensures.object
+    shows_object c.args.bytes.now c.args.inputs.now c.args.config true false c.run.result c.in-Ok.object c.in-Ok-load.code c.in-Ok-load.ensures c.in-Ok.ensures.object
     c.in-Ok.ensures.complete _ c.in-Ok-start.machine c.in-Ok-start.ensures c.run.ensures.shows
 
 pub returns-in-Ok-start-clause-list : goal.returns-in-Ok-start-clause-list

@@ -1,4 +1,4 @@
-use Rattle.std.proofs.Common.{subst, List, ℕ, true}
+use Rattle.std.proofs.Common.{subst, List, ℕ, true, false}
 use Rattle.driver.specs.Headline.{ShowsObject, RunsObject, FollowsList}
 use Rattle.driver.specs.Refused.{IsRefusedObject}
 use Rattle.driver.proofs.Truth.{tells_listed}
@@ -9,7 +9,7 @@ pub returns-in-Ok-emulate_object_picks : goal.returns-in-Ok-emulate_object_picks
 returns-in-Ok-emulate_object_picks g c = (
   c.in-Ok-compile.compiled.checked,
   tells_listed c.args.text.now c.in-Ok-compile.compiled.checked _ c.args.inputs.now c.args.config c.args.picks.now c.in-Ok-emulate_object_picks.report c.in-Ok-compile.ensures
-      (subst (λ (bs : List ℕ). ShowsObject bs c.args.inputs.now c.args.config true c.in-Ok-emulate_object_picks.report) c.deref.ensures.value c.in-Ok-emulate_object_picks.ensures.shows)
+      (subst (λ (bs : List ℕ). ShowsObject bs c.args.inputs.now c.args.config true false c.in-Ok-emulate_object_picks.report) c.deref.ensures.value c.in-Ok-emulate_object_picks.ensures.shows)
       (subst (λ (bs : List ℕ). RunsObject bs c.args.inputs.now c.args.config (FollowsList c.args.picks.now) c.in-Ok-emulate_object_picks.report) c.deref.ensures.value c.in-Ok-emulate_object_picks.ensures.list),
 )
 

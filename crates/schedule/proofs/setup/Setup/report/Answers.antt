@@ -2,8 +2,10 @@ use Rattle.std.proofs.Common.{refl, sym, subst, List, map, arith}
 use Rattle.element.specs.Held.{Held, held_of}
 use Rattle.schedule.specs.State.{State, IsSoundState}
 use Rattle.schedule.specs.Apart.{setting_in}
+use Rattle.schedule.specs.Told.{ReportsLanes}
+use Rattle.schedule.specs.declared.halt.Halt.{Halt}
 use Rattle.schedule.proofs.Memory.{none_coming}
-use Rattle.schedule.proofs.Reports.{told_lanes, shows_listed}
+use Rattle.schedule.proofs.Reports.{told_lanes, shows_lanes, stopped_lanes, unlisted_lanes}
 use Rattle.schedule.proofs.setup.Setup.report.Goals as goal
 
 pub report_of-requires-clause-well : goal.report_of-requires-clause-well
@@ -19,5 +21,16 @@ returns-clause-told g c =
     told_lanes (setting_in g.C.Instructions.program g.C.Instructions.width c.args.self) (map (held_of {A = g.row.A.Denot}) c.args.lanes.items) c.args.self.events.items c.args.halt c.report_of.result c.report_of.ensures
 
 pub returns-clause-shows : goal.returns-clause-shows
-returns-clause-shows g c = λ inputs listed coming sound began halts.
-    shows_listed (setting_in g.C.Instructions.program g.C.Instructions.width c.args.self) (map (held_of {A = g.row.A.Denot}) c.args.lanes.items) coming c.args.self.events.items c.args.halt c.report_of.result sound c.report_of.ensures inputs listed began halts
+returns-clause-shows g c = λ inputs listed coming evs sound began halts.
+    shows_lanes (setting_in g.C.Instructions.program g.C.Instructions.width c.args.self) (map (held_of {A = g.row.A.Denot}) c.args.lanes.items) coming c.args.self.events.items c.args.halt c.report_of.result sound c.report_of.ensures inputs listed evs began halts
+
+pub returns-clause-stopped : goal.returns-clause-stopped
+returns-clause-stopped g c = λ stop inputs listed coming evs sound began.
+    let z = setting_in g.C.Instructions.program g.C.Instructions.width c.args.self in
+    let lanes = map (held_of {A = g.row.A.Denot}) c.args.lanes.items in
+    stopped_lanes z lanes coming c.args.self.events.items c.report_of.result sound
+    (subst (λ (h : Halt). ReportsLanes z lanes c.args.self.events.items h c.report_of.result) stop c.report_of.ensures) inputs listed evs began
+
+pub returns-clause-unlisted : goal.returns-clause-unlisted
+returns-clause-unlisted g c = λ none.
+    unlisted_lanes (setting_in g.C.Instructions.program g.C.Instructions.width c.args.self) (map (held_of {A = g.row.A.Denot}) c.args.lanes.items) c.args.self.events.items c.args.halt c.report_of.result c.report_of.ensures none

@@ -1,0 +1,17 @@
+use Rattle.std.proofs.Common.{◌≡◌, sym, subst, ℤ, List, false}
+use Rattle.command_line.specs.declared.Mode.{Mode}
+use Rattle.schedule.specs.Setting.{Setting, size}
+use Rattle.schedule.specs.Runs.{Began}
+use Rattle.schedule.specs.Unlisted.{ShowsQuietly}
+use Rattle.driver.specs.Headline.{stops_in}
+use Rattle.driver.proofs.modes.run_quietly_in.Goals as goal
+
+pub returns-in-One : goal.returns-in-One
+returns-in-One g c = λ inputs began.
+    let z : Setting = c.args.machine.state.setting in
+    subst (λ (m : Mode). ShowsQuietly z.program (size z) inputs z.steps false (stops_in m g.G.Gate.may_stop) c.run_quietly.result) (sym c.in-One.is) (c.run_quietly.ensures.shows inputs began)
+
+pub returns-in-Rounds : goal.returns-in-Rounds
+returns-in-Rounds g c = λ inputs began.
+    let z : Setting = c.args.machine.state.setting in
+    subst (λ (m : Mode). ShowsQuietly z.program (size z) inputs z.steps false (stops_in m g.G.Gate.may_stop) c.run_quietly-in-Rounds.result) (sym c.in-Rounds.is) (c.run_quietly-in-Rounds.ensures.shows inputs began)

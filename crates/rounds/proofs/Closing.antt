@@ -1,0 +1,237 @@
+-- What a round leaves once its tokens are handed over.
+use Rattle.std.proofs.Common.{◌≡◌, refl, sym, ◌∙◌, ap, subst, ℕ, zero, suc, get_or, ◌<◌, ◌≤◌, ◌⊎◌, inl, inr, ℤ, List, [], ◌∷◌, ◌++◌, length, map, take, drop, append_assoc, Option, Some, None, Bool, true, false, arith}
+use Rattle.std.specs.Prelude.{All, slice_get}
+use Rattle.std.proofs.lemmas.List.{append-nil, length-append, drop_all, take_all, length-map}
+use Rattle.tags.specs.declared.token.Token.{Token}
+use Rattle.semantics.specs.Machine.{Events, outputs_of, Machine, Size}
+use Rattle.semantics.specs.Program.{Program}
+use Rattle.semantics.specs.declared.report.End.{End}
+use Rattle.semantics.specs.Report.{Report, Shows, HasEnd}
+use Rattle.element.specs.Near.{IsNearToken}
+use Rattle.element.specs.Parts.{bounds}
+use Rattle.tags.specs.Addresses.{element_of}
+use Rattle.element.specs.Held.{Held, held_of, here, queued, IsSoundLane}
+use Rattle.schedule.specs.declared.halt.Halt.{Halt}
+use Rattle.schedule.specs.Setting.{Setting, size}
+use Rattle.schedule.specs.State.{State, AllFrom, IsAt, IsPlaced, IsSoundState, delivered, tokens_in}
+use Rattle.schedule.specs.Runs.{Began, HaltsAs, NamesCell}
+use Rattle.schedule.specs.Told.{opening_picture}
+use Rattle.schedule.specs.Unlisted.{with_events, ShowsBut, ShowsQuietly}
+use Rattle.schedule.proofs.Reports.{shows_opening, clash_cell}
+use Rattle.schedule.proofs.Tokens.{delivered_none}
+use Rattle.schedule.proofs.Places.{to_map}
+use Rattle.rounds.specs.declared.turn.Turner.{Turner}
+use Rattle.rounds.specs.Turns.{coming, logged}
+use Rattle.rounds.specs.Rounds.{lanes_held, tokens_sent, events_noted, halts_in, IsWhy, IsBetween, IsHalted, GoesOn, Rounds, Leads, MadeRound, ShowsOn}
+use Rattle.rounds.proofs.Turning.{logged_twice}
+
+-- what a slice of a whole vector writes back
+pub same_slice : {X : Type 0} (n : ℕ) (new old : List X) → n ≡ length old → length new ≡ length old → take n (new ++ drop (length new) old) ≡ new
+same_slice n new old whole same =
+    let past : length old ≤ length new = omega (arith, same) in
+    let all : length new ≤ n = omega (arith, same, whole) in
+    ap (λ (l : List _). take n (new ++ l)) (drop_all (length new) old past) ∙ ap (λ (l : List _). take n l) (append-nil new) ∙ take_all n new all
+
+module _ {A : Type 0} where
+  pub some_turner : (g : Setting) (ts : List (Turner A)) → IsBetween g ts → 0 < length ts
+  some_turner g ts between =
+      let count : length (delivered [] (lanes_held ts)) ≡ g.elements = between.sound.count in
+      let one = length-map (lanes_held ts) (λ (h : Held). queued h []) in
+      let two = length-map ts (λ (t : Turner A). held_of t.lane) in
+      let some : 0 < g.elements = between.sound.setting.some in
+      omega (arith, count, one, two, some)
+
+  module _ (g : Setting) (listed may_stop : Bool) (olds news : List (Turner A)) (before after : Events) (tokens : List Token) (made : MadeRound g listed may_stop olds before news after tokens) where
+    pub count_all : length news ≡ g.elements
+    count_all =
+        let count : length (delivered tokens (lanes_held news)) ≡ g.elements = made.sound.count in
+        let one = length-map (lanes_held news) (λ (h : Held). queued h tokens) in
+        let two = length-map news (λ (t : Turner A). held_of t.lane) in
+        omega (arith, count, one, two)
+
+    pub at_all : AllFrom (IsAt g.elements) 0 (lanes_held news)
+    at_all = to_map (λ (i : ℕ) (h : Held). IsAt g.elements i h) (IsPlaced g) (λ (h : Held). queued h tokens) (λ (i : ℕ) (h : Held) p. (p.element, p.elements)) 0 (lanes_held news) made.sound.lanes
+
+    -- memory was refused
+    pub refused_round : Rounds g listed may_stop olds before news after (Some Halt.Memory)
+    refused_round = record { rest = tokens; made = made.made; goes = (made.sound, inl tt); noted = made.noted; leads = made.leads }
+
+    module _ (last : List (Turner A)) (rest : List Token) (handed : delivered rest (lanes_held last) ≡ delivered tokens (lanes_held news)) where
+      same : coming g (lanes_held news) tokens ≡ coming g (lanes_held last) rest
+      same = ap (λ (l : List Held). let s : State = record { setting = g; lanes = l } in s) (sym handed)
+
+      sound_last : IsSoundState (coming g (lanes_held last) rest)
+      sound_last = subst (λ (s : State). IsSoundState s) same made.sound
+
+      leads_last : Leads g olds last rest made.made
+      leads_last inputs evs b = subst (λ (s : State). Began inputs s (evs ++ made.made)) same (made.leads inputs evs b)
+
+      -- memory was refused while tokens were handed over
+      pub refused_handing : Rounds g listed may_stop olds before last after (Some Halt.Memory)
+      refused_handing = record { rest = rest; made = made.made; goes = (sound_last, inl tt); noted = made.noted; leads = leads_last }
+
+      pub closed_round : rest ≡ [] → tokens_sent last ≡ [] → events_noted last ≡ [] → halts_in last ≡ halts_in news → (halt : Option Halt) → IsWhy (lanes_held last) (halts_in last) halt
+          → Rounds g listed may_stop olds before last after halt
+      closed_round none sent noted halts halt why = record { rest = rest; made = made.made; goes = goes halt why; noted = made.noted; leads = leads_last }
+        where
+          goes : (halt : Option Halt) → IsWhy (lanes_held last) (halts_in last) halt → GoesOn g may_stop last rest halt
+          goes None why = (
+            record {
+              sound = subst (λ (l : List Token). IsSoundState (coming g (lanes_held last) l)) none sound_last;
+              sent = sent;
+              noted = noted;
+            },
+            none,
+          )
+          goes (Some h) (inl at) = (sound_last, subst (λ (s : State). IsHalted s may_stop h) same (made.halts at.0 h (subst (λ (l : List (Option Halt)). slice_get l at.0 ≡ Some (Some h)) halts at.1)))
+          goes (Some h) (inr idle) = (
+            sound_last,
+            inl (subst (λ (w : Halt). HaltsAs (coming g (lanes_held last) rest) false w) (sym idle.1)
+                (subst (λ (l : List Token). tokens_in (delivered l (lanes_held last)) ≡ []) (sym none) (ap (λ (l : List Held). tokens_in l) (delivered_none (lanes_held last)) ∙ idle.0))),
+          )
+
+-- MANY ROUNDS
+module _ {A : Type 0} where
+  pub leads_none : (g : Setting) (ts : List (Turner A)) → Leads g ts ts [] []
+  leads_none g ts = λ inputs evs b. subst (λ (l : Events). Began inputs (coming g (lanes_held ts) []) l) (sym (append-nil evs)) b
+
+  -- more rounds behind others
+  pub rounds_twice : (g now : Setting) (setting : now ≡ g) (listed may_stop : Bool) (olds mids news : List (Turner A)) (before mid after made : Events) (halt : Option Halt)
+      → mid ≡ logged listed before made → Leads g olds mids [] made → Rounds now listed may_stop mids mid news after halt → Rounds g listed may_stop olds before news after halt
+  rounds_twice g now setting listed may_stop olds mids news before mid after made halt noted leads next = subst (λ (x : Setting). Rounds x listed may_stop olds before news after halt) setting (record {
+    rest = next.rest;
+    made = made ++ next.made;
+    goes = next.goes;
+    noted = next.noted ∙ ap (λ (l : Events). logged listed l next.made) noted ∙ logged_twice listed before made next.made;
+    leads = λ inputs evs b. subst (λ (l : Events). Began inputs (coming now (lanes_held news) next.rest) l) (append_assoc evs made next.made) (next.leads inputs (evs ++ made) (subst (λ (x : Setting). Leads x olds mids [] made) (sym setting) leads inputs evs b));
+  })
+
+  -- what holds between rounds, after those in which nothing halted
+  pub leads_on : (g : Setting) (listed may_stop : Bool) (olds news : List (Turner A)) (before after : Events) (rounds : Rounds g listed may_stop olds before news after None) → Leads g olds news [] rounds.made
+  leads_on g listed may_stop olds news before after rounds = subst (λ (l : List Token). Leads g olds news l rounds.made) rounds.goes.1 rounds.leads
+
+pub map_same : {X : Type 0} (xs : List X) → map (λ y. y) xs ≡ xs
+map_same [] = refl
+map_same (x ∷ xs) = ap (λ (l : List _). x ∷ l) (map_same xs)
+
+-- LANES WITHOUT THE TOKENS THAT ARE ON THEIR WAY
+get_front : {X : Type 0} (xs ys : List X) (k : ℕ) (d : X) → k < length xs → get_or (xs ++ ys) k d ≡ get_or xs k d
+get_front [] ys k d low = absurd (omega (arith, low))
+get_front (x ∷ xs) ys zero d low = refl
+get_front (x ∷ xs) ys (suc k) d low = get_front xs ys k d (omega arith)
+
+front_all : {X : Type 0} (P : X → Type 0) (xs ys : List X) → All P (xs ++ ys) → All P xs
+front_all P xs ys all = λ k d low.
+    let more : k < length (xs ++ ys) = (let l = length-append xs ys in omega (arith, low, l)) in
+    subst P (get_front xs ys k d low) (all k d more)
+
+unqueued_placed : (g : Setting) (ts : List Token) (i : ℕ) (h : Held) → IsPlaced g i (queued h ts) → IsPlaced g i h
+unqueued_placed g ts i h p = record {
+  element = p.element;
+  elements = p.elements;
+  frames = p.frames;
+  width = p.width;
+  made = p.made;
+  sound = record {
+    part = p.sound.part;
+    near = front_all (IsNearToken (bounds g.program h.part.shape)) h.queue (here h.part.shape ts) p.sound.near;
+    addressed = front_all (λ (t : Token). element_of h.part.shape.elements t.to ≡ h.part.shape.element) h.queue (here h.part.shape ts) p.sound.addressed;
+    answered = p.sound.answered;
+  };
+}
+
+pub raw_sound : (g : Setting) (raw : List Held) (ts : List Token) → IsSoundState (coming g raw ts) → IsSoundState (record { setting = g; lanes = raw })
+raw_sound g raw ts sound = record {
+  setting = sound.setting;
+  count = sym (length-map raw (λ (h : Held). queued h ts)) ∙ sound.count;
+  lanes = to_map (IsPlaced g) (IsPlaced g) (λ (h : Held). queued h ts) (unqueued_placed g ts) 0 raw sound.lanes;
+}
+
+pub none_sound : (g : Setting) (raw : List Held) → IsSoundState (record { setting = g; lanes = raw }) → IsSoundState (coming g raw [])
+none_sound g raw sound = subst (λ (l : List Held). IsSoundState (record { setting = g; lanes = l })) (sym (delivered_none raw)) sound
+
+-- THE REPORT
+-- an end of which no gate is the cause
+end_any : (p : Program) (z : Size) (steps : ℕ) (listed may_stop : Bool) (evs : Events) (m : Machine) (e : End) → HasEnd p z steps listed false evs m e → HasEnd p z steps listed may_stop evs m e
+end_any p z steps listed may_stop evs m End.Rest h = h
+end_any p z steps listed may_stop evs m End.Starved h = h
+end_any p z steps listed may_stop evs m (End.Clash a i) h = h
+end_any p z steps listed may_stop evs m End.Steps h = h
+end_any p z steps listed may_stop evs m (End.Stuck n) h = h
+end_any p z steps listed may_stop evs m End.Memory h = h
+end_any p z steps listed may_stop evs m End.Stop h = absurd (let no : ⊥ = cc in no)
+
+pub shows_any : (p : Program) (z : Size) (inputs : List ℤ) (steps : ℕ) (listed may_stop : Bool) (r : Report) → Shows p z inputs steps listed false r → Shows p z inputs steps listed may_stop r
+shows_any p z inputs steps listed may_stop r s = record {
+  last = s.last;
+  run = s.run;
+  picture = s.picture;
+  ends = end_any p z steps listed may_stop r.events s.last r.end s.ends;
+}
+
+-- the report of the machine before its first event
+pub refused_shows : (s : State) (inputs : List ℤ) (listed may_stop : Bool) (kept evs : Events) (r : Report) → IsSoundState s → r ≡ opening_picture (outputs_of s.setting.program)
+    → ShowsOn listed s.setting.program (size s.setting) inputs s.setting.steps may_stop kept evs r
+refused_shows s inputs listed may_stop kept evs r sound is =
+    let p = s.setting.program in
+    let shown = shows_any p (size s.setting) inputs s.setting.steps false may_stop (opening_picture (outputs_of p)) (shows_opening s inputs false (outputs_of p) sound refl) in
+    ([], subst (λ (x : Report). Shows p (size s.setting) inputs s.setting.steps false may_stop (with_events x [])) (sym is) shown, λ l same. ap (λ (x : Report). x.events) is)
+
+-- what is told of a run whose events are listed, and of one whose events are not
+pub told_run : (p : Program) (z : Size) (inputs : List ℤ) (steps : ℕ) (may_stop : Bool) (evs : Events) (r : Report) → ShowsOn true p z inputs steps may_stop evs evs r → Shows p z inputs steps false may_stop r
+told_run p z inputs steps may_stop evs r (shown, shows, lists) = subst (λ (l : Events). Shows p z inputs steps false may_stop (with_events r l)) (sym (lists refl refl)) shows
+
+pub told_quietly : (p : Program) (z : Size) (inputs : List ℤ) (steps : ℕ) (may_stop : Bool) (kept evs : Events) (r : Report) → r.events ≡ [] → ShowsOn false p z inputs steps may_stop kept evs r → ShowsQuietly p z inputs steps false may_stop r
+told_quietly p z inputs steps may_stop kept evs r none (shown, shows, lists) = record { unlisted = none; events = shown; shows = shows }
+
+module _ {A : Type 0} where
+  pub between_start : (g : Setting) (ts : List (Turner A)) (raw : List Held) → lanes_held ts ≡ raw → tokens_sent ts ≡ [] → events_noted ts ≡ [] → IsSoundState (coming g raw []) → IsBetween g ts
+  between_start g ts raw is sent noted sound = record { sound = subst (λ (l : List Held). IsSoundState (coming g l [])) (sym is) sound; sent = sent; noted = noted }
+
+  module _ (g now : Setting) (setting : now ≡ g) (listed may_stop : Bool) (olds news : List (Turner A)) (before after : Events) (halt : Halt) (rounds : Rounds g listed may_stop olds before news after (Some halt)) (raw : List Held) (lanes : raw ≡ lanes_held news) where
+    same_state : coming g (lanes_held news) rounds.rest ≡ coming now raw rounds.rest
+    same_state = ap (λ (x : Setting). coming x (lanes_held news) rounds.rest) (sym setting) ∙ ap (λ (l : List Held). coming now l rounds.rest) (sym lanes)
+
+    now_sound : IsSoundState (coming now raw rounds.rest)
+    now_sound = subst (λ (s : State). IsSoundState s) same_state rounds.goes.0
+
+    now_halts : IsHalted (coming now raw rounds.rest) may_stop halt
+    now_halts = subst (λ (s : State). IsHalted s may_stop halt) same_state rounds.goes.1
+
+    pub end_sound : IsSoundState (record { setting = now; lanes = raw })
+    end_sound = raw_sound now raw rounds.rest now_sound
+
+    pub end_cell : NamesCell now.program halt
+    end_cell = by_halt now_halts
+      where
+        by_halt : IsHalted (coming now raw rounds.rest) may_stop halt → NamesCell now.program halt
+        by_halt (inl halts) = clash_cell (coming now raw rounds.rest) false halt now_sound halts
+        by_halt (inr (stop, may)) = subst (λ (h : Halt). NamesCell now.program h) (sym stop) tt
+
+    -- a list that was empty stays so where no events are listed
+    pub end_unlisted : (r : Report) → (after ≡ [] → r.events ≡ []) → listed ≡ false → before ≡ [] → r.events ≡ []
+    end_unlisted r unlisted off none = unlisted (rounds.noted ∙ ap (λ (b : Bool). logged b before rounds.made) off ∙ none)
+
+    pub end_shows : (start : List Held) → lanes_held olds ≡ start → (r : Report)
+        → ((inputs : List ℤ) (in_list : Bool) (ts : List Token) (evs : Events) → IsSoundState (coming now raw ts) → Began inputs (coming now raw ts) evs → HaltsAs (coming now raw ts) in_list halt → ShowsBut now.program (size now) inputs now.steps in_list false after evs r)
+        → (halt ≡ Halt.Stop → (inputs : List ℤ) (in_list : Bool) (ts : List Token) (evs : Events) → IsSoundState (coming now raw ts) → Began inputs (coming now raw ts) evs → ShowsBut now.program (size now) inputs now.steps in_list true after evs r)
+        → (inputs : List ℤ) (evs : Events) → Began inputs (coming g start []) evs → ShowsOn listed g.program (size g) inputs g.steps may_stop before evs r
+    end_shows start is r shows stopped inputs evs b =
+        subst (λ (x : Setting). ShowsOn listed x.program (size x) inputs x.steps may_stop before evs r) setting (by_halt now_halts)
+      where
+        all : Events
+        all = evs ++ rounds.made
+
+        last : Began inputs (coming now raw rounds.rest) all
+        last = subst (λ (s : State). Began inputs s all) same_state (rounds.leads inputs evs (subst (λ (l : List Held). Began inputs (coming g l []) evs) (sym is) b))
+
+        kept : listed ≡ true → before ≡ evs → after ≡ all
+        kept on same = rounds.noted ∙ ap (λ (l : Bool). logged l before rounds.made) on ∙ ap (λ (l : Events). l ++ rounds.made) same
+
+        by_halt : IsHalted (coming now raw rounds.rest) may_stop halt → ShowsOn listed now.program (size now) inputs now.steps may_stop before evs r
+        by_halt (inl halts) =
+            let s = shows inputs false rounds.rest all now_sound last halts in
+            (s.0, shows_any now.program (size now) inputs now.steps false may_stop (with_events r s.0) s.1, λ on same. s.2 (kept on same))
+        by_halt (inr (stop, may)) =
+            let s = stopped stop inputs false rounds.rest all now_sound last in
+            (s.0, subst (λ (m : Bool). Shows now.program (size now) inputs now.steps false m (with_events r s.0)) (sym may) s.1, λ on same. s.2 (kept on same))

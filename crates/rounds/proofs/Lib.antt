@@ -1,0 +1,5 @@
+pub mod Going
+pub mod Turning
+pub mod Rounding
+pub mod Changes
+pub mod Closing

@@ -1,0 +1,72 @@
+use Rattle.std.proofs.Common.{◌≡◌, refl, sym, ◌∙◌, ap, ◌<◌, ◌≤◌, ◌++◌, [], List, length, arith}
+use Rattle.std.proofs.lemmas.List.{length-set}
+use Rattle.rounds.specs.Rounds.{lane_held, halt_in}
+use Rattle.rounds.proofs.Changes.{map_kept, flat_kept, flat_moved, flat_taken, flat_all}
+use Rattle.rounds.proofs.gathering.gather_events.Goals as goal
+
+pub returns-in_err-take_events-clause-lanes : goal.returns-in_err-take_events-clause-lanes
+returns-in_err-take_events-clause-lanes g c =
+    let ts = c.loop-at.turners in
+    let at = c.loop-at.at in
+    let old = c.index-turners-at.result in
+    let new = c.take_events.new.turner in
+    let e = c.take_events.ensures in
+    let inv = c.loop-at.invariant in
+    let low : at < length ts = (let t = c.loop-at-test.true in let a = c.loop-at.auto.at-end in let n = inv.count in omega arith) in
+    map_kept (λ t. lane_held t) ts at old new low e.held ∙ inv.lanes
+
+pub returns-in_err-take_events-clause-sent : goal.returns-in_err-take_events-clause-sent
+returns-in_err-take_events-clause-sent g c =
+    let ts = c.loop-at.turners in
+    let at = c.loop-at.at in
+    let old = c.index-turners-at.result in
+    let new = c.take_events.new.turner in
+    let e = c.take_events.ensures in
+    let inv = c.loop-at.invariant in
+    let low : at < length ts = (let t = c.loop-at-test.true in let a = c.loop-at.auto.at-end in let n = inv.count in omega arith) in
+    flat_kept (λ t. t.sent.items) ts at old new low e.sent ∙ inv.sent
+
+pub returns-in_err-take_events-clause-halts : goal.returns-in_err-take_events-clause-halts
+returns-in_err-take_events-clause-halts g c =
+    let ts = c.loop-at.turners in
+    let at = c.loop-at.at in
+    let old = c.index-turners-at.result in
+    let new = c.take_events.new.turner in
+    let e = c.take_events.ensures in
+    let inv = c.loop-at.invariant in
+    let low : at < length ts = (let t = c.loop-at-test.true in let a = c.loop-at.auto.at-end in let n = inv.count in omega arith) in
+    map_kept (λ t. halt_in t) ts at old new low e.halt ∙ inv.halts
+
+pub returns-in_err-take_events-clause-events : goal.returns-in_err-take_events-clause-events
+returns-in_err-take_events-clause-events g c =
+    let ts = c.loop-at.turners in
+    let at = c.loop-at.at in
+    let old = c.index-turners-at.result in
+    let new = c.take_events.new.turner in
+    let e = c.take_events.ensures in
+    let inv = c.loop-at.invariant in
+    let low : at < length ts = (let t = c.loop-at-test.true in let a = c.loop-at.auto.at-end in let n = inv.count in omega arith) in
+    flat_moved (λ t. t.log.items) ts at old new c.loop-at.events.items c.take_events.new.events.items low inv.cleared e.events ∙ inv.events
+
+pub loop-at-preserved : goal.loop-at-preserved
+loop-at-preserved g c =
+    let ts = c.loop-at.turners in
+    let at = c.loop-at.at in
+    let old = c.index-turners-at.result in
+    let new = c.take_events.new.turner in
+    let e = c.in_ok-take_events.ensures in
+    let inv = c.loop-at.invariant in
+    let low : at < length ts = (let t = c.loop-at-test.true in let a = c.loop-at.auto.at-end in let n = inv.count in omega arith) in
+    record {
+      lanes = map_kept (λ t. lane_held t) ts at old new low e.held ∙ inv.lanes;
+      sent = flat_kept (λ t. t.sent.items) ts at old new low e.sent ∙ inv.sent;
+      halts = map_kept (λ t. halt_in t) ts at old new low e.halt ∙ inv.halts;
+      events = flat_moved (λ t. t.log.items) ts at old new c.loop-at.events.items c.take_events.new.events.items low inv.cleared e.events ∙ inv.events;
+      cleared = flat_taken (λ t. t.log.items) ts at new low inv.cleared e.cleared;
+      count = length-set ts at new ∙ inv.count;
+    }
+
+pub returns-clause-cleared : goal.returns-clause-cleared
+returns-clause-cleared g c =
+    let past : length c.loop-at.turners ≤ c.loop-at.at = (let t = c.loop-at-test.false in let a = c.loop-at.auto.at-end in let n = c.loop-at.invariant.count in omega arith) in
+    flat_all (λ t. t.log.items) c.loop-at.turners c.loop-at.at past c.loop-at.invariant.cleared

@@ -1,0 +1,50 @@
+use Rattle.std.proofs.Common.{◌≡◌, refl, ◌∙◌, subst, [], Some, None, Option}
+use Rattle.schedule.specs.declared.halt.Halt.{Halt}
+use Rattle.schedule.specs.Apart.{setting_in}
+use Rattle.schedule.specs.Setting.{Setting}
+use Rattle.rounds.specs.Rounds.{Rounds}
+use Rattle.rounds.proofs.Turning.{logged_none}
+use Rattle.rounds.proofs.Closing.{leads_none, rounds_twice, leads_on}
+use Rattle.rounds.proofs.rounds.play.Goals as goal
+
+pub rounds-init : goal.rounds-init
+rounds-init g c = record {
+  setting = refl;
+  between = c.requires.between;
+  tokens = c.requires.tokens;
+  made = [];
+  noted = logged_none c.args.listed c.args.setup.now.events.items;
+  leads = leads_none {A = g.row.A.Denot} (setting_in g.C.Instructions.program g.C.Instructions.width c.args.setup.now) c.args.turners.now.items;
+}
+
+pub returns-in-Some-2-clause-rounds : goal.returns-in-Some-2-clause-rounds
+returns-in-Some-2-clause-rounds g c =
+    let s : Setting = setting_in g.C.Instructions.program g.C.Instructions.width c.args.setup.now in
+    let now : Setting = setting_in g.C.Instructions.program g.C.Instructions.width c.rounds.setup in
+    let inv = c.rounds.invariant in
+    let mids = c.rounds.turners.items in
+    let news = c.round.new.turners.items in
+    let may = g.G.Gate.may_stop in
+    rounds_twice {A = g.row.A.Denot} s now inv.setting c.args.listed may c.args.turners.now.items mids news c.args.setup.now.events.items c.rounds.setup.events.items c.round.new.setup.events.items inv.made (Some c.in-Some-2.halt) inv.noted inv.leads
+    (subst (λ (o : Option Halt). Rounds now c.args.listed may mids c.rounds.setup.events.items news c.round.new.setup.events.items o) c.in-Some-2.is c.in_ok-halt.ensures.rounds)
+
+pub rounds-preserved : goal.rounds-preserved
+rounds-preserved g c =
+    let s : Setting = setting_in g.C.Instructions.program g.C.Instructions.width c.args.setup.now in
+    let now : Setting = setting_in g.C.Instructions.program g.C.Instructions.width c.rounds.setup in
+    let inv = c.rounds.invariant in
+    let mids = c.rounds.turners.items in
+    let news = c.round.new.turners.items in
+    let may = g.G.Gate.may_stop in
+    let after = c.round.new.setup.events.items in
+    let none : c.in_ok-halt.field-0 ≡ None = cc in
+    let all = rounds_twice {A = g.row.A.Denot} s now inv.setting c.args.listed may c.args.turners.now.items mids news c.args.setup.now.events.items c.rounds.setup.events.items after inv.made None inv.noted inv.leads
+    (subst (λ (o : Option Halt). Rounds now c.args.listed may mids c.rounds.setup.events.items news after o) none c.in_ok-halt.ensures.rounds) in
+    record {
+      setting = c.round.ensures.setting ∙ inv.setting;
+      between = all.goes.0;
+      tokens = c.in_ok-halt.ensures.tokens none;
+      made = all.made;
+      noted = all.noted;
+      leads = leads_on {A = g.row.A.Denot} s c.args.listed may c.args.turners.now.items news c.args.setup.now.events.items after all;
+    }

@@ -1,0 +1,16 @@
+use Rattle.std.proofs.Common.{◌≡◌, []}
+use Rattle.semantics.specs.Machine.{Events}
+use Rattle.schedule.specs.Apart.{setting_in}
+use Rattle.rounds.specs.Turns.{logged}
+use Rattle.rounds.specs.Rounds.{IsBetween, Leads}
+use Rattle.rounds.proofs.rounds.play.Given as goal
+
+abbrev pub invariant-rounds : goal.invariant-rounds
+invariant-rounds g l = record {
+  setting : setting_in g.C.Instructions.program g.C.Instructions.width l.setup ≡ setting_in g.C.Instructions.program g.C.Instructions.width l.fn.setup;
+  between : IsBetween (setting_in g.C.Instructions.program g.C.Instructions.width l.fn.setup) l.turners.items;
+  tokens : l.tokens.items ≡ [];
+  made : Events;
+  noted : l.setup.events.items ≡ logged l.listed l.fn.setup.events.items made;
+  leads : Leads (setting_in g.C.Instructions.program g.C.Instructions.width l.fn.setup) l.fn.turners.items l.turners.items [] made;
+}

@@ -1,0 +1,88 @@
+-- What lanes hold between rounds.
+use Rattle.std.specs.Prelude.{◌≡◌, ℕ, ◌<◌, ◌⊎◌, ℤ, List, [], ◌++◌, Bool, true, false, length, map, Option, Some, None, slice_get, ⊤}
+use Rattle.std.specs.List.{flat_map}
+use Rattle.tags.specs.declared.token.Token.{Token}
+use Rattle.semantics.specs.Program.{Program}
+use Rattle.semantics.specs.Machine.{Size, Events}
+use Rattle.semantics.specs.Report.{Report, Shows}
+use Rattle.schedule.specs.Unlisted.{with_events}
+use Rattle.element.specs.Held.{Held, held_of}
+use Rattle.schedule.specs.declared.halt.Halt.{Halt}
+use Rattle.schedule.specs.Setting.{Setting}
+use Rattle.schedule.specs.State.{State, IsSoundState, tokens_in}
+use Rattle.schedule.specs.Runs.{Began, HaltsAs}
+use Rattle.rounds.specs.declared.turn.Turner.{Turner}
+use Rattle.rounds.specs.Turns.{coming, logged}
+
+abbrev pub lane_held : {A : Type 0} → Turner A → Held
+lane_held t = held_of t.lane
+
+abbrev pub lanes_held : {A : Type 0} → List (Turner A) → List Held
+lanes_held ts = map lane_held ts
+
+abbrev pub tokens_sent : {A : Type 0} → List (Turner A) → List Token
+tokens_sent ts = flat_map (λ t. t.sent.items) ts
+
+abbrev pub events_noted : {A : Type 0} → List (Turner A) → Events
+events_noted ts = flat_map (λ t. t.log.items) ts
+
+abbrev pub halt_in : {A : Type 0} → Turner A → Option Halt
+halt_in t = t.halt
+
+abbrev pub halts_in : {A : Type 0} → List (Turner A) → List (Option Halt)
+halts_in ts = map halt_in ts
+
+-- nothing is on its way
+abbrev pub IsCleared : {A : Type 0} → List (Turner A) → Type 0
+IsCleared ts = (tokens_sent ts ≡ []) × (events_noted ts ≡ [])
+
+-- the first element that halts
+abbrev pub IsFirst : List (Option Halt) → Halt → Type 0
+IsFirst halts halt = (e : ℕ) × (slice_get halts e ≡ Some (Some halt)) × ((i : ℕ) → i < e → slice_get halts i ≡ Some None)
+
+-- the first element that halts says why, or no token is left
+abbrev pub IsWhy : List Held → List (Option Halt) → Option Halt → Type 0
+IsWhy lanes halts None = ⊤
+IsWhy lanes halts (Some halt) = IsFirst halts halt ⊎ ((tokens_in lanes ≡ []) × (halt ≡ Halt.NoToken))
+
+-- what holds between rounds
+pub record IsBetween {A : Type 0} (g : Setting) (ts : List (Turner A)) : Type 0 where
+  pub sound : IsSoundState (coming g (lanes_held ts) [])
+  pub sent : tokens_sent ts ≡ []
+  pub noted : events_noted ts ≡ []
+
+-- why a run halts here; `may_stop`: the gate may answer false
+abbrev pub IsHalted : State → Bool → Halt → Type 0
+IsHalted s may_stop halt = HaltsAs s false halt ⊎ ((halt ≡ Halt.Stop) × (may_stop ≡ true))
+
+-- Where nothing halts it is as between rounds; and else the tokens that are on their way are these.
+abbrev pub GoesOn : {A : Type 0} → Setting → Bool → List (Turner A) → List Token → Option Halt → Type 0
+GoesOn g may_stop ts rest None = IsBetween g ts × (rest ≡ [])
+GoesOn g may_stop ts rest (Some halt) = IsSoundState (coming g (lanes_held ts) rest) × IsHalted (coming g (lanes_held ts) rest) may_stop halt
+
+-- what is known of the machine with these tokens on their way, if it was known with none
+abbrev pub Leads : {A : Type 0} → Setting → List (Turner A) → List (Turner A) → List Token → Events → Type 0
+Leads g old new rest made = (inputs : List ℤ) (before : Events) → Began inputs (coming g (lanes_held old) []) before → Began inputs (coming g (lanes_held new) rest) (before ++ made)
+
+-- what rounds do, with the events that they made
+pub record Rounds {A : Type 0} (g : Setting) (listed may_stop : Bool) (old : List (Turner A)) (before : Events) (new : List (Turner A)) (after : Events) (halt : Option Halt) : Type 0 where
+  pub rest : List Token
+  pub made : Events
+  pub goes : GoesOn g may_stop new rest halt
+  pub noted : after ≡ logged listed before made
+  pub leads : Leads g old new rest made
+
+-- what the turns of a round leave, with all tokens that are on their way
+pub record MadeRound {A : Type 0} (g : Setting) (listed may_stop : Bool) (old : List (Turner A)) (before : Events) (new : List (Turner A)) (after : Events) (tokens : List Token) : Type 0 where
+  pub sound : IsSoundState (coming g (lanes_held new) tokens)
+  pub made : Events
+  pub noted : after ≡ logged listed before made
+  pub leads : Leads g old new tokens made
+  pub halts : (e : ℕ) (halt : Halt) → slice_get (halts_in new) e ≡ Some (Some halt) → IsHalted (coming g (lanes_held new) tokens) may_stop halt
+  pub cleared : events_noted new ≡ []
+  pub count : length new ≡ length old
+
+-- The report shows a run that went on from these events; where events are listed, and these are those that were kept, it
+-- lists those of the run.
+abbrev pub ShowsOn : Bool → Program → Size → List ℤ → ℕ → Bool → Events → Events → Report → Type 0
+ShowsOn listed p z inputs steps may_stop kept events r = (shown : Events) × Shows p z inputs steps false may_stop (with_events r shown) × (listed ≡ true → kept ≡ events → r.events ≡ shown)

@@ -1,0 +1,90 @@
+-- What a lane does in its turn, and what lanes do in a round.
+use Rattle.std.specs.Prelude.{◌≡◌, ℕ, suc, ◌<◌, ◌≤◌, Bool, true, false, List, [], ◌∷◌, ◌++◌, ◌^◌, map, length, Option, Some, None, ⊤}
+use Rattle.std.specs.List.{flat_map}
+use Rattle.tags.specs.declared.token.Token.{Token}
+use Rattle.semantics.specs.Program.{Program}
+use Rattle.semantics.specs.Machine.{Events}
+use Rattle.element.specs.Held.{Held, held_of, IsSoundLane}
+use Rattle.element.specs.Steps.{Does, Clashes, Excludes}
+use Rattle.schedule.specs.declared.halt.Halt.{Halt}
+use Rattle.schedule.specs.Setting.{Setting}
+use Rattle.schedule.specs.State.{State, delivered, IsPlaced}
+use Rattle.rounds.specs.declared.turn.Turner.{Turner}
+
+-- the events of an element that took these tokens
+abbrev pub by : ℕ → List Token → Events
+by e ts = map (λ (t : Token). (e, t)) ts
+
+-- what a list is after these events, where events are listed and where they are not
+abbrev pub logged : Bool → Events → Events → Events
+logged true log events = log ++ events
+logged false log events = log
+
+-- The lane took these tokens, its oldest first, an event each. Those that it made for others came behind `before`.
+abbrev pub Turns : Program → ℕ → Held → List Token → List Token → Held → List Token → Type 0
+Turns p steps old before [] new after = (new ≡ old) × (after ≡ before)
+Turns p steps old before (t ∷ ts) new after =
+    (mid : Held) × (sent : List Token) × (does : Does p old 0 before mid sent) × (does.token ≡ t) × (old.made < steps) × IsSoundLane p mid
+    × Turns p steps mid sent ts new after
+
+-- why a lane makes no more events; `may_stop`: the gate may answer false
+abbrev pub HaltsLane : Program → ℕ → Bool → Held → Option Halt → Type 0
+HaltsLane p steps may_stop h None = ⊤
+HaltsLane p steps may_stop h (Some Halt.NoToken) = ⊥
+HaltsLane p steps may_stop h (Some (Halt.Clash cell)) = (0 < length h.queue) × (h.made < steps) × Clashes h 0 cell
+HaltsLane p steps may_stop h (Some Halt.Steps) = (0 < length h.queue) × (h.made ≡ steps)
+HaltsLane p steps may_stop h (Some (Halt.Stuck rule)) = (0 < length h.queue) × (h.made < steps) × Excludes p h 0 rule
+HaltsLane p steps may_stop h (Some Halt.Memory) = ⊤
+HaltsLane p steps may_stop h (Some Halt.Stop) = may_stop ≡ true
+
+-- A lane with what it made for others, the events that it noted, and why it halts
+pub record Turned : Type 0 where
+  pub held : Held
+  pub sent : List Token
+  pub log : Events
+  pub halt : Option Halt
+
+abbrev pub turned_of : {A : Type 0} → Turner A → Turned
+turned_of t = record { held = held_of t.lane; sent = t.sent.items; log = t.log.items; halt = t.halt }
+
+-- it may take a turn
+pub record IsReady (p : Program) (slots most : ℕ) (t : Turned) : Type 0 where
+  pub sound : IsSoundLane p t.held
+  pub width : slots ≤ t.held.part.shape.width
+  pub few : t.held.made ≤ most
+  pub steps : most ≤ 2 ^ 32
+
+-- it took its turn
+pub record TakesTurn (p : Program) (steps turn : ℕ) (listed may_stop : Bool) (old new : Turned) : Type 0 where
+  pub sound : IsSoundLane p new.held
+  pub taken : List Token
+  pub turns : Turns p steps old.held old.sent taken new.held new.sent
+  pub noted : new.log ≡ logged listed old.log (by old.held.part.shape.element taken)
+  pub few : length taken ≤ turn
+  pub halts : HaltsLane p steps may_stop new.held new.halt
+
+-- lanes before, and after their turns
+abbrev pub Round : Setting → Bool → Bool → List Held → List Turned → Type 0
+Round g listed may_stop [] [] = ⊤
+Round g listed may_stop (h ∷ hs) (t ∷ ts) = TakesTurn g.program g.steps g.turn listed may_stop (record { held = h; sent = []; log = []; halt = None }) t × Round g listed may_stop hs ts
+Round g listed may_stop hs ts = ⊥
+
+-- the events of a round, those of one element after those of another
+abbrev pub made_in : (g : Setting) (listed may_stop : Bool) (hs : List Held) (ts : List Turned) → Round g listed may_stop hs ts → Events
+made_in g listed may_stop [] [] round = []
+made_in g listed may_stop [] (t ∷ ts) round = []
+made_in g listed may_stop (h ∷ hs) [] round = []
+made_in g listed may_stop (h ∷ hs) (t ∷ ts) (turn, rest) = by h.part.shape.element turn.taken ++ made_in g listed may_stop hs ts rest
+
+abbrev pub helds : List Turned → List Held
+helds ts = map (λ (t : Turned). t.held) ts
+
+abbrev pub all_sent : List Turned → List Token
+all_sent ts = flat_map (λ (t : Turned). t.sent) ts
+
+abbrev pub all_noted : List Turned → Events
+all_noted ts = flat_map (λ (t : Turned). t.log) ts
+
+-- lanes with tokens that are on their way, each seen where it is addressed to
+abbrev pub coming : Setting → List Held → List Token → State
+coming g raw ts = record { setting = g; lanes = delivered ts raw }

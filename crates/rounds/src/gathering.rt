@@ -1,0 +1,74 @@
+//! What the elements made in a round is gathered.
+
+ghost use Rattle.std.specs.Prelude.{◌≡◌, ◌++◌, [], length, OnOk};
+ghost use Rattle.rounds.specs.Rounds.{lane_held, lanes_held, tokens_sent, events_noted, halts_in};
+
+use crate::turn::Turner;
+use std::alloc::{AllocError, Allocator};
+use tags::token::Token;
+
+fn take_events<A: Allocator>(
+    turner: &mut Turner<'_, A>,
+    events: &mut Vec<(u32, Token), A>,
+) -> Result<(), AllocError>
+    ensures held { lane_held turner.new ≡ lane_held turner.old }
+    ensures sent { turner.new.sent.items ≡ turner.old.sent.items }
+    ensures halt { turner.new.halt ≡ turner.old.halt }
+    ensures events { events.new.items ++ turner.new.log.items ≡ events.old.items ++ turner.old.log.items }
+    ensures cleared { OnOk result (turner.new.log.items ≡ []) }
+{
+    let Turner { log, .. } = turner;
+    events.append(log)
+}
+
+fn take_tokens<A: Allocator>(
+    turner: &mut Turner<'_, A>,
+    tokens: &mut Vec<Token, A>,
+) -> Result<(), AllocError>
+    ensures held { lane_held turner.new ≡ lane_held turner.old }
+    ensures events { turner.new.log.items ≡ turner.old.log.items }
+    ensures halt { turner.new.halt ≡ turner.old.halt }
+    ensures tokens { tokens.new.items ++ turner.new.sent.items ≡ tokens.old.items ++ turner.old.sent.items }
+    ensures cleared { OnOk result (turner.new.sent.items ≡ []) }
+{
+    let Turner { sent, .. } = turner;
+    tokens.append(sent)
+}
+
+/// Takes the events of all elements, in order.
+pub fn gather_events<A: Allocator>(
+    turners: &mut [Turner<'_, A>],
+    events: &mut Vec<(u32, Token), A>,
+) -> Result<(), AllocError>
+    ensures lanes { lanes_held turners.new ≡ lanes_held turners.old }
+    ensures sent { tokens_sent turners.new ≡ tokens_sent turners.old }
+    ensures halts { halts_in turners.new ≡ halts_in turners.old }
+    ensures events { events.new.items ++ events_noted turners.new ≡ events.old.items ++ events_noted turners.old }
+    ensures cleared { OnOk result (events_noted turners.new ≡ []) }
+    ensures count { length turners.new ≡ length turners.old }
+{
+    for at in 0..turners.len() {
+        let turner = &mut turners[at];
+        take_events(turner, events)?;
+    }
+    Ok(())
+}
+
+/// Takes the tokens that all elements made for others, in order.
+pub fn gather_tokens<A: Allocator>(
+    turners: &mut [Turner<'_, A>],
+    tokens: &mut Vec<Token, A>,
+) -> Result<(), AllocError>
+    ensures lanes { lanes_held turners.new ≡ lanes_held turners.old }
+    ensures events { events_noted turners.new ≡ events_noted turners.old }
+    ensures halts { halts_in turners.new ≡ halts_in turners.old }
+    ensures tokens { tokens.new.items ++ tokens_sent turners.new ≡ tokens.old.items ++ tokens_sent turners.old }
+    ensures cleared { OnOk result (tokens_sent turners.new ≡ []) }
+    ensures count { length turners.new ≡ length turners.old }
+{
+    for at in 0..turners.len() {
+        let turner = &mut turners[at];
+        take_tokens(turner, tokens)?;
+    }
+    Ok(())
+}

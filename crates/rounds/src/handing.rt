@@ -1,0 +1,67 @@
+//! Tokens are handed over to the elements that they are addressed to.
+
+ghost use Rattle.std.specs.Prelude.{◌≡◌, ◌<◌, ◌++◌, ◌∷◌, [], List, length, OnOk, OnErr};
+ghost use Rattle.tags.specs.declared.token.Token.{Token};
+ghost use Rattle.element.specs.Held.{with_queue};
+ghost use Rattle.schedule.specs.State.{AllFrom, IsAt, delivered};
+ghost use Rattle.rounds.specs.Rounds.{lane_held, lanes_held, tokens_sent, events_noted, halts_in};
+
+use crate::turn::Turner;
+use std::alloc::{AllocError, Allocator};
+use tags::token::Token;
+
+fn receive_one<A: Allocator>(turner: &mut Turner<'_, A>, token: Token) -> Result<(), AllocError>
+    ensures ok { OnOk result (lane_held turner.new ≡ with_queue (lane_held turner.old) (turner.old.lane.queue.items ++ token ∷ [])) }
+    ensures err { OnErr result (lane_held turner.new ≡ lane_held turner.old) }
+    ensures sent { turner.new.sent.items ≡ turner.old.sent.items }
+    ensures events { turner.new.log.items ≡ turner.old.log.items }
+    ensures halt { turner.new.halt ≡ turner.old.halt }
+{
+    let Turner { lane, .. } = turner;
+    lane.receive(token)
+}
+
+// Puts a token into the lane of its element. After an error all stands as before.
+fn receive<A: Allocator>(
+    turners: &mut Vec<Turner<'_, A>, A>,
+    elements: u32,
+    token: Token,
+) -> Result<(), AllocError>
+    requires some { 0 < elements }
+    requires count { length turners.old.items ≡ elements }
+    requires at { AllFrom (IsAt elements) 0 (lanes_held turners.old.items) }
+    ensures ok { OnOk result (lanes_held turners.new.items ≡ delivered (token ∷ []) (lanes_held turners.old.items)) }
+    ensures err { OnErr result (lanes_held turners.new.items ≡ lanes_held turners.old.items) }
+    ensures sent { tokens_sent turners.new.items ≡ tokens_sent turners.old.items }
+    ensures events { events_noted turners.new.items ≡ events_noted turners.old.items }
+    ensures halts { halts_in turners.new.items ≡ halts_in turners.old.items }
+    ensures count { length turners.new.items ≡ length turners.old.items }
+{
+    let element = token.to.element(elements) as usize;
+    let turner = &mut turners[element];
+    receive_one(turner, token)
+}
+
+/// Hands the tokens over. After an error the others are still on their way.
+pub fn hand_over<A: Allocator>(
+    turners: &mut Vec<Turner<'_, A>, A>,
+    elements: u32,
+    tokens: &mut Vec<Token, A>,
+) -> Result<(), AllocError>
+    requires some { 0 < elements }
+    requires count { length turners.old.items ≡ elements }
+    requires at { AllFrom (IsAt elements) 0 (lanes_held turners.old.items) }
+    ensures same { (rest : List Token) × (delivered rest (lanes_held turners.new.items) ≡ delivered tokens.old.items (lanes_held turners.old.items)) × OnOk result (rest ≡ []) }
+    ensures tokens { OnOk result (tokens.new.items ≡ []) }
+    ensures sent { tokens_sent turners.new.items ≡ tokens_sent turners.old.items }
+    ensures events { events_noted turners.new.items ≡ events_noted turners.old.items }
+    ensures halts { halts_in turners.new.items ≡ halts_in turners.old.items }
+    ensures count { length turners.new.items ≡ length turners.old.items }
+{
+    for place in 0..tokens.len() {
+        let token = tokens[place];
+        receive(turners, elements, token)?;
+    }
+    tokens.clear();
+    Ok(())
+}

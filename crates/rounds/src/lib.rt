@@ -1,0 +1,11 @@
+//! Elements that take turns in rounds: in each round every element makes its turn in a thread of its own.
+#![tactic(auto)]
+
+mod gate;
+mod gathering;
+mod handing;
+mod rounds;
+mod turn;
+
+pub use gate::{Gate, Open};
+pub use rounds::{run, run_quietly};

@@ -1,0 +1,329 @@
+//! Rounds.
+
+ghost use Rattle.std.specs.Prelude.{◌≡◌, ◌<◌, ◌++◌, [], ℕ, ℤ, List, length, map, All, slice_index_or, IfOk, IfSome, OnOk, Some, None, true, false};
+ghost use Rattle.tags.specs.declared.token.Token.{Token};
+ghost use Rattle.semantics.specs.Machine.{Events};
+ghost use Rattle.semantics.specs.Report.{Shows};
+ghost use Rattle.element.specs.Held.{held_of};
+ghost use Rattle.schedule.specs.Setting.{size};
+ghost use Rattle.schedule.specs.State.{IsSoundState, tokens_in};
+ghost use Rattle.schedule.specs.Runs.{Began};
+ghost use Rattle.schedule.specs.Apart.{setting_in};
+ghost use Rattle.schedule.specs.Unlisted.{ShowsQuietly};
+ghost use Rattle.rounds.specs.Turns.{IsReady, TakesTurn, turned_of, coming};
+ghost use Rattle.rounds.specs.Rounds.{lanes_held, tokens_sent, IsCleared, halts_in, IsFirst, IsWhy, IsBetween, Rounds, MadeRound, ShowsOn};
+
+use crate::gate::Gate;
+use crate::gathering::{gather_events, gather_tokens};
+use crate::handing::hand_over;
+use crate::turn::{Turner, make_turn};
+use element::lane::Lane;
+use schedule::halt::Halt;
+use schedule::machine::Machine;
+use schedule::main_code::MainCode;
+use schedule::report::Report;
+use schedule::setup::Setup;
+use std::alloc::{AllocError, Allocator};
+use std::sync::Wait;
+use std::thread;
+use std::thread::Threads;
+use tags::token::Token;
+
+// Each element makes its turn, in a thread of its own.
+fn make_turns<R: Threads + Sync, C: MainCode + Sync, A: Allocator + Clone + Send, G: Gate + Sync>(
+    rt: &R,
+    turners: &mut [Turner<'_, A>],
+    code: &C,
+    gate: &G,
+    steps: u64,
+    turn: u64,
+    listed: bool,
+)
+    requires some { 0 < length turners.old }
+    requires ready { All (λ t. IsReady (C.program code.now) (C.width code.now) steps (turned_of t)) turners.old }
+    ensures each { (i : ℕ) (d : _) → i < length turners.old → TakesTurn (C.program code.now) steps turn listed G.may_stop (turned_of (slice_index_or turners.old i d)) (turned_of (slice_index_or turners.new i d)) }
+    ensures count { length turners.new ≡ length turners.old }
+{
+    let threads = turners.len();
+    thread::for_each_mut(
+        rt,
+        turners,
+        threads,
+        &|_: usize, turner: &mut Turner<'_, A>| -> ()
+            requires { IsReady (C.program code.now) (C.width code.now) steps (turned_of turner.old) }
+            ensures { TakesTurn (C.program code.entry.now) steps turn listed G.may_stop (turned_of turner.old) (turned_of turner.new) }
+        { make_turn(turner, code, gate, steps, turn, listed) },
+    );
+}
+
+// The first reason of an element to halt.
+fn first_halt<A: Allocator>(turners: &[Turner<'_, A>]) -> Option<Halt>
+    ensures { IfSome result (λ halt. IsFirst (halts_in turners.now) halt) }
+{
+    for at in 0..turners.len() {
+        if let Some(halt) = turners[at].halt {
+            return Some(halt);
+        }
+    }
+    None
+}
+
+// Whether no element has a token.
+fn is_idle<A: Allocator>(turners: &[Turner<'_, A>]) -> bool
+    ensures { result ≡ true → tokens_in (lanes_held turners.now) ≡ [] }
+{
+    for at in 0..turners.len() {
+        if turners[at].lane.queue.len() != 0 {
+            return false;
+        }
+    }
+    true
+}
+
+// Why the run halts after a round, in which no token is on its way.
+fn why<A: Allocator>(turners: &[Turner<'_, A>]) -> Option<Halt>
+    ensures { IsWhy (lanes_held turners.now) (halts_in turners.now) result }
+{
+    match first_halt(turners) {
+        Some(halt) => Some(halt),
+        None => {
+            if is_idle(turners) {
+                Some(Halt::NoToken)
+            } else {
+                None
+            }
+        }
+    }
+}
+
+// Each element makes its turn, and what they made is gathered; false where the list of tokens could not grow.
+fn make_round<R: Threads + Sync, C: MainCode + Sync, A: Allocator + Clone + Send, G: Gate + Sync>(
+    rt: &R,
+    setup: &mut Setup<'_, C, A>,
+    turners: &mut [Turner<'_, A>],
+    tokens: &mut Vec<Token, A>,
+    gate: &G,
+    listed: bool,
+) -> Result<bool, AllocError>
+    requires some { 0 < length turners.old }
+    requires between { IsBetween (setting_in C.program C.width setup.old) turners.old }
+    requires tokens { tokens.old.items ≡ [] }
+    ensures setting { setting_in C.program C.width setup.new ≡ setting_in C.program C.width setup.old }
+    ensures made { OnOk result (MadeRound (setting_in C.program C.width setup.old) listed G.may_stop turners.old setup.old.events.items turners.new setup.new.events.items (tokens.new.items ++ tokens_sent turners.new)) }
+    ensures all { IfOk result (λ all. all ≡ true → tokens_sent turners.new ≡ []) }
+    ensures count { length turners.new ≡ length turners.old }
+{
+    make_turns(
+        rt,
+        turners,
+        setup.code,
+        gate,
+        setup.steps,
+        setup.turn,
+        listed,
+    );
+    gather_events(turners, &mut setup.events)?;
+    match gather_tokens(turners, tokens) {
+        Ok(()) => Ok(true),
+        Err(_) => Ok(false),
+    }
+}
+
+// A round of all elements.
+fn make_whole_round<
+    R: Threads + Sync,
+    C: MainCode + Sync,
+    A: Allocator + Clone + Send,
+    G: Gate + Sync,
+>(
+    rt: &R,
+    setup: &mut Setup<'_, C, A>,
+    turners: &mut Vec<Turner<'_, A>, A>,
+    tokens: &mut Vec<Token, A>,
+    gate: &G,
+    listed: bool,
+) -> Result<bool, AllocError>
+    requires some { 0 < length turners.old.items }
+    requires between { IsBetween (setting_in C.program C.width setup.old) turners.old.items }
+    requires tokens { tokens.old.items ≡ [] }
+    ensures setting { setting_in C.program C.width setup.new ≡ setting_in C.program C.width setup.old }
+    ensures made { OnOk result (MadeRound (setting_in C.program C.width setup.old) listed G.may_stop turners.old.items setup.old.events.items turners.new.items setup.new.events.items (tokens.new.items ++ tokens_sent turners.new.items)) }
+    ensures all { IfOk result (λ all. all ≡ true → tokens_sent turners.new.items ≡ []) }
+    ensures count { length turners.new.items ≡ length turners.old.items }
+{
+    make_round(rt, setup, turners, tokens, gate, listed)
+}
+
+// One round: why the run halts after it, if it does. An error is that the list of events could not grow.
+fn round<R: Threads + Sync, C: MainCode + Sync, A: Allocator + Clone + Send, G: Gate + Sync>(
+    rt: &R,
+    setup: &mut Setup<'_, C, A>,
+    turners: &mut Vec<Turner<'_, A>, A>,
+    tokens: &mut Vec<Token, A>,
+    gate: &G,
+    listed: bool,
+) -> Result<Option<Halt>, AllocError>
+    requires between { IsBetween (setting_in C.program C.width setup.old) turners.old.items }
+    requires tokens { tokens.old.items ≡ [] }
+    ensures setting { setting_in C.program C.width setup.new ≡ setting_in C.program C.width setup.old }
+    ensures rounds { IfOk result (λ halt. Rounds (setting_in C.program C.width setup.old) listed G.may_stop turners.old.items setup.old.events.items turners.new.items setup.new.events.items halt) }
+    ensures tokens { IfOk result (λ halt. halt ≡ None → tokens.new.items ≡ []) }
+{
+    let all = make_whole_round(rt, setup, turners, tokens, gate, listed)?;
+    if !all {
+        return Ok(Some(Halt::Memory));
+    }
+    match hand_over(turners, setup.elements, tokens) {
+        Ok(()) => Ok(why(turners)),
+        Err(_) => Ok(Some(Halt::Memory)),
+    }
+}
+
+// Rounds until the run halts. An error is that the list of events could not grow.
+fn play<R: Threads + Wait + Sync, C: MainCode + Sync, A: Allocator + Clone + Send, G: Gate + Sync>(
+    rt: &R,
+    setup: &mut Setup<'_, C, A>,
+    turners: &mut Vec<Turner<'_, A>, A>,
+    tokens: &mut Vec<Token, A>,
+    gate: &G,
+    listed: bool,
+) -> Result<Halt, AllocError>
+    requires between { IsBetween (setting_in C.program C.width setup.old) turners.old.items }
+    requires tokens { tokens.old.items ≡ [] }
+    ensures setting { setting_in C.program C.width setup.new ≡ setting_in C.program C.width setup.old }
+    ensures rounds { IfOk result (λ halt. Rounds (setting_in C.program C.width setup.old) listed G.may_stop turners.old.items setup.old.events.items turners.new.items setup.new.events.items (Some halt)) }
+{
+    'rounds: for _ in rt.forever() {
+        if let Some(halt) = round(rt, setup, turners, tokens, gate, listed)? {
+            return Ok(halt);
+        }
+    }
+    unreachable!()
+}
+
+fn turner<'m, A: Allocator>(alloc: &A, lane: Lane<'m, A>) -> Result<Turner<'m, A>, AllocError>
+where
+    A: Clone,
+    ensures { IfOk result (λ t. (held_of t.lane ≡ held_of lane.entry) × (t.sent.items ≡ []) × (t.log.items ≡ [])) }
+{
+    let sent = Vec::new(alloc.clone()?);
+    let log = Vec::new(alloc.clone()?);
+    Ok(Turner {
+        lane,
+        sent,
+        log,
+        halt: None,
+        blocks: 0,
+    })
+}
+
+fn turners_of<'m, A: Allocator>(
+    alloc: &A,
+    lanes: Vec<Lane<'m, A>, A>,
+) -> Result<Vec<Turner<'m, A>, A>, AllocError>
+where
+    A: Clone,
+    ensures lanes { IfOk result (λ ts. lanes_held ts.items ≡ map held_of lanes.entry.items) }
+    ensures cleared { IfOk result (λ ts. IsCleared ts.items) }
+{
+    let mut turners = Vec::with_capacity(alloc.clone()?, lanes.len())?;
+    for lane in lanes {
+        turners.push(turner(alloc, lane)?)?;
+    }
+    Ok(turners)
+}
+
+// The lanes, in their order.
+fn lanes_in<'m, A: Allocator>(
+    turners: Vec<Turner<'m, A>, A>,
+    lanes: &mut Vec<Lane<'m, A>, A>,
+) -> Result<(), AllocError>
+    requires { lanes.old.items ≡ [] }
+    ensures { OnOk result (map held_of lanes.new.items ≡ lanes_held turners.entry.items) }
+{
+    for turner in turners {
+        let Turner { lane, .. } = turner;
+        lanes.push(lane)?;
+    }
+    Ok(())
+}
+
+type Ready<'m, A> = (Vec<Turner<'m, A>, A>, Vec<Token, A>, Vec<Lane<'m, A>, A>);
+
+fn ready<'m, A: Allocator>(
+    alloc: &A,
+    lanes: Vec<Lane<'m, A>, A>,
+) -> Result<Ready<'m, A>, AllocError>
+where
+    A: Clone,
+    ensures lanes { IfOk result (λ r. lanes_held r.0.items ≡ map held_of lanes.entry.items) }
+    ensures cleared { IfOk result (λ r. IsCleared r.0.items × (r.1.items ≡ []) × (r.2.items ≡ [])) }
+{
+    let spare = Vec::with_capacity(alloc.clone()?, lanes.len())?;
+    let tokens = Vec::new(alloc.clone()?);
+    let turners = turners_of(alloc, lanes)?;
+    Ok((turners, tokens, spare))
+}
+
+fn run_apart<
+    R: Threads + Wait + Sync,
+    C: MainCode + Sync,
+    A: Allocator + Clone + Send,
+    G: Gate + Sync,
+>(
+    mut setup: Setup<'_, C, A>,
+    lanes: Vec<Lane<'_, A>, A>,
+    rt: &R,
+    gate: &G,
+    listed: bool,
+) -> Report<A>
+    requires { IsSoundState (coming (setting_in C.program C.width setup) (map held_of lanes.items) []) }
+    ensures unlisted { listed ≡ false → setup.entry.events.items ≡ [] → result.events ≡ [] }
+    ensures shows { (inputs : List ℤ) (events : Events) → Began inputs (coming (setting_in C.program C.width setup.entry) (map held_of lanes.entry.items) []) events → ShowsOn listed (C.program setup.entry.code.now) (size (setting_in C.program C.width setup.entry)) inputs setup.entry.steps G.may_stop setup.entry.events.items events result }
+{
+    let Ok((mut turners, mut tokens, mut spare)) = ready(&setup.alloc, lanes) else {
+        return setup.refused();
+    };
+    let Ok(halt) = play(rt, &mut setup, &mut turners, &mut tokens, gate, listed) else {
+        return setup.refused();
+    };
+    match lanes_in(turners, &mut spare) {
+        Ok(()) => setup.report(spare, halt),
+        Err(_) => setup.refused(),
+    }
+}
+
+/// Makes rounds until the run halts, and reports. In each round every element asks the gate, and makes up to `turn` events
+/// with its oldest tokens, in a thread of its own; then the tokens for others are handed over, in the order of the elements.
+/// Where several elements halt, the one of least number says why the run does.
+pub fn run<
+    R: Threads + Wait + Sync,
+    C: MainCode + Sync,
+    A: Allocator + Clone + Send,
+    G: Gate + Sync,
+>(machine: Machine<'_, C, A>, rt: &R, gate: &G) -> Report<A>
+    ensures shows { (inputs : List ℤ) → Began inputs machine.entry.state machine.entry.events → Shows machine.entry.state.setting.program (size machine.entry.state.setting) inputs machine.entry.state.setting.steps false G.may_stop result }
+{
+    match machine.into_lanes() {
+        Ok((setup, lanes)) => run_apart(setup, lanes, rt, gate, true),
+        Err(machine) => machine.report(Halt::Memory),
+    }
+}
+
+/// As `run`, but the report lists no events: there is a run that it shows. A long run takes no more memory than a short one.
+pub fn run_quietly<
+    R: Threads + Wait + Sync,
+    C: MainCode + Sync,
+    A: Allocator + Clone + Send,
+    G: Gate + Sync,
+>(machine: Machine<'_, C, A>, rt: &R, gate: &G) -> Report<A>
+    ensures shows { (inputs : List ℤ) → Began inputs machine.entry.state machine.entry.events → ShowsQuietly machine.entry.state.setting.program (size machine.entry.state.setting) inputs machine.entry.state.setting.steps false G.may_stop result }
+{
+    match machine.into_lanes() {
+        Ok((mut setup, lanes)) => {
+            setup.events.clear();
+            run_apart(setup, lanes, rt, gate, false)
+        }
+        Err(machine) => machine.without_events().report(Halt::Memory),
+    }
+}
