@@ -92,7 +92,7 @@ module _ (stage : ℕ) (fl : Flow) (p : Plan) (w : Wires) (inputs : List ℤ) (q
       let same : place ≡ n = omega (arith, ips, first) in
       sym ((laid stage fl p w inputs q m good k d h).here part x.part_here).2.mark ∙ (λ t. mark_at p (one t) (same t)) ∙ mark
 
-  -- L6, the words of a mark
+  -- the words of a mark
   pub agrees : InputsFit fl inputs → Agrees fl p inputs q m
   agrees fit f ip jp c v u mi mj same cv cu =
       let i = from_met stage fl p w inputs q m good k f ip Right v cv in let j = from_met stage fl p w inputs q m good k f jp Right u cu in

@@ -343,7 +343,7 @@ module _ (stage : ℕ) (fl : Flow) (p : Plan) (w : Wires) (inputs : List ℤ) (q
       go s z t u p q = by_port s t z (subst (λ (t : Bool). sender_way t s i.inlet.way ≡ true) u (subst (λ (s : Port). sender_way (is_strict_in fl j.context n) s i.inlet.way ≡ true) (same ∙ z) p))
           (subst (λ (t : Bool). sender_way t s j.inlet.way ≡ true) u (subst (λ (s : Port). sender_way (is_strict_in fl j.context n) s j.inlet.way ≡ true) z q))
 
-  -- L6. A port gets one token
+  -- A port gets one token
   pub is_once : IsOnce fl p inputs q m
   is_once f ip r o =
       let test : Token → Bool = λ (t : Token). is_at f ip r t.to in
@@ -388,7 +388,7 @@ module _ (stage : ℕ) (fl : Flow) (p : Plan) (w : Wires) (inputs : List ℤ) (q
       subst (λ (n : ℕ). same_block p.program.blocks n jp ≡ true) (ap (λ (c : Context). ip_of fl p w c i.0.inlet.part) (sym e) ∙ a.place) (subst (λ (n : ℕ). same_block p.program.blocks (ip_of fl p w j.0.context i.0.inlet.part) n ≡ true) b.place
       (block_same j.0.context b.context i.0.inlet.part j.0.inlet.part (subst (λ (c : Context). there_in fl (site_in fl w c) (wiring_in fl w c) i.0.inlet.part ≡ true) e a.part_here) b.part_here))
 
-  -- L7. What is no entry comes along an arc that was used
+  -- What is no entry comes along an arc that was used
   module _ (c : Context) (here : IsContext fl c) where
     entry_below : (r : Part) → IsHere c here r → is_entry p.program.blocks (ip_of fl p w c r) ≡ false → (places c here).place r < (code c here).inputs + 1 → ⊥
     entry_below r h e l = true≢false (sym (entry_in p.program.blocks (code_in fl w c) ((places c here).place r) (code c here) (code_there c here) (place_below c here r h) l) ∙ e)

@@ -284,7 +284,6 @@ module _ (stage : ℕ) (fl : Flow) (p : Plan) (w : Wires) (good : IsGood stage f
       λ k h. let q = ap (λ (x : Item). predicate_at (block_in fl i.context) x.inlet.part x.inlet.port) (sym e) ∙ h.1 in absurd (cc),
     )
 
-    -- L3
     pub arms_are_entered : ArmsAreEntered fl w inputs
     arms_are_entered = record {
       enters = λ f i k t all c a. made_shows f all i k t (made_at stage fl p w good f i all c) a;

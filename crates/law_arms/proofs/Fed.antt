@@ -396,7 +396,6 @@ module _ (stage : ℕ) (fl : Flow) (p : Plan) (w : Wires) (good : IsGood stage f
         let given : is_given (block_in fl j.context) j.inlet.part ≡ true = ap (λ (c : Context). is_given (block_in fl c) j.inlet.part) g.0 ∙ g.1 in
         true≢false (sym given ∙ ap (λ (x : Spot). is_given (block_in fl x.context) x.inlet.part) e ∙ t.2)
 
-    -- L2
     pub inlets_are_fed : InletsAreFed fl w inputs
     inlets_are_fed = record {
       begins_once = λ x. cons_once x (item Main (inlet Entry Left 0) ToHost) (input_items 0 inputs) (inputs_once x 0 inputs) (λ j c e. entry j (input_cases 0 inputs j c) e);

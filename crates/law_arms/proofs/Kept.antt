@@ -272,7 +272,7 @@ module _ (stage : ℕ) (fl : Flow) (p : Plan) (w : Wires) (inputs : List ℤ) (q
       pick (inl h) = let g = there_get fl.blocks fd.b h in at_site (Runs fl w fd.b) (plain_site g.0 fd.b) (w.wiring fd.b) (good.wired.plain fd.b g.0 g.1) fd.b g.1 refl
       pick (inr (i, h, l, e)) = let g = there_get fl.blocks i h in at_site (Runs fl w (w.variant i)) (turn_site g.0 i (w.variant i)) (w.wiring (w.variant i)) (good.wired.turns i g.0 g.1 l) i g.1 e
 
-  -- L10, the bounds of loops
+  -- the bounds of loops
   pub bound_is_kept : AllCoded fl p w → BoundIsKept fl p inputs q m
   bound_is_kept coded = record {
     never_above = λ f loop b ip s part. above f loop b ip s part (cases_eq (q.granted f loop) 0);

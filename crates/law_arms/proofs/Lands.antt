@@ -227,7 +227,6 @@ module _ (stage : ℕ) (fl : Flow) (p : Plan) (w : Wires) (inputs : List ℤ) (q
       let at : base ≡ ip_of fl p w d (Landing n 0) = cc in
       has_landing d h.0 n (or_right (is_call (block_in fl d) n) (is_loop (block_in fl d) n) h.1) base o at (omega (arith, size, low)) in'.1
 
-  -- L11
   pub lands : Lands fl p inputs q m
   lands f ip g base o r i e d c =
       let x = from_met stage fl p w inputs q m good k f ip Left (Word.Back (Cont.Frame g base r)) c in

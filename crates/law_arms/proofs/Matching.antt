@@ -370,7 +370,7 @@ module _ (stage : ℕ) (fl : Flow) (p : Plan) (w : Wires) (inputs : List ℤ) (q
   each_free i c Freed e h u = freed_free i c e
   each_free i c r e h u = at_place i c r e h u
 
-  -- L10, no token is excluded, if none is that asks for a credit or gives one back
+  -- no token is excluded, if none is that asks for a credit or gives one back
   pub is_matching : ((i : Item) → Contains here.pending i → is_credit_part i.inlet.part ≡ true → IsFree i i.inlet.part) → IsMatching fl p inputs q m
   is_matching credits t c =
       let i = contains_map (token_of fl p w fired) here.pending t (Contains-permutation _ _ t k.follows.stands.pool c) in

@@ -136,7 +136,6 @@ module _ (stage : ℕ) (fl : Flow) (p : Plan) (w : Wires) (good : IsGood stage f
           (ap (λ (c : Context). record { context = c; inlet = inlet (Giver n) Left 0 }) (a ∙ sym b))
       by_part r d e u = same_way f h c a b r d e refl
 
-    -- L4
     pub rivals_are_apart : RivalsAreApart fl w inputs
     rivals_are_apart f h mine theirs e =
         let part : h.part ≡ f.part = ap (λ (r : Role). r.part) (sym e) in

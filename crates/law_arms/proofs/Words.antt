@@ -246,7 +246,6 @@ module _ (stage : ℕ) (fl : Flow) (p : Plan) (w : Wires) (good : IsGood stage f
       gift_word i (GNextInput d n t j e c g) = subst (WordFits fl w) (sym g) (right (NextSender (suc j)) e refl)
       gift_word i (GLoopDone n e g) = a_signal i _ _ g refl
 
-  -- L1
   pub made_fits : (f : Firing) (i : Item) → AllFit fl w (takes fl f) → Contains (makes fl w f) i → Fits fl w (spot_of i)
   made_fits f i all c = pick (made_cases fl w f i c)
     where

@@ -225,7 +225,7 @@ module _ (fl : Flow) (p : Plan) (w : Wires) (inputs : List ℤ) (q : Past) (m : 
         ap (λ (t : Token). t.word) i.2,
       )
 
-  -- L6. A port gets one token
+  -- A port gets one token
   pub is_once : IsOnce fl p inputs q m
   is_once f ip r o =
       let test : Token → Bool = λ (t : Token). is_at f ip r t.to in
@@ -250,7 +250,7 @@ module _ (fl : Flow) (p : Plan) (w : Wires) (inputs : List ℤ) (q : Past) (m : 
       subst (λ (n : ℕ). same_block p.program.blocks n jp ≡ true) i.1.place (subst (λ (n : ℕ). same_block p.program.blocks (ip_of fl p w Main i.0.inlet.part) n ≡ true) j.1.place
       (same_in p.program.blocks fl.main (places.place i.0.inlet.part) (places.place j.0.inlet.part) code code_there (place_below i.0.inlet.part i.1.part_here) (place_below j.0.inlet.part j.1.part_here)))
 
-  -- L7. What is no entry comes along an arc that was used
+  -- What is no entry comes along an arc that was used
   no_entry : (r : Part) → IsHere r → is_entry p.program.blocks (ip_of fl p w Main r) ≡ false → is_entry_part (block_in fl Main) r ≡ false
   no_entry r h e = go r h e
     where

@@ -220,7 +220,6 @@ module _ (fl : Flow) (p : Plan) (w : Wires) (good : IsGood 1 fl p w) (inputs : L
         in_root : lies_in (block_in fl Main) m ≡ Root
         in_root = ap (λ (t : Bool). arm_of (if t then None else slice_get (block_in fl Main).nodes (m - (block_in fl Main).inputs))) (lt-ltb m (block_in fl Main).inputs (input_below fl p w good inputs fit m l))
 
-    -- L3
     pub arms_are_entered : ArmsAreEntered fl w inputs
     arms_are_entered = record {
       enters = λ f i k t all c a. made_shows f i k t all (made_at fl p w good f i all c) a;

@@ -227,7 +227,6 @@ module _ (fl : Flow) (p : Plan) (w : Wires) (good : IsGood 1 fl p w) where
     begin_given j (AtEntry e) = ap (λ (j : Item). is_given (block_in fl Main) j.inlet.part) e
     begin_given j (AtInput m z l e) = ap (λ (j : Item). is_given (block_in fl Main) j.inlet.part) e ∙ lt-ltb m (block_in fl Main).inputs (input_below fl p w good inputs fit m l)
 
-    -- L2
     pub inlets_are_fed : InletsAreFed fl w inputs
     inlets_are_fed = record {
       begins_once = λ x. cons_once x (item Main (inlet Entry Left 0) ToHost) (input_items 0 inputs) (inputs_once x 0 inputs) (λ j c e. entry j (input_cases 0 inputs j c) e);

@@ -101,7 +101,7 @@ module _ (fl : Flow) (p : Plan) (w : Wires) (good : IsGood 1 fl p w) where
       let some = opens_counted k at.stands.code.instrs at.n part.instr at.stands.instr part.does in
       omega (arith, same, none, some)
 
-  -- L10, the bounds of loops
+  -- the bounds of loops
   pub bound_is_kept : (inputs : List ℤ) (q : Past) (m : Machine) → BoundIsKept fl p inputs q m
   bound_is_kept inputs q m = record {
     never_above = λ f loop k ip s part. absurd (no_open loop k ip s part);
@@ -135,7 +135,6 @@ module _ (fl : Flow) (w : Wires) (o : ℕ) where
   returns r e t k h = absurd (cc)
 
 module _ (fl : Flow) (p : Plan) (w : Wires) (inputs : List ℤ) (q : Past) (m : Machine) (good : IsGood 1 fl p w) (k : Keeps fl p w inputs q m) where
-  -- L11
   pub lands : Lands fl p inputs q m
   lands f ip g base o r i e d c =
       let x = from_met fl p w inputs q m good k f ip Left (Word.Back (Cont.Frame g base r)) c in

@@ -11,10 +11,3 @@ pub mod Comes
 pub mod Agree
 pub mod Lands
 pub mod Matching
-pub mod Invoked
-pub mod Gifts
-pub mod Words2
-pub mod Fed2
-pub mod Rounds
-pub mod Entered2
-pub mod Rivals2

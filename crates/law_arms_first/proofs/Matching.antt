@@ -426,7 +426,7 @@ module _ (fl : Flow) (p : Plan) (w : Wires) (inputs : List ℤ) (q : Past) (m : 
       ap (λ (f : ℕ). stuck_rule p.program m.store (To.Release f) (word_of fl p w fired i.word)) (frame_zero i.context (main_in fl p w inputs q m good k i (pending_in i c))) ∙ freed_free i c e
   each_free i c r e h = at_main i c r e h
 
-  -- L10, no token is excluded
+  -- no token is excluded
   pub is_matching : IsMatching fl p inputs q m
   is_matching t c =
       let i = contains_map (token_of fl p w fired) here.pending t (Contains-permutation _ _ t k.follows.stands.pool c) in

@@ -96,7 +96,6 @@ module _ (fl : Flow) (p : Plan) (w : Wires) (good : IsGood 1 fl p w) (inputs : L
   by_part f h mine theirs a b (Drained n) d e s = absurd (true≢false (sym s))
   by_part f h mine theirs a b r d e s = same_way f h a b r d e refl
 
-  -- L4
   pub rivals_are_apart : RivalsAreApart fl w inputs
   rivals_are_apart f h mine theirs e =
       let a = fired_there fl p w good f mine in let b = fired_there fl p w good h theirs in

@@ -171,7 +171,6 @@ module _ (fl : Flow) (p : Plan) (w : Wires) (good : IsGood 1 fl p w) where
   pub main_context : IsContext fl Main
   main_context = good.main
 
-  -- L1
   gives_fit : (f : Firing) (gs : List Item) → Gives f gs → (i : Item) → Contains gs i → Fits fl w (spot_of i)
   gives_fit f gs (GivesNone e) i c = absurd (contains_none i (subst (λ (l : List Item). Contains l i) e c))
   gives_fit f gs (GivesShown j e h g) i c = pick (contains_cases (item Main (inlet (Shown j) Left 0) f.right) [] i (subst (λ (l : List Item). Contains l i) g c))

@@ -193,17 +193,12 @@ pub record CodesAreThere (fl : Flow) : Type 0 where
   pub differ : (i j : ℕ) → is_looped fl i ≡ true → is_looped fl j ≡ true → variant_in fl i ≡ variant_in fl j → i ≡ j
 
 pub record AllStatic (stage : ℕ) : Type 0 where
-  -- S1 to S6 are about builds; these rest on them
+  -- lemmas about builds are inner to these
   pub there : (g : Graph) → HasText g → WellFormed g → CodesAreThere (flow_of g)
-  -- S7, S8
   pub laid : SitesKeep stage (λ (fl : Flow) (s : Site) (w : Wiring) (c : CodeBlock). IsLaidOut fl (expanded fl) (variant_in fl) s w c)
-  -- S9
   pub fed : SitesKeep stage (λ (fl : Flow) (s : Site) (w : Wiring) (c : CodeBlock). AreFed fl s w)
-  -- S10
   pub uses : SitesKeep stage (λ (fl : Flow) (s : Site) (w : Wiring) (c : CodeBlock). GoesToUses fl (Runs fl (wires_of fl) s.own) s w)
-  -- S11
   pub arms : SitesKeep stage (λ (fl : Flow) (s : Site) (w : Wiring) (c : CodeBlock). FollowArms fl s w)
-  -- S12, S13
   pub leads : SitesKeep stage (λ (fl : Flow) (s : Site) (w : Wiring) (c : CodeBlock). LeadOn fl s w)
 
 abbrev pub StaticSuffices : Type 0

@@ -48,22 +48,22 @@ abbrev pub InputsFit : Flow → List ℤ → Type 0
 InputsFit fl inputs = length inputs ≡ Faithful.inputs_of fl
 
 -- ---- M. MACHINE AND NET
--- M2. The net begins as the machine starts.
+-- The net begins as the machine starts.
 abbrev pub Starts : ℕ → Type 0
 Starts stage = (fl : Flow) (p : Plan) (w : Wires) (inputs : List ℤ) → IsGood stage fl p w → InputsFit fl inputs → Follows fl p w inputs no_past (at_start p.program inputs)
 
--- M3. A token of the pool is that of an item on its way.
+-- A token of the pool is that of an item on its way.
 abbrev pub TokensAreItems : ℕ → Type 0
 TokensAreItems stage = (fl : Flow) (p : Plan) (w : Wires) (inputs : List ℤ) (q : Past) (m : Machine) (t : Token) (rest : List Token) → IsGood stage fl p w → (k : Keeps fl p w inputs q m) → IsPermutation m.pool (t ∷ rest)
     → (i : Item) × (others : List Item) × IsPermutation k.follows.net.pending (i ∷ others) × (t ≡ token_of fl p w k.follows.net.fired i)
 
--- M4 to M9. Each event is some moves, by the part that takes the token.
+-- Each event is some moves, by the part that takes the token.
 pub data Doing : Type 0 where
-  Inwards : Doing  -- M4, M5: along wires, or it waits for its other word
-  Outwards : Doing  -- M6: into another context
-  Asking : Doing  -- M7: for frames; to the host; frames on their way back
-  OfCells : Doing  -- M8
-  OfCredits : Doing  -- M9
+  Inwards : Doing  -- along wires, or it waits for its other word
+  Outwards : Doing  -- into another context
+  Asking : Doing  -- for frames; to the host; frames on their way back
+  OfCells : Doing
+  OfCredits : Doing
 
 abbrev pub doing_of : Flow → Context → Part → Doing
 doing_of fl c (Line n) = if is_cell (block_in fl c) n then OfCells else Inwards
@@ -100,12 +100,12 @@ EventsFollowBy stage doing = (fl : Flow) (p : Plan) (w : Wires) (inputs : List �
 
 -- ---- D. DATA
 pub data Telling : Type 0 where
-  OfNodes : Telling  -- D3
-  OfMemory : Telling  -- D4
-  OfCalls : Telling  -- D5
-  OfTurns : Telling  -- D6
-  OfStrict : Telling  -- D7
-  OfControl : Telling  -- D8
+  OfNodes : Telling
+  OfMemory : Telling
+  OfCalls : Telling
+  OfTurns : Telling
+  OfStrict : Telling
+  OfControl : Telling
 
 abbrev pub telling_of : Flow → Context → Part → Telling
 telling_of fl c (Line n) = if is_cell (block_in fl c) n then OfMemory else OfNodes
@@ -128,7 +128,6 @@ FiringsAreTold stage telling = (fl : Flow) (p : Plan) (w : Wires) (inputs : List
 abbrev pub AllFit : Flow → Wires → List Item → Type 0
 AllFit fl w items = All (λ (i : Item). Fits fl w (spot_of i)) items
 
--- L1
 pub record WordsAreFit (fl : Flow) (w : Wires) (inputs : List ℤ) : Type 0 where
   pub makes_fit : (f : Firing) → AllFit fl w (takes fl f) → AllFit fl w (makes fl w f)
   pub begins_fit : AllFit fl w (begins inputs)
@@ -141,20 +140,17 @@ hits_of fl w inputs x items = total (hit spot_of same_spot (takes fl) (makes fl 
 abbrev pub Shows : Flow → Wires → List ℤ → Firing → Choice → Bool → Type 0
 Shows fl w inputs f k t = Proves spot_of same_spot (takes fl) (makes fl w) (begins inputs) role_of (Fits fl w) (IsPredicate fl) is_true (InArm fl) (source fl w) (says fl) f k t
 
--- L2
 pub record InletsAreFed (fl : Flow) (w : Wires) (inputs : List ℤ) : Type 0 where
   pub begins_once : (x : Spot) → hits_of fl w inputs x (begins inputs) ≤ 1
   pub makes_once : (f : Firing) (x : Spot) → AllFit fl w (takes fl f) → hits_of fl w inputs x (makes fl w f) ≤ 1
   pub begins_apart : (f : Firing) (x : Spot) → AllFit fl w (takes fl f) → 0 < hits_of fl w inputs x (makes fl w f) → hits_of fl w inputs x (begins inputs) ≡ 0
   pub feeders : (f h : Firing) (x : Spot) → AllFit fl w (takes fl f) → AllFit fl w (takes fl h) → 0 < hits_of fl w inputs x (makes fl w f) → 0 < hits_of fl w inputs x (makes fl w h) → role_of f ≡ role_of h
 
--- L3
 pub record ArmsAreEntered (fl : Flow) (w : Wires) (inputs : List ℤ) : Type 0 where
   pub enters : (f : Firing) (i : Item) (k : Choice) (t : Bool) → AllFit fl w (takes fl f) → Contains (makes fl w f) i → InArm fl (spot_of i) k t → Shows fl w inputs f k t
   pub words : (f : Firing) (i : Item) (k : Choice) → AllFit fl w (takes fl f) → Contains (makes fl w f) i → IsPredicate fl (spot_of i) k → (role_of f ≡ source fl w k) × (says fl f ≡ is_true i)
   pub none_first : (i : Item) → Contains (begins inputs) i → ((k : Choice) (t : Bool) → InArm fl (spot_of i) k t → ⊥) × ((k : Choice) → IsPredicate fl (spot_of i) k → ⊥)
 
--- L4
 abbrev pub RivalsAreApart : Flow → Wires → List ℤ → Type 0
 RivalsAreApart fl w inputs = (f h : Firing) → AllFit fl w (takes fl f) → AllFit fl w (takes fl h) → role_of f ≡ role_of h
     → ((x : Spot) × (0 < hits_of fl w inputs x (takes fl f)) × (0 < hits_of fl w inputs x (takes fl h))) ⊎ ((k : Choice) × (t : Bool) × Shows fl w inputs f k t × Shows fl w inputs h k (not t))
@@ -167,7 +163,6 @@ HoldsOf stage P = (fl : Flow) (p : Plan) (w : Wires) (inputs : List ℤ) → IsG
 abbrev pub OfRuns : ℕ → (Flow → Plan → List ℤ → Past → Machine → Type 0) → Type 0
 OfRuns stage P = (fl : Flow) (p : Plan) (w : Wires) (inputs : List ℤ) (q : Past) (m : Machine) → IsGood stage fl p w → InputsFit fl inputs → Keeps fl p w inputs q m → P fl p inputs q m
 
--- L6, L7
 abbrev pub IsOnce : Flow → Plan → List ℤ → Past → Machine → Type 0
 IsOnce fl p inputs q m = (f ip : ℕ) (r : Port) → often (instr_at p.program ip) ≡ false → count_by (λ (t : Token). is_at f ip r t.to) (met q.events m) ≤ 1
 
@@ -181,7 +176,6 @@ Agrees fl p inputs q m = (f ip jp : ℕ) (k : Mark) (v u : Word) → IsMarked p 
 abbrev pub IsOfOneBlock : Flow → Plan → List ℤ → Past → Machine → Type 0
 IsOfOneBlock fl p inputs q m = (f ip jp : ℕ) (r s : Port) (v u : Word) → Contains (met q.events m) (token (To.Instr f ip r) v) → Contains (met q.events m) (token (To.Instr f jp s) u) → same_block p.program.blocks ip jp ≡ true
 
--- L10
 abbrev pub IsMatching : Flow → Plan → List ℤ → Past → Machine → Type 0
 IsMatching fl p inputs q m = (t : Token) → Contains m.pool t → stuck_rule p.program m.store t.to t.word ≡ None
 
@@ -190,27 +184,22 @@ pub record BoundIsKept (fl : Flow) (p : Plan) (inputs : List ℤ) (q : Past) (m 
   pub all_granted : (f : ℕ) (loop : Holder) (k ip s : ℕ) (v : Word) (c : Cont) → IsPart p p.program loop (Open k) ip s → Contains (met q.events m) (token (To.Instr f ip Left) v) → OnlyAsks m → m.store.slots f s ≡ Waiter c
       → (base : ℕ) × IsLoop p p.program loop k s base × (q.granted f loop ≡ q.released f base + k)
 
--- L11
 abbrev pub Lands : Flow → Plan → List ℤ → Past → Machine → Type 0
 Lands fl p inputs q m = (f ip g base o : ℕ) (r : Port) (i : Instr) → instr_at p.program ip ≡ Some i → offset_of i.op ≡ Some o → Contains (met q.events m) (token (To.Instr f ip Left) (Word.Back (Cont.Frame g base r))) → HasLanding p base o
 
 -- ---- E. ENDS
--- E5
 abbrev pub ReleasesLast : Flow → Plan → List ℤ → Past → Machine → Type 0
 ReleasesLast fl p inputs q m = IsFreeAtRelease m
 
--- E7
 abbrev pub ExactAtRest : Flow → Plan → List ℤ → Past → Machine → Type 0
 ExactAtRest fl p inputs q m = Resting m → (Wants m → ⊥) → IsExact fl inputs m
 
 abbrev pub SecondStores : Flow → Plan → List ℤ → Past → Machine → Type 0
 SecondStores fl p inputs q m = (x : ℕ) → HasStoreOfFull m x → IsSecondStore fl inputs x
 
--- E10
 abbrev pub CleanAtRest : Flow → Plan → List ℤ → Past → Machine → Type 0
 CleanAtRest fl p inputs q m = Resting m → (Wants m → ⊥) → NoReader m → IsClean m
 
--- E11
 abbrev pub IsCausedByMeaning : Flow → Plan → List ℤ → Past → Machine → Type 0
 IsCausedByMeaning fl p inputs q m = HasCause fl p.program inputs q.events m
 

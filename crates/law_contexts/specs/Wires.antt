@@ -166,7 +166,7 @@ leads_to n d = (n + d.ahead, d.port)
 abbrev pub stands_at : Wiring → Inlet → ℕ × Port
 stands_at w x = (w.place x.part, x.port)
 
--- W1, W2. Each part has its instruction, and each instruction its part; the wires are the destinations, in any order.
+-- Each part has its instruction, and each instruction its part; the wires are the destinations, in any order.
 pub record IsInstr (fl : Flow) (p : Plan) (variant : ℕ → ℕ) (s : Site) (w : Wiring) (r : Part) (i : Instr) : Type 0 where
   pub op : i.op ≡ op_of variant s r
   pub origin : i.origin ≡ origin_of fl s r
@@ -196,7 +196,6 @@ pub record IsLaidOut (fl : Flow) (p : Plan) (variant : ℕ → ℕ) (s : Site) (
   pub holders : (r q : Part) → (there_in fl s w r ≡ true) → (there_in fl s w q ≡ true) → (holds_own s.block r ≡ true) → (holds_own s.block q ≡ true) → w.slot r ≡ w.slot q → r ≡ q
   pub loops : (n : ℕ) → is_loop s.block n ≡ true → (w.slot (Giver n) ≡ w.slot (Opener n)) × (w.slot (Taker n) ≡ w.slot (Opener n)) × (w.slot (Drainer n) ≡ w.slot (Opener n))
 
--- W3, W5–W9
 abbrev pub IsFed : Flow → Site → Wiring → Inlet → Type 0
 IsFed fl s w x = (t : Side) × (there_in fl s w t.part ≡ true) × (is_side t ≡ true) × (hits x (w.wire t) ≡ 1)
     × ((u : Side) → (there_in fl s w u.part ≡ true) → u ≢ t → hits x (w.wire u) ≡ 0)
@@ -204,7 +203,6 @@ IsFed fl s w x = (t : Side) × (there_in fl s w t.part ≡ true) × (is_side t �
 abbrev pub IsUnfed : Flow → Site → Wiring → Inlet → Type 0
 IsUnfed fl s w x = (u : Side) → (there_in fl s w u.part ≡ true) → hits x (w.wire u) ≡ 0
 
--- W3
 pub record AreFed (fl : Flow) (s : Site) (w : Wiring) : Type 0 where
   -- a wire leads to an inlet
   pub inlets : (t : Side) (x : Inlet) → (there_in fl s w t.part ≡ true) → Contains (w.wire t) x → (there_in fl s w x.part ≡ true) × (wired_way x.part x.way ≡ true) × (wired_port s.block x.part x.port ≡ true) × (is_given s.block x.part ≡ false)
@@ -212,7 +210,6 @@ pub record AreFed (fl : Flow) (s : Site) (w : Wiring) : Type 0 where
   pub fed : (x : Inlet) → (there_in fl s w x.part ≡ true) → (wired_way x.part x.way ≡ true) → (wired_port s.block x.part x.port ≡ true) → (is_given s.block x.part ≡ false) → IsFed fl s w x
   pub sides : (t : Side) → (is_side t ≡ false) ⊎ (has_no_wire t.part ≡ true) → w.wire t ≡ []
 
--- W5, W6
 pub record FollowArms (fl : Flow) (s : Site) (w : Wiring) : Type 0 where
   -- an arm is of an earlier conditional
   pub rounds : (n k : ℕ) (t : Bool) → lies_in s.block n ≡ Arm k t → (k < n) × (is_kind cond_kind s.block k ≡ true)
@@ -223,7 +220,7 @@ pub record FollowArms (fl : Flow) (s : Site) (w : Wiring) : Type 0 where
   -- a trigger's two words, and those of the flag's switch, come from one side
   pub both : (t : Side) (k : ℕ) → (there_in fl s w t.part ≡ true) → (Contains (w.wire t) (inlet (Trigger k) Left 0) → t ≡ decider s.block w k) × (Contains (w.wire t) (inlet TurnFlag Left 0) → t ≡ decider s.block w (flag s.block))
 
--- W7, W8, and the words
+-- and the words
 pub record LeadOn (fl : Flow) (s : Site) (w : Wiring) : Type 0 where
   pub leads : (t : Side) → (there_in fl s w t.part ≡ true) → (is_side t ≡ true) → (has_no_wire t.part ≡ false) → (x : Inlet) × Contains (w.wire t) x
   pub forward : (t : Side) (x : Inlet) → (there_in fl s w t.part ≡ true) → Contains (answered_at t.part ++ w.wire t) x → w.place t.part < w.place x.part
@@ -237,7 +234,7 @@ pub record AreLawful (fl : Flow) (s : Site) (w : Wiring) : Type 0 where
   pub arms : FollowArms fl s w
   pub leads : LeadOn fl s w
 
--- W4. What leaves at an output port goes to its uses, in any invocation of the block, and nothing else tells anything.
+-- What leaves at an output port goes to its uses, in any invocation of the block, and nothing else tells anything.
 abbrev pub told_along : Flow → Context → Value → List Inlet → List Tagged
 told_along fl c v xs = flat_map (λ (x : Inlet). told_at fl c x.part x.port x.way v) xs
 

@@ -134,6 +134,5 @@ module _ (fl : Flow) (p : Plan) (w : Wires) (inputs : List ℤ) (q : Past) (m : 
     credits = let e = credits_none in omega (arith, e);
   }
 
--- E11
 pub caused_by_meaning : OfRuns 1 IsCausedByMeaning
 caused_by_meaning fl p w inputs q m good fit k = has_cause fl p w inputs q m good fit k

@@ -186,11 +186,9 @@ module _ (fl : Flow) (p : Plan) (w : Wires) (inputs : List ℤ) (q : Past) (m : 
             let zero' = (frame_zero c f g).1 in
             ap m.store.out zero' ∙ (k.follows.stands.out Main 0 (frame_main fl k.follows.net.fired)).1 freed
 
-    -- E10
     pub clean : IsClean m
     clean = record { frames = frames_in; slots = slots_empty still }
 
-    -- E7
     no_tokens : k.state.tokens ≡ []
     no_tokens = empty_list k.state.tokens (flat_map (told fl) (k.follows.net.pending ++ k.follows.net.waiting)) k.told.tokens (λ t. flat_map (told fl) (rests_net t ++ still t))
 

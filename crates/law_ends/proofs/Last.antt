@@ -199,6 +199,5 @@ module _ (fl : Flow) (p : Plan) (w : Wires) (inputs : List ℤ) (q : Past) (m : 
           by_list [] e = refl
           by_list (i ∷ items) e = absurd (first_wait i (subst (λ (l : List Item). Contains l i) (sym e) (contains_head i items)))
 
--- E5
 pub releases_last : OfRuns 1 ReleasesLast
 releases_last fl p w inputs q m good fit k = free_at_release fl p w inputs q m good fit k

@@ -8,14 +8,14 @@ use Rattle.folding.specs.Folded.{folded}
 use Rattle.law_once.specs.Once.{FaithfulOnce}
 use Rattle.law_once.specs.Alike.{RunsAlike, LandsRightly, PassKeeps}
 
--- (F, runs)
+-- runs
 abbrev pub FoldedRunsAlike : Type 0
 FoldedRunsAlike = (p : Plan) → IsSound p → Orderly p → LandsRightly p → RunsAlike p (folded p)
 
--- (F, faith): from it by `alike_is_faithful`
+-- faith: from it by `alike_is_faithful`
 abbrev pub FoldedFaithful : Type 0
 FoldedFaithful = (fl : Flow) (p : Plan) → IsSound p → Orderly p → LandsRightly p → TakesInputs fl p → FaithfulOnce fl p.program → FaithfulOnce fl (folded p).program
 
--- (F, all)
+-- all
 abbrev pub FoldingKeeps : Type 0
 FoldingKeeps = PassKeeps folded

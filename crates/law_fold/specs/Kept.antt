@@ -38,27 +38,27 @@ kept_slots p = record {
   marks = all_marks p 0 p.program.blocks;
 }
 
--- (F1, static)
+-- static
 abbrev pub KeptSlotsFolds : Type 0
 KeptSlotsFolds = (p : Plan) → IsSound p → Folds p (kept_slots p)
 
--- (F1, runs)
+-- runs
 abbrev pub KeptSlotsRunsAlike : Type 0
 KeptSlotsRunsAlike = (p : Plan) → IsSound p → Orderly p → LandsRightly p → RunsAlike p (kept_slots p)
 
--- (F1, faith)
+-- faith
 abbrev pub KeptSlotsFaithful : Type 0
 KeptSlotsFaithful = (fl : Flow) (p : Plan) → IsSound p → Orderly p → LandsRightly p → TakesInputs fl p → FaithfulOnce fl p.program → FaithfulOnce fl (kept_slots p).program
 
--- (F1, tidiness)
+-- tidiness
 abbrev pub KeptSlotsTidy : Type 0
 KeptSlotsTidy = (p : Plan) → IsSound p → IsTidy p → IsTidy (kept_slots p)
 
--- (F1, landings)
+-- landings
 abbrev pub KeptSlotsLands : Type 0
 KeptSlotsLands = (p : Plan) → IsSound p → Orderly p → LandsRightly p → LandsRightly (kept_slots p)
 
--- (F1, bounds)
+-- bounds
 abbrev pub KeptSlotsKeepBounds : Type 0
 KeptSlotsKeepBounds = (p : Plan) → IsSound p → IsTidy p → Orderly p → LandsRightly p → PlanKeepsBounds p → PlanKeepsBounds (kept_slots p)
 
@@ -67,10 +67,10 @@ abbrev pub IsCaused : Plan → Type 0
 IsCaused p = (inputs : List ℤ) (z : Size) (events : Events) (m : Machine) → IsStart p z inputs → (run : Run p.program z (at_start p.program inputs) events m) → UsesEachOnce p.program z inputs events m run
     → (f ip : ℕ) (r : Port) (w : Word) → is_entry p.program.blocks ip ≡ false → Contains m.pool (token (To.Instr f ip r) w) → SomeEvent (UsesArc p f ip r) p.program z (at_start p.program inputs) events m run
 
--- (F1, order)
+-- order
 abbrev pub KeptSlotsOrderly : Type 0
 KeptSlotsOrderly = (p : Plan) → IsSound p → IsTidy p → Orderly p → LandsRightly p → IsCaused (kept_slots p) → Orderly (kept_slots p)
 
--- (F1, all but the causes)
+-- all but the causes
 abbrev pub KeptSlotsKeepIfCaused : Type 0
 KeptSlotsKeepIfCaused = (p : Plan) → IsSound p → Orderly p → LandsRightly p → IsTidy p → IsCaused (kept_slots p) → Keeps p (kept_slots p)

@@ -63,7 +63,7 @@ module _ (fl : Flow) (operands : HaveOperands fl) where
   use_settles c n p v t ec b eb (AsFlag j es eq low high src turned) m = subst (λ (s : Statement). Acts fl (t ∷ []) m (settled_at fl t s) m) (sym es) (same fl (t ∷ []) (t ∷ []) m refl)
   use_settles c n p v t ec b eb (AsCarried j es eq low src) m = subst (λ (s : Statement). Acts fl (t ∷ []) m (settled_at fl t s) m) (sym es) (same fl (t ∷ []) (t ∷ []) m refl)
 
-  -- D1. What is sent leads to what is settled.
+  -- What is sent leads to what is settled.
   pub settles : (c : Context) (n p : ℕ) (v : Value) (m : Memory) → Acts fl (sent fl c n p v) m (settled_sent fl c n p v) m
   settles c n p v m = settle_all (sent fl c n p v) (each_weaker (Member fl (Sends c n p v)) Settles (λ t h. use_settles c n p v t h.0 h.2.0 h.2.1 h.2.2) (sent fl c n p v) (tokens_member fl (Sends c n p v))) m
 
