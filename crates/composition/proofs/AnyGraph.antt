@@ -1,5 +1,5 @@
 -- What the compiler makes of any graph: the passes one after another.
-use Rattle.std.proofs.Common.{◌≡◌, refl, sym, ap, ◌∙◌, subst, ℕ, zero, suc, ◌<◌, List, [], ◌∷◌, length, map, arith}
+use Rattle.std.proofs.Common.{◌≡◌, refl, ◌∙◌, ℕ, zero, suc, ◌<◌, List, ◌∷◌, length, map, arith, []}
 use Rattle.std.specs.Prelude.{slice_get}
 use Rattle.std.proofs.lemmas.List.{length-map}
 use Rattle.std.proofs.lemmas.Option.{slice_get_within}
@@ -13,24 +13,20 @@ use Rattle.law_expansion.specs.Shapes.{IsShaped, AreShaped}
 use Rattle.law_expansion.proofs.FactsSound.{is_sound}
 use Rattle.law_expansion.proofs.ArcsLaws.{arcs_go_forward}
 use Rattle.law_expansion.proofs.ShapesPlans.{plans_are_shaped}
-use Rattle.law_expansion.proofs.StraightWhole.{straight_plans_agree}
 use Rattle.folding.proofs.SoundPlans.{still_sound}
 use Rattle.semantics.specs.WellFormed.{WellFormed}
 use Rattle.semantics.specs.Text.{HasText}
-use Rattle.semantics.specs.Sharing.{Good}
 use Rattle.code.specs.Sound.{IsSound}
 use Rattle.expansion.specs.Expanded.{expanded}
 use Rattle.folding.specs.Folded.{folded, folded_block}
-use Rattle.fanout.specs.Narrowed.{narrowed, narrowed_block}
+use Rattle.fanout.specs.Narrowed.{narrowed_block}
 use Rattle.fanout.proofs.SoundPlans.{stays_sound}
-use Rattle.select.specs.Emittable.{IsEmittable}
-use Rattle.composition.specs.Graphs.{plan_of, PlansAreSound, PlansHaveObjects, PlansTakeInputs, CodeHasBounds, StraightCodeIsFaithful}
+use Rattle.composition.specs.Graphs.{plan_of, PlansAreSound, PlansHaveObjects, PlansTakeInputs, CodeHasBounds}
 use Rattle.folding.proofs.LoopsStay as Folding
 use Rattle.fanout.proofs.LoopsStay as Fanout
 use Rattle.emitted.proofs.LoopsStay.{emitted_bounds}
 use Rattle.law_expansion.proofs.Wholes.{has_bounds}
 use Rattle.composition.proofs.SoundObjects.{sound_have_objects}
-use Rattle.composition.proofs.FoldedLaws.{folded_is_faithful}
 
 expanded_is_sound : (g : Graph) → HasText g → WellFormed g → IsSound (expanded (flow_of g))
 expanded_is_sound g text well =
@@ -74,9 +70,3 @@ code_has_bounds g slots version good =
     let fl : Flow = flow_of g in
     let p : Plan = expanded fl in
     emitted_bounds fl version (plan_of g) slots good.all (Fanout.still_has_bounds fl (folded p) (Folding.still_has_bounds fl p (has_bounds fl)))
-
-pub straight_code_is_faithful : StraightCodeIsFaithful
-straight_code_is_faithful g slots version straight good same =
-    let p : Plan = expanded (flow_of g) in
-    let agree = straight_plans_agree g straight.well straight.line in
-    folded_is_faithful g p slots version straight (record { program = agree.0; unmarked = agree.1 }) (plans_are_sound g straight.text straight.well).wired good same

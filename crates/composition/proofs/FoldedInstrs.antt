@@ -1,13 +1,11 @@
 -- What holds of each instruction of a folded plan, and of a narrowed one.
-use Rattle.std.proofs.Common.{◌≡◌, refl, subst, ℕ, zero, suc, ◌+◌, Bool, true, false, if◌then◌else◌, List, [], ◌∷◌, map}
-use Rattle.std.specs.Prelude.{All, ⊤}
+use Rattle.std.proofs.Common.{◌≡◌, refl, ℕ, zero, suc, ◌+◌, Bool, true, false, if◌then◌else◌, List, [], ◌∷◌, map}
+use Rattle.std.specs.Prelude.{All}
 use Rattle.std.proofs.lemmas.List.Elements.{All-cons, All-nil, All-append, All-head, All-tail, All-map, All-weaker}
 use Rattle.tags.specs.declared.value.Origin.TheVariants.{Untold}
 use Rattle.semantics.specs.declared.program.Dest.{Dest}
-use Rattle.semantics.specs.declared.program.Op.{Op}
-use Rattle.semantics.specs.declared.program.Op.TheVariants as Program
 use Rattle.semantics.specs.Program.{Instr, CodeBlock}
-use Rattle.semantics.specs.Plan.{Plan, is_credit}
+use Rattle.semantics.specs.Plan.{Plan}
 use Rattle.fanout.specs.Sides.{copies, parted}
 use Rattle.fanout.specs.Rows.{tied_in}
 use Rattle.fanout.specs.Places as Places
@@ -15,15 +13,11 @@ use Rattle.fanout.specs.Places.{layout_with, base_of}
 use Rattle.fanout.specs.Trees as Trees
 use Rattle.fanout.specs.Trees.{copy_at, tree, copies_of}
 use Rattle.fanout.specs.Narrowed.{parts_of, narrowed, narrowed_block}
-use Rattle.fanout.specs.Laws.{is_link, IsPlain, IsPlainProgram}
 use Rattle.fanout.proofs.Positions.{all_spread}
 use Rattle.fanout.proofs.Spots.{sized}
-use Rattle.folding.proofs.FoldedLiterals.{op_still}
-use Rattle.folding.specs.Places.{Layout, layout_of, gone_at, folds_at}
+use Rattle.folding.specs.Places.{Layout, layout_of, gone_at}
 use Rattle.folding.specs.Moved.{moved}
 use Rattle.folding.specs.Folded.{folded, folded_block, moved_from}
-use Rattle.folding.specs.Meaning.{IsPlainInstr, LinksNone}
-use Rattle.composition.proofs.Lines.{IsLineOp}
 
 -- all instructions of a plan's blocks
 abbrev pub AllInstrs : (Instr → Type 0) → List CodeBlock → Type 0
@@ -80,57 +74,3 @@ IsUntold i = i.origin ≡ Untold
 
 pub all_untold : (p : Plan) → AllInstrs IsUntold p.program.blocks → AllInstrs IsUntold (narrowed (folded p)).program.blocks
 all_untold p h = all_both IsUntold (record { when_moved = λ l n i k. k; when_parted = λ i k. k; when_copied = λ l n at j ds. refl }) (λ l n i k. k) p h
-
--- OPERATIONS of straight code, with literal operands
-abbrev pub IsSimple : Op → Type 0
-IsSimple (Program.Apply1 o) = ⊤
-IsSimple (Program.Apply2 o) = ⊤
-IsSimple (Program.Apply2Right o z) = ⊤
-IsSimple (Program.Apply2Left o z) = ⊤
-IsSimple (Program.Lit z) = ⊤
-IsSimple Program.Copy = ⊤
-IsSimple Program.Sync = ⊤
-IsSimple (Program.Return o) = ⊤
-IsSimple (Program.Release o) = ⊤
-IsSimple op = ⊥
-
-pub line_simple : (op : Op) (ds : List Dest) → IsLineOp op ds → IsSimple op
-line_simple (Program.Apply1 o) ds h = tt
-line_simple (Program.Apply2 o) ds h = tt
-line_simple (Program.Lit z) ds h = tt
-line_simple Program.Copy ds h = tt
-line_simple Program.Sync ds h = tt
-line_simple (Program.Return o) ds h = tt
-line_simple (Program.Release o) ds h = tt
-line_simple op ds h = absurd h
-
-abbrev pub HasSimple : Instr → Type 0
-HasSimple i = IsSimple i.op
-
-pub all_simple : (p : Plan) → AllInstrs HasSimple p.program.blocks → AllInstrs HasSimple (narrowed (folded p)).program.blocks
-all_simple p h = all_both HasSimple (record { when_moved = λ l n i k. k; when_parted = λ i k. k; when_copied = λ l n at j ds. tt }) (λ l n i k. op_still IsSimple (λ o z. tt) (λ o z. tt) (folds_at l n) i.op k) p h
-
-pub simple_no_credit : (op : Op) → IsSimple op → is_credit op ≡ false
-simple_no_credit (Program.Apply1 o) h = refl
-simple_no_credit (Program.Apply2 o) h = refl
-simple_no_credit (Program.Apply2Right o z) h = refl
-simple_no_credit (Program.Apply2Left o z) h = refl
-simple_no_credit (Program.Lit z) h = refl
-simple_no_credit Program.Copy h = refl
-simple_no_credit Program.Sync h = refl
-simple_no_credit (Program.Return o) h = refl
-simple_no_credit (Program.Release o) h = refl
-simple_no_credit op h = absurd h
-
-pub simple_no_frame : (op : Op) → IsSimple op → op ≡ Program.Frame → ⊥
-simple_no_frame op h e = subst IsSimple e h
-
--- SHAPES. What links no block.
-no_link : (op : Op) → LinksNone op → is_link op ≡ false
-no_link (Program.Link b) h = absurd h
-no_link op h = refl
-
-pub plain_program : (p : Plan) → AllInstrs IsPlainInstr p.program.blocks → IsPlainProgram p.program
-plain_program p h =
-    All-weaker (λ (c : CodeBlock). All IsPlainInstr c.instrs) (λ (c : CodeBlock). All IsPlain c.instrs)
-    (λ c k. All-weaker IsPlainInstr IsPlain (λ i m. (m.0, no_link i.op m.1)) c.instrs k) p.program.blocks h

@@ -1,17 +1,4 @@
 pub mod Lines
-pub mod Straight
-pub mod Sizes
-pub mod Spread
-pub mod Narrow
-pub mod Blocks
-pub mod Near
-pub mod Credits
-pub mod Literals
-pub mod Laws
 pub mod SoundObjects
 pub mod AnyGraph
 pub mod FoldedInstrs
-pub mod FoldedTables
-pub mod FoldedLiterals
-pub mod FoldedObject
-pub mod FoldedLaws

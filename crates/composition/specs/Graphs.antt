@@ -7,16 +7,14 @@ use Rattle.semantics.specs.Plan.{Plan}
 use Rattle.semantics.specs.Orderly as Orderly
 use Rattle.semantics.specs.Sharing.{Good}
 use Rattle.semantics.specs.Faithful as Faithful
-use Rattle.semantics.specs.Faithful.{Faithful}
 use Rattle.semantics.specs.Cause.{HasBounds}
 use Rattle.code.specs.Sound.{IsSound}
 use Rattle.expansion.specs.Expanded.{expanded}
 use Rattle.folding.specs.Folded.{folded}
 use Rattle.fanout.specs.Narrowed.{narrowed}
 use Rattle.select.specs.declared.Version.{Version}
-use Rattle.select.specs.Emitted.{version_number, code_of}
+use Rattle.select.specs.Emitted.{code_of}
 use Rattle.select.specs.Emittable.{IsEmittable}
-use Rattle.composition.specs.Straight.{IsStraightGraph}
 
 -- THE PASSES. A graph becomes a plan with any number of destinations at an instruction; operators take literals as operands;
 -- trees of copies stand for more than two destinations.
@@ -38,8 +36,3 @@ PlansTakeInputs = (g : Graph) → HasText g → WellFormed g → Orderly.inputs_
 -- Its code's loops open with the graph's bounds.
 abbrev pub CodeHasBounds : Type 0
 CodeHasBounds = (g : Graph) (slots : List (List ℕ)) (version : Version) → Good (plan_of g) slots → HasBounds (flow_of g) (code_of version (plan_of g) slots)
-
--- A straight graph's code is faithful to it.
-abbrev pub StraightCodeIsFaithful : Type 0
-StraightCodeIsFaithful = (g : Graph) (slots : List (List ℕ)) (version : Version) → IsStraightGraph g → Good (plan_of g) slots
-    → version_number version ≡ g.version → Faithful (flow_of g) (code_of version (plan_of g) slots)

@@ -1,5 +1,2 @@
-pub mod Straight
-pub mod Theorem
 pub mod Graphs
 pub mod Sound
-pub mod Folded

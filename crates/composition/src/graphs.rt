@@ -1,13 +1,12 @@
 //! Any graph, through all passes.
 
-ghost use Rattle.composition.specs.Graphs.{PlansAreSound, PlansHaveObjects, PlansTakeInputs, CodeHasBounds, StraightCodeIsFaithful};
+ghost use Rattle.composition.specs.Graphs.{PlansAreSound, PlansHaveObjects, PlansTakeInputs, CodeHasBounds};
 
 /// The plan of each well-formed graph within the limits of a text is sound, and has main's inputs; with any good slots it
-/// has an object, whose loops open with the graph's bounds. A straight graph's code is faithful to it.
+/// has an object, whose loops open with the graph's bounds.
 pub fn graphs_compile()
     ensures sound { PlansAreSound }
     ensures objects { PlansHaveObjects }
     ensures inputs { PlansTakeInputs }
     ensures bounds { CodeHasBounds }
-    ensures straight { StraightCodeIsFaithful }
 {}

@@ -17,7 +17,7 @@ use Rattle.select.specs.Emittable.{IsEmittable}
 use Rattle.schedule.specs.Setting.{inputs_in, inputs_of}
 use Rattle.composition.specs.Graphs.{plan_of}
 use Rattle.composition.proofs.AnyGraph.{plans_have_objects, plans_take_inputs, code_has_bounds}
-use Rattle.law_whole.proofs.Conditionals.{conditional_graphs_keep_promises}
+use Rattle.law_whole.proofs.Law.{graphs_keep_promises}
 use Rattle.driver.specs.Compiled.{IsCodeFor}
 
 -- THE INPUTS OF A BLOCK stay.
@@ -47,5 +47,5 @@ compiled g text well slots assigned version same c e spelling =
       inputs = ap I e ∙ same_inputs (version_number version) slots p.program.blocks p.program.main assigned.good.all ∙ plans_take_inputs g text well;
       arrays = ap (λ (q : Program). q.arrays) e;
       bounds = subst B (sym e) (code_has_bounds g slots version assigned.good);
-      promises = λ only. conditional_graphs_keep_promises g slots version text well only assigned.good same;
+      promises = graphs_keep_promises g slots version text well assigned.good same;
     }

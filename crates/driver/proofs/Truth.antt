@@ -93,9 +93,9 @@ tells_truth text g bytes inputs c listed may_stop r compiled shown =
       code = code;
       made = made;
       shows = shows;
-      tells = λ only.
+      tells =
           let P : Program → Type 0 = λ q. Faithful (flow_of g) q in
-          tells_meaning inputs (size_of c) c.steps listed may_stop r (flow_of g) code.program fit some_element shown.some_frame (subst P (sym made.program) (made.promises only).faithful) shows;
+          tells_meaning inputs (size_of c) c.steps listed may_stop r (flow_of g) code.program fit some_element shown.some_frame (subst P (sym made.program) made.promises.faithful) shows;
     }
 
 -- So does a report that lists no events.

@@ -5,9 +5,7 @@ use Rattle.semantics.specs.Program.{Code}
 use Rattle.semantics.specs.Bytes.{IsCode, IsObject}
 use Rattle.semantics.specs.Cause.{HasBounds}
 use Rattle.semantics.specs.Faithful.{inputs_of}
-use Rattle.law_contexts.specs.Theorem.{HasOnly}
 use Rattle.law_graphs.specs.Graphs.{KeepsPromises}
-use Rattle.law_whole.specs.Whole.{conditionals}
 use Rattle.slot_alloc.specs.Assigned.{IsAssigned, IsFirstCrowded}
 use Rattle.select.specs.declared.Version.{Version}
 use Rattle.select.specs.Emitted.{version_number, code_of}
@@ -29,7 +27,7 @@ pub record IsCodeFor (g : Graph) (code : Code) : Type 0 where
   pub inputs : inputs_in_code code.program ≡ inputs_of (flow_of g)
   pub arrays : code.program.arrays ≡ (flow_of g).arrays
   pub bounds : HasBounds (flow_of g) code.program
-  pub promises : HasOnly conditionals (flow_of g) → KeepsPromises g slots version
+  pub promises : KeepsPromises g slots version
 
 -- the bytes are the one object of that code
 pub record IsObjectOf (g : Graph) (bytes : List ℕ) : Type 0 where

@@ -12,8 +12,6 @@ use Rattle.semantics.specs.Bytes.{IsObject}
 use Rattle.semantics.specs.Machine.{Size, Events}
 use Rattle.semantics.specs.Faithful.{Faithful, IsSecondStore, inputs_of}
 use Rattle.semantics.specs.Report.{Report, Shows}
-use Rattle.law_contexts.specs.Theorem.{HasOnly}
-use Rattle.law_whole.specs.Whole.{conditionals}
 use Rattle.schedule.specs.declared.config.Config.{Config}
 use Rattle.schedule.specs.declared.halt.Halt.{Halt}
 use Rattle.schedule.specs.Setting.{inputs_of as inputs_in_code}
@@ -51,8 +49,8 @@ pub record TellsMeaning (fl : Flow) (inputs : List ℤ) (p : Program) (r : Repor
   -- no token meets a case that its rule excludes
   pub matching : (n : ℕ) → r.end ≡ Stuck n → ⊥
 
--- The report is of a run of the compiler's code for the graph that the text has; and if the graph has no call, loop or array,
--- it tells of the meaning. `listed`: the order of the run was a list. `may_stop`: a gate may have stopped it.
+-- The report is of a run of the compiler's code for the graph that the text has, and it tells of the meaning. `listed`: the order of the run was
+-- a list. `may_stop`: a gate may have stopped it.
 pub record TellsOf (text : List ℕ) (g : Graph) (inputs : List ℤ) (z : Size) (steps : ℕ) (listed may_stop : Bool) (r : Report) : Type 0 where
   pub is_text : IsText text g
   pub well_formed : WellFormed g
@@ -60,7 +58,7 @@ pub record TellsOf (text : List ℕ) (g : Graph) (inputs : List ℤ) (z : Size) 
   pub code : Code
   pub made : IsCodeFor g code
   pub shows : Shows code.program z inputs steps listed may_stop r
-  pub tells : HasOnly conditionals (flow_of g) → TellsMeaning (flow_of g) inputs code.program r
+  pub tells : TellsMeaning (flow_of g) inputs code.program r
 
 -- so many elements, each with so many frames
 abbrev pub size_of : Config → Size

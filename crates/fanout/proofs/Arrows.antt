@@ -1,5 +1,5 @@
 -- Destinations of a narrowed plan: each is a later instruction of its block.
-use Rattle.std.proofs.Common.{◌≡◌, ℕ, ◌+◌, ◌-◌, ◌*◌, ◌<◌, ◌≤◌, Bool, true, false, List, [], ◌∷◌, ◌++◌, map, length, refl, sym, ap, ◌∙◌, subst, inl, inr, ◌⊎◌, arith, Option, Some, None, nat_lt, if◌then◌else◌}
+use Rattle.std.proofs.Common.{◌≡◌, ℕ, ◌+◌, ◌-◌, ◌*◌, ◌<◌, ◌≤◌, Bool, true, false, List, ◌∷◌, ◌++◌, map, length, refl, sym, ap, ◌∙◌, subst, inl, inr, ◌⊎◌, arith, Option, Some, None, nat_lt, if◌then◌else◌, []}
 use Rattle.std.specs.Prelude.{slice_get, Contains}
 use Rattle.std.proofs.lemmas.Bool.{ltb-true, ltb-false}
 use Rattle.std.specs.Option.{option_map}
@@ -11,8 +11,7 @@ use Rattle.semantics.specs.Program.{Instr, CodeBlock}
 use Rattle.semantics.specs.Rule.{slot_of}
 use Rattle.semantics.specs.Plan.{Plan, is_credit}
 use Rattle.semantics.specs.Bytes.{is_dyadic, IsDest}
-use Rattle.lowering.proofs.Members.{contains_cases, contains_none}
-use Rattle.lowering.proofs.Ends.{contains_map}
+use Rattle.lowering.proofs.Members.{contains_cases, contains_none, contains_map}
 use Rattle.fanout.specs.Sides.{copies, parted}
 use Rattle.fanout.specs.Places.{Layout, size, place_of, base_of}
 use Rattle.fanout.specs.Trees.{dest_at, leaf, leaf_or, child, side, tree, copy_at, copies_of, moved}
@@ -21,8 +20,8 @@ use Rattle.fanout.specs.Laws.{AreApart, DestsStay}
 use Rattle.fanout.proofs.Positions.{get_split}
 use Rattle.fanout.proofs.Spots.{length-tree, get-tree, sized, copy_stands, before_copies, past_copies, IsMoved, IsCopied, comes_here}
 use Rattle.fanout.proofs.Queues.{there}
-use Rattle.fanout.proofs.Stages.{parted_all}
-use Rattle.fanout.proofs.Theorem.{get_map}
+use Rattle.fanout.proofs.Parted.{parted_all}
+use Rattle.fanout.proofs.Maps.{get_map}
 use Rattle.fanout.proofs.Plans.{is, ts, l, all, slot_same, at_place}
 
 abbrev dyadic_by : Option ℕ → Bool → Bool

@@ -1,9 +1,8 @@
 -- Which instructions are tied, where there is no link: the entries but the last one.
-use Rattle.std.proofs.Common.{◌≡◌, ℕ, zero, suc, ◌+◌, ◌-◌, ◌<◌, ◌≤◌, Bool, true, false, List, [], ◌∷◌, length, replicate, refl, sym, ap, ◌∙◌, inl, inr, ◌⊎◌, arith, true≢false, Some, if◌then◌else◌, length-set}
-use Rattle.std.specs.Prelude.{slice_get, slice_set, All}
+use Rattle.std.proofs.Common.{◌≡◌, ℕ, zero, suc, ◌+◌, ◌-◌, ◌<◌, ◌≤◌, Bool, true, false, List, ◌∷◌, length, replicate, refl, sym, ap, ◌∙◌, inl, inr, ◌⊎◌, arith, true≢false, Some, if◌then◌else◌, length-set, []}
+use Rattle.std.specs.Prelude.{slice_get, slice_set}
 use Rattle.std.proofs.lemmas.Bool.{cases_eq}
 use Rattle.std.proofs.lemmas.List.{get_or-set_same, get_or-set_other}
-use Rattle.std.proofs.lemmas.List.Elements.{All-head, All-tail}
 use Rattle.semantics.specs.declared.program.Dest.{Dest}
 use Rattle.semantics.specs.declared.program.Op.{Op}
 use Rattle.semantics.specs.declared.program.Op.TheVariants.{Link}
@@ -11,7 +10,6 @@ use Rattle.semantics.specs.Program.{Instr}
 use Rattle.semantics.specs.Plan.{Plan, landing}
 use Rattle.fanout.specs.Rows.{tie, tie_landings, tie_instr, tie_all, tied_in, is_tied}
 use Rattle.fanout.specs.Places.{size, places_from}
-use Rattle.fanout.specs.Laws.{is_link}
 use Rattle.fanout.proofs.Positions.{same_number}
 
 -- there are as many flags as instructions
@@ -39,16 +37,6 @@ pub tied_length : (p : Plan) (inputs : ℕ) (is : List Instr) → length (tied_i
 tied_length p inputs is =
     all_length p (tie (replicate (length is) false) 0 inputs) 0 is ∙ tie_length (replicate (length is) false) 0 inputs ∙ none_length (length is)
 
--- so many from one on are tied, and no others
-none_tied : (n k : ℕ) → is_tied (replicate n false) k ≡ false
-none_tied zero k = refl
-none_tied (suc n) zero = refl
-none_tied (suc n) (suc k) = none_tied n k
-
-tie_others : (ts : List Bool) (from count k : ℕ) → from + count ≤ k → is_tied (tie ts from count) k ≡ is_tied ts k
-tie_others ts from zero k h = refl
-tie_others ts from (suc c) k h = get_or-set_other (tie ts from c) (from + c) k true false (λ e. omega (arith, h, e)) ∙ tie_others ts from c k (omega (arith, h))
-
 pub tie_these : (ts : List Bool) (from count k : ℕ) → from ≤ k → k < from + count → k < length ts → is_tied (tie ts from count) k ≡ true
 tie_these ts from zero k l h there = absurd (omega (arith, l, h))
 tie_these ts from (suc c) k l h there = pick (cases_eq k (from + c)) (tie_these ts from c k)
@@ -59,27 +47,6 @@ tie_these ts from (suc c) k l h there = pick (cases_eq k (from + c)) (tie_these 
     pick : (k ≡ from + c) ⊎ (k ≡ from + c → ⊥) → (from ≤ k → k < from + c → k < length ts → is_tied (tie ts from c) k ≡ true) → is_tied (slice_set (tie ts from c) (from + c) true) k ≡ true
     pick (inl e) more = ap (is_tied (slice_set (tie ts from c) (from + c) true)) e ∙ get_or-set_same (tie ts from c) (from + c) true false (omega (arith, there, len, e))
     pick (inr d) more = get_or-set_other (tie ts from c) (from + c) k true false d ∙ more l (omega (arith, h, d)) there
-
-instr_same : (p : Plan) (ts : List Bool) (n : ℕ) (i : Instr) (op : Op) → is_link op ≡ false → tie_instr p ts n i op ≡ ts
-instr_same p ts n i (Link b) h = absurd (true≢false h)
-instr_same p ts n i op h = refl
-
-all_same : (p : Plan) (ts : List Bool) (n : ℕ) (is : List Instr) → All (λ (i : Instr). is_link i.op ≡ false) is → tie_all p ts n is ≡ ts
-all_same p ts n [] h = refl
-all_same p ts n (i ∷ is) h =
-    ap (λ ts. tie_all p ts (n + 1) is) (instr_same p ts n i i.op (All-head (λ (i : Instr). is_link i.op ≡ false) i is h)) ∙ all_same p ts (n + 1) is (All-tail (λ (i : Instr). is_link i.op ≡ false) i is h)
-
-module _ (p : Plan) (inputs : ℕ) (is : List Instr) (linkless : All (λ (i : Instr). is_link i.op ≡ false) is) where
-  entries_alone : tied_in p inputs is ≡ tie (replicate (length is) false) 0 inputs
-  entries_alone = all_same p (tie (replicate (length is) false) 0 inputs) 0 is linkless
-
-  pub later_free : (k : ℕ) → inputs ≤ k → is_tied (tied_in p inputs is) k ≡ false
-  later_free k h = ap (λ ts. is_tied ts k) entries_alone ∙ tie_others (replicate (length is) false) 0 inputs k (omega (arith, h)) ∙ none_tied (length is) k
-
-  pub entry_tied : (k : ℕ) → k < inputs → k < length is → is_tied (tied_in p inputs is) k ≡ true
-  entry_tied k h there =
-      let len = none_length (length is) in
-      ap (λ ts. is_tied ts k) entries_alone ∙ tie_these (replicate (length is) false) 0 inputs k (omega arith) (omega (arith, h)) (omega (arith, there, len))
 
 -- the instructions of the first row keep their places
 pub place_tied : (ts : List Bool) (n before copied : ℕ) (is : List Instr) (v m : ℕ) → ((k : ℕ) → k < v → is_tied ts (n + k) ≡ true) → slice_get (places_from ts n before copied is) v ≡ Some m → m ≡ n + v + before

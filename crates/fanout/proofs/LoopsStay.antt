@@ -13,7 +13,7 @@ use Rattle.fanout.specs.Places.{Layout, base_of}
 use Rattle.fanout.specs.Trees.{copy_at, tree, copies_of}
 use Rattle.fanout.specs.Narrowed.{held, released, spread, parts_of, layout_of, narrowed_block}
 use Rattle.fanout.specs.Loops.{StillHasBounds, KeepsArrays}
-use Rattle.fanout.proofs.Theorem.{get_map}
+use Rattle.fanout.proofs.Maps.{get_map}
 
 abbrev opens : List Instr → List ℕ
 opens is = flat_map (λ (i : Instr). opened_by i.op) is

@@ -1,5 +1,5 @@
 -- A narrowed plan is a plan: each of its instructions is an old one in its place, or a copy.
-use Rattle.std.proofs.Common.{◌≡◌, ◌≢◌, ℕ, zero, suc, ◌+◌, ◌<◌, Bool, true, false, ◌&&◌, List, [], ◌∷◌, length, replicate, refl, sym, ap, ◌∙◌, subst, inl, inr, ◌⊎◌, arith, Some, None, not-suc-le-zero, le_of_suc-le-suc, map}
+use Rattle.std.proofs.Common.{◌≡◌, ◌≢◌, ℕ, zero, suc, ◌+◌, ◌<◌, Bool, true, false, ◌&&◌, List, ◌∷◌, length, replicate, refl, sym, ap, ◌∙◌, subst, inl, inr, ◌⊎◌, arith, Some, None, not-suc-le-zero, le_of_suc-le-suc, map, []}
 use Rattle.std.specs.Option.{option_map}
 use Rattle.std.specs.Prelude.{slice_get, All}
 use Rattle.std.proofs.lemmas.Option.{slice_get_within, slice_get-get_or, get_or_from_slice_get, slice_get-map}
@@ -27,7 +27,7 @@ use Rattle.fanout.proofs.Positions.{one_at, more_at}
 use Rattle.fanout.proofs.Spots.{sized, stands, place_is, base_is, IsMoved, IsCopied, comes_here}
 use Rattle.fanout.proofs.Flags.{tied_length}
 use Rattle.fanout.proofs.Shapes.{block_shapes}
-use Rattle.fanout.proofs.Theorem.{get_map, same_mark}
+use Rattle.fanout.proofs.Maps.{get_map, same_mark}
 
 -- COPIES
 abbrev Copies : Instr → Type 0

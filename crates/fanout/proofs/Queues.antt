@@ -1,6 +1,6 @@
 -- Where the destinations of a tree of copies lead, and how it grows: the copies are made from the last one on, and each
 -- takes the last two of those that still wait for one.
-use Rattle.std.proofs.Common.{◌≡◌, ℕ, zero, suc, ◌+◌, ◌-◌, ◌*◌, ◌<◌, ◌≤◌, Bool, true, false, List, [], ◌∷◌, ◌++◌, map, length, refl, sym, ap, ◌∙◌, arith, Option, Some, None, if◌then◌else◌, nat_lt, not-suc-le-zero, le_of_suc-le-suc, lt-ltb}
+use Rattle.std.proofs.Common.{◌≡◌, ℕ, zero, suc, ◌+◌, ◌-◌, ◌*◌, ◌<◌, ◌≤◌, Bool, true, false, List, ◌∷◌, ◌++◌, map, length, refl, sym, ap, ◌∙◌, arith, Option, Some, None, if◌then◌else◌, nat_lt, not-suc-le-zero, le_of_suc-le-suc, lt-ltb, []}
 use Rattle.std.specs.Prelude.{slice_get}
 use Rattle.std.proofs.lemmas.Bool.{ltb-false, le-ltb}
 use Rattle.tags.specs.declared.token.Port.{Port}

@@ -1,5 +1,5 @@
 -- How long rows are, and one step of the pass that finds where copies stand.
-use Rattle.std.proofs.Common.{◌≡◌, ℕ, zero, suc, ◌+◌, ◌<◌, Bool, true, false, List, [], ◌∷◌, ◌++◌, length, append_assoc, get_or, drop, refl, sym, ap, ◌∙◌, inl, inr, ◌⊎◌, arith, le_of_suc-le-suc, not-suc-le-zero}
+use Rattle.std.proofs.Common.{◌≡◌, ℕ, zero, suc, ◌+◌, ◌<◌, Bool, true, false, List, ◌∷◌, ◌++◌, length, append_assoc, get_or, drop, refl, sym, ap, ◌∙◌, inl, inr, ◌⊎◌, arith, le_of_suc-le-suc, not-suc-le-zero, []}
 use Rattle.semantics.specs.Program.{Instr}
 use Rattle.fanout.specs.Rows.{run}
 use Rattle.fanout.specs.Places.{size, bases_from}

@@ -1,5 +1,5 @@
 -- Only a row's instructions are flagged as tied: so a sound plan stands clear.
-use Rattle.std.proofs.Common.{◌≡◌, ℕ, zero, suc, ◌+◌, ◌-◌, ◌<◌, ◌≤◌, Bool, true, false, List, [], ◌∷◌, length, replicate, refl, sym, ap, ◌∙◌, subst, inl, inr, ◌⊎◌, arith, true≢false, Some}
+use Rattle.std.proofs.Common.{◌≡◌, ℕ, zero, suc, ◌+◌, ◌-◌, ◌<◌, ◌≤◌, Bool, true, false, List, ◌∷◌, length, replicate, refl, sym, ap, ◌∙◌, subst, inl, inr, ◌⊎◌, arith, true≢false, Some, []}
 use Rattle.std.specs.Prelude.{slice_get, Contains}
 use Rattle.std.proofs.lemmas.Bool.{cases_eq}
 use Rattle.std.proofs.lemmas.List.{get_or-set_other}
@@ -15,7 +15,7 @@ use Rattle.fanout.specs.Rows.{tie, tie_landings, tie_instr, tie_all, is_tied}
 use Rattle.fanout.specs.Narrowed.{parts_of, layout_of}
 use Rattle.fanout.specs.Laws.{AreApart, Names}
 use Rattle.fanout.specs.Sound.{SoundStandsClear}
-use Rattle.fanout.proofs.Theorem.{get_map}
+use Rattle.fanout.proofs.Maps.{get_map}
 
 -- WHERE A FLAG COMES FROM
 none_tied : (n k : ℕ) → is_tied (replicate n false) k ≡ false

@@ -1,5 +1,5 @@
 -- A sound plan stays sound when it is narrowed.
-use Rattle.std.proofs.Common.{◌≡◌, ℕ, suc, ◌+◌, ◌≤◌, List, [], ◌∷◌, ◌++◌, length, refl, ap, ◌∙◌, subst, arith, Some}
+use Rattle.std.proofs.Common.{◌≡◌, ℕ, suc, ◌+◌, ◌≤◌, List, ◌∷◌, ◌++◌, length, refl, ap, ◌∙◌, subst, arith, Some, []}
 use Rattle.std.specs.Prelude.{slice_get, All, Contains}
 use Rattle.std.specs.Option.{option_map}
 use Rattle.std.proofs.lemmas.List.{length-map}
@@ -14,7 +14,7 @@ use Rattle.semantics.specs.Bytes.{HasDests, IsDest}
 use Rattle.semantics.specs.Wired.{StandsAt}
 use Rattle.determinacy.proofs.Resolved.{all_get}
 use Rattle.code.specs.Sound as Sound
-use Rattle.code.specs.Sound.{NamesRightly, IsPlace, IsSoundInstr, IsSoundBlock, NamesDest, IsSoundDest, IsSound}
+use Rattle.code.specs.Sound.{NamesRightly, IsPlace, IsSoundInstr, IsSoundBlock, IsSoundDest, IsSound}
 use Rattle.fanout.specs.Places.{place_of}
 use Rattle.fanout.specs.Trees.{moved}
 use Rattle.fanout.specs.Sides.{parted}
@@ -24,7 +24,7 @@ use Rattle.fanout.specs.Sound.{StaysSound, SoundHasDests}
 use Rattle.fanout.proofs.Positions.{place_low}
 use Rattle.fanout.proofs.Spots.{place_is}
 use Rattle.fanout.proofs.Queues.{there}
-use Rattle.fanout.proofs.Theorem.{get_map}
+use Rattle.fanout.proofs.Maps.{get_map}
 use Rattle.fanout.proofs.Shapes.{block_all, narrowed_dests}
 use Rattle.fanout.proofs.Plans.{is, ts, l, all, at_place}
 use Rattle.fanout.proofs.Arrows.{in_parts, dests_stay}

@@ -1,5 +1,5 @@
 -- The rows of a narrowed sound plan: no copy stands in one, so what was apart still is.
-use Rattle.std.proofs.Common.{◌≡◌, ℕ, ◌+◌, ◌-◌, ◌<◌, ◌≤◌, Bool, true, false, List, [], ◌∷◌, ◌++◌, map, length, refl, sym, ap, ◌∙◌, subst, inl, inr, ◌⊎◌, arith, Option, Some, None, nat_lt, if◌then◌else◌, length-append}
+use Rattle.std.proofs.Common.{◌≡◌, ℕ, ◌+◌, ◌-◌, ◌<◌, ◌≤◌, Bool, true, false, List, ◌∷◌, ◌++◌, map, length, refl, sym, ap, ◌∙◌, subst, inl, inr, ◌⊎◌, arith, Option, Some, None, nat_lt, if◌then◌else◌, length-append, []}
 use Rattle.std.specs.Prelude.{slice_get, Contains}
 use Rattle.std.specs.Option.{option_map}
 use Rattle.std.proofs.lemmas.Bool.{cases_lt, ltb-true}
@@ -14,8 +14,7 @@ use Rattle.semantics.specs.Program.{Instr, CodeBlock}
 use Rattle.semantics.specs.Plan.{Plan, HasShape, landing, landing_in}
 use Rattle.semantics.specs.Wired.{StandsAt}
 use Rattle.determinacy.proofs.Resolved.{all_get}
-use Rattle.lowering.proofs.Members.{contains_cases, contains_none, contains_head}
-use Rattle.lowering.proofs.Ends.{contains_map}
+use Rattle.lowering.proofs.Members.{contains_cases, contains_none, contains_head, contains_map}
 use Rattle.code.specs.Sound.{IsInLanding, IsTied, StandApart, IsSoundDest, IsSound}
 use Rattle.fanout.specs.Sides.{copies, parted, parting_of, firsts_of}
 use Rattle.fanout.specs.Rows.{is_tied}
@@ -26,8 +25,8 @@ use Rattle.fanout.proofs.Positions.{place_low}
 use Rattle.fanout.proofs.Spots.{sized, place_is, copy_apart, before_copies, past_copies, in_order, IsMoved, IsCopied, comes_here}
 use Rattle.fanout.proofs.Queues.{there}
 use Rattle.fanout.proofs.Flags.{entries_tied, place_tied}
-use Rattle.fanout.proofs.Stages.{parted_all}
-use Rattle.fanout.proofs.Theorem.{get_map}
+use Rattle.fanout.proofs.Parted.{parted_all}
+use Rattle.fanout.proofs.Maps.{get_map}
 use Rattle.fanout.proofs.Plans.{is, ts, l, all, all_copies}
 use Rattle.fanout.proofs.Arrows.{in_parts}
 use Rattle.fanout.proofs.Standing.{landings_stay}

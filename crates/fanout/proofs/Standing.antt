@@ -1,18 +1,16 @@
 -- The landing of a link stays in a row.
-use Rattle.std.proofs.Common.{◌≡◌, ℕ, zero, suc, ◌+◌, ◌-◌, ◌<◌, ◌≤◌, Bool, true, false, List, [], ◌∷◌, ◌++◌, length, replicate, refl, sym, ap, ◌∙◌, subst, inl, inr, ◌⊎◌, arith, true≢false, Option, Some, None, if◌then◌else◌}
+use Rattle.std.proofs.Common.{◌≡◌, ℕ, zero, suc, ◌+◌, ◌-◌, ◌<◌, Bool, true, false, List, ◌∷◌, length, replicate, sym, ap, ◌∙◌, subst, inl, inr, ◌⊎◌, arith, Some, if◌then◌else◌, []}
 use Rattle.std.specs.Prelude.{slice_get, Contains}
 use Rattle.std.proofs.lemmas.Option.{slice_get_within}
 use Rattle.semantics.specs.declared.program.Dest.{Dest}
-use Rattle.semantics.specs.declared.program.Op.{Op}
 use Rattle.semantics.specs.declared.program.Op.TheVariants.{Link}
 use Rattle.semantics.specs.Program.{Instr, CodeBlock}
 use Rattle.semantics.specs.Plan.{Plan, landing}
 use Rattle.semantics.specs.Wired.{StandsAt}
 use Rattle.lowering.proofs.Members.{contains_cases, contains_none}
 use Rattle.fanout.specs.Sides.{parted, firsts_of, parting_of}
-use Rattle.fanout.specs.Rows.{tie, tie_landings, tie_instr, tie_all, tied_in, is_tied}
+use Rattle.fanout.specs.Rows.{tie, tie_landings, tie_instr, tie_all, is_tied}
 use Rattle.fanout.specs.Places.{size, places_from, place_of}
-use Rattle.fanout.specs.Narrowed.{layout_of}
 use Rattle.fanout.specs.Laws.{LandingsStay, InstrsStay}
 use Rattle.fanout.proofs.Positions.{same_number}
 use Rattle.fanout.proofs.Spots.{place_is}

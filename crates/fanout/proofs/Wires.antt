@@ -1,5 +1,5 @@
 -- A narrowed plan is wired: no arc leads to an entry, and a right port is one of an instruction with two operands.
-use Rattle.std.proofs.Common.{◌≡◌, ℕ, zero, suc, ◌+◌, ◌<◌, ◌≤◌, Bool, true, false, List, [], ◌∷◌, ◌++◌, refl, sym, ap, ◌∙◌, inl, inr, ◌⊎◌, arith, true≢false, Option, Some, None, if◌then◌else◌}
+use Rattle.std.proofs.Common.{◌≡◌, ℕ, zero, suc, ◌+◌, ◌<◌, ◌≤◌, Bool, true, false, List, ◌∷◌, ◌++◌, refl, sym, ap, ◌∙◌, inl, inr, ◌⊎◌, arith, true≢false, Option, Some, None, if◌then◌else◌, []}
 use Rattle.std.specs.Prelude.{slice_get, Contains, flat_map}
 use Rattle.std.proofs.lemmas.Bool.{cases_lt}
 use Rattle.std.proofs.lemmas.Option.{slice_get_within}
@@ -12,11 +12,10 @@ use Rattle.semantics.specs.Program.{Instr, CodeBlock}
 use Rattle.semantics.specs.Rule.{slot_of}
 use Rattle.semantics.specs.Plan.{Plan, landing, is_credit}
 use Rattle.semantics.specs.Sharing.{Arc, Inlet, inlet, arc, arcs_to, row, arcs_from, arcs_of}
-use Rattle.semantics.specs.Wired.{StandsAt, IsWired}
+use Rattle.semantics.specs.Wired.{StandsAt}
 use Rattle.semantics.specs.Wired as Wired
 use Rattle.semantics.specs.Bytes as Bytes
-use Rattle.lowering.proofs.Members.{contains_cases, contains_none, contains_head, contains_tail}
-use Rattle.lowering.proofs.Ends.{contains_map}
+use Rattle.lowering.proofs.Members.{contains_cases, contains_none, contains_head, contains_tail, contains_map}
 use Rattle.fanout.specs.Sides.{parted}
 use Rattle.fanout.specs.Rows.{is_tied}
 use Rattle.fanout.specs.Places.{size, place_of, base_of}
@@ -27,7 +26,7 @@ use Rattle.fanout.proofs.Positions.{place_low}
 use Rattle.fanout.proofs.Spots.{place_is, copy_apart}
 use Rattle.fanout.proofs.Queues.{there}
 use Rattle.fanout.proofs.Flags.{entries_tied, place_tied}
-use Rattle.fanout.proofs.Theorem.{get_map}
+use Rattle.fanout.proofs.Maps.{get_map}
 use Rattle.fanout.proofs.Plans.{is, ts, l, all, stays_plan, marks_stay, loops_stay}
 use Rattle.fanout.proofs.Arrows.{Known, past, names_all, in_parts, dests_stay}
 

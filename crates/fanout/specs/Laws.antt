@@ -1,40 +1,19 @@
 -- What a plan keeps when it is narrowed.
-use Rattle.std.specs.Prelude.{◌≡◌, ◌≢◌, ℕ, ◌+◌, ◌<◌, ◌≤◌, ◌++◌, Bool, true, false, List, All, length, Some, slice_get, Contains, ⊤}
+use Rattle.std.specs.Prelude.{◌≡◌, ◌≢◌, ℕ, ◌+◌, ◌<◌, ◌≤◌, ◌++◌, Bool, false, List, All, length, Some, slice_get, Contains, ⊤}
 use Rattle.tags.specs.declared.token.Port.TheVariants.{Left}
 use Rattle.semantics.specs.declared.program.Dest.{Dest}
 use Rattle.semantics.specs.Bytes.{HasDests, IsDest}
-use Rattle.semantics.specs.Graph.{Graph, Flow, flow_of}
-use Rattle.semantics.specs.WellFormed.{WellFormed}
 use Rattle.semantics.specs.declared.program.Op.{Op}
 use Rattle.semantics.specs.declared.program.Op.TheVariants.{Link, Switch}
 use Rattle.semantics.specs.declared.program.Mark.TheVariants.{Unmarked}
 use Rattle.semantics.specs.Program.{Instr, CodeBlock, Program}
 use Rattle.semantics.specs.Plan.{Plan, HasShape, mark_at, landing, IsPlan}
 use Rattle.semantics.specs.Wired.{StandsAt, LoopsAgree, IsWired}
-use Rattle.semantics.specs.Orderly.{Orderly}
-use Rattle.semantics.specs.Faithful.{Faithful}
-use Rattle.lowering.specs.Implements.{IsStraight, Implements}
-use Rattle.lowering.specs.StraightPlan.{straight_program}
-use Rattle.lowering.specs.Theorem.{IsStraightLine}
 use Rattle.fanout.specs.Sides.{parted}
 use Rattle.fanout.specs.Rows.{is_tied}
 use Rattle.fanout.specs.Places.{place_of}
 use Rattle.fanout.specs.Trees.{moved}
 use Rattle.fanout.specs.Narrowed.{narrowed, narrowed_block, layout_of}
-
-abbrev pub is_link : Op → Bool
-is_link (Link b) = true
-is_link op = false
-
--- An instruction that links no block, and that is answered at one place if it is answered at all
-abbrev pub IsPlain : Instr → Type 0
-IsPlain i = HasShape i.op (length i.firsts) (length i.seconds) × (is_link i.op ≡ false)
-
-abbrev pub IsPlainCode : CodeBlock → Type 0
-IsPlainCode c = All IsPlain c.instrs
-
-abbrev pub IsPlainProgram : Program → Type 0
-IsPlainProgram p = All IsPlainCode p.blocks
 
 -- Nothing but a switch is marked.
 abbrev pub MarksSwitches : Plan → Type 0
@@ -42,22 +21,6 @@ MarksSwitches p = (b n : ℕ) (c : CodeBlock) (i : Instr) → slice_get p.progra
 
 abbrev pub AllLoops : Plan → Type 0
 AllLoops p = (b : ℕ) (c : CodeBlock) → slice_get p.program.blocks b ≡ Some c → LoopsAgree c
-
--- CODE OF A GRAPH. What implements a graph still does, its copies being parts of it.
-abbrev pub StillImplements : Type 0
-StillImplements = (fl : Flow) (p : Plan) → IsPlainProgram p.program → Implements fl p.program → Implements fl (narrowed p).program
-
--- The program of a straight graph is such a one: so its narrowed plan implements the graph,
-abbrev pub StraightImplements : Type 0
-StraightImplements = (fl : Flow) (p : Plan) → IsStraight fl → p.program ≡ straight_program fl → Implements fl (narrowed p).program
-
--- is faithful to it,
-abbrev pub StraightIsFaithful : Type 0
-StraightIsFaithful = (g : Graph) (p : Plan) → WellFormed g → IsStraightLine g → p.program ≡ straight_program (flow_of g) → Faithful (flow_of g) (narrowed p).program
-
--- and its runs are orderly.
-abbrev pub StraightIsOrderly : Type 0
-StraightIsOrderly = (fl : Flow) (p : Plan) → IsStraight fl → p.program ≡ straight_program fl → ((b n : ℕ) → mark_at p b n ≡ Unmarked) → Orderly (narrowed p)
 
 -- ANY PLAN stays a plan: its shapes, its holders, and its marks at switches and nowhere else.
 abbrev pub StaysPlan : Type 0
@@ -130,11 +93,3 @@ IsShaped i = HasShape i.op (length i.firsts) (length i.seconds) × LandsLeft i.o
 -- It has as many destinations as its kind has in an object.
 abbrev pub HasItsDests : Instr → Type 0
 HasItsDests i = HasDests i.op i.firsts i.seconds
-
--- The narrowed plan of a straight graph's program can be emitted as far as destinations go: each is a later instruction of
--- its block, and there are as many as each kind has.
-abbrev pub StraightHasDests : Type 0
-StraightHasDests = (fl : Flow) (p : Plan) → IsStraight fl → p.program ≡ straight_program fl → AreDests (narrowed p) × AllInstrs HasItsDests (narrowed p).program
-
-abbrev pub StraightStandsClear : Type 0
-StraightStandsClear = (fl : Flow) (p : Plan) → IsStraight fl → p.program ≡ straight_program fl → StandsClear p

@@ -1,5 +1,5 @@
 -- Where the instructions of a block stand when the copies of each stand directly behind it, or behind its row.
-use Rattle.std.specs.Prelude.{ℕ, ◌+◌, Bool, List, [], ◌∷◌, drop, slice_index_or, if◌then◌else◌}
+use Rattle.std.specs.Prelude.{ℕ, ◌+◌, Bool, List, ◌∷◌, drop, slice_index_or, if◌then◌else◌, []}
 use Rattle.semantics.specs.Program.{Instr}
 use Rattle.semantics.specs.Plan.{Plan}
 use Rattle.fanout.specs.Sides.{copies}

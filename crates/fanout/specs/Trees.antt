@@ -1,7 +1,7 @@
 -- Trees of copies. The copies of one side are numbered level by level, and stand in this order: copy j leads to the
 -- children 2 j + 1 and 2 j + 2. A child is the copy of that number, as long as there is one; the children after these are
 -- the destinations in their order.
-use Rattle.std.specs.Prelude.{ℕ, zero, suc, ◌+◌, ◌-◌, ◌*◌, List, [], ◌∷◌, ◌++◌, map, length, Option, Some, None, nat_lt, slice_get, if◌then◌else◌}
+use Rattle.std.specs.Prelude.{ℕ, zero, suc, ◌+◌, ◌-◌, ◌*◌, List, ◌∷◌, ◌++◌, map, length, Option, Some, None, nat_lt, slice_get, if◌then◌else◌, []}
 use Rattle.tags.specs.declared.value.Origin.TheVariants.{Untold}
 use Rattle.tags.specs.declared.token.Port.{Port}
 use Rattle.tags.specs.declared.token.Port.TheVariants.{Left}

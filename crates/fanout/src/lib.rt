@@ -7,7 +7,7 @@
 
 ghost use Rattle.std.specs.Prelude.{◌≡◌, IfOk};
 ghost use Rattle.fanout.specs.Narrowed.{narrowed};
-ghost use Rattle.fanout.specs.Laws.{AllInstrs, HasFew, IsShaped, HasItsDests, StaysPlan, MarksStay, LoopsStay, InstrsStay, LandingsStay, DestsStay, StaysWired, StillImplements, StraightImplements, StraightIsFaithful, StraightIsOrderly, StraightHasDests, StraightStandsClear};
+ghost use Rattle.fanout.specs.Laws.{AllInstrs, HasFew, IsShaped, HasItsDests, StaysPlan, MarksStay, LoopsStay, InstrsStay, LandingsStay, DestsStay, StaysWired};
 
 mod blocks;
 mod layout;
@@ -20,18 +20,6 @@ mod trees;
 use blocks::narrow_block;
 use code::{Plan, Program};
 use std::alloc::{AllocError, Allocator};
-
-/// What implements a graph still does when it is narrowed. So the narrowed plan of a straight graph's program implements
-/// the graph and is faithful to it; and if it has no marks, its runs are orderly. No destination of that program stays in
-/// a row or leads to an entry; and those of its narrowed plan are as an object has them.
-pub fn narrowed_code_is_faithful()
-    ensures still { StillImplements }
-    ensures straight { StraightImplements }
-    ensures faithful { StraightIsFaithful }
-    ensures orderly { StraightIsOrderly }
-    ensures clear { StraightStandsClear }
-    ensures dests { StraightHasDests }
-{}
 
 /// What any plan keeps when it is narrowed: it stays a plan, marked at its switches and nowhere else, with its loops as
 /// they were, each instruction in its place and each landing of a link in a row. Where each destination leaves the row of

@@ -1,5 +1,5 @@
 -- What folding does to an instruction: told without the names of folds.
-use Rattle.std.proofs.Common.{◌≡◌, refl, sym, ap, ◌∙◌, subst, ℕ, ℤ, ◌+◌, ◌<◌, ◌⊎◌, inl, inr, Bool, true, false, true≢false, List, [], ◌∷◌, Some}
+use Rattle.std.proofs.Common.{◌≡◌, refl, sym, ap, ◌∙◌, ℕ, ℤ, ◌+◌, Bool, true, false, true≢false, Some}
 use Rattle.std.specs.Prelude.{pos, slice_get}
 use Rattle.tags.specs.declared.token.Port.{Port}
 use Rattle.tags.specs.declared.token.Port.TheVariants.{Left, Right}
@@ -14,10 +14,10 @@ use Rattle.folding.specs.declared.folds.Fold.{Fold}
 use Rattle.folding.specs.declared.folds.Fold.TheVariants.{Kept, OnRight, OnLeft}
 use Rattle.folding.specs.Namers.{namer_of, namers_of}
 use Rattle.folding.specs.Folds.{is_folded, is_closed, new_port, new_op}
-use Rattle.folding.specs.Places.{layout_of, folds_at, gone_at}
+use Rattle.folding.specs.Places.{layout_of, folds_at}
 use Rattle.folding.specs.Laws.{dests_of, TakesLiteral}
 use Rattle.folding.proofs.Naming.{knows_namers}
-use Rattle.folding.proofs.Taken.{folds_on_right, folds_on_left, closed_takes}
+use Rattle.folding.proofs.Taken.{folds_on_right, folds_on_left}
 use Rattle.folding.proofs.Sole.{this_one, number_of}
 use Rattle.std.proofs.lemmas.Option.{slice_get_within}
 

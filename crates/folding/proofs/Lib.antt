@@ -14,12 +14,6 @@ pub mod SoundInstrs
 pub mod SoundArcs
 pub mod SoundLoops
 pub mod SoundPlans
-pub mod PortNames
-pub mod Numbers
-pub mod Choice
-pub mod Joined
-pub mod KeepsMeaning
-pub mod FoldedLiterals
 pub mod LoopsStay
 pub mod Perms
 pub mod NamedOnce

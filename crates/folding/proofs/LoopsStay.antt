@@ -1,5 +1,5 @@
 -- The loops of a folded plan open with the bounds that they had.
-use Rattle.std.proofs.Common.{◌≡◌, ℕ, zero, suc, ◌+◌, Bool, true, false, List, [], ◌∷◌, ◌++◌, refl, sym, ap, ◌∙◌, subst, arith, Some, if◌then◌else◌}
+use Rattle.std.proofs.Common.{◌≡◌, ℕ, suc, ◌+◌, Bool, true, false, List, [], ◌∷◌, ◌++◌, refl, sym, ap, ◌∙◌, subst, arith, Some, if◌then◌else◌}
 use Rattle.std.specs.Prelude.{flat_map, slice_get, IsPermutation}
 use Rattle.std.proofs.lemmas.List.{length-map}
 use Rattle.semantics.specs.declared.program.Op.{Op}

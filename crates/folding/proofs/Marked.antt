@@ -1,5 +1,5 @@
 -- The marks of a folded plan are those of its switches.
-use Rattle.std.proofs.Common.{◌≡◌, ℕ, zero, suc, ◌+◌, false, List, [], ◌∷◌, map, refl, sym, ap, ◌∙◌, arith, Option, Some, None, unwrap_or}
+use Rattle.std.proofs.Common.{◌≡◌, ℕ, zero, suc, ◌+◌, false, List, ◌∷◌, map, refl, sym, ap, ◌∙◌, arith, Option, Some, None, unwrap_or, []}
 use Rattle.std.specs.Prelude.{◌≢◌, slice_get}
 use Rattle.semantics.specs.declared.program.Mark.{Mark}
 use Rattle.semantics.specs.declared.program.Mark.TheVariants.{Unmarked}

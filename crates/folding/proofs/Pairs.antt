@@ -1,9 +1,9 @@
 -- The literals that one list of destinations triggers give their words to the operators that the list names: each folded
 -- operator that it names gets the one word from it, and the other from a literal that it triggers.
-use Rattle.std.proofs.Common.{◌≡◌, refl, sym, ap, ◌∙◌, subst, ℕ, zero, suc, ◌+◌, ◌<◌, ◌≤◌, ◌⊎◌, inl, inr, Bool, true, false, true≢false, ◌&&◌, ℤ, List, [], ◌∷◌, ◌++◌, length, Option, Some, None, IsPermutation, arith, if◌then◌else◌, not}
-use Rattle.std.specs.Prelude.{◌==◌, slice_get, flat_map}
+use Rattle.std.proofs.Common.{◌≡◌, refl, sym, ap, ◌∙◌, subst, ℕ, zero, suc, ◌+◌, ◌<◌, ◌≤◌, ◌⊎◌, inl, inr, Bool, true, false, true≢false, ◌&&◌, ℤ, List, ◌∷◌, ◌++◌, length, Option, Some, None, IsPermutation, arith, if◌then◌else◌, not, []}
+use Rattle.std.specs.Prelude.{slice_get, flat_map}
 use Rattle.std.proofs.lemmas.Option.{slice_get_within}
-use Rattle.std.proofs.lemmas.Bool.{cases_eq, cases_lt, eq-eqb, ne_eqb}
+use Rattle.std.proofs.lemmas.Bool.{cases_eq, eq-eqb, ne_eqb}
 use Rattle.tags.specs.declared.token.Port.{Port}
 use Rattle.tags.specs.declared.token.Port.TheVariants.{Left, Right}
 use Rattle.semantics.specs.declared.program.Dest.{Dest}

@@ -11,7 +11,6 @@ use Rattle.semantics.specs.declared.program.Op.TheVariants.{Apply2, Sync, Switch
 use Rattle.semantics.specs.Program.{Instr, CodeBlock}
 use Rattle.semantics.specs.Rule.{slot_of}
 use Rattle.semantics.specs.Plan.{Plan, is_credit}
-use Rattle.semantics.specs.Bytes.{IsDest}
 use Rattle.semantics.specs.Bytes as Bytes
 use Rattle.semantics.specs.Wired as Wired
 use Rattle.code.specs.Sound.{StandApart, IsSoundDest, DestsAreSound}

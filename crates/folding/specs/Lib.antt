@@ -5,5 +5,4 @@ pub mod Moved
 pub mod Folded
 pub mod Laws
 pub mod Sound
-pub mod Meaning
 pub mod Loops

@@ -1,5 +1,5 @@
 -- Where the instructions of a block stand once literals are left out, and the numbers of the holders that are left.
-use Rattle.std.specs.Prelude.{ℕ, ◌+◌, Bool, true, false, List, [], ◌∷◌, replicate, slice_set, slice_index_or, if◌then◌else◌}
+use Rattle.std.specs.Prelude.{ℕ, ◌+◌, Bool, true, false, List, ◌∷◌, replicate, slice_set, slice_index_or, if◌then◌else◌, []}
 use Rattle.semantics.specs.Program.{Instr, CodeBlock}
 use Rattle.semantics.specs.Plan.{Plan}
 use Rattle.folding.specs.declared.folds.Fold.{Fold}

@@ -7,7 +7,6 @@
 
 ghost use Rattle.std.specs.Prelude.{◌≡◌, IfOk};
 ghost use Rattle.folding.specs.Folded.{folded};
-ghost use Rattle.folding.specs.Meaning.{StillImplements, StraightImplements, StraightIsFaithful, StraightIsOrderly, StraightIsPlain};
 
 mod blocks;
 mod folds;
@@ -52,13 +51,3 @@ pub fn fold<A: Allocator + Clone>(alloc: A, plan: &Plan<A>) -> Result<Plan<A>, A
         marks,
     })
 }
-
-/// Code of a graph stays code of the graph when its operators get literal operands. The folded program of a straight
-/// graph is faithful to it; its runs are orderly; and it can be narrowed.
-pub fn folding_keeps_the_meaning()
-    ensures implements { StillImplements }
-    ensures straight { StraightImplements }
-    ensures faithful { StraightIsFaithful }
-    ensures orderly { StraightIsOrderly }
-    ensures plain { StraightIsPlain }
-{}

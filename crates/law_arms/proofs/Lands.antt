@@ -20,6 +20,7 @@ use Rattle.semantics.specs.Program.{Instr, CodeBlock, first_of, instr_at}
 use Rattle.semantics.specs.Machine.{Machine}
 use Rattle.law_once.specs.Alike.{HasLanding, offset_of}
 use Rattle.lowering.proofs.Members.{contains_head, contains_cases, contains_none}
+use Rattle.law_contexts.proofs.Words.{carries_of}
 use Rattle.law_contexts.specs.Parts.{Part, Line, Linker, Landing, CallDone, Giver, Taker, Drainer, Result, Asker, LastReturn, DrainReturn, End, Inlet, inlet, Note}
 use Rattle.law_contexts.specs.Blocks.{side, op_of, line_op, kind_op, there_in, is_call, is_loop, call_kind, loop_kind, code_called, callee_code, result_count}
 use Rattle.law_contexts.specs.Contexts.{Wires, or_zero, block_in, code_in, site_in, wiring_in, return_of, IsContext}
@@ -237,7 +238,7 @@ module _ (stage : ℕ) (fl : Flow) (p : Plan) (w : Wires) (inputs : List ℤ) (q
       let same : here.0 ≡ i = some_instr here.0 i (sym at ∙ ap (instr_at p.program) came.place ∙ e) in
       let op : offset_of (op_of w.variant (site_in fl w context) part) ≡ Some o = ap offset_of (sym here.2.op ∙ ap (λ (i : Instr). i.op) same) ∙ d in
       let offset = offset_cases fl w context o part op in
-      let fits = All-contains (WordFits fl w) (all_here stage fl p w inputs q m good k) x.0 k.fits came.stands in
+      let fits = carries_of fl w x.0 (All-contains (WordFits fl w) (all_here stage fl p w inputs q m good k) x.0 k.fits came.stands) in
       let host : x.0.word ≡ return_of context = returns fl w context o part offset x.0.inlet.way x.0.word (subst (λ (s : Port). Carries fl w context x.0.inlet.way (comes_at part s) x.0.word) came.port fits) in
       lands_by context o part came.context came.part_here offset g base r (sym (ap word host) ∙ x.2)
     where

@@ -20,6 +20,7 @@ use Rattle.semantics.specs.Program.{Instr}
 use Rattle.semantics.specs.Rule.{Seat, fires, fire_two, meets, outcome_of, rule_at, slot_of}
 use Rattle.semantics.specs.Machine.{Machine, slot_in, slot_used, excluded_by, stuck_rule, outputs_of, results_in, filled, unless_value, unless_back}
 use Rattle.lowering.proofs.Members.{contains_head, contains_tail}
+use Rattle.law_contexts.proofs.Words.{carries_of}
 use Rattle.law_contexts.specs.Parts.{Part, Line, Opener, Asked, NextAsked, Held, Drained, Shown, Done, Freed, Inlet, inlet, Note, Item, Firing}
 use Rattle.law_contexts.specs.Blocks.{is_loop, is_store, waits_in, there_in, op_of}
 use Rattle.law_contexts.specs.Contexts.{Wires, block_in, site_in, wiring_in, or_zero, IsContext}
@@ -97,7 +98,7 @@ module _ (stage : ℕ) (fl : Flow) (p : Plan) (w : Wires) (inputs : List ℤ) (q
 
   pub word_at : (i : Item) → Contains all i → (c : Context) → i.context ≡ c → (r : Part) → i.inlet.part ≡ r → (x : Port) → i.inlet.port ≡ x → Carries fl w c i.inlet.way (comes_at r x) i.word
   word_at i h c a r e x g = subst (λ (x : Port). Carries fl w c i.inlet.way (comes_at r x) i.word) g (subst (λ (r : Part). Carries fl w c i.inlet.way (comes_at r i.inlet.port) i.word) e
-      (subst (λ (d : Context). Carries fl w d i.inlet.way (comes_at i.inlet.part i.inlet.port) i.word) a (All-contains (WordFits fl w) all i k.fits h)))
+      (subst (λ (d : Context). Carries fl w d i.inlet.way (comes_at i.inlet.part i.inlet.port) i.word) a (carries_of fl w i (All-contains (WordFits fl w) all i k.fits h))))
 
   left_only : (i : Item) → Contains all i → (c : Context) → i.context ≡ c → (r : Part) → i.inlet.part ≡ r → waits_in (block_in fl c) r ≡ false → i.inlet.port ≡ Left
   left_only i h c a r e n = go i.inlet.port refl (subst (λ (d : Context). port_fits fl d r i.inlet.port ≡ true) a (subst (λ (r : Part). port_fits fl i.context r i.inlet.port ≡ true) e (fits_in stage fl p w inputs q m good k i h).port))

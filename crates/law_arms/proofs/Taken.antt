@@ -93,7 +93,7 @@ module _ (stage : ℕ) (fl : Flow) (p : Plan) (w : Wires) (inputs : List ℤ) (q
     rows = (laid stage fl p w inputs q m good k c con).loops n l
 
     -- open: it has not fired
-    closed : i.inlet.part ≡ Opener n → log.opened ≡ false
+    pub closed : i.inlet.part ≡ Opener n → log.opened ≡ false
     closed ir = le-ltb 0 (times c (Opener n) done) (go (cases_eq (times c (Opener n) done) 0))
       where
         fired_spot : (f : Firing) → f.context ≡ c → f.part ≡ Opener n → spot_of (first_taken fl w f f.part) ≡ record { context = c; inlet = inlet (Opener n) Left 0 }
@@ -129,35 +129,37 @@ module _ (stage : ℕ) (fl : Flow) (p : Plan) (w : Wires) (inputs : List ℤ) (q
     takes_ok zero b = refl
     takes_ok (suc x) b = refl
 
+    -- A TAKE that comes
+    module _ (ir : i.inlet.part ≡ Taker n) where
+      pub taker_opened : 0 < times c (Opener n) done
+      taker_opened = near_opened stage fl p w inputs q m good k c con n l i come (NTaker ic ir)
+
+      pub taker_turn : i.inlet.way ≡ granted_of net c n
+      taker_turn = (keeps stage fl p w inputs q m good k c con n l).takes i (held stage fl p w inputs q m good k c con n l i pending ic (Taker n) ir) ic ir
+
+      pub taker_over : log.over ≡ false
+      taker_over = over_by stage fl p w inputs q m good k c con n l i pending ic (Taker n) ir (λ h d a e.
+          let late = no_later stage fl p w inputs q m good k c con n l h d a e i come ic ir in
+          let turns = turns_now stage fl p w inputs q m good k h n d e in let same = ap (λ (x : Context). times x (Taker n) done) a in
+          let way = taker_turn in let opened = taker_opened in omega (arith, late, turns, same, way, opened))
+
+      pub taker_draining : log.draining ≡ false
+      taker_draining = draining_by stage fl p w inputs q m good k c con n l i pending ic (Taker n) ir (λ j d a e.
+          no_take stage fl p w inputs q m good k c con n l i pending ic (Taker n) ir j (held_too stage fl p w inputs q m good k c con n l i pending ic (Taker n) ir j d) a e i (held stage fl p w inputs q m good k c con n l i pending ic (Taker n) ir) ic ir)
+
+      pub taker_waiter : log.waiter ≡ None
+      taker_waiter = waiter_by stage fl p w inputs q m good k c con n l i pending ic (Taker n) ir (λ j d a e.
+          let other = (keeps stage fl p w inputs q m good k c con n l).takes j (held_too stage fl p w inputs q m good k c con n l i pending ic (Taker n) ir j d) a e in
+          not_waiting stage fl p w inputs q m good k c con n l i pending ic (Taker n) ir j d (waits_spot stage fl p w inputs q m good k c con n l i pending ic (Taker n) ir j d a e refl (other ∙ sym taker_turn)))
+
     taker_free : (g : ℕ) → frame_at fl done c ≡ Some g → i.inlet.part ≡ Taker n → Free g (Taker n) (word_of fl p w done i.word)
     taker_free g at ir =
         let left = left_at stage fl p w inputs q m good k c con n l i come ic (Taker n) ir refl in
         let word = word_at stage fl p w inputs q m good k i come c ic (Taker n) ir Left left in
         subst (λ (x : Note). Free g (Taker n) (word_of fl p w done x)) (sym word)
         (free_by g at (Taker n) ir l refl rows.1 (λ y. refl) (word_of fl p w done (BackTo (turn_before c n i.inlet.way) (inlet NextFramer Left 0)))
-        (λ a y. ap (λ (s : SlotState). excluded_by (Rule.takes s (word_of fl p w done (BackTo (turn_before c n i.inlet.way) (inlet NextFramer Left 0))))) (free_form stage fl p w inputs q m good k c con n l (opened_by opened) over draining waiter)
+        (λ a y. ap (λ (s : SlotState). excluded_by (Rule.takes s (word_of fl p w done (BackTo (turn_before c n i.inlet.way) (inlet NextFramer Left 0))))) (free_form stage fl p w inputs q m good k c con n l (opened_by (taker_opened ir)) (taker_over ir) (taker_draining ir) (taker_waiter ir))
         ∙ takes_ok (most - (log.granted - log.given)) _))
-      where
-        opened : 0 < times c (Opener n) done
-        opened = near_opened stage fl p w inputs q m good k c con n l i come (NTaker ic ir)
-
-        way : i.inlet.way ≡ granted_of net c n
-        way = (keeps stage fl p w inputs q m good k c con n l).takes i (held stage fl p w inputs q m good k c con n l i pending ic (Taker n) ir) ic ir
-
-        over : log.over ≡ false
-        over = over_by stage fl p w inputs q m good k c con n l i pending ic (Taker n) ir (λ h d a e.
-            let late = no_later stage fl p w inputs q m good k c con n l h d a e i come ic ir in
-            let turns = turns_now stage fl p w inputs q m good k h n d e in let same = ap (λ (x : Context). times x (Taker n) done) a in
-            omega (arith, late, turns, same, way, opened))
-
-        draining : log.draining ≡ false
-        draining = draining_by stage fl p w inputs q m good k c con n l i pending ic (Taker n) ir (λ j d a e.
-            no_take stage fl p w inputs q m good k c con n l i pending ic (Taker n) ir j (held_too stage fl p w inputs q m good k c con n l i pending ic (Taker n) ir j d) a e i (held stage fl p w inputs q m good k c con n l i pending ic (Taker n) ir) ic ir)
-
-        waiter : log.waiter ≡ None
-        waiter = waiter_by stage fl p w inputs q m good k c con n l i pending ic (Taker n) ir (λ j d a e.
-            let other = (keeps stage fl p w inputs q m good k c con n l).takes j (held_too stage fl p w inputs q m good k c con n l i pending ic (Taker n) ir j d) a e in
-            not_waiting stage fl p w inputs q m good k c con n l i pending ic (Taker n) ir j d (waits_spot stage fl p w inputs q m good k c con n l i pending ic (Taker n) ir j d a e refl (other ∙ sym way)))
 
     -- drain
     drains_ok : (a : Seat) (y : Instr) (x : ℕ) → x ≤ most → excluded_by (drains a y most (Slot.Credits x)) ≡ None
@@ -168,26 +170,28 @@ module _ (stage : ℕ) (fl : Flow) (p : Plan) (w : Wires) (inputs : List ℤ) (q
         go (inr n') = ap (λ (t : Bool). excluded_by (if t then Rule.Becomes Empty (Rule.to_all a Rule.signal y) else if nat_lt x most then Rule.Becomes (Draining (most - x)) [] else Rule.Excluded 3)) (ne_eqb x most n')
             ∙ ap (λ (t : Bool). excluded_by (if t then Rule.Becomes (Draining (most - x)) [] else Rule.Excluded 3)) (lt-ltb x most (omega (arith, h, n')))
 
+    -- A DRAIN that comes
+    module _ (ir : i.inlet.part ≡ Drainer n) where
+      pub drainer_opened : 0 < times c (Opener n) done
+      drainer_opened = given_opened stage fl p w inputs q m good k c con n l (Drainer n) DrainReturn (λ t. refl) (λ b. refl) refl i come ic ir
+
+      pub drainer_over : log.over ≡ false
+      drainer_over = over_by stage fl p w inputs q m good k c con n l i pending ic (Drainer n) ir (λ h d a e.
+          let j = drained_taken stage fl p w inputs q m good k c con n l h d a e in
+          not_taken stage fl p w inputs q m good k c con n l i pending ic (Drainer n) ir (item h.context (inlet (Drainer n) Left h.turns) h.left) j
+          (drains_meet stage fl p w inputs q m good k c con n l i pending ic (Drainer n) ir refl (item h.context (inlet (Drainer n) Left h.turns) h.left) (taken_all stage fl p w inputs q m good k (item h.context (inlet (Drainer n) Left h.turns) h.left) j) a refl))
+
+      pub drainer_draining : log.draining ≡ false
+      drainer_draining = draining_by stage fl p w inputs q m good k c con n l i pending ic (Drainer n) ir (λ j d a e.
+          not_waiting stage fl p w inputs q m good k c con n l i pending ic (Drainer n) ir j d (drains_meet stage fl p w inputs q m good k c con n l i pending ic (Drainer n) ir refl j (waiting_in stage fl p w inputs q m good k j d) a e))
+
+      pub drainer_waiter : log.waiter ≡ None
+      drainer_waiter = waiter_by stage fl p w inputs q m good k c con n l i pending ic (Drainer n) ir (λ j d a e.
+          no_take stage fl p w inputs q m good k c con n l i pending ic (Drainer n) ir i (held stage fl p w inputs q m good k c con n l i pending ic (Drainer n) ir) ic ir j (held_too stage fl p w inputs q m good k c con n l i pending ic (Drainer n) ir j d) a e)
+
     drainer_free : (g : ℕ) → frame_at fl done c ≡ Some g → i.inlet.part ≡ Drainer n → (v : Word) → Free g (Drainer n) v
     drainer_free g at ir v = free_by g at (Drainer n) ir l refl rows.2 (λ y. refl) v
-        (λ a y. ap (λ (s : SlotState). excluded_by (drains a y most s)) (free_form stage fl p w inputs q m good k c con n l (opened_by opened) over draining waiter) ∙ drains_ok a y (most - (log.granted - log.given)) (omega arith))
-      where
-        opened : 0 < times c (Opener n) done
-        opened = given_opened stage fl p w inputs q m good k c con n l (Drainer n) DrainReturn (λ t. refl) (λ b. refl) refl i come ic ir
-
-        over : log.over ≡ false
-        over = over_by stage fl p w inputs q m good k c con n l i pending ic (Drainer n) ir (λ h d a e.
-            let j = drained_taken stage fl p w inputs q m good k c con n l h d a e in
-            not_taken stage fl p w inputs q m good k c con n l i pending ic (Drainer n) ir (item h.context (inlet (Drainer n) Left h.turns) h.left) j
-            (drains_meet stage fl p w inputs q m good k c con n l i pending ic (Drainer n) ir refl (item h.context (inlet (Drainer n) Left h.turns) h.left) (taken_all stage fl p w inputs q m good k (item h.context (inlet (Drainer n) Left h.turns) h.left) j) a refl))
-
-        draining : log.draining ≡ false
-        draining = draining_by stage fl p w inputs q m good k c con n l i pending ic (Drainer n) ir (λ j d a e.
-            not_waiting stage fl p w inputs q m good k c con n l i pending ic (Drainer n) ir j d (drains_meet stage fl p w inputs q m good k c con n l i pending ic (Drainer n) ir refl j (waiting_in stage fl p w inputs q m good k j d) a e))
-
-        waiter : log.waiter ≡ None
-        waiter = waiter_by stage fl p w inputs q m good k c con n l i pending ic (Drainer n) ir (λ j d a e.
-            no_take stage fl p w inputs q m good k c con n l i pending ic (Drainer n) ir i (held stage fl p w inputs q m good k c con n l i pending ic (Drainer n) ir) ic ir j (held_too stage fl p w inputs q m good k c con n l i pending ic (Drainer n) ir j d) a e)
+        (λ a y. ap (λ (s : SlotState). excluded_by (drains a y most s)) (free_form stage fl p w inputs q m good k c con n l (opened_by (drainer_opened ir)) (drainer_over ir) (drainer_draining ir) (drainer_waiter ir)) ∙ drains_ok a y (most - (log.granted - log.given)) (omega arith))
 
     -- give
     draining_ok : (a : Seat) (y : Instr) (d : ℕ) → 0 < d → excluded_by (gives a y most (Draining d)) ≡ None
@@ -206,54 +210,56 @@ module _ (stage : ℕ) (fl : Flow) (p : Plan) (w : Wires) (inputs : List ℤ) (q
     gives_ok a y true d x h g = draining_ok a y d h
     gives_ok a y false d x h g = waits_ok a y log.waiter x g
 
+    -- A GIVE that comes
+    module _ (ir : i.inlet.part ≡ Giver n) where
+      pub giver_opened : 0 < times c (Opener n) done
+      giver_opened = given_opened stage fl p w inputs q m good k c con n l (Giver n) End (λ t. refl) (λ b. refl) refl i come ic ir
+
+      pub given_low : (j : Item) → Contains (net.pending ++ net.waiting) j → j.context ≡ c → j.inlet.part ≡ Giver n → j.inlet.way < granted_of net c n
+      given_low j d a e = (keeps stage fl p w inputs q m good k c con n l).gives j d a e
+
+      pub giver_held : Contains (net.pending ++ net.waiting) i
+      giver_held = held stage fl p w inputs q m good k c con n l i pending ic (Giver n) ir
+
+      pub giver_over : log.over ≡ false
+      giver_over = over_by stage fl p w inputs q m good k c con n l i pending ic (Giver n) ir (λ h d a e.
+          let low = given_low i giver_held ic ir in let few = granted_few stage fl p w inputs q m good k c con n l h d a e in
+          let j = credit_taken stage fl p w inputs q m good k c con n l h d a e i.inlet.way (omega (arith, low, few)) in
+          not_taken stage fl p w inputs q m good k c con n l i pending ic (Giver n) ir (item h.context (inlet (Giver n) Left i.inlet.way) signal) j
+          (in_spot stage fl p w inputs q m good k c con n l i pending ic (Giver n) ir refl ∙ sym (ap (λ (x : Context). record { context = x; inlet = inlet (Giver n) Left i.inlet.way }) a)))
+
+      -- those that wait and the one that comes are fewer than were granted
+      pub giver_counted : items_at c (Giver n) net.waiting + 1 ≤ granted_of net c n
+      giver_counted =
+          let test : Item → Bool = is_item_at c (Giver n) in
+          let both = few_pigeons test (λ t. record { context = c; inlet = inlet (Giver n) Left t }) (granted_of net c n) (net.pending ++ net.waiting) few
+          (λ j d e. let x = item_there c (Giver n) j e in (j.inlet.way, given_low j d x.0 x.1, spot_at stage fl p w inputs q m good k c con n l j (standing j d) x.0 (Giver n) x.1 refl j.inlet.way refl)) in
+          let sum = total-append (λ (j : Item). one (test j)) net.pending net.waiting in
+          let this = some_item c (Giver n) net.pending i pending ic ir in let waits = items_total c (Giver n) net.waiting in
+          omega (arith, both, sum, this, waits)
+        where
+          standing : (j : Item) → Contains (net.pending ++ net.waiting) j → Contains (all_of fl net) j
+          standing j d = subst (λ (l : List Item). Contains l j) (append_assoc net.pending net.waiting (flat_map (takes fl) done)) (Contains-append_left (net.pending ++ net.waiting) (flat_map (takes fl) done) j d)
+
+          few : (x : Spot) → hits_at x (net.pending ++ net.waiting) ≤ 1
+          few x =
+              let f : Item → ℕ = λ (j : Item). one (same_spot x (spot_of j)) in
+              let a = total-append f net.pending (net.waiting ++ flat_map (takes fl) done) in let b = total-append f net.waiting (flat_map (takes fl) done) in
+              let e = total-append f net.pending net.waiting in let o = once_all fl w inputs net k.sound x in omega (arith, a, b, e, o)
+
+      pub given_is : log.given ≡ items_at c (Giver n) net.waiting
+      given_is = ap (λ (t : Bool). if t then granted_of net c n else items_at c (Giver n) net.waiting) giver_over
+
+      pub given_more : log.given < log.granted
+      given_more = let a = given_is in let b = giver_counted in omega (arith, a, b)
+
+      pub granted_within : log.granted ≤ log.given + most
+      granted_within = (keeps stage fl p w inputs q m good k c con n l).law.bound
+
     giver_free : (g : ℕ) → frame_at fl done c ≡ Some g → i.inlet.part ≡ Giver n → (v : Word) → Free g (Giver n) v
     giver_free g at ir v = free_by g at (Giver n) ir l refl rows.0 (λ y. refl) v
-        (λ a y. ap (λ (s : SlotState). excluded_by (gives a y most s)) (open_form stage fl p w inputs q m good k c con n l (opened_by opened) over)
-        ∙ gives_ok a y log.draining (log.granted - log.given) (most - (log.granted - log.given)) (omega (arith, more)) (omega (arith, more, within)))
-      where
-        opened : 0 < times c (Opener n) done
-        opened = given_opened stage fl p w inputs q m good k c con n l (Giver n) End (λ t. refl) (λ b. refl) refl i come ic ir
-
-        given_low : (j : Item) → Contains (net.pending ++ net.waiting) j → j.context ≡ c → j.inlet.part ≡ Giver n → j.inlet.way < granted_of net c n
-        given_low j d a e = (keeps stage fl p w inputs q m good k c con n l).gives j d a e
-
-        mine : Contains (net.pending ++ net.waiting) i
-        mine = held stage fl p w inputs q m good k c con n l i pending ic (Giver n) ir
-
-        over : log.over ≡ false
-        over = over_by stage fl p w inputs q m good k c con n l i pending ic (Giver n) ir (λ h d a e.
-            let low = given_low i mine ic ir in let few = granted_few stage fl p w inputs q m good k c con n l h d a e in
-            let j = credit_taken stage fl p w inputs q m good k c con n l h d a e i.inlet.way (omega (arith, low, few)) in
-            not_taken stage fl p w inputs q m good k c con n l i pending ic (Giver n) ir (item h.context (inlet (Giver n) Left i.inlet.way) signal) j
-            (in_spot stage fl p w inputs q m good k c con n l i pending ic (Giver n) ir refl ∙ sym (ap (λ (x : Context). record { context = x; inlet = inlet (Giver n) Left i.inlet.way }) a)))
-
-        -- those that wait and the one that comes are fewer than were granted
-        counted : items_at c (Giver n) net.waiting + 1 ≤ granted_of net c n
-        counted =
-            let test : Item → Bool = is_item_at c (Giver n) in
-            let both = few_pigeons test (λ t. record { context = c; inlet = inlet (Giver n) Left t }) (granted_of net c n) (net.pending ++ net.waiting) few
-            (λ j d e. let x = item_there c (Giver n) j e in (j.inlet.way, given_low j d x.0 x.1, spot_at stage fl p w inputs q m good k c con n l j (standing j d) x.0 (Giver n) x.1 refl j.inlet.way refl)) in
-            let sum = total-append (λ (j : Item). one (test j)) net.pending net.waiting in
-            let this = some_item c (Giver n) net.pending i pending ic ir in let waits = items_total c (Giver n) net.waiting in
-            omega (arith, both, sum, this, waits)
-          where
-            standing : (j : Item) → Contains (net.pending ++ net.waiting) j → Contains (all_of fl net) j
-            standing j d = subst (λ (l : List Item). Contains l j) (append_assoc net.pending net.waiting (flat_map (takes fl) done)) (Contains-append_left (net.pending ++ net.waiting) (flat_map (takes fl) done) j d)
-
-            few : (x : Spot) → hits_at x (net.pending ++ net.waiting) ≤ 1
-            few x =
-                let f : Item → ℕ = λ (j : Item). one (same_spot x (spot_of j)) in
-                let a = total-append f net.pending (net.waiting ++ flat_map (takes fl) done) in let b = total-append f net.waiting (flat_map (takes fl) done) in
-                let e = total-append f net.pending net.waiting in let o = once_all fl w inputs net k.sound x in omega (arith, a, b, e, o)
-
-        given_is : log.given ≡ items_at c (Giver n) net.waiting
-        given_is = ap (λ (t : Bool). if t then granted_of net c n else items_at c (Giver n) net.waiting) over
-
-        more : log.given < log.granted
-        more = let a = given_is in let b = counted in omega (arith, a, b)
-
-        within : log.granted ≤ log.given + most
-        within = (keeps stage fl p w inputs q m good k c con n l).law.bound
+        (λ a y. ap (λ (s : SlotState). excluded_by (gives a y most s)) (open_form stage fl p w inputs q m good k c con n l (opened_by (giver_opened ir)) (giver_over ir))
+        ∙ gives_ok a y log.draining (log.granted - log.given) (most - (log.granted - log.given)) (let more = given_more ir in omega (arith, more)) (let more = given_more ir in let within = granted_within ir in omega (arith, more, within)))
 
   -- EACH OF THEM
   context : (i : Item) → Contains net.pending i → IsContext fl i.context

@@ -11,8 +11,9 @@ use Rattle.semantics.specs.Meaning.{Context, Main, Called, Turned}
 use Rattle.semantics.specs.Faithful.{inputs_in}
 use Rattle.semantics.specs.Plan.{Plan}
 use Rattle.lowering.proofs.Members.{contains_cases, contains_none}
+use Rattle.law_contexts.proofs.Words.{carries_of, word_there}
 use Rattle.law_contexts.specs.Parts.{Part, Entry, Line, Opener, Framer, Linker, Sender, Landing, Giver, Taker, Drainer, Strict, Result, Asker, NextFramer, NextSender, LastReturn, DrainReturn, Join, End, Asked, NextAsked, Held, Drained, Shown, Done, Freed, Inlet, inlet, Note, Datum, ToHost, BackTo, signal, Item, item, Firing, spot_of}
-use Rattle.law_contexts.specs.Blocks.{Side, waits_in, there_in, is_cell, is_kind, plain_kind, is_loop, is_call}
+use Rattle.law_contexts.specs.Blocks.{Side, waits_in, there_in, is_cell, is_store, is_kind, plain_kind, is_loop, is_call}
 use Rattle.law_contexts.specs.Contexts.{Wires, block_in, site_in, wiring_in, IsContext, is_strict_in, child, return_of}
 use Rattle.law_contexts.specs.Wires.{Carried, Anything, AValue, Suits, comes_at, goes_from, is_given, wired_way, wired_port}
 use Rattle.law_contexts.specs.Firings.{own_takes, renewed, takes, makes, begins, input_items, sent_word, line_value, value_in, right_way}
@@ -62,7 +63,7 @@ module _ (fl : Flow) (w : Wires) (f : Firing) (all : AllFit fl w (takes fl f)) (
 
   pub right_carries : (r : Part) → r ≡ f.part → waits_in (block_in fl f.context) r ≡ true → Carries fl w f.context (right_way fl f.context r) (comes_at r Right) f.right
   right_carries r e h = subst (λ (r : Part). waits_in (block_in fl f.context) r ≡ true → Carries fl w f.context (right_way fl f.context r) (comes_at r Right) f.right) (sym e)
-      (λ h. All-contains (WordFits fl w) (takes fl f) (item f.context (inlet f.part Right (right_way fl f.context f.part)) f.right) words (takes_right fl w f h)) h
+      (λ h. carries_of fl w (item f.context (inlet f.part Right (right_way fl f.context f.part)) f.right) (All-contains (WordFits fl w) (takes fl f) (item f.context (inlet f.part Right (right_way fl f.context f.part)) f.right) words (takes_right fl w f h))) h
 
   -- what is sent is of the kind that goes from there
   carries_from : (t : ℕ) (u : Side) (q : Part) → side_by fl f f.part ≡ Some u → maker_of (block_in fl f.context) q ≡ f.part → Carries fl w f.context t (goes_from q) (sent_word fl f f.part)
@@ -131,8 +132,11 @@ module _ (stage : ℕ) (fl : Flow) (p : Plan) (w : Wires) (good : IsGood stage f
   sent_carries f i all words s =
       let x = i.inlet in let facts = sent_facts fl w f all s.from s.along in
       let suits = (lawful_at stage fl p w good f.context (in_context fl w f all)).leads.suits s.from x facts.there s.wire in
-      subst (WordFits fl w) (sym s.is) (suit fl w f.context x.way (sent_word fl f f.part) (comes_at x.part x.port) (goes_from s.from.part) suits
-      (carries_from fl w f all words x.way s.from s.from.part s.along facts.maker))
+      let k = (lawful_at stage fl p w good f.context (in_context fl w f all)).fed.inlets s.from x facts.there s.wire in
+      subst (WordFits fl w) (sym s.is) (word_there fl w (item f.context x (sent_word fl f f.part)) x.part
+      (λ n e. true≢false (sym k.0 ∙ ap (there_in fl (site_in fl w f.context) (wiring_in fl w f.context)) e))
+      (suit fl w f.context x.way (sent_word fl f f.part) (comes_at x.part x.port) (goes_from s.from.part) suits
+      (carries_from fl w f all words x.way s.from s.from.part s.along facts.maker)))
 
   -- WHAT IS GIVEN
   or_last : (x : Bool) → (x || true) ≡ true
@@ -214,13 +218,21 @@ module _ (stage : ℕ) (fl : Flow) (p : Plan) (w : Wires) (good : IsGood stage f
 
     module _ (words : All (WordFits fl w) (takes fl f)) where
       a_signal : (i : Item) (c : Context) (x : Inlet) → i ≡ item c x signal → comes_at x.part x.port ≡ AValue → WordFits fl w i
-      a_signal i c x e h = subst (WordFits fl w) (sym e) (subst (λ (k : Carried). Carries fl w c x.way k signal) (sym h) (Int (pos 0), refl))
+      a_signal i c x e h = subst (WordFits fl w) (sym e) (word_there fl w (item c x signal) x.part (no_cell x.part h) (subst (λ (k : Carried). Carries fl w c x.way k signal) (sym h) (Int (pos 0), refl)))
+        where
+          no_cell : (r : Part) → comes_at r x.port ≡ AValue → (n : ℕ) → r ≡ Held n → ⊥
+          no_cell (Held n) h m e = absurd (cc)
+          no_cell r h m e = absurd (cc)
 
       right : (r : Part) → f.part ≡ r → waits_in (block_in fl f.context) r ≡ true → Carries fl w f.context (right_way fl f.context r) (comes_at r Right) f.right
       right r e h = right_carries fl w f all words r (sym e) h
 
       pub gift_word : (i : Item) → Gift fl w f i → WordFits fl w i
-      gift_word i (GHeld n e h g) = subst (WordFits fl w) (sym g) refl
+      gift_word i (GHeld n e h g) = subst (WordFits fl w) (sym g) (refl, carried (is_store (block_in fl f.context) n))
+        where
+          carried : (t : Bool) → length (value_in f.left ∷ (if t then value_in f.right ∷ [] else [])) ≡ (if t then 2 else 1)
+          carried true = refl
+          carried false = refl
       gift_word i (GAsked n e g) = subst (WordFits fl w) (sym g) refl
       gift_word i (GArgument n m v e s c g) = subst (WordFits fl w) (sym g) (v, refl)
       gift_word i (GFanned n e g) = subst (WordFits fl w) (sym g) refl

@@ -193,6 +193,7 @@ module _ (stage : ℕ) (A : AllPackages stage) (fl : Flow) (p : Plan) (w : Wires
     granted = f.granted;
     no_other = f.no_other;
     released = f.released;
+    none_released = f.none_released;
   })
 
   pub run_follows : (z : Size) (q : Past) (old : Machine) (events : Events) (new : Machine) (run : Run p.program z old events new) → Follows fl p w inputs q old → EachOnce (q.handed ++ handed p.program z old events new run)

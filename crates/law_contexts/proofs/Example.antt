@@ -17,7 +17,7 @@ use Rattle.std.specs.Prelude.{map}
 use Rattle.semantics.specs.declared.program.Op.{Op}
 use Rattle.semantics.specs.Program.{Instr}
 use Rattle.law_contexts.specs.Blocks.{op_of}
-use Rattle.law_contexts.specs.Parts.{Part, Entry, Line, Gate, Merge, Result, Join, CondEnd, End, Inlet, inlet}
+use Rattle.law_contexts.specs.Parts.{Part, Entry, Line, Gate, Merge, Framer, Sender, Landing, Strict, Result, Join, CondEnd, End, Inlet, inlet}
 use Rattle.tags.specs.declared.value.Value.{Value}
 use Rattle.semantics.specs.Meaning.{Main, tagged, AtNode, Predicate}
 use Rattle.law_contexts.specs.Wires.{told_along, plain_site, turn_site}
@@ -99,3 +99,11 @@ caller_ops = refl
 turn_ops : map (op_of (variant_in caller_flow) (turn_site body 1 3)) (variant_parts (turn_scope caller_flow 1 body) 3) ≡ ops_at 3
 unfolding with_kind with_nodes entries finished plain_build variant_build repeated called turning turn_of go_on stop join_ends closed closed_nodes released plain_code variant_code
 turn_ops = refl
+
+-- the strict call waits for its two arguments: the input, and the loop's result
+abbrev calls : Part → List Inlet
+calls r = ((wires_of caller_flow).wiring 0).wire (record { part = r; second = false })
+
+call_waits : (calls (Strict 2 1) ≡ inlet (Framer 2) Left 0 ∷ []) × (calls (Landing 1 0) ≡ inlet (Strict 2 1) Right 0 ∷ inlet (Sender 2 1) Right 0 ∷ inlet (Sender 3 1) Right 0 ∷ []) × (calls (Line 0) ≡ inlet (Sender 1 0) Right 0 ∷ inlet (Strict 2 1) Left 0 ∷ inlet (Sender 2 0) Right 0 ∷ [])
+unfolding with_kind with_nodes entries finished plain_build variant_build repeated called turning turn_of go_on stop join_ends closed closed_nodes released plain_code variant_code
+call_waits = (refl, refl, refl)

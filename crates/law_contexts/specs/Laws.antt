@@ -1,5 +1,5 @@
 -- The laws of the net of contexts: what may come where, by what has fired.
-use Rattle.std.specs.Prelude.{◌≡◌, ℕ, ℤ, Bool, true, false, ◌&&◌, ◌||◌, List, ◌++◌, Some, nat_lt, ◌==◌, if◌then◌else◌, flat_map, Contains, All, ⊤}
+use Rattle.std.specs.Prelude.{◌≡◌, ℕ, ℤ, Bool, true, false, ◌&&◌, ◌||◌, List, ◌++◌, length, Some, nat_lt, ◌==◌, if◌then◌else◌, flat_map, Contains, All, ⊤}
 use Rattle.tags.specs.declared.value.Value.{Value}
 use Rattle.tags.specs.declared.token.Port.{Port}
 use Rattle.tags.specs.declared.token.Port.TheVariants.{Left, Right}
@@ -12,7 +12,7 @@ use Rattle.lowering.proofs.Net.{IsLawful, IsNetSound}
 use Rattle.lowering.proofs.NetFollows.{NetFollows, Simulates}
 use Rattle.lowering.proofs.Arms.{HasArms, IsAllowed}
 use Rattle.law_contexts.specs.Parts.{Part, Line, Merge, CondEnd, Sender, Landing, Giver, Taker, Drainer, Asked, NextAsked, NextFramer, Held, Shown, Done, Freed, inlet, Note, Datum, FrameOf, BackTo, Item, Firing, Spot, Role, role, spot_of, same_spot, role_of}
-use Rattle.law_contexts.specs.Blocks.{there_in, waits_in, entered, is_loop, is_cell, invokes, flag}
+use Rattle.law_contexts.specs.Blocks.{there_in, waits_in, entered, is_loop, is_cell, is_store, invokes, flag}
 use Rattle.law_contexts.specs.Contexts.{Wires, block_in, site_in, wiring_in, IsContext, child, next, return_of, is_strict_in}
 use Rattle.law_contexts.specs.Wires.{Carried, Anything, AValue, ItsReturn, ChildFrame, NextFrame, Credit, Request, Reader, comes_at, predicate_at, decider}
 use Rattle.law_contexts.specs.Told.{told}
@@ -68,8 +68,16 @@ Carries fl w c t (Credit n) k = k ≡ BackTo (turn_before c n t) (inlet NextFram
 Carries fl w c t (Request r) k = k ≡ BackTo c (inlet r Left 0)
 Carries fl w c t (Reader n) k = k ≡ back_from c ((wiring_in fl w c).wire (record { part = Line n; second = false }))
 
+-- A request to a cell carries as many operands besides as its node has: a fetch's index; a store's index and value.
+abbrev pub HoldsFor : Flow → Item → ℕ → Type 0
+HoldsFor fl i n = length i.held ≡ (if is_store (block_in fl i.context) n then 2 else 1)
+
+abbrev pub WordAt : Flow → Wires → Item → Part → Type 0
+WordAt fl w i (Held n) = Carries fl w i.context i.inlet.way (comes_at (Held n) i.inlet.port) i.word × HoldsFor fl i n
+WordAt fl w i r = Carries fl w i.context i.inlet.way (comes_at r i.inlet.port) i.word
+
 abbrev pub WordFits : Flow → Wires → Item → Type 0
-WordFits fl w i = Carries fl w i.context i.inlet.way (comes_at i.inlet.part i.inlet.port) i.word
+WordFits fl w i = WordAt fl w i i.inlet.part
 
 -- ARMS ROUND AN INLET
 abbrev pub in_region : Flow → Context → Region → List Way

@@ -250,3 +250,5 @@ pub record Follows (fl : Flow) (p : Plan) (w : Wires) (inputs : List ℤ) (q : P
       × (h ≡ record { block = code_in fl w c; number = (wiring_in fl w c).slot (Opener n) })
   pub released : (c : Context) (n g : ℕ) → IsContext fl c → is_loop (block_in fl c) n ≡ true → frame_at fl net.fired c ≡ Some g
       → q.released g (ip_of fl p w c (Landing n 0)) ≡ items_at c (Giver n) (came fl net)
+  -- no turn of a frame that no context has
+  pub none_released : (g base : ℕ) → 0 < q.released g base → (c : Context) × (frame_at fl net.fired c ≡ Some g)

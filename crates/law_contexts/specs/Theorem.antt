@@ -22,7 +22,7 @@ use Rattle.code.specs.Sound.{IsSound}
 use Rattle.law_once.specs.Bounded.{HasFewDests}
 use Rattle.law_contexts.specs.Contexts.{Wires, HasBlock}
 use Rattle.law_contexts.specs.Wires.{AreWired, AreWiredBy}
-use Rattle.law_contexts.specs.Operands.{HaveOperands}
+use Rattle.law_contexts.specs.Operands.{HaveOperands, SourcesAreEarlier}
 
 -- STAGES. Conditionals are of stage 1, arrays of 2, calls of 3, loops of 4 and strict calls of 5.
 abbrev pub stage_of : Kind ℕ → ℕ
@@ -45,6 +45,7 @@ pub record IsGood (stage : ℕ) (fl : Flow) (p : Plan) (w : Wires) : Type 0 wher
   pub main : HasBlock fl Main
   pub well : IsFlowWell fl
   pub operands : HaveOperands fl
+  pub earlier : SourcesAreEarlier fl
   pub plan : IsWired p
   pub takes_inputs : TakesInputs fl p
   pub bounds : HasBounds fl p.program

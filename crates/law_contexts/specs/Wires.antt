@@ -1,6 +1,6 @@
 -- That a plan is wired as the code of a graph: where the parts of each code block stand, and where they send. This is all that
 -- the proofs of the meaning know of a plan.
-use Rattle.std.specs.Prelude.{◌≡◌, ◌≢◌, ℕ, zero, suc, ◌+◌, ◌<◌, ◌≤◌, ◌⊎◌, Bool, true, false, ◌&&◌, ◌||◌, nat_lt, ◌==◌, List, [], ◌∷◌, ◌++◌, map, flat_map, Option, Some, None, slice_get, Contains, IsPermutation, length, ⊤}
+use Rattle.std.specs.Prelude.{◌≡◌, ◌≢◌, ℕ, zero, suc, ◌+◌, ◌<◌, ◌≤◌, ◌⊎◌, Bool, true, false, ◌&&◌, ◌||◌, nat_lt, ◌==◌, List, [], ◌∷◌, ◌++◌, map, flat_map, Option, Some, None, slice_get, Contains, IsPermutation, length, if◌then◌else◌, ⊤}
 use Rattle.tags.specs.declared.value.Value.{Value}
 use Rattle.tags.specs.declared.token.Port.{Port}
 use Rattle.tags.specs.declared.token.Port.TheVariants.{Left, Right}
@@ -15,7 +15,7 @@ use Rattle.semantics.specs.Plan.{Plan, mark_at}
 use Rattle.semantics.specs.Cause.{is_looped}
 use Rattle.lowering.specs.Roles.{one, total}
 use Rattle.law_contexts.specs.Parts.{Part, Entry, Line, Answer, Trigger, Gate, Merge, Opener, Framer, Fanned, Linker, Sender, Landing, CallDone, Giver, Taker, Drainer, LoopDone, Strict, Result, TurnCont, TurnFlag, TurnValue, Asker, NextFramer, NextFanned, NextSender, LastReturn, DrainReturn, Join, CondEnd, End, Asked, NextAsked, Held, Inlet, inlet, same_inlet}
-use Rattle.law_contexts.specs.Blocks.{Side, side, Wiring, Site, there_in, waits_in, op_of, origin_of, mark_of, entered, leaves_in, is_switch, exit, is_loop, is_call, invokes, result_count, flag, lies_in, is_kind, cond_kind, merge_kind, merge_cond}
+use Rattle.law_contexts.specs.Blocks.{Side, side, Wiring, Site, there_in, waits_in, op_of, origin_of, mark_of, entered, leaves_in, is_switch, exit, is_loop, is_call, is_strict, invokes, source_count, result_count, flag, lies_in, is_kind, cond_kind, merge_kind, merge_cond}
 use Rattle.law_contexts.specs.Contexts.{Wires, code_in, IsContext}
 use Rattle.law_contexts.specs.Told.{told_at, settled_sent}
 
@@ -125,8 +125,14 @@ comes_at NextAsked q = Request NextFanned
 comes_at (Held n) q = Reader n
 comes_at r q = AValue
 
+-- A frame's word goes to what takes a frame: not to a join, nor to what asks for a frame.
+abbrev pub is_frame : Carried → Bool
+is_frame (ChildFrame n) = true
+is_frame NextFrame = true
+is_frame k = false
+
 abbrev pub Suits : Carried → Carried → Type 0
-Suits Anything k = ⊤
+Suits Anything k = is_frame k ≡ false
 Suits j k = j ≡ k
 
 -- WHICH CONDITIONAL'S WORD comes at an inlet, and where a conditional's word leaves
@@ -220,6 +226,34 @@ pub record FollowArms (fl : Flow) (s : Site) (w : Wiring) : Type 0 where
   -- a trigger's two words, and those of the flag's switch, come from one side
   pub both : (t : Side) (k : ℕ) → (there_in fl s w t.part ≡ true) → (Contains (w.wire t) (inlet (Trigger k) Left 0) → t ≡ decider s.block w k) × (Contains (w.wire t) (inlet TurnFlag Left 0) → t ≡ decider s.block w (flag s.block))
 
+-- A STRICT CALL of so many arguments asks for its frame when all have come: the first one and each of the joins lead to the
+-- next join, the last to the framer, and the other arguments come to the joins.
+abbrev pub wait_after : ℕ → ℕ → ℕ → Inlet
+wait_after n count i = if i + 1 == count then inlet (Framer n) Left 0 else inlet (Strict n (i + 1)) Left 0
+
+abbrev pub wait_for : ℕ → ℕ → ℕ → Inlet
+wait_for n count zero = wait_after n count 0
+wait_for n count (suc i) = inlet (Strict n (suc i)) Right 0
+
+pub record WaitsForAll (fl : Flow) (s : Site) (w : Wiring) (n : ℕ) : Type 0 where
+  -- what leads to an argument's sender leads there
+  pub arguments : (i : ℕ) → i < source_count s.block n → (t : Side) × (there_in fl s w t.part ≡ true) × Contains (w.wire t) (inlet (Sender n i) Right 0) × Contains (w.wire t) (wait_for n (source_count s.block n) i)
+  pub joins : (i : ℕ) → 0 < i → i < source_count s.block n → Contains (w.wire (side (Strict n i) false)) (wait_after n (source_count s.block n) i)
+
+-- WHAT STARTS a call or a loop. The first part of a code block, and a conditional's trigger, wait for nothing but the entry and the conditional.
+abbrev pub is_start : Part → Bool
+is_start Entry = true
+is_start (Trigger k) = true
+is_start r = false
+
+-- A call asks for its frame, and a loop is opened, as soon as the block or the arm is entered, and a turn asks for a credit as soon as its flag
+-- is there; and all arguments are sent before a result comes.
+pub record StartsRightly (fl : Flow) (s : Site) (w : Wiring) : Type 0 where
+  pub calls : (n : ℕ) (t : Side) → is_call s.block n ≡ true → is_strict s.block n ≡ false → (there_in fl s w t.part ≡ true) → Contains (w.wire t) (inlet (Framer n) Left 0) → is_start t.part ≡ true
+  pub loops : (n : ℕ) (t : Side) → is_loop s.block n ≡ true → (there_in fl s w t.part ≡ true) → Contains (w.wire t) (inlet (Opener n) Left 0) → is_start t.part ≡ true
+  pub asks : (t : Side) → (there_in fl s w t.part ≡ true) → Contains (w.wire t) (inlet Asker Right 0) → t.part ≡ TurnFlag
+  pub sends : (n i : ℕ) → invokes s.block n ≡ true → i < source_count s.block n → w.place (Sender n i) < w.place (Landing n 0)
+
 -- and the words
 pub record LeadOn (fl : Flow) (s : Site) (w : Wiring) : Type 0 where
   pub leads : (t : Side) → (there_in fl s w t.part ≡ true) → (is_side t ≡ true) → (has_no_wire t.part ≡ false) → (x : Inlet) × Contains (w.wire t) x
@@ -227,6 +261,9 @@ pub record LeadOn (fl : Flow) (s : Site) (w : Wiring) : Type 0 where
   pub last : (r : Part) → (there_in fl s w r ≡ true) → w.place r ≤ w.place End
   -- a loop is opened before it asks for a frame
   pub opens : (n : ℕ) → is_loop s.block n ≡ true → Contains (w.wire (side (Opener n) false)) (inlet (Framer n) Left 0)
+  -- and a strict call waits for its arguments
+  pub waits : (n : ℕ) → is_strict s.block n ≡ true → WaitsForAll fl s w n
+  pub starts : StartsRightly fl s w
   pub suits : (t : Side) (x : Inlet) → (there_in fl s w t.part ≡ true) → Contains (w.wire t) x → Suits (comes_at x.part x.port) (goes_from t.part)
 
 pub record AreLawful (fl : Flow) (s : Site) (w : Wiring) : Type 0 where

@@ -2,14 +2,6 @@ pub mod Keeping
 pub mod Bounds
 pub mod Wholes
 pub mod Inputs
-pub mod StraightLaid
-pub mod StraightBody
-pub mod StraightEnds
-pub mod StraightChain
-pub mod StraightUses
-pub mod StraightJoins
-pub mod StraightBlock
-pub mod StraightWhole
 pub mod FactsSteps
 pub mod FactsHeads
 pub mod FactsHolders

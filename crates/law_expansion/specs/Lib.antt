@@ -2,5 +2,4 @@ pub mod Keeping
 pub mod Laws
 pub mod Facts
 pub mod Arcs
-pub mod Straight
 pub mod Shapes

@@ -5,8 +5,7 @@ use Rattle.tags.specs.declared.token.Port.TheVariants.{Left, Right}
 use Rattle.tags.specs.declared.token.Word.{Word}
 use Rattle.tags.specs.declared.token.To.{To}
 use Rattle.tags.specs.declared.token.Token.{Token}
-use Rattle.semantics.specs.declared.program.Op.TheVariants.{Release}
-use Rattle.semantics.specs.Program.{Instr, Program, instr_at}
+use Rattle.semantics.specs.Program.{Program, instr_at}
 use Rattle.semantics.specs.Rule.{token}
 use Rattle.semantics.specs.Machine.{Machine, Size, Events}
 use Rattle.semantics.specs.Handed.{EachOnce}

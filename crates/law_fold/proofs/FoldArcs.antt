@@ -1,5 +1,5 @@
 -- The arcs that events of the old run use, and where the tokens that they make are in the new run.
-use Rattle.std.proofs.Common.{◌≡◌, refl, sym, ap, ◌∙◌, subst, ℕ, ℤ, zero, suc, ◌+◌, ◌⊎◌, inl, inr, Bool, true, false, List, [], ◌∷◌, ◌++◌, map, length, Option, Some, None, Contains, arith}
+use Rattle.std.proofs.Common.{◌≡◌, refl, sym, ap, ◌∙◌, subst, ℕ, ℤ, zero, suc, ◌+◌, ◌⊎◌, inl, inr, Bool, true, false, List, [], ◌∷◌, ◌++◌, Option, Some, None, Contains, arith}
 use Rattle.std.specs.Prelude.{flat_map, slice_get}
 use Rattle.std.proofs.lemmas.Option.{slice_get_within}
 use Rattle.std.proofs.lemmas.List.Elements.{Contains-append_left, Contains-append_right, Contains-append_cases}
@@ -20,8 +20,8 @@ use Rattle.semantics.specs.Sharing.{Arc, arc, inlet, arcs_to, row, arcs_from, ar
 use Rattle.semantics.specs.Arcs.{UsesBy, UsesArc}
 use Rattle.reuse.proofs.Stands.{some_same, instr_in}
 use Rattle.reuse.proofs.Members.{contains_head, contains_tail, contains_cases, contains_none, contains_mapped}
-use Rattle.law_once.specs.Spreads.{ip_word, ip_to, ip_token}
-use Rattle.law_fold.specs.Folds.{fires_lit, Plain, Fits, Fresh, Node, top, next, Pend, Sends, Stands, moved, lit, right, left, StandAll, stand_none, stand_more}
+use Rattle.law_once.specs.Spreads.{ip_to, ip_token}
+use Rattle.law_fold.specs.Folds.{fires_lit, Plain, Fresh, top, Pend, Sends, Stands, moved, lit, right, left, StandAll, stand_none, stand_more}
 use Rattle.law_fold.proofs.FoldRules.{node_grows, pend_with, lit_nodes}
 
 -- ---- WHERE AN ARC STARTS

@@ -3,7 +3,7 @@ use Rattle.std.proofs.Common.{◌≡◌, refl, sym, ap, ◌∙◌, subst, ℕ, �
 use Rattle.std.proofs.lemmas.List.Elements.{Contains-append_cases}
 use Rattle.std.proofs.lemmas.List.Sorted.{Contains-permutation, IsPermutation-sym}
 use Rattle.tags.specs.declared.token.Port.{Port}
-use Rattle.tags.specs.declared.token.Port.TheVariants.{Left, Right}
+use Rattle.tags.specs.declared.token.Port.TheVariants.{Left}
 use Rattle.tags.specs.declared.token.Cont.{Cont}
 use Rattle.tags.specs.declared.token.Word.{Word}
 use Rattle.tags.specs.declared.token.To.{To}
@@ -13,7 +13,7 @@ use Rattle.tags.specs.declared.slot.SlotState.TheVariants as Slot
 use Rattle.tags.specs.declared.slot.SlotState.TheVariants.{Empty, Credits, Waiter, Draining}
 use Rattle.semantics.specs.declared.program.Dest.{Dest}
 use Rattle.semantics.specs.declared.program.Op.{Op}
-use Rattle.semantics.specs.declared.program.Op.TheVariants.{Release, Open, Take}
+use Rattle.semantics.specs.declared.program.Op.TheVariants.{Open, Take}
 use Rattle.semantics.specs.Program.{Instr, Program, instr_at}
 use Rattle.semantics.specs.Rule.{token}
 use Rattle.semantics.specs.Machine.{Store as MStore, at_start}
@@ -27,13 +27,11 @@ use Rattle.law_once.specs.Alike.{HasLanding, LandsRightly}
 use Rattle.law_once.specs.Spreads.{ip_to, ip_slot, ip_store}
 use Rattle.reuse.proofs.Tallies.{Grants, Releases}
 use Rattle.semantics.specs.Holders.{holder_at}
-use Rattle.semantics.specs.Orderly.{is_at}
 use Rattle.law_once.specs.Spreads.{is_answered}
 use Rattle.law_once.proofs.SpreadSteps.{steps_of}
 use Rattle.law_fold.specs.Folds.{Plain, Stands, moved, lit, right, left, IsMoved, Folds}
 use Rattle.law_fold.proofs.FoldParts.{counts_none, Clump, seen_of, meant_of}
 use Rattle.tags.specs.declared.slot.SlotState.TheVariants.{Waiter}
-use Rattle.semantics.specs.Orderly.{is_at}
 use Rattle.law_once.proofs.SpreadCounts.{ones_some}
 use Rattle.law_fold.proofs.FoldCounts.{at_moved}
 use Rattle.law_fold.proofs.FoldSim.{Sim, Explained}
@@ -41,7 +39,7 @@ use Rattle.law_fold.proofs.FoldRuns.{simulated}
 use Rattle.law_fold.proofs.FoldSeen.{met_known}
 use Rattle.semantics.specs.Plan.{landing}
 use Rattle.std.specs.Prelude.{◌-◌}
-use Rattle.semantics.specs.declared.program.Op.TheVariants.{Link, Release}
+use Rattle.semantics.specs.declared.program.Op.TheVariants.{Link}
 use Rattle.semantics.specs.Holders.{Holder, holder_at}
 use Rattle.semantics.specs.Credits.{IsPart, IsLink, IsLoop, granted, released}
 use Rattle.reuse.specs.Bounds.{OnlyAsks, PlanKeepsBound, PlanKeepsBounds}

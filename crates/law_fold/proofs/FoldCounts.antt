@@ -1,5 +1,5 @@
 -- A port of the new code gets no more tokens than a port of the old code for which it stands.
-use Rattle.std.proofs.Common.{◌≡◌, refl, sym, ap, ◌∙◌, subst, ℕ, zero, suc, ◌+◌, ◌<◌, ◌≤◌, ◌⊎◌, inl, inr, Bool, true, false, true≢false, ℤ, List, [], ◌∷◌, ◌++◌, map, Option, Some, None, IsPermutation, Contains, nat_lt, lt-ltb, le-ltb, ltb-true, ltb-false, arith}
+use Rattle.std.proofs.Common.{◌≡◌, refl, sym, ap, ◌∙◌, subst, ℕ, ◌+◌, ◌<◌, ◌≤◌, ◌⊎◌, inl, inr, Bool, true, false, true≢false, ℤ, List, [], ◌∷◌, ◌++◌, Some, IsPermutation, Contains, nat_lt, lt-ltb, le-ltb, ltb-true, ltb-false, arith}
 use Rattle.std.proofs.lemmas.List.Elements.{Contains-append_left, Contains-append_right}
 use Rattle.std.proofs.lemmas.Bool.{cases_Bool}
 use Rattle.tags.specs.declared.value.Value.TheVariants.{Int}
@@ -15,9 +15,9 @@ use Rattle.semantics.specs.declared.program.Op.TheVariants.{Apply2, Apply2Right,
 use Rattle.semantics.specs.Program.{Instr, Program, instr_at}
 use Rattle.semantics.specs.Rule.{token, at_dest}
 use Rattle.semantics.specs.Orderly.{is_at}
-use Rattle.reuse.proofs.Members.{contains_head, contains_tail, contains_cases, contains_none, contains_map}
+use Rattle.reuse.proofs.Members.{contains_head, contains_tail, contains_cases, contains_none, contains_map, contains_mapped}
 use Rattle.reuse.proofs.Stands.{some_same}
-use Rattle.law_once.specs.Spreads.{ip_word, ip_to, ip_token, Spot}
+use Rattle.law_once.specs.Spreads.{ip_to, Spot}
 use Rattle.law_once.proofs.Weights.{tot, tot_append, tot_perm}
 use Rattle.law_once.proofs.Rows.{unless, unit}
 use Rattle.law_once.proofs.SpreadCounts.{ones, ones_there, at_true, is_past}
@@ -28,6 +28,9 @@ abbrev pub is_pair : Op → Bool
 is_pair (Apply2Right o z) = true
 is_pair (Apply2Left o z) = true
 is_pair op = false
+
+pub pair_no_lit : (j : Instr) (z : ℤ) → is_pair j.op ≡ true → j.op ≡ Lit z → ⊥
+pair_no_lit j z pair e = true≢false (sym pair ∙ ap is_pair e)
 
 module _ (P Q : Program) (g h : ℕ → ℕ) (apart : (a b : ℕ) → Plain P Q h a → Plain P Q h b → h a ≡ h b → a ≡ b)
     (pairs_apart : (a b : ℕ) (i k j : Instr) (o u : Binary) → instr_at P a ≡ Some i → instr_at P b ≡ Some k → i.op ≡ Apply2 o → k.op ≡ Apply2 u → instr_at Q (g a) ≡ Some j → g a ≡ g b → a ≡ b) where
@@ -245,6 +248,16 @@ module _ (P Q : Program) (g h : ℕ → ℕ) (apart : (a b : ℕ) → Plain P Q 
   -- the tokens of a literal's instruction are at instructions
   abbrev pub AreInstrs : List C → Type 0
   AreInstrs cs = (c : C) → Contains cs c → (k : ℕ) × (y : ℕ) × (r : Port) × (c.seen.to ≡ To.Instr k y r)
+
+  module _ (f n : ℕ) (z : ℤ) (j : Instr) where
+    lit_from : (cs : List C) → seen_of P Q g h cs ≡ fires_lit f n z j → (c : C) → Contains cs c → (d : Dest) × Contains (j.firsts ++ j.seconds) d × (at_dest record { frame = f; ip = n } (Word.Val (Int z)) d ≡ c.seen)
+    lit_from cs e c k = contains_mapped (at_dest record { frame = f; ip = n } (Word.Val (Int z))) (j.firsts ++ j.seconds) c.seen (subst (λ (l : List Token). Contains l c.seen) e (contains_map (λ (c : C). c.seen) cs c k))
+
+    pub lit_behind : ((d : Dest) → Contains (j.firsts ++ j.seconds) d → 0 < d.ahead) → (cs : List C) → seen_of P Q g h cs ≡ fires_lit f n z j → Behind n cs
+    lit_behind later cs e c inside k y r to = let d = lit_from cs e c inside in let l = later d.0 d.1 in let i = (instr_same f (n + (d.0).ahead) k y (d.0).port r (ap (λ (t : Token). t.to) d.2 ∙ to)).1 in omega (arith, l, i)
+
+    pub lit_instrs : (cs : List C) → seen_of P Q g h cs ≡ fires_lit f n z j → AreInstrs cs
+    lit_instrs cs e c inside = let d = lit_from cs e c inside in (f, n + (d.0).ahead, (d.0).port, sym (ap (λ (t : Token). t.to) d.2))
 
   all_under : (f ip n : ℕ) (x : Spot) (cs : List C) → ip ≤ n → Behind n cs → AreInstrs cs → tot (under f ip x) cs ≡ tot (λ (c : C). ones f x.0 x.1 c.meant) cs
   all_under f ip n x [] low far are = refl

@@ -1,5 +1,5 @@
 -- Where the tokens come from that a new instruction makes: from a destination, or they are at what stands for itself.
-use Rattle.std.proofs.Common.{◌≡◌, refl, sym, ap, ◌∙◌, subst, ℕ, zero, suc, ◌+◌, ◌-◌, ◌⊎◌, inl, inr, Bool, true, false, List, [], ◌∷◌, ◌++◌, map, Option, Some, None, Contains}
+use Rattle.std.proofs.Common.{◌≡◌, refl, sym, ap, ◌∙◌, subst, ℕ, zero, suc, ◌+◌, ◌-◌, ◌⊎◌, inl, inr, Bool, true, false, List, [], ◌∷◌, ◌++◌, Option, Some, None, Contains}
 use Rattle.std.specs.Prelude.{take, if◌then◌else◌, nat_lt, ◌==◌, ⊤}
 use Rattle.std.proofs.lemmas.List.Elements.{Contains-append_left, Contains-append_right}
 use Rattle.tags.specs.declared.value.Value.{Value}
@@ -16,11 +16,11 @@ use Rattle.operators.specs.Values.{truth, Indexed, Place, Outside, index_in}
 use Rattle.semantics.specs.declared.program.Dest.{Dest}
 use Rattle.semantics.specs.declared.program.Op.{Op}
 use Rattle.semantics.specs.declared.program.Op.TheVariants.{Apply1, Apply2, Apply2Right, Apply2Left, Lit, Copy, Sync, Switch, Fetch, Store, Frame, Link, Send, Return, Ask, Open, Take, Give, Drain, Release}
-use Rattle.semantics.specs.Program.{Instr, Program, first_of, instr_at}
-use Rattle.semantics.specs.Rule.{token, signal, Seat, at_dest, to_each, to_all, beyond, back_to, answer_to, landing_at, Outcome, Becomes, Excluded, fires, array_base, array_len, asks_for, puts, fire_one, fire_two, meets, signal_to, opens, takes, gives, drains, alone, on_left, outcome_of}
+use Rattle.semantics.specs.Program.{Instr, Program, first_of}
+use Rattle.semantics.specs.Rule.{token, signal, Seat, at_dest, to_each, to_all, beyond, back_to, answer_to, landing_at, Outcome, Becomes, Excluded, fires, array_base, array_len, asks_for, puts, fire_one, fire_two, meets, opens, takes, gives, drains, alone, on_left, outcome_of}
 use Rattle.reuse.proofs.Members.{contains_head, contains_cases, contains_none, contains_mapped}
 use Rattle.law_once.specs.Alike.{plain_dests}
-use Rattle.law_once.specs.Spreads.{ip_cont, ip_word, ip_to, ip_token, ip_slot, is_answered}
+use Rattle.law_once.specs.Spreads.{ip_cont, ip_word, ip_slot}
 use Rattle.law_fold.specs.Folds.{Plain, Fits, Fresh, Enters, IsMoved}
 use Rattle.law_fold.proofs.FoldRules.{Goes, Arrives, FitsWord, FitsSlot}
 
@@ -84,7 +84,7 @@ module _ (p q : Program) (g h : ℕ → ℕ) where
     one_from : (v : SlotState) (u : Token) → Stale u → From v (u ∷ [])
     one_from v u stale = cons_from v u [] stale (none_from v)
 
-    abbrev OutFrom : Outcome → Type 0
+    abbrev pub OutFrom : Outcome → Type 0
     OutFrom (Excluded n) = ⊤
     OutFrom (Becomes v ts) = From v ts
 

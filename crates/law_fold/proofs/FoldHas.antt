@@ -1,6 +1,5 @@
--- Steps of the new run that use arcs, and what is on its way after an event.
-use Rattle.std.proofs.Common.{◌≡◌, sym, ap, ◌∙◌, subst, ℕ, ◌+◌, ◌⊎◌, inl, inr, true, false, true≢false, ℤ, List, [], ◌∷◌, ◌++◌, Some, IsPermutation, Contains}
-use Rattle.std.specs.Prelude.{if◌then◌else◌}
+-- What is on its way after an event, and the arcs that the event of an operator with a literal operand uses.
+use Rattle.std.proofs.Common.{◌≡◌, sym, ap, ◌∙◌, subst, ℕ, ◌+◌, ◌⊎◌, inl, inr, true, true≢false, ℤ, List, ◌∷◌, ◌++◌, Some, IsPermutation, Contains}
 use Rattle.std.proofs.lemmas.List.Elements.{Contains-append_left, Contains-append_right}
 use Rattle.std.proofs.lemmas.List.Sorted.{Contains-permutation}
 use Rattle.tags.specs.declared.value.Value.TheVariants.{Int}
@@ -9,61 +8,33 @@ use Rattle.tags.specs.declared.token.Port.TheVariants.{Left}
 use Rattle.tags.specs.declared.token.Word.{Word}
 use Rattle.tags.specs.declared.token.To.{To}
 use Rattle.tags.specs.declared.token.Token.{Token}
+use Rattle.operators.specs.declared.Binary.{Binary}
 use Rattle.semantics.specs.declared.program.Dest.{Dest}
 use Rattle.semantics.specs.declared.program.Op.{Op}
-use Rattle.semantics.specs.declared.program.Op.TheVariants.{Apply2, Lit}
+use Rattle.semantics.specs.declared.program.Op.TheVariants.{Apply2, Lit, Link, Give}
 use Rattle.semantics.specs.Program.{Instr, Program, first_of, instr_at}
-use Rattle.semantics.specs.Rule.{token, at_dest, to_all, fires}
-use Rattle.semantics.specs.Machine.{Machine, Size, Events, Run}
-use Rattle.operators.specs.declared.Binary.{Binary}
+use Rattle.semantics.specs.Rule.{token, at_dest, to_all}
+use Rattle.semantics.specs.Machine.{Machine}
 use Rattle.semantics.specs.Plan.{Plan}
-use Rattle.reuse.proofs.Members.{contains_cases, contains_mapped}
+use Rattle.semantics.specs.Arcs.{UsesBy, UsesArc}
+use Rattle.reuse.proofs.Members.{contains_cases, contains_map, contains_mapped}
 use Rattle.reuse.proofs.Stands.{some_same}
-use Rattle.reuse.proofs.History.{taken}
-use Rattle.law_once.proofs.SpreadSteps.{Step, step, steps_of}
-use Rattle.reuse.proofs.Members.{contains_map}
-use Rattle.semantics.specs.Rule.{at_dest}
-use Rattle.law_fold.specs.Folds.{fires_lit, Plain, Fresh, Clumped, Folds}
-use Rattle.law_fold.proofs.FoldParts.{counts_none}
-use Rattle.std.specs.Prelude.{◌-◌}
-use Rattle.semantics.specs.declared.program.Op.TheVariants.{Link}
-use Rattle.semantics.specs.declared.program.Op.TheVariants.{Link, Lit, Give}
-use Rattle.semantics.specs.Arcs.{UsesBy, UsesArc, SomeEvent}
 use Rattle.law_once.specs.Alike.{plain_dests}
 use Rattle.law_once.proofs.SpreadNewArcs.{uses_goes, uses_new}
-use Rattle.law_fold.specs.Folds.{Sends, Pend, Node, top, next}
+use Rattle.law_fold.specs.Folds.{fires_lit, Plain, Fresh, Clumped, Sends, Pend, Node, top, next, Folds}
+use Rattle.law_fold.proofs.FoldParts.{counts_none}
 use Rattle.law_fold.proofs.Readies.{settles_keeps}
 use Rattle.law_fold.proofs.FoldArcs.{UseAt, use_at, Seen, token_in}
 use Rattle.law_fold.proofs.FoldUses.{ArcFacts, NewArc}
 
--- a step of that kind
-abbrev pub HasStep : (Token → List Token → Machine → Type 0) → List Step → Type 0
-HasStep K [] = ⊥
-HasStep K (s ∷ ss) = K s.taken s.made s.after ⊎ HasStep K ss
-
-pub has_left : (K : Token → List Token → Machine → Type 0) (xs ys : List Step) → HasStep K xs → HasStep K (xs ++ ys)
-has_left K [] ys k = absurd k
-has_left K (x ∷ xs) ys (inl k) = inl k
-has_left K (x ∷ xs) ys (inr k) = inr (has_left K xs ys k)
-
-pub has_last : (K : Token → List Token → Machine → Type 0) (xs : List Step) (s : Step) → K s.taken s.made s.after → HasStep K (xs ++ s ∷ [])
-has_last K [] s k = inl k
-has_last K (x ∷ xs) s k = inr (has_last K xs s k)
-
--- an event of a run
-pub step_event : (K : Token → List Token → Machine → Type 0) (p : Program) (z : Size) (old : Machine) (events : Events) (new : Machine) (r : Run p z old events new) → HasStep K (steps_of p z old events new r) → SomeEvent K p z old events new r
-step_event K p z old [] new r k = k
-step_event K p z old (x ∷ events) new r (inl k) = inl k
-step_event K p z old (x ∷ events) new r (inr k) = inr (step_event K p z r.0 events new r.2 k)
-
 module _ (p q : Program) (h : ℕ → ℕ) where
   -- what is no literal's token is none of those
-  pub node_rest : (f : ℕ) (t : Token) (pool rest : List Token) → IsPermutation pool (t ∷ rest) → ((k ip : ℕ) → t.to ≡ To.Instr k ip Left → Fresh p q h ip → ⊥) → (ip : ℕ) → Node p q h f pool ip → Node p q h f rest ip
+  pub node_rest : (f : ℕ) (t : Token) (pool rest : List Token) → IsPermutation pool (t ∷ rest) → ((k ip : ℕ) (j : Instr) (z : ℤ) → t.to ≡ To.Instr k ip Left → instr_at q ip ≡ Some j → j.op ≡ Lit z → Fresh p q h ip → ⊥) → (ip : ℕ) → Node p q h f pool ip → Node p q h f rest ip
   node_rest f t pool rest takes alive ip (next x up k j y z d n there opk c place port at op fresh) = next ip up k j y z d (node_rest f t pool rest takes alive up n) there opk c place port at op fresh
   node_rest f t pool rest takes alive ip (top x u j z c to at op fresh) = go (contains_cases t rest u (Contains-permutation _ _ u takes c))
     where
       go : (t ≡ u) ⊎ Contains rest u → Node p q h f rest ip
-      go (inl e) = absurd (alive f ip (ap (λ (t : Token). t.to) e ∙ to) fresh)
+      go (inl e) = absurd (alive f ip j z (ap (λ (t : Token). t.to) e ∙ to) at op fresh)
       go (inr c) = top ip u j z c to at op fresh
 
   -- a literal that fires hands on to those to which it leads

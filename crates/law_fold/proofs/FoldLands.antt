@@ -25,8 +25,6 @@ use Rattle.law_fold.proofs.FoldParts.{counts_none}
 use Rattle.law_fold.proofs.FoldSim.{Explained}
 use Rattle.law_fold.proofs.FoldRuns.{simulated}
 use Rattle.law_fold.proofs.FoldSeen.{met_known}
-use Rattle.semantics.specs.Plan.{landing}
-use Rattle.std.specs.Prelude.{◌-◌}
 use Rattle.semantics.specs.declared.program.Op.TheVariants.{Return, Ask, Release}
 use Rattle.law_once.specs.Alike.{offset_of, HasLanding}
 

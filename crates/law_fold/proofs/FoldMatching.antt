@@ -1,5 +1,5 @@
 -- No token of the new code's run is excluded by a rule.
-use Rattle.std.proofs.Common.{◌≡◌, refl, sym, ap, ◌∙◌, subst, ℕ, ◌+◌, ◌⊎◌, inl, inr, ℤ, List, [], ◌∷◌, ◌++◌, Option, Some, None, IsPermutation, Contains}
+use Rattle.std.proofs.Common.{◌≡◌, refl, sym, ap, ◌∙◌, subst, ℕ, ◌⊎◌, inl, inr, ℤ, List, [], ◌∷◌, ◌++◌, Option, Some, None, IsPermutation, Contains}
 use Rattle.std.specs.Prelude.{if◌then◌else◌, ◌==◌}
 use Rattle.std.proofs.lemmas.List.Sorted.{Contains-permutation, IsPermutation-sym}
 use Rattle.tags.specs.declared.value.Value.{Value}
@@ -12,7 +12,7 @@ use Rattle.tags.specs.declared.token.Token.{Token}
 use Rattle.tags.specs.declared.slot.SlotState.{SlotState}
 use Rattle.tags.specs.declared.slot.SlotState.TheVariants.{Empty}
 use Rattle.semantics.specs.declared.program.Op.{Op}
-use Rattle.semantics.specs.declared.program.Op.TheVariants.{Apply2, Apply2Right, Apply2Left, Lit, Release}
+use Rattle.semantics.specs.declared.program.Op.TheVariants.{Apply2, Apply2Right, Apply2Left, Lit}
 use Rattle.semantics.specs.Program.{Instr, Program, instr_at}
 use Rattle.semantics.specs.Rule.{token, Outcome, Becomes, Excluded, fires, fire_one, outcome_of, rule_at, slot_of}
 use Rattle.semantics.specs.Machine.{Machine, Store as MStore, Size, Events, slot_in, slot_used, excluded_by, stuck_rule}

@@ -1,5 +1,5 @@
 -- A release finds in the new code what it has to.
-use Rattle.std.proofs.Common.{◌≡◌, sym, ap, ◌∙◌, subst, ℕ, ◌+◌, ℤ, List, [], ◌∷◌, ◌++◌, IsPermutation, Contains}
+use Rattle.std.proofs.Common.{◌≡◌, sym, ap, ◌∙◌, subst, ℕ, ℤ, List, [], ◌∷◌, ◌++◌, IsPermutation, Contains}
 use Rattle.std.proofs.lemmas.List.Sorted.{IsPermutation-sym, IsPermutation-trans}
 use Rattle.tags.specs.declared.value.Value.TheVariants.{Int}
 use Rattle.tags.specs.declared.token.Port.{Port}
@@ -11,8 +11,7 @@ use Rattle.tags.specs.declared.token.Token.{Token}
 use Rattle.tags.specs.declared.slot.SlotState.{SlotState}
 use Rattle.tags.specs.declared.slot.SlotState.TheVariants as Slot
 use Rattle.tags.specs.declared.slot.SlotState.TheVariants.{Empty, Credits, Waiter, Draining}
-use Rattle.semantics.specs.declared.program.Op.TheVariants.{Release}
-use Rattle.semantics.specs.Program.{Instr, Program}
+use Rattle.semantics.specs.Program.{Program}
 use Rattle.semantics.specs.Rule.{token}
 use Rattle.semantics.specs.Machine.{CellState, Vacant, Full, Deferred, Machine, Store as MStore, Size, Events}
 use Rattle.semantics.specs.Handed.{EachOnce}

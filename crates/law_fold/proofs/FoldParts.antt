@@ -1,5 +1,5 @@
 -- What tokens of the new run stand for, and what is known of a run.
-use Rattle.std.proofs.Common.{◌≡◌, refl, sym, ap, ◌∙◌, subst, ℕ, ◌+◌, ◌≤◌, ◌⊎◌, inl, inr, Bool, true, false, true≢false, List, [], ◌∷◌, ◌++◌, map, Option, Some, Contains}
+use Rattle.std.proofs.Common.{◌≡◌, refl, sym, ap, ◌∙◌, subst, ℕ, ◌≤◌, ◌⊎◌, inl, inr, Bool, true, false, true≢false, List, [], ◌∷◌, ◌++◌, map, Option, Some, Contains}
 use Rattle.std.specs.Prelude.{flat_map, cond, if◌then◌else◌, ◌==◌, ⊤}
 use Rattle.std.proofs.lemmas.List.Concat.{flat_map-append}
 use Rattle.std.proofs.lemmas.List.Elements.{Contains-append_left, Contains-append_right}
@@ -10,12 +10,10 @@ use Rattle.tags.specs.declared.slot.SlotState.{SlotState}
 use Rattle.semantics.specs.declared.program.Op.{Op}
 use Rattle.semantics.specs.declared.program.Op.TheVariants.{Apply2, Apply2Right, Apply2Left, Lit, Open, Take}
 use Rattle.semantics.specs.Program.{Instr, Program, instr_at}
-use Rattle.semantics.specs.Rule.{token, slot_of}
+use Rattle.semantics.specs.Rule.{slot_of}
 use Rattle.semantics.specs.Machine.{Store as MStore, slot_in, slot_used}
 use Rattle.semantics.specs.Cause.{seeks_credit}
-use Rattle.semantics.specs.Handed.{handed}
 use Rattle.semantics.specs.Plan.{Plan}
-use Rattle.semantics.specs.Orderly.{met}
 use Rattle.reuse.proofs.Members.{contains_cases, contains_none}
 use Rattle.law_fold.specs.Folds.{Stands, StandAll, stand_none, stand_more}
 use Rattle.law_fold.proofs.FoldRules.{map_join}

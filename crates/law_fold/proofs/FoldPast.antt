@@ -125,33 +125,33 @@ module _ (p q : Plan) (g h : ℕ → ℕ) (answers : (a : ℕ) (i : Instr) → i
       go (inr c) = pick (contains_cases u rest x (Contains-permutation _ _ x takes c))
 
   abbrev pub after_event : Sums → MStore → MStore → Token → List Token → List Token → Sums
-  after_event T s s1 u made rest = record {
+  after_event T s after u made rest = record {
     gone = T.gone ++ handed_by u.to made;
     asked = T.asked + unit_of (is_request u.to);
     credited = T.credited + unit_of (is_credit_event P u.to);
     olds = T.olds;
     spent = T.spent ++ u ∷ [];
     counts = λ x f. T.counts x f + count_at p P x f s u.to made;
-    arcs = λ f a r. T.arcs f a r ⊎ UsesArc p f a r u made record { store = s1; pool = made ++ rest };
+    arcs = λ f a r. T.arcs f a r ⊎ UsesArc p f a r u made record { store = after; pool = made ++ rest };
   }
 
   -- one more event
-  pub step_on : (s s1 : MStore) (ts made rest : List Token) (T : Sums) → Reached s ts T → Once T → (u : Token) → IsPermutation ts (u ∷ rest) → Happens P total s u.to u.word made s1 → Reached s1 (made ++ rest) (after_event T s s1 u made rest)
-  step_on s s1 ts made rest T R once u takes happens =
+  pub step_on : (s after : MStore) (ts made rest : List Token) (T : Sums) → Reached s ts T → Once T → (u : Token) → IsPermutation ts (u ∷ rest) → Happens P total s u.to u.word made after → Reached after (made ++ rest) (after_event T s after u made rest)
+  step_on s after ts made rest T R once u takes happens =
       let e : ℕ = element_of z.elements u.to in
-      let last1 : Machine = record { store = s1; pool = made ++ rest } in
+      let now : Machine = record { store = after; pool = made ++ rest } in
       let there : IsPermutation R.last.pool (u ∷ rest) = IsPermutation-trans _ _ _ R.pool takes in
-      let here : Happens P total R.last.store u.to u.word made s1 = subst (λ (s : MStore). Happens P total s u.to u.word made s1) (sym R.same) happens in
-      let evp : Event P z e u R.last last1 = record { made = made; rest = rest; addressed = refl; takes = there; happens = here; leaves = IsPermutation-refl (made ++ rest) } in
+      let here : Happens P total R.last.store u.to u.word made after = subst (λ (s : MStore). Happens P total s u.to u.word made after) (sym R.same) happens in
+      let evp : Event P z e u R.last now = record { made = made; rest = rest; addressed = refl; takes = there; happens = here; leaves = IsPermutation-refl (made ++ rest) } in
       let a = requests_more R.done e u in
       let b = credits_more P R.done e u in
-      let fit = happens_fits P Q g h answers total R.last.store R.words.1 u.to u.word made s1 (R.words.0 u (Contains-permutation _ _ u (IsPermutation-sym _ _ there) (contains_head u rest))) here in
+      let fit = happens_fits P Q g h answers total R.last.store R.words.1 u.to u.word made after (R.words.0 u (Contains-permutation _ _ u (IsPermutation-sym _ _ there) (contains_head u rest))) here in
       record {
         done = R.done ++ (e, u) ∷ [];
-        last = last1;
-        run = run_snoc P z first R.last last1 R.done e u R.run evp;
-        hands = handed_snoc P z first R.last last1 R.done e u R.run evp ∙ ap (λ (l : List ℕ). l ++ handed_by u.to made) R.hands;
-        kept = kept_next p wired z first R.done R.last last1 R.run e u evp (order_of s ts T R once) R.kept;
+        last = now;
+        run = run_snoc P z first R.last now R.done e u R.run evp;
+        hands = handed_snoc P z first R.last now R.done e u R.run evp ∙ ap (λ (l : List ℕ). l ++ handed_by u.to made) R.hands;
+        kept = kept_next p wired z first R.done R.last now R.run e u evp (order_of s ts T R once) R.kept;
         same = refl;
         pool = IsPermutation-refl (made ++ rest);
         requests = a ∙ ap (λ (n : ℕ). n + unit_of (is_request u.to)) R.requests;
@@ -161,13 +161,13 @@ module _ (p q : Plan) (g h : ℕ → ℕ) (answers : (a : ℕ) (i : Instr) → i
             (let l = R.took f a r in let m = tot_append (λ (t : Token). unit (is_at f a r t.to)) T.spent (u ∷ []) in
             let n = tot_append (λ (t : Token). unit (is_at f a r t.to)) (taken R.done) (u ∷ []) in let k = ap (ones f a r) (map_join (λ (ev : ℕ × Token). ev.1) R.done ((e, u) ∷ [])) in omega (arith, l, m, n, k));
         counts = λ x f fair.
-            (let l = tally_snoc (count_at p P x f) P z first R.last last1 R.done e u R.run evp in let m = R.counts x f fair in
+            (let l = tally_snoc (count_at p P x f) P z first R.last now R.done e u R.run evp in let m = R.counts x f fair in
             let n = ap (λ (s : MStore). count_at p P x f s u.to made) R.same in omega (arith, l, m, n));
-        arcs = λ f a r K k. uses f a r K (some_snoc (UsesArc p f a r) P z first R.last last1 R.done e u R.run evp k);
+        arcs = λ f a r K k. uses f a r K (some_snoc (UsesArc p f a r) P z first R.last now R.done e u R.run evp k);
         words = (joined made rest fit.0 (λ t k. R.words.0 t (Contains-permutation _ _ t (IsPermutation-sym _ _ there) (contains_tail u rest t k))), fit.1);
       }
     where
-      uses : (f a : ℕ) (r : Port) → Plain P Q h a → SomeEvent (UsesArc p f a r) P z first R.done R.last R.run ⊎ UsesArc p f a r u made record { store = s1; pool = made ++ rest } → T.arcs f a r ⊎ UsesArc p f a r u made record { store = s1; pool = made ++ rest }
+      uses : (f a : ℕ) (r : Port) → Plain P Q h a → SomeEvent (UsesArc p f a r) P z first R.done R.last R.run ⊎ UsesArc p f a r u made record { store = after; pool = made ++ rest } → T.arcs f a r ⊎ UsesArc p f a r u made record { store = after; pool = made ++ rest }
       uses f a r K (inl k) = inl (R.arcs f a r K k)
       uses f a r K (inr k) = inr k
 
@@ -179,12 +179,12 @@ module _ (p q : Plan) (g h : ℕ → ℕ) (answers : (a : ℕ) (i : Instr) → i
           go (inr k) = b t k
 
   -- an event of an instruction that asks for nothing and counts nothing
-  pub quiet : (s s1 : MStore) (ts made rest : List Token) (T : Sums) → Reached s ts T → Once T → (f a : ℕ) (r : Port) (w : Word) (i : Instr) → IsPermutation ts (token (To.Instr f a r) w ∷ rest) → Happens P total s (To.Instr f a r) w made s1
+  pub quiet : (s after : MStore) (ts made rest : List Token) (T : Sums) → Reached s ts T → Once T → (f a : ℕ) (r : Port) (w : Word) (i : Instr) → IsPermutation ts (token (To.Instr f a r) w ∷ rest) → Happens P total s (To.Instr f a r) w made after
       → instr_at P a ≡ Some i → counts_none i.op ≡ true → seeks_credit (instr_at P a) ≡ false
-      → ((k b : ℕ) (t : Port) → Plain P Q h b → UsesArc p k b t (token (To.Instr f a r) w) made record { store = s1; pool = made ++ rest } → T.arcs k b t) → Reached s1 (made ++ rest) (with_spent T (token (To.Instr f a r) w ∷ []))
-  quiet s s1 ts made rest T R once f a r w i takes happens at none off uses =
-      again s1 (made ++ rest) (made ++ rest) (after_event T s s1 (token (To.Instr f a r) w) made rest) (with_spent T (token (To.Instr f a r) w ∷ []))
-      (step_on s s1 ts made rest T R once (token (To.Instr f a r) w) takes happens) (IsPermutation-refl _) record {
+      → ((k b : ℕ) (t : Port) → Plain P Q h b → UsesArc p k b t (token (To.Instr f a r) w) made record { store = after; pool = made ++ rest } → T.arcs k b t) → Reached after (made ++ rest) (with_spent T (token (To.Instr f a r) w ∷ []))
+  quiet s after ts made rest T R once f a r w i takes happens at none off uses =
+      again after (made ++ rest) (made ++ rest) (after_event T s after (token (To.Instr f a r) w) made rest) (with_spent T (token (To.Instr f a r) w ∷ []))
+      (step_on s after ts made rest T R once (token (To.Instr f a r) w) takes happens) (IsPermutation-refl _) record {
         gone = append-nil T.gone;
         asked = omega arith;
         credited = (let o = ap unit_of off in omega (arith, o));
@@ -194,7 +194,7 @@ module _ (p q : Plan) (g h : ℕ → ℕ) (answers : (a : ℕ) (i : Instr) → i
         arcs = λ k b t K e. taken_in k b t K e;
       }
     where
-      taken_in : (k b : ℕ) (t : Port) → Plain P Q h b → T.arcs k b t ⊎ UsesArc p k b t (token (To.Instr f a r) w) made record { store = s1; pool = made ++ rest } → T.arcs k b t
+      taken_in : (k b : ℕ) (t : Port) → Plain P Q h b → T.arcs k b t ⊎ UsesArc p k b t (token (To.Instr f a r) w) made record { store = after; pool = made ++ rest } → T.arcs k b t
       taken_in k b t K (inl e) = e
       taken_in k b t K (inr e) = uses k b t K e
 
@@ -209,11 +209,11 @@ module _ (p q : Plan) (g h : ℕ → ℕ) (answers : (a : ℕ) (i : Instr) → i
       let takes : IsPermutation (xs ++ rest) (token (To.Instr f a Left) w ∷ (beside ++ rest)) = IsPermutation-append_left rest xs (token (To.Instr f a Left) w ∷ beside) e in
       let happens : Happens P total s (To.Instr f a Left) w (fires_lit f a n i) s =
       subst (λ (o : Option Instr). Fires s f (slot_used o) (rule_at P record { frame = f; ip = a } o (slot_in s f (slot_used o)) Left w) (fires_lit f a n i) s) (sym at) (lit_fires P f a w n i s is) in
-      let R1 : Reached s (fires_lit f a n i ++ (beside ++ rest)) (with_spent T (token (To.Instr f a Left) w ∷ [])) =
+      let fired_one : Reached s (fires_lit f a n i ++ (beside ++ rest)) (with_spent T (token (To.Instr f a Left) w ∷ [])) =
       quiet s s (xs ++ rest) (fires_lit f a n i) (beside ++ rest) T R once f a Left w i takes happens at (ap counts_none is) (no_seek (instr_at P a) i (Lit n) at is refl)
       (λ k b t K U. told f a does w i n at is k b t K record { store = s; pool = fires_lit f a n i ++ (beside ++ rest) } U) in
-      let R2 : Reached s ((fires_lit f a n i ++ beside) ++ rest) T =
-      again s (fires_lit f a n i ++ (beside ++ rest)) ((fires_lit f a n i ++ beside) ++ rest) (with_spent T (token (To.Instr f a Left) w ∷ [])) T R1
+      let regrouped : Reached s ((fires_lit f a n i ++ beside) ++ rest) T =
+      again s (fires_lit f a n i ++ (beside ++ rest)) ((fires_lit f a n i ++ beside) ++ rest) (with_spent T (token (To.Instr f a Left) w ∷ [])) T fired_one
       (subst (IsPermutation (fires_lit f a n i ++ (beside ++ rest))) (sym (append_assoc (fires_lit f a n i) beside rest)) (IsPermutation-refl _)) record {
         gone = refl;
         asked = refl;
@@ -223,7 +223,7 @@ module _ (p q : Plan) (g h : ℕ → ℕ) (answers : (a : ℕ) (i : Instr) → i
         counts = λ x k fair. refl;
         arcs = λ k b r K e. e;
       } in
-      settle may (fires_lit f a n i ++ beside) ys k s rest T told R2 once
+      settle may (fires_lit f a n i ++ beside) ys k s rest T told regrouped once
 
   -- ---- VALUES
   some_none : (n : ℕ) → Some n ≡ None → ⊥
@@ -277,12 +277,12 @@ module _ (p q : Plan) (g h : ℕ → ℕ) (answers : (a : ℕ) (i : Instr) → i
     pub value_of : (s : MStore) (rest : List Token) (T : Sums) (r : Port) (w : Word) (v : Value) → Reached s (token (To.Instr f a r) w ∷ token (To.Instr f a (other_port r)) (Word.Val v) ∷ rest) T → Once T → IsValue w
     value_of s rest T Left w v R once =
         let free = both_wait P seat i (s.slots f i.slot) w (Word.Val v) (free_at s _ T R once Left w (contains_head (token (To.Instr f a Left) w) (token (To.Instr f a Right) (Word.Val v) ∷ rest))) (free_at s _ T R once Right (Word.Val v) (contains_tail (token (To.Instr f a Left) w) (token (To.Instr f a Right) (Word.Val v) ∷ rest) (token (To.Instr f a Right) (Word.Val v)) (contains_head (token (To.Instr f a Right) (Word.Val v)) rest))) in
-        let R1 = one_waits s _ (token (To.Instr f a Right) (Word.Val v) ∷ rest) T R once Left w (Slot.Left w) (IsPermutation-refl _) free refl in
-        left_value seat i o w v op (subst (λ (x : SlotState). excluded_by (meets P seat i x Right (Word.Val v)) ≡ None) (slot_now s (Slot.Left w)) (free_at (with_slot s f i.slot (Slot.Left w)) _ _ R1 once Right (Word.Val v) (contains_head (token (To.Instr f a Right) (Word.Val v)) rest)))
+        let waited = one_waits s _ (token (To.Instr f a Right) (Word.Val v) ∷ rest) T R once Left w (Slot.Left w) (IsPermutation-refl _) free refl in
+        left_value seat i o w v op (subst (λ (x : SlotState). excluded_by (meets P seat i x Right (Word.Val v)) ≡ None) (slot_now s (Slot.Left w)) (free_at (with_slot s f i.slot (Slot.Left w)) _ _ waited once Right (Word.Val v) (contains_head (token (To.Instr f a Right) (Word.Val v)) rest)))
     value_of s rest T Right w v R once =
         let free = both_wait P seat i (s.slots f i.slot) (Word.Val v) w (free_at s _ T R once Left (Word.Val v) (contains_tail (token (To.Instr f a Right) w) (token (To.Instr f a Left) (Word.Val v) ∷ rest) (token (To.Instr f a Left) (Word.Val v)) (contains_head (token (To.Instr f a Left) (Word.Val v)) rest))) (free_at s _ T R once Right w (contains_head (token (To.Instr f a Right) w) (token (To.Instr f a Left) (Word.Val v) ∷ rest))) in
-        let R1 = one_waits s _ (token (To.Instr f a Left) (Word.Val v) ∷ rest) T R once Right w (Slot.Right w) (IsPermutation-refl _) free refl in
-        right_value seat i o w v op (subst (λ (x : SlotState). excluded_by (meets P seat i x Left (Word.Val v)) ≡ None) (slot_now s (Slot.Right w)) (free_at (with_slot s f i.slot (Slot.Right w)) _ _ R1 once Left (Word.Val v) (contains_head (token (To.Instr f a Left) (Word.Val v)) rest)))
+        let waited = one_waits s _ (token (To.Instr f a Left) (Word.Val v) ∷ rest) T R once Right w (Slot.Right w) (IsPermutation-refl _) free refl in
+        right_value seat i o w v op (subst (λ (x : SlotState). excluded_by (meets P seat i x Left (Word.Val v)) ≡ None) (slot_now s (Slot.Right w)) (free_at (with_slot s f i.slot (Slot.Right w)) _ _ waited once Left (Word.Val v) (contains_head (token (To.Instr f a Left) (Word.Val v)) rest)))
 
   abbrev any_arcs : Sums → Sums
   any_arcs T = record { gone = T.gone; asked = T.asked; credited = T.credited; olds = T.olds; spent = T.spent; counts = T.counts; arcs = λ f a r. ⊤ }
@@ -295,6 +295,6 @@ module _ (p q : Plan) (g h : ℕ → ℕ) (answers : (a : ℕ) (i : Instr) → i
       go (inl C) = C
       go (inr A) =
           let pair : List Token = token (To.Instr A.frame A.a A.r) w ∷ token (To.Instr A.frame A.a (other_port A.r)) (Word.Val A.v) ∷ A.rest in
-          let R0 : Reached s (old ++ rest) (any_arcs T) =
+          let any_told : Reached s (old ++ rest) (any_arcs T) =
           again s (old ++ rest) (old ++ rest) T (any_arcs T) R (IsPermutation-refl _) record { gone = refl; asked = refl; credited = refl; olds = λ x k. k; spent = λ f a r. omega arith; counts = λ x f fair. refl; arcs = λ f a r K k. tt } in
-          M.value (value_of A.frame A.a A.i A.o A.at A.op s (A.rest ++ rest) (any_arcs T) A.r w A.v (settle (λ f l. ⊤) old pair A.settles s rest (any_arcs T) (λ f l k w i n at is x b t K m U. tt) R0 once) once)
+          M.value (value_of A.frame A.a A.i A.o A.at A.op s (A.rest ++ rest) (any_arcs T) A.r w A.v (settle (λ f l. ⊤) old pair A.settles s rest (any_arcs T) (λ f l k w i n at is x b t K m U. tt) any_told once) once)

@@ -1,7 +1,7 @@
 -- What an instruction does in its new place: the tokens that it makes stand for what comes of those that it made.
-use Rattle.std.proofs.Common.{◌≡◌, refl, sym, ap, ◌∙◌, subst, ℕ, zero, suc, ◌+◌, ◌-◌, ◌⊎◌, inl, inr, Bool, true, false, true≢false, List, [], ◌∷◌, ◌++◌, map, ℤ, Option, Some, None, Contains, IsPermutation, append-nil, append_assoc, arith}
-use Rattle.std.specs.Prelude.{if◌then◌else◌, nat_lt, ◌==◌, take, flat_map, sum, slice_index_or, ⊤}
-use Rattle.std.proofs.lemmas.List.Sorted.{IsPermutation-refl, IsPermutation-sym, IsPermutation-trans, IsPermutation-append_left, IsPermutation-append_right, IsPermutation-append_comm, IsPermutation-cons}
+use Rattle.std.proofs.Common.{◌≡◌, refl, sym, ap, ◌∙◌, subst, ℕ, zero, suc, ◌+◌, ◌-◌, ◌⊎◌, inl, inr, Bool, true, false, List, [], ◌∷◌, ◌++◌, map, ℤ, Option, Some, None, Contains, IsPermutation, append_assoc}
+use Rattle.std.specs.Prelude.{if◌then◌else◌, nat_lt, ◌==◌, take, sum, slice_index_or, ⊤}
+use Rattle.std.proofs.lemmas.List.Sorted.{IsPermutation-refl, IsPermutation-trans, IsPermutation-append_left, IsPermutation-append_comm}
 use Rattle.tags.specs.declared.value.Value.{Value}
 use Rattle.tags.specs.declared.value.Value.TheVariants.{Int}
 use Rattle.tags.specs.declared.value.Origin.{Origin}
@@ -19,11 +19,11 @@ use Rattle.semantics.specs.declared.program.Dest.{Dest}
 use Rattle.semantics.specs.declared.program.Op.{Op}
 use Rattle.semantics.specs.declared.program.Op.TheVariants.{Apply1, Apply2, Apply2Right, Apply2Left, Lit, Copy, Sync, Switch, Fetch, Store, Frame, Link, Send, Return, Ask, Open, Take, Give, Drain, Release}
 use Rattle.semantics.specs.Program.{Instr, Program, first_of, instr_at}
-use Rattle.semantics.specs.Rule.{token, signal, Seat, at_dest, to_each, to_all, beyond, back_to, answer_to, landing_at, Outcome, Becomes, Excluded, fires, array_base, array_len, asks_for, puts, fire_one, fire_two, meets, signal_to, opens, takes, gives, drains, alone, on_left, outcome_of, rule_at}
+use Rattle.semantics.specs.Rule.{token, signal, Seat, at_dest, to_each, to_all, beyond, back_to, answer_to, landing_at, Outcome, Becomes, Excluded, fires, array_base, array_len, asks_for, puts, fire_one, fire_two, meets, signal_to, opens, takes, gives, drains, alone, on_left, outcome_of}
 use Rattle.reuse.proofs.Members.{contains_head, contains_tail, contains_mapped}
 use Rattle.lowering.proofs.Orders.{shuffled, Part, ◌⊕◌}
-use Rattle.law_once.specs.Spreads.{ip_cont, ip_word, ip_to, ip_token, ip_slot, is_answered}
-use Rattle.law_fold.specs.Folds.{fires_lit, Plain, Fits, Fresh, Node, top, next, Pend, Sends, IsValue, Stands, moved, StandAll, stand_none, stand_more, Settles, settled, fired, Clumped, Pairs, Ready, Leads, Enters, IsMoved}
+use Rattle.law_once.specs.Spreads.{ip_cont, ip_word, ip_token, ip_slot, is_answered}
+use Rattle.law_fold.specs.Folds.{fires_lit, Plain, Fits, Fresh, Node, top, next, Pend, Sends, moved, stand_none, stand_more, Settles, settled, fired, Clumped, Pairs, Ready, Enters, IsMoved}
 
 pub map_join : {X Y : Type 0} (f : X → Y) (xs ys : List X) → map f (xs ++ ys) ≡ map f xs ++ map f ys
 map_join f [] ys = refl

@@ -8,8 +8,7 @@ use Rattle.tags.specs.declared.token.Port.TheVariants.{Left}
 use Rattle.tags.specs.declared.token.Word.{Word}
 use Rattle.tags.specs.declared.token.To.{To}
 use Rattle.tags.specs.declared.token.Token.{Token}
-use Rattle.semantics.specs.declared.program.Op.TheVariants.{Release}
-use Rattle.semantics.specs.Program.{Instr, Program}
+use Rattle.semantics.specs.Program.{Program}
 use Rattle.semantics.specs.Rule.{token}
 use Rattle.semantics.specs.Machine.{CellState, Vacant, Full, Deferred, Machine, Store as MStore, Size, Events, at_start, Resting, Wants, reader_count, value_in}
 use Rattle.semantics.specs.Faithful.{HasStoreOfFull}

@@ -1,7 +1,6 @@
 -- A state of the new run and one of the old: the relation, and what it says of the words that come.
 use Rattle.std.proofs.Common.{◌≡◌, refl, sym, ap, ◌∙◌, subst, ℕ, ◌+◌, ◌*◌, ◌⊎◌, inl, inr, Bool, true, false, true≢false, ℤ, List, [], ◌∷◌, ◌++◌, Option, Some, None, IsPermutation, Contains, arith}
 use Rattle.std.proofs.lemmas.List.Elements.{Contains-append_left, Contains-append_right, Contains-append_cases}
-use Rattle.std.specs.Prelude.{⊤}
 use Rattle.tags.specs.declared.token.Port.{Port}
 use Rattle.tags.specs.declared.token.Port.TheVariants.{Left, Right}
 use Rattle.tags.specs.declared.token.Cont.{Cont}
@@ -16,7 +15,7 @@ use Rattle.semantics.specs.declared.program.Op.TheVariants.{Return, Ask, Release
 use Rattle.semantics.specs.Program.{Instr, Program, first_of, instr_at}
 use Rattle.semantics.specs.Rule.{token, slot_of}
 use Rattle.semantics.specs.Machine.{Machine, Store as MStore, Size, Events, at_start, slot_in}
-use Rattle.semantics.specs.Cause.{is_request, request_count, seeks_credit, credit_count}
+use Rattle.semantics.specs.Cause.{is_request, request_count, seeks_credit, credit_count, is_credit_event}
 use Rattle.semantics.specs.Handed.{EachOnce, UsesEachOnce}
 use Rattle.semantics.specs.Plan.{Plan, is_credit}
 use Rattle.semantics.specs.Wired.{IsWired}
@@ -34,11 +33,12 @@ use Rattle.law_once.specs.Spreads.{ip_to, ip_store}
 use Rattle.reuse.proofs.Tallies.{Counter, Grants, Releases, count_at}
 use Rattle.law_once.proofs.Weights.{tot}
 use Rattle.law_once.proofs.SpreadSteps.{Step}
-use Rattle.law_fold.specs.Folds.{Plain, Stands, left, Folds}
+use Rattle.law_fold.specs.Folds.{Plain, Stands, Folds}
 use Rattle.law_fold.proofs.FoldRules.{map_join, Goes, Arrives, FitsSlot}
 use Rattle.law_fold.proofs.FoldParts.{Clump, seen_of, meant_of, Sums}
 use Rattle.law_fold.proofs.FoldPast.{Reached, order_of}
 use Rattle.law_fold.proofs.FoldCounts.{Counted}
+use Rattle.law_fold.proofs.FoldTold.{Told, Came}
 
 pub same_request : (h : ℕ → ℕ) (to : To) → is_request (ip_to h to) ≡ is_request to
 same_request h (To.Instr f ip r) = refl
@@ -47,6 +47,23 @@ same_request h (To.Store x v) = refl
 same_request h To.Manager = refl
 same_request h (To.Release f) = refl
 same_request h (To.Host j) = refl
+
+-- of what is at no instruction
+pub same_credit : (p q : Program) (h : ℕ → ℕ) (to : To) → ((f a : ℕ) (r : Port) → to ≡ To.Instr f a r → ⊥) → is_credit_event q (ip_to h to) ≡ is_credit_event p to
+same_credit p q h (To.Instr f a r) apart = absurd (apart f a r refl)
+same_credit p q h (To.Fetch x) apart = refl
+same_credit p q h (To.Store x v) apart = refl
+same_credit p q h To.Manager apart = refl
+same_credit p q h (To.Release f) apart = refl
+same_credit p q h (To.Host j) apart = refl
+
+pub not_instr : (h : ℕ → ℕ) (to : To) → ((f a : ℕ) (r : Port) → to ≡ To.Instr f a r → ⊥) → (f a : ℕ) (r : Port) → ip_to h to ≡ To.Instr f a r → ⊥
+not_instr h (To.Instr k b s) apart f a r e = apart k b s refl
+not_instr h (To.Fetch x) apart f a r e = cc
+not_instr h (To.Store x v) apart f a r e = cc
+not_instr h To.Manager apart f a r e = cc
+not_instr h (To.Release k) apart f a r e = cc
+not_instr h (To.Host j) apart f a r e = cc
 
 pub seeks_op : (i j : Instr) → j.op ≡ i.op → seeks_credit (Some j) ≡ seeks_credit (Some i)
 seeks_op i j e = ap (λ (op : Op). elim op as (λ x. Bool) [ Open k ↦ true | Take k ↦ true | _ ↦ false ]) e
@@ -94,8 +111,8 @@ module _ (p q : Plan) (S : Folds p q) (wired : IsWired p) (orderly : Orderly p) 
   abbrev pub Known : List Token → List Token → List C → Type 0
   Known = Counted P Q g h S.apart S.pairs_apart
 
-  abbrev pub sums : Events → List ℕ → List Step → List Token → List Token → Sums
-  sums events gone ss olds spent = record { gone = gone; asked = request_count events; credited = credit_count Q events; olds = olds; spent = spent; counts = counted_of q h ss; arcs = λ f a r. ⊤ }
+  abbrev pub sums : Events → List ℕ → List Step → List Token → List Token → List Token → Sums
+  sums events gone ss pool olds spent = record { gone = gone; asked = request_count events; credited = credit_count Q events; olds = olds; spent = spent; counts = counted_of q h ss; arcs = Told p q S ss pool }
 
   -- ---- THE RELATION
   -- what the token stands for was met in the run of the old code
@@ -107,11 +124,12 @@ module _ (p q : Plan) (S : Folds p q) (wired : IsWired p) (orderly : Orderly p) 
   pub record Sim (events : Events) (m : Machine) (gone : List ℕ) (ss : List Step) : Type 0 where
     pub old : MStore
     pub clumps : List C
-    pub part : Past old (meant_in clumps) (sums events gone ss [] [])
+    pub part : Past old (meant_in clumps) (sums events gone ss m.pool [] [])
     pub seen : IsPermutation m.pool (seen_in clumps)
     pub store : m.store ≡ ip_store h old
     pub known : (t : Token) → Contains (taken events) t → Explained part.done part.last t
     pub counted : Known (taken events) (taken part.done) clumps
+    pub came : Came p q S ss m.pool
 
   pub explained_later : (done more : Events) (last last1 : Machine) → ((u : Token) → Contains (met done last) u → Contains (met more last1) u) → (t : Token) → Explained done last t → Explained more last1 t
   explained_later done more last last1 grows t E = record { tokens = E.tokens; stands = E.stands; were = λ u inside. grows u (E.were u inside) }
@@ -136,7 +154,7 @@ module _ (p q : Plan) (S : Folds p q) (wired : IsWired p) (orderly : Orderly p) 
     olds = met V.part.done V.part.last
 
     abbrev pub T : Sums
-    T = sums events gone ss olds (taken V.part.done)
+    T = sums events gone ss m.pool olds (taken V.part.done)
 
     pub past_of : Past V.old (meant_in V.clumps) T
     past_of = record {
@@ -157,7 +175,7 @@ module _ (p q : Plan) (S : Folds p q) (wired : IsWired p) (orderly : Orderly p) 
     }
 
     pub O : IsOrderlyRun p z first V.part.done V.part.last V.part.run
-    O = order_of p q g h S.answers wired orderly inputs z start V.old (meant_in V.clumps) (sums events gone ss [] []) V.part once
+    O = order_of p q g h S.answers wired orderly inputs z start V.old (meant_in V.clumps) (sums events gone ss m.pool [] []) V.part once
 
     was_once : UsesEachOnce P z inputs V.part.done V.part.last V.part.run
     was_once = subst (λ (l : List ℕ). EachOnce (0 ∷ l)) (sym V.part.hands) once

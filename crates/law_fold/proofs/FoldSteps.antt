@@ -1,5 +1,5 @@
 -- What an event grants and releases in the new code and in the old one.
-use Rattle.std.proofs.Common.{◌≡◌, refl, sym, ap, ◌∙◌, subst, ℕ, zero, suc, ◌+◌, ◌⊎◌, inl, inr, Bool, true, false, List, [], ◌∷◌, Option, Some, None, eq-eqb, ne_eqb, arith}
+use Rattle.std.proofs.Common.{◌≡◌, refl, sym, ap, ◌∙◌, subst, ℕ, zero, suc, ◌+◌, ◌⊎◌, inl, inr, Bool, true, List, [], ◌∷◌, Option, Some, eq-eqb, ne_eqb, arith}
 use Rattle.std.specs.Prelude.{count_by, ◌==◌, ◌&&◌, if◌then◌else◌}
 use Rattle.std.proofs.lemmas.Bool.{cases_eq}
 use Rattle.tags.specs.declared.token.Port.{Port}
@@ -14,13 +14,13 @@ use Rattle.tags.specs.declared.slot.SlotState.TheVariants.{Empty, Credits, Waite
 use Rattle.semantics.specs.declared.program.Op.{Op}
 use Rattle.semantics.specs.declared.program.Op.TheVariants.{Open, Take, Give, Release}
 use Rattle.semantics.specs.Program.{Instr, Program, instr_at}
-use Rattle.semantics.specs.Rule.{token, signal, Outcome, Seat, back_to, beyond, fires, fire_two, meets, outcome_of, rule_at, slot_of}
-use Rattle.semantics.specs.Machine.{Machine, Store as MStore, slot_in, slot_used, Fires, Happens}
+use Rattle.semantics.specs.Rule.{token, signal, Seat, back_to, beyond, fires, fire_two, meets, outcome_of, rule_at, slot_of}
+use Rattle.semantics.specs.Machine.{Store as MStore, slot_in, slot_used, Fires, Happens}
 use Rattle.semantics.specs.Plan.{Plan}
 use Rattle.semantics.specs.Orderly.{is_at}
 use Rattle.semantics.specs.Holders.{Holder, holder_at, same_holder}
 use Rattle.semantics.specs.Credits.{granted_by, granted_in, granted_at, released_by, released_in, released_at}
-use Rattle.law_once.specs.Spreads.{ip_cont, ip_word, ip_to, ip_slot, ip_store}
+use Rattle.law_once.specs.Spreads.{ip_cont, ip_word, ip_slot, ip_store}
 use Rattle.law_once.proofs.Weights.{tot}
 use Rattle.law_once.proofs.Rows.{unit, count_tot}
 use Rattle.law_once.proofs.SpreadSteps.{slot_same}

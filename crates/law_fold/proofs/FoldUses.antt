@@ -7,7 +7,6 @@ use Rattle.tags.specs.declared.token.Cont.{Cont}
 use Rattle.tags.specs.declared.token.Word.{Word}
 use Rattle.tags.specs.declared.token.To.{To}
 use Rattle.tags.specs.declared.token.Token.{Token}
-use Rattle.tags.specs.declared.slot.SlotState.{SlotState}
 use Rattle.tags.specs.declared.slot.SlotState.TheVariants.{Empty}
 use Rattle.semantics.specs.declared.program.Dest.{Dest}
 use Rattle.semantics.specs.declared.program.Op.{Op}
@@ -17,15 +16,13 @@ use Rattle.semantics.specs.Rule.{token, Seat, Outcome, Becomes, Excluded, fires,
 use Rattle.semantics.specs.Machine.{Machine, Store as MStore, slot_in, slot_used, Fires, Happens}
 use Rattle.semantics.specs.Plan.{Plan}
 use Rattle.reuse.proofs.Stands.{some_same}
-use Rattle.reuse.proofs.History.{taken}
 use Rattle.law_once.specs.Alike.{HasLanding}
 use Rattle.law_once.specs.Spreads.{ip_word, ip_token, ip_slot, ip_store}
 use Rattle.law_once.specs.Spreads.{is_answered}
 use Rattle.law_fold.specs.Folds.{Plain, Clumped, IsMoved, Folds}
 use Rattle.law_fold.proofs.FoldRules.{Arrives}
 use Rattle.law_fold.proofs.FoldEvents.{Answered}
-use Rattle.law_once.proofs.SpreadSteps.{slot_same}
-use Rattle.law_fold.proofs.FoldEvents.{slot_there}
+use Rattle.law_fold.proofs.FoldCame.{moved_fires}
 use Rattle.semantics.specs.Plan.{landing}
 use Rattle.std.specs.Prelude.{◌-◌}
 use Rattle.semantics.specs.declared.program.Op.TheVariants.{Link, Ask}
@@ -99,11 +96,7 @@ module _ (p q : Plan) (S : Folds p q) (F : ArcFacts p q S) where
     old_fires = subst (λ (x : Option Instr). Fires old k (slot_used x) (rule_at P s0 x (slot_in old k (slot_used x)) side w) A.tokens A.after) at A.happens
 
     new_fires : Fires (ip_store h old) k (slot_of i i.op) (outcome_of Q s1 M.j i.op (ip_slot h (slot_in old k (slot_of i i.op))) side (ip_word h w)) made m1.store
-    new_fires =
-        let e1 = subst (λ (x : Option Instr). Fires (ip_store h old) k (slot_used x) (rule_at Q s1 x (slot_in (ip_store h old) k (slot_used x)) side (ip_word h w)) made m1.store) M.there happens in
-        let e2 = subst (λ (x : Option ℕ). Fires (ip_store h old) k x (outcome_of Q s1 M.j (M.j).op (slot_in (ip_store h old) k x) side (ip_word h w)) made m1.store) (slot_same i M.j M.op M.slot) e1 in
-        let e3 = subst (λ (x : SlotState). Fires (ip_store h old) k (slot_of i i.op) (outcome_of Q s1 M.j (M.j).op x side (ip_word h w)) made m1.store) (slot_there P Q g h old k (slot_of i i.op)) e2 in
-        subst (λ (op : Op). Fires (ip_store h old) k (slot_of i i.op) (outcome_of Q s1 M.j op (ip_slot h (slot_in old k (slot_of i i.op))) side (ip_word h w)) made m1.store) M.op e3
+    new_fires = moved_fires p q g h total old k l side w i M made m1.store happens
 
     backs : is_answered i.op ≡ true → Backs P Q g h A.tokens made
     backs is = fires_backs _ _ (out_back P Q g h S.arrays k l i M i.op refl is (slot_in old k (slot_of i i.op)) side w arrives) old (ip_store h old) A.after m1.store k (slot_of i i.op) (slot_of i i.op) A.tokens made old_fires new_fires

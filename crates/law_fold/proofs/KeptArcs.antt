@@ -1,21 +1,20 @@
 -- The arcs of the plan with its slots kept: those to what stands for itself are those of the plan, and entries are entries.
-use Rattle.std.proofs.Common.{◌≡◌, refl, sym, ap, ◌∙◌, subst, ℕ, ℤ, zero, suc, ◌+◌, ◌-◌, ◌<◌, ◌≤◌, ◌⊎◌, inl, inr, Bool, true, false, true≢false, ◌||◌, List, [], ◌∷◌, ◌++◌, map, length, Option, Some, None, Contains, nat_lt, ltb-true, ltb-false, lt-ltb, le-ltb, zero-add, if◌then◌else◌, arith}
+use Rattle.std.proofs.Common.{◌≡◌, refl, sym, ap, ◌∙◌, subst, ℕ, ℤ, zero, suc, ◌+◌, ◌-◌, ◌<◌, ◌≤◌, ◌⊎◌, inl, inr, Bool, true, false, true≢false, ◌||◌, List, [], ◌∷◌, ◌++◌, length, Some, Contains, nat_lt, ltb-true, ltb-false, lt-ltb, le-ltb, zero-add, if◌then◌else◌, arith}
 use Rattle.std.specs.Prelude.{slice_get, flat_map}
 use Rattle.std.proofs.lemmas.Option.{slice_get_within}
 use Rattle.std.proofs.lemmas.List.Elements.{Contains-append_left, Contains-append_right, Contains-append_cases}
-use Rattle.tags.specs.declared.token.Port.{Port}
 use Rattle.tags.specs.declared.token.Port.TheVariants.{Left}
 use Rattle.semantics.specs.declared.program.Dest.{Dest}
 use Rattle.semantics.specs.declared.program.Op.{Op}
 use Rattle.semantics.specs.declared.program.Op.TheVariants.{Link, Lit}
-use Rattle.semantics.specs.Program.{Instr, CodeBlock, Program, first_of, instr_at}
+use Rattle.semantics.specs.Program.{Instr, CodeBlock, first_of}
 use Rattle.semantics.specs.Plan.{Plan, landing}
-use Rattle.semantics.specs.Sharing.{Arc, arc, inlet, arcs_to, row, arcs_from, arcs_of, arcs_in}
+use Rattle.semantics.specs.Sharing.{Arc, arc, inlet, arcs_to, row, arcs_from}
 use Rattle.semantics.specs.Orderly.{is_entry}
 use Rattle.code.specs.Sound.{IsSound}
-use Rattle.reuse.proofs.Stands.{some_same, first_in, first_next, instr_in}
+use Rattle.reuse.proofs.Stands.{first_in, first_next}
 use Rattle.reuse.proofs.Members.{contains_head, contains_tail, contains_cases, contains_none, contains_map, contains_mapped}
-use Rattle.folding.specs.Folds.{is_closed, new_port}
+use Rattle.folding.specs.Folds.{new_port}
 use Rattle.folding.specs.Places.{layout_of, folds_at, gone_at, new_place}
 use Rattle.folding.specs.Moved.{is_shut, new_dest, moved_dests}
 use Rattle.folding.specs.Laws.{dests_of}
@@ -26,7 +25,7 @@ use Rattle.folding.proofs.Sole.{keeps_sole}
 use Rattle.folding.proofs.SoundLists.{contains_get}
 use Rattle.folding.proofs.SoundRows.{link_before}
 use Rattle.folding.proofs.Cases.{KeptAt}
-use Rattle.folding.proofs.Plain.{PlainAt, landing_plain}
+use Rattle.folding.proofs.Plain.{PlainAt}
 use Rattle.law_once.specs.Alike.{IsTidy}
 use Rattle.law_once.specs.Spreads.{is_answered}
 use Rattle.law_fold.specs.Folds.{Plain}
@@ -34,14 +33,14 @@ use Rattle.law_fold.specs.Kept.{slotted, kept_block, kept_slots}
 use Rattle.law_fold.proofs.Uses.{moved_has}
 use Rattle.law_fold.proofs.Numbering.{place_ip, word_ip}
 use Rattle.law_fold.proofs.Static.{new_block, spares, inside, ahead, g_at}
-use Rattle.law_fold.proofs.Spots.{stays, kept_of, plain_of, plain_only, plain_at_h, new_within, At, at_of}
+use Rattle.law_fold.proofs.Spots.{stays, kept_of, plain_of, plain_only, plain_at_h, new_within, at_of}
 use Rattle.law_fold.proofs.FoldArcs.{arcs_from_from}
 use Rattle.law_fold.proofs.FoldUses.{NewArc, ArcFacts}
 use Rattle.reuse.proofs.Stands.{Stands}
 use Rattle.reuse.proofs.UsedArcs.{stands_arcs}
 use Rattle.folding.proofs.Taken.{leaves_out}
 use Rattle.law_fold.proofs.Moves.{one_list, shape_one, entry_at, kept_slots_folds}
-use Rattle.law_fold.proofs.KeptStatic.{Inside, inside_one, plain_of_op, same_landings}
+use Rattle.law_fold.proofs.KeptStatic.{plain_of_op, same_landings}
 use Rattle.law_fold.proofs.FoldParts.{counts_none}
 
 -- ---- ROWS

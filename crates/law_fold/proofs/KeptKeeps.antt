@@ -1,16 +1,16 @@
 -- What folding keeps where each instruction has the slot that it had.
-use Rattle.std.proofs.Common.{◌≡◌, refl, sym, ◌∙◌, ℕ, List}
+use Rattle.std.proofs.Common.{refl, ◌∙◌, ℕ, List}
 use Rattle.semantics.specs.declared.program.Op.TheVariants.{Open, Take, Link}
 use Rattle.semantics.specs.Program.{Program}
 use Rattle.semantics.specs.Machine.{at_start}
+use Rattle.semantics.specs.Arcs.{UsesArc}
 use Rattle.semantics.specs.Handed.{handed}
 use Rattle.semantics.specs.Plan.{Plan}
-use Rattle.semantics.specs.Orderly.{Orderly, IsStart}
+use Rattle.semantics.specs.Orderly.{IsStart}
 use Rattle.code.specs.Sound.{IsSound}
-use Rattle.law_once.specs.Alike.{IsTidy}
-use Rattle.law_once.proofs.SpreadSteps.{Step, steps_of}
+use Rattle.law_once.proofs.SpreadSteps.{Step, steps_of, some_event}
 use Rattle.law_fold.specs.Folds.{Folds}
-use Rattle.law_fold.specs.Kept.{kept_slots, KeptSlotsTidy, KeptSlotsLands, KeptSlotsKeepBounds, KeptSlotsOrderly, KeptSlotsKeepIfCaused}
+use Rattle.law_fold.specs.Kept.{kept_slots, KeptSlotsTidy, KeptSlotsLands, KeptSlotsKeepBounds, KeptSlotsOrderly, KeptSlotsKeep}
 use Rattle.law_fold.proofs.FoldSim.{Sim}
 use Rattle.law_fold.proofs.FoldRuns.{simulated}
 use Rattle.law_fold.proofs.FoldMatching.{matching_kept}
@@ -20,6 +20,8 @@ use Rattle.law_fold.proofs.FoldLands.{ComesBack, MovesLandings, lands_kept}
 use Rattle.law_fold.proofs.FoldBounds.{bounds_kept}
 use Rattle.law_fold.proofs.Moves.{kept_slots_folds}
 use Rattle.law_fold.proofs.KeptRuns.{kept_slots_runs_alike}
+use Rattle.law_fold.proofs.FoldCaused.{caused_kept}
+use Rattle.law_fold.proofs.KeptArcs.{entries_kept, kept_arc_facts}
 use Rattle.law_fold.proofs.KeptStatic.{stays_for, comes_back, marks_kept, blocks_kept, same_landings, landings_moved, lone_leaf, kept_tidy}
 
 keeps_marks : (p : Plan) (s : IsSound p) → KeepsMarks p (kept_slots p) (kept_slots_folds p s)
@@ -47,7 +49,7 @@ kept_slots_bounds p s tidy orderly lands =
 
 pub kept_slots_orderly : KeptSlotsOrderly
 unfolding kept_slots_folds
-kept_slots_orderly p s tidy orderly lands caused inputs z events m start run once =
+kept_slots_orderly p s tidy orderly lands inputs z events m start run once =
     let S : Folds p (kept_slots p) = kept_slots_folds p s in
     let st : IsStart p z inputs = record { some_element = start.some_element; some_frame = start.some_frame; inputs_fit = start.inputs_fit ∙ S.inputs } in
     let Q : Program = (kept_slots p).program in
@@ -56,17 +58,18 @@ kept_slots_orderly p s tidy orderly lands caused inputs z events m start run onc
     let V : Sim p (kept_slots p) (kept_slots_folds p s) s.wired orderly lands inputs z st events m gone ss = simulated p (kept_slots p) (kept_slots_folds p s) s.wired orderly lands inputs z st events m run once in
     record {
       once = λ f ip r e. once_kept p (kept_slots p) (kept_slots_folds p s) s.wired orderly lands inputs z st events m gone ss V once (lone_leaf p s tidy) f ip r e;
-      caused = λ f ip r w e inside. caused inputs z events m start run once f ip r w e inside;
+      caused = λ f ip r w e inside. some_event (UsesArc (kept_slots p) f ip r) Q z (at_start Q inputs) events m run
+          (caused_kept p (kept_slots p) (kept_slots_folds p s) s.wired orderly lands inputs z st events m gone ss V once (kept_arc_facts p s tidy) (lone_leaf p s tidy) (entries_kept p s) f ip r w e inside);
       agree = λ f ip jp k v w mi mj b ci cj. agree_kept p (kept_slots p) (kept_slots_folds p s) s.wired orderly lands inputs z st events m gone ss V once (keeps_marks p s) f ip jp k v w mi mj ci cj;
       block = λ f ip jp r t v w ci cj. block_kept p (kept_slots p) (kept_slots_folds p s) s.wired orderly lands inputs z st events m gone ss V once (blocks_kept p s) f ip jp r t v w ci cj;
       matching = λ t inside. matching_kept p (kept_slots p) (kept_slots_folds p s) s.wired orderly lands inputs z st events m gone ss V once t inside;
       release = release_kept p (kept_slots p) (kept_slots_folds p s) s.wired orderly lands inputs z st events m gone ss V once;
     }
 
-pub kept_slots_keep : KeptSlotsKeepIfCaused
-kept_slots_keep p s orderly lands tidy caused = record {
+pub kept_slots_keep : KeptSlotsKeep
+kept_slots_keep p s orderly lands tidy = record {
   alike = kept_slots_runs_alike p s orderly lands;
-  orderly = kept_slots_orderly p s tidy orderly lands caused;
+  orderly = kept_slots_orderly p s tidy orderly lands;
   lands = kept_slots_lands p s orderly lands;
   bounds = kept_slots_bounds p s tidy orderly lands;
 }

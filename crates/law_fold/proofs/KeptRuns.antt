@@ -1,9 +1,9 @@
 -- The runs of the plan with its slots kept look like those of the plan, and so it is as faithful.
-use Rattle.std.proofs.Common.{◌≡◌, refl, sym, ap, ◌∙◌, subst, ℕ, zero, suc, ◌+◌, Bool, true, false, List, [], ◌∷◌, ◌++◌, Some, if◌then◌else◌}
-use Rattle.std.specs.Prelude.{flat_map, map, slice_get, IsPermutation}
+use Rattle.std.proofs.Common.{◌≡◌, refl, sym, ap, ◌∙◌, subst, ℕ, ◌+◌, Bool, true, false, List, [], ◌∷◌, ◌++◌, if◌then◌else◌}
+use Rattle.std.specs.Prelude.{flat_map, IsPermutation}
 use Rattle.std.proofs.lemmas.List.{length-map}
 use Rattle.semantics.specs.Graph.{Flow}
-use Rattle.semantics.specs.Program.{Instr, CodeBlock}
+use Rattle.semantics.specs.Program.{Instr}
 use Rattle.semantics.specs.Plan.{Plan}
 use Rattle.semantics.specs.Cause.{HasBounds, opened_by, open_bounds, loop_bounds}
 use Rattle.folding.specs.Places.{Layout, layout_of, gone_at}

@@ -3,7 +3,7 @@ use Rattle.std.proofs.Common.{◌≡◌, refl, sym, ap, ◌∙◌, subst, ℕ, �
 use Rattle.std.specs.Prelude.{slice_get}
 use Rattle.std.specs.Option.{option_map}
 use Rattle.std.proofs.lemmas.Option.{slice_get_within, slice_get-map}
-use Rattle.std.proofs.lemmas.List.Elements.{Contains-append_left, Contains-append_right, Contains-append_cases}
+use Rattle.std.proofs.lemmas.List.Elements.{Contains-append_left, Contains-append_right}
 use Rattle.tags.specs.declared.token.Port.{Port}
 use Rattle.operators.specs.declared.Binary.{Binary}
 use Rattle.semantics.specs.declared.program.Dest.{Dest}
@@ -16,7 +16,7 @@ use Rattle.semantics.specs.Orderly.{same_block, often, IsMarked}
 use Rattle.code.specs.Sound.{IsSound}
 use Rattle.lowering.proofs.Ports.{same_in}
 use Rattle.reuse.proofs.Stands.{some_same, first_in, first_next, one_block, instr_in, Found, found}
-use Rattle.folding.specs.Folds.{is_folded, new_op}
+use Rattle.folding.specs.Folds.{new_op}
 use Rattle.folding.specs.Places.{layout_of, folds_at, gone_at, new_place}
 use Rattle.folding.specs.Moved.{new_dest, moved_dests}
 use Rattle.folding.specs.Laws.{dests_of}
@@ -33,7 +33,7 @@ use Rattle.folding.proofs.Plain.{PlainAt, landing_plain, sole_plain}
 use Rattle.law_once.specs.Alike.{HasLanding, IsTidy, plain_dests}
 use Rattle.law_once.specs.Spreads.{Spot, is_answered}
 use Rattle.law_fold.proofs.Moves.{one_list, shape_one}
-use Rattle.law_fold.specs.Folds.{Plain, Fresh, Folds}
+use Rattle.law_fold.specs.Folds.{Plain}
 use Rattle.law_fold.specs.Kept.{slotted, kept_block, kept_slots}
 use Rattle.law_fold.proofs.Closed.{lit_or}
 use Rattle.law_fold.proofs.Numbering.{place_ip, word_ip}

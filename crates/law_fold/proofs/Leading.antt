@@ -1,49 +1,42 @@
 -- What a list of destinations makes, in the old code and in the new one: what the literals among its targets make goes
 -- with the words of the operators that have them in their code.
-use Rattle.std.proofs.Common.{◌≡◌, refl, sym, ap, ◌∙◌, subst, ℕ, ℤ, zero, suc, ◌+◌, ◌-◌, ◌<◌, ◌≤◌, ◌⊎◌, inl, inr, Bool, true, false, true≢false, ◌||◌, List, [], ◌∷◌, ◌++◌, map, length, Option, Some, None, Contains, IsPermutation, append_assoc, append-nil, if◌then◌else◌, arith}
-use Rattle.std.specs.Prelude.{slice_get, flat_map, ◌&&◌, not}
-use Rattle.std.proofs.lemmas.Option.{slice_get_within}
+use Rattle.std.proofs.Common.{◌≡◌, refl, sym, ap, ◌∙◌, subst, ℕ, suc, ◌+◌, ◌⊎◌, inl, inr, List, [], ◌∷◌, ◌++◌, map, Some, Contains, IsPermutation, append_assoc, append-nil}
+use Rattle.std.specs.Prelude.{slice_get}
 use Rattle.std.proofs.lemmas.List.Concat.{flat_map-append}
 use Rattle.std.proofs.lemmas.List.Elements.{Contains-append_left, Contains-append_right, Contains-append_cases}
 use Rattle.reuse.proofs.Members.{contains_map}
 use Rattle.std.proofs.lemmas.List.Sorted.{Contains-permutation, IsPermutation-refl, IsPermutation-sym, IsPermutation-trans, IsPermutation-map, IsPermutation-append_left, IsPermutation-append_right}
 use Rattle.tags.specs.declared.value.Value.TheVariants.{Int}
-use Rattle.tags.specs.declared.token.Port.{Port}
-use Rattle.tags.specs.declared.token.Port.TheVariants.{Left, Right}
+use Rattle.tags.specs.declared.token.Port.TheVariants.{Left}
 use Rattle.tags.specs.declared.token.Word.{Word}
 use Rattle.tags.specs.declared.token.To.{To}
 use Rattle.tags.specs.declared.token.Token.{Token}
-use Rattle.operators.specs.declared.Binary.{Binary}
 use Rattle.semantics.specs.declared.program.Dest.{Dest}
-use Rattle.semantics.specs.declared.program.Op.{Op}
-use Rattle.semantics.specs.declared.program.Op.TheVariants.{Apply2, Apply2Right, Apply2Left, Lit}
-use Rattle.semantics.specs.Program.{Instr, CodeBlock, Program, instr_at}
-use Rattle.semantics.specs.Rule.{token, at_dest, to_each, to_all}
+use Rattle.semantics.specs.Program.{CodeBlock, Program}
+use Rattle.semantics.specs.Rule.{token, at_dest, to_each}
 use Rattle.semantics.specs.Plan.{Plan}
 use Rattle.lowering.proofs.Orders.{shuffled, Part, ◌⊕◌}
-use Rattle.folding.specs.Folds.{is_folded, is_closed}
-use Rattle.folding.specs.Places.{layout_of, folds_at, gone_at, new_place}
+use Rattle.folding.specs.Places.{layout_of, new_place}
 use Rattle.folding.specs.Moved.{moved_dest, moved_dests}
-use Rattle.folding.specs.Laws.{dests_of}
-use Rattle.folding.proofs.Pairs.{closed_one, closed_in, closed_uses, given, wanted_one, wanted, uses_in, pairs_match}
+use Rattle.folding.proofs.Pairs.{closed_one, closed_in, closed_uses, given, wanted_one, wanted}
 use Rattle.folding.proofs.Cases.{port_at, value_at}
-use Rattle.law_once.specs.Spreads.{ip_word, ip_token}
+use Rattle.law_once.specs.Spreads.{ip_word}
 use Rattle.law_fold.specs.Folds.{fires_lit, StandsBy, StandAllBy, stand_none, stand_more, Sends, Settles, settled, fired}
-use Rattle.law_fold.proofs.FoldRules.{map_join, settles_map, sends_grow, settles_perm, settles_beside, settles_then, settles_after}
+use Rattle.law_fold.proofs.FoldRules.{map_join, settles_map, sends_grow, settles_perm, settles_then, settles_after}
 
 module _ (kind : Word → Type 0) (P Q : Program) (g h : ℕ → ℕ) where
   -- ---- TWO LISTS
   pub stand_join : (xs ys us vs : List Token) → StandAllBy kind P Q g h xs us → StandAllBy kind P Q g h ys vs → StandAllBy kind P Q g h (xs ++ ys) (us ++ vs)
-  stand_join xs ys us vs (stand_none x2 u2 a b) k = subst (λ (l : List Token). StandAllBy kind P Q g h (l ++ ys) (us ++ vs)) (sym a) (subst (λ (l : List Token). StandAllBy kind P Q g h ys (l ++ vs)) (sym b) k)
-  stand_join xs ys us vs (stand_more x2 u2 t ts ws rest st more a b) k =
+  stand_join xs ys us vs (stand_none some others a b) k = subst (λ (l : List Token). StandAllBy kind P Q g h (l ++ ys) (us ++ vs)) (sym a) (subst (λ (l : List Token). StandAllBy kind P Q g h ys (l ++ vs)) (sym b) k)
+  stand_join xs ys us vs (stand_more some others t ts ws rest st more a b) k =
       stand_more (xs ++ ys) (us ++ vs) t (ts ++ ys) ws (rest ++ vs) st (stand_join ts ys rest vs more k) (ap (λ (l : List Token). l ++ ys) a) (ap (λ (l : List Token). l ++ vs) b ∙ append_assoc ws rest vs)
 
   pub stand_one : (t : Token) (us : List Token) → StandsBy kind P Q g h t us → StandAllBy kind P Q g h (t ∷ []) us
   stand_one t us st = stand_more (t ∷ []) us t [] us [] st (stand_none [] [] refl refl) refl (sym (append-nil us))
 
   pub settles_join : (R : ℕ → ℕ → Type 0) (xs ys us vs : List Token) → Settles R P xs us → Settles R P ys vs → Settles R P (xs ++ ys) (us ++ vs)
-  settles_join R xs ys us vs (settled x2 u2 e) k = settles_perm R P (xs ++ ys) (us ++ ys) (us ++ vs) (IsPermutation-append_left ys xs us e) (settles_after R P ys vs us k)
-  settles_join R xs ys us vs (fired x2 u2 f a w z i rest e at is more may) k =
+  settles_join R xs ys us vs (settled some others e) k = settles_perm R P (xs ++ ys) (us ++ ys) (us ++ vs) (IsPermutation-append_left ys xs us e) (settles_after R P ys vs us k)
+  settles_join R xs ys us vs (fired some others f a w z i rest e at is more may) k =
       fired (xs ++ ys) (us ++ vs) f a w z i (rest ++ ys) (IsPermutation-append_left ys xs (token (To.Instr f a Left) w ∷ rest) e) at is
       (subst (λ (l : List Token). Settles R P l (us ++ vs)) (append_assoc (fires_lit f a z i) rest ys) (settles_join R (fires_lit f a z i ++ rest) ys us vs more k)) may
 
@@ -75,14 +68,15 @@ module _ (kind : Word → Type 0) (P Q : Program) (g h : ℕ → ℕ) where
     pub none_made : (f n : ℕ) (w : Word) → Made f n w []
     none_made f n w = record { rest = []; meant = []; settles = settled [] [] (IsPermutation-refl []); stand = stand_none [] [] refl refl; perm = IsPermutation-refl [] }
 
-    both_made : (R : ℕ → ℕ → Type 0) (f n : ℕ) (w : Word) (ds es : List Dest) → (cs1 cs2 gs1 gs2 ws1 ws2 : List ℕ) (r1 r2 m1 m2 ns1 ns2 : List Token) → Settles R P (olds f n w ds) (operands f cs1 ++ (operands f gs1 ++ r1)) → Settles R P (olds f n w es) (operands f cs2 ++ (operands f gs2 ++ r2))
-        → Settles R P (olds f n w ds ++ olds f n w es) (operands f (cs1 ++ cs2) ++ (operands f (gs1 ++ gs2) ++ (r1 ++ r2)))
-    both_made R f n w ds es cs1 cs2 gs1 gs2 ws1 ws2 r1 r2 m1 m2 ns1 ns2 a b =
-        let C1 = operands f cs1 in let C2 = operands f cs2 in let G1 = operands f gs1 in let G2 = operands f gs2 in
-        let all = settles_join R (olds f n w ds) (olds f n w es) (C1 ++ (G1 ++ r1)) (C2 ++ (G2 ++ r2)) a b in
-        let e = shuffled (C1 ∷ G1 ∷ r1 ∷ C2 ∷ G2 ∷ r2 ∷ []) ((Part 0 ⊕ (Part 1 ⊕ Part 2)) ⊕ (Part 3 ⊕ (Part 4 ⊕ Part 5))) ((Part 0 ⊕ Part 3) ⊕ ((Part 1 ⊕ Part 4) ⊕ (Part 2 ⊕ Part 5))) refl in
-        subst (λ (l : List Token). Settles R P (olds f n w ds ++ olds f n w es) l) (λ k. sym (map_join (operand f) cs1 cs2) k ++ (sym (map_join (operand f) gs1 gs2) k ++ (r1 ++ r2)))
-        (settles_then R P (olds f n w ds ++ olds f n w es) ((C1 ++ (G1 ++ r1)) ++ (C2 ++ (G2 ++ r2))) ((C1 ++ C2) ++ ((G1 ++ G2) ++ (r1 ++ r2))) all e)
+    both_made : (R : ℕ → ℕ → Type 0) (f n : ℕ) (w : Word) (ds es : List Dest) → (closed_left closed_right given_left given_right : List ℕ) (rest_left rest_right : List Token)
+        → Settles R P (olds f n w ds) (operands f closed_left ++ (operands f given_left ++ rest_left)) → Settles R P (olds f n w es) (operands f closed_right ++ (operands f given_right ++ rest_right))
+        → Settles R P (olds f n w ds ++ olds f n w es) (operands f (closed_left ++ closed_right) ++ (operands f (given_left ++ given_right) ++ (rest_left ++ rest_right)))
+    both_made R f n w ds es closed_left closed_right given_left given_right rest_left rest_right a b =
+        let c = operands f closed_left in let d = operands f closed_right in let g = operands f given_left in let k = operands f given_right in
+        let all = settles_join R (olds f n w ds) (olds f n w es) (c ++ (g ++ rest_left)) (d ++ (k ++ rest_right)) a b in
+        let e = shuffled (c ∷ g ∷ rest_left ∷ d ∷ k ∷ rest_right ∷ []) ((Part 0 ⊕ (Part 1 ⊕ Part 2)) ⊕ (Part 3 ⊕ (Part 4 ⊕ Part 5))) ((Part 0 ⊕ Part 3) ⊕ ((Part 1 ⊕ Part 4) ⊕ (Part 2 ⊕ Part 5))) refl in
+        subst (λ (l : List Token). Settles R P (olds f n w ds ++ olds f n w es) l) (λ v. sym (map_join (operand f) closed_left closed_right) v ++ (sym (map_join (operand f) given_left given_right) v ++ (rest_left ++ rest_right)))
+        (settles_then R P (olds f n w ds ++ olds f n w es) ((c ++ (g ++ rest_left)) ++ (d ++ (k ++ rest_right))) ((c ++ d) ++ ((g ++ k) ++ (rest_left ++ rest_right))) all e)
 
     news_join : (f n : ℕ) (w : Word) (ds es : List Dest) → news f n w (ds ++ es) ≡ news f n w ds ++ news f n w es
     news_join f n w ds es =
@@ -106,27 +100,27 @@ module _ (kind : Word → Type 0) (P Q : Program) (g h : ℕ → ℕ) where
     -- one more destination
     pub more_made : (f n : ℕ) (w : Word) (d : Dest) (ds : List Dest) → Made f n w (d ∷ []) → Made f n w ds → Made f n w (d ∷ ds)
     more_made f n w d ds A B =
-        let c1 : closed_in p c n (d ∷ []) ≡ closed_one p c n d = append-nil (closed_one p c n d) in
-        let g1 : given p c n (d ∷ []) ≡ closed_uses p c (n + d.ahead) = append-nil (closed_uses p c (n + d.ahead)) in
-        let w1 : wanted p c n (d ∷ []) ≡ wanted_one p c n d = append-nil (wanted_one p c n d) in
-        let d1 : moved_dests (layout_of p c) n (d ∷ []) ≡ moved_dest (layout_of p c) n d = append-nil (moved_dest (layout_of p c) n d) in
+        let closed_head : closed_in p c n (d ∷ []) ≡ closed_one p c n d = append-nil (closed_one p c n d) in
+        let given_head : given p c n (d ∷ []) ≡ closed_uses p c (n + d.ahead) = append-nil (closed_uses p c (n + d.ahead)) in
+        let wanted_head : wanted p c n (d ∷ []) ≡ wanted_one p c n d = append-nil (wanted_one p c n d) in
+        let moved_head : moved_dests (layout_of p c) n (d ∷ []) ≡ moved_dest (layout_of p c) n d = append-nil (moved_dest (layout_of p c) n d) in
         let old : Settles (Will f n w (d ∷ ds)) P (olds f n w (d ∷ [])) (operands f (closed_one p c n d) ++ (operands f (closed_uses p c (n + d.ahead)) ++ A.rest)) =
-        subst (λ (l : List Token). Settles (Will f n w (d ∷ ds)) P (olds f n w (d ∷ [])) l) (λ k. operands f (c1 k) ++ (operands f (g1 k) ++ A.rest)) (with_more f n w (d ∷ []) ds (olds f n w (d ∷ [])) _ A.settles) in
+        subst (λ (l : List Token). Settles (Will f n w (d ∷ ds)) P (olds f n w (d ∷ [])) l) (λ k. operands f (closed_head k) ++ (operands f (given_head k) ++ A.rest)) (with_more f n w (d ∷ []) ds (olds f n w (d ∷ [])) _ A.settles) in
         let first_new : List Token = to_each record { frame = f; ip = E + place n } (ip_word h w) (moved_dest (layout_of p c) n d) in
-        let new : StandAllBy kind P Q g h first_new A.meant = subst (λ (l : List Dest). StandAllBy kind P Q g h (to_each record { frame = f; ip = E + place n } (ip_word h w) l) A.meant) d1 A.stand in
-        let W1 = operands f (wanted_one p c n d) in
-        let W2 = operands f (wanted p c n ds) in
-        let perm1 : IsPermutation A.meant (A.rest ++ W1) = subst (λ (l : List ℕ). IsPermutation A.meant (A.rest ++ operands f l)) w1 A.perm in
-        let perm2 : IsPermutation (A.meant ++ B.meant) ((A.rest ++ W1) ++ (B.rest ++ W2)) =
-        IsPermutation-trans _ _ _ (IsPermutation-append_left B.meant A.meant (A.rest ++ W1) perm1) (IsPermutation-append_right (A.rest ++ W1) B.meant (B.rest ++ W2) B.perm) in
-        let perm3 : IsPermutation ((A.rest ++ W1) ++ (B.rest ++ W2)) ((A.rest ++ B.rest) ++ (W1 ++ W2)) = shuffled (A.rest ∷ W1 ∷ B.rest ∷ W2 ∷ []) ((Part 0 ⊕ Part 1) ⊕ (Part 2 ⊕ Part 3)) ((Part 0 ⊕ Part 2) ⊕ (Part 1 ⊕ Part 3)) refl in
+        let new : StandAllBy kind P Q g h first_new A.meant = subst (λ (l : List Dest). StandAllBy kind P Q g h (to_each record { frame = f; ip = E + place n } (ip_word h w) l) A.meant) moved_head A.stand in
+        let wanted_here = operands f (wanted_one p c n d) in
+        let wanted_more = operands f (wanted p c n ds) in
+        let perm_here : IsPermutation A.meant (A.rest ++ wanted_here) = subst (λ (l : List ℕ). IsPermutation A.meant (A.rest ++ operands f l)) wanted_head A.perm in
+        let perm_both : IsPermutation (A.meant ++ B.meant) ((A.rest ++ wanted_here) ++ (B.rest ++ wanted_more)) =
+        IsPermutation-trans _ _ _ (IsPermutation-append_left B.meant A.meant (A.rest ++ wanted_here) perm_here) (IsPermutation-append_right (A.rest ++ wanted_here) B.meant (B.rest ++ wanted_more) B.perm) in
+        let perm_all : IsPermutation ((A.rest ++ wanted_here) ++ (B.rest ++ wanted_more)) ((A.rest ++ B.rest) ++ (wanted_here ++ wanted_more)) = shuffled (A.rest ∷ wanted_here ∷ B.rest ∷ wanted_more ∷ []) ((Part 0 ⊕ Part 1) ⊕ (Part 2 ⊕ Part 3)) ((Part 0 ⊕ Part 2) ⊕ (Part 1 ⊕ Part 3)) refl in
         record {
           rest = A.rest ++ B.rest;
           meant = A.meant ++ B.meant;
-          settles = both_made (Will f n w (d ∷ ds)) f n w (d ∷ []) ds (closed_one p c n d) (closed_in p c n ds) (closed_uses p c (n + d.ahead)) (given p c n ds) [] [] A.rest B.rest [] [] [] [] old (with_before f n w (d ∷ []) ds (olds f n w ds) _ B.settles);
+          settles = both_made (Will f n w (d ∷ ds)) f n w (d ∷ []) ds (closed_one p c n d) (closed_in p c n ds) (closed_uses p c (n + d.ahead)) (given p c n ds) A.rest B.rest old (with_before f n w (d ∷ []) ds (olds f n w ds) _ B.settles);
           stand = subst (λ (l : List Token). StandAllBy kind P Q g h l (A.meant ++ B.meant)) (sym (map_join (at_dest record { frame = f; ip = E + place n } (ip_word h w)) (moved_dest (layout_of p c) n d) (moved_dests (layout_of p c) n ds)))
               (stand_join first_new (news f n w ds) A.meant B.meant new B.stand);
-          perm = subst (λ (l : List Token). IsPermutation (A.meant ++ B.meant) ((A.rest ++ B.rest) ++ l)) (sym (map_join (operand f) (wanted_one p c n d) (wanted p c n ds))) (IsPermutation-trans _ _ _ perm2 perm3);
+          perm = subst (λ (l : List Token). IsPermutation (A.meant ++ B.meant) ((A.rest ++ B.rest) ++ l)) (sym (map_join (operand f) (wanted_one p c n d) (wanted p c n ds))) (IsPermutation-trans _ _ _ perm_both perm_all);
         }
 
     pub all_made : (f n : ℕ) (w : Word) (ds : List Dest) → ((k : ℕ) (d : Dest) → slice_get ds k ≡ Some d → Made f n w (d ∷ [])) → Made f n w ds
@@ -143,28 +137,28 @@ module _ (kind : Word → Type 0) (P Q : Program) (g h : ℕ → ℕ) where
 
     pub whole_made : (f n : ℕ) (w : Word) (ds : List Dest) → IsPermutation (given p c n ds) (wanted p c n ds) → Made f n w ds → Whole f n w ds
     whole_made f n w ds same M =
-        let C = operands f (closed_in p c n ds) in
-        let G = operands f (given p c n ds) in
-        let W = operands f (wanted p c n ds) in
-        let e1 : IsPermutation (G ++ M.rest) (W ++ M.rest) = IsPermutation-append_left M.rest G W (IsPermutation-map (operand f) (given p c n ds) (wanted p c n ds) same) in
-        let e2 : IsPermutation (W ++ M.rest) (M.rest ++ W) = shuffled (W ∷ M.rest ∷ []) (Part 0 ⊕ Part 1) (Part 1 ⊕ Part 0) refl in
-        let e3 : IsPermutation (G ++ M.rest) M.meant = IsPermutation-trans _ _ _ e1 (IsPermutation-trans _ _ _ e2 (IsPermutation-sym _ _ M.perm)) in
-        record { meant = M.meant; settles = settles_then (Will f n w ds) P (olds f n w ds) (C ++ (G ++ M.rest)) (C ++ M.meant) M.settles (IsPermutation-append_right C (G ++ M.rest) M.meant e3); stand = M.stand; gets = λ x inside. Contains-permutation _ _ _ (IsPermutation-sym _ _ M.perm) (Contains-append_right M.rest W (operand f x) (contains_map (operand f) (wanted p c n ds) x inside)) }
+        let closed_ones = operands f (closed_in p c n ds) in
+        let given_ones = operands f (given p c n ds) in
+        let wanted_ones = operands f (wanted p c n ds) in
+        let swap : IsPermutation (given_ones ++ M.rest) (wanted_ones ++ M.rest) = IsPermutation-append_left M.rest given_ones wanted_ones (IsPermutation-map (operand f) (given p c n ds) (wanted p c n ds) same) in
+        let turn : IsPermutation (wanted_ones ++ M.rest) (M.rest ++ wanted_ones) = shuffled (wanted_ones ∷ M.rest ∷ []) (Part 0 ⊕ Part 1) (Part 1 ⊕ Part 0) refl in
+        let same_tokens : IsPermutation (given_ones ++ M.rest) M.meant = IsPermutation-trans _ _ _ swap (IsPermutation-trans _ _ _ turn (IsPermutation-sym _ _ M.perm)) in
+        record { meant = M.meant; settles = settles_then (Will f n w ds) P (olds f n w ds) (closed_ones ++ (given_ones ++ M.rest)) (closed_ones ++ M.meant) M.settles (IsPermutation-append_right closed_ones (given_ones ++ M.rest) M.meant same_tokens); stand = M.stand; gets = λ x inside. Contains-permutation _ _ _ (IsPermutation-sym _ _ M.perm) (Contains-append_right M.rest wanted_ones (operand f x) (contains_map (operand f) (wanted p c n ds) x inside)) }
 
     -- both lists
     pub whole_both : (f n : ℕ) (w : Word) (ds es : List Dest) → Whole f n w ds → Whole f n w es → Whole f n w (ds ++ es)
     whole_both f n w ds es A B =
-        let C1 = operands f (closed_in p c n ds) in
-        let C2 = operands f (closed_in p c n es) in
-        let all = settles_join (Will f n w (ds ++ es)) (olds f n w ds) (olds f n w es) (C1 ++ A.meant) (C2 ++ B.meant) (with_more f n w ds es (olds f n w ds) (C1 ++ A.meant) A.settles) (with_before f n w ds es (olds f n w es) (C2 ++ B.meant) B.settles) in
-        let e = shuffled (C1 ∷ A.meant ∷ C2 ∷ B.meant ∷ []) ((Part 0 ⊕ Part 1) ⊕ (Part 2 ⊕ Part 3)) ((Part 0 ⊕ Part 2) ⊕ (Part 1 ⊕ Part 3)) refl in
+        let closed_left = operands f (closed_in p c n ds) in
+        let closed_right = operands f (closed_in p c n es) in
+        let all = settles_join (Will f n w (ds ++ es)) (olds f n w ds) (olds f n w es) (closed_left ++ A.meant) (closed_right ++ B.meant) (with_more f n w ds es (olds f n w ds) (closed_left ++ A.meant) A.settles) (with_before f n w ds es (olds f n w es) (closed_right ++ B.meant) B.settles) in
+        let e = shuffled (closed_left ∷ A.meant ∷ closed_right ∷ B.meant ∷ []) ((Part 0 ⊕ Part 1) ⊕ (Part 2 ⊕ Part 3)) ((Part 0 ⊕ Part 2) ⊕ (Part 1 ⊕ Part 3)) refl in
         let joins : closed_in p c n (ds ++ es) ≡ closed_in p c n ds ++ closed_in p c n es = flat_map-append (closed_one p c n) ds es in
         let moves : moved_dests (layout_of p c) n (ds ++ es) ≡ moved_dests (layout_of p c) n ds ++ moved_dests (layout_of p c) n es = flat_map-append (moved_dest (layout_of p c) n) ds es in
         record {
           meant = A.meant ++ B.meant;
           settles = subst (λ (l : List Token). Settles (Will f n w (ds ++ es)) P l (operands f (closed_in p c n (ds ++ es)) ++ (A.meant ++ B.meant))) (sym (map_join (at_dest record { frame = f; ip = F + n } w) ds es))
               (subst (λ (l : List Token). Settles (Will f n w (ds ++ es)) P (olds f n w ds ++ olds f n w es) (l ++ (A.meant ++ B.meant))) (sym (ap (map (operand f)) joins ∙ map_join (operand f) (closed_in p c n ds) (closed_in p c n es)))
-              (settles_then (Will f n w (ds ++ es)) P (olds f n w ds ++ olds f n w es) ((C1 ++ A.meant) ++ (C2 ++ B.meant)) ((C1 ++ C2) ++ (A.meant ++ B.meant)) all e));
+              (settles_then (Will f n w (ds ++ es)) P (olds f n w ds ++ olds f n w es) ((closed_left ++ A.meant) ++ (closed_right ++ B.meant)) ((closed_left ++ closed_right) ++ (A.meant ++ B.meant)) all e));
           stand = subst (λ (l : List Token). StandAllBy kind P Q g h l (A.meant ++ B.meant))
               (sym (ap (λ (l : List Dest). to_each record { frame = f; ip = E + place n } (ip_word h w) l) moves
               ∙ map_join (at_dest record { frame = f; ip = E + place n } (ip_word h w)) (moved_dests (layout_of p c) n ds) (moved_dests (layout_of p c) n es)))

@@ -4,13 +4,16 @@ pub mod Words
 pub mod FoldFires
 pub mod FoldParts
 pub mod FoldPast
+pub mod FoldMeet
 pub mod FoldCounts
 pub mod FoldSteps
 pub mod FoldFrom
 pub mod FoldBacks
 pub mod FoldArcs
+pub mod FoldCame
 pub mod FoldUses
 pub mod FoldHas
+pub mod FoldTold
 pub mod FoldSim
 pub mod FoldNext
 pub mod FoldRuns
@@ -18,6 +21,7 @@ pub mod FoldSeen
 pub mod FoldMatching
 pub mod FoldOrder
 pub mod FoldAgree
+pub mod FoldCaused
 pub mod FoldLands
 pub mod FoldBounds
 pub mod Closed

@@ -1,5 +1,5 @@
 -- The code of a folded plan is that of the plan in which some literals are in the code of operators.
-use Rattle.std.proofs.Common.{◌≡◌, refl, sym, ap, ◌∙◌, subst, ℕ, ℤ, zero, suc, ◌+◌, ◌-◌, ◌<◌, ◌≤◌, ◌⊎◌, inl, inr, Bool, true, false, true≢false, List, [], ◌∷◌, ◌++◌, length, Option, Some, None, Contains, if◌then◌else◌, arith}
+use Rattle.std.proofs.Common.{◌≡◌, refl, sym, ap, ◌∙◌, subst, ℕ, ℤ, ◌+◌, ◌<◌, ◌≤◌, ◌⊎◌, inl, inr, Bool, true, false, true≢false, List, [], ◌∷◌, ◌++◌, length, Option, Some, None, Contains, arith}
 use Rattle.std.specs.Prelude.{slice_get, ⊤}
 use Rattle.std.specs.Option.{option_map}
 use Rattle.std.proofs.lemmas.Option.{slice_get_within, slice_get-map}
@@ -14,18 +14,17 @@ use Rattle.tags.specs.declared.token.Word.{Word}
 use Rattle.operators.specs.declared.Binary.{Binary}
 use Rattle.semantics.specs.declared.program.Dest.{Dest}
 use Rattle.semantics.specs.declared.program.Op.{Op}
-use Rattle.semantics.specs.declared.program.Op.TheVariants.{Apply2, Apply2Right, Apply2Left, Lit, Switch, Fetch, Store, Frame, Ask, Link, Send}
+use Rattle.semantics.specs.declared.program.Op.TheVariants.{Apply2, Lit, Fetch, Store, Frame, Ask, Link, Send}
 use Rattle.semantics.specs.Program.{Instr, CodeBlock, Program, first_of, instr_at}
-use Rattle.semantics.specs.Machine.{results_in, outputs_of}
-use Rattle.semantics.specs.Plan.{Plan, HasShape, landing}
-use Rattle.semantics.specs.Orderly.{eq_port, inputs_in, inputs_of}
+use Rattle.semantics.specs.Machine.{results_in}
+use Rattle.semantics.specs.Plan.{Plan, HasShape}
+use Rattle.semantics.specs.Orderly.{eq_port, inputs_in}
 use Rattle.code.specs.Sound.{NamesRightly, IsSound}
 use Rattle.reuse.proofs.Stands.{some_same, Found, found}
 use Rattle.reuse.proofs.Members.{contains_head, contains_none, contains_map}
 use Rattle.std.proofs.lemmas.List.Sorted.{Contains-permutation}
-use Rattle.folding.specs.Folds.{is_folded, new_op, new_port}
-use Rattle.folding.specs.Places.{layout_of, folds_at, gone_at, new_place}
-use Rattle.folding.specs.Moved.{moved_dest, moved_dests, new_dest}
+use Rattle.folding.specs.Places.{layout_of, new_place}
+use Rattle.folding.specs.Moved.{moved_dests, new_dest}
 use Rattle.folding.specs.Laws.{dests_of, other_port}
 use Rattle.folding.proofs.Standing.{keeps_order}
 use Rattle.folding.proofs.Taken.{get_there, keeps_entries}
@@ -33,20 +32,20 @@ use Rattle.folding.proofs.Landing.{keeps_landings}
 use Rattle.folding.proofs.Sole.{keeps_sole}
 use Rattle.folding.proofs.SoundLists.{get_contains}
 use Rattle.folding.proofs.Pairs.{closed_in, closed_uses, uses_in, given, wanted, pairs_match}
-use Rattle.folding.proofs.Cases.{port_at, value_at, KeptAt, FoldedAt, FoldCase, is_kept, is_right, is_left, fold_cases}
+use Rattle.folding.proofs.Cases.{port_at, value_at, FoldedAt, FoldCase, is_kept, is_right, is_left, fold_cases}
 use Rattle.folding.proofs.Plain.{PlainAt, entry_plain, landing_plain, sole_plain}
 use Rattle.law_once.specs.Spreads.{ip_word, is_answered}
 use Rattle.law_once.specs.Alike.{HasLanding}
-use Rattle.law_fold.specs.Folds.{Plain, IsValue, Sends, Settles, Clumped, Pairs, Ready, Leads, Enters, IsMoved, IsPair, Folds}
+use Rattle.law_fold.specs.Folds.{Plain, IsValue, Sends, Settles, Clumped, Pairs, Ready, Leads, Enters, IsMoved, IsPair}
 use Rattle.law_fold.specs.Kept.{slotted, kept_block, kept_slots, KeptSlotsFolds}
 use Rattle.law_fold.proofs.FoldRules.{map_join, settles_map, settles_then}
-use Rattle.law_fold.proofs.Leading.{operands, olds, Whole}
+use Rattle.law_fold.proofs.Leading.{operands, Whole}
 use Rattle.law_fold.proofs.Closed.{lit_or}
 use Rattle.law_fold.proofs.Uses.{Wants, wanted_of}
 use Rattle.law_fold.proofs.Targets.{open_leads}
 use Rattle.law_fold.proofs.Readies.{two_out, settles_keeps, ready_join}
 use Rattle.law_fold.proofs.Numbering.{plain_at, place_ip, word_ip, plain_ip, plain_is}
-use Rattle.law_fold.proofs.Static.{new_block, spares, inside, ahead, there_old, there_new, g_at, h_at}
+use Rattle.law_fold.proofs.Static.{spares, inside, ahead, there_old, there_new, g_at, h_at}
 use Rattle.law_fold.proofs.Spots.{stays, kept_of, plain_of, not_plain, plain_at_h, plain_there, plain_here, fresh_at, plain_only, plain_holders, plain_apart, pairs_apart, later}
 
 both_none : (xs ys : List ℕ) → xs ++ ys ≡ [] → (xs ≡ []) × (ys ≡ [])

@@ -1,7 +1,7 @@
 -- The numbers of instructions in the folded plan.
-use Rattle.std.proofs.Common.{◌≡◌, refl, sym, ap, ◌∙◌, subst, ℕ, zero, suc, ◌+◌, ◌-◌, ◌<◌, ◌≤◌, Bool, true, false, List, [], ◌∷◌, length, Option, Some, None, if◌then◌else◌, arith, zero-add, nat_lt, lt-ltb, le-ltb}
+use Rattle.std.proofs.Common.{◌≡◌, refl, sym, ap, ◌∙◌, ℕ, zero, suc, ◌+◌, ◌-◌, ◌<◌, Bool, true, false, List, [], ◌∷◌, length, Some, None, if◌then◌else◌, arith, zero-add, nat_lt, lt-ltb, le-ltb}
 use Rattle.std.specs.Prelude.{slice_get, ◌&&◌, not}
-use Rattle.semantics.specs.Program.{Instr, CodeBlock, instr_from}
+use Rattle.semantics.specs.Program.{CodeBlock, instr_from}
 use Rattle.semantics.specs.Plan.{Plan}
 use Rattle.reuse.proofs.Stands.{first_in, first_next}
 use Rattle.folding.specs.Folds.{is_folded}

@@ -1,5 +1,5 @@
 -- What comes of two lists of destinations is what comes of each; and an operator keeps the word that it takes.
-use Rattle.std.proofs.Common.{◌≡◌, refl, sym, ap, ◌∙◌, subst, ℕ, ℤ, zero, suc, ◌+◌, ◌⊎◌, inl, inr, List, [], ◌∷◌, ◌++◌, Option, Some, None, Contains, IsPermutation}
+use Rattle.std.proofs.Common.{◌≡◌, refl, sym, subst, ℕ, ℤ, ◌⊎◌, inl, inr, List, [], ◌∷◌, ◌++◌, Some, Contains, IsPermutation}
 use Rattle.std.proofs.lemmas.List.Elements.{Contains-append_left, Contains-append_right}
 use Rattle.std.specs.Prelude.{⊤}
 use Rattle.std.proofs.lemmas.List.Sorted.{Contains-permutation, IsPermutation-refl, IsPermutation-trans, IsPermutation-cons}
@@ -11,7 +11,7 @@ use Rattle.semantics.specs.declared.program.Op.TheVariants.{Lit}
 use Rattle.semantics.specs.Program.{Instr, Program, instr_at}
 use Rattle.semantics.specs.Rule.{token}
 use Rattle.lowering.proofs.Orders.{shuffled, Part, ◌⊕◌}
-use Rattle.reuse.proofs.Members.{contains_head, contains_tail, contains_cases, contains_none}
+use Rattle.reuse.proofs.Members.{contains_cases, contains_none}
 use Rattle.law_fold.specs.Folds.{fires_lit, IsValue, Sends, Settles, settled, fired, Clumped, Pairs, Ready}
 use Rattle.law_fold.proofs.FoldRules.{settles_map, sends_grow, settles_then, settles_beside, settles_after}
 use Rattle.law_fold.proofs.Leading.{stand_join, settles_join}

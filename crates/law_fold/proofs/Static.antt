@@ -1,17 +1,13 @@
 -- A block of a sound plan, folded: where its instructions stood, and where they stand.
-use Rattle.std.proofs.Common.{◌≡◌, refl, sym, ap, ◌∙◌, subst, ℕ, ℤ, zero, suc, ◌+◌, ◌<◌, ◌≤◌, Bool, true, false, true≢false, List, [], ◌∷◌, ◌++◌, length, Option, Some, None, Contains, if◌then◌else◌, arith}
+use Rattle.std.proofs.Common.{◌≡◌, sym, ap, ◌∙◌, ℕ, ◌+◌, ◌<◌, Bool, true, false, List, [], ◌++◌, length, Some, Contains, if◌then◌else◌}
 use Rattle.std.specs.Prelude.{slice_get, ◌&&◌, not}
 use Rattle.std.specs.Option.{option_map}
 use Rattle.std.proofs.lemmas.List.Elements.{Contains-append_left, Contains-append_right}
 use Rattle.std.proofs.lemmas.Option.{slice_get_within, slice_get-map, get_or_from_slice_get}
-use Rattle.tags.specs.declared.token.Port.TheVariants.{Right}
-use Rattle.tags.specs.declared.token.Word.{Word}
 use Rattle.semantics.specs.declared.program.Dest.{Dest}
-use Rattle.semantics.specs.declared.program.Op.TheVariants.{Lit}
 use Rattle.semantics.specs.Program.{Instr, CodeBlock, Program, first_of, instr_at}
 use Rattle.semantics.specs.Bytes as Bytes
 use Rattle.semantics.specs.Plan.{Plan}
-use Rattle.semantics.specs.Wired.{is_dyadic}
 use Rattle.code.specs.Sound.{IsSound, IsSoundDest}
 use Rattle.reuse.proofs.Stands.{instr_in}
 use Rattle.folding.specs.Folds.{is_folded}
@@ -21,7 +17,7 @@ use Rattle.folding.proofs.Standing.{stands_at}
 use Rattle.folding.proofs.SoundDests.{dyadic_is}
 use Rattle.folding.proofs.Pairs.{closed_uses}
 use Rattle.law_fold.specs.Kept.{slotted, kept_block, kept_blocks, kept_slots}
-use Rattle.law_fold.proofs.Numbering.{is_nil, plain_at, place_ip, word_ip, new_ip, plain_ip, end_of, ip_at, plain_is}
+use Rattle.law_fold.proofs.Numbering.{is_nil, place_ip, word_ip, new_ip, plain_ip, end_of, ip_at, plain_is}
 
 module _ (p : Plan) (s : IsSound p) (b : ℕ) (c : CodeBlock) (at_b : slice_get p.program.blocks b ≡ Some c) where
   abbrev P : Program

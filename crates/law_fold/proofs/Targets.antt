@@ -1,6 +1,6 @@
 -- What one destination makes, in the old code and in the new one.
-use Rattle.std.proofs.Common.{◌≡◌, refl, sym, ap, ◌∙◌, subst, ℕ, ℤ, zero, suc, ◌+◌, ◌-◌, ◌<◌, ◌≤◌, ◌⊎◌, inl, inr, Bool, true, false, true≢false, ◌||◌, List, [], ◌∷◌, ◌++◌, map, length, Option, Some, None, Contains, IsPermutation, append_assoc, append-nil, if◌then◌else◌, arith}
-use Rattle.std.specs.Prelude.{slice_get, flat_map, ◌&&◌, not}
+use Rattle.std.proofs.Common.{◌≡◌, refl, sym, ap, ◌∙◌, subst, ℕ, ℤ, zero, suc, ◌+◌, ◌-◌, ◌<◌, ◌≤◌, ◌⊎◌, inl, inr, Bool, true, false, true≢false, ◌||◌, List, [], ◌∷◌, ◌++◌, length, Option, Some, None, Contains, IsPermutation, append-nil, if◌then◌else◌, arith}
+use Rattle.std.specs.Prelude.{slice_get, ◌&&◌, not}
 use Rattle.std.proofs.lemmas.Option.{slice_get_within}
 use Rattle.std.proofs.lemmas.List.Concat.{flat_map-append}
 use Rattle.std.proofs.lemmas.List.Sorted.{IsPermutation-refl}
@@ -11,23 +11,22 @@ use Rattle.tags.specs.declared.token.Word.{Word}
 use Rattle.tags.specs.declared.token.To.{To}
 use Rattle.tags.specs.declared.token.Token.{Token}
 use Rattle.semantics.specs.declared.program.Dest.{Dest}
-use Rattle.semantics.specs.declared.program.Op.{Op}
-use Rattle.semantics.specs.declared.program.Op.TheVariants.{Apply2, Apply2Right, Apply2Left, Lit}
+use Rattle.semantics.specs.declared.program.Op.TheVariants.{Apply2, Lit}
 use Rattle.semantics.specs.Program.{Instr, CodeBlock, Program, instr_at}
-use Rattle.semantics.specs.Rule.{token, at_dest, to_each, to_all}
+use Rattle.semantics.specs.Rule.{token, at_dest, to_each}
 use Rattle.semantics.specs.Plan.{Plan}
 use Rattle.semantics.specs.Orderly.{eq_port}
 use Rattle.semantics.specs.Wired.{is_dyadic}
 use Rattle.folding.specs.Folds.{is_folded, is_closed, new_port, new_op}
 use Rattle.folding.specs.Places.{layout_of, folds_at, gone_at, new_place}
-use Rattle.folding.specs.Moved.{is_shut, dest_at, new_dest, moved_dest, moved_dests}
-use Rattle.folding.specs.Laws.{dests_of, SparesLiterals, IsLeftOut}
+use Rattle.folding.specs.Moved.{new_dest, moved_dest, moved_dests}
+use Rattle.folding.specs.Laws.{dests_of, SparesLiterals}
 use Rattle.folding.proofs.Standing.{keeps_order}
 use Rattle.folding.proofs.Taken.{leaves_out, get_there}
 use Rattle.folding.proofs.Pairs.{closed_one, closed_in, closed_uses, given, wanted_one, wanted, uses_in, pairs_match}
-use Rattle.folding.proofs.Cases.{port_at, value_at, KeptAt, FoldedAt, RightAt, LeftAt, FoldCase, is_kept, is_right, is_left, fold_cases, closed_by}
+use Rattle.folding.proofs.Cases.{value_at, KeptAt, FoldedAt, RightAt, LeftAt, FoldCase, is_kept, is_right, is_left, fold_cases, closed_by}
 use Rattle.law_once.specs.Spreads.{ip_word, ip_token}
-use Rattle.law_fold.specs.Folds.{fires_lit, Plain, Fresh, Node, top, next, Pend, Sends, StandsBy, moved, lit, right, left, StandAllBy, stand_none, Settles, settled, fired}
+use Rattle.law_fold.specs.Folds.{fires_lit, Plain, Fresh, top, Sends, StandsBy, moved, lit, right, left, StandAllBy, stand_none, Settles, settled, fired}
 use Rattle.law_fold.specs.Kept.{slotted}
 use Rattle.law_fold.proofs.FoldRules.{settles_map, sends_with, lit_nodes}
 use Rattle.law_fold.proofs.Spots.{plain_of, kept_of}
@@ -39,8 +38,8 @@ use Rattle.std.proofs.lemmas.List.Elements.{Contains-append_left, Contains-appen
 use Rattle.law_fold.proofs.Closed.{lit_or, any_shut, gone_some, gone_silent}
 use Rattle.law_fold.proofs.Uses.{given_has, moved_has, lit_some}
 use Rattle.law_fold.proofs.Numbering.{is_nil, plain_at}
-use Rattle.reuse.proofs.Members.{contains_head, contains_none}
-use Rattle.law_fold.proofs.Leading.{stand_one, operand, operands, olds, news, Made, all_made, Whole, whole_made, whole_both}
+use Rattle.reuse.proofs.Members.{contains_head}
+use Rattle.law_fold.proofs.Leading.{stand_one, operand, operands, news, Made, all_made, Whole, whole_made, whole_both}
 
 module _ (kind : Word → Type 0) (of_value : (z : ℤ) → kind (Word.Val (Int z))) (P Q : Program) (g h : ℕ → ℕ) (p : Plan) (c : CodeBlock) (F E : ℕ) (spares : SparesLiterals c)
     (inside : (n k : ℕ) (i : Instr) (s : Bool) (d : Dest) → slice_get c.instrs n ≡ Some i → slice_get (dests_of i s) k ≡ Some d → n + d.ahead < length c.instrs)

@@ -1,5 +1,5 @@
 -- What a list of destinations gives and wants, one by one; and that a literal that stays still sends.
-use Rattle.std.proofs.Common.{◌≡◌, refl, sym, ap, ◌∙◌, subst, ℕ, ℤ, zero, suc, ◌+◌, ◌<◌, ◌≤◌, ◌⊎◌, inl, inr, Bool, true, false, true≢false, ◌||◌, List, [], ◌∷◌, ◌++◌, length, Option, Some, None, Contains, IsPermutation, if◌then◌else◌, arith}
+use Rattle.std.proofs.Common.{◌≡◌, refl, sym, ap, ◌∙◌, subst, ℕ, ℤ, zero, suc, ◌+◌, ◌<◌, ◌⊎◌, inl, inr, Bool, true, false, true≢false, ◌||◌, List, [], ◌∷◌, ◌++◌, length, Option, Some, Contains, if◌then◌else◌}
 use Rattle.std.specs.Prelude.{slice_get, ◌&&◌, not}
 use Rattle.std.proofs.lemmas.List.Concat.{flat_map-append}
 use Rattle.std.proofs.lemmas.List.Elements.{Contains-append_left, Contains-append_right, Contains-append_cases}
@@ -8,14 +8,14 @@ use Rattle.semantics.specs.declared.program.Dest.{Dest}
 use Rattle.semantics.specs.declared.program.Op.TheVariants.{Lit}
 use Rattle.semantics.specs.Program.{Instr, CodeBlock}
 use Rattle.semantics.specs.Plan.{Plan}
-use Rattle.reuse.proofs.Members.{contains_head, contains_tail, contains_cases, contains_none}
+use Rattle.reuse.proofs.Members.{contains_head, contains_cases, contains_none}
 use Rattle.folding.specs.Folds.{is_folded, is_closed}
 use Rattle.folding.specs.Places.{layout_of, folds_at, gone_at}
 use Rattle.folding.specs.Moved.{is_shut, new_dest, moved_dest, moved_dests}
 use Rattle.folding.specs.Laws.{dests_of, SparesLiterals}
 use Rattle.folding.proofs.Taken.{get_there, leaves_out}
 use Rattle.folding.proofs.Pairs.{closed_one, closed_in, closed_uses, given, wanted_one, wanted, uses_in, pairs_match}
-use Rattle.folding.proofs.Cases.{KeptAt, FoldedAt, FoldCase, is_kept, is_right, is_left, fold_cases}
+use Rattle.folding.proofs.Cases.{FoldCase, is_kept, is_right, is_left, fold_cases}
 use Rattle.folding.proofs.Plain.{kept_open}
 use Rattle.law_fold.proofs.Closed.{gone_some, closed_or}
 

@@ -1,7 +1,6 @@
 -- Each continuation that a run of the old code carries names an instruction that stands for itself.
-use Rattle.std.proofs.Common.{◌≡◌, refl, sym, ap, ◌∙◌, subst, ℕ, zero, suc, ◌+◌, ◌*◌, ◌⊎◌, inl, inr, Bool, true, false, ℤ, List, [], ◌∷◌, ◌++◌, map, Option, Some, None, IsPermutation, Contains}
+use Rattle.std.proofs.Common.{◌≡◌, refl, sym, ap, subst, ℕ, zero, suc, ◌+◌, ◌⊎◌, inl, inr, Bool, true, false, ℤ, List, [], ◌∷◌, ◌++◌, Option, Some, None, Contains}
 use Rattle.std.specs.Prelude.{if◌then◌else◌, nat_lt, ◌==◌, take, ⊤}
-use Rattle.std.proofs.lemmas.List.Elements.{Contains-append_cases}
 use Rattle.std.proofs.lemmas.List.Sorted.{Contains-permutation, IsPermutation-sym}
 use Rattle.tags.specs.declared.value.Value.{Value}
 use Rattle.tags.specs.declared.value.Value.TheVariants.{Int}
@@ -14,14 +13,14 @@ use Rattle.tags.specs.declared.token.Token.{Token}
 use Rattle.tags.specs.declared.slot.SlotState.{SlotState}
 use Rattle.tags.specs.declared.slot.SlotState.TheVariants as Slot
 use Rattle.tags.specs.declared.slot.SlotState.TheVariants.{Empty, Credits, Waiter, Draining}
-use Rattle.operators.specs.Values.{truth, Indexed, Place, Outside, index_in}
+use Rattle.operators.specs.Values.{truth, Indexed, Place, Outside}
 use Rattle.semantics.specs.declared.program.Dest.{Dest}
 use Rattle.semantics.specs.declared.program.Op.{Op}
 use Rattle.semantics.specs.declared.program.Op.TheVariants.{Apply1, Apply2, Apply2Right, Apply2Left, Lit, Copy, Sync, Switch, Fetch, Store, Frame, Link, Send, Return, Ask, Open, Take, Give, Drain, Release}
 use Rattle.semantics.specs.Program.{Instr, Program, first_of, instr_at}
-use Rattle.semantics.specs.Rule.{token, signal, Seat, at_dest, to_each, to_all, beyond, back_to, answer_to, landing_at, Outcome, Becomes, Excluded, fires, array_len, asks_for, puts, fire_one, fire_two, meets, signal_to, opens, takes, gives, drains, alone, on_left, outcome_of, rule_at, slot_of}
-use Rattle.semantics.specs.Machine.{CellState, Vacant, Full, Deferred, Machine, Store as MStore, Size, Event, Events, Run, input_tokens, at_start, answer, answers, put_at, with_slot, with_slot_in, with_cell, slot_in, slot_used, outputs_of, Fires, Fetches, Stores, Requests, Releases, Hosts, Happens}
-use Rattle.reuse.proofs.Members.{contains_head, contains_tail, contains_cases, contains_none, contains_mapped}
+use Rattle.semantics.specs.Rule.{token, signal, Seat, at_dest, to_each, to_all, beyond, back_to, answer_to, landing_at, Outcome, Becomes, Excluded, fires, asks_for, puts, fire_one, fire_two, meets, opens, takes, gives, drains, alone, on_left, outcome_of, rule_at, slot_of}
+use Rattle.semantics.specs.Machine.{CellState, Vacant, Full, Deferred, Store as MStore, input_tokens, at_start, answer, answers, put_at, with_slot_in, with_cell, slot_in, slot_used, Fires, Fetches, Stores, Happens}
+use Rattle.reuse.proofs.Members.{contains_tail, contains_cases, contains_none}
 use Rattle.law_once.specs.Spreads.{is_answered}
 use Rattle.law_fold.specs.Folds.{Plain, Fits}
 use Rattle.law_fold.proofs.FoldRules.{FitsWord, FitsSlot}

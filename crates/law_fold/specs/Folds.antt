@@ -1,6 +1,6 @@
 -- When the code of a plan is that of another one in which some literals are in the code of operators: its instructions in
 -- other places and with the slots that they had, without some destinations.
-use Rattle.std.specs.Prelude.{◌≡◌, ℕ, ◌+◌, ◌<◌, ◌≤◌, ℤ, true, ◌⊎◌, List, [], ◌∷◌, ◌++◌, map, flat_map, Option, Some, None, Contains, IsPermutation, ⊤}
+use Rattle.std.specs.Prelude.{◌≡◌, ℕ, ◌+◌, ◌<◌, ◌≤◌, ℤ, true, ◌⊎◌, List, [], ◌∷◌, ◌++◌, Some, None, Contains, IsPermutation, ⊤}
 use Rattle.tags.specs.declared.value.Value.{Value}
 use Rattle.tags.specs.declared.token.Port.{Port}
 use Rattle.semantics.specs.declared.program.Op.{Op}

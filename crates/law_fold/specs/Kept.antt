@@ -1,17 +1,10 @@
 -- The folded plan before its holders are numbered again: each instruction has the slot that it had.
-use Rattle.std.specs.Prelude.{◌≡◌, ℕ, ℤ, false, List, map, Contains}
-use Rattle.tags.specs.declared.token.Port.{Port}
-use Rattle.tags.specs.declared.token.Word.{Word}
-use Rattle.tags.specs.declared.token.To.{To}
-use Rattle.semantics.specs.Rule.{token}
-use Rattle.semantics.specs.Machine.{Machine, Size, Events, Run, at_start}
-use Rattle.semantics.specs.Handed.{UsesEachOnce}
-use Rattle.semantics.specs.Arcs.{UsesArc, SomeEvent}
+use Rattle.std.specs.Prelude.{ℕ, List, map}
 use Rattle.reuse.specs.Bounds.{PlanKeepsBounds}
 use Rattle.semantics.specs.Program.{Instr, CodeBlock}
 use Rattle.semantics.specs.Graph.{Flow}
 use Rattle.semantics.specs.Plan.{Plan}
-use Rattle.semantics.specs.Orderly.{Orderly, IsStart, is_entry}
+use Rattle.semantics.specs.Orderly.{Orderly}
 use Rattle.reuse.specs.Theorem.{TakesInputs}
 use Rattle.code.specs.Sound.{IsSound}
 use Rattle.folding.specs.Folds.{new_op}
@@ -19,7 +12,7 @@ use Rattle.folding.specs.Places.{Layout, layout_of, folds_at}
 use Rattle.folding.specs.Moved.{moved_dests}
 use Rattle.folding.specs.Folded.{left_from, all_marks}
 use Rattle.law_once.specs.Once.{FaithfulOnce}
-use Rattle.law_once.specs.Alike.{RunsAlike, LandsRightly, IsTidy, Keeps, PassKeeps}
+use Rattle.law_once.specs.Alike.{RunsAlike, LandsRightly, IsTidy, PassKeeps}
 use Rattle.law_fold.specs.Folds.{Folds}
 
 abbrev pub slotted : Layout → ℕ → Instr → Instr
@@ -62,15 +55,10 @@ KeptSlotsLands = (p : Plan) → IsSound p → Orderly p → LandsRightly p → L
 abbrev pub KeptSlotsKeepBounds : Type 0
 KeptSlotsKeepBounds = (p : Plan) → IsSound p → IsTidy p → Orderly p → LandsRightly p → PlanKeepsBounds p → PlanKeepsBounds (kept_slots p)
 
--- a token of the pool comes by an arc
-abbrev pub IsCaused : Plan → Type 0
-IsCaused p = (inputs : List ℤ) (z : Size) (events : Events) (m : Machine) → IsStart p z inputs → (run : Run p.program z (at_start p.program inputs) events m) → UsesEachOnce p.program z inputs events m run
-    → (f ip : ℕ) (r : Port) (w : Word) → is_entry p.program.blocks ip ≡ false → Contains m.pool (token (To.Instr f ip r) w) → SomeEvent (UsesArc p f ip r) p.program z (at_start p.program inputs) events m run
-
 -- order
 abbrev pub KeptSlotsOrderly : Type 0
-KeptSlotsOrderly = (p : Plan) → IsSound p → IsTidy p → Orderly p → LandsRightly p → IsCaused (kept_slots p) → Orderly (kept_slots p)
+KeptSlotsOrderly = (p : Plan) → IsSound p → IsTidy p → Orderly p → LandsRightly p → Orderly (kept_slots p)
 
--- all but the causes
-abbrev pub KeptSlotsKeepIfCaused : Type 0
-KeptSlotsKeepIfCaused = (p : Plan) → IsSound p → Orderly p → LandsRightly p → IsTidy p → IsCaused (kept_slots p) → Keeps p (kept_slots p)
+-- all
+abbrev pub KeptSlotsKeep : Type 0
+KeptSlotsKeep = PassKeeps kept_slots

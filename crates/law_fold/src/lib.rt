@@ -2,7 +2,7 @@
 #![tactic(auto)]
 
 ghost use Rattle.law_fold.specs.Folds.{FoldsRunAlike};
-ghost use Rattle.law_fold.specs.Kept.{KeptSlotsFolds, KeptSlotsRunsAlike, KeptSlotsFaithful, KeptSlotsTidy, KeptSlotsLands, KeptSlotsKeepBounds, KeptSlotsOrderly, KeptSlotsKeepIfCaused};
+ghost use Rattle.law_fold.specs.Kept.{KeptSlotsFolds, KeptSlotsRunsAlike, KeptSlotsFaithful, KeptSlotsTidy, KeptSlotsLands, KeptSlotsKeepBounds, KeptSlotsOrderly, KeptSlotsKeep};
 
 /// The runs of a plan with literals in the code of operators are those of the plan, up to the events of literals.
 pub fn folded_runs_are_alike()
@@ -14,5 +14,5 @@ pub fn folded_runs_are_alike()
     ensures kept_lands { KeptSlotsLands }
     ensures kept_bounds { KeptSlotsKeepBounds }
     ensures kept_orderly { KeptSlotsOrderly }
-    ensures kept_keeps { KeptSlotsKeepIfCaused }
+    ensures kept_keeps { KeptSlotsKeep }
 {}

@@ -29,12 +29,12 @@ use Rattle.law_moves.specs.Cases.{Taking, net_of, Followed, Halts, is_still}
 use Rattle.law_moves.proofs.Lists.{contains_one}
 use Rattle.law_moves.proofs.Still.{still_renews, still_steady}
 use Rattle.law_moves.proofs.Halts.{halts_follow}
-use Rattle.law_moves.proofs.Goes.{goes_follow}
 use Rattle.law_moves.proofs.Fitted.{fits, code, bare, bare_item, taken_here, instr_held, lone_port, plain_way, is_plain_way}
 use Rattle.law_moves.proofs.Rules.{at, instr, stood, happens, grants, releases, free_of, dyadic_grants}
 use Rattle.law_moves.proofs.Pairs as Pairs
 use Rattle.law_moves.proofs.Pairs.{Second, pair_cases, dyadic}
-use Rattle.law_moves.proofs.Sends.{firing_of, Wire, stays_with, stays_same, sends_goes}
+use Rattle.law_moves.proofs.Sends.{firing_of, Wire, stays_with, stays_same}
+use Rattle.law_moves.proofs.Leaving.{sends_follow}
 
 -- WHAT IS TAKEN
 own_still : (fl : Flow) (f : Firing) (r : Part) → is_still r ≡ true → own_takes fl f r ≡ both_items fl f.context r f.way f.left f.right
@@ -134,7 +134,7 @@ module _ {stage : ℕ} (s : Taking stage) (still : is_still s.i.inlet.part ≡ t
     pub one_follows : (op : Op) → op_of s.w.variant (site_in s.fl s.w c) r ≡ op → plain_dests (instr s is) op ≡ (instr s is).firsts ++ (instr s is).seconds → grants op ≡ false → releases op ≡ false
         → answered_at r ≡ [] → is_switch r ≡ false → (k : Note) → (named_by k ≡ None) ⊎ (s.i.word ≡ k) → makes s.fl s.w (firing_of s s.i.inlet.way s.i.word signal) ≡ each c k (Wire s is false)
         → (s.event.made ≡ to_all (at s is) (W k) (instr s is)) × (s.new.store ≡ s.m.store) → Followed s
-    one_follows op e plain g rel none single k from makes_is did = goes_follow stage s f (sends_goes s is f still (record {
+    one_follows op e plain g rel none single k from makes_is did = sends_follow s is f still (record {
       before = [];
       kept = [];
       later = net.waiting;
@@ -154,7 +154,7 @@ module _ {stage : ℕ} (s : Taking stage) (still : is_still s.i.inlet.part ≡ t
       stays = stays_same s did.1;
       free = free_of s is (ap grants op_is ∙ g) (ap releases op_is ∙ rel);
       no_give = λ n h. true≢false (sym (ap grants h) ∙ ap grants op_is ∙ g);
-    }))
+    })
       where
         f : Firing
         f = firing_of s s.i.inlet.way s.i.word signal
@@ -181,7 +181,7 @@ module _ {stage : ℕ} (s : Taking stage) (still : is_still s.i.inlet.part ≡ t
         → (second : Bool) (k : Note) → (named_by k ≡ None) ⊎ (sec.left ≡ k) → makes s.fl s.w (firing_of s 0 sec.left sec.right) ≡ each c k (Wire s is second)
         → (ds : List Dest) → ((d : Dest) → Contains ds d → Contains ((instr s is).firsts ++ (instr s is).seconds) d) → IsPermutation (map (leads_to ((wiring_in s.fl s.w c).place r)) ds) (map (stands_at (wiring_in s.fl s.w c)) (Wire s is second))
         → (s.event.made ≡ to_each (at s is) (W k) ds) × (s.new.store ≡ with_slot s.m.store (frame_of s.fl net.fired c) (slot_of s.fl s.w s.i) Empty) → Followed s
-    two_follow sec op e plain_op rel second k from makes_is ds within leads did = goes_follow stage s f (sends_goes s is f still (record {
+    two_follow sec op e plain_op rel second k from makes_is ds within leads did = sends_follow s is f still (record {
       before = sec.before;
       kept = sec.j ∷ [];
       later = sec.later;
@@ -201,7 +201,7 @@ module _ {stage : ℕ} (s : Taking stage) (still : is_still s.i.inlet.part ≡ t
       stays = stays_with s (frame_of s.fl net.fired c) (slot_of s.fl s.w s.i) Empty did.1;
       free = free_of s is grants_none (ap releases op_is ∙ rel);
       no_give = λ n h. true≢false (sym (ap grants h) ∙ grants_none);
-    }))
+    })
       where
         f : Firing
         f = firing_of s 0 sec.left sec.right

@@ -37,7 +37,7 @@ none_at_all : {X : Type 0} (xs : List X) → length xs ≡ 0 → xs ≡ []
 none_at_all [] e = refl
 none_at_all (x ∷ xs) e = absurd (omega (arith, e))
 
-one_image : {X Y : Type 0} (g : X → Y) (y : Y) (xs : List X) → IsPermutation (y ∷ []) (map g xs) → (x : X) × (xs ≡ x ∷ []) × (y ≡ g x)
+pub one_image : {X Y : Type 0} (g : X → Y) (y : Y) (xs : List X) → IsPermutation (y ∷ []) (map g xs) → (x : X) × (xs ≡ x ∷ []) × (y ≡ g x)
 one_image g y [] p = let n = length_permutation _ _ p in absurd (omega (arith, n))
 one_image g y (x ∷ []) p = (x, refl, contains_one y (g x) (Contains-permutation _ _ (g x) (IsPermutation-sym _ _ p) (contains_head (g x) [])))
 one_image g y (x ∷ z ∷ zs) p = let n = length_permutation _ _ p in absurd (omega (arith, n))

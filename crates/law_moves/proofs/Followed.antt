@@ -121,6 +121,7 @@ module _ {stage : ℕ} (s : Taking stage) (d : Config) (all : Moved s d) where
     no_other = λ g h l. let z = all.free.granted g h in let k = s.keeps.follows.no_other g h (omega (arith, l, z)) in (k.0, k.1, k.2, k.3, v.frames k.0 ∙ k.4, k.5);
     released = λ c n g h l e.
         let k = s.keeps.follows.released c n g h l (was c g e) in let z = all.free.released g (ip_of s.fl s.p s.w c (Landing n 0)) in let o = count_came s d v (is_item_at c (Giver n)) (calm_item c (Giver n) refl) in omega (arith, k, z, o);
+    none_released = λ g base l. let z = all.free.released g base in let k = s.keeps.follows.none_released g base (omega (arith, l, z)) in (k.0, v.frames k.0 ∙ k.1);
   }
     where
       caused : (j : Item) → Contains d.pending j → (is_instr j.inlet.part ≡ true) → (is_entry_part (block_in s.fl j.context) j.inlet.part ≡ false)

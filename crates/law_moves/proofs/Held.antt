@@ -9,6 +9,7 @@ use Rattle.semantics.specs.Rule.{token}
 use Rattle.semantics.specs.Graph.{Flow}
 use Rattle.semantics.specs.Meaning.{Context}
 use Rattle.semantics.specs.Machine.{answer}
+use Rattle.law_contexts.proofs.Words.{carries_of}
 use Rattle.law_contexts.specs.Parts.{Part, Line, Held, Datum, BackTo, signal, Item, item, each, Firing, Drainer, Giver, Taker}
 use Rattle.law_contexts.specs.Blocks.{side, is_cell}
 use Rattle.law_contexts.specs.Contexts.{Wires, block_in, wiring_in, IsContext}
@@ -54,7 +55,7 @@ module _ {stage : ℕ} (s : Taking stage) (j : Item) (h : IsHere s j) (n : ℕ) 
 
   pub word_is : j.word ≡ BackTo j.context ans.inlet
   word_is =
-      let k = carried s j h in
+      let k = carries_of s.fl s.w j (carried s j h) in
       let r : j.word ≡ back_from j.context ((wiring_in s.fl s.w j.context).wire (side (Line n) false)) =
       subst (λ (r : Part). Carries s.fl s.w j.context j.inlet.way (comes_at r j.inlet.port) j.word) e k in
       r ∙ ap (back_from j.context) ans.wire

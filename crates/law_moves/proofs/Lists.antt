@@ -1,5 +1,5 @@
 -- Lists of which some elements are left out, counted, or told apart by a test.
-use Rattle.std.proofs.Common.{◌≡◌, ◌+◌, Bool, true, false, ◌&&◌, cond, List, [], ◌∷◌, ◌++◌, refl, sym, ap, ◌∙◌, subst, inl, inr, ◌⊎◌, arith, true≢false, if◌then◌else◌}
+use Rattle.std.proofs.Common.{◌≡◌, ◌+◌, Bool, true, false, ◌&&◌, cond, List, [], ◌∷◌, ◌++◌, length, refl, sym, ap, ◌∙◌, subst, inl, inr, ◌⊎◌, arith, true≢false, if◌then◌else◌}
 use Rattle.std.specs.Prelude.{IsPermutation, Contains, flat_map, count_by}
 use Rattle.std.proofs.lemmas.List.Sums.{sum_by-cons}
 use Rattle.std.proofs.lemmas.List.Concat.{flat_map-append}
@@ -79,6 +79,15 @@ module _ {X : Type 0} (test : X → Bool) where
 
   pub count_but : (before kept after : List X) → ((x : X) → Contains kept x → test x ≡ false) → count_by test (before ++ (kept ++ after)) ≡ count_by test (before ++ after)
   count_but before kept after h = let a = count_append before (kept ++ after) in let b = count_append kept after in let c = count_append before after in let n = count_none kept h in omega (arith, a, b, c, n)
+
+-- how many pass
+pub count_kept : {X : Type 0} (test : X → Bool) (xs : List X) → count_by test xs ≡ length (kept_by test xs)
+count_kept test [] = refl
+count_kept test (x ∷ xs) = go (test x) refl (count_kept test xs)
+  where
+    go : (t : Bool) → test x ≡ t → count_by test xs ≡ length (kept_by test xs) → count_by test (x ∷ xs) ≡ length (kept_by test (x ∷ xs))
+    go true e k = let a = count_yes test x xs e in let b = ap length (kept_yes test x xs e) in omega (arith, a, b, k)
+    go false e k = count_no test x xs e ∙ k ∙ sym (ap length (kept_no test x xs e))
 
 module _ {X : Type 0} where
   -- an element of a list has others before it and after it

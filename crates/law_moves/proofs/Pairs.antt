@@ -1,202 +1,43 @@
--- Where two words meet: the first one waits, and the second one finds it.
-use Rattle.std.proofs.Common.{◌≡◌, ℕ, true, List, [], ◌∷◌, ◌++◌, refl, sym, ap, ◌∙◌, subst, inl, inr, ◌⊎◌, Some}
-use Rattle.std.specs.Prelude.{IsPermutation, Contains}
-use Rattle.std.proofs.lemmas.List.Elements.{Contains-append_right}
-use Rattle.std.proofs.lemmas.List.Sorted.{IsPermutation-sym, IsPermutation-middle, Contains-permutation}
-use Rattle.tags.specs.declared.token.Port.{Port}
+-- Where two words meet at a part each of whose ways is 0.
+use Rattle.std.proofs.Common.{◌≡◌, ℕ, true, ap, ◌∙◌, sym, ◌⊎◌}
 use Rattle.tags.specs.declared.token.Port.TheVariants.{Left, Right}
-use Rattle.tags.specs.declared.token.Word.{Word}
-use Rattle.tags.specs.declared.slot.SlotState.{SlotState}
-use Rattle.tags.specs.declared.slot.SlotState.TheVariants.{Empty}
-use Rattle.semantics.specs.Rule.{fires, fire_two, meets}
-use Rattle.semantics.specs.Machine.{Fires, with_slot}
 use Rattle.semantics.specs.Wired.{is_dyadic}
-use Rattle.semantics.specs.Credits.{released_by}
-use Rattle.semantics.specs.declared.program.Op.{Op}
-use Rattle.semantics.specs.declared.program.Op.TheVariants as Ops
-use Rattle.lowering.proofs.NetSlots.{InSlots, AtSlot, slots_drop}
-use Rattle.lowering.proofs.Orders.{at_first, at_last, shuffled, Part as Piece, ◌⊕◌, flat_map-IsPermutation, IsPermutation-same}
-use Rattle.lowering.proofs.Members.{contains_head, contains_tail, contains_cases}
-use Rattle.law_contexts.specs.Parts.{inlet, Note, Item, item}
-use Rattle.law_contexts.specs.Contexts.{block_in, site_in}
-use Rattle.law_contexts.specs.Firings.{Config}
-use Rattle.law_contexts.specs.Stands.{is_instr, frame_of, word_of, on_side, in_slot, slot_of, only, Stands}
-use Rattle.law_moves.specs.Cases.{Taking, net_of, IsFree, Halts}
-use Rattle.law_moves.proofs.Lists.{kept_in, kept_out, kept_yes, taken_out, contains_one}
-use Rattle.law_moves.proofs.Spots.{one_waits}
-use Rattle.law_moves.proofs.Fitted.{IsHere, fits, bare, bare_item, one_part, no_base, waiting_here, taken_here, pair_instr, instr_held, plain_way, is_plain_way}
-use Rattle.law_moves.proofs.Rules.{at, instr, stood, word, happens_pair, pair_dyadic, dyadic_grants, free_from}
-
--- what lies in a slot tells its side
-side_same : (q p : Port) (k l : Word) → on_side q k ≡ on_side p l → q ≡ p
-side_same Left Left k l e = refl
-side_same Right Right k l e = refl
-side_same Left Right k l e = absurd (cc)
-side_same Right Left k l e = absurd (cc)
+use Rattle.law_contexts.specs.Parts.{inlet, Item, item}
+use Rattle.law_contexts.specs.Contexts.{block_in}
+use Rattle.law_contexts.specs.Stands.{is_instr, in_slot}
+use Rattle.law_moves.specs.Cases.{Taking, Halts}
+use Rattle.law_moves.proofs.Fitted.{IsHere, fits, pair_instr, plain_way, is_plain_way}
+use Rattle.law_moves.proofs.Rules.{instr}
+use Rattle.law_moves.proofs.Meeting as Meeting
+use Rattle.law_moves.proofs.Meeting.{Ways, Both, both_cases}
 
 module _ {stage : ℕ} (s : Taking stage) (two : in_slot s.fl s.i ≡ true) (plain : is_plain_way s.i.inlet.part ≡ true) where
-  abbrev net : Config
-  net = net_of s
+  no_way : (x : Item) → IsHere s x → x.inlet.part ≡ s.i.inlet.part → x.inlet.way ≡ 0
+  no_way x h e = plain_way s.fl x.context x.inlet.part x.inlet.port x.inlet.way (ap is_plain_way e ∙ plain) (fits s x h).way
 
-  abbrev old : Stands s.fl s.p s.w s.m net
-  old = s.keeps.follows.stands
+  pub no_ways : Ways s 0
+  no_ways = record {
+    on_left = λ x h a e l. no_way x h e;
+    on_right = λ x y h k a b e g l r. no_way y k g;
+    one_way = λ x y h k a b e g l. no_way x h e ∙ sym (no_way y k g);
+  }
 
   abbrev pub is : is_instr s.i.inlet.part ≡ true
   is = pair_instr (block_in s.fl s.i.context) s.i.inlet.part two
 
-  abbrev F : Item → ℕ
-  F i = frame_of s.fl net.fired i.context
-
-  abbrev H : Item → SlotState
-  H i = on_side i.inlet.port (word_of s.fl s.p s.w net.fired i.word)
-
-  abbrev W : Note → Word
-  W n = word_of s.fl s.p s.w net.fired n
-
-  abbrev slot : ℕ
-  slot = slot_of s.fl s.w s.i
-
   pub dyadic : is_dyadic (instr s is).op ≡ true
-  dyadic = ap is_dyadic (stood s is).is.op ∙ pair_dyadic s.w.variant (site_in s.fl s.w s.i.context) s.i.inlet.part two
+  dyadic = Meeting.dyadic s two 0 no_ways
 
-  abbrev Met : SlotState → Port → Type 0
-  Met x q = Fires s.m.store (F s.i) (Some slot) (meets s.p.program (at s is) (instr s is) x q (word s is)) s.event.made s.new.store
-
-  met : Met (s.m.store.slots (F s.i) slot) s.i.inlet.port
-  met = subst (λ n. Fires s.m.store (F s.i) (Some n) (meets s.p.program (at s is) (instr s is) (s.m.store.slots (F s.i) n) s.i.inlet.port (word s is)) s.event.made s.new.store) (stood s is).is.slot (happens_pair s is dyadic)
-
-  -- THE SECOND WORD: item j waited for it
-  pub record Second : Type 0 where
-    pub j : Item
-    pub before : List Item
-    pub later : List Item
-    pub waiting : net.waiting ≡ before ++ (j ∷ later)
-    pub paired : in_slot s.fl j ≡ true
-    pub left : Note
-    pub right : Note
-    pub took : IsPermutation (s.i ∷ j ∷ []) (item s.i.context (inlet s.i.inlet.part Left 0) left ∷ item s.i.context (inlet s.i.inlet.part Right 0) right ∷ [])
-    pub left_from : (a : Item) × Contains (s.i ∷ j ∷ []) a × (a.word ≡ left)
-    pub right_from : (a : Item) × Contains (s.i ∷ j ∷ []) a × (a.word ≡ right)
-    pub fired : Fires s.m.store (F s.i) (Some slot) (fires Empty (fire_two s.p.program (at s is) (instr s is) (instr s is).op (W left) (W right))) s.event.made s.new.store
-    pub slots : InSlots F (slot_of s.fl s.w) H old.base (only (in_slot s.fl) (before ++ later)) (with_slot s.m.store (F s.i) slot Empty).slots
-
-  into_empty : (q : Port) → Met Empty q → (s.event.made ≡ []) × (s.new.store ≡ with_slot s.m.store (F s.i) slot (on_side q (word s is)))
-  into_empty Left m = m
-  into_empty Right m = m
-
-  module _ (j : Item) (inside : Contains net.waiting j) (paired : in_slot s.fl j ≡ true) (same_frame : F j ≡ F s.i) (same_slot : slot_of s.fl s.w j ≡ slot) where
-    abbrev same : (j.context ≡ s.i.context) × (j.inlet.part ≡ s.i.inlet.part)
-    same = one_part s j s.i (waiting_here s j inside) (taken_here s) paired two same_frame same_slot
-
-    no_way : (x : Item) → (IsHere s x) → x.inlet.part ≡ s.i.inlet.part → x.inlet.way ≡ 0
-    no_way x h e = plain_way s.fl x.context x.inlet.part x.inlet.port x.inlet.way (ap is_plain_way e ∙ plain) (fits s x h).way
-
-    holds : s.m.store.slots (F s.i) slot ≡ H j
-    holds = sym (λ t. s.m.store.slots (same_frame t) (same_slot t)) ∙ old.slots.waits j (kept_in (in_slot s.fl) net.waiting j inside paired)
-
-    mine_is : (q : Port) → s.i.inlet.port ≡ q → s.i ≡ item s.i.context (inlet s.i.inlet.part q 0) s.i.word
-    mine_is q e = bare_item s.i (bare s s.i (taken_here s) (instr_held s.i.inlet.part is)) s.i.inlet.part q 0 refl e (no_way s.i (taken_here s) refl)
-
-    its_is : (q : Port) → j.inlet.port ≡ q → j ≡ item s.i.context (inlet s.i.inlet.part q 0) j.word
-    its_is q e = bare_item j (bare s j (waiting_here s j inside) (instr_held j.inlet.part (pair_instr (block_in s.fl j.context) j.inlet.part paired))) s.i.inlet.part q 0 same.1 e (no_way j (waiting_here s j inside) same.1)
-        ∙ ap (λ c. item c (inlet s.i.inlet.part q 0) j.word) same.0
-
-    module _ (before later : List Item) (split : net.waiting ≡ before ++ (j ∷ later)) where
-      still_waits : (x : Item) → Contains (before ++ later) x → Contains net.waiting x
-      still_waits x c = subst (λ l. Contains l x) (sym split) (Contains-permutation _ _ x (IsPermutation-sym _ _ (IsPermutation-middle before j later)) (contains_tail j (before ++ later) x c))
-
-      apart : (x : Item) → Contains (only (in_slot s.fl) (before ++ later)) x → F j ≡ F x → slot_of s.fl s.w j ≡ slot_of s.fl s.w x → ⊥
-      apart x c e d =
-          let k = kept_out (in_slot s.fl) (before ++ later) x c in
-          let h = still_waits x k.0 in
-          let o = one_part s j x (waiting_here s j inside) (waiting_here s x h) paired k.1 e d in
-          let a = old.slots.waits j (kept_in (in_slot s.fl) net.waiting j inside paired) in
-          let b = old.slots.waits x (kept_in (in_slot s.fl) net.waiting x h k.1) in
-          let port = side_same j.inlet.port x.inlet.port _ _ (sym a ∙ (λ t. s.m.store.slots (e t) (d t)) ∙ b) in
-          let way : j.inlet.way ≡ x.inlet.way = no_way j (waiting_here s j inside) same.1 ∙ sym (no_way x (waiting_here s x h) (sym o.1 ∙ same.1)) in
-          one_waits s.fl s.w s.inputs net s.keeps.sound before later j split x k.0 (sym (λ t. record { context = o.0 t; inlet = record { part = o.1 t; port = port t; way = way t } }))
-
-      left_over : InSlots F (slot_of s.fl s.w) H old.base (only (in_slot s.fl) (before ++ later)) (with_slot s.m.store (F s.i) slot Empty).slots
-      left_over =
-          let perm : IsPermutation (only (in_slot s.fl) net.waiting) (j ∷ only (in_slot s.fl) (before ++ later)) =
-          at_first (ap (only (in_slot s.fl)) split) (at_last (flat_map-IsPermutation _ _ _ (IsPermutation-middle before j later)) (kept_yes (in_slot s.fl) j (before ++ later) paired)) in
-          let none : old.base (F j) (slot_of s.fl s.w j) ≡ Empty = no_base s j (waiting_here s j inside) paired in
-          let k = slots_drop F (slot_of s.fl s.w) H old.base j (only (in_slot s.fl) net.waiting) (only (in_slot s.fl) (before ++ later)) perm apart none s.m.store old.slots in
-          subst (λ n. InSlots F (slot_of s.fl s.w) H old.base (only (in_slot s.fl) (before ++ later)) (with_slot s.m.store (F s.i) n Empty).slots) same_slot
-          (subst (λ n. InSlots F (slot_of s.fl s.w) H old.base (only (in_slot s.fl) (before ++ later)) (with_slot s.m.store n (slot_of s.fl s.w j) Empty).slots) same_frame k)
-
-      partner : (q p : Port) → s.i.inlet.port ≡ q → j.inlet.port ≡ p → Met (on_side p (W j.word)) q → Second
-      partner Left Left a b m = absurd m
-      partner Right Right a b m = absurd m
-      partner Left Right a b m = record {
-        j = j;
-        before = before;
-        later = later;
-        waiting = split;
-        paired = paired;
-        left = s.i.word;
-        right = j.word;
-        took = IsPermutation-same _ _ (λ t. mine_is Left a t ∷ its_is Right b t ∷ []);
-        left_from = (s.i, contains_head s.i (j ∷ []), refl);
-        right_from = (j, contains_tail s.i (j ∷ []) j (contains_head j []), refl);
-        fired = m;
-        slots = left_over;
-      }
-      partner Right Left a b m = record {
-        j = j;
-        before = before;
-        later = later;
-        waiting = split;
-        paired = paired;
-        left = j.word;
-        right = s.i.word;
-        took = at_first (λ t. mine_is Right a t ∷ its_is Left b t ∷ [])
-            (shuffled ((item s.i.context (inlet s.i.inlet.part Right 0) s.i.word ∷ []) ∷ (item s.i.context (inlet s.i.inlet.part Left 0) j.word ∷ []) ∷ []) (Piece 0 ⊕ Piece 1) (Piece 1 ⊕ Piece 0) refl);
-        left_from = (j, contains_tail s.i (j ∷ []) j (contains_head j []), refl);
-        right_from = (s.i, contains_head s.i (j ∷ []), refl);
-        fired = m;
-        slots = left_over;
-      }
-
-  -- nothing made: no turn released
-  pub idle_free : s.event.made ≡ [] → IsFree s
-  idle_free e = free_from s is (dyadic_grants (instr s is).op dyadic) (λ f base. subst (λ l. released_by (instr s is).op f base l ≡ 0) (sym e) (none (instr s is).op f base))
-    where
-      none : (op : Op) (f base : ℕ) → released_by op f base [] ≡ 0
-      none (Ops.Release o) f base = refl
-      none op f base = refl
+  -- THE SECOND WORD
+  abbrev pub Second : Type 0
+  Second = Both s two 0 no_ways
 
   -- THE FIRST WORD, OR THE SECOND. A first one waits whatever the operation
   pub pair_cases : Halts s ⊎ Second
-  pair_cases = pick (old.slots.empty (F s.i) slot)
-    where
-      pick : (s.m.store.slots (F s.i) slot ≡ old.base (F s.i) slot) ⊎ AtSlot F (slot_of s.fl s.w) H old.base (only (in_slot s.fl) net.waiting) (F s.i) slot → Halts s ⊎ Second
-      pick (inl e) =
-          let none = e ∙ no_base s s.i (taken_here s) two in
-          let m = into_empty s.i.inlet.port (subst (λ x. Met x s.i.inlet.port) none met) in
-          inl (record { slot = two; none = m.0; empty = none; store = m.1; free = idle_free m.0 })
-      pick (inr (j, c, f, q)) =
-          let k = kept_out (in_slot s.fl) net.waiting j c in
-          let o = taken_out net.waiting j k.0 in
-          inr (partner j k.0 k.1 f q o.0 o.1 o.2 s.i.inlet.port j.inlet.port refl refl (subst (λ x. Met x s.i.inlet.port) (holds j k.0 k.1 f q) met))
+  pair_cases = both_cases s two 0 no_ways
 
-  -- both words were there
-  module _ (sec : Second) where
-    among_both : (a : Item) → Contains (s.i ∷ sec.j ∷ []) a → IsHere s a
-    among_both a c = pick (contains_cases s.i (sec.j ∷ []) a c)
-      where
-        pick : (s.i ≡ a) ⊎ Contains (sec.j ∷ []) a → IsHere s a
-        pick (inl e) = subst (IsHere s) e (taken_here s)
-        pick (inr d) = subst (IsHere s) (contains_one sec.j a d) (waiting_here s sec.j (subst (λ l. Contains l sec.j) (sym sec.waiting) (Contains-append_right sec.before (sec.j ∷ sec.later) sec.j (contains_head sec.j sec.later))))
+  pub left_here : (sec : Second) → IsHere s (item s.i.context (inlet s.i.inlet.part Left 0) sec.left)
+  left_here sec = Meeting.left_here s two 0 no_ways sec
 
-    abbrev left_one : Item
-    left_one = item s.i.context (inlet s.i.inlet.part Left 0) sec.left
-
-    abbrev right_one : Item
-    right_one = item s.i.context (inlet s.i.inlet.part Right 0) sec.right
-
-    pub left_here : IsHere s (item s.i.context (inlet s.i.inlet.part Left 0) sec.left)
-    left_here = among_both left_one (Contains-permutation _ _ left_one (IsPermutation-sym _ _ sec.took) (contains_head left_one (right_one ∷ [])))
-
-    pub right_here : IsHere s (item s.i.context (inlet s.i.inlet.part Right 0) sec.right)
-    right_here = among_both right_one (Contains-permutation _ _ right_one (IsPermutation-sym _ _ sec.took) (contains_tail left_one (right_one ∷ []) right_one (contains_head right_one [])))
+  pub right_here : (sec : Second) → IsHere s (item s.i.context (inlet s.i.inlet.part Right 0) sec.right)
+  right_here sec = Meeting.right_here s two 0 no_ways sec

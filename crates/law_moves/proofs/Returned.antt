@@ -1,37 +1,27 @@
 -- The results of a call go to where it was made.
-use Rattle.std.proofs.Common.{◌≡◌, ℕ, ◌+◌, ◌<◌, Bool, true, false, ◌&&◌, ◌||◌, [], ◌∷◌, ◌++◌, length, refl, sym, ap, ◌∙◌, subst, inr, arith, true≢false, Option, Some, None, nat_lt, lt-ltb, ltb-true}
-use Rattle.std.specs.Prelude.{Contains, slice_get}
+use Rattle.std.proofs.Common.{◌≡◌, ℕ, ◌+◌, ◌<◌, Bool, true, false, ◌&&◌, ◌||◌, [], ◌∷◌, length, refl, sym, ap, ◌∙◌, subst, arith, true≢false, Option, Some, None, nat_lt, lt-ltb, ltb-true}
+use Rattle.std.specs.Prelude.{slice_get}
 use Rattle.std.proofs.lemmas.Option.{slice_get_within}
-use Rattle.tags.specs.declared.value.Value.{Value}
 use Rattle.tags.specs.declared.token.Port.TheVariants.{Left}
-use Rattle.tags.specs.declared.token.Word.{Word}
-use Rattle.tags.specs.declared.token.To.{To}
-use Rattle.tags.specs.declared.slot.SlotState.TheVariants.{Empty}
 use Rattle.semantics.specs.declared.graph.Kind.{Kind}
 use Rattle.semantics.specs.declared.graph.Kind.TheVariants as Kinds
-use Rattle.semantics.specs.declared.program.Op.TheVariants as Ops
 use Rattle.semantics.specs.Graph.{Node, Block, Flow, node_at}
 use Rattle.semantics.specs.Meaning.{Context, Called, callee, callee_of, callee_in, block_of, block_numbered}
 use Rattle.semantics.specs.Plan.{Plan, landing, landing_in}
-use Rattle.semantics.specs.Rule.{token, fires, fire_two}
-use Rattle.semantics.specs.Machine.{Fires}
-use Rattle.law_contexts.specs.Parts.{Result, Landing, inlet, Note, Datum, FrameOf, BackTo, ToHost, Item, item}
+use Rattle.law_contexts.specs.Parts.{Result, Landing, inlet, Item, item}
 use Rattle.law_contexts.specs.Blocks.{is_loop, call_kind, result_count, kind_results, outputs_in, callee_code, code_called, there_in}
 use Rattle.law_contexts.specs.Contexts.{Wires, block_in, site_in, wiring_in, or_none, IsContext, HasBlock}
-use Rattle.law_contexts.specs.Firings.{Config, frame_at}
-use Rattle.law_contexts.specs.Stands.{frame_of, ip_of, word_of, slot_of, is_instr, named_by, row_of, WasUsed}
+use Rattle.law_contexts.specs.Stands.{row_of}
 use Rattle.law_contexts.specs.Theorem.{IsGood}
-use Rattle.law_moves.specs.Cases.{Taking, IsCaused, net_of, Followed, is_quiet}
+use Rattle.law_moves.specs.Cases.{Taking, Followed}
 use Rattle.law_moves.proofs.Lists.{contains_one}
 use Rattle.law_moves.proofs.Sites.{coded}
-use Rattle.law_moves.proofs.Fitted.{fits, there, among, taken_here}
-use Rattle.law_moves.proofs.Rules.{at, instr, stood, dyadic_grants, free_of, releases}
-use Rattle.law_moves.proofs.Pairs as Pairs
-use Rattle.law_moves.proofs.Pairs.{Second, dyadic, left_here}
-use Rattle.law_moves.proofs.Along.{both, all_lead, pair_follows}
-use Rattle.law_moves.proofs.Inwards.{told_at, carried, has_block}
-use Rattle.law_moves.proofs.Results.{beside_follows}
-use Rattle.law_once.specs.Alike.{plain_dests}
+use Rattle.law_moves.proofs.Fitted.{fits, there, taken_here}
+use Rattle.law_moves.proofs.Rules.{at}
+use Rattle.law_moves.proofs.Inwards.{told_at, has_block}
+use Rattle.law_moves.proofs.Moved.{is_credit}
+use Rattle.law_moves.proofs.Passed.{calm_books}
+use Rattle.law_moves.proofs.Returning.{back, returns_follow}
 
 -- THE BLOCK THAT A CALL RUNS
 pub record Callee (fl : Flow) (p : Plan) (w : Wires) (d : Context) (n : ℕ) : Type 0 where
@@ -91,20 +81,11 @@ module _ {stage : ℕ} (s : Taking stage) (d : Context) (n j : ℕ) (in_call : s
   abbrev l : Taking stage
   l = told_at s (Called d n) (Result j) in_call e
 
-  abbrev net : Config
-  net = net_of s
-
-  abbrev is_result : is_instr (Result j) ≡ true
-  is_result = Pairs.is l refl refl
-
-  abbrev W : Note → Word
-  W k = word_of s.fl s.p s.w net.fired k
-
   context : IsContext s.fl (Called d n)
   context = (fits l l.i (taken_here l)).is_context
 
   within : j < (block_in s.fl (Called d n)).outputs
-  within = ltb-true j (block_in s.fl (Called d n)).outputs (there l l.i (taken_here l) is_result)
+  within = ltb-true j (block_in s.fl (Called d n)).outputs (there l l.i (taken_here l) refl)
 
   lands : there_in s.fl (site_in s.fl s.w d) (wiring_in s.fl s.w d) (Landing n j) ≡ true
   lands =
@@ -112,52 +93,18 @@ module _ {stage : ℕ} (s : Taking stage) (d : Context) (n j : ℕ) (in_call : s
       let less : nat_lt j (result_count s.fl (block_in s.fl d) n) ≡ true = lt-ltb j (result_count s.fl (block_in s.fl d) n) (omega (arith, w, r)) in
       ap (λ t. (t || is_loop (block_in s.fl d) n) && nat_lt j (result_count s.fl (block_in s.fl d) n)) context.1 ∙ less
 
-  row : ip_of s.fl s.p s.w d (Landing n 0) + j ≡ ip_of s.fl s.p s.w d (Landing n j)
-  row = let k = (coded s.fl s.p s.w s.good.wired d context.0).laid.landing n j lands in omega (arith, k)
-
-  abbrev Comes : Word → Word → Type 0
-  Comes x y = Fires s.m.store (frame_of s.fl net.fired (Called d n)) (Some (slot_of s.fl s.w l.i)) (fires Empty (fire_two s.p.program (at l is_result) (instr l is_result) (Ops.Return j) x y)) s.event.made s.new.store
-
-  module _ (sec : Second l refl refl) where
-    abbrev left_item : Item
-    left_item = item (Called d n) (inlet (Result j) Left 0) sec.left
-
-    left_is : sec.left ≡ BackTo d (inlet (Landing n 0) Left 0)
-    left_is = carried l left_item (left_here l refl refl sec)
-
-    has_frame : (g : ℕ) × (frame_at s.fl net.fired d ≡ Some g)
-    has_frame = s.keeps.follows.stands.named left_item d (among l left_item (left_here l refl refl sec)) (ap named_by left_is)
-
-    was_used : WasUsed s.p s.q.steps (frame_of s.fl net.fired d) (ip_of s.fl s.p s.w d (Landing n j)) Left
-    was_used =
-        let w = within in let r = call_landing s.fl s.p s.w s.good d n context in
-        subst (λ ip. WasUsed s.p s.q.steps (frame_of s.fl net.fired d) ip Left) row (s.keeps.follows.asked left_item d (inlet (Landing n 0) Left 0) j (left_here l refl refl sec) left_is (omega (arith, w, r)))
-
-    sends_back : (v : Value) → sec.right ≡ Datum v → Comes (W (BackTo d (inlet (Landing n 0) Left 0))) (W (Datum v)) → Followed s
-    sends_back v r m = beside_follows l refl refl refl sec (record {
-      items = item d (inlet (Landing n j) Left 0) sec.right ∷ [];
-      tokens = token (To.Instr (frame_of s.fl net.fired d) (ip_of s.fl s.p s.w d (Landing n 0) + j) Left) (Word.Val v) ∷ [];
-      are = λ t. token (To.Instr (frame_of s.fl net.fired d) (row t) Left) (W (sym r t)) ∷ [];
-      quiet = λ x h. ap (λ (x : Item). is_quiet x.inlet.part) (sym (contains_one (item d (inlet (Landing n j) Left 0) sec.right) x h));
-      known = λ x h. subst (λ (x : Item). (g : ℕ) × (frame_at s.fl net.fired x.context ≡ Some g)) (contains_one (item d (inlet (Landing n j) Left 0) sec.right) x h) has_frame;
-      named = λ x y h k. absurd (unnamed x y (contains_one (item d (inlet (Landing n j) Left 0) sec.right) x h) k);
-      caused = λ x h i. subst (IsCaused l) (contains_one (item d (inlet (Landing n j) Left 0) sec.right) x h) (inr was_used);
-      dests = (instr l is_result).firsts ++ (instr l is_result).seconds;
-      makes_is = refl;
-      leads = all_lead l refl is_result refl refl;
-      plain_dest = λ x h. subst (λ o. Contains (plain_dests (instr l is_result) o) x) (sym (stood l is_result).is.op) h;
-      did = m;
-      free = free_of l is_result (dyadic_grants (instr l is_result).op (dyadic l refl refl)) (ap releases (stood l is_result).is.op);
-    })
-      where
-        unnamed : (x : Item) (y : Context) → item d (inlet (Landing n j) Left 0) sec.right ≡ x → named_by x.word ≡ Some y → ⊥
-        unnamed x y h k = let z : None ≡ Some y = ap named_by (sym r) ∙ ap (λ (x : Item). named_by x.word) h ∙ k in absurd (cc)
-
-    by_word : (k : Note) → sec.right ≡ k → Comes (W (BackTo d (inlet (Landing n 0) Left 0))) (W k) → Followed s
-    by_word (Datum v) r m = sends_back v r m
-    by_word (FrameOf y) r m = absurd m
-    by_word (BackTo y x) r m = absurd m
-    by_word ToHost r m = absurd m
-
   pub call_returns : Followed s
-  call_returns = pair_follows l refl refl refl (λ sec. by_word sec sec.right refl (subst (λ k. Comes (W k) (W sec.right)) (left_is sec) (both l refl refl refl sec (Ops.Return j) refl)))
+  call_returns = returns_follow s (Result j) (Called d n) d n j 0 (Landing n j) in_call e refl refl refl (record {
+    op_is = refl;
+    left_is = λ k h. h;
+    right_is = λ k h. h;
+    none = refl;
+    single = refl;
+    makes_is = λ h k. refl;
+    is_q = refl;
+    q_held = refl;
+    no_giver = λ m. refl;
+    place = (let k = (coded s.fl s.p s.w s.good.wired d context.0).laid.landing n j lands in omega (arith, k));
+    low = (let w = within in let r = call_landing s.fl s.p s.w s.good d n context in omega (arith, w, r));
+    books = λ k x m. calm_books (back s (Result j) (Called d n) d n j 0 (Landing n j) in_call e refl refl refl) (item d (inlet (Landing n j) Left 0) k ∷ []) (λ y h. ap (λ (y : Item). is_credit y.inlet.part) (sym (contains_one (item d (inlet (Landing n j) Left 0) k) y h))) x m;
+  })

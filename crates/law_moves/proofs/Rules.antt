@@ -14,7 +14,7 @@ use Rattle.semantics.specs.Program.{Instr, Program, instr_at}
 use Rattle.semantics.specs.Rule.{Seat, meets, outcome_of, rule_at, slot_of}
 use Rattle.semantics.specs.Machine.{Happens, Fires, slot_used, slot_in}
 use Rattle.semantics.specs.Wired.{is_dyadic}
-use Rattle.semantics.specs.Holders.{same_holder, holder_at}
+use Rattle.semantics.specs.Holders.{Holder, same_holder, holder_at}
 use Rattle.semantics.specs.Credits.{granted_at, granted_in, granted_by, released_at, released_in, released_by}
 use Rattle.law_contexts.specs.Parts.{Part, Line, Trigger, Gate, Sender, Strict, Result, TurnCont, TurnFlag, TurnValue, Asker, NextSender, LastReturn, DrainReturn, Join, End}
 use Rattle.law_contexts.specs.Blocks.{Site, waits_in, op_of, kind_op, pair_kind}
@@ -138,15 +138,20 @@ module _ {stage : ℕ} (s : Taking stage) (is : is_instr s.i.inlet.part ≡ true
       let a = subst (λ (o : Option ℕ). Fires s.m.store frame o (outcome_of s.p.program at instr instr.op (slot_in s.m.store frame o) s.i.inlet.port word) s.event.made s.new.store) d.0 happens in
       subst (λ o. Fires s.m.store frame (Some instr.slot) o s.event.made s.new.store) (d.1 (s.m.store.slots frame instr.slot) s.i.inlet.port word) a
 
-  -- it grants no credit, and releases no turn
-  pub free_from : grants instr.op ≡ false → ((f base : ℕ) → released_by instr.op f base s.event.made ≡ 0) → IsFree s
-  free_from a b = record {
-    granted = λ g h. subst (λ (x : To). granted_at s.p s.p.program g h s.m.store x ≡ 0) (sym goes_to) (either ((frame == g) && same_holder h (holder_at s.p place)) _ (in_granted (slot_in s.m.store frame (slot_used (instr_at s.p.program place)))));
-    released = λ g base. subst (λ (x : To). released_at s.p.program g base x s.event.made ≡ 0) (sym goes_to) (subst (λ (o : Option Instr). released_in o g base s.event.made ≡ 0) (sym stood.at) (b g base));
-  }
+  -- it grants no credit
+  pub ungranted : grants instr.op ≡ false → (g : ℕ) (h : Holder) → granted_at s.p s.p.program g h s.m.store s.t.to ≡ 0
+  ungranted a g h = subst (λ (x : To). granted_at s.p s.p.program g h s.m.store x ≡ 0) (sym goes_to) (either ((frame == g) && same_holder h (holder_at s.p place)) _ (in_granted (slot_in s.m.store frame (slot_used (instr_at s.p.program place)))))
     where
       in_granted : (x : SlotState) → granted_in (instr_at s.p.program place) x ≡ 0
       in_granted x = subst (λ (o : Option Instr). granted_in o x ≡ 0) (sym stood.at) (grants_none instr.op x a)
+
+  -- it releases what its operation does
+  pub released_is : (g base : ℕ) → released_at s.p.program g base s.t.to s.event.made ≡ released_by instr.op g base s.event.made
+  released_is g base = ap (λ (x : To). released_at s.p.program g base x s.event.made) goes_to ∙ ap (λ (o : Option Instr). released_in o g base s.event.made) stood.at
+
+  -- it grants no credit, and releases no turn
+  pub free_from : grants instr.op ≡ false → ((f base : ℕ) → released_by instr.op f base s.event.made ≡ 0) → IsFree s
+  free_from a b = record { granted = ungranted a; released = λ g base. released_is g base ∙ b g base }
 
   pub free_of : grants instr.op ≡ false → releases instr.op ≡ false → IsFree s
   free_of a b = free_from a (λ f base. releases_none instr.op f base s.event.made b)

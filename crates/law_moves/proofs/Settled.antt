@@ -78,7 +78,7 @@ module _ {stage : ℕ} (s : Taking stage) where
   pool_is made e = at_last (IsPermutation-trans _ _ _ s.event.leaves (IsPermutation-append _ _ _ _ e rest_is)) (sym (map-append tok made s.others))
 
   -- all tokens so far, with what is made
-  met_tokens : IsPermutation (events_taken (s.q.events ++ (s.e, s.t) ∷ []) ++ s.new.pool) ((events_taken s.q.events ++ s.m.pool) ++ s.event.made)
+  pub met_tokens : IsPermutation (events_taken (s.q.events ++ (s.e, s.t) ∷ []) ++ s.new.pool) ((events_taken s.q.events ++ s.m.pool) ++ s.event.made)
   met_tokens =
       let E = events_taken s.q.events in
       at_first (ap (λ l. l ++ s.new.pool) (map-append (λ (ev : ℕ × Token). ev.1) s.q.events ((s.e, s.t) ∷ [])))

@@ -172,6 +172,7 @@ module _ (stage : ℕ) (fl : Flow) (p : Plan) (w : Wires) (inputs : List ℤ) (g
     granted = λ c n g h l e. refl;
     no_other = λ g h l. absurd (omega (arith, l));
     released = λ c n g h l e. sym (count_none (is_item_at c (Giver n)) all (λ j k. calm_item c (Giver n) refl j (no_credits j (first_of_all j k))));
+    none_released = λ g base l. absurd (omega (arith, l));
   }
     where
       but : List Token → List Token

@@ -20,7 +20,7 @@ use Rattle.fanout.specs.Laws.{StandsClear}
 use Rattle.fanout.specs.Trees.{moved}
 use Rattle.fanout.specs.Sides.{parted}
 use Rattle.fanout.proofs.Queues.{there}
-use Rattle.fanout.proofs.Theorem.{get_map}
+use Rattle.fanout.proofs.Maps.{get_map}
 use Rattle.fanout.proofs.Plans.{l, IsOld, IsNew, origin_of, mark_old}
 use Rattle.fanout.proofs.Arrows.{dests_stay}
 use Rattle.fanout.proofs.SoundFlags.{sound_stands_clear}

@@ -23,7 +23,7 @@ use Rattle.fanout.specs.Narrowed.{narrowed, narrowed_block}
 use Rattle.fanout.specs.Laws.{StandsClear}
 use Rattle.fanout.proofs.Spots.{copy_apart, first_copy, second_copy, copy_stands, before_copies}
 use Rattle.fanout.proofs.Queues.{Address, there, to, Reaches, tip, window, queue, copy_goes, queue_last, queue_first, queue_all, side_goes}
-use Rattle.fanout.proofs.Stages.{parted_all}
+use Rattle.fanout.proofs.Parted.{parted_all}
 use Rattle.fanout.proofs.Standing.{instrs_stay}
 use Rattle.fanout.proofs.Plans.{is, ts, l, all}
 use Rattle.fanout.proofs.Arrows.{in_parts, past, dests_stay}

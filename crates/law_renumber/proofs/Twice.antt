@@ -1,4 +1,4 @@
--- Runs look alike through two passes, and so folding keeps what its first pass keeps.
+-- Runs look alike through two passes, and so folding keeps what its first pass keeps: all that a pass is to keep.
 use Rattle.std.proofs.Common.{◌≡◌, ap, ◌∙◌}
 use Rattle.semantics.specs.Machine.{Machine}
 use Rattle.semantics.specs.Plan.{Plan}
@@ -6,9 +6,10 @@ use Rattle.semantics.specs.Orderly.{IsStart, inputs_of}
 use Rattle.folding.specs.Folded.{folded}
 use Rattle.law_once.specs.Alike.{LooksAlike, HasAlike, RunsAlike, Keeps}
 use Rattle.law_fold.specs.Kept.{kept_slots}
+use Rattle.law_fold.proofs.KeptKeeps.{kept_slots_keep}
 use Rattle.law_renumber.specs.Renumbers.{Renumbers}
 use Rattle.law_renumber.specs.Keeps.{KeepsAll}
-use Rattle.law_renumber.specs.Folded.{KeptSlotsSuffice}
+use Rattle.law_renumber.specs.Folded.{FoldingKeeps}
 use Rattle.law_renumber.proofs.Places.{inputs_is}
 use Rattle.law_renumber.proofs.Keeping.{renumbered_keeps}
 use Rattle.law_renumber.proofs.Folding.{folded_renumbers}
@@ -34,8 +35,9 @@ alike_through p q r same first second inputs z events m start run once =
 inputs_same : (p q : Plan) → Renumbers p q → inputs_of q ≡ inputs_of p
 inputs_same p q N = ap inputs_of N.same ∙ inputs_is p q.program.blocks N.hold N.blocks
 
-pub kept_slots_suffice : KeptSlotsSuffice
-kept_slots_suffice p s F =
+pub folding_keeps : FoldingKeeps
+folding_keeps p s orderly lands tidy =
+    let F : Keeps p (kept_slots p) = kept_slots_keep p s orderly lands tidy in
     let N : Renumbers (kept_slots p) (folded p) = folded_renumbers p s in
     let K : KeepsAll (kept_slots p) (folded p) = renumbered_keeps (kept_slots p) (folded p) N F.orderly in
     record {

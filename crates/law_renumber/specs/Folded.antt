@@ -2,7 +2,7 @@
 use Rattle.semantics.specs.Plan.{Plan}
 use Rattle.code.specs.Sound.{IsSound}
 use Rattle.folding.specs.Folded.{folded}
-use Rattle.law_once.specs.Alike.{Keeps}
+use Rattle.law_once.specs.Alike.{PassKeeps}
 use Rattle.law_fold.specs.Kept.{kept_slots}
 use Rattle.law_renumber.specs.Renumbers.{Renumbers}
 
@@ -10,6 +10,6 @@ use Rattle.law_renumber.specs.Renumbers.{Renumbers}
 abbrev pub FoldingRenumbers : Type 0
 FoldingRenumbers = (p : Plan) → IsSound p → Renumbers (kept_slots p) (folded p)
 
--- so what the first one keeps of a plan both keep.
-abbrev pub KeptSlotsSuffice : Type 0
-KeptSlotsSuffice = (p : Plan) → IsSound p → Keeps p (kept_slots p) → Keeps p (folded p)
+-- so both keep of a plan what the first one keeps: all that passes are to keep.
+abbrev pub FoldingKeeps : Type 0
+FoldingKeeps = PassKeeps folded

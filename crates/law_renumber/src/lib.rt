@@ -1,13 +1,13 @@
 //! Plans that are alike but for the numbers of their holders.
 #![tactic(auto)]
 
-ghost use Rattle.law_renumber.specs.Folded.{FoldingRenumbers, KeptSlotsSuffice};
+ghost use Rattle.law_renumber.specs.Folded.{FoldingRenumbers, FoldingKeeps};
 ghost use Rattle.law_renumber.specs.Keeps.{RenumberedKeeps};
 
 /// A plan whose holders get other numbers keeps its runs, their order and its bounds. Folding numbers holders anew after
-/// all else is done, so it keeps what it keeps without that.
+/// all else is done, so it keeps of any plan what passes are to keep.
 pub fn renumbering_keeps()
     ensures keeps { RenumberedKeeps }
     ensures folding { FoldingRenumbers }
-    ensures suffices { KeptSlotsSuffice }
+    ensures folding_keeps { FoldingKeeps }
 {}

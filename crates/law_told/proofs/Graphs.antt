@@ -1,15 +1,15 @@
 -- A well-formed graph has as many operands as its nodes want.
-use Rattle.std.proofs.Common.{◌≡◌, ℕ, zero, suc, List, [], ◌∷◌, length, map, Some, refl, sym, subst, subst₂}
+use Rattle.std.proofs.Common.{◌≡◌, ℕ, zero, suc, ◌<◌, List, [], ◌∷◌, length, map, Some, refl, sym, ap, ◌∙◌, subst, subst₂, arith}
 use Rattle.std.specs.Prelude.{slice_get}
 use Rattle.semantics.specs.declared.graph.Region.{Region}
 use Rattle.semantics.specs.declared.graph.Source.{Source}
 use Rattle.semantics.specs.declared.graph.Kind.{Kind}
 use Rattle.semantics.specs.declared.graph.Kind.TheVariants.{Lit, Apply1, Apply2, Cond, Enter, Merge, Fetch, Store, Call, StrictCall, Loop}
 use Rattle.semantics.specs.Graph.{Node, Block, Graph, flow_of, node_at, array_names, block_names, resolved_kind}
-use Rattle.semantics.specs.WellFormed.{WellFormed, IsBlockWell, NamesWell, LiesWell}
+use Rattle.semantics.specs.WellFormed.{WellFormed, IsBlockWell, IsEarlier, NamesWell, LiesWell}
 use Rattle.determinacy.proofs.Resolved.{all_get, block_in, node_back}
-use Rattle.law_contexts.specs.Operands.{HasOperands, HaveOperands}
-use Rattle.law_told.specs.Told.{GraphsHaveOperands}
+use Rattle.law_contexts.specs.Operands.{HasOperands, HaveOperands, SourcesAreEarlier}
+use Rattle.law_told.specs.Told.{GraphsHaveOperands, GraphsAreEarlier}
 
 map_get_back : {X Y : Type 0} (f : X → Y) (xs : List X) (i : ℕ) (y : Y) → slice_get (map f xs) i ≡ Some y → (x : X) × (slice_get xs i ≡ Some x) × (f x ≡ y)
 map_get_back f [] i y e = absurd (cc)
@@ -31,7 +31,7 @@ module _ (g : Graph) where
   kind_has b n r (Store a) ss h l = h.1
   kind_has b n r (Call f) ss h l = tt
   kind_has b n r (StrictCall f) ss h l = tt
-  kind_has b n r (Loop f k) ss h l = tt
+  kind_has b n r (Loop f k) ss h l = let two = h.1 in omega (arith, two)
 
   pub have_operands : WellFormed g → HaveOperands (flow_of g)
   have_operands h i n b line e f =
@@ -42,5 +42,16 @@ module _ (g : Graph) where
       subst₂ (λ (b : Block ℕ) (line : Node ℕ). HasOperands line.region line.kind (length line.sources)) named.2 back.2
       (kind_has named.0.1 n back.0.region back.0.kind back.0.sources node.names node.lies)
 
+  pub are_earlier : WellFormed g → SourcesAreEarlier (flow_of g)
+  are_earlier h i n l b line s e f at =
+      let named = map_get_back (λ (b : List ℕ × Block (List ℕ)). block_in g b.1) g.blocks i b e in
+      let well = all_get (λ (named : List ℕ × Block (List ℕ)). IsBlockWell g named.1) g.blocks i named.0 h.blocks named.1 in
+      let back = node_back g named.0.1 n line (subst (λ b. node_at b n ≡ Some line) (sym named.2) f) in
+      let node = well.nodes n back.0 back.1 in
+      (all_get (IsEarlier g named.0.1 n) back.0.sources l s node.earlier (ap (λ (line : Node ℕ). slice_get line.sources l) back.2 ∙ at)).0
+
 pub graphs_have_operands : GraphsHaveOperands
 graphs_have_operands g h = have_operands g h
+
+pub graphs_are_earlier : GraphsAreEarlier
+graphs_are_earlier g h = are_earlier g h

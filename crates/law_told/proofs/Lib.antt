@@ -7,5 +7,4 @@ pub mod Calls
 pub mod Sites
 pub mod Cells
 pub mod Told
-pub mod First
 pub mod Graphs

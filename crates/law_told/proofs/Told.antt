@@ -1,6 +1,6 @@
 -- Each proper firing of a lawful net is some activities.
-use Rattle.std.proofs.Common.{◌≡◌, ℕ, zero, suc, ◌+◌, ℤ, Bool, true, false, ◌&&◌, List, [], ◌∷◌, ◌++◌, flat_map, length, Some, nat_lt, ◌⊎◌, inl, inr, if◌then◌else◌, refl, sym, ap, ◌∙◌, subst, arith, true≢false}
-use Rattle.std.specs.Prelude.{All, ⊤}
+use Rattle.std.proofs.Common.{◌≡◌, ℕ, zero, suc, ◌+◌, ℤ, Bool, true, false, ◌&&◌, List, [], ◌∷◌, ◌++◌, flat_map, Some, nat_lt, ◌⊎◌, inl, inr, if◌then◌else◌, refl, sym, ap, ◌∙◌, subst, arith, true≢false}
+use Rattle.std.specs.Prelude.{All}
 use Rattle.std.proofs.lemmas.Bool.{cases_Bool}
 use Rattle.std.proofs.lemmas.List.Elements.{All-head, All-tail, All-weaker}
 use Rattle.tags.specs.declared.value.Value.{Value}
@@ -17,8 +17,7 @@ use Rattle.law_contexts.specs.Firings.{takes, makes, memory_of, along, back_from
 use Rattle.law_contexts.specs.Laws.{Fits, spot_there, WordFits, Allowed, FiringIsTold}
 use Rattle.law_contexts.specs.Told.{told}
 use Rattle.law_contexts.specs.Theorem.{IsGood}
-use Rattle.law_contexts.specs.Packages.{telling_of}
-use Rattle.law_told.specs.Told.{HoldsOperands, AllIsTold, AllButMemoryIsTold}
+use Rattle.law_told.specs.Told.{AllIsTold}
 use Rattle.law_told.proofs.Acts.{Acts}
 use Rattle.law_told.proofs.Nodes as Nodes
 use Rattle.law_told.proofs.Nodes.{kind_is}
@@ -43,15 +42,6 @@ module _ (stage : ℕ) (fl : Flow) (p : Plan) (w : Wires) (inputs : List ℤ) (g
 
   abbrev IsToldBy : Part → Note → Note → Type 0
   IsToldBy r l k = FiringIsTold fl w inputs (by r l k) fired
-
-  -- a request has the operands of its node
-  abbrev Holds : Part → Type 0
-  Holds (Held n) = length f.operands ≡ (if is_store (block_in fl f.context) n then 2 else 1)
-  Holds r = ⊤
-
-  holds_by : (r : Part) → ((n : ℕ) → r ≡ Held n → length f.operands ≡ (if is_store (block_in fl f.context) n then 2 else 1)) → Holds r
-  holds_by (Held n) h = h n refl
-  holds_by r h = tt
 
   -- words that are values
   abbrev IsValue : Note → Type 0
@@ -152,48 +142,48 @@ module _ (stage : ℕ) (fl : Flow) (p : Plan) (w : Wires) (inputs : List ℤ) (g
         (with_left (TurnValue (h + 1)) f.right left (λ v. with_right (TurnValue (h + 1)) (Datum v) right (λ u. Calls.turn_value fl p w good.operands f fired ctx Here here code h v u (subst (λ (j : ℕ). Spot (TurnValue j)) e there))))
 
     -- BY PARTS
-    by_part : (r : Part) → Spot r → Words r → IsProper fl fired (at r) → Holds r → FiringIsTold fl w inputs (at r) fired
-    by_part (Line n) there words proper holds = line_or_cell n there words (cases_Bool (is_cell b n))
-    by_part (Gate n) there words proper holds = gate_told n there (first_word (left_at (Gate n) 0) (right_at (Gate n) 0 ∷ []) words) (second_word (left_at (Gate n) 0) (right_at (Gate n) 0) [] words)
-    by_part (Merge n) there words proper holds = merge_told n there (first_word (left_at (Merge n) f.way) [] words)
-    by_part (Answer n) there words proper holds = with_left (Answer n) f.right (first_word (left_at (Answer n) 0) [] words) (λ v. Cells.answer fl p w good.operands f fired ctx Here here code n v f.right there)
-    by_part (Shown j) there words proper holds = with_left (Shown j) f.right (first_word (left_at (Shown j) 0) [] words) (λ v. Calls.shown fl p w good.operands f fired ctx Here here code j v f.right (Control.both_left _ _ there))
-    by_part (Landing n j) there words proper holds = with_left (Landing n j) f.right (first_word (left_at (Landing n j) f.way) [] words) (λ v. Calls.landing fl p w good.operands f fired ctx Here here code n j v f.right there)
-    by_part (Sender n i) there words proper holds =
+    by_part : (r : Part) → Spot r → Words r → IsProper fl fired (at r) → FiringIsTold fl w inputs (at r) fired
+    by_part (Line n) there words proper = line_or_cell n there words (cases_Bool (is_cell b n))
+    by_part (Gate n) there words proper = gate_told n there (first_word (left_at (Gate n) 0) (right_at (Gate n) 0 ∷ []) words) (second_word (left_at (Gate n) 0) (right_at (Gate n) 0) [] words)
+    by_part (Merge n) there words proper = merge_told n there (first_word (left_at (Merge n) f.way) [] words)
+    by_part (Answer n) there words proper = with_left (Answer n) f.right (first_word (left_at (Answer n) 0) [] words) (λ v. Cells.answer fl p w good.operands f fired ctx Here here code n v f.right there)
+    by_part (Shown j) there words proper = with_left (Shown j) f.right (first_word (left_at (Shown j) 0) [] words) (λ v. Calls.shown fl p w good.operands f fired ctx Here here code j v f.right (Control.both_left _ _ there))
+    by_part (Landing n j) there words proper = with_left (Landing n j) f.right (first_word (left_at (Landing n j) f.way) [] words) (λ v. Calls.landing fl p w good.operands f fired ctx Here here code n j v f.right there)
+    by_part (Sender n i) there words proper =
         with_right (Sender n i) f.left (second_word (left_at (Sender n i) 0) (right_at (Sender n i) (if is_strict b n then 1 else 0)) [] words) (λ v. Calls.sender fl p w good.operands f fired ctx Here here code n i f.left v there)
-    by_part (Framer n) there words proper holds = Calls.framer fl p w good.operands f fired ctx Here here code n f.left f.right proper
-    by_part (TurnValue j) there words proper holds =
+    by_part (Framer n) there words proper = Calls.framer fl p w good.operands f fired ctx Here here code n f.left f.right proper
+    by_part (TurnValue j) there words proper =
         let k = turn_from j there in
         turn_value_told j k.0 k.1 there (first_word (left_at (TurnValue j) 0) (right_at (TurnValue j) 0 ∷ []) words) (second_word (left_at (TurnValue j) 0) (right_at (TurnValue j) 0) [] words)
-    by_part (Held n) there words proper holds = Cells.held fl p w good.operands f fired ctx Here here code n f.left f.right there holds proper
-    by_part (Giver n) there words proper holds = absurd proper
-    by_part (Drainer n) there words proper holds = absurd proper
-    by_part Entry there words proper holds = Control.entry fl p w good.operands f fired ctx Here here code there
-    by_part (Opener n) there words proper holds = Control.opener fl p w good.operands f fired ctx Here here code n there
-    by_part (Fanned n) there words proper holds = Control.fanned fl p w good.operands f fired ctx Here here code n there
-    by_part (CallDone n) there words proper holds = Control.call_done fl p w good.operands f fired ctx Here here code n there
-    by_part (LoopDone n) there words proper holds = Control.loop_done fl p w good.operands f fired ctx Here here code n there
-    by_part NextFanned there words proper holds = Control.next_fanned fl p w good.operands f fired ctx Here here code there
-    by_part (CondEnd k) there words proper holds = Control.cond_end fl p w good.operands f fired ctx Here here code k there
-    by_part (Linker n) there words proper holds = Control.linker fl p w good.operands f fired ctx Here here code n
-    by_part (Taker n) there words proper holds = Control.taker fl p w good.operands f fired ctx Here here code n
-    by_part NextFramer there words proper holds = Control.next_framer fl p w good.operands f fired ctx Here here code
-    by_part (Asked n) there words proper holds = Control.asked fl p w good.operands f fired ctx Here here code n
-    by_part NextAsked there words proper holds = Control.next_asked fl p w good.operands f fired ctx Here here code
-    by_part Done there words proper holds = Control.is_done fl p w good.operands f fired ctx Here here code
-    by_part Freed there words proper holds = Control.freed fl p w good.operands f fired ctx Here here code
-    by_part (Drained n) there words proper holds = Control.drained fl p w good.operands f fired ctx Here here code n
-    by_part (Join r i) there words proper holds = Control.join fl p w good.operands f fired ctx Here here code r i there
-    by_part (Strict n i) there words proper holds = Control.strict fl p w good.operands f fired ctx Here here code n i there
-    by_part (Trigger k) there words proper holds = Control.trigger fl p w good.operands f fired ctx Here here code k there
-    by_part TurnCont there words proper holds = Control.turn_cont fl p w good.operands f fired ctx Here here code there
-    by_part TurnFlag there words proper holds = Control.turn_flag fl p w good.operands f fired ctx Here here code there
-    by_part Asker there words proper holds = Control.asker fl p w good.operands f fired ctx Here here code
-    by_part End there words proper holds = Control.ended fl p w good.operands f fired ctx Here here code
-    by_part DrainReturn there words proper holds = Control.drain_return fl p w good.operands f fired ctx Here here code there
-    by_part (Result j) there words proper holds = Control.result fl p w good.operands f fired ctx Here here code j there
-    by_part (LastReturn j) there words proper holds = Control.last_return fl p w good.operands f fired ctx Here here code j there
-    by_part (NextSender j) there words proper holds = Control.next_sender fl p w good.operands f fired ctx Here here code j there
+    by_part (Held n) there words proper = Cells.held fl p w good.operands f fired ctx Here here code n f.left f.right there (All-head Word (request_of (at (Held n))) [] words).1 proper
+    by_part (Giver n) there words proper = absurd proper
+    by_part (Drainer n) there words proper = absurd proper
+    by_part Entry there words proper = Control.entry fl p w good.operands f fired ctx Here here code there
+    by_part (Opener n) there words proper = Control.opener fl p w good.operands f fired ctx Here here code n there
+    by_part (Fanned n) there words proper = Control.fanned fl p w good.operands f fired ctx Here here code n there
+    by_part (CallDone n) there words proper = Control.call_done fl p w good.operands f fired ctx Here here code n there
+    by_part (LoopDone n) there words proper = Control.loop_done fl p w good.operands f fired ctx Here here code n there
+    by_part NextFanned there words proper = Control.next_fanned fl p w good.operands f fired ctx Here here code there
+    by_part (CondEnd k) there words proper = Control.cond_end fl p w good.operands f fired ctx Here here code k there
+    by_part (Linker n) there words proper = Control.linker fl p w good.operands f fired ctx Here here code n
+    by_part (Taker n) there words proper = Control.taker fl p w good.operands f fired ctx Here here code n
+    by_part NextFramer there words proper = Control.next_framer fl p w good.operands f fired ctx Here here code
+    by_part (Asked n) there words proper = Control.asked fl p w good.operands f fired ctx Here here code n
+    by_part NextAsked there words proper = Control.next_asked fl p w good.operands f fired ctx Here here code
+    by_part Done there words proper = Control.is_done fl p w good.operands f fired ctx Here here code
+    by_part Freed there words proper = Control.freed fl p w good.operands f fired ctx Here here code
+    by_part (Drained n) there words proper = Control.drained fl p w good.operands f fired ctx Here here code n
+    by_part (Join r i) there words proper = Control.join fl p w good.operands f fired ctx Here here code r i there
+    by_part (Strict n i) there words proper = Control.strict fl p w good.operands f fired ctx Here here code n i there
+    by_part (Trigger k) there words proper = Control.trigger fl p w good.operands f fired ctx Here here code k there
+    by_part TurnCont there words proper = Control.turn_cont fl p w good.operands f fired ctx Here here code there
+    by_part TurnFlag there words proper = Control.turn_flag fl p w good.operands f fired ctx Here here code there
+    by_part Asker there words proper = Control.asker fl p w good.operands f fired ctx Here here code
+    by_part End there words proper = Control.ended fl p w good.operands f fired ctx Here here code
+    by_part DrainReturn there words proper = Control.drain_return fl p w good.operands f fired ctx Here here code there
+    by_part (Result j) there words proper = Control.result fl p w good.operands f fired ctx Here here code j there
+    by_part (LastReturn j) there words proper = Control.last_return fl p w good.operands f fired ctx Here here code j there
+    by_part (NextSender j) there words proper = Control.next_sender fl p w good.operands f fired ctx Here here code j there
 
   -- WHERE IT IS: what a firing takes first lies at its part, but for the credits of a loop
   first_fits : (i : Item) (items : List Item) → All (Allowed fl w inputs fired) (i ∷ items) → Fit i
@@ -214,21 +204,16 @@ module _ (stage : ℕ) (fl : Flow) (p : Plan) (w : Wires) (inputs : List ℤ) (g
   drained_told : (ctx : IsContext fl f.context) (n : ℕ) → FiringIsTold fl w inputs (at (Drained n)) fired
   drained_told ctx n = Control.drained fl p w good.operands f fired ctx (Here ctx) (here ctx) (code ctx) n
 
-  told_at_part : (r : Part) → All (Allowed fl w inputs fired) (takes fl (at r)) → All Word (takes fl (at r)) → IsContext fl f.context → IsProper fl fired (at r) → Holds r → FiringIsTold fl w inputs (at r) fired
-  told_at_part (Drained n) all words ctx proper holds = drained_told ctx n
-  told_at_part r all words ctx proper holds = by_part ctx r (at_spot (first_at r all)) words proper holds
+  told_at_part : (r : Part) → All (Allowed fl w inputs fired) (takes fl (at r)) → All Word (takes fl (at r)) → IsContext fl f.context → IsProper fl fired (at r) → FiringIsTold fl w inputs (at r) fired
+  told_at_part (Drained n) all words ctx proper = drained_told ctx n
+  told_at_part r all words ctx proper = by_part ctx r (at_spot (first_at r all)) words proper
     where
       at_spot : (k : (i : Item) × Fit i × (i.context ≡ c) × (i.inlet.part ≡ r)) → spot_there fl w f.context r ≡ true
       at_spot (i, fit, ec, er) = ap (spot_there fl w f.context) (sym er) ∙ ap (λ (d : Context). spot_there fl w d i.inlet.part) (sym ec) ∙ fit.there
 
-  pub firing_told : All (Allowed fl w inputs fired) (takes fl f) → All Word (takes fl f) → IsProper fl fired f → HoldsOperands fl f → FiringIsTold fl w inputs f fired
-  firing_told all words proper holds = told_at_part f.part all words (context_of all) proper (holds_by f.part holds)
+  pub firing_told : All (Allowed fl w inputs fired) (takes fl f) → All Word (takes fl f) → IsProper fl fired f → FiringIsTold fl w inputs f fired
+  firing_told all words proper = told_at_part f.part all words (context_of all) proper
 
 -- ALL FIRINGS, at all stages
 pub all_told : AllIsTold
-all_told stage fl p w inputs f fired good fit all words proper holds = firing_told stage fl p w inputs good f fired all words proper holds
-
--- and but for requests that is all
-pub all_but_memory : AllButMemoryIsTold
-all_but_memory stage telling other fl p w inputs f fired good fit all words proper e =
-    firing_told stage fl p w inputs good f fired all words proper (λ n g. absurd (other (sym e ∙ ap (telling_of fl f.context) g)))
+all_told stage telling fl p w inputs f fired good fit all words proper e = firing_told stage fl p w inputs good f fired all words proper

@@ -1,5 +1,3 @@
-pub mod NoneOften
-pub mod Caused
+pub mod Tidy
 pub mod Whole
-pub mod Simple
-pub mod Conditionals
+pub mod Law

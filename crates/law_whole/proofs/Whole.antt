@@ -1,5 +1,5 @@
 -- The law of a stage, from its parts: the wires, the net of contexts, and the passes.
-use Rattle.std.proofs.Common.{◌≡◌, refl, ap, ℕ, zero, suc, ◌≤◌, ℤ, List, [], ◌∷◌, length}
+use Rattle.std.proofs.Common.{◌≡◌, refl, ap, ℕ, zero, suc, ℤ, List, [], ◌∷◌, length}
 use Rattle.std.specs.Prelude.{pos}
 use Rattle.semantics.specs.Graph.{Graph, Flow, flow_of}
 use Rattle.semantics.specs.Text.{HasText}
@@ -9,23 +9,21 @@ use Rattle.semantics.specs.Faithful.{inputs_of}
 use Rattle.determinacy.proofs.Resolved.{flow_well, fits}
 use Rattle.expansion.specs.Expanded.{expanded}
 use Rattle.law_expansion.proofs.Wholes.{has_bounds}
-use Rattle.law_renumber.proofs.Twice.{kept_slots_suffice}
-use Rattle.law_told.proofs.Graphs.{graphs_have_operands}
+use Rattle.law_renumber.proofs.Twice.{folding_keeps}
+use Rattle.law_told.proofs.Graphs.{graphs_have_operands, graphs_are_earlier}
 use Rattle.law_contexts.specs.Contexts.{HasBlock}
-use Rattle.law_contexts.specs.Theorem.{HasOnly, KeepsFaith}
+use Rattle.law_contexts.specs.Contexts.{Wires}
+use Rattle.law_contexts.specs.Theorem.{HasOnly, IsGood, KeepsFaith}
 use Rattle.law_contexts.specs.Packages.{AllPackages}
 use Rattle.law_contexts.specs.Expanded.{AllStatic}
 use Rattle.law_contexts.proofs.Composition.{wired_keeps_faith}
 use Rattle.law_contexts.proofs.Static.{expanded_is_wired}
 use Rattle.semantics.specs.Plan.{Plan}
-use Rattle.law_once.specs.Alike.{Keeps}
 use Rattle.law_once.specs.Ready.{IsReady}
-use Rattle.law_fold.specs.Kept.{kept_slots}
-use Rattle.law_fold.proofs.KeptKeeps.{kept_slots_keep}
 use Rattle.law_graphs.specs.Graphs.{IsExpandedFor}
 use Rattle.law_graphs.proofs.Graphs.{graphs_follow, expanded_is_sound, expanded_takes, expanded_is_for}
 use Rattle.law_whole.specs.Whole.{PartsSuffice}
-use Rattle.law_whole.proofs.NoneOften.{loop_free_leads}
+use Rattle.law_whole.proofs.Tidy.{wired_leads}
 
 -- main's block is there
 abbrev zeros : ℕ → List ℤ
@@ -41,33 +39,37 @@ has_main g well =
     let f = fits g well (zeros (inputs_of (flow_of g))) (length_zeros (inputs_of (flow_of g))) in
     (f.0, f.1)
 
--- a good plan keeps faith before the passes
-keeps : (stage : ℕ) → AllPackages stage → AllStatic stage → (g : Graph) → HasText g → WellFormed g → HasOnly stage (flow_of g) → KeepsFaith (flow_of g) (expanded (flow_of g))
-keeps stage packages static g text well only =
+-- the plan that a graph becomes first is a good one
+good_plan : (stage : ℕ) → AllStatic stage → (g : Graph) → HasText g → WellFormed g → HasOnly stage (flow_of g) → (w : Wires) × IsGood stage (flow_of g) (expanded (flow_of g)) w
+good_plan stage static g text well only =
     let fl : Flow = flow_of g in
-    let wired = expanded_is_wired stage static g text well only in
-    wired_keeps_faith stage packages fl (expanded fl) wired.0 record {
-      has_only = only;
-      main = has_main g well;
-      well = flow_well g well;
-      operands = graphs_have_operands g well;
-      plan = (expanded_is_sound g text well).wired;
-      takes_inputs = expanded_takes g text well;
-      bounds = has_bounds fl;
-      wired = wired.1;
-    }
+    let wired = expanded_is_wired stage static g text well only in (
+      wired.0,
+      record {
+        has_only = only;
+        main = has_main g well;
+        well = flow_well g well;
+        operands = graphs_have_operands g well;
+        earlier = graphs_are_earlier g well;
+        plan = (expanded_is_sound g text well).wired;
+        takes_inputs = expanded_takes g text well;
+        bounds = has_bounds fl;
+        wired = wired.1;
+      },
+    )
 
 pub parts_suffice : PartsSuffice
-parts_suffice stage few packages static caused g slots version text well only good same =
-    let p : Plan = expanded (flow_of g) in
-    let k = keeps stage packages static g text well only in
+parts_suffice stage packages static g slots version text well only good same =
+    let fl : Flow = flow_of g in
+    let p : Plan = expanded fl in
+    let w = good_plan stage static g text well only in
+    let k : KeepsFaith fl p = wired_keeps_faith stage packages fl p w.0 w.1 in
     let E : IsExpandedFor g = record {
-      once = loop_free_leads stage few g only;
+      once = wired_leads stage fl p w.0 w.1;
       orderly = k.orderly;
       lands = k.lands;
       bounds = k.bounds;
       faithful = k.faithful;
     } in
-    let r : IsReady (flow_of g) p = expanded_is_for g text well E in
-    let kept : Keeps p (kept_slots p) = kept_slots_keep p r.sound r.orderly r.lands r.tidy (caused g text well only) in
-    graphs_follow g slots version text well E (kept_slots_suffice p r.sound kept) good same
+    let r : IsReady fl p = expanded_is_for g text well E in
+    graphs_follow g slots version text well E (folding_keeps p r.sound r.orderly r.lands r.tidy) good same

@@ -1,88 +1,66 @@
 -- The parts that are written down are those of the wiring that is read off the code.
-use Rattle.std.proofs.Common.{◌≡◌, ℕ, zero, suc, ◌+◌, ◌-◌, ◌<◌, Bool, true, false, List, [], ◌∷◌, ◌++◌, map, length, refl, sym, ap, ◌∙◌, arith, append-nil, append_assoc, if◌then◌else◌, nat_lt}
-use Rattle.std.specs.Prelude.{slice_index_or, replicate}
+use Rattle.std.proofs.Common.{◌≡◌, ℕ, suc, ◌+◌, ◌-◌, ◌<◌, Bool, true, false, List, [], ◌∷◌, ◌++◌, map, length, refl, sym, ap, ◌∙◌, arith, append-nil, append_assoc, if◌then◌else◌, nat_lt}
+use Rattle.std.specs.Prelude.{slice_get}
 use Rattle.std.proofs.lemmas.Bool.{lt-ltb}
 use Rattle.semantics.specs.declared.graph.Region.{Region}
 use Rattle.semantics.specs.declared.graph.Region.TheVariants.{Root, Arm}
 use Rattle.semantics.specs.declared.graph.Kind.{Kind}
 use Rattle.semantics.specs.declared.graph.Kind.TheVariants.{Lit, Apply1, Apply2, Cond, Enter, Merge, Fetch, Store, Call, StrictCall, Loop}
-use Rattle.semantics.specs.Graph.{Node, Block, Flow}
+use Rattle.semantics.specs.Graph.{Node, Block, Flow, node_count}
 use Rattle.semantics.specs.Meaning.{arm_of}
 use Rattle.lowering.specs.Roles.{one}
-use Rattle.expansion.specs.Triggers as Triggers
-use Rattle.expansion.specs.Triggers.{has_trigger, takes_trigger, triggers_of}
-use Rattle.expansion.specs.Tails.{returns}
-use Rattle.expansion.specs.Blocks.{body}
 use Rattle.expansion.specs.Ends.{same_region, ends_of}
 use Rattle.law_contexts.specs.Parts as Parts
-use Rattle.law_contexts.specs.Parts.{Part, Entry, Line, Result, Join, CondEnd, same_part}
-use Rattle.law_contexts.specs.Blocks.{Side, leaves_in}
+use Rattle.law_contexts.specs.Parts.{Part, Entry, Line, Join, CondEnd, same_part}
+use Rattle.law_contexts.specs.Blocks.{Side, Site, leaves_in}
 use Rattle.law_contexts.specs.Expanded as Expanded
-use Rattle.law_contexts.specs.Expanded.{row, plain_scope, plain_parts, body_parts, Ending, ending, end_node, end_parts, join_parts, ends_in, has_end, closing_parts, regions_of, regions_by, place_from}
+use Rattle.law_contexts.specs.Expanded.{row, body_parts, first_ending, Ending, ending, end_node, end_parts, join_parts, ends_in, has_end, closing_parts, regions_of, regions_by, place_from}
 use Rattle.law_wires.specs.Types.{End}
 use Rattle.law_wires.specs.Written as Written
-use Rattle.law_wires.specs.Written.{is_shared, answer_parts, kind_parts, node_parts, inner_parts, in_region, joined_parts, cond_parts, cond_sides, Ended, arm_ends, close, close_kind, close_nodes, inner, first_ends, root_ends, parts_in}
-use Rattle.law_wires.specs.Fit.{Takes, IsFit}
+use Rattle.law_wires.specs.Written.{is_shared, is_triggered, tail_parts, close_flag, answer_parts, trigger_parts, kind_parts, node_parts, inner_parts, in_region, joined_parts, cond_parts, cond_sides, Ended, arm_ends, close, close_kind, close_nodes, inner, first_ends, root_ends, parts_in}
+use Rattle.law_wires.specs.Fit.{IsFit}
 use Rattle.law_wires.proofs.Same.{same_is}
 use Rattle.law_wires.proofs.Laid.{Env}
-use Rattle.law_wires.proofs.LaidNodes.{Stand, stand_left, env}
+use Rattle.law_wires.proofs.Standing.{Stand, stand_left}
+use Rattle.law_wires.proofs.LaidNodes.{env, scope}
+use Rattle.law_wires.proofs.LaidBody.{outputs_same}
 use Rattle.law_wires.proofs.LaidEnds.{AreEnds}
-use Rattle.law_wires.proofs.LaidWhole.{first_ends_laid, closed_stands}
+use Rattle.law_wires.proofs.LaidWhole.{begun_of, flag_region, first_ends_laid, closed_stands}
+use Rattle.law_wires.proofs.LaidUsual.{HasTurns}
 use Rattle.law_wires.proofs.Counts.{tally, count_is, Follow, follow_more, follow_here}
 use Rattle.law_wires.proofs.Parts.{follow}
 
-module _ (fl : Flow) (number : ℕ) (b : Block ℕ) (fit : IsFit b) where
-  -- TRIGGERS. There are none.
-  takes_none : (k : Kind ℕ) (m : ℕ) → Takes k m → takes_trigger k ≡ false
-  takes_none Cond m t = refl
-  takes_none Enter m t = refl
-  takes_none (Merge c) m t = refl
-  takes_none (Lit z) m t = refl
-  takes_none (Apply1 op) m t = refl
-  takes_none (Apply2 op) m t = refl
-  takes_none (Fetch a) m t = refl
-  takes_none (Store a) m t = refl
-  takes_none (Call f) m t = absurd t
-  takes_none (StrictCall f) m t = absurd t
-  takes_none (Loop f c) m t = absurd t
-
-  triggers_same : (n : ℕ) (xs : List (Node ℕ)) (ts : List Bool) → Follow b n xs → Triggers.with_nodes ts xs ≡ ts
-  triggers_same n [] ts f = refl
-  triggers_same n (x ∷ xs) ts f =
-      let none = takes_none x.kind (length x.sources) (fit.nodes n x (follow_here b n x xs f)).takes in
-      ap (λ t. Triggers.with_nodes (if t then Triggers.with_region ts x.region else ts) xs) none ∙ triggers_same (n + 1) xs ts (follow_more b n x xs f)
-
-  all_false : (m n : ℕ) → slice_index_or (replicate m false) n false ≡ false
-  all_false zero n = refl
-  all_false (suc m) zero = refl
-  all_false (suc m) (suc n) = all_false m n
-
-  pub no_triggers : (n : ℕ) → has_trigger (plain_scope fl number b).triggers n ≡ false
-  no_triggers n = ap (λ ts. slice_index_or ts n false) (triggers_same b.inputs b.nodes (replicate (b.inputs + length b.nodes) false) (follow b fit)) ∙ all_false (b.inputs + length b.nodes) n
+module _ (fl : Flow) (S : Site) (fit : IsFit fl S.block) (turned : HasTurns S) where
+  abbrev b : Block ℕ
+  b = S.block
 
   -- NODES
   shared_agree : (n : ℕ) (t : Bool) → (if t then Parts.Line n ∷ Parts.Answer n ∷ [] else Parts.Line n ∷ []) ≡ Parts.Line n ∷ answer_parts n t
   shared_agree n true = refl
   shared_agree n false = refl
 
-  kinds_agree : (n m : ℕ) (k : Kind ℕ) → Takes k m → Expanded.kind_parts (plain_scope fl number b) n m k ≡ kind_parts b n k
-  kinds_agree n m Cond t = ap (λ x. if x then Parts.Trigger n ∷ [] else []) (no_triggers n)
-  kinds_agree n m Enter t = refl
-  kinds_agree n m (Merge c) t = refl
-  kinds_agree n m (Lit z) t = refl
-  kinds_agree n m (Apply1 op) t = refl
-  kinds_agree n m (Apply2 op) t = refl
-  kinds_agree n m (Fetch a) t = shared_agree n (is_shared b n)
-  kinds_agree n m (Store a) t = shared_agree n (is_shared b n)
-  kinds_agree n m (Call f) t = absurd t
-  kinds_agree n m (StrictCall f) t = absurd t
-  kinds_agree n m (Loop f c) t = absurd t
+  triggers_agree : (n : ℕ) (t : Bool) → (if t then Parts.Trigger n ∷ [] else []) ≡ trigger_parts n t
+  triggers_agree n true = refl
+  triggers_agree n false = refl
 
-  nodes_agree : (n : ℕ) (xs : List (Node ℕ)) → Follow b n xs → Expanded.node_parts (plain_scope fl number b) n xs ≡ node_parts b n xs
-  nodes_agree n [] f = refl
-  nodes_agree n (x ∷ xs) f =
-      let here = kinds_agree n (length x.sources) x.kind (fit.nodes n x (follow_here b n x xs f)).takes in
-      let rest = nodes_agree (n + 1) xs (follow_more b n x xs f) in
+  kinds_agree : (n m : ℕ) (k : Kind ℕ) → Expanded.kind_parts (scope fl S) n m k ≡ kind_parts fl S n m k
+  kinds_agree n m Cond = triggers_agree n (is_triggered b n)
+  kinds_agree n m Enter = refl
+  kinds_agree n m (Merge c) = refl
+  kinds_agree n m (Lit z) = refl
+  kinds_agree n m (Apply1 op) = refl
+  kinds_agree n m (Apply2 op) = refl
+  kinds_agree n m (Fetch a) = shared_agree n (is_shared S n)
+  kinds_agree n m (Store a) = shared_agree n (is_shared S n)
+  kinds_agree n m (Call f) = ap (λ q. Expanded.invoked n m q ++ Parts.CallDone n ∷ []) (outputs_same (slice_get fl.blocks f))
+  kinds_agree n m (StrictCall f) = ap (λ q. row (Parts.Strict n) 1 (m - 1) ++ (Expanded.invoked n m q ++ Parts.CallDone n ∷ [])) (outputs_same (slice_get fl.blocks f))
+  kinds_agree n m (Loop f c) = refl
+
+  nodes_agree : (n : ℕ) (xs : List (Node ℕ)) → Expanded.node_parts (scope fl S) n xs ≡ node_parts fl S n xs
+  nodes_agree n [] = refl
+  nodes_agree n (x ∷ xs) =
+      let here = kinds_agree n (length x.sources) x.kind in
+      let rest = nodes_agree (n + 1) xs in
       (λ i. here i ++ rest i)
 
   -- ENDS
@@ -162,10 +140,10 @@ module _ (fl : Flow) (number : ℕ) (b : Block ℕ) (fit : IsFit b) where
   kind_matches n x y q r (StrictCall f) e h = h
   kind_matches n x y q r (Loop f c) e h = h
 
-  nodes_match : (n : ℕ) (xs : List (Node ℕ)) (x : Ended) (q : Ending) → Follow b n xs → Matches x q x → Matches x (ending n xs q) (close_nodes b n xs x)
-  nodes_match n [] x q f h = h
-  nodes_match n (y ∷ xs) x q f h =
-      kind_matches n x (close_nodes b (n + 1) xs x) (ending (n + 1) xs q) y.region y.kind (sym (ap arm_of (follow_here b n y xs f))) (nodes_match (n + 1) xs x q (follow_more b n y xs f) h)
+  nodes_match : (n : ℕ) (xs : List (Node ℕ)) (x y : Ended) (q : Ending) → Follow b n xs → Matches x q y → Matches x (ending n xs q) (close_nodes b n xs y)
+  nodes_match n [] x y q f h = h
+  nodes_match n (z ∷ xs) x y q f h =
+      kind_matches n x (close_nodes b (n + 1) xs y) (ending (n + 1) xs q) z.region z.kind (sym (ap arm_of (follow_here b n z xs f))) (nodes_match (n + 1) xs x y q (follow_more b n z xs f) h)
 
   ends_regions : (e : Env) (rs : List Part) (es : List End) (ts : List Side) → AreEnds e rs es ts → regions_by es (λ x. x.region) ≡ map (λ (t : Side). leaves_in e.site.block t.part t.second) ts
   ends_regions e rs [] [] h = refl
@@ -175,31 +153,44 @@ module _ (fl : Flow) (number : ℕ) (b : Block ℕ) (fit : IsFit b) where
 
   -- ALL PARTS
   abbrev pub place : Part → ℕ
-  place r = place_from r 0 (parts_in b)
+  place r = place_from r 0 (parts_in fl S)
 
   pub apart : (r q : Part) → same_part r q ≡ true → place r ≡ place q
   apart r q h = ap place (same_is r q h)
 
-  pub parts_agree : Stand place 0 (parts_in b) → plain_parts (plain_scope fl number b) ≡ parts_in b
+  abbrev first_ending_of : Bool → List Region → Ending
+  first_ending_of false rs = record { parts = []; regions = rs }
+  first_ending_of true rs = first_ending (node_count b) rs
+
+  -- the parts that the wiring reads
+  abbrev pub read_parts : Bool → List Part
+  read_parts t = body_parts (scope fl S) ++ (tail_parts b t ++ closing_parts (ending b.inputs b.nodes (first_ending_of t (regions_of (begun_of fl S t)))))
+
+  pub parts_agree : Stand place 0 (parts_in fl S) → read_parts S.turns ≡ parts_in fl S
   parts_agree at =
-      let s = plain_scope fl number b in
-      let all = stand_left place 0 (Written.closed b).parts (joined_parts Root (root_ends b) ++ Parts.End ∷ []) at in
-      let inside = closed_stands fl number b place apart fit no_triggers b.inputs b.nodes (inner b) all in
-      let firsts = first_ends_laid fl number b place apart fit no_triggers inside in
-      let rs : List Region = regions_of (returns (body s) 0 b.results) in
-      let regions : rs ≡ map region (first_ends b) = ends_regions (env fl number b place apart) (inner_parts b) (ends_of (returns (body s) 0 b.results)) (first_ends b) firsts in
-      let q : Ending = record { parts = []; regions = rs } in
-      let start : Matches (inner b) q (inner b) = record { parts = append-nil (inner_parts b); regions = regions } in
-      let m = nodes_match b.inputs b.nodes (inner b) q (follow b fit) start in
+      let all = stand_left place 0 (Written.closed fl S).parts (joined_parts Root (root_ends fl S) ++ Parts.End ∷ []) at in
+      let inside = closed_stands fl S place apart fit turned (inner fl S) all in
+      let firsts = first_ends_laid fl S place apart fit turned inside in
+      let rs : List Region = regions_of (begun_of fl S S.turns) in
+      let regions : rs ≡ map region (first_ends fl S) = ends_regions (env fl S place apart) (inner_parts fl S) (ends_of (begun_of fl S S.turns)) (first_ends fl S) firsts in
+      let start : Matches (inner fl S) (record { parts = []; regions = rs }) (inner fl S) = record { parts = append-nil (inner_parts fl S); regions = regions } in
+      let q : Ending = first_ending_of S.turns rs in
+      let flagged = flag_matches S.turns rs start in
+      let m = nodes_match b.inputs b.nodes (inner fl S) (close_flag b S.turns (inner fl S)) q (follow b) flagged in
       let e : Ending = ending b.inputs b.nodes q in
-      let joins : join_parts Root e.regions ≡ joined_parts Root (root_ends b) = ap (join_parts Root) m.regions ∙ joins_agree Root (Written.closed b).ends in
-      let first : body_parts s ≡ Entry ∷ row Line 0 b.inputs ++ node_parts b b.inputs b.nodes = ap (λ xs. Entry ∷ row Line 0 b.inputs ++ xs) (nodes_agree b.inputs b.nodes (follow b fit)) in
-      let results : List Part = row Result 0 (length b.results) in
-      let tail : List Part = joined_parts Root (root_ends b) ++ Parts.End ∷ [] in
+      let joins : join_parts Root e.regions ≡ joined_parts Root (root_ends fl S) = ap (join_parts Root) m.regions ∙ joins_agree Root (Written.closed fl S).ends in
+      let body : List Part = Entry ∷ row Line 0 b.inputs ++ node_parts fl S b.inputs b.nodes in
+      let first : body_parts (scope fl S) ≡ body = ap (λ xs. Entry ∷ row Line 0 b.inputs ++ xs) (nodes_agree b.inputs b.nodes) in
+      let results : List Part = tail_parts b S.turns in
+      let tail : List Part = joined_parts Root (root_ends fl S) ++ Parts.End ∷ [] in
       ap (λ xs. xs ++ (results ++ (e.parts ++ (join_parts Root e.regions ++ Parts.End ∷ [])))) first
-      ∙ ap (λ xs. (Entry ∷ row Line 0 b.inputs ++ node_parts b b.inputs b.nodes) ++ (results ++ (e.parts ++ (xs ++ Parts.End ∷ [])))) joins
-      ∙ regroup (Entry ∷ row Line 0 b.inputs ++ node_parts b b.inputs b.nodes) results e.parts tail
+      ∙ ap (λ xs. body ++ (results ++ (e.parts ++ (xs ++ Parts.End ∷ [])))) joins
+      ∙ regroup body results e.parts tail
       ∙ ap (λ xs. xs ++ tail) m.parts
     where
       regroup : (u v x y : List Part) → u ++ (v ++ (x ++ y)) ≡ ((u ++ v) ++ x) ++ y
       regroup u v x y = sym (simp append_assoc)
+
+      flag_matches : (t : Bool) (rs : List Region) → Matches (inner fl S) (record { parts = []; regions = rs }) (inner fl S) → Matches (inner fl S) (first_ending_of t rs) (close_flag b t (inner fl S))
+      flag_matches false rs h = h
+      flag_matches true rs h = kind_matches (node_count b) (inner fl S) (inner fl S) (record { parts = []; regions = rs }) Root Cond (sym (flag_region fl S place apart fit turned)) h

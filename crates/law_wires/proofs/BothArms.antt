@@ -1,260 +1,244 @@
 -- Where one arm of a conditional has an end, both have one.
-use Rattle.std.proofs.Common.{◌≡◌, ◌≢◌, ℕ, zero, suc, ◌+◌, ◌<◌, ◌≤◌, inl, inr, Bool, true, false, not, List, [], ◌∷◌, ◌++◌, length, refl, sym, ap, ◌∙◌, subst, arith, if◌then◌else◌, Some, None, Option}
-use Rattle.std.specs.Prelude.{◌==◌}
+use Rattle.std.proofs.Common.{◌≡◌, ◌≢◌, ℕ, zero, suc, ◌+◌, ◌-◌, ◌<◌, ◌≤◌, ◌⊎◌, inl, inr, Bool, true, false, not, List, [], ◌∷◌, ◌++◌, length, refl, sym, ap, ◌∙◌, subst, arith, Some, None, Option}
+use Rattle.std.specs.Prelude.{slice_get}
+use Rattle.std.proofs.lemmas.Bool.{cases_lt}
 use Rattle.semantics.specs.declared.graph.Region.{Region}
 use Rattle.semantics.specs.declared.graph.Region.TheVariants.{Root, Arm}
 use Rattle.semantics.specs.declared.graph.Kind.{Kind}
 use Rattle.semantics.specs.declared.graph.Kind.TheVariants.{Lit, Apply1, Apply2, Cond, Enter, Merge, Fetch, Store, Call, StrictCall, Loop}
-use Rattle.semantics.specs.Graph.{Node, Block, node_at}
+use Rattle.semantics.specs.Graph.{Node, Flow, node_at, node_count}
 use Rattle.semantics.specs.Meaning.{arm_of}
-use Rattle.law_contexts.specs.Parts.{Entry, Line, Answer, Gate, Result, CondEnd, part_key}
-use Rattle.law_contexts.specs.Blocks.{Side, side, leaves_in, lies_in, arm_round, is_kind, cond_kind, enter_kind, cell_kind}
-use Rattle.law_contexts.specs.Expanded.{row}
-use Rattle.law_wires.specs.Written.{Wire, is_shared, answer_side, answer_parts, exit_of, leaves, inner_wires, kind_parts, node_parts, inner_parts, sides, is_open, first_ends, cond_sides, Ended, arm_ends, close_kind, close_nodes, inner}
-use Rattle.law_wires.specs.Fit.{IsFit}
-use Rattle.law_wires.proofs.Counts.{before_close}
-use Rattle.law_wires.proofs.Parts.{follow, node_within}
-use Rattle.law_wires.proofs.WireLaws.{AllS, sides_both, leaves_region}
-use Rattle.law_wires.proofs.Arms.{arms_round, parts_both, open_all}
-use Rattle.law_wires.proofs.Leads.{In, all_in, open_in}
-use Rattle.law_wires.proofs.Both.{Use, AtLine, AtGate, AtMerge, AtResult, AtCopy, Comes, used_wire, inner_come, gate_of, unused_end, unused_region, before_grows, cond_before, inner_side, node_some}
+use Rattle.law_contexts.specs.Parts.{Line, Answer, Trigger, Gate, Strict, CallDone, LoopDone, CondEnd, part_key}
+use Rattle.law_contexts.specs.Blocks.{Side, side, Site, lies_in, flag, arm_round, is_kind, cond_kind, enter_kind, cell_kind, outputs_in}
+use Rattle.law_contexts.specs.Expanded.{row, invoked}
+use Rattle.law_wires.specs.Written.{Wire, is_shared, is_triggered, answer_side, exit_of, leaves_at, inner_wires, kind_parts, inner_parts, sides, is_open, first_ends, cond_sides, Ended, arm_ends, close, close_kind, close_nodes, close_flag, inner}
+use Rattle.law_wires.specs.Fit.{kind_ports, IsFit}
+use Rattle.law_wires.proofs.Counts.{Follow, follow_more, follow_here}
+use Rattle.law_wires.proofs.Members.{AllS, In, in_left, in_right, sides_both, sides_right, all_in, open_all, open_in, used_wire, region_in}
+use Rattle.law_wires.proofs.Parts.{node_within}
+use Rattle.law_wires.proofs.Nodes.{node_some, kind_at, is_value, leaves_region, leaves_own, leaves_some, arms_round}
+use Rattle.law_wires.proofs.Triggered.{some_node}
+use Rattle.law_wires.proofs.Sides.{done_in, loop_done_in, exit_side, inner_all}
+use Rattle.law_wires.proofs.Both.{R, count, Comes, Other, Copy, AtNode, AtGate, AtCond, AtMerge, AtResult, inner_come, is_last, last_open, gate_of, inner_side, unused_end, unused_region}
 
-module _ (b : Block ℕ) (fit : IsFit b) where
-  abbrev R : Side → Region
-  R t = leaves_in b t.part t.second
+-- THE NODE whose value leaves at a side
+pub same_node : (s : Site) (m p n q : ℕ) → leaves_at s m p ≡ leaves_at s n q → m ≡ n
+same_node s m p n q e = sym (leaves_own s m p).1 ∙ ap (λ (u : Side). (part_key u.part).first) e ∙ (leaves_own s n q).1
 
-  abbrev B : ℕ → Ended
-  B k = before_close b b.inputs b.nodes (inner b) k
+-- the exit of an answer with a copy is at the copy
+copy_side : (s : Site) (n q : ℕ) (r : Region) (k : Kind ℕ) → cell_kind k ≡ true → is_shared s n ≡ true → exit_of s n q r k ≡ side (Answer n) false
+copy_side s n q r (Fetch a) h e = ap (answer_side n) e
+copy_side s n q r (Store a) h e = ap (answer_side n) e
+copy_side s n q r k h e = absurd (cc)
 
-  -- an end of that arm
-  abbrev pub HasEnd : ℕ → Bool → Type 0
-  HasEnd k s = (t : Side) × In t (B k).ends × (R t ≡ Arm k s)
+pub copy_leaves : (s : Site) (n q : ℕ) → is_kind cell_kind s.block n ≡ true → is_shared s n ≡ true → leaves_at s n q ≡ side (Answer n) false
+copy_leaves s n q h e = let x = node_some s.block cell_kind n h in leaves_some s n q x.0 x.1 ∙ copy_side s n q x.0.region x.0.kind x.2 e
 
-  -- THE NUMBER of the node that leaves at a side
-  answer_number : (n : ℕ) (t : Bool) → (part_key (answer_side n t).part).first ≡ n
-  answer_number n true = refl
-  answer_number n false = refl
+-- no value leaves at a line that has a copy behind it
+pub copy_apart : (s : Site) (m q n : ℕ) → is_kind cell_kind s.block n ≡ true → is_shared s n ≡ true → leaves_at s m q ≢ side (Line n) false
+copy_apart s m q n h e f =
+    let same : m ≡ n = sym (leaves_own s m q).1 ∙ ap (λ (u : Side). (part_key u.part).first) f in
+    let p : Answer n ≡ Line n = ap (λ (u : Side). u.part) (sym (copy_leaves s n q h e) ∙ ap (λ i. leaves_at s i q) (sym same) ∙ f) in
+    cc
 
-  exit_number : (n : ℕ) (r : Region) (k : Kind ℕ) → (part_key (exit_of b n r k).part).first ≡ n
-  exit_number n r Enter = refl
-  exit_number n r (Merge c) = refl
-  exit_number n r Cond = refl
-  exit_number n r (Lit z) = refl
-  exit_number n r (Apply1 op) = refl
-  exit_number n r (Apply2 op) = refl
-  exit_number n r (Fetch a) = answer_number n (is_shared b n)
-  exit_number n r (Store a) = answer_number n (is_shared b n)
-  exit_number n r (Call f) = refl
-  exit_number n r (StrictCall f) = refl
-  exit_number n r (Loop f c) = refl
+module _ (fl : Flow) (s : Site) (fit : IsFit fl s.block) where
+  abbrev RR : Side → Region
+  RR t = R fl s fit t
 
-  leaves_number : (n : ℕ) → (part_key (leaves b n).part).first ≡ n
-  leaves_number n = go (node_at b n)
-    where
-      go : (o : Option (Node ℕ)) → (part_key (elim o as (λ x. Side) [ None ↦ side (Line n) false | Some line ↦ exit_of b n line.region line.kind ]).part).first ≡ n
-      go None = refl
-      go (Some line) = exit_number n line.region line.kind
+  abbrev pub HasEnd : Ended → ℕ → Bool → Type 0
+  HasEnd x k u = (t : Side) × In t x.ends × (RR t ≡ Arm k u)
 
-  -- the exit of an answer with a copy is at the copy
-  copy_side : (n : ℕ) (r : Region) (k : Kind ℕ) → cell_kind k ≡ true → is_shared b n ≡ true → exit_of b n r k ≡ side (Answer n) false
-  copy_side n r (Fetch a) h e = ap (answer_side n) e
-  copy_side n r (Store a) h e = ap (answer_side n) e
-  copy_side n r k h e = absurd (cc)
-
-  pub copy_leaves : (n : ℕ) → is_kind cell_kind b n ≡ true → is_shared b n ≡ true → leaves b n ≡ side (Answer n) false
-  copy_leaves n h e = go (node_at b n) h
-    where
-      go : (o : Option (Node ℕ)) → elim o as (λ x. Bool) [ None ↦ false | Some line ↦ cell_kind line.kind ] ≡ true
-          → elim o as (λ x. Side) [ None ↦ side (Line n) false | Some line ↦ exit_of b n line.region line.kind ] ≡ side (Answer n) false
-      go None c = absurd (cc)
-      go (Some x) c = copy_side n x.region x.kind c e
-
-  -- no value leaves at a line that has a copy behind it
-  pub copy_apart : (m n : ℕ) → is_kind cell_kind b n ≡ true → is_shared b n ≡ true → leaves b m ≢ side (Line n) false
-  copy_apart m n h e q =
-      let same : m ≡ n = sym (leaves_number m) ∙ ap (λ (u : Side). (part_key u.part).first) q in
-      let p : Answer n ≡ Line n = ap (λ (u : Side). u.part) (sym (copy_leaves n h e) ∙ ap (leaves b) (sym same) ∙ q) in
-      cc
-
-  pub same_node : (m n : ℕ) → leaves b m ≡ leaves b n → m ≡ n
-  same_node m n e = sym (leaves_number m) ∙ ap (λ (u : Side). (part_key u.part).first) e ∙ leaves_number n
-
-  -- the exit of a node that is no conditional is a side of its part
-  answer_in : (n : ℕ) (t : Bool) → In (answer_side n t) (sides (Line n ∷ answer_parts n t))
-  answer_in n true = inr (inl refl)
-  answer_in n false = inl refl
-
-  pub exit_side : (n : ℕ) (r : Region) (k : Kind ℕ) → cond_kind k ≡ false → In (exit_of b n r k) (sides (kind_parts b n k))
-  exit_side n Root Enter h = inl refl
-  exit_side n (Arm k true) Enter h = inl refl
-  exit_side n (Arm k false) Enter h = inr (inl refl)
-  exit_side n r (Merge c) h = inl refl
-  exit_side n r Cond h = absurd (cc)
-  exit_side n r (Lit z) h = inl refl
-  exit_side n r (Apply1 op) h = inl refl
-  exit_side n r (Apply2 op) h = inl refl
-  exit_side n r (Fetch a) h = answer_in n (is_shared b n)
-  exit_side n r (Store a) h = answer_in n (is_shared b n)
-  exit_side n r (Call f) h = inl refl
-  exit_side n r (StrictCall f) h = inl refl
-  exit_side n r (Loop f c) h = inl refl
-
-  pub leaves_side : (n k : ℕ) (s : Bool) → lies_in b n ≡ Arm k s → is_kind cond_kind b n ≡ false → In (leaves b n) (sides (inner_parts b))
-  leaves_side n k s e c = go (node_at b n) refl
-    where
-      go : (o : Option (Node ℕ)) → node_at b n ≡ o → In (leaves b n) (sides (inner_parts b))
-      go None f = let root : lies_in b n ≡ Root = ap arm_of f in let no : Root ≡ Arm k s = sym root ∙ e in absurd (cc)
-      go (Some x) f =
-          let exit : leaves b n ≡ exit_of b n x.region x.kind = ap (λ o. elim o as (λ z. Side) [ None ↦ side (Line n) false | Some line ↦ exit_of b n line.region line.kind ]) f in
-          let plain : cond_kind x.kind ≡ false = sym (ap (λ o. elim o as (λ z. Bool) [ None ↦ false | Some line ↦ cond_kind line.kind ]) f) ∙ c in
-          inner_side b fit (leaves b n) n x f (subst (λ t. In t (sides (kind_parts b n x.kind))) (sym exit) (exit_side n x.region x.kind plain))
-
-  -- CLIMBING: a node's value in an arm leads, in the end, to an end of the arm
-  other_arm : (g k : ℕ) (s : Bool) → lies_in b g ≡ Arm k s → is_kind enter_kind b g ≡ true → HasEnd k (not s)
-  other_arm g k s e i = (side (Gate g) s, before_grows b fit (side (Gate g) s) b.inputs b.nodes (inner b) k (unused_end b fit g k s e i), unused_region b fit g k s e)
-
-  not_not : (s : Bool) → not (not s) ≡ s
-  not_not true = refl
-  not_not false = refl
-
-  nested_end : (k j : ℕ) (s t : Bool) (g : ℕ) → is_kind cond_kind b k ≡ true → lies_in b g ≡ Arm j t → is_kind enter_kind b g ≡ true → lies_in b j ≡ Arm k s → HasEnd k s
-  nested_end k j s t g c e i l =
-      let later = arms_round b fit j k s l in
-      let cond = arms_round b fit g j t e in
-      let y = node_some b fit cond_kind j cond.1 in
-      let x = node_some b fit cond_kind k c in
-      let low = (node_within b fit k x.0 x.1).0 in
-      let high = (node_within b fit j y.0 y.1).1 in
-      (side (CondEnd j) false, cond_before b fit (side (Gate g) t) j (not t) y.0 b.inputs b.nodes (inner b) k (follow b fit) low later.0 high y.1 y.2 (unused_end b fit g j t e i) (unused_region b fit g j t e), l)
-
-  climb : (fuel m k : ℕ) (s : Bool) → is_kind cond_kind b k ≡ true → b.inputs + length b.nodes ≤ m + fuel → m < b.inputs + length b.nodes → lies_in b m ≡ Arm k s → is_kind cond_kind b m ≡ false → HasEnd k s
-  climb zero m k s c l u e p = absurd (omega (arith, l, u))
-  climb (suc fuel) m k s c l u e p = go (is_open (leaves b m) (inner_wires b)) refl (λ n a d f q. climb fuel n k s c a d f q)
-    where
-      at : R (leaves b m) ≡ Arm k s
-      at = leaves_region b fit m ∙ e
-
-      by_use : (v : Wire) → leaves b m ≡ v.from → Use b fit v
-          → ((n : ℕ) → b.inputs + length b.nodes ≤ n + fuel → n < b.inputs + length b.nodes → lies_in b n ≡ Arm k s → is_kind cond_kind b n ≡ false → HasEnd k s) → HasEnd k s
-      by_use v q (AtLine n j from less high lies plain) more =
-          let same : m ≡ j = same_node m j (q ∙ from) in
-          more n (omega (arith, l, same, less)) high (lies ∙ ap R (sym q) ∙ at) plain
-      by_use v q (AtGate n j t lies enter region) more = nested_end k j s t n c lies enter (sym region ∙ ap R (sym q) ∙ at)
-      by_use v q (AtMerge j n t region lies) more =
-          let same : Arm j t ≡ Arm k s = sym region ∙ ap R (sym q) ∙ at in
-          let arm : j ≡ k = cc in
-          let its : t ≡ s = cc in
-          let there : lies_in b n ≡ Arm k (not s) = lies ∙ (λ i. Arm (arm i) (not (its i))) in
-          let g = gate_of b fit (suc n) n k (not s) (omega arith) there in
-          subst (HasEnd k) (not_not s) (other_arm g.0 k (not s) g.1 g.2)
-      by_use v q (AtCopy j from cell shared) more = absurd (copy_apart m j cell shared (q ∙ from))
-      by_use v q (AtResult region) more = let no : Root ≡ Arm k s = sym region ∙ ap R (sym q) ∙ at in absurd (cc)
-
-      go : (o : Bool) → is_open (leaves b m) (inner_wires b) ≡ o
-          → ((n : ℕ) → b.inputs + length b.nodes ≤ n + fuel → n < b.inputs + length b.nodes → lies_in b n ≡ Arm k s → is_kind cond_kind b n ≡ false → HasEnd k s) → HasEnd k s
-      go true o more =
-          (leaves b m, before_grows b fit (leaves b m) b.inputs b.nodes (inner b) k (open_in b fit (leaves b m) (inner_wires b) (sides (inner_parts b)) (leaves_side m k s e p) o), at)
-      go false o more = let v = used_wire (Comes b fit) (leaves b m) (inner_wires b) (inner_come b fit) o in by_use v.0 v.2 v.1.1 more
-
-  enter_plain : (k : Kind ℕ) → enter_kind k ≡ true → cond_kind k ≡ false
-  enter_plain Enter h = refl
-  enter_plain k h = absurd (cc)
-
-  this_arm : (g k : ℕ) (s : Bool) → lies_in b g ≡ Arm k s → is_kind enter_kind b g ≡ true → HasEnd k s
-  this_arm g k s e i =
-      let x = node_some b fit enter_kind g i in
-      let w = node_within b fit g x.0 x.1 in
-      let c = (arms_round b fit g k s e).1 in
-      let plain : is_kind cond_kind b g ≡ false = ap (λ o. elim o as (λ z. Bool) [ None ↦ false | Some line ↦ cond_kind line.kind ]) x.1 ∙ enter_plain x.0.kind x.2 in
-      climb (b.inputs + length b.nodes) g k s c (omega arith) w.1 e plain
-
-  pub both_by_gate : (g k : ℕ) (s u : Bool) → lies_in b g ≡ Arm k s → is_kind enter_kind b g ≡ true → HasEnd k u
-  both_by_gate g k true true e i = this_arm g k true e i
-  both_by_gate g k false false e i = this_arm g k false e i
-  both_by_gate g k true false e i = other_arm g k true e i
-  both_by_gate g k false true e i = other_arm g k false e i
-
-  -- WHERE AN END COMES FROM: some node lies in an arm of that conditional
+  -- some node lies in an arm of the conditional in whose arm a side is
   abbrev Origin : Side → Type 0
-  Origin t = (k : ℕ) (s : Bool) → R t ≡ Arm k s → (n : ℕ) × (u : Bool) × (lies_in b n ≡ Arm k u)
+  Origin t = (k : ℕ) (u : Bool) → RR t ≡ Arm k u → is_kind cond_kind s.block k ≡ true → (n : ℕ) × (v : Bool) × (lies_in s.block n ≡ Arm k v)
 
-  line_origin : (n : ℕ) → Origin (side (Line n) false)
-  line_origin n k s e = (n, s, e)
+  -- the conditionals from that one on are closed
+  pub record IsGrown (n : ℕ) (x : Ended) : Type 0 where
+    pub firsts : (t : Side) → In t (first_ends fl s) → In t x.ends
+    pub later : (j : ℕ) (u : Bool) (t : Side) → n ≤ j → is_kind cond_kind s.block j ≡ true → In t (first_ends fl s) → RR t ≡ Arm j u → In (side (CondEnd j) false) x.ends
+    pub origins : AllS Origin x.ends
 
-  round_origin : (n : ℕ) (r : Region) (q : Bool) → lies_in b n ≡ r → (k : ℕ) (s : Bool) → arm_round r q ≡ Arm k s → (m : ℕ) × (u : Bool) × (lies_in b m ≡ Arm k u)
-  round_origin n Root q f k s e = absurd (cc)
-  round_origin n (Arm j u) q f k s e = let same : j ≡ k = cc in (n, u, f ∙ ap (λ i. Arm i u) same)
+  module _ (k : ℕ) (x : Ended) (grown : IsGrown (k + 1) x) (cond : is_kind cond_kind s.block k ≡ true) where
+    other_arm : (g : ℕ) (u : Bool) → lies_in s.block g ≡ Arm k u → is_kind enter_kind s.block g ≡ true → HasEnd x k (not u)
+    other_arm g u e i = (side (Gate g) u, grown.firsts (side (Gate g) u) (unused_end fl s fit g k u e i), unused_region fl s fit g k u e)
 
-  answers_origin : (n : ℕ) (t : Bool) → AllS Origin (sides (answer_parts n t))
-  answers_origin n true = (λ k s e. (n, s, e), tt)
-  answers_origin n false = tt
+    not_not : (u : Bool) → not (not u) ≡ u
+    not_not true = refl
+    not_not false = refl
 
-  kind_origin : (n : ℕ) (k : Kind ℕ) → AllS Origin (sides (kind_parts b n k))
-  kind_origin n Cond = tt
-  kind_origin n Enter = (round_origin n (lies_in b n) true refl, (round_origin n (lies_in b n) false refl, tt))
-  kind_origin n (Merge c) = (λ k s e. (n, s, e), tt)
-  kind_origin n (Lit z) = (line_origin n, tt)
-  kind_origin n (Apply1 op) = (line_origin n, tt)
-  kind_origin n (Apply2 op) = (line_origin n, tt)
-  kind_origin n (Fetch a) = (line_origin n, answers_origin n (is_shared b n))
-  kind_origin n (Store a) = (line_origin n, answers_origin n (is_shared b n))
-  kind_origin n (Call f) = (line_origin n, tt)
-  kind_origin n (StrictCall f) = (line_origin n, tt)
-  kind_origin n (Loop f c) = (line_origin n, tt)
+    -- a conditional within that has a gate
+    nested_end : (j : ℕ) (u t : Bool) (g : ℕ) → lies_in s.block g ≡ Arm j t → is_kind enter_kind s.block g ≡ true → lies_in s.block j ≡ Arm k u → HasEnd x k u
+    nested_end j u t g e i l =
+        let low = (arms_round fl s.block fit j k u l).0 in
+        (side (CondEnd j) false, grown.later j (not t) (side (Gate g) t) (omega (arith, low)) (arms_round fl s.block fit g j t e).1 (unused_end fl s fit g j t e i) (unused_region fl s fit g j t e), l)
 
-  nodes_origin : (n : ℕ) (xs : List (Node ℕ)) → AllS Origin (sides (node_parts b n xs))
-  nodes_origin n [] = tt
-  nodes_origin n (x ∷ xs) = parts_both Origin (kind_parts b n x.kind) (node_parts b (n + 1) xs) (kind_origin n x.kind) (nodes_origin (n + 1) xs)
+    first_end : (t : Side) (u : Bool) → In t (sides (inner_parts fl s)) → is_open t (inner_wires s) ≡ true → RR t ≡ Arm k u → HasEnd x k u
+    first_end t u i o e = (t, grown.firsts t (open_in t (inner_wires s) (sides (inner_parts fl s)) i o), e)
 
-  lines_origin : (from n : ℕ) → AllS Origin (sides (row Line from n))
-  lines_origin from zero = tt
-  lines_origin from (suc n) = (line_origin from, lines_origin (from + 1) n)
+    -- CLIMBING: a node in an arm leads, in the end, to an end of the arm
+    climb : (fuel m : ℕ) (u : Bool) → count fl s fit ≤ m + fuel → m < count fl s fit → lies_in s.block m ≡ Arm k u → is_kind cond_kind s.block m ≡ false → HasEnd x k u
+    climb zero m u l h e p = absurd (omega (arith, l, h))
+    climb (suc fuel) m u l h e p = go (node_at s.block m) refl (λ n a d f q. climb fuel n u a d f q)
+      where
+        More : Type 0
+        More = (n : ℕ) → count fl s fit ≤ n + fuel → n < count fl s fit → lies_in s.block n ≡ Arm k u → is_kind cond_kind s.block n ≡ false → HasEnd x k u
 
-  no_origin : (k : ℕ) (s : Bool) → Root ≡ Arm k s → (n : ℕ) × (u : Bool) × (lies_in b n ≡ Arm k u)
-  no_origin k s e = absurd (cc)
+        at : RR (leaves_at s m 0) ≡ Arm k u
+        at = leaves_region s m 0 ∙ e
 
-  results_origin : (from n : ℕ) → AllS Origin (sides (row Result from n))
-  results_origin from zero = tt
-  results_origin from (suc n) = (no_origin, results_origin (from + 1) n)
+        by_use : (v : Wire) → leaves_at s m 0 ≡ v.from → Comes fl s fit v → More → HasEnd x k u
+        by_use v q (Other f g) more = let o = (leaves_own s m 0).0 in let z = ap (λ (t : Side). is_value t.part) q in absurd (cc)
+        by_use v q (Copy n f cell shared) more = absurd (copy_apart s m 0 n cell shared (q ∙ f))
+        by_use v q (AtNode z n f less high lies plain) more = let same = same_node s m 0 z.node z.port (q ∙ f) in more n (omega (arith, l, same, less)) high (lies ∙ ap RR (sym q) ∙ at) plain
+        by_use v q (AtGate z n j t f lies enter reg) more = nested_end j u t n lies enter (sym reg ∙ ap RR (sym q) ∙ at)
+        by_use v q (AtCond z j f triggered reg) more =
+            let n = some_node s.block j triggered in
+            let g = gate_of fl s fit (suc n.0) n.0 j n.1 (omega arith) n.2 in
+            nested_end j u n.1 g.0 g.1 g.2 (sym reg ∙ ap RR (sym q) ∙ at)
+        by_use v q (AtMerge z j n t f reg lies) more =
+            let same : Arm j t ≡ Arm k u = sym reg ∙ ap RR (sym q) ∙ at in
+            let arm : j ≡ k = cc in
+            let its : t ≡ u = cc in
+            let there : lies_in s.block n ≡ Arm k (not u) = lies ∙ (λ i. Arm (arm i) (not (its i))) in
+            let g = gate_of fl s fit (suc n) n k (not u) (omega arith) there in
+            subst (HasEnd x k) (not_not u) (other_arm g.0 (not u) g.1 g.2)
+        by_use v q (AtResult z f reg) more = let no : Root ≡ Arm k u = sym reg ∙ ap RR (sym q) ∙ at in absurd (cc)
 
-  inner_origin : AllS Origin (first_ends b)
+        value : (y : Node ℕ) → node_at s.block m ≡ Some y → 0 < kind_ports fl (length y.sources) y.kind → More → HasEnd x k u
+        value y f ports more = by_open (is_open (leaves_at s m 0) (inner_wires s)) refl
+          where
+            by_open : (o : Bool) → is_open (leaves_at s m 0) (inner_wires s) ≡ o → HasEnd x k u
+            by_open true o =
+                first_end (leaves_at s m 0) u
+                (inner_side fl s fit (leaves_at s m 0) m y f (subst (λ t. In t (sides (kind_parts fl s m (length y.sources) y.kind))) (sym (leaves_some s m 0 y f)) (exit_side fl s m 0 (length y.sources) y.region y.kind ports))) o at
+            by_open false o = let v = used_wire (Comes fl s fit) (leaves_at s m 0) (inner_wires s) (inner_come fl s fit) o in by_use v.0 v.2 v.1 more
+
+        -- the end of an invocation is an end
+        done : (t : Side) (y : Node ℕ) → node_at s.block m ≡ Some y → In t (sides (kind_parts fl s m (length y.sources) y.kind)) → is_last t.part ≡ true → RR t ≡ lies_in s.block m → HasEnd x k u
+        done t y f i o r = first_end t u (inner_side fl s fit t m y f i) (last_open fl s fit t o) (r ∙ e)
+
+        by_kind : (y : Node ℕ) → node_at s.block m ≡ Some y → (c : Kind ℕ) → y.kind ≡ c → More → HasEnd x k u
+        by_kind y f (Call g) q more =
+            done (side (CallDone m) false) y f (subst (λ c. In (side (CallDone m) false) (sides (kind_parts fl s m (length y.sources) c))) (sym q) (done_in fl s m (length y.sources) (outputs_in (slice_get fl.blocks g)))) refl refl
+        by_kind y f (StrictCall g) q more =
+            done (side (CallDone m) false) y f (subst (λ c. In (side (CallDone m) false) (sides (kind_parts fl s m (length y.sources) c))) (sym q)
+            (sides_right (side (CallDone m) false) (row (Strict m) 1 (length y.sources - 1)) (invoked m (length y.sources) (outputs_in (slice_get fl.blocks g)) ++ CallDone m ∷ []) (done_in fl s m (length y.sources) (outputs_in (slice_get fl.blocks g))))) refl refl
+        by_kind y f (Loop g c) q more =
+            done (side (LoopDone m) false) y f (subst (λ c. In (side (LoopDone m) false) (sides (kind_parts fl s m (length y.sources) c))) (sym q) (loop_done_in fl s m (length y.sources) (length y.sources))) refl refl
+        by_kind y f Cond q more = let c = kind_at s.block cond_kind m y f ∙ ap cond_kind q in absurd (cc)
+        by_kind y f Enter q more = value y f (subst (λ c. 0 < kind_ports fl (length y.sources) c) (sym q) (omega arith)) more
+        by_kind y f (Merge c) q more = value y f (subst (λ c. 0 < kind_ports fl (length y.sources) c) (sym q) (omega arith)) more
+        by_kind y f (Lit c) q more = value y f (subst (λ c. 0 < kind_ports fl (length y.sources) c) (sym q) (omega arith)) more
+        by_kind y f (Apply1 c) q more = value y f (subst (λ c. 0 < kind_ports fl (length y.sources) c) (sym q) (omega arith)) more
+        by_kind y f (Apply2 c) q more = value y f (subst (λ c. 0 < kind_ports fl (length y.sources) c) (sym q) (omega arith)) more
+        by_kind y f (Fetch c) q more = value y f (subst (λ c. 0 < kind_ports fl (length y.sources) c) (sym q) (omega arith)) more
+        by_kind y f (Store c) q more = value y f (subst (λ c. 0 < kind_ports fl (length y.sources) c) (sym q) (omega arith)) more
+
+        go : (o : Option (Node ℕ)) → node_at s.block m ≡ o → More → HasEnd x k u
+        go None f more = let root : lies_in s.block m ≡ Root = ap arm_of f in let no : Root ≡ Arm k u = sym root ∙ e in absurd (cc)
+        go (Some y) f more = by_kind y f y.kind refl more
+
+    enter_plain : (c : Kind ℕ) → enter_kind c ≡ true → cond_kind c ≡ false
+    enter_plain Enter h = refl
+    enter_plain c h = absurd (cc)
+
+    this_arm : (g : ℕ) (u : Bool) → lies_in s.block g ≡ Arm k u → is_kind enter_kind s.block g ≡ true → HasEnd x k u
+    this_arm g u e i =
+        let y = node_some s.block enter_kind g i in
+        let w = node_within s.block g y.0 y.1 in
+        climb (count fl s fit) g u (omega arith) w.1 e (kind_at s.block cond_kind g y.0 y.1 ∙ enter_plain y.0.kind y.2)
+
+    by_gate : (g : ℕ) (u v : Bool) → lies_in s.block g ≡ Arm k u → is_kind enter_kind s.block g ≡ true → HasEnd x k v
+    by_gate g true true e i = this_arm g true e i
+    by_gate g false false e i = this_arm g false e i
+    by_gate g true false e i = other_arm g true e i
+    by_gate g false true e i = other_arm g false e i
+
+    -- BOTH ARMS
+    pub both_arms : (u v : Bool) → HasEnd x k u → HasEnd x k v
+    both_arms u v h =
+        let o = all_in Origin h.0 x.ends grown.origins h.1 k u h.2 cond in
+        let g = gate_of fl s fit (suc o.0) o.0 k o.1 (omega arith) o.2 in
+        by_gate g.0 o.1 v g.1 g.2
+
+  -- GROWING
+  some_cond : (k : ℕ) (us : List Side) (t : Side) → In t us → In (side (CondEnd k) false) (cond_sides k us)
+  some_cond k [] t h = absurd h
+  some_cond k (u ∷ us) t h = inl refl
+
+  pub closes_it : (t : Side) (k : ℕ) (u : Bool) (x : Ended) → In t x.ends → RR t ≡ Arm k u → In (side (CondEnd k) false) (close s.block k x).ends
+  closes_it t k true x h e =
+      in_right (side (CondEnd k) false) x.ends (cond_sides k (arm_ends s.block k true x ++ arm_ends s.block k false x))
+      (some_cond k (arm_ends s.block k true x ++ arm_ends s.block k false x) t (in_left t (arm_ends s.block k true x) (arm_ends s.block k false x) (region_in s.block t x.ends (Arm k true) h e)))
+  closes_it t k false x h e =
+      in_right (side (CondEnd k) false) x.ends (cond_sides k (arm_ends s.block k true x ++ arm_ends s.block k false x))
+      (some_cond k (arm_ends s.block k true x ++ arm_ends s.block k false x) t (in_right t (arm_ends s.block k true x) (arm_ends s.block k false x) (region_in s.block t x.ends (Arm k false) h e)))
+
+  conds_origin : (k : ℕ) (us : List Side) → AllS Origin (cond_sides k us)
+  conds_origin k [] = tt
+  conds_origin k (u ∷ us) = (λ j v e c. (k, v, e), tt)
+
+  cond_grows : (n : ℕ) (x : Ended) → IsGrown (n + 1) x → IsGrown n (close s.block n x)
+  cond_grows n x g = record {
+    firsts = λ t h. in_left t x.ends (cond_sides n (arm_ends s.block n true x ++ arm_ends s.block n false x)) (g.firsts t h);
+    later = λ j u t l c h e. by_number j u t l c h e (cases_lt n j);
+    origins = sides_both Origin x.ends (cond_sides n (arm_ends s.block n true x ++ arm_ends s.block n false x)) g.origins (conds_origin n (arm_ends s.block n true x ++ arm_ends s.block n false x));
+  }
+    where
+      by_number : (j : ℕ) (u : Bool) (t : Side) → n ≤ j → is_kind cond_kind s.block j ≡ true → In t (first_ends fl s) → RR t ≡ Arm j u → (n < j) ⊎ (j ≤ n) → In (side (CondEnd j) false) (close s.block n x).ends
+      by_number j u t l c h e (inl a) = in_left (side (CondEnd j) false) x.ends (cond_sides n (arm_ends s.block n true x ++ arm_ends s.block n false x)) (g.later j u t (omega (arith, a)) c h e)
+      by_number j u t l c h e (inr a) = let same : j ≡ n = omega (arith, l, a) in subst (λ i. In (side (CondEnd j) false) (close s.block i x).ends) same (closes_it t j u x (g.firsts t h) e)
+
+  plain_grows : (n : ℕ) (x : Ended) → is_kind cond_kind s.block n ≡ false → IsGrown (n + 1) x → IsGrown n x
+  plain_grows n x p g = record {
+    firsts = g.firsts;
+    later = λ j u t l c h e. let ne : j ≢ n = λ q. let z = ap (is_kind cond_kind s.block) q in absurd (cc) in g.later j u t (omega (arith, l, ne)) c h e;
+    origins = g.origins;
+  }
+
+  pub kind_grows : (n : ℕ) (x : Ended) (k : Kind ℕ) → is_kind cond_kind s.block n ≡ cond_kind k → IsGrown (n + 1) x → IsGrown n (close_kind s.block n x k)
+  kind_grows n x Cond e g = cond_grows n x g
+  kind_grows n x (Lit z) e g = plain_grows n x e g
+  kind_grows n x (Apply1 op) e g = plain_grows n x e g
+  kind_grows n x (Apply2 op) e g = plain_grows n x e g
+  kind_grows n x Enter e g = plain_grows n x e g
+  kind_grows n x (Merge c) e g = plain_grows n x e g
+  kind_grows n x (Fetch a) e g = plain_grows n x e g
+  kind_grows n x (Store a) e g = plain_grows n x e g
+  kind_grows n x (Call f) e g = plain_grows n x e g
+  kind_grows n x (StrictCall f) e g = plain_grows n x e g
+  kind_grows n x (Loop f c) e g = plain_grows n x e g
+
+  pub nodes_grow : (n : ℕ) (xs : List (Node ℕ)) (x : Ended) → Follow s.block n xs → IsGrown (n + length xs) x → IsGrown n (close_nodes s.block n xs x)
+  nodes_grow n [] x f g = let same : n + 0 ≡ n = omega arith in subst (λ k. IsGrown k x) same g
+  nodes_grow n (y ∷ xs) x f g =
+      let same : n + suc (length xs) ≡ (n + 1) + length xs = omega arith in
+      kind_grows n (close_nodes s.block (n + 1) xs x) y.kind (kind_at s.block cond_kind n y (follow_here s.block n y xs f)) (nodes_grow (n + 1) xs x (follow_more s.block n y xs f) (subst (λ k. IsGrown k x) same g))
+
+  -- THE START
+  none_later : (j : ℕ) → count fl s fit ≤ j → is_kind cond_kind s.block j ≡ true → ⊥
+  none_later j l c = let y = node_some s.block cond_kind j c in let w = (node_within s.block j y.0 y.1).1 in omega (arith, w, l)
+
+  round_origin : (n : ℕ) (r : Region) (u : Bool) → lies_in s.block n ≡ r → (k : ℕ) (v : Bool) → arm_round r u ≡ Arm k v → (m : ℕ) × (w : Bool) × (lies_in s.block m ≡ Arm k w)
+  round_origin n Root u f k v e = absurd (cc)
+  round_origin n (Arm j w) u f k v e = let same : j ≡ k = cc in (n, w, f ∙ ap (λ i. Arm i w) same)
+
+  trigger_origin : (n : ℕ) (u : Bool) → is_triggered s.block n ≡ true → Origin (side (Trigger n) u)
+  trigger_origin n u h k v e c = let same : n ≡ k = cc in some_node s.block k (ap (is_triggered s.block) (sym same) ∙ h)
+
+  inner_origin : AllS Origin (first_ends fl s)
   inner_origin =
-      open_all Origin (inner_wires b) (sides (inner_parts b))
-      (parts_both Origin (Entry ∷ row Line 0 b.inputs ++ node_parts b b.inputs b.nodes) (row Result 0 (length b.results))
-      (no_origin, parts_both Origin (row Line 0 b.inputs) (node_parts b b.inputs b.nodes) (lines_origin 0 b.inputs) (nodes_origin b.inputs b.nodes)) (results_origin 0 (length b.results)))
+      open_all Origin (inner_wires s) (sides (inner_parts fl s))
+      (inner_all fl s Origin (λ n r f k u e c. (n, u, sym f ∙ e)) (λ n u k v e c. round_origin n (lies_in s.block n) (not u) refl k v e) trigger_origin (λ r f k u e c. let no : Root ≡ Arm k u = sym f ∙ e in absurd (cc))
+      (λ turned t u f k v e c. let no : Arm (flag s.block) u ≡ Arm k v = sym f ∙ e in let same : flag s.block ≡ k = cc in absurd (none_later k (omega (arith, same)) c)))
 
-  kind_keeps : (n : ℕ) (x : Ended) (k : Kind ℕ) → AllS Origin x.ends → AllS Origin (close_kind b n x k).ends
-  kind_keeps n x Cond h = sides_both Origin x.ends (cond_sides n (arm_ends b n true x ++ arm_ends b n false x)) h (new (arm_ends b n true x ++ arm_ends b n false x))
-    where
-      new : (us : List Side) → AllS Origin (cond_sides n us)
-      new [] = tt
-      new (u ∷ us) = (λ k s e. (n, s, e), tt)
-  kind_keeps n x (Lit z) h = h
-  kind_keeps n x (Apply1 op) h = h
-  kind_keeps n x (Apply2 op) h = h
-  kind_keeps n x Enter h = h
-  kind_keeps n x (Merge c) h = h
-  kind_keeps n x (Fetch a) h = h
-  kind_keeps n x (Store a) h = h
-  kind_keeps n x (Call f) h = h
-  kind_keeps n x (StrictCall f) h = h
-  kind_keeps n x (Loop f c) h = h
-
-  nodes_keep : (n : ℕ) (xs : List (Node ℕ)) (x : Ended) → AllS Origin x.ends → AllS Origin (close_nodes b n xs x).ends
-  nodes_keep n [] x h = h
-  nodes_keep n (y ∷ xs) x h = kind_keeps n (close_nodes b (n + 1) xs x) y.kind (nodes_keep (n + 1) xs x h)
-
-  before_keeps : (n : ℕ) (xs : List (Node ℕ)) (x : Ended) (k : ℕ) → AllS Origin x.ends → AllS Origin (before_close b n xs x k).ends
-  before_keeps n [] x k h = h
-  before_keeps n (y ∷ xs) x k h = go (n == k) (nodes_keep (n + 1) xs x h) (before_keeps (n + 1) xs x k h)
-    where
-      go : (s : Bool) → AllS Origin (close_nodes b (n + 1) xs x).ends → AllS Origin (before_close b (n + 1) xs x k).ends → AllS Origin (if s then close_nodes b (n + 1) xs x else before_close b (n + 1) xs x k).ends
-      go true p q = p
-      go false p q = q
-
-  -- BOTH ARMS have an end, where one has
-  pub both_arms : (k : ℕ) (s u : Bool) → HasEnd k s → HasEnd k u
-  both_arms k s u h =
-      let o = all_in b fit Origin h.0 (B k).ends (before_keeps b.inputs b.nodes (inner b) k inner_origin) h.1 k s h.2 in
-      let g = gate_of b fit (suc o.0) o.0 k o.1 (omega arith) o.2 in
-      both_by_gate g.0 k o.1 u g.1 g.2
+  pub start_grown : (t : Bool) → IsGrown (count fl s fit) (close_flag s.block t (inner fl s))
+  start_grown false = record { firsts = λ t h. h; later = λ j u t l c h e. absurd (none_later j l c); origins = inner_origin }
+  start_grown true =
+      let x : Ended = inner fl s in
+      let k : ℕ = node_count s.block in
+      record {
+        firsts = λ t h. in_left t x.ends (cond_sides k (arm_ends s.block k true x ++ arm_ends s.block k false x)) h;
+        later = λ j u t l c h e. absurd (none_later j l c);
+        origins = sides_both Origin x.ends (cond_sides k (arm_ends s.block k true x ++ arm_ends s.block k false x)) inner_origin (conds_origin k (arm_ends s.block k true x ++ arm_ends s.block k false x));
+      }

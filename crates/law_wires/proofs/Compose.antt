@@ -1,5 +1,5 @@
--- Both halves make all that is static of the first stage.
-use Rattle.std.proofs.Common.{◌≡◌, ℕ, zero, suc, ◌+◌, ◌-◌, ◌<◌, ◌≤◌, ◌⊎◌, inl, inr, Bool, true, false, List, [], ◌∷◌, ◌++◌, length, refl, sym, ap, ◌∙◌, arith, if◌then◌else◌, Some, None, nat_lt, lt-ltb, sum_by}
+-- Each code block of a plan is there: that of each block, and that of its turns where a loop names it.
+use Rattle.std.proofs.Common.{◌≡◌, ℕ, zero, suc, ◌+◌, ◌-◌, ◌<◌, ◌≤◌, ◌⊎◌, inl, inr, Bool, true, false, List, [], ◌∷◌, ◌++◌, length, refl, sym, ap, ◌∙◌, arith, if◌then◌else◌, None, nat_lt, lt-ltb, sum_by}
 use Rattle.std.specs.Prelude.{slice_get, slice_index_or, count_by}
 use Rattle.std.proofs.lemmas.Bool.{cases_lt, le-ltb}
 use Rattle.std.proofs.lemmas.List.Sums.{sum-map, sum_by-cons}
@@ -13,15 +13,10 @@ use Rattle.semantics.specs.WellFormed.{WellFormed}
 use Rattle.semantics.specs.Meaning as Meaning
 use Rattle.semantics.specs.Cause as Cause
 use Rattle.semantics.specs.Cause.{is_looped}
-use Rattle.semantics.specs.Program.{CodeBlock}
 use Rattle.determinacy.proofs.Resolved.{flow_well}
 use Rattle.expansion.specs.Variants.{loops_to, some_node_loops, some_block_loops, next_variant, variants_from}
-use Rattle.expansion.specs.Expanded.{expanded}
 use Rattle.law_expansion.proofs.FactsCodes.{some_loop, plain_at, variant_at}
-use Rattle.law_contexts.specs.Theorem.{HasOnly, stage_of}
-use Rattle.law_contexts.specs.Expanded.{CodesAreThere, variant_in, wires_of}
-use Rattle.law_wires.specs.Halves.{HalvesSuffice, IsLaidAsWritten}
-use Rattle.law_wires.proofs.Fits.{blocks_fit}
+use Rattle.law_contexts.specs.Expanded.{CodesAreThere, variant_in}
 
 -- WHICH BLOCKS ARE LOOPED, said in two ways
 some_of : (m n : ℕ) (s t : Bool) → s ≡ nat_lt 0 m → t ≡ nat_lt 0 n → (if s then true else t) ≡ nat_lt 0 (m + n)
@@ -127,7 +122,7 @@ module _ (g : Graph) (text : HasText g) (well : WellFormed g) where
           let at : (b.inputs + j) - b.inputs ≡ j = omega arith in
           ap (λ t. if t then None else slice_get b.nodes ((b.inputs + j) - b.inputs)) past ∙ ap (slice_get b.nodes) at
 
-  number_is : (i : ℕ) → i < length fl.blocks → variant_in fl i ≡ next_variant fl.blocks i
+  pub number_is : (i : ℕ) → i < length fl.blocks → variant_in fl i ≡ next_variant fl.blocks i
   number_is i l = variant_number fl.blocks (length fl.blocks) i l
 
   pub codes_are_there : CodesAreThere fl
@@ -150,47 +145,3 @@ module _ (g : Graph) (text : HasText g) (well : WellFormed g) where
           let x = number_is i (looped_there i k) in
           let z = number_is j (looped_there j l) in
           absurd (omega (arith, less, x, z, e))
-
-  -- at the first stage nothing is looped
-  pub none_looped : HasOnly 2 fl → (i : ℕ) → is_looped fl i ≡ true → ⊥
-  none_looped only i h =
-      let x = some_loop i fl.blocks (looped i h) in
-      let b : Block ℕ = x.1 in
-      let low = only x.0 (b.inputs + x.2) b x.3 x.5 (node_line b x.2 ∙ x.6) in
-      let kind : stage_of x.3.kind ≡ 4 = ap stage_of x.7 in
-      omega (arith, low, kind)
-    where
-      node_line : (b : Block ℕ) (j : ℕ) → node_at b (b.inputs + j) ≡ slice_get b.nodes j
-      node_line b j =
-          let past : nat_lt (b.inputs + j) b.inputs ≡ false = le-ltb (b.inputs + j) b.inputs (omega arith) in
-          let at : (b.inputs + j) - b.inputs ≡ j = omega arith in
-          ap (λ t. if t then None else slice_get b.nodes ((b.inputs + j) - b.inputs)) past ∙ ap (slice_get b.nodes) at
-
-pub halves_suffice : HalvesSuffice
-halves_suffice h = record {
-  there = λ g text well. codes_are_there g text well;
-  laid = record {
-    plain = λ g text well only i b c e k. (half g text well only i b c e k).laid;
-    turns = λ g text well only i b c e l k. absurd (none_looped g text well only i l);
-  };
-  fed = record {
-    plain = λ g text well only i b c e k. h.fed (flow_of g) i b ((wires_of (flow_of g)).wiring i) (blocks_fit g well only i b e) (half g text well only i b c e k).written;
-    turns = λ g text well only i b c e l k. absurd (none_looped g text well only i l);
-  };
-  uses = record {
-    plain = λ g text well only i b c e k. h.uses (flow_of g) i b (wires_of (flow_of g)) only e (blocks_fit g well only i b e) (half g text well only i b c e k).written;
-    turns = λ g text well only i b c e l k. absurd (none_looped g text well only i l);
-  };
-  arms = record {
-    plain = λ g text well only i b c e k. h.arms (flow_of g) i b ((wires_of (flow_of g)).wiring i) (blocks_fit g well only i b e) (half g text well only i b c e k).written;
-    turns = λ g text well only i b c e l k. absurd (none_looped g text well only i l);
-  };
-  leads = record {
-    plain = λ g text well only i b c e k. h.leads (flow_of g) i b ((wires_of (flow_of g)).wiring i) (blocks_fit g well only i b e) (half g text well only i b c e k).written;
-    turns = λ g text well only i b c e l k. absurd (none_looped g text well only i l);
-  };
-}
-  where
-    half : (g : Graph) (text : HasText g) (well : WellFormed g) (only : HasOnly 2 (flow_of g)) (i : ℕ) (b : Block ℕ) (c : CodeBlock) → slice_get (flow_of g).blocks i ≡ Some b
-        → slice_get (expanded (flow_of g)).program.blocks i ≡ Some c → IsLaidAsWritten (flow_of g) i b c
-    half g text well only i b c e k = h.code g text well only i b c e k (blocks_fit g well only i b e)

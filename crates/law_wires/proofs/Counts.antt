@@ -6,14 +6,14 @@ use Rattle.std.proofs.lemmas.List.Sums.{sum_by-cons}
 use Rattle.semantics.specs.declared.graph.Region.TheVariants.{Root, Arm}
 use Rattle.semantics.specs.declared.graph.Kind.{Kind}
 use Rattle.semantics.specs.declared.graph.Kind.TheVariants.{Lit, Apply1, Apply2, Cond, Enter, Merge, Fetch, Store, Call, StrictCall, Loop}
-use Rattle.semantics.specs.Graph.{Node, Block, node_at}
+use Rattle.semantics.specs.Graph.{Node, Block, Flow, node_at}
 use Rattle.lowering.specs.Roles.{one}
 use Rattle.law_contexts.specs.Parts as Parts
 use Rattle.law_contexts.specs.Parts.{Part, Entry, Line, Gate, Result, Join, CondEnd, same_part}
-use Rattle.law_contexts.specs.Blocks.{is_kind, cond_kind}
+use Rattle.law_contexts.specs.Blocks.{Site, is_kind, cond_kind}
 use Rattle.law_contexts.specs.Expanded.{row}
 use Rattle.law_wires.specs.Written as Written
-use Rattle.law_wires.specs.Written.{kind_parts, node_parts, inner_parts, joined_parts, cond_parts, Ended, arm_ends, close, close_kind, close_nodes, inner, root_ends, parts_in}
+use Rattle.law_wires.specs.Written.{kind_parts, node_parts, tail_parts, inner_parts, joined_parts, cond_parts, Ended, arm_ends, close, close_kind, close_nodes, root_ends, parts_in}
 
 abbrev pub tally : {X : Type 0} → (X → Bool) → List X → ℕ
 tally p [] = 0
@@ -84,37 +84,6 @@ module _ (b : Block ℕ) where
 
   pub follow_here : (n : ℕ) (x : Node ℕ) (xs : List (Node ℕ)) → Follow n (x ∷ xs) → node_at b n ≡ Some x
   follow_here n x xs h = let zeroless : n ≡ n + 0 = omega arith in ap (node_at b) zeroless ∙ h 0 x refl
-
-  pub nodes_none : (p : Part → Bool) (n : ℕ) (xs : List (Node ℕ)) → Follow n xs → ((j : ℕ) (x : Node ℕ) → n ≤ j → node_at b j ≡ Some x → tally p (kind_parts b j x.kind) ≡ 0) → tally p (node_parts b n xs) ≡ 0
-  nodes_none p n [] f h = refl
-  nodes_none p n (x ∷ xs) f h =
-      let here = h n x (omega arith) (follow_here n x xs f) in
-      let rest = nodes_none p (n + 1) xs (follow_more n x xs f) (λ j y l e. h j y (omega (arith, l)) e) in
-      let both = tally_both p (kind_parts b n x.kind) (node_parts b (n + 1) xs) in
-      omega (arith, here, rest, both)
-
-  pub nodes_one : (p : Part → Bool) (n k : ℕ) (x : Node ℕ) (xs : List (Node ℕ)) → Follow n xs → n ≤ k → k < n + length xs → node_at b k ≡ Some x
-      → ((j : ℕ) (y : Node ℕ) → j ≢ k → node_at b j ≡ Some y → tally p (kind_parts b j y.kind) ≡ 0) → tally p (node_parts b n xs) ≡ tally p (kind_parts b k x.kind)
-  nodes_one p n k x [] f l m e h = absurd (omega (arith, l, m))
-  nodes_one p n k x (y ∷ xs) f l m e h = go (λ a c. nodes_one p (n + 1) k x xs (follow_more n y xs f) a c e h) (cases_lt n k)
-    where
-      both : tally p (kind_parts b n y.kind ++ node_parts b (n + 1) xs) ≡ tally p (kind_parts b n y.kind) + tally p (node_parts b (n + 1) xs)
-      both = tally_both p (kind_parts b n y.kind) (node_parts b (n + 1) xs)
-
-      go : (n + 1 ≤ k → k < (n + 1) + length xs → tally p (node_parts b (n + 1) xs) ≡ tally p (kind_parts b k x.kind)) → (n < k) ⊎ (k ≤ n) → tally p (kind_parts b n y.kind ++ node_parts b (n + 1) xs) ≡ tally p (kind_parts b k x.kind)
-      go later (inl a) =
-          let here = h n y (λ q. omega (arith, q, a)) (follow_here n y xs f) in
-          let rest = later (omega (arith, a)) (omega (arith, m)) in
-          let c = both in
-          omega (arith, here, rest, c)
-      go later (inr a) =
-          let same : n ≡ k = omega (arith, l, a) in
-          let there = follow_here n y xs f in
-          let its : y ≡ x = same_some y x (sym there ∙ ap (node_at b) same ∙ e) in
-          let here : tally p (kind_parts b n y.kind) ≡ tally p (kind_parts b k x.kind) = ap (λ (z : Node ℕ). tally p (kind_parts b n z.kind)) its ∙ ap (λ j. tally p (kind_parts b j x.kind)) same in
-          let rest = nodes_none p (n + 1) xs (follow_more n y xs f) (λ j z c g. h j z (λ q. omega (arith, q, c, same)) g) in
-          let c = both in
-          omega (arith, here, rest, c)
 
   -- CLOSINGS. What a conditional adds
   abbrev pub closing_parts : ℕ → Ended → List Part
@@ -189,15 +158,51 @@ module _ (b : Block ℕ) where
           zero_if true q = q
           zero_if false q = refl
 
+-- THE PARTS OF NODES
+module _ (fl : Flow) (s : Site) where
+  abbrev b : Block ℕ
+  b = s.block
+
+  pub nodes_none : (p : Part → Bool) (n : ℕ) (xs : List (Node ℕ)) → Follow b n xs → ((j : ℕ) (x : Node ℕ) → n ≤ j → node_at b j ≡ Some x → tally p (kind_parts fl s j (length x.sources) x.kind) ≡ 0) → tally p (node_parts fl s n xs) ≡ 0
+  nodes_none p n [] f h = refl
+  nodes_none p n (x ∷ xs) f h =
+      let here = h n x (omega arith) (follow_here b n x xs f) in
+      let rest = nodes_none p (n + 1) xs (follow_more b n x xs f) (λ j y l e. h j y (omega (arith, l)) e) in
+      let both = tally_both p (kind_parts fl s n (length x.sources) x.kind) (node_parts fl s (n + 1) xs) in
+      omega (arith, here, rest, both)
+
+  pub nodes_one : (p : Part → Bool) (n k : ℕ) (x : Node ℕ) (xs : List (Node ℕ)) → Follow b n xs → n ≤ k → k < n + length xs → node_at b k ≡ Some x
+      → ((j : ℕ) (y : Node ℕ) → j ≢ k → node_at b j ≡ Some y → tally p (kind_parts fl s j (length y.sources) y.kind) ≡ 0) → tally p (node_parts fl s n xs) ≡ tally p (kind_parts fl s k (length x.sources) x.kind)
+  nodes_one p n k x [] f l m e h = absurd (omega (arith, l, m))
+  nodes_one p n k x (y ∷ xs) f l m e h = go (λ a c. nodes_one p (n + 1) k x xs (follow_more b n y xs f) a c e h) (cases_lt n k)
+    where
+      both : tally p (kind_parts fl s n (length y.sources) y.kind ++ node_parts fl s (n + 1) xs) ≡ tally p (kind_parts fl s n (length y.sources) y.kind) + tally p (node_parts fl s (n + 1) xs)
+      both = tally_both p (kind_parts fl s n (length y.sources) y.kind) (node_parts fl s (n + 1) xs)
+
+      go : (n + 1 ≤ k → k < (n + 1) + length xs → tally p (node_parts fl s (n + 1) xs) ≡ tally p (kind_parts fl s k (length x.sources) x.kind)) → (n < k) ⊎ (k ≤ n) → tally p (kind_parts fl s n (length y.sources) y.kind ++ node_parts fl s (n + 1) xs) ≡ tally p (kind_parts fl s k (length x.sources) x.kind)
+      go later (inl a) =
+          let here = h n y (λ q. omega (arith, q, a)) (follow_here b n y xs f) in
+          let rest = later (omega (arith, a)) (omega (arith, m)) in
+          let c = both in
+          omega (arith, here, rest, c)
+      go later (inr a) =
+          let same : n ≡ k = omega (arith, l, a) in
+          let there = follow_here b n y xs f in
+          let its : y ≡ x = same_some y x (sym there ∙ ap (node_at b) same ∙ e) in
+          let here : tally p (kind_parts fl s n (length y.sources) y.kind) ≡ tally p (kind_parts fl s k (length x.sources) x.kind) = ap (λ (z : Node ℕ). tally p (kind_parts fl s n (length z.sources) z.kind)) its ∙ ap (λ j. tally p (kind_parts fl s j (length x.sources) x.kind)) same in
+          let rest = nodes_none p (n + 1) xs (follow_more b n y xs f) (λ j z c g. h j z (λ q. omega (arith, q, c, same)) g) in
+          let c = both in
+          omega (arith, here, rest, c)
+
   -- THE WHOLE
-  pub all_parts : (p : Part → Bool) → tally p (parts_in b) ≡ tally p (Written.closed b).parts + (tally p (joined_parts Root (root_ends b)) + one (p Parts.End))
+  pub all_parts : (p : Part → Bool) → tally p (parts_in fl s) ≡ tally p (Written.closed fl s).parts + (tally p (joined_parts Root (root_ends fl s)) + one (p Parts.End))
   all_parts p =
-      let a = tally_both p (Written.closed b).parts (joined_parts Root (root_ends b) ++ Parts.End ∷ []) in
-      let c = tally_both p (joined_parts Root (root_ends b)) (Parts.End ∷ []) in
+      let a = tally_both p (Written.closed fl s).parts (joined_parts Root (root_ends fl s) ++ Parts.End ∷ []) in
+      let c = tally_both p (joined_parts Root (root_ends fl s)) (Parts.End ∷ []) in
       omega (arith, a, c)
 
-  pub inner_counts : (p : Part → Bool) → tally p (inner_parts b) ≡ (one (p Entry) + (tally p (row Line 0 b.inputs) + tally p (node_parts b b.inputs b.nodes))) + tally p (row Result 0 (length b.results))
+  pub inner_counts : (p : Part → Bool) → tally p (inner_parts fl s) ≡ (one (p Entry) + (tally p (row Line 0 b.inputs) + tally p (node_parts fl s b.inputs b.nodes))) + tally p (tail_parts b s.turns)
   inner_counts p =
-      let a = tally_both p (Entry ∷ row Line 0 b.inputs ++ node_parts b b.inputs b.nodes) (row Result 0 (length b.results)) in
-      let c = tally_both p (row Line 0 b.inputs) (node_parts b b.inputs b.nodes) in
+      let a = tally_both p (Entry ∷ row Line 0 b.inputs ++ node_parts fl s b.inputs b.nodes) (tail_parts b s.turns) in
+      let c = tally_both p (row Line 0 b.inputs) (node_parts fl s b.inputs b.nodes) in
       omega (arith, a, c)

@@ -1,311 +1,268 @@
--- How many of the wires that are written down lead to an inlet of a join, of a conditional's end, or of the release: one.
-use Rattle.std.proofs.Common.{◌≡◌, ◌≢◌, ℕ, zero, suc, ◌+◌, ◌<◌, ◌≤◌, ◌⊎◌, inl, inr, Bool, true, false, ◌&&◌, List, [], ◌∷◌, ◌++◌, length, refl, sym, ap, ◌∙◌, arith, if◌then◌else◌, Some, None, Option, nat_lt, ◌==◌}
-use Rattle.std.specs.Prelude.{count_by}
-use Rattle.std.proofs.lemmas.Bool.{cases_lt, ltb-true}
+-- As many of the wires that are written down lead to an inlet as there are parts with it: joins, ends, and all.
+use Rattle.std.proofs.Common.{◌≡◌, ℕ, zero, suc, ◌+◌, inl, Bool, true, false, List, [], ◌∷◌, ◌++◌, length, refl, sym, ap, subst, arith, Some, None, Option}
+use Rattle.std.proofs.lemmas.Bool.{lt-ltb}
 use Rattle.tags.specs.declared.token.Port.{Port}
 use Rattle.tags.specs.declared.token.Port.TheVariants.{Left, Right}
 use Rattle.semantics.specs.declared.graph.Region.{Region}
 use Rattle.semantics.specs.declared.graph.Region.TheVariants.{Root, Arm}
+use Rattle.semantics.specs.declared.graph.Source.{Source}
 use Rattle.semantics.specs.declared.graph.Kind.{Kind}
 use Rattle.semantics.specs.declared.graph.Kind.TheVariants.{Lit, Apply1, Apply2, Cond, Enter, Merge, Fetch, Store, Call, StrictCall, Loop}
-use Rattle.semantics.specs.Graph.{Node, Block, Flow, node_at}
+use Rattle.semantics.specs.Graph.{Node, Block, Flow, node_at, node_count}
+use Rattle.semantics.specs.Meaning.{arm_of}
 use Rattle.lowering.specs.Roles.{one}
-use Rattle.expansion.specs.Ends.{same_region}
 use Rattle.law_contexts.specs.Parts as Parts
-use Rattle.law_contexts.specs.Parts.{Part, Entry, Line, Answer, Gate, Result, Join, CondEnd, same_part, same_port}
-use Rattle.law_contexts.specs.Blocks.{Side, side, leaves_in, is_kind, cond_kind}
-use Rattle.law_contexts.specs.Expanded.{row, way_in, is_join_of}
+use Rattle.law_contexts.specs.Parts.{Part, Entry, Line, Result, TurnCont, TurnFlag, TurnValue, Asker, NextFramer, NextFanned, NextSender, LastReturn, DrainReturn, Join, CondEnd, same_part}
+use Rattle.law_contexts.specs.Blocks.{Side, side, Site, leaves_in, lies_in, is_kind, cond_kind}
+use Rattle.law_contexts.specs.Expanded.{row, way_in, turn_parts}
 use Rattle.law_wires.specs.Written as Written
-use Rattle.law_wires.specs.Written.{Wire, wire, is_shared, answer_side, leaves, inner_wires, node_parts, inner_parts, sides, in_region, chain_wires, chain_end, joined_wires, joined_parts, signal_wires, cond_parts, Ended, arm_ends, inner, first_ends, root_ends, parts_in, wires_in}
+use Rattle.law_wires.specs.Written.{Wire, wire, leaves, meet_wires, node_wires, value_wires, next_wires, last_wires, turn_wires, tail_wires, inner_wires, node_parts, tail_parts, inner_parts, sides, first_ends, chain_wires, chain_end, joined_wires, joined_parts, signal_wires, cond_parts, cond_sides, Ended, arm_ends, close, close_kind, close_nodes, close_flag, inner, root_ends, parts_in, wires_in}
 use Rattle.law_wires.specs.Fit.{IsFit}
-use Rattle.law_wires.proofs.LaidNodes.{row_length}
-use Rattle.law_wires.proofs.Counts.{tally, tally_both, count_is, before_close}
-use Rattle.law_wires.proofs.Parts.{other_number}
-use Rattle.law_wires.proofs.There.{join_other, join_same, arm_other, joins_are, root_joins, cond_tally}
-use Rattle.law_wires.proofs.WireLaws.{AllW, region_is}
-use Rattle.law_wires.proofs.Leads.{In, in_cases, in_its_region, open_in}
-use Rattle.law_wires.proofs.Both.{Comes, inner_come, open_none, all_weaker, nodes_grow, sides_right}
-use Rattle.law_wires.proofs.BothArms.{HasEnd, both_arms}
-use Rattle.law_wires.proofs.Hits.{closing_wires, closing_none, closing_at, all_wires}
-use Rattle.law_wires.proofs.FedOnce.{test, Miss, miss_none, hit_is, way_of, joined_miss, signal_miss, no_inner, closing_miss, two_ways}
+use Rattle.law_wires.proofs.Counts.{tally, tally_both, Follow, follow_more, follow_here}
+use Rattle.law_wires.proofs.Members.{In, in_left, sides_left, sides_right, open_in, region_in, region_from}
+use Rattle.law_wires.proofs.Parts.{follow, node_within}
+use Rattle.law_wires.proofs.Nodes.{kind_at}
+use Rattle.law_wires.proofs.Sides.{row_in}
+use Rattle.law_wires.proofs.Both.{R, is_last, last_open}
+use Rattle.law_wires.proofs.BothArms.{IsGrown, both_arms, closes_it, nodes_grow, start_grown}
+use Rattle.law_wires.proofs.FedOnce.{test, IsWired, Feeds, feeds_both, double, unfed, row_unfed, two_arms, nodes_feed, results_feed}
 
-both_true : (s t : Bool) → s ≡ true → t ≡ true → one (s && t) ≡ 1
-both_true true true e f = refl
-both_true true false e f = absurd (cc)
-both_true false t e f = absurd (cc)
+-- the last of a chain is in its region
+pub chain_region : (b : Block ℕ) (r : Region) (n : ℕ) (t : Side) (ts : List Side) → leaves_in b t.part t.second ≡ r → leaves_in b (chain_end r n t ts).part (chain_end r n t ts).second ≡ r
+chain_region b r n t [] h = h
+chain_region b r n t (u ∷ us) h = chain_region b r (n + 1) (side (Join r n) false) us refl
 
-module _ (b : Block ℕ) (fit : IsFit b) where
-  abbrev R : Side → Region
-  R t = leaves_in b t.part t.second
+module _ (b : Block ℕ) (r : Part) (q : Port) (y : ℕ) (h : IsWired b y q r) where
+  abbrev F : List Wire → List Part → Type 0
+  F ws ps = Feeds b r q y h ws ps
 
-  -- CHAINS
-  join_differs : (g : Region) (i j : ℕ) → j ≢ i → same_part (Join g i) (Join g j) ≡ false
-  join_differs g i j h = join_same g i j ∙ other_number i j h
-
-  chain_past : (g : Region) (i n : ℕ) (s : Side) (ts : List Side) → i < n → AllW (Miss (Join g i)) (chain_wires g n s ts)
-  chain_past g i n s [] l = tt
-  chain_past g i n s (t ∷ ts) l = let o = join_differs g i n (λ e. omega (arith, e, l)) in (o, (o, chain_past g i (n + 1) (side (Join g n) false) ts (omega (arith, l))))
-
-  join_two : (g : Region) (i : ℕ) (f h : Side) (q : Port) (y : ℕ) → (y == 0) ≡ true → tally (test b (Join g i) q y) (wire f (Join g i) Left ∷ wire h (Join g i) Right ∷ []) ≡ 1
-  join_two g i f h Left y e =
-      let a = ap one (hit_is b (Join g i) Left y f Left) ∙ both_true true (y == 0) refl e in
-      let c = ap one (hit_is b (Join g i) Left y h Right) in
-      omega (arith, a, c)
-  join_two g i f h Right y e =
-      let a = ap one (hit_is b (Join g i) Right y f Left) in
-      let c = ap one (hit_is b (Join g i) Right y h Right) ∙ both_true true (y == 0) refl e in
+  chain_feeds : (g : Region) (n : ℕ) (t : Side) (ts : List Side) → F (chain_wires g n t ts) (row (Join g) n (length ts))
+  chain_feeds g n t [] = refl
+  chain_feeds g n t (u ∷ us) =
+      let a = double b r q y h (Join g n) t u (λ w. w) (λ w. w) in
+      let c = chain_feeds g (n + 1) (side (Join g n) false) us in
       omega (arith, a, c)
 
-  chain_one : (g : Region) (i : ℕ) (q : Port) (y n : ℕ) (s : Side) (ts : List Side) → (y == 0) ≡ true → n ≤ i → i < n + length ts → tally (test b (Join g i) q y) (chain_wires g n s ts) ≡ 1
-  chain_one g i q y n s [] e l m = absurd (omega (arith, l, m))
-  chain_one g i q y n s (t ∷ ts) e l m = go (cases_lt n i) (λ a c. chain_one g i q y (n + 1) (side (Join g n) false) ts e a c)
+  pub joined_feeds : (g : Region) (ts : List Side) → F (joined_wires g ts) (joined_parts g ts)
+  joined_feeds g [] = refl
+  joined_feeds g (t ∷ ts) = chain_feeds g 0 t ts
+
+  -- the end of a conditional: one from each arm
+  cond_feeds : (k : ℕ) (ts us : List Side) → ((t : Side) → In t ts → leaves_in b t.part t.second ≡ Arm k true) → ((u : Side) → In u us → leaves_in b u.part u.second ≡ Arm k false)
+      → ((t : Side) → In t ts → (u : Side) × In u us) → ((u : Side) → In u us → (t : Side) × In t ts)
+      → F (signal_wires (Arm k true) ts (CondEnd k) Left ++ signal_wires (Arm k false) us (CondEnd k) Left) (cond_parts k (ts ++ us))
+  cond_feeds k [] [] l m up down = refl
+  cond_feeds k (t ∷ ts) [] l m up down = absurd ((up t (inl refl)).1)
+  cond_feeds k [] (u ∷ us) l m up down = absurd ((down u (inl refl)).1)
+  cond_feeds k (t ∷ ts) (u ∷ us) l m up down =
+      two_arms b r q y h (CondEnd k) (chain_end (Arm k true) 0 t ts) (chain_end (Arm k false) 0 u us) refl (λ w. w)
+      (ap (way_in (CondEnd k)) (chain_region b (Arm k true) 0 t ts (l t (inl refl)))) (ap (way_in (CondEnd k)) (chain_region b (Arm k false) 0 u us (m u (inl refl))))
+
+  pub close_feeds : (k : ℕ) (x : Ended) → ((u v : Bool) → (t : Side) × In t (arm_ends b k u x) → (t : Side) × In t (arm_ends b k v x)) → F x.wires x.parts → F (close b k x).wires (close b k x).parts
+  close_feeds k x both f =
+      let ts = arm_ends b k true x in
+      let us = arm_ends b k false x in
+      let first = joined_wires (Arm k true) ts in
+      let second = joined_wires (Arm k false) us in
+      let last = signal_wires (Arm k true) ts (CondEnd k) Left ++ signal_wires (Arm k false) us (CondEnd k) Left in
+      let one_parts = joined_parts (Arm k true) ts in
+      let two_parts = joined_parts (Arm k false) us in
+      let last_parts = cond_parts k (ts ++ us) in
+      let conds = cond_feeds k ts us (λ t i. (region_from b t (Arm k true) x.ends i).1) (λ t i. (region_from b t (Arm k false) x.ends i).1) (λ t i. both true false (t, i)) (λ t i. both false true (t, i)) in
+      feeds_both b r q y h x.wires (first ++ (second ++ last)) x.parts (one_parts ++ (two_parts ++ last_parts)) f
+      (feeds_both b r q y h first (second ++ last) one_parts (two_parts ++ last_parts) (joined_feeds (Arm k true) ts) (feeds_both b r q y h second last two_parts last_parts (joined_feeds (Arm k false) us) conds))
+
+  -- the release
+  end_feeds : (ts : List Side) (t : Side) → In t ts → F (wire (side Entry false) Parts.End Left ∷ signal_wires Root ts Parts.End Right) (Parts.End ∷ [])
+  end_feeds [] t i = absurd i
+  end_feeds (u ∷ us) t i = let a = double b r q y h Parts.End (side Entry false) (chain_end Root 0 u us) (λ w. w) (λ w. w) in omega (arith, a)
+
+  -- THE TURN of a loop
+  values_feed : (s : Site) (t : Side) (from : ℕ) (xs : List Source) → F (value_wires s t from xs) (row TurnValue from (length xs))
+  values_feed s t from [] = refl
+  values_feed s t from (x ∷ xs) =
+      let a = double b r q y h (TurnValue from) (leaves s x) t (λ w. w) (λ w. w) in
+      let c = values_feed s t (from + 1) xs in
+      omega (arith, a, c)
+
+  nexts_feed : (from n : ℕ) → F (next_wires from n) (row NextSender from n)
+  nexts_feed from zero = refl
+  nexts_feed from (suc n) =
+      let a = double b r q y h (NextSender from) (side NextFanned false) (side (TurnValue from) false) (λ w. w) (λ w. w) in
+      let c = nexts_feed (from + 1) n in
+      omega (arith, a, c)
+
+  lasts_feed : (from n : ℕ) → F (last_wires from n) (row LastReturn from n)
+  lasts_feed from zero = refl
+  lasts_feed from (suc n) =
+      let a = double b r q y h (LastReturn from) (side TurnCont true) (side (TurnValue (from + 1)) true) (λ w. w) (λ w. w) in
+      let c = lasts_feed (from + 1) n in
+      omega (arith, a, c)
+
+  turn_feeds : (s : Site) (x : Source) (xs : List Source) → F (turn_wires s (x ∷ xs)) (turn_parts (length xs))
+  turn_feeds s x xs =
+      let n = length xs in
+      let p = test_of in
+      let values = value_wires s (leaves s x) 1 xs in
+      let nexts = next_wires 1 n in
+      let lasts = last_wires 0 n in
+      let drain = meet_wires (side TurnCont true) (side TurnFlag true) DrainReturn in
+      let ask = meet_wires (side TurnCont false) (side TurnFlag false) Asker in
+      let first = meet_wires (side NextFanned false) (side TurnCont false) (NextSender 0) in
+      let a = double b r q y h TurnCont (side Entry false) (leaves s x) (λ w. w) (λ w. w) in
+      let c = double b r q y h TurnFlag (leaves s x) (leaves s x) (λ w. w) (λ w. w) in
+      let d = values_feed s (leaves s x) 1 xs in
+      let e = double b r q y h Asker (side TurnCont false) (side TurnFlag false) (λ w. w) (λ w. w) in
+      let f = double b r q y h (NextSender 0) (side NextFanned false) (side TurnCont false) (λ w. w) (λ w. w) in
+      let g = nexts_feed 1 n in
+      let i = lasts_feed 0 n in
+      let j = double b r q y h DrainReturn (side TurnCont true) (side TurnFlag true) (λ w. w) (λ w. w) in
+      let k = unfed b r q y h NextFramer refl in
+      let l = unfed b r q y h NextFanned refl in
+      let v1 = tally_both p values (ask ++ (first ++ (nexts ++ (lasts ++ drain)))) in
+      let v2 = tally_both p nexts (lasts ++ drain) in
+      let v3 = tally_both p lasts drain in
+      let q1 = tally_both (same_part r) (row TurnValue 1 n) (Asker ∷ NextFramer ∷ NextFanned ∷ row NextSender 0 (n + 1) ++ (row LastReturn 0 n ++ DrainReturn ∷ [])) in
+      let q2 = tally_both (same_part r) (row NextSender 0 (n + 1)) (row LastReturn 0 n ++ DrainReturn ∷ []) in
+      let q3 = tally_both (same_part r) (row LastReturn 0 n) (DrainReturn ∷ []) in
+      let more : n + 1 ≡ suc n = omega arith in
+      let q4 : tally (same_part r) (row NextSender 0 (n + 1)) ≡ one (same_part r (NextSender 0)) + tally (same_part r) (row NextSender 1 n) = ap (λ m. tally (same_part r) (row NextSender 0 m)) more in
+      omega (arith, a, c, d, e, f, g, i, j, k, l, v1, v2, v3, q1, q2, q3, q4)
     where
-      two : List Wire
-      two = wire s (Join g n) Left ∷ wire t (Join g n) Right ∷ []
+      test_of : Wire → Bool
+      test_of = test b r q y
 
-      later : List Wire
-      later = chain_wires g (n + 1) (side (Join g n) false) ts
+-- ENDS STAY
+kind_stays : (b : Block ℕ) (t : Side) (n : ℕ) (x : Ended) (k : Kind ℕ) → In t x.ends → In t (close_kind b n x k).ends
+kind_stays b t n x Cond h = in_left t x.ends (cond_sides n (arm_ends b n true x ++ arm_ends b n false x)) h
+kind_stays b t n x (Lit z) h = h
+kind_stays b t n x (Apply1 op) h = h
+kind_stays b t n x (Apply2 op) h = h
+kind_stays b t n x Enter h = h
+kind_stays b t n x (Merge c) h = h
+kind_stays b t n x (Fetch a) h = h
+kind_stays b t n x (Store a) h = h
+kind_stays b t n x (Call f) h = h
+kind_stays b t n x (StrictCall f) h = h
+kind_stays b t n x (Loop f c) h = h
 
-      both : tally (test b (Join g i) q y) (two ++ later) ≡ tally (test b (Join g i) q y) two + tally (test b (Join g i) q y) later
-      both = tally_both (test b (Join g i) q y) two later
+nodes_stay : (b : Block ℕ) (t : Side) (n : ℕ) (xs : List (Node ℕ)) (x : Ended) → In t x.ends → In t (close_nodes b n xs x).ends
+nodes_stay b t n [] x h = h
+nodes_stay b t n (y ∷ xs) x h = kind_stays b t n (close_nodes b (n + 1) xs x) y.kind (nodes_stay b t (n + 1) xs x h)
 
-      go : (n < i) ⊎ (i ≤ n) → (n + 1 ≤ i → i < (n + 1) + length ts → tally (test b (Join g i) q y) later ≡ 1) → tally (test b (Join g i) q y) (two ++ later) ≡ 1
-      go (inl a) more =
-          let o = join_differs g i n (λ z. omega (arith, z, a)) in
-          let here = miss_none b (Join g i) q y two (o, (o, tt)) in
-          let rest = more (omega (arith, a)) (omega (arith, m)) in
-          let c = both in
-          omega (arith, here, rest, c)
-      go (inr a) more =
-          let same : n ≡ i = omega (arith, l, a) in
-          let here : tally (test b (Join g i) q y) two ≡ 1 = ap (λ j. tally (test b (Join g i) q y) (wire s (Join g j) Left ∷ wire t (Join g j) Right ∷ [])) same ∙ join_two g i s t q y e in
-          let rest = miss_none b (Join g i) q y later (chain_past g i (n + 1) (side (Join g n) false) ts (omega (arith, same))) in
-          let c = both in
-          omega (arith, here, rest, c)
+-- the code of a turn is that of a block with an output for each input, and the flag
+abbrev pub TurnsWell : Site → Type 0
+TurnsWell s = s.turns ≡ true → length s.block.results ≡ suc s.block.inputs
 
-  joined_one : (g : Region) (i : ℕ) (q : Port) (y : ℕ) (ts : List Side) → (y == 0) ≡ true → i < length (joined_parts g ts) → tally (test b (Join g i) q y) (joined_wires g ts) ≡ 1
-  joined_one g i q y [] e l = absurd (omega (arith, l))
-  joined_one g i q y (t ∷ ts) e l = let long = row_length (Join g) 0 (length ts) in chain_one g i q y 0 t ts e (omega arith) (omega (arith, l, long))
+module _ (fl : Flow) (s : Site) (fit : IsFit fl s.block) (well : TurnsWell s) where
+  -- a first end of each arm of the flag
+  in_tail : (t : Side) → In t (sides (tail_parts s.block s.turns)) → In t (sides (inner_parts fl s))
+  in_tail t i = sides_right t (Entry ∷ row Line 0 s.block.inputs ++ node_parts fl s s.block.inputs s.block.nodes) (tail_parts s.block s.turns) i
 
-  closing_sum : (p : Wire → Bool) (k : ℕ) (x : Ended) → tally p (closing_wires b p k x)
-      ≡ tally p (joined_wires (Arm k true) (arm_ends b k true x)) + (tally p (joined_wires (Arm k false) (arm_ends b k false x))
-      + (tally p (signal_wires (Arm k true) (arm_ends b k true x) (CondEnd k) Left) + tally p (signal_wires (Arm k false) (arm_ends b k false x) (CondEnd k) Left)))
-  closing_sum p k x =
-      let first = joined_wires (Arm k true) (arm_ends b k true x) in
-      let second = joined_wires (Arm k false) (arm_ends b k false x) in
-      let up = signal_wires (Arm k true) (arm_ends b k true x) (CondEnd k) Left in
-      let down = signal_wires (Arm k false) (arm_ends b k false x) (CondEnd k) Left in
-      let a = tally_both p first (second ++ (up ++ down)) in
-      let c = tally_both p second (up ++ down) in
-      let d = tally_both p up down in
-      omega (arith, a, c, d)
+  turn_in : (t : Side) → s.turns ≡ true → In t (sides (turn_parts s.block.inputs)) → In t (sides (inner_parts fl s))
+  turn_in t e i = in_tail t (subst (λ u. In t (sides (tail_parts s.block u))) (sym e) i)
 
-  abbrev B : ℕ → Ended
-  B k = before_close b b.inputs b.nodes (inner b) k
+  drain_in : (n : ℕ) → In (side DrainReturn false) (sides (turn_parts n))
+  drain_in n =
+      sides_right (side DrainReturn false) (TurnCont ∷ TurnFlag ∷ row TurnValue 1 n) (Asker ∷ NextFramer ∷ NextFanned ∷ row NextSender 0 (n + 1) ++ (row LastReturn 0 n ++ DrainReturn ∷ []))
+      (sides_right (side DrainReturn false) (Asker ∷ NextFramer ∷ NextFanned ∷ row NextSender 0 (n + 1)) (row LastReturn 0 n ++ DrainReturn ∷ []) (sides_right (side DrainReturn false) (row LastReturn 0 n) (DrainReturn ∷ []) (inl refl)))
 
-  -- A JOIN of an arm
-  arm_fed : (k : ℕ) (t : Bool) (i : ℕ) (q : Port) (y : ℕ) → is_kind cond_kind b k ≡ true → i < length (joined_parts (Arm k t) (arm_ends b k t (B k))) → (y == 0) ≡ true → tally (test b (Join (Arm k t) i) q y) (wires_in b) ≡ 1
-  arm_fed k t i q y c l e =
-      let r : Part = Join (Arm k t) i in
-      let p : Wire → Bool = test b r q y in
-      let a = all_wires b p in
-      let d = closing_at b p fit k c (λ j x ne. closing_miss b fit r q y j x (λ s m. join_other (Arm k t) (Arm j s) i m (arm_other k j s t ne)) refl) in
-      let n = no_inner b fit r q y (λ j. refl) (λ j. refl) (λ j. refl) (λ j. refl) (λ j. refl) in
-      let root = miss_none b r q y (joined_wires Root (root_ends b)) (joined_miss r Root (root_ends b) (λ m. join_other (Arm k t) Root i m (λ z. cc))) in
-      let f = miss_none b r q y (wire (side Entry false) Parts.End Left ∷ []) (refl, tt) in
-      let s = miss_none b r q y (signal_wires Root (root_ends b) Parts.End Right) (signal_miss r Root (root_ends b) Parts.End Right refl) in
-      let sum = closing_sum p k (B k) in
-      let up = miss_none b r q y (signal_wires (Arm k true) (arm_ends b k true (B k)) (CondEnd k) Left) (signal_miss r (Arm k true) (arm_ends b k true (B k)) (CondEnd k) Left refl) in
-      let down = miss_none b r q y (signal_wires (Arm k false) (arm_ends b k false (B k)) (CondEnd k) Left) (signal_miss r (Arm k false) (arm_ends b k false (B k)) (CondEnd k) Left refl) in
-      let its = both t l in
-      omega (arith, a, d, n, root, f, s, sum, up, down, its)
+  next_in : (n : ℕ) → In (side (NextSender 0) false) (sides (turn_parts n))
+  next_in n =
+      sides_right (side (NextSender 0) false) (TurnCont ∷ TurnFlag ∷ row TurnValue 1 n) (Asker ∷ NextFramer ∷ NextFanned ∷ row NextSender 0 (n + 1) ++ (row LastReturn 0 n ++ DrainReturn ∷ []))
+      (sides_right (side (NextSender 0) false) (Asker ∷ NextFramer ∷ NextFanned ∷ []) (row NextSender 0 (n + 1) ++ (row LastReturn 0 n ++ DrainReturn ∷ []))
+      (sides_left_of (row_in NextSender false 0 (n + 1) 0 (λ i. inl refl) (omega arith) (omega arith))))
     where
-      both : (u : Bool) → i < length (joined_parts (Arm k u) (arm_ends b k u (B k)))
-          → tally (test b (Join (Arm k u) i) q y) (joined_wires (Arm k true) (arm_ends b k true (B k))) + tally (test b (Join (Arm k u) i) q y) (joined_wires (Arm k false) (arm_ends b k false (B k))) ≡ 1
-      both true m =
-          let x = joined_one (Arm k true) i q y (arm_ends b k true (B k)) e m in
-          let z = miss_none b (Join (Arm k true) i) q y (joined_wires (Arm k false) (arm_ends b k false (B k))) (joined_miss (Join (Arm k true) i) (Arm k false) (arm_ends b k false (B k)) (λ j. join_other (Arm k true) (Arm k false) i j (λ o. cc))) in
-          omega (arith, x, z)
-      both false m =
-          let x = joined_one (Arm k false) i q y (arm_ends b k false (B k)) e m in
-          let z = miss_none b (Join (Arm k false) i) q y (joined_wires (Arm k true) (arm_ends b k true (B k))) (joined_miss (Join (Arm k false) i) (Arm k true) (arm_ends b k true (B k)) (λ j. join_other (Arm k false) (Arm k true) i j (λ o. cc))) in
-          omega (arith, x, z)
+      sides_left_of : In (side (NextSender 0) false) (sides (row NextSender 0 (n + 1))) → In (side (NextSender 0) false) (sides (row NextSender 0 (n + 1) ++ (row LastReturn 0 n ++ DrainReturn ∷ [])))
+      sides_left_of i = sides_left (side (NextSender 0) false) (row NextSender 0 (n + 1)) (row LastReturn 0 n ++ DrainReturn ∷ []) i
 
-  root_fed : (i : ℕ) (q : Port) (y : ℕ) → i < length (joined_parts Root (root_ends b)) → (y == 0) ≡ true → tally (test b (Join Root i) q y) (wires_in b) ≡ 1
-  root_fed i q y l e =
-      let r : Part = Join Root i in
-      let p : Wire → Bool = test b r q y in
-      let a = all_wires b p in
-      let d = closing_none b p b.inputs b.nodes (inner b) (λ j x u m. closing_miss b fit r q y j x (λ s n. join_other Root (Arm j s) i n (λ z. cc)) refl) in
-      let n = no_inner b fit r q y (λ j. refl) (λ j. refl) (λ j. refl) (λ j. refl) (λ j. refl) in
-      let root = joined_one Root i q y (root_ends b) e l in
-      let f = miss_none b r q y (wire (side Entry false) Parts.End Left ∷ []) (refl, tt) in
-      let s = miss_none b r q y (signal_wires Root (root_ends b) Parts.End Right) (signal_miss r Root (root_ends b) Parts.End Right refl) in
-      omega (arith, a, d, n, root, f, s)
+  first_end : (t : Side) → In t (sides (inner_parts fl s)) → is_last t.part ≡ true → In t (first_ends fl s)
+  first_end t i l = open_in t (inner_wires s) (sides (inner_parts fl s)) i (last_open fl s fit t l)
 
-  pub join_fed : (fl : Flow) (number : ℕ) (g : Region) (i : ℕ) (q : Port) (y : ℕ) → nat_lt i (count_by (is_join_of g) (parts_in b)) ≡ true → (y == 0) ≡ true → tally (test b (Join g i) q y) (wires_in b) ≡ 1
-  join_fed fl number Root i q y h e =
-      let l = ltb-true i (count_by (is_join_of Root) (parts_in b)) h in
-      let c = count_is (is_join_of Root) (parts_in b) in
-      let n = root_joins fl number b [] fit in
-      root_fed i q y (omega (arith, l, c, n)) e
-  join_fed fl number (Arm k t) i q y h e =
-      let l = ltb-true i (count_by (is_join_of (Arm k t)) (parts_in b)) h in
-      let c = count_is (is_join_of (Arm k t)) (parts_in b) in
-      let n = joins_are fl number b [] fit k t in
-      go (is_kind cond_kind b k) refl (omega (arith, l, c, n))
+  flag_arms : s.turns ≡ true → (u : Bool) → (t : Side) × In t (arm_ends s.block (node_count s.block) u (inner fl s))
+  flag_arms e true = (side (NextSender 0) false, region_in s.block (side (NextSender 0) false) (first_ends fl s) (Arm (node_count s.block) true) (first_end (side (NextSender 0) false) (turn_in (side (NextSender 0) false) e (next_in s.block.inputs)) refl) refl)
+  flag_arms e false = (side DrainReturn false, region_in s.block (side DrainReturn false) (first_ends fl s) (Arm (node_count s.block) false) (first_end (side DrainReturn false) (turn_in (side DrainReturn false) e (drain_in s.block.inputs)) refl) refl)
+
+  -- AN END IN THE ROOT: the first result, or the end of the flag
+  flag_lies : lies_in s.block (node_count s.block) ≡ Root
+  flag_lies = go (node_at s.block (node_count s.block)) refl
     where
-      go : (u : Bool) → is_kind cond_kind b k ≡ u → i < (if is_kind cond_kind b k then length (joined_parts (Arm k t) (arm_ends b k t (B k))) else 0) → tally (test b (Join (Arm k t) i) q y) (wires_in b) ≡ 1
-      go true f m = arm_fed k t i q y f (let z = ap (λ u. if u then length (joined_parts (Arm k t) (arm_ends b k t (B k))) else 0) f in omega (arith, m, z)) e
-      go false f m = let z = ap (λ u. if u then length (joined_parts (Arm k t) (arm_ends b k t (B k))) else 0) f in absurd (omega (arith, m, z))
+      go : (o : Option (Node ℕ)) → node_at s.block (node_count s.block) ≡ o → arm_of o ≡ Root
+      go None e = refl
+      go (Some x) e = let w = (node_within s.block (node_count s.block) x e).1 in absurd (omega (arith, w))
 
-  -- THE END OF A CONDITIONAL: one from each arm
-  chain_region : (r : Region) (n : ℕ) (s : Side) (ts : List Side) → R s ≡ r → R (chain_end r n s ts) ≡ r
-  chain_region r n s [] h = h
-  chain_region r n s (t ∷ ts) h = chain_region r (n + 1) (side (Join r n) false) ts refl
-
-  from_region : (t : Side) (r : Region) (ts : List Side) → In t (in_region b r ts) → In t ts × (R t ≡ r)
-  from_region t r [] h = absurd h
-  from_region t r (u ∷ us) h = go (same_region (R u) r) refl h (from_region t r us)
+  pub root_end : (t : Side) × In t (root_ends fl s)
+  root_end = go s.turns refl
     where
-      go : (s : Bool) → same_region (R u) r ≡ s → In t (if s then u ∷ in_region b r us else in_region b r us) → (In t (in_region b r us) → In t us × (R t ≡ r)) → In t (u ∷ us) × (R t ≡ r)
-      go true e (inl q) more = (inl q, ap R (sym q) ∙ region_is (R u) r e)
-      go true e (inr k) more = let x = more k in (inr x.0, x.1)
-      go false e k more = let x = more k in (inr x.0, x.1)
+      stays : (t : Side) → In t (close_flag s.block s.turns (inner fl s)).ends → R fl s fit t ≡ Root → In t (root_ends fl s)
+      stays t i e = region_in s.block t (Written.closed fl s).ends Root (nodes_stay s.block t s.block.inputs s.block.nodes (close_flag s.block s.turns (inner fl s)) i) e
 
-  signal_one : (k : ℕ) (t : Bool) (n y : ℕ) (ts : List Side) → way_in (CondEnd k) (Arm k t) ≡ n → ((u : Side) → In u ts → R u ≡ Arm k t) → (u : Side) → In u ts → tally (test b (CondEnd k) Left y) (signal_wires (Arm k t) ts (CondEnd k) Left) ≡ one (y == n)
-  signal_one k t n y [] w h u i = absurd i
-  signal_one k t n y (s ∷ ts) w h u i =
-      let a = ap one (way_of b fit (CondEnd k) y k (chain_end (Arm k t) 0 s ts) t n (chain_region (Arm k t) 0 s ts (h s (inl refl))) w) in
-      omega (arith, a)
+      go : (t : Bool) → s.turns ≡ t → (t : Side) × In t (root_ends fl s)
+      go false e =
+          let some = fit.some_output in
+          let outputs = fit.result_count in
+          let there : In (side (Result 0) false) (sides (tail_parts s.block s.turns)) = subst (λ u. In (side (Result 0) false) (sides (tail_parts s.block u))) (sym e) (row_in Result false 0 (length s.block.results) 0 (λ i. inl refl) (omega arith) (omega (arith, some, outputs))) in
+          (side (Result 0) false, stays (side (Result 0) false) (subst (λ u. In (side (Result 0) false) (close_flag s.block u (inner fl s)).ends) (sym e) (first_end (side (Result 0) false) (in_tail (side (Result 0) false) there) refl)) refl)
+      go true e =
+          let t = flag_arms e true in
+          let k : ℕ = node_count s.block in
+          let i = region_from s.block t.0 (Arm k true) (first_ends fl s) t.1 in
+          (side (CondEnd k) false, stays (side (CondEnd k) false) (subst (λ u. In (side (CondEnd k) false) (close_flag s.block u (inner fl s)).ends) (sym e) (closes_it fl s fit t.0 k true (inner fl s) i.0 i.1)) flag_lies)
 
-  has_some : (k : ℕ) (us : List Side) → 0 < tally (same_part (CondEnd k)) (cond_parts k us) → (t : Side) × In t us
-  has_some k [] l = absurd (omega (arith, l))
-  has_some k (u ∷ us) l = (u, inl refl)
+  module _ (r : Part) (q : Port) (y : ℕ) (h : IsWired s.block y q r) where
+    abbrev G : List Wire → List Part → Type 0
+    G ws ps = Feeds s.block r q y h ws ps
 
-  some_end : (k : ℕ) → (t : Side) × In t (arm_ends b k true (B k) ++ arm_ends b k false (B k)) → (s : Bool) × HasEnd b fit k s
-  some_end k x = go (in_cases x.0 (arm_ends b k true (B k)) (arm_ends b k false (B k)) x.1)
-    where
-      go : In x.0 (arm_ends b k true (B k)) ⊎ In x.0 (arm_ends b k false (B k)) → (s : Bool) × HasEnd b fit k s
-      go (inl i) = let y = from_region x.0 (Arm k true) (B k).ends i in (true, (x.0, y.0, y.1))
-      go (inr i) = let y = from_region x.0 (Arm k false) (B k).ends i in (false, (x.0, y.0, y.1))
+    tails_feed : (t : Bool) → s.turns ≡ t → G (tail_wires s t) (tail_parts s.block t)
+    tails_feed false e = results_feed fl s fit r q y h 0 s.block.results
+    tails_feed true e = go s.block.results (well e)
+      where
+        go : (xs : List Source) → length xs ≡ suc s.block.inputs → G (turn_wires s xs) (turn_parts s.block.inputs)
+        go [] l = absurd (omega (arith, l))
+        go (x ∷ xs) l = let same : length xs ≡ s.block.inputs = omega (arith, l) in subst (λ n. G (turn_wires s (x ∷ xs)) (turn_parts n)) same (turn_feeds s.block r q y h s x xs)
 
-  pub cond_fed : (fl : Flow) (number k y : ℕ) → 0 < tally (same_part (CondEnd k)) (parts_in b) → nat_lt y 2 ≡ true → tally (test b (CondEnd k) Left y) (wires_in b) ≡ 1
-  cond_fed fl number k y h w = go (is_kind cond_kind b k) refl (cond_tally fl number b [] fit k)
-    where
-      r : Part
-      r = CondEnd k
+    inner_feeds : G (inner_wires s) (inner_parts fl s)
+    inner_feeds =
+        let entry = unfed s.block r q y h Entry refl in
+        let lines = row_unfed s.block r q y h Line 0 s.block.inputs (λ j l m. lt-ltb j s.block.inputs (omega (arith, m))) in
+        let nodes = nodes_feed fl s fit r q y h s.block.inputs s.block.nodes (follow s.block) in
+        let both = tally_both (same_part r) (row Line 0 s.block.inputs) (node_parts fl s s.block.inputs s.block.nodes) in
+        feeds_both s.block r q y h (node_wires s s.block.inputs s.block.nodes) (tail_wires s s.turns) (Entry ∷ row Line 0 s.block.inputs ++ node_parts fl s s.block.inputs s.block.nodes) (tail_parts s.block s.turns) (omega (arith, entry, lines, nodes, both)) (tails_feed s.turns refl)
 
-      p : Wire → Bool
-      p = test b (CondEnd k) Left y
+    flag_feeds : (t : Bool) → s.turns ≡ t → G (close_flag s.block t (inner fl s)).wires (close_flag s.block t (inner fl s)).parts
+    flag_feeds false e = inner_feeds
+    flag_feeds true e = close_feeds s.block r q y h (node_count s.block) (inner fl s) (λ u v i. flag_arms e v) inner_feeds
 
-      main : is_kind cond_kind b k ≡ true → (s : Bool) × HasEnd b fit k s → tally p (wires_in b) ≡ 1
-      main c x =
-          let plus = both_arms b fit k x.0 true x.1 in
-          let minus = both_arms b fit k x.0 false x.1 in
-          let a = all_wires b p in
-          let d = closing_at b p fit k c (λ j z ne. closing_miss b fit (CondEnd k) Left y j z (λ s m. refl) (ap (λ t. t && true) (other_number k j ne))) in
-          let n = no_inner b fit (CondEnd k) Left y (λ j. refl) (λ j. refl) (λ j. refl) (λ j. refl) (λ j. refl) in
-          let root = miss_none b (CondEnd k) Left y (joined_wires Root (root_ends b)) (joined_miss (CondEnd k) Root (root_ends b) (λ m. refl)) in
-          let f = miss_none b (CondEnd k) Left y (wire (side Entry false) Parts.End Left ∷ []) (refl, tt) in
-          let s = miss_none b (CondEnd k) Left y (signal_wires Root (root_ends b) Parts.End Right) (signal_miss (CondEnd k) Root (root_ends b) Parts.End Right refl) in
-          let sum = closing_sum p k (B k) in
-          let first = miss_none b (CondEnd k) Left y (joined_wires (Arm k true) (arm_ends b k true (B k))) (joined_miss (CondEnd k) (Arm k true) (arm_ends b k true (B k)) (λ m. refl)) in
-          let second = miss_none b (CondEnd k) Left y (joined_wires (Arm k false) (arm_ends b k false (B k))) (joined_miss (CondEnd k) (Arm k false) (arm_ends b k false (B k)) (λ m. refl)) in
-          let up = signal_one k true 0 y (arm_ends b k true (B k)) refl (λ u i. (from_region u (Arm k true) (B k).ends i).1) plus.0 (in_its_region b fit plus.0 (B k).ends (Arm k true) plus.1 plus.2) in
-          let down = signal_one k false 1 y (arm_ends b k false (B k)) refl (λ u i. (from_region u (Arm k false) (B k).ends i).1) minus.0 (in_its_region b fit minus.0 (B k).ends (Arm k false) minus.1 minus.2) in
-          let two = two_ways b fit y w in
-          omega (arith, a, d, n, root, f, s, sum, first, second, up, down, two)
+    kind_closes : (n : ℕ) (x : Ended) (k : Kind ℕ) → is_kind cond_kind s.block n ≡ cond_kind k → IsGrown fl s fit (n + 1) x → G x.wires x.parts → G (close_kind s.block n x k).wires (close_kind s.block n x k).parts
+    kind_closes n x Cond e g f = close_feeds s.block r q y h n x both f
+      where
+        both : (u v : Bool) → (t : Side) × In t (arm_ends s.block n u x) → (t : Side) × In t (arm_ends s.block n v x)
+        both u v i =
+            let j = region_from s.block i.0 (Arm n u) x.ends i.1 in
+            let o = both_arms fl s fit n x g e u v (i.0, j.0, j.1) in
+            (o.0, region_in s.block o.0 x.ends (Arm n v) o.1 o.2)
+    kind_closes n x (Lit z) e g f = f
+    kind_closes n x (Apply1 op) e g f = f
+    kind_closes n x (Apply2 op) e g f = f
+    kind_closes n x Enter e g f = f
+    kind_closes n x (Merge c) e g f = f
+    kind_closes n x (Fetch a) e g f = f
+    kind_closes n x (Store a) e g f = f
+    kind_closes n x (Call p) e g f = f
+    kind_closes n x (StrictCall p) e g f = f
+    kind_closes n x (Loop p c) e g f = f
 
-      go : (u : Bool) → is_kind cond_kind b k ≡ u → tally (same_part (CondEnd k)) (parts_in b) ≡ (if is_kind cond_kind b k then tally (same_part (CondEnd k)) (cond_parts k (arm_ends b k true (B k) ++ arm_ends b k false (B k))) else 0)
-          → tally p (wires_in b) ≡ 1
-      go true c e =
-          let z = ap (λ u. if u then tally (same_part (CondEnd k)) (cond_parts k (arm_ends b k true (B k) ++ arm_ends b k false (B k))) else 0) c in
-          main c (some_end k (has_some k (arm_ends b k true (B k) ++ arm_ends b k false (B k)) (omega (arith, h, e, z))))
-      go false c e = let z = ap (λ u. if u then tally (same_part (CondEnd k)) (cond_parts k (arm_ends b k true (B k) ++ arm_ends b k false (B k))) else 0) c in absurd (omega (arith, h, e, z))
+    nodes_close : (n : ℕ) (xs : List (Node ℕ)) (x : Ended) → Follow s.block n xs → IsGrown fl s fit (n + length xs) x → G x.wires x.parts → G (close_nodes s.block n xs x).wires (close_nodes s.block n xs x).parts
+    nodes_close n [] x f g e = e
+    nodes_close n (z ∷ xs) x f g e =
+        let same : n + suc (length xs) ≡ (n + 1) + length xs = omega arith in
+        let its = subst (λ k. IsGrown fl s fit k x) same g in
+        kind_closes n (close_nodes s.block (n + 1) xs x) z.kind (kind_at s.block cond_kind n z (follow_here s.block n z xs f)) (nodes_grow fl s fit (n + 1) xs x (follow_more s.block n z xs f) its) (nodes_close (n + 1) xs x (follow_more s.block n z xs f) its e)
 
-  -- THE RELEASE
-  abbrev is_node : Part → Bool
-  is_node (Line n) = true
-  is_node (Answer n) = true
-  is_node (Gate n) = true
-  is_node (Parts.Merge n) = true
-  is_node r = false
-
-  answer_own : (n : ℕ) (t : Bool) → is_node (answer_side n t).part ≡ true
-  answer_own n true = refl
-  answer_own n false = refl
-
-  exit_own : (n : ℕ) (r : Region) (k : Kind ℕ) → is_node (Written.exit_of b n r k).part ≡ true
-  exit_own n r Enter = refl
-  exit_own n r (Merge c) = refl
-  exit_own n r Cond = refl
-  exit_own n r (Lit z) = refl
-  exit_own n r (Apply1 op) = refl
-  exit_own n r (Apply2 op) = refl
-  exit_own n r (Fetch a) = answer_own n (is_shared b n)
-  exit_own n r (Store a) = answer_own n (is_shared b n)
-  exit_own n r (Call f) = refl
-  exit_own n r (StrictCall f) = refl
-  exit_own n r (Loop f c) = refl
-
-  leaves_own : (n : ℕ) → is_node (leaves b n).part ≡ true
-  leaves_own n = go (node_at b n)
-    where
-      go : (o : Option (Node ℕ)) → is_node (elim o as (λ x. Side) [ None ↦ side (Line n) false | Some line ↦ Written.exit_of b n line.region line.kind ]).part ≡ true
-      go None = refl
-      go (Some line) = exit_own n line.region line.kind
-
-  no_result : (m : ℕ) → leaves b m ≡ side (Result 0) false → ⊥
-  no_result m e = go (leaves b m).part (ap (λ (u : Side). u.part) e) (leaves_own m)
-    where
-      go : (r : Part) → r ≡ Result 0 → (is_node r ≡ true) → ⊥
-      go r e h = let no = ap is_node e in cc
-
-  result_side : (n : ℕ) → 0 < n → In (side (Result 0) false) (sides (row Result 0 n))
-  result_side zero l = absurd (omega (arith, l))
-  result_side (suc n) l = inl refl
-
-  -- the first result is an end in the root
-  root_end : In (side (Result 0) false) (root_ends b)
-  root_end =
-      let is_free = open_none (side (Result 0) false) (inner_wires b) (all_weaker (Comes b fit) (λ v. side (Result 0) false ≢ v.from) (inner_wires b) (λ v h q. apart v h.0 q) (inner_come b fit)) in
-      let some = fit.some_output in
-      let count = fit.result_count in
-      let there = sides_right (side (Result 0) false) (Entry ∷ row Line 0 b.inputs ++ node_parts b b.inputs b.nodes) (row Result 0 (length b.results)) (result_side (length b.results) (omega (arith, some, count))) in
-      in_its_region b fit (side (Result 0) false) (Written.closed b).ends Root
-      (nodes_grow b fit (side (Result 0) false) b.inputs b.nodes (inner b) (open_in b fit (side (Result 0) false) (inner_wires b) (sides (inner_parts b)) there is_free)) refl
-    where
-      apart : (v : Wire) → (v.from ≡ side Entry false) ⊎ (((m : ℕ) × (v.from ≡ leaves b m)) ⊎ ((m : ℕ) × (v.from ≡ side (Line m) false))) → side (Result 0) false ≡ v.from → ⊥
-      apart v (inl h) q = let p : Result 0 ≡ Entry = ap (λ (u : Side). u.part) (q ∙ h) in cc
-      apart v (inr (inl h)) q = no_result h.0 (sym h.1 ∙ sym q)
-      apart v (inr (inr h)) q = let p : Result 0 ≡ Line h.0 = ap (λ (u : Side). u.part) (q ∙ h.1) in cc
-
-  end_signal : (y : ℕ) (ts : List Side) (t : Side) → In t ts → (y == 0) ≡ true → tally (test b Parts.End Right y) (signal_wires Root ts Parts.End Right) ≡ 1
-  end_signal y [] t i e = absurd i
-  end_signal y (s ∷ ts) t i e = let a = ap one (hit_is b Parts.End Right y (chain_end Root 0 s ts) Right) ∙ both_true true (y == 0) refl e in omega (arith, a)
-
-  end_left : (y : ℕ) (ts : List Side) → tally (test b Parts.End Left y) (signal_wires Root ts Parts.End Right) ≡ 0
-  end_left y [] = refl
-  end_left y (s ∷ ts) = let a = ap one (hit_is b Parts.End Left y (chain_end Root 0 s ts) Right) in omega (arith, a)
-
-  pub end_fed : (q : Port) (y : ℕ) → (y == 0) ≡ true → tally (test b Parts.End q y) (wires_in b) ≡ 1
-  end_fed q y e =
-      let r : Part = Parts.End in
-      let p : Wire → Bool = test b r q y in
-      let a = all_wires b p in
-      let d = closing_none b p b.inputs b.nodes (inner b) (λ j x u m. closing_miss b fit r q y j x (λ s n. refl) refl) in
-      let n = no_inner b fit r q y (λ j. refl) (λ j. refl) (λ j. refl) (λ j. refl) (λ j. refl) in
-      let root = miss_none b r q y (joined_wires Root (root_ends b)) (joined_miss r Root (root_ends b) (λ m. refl)) in
-      let last = ends q in
-      omega (arith, a, d, n, root, last)
-    where
-      ends : (q : Port) → one (test b Parts.End q y (wire (side Entry false) Parts.End Left)) + tally (test b Parts.End q y) (signal_wires Root (root_ends b) Parts.End Right) ≡ 1
-      ends Left =
-          let f = ap one (hit_is b Parts.End Left y (side Entry false) Left) ∙ both_true true (y == 0) refl e in
-          let s = end_left y (root_ends b) in
-          omega (arith, f, s)
-      ends Right =
-          let f = ap one (hit_is b Parts.End Right y (side Entry false) Left) in
-          let s = end_signal y (root_ends b) (side (Result 0) false) root_end e in
-          omega (arith, f, s)
+    -- ALL: as many wires as parts
+    pub all_feed : G (wires_in fl s) (parts_in fl s)
+    all_feed =
+        let closed = nodes_close s.block.inputs s.block.nodes (close_flag s.block s.turns (inner fl s)) (follow s.block) (start_grown fl s fit s.turns) (flag_feeds s.turns refl) in
+        let t = root_end in
+        feeds_both s.block r q y h (Written.closed fl s).wires (joined_wires Root (root_ends fl s) ++ (wire (side Entry false) Parts.End Left ∷ signal_wires Root (root_ends fl s) Parts.End Right)) (Written.closed fl s).parts (joined_parts Root (root_ends fl s) ++ Parts.End ∷ []) closed
+        (feeds_both s.block r q y h (joined_wires Root (root_ends fl s)) (wire (side Entry false) Parts.End Left ∷ signal_wires Root (root_ends fl s) Parts.End Right) (joined_parts Root (root_ends fl s)) (Parts.End ∷ []) (joined_feeds s.block r q y h Root (root_ends fl s)) (end_feeds s.block r q y h (root_ends fl s) t.0 t.1))

@@ -5,7 +5,7 @@ use Rattle.tags.specs.declared.value.Origin.{Origin}
 use Rattle.tags.specs.declared.value.Origin.TheVariants.{Untold}
 use Rattle.tags.specs.declared.token.Port.TheVariants.{Left, Right}
 use Rattle.semantics.specs.declared.graph.Region.{Region}
-use Rattle.semantics.specs.declared.graph.Region.TheVariants.{Root}
+use Rattle.semantics.specs.declared.graph.Region.TheVariants.{Root, Arm}
 use Rattle.semantics.specs.declared.graph.Source.{Source}
 use Rattle.semantics.specs.declared.program.Dest.{Dest}
 use Rattle.semantics.specs.declared.program.Mark.{Mark}
@@ -15,15 +15,15 @@ use Rattle.semantics.specs.Graph.{Flow}
 use Rattle.semantics.specs.Program.{Instr}
 use Rattle.law_wires.specs.Types.{Outlet}
 use Rattle.expansion.specs.Builds as Builds
-use Rattle.expansion.specs.Builds.{Build, bare, slot_in, added, quieted, connected, with_dest, dest_of, nowhere, exit_at, outlet_of, exited, behind, meeting, mark_of}
+use Rattle.expansion.specs.Builds.{Build, bare, slot_in, added, quieted, connected, with_dest, dest_of, nowhere, exit_at, outlet_of, trigger_of, exited, behind, meeting, mark_of}
 use Rattle.law_expansion.proofs.ArcsLists.{get_push, get_within, length_push, length_linked, get_linked, index_old, index_new}
 use Rattle.law_expansion.proofs.ArcsKept.{split}
 use Rattle.law_expansion.proofs.FactsCodes.{get_left}
-use Rattle.law_contexts.specs.Parts.{Part, same_part, part_key}
+use Rattle.law_contexts.specs.Parts.{Part, Trigger, Gate, TurnCont, TurnFlag, TurnValue, Asker, NextFramer, NextFanned, same_part, part_key}
 use Rattle.law_contexts.specs.Blocks as Blocks
-use Rattle.law_contexts.specs.Blocks.{Side, side, Site, op_of, origin_of, is_switch, is_kind, cond_kind}
-use Rattle.law_wires.specs.Written.{Wire, wire, same_side, same_bool, leaves}
-use Rattle.law_wires.specs.Fit.{ComesBefore}
+use Rattle.law_contexts.specs.Blocks.{Side, side, Site, op_of, origin_of, is_kind, cond_kind}
+use Rattle.law_wires.specs.Written.{Wire, wire, same_side, same_bool, leaves, leaves_at, is_triggered, trigger_side}
+use Rattle.law_wires.specs.Fit.{ComesBefore, port_count}
 
 -- `place`: where each part of the whole block stands
 pub record Env : Type 0 where
@@ -32,6 +32,18 @@ pub record Env : Type 0 where
   pub site : Site
   pub place : Part → ℕ
   pub apart : (r q : Part) → same_part r q ≡ true → place r ≡ place q
+
+-- the region of a switch is told by its mark; and some parts of a turn, which are no ends, are noted in the root
+abbrev pub has_region : Part → Bool
+has_region (Trigger k) = false
+has_region (Gate n) = false
+has_region TurnCont = false
+has_region TurnFlag = false
+has_region (TurnValue j) = false
+has_region Asker = false
+has_region NextFramer = false
+has_region NextFanned = false
+has_region r = true
 
 -- DESTINATIONS of a side
 abbrev pub dest : Env → Wire → Dest
@@ -113,7 +125,7 @@ pub record IsLaid (e : Env) (b : Build) (rs : List Part) (ws : List Wire) : Type
   pub region_count : length b.regions ≡ length rs
   pub instrs : (n : ℕ) (r : Part) (i : Instr) → slice_get rs n ≡ Some r → slice_get b.instrs n ≡ Some i → IsAt e ws r i
   pub marks : (n : ℕ) (r : Part) → slice_get rs n ≡ Some r → mark_of b.marks n ≡ Blocks.mark_of e.site.block r
-  pub regions : (n : ℕ) (r : Part) → slice_get rs n ≡ Some r → is_switch r ≡ false → Builds.region_of b.regions n ≡ Blocks.region_of e.site.block r
+  pub regions : (n : ℕ) (r : Part) → slice_get rs n ≡ Some r → has_region r ≡ true → Builds.region_of b.regions n ≡ Blocks.region_of e.site.block r
   pub placed : (n : ℕ) (r : Part) → slice_get rs n ≡ Some r → e.place r ≡ n
   pub below : Below e (length rs) ws
 
@@ -130,7 +142,7 @@ push_index : {X : Type 0} (xs : List X) (x d : X) (n : ℕ) → n ≡ length xs 
 push_index xs x d n e = ap (λ k. slice_index_or (xs ++ x ∷ []) k d) e ∙ index_new xs x d
 
 pub laid_added : (e : Env) (b : Build) (rs : List Part) (ws : List Wire) (op : Op) (o : Origin) (m : Mark) (g : Region) (r : Part) → IsLaid e b rs ws
-    → op ≡ op_of e.variant e.site r → o ≡ origin_of e.flow e.site r → m ≡ Blocks.mark_of e.site.block r → (is_switch r ≡ false → g ≡ Blocks.region_of e.site.block r)
+    → op ≡ op_of e.variant e.site r → o ≡ origin_of e.flow e.site r → m ≡ Blocks.mark_of e.site.block r → (has_region r ≡ true → g ≡ Blocks.region_of e.site.block r)
     → e.place r ≡ length rs → IsLaid e (added b op o m g) (rs ++ r ∷ []) ws
 laid_added e b rs ws op o m g r l p q k f at = record {
   size = length_push b.instrs new ∙ ap suc l.size ∙ sym (length_push rs r);
@@ -164,9 +176,9 @@ laid_added e b rs ws op o m g r l p q k f at = record {
     mark n x (inl y) = let a = get_within rs n x y in let s = l.mark_count in index_old b.marks m Unmarked n (omega (arith, a, s)) ∙ l.marks n x y
     mark n x (inr y) = push_index b.marks m Unmarked n (y.0 ∙ sym l.mark_count) ∙ k ∙ ap (Blocks.mark_of e.site.block) y.1
 
-    region : (n : ℕ) (x : Part) → is_switch x ≡ false → (slice_get rs n ≡ Some x) ⊎ ((n ≡ length rs) × (r ≡ x)) → Builds.region_of (b.regions ++ g ∷ []) n ≡ Blocks.region_of e.site.block x
+    region : (n : ℕ) (x : Part) → has_region x ≡ true → (slice_get rs n ≡ Some x) ⊎ ((n ≡ length rs) × (r ≡ x)) → Builds.region_of (b.regions ++ g ∷ []) n ≡ Blocks.region_of e.site.block x
     region n x z (inl y) = let a = get_within rs n x y in let s = l.region_count in index_old b.regions g Root n (omega (arith, a, s)) ∙ l.regions n x y z
-    region n x z (inr y) = push_index b.regions g Root n (y.0 ∙ sym l.region_count) ∙ f (ap is_switch y.1 ∙ z) ∙ ap (Blocks.region_of e.site.block) y.1
+    region n x z (inr y) = push_index b.regions g Root n (y.0 ∙ sym l.region_count) ∙ f (ap has_region y.1 ∙ z) ∙ ap (Blocks.region_of e.site.block) y.1
 
     place : (n : ℕ) (x : Part) → (slice_get rs n ≡ Some x) ⊎ ((n ≡ length rs) × (r ≡ x)) → e.place x ≡ n
     place n x (inl y) = l.placed n x y
@@ -250,13 +262,13 @@ laid_connected e b rs ws o to w l out t = record {
 
 -- SMALL PARTS
 pub laid_behind : (e : Env) (b : Build) (rs : List Part) (ws : List Wire) (o : Outlet) (t : Side) (op : Op) (g : Region) (r : Part) → IsLaid e b rs ws → OutAt rs o t
-    → op ≡ op_of e.variant e.site r → Untold ≡ origin_of e.flow e.site r → Unmarked ≡ Blocks.mark_of e.site.block r → (is_switch r ≡ false → g ≡ Blocks.region_of e.site.block r)
+    → op ≡ op_of e.variant e.site r → Untold ≡ origin_of e.flow e.site r → Unmarked ≡ Blocks.mark_of e.site.block r → (has_region r ≡ true → g ≡ Blocks.region_of e.site.block r)
     → e.place r ≡ length rs → IsLaid e (behind b o op g) (rs ++ r ∷ []) (ws ++ wire t r Left ∷ [])
 laid_behind e b rs ws o t op g r l out p q k f at =
     laid_connected e (quieted b op g) (rs ++ r ∷ []) ws o (length b.instrs) (wire t r Left) (laid_added e b rs ws op Untold Unmarked g r l p q k f at) (out_more rs (r ∷ []) o t out) (l.size ∙ sym at)
 
 pub laid_meeting : (e : Env) (b : Build) (rs : List Part) (ws : List Wire) (op : Op) (m : Mark) (g : Region) (left right : Outlet) (t u : Side) (r : Part) → IsLaid e b rs ws → OutAt rs left t → OutAt rs right u
-    → op ≡ op_of e.variant e.site r → Untold ≡ origin_of e.flow e.site r → m ≡ Blocks.mark_of e.site.block r → (is_switch r ≡ false → g ≡ Blocks.region_of e.site.block r)
+    → op ≡ op_of e.variant e.site r → Untold ≡ origin_of e.flow e.site r → m ≡ Blocks.mark_of e.site.block r → (has_region r ≡ true → g ≡ Blocks.region_of e.site.block r)
     → e.place r ≡ length rs → IsLaid e (meeting b op m g left right) (rs ++ r ∷ []) (ws ++ wire t r Left ∷ wire u r Right ∷ [])
 laid_meeting e b rs ws op m g left right t u r l a c p q k f at =
     let one : Build = added b op Untold m g in
@@ -264,37 +276,49 @@ laid_meeting e b rs ws op m g left right t u r l a c p q k f at =
     let second = laid_connected e (connected one left (length b.instrs) Left) (rs ++ r ∷ []) (ws ++ wire t r Left ∷ []) right (length b.instrs) (wire u r Right) first (out_more rs (r ∷ []) right u c) (l.size ∙ sym at) in
     subst (λ xs. IsLaid e (meeting b op m g left right) (rs ++ r ∷ []) xs) (append_assoc ws (wire t r Left ∷ []) (wire u r Right ∷ [])) second
 
--- EXITS
-pub record ExitAt (rs : List Part) (o : Outlet) (t : Side) : Type 0 where
-  pub part : slice_get rs o.place ≡ Some t.part
+-- EXITS. Where the output ports of a node leave, and the trigger of a conditional
+pub record ExitAt (rs : List Part) (o : Outlet) (q : ℕ) (t : Side) : Type 0 where
+  pub part : slice_get rs (o.place + q) ≡ Some t.part
   pub second : o.second ≡ t.second
+
+abbrev pub PortsAt : Env → List Part → ℕ → Outlet → Type 0
+PortsAt e rs m o = is_kind cond_kind e.site.block m ≡ false → (q : ℕ) → q < port_count e.flow e.site.block m → ExitAt rs o q (leaves_at e.site m q)
+
+abbrev pub TriggerAt : Env → List Part → ℕ → Outlet → Type 0
+TriggerAt e rs m o = is_kind cond_kind e.site.block m ≡ true → is_triggered e.site.block m ≡ true → slice_get rs o.place ≡ Some (Trigger m)
 
 pub record HasExits (e : Env) (b : Build) (rs : List Part) (n : ℕ) : Type 0 where
   pub count : length b.exits ≡ n
-  pub at : (m : ℕ) → m < n → is_kind cond_kind e.site.block m ≡ false → ExitAt rs (exit_at b m) (leaves e.site.block m)
+  pub at : (m : ℕ) → m < n → PortsAt e rs m (exit_at b m)
+  pub triggers : (m : ℕ) → m < n → TriggerAt e rs m (exit_at b m)
 
 pub exits_more : (e : Env) (b : Build) (rs qs : List Part) (n : ℕ) → HasExits e b rs n → HasExits e b (rs ++ qs) n
 exits_more e b rs qs n h = record {
   count = h.count;
-  at = λ m l c. let x = h.at m l c in record { part = get_left rs qs (exit_at b m).place (leaves e.site.block m).part x.part; second = x.second };
+  at = λ m l c q k. let x = h.at m l c q k in record { part = get_left rs qs ((exit_at b m).place + q) (leaves_at e.site m q).part x.part; second = x.second };
+  triggers = λ m l c k. get_left rs qs (exit_at b m).place (Trigger m) (h.triggers m l c k);
 }
 
-pub exits_last : (e : Env) (b : Build) (rs : List Part) (n : ℕ) (o : Outlet) → HasExits e b rs n → (is_kind cond_kind e.site.block n ≡ false → ExitAt rs o (leaves e.site.block n)) → HasExits e (exited b o) rs (n + 1)
-exits_last e b rs n o h new = record {
+pub exits_last : (e : Env) (b : Build) (rs : List Part) (n : ℕ) (o : Outlet) → HasExits e b rs n → PortsAt e rs n o → TriggerAt e rs n o → HasExits e (exited b o) rs (n + 1)
+exits_last e b rs n o h new trigger = record {
   count = length_push b.exits o ∙ ap suc h.count ∙ omega arith;
-  at = λ m l c. by_place m c (split m n (omega (arith, l)));
+  at = λ m l. by_place m (split m n (omega (arith, l)));
+  triggers = λ m l. trigger_by m (split m n (omega (arith, l)));
 }
   where
-    by_place : (m : ℕ) → is_kind cond_kind e.site.block m ≡ false → (m < n) ⊎ (m ≡ n) → ExitAt rs (slice_index_or (b.exits ++ o ∷ []) m nowhere) (leaves e.site.block m)
-    by_place m c (inl l) = let k = h.count in subst (λ x. ExitAt rs x (leaves e.site.block m)) (sym (index_old b.exits o nowhere m (omega (arith, l, k)))) (h.at m l c)
-    by_place m c (inr l) =
-        subst (λ x. ExitAt rs x (leaves e.site.block m)) (sym (push_index b.exits o nowhere m (l ∙ sym h.count)))
-        (subst (λ k. ExitAt rs o (leaves e.site.block k)) (sym l) (new (subst (λ k. is_kind cond_kind e.site.block k ≡ false) l c)))
+    by_place : (m : ℕ) → (m < n) ⊎ (m ≡ n) → PortsAt e rs m (slice_index_or (b.exits ++ o ∷ []) m nowhere)
+    by_place m (inl l) = let k = h.count in subst (PortsAt e rs m) (sym (index_old b.exits o nowhere m (omega (arith, l, k)))) (h.at m l)
+    by_place m (inr l) = subst (PortsAt e rs m) (sym (push_index b.exits o nowhere m (l ∙ sym h.count))) (subst (λ k. PortsAt e rs k o) (sym l) new)
 
--- a source leaves at the side of its node
-pub source_out : (e : Env) (b : Build) (rs : List Part) (n : ℕ) (s : Source) → HasExits e b rs n → ComesBefore e.site.block n s → OutAt rs (outlet_of b s) (leaves e.site.block s.node)
-source_out e b rs n s h c =
-    let x = h.at s.node c.earlier c.no_cond in
-    let z = c.first in
-    let at : (exit_at b s.node).place ≡ (exit_at b s.node).place + s.port = omega (arith, z) in
-    record { part = ap (slice_get rs) (sym at) ∙ x.part; second = x.second }
+    trigger_by : (m : ℕ) → (m < n) ⊎ (m ≡ n) → TriggerAt e rs m (slice_index_or (b.exits ++ o ∷ []) m nowhere)
+    trigger_by m (inl l) = let k = h.count in subst (TriggerAt e rs m) (sym (index_old b.exits o nowhere m (omega (arith, l, k)))) (h.triggers m l)
+    trigger_by m (inr l) = subst (TriggerAt e rs m) (sym (push_index b.exits o nowhere m (l ∙ sym h.count))) (subst (λ k. TriggerAt e rs k o) (sym l) trigger)
+
+-- a source leaves at the side of its node's port
+pub source_out : (e : Env) (b : Build) (rs : List Part) (n : ℕ) (s : Source) → HasExits e b rs n → ComesBefore e.flow e.site.block n s → OutAt rs (outlet_of b s) (leaves e.site s)
+source_out e b rs n s h c = let x = h.at s.node c.earlier c.no_cond s.port c.port in record { part = x.part; second = x.second }
+
+-- the trigger of an arm leaves at the switch of its conditional
+pub trigger_out : (e : Env) (b : Build) (rs : List Part) (n k : ℕ) (t : Bool) → HasExits e b rs n → k < n → is_kind cond_kind e.site.block k ≡ true → is_triggered e.site.block k ≡ true
+    → OutAt rs (trigger_of b (Arm k t)) (trigger_side (Arm k t))
+trigger_out e b rs n k t h l c d = let zeroless : (exit_at b k).place + 0 ≡ (exit_at b k).place = omega arith in record { part = ap (slice_get rs) zeroless ∙ h.triggers k l c d; second = refl }

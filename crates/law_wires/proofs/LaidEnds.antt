@@ -1,14 +1,11 @@
--- The ends of each region, the chains that join them, and the last instruction stand as they are written down.
-use Rattle.std.proofs.Common.{◌≡◌, ℕ, suc, ◌+◌, Bool, true, false, not, ◌&&◌, List, [], ◌∷◌, ◌++◌, length, refl, sym, ap, ◌∙◌, subst, arith, append-nil, append_assoc, if◌then◌else◌, Some, None, Option, ◌⊎◌, inl, inr}
+-- The ends of each region stand as they are written down.
+use Rattle.std.proofs.Common.{◌≡◌, ℕ, suc, ◌+◌, Bool, true, false, not, ◌&&◌, List, [], ◌∷◌, ◌++◌, length, refl, sym, ap, ◌∙◌, subst, arith, append-nil, append_assoc, if◌then◌else◌, Some, None, Option}
 use Rattle.std.specs.Prelude.{slice_get, ⊤}
-use Rattle.tags.specs.declared.value.Origin.TheVariants.{Untold}
-use Rattle.tags.specs.declared.token.Port.{Port}
-use Rattle.tags.specs.declared.token.Port.TheVariants.{Left, Right}
 use Rattle.semantics.specs.declared.graph.Region.{Region}
 use Rattle.semantics.specs.declared.graph.Region.TheVariants.{Arm}
 use Rattle.semantics.specs.declared.graph.Kind.{Kind}
 use Rattle.semantics.specs.declared.graph.Kind.TheVariants.{Lit, Apply1, Apply2, Cond, Enter, Merge, Fetch, Store, Call, StrictCall, Loop}
-use Rattle.semantics.specs.declared.program.Mark.TheVariants.{Unmarked, OfCond}
+use Rattle.semantics.specs.declared.program.Mark.TheVariants.{Unmarked, OfCond, OfFlag}
 use Rattle.semantics.specs.declared.program.Op.{Op}
 use Rattle.semantics.specs.Graph.{Node, Block, node_at}
 use Rattle.semantics.specs.Program.{Instr}
@@ -16,16 +13,13 @@ use Rattle.law_wires.specs.Types.{Outlet}
 use Rattle.law_wires.specs.Types.{End}
 use Rattle.expansion.specs.Builds as Builds
 use Rattle.expansion.specs.Builds.{Build, outlet, first_of, second_of, quieted, connected, behind, meeting, mark_of}
-use Rattle.expansion.specs.Ends as Ends
-use Rattle.expansion.specs.Ends.{end_at, is_empty, is_take, is_end, pushed_if, noted, ends_from, ends_of, same_region, join_with, join_end, join_ends, signalled, Signalled, Closing, closing, copied, ended, closed, closed_kind, closed_nodes, released}
-use Rattle.law_expansion.proofs.ArcsLists.{get_new}
-use Rattle.law_contexts.specs.Parts.{Part, Line, Trigger, Gate, Taker, TurnCont, TurnFlag, TurnValue, Join, CondEnd}
+use Rattle.expansion.specs.Ends.{end_at, is_empty, is_take, is_end, pushed_if, noted, ends_from, ends_of}
+use Rattle.law_contexts.specs.Parts as Parts
+use Rattle.law_contexts.specs.Parts.{Part, Line, Trigger, Gate, Framer, Linker, Giver, Taker, Drainer, TurnCont, TurnFlag, TurnValue, Asker, NextFramer, NextFanned, Join, CondEnd}
 use Rattle.law_contexts.specs.Blocks as Blocks
-use Rattle.law_contexts.specs.Blocks.{Side, side, Site, leaves_in, lies_in, mark_round, arm_round, op_of, line_op, kind_op, is_switch}
-use Rattle.law_contexts.specs.Expanded.{row}
-use Rattle.law_wires.specs.Written.{Wire, wire, is_open, same_side, sides_of, sides, open_of, in_region, chain_wires, chain_end, joined_parts, joined_wires, signal_wires, cond_parts, cond_sides, Ended, arm_ends, close}
-use Rattle.law_wires.proofs.Laid.{Env, IsLaid, OutAt, goes, dest, out_more, laid_added, laid_connected, laid_meeting}
-use Rattle.law_wires.proofs.LaidNodes.{Stand, stand_left, stand_right, length_both}
+use Rattle.law_contexts.specs.Blocks.{Side, side, Site, leaves_in, lies_in, mark_round, arm_round, op_of, line_op, kind_op}
+use Rattle.law_wires.specs.Written.{Wire, is_open, same_side, sides_of, sides, open_of}
+use Rattle.law_wires.proofs.Laid.{Env, IsLaid, OutAt, has_region, goes, dest, out_more}
 
 module _ (e : Env) where
   abbrev b : Block ℕ
@@ -46,7 +40,7 @@ module _ (e : Env) where
   ends_more rs qs (x ∷ es) [] h = absurd h
   ends_more rs qs (x ∷ es) (t ∷ ts) h = (h.0, out_more rs qs x.outlet t h.1, ends_more rs qs es ts h.2)
 
-  ends_push : (rs : List Part) (es : List End) (ts : List Side) (r : Region) (o : Outlet) (t : Side) → AreEnds rs es ts → r ≡ leaves_side t → OutAt rs o t → AreEnds rs (es ++ end_at r o ∷ []) (ts ++ t ∷ [])
+  pub ends_push : (rs : List Part) (es : List End) (ts : List Side) (r : Region) (o : Outlet) (t : Side) → AreEnds rs es ts → r ≡ leaves_side t → OutAt rs o t → AreEnds rs (es ++ end_at r o ∷ []) (ts ++ t ∷ [])
   ends_push rs [] [] r o t h p q = (p, q, tt)
   ends_push rs [] (u ∷ ts) r o t h p q = absurd h
   ends_push rs (x ∷ es) [] r o t h p q = absurd h
@@ -68,19 +62,32 @@ module _ (e : Env) where
       go true h = refl
       go false h = h
 
-  -- the parts of a block without loops and calls: a gate lies in an arm
-  abbrev pub IsUsual : Part → Type 0
-  IsUsual (Gate n) = (k : ℕ) × (t : Bool) × (lies_in b n ≡ Arm k t)
-  IsUsual (Trigger k) = ⊥
-  IsUsual (Taker n) = ⊥
-  IsUsual TurnCont = ⊥
-  IsUsual TurnFlag = ⊥
-  IsUsual (TurnValue j) = ⊥
-  IsUsual r = ⊤
+  -- What is known of a part: a gate lies in an arm; and where the machine answers, and at a turn, arcs leave.
+  abbrev Leads : List Wire → Part → Bool → Type 0
+  Leads ws r t = is_open (side r t) ws ≡ false
 
-  abbrev pub AllUsual : List Part → Type 0
-  AllUsual [] = ⊤
-  AllUsual (r ∷ rs) = IsUsual r × AllUsual rs
+  abbrev pub IsUsual : List Wire → Part → Type 0
+  IsUsual ws (Gate n) = (k : ℕ) × (t : Bool) × (lies_in b n ≡ Arm k t)
+  IsUsual ws (Framer n) = Leads ws (Framer n) false
+  IsUsual ws (Linker n) = Leads ws (Linker n) false
+  IsUsual ws (Giver n) = Leads ws (Giver n) false
+  IsUsual ws (Drainer n) = Leads ws (Drainer n) false
+  IsUsual ws Asker = Leads ws Asker false
+  IsUsual ws NextFramer = Leads ws NextFramer false
+  IsUsual ws NextFanned = Leads ws NextFanned false
+  IsUsual ws TurnCont = Leads ws TurnCont false × Leads ws TurnCont true
+  IsUsual ws TurnFlag = Leads ws TurnFlag false × Leads ws TurnFlag true
+  IsUsual ws (TurnValue j) = Leads ws (TurnValue j) false × Leads ws (TurnValue j) true
+  IsUsual ws Parts.End = ⊥
+  IsUsual ws r = ⊤
+
+  abbrev pub AllUsual : List Wire → List Part → Type 0
+  AllUsual ws [] = ⊤
+  AllUsual ws (r ∷ rs) = IsUsual ws r × AllUsual ws rs
+
+  abbrev is_taker : Part → Bool
+  is_taker (Taker n) = true
+  is_taker r = false
 
   kind_no_take : (k : Kind ℕ) → is_take (kind_op k) ≡ false
   kind_no_take (Lit z) = refl
@@ -99,17 +106,20 @@ module _ (e : Env) where
   line_no_take None = refl
   line_no_take (Some line) = kind_no_take line.kind
 
-  no_take : (r : Part) → IsUsual r → is_take (op_of e.variant e.site r) ≡ false
+  no_take : (r : Part) → is_taker r ≡ false → is_take (op_of e.variant e.site r) ≡ false
   no_take (Line n) u = line_no_take (node_at b n)
-  no_take (Taker n) u = absurd u
+  no_take (Taker n) u = absurd (cc)
   no_take r u = refl
 
   module _ (c : Build) (rs : List Part) (ws : List Wire) (l : IsLaid e c rs ws) where
     -- what one instruction adds to the ends
-    noted_laid : (r : Part) (es : List End) (ts : List Side) (n : ℕ) (i : Instr) → IsUsual r → slice_get rs n ≡ Some r → slice_get c.instrs n ≡ Some i → AreEnds rs es ts
+    noted_laid : (r : Part) (es : List End) (ts : List Side) (n : ℕ) (i : Instr) → IsUsual ws r → slice_get rs n ≡ Some r → slice_get c.instrs n ≡ Some i → AreEnds rs es ts
         → AreEnds rs (noted es (mark_of c.marks n) (Builds.region_of c.regions n) i n) (ts ++ open_of ws (sides_of r))
-    noted_laid r es ts n i u at there h = by_part r u at (l.instrs n r i at there).firsts (l.instrs n r i at there).seconds (ap is_take (l.instrs n r i at there).op ∙ no_take r u) (l.marks n r at) (l.regions n r at)
+    noted_laid r es ts n i u at there h = by_part r u at (l.instrs n r i at there).firsts (l.instrs n r i at there).seconds (ap is_take (l.instrs n r i at there).op) (l.marks n r at) (l.regions n r at)
       where
+        region : Region
+        region = Builds.region_of c.regions n
+
         zeroless : n ≡ n + 0
         zeroless = omega arith
 
@@ -117,37 +127,70 @@ module _ (e : Env) where
         out r s f = record { part = ap (slice_get rs) (sym zeroless) ∙ f; second = refl }
 
         -- an instruction with one side
-        single : (r : Part) → slice_get rs n ≡ Some r → i.firsts ≡ goes e (side r false) ws → is_take i.op ≡ false → Builds.region_of c.regions n ≡ leaves_side (side r false)
-            → AreEnds rs (pushed_if es (is_end i) (Builds.region_of c.regions n) (first_of n)) (ts ++ open_of ws (side r false ∷ []))
-        single r f first take region =
-            end_if rs es ts (Builds.region_of c.regions n) (first_of n) (side r false) (is_end i) (is_open (side r false) ws)
-            (ap (λ x. not x && is_empty i.firsts) take ∙ ap is_empty first ∙ empty_is (side r false) ws) h region (out r false f)
+        single : (r : Part) → slice_get rs n ≡ Some r → i.firsts ≡ goes e (side r false) ws → is_take i.op ≡ false → region ≡ leaves_side (side r false)
+            → AreEnds rs (pushed_if es (is_end i) region (first_of n)) (ts ++ open_of ws (side r false ∷ []))
+        single r f first take reg =
+            end_if rs es ts region (first_of n) (side r false) (is_end i) (is_open (side r false) ws)
+            (ap (λ x. not x && is_empty i.firsts) take ∙ ap is_empty first ∙ empty_is (side r false) ws) h reg (out r false f)
 
-        double : (m k : ℕ) (t : Bool) → lies_in b m ≡ Arm k t → slice_get rs n ≡ Some (Gate m) → i.firsts ≡ goes e (side (Gate m) false) ws → i.seconds ≡ goes e (side (Gate m) true) ws
-            → AreEnds rs (noted es (OfCond k) (Builds.region_of c.regions n) i n) (ts ++ open_of ws (side (Gate m) false ∷ side (Gate m) true ∷ []))
-        double m k t a f first second =
-            let one = end_if rs es ts (Arm k true) (first_of n) (side (Gate m) false) (is_empty i.firsts) (is_open (side (Gate m) false) ws)
-            (ap is_empty first ∙ empty_is (side (Gate m) false) ws) h (sym (ap (λ r. arm_round r true) a)) (out (Gate m) false f) in
-            let two = end_if rs (pushed_if es (is_empty i.firsts) (Arm k true) (first_of n)) (ts ++ (if is_open (side (Gate m) false) ws then side (Gate m) false ∷ [] else [])) (Arm k false) (second_of n) (side (Gate m) true)
-            (is_empty i.seconds) (is_open (side (Gate m) true) ws) (ap is_empty second ∙ empty_is (side (Gate m) true) ws) one (sym (ap (λ r. arm_round r false) a)) (out (Gate m) true f) in
-            subst (AreEnds rs (noted es (OfCond k) (Builds.region_of c.regions n) i n)) (both (is_open (side (Gate m) false) ws) (is_open (side (Gate m) true) ws)) two
+        none : AreEnds rs es (ts ++ [])
+        none = subst (AreEnds rs es) (sym (append-nil ts)) h
+
+        -- one that is no end
+        closed_by : is_end i ≡ false → AreEnds rs (pushed_if es (is_end i) region (first_of n)) (ts ++ [])
+        closed_by f = subst (λ t. AreEnds rs (pushed_if es t region (first_of n)) (ts ++ [])) (sym f) none
+
+        leads_on : (r : Part) → is_open (side r false) ws ≡ false → i.firsts ≡ goes e (side r false) ws → is_end i ≡ false
+        leads_on r u first = both (is_take i.op) (is_empty i.firsts) (ap is_empty first ∙ empty_is (side r false) ws ∙ u)
           where
-            both : (x y : Bool) → (ts ++ (if x then side (Gate m) false ∷ [] else [])) ++ (if y then side (Gate m) true ∷ [] else [])
-                ≡ ts ++ (if x then side (Gate m) false ∷ (if y then side (Gate m) true ∷ [] else []) else (if y then side (Gate m) true ∷ [] else []))
-            both true y = append_assoc ts (side (Gate m) false ∷ []) (if y then side (Gate m) true ∷ [] else [])
-            both false y = append_assoc ts [] (if y then side (Gate m) true ∷ [] else [])
+            both : (x y : Bool) → y ≡ false → (not x && y) ≡ false
+            both true y f = refl
+            both false y f = f
 
-        by_part : (r : Part) → IsUsual r → slice_get rs n ≡ Some r → i.firsts ≡ goes e (side r false) ws → i.seconds ≡ goes e (side r true) ws → is_take i.op ≡ false → mark_of c.marks n ≡ Blocks.mark_of b r
-            → (is_switch r ≡ false → Builds.region_of c.regions n ≡ Blocks.region_of b r)
-            → AreEnds rs (noted es (mark_of c.marks n) (Builds.region_of c.regions n) i n) (ts ++ open_of ws (sides_of r))
-        by_part (Gate m) u f first second take mark region =
-            subst (λ x. AreEnds rs (noted es x (Builds.region_of c.regions n) i n) (ts ++ open_of ws (sides_of (Gate m)))) (sym (mark ∙ ap mark_round u.2)) (double m u.0 u.1 u.2 f first second)
-        by_part (Trigger k) u f first second take mark region = absurd u
-        by_part TurnCont u f first second take mark region = absurd u
-        by_part TurnFlag u f first second take mark region = absurd u
-        by_part (TurnValue j) u f first second take mark region = absurd u
-        by_part r u f first second take mark region =
-            subst (λ x. AreEnds rs (noted es x (Builds.region_of c.regions n) i n) (ts ++ open_of ws (sides_of r))) (sym mark) (single r f first take (region refl))
+        answered : (r : Part) → is_open (side r false) ws ≡ false → i.firsts ≡ goes e (side r false) ws → mark_of c.marks n ≡ Unmarked → AreEnds rs (noted es (mark_of c.marks n) region i n) (ts ++ [])
+        answered r u first mark = subst (λ x. AreEnds rs (noted es x region i n) (ts ++ [])) (sym mark) (closed_by (leads_on r u first))
+
+        both_closed : (r : Part) → is_open (side r false) ws ≡ false → is_open (side r true) ws ≡ false → mark_of c.marks n ≡ OfFlag
+            → AreEnds rs (noted es (mark_of c.marks n) region i n) (ts ++ open_of ws (side r false ∷ side r true ∷ []))
+        both_closed r f g mark =
+            subst (λ x. AreEnds rs (noted es x region i n) (ts ++ open_of ws (side r false ∷ side r true ∷ []))) (sym mark)
+            (subst (λ xs. AreEnds rs es (ts ++ xs)) (sym (ap (λ x. if x then side r false ∷ open_of ws (side r true ∷ []) else open_of ws (side r true ∷ [])) f ∙ ap (λ x. if x then side r true ∷ [] else []) g)) none)
+
+        double : (r : Part) (k : ℕ) → leaves_side (side r false) ≡ Arm k true → leaves_side (side r true) ≡ Arm k false → slice_get rs n ≡ Some r → i.firsts ≡ goes e (side r false) ws → i.seconds ≡ goes e (side r true) ws
+            → AreEnds rs (noted es (OfCond k) region i n) (ts ++ open_of ws (side r false ∷ side r true ∷ []))
+        double r k a a2 f first second =
+            let one = end_if rs es ts (Arm k true) (first_of n) (side r false) (is_empty i.firsts) (is_open (side r false) ws) (ap is_empty first ∙ empty_is (side r false) ws) h (sym a) (out r false f) in
+            let two = end_if rs (pushed_if es (is_empty i.firsts) (Arm k true) (first_of n)) (ts ++ (if is_open (side r false) ws then side r false ∷ [] else [])) (Arm k false) (second_of n) (side r true)
+            (is_empty i.seconds) (is_open (side r true) ws) (ap is_empty second ∙ empty_is (side r true) ws) one (sym a2) (out r true f) in
+            subst (AreEnds rs (noted es (OfCond k) region i n)) (both (is_open (side r false) ws) (is_open (side r true) ws)) two
+          where
+            both : (x y : Bool) → (ts ++ (if x then side r false ∷ [] else [])) ++ (if y then side r true ∷ [] else [])
+                ≡ ts ++ (if x then side r false ∷ (if y then side r true ∷ [] else []) else (if y then side r true ∷ [] else []))
+            both true y = append_assoc ts (side r false ∷ []) (if y then side r true ∷ [] else [])
+            both false y = append_assoc ts [] (if y then side r true ∷ [] else [])
+
+        by_part : (r : Part) → IsUsual ws r → slice_get rs n ≡ Some r → i.firsts ≡ goes e (side r false) ws → i.seconds ≡ goes e (side r true) ws → is_take i.op ≡ is_take (op_of e.variant e.site r) → mark_of c.marks n ≡ Blocks.mark_of b r
+            → (has_region r ≡ true → region ≡ Blocks.region_of b r)
+            → AreEnds rs (noted es (mark_of c.marks n) region i n) (ts ++ open_of ws (sides_of r))
+        by_part (Gate m) u f first second take mark reg =
+            subst (λ x. AreEnds rs (noted es x region i n) (ts ++ open_of ws (sides_of (Gate m)))) (sym (mark ∙ ap mark_round u.2)) (double (Gate m) u.0 (ap (λ r. arm_round r true) u.2) (ap (λ r. arm_round r false) u.2) f first second)
+        by_part (Trigger k) u f first second take mark reg = subst (λ x. AreEnds rs (noted es x region i n) (ts ++ open_of ws (sides_of (Trigger k)))) (sym mark) (double (Trigger k) k refl refl f first second)
+        by_part TurnCont u f first second take mark reg = both_closed TurnCont u.0 u.1 mark
+        by_part TurnFlag u f first second take mark reg = both_closed TurnFlag u.0 u.1 mark
+        by_part (TurnValue j) u f first second take mark reg = both_closed (TurnValue j) u.0 u.1 mark
+        by_part (Framer m) u f first second take mark reg = answered (Framer m) u first mark
+        by_part (Linker m) u f first second take mark reg = answered (Linker m) u first mark
+        by_part (Giver m) u f first second take mark reg = answered (Giver m) u first mark
+        by_part (Drainer m) u f first second take mark reg = answered (Drainer m) u first mark
+        by_part Asker u f first second take mark reg = answered Asker u first mark
+        by_part NextFramer u f first second take mark reg = answered NextFramer u first mark
+        by_part NextFanned u f first second take mark reg =
+            subst (λ x. AreEnds rs (noted es (mark_of c.marks n) region i n) (ts ++ (if x then side NextFanned false ∷ [] else []))) (sym u) (answered NextFanned u first mark)
+        by_part (Taker m) u f first second take mark reg =
+            subst (λ x. AreEnds rs (noted es x region i n) (ts ++ [])) (sym mark) (closed_by (ap (λ x. not x && is_empty i.firsts) take))
+        by_part Parts.End u f first second take mark reg = absurd u
+        by_part r u f first second take mark reg =
+            subst (λ x. AreEnds rs (noted es x region i n) (ts ++ open_of ws (sides_of r))) (sym mark) (single r f first (take ∙ no_take r refl) (reg refl))
 
     open_both : (ws : List Wire) (xs ys : List Side) → open_of ws (xs ++ ys) ≡ open_of ws xs ++ open_of ws ys
     open_both ws [] ys = refl
@@ -157,7 +200,7 @@ module _ (e : Env) where
         go true h = ap (λ zs. x ∷ zs) h
         go false h = h
 
-    ends_laid : (es : List End) (ts : List Side) (n : ℕ) (is : List Instr) (qs : List Part) → AllUsual qs → length is ≡ length qs
+    ends_laid : (es : List End) (ts : List Side) (n : ℕ) (is : List Instr) (qs : List Part) → AllUsual ws qs → length is ≡ length qs
         → ((j : ℕ) (i : Instr) → slice_get is j ≡ Some i → slice_get c.instrs (n + j) ≡ Some i) → ((j : ℕ) (r : Part) → slice_get qs j ≡ Some r → slice_get rs (n + j) ≡ Some r)
         → AreEnds rs es ts → AreEnds rs (ends_from es c n is) (ts ++ open_of ws (sides qs))
     ends_laid es ts n [] [] u s f g h = subst (AreEnds rs es) (sym (append-nil ts)) h
@@ -174,196 +217,5 @@ module _ (e : Env) where
         (λ j x e. let k : (n + 1) + j ≡ n + suc j = omega arith in ap (slice_get rs) k ∙ g (suc j) x e) one in
         subst (AreEnds rs (ends_from es' c (n + 1) is)) (append_assoc ts (open_of ws (sides_of r)) (open_of ws (sides qs)) ∙ ap (λ xs. ts ++ xs) (sym (open_both ws (sides_of r) (sides qs)))) rest
 
-    pub all_ends_laid : AllUsual rs → AreEnds rs (ends_of c) (open_of ws (sides rs))
+    pub all_ends_laid : AllUsual ws rs → AreEnds rs (ends_of c) (open_of ws (sides rs))
     all_ends_laid u = ends_laid [] [] 0 c.instrs rs u l.size (λ j i x. let k : 0 + j ≡ j = omega arith in ap (slice_get c.instrs) k ∙ x) (λ j r x. let k : 0 + j ≡ j = omega arith in ap (slice_get rs) k ∙ x) tt
-
-  -- JOINS
-  pub record SignalAt (rs : List Part) (o : Option Outlet) (t : Side) : Type 0 where
-    pub outlet : Outlet
-    pub is : o ≡ Some outlet
-    pub out : OutAt rs outlet t
-
-  signal_more : (rs qs : List Part) (o : Option Outlet) (t : Side) → SignalAt rs o t → SignalAt (rs ++ qs) o t
-  signal_more rs qs o t h = record { outlet = h.outlet; is = h.is; out = out_more rs qs h.outlet t h.out }
-
-  pub record Chained (s : Signalled) (rs : List Part) (ws : List Wire) (t : Side) : Type 0 where
-    pub laid : IsLaid e s.build rs ws
-    pub signal : SignalAt rs s.signal t
-
-  chained_same : (s : Signalled) (rs qs : List Part) (ws us : List Wire) (t : Side) → rs ≡ qs → ws ≡ us → Chained s rs ws t → Chained s qs us t
-  chained_same s rs qs ws us t p q h = subst (λ xs. Chained s xs us t) p (subst (λ xs. Chained s rs xs t) q h)
-
-  pub joins_laid : (c : Build) (rs : List Part) (ws : List Wire) (es : List End) (ts : List Side) (r : Region) (n : ℕ) (o : Outlet) (t : Side) → IsLaid e c rs ws → AreEnds rs es ts → OutAt rs o t
-      → Stand e.place (length rs) (row (Join r) n (length (in_region b r ts)))
-      → Chained (join_ends c (Some o) r es) (rs ++ row (Join r) n (length (in_region b r ts))) (ws ++ chain_wires r n t (in_region b r ts)) (chain_end r n t (in_region b r ts))
-  unfolding join_ends
-  joins_laid c rs ws [] [] r n o t l h out at =
-      chained_same (join_ends c (Some o) r []) rs (rs ++ []) ws (ws ++ []) t (sym (append-nil rs)) (sym (append-nil ws)) (record { laid = l; signal = record { outlet = o; is = refl; out = out } })
-  joins_laid c rs ws [] (u ∷ ts) r n o t l h out at = absurd h
-  joins_laid c rs ws (x ∷ es) [] r n o t l h out at = absurd h
-  joins_laid c rs ws (x ∷ es) (u ∷ ts) r n o t l h out at = go (λ d qs us m y z. joins_laid d qs us es ts r m y z) (same_region x.region r) (same_region (leaves_side u) r) (ap (λ q. same_region q r) h.0) at
-    where
-      More : Type 0
-      More = (c : Build) (rs : List Part) (ws : List Wire) (n : ℕ) (o : Outlet) (t : Side) → IsLaid e c rs ws → AreEnds rs es ts → OutAt rs o t
-          → Stand e.place (length rs) (row (Join r) n (length (in_region b r ts)))
-          → Chained (join_ends c (Some o) r es) (rs ++ row (Join r) n (length (in_region b r ts))) (ws ++ chain_wires r n t (in_region b r ts)) (chain_end r n t (in_region b r ts))
-
-      self : Signalled
-      self = record { build = c; signal = Some o }
-
-      Goal : Bool → Bool → Type 0
-      Goal y z = Stand e.place (length rs) (row (Join r) n (length (if z then u ∷ in_region b r ts else in_region b r ts)))
-          → Chained (join_ends (if y then join_with c (Some o) x.outlet r else self).build (if y then join_with c (Some o) x.outlet r else self).signal r es)
-          (rs ++ row (Join r) n (length (if z then u ∷ in_region b r ts else in_region b r ts))) (ws ++ chain_wires r n t (if z then u ∷ in_region b r ts else in_region b r ts))
-          (chain_end r n t (if z then u ∷ in_region b r ts else in_region b r ts))
-
-      go : More → (y z : Bool) → y ≡ z → Goal y z
-      go more true true s at =
-          let d : Build = meeting c Op.Sync Unmarked r o x.outlet in
-          let two : List Wire = wire t (Join r n) Left ∷ wire u (Join r n) Right ∷ [] in
-          let new = laid_meeting e c rs ws Op.Sync Unmarked r o x.outlet t u (Join r n) l out h.1 refl refl refl (λ f. refl) at.0 in
-          let size = l.size in
-          let zeroless : length c.instrs + 0 ≡ length rs = omega (arith, size) in
-          let long = length_both rs (Join r n ∷ []) in
-          let last : OutAt (rs ++ Join r n ∷ []) (first_of (length c.instrs)) (side (Join r n) false) = record { part = ap (slice_get (rs ++ Join r n ∷ [])) zeroless ∙ get_new rs (Join r n); second = refl } in
-          let rest = more d (rs ++ Join r n ∷ []) (ws ++ two) (n + 1) (first_of (length c.instrs)) (side (Join r n) false) new (ends_more rs (Join r n ∷ []) es ts h.2) last
-          (subst (λ k. Stand e.place k (row (Join r) (n + 1) (length (in_region b r ts)))) (omega (arith, long)) at.1) in
-          chained_same (join_ends d (Some (first_of (length c.instrs))) r es) ((rs ++ Join r n ∷ []) ++ row (Join r) (n + 1) (length (in_region b r ts))) (rs ++ row (Join r) n (length (u ∷ in_region b r ts)))
-          ((ws ++ two) ++ chain_wires r (n + 1) (side (Join r n) false) (in_region b r ts)) (ws ++ chain_wires r n t (u ∷ in_region b r ts)) (chain_end r n t (u ∷ in_region b r ts))
-          (append_assoc rs (Join r n ∷ []) (row (Join r) (n + 1) (length (in_region b r ts)))) (append_assoc ws two (chain_wires r (n + 1) (side (Join r n) false) (in_region b r ts))) rest
-      go more false false s at = more c rs ws n o t l h.2 out at
-      go more true false s at = absurd (cc)
-      go more false true s at = absurd (cc)
-
-  -- all ends of a region: there is a signal if there is an end
-  abbrev pub SignalIs : List Part → Option Outlet → Region → List Side → Type 0
-  SignalIs rs o r [] = o ≡ Ends.no_signal
-  SignalIs rs o r (t ∷ ts) = SignalAt rs o (chain_end r 0 t ts)
-
-  pub record Joined (s : Signalled) (rs : List Part) (ws : List Wire) (r : Region) (ts : List Side) : Type 0 where
-    pub laid : IsLaid e s.build (rs ++ joined_parts r ts) (ws ++ joined_wires r ts)
-    pub signal : SignalIs (rs ++ joined_parts r ts) s.signal r ts
-
-  pub region_joined : (c : Build) (rs : List Part) (ws : List Wire) (es : List End) (ts : List Side) (r : Region) → IsLaid e c rs ws → AreEnds rs es ts
-      → Stand e.place (length rs) (joined_parts r (in_region b r ts)) → Joined (join_ends c Ends.no_signal r es) rs ws r (in_region b r ts)
-  unfolding join_ends
-  region_joined c rs ws [] [] r l h at = record { laid = subst (λ xs. IsLaid e c xs (ws ++ [])) (sym (append-nil rs)) (subst (λ xs. IsLaid e c rs xs) (sym (append-nil ws)) l); signal = refl }
-  region_joined c rs ws [] (u ∷ ts) r l h at = absurd h
-  region_joined c rs ws (x ∷ es) [] r l h at = absurd h
-  region_joined c rs ws (x ∷ es) (u ∷ ts) r l h at = go (λ a. region_joined c rs ws es ts r l h.2 a) (same_region x.region r) (same_region (leaves_side u) r) (ap (λ q. same_region q r) h.0) at
-    where
-      self : Signalled
-      self = record { build = c; signal = Ends.no_signal }
-
-      go : (Stand e.place (length rs) (joined_parts r (in_region b r ts)) → Joined (join_ends c Ends.no_signal r es) rs ws r (in_region b r ts))
-          → (y z : Bool) → y ≡ z → Stand e.place (length rs) (joined_parts r (if z then u ∷ in_region b r ts else in_region b r ts))
-          → Joined (join_ends (if y then join_with c Ends.no_signal x.outlet r else self).build (if y then join_with c Ends.no_signal x.outlet r else self).signal r es) rs ws r (if z then u ∷ in_region b r ts else in_region b r ts)
-      go more true true s at =
-          let all = joins_laid c rs ws es ts r 0 x.outlet u l h.2 h.1 at in
-          record { laid = all.laid; signal = all.signal }
-      go more false false s at = more at
-      go more true false s at = absurd (cc)
-      go more false true s at = absurd (cc)
-
-  -- a signal leads on
-  pub signal_laid : (c : Build) (rs : List Part) (ws : List Wire) (o : Option Outlet) (r : Region) (ts : List Side) (to : ℕ) (part : Part) (p : Port) → IsLaid e c rs ws → SignalIs rs o r ts → to ≡ e.place part
-      → IsLaid e (signalled c o to p) rs (ws ++ signal_wires r ts part p)
-  signal_laid c rs ws o r [] to part p l h at = subst (λ x. IsLaid e (signalled c x to p) rs (ws ++ [])) (sym h) (subst (λ xs. IsLaid e c rs xs) (sym (append-nil ws)) l)
-  signal_laid c rs ws o r (t ∷ ts) to part p l h at =
-      subst (λ x. IsLaid e (signalled c x to p) rs (ws ++ signal_wires r (t ∷ ts) part p)) (sym h.is) (laid_connected e c rs ws h.outlet to (wire (chain_end r 0 t ts) part p) l h.out at)
-
-  pub is_more : (rs qs : List Part) (o : Option Outlet) (r : Region) (ts : List Side) → SignalIs rs o r ts → SignalIs (rs ++ qs) o r ts
-  is_more rs qs o r [] h = h
-  is_more rs qs o r (t ∷ ts) h = signal_more rs qs o (chain_end r 0 t ts) h
-
-  -- CONDITIONALS
-  pub record IsClosing (c : Closing) (x : Ended) : Type 0 where
-    pub laid : IsLaid e c.build x.parts x.wires
-    pub ends : AreEnds x.parts c.ends x.ends
-
-  ended_is : (c : Build) (f g : Option Outlet) (es : List End) (r : Region) (x : Outlet) → (f ≡ Some x) ⊎ (g ≡ Some x) → ended c f g es r ≡ copied c f g es r
-  ended_is c None None es r x (inl h) = absurd (cc)
-  ended_is c None None es r x (inr h) = absurd (cc)
-  ended_is c None (Some o) es r x h = refl
-  ended_is c (Some o) g es r x h = refl
-
-  regroup : {X : Type 0} (u v w x : List X) → ((u ++ v) ++ w) ++ x ≡ u ++ (v ++ (w ++ x))
-  regroup u v w x = simp append_assoc
-
-  regroup_five : {X : Type 0} (u v w x y : List X) → (((u ++ v) ++ w) ++ x) ++ y ≡ u ++ (v ++ (w ++ (x ++ y)))
-  regroup_five u v w x y = simp append_assoc
-
-  -- with a copy, to which the signals of both arms lead
-  copied_laid : (c : Build) (rs : List Part) (ws : List Wire) (es : List End) (us : List Side) (k : ℕ) (r : Region) (f g : Option Outlet) (ts vs : List Side) → IsLaid e c rs ws → AreEnds rs es us
-      → SignalIs rs f (Arm k true) ts → SignalIs rs g (Arm k false) vs → r ≡ lies_in b k → e.place (CondEnd k) ≡ length rs
-      → IsClosing (copied c f g es r) (record {
-        parts = rs ++ CondEnd k ∷ [];
-        wires = (ws ++ signal_wires (Arm k true) ts (CondEnd k) Left) ++ signal_wires (Arm k false) vs (CondEnd k) Left;
-        ends = us ++ side (CondEnd k) false ∷ [];
-      })
-  copied_laid c rs ws es us k r f g ts vs l h p q region at =
-      let one : Build = quieted c Op.Copy r in
-      let size = l.size in
-      let here : length c.instrs ≡ e.place (CondEnd k) = size ∙ sym at in
-      let zeroless : length c.instrs + 0 ≡ length rs = omega (arith, size) in
-      let new = laid_added e c rs ws Op.Copy Untold Unmarked r (CondEnd k) l refl refl refl (λ x. region) at in
-      let two = signal_laid one (rs ++ CondEnd k ∷ []) ws f (Arm k true) ts (length c.instrs) (CondEnd k) Left new (is_more rs (CondEnd k ∷ []) f (Arm k true) ts p) here in
-      let three = signal_laid (signalled one f (length c.instrs) Left) (rs ++ CondEnd k ∷ []) (ws ++ signal_wires (Arm k true) ts (CondEnd k) Left) g (Arm k false) vs (length c.instrs) (CondEnd k) Left two
-      (is_more rs (CondEnd k ∷ []) g (Arm k false) vs q) here in
-      record {
-        laid = three;
-        ends = ends_push (rs ++ CondEnd k ∷ []) es us r (first_of (length c.instrs)) (side (CondEnd k) false) (ends_more rs (CondEnd k ∷ []) es us h) region
-            (record { part = ap (slice_get (rs ++ CondEnd k ∷ [])) zeroless ∙ get_new rs (CondEnd k); second = refl });
-      }
-
-  both_laid : (c : Build) (rs : List Part) (ws : List Wire) (es : List End) (us : List Side) (k : ℕ) (r : Region) (f g : Option Outlet) (ts vs : List Side) → IsLaid e c rs ws → AreEnds rs es us
-      → SignalIs rs f (Arm k true) ts → SignalIs rs g (Arm k false) vs → r ≡ lies_in b k → Stand e.place (length rs) (cond_parts k (ts ++ vs))
-      → IsClosing (ended c f g es r) (record {
-        parts = rs ++ cond_parts k (ts ++ vs);
-        wires = (ws ++ signal_wires (Arm k true) ts (CondEnd k) Left) ++ signal_wires (Arm k false) vs (CondEnd k) Left;
-        ends = us ++ cond_sides k (ts ++ vs);
-      })
-  both_laid c rs ws es us k r f g [] [] l h p q region at =
-      subst (λ x. IsClosing (ended c x g es r) (none_more rs ws us)) (sym p) (subst (λ x. IsClosing (ended c Ends.no_signal x es r) (none_more rs ws us)) (sym q) (record {
-        laid = subst (λ xs. IsLaid e c xs ((ws ++ []) ++ [])) (sym (append-nil rs)) (subst (λ xs. IsLaid e c rs xs) (sym (append-nil (ws ++ []) ∙ append-nil ws)) l);
-        ends = ends_more rs [] es (us ++ []) (subst (AreEnds rs es) (sym (append-nil us)) h);
-      }))
-    where
-      none_more : List Part → List Wire → List Side → Ended
-      none_more rs ws us = record { parts = rs ++ []; wires = (ws ++ []) ++ []; ends = us ++ [] }
-  both_laid c rs ws es us k r f g [] (v ∷ vs) l h p q region at =
-      subst (λ x. IsClosing x (record { parts = rs ++ CondEnd k ∷ []; wires = (ws ++ []) ++ signal_wires (Arm k false) (v ∷ vs) (CondEnd k) Left; ends = us ++ side (CondEnd k) false ∷ [] }))
-      (sym (ended_is c f g es r q.outlet (inr q.is))) (copied_laid c rs ws es us k r f g [] (v ∷ vs) l h p q region at.0)
-  both_laid c rs ws es us k r f g (t ∷ ts) vs l h p q region at =
-      subst (λ x. IsClosing x (record { parts = rs ++ CondEnd k ∷ []; wires = (ws ++ signal_wires (Arm k true) (t ∷ ts) (CondEnd k) Left) ++ signal_wires (Arm k false) vs (CondEnd k) Left; ends = us ++ side (CondEnd k) false ∷ [] }))
-      (sym (ended_is c f g es r p.outlet (inl p.is))) (copied_laid c rs ws es us k r f g (t ∷ ts) vs l h p q region at.0)
-
-  -- what a conditional adds
-  abbrev pub added_parts : ℕ → Ended → List Part
-  added_parts k x = joined_parts (Arm k true) (arm_ends b k true x) ++ (joined_parts (Arm k false) (arm_ends b k false x) ++ cond_parts k (arm_ends b k true x ++ arm_ends b k false x))
-
-  pub close_laid : (c : Closing) (x : Ended) (k : ℕ) (r : Region) → IsClosing c x → r ≡ lies_in b k → Stand e.place (length x.parts) (added_parts k x) → IsClosing (closed c.build c.ends k r) (close b k x)
-  unfolding closed
-  close_laid c x k r h region at =
-      let ts : List Side = arm_ends b k true x in
-      let vs : List Side = arm_ends b k false x in
-      let first : List Part = joined_parts (Arm k true) ts in
-      let second : List Part = joined_parts (Arm k false) vs in
-      let last : List Part = cond_parts k (ts ++ vs) in
-      let one = region_joined c.build x.parts x.wires c.ends x.ends (Arm k true) h.laid h.ends (stand_left e.place (length x.parts) first (second ++ last) at) in
-      let s : Signalled = join_ends c.build Ends.no_signal (Arm k true) c.ends in
-      let long = length_both x.parts first in
-      let at2 = stand_right e.place (length x.parts) (length (x.parts ++ first)) first (second ++ last) at long in
-      let ends2 = ends_more x.parts first c.ends x.ends h.ends in
-      let two = region_joined s.build (x.parts ++ first) (x.wires ++ joined_wires (Arm k true) ts) c.ends x.ends (Arm k false) one.laid ends2 (stand_left e.place (length (x.parts ++ first)) second last at2) in
-      let u : Signalled = join_ends s.build Ends.no_signal (Arm k false) c.ends in
-      let long2 = length_both (x.parts ++ first) second in
-      let parts : List Part = (x.parts ++ first) ++ second in
-      let wires : List Wire = (x.wires ++ joined_wires (Arm k true) ts) ++ joined_wires (Arm k false) vs in
-      let all = both_laid u.build parts wires c.ends x.ends k r s.signal u.signal ts vs two.laid (ends_more (x.parts ++ first) second c.ends x.ends ends2)
-      (is_more (x.parts ++ first) second s.signal (Arm k true) ts one.signal) two.signal region (stand_right e.place (length (x.parts ++ first)) (length parts) second last at2 long2) in
-      let p : parts ++ last ≡ (close b k x).parts = regroup x.parts first second last in
-      let w : (wires ++ signal_wires (Arm k true) ts (CondEnd k) Left) ++ signal_wires (Arm k false) vs (CondEnd k) Left ≡ (close b k x).wires
-      = regroup_five x.wires (joined_wires (Arm k true) ts) (joined_wires (Arm k false) vs) (signal_wires (Arm k true) ts (CondEnd k) Left) (signal_wires (Arm k false) vs (CondEnd k) Left) in
-      subst (λ ps. IsClosing (ended u.build s.signal u.signal c.ends r) (record { parts = ps; wires = (close b k x).wires; ends = (close b k x).ends })) p
-      (subst (λ xs. IsClosing (ended u.build s.signal u.signal c.ends r) (record { parts = parts ++ last; wires = xs; ends = (close b k x).ends })) w all)

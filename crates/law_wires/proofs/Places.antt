@@ -13,7 +13,7 @@ use Rattle.law_contexts.specs.Expanded.{place_from, inlet_by, way_in}
 use Rattle.law_wires.specs.Written.{Wire, along, inlet_of, same_side}
 use Rattle.law_wires.proofs.Same.{same_is, side_is}
 use Rattle.law_wires.proofs.Laid.{Env, goes, dest, same_part_self}
-use Rattle.law_wires.proofs.LaidNodes.{Stand}
+use Rattle.law_wires.proofs.Standing.{Stand}
 use Rattle.law_wires.proofs.Counts.{tally}
 
 -- PLACES

@@ -2,3 +2,4 @@ pub mod Types
 pub mod Written
 pub mod Fit
 pub mod Halves
+pub mod Stages

@@ -1,21 +1,22 @@
--- The parts and the wires of the plain code of a block of literals, operators, conditionals and arrays, written down from the block.
-use Rattle.std.specs.Prelude.{ℕ, ◌+◌, Bool, true, false, not, ◌&&◌, List, [], ◌∷◌, ◌++◌, length, Some, None, if◌then◌else◌}
+-- The parts and the wires of a code block, written down from its block: that of a call, or that of a loop's turn.
+use Rattle.std.specs.Prelude.{ℕ, zero, suc, ◌+◌, ◌-◌, Bool, true, false, not, ◌&&◌, List, [], ◌∷◌, ◌++◌, length, Some, None, if◌then◌else◌, slice_get}
 use Rattle.tags.specs.declared.token.Port.{Port}
 use Rattle.tags.specs.declared.token.Port.TheVariants.{Left, Right}
 use Rattle.semantics.specs.declared.graph.Region.{Region}
 use Rattle.semantics.specs.declared.graph.Region.TheVariants.{Root, Arm}
 use Rattle.semantics.specs.declared.graph.Source.{Source}
 use Rattle.semantics.specs.declared.graph.Kind.{Kind}
-use Rattle.semantics.specs.Graph.{Node, Block, node_at}
+use Rattle.semantics.specs.Graph.{Node, Block, Flow, node_at, node_count}
 use Rattle.expansion.specs.Scopes.{predicate_of}
 use Rattle.expansion.specs.Builds as Builds
 use Rattle.expansion.specs.Builds.{first_source}
 use Rattle.expansion.specs.Ends.{same_region}
-use Rattle.expansion.specs.Triggers.{triggers_of}
+use Rattle.expansion.specs.Triggers.{triggers_of, has_trigger}
 use Rattle.expansion.specs.UseCounts.{is_often, uses_at, uses_of}
-use Rattle.law_contexts.specs.Parts.{Part, Entry, Line, Answer, Gate, Merge, Result, Join, CondEnd, End, Inlet, inlet, same_part}
-use Rattle.law_contexts.specs.Blocks.{Side, side, leaves_in, is_switch, second_side}
-use Rattle.law_contexts.specs.Expanded.{row, way_in}
+use Rattle.law_contexts.specs.Parts.{Part, Entry, Line, Answer, Trigger, Gate, Merge, Opener, Framer, Fanned, Linker, Sender, Landing, CallDone, Giver, Taker, Drainer, LoopDone, Strict, Result, TurnCont, TurnFlag, TurnValue, Asker, NextFanned, NextSender, LastReturn, DrainReturn, Join, CondEnd, End, Inlet, inlet, same_part}
+use Rattle.law_contexts.specs.Blocks.{Side, side, Site, leaves_in, is_switch, second_side, outputs_in}
+use Rattle.law_contexts.specs.Wires.{has_no_wire}
+use Rattle.law_contexts.specs.Expanded.{row, way_in, invoked, turn_parts}
 
 -- A wire: from a side to a port of a part. Its way is told by where it comes from.
 pub record Wire : Type 0 where
@@ -46,82 +47,169 @@ is_open t [] = true
 is_open t (w ∷ ws) = if same_side t w.from then false else is_open t ws
 
 -- NODES. Where a node's value leaves
-abbrev pub is_shared : Block ℕ → ℕ → Bool
-is_shared b n = is_often (uses_at (uses_of b (triggers_of b (b.inputs + length b.nodes)) false (b.inputs + length b.nodes)) n)
+abbrev pub is_shared : Site → ℕ → Bool
+is_shared s n = is_often (uses_at (uses_of s.block (triggers_of s.block (s.block.inputs + length s.block.nodes)) s.turns (s.block.inputs + length s.block.nodes)) n)
+
+-- some call or loop lies in one of the conditional's arms, and takes a trigger
+abbrev pub is_triggered : Block ℕ → ℕ → Bool
+is_triggered b k = has_trigger (triggers_of b (b.inputs + length b.nodes)) k
 
 -- a fetch's or a store's answer leaves at its copy, where it is used often
 abbrev pub answer_side : ℕ → Bool → Side
 answer_side n true = side (Answer n) false
 answer_side n false = side (Line n) false
 
-abbrev pub exit_of : Block ℕ → ℕ → Region → Kind ℕ → Side
-exit_of b n r (Kind.Fetch a) = answer_side n (is_shared b n)
-exit_of b n r (Kind.Store a) = answer_side n (is_shared b n)
-exit_of b n r Kind.Enter = side (Gate n) (second_side r)
-exit_of b n r (Kind.Merge k) = side (Merge n) false
-exit_of b n r kind = side (Line n) false
+abbrev pub exit_of : Site → ℕ → ℕ → Region → Kind ℕ → Side
+exit_of s n q r (Kind.Fetch a) = answer_side n (is_shared s n)
+exit_of s n q r (Kind.Store a) = answer_side n (is_shared s n)
+exit_of s n q r Kind.Enter = side (Gate n) (second_side r)
+exit_of s n q r (Kind.Merge k) = side (Merge n) false
+exit_of s n q r (Kind.Call f) = side (Landing n q) false
+exit_of s n q r (Kind.StrictCall f) = side (Landing n q) false
+exit_of s n q r (Kind.Loop f k) = side (Landing n q) false
+exit_of s n q r kind = side (Line n) false
 
-abbrev pub leaves : Block ℕ → ℕ → Side
-leaves b n = elim (node_at b n) as (λ x. Side) [ None ↦ side (Line n) false | Some line ↦ exit_of b n line.region line.kind ]
+-- at a node's output port
+abbrev pub leaves_at : Site → ℕ → ℕ → Side
+leaves_at s n q = elim (node_at s.block n) as (λ x. Side) [ None ↦ side (Line n) false | Some line ↦ exit_of s n q line.region line.kind ]
+
+abbrev pub leaves : Site → Source → Side
+leaves s x = leaves_at s x.node x.port
+
+-- where the trigger of a region leaves
+abbrev pub trigger_side : Region → Side
+trigger_side Root = side Entry false
+trigger_side (Arm k t) = side (Trigger k) (not t)
 
 -- the sources of a part, from a position on
-abbrev pub operand_wires : Block ℕ → Part → ℕ → List Source → List Wire
-operand_wires b r from [] = []
-operand_wires b r from (s ∷ ss) = wire (leaves b s.node) r (Builds.side from) ∷ operand_wires b r (from + 1) ss
+abbrev pub operand_wires : Site → Part → ℕ → List Source → List Wire
+operand_wires s r from [] = []
+operand_wires s r from (x ∷ xs) = wire (leaves s x) r (Builds.side from) ∷ operand_wires s r (from + 1) xs
 
-abbrev pub merge_wires : Block ℕ → Part → List Source → List Wire
-merge_wires b r [] = []
-merge_wires b r (s ∷ ss) = wire (leaves b s.node) r Left ∷ merge_wires b r ss
+abbrev pub merge_wires : Site → Part → List Source → List Wire
+merge_wires s r [] = []
+merge_wires s r (x ∷ xs) = wire (leaves s x) r Left ∷ merge_wires s r xs
 
-abbrev pub gate_wires : Block ℕ → ℕ → Region → List Source → List Wire
-gate_wires b n Root ss = []
-gate_wires b n (Arm k t) ss = wire (leaves b (first_source ss).node) (Gate n) Left ∷ wire (leaves b (predicate_of b k).node) (Gate n) Right ∷ []
+-- two words that meet in a part
+abbrev pub meet_wires : Side → Side → Part → List Wire
+meet_wires t u r = wire t r Left ∷ wire u r Right ∷ []
+
+abbrev pub trigger_wires : Site → ℕ → Bool → Source → List Wire
+trigger_wires s k true x = meet_wires (leaves s x) (leaves s x) (Trigger k)
+trigger_wires s k false x = []
+
+abbrev pub gate_wires : Site → ℕ → Region → List Source → List Wire
+gate_wires s n Root xs = []
+gate_wires s n (Arm k t) xs = meet_wires (leaves s (first_source xs)) (leaves s (predicate_of s.block k)) (Gate n)
 
 abbrev pub answer_wires : ℕ → Bool → List Wire
 answer_wires n true = wire (side (Line n) false) (Answer n) Left ∷ []
 answer_wires n false = []
 
-abbrev pub kind_wires : Block ℕ → ℕ → Region → Kind ℕ → List Source → List Wire
-kind_wires b n r Kind.Cond ss = []
-kind_wires b n r Kind.Enter ss = gate_wires b n r ss
-kind_wires b n r (Kind.Merge k) ss = merge_wires b (Merge n) ss
-kind_wires b n r (Kind.Fetch a) ss = operand_wires b (Line n) 0 ss ++ answer_wires n (is_shared b n)
-kind_wires b n r (Kind.Store a) ss = operand_wires b (Line n) 0 ss ++ answer_wires n (is_shared b n)
-kind_wires b n r kind ss = operand_wires b (Line n) 0 ss
+-- INVOCATIONS
+abbrev pub sender_wires : Site → ℕ → ℕ → List Source → List Wire
+sender_wires s n from [] = []
+sender_wires s n from (x ∷ xs) = wire (side (Fanned n) false) (Sender n from) Left ∷ wire (leaves s x) (Sender n from) Right ∷ sender_wires s n (from + 1) xs
 
-abbrev pub node_wires : Block ℕ → ℕ → List (Node ℕ) → List Wire
-node_wires b n [] = []
-node_wires b n (node ∷ nodes) = kind_wires b n node.region node.kind node.sources ++ node_wires b (n + 1) nodes
+-- that begins when something leaves there
+abbrev pub invoke_wires : Site → ℕ → Side → List Source → List Wire
+invoke_wires s n t xs = wire t (Framer n) Left ∷ wire (side (Fanned n) false) (Linker n) Left ∷ sender_wires s n 0 xs
 
-abbrev pub result_wires : Block ℕ → ℕ → List Source → List Wire
-result_wires b from [] = []
-result_wires b from (s ∷ ss) = wire (side Entry false) (Result from) Left ∷ wire (leaves b s.node) (Result from) Right ∷ result_wires b (from + 1) ss
+-- the chain of a strict call's arguments, behind the first one
+abbrev pub strict_wires : Site → ℕ → ℕ → Side → List Source → List Wire
+strict_wires s n from t [] = []
+strict_wires s n from t (x ∷ xs) = wire t (Strict n from) Left ∷ wire (leaves s x) (Strict n from) Right ∷ strict_wires s n (from + 1) (side (Strict n from) false) xs
 
-abbrev pub inner_wires : Block ℕ → List Wire
-inner_wires b = node_wires b b.inputs b.nodes ++ result_wires b 0 b.results
+abbrev pub strict_end : ℕ → ℕ → Side → List Source → Side
+strict_end n from t [] = t
+strict_end n from t (x ∷ xs) = strict_end n (from + 1) (side (Strict n from) false) xs
 
+abbrev pub strict_call_wires : Site → ℕ → List Source → List Wire
+strict_call_wires s n [] = []
+strict_call_wires s n (x ∷ xs) = strict_wires s n 1 (leaves s x) xs ++ invoke_wires s n (strict_end n 1 (leaves s x) xs) (x ∷ xs)
+
+abbrev pub kind_wires : Site → ℕ → Region → Kind ℕ → List Source → List Wire
+kind_wires s n r Kind.Cond xs = trigger_wires s n (is_triggered s.block n) (first_source xs)
+kind_wires s n r Kind.Enter xs = gate_wires s n r xs
+kind_wires s n r (Kind.Merge k) xs = merge_wires s (Merge n) xs
+kind_wires s n r (Kind.Fetch a) xs = operand_wires s (Line n) 0 xs ++ answer_wires n (is_shared s n)
+kind_wires s n r (Kind.Store a) xs = operand_wires s (Line n) 0 xs ++ answer_wires n (is_shared s n)
+kind_wires s n r (Kind.Call f) xs = invoke_wires s n (trigger_side r) xs
+kind_wires s n r (Kind.StrictCall f) xs = strict_call_wires s n xs
+kind_wires s n r (Kind.Loop f k) xs = wire (trigger_side r) (Opener n) Left ∷ invoke_wires s n (side (Opener n) false) xs
+kind_wires s n r kind xs = operand_wires s (Line n) 0 xs
+
+abbrev pub node_wires : Site → ℕ → List (Node ℕ) → List Wire
+node_wires s n [] = []
+node_wires s n (node ∷ nodes) = kind_wires s n node.region node.kind node.sources ++ node_wires s (n + 1) nodes
+
+-- RESULTS of a call's code
+abbrev pub result_wires : Site → ℕ → List Source → List Wire
+result_wires s from [] = []
+result_wires s from (x ∷ xs) = wire (side Entry false) (Result from) Left ∷ wire (leaves s x) (Result from) Right ∷ result_wires s (from + 1) xs
+
+-- A TURN: the flag's source is the first one, and the values follow
+abbrev pub value_wires : Site → Side → ℕ → List Source → List Wire
+value_wires s t from [] = []
+value_wires s t from (x ∷ xs) = wire (leaves s x) (TurnValue from) Left ∷ wire t (TurnValue from) Right ∷ value_wires s t (from + 1) xs
+
+-- so many values
+abbrev pub next_wires : ℕ → ℕ → List Wire
+next_wires from zero = []
+next_wires from (suc n) = meet_wires (side NextFanned false) (side (TurnValue from) false) (NextSender from) ++ next_wires (from + 1) n
+
+abbrev pub last_wires : ℕ → ℕ → List Wire
+last_wires from zero = []
+last_wires from (suc n) = meet_wires (side TurnCont true) (side (TurnValue (from + 1)) true) (LastReturn from) ++ last_wires (from + 1) n
+
+abbrev pub turn_wires : Site → List Source → List Wire
+turn_wires s [] = []
+turn_wires s (x ∷ xs) = meet_wires (side Entry false) (leaves s x) TurnCont ++ (meet_wires (leaves s x) (leaves s x) TurnFlag ++ (value_wires s (leaves s x) 1 xs
+    ++ (meet_wires (side TurnCont false) (side TurnFlag false) Asker ++ (meet_wires (side NextFanned false) (side TurnCont false) (NextSender 0) ++ (next_wires 1 (length xs)
+    ++ (last_wires 0 (length xs) ++ meet_wires (side TurnCont true) (side TurnFlag true) DrainReturn))))))
+
+abbrev pub tail_wires : Site → Bool → List Wire
+tail_wires s false = result_wires s 0 s.block.results
+tail_wires s true = turn_wires s s.block.results
+
+abbrev pub inner_wires : Site → List Wire
+inner_wires s = node_wires s s.block.inputs s.block.nodes ++ tail_wires s s.turns
+
+-- PARTS
 abbrev pub answer_parts : ℕ → Bool → List Part
 answer_parts n true = Answer n ∷ []
 answer_parts n false = []
 
-abbrev pub kind_parts : Block ℕ → ℕ → Kind ℕ → List Part
-kind_parts b n Kind.Cond = []
-kind_parts b n Kind.Enter = Gate n ∷ []
-kind_parts b n (Kind.Merge k) = Merge n ∷ []
-kind_parts b n (Kind.Fetch a) = Line n ∷ answer_parts n (is_shared b n)
-kind_parts b n (Kind.Store a) = Line n ∷ answer_parts n (is_shared b n)
-kind_parts b n kind = Line n ∷ []
+abbrev pub trigger_parts : ℕ → Bool → List Part
+trigger_parts k true = Trigger k ∷ []
+trigger_parts k false = []
 
-abbrev pub node_parts : Block ℕ → ℕ → List (Node ℕ) → List Part
-node_parts b n [] = []
-node_parts b n (node ∷ nodes) = kind_parts b n node.kind ++ node_parts b (n + 1) nodes
+-- `m`: how many sources the node has
+abbrev pub kind_parts : Flow → Site → ℕ → ℕ → Kind ℕ → List Part
+kind_parts fl s n m Kind.Cond = trigger_parts n (is_triggered s.block n)
+kind_parts fl s n m Kind.Enter = Gate n ∷ []
+kind_parts fl s n m (Kind.Merge k) = Merge n ∷ []
+kind_parts fl s n m (Kind.Fetch a) = Line n ∷ answer_parts n (is_shared s n)
+kind_parts fl s n m (Kind.Store a) = Line n ∷ answer_parts n (is_shared s n)
+kind_parts fl s n m (Kind.Call f) = invoked n m (outputs_in (slice_get fl.blocks f)) ++ CallDone n ∷ []
+kind_parts fl s n m (Kind.StrictCall f) = row (Strict n) 1 (m - 1) ++ (invoked n m (outputs_in (slice_get fl.blocks f)) ++ CallDone n ∷ [])
+kind_parts fl s n m (Kind.Loop f k) = Opener n ∷ invoked n m m ++ (Giver n ∷ Taker n ∷ Drainer n ∷ LoopDone n ∷ [])
+kind_parts fl s n m kind = Line n ∷ []
 
-abbrev pub inner_parts : Block ℕ → List Part
-inner_parts b = (Entry ∷ row Line 0 b.inputs ++ node_parts b b.inputs b.nodes) ++ row Result 0 (length b.results)
+abbrev pub node_parts : Flow → Site → ℕ → List (Node ℕ) → List Part
+node_parts fl s n [] = []
+node_parts fl s n (node ∷ nodes) = kind_parts fl s n (length node.sources) node.kind ++ node_parts fl s (n + 1) nodes
 
--- ENDS: the sides from which no wire leaves
+abbrev pub tail_parts : Block ℕ → Bool → List Part
+tail_parts b false = row Result 0 (length b.results)
+tail_parts b true = turn_parts b.inputs
+
+abbrev pub inner_parts : Flow → Site → List Part
+inner_parts fl s = (Entry ∷ row Line 0 s.block.inputs ++ node_parts fl s s.block.inputs s.block.nodes) ++ tail_parts s.block s.turns
+
+-- ENDS: the sides from which no wire leaves, where the machine does not answer
 abbrev pub sides_of : Part → List Side
-sides_of r = if is_switch r then side r false ∷ side r true ∷ [] else side r false ∷ []
+sides_of r = if has_no_wire r then [] else if is_switch r then side r false ∷ side r true ∷ [] else side r false ∷ []
 
 abbrev pub sides : List Part → List Side
 sides [] = []
@@ -131,8 +219,8 @@ abbrev pub open_of : List Wire → List Side → List Side
 open_of ws [] = []
 open_of ws (t ∷ ts) = if is_open t ws then t ∷ open_of ws ts else open_of ws ts
 
-abbrev pub first_ends : Block ℕ → List Side
-first_ends b = open_of (inner_wires b) (sides (inner_parts b))
+abbrev pub first_ends : Flow → Site → List Side
+first_ends fl s = open_of (inner_wires s) (sides (inner_parts fl s))
 
 abbrev pub in_region : Block ℕ → Region → List Side → List Side
 in_region b r [] = []
@@ -195,18 +283,23 @@ abbrev pub close_nodes : Block ℕ → ℕ → List (Node ℕ) → Ended → End
 close_nodes b n [] e = e
 close_nodes b n (node ∷ nodes) e = close_kind b n (close_nodes b (n + 1) nodes e) node.kind
 
-abbrev pub inner : Block ℕ → Ended
-inner b = record { parts = inner_parts b; wires = inner_wires b; ends = first_ends b }
+-- the flag of a turn is closed before the conditionals
+abbrev pub close_flag : Block ℕ → Bool → Ended → Ended
+close_flag b false e = e
+close_flag b true e = close b (node_count b) e
 
-abbrev pub closed : Block ℕ → Ended
-closed b = close_nodes b b.inputs b.nodes (inner b)
+abbrev pub inner : Flow → Site → Ended
+inner fl s = record { parts = inner_parts fl s; wires = inner_wires s; ends = first_ends fl s }
 
-abbrev pub root_ends : Block ℕ → List Side
-root_ends b = in_region b Root (closed b).ends
+abbrev pub closed : Flow → Site → Ended
+closed fl s = close_nodes s.block s.block.inputs s.block.nodes (close_flag s.block s.turns (inner fl s))
+
+abbrev pub root_ends : Flow → Site → List Side
+root_ends fl s = in_region s.block Root (closed fl s).ends
 
 -- ALL PARTS, in their order, and all wires
-abbrev pub parts_in : Block ℕ → List Part
-parts_in b = (closed b).parts ++ (joined_parts Root (root_ends b) ++ End ∷ [])
+abbrev pub parts_in : Flow → Site → List Part
+parts_in fl s = (closed fl s).parts ++ (joined_parts Root (root_ends fl s) ++ End ∷ [])
 
-abbrev pub wires_in : Block ℕ → List Wire
-wires_in b = (closed b).wires ++ (joined_wires Root (root_ends b) ++ (wire (side Entry false) End Left ∷ signal_wires Root (root_ends b) End Right))
+abbrev pub wires_in : Flow → Site → List Wire
+wires_in fl s = (closed fl s).wires ++ (joined_wires Root (root_ends fl s) ++ (wire (side Entry false) End Left ∷ signal_wires Root (root_ends fl s) End Right))

@@ -1,22 +1,23 @@
 //! The wires of the code of a graph.
 #![tactic(auto)]
 
+ghost use Rattle.std.specs.Prelude.{ℕ};
 ghost use Rattle.law_wires.specs.Fit.{BlocksFit};
-ghost use Rattle.law_wires.specs.Halves.{PlainCodeIsWritten, WrittenIsFed, WrittenGoesToUses, WrittenFollowsArms, WrittenLeadsOn, HalvesSuffice, SecondIsStatic, SecondIsWired, FirstIsStatic, FirstIsWired};
+ghost use Rattle.law_wires.specs.Halves.{PlainCodeIsWritten, TurnCodeIsWritten, WrittenIsFed, WrittenGoesToUses, WrittenFollowsArms, WrittenLeadsOn};
+ghost use Rattle.law_wires.specs.Stages.{CodeSuffices, EveryIsStatic, EveryIsWired};
 
-/// The code of a block of literals, operators, conditionals and arrays is laid out by the parts and the wires that are written down
-/// from the block. Each inlet is fed by one side, what leaves at a node goes to its uses, the wires stay in their arms, and every
-/// side leads on. So the plan of a graph of such blocks is wired.
+/// The code of each block of a graph, that of a call and that of a loop's turn, is laid out by the parts and the wires that are
+/// written down from the block. Each inlet is fed by one side, what leaves at a node goes to its uses, the wires stay in their arms,
+/// and every side leads on. So the plan of every graph is wired.
 pub fn wires_are_written()
     ensures fit { BlocksFit }
-    ensures code { PlainCodeIsWritten }
-    ensures fed { WrittenIsFed }
-    ensures uses { WrittenGoesToUses }
-    ensures arms { WrittenFollowsArms }
-    ensures leads { WrittenLeadsOn }
-    ensures suffice { HalvesSuffice }
-    ensures all { SecondIsStatic }
-    ensures wired { SecondIsWired }
-    ensures first { FirstIsStatic }
-    ensures first_wired { FirstIsWired }
+    ensures code { (stage : ℕ) → PlainCodeIsWritten stage }
+    ensures turns { (stage : ℕ) → TurnCodeIsWritten stage }
+    ensures fed { (stage : ℕ) → WrittenIsFed stage }
+    ensures uses { WrittenGoesToUses 3 }
+    ensures arms { (stage : ℕ) → WrittenFollowsArms stage }
+    ensures leads { (stage : ℕ) → WrittenLeadsOn stage }
+    ensures suffice { CodeSuffices }
+    ensures all { EveryIsStatic }
+    ensures wired { EveryIsWired }
 {}

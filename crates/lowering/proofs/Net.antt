@@ -1,6 +1,6 @@
 -- A net over any kinds of items and firings: what a firing takes and makes may depend on the words that it takes, a part
 -- may take one of several inlets, as a merge, and there may be endlessly many parts and inlets.
-use Rattle.std.proofs.Common.{◌≡◌, ℕ, ◌+◌, ◌<◌, ◌≤◌, Bool, List, [], ◌∷◌, ◌++◌, length, refl, sym, ap, ◌∙◌, subst, inl, inr, ◌⊎◌, arith, length-append}
+use Rattle.std.proofs.Common.{◌≡◌, ℕ, ◌+◌, ◌<◌, ◌≤◌, Bool, List, ◌∷◌, ◌++◌, length, refl, sym, ap, ◌∙◌, subst, inl, inr, ◌⊎◌, arith, length-append, []}
 use Rattle.std.specs.Prelude.{All, IsPermutation, Contains, flat_map}
 use Rattle.std.proofs.lemmas.Bool.{cases_eq}
 use Rattle.std.proofs.lemmas.List.Sorted.{IsPermutation-trans, IsPermutation-refl, IsPermutation-append, IsPermutation-append_left, IsPermutation-append_right, All-permutation, length_permutation}
@@ -29,14 +29,6 @@ taken_up (Fires f now kept rest others p q both e) = length now
 abbrev pub takes_up : {I F : Type 0} {takes makes : F → List I} {c d : NetConfig I F} → NetMove takes makes c d → List I
 takes_up (Waits i rest p e) = i ∷ []
 takes_up (Fires f now kept rest others p q both e) = now
-
-abbrev pub made_by : {I F : Type 0} {takes makes : F → List I} {c d : NetConfig I F} → NetMove takes makes c d → List I
-made_by (Waits i rest p e) = []
-made_by {makes = makes} (Fires f now kept rest others p q both e) = makes f
-
-pub taken_length : {I F : Type 0} {takes makes : F → List I} {c d : NetConfig I F} (m : NetMove takes makes c d) → taken_up m ≡ length (takes_up m)
-taken_length (Waits i rest p e) = refl
-taken_length (Fires f now kept rest others p q both e) = refl
 
 pub All-append_left : {X : Type 0} (P : X → Type 0) (xs ys : List X) → All P (xs ++ ys) → All P xs
 All-append_left P [] ys h = All-nil P

@@ -1,11 +1,11 @@
 -- The meaning follows each move of a net, where it follows each firing by itself, whatever else there is.
-use Rattle.std.proofs.Common.{◌≡◌, List, [], ◌∷◌, ◌++◌, refl, sym, ap, ◌∙◌, subst, ℤ, append_assoc}
+use Rattle.std.proofs.Common.{◌≡◌, List, ◌∷◌, ◌++◌, refl, sym, ap, ◌∙◌, subst, ℤ, append_assoc, []}
 use Rattle.std.specs.Prelude.{IsPermutation, flat_map, ⊤}
 use Rattle.std.proofs.lemmas.List.Concat.{flat_map-append}
 use Rattle.std.proofs.lemmas.List.Sorted.{IsPermutation-refl, IsPermutation-trans, IsPermutation-append, IsPermutation-append_left}
 use Rattle.semantics.specs.Graph.{Flow}
 use Rattle.semantics.specs.Meaning as Meaning
-use Rattle.semantics.specs.Meaning.{State, Activity, Tagged, Memory, Step, Run, Reached, Leads, start, effect}
+use Rattle.semantics.specs.Meaning.{State, Activity, Tagged, Memory, Run, Reached, Leads, start, effect}
 use Rattle.lowering.proofs.Orders.{at_last, flat_map-IsPermutation, shuffled, Part, ◌⊕◌}
 use Rattle.lowering.proofs.Net.{NetConfig, NetMove, Waits, Fires}
 

@@ -1,8 +1,7 @@
 use Rattle.law_moves.proofs.Starts.{starts, tokens_are_items}
 use Rattle.law_moves.proofs.Halts.{halts_follow}
 use Rattle.law_moves.proofs.Goes.{goes_follow}
-use Rattle.law_moves.proofs.Inwards.{inwards_follow}
-use Rattle.law_moves.proofs.Events.{hosts_follow, of_cells_follow, results_follow, events_follow}
+use Rattle.law_moves.proofs.Events.{events_follow}
 use Rattle.law_moves.proofs.moves_follow.Goals as goal
 
 pub returns-clause-starts : goal.returns-clause-starts
@@ -17,17 +16,5 @@ returns-clause-halts c = halts_follow
 pub returns-clause-goes : goal.returns-clause-goes
 returns-clause-goes c = goes_follow
 
-pub returns-clause-inwards : goal.returns-clause-inwards
-returns-clause-inwards c = inwards_follow
-
-pub returns-clause-hosts : goal.returns-clause-hosts
-returns-clause-hosts c = hosts_follow
-
 pub returns-clause-events : goal.returns-clause-events
 returns-clause-events c = events_follow
-
-pub returns-clause-cells : goal.returns-clause-cells
-returns-clause-cells c = of_cells_follow
-
-pub returns-clause-results : goal.returns-clause-results
-returns-clause-results c = results_follow

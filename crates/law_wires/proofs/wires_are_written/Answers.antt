@@ -1,11 +1,11 @@
 use Rattle.law_wires.proofs.Fits.{blocks_fit}
-use Rattle.law_wires.proofs.CodeLaid.{plain_code_is_written}
+use Rattle.law_wires.proofs.CodeLaid.{plain_code_is_written, turn_code_is_written}
 use Rattle.law_wires.proofs.Fed.{written_is_fed}
 use Rattle.law_wires.proofs.Arms.{written_follows_arms}
 use Rattle.law_wires.proofs.Leads.{written_leads_on}
 use Rattle.law_wires.proofs.UsesWhole.{written_goes_to_uses}
-use Rattle.law_wires.proofs.Compose.{halves_suffice}
-use Rattle.law_wires.proofs.Whole.{second_is_static, second_is_wired, first_is_static, first_is_wired}
+use Rattle.law_wires.proofs.Stages.{code_suffices}
+use Rattle.law_wires.proofs.Whole.{every_is_static, every_is_wired}
 use Rattle.law_wires.proofs.wires_are_written.Goals as goal
 
 pub returns-clause-fit : goal.returns-clause-fit
@@ -14,8 +14,14 @@ returns-clause-fit c = blocks_fit
 pub returns-clause-code : goal.returns-clause-code
 returns-clause-code c = plain_code_is_written
 
+pub returns-clause-turns : goal.returns-clause-turns
+returns-clause-turns c = turn_code_is_written
+
 pub returns-clause-fed : goal.returns-clause-fed
 returns-clause-fed c = written_is_fed
+
+pub returns-clause-uses : goal.returns-clause-uses
+returns-clause-uses c = written_goes_to_uses
 
 pub returns-clause-arms : goal.returns-clause-arms
 returns-clause-arms c = written_follows_arms
@@ -24,19 +30,10 @@ pub returns-clause-leads : goal.returns-clause-leads
 returns-clause-leads c = written_leads_on
 
 pub returns-clause-suffice : goal.returns-clause-suffice
-returns-clause-suffice c = halves_suffice
-
-pub returns-clause-uses : goal.returns-clause-uses
-returns-clause-uses c = written_goes_to_uses
+returns-clause-suffice c = code_suffices
 
 pub returns-clause-all : goal.returns-clause-all
-returns-clause-all c = second_is_static
+returns-clause-all c = every_is_static
 
 pub returns-clause-wired : goal.returns-clause-wired
-returns-clause-wired c = second_is_wired
-
-pub returns-clause-first : goal.returns-clause-first
-returns-clause-first c = first_is_static
-
-pub returns-clause-first_wired : goal.returns-clause-first_wired
-returns-clause-first_wired c = first_is_wired
+returns-clause-wired c = every_is_wired

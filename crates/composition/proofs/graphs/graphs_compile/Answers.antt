@@ -1,4 +1,4 @@
-use Rattle.composition.proofs.AnyGraph.{plans_are_sound, plans_have_objects, plans_take_inputs, code_has_bounds, straight_code_is_faithful}
+use Rattle.composition.proofs.AnyGraph.{plans_are_sound, plans_have_objects, plans_take_inputs, code_has_bounds}
 use Rattle.composition.proofs.graphs.graphs_compile.Goals as goal
 
 pub returns-clause-sound : goal.returns-clause-sound
@@ -12,6 +12,3 @@ returns-clause-inputs c = plans_take_inputs
 
 pub returns-clause-bounds : goal.returns-clause-bounds
 returns-clause-bounds c = code_has_bounds
-
-pub returns-clause-straight : goal.returns-clause-straight
-returns-clause-straight c = straight_code_is_faithful

@@ -1,4 +1,4 @@
-use Rattle.std.proofs.Common.{◌≡◌, ◌++◌, [], drop}
+use Rattle.std.proofs.Common.{◌≡◌, ◌++◌, drop, []}
 use Rattle.fanout.specs.Narrowed as of_blocks
 use Rattle.fanout.proofs.blocks.spread_marks.Given as goal
 

@@ -1,4 +1,4 @@
-use Rattle.std.proofs.Common.{◌≡◌, ◌⊎◌, ◌+◌, ◌<◌, ◌++◌, [], ◌∷◌, length, drop, sym, ap, ◌∙◌, subst, arith}
+use Rattle.std.proofs.Common.{◌≡◌, ◌⊎◌, ◌+◌, ◌<◌, ◌++◌, ◌∷◌, length, drop, sym, ap, ◌∙◌, subst, arith, []}
 use Rattle.fanout.specs.Rows.{run}
 use Rattle.fanout.specs.Places.{bases_from}
 use Rattle.fanout.proofs.Runs.{run_next, bases_step}

@@ -1,4 +1,4 @@
-use Rattle.std.proofs.Common.{◌≡◌, ◌+◌, ◌++◌, [], ◌∷◌, List, ap, ◌∙◌, append_assoc, suc, arith}
+use Rattle.std.proofs.Common.{◌≡◌, ◌+◌, ◌++◌, ◌∷◌, List, ap, ◌∙◌, append_assoc, suc, arith, []}
 use Rattle.semantics.specs.Program.{Instr}
 use Rattle.fanout.specs.Trees.{copy_at, tree}
 use Rattle.fanout.proofs.trees.push_tree.Goals as goal

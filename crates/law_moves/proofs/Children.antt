@@ -1,0 +1,67 @@
+-- What a node invokes: its code, where its values come, and the landing to which it returns.
+use Rattle.std.proofs.Common.{◌≡◌, ℕ, zero, suc, ◌+◌, ◌<◌, true, false, sym, ap, ◌∙◌, subst, arith, true≢false, le-ltb, Option, Some, None}
+use Rattle.std.specs.Prelude.{Contains}
+use Rattle.tags.specs.declared.token.Port.TheVariants.{Left}
+use Rattle.semantics.specs.declared.graph.Kind.{Kind}
+use Rattle.semantics.specs.Graph.{Node, Flow}
+use Rattle.semantics.specs.Meaning.{Context, Called, Turned, callee}
+use Rattle.semantics.specs.Program.{first_of}
+use Rattle.semantics.specs.Plan.{Plan, landing, landing_in}
+use Rattle.semantics.specs.Sharing.{arc, row, inlet as port_at}
+use Rattle.lowering.proofs.Members.{contains_head, contains_tail}
+use Rattle.law_contexts.specs.Parts.{Entry, Line, Landing}
+use Rattle.law_contexts.specs.Blocks.{call_kind, code_called, callee_code, invokes, source_count}
+use Rattle.law_contexts.specs.Contexts.{Wires, or_zero, block_in, code_in, child, IsContext}
+use Rattle.law_contexts.specs.Stands.{ip_of, row_of}
+use Rattle.law_contexts.specs.Theorem.{IsGood}
+use Rattle.law_arms.proofs.Invoked.{kind_line, call_invoked, loop_invoked, looped_at, code_at, Child, ByCall, ByLoop, child_cases, child_here}
+use Rattle.law_arms.proofs.Lands.{loop_code}
+use Rattle.law_contexts.specs.Blocks as Blocks
+
+call_code : (v : ℕ → ℕ) (kind : Kind ℕ) (f : ℕ) → call_kind kind ≡ true → callee kind ≡ Some f → code_called v kind ≡ f
+call_code v (Kind.Call g) f h e = cc
+call_code v (Kind.StrictCall g) f h e = cc
+call_code v kind f h e = absurd (true≢false (sym h))
+
+-- a landing's arcs
+pub row_has : (n from k m : ℕ) → m < k → Contains (row n from k) (arc n false (port_at (from + m) Left))
+row_has n from zero m l = absurd (omega (arith, l))
+row_has n from (suc k) zero l = let e : from ≡ from + 0 = omega arith in subst (λ (t : ℕ). Contains (row n from (suc k)) (arc n false (port_at t Left))) e (contains_head (arc n false (port_at from Left)) (row n (from + 1) k))
+row_has n from (suc k) (suc m) l =
+    let more = row_has n (from + 1) k m (omega (arith, l)) in let e : from + 1 + m ≡ from + suc m = omega arith in
+    contains_tail (arc n false (port_at from Left)) (row n (from + 1) k) (arc n false (port_at (from + suc m) Left)) (subst (λ (t : ℕ). Contains (row n (from + 1) k) (arc n false (port_at t Left))) e more)
+
+module _ (stage : ℕ) (fl : Flow) (p : Plan) (w : Wires) (good : IsGood stage fl p w) where
+  called_code : (d : Context) (n : ℕ) → IsContext fl (Called d n) → callee_code w.variant (block_in fl d) n ≡ code_in fl w (Called d n)
+  called_code d n h =
+      let line = kind_line call_kind (block_in fl d) n h.1 in let i = (call_invoked stage fl p w good d n h.0 h.1).0 in
+      ap (λ (x : Option (Node ℕ)). elim x as (λ x. ℕ) [ None ↦ 0 | Some line ↦ code_called w.variant line.kind ]) line.1 ∙ call_code w.variant line.0.kind i.number line.2 (i.named line.0 line.1) ∙ sym (ap or_zero i.numbered)
+
+  pub turned_code : (d : Context) (n t : ℕ) → IsContext fl (Turned d n t) → callee_code w.variant (block_in fl d) n ≡ code_in fl w (Turned d n t)
+  turned_code d n t h =
+      let line = kind_line Blocks.loop_kind (block_in fl d) n h.1 in let i = (loop_invoked stage fl p w good d n t h.0 h.1).0 in
+      ap (λ (x : Option (Node ℕ)). elim x as (λ x. ℕ) [ None ↦ 0 | Some line ↦ code_called w.variant line.kind ]) line.1 ∙ loop_code w.variant line.0.kind i.number line.2 (i.named line.0 line.1) ∙ ap w.variant (sym (ap or_zero i.numbered))
+
+  pub child_code : (c : Context) (n : ℕ) → IsContext fl c → invokes (block_in fl c) n ≡ true → callee_code w.variant (block_in fl c) n ≡ code_in fl w (child fl c n)
+  child_code c n h e = by_case (child fl c n) (child_cases stage fl p w good c n e)
+    where
+      by_case : (d : Context) → Child stage fl p w good c n d → callee_code w.variant (block_in fl c) n ≡ code_in fl w d
+      by_case d (ByCall k g) = called_code c n (subst (IsContext fl) g (child_here stage fl p w good c n d h (ByCall k g)).0) ∙ ap (code_in fl w) (sym g)
+      by_case d (ByLoop k g) = turned_code c n 0 (subst (IsContext fl) g (child_here stage fl p w good c n d h (ByLoop k g)).0) ∙ ap (code_in fl w) (sym g)
+
+  -- the landing of a loop
+  pub turn_landing : (d : Context) (n t : ℕ) → IsContext fl (Turned d n t) → row_of fl p w d (Landing n 0) ≡ (block_in fl (Turned d n t)).inputs + 3
+  turn_landing d n t h =
+      let c = Turned d n t in let i = (loop_invoked stage fl p w good d n t h.0 h.1).0 in
+      let over = good.wired.others i.number (block_in fl c) i.found (looped_at stage fl p w good d n t i.number h.0 h.1 i.numbered) in let count = good.wired.plain_count in let at = ap w.variant (ap or_zero i.numbered) in
+      let k = code_at stage fl p w good c h in
+      ap (landing p) (turned_code d n t h)
+      ∙ (λ s. landing_in (le-ltb (code_in fl w c) p.plain (omega (arith, over, count, at)) s) (k.there s))
+      ∙ ap (λ (o : ℕ). o + 3) k.laid.inputs
+
+  -- WHERE WORDS COME in a context: its continuation first, then its inputs
+  pub entry_at : (c : Context) → IsContext fl c → ip_of fl p w c Entry ≡ first_of p.program (code_in fl w c)
+  entry_at c h = let e = (code_at stage fl p w good c h).laid.entry in omega (arith, e)
+
+  pub line_at : (c : Context) (i : ℕ) → IsContext fl c → i < (block_in fl c).inputs → ip_of fl p w c (Line i) ≡ first_of p.program (code_in fl w c) + (i + 1)
+  line_at c i h l = let e = (code_at stage fl p w good c h).laid.entries i l in omega (arith, e)

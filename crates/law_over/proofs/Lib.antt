@@ -1,0 +1,10 @@
+pub mod Sorts
+pub mod Paths
+pub mod Made
+pub mod Open
+pub mod Back
+pub mod Over
+pub mod Left
+pub mod Kin
+pub mod Names
+pub mod Last
