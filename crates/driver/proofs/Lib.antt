@@ -1,3 +1,4 @@
+pub mod Waiting
 pub mod Truth
 pub mod GraphObjects
 pub mod InputLines

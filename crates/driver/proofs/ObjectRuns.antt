@@ -12,7 +12,8 @@ use Rattle.schedule.specs.declared.halt.Halt.{Halt}
 use Rattle.schedule.specs.Runs.{Kept, Began, Plays, rounds_of}
 use Rattle.schedule.specs.Told.{IsReportOf}
 use Rattle.schedule.specs.Unlisted.{with_events, ShowsQuietly}
-use Rattle.driver.specs.Headline.{ShowsObject, Quietly, Follows, FollowsTurns, FollowsList, RunsObject}
+use Rattle.driver.specs.Objects.{ShowsObject, RunsObject, Quietly}
+use Rattle.driver.specs.Orders.{Follows, FollowsTurns, FollowsList}
 
 pub elements_of : (p : Program) (width : ℕ) (c : Config) (inputs : List ℤ) (k : Kept) → Opens p width c inputs k → k.state.setting.elements ≡ c.elements
 elements_of p width c inputs k o = ap (λ (g : Setting). g.elements) o.setting

@@ -1,6 +1,7 @@
 -- A report that shows a run of faithful code tells the truth about the graph.
-use Rattle.std.proofs.Common.{◌≡◌, ℕ, ◌+◌, ◌<◌, Bool, true, false, ℤ, List, length, Option, Some, None, refl, sym, ◌∙◌, ap, subst, arith}
+use Rattle.std.proofs.Common.{◌≡◌, ℕ, ◌+◌, ◌*◌, ◌<◌, ◌≤◌, Bool, true, false, ℤ, List, length, Option, Some, None, refl, sym, ◌∙◌, ap, subst, arith}
 use Rattle.std.specs.Prelude.{sum, take}
+use Rattle.std.proofs.Math.Nat.{mul-le-mul_left}
 use Rattle.tags.specs.declared.value.Value.{Value}
 use Rattle.semantics.specs.declared.report.End.{End}
 use Rattle.semantics.specs.declared.report.End.TheVariants.{Rest, Clash, Stuck}
@@ -8,14 +9,17 @@ use Rattle.semantics.specs.Graph.{Graph, Flow, flow_of, first_cell}
 use Rattle.semantics.specs.Meaning.{State}
 use Rattle.semantics.specs.Program.{Program, Code}
 use Rattle.semantics.specs.Rule.{array_base}
-use Rattle.semantics.specs.Cause.{SameSeen}
+use Rattle.semantics.specs.Cause.{SameSeen, HasCause, request_count}
 use Rattle.semantics.specs.Machine.{Machine, Size, CellState, Vacant, Full, Deferred, Events, stuck_rule, value_in}
-use Rattle.semantics.specs.Faithful.{Faithful, IsRun, IsSecondStore, inputs_of}
+use Rattle.semantics.specs.Faithful.{Faithful, IsRun, IsSecondStore, IsBounded, inputs_of, largest}
 use Rattle.semantics.specs.Report.{Report, IsPicture, HasEnd, Shows}
 use Rattle.schedule.specs.declared.config.Config.{Config}
 use Rattle.schedule.specs.Setting.{inputs_of as inputs_of_program}
 use Rattle.schedule.specs.Unlisted.{with_events}
-use Rattle.driver.specs.Headline.{ShowsMemory, ShowsObject, RunsObject, FollowsTurns, FollowsList, TellsMeaning, TellsOf, TellsTruth, TellsTruthListed, TellsTruthIn, stops_in, TellsQuietly, Quietly, size_of}
+use Rattle.driver.specs.Headline.{ShowsMemory, IsBoundedByMeaning, TellsMeaning, TellsOf, TellsTruth, TellsTruthListed, TellsTruthIn, stops_in, TellsQuietly}
+use Rattle.driver.specs.Orders.{FollowsTurns, FollowsList, size_of}
+use Rattle.driver.specs.Objects.{ShowsObject, RunsObject, Quietly}
+use Rattle.driver.proofs.Waiting.{deferred_are, no_frame_is_out}
 use Rattle.command_line.specs.declared.Mode.{Mode}
 use Rattle.driver.specs.Refused.{IsCompiled}
 
@@ -45,6 +49,23 @@ ends_at p z steps listed may_stop events m e d eq h = let P : End → Type 0 = �
 never_both : (o : Option ℕ) (n : ℕ) → o ≡ None → o ≡ Some n → ⊥
 never_both o n a b = cc
 
+-- each request has its cause, so the bound by requests is one by what the meaning calls for
+bounded_by : (fl : Flow) (inputs : List ℤ) (p : Program) (z : Size) (m : Machine) (r : Report) → IsPicture p z m r → HasCause fl p inputs r.events m → IsBounded p r.events
+    → IsBoundedByMeaning fl inputs p r
+bounded_by fl inputs p z m r pic cause bound = record {
+  run = cause.run;
+  state = cause.state;
+  is_run = cause.is_run;
+  shown = shown p z m r cause.state pic cause.seen;
+  contexts = cause.due;
+  called_for = cause.are_due;
+  events =
+      let enough = cause.enough in
+      let more : 1 + request_count r.events ≤ 1 + length cause.due = omega (arith, enough) in
+      let times = mul-le-mul_left (6 * (largest p.blocks + 1)) more in
+      omega (arith, bound, times);
+}
+
 pub tells_meaning : (inputs : List ℤ) (z : Size) (steps : ℕ) (listed may_stop : Bool) (r : Report) (fl : Flow) (p : Program)
     → length inputs ≡ inputs_of fl → 0 < z.elements → 0 < z.frames
     → Faithful fl p → Shows p z inputs steps listed may_stop r → TellsMeaning fl inputs p r
@@ -64,6 +85,8 @@ tells_meaning inputs z steps listed may_stop r fl p fit elements frames faithful
             at_rest = exact.at_rest;
             leads = exact.only;
             no_clash = exact.no_clash;
+            deferred = deferred_are fl p z m r exact.state faithful.arrays shows.picture exact.readers;
+            frames = no_frame_is_out fl p z m r exact.state faithful.arrays shows.picture exact.readers (faithful.clean inputs z r.events m run ended.0 ended.1);
           };
       second_store = λ a i e. let ended = ends_at p z steps listed may_stop r.events m r.end (Clash a i) e shows.ends in
           let same : array_base p a + i ≡ first_cell fl a + i = ap (λ ls. sum (take a ls) + i) faithful.arrays in
@@ -71,6 +94,7 @@ tells_meaning inputs z steps listed may_stop r fl p fit elements frames faithful
           subst P same (faithful.second_store inputs z r.events m (array_base p a + i) run ended.2);
       matching = λ n e. let ended = ends_at p z steps listed may_stop r.events m r.end (Stuck n) e shows.ends in
           never_both (stuck_rule p m.store ended.0.to ended.0.word) n (faithful.matching inputs z r.events m ended.0 run ended.1) ended.2;
+      bounded = bounded_by fl inputs p z m r shows.picture (faithful.cause inputs z r.events m run) (faithful.bound inputs z r.events m run);
     }
 
 -- A report of a run of the graph's object tells the truth: the object has one code.

@@ -15,8 +15,8 @@ use Rattle.composition.specs.Graphs.{plan_of}
 use Rattle.driver.specs.declared.fault.Fault.{Fault}
 
 -- The code is the plan's with slots, each the least that is open to its holder. It has an object in the version of the
--- graph's text, main's inputs, the graph's arrays, and the bounds of its loops; and if the graph has no call,
--- loop or array, it is faithful to the graph, and uses frames and slots again as is promised.
+-- graph's text, main's inputs, the graph's arrays, and the bounds of its loops; it is faithful to the graph, and uses frames and slots
+-- again as is promised.
 pub record IsCodeFor (g : Graph) (code : Code) : Type 0 where
   pub slots : List (List ℕ)
   pub assigned : IsAssigned (plan_of g) slots

@@ -1,4 +1,6 @@
 pub mod Headline
+pub mod Orders
+pub mod Objects
 pub mod Compiled
 pub mod Written
 pub mod Refused

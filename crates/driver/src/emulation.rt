@@ -4,7 +4,9 @@ ghost use Rattle.std.specs.Prelude.{◌≡◌, ◌<◌, All, IfOk, MatchResult, 
 ghost use Rattle.semantics.specs.Graph as Graphs;
 ghost use Rattle.driver.specs.Refused.{IsCompiled, refusal_of, IsReady, IsRefused, IsRefusedObject};
 ghost use Rattle.command_line.specs.declared.Mode.{Mode};
-ghost use Rattle.driver.specs.Headline.{TellsTruthIn, TellsTruthListed, TellsQuietly, stops_in, ShowsObject, RunsObject, FollowsTurns, FollowsList, Quietly};
+ghost use Rattle.driver.specs.Headline.{TellsTruthIn, TellsTruthListed, TellsQuietly, stops_in};
+ghost use Rattle.driver.specs.Objects.{ShowsObject, RunsObject, Quietly};
+ghost use Rattle.driver.specs.Orders.{FollowsTurns, FollowsList};
 
 use crate::compiling::{Compiled, compile};
 use crate::fault::Fault;

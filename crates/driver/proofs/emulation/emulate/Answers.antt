@@ -1,5 +1,7 @@
 use Rattle.std.proofs.Common.{subst, List, ℕ, false}
-use Rattle.driver.specs.Headline.{stops_in, ShowsObject, RunsObject, FollowsTurns}
+use Rattle.driver.specs.Headline.{stops_in}
+use Rattle.driver.specs.Objects.{ShowsObject, RunsObject}
+use Rattle.driver.specs.Orders.{FollowsTurns}
 use Rattle.driver.specs.Refused.{IsRefusedObject}
 use Rattle.driver.proofs.Truth.{tells_in}
 use Rattle.driver.proofs.TextObjects.{refused_as_text}

@@ -1,5 +1,6 @@
 use Rattle.std.proofs.Common.{subst, List, ℕ, true, false}
-use Rattle.driver.specs.Headline.{ShowsObject, RunsObject, FollowsList}
+use Rattle.driver.specs.Objects.{ShowsObject, RunsObject}
+use Rattle.driver.specs.Orders.{FollowsList}
 use Rattle.driver.specs.Refused.{IsRefusedObject}
 use Rattle.driver.proofs.Truth.{tells_listed}
 use Rattle.driver.proofs.TextObjects.{refused_as_text}

@@ -1,5 +1,6 @@
 use Rattle.std.proofs.Common.{subst, List, ℕ, false}
-use Rattle.driver.specs.Headline.{stops_in, ShowsObject, Quietly}
+use Rattle.driver.specs.Headline.{stops_in}
+use Rattle.driver.specs.Objects.{ShowsObject, Quietly}
 use Rattle.driver.specs.Refused.{IsRefusedObject}
 use Rattle.driver.proofs.Truth.{tells_quietly}
 use Rattle.driver.proofs.TextObjects.{refused_as_text}

@@ -1,0 +1,35 @@
+-- What a report of a run of an object says, whoever made the object.
+use Rattle.std.specs.Prelude.{◌≡◌, ℕ, ◌<◌, Bool, ℤ, List, [], length}
+use Rattle.semantics.specs.Program.{Program, Code}
+use Rattle.semantics.specs.Bytes.{IsObject}
+use Rattle.semantics.specs.Machine.{Events}
+use Rattle.semantics.specs.Report.{Report, Shows}
+use Rattle.schedule.specs.declared.config.Config.{Config}
+use Rattle.schedule.specs.Setting.{inputs_of as inputs_in_code}
+use Rattle.schedule.specs.Starts.{IsGood}
+use Rattle.schedule.specs.Unlisted.{with_events}
+use Rattle.driver.specs.Orders.{size_of}
+
+-- The bytes are an object, and the report is of a run of its code.
+pub record ShowsObject (bytes : List ℕ) (inputs : List ℤ) (c : Config) (listed may_stop : Bool) (r : Report) : Type 0 where
+  pub version : ℕ
+  pub code : Code
+  pub object : IsObject bytes version code
+  -- and of no other code
+  pub only : (v : ℕ) (c : Code) → IsObject bytes v c → code ≡ c
+  pub inputs_fit : length inputs ≡ inputs_in_code code.program
+  -- the configuration is one that the machine takes
+  pub good : IsGood c
+  pub some_frame : 0 < c.frames
+  pub shows : Shows code.program (size_of c) inputs c.steps listed may_stop r
+
+-- The order of the run of the object's code is as that says.
+pub record RunsObject (bytes : List ℕ) (inputs : List ℤ) (c : Config) (Ordered : Program → Config → List ℤ → Report → Type 0) (r : Report) : Type 0 where
+  pub version : ℕ
+  pub code : Code
+  pub object : IsObject bytes version code
+  pub ordered : Ordered code.program c inputs r
+
+-- RUNS OF ANY LENGTH. The report lists no events; with those of some run it is such a report.
+abbrev pub Quietly : (Report → Type 0) → Report → Type 0
+Quietly Tells r = (r.events ≡ []) × (events : Events) × Tells (with_events r events)

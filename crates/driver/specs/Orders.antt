@@ -1,0 +1,36 @@
+-- In which order the steps of a run are made.
+use Rattle.std.specs.Prelude.{◌≡◌, ℕ, Bool, true, false, ℤ, List}
+use Rattle.semantics.specs.Program.{Program}
+use Rattle.semantics.specs.Machine.{Size, Events}
+use Rattle.semantics.specs.Report.{Report}
+use Rattle.schedule.specs.declared.config.Config.{Config}
+use Rattle.schedule.specs.declared.halt.Halt.{Halt}
+use Rattle.schedule.specs.Starts.{Opens}
+use Rattle.schedule.specs.Runs.{Kept, Plays, rounds_of}
+use Rattle.schedule.specs.Told.{IsReportOf}
+
+-- the machine that a configuration asks for: its elements, each with its frames
+abbrev pub size_of : Config → Size
+size_of c = record { elements = c.elements; frames = c.frames }
+
+-- ORDER. The events are the steps that a list names, in its order: an entry is an element and a pick among its tokens, and
+-- makes an event where the element then has a token and may make one. The report is of the machine where the run halts, or
+-- of the machine at the start where its own lists are refused.
+pub record Follows (p : Program) (c : Config) (inputs : List ℤ) (listed : Bool) (picks : List (ℕ × ℕ)) (r : Report) : Type 0 where
+  pub width : ℕ
+  pub start : Kept
+  pub opens : Opens p width c inputs start
+  pub last : Kept
+  pub halt : Halt
+  pub made : Events
+  pub plays : Plays listed picks start.state last.state halt made
+  pub events : last.events ≡ made
+  pub told : IsReportOf last halt r
+
+-- the elements take turns, each with its oldest token
+abbrev pub FollowsTurns : Program → Config → List ℤ → Report → Type 0
+FollowsTurns p c inputs r = (rounds : ℕ) × Follows p c inputs false (rounds_of rounds c.elements) r
+
+-- they go by this list
+abbrev pub FollowsList : List (ℕ × ℕ) → Program → Config → List ℤ → Report → Type 0
+FollowsList picks p c inputs r = Follows p c inputs true picks r
