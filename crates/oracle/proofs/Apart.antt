@@ -72,7 +72,7 @@ module _ (g : Graph) (xs : List Invocation) (cs : List Context) (named : Named g
 
 -- MORE INVOCATIONS
 
-made_refl : (a : Made) → same_made a a ≡ true
+pub made_refl : (a : Made) → same_made a a ≡ true
 made_refl Main = refl
 made_refl (Called c n) = ap (λ b. b && (n == n)) (eq-eqb c c refl) ∙ ap (λ b. true && b) (eq-eqb n n refl)
 made_refl (Turned c n i) =

@@ -19,7 +19,7 @@ both : (a b : Bool) → (a && b) ≡ true → (a ≡ true) × (b ≡ true)
 both true b h = (refl, h)
 both false b h = cc
 
-made_same : (a b : Made) → same_made a b ≡ true → a ≡ b
+pub made_same : (a b : Made) → same_made a b ≡ true → a ≡ b
 made_same Main Main h = refl
 made_same (Called c n) (Called d m) h = let p = both (c == d) (n == m) h in ap (λ k. Called k n) (eqb-true c d p.0) ∙ ap (λ k. Called d k) (eqb-true n m p.1)
 made_same (Turned c n i) (Turned d m j) h =

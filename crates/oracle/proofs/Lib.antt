@@ -11,10 +11,15 @@ mod Gathered
 mod Gating
 mod Joining
 mod Known
+mod MadeOrder
 mod Nexting
+mod Numbers
 mod Partners
 mod Performing
 mod Resolved
+mod RowLists
+mod RowRuns
+mod Rows
 mod Sends
 mod ShapeLaws
 mod Taken

@@ -3,6 +3,8 @@ pub mod Agreeing
 pub mod Lines
 pub mod Meant
 pub mod Naming
+pub mod Numbering
 pub mod Reporting
+pub mod Rows
 pub mod Running
 pub mod Sending

@@ -1,11 +1,31 @@
-//! The partners of a token.
+//! The partners of a token. The tokens that wait stand in rows, one for each invocation, and only those of a token's own
+//! invocation are searched.
 
-ghost use Rattle.std.specs.Prelude.{◌≡◌, ◌<◌, ◌++◌, length, IfOk, IfSome, OnOk};
+ghost use Rattle.std.specs.Prelude.{◌≡◌, ◌<◌, ◌++◌, length, map, IfOk, IfSome, OnOk};
+ghost use Rattle.oracle.specs.Rows.{rows_of};
 ghost use Rattle.oracle.specs.Acting as Acting;
 
 use crate::tokens::{Spot, Token, same_spot};
 use std::alloc::{AllocError, Allocator};
 use tags::value::Value;
+
+/// The tokens that wait in one invocation, in the order in which they came.
+pub type Row<A> = Vec<Token, A>;
+
+/// Adds empty rows, up to that of the invocation.
+pub fn reach<A: Allocator + Clone>(
+    rows: &mut Vec<Row<A>, A>,
+    context: usize,
+) -> Result<(), AllocError>
+    ensures there { OnOk result (context < length rows.new.items) }
+    ensures same { OnOk result (rows_of (map (λ v. v.items) rows.new.items) ≡ rows_of (map (λ v. v.items) rows.old.items)) }
+{
+    while rows.len() <= context {
+        let alloc = rows.allocator().clone()?;
+        rows.push(Vec::new(alloc))?;
+    }
+    Ok(())
+}
 
 /// Whether the token is at that spot of that invocation.
 fn is_at(context: usize, spot: Spot, token: Token) -> bool

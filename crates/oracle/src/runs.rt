@@ -1,13 +1,14 @@
 //! Runs of the meaning.
 
-ghost use Rattle.std.specs.Prelude.{◌≡◌, ◌≢◌, ◌↔◌, ◌≤◌, ◌++◌, map, length, None, IfOk, OnOk};
+ghost use Rattle.std.specs.Prelude.{◌≡◌, ◌≢◌, ◌↔◌, ◌≤◌, ◌++◌, [], map, length, None, IfOk, OnOk};
 ghost use Rattle.semantics.specs.Text.{HasText};
 ghost use Rattle.oracle.specs.Lines.{total_of, inputs_at};
 ghost use Rattle.oracle.specs.Sending.{entering_tokens};
 ghost use Rattle.oracle.specs.Reporting.{IsMeant};
-ghost use Rattle.oracle.specs.Running.{plain, run_of, nones, no_cells, start_of, main_place, full_if, full_from, full_in, told};
+ghost use Rattle.oracle.specs.Rows.{rows_of, run_among};
+ghost use Rattle.oracle.specs.Running.{plain, nones, no_cells, start_of, main_place, full_if, full_from, full_in, told};
 
-use crate::invocations::{Invocation, Made};
+use crate::invocations::Invocations;
 use crate::lines::{arrays_of, input_count, output_count};
 use crate::report::{Full, MeanEnd, MeanFault, MeanReport};
 use crate::state::{State, held, next_act, perform};
@@ -75,16 +76,11 @@ fn start<'a, A: Allocator + Clone>(
     checked: &Checked<'a, A>,
     inputs: &[i64],
 ) -> Result<State<A>, AllocError>
-    ensures { IfOk result (λ s. plain s.invocations.items s.fresh.items s.waiting.items s.deferred.items s.cells.items s.outputs.items ≡ start_of checked.now inputs.now) }
+    ensures { IfOk result (λ s. (plain s.invocations s.fresh.items [] s.deferred.items s.cells.items s.outputs.items ≡ start_of checked.now inputs.now) × (s.waiting.items ≡ [])) }
 {
     let main = checked.main_place();
-    let mut invocations = Vec::new(alloc.clone()?);
-    invocations.push(Invocation {
-        made: Made::Main,
-        block: main,
-    })?;
     Ok(State {
-        invocations,
+        invocations: Invocations::of_main(alloc.clone()?, main)?,
         fresh: entering(alloc.clone()?, inputs)?,
         waiting: Vec::new(alloc.clone()?),
         deferred: Vec::new(alloc.clone()?),
@@ -100,10 +96,10 @@ fn run<'a, A: Allocator + Clone>(
     steps: u64,
 ) -> Result<MeanEnd, AllocError>
     requires few { total_of checked.now.arrays ≤ 65536 }
-    requires comes_to_an_end { run_of checked.now steps (plain state.old.invocations.items state.old.fresh.items state.old.waiting.items state.old.deferred.items state.old.cells.items state.old.outputs.items) ≢ None }
-    ensures { let old = plain state.old.invocations.items state.old.fresh.items state.old.waiting.items state.old.deferred.items state.old.cells.items state.old.outputs.items in
-        let new = plain state.new.invocations.items state.new.fresh.items state.new.waiting.items state.new.deferred.items state.new.cells.items state.new.outputs.items in
-        IfOk result (λ e. run_of checked.now steps old ≡ Some (e, new)) }
+    requires comes_to_an_end { run_among checked.now steps (plain state.old.invocations state.old.fresh.items [] state.old.deferred.items state.old.cells.items state.old.outputs.items) (rows_of (map (λ v. v.items) state.old.waiting.items)) ≢ None }
+    ensures { let old = plain state.old.invocations state.old.fresh.items [] state.old.deferred.items state.old.cells.items state.old.outputs.items in
+        let new = plain state.new.invocations state.new.fresh.items [] state.new.deferred.items state.new.cells.items state.new.outputs.items in
+        IfOk result (λ e. run_among checked.now steps old (rows_of (map (λ v. v.items) state.old.waiting.items)) ≡ Some (e, new)) }
 {
     for _step in 0..steps {
         match next_act(checked, state)? {

@@ -1,14 +1,15 @@
 //! A state of a run: the tokens, the cells, and the outputs.
 
-ghost use Rattle.std.specs.Prelude.{◌≡◌, ◌≢◌, ◌≤◌, ◌∷◌, ◌++◌, [], Some, slice_get, IfOk, OnOk, MatchOption, MatchResult};
+ghost use Rattle.std.specs.Prelude.{◌≡◌, ◌≢◌, ◌≤◌, ◌∷◌, ◌++◌, [], map, Some, slice_get, IfOk, OnOk, MatchOption, MatchResult};
 ghost use Rattle.oracle.specs.Lines.{total_of, spots_in};
 ghost use Rattle.oracle.specs.Acting as Acting;
-ghost use Rattle.oracle.specs.Running.{plain, join_of, Alone, Joins, Fails, next_in, Acts, Ends, Broken, performed};
+ghost use Rattle.oracle.specs.Running.{plain, join_of, Alone, Joins, Fails, performed};
 ghost use Rattle.oracle.specs.Running as Running;
+ghost use Rattle.oracle.specs.Rows.{rows_of, with_row, next_among, Goes, Stays, Breaks};
 
 use crate::deeds::{Deed, deed_of};
-use crate::gather::{all_there, take_out};
-use crate::invocations::{Invocation, number_of};
+use crate::gather::{Row, all_there, reach, take_out};
+use crate::invocations::{Invocation, Invocations};
 use crate::lines::block_at;
 use crate::report::MeanEnd;
 use crate::sending::{Sent, enter, enter_all, send, tell};
@@ -22,11 +23,11 @@ use tags::value::Value;
 /// The list of tokens has three parts, in this order. A token that was looked at and could not act goes behind.
 #[derive(Drop)]
 pub struct State<A: Allocator> {
-    pub invocations: Vec<Invocation, A>,
+    pub invocations: Invocations<A>,
     /// Tokens that were not looked at since they came.
     pub fresh: VecDeque<Token, A>,
-    /// Tokens with partners that are not among those that wait.
-    pub waiting: Vec<Token, A>,
+    /// Tokens with partners that are not among those that wait, in a row for each invocation.
+    pub waiting: Vec<Row<A>, A>,
     /// Tokens of fetches whose cells are empty.
     pub deferred: Vec<Token, A>,
     pub cells: Vec<Option<Value>, A>,
@@ -48,13 +49,6 @@ enum Gate {
     Defers,
     /// The cell of a store is full.
     Clashes { array: usize, index: u32 },
-}
-
-/// The invocation with that number.
-fn invocation_at(invocations: &[Invocation], number: usize) -> Option<Invocation>
-    ensures { result ≡ slice_get invocations.now number }
-{
-    invocations.get(number).copied()
 }
 
 /// Takes the partners of a token, all of which wait.
@@ -109,7 +103,7 @@ fn join_for<'a, A: Allocator + Clone>(
 /// left to wait.
 fn join<'a, A: Allocator + Clone>(
     checked: &Checked<'a, A>,
-    invocations: &[Invocation],
+    invocations: &Invocations<A>,
     waiting: &mut Vec<Token, A>,
     token: &Token,
 ) -> Result<Option<Act<A>>, AllocError>
@@ -119,7 +113,7 @@ fn join<'a, A: Allocator + Clone>(
         ((join_of checked.now invocations.now waiting.old.items token.now ≡ Alone) × (waiting.new.items ≡ waiting.old.items ++ token.now ∷ []))
         (λ act. join_of checked.now invocations.now waiting.old.items token.now ≡ Joins waiting.new.items act.values.items act.deed)) }
 {
-    if let Some(invocation) = invocation_at(invocations, token.context) {
+    if let Some(invocation) = invocations.get(token.context) {
         if let Some(shape) = shape_of(checked, invocation, token.spot) {
             return join_for(checked, waiting, token, &invocation, &shape);
         }
@@ -166,19 +160,41 @@ fn ask(cells: &[Option<Value>], deed: &Deed) -> Gate
     }
 }
 
+/// Joins a token with its partners, which wait in its invocation's row.
+fn join_among<'a, A: Allocator + Clone>(
+    checked: &Checked<'a, A>,
+    invocations: &Invocations<A>,
+    rows: &mut Vec<Row<A>, A>,
+    token: &Token,
+) -> Result<Option<Act<A>>, AllocError>
+    requires few { total_of checked.now.arrays ≤ 65536 }
+    requires never_fails { join_of checked.now invocations.now (rows_of (map (λ v. v.items) rows.old.items) token.now.context) token.now ≢ Fails }
+    ensures { let old = rows_of (map (λ v. v.items) rows.old.items) in
+        let new = rows_of (map (λ v. v.items) rows.new.items) in
+        let row = old token.now.context in
+        IfOk result (λ r. MatchOption r
+        ((join_of checked.now invocations.now row token.now ≡ Alone) × (with_row old token.now.context (row ++ token.now ∷ []) ≡ new))
+        (λ act. (join_of checked.now invocations.now row token.now ≡ Joins (new token.now.context) act.values.items act.deed) × (with_row old token.now.context (new token.now.context) ≡ new))) }
+{
+    reach(rows, token.context)?;
+    join(checked, invocations, &mut rows[token.context], token)
+}
+
 /// The first activity of the first token in the list that can act.
 pub fn next_act<'a, A: Allocator + Clone>(
     checked: &Checked<'a, A>,
     state: &mut State<A>,
 ) -> Result<Result<Act<A>, MeanEnd>, AllocError>
     requires few { total_of checked.now.arrays ≤ 65536 }
-    requires never_broken { next_in checked.now (plain state.old.invocations.items state.old.fresh.items state.old.waiting.items state.old.deferred.items state.old.cells.items state.old.outputs.items) ≢ Broken }
-    ensures { let old = plain state.old.invocations.items state.old.fresh.items state.old.waiting.items state.old.deferred.items state.old.cells.items state.old.outputs.items in
-        let new = plain state.new.invocations.items state.new.fresh.items state.new.waiting.items state.new.deferred.items state.new.cells.items state.new.outputs.items in
-        IfOk result (λ r. MatchResult r (λ act. next_in checked.now old ≡ Acts new act.values.items act.deed) (λ e. next_in checked.now old ≡ Ends new e)) }
+    requires never_broken { next_among checked.now (plain state.old.invocations state.old.fresh.items [] state.old.deferred.items state.old.cells.items state.old.outputs.items) (rows_of (map (λ v. v.items) state.old.waiting.items)) ≢ Breaks }
+    ensures { let old = plain state.old.invocations state.old.fresh.items [] state.old.deferred.items state.old.cells.items state.old.outputs.items in
+        let new = plain state.new.invocations state.new.fresh.items [] state.new.deferred.items state.new.cells.items state.new.outputs.items in
+        let from = rows_of (map (λ v. v.items) state.old.waiting.items) in
+        let to = rows_of (map (λ v. v.items) state.new.waiting.items) in
+        IfOk result (λ r. MatchResult r (λ act. next_among checked.now old from ≡ Goes new to act.values.items act.deed) (λ e. next_among checked.now old from ≡ Stays new e)) }
 {
     while let Some(token) = state.fresh.pop_front() {
-        if let Some(act) = join(checked, &state.invocations, &mut state.waiting, &token)? {
+        if let Some(act) = join_among(checked, &state.invocations, &mut state.waiting, &token)? {
             match ask(&state.cells, &act.deed) {
                 Gate::Free => return Ok(Ok(act)),
                 Gate::Defers => state.deferred.push(token)?,
@@ -207,9 +223,9 @@ fn send_at<'a, A: Allocator>(
 }
 
 /// Sends a value on a port of a node.
-fn send_from<'a, A: Allocator>(
+fn send_from<'a, A: Allocator + Clone>(
     checked: &Checked<'a, A>,
-    invocations: &[Invocation],
+    invocations: &Invocations<A>,
     fresh: &mut VecDeque<Token, A>,
     sent: &Sent,
     node: usize,
@@ -217,7 +233,7 @@ fn send_from<'a, A: Allocator>(
 ) -> Result<(), AllocError>
     ensures { OnOk result (fresh.new.items ≡ fresh.old.items ++ Running.sent_in checked.now invocations.now sent.now node port) }
 {
-    match invocation_at(invocations, sent.context) {
+    match invocations.get(sent.context) {
         Some(invocation) => send_at(checked, fresh, sent, &invocation, node, port),
         None => Ok(()),
     }
@@ -240,16 +256,16 @@ fn tell_at<'a, A: Allocator>(
 }
 
 /// Tells a predicate to the arms of a conditional.
-fn tell_from<'a, A: Allocator>(
+fn tell_from<'a, A: Allocator + Clone>(
     checked: &Checked<'a, A>,
-    invocations: &[Invocation],
+    invocations: &Invocations<A>,
     fresh: &mut VecDeque<Token, A>,
     sent: &Sent,
     cond: usize,
 ) -> Result<(), AllocError>
     ensures { OnOk result (fresh.new.items ≡ fresh.old.items ++ Running.told_in checked.now invocations.now sent.now cond) }
 {
-    match invocation_at(invocations, sent.context) {
+    match invocations.get(sent.context) {
         Some(invocation) => tell_at(checked, fresh, sent, &invocation, cond),
         None => Ok(()),
     }
@@ -292,9 +308,9 @@ pub fn perform<'a, A: Allocator + Clone>(
     deed: &Deed,
     values: &[Value],
 ) -> Result<(), AllocError>
-    ensures { let old = plain state.old.invocations.items state.old.fresh.items state.old.waiting.items state.old.deferred.items state.old.cells.items state.old.outputs.items in
-        let new = plain state.new.invocations.items state.new.fresh.items state.new.waiting.items state.new.deferred.items state.new.cells.items state.new.outputs.items in
-        OnOk result (new ≡ performed checked.now old values.now deed.now) }
+    ensures { let old = plain state.old.invocations state.old.fresh.items [] state.old.deferred.items state.old.cells.items state.old.outputs.items in
+        let new = plain state.new.invocations state.new.fresh.items [] state.new.deferred.items state.new.cells.items state.new.outputs.items in
+        OnOk result ((new ≡ performed checked.now old values.now deed.now) × (state.new.waiting.items ≡ state.old.waiting.items)) }
 {
     match *deed {
         Deed::Sends {
@@ -327,12 +343,12 @@ pub fn perform<'a, A: Allocator + Clone>(
             input,
             value,
         } => {
-            let context = number_of(&mut state.invocations, &made, block)?;
+            let context = state.invocations.number_of(&made, block)?;
             let sent = Sent { context, value };
             enter(&mut state.fresh, &sent, input)
         }
         Deed::EntersAll { made, block } => {
-            let context = number_of(&mut state.invocations, &made, block)?;
+            let context = state.invocations.number_of(&made, block)?;
             enter_all(&mut state.fresh, context, values)
         }
         Deed::Stops => Ok(()),
@@ -359,16 +375,16 @@ pub fn perform<'a, A: Allocator + Clone>(
 }
 
 /// Sends what a cell holds.
-fn answer<'a, A: Allocator>(
+fn answer<'a, A: Allocator + Clone>(
     checked: &Checked<'a, A>,
     state: &mut State<A>,
     context: usize,
     node: usize,
     cell: usize,
 ) -> Result<(), AllocError>
-    ensures { let old = plain state.old.invocations.items state.old.fresh.items state.old.waiting.items state.old.deferred.items state.old.cells.items state.old.outputs.items in
-        let new = plain state.new.invocations.items state.new.fresh.items state.new.waiting.items state.new.deferred.items state.new.cells.items state.new.outputs.items in
-        OnOk result (new ≡ performed checked.now old [] (Deed.Reads context node cell)) }
+    ensures { let old = plain state.old.invocations state.old.fresh.items [] state.old.deferred.items state.old.cells.items state.old.outputs.items in
+        let new = plain state.new.invocations state.new.fresh.items [] state.new.deferred.items state.new.cells.items state.new.outputs.items in
+        OnOk result ((new ≡ performed checked.now old [] (Deed.Reads context node cell)) × (state.new.waiting.items ≡ state.old.waiting.items)) }
 {
     match held(&state.cells, cell) {
         Some(value) => {
@@ -387,16 +403,16 @@ fn answer<'a, A: Allocator>(
 }
 
 /// Fills a cell, sends the value, and has the deferred fetches looked at again.
-fn fill_cell<'a, A: Allocator>(
+fn fill_cell<'a, A: Allocator + Clone>(
     checked: &Checked<'a, A>,
     state: &mut State<A>,
     sent: &Sent,
     node: usize,
     cell: usize,
 ) -> Result<(), AllocError>
-    ensures { let old = plain state.old.invocations.items state.old.fresh.items state.old.waiting.items state.old.deferred.items state.old.cells.items state.old.outputs.items in
-        let new = plain state.new.invocations.items state.new.fresh.items state.new.waiting.items state.new.deferred.items state.new.cells.items state.new.outputs.items in
-        OnOk result (new ≡ performed checked.now old [] (Deed.Fills sent.now.context node cell 0 0 sent.now.value)) }
+    ensures { let old = plain state.old.invocations state.old.fresh.items [] state.old.deferred.items state.old.cells.items state.old.outputs.items in
+        let new = plain state.new.invocations state.new.fresh.items [] state.new.deferred.items state.new.cells.items state.new.outputs.items in
+        OnOk result ((new ≡ performed checked.now old [] (Deed.Fills sent.now.context node cell 0 0 sent.now.value)) × (state.new.waiting.items ≡ state.old.waiting.items)) }
 {
     fill(&mut state.cells, cell, sent.value);
     wake(&mut state.fresh, &mut state.deferred)?;

@@ -1,0 +1,49 @@
+-- The map that finds invocations grows with them.
+use Rattle.std.proofs.Common.{◌≡◌, ℕ, suc, ◌+◌, Bool, true, false, List, [], ◌∷◌, ◌++◌, length, Option, Some, None, if◌then◌else◌, refl, sym, ap, ◌∙◌, subst, arith}
+use Rattle.std.specs.Prelude.{cond}
+use Rattle.std.specs.Ordering.{is_eq}
+use Rattle.std.specs.declared.cmp.Ordering.{Ordering}
+use Rattle.std.specs.BTreeMap.{BTreeMap, get, Updates}
+use Rattle.oracle.specs.declared.invocations.Made.{Made}
+use Rattle.oracle.specs.declared.invocations.Invocation.{Invocation}
+use Rattle.oracle.specs.Running.{same_made, made_from}
+use Rattle.oracle.specs.Numbering.{IsNumbering}
+use Rattle.oracle.proofs.Entering.{made_same}
+
+-- whether two are equal in the order
+abbrev pub TellsApart : (Made → Made → Ordering) → Type 0
+TellsApart cmp = (x y : Made) → is_eq (cmp x y) ≡ same_made x y
+
+abbrev or_later : Option ℕ → Option ℕ → Option ℕ
+or_later None o = o
+or_later (Some i) o = Some i
+
+last_from : (made : Made) (i : ℕ) (x : Invocation) (xs : List Invocation) → made_from made i (xs ++ x ∷ []) ≡ or_later (made_from made i xs) (if same_made x.made made then Some (i + length xs) else None)
+last_from made i x [] =
+    let e : i + 0 ≡ i = omega arith in
+    rw e refl
+last_from made i x (y ∷ ys) = go (same_made y.made made) (last_from made (i + 1) x ys)
+  where
+    go : (t : Bool) → made_from made (i + 1) (ys ++ x ∷ []) ≡ or_later (made_from made (i + 1) ys) (if same_made x.made made then Some (i + 1 + length ys) else None)
+        → (if t then Some i else made_from made (i + 1) (ys ++ x ∷ [])) ≡ or_later (if t then Some i else made_from made (i + 1) ys) (if same_made x.made made then Some (i + suc (length ys)) else None)
+    go true ih = refl
+    go false ih =
+        let e : i + suc (length ys) ≡ i + 1 + length ys = omega arith in
+        rw e ih
+
+pub numbers_more : (cmp : Made → Made → Ordering) (m n : BTreeMap Made ℕ) (xs : List Invocation) (made : Made) (block : ℕ) → TellsApart cmp → IsNumbering cmp m xs → made_from made 0 xs ≡ None
+    → Updates cmp m n made (Some (length xs)) → IsNumbering cmp n (xs ++ record { made = made; block = block } ∷ [])
+numbers_more cmp m n xs made block apart numbers absent updates q =
+    updates.0 q ∙ ap (λ b. cond b (Some (length xs)) (get cmp m q)) (apart made q) ∙ go (same_made made q) refl
+    ∙ sym (last_from q 0 (record { made = made; block = block }) xs)
+  where
+    later : (v : Option ℕ) → v ≡ or_later v None
+    later None = refl
+    later (Some i) = refl
+
+    go : (t : Bool) → same_made made q ≡ t → cond t (Some (length xs)) (get cmp m q) ≡ or_later (made_from q 0 xs) (if t then Some (0 + length xs) else None)
+    go true e =
+        let none : made_from q 0 xs ≡ None = subst (λ a. made_from a 0 xs ≡ None) (made_same made q e) absent in
+        let same : length xs ≡ 0 + length xs = omega arith in
+        ap (λ k. Some k) same ∙ sym (ap (λ v. or_later v (Some (0 + length xs))) none)
+    go false e = numbers q ∙ later (made_from q 0 xs)
