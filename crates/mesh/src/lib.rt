@@ -15,3 +15,4 @@ mod words;
 
 pub use memory::Memory;
 pub use mesh::{Mesh, Seat};
+pub use plays::Ask;

@@ -6,7 +6,8 @@ ghost use Rattle.mesh.specs.Seats.{AllTo, Has, Posts, Commits, Counts, noting, h
 
 use crate::board::{Board, Place};
 use crate::boxes::{post_at, take_at};
-use crate::words::{commit_at, live_at, stop_at, stopped_at};
+use crate::plays::Ask;
+use crate::words::{commit_at, commit_by_at, live_at, stop_at, stopped_at};
 use std::alloc::Allocator;
 use std::marker::Model;
 use tags::token::Token;
@@ -64,6 +65,26 @@ impl<A: Allocator> Mesh<A> {
         ensures { Commits spent.now made.now seat.old seat.new }
     {
         commit_at(
+            &self.board.shared,
+            &mut seat.place,
+            seat.element,
+            spent,
+            made,
+        );
+    }
+
+    /// The same commit by counts alone: how many tokens the seat's element spent, and how many it made. Which they are, the
+    /// call picks in its proof (`Ask`), so that no list of them need be in memory.
+    pub fn commit_by<J: Ask>(&self, seat: &mut Seat<A>, spent: u64, made: u64)
+        requires asked { (length J.spent ≡ spent) × (length J.made ≡ made) }
+        requires mesh { (seat.old.mesh ≡ self.now) × (seat.old.joined ≡ []) }
+        requires some { 0 < spent }
+        requires address { AllTo self.now.elements seat.old.own.element J.spent }
+        requires held { Has seat.old.own.held J.spent }
+        requires few { created seat.old.own.deeds + made ≤ 2 ^ 40 }
+        ensures { Commits J.spent J.made seat.old seat.new }
+    {
+        commit_by_at::<A, J>(
             &self.board.shared,
             &mut seat.place,
             seat.element,

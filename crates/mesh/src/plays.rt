@@ -81,7 +81,7 @@ impl Join<View> for Both {
 }
 
 /// The tokens that a commit spends and makes. Each call picks them.
-pub(crate) trait Ask {
+pub trait Ask {
     ghost use Rattle.std.specs.Prelude.{List};
     ghost use Rattle.tags.specs.declared.token.Token.{Token};
 

@@ -14,6 +14,28 @@ use std::alloc::Allocator;
 use std::marker::Brand;
 use tags::token::Token;
 
+pub(crate) fn commit_by_at<A: Allocator, J: Ask>(
+    top: &Top<A>,
+    place: &mut Place<A>,
+    element: u32,
+    spent: u64,
+    made: u64,
+)
+    requires asked { (length J.spent ≡ spent) × (length J.made ≡ made) }
+    requires table { IsTop top.now.table_id place.old }
+    requires seat { IsOf element place.old }
+    requires tokens { (0 < spent) × AllTo place.old.me.0.elements element J.spent × Has (part_of place.old).held J.spent }
+    requires few { created (part_of place.old).deeds + made ≤ 2 ^ 40 }
+    ensures table { place.new.table_id ≡ place.old.table_id }
+    ensures commits { Commits J.spent J.made place.old.me place.new.me }
+{
+    if spent <= made {
+        top.fetch_add::<CommitThat<J>>(place, LIVE, made - spent);
+    } else {
+        top.fetch_sub::<CommitThat<J>>(place, LIVE, spent - made);
+    }
+}
+
 fn commit_as<A: Allocator, J: Ask>(
     top: &Top<A>,
     place: &mut Place<A>,
@@ -29,11 +51,7 @@ fn commit_as<A: Allocator, J: Ask>(
     ensures table { place.new.table_id ≡ place.old.table_id }
     ensures commits { Commits spent.now made.now place.old.me place.new.me }
 {
-    if spent.len() <= made.len() {
-        top.fetch_add::<CommitThat<J>>(place, LIVE, (made.len() - spent.len()) as u64);
-    } else {
-        top.fetch_sub::<CommitThat<J>>(place, LIVE, (spent.len() - made.len()) as u64);
-    }
+    commit_by_at::<A, J>(top, place, element, spent.len() as u64, made.len() as u64);
 }
 
 pub(crate) fn commit_at<A: Allocator>(

@@ -1,12 +1,31 @@
 //! Calls of the mesh by a seat of which it is known that it holds certain tokens. `rest` names those that stay.
-ghost use Rattle.std.specs.Prelude.{◌≡◌, ◌<◌, ◌≤◌, ◌+◌, ◌^◌, ◌++◌, length, IfSome, IfNone, OnOk, IfErr};
+ghost use Rattle.std.specs.Prelude.{◌≡◌, ◌<◌, ◌≤◌, ◌+◌, ◌^◌, ◌++◌, [], length, IfSome, IfNone, OnOk, IfErr};
 ghost use Rattle.mesh.specs.Deeds.{created};
-ghost use Rattle.mesh.specs.Seats.{AllTo, Has};
+ghost use Rattle.mesh.specs.Seats.{AllTo, Has, Commits};
 ghost use Rattle.mesh_tests.specs.Playing.{Holds};
 
-use mesh::{Mesh, Seat};
+use mesh::{Ask, Mesh, Seat};
 use std::alloc::Global;
+use std::marker::Brand;
 use tags::token::Token;
+
+/// A commit by counts: the mesh gets no list.
+fn commit_counts<J: Ask>(
+    mesh: &Mesh<Global>,
+    seat: &mut Seat<Global>,
+    spent: &[Token],
+    made: &[Token],
+)
+    requires asked { (J.spent ≡ spent.now) × (J.made ≡ made.now) }
+    requires mesh { (seat.old.mesh ≡ mesh.now) × (seat.old.joined ≡ []) }
+    requires some { 0 < length spent.now }
+    requires address { AllTo mesh.now.elements seat.old.own.element spent.now }
+    requires held { Has seat.old.own.held spent.now }
+    requires few { created seat.old.own.deeds + length made.now ≤ 2 ^ 40 }
+    ensures { Commits spent.now made.now seat.old seat.new }
+{
+    mesh.commit_by::<J>(seat, spent.len() as u64, made.len() as u64);
+}
 
 pub fn commit(
     mesh: &Mesh<Global>,
@@ -24,7 +43,7 @@ pub fn commit(
     ensures made { created seat.new.own.deeds ≡ created seat.old.own.deeds + length made.now }
 {
     let _ = rest;
-    mesh.commit(seat, spent, made);
+    commit_counts::<Brand>(mesh, seat, spent, made);
 }
 
 pub fn post(

@@ -1,0 +1,22 @@
+use Rattle.free_runs.proofs.Acting.{steps_act, acts_commute}
+use Rattle.free_runs.proofs.Running.{run_of_history}
+use Rattle.free_runs.proofs.Showing.{began_freely, shows_freely, stops_freely}
+use Rattle.free_runs.proofs.free_runs_are_runs.Goals as goal
+
+pub returns-clause-step : goal.returns-clause-step
+returns-clause-step c = steps_act
+
+pub returns-clause-commute : goal.returns-clause-commute
+returns-clause-commute c = acts_commute
+
+pub returns-clause-run : goal.returns-clause-run
+returns-clause-run c = run_of_history
+
+pub returns-clause-began : goal.returns-clause-began
+returns-clause-began c = began_freely
+
+pub returns-clause-shows : goal.returns-clause-shows
+returns-clause-shows c = shows_freely
+
+pub returns-clause-stops : goal.returns-clause-stops
+returns-clause-stops c = stops_freely

@@ -1,0 +1,17 @@
+//! Elements that run freely: the commits of all elements, in one legal history, are one run of the machine. It has laws alone,
+//! and no code.
+#![tactic(auto)]
+
+ghost use Rattle.free_runs.specs.Laws.{StepsAct, ActsCommute, RunOfHistory, BeganFreely, ShowsFreely, StopsFreely};
+
+/// A step of a lane is an event wherever the lane's part is the element's, and leaves the parts of other elements as they are. A
+/// legal history of blocks of such events is one run of the machine; where lanes and tokens on their way hold what the history
+/// left, the report of the lanes shows that run.
+pub fn free_runs_are_runs()
+    ensures step { StepsAct }
+    ensures commute { ActsCommute }
+    ensures run { RunOfHistory }
+    ensures began { BeganFreely }
+    ensures shows { ShowsFreely }
+    ensures stops { StopsFreely }
+{}
