@@ -1,10 +1,16 @@
-//! Says of each example whether runs of its code, on 1, 3 and 16 elements, and in rounds on 1 and 2, have just the
-//! outputs, the cells and the end of its meaning. The words of the command line are the files' names.
+//! Says of each example whether runs of its code, on 1, 2, 3 and 16 elements, one event after another and in rounds, have
+//! just the outputs, the cells and the end of its meaning. The words of the command line are the files' names. A run that
+//! says something else than the first one has a line of its own.
 #![tactic(auto)]
 
-use driver::serving::serve;
+use command_line::Mode;
+use driver::emulation::run_text;
+use driver::input::{parse_integers, split_at_main};
+use driver::meaning::mean_text;
+use report_text::{write_meaning, write_report};
 use rounds::Open;
-use std::alloc::Global;
+use schedule::config::Config;
+use std::alloc::{AllocError, Global};
 use std::io::{self, Write};
 use std::sync::Wait;
 use std::thread::Threads;
@@ -13,17 +19,38 @@ use std::{env, fs};
 /// Its token goes to another element every few events, and each time ends a round: thousands of rounds for one example.
 const SERIAL: &str = "sum_loop.ets";
 
-/// What the program `ets` writes of an input, with these words after its name.
-fn served<R: Threads + Wait + Sync>(
+const STEPS: u64 = 1_000_000;
+
+/// The text of the report of a run in that mode on so many elements.
+fn report_of<R: Threads + Wait + Sync>(
     rt: &R,
     alloc: Global,
-    words: &[&str],
     input: &[u8],
-) -> io::Result<Vec<u8>> {
-    let mut text = Vec::new(alloc);
-    let mut reader = input;
-    serve(words, &mut reader, &mut text, alloc, alloc, rt, &Open);
-    Ok(text)
+    mode: Mode,
+    elements: u64,
+) -> Option<Vec<u8>> {
+    let (text, lines) = split_at_main(input);
+    let integers = parse_integers(alloc, lines).ok()?;
+    let config = Config {
+        elements,
+        frames: 256,
+        steps: STEPS,
+        turn: 1_024,
+    };
+    let emulated = run_text(alloc, text, &integers, config, mode, rt, &Open).ok()?;
+    let mut report = Vec::new(alloc);
+    write_report(&mut report, emulated.checked.graph(), &emulated.report).ok()?;
+    Some(report)
+}
+
+/// The text of the meaning.
+fn meaning_of(alloc: Global, input: &[u8]) -> Option<Vec<u8>> {
+    let (text, lines) = split_at_main(input);
+    let integers = parse_integers(alloc, lines).ok()?;
+    let meant = mean_text(alloc, text, &integers, STEPS).ok()?;
+    let mut meaning = Vec::new(alloc);
+    write_meaning(&mut meaning, meant.checked.graph(), &meant.report).ok()?;
+    Some(meaning)
 }
 
 /// A line that a report and a meaning both have.
@@ -32,7 +59,7 @@ fn is_shared(line: &[u8]) -> bool {
 }
 
 /// The lines of a report that a meaning has, too.
-fn shared(alloc: Global, report: &[u8]) -> io::Result<Vec<u8>> {
+fn shared(alloc: Global, report: &[u8]) -> Result<Vec<u8>, AllocError> {
     let mut lines = Vec::new(alloc);
     for line in report.split(|byte| *byte == b'\n') {
         if is_shared(line) {
@@ -43,17 +70,18 @@ fn shared(alloc: Global, report: &[u8]) -> io::Result<Vec<u8>> {
     Ok(lines)
 }
 
-/// What a run in that mode on so many elements says beside the meaning.
+/// What a run in that mode on so many elements says beside that meaning.
 fn verdict<R: Threads + Wait + Sync>(
     rt: &R,
     alloc: Global,
     input: &[u8],
     meaning: &[u8],
-    mode: &str,
-    elements: &str,
+    mode: Mode,
+    elements: u64,
 ) -> io::Result<&'static str> {
-    let words = ["ets", "run", "--mode", mode, "--elements", elements];
-    let report = served(rt, alloc, &words, input)?;
+    let Some(report) = report_of(rt, alloc, input, mode, elements) else {
+        return Ok("is refused");
+    };
     if report.ends_with(b"\nend Starved\n") {
         return Ok("starves");
     }
@@ -65,24 +93,42 @@ fn verdict<R: Threads + Wait + Sync>(
     })
 }
 
+/// What the runs of an example say.
+fn tell<R: Threads + Wait + Sync, W: Write>(
+    rt: &R,
+    alloc: Global,
+    out: &mut W,
+    name: &str,
+    input: &[u8],
+) -> io::Result<()> {
+    let Some(meaning) = meaning_of(alloc, input) else {
+        return writeln!(out, "{name} is refused");
+    };
+    let first = verdict(rt, alloc, input, &meaning, Mode::One, 1)?;
+    writeln!(out, "{name} {first}")?;
+    for elements in [1, 2, 3, 16] {
+        let one = verdict(rt, alloc, input, &meaning, Mode::One, elements)?;
+        if one != first {
+            writeln!(out, "{name} on {elements} {one}")?;
+        }
+        if name == SERIAL && elements > 1 {
+            continue;
+        }
+        let rounds = verdict(rt, alloc, input, &meaning, Mode::Rounds, elements)?;
+        if rounds != first {
+            writeln!(out, "{name} in rounds on {elements} {rounds}")?;
+        }
+    }
+    Ok(())
+}
+
 fn main(rt: HostRuntime) -> io::Result<()> {
     let alloc = rt.alloc();
     let words: Vec<String> = env::args(&rt)?.collect(alloc)?;
     let mut out = io::writer(&rt);
     for name in words.iter().skip(1) {
         let input = fs::read(&rt, name.as_str())?;
-        let meaning = served(&rt, alloc, &["ets", "mean"], &input)?;
-        for elements in ["1", "3", "16"] {
-            let verdict = verdict(&rt, alloc, &input, &meaning, "one", elements)?;
-            writeln!(out, "{name} on {elements}: {verdict}")?;
-        }
-        for elements in ["1", "2"] {
-            if elements == "2" && name.as_str() == SERIAL {
-                continue;
-            }
-            let verdict = verdict(&rt, alloc, &input, &meaning, "rounds", elements)?;
-            writeln!(out, "{name} in rounds on {elements}: {verdict}")?;
-        }
+        tell(&rt, alloc, &mut out, name.as_str(), &input)?;
     }
     Ok(())
 }

@@ -24,4 +24,9 @@ impl Dice {
             (self.state >> 33) % count
         }
     }
+
+    /// The same, as an integer.
+    pub fn integer(&mut self, count: u64) -> i64 {
+        i64::from((self.throw(count) % 65_536) as u32)
+    }
 }

@@ -5,9 +5,6 @@ ghost use Rattle.std.specs.Prelude.{◌<◌, All, IfOk};
 use crate::dice::Dice;
 use std::alloc::{AllocError, Global};
 
-/// More picks than any run here needs.
-const PICKS: u64 = 8_192;
-
 /// One of so many elements.
 fn element_of(number: u64, elements: u32) -> u32
     requires { 0 < elements }
@@ -16,13 +13,18 @@ fn element_of(number: u64, elements: u32) -> u32
     (number % elements as u64) as u32
 }
 
-/// A random list of picks on so many elements.
-pub fn picks(alloc: Global, dice: &mut Dice, elements: u32) -> Result<Vec<(u32, u64)>, AllocError>
+/// A random list of so many picks on so many elements.
+pub fn picks(
+    alloc: Global,
+    dice: &mut Dice,
+    elements: u32,
+    count: u64,
+) -> Result<Vec<(u32, u64)>, AllocError>
     requires { 0 < elements }
     ensures { IfOk result (λ v. All (λ pick. pick.0 < elements) v.items) }
 {
     let mut picks = Vec::new(alloc);
-    for _ in 0..PICKS {
+    for _ in 0..count {
         let element = element_of(dice.throw(65_536), elements);
         picks.push((element, dice.throw(65_536)))?;
     }

@@ -1,0 +1,135 @@
+//! Runs random graphs in random orders of steps, and compares each run with the graph's meaning: first graphs with calls and
+//! arrays, with just enough frames, then graphs of all kinds with few frames and small bounds. The words of the command line
+//! may say how many there are of each, and behind `--seed` which. Prints how many there were of what, or the first graph
+//! whose run differs, with status 1.
+#![tactic(auto)]
+
+mod blocks;
+mod deeds;
+mod dice;
+mod graphs;
+mod kind;
+mod orders;
+mod tally;
+mod trials;
+mod verdict;
+
+use dice::Dice;
+use driver::meaning::mean_text;
+use graphs::{Graph, Part};
+use oracle::MeanEnd;
+use std::alloc::Global;
+use std::env;
+use std::io::{self, Write};
+use std::process::ExitCode;
+use std::sync::Wait;
+use std::thread::Threads;
+use tally::Tally;
+use trials::Trials;
+
+/// The most activities of a meaning.
+const ACTIVITIES: u64 = 2_000;
+
+/// How many graphs there are of each part, and their seed.
+#[derive(Drop)]
+struct Sizes {
+    calls: u64,
+    all: u64,
+    seed: u64,
+}
+
+/// The numbers of the words.
+fn sizes_in(words: &[String]) -> Option<Sizes> {
+    let mut numbers = [500, 1_000];
+    let mut place = 0usize;
+    let mut seed = 0;
+    let mut is_seed = false;
+    for word in words.iter().skip(1) {
+        if word.as_str() == "--seed" {
+            is_seed = true;
+            continue;
+        }
+        let number: u64 = word.parse().ok()?;
+        if is_seed {
+            seed = number;
+            is_seed = false;
+        } else {
+            *numbers.get_mut(place)? = number;
+            place = place.wrapping_add(1);
+        }
+    }
+    let [calls, all] = numbers;
+    Some(Sizes { calls, all, seed })
+}
+
+/// Whether all runs of the graph agree with its meaning. Tells the run that differs.
+fn graph_agrees<R: Threads + Wait + Sync, W: Write>(
+    rt: &R,
+    alloc: Global,
+    out: &mut W,
+    tally: &mut Tally,
+    dice: &mut Dice,
+    graph: &Graph,
+) -> io::Result<bool> {
+    let Ok(meant) = mean_text(alloc, &graph.text, &graph.inputs, ACTIVITIES) else {
+        writeln!(out, "refused:")?;
+        return Ok(false);
+    };
+    tally.count_graph(graph, meant.report.end);
+    if meant.report.end == MeanEnd::Steps {
+        return Ok(true);
+    }
+    let mut trials = Trials::new(alloc, graph, &meant.report);
+    if !trials.all_agree(rt, alloc, tally, dice)? {
+        trials.tell(out)?;
+        return Ok(false);
+    }
+    if trials.deferred.unwrap_or(0) > 0 {
+        tally.count_waiting();
+    }
+    Ok(true)
+}
+
+/// Whether so many graphs of that part agree.
+fn part_agrees<R: Threads + Wait + Sync, W: Write>(
+    rt: &R,
+    alloc: Global,
+    out: &mut W,
+    part: Part,
+    graphs: u64,
+    seed: u64,
+) -> io::Result<bool> {
+    let mut tally = Tally::new();
+    let mut dice = Dice::new(seed);
+    for number in 0..graphs {
+        let seed = dice.throw(u64::MAX).wrapping_add(number);
+        let graph = Graph::random(alloc, part, seed)?;
+        if !graph_agrees(rt, alloc, out, &mut tally, &mut dice, &graph)? {
+            out.write_all(&graph.text)?;
+            for input in &graph.inputs {
+                writeln!(out, "{input}")?;
+            }
+            return Ok(false);
+        }
+    }
+    tally.print(out, if part == Part::Calls { "calls" } else { "all" })?;
+    Ok(true)
+}
+
+fn main(rt: HostRuntime) -> io::Result<ExitCode> {
+    let alloc = rt.alloc();
+    let words: Vec<String> = env::args(&rt)?.collect(alloc)?;
+    let mut out = io::writer(&rt);
+    let Some(sizes) = sizes_in(&words) else {
+        writeln!(out, "words: CALLS ALL --seed SEED")?;
+        return Ok(ExitCode::FAILURE);
+    };
+    let seed = sizes.seed;
+    if part_agrees(&rt, alloc, &mut out, Part::Calls, sizes.calls, seed)?
+        && part_agrees(&rt, alloc, &mut out, Part::All, sizes.all, seed)?
+    {
+        writeln!(out, "agree")?;
+        return Ok(ExitCode::SUCCESS);
+    }
+    Ok(ExitCode::FAILURE)
+}

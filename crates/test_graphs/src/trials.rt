@@ -1,0 +1,190 @@
+//! The runs of one graph.
+
+ghost use Rattle.std.specs.Prelude.{◌≡◌, ◌<◌, All};
+
+use crate::dice::Dice;
+use crate::graphs::{Graph, Part};
+use crate::orders::picks;
+use crate::tally::Tally;
+use crate::verdict::{Verdict, verdict_of};
+use command_line::Mode;
+use driver::emulation::{emulate, emulate_picks};
+use driver::fault::Fault;
+use oracle::MeanReport;
+use rounds::Open;
+use schedule::config::Config;
+use schedule::report::Report;
+use semantics::report::End;
+use std::alloc::{AllocError, Global};
+use std::io::{self, Write};
+use std::sync::Wait;
+use std::thread::Threads;
+
+/// Random orders of each graph.
+const ORDERS: u64 = 4;
+
+/// The frames of an element that are tried one after another, until there are enough.
+const FRAMES: [u64; 14] = [1, 2, 3, 4, 5, 6, 8, 10, 13, 16, 24, 40, 100, 1_024];
+
+fn config(elements: u64, frames: u64) -> Config
+    ensures { result.elements ≡ elements }
+{
+    Config {
+        elements,
+        frames,
+        steps: 65_536,
+        turn: 64,
+    }
+}
+
+/// A graph, its meaning, what is known of its runs, and how the last one was made.
+#[derive(Drop)]
+pub struct Trials<'a> {
+    graph: &'a Graph,
+    meaning: &'a MeanReport<Global>,
+    /// How many readers wait at rest.
+    pub deferred: Option<u64>,
+    /// The most events of a run.
+    events: u64,
+    way: &'static str,
+    config: Config,
+    picks: Vec<(u32, u64)>,
+    end: Option<End>,
+}
+
+impl<'a> Trials<'a> {
+    pub fn new(alloc: Global, graph: &'a Graph, meaning: &'a MeanReport<Global>) -> Trials<'a> {
+        Trials {
+            graph,
+            meaning,
+            deferred: None,
+            events: 0,
+            way: "",
+            config: config(1, 1),
+            picks: Vec::new(alloc),
+            end: None,
+        }
+    }
+
+    /// What that run says.
+    fn judge(
+        &mut self,
+        tally: &mut Tally,
+        config: Config,
+        run: &Result<Report<Global>, Fault>,
+    ) -> Verdict {
+        let verdict = verdict_of(self.graph, self.meaning, self.deferred, run);
+        tally.count_run(verdict);
+        self.config = config;
+        self.end = None;
+        if let Ok(report) = run {
+            self.end = Some(report.end);
+            self.events = self.events.max(report.events.len() as u64);
+            if verdict == Verdict::Rested {
+                self.deferred = Some(report.deferred);
+            }
+        }
+        verdict
+    }
+
+    /// Whether a run in that mode agrees.
+    fn agrees_in<R: Threads + Wait + Sync>(
+        &mut self,
+        rt: &R,
+        alloc: Global,
+        tally: &mut Tally,
+        mode: Mode,
+        config: Config,
+    ) -> bool {
+        self.way = match mode {
+            Mode::One => "in turn",
+            Mode::Rounds => "in rounds",
+        };
+        let text = &self.graph.text;
+        let run = emulate(alloc, text, &self.graph.inputs, config, mode, rt, &Open);
+        self.judge(tally, config, &run) != Verdict::Differs
+    }
+
+    /// What a run in that order says.
+    fn run_listed(
+        &mut self,
+        alloc: Global,
+        tally: &mut Tally,
+        elements: u32,
+        frames: u64,
+        picks: &[(u32, u64)],
+    ) -> Verdict
+        requires { All (λ pick. pick.0 < elements) picks.now }
+    {
+        let config = config(u64::from(elements), frames);
+        let run = emulate_picks(alloc, &self.graph.text, &self.graph.inputs, config, picks);
+        self.judge(tally, config, &run)
+    }
+
+    /// Whether runs in a random order agree: one with few frames, or in the part of calls with more and more, until there
+    /// are just enough.
+    fn agrees_listed(
+        &mut self,
+        alloc: Global,
+        tally: &mut Tally,
+        dice: &mut Dice,
+    ) -> Result<bool, AllocError> {
+        self.way = "in the order of these picks";
+        let elements = (dice.throw(65_536) % 16) as u32 + 1;
+        let most = self.events.wrapping_add(32).wrapping_mul(2);
+        let count = most.wrapping_mul(u64::from(elements));
+        let picks = picks(alloc, dice, elements, count)?;
+        let mut verdict = Verdict::Starved;
+        if self.graph.part == Part::All {
+            let frames = dice.throw(6).wrapping_add(1);
+            verdict = self.run_listed(alloc, tally, elements, frames, &picks);
+        } else {
+            for frames in FRAMES {
+                if verdict == Verdict::Starved {
+                    verdict = self.run_listed(alloc, tally, elements, frames, &picks);
+                }
+            }
+        }
+        self.picks = picks;
+        Ok(verdict != Verdict::Differs)
+    }
+
+    /// Whether all runs agree with the meaning, up to the first that differs.
+    pub fn all_agree<R: Threads + Wait + Sync>(
+        &mut self,
+        rt: &R,
+        alloc: Global,
+        tally: &mut Tally,
+        dice: &mut Dice,
+    ) -> Result<bool, AllocError> {
+        let many = config(1, 1_024);
+        let some = config(3, dice.throw(16).wrapping_add(1));
+        if !self.agrees_in(rt, alloc, tally, Mode::One, many)
+            || !self.agrees_in(rt, alloc, tally, Mode::Rounds, some)
+        {
+            return Ok(false);
+        }
+        for _ in 0..ORDERS {
+            if !self.agrees_listed(alloc, tally, dice)? {
+                return Ok(false);
+            }
+        }
+        Ok(true)
+    }
+
+    /// Tells of the last run.
+    pub fn tell<W: Write>(&self, out: &mut W) -> io::Result<()> {
+        let elements = self.config.elements;
+        let frames = self.config.frames;
+        let end = self.end;
+        let way = self.way;
+        writeln!(
+            out,
+            "differs on {elements} elements, {frames} frames, {end:?}, {way}"
+        )?;
+        for (element, place) in &self.picks {
+            write!(out, " {element}:{place}")?;
+        }
+        writeln!(out)
+    }
+}
