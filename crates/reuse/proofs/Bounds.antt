@@ -25,9 +25,9 @@ use Rattle.semantics.specs.Wired.{IsWired}
 use Rattle.semantics.specs.Holders.{Holder, holder_of, holder_at}
 use Rattle.semantics.specs.Credits.{IsPart, IsLink, IsLoop, granted, released}
 use Rattle.determinacy.proofs.Resolved.{all_get}
-use Rattle.reuse.specs.Bounds.{OnlyAsks, PlanKeepsBound, PlanKeepsBounds, NoLoopKeepsBounds, BoundsAreKept, CodeUsesAgain}
+use Rattle.reuse.specs.Bounds.{OnlyAsks, PlanKeepsBound, PlanKeepsBounds, BoundsAreKept, CodeUsesAgain}
 use Rattle.reuse.proofs.Members.{contains_mapped}
-use Rattle.reuse.proofs.Stands.{found, some_same, Stands, stands_at}
+use Rattle.reuse.proofs.Stands.{some_same, Stands, stands_at}
 use Rattle.reuse.proofs.Turns.{is_counting}
 use Rattle.reuse.proofs.PlacedCode.{moved_to, Located, Nowhere, There, located}
 use Rattle.reuse.proofs.Neighbours.{get_index}
@@ -271,14 +271,3 @@ code_uses_again fl p slots orderly wired good takes law = record {
   credits = bounds_are_kept fl p slots orderly wired good takes law;
   alone = holders_are_alone fl p slots orderly wired good takes;
 }
-
-pub no_loop_keeps_bounds : NoLoopKeepsBounds
-no_loop_keeps_bounds p none inputs z events u f start run once = record {
-  never_above = λ loop k ip s part. absurd (open_nowhere loop k ip s part);
-  all_granted = λ loop k ip s w c part came asks waits. absurd (open_nowhere loop k ip s part);
-}
-  where
-    open_nowhere : (loop : Holder) (k ip s : ℕ) → IsPart p p.program loop (Open k) ip s → ⊥
-    open_nowhere loop k ip s part =
-        let at = found p.program ip part.instr part.is_at in
-        none at.b at.n k (at.stands).code part.instr (at.stands).block (at.stands).instr part.does

@@ -1,5 +1,5 @@
 -- That the loops of a plan keep their bounds in runs that use each frame once: so do those of its code in all runs.
-use Rattle.std.specs.Prelude.{◌≡◌, ◌≢◌, ℕ, ◌+◌, ◌≤◌, ℤ, List, Some, slice_get, Contains}
+use Rattle.std.specs.Prelude.{◌≡◌, ℕ, ◌+◌, ◌≤◌, ℤ, List, Contains}
 use Rattle.tags.specs.declared.token.Port.TheVariants.{Left}
 use Rattle.tags.specs.declared.token.Cont.{Cont}
 use Rattle.tags.specs.declared.token.Word.{Word}
@@ -8,7 +8,6 @@ use Rattle.tags.specs.declared.token.Token.{Token}
 use Rattle.tags.specs.declared.slot.SlotState.TheVariants.{Waiter}
 use Rattle.semantics.specs.declared.program.Op.TheVariants.{Open}
 use Rattle.semantics.specs.Graph.{Flow}
-use Rattle.semantics.specs.Program.{Instr, CodeBlock}
 use Rattle.semantics.specs.Rule.{token}
 use Rattle.semantics.specs.Machine.{Machine, Size, Events, Run, at_start}
 use Rattle.semantics.specs.Plan.{Plan}
@@ -37,13 +36,6 @@ pub record PlanKeepsBound (p : Plan) (z : Size) (inputs : List ℤ) (events : Ev
 abbrev pub PlanKeepsBounds : Plan → Type 0
 PlanKeepsBounds p = (inputs : List ℤ) (z : Size) (events : Events) (u : Machine) (f : ℕ) → IsStart p z inputs → (run : Run p.program z (at_start p.program inputs) events u)
     → UsesEachOnce p.program z inputs events u run → PlanKeepsBound p z inputs events u run f
-
--- a plan with no loop
-abbrev pub HasNoLoop : Plan → Type 0
-HasNoLoop p = (b n k : ℕ) (c : CodeBlock) (i : Instr) → slice_get p.program.blocks b ≡ Some c → slice_get c.instrs n ≡ Some i → i.op ≢ Open k
-
-abbrev pub NoLoopKeepsBounds : Type 0
-NoLoopKeepsBounds = (p : Plan) → HasNoLoop p → PlanKeepsBounds p
 
 -- So the code keeps them in all runs, in each tenure of a frame.
 abbrev pub BoundsAreKept : Type 0

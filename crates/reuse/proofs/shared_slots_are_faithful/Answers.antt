@@ -1,7 +1,7 @@
 use Rattle.reuse.proofs.OnceLaw.{once_runs_are_own}
 use Rattle.reuse.proofs.UnfoldedRuns.{each_run_unfolds}
 use Rattle.reuse.proofs.AllRuns.{shared_slots_are_faithful, releases_are_last, holders_are_alone}
-use Rattle.reuse.proofs.Bounds.{no_loop_keeps_bounds, code_uses_again}
+use Rattle.reuse.proofs.Bounds.{code_uses_again}
 use Rattle.reuse.proofs.shared_slots_are_faithful.Goals as goal
 
 pub returns-clause-own : goal.returns-clause-own
@@ -18,9 +18,6 @@ returns-clause-release c = releases_are_last
 
 pub returns-clause-alone : goal.returns-clause-alone
 returns-clause-alone c = holders_are_alone
-
-pub returns-clause-no_loop : goal.returns-clause-no_loop
-returns-clause-no_loop c = no_loop_keeps_bounds
 
 pub returns-clause-again : goal.returns-clause-again
 returns-clause-again c = code_uses_again
