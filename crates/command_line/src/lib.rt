@@ -1,12 +1,15 @@
-//! The command line of `ets`.
+//! The command line of `ets`: which request the words are.
 #![tactic(auto)]
 
-use clap::error::ErrorKind;
-use clap::{Arg, ArgMatches, Command, value_parser};
-use std::alloc::{AllocError, Global};
+ghost use Rattle.std.specs.Prelude.{◌≡◌, map};
+ghost use Rattle.command_line.specs.Words.{asked, asked_of, command_named, ended, help_asked, no_command_asked, nothing, topic_named, version_line};
+
+mod options;
+
+use options::{Given, OptionName, Step, asks_help, asks_version, request_of, word_met};
 use std::convert::AsStr;
 
-/// What the command line asks for.
+/// What is to be done.
 #[derive(Debug, Drop)]
 pub enum Request {
     /// Says whether standard input has a good graph.
@@ -21,6 +24,8 @@ pub enum Request {
     Upgrade,
     /// Runs the meaning of the graph on standard input, for so many activities at most.
     Mean { steps: u64 },
+    /// Draws the graph on standard input, or the code of the object there.
+    Dot { code: bool },
 }
 
 /// How the elements take turns.
@@ -44,210 +49,145 @@ pub struct RunOptions {
     pub mode: Option<Mode>,
 }
 
-/// Why there is nothing to do.
+/// The commands.
+#[derive(Clone, Copy, Debug, PartialEq, Eq)]
+pub enum Command {
+    Run,
+    Mean,
+    Check,
+    Compile,
+    Dis,
+    Upgrade,
+    Dot,
+}
+
+/// What help is asked of.
+#[derive(Clone, Copy, Debug, PartialEq, Eq)]
+pub enum Topic {
+    Program,
+    Of(Command),
+    /// The command `help` itself.
+    Help,
+}
+
+/// What a command line asks for.
 #[derive(Debug, Drop)]
-pub enum Refusal {
-    /// The text to be printed, and whether the words were at fault: help was asked for where they were not.
-    Said { text: String, is_mistake: bool },
-    OutOfMemory,
+pub enum Asked {
+    Request(Request),
+    Help(Topic),
+    Version,
+    Mistake,
 }
 
-impl From<AllocError> for Refusal {
-    fn from(_e: AllocError) -> Refusal {
-        Refusal::OutOfMemory
-    }
-}
-
-fn number<'a>(alloc: Global, name: &'a str, default: &'a str, help: &'a str) -> Arg<'a> {
-    Arg::new(alloc, name)
-        .long(name)
-        .value_name("N")
-        .value_parser(value_parser!(u64))
-        .default_value(default)
-        .help(help)
-}
-
-fn run_command<'a>(alloc: Global) -> Result<Command<'a>, AllocError> {
-    let mode = Arg::new(alloc, "mode")
-        .long("mode")
-        .value_name("MODE")
-        .default_value("one")
-        .help(
-            "one: the elements take their oldest tokens in turn; rounds: each takes up to 64 in a thread of its own",
-        );
-    Command::new(alloc, "run")
-        .about("Compiles and runs a graph: its text on standard input, then its inputs, one a line")
-        .arg(number(alloc, "elements", "1", "processing elements, 1 to 16"))?
-        .arg(number(alloc, "frames", "256", "frames for each element, 1 to 1024"))?
-        .arg(number(
-            alloc,
-            "steps",
-            "1000000",
-            "steps that each element may make",
-        ))?
-        .arg(mode)
-}
-
-fn mean_command<'a>(alloc: Global) -> Result<Command<'a>, AllocError> {
-    Command::new(alloc, "mean")
-        .about(
-            "Runs the meaning of a graph, without code: its text on standard input, then its inputs",
-        )
-        .arg(number(alloc, "steps", "1000000", "activities at most"))
-}
-
-fn program_command<'a>(alloc: Global) -> Result<Command<'a>, AllocError> {
-    let check = Command::new(alloc, "check").about("Says whether standard input has a good graph");
-    let compile = Command::new(alloc, "compile").about(
-        "Writes the object of the graph on standard input",
-    );
-    let dis = Command::new(alloc, "dis").about("Lists the code of the object on standard input");
-    let upgrade = Command::new(alloc, "upgrade").about(
-        "Writes the object on standard input as version 2 of the object file",
-    );
-    Command::new(alloc, "ets")
-        .about("Compiles dataflow graphs for an explicit token store machine and runs them")
-        .subcommand_required(true)
-        .subcommand(check)?
-        .subcommand(compile)?
-        .subcommand(dis)?
-        .subcommand(upgrade)?
-        .subcommand(mean_command(alloc)?)?
-        .subcommand(run_command(alloc)?)
-}
-
-fn mode_in(word: &str) -> Option<Mode> {
-    if word == "one" {
-        Some(Mode::One)
-    } else if word == "rounds" {
-        Some(Mode::Rounds)
+fn command_named(word: &str) -> Option<Command>
+    ensures { result ≡ command_named word.now }
+{
+    if word == "run" {
+        Some(Command::Run)
+    } else if word == "mean" {
+        Some(Command::Mean)
+    } else if word == "check" {
+        Some(Command::Check)
+    } else if word == "compile" {
+        Some(Command::Compile)
+    } else if word == "dis" {
+        Some(Command::Dis)
+    } else if word == "upgrade" {
+        Some(Command::Upgrade)
+    } else if word == "dot" {
+        Some(Command::Dot)
     } else {
         None
     }
 }
 
-fn request_in(matches: &ArgMatches<'_>) -> Option<Request> {
-    match matches.subcommand() {
-        Some(("run", run)) => Some(Request::Run(RunOptions {
-            elements: run.get_one::<u64>("elements")?,
-            frames: run.get_one::<u64>("frames")?,
-            steps: run.get_one::<u64>("steps")?,
-            mode: mode_in(run.get_str("mode")?),
-        })),
-        Some(("check", _)) => Some(Request::Check),
-        Some(("compile", _)) => Some(Request::Compile),
-        Some(("dis", _)) => Some(Request::Dis),
-        Some(("upgrade", _)) => Some(Request::Upgrade),
-        Some(("mean", mean)) => Some(Request::Mean {
-            steps: mean.get_one::<u64>("steps")?,
-        }),
-        _ => None,
+/// What is asked for where no word is left.
+fn ended(command: Command, given: Given, waiting: Option<OptionName>) -> Asked
+    ensures { result ≡ ended command given waiting }
+{
+    match waiting {
+        None => Asked::Request(request_of(command, given)),
+        Some(_option) => Asked::Mistake,
     }
 }
 
-/// What the words of a command line ask for. The first word is the program's name.
-pub fn parse<S: AsStr>(alloc: Global, words: &[S]) -> Result<Request, Refusal> {
-    let command = program_command(alloc)?;
-    match command.try_get_matches_from(words) {
-        Ok(matches) => request_in(&matches).ok_or(Refusal::OutOfMemory),
-        Err(error) => {
-            if error.kind() == ErrorKind::OutOfMemory {
-                return Err(Refusal::OutOfMemory);
+/// What a command with these words after it asks for.
+fn read_options<S: AsStr>(command: Command, words: &[S]) -> Asked
+    ensures { result ≡ asked_of command nothing None (map S.text words.now) }
+{
+    let mut given = Given::nothing();
+    let mut waiting = None;
+    for (i, word) in words.iter().enumerate() {
+        match word_met(command, given, waiting, word.as_str()) {
+            Step::Next(more, waits) => {
+                given = more;
+                waiting = waits;
             }
-            Err(Refusal::Said {
-                text: format!(in alloc; "{error}")?,
-                is_mistake: error.use_stderr(),
-            })
+            Step::Help => return Asked::Help(Topic::Of(command)),
+            Step::End if i + 1 == words.len() => {
+                return Asked::Request(request_of(command, given));
+            }
+            Step::End => return Asked::Mistake,
+            Step::Mistake => return Asked::Mistake,
         }
+    }
+    ended(command, given, waiting)
+}
+
+fn topic_named(word: &str) -> Asked
+    ensures { result ≡ topic_named word.now }
+{
+    if word == "help" {
+        return Asked::Help(Topic::Help);
+    }
+    match command_named(word) {
+        Some(command) => Asked::Help(Topic::Of(command)),
+        None => Asked::Mistake,
     }
 }
 
-#[cfg(test)]
-mod tests {
-    use super::*;
-    use std::test::Fail;
-
-    #[test]
-    fn reads_words(rt: HostRuntime) -> Result<(), Fail> {
-        match parse(rt.alloc(), ["ets", "run", "--frames", "21"].as_slice()) {
-            Ok(Request::Run(options)) => {
-                assert_eq!(rt; options.elements, 1);
-                assert_eq!(rt; options.frames, 21);
-                assert_eq!(rt; options.steps, 1_000_000);
-                assert!(rt; options.mode == Some(Mode::One));
-            }
-            _ => assert!(rt; false, "run"),
-        }
-        for (word, mode) in [
-            ("one", Some(Mode::One)),
-            ("rounds", Some(Mode::Rounds)),
-            ("Rounds", None),
-            ("", None),
-        ] {
-            match parse(rt.alloc(), ["ets", "run", "--mode", word].as_slice()) {
-                Ok(Request::Run(options)) => assert!(rt; options.mode == mode, "{word}"),
-                _ => assert!(rt; false, "mode"),
-            }
-        }
-        assert!(rt;
-            matches!(
-                parse(rt.alloc(), ["ets", "check"].as_slice()),
-                Ok(Request::Check)
-            )
-        );
-        assert!(rt;
-            matches!(
-                parse(rt.alloc(), ["ets", "compile"].as_slice()),
-                Ok(Request::Compile)
-            )
-        );
-        assert!(rt;
-            matches!(
-                parse(rt.alloc(), ["ets", "dis"].as_slice()),
-                Ok(Request::Dis)
-            )
-        );
-        assert!(rt;
-            matches!(
-                parse(rt.alloc(), ["ets", "upgrade"].as_slice()),
-                Ok(Request::Upgrade)
-            )
-        );
-        assert!(rt;
-            matches!(
-                parse(rt.alloc(), ["ets", "mean", "--steps", "7"].as_slice()),
-                Ok(Request::Mean { steps: 7 })
-            )
-        );
-        Ok(())
+/// What the words after `help` ask for.
+fn read_topic<S: AsStr>(words: &[S]) -> Asked
+    ensures { result ≡ help_asked (map S.text words.now) }
+{
+    match words {
+        [] => Asked::Help(Topic::Program),
+        [word] => topic_named(word.as_str()),
+        _ => Asked::Mistake,
     }
+}
 
-    #[test]
-    fn refuses_words(rt: HostRuntime) -> Result<(), Fail> {
-        for words in [
-            ["ets", "run", "--frames"].as_slice(),
-            ["ets", "run", "--frames", "x"].as_slice(),
-            ["ets", "run", "--steps", "1", "--steps", "2"].as_slice(),
-            ["ets", "check", "more"].as_slice(),
-            ["ets", "dis", "more"].as_slice(),
-            ["ets", "walk"].as_slice(),
-            ["ets"].as_slice(),
-        ] {
-            match parse(rt.alloc(), words) {
-                Err(Refusal::Said { text, is_mistake }) => {
-                    assert!(rt; is_mistake);
-                    assert!(rt; text.len() > 10);
-                }
-                _ => assert!(rt; false, "refused"),
-            }
-        }
-        match parse(rt.alloc(), ["ets", "--help"].as_slice()) {
-            Err(Refusal::Said { text, is_mistake }) => {
-                assert!(rt; !is_mistake);
-                assert!(rt; text.contains("run"));
-            }
-            _ => assert!(rt; false, "help"),
-        }
-        Ok(())
+/// What words that begin with no command ask for.
+fn read_no_command<S: AsStr>(word: &str, rest: &[S]) -> Asked
+    ensures { result ≡ no_command_asked word.now (map S.text rest.now) }
+{
+    if word == "help" {
+        read_topic(rest)
+    } else if asks_help(word) {
+        Asked::Help(Topic::Program)
+    } else if asks_version(word) {
+        Asked::Version
+    } else {
+        Asked::Mistake
     }
+}
+
+/// What the words of a command line ask for, without the program's name. It takes no memory.
+pub fn read_words<S: AsStr>(words: &[S]) -> Asked
+    ensures { result ≡ asked (map S.text words.now) }
+{
+    let Some((word, rest)) = words.split_first() else {
+        return Asked::Mistake;
+    };
+    match command_named(word.as_str()) {
+        Some(command) => read_options(command, rest),
+        None => read_no_command(word.as_str(), rest),
+    }
+}
+
+/// The line of `--version`.
+pub fn version_line() -> &'static [u8]
+    ensures { result.now ≡ version_line }
+{
+    b"ets 0.1.0\n"
 }

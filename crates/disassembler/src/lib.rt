@@ -5,7 +5,8 @@ mod column;
 mod line;
 mod listing;
 
-pub use listing::list;
+pub use line::{list_operand, name_of, port_letter};
+pub use listing::{instr_in, list};
 
 #[cfg(test)]
 mod tests;

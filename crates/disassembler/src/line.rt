@@ -51,7 +51,7 @@ fn binary_word(op: Binary) -> &'static [u8]
 }
 
 /// The name of an operation.
-fn name_of(op: Op) -> &'static [u8]
+pub fn name_of(op: Op) -> &'static [u8]
     ensures { result.now ≡ name_of op }
 {
     match op {
@@ -130,7 +130,8 @@ fn list_slot<W: Write>(writer: &mut W, instr: &CodeInstr) -> io::Result<()>
     }
 }
 
-fn port_letter(port: Port) -> &'static [u8]
+/// The letter of a port.
+pub fn port_letter(port: Port) -> &'static [u8]
     ensures result { result.now ≡ port_letter port }
     ensures one { length result.now ≡ 1 }
 {
@@ -158,8 +159,8 @@ fn list_dest<W: Write>(writer: &mut W, dest: Option<Dest>) -> io::Result<()>
     }
 }
 
-/// An operand.
-fn list_operand<W: Write>(writer: &mut W, op: Op) -> io::Result<()>
+/// An operand, with the space before it.
+pub fn list_operand<W: Write>(writer: &mut W, op: Op) -> io::Result<()>
     ensures { Sends result (W.contents writer.old) (W.contents writer.new) (field (operand_text op)) }
 {
     let mut number = Buffer::new();

@@ -88,7 +88,7 @@ fn list_arrays<W: Write>(writer: &mut W, object: &Object<'_>) -> io::Result<()>
 }
 
 /// The instruction of that number in a block.
-fn instr_in(object: &Object<'_>, block: &BlockView, number: u32) -> Option<CodeInstr>
+pub fn instr_in(object: &Object<'_>, block: &BlockView, number: u32) -> Option<CodeInstr>
     ensures { (k : ℕ) → (b : CodeBlock) → IsBlockAt object.now.code.program k b block.now → number < length b.instrs → option_map shown result ≡ slice_get b.instrs number }
 {
     let Some(left) = object.instr_count().checked_sub(block.first) else {

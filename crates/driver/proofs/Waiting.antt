@@ -71,9 +71,9 @@ none_beyond fl x (t ∷ ts) past =
     let h = none_beyond fl x ts past in
     let cons = sum_by-cons (λ (t : Tagged). cond (waits_for fl x t.context t.statement t.value) 1 0) t ts in
     cons ∙ by_test (waits_for fl x t.context t.statement t.value) refl h where
-  by_test : (b : Bool) → waits_for fl x t.context t.statement t.value ≡ b → fetch_count fl x ts ≡ 0 → cond b 1 0 + fetch_count fl x ts ≡ 0
-  by_test true e h = let k = waits_within fl x t.context t.statement t.value e in omega (arith, k, past)
-  by_test false e h = omega (arith, h)
+      by_test : (b : Bool) → waits_for fl x t.context t.statement t.value ≡ b → fetch_count fl x ts ≡ 0 → cond b 1 0 + fetch_count fl x ts ≡ 0
+      by_test true e h = let k = waits_within fl x t.context t.statement t.value e in omega (arith, k, past)
+      by_test false e h = omega (arith, h)
 
 sum_same : (n : ℕ) (f g : ℕ → ℕ) → ((x : ℕ) → f x ≡ g x) → sum_below n f ≡ sum_below n g
 sum_same zero f g e = refl
@@ -103,7 +103,7 @@ pub deferred_are : (fl : Flow) (p : Program) (z : Size) (m : Machine) (r : Repor
 deferred_are fl p z m r s arrays pic readers =
     let all : array_base p (length p.arrays) ≡ sum fl.arrays = ap sum (take_all (length p.arrays) p.arrays (omega arith) ∙ arrays) in
     pic.deferred ∙ ap (λ n. sum_below n (λ x. reader_count (m.store.cells x))) all
-        ∙ sum_same (sum fl.arrays) (λ x. reader_count (m.store.cells x)) (λ x. fetch_count fl x s.tokens) readers
+    ∙ sum_same (sum fl.arrays) (λ x. reader_count (m.store.cells x)) (λ x. fetch_count fl x s.tokens) readers
 
 -- where it counts none, it shows no frame that is out
 pub no_frame_is_out : (fl : Flow) (p : Program) (z : Size) (m : Machine) (r : Report) (s : State) → p.arrays ≡ fl.arrays → IsPicture p z m r

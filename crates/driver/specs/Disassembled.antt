@@ -1,10 +1,11 @@
--- What is written of bytes that should be an object: its listing, or the same code as version 2.
+-- What is written of bytes that should be an object: its listing, its picture, or the same code as version 2.
 use Rattle.std.specs.Prelude.{◌≡◌, ◌++◌, ℕ, List, Option, Some, None, Result, Ok, Err, ⊤}
 use Rattle.std.specs.Io.KnownBytes.{Appends}
 use Rattle.object_view.specs.Reading.{opened}
 use Rattle.object_view.specs.Checks.{first_refusal}
 use Rattle.semantics.specs.Bytes.{bytes_of}
 use Rattle.disassembler.specs.Listing.{listing}
+use Rattle.dot.specs.CodeDot.{code_dot}
 use Rattle.driver.specs.declared.objects.ObjectRefusal.{ObjectRefusal}
 use Rattle.driver.specs.declared.objects.ObjectRefusal.TheVariants.{Object, Write}
 
@@ -19,6 +20,13 @@ Writes text (Err (Write e)) old new bytes = (first_refusal bytes ≡ None) × ((
 
 abbrev pub Disassembles : Result ⊤ ObjectRefusal → Option (List ℕ) → Option (List ℕ) → List ℕ → Type 0
 Disassembles = Writes listing_of
+
+-- the picture of the code
+abbrev pub picture_of : List ℕ → List ℕ
+picture_of bytes = code_dot (opened bytes).code.program
+
+abbrev pub Draws : Result ⊤ ObjectRefusal → Option (List ℕ) → Option (List ℕ) → List ℕ → Type 0
+Draws = Writes picture_of
 
 -- the one spelling of the code in version 2
 abbrev pub upgrade_of : List ℕ → List ℕ

@@ -1,6 +1,8 @@
 -- What the commands print, and the status of their exit.
-use Rattle.std.specs.Prelude.{◌≡◌, ℕ, ℤ, false, ◌⊎◌, List, ◌++◌, length, Option, Some, None, Result, Ok, Err, IfSome, codes}
+use Rattle.std.specs.Prelude.{◌≡◌, ℕ, ℤ, Bool, true, false, ◌⊎◌, List, ◌++◌, length, Option, Some, None, Result, Ok, Err, IfSome, codes}
+use Rattle.std.specs.Result.{result_unwrap_or}
 use Rattle.std.specs.Io.KnownBytes.{Appends}
+use Rattle.std.specs.declared.io.Error.{Error}
 use Rattle.tags.specs.declared.value.Value.{Value}
 use Rattle.semantics.specs.Graph.{Graph}
 use Rattle.semantics.specs.Text.{line}
@@ -12,14 +14,17 @@ use Rattle.oracle.specs.declared.report.Full.{Full}
 use Rattle.oracle.specs.Reporting.{IsMeant}
 use Rattle.object_view.specs.Checks.{first_refusal}
 use Rattle.object_view.specs.declared.fault.ObjectFault.{ObjectFault}
+use Rattle.dot.specs.GraphDot.{graph_dot}
 use Rattle.report_text.specs.ReportText.{report_text, meaning_text}
+use Rattle.command_line.specs.Words.{asked, version_line}
+use Rattle.command_line.specs.declared.Asked.{Asked}
 use Rattle.command_line.specs.declared.Mode.{Mode}
 use Rattle.command_line.specs.declared.Request.{Request}
 use Rattle.command_line.specs.declared.RunOptions.{RunOptions}
 use Rattle.driver.specs.declared.fault.Fault.{Fault}
 use Rattle.driver.specs.declared.input.InputFault.{InputFault}
 use Rattle.driver.specs.declared.refusal.Refusal.{Refusal}
-use Rattle.driver.specs.Disassembled.{listing_of, upgrade_of}
+use Rattle.driver.specs.Disassembled.{listing_of, picture_of, upgrade_of}
 use Rattle.driver.specs.Headline.{TellsQuietly}
 use Rattle.driver.specs.Input.{graph_length, integers_of}
 use Rattle.driver.specs.Refused.{IsGoodText, IsCompiled, IsReady, IsBadText, IsRefusedText, IsRefused, IsRefusedMeaning}
@@ -116,6 +121,16 @@ PrintsOf text result old new bytes =
     ((first_refusal bytes ≡ None) × Prints result old new (text bytes) 0)
     ⊎ ((fault : ObjectFault) × (first_refusal bytes ≡ Some fault) × Refuses result old new (Refusal.Object fault))
 
+-- DOT: the picture of a graph that is well formed, or of an object's code
+abbrev pub PrintsPicture : {E : Type 0} → Result ℕ E → Option (List ℕ) → Option (List ℕ) → List ℕ → Type 0
+PrintsPicture result old new text =
+    ((g : Graph) × IsGoodText text g × Prints result old new (graph_dot g) 0)
+    ⊎ ((f : Refusal) × IsTold (IsBadText text) f × Refuses result old new f)
+
+abbrev pub PrintsDot : {E : Type 0} → Result ℕ E → Option (List ℕ) → Option (List ℕ) → List ℕ → Bool → Type 0
+PrintsDot result old new input true = PrintsOf picture_of result old new input
+PrintsDot result old new input false = PrintsPicture result old new input
+
 -- ALL COMMANDS
 abbrev pub Answers : {E : Type 0} → Result ℕ E → Option (List ℕ) → Option (List ℕ) → List ℕ → Request → Type 0
 Answers result old new input Request.Check = PrintsCheck result old new input
@@ -124,9 +139,30 @@ Answers result old new input (Request.Run o) = PrintsRun result old new input o
 Answers result old new input Request.Dis = PrintsOf listing_of result old new input
 Answers result old new input Request.Upgrade = PrintsOf upgrade_of result old new input
 Answers result old new input (Request.Mean steps) = PrintsMeaning result old new input steps
+Answers result old new input (Request.Dot code) = PrintsDot result old new input code
 
 -- the input is all that the reader has
 abbrev pub ServesRequest : {E : Type 0} → Option (List ℕ) → Result ℕ E → Option (List ℕ) → Option (List ℕ) → Request → Type 0
 ServesRequest remaining result old new request =
     ((input : List ℕ) × IfSome remaining (λ xs. input ≡ xs) × Answers result old new input request)
     ⊎ ((fault : InputFault) × Refuses result old new (unread_as fault))
+
+-- ALL COMMAND LINES
+-- a text of the command line, which is not said here, and this status; or memory was refused
+abbrev pub Says : {E : Type 0} → Result ℕ E → Option (List ℕ) → Option (List ℕ) → ℕ → Type 0
+Says result old new status = ((text : List ℕ) × Prints result old new text status) ⊎ Refuses result old new Refusal.Memory
+
+abbrev pub ServesAsked : {E : Type 0} → Option (List ℕ) → Result ℕ E → Option (List ℕ) → Option (List ℕ) → Asked → Type 0
+ServesAsked remaining result old new (Asked.Request request) = ServesRequest remaining result old new request
+ServesAsked remaining result old new (Asked.Help topic) = Says result old new 0
+ServesAsked remaining result old new Asked.Version = Prints result old new version_line 0
+ServesAsked remaining result old new Asked.Mistake = Says result old new 1
+
+-- the words are those after the program's name
+abbrev pub ServesWords : {E : Type 0} → List (List ℕ) → Option (List ℕ) → Result ℕ E → Option (List ℕ) → Option (List ℕ) → Type 0
+ServesWords words remaining result old new = ServesAsked remaining result old new (asked words)
+
+-- the status of the process, which is 1 after a failed write
+abbrev pub Serves : List (List ℕ) → Option (List ℕ) → Option (List ℕ) → Option (List ℕ) → ℕ → Type 0
+Serves words remaining old new status =
+    (outcome : Result ℕ Error) × ServesWords words remaining outcome old new × (status ≡ result_unwrap_or outcome 1)

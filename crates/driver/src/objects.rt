@@ -1,8 +1,9 @@
 //! Object files as input.
 
-ghost use Rattle.driver.specs.Disassembled.{Disassembles, Upgrades};
+ghost use Rattle.driver.specs.Disassembled.{Disassembles, Draws, Upgrades};
 
 use disassembler::list;
+use dot::write_code_dot;
 use object_view::{Object, ObjectFault, upgrade};
 use std::io::{self, Write};
 
@@ -26,6 +27,20 @@ pub fn disassemble<W: Write>(bytes: &[u8], writer: &mut W) -> Result<(), ObjectR
     match list(&object, writer) {
         Ok(()) => Ok(()),
         Err(fault) => Err(ObjectRefusal::Write(fault)),
+    }
+}
+
+/// Writes the picture of the code of the object that the bytes are.
+pub fn draw_object<W: Write>(bytes: &[u8], writer: &mut W) -> Result<(), ObjectRefusal>
+    ensures { Draws result (W.contents writer.old) (W.contents writer.new) bytes.now }
+{
+    let object = match Object::open(bytes) {
+        Ok(object) => object,
+        Err(cause) => return Err(ObjectRefusal::Object(cause)),
+    };
+    match write_code_dot(&object, writer) {
+        Ok(()) => Ok(()),
+        Err(cause) => Err(ObjectRefusal::Write(cause)),
     }
 }
 

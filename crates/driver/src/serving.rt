@@ -1,23 +1,25 @@
 //! The program over a reader and a writer.
 
-ghost use Rattle.std.specs.Prelude.{◌≡◌, MatchResult, false};
-ghost use Rattle.driver.specs.Disassembled.{listing_of, upgrade_of};
-ghost use Rattle.driver.specs.Served.{config_of, IsRefusedLine, IsRunOf, IsNoRunOf, IsMeaningOf, IsNoMeaningOf, Refuses, PrintsRun, PrintsMeaning, PrintsCheck, PrintsObject, PrintsOf, Answers, ServesRequest};
+ghost use Rattle.std.specs.Prelude.{◌≡◌, MatchResult, drop, false, map};
+ghost use Rattle.driver.specs.Disassembled.{listing_of, picture_of, upgrade_of};
+ghost use Rattle.driver.specs.Served.{config_of, IsRefusedLine, IsRunOf, IsNoRunOf, IsMeaningOf, IsNoMeaningOf, Refuses, PrintsRun, PrintsMeaning, PrintsCheck, PrintsObject, PrintsOf, PrintsPicture, Prints, Answers, ServesRequest, Says, ServesAsked, ServesWords, Serves};
 
 use crate::compiling::{CompileRefusal, check_text, compile, write_object};
 use crate::emulation::{Emulated, run_text, start_text};
 use crate::input::{LinesFault, parse_integers, read_input, split_at_main};
 use crate::meaning::{Meant, mean_text};
-use crate::objects::{ObjectRefusal, disassemble, upgrade_object};
+use crate::objects::{ObjectRefusal, disassemble, draw_object, upgrade_object};
 use crate::refusal::Refusal;
 use crate::refusal_text::write_refusal;
 use crate::status::{status_of, status_of_meaning};
-use command_line::{Request, RunOptions, parse};
+use command_line::{Asked, Request, RunOptions, read_words, version_line};
+use command_texts::{help_text, mistake_text};
+use dot::write_graph_dot;
 use report_text::{write_meaning, write_report};
 use rounds::Gate;
 use schedule::config::{Config, StartFault};
 use sink::send;
-use std::alloc::{Allocator, Global};
+use std::alloc::{AllocError, Allocator, Global};
 use std::convert::AsStr;
 use std::io::{self, Read, Write};
 use std::sync::Wait;
@@ -215,6 +217,34 @@ pub fn print_upgrade<W: Write>(bytes: &[u8], writer: &mut W) -> io::Result<u8>
     }
 }
 
+/// Prints the picture of the graph that the text has, or what is wrong with it. Gives the exit status.
+pub fn print_graph_picture<A: Allocator + Clone, W: Write>(
+    alloc: A,
+    text: &[u8],
+    writer: &mut W,
+) -> io::Result<u8>
+    ensures { PrintsPicture result (W.contents writer.old) (W.contents writer.new) text.now }
+{
+    match check_text(alloc, text) {
+        Ok(checked) => match write_graph_dot(checked.graph(), writer) {
+            Ok(()) => Ok(0),
+            Err(fault) => Err(fault),
+        },
+        Err(fault) => refuse(writer, &Refusal::from(fault)),
+    }
+}
+
+/// Prints the picture of the code of the object that the bytes are, or why they are none. Gives the exit status.
+pub fn print_code_picture<W: Write>(bytes: &[u8], writer: &mut W) -> io::Result<u8>
+    ensures { PrintsOf picture_of result (W.contents writer.old) (W.contents writer.new) bytes.now }
+{
+    match draw_object(bytes, writer) {
+        Ok(()) => Ok(0),
+        Err(ObjectRefusal::Object(fault)) => refuse(writer, &Refusal::Object(fault)),
+        Err(ObjectRefusal::Write(fault)) => Err(fault),
+    }
+}
+
 /// All that the reader has, printed on by what the words of the command line ask for.
 fn answer<R: Threads + Wait + Sync, A: Allocator + Clone + Send + Sync, G: Gate + Sync, W: Write>(
     request: &Request,
@@ -234,6 +264,8 @@ fn answer<R: Threads + Wait + Sync, A: Allocator + Clone + Send + Sync, G: Gate 
         Request::Upgrade => print_upgrade(input, writer),
         Request::Run(options) => print_run(alloc, input, options, writer, rt, gate),
         Request::Mean { steps } => print_meaning(alloc, input, *steps, writer),
+        Request::Dot { code: true } => print_code_picture(input, writer),
+        Request::Dot { code: false } => print_graph_picture(alloc, input, writer),
     }
 }
 
@@ -257,8 +289,82 @@ pub fn serve_request<
     }
 }
 
-/// Prints what the words of the command line ask for.
-fn serve_words<
+/// What is printed where there is no other text for a fault of the command line.
+const NO_TEXT: &[u8] = b"error: unknown command line\n";
+
+/// Prints the text, and gives the status.
+fn print_text<W: Write>(writer: &mut W, text: &[u8], status: u8) -> io::Result<u8>
+    ensures { Prints result (W.contents writer.old) (W.contents writer.new) text.now status }
+{
+    match send(writer, text) {
+        Ok(()) => Ok(status),
+        Err(fault) => Err(fault),
+    }
+}
+
+/// Prints the text of a command line that is no request, and gives the status.
+fn say<W: Write>(
+    writer: &mut W,
+    text: Result<Option<String>, AllocError>,
+    status: u8,
+) -> io::Result<u8>
+    ensures { Says result (W.contents writer.old) (W.contents writer.new) status }
+{
+    match text {
+        Ok(Some(text)) => print_text(writer, text.as_bytes(), status),
+        Ok(None) => print_text(writer, NO_TEXT, status),
+        Err(_refused) => refuse(writer, &Refusal::Memory),
+    }
+}
+
+/// The words without the program's name.
+fn arguments_of<S>(words: &[S]) -> &[S]
+    ensures { result.now ≡ drop 1 words.now }
+{
+    match words.split_first() {
+        Some((_program, arguments)) => arguments,
+        None => words,
+    }
+}
+
+fn program_of<S: AsStr>(words: &[S]) -> &str {
+    match words.first() {
+        Some(program) => program.as_str(),
+        None => "ets",
+    }
+}
+
+/// Prints what is asked for, or the text of a command line that is no request. Gives the exit status.
+fn serve_asked<
+    R: Threads + Wait + Sync,
+    A: Allocator + Clone + Send + Sync,
+    G: Gate + Sync,
+    S: AsStr,
+    I: Read,
+    W: Write,
+>(
+    asked: &Asked,
+    words: &[S],
+    reader: &mut I,
+    writer: &mut W,
+    alloc: A,
+    global: Global,
+    rt: &R,
+    gate: &G,
+) -> io::Result<u8>
+    requires { G.may_stop ≡ false }
+    ensures { ServesAsked (I.remaining reader.old) result (W.contents writer.old) (W.contents writer.new) asked.now }
+{
+    match asked {
+        Asked::Request(request) => serve_request(request, reader, writer, alloc, rt, gate),
+        Asked::Help(topic) => say(writer, help_text(global, program_of(words), *topic), 0),
+        Asked::Version => print_text(writer, version_line(), 0),
+        Asked::Mistake => say(writer, mistake_text(global, words), REFUSED),
+    }
+}
+
+/// Prints what the words of the command line ask for. Gives the exit status.
+pub fn serve_words<
     R: Threads + Wait + Sync,
     A: Allocator + Clone + Send + Sync,
     G: Gate + Sync,
@@ -275,15 +381,10 @@ fn serve_words<
     gate: &G,
 ) -> io::Result<u8>
     requires { G.may_stop ≡ false }
+    ensures { ServesWords (map S.text (drop 1 words.now)) (I.remaining reader.old) result (W.contents writer.old) (W.contents writer.new) }
 {
-    match parse(global, words) {
-        Ok(request) => serve_request(&request, reader, writer, alloc, rt, gate),
-        Err(command_line::Refusal::Said { text, is_mistake }) => {
-            send(writer, text.as_bytes())?;
-            Ok(if is_mistake { REFUSED } else { 0 })
-        }
-        Err(command_line::Refusal::OutOfMemory) => refuse(writer, &Refusal::Memory),
-    }
+    let asked = read_words(arguments_of(words));
+    serve_asked(&asked, words, reader, writer, alloc, global, rt, gate)
 }
 
 /// The whole program over a reader and a writer: `words` are those of the command line, the program's name first. The elements
@@ -298,6 +399,7 @@ pub fn serve<
     W: Write,
 >(words: &[S], reader: &mut I, writer: &mut W, alloc: A, global: Global, rt: &R, gate: &G) -> u8
     requires { G.may_stop ≡ false }
+    ensures { Serves (map S.text (drop 1 words.now)) (I.remaining reader.old) (W.contents writer.old) (W.contents writer.new) result }
 {
     serve_words(words, reader, writer, alloc, global, rt, gate).unwrap_or(REFUSED)
 }

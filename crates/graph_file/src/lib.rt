@@ -14,4 +14,4 @@ pub use fault::{ReadFault, ReadFaultKind};
 pub use fields::literal;
 pub use parts::Parts;
 pub use reading::read;
-pub use writing::write;
+pub use writing::{send_kind, write};

@@ -86,7 +86,7 @@ fn binary_word(op: Binary) -> &'static [u8]
 }
 
 /// What a node does, up to its sources, with the space before it.
-fn send_kind<W: Write>(writer: &mut W, kind: &Kind<Name<'_>>) -> io::Result<()>
+pub fn send_kind<W: Write>(writer: &mut W, kind: &Kind<Name<'_>>) -> io::Result<()>
     ensures { Sends result (W.contents writer.old) (W.contents writer.new) (field (kind_text kind.now)) }
 {
     let mut number = Buffer::new();

@@ -1,0 +1,2 @@
+pub mod WordForms
+pub mod Walks

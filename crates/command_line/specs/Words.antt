@@ -1,0 +1,204 @@
+-- Which request the words of a command line are. The words are the arguments after the program's name, each a list of bytes.
+use Rattle.std.specs.Prelude.{ℕ, ◌==◌, ◌&&◌, ◌||◌, ◌^◌, Bool, true, false, is_some, nat_lt, List, [], ◌∷◌, ◌++◌, length, if◌then◌else◌, Option, Some, None, option_map, option_and_then, unwrap_or, codes}
+use Rattle.std.specs.Option.{option_map_or}
+use Rattle.std.specs.Char.{digit_value}
+use Rattle.std.specs.List.{list_all, list_any, before_first, after_first}
+use Rattle.std.specs.Str.{bytes_eq}
+use Rattle.std.specs.Str.Parse.{digits_value, without_leading_plus}
+use Rattle.command_line.specs.declared.Asked.{Asked}
+use Rattle.command_line.specs.declared.Command.{Command}
+use Rattle.command_line.specs.declared.Mode.{Mode}
+use Rattle.command_line.specs.declared.Request.{Request}
+use Rattle.command_line.specs.declared.Topic.{Topic}
+use Rattle.command_line.specs.declared.options.Given.{Given}
+use Rattle.command_line.specs.declared.options.OptionName.{OptionName}
+use Rattle.command_line.specs.declared.options.Step.{Step}
+
+abbrev pub Text : Type 0
+Text = List ℕ
+
+-- THE TABLE: the commands, the options, and which command takes which
+abbrev pub command_named : Text → Option Command
+command_named word =
+    if bytes_eq word (codes "run") then Some Command.Run
+    else (if bytes_eq word (codes "mean") then Some Command.Mean
+    else (if bytes_eq word (codes "check") then Some Command.Check
+    else (if bytes_eq word (codes "compile") then Some Command.Compile
+    else (if bytes_eq word (codes "dis") then Some Command.Dis
+    else (if bytes_eq word (codes "upgrade") then Some Command.Upgrade
+    else (if bytes_eq word (codes "dot") then Some Command.Dot
+    else None))))))
+
+abbrev pub option_named : Text → Option OptionName
+option_named name =
+    if bytes_eq name (codes "elements") then Some OptionName.Elements
+    else (if bytes_eq name (codes "frames") then Some OptionName.Frames
+    else (if bytes_eq name (codes "steps") then Some OptionName.Steps
+    else (if bytes_eq name (codes "mode") then Some OptionName.Mode
+    else (if bytes_eq name (codes "code") then Some OptionName.Code
+    else None))))
+
+abbrev pub takes : Command → OptionName → Bool
+takes Command.Run OptionName.Code = false
+takes Command.Run o = true
+takes Command.Mean OptionName.Steps = true
+takes Command.Dot OptionName.Code = true
+takes c o = false
+
+-- the request of a command with these options: what was not given has its default
+abbrev pub request_of : Command → Given → Request
+request_of Command.Run g = Request.Run (record {
+  elements = unwrap_or g.elements 1;
+  frames = unwrap_or g.frames 256;
+  steps = unwrap_or g.steps 1000000;
+  mode = unwrap_or g.mode (Some Mode.One);
+})
+request_of Command.Mean g = Request.Mean (unwrap_or g.steps 1000000)
+request_of Command.Check g = Request.Check
+request_of Command.Compile g = Request.Compile
+request_of Command.Dis g = Request.Dis
+request_of Command.Upgrade g = Request.Upgrade
+request_of Command.Dot g = Request.Dot g.code
+
+-- VALUES: a number is one decimal digit or more, below 2 ^ 64; a `+` (43) may stand first
+abbrev pub is_numeral : Text → Bool
+is_numeral ds = nat_lt 0 (length ds) && list_all (λ d. nat_lt (digit_value d) 10) ds
+
+abbrev pub number_of : Text → Option ℕ
+number_of text =
+    let ds = without_leading_plus text in
+    if is_numeral ds && nat_lt (digits_value 10 ds) (2 ^ 64) then Some (digits_value 10 ds) else None
+
+-- each word is a mode's or that of no mode
+abbrev pub mode_named : Text → Option Mode
+mode_named word =
+    if bytes_eq word (codes "one") then Some Mode.One
+    else (if bytes_eq word (codes "rounds") then Some Mode.Rounds else None)
+
+-- what was given, with this option too: none where the value is no value of it, or it was given before
+abbrev pub first_number : Option ℕ → Text → Option ℕ
+first_number (Some before) value = None
+first_number None value = number_of value
+
+abbrev pub with_mode : Given → Option (Option Mode) → Text → Option Given
+with_mode g (Some before) value = None
+with_mode g None value = Some (record g { mode = Some (mode_named value) })
+
+abbrev pub with_option : Given → OptionName → Text → Option Given
+with_option g OptionName.Elements value = option_map (λ n. record g { elements = Some n }) (first_number g.elements value)
+with_option g OptionName.Frames value = option_map (λ n. record g { frames = Some n }) (first_number g.frames value)
+with_option g OptionName.Steps value = option_map (λ n. record g { steps = Some n }) (first_number g.steps value)
+with_option g OptionName.Mode value = with_mode g g.mode value
+with_option g OptionName.Code value = None
+
+-- FORMS OF A WORD
+-- what follows a first byte c
+abbrev pub after : ℕ → Text → Option Text
+after c [] = None
+after c (x ∷ xs) = if x == c then Some xs else None
+
+-- `-` (45) and at least one byte more
+abbrev pub is_flag : Text → Bool
+is_flag word = option_map_or (λ rest. nat_lt 0 (length rest)) (after 45 word) false
+
+-- `-c`, and whatever follows it
+abbrev pub is_short : ℕ → Text → Bool
+is_short c word = is_some (option_and_then (after c) (after 45 word))
+
+-- `--help` or `-h` (104); `--version` or `-V` (86)
+abbrev pub asks_help : Text → Bool
+asks_help word = bytes_eq word (codes "--help") || is_short 104 word
+
+abbrev pub asks_version : Text → Bool
+asks_version word = bytes_eq word (codes "--version") || is_short 86 word
+
+-- NAME, or NAME and VALUE with the first `=` (61) between
+abbrev pub name_and_value : Text → Text × Option Text
+name_and_value text = (
+  before_first (λ x. x == 61) text,
+  if list_any (λ x. x == 61) text then Some (after_first (λ x. x == 61) text) else None,
+)
+
+-- `--NAME` or `--NAME=VALUE`
+abbrev pub long_of : Text → Option (Text × Option Text)
+long_of word = option_map name_and_value (option_and_then (after 45) (after 45 word))
+
+-- ONE WORD AFTER A COMMAND, where this was given before it
+abbrev pub valued : Given → OptionName → Text → Step
+valued g o value = option_map_or (λ more. Step.Next more None) (with_option g o value) Step.Mistake
+
+-- `code` has no value, and may be given once; each other option waits for the next word
+abbrev pub without_value : Given → OptionName → Step
+without_value g OptionName.Code = if g.code then Step.Mistake else Step.Next (record g { code = true }) None
+without_value g o = Step.Next g (Some o)
+
+-- the option has its value behind `=`, or none there
+abbrev pub named : Given → OptionName → Option Text → Step
+named g o (Some value) = valued g o value
+named g o None = without_value g o
+
+abbrev pub option_met : Command → Given → Text → Option Text → Step
+option_met c g name value =
+    option_map_or (λ o. if takes c o then named g o value else Step.Mistake) (option_named name) Step.Mistake
+
+abbrev pub flag_met : Command → Given → Text → Step
+flag_met c g word =
+    if bytes_eq word (codes "--") then Step.End
+    else (if asks_help word then Step.Help
+    else option_map_or (λ p. option_met c g p.0 p.1) (long_of word) Step.Mistake)
+
+-- the value of an option that waits is no flag
+abbrev pub word_met : Command → Given → Option OptionName → Text → Step
+word_met c g None word = flag_met c g word
+word_met c g (Some o) word = if is_flag word then Step.Mistake else valued g o word
+
+-- ALL WORDS AFTER A COMMAND
+-- no word is left: a request, unless an option waits
+abbrev pub ended : Command → Given → Option OptionName → Asked
+ended c g None = Asked.Request (request_of c g)
+ended c g (Some o) = Asked.Mistake
+
+-- `--` may be the last word
+abbrev pub after_step : Command → Given → Step → List Text → (Given → Option OptionName → Asked) → Asked
+after_step c g (Step.Next more waiting) rest go = go more waiting
+after_step c g Step.Help rest go = Asked.Help (Topic.Of c)
+after_step c g Step.End [] go = Asked.Request (request_of c g)
+after_step c g Step.End (word ∷ rest) go = Asked.Mistake
+after_step c g Step.Mistake rest go = Asked.Mistake
+
+-- the options so far, and the one that waits for its value
+unfoldable pub asked_of : Command → Given → Option OptionName → List Text → Asked
+asked_of c g waiting [] = ended c g waiting
+asked_of c g waiting (word ∷ rest) =
+    after_step c g (word_met c g waiting word) rest (λ more waits. asked_of c more waits rest)
+
+abbrev pub nothing : Given
+nothing = record { elements = None; frames = None; steps = None; mode = None; code = false }
+
+-- ALL WORDS
+-- `help`, `help COMMAND` and `help help`
+abbrev pub topic_named : Text → Asked
+topic_named word =
+    if bytes_eq word (codes "help") then Asked.Help Topic.Help
+    else option_map_or (λ c. Asked.Help (Topic.Of c)) (command_named word) Asked.Mistake
+
+abbrev pub help_asked : List Text → Asked
+help_asked [] = Asked.Help Topic.Program
+help_asked (word ∷ []) = topic_named word
+help_asked (word ∷ more ∷ rest) = Asked.Mistake
+
+abbrev pub no_command_asked : Text → List Text → Asked
+no_command_asked word rest =
+    if bytes_eq word (codes "help") then help_asked rest
+    else (if asks_help word then Asked.Help Topic.Program
+    else (if asks_version word then Asked.Version
+    else Asked.Mistake))
+
+abbrev pub asked : List Text → Asked
+asked [] = Asked.Mistake
+asked (word ∷ rest) =
+    option_map_or (λ c. asked_of c nothing None rest) (command_named word) (no_command_asked word rest)
+
+-- what `--version` prints
+abbrev pub version_line : Text
+version_line = codes "ets 0.1.0" ++ 10 ∷ []

@@ -1,0 +1,2 @@
+pub mod GraphDot
+pub mod CodeDot

@@ -1,0 +1,158 @@
+//! Whether two readings of a command line agree.
+
+use clap::ArgMatches;
+use clap::error::ErrorKind;
+use command_line::{Asked, Mode, Request, RunOptions, read_words, version_line};
+use command_texts::{help_text, mistake_text, program_command};
+use std::alloc::Global;
+use std::fmt;
+
+/// How many lists of words ask for what.
+#[derive(Debug, Drop)]
+pub struct Tally {
+    requests: u64,
+    helps: u64,
+    versions: u64,
+    mistakes: u64,
+    /// Lists of which the two readings differ, or the two texts.
+    differing: u64,
+}
+
+/// What both readings say of a list of words.
+#[derive(Clone, Copy, Debug, PartialEq, Eq)]
+pub enum Agreed {
+    Request,
+    Help,
+    Version,
+    Mistake,
+    Differing,
+}
+
+impl Tally {
+    pub fn new() -> Tally {
+        Tally {
+            requests: 0,
+            helps: 0,
+            versions: 0,
+            mistakes: 0,
+            differing: 0,
+        }
+    }
+
+    pub fn add(&mut self, agreed: Agreed) {
+        let count = match agreed {
+            Agreed::Request => &mut self.requests,
+            Agreed::Help => &mut self.helps,
+            Agreed::Version => &mut self.versions,
+            Agreed::Mistake => &mut self.mistakes,
+            Agreed::Differing => &mut self.differing,
+        };
+        *count = count.saturating_add(1);
+    }
+}
+
+impl fmt::Display for Tally {
+    fn fmt<W: fmt::Write>(&self, f: &mut fmt::Formatter<W>) -> fmt::Result {
+        write!(
+            f,
+            "{} requests, {} of help, {} of the version, {} mistakes, {} differ",
+            self.requests, self.helps, self.versions, self.mistakes, self.differing
+        )
+    }
+}
+
+fn mode_in(word: &str) -> Option<Mode> {
+    if word == "one" {
+        Some(Mode::One)
+    } else if word == "rounds" {
+        Some(Mode::Rounds)
+    } else {
+        None
+    }
+}
+
+/// The request that `clap` reads.
+fn request_in(matches: &ArgMatches<'_>) -> Option<Request> {
+    match matches.subcommand() {
+        Some(("run", run)) => Some(Request::Run(RunOptions {
+            elements: run.get_one::<u64>("elements")?,
+            frames: run.get_one::<u64>("frames")?,
+            steps: run.get_one::<u64>("steps")?,
+            mode: mode_in(run.get_str("mode")?),
+        })),
+        Some(("check", _)) => Some(Request::Check),
+        Some(("compile", _)) => Some(Request::Compile),
+        Some(("dis", _)) => Some(Request::Dis),
+        Some(("upgrade", _)) => Some(Request::Upgrade),
+        Some(("mean", mean)) => Some(Request::Mean {
+            steps: mean.get_one::<u64>("steps")?,
+        }),
+        Some(("dot", dot)) => Some(Request::Dot {
+            code: dot.get_flag("code"),
+        }),
+        _ => None,
+    }
+}
+
+fn is_same(a: &Request, b: &Request) -> bool {
+    match (a, b) {
+        (Request::Run(a), Request::Run(b)) => {
+            a.elements == b.elements
+                && a.frames == b.frames
+                && a.steps == b.steps
+                && a.mode == b.mode
+        }
+        (Request::Mean { steps: a }, Request::Mean { steps: b }) => *a == *b,
+        (Request::Dot { code: a }, Request::Dot { code: b }) => *a == *b,
+        (Request::Check, Request::Check) => true,
+        (Request::Compile, Request::Compile) => true,
+        (Request::Dis, Request::Dis) => true,
+        (Request::Upgrade, Request::Upgrade) => true,
+        _ => false,
+    }
+}
+
+fn is_text(text: &Option<String>, bytes: &[u8]) -> bool {
+    match text {
+        Some(text) => text.as_bytes() == bytes,
+        None => false,
+    }
+}
+
+fn agreed_if(agrees: bool, agreed: Agreed) -> Agreed {
+    if agrees { agreed } else { Agreed::Differing }
+}
+
+/// What both readings say of the words, of which the program's name is the first. Of help, the version and a mistake the texts
+/// have to agree too.
+pub fn agree_on(alloc: Global, words: &[&str]) -> anyhow::Result<Agreed> {
+    let asked = read_words(words.get(1..).unwrap_or(&[]));
+    let error = match program_command(alloc)?.try_get_matches_from(words) {
+        Ok(matches) => {
+            let agrees = match (&asked, request_in(&matches)) {
+                (Asked::Request(ours), Some(other)) => is_same(ours, &other),
+                _ => false,
+            };
+            return Ok(agreed_if(agrees, Agreed::Request));
+        }
+        Err(error) => error,
+    };
+    let text = format!(in alloc; "{error}")?;
+    let bytes = text.as_bytes();
+    Ok(match asked {
+        Asked::Request(_request) => Agreed::Differing,
+        Asked::Help(topic) => agreed_if(
+            error.kind() == ErrorKind::DisplayHelp
+                && is_text(&help_text(alloc, "ets", topic)?, bytes),
+            Agreed::Help,
+        ),
+        Asked::Version => agreed_if(
+            error.kind() == ErrorKind::DisplayVersion && version_line() == bytes,
+            Agreed::Version,
+        ),
+        Asked::Mistake => agreed_if(
+            error.use_stderr() && is_text(&mistake_text(alloc, words)?, bytes),
+            Agreed::Mistake,
+        ),
+    })
+}

@@ -1,0 +1,283 @@
+//! Thousands of command lines: `clap`, with the command line as it stands in `command_texts`, and `read_words` have to agree on
+//! what each asks for, with all its values, and on its text. Then some texts whole, which `stdout` has to have.
+#![tactic(auto)]
+
+mod agreement;
+
+use agreement::{Tally, agree_on};
+use command_line::{Asked, read_words};
+use command_texts::{help_text, mistake_text};
+use std::alloc::Global;
+
+/// What may stand after `ets`: units of one word or more, with a space between.
+const FIRST: [&str; 34] = [
+    "run",
+    "mean",
+    "check",
+    "compile",
+    "dis",
+    "upgrade",
+    "help",
+    "-h",
+    "--help",
+    "-V",
+    "--version",
+    "--help=x",
+    "--version=x",
+    "-hx",
+    "-Vx",
+    "-xh",
+    "-x",
+    "--",
+    "-",
+    "",
+    "ru",
+    "RUN",
+    "runs",
+    "--elements",
+    "--elements=4",
+    "--steps 7",
+    "4",
+    "-4",
+    "--hel",
+    "--vers",
+    "--run",
+    "help run",
+    "run --frames 21",
+    "hé",
+];
+
+/// What may stand after `run`.
+const OPTIONS: [&str; 23] = [
+    "--elements",
+    "--elements 4",
+    "--elements=4",
+    "--frames=21",
+    "--steps",
+    "7",
+    "--mode rounds",
+    "--mode=one",
+    "--mode=",
+    "--mode=x=y",
+    "--elements=",
+    "--steps=+7",
+    "--",
+    "-",
+    "-h",
+    "--help",
+    "-V",
+    "--version",
+    "-4",
+    "--elem=4",
+    "--help=x",
+    "x",
+    "",
+];
+
+/// Options with their values, to be given in any order, and some that are refused.
+const VALUES: [&str; 10] = [
+    "--elements 4",
+    "--elements=16",
+    "--frames 21",
+    "--frames=0",
+    "--steps 18446744073709551615",
+    "--steps=1000000",
+    "--mode rounds",
+    "--mode=Rounds",
+    "--",
+    "--help",
+];
+
+/// Words of which all short lists are tried.
+const WORDS: [&str; 8] = [
+    "--elements",
+    "--elements=4",
+    "4",
+    "--frames 21",
+    "--",
+    "-h",
+    "--mode",
+    "rounds",
+];
+
+/// Words for a number.
+const NUMBERS: [&str; 26] = [
+    "0",
+    "1",
+    "16",
+    "007",
+    "+4",
+    "+",
+    "++4",
+    "-4",
+    "-0",
+    "4.0",
+    "4e3",
+    "0x10",
+    " 4",
+    "4 ",
+    "4_0",
+    "18446744073709551615",
+    "18446744073709551616",
+    "+18446744073709551615",
+    "00000000000000000000000018446744073709551615",
+    "99999999999999999999999",
+    "one",
+    "",
+    "-",
+    "--",
+    "--help",
+    "é",
+];
+
+/// Commands without options.
+const LEAVES: [&str; 5] = [
+    "ets check",
+    "ets compile",
+    "ets dis",
+    "ets upgrade",
+    "ets help",
+];
+
+/// Command lines of which the text is printed whole.
+const TEXTS: [&str; 20] = [
+    "ets",
+    "ets --help",
+    "ets help help",
+    "ets run --help",
+    "ets mean --help",
+    "ets check --help",
+    "ets compile --help",
+    "ets dis --help",
+    "ets upgrade --help",
+    "ets walk",
+    "ets rn",
+    "ets help walk",
+    "ets run --frame 4",
+    "ets run --elements x",
+    "ets run --steps=18446744073709551616",
+    "ets run --elements",
+    "ets run --elements 1 --elements=2",
+    "ets check more",
+    "ets run -- more",
+    "ets run -4",
+];
+
+fn try_lists<'a>(
+    tally: &mut Tally,
+    alloc: Global,
+    units: &[&'a str],
+    words: &mut Vec<&'a str>,
+    more: u8,
+) -> anyhow::Result<()> {
+    tally.add(agree_on(alloc, words.as_slice())?);
+    if more == 0 {
+        return Ok(());
+    }
+    for unit in units {
+        let before = words.len();
+        for word in unit.split(' ') {
+            words.push(word)?;
+        }
+        try_lists(tally, alloc, units, words, more - 1)?;
+        words.truncate(before);
+    }
+    Ok(())
+}
+
+fn words_of<'a>(alloc: Global, line: &'a str) -> anyhow::Result<Vec<&'a str>> {
+    let mut words = Vec::new(alloc);
+    for word in line.split(' ') {
+        words.push(word)?;
+    }
+    Ok(words)
+}
+
+/// All lists of so many units at most after the words of the front.
+fn try_after<'a>(
+    alloc: Global,
+    front: &'a str,
+    units: &[&'a str],
+    more: u8,
+) -> anyhow::Result<Tally> {
+    let mut words = words_of(alloc, front)?;
+    let mut tally = Tally::new();
+    try_lists(&mut tally, alloc, units, &mut words, more)?;
+    Ok(tally)
+}
+
+fn try_none(alloc: Global) -> anyhow::Result<Tally> {
+    let mut tally = Tally::new();
+    tally.add(agree_on(alloc, &[])?);
+    Ok(tally)
+}
+
+fn try_number(tally: &mut Tally, alloc: Global, number: &str) -> anyhow::Result<()> {
+    let joined = format!(in alloc; "--steps={number}")?;
+    for command in ["run", "mean", "check"] {
+        let mut words = Vec::new(alloc);
+        words.push("ets")?;
+        words.push(command)?;
+        words.push(joined.as_str())?;
+        tally.add(agree_on(alloc, words.as_slice())?);
+        words.truncate(2);
+        words.push("--steps")?;
+        words.push(number)?;
+        tally.add(agree_on(alloc, words.as_slice())?);
+    }
+    Ok(())
+}
+
+fn try_numbers(alloc: Global) -> anyhow::Result<Tally> {
+    let mut tally = Tally::new();
+    for number in NUMBERS {
+        try_number(&mut tally, alloc, number)?;
+    }
+    Ok(tally)
+}
+
+/// The text of what is no request.
+fn text_of(alloc: Global, words: &[&str]) -> anyhow::Result<Option<String>> {
+    Ok(match read_words(words.get(1..).unwrap_or(&[])) {
+        Asked::Request(_request) => None,
+        Asked::Version => None,
+        Asked::Help(topic) => help_text(alloc, "ets", topic)?,
+        Asked::Mistake => mistake_text(alloc, words)?,
+    })
+}
+
+fn print_text(rt: &HostRuntime, line: &str) -> anyhow::Result<()> {
+    println!(rt; "== {line} ==")?;
+    let words = words_of(rt.alloc(), line)?;
+    match text_of(rt.alloc(), words.as_slice())? {
+        Some(text) => print!(rt; "{text}")?,
+        None => println!(rt; "no text")?,
+    }
+    Ok(())
+}
+
+fn main(rt: HostRuntime) -> anyhow::Result<()> {
+    let alloc = rt.alloc();
+    let first = FIRST.as_slice();
+    let options = OPTIONS.as_slice();
+    println!(rt; "no words: {}", try_none(alloc)?)?;
+    println!(rt; "ets: {}", try_after(alloc, "ets", first, 2)?)?;
+    println!(rt; "ets run: {}", try_after(alloc, "ets run", options, 2)?)?;
+    println!(rt;
+        "ets run, values: {}",
+        try_after(alloc, "ets run", VALUES.as_slice(), 3)?
+    )?;
+    println!(rt;
+        "ets run, words: {}",
+        try_after(alloc, "ets run", WORDS.as_slice(), 4)?
+    )?;
+    println!(rt; "ets mean: {}", try_after(alloc, "ets mean", options, 2)?)?;
+    for command in LEAVES {
+        println!(rt; "{command}: {}", try_after(alloc, command, options, 1)?)?;
+    }
+    println!(rt; "numbers: {}", try_numbers(alloc)?)?;
+    for line in TEXTS {
+        print_text(&rt, line)?;
+    }
+    Ok(())
+}
