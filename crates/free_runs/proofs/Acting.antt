@@ -1,10 +1,9 @@
 -- The law of one event, from a step of a lane; and events of different elements.
-use Rattle.std.proofs.Common.{◌≡◌, sym, ◌∙◌, subst, ℕ, ◌*◌, [], ◌++◌, List}
+use Rattle.std.proofs.Common.{◌≡◌, sym, ◌∙◌, subst, ◌*◌, [], ◌++◌, List}
 use Rattle.std.proofs.lemmas.List.Sorted.{IsPermutation-refl}
 use Rattle.tags.specs.declared.token.Token.{Token}
-use Rattle.semantics.specs.Machine.{Machine, Store, Happens}
-use Rattle.element.specs.Parts.{Part, IsPart, SameElsewhere}
-use Rattle.element.specs.Steps.{Does, IsAfter}
+use Rattle.semantics.specs.Machine.{Machine, Happens}
+use Rattle.element.specs.Steps.{IsAfter}
 use Rattle.element.proofs.Opening.{others_stay}
 use Rattle.free_runs.specs.Laws.{StepsAct, ActsCommute}
 

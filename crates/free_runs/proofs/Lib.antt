@@ -1,3 +1,5 @@
 pub mod Acting
 pub mod Running
 pub mod Showing
+pub mod Reordering
+pub mod Balancing

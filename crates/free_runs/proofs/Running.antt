@@ -1,11 +1,10 @@
 -- A legal history of blocks is one run of the machine.
 use Rattle.std.proofs.Common.{◌≡◌, ◌≢◌, refl, sym, ◌∙◌, ap, subst, ℕ, ◌*◌, ◌<◌, Bool, true, false, List, [], ◌∷◌, ◌++◌, append_assoc}
-use Rattle.std.specs.Prelude.{All, IsPermutation, ◌==◌, if◌then◌else◌, map, sum}
+use Rattle.std.specs.Prelude.{All, IsPermutation, ◌==◌, if◌then◌else◌, map}
 use Rattle.std.proofs.lemmas.Bool.{ne_eqb, eq-eqb, eqb-true, eqb-false}
 use Rattle.std.proofs.lemmas.List.Elements.{All-append, All-head, All-tail}
-use Rattle.std.proofs.lemmas.List.Sorted.{IsPermutation-refl, IsPermutation-sym, IsPermutation-trans, IsPermutation-append_left, All-permutation}
+use Rattle.std.proofs.lemmas.List.Sorted.{IsPermutation-refl, IsPermutation-trans, IsPermutation-append_left, All-permutation}
 use Rattle.tags.specs.declared.token.Token.{Token}
-use Rattle.tags.specs.Addresses.{element_of}
 use Rattle.semantics.specs.Program.{Program}
 use Rattle.semantics.specs.Machine.{Machine, Store, Size, Event, Events, Happens, Run}
 use Rattle.semantics.specs.Pool.{LeavesPool}
@@ -15,7 +14,7 @@ use Rattle.element.specs.Parts.{Part, IsPart}
 use Rattle.schedule.specs.Setting.{Setting, size, total, IsGoodSetting}
 use Rattle.schedule.specs.State.{IsBounded}
 use Rattle.schedule.proofs.Bounding.{bounded_after}
-use Rattle.free_runs.specs.Blocks.{Act, Block, by_element, events_in, blocks_by, entry_of, LeavesTokens, AreBelow, bounds_of, IsOwn, Acts, Chain, Flows, Blocks, Begins}
+use Rattle.free_runs.specs.Blocks.{Act, Block, by_element, events_in, blocks_by, entry_of, LeavesTokens, AreBelow, bounds_of, IsOwn, Chain, Flows, Blocks, Begins}
 use Rattle.free_runs.specs.Laws.{RunOfHistory, Came}
 use Rattle.free_runs.proofs.Acting.{acts_commute}
 

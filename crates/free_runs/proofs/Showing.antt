@@ -1,20 +1,17 @@
 -- From a legal history of blocks to what is known of the lanes, and to the report.
-use Rattle.std.proofs.Common.{◌≡◌, ◌≢◌, refl, sym, ◌∙◌, ap, subst, ℕ, zero, suc, ◌+◌, ◌<◌, Bool, true, false, ℤ, List, [], ◌∷◌, ◌++◌, length, Option, Some, None, arith}
-use Rattle.std.specs.Prelude.{All, IsPermutation, slice_get, count_by, ◌==◌, if◌then◌else◌}
+use Rattle.std.proofs.Common.{◌≡◌, refl, sym, ◌∙◌, ap, subst, ℕ, zero, suc, ◌+◌, ◌<◌, Bool, true, false, List, [], ◌∷◌, ◌++◌, length, Option, Some, None, arith}
+use Rattle.std.specs.Prelude.{slice_get, count_by, ◌==◌, if◌then◌else◌}
 use Rattle.std.proofs.lemmas.List.Sums.{sum_by-append, sum_by-cons}
 use Rattle.std.proofs.lemmas.List.Sorted.{IsPermutation-trans}
 use Rattle.tags.specs.declared.token.Token.{Token}
 use Rattle.semantics.specs.Machine.{Machine, Events, at_start}
-use Rattle.element.specs.Near.{IsNearToken}
 use Rattle.element.specs.Parts.{Part, IsPart}
 use Rattle.element.specs.Held.{Held, queued}
-use Rattle.schedule.specs.Setting.{Setting, IsGoodSetting}
-use Rattle.schedule.specs.State.{AllFrom, IsPlaced, IsBounded, tokens_in}
-use Rattle.schedule.specs.Runs.{Began}
+use Rattle.schedule.specs.State.{AllFrom, tokens_in}
 use Rattle.schedule.proofs.Places.{from_map}
 use Rattle.schedule.proofs.Reports.{shows_lanes, stopped_lanes}
 use Rattle.rounds.specs.Turns.{coming}
-use Rattle.free_runs.specs.Blocks.{Act, Block, by_element, events_in, blocks_by, LeavesTokens, AreBelow, bounds_of, Begins, count_acts}
+use Rattle.free_runs.specs.Blocks.{Act, Block, by_element, events_in, blocks_by, Begins, count_acts}
 use Rattle.free_runs.specs.Laws.{Came, BeganFreely, ShowsFreely, StopsFreely}
 use Rattle.free_runs.proofs.Running.{run_of_history}
 

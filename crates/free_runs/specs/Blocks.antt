@@ -1,5 +1,5 @@
 -- Blocks of events of an element, a commit each, and what they do to its part.
-use Rattle.std.specs.Prelude.{◌≡◌, ◌≢◌, ℕ, ◌+◌, ◌*◌, ◌<◌, List, [], ◌∷◌, ◌++◌, map, length, All, IsPermutation, ⊤, ◌==◌, if◌then◌else◌, sum}
+use Rattle.std.specs.Prelude.{◌≡◌, ℕ, ◌+◌, ◌*◌, ◌<◌, List, [], ◌∷◌, ◌++◌, map, length, All, IsPermutation, ⊤, ◌==◌, if◌then◌else◌, sum}
 use Rattle.tags.specs.declared.token.Token.{Token}
 use Rattle.tags.specs.Addresses.{element_of}
 use Rattle.semantics.specs.Program.{Program}
@@ -8,7 +8,7 @@ use Rattle.semantics.specs.Pool as pool
 use Rattle.semantics.specs.Pool.{LeavesPool}
 use Rattle.mesh.specs.declared.view.Commit as mesh
 use Rattle.element.specs.Near.{Bounds, IsNearToken}
-use Rattle.element.specs.Parts.{Part, IsPart, SameElsewhere, IsSound}
+use Rattle.element.specs.Parts.{Part, IsPart, SameElsewhere}
 use Rattle.schedule.specs.Setting.{Setting, total}
 
 -- one event: the token that it took, and those that it made

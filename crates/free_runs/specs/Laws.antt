@@ -1,26 +1,27 @@
 -- The laws of elements that run freely.
-use Rattle.std.specs.Prelude.{◌≡◌, ◌≢◌, ℕ, zero, suc, ◌+◌, ◌<◌, ℤ, List, [], ◌∷◌, ◌++◌, map, length, All, IsPermutation, ⊤, slice_get, Some, count_by, ◌==◌, if◌then◌else◌, Bool, true, false}
+use Rattle.std.specs.Prelude.{◌≡◌, ◌≢◌, ℕ, zero, suc, ◌<◌, ◌≤◌, ℤ, List, [], ◌∷◌, ◌++◌, map, length, All, IsPermutation, slice_get, Some, true, false}
 use Rattle.tags.specs.declared.token.Token.{Token}
-use Rattle.tags.specs.Addresses.{element_of}
 use Rattle.semantics.specs.Program.{Program}
 use Rattle.semantics.specs.Machine.{Store, Machine, Events, Run, at_start}
 use Rattle.semantics.specs.Report.{Report, Shows}
 use Rattle.mesh.specs.declared.view.Deed.{Deed}
 use Rattle.mesh.specs.declared.view.Deed.TheVariants.{Committed}
-use Rattle.mesh.specs.Deeds.{Bundle, posted, taken}
+use Rattle.mesh.specs.Deeds.{Bundle, posted, taken, commits_by, commits_of, entry}
+use Rattle.mesh.specs.declared.view.Commit.{Commit}
+use Rattle.semantics.specs.Pool.{LeavesPool}
 use Rattle.mesh.specs.Seats.{Account}
 use Rattle.element.specs.Near.{IsNearToken}
 use Rattle.element.specs.Parts.{Part, IsPart, SameElsewhere}
-use Rattle.element.specs.Held.{Held, here, elsewhere, IsSoundLane}
+use Rattle.element.specs.Held.{Held}
 use Rattle.element.specs.Steps.{Does}
 use Rattle.schedule.specs.Setting.{Setting, size, IsGoodSetting}
-use Rattle.schedule.specs.State.{State, AllFrom, IsBounded, IsSoundState, IsPlaced, tokens_in}
+use Rattle.schedule.specs.State.{AllFrom, IsBounded, IsSoundState, IsPlaced, tokens_in}
 use Rattle.schedule.specs.Runs.{Began, HaltsAs}
 use Rattle.schedule.specs.Told.{ReportsLanes}
 use Rattle.schedule.specs.Unlisted.{with_events}
 use Rattle.schedule.specs.declared.halt.Halt.{Halt}
 use Rattle.rounds.specs.Turns.{coming}
-use Rattle.free_runs.specs.Blocks.{Act, Block, by_element, events_in, blocks_by, LeavesTokens, AreBelow, bounds_of, IsOwn, Acts, Chain, Flows, Blocks, Begins, count_acts}
+use Rattle.free_runs.specs.Blocks.{Block, events_in, blocks_by, LeavesTokens, AreBelow, bounds_of, IsOwn, Acts, Begins, count_acts}
 
 -- A step of a lane obeys the law of one event.
 abbrev pub StepsAct : Type 0
@@ -46,8 +47,7 @@ RunOfHistory =
     → All (IsNearToken (bounds_of g)) start.pool → IsBounded g start.store → AreBelow g.elements log → LeavesTokens g.elements start.pool log last
     → ((e : ℕ) → e < g.elements → Begins g start log (parts e) e) → Came g start log last parts
 
--- Stated, and not proved yet. Where the next block of element e in a legal history has its tokens in the pool, it may
--- be taken first: what is left is legal, has the other blocks in their order, and leaves the same tokens.
+-- Where the next block of element e in a legal history has its tokens in the pool, it may be taken first: what is left is legal, has the other blocks in their order, and leaves the same tokens.
 abbrev pub TakesFirst : Type 0
 TakesFirst =
     (n : ℕ) (e : ℕ) (b : Block) (later log : List Block) (tokens rest last : List Token) → LeavesTokens n tokens log last → blocks_by e log ≡ b ∷ later → IsPermutation tokens (b.spent ++ rest)
@@ -80,6 +80,25 @@ all_taken (suc n) ds = all_taken n ds ++ joined (taken n ds)
 -- the account of an element that began with these tokens is balanced
 abbrev pub IsBalanced : ℕ → List Token → Account → Type 0
 IsBalanced n began a = IsPermutation (began ++ (made_of a.deeds ++ all_taken n a.deeds)) (a.held ++ (spent_of a.deeds ++ all_posted n a.deeds))
+
+-- f 0, f 1, .., one after the other, for all of so many
+abbrev pub all_of : ℕ → (ℕ → List Token) → List Token
+all_of zero f = []
+all_of (suc n) f = all_of n f ++ f n
+
+-- WHAT IS LEFT. Each of n elements did these deeds, and its account is balanced: what it began with, made and took is what it holds, spent and
+-- posted. The history has just the commits of all, and what was posted is what was taken and what lies in the boxes. Then the history
+-- leaves just what all elements hold and all boxes.
+abbrev pub WhatIsLeft : Type 0
+WhatIsLeft =
+    (n : ℕ) (start last : List Token) (log : List Commit) (deeds : ℕ → List Deed) (held began : ℕ → List Token) (boxes : ℕ → ℕ → List Token)
+    → LeavesPool n start (map entry log) last
+    → ((e : ℕ) → n ≤ e → commits_by e log ≡ [])
+    → ((e : ℕ) → e < n → commits_by e log ≡ commits_of e (deeds e))
+    → ((e : ℕ) → e < n → IsBalanced n (began e) (record { element = e; deeds = deeds e; held = held e; last = log }))
+    → IsPermutation start (all_of n began)
+    → ((a b : ℕ) → a < n → b < n → joined (posted b (deeds a)) ≡ joined (taken a (deeds b)) ++ boxes a b)
+    → IsPermutation last (all_of n held ++ all_of n (λ a. all_of n (λ b. boxes a b)))
 
 -- What a lane holds at the end is known of the run: the form that a report wants.
 abbrev pub BeganFreely : Type 0

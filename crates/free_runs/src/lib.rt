@@ -2,15 +2,18 @@
 //! and no code.
 #![tactic(auto)]
 
-ghost use Rattle.free_runs.specs.Laws.{StepsAct, ActsCommute, RunOfHistory, BeganFreely, ShowsFreely, StopsFreely};
+ghost use Rattle.free_runs.specs.Laws.{StepsAct, ActsCommute, RunOfHistory, TakesFirst, WhatIsLeft, BeganFreely, ShowsFreely, StopsFreely};
 
 /// A step of a lane is an event wherever the lane's part is the element's, and leaves the parts of other elements as they are. A
-/// legal history of blocks of such events is one run of the machine; where lanes and tokens on their way hold what the history
-/// left, the report of the lanes shows that run.
+/// legal history of blocks of such events is one run of the machine. The next block of an element may be taken first where its
+/// tokens are in the pool. What the history leaves is what elements hold and what lies in boxes; where lanes and tokens on their
+/// way hold that, the report of the lanes shows the run.
 pub fn free_runs_are_runs()
     ensures step { StepsAct }
     ensures commute { ActsCommute }
     ensures run { RunOfHistory }
+    ensures first { TakesFirst }
+    ensures left { WhatIsLeft }
     ensures began { BeganFreely }
     ensures shows { ShowsFreely }
     ensures stops { StopsFreely }

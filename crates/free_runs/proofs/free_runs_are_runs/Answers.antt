@@ -1,5 +1,7 @@
 use Rattle.free_runs.proofs.Acting.{steps_act, acts_commute}
 use Rattle.free_runs.proofs.Running.{run_of_history}
+use Rattle.free_runs.proofs.Reordering.{takes_first}
+use Rattle.free_runs.proofs.Balancing.{what_is_left}
 use Rattle.free_runs.proofs.Showing.{began_freely, shows_freely, stops_freely}
 use Rattle.free_runs.proofs.free_runs_are_runs.Goals as goal
 
@@ -20,3 +22,9 @@ returns-clause-shows c = shows_freely
 
 pub returns-clause-stops : goal.returns-clause-stops
 returns-clause-stops c = stops_freely
+
+pub returns-clause-first : goal.returns-clause-first
+returns-clause-first c = takes_first
+
+pub returns-clause-left : goal.returns-clause-left
+returns-clause-left c = what_is_left
