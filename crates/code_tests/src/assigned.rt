@@ -233,6 +233,112 @@ fn independent_operators_do_not_share(rt: HostRuntime) -> Result<(), Fail> {
     Ok(())
 }
 
+/// The sum of an input with itself, which a switch lets the continuation pass to the return: holders 0 to 3 are `add`, the
+/// switch, `return` and `release`.
+fn late_return_plan<A: Allocator + Clone>(alloc: A) -> Result<Plan<A>, AllocError> {
+    let lines = [
+        (Op::Copy, 0, [(3, L), (5, L)].as_slice(), NONE),
+        (Op::Copy, 0, [(1, L), (1, R)].as_slice(), NONE),
+        (ADD, 0, [(1, R), (2, R)].as_slice(), NONE),
+        (Op::Switch, 1, [(1, L)].as_slice(), [(1, L)].as_slice()),
+        (Op::Return { offset: 0 }, 2, [(1, R)].as_slice(), NONE),
+        (Op::Release { offset: 1 }, 3, NONE, NONE),
+    ];
+    lines_plan(alloc, 4, &lines, None)
+}
+
+#[test]
+fn a_late_return_shares_with_the_sum(rt: HostRuntime) -> Result<(), Fail> {
+    let alloc = rt.alloc();
+    let plan = late_return_plan(alloc)?;
+    assert!(rt; is_good(alloc, &plan, &[0, 1, 2, 3])?);
+    assert!(rt; is_good(alloc, &plan, &[0, 1, 0, 2])?);
+    for crowded in [
+        [0, 0, 1, 2],
+        [0, 1, 1, 2],
+        [0, 1, 2, 0],
+        [0, 1, 2, 1],
+        [0, 1, 2, 2],
+        [0, 1, 0, 0],
+    ] {
+        assert!(rt; !is_good(alloc, &plan, &crowded)?, "{crowded:?}");
+    }
+    let slots = assign(alloc, &plan).map_err(|_| "assigned")?;
+    assert_eq!(rt; slots.block(0), Some([0, 1, 0, 2].as_slice()));
+    Ok(())
+}
+
+/// The same sum, with a switch that lets the continuation pass from the return to the release: holders 0 to 3 are `add`,
+/// `return`, the switch and `release`.
+fn late_release_plan<A: Allocator + Clone>(alloc: A) -> Result<Plan<A>, AllocError> {
+    let lines = [
+        (Op::Copy, 0, [(3, L), (4, L)].as_slice(), NONE),
+        (Op::Copy, 0, [(1, L), (1, R)].as_slice(), NONE),
+        (ADD, 0, [(1, R)].as_slice(), NONE),
+        (
+            Op::Return { offset: 0 },
+            1,
+            [(1, R), (2, R)].as_slice(),
+            NONE,
+        ),
+        (Op::Switch, 2, [(1, L)].as_slice(), [(1, L)].as_slice()),
+        (Op::Release { offset: 1 }, 3, NONE, NONE),
+    ];
+    lines_plan(alloc, 4, &lines, None)
+}
+
+#[test]
+fn a_late_release_shares_with_the_return(rt: HostRuntime) -> Result<(), Fail> {
+    let alloc = rt.alloc();
+    let plan = late_release_plan(alloc)?;
+    assert!(rt; is_good(alloc, &plan, &[0, 1, 2, 1])?);
+    assert!(rt; is_good(alloc, &plan, &[0, 1, 2, 0])?);
+    for crowded in [[0, 0, 1, 2], [0, 1, 0, 2], [0, 1, 1, 2], [0, 1, 2, 2]] {
+        assert!(rt; !is_good(alloc, &plan, &crowded)?, "{crowded:?}");
+    }
+    let slots = assign(alloc, &plan).map_err(|_| "assigned")?;
+    assert_eq!(rt; slots.block(0), Some([0, 1, 2, 0].as_slice()));
+    Ok(())
+}
+
+/// The sum and the product of an input with itself, both returned: holders 0 to 5 are `add`, `mul`, their returns, the `sync`
+/// of these, and `release`.
+fn two_returns_plan<A: Allocator + Clone>(alloc: A) -> Result<Plan<A>, AllocError> {
+    let lines = [
+        (Op::Copy, 0, [(4, L), (5, L), (7, L)].as_slice(), NONE),
+        (
+            Op::Copy,
+            0,
+            [(1, L), (1, R), (2, L), (2, R)].as_slice(),
+            NONE,
+        ),
+        (ADD, 0, [(2, R)].as_slice(), NONE),
+        (MUL, 1, [(2, R)].as_slice(), NONE),
+        (Op::Return { offset: 0 }, 2, [(2, L)].as_slice(), NONE),
+        (Op::Return { offset: 1 }, 3, [(1, R)].as_slice(), NONE),
+        (Op::Sync, 4, [(1, R)].as_slice(), NONE),
+        (Op::Release { offset: 2 }, 5, NONE, NONE),
+    ];
+    lines_plan(alloc, 6, &lines, None)
+}
+
+#[test]
+fn two_returns_share_with_nothing(rt: HostRuntime) -> Result<(), Fail> {
+    let alloc = rt.alloc();
+    let plan = two_returns_plan(alloc)?;
+    assert!(rt; is_good(alloc, &plan, &[0, 1, 2, 3, 4, 5])?);
+    for first in 0..6usize {
+        for second in 0..first {
+            let mut slots = [0u16, 1, 2, 3, 4, 5];
+            slots[first] = slots[second];
+            assert!(rt; !is_good(alloc, &plan, &slots)?, "{second} and {first}");
+        }
+    }
+    let slots = assign(alloc, &plan).map_err(|_| "assigned")?;
+    assert_eq!(rt; slots.block(0), Some([0, 1, 2, 3, 4, 5].as_slice()));
+    Ok(())
+}
+
 /// So many `and` instructions, each of the one before with itself.
 fn long_chain<A: Allocator + Clone>(alloc: A, count: u32) -> Result<Plan<A>, AllocError> {
     let mut instrs = Vec::new(alloc.clone()?);

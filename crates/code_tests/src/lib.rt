@@ -1,4 +1,4 @@
-//! Tests of what stands between a plan and an object: slots, code and bytes. They stand apart from the crates that they try,
+//! Tests of what stands between a plan and a listing: slots, code and bytes. They stand apart from the crates that they try,
 //! since a crate with tests is proved twice.
 #![tactic(auto)]
 
@@ -6,5 +6,7 @@
 mod assigned;
 #[cfg(test)]
 mod emitted;
+#[cfg(test)]
+mod listed;
 #[cfg(test)]
 mod opened;

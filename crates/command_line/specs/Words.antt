@@ -73,7 +73,9 @@ number_of text =
 abbrev pub mode_named : Text → Option Mode
 mode_named word =
     if bytes_eq word (codes "one") then Some Mode.One
-    else (if bytes_eq word (codes "rounds") then Some Mode.Rounds else None)
+    else (if bytes_eq word (codes "rounds") then Some Mode.Rounds
+    else (if bytes_eq word (codes "free") then Some Mode.Free
+    else None))
 
 -- what was given, with this option too: none where the value is no value of it, or it was given before
 abbrev pub first_number : Option ℕ → Text → Option ℕ

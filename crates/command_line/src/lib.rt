@@ -35,6 +35,8 @@ pub enum Mode {
     One,
     /// In rounds, each element in a thread of its own.
     Rounds,
+    /// Free, each element in a thread of its own for the whole run.
+    Free,
 }
 
 /// How a graph is to be run.

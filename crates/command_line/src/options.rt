@@ -106,6 +106,8 @@ fn mode_named(word: &str) -> Option<Mode>
         Some(Mode::One)
     } else if word == "rounds" {
         Some(Mode::Rounds)
+    } else if word == "free" {
+        Some(Mode::Free)
     } else {
         None
     }

@@ -14,6 +14,56 @@ use std::convert::AsStr;
 /// The version of the program, as in `command_line::version_line`.
 const VERSION: &str = "0.1.0";
 
+/// What the help of the program ends with.
+const AFTER: &str = "\
+Examples, in a clone of the project:
+  ets run < examples/add.ets                      runs a graph on the inputs behind it
+  ets run --elements 16 < examples/fibonacci.ets  runs it on 16 processing elements
+  ets mean < examples/add.ets                     runs its meaning, without code
+  sed '/^main /q' examples/add.ets > add          leaves the inputs out, for the commands that read a graph alone:
+  ets check < add                                 says whether the graph is good
+  ets compile < add > object                      makes its code
+  ets dot < add | dot -Tsvg > add.svg             draws it
+  ets dis < object                                lists the code
+  ets dot --code < object | dot -Tsvg > code.svg  draws the code
+  ets upgrade < object > object2                  makes version 2 of it
+
+Graphs, inputs, reports, objects and all refusals: docs/FORMATS.md. Graphs to try: examples/README.md.
+
+Exit status: 0 done, or a run that ended at rest; 1 a refusal, a mistake in the command line, or a failed write;
+  2 a run that starved; 3 a cell that was filled twice; 4 out of steps; 5 stuck; 6 out of memory in a run.
+After a refusal, and after an end that is not at rest, a hint stands on standard error.";
+
+/// What the help of a command ends with.
+const AFTER_RUN: &str = "\
+Example: ets run --elements 4 --frames 64 < examples/factorial.ets
+The report, the ends of a run and their exit statuses: docs/FORMATS.md, \"Report of `ets run`\".";
+
+const AFTER_MEAN: &str = "\
+Example: ets mean --steps 5000 < examples/factorial.ets
+What it prints: docs/FORMATS.md, \"`ets mean`\".";
+
+const AFTER_CHECK: &str = "\
+Example: sed '/^main /q' examples/add.ets | ets check
+It prints `ok`, status 0, or a refusal, status 1: docs/FORMATS.md, \"Graph text\".";
+
+const AFTER_COMPILE: &str = "\
+Example: sed '/^main /q' examples/add.ets | ets compile > object
+The object file: docs/FORMATS.md, \"Object file\".";
+
+const AFTER_DIS: &str = "\
+Example: ets dis < examples/add.etsobject
+The listing: docs/FORMATS.md, \"Listing of `ets dis`\".";
+
+const AFTER_UPGRADE: &str = "\
+Example: ets upgrade < examples/add.etsobject > object2
+The versions of the object file: docs/FORMATS.md, \"Object file\".";
+
+const AFTER_DOT: &str = "\
+Examples: sed '/^main /q' examples/add.ets | ets dot | dot -Tsvg > add.svg
+          ets dot --code < examples/add.etsobject | dot -Tsvg > code.svg
+What is drawn: docs/FORMATS.md, \"Pictures: `ets dot`\".";
+
 fn number<'a>(alloc: Global, name: &'a str, default: &'a str, help: &'a str) -> Arg<'a> {
     Arg::new(alloc, name)
         .long(name)
@@ -29,10 +79,11 @@ fn run_command<'a>(alloc: Global) -> Result<Command<'a>, AllocError> {
         .value_name("MODE")
         .default_value("one")
         .help(
-            "one: the elements take their oldest tokens in turn; rounds: each takes up to 64 in a thread of its own",
+            "one: the elements take their oldest tokens in turn; rounds: each takes up to 64 in a thread of its own; free: each runs in a thread of its own, without waiting for others",
         );
     Command::new(alloc, "run")
         .about("Compiles and runs a graph: its text on standard input, then its inputs, one a line")
+        .after_help(AFTER_RUN)
         .arg(number(alloc, "elements", "1", "processing elements, 1 to 16"))?
         .arg(number(alloc, "frames", "256", "frames for each element, 1 to 1024"))?
         .arg(number(
@@ -49,6 +100,7 @@ fn mean_command<'a>(alloc: Global) -> Result<Command<'a>, AllocError> {
         .about(
             "Runs the meaning of a graph, without code: its text on standard input, then its inputs",
         )
+        .after_help(AFTER_MEAN)
         .arg(number(alloc, "steps", "1000000", "activities at most"))
 }
 
@@ -59,21 +111,27 @@ fn dot_command<'a>(alloc: Global) -> Result<Command<'a>, AllocError> {
         .help("the code of the object on standard input");
     Command::new(alloc, "dot")
         .about("Draws the graph on standard input, as text for Graphviz")
+        .after_help(AFTER_DOT)
         .arg(code)
 }
 
 /// The command line as `clap` would read it.
 pub fn program_command<'a>(alloc: Global) -> Result<Command<'a>, AllocError> {
-    let check = Command::new(alloc, "check").about("Says whether standard input has a good graph");
-    let compile = Command::new(alloc, "compile").about(
-        "Writes the object of the graph on standard input",
-    );
-    let dis = Command::new(alloc, "dis").about("Lists the code of the object on standard input");
-    let upgrade = Command::new(alloc, "upgrade").about(
-        "Writes the object on standard input as version 2 of the object file",
-    );
+    let check = Command::new(alloc, "check")
+        .about("Says whether standard input has a good graph")
+        .after_help(AFTER_CHECK);
+    let compile = Command::new(alloc, "compile")
+        .about("Writes the object of the graph on standard input")
+        .after_help(AFTER_COMPILE);
+    let dis = Command::new(alloc, "dis")
+        .about("Lists the code of the object on standard input")
+        .after_help(AFTER_DIS);
+    let upgrade = Command::new(alloc, "upgrade")
+        .about("Writes the object on standard input as version 2 of the object file")
+        .after_help(AFTER_UPGRADE);
     Command::new(alloc, "ets")
         .about("Compiles dataflow graphs for an explicit token store machine and runs them")
+        .after_help(AFTER)
         .version(VERSION)
         .subcommand_required(true)
         .subcommand(check)?

@@ -7,6 +7,3 @@ mod listing;
 
 pub use line::{list_operand, name_of, port_letter};
 pub use listing::{instr_in, list};
-
-#[cfg(test)]
-mod tests;

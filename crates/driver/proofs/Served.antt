@@ -35,6 +35,7 @@ stopped E e old new sent text status same h = (h.0, h.1, sym same ∙ h.2, h.3)
 pub never_stops : (mode : Mode) (may_stop : Bool) → may_stop ≡ false → stops_in mode may_stop ≡ false
 never_stops Mode.One may_stop never = refl
 never_stops Mode.Rounds may_stop never = never
+never_stops Mode.Free may_stop never = never
 
 -- a line that is no integer
 pub bad_line_of : (lines : List ℕ) (f : LinesFault) (n : ℕ) → f ≡ LinesFault.BadLine n → IsBadInput lines f → integers_of lines ≡ Err n

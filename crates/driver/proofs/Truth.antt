@@ -151,3 +151,4 @@ pub tells_in : (mode : Mode) (text : List ℕ) (g : Graph) (bytes : List ℕ) (i
     → IsCompiled text g bytes → ShowsObject bytes inputs c false (stops_in mode may_stop) r → (mode ≡ Mode.One → RunsObject bytes inputs c FollowsTurns r) → TellsTruthIn mode text g inputs c may_stop r
 tells_in Mode.One text g bytes inputs c may_stop r compiled shown runs = tells_in_turn text g bytes inputs c r compiled shown (runs refl)
 tells_in Mode.Rounds text g bytes inputs c may_stop r compiled shown runs = tells_truth text g bytes inputs c false may_stop r compiled shown
+tells_in Mode.Free text g bytes inputs c may_stop r compiled shown runs = tells_truth text g bytes inputs c false may_stop r compiled shown

@@ -84,19 +84,21 @@ TellsTruth text g inputs c r = (tells : TellsOf text g inputs (size_of c) c.step
 abbrev pub TellsTruthListed : List ℕ → Graph → List ℤ → Config → List (ℕ × ℕ) → Report → Type 0
 TellsTruthListed text g inputs c picks r = (tells : TellsOf text g inputs (size_of c) c.steps true false r) × FollowsList picks tells.code.program c inputs r
 
--- and of a run in rounds, in which each element asks a gate
-abbrev pub TellsTruthInRounds : List ℕ → Graph → List ℤ → Config → Bool → Report → Type 0
-TellsTruthInRounds text g inputs c may_stop r = TellsOf text g inputs (size_of c) c.steps false may_stop r
+-- and of a run whose elements are threads, in rounds or free, and ask a gate: the order of their steps is any
+abbrev pub TellsTruthInThreads : List ℕ → Graph → List ℤ → Config → Bool → Report → Type 0
+TellsTruthInThreads text g inputs c may_stop r = TellsOf text g inputs (size_of c) c.steps false may_stop r
 
 -- in each mode
 abbrev pub TellsTruthIn : Mode → List ℕ → Graph → List ℤ → Config → Bool → Report → Type 0
 TellsTruthIn Mode.One text g inputs c may_stop r = TellsTruth text g inputs c r
-TellsTruthIn Mode.Rounds text g inputs c may_stop r = TellsTruthInRounds text g inputs c may_stop r
+TellsTruthIn Mode.Rounds text g inputs c may_stop r = TellsTruthInThreads text g inputs c may_stop r
+TellsTruthIn Mode.Free text g inputs c may_stop r = TellsTruthInThreads text g inputs c may_stop r
 
--- only rounds ask the gate
+-- only threads ask the gate
 abbrev pub stops_in : Mode → Bool → Bool
 stops_in Mode.One may_stop = false
 stops_in Mode.Rounds may_stop = may_stop
+stops_in Mode.Free may_stop = may_stop
 
 -- RUNS OF ANY LENGTH, whose report lists no events: with those of some run it is such a report.
 abbrev pub TellsQuietly : List ℕ → Graph → List ℤ → Config → Bool → Report → Type 0

@@ -12,6 +12,7 @@ ghost use Rattle.schedule.specs.Unlisted.{ShowsQuietly};
 ghost use Rattle.driver.specs.Headline.{stops_in};
 
 use command_line::Mode;
+use machine::{run as run_free, run_quietly as run_free_quietly};
 use rounds::{Gate, run, run_quietly};
 use schedule::machine::Machine;
 use schedule::main_code::MainCode;
@@ -24,7 +25,7 @@ use std::thread::Threads;
 pub fn run_in<
     R: Threads + Wait + Sync,
     C: MainCode + Sync,
-    A: Allocator + Clone + Send,
+    A: Allocator + Clone + Send + Sync,
     G: Gate + Sync,
 >(machine: Machine<'_, C, A>, mode: Mode, rt: &R, gate: &G) -> Report<A>
     ensures shows { (inputs : List ℤ) → Began inputs machine.entry.state machine.entry.events → Shows machine.entry.state.setting.program (size machine.entry.state.setting) inputs machine.entry.state.setting.steps false (stops_in mode G.may_stop) result }
@@ -33,6 +34,7 @@ pub fn run_in<
     match mode {
         Mode::One => machine.run_one(),
         Mode::Rounds => run(machine, rt, gate),
+        Mode::Free => run_free(machine, rt, gate),
     }
 }
 
@@ -40,7 +42,7 @@ pub fn run_in<
 pub fn run_quietly_in<
     R: Threads + Wait + Sync,
     C: MainCode + Sync,
-    A: Allocator + Clone + Send,
+    A: Allocator + Clone + Send + Sync,
     G: Gate + Sync,
 >(machine: Machine<'_, C, A>, mode: Mode, rt: &R, gate: &G) -> Report<A>
     ensures { (inputs : List ℤ) → Began inputs machine.entry.state machine.entry.events → ShowsQuietly machine.entry.state.setting.program (size machine.entry.state.setting) inputs machine.entry.state.setting.steps false (stops_in mode G.may_stop) result }
@@ -48,5 +50,6 @@ pub fn run_quietly_in<
     match mode {
         Mode::One => machine.run_quietly(),
         Mode::Rounds => run_quietly(machine, rt, gate),
+        Mode::Free => run_free_quietly(machine, rt, gate),
     }
 }

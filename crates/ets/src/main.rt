@@ -6,8 +6,9 @@ ghost use Rattle.std.specs.Io.Buffered.{writer_buffer, writer_contents};
 ghost use Rattle.std.specs.Io.KnownBytes.{Keeps};
 
 use driver::serving::serve;
+use hints::{KeepingReader, KeepingWriter, explain};
 use rounds::Open;
-use std::alloc::Allocator;
+use std::alloc::{Allocator, Global};
 use std::io::{BufWriter, Write};
 use std::process::ExitCode;
 use std::{env, io};
@@ -26,17 +27,38 @@ fn flushed<W: Write + Drop, A: Allocator>(writer: &mut BufWriter<W, A>, status: 
     }
 }
 
+/// Writes the hint on what was done, if there is one. It is no part of the answer: where memory or a write is refused, it
+/// stays out.
+fn hint<W: Write>(
+    alloc: Global,
+    words: &[String],
+    input: Option<&[u8]>,
+    output: Option<&[u8]>,
+    writer: &mut W,
+) {
+    if let Some(output) = output {
+        if let Ok(Some(hint)) = explain(alloc, words, input, output) {
+            let _ = hint.write(writer);
+        }
+    }
+}
+
 fn main(rt: HostRuntime) -> io::Result<ExitCode> {
     let words: Vec<String> = env::args(&rt)?.collect(rt.alloc())?;
-    let mut writer = BufWriter::new(rt.alloc(), io::writer(&rt))?;
+    let mut reader = KeepingReader::new(rt.alloc(), rt.stdin());
+    let kept = KeepingWriter::new(rt.alloc(), io::writer(&rt));
+    let mut writer = BufWriter::new(rt.alloc(), kept)?;
     let status = serve(
         words.as_slice(),
-        &mut rt.stdin(),
+        &mut reader,
         &mut writer,
         rt.alloc(),
         rt.alloc(),
         &rt,
         &Open,
     );
-    Ok(ExitCode::from(flushed(&mut writer, status)))
+    let status = flushed(&mut writer, status);
+    let output = writer.get_ref().kept();
+    hint(rt.alloc(), &words, reader.kept(), output, &mut rt.stderr());
+    Ok(ExitCode::from(status))
 }

@@ -1,4 +1,4 @@
-//! Says of each example whether runs of its code, on 1, 2, 3 and 16 elements, one event after another and in rounds, have
+//! Says of each example whether runs of its code, on 1, 2, 3 and 16 elements, one event after another, in rounds and free, have
 //! just the outputs, the cells and the end of its meaning. The words of the command line are the files' names. A run that
 //! says something else than the first one has a line of its own.
 #![tactic(auto)]
@@ -20,6 +20,21 @@ use std::{env, fs};
 const SERIAL: &str = "sum_loop.ets";
 
 const STEPS: u64 = 1_000_000;
+
+/// How often free elements run an example: each time their threads may meet in another order.
+const FREE_RUNS: u64 = 5;
+
+/// How often free elements, more than one, run that example. In some the tokens go to another element again and again, and each
+/// time another thread has to get its turn.
+fn free_runs(name: &str) -> u64 {
+    if name == SERIAL {
+        0
+    } else if name == "collatz.ets" || name == "nested_loops.ets" {
+        1
+    } else {
+        FREE_RUNS
+    }
+}
 
 /// The text of the report of a run in that mode on so many elements.
 fn report_of<R: Threads + Wait + Sync>(
@@ -110,6 +125,12 @@ fn tell<R: Threads + Wait + Sync, W: Write>(
         let one = verdict(rt, alloc, input, &meaning, Mode::One, elements)?;
         if one != first {
             writeln!(out, "{name} on {elements} {one}")?;
+        }
+        for _ in 0..free_runs(name) {
+            let free = verdict(rt, alloc, input, &meaning, Mode::Free, elements)?;
+            if free != first {
+                writeln!(out, "{name} free on {elements} {free}")?;
+            }
         }
         if name == SERIAL && elements > 1 {
             continue;

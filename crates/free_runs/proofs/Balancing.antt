@@ -17,14 +17,14 @@ use Rattle.free_runs.proofs.Reordering.{swapped, behind}
 abbrev Tokens : Type 0
 Tokens = List Token
 
-same_perm : (a b : Tokens) → a ≡ b → IsPermutation a b
+pub same_perm : (a b : Tokens) → a ≡ b → IsPermutation a b
 same_perm a b e = subst (IsPermutation a) e (IsPermutation-refl a)
 
-then_perm : {a b c : Tokens} → IsPermutation a b → IsPermutation b c → IsPermutation a c
+pub then_perm : {a b c : Tokens} → IsPermutation a b → IsPermutation b c → IsPermutation a c
 then_perm {a} {b} {c} p q = IsPermutation-trans a b c p q
 
 -- ALL OF SO MANY
-all_perm : (n : ℕ) (f g : ℕ → Tokens) → ((e : ℕ) → e < n → IsPermutation (f e) (g e)) → IsPermutation (all_of n f) (all_of n g)
+pub all_perm : (n : ℕ) (f g : ℕ → Tokens) → ((e : ℕ) → e < n → IsPermutation (f e) (g e)) → IsPermutation (all_of n f) (all_of n g)
 all_perm zero f g h = IsPermutation-refl []
 all_perm (suc n) f g h = IsPermutation-append (all_of n f) (all_of n g) (f n) (g n) (all_perm n f g (λ e l. h e (omega (arith, l)))) (h n (omega arith))
 
@@ -36,7 +36,7 @@ crossed a b c d =
     let three = same_perm (a ++ (c ++ (b ++ d))) ((a ++ c) ++ (b ++ d)) (sym (append_assoc a c (b ++ d))) in
     then_perm one (then_perm two three)
 
-all_both : (n : ℕ) (f g : ℕ → Tokens) → IsPermutation (all_of n (λ e. f e ++ g e)) (all_of n f ++ all_of n g)
+pub all_both : (n : ℕ) (f g : ℕ → Tokens) → IsPermutation (all_of n (λ e. f e ++ g e)) (all_of n f ++ all_of n g)
 all_both zero f g = IsPermutation-refl []
 all_both (suc n) f g =
     let ih = IsPermutation-append (all_of n (λ e. f e ++ g e)) (all_of n f ++ all_of n g) (f n ++ g n) (f n ++ g n) (all_both n f g) (IsPermutation-refl (f n ++ g n)) in

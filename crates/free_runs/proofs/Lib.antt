@@ -3,3 +3,6 @@ pub mod Running
 pub mod Showing
 pub mod Reordering
 pub mod Balancing
+pub mod Weaving
+pub mod Joining
+pub mod Ending

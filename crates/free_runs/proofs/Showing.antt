@@ -16,7 +16,7 @@ use Rattle.free_runs.specs.Laws.{Came, BeganFreely, ShowsFreely, StopsFreely}
 use Rattle.free_runs.proofs.Running.{run_of_history}
 
 -- LISTS
-found : {X : Type 0} (xs : List X) (i : ℕ) → i < length xs → (x : X) × (slice_get xs i ≡ Some x)
+pub found : {X : Type 0} (xs : List X) (i : ℕ) → i < length xs → (x : X) × (slice_get xs i ≡ Some x)
 found [] i low = absurd (let no : ⊥ = omega (arith, low) in no)
 found (y ∷ ys) zero low = (y, refl)
 found (y ∷ ys) (suc i) low = let within : i < length ys = omega (arith, low) in found ys i within
@@ -27,7 +27,7 @@ points P k (x ∷ xs) all =
     let here : k + 0 ≡ k = omega arith in
     (subst (λ (n : ℕ). P n x) here (all 0 x refl), points P (suc k) xs (λ i y e. let there : k + suc i ≡ suc k + i = omega arith in subst (λ (n : ℕ). P n y) there (all (suc i) y e)))
 
-at_all : {X : Type 0} (P : ℕ → X → Type 0) (xs : List X) → ((i : ℕ) (x : X) → slice_get xs i ≡ Some x → P i x) → AllFrom P 0 xs
+pub at_all : {X : Type 0} (P : ℕ → X → Type 0) (xs : List X) → ((i : ℕ) (x : X) → slice_get xs i ≡ Some x → P i x) → AllFrom P 0 xs
 at_all P xs all = points P 0 xs (λ i x e. let same : i ≡ 0 + i = omega arith in subst (λ (n : ℕ). P n x) same (all i x e))
 
 within_list : {X : Type 0} (xs : List X) (i : ℕ) (x : X) → slice_get xs i ≡ Some x → i < length xs
@@ -36,7 +36,7 @@ within_list (y ∷ ys) zero x e = omega arith
 within_list (y ∷ ys) (suc i) x e = let low : i < length ys = within_list ys i x e in omega (arith, low)
 
 -- COUNTS
-abbrev made_by : ℕ → Events → ℕ
+abbrev pub made_by : ℕ → Events → ℕ
 made_by i evs = count_by (λ (ev : ℕ × Token). ev.0 == i) evs
 
 abbrev ticks : ℕ → ℕ × Token → ℕ

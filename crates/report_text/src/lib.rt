@@ -7,6 +7,3 @@ mod outputs;
 mod writing;
 
 pub use writing::{write_meaning, write_report};
-
-#[cfg(test)]
-mod tests;

@@ -9,3 +9,4 @@ mod turn;
 
 pub use gate::{Gate, Open};
 pub use rounds::{run, run_quietly};
+pub use turn::take_turn;

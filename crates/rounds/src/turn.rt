@@ -46,7 +46,7 @@ fn note<A: Allocator>(log: &mut Vec<(u32, Token), A>, listed: bool, element: u32
 }
 
 /// The lane takes its oldest tokens, up to so many.
-fn take_turn<C: MainCode, A: Allocator + Clone>(
+pub fn take_turn<C: MainCode, A: Allocator + Clone>(
     lane: &mut Lane<'_, A>,
     sent: &mut Vec<Token, A>,
     log: &mut Vec<(u32, Token), A>,

@@ -7,7 +7,8 @@ use rounds::{Gate, Open};
 use schedule::config::Config;
 use schedule::report::Report;
 use semantics::report::End;
-use std::alloc::Global;
+use std::alloc::{Allocator, Global};
+use std::process::Abort;
 use std::sync::Wait;
 use std::sync::atomic::{AtomicBool, AtomicU64, Ordering};
 use std::test::Fail;
@@ -56,25 +57,53 @@ impl Gate for Meeting {
     }
 }
 
+/// The modes whose elements are threads.
+const MODES: [Mode; 2] = [Mode::Rounds, Mode::Free];
+
+/// The number up to which a run sums that is tried again and again, and the sum. It is less for free elements, each of which has to
+/// get its turn for every token that comes to it.
+fn sum_in(mode: Mode) -> (i64, i64) {
+    if mode == Mode::Free {
+        (5, 15)
+    } else {
+        (20, 210)
+    }
+}
+
+/// The report of a run in that mode.
+fn report_in<R: Threads + Wait + Sync, A: Allocator + Clone + Send + Sync, G: Gate + Sync>(
+    rt: &R,
+    alloc: A,
+    text: &[u8],
+    inputs: &[i64],
+    config: Config,
+    mode: Mode,
+    gate: &G,
+) -> Option<Report<A>> {
+    emulate(alloc, text, inputs, config, mode, rt, gate).ok()
+}
+
 /// On one thread the first element would look in vain.
 #[test]
 fn two_elements_meet(rt: HostRuntime) -> Result<(), Fail> {
-    let gate = Meeting {
-        came: [AtomicBool::new(false), AtomicBool::new(false)],
-        saw: [AtomicBool::new(false), AtomicBool::new(false)],
-    };
-    let report = emulate(
-        rt.alloc(),
-        ADD,
-        [2, 3].as_slice(),
-        config(2, 64),
-        Mode::Rounds,
-        &rt,
-        &gate,
-    )
-    .map_err(|_| "a report")?;
-    assert_eq!(rt; report.end, End::Rest);
-    assert!(rt; gate.saw[0].load(Ordering::SeqCst) && gate.saw[1].load(Ordering::SeqCst));
+    for mode in MODES {
+        let gate = Meeting {
+            came: [AtomicBool::new(false), AtomicBool::new(false)],
+            saw: [AtomicBool::new(false), AtomicBool::new(false)],
+        };
+        let report = report_in(
+            &rt,
+            rt.alloc(),
+            ADD,
+            [2, 3].as_slice(),
+            config(2, 64),
+            mode,
+            &gate,
+        )
+        .ok_or("a report")?;
+        assert_eq!(rt; report.end, End::Rest);
+        assert!(rt; gate.saw[0].load(Ordering::SeqCst) && gate.saw[1].load(Ordering::SeqCst));
+    }
     Ok(())
 }
 
@@ -115,53 +144,64 @@ impl Gate for Stopper {
 /// With turns of one event the gate is asked before each, and told how many there were.
 #[test]
 fn each_turn_asks(rt: HostRuntime) -> Result<(), Fail> {
-    let gate = Stopper::after(1_000_000);
-    let report = emulate(
-        rt.alloc(),
-        ADD,
-        [2, 3].as_slice(),
-        config(1, 1),
-        Mode::Rounds,
-        &rt,
-        &gate,
-    )
-    .map_err(|_| "a report")?;
-    let events = report.events.len() as u64;
-    assert_eq!(rt; report.end, End::Rest);
-    assert_eq!(rt; events, 12);
-    assert!(rt; events <= gate.turns.load(Ordering::SeqCst));
-    assert_eq!(rt; gate.blocks.load(Ordering::SeqCst), 66);
+    for mode in MODES {
+        let gate = Stopper::after(1_000_000);
+        let report = report_in(
+            &rt,
+            rt.alloc(),
+            ADD,
+            [2, 3].as_slice(),
+            config(1, 1),
+            mode,
+            &gate,
+        )
+        .ok_or("a report")?;
+        assert_eq!(rt; report.end, End::Rest);
+        let events = report.events.len() as u64;
+        assert_eq!(rt; events, 12);
+        assert!(rt; mode == Mode::Free || events <= gate.turns.load(Ordering::SeqCst));
+        assert_eq!(rt; gate.blocks.load(Ordering::SeqCst), 66);
+    }
     Ok(())
+}
+
+/// A run that is stopped at the question of that number, if it comes so far: whether it rests.
+fn rests_after<R: Abort + Threads + Wait + Sync>(
+    rt: &R,
+    alloc: Global,
+    mode: Mode,
+    count: u64,
+) -> Result<bool, Fail> {
+    let gate = Stopper::after(count);
+    let (last, sum) = sum_in(mode);
+    let report = report_in(rt, alloc, SUM, [last].as_slice(), config(2, 4), mode, &gate).ok_or(
+        "a report",
+    )?;
+    if report.end == End::Rest {
+        assert!(rt; report.outputs.as_slice() == [Some(Value::Int(sum))].as_slice());
+        return Ok(true);
+    }
+    assert_eq!(rt; report.end, End::Stop, "{count}");
+    if count == 0 {
+        assert!(rt; report.outputs.as_slice() == [None].as_slice());
+        assert_eq!(rt; report.events.len(), 0);
+    }
+    Ok(false)
 }
 
 /// Every run ends stopped or at rest; the first has no output, and one rests.
 #[test]
 fn stopped_at_each_question(rt: HostRuntime) -> Result<(), Fail> {
-    let mut rests = false;
-    for count in 0..10_000u64 {
-        let gate = Stopper::after(count);
-        let report = emulate(
-            rt.alloc(),
-            SUM,
-            [20].as_slice(),
-            config(2, 4),
-            Mode::Rounds,
-            &rt,
-            &gate,
-        )
-        .map_err(|_| "a report")?;
-        if report.end == End::Rest {
-            assert!(rt; report.outputs.as_slice() == [Some(Value::Int(210))].as_slice());
-            rests = true;
-            break;
+    for mode in MODES {
+        let mut rests = false;
+        for count in 0..10_000u64 {
+            rests = rests_after(&rt, rt.alloc(), mode, count)?;
+            if rests {
+                break;
+            }
         }
-        assert_eq!(rt; report.end, End::Stop, "{count}");
-        if count == 0 {
-            assert!(rt; report.outputs.as_slice() == [None].as_slice());
-            assert_eq!(rt; report.events.len(), 0);
-        }
+        assert!(rt; rests);
     }
-    assert!(rt; rests);
     Ok(())
 }
 
@@ -182,42 +222,38 @@ fn the_first_element_names_the_end(rt: HostRuntime) -> Result<(), Fail> {
     Ok(())
 }
 
-/// A report in rounds with memory that runs out, or none.
+/// A report of threads with memory that runs out, or none.
 fn with_ration<R: Threads + Wait + Sync>(
     rt: &R,
     heap: &Rationed<Global>,
+    mode: Mode,
 ) -> Option<(End, Option<Value>)> {
-    let report = emulate(
-        heap,
-        SUM,
-        [20].as_slice(),
-        config(2, 64),
-        Mode::Rounds,
-        rt,
-        &Open,
-    )
-    .ok()?;
+    let (last, _sum) = sum_in(mode);
+    let report = report_in(rt, heap, SUM, [last].as_slice(), config(2, 64), mode, &Open)?;
     Some((report.end, *report.outputs.as_slice().first()?))
 }
 
 #[test]
 fn each_growth_refused(rt: HostRuntime) -> Result<(), Fail> {
-    let mut whole = false;
-    for at in 1..5000u64 {
-        let heap = Rationed::new(rt.alloc(), at);
-        match with_ration(&rt, &heap) {
-            Some((End::Rest, output)) => {
-                assert_eq!(rt; output, Some(Value::Int(210)));
-                whole = true;
-                break;
+    for mode in MODES {
+        let (_last, sum) = sum_in(mode);
+        let mut whole = false;
+        for at in 1..5000u64 {
+            let heap = Rationed::new(rt.alloc(), at);
+            match with_ration(&rt, &heap, mode) {
+                Some((End::Rest, output)) => {
+                    assert_eq!(rt; output, Some(Value::Int(sum)));
+                    whole = true;
+                    break;
+                }
+                Some((end, output)) => {
+                    assert_eq!(rt; end, End::Memory, "{at}");
+                    assert!(rt; output == None || output == Some(Value::Int(sum)), "{at}");
+                }
+                None => {}
             }
-            Some((end, output)) => {
-                assert_eq!(rt; end, End::Memory, "{at}");
-                assert!(rt; output == None || output == Some(Value::Int(210)), "{at}");
-            }
-            None => {}
         }
+        assert!(rt; whole);
     }
-    assert!(rt; whole);
     Ok(())
 }

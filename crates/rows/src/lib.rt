@@ -11,7 +11,7 @@ mod gates;
 #[cfg(test)]
 mod hostile;
 #[cfg(test)]
-mod in_rounds;
+mod in_threads;
 #[cfg(test)]
 mod inputs;
 #[cfg(test)]
@@ -27,6 +27,8 @@ mod objects;
 #[cfg(test)]
 mod orders;
 #[cfg(test)]
+mod origins;
+#[cfg(test)]
 mod random_graphs;
 #[cfg(test)]
 mod refusals;
@@ -34,6 +36,8 @@ mod refusals;
 mod run;
 #[cfg(test)]
 mod served;
+#[cfg(test)]
+mod side_by_side;
 #[cfg(test)]
 mod sizes;
 #[cfg(test)]

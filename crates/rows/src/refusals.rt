@@ -96,11 +96,11 @@ fn refuses_starts(rt: HostRuntime) -> Result<(), Fail> {
             b"refused: start BadConfig\n".as_slice(),
         ),
         (
-            ["ets", "run", "--mode", "free"].as_slice(),
+            ["ets", "run", "--mode", "freely"].as_slice(),
             b"refused: start BadConfig\n".as_slice(),
         ),
         (
-            ["ets", "run", "--mode", "free", "--frames", "0"].as_slice(),
+            ["ets", "run", "--mode", "freely", "--frames", "0"].as_slice(),
             b"refused: start NoFrames\n".as_slice(),
         ),
     ] {

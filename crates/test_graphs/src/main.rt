@@ -1,23 +1,18 @@
 //! Runs random graphs in random orders of steps, and compares each run with the graph's meaning: first graphs with calls and
 //! arrays, with just enough frames, then graphs of all kinds with few frames and small bounds. The words of the command line
-//! may say how many there are of each, and behind `--seed` which. Prints how many there were of what, or the first graph
-//! whose run differs, with status 1.
+//! may say how many there are of each, behind `--seed` which, and behind `--free` how often free elements run each. Prints how
+//! many there were of what, or the first graph whose run differs, with status 1.
 #![tactic(auto)]
 
-mod blocks;
-mod deeds;
-mod dice;
-mod graphs;
-mod kind;
 mod orders;
 mod tally;
 mod trials;
 mod verdict;
 
-use dice::Dice;
 use driver::meaning::mean_text;
-use graphs::{Graph, Part};
 use oracle::MeanEnd;
+use random_graphs::dice::Dice;
+use random_graphs::graphs::{Graph, Part};
 use std::alloc::Global;
 use std::env;
 use std::io::{self, Write};
@@ -36,6 +31,16 @@ struct Sizes {
     calls: u64,
     all: u64,
     seed: u64,
+    /// How often each graph is run by free elements; where nothing is said, each eighth graph once.
+    free: Option<u64>,
+}
+
+/// What the next word is.
+#[derive(Clone, Copy, PartialEq, Eq)]
+enum Next {
+    Size,
+    Seed,
+    Free,
 }
 
 /// The numbers of the words.
@@ -43,23 +48,35 @@ fn sizes_in(words: &[String]) -> Option<Sizes> {
     let mut numbers = [500, 1_000];
     let mut place = 0usize;
     let mut seed = 0;
-    let mut is_seed = false;
+    let mut free = None;
+    let mut next = Next::Size;
     for word in words.iter().skip(1) {
         if word.as_str() == "--seed" {
-            is_seed = true;
+            next = Next::Seed;
+            continue;
+        }
+        if word.as_str() == "--free" {
+            next = Next::Free;
             continue;
         }
         let number: u64 = word.parse().ok()?;
-        if is_seed {
-            seed = number;
-            is_seed = false;
-        } else {
-            *numbers.get_mut(place)? = number;
-            place = place.wrapping_add(1);
+        match next {
+            Next::Seed => seed = number,
+            Next::Free => free = Some(number),
+            Next::Size => {
+                *numbers.get_mut(place)? = number;
+                place = place.wrapping_add(1);
+            }
         }
+        next = Next::Size;
     }
     let [calls, all] = numbers;
-    Some(Sizes { calls, all, seed })
+    Some(Sizes {
+        calls,
+        all,
+        seed,
+        free,
+    })
 }
 
 /// Whether all runs of the graph agree with its meaning. Tells the run that differs.
@@ -70,6 +87,7 @@ fn graph_agrees<R: Threads + Wait + Sync, W: Write>(
     tally: &mut Tally,
     dice: &mut Dice,
     graph: &Graph,
+    free: u64,
 ) -> io::Result<bool> {
     let Ok(meant) = mean_text(alloc, &graph.text, &graph.inputs, ACTIVITIES) else {
         writeln!(out, "refused:")?;
@@ -80,7 +98,7 @@ fn graph_agrees<R: Threads + Wait + Sync, W: Write>(
         return Ok(true);
     }
     let mut trials = Trials::new(alloc, graph, &meant.report);
-    if !trials.all_agree(rt, alloc, tally, dice)? {
+    if !trials.all_agree(rt, alloc, tally, dice, free)? {
         trials.tell(out)?;
         return Ok(false);
     }
@@ -97,14 +115,15 @@ fn part_agrees<R: Threads + Wait + Sync, W: Write>(
     out: &mut W,
     part: Part,
     graphs: u64,
-    seed: u64,
+    sizes: &Sizes,
 ) -> io::Result<bool> {
     let mut tally = Tally::new();
-    let mut dice = Dice::new(seed);
+    let mut dice = Dice::new(sizes.seed);
     for number in 0..graphs {
+        let free = sizes.free.unwrap_or(u64::from(number % 8 == 0));
         let seed = dice.throw(u64::MAX).wrapping_add(number);
         let graph = Graph::random(alloc, part, seed)?;
-        if !graph_agrees(rt, alloc, out, &mut tally, &mut dice, &graph)? {
+        if !graph_agrees(rt, alloc, out, &mut tally, &mut dice, &graph, free)? {
             out.write_all(&graph.text)?;
             for input in &graph.inputs {
                 writeln!(out, "{input}")?;
@@ -121,12 +140,11 @@ fn main(rt: HostRuntime) -> io::Result<ExitCode> {
     let words: Vec<String> = env::args(&rt)?.collect(alloc)?;
     let mut out = io::writer(&rt);
     let Some(sizes) = sizes_in(&words) else {
-        writeln!(out, "words: CALLS ALL --seed SEED")?;
+        writeln!(out, "words: CALLS ALL --seed SEED --free TIMES")?;
         return Ok(ExitCode::FAILURE);
     };
-    let seed = sizes.seed;
-    if part_agrees(&rt, alloc, &mut out, Part::Calls, sizes.calls, seed)?
-        && part_agrees(&rt, alloc, &mut out, Part::All, sizes.all, seed)?
+    if part_agrees(&rt, alloc, &mut out, Part::Calls, sizes.calls, &sizes)?
+        && part_agrees(&rt, alloc, &mut out, Part::All, sizes.all, &sizes)?
     {
         writeln!(out, "agree")?;
         return Ok(ExitCode::SUCCESS);

@@ -2,7 +2,7 @@
 
 ghost use Rattle.std.specs.Prelude.{◌<◌, All, IfOk};
 
-use crate::dice::Dice;
+use random_graphs::dice::Dice;
 use std::alloc::{AllocError, Global};
 
 /// One of so many elements.

@@ -1,9 +1,9 @@
 //! What is told of all the graphs and their runs.
 
-use crate::graphs::Graph;
-use crate::kind::{KINDS, NAMES};
 use crate::verdict::Verdict;
 use oracle::MeanEnd;
+use random_graphs::graphs::Graph;
+use random_graphs::kind::{KINDS, NAMES};
 use std::io::{self, Write};
 
 /// How many of each there were.

@@ -2,15 +2,15 @@
 
 ghost use Rattle.std.specs.Prelude.{◌≡◌, ◌<◌, All};
 
-use crate::dice::Dice;
-use crate::graphs::{Graph, Part};
 use crate::orders::picks;
 use crate::tally::Tally;
 use crate::verdict::{Verdict, verdict_of};
 use command_line::Mode;
-use driver::emulation::{emulate, emulate_picks};
+use driver::emulation::{emulate, emulate_picks, run_text};
 use driver::fault::Fault;
 use oracle::MeanReport;
+use random_graphs::dice::Dice;
+use random_graphs::graphs::{Graph, Part};
 use rounds::Open;
 use schedule::config::Config;
 use schedule::report::Report;
@@ -99,10 +99,27 @@ impl<'a> Trials<'a> {
         self.way = match mode {
             Mode::One => "in turn",
             Mode::Rounds => "in rounds",
+            Mode::Free => "free",
         };
         let text = &self.graph.text;
         let run = emulate(alloc, text, &self.graph.inputs, config, mode, rt, &Open);
         self.judge(tally, config, &run) != Verdict::Differs
+    }
+
+    /// Whether a free run agrees. How it ends may hang on which thread came first, so it is not counted.
+    fn agrees_free<R: Threads + Wait + Sync>(
+        &mut self,
+        rt: &R,
+        alloc: Global,
+        config: Config,
+    ) -> bool {
+        self.way = "free";
+        let text = &self.graph.text;
+        let inputs = &self.graph.inputs;
+        let run = run_text(alloc, text, inputs, config, Mode::Free, rt, &Open).map(
+            |emulated| emulated.report,
+        );
+        self.judge(&mut Tally::new(), config, &run) != Verdict::Differs
     }
 
     /// What a run in that order says.
@@ -149,13 +166,14 @@ impl<'a> Trials<'a> {
         Ok(verdict != Verdict::Differs)
     }
 
-    /// Whether all runs agree with the meaning, up to the first that differs.
+    /// Whether all runs agree with the meaning, up to the first that differs; so many are by free elements.
     pub fn all_agree<R: Threads + Wait + Sync>(
         &mut self,
         rt: &R,
         alloc: Global,
         tally: &mut Tally,
         dice: &mut Dice,
+        free: u64,
     ) -> Result<bool, AllocError> {
         let many = config(1, 1_024);
         let some = config(3, dice.throw(16).wrapping_add(1));
@@ -163,6 +181,11 @@ impl<'a> Trials<'a> {
             || !self.agrees_in(rt, alloc, tally, Mode::Rounds, some)
         {
             return Ok(false);
+        }
+        for _ in 0..free {
+            if !self.agrees_free(rt, alloc, some) {
+                return Ok(false);
+            }
         }
         for _ in 0..ORDERS {
             if !self.agrees_listed(alloc, tally, dice)? {

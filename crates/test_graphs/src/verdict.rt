@@ -1,8 +1,8 @@
 //! Whether what a run tells agrees with the graph's meaning.
 
-use crate::graphs::Graph;
 use driver::fault::Fault;
 use oracle::{Full, MeanEnd, MeanReport};
+use random_graphs::graphs::Graph;
 use schedule::report::Report;
 use semantics::report::End;
 use std::alloc::Global;

@@ -66,6 +66,8 @@ fn mode_in(word: &str) -> Option<Mode> {
         Some(Mode::One)
     } else if word == "rounds" {
         Some(Mode::Rounds)
+    } else if word == "free" {
+        Some(Mode::Free)
     } else {
         None
     }

@@ -56,7 +56,7 @@ const OPTIONS: [&str; 23] = [
     "--steps",
     "7",
     "--mode rounds",
-    "--mode=one",
+    "--mode=free",
     "--mode=",
     "--mode=x=y",
     "--elements=",
@@ -140,7 +140,7 @@ const LEAVES: [&str; 5] = [
 ];
 
 /// Command lines of which the text is printed whole.
-const TEXTS: [&str; 20] = [
+const TEXTS: [&str; 21] = [
     "ets",
     "ets --help",
     "ets help help",
@@ -150,6 +150,7 @@ const TEXTS: [&str; 20] = [
     "ets compile --help",
     "ets dis --help",
     "ets upgrade --help",
+    "ets dot --help",
     "ets walk",
     "ets rn",
     "ets help walk",

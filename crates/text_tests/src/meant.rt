@@ -335,14 +335,15 @@ fn wants_as_many_inputs(rt: HostRuntime) -> Result<(), Fail> {
     Ok(())
 }
 
-/// With one growth refused a run is as it would be, or tells that memory ran out.
-fn rationed_rests<B: Allocator + Clone>(
+/// Whether the growth of that number was refused, with what the run came to. An allocator that has refused once grants all
+/// that comes after, so the next growth is refused only where there were fewer by just one.
+fn rationed_run<B: Allocator + Clone>(
     rt: &impl Abort,
     inner: B,
     text: &[u8],
     inputs: &[i64],
     ration: u64,
-) -> Result<(), Fail> {
+) -> Result<(bool, Result<MeanEnd, MeanFault>), Fail> {
     let plenty = Rationed::new(inner.clone()?, 0);
     let scarce = Rationed::new(inner, ration);
     let Ok(graph) = graph_file::read(&plenty, text) else {
@@ -351,18 +352,30 @@ fn rationed_rests<B: Allocator + Clone>(
     let Ok(checked) = graph_check::check(graph) else {
         rt.exit(102)
     };
-    match mean(&scarce, &checked, inputs, ENOUGH) {
-        Ok(report) => assert_eq!(rt; report.end, MeanEnd::Rest),
-        Err(fault) => assert_eq!(rt; fault, MeanFault::Memory),
-    }
-    Ok(())
+    let end = mean(&scarce, &checked, inputs, ENOUGH).map(|report| report.end);
+    let mut probe: Vec<u64, _> = Vec::new(&scarce);
+    Ok((probe.push(0).is_ok(), end))
 }
 
+/// Each growth that is refused is told, and with all granted the run comes to rest.
 #[test]
-fn tells_a_refused_growth(rt: HostRuntime) -> Result<(), Fail> {
-    for ration in 1..60 {
-        rationed_rests(&rt, rt.alloc(), READERS, &[8], ration)?;
-        rationed_rests(&rt, rt.alloc(), EARLY, &[4, 3], ration)?;
+fn tells_each_refused_growth(rt: HostRuntime) -> Result<(), Fail> {
+    for (text, inputs) in [(READERS, [8].as_slice()), (EARLY, &[4, 3]), (SUM, &[5])] {
+        let mut refused = 0u64;
+        let mut rests = false;
+        for ration in 1..1_000 {
+            match rationed_run(&rt, rt.alloc(), text, inputs, ration)? {
+                (true, end) => assert_eq!(rt; end, Err(MeanFault::Memory), "{ration}"),
+                (false, end) => {
+                    assert_eq!(rt; end, Ok(MeanEnd::Rest), "{ration}");
+                    rests = true;
+                    break;
+                }
+            }
+            refused = refused.wrapping_add(1);
+        }
+        assert!(rt; rests);
+        assert!(rt; refused > 0);
     }
     Ok(())
 }

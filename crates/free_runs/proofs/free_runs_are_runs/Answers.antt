@@ -3,6 +3,7 @@ use Rattle.free_runs.proofs.Running.{run_of_history}
 use Rattle.free_runs.proofs.Reordering.{takes_first}
 use Rattle.free_runs.proofs.Balancing.{what_is_left}
 use Rattle.free_runs.proofs.Showing.{began_freely, shows_freely, stops_freely}
+use Rattle.free_runs.proofs.Ending.{ends_freely}
 use Rattle.free_runs.proofs.free_runs_are_runs.Goals as goal
 
 pub returns-clause-step : goal.returns-clause-step
@@ -28,3 +29,6 @@ returns-clause-first c = takes_first
 
 pub returns-clause-left : goal.returns-clause-left
 returns-clause-left c = what_is_left
+
+pub returns-clause-ends : goal.returns-clause-ends
+returns-clause-ends c = ends_freely

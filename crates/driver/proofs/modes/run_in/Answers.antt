@@ -15,3 +15,8 @@ pub returns-in-Rounds-clause-shows : goal.returns-in-Rounds-clause-shows
 returns-in-Rounds-clause-shows g c = λ inputs began.
     let z : Setting = c.args.machine.state.setting in
     subst (λ (m : Mode). Shows z.program (size z) inputs z.steps false (stops_in m g.G.Gate.may_stop) c.run.result) (sym c.in-Rounds.is) (c.run.ensures.shows inputs began)
+
+pub returns-in-Free-clause-shows : goal.returns-in-Free-clause-shows
+returns-in-Free-clause-shows g c = λ inputs began.
+    let z : Setting = c.args.machine.state.setting in
+    subst (λ (m : Mode). Shows z.program (size z) inputs z.steps false (stops_in m g.G.Gate.may_stop) c.run-in-Free.result) (sym c.in-Free.is) (c.run-in-Free.ensures.shows inputs began)

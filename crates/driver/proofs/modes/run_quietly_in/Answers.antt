@@ -15,3 +15,8 @@ pub returns-in-Rounds : goal.returns-in-Rounds
 returns-in-Rounds g c = λ inputs began.
     let z : Setting = c.args.machine.state.setting in
     subst (λ (m : Mode). ShowsQuietly z.program (size z) inputs z.steps false (stops_in m g.G.Gate.may_stop) c.run_quietly-in-Rounds.result) (sym c.in-Rounds.is) (c.run_quietly-in-Rounds.ensures.shows inputs began)
+
+pub returns-in-Free : goal.returns-in-Free
+returns-in-Free g c = λ inputs began.
+    let z : Setting = c.args.machine.state.setting in
+    subst (λ (m : Mode). ShowsQuietly z.program (size z) inputs z.steps false (stops_in m g.G.Gate.may_stop) c.run_quietly-in-Free.result) (sym c.in-Free.is) (c.run_quietly-in-Free.ensures.shows inputs began)

@@ -1,0 +1,40 @@
+-- What a hint is on standard error, and where there is none.
+use Rattle.std.specs.Prelude.{ℕ, ◌-◌, ◌≤◌, Bool, true, false, not, List, [], ◌∷◌, ◌++◌, length, take, drop, Option, None, Some, codes}
+use Rattle.std.specs.Str.{bytes_eq}
+use Rattle.command_line.specs.declared.Asked.{Asked}
+use Rattle.command_line.specs.declared.Request.{Request}
+
+-- A LINE: `hint: `, printed bytes, and a line feed
+abbrev pub IsPrinted : ℕ → Type 0
+IsPrinted b = (32 ≤ b) × (b ≤ 126)
+
+abbrev pub hint_line : List ℕ → List ℕ
+hint_line text = codes "hint: " ++ text ++ 10 ∷ []
+
+-- one line or two: where the cause stands, if that is told, and the cause
+abbrev pub hint_text : Option (List ℕ) → List ℕ → List ℕ
+hint_text None cause = hint_line cause
+hint_text (Some place) cause = hint_line place ++ hint_line cause
+
+-- WHERE A HINT IS WANTED: not for help and the version; for a run, or one of the meaning, unless it ended at rest; for any
+-- other request where it was refused; for a mistake in the command line
+abbrev pub is_refused : List ℕ → Bool
+is_refused output = bytes_eq (take 9 output) (codes "refused: ")
+
+abbrev pub is_at_rest : List ℕ → Bool
+is_at_rest output = bytes_eq (drop (length output - 9) output) (codes "end Rest" ++ 10 ∷ [])
+
+abbrev pub wants_reason : Request → List ℕ → Bool
+wants_reason (Request.Run o) output = not (is_at_rest output)
+wants_reason (Request.Mean steps) output = not (is_at_rest output)
+wants_reason Request.Check output = is_refused output
+wants_reason Request.Compile output = is_refused output
+wants_reason Request.Dis output = is_refused output
+wants_reason Request.Upgrade output = is_refused output
+wants_reason (Request.Dot code) output = is_refused output
+
+abbrev pub wants_hint : Asked → List ℕ → Bool
+wants_hint (Asked.Request request) output = wants_reason request output
+wants_hint (Asked.Help topic) output = false
+wants_hint Asked.Version output = false
+wants_hint Asked.Mistake output = true

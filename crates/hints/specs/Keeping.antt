@@ -1,0 +1,8 @@
+-- What a reader that keeps has kept.
+use Rattle.std.specs.Prelude.{◌≡◌, ℕ, List, ◌++◌, Option, Some, None, ⊤}
+
+-- these bytes too, or nothing from now on
+abbrev pub KeepsMore : Option (List ℕ) → Option (List ℕ) → List ℕ → Type 0
+KeepsMore old None bytes = ⊤
+KeepsMore None (Some ys) bytes = ⊥
+KeepsMore (Some xs) (Some ys) bytes = ys ≡ xs ++ bytes

@@ -1,0 +1,26 @@
+//! A cause with its place.
+
+use crate::cause::Cause;
+use crate::place::Place;
+
+/// A cause, and where it stands if that is known.
+#[derive(Clone, Copy, Debug)]
+pub struct Found<'a> {
+    pub place: Option<Place<'a>>,
+    pub cause: Cause<'a>,
+}
+
+impl<'a> Found<'a> {
+    /// A cause that stands nowhere.
+    pub fn nowhere(cause: Cause<'a>) -> Found<'a> {
+        Found { place: None, cause }
+    }
+
+    /// A cause that stands there.
+    pub fn at(place: Place<'a>, cause: Cause<'a>) -> Found<'a> {
+        Found {
+            place: Some(place),
+            cause,
+        }
+    }
+}

@@ -1,0 +1,60 @@
+//! The forms of the lines of a graph.
+
+/// The form of a node line behind its region.
+#[derive(Clone, Copy, Debug)]
+pub struct Shape {
+    pub form: &'static str,
+    /// How many fields stand between the kind and the sources.
+    pub operands: u64,
+    /// How many sources there are, where the kind says it.
+    pub sources: Option<u64>,
+}
+
+fn shaped(form: &'static str, operands: u64, sources: Option<u64>) -> Option<Shape> {
+    Some(Shape {
+        form,
+        operands,
+        sources,
+    })
+}
+
+/// The form of a node line of that kind.
+pub fn shape_of(kind: &[u8]) -> Option<Shape> {
+    match kind {
+        b"lit" => shaped("lit V S", 1, Some(1)),
+        b"cond" => shaped("cond S", 0, Some(1)),
+        b"enter" => shaped("enter S", 0, Some(1)),
+        b"merge" => shaped("merge K S T", 1, Some(2)),
+        b"fetch" => shaped("fetch A S", 1, Some(1)),
+        b"store" => shaped("store A S T", 1, Some(2)),
+        b"call" => shaped("call F S..", 1, None),
+        b"scall" => shaped("scall F S..", 1, None),
+        b"loop" => shaped("loop F k S..", 2, None),
+        b"neg" | b"not" => shaped("OP S", 0, Some(1)),
+        b"add"
+        | b"sub"
+        | b"mul"
+        | b"div"
+        | b"rem"
+        | b"and"
+        | b"or"
+        | b"xor"
+        | b"shl"
+        | b"shr"
+        | b"eq"
+        | b"ne"
+        | b"lt"
+        | b"le" => shaped("OP S T", 0, Some(2)),
+        _ => None,
+    }
+}
+
+/// The form of a line outside a block.
+pub fn outer_form(word: &[u8]) -> Option<&'static str> {
+    match word {
+        b"array" => Some("array NAME LEN"),
+        b"block" => Some("block NAME INPUTS OUTPUTS"),
+        b"main" => Some("main NAME"),
+        _ => None,
+    }
+}

@@ -1,0 +1,96 @@
+//! A hint as it is written.
+
+ghost use Rattle.std.specs.Prelude.{◌++◌};
+ghost use Rattle.sink.specs.Sends.{Sends};
+ghost use Rattle.hints.specs.Hints.{IsPrinted, hint_line, hint_text};
+
+use sink::send_all;
+use std::alloc::{AllocError, Allocator};
+use std::io::{self, Write};
+use std::marker::Model;
+
+/// The text of a line, without what it begins with and without its end. Contracts see its bytes, which are all printed.
+#[derive(Drop)]
+pub struct Line<A: Allocator> {
+    bytes: Vec<u8, A>,
+}
+
+impl<A: Allocator> Model for Line<A> {
+    ghost use Rattle.std.specs.Prelude.{ℕ, List, All};
+    ghost use Rattle.hints.specs.Hints.{IsPrinted};
+
+    ghost Value = { List ℕ };
+
+    ghost view = { λ l. l.bytes.items };
+
+    ghost invariant = { λ l. All IsPrinted l.bytes.items };
+}
+
+/// A hint: one line, or two.
+#[derive(Drop)]
+pub struct Hint<A: Allocator> {
+    /// Where the cause stands.
+    pub place: Option<Line<A>>,
+    pub cause: Line<A>,
+}
+
+/// The byte, or `?` in place of one that is not printed.
+fn printed(byte: u8) -> u8
+    ensures { IsPrinted result }
+{
+    if b' ' <= byte && byte <= b'~' {
+        byte
+    } else {
+        b'?'
+    }
+}
+
+impl<A: Allocator> Line<A> {
+    /// The line of a text, with `?` in place of each byte that is not printed.
+    pub(crate) fn of(alloc: A, text: &str) -> Result<Line<A>, AllocError> {
+        let mut bytes = Vec::new(alloc);
+        for byte in text.as_bytes() {
+            bytes.push(printed(*byte))?;
+        }
+        Ok(Line { bytes })
+    }
+
+    fn write<W: Write>(&self, writer: &mut W) -> io::Result<()>
+        ensures { Sends result (W.contents writer.old) (W.contents writer.new) (hint_line self.now) }
+    {
+        send_all(writer, &[b"hint: ", &self.bytes, b"\n"])
+    }
+}
+
+impl<A: Allocator> Hint<A> {
+    /// Writes the hint. After an `Err` a beginning of it was written.
+    pub fn write<W: Write>(&self, writer: &mut W) -> io::Result<()>
+        ensures { Sends result (W.contents writer.old) (W.contents writer.new) (hint_text self.now.place self.now.cause) }
+    {
+        match &self.place {
+            Some(place) => write_both(writer, place, &self.cause),
+            None => self.cause.write(writer),
+        }
+    }
+}
+
+/// Writes the two lines of a hint.
+fn write_both<W: Write, A: Allocator>(
+    writer: &mut W,
+    place: &Line<A>,
+    cause: &Line<A>,
+) -> io::Result<()>
+    ensures { Sends result (W.contents writer.old) (W.contents writer.new) (hint_line place.now ++ hint_line cause.now) }
+{
+    send_all(
+        writer,
+        &[
+            b"hint: ",
+            &place.bytes,
+            b"\n",
+            b"hint: ",
+            &cause.bytes,
+            b"\n",
+        ],
+    )
+}

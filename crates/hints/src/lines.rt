@@ -1,0 +1,105 @@
+//! The lines of a text and their fields, and where in a graph a line stands.
+
+/// What parts fields.
+pub const SPACE: u8 = b' ';
+/// What ends lines.
+pub const LINE_FEED: u8 = b'\n';
+
+/// The line of that number, from 1; empty where there is none.
+pub fn line_at(text: &[u8], number: u64) -> &[u8] {
+    let place = number.saturating_sub(1) as usize;
+    let mut lines = text.split(|byte| *byte == LINE_FEED);
+    lines.nth(place).unwrap_or(b"")
+}
+
+/// The field of that place in a line, from 0.
+pub fn field_at(line: &[u8], place: usize) -> Option<&[u8]> {
+    line.split(|byte| *byte == SPACE).nth(place)
+}
+
+/// How many fields a line has.
+pub fn field_count(line: &[u8]) -> u64 {
+    line.split(|byte| *byte == SPACE).count() as u64
+}
+
+/// The graph's text, up to the end of the first line that begins with `main `, and what follows it.
+pub fn split_graph(input: &[u8]) -> (&[u8], &[u8]) {
+    let mut is_main = input.starts_with(b"main ");
+    for (i, byte) in input.iter().enumerate() {
+        if *byte == LINE_FEED {
+            let (before, after) = input.split_at(i + 1);
+            if is_main {
+                return (before, after);
+            }
+            is_main = after.starts_with(b"main ");
+        }
+    }
+    (input, b"")
+}
+
+/// Where in a graph a line stands.
+#[derive(Clone, Copy, Debug, PartialEq, Eq)]
+pub enum Spot {
+    /// Outside a block, before the first one.
+    Arrays,
+    /// Outside a block, behind the first one.
+    Blocks,
+    /// In a block, before its `out` line.
+    Nodes,
+    /// In a block, behind its `out` line.
+    Closing,
+}
+
+/// What stands before a line of a graph.
+#[derive(Clone, Copy, Debug)]
+pub struct Context<'a> {
+    pub spot: Spot,
+    /// The name in the last `block` line.
+    pub block: &'a [u8],
+    /// How many `array` lines there are.
+    pub arrays: u64,
+    /// How many `block` lines there are.
+    pub blocks: u64,
+}
+
+impl<'a> Context<'a> {
+    /// Behind this line too.
+    fn behind(self, line: &'a [u8]) -> Context<'a> {
+        match (self.spot, field_at(line, 0)) {
+            (Spot::Arrays, Some(b"array")) => Context {
+                arrays: self.arrays.saturating_add(1),
+                ..self
+            },
+            (Spot::Arrays | Spot::Blocks, Some(b"block")) => Context {
+                spot: Spot::Nodes,
+                block: field_at(line, 1).unwrap_or(b""),
+                blocks: self.blocks.saturating_add(1),
+                ..self
+            },
+            (Spot::Nodes, Some(b"out")) => Context {
+                spot: Spot::Closing,
+                ..self
+            },
+            (Spot::Closing, Some(b"end")) => Context {
+                spot: Spot::Blocks,
+                ..self
+            },
+            _ => self,
+        }
+    }
+
+    /// What stands before the line of that number, from 1. The first line is the header.
+    pub fn before(text: &'a [u8], number: u64) -> Context<'a> {
+        let mut context = Context {
+            spot: Spot::Arrays,
+            block: b"",
+            arrays: 0,
+            blocks: 0,
+        };
+        let count = number.saturating_sub(1) as usize;
+        for line in text.split(|byte| *byte == LINE_FEED).take(count).skip(1) {
+            context = context.behind(line);
+        }
+        context
+    }
+}

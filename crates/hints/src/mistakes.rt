@@ -1,0 +1,79 @@
+//! What is wrong with a command line that asks for nothing.
+
+use crate::cause::WordCause;
+use std::convert::AsStr;
+
+/// The options of a command, where it has some.
+fn options_of(command: &str) -> Option<&'static str> {
+    match command {
+        "run" => Some(
+            "--elements N (1 to 16), --frames N (1 to 1024), --steps N (at most 4294967296) and --mode one, rounds or free, each at most once",
+        ),
+        "mean" => Some("--steps N, at most once"),
+        "dot" => Some("--code, at most once"),
+        _ => None,
+    }
+}
+
+fn is_command(word: &str) -> bool {
+    matches!(
+        word,
+        "run" | "mean" | "check" | "compile" | "dis" | "upgrade" | "dot"
+    )
+}
+
+/// Whether the word after this one may be an option's value.
+fn waits(word: &str) -> bool {
+    word.starts_with("--") && word.len() > 2 && word != "--code" && !word.contains('=')
+}
+
+/// The first word after a command that is neither an option nor an option's value.
+fn file_in<'a, S: AsStr>(words: &'a [S]) -> Option<&'a str> {
+    let mut is_value = false;
+    for word in words {
+        let word = word.as_str();
+        if !is_value && !word.is_empty() && !word.starts_with('-') {
+            return Some(word);
+        }
+        is_value = waits(word);
+    }
+    None
+}
+
+/// What is wrong with the words after a command.
+fn after_command<'a, S: AsStr>(command: &'a str, words: &'a [S]) -> WordCause<'a> {
+    if let Some(file) = file_in(words) {
+        return WordCause::File { command, file };
+    }
+    match options_of(command) {
+        Some(options) => WordCause::Options { command, options },
+        None => WordCause::NoOptions { command },
+    }
+}
+
+/// Whether a word is written as the name of a file is.
+fn is_file(word: &str) -> bool {
+    word.contains('.') || word.contains('/')
+}
+
+/// What is wrong with the words, which are those after the program's name.
+pub fn mistake<'a, S: AsStr>(words: &'a [S]) -> WordCause<'a> {
+    let Some((first, rest)) = words.split_first() else {
+        return WordCause::NoCommand;
+    };
+    let word = first.as_str();
+    if is_command(word) {
+        after_command(word, rest)
+    } else if word == "help" {
+        WordCause::Help
+    } else if word.starts_with('-') {
+        WordCause::NoCommand
+    } else if is_file(word) {
+        WordCause::File {
+            command: "run",
+            file: word,
+        }
+    } else {
+        WordCause::Command
+    }
+}

@@ -1,0 +1,324 @@
+//! What is wrong with bytes that are no object.
+
+use crate::cause::{Cause, ObjectCause};
+use crate::found::Found;
+use crate::object_words::{Entry, HALF, HEADER, Header, Instr, word_at};
+use crate::place::Place;
+use crate::shown::Many;
+use object_view::ObjectFault;
+
+/// The number of the last origin.
+const ORIGINS: u64 = 262_144;
+
+/// What instructions are looked at against.
+#[derive(Clone, Copy)]
+struct Tables<'a> {
+    bytes: &'a [u8],
+    header: Header,
+    /// The word of the first instruction.
+    start: u64,
+}
+
+/// A block whose instructions are looked at.
+#[derive(Clone, Copy)]
+struct Within {
+    slots: u64,
+    /// How many instructions behind this one there are.
+    behind: u64,
+    /// The word of this instruction.
+    place: u64,
+}
+
+fn unless(holds: bool, cause: ObjectCause) -> Option<ObjectCause> {
+    if holds { None } else { Some(cause) }
+}
+
+fn range(what: &'static str, value: u64, least: u64, most: u64) -> Option<ObjectCause> {
+    unless(
+        least <= value && value <= most,
+        ObjectCause::Range {
+            what,
+            value,
+            least,
+            most,
+        },
+    )
+}
+
+/// The number of a thing, of which there are so many.
+fn numbered(noun: &'static str, number: u64, count: u64) -> Option<ObjectCause> {
+    let has = Many { count, noun };
+    unless(number < count, ObjectCause::Numbered { noun, number, has })
+}
+
+/// A cause that stands at that word.
+fn at_word<'a>(place: u64, cause: ObjectCause) -> Found<'a> {
+    let offset = place.saturating_mul(8);
+    Found::at(Place::Byte { offset }, Cause::Object(cause))
+}
+
+fn header_cause(header: &Header) -> Option<(u64, ObjectCause)> {
+    if let Some(cause) = range("code blocks", header.blocks, 1, 512) {
+        return Some((2, cause));
+    }
+    if let Some(cause) = range("literals", header.literals, 0, 65_536) {
+        return Some((3, cause));
+    }
+    if let Some(cause) = range("arrays", header.arrays, 0, 64) {
+        return Some((4, cause));
+    }
+    match numbered("code block", header.main, header.blocks) {
+        Some(cause) => Some((5, cause)),
+        None => None,
+    }
+}
+
+fn entry_cause(entry: &Entry) -> Option<ObjectCause> {
+    let least = entry.inputs.saturating_add(1);
+    range("inputs of a code block", entry.inputs, 1, 16)
+        .or(range("outputs of a code block", entry.outputs, 1, 16))
+        .or(range("instructions of a code block", entry.instrs, least, 32_768))
+        .or(range("slots of a code block", entry.slots, 0, 512))
+}
+
+impl<'a> Tables<'a> {
+    fn of(bytes: &'a [u8]) -> Tables<'a> {
+        let header = Header::of(bytes);
+        Tables {
+            bytes,
+            header,
+            start: header.blocks.saturating_add(HEADER),
+        }
+    }
+
+    /// How many instructions all blocks have.
+    fn instrs(&self) -> u64 {
+        let mut instrs = 0u64;
+        for block in 0..self.header.blocks.min(512) {
+            instrs = instrs.saturating_add(Entry::of(self.bytes, block).instrs);
+        }
+        instrs
+    }
+
+    /// The word of the first literal.
+    fn literals(&self) -> u64 {
+        self.start.saturating_add(self.instrs().saturating_mul(2))
+    }
+
+    /// The word of the first array.
+    fn arrays(&self) -> u64 {
+        self.literals().saturating_add(self.header.literals)
+    }
+
+    fn array_cause(&self) -> Option<(u64, ObjectCause)> {
+        let first = self.arrays();
+        let mut cells = 0u64;
+        for array in 0..self.header.arrays.min(64) {
+            let place = first.saturating_add(array);
+            let length = word_at(self.bytes, place);
+            if let Some(cause) = range("cells of an array", length, 1, 65_536) {
+                return Some((place, cause));
+            }
+            cells = cells.saturating_add(length);
+            if let Some(cause) = range("cells of all arrays", cells, 1, 65_536) {
+                return Some((place, cause));
+            }
+        }
+        None
+    }
+
+    /// The first literal that is not above the one before.
+    fn literal_cause(&self) -> Option<(u64, ObjectCause)> {
+        let first = self.literals();
+        for literal in 1..self.header.literals.min(65_536) {
+            let place = first.saturating_add(literal);
+            let before = word_at(self.bytes, place.saturating_sub(1)).cast_signed();
+            if word_at(self.bytes, place).cast_signed() <= before {
+                return Some((place, ObjectCause::LiteralOrder));
+            }
+        }
+        None
+    }
+
+    /// The first count or size that is out of its range, as far as no instruction says it.
+    fn table_cause(&self) -> Option<(u64, ObjectCause)> {
+        if let Some(cause) = header_cause(&self.header) {
+            return Some(cause);
+        }
+        for block in 0..self.header.blocks.min(512) {
+            if let Some(cause) = entry_cause(&Entry::of(self.bytes, block)) {
+                return Some((block.saturating_add(HEADER), cause));
+            }
+        }
+        self.array_cause()
+    }
+
+    fn operand_cause(&self, instr: Instr) -> Option<ObjectCause> {
+        let (operand, origin) = instr.parts(self.header.version);
+        let is_half = self.header.version == 1 || operand < HALF;
+        let fits = instr.may_have(operand) && is_half;
+        let cause = ObjectCause::Operand {
+            opcode: instr.opcode,
+            operand,
+        };
+        unless(fits, cause).or(range("the origin", origin, 0, ORIGINS))
+    }
+
+    fn slot_cause(&self, instr: Instr, within: Within) -> Option<ObjectCause> {
+        let Instr { opcode, slot, .. } = instr;
+        if instr.has_slot() {
+            let slots = Many {
+                count: within.slots,
+                noun: "slot",
+            };
+            unless(slot < within.slots, ObjectCause::Slot { slot, slots })
+        } else {
+            unless(slot == 0, ObjectCause::NoSlot { opcode, slot })
+        }
+    }
+
+    fn destination_cause(&self, half: u64, within: Within) -> Option<ObjectCause> {
+        let ahead = half % 32_768;
+        if ahead == 0 {
+            return unless(half == 0, ObjectCause::NoDistance);
+        }
+        if ahead > within.behind {
+            return Some(ObjectCause::PastEnd { ahead });
+        }
+        let to = within.place.saturating_add(ahead.saturating_mul(2));
+        let target = Instr::of(self.bytes, to);
+        let takes_right = target.is_dyadic() || !target.is_known();
+        unless(
+            half < 32_768 || takes_right,
+            ObjectCause::RightPort { ahead },
+        )
+    }
+
+    fn target_cause(&self, instr: Instr) -> Option<ObjectCause> {
+        let operand = instr.operand;
+        let blocks = self.header.blocks;
+        let fits = match instr.opcode {
+            24 => operand < blocks,
+            25 => {
+                let block = operand / 65_536;
+                block < blocks && operand % 65_536 <= Entry::of(self.bytes, block).inputs
+            }
+            26 | 27 | 32 => operand <= 255,
+            _ => true,
+        };
+        unless(fits, ObjectCause::Target { operand })
+    }
+
+    fn number_cause(&self, instr: Instr) -> Option<ObjectCause> {
+        let (operand, _origin) = instr.parts(self.header.version);
+        if instr.has_literal() {
+            numbered("literal", operand, self.header.literals)
+        } else if matches!(instr.opcode, 21 | 22) {
+            numbered("array", operand, self.header.arrays)
+        } else {
+            None
+        }
+    }
+
+    /// What is wrong with an instruction first.
+    fn instr_cause(&self, instr: Instr, within: Within) -> Option<ObjectCause> {
+        let Instr { opcode, flag, .. } = instr;
+        unless(instr.is_known(), ObjectCause::Opcode { opcode, flag })
+            .or(self.operand_cause(instr))
+            .or(self.slot_cause(instr, within))
+            .or(self.destination_cause(instr.first, within))
+            .or(self.destination_cause(instr.second, within))
+            .or(unless(instr.may_go_to(), ObjectCause::Destinations { opcode }))
+            .or(self.target_cause(instr))
+            .or(self.number_cause(instr))
+    }
+
+    /// The first instruction of a block with which something is wrong; its first instruction has that word.
+    fn in_block<'b>(&self, block: u64, entry: Entry, first: u64) -> Option<Found<'b>> {
+        for number in 0..entry.instrs.min(32_768) {
+            let place = first.saturating_add(number.saturating_mul(2));
+            let within = Within {
+                slots: entry.slots,
+                behind: entry.instrs.saturating_sub(number).saturating_sub(1),
+                place,
+            };
+            if let Some(cause) = self.instr_cause(Instr::of(self.bytes, place), within) {
+                let place = Place::Instr {
+                    number,
+                    block,
+                    offset: place.saturating_mul(8),
+                };
+                return Some(Found::at(place, Cause::Object(cause)));
+            }
+        }
+        None
+    }
+
+    /// The first instruction with which something is wrong.
+    fn bad_instr<'b>(&self) -> Option<Found<'b>> {
+        let mut first = self.start;
+        for block in 0..self.header.blocks.min(512) {
+            let entry = Entry::of(self.bytes, block);
+            if let Some(found) = self.in_block(block, entry, first) {
+                return Some(found);
+            }
+            first = first.saturating_add(entry.instrs.saturating_mul(2));
+        }
+        None
+    }
+
+    /// How many bytes the tables want, as far as they are there.
+    fn length(&self) -> u64 {
+        let has = self.bytes.len() as u64;
+        if has < 48 {
+            return 48;
+        }
+        let table = self.start.saturating_mul(8);
+        if has < table {
+            return table;
+        }
+        self.arrays()
+            .saturating_add(self.header.arrays)
+            .saturating_mul(8)
+    }
+}
+
+fn length_cause(tables: &Tables<'_>) -> ObjectCause {
+    ObjectCause::Length {
+        has: Many {
+            count: tables.bytes.len() as u64,
+            noun: "byte",
+        },
+        wants: tables.length(),
+    }
+}
+
+/// Why the bytes are no object: a fault of that kind.
+pub fn object_fault<'a>(kind: ObjectFault, bytes: &[u8]) -> Option<Found<'a>> {
+    if bytes.is_empty() {
+        return Some(Found::nowhere(Cause::Object(ObjectCause::Empty)));
+    }
+    if bytes.starts_with(b"etsgraph ") {
+        return Some(Found::nowhere(Cause::Object(ObjectCause::AGraph)));
+    }
+    let tables = Tables::of(bytes);
+    let version = tables.header.version;
+    match kind {
+        ObjectFault::BadMagic => Some(at_word(0, ObjectCause::Magic)),
+        ObjectFault::BadVersion => Some(at_word(1, ObjectCause::Version { version })),
+        ObjectFault::Truncated | ObjectFault::Trailing => {
+            Some(Found::nowhere(Cause::Object(length_cause(&tables))))
+        }
+        ObjectFault::BadTable => match tables.table_cause() {
+            Some((place, cause)) => Some(at_word(place, cause)),
+            None => tables.bad_instr(),
+        },
+        ObjectFault::BadLiteral => match tables.literal_cause() {
+            Some((place, cause)) => Some(at_word(place, cause)),
+            None => tables.bad_instr(),
+        },
+        ObjectFault::BadOpcode | ObjectFault::BadSlot | ObjectFault::BadDestination => {
+            tables.bad_instr()
+        }
+    }
+}

@@ -1,0 +1,105 @@
+//! What is wrong with a text that is no graph's.
+
+use crate::cause::{Cause, TextCause};
+use crate::found::Found;
+use crate::line_faults::{bad_line, bad_name, bad_number, too_many, unknown_field};
+use crate::lines::{Context, Spot, line_at};
+use crate::place::Place;
+use crate::shown::Shown;
+use graph_file::{ReadFaultKind, literal};
+
+/// A text that does not begin as a graph does.
+fn no_header<'a>(text: &'a [u8], first: &'a [u8], command: &'a str) -> TextCause<'a> {
+    if text.is_empty() {
+        TextCause::Empty { command }
+    } else if text.starts_with(b"ETSOBJCT") {
+        TextCause::AnObject { command }
+    } else if text.starts_with(b"\xef\xbb\xbf") {
+        TextCause::ByteOrderMark
+    } else if first.ends_with(b"\r") {
+        TextCause::CarriageReturn
+    } else if first == b"etsgraph 1".as_slice() || first == b"etsgraph 2".as_slice() {
+        TextCause::LineUnended
+    } else {
+        TextCause::Header
+    }
+}
+
+/// A text that ends too early.
+fn unended<'a>(text: &[u8], context: &Context<'a>) -> TextCause<'a> {
+    if !text.ends_with(b"\n") {
+        return TextCause::LineUnended;
+    }
+    TextCause::BlockUnended {
+        block: Shown {
+            bytes: context.block,
+        },
+        wanted: if context.spot == Spot::Closing {
+            "the line `end`"
+        } else {
+            "its `out` line and `end`"
+        },
+    }
+}
+
+fn trailing<'a>(line: &'a [u8], command: &'a str) -> TextCause<'a> {
+    match literal(line) {
+        Some(_input) => TextCause::InputsBegin { command },
+        None => TextCause::BehindMain,
+    }
+}
+
+/// Whether the cause stands at a line that is there.
+fn has_line(cause: &Cause<'_>) -> bool {
+    !matches!(
+        cause,
+        Cause::Text(
+            TextCause::Empty { .. }
+                | TextCause::AnObject { .. }
+                | TextCause::BlockUnended { .. }
+                | TextCause::NoMain
+        )
+    )
+}
+
+fn cause_of<'a>(
+    kind: ReadFaultKind,
+    text: &'a [u8],
+    line: &'a [u8],
+    context: &Context<'a>,
+    command: &'a str,
+) -> Cause<'a> {
+    match kind {
+        ReadFaultKind::NoHeader => Cause::Text(no_header(text, line, command)),
+        ReadFaultKind::BadLine => {
+            let is_second = text.starts_with(b"etsgraph 2\n");
+            Cause::Text(bad_line(line, context, is_second))
+        }
+        ReadFaultKind::BadNumber => {
+            bad_number(line, context).map_or(unknown_field(line), Cause::Field)
+        }
+        ReadFaultKind::BadName => bad_name(line, context).map_or(unknown_field(line), Cause::Field),
+        ReadFaultKind::Unended => Cause::Text(unended(text, context)),
+        ReadFaultKind::TooMany => Cause::Text(too_many(line, context)),
+        ReadFaultKind::TrailingText => Cause::Text(trailing(line, command)),
+        ReadFaultKind::NoMain | ReadFaultKind::Memory => Cause::Text(TextCause::NoMain),
+    }
+}
+
+/// Why a text is no graph's: a fault of that kind at the line of that number. `command` is what was asked for.
+pub fn text_fault<'a>(
+    kind: ReadFaultKind,
+    text: &'a [u8],
+    number: u64,
+    command: &'a str,
+) -> Found<'a> {
+    let line = line_at(text, number);
+    let context = Context::before(text, number);
+    let cause = cause_of(kind, text, line, &context, command);
+    if has_line(&cause) {
+        let text = Shown { bytes: line };
+        Found::at(Place::Line { line: number, text }, cause)
+    } else {
+        Found::nowhere(cause)
+    }
+}

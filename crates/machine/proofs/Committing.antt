@@ -1,0 +1,235 @@
+-- A block is committed.
+use Rattle.std.proofs.Common.{◌≡◌, sym, ◌∙◌, ap, subst, ℕ, ◌+◌, ◌-◌, ◌^◌, ◌<◌, ◌≤◌, List, [], ◌∷◌, ◌++◌, length, drop, get_or, arith, append_assoc, ◌⊎◌, inl, inr, Bool, true, false, take, refl}
+use Rattle.std.specs.Prelude.{IsPermutation, flat_map, min, Vec, if◌then◌else◌}
+use Rattle.std.proofs.lemmas.Bool.{cases_lt}
+use Rattle.std.proofs.lemmas.List.{length-append, length-map, append-nil, take-append-drop}
+use Rattle.tags.specs.declared.token.Token.{Token}
+use Rattle.element.specs.declared.lane.Lane.{Lane}
+use Rattle.element.specs.Held.{Held, held_of, IsSoundLane}
+use Rattle.schedule.specs.Setting.{Setting}
+use Rattle.mesh.specs.declared.view.Deed.{Deed}
+use Rattle.mesh.specs.declared.view.Deed.TheVariants.{Committed}
+use Rattle.mesh.specs.Deeds.{created}
+use Rattle.mesh.specs.Seats.{MeshId, SeatView, AllTo, Has, Commits}
+use Rattle.mesh.proofs.Deeds.{created_more}
+use Rattle.rounds.specs.Turns.{Turns, by, logged}
+use Rattle.machine.specs.declared.runner.Runner.{Runner}
+use Rattle.semantics.specs.Machine.{Events}
+use Rattle.free_runs.specs.Blocks.{Act, Block}
+use Rattle.ordering.specs.declared.log.Counts.{Counts}
+use Rattle.ordering.specs.Noted.{Noted, noted_in, with_block}
+use Rattle.ordering.specs.Logs.{taken_in, made_in, counts_of, SpendsOldest, Notes, Logs}
+use Rattle.ordering.proofs.Logging.{ends_block}
+use Rattle.lowering.proofs.Orders.{at_first, IsPermutation-same}
+use Rattle.machine.specs.Runners.{Ran, IsRunning, IsClear, HasMade, NotesBlock, left_last, still_first, away, tokens_of, behind_all}
+use Rattle.machine.proofs.Tokens.{minus}
+use Rattle.machine.proofs.Flowing.{counts, acts_take}
+use Rattle.machine.proofs.Steps.{Parted, acts, cut, ran_as, first_gone, minus_gone, gone_count, left_count, gone_has, gone_mine, block, ran_committed, ran_still}
+
+pub by_min : (m a b : ℕ) → m ≡ min a b → (m ≤ a) × (m ≤ b) × ((m ≡ a) ⊎ (m ≡ b))
+by_min m a b is = (omega (arith, is), omega (arith, is), by_case (cases_lt a b))
+  where
+    by_case : (a < b) ⊎ (b ≤ a) → (m ≡ a) ⊎ (m ≡ b)
+    by_case (inl l) = inl (omega (arith, is, l))
+    by_case (inr l) = inr (omega (arith, is, l))
+
+-- the tokens of events
+tokens_by : (e : ℕ) (ts : List Token) → tokens_of (by e ts) ≡ ts
+tokens_by e [] = refl
+tokens_by e (t ∷ ts) = ap (λ (l : List Token). t ∷ l) (tokens_by e ts)
+
+-- Which tokens a block spent: those that its first events took, where events are listed, and else those that the element held and
+-- holds no more.
+abbrev pub gone_in : {A : Type 0} → Runner A → ℕ → ℕ → List Token
+gone_in r spent made = if r.listed then take spent (tokens_of r.log.items) else minus r.seat.own.held (still_first r made)
+
+more_logs : (n : Noted) (blocks : List Block) (b : Block) (taken made : List Token) (events spent left : ℕ) → taken ≡ taken_in b → made ≡ b.made → events ≡ length b.acts → spent ≡ length b.spent → left ≡ length b.made → SpendsOldest b → Logs n blocks
+    → Logs (behind_all n taken made (record { events = events; spent = spent; made = left })) (blocks ++ b ∷ [])
+more_logs n blocks b taken made events spent left took makes many gone stay oldest logs =
+    let open_one : Noted = record { taken = n.taken ++ taken; made = n.made ++ made; blocks = n.blocks } in
+    let notes : Notes open_one blocks (taken_in b) b.made = record {
+      taken = ap (λ (l : List Token). l ++ taken) (logs.taken ∙ append-nil (flat_map taken_in blocks)) ∙ ap (λ (l : List Token). flat_map taken_in blocks ++ l) took;
+      made = ap (λ (l : List Token). l ++ made) (logs.made ∙ append-nil (flat_map made_in blocks)) ∙ ap (λ (l : List Token). flat_map made_in blocks ++ l) makes;
+      counts = logs.counts;
+      oldest = logs.oldest;
+    } in
+    let counts : counts_of b ≡ record { events = events; spent = spent; made = left } = λ i. (let c : Counts = record { events = sym many i; spent = sym gone i; made = sym stay i } in c) in
+    subst (λ (c : Counts). Logs (with_block open_one c) (blocks ++ b ∷ [])) counts (ends_block open_one blocks b notes oldest)
+
+module _ {A : Type 0} (g : Setting) (mesh : MeshId) (start old : Held) (before events : ℕ) (r : Runner A) (h : HasMade g mesh start old before events r) where
+  abbrev pub beside : List Token
+  beside = r.hand.items ++ flat_map (λ v. v.items) r.kept.items
+
+  abbrev new : Held
+  new = held_of r.lane
+
+  abbrev pub parts : Parted old (held_of r.lane) r.sent.items (acts g mesh start r.seat.own.element old r.seat.own.deeds r.seat.own.held beside h.ran h.taken (held_of r.lane) r.sent.items h.turns) h.taken
+  parts = cut g mesh start r.seat.own.element old r.seat.own.deeds r.seat.own.held beside h.ran h.taken new r.sent.items h.turns
+
+  -- a block of some events takes a token of the queue
+  pub some_before : 0 < events → 0 < before
+  some_before some = let e = h.events_are in let q = h.before_is in let f = first_some h.taken h.turns (omega (arith, some, e)) in omega (arith, q, f)
+    where
+      first_some : (us : List Token) → Turns g.program g.steps old [] us (held_of r.lane) r.sent.items → 0 < length us → 0 < length old.queue
+      first_some [] turns low = absurd (omega (arith, low))
+      first_some (u ∷ us) (mid, sent, does, is, few, sound, rest) low = does.picks.some
+
+  module _ (spent : ℕ) (few : spent ≤ events) (within : spent ≤ before) (whole : (spent ≡ events) ⊎ (spent ≡ before)) where
+    pub spent_is : spent ≡ length parts.spent
+    spent_is = by_case whole parts.many.2
+      where
+        by_case : (spent ≡ events) ⊎ (spent ≡ before) → (length parts.spent ≡ length h.taken) ⊎ (length parts.spent ≡ length old.queue) → spent ≡ length parts.spent
+        by_case a b = let m = parts.many in let e = h.events_are in let q = h.before_is in both a b (omega (arith, m.0, e)) (omega (arith, m.1, q))
+          where
+            both : (spent ≡ events) ⊎ (spent ≡ before) → (length parts.spent ≡ length h.taken) ⊎ (length parts.spent ≡ length old.queue) → length parts.spent ≤ events → length parts.spent ≤ before → spent ≡ length parts.spent
+            both (inl a) (inl b) l k = let e = h.events_are in omega (arith, a, b, e)
+            both (inl a) (inr b) l k = let q = h.before_is in omega (arith, a, b, q, l, within)
+            both (inr a) (inl b) l k = let e = h.events_are in omega (arith, a, b, e, k, few)
+            both (inr a) (inr b) l k = let q = h.before_is in omega (arith, a, b, q)
+
+    keep_is : before - spent ≡ length parts.keep
+    keep_is =
+        let q = h.before_is in
+        let l = length-append parts.spent parts.keep in
+        let w : length old.queue ≡ length (parts.spent ++ parts.keep) = ap (λ (x : List Token). length x) parts.before in
+        let s = spent_is in
+        omega (arith, q, l, w, s)
+
+    new_is : length r.lane.queue.items ≡ length parts.keep + length parts.more
+    new_is = ap (λ (x : List Token). length x) parts.after ∙ length-append parts.keep parts.more
+
+    -- what the queue had before and has still is no more than it has
+    pub behind : before - spent ≤ length r.lane.queue.items
+    behind = let k = keep_is in let n = new_is in omega (arith, k, n)
+
+    module _ (made : ℕ) (made_is : made ≡ (length r.lane.queue.items - (before - spent)) + length r.sent.items) where
+      pub count_is : made ≡ length parts.more + length r.sent.items
+      count_is = let k = keep_is in let n = new_is in omega (arith, k, n, made_is)
+
+      abbrev pub gone : List Token
+      gone = gone_in r spent made
+
+      abbrev left : List Token
+      left = left_last r made
+
+      log_tokens : r.listed ≡ true → tokens_of r.log.items ≡ h.taken
+      log_tokens on = ap (λ (l : Events). tokens_of l) (h.log ∙ ap (λ (b : Bool). logged b [] (by old.part.shape.element h.taken)) on) ∙ tokens_by old.part.shape.element h.taken
+
+      gone_listed : r.listed ≡ true → gone ≡ take spent h.taken
+      gone_listed on = ap (λ (b : Bool). if b then take spent (tokens_of r.log.items) else minus r.seat.own.held (still_first r made)) on ∙ ap (λ (l : List Token). take spent l) (log_tokens on)
+
+      gone_is : IsPermutation gone parts.spent
+      gone_is = by_listed r.listed refl
+        where
+          by_listed : (b : Bool) → r.listed ≡ b → IsPermutation gone parts.spent
+          by_listed true on = IsPermutation-same _ _ (gone_listed on ∙ first_gone g mesh start r.seat.own.element old r.seat.own.deeds r.seat.own.held beside h.ran h.taken new r.sent.items h.turns spent made spent_is count_is)
+          by_listed false off = at_first (ap (λ (b : Bool). if b then take spent (tokens_of r.log.items) else minus r.seat.own.held (still_first r made)) off) (minus_gone g mesh start r.seat.own.element old r.seat.own.deeds r.seat.own.held beside h.ran h.taken new r.sent.items h.turns spent made spent_is count_is)
+
+      pub asked : (length gone ≡ spent) × (length left ≡ made)
+      asked = (gone_count g mesh start r.seat.own.element old r.seat.own.deeds r.seat.own.held beside h.ran h.taken new r.sent.items h.turns spent made spent_is count_is gone gone_is, left_count g mesh start r.seat.own.element old r.seat.own.deeds r.seat.own.held beside h.ran h.taken new r.sent.items h.turns spent made spent_is count_is gone gone_is)
+
+      pub addressed : AllTo mesh.elements r.seat.own.element gone
+      addressed = subst (λ (n : ℕ). AllTo n r.seat.own.element gone) (sym h.ran.elements) (gone_mine g mesh start r.seat.own.element old r.seat.own.deeds r.seat.own.held beside h.ran h.taken new r.sent.items h.turns spent made spent_is count_is gone gone_is)
+
+      pub has : Has r.seat.own.held gone
+      has = (still_first r made, gone_has g mesh start r.seat.own.element old r.seat.own.deeds r.seat.own.held beside h.ran h.taken new r.sent.items h.turns spent made spent_is count_is gone gone_is)
+
+      abbrev the_block : Block
+      the_block = block g mesh start r.seat.own.element old r.seat.own.deeds r.seat.own.held beside h.ran h.taken new r.sent.items h.turns spent made spent_is count_is gone gone_is
+
+      -- the block is noted
+      logs_more : r.listed ≡ true → Logs (behind_all (noted_in r.notes) (tokens_of r.log.items) left (record { events = length r.log.items; spent = spent; made = made })) (h.blocks ++ the_block ∷ [])
+      logs_more on =
+          let took : taken_in the_block ≡ h.taken = acts_take g.program g.steps old [] h.taken new r.sent.items h.turns in
+          let tokens : tokens_of r.log.items ≡ taken_in the_block = log_tokens on ∙ sym took in
+          let events : length r.log.items ≡ length the_block.acts = sym (length-map r.log.items (λ (ev : ℕ × Token). ev.1)) ∙ ap (λ (l : List Token). length l) tokens ∙ length-map the_block.acts (λ (a : Act). a.token) in
+          let oldest : taken_in the_block ≡ gone ++ drop spent h.taken = took ∙ sym (take-append-drop spent h.taken) ∙ ap (λ (l : List Token). l ++ drop spent h.taken) (sym (gone_listed on)) in
+          more_logs (noted_in r.notes) h.blocks the_block (tokens_of r.log.items) left (length r.log.items) spent made tokens refl events (sym asked.0) (sym asked.1) (drop spent h.taken, oldest) (h.noted on)
+
+      pub committed : (s last : Runner A) → s ≡ record r { seat = s.seat } → Commits gone left r.seat s.seat → r.created + made ≤ 2 ^ 40 → NotesBlock spent made (record s { created = s.created + made }) last → IsRunning g mesh start last
+      committed s last others commits small notes =
+          let own = r.seat.own in
+          let kept = commits.0 in
+          let is = commits.3 in
+          let ds : List Deed = own.deeds ++ Committed gone left ∷ [] in
+          let ran = ran_committed g mesh start r.seat.own.element old r.seat.own.deeds r.seat.own.held beside h.ran h.taken new r.sent.items h.turns spent made spent_is count_is gone gone_is kept commits.2 in
+          let undealt : drop r.dealt r.sent.items ≡ r.sent.items = ap (λ (n : ℕ). drop n r.sent.items) h.undealt in
+          let same_away : away s ≡ beside ++ r.sent.items = ap (λ (z : Runner A). away z) others ∙ ap (λ (l : List Token). r.hand.items ++ (flat_map (λ v. v.items) r.kept.items ++ l)) undealt ∙ sym (append_assoc r.hand.items (flat_map (λ v. v.items) r.kept.items) r.sent.items) in
+          let lane : held_of s.lane ≡ new = ap (λ (z : Runner A). held_of z.lane) others in
+          let deeds : s.seat.own.deeds ≡ ds = ap (λ (z : SeatView). z.own.deeds) is in
+          let counted : created s.seat.own.deeds ≡ s.created + made = (let more = created_more own.deeds (Committed gone left) in let same : created s.seat.own.deeds ≡ created ds = ap created deeds in let c = h.tidy.created in let n = asked.1 in let o : s.created ≡ r.created = ap (λ (z : Runner A). z.created) others in omega arith) in
+          let listed : s.listed ≡ r.listed = ap (λ (z : Runner A). z.listed) others in
+          let as_noted = ap (λ (z : Runner A). behind_all (noted_in z.notes) (tokens_of z.log.items) (left_last z made) (record { events = length z.log.items; spent = spent; made = made })) others in
+          subst (λ (z : Runner A). IsRunning g mesh start z) (sym notes.others) (record {
+            at = ap (λ (z : SeatView). z.mesh) is ∙ h.at;
+            alone = ap (λ (z : SeatView). z.joined) is ∙ h.alone;
+            blocks = h.blocks ++ the_block ∷ [];
+            ran = ran_as g mesh start own.element s.seat.own.element new (held_of s.lane) ds s.seat.own.deeds (left ++ kept) s.seat.own.held (beside ++ r.sent.items) (away s)
+                (ap (λ (z : SeatView). z.own.element) is) lane deeds (ap (λ (z : SeatView). z.own.held) is) same_away ran;
+            tidy = record {
+              count = ap (λ (z : Runner A). length z.kept.items) others ∙ h.tidy.count;
+              addressed = λ i d low. subst (λ (z : Runner A). AllTo g.elements i (get_or z.kept.items i d).items) (sym others) (h.tidy.addressed i d low);
+              created = counted;
+              few = let o : s.created ≡ r.created = ap (λ (z : Runner A). z.created) others in omega (arith, o, small);
+            };
+            noted = λ on. subst (λ (n : Noted). Logs n (h.blocks ++ the_block ∷ [])) (sym (notes.notes on ∙ as_noted)) (logs_more (sym listed ∙ on));
+            unlogged = by_listed s.listed s last refl notes listed (ap (λ (z : Runner A). z.log.items) others);
+          })
+        where
+          by_listed : (b : Bool) (s last : Runner A) → s.listed ≡ b → NotesBlock spent made (record s { created = s.created + made }) last → s.listed ≡ r.listed → s.log.items ≡ r.log.items → last.log.items ≡ []
+          by_listed true s last on notes same log = notes.log ∙ ap (λ (b : Bool). if b then [] else s.log.items) on
+          by_listed false s last off notes same log = notes.log ∙ ap (λ (b : Bool). if b then [] else s.log.items) off ∙ log ∙ h.log ∙ ap (λ (b : Bool). logged b [] (by old.part.shape.element h.taken)) (sym same ∙ off)
+
+  -- no event was made
+  pub nothing_made : events ≡ 0 → IsRunning g mesh start r
+  nothing_made none =
+      let n : length h.taken ≡ 0 = sym h.events_are ∙ none in
+      let still = ran_still g mesh start r.seat.own.element old r.seat.own.deeds r.seat.own.held beside h.ran h.taken new r.sent.items h.turns n in
+      let all : List Token = flat_map (λ v. v.items) r.kept.items in
+      let same : away r ≡ beside = ap (λ (k : ℕ). r.hand.items ++ (all ++ drop k r.sent.items)) h.undealt ∙ ap (λ (l : List Token). r.hand.items ++ (all ++ l)) still.1 ∙ ap (λ (l : List Token). r.hand.items ++ l) (append-nil all) in
+      record {
+        at = h.at;
+        alone = h.alone;
+        blocks = h.blocks;
+        ran = ran_as g mesh start r.seat.own.element r.seat.own.element old new r.seat.own.deeds r.seat.own.deeds r.seat.own.held r.seat.own.held beside (away r) refl still.0 refl refl same h.ran;
+        tidy = record { count = h.tidy.count; addressed = h.tidy.addressed; created = h.tidy.created; few = h.tidy.few };
+        noted = h.noted;
+        unlogged = h.log ∙ ap (λ (l : List Token). logged r.listed [] (by old.part.shape.element l)) (none_taken h.taken n) ∙ nothing_logged r.listed;
+      }
+    where
+      none_taken : (us : List Token) → length us ≡ 0 → us ≡ []
+      none_taken [] e = refl
+      none_taken (u ∷ us) e = absurd (omega (arith, e))
+
+      nothing_logged : (b : Bool) → logged b [] [] ≡ []
+      nothing_logged true = refl
+      nothing_logged false = refl
+
+-- A turn has been taken, and is not committed.
+module _ {A : Type 0} (g : Setting) (mesh : MeshId) (start : Held) (r : Runner A) (run : IsRunning g mesh start r) (clear : IsClear r) where
+  pub has_made : (lane : Lane A) (sent : Vec Token A) (log : Vec (ℕ × Token) A) (taken : List Token) (before events : ℕ) → Turns g.program g.steps (held_of r.lane) r.sent.items taken (held_of lane) sent.items → IsSoundLane g.program (held_of lane)
+      → before ≡ length r.lane.queue.items → events ≡ lane.made - r.lane.made → log.items ≡ logged r.listed r.log.items (by r.lane.element taken) → HasMade g mesh start (held_of r.lane) before events (record r { lane = lane; sent = sent; log = log })
+  has_made lane sent log taken before events turns sound before_is events_is logs =
+      let old : Held = held_of r.lane in
+      let fresh : Turns g.program g.steps old [] taken (held_of lane) sent.items = subst (λ (l : List Token). Turns g.program g.steps old l taken (held_of lane) sent.items) clear.1 turns in
+      let count : lane.made ≡ r.lane.made + length taken = counts g.program g.steps old [] taken (held_of lane) sent.items fresh in
+      let all : List Token = flat_map (λ v. v.items) r.kept.items in
+      let less : away r ≡ r.hand.items ++ all = ap (λ (n : ℕ). r.hand.items ++ (all ++ drop n r.sent.items)) clear.2 ∙ ap (λ (l : List Token). r.hand.items ++ (all ++ l)) clear.1 ∙ ap (λ (l : List Token). r.hand.items ++ l) (append-nil all) in
+      record {
+        at = run.at;
+        alone = run.alone;
+        blocks = run.blocks;
+        ran = subst (λ (l : List Token). Ran g mesh r.seat.own.element start old r.seat.own.deeds r.seat.own.held l run.blocks) less run.ran;
+        noted = run.noted;
+        log = logs ∙ ap (λ (l : Events). logged r.listed l (by r.lane.element taken)) run.unlogged;
+        tidy = record { count = run.tidy.count; addressed = run.tidy.addressed; created = run.tidy.created; few = run.tidy.few };
+        taken = taken;
+        turns = fresh;
+        sound = sound;
+        before_is = before_is;
+        events_are = omega (arith, count, events_is);
+        undealt = clear.2;
+      }
+
+  pub more_made : (lane : Lane A) (sent : Vec Token A) (taken : List Token) → Turns g.program g.steps (held_of r.lane) r.sent.items taken (held_of lane) sent.items → r.lane.made ≤ lane.made
+  more_made lane sent taken turns = let count : lane.made ≡ r.lane.made + length taken = counts g.program g.steps (held_of r.lane) r.sent.items taken (held_of lane) sent.items turns in omega (arith, count)

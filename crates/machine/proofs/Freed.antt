@@ -1,0 +1,342 @@
+-- From runners that have left to one run of the machine, and its report.
+use Rattle.std.proofs.Common.{◌≡◌, refl, sym, ◌∙◌, ap, subst, ℕ, zero, suc, ◌+◌, ◌<◌, ◌⊎◌, inl, inr, Bool, true, false, ℤ, List, [], ◌∷◌, ◌++◌, length, map, get_or, Option, Some, arith}
+use Rattle.std.specs.Prelude.{All, IsPermutation, slice_get}
+use Rattle.std.specs.Option.{option_map}
+use Rattle.std.proofs.lemmas.List.{length-map}
+use Rattle.std.proofs.lemmas.List.Sorted.{IsPermutation-refl}
+use Rattle.std.proofs.lemmas.Option.{slice_get-map, slice_get-get_or}
+use mathlib.Core.Option.{some}
+use lib.ListN.{get_elem?}
+use Rattle.crossbeam_utils.specs.declared.cache_padded.CachePadded.{CachePadded}
+use Rattle.crossbeam_utils.specs.Padded.{padded_value}
+use Rattle.tags.specs.declared.token.Token.{Token}
+use Rattle.semantics.specs.Machine.{Events}
+use Rattle.semantics.specs.Report.{Report, Shows}
+use Rattle.element.specs.Held.{Held}
+use Rattle.schedule.specs.declared.halt.Halt.{Halt}
+use Rattle.schedule.specs.Setting.{Setting, size}
+use Rattle.schedule.specs.State.{State, AllFrom, IsPlaced, IsSoundState, tokens_in}
+use Rattle.schedule.specs.Runs.{Began, HaltsAs, NamesCell}
+use Rattle.schedule.specs.Unlisted.{with_events, ShowsBut}
+use Rattle.schedule.proofs.Reports.{clash_cell}
+use Rattle.mesh.specs.Seats.{MeshId, Account, SeatView, AreFresh, AreAll, accounts, Leaves, HasCommits, Agree, IsFinal, fresh_seat}
+use Rattle.rounds.specs.Turns.{HaltsLane, coming}
+use Rattle.rounds.specs.Rounds.{IsHalted, ShowsOn}
+use Rattle.rounds.proofs.Closing.{raw_sound, none_sound, shows_any}
+use Rattle.rounds.proofs.Rounding.{halts_as}
+use Rattle.free_runs.specs.Blocks.{Block, events_in, LeavesTokens, AreBelow}
+use Rattle.free_runs.specs.Ends as ends
+use Rattle.ordering.specs.declared.log.Log.{Log}
+use Rattle.ordering.specs.Noted.{noted_in}
+use Rattle.ordering.specs.Logs.{Logs}
+use Rattle.ordering.specs.Orders.{IsHistory}
+use Rattle.free_runs.proofs.Ending.{ends_freely}
+use Rattle.machine.specs.declared.runner.Left.{Left}
+use Rattle.machine.specs.declared.runner.Runner.{Runner}
+use Rattle.machine.specs.Runners.{Ran, IsRunning, Runs, IsClear, IsLeft, away}
+use Rattle.machine.specs.Starts.{lane_in, seat_of, left_of, notes_of, listed_of, lanes_in, seats_in, lefts_in, logs_in, AreListed, IsNew, Tells, AllEnded, Lists}
+use Rattle.machine.proofs.Beginning.{new_running}
+use Rattle.machine.proofs.Chosen.{chosen}
+use Rattle.machine.proofs.Freeing.{left_at}
+
+-- PLACES
+module _ {X Y : Type 0} (f : X → Y) where
+  get_map : (xs : List X) (i : ℕ) (d : X) → i < length xs → get_elem? (map f xs) i ≡ some (f (get_or xs i d))
+  get_map [] i d low = absurd (let no : ⊥ = omega (arith, low) in no)
+  get_map (x ∷ xs) zero d low = refl
+  get_map (x ∷ xs) (suc i) d low = let within : i < length xs = omega (arith, low) in get_map xs i d within
+
+  -- what stands there comes of one of the list
+  get_found : (xs : List X) (i : ℕ) (y : Y) → get_elem? (map f xs) i ≡ some y → (x : X) × (i < length xs) × (y ≡ f x) × (get_or xs i x ≡ x)
+  get_found [] i y is = absurd (let no : ⊥ = cc in no)
+  get_found (x ∷ xs) zero y is = (x, omega arith, cc, refl)
+  get_found (x ∷ xs) (suc i) y is = let r = get_found xs i y is in let low = r.1 in (r.0, omega (arith, low), r.2, r.3)
+
+  slice_map : (xs : List X) (i : ℕ) (d : X) → i < length xs → slice_get (map f xs) i ≡ Some (f (get_or xs i d))
+  slice_map xs i d low = slice_get-map f xs i ∙ ap (λ (o : Option X). option_map f o) (slice_get-get_or xs i d low)
+
+  slice_found : (xs : List X) (i : ℕ) (y : Y) → slice_get (map f xs) i ≡ Some y → (x : X) × (i < length xs) × (y ≡ f x) × (get_or xs i x ≡ x)
+  slice_found [] i y is = absurd (let no : ⊥ = cc in no)
+  slice_found (x ∷ xs) zero y is = (x, omega arith, cc, refl)
+  slice_found (x ∷ xs) (suc i) y is = let r = slice_found xs i y is in let low = r.1 in (r.0, omega (arith, low), r.2, r.3)
+
+there_is : {X : Type 0} (xs : List X) (i : ℕ) → i < length xs → (x : X) × (get_or xs i x ≡ x)
+there_is [] i low = absurd (let no : ⊥ = omega (arith, low) in no)
+there_is (x ∷ xs) zero low = (x, refl)
+there_is (x ∷ xs) (suc i) low = let within : i < length xs = omega (arith, low) in there_is xs i within
+
+same_some : {X : Type 0} (x y : X) → some x ≡ some y → x ≡ y
+same_some x y e = cc
+
+same_Some : {X : Type 0} (x y : X) → Some x ≡ Some y → x ≡ y
+same_Some x y e = cc
+
+each_from : {X : Type 0} (P : ℕ → X → Type 0) (k : ℕ) (xs : List X) → ((i : ℕ) (x : X) → slice_get xs i ≡ Some x → P (k + i) x) → AllFrom P k xs
+each_from P k [] each = tt
+each_from P k (x ∷ xs) each = (
+  subst (λ (n : ℕ). P n x) (omega arith) (each 0 x refl),
+  each_from P (suc k) xs (λ i y is. subst (λ (n : ℕ). P n y) (omega arith) (each (suc i) y is)),
+)
+
+module _ {A : Type 0} where
+  abbrev own_of : CachePadded (Runner A) → Account
+  own_of p = (seat_of p).own
+
+  abbrev owns : List (CachePadded (Runner A)) → List Account
+  owns ps = map own_of ps
+
+  owns_are : (ps : List (CachePadded (Runner A))) → map (λ (s : SeatView). s.own) (seats_in ps) ≡ owns ps
+  owns_are [] = refl
+  owns_are (p ∷ ps) = ap (λ (l : List Account). own_of p ∷ l) (owns_are ps)
+
+  -- RUNNERS BEFORE THE FIRST EVENT
+  pub record AreReady (g : Setting) (mesh : MeshId) (listed : Bool) (ps : List (CachePadded (Runner A))) : Type 0 where
+    pub sound : IsSoundState (coming g (lanes_in ps) [])
+    pub elements : mesh.elements ≡ g.elements
+    pub start : mesh.start ≡ tokens_in (lanes_in ps)
+    pub count : length ps ≡ g.elements
+    pub fresh : AreFresh mesh (seats_in ps)
+    pub new : All (λ (p : CachePadded (Runner A)). IsNew g.elements (padded_value p)) ps
+    pub all_listed : AreListed listed ps
+
+  pub are_ready : (g : Setting) (mesh : MeshId) (on : Bool) (ps : List (CachePadded (Runner A))) (raw : List Held) → IsSoundState (coming g raw []) → (mesh.elements ≡ g.elements) × (mesh.start ≡ tokens_in raw) → (lanes_in ps ≡ raw) × (length ps ≡ g.elements)
+      → AreFresh mesh (seats_in ps) → All (λ (p : CachePadded (Runner A)). IsNew g.elements (padded_value p)) ps → AreListed on ps → AreReady g mesh on ps
+  are_ready g mesh on ps raw sound is lanes fresh new listed = record {
+    sound = subst (λ (l : List Held). IsSoundState (coming g l [])) (sym lanes.0) sound;
+    elements = is.0;
+    start = is.1 ∙ ap (λ (l : List Held). tokens_in l) (sym lanes.0);
+    count = lanes.1;
+    fresh = fresh;
+    new = new;
+    all_listed = listed;
+  }
+
+  module _ (g : Setting) (mesh : MeshId) (listed : Bool) (olds : List (CachePadded (Runner A))) (ready : AreReady g mesh listed olds) where
+    fresh_at : (i : ℕ) (d : CachePadded (Runner A)) → i < length olds → seat_of (get_or olds i d) ≡ fresh_seat mesh i
+    fresh_at i d low = ready.fresh i (seat_of (get_or olds i d)) (get_map seat_of olds i d low)
+
+    running : (i : ℕ) (d : CachePadded (Runner A)) → i < length olds → IsRunning g mesh (lane_in (get_or olds i d)) (padded_value (get_or olds i d))
+    running i d low =
+        new_running g mesh i (lanes_in olds) (padded_value (get_or olds i d)) ready.elements ready.start (raw_sound g (lanes_in olds) [] ready.sound).lanes (slice_map lane_in olds i d low) (fresh_at i d low)
+        (ready.new i d low)
+
+    pub all_run : All (λ (p : CachePadded (Runner A)). Runs g mesh (padded_value p) × IsClear (padded_value p)) olds
+    all_run = λ i d low. ((lane_in (get_or olds i d), running i d low), (ready.new i d low).clear)
+
+    -- RUNNERS THAT HAVE LEFT
+    module _ (may_stop : Bool) (news : List (CachePadded (Runner A))) (ended : AllEnded g mesh may_stop olds news) (count : length news ≡ length olds) (none_lost : (i : ℕ) → slice_get (lefts_in news) i ≡ Some Left.Lost → ⊥) where
+      within : (i : ℕ) → i < length olds → i < length news
+      within i low = omega (arith, low, count)
+
+      ran : (i : ℕ) (d : CachePadded (Runner A)) → i < length olds → IsRunning g mesh (lane_in (get_or olds i d)) (padded_value (get_or news i d))
+      ran i d low = (ended i d low).keeps (λ (is : left_of (get_or news i d) ≡ Left.Lost). none_lost i (left_at news i d Left.Lost (within i low) is)) (lane_in (get_or olds i d)) (running i d low)
+
+      element : (i : ℕ) (d : CachePadded (Runner A)) → i < length olds → (own_of (get_or news i d)).element ≡ i
+      element i d low = (ended i d low).stays.2 ∙ ap (λ (s : SeatView). s.own.element) (fresh_at i d low)
+
+      -- the same, of what was found at its place
+      module _ (i : ℕ) (p : CachePadded (Runner A)) (low : i < length news) (is : get_or news i p ≡ p) where
+        low_old : i < length olds
+        low_old = omega (arith, low, count)
+
+        ran_at : IsRunning g mesh (lane_in (get_or olds i p)) (padded_value p)
+        ran_at = subst (λ (q : CachePadded (Runner A)). IsRunning g mesh (lane_in (get_or olds i p)) (padded_value q)) is (ran i p low_old)
+
+        element_at : (own_of p).element ≡ i
+        element_at = ap (λ (q : CachePadded (Runner A)). (own_of q).element) (sym is) ∙ element i p low_old
+
+        listed_at : listed_of p ≡ listed
+        listed_at = ap (λ (q : CachePadded (Runner A)). listed_of q) (sym is) ∙ (ended i p low_old).stays.3 ∙ ready.all_listed i p low_old
+
+        left_is : IsLeft g may_stop (padded_value p) (left_of p)
+        left_is = subst (λ (q : CachePadded (Runner A)). IsLeft g may_stop (padded_value q) (left_of q)) is (ended i p low_old).left
+
+        placed_at : IsPlaced g i (lane_in p)
+        placed_at = subst (λ (n : ℕ). IsPlaced g n (lane_in p)) element_at ran_at.ran.placed
+
+        ran_here : Ran g mesh i (lane_in (get_or olds i p)) (lane_in p) (own_of p).deeds (own_of p).held (away (padded_value p)) ran_at.blocks
+        ran_here = subst (λ (n : ℕ). Ran g mesh n (lane_in (get_or olds i p)) (lane_in p) (own_of p).deeds (own_of p).held (away (padded_value p)) ran_at.blocks) element_at ran_at.ran
+
+        did : ends.Ran g i (lane_in (get_or olds i p)) (own_of p) (lane_in p) (away (padded_value p)) ran_at.blocks
+        did = record {
+          element = element_at;
+          placed = ran_here.placed;
+          led = ran_here.leads;
+          commits = sym ran_here.commits;
+          made = ran_here.count;
+          balanced = ran_here.balanced;
+          held = ran_here.holds;
+        }
+
+      pub all_seats : AreAll mesh (seats_in news)
+      all_seats = (
+        length-map news seat_of ∙ count ∙ ready.count ∙ sym ready.elements,
+        λ i s is.
+            let f = get_found seat_of news i s is in
+            let r = ran_at i f.0 f.1 f.3 in (
+              ap (λ (x : SeatView). x.mesh) f.2 ∙ r.at,
+              ap (λ (x : SeatView). x.joined) f.2 ∙ r.alone,
+              ap (λ (x : SeatView). x.own.element) f.2 ∙ element_at i f.0 f.1 f.3,
+            ),
+      )
+
+      pub sound_last : IsSoundState (record { setting = g; lanes = lanes_in news })
+      sound_last = record {
+        setting = ready.sound.setting;
+        count = length-map news lane_in ∙ count ∙ ready.count;
+        lanes = each_from (IsPlaced g) 0 (lanes_in news) (λ i h is.
+            let f = slice_found lane_in news i h is in
+            let at : IsPlaced g i h = subst (λ (x : Held). IsPlaced g i x) (sym f.2) (placed_at i f.0 f.1 f.3) in
+            subst (λ (n : ℕ). IsPlaced g n h) (omega arith) at);
+      }
+
+      -- THE RUN
+      abbrev RanAs : ℕ → List Token × List Block → Type 0
+      RanAs i x = (old new : Held) (a : Account) → slice_get (lanes_in olds) i ≡ Some old → get_elem? (owns news) i ≡ some a → slice_get (lanes_in news) i ≡ Some new → ends.Ran g i old a new x.0 x.1
+
+      abbrev HasNoted : ℕ → List Block → Type 0
+      HasNoted i blocks = (l : Log A) → listed ≡ true → slice_get (logs_in news) i ≡ Some l → Logs (noted_in l) blocks
+
+      abbrev Did : ℕ → List Token × List Block → Type 0
+      Did i x = RanAs i x × HasNoted i x.1
+
+      noted_at : (i : ℕ) (p : CachePadded (Runner A)) (low : i < length news) (is : get_or news i p ≡ p) → HasNoted i (ran_at i p low is).blocks
+      noted_at i p low is = λ l on w.
+          let notes : notes_of p ≡ l = ap (λ (q : CachePadded (Runner A)). notes_of q) (sym is) ∙ same_Some (notes_of (get_or news i p)) l (sym (slice_map notes_of news i p low) ∙ w) in
+          subst (λ (z : Log A). Logs (noted_in z) (ran_at i p low is).blocks) notes ((ran_at i p low is).noted (listed_at i p low is ∙ on))
+
+      did_at : (i : ℕ) (p : CachePadded (Runner A)) (low : i < length news) (is : get_or news i p ≡ p) → RanAs i (away (padded_value p), (ran_at i p low is).blocks)
+      did_at i p low is = λ old new a o n w.
+          let d = did i p low is in
+          let first : lane_in (get_or olds i p) ≡ old = same_Some (lane_in (get_or olds i p)) old (sym (slice_map lane_in olds i p (low_old i p low is)) ∙ o) in
+          let last : lane_in p ≡ new = ap (λ (q : CachePadded (Runner A)). lane_in q) (sym is) ∙ same_Some (lane_in (get_or news i p)) new (sym (slice_map lane_in news i p low) ∙ w) in
+          let own : own_of p ≡ a = ap (λ (q : CachePadded (Runner A)). own_of q) (sym is) ∙ same_some (own_of (get_or news i p)) a (sym (get_map own_of news i p low) ∙ n) in
+          let kept : List Token = away (padded_value p) in
+          let blocks : List Block = (ran_at i p low is).blocks in
+          subst (λ (x : Held). ends.Ran g i x a new kept blocks) first (subst (λ (x : Account). ends.Ran g i (lane_in (get_or olds i p)) x new kept blocks) own (subst (λ (x : Held). ends.Ran g i (lane_in (get_or olds i p)) (own_of p) x kept blocks) last d))
+
+      pub choice : (f : ℕ → List Token × List Block) × ((i : ℕ) → i < g.elements → Did i (f i))
+      choice = chosen g.elements ([], []) Did (λ i low.
+          let there : i < length news = (let n = ready.count in omega (arith, low, count, n)) in
+          let p = there_is news i there in
+          ((away (padded_value p.0), (ran_at i p.0 there p.1).blocks), (did_at i p.0 there p.1, noted_at i p.0 there p.1)))
+
+      abbrev kept_by : ℕ → List Token
+      kept_by i = (choice.0 i).0
+
+      abbrev blocks_of : ℕ → List Block
+      blocks_of i = (choice.0 i).1
+
+      -- WHY IT HALTS
+      lane_halts : (halt : Halt) (tokens : List Token) (e : ℕ) → slice_get (lefts_in news) e ≡ Some (Left.Halted halt) → IsHalted (coming g (lanes_in news) tokens) may_stop halt
+      lane_halts halt tokens e is =
+          let f = slice_found left_of news e (Left.Halted halt) is in
+          let why : HaltsLane g.program g.steps may_stop (lane_in f.0) (Some halt) = subst (λ (l : Left). IsLeft g may_stop (padded_value f.0) l) (sym f.2) (left_is e f.0 f.1 f.3) in
+          halts_as g may_stop (lanes_in news) tokens e (lane_in f.0) halt (slice_map lane_in news e f.0 f.1 ∙ ap (λ (q : CachePadded (Runner A)). Some (lane_in q)) f.3) why
+
+      pub cell : (halt : Halt) → Tells (lefts_in news) halt → NamesCell g.program halt
+      cell halt tells = by_left tells.1
+        where
+          by_halt : IsHalted (coming g (lanes_in news) []) may_stop halt → NamesCell g.program halt
+          by_halt (inl halts) = clash_cell (coming g (lanes_in news) []) false halt (none_sound g (lanes_in news) sound_last) halts
+          by_halt (inr (stop, may)) = subst (λ (h : Halt). NamesCell g.program h) (sym stop) tt
+
+          by_left : ((e : ℕ) × (slice_get (lefts_in news) e ≡ Some (Left.Halted halt))) ⊎ (((e : ℕ) × (slice_get (lefts_in news) e ≡ Some Left.Rested)) × (halt ≡ Halt.NoToken)) → NamesCell g.program halt
+          by_left (inl (e, is)) = by_halt (lane_halts halt [] e is)
+          by_left (inr (at, none)) = subst (λ (h : Halt). NamesCell g.program h) (sym none) tt
+
+      module _ (s : SeatView) (mesh_is : s.mesh ≡ mesh) (seats : accounts s ≡ map (λ (x : SeatView). x.own) (seats_in news)) (history : (n : ℕ) × Leaves s.mesh s.seen n) (commits : HasCommits s) (agree : Agree s) (final : IsFinal s) where
+        accounts_are : accounts s ≡ owns news
+        accounts_are = seats ∙ owns_are news
+
+        all_did : ends.AllRan g (lanes_in olds) (accounts s) (lanes_in news) kept_by blocks_of
+        all_did = λ e old new a o n w.
+            let f = slice_found lane_in news e new w in
+            let low : e < g.elements = (let l = f.1 in let n = ready.count in omega (arith, l, n, count)) in
+            (choice.1 e low).0 old new a o (subst (λ (l : List Account). get_elem? l e ≡ some a) accounts_are n) w
+
+        pub the_end : (inputs : List ℤ) (before : Events) → Began inputs (coming g (lanes_in olds) []) before → ends.Ended g s inputs before (lanes_in news) blocks_of
+        the_end inputs before began =
+            ends_freely g ready.sound.setting s history.0 (lanes_in olds) (lanes_in news) kept_by blocks_of
+            (ap (λ (m : MeshId). m.elements) mesh_is ∙ ready.elements)
+            (subst (λ (l : List Token). IsPermutation l (tokens_in (lanes_in olds))) (sym (ap (λ (m : MeshId). m.start) mesh_is ∙ ready.start)) (IsPermutation-refl (tokens_in (lanes_in olds))))
+            history.1 commits agree final
+            (ap (λ (l : List Account). length l) accounts_are ∙ length-map news own_of ∙ count ∙ ready.count)
+            ready.sound (length-map news lane_in ∙ count ∙ ready.count) all_did inputs before began
+
+        rests : (inputs : List ℤ) (before : Events) (x : ends.Ended g s inputs before (lanes_in news) blocks_of) (e : ℕ) → slice_get (lefts_in news) e ≡ Some Left.Rested → tokens_in (coming g (lanes_in news) x.tokens).lanes ≡ []
+        rests inputs before x e is =
+            let f = slice_found left_of news e Left.Rested is in
+            let seen : Leaves (seat_of f.0).mesh (own_of f.0).last 0 = subst (λ (l : Left). IsLeft g may_stop (padded_value f.0) l) (sym f.2) (left_is e f.0 f.1 f.3) in
+            let there : get_elem? (owns news) e ≡ some (own_of f.0) = get_map own_of news e f.0 f.1 ∙ ap (λ (q : CachePadded (Runner A)). some (own_of q)) f.3 in
+            x.rest e (own_of f.0) (subst (λ (l : List Account). get_elem? l e ≡ some (own_of f.0)) (sym accounts_are) there)
+            (subst (λ (m : MeshId). Leaves m (own_of f.0).last 0) ((ran_at e f.0 f.1 f.3).at ∙ sym mesh_is) seen)
+
+        halted : (halt : Halt) → Tells (lefts_in news) halt → (inputs : List ℤ) (before : Events) (x : ends.Ended g s inputs before (lanes_in news) blocks_of) → IsHalted (coming g (lanes_in news) x.tokens) may_stop halt
+        halted halt tells inputs before x = by_left tells.1
+          where
+            by_left : ((e : ℕ) × (slice_get (lefts_in news) e ≡ Some (Left.Halted halt))) ⊎ (((e : ℕ) × (slice_get (lefts_in news) e ≡ Some Left.Rested)) × (halt ≡ Halt.NoToken)) → IsHalted (coming g (lanes_in news) x.tokens) may_stop halt
+            by_left (inl (e, is)) = lane_halts halt x.tokens e is
+            by_left (inr (at, none)) = inl (subst (λ (h : Halt). HaltsAs (coming g (lanes_in news) x.tokens) false h) (sym none) (rests inputs before x at.0 at.1))
+
+        logs_count : length (logs_in news) ≡ g.elements
+        logs_count = length-map news notes_of ∙ count ∙ ready.count
+
+        history_of : listed ≡ true → (inputs : List ℤ) (before : Events) (x : ends.Ended g s inputs before (lanes_in news) blocks_of) → IsHistory (logs_in news) x.log s.mesh.start x.last
+        history_of on inputs before x = record {
+          leaves = subst (λ (n : ℕ). LeavesTokens n s.mesh.start x.log x.last) (sym logs_count) x.legal;
+          below = subst (λ (n : ℕ). AreBelow n x.log) (sym logs_count) x.below;
+          noted = λ e l is.
+              let f = slice_found notes_of news e l is in
+              let low : e < g.elements = (let k = f.1 in let n = ready.count in omega (arith, k, n, count)) in
+              subst (λ (bs : List Block). Logs (noted_in l) bs) (sym (x.own e low)) ((choice.1 e low).1 l on is);
+        }
+
+        -- the events that are listed are those of a run that comes to these lanes
+        ordered : listed ≡ true → (kept after : Events) (opening : List Token) → opening ≡ tokens_in (lanes_in olds) → Lists (logs_in news) opening kept after → (inputs : List ℤ) (before : Events) (x : ends.Ended g s inputs before (lanes_in news) blocks_of)
+            → (made : Events) × Began inputs (coming g (lanes_in news) x.tokens) (before ++ made) × (after ≡ kept ++ made)
+        ordered on kept after opening opens lists inputs before x =
+            let start : opening ≡ s.mesh.start = opens ∙ sym (ap (λ (m : MeshId). m.start) mesh_is ∙ ready.start) in
+            let l = lists x.log s.mesh.start x.last (history_of on inputs before x) (subst (λ (ts : List Token). IsPermutation opening ts) start (IsPermutation-refl opening)) in
+            let o = l.1 in
+            let leaves : LeavesTokens g.elements s.mesh.start o.history x.last = subst (λ (n : ℕ). LeavesTokens n s.mesh.start o.history x.last) logs_count o.leaves in
+            let below : AreBelow g.elements o.history = subst (λ (n : ℕ). AreBelow n o.history) logs_count o.below in
+            (l.0, subst (λ (evs : Events). Began inputs (coming g (lanes_in news) x.tokens) (before ++ evs)) (sym o.events) (x.any o.history leaves below o.blocks), l.2)
+
+        -- the report of these lanes
+        pub shows_last : (halt : Halt) → Tells (lefts_in news) halt → (now : Setting) → now ≡ g → (raw : List Held) → raw ≡ lanes_in news → (logs : List (Log A)) → logs ≡ logs_in news → (opening : List Token) → opening ≡ tokens_in (lanes_in olds)
+            → (kept after : Events) (r : Report) → (listed ≡ true → Lists logs opening kept after)
+            → ((inputs : List ℤ) (in_list : Bool) (ts : List Token) (evs : Events) → IsSoundState (coming now raw ts) → Began inputs (coming now raw ts) evs → HaltsAs (coming now raw ts) in_list halt → ShowsBut now.program (size now) inputs now.steps in_list false after evs r)
+            → (halt ≡ Halt.Stop → (inputs : List ℤ) (in_list : Bool) (ts : List Token) (evs : Events) → IsSoundState (coming now raw ts) → Began inputs (coming now raw ts) evs → ShowsBut now.program (size now) inputs now.steps in_list true after evs r)
+            → (inputs : List ℤ) (before : Events) → Began inputs (coming g (lanes_in olds) []) before → ShowsOn listed g.program (size g) inputs g.steps may_stop kept before r
+        shows_last halt tells now setting raw is logs logs_are opening opens kept after r lists shows stopped inputs before began = by_end (the_end inputs before began)
+          where
+            by_end : ends.Ended g s inputs before (lanes_in news) blocks_of → ShowsOn listed g.program (size g) inputs g.steps may_stop kept before r
+            by_end x = by_listed listed refl
+              where
+                same : coming g (lanes_in news) x.tokens ≡ coming now raw x.tokens
+                same = ap (λ (l : List Held). coming g l x.tokens) (sym is) ∙ ap (λ (z : Setting). coming z raw x.tokens) (sym setting)
+
+                sound : IsSoundState (coming now raw x.tokens)
+                sound = subst (λ (w : State). IsSoundState w) same x.sound
+
+                by_halt : (all : Events) → Began inputs (coming now raw x.tokens) all → IsHalted (coming now raw x.tokens) may_stop halt → ShowsBut now.program (size now) inputs now.steps false may_stop after all r
+                by_halt all last (inl halts) =
+                    let shown = shows inputs false x.tokens all sound last halts in
+                    (shown.0, shows_any now.program (size now) inputs now.steps false may_stop (with_events r shown.0) shown.1, shown.2)
+                by_halt all last (inr (stop, may)) =
+                    let shown = stopped stop inputs false x.tokens all sound last in
+                    (shown.0, subst (λ (m : Bool). Shows now.program (size now) inputs now.steps false m (with_events r shown.0)) (sym may) shown.1, shown.2)
+
+                told : (all : Events) → Began inputs (coming g (lanes_in news) x.tokens) all → ShowsBut g.program (size g) inputs g.steps false may_stop after all r
+                told all last = subst (λ (z : Setting). ShowsBut z.program (size z) inputs z.steps false may_stop after all r) setting
+                    (by_halt all (subst (λ (w : State). Began inputs w all) same last) (subst (λ (w : State). IsHalted w may_stop halt) same (halted halt tells inputs before x)))
+
+                by_listed : (b : Bool) → listed ≡ b → ShowsOn listed g.program (size g) inputs g.steps may_stop kept before r
+                by_listed false off =
+                    let t = told (before ++ events_in x.log) x.began in
+                    (t.0, t.1, λ on same. absurd (let no : ⊥ = cc in no))
+                by_listed true on =
+                    let o = ordered on kept after opening opens (subst (λ (l : List (Log A)). Lists l opening kept after) logs_are (lists on)) inputs before x in
+                    let t = told (before ++ o.0) o.1 in
+                    (t.0, t.1, λ yes at. t.2 (o.2 ∙ ap (λ (l : Events). l ++ o.0) at))

@@ -1,0 +1,346 @@
+-- An element runs on, from whatever it started.
+use Rattle.std.proofs.Common.{◌≡◌, ◌≢◌, refl, sym, ◌∙◌, ap, subst, ℕ, zero, suc, ◌+◌, ◌^◌, ◌<◌, ◌≤◌, Bool, List, [], ◌∷◌, ◌++◌, length, drop, get_or, arith, append_assoc, true}
+use Rattle.std.specs.Prelude.{IsPermutation, flat_map, slice_set, Vec, Option, Some, None, IfSome, IfNone, Result, OnErr, OnOk}
+use Rattle.std.proofs.lemmas.List.{append-nil, drop_more, drop_all, length-set}
+use Rattle.std.proofs.lemmas.List.Elements.{All-nil, All-cons, All-append}
+use Rattle.std.proofs.lemmas.List.Sorted.{IsPermutation-sym, IsPermutation-trans, IsPermutation-append_left, IsPermutation-append_right}
+use mathlib.Core.Logic.{dite}
+use native.Mathlib.Decide.{ℕ_discrete}
+use Rattle.determinacy.proofs.Perm.{permutation_cancel}
+use Rattle.lowering.proofs.Orders.{shuffled, Part as Piece, ◌⊕◌, at_first, at_last, IsPermutation-same}
+use Rattle.tags.specs.declared.token.Token.{Token}
+use Rattle.tags.specs.Addresses.{element_of}
+use Rattle.element.specs.declared.lane.Lane.{Lane}
+use Rattle.element.specs.Held.{Held, held_of, with_queue}
+use Rattle.schedule.specs.declared.halt.Halt.{Halt}
+use Rattle.schedule.specs.Setting.{Setting}
+use Rattle.schedule.proofs.Memory.{ok_then}
+use Rattle.mesh.specs.declared.view.Commit.{Commit}
+use Rattle.mesh.specs.declared.view.Deed.{Deed}
+use Rattle.mesh.specs.declared.view.Deed.TheVariants.{Posted, FoundFull, Took, SawLive}
+use Rattle.mesh.specs.Deeds.{Bundle, created, made_in}
+use Rattle.mesh.specs.Seats.{MeshId, SeatView, AllTo, Has, Posts, Counts, Leaves, noting, having_taken}
+use Rattle.mesh.proofs.Deeds.{created_more}
+use Rattle.machine.specs.declared.runner.Left.{Left}
+use Rattle.machine.specs.declared.runner.Runner.{Runner}
+use Rattle.rounds.specs.Turns.{HaltsLane}
+use Rattle.ordering.specs.Noted.{noted_in}
+use Rattle.ordering.specs.Logs.{Logs}
+use Rattle.machine.specs.Runners.{Ended, IsLeft, StaysAt, Runs, Keeps, IsClear, Receives, KeepsTokens, away}
+use Rattle.machine.proofs.Accounts.{IsQuiet, found_full, saw_live}
+use Rattle.machine.proofs.Steps.{ran_as, ran_quiet, ran_beside, ran_received, ran_in_hand, ran_posted}
+
+same_created : (ds es : List Deed) (d : Deed) (n : ℕ) → es ≡ ds ++ d ∷ [] → made_in d ≡ 0 → created ds ≡ n → created es ≡ n
+same_created ds es d n is none was = let more = created_more ds d in let same : created es ≡ created (ds ++ d ∷ []) = ap created is in omega arith
+
+pub on_err : {X Y : Type 0} (r : Result X Y) (P : Type 0) → P → OnErr r P
+on_err (Result.Ok x) P p = tt
+on_err (Result.Err y) P p = p
+
+module _ {A : Type 0} (g : Setting) (mesh : MeshId) where
+  abbrev bundles : List (Vec Token A) → List Token
+  bundles vs = flat_map (λ (v : Vec Token A). v.items) vs
+
+  pub runs_on : (old new : Runner A) → Runs g mesh old → Keeps g mesh old new → Runs g mesh new
+  runs_on old new runs keeps = (runs.0, keeps runs.0 runs.1)
+
+  pub keeps_same : (old : Runner A) → Keeps g mesh old old
+  keeps_same old = λ start r. r
+
+  pub keeps_twice : (old mid new : Runner A) → Keeps g mesh old mid → Keeps g mesh mid new → Keeps g mesh old new
+  keeps_twice old mid new one two = λ start r. two start (one start r)
+
+  pub keeps_on : {X Y : Type 0} (r : Result X Y) (old mid new : Runner A) → Keeps g mesh old mid → OnOk r (Keeps g mesh mid new) → OnOk r (Keeps g mesh old new)
+  keeps_on r old mid new one two = ok_then r (Keeps g mesh mid new) (Keeps g mesh old new) (λ k. keeps_twice old mid new one k) two
+
+  -- how many blocks it asked for, and why it left, play no role
+  pub keeps_counting : (old : Runner A) (blocks : ℕ) → Keeps g mesh old (record old { blocks = blocks })
+  keeps_counting old blocks = λ start r. record { at = r.at; alone = r.alone; blocks = r.blocks; ran = r.ran; noted = r.noted; unlogged = r.unlogged; tidy = record { count = r.tidy.count; addressed = r.tidy.addressed; created = r.tidy.created; few = r.tidy.few } }
+
+  pub keeps_leaving : (old : Runner A) (left : Left) → Keeps g mesh old (record old { left = left })
+  keeps_leaving old left = λ start r. record { at = r.at; alone = r.alone; blocks = r.blocks; ran = r.ran; noted = r.noted; unlogged = r.unlogged; tidy = record { count = r.tidy.count; addressed = r.tidy.addressed; created = r.tidy.created; few = r.tidy.few } }
+
+  -- one more deed that moves no token
+  pub keeps_noting : (old : Runner A) (s : SeatView) (d : Deed) → IsQuiet d → made_in d ≡ 0 → s ≡ noting old.seat d → Keeps g mesh old (record old { seat = s })
+  keeps_noting old s d quiet none is = λ start r.
+      let own = old.seat.own in
+      record {
+        at = ap (λ (z : SeatView). z.mesh) is ∙ r.at;
+        alone = ap (λ (z : SeatView). z.joined) is ∙ r.alone;
+        blocks = r.blocks;
+        noted = r.noted;
+        unlogged = r.unlogged;
+        ran = ran_as g mesh start own.element s.own.element (held_of old.lane) (held_of old.lane) (own.deeds ++ d ∷ []) s.own.deeds own.held s.own.held (away old) (away old)
+            (ap (λ (z : SeatView). z.own.element) is) refl (ap (λ (z : SeatView). z.own.deeds) is) (ap (λ (z : SeatView). z.own.held) is) refl
+            (ran_quiet g mesh start own.element (held_of old.lane) own.deeds own.held (away old) r.ran d quiet);
+        tidy = record {
+          count = r.tidy.count;
+          addressed = r.tidy.addressed;
+          created = same_created own.deeds s.own.deeds d old.created (ap (λ (z : SeatView). z.own.deeds) is) none r.tidy.created;
+          few = r.tidy.few;
+        };
+      }
+
+  -- a look at the live word
+  pub keeps_counted : (old : Runner A) (s : SeatView) (count : ℕ) → Counts count old.seat s → Keeps g mesh old (record old { seat = s })
+  keeps_counted old s count counts = λ start r.
+      let own = old.seat.own in
+      let is = counts.1 in
+      let d : Deed = SawLive count in
+      record {
+        at = ap (λ (z : SeatView). z.mesh) is ∙ r.at;
+        alone = ap (λ (z : SeatView). z.joined) is ∙ r.alone;
+        blocks = r.blocks;
+        noted = r.noted;
+        unlogged = r.unlogged;
+        ran = ran_as g mesh start own.element s.own.element (held_of old.lane) (held_of old.lane) (own.deeds ++ d ∷ []) s.own.deeds own.held s.own.held (away old) (away old)
+            (ap (λ (z : SeatView). z.own.element) is) refl (ap (λ (z : SeatView). z.own.deeds) is) (ap (λ (z : SeatView). z.own.held) is) refl
+            (ran_quiet g mesh start own.element (held_of old.lane) own.deeds own.held (away old) r.ran d (saw_live count));
+        tidy = record {
+          count = r.tidy.count;
+          addressed = r.tidy.addressed;
+          created = same_created own.deeds s.own.deeds d old.created (ap (λ (z : SeatView). z.own.deeds) is) refl r.tidy.created;
+          few = r.tidy.few;
+        };
+      }
+
+  -- a bundle was taken, and lies in the queue
+  pub keeps_received : (old new : Runner A) (s : SeatView) (from : ℕ) (x : Bundle) → from < g.elements → s ≡ having_taken old.seat from x → AllTo mesh.elements old.seat.own.element x → Receives g (record old { seat = s }) x new → Keeps g mesh old new
+  keeps_received old new s from x low is to received = λ start r.
+      let own = old.seat.own in
+      let seat : new.seat ≡ s = ap (λ (z : Runner A). z.seat) received.others in
+      let whole : new.seat ≡ having_taken old.seat from x = seat ∙ is in
+      let mine : AllTo g.elements own.element x = subst (λ (n : ℕ). AllTo n own.element x) r.ran.elements to in
+      record {
+        at = ap (λ (z : SeatView). z.mesh) whole ∙ r.at;
+        alone = ap (λ (z : SeatView). z.joined) whole ∙ r.alone;
+        blocks = r.blocks;
+        noted = subst (λ (z : Runner A). z.listed ≡ true → Logs (noted_in z.notes) r.blocks) (sym received.others) r.noted;
+        unlogged = ap (λ (z : Runner A). z.log.items) received.others ∙ r.unlogged;
+        ran = ran_as g mesh start own.element new.seat.own.element (with_queue (held_of old.lane) ((held_of old.lane).queue ++ x)) (held_of new.lane) (own.deeds ++ Took from x ∷ []) new.seat.own.deeds (x ++ own.held) new.seat.own.held (away old) (away new)
+            (ap (λ (z : SeatView). z.own.element) whole) received.lane (ap (λ (z : SeatView). z.own.deeds) whole) (ap (λ (z : SeatView). z.own.held) whole) (ap (λ (z : Runner A). away z) received.others)
+            (ran_received g mesh start own.element (held_of old.lane) own.deeds own.held (away old) r.ran from x low received.near mine);
+        tidy = record {
+          count = ap (λ (z : Runner A). length z.kept.items) received.others ∙ r.tidy.count;
+          addressed = λ i d within. subst (λ (z : Runner A). AllTo g.elements i (get_or z.kept.items i d).items) (sym received.others) (r.tidy.addressed i d within);
+          created = same_created own.deeds new.seat.own.deeds (Took from x) new.created (ap (λ (z : SeatView). z.own.deeds) whole) refl (r.tidy.created ∙ ap (λ (z : Runner A). z.created) (sym received.others));
+          few = subst (λ (z : Runner A). z.created ≤ 2 ^ 40) (sym received.others) r.tidy.few;
+        };
+      }
+
+  -- a bundle was taken, and is in hand
+  pub keeps_in_hand : (old : Runner A) (s : SeatView) (from : ℕ) (x : Vec Token A) (lane : Lane A) → from < g.elements → IsClear old → s ≡ having_taken old.seat from x.items → held_of lane ≡ held_of old.lane → Keeps g mesh old (record old { seat = s; lane = lane; hand = x })
+  keeps_in_hand old s from x lane low clear is same = λ start r.
+      let own = old.seat.own in
+      let beside : x.items ++ (bundles old.kept.items ++ drop old.dealt old.sent.items) ≡ x.items ++ away old = ap (λ (l : List Token). x.items ++ (l ++ (bundles old.kept.items ++ drop old.dealt old.sent.items))) (sym clear.0) in
+      record {
+        at = ap (λ (z : SeatView). z.mesh) is ∙ r.at;
+        alone = ap (λ (z : SeatView). z.joined) is ∙ r.alone;
+        blocks = r.blocks;
+        noted = r.noted;
+        unlogged = r.unlogged;
+        ran = ran_as g mesh start own.element s.own.element (held_of old.lane) (held_of lane) (own.deeds ++ Took from x.items ∷ []) s.own.deeds (x.items ++ own.held) s.own.held (x.items ++ away old) (x.items ++ (bundles old.kept.items ++ drop old.dealt old.sent.items))
+            (ap (λ (z : SeatView). z.own.element) is) same (ap (λ (z : SeatView). z.own.deeds) is) (ap (λ (z : SeatView). z.own.held) is) beside
+            (ran_in_hand g mesh start own.element (held_of old.lane) own.deeds own.held (away old) r.ran from x.items low);
+        tidy = record {
+          count = r.tidy.count;
+          addressed = r.tidy.addressed;
+          created = same_created own.deeds s.own.deeds (Took from x.items) old.created (ap (λ (z : SeatView). z.own.deeds) is) refl r.tidy.created;
+          few = r.tidy.few;
+        };
+      }
+
+  pub keeps_taken : (old new : Runner A) (s : SeatView) (from : ℕ) (x : Vec Token A) (o : Option Halt) → from < g.elements → IsClear old → s ≡ having_taken old.seat from x.items → AllTo mesh.elements old.seat.own.element x.items
+      → IfNone o (Receives g (record old { seat = s }) x.items new) → IfSome o (λ halt. (halt ≡ Halt.Memory) × (held_of new.lane ≡ held_of old.lane) × (new ≡ record old { seat = s; lane = new.lane; hand = x })) → Keeps g mesh old new
+  keeps_taken old new s from x None low clear is to none some_one = keeps_received old new s from x.items low is to none
+  keeps_taken old new s from x (Some halt) low clear is to none some_one = subst (λ (z : Runner A). Keeps g mesh old z) (sym some_one.2) (keeps_in_hand old s from x new.lane low clear is some_one.1)
+
+  -- DEALING
+  pub keeps_dealt : (old : Runner A) (kept : Vec (Vec Token A) A) (t : Token) → KeepsTokens g.elements old.kept.items kept.items (t ∷ []) → old.dealt < length old.sent.items → t ≡ get_or old.sent.items old.dealt t
+      → Keeps g mesh old (record old { kept = kept; dealt = old.dealt + 1 })
+  keeps_dealt old kept t keeps low is = λ start r.
+      let first : drop old.dealt old.sent.items ≡ t ∷ drop (old.dealt + 1) old.sent.items = drop_more old.sent.items old.dealt t low ∙ ap (λ (u : Token). u ∷ drop (old.dealt + 1) old.sent.items) (sym is) in
+      let rest = drop (old.dealt + 1) old.sent.items in
+      let beside : IsPermutation (away old) (old.hand.items ++ (bundles kept.items ++ rest)) =
+      IsPermutation-append_right old.hand.items _ _ (at_first (ap (λ (l : List Token). bundles old.kept.items ++ l) first)
+      (IsPermutation-trans _ _ _ (shuffled (bundles old.kept.items ∷ (t ∷ []) ∷ rest ∷ []) (Piece 0 ⊕ (Piece 1 ⊕ Piece 2)) ((Piece 0 ⊕ Piece 1) ⊕ Piece 2) refl)
+      (IsPermutation-append_left rest _ _ (IsPermutation-sym _ _ keeps.tokens)))) in
+      record {
+        at = r.at;
+        alone = r.alone;
+        blocks = r.blocks;
+        noted = r.noted;
+        unlogged = r.unlogged;
+        ran = ran_beside g mesh start old.seat.own.element (held_of old.lane) old.seat.own.deeds old.seat.own.held (away old) r.ran (old.hand.items ++ (bundles kept.items ++ rest)) beside;
+        tidy = record { count = keeps.count ∙ r.tidy.count; addressed = keeps.addressed r.tidy.addressed; created = r.tidy.created; few = r.tidy.few };
+      }
+
+  pub keeps_dealt_at : (old : Runner A) (kept : Vec (Vec Token A) A) (t : Token) (at : ℕ) → old.dealt ≡ at → KeepsTokens g.elements old.kept.items kept.items (t ∷ []) → at < length old.sent.items → t ≡ get_or old.sent.items at t
+      → Keeps g mesh old (record old { kept = kept; dealt = at + 1 })
+  keeps_dealt_at old kept t at there keeps low is =
+      subst (λ (n : ℕ). Keeps g mesh old (record old { kept = kept; dealt = n + 1 })) there
+      (keeps_dealt old kept t keeps (subst (λ (n : ℕ). n < length old.sent.items) (sym there) low) (subst (λ (n : ℕ). t ≡ get_or old.sent.items n t) (sym there) is))
+
+  pub kept_count : (old : Runner A) → Runs g mesh old → length old.kept.items ≡ g.elements
+  kept_count old runs = runs.1.tidy.count
+
+  -- the bundles have the same tokens
+  pub keeps_bundles : (old : Runner A) (kept : Vec (Vec Token A) A) → KeepsTokens g.elements old.kept.items kept.items [] → Keeps g mesh old (record old { kept = kept })
+  keeps_bundles old kept keeps = λ start r.
+      let rest = drop old.dealt old.sent.items in
+      let same : IsPermutation (bundles old.kept.items) (bundles kept.items) = IsPermutation-sym _ _ (at_last keeps.tokens (append-nil (bundles old.kept.items))) in
+      record {
+        at = r.at;
+        alone = r.alone;
+        blocks = r.blocks;
+        noted = r.noted;
+        unlogged = r.unlogged;
+        ran = ran_beside g mesh start old.seat.own.element (held_of old.lane) old.seat.own.deeds old.seat.own.held (away old) r.ran (old.hand.items ++ (bundles kept.items ++ rest))
+            (IsPermutation-append_right old.hand.items _ _ (IsPermutation-append_left rest _ _ same));
+        tidy = record { count = keeps.count ∙ r.tidy.count; addressed = keeps.addressed r.tidy.addressed; created = r.tidy.created; few = r.tidy.few };
+      }
+
+  -- all are dealt
+  pub keeps_cleared : (old : Runner A) (sent : Vec Token A) → length old.sent.items ≤ old.dealt → sent.items ≡ [] → Keeps g mesh old (record old { sent = sent; dealt = 0 })
+  keeps_cleared old sent past none = λ start r.
+      let same : drop old.dealt old.sent.items ≡ sent.items = drop_all old.dealt old.sent.items past ∙ sym none in
+      record {
+        at = r.at;
+        alone = r.alone;
+        blocks = r.blocks;
+        noted = r.noted;
+        unlogged = r.unlogged;
+        ran = ran_beside g mesh start old.seat.own.element (held_of old.lane) old.seat.own.deeds old.seat.own.held (away old) r.ran (old.hand.items ++ (bundles old.kept.items ++ sent.items))
+            (IsPermutation-same _ _ (ap (λ (l : List Token). old.hand.items ++ (bundles old.kept.items ++ l)) same));
+        tidy = record { count = r.tidy.count; addressed = r.tidy.addressed; created = r.tidy.created; few = r.tidy.few };
+      }
+
+-- BUNDLES
+module _ {A : Type 0} where
+  abbrev in_all : List (Vec Token A) → List Token
+  in_all vs = flat_map (λ (v : Vec Token A). v.items) vs
+
+  -- one bundle for another
+  pub bundle_set : (vs : List (Vec Token A)) (i : ℕ) (d v : Vec Token A) → i < length vs → IsPermutation (in_all vs ++ v.items) (in_all (slice_set vs i v) ++ (get_or vs i d).items)
+  bundle_set [] i d v low = absurd (omega (arith, low))
+  bundle_set (x ∷ xs) zero d v low = shuffled (x.items ∷ in_all xs ∷ v.items ∷ []) ((Piece 0 ⊕ Piece 1) ⊕ Piece 2) ((Piece 2 ⊕ Piece 1) ⊕ Piece 0) refl
+  bundle_set (x ∷ xs) (suc i) d v low =
+      let rest = bundle_set xs i d v (omega arith) in
+      at_first (append_assoc x.items (in_all xs) v.items) (at_last (IsPermutation-append_right x.items _ _ rest) (sym (append_assoc x.items (in_all (slice_set xs i v)) (get_or xs i d).items)))
+
+  pub get_same : (vs : List (Vec Token A)) (i : ℕ) (d v : Vec Token A) → i < length vs → get_or (slice_set vs i v) i d ≡ v
+  get_same [] i d v low = absurd (omega (arith, low))
+  get_same (x ∷ xs) zero d v low = refl
+  get_same (x ∷ xs) (suc i) d v low = get_same xs i d v (omega arith)
+
+  pub get_other : (vs : List (Vec Token A)) (i k : ℕ) (d v : Vec Token A) → k ≢ i → get_or (slice_set vs i v) k d ≡ get_or vs k d
+  get_other [] i k d v ne = refl
+  get_other (x ∷ xs) zero zero d v ne = absurd (ne refl)
+  get_other (x ∷ xs) zero (suc k) d v ne = refl
+  get_other (x ∷ xs) (suc i) zero d v ne = refl
+  get_other (x ∷ xs) (suc i) (suc k) d v ne = get_other xs i k d v (λ (s : k ≡ i). ne (ap (λ (n : ℕ). suc n) s))
+
+  -- one bundle has other tokens
+  changed : (n : ℕ) (vs : List (Vec Token A)) (i : ℕ) (x new : Vec Token A) (more : List Token) → length vs ≡ n → i < length vs → x ≡ get_or vs i x → new.items ≡ x.items ++ more → AllTo n i more → KeepsTokens n vs (slice_set vs i new) more
+  changed n vs i x new more count low is items to =
+      let set = slice_set vs i new in
+      let swap : IsPermutation (in_all vs ++ (x.items ++ more)) (in_all set ++ x.items) = at_first (ap (λ (l : List Token). in_all vs ++ l) (sym items)) (at_last (bundle_set vs i x new low) (ap (λ (v : Vec Token A). in_all set ++ v.items) (sym is))) in
+      let front : IsPermutation (x.items ++ (in_all vs ++ more)) (in_all vs ++ (x.items ++ more)) = shuffled (x.items ∷ in_all vs ∷ more ∷ []) (Piece 0 ⊕ (Piece 1 ⊕ Piece 2)) (Piece 1 ⊕ (Piece 0 ⊕ Piece 2)) refl in
+      let back : IsPermutation (in_all set ++ x.items) (x.items ++ in_all set) = shuffled (in_all set ∷ x.items ∷ []) (Piece 0 ⊕ Piece 1) (Piece 1 ⊕ Piece 0) refl in
+      record {
+        count = length-set vs i new;
+        tokens = IsPermutation-sym _ _ (permutation_cancel x.items (in_all vs ++ more) (in_all set) (IsPermutation-trans _ _ _ front (IsPermutation-trans _ _ _ swap back)));
+        addressed = λ all k d within. dite (ℕ_discrete k i)
+            (λ hit.
+            let own : AllTo n i x.items = subst (λ (v : Vec Token A). AllTo n i v.items) (sym is) (all i x (omega (arith, low, count))) in
+            let both : AllTo n i (x.items ++ more) = All-append (λ (t : Token). element_of n t.to ≡ i) x.items more own to in
+            let here : AllTo n i new.items = subst (λ (l : List Token). AllTo n i l) (sym items) both in
+            let at : AllTo n i (get_or set i d).items = subst (λ (v : Vec Token A). AllTo n i v.items) (sym (get_same vs i d new low)) here in
+            subst (λ (j : ℕ). AllTo n j (get_or set j d).items) (sym hit) at)
+            (λ miss. subst (λ (v : Vec Token A). AllTo n k v.items) (sym (get_other vs i k d new miss)) (all k d within));
+      }
+
+  pub keeps_more : (n : ℕ) (vs : List (Vec Token A)) (i : ℕ) (x new : Vec Token A) (t : Token) → length vs ≡ n → i < length vs → x ≡ get_or vs i x → new.items ≡ x.items ++ t ∷ [] → element_of n t.to ≡ i → KeepsTokens n vs (slice_set vs i new) (t ∷ [])
+  keeps_more n vs i x new t count low is items to = changed n vs i x new (t ∷ []) count low is items (All-cons (λ (u : Token). element_of n u.to ≡ i) t [] to (All-nil (λ (u : Token). element_of n u.to ≡ i)))
+
+  pub keeps_as_many : (n : ℕ) (vs : List (Vec Token A)) (i : ℕ) (x new : Vec Token A) → length vs ≡ n → i < length vs → x ≡ get_or vs i x → new.items ≡ x.items → KeepsTokens n vs (slice_set vs i new) []
+  keeps_as_many n vs i x new count low is items = changed n vs i x new [] count low is (items ∙ sym (append-nil x.items)) (All-nil (λ (u : Token). element_of n u.to ≡ i))
+
+  -- a bundle is taken out for a post
+  out_of : (vs : List (Vec Token A)) (i : ℕ) (x empty : Vec Token A) → i < length vs → x ≡ get_or vs i x → empty.items ≡ [] → IsPermutation (in_all vs) (x.items ++ in_all (slice_set vs i empty))
+  out_of vs i x empty low is none =
+      let one : IsPermutation (in_all vs) (in_all (slice_set vs i empty) ++ x.items) = at_first (sym (append-nil (in_all vs)) ∙ ap (λ (l : List Token). in_all vs ++ l) (sym none)) (at_last (bundle_set vs i x empty low) (ap (λ (v : Vec Token A). in_all (slice_set vs i empty) ++ v.items) (sym is))) in
+      IsPermutation-trans _ _ _ one (shuffled (in_all (slice_set vs i empty) ∷ x.items ∷ []) (Piece 0 ⊕ Piece 1) (Piece 1 ⊕ Piece 0) refl)
+
+  set_again : (vs : List (Vec Token A)) (i : ℕ) (a b : Vec Token A) → slice_set (slice_set vs i a) i b ≡ slice_set vs i b
+  set_again [] i a b = refl
+  set_again (x ∷ xs) zero a b = refl
+  set_again (x ∷ xs) (suc i) a b = ap (λ (l : List (Vec Token A)). x ∷ l) (set_again xs i a b)
+
+  module _ (g : Setting) (mesh : MeshId) (old : Runner A) (i : ℕ) (x empty : Vec Token A) (low : i < length old.kept.items) (is : x ≡ get_or old.kept.items i x) (none : empty.items ≡ []) where
+    abbrev others : List Token
+    others = in_all (slice_set old.kept.items i empty) ++ drop old.dealt old.sent.items
+
+    beside_out : IsPermutation (away old) (x.items ++ (old.hand.items ++ others))
+    beside_out =
+        let rest = drop old.dealt old.sent.items in
+        let set = slice_set old.kept.items i empty in
+        IsPermutation-trans _ _ _ (IsPermutation-append_right old.hand.items _ _ (IsPermutation-append_left rest _ _ (out_of old.kept.items i x empty low is none)))
+        (shuffled (old.hand.items ∷ x.items ∷ in_all set ∷ rest ∷ []) (Piece 0 ⊕ ((Piece 1 ⊕ Piece 2) ⊕ Piece 3)) (Piece 1 ⊕ (Piece 0 ⊕ (Piece 2 ⊕ Piece 3))) refl)
+
+    pub may_post : Runs g mesh old → Has old.seat.own.held x.items
+    may_post (start, r) =
+        let q = old.lane.queue.items in (
+          q ++ (old.hand.items ++ others),
+          IsPermutation-trans _ _ _ r.ran.holds (IsPermutation-trans _ _ _ (IsPermutation-append_right q _ _ beside_out)
+              (shuffled (q ∷ x.items ∷ (old.hand.items ++ others) ∷ []) (Piece 0 ⊕ (Piece 1 ⊕ Piece 2)) (Piece 1 ⊕ (Piece 0 ⊕ Piece 2)) refl)),
+        )
+
+    pub keeps_posted : (kept : Vec (Vec Token A) A) (s : SeatView) → kept.items ≡ slice_set old.kept.items i empty → i < g.elements → Posts i x.items old.seat s → Keeps g mesh old (record old { kept = kept; seat = s })
+    keeps_posted kept s kept_is within posts = λ start r.
+        let own = old.seat.own in
+        let whole = posts.2 in
+        let beside : old.hand.items ++ (in_all kept.items ++ drop old.dealt old.sent.items) ≡ old.hand.items ++ others = ap (λ (l : List (Vec Token A)). old.hand.items ++ (in_all l ++ drop old.dealt old.sent.items)) kept_is in
+        record {
+          at = ap (λ (z : SeatView). z.mesh) whole ∙ r.at;
+          alone = ap (λ (z : SeatView). z.joined) whole ∙ r.alone;
+          blocks = r.blocks;
+          noted = r.noted;
+          unlogged = r.unlogged;
+          ran = ran_as g mesh start own.element s.own.element (held_of old.lane) (held_of old.lane) (own.deeds ++ Posted i x.items ∷ []) s.own.deeds posts.0 s.own.held (old.hand.items ++ others) (old.hand.items ++ (in_all kept.items ++ drop old.dealt old.sent.items))
+              (ap (λ (z : SeatView). z.own.element) whole) refl (ap (λ (z : SeatView). z.own.deeds) whole) (ap (λ (z : SeatView). z.own.held) whole) beside
+              (ran_posted g mesh start own.element (held_of old.lane) own.deeds own.held (away old) r.ran i x.items posts.0 (old.hand.items ++ others) within posts.1 beside_out);
+          tidy = record {
+            count = ap (λ (l : List (Vec Token A)). length l) kept_is ∙ length-set old.kept.items i empty ∙ r.tidy.count;
+            addressed = λ k d below. subst (λ (l : List (Vec Token A)). AllTo g.elements k (get_or l k d).items) (sym kept_is)
+                (dite (ℕ_discrete k i)
+                (λ hit. subst (λ (j : ℕ). AllTo g.elements j (get_or (slice_set old.kept.items i empty) j d).items) (sym hit)
+                (subst (λ (v : Vec Token A). AllTo g.elements i v.items) (sym (get_same old.kept.items i d empty low)) (subst (λ (l : List Token). AllTo g.elements i l) (sym none) (All-nil (λ (t : Token). element_of g.elements t.to ≡ i)))))
+                (λ miss. subst (λ (v : Vec Token A). AllTo g.elements k v.items) (sym (get_other old.kept.items i k d empty miss)) (r.tidy.addressed k d below)));
+            created = same_created own.deeds s.own.deeds (Posted i x.items) old.created (ap (λ (z : SeatView). z.own.deeds) whole) refl r.tidy.created;
+            few = r.tidy.few;
+          };
+        }
+
+    pub keeps_refused : (kept : Vec (Vec Token A) A) (back : Vec Token A) (s : SeatView) → length old.kept.items ≡ g.elements → kept.items ≡ slice_set (slice_set old.kept.items i empty) i back → back ≡ x → s ≡ noting old.seat (FoundFull i x.items) → Keeps g mesh old (record old { kept = kept; seat = s })
+    keeps_refused kept back s count kept_is same found =
+        let all : kept.items ≡ slice_set old.kept.items i back = kept_is ∙ set_again old.kept.items i empty back in
+        let keeps : KeepsTokens g.elements old.kept.items kept.items [] = subst (λ (l : List (Vec Token A)). KeepsTokens g.elements old.kept.items l []) (sym all) (keeps_as_many g.elements old.kept.items i x back count low is (ap (λ (v : Vec Token A). v.items) same)) in
+        keeps_twice g mesh old (record old { kept = kept }) (record old { kept = kept; seat = s }) (keeps_bundles g mesh old kept keeps) (keeps_noting g mesh (record old { kept = kept }) s (FoundFull i x.items) (found_full i x.items) refl found)
+
+-- THE END
+module _ {A : Type 0} (g : Setting) (mesh : MeshId) (may_stop : Bool) where
+  left_as : (old new : Runner A) (left : Left) → held_of new.lane ≡ held_of old.lane → new.seat.mesh ≡ old.seat.mesh → new.seat.own.last ≡ old.seat.own.last → IsLeft g may_stop old left → IsLeft g may_stop new left
+  left_as old new Left.Lost lane at last is = tt
+  left_as old new (Left.Halted halt) lane at last is = subst (λ (h : Held). HaltsLane g.program g.steps may_stop h (Some halt)) (sym lane) is
+  left_as old new Left.Rested lane at last is = subst (λ (m : MeshId). Leaves m new.seat.own.last 0) (sym at) (subst (λ (l : List Commit). Leaves old.seat.mesh l 0) (sym last) is)
+  left_as old new Left.Stopped lane at last is = tt
+
+  -- it left, and then called for a stop if it had to
+  pub ended : (old mid new : Runner A) (left : Left) → StaysAt old mid → (left ≢ Left.Lost → Keeps g mesh old mid) → IsLeft g may_stop mid left
+      → StaysAt (record mid { left = left }) new → Keeps g mesh (record mid { left = left }) new → held_of new.lane ≡ held_of mid.lane → new.seat.own.last ≡ mid.seat.own.last → new.left ≡ left → Ended g mesh may_stop old new
+  ended old mid new left first keeps is second again lane last same = record {
+    stays = (second.0 ∙ first.0, second.1 ∙ first.1, second.2 ∙ first.2, second.3 ∙ first.3);
+    keeps = λ ne. keeps_twice g mesh old mid new (keeps (λ (e : left ≡ Left.Lost). ne (same ∙ e))) (keeps_twice g mesh mid (record mid { left = left }) new (keeps_leaving g mesh mid left) again);
+    left = subst (λ (l : Left). IsLeft g may_stop new l) (sym same) (left_as mid new left lane second.0 last is);
+  }

@@ -1,0 +1,11 @@
+pub mod Tokens
+pub mod Flowing
+pub mod Accounts
+pub mod Steps
+pub mod Beginning
+pub mod Lists
+pub mod Chosen
+pub mod Freeing
+pub mod Freed
+pub mod Keeping
+pub mod Committing

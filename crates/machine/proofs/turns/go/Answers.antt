@@ -1,0 +1,21 @@
+use Rattle.std.proofs.Common.{◌≡◌, ◌∙◌, None}
+use Rattle.schedule.specs.Apart.{setting_in}
+use Rattle.machine.proofs.Keeping.{runs_on, keeps_twice}
+use Rattle.machine.proofs.turns.go.Goals as goal
+
+pub turn-requires-clause-runs : goal.turn-requires-clause-runs
+turn-requires-clause-runs g c = runs_on {A = g.row.A.Denot} (setting_in g.C.Instructions.program g.C.Instructions.width c.args.setup.now) c.args.mesh.now c.args.runner.now c.turns.runner c.requires.runs c.turns.invariant.keeps
+
+pub returns-in-Some-2-clause-keeps : goal.returns-in-Some-2-clause-keeps
+returns-in-Some-2-clause-keeps g c = keeps_twice {A = g.row.A.Denot} (setting_in g.C.Instructions.program g.C.Instructions.width c.args.setup.now) c.args.mesh.now c.args.runner.now c.turns.runner c.turn.new.runner c.turns.invariant.keeps c.in_ok-left.ensures.keeps
+
+pub turns-preserved : goal.turns-preserved
+turns-preserved g c =
+    let i = c.turns.invariant in
+    let e = c.in_ok-left.ensures in
+    let none : c.in_ok-left.field-0 ≡ None = cc in
+    record {
+      stays = (e.stays.0 ∙ i.stays.0, e.stays.1 ∙ i.stays.1, e.stays.2 ∙ i.stays.2, e.stays.3 ∙ i.stays.3);
+      keeps = keeps_twice {A = g.row.A.Denot} (setting_in g.C.Instructions.program g.C.Instructions.width c.args.setup.now) c.args.mesh.now c.args.runner.now c.turns.runner c.turn.new.runner i.keeps e.keeps;
+      clear = e.clear none;
+    }

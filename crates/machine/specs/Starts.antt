@@ -1,0 +1,78 @@
+-- How runners are made of lanes and seats, and what is known of them once they have left.
+use Rattle.std.specs.Prelude.{◌≡◌, ℕ, ◌<◌, ◌⊎◌, List, [], length, map, All, Bool, Some, slice_get, slice_index_or, Vec, ◌++◌, IsPermutation}
+use Rattle.crossbeam_utils.specs.declared.cache_padded.CachePadded.{CachePadded}
+use Rattle.crossbeam_utils.specs.Padded.{padded_value}
+use Rattle.tags.specs.declared.token.Token.{Token}
+use Rattle.element.specs.Held.{Held, held_of}
+use Rattle.schedule.specs.declared.halt.Halt.{Halt}
+use Rattle.schedule.specs.Setting.{Setting}
+use Rattle.mesh.specs.Seats.{MeshId, SeatView}
+use Rattle.semantics.specs.Machine.{Events}
+use Rattle.free_runs.specs.Blocks.{Block}
+use Rattle.ordering.specs.declared.log.Log.{Log}
+use Rattle.ordering.specs.Noted.{noted_in, nothing}
+use Rattle.ordering.specs.Orders.{IsHistory, IsOrdered}
+use Rattle.machine.specs.declared.runner.Left.{Left}
+use Rattle.machine.specs.declared.runner.Runner.{Runner}
+use Rattle.machine.specs.Runners.{IsClear, Ended}
+
+abbrev pub runner_in : {A : Type 0} → CachePadded (Runner A) → Runner A
+runner_in p = padded_value p
+
+abbrev pub lane_in : {A : Type 0} → CachePadded (Runner A) → Held
+lane_in p = held_of (padded_value p).lane
+
+abbrev pub seat_of : {A : Type 0} → CachePadded (Runner A) → SeatView
+seat_of p = (padded_value p).seat
+
+abbrev pub left_of : {A : Type 0} → CachePadded (Runner A) → Left
+left_of p = (padded_value p).left
+
+abbrev pub notes_of : {A : Type 0} → CachePadded (Runner A) → Log A
+notes_of p = (padded_value p).notes
+
+abbrev pub listed_of : {A : Type 0} → CachePadded (Runner A) → Bool
+listed_of p = (padded_value p).listed
+
+abbrev pub lanes_in : {A : Type 0} → List (CachePadded (Runner A)) → List Held
+lanes_in ps = map lane_in ps
+
+abbrev pub seats_in : {A : Type 0} → List (CachePadded (Runner A)) → List SeatView
+seats_in ps = map seat_of ps
+
+abbrev pub lefts_in : {A : Type 0} → List (CachePadded (Runner A)) → List Left
+lefts_in ps = map left_of ps
+
+abbrev pub logs_in : {A : Type 0} → List (CachePadded (Runner A)) → List (Log A)
+logs_in ps = map notes_of ps
+
+-- each notes its blocks, or none does
+abbrev pub AreListed : {A : Type 0} → Bool → List (CachePadded (Runner A)) → Type 0
+AreListed listed ps = All (λ p. listed_of p ≡ listed) ps
+
+-- Of each history that has these logs the list has the events behind those that it had, in some legal order of the same blocks.
+abbrev pub Lists : {A : Type 0} → List (Log A) → List Token → Events → Events → Type 0
+Lists logs opening old new =
+    (log : List Block) (start last : List Token) → IsHistory logs log start last → IsPermutation opening start → (made : Events) × IsOrdered (length logs) log start last made × (new ≡ old ++ made)
+
+-- so many bundles, all empty
+abbrev pub AreEmpty : {A : Type 0} → ℕ → List (Vec Token A) → Type 0
+AreEmpty n kept = (length kept ≡ n) × All (λ v. v.items ≡ []) kept
+
+-- it holds no token beside its queue, and has made none
+pub record IsNew {A : Type 0} (n : ℕ) (r : Runner A) : Type 0 where
+  pub clear : IsClear r
+  pub kept : AreEmpty n r.kept.items
+  pub created : r.created ≡ 0
+  pub notes : noted_in r.notes ≡ nothing
+  pub log : r.log.items ≡ []
+
+-- no element is lost; this is the reason of one that halted, or one saw that no token is live
+abbrev pub Tells : List Left → Halt → Type 0
+Tells lefts halt =
+    ((i : ℕ) → slice_get lefts i ≡ Some Left.Lost → ⊥)
+    × (((e : ℕ) × (slice_get lefts e ≡ Some (Left.Halted halt))) ⊎ (((e : ℕ) × (slice_get lefts e ≡ Some Left.Rested)) × (halt ≡ Halt.NoToken)))
+
+-- all have run
+abbrev pub AllEnded : {A : Type 0} → Setting → MeshId → Bool → List (CachePadded (Runner A)) → List (CachePadded (Runner A)) → Type 0
+AllEnded g mesh may_stop olds news = (i : ℕ) (d : _) → i < length olds → Ended g mesh may_stop (padded_value (slice_index_or olds i d)) (padded_value (slice_index_or news i d))

@@ -1,0 +1,207 @@
+//! An element makes a block of events, and commits it.
+
+ghost use Rattle.std.specs.Prelude.{◌≡◌, ◌<◌, ◌≤◌, ◌+◌, ◌^◌, ◌++◌, ◌-◌, [], drop, length, false, OnOk, IfOk};
+ghost use Rattle.element.specs.Held.{Held, held_of};
+ghost use Rattle.schedule.specs.Apart.{setting_in};
+ghost use Rattle.schedule.specs.Setting.{IsGoodSetting};
+ghost use Rattle.mesh.specs.Deeds.{created};
+ghost use Rattle.mesh.specs.Seats.{AllTo, Has, Commits};
+ghost use Rattle.rounds.specs.Turns.{HaltsLane};
+ghost use Rattle.ordering.specs.Noted.{noted_in, with_block};
+ghost use Rattle.machine.specs.Runners.{IsRunning, Runs, Keeps, IsClear, StaysAt, HasMade, NotesBlock, tokens_of};
+
+use crate::runner::{Lost, Runner};
+use mesh::{Ask, Mesh};
+use ordering::log::{Counts, Log};
+use rounds::{Gate, take_turn};
+use schedule::halt::Halt;
+use schedule::main_code::MainCode;
+use schedule::setup::Setup;
+use std::alloc::{AllocError, Allocator};
+use std::marker::Brand;
+use tags::token::Token;
+use token_queue::queue::TokenQueue;
+
+// How many tokens the commits of an element may make.
+const MOST: u64 = 1 << 40;
+
+// The commit of a block that spent and made so many tokens.
+fn commit_counts<J: Ask, A: Allocator>(
+    runner: &mut Runner<'_, A>,
+    mesh: &Mesh<A>,
+    spent: u64,
+    made: u64,
+)
+    requires asked { (length J.spent ≡ spent) × (length J.made ≡ made) }
+    requires mesh { (runner.old.seat.mesh ≡ mesh.now) × (runner.old.seat.joined ≡ []) }
+    requires some { 0 < spent }
+    requires address { AllTo mesh.now.elements runner.old.seat.own.element J.spent }
+    requires held { Has runner.old.seat.own.held J.spent }
+    requires few { created runner.old.seat.own.deeds + made ≤ 2 ^ 40 }
+    ensures commits { Commits J.spent J.made runner.old.seat runner.new.seat }
+    ensures others { runner.new ≡ record runner.old { seat = runner.new.seat } }
+{
+    mesh.commit_by::<J>(&mut runner.seat, spent, made);
+}
+
+// Notes the tokens that events took.
+fn note_taken<A: Allocator>(notes: &mut Log<A>, log: &[(u32, Token)]) -> Result<(), AllocError>
+    ensures { OnOk result (noted_in notes.new ≡ record { taken = (noted_in notes.old).taken ++ tokens_of log.now; made = (noted_in notes.old).made; blocks = (noted_in notes.old).blocks }) }
+{
+    for entry in log {
+        notes.reserve(1, 0, 0)?;
+        notes.note_event(entry.1);
+    }
+    Ok(())
+}
+
+// Notes that these tokens of the queue, from a place on, were made.
+fn note_queue<A: Allocator>(
+    notes: &mut Log<A>,
+    queue: &TokenQueue<A>,
+    from: usize,
+) -> Result<(), AllocError>
+    requires { from ≤ length queue.now.items }
+    ensures { OnOk result (noted_in notes.new ≡ record { taken = (noted_in notes.old).taken; made = (noted_in notes.old).made ++ drop from queue.now.items; blocks = (noted_in notes.old).blocks }) }
+{
+    for behind in 0..queue.len() - from {
+        notes.reserve(0, 1, 0)?;
+        notes.note_made(queue.get(from + behind));
+    }
+    Ok(())
+}
+
+// Notes that these tokens were made.
+fn note_sent<A: Allocator>(notes: &mut Log<A>, sent: &[Token]) -> Result<(), AllocError>
+    ensures { OnOk result (noted_in notes.new ≡ record { taken = (noted_in notes.old).taken; made = (noted_in notes.old).made ++ sent.now; blocks = (noted_in notes.old).blocks }) }
+{
+    for token in sent {
+        notes.reserve(0, 1, 0)?;
+        notes.note_made(*token);
+    }
+    Ok(())
+}
+
+// Notes the counts of a block.
+fn note_counts<A: Allocator>(notes: &mut Log<A>, counts: Counts) -> Result<(), AllocError>
+    ensures { OnOk result (noted_in notes.new ≡ with_block (noted_in notes.old) counts) }
+{
+    notes.reserve(0, 0, 1)?;
+    notes.end_block(counts);
+    Ok(())
+}
+
+// Notes the block that stands in the log of the turn, where events are listed.
+fn note_block<A: Allocator>(
+    runner: &mut Runner<'_, A>,
+    spent: u64,
+    made: u64,
+) -> Result<(), AllocError>
+    requires { (length runner.old.sent.items ≤ made) × (made ≤ length runner.old.lane.queue.items + length runner.old.sent.items) }
+    ensures notes { OnOk result (NotesBlock spent made runner.old runner.new) }
+    ensures others { runner.new ≡ record runner.old { log = runner.new.log; notes = runner.new.notes } }
+{
+    if !runner.listed {
+        return Ok(());
+    }
+    let counts = Counts {
+        events: runner.log.len(),
+        spent: spent as usize,
+        made: made as usize,
+    };
+    let from = runner.lane.queue.len() - (counts.made - runner.sent.len());
+    note_taken(&mut runner.notes, &runner.log)?;
+    note_queue(&mut runner.notes, &runner.lane.queue, from)?;
+    note_sent(&mut runner.notes, &runner.sent)?;
+    note_counts(&mut runner.notes, counts)?;
+    runner.log.clear();
+    Ok(())
+}
+
+// Commits a block of so many events, before which the queue had so many tokens. The oldest of these were taken, and what
+// the block left stands last in the queue, or was sent. It needs no memory, so nothing stands between events and their commit.
+fn commit<C: MainCode, A: Allocator>(
+    runner: &mut Runner<'_, A>,
+    mesh: &Mesh<A>,
+    setup: &Setup<'_, C, A>,
+    before: u64,
+    events: u64,
+) -> Result<(), Lost>
+    requires made { (start : Held) × (old : Held) × HasMade (setting_in C.program C.width setup.now) mesh.now start old before events runner.old }
+    ensures stays { StaysAt runner.old runner.new }
+    ensures keeps { OnOk result ((start : Held) (old : Held) → HasMade (setting_in C.program C.width setup.now) mesh.now start old before events runner.old → IsRunning (setting_in C.program C.width setup.now) mesh.now start runner.new) }
+    ensures lane { held_of runner.new.lane ≡ held_of runner.old.lane }
+    ensures others { (runner.new.hand.items ≡ runner.old.hand.items) × (runner.new.dealt ≡ runner.old.dealt) }
+{
+    let _ = setup;
+    if events == 0 {
+        return Ok(());
+    }
+    let spent = events.min(before);
+    let left = runner.lane.queue.len() as u64 - (before - spent);
+    let sent = runner.sent.len() as u64;
+    let room = MOST - runner.created;
+    if sent > room || left > room - sent {
+        return Err(Lost);
+    }
+    commit_counts::<Brand, A>(runner, mesh, spent, left + sent);
+    runner.created += left + sent;
+    match note_block(runner, spent, left + sent) {
+        Ok(()) => Ok(()),
+        Err(_) => Err(Lost),
+    }
+}
+
+// Makes up to `turn` events, oldest token first, and commits them.
+fn make_events<C: MainCode, A: Allocator + Clone>(
+    runner: &mut Runner<'_, A>,
+    mesh: &Mesh<A>,
+    setup: &Setup<'_, C, A>,
+) -> Result<Option<Halt>, Lost>
+    requires good { IsGoodSetting (setting_in C.program C.width setup.now) }
+    requires runs { Runs (setting_in C.program C.width setup.now) mesh.now runner.old }
+    requires clear { IsClear runner.old }
+    ensures stays { StaysAt runner.old runner.new }
+    ensures keeps { OnOk result (Keeps (setting_in C.program C.width setup.now) mesh.now runner.old runner.new) }
+    ensures halts { IfOk result (λ halt. HaltsLane (C.program setup.now.code.now) setup.now.steps false (held_of runner.new.lane) halt) }
+    ensures undealt { (runner.new.hand.items ≡ []) × (runner.new.dealt ≡ 0) }
+{
+    let before = runner.lane.queue.len() as u64;
+    let first = runner.lane.made;
+    let listed = runner.listed;
+    let Runner {
+        lane,
+        sent,
+        log,
+        ..
+    } = runner;
+    let halt = take_turn(lane, sent, log, setup.code, setup.steps, setup.turn, listed);
+    let events = runner.lane.made - first;
+    commit(runner, mesh, setup, before, events)?;
+    Ok(halt)
+}
+
+/// Makes a block of events, if the element has a token and the gate lets it.
+pub fn make_block<C: MainCode, A: Allocator + Clone, G: Gate>(
+    runner: &mut Runner<'_, A>,
+    mesh: &Mesh<A>,
+    setup: &Setup<'_, C, A>,
+    gate: &G,
+) -> Result<Option<Halt>, Lost>
+    requires good { IsGoodSetting (setting_in C.program C.width setup.now) }
+    requires runs { Runs (setting_in C.program C.width setup.now) mesh.now runner.old }
+    requires clear { IsClear runner.old }
+    ensures stays { StaysAt runner.old runner.new }
+    ensures keeps { OnOk result (Keeps (setting_in C.program C.width setup.now) mesh.now runner.old runner.new) }
+    ensures halts { IfOk result (λ halt. HaltsLane (C.program setup.now.code.now) setup.now.steps G.may_stop (held_of runner.new.lane) halt) }
+    ensures undealt { (runner.new.hand.items ≡ []) × (runner.new.dealt ≡ 0) }
+{
+    if runner.lane.queue.len() == 0 {
+        return Ok(None);
+    }
+    if !gate.go_on(runner.lane.element, runner.blocks) {
+        return Ok(Some(Halt::Stop));
+    }
+    runner.blocks = runner.blocks.wrapping_add(1);
+    make_events(runner, mesh, setup)
+}

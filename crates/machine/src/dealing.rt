@@ -1,0 +1,124 @@
+//! An element offers to others what it made for them.
+
+ghost use Rattle.std.specs.Prelude.{◌≡◌, ◌<◌, ◌++◌, ◌∷◌, [], length, OnOk, OnErr, slice_set, slice_index_or, IsPermutation};
+ghost use Rattle.std.specs.List.{flat_map};
+ghost use Rattle.tags.specs.Addresses.{element_of};
+ghost use Rattle.element.specs.Held.{held_of};
+ghost use Rattle.schedule.specs.Apart.{setting_in};
+ghost use Rattle.schedule.specs.Setting.{IsGoodSetting};
+ghost use Rattle.machine.specs.Runners.{Runs, Keeps, IsClear, StaysAt, KeepsTokens};
+
+use crate::runner::Runner;
+use mesh::Mesh;
+use schedule::main_code::MainCode;
+use schedule::setup::Setup;
+use std::alloc::{AllocError, Allocator};
+use std::mem;
+use tags::token::Token;
+
+// Puts a token into the bundle of its element. After an error all bundles have the tokens that they had.
+fn keep<A: Allocator>(
+    kept: &mut Vec<Vec<Token, A>, A>,
+    elements: u32,
+    token: Token,
+) -> Result<(), AllocError>
+    requires some { 0 < elements }
+    requires count { length kept.old.items ≡ elements }
+    ensures ok { OnOk result (KeepsTokens elements kept.old.items kept.new.items (token ∷ [])) }
+    ensures err { OnErr result (KeepsTokens elements kept.old.items kept.new.items []) }
+{
+    let to = token.to.element(elements) as usize;
+    kept[to].push(token)?;
+    Ok(())
+}
+
+/// Puts what the last block made for other elements into the bundles. After an error the others are not dealt.
+pub fn deal<C: MainCode, A: Allocator>(
+    runner: &mut Runner<'_, A>,
+    mesh: &Mesh<A>,
+    setup: &Setup<'_, C, A>,
+) -> Result<(), AllocError>
+    requires good { IsGoodSetting (setting_in C.program C.width setup.now) }
+    requires runs { Runs (setting_in C.program C.width setup.now) mesh.now runner.old }
+    requires undealt { runner.old.dealt ≡ 0 }
+    ensures stays { StaysAt runner.old runner.new }
+    ensures keeps { Keeps (setting_in C.program C.width setup.now) mesh.now runner.old runner.new }
+    ensures dealt { OnOk result ((runner.new.sent.items ≡ []) × (runner.new.dealt ≡ 0) × (runner.new.hand.items ≡ runner.old.hand.items)) }
+{
+    let _ = mesh;
+    for at in 0..runner.sent.len() {
+        let token = runner.sent[at];
+        keep(&mut runner.kept, setup.elements, token)?;
+        runner.dealt = at + 1;
+    }
+    runner.sent.clear();
+    runner.dealt = 0;
+    Ok(())
+}
+
+// Posts the bundle for an element. Where the box is full the bundle is kept.
+fn post_bundle<C: MainCode, A: Allocator>(
+    runner: &mut Runner<'_, A>,
+    mesh: &Mesh<A>,
+    setup: &Setup<'_, C, A>,
+    empty: Vec<Token, A>,
+    to: u32,
+)
+    requires good { IsGoodSetting (setting_in C.program C.width setup.now) }
+    requires runs { Runs (setting_in C.program C.width setup.now) mesh.now runner.old }
+    requires clear { IsClear runner.old }
+    requires empty { empty.items ≡ [] }
+    requires to { to < setup.now.elements }
+    ensures stays { StaysAt runner.old runner.new }
+    ensures keeps { Keeps (setting_in C.program C.width setup.now) mesh.now runner.old runner.new }
+    ensures clear { IsClear runner.new }
+{
+    let _ = setup;
+    let at = to as usize;
+    let bundle = mem::replace(&mut runner.kept[at], empty);
+    if let Err(back) = mesh.post(&mut runner.seat, to, bundle) {
+        runner.kept[at] = back;
+    }
+}
+
+// Offers the bundle for an element, if it has a token.
+fn offer_to<C: MainCode, A: Allocator + Clone>(
+    runner: &mut Runner<'_, A>,
+    mesh: &Mesh<A>,
+    setup: &Setup<'_, C, A>,
+    to: u32,
+) -> Result<(), AllocError>
+    requires good { IsGoodSetting (setting_in C.program C.width setup.now) }
+    requires runs { Runs (setting_in C.program C.width setup.now) mesh.now runner.old }
+    requires clear { IsClear runner.old }
+    requires to { to < setup.now.elements }
+    ensures stays { StaysAt runner.old runner.new }
+    ensures keeps { Keeps (setting_in C.program C.width setup.now) mesh.now runner.old runner.new }
+    ensures clear { IsClear runner.new }
+{
+    if runner.kept[to as usize].is_empty() {
+        return Ok(());
+    }
+    let empty = Vec::new(setup.alloc.clone()?);
+    post_bundle(runner, mesh, setup, empty, to);
+    Ok(())
+}
+
+/// Offers all bundles that have a token.
+pub fn offer_all<C: MainCode, A: Allocator + Clone>(
+    runner: &mut Runner<'_, A>,
+    mesh: &Mesh<A>,
+    setup: &Setup<'_, C, A>,
+) -> Result<(), AllocError>
+    requires good { IsGoodSetting (setting_in C.program C.width setup.now) }
+    requires runs { Runs (setting_in C.program C.width setup.now) mesh.now runner.old }
+    requires clear { IsClear runner.old }
+    ensures stays { StaysAt runner.old runner.new }
+    ensures keeps { Keeps (setting_in C.program C.width setup.now) mesh.now runner.old runner.new }
+    ensures clear { IsClear runner.new }
+{
+    for to in 0..setup.elements {
+        offer_to(runner, mesh, setup, to)?;
+    }
+    Ok(())
+}

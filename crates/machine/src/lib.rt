@@ -1,0 +1,13 @@
+//! Elements that run freely: each in a thread of its own for the whole run, over the mailboxes of a mesh.
+#![tactic(auto)]
+
+mod blocks;
+mod dealing;
+mod free;
+mod nearness;
+mod runner;
+mod starting;
+mod taking;
+mod turns;
+
+pub use free::{run, run_quietly};

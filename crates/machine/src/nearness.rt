@@ -1,0 +1,63 @@
+//! Whether a token names frames and cells that there are. A mesh promises of what it hands out only to whom it is addressed.
+
+ghost use Rattle.std.specs.Prelude.{◌≡◌, All, true};
+ghost use Rattle.element.specs.Near.{IsNearCont, IsNearWord, IsNearTo, IsNearToken};
+ghost use Rattle.machine.specs.Runners.{bounds_within};
+
+use tags::token::{Cont, To, Token, Word};
+
+/// How many frames and cells the machine has.
+#[derive(Clone, Copy)]
+pub struct Reach {
+    pub frames: u32,
+    pub cells: u32,
+}
+
+const MOST_IP: u32 = 1 << 31;
+
+fn is_near_cont(cont: &Cont, reach: Reach) -> bool
+    ensures { result ≡ true → IsNearCont (bounds_within reach) cont.now }
+{
+    match *cont {
+        Cont::Frame { frame, ip, .. } => frame < reach.frames && ip < MOST_IP,
+        Cont::Host { port } => port < MOST_IP,
+    }
+}
+
+fn is_near_word(word: &Word, reach: Reach) -> bool
+    ensures { result ≡ true → IsNearWord (bounds_within reach) word.now }
+{
+    match word {
+        Word::Val(_) => true,
+        Word::Frame(frame) => *frame < reach.frames,
+        Word::Back(cont) => is_near_cont(cont, reach),
+    }
+}
+
+fn is_near_to(to: &To, reach: Reach) -> bool
+    ensures { result ≡ true → IsNearTo (bounds_within reach) to.now }
+{
+    match *to {
+        To::Instr { frame, .. } => frame < reach.frames,
+        To::Fetch { cell } | To::Store { cell, .. } => cell < reach.cells,
+        To::Manager | To::Release { .. } | To::Host { .. } => true,
+    }
+}
+
+fn is_near(token: &Token, reach: Reach) -> bool
+    ensures { result ≡ true → IsNearToken (bounds_within reach) token.now }
+{
+    is_near_to(&token.to, reach) && is_near_word(&token.word, reach)
+}
+
+/// Whether all these tokens name only what there is.
+pub fn are_near(tokens: &[Token], reach: Reach) -> bool
+    ensures { result ≡ true → All (IsNearToken (bounds_within reach)) tokens.now }
+{
+    for token in tokens {
+        if !is_near(token, reach) {
+            return false;
+        }
+    }
+    true
+}

@@ -1,0 +1,52 @@
+//! An element that runs freely, with all that it holds.
+
+use element::lane::Lane;
+use mesh::Seat;
+use ordering::log::Log;
+use schedule::halt::Halt;
+use std::alloc::Allocator;
+use tags::token::Token;
+
+/// An element cannot tell what it did: memory for its notes was refused, or its commits made more tokens than a mesh counts (that
+/// comes of no run that fits in memory).
+#[derive(Clone, Copy, Debug, PartialEq, Eq)]
+pub struct Lost;
+
+/// Why an element makes no more events.
+#[derive(Clone, Copy, Debug, PartialEq, Eq)]
+pub enum Left {
+    /// It cannot tell what it did.
+    Lost,
+    /// For a reason of its own.
+    Halted(Halt),
+    /// No token is live.
+    Rested,
+    /// Another element called for a stop.
+    Stopped,
+}
+
+/// A lane with its seat, and the tokens that it holds beside its queue.
+#[derive(Drop)]
+pub struct Runner<'m, A: Allocator> {
+    pub lane: Lane<'m, A>,
+    pub seat: Seat<A>,
+    /// What its last block made for other elements.
+    pub sent: Vec<Token, A>,
+    /// How many of these lie in bundles already.
+    pub dealt: usize,
+    /// For each element the tokens that are not posted yet.
+    pub kept: Vec<Vec<Token, A>, A>,
+    /// What it took and could not put into its queue.
+    pub hand: Vec<Token, A>,
+    /// Whether events are listed.
+    pub listed: bool,
+    /// The events of its turn, where events are listed.
+    pub log: Vec<(u32, Token), A>,
+    /// Its blocks, where events are listed.
+    pub notes: Log<A>,
+    /// How many tokens its commits made.
+    pub created: u64,
+    /// How many blocks it asked for.
+    pub blocks: u64,
+    pub left: Left,
+}

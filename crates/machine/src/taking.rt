@@ -1,0 +1,105 @@
+//! An element takes what others posted to it.
+
+ghost use Rattle.std.specs.Prelude.{◌≡◌, ◌<◌, ◌≤◌, ◌++◌, OnOk, OnErr, IfSome, IfNone};
+ghost use Rattle.element.specs.Held.{held_of, with_queue};
+ghost use Rattle.schedule.specs.Apart.{setting_in};
+ghost use Rattle.schedule.specs.Setting.{IsGoodSetting};
+ghost use Rattle.schedule.specs.declared.halt.Halt.{Halt};
+ghost use Rattle.free_runs.specs.Blocks.{bounds_of};
+ghost use Rattle.machine.specs.Runners.{bounds_within, Runs, Keeps, IsClear, StaysAt, Receives};
+
+use crate::nearness::{Reach, are_near};
+use crate::runner::Runner;
+use element::lane::Lane;
+use mesh::Mesh;
+use schedule::halt::Halt;
+use schedule::main_code::MainCode;
+use schedule::setup::Setup;
+use std::alloc::{AllocError, Allocator};
+use tags::token::Token;
+
+// Puts tokens last into the queue. After an error all stands as before.
+fn receive_all<A: Allocator>(lane: &mut Lane<'_, A>, tokens: &[Token]) -> Result<(), AllocError>
+    ensures ok { OnOk result (held_of lane.new ≡ with_queue (held_of lane.old) (lane.old.queue.items ++ tokens.now)) }
+    ensures err { OnErr result (held_of lane.new ≡ held_of lane.old) }
+{
+    lane.queue.reserve(tokens.len())?;
+    for token in tokens {
+        lane.queue.push_back_reserved(*token);
+    }
+    Ok(())
+}
+
+// How much the machine has.
+fn reach_of<C: MainCode, A: Allocator>(setup: &Setup<'_, C, A>) -> Reach
+    requires { IsGoodSetting (setting_in C.program C.width setup.now) }
+    ensures { bounds_within result ≡ bounds_of (setting_in C.program C.width setup.now) }
+{
+    Reach {
+        frames: setup.elements * setup.frames,
+        cells: setup.code.cells(),
+    }
+}
+
+// Puts a bundle into the queue. Where there is no room for it, or where it has a token that names what is not there, it stays in
+// hand; the latter comes of no run.
+fn receive_or_hold<C: MainCode, A: Allocator>(
+    runner: &mut Runner<'_, A>,
+    setup: &Setup<'_, C, A>,
+    bundle: Vec<Token, A>,
+) -> Option<Halt>
+    requires good { IsGoodSetting (setting_in C.program C.width setup.now) }
+    ensures none { IfNone result (Receives (setting_in C.program C.width setup.now) runner.old bundle.items runner.new) }
+    ensures some { IfSome result (λ halt. (halt ≡ Halt.Memory) × (held_of runner.new.lane ≡ held_of runner.old.lane) × (runner.new ≡ record runner.old { lane = runner.new.lane; hand = bundle })) }
+{
+    let near = are_near(&bundle, reach_of(setup));
+    if near && receive_all(&mut runner.lane, &bundle).is_ok() {
+        return None;
+    }
+    runner.hand = bundle;
+    Some(Halt::Memory)
+}
+
+// Takes a bundle of the element `from`, if there is one.
+fn take_from<C: MainCode, A: Allocator>(
+    runner: &mut Runner<'_, A>,
+    mesh: &Mesh<A>,
+    setup: &Setup<'_, C, A>,
+    from: u32,
+) -> Option<Halt>
+    requires good { IsGoodSetting (setting_in C.program C.width setup.now) }
+    requires runs { Runs (setting_in C.program C.width setup.now) mesh.now runner.old }
+    requires clear { IsClear runner.old }
+    requires from { from < setup.now.elements }
+    ensures stays { StaysAt runner.old runner.new }
+    ensures keeps { Keeps (setting_in C.program C.width setup.now) mesh.now runner.old runner.new }
+    ensures clear { IfNone result (IsClear runner.new) }
+    ensures halts { IfSome result (λ halt. halt ≡ Halt.Memory) }
+{
+    match mesh.take(&mut runner.seat, from) {
+        Some(bundle) => receive_or_hold(runner, setup, bundle),
+        None => None,
+    }
+}
+
+/// Takes what lies in the boxes to this element.
+pub fn take_all<C: MainCode, A: Allocator>(
+    runner: &mut Runner<'_, A>,
+    mesh: &Mesh<A>,
+    setup: &Setup<'_, C, A>,
+) -> Option<Halt>
+    requires good { IsGoodSetting (setting_in C.program C.width setup.now) }
+    requires runs { Runs (setting_in C.program C.width setup.now) mesh.now runner.old }
+    requires clear { IsClear runner.old }
+    ensures stays { StaysAt runner.old runner.new }
+    ensures keeps { Keeps (setting_in C.program C.width setup.now) mesh.now runner.old runner.new }
+    ensures clear { IfNone result (IsClear runner.new) }
+    ensures halts { IfSome result (λ halt. halt ≡ Halt.Memory) }
+{
+    for from in 0..setup.elements {
+        if let Some(halt) = take_from(runner, mesh, setup, from) {
+            return Some(halt);
+        }
+    }
+    None
+}

@@ -1,0 +1,194 @@
+//! The turns of an element, until it leaves.
+
+ghost use Rattle.std.specs.Prelude.{◌≡◌, ◌≢◌, [], Bool, None, OnOk, IfOk, IfSome};
+ghost use Rattle.element.specs.Held.{held_of};
+ghost use Rattle.schedule.specs.Apart.{setting_in};
+ghost use Rattle.schedule.specs.Setting.{IsGoodSetting};
+ghost use Rattle.rounds.specs.Turns.{HaltsLane};
+ghost use Rattle.machine.specs.declared.runner.Left.{Left};
+ghost use Rattle.machine.specs.Runners.{Runs, Keeps, IsClear, StaysAt, IsLeft, Ended};
+
+use crate::blocks::make_block;
+use crate::dealing::{deal, offer_all};
+use crate::runner::{Left, Lost, Runner};
+use crate::taking::take_all;
+use mesh::Mesh;
+use rounds::Gate;
+use schedule::halt::Halt;
+use schedule::main_code::MainCode;
+use schedule::setup::Setup;
+use std::alloc::{AllocError, Allocator};
+use std::sync::Wait;
+use std::thread;
+
+// Takes what others posted, and makes a block of events.
+fn work<C: MainCode, A: Allocator + Clone, G: Gate>(
+    runner: &mut Runner<'_, A>,
+    mesh: &Mesh<A>,
+    setup: &Setup<'_, C, A>,
+    gate: &G,
+) -> Result<Option<Halt>, Lost>
+    requires good { IsGoodSetting (setting_in C.program C.width setup.now) }
+    requires runs { Runs (setting_in C.program C.width setup.now) mesh.now runner.old }
+    requires clear { IsClear runner.old }
+    ensures stays { StaysAt runner.old runner.new }
+    ensures keeps { OnOk result (Keeps (setting_in C.program C.width setup.now) mesh.now runner.old runner.new) }
+    ensures halts { IfOk result (λ halt. HaltsLane (C.program setup.now.code.now) setup.now.steps G.may_stop (held_of runner.new.lane) halt) }
+    ensures undealt { IfOk result (λ halt. halt ≡ None → (runner.new.hand.items ≡ []) × (runner.new.dealt ≡ 0)) }
+{
+    gate.enter(runner.lane.element);
+    match take_all(runner, mesh, setup) {
+        Some(halt) => Ok(Some(halt)),
+        None => make_block(runner, mesh, setup, gate),
+    }
+}
+
+// Deals out what the block made for others, and offers it.
+fn hand_on<C: MainCode, A: Allocator + Clone>(
+    runner: &mut Runner<'_, A>,
+    mesh: &Mesh<A>,
+    setup: &Setup<'_, C, A>,
+) -> Result<(), AllocError>
+    requires good { IsGoodSetting (setting_in C.program C.width setup.now) }
+    requires runs { Runs (setting_in C.program C.width setup.now) mesh.now runner.old }
+    requires undealt { (runner.old.hand.items ≡ []) × (runner.old.dealt ≡ 0) }
+    ensures stays { StaysAt runner.old runner.new }
+    ensures keeps { Keeps (setting_in C.program C.width setup.now) mesh.now runner.old runner.new }
+    ensures clear { OnOk result (IsClear runner.new) }
+{
+    deal(runner, mesh, setup)?;
+    offer_all(runner, mesh, setup)
+}
+
+// Whether the element leaves between two turns.
+fn look<C: MainCode, A: Allocator>(
+    runner: &mut Runner<'_, A>,
+    mesh: &Mesh<A>,
+    setup: &Setup<'_, C, A>,
+) -> Option<Left>
+    requires runs { Runs (setting_in C.program C.width setup.now) mesh.now runner.old }
+    requires clear { IsClear runner.old }
+    ensures stays { StaysAt runner.old runner.new }
+    ensures keeps { Keeps (setting_in C.program C.width setup.now) mesh.now runner.old runner.new }
+    ensures left { IfSome result (λ left. (may_stop : Bool) → IsLeft (setting_in C.program C.width setup.now) may_stop runner.new left) }
+    ensures clear { IsClear runner.new }
+{
+    let _ = setup;
+    if mesh.stopped(&mut runner.seat) != 0 {
+        return Some(Left::Stopped);
+    }
+    if runner.lane.queue.len() == 0 {
+        if mesh.live(&mut runner.seat) == 0 {
+            return Some(Left::Rested);
+        }
+        thread::yield_now();
+    }
+    None
+}
+
+// One turn: why the element leaves after it, if it does.
+fn turn<C: MainCode, A: Allocator + Clone, G: Gate>(
+    runner: &mut Runner<'_, A>,
+    mesh: &Mesh<A>,
+    setup: &Setup<'_, C, A>,
+    gate: &G,
+) -> Result<Option<Left>, Lost>
+    requires good { IsGoodSetting (setting_in C.program C.width setup.now) }
+    requires runs { Runs (setting_in C.program C.width setup.now) mesh.now runner.old }
+    requires clear { IsClear runner.old }
+    ensures stays { StaysAt runner.old runner.new }
+    ensures keeps { OnOk result (Keeps (setting_in C.program C.width setup.now) mesh.now runner.old runner.new) }
+    ensures left { IfOk result (λ left. IfSome left (IsLeft (setting_in C.program C.width setup.now) G.may_stop runner.new)) }
+    ensures clear { IfOk result (λ left. left ≡ None → IsClear runner.new) }
+{
+    if let Some(halt) = work(runner, mesh, setup, gate)? {
+        return Ok(Some(Left::Halted(halt)));
+    }
+    match hand_on(runner, mesh, setup) {
+        Ok(()) => Ok(look(runner, mesh, setup)),
+        Err(_) => Ok(Some(Left::Halted(Halt::Memory))),
+    }
+}
+
+// Turns until the element leaves.
+fn go<R: Wait, C: MainCode, A: Allocator + Clone, G: Gate>(
+    rt: &R,
+    runner: &mut Runner<'_, A>,
+    mesh: &Mesh<A>,
+    setup: &Setup<'_, C, A>,
+    gate: &G,
+) -> Result<Left, Lost>
+    requires good { IsGoodSetting (setting_in C.program C.width setup.now) }
+    requires runs { Runs (setting_in C.program C.width setup.now) mesh.now runner.old }
+    requires clear { IsClear runner.old }
+    ensures stays { StaysAt runner.old runner.new }
+    ensures keeps { OnOk result (Keeps (setting_in C.program C.width setup.now) mesh.now runner.old runner.new) }
+    ensures left { IfOk result (IsLeft (setting_in C.program C.width setup.now) G.may_stop runner.new) }
+{
+    'turns: for _ in rt.forever() {
+        if let Some(left) = turn(runner, mesh, setup, gate)? {
+            return Ok(left);
+        }
+    }
+    unreachable!()
+}
+
+// Calls for a stop, where the element leaves for a reason of its own.
+fn call_stop<C: MainCode, A: Allocator>(
+    runner: &mut Runner<'_, A>,
+    mesh: &Mesh<A>,
+    setup: &Setup<'_, C, A>,
+)
+    requires at { (runner.old.seat.mesh ≡ mesh.now) × (runner.old.seat.joined ≡ []) }
+    ensures stays { StaysAt runner.old runner.new }
+    ensures keeps { Keeps (setting_in C.program C.width setup.now) mesh.now runner.old runner.new }
+    ensures lane { held_of runner.new.lane ≡ held_of runner.old.lane }
+    ensures last { (runner.new.seat.own.last ≡ runner.old.seat.own.last) × (runner.new.left ≡ runner.old.left) }
+{
+    let _ = setup;
+    match runner.left {
+        Left::Lost | Left::Halted(_) => {
+            let _set = mesh.stop(&mut runner.seat, 1);
+        }
+        Left::Rested | Left::Stopped => {}
+    }
+}
+
+// Runs the element until it leaves: why it does.
+fn leave<R: Wait, C: MainCode, A: Allocator + Clone, G: Gate>(
+    rt: &R,
+    runner: &mut Runner<'_, A>,
+    mesh: &Mesh<A>,
+    setup: &Setup<'_, C, A>,
+    gate: &G,
+) -> Left
+    requires good { IsGoodSetting (setting_in C.program C.width setup.now) }
+    requires runs { Runs (setting_in C.program C.width setup.now) mesh.now runner.old }
+    requires clear { IsClear runner.old }
+    ensures stays { StaysAt runner.old runner.new }
+    ensures keeps { result ≢ Left.Lost → Keeps (setting_in C.program C.width setup.now) mesh.now runner.old runner.new }
+    ensures left { IsLeft (setting_in C.program C.width setup.now) G.may_stop runner.new result }
+{
+    match go(rt, runner, mesh, setup, gate) {
+        Ok(left) => left,
+        Err(Lost) => Left::Lost,
+    }
+}
+
+/// Runs the element until no token is live, until another calls for a stop, or until it has a reason of its own to halt, and
+/// calls for a stop then.
+pub fn run<R: Wait, C: MainCode, A: Allocator + Clone, G: Gate>(
+    rt: &R,
+    runner: &mut Runner<'_, A>,
+    mesh: &Mesh<A>,
+    setup: &Setup<'_, C, A>,
+    gate: &G,
+)
+    requires good { IsGoodSetting (setting_in C.program C.width setup.now) }
+    requires runs { Runs (setting_in C.program C.width setup.now) mesh.now runner.old }
+    requires clear { IsClear runner.old }
+    ensures { Ended (setting_in C.program C.width setup.now) mesh.now G.may_stop runner.old runner.new }
+{
+    runner.left = leave(rt, runner, mesh, setup, gate);
+    call_stop(runner, mesh, setup);
+}

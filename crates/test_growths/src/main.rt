@@ -1,0 +1,110 @@
+//! Each growth refused in turn, under the whole program. For each command line and its input the Nth growth is refused, for N
+//! from 1 on, until there are not so many: each answer before is `refused: memory`, or a report with the end `Memory` that
+//! tells no value that the whole run does not have; and the last one, with all growths granted, is the text that is wanted.
+//! Prints how that was told, with any word on the command line also how often, and `agree`, or the first answer that differs,
+//! with status 1.
+#![tactic(auto)]
+
+mod rows;
+mod texts;
+mod trials;
+
+use rows::{COMPILED, ROWS, Row};
+use std::alloc::Global;
+use std::env;
+use std::io::{self, Write};
+use std::process::ExitCode;
+use std::sync::Wait;
+use std::thread::Threads;
+use trials::{Refusals, answer_of, refuse_each};
+
+/// What the trials of a command line came to, in a line: with the figures, if they are asked for. They are as many as the
+/// program's growths are at present.
+fn print_trials<W: Write>(
+    out: &mut W,
+    name: &str,
+    refusals: Result<Refusals, u64>,
+    has_figures: bool,
+) -> io::Result<bool> {
+    match refusals {
+        Ok(refusals) if refusals.before == 0 => {
+            writeln!(out, "{name}: no growth was refused")?;
+            Ok(false)
+        }
+        Ok(refusals) => {
+            if has_figures {
+                writeln!(out, "{name}: {refusals}")?;
+            } else if refusals.within > 0 {
+                writeln!(
+                    out,
+                    "{name}: refused before the run and in it, and then whole"
+                )?;
+            } else {
+                writeln!(out, "{name}: refused, and then whole")?;
+            }
+            Ok(true)
+        }
+        Err(ration) => {
+            writeln!(out, "{name}: differs where growth {ration} is refused")?;
+            Ok(false)
+        }
+    }
+}
+
+/// Whether the answers of each row agree.
+fn rows_agree<R: Threads + Wait + Sync, W: Write>(
+    rt: &R,
+    alloc: Global,
+    out: &mut W,
+    has_figures: bool,
+) -> io::Result<bool> {
+    for row in ROWS {
+        let refusals = refuse_each(rt, alloc, &row);
+        if !print_trials(out, row.name, refusals, has_figures)? {
+            return Ok(false);
+        }
+    }
+    Ok(true)
+}
+
+/// Whether the answers of commands that read a graph's text alone agree with the one where no growth is refused.
+fn texts_agree<R: Threads + Wait + Sync, W: Write>(
+    rt: &R,
+    alloc: Global,
+    out: &mut W,
+    has_figures: bool,
+) -> io::Result<bool> {
+    for (name, words, input) in COMPILED {
+        let whole = answer_of(rt, alloc, words, input);
+        if whole.status != 0 {
+            writeln!(out, "{name}: is refused")?;
+            return Ok(false);
+        }
+        let row = Row {
+            name,
+            words,
+            input,
+            wanted: &whole.text,
+            status: 0,
+        };
+        let refusals = refuse_each(rt, alloc, &row);
+        if !print_trials(out, name, refusals, has_figures)? {
+            return Ok(false);
+        }
+    }
+    Ok(true)
+}
+
+fn main(rt: HostRuntime) -> io::Result<ExitCode> {
+    let mut out = io::writer(&rt);
+    let alloc = rt.alloc();
+    let words: Vec<String> = env::args(&rt)?.collect(alloc)?;
+    let has_figures = words.len() > 1;
+    if rows_agree(&rt, alloc, &mut out, has_figures)?
+        && texts_agree(&rt, alloc, &mut out, has_figures)?
+    {
+        writeln!(out, "agree")?;
+        return Ok(ExitCode::SUCCESS);
+    }
+    Ok(ExitCode::FAILURE)
+}

@@ -1,0 +1,125 @@
+//! One case: a command line with its input.
+
+use driver::serving::serve;
+use hints::{KeepingReader, KeepingWriter, explain};
+use pieces::{append, append_repeated, append_word};
+use rounds::Open;
+use std::alloc::{AllocError, Global};
+use std::io::{self, Write};
+use std::str;
+use std::sync::Wait;
+use std::thread::Threads;
+
+/// A case as far as its lines were read.
+#[derive(Drop)]
+pub struct Case {
+    alloc: Global,
+    words: Vec<u8>,
+    input: Vec<u8>,
+    /// What was written, where the table says it.
+    output: Vec<u8>,
+}
+
+/// The words of a line.
+fn words_of(alloc: Global, line: &[u8]) -> Result<Vec<&str>, AllocError> {
+    let mut words = Vec::new(alloc);
+    for word in line.split(|byte| *byte == b' ') {
+        words.push(str::from_utf8(word).unwrap_or("?"))?;
+    }
+    Ok(words)
+}
+
+/// The line of an output that tells what happened: the first line of a refusal or a mistake, the last one of a report.
+fn telling_line(output: &[u8]) -> &[u8] {
+    let output = output.strip_suffix(b"\n".as_slice()).unwrap_or(output);
+    let mut lines = output.split(|byte| *byte == b'\n');
+    let line = if output.starts_with(b"refused") || output.starts_with(b"error") {
+        lines.next()
+    } else {
+        lines.last()
+    };
+    line.unwrap_or(b"")
+}
+
+impl Case {
+    /// No case yet.
+    pub fn new(alloc: Global) -> Case {
+        Case {
+            alloc,
+            words: Vec::new(alloc),
+            input: Vec::new(alloc),
+            output: Vec::new(alloc),
+        }
+    }
+
+    /// A new case with these words.
+    pub fn begin(&mut self, words: &[u8]) -> Result<(), AllocError> {
+        self.words.clear();
+        self.input.clear();
+        self.output.clear();
+        self.words.extend_from_slice(words)
+    }
+
+    /// Takes a line of the case.
+    pub fn take(&mut self, line: &[u8]) -> Result<(), AllocError> {
+        match line {
+            [b'|', piece @ ..] => {
+                append(&mut self.input, piece, 0)?;
+                self.input.push(b'\n')?;
+            }
+            [b'!', piece @ ..] => append(&mut self.input, piece, 0)?,
+            [b'*', repeated @ ..] => append_repeated(&mut self.input, repeated)?,
+            [b'@', digits @ ..] => append_word(&mut self.input, digits)?,
+            [b'>', piece @ ..] => {
+                append(&mut self.output, piece, 0)?;
+                self.output.push(b'\n')?;
+            }
+            _ => (),
+        }
+        Ok(())
+    }
+
+    /// Serves the case, if there is one, and writes what is told of it.
+    pub fn try_out<R: Threads + Wait + Sync, W: Write>(
+        &self,
+        rt: &R,
+        out: &mut W,
+    ) -> io::Result<()> {
+        if self.words.is_empty() {
+            return Ok(());
+        }
+        let words = words_of(self.alloc, &self.words)?;
+        let words = words.as_slice();
+        let mut reader = KeepingReader::new(self.alloc, self.input.as_slice());
+        let mut writer = KeepingWriter::new(self.alloc, Vec::new(self.alloc));
+        if self.output.is_empty() {
+            serve(
+                words,
+                &mut reader,
+                &mut writer,
+                self.alloc,
+                self.alloc,
+                rt,
+                &Open,
+            );
+        } else {
+            writer.write_all(&self.output)?;
+        }
+        let output = writer.kept().unwrap_or(b"");
+        out.write_all(b"$ ")?;
+        out.write_all(&self.words)?;
+        out.write_all(b"\n")?;
+        out.write_all(telling_line(output))?;
+        out.write_all(b"\n")?;
+        let hint = if self.output.is_empty() {
+            explain(self.alloc, words, reader.kept(), output)?
+        } else {
+            explain(self.alloc, words, Some(self.input.as_slice()), output)?
+        };
+        match hint {
+            Some(hint) => hint.write(out)?,
+            None => out.write_all(b"no hint\n")?,
+        }
+        out.write_all(b"\n")
+    }
+}

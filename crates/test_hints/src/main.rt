@@ -1,0 +1,37 @@
+//! What `ets` says on standard error of many inputs: a hint for each cause. The table is standard input. Its lines:
+//!
+//! - `$ WORDS` begins a case, and is its command line;
+//! - `|LINE` is a line of its input, and `!LINE` a line without its end;
+//! - `*FIRST LAST PIECE` is the piece, once for each number from FIRST to LAST;
+//! - `@DIGITS` is a word of its input, of 16 hexadecimal digits, in 8 bytes, the lowest first;
+//! - `>LINE` is a line of what was written, in place of what the program writes;
+//! - `# WORDS` is a comment.
+//!
+//! In a line or a piece `%` is the number (in a line 0), and `\HH` the byte that these two hexadecimal digits are. For each
+//! case the program writes the words, the line of the output that tells what happened, and the hint.
+#![tactic(auto)]
+
+mod case;
+
+use case::Case;
+use driver::input::read_input;
+use std::io::{self, ErrorKind, Write};
+
+fn main(rt: HostRuntime) -> io::Result<()> {
+    let Ok(table) = read_input(rt.alloc(), &mut rt.stdin()) else {
+        return Err(io::Error::from(ErrorKind::InvalidData));
+    };
+    let mut writer = io::BufWriter::new(rt.alloc(), io::writer(&rt))?;
+    let mut case = Case::new(rt.alloc());
+    for line in table.split(|byte| *byte == b'\n') {
+        match line {
+            [b'$', b' ', words @ ..] => {
+                case.try_out(&rt, &mut writer)?;
+                case.begin(words)?;
+            }
+            _ => case.take(line)?,
+        }
+    }
+    case.try_out(&rt, &mut writer)?;
+    writer.flush()
+}

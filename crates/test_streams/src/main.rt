@@ -1,0 +1,50 @@
+//! Readers and writers that fail, under every command. For each command line and its input: a reader of one byte a call, and
+//! of seven, changes nothing; a reader that fails at any of its calls gives `refused: input`; and of a writer that fails at
+//! any byte, with an error or by taking nothing, just the bytes before that one went out, and the status is 1. Prints how
+//! often each failed, and `agree`, or the first answer that differs, with status 1.
+#![tactic(auto)]
+
+mod cases;
+mod reader;
+mod trials;
+mod writer;
+
+use cases::{CASES, Input, Inputs};
+use std::alloc::Global;
+use std::io::{self, Write};
+use std::process::ExitCode;
+use std::sync::Wait;
+use std::thread::Threads;
+use trials::{Trial, answer_of};
+
+/// Whether all answers agree. Says so of each command line, or which answer differs.
+fn all_agree<R: Threads + Wait + Sync, W: Write>(
+    rt: &R,
+    alloc: Global,
+    out: &mut W,
+) -> io::Result<bool> {
+    let inputs = Inputs::new(rt, alloc)?;
+    for case in CASES {
+        let input = inputs.bytes(case.input);
+        let whole = answer_of(rt, alloc, case.words, input)?;
+        let trial = Trial::new(case, input, &whole);
+        let Some(failures) = trial.run(rt, alloc, out)? else {
+            return Ok(false);
+        };
+        if case.input == Input::Help {
+            writeln!(out, "{}: at each byte", case.name)?;
+        } else {
+            writeln!(out, "{}: {failures}", case.name)?;
+        }
+    }
+    Ok(true)
+}
+
+fn main(rt: HostRuntime) -> io::Result<ExitCode> {
+    let mut out = io::writer(&rt);
+    if all_agree(&rt, rt.alloc(), &mut out)? {
+        writeln!(out, "agree")?;
+        return Ok(ExitCode::SUCCESS);
+    }
+    Ok(ExitCode::FAILURE)
+}

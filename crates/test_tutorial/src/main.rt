@@ -1,0 +1,42 @@
+//! Whether the tutorial is as the program would have it now. The words are the file of the page, which lies with the files that
+//! the page names, and maybe `make`. Each command of the page is done again, and has to print what stands below it. Prints
+//! `agree`, or the first line that differs, with status 1; with `make` the page as it has to be, and each file that a command
+//! writes.
+#![tactic(auto)]
+
+mod commands;
+mod drawings;
+mod pages;
+
+use commands::Shell;
+use pages::{first_difference, made_page};
+use std::io::{self, Write};
+use std::process::ExitCode;
+use std::{env, fs};
+
+fn main(rt: HostRuntime) -> anyhow::Result<ExitCode> {
+    let words: Vec<String> = env::args(&rt)?.collect(rt.alloc())?;
+    let name = match words.get(1) {
+        Some(word) => word.as_str(),
+        None => "TUTORIAL.md",
+    };
+    let page = fs::read_to_string(&rt, name)?;
+    let mut shell = Shell::new(&rt);
+    let made = made_page(&rt, &mut shell, page.as_str())?;
+    let mut out = io::writer(&rt);
+    if words.len() > 2 {
+        out.write_all(made.as_bytes())?;
+        out.write_all(shell.written.as_slice())?;
+        return Ok(ExitCode::SUCCESS);
+    }
+    if let Some(difference) = first_difference(page.as_str(), made.as_str()) {
+        writeln!(out, "{name} {difference}")?;
+        return Ok(ExitCode::FAILURE);
+    }
+    if let Some(fault) = &shell.fault {
+        writeln!(out, "{fault}")?;
+        return Ok(ExitCode::FAILURE);
+    }
+    writeln!(out, "agree")?;
+    Ok(ExitCode::SUCCESS)
+}
