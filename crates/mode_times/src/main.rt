@@ -118,10 +118,7 @@ fn config_in(words: &[String]) -> Option<Config> {
 
 /// How often to run.
 fn times_in(words: &[String]) -> u64 {
-    words
-        .get(5)
-        .and_then(|word| word.parse().ok())
-        .unwrap_or(1)
+    words.get(5).and_then(|word| word.parse().ok()).unwrap_or(1)
 }
 
 fn main(rt: HostRuntime) -> io::Result<()> {
@@ -146,11 +143,13 @@ fn main(rt: HostRuntime) -> io::Result<()> {
         )
     };
     match runs {
-        Some(Measured {
-            events,
-            turns,
-            is_one: true,
-        }) => println!(rt; "{word}: {events} events, {turns} turns"),
+        Some(
+            Measured {
+                events,
+                turns,
+                is_one: true,
+            },
+        ) => println!(rt; "{word}: {events} events, {turns} turns"),
         Some(_) => println!(rt; "{word}: THE REPORTS OF TWO RUNS DIFFER"),
         None => println!(rt; "{word}: no run"),
     }
