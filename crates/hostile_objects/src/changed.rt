@@ -1,7 +1,7 @@
 //! Objects of which words are changed.
 
-use crate::dice::Dice;
 use crate::object::HEADER;
+use random_graphs::dice::Dice;
 use std::alloc::{AllocError, Global};
 
 /// How many changes of a word are tried.

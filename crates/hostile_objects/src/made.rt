@@ -1,7 +1,7 @@
 //! Well-formed objects of random instructions. Most words go where their kind is welcome, so that runs go on for a while.
 
-use crate::dice::Dice;
 use crate::object::{Dest, Line, MARK, NONE, entry, push_line};
+use random_graphs::dice::Dice;
 use std::alloc::{AllocError, Global};
 
 const COPY: u64 = 18;

@@ -8,7 +8,6 @@
 
 mod bases;
 mod changed;
-mod dice;
 mod made;
 mod object;
 mod orders;
@@ -20,11 +19,11 @@ mod tally;
 
 use bases::bases;
 use changed::{count_of, one_word, random_words};
-use dice::Dice;
 use made::random_code;
 use object::bytes_of;
 use object_view::Object;
 use played::scenes_agree;
+use random_graphs::dice::Dice;
 use runs::{Runnable, Verdict};
 use std::alloc::{AllocError, Global};
 use std::env;

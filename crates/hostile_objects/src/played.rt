@@ -1,14 +1,14 @@
 //! Objects with one end in every order: each is run on few elements and frames, and on many, in each mode and in random
 //! orders.
 
-use crate::dice::Dice;
 use crate::object::bytes_of;
-use crate::orders::random_order;
 use crate::runs::{Runnable, config};
 use crate::scenes::{SCENES, Scene, Wanted, words_of_scene};
 use command_line::Mode;
 use driver::emulation::emulate_object_picks;
 use driver::fault::Fault;
+use random_graphs::dice::Dice;
+use random_graphs::orders::picks as random_picks;
 use schedule::report::Report;
 use semantics::report::End;
 use std::alloc::{AllocError, Global};
@@ -65,7 +65,7 @@ fn runs_of<R: Threads + Wait + Sync>(
         }
         for _ in 0..ORDERS {
             if elements > 0 {
-                let picks = random_order(alloc, dice, elements, PICKS)?;
+                let picks = random_picks(alloc, dice, elements, PICKS)?;
                 let config = config(elements, frames, STEPS);
                 let run = emulate_object_picks(alloc, object.object, object.inputs, config, &picks);
                 if !is_wanted(&run, wanted) {

@@ -2,13 +2,14 @@
 
 ghost use Rattle.std.specs.Prelude.{◌≡◌, ◌<◌, All};
 
-use crate::dice::Dice;
-use crate::orders::{in_turn, random_order};
+use crate::orders::in_turn;
 use crate::sound::{has_end, is_sound};
 use command_line::Mode;
 use driver::emulation::{emulate_object, emulate_object_picks, emulate_object_quietly};
 use driver::fault::Fault;
 use driver::objects::upgrade_object;
+use random_graphs::dice::Dice;
+use random_graphs::orders::picks as random_picks;
 use rounds::Open;
 use schedule::config::Config;
 use schedule::report::Report;
@@ -181,7 +182,7 @@ impl Runnable<'_> {
         let config = config(elements, frames, STEPS);
         let count = STEPS.wrapping_mul(u64::from(elements));
         for _ in 0..ORDERS {
-            let picks = random_order(alloc, dice, elements, count)?;
+            let picks = random_picks(alloc, dice, elements, count)?;
             let run = emulate_object_picks(alloc, self.object, self.inputs, config, &picks);
             let is_well = match run {
                 Ok(report) => is_sound(alloc, &report, self.arrays, config, true)?,

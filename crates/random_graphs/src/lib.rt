@@ -6,3 +6,4 @@ mod deeds;
 pub mod dice;
 pub mod graphs;
 pub mod kind;
+pub mod orders;

@@ -4,7 +4,6 @@
 //! many there were of what, or the first graph whose run differs, with status 1.
 #![tactic(auto)]
 
-mod orders;
 mod tally;
 mod trials;
 mod verdict;

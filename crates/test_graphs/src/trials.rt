@@ -2,7 +2,6 @@
 
 ghost use Rattle.std.specs.Prelude.{◌≡◌, ◌<◌, All};
 
-use crate::orders::picks;
 use crate::tally::Tally;
 use crate::verdict::{Verdict, verdict_of};
 use command_line::Mode;
@@ -11,6 +10,7 @@ use driver::fault::Fault;
 use oracle::MeanReport;
 use random_graphs::dice::Dice;
 use random_graphs::graphs::{Graph, Part};
+use random_graphs::orders::picks;
 use rounds::Open;
 use schedule::config::Config;
 use schedule::report::Report;

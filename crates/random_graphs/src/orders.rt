@@ -2,18 +2,18 @@
 
 ghost use Rattle.std.specs.Prelude.{◌<◌, All, IfOk};
 
-use random_graphs::dice::Dice;
+use crate::dice::Dice;
 use std::alloc::{AllocError, Global};
 
-/// One of so many elements.
-fn element_of(number: u64, elements: u32) -> u32
+/// The element that a number stands for: its remainder.
+pub fn element_of(number: u64, elements: u32) -> u32
     requires { 0 < elements }
     ensures { result < elements }
 {
     (number % elements as u64) as u32
 }
 
-/// A random list of so many picks on so many elements.
+/// A random list of `count` picks, each of an element and a token of it.
 pub fn picks(
     alloc: Global,
     dice: &mut Dice,
