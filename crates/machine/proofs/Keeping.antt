@@ -53,10 +53,15 @@ module _ {A : Type 0} (g : Setting) (mesh : MeshId) where
   pub keeps_on : {X Y : Type 0} (r : Result X Y) (old mid new : Runner A) → Keeps g mesh old mid → OnOk r (Keeps g mesh mid new) → OnOk r (Keeps g mesh old new)
   keeps_on r old mid new one two = ok_then r (Keeps g mesh mid new) (Keeps g mesh old new) (λ k. keeps_twice old mid new one k) two
 
-  -- how many blocks it asked for, and why it left, play no role
+  -- how many blocks it asked for plays no role
   pub keeps_counting : (old : Runner A) (blocks : ℕ) → Keeps g mesh old (record old { blocks = blocks })
   keeps_counting old blocks = λ start r. record { at = r.at; alone = r.alone; blocks = r.blocks; ran = r.ran; noted = r.noted; unlogged = r.unlogged; tidy = record { count = r.tidy.count; addressed = r.tidy.addressed; created = r.tidy.created; few = r.tidy.few } }
 
+  -- nor what memory it has for bundles to come
+  pub keeps_sparing : (old : Runner A) (spare : Vec (Vec Token A) A) → Keeps g mesh old (record old { spare = spare })
+  keeps_sparing old spare = λ start r. record { at = r.at; alone = r.alone; blocks = r.blocks; ran = r.ran; noted = r.noted; unlogged = r.unlogged; tidy = record { count = r.tidy.count; addressed = r.tidy.addressed; created = r.tidy.created; few = r.tidy.few } }
+
+  -- nor why it left
   pub keeps_leaving : (old : Runner A) (left : Left) → Keeps g mesh old (record old { left = left })
   keeps_leaving old left = λ start r. record { at = r.at; alone = r.alone; blocks = r.blocks; ran = r.ran; noted = r.noted; unlogged = r.unlogged; tidy = record { count = r.tidy.count; addressed = r.tidy.addressed; created = r.tidy.created; few = r.tidy.few } }
 

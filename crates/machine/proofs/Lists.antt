@@ -1,7 +1,7 @@
 -- Lists of lanes, seats and runners, one more at a time.
-use Rattle.std.proofs.Common.{◌≡◌, sym, ◌∙◌, ap, ℕ, ◌+◌, ◌<◌, List, [], ◌∷◌, ◌++◌, length, map, take, get_or, arith, append_assoc}
+use Rattle.std.proofs.Common.{◌≡◌, sym, ◌∙◌, ap, ℕ, ◌+◌, ◌<◌, List, [], ◌∷◌, ◌++◌, length, map, take, drop, get_or, arith, append_assoc}
 use Rattle.std.specs.Prelude.{remove}
-use Rattle.std.proofs.lemmas.List.{append-nil, map-append, take_more, nil_from_length}
+use Rattle.std.proofs.lemmas.List.{append-nil, map-append, take_more, take_all, drop_all, nil_from_length}
 use Rattle.std.proofs.lemmas.Grind.{flat_map-append}
 use Rattle.crossbeam_utils.specs.declared.cache_padded.CachePadded.{CachePadded}
 use Rattle.tags.specs.declared.token.Token.{Token}
@@ -11,6 +11,13 @@ use Rattle.schedule.specs.State.{tokens_in}
 use Rattle.mesh.specs.Seats.{SeatView}
 use Rattle.machine.specs.declared.runner.Runner.{Runner}
 use Rattle.machine.specs.Starts.{lane_in, seat_of, lanes_in, seats_in}
+
+-- what comes back of a vector that was lent as a slice
+pub written_back : {X : Type 0} (n : ℕ) (old new : List X) → length old ≡ n → length new ≡ length old → take n (new ++ drop (length new) old) ≡ new
+written_back n old new whole same =
+    let none : drop (length new) old ≡ [] = drop_all (length new) old (omega (arith, same)) in
+    let back : new ++ drop (length new) old ≡ new = ap (λ (l : List _). new ++ l) none ∙ append-nil new in
+    ap (λ (l : List _). take n l) back ∙ take_all n new (omega (arith, whole, same))
 
 -- one more of a queue
 pub list_more : (all old now new : List Token) (k : ℕ) (t : Token) → k < length all → t ≡ get_or all k t → now ≡ old ++ take k all → new ≡ now ++ t ∷ [] → new ≡ old ++ take (k + 1) all

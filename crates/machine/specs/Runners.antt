@@ -8,7 +8,7 @@ use Rattle.schedule.specs.Setting.{Setting}
 use Rattle.schedule.specs.State.{IsPlaced}
 use Rattle.mesh.specs.declared.view.Deed.{Deed}
 use Rattle.mesh.specs.Deeds.{commits_of, created}
-use Rattle.mesh.specs.Seats.{MeshId, SeatView, AllTo, Leaves}
+use Rattle.mesh.specs.Seats.{MeshId, AllTo, Leaves}
 use Rattle.rounds.specs.Turns.{HaltsLane, Turns, by, logged}
 use Rattle.ordering.specs.declared.log.Counts.{Counts}
 use Rattle.ordering.specs.Noted.{Noted, noted_in}
@@ -22,12 +22,6 @@ use Rattle.machine.specs.declared.runner.Runner.{Runner}
 
 abbrev pub bounds_within : Reach → Bounds
 bounds_within r = record { frames = r.frames; cells = r.cells }
-
-abbrev pub lane_held : {A : Type 0} → Runner A → Held
-lane_held r = held_of r.lane
-
-abbrev pub seat_in : {A : Type 0} → Runner A → SeatView
-seat_in r = r.seat
 
 -- what it holds beside its queue: in hand, in bundles, and not dealt yet
 abbrev pub away : {A : Type 0} → Runner A → List Token
@@ -73,11 +67,11 @@ Keeps g mesh old new = (start : Held) → IsRunning g mesh start old → IsRunni
 abbrev pub IsClear : {A : Type 0} → Runner A → Type 0
 IsClear r = (r.hand.items ≡ []) × (r.sent.items ≡ []) × (r.dealt ≡ 0)
 
--- The lane has these tokens more, last in its queue. They name what there is.
+-- The lane has these tokens more, last in its queue. They name what there is. The memory of the bundle may be kept.
 pub record Receives {A : Type 0} (g : Setting) (old : Runner A) (tokens : List Token) (new : Runner A) : Type 0 where
   pub near : All (IsNearToken (bounds_of g)) tokens
   pub lane : held_of new.lane ≡ with_queue (held_of old.lane) (old.lane.queue.items ++ tokens)
-  pub others : new ≡ record old { lane = new.lane }
+  pub others : new ≡ record old { lane = new.lane; spare = new.spare }
 
 -- the seat is the same element's at the same mesh
 abbrev pub StaysAt : {A : Type 0} → Runner A → Runner A → Type 0

@@ -16,9 +16,6 @@ use Rattle.machine.specs.declared.runner.Left.{Left}
 use Rattle.machine.specs.declared.runner.Runner.{Runner}
 use Rattle.machine.specs.Runners.{IsClear, Ended}
 
-abbrev pub runner_in : {A : Type 0} → CachePadded (Runner A) → Runner A
-runner_in p = padded_value p
-
 abbrev pub lane_in : {A : Type 0} → CachePadded (Runner A) → Held
 lane_in p = held_of (padded_value p).lane
 

@@ -1,6 +1,6 @@
 //! An element offers to others what it made for them.
 
-ghost use Rattle.std.specs.Prelude.{◌≡◌, ◌<◌, ◌++◌, ◌∷◌, [], length, OnOk, OnErr, slice_set, slice_index_or, IsPermutation};
+ghost use Rattle.std.specs.Prelude.{◌≡◌, ◌<◌, ◌++◌, ◌∷◌, [], length, OnOk, OnErr, IfOk, slice_set, slice_index_or, IsPermutation};
 ghost use Rattle.std.specs.List.{flat_map};
 ghost use Rattle.tags.specs.Addresses.{element_of};
 ghost use Rattle.element.specs.Held.{held_of};
@@ -81,6 +81,22 @@ fn post_bundle<C: MainCode, A: Allocator>(
     }
 }
 
+// An empty bundle: one that was emptied before, or else a new one.
+fn empty_bundle<A: Allocator + Clone>(
+    spare: &mut Vec<Vec<Token, A>, A>,
+    alloc: &A,
+) -> Result<Vec<Token, A>, AllocError>
+    ensures { IfOk result (λ bundle. bundle.items ≡ []) }
+{
+    match spare.pop() {
+        Some(mut bundle) => {
+            bundle.clear();
+            Ok(bundle)
+        }
+        None => Ok(Vec::new(alloc.clone()?)),
+    }
+}
+
 // Offers the bundle for an element, if it has a token.
 fn offer_to<C: MainCode, A: Allocator + Clone>(
     runner: &mut Runner<'_, A>,
@@ -99,7 +115,7 @@ fn offer_to<C: MainCode, A: Allocator + Clone>(
     if runner.kept[to as usize].is_empty() {
         return Ok(());
     }
-    let empty = Vec::new(setup.alloc.clone()?);
+    let empty = empty_bundle(&mut runner.spare, &setup.alloc)?;
     post_bundle(runner, mesh, setup, empty, to);
     Ok(())
 }

@@ -38,6 +38,8 @@ pub struct Runner<'m, A: Allocator> {
     pub kept: Vec<Vec<Token, A>, A>,
     /// What it took and could not put into its queue.
     pub hand: Vec<Token, A>,
+    /// Emptied bundles, whose memory is used again.
+    pub spare: Vec<Vec<Token, A>, A>,
     /// Whether events are listed.
     pub listed: bool,
     /// The events of its turn, where events are listed.

@@ -65,6 +65,7 @@ fn runner<'m, A: Allocator + Clone>(
     let kept = bundles(alloc, elements)?;
     let sent = Vec::new(alloc.clone()?);
     let hand = Vec::new(alloc.clone()?);
+    let spare = Vec::with_capacity(alloc.clone()?, elements as usize)?;
     let log = Vec::new(alloc.clone()?);
     let notes = Log::new(alloc.clone()?)?;
     Ok(Runner {
@@ -74,6 +75,7 @@ fn runner<'m, A: Allocator + Clone>(
         dealt: 0,
         kept,
         hand,
+        spare,
         listed,
         log,
         notes,

@@ -41,6 +41,14 @@ fn reach_of<C: MainCode, A: Allocator>(setup: &Setup<'_, C, A>) -> Reach
     }
 }
 
+// Empties a bundle that is in the queue, and keeps it for tokens to come, as many as an element posts in a turn.
+fn keep_spare<A: Allocator>(spare: &mut Vec<Vec<Token, A>, A>, mut bundle: Vec<Token, A>) {
+    if spare.len() < spare.capacity() {
+        bundle.clear();
+        let _is_kept = spare.push(bundle).is_ok();
+    }
+}
+
 // Puts a bundle into the queue. Where there is no room for it, or where it has a token that names what is not there, it stays in
 // hand; the latter comes of no run.
 fn receive_or_hold<C: MainCode, A: Allocator>(
@@ -54,6 +62,7 @@ fn receive_or_hold<C: MainCode, A: Allocator>(
 {
     let near = are_near(&bundle, reach_of(setup));
     if near && receive_all(&mut runner.lane, &bundle).is_ok() {
+        keep_spare(&mut runner.spare, bundle);
         return None;
     }
     runner.hand = bundle;

@@ -1,29 +1,29 @@
-use Rattle.std.proofs.Common.{◌≡◌, sym, ◌∙◌, ap, subst, ◌++◌, List, length, take, drop}
-use Rattle.crossbeam_utils.specs.declared.cache_padded.CachePadded.{CachePadded}
-use Rattle.rounds.proofs.Closing.{same_slice}
+use Rattle.std.proofs.Common.{◌∙◌, ◌<◌, All, length, ap, subst, sym}
+use Rattle.crossbeam_utils.specs.Padded.{padded_value}
 use Rattle.schedule.specs.Apart.{setting_in}
-use Rattle.schedule.specs.Setting.{Setting}
-use Rattle.machine.specs.declared.runner.Runner.{Runner}
+use Rattle.machine.specs.Runners.{Runs, IsClear}
 use Rattle.machine.specs.Starts.{AllEnded}
+use Rattle.machine.proofs.Lists.{written_back}
 use Rattle.machine.proofs.free.run_all.Goals as goal
+
+pub run_each-requires-clause-some : goal.run_each-requires-clause-some
+run_each-requires-clause-some g c κs within = subst (λ ps. 0 < length ps) (sym c.deref_mut.ensures.value) c.requires.some
+
+pub run_each-requires-clause-ready : goal.run_each-requires-clause-ready
+run_each-requires-clause-ready g c κs within =
+    subst (λ ps. All (λ p. Runs (setting_in g.C.Instructions.program g.C.Instructions.width c.args.setup.now) c.args.mesh.now (padded_value p) × IsClear (padded_value p)) ps) (sym c.deref_mut.ensures.value) c.requires.ready
 
 pub returns-clause-each : goal.returns-clause-each
 returns-clause-each g c =
-    let s : Setting = setting_in g.C.Instructions.program g.C.Instructions.width c.args.setup.now in
-    let may = g.G.Gate.may_stop in
     let old = c.args.runners.now.items in
-    let new = c.run_each.new.runners in
-    let value = c.deref_mut.ensures.value in
-    let count : length new ≡ length old = c.run_each.ensures.count ∙ ap (λ (l : List (CachePadded (Runner g.row.A.Denot))). length l) value in
-    let same : take c.args.runners.now.len (new ++ drop (length new) old) ≡ new = same_slice c.args.runners.now.len new old (sym c.deref_mut.ensures.len ∙ ap (λ (l : List (CachePadded (Runner g.row.A.Denot))). length l) value) count in
-    subst (λ (l : List (CachePadded (Runner g.row.A.Denot))). AllEnded s c.args.mesh.now may old l) (sym same)
-    (subst (λ (l : List (CachePadded (Runner g.row.A.Denot))). AllEnded s c.args.mesh.now may l new) value c.run_each.ensures.each)
+    let is = c.deref_mut.ensures.value in
+    let each = subst (λ ps. AllEnded (setting_in g.C.Instructions.program g.C.Instructions.width c.args.setup.now) c.args.mesh.now g.G.Gate.may_stop ps c.run_each.new.runners) is c.run_each.ensures.each in
+    subst (λ ps. AllEnded (setting_in g.C.Instructions.program g.C.Instructions.width c.args.setup.now) c.args.mesh.now g.G.Gate.may_stop old ps)
+    (sym (written_back c.args.runners.now.len old c.run_each.new.runners (sym (ap length is) ∙ c.deref_mut.ensures.len) (c.run_each.ensures.count ∙ ap length is))) each
 
 pub returns-clause-count : goal.returns-clause-count
 returns-clause-count g c =
     let old = c.args.runners.now.items in
-    let new = c.run_each.new.runners in
-    let value = c.deref_mut.ensures.value in
-    let count : length new ≡ length old = c.run_each.ensures.count ∙ ap (λ (l : List (CachePadded (Runner g.row.A.Denot))). length l) value in
-    let same : take c.args.runners.now.len (new ++ drop (length new) old) ≡ new = same_slice c.args.runners.now.len new old (sym c.deref_mut.ensures.len ∙ ap (λ (l : List (CachePadded (Runner g.row.A.Denot))). length l) value) count in
-    ap (λ (l : List (CachePadded (Runner g.row.A.Denot))). length l) same ∙ count
+    let is = c.deref_mut.ensures.value in
+    let same = c.run_each.ensures.count ∙ ap length is in
+    ap length (written_back c.args.runners.now.len old c.run_each.new.runners (sym (ap length is) ∙ c.deref_mut.ensures.len) same) ∙ same
