@@ -24,14 +24,19 @@ struct Counter {
 }
 
 impl Gate for Counter {
-    ghost use Rattle.std.specs.Prelude.{false};
+    ghost use Rattle.std.specs.Prelude.{◌≡◌, false, true};
 
     ghost may_stop = { false };
 
-    fn enter(&self, element: u32) {
+    fn enter(&self, _element: u32) {}
+
+    fn go_on(&self, element: u32, _blocks: u64) -> bool
+        ensures { result ≡ false → false ≡ true }
+    {
         if element == 0 {
             self.turns.fetch_add(1, Ordering::SeqCst);
         }
+        true
     }
 }
 

@@ -262,8 +262,8 @@ fn run_apart<
 }
 
 /// Lets all elements run freely until the run halts, and reports. Each element runs in a thread of its own from the first event to
-/// the last: it takes what others posted to it, asks the gate, makes a block of up to `turn` events with its oldest tokens, commits it, and
-/// posts what it made for others. Where several elements halt, the one of least number says why the run does. The events are
+/// the last: it enters the gate once, and then takes what others posted to it, asks the gate, makes a block of up to `turn` events with its
+/// oldest tokens, commits it, and posts what it made for others, again and again. Where several elements halt, the one of least number says why the run does. The events are
 /// listed block by block, in a legal order.
 pub fn run<
     R: Threads + Wait + Sync,

@@ -1,10 +1,11 @@
 //! The turns of an element, until it leaves.
 
-ghost use Rattle.std.specs.Prelude.{◌≡◌, ◌≢◌, [], Bool, None, OnOk, IfOk, IfSome};
+ghost use Rattle.std.specs.Prelude.{◌≡◌, ◌≢◌, [], Bool, None, OnOk, IfOk, IfSome, IfNone};
 ghost use Rattle.element.specs.Held.{held_of};
 ghost use Rattle.schedule.specs.Apart.{setting_in};
 ghost use Rattle.schedule.specs.Setting.{IsGoodSetting};
 ghost use Rattle.rounds.specs.Turns.{HaltsLane};
+ghost use Rattle.schedule.specs.declared.halt.Halt.{Halt};
 ghost use Rattle.machine.specs.declared.runner.Left.{Left};
 ghost use Rattle.machine.specs.Runners.{Runs, Keeps, IsClear, StaysAt, IsLeft, Ended};
 
@@ -21,6 +22,37 @@ use std::alloc::{AllocError, Allocator};
 use std::sync::Wait;
 use std::thread;
 
+// How many events an element that has tokens enough makes between two looks at its mailboxes.
+const LOOK: u64 = 256;
+
+// Whether the element has tokens for a whole turn, and looked at its mailboxes a short while ago.
+fn is_busy<C: MainCode, A: Allocator>(runner: &Runner<'_, A>, setup: &Setup<'_, C, A>) -> bool
+    requires { IsGoodSetting (setting_in C.program C.width setup.now) }
+{
+    let every = LOOK / setup.turn;
+    every > 1 && runner.blocks % every != 0 && runner.lane.queue.len() as u64 >= setup.turn
+}
+
+// Takes what others posted, if it is time to look.
+fn take<C: MainCode, A: Allocator>(
+    runner: &mut Runner<'_, A>,
+    mesh: &Mesh<A>,
+    setup: &Setup<'_, C, A>,
+) -> Option<Halt>
+    requires good { IsGoodSetting (setting_in C.program C.width setup.now) }
+    requires runs { Runs (setting_in C.program C.width setup.now) mesh.now runner.old }
+    requires clear { IsClear runner.old }
+    ensures stays { StaysAt runner.old runner.new }
+    ensures keeps { Keeps (setting_in C.program C.width setup.now) mesh.now runner.old runner.new }
+    ensures clear { IfNone result (IsClear runner.new) }
+    ensures halts { IfSome result (λ halt. halt ≡ Halt.Memory) }
+{
+    if is_busy(runner, setup) {
+        return None;
+    }
+    take_all(runner, mesh, setup)
+}
+
 // Takes what others posted, and makes a block of events.
 fn work<C: MainCode, A: Allocator + Clone, G: Gate>(
     runner: &mut Runner<'_, A>,
@@ -36,8 +68,7 @@ fn work<C: MainCode, A: Allocator + Clone, G: Gate>(
     ensures halts { IfOk result (λ halt. HaltsLane (C.program setup.now.code.now) setup.now.steps G.may_stop (held_of runner.new.lane) halt) }
     ensures undealt { IfOk result (λ halt. halt ≡ None → (runner.new.hand.items ≡ []) × (runner.new.dealt ≡ 0)) }
 {
-    gate.enter(runner.lane.element);
-    match take_all(runner, mesh, setup) {
+    match take(runner, mesh, setup) {
         Some(halt) => Ok(Some(halt)),
         None => make_block(runner, mesh, setup, gate),
     }
@@ -189,6 +220,7 @@ pub fn run<R: Wait, C: MainCode, A: Allocator + Clone, G: Gate>(
     requires clear { IsClear runner.old }
     ensures { Ended (setting_in C.program C.width setup.now) mesh.now G.may_stop runner.old runner.new }
 {
+    gate.enter(runner.lane.element);
     runner.left = leave(rt, runner, mesh, setup, gate);
     call_stop(runner, mesh, setup);
 }
