@@ -263,13 +263,7 @@ impl<A: Allocator> Table<A> {
     }
 
     /// Notes at which slots the next holder meets one of 64 earlier holders with which it may not share.
-    fn note_group(
-        &self,
-        blocked: &mut [bool],
-        slots: &[u16],
-        group: usize,
-        is_sided: bool,
-    )
+    fn note_group(&self, blocked: &mut [bool], slots: &[u16], group: usize, is_sided: bool)
         requires all { length blocked.old ≡ 512 }
         requires below { All (λ s. s < 512) slots.now }
         requires sided { is_sided ≡ list_any (of_tables.is_sided (length slots.now)) self.now.splits }

@@ -1,4 +1,4 @@
-use Rattle.std.proofs.Common.{◌≡◌, sym, ◌∙◌}
+use Rattle.std.proofs.Common.{sym, ◌∙◌}
 use Rattle.slot_alloc.proofs.Blocking.{unsided}
 use Rattle.slot_alloc.proofs.table.Table.is_apart_from.Goals as goal
 

@@ -1,4 +1,4 @@
-use Rattle.std.proofs.Common.{◌≡◌, sym, ◌∙◌}
+use Rattle.std.proofs.Common.{sym, ◌∙◌}
 use Rattle.slot_alloc.proofs.Blocking.{group_passed}
 use Rattle.slot_alloc.proofs.table.Table.note_group.Goals as goal
 
