@@ -6,6 +6,7 @@ pub mod Lanes
 pub mod Groups
 pub mod Shared
 pub mod Filling
+pub mod Blocking
 pub mod Holders
 pub mod Steps
 pub mod Counts

@@ -48,12 +48,20 @@ table_of p ms c = record { after = after_rows p ms c (groups c.slots); splits = 
 abbrev pub word : List ℕ → ℕ → ℕ
 word row g = slice_index_or row g 0
 
+-- after which ones of a group holder g comes
+abbrev pub after_word : List (List ℕ) → ℕ → ℕ → ℕ
+after_word rows g k = word (slice_index_or rows k []) g
+
 -- whether holder g comes after holder h
 abbrev pub comes_after : List (List ℕ) → ℕ → ℕ → Bool
 comes_after rows g h = bit_and (word (slice_index_or rows (h / 64) []) g / 2 ^ (h % 64)) 1 == 1
 
 abbrev pub is_apart : ℕ → ℕ → Split → Bool
 is_apart g h s = not (bit_or (bit_and (word s.yes g) (word s.no h)) (bit_and (word s.no g) (word s.yes h)) == 0)
+
+-- whether a holder is on a side
+abbrev pub is_sided : ℕ → Split → Bool
+is_sided g s = not (bit_or (word s.yes g) (word s.no g) == 0)
 
 abbrev pub may_share : Table → ℕ → ℕ → Bool
 may_share t g h = comes_after t.after g h || comes_after t.after h g || list_any (is_apart g h) t.splits
@@ -69,6 +77,10 @@ AdmitsAll t ss = (g : ℕ) → g < length ss → (slice_index_or ss g 0 < 512) �
 abbrev pub blocked_by : Table → ℕ → List Bool → ℕ → List ℕ → List Bool
 blocked_by t g blocked h [] = blocked
 blocked_by t g blocked h (s ∷ ss) = blocked_by t g (if may_share t h g then blocked else slice_set blocked s true) (h + 1) ss
+
+-- the same for the next holder, from holder h on
+abbrev pub blocked_from : Table → List ℕ → List Bool → ℕ → List Bool
+blocked_from t ss blocked h = blocked_by t (length ss) blocked h (drop h ss)
 
 -- some earlier holder in that slot may not share with holder h
 abbrev pub IsClosedAt : Table → List ℕ → ℕ → ℕ → Type 0

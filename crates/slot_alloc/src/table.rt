@@ -1,6 +1,6 @@
 //! Which holders of a block may share a slot.
 
-ghost use Rattle.std.specs.Prelude.{◌≡◌, ℕ, ◌<◌, ◌^◌, ◌↔◌, [], length, replicate, IfOk, IfSome, IfNone, IsTrue, All, true, false, slice_get, slice_index_or, slice_set, if◌then◌else◌};
+ghost use Rattle.std.specs.Prelude.{◌≡◌, ℕ, ◌+◌, ◌*◌, ◌/◌, ◌<◌, ◌^◌, ◌↔◌, [], length, replicate, IfOk, IfSome, IfNone, IsTrue, All, true, false, slice_get, slice_index_or, slice_set, if◌then◌else◌};
 ghost use Rattle.std.specs.List.{list_any};
 ghost use Rattle.slot_alloc.specs.Passes.{same_mark};
 ghost use Rattle.slot_alloc.specs.Tables as of_tables;
@@ -37,6 +37,13 @@ impl<A: Allocator> Split<A> {
         ensures { result ≡ of_tables.is_apart g h self.now }
     {
         (self.yes.at(g) & self.no.at(h)) | (self.no.at(g) & self.yes.at(h)) != 0
+    }
+
+    /// Whether the holder is on a side of one of the marks.
+    fn is_sided(&self, holder: usize) -> bool
+        ensures { result ≡ of_tables.is_sided holder self.now }
+    {
+        (self.yes.at(holder) | self.no.at(holder)) != 0
     }
 }
 
@@ -163,14 +170,21 @@ impl<A: Allocator + Clone> Table<A> {
 }
 
 impl<A: Allocator> Table<A> {
+    /// After which ones of 64 holders a holder comes, a lane for each.
+    fn after_lanes(&self, holder: usize, group: usize) -> u64
+        ensures { result ≡ of_tables.after_word self.now.after holder group }
+    {
+        match self.after.get(group) {
+            Some(row) => row.at(holder),
+            None => 0,
+        }
+    }
+
     /// Whether the first holder comes after the second one.
     fn comes_after(&self, g: usize, h: usize) -> bool
         ensures { result ≡ of_tables.comes_after self.now.after g h }
     {
-        match self.after.get(h / 64) {
-            Some(row) => (row.at(g) >> (h % 64)) & 1 == 1,
-            None => false,
-        }
+        (self.after_lanes(g, h / 64) >> (h % 64)) & 1 == 1
     }
 
     /// Whether the switches of one mark put the two holders on different sides.
@@ -179,6 +193,18 @@ impl<A: Allocator> Table<A> {
     {
         for split in &self.splits {
             if split.is_apart(g, h) {
+                return true;
+            }
+        }
+        false
+    }
+
+    /// Whether the switches of some mark have the holder on one of their sides.
+    fn is_sided(&self, holder: usize) -> bool
+        ensures { result ≡ list_any (of_tables.is_sided holder) self.now.splits }
+    {
+        for split in &self.splits {
+            if split.is_sided(holder) {
                 return true;
             }
         }
@@ -217,15 +243,55 @@ impl<A: Allocator> Table<A> {
         true
     }
 
+    /// The same, where it is known whether the second one is on a side.
+    fn is_apart_from(&self, is_sided: bool, g: usize, h: usize) -> bool
+        requires { is_sided ≡ list_any (of_tables.is_sided h) self.now.splits }
+        ensures { result ≡ list_any (of_tables.is_apart g h) self.now.splits }
+    {
+        is_sided && self.are_apart(g, h)
+    }
+
+    /// Whether a holder may share a slot with the next one. A lane of its group tells whether the next one comes after it.
+    fn next_may_share(&self, lanes: u64, is_sided: bool, holder: usize, next: usize) -> bool
+        requires lanes { lanes ≡ of_tables.after_word self.now.after next (holder / 64) }
+        requires sided { is_sided ≡ list_any (of_tables.is_sided next) self.now.splits }
+        ensures { result ≡ of_tables.may_share self.now holder next }
+    {
+        (lanes >> (holder % 64)) & 1 == 1
+            || self.comes_after(holder, next)
+            || self.is_apart_from(is_sided, holder, next)
+    }
+
+    /// Notes at which slots the next holder meets one of 64 earlier holders with which it may not share.
+    fn note_group(&self, blocked: &mut [bool], slots: &[u16], group: usize, is_sided: bool)
+        requires all { length blocked.old ≡ 512 }
+        requires below { All (λ s. s < 512) slots.now }
+        requires sided { is_sided ≡ list_any (of_tables.is_sided (length slots.now)) self.now.splits }
+        requires start { group * 64 < length slots.now }
+        ensures all { length blocked.new ≡ 512 }
+        ensures exact { of_tables.blocked_from self.now slots.now blocked.new (group * 64 + 64) ≡ of_tables.blocked_from self.now slots.now blocked.old (group * 64) }
+    {
+        let next = slots.len();
+        let lanes = self.after_lanes(next, group);
+        let start = group * 64;
+        if lanes == u64::MAX {
+            return;
+        }
+        for holder in start..next.min(start + 64) {
+            let may_share = self.next_may_share(lanes, is_sided, holder, next);
+            note_blocked(blocked, slots[holder] as usize, may_share);
+        }
+    }
+
     /// At which slots the next holder meets an earlier one with which it may not share.
     fn blocked(&self, slots: &[u16]) -> [bool; 512]
         requires { All (λ s. s < 512) slots.now }
         ensures { result ≡ of_tables.blocked_by self.now (length slots.now) (replicate 512 false) 0 slots.now }
     {
-        let next = slots.len();
+        let is_sided = self.is_sided(slots.len());
         let mut blocked = [false; SLOTS];
-        for (holder, slot) in slots.iter().enumerate() {
-            note_blocked(&mut blocked, *slot as usize, self.may_share(holder, next));
+        for group in 0..groups(slots.len()) {
+            self.note_group(&mut blocked, slots, group, is_sided);
         }
         blocked
     }

@@ -1,6 +1,8 @@
-use Rattle.std.proofs.Common.{◌≡◌, drop, length, replicate, false}
-use Rattle.slot_alloc.specs.Tables.{blocked_by}
+use Rattle.std.proofs.Common.{◌≡◌, ◌*◌, length, replicate, false}
+use Rattle.slot_alloc.specs.Tables.{blocked_from}
 use Rattle.slot_alloc.proofs.table.Table.blocked.Given as goal
 
-abbrev pub invariant-loop-holder : goal.invariant-loop-holder
-invariant-loop-holder g l = blocked_by l.fn.self (length l.slots) l.blocked l.holder (drop l.holder l.slots) ≡ blocked_by l.fn.self (length l.slots) (replicate 512 false) 0 l.slots
+abbrev pub invariant-loop-group : goal.invariant-loop-group
+invariant-loop-group g l =
+    (length l.blocked ≡ 512)
+    × (blocked_from l.fn.self l.slots l.blocked (l.group * 64) ≡ blocked_from l.fn.self l.slots (replicate 512 false) 0)

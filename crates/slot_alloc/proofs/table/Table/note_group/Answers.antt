@@ -1,0 +1,6 @@
+use Rattle.std.proofs.Common.{sym, ◌∙◌}
+use Rattle.slot_alloc.proofs.Blocking.{group_passed}
+use Rattle.slot_alloc.proofs.table.Table.note_group.Goals as goal
+
+pub returns-then-lanes-clause-exact : goal.returns-then-lanes-clause-exact
+returns-then-lanes-clause-exact g c = group_passed c.args.self.now c.args.slots.now c.args.blocked.now c.args.group (sym c.after_lanes-lanes.ensures ∙ c.if-lanes.true)
