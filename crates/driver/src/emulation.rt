@@ -184,7 +184,7 @@ pub fn start_object<A: Allocator + Clone>(
     };
     let mut store = None;
     match Machine::start(alloc, &mut store, &code, inputs, config) {
-        Ok(_machine) => Ok(()),
+        Ok(_started) => Ok(()),
         Err(fault) => Err(start_refusal(fault)),
     }
 }

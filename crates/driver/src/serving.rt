@@ -271,7 +271,7 @@ fn exec_object<R: Threads + Wait + Sync, A: Allocator + Clone + Send + Sync, G: 
             Err(fault) => Err(Refusal::from(fault)),
         },
         None => match start_object(alloc, bytes, inputs, config) {
-            Ok(()) => Err(Refusal::Start(StartFault::BadConfig)),
+            Ok(_ready) => Err(Refusal::Start(StartFault::BadConfig)),
             Err(fault) => Err(Refusal::from(fault)),
         },
     }

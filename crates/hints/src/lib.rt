@@ -57,7 +57,7 @@ fn wants_reason(request: &Request, output: &[u8]) -> bool
     ensures { result ≡ wants_reason request.now output.now }
 {
     match request {
-        Request::Run(_) | Request::Mean { .. } => !is_at_rest(output),
+        Request::Run(_) | Request::Mean { .. } | Request::Exec { .. } => !is_at_rest(output),
         Request::Check | Request::Compile | Request::Dis | Request::Upgrade | Request::Dot { .. } =>
             is_refused(output),
     }
