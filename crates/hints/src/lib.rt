@@ -79,6 +79,7 @@ fn input_cause<'a, A: Allocator + Clone>(
     input: &'a [u8],
     outcome: Outcome<'a>,
 ) -> Option<Found<'a>> {
+    let has_lines = !matches!(request, Request::Exec { .. });
     let text = graph_text(request, input);
     match outcome {
         Outcome::Read { kind, line } => Some(text_fault(kind, text, line, command)),
@@ -87,7 +88,7 @@ fn input_cause<'a, A: Allocator + Clone>(
             code_fault(alloc, text, block, GraphCause::TooManySlots)
         }
         Outcome::TooFar { block } => code_fault(alloc, text, block, GraphCause::TooFar),
-        Outcome::InputLine { line } => Some(input_fault(input, line)),
+        Outcome::InputLine { line } if has_lines => Some(input_fault(input, line)),
         Outcome::Object(kind) => object_fault(kind, input),
         _ => None,
     }
