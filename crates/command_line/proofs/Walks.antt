@@ -1,9 +1,10 @@
 -- One word of the walk over the words after a command.
-use Rattle.std.proofs.Common.{◌≡◌, ◌<◌, ◌≤◌, ◌-◌, ap, ◌∙◌, ℕ, zero, suc, List, [], ◌∷◌, length, get_or, Option, refl, sym, arith, drop, map}
-use Rattle.std.proofs.lemmas.List.{drop_all, length-drop, length-map}
-use Rattle.command_line.specs.Words.{Text, after_step, asked_of, ended, request_of, word_met}
+use Rattle.std.proofs.Common.{◌≡◌, ◌<◌, ◌≤◌, ◌-◌, ap, ◌∙◌, ℕ, zero, suc, List, [], ◌∷◌, length, get_or, Option, refl, sym, arith, take, drop, map}
+use Rattle.std.proofs.lemmas.List.{drop_all, take_all, length-drop, length-map}
+use Rattle.command_line.specs.Words.{Text, after_step, asked_of, ended, with_input, with_inputs, word_met}
 use Rattle.command_line.specs.declared.Asked.{Asked}
 use Rattle.command_line.specs.declared.Command.{Command}
+use Rattle.command_line.specs.declared.inputs.Inputs.{Inputs}
 use Rattle.command_line.specs.declared.options.Given.{Given}
 use Rattle.command_line.specs.declared.options.OptionName.{OptionName}
 use Rattle.command_line.specs.declared.options.Step.{Step}
@@ -14,30 +15,43 @@ word_at f [] i x lt is = absurd (omega arith)
 word_at f (y ∷ ys) zero x lt is = ap (λ z. f z ∷ map f ys) (sym is)
 word_at f (y ∷ ys) (suc i) x lt is = word_at f ys i x (omega arith) is
 
--- how many words are left after that one
-pub left_after : {X : Type 0} (f : X → Text) (xs : List X) (i : ℕ) → length (drop (suc i) (map f xs)) ≡ length xs - suc i
-left_after f xs i = length-drop (suc i) (map f xs) ∙ ap (λ (n : ℕ). n - suc i) (length-map xs f)
+-- what is behind a place, as a slice of it
+map_rest : {X : Type 0} (f : X → Text) (n : ℕ) (xs : List X) → map f (drop n xs) ≡ drop n (map f xs)
+map_rest f zero xs = refl
+map_rest f (suc n) [] = refl
+map_rest f (suc n) (x ∷ xs) = map_rest f n xs
+
+pub rest_after : {X : Type 0} (f : X → Text) (xs : List X) (n : ℕ) → map f (take (length xs - n) (drop n xs)) ≡ drop n (map f xs)
+rest_after f xs n =
+    let left : length (drop n xs) ≡ length xs - n = length-drop n xs in
+    ap (map f) (take_all (length xs - n) (drop n xs) (omega (arith, left))) ∙ map_rest f n xs
 
 pub none_after : {X : Type 0} (f : X → Text) (xs : List X) (i : ℕ) → length xs ≤ i → drop i (map f xs) ≡ []
 none_after f xs i le = drop_all i (map f xs) (rw (length-map xs f) le)
 
-pub at_last : (c : Command) (g : Given) (w : Option OptionName) → asked_of c g w [] ≡ ended c g w
+pub at_last : (c : Command) (g : Given) (ins : Inputs) (w : Option OptionName) → asked_of c g ins w [] ≡ ended c g ins w
 unfolding asked_of
-at_last c g w = refl
+at_last c g ins w = refl
 
 -- how the words after one are read: by what it says
-pub one_step : (c : Command) (g : Given) (w : Option OptionName) (words rest : List Text) (word : Text) (k : Step) (a : Asked)
-    → words ≡ word ∷ rest → k ≡ word_met c g w word → asked_of c g w words ≡ a → after_step c g k rest (λ m v. asked_of c m v rest) ≡ a
+pub one_step : (c : Command) (g : Given) (ins : Inputs) (w : Option OptionName) (words rest : List Text) (word : Text) (k : Step) (a : Asked)
+    → words ≡ word ∷ rest → k ≡ word_met c g w word → asked_of c g ins w words ≡ a → after_step c g ins k word rest (λ m all v. asked_of c m all v rest) ≡ a
 unfolding asked_of
-one_step c g w words rest word k a e s h =
-    ap (λ n. after_step c g n rest (λ m v. asked_of c m v rest)) s ∙ sym (ap (asked_of c g w) e) ∙ h
+one_step c g ins w words rest word k a e s h =
+    ap (λ n. after_step c g ins n word rest (λ m all v. asked_of c m all v rest)) s ∙ sym (ap (asked_of c g ins w) e) ∙ h
 
-pub at_end : (c : Command) (g : Given) (rest : List Text) (go : Given → Option OptionName → Asked)
-    → length rest ≡ 0 → after_step c g Step.End rest go ≡ Asked.Request (request_of c g)
-at_end c g [] go e = refl
-at_end c g (x ∷ xs) go e = absurd (omega arith)
+-- one input of those behind `--`
+pub one_more : (ins more : Inputs) (words rest : List Text) (word : Text) (a : Inputs)
+    → words ≡ word ∷ rest → more ≡ with_input ins word → with_inputs ins words ≡ a → with_inputs more rest ≡ a
+unfolding with_inputs
+one_more ins more words rest word a e m h = ap (λ n. with_inputs n rest) m ∙ sym (ap (with_inputs ins) e) ∙ h
 
-pub before_end : (c : Command) (g : Given) (rest : List Text) (go : Given → Option OptionName → Asked)
-    → 0 < length rest → after_step c g Step.End rest go ≡ Asked.Mistake
-before_end c g [] go e = absurd (omega arith)
-before_end c g (x ∷ xs) go e = refl
+pub no_more : (ins : Inputs) → with_inputs ins [] ≡ ins
+unfolding with_inputs
+no_more ins = refl
+
+-- what was read is told by equal parts
+pub told_by : (c : Command) (g more : Given) (ins all : Inputs) (w waits : Option OptionName) (words rest : List Text) (a : Asked)
+    → g ≡ more → ins ≡ all → w ≡ waits → words ≡ rest → asked_of c more all waits rest ≡ a → asked_of c g ins w words ≡ a
+told_by c g more ins all w waits words rest a e f h k q =
+    ap (λ x. asked_of c x ins w words) e ∙ ap (λ x. asked_of c more x w words) f ∙ ap (λ x. asked_of c more all x words) h ∙ ap (asked_of c more all waits) k ∙ q

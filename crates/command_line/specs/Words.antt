@@ -1,15 +1,18 @@
 -- Which request the words of a command line are. The words are the arguments after the program's name, each a list of bytes.
-use Rattle.std.specs.Prelude.{ℕ, ◌==◌, ◌&&◌, ◌||◌, ◌^◌, Bool, true, false, is_some, nat_lt, List, [], ◌∷◌, ◌++◌, length, if◌then◌else◌, Option, Some, None, option_map, option_and_then, unwrap_or, codes}
+use Rattle.std.specs.Prelude.{ℕ, ◌==◌, ◌+◌, ◌&&◌, ◌||◌, ◌^◌, Bool, true, false, is_some, nat_lt, List, [], ◌∷◌, ◌++◌, length, if◌then◌else◌, Option, Some, None, option_map, option_and_then, unwrap_or, codes}
 use Rattle.std.specs.Option.{option_map_or}
 use Rattle.std.specs.Char.{digit_value}
 use Rattle.std.specs.List.{list_all, list_any, before_first, after_first}
 use Rattle.std.specs.Str.{bytes_eq}
 use Rattle.std.specs.Str.Parse.{digits_value, without_leading_plus}
+use Rattle.graph_file.specs.Fields.{literal_of}
 use Rattle.command_line.specs.declared.Asked.{Asked}
 use Rattle.command_line.specs.declared.Command.{Command}
 use Rattle.command_line.specs.declared.Mode.{Mode}
 use Rattle.command_line.specs.declared.Request.{Request}
+use Rattle.command_line.specs.declared.RunOptions.{RunOptions}
 use Rattle.command_line.specs.declared.Topic.{Topic}
+use Rattle.command_line.specs.declared.inputs.Inputs.{Inputs}
 use Rattle.command_line.specs.declared.options.Given.{Given}
 use Rattle.command_line.specs.declared.options.OptionName.{OptionName}
 use Rattle.command_line.specs.declared.options.Step.{Step}
@@ -27,7 +30,8 @@ command_named word =
     else (if bytes_eq word (codes "dis") then Some Command.Dis
     else (if bytes_eq word (codes "upgrade") then Some Command.Upgrade
     else (if bytes_eq word (codes "dot") then Some Command.Dot
-    else None))))))
+    else (if bytes_eq word (codes "exec") then Some Command.Exec
+    else None)))))))
 
 abbrev pub option_named : Text → Option OptionName
 option_named name =
@@ -43,22 +47,34 @@ takes Command.Run OptionName.Code = false
 takes Command.Run o = true
 takes Command.Mean OptionName.Steps = true
 takes Command.Dot OptionName.Code = true
+takes Command.Exec OptionName.Code = false
+takes Command.Exec o = true
 takes c o = false
 
--- the request of a command with these options: what was not given has its default
-abbrev pub request_of : Command → Given → Request
-request_of Command.Run g = Request.Run (record {
+-- and which command takes inputs
+abbrev pub takes_inputs : Command → Bool
+takes_inputs Command.Exec = true
+takes_inputs c = false
+
+-- how to run: what was not given has its default
+abbrev pub run_options : Given → RunOptions
+run_options g = record {
   elements = unwrap_or g.elements 1;
   frames = unwrap_or g.frames 256;
   steps = unwrap_or g.steps 1000000;
   mode = unwrap_or g.mode (Some Mode.One);
-})
-request_of Command.Mean g = Request.Mean (unwrap_or g.steps 1000000)
-request_of Command.Check g = Request.Check
-request_of Command.Compile g = Request.Compile
-request_of Command.Dis g = Request.Dis
-request_of Command.Upgrade g = Request.Upgrade
-request_of Command.Dot g = Request.Dot g.code
+}
+
+-- the request of a command with these options and inputs
+abbrev pub request_of : Command → Given → Inputs → Request
+request_of Command.Run g ins = Request.Run (run_options g)
+request_of Command.Mean g ins = Request.Mean (unwrap_or g.steps 1000000)
+request_of Command.Check g ins = Request.Check
+request_of Command.Compile g ins = Request.Compile
+request_of Command.Dis g ins = Request.Dis
+request_of Command.Upgrade g ins = Request.Upgrade
+request_of Command.Dot g ins = Request.Dot g.code
+request_of Command.Exec g ins = Request.Exec (run_options g) ins
 
 -- VALUES: a number is one decimal digit or more, below 2 ^ 64; a `+` (43) may stand first
 abbrev pub is_numeral : Text → Bool
@@ -92,6 +108,17 @@ with_option g OptionName.Frames value = option_map (λ n. record g { frames = So
 with_option g OptionName.Steps value = option_map (λ n. record g { steps = Some n }) (first_number g.steps value)
 with_option g OptionName.Mode value = with_mode g g.mode value
 with_option g OptionName.Code value = None
+
+-- INPUTS: each is written like a literal of a graph's text. They are at most 16, and the first fault stays.
+abbrev pub no_inputs : Inputs
+no_inputs = Inputs.Integers (record { items = [] })
+
+abbrev pub with_input : Inputs → Text → Inputs
+with_input (Inputs.Integers zs) word =
+    if length zs.items == 16 then Inputs.TooMany
+    else option_map_or (λ z. Inputs.Integers (record { items = zs.items ++ z ∷ [] })) (literal_of word) (Inputs.NoInteger (length zs.items + 1))
+with_input (Inputs.NoInteger n) word = Inputs.NoInteger n
+with_input Inputs.TooMany word = Inputs.TooMany
 
 -- FORMS OF A WORD
 -- what follows a first byte c
@@ -143,11 +170,15 @@ abbrev pub option_met : Command → Given → Text → Option Text → Step
 option_met c g name value =
     option_map_or (λ o. if takes c o then named g o value else Step.Mistake) (option_named name) Step.Mistake
 
+-- a word that is none of `--NAME`
+abbrev pub plain_met : Command → Text → Step
+plain_met c word = if is_flag word then Step.Mistake else (if takes_inputs c then Step.Input else Step.Mistake)
+
 abbrev pub flag_met : Command → Given → Text → Step
 flag_met c g word =
     if bytes_eq word (codes "--") then Step.End
     else (if asks_help word then Step.Help
-    else option_map_or (λ p. option_met c g p.0 p.1) (long_of word) Step.Mistake)
+    else option_map_or (λ p. option_met c g p.0 p.1) (long_of word) (plain_met c word))
 
 -- the value of an option that waits is no flag
 abbrev pub word_met : Command → Given → Option OptionName → Text → Step
@@ -156,23 +187,32 @@ word_met c g (Some o) word = if is_flag word then Step.Mistake else valued g o w
 
 -- ALL WORDS AFTER A COMMAND
 -- no word is left: a request, unless an option waits
-abbrev pub ended : Command → Given → Option OptionName → Asked
-ended c g None = Asked.Request (request_of c g)
-ended c g (Some o) = Asked.Mistake
+abbrev pub ended : Command → Given → Inputs → Option OptionName → Asked
+ended c g ins None = Asked.Request (request_of c g ins)
+ended c g ins (Some o) = Asked.Mistake
 
--- `--` may be the last word
-abbrev pub after_step : Command → Given → Step → List Text → (Given → Option OptionName → Asked) → Asked
-after_step c g (Step.Next more waiting) rest go = go more waiting
-after_step c g Step.Help rest go = Asked.Help (Topic.Of c)
-after_step c g Step.End [] go = Asked.Request (request_of c g)
-after_step c g Step.End (word ∷ rest) go = Asked.Mistake
-after_step c g Step.Mistake rest go = Asked.Mistake
+-- all of these words are inputs
+unfoldable pub with_inputs : Inputs → List Text → Inputs
+with_inputs ins [] = ins
+with_inputs ins (word ∷ rest) = with_inputs (with_input ins word) rest
 
--- the options so far, and the one that waits for its value
-unfoldable pub asked_of : Command → Given → Option OptionName → List Text → Asked
-asked_of c g waiting [] = ended c g waiting
-asked_of c g waiting (word ∷ rest) =
-    after_step c g (word_met c g waiting word) rest (λ more waits. asked_of c more waits rest)
+-- behind `--` stands nothing but inputs
+abbrev pub after_end : Command → Given → Inputs → List Text → Asked
+after_end c g ins [] = Asked.Request (request_of c g ins)
+after_end c g ins (word ∷ rest) = if takes_inputs c then Asked.Request (request_of c g (with_inputs ins (word ∷ rest))) else Asked.Mistake
+
+abbrev pub after_step : Command → Given → Inputs → Step → Text → List Text → (Given → Inputs → Option OptionName → Asked) → Asked
+after_step c g ins (Step.Next more waiting) word rest go = go more ins waiting
+after_step c g ins Step.Input word rest go = go g (with_input ins word) None
+after_step c g ins Step.Help word rest go = Asked.Help (Topic.Of c)
+after_step c g ins Step.End word rest go = after_end c g ins rest
+after_step c g ins Step.Mistake word rest go = Asked.Mistake
+
+-- the options and the inputs so far, and the option that waits for its value
+unfoldable pub asked_of : Command → Given → Inputs → Option OptionName → List Text → Asked
+asked_of c g ins waiting [] = ended c g ins waiting
+asked_of c g ins waiting (word ∷ rest) =
+    after_step c g ins (word_met c g waiting word) word rest (λ more all waits. asked_of c more all waits rest)
 
 abbrev pub nothing : Given
 nothing = record { elements = None; frames = None; steps = None; mode = None; code = false }
@@ -199,7 +239,7 @@ no_command_asked word rest =
 abbrev pub asked : List Text → Asked
 asked [] = Asked.Mistake
 asked (word ∷ rest) =
-    option_map_or (λ c. asked_of c nothing None rest) (command_named word) (no_command_asked word rest)
+    option_map_or (λ c. asked_of c nothing no_inputs None rest) (command_named word) (no_command_asked word rest)
 
 -- what `--version` prints
 abbrev pub version_line : Text

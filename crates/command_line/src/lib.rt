@@ -2,11 +2,15 @@
 #![tactic(auto)]
 
 ghost use Rattle.std.specs.Prelude.{◌≡◌, map};
-ghost use Rattle.command_line.specs.Words.{asked, asked_of, command_named, ended, help_asked, no_command_asked, nothing, topic_named, version_line};
+ghost use Rattle.command_line.specs.Words.{after_end, asked, asked_of, command_named, ended, help_asked, no_command_asked, no_inputs, nothing, topic_named, version_line, with_inputs};
 
+mod inputs;
 mod options;
 
-use options::{Given, OptionName, Step, asks_help, asks_version, request_of, word_met};
+pub use inputs::Inputs;
+use options::{
+    Given, OptionName, Step, asks_help, asks_version, request_of, takes_inputs, word_met,
+};
 use std::convert::AsStr;
 
 /// What is to be done.
@@ -26,6 +30,8 @@ pub enum Request {
     Mean { steps: u64 },
     /// Draws the graph on standard input, or the code of the object there.
     Dot { code: bool },
+    /// Runs the object on standard input on these inputs.
+    Exec { options: RunOptions, inputs: Inputs },
 }
 
 /// How the elements take turns.
@@ -61,6 +67,7 @@ pub enum Command {
     Dis,
     Upgrade,
     Dot,
+    Exec,
 }
 
 /// What help is asked of.
@@ -98,26 +105,54 @@ fn command_named(word: &str) -> Option<Command>
         Some(Command::Upgrade)
     } else if word == "dot" {
         Some(Command::Dot)
+    } else if word == "exec" {
+        Some(Command::Exec)
     } else {
         None
     }
 }
 
 /// What is asked for where no word is left.
-fn ended(command: Command, given: Given, waiting: Option<OptionName>) -> Asked
-    ensures { result ≡ ended command given waiting }
+fn ended(command: Command, given: Given, inputs: Inputs, waiting: Option<OptionName>) -> Asked
+    ensures { result ≡ ended command given inputs waiting }
 {
     match waiting {
-        None => Asked::Request(request_of(command, given)),
+        None => Asked::Request(request_of(command, given, inputs)),
         Some(_option) => Asked::Mistake,
+    }
+}
+
+/// The inputs with all of these words.
+fn with_inputs<S: AsStr>(inputs: Inputs, words: &[S]) -> Inputs
+    ensures { result ≡ with_inputs inputs (map S.text words.now) }
+{
+    let mut all = inputs;
+    for word in words {
+        all = all.with(word.as_str());
+    }
+    all
+}
+
+/// What is asked for where these words stand behind `--`.
+fn after_end<S: AsStr>(command: Command, given: Given, inputs: Inputs, words: &[S]) -> Asked
+    ensures { result ≡ after_end command given inputs (map S.text words.now) }
+{
+    if words.is_empty() {
+        Asked::Request(request_of(command, given, inputs))
+    } else if takes_inputs(command) {
+        let inputs = with_inputs(inputs, words);
+        Asked::Request(request_of(command, given, inputs))
+    } else {
+        Asked::Mistake
     }
 }
 
 /// What a command with these words after it asks for.
 fn read_options<S: AsStr>(command: Command, words: &[S]) -> Asked
-    ensures { result ≡ asked_of command nothing None (map S.text words.now) }
+    ensures { result ≡ asked_of command nothing no_inputs None (map S.text words.now) }
 {
     let mut given = Given::nothing();
+    let mut inputs = Inputs::none();
     let mut waiting = None;
     for (i, word) in words.iter().enumerate() {
         match word_met(command, given, waiting, word.as_str()) {
@@ -125,15 +160,16 @@ fn read_options<S: AsStr>(command: Command, words: &[S]) -> Asked
                 given = more;
                 waiting = waits;
             }
-            Step::Help => return Asked::Help(Topic::Of(command)),
-            Step::End if i + 1 == words.len() => {
-                return Asked::Request(request_of(command, given));
+            Step::Input => {
+                inputs = inputs.with(word.as_str());
+                waiting = None;
             }
-            Step::End => return Asked::Mistake,
+            Step::Help => return Asked::Help(Topic::Of(command)),
+            Step::End => return after_end(command, given, inputs, &words[i + 1..]),
             Step::Mistake => return Asked::Mistake,
         }
     }
-    ended(command, given, waiting)
+    ended(command, given, inputs, waiting)
 }
 
 fn topic_named(word: &str) -> Asked

@@ -1,9 +1,9 @@
 //! The options of a command, and what one word after it says.
 
 ghost use Rattle.std.specs.Prelude.{◌≡◌, ◌<◌, option_map};
-ghost use Rattle.command_line.specs.Words.{after, asks_help, asks_version, first_number, flag_met, is_flag, is_short, long_of, mode_named, name_and_value, named, nothing, number_of, option_met, option_named, request_of, takes, valued, with_option, without_value, word_met};
+ghost use Rattle.command_line.specs.Words.{after, asks_help, asks_version, first_number, flag_met, is_flag, is_short, long_of, mode_named, name_and_value, named, nothing, number_of, option_met, option_named, plain_met, request_of, run_options, takes, takes_inputs, valued, with_option, without_value, word_met};
 
-use crate::{Command, Mode, Request, RunOptions};
+use crate::{Command, Inputs, Mode, Request, RunOptions};
 
 /// The options of all commands.
 #[derive(Clone, Copy, Debug, PartialEq, Eq)]
@@ -32,6 +32,8 @@ pub(crate) struct Given {
 pub(crate) enum Step {
     /// The options with this word, and the option that waits for its value.
     Next(Given, Option<OptionName>),
+    /// The word is an input.
+    Input,
     Help,
     /// The end of the options.
     End,
@@ -135,24 +137,37 @@ fn takes(command: Command, option: OptionName) -> bool
     ensures { result ≡ takes command option }
 {
     match (command, option) {
-        (Command::Run, OptionName::Code) => false,
-        (Command::Run, _) | (Command::Mean, OptionName::Steps) | (Command::Dot, OptionName::Code) =>
-            true,
+        (Command::Run | Command::Exec, OptionName::Code) => false,
+        (Command::Run | Command::Exec, _) => true,
+        (Command::Mean, OptionName::Steps) | (Command::Dot, OptionName::Code) => true,
         _ => false,
     }
 }
 
-/// The request of the command with these options: what was not given has its default.
-pub(crate) fn request_of(command: Command, given: Given) -> Request
-    ensures { result ≡ request_of command given }
+pub(crate) fn takes_inputs(command: Command) -> bool
+    ensures { result ≡ takes_inputs command }
+{
+    command == Command::Exec
+}
+
+/// How to run: what was not given has its default.
+fn run_options(given: Given) -> RunOptions
+    ensures { result ≡ run_options given }
+{
+    RunOptions {
+        elements: given.elements.unwrap_or(1),
+        frames: given.frames.unwrap_or(256),
+        steps: given.steps.unwrap_or(1_000_000),
+        mode: given.mode.unwrap_or(Some(Mode::One)),
+    }
+}
+
+/// The request of the command with these options and inputs: what was not given has its default.
+pub(crate) fn request_of(command: Command, given: Given, inputs: Inputs) -> Request
+    ensures { result ≡ request_of command given inputs }
 {
     match command {
-        Command::Run => Request::Run(RunOptions {
-            elements: given.elements.unwrap_or(1),
-            frames: given.frames.unwrap_or(256),
-            steps: given.steps.unwrap_or(1_000_000),
-            mode: given.mode.unwrap_or(Some(Mode::One)),
-        }),
+        Command::Run => Request::Run(run_options(given)),
         Command::Mean => Request::Mean {
             steps: given.steps.unwrap_or(1_000_000),
         },
@@ -161,6 +176,10 @@ pub(crate) fn request_of(command: Command, given: Given) -> Request
         Command::Dis => Request::Dis,
         Command::Upgrade => Request::Upgrade,
         Command::Dot => Request::Dot { code: given.code },
+        Command::Exec => Request::Exec {
+            options: run_options(given),
+            inputs,
+        },
     }
 }
 
@@ -267,6 +286,17 @@ fn option_met(command: Command, given: Given, name: &str, value: Option<&str>) -
     }
 }
 
+/// A word that is none of `--NAME`.
+fn plain_met(command: Command, word: &str) -> Step
+    ensures { result ≡ plain_met command word.now }
+{
+    if !is_flag(word) && takes_inputs(command) {
+        Step::Input
+    } else {
+        Step::Mistake
+    }
+}
+
 /// A word where no option waits for its value.
 fn flag_met(command: Command, given: Given, word: &str) -> Step
     ensures { result ≡ flag_met command given word.now }
@@ -279,7 +309,7 @@ fn flag_met(command: Command, given: Given, word: &str) -> Step
     }
     match long_of(word) {
         Some((name, value)) => option_met(command, given, name, value),
-        None => Step::Mistake,
+        None => plain_met(command, word),
     }
 }
 

@@ -27,6 +27,7 @@ Examples, in a clone of the project:
   ets dis < object                                lists the code
   ets dot --code < object | dot -Tsvg > code.svg  draws the code
   ets upgrade < object > object2                  makes version 2 of it
+  ets exec 2 3 < object                           runs the object on the inputs 2 and 3
 
 Graphs, inputs, reports, objects and all refusals: docs/FORMATS.md. Graphs to try: examples/README.md.
 
@@ -64,6 +65,11 @@ Examples: sed '/^main /q' examples/add.ets | ets dot | dot -Tsvg > add.svg
           ets dot --code < examples/add.etsobject | dot -Tsvg > code.svg
 What is drawn: docs/FORMATS.md, \"Pictures: `ets dot`\".";
 
+const AFTER_EXEC: &str = "\
+Examples: ets exec 2 3 < examples/add.etsobject
+          ets exec --elements 4 -- -7 3 < examples/add.etsobject
+What it prints, and its exit statuses: docs/FORMATS.md, \"`ets exec`\".";
+
 fn number<'a>(alloc: Global, name: &'a str, default: &'a str, help: &'a str) -> Arg<'a> {
     Arg::new(alloc, name)
         .long(name)
@@ -73,7 +79,11 @@ fn number<'a>(alloc: Global, name: &'a str, default: &'a str, help: &'a str) -> 
         .help(help)
 }
 
-fn run_command<'a>(alloc: Global) -> Result<Command<'a>, AllocError> {
+/// The command with the options that say how to run.
+fn with_run_options<'a>(
+    alloc: Global,
+    command: Command<'a>,
+) -> Result<Command<'a>, AllocError> {
     let mode = Arg::new(alloc, "mode")
         .long("mode")
         .value_name("MODE")
@@ -81,9 +91,7 @@ fn run_command<'a>(alloc: Global) -> Result<Command<'a>, AllocError> {
         .help(
             "one: the elements take their oldest tokens in turn; rounds: each takes up to 64 in a thread of its own; free: each runs in a thread of its own, without waiting for others",
         );
-    Command::new(alloc, "run")
-        .about("Compiles and runs a graph: its text on standard input, then its inputs, one a line")
-        .after_help(AFTER_RUN)
+    command
         .arg(number(alloc, "elements", "1", "processing elements, 1 to 16"))?
         .arg(number(alloc, "frames", "256", "frames for each element, 1 to 1024"))?
         .arg(number(
@@ -93,6 +101,24 @@ fn run_command<'a>(alloc: Global) -> Result<Command<'a>, AllocError> {
             "steps that each element may make",
         ))?
         .arg(mode)
+}
+
+fn run_command<'a>(alloc: Global) -> Result<Command<'a>, AllocError> {
+    let command = Command::new(alloc, "run")
+        .about("Compiles and runs a graph: its text on standard input, then its inputs, one a line")
+        .after_help(AFTER_RUN);
+    with_run_options(alloc, command)
+}
+
+fn exec_command<'a>(alloc: Global) -> Result<Command<'a>, AllocError> {
+    let inputs = Arg::new(alloc, "INPUT")
+        .num_args(0usize..)
+        .help("an integer for each input of the main block; `--` goes before a negative one");
+    let command = Command::new(alloc, "exec")
+        .about("Runs the object on standard input, on these inputs")
+        .after_help(AFTER_EXEC)
+        .arg(inputs)?;
+    with_run_options(alloc, command)
 }
 
 fn mean_command<'a>(alloc: Global) -> Result<Command<'a>, AllocError> {
@@ -139,6 +165,7 @@ pub fn program_command<'a>(alloc: Global) -> Result<Command<'a>, AllocError> {
         .subcommand(dis)?
         .subcommand(upgrade)?
         .subcommand(dot_command(alloc)?)?
+        .subcommand(exec_command(alloc)?)?
         .subcommand(mean_command(alloc)?)?
         .subcommand(run_command(alloc)?)
 }
@@ -168,6 +195,7 @@ fn name_of(command: command_line::Command) -> &'static str {
         command_line::Command::Dis => "dis",
         command_line::Command::Upgrade => "upgrade",
         command_line::Command::Dot => "dot",
+        command_line::Command::Exec => "exec",
     }
 }
 

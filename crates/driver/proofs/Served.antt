@@ -13,14 +13,16 @@ use Rattle.oracle.specs.declared.report.Full.{Full}
 use Rattle.oracle.specs.Reporting.{IsMeant}
 use Rattle.command_line.specs.declared.Mode.{Mode}
 use Rattle.command_line.specs.declared.RunOptions.{RunOptions}
+use Rattle.command_line.specs.declared.inputs.Inputs.{Inputs}
 use Rattle.driver.specs.declared.fault.Fault.{Fault}
 use Rattle.driver.specs.declared.input.LinesFault.{LinesFault}
 use Rattle.driver.specs.declared.refusal.Refusal.{Refusal}
 use Rattle.driver.specs.Headline.{TellsQuietly, stops_in}
 use Rattle.driver.specs.Input.{graph_length, integers_of, IsBadInput}
-use Rattle.driver.specs.Refused.{IsGoodText, IsReady, IsBadText, IsRefused, IsRefusedMeaning}
+use Rattle.driver.specs.Objects.{ShowsObject, Quietly}
+use Rattle.driver.specs.Refused.{IsGoodText, IsReady, IsReadyObject, IsBadText, IsRefused, IsRefusedMeaning, IsRefusedObject}
 use Rattle.driver.specs.Refusals.{told_as}
-use Rattle.driver.specs.Served.{Prints, Parts, config_of, IsRefusedLine, IsRunOf, IsNoRunOf, WhyNoRun, IsMeaningOf, IsNoMeaningOf, WhyNoMeaning}
+use Rattle.driver.specs.Served.{Prints, Parts, config_of, IsRefusedLine, IsRunOf, IsNoRunOf, WhyNoRun, IsMeaningOf, IsNoMeaningOf, WhyNoMeaning, IsExecOf, IsNoExecOf}
 
 -- WHAT IS PRINTED
 pub printed : (E : Type 0) (x : ⊤) (n : ℕ) (old new : Option (List ℕ)) (sent text : List ℕ) (status : ℕ) → sent ≡ text → n ≡ status → Sends {E = E} (Ok x) old new sent → Prints {E = E} (Ok n) old new text status
@@ -40,6 +42,25 @@ never_stops Mode.Free may_stop never = never
 -- a line that is no integer
 pub bad_line_of : (lines : List ℕ) (f : LinesFault) (n : ℕ) → f ≡ LinesFault.BadLine n → IsBadInput lines f → integers_of lines ≡ Err n
 bad_line_of lines f n is bad = subst (λ (x : LinesFault). IsBadInput lines x) is bad
+
+-- EXEC
+pub executed : (bytes : List ℕ) (o : RunOptions) (inputs : List ℤ) (r : Report) (mode : Mode) → o.mode ≡ Some mode → (c : Config) → c ≡ config_of o
+    → Quietly (ShowsObject bytes inputs c false false) r → IsExecOf bytes o (Inputs.Integers (record { items = inputs })) r
+executed bytes o inputs r mode named c same shows = record {
+  inputs = inputs;
+  integers = refl;
+  mode = mode;
+  named = named;
+  shows = subst (λ (d : Config). Quietly (ShowsObject bytes inputs d false false) r) same shows;
+}
+
+pub refused_exec : (bytes : List ℕ) (o : RunOptions) (inputs : List ℤ) (c : Config) → c ≡ config_of o → (fault : Fault) → IsRefusedObject bytes inputs c fault
+    → (f : Refusal) → f ≡ told_as fault → IsNoExecOf bytes o (Inputs.Integers (record { items = inputs })) f
+refused_exec bytes o inputs c same fault refused f told = inr (inr (inl (fault, subst (λ (d : Config). IsRefusedObject bytes inputs d fault) same refused, told)))
+
+pub no_mode_to_exec : (bytes : List ℕ) (o : RunOptions) (inputs : List ℤ) (c : Config) → c ≡ config_of o → IsReadyObject bytes inputs c → o.mode ≡ None
+    → IsNoExecOf bytes o (Inputs.Integers (record { items = inputs })) (Refusal.Start StartFault.BadConfig)
+no_mode_to_exec bytes o inputs c same ready mode = inr (inr (inr (subst (λ (d : Config). IsReadyObject bytes inputs d) same ready, mode, refl)))
 
 module _ (input text lines : List ℕ) (whole : text ++ lines ≡ input) (end : length text ≡ graph_length input) where
   abbrev parts : Parts input

@@ -14,7 +14,7 @@ use Rattle.schedule.specs.Starts.{Opens, IsCause}
 use Rattle.schedule.specs.Runs.{Kept}
 use Rattle.driver.specs.declared.fault.Fault.{Fault}
 use Rattle.driver.specs.Compiled.{IsCodeFor}
-use Rattle.driver.specs.Refused.{IsGoodText, IsCompiled, refusal_of, IsReady, IsRefused, IsRefusedObject}
+use Rattle.driver.specs.Refused.{IsGoodText, IsCompiled, refusal_of, IsReady, IsReadyObject, IsRefused, IsRefusedObject}
 
 -- WRITING
 pub sends_whole : (E : Type 0) (x : ⊤) (old new : Option (List ℕ)) (bytes : List ℕ) → Sends {E = E} (Ok x) old new bytes → Appends old new bytes
@@ -107,3 +107,17 @@ object_refused bytes inputs c o loaded e object complete StartFault.Memory h = t
 pub opened_all : (slice bytes : List ℕ) → slice ≡ bytes → (o : Opened) → ((v : ℕ) (d : Code) → IsObject slice v d → (o.version ≡ v) × (o.code ≡ d))
     → (v : ℕ) (d : Code) → IsObject bytes v d → (o.version ≡ v) × (o.code ≡ d)
 opened_all slice bytes e o all v d h = let O : List ℕ → Type 0 = λ bs. IsObject bs v d in all v d (subst O (sym e) h)
+
+-- A RUN OF AN OBJECT that can start
+pub object_is_ready : (bytes : List ℕ) (inputs : List ℤ) (c : Config) (o loaded : Opened) → loaded ≡ o → IsObject bytes o.version o.code
+    → (width : ℕ) (m : Kept) → Opens loaded.code.program width c inputs m → IsReadyObject bytes inputs c
+object_is_ready bytes inputs c o loaded e object width m opens =
+    let O : Opened → Type 0 = λ x. IsObject bytes x.version x.code in
+    record {
+      version = loaded.version;
+      code = loaded.code;
+      object = subst O (sym e) object;
+      inputs_fit = opens.arity;
+      some_frame = opens.some_frame;
+      good = opens.good;
+    }

@@ -38,6 +38,15 @@ pub record IsReady (text : List ℕ) (inputs : List ℤ) (config : Config) : Typ
   pub some_frame : 0 < config.frames
   pub good : IsGood config
 
+-- and a run of an object
+pub record IsReadyObject (bytes : List ℕ) (inputs : List ℤ) (config : Config) : Type 0 where
+  pub version : ℕ
+  pub code : Code
+  pub object : IsObject bytes version code
+  pub inputs_fit : length inputs ≡ inputs_of code.program
+  pub some_frame : 0 < config.frames
+  pub good : IsGood config
+
 -- The cause why a text has no well-formed graph. Memory is answered only where a growth was refused.
 abbrev pub IsBadText : List ℕ → Fault → Type 0
 IsBadText text (Fault.Read f) = (text_from text ≡ Err f) × (f.kind ≢ ReadFaultKind.Memory)

@@ -13,21 +13,24 @@ use Rattle.oracle.specs.declared.report.MeanEnd.{MeanEnd}
 use Rattle.oracle.specs.declared.report.Full.{Full}
 use Rattle.oracle.specs.Reporting.{IsMeant}
 use Rattle.object_view.specs.Checks.{first_refusal}
+use Rattle.object_view.specs.Reading.{opened}
 use Rattle.object_view.specs.declared.fault.ObjectFault.{ObjectFault}
 use Rattle.dot.specs.GraphDot.{graph_dot}
-use Rattle.report_text.specs.ReportText.{report_text, meaning_text}
+use Rattle.report_text.specs.ReportText.{report_text, meaning_text, object_report_text}
 use Rattle.command_line.specs.Words.{asked, version_line}
 use Rattle.command_line.specs.declared.Asked.{Asked}
 use Rattle.command_line.specs.declared.Mode.{Mode}
 use Rattle.command_line.specs.declared.Request.{Request}
 use Rattle.command_line.specs.declared.RunOptions.{RunOptions}
+use Rattle.command_line.specs.declared.inputs.Inputs.{Inputs}
 use Rattle.driver.specs.declared.fault.Fault.{Fault}
 use Rattle.driver.specs.declared.input.InputFault.{InputFault}
 use Rattle.driver.specs.declared.refusal.Refusal.{Refusal}
 use Rattle.driver.specs.Disassembled.{listing_of, picture_of, upgrade_of}
 use Rattle.driver.specs.Headline.{TellsQuietly}
 use Rattle.driver.specs.Input.{graph_length, integers_of}
-use Rattle.driver.specs.Refused.{IsGoodText, IsCompiled, IsReady, IsBadText, IsRefusedText, IsRefused, IsRefusedMeaning}
+use Rattle.driver.specs.Objects.{ShowsObject, Quietly}
+use Rattle.driver.specs.Refused.{IsGoodText, IsCompiled, IsReady, IsReadyObject, IsBadText, IsRefusedText, IsRefused, IsRefusedMeaning, IsRefusedObject}
 use Rattle.driver.specs.Refusals.{refusal_line, told_as, unread_as}
 use Rattle.driver.specs.Status.{exit_status, meaning_status}
 
@@ -131,6 +134,30 @@ abbrev pub PrintsDot : {E : Type 0} → Result ℕ E → Option (List ℕ) → O
 PrintsDot result old new input true = PrintsOf picture_of result old new input
 PrintsDot result old new input false = PrintsPicture result old new input
 
+-- EXEC: a report of a run of the object on the inputs of the command line
+pub record IsExecOf (bytes : List ℕ) (o : RunOptions) (ins : Inputs) (r : Report) : Type 0 where
+  pub inputs : List ℤ
+  pub integers : ins ≡ Inputs.Integers (record { items = inputs })
+  pub mode : Mode
+  pub named : o.mode ≡ Some mode
+  pub shows : Quietly (ShowsObject bytes inputs (config_of o) false false) r
+
+-- Why there is none: what is wrong with the object first, then with the inputs, then with the options, and a mode that is not there last.
+-- Of more than 16 inputs no more is said: no object takes so many.
+abbrev pub WhyNoExec : Inputs → List ℕ → RunOptions → Refusal → Type 0
+WhyNoExec (Inputs.Integers inputs) bytes o f =
+    IsTold (IsRefusedObject bytes inputs.items (config_of o)) f ⊎ (IsReadyObject bytes inputs.items (config_of o) × (o.mode ≡ None) × (f ≡ Refusal.Start StartFault.BadConfig))
+WhyNoExec (Inputs.NoInteger n) bytes o f = (first_refusal bytes ≡ None) × (f ≡ Refusal.InputLine n)
+WhyNoExec Inputs.TooMany bytes o f = (first_refusal bytes ≡ None) × (f ≡ Refusal.Start StartFault.WrongInputs)
+
+abbrev pub IsNoExecOf : List ℕ → RunOptions → Inputs → Refusal → Type 0
+IsNoExecOf bytes o ins f = (f ≡ Refusal.Memory) ⊎ (((fault : ObjectFault) × (first_refusal bytes ≡ Some fault) × (f ≡ Refusal.Object fault)) ⊎ WhyNoExec ins bytes o f)
+
+abbrev pub PrintsExec : {E : Type 0} → Result ℕ E → Option (List ℕ) → Option (List ℕ) → List ℕ → RunOptions → Inputs → Type 0
+PrintsExec result old new bytes o ins =
+    ((r : Report) × IsExecOf bytes o ins r × Prints result old new (object_report_text (opened bytes).code.program.arrays r) (exit_status r.end))
+    ⊎ ((f : Refusal) × IsNoExecOf bytes o ins f × Refuses result old new f)
+
 -- ALL COMMANDS
 abbrev pub Answers : {E : Type 0} → Result ℕ E → Option (List ℕ) → Option (List ℕ) → List ℕ → Request → Type 0
 Answers result old new input Request.Check = PrintsCheck result old new input
@@ -140,6 +167,7 @@ Answers result old new input Request.Dis = PrintsOf listing_of result old new in
 Answers result old new input Request.Upgrade = PrintsOf upgrade_of result old new input
 Answers result old new input (Request.Mean steps) = PrintsMeaning result old new input steps
 Answers result old new input (Request.Dot code) = PrintsDot result old new input code
+Answers result old new input (Request.Exec o ins) = PrintsExec result old new input o ins
 
 -- the input is all that the reader has
 abbrev pub ServesRequest : {E : Type 0} → Option (List ℕ) → Result ℕ E → Option (List ℕ) → Option (List ℕ) → Request → Type 0

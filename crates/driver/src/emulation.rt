@@ -2,7 +2,7 @@
 
 ghost use Rattle.std.specs.Prelude.{◌≡◌, ◌<◌, All, IfOk, MatchResult, true, false};
 ghost use Rattle.semantics.specs.Graph as Graphs;
-ghost use Rattle.driver.specs.Refused.{IsCompiled, refusal_of, IsReady, IsRefused, IsRefusedObject};
+ghost use Rattle.driver.specs.Refused.{IsCompiled, refusal_of, IsReady, IsReadyObject, IsRefused, IsRefusedObject};
 ghost use Rattle.command_line.specs.declared.Mode.{Mode};
 ghost use Rattle.driver.specs.Headline.{TellsTruthIn, TellsTruthListed, TellsQuietly, stops_in};
 ghost use Rattle.driver.specs.Objects.{ShowsObject, RunsObject, Quietly};
@@ -162,6 +162,29 @@ pub fn start_text<A: Allocator + Clone>(
     let mut store = None;
     match Machine::start(alloc, &mut store, &code, inputs, config) {
         Ok(_machine) => Ok(()),
+        Err(fault) => Err(start_refusal(fault)),
+    }
+}
+
+/// Whether a run of the object that the bytes are can start: what refuses it, if anything does.
+pub fn start_object<A: Allocator + Clone>(
+    alloc: A,
+    bytes: &[u8],
+    inputs: &[i64],
+    config: Config,
+) -> Result<(), Fault>
+    ensures { MatchResult result (λ _. IsReadyObject bytes.now inputs.now config) (IsRefusedObject bytes.now inputs.now config) }
+{
+    let object = match Object::open(bytes) {
+        Ok(object) => object,
+        Err(fault) => return Err(Fault::Object(fault)),
+    };
+    let Ok(code) = load(&alloc, object) else {
+        return Err(Fault::Memory);
+    };
+    let mut store = None;
+    match Machine::start(alloc, &mut store, &code, inputs, config) {
+        Ok(_started) => Ok(()),
         Err(fault) => Err(start_refusal(fault)),
     }
 }

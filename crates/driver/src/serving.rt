@@ -1,23 +1,28 @@
 //! The program over a reader and a writer.
 
-ghost use Rattle.std.specs.Prelude.{◌≡◌, MatchResult, drop, false, map};
+ghost use Rattle.std.specs.Prelude.{◌≡◌, MatchResult, None, drop, false, map};
+ghost use Rattle.object_view.specs.Checks.{first_refusal};
 ghost use Rattle.driver.specs.Disassembled.{listing_of, picture_of, upgrade_of};
-ghost use Rattle.driver.specs.Served.{config_of, IsRefusedLine, IsRunOf, IsNoRunOf, IsMeaningOf, IsNoMeaningOf, Refuses, PrintsRun, PrintsMeaning, PrintsCheck, PrintsObject, PrintsOf, PrintsPicture, Prints, Answers, ServesRequest, Says, ServesAsked, ServesWords, Serves};
+ghost use Rattle.driver.specs.Served.{config_of, IsRefusedLine, IsRunOf, IsNoRunOf, IsMeaningOf, IsNoMeaningOf, Refuses, PrintsRun, PrintsMeaning, PrintsCheck, PrintsObject, PrintsOf, PrintsPicture, PrintsExec, IsExecOf, IsNoExecOf, Prints, Answers, ServesRequest, Says, ServesAsked, ServesWords, Serves};
 
 use crate::compiling::{CompileRefusal, check_text, compile, write_object};
-use crate::emulation::{Emulated, run_text, start_text};
+use crate::emulation::{
+    Emulated, emulate_object_quietly, run_text, start_object, start_text,
+};
 use crate::input::{LinesFault, parse_integers, read_input, split_at_main};
 use crate::meaning::{Meant, mean_text};
 use crate::objects::{ObjectRefusal, disassemble, draw_object, upgrade_object};
 use crate::refusal::Refusal;
 use crate::refusal_text::write_refusal;
 use crate::status::{status_of, status_of_meaning};
-use command_line::{Asked, Request, RunOptions, read_words, version_line};
+use command_line::{Asked, Inputs, Request, RunOptions, read_words, version_line};
 use command_texts::{help_text, mistake_text};
 use dot::write_graph_dot;
-use report_text::{write_meaning, write_report};
+use object_view::Object;
+use report_text::{write_meaning, write_object_report, write_report};
 use rounds::Gate;
 use schedule::config::{Config, StartFault};
+use schedule::report::Report;
 use sink::send;
 use std::alloc::{AllocError, Allocator, Global};
 use std::convert::AsStr;
@@ -245,6 +250,87 @@ pub fn print_code_picture<W: Write>(bytes: &[u8], writer: &mut W) -> io::Result<
     }
 }
 
+/// Runs the object on these inputs. A mode that is not there is looked for last.
+fn exec_object<R: Threads + Wait + Sync, A: Allocator + Clone + Send + Sync, G: Gate + Sync>(
+    alloc: A,
+    bytes: &[u8],
+    options: &RunOptions,
+    inputs: &[i64],
+    rt: &R,
+    gate: &G,
+) -> Result<Report<A>, Refusal>
+    requires { G.may_stop ≡ false }
+    ensures { MatchResult result
+        (λ r. IsExecOf bytes.now options.now (Inputs.Integers (record { items = inputs.now })) r)
+        (IsNoExecOf bytes.now options.now (Inputs.Integers (record { items = inputs.now }))) }
+{
+    let config = config_of(options);
+    match options.mode {
+        Some(mode) => match emulate_object_quietly(alloc, bytes, inputs, config, mode, rt, gate) {
+            Ok(report) => Ok(report),
+            Err(fault) => Err(Refusal::from(fault)),
+        },
+        None => match start_object(alloc, bytes, inputs, config) {
+            Ok(_ready) => Err(Refusal::Start(StartFault::BadConfig)),
+            Err(fault) => Err(Refusal::from(fault)),
+        },
+    }
+}
+
+/// Runs the object on the inputs of the command line, if they are good. The bytes are an object.
+fn exec_inputs<R: Threads + Wait + Sync, A: Allocator + Clone + Send + Sync, G: Gate + Sync>(
+    alloc: A,
+    bytes: &[u8],
+    options: &RunOptions,
+    inputs: &Inputs,
+    rt: &R,
+    gate: &G,
+) -> Result<Report<A>, Refusal>
+    requires may_stop { G.may_stop ≡ false }
+    requires object { first_refusal bytes.now ≡ None }
+    ensures { MatchResult result (λ r. IsExecOf bytes.now options.now inputs.now r) (IsNoExecOf bytes.now options.now inputs.now) }
+{
+    match inputs {
+        Inputs::Integers(integers) => {
+            exec_object(alloc, bytes, options, integers.as_slice(), rt, gate)
+        }
+        Inputs::NoInteger(number) => Err(Refusal::InputLine(*number)),
+        Inputs::TooMany => Err(Refusal::Start(StartFault::WrongInputs)),
+    }
+}
+
+/// Runs the object that the bytes are on the inputs of the command line, and prints the report, or why there is none. Gives the
+/// exit status.
+pub fn print_exec<
+    R: Threads + Wait + Sync,
+    A: Allocator + Clone + Send + Sync,
+    G: Gate + Sync,
+    W: Write,
+>(
+    alloc: A,
+    bytes: &[u8],
+    options: &RunOptions,
+    inputs: &Inputs,
+    writer: &mut W,
+    rt: &R,
+    gate: &G,
+) -> io::Result<u8>
+    requires { G.may_stop ≡ false }
+    ensures { PrintsExec result (W.contents writer.old) (W.contents writer.new) bytes.now options.now inputs.now }
+{
+    let object = match Object::open(bytes) {
+        Ok(object) => object,
+        Err(fault) => return refuse(writer, &Refusal::Object(fault)),
+    };
+    match exec_inputs(alloc, bytes, options, inputs, rt, gate) {
+        Ok(report) => match write_object_report(writer, &object, &report) {
+            Ok(()) => Ok(status_of(report.end)),
+            Err(fault) => Err(fault),
+        },
+        Err(refusal) => refuse(writer, &refusal),
+    }
+}
+
 /// All that the reader has, printed on by what the words of the command line ask for.
 fn answer<R: Threads + Wait + Sync, A: Allocator + Clone + Send + Sync, G: Gate + Sync, W: Write>(
     request: &Request,
@@ -266,6 +352,9 @@ fn answer<R: Threads + Wait + Sync, A: Allocator + Clone + Send + Sync, G: Gate 
         Request::Mean { steps } => print_meaning(alloc, input, *steps, writer),
         Request::Dot { code: true } => print_code_picture(input, writer),
         Request::Dot { code: false } => print_graph_picture(alloc, input, writer),
+        Request::Exec { options, inputs } => {
+            print_exec(alloc, input, options, inputs, writer, rt, gate)
+        }
     }
 }
 

@@ -16,7 +16,7 @@ abbrev pub hint_text : Option (List ℕ) → List ℕ → List ℕ
 hint_text None cause = hint_line cause
 hint_text (Some place) cause = hint_line place ++ hint_line cause
 
--- WHERE A HINT IS WANTED: not for help and the version; for a run, or one of the meaning, unless it ended at rest; for any
+-- WHERE A HINT IS WANTED: not for help and the version; for a run, one of an object, or one of the meaning, unless it ended at rest; for any
 -- other request where it was refused; for a mistake in the command line
 abbrev pub is_refused : List ℕ → Bool
 is_refused output = bytes_eq (take 9 output) (codes "refused: ")
@@ -32,6 +32,7 @@ wants_reason Request.Compile output = is_refused output
 wants_reason Request.Dis output = is_refused output
 wants_reason Request.Upgrade output = is_refused output
 wants_reason (Request.Dot code) output = is_refused output
+wants_reason (Request.Exec o ins) output = not (is_at_rest output)
 
 abbrev pub wants_hint : Asked → List ℕ → Bool
 wants_hint (Asked.Request request) output = wants_reason request output

@@ -57,7 +57,7 @@ fn wants_reason(request: &Request, output: &[u8]) -> bool
     ensures { result ≡ wants_reason request.now output.now }
 {
     match request {
-        Request::Run(_) | Request::Mean { .. } => !is_at_rest(output),
+        Request::Run(_) | Request::Mean { .. } | Request::Exec { .. } => !is_at_rest(output),
         Request::Check | Request::Compile | Request::Dis | Request::Upgrade | Request::Dot { .. } =>
             is_refused(output),
     }
@@ -79,6 +79,7 @@ fn input_cause<'a, A: Allocator + Clone>(
     input: &'a [u8],
     outcome: Outcome<'a>,
 ) -> Option<Found<'a>> {
+    let has_lines = !matches!(request, Request::Exec { .. });
     let text = graph_text(request, input);
     match outcome {
         Outcome::Read { kind, line } => Some(text_fault(kind, text, line, command)),
@@ -87,7 +88,7 @@ fn input_cause<'a, A: Allocator + Clone>(
             code_fault(alloc, text, block, GraphCause::TooManySlots)
         }
         Outcome::TooFar { block } => code_fault(alloc, text, block, GraphCause::TooFar),
-        Outcome::InputLine { line } => Some(input_fault(input, line)),
+        Outcome::InputLine { line } if has_lines => Some(input_fault(input, line)),
         Outcome::Object(kind) => object_fault(kind, input),
         _ => None,
     }

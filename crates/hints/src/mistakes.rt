@@ -6,7 +6,7 @@ use std::convert::AsStr;
 /// The options of a command, where it has some.
 fn options_of(command: &str) -> Option<&'static str> {
     match command {
-        "run" => Some(
+        "run" | "exec" => Some(
             "--elements N (1 to 16), --frames N (1 to 1024), --steps N (at most 4294967296) and --mode one, rounds or free, each at most once",
         ),
         "mean" => Some("--steps N, at most once"),
@@ -18,7 +18,7 @@ fn options_of(command: &str) -> Option<&'static str> {
 fn is_command(word: &str) -> bool {
     matches!(
         word,
-        "run" | "mean" | "check" | "compile" | "dis" | "upgrade" | "dot"
+        "run" | "mean" | "check" | "compile" | "dis" | "upgrade" | "dot" | "exec"
     )
 }
 
@@ -42,8 +42,10 @@ fn file_in<'a, S: AsStr>(words: &'a [S]) -> Option<&'a str> {
 
 /// What is wrong with the words after a command.
 fn after_command<'a, S: AsStr>(command: &'a str, words: &'a [S]) -> WordCause<'a> {
-    if let Some(file) = file_in(words) {
-        return WordCause::File { command, file };
+    if command != "exec" {
+        if let Some(file) = file_in(words) {
+            return WordCause::File { command, file };
+        }
     }
     match options_of(command) {
         Some(options) => WordCause::Options { command, options },

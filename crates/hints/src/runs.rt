@@ -102,7 +102,9 @@ pub fn start_fault<'a, A: Allocator + Clone>(
 ) -> Option<Found<'a>> {
     match (kind, request) {
         (Unstarted::WrongInputs, _) => inputs_fault(alloc, input?),
-        (_, Request::Run(options)) => Some(Found::nowhere(Cause::Run(option_cause(options)))),
+        (_, Request::Run(options) | Request::Exec { options, .. }) => {
+            Some(Found::nowhere(Cause::Run(option_cause(options))))
+        }
         _ => None,
     }
 }
@@ -110,14 +112,14 @@ pub fn start_fault<'a, A: Allocator + Clone>(
 /// What is said where memory is refused.
 pub fn memory_cause<'a>(request: &Request) -> RunCause<'a> {
     match request {
-        Request::Run(_) => RunCause::RunMemory,
+        Request::Run(_) | Request::Exec { .. } => RunCause::RunMemory,
         _ => RunCause::Memory,
     }
 }
 
 fn steps_of(request: &Request) -> Many {
     match request {
-        Request::Run(options) => many(options.steps, "step"),
+        Request::Run(options) | Request::Exec { options, .. } => many(options.steps, "step"),
         Request::Mean { steps } => many(*steps, "step"),
         _ => many(0, "step"),
     }

@@ -1,5 +1,5 @@
 -- The text of a report: what a run told, and what the meaning of a graph gave.
-use Rattle.std.specs.Prelude.{ℕ, ◌-◌, Option, Some, None, List, [], ◌∷◌, ◌++◌, flat_map, decimal, codes, nat_lt, slice_get, if◌then◌else◌}
+use Rattle.std.specs.Prelude.{ℕ, ◌+◌, ◌-◌, Option, Some, None, List, [], ◌∷◌, ◌++◌, flat_map, decimal, codes, nat_lt, slice_get, if◌then◌else◌}
 use Rattle.tags.specs.declared.value.FaultKind.{FaultKind}
 use Rattle.tags.specs.declared.value.FaultKind.TheVariants.{Zero, Range}
 use Rattle.tags.specs.declared.value.Origin.{Origin}
@@ -103,3 +103,11 @@ report_text arrays r = outputs_text r.outputs ++ flat_map (cell_line arrays) r.c
 
 abbrev pub meaning_text : Arrays → List (Option Value) → List Full → MeanEnd → List ℕ
 meaning_text arrays outputs cells end = outputs_text outputs ++ flat_map (full_line arrays) cells ++ meaning_end arrays end
+
+-- THE REPORT OF AN OBJECT'S RUN. Its arrays have no names: their numbers, from n on, stand in place of them.
+unfoldable pub named_by_number : ℕ → List ℕ → Arrays
+named_by_number n [] = []
+named_by_number n (len ∷ lens) = (decimal n, len) ∷ named_by_number (n + 1) lens
+
+abbrev pub object_report_text : List ℕ → Report → List ℕ
+object_report_text lens r = report_text (named_by_number 0 lens) r

@@ -3,7 +3,9 @@
 
 mod cells;
 mod ends;
+mod objects;
 mod outputs;
 mod writing;
 
+pub use objects::write_object_report;
 pub use writing::{write_meaning, write_report};

@@ -7,6 +7,8 @@ mod compiled;
 #[cfg(test)]
 mod conditionals;
 #[cfg(test)]
+mod exec;
+#[cfg(test)]
 mod gates;
 #[cfg(test)]
 mod hostile;

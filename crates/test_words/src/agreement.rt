@@ -2,7 +2,7 @@
 
 use clap::ArgMatches;
 use clap::error::ErrorKind;
-use command_line::{Asked, Mode, Request, RunOptions, read_words, version_line};
+use command_line::{Asked, Inputs, Mode, Request, RunOptions, read_words, version_line};
 use command_texts::{help_text, mistake_text, program_command};
 use std::alloc::Global;
 use std::fmt;
@@ -73,15 +73,19 @@ fn mode_in(word: &str) -> Option<Mode> {
     }
 }
 
-/// The request that `clap` reads.
+fn options_in(matches: &ArgMatches<'_>) -> Option<RunOptions> {
+    Some(RunOptions {
+        elements: matches.get_one::<u64>("elements")?,
+        frames: matches.get_one::<u64>("frames")?,
+        steps: matches.get_one::<u64>("steps")?,
+        mode: mode_in(matches.get_str("mode")?),
+    })
+}
+
+/// The request that `clap` reads, but for inputs.
 fn request_in(matches: &ArgMatches<'_>) -> Option<Request> {
     match matches.subcommand() {
-        Some(("run", run)) => Some(Request::Run(RunOptions {
-            elements: run.get_one::<u64>("elements")?,
-            frames: run.get_one::<u64>("frames")?,
-            steps: run.get_one::<u64>("steps")?,
-            mode: mode_in(run.get_str("mode")?),
-        })),
+        Some(("run", run)) => Some(Request::Run(options_in(run)?)),
         Some(("check", _)) => Some(Request::Check),
         Some(("compile", _)) => Some(Request::Compile),
         Some(("dis", _)) => Some(Request::Dis),
@@ -96,14 +100,52 @@ fn request_in(matches: &ArgMatches<'_>) -> Option<Request> {
     }
 }
 
+fn are_same(a: &RunOptions, b: &RunOptions) -> bool {
+    a.elements == b.elements && a.frames == b.frames && a.steps == b.steps && a.mode == b.mode
+}
+
+fn is_integer(word: &str) -> bool {
+    graph_file::literal(word.as_bytes()).is_some()
+}
+
+/// Whether the inputs are what these words say.
+fn are_inputs(inputs: &Inputs, words: &[&str]) -> bool {
+    match inputs {
+        Inputs::Integers(integers) => {
+            let integers = integers.as_slice();
+            integers.len() == words.len()
+                && words
+                    .iter()
+                    .zip(integers)
+                    .all(|(word, integer)| graph_file::literal(word.as_bytes()) == Some(*integer))
+        }
+        Inputs::NoInteger(number) => {
+            words.iter().position(|word| !is_integer(word)) == Some((*number - 1) as usize)
+        }
+        Inputs::TooMany => words.len() > 16,
+    }
+}
+
+/// Whether `clap` reads the request.
+fn is_read(request: &Request, matches: &ArgMatches<'_>) -> bool {
+    match (request, matches.subcommand()) {
+        (Request::Exec { options, inputs }, Some(("exec", exec))) => {
+            let words = exec.get_strs("INPUT").unwrap_or(&[]);
+            match options_in(exec) {
+                Some(other) => are_same(options, &other) && are_inputs(inputs, words),
+                None => false,
+            }
+        }
+        _ => match request_in(matches) {
+            Some(other) => is_same(request, &other),
+            None => false,
+        },
+    }
+}
+
 fn is_same(a: &Request, b: &Request) -> bool {
     match (a, b) {
-        (Request::Run(a), Request::Run(b)) => {
-            a.elements == b.elements
-                && a.frames == b.frames
-                && a.steps == b.steps
-                && a.mode == b.mode
-        }
+        (Request::Run(a), Request::Run(b)) => are_same(a, b),
         (Request::Mean { steps: a }, Request::Mean { steps: b }) => *a == *b,
         (Request::Dot { code: a }, Request::Dot { code: b }) => *a == *b,
         (Request::Check, Request::Check) => true,
@@ -131,8 +173,8 @@ pub fn agree_on(alloc: Global, words: &[&str]) -> anyhow::Result<Agreed> {
     let asked = read_words(words.get(1..).unwrap_or(&[]));
     let error = match program_command(alloc)?.try_get_matches_from(words) {
         Ok(matches) => {
-            let agrees = match (&asked, request_in(&matches)) {
-                (Asked::Request(ours), Some(other)) => is_same(ours, &other),
+            let agrees = match &asked {
+                Asked::Request(request) => is_read(request, &matches),
                 _ => false,
             };
             return Ok(agreed_if(agrees, Agreed::Request));

@@ -100,6 +100,26 @@ const WORDS: [&str; 8] = [
     "rounds",
 ];
 
+/// What may stand after `exec`.
+const INPUTS: [&str; 16] = [
+    "2",
+    "-",
+    "",
+    "--",
+    "-4",
+    "07",
+    "x",
+    "help",
+    "--elements=4",
+    "--frames",
+    "--mode rounds",
+    "--code",
+    "--help",
+    "-h",
+    "-V",
+    "1 2 3 4 5 6 7 8 9",
+];
+
 /// Words for a number.
 const NUMBERS: [&str; 26] = [
     "0",
@@ -140,7 +160,7 @@ const LEAVES: [&str; 5] = [
 ];
 
 /// Command lines of which the text is printed whole.
-const TEXTS: [&str; 21] = [
+const TEXTS: [&str; 23] = [
     "ets",
     "ets --help",
     "ets help help",
@@ -162,6 +182,8 @@ const TEXTS: [&str; 21] = [
     "ets check more",
     "ets run -- more",
     "ets run -4",
+    "ets exec --help",
+    "ets exec -4",
 ];
 
 fn try_lists<'a>(
@@ -276,6 +298,7 @@ fn main(rt: HostRuntime) -> anyhow::Result<()> {
     for command in LEAVES {
         println!(rt; "{command}: {}", try_after(alloc, command, options, 1)?)?;
     }
+    println!(rt; "ets exec: {}", try_after(alloc, "ets exec", INPUTS.as_slice(), 2)?)?;
     println!(rt; "numbers: {}", try_numbers(alloc)?)?;
     for line in TEXTS {
         print_text(&rt, line)?;
