@@ -80,10 +80,7 @@ fn number<'a>(alloc: Global, name: &'a str, default: &'a str, help: &'a str) -> 
 }
 
 /// The command with the options that say how to run.
-fn with_run_options<'a>(
-    alloc: Global,
-    command: Command<'a>,
-) -> Result<Command<'a>, AllocError> {
+fn with_run_options<'a>(alloc: Global, command: Command<'a>) -> Result<Command<'a>, AllocError> {
     let mode = Arg::new(alloc, "mode")
         .long("mode")
         .value_name("MODE")
@@ -111,9 +108,9 @@ fn run_command<'a>(alloc: Global) -> Result<Command<'a>, AllocError> {
 }
 
 fn exec_command<'a>(alloc: Global) -> Result<Command<'a>, AllocError> {
-    let inputs = Arg::new(alloc, "INPUT")
-        .num_args(0usize..)
-        .help("an integer for each input of the main block; `--` goes before a negative one");
+    let inputs = Arg::new(alloc, "INPUT").num_args(0usize..).help(
+        "an integer for each input of the main block; `--` goes before a negative one",
+    );
     let command = Command::new(alloc, "exec")
         .about("Runs the object on standard input, on these inputs")
         .after_help(AFTER_EXEC)

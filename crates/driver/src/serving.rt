@@ -6,9 +6,7 @@ ghost use Rattle.driver.specs.Disassembled.{listing_of, picture_of, upgrade_of};
 ghost use Rattle.driver.specs.Served.{config_of, IsRefusedLine, IsRunOf, IsNoRunOf, IsMeaningOf, IsNoMeaningOf, Refuses, PrintsRun, PrintsMeaning, PrintsCheck, PrintsObject, PrintsOf, PrintsPicture, PrintsExec, IsExecOf, IsNoExecOf, Prints, Answers, ServesRequest, Says, ServesAsked, ServesWords, Serves};
 
 use crate::compiling::{CompileRefusal, check_text, compile, write_object};
-use crate::emulation::{
-    Emulated, emulate_object_quietly, run_text, start_object, start_text,
-};
+use crate::emulation::{Emulated, emulate_object_quietly, run_text, start_object, start_text};
 use crate::input::{LinesFault, parse_integers, read_input, split_at_main};
 use crate::meaning::{Meant, mean_text};
 use crate::objects::{ObjectRefusal, disassemble, draw_object, upgrade_object};

@@ -49,7 +49,12 @@ fn send_place<W: Write>(writer: &mut W, name: &[u8], index: u32) -> io::Result<(
 }
 
 /// The line of a full cell that has an index in an array of that name.
-pub(crate) fn send_named<W: Write>(writer: &mut W, name: &[u8], index: u32, value: Value) -> io::Result<()>
+pub(crate) fn send_named<W: Write>(
+    writer: &mut W,
+    name: &[u8],
+    index: u32,
+    value: Value,
+) -> io::Result<()>
     ensures { Sends result (W.contents writer.old) (W.contents writer.new) (cell_text (name.now ++ field (decimal index)) value) }
 {
     send_place(writer, name, index)?;

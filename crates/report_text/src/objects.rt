@@ -45,11 +45,7 @@ fn place_in(object: &Object<'_>, cell: u32) -> Option<(u32, u32)>
 }
 
 /// The line of a full cell that has a number over all arrays.
-fn send_cell<W: Write>(
-    writer: &mut W,
-    object: &Object<'_>,
-    cell: &(u32, Value),
-) -> io::Result<()>
+fn send_cell<W: Write>(writer: &mut W, object: &Object<'_>, cell: &(u32, Value)) -> io::Result<()>
     ensures { Sends result (W.contents writer.old) (W.contents writer.new) (cell_line (named_by_number 0 object.now.code.program.arrays) cell.now) }
 {
     let (place, value) = *cell;

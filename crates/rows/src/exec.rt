@@ -27,7 +27,10 @@ fn inputs_that_do_not_fit_refuse_an_object(rt: HostRuntime) -> Result<(), Fail> 
             ["ets", "exec", "2", "--frames=4"],
             b"refused: start WrongInputs\n".as_slice(),
         ),
-        (["ets", "exec", "2", "07"], b"refused: input line 2\n".as_slice()),
+        (
+            ["ets", "exec", "2", "07"],
+            b"refused: input line 2\n".as_slice(),
+        ),
     ] {
         expect_served(&rt, rt.alloc(), words.as_slice(), &object.text, wanted, 1)?;
     }

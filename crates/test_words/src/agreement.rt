@@ -114,10 +114,9 @@ fn are_inputs(inputs: &Inputs, words: &[&str]) -> bool {
         Inputs::Integers(integers) => {
             let integers = integers.as_slice();
             integers.len() == words.len()
-                && words
-                    .iter()
-                    .zip(integers)
-                    .all(|(word, integer)| graph_file::literal(word.as_bytes()) == Some(*integer))
+                && words.iter().zip(integers).all(|(word, integer)| graph_file::literal(
+                    word.as_bytes(),
+                ) == Some(*integer))
         }
         Inputs::NoInteger(number) => {
             words.iter().position(|word| !is_integer(word)) == Some((*number - 1) as usize)

@@ -298,7 +298,10 @@ fn main(rt: HostRuntime) -> anyhow::Result<()> {
     for command in LEAVES {
         println!(rt; "{command}: {}", try_after(alloc, command, options, 1)?)?;
     }
-    println!(rt; "ets exec: {}", try_after(alloc, "ets exec", INPUTS.as_slice(), 2)?)?;
+    println!(rt;
+        "ets exec: {}",
+        try_after(alloc, "ets exec", INPUTS.as_slice(), 2)?
+    )?;
     println!(rt; "numbers: {}", try_numbers(alloc)?)?;
     for line in TEXTS {
         print_text(&rt, line)?;

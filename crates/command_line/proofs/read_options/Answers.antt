@@ -30,17 +30,17 @@ pub loop-i-preserved : goal.loop-i-preserved
 loop-i-preserved g c =
     let next : c.loop-i.i + 1 ≡ suc c.loop-i.i = omega arith in
     elim c.match-word_met.branch [
-      in-Next w ↦
-        told_by c.args.command _ _ _ _ _ _ _ _ _ w.given-is w.inputs-is w.waiting-is (ap (λ (n : ℕ). drop n (map g.S.AsStr.text c.args.words.now)) next)
-        (one_step c.args.command c.loop-i.given c.loop-i.inputs c.loop-i.waiting _ _ _ (Step.Next w.in-Next.more w.in-Next.waits) _
-        (word_at g.S.AsStr.text c.args.words.now c.loop-i.i c.index-words-i.result c.loop-i-test.true c.index-words-i.is)
-        (w.in-Next.ensures ∙ ap (word_met c.args.command c.loop-i.given c.loop-i.waiting) c.as_str.ensures) c.loop-i.invariant)
-    | in-Input w ↦
-        told_by c.args.command _ _ _ _ _ _ _ _ _ w.given-is (w.inputs-is ∙ w.with-inputs.ensures ∙ ap (with_input c.loop-i.inputs) w.as_str-in-Input.ensures) w.waiting-is
-        (ap (λ (n : ℕ). drop n (map g.S.AsStr.text c.args.words.now)) next)
-        (one_step c.args.command c.loop-i.given c.loop-i.inputs c.loop-i.waiting _ _ _ Step.Input _
-        (word_at g.S.AsStr.text c.args.words.now c.loop-i.i c.index-words-i.result c.loop-i-test.true c.index-words-i.is)
-        (w.in-Input.ensures ∙ ap (word_met c.args.command c.loop-i.given c.loop-i.waiting) c.as_str.ensures) c.loop-i.invariant)
+      | in-Next w ↦
+          told_by c.args.command _ _ _ _ _ _ _ _ _ w.given-is w.inputs-is w.waiting-is (ap (λ (n : ℕ). drop n (map g.S.AsStr.text c.args.words.now)) next)
+          (one_step c.args.command c.loop-i.given c.loop-i.inputs c.loop-i.waiting _ _ _ (Step.Next w.in-Next.more w.in-Next.waits) _
+          (word_at g.S.AsStr.text c.args.words.now c.loop-i.i c.index-words-i.result c.loop-i-test.true c.index-words-i.is)
+          (w.in-Next.ensures ∙ ap (word_met c.args.command c.loop-i.given c.loop-i.waiting) c.as_str.ensures) c.loop-i.invariant)
+      | in-Input w ↦
+          told_by c.args.command _ _ _ _ _ _ _ _ _ w.given-is (w.inputs-is ∙ w.with-inputs.ensures ∙ ap (with_input c.loop-i.inputs) w.as_str-in-Input.ensures) w.waiting-is
+          (ap (λ (n : ℕ). drop n (map g.S.AsStr.text c.args.words.now)) next)
+          (one_step c.args.command c.loop-i.given c.loop-i.inputs c.loop-i.waiting _ _ _ Step.Input _
+          (word_at g.S.AsStr.text c.args.words.now c.loop-i.i c.index-words-i.result c.loop-i-test.true c.index-words-i.is)
+          (w.in-Input.ensures ∙ ap (word_met c.args.command c.loop-i.given c.loop-i.waiting) c.as_str.ensures) c.loop-i.invariant)
     ]
 
 pub returns : goal.returns
