@@ -1,5 +1,5 @@
 -- What the commands print, and the status of their exit.
-use Rattle.std.specs.Prelude.{◌≡◌, ℕ, ℤ, Bool, true, false, ◌⊎◌, List, ◌++◌, length, Option, Some, None, Result, Ok, Err, IfSome, codes}
+use Rattle.std.specs.Prelude.{◌≡◌, ◌≤◌, ℕ, ℤ, Bool, true, false, ◌⊎◌, List, ◌++◌, length, Option, Some, None, Result, Ok, Err, IfSome, codes}
 use Rattle.std.specs.Result.{result_unwrap_or}
 use Rattle.std.specs.Io.KnownBytes.{Appends}
 use Rattle.std.specs.declared.io.Error.{Error}
@@ -141,10 +141,10 @@ Answers result old new input Request.Upgrade = PrintsOf upgrade_of result old ne
 Answers result old new input (Request.Mean steps) = PrintsMeaning result old new input steps
 Answers result old new input (Request.Dot code) = PrintsDot result old new input code
 
--- the input is all that the reader has
+-- the input is all that the reader has, which is 64 MiB at most
 abbrev pub ServesRequest : {E : Type 0} → Option (List ℕ) → Result ℕ E → Option (List ℕ) → Option (List ℕ) → Request → Type 0
 ServesRequest remaining result old new request =
-    ((input : List ℕ) × IfSome remaining (λ xs. input ≡ xs) × Answers result old new input request)
+    ((input : List ℕ) × IfSome remaining (λ xs. input ≡ xs) × (length input ≤ 67108864) × Answers result old new input request)
     ⊎ ((fault : InputFault) × Refuses result old new (unread_as fault))
 
 -- ALL COMMAND LINES
