@@ -4,5 +4,6 @@ pub mod GraphObjects
 pub mod InputLines
 pub mod ObjectRuns
 pub mod TextObjects
+pub mod OpenedObjects
 pub mod Joined
 pub mod Served

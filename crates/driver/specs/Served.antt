@@ -12,7 +12,6 @@ use Rattle.schedule.specs.declared.config.StartFault.{StartFault}
 use Rattle.oracle.specs.declared.report.MeanEnd.{MeanEnd}
 use Rattle.oracle.specs.declared.report.Full.{Full}
 use Rattle.oracle.specs.Reporting.{IsMeant}
-use Rattle.object_view.specs.Checks.{first_refusal}
 use Rattle.object_view.specs.declared.fault.ObjectFault.{ObjectFault}
 use Rattle.dot.specs.GraphDot.{graph_dot}
 use Rattle.report_text.specs.ReportText.{report_text, meaning_text}
@@ -24,7 +23,7 @@ use Rattle.command_line.specs.declared.RunOptions.{RunOptions}
 use Rattle.driver.specs.declared.fault.Fault.{Fault}
 use Rattle.driver.specs.declared.input.InputFault.{InputFault}
 use Rattle.driver.specs.declared.refusal.Refusal.{Refusal}
-use Rattle.driver.specs.Disassembled.{listing_of, picture_of, upgrade_of}
+use Rattle.driver.specs.Disassembled.{IsOpened, IsUnopened, listing_of, picture_of, upgrade_of}
 use Rattle.driver.specs.Headline.{TellsQuietly}
 use Rattle.driver.specs.Input.{graph_length, integers_of}
 use Rattle.driver.specs.Refused.{IsGoodText, IsCompiled, IsReady, IsBadText, IsRefusedText, IsRefused, IsRefusedMeaning}
@@ -118,8 +117,8 @@ PrintsObject result old new text =
 -- DIS AND UPGRADE
 abbrev pub PrintsOf : {E : Type 0} → (List ℕ → List ℕ) → Result ℕ E → Option (List ℕ) → Option (List ℕ) → List ℕ → Type 0
 PrintsOf text result old new bytes =
-    ((first_refusal bytes ≡ None) × Prints result old new (text bytes) 0)
-    ⊎ ((fault : ObjectFault) × (first_refusal bytes ≡ Some fault) × Refuses result old new (Refusal.Object fault))
+    (IsOpened bytes × Prints result old new (text bytes) 0)
+    ⊎ ((fault : ObjectFault) × IsUnopened bytes fault × Refuses result old new (Refusal.Object fault))
 
 -- DOT: the picture of a graph that is well formed, or of an object's code
 abbrev pub PrintsPicture : {E : Type 0} → Result ℕ E → Option (List ℕ) → Option (List ℕ) → List ℕ → Type 0
