@@ -9,13 +9,13 @@ use Rattle.law_graphs.specs.Graphs.{KeepsPromises}
 use Rattle.slot_alloc.specs.Assigned.{IsAssigned, IsFirstCrowded}
 use Rattle.select.specs.declared.Version.{Version}
 use Rattle.select.specs.Emitted.{version_number, code_of}
-use Rattle.select.specs.Literals.{too_far}
+use Rattle.select.specs.Literals.{table_of, too_far}
 use Rattle.schedule.specs.Setting.{inputs_of as inputs_in_code}
 use Rattle.composition.specs.Graphs.{plan_of}
 use Rattle.driver.specs.declared.fault.Fault.{Fault}
 
--- The code is the plan's with slots, each the least that is open to its holder. It has an object in the version of the
--- graph's text, main's inputs, the graph's arrays, and the bounds of its loops; it is faithful to the graph, and uses frames and slots
+-- The code is the plan's with slots, each the least that is open to its holder, and with the table of the plan's literals. It has an
+-- object in the version of the graph's text, main's inputs, the graph's arrays, and the bounds of its loops; it is faithful to the graph, and uses frames and slots
 -- again as is promised.
 pub record IsCodeFor (g : Graph) (code : Code) : Type 0 where
   pub slots : List (List ℕ)
@@ -23,6 +23,7 @@ pub record IsCodeFor (g : Graph) (code : Code) : Type 0 where
   pub version : Version
   pub version_is : version_number version ≡ g.version
   pub program : code.program ≡ code_of version (plan_of g) slots
+  pub literals : code.literals ≡ table_of (plan_of g).program.blocks
   pub lawful : IsCode g.version code
   pub inputs : inputs_in_code code.program ≡ inputs_of (flow_of g)
   pub arrays : code.program.arrays ≡ (flow_of g).arrays
