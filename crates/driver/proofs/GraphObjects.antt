@@ -9,6 +9,7 @@ use Rattle.semantics.specs.Plan.{Plan}
 use Rattle.semantics.specs.Placed.{placed_blocks}
 use Rattle.semantics.specs.Bytes.{IsCode}
 use Rattle.semantics.specs.Cause.{HasBounds}
+use Rattle.semantics.specs.Machine.{outputs_of}
 use Rattle.semantics.specs.Orderly as Orderly
 use Rattle.slot_alloc.specs.Assigned.{IsAssigned}
 use Rattle.select.specs.declared.Version.{Version}
@@ -20,6 +21,7 @@ use Rattle.composition.specs.Graphs.{plan_of}
 use Rattle.composition.proofs.AnyGraph.{plans_have_objects, plans_take_inputs, code_has_bounds}
 use Rattle.law_whole.proofs.Law.{graphs_keep_promises}
 use Rattle.driver.specs.Compiled.{IsCodeFor}
+use Rattle.driver.proofs.Outputs.{plan_outputs, same_outputs}
 
 -- THE INPUTS OF A BLOCK stay.
 same_inputs : (v : ℕ) (ss : List (List ℕ)) (cs : List CodeBlock) (i : ℕ) → length ss ≡ length cs
@@ -42,6 +44,7 @@ compiled g text well slots assigned version same c e literals spelling =
     let B : Program → Type 0 = λ q. HasBounds (flow_of g) q in
     let L : ℕ → Type 0 = λ n. IsCode n c in
     let I : Program → ℕ = λ q. inputs_of q in
+    let O : Program → ℕ = λ q. outputs_of q in
     record {
       slots = slots;
       assigned = assigned;
@@ -51,6 +54,7 @@ compiled g text well slots assigned version same c e literals spelling =
       literals = literals;
       lawful = subst L same (spelling (plans_have_objects g slots text well assigned.good));
       inputs = ap I e ∙ same_inputs (version_number version) slots p.program.blocks p.program.main assigned.good.all ∙ plans_take_inputs g text well;
+      outputs = ap O e ∙ same_outputs (version_number version) slots p.program.blocks p.program.main assigned.good.all ∙ plan_outputs g well;
       arrays = ap (λ (q : Program). q.arrays) e;
       bounds = subst B (sym e) (code_has_bounds g slots version assigned.good);
       promises = graphs_keep_promises g slots version text well assigned.good same;

@@ -1,5 +1,6 @@
 pub mod Waiting
 pub mod Truth
+pub mod Outputs
 pub mod GraphObjects
 pub mod InputLines
 pub mod ObjectRuns
