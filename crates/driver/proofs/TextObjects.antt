@@ -13,8 +13,8 @@ use Rattle.schedule.specs.Setting.{inputs_of}
 use Rattle.schedule.specs.Starts.{Opens, IsCause}
 use Rattle.schedule.specs.Runs.{Kept}
 use Rattle.driver.specs.declared.fault.Fault.{Fault}
-use Rattle.driver.specs.Compiled.{IsCodeFor}
-use Rattle.driver.specs.Refused.{IsGoodText, IsCompiled, refusal_of, IsReady, IsReadyObject, IsRefused, IsRefusedObject}
+use Rattle.driver.specs.Compiled.{IsCodeFor, IsTooLarge}
+use Rattle.driver.specs.Refused.{IsGoodText, IsCompiled, IsRefusedText, refusal_of, IsReady, IsReadyObject, IsRefused, IsRefusedObject}
 
 -- WRITING
 pub sends_whole : (E : Type 0) (x : ⊤) (old new : Option (List ℕ)) (bytes : List ℕ) → Sends {E = E} (Ok x) old new bytes → Appends old new bytes
@@ -35,6 +35,16 @@ pub compiled_bytes : (text : List ℕ) (g : Graph) (c : Code) → IsGoodText tex
 compiled_bytes text g c good made n e =
     let B : List ℕ → Type 0 = λ bytes. IsCompiled text g bytes in
     subst B (ap (λ k. bytes_of k c) (sym e)) record { good = good; object = record { code = c; made = made; object = (refl, made.lawful) } }
+
+-- or none, where it is too large
+pub too_large : (text : List ℕ) (g h : Graph) → h ≡ g → IsGoodText text g → (f : Fault) → IsTooLarge h f → IsRefusedText text f
+too_large text g h e good (Fault.Read f) x = absurd x
+too_large text g h e good (Fault.Check f) x = absurd x
+too_large text g h e good (Fault.TooManySlots b) x = (g, good, subst (λ (k : Graph). IsTooLarge k (Fault.TooManySlots b)) e x)
+too_large text g h e good (Fault.TooFar b) x = (g, good, subst (λ (k : Graph). IsTooLarge k (Fault.TooFar b)) e x)
+too_large text g h e good (Fault.Object f) x = absurd x
+too_large text g h e good (Fault.Start f) x = absurd x
+too_large text g h e good Fault.Memory x = tt
 
 -- RUNNING
 -- an opened object is the graph's code

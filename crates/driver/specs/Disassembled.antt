@@ -3,20 +3,33 @@ use Rattle.std.specs.Prelude.{◌≡◌, ◌++◌, ℕ, List, Option, Some, None
 use Rattle.std.specs.Io.KnownBytes.{Appends}
 use Rattle.object_view.specs.Reading.{opened}
 use Rattle.object_view.specs.Checks.{first_refusal}
-use Rattle.semantics.specs.Bytes.{bytes_of}
+use Rattle.object_view.specs.declared.fault.ObjectFault.{ObjectFault}
+use Rattle.semantics.specs.Program.{Code}
+use Rattle.semantics.specs.Bytes.{IsObject, bytes_of}
 use Rattle.disassembler.specs.Listing.{listing}
 use Rattle.dot.specs.CodeDot.{code_dot}
 use Rattle.driver.specs.declared.objects.ObjectRefusal.{ObjectRefusal}
 use Rattle.driver.specs.declared.objects.ObjectRefusal.TheVariants.{Object, Write}
+
+-- the bytes are an object, of this code and of no other
+pub record IsOpened (bytes : List ℕ) : Type 0 where
+  pub unrefused : first_refusal bytes ≡ None
+  pub object : IsObject bytes (opened bytes).version (opened bytes).code
+  pub only : (v : ℕ) (c : Code) → IsObject bytes v c → ((opened bytes).version ≡ v) × ((opened bytes).code ≡ c)
+
+-- no code has the bytes, and this is their first fault
+pub record IsUnopened (bytes : List ℕ) (fault : ObjectFault) : Type 0 where
+  pub first : first_refusal bytes ≡ Some fault
+  pub none : (v : ℕ) (c : Code) → IsObject bytes v c → ⊥
 
 abbrev pub listing_of : List ℕ → List ℕ
 listing_of bytes = listing (opened bytes).version (opened bytes).code.program
 
 -- This text of an object; of other bytes nothing, and the first fault; after a failed write a beginning of it.
 abbrev pub Writes : (List ℕ → List ℕ) → Result ⊤ ObjectRefusal → Option (List ℕ) → Option (List ℕ) → List ℕ → Type 0
-Writes text (Ok x) old new bytes = (first_refusal bytes ≡ None) × Appends old new (text bytes)
-Writes text (Err (Object fault)) old new bytes = (first_refusal bytes ≡ Some fault) × (new ≡ old)
-Writes text (Err (Write e)) old new bytes = (first_refusal bytes ≡ None) × ((front : List ℕ) × (rest : List ℕ) × (text bytes ≡ front ++ rest) × Appends old new front)
+Writes text (Ok x) old new bytes = IsOpened bytes × Appends old new (text bytes)
+Writes text (Err (Object fault)) old new bytes = IsUnopened bytes fault × (new ≡ old)
+Writes text (Err (Write e)) old new bytes = IsOpened bytes × ((front : List ℕ) × (rest : List ℕ) × (text bytes ≡ front ++ rest) × Appends old new front)
 
 abbrev pub Disassembles : Result ⊤ ObjectRefusal → Option (List ℕ) → Option (List ℕ) → List ℕ → Type 0
 Disassembles = Writes listing_of

@@ -1,5 +1,5 @@
 -- What the commands print, and the status of their exit.
-use Rattle.std.specs.Prelude.{◌≡◌, ℕ, ℤ, Bool, true, false, ◌⊎◌, List, ◌++◌, length, Option, Some, None, Result, Ok, Err, IfSome, codes}
+use Rattle.std.specs.Prelude.{◌≡◌, ◌≤◌, ℕ, ℤ, Bool, true, false, ◌⊎◌, List, ◌++◌, length, Option, Some, None, Result, Ok, Err, IfSome, codes}
 use Rattle.std.specs.Result.{result_unwrap_or}
 use Rattle.std.specs.Io.KnownBytes.{Appends}
 use Rattle.std.specs.declared.io.Error.{Error}
@@ -26,7 +26,7 @@ use Rattle.command_line.specs.declared.inputs.Inputs.{Inputs}
 use Rattle.driver.specs.declared.fault.Fault.{Fault}
 use Rattle.driver.specs.declared.input.InputFault.{InputFault}
 use Rattle.driver.specs.declared.refusal.Refusal.{Refusal}
-use Rattle.driver.specs.Disassembled.{listing_of, picture_of, upgrade_of}
+use Rattle.driver.specs.Disassembled.{IsOpened, IsUnopened, listing_of, picture_of, upgrade_of}
 use Rattle.driver.specs.Headline.{TellsQuietly}
 use Rattle.driver.specs.Input.{graph_length, integers_of}
 use Rattle.driver.specs.Objects.{ShowsObject, Quietly}
@@ -121,8 +121,8 @@ PrintsObject result old new text =
 -- DIS AND UPGRADE
 abbrev pub PrintsOf : {E : Type 0} → (List ℕ → List ℕ) → Result ℕ E → Option (List ℕ) → Option (List ℕ) → List ℕ → Type 0
 PrintsOf text result old new bytes =
-    ((first_refusal bytes ≡ None) × Prints result old new (text bytes) 0)
-    ⊎ ((fault : ObjectFault) × (first_refusal bytes ≡ Some fault) × Refuses result old new (Refusal.Object fault))
+    (IsOpened bytes × Prints result old new (text bytes) 0)
+    ⊎ ((fault : ObjectFault) × IsUnopened bytes fault × Refuses result old new (Refusal.Object fault))
 
 -- DOT: the picture of a graph that is well formed, or of an object's code
 abbrev pub PrintsPicture : {E : Type 0} → Result ℕ E → Option (List ℕ) → Option (List ℕ) → List ℕ → Type 0
@@ -169,10 +169,10 @@ Answers result old new input (Request.Mean steps) = PrintsMeaning result old new
 Answers result old new input (Request.Dot code) = PrintsDot result old new input code
 Answers result old new input (Request.Exec o ins) = PrintsExec result old new input o ins
 
--- the input is all that the reader has
+-- the input is all that the reader has, which is 64 MiB at most
 abbrev pub ServesRequest : {E : Type 0} → Option (List ℕ) → Result ℕ E → Option (List ℕ) → Option (List ℕ) → Request → Type 0
 ServesRequest remaining result old new request =
-    ((input : List ℕ) × IfSome remaining (λ xs. input ≡ xs) × Answers result old new input request)
+    ((input : List ℕ) × IfSome remaining (λ xs. input ≡ xs) × (length input ≤ 67108864) × Answers result old new input request)
     ⊎ ((fault : InputFault) × Refuses result old new (unread_as fault))
 
 -- ALL COMMAND LINES

@@ -3,7 +3,7 @@ use Rattle.semantics.specs.Plan.{Plan}
 use Rattle.slot_alloc.specs.Assigned.{IsAssigned}
 use Rattle.select.specs.Emitted.{code_of}
 use Rattle.select.specs.Emittable.{IsEmittable}
-use Rattle.driver.proofs.GraphObjects.{compiled}
+use Rattle.driver.proofs.GraphObjects.{same_literals, compiled}
 use Rattle.driver.proofs.compiling.code_of.Goals as goal
 
 pub returns-in-Ok-emit : goal.returns-in-Ok-emit
@@ -16,4 +16,5 @@ returns-in-Ok-emit g c =
     compiled c.args.graph.now c.requires.limits c.requires.well_formed slots
     (subst A same c.in-Ok-assign.ensures.assigned) version c.version_of.ensures c.in-Ok-emit.code
     (c.in-Ok-emit.ensures.program ∙ ap (λ (p : Plan). code_of version p slots) same)
+    (same_literals c.args.graph.now _ c.in-Ok-emit.code same c.in-Ok-emit.ensures.literals)
     (λ fit. c.in-Ok-emit.ensures.spelling (subst E (sym same) fit))
