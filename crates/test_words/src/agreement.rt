@@ -119,7 +119,13 @@ fn are_inputs(inputs: &Inputs, words: &[&str]) -> bool {
                 ) == Some(*integer))
         }
         Inputs::NoInteger(number) => {
-            words.iter().position(|word| !is_integer(word)) == Some((*number - 1) as usize)
+            match (
+                words.iter().position(|word| !is_integer(word)),
+                number.checked_sub(1),
+            ) {
+                (Some(found), Some(told)) => found as u64 == told as u64,
+                _ => false,
+            }
         }
         Inputs::TooMany => words.len() > 16,
     }
