@@ -123,7 +123,7 @@ fn are_inputs(inputs: &Inputs, words: &[&str]) -> bool {
                 words.iter().position(|word| !is_integer(word)),
                 number.checked_sub(1),
             ) {
-                (Some(found), Some(told)) => found as u64 == told as u64,
+                (Some(found), Some(told)) => found as u64 == told,
                 _ => false,
             }
         }
