@@ -1,6 +1,6 @@
 //! Measures the modes on an object, which is standard input. The words of the command line are a mode (`one`, `rounds`, or
-//! `free`), a number of elements, of frames for each, of events of a turn, how often to run, and then the inputs. Says how all
-//! runs ended, whether they had one report, and how many turns element 0 began in threads.
+//! `free`), the number of elements, the frames of each, the events of a turn, the number of runs, and then the inputs. Says how
+//! all runs ended, whether they had one report, and how many turns element 0 began in threads.
 #![tactic(auto)]
 
 use loaded::Loaded;
@@ -66,7 +66,7 @@ struct Bench {
     inputs: Vec<i64>,
 }
 
-/// What the words ask for.
+/// The measurement that the words ask for.
 fn bench_of(alloc: Global, words: &[String]) -> Option<Bench> {
     let mode = mode_named(words.get(1)?.as_str())?;
     let config = Config {
@@ -88,7 +88,7 @@ fn bench_of(alloc: Global, words: &[String]) -> Option<Bench> {
     })
 }
 
-/// A run; `None` where it does not start.
+/// Runs the object once; `None` where the run does not start.
 fn run<R: Threads + Wait + Sync>(
     rt: &R,
     alloc: Global,
@@ -114,7 +114,7 @@ fn are_same(one: &Report<Global>, other: &Report<Global>) -> bool {
         && one.frames_out == other.frames_out
 }
 
-/// All runs: their report, and whether they had one.
+/// Makes all runs. Gives their report, and whether all had the same one.
 fn run_often<R: Threads + Wait + Sync>(
     rt: &R,
     alloc: Global,

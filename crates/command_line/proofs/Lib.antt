@@ -1,2 +1,3 @@
 pub mod WordForms
 pub mod Walks
+pub mod Listed

@@ -10,7 +10,7 @@ use Rattle.std.proofs.lemmas.Bool.Decides.{nat_tests}
 use Rattle.std.proofs.lemmas.Grind.{common_steps}
 use Rattle.std.proofs.lemmas.List.{take_at, drop_at, take_all, append_assoc, get_or_append_left, get_or_at, length_push}
 use Rattle.std.proofs.lemmas.List.Sums.{position_or_len_is}
-use Rattle.command_line.specs.Words.{after, is_numeral, name_and_value, number_of}
+use Rattle.command_line.specs.Words.{after, is_numeral, parts_at, number_of}
 
 -- A FIRST BYTE
 after-at : (c : ℕ) (rest : List ℕ) → after c (c ∷ rest) ≡ Some rest
@@ -71,12 +71,12 @@ after_first-at c xs ys h =
     ap (λ (n : ℕ). drop (n + 1) (xs ++ c ∷ ys)) (position_or_len-at c xs ys h)
     ∙ ap (drop (length xs + 1)) (sym (append_assoc xs (c ∷ []) ys)) ∙ drop_at (xs ++ c ∷ []) ys (length xs + 1) (length_push xs c)
 
--- NAME AND VALUE
-pub name_and_value-at : (xs ys : List ℕ) → Lacks 61 xs → name_and_value (xs ++ 61 ∷ ys) ≡ (xs, Some ys)
-name_and_value-at xs ys h = rw (before_first-at 61 xs ys h, list_any-at 61 xs ys, after_first-at 61 xs ys h)
+-- TWO PARTS
+pub parts_at-there : (c : ℕ) (xs ys : List ℕ) → Lacks c xs → parts_at c (xs ++ c ∷ ys) ≡ (xs, Some ys)
+parts_at-there c xs ys h = rw (before_first-at c xs ys h, list_any-at c xs ys, after_first-at c xs ys h)
 
-pub name_and_value-without : (text : List ℕ) → Lacks 61 text → name_and_value text ≡ (text, None)
-name_and_value-without text h = rw (before_first-Lacks 61 text h, list_any-Lacks 61 text h)
+pub parts_at-without : (c : ℕ) (text : List ℕ) → Lacks c text → parts_at c text ≡ (text, None)
+parts_at-without c text h = rw (before_first-Lacks c text h, list_any-Lacks c text h)
 
 -- NUMBERS
 both : (a b : Bool) → (a && b) ≡ true → (a ≡ true) × (b ≡ true)

@@ -1,5 +1,5 @@
 -- Which request the words of a command line are. The words are the arguments after the program's name, each a list of bytes.
-use Rattle.std.specs.Prelude.{ℕ, ◌==◌, ◌+◌, ◌&&◌, ◌||◌, ◌^◌, Bool, true, false, is_some, nat_lt, List, [], ◌∷◌, ◌++◌, length, if◌then◌else◌, Option, Some, None, option_map, option_and_then, unwrap_or, codes}
+use Rattle.std.specs.Prelude.{ℕ, zero, suc, ◌/◌, ◌%◌, min, ◌==◌, ◌+◌, ◌&&◌, ◌||◌, ◌^◌, Bool, true, false, is_some, nat_lt, List, [], ◌∷◌, ◌++◌, length, if◌then◌else◌, Option, Some, None, option_map, option_and_then, unwrap_or, codes}
 use Rattle.std.specs.Option.{option_map_or}
 use Rattle.std.specs.Char.{digit_value}
 use Rattle.std.specs.List.{list_all, list_any, before_first, after_first}
@@ -8,6 +8,7 @@ use Rattle.std.specs.Str.Parse.{digits_value, without_leading_plus}
 use Rattle.graph_file.specs.Fields.{literal_of}
 use Rattle.command_line.specs.declared.Asked.{Asked}
 use Rattle.command_line.specs.declared.Command.{Command}
+use Rattle.command_line.specs.declared.Format.{Format}
 use Rattle.command_line.specs.declared.Mode.{Mode}
 use Rattle.command_line.specs.declared.Request.{Request}
 use Rattle.command_line.specs.declared.RunOptions.{RunOptions}
@@ -16,6 +17,8 @@ use Rattle.command_line.specs.declared.inputs.Inputs.{Inputs}
 use Rattle.command_line.specs.declared.options.Given.{Given}
 use Rattle.command_line.specs.declared.options.OptionName.{OptionName}
 use Rattle.command_line.specs.declared.options.Step.{Step}
+use Rattle.command_line.specs.declared.sizes.Sizes.{Sizes}
+use Rattle.std.specs.Int.Bits.{bit_or}
 
 abbrev pub Text : Type 0
 Text = List ℕ
@@ -31,7 +34,11 @@ command_named word =
     else (if bytes_eq word (codes "upgrade") then Some Command.Upgrade
     else (if bytes_eq word (codes "dot") then Some Command.Dot
     else (if bytes_eq word (codes "exec") then Some Command.Exec
-    else None)))))))
+    else (if bytes_eq word (codes "asm") then Some Command.Asm
+    else (if bytes_eq word (codes "trace") then Some Command.Trace
+    else (if bytes_eq word (codes "profile") then Some Command.Profile
+    else (if bytes_eq word (codes "orders") then Some Command.Orders
+    else None)))))))))))
 
 abbrev pub option_named : Text → Option OptionName
 option_named name =
@@ -40,15 +47,42 @@ option_named name =
     else (if bytes_eq name (codes "steps") then Some OptionName.Steps
     else (if bytes_eq name (codes "mode") then Some OptionName.Mode
     else (if bytes_eq name (codes "code") then Some OptionName.Code
-    else None))))
+    else (if bytes_eq name (codes "last") then Some OptionName.Last
+    else (if bytes_eq name (codes "format") then Some OptionName.Format
+    else (if bytes_eq name (codes "count") then Some OptionName.Count
+    else (if bytes_eq name (codes "seed") then Some OptionName.Seed
+    else (if bytes_eq name (codes "svg") then Some OptionName.Svg
+    else None)))))))))
+
+abbrev pub says_how_to_run : OptionName → Bool
+says_how_to_run OptionName.Elements = true
+says_how_to_run OptionName.Frames = true
+says_how_to_run OptionName.Steps = true
+says_how_to_run OptionName.Mode = true
+says_how_to_run o = false
+
+-- `profile` has a list of numbers of elements
+abbrev pub option_of : Command → OptionName → OptionName
+option_of Command.Profile OptionName.Elements = OptionName.Sizes
+option_of c o = o
 
 abbrev pub takes : Command → OptionName → Bool
-takes Command.Run OptionName.Code = false
-takes Command.Run o = true
+takes Command.Run o = says_how_to_run o
+takes Command.Exec o = says_how_to_run o
+takes Command.Trace OptionName.Last = true
+takes Command.Trace OptionName.Format = true
+takes Command.Trace o = says_how_to_run o
 takes Command.Mean OptionName.Steps = true
 takes Command.Dot OptionName.Code = true
-takes Command.Exec OptionName.Code = false
-takes Command.Exec o = true
+takes Command.Profile OptionName.Sizes = true
+takes Command.Profile OptionName.Frames = true
+takes Command.Profile OptionName.Steps = true
+takes Command.Profile OptionName.Svg = true
+takes Command.Orders OptionName.Elements = true
+takes Command.Orders OptionName.Frames = true
+takes Command.Orders OptionName.Steps = true
+takes Command.Orders OptionName.Count = true
+takes Command.Orders OptionName.Seed = true
 takes c o = false
 
 -- and which command takes inputs
@@ -65,6 +99,10 @@ run_options g = record {
   mode = unwrap_or g.mode (Some Mode.One);
 }
 
+-- 1, 2, 4, 8 and 16 elements
+abbrev pub usual_sizes : Sizes
+usual_sizes = record { bits = 65814 }
+
 -- the request of a command with these options and inputs
 abbrev pub request_of : Command → Given → Inputs → Request
 request_of Command.Run g ins = Request.Run (run_options g)
@@ -75,6 +113,17 @@ request_of Command.Dis g ins = Request.Dis
 request_of Command.Upgrade g ins = Request.Upgrade
 request_of Command.Dot g ins = Request.Dot g.code
 request_of Command.Exec g ins = Request.Exec (run_options g) ins
+request_of Command.Asm g ins = Request.Asm
+request_of Command.Trace g ins = Request.Trace (run_options g) g.last (unwrap_or g.format Format.Lines)
+request_of Command.Profile g ins = Request.Profile (run_options g) (unwrap_or g.sizes usual_sizes) g.svg
+request_of Command.Orders g ins = Request.Orders (run_options g) (unwrap_or g.count 100) (unwrap_or g.seed 1)
+
+-- what stands before the first c, and what stands behind it, if there is one
+abbrev pub parts_at : ℕ → Text → Text × Option Text
+parts_at c text = (
+  before_first (λ x. x == c) text,
+  if list_any (λ x. x == c) text then Some (after_first (λ x. x == c) text) else None,
+)
 
 -- VALUES: a number is one decimal digit or more, below 2 ^ 64; a `+` (43) may stand first
 abbrev pub is_numeral : Text → Bool
@@ -102,12 +151,50 @@ abbrev pub with_mode : Given → Option (Option Mode) → Text → Option Given
 with_mode g (Some before) value = None
 with_mode g None value = Some (record g { mode = Some (mode_named value) })
 
+abbrev pub format_named : Text → Option Format
+format_named word =
+    if bytes_eq word (codes "text") then Some Format.Lines
+    else (if bytes_eq word (codes "chrome") then Some Format.Chrome
+    else None)
+
+abbrev pub first_format : Option Format → Text → Option Format
+first_format (Some before) value = None
+first_format None value = format_named value
+
+-- Numbers of elements as a set: bit n stands for n, and bit 63 for each number above 62.
+abbrev pub with_size : Sizes → ℕ → Sizes
+with_size z n = record { bits = bit_or z.bits (2 ^ min n 63) }
+
+-- whether n, below 64, is among them
+abbrev pub has_size : Sizes → ℕ → Bool
+has_size z n = z.bits / 2 ^ n % 2 == 1
+
+-- one number, or a number, a comma (44) and more
+abbrev pub more_sizes : Sizes → Option Text → (Sizes → Text → Option Sizes) → Option Sizes
+more_sizes z None go = Some z
+more_sizes z (Some text) go = go z text
+
+unfoldable pub sizes_from : Sizes → ℕ → Text → Option Sizes
+sizes_from z zero text = None
+sizes_from z (suc room) text =
+    option_and_then (λ n. more_sizes (with_size z n) (parts_at 44 text).1 (λ y more. sizes_from y room more)) (number_of (parts_at 44 text).0)
+
+abbrev pub first_sizes : Option Sizes → Text → Option Sizes
+first_sizes (Some before) value = None
+first_sizes None value = sizes_from (record { bits = 0 }) 64 value
+
 abbrev pub with_option : Given → OptionName → Text → Option Given
 with_option g OptionName.Elements value = option_map (λ n. record g { elements = Some n }) (first_number g.elements value)
 with_option g OptionName.Frames value = option_map (λ n. record g { frames = Some n }) (first_number g.frames value)
 with_option g OptionName.Steps value = option_map (λ n. record g { steps = Some n }) (first_number g.steps value)
 with_option g OptionName.Mode value = with_mode g g.mode value
+with_option g OptionName.Last value = option_map (λ n. record g { last = Some n }) (first_number g.last value)
+with_option g OptionName.Count value = option_map (λ n. record g { count = Some n }) (first_number g.count value)
+with_option g OptionName.Seed value = option_map (λ n. record g { seed = Some n }) (first_number g.seed value)
+with_option g OptionName.Format value = option_map (λ f. record g { format = Some f }) (first_format g.format value)
+with_option g OptionName.Sizes value = option_map (λ z. record g { sizes = Some z }) (first_sizes g.sizes value)
 with_option g OptionName.Code value = None
+with_option g OptionName.Svg value = None
 
 -- INPUTS: each is written like a literal of a graph's text. They are at most 16, and the first fault stays.
 abbrev pub no_inputs : Inputs
@@ -141,24 +228,18 @@ asks_help word = bytes_eq word (codes "--help") || is_short 104 word
 abbrev pub asks_version : Text → Bool
 asks_version word = bytes_eq word (codes "--version") || is_short 86 word
 
--- NAME, or NAME and VALUE with the first `=` (61) between
-abbrev pub name_and_value : Text → Text × Option Text
-name_and_value text = (
-  before_first (λ x. x == 61) text,
-  if list_any (λ x. x == 61) text then Some (after_first (λ x. x == 61) text) else None,
-)
-
--- `--NAME` or `--NAME=VALUE`
+-- `--NAME`, or `--NAME=VALUE` with the first `=` (61) between
 abbrev pub long_of : Text → Option (Text × Option Text)
-long_of word = option_map name_and_value (option_and_then (after 45) (after 45 word))
+long_of word = option_map (parts_at 61) (option_and_then (after 45) (after 45 word))
 
 -- ONE WORD AFTER A COMMAND, where this was given before it
 abbrev pub valued : Given → OptionName → Text → Step
 valued g o value = option_map_or (λ more. Step.Next more None) (with_option g o value) Step.Mistake
 
--- `code` has no value, and may be given once; each other option waits for the next word
+-- `code` and `svg` have no value, and may be given once; each other option waits for the next word
 abbrev pub without_value : Given → OptionName → Step
 without_value g OptionName.Code = if g.code then Step.Mistake else Step.Next (record g { code = true }) None
+without_value g OptionName.Svg = if g.svg then Step.Mistake else Step.Next (record g { svg = true }) None
 without_value g o = Step.Next g (Some o)
 
 -- the option has its value behind `=`, or none there
@@ -168,7 +249,7 @@ named g o None = without_value g o
 
 abbrev pub option_met : Command → Given → Text → Option Text → Step
 option_met c g name value =
-    option_map_or (λ o. if takes c o then named g o value else Step.Mistake) (option_named name) Step.Mistake
+    option_map_or (λ o. if takes c (option_of c o) then named g (option_of c o) value else Step.Mistake) (option_named name) Step.Mistake
 
 -- a word that is none of `--NAME`
 abbrev pub plain_met : Command → Text → Step
@@ -215,7 +296,19 @@ asked_of c g ins waiting (word ∷ rest) =
     after_step c g ins (word_met c g waiting word) word rest (λ more all waits. asked_of c more all waits rest)
 
 abbrev pub nothing : Given
-nothing = record { elements = None; frames = None; steps = None; mode = None; code = false }
+nothing = record {
+  elements = None;
+  frames = None;
+  steps = None;
+  mode = None;
+  code = false;
+  last = None;
+  format = None;
+  count = None;
+  seed = None;
+  sizes = None;
+  svg = false;
+}
 
 -- ALL WORDS
 -- `help`, `help COMMAND` and `help help`

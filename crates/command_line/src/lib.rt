@@ -6,11 +6,13 @@ ghost use Rattle.command_line.specs.Words.{after_end, asked, asked_of, command_n
 
 mod inputs;
 mod options;
+mod sizes;
 
 pub use inputs::Inputs;
 use options::{
     Given, OptionName, Step, asks_help, asks_version, request_of, takes_inputs, word_met,
 };
+pub use sizes::Sizes;
 use std::convert::AsStr;
 
 /// What is to be done.
@@ -26,12 +28,48 @@ pub enum Request {
     Dis,
     /// Writes the object on standard input as version 2.
     Upgrade,
-    /// Runs the meaning of the graph on standard input, for so many activities at most.
-    Mean { steps: u64 },
+    /// Runs the meaning of the graph on standard input, for at most this number of activities.
+    Mean {
+        steps: u64,
+    },
     /// Draws the graph on standard input, or the code of the object there.
-    Dot { code: bool },
+    Dot {
+        code: bool,
+    },
     /// Runs the object on standard input on these inputs.
-    Exec { options: RunOptions, inputs: Inputs },
+    Exec {
+        options: RunOptions,
+        inputs: Inputs,
+    },
+    /// Writes the object of the listing on standard input.
+    Asm,
+    /// Runs the graph on standard input, and prints its events, or the last ones of them.
+    Trace {
+        options: RunOptions,
+        last: Option<u64>,
+        format: Format,
+    },
+    /// Measures the parallelism of the graph on standard input, with these numbers of elements; or draws it.
+    Profile {
+        options: RunOptions,
+        sizes: Sizes,
+        svg: bool,
+    },
+    /// Runs the graph on standard input so often, each time in a random order.
+    Orders {
+        options: RunOptions,
+        count: u64,
+        seed: u64,
+    },
+}
+
+/// How a trace is written.
+#[derive(Clone, Copy, Debug, PartialEq, Eq)]
+pub enum Format {
+    /// A line for each event.
+    Lines,
+    /// Trace Event JSON, which browsers' tracing pages open.
+    Chrome,
 }
 
 /// How the elements take turns.
@@ -68,6 +106,10 @@ pub enum Command {
     Upgrade,
     Dot,
     Exec,
+    Asm,
+    Trace,
+    Profile,
+    Orders,
 }
 
 /// What help is asked of.
@@ -107,6 +149,14 @@ fn command_named(word: &str) -> Option<Command>
         Some(Command::Dot)
     } else if word == "exec" {
         Some(Command::Exec)
+    } else if word == "asm" {
+        Some(Command::Asm)
+    } else if word == "trace" {
+        Some(Command::Trace)
+    } else if word == "profile" {
+        Some(Command::Profile)
+    } else if word == "orders" {
+        Some(Command::Orders)
     } else {
         None
     }

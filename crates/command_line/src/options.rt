@@ -1,9 +1,9 @@
 //! The options of a command, and what one word after it says.
 
 ghost use Rattle.std.specs.Prelude.{◌≡◌, ◌<◌, option_map};
-ghost use Rattle.command_line.specs.Words.{after, asks_help, asks_version, first_number, flag_met, is_flag, is_short, long_of, mode_named, name_and_value, named, nothing, number_of, option_met, option_named, plain_met, request_of, run_options, takes, takes_inputs, valued, with_option, without_value, word_met};
+ghost use Rattle.command_line.specs.Words.{after, asks_help, asks_version, first_format, first_number, first_sizes, flag_met, format_named, is_flag, is_short, long_of, mode_named, named, nothing, number_of, option_met, option_named, option_of, parts_at, plain_met, request_of, run_options, says_how_to_run, sizes_from, takes, takes_inputs, usual_sizes, valued, with_option, without_value, word_met};
 
-use crate::{Command, Inputs, Mode, Request, RunOptions};
+use crate::{Command, Format, Inputs, Mode, Request, RunOptions, Sizes};
 
 /// The options of all commands.
 #[derive(Clone, Copy, Debug, PartialEq, Eq)]
@@ -14,6 +14,14 @@ pub(crate) enum OptionName {
     Mode,
     /// It has no value.
     Code,
+    Last,
+    Format,
+    Count,
+    Seed,
+    /// A list of numbers of elements.
+    Sizes,
+    /// It has no value.
+    Svg,
 }
 
 /// The options that were given so far.
@@ -25,6 +33,12 @@ pub(crate) struct Given {
     /// Within: `None` where the word is that of no mode.
     pub(crate) mode: Option<Option<Mode>>,
     pub(crate) code: bool,
+    pub(crate) last: Option<u64>,
+    pub(crate) format: Option<Format>,
+    pub(crate) count: Option<u64>,
+    pub(crate) seed: Option<u64>,
+    pub(crate) sizes: Option<Sizes>,
+    pub(crate) svg: bool,
 }
 
 /// What a word after a command says.
@@ -50,6 +64,12 @@ impl Given {
             steps: None,
             mode: None,
             code: false,
+            last: None,
+            format: None,
+            count: None,
+            seed: None,
+            sizes: None,
+            svg: false,
         }
     }
 
@@ -77,8 +97,75 @@ impl Given {
                     ..self
                 }),
             },
-            OptionName::Code => None,
+            OptionName::Last => Some(Given {
+                last: Some(first_number(self.last, value)?),
+                ..self
+            }),
+            OptionName::Count => Some(Given {
+                count: Some(first_number(self.count, value)?),
+                ..self
+            }),
+            OptionName::Seed => Some(Given {
+                seed: Some(first_number(self.seed, value)?),
+                ..self
+            }),
+            OptionName::Format => Some(Given {
+                format: Some(first_format(self.format, value)?),
+                ..self
+            }),
+            OptionName::Sizes => Some(Given {
+                sizes: Some(first_sizes(self.sizes, value)?),
+                ..self
+            }),
+            OptionName::Code | OptionName::Svg => None,
         }
+    }
+}
+
+fn format_named(word: &str) -> Option<Format>
+    ensures { result ≡ format_named word.now }
+{
+    if word == "text" {
+        Some(Format::Lines)
+    } else if word == "chrome" {
+        Some(Format::Chrome)
+    } else {
+        None
+    }
+}
+
+/// The format that the value names, where there was none before.
+fn first_format(before: Option<Format>, value: &str) -> Option<Format>
+    ensures { result ≡ first_format before value.now }
+{
+    match before {
+        Some(_before) => None,
+        None => format_named(value),
+    }
+}
+
+/// These numbers of elements, and those of the list; at most `room` more.
+fn sizes_from(sizes: Sizes, room: u8, list: &str) -> Option<Sizes>
+    ensures { result ≡ sizes_from sizes room list.now }
+{
+    if room == 0 {
+        return None;
+    }
+    let (first, more) = parts_at(',', list);
+    match (number_of(first), more) {
+        (Some(number), Some(more)) => sizes_from(sizes.with(number), room - 1, more),
+        (Some(number), None) => Some(sizes.with(number)),
+        (None, _) => None,
+    }
+}
+
+/// The numbers of elements that the value lists, where there were none before.
+fn first_sizes(before: Option<Sizes>, value: &str) -> Option<Sizes>
+    ensures { result ≡ first_sizes before value.now }
+{
+    match before {
+        Some(_before) => None,
+        None => sizes_from(Sizes::none(), 64, value),
     }
 }
 
@@ -128,18 +215,63 @@ fn option_named(name: &str) -> Option<OptionName>
         Some(OptionName::Mode)
     } else if name == "code" {
         Some(OptionName::Code)
+    } else if name == "last" {
+        Some(OptionName::Last)
+    } else if name == "format" {
+        Some(OptionName::Format)
+    } else if name == "count" {
+        Some(OptionName::Count)
+    } else if name == "seed" {
+        Some(OptionName::Seed)
+    } else if name == "svg" {
+        Some(OptionName::Svg)
     } else {
         None
+    }
+}
+
+/// Whether the option is one of those of `run`.
+fn says_how_to_run(option: OptionName) -> bool
+    ensures { result ≡ says_how_to_run option }
+{
+    matches!(
+        option,
+        OptionName::Elements | OptionName::Frames | OptionName::Steps | OptionName::Mode
+    )
+}
+
+/// `profile` has a list of numbers of elements.
+fn option_of(command: Command, option: OptionName) -> OptionName
+    ensures { result ≡ option_of command option }
+{
+    match (command, option) {
+        (Command::Profile, OptionName::Elements) => OptionName::Sizes,
+        _ => option,
     }
 }
 
 fn takes(command: Command, option: OptionName) -> bool
     ensures { result ≡ takes command option }
 {
-    match (command, option) {
-        (Command::Run | Command::Exec, OptionName::Code) => false,
-        (Command::Run | Command::Exec, _) => true,
-        (Command::Mean, OptionName::Steps) | (Command::Dot, OptionName::Code) => true,
+    match command {
+        Command::Run | Command::Exec => says_how_to_run(option),
+        Command::Trace => {
+            says_how_to_run(option) || matches!(option, OptionName::Last | OptionName::Format)
+        }
+        Command::Mean => option == OptionName::Steps,
+        Command::Dot => option == OptionName::Code,
+        Command::Profile => matches!(
+            option,
+            OptionName::Sizes | OptionName::Frames | OptionName::Steps | OptionName::Svg
+        ),
+        Command::Orders => matches!(
+            option,
+            OptionName::Elements
+                | OptionName::Frames
+                | OptionName::Steps
+                | OptionName::Count
+                | OptionName::Seed
+        ),
         _ => false,
     }
 }
@@ -179,6 +311,22 @@ pub(crate) fn request_of(command: Command, given: Given, inputs: Inputs) -> Requ
         Command::Exec => Request::Exec {
             options: run_options(given),
             inputs,
+        },
+        Command::Asm => Request::Asm,
+        Command::Trace => Request::Trace {
+            options: run_options(given),
+            last: given.last,
+            format: given.format.unwrap_or(Format::Lines),
+        },
+        Command::Profile => Request::Profile {
+            options: run_options(given),
+            sizes: given.sizes.unwrap_or(Sizes::usual()),
+            svg: given.svg,
+        },
+        Command::Orders => Request::Orders {
+            options: run_options(given),
+            count: given.count.unwrap_or(100),
+            seed: given.seed.unwrap_or(1),
         },
     }
 }
@@ -224,12 +372,13 @@ pub(crate) fn asks_version(word: &str) -> bool
     word == "--version" || is_short('V', word)
 }
 
-/// What stands before the first `=`, and what stands after it if there is one.
-fn name_and_value(text: &str) -> (&str, Option<&str>)
-    ensures { (result.0.now, option_map (λ s. s.now) result.1) ≡ name_and_value text.now }
+/// What stands before the first separator, and what stands after it if there is one.
+fn parts_at(separator: char, text: &str) -> (&str, Option<&str>)
+    requires { separator < 128 }
+    ensures { (result.0.now, option_map (λ s. s.now) result.1) ≡ parts_at separator text.now }
 {
-    match text.split_once('=') {
-        Some((name, value)) => (name, Some(value)),
+    match text.split_once(separator) {
+        Some((first, rest)) => (first, Some(rest)),
         None => (text, None),
     }
 }
@@ -239,7 +388,7 @@ fn long_of(word: &str) -> Option<(&str, Option<&str>)>
     ensures { option_map (λ p. (p.0.now, option_map (λ s. s.now) p.1)) result ≡ long_of word.now }
 {
     let rest = after(after(word, '-')?, '-')?;
-    Some(name_and_value(rest))
+    Some(parts_at('=', rest))
 }
 
 fn valued(given: Given, option: OptionName, value: &str) -> Step
@@ -264,6 +413,8 @@ fn without_value(given: Given, option: OptionName) -> Step
             },
             None,
         ),
+        OptionName::Svg if given.svg => Step::Mistake,
+        OptionName::Svg => Step::Next(Given { svg: true, ..given }, None),
         option => Step::Next(given, Some(option)),
     }
 }
@@ -281,7 +432,9 @@ fn option_met(command: Command, given: Given, name: &str, value: Option<&str>) -
     ensures { result ≡ option_met command given name.now (option_map (λ s. s.now) value.entry) }
 {
     match option_named(name) {
-        Some(option) if takes(command, option) => named(given, option, value),
+        Some(option) if takes(command, option_of(command, option)) => {
+            named(given, option_of(command, option), value)
+        }
         _ => Step::Mistake,
     }
 }

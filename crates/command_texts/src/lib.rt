@@ -1,10 +1,12 @@
 //! The texts of the command line: its help, and what is wrong with it.
 //!
-//! `clap` makes them. What a command line asks for is decided by `command_line` alone, whose reader is proved; these functions
-//! are called only where that is help or a mistake. So all that is believed of `clap` is which bytes such a text
-//! has. Where it has none, because it would read the words otherwise, the answer is `None` (`test_words` finds no such words).
+//! `clap` makes these texts. What a command line asks for is decided by `command_line` alone, whose reader is proved; the
+//! functions here are called only where a command line asks for help or is a mistake. So all that is believed of `clap` is
+//! which bytes such a text has. Where `clap` has no text, because it would read the words in another way, the answer is `None`
+//! (`test_words` finds no such words).
 #![tactic(auto)]
 
+use clap::builder::ValueParser;
 use clap::error::ErrorKind;
 use clap::{Arg, ArgAction, Command, value_parser};
 use command_line::Topic;
@@ -14,7 +16,10 @@ use std::convert::AsStr;
 /// The version of the program, as in `command_line::version_line`.
 const VERSION: &str = "0.1.0";
 
-/// What the help of the program ends with.
+/// The formats in which a trace may be written.
+const FORMATS: [&str; 2] = ["text", "chrome"];
+
+/// The end of the program's help.
 const AFTER: &str = "\
 Examples, in a clone of the project:
   ets run < examples/add.ets                      runs a graph on the inputs behind it
@@ -28,6 +33,11 @@ Examples, in a clone of the project:
   ets dot --code < object | dot -Tsvg > code.svg  draws the code
   ets upgrade < object > object2                  makes version 2 of it
   ets exec 2 3 < object                           runs the object on the inputs 2 and 3
+  ets dis < object > listing                      keeps the listing, to be changed by hand
+  ets asm < listing > object                      makes an object of a listing
+  ets trace --last 20 < examples/factorial.ets    prints the last 20 events of a run
+  ets profile < examples/fibonacci.ets            measures how much parallelism there is
+  ets orders < examples/fibonacci.ets             runs a graph in 100 random orders
 
 Graphs, inputs, reports, objects and all refusals: docs/FORMATS.md. Graphs to try: examples/README.md.
 
@@ -35,7 +45,7 @@ Exit status: 0 done, or a run that ended at rest; 1 a refusal, a mistake in the 
   2 a run that starved; 3 a cell that was filled twice; 4 out of steps; 5 stuck; 6 out of memory in a run.
 After a refusal, and after an end that is not at rest, a hint stands on standard error.";
 
-/// What the help of a command ends with.
+/// The end of the help of `ets run`.
 const AFTER_RUN: &str = "\
 Example: ets run --elements 4 --frames 64 < examples/factorial.ets
 The report, the ends of a run and their exit statuses: docs/FORMATS.md, \"Report of `ets run`\".";
@@ -70,6 +80,25 @@ Examples: ets exec 2 3 < examples/add.etsobject
           ets exec --elements 4 -- -7 3 < examples/add.etsobject
 What it prints, and its exit statuses: docs/FORMATS.md, \"`ets exec`\".";
 
+const AFTER_ASM: &str = "\
+Example: ets dis < examples/add.etsobject | ets asm > object
+How a listing is written: docs/FORMATS.md, \"Assembling: `ets asm`\".";
+
+const AFTER_TRACE: &str = "\
+Examples: ets trace < examples/add.ets
+          ets trace --elements 4 --format chrome < examples/fibonacci.ets > trace.json
+The lines, and the JSON, which Perfetto and browsers' tracing pages open: docs/FORMATS.md, \"Trace\".";
+
+const AFTER_PROFILE: &str = "\
+Examples: ets profile < examples/fibonacci.ets
+          ets profile --svg < examples/fibonacci.ets > fibonacci.svg
+What is measured: docs/FORMATS.md, \"Profile\".";
+
+const AFTER_ORDERS: &str = "\
+Example: ets orders --elements 3 --count 1000 --seed 7 < examples/fibonacci.ets
+It prints `orders N same` and the report that all orders have, or the first order with another report than order 1 has,
+status 1: docs/FORMATS.md, \"Orders\".";
+
 fn number<'a>(alloc: Global, name: &'a str, default: &'a str, help: &'a str) -> Arg<'a> {
     Arg::new(alloc, name)
         .long(name)
@@ -79,7 +108,24 @@ fn number<'a>(alloc: Global, name: &'a str, default: &'a str, help: &'a str) -> 
         .help(help)
 }
 
-/// The command with the options that say how to run.
+fn elements<'a>(alloc: Global) -> Arg<'a> {
+    number(alloc, "elements", "1", "processing elements, 1 to 16")
+}
+
+fn frames<'a>(alloc: Global) -> Arg<'a> {
+    number(alloc, "frames", "256", "frames for each element, 1 to 1024")
+}
+
+fn steps<'a>(alloc: Global) -> Arg<'a> {
+    number(
+        alloc,
+        "steps",
+        "1000000",
+        "steps that each element may make",
+    )
+}
+
+/// Adds the options that say how to run.
 fn with_run_options<'a>(alloc: Global, command: Command<'a>) -> Result<Command<'a>, AllocError> {
     let mode = Arg::new(alloc, "mode")
         .long("mode")
@@ -89,14 +135,9 @@ fn with_run_options<'a>(alloc: Global, command: Command<'a>) -> Result<Command<'
             "one: the elements take their oldest tokens in turn; rounds: each takes up to 64 in a thread of its own; free: each runs in a thread of its own, without waiting for others",
         );
     command
-        .arg(number(alloc, "elements", "1", "processing elements, 1 to 16"))?
-        .arg(number(alloc, "frames", "256", "frames for each element, 1 to 1024"))?
-        .arg(number(
-            alloc,
-            "steps",
-            "1000000",
-            "steps that each element may make",
-        ))?
+        .arg(elements(alloc))?
+        .arg(frames(alloc))?
+        .arg(steps(alloc))?
         .arg(mode)
 }
 
@@ -138,7 +179,62 @@ fn dot_command<'a>(alloc: Global) -> Result<Command<'a>, AllocError> {
         .arg(code)
 }
 
-/// The command line as `clap` would read it.
+fn trace_command<'a>(alloc: Global) -> Result<Command<'a>, AllocError> {
+    let last = Arg::new(alloc, "last")
+        .long("last")
+        .value_name("N")
+        .value_parser(value_parser!(u64))
+        .help("only so many events, the last ones of the run");
+    let format = Arg::new(alloc, "format")
+        .long("format")
+        .value_name("FORMAT")
+        .value_parser(ValueParser::Names(&FORMATS))
+        .default_value("text")
+        .help("text: a line for each event, then the report; chrome: Trace Event JSON");
+    let command = Command::new(alloc, "trace")
+        .about("Runs a graph and prints its events: its text on standard input, then its inputs")
+        .after_help(AFTER_TRACE)
+        .arg(last)?
+        .arg(format)?;
+    with_run_options(alloc, command)
+}
+
+fn profile_command<'a>(alloc: Global) -> Result<Command<'a>, AllocError> {
+    let sizes = Arg::new(alloc, "elements")
+        .long("elements")
+        .value_name("N,..")
+        .value_parser(value_parser!(u64))
+        .value_delimiter(',')
+        .num_args(1)
+        .default_value("1,2,4,8,16")
+        .help("the numbers of processing elements to be measured, each 1 to 16");
+    let svg = Arg::new(alloc, "svg")
+        .long("svg")
+        .action(ArgAction::SetTrue)
+        .help("a picture in place of lines");
+    Command::new(alloc, "profile")
+        .about("Measures the parallelism of a graph: its text on standard input, then its inputs")
+        .after_help(AFTER_PROFILE)
+        .arg(sizes)?
+        .arg(frames(alloc))?
+        .arg(steps(alloc))?
+        .arg(svg)
+}
+
+fn orders_command<'a>(alloc: Global) -> Result<Command<'a>, AllocError> {
+    Command::new(alloc, "orders")
+        .about(
+            "Runs a graph in random orders of its tokens: its text on standard input, then its inputs",
+        )
+        .after_help(AFTER_ORDERS)
+        .arg(elements(alloc))?
+        .arg(frames(alloc))?
+        .arg(steps(alloc))?
+        .arg(number(alloc, "count", "100", "how many orders"))?
+        .arg(number(alloc, "seed", "1", "which orders"))
+}
+
+/// The command line as `clap` reads it.
 pub fn program_command<'a>(alloc: Global) -> Result<Command<'a>, AllocError> {
     let check = Command::new(alloc, "check")
         .about("Says whether standard input has a good graph")
@@ -152,6 +248,9 @@ pub fn program_command<'a>(alloc: Global) -> Result<Command<'a>, AllocError> {
     let upgrade = Command::new(alloc, "upgrade")
         .about("Writes the object on standard input as version 2 of the object file")
         .after_help(AFTER_UPGRADE);
+    let asm = Command::new(alloc, "asm")
+        .about("Writes the object of the listing on standard input")
+        .after_help(AFTER_ASM);
     Command::new(alloc, "ets")
         .about("Compiles dataflow graphs for an explicit token store machine and runs them")
         .after_help(AFTER)
@@ -160,14 +259,19 @@ pub fn program_command<'a>(alloc: Global) -> Result<Command<'a>, AllocError> {
         .subcommand(check)?
         .subcommand(compile)?
         .subcommand(dis)?
+        .subcommand(asm)?
         .subcommand(upgrade)?
         .subcommand(dot_command(alloc)?)?
         .subcommand(exec_command(alloc)?)?
         .subcommand(mean_command(alloc)?)?
-        .subcommand(run_command(alloc)?)
+        .subcommand(run_command(alloc)?)?
+        .subcommand(trace_command(alloc)?)?
+        .subcommand(profile_command(alloc)?)?
+        .subcommand(orders_command(alloc)?)
 }
 
-/// The text that `clap` has in place of a reading of the words, if it takes them for a mistake, or for none, as is said.
+/// The text that `clap` gives instead of a reading of the words, if it takes them for a mistake exactly where `is_mistake`
+/// is true.
 fn text_of<S: AsStr>(
     alloc: Global,
     words: &[S],
@@ -193,10 +297,14 @@ fn name_of(command: command_line::Command) -> &'static str {
         command_line::Command::Upgrade => "upgrade",
         command_line::Command::Dot => "dot",
         command_line::Command::Exec => "exec",
+        command_line::Command::Asm => "asm",
+        command_line::Command::Trace => "trace",
+        command_line::Command::Profile => "profile",
+        command_line::Command::Orders => "orders",
     }
 }
 
-/// The words that ask for help of the topic.
+/// The words that ask for help on the topic.
 fn words_of<'a>(alloc: Global, program: &'a str, topic: Topic) -> Result<Vec<&'a str>, AllocError> {
     let mut words = Vec::new(alloc);
     words.push(program)?;
@@ -209,13 +317,13 @@ fn words_of<'a>(alloc: Global, program: &'a str, topic: Topic) -> Result<Vec<&'a
     Ok(words)
 }
 
-/// The help text of the topic.
+/// The help text on the topic.
 pub fn help_text(alloc: Global, program: &str, topic: Topic) -> Result<Option<String>, AllocError> {
     let words = words_of(alloc, program, topic)?;
     text_of(alloc, words.as_slice(), false)
 }
 
-/// What is wrong with the words, of which the program's name is the first.
+/// What is wrong with the words. The first of them is the program's name.
 pub fn mistake_text<S: AsStr>(alloc: Global, words: &[S]) -> Result<Option<String>, AllocError> {
     text_of(alloc, words, true)
 }

@@ -1,1 +1,4 @@
 pub mod Places
+pub mod Ascends
+pub mod Numbers
+pub mod Used

@@ -6,13 +6,14 @@ ghost use Rattle.object_view.specs.Fields.{version_number};
 ghost use Rattle.object_view.specs.Reading.{shown};
 ghost use Rattle.disassembler.specs.Places.{IsBlockAt};
 ghost use Rattle.sink.specs.Sends.{Sends};
-ghost use Rattle.disassembler.specs.Listing.{instr_line, block_line, block_lines, array_line, head_line, listing};
+ghost use Rattle.disassembler.specs.Listing.{instr_line, block_line, block_lines, array_line, literal_line, literal_lines, is_told, head_line, program_lines, listing};
 ghost use Rattle.sink.specs.Numbered.{numbered};
 
 use crate::line::list_instr;
+use crate::literals::is_told;
 use itoa::Buffer;
 use object_view::{BlockView, CodeInstr, Object, Version};
-use sink::send_all;
+use sink::{send, send_all};
 use std::io::{self, Write};
 
 fn version_number(version: Version) -> u32
@@ -140,12 +141,55 @@ fn list_blocks<W: Write>(writer: &mut W, object: &Object<'_>) -> io::Result<()>
     Ok(())
 }
 
-/// Writes the listing of an object. The writer is called until it has taken all of it; a call that takes no byte is a
-/// fault. After an `Err` a beginning of the listing was written. Takes no memory.
-pub fn list<W: Write>(object: &Object<'_>, writer: &mut W) -> io::Result<()>
-    ensures { Sends result (W.contents writer.old) (W.contents writer.new) (listing object.now.version object.now.code.program) }
+/// The line of a literal.
+fn list_literal<W: Write>(writer: &mut W, number: u32, literal: i64) -> io::Result<()>
+    ensures { Sends result (W.contents writer.old) (W.contents writer.new) (literal_line number literal) }
+{
+    let mut first = Buffer::new();
+    let mut second = Buffer::new();
+    let number = first.format(number).as_bytes();
+    let literal = second.format(literal).as_bytes();
+    send_all(writer, &[b"literal ", number, b" ", literal, b"\n"])
+}
+
+/// The lines of the table of literals.
+fn list_table<W: Write>(writer: &mut W, object: &Object<'_>) -> io::Result<()>
+    ensures { Sends result (W.contents writer.old) (W.contents writer.new) (numbered literal_line 0 object.now.code.literals) }
+{
+    for number in 0..object.literal_count() {
+        let Some(literal) = object.literal(number) else {
+            return Ok(());
+        };
+        list_literal(writer, number, literal)?;
+    }
+    Ok(())
+}
+
+/// The lines of the table of literals, where the instructions do not tell it.
+fn list_literals<W: Write>(writer: &mut W, object: &Object<'_>) -> io::Result<()>
+    ensures { Sends result (W.contents writer.old) (W.contents writer.new) (literal_lines (is_told object.now.code) object.now.code.literals) }
+{
+    if is_told(object) {
+        send(writer, b"")
+    } else {
+        list_table(writer, object)
+    }
+}
+
+/// The lines up to the table of literals.
+fn list_program<W: Write>(writer: &mut W, object: &Object<'_>) -> io::Result<()>
+    ensures { Sends result (W.contents writer.old) (W.contents writer.new) (program_lines object.now.version object.now.code.program) }
 {
     list_head(writer, object)?;
     list_blocks(writer, object)?;
     list_arrays(writer, object)
+}
+
+/// Writes the listing of an object. The writer is called until it has taken all of it; a call that takes no byte is a
+/// fault. After an `Err` a beginning of the listing was written. Takes no memory.
+pub fn list<W: Write>(object: &Object<'_>, writer: &mut W) -> io::Result<()>
+    ensures { Sends result (W.contents writer.old) (W.contents writer.new) (listing object.now.version object.now.code) }
+{
+    list_program(writer, object)?;
+    list_literals(writer, object)
 }

@@ -29,7 +29,7 @@ side_sign false = codes "-"
 abbrev pub arm_opens : ℕ → ℕ → Bool → List ℕ
 arm_opens b k side = codes "subgraph cluster_b" ++ decimal b ++ side_letter side ++ decimal k ++ codes " { style=dotted label=\"" ++ decimal k ++ side_sign side ++ codes "\" "
 
--- so many conditionals at most are around a node
+-- the boxes that begin around a node: `depth` conditionals at most
 abbrev pub opens : ℕ → ℕ → Block (List ℕ) → Region → List ℕ
 opens depth b block Root = []
 opens zero b block (Arm k side) = []
@@ -54,7 +54,7 @@ abbrev pub edge : ℕ → ℕ → List ℕ → ℕ → Source → List ℕ
 edge b n style k s = codes "b" ++ decimal b ++ codes "n" ++ decimal s.node ++ codes " -> b" ++ decimal b ++ codes "n" ++ decimal n
     ++ codes " [taillabel=\"" ++ decimal s.port ++ codes "\" headlabel=\"" ++ decimal k ++ codes "\"" ++ style ++ codes "]\n"
 
--- a node's box within those of its arms, of which there are at most so many
+-- a node's box within those of its arms, of which there are at most `depth`
 abbrev pub node_place : ℕ → ℕ → Block (List ℕ) → Region → ℕ → Kind (List ℕ) → List ℕ
 node_place depth b block region n kind = opens depth b block region ++ node_box b n kind ++ closes depth block region ++ codes "\n"
 

@@ -2,9 +2,8 @@ pub mod Waiting
 pub mod Truth
 pub mod Outputs
 pub mod GraphObjects
-pub mod InputLines
 pub mod ObjectRuns
 pub mod TextObjects
 pub mod OpenedObjects
 pub mod Joined
-pub mod Served
+pub mod Watched

@@ -12,7 +12,7 @@ use Rattle.select.specs.declared.Version.{Version}
 use Rattle.select.specs.Emitted.{version_number, code_of}
 use Rattle.select.specs.Literals.{table_of, too_far}
 use Rattle.schedule.specs.Setting.{inputs_of as inputs_in_code}
-use Rattle.composition.specs.Graphs.{plan_of}
+use Rattle.law_composition.specs.Graphs.{plan_of}
 use Rattle.driver.specs.declared.fault.Fault.{Fault}
 
 -- how many outputs main has
@@ -40,7 +40,7 @@ pub record IsCodeFor (g : Graph) (code : Code) : Type 0 where
   pub bounds : HasBounds (flow_of g) code.program
   pub promises : KeepsPromises g slots version
 
--- the bytes are the one object of that code
+-- the bytes are the only object of that code
 pub record IsObjectOf (g : Graph) (bytes : List ℕ) : Type 0 where
   pub code : Code
   pub made : IsCodeFor g code

@@ -1,4 +1,4 @@
--- What is written of bytes that should be an object: its listing, its picture, or the same code as version 2.
+-- What is written for bytes that should be an object: its listing, its picture, or the same code as version 2.
 use Rattle.std.specs.Prelude.{◌≡◌, ◌++◌, ℕ, List, Option, Some, None, Result, Ok, Err, ⊤}
 use Rattle.std.specs.Io.KnownBytes.{Appends}
 use Rattle.object_view.specs.Reading.{opened}
@@ -17,15 +17,16 @@ pub record IsOpened (bytes : List ℕ) : Type 0 where
   pub object : IsObject bytes (opened bytes).version (opened bytes).code
   pub only : (v : ℕ) (c : Code) → IsObject bytes v c → ((opened bytes).version ≡ v) × ((opened bytes).code ≡ c)
 
--- no code has the bytes, and this is their first fault
+-- the bytes are an object of no code, and this is their first fault
 pub record IsUnopened (bytes : List ℕ) (fault : ObjectFault) : Type 0 where
   pub first : first_refusal bytes ≡ Some fault
   pub none : (v : ℕ) (c : Code) → IsObject bytes v c → ⊥
 
 abbrev pub listing_of : List ℕ → List ℕ
-listing_of bytes = listing (opened bytes).version (opened bytes).code.program
+listing_of bytes = listing (opened bytes).version (opened bytes).code
 
--- This text of an object; of other bytes nothing, and the first fault; after a failed write a beginning of it.
+-- For an object this text is written. For other bytes nothing is, and the first fault is given. After a failed write a
+-- beginning of the text was written.
 abbrev pub Writes : (List ℕ → List ℕ) → Result ⊤ ObjectRefusal → Option (List ℕ) → Option (List ℕ) → List ℕ → Type 0
 Writes text (Ok x) old new bytes = IsOpened bytes × Appends old new (text bytes)
 Writes text (Err (Object fault)) old new bytes = IsUnopened bytes fault × (new ≡ old)

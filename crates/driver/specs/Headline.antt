@@ -1,4 +1,4 @@
--- THE HEADLINE: what a report promises about the graph that a text has.
+-- THE HEADLINE: what a report promises about a text's graph.
 use Rattle.std.specs.Prelude.{◌≡◌, ◌↔◌, ℕ, ◌+◌, ◌*◌, ◌<◌, ◌≤◌, Bool, true, false, ℤ, List, length, sum, Option, Some, slice_get, Contains}
 use Rattle.tags.specs.declared.value.Value.{Value}
 use Rattle.semantics.specs.declared.report.End.TheVariants.{Rest, Clash, Stuck}
@@ -19,12 +19,12 @@ use Rattle.driver.specs.Compiled.{IsCodeFor}
 use Rattle.driver.specs.Orders.{size_of, FollowsTurns, FollowsList}
 use Rattle.driver.specs.Objects.{Quietly}
 
--- The report's outputs and full cells are just those of a memory of the meaning.
+-- The report has exactly the outputs and the full cells of a memory of the meaning.
 pub record ShowsMemory (r : Report) (m : Meaning.Memory) : Type 0 where
   pub outputs : (j : ℕ) (v : Option Value) → slice_get r.outputs j ≡ Some v → v ≡ m.outputs j
   pub cells : (x : ℕ) (v : Value) → Contains r.cells (x, v) ↔ (m.cells x ≡ Some v)
 
--- the fetches that wait for a cell that nothing filled
+-- how many fetches wait for a cell that nothing has filled
 abbrev pub waiting_fetches : Flow → State → ℕ
 waiting_fetches fl s = sum_below (sum fl.arrays) (λ x. fetch_count fl x s.tokens)
 
@@ -51,7 +51,7 @@ pub record IsBoundedByMeaning (fl : Flow) (inputs : List ℤ) (p : Program) (r :
   pub called_for : AllDue fl run (Stood fl (Meaning.start inputs) run state is_run) contexts
   pub events : length r.events ≤ 6 * (largest p.blocks + 1) * (1 + length contexts)
 
--- What a report of a run of faithful code tells of the meaning.
+-- What the report of a run of faithful code tells of the meaning.
 pub record TellsMeaning (fl : Flow) (inputs : List ℤ) (p : Program) (r : Report) : Type 0 where
   pub faithful : Faithful fl p
   -- whatever its end, its outputs and cells are those of a state that the meaning reaches

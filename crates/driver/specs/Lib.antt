@@ -4,8 +4,5 @@ pub mod Objects
 pub mod Compiled
 pub mod Written
 pub mod Refused
-pub mod Input
-pub mod Status
 pub mod Disassembled
-pub mod Refusals
-pub mod Served
+pub mod Listed

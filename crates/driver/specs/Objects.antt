@@ -15,7 +15,7 @@ pub record ShowsObject (bytes : List ℕ) (inputs : List ℤ) (c : Config) (list
   pub version : ℕ
   pub code : Code
   pub object : IsObject bytes version code
-  -- and of no other code
+  -- the bytes are an object of no other code
   pub only : (v : ℕ) (c : Code) → IsObject bytes v c → code ≡ c
   pub inputs_fit : length inputs ≡ inputs_in_code code.program
   -- the configuration is one that the machine takes
@@ -23,7 +23,7 @@ pub record ShowsObject (bytes : List ℕ) (inputs : List ℤ) (c : Config) (list
   pub some_frame : 0 < c.frames
   pub shows : Shows code.program (size_of c) inputs c.steps listed may_stop r
 
--- The order of the run of the object's code is as that says.
+-- The run of the object's code has the order that `Ordered` asks for.
 pub record RunsObject (bytes : List ℕ) (inputs : List ℤ) (c : Config) (Ordered : Program → Config → List ℤ → Report → Type 0) (r : Report) : Type 0 where
   pub version : ℕ
   pub code : Code

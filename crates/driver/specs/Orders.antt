@@ -1,4 +1,4 @@
--- In which order the steps of a run are made.
+-- In which order the steps of a run are taken.
 use Rattle.std.specs.Prelude.{◌≡◌, ℕ, Bool, true, false, ℤ, List}
 use Rattle.semantics.specs.Program.{Program}
 use Rattle.semantics.specs.Machine.{Size, Events}
@@ -31,6 +31,6 @@ pub record Follows (p : Program) (c : Config) (inputs : List ℤ) (listed : Bool
 abbrev pub FollowsTurns : Program → Config → List ℤ → Report → Type 0
 FollowsTurns p c inputs r = (rounds : ℕ) × Follows p c inputs false (rounds_of rounds c.elements) r
 
--- they go by this list
+-- the steps are taken in the order of this list
 abbrev pub FollowsList : List (ℕ × ℕ) → Program → Config → List ℤ → Report → Type 0
 FollowsList picks p c inputs r = Follows p c inputs true picks r

@@ -19,17 +19,17 @@ use Rattle.oracle.specs.Running.{main_place}
 use Rattle.driver.specs.Compiled.{IsObjectOf, IsTooLarge}
 use Rattle.driver.specs.declared.fault.Fault.{Fault}
 
--- the graph that a text has, and well formed
+-- `g` is the graph of the text, and it is well formed
 pub record IsGoodText (text : List ℕ) (g : Graph) : Type 0 where
   pub is_text : IsText text g
   pub well_formed : WellFormed g
 
--- the bytes are the object of the graph that the text has
+-- the bytes are the object of the text's graph
 pub record IsCompiled (text : List ℕ) (g : Graph) (bytes : List ℕ) : Type 0 where
   pub good : IsGoodText text g
   pub object : IsObjectOf g bytes
 
--- a run of it can start
+-- a run of the text's graph can start
 pub record IsReady (text : List ℕ) (inputs : List ℤ) (config : Config) : Type 0 where
   pub graph : Graph
   pub bytes : List ℕ
@@ -38,7 +38,7 @@ pub record IsReady (text : List ℕ) (inputs : List ℤ) (config : Config) : Typ
   pub some_frame : 0 < config.frames
   pub good : IsGood config
 
--- and a run of an object
+-- a run of the object can start
 pub record IsReadyObject (bytes : List ℕ) (inputs : List ℤ) (config : Config) : Type 0 where
   pub version : ℕ
   pub code : Code
@@ -47,38 +47,38 @@ pub record IsReadyObject (bytes : List ℕ) (inputs : List ℤ) (config : Config
   pub some_frame : 0 < config.frames
   pub good : IsGood config
 
--- The cause why a text has no well-formed graph: it has no graph at all, or one that is not well formed. Memory is answered only
--- where a growth was refused.
+-- Why a text has no well-formed graph: it has no graph at all, or one that is not well formed. Memory is answered only where a
+-- growth was refused.
 abbrev pub IsBadText : List ℕ → Fault → Type 0
 IsBadText text (Fault.Read f) = (text_from text ≡ Err f) × (f.kind ≢ ReadFaultKind.Memory) × ((g : Graph) → IsText text g → ⊥)
 IsBadText text (Fault.Check f) = (g : Graph) × IsText text g × (first_fault g ≡ Some f) × (f.kind ≢ CheckFaultKind.Memory) × (WellFormed g → ⊥)
 IsBadText text Fault.Memory = ⊤
 IsBadText text fault = ⊥
 
--- and why it has no object
+-- why a text has no object
 abbrev pub IsRefusedText : List ℕ → Fault → Type 0
 IsRefusedText text (Fault.TooManySlots b) = (g : Graph) × IsGoodText text g × IsTooLarge g (Fault.TooManySlots b)
 IsRefusedText text (Fault.TooFar b) = (g : Graph) × IsGoodText text g × IsTooLarge g (Fault.TooFar b)
 IsRefusedText text fault = IsBadText text fault
 
--- and why its meaning is not run: main has another number of inputs
+-- why the meaning of a text's graph is not run: main has another number of inputs
 abbrev pub IsRefusedMeaning : List ℕ → List ℤ → Fault → Type 0
 IsRefusedMeaning text inputs (Fault.Start StartFault.WrongInputs) = (g : Graph) × IsGoodText text g × (length inputs ≢ inputs_at g (main_place g))
 IsRefusedMeaning text inputs fault = IsBadText text fault
 
--- what a machine that does not start is told as
+-- the fault that is told of a machine that does not start
 abbrev pub refusal_of : StartFault → Fault
 refusal_of StartFault.WrongInputs = Fault.Start StartFault.WrongInputs
 refusal_of StartFault.NoFrames = Fault.Start StartFault.NoFrames
 refusal_of StartFault.BadConfig = Fault.Start StartFault.BadConfig
 refusal_of StartFault.Memory = Fault.Memory
 
--- and of a run's: the first cause why it cannot start
+-- why a run of a text's graph cannot start: the first cause
 abbrev pub IsRefused : List ℕ → List ℤ → Config → Fault → Type 0
 IsRefused text inputs config (Fault.Start f) = (g : Graph) × (bytes : List ℕ) × (c : IsCompiled text g bytes) × IsCause c.object.code.program config inputs f × (f ≢ StartFault.Memory)
 IsRefused text inputs config fault = IsRefusedText text fault
 
--- and of an object's
+-- why a run of an object cannot start
 abbrev pub IsRefusedObject : List ℕ → List ℤ → Config → Fault → Type 0
 IsRefusedObject bytes inputs config (Fault.Object f) = (first_refusal bytes ≡ Some f) × ((v : ℕ) (c : Code) → IsObject bytes v c → ⊥)
 IsRefusedObject bytes inputs config (Fault.Start f) =

@@ -1,12 +1,12 @@
-//! The compiler, pass by pass: text to graph, graph to plan, plan to plan with trees of copies, to slots, to code, to the
-//! bytes of an object.
+//! The compiler, pass by pass. The text becomes a graph, the graph a plan, the plan a plan with trees of copies; then slots are
+//! assigned, and code and the bytes of an object are made.
 
 ghost use Rattle.std.specs.Prelude.{◌≡◌, IfOk, MatchResult};
 ghost use Rattle.semantics.specs.Text.{HasText, IsText};
 ghost use Rattle.semantics.specs.WellFormed.{WellFormed};
 ghost use Rattle.select.specs.Emitted.{version_number as emitted_number};
 ghost use Rattle.object_view.specs.Fields.{version_number as written_number};
-ghost use Rattle.composition.specs.Graphs.{plan_of};
+ghost use Rattle.law_composition.specs.Graphs.{plan_of};
 ghost use Rattle.driver.specs.Compiled.{IsCodeFor, IsTooLarge};
 ghost use Rattle.driver.specs.Refused.{IsGoodText, IsCompiled, IsBadText, IsRefusedText};
 ghost use Rattle.driver.specs.Written.{WritesObject};
@@ -33,7 +33,7 @@ pub struct Compiled<'a, A: Allocator> {
     pub object: Vec<u8, A>,
 }
 
-/// The graph that the text has.
+/// Reads the graph of the text.
 fn read_text<'a, A: Allocator + Clone>(alloc: A, text: &'a [u8]) -> Result<Graph<'a, A>, Fault>
     ensures { MatchResult result (IsText text.now) (IsBadText text.now) }
 {
@@ -49,7 +49,7 @@ fn read_text<'a, A: Allocator + Clone>(alloc: A, text: &'a [u8]) -> Result<Graph
     }
 }
 
-/// The graph that the text has, if it is well formed.
+/// Reads the graph of the text, and checks that it is well formed.
 pub fn check_text<'a, A: Allocator + Clone>(
     alloc: A,
     text: &'a [u8],
@@ -72,8 +72,8 @@ pub fn check_text<'a, A: Allocator + Clone>(
     }
 }
 
-/// The plan of a graph, pass by pass: with any number of destinations at an instruction, with literal operands, and with
-/// at most two destinations.
+/// Makes the plan of a graph, pass by pass: first with any number of destinations at an instruction, then with literal
+/// operands, and then with at most two destinations.
 fn plan<'a, A: Allocator + Clone>(alloc: &A, graph: &Graph<'a, A>) -> Result<Plan<A>, AllocError>
     requires well_formed { WellFormed graph.now }
     requires limits { HasText graph.now }
@@ -84,7 +84,7 @@ fn plan<'a, A: Allocator + Clone>(alloc: &A, graph: &Graph<'a, A>) -> Result<Pla
     narrow(alloc.clone()?, &folded)
 }
 
-/// The version of the graph's object: that of its text.
+/// The version of the graph's object, which is that of its text.
 fn version_of<'a, A: Allocator>(graph: &Graph<'a, A>) -> select::Version
     ensures { emitted_number result ≡ graph.now.version }
 {
@@ -103,7 +103,7 @@ fn object_version<'a, A: Allocator>(graph: &Graph<'a, A>) -> object_view::Versio
     }
 }
 
-/// The code of a graph.
+/// Makes the code of a graph.
 fn code_of<'a, A: Allocator + Clone>(alloc: A, graph: &Graph<'a, A>) -> Result<Code<A>, Fault>
     requires well_formed { WellFormed graph.now }
     requires limits { HasText graph.now }
@@ -127,7 +127,7 @@ fn code_of<'a, A: Allocator + Clone>(alloc: A, graph: &Graph<'a, A>) -> Result<C
     }
 }
 
-/// The graph that the text has, and the object of its code.
+/// Compiles the text: its graph, and the object of the graph's code.
 pub fn compile<'a, A: Allocator + Clone>(alloc: A, text: &'a [u8]) -> Result<Compiled<'a, A>, Fault>
     ensures { MatchResult result (λ c. IsCompiled text.now c.checked c.object.items) (IsRefusedText text.now) }
 {
@@ -152,16 +152,16 @@ pub fn compile<'a, A: Allocator + Clone>(alloc: A, text: &'a [u8]) -> Result<Com
     }
 }
 
-/// Why no object, or only a beginning of it, was written.
+/// Why no object, or only a beginning of one, was written.
 #[derive(Debug, Drop)]
 pub enum CompileRefusal {
-    /// There is none, and nothing was written.
+    /// The text has no object, and nothing was written.
     Fault(Fault),
-    /// A write failed. A beginning of the object went out.
+    /// A write failed. A beginning of the object was written.
     Write(io::Error),
 }
 
-/// Writes the object of the graph that the text has.
+/// Writes the object of the text's graph.
 pub fn write_object<A: Allocator + Clone, W: Write>(
     alloc: A,
     text: &[u8],

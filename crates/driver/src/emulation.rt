@@ -5,6 +5,7 @@ ghost use Rattle.semantics.specs.Graph as Graphs;
 ghost use Rattle.driver.specs.Refused.{IsCompiled, refusal_of, IsReady, IsReadyObject, IsRefused, IsRefusedObject};
 ghost use Rattle.command_line.specs.declared.Mode.{Mode};
 ghost use Rattle.driver.specs.Headline.{TellsTruthIn, TellsTruthListed, TellsQuietly, stops_in};
+ghost use Rattle.driver.specs.Listed.{IsListed};
 ghost use Rattle.driver.specs.Objects.{ShowsObject, RunsObject, Quietly};
 ghost use Rattle.driver.specs.Orders.{FollowsTurns, FollowsList};
 
@@ -23,14 +24,14 @@ use std::alloc::{AllocError, Allocator};
 use std::sync::Wait;
 use std::thread::Threads;
 
-/// A run of the graph that the text has.
+/// A run of the text's graph.
 #[derive(Drop)]
 pub struct Emulated<'a, A: Allocator> {
     pub checked: Checked<'a, A>,
     pub report: Report<A>,
 }
 
-/// Why there is no run, where the machine does not start.
+/// The refusal that is given for a machine that does not start.
 fn start_refusal(fault: StartFault) -> Fault
     ensures { result ≡ refusal_of fault }
 {
@@ -51,8 +52,8 @@ fn load<'a, A: Allocator + Clone>(
     Loaded::new(alloc.clone()?, object)
 }
 
-/// The report of a run of the object that the bytes are, in that mode. In the mode `One` each element in turn takes its
-/// oldest token.
+/// The report of a run, in the given mode, of the object with these bytes. In the mode `One` the elements take turns, and each
+/// takes its oldest token.
 pub fn emulate_object<R: Threads + Wait + Sync, A: Allocator + Clone + Send + Sync, G: Gate + Sync>(
     alloc: A,
     bytes: &[u8],
@@ -79,7 +80,7 @@ pub fn emulate_object<R: Threads + Wait + Sync, A: Allocator + Clone + Send + Sy
     }
 }
 
-/// As `emulate_object`, but the report lists no events: a long run takes no more memory than a short one.
+/// Like `emulate_object`, but the report lists no events, so a long run takes no more memory than a short one.
 pub fn emulate_object_quietly<
     R: Threads + Wait + Sync,
     A: Allocator + Clone + Send + Sync,
@@ -109,8 +110,8 @@ pub fn emulate_object_quietly<
     }
 }
 
-/// The report of a run of the object that the bytes are, in the order of a list: each entry names an element, and one of its
-/// tokens by its place in the queue, modulo the queue's length.
+/// The report of a run, in the order of a list, of the object with these bytes. Each entry of the list names an element, and
+/// one of its tokens by its place in the queue, modulo the queue's length.
 pub fn emulate_object_picks<A: Allocator + Clone>(
     alloc: A,
     bytes: &[u8],
@@ -136,7 +137,7 @@ pub fn emulate_object_picks<A: Allocator + Clone>(
     }
 }
 
-/// Whether a run of the graph that the text has can start: what refuses it, if anything does.
+/// Checks whether a run of the text's graph can start. An `Err` says what refuses it.
 pub fn start_text<A: Allocator + Clone>(
     alloc: A,
     text: &[u8],
@@ -166,7 +167,7 @@ pub fn start_text<A: Allocator + Clone>(
     }
 }
 
-/// Whether a run of the object that the bytes are can start: what refuses it, if anything does.
+/// Checks whether a run of the object with these bytes can start. An `Err` says what refuses it.
 pub fn start_object<A: Allocator + Clone>(
     alloc: A,
     bytes: &[u8],
@@ -189,8 +190,8 @@ pub fn start_object<A: Allocator + Clone>(
     }
 }
 
-/// Runs the graph that the text has, in that mode. Gives the graph with a report that lists no events: a long run takes no
-/// more memory than a short one.
+/// Runs the text's graph in the given mode. Gives the graph, and a report that lists no events, so a long run takes no more
+/// memory than a short one.
 pub fn run_text<'a, R: Threads + Wait + Sync, A: Allocator + Clone + Send + Sync, G: Gate + Sync>(
     alloc: A,
     text: &'a [u8],
@@ -215,8 +216,41 @@ pub fn run_text<'a, R: Threads + Wait + Sync, A: Allocator + Clone + Send + Sync
     }
 }
 
-/// The report of a run of the graph that the text has, in that mode. In the mode `One` each element in turn takes its oldest
-/// token.
+/// A run of the text's graph, with the object of its code. The report lists the events.
+#[derive(Drop)]
+pub struct Listed<'a, A: Allocator> {
+    pub compiled: Compiled<'a, A>,
+    pub report: Report<A>,
+}
+
+/// Runs the text's graph in the given mode and lists the events. In the mode `One` the elements take turns, and each takes its
+/// oldest token.
+pub fn run_listed<'a, R: Threads + Wait + Sync, A: Allocator + Clone + Send + Sync, G: Gate + Sync>(
+    alloc: A,
+    text: &'a [u8],
+    inputs: &[i64],
+    config: Config,
+    mode: Mode,
+    rt: &R,
+    gate: &G,
+) -> Result<Listed<'a, A>, Fault>
+    ensures { MatchResult result (λ l. IsListed mode text.now l.compiled.checked l.compiled.object.items inputs.now config G.may_stop l.report) (IsRefused text.now inputs.now config) }
+{
+    let Ok(room) = alloc.clone() else {
+        return Err(Fault::Memory);
+    };
+    let compiled = match compile(room, text) {
+        Ok(compiled) => compiled,
+        Err(fault) => return Err(fault),
+    };
+    match emulate_object(alloc, &compiled.object, inputs, config, mode, rt, gate) {
+        Ok(report) => Ok(Listed { compiled, report }),
+        Err(fault) => Err(fault),
+    }
+}
+
+/// The report of a run of the text's graph in the given mode. In the mode `One` the elements take turns, and each takes its
+/// oldest token.
 pub fn emulate<R: Threads + Wait + Sync, A: Allocator + Clone + Send + Sync, G: Gate + Sync>(
     alloc: A,
     text: &[u8],
@@ -228,21 +262,38 @@ pub fn emulate<R: Threads + Wait + Sync, A: Allocator + Clone + Send + Sync, G: 
 ) -> Result<Report<A>, Fault>
     ensures { MatchResult result (λ report. (g : Graphs.Graph) × TellsTruthIn mode text.now g inputs.now config G.may_stop report) (IsRefused text.now inputs.now config) }
 {
-    let Ok(room) = alloc.clone() else {
-        return Err(Fault::Memory);
-    };
-    let compiled = match compile(room, text) {
-        Ok(compiled) => compiled,
-        Err(fault) => return Err(fault),
-    };
-    match emulate_object(alloc, &compiled.object, inputs, config, mode, rt, gate) {
-        Ok(report) => Ok(report),
+    match run_listed(alloc, text, inputs, config, mode, rt, gate) {
+        Ok(run) => Ok(run.report),
         Err(fault) => Err(fault),
     }
 }
 
-/// The report of a run of the graph that the text has, in the order of a list: each entry names an element, and one of its
-/// tokens by its place in the queue, modulo the queue's length.
+/// Runs the text's graph in the order of a list. Each entry names an element, and one of its tokens by its place in the queue,
+/// modulo the queue's length. Gives the graph, and a report that lists the events.
+pub fn run_picks<'a, A: Allocator + Clone>(
+    alloc: A,
+    text: &'a [u8],
+    inputs: &[i64],
+    config: Config,
+    picks: &[(u32, u64)],
+) -> Result<Emulated<'a, A>, Fault>
+    requires { All (λ pick. pick.0 < config.elements) picks.now }
+    ensures { MatchResult result (λ e. TellsTruthListed text.now e.checked inputs.now config picks.now e.report) (IsRefused text.now inputs.now config) }
+{
+    let Ok(room) = alloc.clone() else {
+        return Err(Fault::Memory);
+    };
+    let Compiled { checked, object } = match compile(room, text) {
+        Ok(compiled) => compiled,
+        Err(fault) => return Err(fault),
+    };
+    match emulate_object_picks(alloc, &object, inputs, config, picks) {
+        Ok(report) => Ok(Emulated { checked, report }),
+        Err(fault) => Err(fault),
+    }
+}
+
+/// The report of a run of the text's graph, in the order of a list of elements and picks, as `run_picks` takes it.
 pub fn emulate_picks<A: Allocator + Clone>(
     alloc: A,
     text: &[u8],
@@ -253,15 +304,8 @@ pub fn emulate_picks<A: Allocator + Clone>(
     requires { All (λ pick. pick.0 < config.elements) picks.now }
     ensures { MatchResult result (λ report. (g : Graphs.Graph) × TellsTruthListed text.now g inputs.now config picks.now report) (IsRefused text.now inputs.now config) }
 {
-    let Ok(room) = alloc.clone() else {
-        return Err(Fault::Memory);
-    };
-    let compiled = match compile(room, text) {
-        Ok(compiled) => compiled,
-        Err(fault) => return Err(fault),
-    };
-    match emulate_object_picks(alloc, &compiled.object, inputs, config, picks) {
-        Ok(report) => Ok(report),
+    match run_picks(alloc, text, inputs, config, picks) {
+        Ok(run) => Ok(run.report),
         Err(fault) => Err(fault),
     }
 }

@@ -11,18 +11,18 @@ use std::alloc::AllocError;
 /// Why a text or an object has no report.
 #[derive(Debug, Drop)]
 pub enum Fault {
-    /// The text is no graph's: its first fault, never for want of memory.
+    /// The text is not the text of a graph: this is its first fault. Want of memory is never told so.
     Read(ReadFault),
-    /// The graph is not well formed: its first fault, never for want of memory.
+    /// The graph is not well formed: this is its first fault. Want of memory is never told so.
     Check(CheckFault),
     /// The code block of this number is the first whose holders do not fit into the slots of a frame.
     TooManySlots(u64),
-    /// The code block of this number is the first that is too long for an object, or with which there are too many
+    /// The code block with this number is the first that is too long for an object, or the first with which there are too many
     /// literals.
     TooFar(u64),
-    /// The bytes are no object: their first fault.
+    /// The bytes are not an object: this is their first fault.
     Object(ObjectFault),
-    /// The run cannot start, but not for want of memory.
+    /// The run cannot start, for another reason than want of memory.
     Start(StartFault),
     Memory,
 }

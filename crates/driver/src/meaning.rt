@@ -1,24 +1,25 @@
-//! The meaning of the graph that a text has, run plainly.
+//! Runs of the meaning of a text's graph, without a machine.
 
 ghost use Rattle.std.specs.Prelude.{IfErr, IfOk};
 ghost use Rattle.driver.specs.Refused.{IsGoodText, IsRefusedMeaning};
 ghost use Rattle.oracle.specs.Reporting.{IsMeant};
+ghost use Rattle.oracle.specs.Waves.{AreWavesOf};
 
 use crate::compiling::check_text;
 use crate::fault::Fault;
 use graph_check::Checked;
-use oracle::{MeanFault, MeanReport, mean};
+use oracle::{MeanFault, MeanReport, WaveReport, mean, waves};
 use schedule::config::StartFault;
 use std::alloc::Allocator;
 
-/// A run of the meaning of the graph that the text has.
+/// A run of the meaning of the text's graph.
 #[derive(Drop)]
 pub struct Meant<'a, A: Allocator> {
     pub checked: Checked<'a, A>,
     pub report: MeanReport<A>,
 }
 
-/// Runs the meaning of the graph that the text has, for so many activities at most.
+/// Runs the meaning of the text's graph, for at most `steps` activities.
 pub fn mean_text<'a, A: Allocator + Clone>(
     alloc: A,
     text: &'a [u8],
@@ -38,6 +39,39 @@ pub fn mean_text<'a, A: Allocator + Clone>(
     };
     match mean(alloc, &checked, inputs, steps) {
         Ok(report) => Ok(Meant { checked, report }),
+        Err(MeanFault::WrongInputs) => Err(Fault::Start(StartFault::WrongInputs)),
+        Err(MeanFault::Memory) => Err(Fault::Memory),
+    }
+}
+
+/// The waves of the meaning of the graph that the text has.
+#[derive(Drop)]
+pub struct Waved<'a, A: Allocator> {
+    pub checked: Checked<'a, A>,
+    pub report: WaveReport<A>,
+}
+
+/// The waves of the meaning of the graph that the text has: in each wave all activities happen that are enabled at its beginning. At
+/// most `steps` activities in all.
+pub fn waves_text<'a, A: Allocator + Clone>(
+    alloc: A,
+    text: &'a [u8],
+    inputs: &[i64],
+    steps: u64,
+) -> Result<Waved<'a, A>, Fault>
+    ensures good { IfOk result (λ w. IsGoodText text.now w.checked) }
+    ensures waves { IfOk result (λ w. AreWavesOf w.checked inputs.now steps w.report.end w.report.counts.items) }
+    ensures refused { IfErr result (IsRefusedMeaning text.now inputs.now) }
+{
+    let Ok(room) = alloc.clone() else {
+        return Err(Fault::Memory);
+    };
+    let checked = match check_text(room, text) {
+        Ok(checked) => checked,
+        Err(cause) => return Err(cause),
+    };
+    match waves(alloc, &checked, inputs, steps) {
+        Ok(report) => Ok(Waved { checked, report }),
         Err(MeanFault::WrongInputs) => Err(Fault::Start(StartFault::WrongInputs)),
         Err(MeanFault::Memory) => Err(Fault::Memory),
     }

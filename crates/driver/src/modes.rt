@@ -21,7 +21,7 @@ use std::alloc::Allocator;
 use std::sync::Wait;
 use std::thread::Threads;
 
-/// The report of a run in that mode.
+/// The report of a run in the given mode.
 pub fn run_in<
     R: Threads + Wait + Sync,
     C: MainCode + Sync,

@@ -7,16 +7,16 @@ use dot::write_code_dot;
 use object_view::{Object, ObjectFault, upgrade};
 use std::io::{self, Write};
 
-/// Why nothing was made of an object.
+/// Why nothing, or only a part, was made of an object.
 #[derive(Debug, Drop)]
 pub enum ObjectRefusal {
-    /// The bytes are no object: their first fault. Nothing was written.
+    /// The bytes are not an object: this is their first fault. Nothing was written.
     Object(ObjectFault),
-    /// A write failed. A beginning of what was to be written went out.
+    /// A write failed. A beginning of the text was written.
     Write(io::Error),
 }
 
-/// Writes the listing of the object that the bytes are.
+/// Writes the listing of the object with these bytes.
 pub fn disassemble<W: Write>(bytes: &[u8], writer: &mut W) -> Result<(), ObjectRefusal>
     ensures { Disassembles result (W.contents writer.old) (W.contents writer.new) bytes.now }
 {
@@ -30,7 +30,7 @@ pub fn disassemble<W: Write>(bytes: &[u8], writer: &mut W) -> Result<(), ObjectR
     }
 }
 
-/// Writes the picture of the code of the object that the bytes are.
+/// Writes the picture of the code of the object with these bytes.
 pub fn draw_object<W: Write>(bytes: &[u8], writer: &mut W) -> Result<(), ObjectRefusal>
     ensures { Draws result (W.contents writer.old) (W.contents writer.new) bytes.now }
 {
@@ -44,8 +44,7 @@ pub fn draw_object<W: Write>(bytes: &[u8], writer: &mut W) -> Result<(), ObjectR
     }
 }
 
-/// Writes the object that the bytes are as version 2 of the object file: the same code, and no origin where version 1 has
-/// none.
+/// Writes the object with these bytes as version 2 of the object file: the same code, and no origin where version 1 has none.
 pub fn upgrade_object<W: Write>(bytes: &[u8], writer: &mut W) -> Result<(), ObjectRefusal>
     ensures { Upgrades result (W.contents writer.old) (W.contents writer.new) bytes.now }
 {

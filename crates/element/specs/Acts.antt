@@ -1,10 +1,11 @@
 -- What an element does with one token.
-use Rattle.std.specs.Prelude.{◌≡◌, ℕ, ◌*◌, List, All, Option, Some, None, Ok, ◌++◌, ⊤}
+use Rattle.std.specs.Prelude.{◌≡◌, ℕ, ◌*◌, ◌<◌, ◌≤◌, ◌^◌, List, length, All, Option, Some, None, Ok, ◌++◌, ⊤}
 use Rattle.tags.specs.declared.value.Value.{Value}
 use Rattle.tags.specs.declared.token.Cont.{Cont}
 use Rattle.tags.specs.declared.token.Word.{Word}
 use Rattle.tags.specs.declared.token.To.{To}
 use Rattle.tags.specs.declared.token.Token.{Token}
+use Rattle.tags.specs.Addresses.{element_of}
 use Rattle.semantics.specs.Program.{Program}
 use Rattle.semantics.specs.Machine.{Store, Full, Happens, stuck_rule}
 use Rattle.element.specs.declared.lane.Stepped.{Stepped}
@@ -13,7 +14,16 @@ use Rattle.element.specs.Near.{IsNearToken}
 use Rattle.element.specs.Parts.{Part, IsPart, SameElsewhere, IsSound, bounds}
 use Rattle.frame_manager.specs.Answered.{request_tokens, release_tokens}
 use Rattle.element.specs.Changed.{IsRequested, IsReleased}
-use Rattle.element.specs.Held.{Held, taken, queued, with_part, elsewhere}
+use Rattle.element.specs.Held.{Held, IsSoundLane, taken, queued, with_part, elsewhere}
+
+-- The element can let a token act that stands at a place of its queue, under code that names slots below a width.
+pub record CanAct (p : Program) (slots : ℕ) (h : Held) (at : ℕ) (t : Token) : Type 0 where
+  pub sound : IsSoundLane p h
+  pub width : slots ≤ h.part.shape.width
+  pub there : at < length h.queue
+  pub few : h.made < 2 ^ 63
+  pub near : IsNearToken (bounds p h.part.shape) t
+  pub addressed : element_of h.part.shape.elements t.to ≡ h.part.shape.element
 
 -- The manager hands out the free frame of least number, and serves first the request that has waited longest.
 abbrev pub ServesFirst : Part → To → Word → List Token → Part → Type 0

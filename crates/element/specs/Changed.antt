@@ -14,8 +14,8 @@ use Rattle.semantics.specs.declared.program.Op.{Op}
 use Rattle.semantics.specs.Program.{Instr}
 use Rattle.semantics.specs.Rule.{slot_of}
 use Rattle.semantics.specs.Machine.{Store, host_rule}
-use Rattle.element.specs.declared.lane.HostChange.{HostChange}
-use Rattle.element.specs.declared.lane.HostChange.TheVariants.{Output, Done}
+use Rattle.element.specs.declared.lane.host.HostChange.{HostChange}
+use Rattle.element.specs.declared.lane.host.HostChange.TheVariants.{Output, Done}
 use Rattle.element.specs.Parts.{Part, slot_place}
 
 abbrev pub with_state : Part → ℕ → SlotState → Part

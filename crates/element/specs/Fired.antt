@@ -11,13 +11,13 @@ use Rattle.semantics.specs.declared.program.Op.TheVariants.{Apply2, Sync, Switch
 use Rattle.operators.specs.Values as values
 use Rattle.semantics.specs.Rule as rule
 use Rattle.element.specs.Decoded.{dest_in}
-use Rattle.element.specs.declared.firing.Seat.{Seat}
-use Rattle.element.specs.declared.firing.Made.{Made}
-use Rattle.element.specs.declared.firing.Passed.{Passed}
-use Rattle.element.specs.declared.firing.Indexed.{Indexed}
-use Rattle.element.specs.declared.firing.Indexed.TheVariants.{Place, Outside}
-use Rattle.element.specs.declared.firing.Outcome.{Outcome}
-use Rattle.element.specs.declared.firing.Outcome.TheVariants.{Becomes, Excluded}
+use Rattle.element.specs.declared.firing.made.Seat.{Seat}
+use Rattle.element.specs.declared.firing.made.Made.{Made}
+use Rattle.element.specs.declared.firing.passing.Passed.{Passed}
+use Rattle.element.specs.declared.firing.arrays.Indexed.{Indexed}
+use Rattle.element.specs.declared.firing.arrays.Indexed.TheVariants.{Place, Outside}
+use Rattle.element.specs.declared.firing.outcomes.Outcome.{Outcome}
+use Rattle.element.specs.declared.firing.outcomes.Outcome.TheVariants.{Becomes, Excluded}
 
 abbrev pub seat_of : Seat → rule.Seat
 seat_of s = record { frame = s.frame; ip = s.ip }

@@ -4,9 +4,9 @@ use Rattle.tags.specs.declared.slot.SlotState.TheVariants.{Empty}
 use Rattle.semantics.specs.Program.{Program, Instr}
 use Rattle.semantics.specs.Rule as rule
 use Rattle.element.specs.Fired.{HasRoomInWord}
-use Rattle.element.specs.declared.firing.Meeting.{Meeting}
-use Rattle.element.specs.declared.firing.Meeting.TheVariants.{Both, Apart}
-use Rattle.element.specs.declared.firing.Meeting.TheVariants as meeting
+use Rattle.element.specs.declared.firing.two_inputs.Meeting.{Meeting}
+use Rattle.element.specs.declared.firing.two_inputs.Meeting.TheVariants.{Both, Apart}
+use Rattle.element.specs.declared.firing.two_inputs.Meeting.TheVariants as meeting
 
 -- what a token meets, as the outcome of an instruction with two inputs
 abbrev pub MeetingIs : Program → rule.Seat → Instr → rule.Outcome → Meeting → Type 0

@@ -11,7 +11,7 @@ use Rattle.frame_manager.specs.Managed.{Managed}
 use Rattle.frame_manager.specs.Answered.{HoldsFrames}
 use Rattle.element.specs.Near.{Bounds, IsNearCont, IsNearSlot, IsNearCell}
 
--- which element of how many it is, and how its slots lie: so many frames of so many slots, from some place on
+-- which element of how many it is, and how its slots lie: how many frames, how many slots each has, and the place of the first one
 pub record Shape : Type 0 where
   pub element : ℕ
   pub elements : ℕ

@@ -5,7 +5,7 @@ ghost use Rattle.std.specs.Prelude.{◌≡◌, ◌⊎◌, []};
 ghost use Rattle.std.specs.Io.Buffered.{writer_buffer, writer_contents};
 ghost use Rattle.std.specs.Io.KnownBytes.{Keeps};
 
-use driver::serving::serve;
+use commands::serving::serve;
 use hints::{KeepingReader, KeepingWriter, explain};
 use rounds::Open;
 use std::alloc::{Allocator, Global};
@@ -16,7 +16,7 @@ use std::{env, io};
 /// The exit status after a failed write.
 const FAILED: u8 = 1;
 
-/// The exit status once all that the buffer has is handed on, or that of a failed write.
+/// Hands on all that the buffer holds. Gives `status`, or the status of a failed write.
 fn flushed<W: Write + Drop, A: Allocator>(writer: &mut BufWriter<W, A>, status: u8) -> u8
     ensures kept { Keeps (writer_contents W.contents writer.old) (writer_contents W.contents writer.new) }
     ensures status { ((result ≡ status) × (writer_buffer writer.new ≡ [])) ⊎ (result ≡ 1) }
@@ -27,8 +27,8 @@ fn flushed<W: Write + Drop, A: Allocator>(writer: &mut BufWriter<W, A>, status: 
     }
 }
 
-/// Writes the hint on what was done, if there is one. It is no part of the answer: where memory or a write is refused, it
-/// stays out.
+/// Writes the hint about what was done, if there is one. It is not part of the answer: where memory or a write is refused, it
+/// is left out.
 fn hint<W: Write>(
     alloc: Global,
     words: &[String],

@@ -23,7 +23,7 @@ abbrev pub with_nodes : List Bool → List (Node ℕ) → List Bool
 with_nodes ts [] = ts
 with_nodes ts (n ∷ ns) = with_nodes (with_node ts n) ns
 
--- those of so many nodes
+-- those of the first `count` nodes
 abbrev pub triggers_of : Block ℕ → ℕ → List Bool
 triggers_of b count = with_nodes (replicate count false) b.nodes
 

@@ -60,6 +60,6 @@ abbrev pub noted_results : List Uses → Bool → List Source → List Uses
 noted_results us turns [] = us
 noted_results us turns (s ∷ ss) = noted_sources (noted_use us s turns) ss false
 
--- those of so many nodes
+-- those of the first `count` nodes
 abbrev pub uses_of : Block ℕ → List Bool → Bool → ℕ → List Uses
 uses_of b triggers turns count = noted_results (noted_nodes (replicate count Never) b triggers b.inputs b.nodes) turns b.results

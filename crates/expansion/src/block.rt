@@ -185,7 +185,7 @@ fn push_nodes<A: Allocator + Clone>(
     Ok(())
 }
 
-/// Adds the entries of so many inputs.
+/// Adds the entries of `inputs` inputs.
 fn push_inputs<A: Allocator + Clone>(
     builder: &mut Builder<A>,
     scope: &Scope<'_, A>,

@@ -312,7 +312,7 @@ impl<A: Allocator + Clone> Builder<A> {
         Ok(())
     }
 
-    /// Adds so many copies in a row.
+    /// Adds `count` copies in a row.
     pub fn copies(&mut self, count: u32, region: Region) -> Result<(), AllocError>
         requires room { length self.old.instrs < 2 ^ 30 }
         requires few { count ≤ 16 }

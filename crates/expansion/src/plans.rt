@@ -12,7 +12,7 @@ use crate::flow::{Block, Flow};
 use crate::scope::Scope;
 use crate::triggers::triggers_of;
 use crate::uses::uses_of;
-use crate::variants::{is_looped, variants_of};
+use crate::variants::{looped_of, variants_of};
 use code::{CodeBlock, Plan, Program};
 use graph::Version;
 use semantics::program::Mark;
@@ -138,14 +138,16 @@ fn push_variants<A: Allocator + Clone>(
     version: Version,
     blocks: &[Block<A>],
     variants: &[u16],
+    looped: &[bool],
 ) -> Result<(), AllocError>
     requires few { length blocks.now ≤ 256 }
     requires small { All Blocks.IsSmallBlock blocks.now }
     requires outputs { Blocks.FewOutputs blocks.now }
+    requires looped { Variants.AreLooped blocks.now looped.now }
     ensures { OnOk result (codes.new ≡ Expanded.variant_codes codes.old (version_number version) blocks.now variants.now 0 blocks.now) }
 {
     for (number, block) in blocks.iter().enumerate() {
-        if is_looped(blocks, number as u32) {
+        if looped[number] {
             codes.push(variant_code(
                 alloc.clone()?,
                 version,
@@ -170,13 +172,14 @@ fn codes_of<A: Allocator + Clone>(
     requires outputs { Blocks.FewOutputs blocks.now }
     ensures { IfOk result (λ c. c ≡ Expanded.codes_of (version_number version) blocks.now) }
 {
-    let variants = variants_of(alloc.clone()?, blocks)?;
+    let looped = looped_of(alloc.clone()?, blocks)?;
+    let variants = variants_of(alloc.clone()?, blocks, &looped)?;
     let mut codes = Codes {
         blocks: Vec::new(alloc.clone()?),
         marks: Vec::new(alloc.clone()?),
     };
     push_plain(alloc.clone()?, &mut codes, version, blocks, &variants)?;
-    push_variants(alloc, &mut codes, version, blocks, &variants)?;
+    push_variants(alloc, &mut codes, version, blocks, &variants, &looped)?;
     Ok(codes)
 }
 

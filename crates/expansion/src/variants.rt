@@ -17,27 +17,47 @@ fn loops_to(kind: &Kind<u32>, block: u32) -> bool
     }
 }
 
-fn some_node_loops<A: Allocator>(nodes: &[Node<A>], block: u32) -> bool
-    ensures { result ≡ Variants.some_node_loops block nodes.now }
+/// Marks the block that a node loops over.
+fn mark(looped: &mut [bool], kind: &Kind<u32>)
+    ensures { Variants.Marks (λ k. Variants.loops_to k kind.now) looped.old looped.new }
 {
-    for node in nodes {
-        if loops_to(&node.kind, block) {
-            return true;
+    if let Kind::Loop { block, .. } = kind {
+        let block = *block as usize;
+        if block < looped.len() {
+            looped[block] = true;
         }
     }
-    false
 }
 
-/// Whether some loop names that block.
-pub(crate) fn is_looped<A: Allocator>(blocks: &[Block<A>], block: u32) -> bool
-    ensures { result ≡ Variants.some_block_loops block blocks.now }
+/// Marks the blocks that these nodes loop over.
+fn mark_all<A: Allocator>(looped: &mut [bool], nodes: &[Node<A>])
+    ensures { Variants.Marks (λ k. Variants.some_node_loops k nodes.now) looped.old looped.new }
 {
-    for caller in blocks {
-        if some_node_loops(&caller.nodes, block) {
-            return true;
-        }
+    for node in nodes {
+        mark(looped, &node.kind);
     }
-    false
+}
+
+/// Marks the blocks that the nodes of these blocks loop over.
+fn mark_looped<A: Allocator>(looped: &mut [bool], blocks: &[Block<A>])
+    ensures { Variants.Marks (λ k. Variants.some_block_loops k blocks.now) looped.old looped.new }
+{
+    for block in blocks {
+        mark_all(looped, &block.nodes);
+    }
+}
+
+/// Of each block whether some loop names it.
+pub(crate) fn looped_of<A: Allocator>(
+    alloc: A,
+    blocks: &[Block<A>],
+) -> Result<Vec<bool, A>, AllocError>
+    ensures { IfOk result (λ v. Variants.AreLooped blocks.now v.items) }
+{
+    let mut looped = Vec::new(alloc);
+    looped.resize(blocks.len(), false)?;
+    mark_looped(&mut looped, blocks);
+    Ok(looped)
 }
 
 /// The number after that of a block's loop variant, if it has one.
@@ -54,15 +74,17 @@ fn following(next: u16, looped: bool) -> u16
 pub(crate) fn variants_of<A: Allocator>(
     alloc: A,
     blocks: &[Block<A>],
+    looped: &[bool],
 ) -> Result<Vec<u16, A>, AllocError>
     requires few { length blocks.now ≤ 256 }
+    requires looped { Variants.AreLooped blocks.now looped.now }
     ensures exact { IfOk result (λ v. v.items ≡ Variants.variants_of blocks.now) }
 {
     let mut variants = Vec::with_capacity(alloc, blocks.len())?;
     let mut next = blocks.len() as u16;
-    for number in 0..blocks.len() {
+    for looped in looped {
         variants.push(next)?;
-        next = following(next, is_looped(blocks, number as u32));
+        next = following(next, *looped);
     }
     Ok(variants)
 }

@@ -11,7 +11,7 @@ use Rattle.semantics.specs.Program.{Instr, CodeBlock}
 use Rattle.semantics.specs.Rule.{slot_of}
 use Rattle.semantics.specs.Plan.{Plan, is_credit}
 use Rattle.semantics.specs.Bytes.{is_dyadic, IsDest}
-use Rattle.lowering.proofs.Members.{contains_cases, contains_none, contains_map}
+use Rattle.law_net.proofs.Members.{contains_cases, contains_none, contains_map}
 use Rattle.fanout.specs.Sides.{copies, parted}
 use Rattle.fanout.specs.Places.{Layout, size, place_of, base_of}
 use Rattle.fanout.specs.Trees.{dest_at, leaf, leaf_or, child, side, tree, copy_at, copies_of, moved}

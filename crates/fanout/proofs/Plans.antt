@@ -16,7 +16,7 @@ use Rattle.semantics.specs.Rule.{slot_of}
 use Rattle.semantics.specs.Plan.{Plan, mark_in, mark_at, is_credit, is_open, OneHolder, IsPlanBlock}
 use Rattle.semantics.specs.Wired.{bound_of, part_of, LoopsAgree}
 use Rattle.code.specs.Marks.{marks_in}
-use Rattle.determinacy.proofs.Resolved.{all_get}
+use Rattle.law_determinacy.proofs.Resolved.{all_get}
 use Rattle.fanout.specs.Sides.{copies, parted}
 use Rattle.fanout.specs.Rows.{tied_in}
 use Rattle.fanout.specs.Places.{Layout, size, layout_with, place_of, base_of}

@@ -8,7 +8,7 @@ use Rattle.semantics.specs.declared.program.Op.{Op}
 use Rattle.semantics.specs.declared.program.Op.TheVariants.{Link}
 use Rattle.semantics.specs.Program.{Instr, CodeBlock}
 use Rattle.semantics.specs.Plan.{Plan, landing}
-use Rattle.lowering.proofs.Members.{contains_head, contains_tail}
+use Rattle.law_net.proofs.Members.{contains_head, contains_tail}
 use Rattle.code.specs.Sound.{IsTied, StandApart, NamesDest}
 use Rattle.fanout.specs.Sides.{parted, parting_of, firsts_of}
 use Rattle.fanout.specs.Rows.{tie, tie_landings, tie_instr, tie_all, is_tied}

@@ -12,7 +12,7 @@ use Rattle.semantics.specs.Program.{Instr, CodeBlock}
 use Rattle.semantics.specs.Plan.{Plan, HasShape}
 use Rattle.semantics.specs.Bytes.{HasDests, IsDest}
 use Rattle.semantics.specs.Wired.{StandsAt}
-use Rattle.determinacy.proofs.Resolved.{all_get}
+use Rattle.law_determinacy.proofs.Resolved.{all_get}
 use Rattle.code.specs.Sound as Sound
 use Rattle.code.specs.Sound.{NamesRightly, IsPlace, IsSoundInstr, IsSoundBlock, IsSoundDest, IsSound}
 use Rattle.fanout.specs.Places.{place_of}

@@ -13,8 +13,8 @@ use Rattle.semantics.specs.declared.program.Op.TheVariants.{Link}
 use Rattle.semantics.specs.Program.{Instr, CodeBlock}
 use Rattle.semantics.specs.Plan.{Plan, HasShape, landing, landing_in}
 use Rattle.semantics.specs.Wired.{StandsAt}
-use Rattle.determinacy.proofs.Resolved.{all_get}
-use Rattle.lowering.proofs.Members.{contains_cases, contains_none, contains_head, contains_map}
+use Rattle.law_determinacy.proofs.Resolved.{all_get}
+use Rattle.law_net.proofs.Members.{contains_cases, contains_none, contains_head, contains_map}
 use Rattle.code.specs.Sound.{IsInLanding, IsTied, StandApart, IsSoundDest, IsSound}
 use Rattle.fanout.specs.Sides.{copies, parted, parting_of, firsts_of}
 use Rattle.fanout.specs.Rows.{is_tied}

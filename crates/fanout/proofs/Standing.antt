@@ -7,7 +7,7 @@ use Rattle.semantics.specs.declared.program.Op.TheVariants.{Link}
 use Rattle.semantics.specs.Program.{Instr, CodeBlock}
 use Rattle.semantics.specs.Plan.{Plan, landing}
 use Rattle.semantics.specs.Wired.{StandsAt}
-use Rattle.lowering.proofs.Members.{contains_cases, contains_none}
+use Rattle.law_net.proofs.Members.{contains_cases, contains_none}
 use Rattle.fanout.specs.Sides.{parted, firsts_of, parting_of}
 use Rattle.fanout.specs.Rows.{tie, tie_landings, tie_instr, tie_all, is_tied}
 use Rattle.fanout.specs.Places.{size, places_from, place_of}

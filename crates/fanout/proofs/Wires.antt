@@ -15,7 +15,7 @@ use Rattle.semantics.specs.Sharing.{Arc, Inlet, inlet, arc, arcs_to, row, arcs_f
 use Rattle.semantics.specs.Wired.{StandsAt}
 use Rattle.semantics.specs.Wired as Wired
 use Rattle.semantics.specs.Bytes as Bytes
-use Rattle.lowering.proofs.Members.{contains_cases, contains_none, contains_head, contains_tail, contains_map}
+use Rattle.law_net.proofs.Members.{contains_cases, contains_none, contains_head, contains_tail, contains_map}
 use Rattle.fanout.specs.Sides.{parted}
 use Rattle.fanout.specs.Rows.{is_tied}
 use Rattle.fanout.specs.Places.{size, place_of, base_of}

@@ -16,7 +16,7 @@ pub record Layout : Type 0 where
 abbrev pub size : Instr → ℕ
 size i = copies i.firsts + copies i.seconds
 
--- From the n-th instruction on, where so many copies stand before its row, and so many copies belong to what is before it.
+-- From the n-th instruction on, where `before` copies stand before its row, and `copied` copies belong to what is before it.
 abbrev pub places_from : List Bool → ℕ → ℕ → ℕ → List Instr → List ℕ
 places_from ts n before copied [] = []
 places_from ts n before copied (i ∷ is) = (n + before) ∷ places_from ts (n + 1) (if is_tied ts n then before else copied + size i) (copied + size i) is

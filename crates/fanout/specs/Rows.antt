@@ -7,7 +7,7 @@ use Rattle.semantics.specs.declared.program.Op.TheVariants.{Link}
 use Rattle.semantics.specs.Program.{Instr}
 use Rattle.semantics.specs.Plan.{Plan, landing}
 
--- so many instructions from one on are tied
+-- a number of instructions from one on are tied
 abbrev pub tie : List Bool → ℕ → ℕ → List Bool
 tie ts from zero = ts
 tie ts from (suc k) = slice_set (tie ts from k) (from + k) true

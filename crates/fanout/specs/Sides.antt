@@ -35,6 +35,6 @@ seconds_of InHalves ds es = last_half (ds ++ es)
 abbrev pub parted : Instr → Instr
 parted i = record i { firsts = firsts_of (parting_of i.op) i.firsts i.seconds; seconds = seconds_of (parting_of i.op) i.firsts i.seconds }
 
--- how many copies lead from one place to so many destinations
+-- how many copies lead from one place to these destinations
 abbrev pub copies : List Dest → ℕ
 copies ds = length ds - 1

@@ -30,7 +30,7 @@ child l n at j ds c = if nat_lt c (copies ds) then dest_at j c Left else leaf_or
 abbrev pub copy_at : Layout → ℕ → ℕ → ℕ → List Dest → Instr
 copy_at l n at j ds = record { op = Copy; origin = Untold; slot = 0; firsts = child l n at j ds (2 * j + 1) ∷ []; seconds = child l n at j ds (2 * j + 2) ∷ [] }
 
--- the first so many copies of a side, of which the first one stands at `root`
+-- the first copies of a side, by their number, of which the first one stands at `root`
 abbrev pub tree : Layout → ℕ → ℕ → List Dest → ℕ → List Instr
 tree l n root ds zero = []
 tree l n root ds (suc j) = tree l n root ds j ++ copy_at l n (root + j) j ds ∷ []

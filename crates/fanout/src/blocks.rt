@@ -54,7 +54,7 @@ fn mark_of(marks: &[Mark], number: usize) -> Mark
     }
 }
 
-/// Adds so many marks of copies.
+/// Adds `count` marks of copies.
 fn push_unmarked<A: Allocator>(count: usize, marks: &mut Vec<Mark, A>) -> Result<(), AllocError>
     ensures { OnOk result (marks.new.items ≡ marks.old.items ++ replicate count Unmarked) }
 {

@@ -110,7 +110,7 @@ fn is_tied(tied: &[bool], place: usize) -> bool
 }
 
 impl<A: Allocator + Clone> Layout<A> {
-    /// The places of a block with so many inputs and such instructions, whose destinations are in two sides.
+    /// The places of a block with `inputs` inputs and these instructions, whose destinations are in two sides.
     pub fn of(
         alloc: A,
         plan: &Plan<A>,

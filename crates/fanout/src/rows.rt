@@ -18,7 +18,7 @@ fn tie_one(tied: &mut [bool], from: usize, ahead: usize)
     }
 }
 
-/// Ties so many instructions, each to the next one: those from so far ahead of an instruction on.
+/// Ties `count` instructions, each to the next one: those that begin `ahead` instructions after an instruction.
 fn tie(tied: &mut [bool], from: usize, ahead: u32, count: u64)
     requires from { from ≤ length tied.old }
     requires few { count < 2 ^ 33 }
@@ -62,7 +62,7 @@ fn tie_instr<A: Allocator>(plan: &Plan<A>, tied: &mut [bool], from: usize, instr
     }
 }
 
-/// For each instruction of a block with so many inputs, whether the next one has to follow it directly: the entries stand
+/// For each instruction of a block with `inputs` inputs, whether the next one has to follow it directly: the entries stand
 /// in a row, and so does each landing.
 pub(crate) fn tied_in<A: Allocator>(
     alloc: A,

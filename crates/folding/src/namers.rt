@@ -63,7 +63,7 @@ fn note_outside(namers: &mut [Namer], from: usize, ahead: usize)
     }
 }
 
-/// Notes that so many ports in a row get words from other blocks: those from so far ahead of an instruction on.
+/// Notes that `count` ports in a row get words from other blocks: those that begin `ahead` instructions after an instruction.
 fn note_row(namers: &mut [Namer], from: usize, ahead: u32, count: u64)
     requires from { from ≤ length namers.old }
     requires few { count < 2 ^ 33 }

@@ -4,7 +4,7 @@ use Rattle.std.specs.List.{range_with_len}
 use Rattle.semantics.specs.Report.{sum_below, one_if}
 use Rattle.frame_manager.specs.Bits.{bit_of}
 
--- for each of so many frames, whether it is out
+-- for each of `count` frames, whether it is out
 abbrev pub out_flags : ℕ → List ℕ → List Bool
 out_flags count words = map (λ f. bit_of words f == 0) (range_with_len 0 count)
 

@@ -35,7 +35,7 @@ fn zeros<A: Allocator>(alloc: A, count: usize) -> Result<Vec<u64, A>, AllocError
 }
 
 impl<A: Allocator + Clone> Frames<A> {
-    /// So many frames, all out.
+    /// `count` frames, all out.
     pub fn all_out(alloc: A, count: u32) -> Result<Frames<A>, AllocError>
         ensures { IfOk result (λ f. f ≡ replicate count true) }
     {

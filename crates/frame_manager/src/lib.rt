@@ -43,7 +43,7 @@ impl<A: Allocator> Model for Manager<A> {
 }
 
 impl<A: Allocator + Clone> Manager<A> {
-    /// The manager of so many frames: frame 0 is out, and the others are free. It makes the room that `release` needs.
+    /// The manager of `frames` frames: frame 0 is out, and the others are free. It makes the room that `release` needs.
     pub fn new(alloc: A, frames: u32) -> Result<Manager<A>, AllocError>
         requires { 0 < frames }
         ensures { IfOk result (λ m. m ≡ at_first frames) }

@@ -3,7 +3,7 @@ use Rattle.std.specs.Prelude.{◌≡◌, ℕ, ◌+◌, ◌*◌, ◌<◌, List, l
 use Rattle.tags.specs.declared.slot.SlotState.{SlotState}
 use Rattle.tags.specs.declared.slot.SlotState.TheVariants.{Empty}
 
--- so many elements, frames an element and slots a frame; bank by bank and frame by frame the states of the slots
+-- the numbers of elements, of frames an element and of slots a frame; bank by bank and frame by frame the states of the slots
 pub record Slots : Type 0 where
   pub elements : ℕ
   pub frames : ℕ

@@ -7,7 +7,7 @@ use crate::slot::Slot;
 use std::slice;
 use tags::slot::SlotState;
 
-/// The slots of the frames of one element: so many frames of so many slots, from some place of the slice on.
+/// The slots of the frames of one element: a number of frames of `width` slots each, from some place of the slice on.
 #[derive(Drop)]
 pub struct BankMut<'a> {
     /// The slots behind the bank. A function over `&mut [Slot]` lends one by `slots.slot(place)`, and whoever calls it with

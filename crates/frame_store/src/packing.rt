@@ -20,7 +20,7 @@ pub struct Fields {
 impl Fields {
     ghost use Rattle.frame_store.specs.FieldsOf.{parts_of};
 
-    /// The two words, with so many for the state.
+    /// The two words, with `state` as the kind of the state.
     #[inline(always)]
     pub fn words(self, state: u8) -> [u64; 2]
         ensures { result ≡ words_of state (parts_of self) }

@@ -35,7 +35,7 @@ impl<A: Allocator> Store<A> {
     ghost use Rattle.frame_store.specs.Lends.{LendsSlotAt};
     ghost use Rattle.frame_store.specs.Banked.{left_of, size_of};
 
-    /// Slots that are all empty: so many elements, frames an element and slots a frame.
+    /// Slots that are all empty, for the given numbers of elements, frames an element and slots a frame.
     pub fn new(
         alloc: A,
         elements: usize,

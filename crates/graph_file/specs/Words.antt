@@ -67,7 +67,7 @@ abbrev pub is_count : Option ℕ → ℕ → ℕ → Bool
 is_count (Some k) before n = n == before + k
 is_count None before n = nat_le before n
 
--- a line may have so many fields behind the word
+-- a line may have n fields behind the word
 unfoldable pub has_form : Word → ℕ → Bool
 has_form w n = is_count (source_count w) (operand_count w) n
 

@@ -31,7 +31,7 @@ fn are_digits(bytes: &[u8]) -> bool
 
 /// A number below 2 ^ 32, in digits without leading zeros.
 #[tactic(auto, unfolding(crate::specs::Fields::number_of))]
-pub(crate) fn number(bytes: &[u8]) -> Option<u32>
+pub fn number(bytes: &[u8]) -> Option<u32>
     ensures { result ≡ number_of bytes.now }
 {
     if !is_numeral(bytes) {

@@ -11,7 +11,7 @@ mod words;
 mod writing;
 
 pub use fault::{ReadFault, ReadFaultKind};
-pub use fields::literal;
+pub use fields::{literal, number};
 pub use parts::Parts;
 pub use reading::read;
 pub use writing::{send_kind, write};

@@ -57,7 +57,7 @@ impl<'a> Parts<'a> {
         Some((part, Parts { rest, separator }))
     }
 
-    /// Whether so many parts are left.
+    /// Whether exactly `n` parts are left.
     #[tactic(auto, using(crate::proofs::Taking::count_parts))]
     pub fn has(&self, n: usize) -> bool
         ensures { result ≡ (length self.now == n) }

@@ -1,7 +1,8 @@
--- What a hint is on standard error, and where there is none.
+-- What a hint on standard error looks like, and where there is none.
 use Rattle.std.specs.Prelude.{ℕ, ◌-◌, ◌≤◌, Bool, true, false, not, List, [], ◌∷◌, ◌++◌, length, take, drop, Option, None, Some, codes}
 use Rattle.std.specs.Str.{bytes_eq}
 use Rattle.command_line.specs.declared.Asked.{Asked}
+use Rattle.command_line.specs.declared.Format.{Format}
 use Rattle.command_line.specs.declared.Request.{Request}
 
 -- A LINE: `hint: `, printed bytes, and a line feed
@@ -16,8 +17,8 @@ abbrev pub hint_text : Option (List ℕ) → List ℕ → List ℕ
 hint_text None cause = hint_line cause
 hint_text (Some place) cause = hint_line place ++ hint_line cause
 
--- WHERE A HINT IS WANTED: not for help and the version; for a run, one of an object, or one of the meaning, unless it ended at rest; for any
--- other request where it was refused; for a mistake in the command line
+-- WHERE A HINT IS WANTED: for a run (also one of an object or of the meaning, one that is traced as text, and runs in many orders) unless it ended at rest; for any other
+-- request where it was refused; for a mistake in the command line; never for help and the version
 abbrev pub is_refused : List ℕ → Bool
 is_refused output = bytes_eq (take 9 output) (codes "refused: ")
 
@@ -33,6 +34,11 @@ wants_reason Request.Dis output = is_refused output
 wants_reason Request.Upgrade output = is_refused output
 wants_reason (Request.Dot code) output = is_refused output
 wants_reason (Request.Exec o ins) output = not (is_at_rest output)
+wants_reason Request.Asm output = is_refused output
+wants_reason (Request.Trace o last Format.Lines) output = not (is_at_rest output)
+wants_reason (Request.Trace o last Format.Chrome) output = is_refused output
+wants_reason (Request.Profile o sizes svg) output = is_refused output
+wants_reason (Request.Orders o count seed) output = not (is_at_rest output)
 
 abbrev pub wants_hint : Asked → List ℕ → Bool
 wants_hint (Asked.Request request) output = wants_reason request output

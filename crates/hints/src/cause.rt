@@ -1,4 +1,4 @@
-//! THE TABLE: each cause of a refusal, of an end that is not rest, or of a mistake, with what a person is told of it.
+//! THE TABLE: each cause of a refusal, of an end that is not rest, or of a mistake, and what a person is told of it.
 
 use crate::shown::{Lying, Many, Shown, Spelled};
 use graph_check::CheckFaultKind;
@@ -26,7 +26,7 @@ pub enum Cause<'a> {
     Word(WordCause<'a>),
 }
 
-/// What is wrong with the form of a graph's text, or with that of a line.
+/// What is wrong with the form of a graph's text, or with the form of a line.
 #[derive(Clone, Copy, Debug, Error)]
 pub enum TextCause<'a> {
     #[error("standard input is empty: give it a file by `<`, as in `ets {command} < FILE`")]
@@ -233,7 +233,7 @@ pub enum GraphCause<'a> {
     TooFar,
 }
 
-/// What is wrong with bytes that are to be an object.
+/// What is wrong with bytes that should be an object.
 #[derive(Clone, Copy, Debug, Error)]
 pub enum ObjectCause {
     #[error("standard input is empty: give it an object by `<`, as in `ets dis < FILE`")]
@@ -367,9 +367,9 @@ pub enum RunCause<'a> {
 /// What is wrong with the words of the command line.
 #[derive(Clone, Copy, Debug, Error)]
 pub enum WordCause<'a> {
-    #[error("a command comes first: run, mean, check, compile, dis, upgrade, dot or help, as in `ets run < FILE`")]
+    #[error("a command comes first: run, exec, mean, trace, profile, orders, check, compile, dis, asm, upgrade, dot or help, as in `ets run < FILE`")]
     NoCommand,
-    #[error("the commands are run, mean, check, compile, dis, upgrade, dot and help")]
+    #[error("the commands are run, exec, mean, trace, profile, orders, check, compile, dis, asm, upgrade, dot and help")]
     Command,
     #[error("`ets {command}` reads standard input: give it the file by `<`, as in `ets {command} < {file}`")]
     File {
@@ -385,6 +385,6 @@ pub enum WordCause<'a> {
     NoOptions {
         command: &'a str,
     },
-    #[error("`ets help` takes the name of a command: run, mean, check, compile, dis, upgrade or dot")]
+    #[error("`ets help` takes the name of a command: run, exec, mean, trace, profile, orders, check, compile, dis, asm, upgrade or dot")]
     Help,
 }

@@ -1,9 +1,9 @@
-//! A cause with its place.
+//! A cause and its place.
 
 use crate::cause::Cause;
 use crate::place::Place;
 
-/// A cause, and where it stands if that is known.
+/// A cause, and its place if that is known.
 #[derive(Clone, Copy, Debug)]
 pub struct Found<'a> {
     pub place: Option<Place<'a>>,
@@ -11,12 +11,12 @@ pub struct Found<'a> {
 }
 
 impl<'a> Found<'a> {
-    /// A cause that stands nowhere.
+    /// A cause without a place.
     pub fn nowhere(cause: Cause<'a>) -> Found<'a> {
         Found { place: None, cause }
     }
 
-    /// A cause that stands there.
+    /// A cause at this place.
     pub fn at(place: Place<'a>, cause: Cause<'a>) -> Found<'a> {
         Found {
             place: Some(place),

@@ -1,4 +1,4 @@
-//! What is wrong with a graph that is not well formed, or has no code.
+//! What is wrong with a graph that is not well formed, or that has no code.
 
 use crate::cause::{Cause, GraphCause};
 use crate::found::Found;
@@ -23,7 +23,7 @@ fn many(count: u64, noun: &'static str) -> Many {
     Many { count, noun }
 }
 
-/// A region that is none, at the node of that number.
+/// The cause for node `number`, whose region is bad, or which may not lie in its region.
 fn region_cause<'a, A: Allocator>(
     block: &Block<'a, A>,
     number: u64,
@@ -64,7 +64,7 @@ fn name_cause<'a>(kind: &Kind<Name<'a>>) -> Option<GraphCause<'a>> {
     }
 }
 
-/// A number of sources, or a shape of a looped block, that does not fit.
+/// The cause for a node with a wrong number of sources, or with a looped block whose inputs and outputs do not fit.
 fn arity_cause<'a, A: Allocator>(
     graph: &Graph<'a, A>,
     node: &Node<'a, A>,
@@ -104,7 +104,7 @@ fn late_source<'a>(sources: &[Source], number: u64) -> Option<GraphCause<'a>> {
     None
 }
 
-/// The first source whose node has no such port.
+/// The first source whose node does not have the port that it names.
 fn portless_source<'a, A: Allocator>(
     graph: &Graph<'a, A>,
     block: &Block<'a, A>,
@@ -123,7 +123,7 @@ fn portless_source<'a, A: Allocator>(
     None
 }
 
-/// The first source of a node that lies in another region than is wanted.
+/// The first source of the node that lies in another region than it has to.
 fn crossing_source<'a, A: Allocator>(
     block: &Block<'a, A>,
     node: &Node<'a, A>,
@@ -142,7 +142,7 @@ fn crossing_source<'a, A: Allocator>(
     None
 }
 
-/// The first result that lies in an arm.
+/// The first result whose node lies in an arm.
 fn unrooted_result<'a, A: Allocator>(block: &Block<'a, A>) -> Option<GraphCause<'a>> {
     for source in &block.results {
         let region = region_of(block, source.node);
@@ -156,7 +156,7 @@ fn unrooted_result<'a, A: Allocator>(block: &Block<'a, A>) -> Option<GraphCause<
     None
 }
 
-/// A fault of that kind at the node of that number.
+/// The cause of a fault of kind `kind` at node `number`.
 fn node_cause<'a, A: Allocator>(
     graph: &Graph<'a, A>,
     block: &Block<'a, A>,
@@ -179,7 +179,7 @@ fn node_cause<'a, A: Allocator>(
     }
 }
 
-/// A fault of that kind at the line of results.
+/// The cause of a fault of kind `kind` at the line of results.
 fn results_cause<'a, A: Allocator>(
     graph: &Graph<'a, A>,
     block: &Block<'a, A>,
@@ -198,7 +198,7 @@ fn results_cause<'a, A: Allocator>(
     }
 }
 
-/// A fault of that kind at a block's own line.
+/// The cause of a fault of kind `kind` at the line of the block itself.
 fn block_cause<'a, A: Allocator>(
     block: &Block<'a, A>,
     kind: CheckFaultKind,
@@ -213,7 +213,8 @@ fn block_cause<'a, A: Allocator>(
     }
 }
 
-/// A fault at the node of that number, or, where that is none, at the line of results. `line` is where it stands.
+/// A fault at node `number`, or at the line of results where there is no such node. `line` is the number of the faulty line in
+/// the text.
 fn in_line<'a, A: Allocator>(
     graph: &Graph<'a, A>,
     block: &Block<'a, A>,
@@ -245,7 +246,7 @@ fn in_line<'a, A: Allocator>(
     Some(Found::at(place, Cause::Graph(cause)))
 }
 
-/// A fault in the block of that place: at a node, or at the line of results, or at the block's own line.
+/// A fault in block number `place`: at a node, at the line of results, or at the line of the block itself.
 fn in_block<'a, A: Allocator>(
     graph: &Graph<'a, A>,
     text: &'a [u8],
@@ -267,7 +268,7 @@ fn in_block<'a, A: Allocator>(
     in_line(graph, block, kind, number, line, Shown { bytes })
 }
 
-/// The first array that is called as one before it.
+/// The first array that has the name of an array before it.
 fn same_array<'a, A: Allocator>(graph: &Graph<'a, A>) -> Option<(u64, GraphCause<'a>)> {
     for (place, array) in graph.arrays.iter().enumerate() {
         let mut before = graph.arrays.iter().take(place);
@@ -282,7 +283,7 @@ fn same_array<'a, A: Allocator>(graph: &Graph<'a, A>) -> Option<(u64, GraphCause
     None
 }
 
-/// A fault that stands in no block.
+/// A fault that lies in no block.
 fn outside<'a, A: Allocator>(
     graph: &Graph<'a, A>,
     text: &'a [u8],
@@ -303,8 +304,8 @@ fn outside<'a, A: Allocator>(
     Some(Found::at(Place::Line { line, text }, Cause::Graph(cause)))
 }
 
-/// Why the graph that the text has is not well formed: a fault of that kind at that block and node. `None` too where memory
-/// is refused.
+/// Why the graph of the text is not well formed: a fault of kind `kind` at block `block` and node `node`. `None` also where
+/// memory is refused.
 pub fn graph_fault<'a, A: Allocator + Clone>(
     alloc: A,
     text: &'a [u8],
@@ -321,7 +322,7 @@ pub fn graph_fault<'a, A: Allocator + Clone>(
     }
 }
 
-/// Why the graph that the text has has no code: that cause, at the code block of that number.
+/// Why the graph of the text has no code: `cause`, at code block `number`.
 pub fn code_fault<'a, A: Allocator + Clone>(
     alloc: A,
     text: &'a [u8],

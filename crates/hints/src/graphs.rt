@@ -1,10 +1,10 @@
-//! What a graph says of its blocks and nodes, and where they stand in its text.
+//! What a graph says of its blocks and nodes, and where these stand in its text.
 
 use graph::{Block, Graph, Name, Node};
 use semantics::graph::{Kind, Region, Source};
 use std::alloc::Allocator;
 
-/// The block of that name, if there is one.
+/// The block with this name, if there is one.
 pub fn block_named<'g, 'a, A: Allocator>(
     graph: &'g Graph<'a, A>,
     name: &Name<'a>,
@@ -17,7 +17,7 @@ pub fn block_named<'g, 'a, A: Allocator>(
     None
 }
 
-/// The line of the block of that place, from 1.
+/// The line in the text, from 1, at which block number `place` begins.
 pub fn block_line<A: Allocator>(graph: &Graph<'_, A>, place: u64) -> u64 {
     let mut line = (graph.arrays.len() as u64).saturating_add(2);
     for block in graph.blocks.iter().take(place as usize) {
@@ -28,12 +28,12 @@ pub fn block_line<A: Allocator>(graph: &Graph<'_, A>, place: u64) -> u64 {
     line
 }
 
-/// How many nodes a block has, inputs counted.
+/// How many nodes a block has, its inputs included.
 pub fn node_count<A: Allocator>(block: &Block<'_, A>) -> u64 {
     u64::from(block.inputs).saturating_add(block.nodes.len() as u64)
 }
 
-/// The node line of that number, if it is one.
+/// The node line with this number; `None` where the number is that of an input or of nothing.
 pub fn node_at<'g, 'a, A: Allocator>(
     block: &'g Block<'a, A>,
     number: u64,
@@ -42,7 +42,7 @@ pub fn node_at<'g, 'a, A: Allocator>(
     block.nodes.get(place as usize)
 }
 
-/// Where a node lies; an input lies in the root.
+/// The region of a node; inputs lie in the root.
 pub fn region_of<A: Allocator>(block: &Block<'_, A>, number: u32) -> Region {
     match node_at(block, u64::from(number)) {
         Some(node) => node.region,
@@ -50,7 +50,7 @@ pub fn region_of<A: Allocator>(block: &Block<'_, A>, number: u32) -> Region {
     }
 }
 
-/// Whether that node is a conditional before node `number`.
+/// Whether node `cond` is a conditional before node `number`.
 pub fn is_earlier_cond<A: Allocator>(block: &Block<'_, A>, number: u64, cond: u32) -> bool {
     let cond = u64::from(cond);
     match node_at(block, cond) {
@@ -83,7 +83,7 @@ pub fn ports_of<'a, A: Allocator>(
     }
 }
 
-/// The region in which the source of that place has to lie.
+/// The region in which source number `place` of the node has to lie.
 pub fn wanted_region<A: Allocator>(
     block: &Block<'_, A>,
     node: &Node<'_, A>,
@@ -106,8 +106,8 @@ fn loops_to<'a, A: Allocator>(block: &Block<'a, A>, name: &Name<'a>) -> bool {
     })
 }
 
-/// The block whose code has that number, and whether it is the code of its iterations. First come the plain codes of all
-/// blocks, then those of the iterations of each block that some loop names.
+/// The block that code block `number` belongs to, and whether that is the code of its iterations. The plain codes of all blocks
+/// come first, then the codes of iterations, one for each block that some loop names.
 pub fn coded_block<'g, 'a, A: Allocator>(
     graph: &'g Graph<'a, A>,
     number: u64,

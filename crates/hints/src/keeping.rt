@@ -1,4 +1,5 @@
-//! A reader and a writer that also keep what goes through them. They pass on the same bytes as those within.
+//! A reader and a writer that also keep what goes through them. They pass on the same bytes as the reader and the writer inside
+//! them.
 
 ghost use Rattle.std.specs.Prelude.{option_map};
 ghost use Rattle.hints.specs.Keeping.{KeepsMore};
@@ -10,14 +11,14 @@ use std::io::{self, Read, Write};
 const INPUT: usize = 16_777_216;
 /// How many bytes of the beginning, and how many of the end, a writer keeps.
 const OUTPUT: usize = 256;
-/// How many bytes both of them have.
+/// How many bytes the beginning and the end have together.
 const ENDS: usize = 512;
 
 /// A reader that also keeps what is read.
 #[derive(Drop)]
 pub struct KeepingReader<R, A: Allocator> {
     inner: R,
-    /// All that was read. `None` once that is above the limit, or a growth was refused.
+    /// All that was read so far. `None` once it is above the limit, or once a growth was refused.
     kept: Option<Vec<u8, A>>,
 }
 
@@ -30,7 +31,7 @@ impl<R, A: Allocator> KeepingReader<R, A> {
         }
     }
 
-    /// All that was read, unless that is above the limit or a growth was refused.
+    /// All that was read so far, unless it is above the limit or a growth was refused.
     pub fn kept(&self) -> Option<&[u8]> {
         match &self.kept {
             Some(kept) => Some(kept.as_slice()),
@@ -39,7 +40,7 @@ impl<R, A: Allocator> KeepingReader<R, A> {
     }
 }
 
-/// What was kept, with these bytes behind it, or nothing from now on.
+/// What was kept, followed by these bytes; or nothing, now and later.
 fn with_all<A: Allocator>(kept: Option<Vec<u8, A>>, bytes: &[u8]) -> Option<Vec<u8, A>>
     ensures { KeepsMore (option_map (λ v. v.items) kept) (option_map (λ v. v.items) result) bytes.now }
 {
@@ -84,7 +85,7 @@ impl<W, A: Allocator> KeepingWriter<W, A> {
         }
     }
 
-    /// All that was written where that is short, else its beginning and its end, unless a growth was refused.
+    /// All that was written if that is short, else its beginning and its end; `None` if a growth was refused.
     pub fn kept(&self) -> Option<&[u8]> {
         match &self.kept {
             Some(kept) => Some(kept.as_slice()),
@@ -93,14 +94,14 @@ impl<W, A: Allocator> KeepingWriter<W, A> {
     }
 }
 
-/// The beginning and the end of the bytes, without the middle where they are many.
+/// The beginning and the end of the bytes, without the middle where there are too many.
 fn ends_of(bytes: &[u8]) -> (&[u8], &[u8]) {
     let (front, rest) = bytes.split_at(bytes.len().min(OUTPUT));
     let (_middle, back) = rest.split_at(rest.len().saturating_sub(OUTPUT));
     (front, back)
 }
 
-/// Takes out the middle, where there are many bytes.
+/// Takes out the middle where there are too many bytes to keep.
 fn cut<A: Allocator>(kept: &mut Vec<u8, A>) {
     let count = kept.len();
     if count > ENDS {
@@ -110,7 +111,7 @@ fn cut<A: Allocator>(kept: &mut Vec<u8, A>) {
     }
 }
 
-/// What was kept, with the ends of these bytes behind it, or nothing from now on.
+/// What was kept, followed by the beginning and the end of these bytes; or nothing, now and later.
 fn with_ends<A: Allocator>(kept: Option<Vec<u8, A>>, bytes: &[u8]) -> Option<Vec<u8, A>> {
     let mut kept = kept?;
     let (front, back) = ends_of(bytes);

@@ -1,12 +1,12 @@
 //! The forms of the lines of a graph.
 
-/// The form of a node line behind its region.
+/// The form of a node line after its region.
 #[derive(Clone, Copy, Debug)]
 pub struct Shape {
     pub form: &'static str,
     /// How many fields stand between the kind and the sources.
     pub operands: u64,
-    /// How many sources there are, where the kind says it.
+    /// How many sources there are, where the kind decides that.
     pub sources: Option<u64>,
 }
 
@@ -18,7 +18,7 @@ fn shaped(form: &'static str, operands: u64, sources: Option<u64>) -> Option<Sha
     })
 }
 
-/// The form of a node line of that kind.
+/// The form of a node line of kind `kind`.
 pub fn shape_of(kind: &[u8]) -> Option<Shape> {
     match kind {
         b"lit" => shaped("lit V S", 1, Some(1)),
@@ -49,7 +49,7 @@ pub fn shape_of(kind: &[u8]) -> Option<Shape> {
     }
 }
 
-/// The form of a line outside a block.
+/// The form of a line outside a block that begins with `word`.
 pub fn outer_form(word: &[u8]) -> Option<&'static str> {
     match word {
         b"array" => Some("array NAME LEN"),

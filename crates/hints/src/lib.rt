@@ -1,6 +1,6 @@
-//! Hints: what a person is told on standard error where a graph or an object is refused, where a run did not end at rest, and
-//! where the words of a command line ask for nothing. What is printed on standard output stays what it is. Its first or its
-//! last line names the cause; a hint is made of that, of the words and of what was read.
+//! Hints: what a person is told on standard error when a graph or an object is refused, when a run did not end at rest, or when
+//! the words of a command line are a mistake. Hints change nothing on standard output. The first or the last line there names
+//! the cause; a hint is made from that line, from the words of the command line, and from the input that was read.
 #![tactic(auto)]
 
 ghost use Rattle.std.specs.Prelude.{◌≡◌, IfOk, drop, is_some, map};
@@ -27,7 +27,7 @@ mod shown;
 mod text_faults;
 
 use cause::{Cause, GraphCause, RunCause};
-use command_line::{Asked, Request, read_words};
+use command_line::{Asked, Format, Request, read_words};
 use found::Found;
 use graph_faults::{code_fault, graph_fault};
 pub use keeping::{KeepingReader, KeepingWriter};
@@ -52,21 +52,41 @@ fn is_at_rest(output: &[u8]) -> bool
     output.ends_with(b"end Rest\n")
 }
 
-/// Whether there is something to say of what a request gave.
+/// Whether the output of this request wants a hint.
 fn wants_reason(request: &Request, output: &[u8]) -> bool
     ensures { result ≡ wants_reason request.now output.now }
 {
     match request {
-        Request::Run(_) | Request::Mean { .. } | Request::Exec { .. } => !is_at_rest(output),
-        Request::Check | Request::Compile | Request::Dis | Request::Upgrade | Request::Dot { .. } =>
-            is_refused(output),
+        Request::Run(_)
+        | Request::Mean { .. }
+        | Request::Exec { .. }
+        | Request::Orders { .. }
+        | Request::Trace {
+            format: Format::Lines,
+            ..
+        } => !is_at_rest(output),
+        Request::Check
+        | Request::Compile
+        | Request::Dis
+        | Request::Upgrade
+        | Request::Dot { .. }
+        | Request::Asm
+        | Request::Profile { .. }
+        | Request::Trace {
+            format: Format::Chrome,
+            ..
+        } => is_refused(output),
     }
 }
 
-/// The graph's text of an input. Those that read inputs behind it run it.
+/// The part of the input that is the graph's text. Commands that run the graph read the inputs of the run after it.
 fn graph_text<'a>(request: &Request, input: &'a [u8]) -> &'a [u8] {
     match request {
-        Request::Run(_) | Request::Mean { .. } => split_graph(input).0,
+        Request::Run(_)
+        | Request::Mean { .. }
+        | Request::Trace { .. }
+        | Request::Profile { .. }
+        | Request::Orders { .. } => split_graph(input).0,
         _ => input,
     }
 }
@@ -94,7 +114,7 @@ fn input_cause<'a, A: Allocator + Clone>(
     }
 }
 
-/// What is told of an outcome where its place is not found: the input was not kept, or memory is refused.
+/// What is told of an outcome whose place cannot be found, because the input was not kept or memory was refused.
 fn plain(outcome: Outcome<'_>) -> Found<'_> {
     let cause = match outcome {
         Outcome::Read { kind, .. } => Cause::Reading(kind),
@@ -114,7 +134,7 @@ fn unknown<'a>(output: &[u8]) -> Found<'a> {
     Found::nowhere(Cause::Run(cause))
 }
 
-/// The cause of what a request gave.
+/// Why this request had this output.
 fn request_cause<'a, A: Allocator + Clone>(
     alloc: A,
     request: &Request,
@@ -154,7 +174,7 @@ fn command_of<S: AsStr>(words: &[S]) -> &str {
     }
 }
 
-/// The cause of what the words asked for, where there is something to be said of it.
+/// Why the words did not get what they asked for, where there is something to say.
 fn cause_of<'a, S: AsStr, A: Allocator + Clone>(
     alloc: A,
     asked: &Asked,
@@ -178,7 +198,7 @@ fn cause_of<'a, S: AsStr, A: Allocator + Clone>(
     }
 }
 
-/// The hint that tells a cause.
+/// The hint that tells this cause.
 fn hint_of<A: Allocator + Clone>(alloc: A, found: &Found<'_>) -> Result<Hint<A>, AllocError> {
     let place = match found.place {
         Some(place) => {
@@ -193,9 +213,9 @@ fn hint_of<A: Allocator + Clone>(alloc: A, found: &Found<'_>) -> Result<Hint<A>,
     Ok(Hint { place, cause })
 }
 
-/// What a person is to be told of a command: `words` are those of the command line, the program's name first, `input` is what
-/// the command read, if it was kept, and `output` what it wrote, or the beginning and the end of that. There is a hint just
-/// where one is wanted.
+/// What a person is to be told of a command. `words` are the words of the command line, the program's name first. `input` is
+/// what the command read, if that was kept. `output` is what it wrote, or the beginning and the end of that. There is a hint
+/// exactly where one is wanted.
 pub fn explain<S: AsStr, A: Allocator + Clone>(
     alloc: A,
     words: &[S],

@@ -9,7 +9,8 @@ use std::alloc::{AllocError, Allocator};
 use std::io::{self, Write};
 use std::marker::Model;
 
-/// The text of a line, without what it begins with and without its end. Contracts see its bytes, which are all printed.
+/// The text of a line of a hint, without the `hint: ` before it and without its line feed. Contracts see its bytes, all of
+/// which are printable.
 #[derive(Drop)]
 pub struct Line<A: Allocator> {
     bytes: Vec<u8, A>,
@@ -34,7 +35,7 @@ pub struct Hint<A: Allocator> {
     pub cause: Line<A>,
 }
 
-/// The byte, or `?` in place of one that is not printed.
+/// The byte, or `?` where the byte is not printable.
 fn printed(byte: u8) -> u8
     ensures { IsPrinted result }
 {
@@ -46,7 +47,7 @@ fn printed(byte: u8) -> u8
 }
 
 impl<A: Allocator> Line<A> {
-    /// The line of a text, with `?` in place of each byte that is not printed.
+    /// The line with this text, with `?` in place of each byte that is not printable.
     pub(crate) fn of(alloc: A, text: &str) -> Result<Line<A>, AllocError> {
         let mut bytes = Vec::new(alloc);
         for byte in text.as_bytes() {

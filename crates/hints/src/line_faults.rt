@@ -1,4 +1,4 @@
-//! What is wrong with a line of a graph's text, by the kind of the fault.
+//! What is wrong with a line of a graph's text, for each kind of fault.
 
 use crate::cause::{Cause, FieldCause, TextCause};
 use crate::field_faults::{length_fault, literal_fault, name_fault, number_fault, source_fault};
@@ -6,7 +6,7 @@ use crate::kinds::{outer_form, shape_of};
 use crate::lines::{Context, SPACE, Spot, field_at, field_count};
 use crate::shown::{Many, Shown};
 
-/// The most sources of a line, and inputs and outputs of a block.
+/// The most sources of a line, and the most inputs and the most outputs of a block.
 const PORTS: u64 = 16;
 
 fn fields_behind(line: &[u8], before: u64) -> Many {
@@ -16,7 +16,7 @@ fn fields_behind(line: &[u8], before: u64) -> Many {
     }
 }
 
-/// The first byte that no line may have.
+/// The cause for the first byte that no line may contain.
 fn stray_byte(line: &[u8]) -> Option<TextCause<'_>> {
     let place = line.iter().position(|byte| !matches!(*byte, b' '..=b'~'))?;
     let column = (place as u64).saturating_add(1);
@@ -27,7 +27,7 @@ fn stray_byte(line: &[u8]) -> Option<TextCause<'_>> {
     }
 }
 
-/// The first space that parts no two fields.
+/// The cause for the first space that does not separate two fields.
 fn spacing(line: &[u8]) -> Option<TextCause<'_>> {
     let mut is_fresh = true;
     let mut column = 0u64;
@@ -45,7 +45,7 @@ fn spacing(line: &[u8]) -> Option<TextCause<'_>> {
     }
 }
 
-/// A line of no form that may stand outside a block.
+/// The cause for a line that has none of the forms that may stand outside a block.
 fn outside<'a>(line: &'a [u8], word: &'a [u8], spot: Spot) -> TextCause<'a> {
     let word = Shown { bytes: word };
     match outer_form(word.bytes) {
@@ -69,7 +69,7 @@ fn is_region(word: &[u8]) -> bool {
     }
 }
 
-/// A node line whose region is one, and of no form that may stand there.
+/// The cause for a node line with a good region but with none of the forms that may stand there.
 fn kind_cause<'a>(line: &'a [u8], is_second: bool) -> TextCause<'a> {
     let Some(kind) = field_at(line, 1) else {
         return TextCause::NoKind;
@@ -99,7 +99,7 @@ fn kind_cause<'a>(line: &'a [u8], is_second: bool) -> TextCause<'a> {
     }
 }
 
-/// A line of no form that may stand in a block.
+/// The cause for a line that has none of the forms that may stand in a block.
 fn inside<'a>(
     line: &'a [u8],
     bytes: &'a [u8],
@@ -124,7 +124,8 @@ fn inside<'a>(
     }
 }
 
-/// A line of no form that may stand there. `is_second` tells that the text has the header of version 2.
+/// The cause for a line that has none of the forms that may stand at its place. `is_second` says that the text has the header
+/// of version 2.
 pub fn bad_line<'a>(line: &'a [u8], context: &Context<'a>, is_second: bool) -> TextCause<'a> {
     if line.is_empty() || line.starts_with(b"#") {
         return TextCause::EmptyLine;
@@ -144,7 +145,7 @@ pub fn bad_line<'a>(line: &'a [u8], context: &Context<'a>, is_second: bool) -> T
     }
 }
 
-/// The first bad source from that field on.
+/// The first bad source, from field `first` on.
 fn source_from(line: &[u8], first: usize) -> Option<FieldCause<'_>> {
     let fields = line.split(|byte| *byte == SPACE);
     for field in fields.skip(first) {
@@ -155,7 +156,7 @@ fn source_from(line: &[u8], first: usize) -> Option<FieldCause<'_>> {
     None
 }
 
-/// A bad number, literal or source of a node line.
+/// The first bad number, literal or source of a node line.
 fn node_number(line: &[u8]) -> Option<FieldCause<'_>> {
     match field_at(line, 1)? {
         b"lit" => literal_fault(field_at(line, 2)?).or(source_from(line, 3)),
@@ -166,7 +167,7 @@ fn node_number(line: &[u8]) -> Option<FieldCause<'_>> {
     }
 }
 
-/// The bad number, literal or source of a line.
+/// The first bad number, literal or source of a line.
 pub fn bad_number<'a>(line: &'a [u8], context: &Context<'a>) -> Option<FieldCause<'a>> {
     match (context.spot, field_at(line, 0)?) {
         (Spot::Arrays | Spot::Blocks, b"array") => length_fault(field_at(line, 2)?),
@@ -190,7 +191,7 @@ fn limit<'a>(most: u64, what: &'static str) -> TextCause<'a> {
     TextCause::Limit { most, what }
 }
 
-/// The limit that a line outside a block passes.
+/// The limit that a line outside a block exceeds.
 fn outer_limit<'a>(line: &'a [u8], context: &Context<'a>) -> TextCause<'a> {
     if field_at(line, 0) == Some(b"array".as_slice()) {
         if context.arrays >= 64 {
@@ -205,7 +206,7 @@ fn outer_limit<'a>(line: &'a [u8], context: &Context<'a>) -> TextCause<'a> {
     }
 }
 
-/// The limit that a line passes.
+/// The limit that a line exceeds.
 pub fn too_many<'a>(line: &'a [u8], context: &Context<'a>) -> TextCause<'a> {
     if context.spot != Spot::Nodes {
         return outer_limit(line, context);
@@ -225,7 +226,7 @@ pub fn too_many<'a>(line: &'a [u8], context: &Context<'a>) -> TextCause<'a> {
     }
 }
 
-/// The cause of a field that was not found.
+/// The cause that is told where the bad field was not found.
 pub fn unknown_field<'a>(line: &'a [u8]) -> Cause<'a> {
     Cause::Field(FieldCause::Number {
         field: Shown { bytes: line },

@@ -1,18 +1,18 @@
-//! The lines of a text and their fields, and where in a graph a line stands.
+//! The lines of a text, their fields, and where in a graph a line stands.
 
-/// What parts fields.
+/// The byte between two fields.
 pub const SPACE: u8 = b' ';
-/// What ends lines.
+/// The byte at the end of a line.
 pub const LINE_FEED: u8 = b'\n';
 
-/// The line of that number, from 1; empty where there is none.
+/// Line `number` of the text, counted from 1; empty where there is no such line.
 pub fn line_at(text: &[u8], number: u64) -> &[u8] {
     let place = number.saturating_sub(1) as usize;
     let mut lines = text.split(|byte| *byte == LINE_FEED);
     lines.nth(place).unwrap_or(b"")
 }
 
-/// The field of that place in a line, from 0.
+/// The field at `place` in a line, counted from 0.
 pub fn field_at(line: &[u8], place: usize) -> Option<&[u8]> {
     line.split(|byte| *byte == SPACE).nth(place)
 }
@@ -22,7 +22,7 @@ pub fn field_count(line: &[u8]) -> u64 {
     line.split(|byte| *byte == SPACE).count() as u64
 }
 
-/// The graph's text, up to the end of the first line that begins with `main `, and what follows it.
+/// Splits the input in two: the graph's text, up to the end of the first line that begins with `main `, and what follows it.
 pub fn split_graph(input: &[u8]) -> (&[u8], &[u8]) {
     let mut is_main = input.starts_with(b"main ");
     for (i, byte) in input.iter().enumerate() {
@@ -42,15 +42,15 @@ pub fn split_graph(input: &[u8]) -> (&[u8], &[u8]) {
 pub enum Spot {
     /// Outside a block, before the first one.
     Arrays,
-    /// Outside a block, behind the first one.
+    /// Outside a block, after the first one.
     Blocks,
     /// In a block, before its `out` line.
     Nodes,
-    /// In a block, behind its `out` line.
+    /// In a block, after its `out` line.
     Closing,
 }
 
-/// What stands before a line of a graph.
+/// What the lines before a line of a graph say.
 #[derive(Clone, Copy, Debug)]
 pub struct Context<'a> {
     pub spot: Spot,
@@ -63,7 +63,7 @@ pub struct Context<'a> {
 }
 
 impl<'a> Context<'a> {
-    /// Behind this line too.
+    /// The context after this line as well.
     fn behind(self, line: &'a [u8]) -> Context<'a> {
         match (self.spot, field_at(line, 0)) {
             (Spot::Arrays, Some(b"array")) => Context {
@@ -88,7 +88,7 @@ impl<'a> Context<'a> {
         }
     }
 
-    /// What stands before the line of that number, from 1. The first line is the header.
+    /// What stands before line `number`, counted from 1. The first line is the header.
     pub fn before(text: &'a [u8], number: u64) -> Context<'a> {
         let mut context = Context {
             spot: Spot::Arrays,

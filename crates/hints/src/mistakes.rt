@@ -1,4 +1,4 @@
-//! What is wrong with a command line that asks for nothing.
+//! What is wrong with a command line that is a mistake.
 
 use crate::cause::WordCause;
 use std::convert::AsStr;
@@ -9,6 +9,15 @@ fn options_of(command: &str) -> Option<&'static str> {
         "run" | "exec" => Some(
             "--elements N (1 to 16), --frames N (1 to 1024), --steps N (at most 4294967296) and --mode one, rounds or free, each at most once",
         ),
+        "trace" => Some(
+            "--last N, --format text or chrome, --elements N (1 to 16), --frames N (1 to 1024), --steps N (at most 4294967296) and --mode one, rounds or free, each at most once",
+        ),
+        "profile" => Some(
+            "--elements N,N,.. (each 1 to 16), --frames N (1 to 1024), --steps N (at most 4294967296) and --svg, each at most once",
+        ),
+        "orders" => Some(
+            "--count N, --seed N, --elements N (1 to 16), --frames N (1 to 1024) and --steps N (at most 4294967296), each at most once",
+        ),
         "mean" => Some("--steps N, at most once"),
         "dot" => Some("--code, at most once"),
         _ => None,
@@ -18,16 +27,31 @@ fn options_of(command: &str) -> Option<&'static str> {
 fn is_command(word: &str) -> bool {
     matches!(
         word,
-        "run" | "mean" | "check" | "compile" | "dis" | "upgrade" | "dot" | "exec"
+        "run"
+            | "exec"
+            | "mean"
+            | "trace"
+            | "profile"
+            | "orders"
+            | "check"
+            | "compile"
+            | "dis"
+            | "asm"
+            | "upgrade"
+            | "dot"
     )
 }
 
-/// Whether the word after this one may be an option's value.
+/// Whether the next word may be the value of this option.
 fn waits(word: &str) -> bool {
-    word.starts_with("--") && word.len() > 2 && word != "--code" && !word.contains('=')
+    word.starts_with("--")
+        && word.len() > 2
+        && word != "--code"
+        && word != "--svg"
+        && !word.contains('=')
 }
 
-/// The first word after a command that is neither an option nor an option's value.
+/// The first word after the command that is neither an option nor the value of one.
 fn file_in<'a, S: AsStr>(words: &'a [S]) -> Option<&'a str> {
     let mut is_value = false;
     for word in words {
@@ -53,7 +77,7 @@ fn after_command<'a, S: AsStr>(command: &'a str, words: &'a [S]) -> WordCause<'a
     }
 }
 
-/// Whether a word is written as the name of a file is.
+/// Whether a word looks like the name of a file.
 fn is_file(word: &str) -> bool {
     word.contains('.') || word.contains('/')
 }

@@ -1,4 +1,4 @@
-//! What is wrong with bytes that are no object.
+//! What is wrong with bytes that are not an object.
 
 use crate::cause::{Cause, ObjectCause};
 use crate::found::Found;
@@ -10,7 +10,7 @@ use object_view::ObjectFault;
 /// The number of the last origin.
 const ORIGINS: u64 = 262_144;
 
-/// What instructions are looked at against.
+/// What the instructions are checked against.
 #[derive(Clone, Copy)]
 struct Tables<'a> {
     bytes: &'a [u8],
@@ -19,13 +19,13 @@ struct Tables<'a> {
     start: u64,
 }
 
-/// A block whose instructions are looked at.
+/// The block of the instruction that is checked.
 #[derive(Clone, Copy)]
 struct Within {
     slots: u64,
-    /// How many instructions behind this one there are.
+    /// How many instructions of the block come after this one.
     behind: u64,
-    /// The word of this instruction.
+    /// The number of this instruction's first word.
     place: u64,
 }
 
@@ -45,13 +45,13 @@ fn range(what: &'static str, value: u64, least: u64, most: u64) -> Option<Object
     )
 }
 
-/// The number of a thing, of which there are so many.
+/// The cause for `number`, where there are only `count` of these things.
 fn numbered(noun: &'static str, number: u64, count: u64) -> Option<ObjectCause> {
     let has = Many { count, noun };
     unless(number < count, ObjectCause::Numbered { noun, number, has })
 }
 
-/// A cause that stands at that word.
+/// A cause at word number `place`.
 fn at_word<'a>(place: u64, cause: ObjectCause) -> Found<'a> {
     let offset = place.saturating_mul(8);
     Found::at(Place::Byte { offset }, Cause::Object(cause))
@@ -91,7 +91,7 @@ impl<'a> Tables<'a> {
         }
     }
 
-    /// How many instructions all blocks have.
+    /// How many instructions all blocks have together.
     fn instrs(&self) -> u64 {
         let mut instrs = 0u64;
         for block in 0..self.header.blocks.min(512) {
@@ -100,12 +100,12 @@ impl<'a> Tables<'a> {
         instrs
     }
 
-    /// The word of the first literal.
+    /// The number of the first literal's word.
     fn literals(&self) -> u64 {
         self.start.saturating_add(self.instrs().saturating_mul(2))
     }
 
-    /// The word of the first array.
+    /// The number of the first array's word.
     fn arrays(&self) -> u64 {
         self.literals().saturating_add(self.header.literals)
     }
@@ -127,7 +127,7 @@ impl<'a> Tables<'a> {
         None
     }
 
-    /// The first literal that is not above the one before.
+    /// The first literal that is not greater than the one before.
     fn literal_cause(&self) -> Option<(u64, ObjectCause)> {
         let first = self.literals();
         for literal in 1..self.header.literals.min(65_536) {
@@ -140,7 +140,7 @@ impl<'a> Tables<'a> {
         None
     }
 
-    /// The first count or size that is out of its range, as far as no instruction says it.
+    /// The first count or size that is out of its range, as far as this can be seen without the instructions.
     fn table_cause(&self) -> Option<(u64, ObjectCause)> {
         if let Some(cause) = header_cause(&self.header) {
             return Some(cause);
@@ -220,7 +220,7 @@ impl<'a> Tables<'a> {
         }
     }
 
-    /// What is wrong with an instruction first.
+    /// The first thing that is wrong with an instruction.
     fn instr_cause(&self, instr: Instr, within: Within) -> Option<ObjectCause> {
         let Instr { opcode, flag, .. } = instr;
         unless(instr.is_known(), ObjectCause::Opcode { opcode, flag })
@@ -233,7 +233,7 @@ impl<'a> Tables<'a> {
             .or(self.number_cause(instr))
     }
 
-    /// The first instruction of a block with which something is wrong; its first instruction has that word.
+    /// The first bad instruction of a block. `first` is the number of the first word of the block's instructions.
     fn in_block<'b>(&self, block: u64, entry: Entry, first: u64) -> Option<Found<'b>> {
         for number in 0..entry.instrs.min(32_768) {
             let place = first.saturating_add(number.saturating_mul(2));
@@ -254,7 +254,7 @@ impl<'a> Tables<'a> {
         None
     }
 
-    /// The first instruction with which something is wrong.
+    /// The first bad instruction of the object.
     fn bad_instr<'b>(&self) -> Option<Found<'b>> {
         let mut first = self.start;
         for block in 0..self.header.blocks.min(512) {
@@ -267,7 +267,7 @@ impl<'a> Tables<'a> {
         None
     }
 
-    /// How many bytes the tables want, as far as they are there.
+    /// How many bytes the tables call for, as far as the tables are there.
     fn length(&self) -> u64 {
         let has = self.bytes.len() as u64;
         if has < 48 {
@@ -293,7 +293,7 @@ fn length_cause(tables: &Tables<'_>) -> ObjectCause {
     }
 }
 
-/// Why the bytes are no object: a fault of that kind.
+/// Why the bytes are not an object: a fault of kind `kind`.
 pub fn object_fault<'a>(kind: ObjectFault, bytes: &[u8]) -> Option<Found<'a>> {
     if bytes.is_empty() {
         return Some(Found::nowhere(Cause::Object(ObjectCause::Empty)));

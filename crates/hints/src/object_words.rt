@@ -1,11 +1,11 @@
-//! The words of bytes that are to be an object, as far as they are there, and what each opcode wants.
+//! The words of bytes that should be an object, as far as the bytes reach, and what each opcode wants.
 
 /// How many words a header has.
 pub const HEADER: u64 = 6;
 /// 2 to the 32nd.
 pub const HALF: u64 = 0x1_0000_0000;
 
-/// The word of that place; 0 where the bytes do not reach.
+/// Word number `place`; 0 where the bytes do not reach that far.
 pub fn word_at(bytes: &[u8], place: u64) -> u64 {
     let start = place.saturating_mul(8) as usize;
     let mut word = 0u64;
@@ -49,7 +49,7 @@ pub struct Entry {
 }
 
 impl Entry {
-    /// The entry of that block.
+    /// Entry number `block` of the block table.
     pub fn of(bytes: &[u8], block: u64) -> Entry {
         let word = word_at(bytes, block.saturating_add(HEADER));
         Entry {
@@ -70,12 +70,12 @@ pub struct Instr {
     /// The half words of the two destinations.
     pub first: u64,
     pub second: u64,
-    /// The second word, with the origin if there is one.
+    /// The second word, which includes the origin if there is one.
     pub operand: u64,
 }
 
 impl Instr {
-    /// The instruction whose first word has that place.
+    /// The instruction whose first word is word number `place`.
     pub fn of(bytes: &[u8], place: u64) -> Instr {
         let word = word_at(bytes, place);
         Instr {
@@ -88,7 +88,7 @@ impl Instr {
         }
     }
 
-    /// Whether there is such an opcode with such a flag.
+    /// Whether the opcode exists, with this flag.
     pub fn is_known(self) -> bool {
         match self.opcode {
             1..=14 => self.flag <= 2,
@@ -116,12 +116,12 @@ impl Instr {
         self.opcode == 17 || (self.opcode <= 14 && self.flag != 0)
     }
 
-    /// Whether its second word may have an origin.
+    /// Whether its second word may name an origin.
     fn may_fault(self) -> bool {
         matches!(self.opcode, 4 | 5 | 21 | 22)
     }
 
-    /// Its operand and the number of its origin, in an object of that version.
+    /// Its operand and the number of its origin, in an object of version `version`.
     pub fn parts(self, version: u64) -> (u64, u64) {
         if version == 2 && self.may_fault() {
             (self.operand % HALF, self.operand / HALF)
@@ -130,7 +130,7 @@ impl Instr {
         }
     }
 
-    /// Whether it may have that operand, as far as no table says more.
+    /// Whether `operand` is allowed, as far as the opcode alone decides that.
     pub fn may_have(self, operand: u64) -> bool {
         match self.opcode {
             28..=31 => 2 <= operand && operand <= 64,
@@ -140,7 +140,7 @@ impl Instr {
         }
     }
 
-    /// Whether it may have destinations there and no others.
+    /// Whether its opcode allows the destinations that it has.
     pub fn may_go_to(self) -> bool {
         let has_first = self.first != 0;
         let has_second = self.second != 0;

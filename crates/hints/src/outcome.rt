@@ -5,7 +5,7 @@ use graph_check::CheckFaultKind;
 use graph_file::{ReadFaultKind, literal};
 use object_view::ObjectFault;
 
-/// Why a run does not start.
+/// Why a run did not start.
 #[derive(Clone, Copy, Debug, PartialEq, Eq)]
 pub enum Unstarted {
     WrongInputs,
@@ -13,10 +13,10 @@ pub enum Unstarted {
     BadConfig,
 }
 
-/// An end of a run that is not rest.
+/// An end of a run other than rest.
 #[derive(Clone, Copy, Debug)]
 pub enum Ended<'a> {
-    /// How many requests for frames and for credits wait; of each 0 where that is not told.
+    /// How many requests for frames and how many for credits wait; each is 0 where that is not told.
     Starved { frames: u64, credits: u64 },
     Clash { array: &'a [u8], index: &'a [u8] },
     Steps,
@@ -24,7 +24,7 @@ pub enum Ended<'a> {
     Memory,
 }
 
-/// A refusal, or an end that is not rest.
+/// A refusal, or an end other than rest.
 #[derive(Clone, Copy, Debug)]
 pub enum Outcome<'a> {
     Unread,
@@ -114,7 +114,7 @@ fn number(word: &[u8]) -> Option<u64> {
     u64::try_from(literal(word)?).ok()
 }
 
-/// The field of that place in a line, from 0.
+/// The field at `place` in a line, counted from 0.
 fn word(line: &[u8], place: usize) -> Option<&[u8]> {
     line.split(|byte| *byte == SPACE).nth(place)
 }
@@ -127,7 +127,7 @@ fn check_outcome<'a>(line: &'a [u8]) -> Option<Outcome<'a>> {
     })
 }
 
-/// What the line of a refusal says behind `refused: `.
+/// What the line of a refusal says after `refused: `.
 fn refused(line: &[u8]) -> Option<Outcome<'_>> {
     match word(line, 0)? {
         b"input" => match word(line, 2) {
@@ -154,14 +154,14 @@ fn refused(line: &[u8]) -> Option<Outcome<'_>> {
     }
 }
 
-/// The number of that place in the last line of a report that tells what waits.
+/// The number at `place` in the last of a report's lines that tells what waits.
 fn waiting(report: &[u8], place: usize) -> u64 {
     let line = report.rsplit(|byte| *byte == LINE_FEED).nth(2);
     line.and_then(|line| number(word(line, place)?))
         .unwrap_or(0)
 }
 
-/// What the last line of a report says.
+/// The end that the last line of a report tells.
 fn end_in(report: &[u8]) -> Option<Outcome<'_>> {
     let report = report.strip_suffix(b"\n".as_slice())?;
     let line = report.rsplit(|byte| *byte == LINE_FEED).next()?;
@@ -182,7 +182,7 @@ fn end_in(report: &[u8]) -> Option<Outcome<'_>> {
     Some(Outcome::Ended(end))
 }
 
-/// What the output of a command says: the whole of it, or its beginning and its end.
+/// What the output of a command says. `output` is the whole of it, or its beginning and its end.
 pub fn outcome_of(output: &[u8]) -> Option<Outcome<'_>> {
     match output.strip_prefix(b"refused: ".as_slice()) {
         Some(rest) => refused(rest.split(|byte| *byte == LINE_FEED).next()?),

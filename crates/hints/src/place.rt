@@ -3,7 +3,7 @@
 use crate::shown::Shown;
 use std::fmt;
 
-/// Where a cause stands, with the line as it stands there.
+/// Where a cause stands, with the line that stands there.
 #[derive(Clone, Copy, Debug)]
 pub enum Place<'a> {
     /// A line of a text, from 1.
@@ -11,26 +11,26 @@ pub enum Place<'a> {
         line: u64,
         text: Shown<'a>,
     },
-    /// A node of a block, inputs counted.
+    /// A node of a block. Node numbers count the inputs too.
     Node {
         block: Shown<'a>,
         node: u64,
         line: u64,
         text: Shown<'a>,
     },
-    /// A line of a block that is no node's.
+    /// A line of a block that is not the line of a node.
     Block {
         block: Shown<'a>,
         line: u64,
         text: Shown<'a>,
     },
-    /// A code block, which is a block's plain code or that of its iterations.
+    /// A code block: the plain code of a block, or the code of its iterations.
     Code {
         number: u64,
         block: Shown<'a>,
         iterations: bool,
     },
-    /// A line of the inputs, from 1 behind the graph.
+    /// A line of the inputs, counted from 1 after the graph.
     Input {
         line: u64,
         text: Shown<'a>,

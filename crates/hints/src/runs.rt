@@ -19,7 +19,7 @@ fn many(count: u64, noun: &'static str) -> Many {
     Many { count, noun }
 }
 
-/// A line of the inputs that is no integer.
+/// The cause for line `number` of the inputs, which is not an integer.
 pub fn input_fault(input: &[u8], number: u64) -> Found<'_> {
     let (_graph, lines) = split_graph(input);
     let line = line_at(lines, number);
@@ -41,7 +41,7 @@ fn literal_cause(line: &[u8]) -> Cause<'_> {
     }
 }
 
-/// How many lines there are; the last one may have no end.
+/// How many lines there are; the last one may lack its line feed.
 fn line_count(lines: &[u8]) -> u64 {
     let whole = lines.strip_suffix(b"\n".as_slice()).unwrap_or(lines);
     if lines.is_empty() {
@@ -51,7 +51,7 @@ fn line_count(lines: &[u8]) -> u64 {
     }
 }
 
-/// Not as many inputs as main has, but so many.
+/// The cause for a run that was given `has` inputs, where main wants another number.
 fn inputs_cause<'a, A: Allocator>(graph: &Graph<'a, A>, has: u64) -> Option<RunCause<'a>> {
     let main = block_named(graph, &graph.main)?;
     Some(RunCause::Inputs {
@@ -85,7 +85,7 @@ fn range(option: &'static str, value: u64, least: u64, most: u64) -> Option<RunC
     }
 }
 
-/// The first option that is outside its limits.
+/// The first option whose value is outside its limits.
 fn option_cause(options: &RunOptions) -> RunCause<'static> {
     range("elements", options.elements, 1, 16)
         .or(range("frames", options.frames, 1, 1_024))
@@ -93,7 +93,7 @@ fn option_cause(options: &RunOptions) -> RunCause<'static> {
         .unwrap_or(RunCause::Mode)
 }
 
-/// Why a run of this request does not start. `None` too where memory is refused, or the input was not kept.
+/// Why a run of this request does not start. `None` also where memory is refused, or where the input was not kept.
 pub fn start_fault<'a, A: Allocator + Clone>(
     alloc: A,
     request: &Request,
@@ -102,9 +102,10 @@ pub fn start_fault<'a, A: Allocator + Clone>(
 ) -> Option<Found<'a>> {
     match (kind, request) {
         (Unstarted::WrongInputs, _) => inputs_fault(alloc, input?),
-        (_, Request::Run(options) | Request::Exec { options, .. }) => {
-            Some(Found::nowhere(Cause::Run(option_cause(options))))
-        }
+        (
+            _,
+            Request::Run(options) | Request::Exec { options, .. } | Request::Trace { options, .. },
+        ) => Some(Found::nowhere(Cause::Run(option_cause(options)))),
         _ => None,
     }
 }
@@ -112,14 +113,19 @@ pub fn start_fault<'a, A: Allocator + Clone>(
 /// What is said where memory is refused.
 pub fn memory_cause<'a>(request: &Request) -> RunCause<'a> {
     match request {
-        Request::Run(_) | Request::Exec { .. } => RunCause::RunMemory,
+        Request::Run(_) | Request::Exec { .. } | Request::Trace { .. } | Request::Orders { .. } =>
+            RunCause::RunMemory,
         _ => RunCause::Memory,
     }
 }
 
 fn steps_of(request: &Request) -> Many {
     match request {
-        Request::Run(options) | Request::Exec { options, .. } => many(options.steps, "step"),
+        Request::Run(options)
+        | Request::Exec { options, .. }
+        | Request::Trace { options, .. }
+        | Request::Profile { options, .. }
+        | Request::Orders { options, .. } => many(options.steps, "step"),
         Request::Mean { steps } => many(*steps, "step"),
         _ => many(0, "step"),
     }

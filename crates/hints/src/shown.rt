@@ -6,7 +6,7 @@ use std::fmt;
 /// The most bytes of a piece that are shown.
 const MOST: usize = 60;
 
-/// Bytes of a text. Those that are not printed stand as `\xHH`, and of a long piece the beginning is shown.
+/// Bytes of a text. A byte that is not printable stands as `\xHH`, and only the beginning of a long piece is shown.
 #[derive(Clone, Copy, Debug)]
 pub struct Shown<'a> {
     pub bytes: &'a [u8],
@@ -27,7 +27,7 @@ impl fmt::Display for Shown<'_> {
     }
 }
 
-/// How many there are of a thing: `1 source`, `2 sources`.
+/// How many of a thing there are: `1 source`, `2 sources`.
 #[derive(Clone, Copy, Debug)]
 pub struct Many {
     pub count: u64,

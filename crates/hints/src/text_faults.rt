@@ -1,4 +1,4 @@
-//! What is wrong with a text that is no graph's.
+//! What is wrong with a text that is not the text of a graph.
 
 use crate::cause::{Cause, TextCause};
 use crate::found::Found;
@@ -8,7 +8,7 @@ use crate::place::Place;
 use crate::shown::Shown;
 use graph_file::{ReadFaultKind, literal};
 
-/// A text that does not begin as a graph does.
+/// The cause for a text whose first line is not the header of a graph.
 fn no_header<'a>(text: &'a [u8], first: &'a [u8], command: &'a str) -> TextCause<'a> {
     if text.is_empty() {
         TextCause::Empty { command }
@@ -25,7 +25,7 @@ fn no_header<'a>(text: &'a [u8], first: &'a [u8], command: &'a str) -> TextCause
     }
 }
 
-/// A text that ends too early.
+/// The cause for a text that ends too early.
 fn unended<'a>(text: &[u8], context: &Context<'a>) -> TextCause<'a> {
     if !text.ends_with(b"\n") {
         return TextCause::LineUnended;
@@ -49,7 +49,7 @@ fn trailing<'a>(line: &'a [u8], command: &'a str) -> TextCause<'a> {
     }
 }
 
-/// Whether the cause stands at a line that is there.
+/// Whether the cause stands at a line that exists.
 fn has_line(cause: &Cause<'_>) -> bool {
     !matches!(
         cause,
@@ -86,7 +86,7 @@ fn cause_of<'a>(
     }
 }
 
-/// Why a text is no graph's: a fault of that kind at the line of that number. `command` is what was asked for.
+/// Why `text` is not the text of a graph: a fault of kind `kind` at line `number`. `command` is the command that was asked for.
 pub fn text_fault<'a>(
     kind: ReadFaultKind,
     text: &'a [u8],

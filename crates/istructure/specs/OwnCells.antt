@@ -22,7 +22,7 @@ cell_at own x = option_and_then (slice_get own.states) (place_of own x)
 abbrev pub with_cell_at : OwnCells → ℕ → CellState → OwnCells
 with_cell_at own x state = record { element = own.element; elements = own.elements; states = slice_set own.states (x / own.elements) state }
 
--- how many of so many cells the element owns
+-- how many of all cells the element owns
 abbrev pub own_count : ℕ → ℕ → ℕ → ℕ
 own_count cells element elements = (cells + elements - 1 - element) / elements
 

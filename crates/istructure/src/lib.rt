@@ -65,7 +65,7 @@ impl<A: Allocator> Model for Cells<A> {
 }
 
 impl<A: Allocator + Clone> Cells<A> {
-    /// The cells of this element, all vacant, of so many cells that lie on so many elements in turn.
+    /// The cells of this element, all vacant, where `cells` cells are dealt out to `elements` elements in turn.
     pub fn new(alloc: A, cells: u32, element: u32, elements: u32) -> Result<Cells<A>, AllocError>
         requires { element < elements }
         ensures exact { IfOk result (λ own. own ≡ all_vacant cells element elements) }

@@ -13,7 +13,7 @@ use Rattle.semantics.specs.Plan.{Plan, mark_at}
 use Rattle.semantics.specs.Program.{first_of}
 use Rattle.semantics.specs.Machine.{Machine}
 use Rattle.semantics.specs.Orderly.{IsMarked, same_block}
-use Rattle.reuse.proofs.Stands.{one_block}
+use Rattle.law_reuse.proofs.Stands.{one_block}
 use Rattle.law_contexts.specs.Parts.{Part, Trigger, Gate, TurnCont, TurnFlag, TurnValue, Item, Firing, spot_of, role_of}
 use Rattle.law_contexts.specs.Blocks.{mark_of, mark_round, lies_in, flag}
 use Rattle.law_contexts.specs.Contexts.{Wires, block_in, code_in, wiring_in}

@@ -8,8 +8,8 @@ use Rattle.semantics.specs.Graph.{Block, Flow}
 use Rattle.semantics.specs.Meaning.{Main}
 use Rattle.semantics.specs.Plan.{Plan}
 use Rattle.semantics.specs.Cause.{is_looped, looped_from}
-use Rattle.lowering.specs.Roles.{one, total}
-use Rattle.lowering.proofs.Members.{contains_cases, contains_none}
+use Rattle.law_net.specs.Roles.{one, total}
+use Rattle.law_net.proofs.Members.{contains_cases, contains_none}
 use Rattle.law_contexts.specs.Parts.{Line, inlet, signal, Item, item, Spot, spot_of}
 use Rattle.law_contexts.specs.Contexts.{Wires}
 use Rattle.law_contexts.specs.Theorem.{IsGood}

@@ -20,11 +20,11 @@ use Rattle.semantics.specs.Program.{CodeBlock, instr_at}
 use Rattle.semantics.specs.Rule.{token}
 use Rattle.semantics.specs.Machine.{Machine}
 use Rattle.semantics.specs.Orderly.{met, often, is_at, eq_port, is_entry, same_block}
-use Rattle.reuse.proofs.Stands.{instr_in}
-use Rattle.lowering.specs.Roles.{one}
-use Rattle.lowering.proofs.Orders.{total-IsPermutation, total-map}
-use Rattle.lowering.proofs.Ports.{same_in, entry_in}
-use Rattle.lowering.proofs.Members.{contains_head, contains_cases, contains_none}
+use Rattle.law_reuse.proofs.Stands.{instr_in}
+use Rattle.law_net.specs.Roles.{one}
+use Rattle.law_net.proofs.Orders.{total-IsPermutation, total-map}
+use Rattle.law_net.proofs.Ports.{same_in, entry_in}
+use Rattle.law_net.proofs.Members.{contains_head, contains_cases, contains_none}
 use Rattle.law_contexts.specs.Parts.{Part, Entry, Line, Merge, CondEnd, Sender, Landing, Giver, Taker, Drainer, Asked, NextAsked, Held, Drained, Shown, Done, Freed, inlet, Item, Firing, Spot, spot_of, same_spot}
 use Rattle.law_contexts.specs.Blocks.{Wiring, is_loop, op_of, merge_cond, there_in, is_store}
 use Rattle.law_contexts.specs.Contexts.{or_zero, Wires, block_in, code_in, site_in, wiring_in, IsContext, is_strict_in}

@@ -11,8 +11,8 @@ use Rattle.semantics.specs.Graph.{Flow}
 use Rattle.semantics.specs.Meaning.{Context, Turned}
 use Rattle.semantics.specs.Plan.{Plan}
 use Rattle.semantics.specs.Machine.{Machine}
-use Rattle.lowering.specs.Roles.{one, total}
-use Rattle.lowering.proofs.Members.{contains_head, contains_tail, contains_cases, contains_none}
+use Rattle.law_net.specs.Roles.{one, total}
+use Rattle.law_net.proofs.Members.{contains_head, contains_tail, contains_cases, contains_none}
 use Rattle.law_contexts.specs.Parts.{Part, Entry, Line, Opener, Framer, Taker, Drainer, Drained, Inlet, inlet, Item, Firing, spot_of, Role, role}
 use Rattle.law_contexts.specs.Blocks.{Side, side, is_loop, waits_in, bound_at, there_in}
 use Rattle.law_contexts.specs.Contexts.{Wires, or_zero, block_in, site_in, wiring_in, IsContext}

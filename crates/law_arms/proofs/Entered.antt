@@ -11,7 +11,7 @@ use Rattle.semantics.specs.Graph.{Block, Flow}
 use Rattle.semantics.specs.Meaning.{Context, Main, Called, Turned}
 use Rattle.semantics.specs.Cause.{is_turn}
 use Rattle.semantics.specs.Plan.{Plan}
-use Rattle.lowering.proofs.Members.{contains_none}
+use Rattle.law_net.proofs.Members.{contains_none}
 use Rattle.law_contexts.specs.Parts.{Part, Line, Trigger, Gate, Merge, Framer, Linker, Sender, Landing, Giver, Taker, Drainer, Result, TurnCont, TurnFlag, TurnValue, Asker, NextFramer, NextSender, LastReturn, DrainReturn, CondEnd, End, Asked, NextAsked, Held, Drained, Inlet, inlet, Note, Datum, Item, item, Firing, spot_of, role, role_of, turn_in}
 use Rattle.law_contexts.specs.Blocks.{Side, side, is_switch, is_kind, cond_kind, merge_cond, is_cell, is_loop, source_count, there_in, waits_in, lies_in, entered, leaves_in, arm_round, outside, flag}
 use Rattle.law_contexts.specs.Contexts.{Wires, block_in, site_in, wiring_in, IsContext, child}

@@ -6,9 +6,9 @@ use Rattle.semantics.specs.Graph.{Block, Flow, Node, node_at}
 use Rattle.semantics.specs.Meaning.{Context, Main, Called, Turned, callee, callee_of, callee_in, block_numbered, block_number, block_of}
 use Rattle.semantics.specs.Cause.{is_looped, loops_to}
 use Rattle.semantics.specs.Plan.{Plan}
-use Rattle.determinacy.proofs.Laws.{well_at}
-use Rattle.lowering.specs.Roles.{one, total}
-use Rattle.lowering.proofs.Orders.{total-sum_by}
+use Rattle.law_determinacy.proofs.Laws.{well_at}
+use Rattle.law_net.specs.Roles.{one, total}
+use Rattle.law_net.proofs.Orders.{total-sum_by}
 use Rattle.std.proofs.lemmas.List.Sums.{sum-map}
 use Rattle.law_contexts.specs.Blocks.{is_kind, call_kind, loop_kind, strict_kind, is_call, is_loop, is_strict, invokes, source_count, outputs_in, kind_results, result_count}
 use Rattle.law_contexts.specs.Contexts.{Wires, or_zero, or_none, block_in, code_in, site_in, wiring_in, child, IsContext}

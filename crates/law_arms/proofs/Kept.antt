@@ -18,14 +18,14 @@ use Rattle.semantics.specs.Machine.{Machine}
 use Rattle.semantics.specs.Holders.{Holder, holder_at, holder_of}
 use Rattle.semantics.specs.Credits.{IsPart, IsLoop}
 use Rattle.semantics.specs.Cause.{is_looped}
-use Rattle.reuse.specs.Bounds.{OnlyAsks}
-use Rattle.reuse.proofs.Claims.{holder_here}
-use Rattle.reuse.proofs.Members.{contains_map}
-use Rattle.reuse.proofs.Stands.{Found, found}
-use Rattle.lowering.specs.Roles.{one, total}
-use Rattle.lowering.proofs.Orders.{total-append}
-use Rattle.lowering.proofs.Net.{Waits, Fires}
-use Rattle.lowering.proofs.Members.{contains_head, contains_tail, contains_cases, contains_none}
+use Rattle.law_reuse.specs.Bounds.{OnlyAsks}
+use Rattle.law_reuse.proofs.Claims.{holder_here}
+use Rattle.law_reuse.proofs.Members.{contains_map}
+use Rattle.law_reuse.proofs.Stands.{Found, found}
+use Rattle.law_net.specs.Roles.{one, total}
+use Rattle.law_net.proofs.Orders.{total-append}
+use Rattle.law_net.proofs.Net.{Waits, Fires}
+use Rattle.law_net.proofs.Members.{contains_head, contains_tail, contains_cases, contains_none}
 use Rattle.law_contexts.specs.Parts.{Part, Opener, Giver, Drainer, Drained, Landing, Held, inlet, signal, Item, item, Firing}
 use Rattle.law_contexts.specs.Blocks.{Wiring, Site, is_loop, bound_at, waits_in}
 use Rattle.law_contexts.specs.Contexts.{Wires, block_in, code_in, site_in, wiring_in, IsContext}

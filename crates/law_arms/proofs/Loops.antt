@@ -16,8 +16,8 @@ use Rattle.semantics.specs.Program.{Instr, first_of, instr_at}
 use Rattle.semantics.specs.Holders.{Holder, holder_at, holder_of}
 use Rattle.semantics.specs.Rule.{slot_of}
 use Rattle.semantics.specs.Credits.{IsPart, IsLink, IsLoop}
-use Rattle.reuse.proofs.Claims.{holder_here}
-use Rattle.reuse.proofs.Stands.{Stands, instr_in}
+use Rattle.law_reuse.proofs.Claims.{holder_here}
+use Rattle.law_reuse.proofs.Stands.{Stands, instr_in}
 use Rattle.law_contexts.specs.Parts.{Part, Line, Opener, Linker, Landing, Taker, Inlet, inlet}
 use Rattle.law_contexts.specs.Blocks.{Wiring, Site, side, loop_kind, is_call, is_loop, bound_at, op_of, line_op, kind_op, there_in, callee_code, code_called, result_count, kind_results}
 use Rattle.law_contexts.specs.Contexts.{Wires}

@@ -19,7 +19,7 @@ use Rattle.semantics.specs.Plan.{Plan}
 use Rattle.semantics.specs.Program.{Instr}
 use Rattle.semantics.specs.Rule.{Seat, fires, fire_two, meets, outcome_of, rule_at, slot_of}
 use Rattle.semantics.specs.Machine.{Machine, slot_in, slot_used, excluded_by, stuck_rule, outputs_of, results_in, filled, unless_value, unless_back}
-use Rattle.lowering.proofs.Members.{contains_head, contains_tail}
+use Rattle.law_net.proofs.Members.{contains_head, contains_tail}
 use Rattle.law_contexts.proofs.Words.{carries_of}
 use Rattle.law_contexts.specs.Parts.{Part, Line, Opener, Asked, NextAsked, Held, Drained, Shown, Done, Freed, Inlet, inlet, Note, Item, Firing}
 use Rattle.law_contexts.specs.Blocks.{is_loop, is_store, waits_in, there_in, op_of}

@@ -5,11 +5,11 @@ use Rattle.std.proofs.lemmas.List.Sorted.{IsPermutation-trans, IsPermutation-sym
 use Rattle.std.proofs.lemmas.List.Elements.{All-contains, Contains-append_left, Contains-append_right, Contains-append_cases}
 use Rattle.tags.specs.declared.token.Token.{Token}
 use Rattle.semantics.specs.Graph.{Flow}
-use Rattle.lowering.specs.Roles.{one, total}
-use Rattle.lowering.proofs.Parts.{one-cases}
-use Rattle.lowering.proofs.Orders.{shuffled, Part, ◌⊕◌, total-append, total-sum_by, total-same}
-use Rattle.lowering.proofs.Members.{contains_head, contains_tail, contains_cases, contains_none}
-use Rattle.lowering.proofs.Net.{Waits, Fires}
+use Rattle.law_net.specs.Roles.{one, total}
+use Rattle.law_net.proofs.Parts.{one-cases}
+use Rattle.law_net.proofs.Orders.{shuffled, Part, ◌⊕◌, total-append, total-sum_by, total-same}
+use Rattle.law_net.proofs.Members.{contains_head, contains_tail, contains_cases, contains_none}
+use Rattle.law_net.proofs.Net.{Waits, Fires}
 use Rattle.law_contexts.specs.Parts.{Item, Firing, spot_of, same_spot, Spot}
 use Rattle.law_contexts.specs.Contexts.{Wires}
 use Rattle.law_contexts.specs.Around.{Choice}

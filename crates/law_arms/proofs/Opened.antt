@@ -9,9 +9,9 @@ use Rattle.semantics.specs.Graph.{Flow}
 use Rattle.semantics.specs.Meaning.{Context, Main, Called, Turned}
 use Rattle.semantics.specs.Plan.{Plan}
 use Rattle.semantics.specs.Machine.{Machine}
-use Rattle.lowering.proofs.Orders.{shuffled, Part, ◌⊕◌}
-use Rattle.lowering.proofs.Net.{Waits, Fires}
-use Rattle.lowering.proofs.Members.{contains_head, contains_tail, contains_none}
+use Rattle.law_net.proofs.Orders.{shuffled, Part, ◌⊕◌}
+use Rattle.law_net.proofs.Net.{Waits, Fires}
+use Rattle.law_net.proofs.Members.{contains_head, contains_tail, contains_none}
 use Rattle.law_contexts.specs.Parts as Parts
 use Rattle.law_contexts.specs.Parts.{Entry, Line, Opener, Framer, Fanned, Linker, Sender, Landing, CallDone, Giver, Taker, Drainer, LoopDone, Result, Asker, NextFramer, NextFanned, NextSender, LastReturn, DrainReturn, End, Asked, NextAsked, Held, Drained, Shown, Done, Freed, Inlet, inlet, Item, Firing, spot_of, Role, role, role_of}
 use Rattle.law_contexts.specs.Blocks.{is_loop, there_in}

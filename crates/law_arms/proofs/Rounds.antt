@@ -9,7 +9,7 @@ use Rattle.semantics.specs.Graph.{Block, Flow, Node, node_count}
 use Rattle.semantics.specs.Meaning.{Context, Main, Called, Turned, block_of, arms_round, arms_at, arm_of}
 use Rattle.semantics.specs.Cause.{is_turn}
 use Rattle.semantics.specs.Plan.{Plan}
-use Rattle.lowering.proofs.Members.{contains_head, contains_tail, contains_cases}
+use Rattle.law_net.proofs.Members.{contains_head, contains_tail, contains_cases}
 use Rattle.law_contexts.specs.Parts.{CondEnd}
 use Rattle.law_contexts.specs.Blocks.{is_kind, cond_kind, lies_in, flag, there_in}
 use Rattle.law_contexts.specs.Contexts.{Wires, block_in, site_in, wiring_in, IsContext}

@@ -8,9 +8,9 @@ use Rattle.tags.specs.declared.value.Value.{Value}
 use Rattle.semantics.specs.declared.graph.Kind.{Kind}
 use Rattle.semantics.specs.Graph.{Block, Flow, Node, node_at}
 use Rattle.semantics.specs.Meaning.{Context}
-use Rattle.lowering.specs.Roles.{one, total}
-use Rattle.lowering.proofs.Orders.{total-append}
-use Rattle.lowering.proofs.Members.{contains_head, contains_tail, contains_cases, contains_none}
+use Rattle.law_net.specs.Roles.{one, total}
+use Rattle.law_net.proofs.Orders.{total-append}
+use Rattle.law_net.proofs.Members.{contains_head, contains_tail, contains_cases, contains_none}
 use Rattle.law_contexts.specs.Parts.{Part, Entry, Line, Trigger, Gate, Framer, Fanned, Linker, Sender, Landing, Giver, Taker, Drainer, LoopDone, Result, TurnCont, TurnFlag, TurnValue, Asker, NextFramer, NextFanned, NextSender, LastReturn, DrainReturn, End, Asked, NextAsked, Held, Drained, Shown, Done, Freed, Inlet, inlet, Note, Datum, FrameOf, BackTo, ToHost, signal, Item, item, each, Firing, Spot, spot_of, same_context, same_inlet, same_spot}
 use Rattle.law_contexts.specs.Blocks.{is_switch, Side, side, is_cell, is_store, is_kind, cell_kind, plain_kind, is_plain, waits_in, there_in, is_loop}
 use Rattle.law_contexts.specs.Contexts.{Wires, block_in, wiring_in, site_in, child, next, IsContext}

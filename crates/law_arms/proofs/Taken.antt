@@ -19,8 +19,8 @@ use Rattle.semantics.specs.Program.{Instr}
 use Rattle.semantics.specs.Rule.{Seat, opens, gives, drains, on_left, outcome_of, rule_at, slot_of}
 use Rattle.semantics.specs.Rule as Rule
 use Rattle.semantics.specs.Machine.{Machine, slot_in, slot_used, excluded_by, stuck_rule}
-use Rattle.lowering.specs.Roles.{one}
-use Rattle.lowering.proofs.Orders.{total-append}
+use Rattle.law_net.specs.Roles.{one}
+use Rattle.law_net.proofs.Orders.{total-append}
 use Rattle.law_contexts.specs.Parts.{Part, Opener, Giver, Taker, Drainer, Drained, DrainReturn, End, NextFramer, inlet, signal, Note, BackTo, Item, item, Firing, Spot, spot_of, same_spot}
 use Rattle.law_contexts.specs.Blocks.{is_loop, waits_in, op_of, there_in}
 use Rattle.law_contexts.specs.Contexts.{Wires, or_zero, block_in, site_in, wiring_in, IsContext}

@@ -4,7 +4,7 @@ use Rattle.std.proofs.lemmas.Bool.{cases_Bool}
 use Rattle.tags.specs.declared.slot.SlotState.TheVariants.{Empty}
 use Rattle.semantics.specs.Meaning.{Context}
 use Rattle.semantics.specs.Faithful.{IsClean}
-use Rattle.lowering.proofs.NetSlots.{AtSlot}
+use Rattle.law_net.proofs.NetSlots.{AtSlot}
 use Rattle.law_contexts.specs.Parts.{Opener, Item}
 use Rattle.law_contexts.specs.Blocks.{is_loop}
 use Rattle.law_contexts.specs.Contexts.{or_zero, block_in, wiring_in, IsContext}

@@ -8,9 +8,9 @@ use Rattle.tags.specs.declared.token.Cont.{Cont}
 use Rattle.tags.specs.declared.slot.SlotState.TheVariants as Slot
 use Rattle.semantics.specs.Graph.{Flow}
 use Rattle.semantics.specs.Meaning.{Context}
-use Rattle.lowering.specs.Roles.{one, total}
-use Rattle.lowering.proofs.Members.{contains_cases, contains_none}
-use Rattle.lowering.proofs.Net.{Waits, Fires}
+use Rattle.law_net.specs.Roles.{one, total}
+use Rattle.law_net.proofs.Members.{contains_cases, contains_none}
+use Rattle.law_net.proofs.Net.{Waits, Fires}
 use Rattle.law_contexts.specs.Parts.{Part, Opener, Giver, Taker, Drainer, NextFramer, Drained, Inlet, inlet, Item, Firing}
 use Rattle.law_contexts.specs.Blocks.{is_loop}
 use Rattle.law_contexts.specs.Contexts.{Wires, block_in, wiring_in, IsContext}

@@ -14,7 +14,7 @@ use Rattle.semantics.specs.Graph.{Flow}
 use Rattle.semantics.specs.Meaning.{Context}
 use Rattle.semantics.specs.Machine.{CellState, Vacant, Full, Deferred, reader_count}
 use Rattle.semantics.specs.Orderly.{readers_of}
-use Rattle.lowering.proofs.Members.{contains_head, contains_tail, contains_cases, contains_none}
+use Rattle.law_net.proofs.Members.{contains_head, contains_tail, contains_cases, contains_none}
 use Rattle.law_contexts.specs.Parts.{Part, Line, Framer, Fanned, Sender, Giver, Taker, Drainer, NextFanned, Asked, NextAsked, Held, Drained, Inlet, inlet, Note, Datum, BackTo, signal, Item, item, Firing, spot_of}
 use Rattle.law_contexts.specs.Blocks.{side, waits_in, is_cell}
 use Rattle.law_contexts.specs.Contexts.{block_in, wiring_in, is_strict_in}

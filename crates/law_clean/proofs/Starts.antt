@@ -10,7 +10,7 @@ use Rattle.semantics.specs.declared.graph.Region.{Region}
 use Rattle.semantics.specs.declared.graph.Region.TheVariants.{Root, Arm}
 use Rattle.semantics.specs.Graph.{Block, Flow}
 use Rattle.semantics.specs.Meaning.{Context}
-use Rattle.lowering.proofs.Members.{contains_head, contains_none}
+use Rattle.law_net.proofs.Members.{contains_head, contains_none}
 use Rattle.law_contexts.specs.Parts.{Part, Entry, Line, Trigger, Gate, Framer, Fanned, Linker, Landing, CallDone, Giver, Taker, Drainer, LoopDone, TurnCont, TurnFlag, TurnValue, Asker, NextFramer, NextFanned, Inlet, inlet, Datum, Firing}
 use Rattle.law_contexts.specs.Blocks.{Side, side, waits_in, invokes, is_call, is_loop, is_switch, region_of, entered, leaves_in, arm_round, lies_in, flag}
 use Rattle.law_contexts.specs.Contexts.{block_in, site_in, wiring_in, IsContext}

@@ -10,10 +10,10 @@ use Rattle.semantics.specs.Plan.{Plan}
 use Rattle.semantics.specs.Meaning.{Context, Main, Called, Turned}
 use Rattle.semantics.specs.Machine.{Machine, Resting, Wants}
 use Rattle.semantics.specs.Faithful.{NoReader}
-use Rattle.lowering.specs.Roles.{one, total}
-use Rattle.lowering.proofs.Members.{contains_head, contains_tail, contains_cases, contains_none}
-use Rattle.lowering.proofs.Net.{weigh, Waits, Fires}
-use Rattle.lowering.proofs.Orders.{total-append}
+use Rattle.law_net.specs.Roles.{one, total}
+use Rattle.law_net.proofs.Members.{contains_head, contains_tail, contains_cases, contains_none}
+use Rattle.law_net.proofs.Net.{weigh, Waits, Fires}
+use Rattle.law_net.proofs.Orders.{total-append}
 use Rattle.law_contexts.specs.Parts.{Part, Entry, Line, Framer, Fanned, Linker, Sender, Landing, CallDone, Giver, Taker, Drainer, LoopDone, Result, Asker, NextFramer, NextFanned, NextSender, LastReturn, DrainReturn, End, Asked, NextAsked, Held, Drained, Freed, Inlet, inlet, Note, Datum, FrameOf, BackTo, ToHost, signal, Item, item, Firing, Spot, spot_of, same_spot}
 use Rattle.law_contexts.specs.Blocks.{Side, is_cell, source_count}
 use Rattle.law_contexts.specs.Contexts.{Wires, block_in, wiring_in, child, next, is_strict_in}

@@ -6,8 +6,8 @@ use Rattle.semantics.specs.declared.graph.Region.{Region}
 use Rattle.semantics.specs.declared.graph.Region.TheVariants.{Root, Arm}
 use Rattle.semantics.specs.Meaning.{Context, Main, Called, Turned}
 use Rattle.semantics.specs.Faithful.{inputs_in}
-use Rattle.lowering.specs.Roles.{total}
-use Rattle.lowering.proofs.Members.{contains_none}
+use Rattle.law_net.specs.Roles.{total}
+use Rattle.law_net.proofs.Members.{contains_none}
 use Rattle.law_contexts.specs.Parts.{Part, Entry, Line, Linker, Sender, NextSender, inlet, Firing}
 use Rattle.law_contexts.specs.Blocks.{there_in, is_call, is_loop, source_count, lies_in, region_of, flag}
 use Rattle.law_contexts.specs.Contexts.{block_in, site_in, wiring_in, IsContext, child}

@@ -25,8 +25,8 @@ use Rattle.law_clean.proofs.Starts.{feeder, zero_way, left_feeder, answer_later,
 use Rattle.law_clean.proofs.Along.{side_open, maker_fires, chose, sends}
 use Rattle.law_clean.proofs.Credits.{taker_fires, drained_fires}
 use Rattle.law_clean.proofs.Supplied.{size, turn_of, AllFired, Supplied, AllSent, call_supplied, loop_supplied, next_supplied, late}
-use Rattle.lowering.proofs.Members.{contains_head}
-use Rattle.lowering.specs.Roles.{total}
+use Rattle.law_net.proofs.Members.{contains_head}
+use Rattle.law_net.specs.Roles.{total}
 
 arm_is : (k j : ℕ) (t s : Bool) → Arm k t ≡ Arm j s → k ≡ j
 arm_is k j t s e = cc

@@ -11,8 +11,8 @@ use Rattle.semantics.specs.Meaning.{State, Main, Tagged, tagged, AtNode, Operand
 use Rattle.semantics.specs.Plan.{Plan}
 use Rattle.semantics.specs.Machine.{Machine, Store, Size, Events, Run, at_start}
 use Rattle.semantics.specs.Handed.{handed, handed_by, EachOnce, UsesEachOnce}
-use Rattle.determinacy.proofs.Resolved.{contains_get}
-use Rattle.lowering.proofs.Members.{contains_cases, contains_none}
+use Rattle.law_determinacy.proofs.Resolved.{contains_get}
+use Rattle.law_net.proofs.Members.{contains_cases, contains_none}
 use Rattle.semantics.specs.Arcs.{UsesArc, SomeEvent}
 use Rattle.semantics.specs.Holders.{Holder}
 use Rattle.semantics.specs.Credits.{granted, released}
@@ -26,16 +26,16 @@ use Rattle.semantics.specs.Rule.{token}
 use Rattle.semantics.specs.Program.{Instr, instr_at}
 use Rattle.semantics.specs.Cause.{HasCause}
 use Rattle.semantics.specs.Orderly.{IsOrderlyRun, IsStart, IsMarked, met, often, is_at, same_block}
-use Rattle.reuse.specs.Bounds.{PlanKeepsBound}
+use Rattle.law_reuse.specs.Bounds.{PlanKeepsBound}
 use Rattle.law_once.specs.Once.{KeepsOnce}
 use Rattle.law_once.specs.Alike.{HasLanding, offset_of}
 use Rattle.law_once.proofs.OnceFaith.{once_suffices}
 use Rattle.law_once.proofs.Alike.{alike_is_faithful}
 use Rattle.law_once.proofs.Bounded.{orderly_is_bounded}
-use Rattle.lowering.proofs.Orders.{shuffled, flat_map-IsPermutation, Part, ◌⊕◌}
-use Rattle.lowering.proofs.Net.{Waits, Fires, net_sound_moves, net_sound_begins, fires_allowed, All-append_left, All-append_right}
-use Rattle.lowering.proofs.NetFollows.{OnFires, net_follows}
-use Rattle.lowering.proofs.Arms.{arms_lawful}
+use Rattle.law_net.proofs.Orders.{shuffled, flat_map-IsPermutation, Part, ◌⊕◌}
+use Rattle.law_net.proofs.Net.{Waits, Fires, net_sound_moves, net_sound_begins, fires_allowed, All-append_left, All-append_right}
+use Rattle.law_net.proofs.NetFollows.{OnFires, net_follows}
+use Rattle.law_net.proofs.Arms.{arms_lawful}
 use Rattle.law_contexts.specs.Parts.{Item, Firing, spot_of, same_spot, role_of}
 use Rattle.law_contexts.specs.Contexts.{Wires}
 use Rattle.law_contexts.specs.Told.{told}

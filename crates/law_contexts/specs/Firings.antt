@@ -7,8 +7,8 @@ use Rattle.operators.specs.Values.{truth, apply1, apply2, Indexed, Place, Outsid
 use Rattle.semantics.specs.declared.graph.Kind.{Kind}
 use Rattle.semantics.specs.Graph.{Flow, first_cell, array_len}
 use Rattle.semantics.specs.Meaning.{Context, Main, Called, Turned, Memory, with_cell, with_output, origin_at, node_of}
-use Rattle.lowering.proofs.Net.{NetConfig, NetMove, Waits, Fires}
-use Rattle.lowering.proofs.NetChains.{NetMoves}
+use Rattle.law_net.proofs.Net.{NetConfig, NetMove, Waits, Fires}
+use Rattle.law_net.proofs.NetChains.{NetMoves}
 use Rattle.law_contexts.specs.Parts.{Part, Entry, Line, Trigger, Gate, Merge, Opener, Framer, Fanned, Linker, Sender, Landing, CallDone, Giver, Taker, Drainer, LoopDone, Strict, Result, TurnCont, TurnFlag, TurnValue, Asker, NextFramer, NextFanned, NextSender, LastReturn, DrainReturn, Join, CondEnd, End, Asked, NextAsked, Held, Drained, Shown, Done, Freed, Inlet, inlet, Note, Datum, FrameOf, BackTo, ToHost, signal, Item, item, each, Firing, same_part, same_context}
 use Rattle.law_contexts.specs.Blocks.{side, is_cell, is_store, waits_in, source_count}
 use Rattle.law_contexts.specs.Contexts.{Wires, block_in, wiring_in, child, next, is_strict_in}
@@ -54,7 +54,7 @@ arguments_from c n w i (v ∷ vs) = item c (inlet (Sender n i) Right w) (Datum v
 abbrev pub arguments : Flow → Context → ℕ → ℕ → List Value → List Item
 arguments fl c n w vs = if is_strict_in fl c n then arguments_from c n w 0 vs else []
 
--- the credits of the first so many turns that were given back
+-- the credits of the first turns, whose number is given, that were given back
 abbrev pub given_back : Context → ℕ → ℕ → List Item
 given_back c n zero = []
 given_back c n (suc t) = item c (inlet (Giver n) Left t) signal ∷ given_back c n t

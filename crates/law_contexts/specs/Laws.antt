@@ -8,9 +8,9 @@ use Rattle.semantics.specs.declared.graph.Region.TheVariants.{Arm}
 use Rattle.semantics.specs.Graph.{Block, Flow, node_count}
 use Rattle.semantics.specs.Meaning.{Context, Main, Turned, State, arms_round}
 use Rattle.semantics.specs.Cause.{is_turn}
-use Rattle.lowering.proofs.Net.{IsLawful, IsNetSound}
-use Rattle.lowering.proofs.NetFollows.{NetFollows, Simulates}
-use Rattle.lowering.proofs.Arms.{HasArms, IsAllowed}
+use Rattle.law_net.proofs.Net.{IsLawful, IsNetSound}
+use Rattle.law_net.proofs.NetFollows.{NetFollows, Simulates}
+use Rattle.law_net.proofs.Arms.{HasArms, IsAllowed}
 use Rattle.law_contexts.specs.Parts.{Part, Line, Merge, CondEnd, Sender, Landing, Giver, Taker, Drainer, Asked, NextAsked, NextFramer, Held, Shown, Done, Freed, inlet, Note, Datum, FrameOf, BackTo, Item, Firing, Spot, Role, role, spot_of, same_spot, role_of}
 use Rattle.law_contexts.specs.Blocks.{there_in, waits_in, entered, is_loop, is_cell, is_store, invokes, flag}
 use Rattle.law_contexts.specs.Contexts.{Wires, block_in, site_in, wiring_in, IsContext, child, next, return_of, is_strict_in}

@@ -22,11 +22,11 @@ use Rattle.semantics.specs.Holders.{Holder}
 use Rattle.semantics.specs.Credits.{IsPart, IsLoop}
 use Rattle.semantics.specs.Plan.{Plan}
 use Rattle.semantics.specs.Orderly.{met, is_at, often, is_entry, same_block, IsMarked, IsFreeAtRelease}
-use Rattle.reuse.specs.Bounds.{OnlyAsks}
+use Rattle.law_reuse.specs.Bounds.{OnlyAsks}
 use Rattle.law_once.specs.Alike.{HasLanding, offset_of}
-use Rattle.lowering.specs.Roles.{total}
-use Rattle.lowering.proofs.Net.{hit}
-use Rattle.lowering.proofs.Arms.{Proves}
+use Rattle.law_net.specs.Roles.{total}
+use Rattle.law_net.proofs.Net.{hit}
+use Rattle.law_net.proofs.Arms.{Proves}
 use Rattle.law_contexts.specs.Parts.{Part, Line, Merge, Gate, Landing, Shown, Held, Sender, Framer, NextFramer, TurnValue, Linker, Result, NextSender, LastReturn, DrainReturn, Asker, End, Asked, NextAsked, Freed, Done, Opener, Giver, Taker, Drainer, Item, Firing, Spot, spot_of, same_spot, role_of}
 use Rattle.law_contexts.specs.Around.{Choice}
 use Rattle.law_contexts.specs.Blocks.{is_cell}

@@ -22,7 +22,7 @@ use Rattle.semantics.specs.Holders.{Holder}
 use Rattle.semantics.specs.Credits.{granted_at, released_at}
 use Rattle.semantics.specs.Orderly.{readers_of}
 use Rattle.semantics.specs.Plan.{Plan, landing}
-use Rattle.lowering.proofs.NetSlots.{InSlots}
+use Rattle.law_net.proofs.NetSlots.{InSlots}
 use Rattle.law_contexts.specs.Parts.{Part, Entry, Line, Opener, Giver, Taker, Drainer, Landing, Asked, NextAsked, Held, Drained, Shown, Done, Freed, Inlet, Note, Datum, FrameOf, BackTo, ToHost, Item, Firing, same_context, same_part}
 use Rattle.law_contexts.specs.Blocks.{waits_in, is_store, is_loop, bound_at, callee_code}
 use Rattle.law_contexts.specs.Contexts.{Wires, block_in, code_in, wiring_in, or_zero, IsContext}

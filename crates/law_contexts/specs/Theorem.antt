@@ -12,10 +12,10 @@ use Rattle.semantics.specs.Placed.{placed}
 use Rattle.semantics.specs.Sharing.{Good}
 use Rattle.semantics.specs.Orderly.{Orderly, inputs_of}
 use Rattle.semantics.specs.Wired.{IsWired}
-use Rattle.determinacy.proofs.Laws.{IsFlowWell}
+use Rattle.law_determinacy.proofs.Laws.{IsFlowWell}
 use Rattle.expansion.specs.Expanded.{expanded}
-use Rattle.reuse.specs.Bounds.{PlanKeepsBounds}
-use Rattle.reuse.specs.Theorem.{TakesInputs}
+use Rattle.law_reuse.specs.Bounds.{PlanKeepsBounds}
+use Rattle.law_reuse.specs.Theorem.{TakesInputs}
 use Rattle.law_once.specs.Once.{FaithfulOnce}
 use Rattle.law_once.specs.Alike.{LandsRightly, IsTidy, PassKeeps}
 use Rattle.code.specs.Sound.{IsSound}

@@ -13,7 +13,7 @@ use Rattle.semantics.specs.Meaning.{Context, Tagged}
 use Rattle.semantics.specs.Program.{Instr, CodeBlock}
 use Rattle.semantics.specs.Plan.{Plan, mark_at}
 use Rattle.semantics.specs.Cause.{is_looped}
-use Rattle.lowering.specs.Roles.{one, total}
+use Rattle.law_net.specs.Roles.{one, total}
 use Rattle.law_contexts.specs.Parts.{Part, Entry, Line, Answer, Trigger, Gate, Merge, Opener, Framer, Fanned, Linker, Sender, Landing, CallDone, Giver, Taker, Drainer, LoopDone, Strict, Result, TurnCont, TurnFlag, TurnValue, Asker, NextFramer, NextFanned, NextSender, LastReturn, DrainReturn, Join, CondEnd, End, Asked, NextAsked, Held, Inlet, inlet, same_inlet}
 use Rattle.law_contexts.specs.Blocks.{Side, side, Wiring, Site, there_in, waits_in, op_of, origin_of, mark_of, entered, leaves_in, is_switch, exit, is_loop, is_call, is_strict, invokes, source_count, result_count, flag, lies_in, is_kind, cond_kind, merge_kind, merge_cond}
 use Rattle.law_contexts.specs.Contexts.{Wires, code_in, IsContext}
@@ -226,7 +226,7 @@ pub record FollowArms (fl : Flow) (s : Site) (w : Wiring) : Type 0 where
   -- a trigger's two words, and those of the flag's switch, come from one side
   pub both : (t : Side) (k : ℕ) → (there_in fl s w t.part ≡ true) → (Contains (w.wire t) (inlet (Trigger k) Left 0) → t ≡ decider s.block w k) × (Contains (w.wire t) (inlet TurnFlag Left 0) → t ≡ decider s.block w (flag s.block))
 
--- A STRICT CALL of so many arguments asks for its frame when all have come: the first one and each of the joins lead to the
+-- A STRICT CALL asks for its frame when all its arguments have come: the first one and each of the joins lead to the
 -- next join, the last to the framer, and the other arguments come to the joins.
 abbrev pub wait_after : ℕ → ℕ → ℕ → Inlet
 wait_after n count i = if i + 1 == count then inlet (Framer n) Left 0 else inlet (Strict n (i + 1)) Left 0

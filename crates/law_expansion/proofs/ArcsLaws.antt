@@ -2,7 +2,7 @@
 use Rattle.std.proofs.Common.{◌≡◌, ℕ, zero, suc, ◌+◌, ◌<◌, ◌≤◌, Bool, true, false, ◌⊎◌, inl, inr, List, [], ◌∷◌, ◌++◌, map, refl, sym, ap, ◌∙◌, subst, arith, if◌then◌else◌, Some, None}
 use Rattle.std.specs.Prelude.{slice_get, Contains, flat_map}
 use Rattle.std.proofs.lemmas.List.Elements.{All-weaker, All-contains_itself, Contains-append_left, Contains-append_right, Contains-append_cases}
-use Rattle.lowering.proofs.Members.{contains_cases, contains_none, contains_head, contains_tail}
+use Rattle.law_net.proofs.Members.{contains_cases, contains_none, contains_head, contains_tail}
 use Rattle.tags.specs.declared.token.Port.TheVariants.{Left, Right}
 use Rattle.semantics.specs.declared.program.Dest.{Dest}
 use Rattle.semantics.specs.declared.program.Op.{Op}
@@ -21,7 +21,7 @@ use Rattle.law_expansion.specs.Arcs.{LinksLandLeft, ArcsPassEntries, RightArcsMe
 use Rattle.expansion.specs.Expanded.{expanded}
 use Rattle.law_expansion.proofs.ArcsKept.{Env, Has, MeetsAt, RowAt, Leads, Lands}
 use Rattle.law_expansion.proofs.ArcsSettled.{left_right}
-use Rattle.determinacy.proofs.Resolved.{all_get}
+use Rattle.law_determinacy.proofs.Resolved.{all_get}
 use Rattle.expansion.specs.Blocks.{IsSmallBlock}
 use Rattle.expansion.proofs.Small.{small_flow}
 use Rattle.law_expansion.proofs.ArcsFlows.{block_some}

@@ -4,7 +4,7 @@ use Rattle.std.specs.Prelude.{All, Contains, slice_get, sum, ⊤}
 use Rattle.std.proofs.lemmas.Bool.{le-ltb}
 use Rattle.std.proofs.lemmas.List.{length-map}
 use Rattle.std.proofs.lemmas.Option.{slice_get-get_or, slice_get_within}
-use Rattle.determinacy.proofs.Resolved.{all_get, contains_get, place_get, block_in, node_in}
+use Rattle.law_determinacy.proofs.Resolved.{all_get, contains_get, place_get, block_in, node_in}
 use Rattle.semantics.specs.declared.graph.Kind.{Kind}
 use Rattle.semantics.specs.declared.graph.Kind.TheVariants.{Lit, Apply1, Apply2, Cond, Enter, Merge, Fetch, Store, Call, StrictCall, Loop}
 use Rattle.semantics.specs.Graph.{Graph, Block, Node, Flow, node_at, node_count, flow_of, resolved_kind, array_names, block_names, place_of}

@@ -1,7 +1,7 @@
 -- What a code block's holders keep to, from how its instructions were added.
 use Rattle.std.proofs.Common.{◌≡◌, ℕ, ◌<◌, ◌⊎◌, ◌&&◌, Bool, true, false, refl, sym, ap, ◌∙◌, subst, inl, inr, Some}
 use Rattle.std.specs.Prelude.{slice_get, Contains}
-use Rattle.determinacy.proofs.Resolved.{contains_get}
+use Rattle.law_determinacy.proofs.Resolved.{contains_get}
 use Rattle.semantics.specs.declared.program.Op.{Op}
 use Rattle.semantics.specs.declared.program.Op.TheVariants.{Apply1, Apply2, Apply2Right, Apply2Left, Lit, Copy, Sync, Switch, Fetch, Store, Frame, Link, Send, Return, Ask, Open, Take, Give, Drain, Release}
 use Rattle.semantics.specs.Program.{Instr, CodeBlock}

@@ -2,7 +2,7 @@
 use Rattle.std.proofs.Common.{◌≡◌, ℕ, zero, suc, ◌+◌, Bool, true, false, List, [], ◌∷◌, ◌++◌, length, get_or, Some, refl, subst, inl, inr, ◌⊎◌, if◌then◌else◌}
 use Rattle.std.specs.Prelude.{slice_get, map}
 use Rattle.std.proofs.lemmas.Option.{slice_get-get_or}
-use Rattle.determinacy.proofs.Resolved.{all_get, block_in}
+use Rattle.law_determinacy.proofs.Resolved.{all_get, block_in}
 use Rattle.semantics.specs.Graph.{Graph, Block, flow_of}
 use Rattle.semantics.specs.WellFormed.{WellFormed, IsBlockWell}
 use Rattle.semantics.specs.declared.program.Op.{Op}

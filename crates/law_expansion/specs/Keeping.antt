@@ -22,7 +22,7 @@ abbrev pub MarksFit : Plan → Type 0
 MarksFit p = (b n : ℕ) (c : CodeBlock) (i : Instr) → slice_get p.program.blocks b ≡ Some c → slice_get c.instrs n ≡ Some i → Fits i.op (mark_at p b n)
 
 -- The instructions with a holder of their own, those at which two words meet and each `open`, are numbered in their order
--- from a first number on; so many there are in the end.
+-- from a first number on; `count` is how many there are in the end.
 abbrev pub AreNumbered : ℕ → List Instr → ℕ → Type 0
 AreNumbered n [] count = n ≡ count
 AreNumbered n (i ∷ is) count = (takes_holder i.op ≡ true → i.slot ≡ n) × AreNumbered (if takes_holder i.op then n + 1 else n) is count

@@ -12,8 +12,8 @@ use Rattle.semantics.specs.Handed.{EachOnce}
 use Rattle.semantics.specs.Plan.{Plan}
 use Rattle.semantics.specs.Wired.{IsWired}
 use Rattle.semantics.specs.Orderly.{Orderly, IsOrderlyRun, IsStart, met}
-use Rattle.reuse.proofs.Members.{contains_head}
-use Rattle.reuse.proofs.History.{taken}
+use Rattle.law_reuse.proofs.Members.{contains_head}
+use Rattle.law_reuse.proofs.History.{taken}
 use Rattle.law_once.specs.Alike.{LandsRightly}
 use Rattle.law_once.specs.Spreads.{ip_word, ip_token}
 use Rattle.semantics.specs.Orderly.{is_at}

@@ -18,8 +18,8 @@ use Rattle.semantics.specs.Machine.{Machine}
 use Rattle.semantics.specs.Plan.{Plan, landing}
 use Rattle.semantics.specs.Sharing.{Arc, arc, inlet, arcs_to, row, arcs_from, arcs_of, arcs_in}
 use Rattle.semantics.specs.Arcs.{UsesBy, UsesArc}
-use Rattle.reuse.proofs.Stands.{some_same, instr_in}
-use Rattle.reuse.proofs.Members.{contains_head, contains_tail, contains_cases, contains_none, contains_mapped}
+use Rattle.law_reuse.proofs.Stands.{some_same, instr_in}
+use Rattle.law_reuse.proofs.Members.{contains_head, contains_tail, contains_cases, contains_none, contains_mapped}
 use Rattle.law_once.specs.Spreads.{ip_to, ip_token}
 use Rattle.law_fold.specs.Folds.{fires_lit, Plain, Fresh, top, Pend, Sends, Stands, moved, lit, right, left, StandAll, stand_none, stand_more}
 use Rattle.law_fold.proofs.FoldRules.{node_grows, pend_with, lit_nodes}

@@ -21,11 +21,11 @@ use Rattle.semantics.specs.Handed.{handed, EachOnce, UsesEachOnce}
 use Rattle.semantics.specs.Plan.{Plan}
 use Rattle.semantics.specs.Wired.{IsWired}
 use Rattle.semantics.specs.Orderly.{Orderly, IsStart, met}
-use Rattle.reuse.proofs.Members.{contains_head, contains_tail, contains_cases, contains_none}
-use Rattle.reuse.proofs.Stands.{some_same, Found, found}
+use Rattle.law_reuse.proofs.Members.{contains_head, contains_tail, contains_cases, contains_none}
+use Rattle.law_reuse.proofs.Stands.{some_same, Found, found}
 use Rattle.law_once.specs.Alike.{HasLanding, LandsRightly}
 use Rattle.law_once.specs.Spreads.{ip_to, ip_slot, ip_store}
-use Rattle.reuse.proofs.Tallies.{Grants, Releases}
+use Rattle.law_reuse.proofs.Tallies.{Grants, Releases}
 use Rattle.semantics.specs.Holders.{holder_at}
 use Rattle.law_once.specs.Spreads.{is_answered}
 use Rattle.law_once.proofs.SpreadSteps.{steps_of}
@@ -42,8 +42,8 @@ use Rattle.std.specs.Prelude.{◌-◌}
 use Rattle.semantics.specs.declared.program.Op.TheVariants.{Link}
 use Rattle.semantics.specs.Holders.{Holder, holder_at}
 use Rattle.semantics.specs.Credits.{IsPart, IsLink, IsLoop, granted, released}
-use Rattle.reuse.specs.Bounds.{OnlyAsks, PlanKeepsBound, PlanKeepsBounds}
-use Rattle.reuse.proofs.Tallies.{granted_is, released_is}
+use Rattle.law_reuse.specs.Bounds.{OnlyAsks, PlanKeepsBound, PlanKeepsBounds}
+use Rattle.law_reuse.proofs.Tallies.{granted_is, released_is}
 use Rattle.law_once.specs.Alike.{IsTidy, HasLanding}
 use Rattle.law_once.specs.Spreads.{is_answered}
 use Rattle.law_once.proofs.SpreadSteps.{grants_are, releases_are}

@@ -18,7 +18,7 @@ use Rattle.semantics.specs.Rule.{Seat, back_to, Outcome, Becomes, Excluded, outc
 use Rattle.semantics.specs.Machine.{Machine, CellState, Vacant, Full, Deferred, Store as MStore, answer, answers, put_at, with_slot, with_slot_in, slot_in, slot_used, outputs_of, Fires, Fetches, Stores, Requests, Releases, Hosts, Happens}
 use Rattle.semantics.specs.Plan.{Plan}
 use Rattle.semantics.specs.Arcs.{UsesArc}
-use Rattle.reuse.proofs.Members.{contains_head, contains_cases, contains_none, contains_mapped}
+use Rattle.law_reuse.proofs.Members.{contains_head, contains_cases, contains_none, contains_mapped}
 use Rattle.law_once.specs.Spreads.{ip_cont, ip_word, ip_to, ip_slot, ip_cell, ip_store}
 use Rattle.law_once.proofs.SpreadNewArcs.{uses_new}
 use Rattle.law_once.proofs.SpreadSteps.{slot_same}

@@ -17,8 +17,8 @@ use Rattle.semantics.specs.Plan.{Plan}
 use Rattle.semantics.specs.Wired.{IsWired}
 use Rattle.semantics.specs.Arcs.{UsesArc}
 use Rattle.semantics.specs.Orderly.{Orderly, IsOrderlyRun, IsStart, met, is_at, is_entry, often}
-use Rattle.reuse.proofs.Members.{contains_head, contains_mapped}
-use Rattle.reuse.proofs.History.{taken}
+use Rattle.law_reuse.proofs.Members.{contains_head, contains_mapped}
+use Rattle.law_reuse.proofs.History.{taken}
 use Rattle.law_once.specs.Alike.{LandsRightly}
 use Rattle.law_once.specs.Spreads.{ip_to, Spot}
 use Rattle.law_once.proofs.Weights.{tot_append, tot_perm}

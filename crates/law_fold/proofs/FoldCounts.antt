@@ -15,8 +15,8 @@ use Rattle.semantics.specs.declared.program.Op.TheVariants.{Apply2, Apply2Right,
 use Rattle.semantics.specs.Program.{Instr, Program, instr_at}
 use Rattle.semantics.specs.Rule.{token, at_dest}
 use Rattle.semantics.specs.Orderly.{is_at}
-use Rattle.reuse.proofs.Members.{contains_head, contains_tail, contains_cases, contains_none, contains_map, contains_mapped}
-use Rattle.reuse.proofs.Stands.{some_same}
+use Rattle.law_reuse.proofs.Members.{contains_head, contains_tail, contains_cases, contains_none, contains_map, contains_mapped}
+use Rattle.law_reuse.proofs.Stands.{some_same}
 use Rattle.law_once.specs.Spreads.{ip_to, Spot}
 use Rattle.law_once.proofs.Weights.{tot, tot_append, tot_perm}
 use Rattle.law_once.proofs.Rows.{unless, unit}

@@ -17,8 +17,8 @@ use Rattle.semantics.specs.Rule.{token, at_dest, to_all}
 use Rattle.semantics.specs.Machine.{Machine}
 use Rattle.semantics.specs.Plan.{Plan}
 use Rattle.semantics.specs.Arcs.{UsesBy, UsesArc}
-use Rattle.reuse.proofs.Members.{contains_cases, contains_map, contains_mapped}
-use Rattle.reuse.proofs.Stands.{some_same}
+use Rattle.law_reuse.proofs.Members.{contains_cases, contains_map, contains_mapped}
+use Rattle.law_reuse.proofs.Stands.{some_same}
 use Rattle.law_once.specs.Alike.{plain_dests}
 use Rattle.law_once.proofs.SpreadNewArcs.{uses_goes, uses_new}
 use Rattle.law_fold.specs.Folds.{fires_lit, Plain, Fresh, Clumped, Sends, Pend, Node, top, next, Folds}

@@ -15,8 +15,8 @@ use Rattle.semantics.specs.Handed.{handed, EachOnce, UsesEachOnce}
 use Rattle.semantics.specs.Plan.{Plan}
 use Rattle.semantics.specs.Wired.{IsWired}
 use Rattle.semantics.specs.Orderly.{Orderly, IsStart, met}
-use Rattle.reuse.proofs.Members.{contains_head}
-use Rattle.reuse.proofs.Stands.{some_same}
+use Rattle.law_reuse.proofs.Members.{contains_head}
+use Rattle.law_reuse.proofs.Stands.{some_same}
 use Rattle.law_once.specs.Alike.{offset_of, HasLanding, LandsRightly}
 use Rattle.law_once.specs.Spreads.{ip_word, ip_to}
 use Rattle.law_once.proofs.SpreadSteps.{Step, steps_of}

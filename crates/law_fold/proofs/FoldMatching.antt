@@ -21,7 +21,7 @@ use Rattle.semantics.specs.Handed.{EachOnce}
 use Rattle.semantics.specs.Plan.{Plan}
 use Rattle.semantics.specs.Wired.{IsWired}
 use Rattle.semantics.specs.Orderly.{Orderly, IsOrderlyRun, IsStart}
-use Rattle.reuse.proofs.Members.{contains_head, contains_mapped}
+use Rattle.law_reuse.proofs.Members.{contains_head, contains_mapped}
 use Rattle.law_once.specs.Alike.{LandsRightly}
 use Rattle.law_once.specs.Spreads.{ip_word, ip_to, ip_store}
 use Rattle.law_once.proofs.Lifted.{flat_map-IsPermutation}

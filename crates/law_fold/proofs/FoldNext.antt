@@ -25,13 +25,13 @@ use Rattle.semantics.specs.Handed.{handed_by, EachOnce}
 use Rattle.semantics.specs.Plan.{Plan}
 use Rattle.semantics.specs.Wired.{IsWired}
 use Rattle.semantics.specs.Orderly.{Orderly, IsStart, met}
-use Rattle.reuse.proofs.Members.{contains_head, contains_tail, contains_none}
-use Rattle.reuse.proofs.Counts.{requests_more, credits_more}
-use Rattle.reuse.proofs.History.{taken}
+use Rattle.law_reuse.proofs.Members.{contains_head, contains_tail, contains_none}
+use Rattle.law_reuse.proofs.Counts.{requests_more, credits_more}
+use Rattle.law_reuse.proofs.History.{taken}
 use Rattle.law_once.specs.Alike.{LandsRightly}
 use Rattle.law_once.specs.Spreads.{ip_word, ip_to, ip_token, ip_store}
 use Rattle.law_once.proofs.Lifted.{first_lifted, flat_map-IsPermutation}
-use Rattle.reuse.proofs.Tallies.{Counter, Grants, Releases, count_at, count_apart}
+use Rattle.law_reuse.proofs.Tallies.{Counter, Grants, Releases, count_at, count_apart}
 use Rattle.law_once.proofs.Weights.{tot_append}
 use Rattle.law_once.proofs.SpreadCounts.{ones}
 use Rattle.semantics.specs.Credits.{granted_at, released_at}

@@ -26,14 +26,14 @@ use Rattle.semantics.specs.Handed.{handed_by, handed, EachOnce}
 use Rattle.semantics.specs.Plan.{Plan}
 use Rattle.semantics.specs.Wired.{IsWired}
 use Rattle.semantics.specs.Orderly.{Orderly, IsOrderlyRun, IsStart, met}
-use Rattle.reuse.proofs.Members.{contains_none, contains_head, contains_tail, contains_cases}
-use Rattle.reuse.proofs.Snoc.{run_snoc, handed_snoc}
-use Rattle.reuse.proofs.Counts.{requests_more, credits_more}
-use Rattle.reuse.proofs.History.{taken, Kept, kept_next}
+use Rattle.law_reuse.proofs.Members.{contains_none, contains_head, contains_tail, contains_cases}
+use Rattle.law_reuse.proofs.Snoc.{run_snoc, handed_snoc}
+use Rattle.law_reuse.proofs.Counts.{requests_more, credits_more}
+use Rattle.law_reuse.proofs.History.{taken, Kept, kept_next}
 use Rattle.law_fold.specs.Folds.{fires_lit, Settles, settled, fired, Clumped}
 use Rattle.law_fold.proofs.FoldRules.{map_join, Made}
-use Rattle.reuse.proofs.Snoc.{tally, tally_snoc}
-use Rattle.reuse.proofs.Tallies.{Counter, count_at}
+use Rattle.law_reuse.proofs.Snoc.{tally, tally_snoc}
+use Rattle.law_reuse.proofs.Tallies.{Counter, count_at}
 use Rattle.semantics.specs.Orderly.{is_at}
 use Rattle.law_once.specs.Spreads.{is_answered}
 use Rattle.law_once.proofs.Weights.{tot_append}
@@ -48,7 +48,7 @@ use Rattle.law_fold.specs.Folds.{IsValue, Pairs}
 use Rattle.law_fold.proofs.FoldFires.{both_wait}
 use Rattle.law_fold.proofs.FoldParts.{unit_of, no_seek, counts_none, count_none, Sums, Fair, Says, with_spent}
 use Rattle.semantics.specs.Arcs.{UsesArc, SomeEvent}
-use Rattle.reuse.proofs.Snoc.{some_snoc}
+use Rattle.law_reuse.proofs.Snoc.{some_snoc}
 use Rattle.std.specs.Prelude.{⊤}
 use Rattle.tags.specs.declared.token.Port.{Port}
 

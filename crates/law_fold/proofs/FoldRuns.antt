@@ -16,9 +16,9 @@ use Rattle.semantics.specs.Handed.{handed_by, handed, EachOnce, UsesEachOnce}
 use Rattle.semantics.specs.Plan.{Plan}
 use Rattle.semantics.specs.Wired.{IsWired}
 use Rattle.semantics.specs.Orderly.{Orderly, IsStart}
-use Rattle.reuse.proofs.Members.{contains_none, contains_cases}
-use Rattle.reuse.proofs.History.{kept_start}
-use Rattle.reuse.proofs.OnceRuns.{once_before}
+use Rattle.law_reuse.proofs.Members.{contains_none, contains_cases}
+use Rattle.law_reuse.proofs.History.{kept_start}
+use Rattle.law_reuse.proofs.OnceRuns.{once_before}
 use Rattle.law_once.specs.Alike.{LandsRightly}
 use Rattle.law_once.proofs.SpreadSteps.{Step, step, steps_of}
 use Rattle.law_fold.specs.Folds.{fires_lit, Sends, Plain, Fresh, Clumped, Folds}

@@ -16,9 +16,9 @@ use Rattle.semantics.specs.Handed.{handed, EachOnce}
 use Rattle.semantics.specs.Plan.{Plan}
 use Rattle.semantics.specs.Wired.{IsWired}
 use Rattle.semantics.specs.Orderly.{Orderly, IsStart, met}
-use Rattle.reuse.proofs.Members.{contains_head, contains_mapped}
-use Rattle.reuse.proofs.History.{taken}
-use Rattle.reuse.proofs.Clauses.{perm_nil}
+use Rattle.law_reuse.proofs.Members.{contains_head, contains_mapped}
+use Rattle.law_reuse.proofs.History.{taken}
+use Rattle.law_reuse.proofs.Clauses.{perm_nil}
 use Rattle.law_once.specs.Alike.{LooksAlike, LandsRightly}
 use Rattle.law_once.specs.Spreads.{ip_cont, ip_to, ip_slot, ip_cell, ip_store}
 use Rattle.law_once.proofs.SpreadSteps.{Step, steps_of}

@@ -20,17 +20,17 @@ use Rattle.semantics.specs.Handed.{EachOnce, UsesEachOnce}
 use Rattle.semantics.specs.Plan.{Plan, is_credit}
 use Rattle.semantics.specs.Wired.{IsWired}
 use Rattle.semantics.specs.Orderly.{Orderly, IsOrderlyRun, IsStart, met}
-use Rattle.reuse.proofs.Members.{contains_cases, contains_none}
-use Rattle.reuse.proofs.Turns.{dyadic_not_credit}
-use Rattle.reuse.proofs.Stands.{Found, found}
-use Rattle.reuse.proofs.Stands as Places
-use Rattle.reuse.proofs.Fillings.{at_port, Filled, EmptyOr}
-use Rattle.reuse.proofs.UsedArcs.{one_frame}
-use Rattle.reuse.proofs.Firings.{holders_of}
-use Rattle.reuse.proofs.History.{taken, ports_of}
+use Rattle.law_reuse.proofs.Members.{contains_cases, contains_none}
+use Rattle.law_reuse.proofs.Turns.{dyadic_not_credit}
+use Rattle.law_reuse.proofs.Stands.{Found, found}
+use Rattle.law_reuse.proofs.Stands as Places
+use Rattle.law_reuse.proofs.Fillings.{at_port, Filled, EmptyOr}
+use Rattle.law_reuse.proofs.UsedArcs.{one_frame}
+use Rattle.law_reuse.proofs.Firings.{holders_of}
+use Rattle.law_reuse.proofs.History.{taken, ports_of}
 use Rattle.law_once.specs.Alike.{offset_of, LandsRightly}
 use Rattle.law_once.specs.Spreads.{ip_to, ip_store}
-use Rattle.reuse.proofs.Tallies.{Counter, Grants, Releases, count_at}
+use Rattle.law_reuse.proofs.Tallies.{Counter, Grants, Releases, count_at}
 use Rattle.law_once.proofs.Weights.{tot}
 use Rattle.law_once.proofs.SpreadSteps.{Step}
 use Rattle.law_fold.specs.Folds.{Plain, Stands, Folds}

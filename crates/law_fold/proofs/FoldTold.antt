@@ -14,8 +14,8 @@ use Rattle.semantics.specs.Rule.{token, at_dest}
 use Rattle.semantics.specs.Machine.{Machine, Store as MStore}
 use Rattle.semantics.specs.Plan.{Plan}
 use Rattle.semantics.specs.Arcs.{UsesArc}
-use Rattle.reuse.proofs.Members.{contains_tail, contains_map}
-use Rattle.reuse.proofs.Stands.{some_same}
+use Rattle.law_reuse.proofs.Members.{contains_tail, contains_map}
+use Rattle.law_reuse.proofs.Stands.{some_same}
 use Rattle.law_once.proofs.SpreadSteps.{Step, step, HasStep, step_before, step_last}
 use Rattle.law_once.specs.Spreads.{ip_to, ip_token}
 use Rattle.law_fold.specs.Folds.{fires_lit, Plain, Fits, Fresh, Node, Pend, Sends, Folds}

@@ -15,7 +15,7 @@ use Rattle.semantics.specs.Program.{Instr, Program, first_of, instr_at}
 use Rattle.semantics.specs.Rule.{token, Seat, Outcome, Becomes, Excluded, fires, fire_one, outcome_of, rule_at, slot_of}
 use Rattle.semantics.specs.Machine.{Machine, Store as MStore, slot_in, slot_used, Fires, Happens}
 use Rattle.semantics.specs.Plan.{Plan}
-use Rattle.reuse.proofs.Stands.{some_same}
+use Rattle.law_reuse.proofs.Stands.{some_same}
 use Rattle.law_once.specs.Alike.{HasLanding}
 use Rattle.law_once.specs.Spreads.{ip_word, ip_token, ip_slot, ip_store}
 use Rattle.law_once.specs.Spreads.{is_answered}

@@ -12,8 +12,8 @@ use Rattle.semantics.specs.Plan.{Plan, landing}
 use Rattle.semantics.specs.Sharing.{Arc, arc, inlet, arcs_to, row, arcs_from}
 use Rattle.semantics.specs.Orderly.{is_entry}
 use Rattle.code.specs.Sound.{IsSound}
-use Rattle.reuse.proofs.Stands.{first_in, first_next}
-use Rattle.reuse.proofs.Members.{contains_head, contains_tail, contains_cases, contains_none, contains_map, contains_mapped}
+use Rattle.law_reuse.proofs.Stands.{first_in, first_next}
+use Rattle.law_reuse.proofs.Members.{contains_head, contains_tail, contains_cases, contains_none, contains_map, contains_mapped}
 use Rattle.folding.specs.Folds.{new_port}
 use Rattle.folding.specs.Places.{layout_of, folds_at, gone_at, new_place}
 use Rattle.folding.specs.Moved.{is_shut, new_dest, moved_dests}
@@ -36,8 +36,8 @@ use Rattle.law_fold.proofs.Static.{new_block, spares, inside, ahead, g_at}
 use Rattle.law_fold.proofs.Spots.{stays, kept_of, plain_of, plain_only, plain_at_h, new_within, at_of}
 use Rattle.law_fold.proofs.FoldArcs.{arcs_from_from}
 use Rattle.law_fold.proofs.FoldUses.{NewArc, ArcFacts}
-use Rattle.reuse.proofs.Stands.{Stands}
-use Rattle.reuse.proofs.UsedArcs.{stands_arcs}
+use Rattle.law_reuse.proofs.Stands.{Stands}
+use Rattle.law_reuse.proofs.UsedArcs.{stands_arcs}
 use Rattle.folding.proofs.Taken.{leaves_out}
 use Rattle.law_fold.proofs.Moves.{one_list, shape_one, entry_at, kept_slots_folds}
 use Rattle.law_fold.proofs.KeptStatic.{plain_of_op, same_landings}

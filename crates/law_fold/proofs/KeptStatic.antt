@@ -14,8 +14,8 @@ use Rattle.semantics.specs.Program.{Instr, CodeBlock, Program, first_of, instr_a
 use Rattle.semantics.specs.Plan.{Plan, mark_at, landing, landing_in}
 use Rattle.semantics.specs.Orderly.{same_block, often, IsMarked}
 use Rattle.code.specs.Sound.{IsSound}
-use Rattle.lowering.proofs.Ports.{same_in}
-use Rattle.reuse.proofs.Stands.{some_same, first_in, first_next, one_block, instr_in, Found, found}
+use Rattle.law_net.proofs.Ports.{same_in}
+use Rattle.law_reuse.proofs.Stands.{some_same, first_in, first_next, one_block, instr_in, Found, found}
 use Rattle.folding.specs.Folds.{new_op}
 use Rattle.folding.specs.Places.{layout_of, folds_at, gone_at, new_place}
 use Rattle.folding.specs.Moved.{new_dest, moved_dests}

@@ -20,8 +20,8 @@ use Rattle.semantics.specs.Machine.{results_in}
 use Rattle.semantics.specs.Plan.{Plan, HasShape}
 use Rattle.semantics.specs.Orderly.{eq_port, inputs_in}
 use Rattle.code.specs.Sound.{NamesRightly, IsSound}
-use Rattle.reuse.proofs.Stands.{some_same, Found, found}
-use Rattle.reuse.proofs.Members.{contains_head, contains_none, contains_map}
+use Rattle.law_reuse.proofs.Stands.{some_same, Found, found}
+use Rattle.law_reuse.proofs.Members.{contains_head, contains_none, contains_map}
 use Rattle.std.proofs.lemmas.List.Sorted.{Contains-permutation}
 use Rattle.folding.specs.Places.{layout_of, new_place}
 use Rattle.folding.specs.Moved.{moved_dests, new_dest}

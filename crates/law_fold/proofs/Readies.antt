@@ -10,8 +10,8 @@ use Rattle.tags.specs.declared.token.Token.{Token}
 use Rattle.semantics.specs.declared.program.Op.TheVariants.{Lit}
 use Rattle.semantics.specs.Program.{Instr, Program, instr_at}
 use Rattle.semantics.specs.Rule.{token}
-use Rattle.lowering.proofs.Orders.{shuffled, Part, ◌⊕◌}
-use Rattle.reuse.proofs.Members.{contains_cases, contains_none}
+use Rattle.law_net.proofs.Orders.{shuffled, Part, ◌⊕◌}
+use Rattle.law_reuse.proofs.Members.{contains_cases, contains_none}
 use Rattle.law_fold.specs.Folds.{fires_lit, IsValue, Sends, Settles, settled, fired, Clumped, Pairs, Ready}
 use Rattle.law_fold.proofs.FoldRules.{settles_map, sends_grow, settles_then, settles_beside, settles_after}
 use Rattle.law_fold.proofs.Leading.{stand_join, settles_join}

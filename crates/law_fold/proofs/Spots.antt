@@ -8,10 +8,10 @@ use Rattle.semantics.specs.Program.{Instr, CodeBlock, Program, first_of, instr_a
 use Rattle.semantics.specs.Plan.{Plan}
 use Rattle.semantics.specs.Orderly.{same_block}
 use Rattle.code.specs.Sound.{IsSound}
-use Rattle.lowering.proofs.Ports.{same_in}
-use Rattle.reuse.proofs.Stands.{some_same, first_in, one_block, Found, found}
-use Rattle.reuse.proofs.Stands as Places
-use Rattle.reuse.proofs.Claims.{holder_here}
+use Rattle.law_net.proofs.Ports.{same_in}
+use Rattle.law_reuse.proofs.Stands.{some_same, first_in, one_block, Found, found}
+use Rattle.law_reuse.proofs.Stands as Places
+use Rattle.law_reuse.proofs.Claims.{holder_here}
 use Rattle.law_once.proofs.SpreadSteps.{slot_same}
 use Rattle.semantics.specs.Holders.{holder_of, holder_at}
 use Rattle.operators.specs.declared.Binary.{Binary}

@@ -31,14 +31,14 @@ use Rattle.law_fold.specs.Kept.{slotted}
 use Rattle.law_fold.proofs.FoldRules.{settles_map, sends_with, lit_nodes}
 use Rattle.law_fold.proofs.Spots.{plain_of, kept_of}
 use Rattle.law_fold.proofs.Spots.{stays as stands_still}
-use Rattle.reuse.proofs.Stands.{some_same}
+use Rattle.law_reuse.proofs.Stands.{some_same}
 use Rattle.folding.proofs.SoundLists.{contains_get}
 use Rattle.folding.proofs.Plain.{PlainAt}
 use Rattle.std.proofs.lemmas.List.Elements.{Contains-append_left, Contains-append_right, Contains-append_cases}
 use Rattle.law_fold.proofs.Closed.{lit_or, any_shut, gone_some, gone_silent}
 use Rattle.law_fold.proofs.Uses.{given_has, moved_has, lit_some}
 use Rattle.law_fold.proofs.Numbering.{is_nil, plain_at}
-use Rattle.reuse.proofs.Members.{contains_head}
+use Rattle.law_reuse.proofs.Members.{contains_head}
 use Rattle.law_fold.proofs.Leading.{stand_one, operand, operands, news, Made, all_made, Whole, whole_made, whole_both}
 
 module _ (kind : Word → Type 0) (of_value : (z : ℤ) → kind (Word.Val (Int z))) (P Q : Program) (g h : ℕ → ℕ) (p : Plan) (c : CodeBlock) (F E : ℕ) (spares : SparesLiterals c)

@@ -8,7 +8,7 @@ use Rattle.semantics.specs.declared.program.Dest.{Dest}
 use Rattle.semantics.specs.declared.program.Op.TheVariants.{Lit}
 use Rattle.semantics.specs.Program.{Instr, CodeBlock}
 use Rattle.semantics.specs.Plan.{Plan}
-use Rattle.reuse.proofs.Members.{contains_head, contains_cases, contains_none}
+use Rattle.law_reuse.proofs.Members.{contains_head, contains_cases, contains_none}
 use Rattle.folding.specs.Folds.{is_folded, is_closed}
 use Rattle.folding.specs.Places.{layout_of, folds_at, gone_at}
 use Rattle.folding.specs.Moved.{is_shut, new_dest, moved_dest, moved_dests}

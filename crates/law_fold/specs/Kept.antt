@@ -1,11 +1,11 @@
 -- The folded plan before its holders are numbered again: each instruction has the slot that it had.
 use Rattle.std.specs.Prelude.{ℕ, List, map}
-use Rattle.reuse.specs.Bounds.{PlanKeepsBounds}
+use Rattle.law_reuse.specs.Bounds.{PlanKeepsBounds}
 use Rattle.semantics.specs.Program.{Instr, CodeBlock}
 use Rattle.semantics.specs.Graph.{Flow}
 use Rattle.semantics.specs.Plan.{Plan}
 use Rattle.semantics.specs.Orderly.{Orderly}
-use Rattle.reuse.specs.Theorem.{TakesInputs}
+use Rattle.law_reuse.specs.Theorem.{TakesInputs}
 use Rattle.code.specs.Sound.{IsSound}
 use Rattle.folding.specs.Folds.{new_op}
 use Rattle.folding.specs.Places.{Layout, layout_of, folds_at}

@@ -11,9 +11,9 @@ use Rattle.semantics.specs.WellFormed.{WellFormed}
 use Rattle.semantics.specs.Program.{Instr, CodeBlock}
 use Rattle.semantics.specs.Plan.{Plan, landing}
 use Rattle.semantics.specs.Orderly.{inputs_in}
-use Rattle.determinacy.proofs.Resolved.{all_get}
+use Rattle.law_determinacy.proofs.Resolved.{all_get}
 use Rattle.code.specs.Sound.{IsSound, IsSoundDest}
-use Rattle.reuse.specs.Theorem.{TakesInputs}
+use Rattle.law_reuse.specs.Theorem.{TakesInputs}
 use Rattle.expansion.specs.Expanded.{expanded}
 use Rattle.law_expansion.specs.Shapes.{IsShaped, AreShaped}
 use Rattle.law_expansion.proofs.ArcsLaws.{arcs_go_forward}
@@ -21,9 +21,9 @@ use Rattle.law_expansion.proofs.FactsSound.{is_sound}
 use Rattle.law_expansion.proofs.ShapesPlans.{plans_are_shaped}
 use Rattle.folding.specs.Folded.{folded, folded_block}
 use Rattle.fanout.specs.Narrowed.{narrowed_block}
-use Rattle.emitted.proofs.Laws.{emitted_faithful, emitted_releases, emitted_credits, emitted_holders}
-use Rattle.composition.specs.Graphs.{plan_of}
-use Rattle.composition.proofs.AnyGraph.{plans_are_sound, plans_take_inputs}
+use Rattle.law_emitted.proofs.Laws.{emitted_faithful, emitted_releases, emitted_credits, emitted_holders}
+use Rattle.law_composition.specs.Graphs.{plan_of}
+use Rattle.law_composition.proofs.AnyGraph.{plans_are_sound, plans_take_inputs}
 use Rattle.law_once.specs.Ready.{IsReady}
 use Rattle.law_passes.proofs.Passes.{passes_suffice}
 use Rattle.law_graphs.specs.Graphs.{ExpandedIsTidy, IsExpandedFor, GraphsFollow}

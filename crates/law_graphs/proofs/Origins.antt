@@ -1,7 +1,7 @@
 -- No instruction of a graph of the first version has an origin.
 use Rattle.std.proofs.Common.{◌≡◌, refl, sym, ap, ◌∙◌, subst, ℕ, ◌+◌, ◌⊎◌, inl, inr, Bool, true, false, List, length, Some, nat_lt, if◌then◌else◌, arith}
 use Rattle.std.specs.Prelude.{slice_get, ⊤, All}
-use Rattle.composition.proofs.Lines.{all_of}
+use Rattle.law_composition.proofs.Lines.{all_of}
 use Rattle.tags.specs.declared.value.Origin.{Origin}
 use Rattle.tags.specs.declared.value.Origin.TheVariants.{Untold, At}
 use Rattle.semantics.specs.declared.graph.Region.{Region}
@@ -19,7 +19,7 @@ use Rattle.expansion.specs.Expanded.{scope_of, plain_code, variant_code, expande
 use Rattle.law_expansion.proofs.FactsHeads.{push_cases, get_map, head, heads, heads_connected, heads_added}
 use Rattle.law_expansion.proofs.FactsSteps.{Stage, Idle, Step, Basics, AllowsKind, Allows, entries_keep, plain_keeps, variant_keeps}
 use Rattle.law_expansion.proofs.FactsCodes.{code_cases}
-use Rattle.composition.proofs.FoldedInstrs.{AllInstrs, IsUntold, all_untold}
+use Rattle.law_composition.proofs.FoldedInstrs.{AllInstrs, IsUntold, all_untold}
 use Rattle.select.specs.declared.Version.TheVariants.{One, Two}
 use Rattle.law_graphs.specs.Graphs.{PlansHaveOrigins}
 

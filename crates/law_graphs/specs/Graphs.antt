@@ -10,14 +10,14 @@ use Rattle.semantics.specs.Plan.{Plan}
 use Rattle.semantics.specs.Orderly.{Orderly, often}
 use Rattle.semantics.specs.Sharing.{Good}
 use Rattle.semantics.specs.Reuse.{ReleasesLast}
-use Rattle.emitted.specs.Same.{KeepsBoundsAs, HoldsAloneAs}
-use Rattle.emitted.specs.SameRuns.{HasOrigins}
-use Rattle.reuse.specs.Bounds.{PlanKeepsBounds}
+use Rattle.law_emitted.specs.Same.{KeepsBoundsAs, HoldsAloneAs}
+use Rattle.law_emitted.specs.SameRuns.{HasOrigins}
+use Rattle.law_reuse.specs.Bounds.{PlanKeepsBounds}
 use Rattle.expansion.specs.Expanded.{expanded}
 use Rattle.folding.specs.Folded.{folded}
 use Rattle.select.specs.declared.Version.{Version}
 use Rattle.select.specs.Emitted.{version_number, code_of}
-use Rattle.composition.specs.Graphs.{plan_of}
+use Rattle.law_composition.specs.Graphs.{plan_of}
 use Rattle.law_once.specs.Once.{FaithfulOnce}
 use Rattle.law_once.specs.Alike.{LandsRightly, plain_dests, IsTidy, Keeps}
 

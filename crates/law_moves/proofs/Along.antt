@@ -14,9 +14,9 @@ use Rattle.semantics.specs.Meaning.{Context}
 use Rattle.semantics.specs.Program.{Instr}
 use Rattle.semantics.specs.Rule.{to_each, to_all, fires, fire_two, outcome_of, slot_of as uses_of}
 use Rattle.semantics.specs.Machine.{Store, Fires, slot_in, with_slot}
-use Rattle.lowering.proofs.NetSlots.{InSlots}
-use Rattle.lowering.proofs.Orders.{at_first, at_last, IsPermutation-same}
-use Rattle.lowering.proofs.Members.{contains_head, contains_none}
+use Rattle.law_net.proofs.NetSlots.{InSlots}
+use Rattle.law_net.proofs.Orders.{at_first, at_last, IsPermutation-same}
+use Rattle.law_net.proofs.Members.{contains_head, contains_none}
 use Rattle.law_once.specs.Alike.{plain_dests}
 use Rattle.law_contexts.specs.Parts.{Part, Sender, Merge, CondEnd, Landing, Giver, Taker, Drainer, Held, Drained, inlet, Note, signal, Item, item, each, Firing}
 use Rattle.law_contexts.specs.Blocks.{side, waits_in, is_switch, op_of}

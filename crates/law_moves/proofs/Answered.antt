@@ -12,7 +12,7 @@ use Rattle.semantics.specs.Graph.{Node, Block, Flow, node_at}
 use Rattle.semantics.specs.Meaning.{Context}
 use Rattle.semantics.specs.Program.{Instr}
 use Rattle.semantics.specs.Plan.{Plan, HasShape, IsPlanBlock}
-use Rattle.lowering.proofs.Members.{contains_head}
+use Rattle.law_net.proofs.Members.{contains_head}
 use Rattle.law_contexts.specs.Parts.{Part, Line, Landing, Inlet}
 use Rattle.law_contexts.specs.Blocks.{side, is_cell, cell_kind, plain_kind, kind_op, there_in}
 use Rattle.law_contexts.specs.Contexts.{Wires, block_in, code_in, site_in, wiring_in, IsContext}

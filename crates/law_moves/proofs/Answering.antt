@@ -10,8 +10,8 @@ use Rattle.tags.specs.declared.token.Token.{Token}
 use Rattle.semantics.specs.Graph.{Flow}
 use Rattle.semantics.specs.Meaning.{Context, Memory}
 use Rattle.semantics.specs.Machine.{answer, answers}
-use Rattle.lowering.proofs.Orders.{shuffled, Part as Piece, ◌⊕◌, at_last}
-use Rattle.lowering.proofs.Members.{contains_head, contains_tail, contains_none}
+use Rattle.law_net.proofs.Orders.{shuffled, Part as Piece, ◌⊕◌, at_last}
+use Rattle.law_net.proofs.Members.{contains_head, contains_tail, contains_none}
 use Rattle.law_contexts.specs.Parts.{Part, Held, Item, Firing}
 use Rattle.law_contexts.specs.Blocks.{is_store}
 use Rattle.law_contexts.specs.Contexts.{block_in}

@@ -8,10 +8,10 @@ use Rattle.tags.specs.declared.value.Value.{Value}
 use Rattle.tags.specs.declared.token.Port.{Port}
 use Rattle.tags.specs.declared.token.Port.TheVariants.{Left, Right}
 use Rattle.semantics.specs.Meaning.{Context}
-use Rattle.lowering.specs.Roles.{one}
-use Rattle.lowering.proofs.Orders.{total-append}
-use Rattle.lowering.proofs.Members.{contains_head, contains_tail, contains_cases, contains_none}
-use Rattle.reuse.proofs.Members.{contains_map}
+use Rattle.law_net.specs.Roles.{one}
+use Rattle.law_net.proofs.Orders.{total-append}
+use Rattle.law_net.proofs.Members.{contains_head, contains_tail, contains_cases, contains_none}
+use Rattle.law_reuse.proofs.Members.{contains_map}
 use Rattle.law_contexts.specs.Parts.{Part, Framer, Strict, Sender, Drained, Held, Drainer, Giver, Inlet, inlet, Datum, signal, Item, item, Firing, Spot, spot_of, same_spot}
 use Rattle.law_contexts.specs.Blocks.{Side, side, waits_in, source_count, there_in}
 use Rattle.law_contexts.specs.Contexts.{block_in, site_in, wiring_in, IsContext, is_strict_in}

@@ -8,10 +8,10 @@ use Rattle.tags.specs.declared.token.Port.{Port}
 use Rattle.tags.specs.declared.token.Port.TheVariants.{Left, Right}
 use Rattle.semantics.specs.Graph.{Flow}
 use Rattle.semantics.specs.Meaning.{Context}
-use Rattle.lowering.specs.Roles.{one}
-use Rattle.lowering.proofs.Net.{Waits as WaitsMove, Fires as FiresMove}
-use Rattle.lowering.proofs.Orders.{total-append}
-use Rattle.lowering.proofs.Members.{contains_head, contains_tail, contains_cases, contains_none}
+use Rattle.law_net.specs.Roles.{one}
+use Rattle.law_net.proofs.Net.{Waits as WaitsMove, Fires as FiresMove}
+use Rattle.law_net.proofs.Orders.{total-append}
+use Rattle.law_net.proofs.Members.{contains_head, contains_tail, contains_cases, contains_none}
 use Rattle.law_contexts.specs.Parts.{Part, Framer, Sender, inlet, Datum, Item, item, Firing, Spot, spot_of, same_spot}
 use Rattle.law_contexts.specs.Blocks.{source_count, invokes}
 use Rattle.law_contexts.specs.Contexts.{Wires, block_in, is_strict_in}

@@ -2,13 +2,13 @@
 use Rattle.std.proofs.Common.{◌≡◌, ℕ, ◌+◌, Bool, true, false, List, [], ◌∷◌, ◌++◌, refl, sym, subst, inl, inr, ◌⊎◌, ℤ, if◌then◌else◌, not}
 use Rattle.std.specs.Prelude.{Contains}
 use Rattle.std.proofs.lemmas.List.Sorted.{IsPermutation-append, IsPermutation-append_left, IsPermutation-trans}
-use Rattle.determinacy.proofs.Perm.{Each, each_append, each_append_back, each_permutation, each_within, within_from}
+use Rattle.law_determinacy.proofs.Perm.{Each, each_append, each_append_back, each_permutation, each_within, within_from}
 use Rattle.tags.specs.declared.value.Value.{Value}
 use Rattle.operators.specs.Values.{truth}
 use Rattle.semantics.specs.Graph.{Flow}
 use Rattle.semantics.specs.Meaning.{Context, Main, Called, Turned}
-use Rattle.lowering.proofs.Orders.{shuffled, Part as Piece, ◌⊕◌}
-use Rattle.lowering.proofs.Net.{Waits, Fires}
+use Rattle.law_net.proofs.Orders.{shuffled, Part as Piece, ◌⊕◌}
+use Rattle.law_net.proofs.Net.{Waits, Fires}
 use Rattle.law_contexts.specs.Parts.{Part, Line, Trigger, Gate, Framer, Linker, Sender, Giver, Taker, Drainer, Drained, Result, TurnCont, TurnFlag, TurnValue, Asker, NextFramer, NextSender, LastReturn, DrainReturn, End, Asked, NextAsked, Held, Shown, Done, Freed, Inlet, Note, Datum, Item, Firing, each}
 use Rattle.law_contexts.specs.Blocks.{is_cell}
 use Rattle.law_contexts.specs.Contexts.{Wires, block_in, is_strict_in}

@@ -15,10 +15,10 @@ use Rattle.semantics.specs.Rule.{outcome_of, slot_of as uses_of}
 use Rattle.semantics.specs.Machine.{Fires as Happening, with_slot, slot_in, slot_used}
 use Rattle.semantics.specs.Holders.{Holder, holder_at, holder_of, same_holder}
 use Rattle.semantics.specs.Credits.{granted_at, granted_in, granted_by, released_at, released_in, released_by}
-use Rattle.reuse.proofs.Claims.{holder_here}
-use Rattle.lowering.proofs.Orders.{at_last}
-use Rattle.lowering.proofs.Net.{Waits, Fires}
-use Rattle.lowering.proofs.Members.{contains_none, contains_cases}
+use Rattle.law_reuse.proofs.Claims.{holder_here}
+use Rattle.law_net.proofs.Orders.{at_last}
+use Rattle.law_net.proofs.Net.{Waits, Fires}
+use Rattle.law_net.proofs.Members.{contains_none, contains_cases}
 use Rattle.law_contexts.specs.Parts.{Part, Opener, Giver, Taker, Drainer, signal, Item, Firing}
 use Rattle.law_contexts.specs.Blocks.{is_loop, waits_in, bound_at, op_of}
 use Rattle.law_contexts.specs.Contexts.{block_in, code_in, site_in, wiring_in, or_zero, IsContext}

@@ -19,10 +19,10 @@ use Rattle.semantics.specs.Meaning.{Context, origin_at}
 use Rattle.semantics.specs.Program.{Instr}
 use Rattle.semantics.specs.Rule.{Seat, token, to_each, answer_to, asks_for, puts, fires, fire_one, fire_two, array_base, array_len}
 use Rattle.semantics.specs.Machine.{Store, Fires, with_slot}
-use Rattle.lowering.proofs.NetSlots.{InSlots}
-use Rattle.lowering.proofs.Orders.{at_last, IsPermutation-same}
-use Rattle.lowering.proofs.Members.{contains_head, contains_none}
-use Rattle.reuse.proofs.Stands.{some_same}
+use Rattle.law_net.proofs.NetSlots.{InSlots}
+use Rattle.law_net.proofs.Orders.{at_last, IsPermutation-same}
+use Rattle.law_net.proofs.Members.{contains_head, contains_none}
+use Rattle.law_reuse.proofs.Stands.{some_same}
 use Rattle.law_once.specs.Alike.{plain_dests}
 use Rattle.law_contexts.specs.Parts.{Line, Note, Datum, FrameOf, BackTo, ToHost, signal, Item, Firing}
 use Rattle.law_contexts.specs.Blocks.{waits_in, is_cell, is_store, cell_kind, pair_kind, store_kind, kind_op, op_of}

@@ -8,7 +8,7 @@ use Rattle.semantics.specs.Meaning.{Context, Called, Turned, callee}
 use Rattle.semantics.specs.Program.{first_of}
 use Rattle.semantics.specs.Plan.{Plan, landing, landing_in}
 use Rattle.semantics.specs.Sharing.{arc, row, inlet as port_at}
-use Rattle.lowering.proofs.Members.{contains_head, contains_tail}
+use Rattle.law_net.proofs.Members.{contains_head, contains_tail}
 use Rattle.law_contexts.specs.Parts.{Entry, Line, Landing}
 use Rattle.law_contexts.specs.Blocks.{call_kind, code_called, callee_code, invokes, source_count}
 use Rattle.law_contexts.specs.Contexts.{Wires, or_zero, block_in, code_in, child, IsContext}

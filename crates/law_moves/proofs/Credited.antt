@@ -6,9 +6,9 @@ use Rattle.std.proofs.lemmas.List.Sorted.{IsPermutation-refl, IsPermutation-tran
 use Rattle.tags.specs.declared.token.Port.TheVariants.{Left}
 use Rattle.semantics.specs.Graph.{Flow}
 use Rattle.semantics.specs.Meaning.{Context}
-use Rattle.lowering.specs.Roles.{one, total}
-use Rattle.lowering.proofs.Orders.{total-IsPermutation, shuffled, Part as Piece, ◌⊕◌}
-use Rattle.lowering.proofs.Members.{contains_head, contains_tail, contains_cases, contains_none}
+use Rattle.law_net.specs.Roles.{one, total}
+use Rattle.law_net.proofs.Orders.{total-IsPermutation, shuffled, Part as Piece, ◌⊕◌}
+use Rattle.law_net.proofs.Members.{contains_head, contains_tail, contains_cases, contains_none}
 use Rattle.law_contexts.specs.Parts.{Part, Giver, inlet, signal, Item, item, Firing, Spot, spot_of, same_spot}
 use Rattle.law_contexts.specs.Blocks.{is_loop}
 use Rattle.law_contexts.specs.Contexts.{Wires, block_in}

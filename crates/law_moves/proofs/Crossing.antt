@@ -9,8 +9,8 @@ use Rattle.semantics.specs.Rule.{to_each}
 use Rattle.semantics.specs.Rule as Rule
 use Rattle.semantics.specs.Machine.{Store, with_slot}
 use Rattle.semantics.specs.Credits.{released_at}
-use Rattle.lowering.proofs.NetSlots.{InSlots}
-use Rattle.lowering.proofs.Orders.{at_last}
+use Rattle.law_net.proofs.NetSlots.{InSlots}
+use Rattle.law_net.proofs.Orders.{at_last}
 use Rattle.law_once.specs.Alike.{plain_dests}
 use Rattle.law_contexts.specs.Parts.{Giver, Landing, Inlet, BackTo, signal, Item, each, Firing}
 use Rattle.law_contexts.specs.Blocks.{is_loop}

@@ -10,9 +10,9 @@ use Rattle.semantics.specs.Meaning.{Context}
 use Rattle.semantics.specs.Machine.{with_slot}
 use Rattle.semantics.specs.Holders.{Holder, same_holder}
 use Rattle.semantics.specs.Credits.{granted_at, released_at}
-use Rattle.lowering.specs.Roles.{one}
-use Rattle.lowering.proofs.Orders.{total-append, shuffled, Part as Piece, ◌⊕◌, at_last}
-use Rattle.lowering.proofs.Members.{contains_cases}
+use Rattle.law_net.specs.Roles.{one}
+use Rattle.law_net.proofs.Orders.{total-append, shuffled, Part as Piece, ◌⊕◌, at_last}
+use Rattle.law_net.proofs.Members.{contains_cases}
 use Rattle.law_contexts.specs.Parts.{Opener, Giver, Taker, Drainer, Drained, DrainReturn, LoopDone, inlet, signal, Item, item, Firing, Spot, spot_of, same_spot}
 use Rattle.law_contexts.specs.Blocks.{is_loop}
 use Rattle.law_contexts.specs.Contexts.{block_in}

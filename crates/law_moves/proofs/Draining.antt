@@ -12,7 +12,7 @@ use Rattle.semantics.specs.Rule.{Outcome, Becomes, Excluded, drains, to_all, sig
 use Rattle.semantics.specs.Machine.{Fires as Happening}
 use Rattle.semantics.specs.Holders.{Holder, same_holder}
 use Rattle.semantics.specs.Credits.{granted_at, granted_by}
-use Rattle.lowering.proofs.Members.{contains_head}
+use Rattle.law_net.proofs.Members.{contains_head}
 use Rattle.law_once.specs.Alike.{plain_dests}
 use Rattle.law_contexts.specs.Parts.{Opener, Giver, Taker, Drainer, LoopDone, Inlet, inlet, signal, Item, item}
 use Rattle.law_contexts.specs.Blocks.{side, is_loop}

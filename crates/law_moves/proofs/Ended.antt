@@ -14,9 +14,9 @@ use Rattle.semantics.specs.Rule as Rule
 use Rattle.semantics.specs.Machine.{Fires}
 use Rattle.semantics.specs.Orderly.{is_at}
 use Rattle.semantics.specs.Credits.{released_at, released_by}
-use Rattle.lowering.specs.Roles.{one}
-use Rattle.lowering.proofs.Orders.{IsPermutation-same}
-use Rattle.lowering.proofs.Members.{contains_cases, contains_none}
+use Rattle.law_net.specs.Roles.{one}
+use Rattle.law_net.proofs.Orders.{IsPermutation-same}
+use Rattle.law_net.proofs.Members.{contains_cases, contains_none}
 use Rattle.law_contexts.specs.Parts.{Part, End, Giver, CallDone, Landing, Freed, inlet, Note, BackTo, signal, Item, item, each, same_context}
 use Rattle.law_contexts.specs.Blocks.{side, is_call, is_loop, op_of, there_in, result_count}
 use Rattle.law_contexts.specs.Contexts.{block_in, site_in, wiring_in, or_zero, IsContext, return_of}

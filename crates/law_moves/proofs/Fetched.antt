@@ -13,9 +13,9 @@ use Rattle.semantics.specs.Meaning.{Context, Main, Memory}
 use Rattle.semantics.specs.Orderly.{readers_of}
 use Rattle.semantics.specs.Machine.{Store, CellState, Vacant, Full, Deferred, Happens, Fetches, value_in, answer, with_cell, put_at}
 use Rattle.semantics.specs.Credits.{granted_at, released_at}
-use Rattle.lowering.proofs.NetSlots.{InSlots, put_same, put_other}
-use Rattle.lowering.proofs.Orders.{at_first, at_last, IsPermutation-same}
-use Rattle.lowering.proofs.Members.{contains_tail, contains_cases, contains_none}
+use Rattle.law_net.proofs.NetSlots.{InSlots, put_same, put_other}
+use Rattle.law_net.proofs.Orders.{at_first, at_last, IsPermutation-same}
+use Rattle.law_net.proofs.Members.{contains_tail, contains_cases, contains_none}
 use Rattle.law_contexts.specs.Parts.{Part, Held, Done, Freed, Item, Firing}
 use Rattle.law_contexts.specs.Blocks.{is_store, waits_in}
 use Rattle.law_contexts.specs.Contexts.{block_in}

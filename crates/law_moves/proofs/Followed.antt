@@ -8,9 +8,9 @@ use Rattle.tags.specs.declared.slot.SlotState.TheVariants.{Empty}
 use Rattle.semantics.specs.Meaning.{Context}
 use Rattle.semantics.specs.Handed.{handed_by}
 use Rattle.semantics.specs.Plan.{Plan}
-use Rattle.lowering.proofs.NetSlots.{InSlots}
-use Rattle.lowering.proofs.Orders.{at_last}
-use Rattle.lowering.proofs.Members.{contains_head}
+use Rattle.law_net.proofs.NetSlots.{InSlots}
+use Rattle.law_net.proofs.Orders.{at_last}
+use Rattle.law_net.proofs.Members.{contains_head}
 use Rattle.law_contexts.specs.Parts.{Opener, Giver, Taker, Drainer, Held, Landing, Inlet, BackTo, Item}
 use Rattle.law_contexts.specs.Blocks.{is_store, is_loop, bound_at}
 use Rattle.law_contexts.specs.Contexts.{block_in, code_in, wiring_in, or_zero, IsContext}

@@ -7,8 +7,8 @@ use Rattle.semantics.specs.Graph.{Flow}
 use Rattle.semantics.specs.Meaning.{Context, Main, Called, Turned}
 use Rattle.semantics.specs.Machine.{Store}
 use Rattle.semantics.specs.Orderly.{readers_of}
-use Rattle.lowering.proofs.NetSlots.{InSlots}
-use Rattle.lowering.proofs.Orders.{IsPermutation-same}
+use Rattle.law_net.proofs.NetSlots.{InSlots}
+use Rattle.law_net.proofs.Orders.{IsPermutation-same}
 use Rattle.law_contexts.specs.Parts.{Part, Framer, NextFramer, Fanned, NextFanned, Opener, Taker, Drained, Giver, Drainer, Asked, NextAsked, Held, Inlet, inlet, BackTo, signal, Item, item, Firing, same_part}
 use Rattle.law_contexts.specs.Blocks.{source_count}
 use Rattle.law_contexts.specs.Contexts.{block_in, or_zero, is_strict_in}

@@ -12,8 +12,8 @@ use Rattle.semantics.specs.Rule.{Outcome, Becomes, Excluded, gives}
 use Rattle.semantics.specs.Machine.{Fires as Happening, Store, with_slot}
 use Rattle.semantics.specs.Holders.{Holder, same_holder}
 use Rattle.semantics.specs.Credits.{granted_at, granted_by, released_at}
-use Rattle.lowering.proofs.NetSlots.{slot_same}
-use Rattle.lowering.proofs.Members.{contains_head, contains_tail}
+use Rattle.law_net.proofs.NetSlots.{slot_same}
+use Rattle.law_net.proofs.Members.{contains_head, contains_tail}
 use Rattle.law_once.specs.Alike.{plain_dests}
 use Rattle.law_contexts.specs.Parts.{Opener, Giver, Taker, Drainer, LoopDone, Inlet, inlet, signal, Item, item}
 use Rattle.law_contexts.specs.Blocks.{side, is_loop}

@@ -15,7 +15,7 @@ use Rattle.semantics.specs.Rule as Rule
 use Rattle.semantics.specs.Machine.{Fires as Happening}
 use Rattle.semantics.specs.Holders.{Holder, same_holder}
 use Rattle.semantics.specs.Credits.{granted_at, granted_by}
-use Rattle.lowering.proofs.Orders.{IsPermutation-same}
+use Rattle.law_net.proofs.Orders.{IsPermutation-same}
 use Rattle.law_contexts.specs.Parts.{Opener, Giver, Taker, Drainer, Drained, NextFramer, inlet, signal, BackTo, Item, item, Firing}
 use Rattle.law_contexts.specs.Blocks.{is_loop}
 use Rattle.law_contexts.specs.Contexts.{block_in, wiring_in}

@@ -15,9 +15,9 @@ use Rattle.semantics.specs.Rule.{token}
 use Rattle.semantics.specs.Machine.{Store, answer, with_out, put_at, value_in}
 use Rattle.semantics.specs.Handed.{handed_by}
 use Rattle.semantics.specs.Orderly.{readers_of}
-use Rattle.lowering.proofs.NetSlots.{InSlots, put_same, put_other}
-use Rattle.lowering.proofs.Orders.{at_last, IsPermutation-same}
-use Rattle.lowering.proofs.Members.{contains_head}
+use Rattle.law_net.proofs.NetSlots.{InSlots, put_same, put_other}
+use Rattle.law_net.proofs.Orders.{at_last, IsPermutation-same}
+use Rattle.law_net.proofs.Members.{contains_head}
 use Rattle.law_contexts.specs.Parts.{Opener, Taker, Drained, Done, Freed, Held, inlet, FrameOf, Item, item, Firing, same_context}
 use Rattle.law_contexts.specs.Blocks.{is_loop, bound_at}
 use Rattle.law_contexts.specs.Contexts.{block_in, wiring_in, or_zero, IsContext}

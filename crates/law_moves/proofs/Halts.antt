@@ -11,9 +11,9 @@ use Rattle.semantics.specs.Meaning.{Main}
 use Rattle.semantics.specs.Machine.{Store, with_slot}
 use Rattle.semantics.specs.Cause.{SameSeen}
 use Rattle.semantics.specs.Orderly.{readers_of}
-use Rattle.lowering.proofs.NetSlots.{InSlots, slots_add}
-use Rattle.lowering.proofs.Orders.{at_last, IsPermutation-same}
-use Rattle.lowering.proofs.Members.{contains_tail, contains_cases}
+use Rattle.law_net.proofs.NetSlots.{InSlots, slots_add}
+use Rattle.law_net.proofs.Orders.{at_last, IsPermutation-same}
+use Rattle.law_net.proofs.Members.{contains_tail, contains_cases}
 use Rattle.law_contexts.specs.Parts.{Held, Done, Freed, Item, Firing}
 use Rattle.law_contexts.specs.Blocks.{is_store}
 use Rattle.law_contexts.specs.Contexts.{block_in}

@@ -13,8 +13,8 @@ use Rattle.semantics.specs.Meaning.{Context}
 use Rattle.semantics.specs.Machine.{answer, with_out, with_requests}
 use Rattle.semantics.specs.Handed.{handed_by}
 use Rattle.semantics.specs.Holders.{Holder}
-use Rattle.lowering.proofs.Orders.{shuffled, Part as Piece, ◌⊕◌, at_last, IsPermutation-same, flat_map-IsPermutation}
-use Rattle.lowering.proofs.Members.{contains_head, contains_tail, contains_cases}
+use Rattle.law_net.proofs.Orders.{shuffled, Part as Piece, ◌⊕◌, at_last, IsPermutation-same, flat_map-IsPermutation}
+use Rattle.law_net.proofs.Members.{contains_head, contains_tail, contains_cases}
 use Rattle.law_contexts.specs.Parts.{Opener, Giver, Taker, Landing, Inlet, inlet, BackTo, Item, Firing}
 use Rattle.law_contexts.specs.Blocks.{is_loop}
 use Rattle.law_contexts.specs.Contexts.{block_in, code_in, wiring_in, IsContext}

@@ -25,7 +25,7 @@ use Rattle.law_moves.proofs.Inwards.{carried}
 use Rattle.law_moves.proofs.Answered.{Answered, answered}
 use Rattle.law_contexts.specs.Laws.{Carries, port_fits, spot_there, way_fits}
 use Rattle.law_contexts.specs.Wires.{comes_at, is_given}
-use Rattle.lowering.proofs.Orders.{at_last}
+use Rattle.law_net.proofs.Orders.{at_last}
 
 -- a cell's answer, as items
 abbrev pub answer_items : Flow → Wires → Value → Item → Part → List Item

@@ -9,8 +9,8 @@ use Rattle.semantics.specs.Rule.{token}
 use Rattle.semantics.specs.Graph.{Flow}
 use Rattle.semantics.specs.Meaning.{Context}
 use Rattle.semantics.specs.Plan.{Plan}
-use Rattle.lowering.proofs.NetSlots.{InSlots, AtSlot}
-use Rattle.lowering.proofs.Members.{contains_head, contains_tail}
+use Rattle.law_net.proofs.NetSlots.{InSlots, AtSlot}
+use Rattle.law_net.proofs.Members.{contains_head, contains_tail}
 use Rattle.law_contexts.specs.Parts.{Part, Opener, Giver, Taker, Drainer, Asked, NextAsked, Held, Drained, Shown, Done, Freed, Note, Datum, FrameOf, BackTo, ToHost, Item, Firing}
 use Rattle.law_contexts.specs.Blocks.{bound_at}
 use Rattle.law_contexts.specs.Contexts.{Wires, block_in}

@@ -16,10 +16,10 @@ use Rattle.semantics.specs.Rule.{at_dest, to_each}
 use Rattle.semantics.specs.Arcs.{UsesArc}
 use Rattle.semantics.specs.Holders.{Holder}
 use Rattle.semantics.specs.Credits.{granted_at, released_at}
-use Rattle.lowering.proofs.NetSlots.{InSlots}
-use Rattle.lowering.proofs.Orders.{at_first, at_last, IsPermutation-same}
-use Rattle.lowering.proofs.Members.{contains_none}
-use Rattle.reuse.proofs.Members.{contains_map, contains_mapped}
+use Rattle.law_net.proofs.NetSlots.{InSlots}
+use Rattle.law_net.proofs.Orders.{at_first, at_last, IsPermutation-same}
+use Rattle.law_net.proofs.Members.{contains_none}
+use Rattle.law_reuse.proofs.Members.{contains_map, contains_mapped}
 use Rattle.law_once.specs.Alike.{plain_dests}
 use Rattle.law_once.proofs.SpreadNewArcs.{uses_new}
 use Rattle.law_contexts.specs.Parts.{Part, Held, Giver, Taker, Drainer, Landing, Inlet, Note, BackTo, Item, item, each, Firing}

@@ -10,7 +10,7 @@ use Rattle.semantics.specs.Rule.{token}
 use Rattle.semantics.specs.Graph.{Flow}
 use Rattle.semantics.specs.Meaning.{Context, Main, Called, Turned, Memory}
 use Rattle.semantics.specs.Plan.{Plan}
-use Rattle.lowering.proofs.Members.{contains_head, contains_tail}
+use Rattle.law_net.proofs.Members.{contains_head, contains_tail}
 use Rattle.law_contexts.specs.Parts.{Part, Opener, Giver, Taker, Drainer, Drained, Asked, NextAsked, Held, Shown, Done, Freed, Note, Datum, FrameOf, BackTo, ToHost, Item, Firing}
 use Rattle.law_contexts.specs.Contexts.{Wires, or_zero}
 use Rattle.law_contexts.specs.Firings.{handed_to, frame_if, frame_at, frames_if, frames_of, renewed, own_takes, takes, is_firing, times, remembered, memory_of, HasFired}

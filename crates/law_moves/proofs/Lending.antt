@@ -14,9 +14,9 @@ use Rattle.semantics.specs.Machine.{Store, with_slot}
 use Rattle.semantics.specs.Holders.{Holder, same_holder}
 use Rattle.semantics.specs.Credits.{granted_at, released_at}
 use Rattle.semantics.specs.Orderly.{readers_of}
-use Rattle.lowering.proofs.NetSlots.{InSlots, with_base, slots_turn, slot_same, slot_other}
-use Rattle.lowering.proofs.Orders.{shuffled, Part as Piece, ◌⊕◌, at_first, at_last}
-use Rattle.lowering.proofs.Members.{contains_tail, contains_cases}
+use Rattle.law_net.proofs.NetSlots.{InSlots, with_base, slots_turn, slot_same, slot_other}
+use Rattle.law_net.proofs.Orders.{shuffled, Part as Piece, ◌⊕◌, at_first, at_last}
+use Rattle.law_net.proofs.Members.{contains_tail, contains_cases}
 use Rattle.law_contexts.specs.Parts.{Part, Opener, Giver, Taker, Drainer, Drained, Done, Freed, Held, signal, Item, Firing, same_context}
 use Rattle.law_contexts.specs.Blocks.{is_loop, is_store, waits_in, bound_at}
 use Rattle.law_contexts.specs.Contexts.{block_in, code_in, wiring_in, or_zero, IsContext}

@@ -20,10 +20,10 @@ use Rattle.semantics.specs.Rule as Rule
 use Rattle.semantics.specs.Machine.{Store, Fires}
 use Rattle.semantics.specs.Sharing.{arc, row, arcs_to, arcs_from, inlet as port_at}
 use Rattle.semantics.specs.Arcs.{UsesBy}
-use Rattle.lowering.proofs.NetSlots.{InSlots}
-use Rattle.lowering.proofs.Orders.{at_last, IsPermutation-same}
-use Rattle.lowering.proofs.Members.{contains_head, contains_none}
-use Rattle.reuse.proofs.UsedArcs.{stands_arcs}
+use Rattle.law_net.proofs.NetSlots.{InSlots}
+use Rattle.law_net.proofs.Orders.{at_last, IsPermutation-same}
+use Rattle.law_net.proofs.Members.{contains_head, contains_none}
+use Rattle.law_reuse.proofs.UsedArcs.{stands_arcs}
 use Rattle.law_once.specs.Alike.{plain_dests}
 use Rattle.law_contexts.specs.Parts.{Part, Entry, Linker, Landing, Inlet, inlet, Note, FrameOf, BackTo, signal, Item, item, each}
 use Rattle.law_contexts.specs.Blocks.{side, callee_code}

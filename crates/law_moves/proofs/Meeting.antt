@@ -14,9 +14,9 @@ use Rattle.semantics.specs.Rule.{fires, fire_two, meets}
 use Rattle.semantics.specs.Machine.{Fires, with_slot}
 use Rattle.semantics.specs.Wired.{is_dyadic}
 use Rattle.semantics.specs.Credits.{released_by}
-use Rattle.lowering.proofs.NetSlots.{InSlots, AtSlot, slots_drop}
-use Rattle.lowering.proofs.Orders.{at_first, at_last, shuffled, Part as Piece, ◌⊕◌, flat_map-IsPermutation, IsPermutation-same}
-use Rattle.lowering.proofs.Members.{contains_head, contains_tail, contains_cases}
+use Rattle.law_net.proofs.NetSlots.{InSlots, AtSlot, slots_drop}
+use Rattle.law_net.proofs.Orders.{at_first, at_last, shuffled, Part as Piece, ◌⊕◌, flat_map-IsPermutation, IsPermutation-same}
+use Rattle.law_net.proofs.Members.{contains_head, contains_tail, contains_cases}
 use Rattle.law_contexts.specs.Parts.{inlet, Note, Item, item}
 use Rattle.law_contexts.specs.Contexts.{block_in, site_in}
 use Rattle.law_contexts.specs.Firings.{Config}

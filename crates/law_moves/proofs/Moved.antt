@@ -6,7 +6,7 @@ use Rattle.semantics.specs.Meaning.{Context, Main}
 use Rattle.semantics.specs.Arcs.{UsesArc}
 use Rattle.semantics.specs.Cause.{SameSeen}
 use Rattle.semantics.specs.Orderly.{readers_of}
-use Rattle.lowering.proofs.NetSlots.{InSlots}
+use Rattle.law_net.proofs.NetSlots.{InSlots}
 use Rattle.semantics.specs.Plan.{Plan}
 use Rattle.law_contexts.specs.Parts.{Part, Opener, Giver, Taker, Drainer, Asked, NextAsked, Held, Drained, Done, Freed, Inlet, Note, BackTo, Item, same_context, same_part}
 use Rattle.law_contexts.specs.Blocks.{waits_in, is_store, bound_at}

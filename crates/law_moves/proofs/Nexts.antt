@@ -18,8 +18,8 @@ use Rattle.semantics.specs.Rule.{token, fires, fire_two, to_all, answer_to}
 use Rattle.semantics.specs.Rule as Rule
 use Rattle.semantics.specs.Machine.{Fires, with_slot}
 use Rattle.semantics.specs.Arcs.{UsesArc, UsesBy}
-use Rattle.lowering.proofs.Orders.{IsPermutation-same}
-use Rattle.lowering.proofs.Members.{contains_head, contains_none}
+use Rattle.law_net.proofs.Orders.{IsPermutation-same}
+use Rattle.law_net.proofs.Members.{contains_head, contains_none}
 use Rattle.law_once.specs.Alike.{plain_dests}
 use Rattle.law_once.proofs.SpreadNewArcs.{arc_used}
 use Rattle.law_contexts.specs.Parts.{Part, Asker, NextFramer, NextSender, Giver, Taker, Drainer, Landing, Inlet, inlet, Note, FrameOf, BackTo, signal, Item, item, each, same_context}

@@ -10,9 +10,9 @@ use Rattle.semantics.specs.Orderly.{readers_of}
 use Rattle.semantics.specs.Handed.{handed_by}
 use Rattle.semantics.specs.Holders.{Holder}
 use Rattle.semantics.specs.Credits.{granted_at, released_at}
-use Rattle.lowering.proofs.Orders.{shuffled, Part as Piece, ◌⊕◌, at_first, at_last}
-use Rattle.lowering.proofs.Members.{contains_head, contains_cases}
-use Rattle.lowering.proofs.Net.{Fires}
+use Rattle.law_net.proofs.Orders.{shuffled, Part as Piece, ◌⊕◌, at_first, at_last}
+use Rattle.law_net.proofs.Members.{contains_head, contains_cases}
+use Rattle.law_net.proofs.Net.{Fires}
 use Rattle.law_contexts.specs.Parts.{Part, Opener, Giver, Taker, Drainer, Drained, Held, Landing, Inlet, BackTo, Item, Firing}
 use Rattle.law_contexts.specs.Blocks.{is_loop, bound_at}
 use Rattle.law_contexts.specs.Contexts.{block_in, code_in, wiring_in, or_zero, IsContext}

@@ -8,10 +8,10 @@ use Rattle.semantics.specs.Machine.{Store, with_requests}
 use Rattle.semantics.specs.Cause.{SameSeen}
 use Rattle.semantics.specs.Handed.{handed_by}
 use Rattle.semantics.specs.Orderly.{readers_of}
-use Rattle.lowering.proofs.NetSlots.{InSlots}
-use Rattle.lowering.proofs.Orders.{shuffled, Part as Piece, ◌⊕◌, at_first, at_last, IsPermutation-same}
-use Rattle.lowering.proofs.Members.{contains_tail, contains_cases}
-use Rattle.lowering.proofs.Net.{Waits}
+use Rattle.law_net.proofs.NetSlots.{InSlots}
+use Rattle.law_net.proofs.Orders.{shuffled, Part as Piece, ◌⊕◌, at_first, at_last, IsPermutation-same}
+use Rattle.law_net.proofs.Members.{contains_tail, contains_cases}
+use Rattle.law_net.proofs.Net.{Waits}
 use Rattle.law_contexts.specs.Parts.{Part, Opener, Giver, Taker, Drainer, Landing, Done, Freed, Held, Item, Firing}
 use Rattle.law_contexts.specs.Blocks.{bound_at, is_store}
 use Rattle.law_contexts.specs.Contexts.{block_in, code_in, wiring_in}

@@ -4,9 +4,9 @@ use Rattle.std.specs.Prelude.{IsPermutation, Contains, flat_map, count_by}
 use Rattle.std.proofs.lemmas.List.Elements.{Contains-append_left, Contains-append_right, Contains-append_cases}
 use Rattle.std.proofs.lemmas.List.Sorted.{IsPermutation-refl, IsPermutation-trans, IsPermutation-sym, IsPermutation-append, IsPermutation-append_left, IsPermutation-append_right, Contains-permutation}
 use Rattle.semantics.specs.Meaning.{Context}
-use Rattle.lowering.proofs.Orders.{shuffled, Part as Piece, ◌⊕◌, at_first, at_last}
-use Rattle.lowering.proofs.Members.{contains_none}
-use Rattle.lowering.proofs.Net.{Waits, Fires}
+use Rattle.law_net.proofs.Orders.{shuffled, Part as Piece, ◌⊕◌, at_first, at_last}
+use Rattle.law_net.proofs.Members.{contains_none}
+use Rattle.law_net.proofs.Net.{Waits, Fires}
 use Rattle.law_contexts.specs.Parts.{Opener, Taker, Drained, Inlet, BackTo, Item, Firing}
 use Rattle.law_contexts.specs.Contexts.{block_in}
 use Rattle.law_contexts.specs.Firings.{Config, begin, takes, own_takes, makes, frame_at, IsProper}

@@ -11,10 +11,10 @@ use Rattle.semantics.specs.Graph.{Flow}
 use Rattle.semantics.specs.Meaning.{Context}
 use Rattle.semantics.specs.Plan.{Plan}
 use Rattle.semantics.specs.Rule.{token}
-use Rattle.lowering.proofs.Orders.{shuffled, Part as Piece, ◌⊕◌, at_first, at_last}
-use Rattle.lowering.proofs.Members.{contains_tail, contains_cases, contains_none}
-use Rattle.lowering.proofs.Net.{Fires}
-use Rattle.reuse.proofs.Members.{contains_map, contains_mapped}
+use Rattle.law_net.proofs.Orders.{shuffled, Part as Piece, ◌⊕◌, at_first, at_last}
+use Rattle.law_net.proofs.Members.{contains_tail, contains_cases, contains_none}
+use Rattle.law_net.proofs.Net.{Fires}
+use Rattle.law_reuse.proofs.Members.{contains_map, contains_mapped}
 use Rattle.law_contexts.specs.Parts.{Part, Framer, Fanned, Sender, Asked, NextAsked, Held, Shown, Done, Freed, inlet, Datum, signal, Item, item, Firing}
 use Rattle.law_contexts.specs.Blocks.{source_count}
 use Rattle.law_contexts.specs.Contexts.{Wires, block_in, is_strict_in}

@@ -19,10 +19,10 @@ use Rattle.semantics.specs.Rule.{token}
 use Rattle.semantics.specs.Orderly.{readers_of}
 use Rattle.semantics.specs.Sharing.{arc, inlet as port_at}
 use Rattle.semantics.specs.Arcs.{UsesArc, UsesBy}
-use Rattle.lowering.proofs.NetSlots.{InSlots}
-use Rattle.lowering.proofs.Orders.{shuffled, Part as Piece, ◌⊕◌, at_last, IsPermutation-same}
-use Rattle.lowering.proofs.Members.{contains_head, contains_none}
-use Rattle.reuse.proofs.UsedArcs.{stands_arcs}
+use Rattle.law_net.proofs.NetSlots.{InSlots}
+use Rattle.law_net.proofs.Orders.{shuffled, Part as Piece, ◌⊕◌, at_last, IsPermutation-same}
+use Rattle.law_net.proofs.Members.{contains_head, contains_none}
+use Rattle.law_reuse.proofs.UsedArcs.{stands_arcs}
 use Rattle.law_once.specs.Alike.{plain_dests}
 use Rattle.law_once.proofs.SpreadNewArcs.{dest_arc, uses_new}
 use Rattle.law_contexts.specs.Parts.{Part, Line, Held, Done, Freed, Giver, Taker, Drainer, Inlet, inlet, Datum, BackTo, Item, item, each, Firing}

@@ -15,8 +15,8 @@ use Rattle.semantics.specs.Rule.{token, to_each, to_all, fires, fire_two}
 use Rattle.semantics.specs.Rule as Rule
 use Rattle.semantics.specs.Machine.{Fires}
 use Rattle.semantics.specs.Credits.{released_by}
-use Rattle.lowering.proofs.Orders.{IsPermutation-same}
-use Rattle.lowering.proofs.Members.{contains_cases, contains_none}
+use Rattle.law_net.proofs.Orders.{IsPermutation-same}
+use Rattle.law_net.proofs.Members.{contains_cases, contains_none}
 use Rattle.law_once.specs.Alike.{plain_dests}
 use Rattle.law_contexts.specs.Parts.{Result, End, Shown, Done, Freed, inlet, Note, Datum, FrameOf, BackTo, ToHost, signal, Item, item, each}
 use Rattle.law_contexts.specs.Blocks.{side}

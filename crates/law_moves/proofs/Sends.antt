@@ -14,9 +14,9 @@ use Rattle.semantics.specs.Meaning.{Context, Main, Memory}
 use Rattle.semantics.specs.Program.{first_of}
 use Rattle.semantics.specs.Rule.{token, to_each}
 use Rattle.semantics.specs.Machine.{Store, with_slot, value_in}
-use Rattle.lowering.proofs.NetSlots.{InSlots}
-use Rattle.lowering.proofs.Orders.{at_first, at_last}
-use Rattle.lowering.proofs.Members.{contains_head, contains_tail, contains_cases}
+use Rattle.law_net.proofs.NetSlots.{InSlots}
+use Rattle.law_net.proofs.Orders.{at_first, at_last}
+use Rattle.law_net.proofs.Members.{contains_head, contains_tail, contains_cases}
 use Rattle.law_contexts.specs.Parts.{Part, Held, Shown, Done, Freed, Inlet, Note, Item, item, each, Firing}
 use Rattle.law_contexts.specs.Blocks.{side}
 use Rattle.law_contexts.specs.Contexts.{block_in, code_in, site_in, wiring_in}

@@ -15,7 +15,7 @@ use Rattle.semantics.specs.Program.{Instr, first_of}
 use Rattle.semantics.specs.Rule.{token, fires, fire_two, to_all}
 use Rattle.semantics.specs.Rule as Rule
 use Rattle.semantics.specs.Machine.{Store, Fires, with_slot}
-use Rattle.lowering.proofs.NetSlots.{InSlots}
+use Rattle.law_net.proofs.NetSlots.{InSlots}
 use Rattle.law_once.specs.Alike.{plain_dests}
 use Rattle.law_contexts.specs.Parts.{Line, Sender, inlet, Note, Datum, FrameOf, BackTo, Item, item, signal}
 use Rattle.law_contexts.specs.Blocks.{callee_code, invokes, source_count}

@@ -10,8 +10,8 @@ use Rattle.tags.specs.declared.token.Word.{Word}
 use Rattle.tags.specs.declared.slot.SlotState.TheVariants.{Waiter}
 use Rattle.tags.specs.declared.slot.SlotState.TheVariants as Slot
 use Rattle.semantics.specs.Meaning.{Context}
-use Rattle.lowering.proofs.Orders.{IsPermutation-same, shuffled, Part as Piece, ◌⊕◌}
-use Rattle.lowering.proofs.Members.{contains_head, contains_tail, contains_cases}
+use Rattle.law_net.proofs.Orders.{IsPermutation-same, shuffled, Part as Piece, ◌⊕◌}
+use Rattle.law_net.proofs.Members.{contains_head, contains_tail, contains_cases}
 use Rattle.law_contexts.specs.Parts.{Part, Opener, Giver, Taker, Drainer, Drained, NextFramer, inlet, signal, BackTo, Item, item, Firing, spot_of}
 use Rattle.law_contexts.specs.Blocks.{is_loop}
 use Rattle.law_contexts.specs.Contexts.{block_in}

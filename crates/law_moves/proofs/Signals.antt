@@ -12,8 +12,8 @@ use Rattle.semantics.specs.Meaning.{Context}
 use Rattle.semantics.specs.Program.{Instr, first_of}
 use Rattle.semantics.specs.Rule.{at_dest, to_all, signal as word}
 use Rattle.semantics.specs.Arcs.{UsesArc}
-use Rattle.lowering.proofs.Orders.{at_first, at_last}
-use Rattle.reuse.proofs.Members.{contains_map, contains_mapped}
+use Rattle.law_net.proofs.Orders.{at_first, at_last}
+use Rattle.law_reuse.proofs.Members.{contains_map, contains_mapped}
 use Rattle.law_once.specs.Alike.{plain_dests}
 use Rattle.law_once.proofs.SpreadNewArcs.{uses_new}
 use Rattle.law_contexts.specs.Parts.{Part, Giver, Taker, Drainer, Held, Inlet, signal, item, each}

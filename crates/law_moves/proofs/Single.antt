@@ -3,9 +3,9 @@ use Rattle.std.proofs.Common.{◌≡◌, ℕ, List, [], ◌∷◌, ◌++◌, ref
 use Rattle.std.specs.Prelude.{IsPermutation, Contains, flat_map}
 use Rattle.std.proofs.lemmas.List.Elements.{Contains-append_left, Contains-append_right, Contains-append_cases}
 use Rattle.std.proofs.lemmas.List.Sorted.{IsPermutation-refl, IsPermutation-trans, IsPermutation-sym, IsPermutation-append_left, IsPermutation-append_right, Contains-permutation}
-use Rattle.lowering.proofs.Orders.{shuffled, Part as Piece, ◌⊕◌, at_first, IsPermutation-same}
-use Rattle.lowering.proofs.Members.{contains_tail}
-use Rattle.lowering.proofs.Net.{Fires}
+use Rattle.law_net.proofs.Orders.{shuffled, Part as Piece, ◌⊕◌, at_first, IsPermutation-same}
+use Rattle.law_net.proofs.Members.{contains_tail}
+use Rattle.law_net.proofs.Net.{Fires}
 use Rattle.law_contexts.specs.Parts.{Item, Firing}
 use Rattle.law_contexts.specs.Firings.{Config, begin, takes, own_takes, renewed, makes, IsProper, ProperMoves}
 use Rattle.law_contexts.specs.Stands.{came}

@@ -9,7 +9,7 @@ use Rattle.semantics.specs.Meaning.{Context, Main, Called, Turned, block_number,
 use Rattle.semantics.specs.Cause.{is_looped, loops_to}
 use Rattle.semantics.specs.Program.{Instr, instr_at}
 use Rattle.semantics.specs.Plan.{Plan}
-use Rattle.reuse.proofs.Stands.{Stands, stands_at}
+use Rattle.law_reuse.proofs.Stands.{Stands, stands_at}
 use Rattle.law_contexts.specs.Parts.{Part, Asked, NextAsked, Held, Drained, Shown, Done, Freed}
 use Rattle.law_contexts.specs.Blocks.{Site, Wiring, there_in, is_kind, is_loop, loop_kind}
 use Rattle.law_contexts.specs.Contexts.{Wires, or_zero, or_none, no_block, code_in, site_in, wiring_in, IsContext}

@@ -5,9 +5,9 @@ use Rattle.tags.specs.declared.token.Port.{Port}
 use Rattle.tags.specs.declared.token.Port.TheVariants.{Left, Right}
 use Rattle.semantics.specs.Graph.{Flow}
 use Rattle.semantics.specs.Meaning.{Context, Main, Called, Turned}
-use Rattle.lowering.specs.Roles.{one}
-use Rattle.lowering.proofs.Orders.{total-IsPermutation, at_first}
-use Rattle.lowering.proofs.Net.{hit}
+use Rattle.law_net.specs.Roles.{one}
+use Rattle.law_net.proofs.Orders.{total-IsPermutation, at_first}
+use Rattle.law_net.proofs.Net.{hit}
 use Rattle.std.proofs.lemmas.List.Sorted.{IsPermutation-middle}
 use Rattle.law_contexts.specs.Parts.{Part, Item, Spot, Key, part_key, same_key, same_part, same_port, same_inlet, same_context, same_spot, spot_of, role_of}
 use Rattle.law_contexts.specs.Contexts.{Wires}

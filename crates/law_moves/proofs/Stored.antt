@@ -13,9 +13,9 @@ use Rattle.tags.specs.declared.token.Token.{Token}
 use Rattle.semantics.specs.Meaning.{Memory}
 use Rattle.semantics.specs.Orderly.{readers_of}
 use Rattle.semantics.specs.Machine.{Store, CellState, Vacant, Full, Deferred, Happens, Stores, value_in, answer, answers, with_cell, put_at}
-use Rattle.lowering.proofs.NetSlots.{put_same, put_other}
-use Rattle.lowering.proofs.Orders.{at_first, at_last, IsPermutation-same}
-use Rattle.lowering.proofs.Members.{contains_tail, contains_none}
+use Rattle.law_net.proofs.NetSlots.{put_same, put_other}
+use Rattle.law_net.proofs.Orders.{at_first, at_last, IsPermutation-same}
+use Rattle.law_net.proofs.Members.{contains_tail, contains_none}
 use Rattle.law_contexts.specs.Parts.{Part, Held, Item, Firing}
 use Rattle.law_contexts.specs.Blocks.{is_store, waits_in}
 use Rattle.law_contexts.specs.Contexts.{block_in}

@@ -12,9 +12,9 @@ use Rattle.semantics.specs.Meaning.{Context}
 use Rattle.semantics.specs.Machine.{Store}
 use Rattle.semantics.specs.Handed.{handed_by}
 use Rattle.semantics.specs.Orderly.{readers_of}
-use Rattle.lowering.proofs.NetSlots.{InSlots, AtSlot}
-use Rattle.lowering.proofs.Orders.{shuffled, Part as Piece, ◌⊕◌, at_first, at_last, IsPermutation-same, flat_map-IsPermutation}
-use Rattle.lowering.proofs.Members.{contains_head, contains_cases}
+use Rattle.law_net.proofs.NetSlots.{InSlots, AtSlot}
+use Rattle.law_net.proofs.Orders.{shuffled, Part as Piece, ◌⊕◌, at_first, at_last, IsPermutation-same, flat_map-IsPermutation}
+use Rattle.law_net.proofs.Members.{contains_head, contains_cases}
 use Rattle.law_contexts.specs.Parts.{Part, Framer, Fanned, Opener, Giver, Taker, Drainer, Drained, Landing, Held, Inlet, inlet, BackTo, Item, Firing}
 use Rattle.law_contexts.specs.Blocks.{is_loop, is_store, bound_at}
 use Rattle.law_contexts.specs.Contexts.{block_in, code_in, wiring_in, or_zero, is_strict_in, IsContext}

@@ -20,9 +20,9 @@ use Rattle.semantics.specs.Rule.{token, answer_to, outcome_of, fires, fire_one, 
 use Rattle.semantics.specs.Machine.{Fires, slot_in}
 use Rattle.semantics.specs.Sharing.{arc, inlet as port_at}
 use Rattle.semantics.specs.Arcs.{UsesArc, UsesBy}
-use Rattle.lowering.proofs.Orders.{at_last}
-use Rattle.lowering.proofs.Members.{contains_head}
-use Rattle.reuse.proofs.UsedArcs.{stands_arcs}
+use Rattle.law_net.proofs.Orders.{at_last}
+use Rattle.law_net.proofs.Members.{contains_head}
+use Rattle.law_reuse.proofs.UsedArcs.{stands_arcs}
 use Rattle.law_once.specs.Alike.{plain_dests}
 use Rattle.law_once.proofs.SpreadNewArcs.{dest_arc}
 use Rattle.law_contexts.specs.Parts.{Part, Asked, NextAsked, inlet, Note, BackTo, Item, item, Firing}

@@ -10,7 +10,7 @@ use Rattle.semantics.specs.Arcs.{UsesArc}
 use Rattle.semantics.specs.Holders.{Holder}
 use Rattle.semantics.specs.Credits.{granted_at, released_at}
 use Rattle.semantics.specs.Plan.{Plan}
-use Rattle.lowering.proofs.NetSlots.{InSlots}
+use Rattle.law_net.proofs.NetSlots.{InSlots}
 use Rattle.law_contexts.specs.Parts.{Part, Framer, Opener, Giver, Taker, Drainer, Asked, NextAsked, Held, Drained, Done, Freed, Item, Firing}
 use Rattle.law_contexts.specs.Contexts.{Wires, block_in}
 use Rattle.law_contexts.specs.Firings.{Config, takes, makes, memory_of, frame_at, HasFired}

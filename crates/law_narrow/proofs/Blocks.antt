@@ -11,9 +11,9 @@ use Rattle.semantics.specs.Program.{Instr, CodeBlock, Program, first_of, instr_a
 use Rattle.semantics.specs.Plan.{Plan, landing, landing_in}
 use Rattle.semantics.specs.Orderly.{same_block, IsMarked}
 use Rattle.code.specs.Sound.{IsSound}
-use Rattle.lowering.proofs.Ports.{same_in}
-use Rattle.reuse.proofs.Members.{contains_cases, contains_none}
-use Rattle.reuse.proofs.Stands.{first_in, first_next, one_block, stands_within, Found, found}
+use Rattle.law_net.proofs.Ports.{same_in}
+use Rattle.law_reuse.proofs.Members.{contains_cases, contains_none}
+use Rattle.law_reuse.proofs.Stands.{first_in, first_next, one_block, stands_within, Found, found}
 use Rattle.fanout.specs.Places.{size, place_of}
 use Rattle.fanout.specs.Narrowed.{layout_of, narrowed, narrowed_block, narrowed_blocks}
 use Rattle.fanout.specs.Laws.{StandsClear}

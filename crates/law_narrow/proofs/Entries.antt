@@ -7,7 +7,7 @@ use Rattle.semantics.specs.Program.{CodeBlock, first_of}
 use Rattle.semantics.specs.Plan.{Plan}
 use Rattle.semantics.specs.Orderly.{is_entry}
 use Rattle.code.specs.Sound.{IsSound}
-use Rattle.reuse.proofs.Stands.{first_in, first_next}
+use Rattle.law_reuse.proofs.Stands.{first_in, first_next}
 use Rattle.fanout.specs.Narrowed.{layout_of, narrowed, narrowed_block}
 use Rattle.fanout.specs.Places.{place_of}
 use Rattle.law_once.specs.Alike.{IsTidy}
@@ -17,7 +17,7 @@ use Rattle.std.proofs.lemmas.Option.{slice_get_within, slice_get-map}
 use Rattle.semantics.specs.Program.{CodeBlock, first_of}
 use Rattle.semantics.specs.Plan.{Plan}
 use Rattle.code.specs.Sound.{IsSound}
-use Rattle.reuse.proofs.Stands.{first_in, first_next}
+use Rattle.law_reuse.proofs.Stands.{first_in, first_next}
 use Rattle.fanout.specs.Sides.{parted}
 use Rattle.fanout.specs.Rows.{is_tied}
 use Rattle.fanout.specs.Places.{place_of}

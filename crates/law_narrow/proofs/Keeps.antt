@@ -3,7 +3,7 @@ use Rattle.std.proofs.Common.{refl}
 use Rattle.std.specs.Prelude.{All}
 use Rattle.semantics.specs.Program.{CodeBlock}
 use Rattle.semantics.specs.Plan.{Plan}
-use Rattle.determinacy.proofs.Resolved.{all_get}
+use Rattle.law_determinacy.proofs.Resolved.{all_get}
 use Rattle.fanout.specs.Laws.{HasFew}
 use Rattle.fanout.specs.Narrowed.{narrowed}
 use Rattle.fanout.proofs.Shapes.{narrowed_few}

@@ -12,7 +12,7 @@ use Rattle.semantics.specs.Plan.{Plan, landing}
 use Rattle.semantics.specs.Wired.{StandsAt}
 use Rattle.semantics.specs.Orderly.{inputs_in}
 use Rattle.code.specs.Sound.{NamesRightly, IsSound}
-use Rattle.reuse.proofs.Stands.{Found, found}
+use Rattle.law_reuse.proofs.Stands.{Found, found}
 use Rattle.fanout.specs.Sides.{parted, firsts_of, seconds_of, parting_of}
 use Rattle.fanout.specs.Places.{place_of}
 use Rattle.fanout.specs.Trees.{moved}

@@ -14,8 +14,8 @@ use Rattle.semantics.specs.Plan.{Plan, HasShape}
 use Rattle.semantics.specs.Wired.{StandsAt}
 use Rattle.semantics.specs.Orderly.{often}
 use Rattle.code.specs.Sound.{IsSound, IsSoundDest}
-use Rattle.lowering.specs.Implements.{leads_to}
-use Rattle.reuse.proofs.Stands.{instr_in}
+use Rattle.law_net.specs.Implements.{leads_to}
+use Rattle.law_reuse.proofs.Stands.{instr_in}
 use Rattle.fanout.specs.Sides.{copies, parted, firsts_of, seconds_of, parting_of}
 use Rattle.fanout.specs.Places.{size, place_of, base_of}
 use Rattle.fanout.specs.Trees.{child, leaf, side, copy_at, copies_of, moved}
@@ -28,7 +28,7 @@ use Rattle.fanout.proofs.Standing.{instrs_stay}
 use Rattle.fanout.proofs.Plans.{is, ts, l, all}
 use Rattle.fanout.proofs.Arrows.{in_parts, past, dests_stay}
 use Rattle.fanout.proofs.SoundFlags.{sound_stands_clear}
-use Rattle.reuse.proofs.Members.{contains_mapped}
+use Rattle.law_reuse.proofs.Members.{contains_mapped}
 use Rattle.law_once.specs.Spreads.{Spot, StandsFor, IsCopyAt, here, fork, Lead, targets, Leads, is_answered}
 use Rattle.law_once.specs.Alike.{IsTidy, plain_dests}
 use Rattle.law_narrow.proofs.NewPlaces.{new_ip, ip_at, back_in}

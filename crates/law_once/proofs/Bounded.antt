@@ -21,8 +21,8 @@ use Rattle.semantics.specs.Faithful.{largest, IsBounded}
 use Rattle.semantics.specs.Handed.{handed, UsesEachOnce}
 use Rattle.semantics.specs.Plan.{Plan}
 use Rattle.semantics.specs.Orderly.{Orderly, IsOrderlyRun, IsStart, met, eq_port, is_at, often}
-use Rattle.reuse.proofs.Members.{contains_head, contains_tail, contains_cases, contains_none}
-use Rattle.reuse.proofs.Lists.{Each, each_append}
+use Rattle.law_reuse.proofs.Members.{contains_head, contains_tail, contains_cases, contains_none}
+use Rattle.law_reuse.proofs.Lists.{Each, each_append}
 use Rattle.law_once.specs.Bounded.{HasFewDests, OrderlyIsBounded}
 use Rattle.law_once.proofs.Weights.{tot, tot_append, op_weight, instr_weight, weight, op_charge, instr_charge, charge, instr_few}
 use Rattle.law_once.proofs.Spending.{below, slot_below, IsBelow, run_pays}

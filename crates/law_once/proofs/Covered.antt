@@ -16,13 +16,13 @@ use Rattle.semantics.specs.Cause.{is_request, request_count}
 use Rattle.semantics.specs.Handed.{frame_of, handed_by, handed}
 use Rattle.semantics.specs.Plan.{Plan}
 use Rattle.semantics.specs.Orderly.{IsFreeOf, IsFreeAtRelease, Orderly, IsStart, met}
-use Rattle.reuse.proofs.Members.{contains_head, contains_tail, contains_cases}
-use Rattle.reuse.proofs.Fold.{put_same, put_other}
-use Rattle.reuse.proofs.Lists.{Each}
-use Rattle.reuse.proofs.Snoc.{run_snoc}
-use Rattle.reuse.proofs.Frames.{so_start, FreesOnce, fires_out, fetches_out, stores_out, hosts_out}
-use Rattle.reuse.proofs.AlwaysFreed.{frees_always}
-use Rattle.reuse.proofs.Names.{known}
+use Rattle.law_reuse.proofs.Members.{contains_head, contains_tail, contains_cases}
+use Rattle.law_reuse.proofs.Fold.{put_same, put_other}
+use Rattle.law_reuse.proofs.Lists.{Each}
+use Rattle.law_reuse.proofs.Snoc.{run_snoc}
+use Rattle.law_reuse.proofs.Frames.{so_start, FreesOnce, fires_out, fetches_out, stores_out, hosts_out}
+use Rattle.law_reuse.proofs.AlwaysFreed.{frees_always}
+use Rattle.law_reuse.proofs.Names.{known}
 
 -- ---- WHICH FRAMES ARE OUT
 abbrev pub OutAmong : List ℕ → Store → Type 0

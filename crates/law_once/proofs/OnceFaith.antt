@@ -9,14 +9,14 @@ use Rattle.semantics.specs.Placed.{placed}
 use Rattle.semantics.specs.Handed.{handed, UsesEachOnce, EachOnce}
 use Rattle.semantics.specs.Orderly.{Orderly, IsStart}
 use Rattle.semantics.specs.Wired.{IsWired}
-use Rattle.reuse.specs.Theorem.{TakesInputs}
-use Rattle.reuse.proofs.Frames.{So, so_start, FreesOnce, frames_once}
-use Rattle.reuse.proofs.Served.{has_served}
-use Rattle.reuse.proofs.OnceRuns.{own_so_after, Own, own_run}
-use Rattle.reuse.proofs.OnceLaw.{own_slots, own_matching}
-use Rattle.reuse.proofs.UnfoldedRuns.{frees_shared}
-use Rattle.reuse.proofs.Clauses.{KeepsFaith, faith_kept, faith_same, code_bounds}
-use Rattle.reuse.proofs.AllRuns.{faith_back, start_of}
+use Rattle.law_reuse.specs.Theorem.{TakesInputs}
+use Rattle.law_reuse.proofs.Frames.{So, so_start, FreesOnce, frames_once}
+use Rattle.law_reuse.proofs.Served.{has_served}
+use Rattle.law_reuse.proofs.OnceRuns.{own_so_after, Own, own_run}
+use Rattle.law_reuse.proofs.OnceLaw.{own_slots, own_matching}
+use Rattle.law_reuse.proofs.UnfoldedRuns.{frees_shared}
+use Rattle.law_reuse.proofs.Clauses.{KeepsFaith, faith_kept, faith_same, code_bounds}
+use Rattle.law_reuse.proofs.AllRuns.{faith_back, start_of}
 use Rattle.law_once.specs.Once.{KeepsOnce, FaithfulOnce, BoundedOnce, OnceSuffices}
 
 -- in a run of the plan that uses each frame once, all clauses hold

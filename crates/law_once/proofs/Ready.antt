@@ -1,6 +1,6 @@
 -- Plans that are ready stay so, and have faithful code.
 use Rattle.std.proofs.Common.{◌∙◌}
-use Rattle.reuse.proofs.Bounds.{code_uses_again}
+use Rattle.law_reuse.proofs.Bounds.{code_uses_again}
 use Rattle.law_once.specs.Ready.{ReadyStays, ReadyCodeIsFaithful}
 use Rattle.law_once.proofs.Alike.{alike_is_faithful}
 use Rattle.law_once.proofs.Bounded.{orderly_is_bounded}

@@ -6,7 +6,7 @@ use Rattle.std.proofs.lemmas.List.Recursion.{is_sum_by}
 use Rattle.semantics.specs.Program.{CodeBlock}
 use Rattle.semantics.specs.Faithful.{largest}
 use Rattle.semantics.specs.Orderly.{same_block}
-use Rattle.reuse.proofs.Lists.{Each}
+use Rattle.law_reuse.proofs.Lists.{Each}
 use Rattle.law_once.proofs.Weights.{tot}
 
 abbrev pub unless : Bool → ℕ → ℕ

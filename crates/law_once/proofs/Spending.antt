@@ -14,8 +14,8 @@ use Rattle.tags.specs.declared.slot.SlotState.{SlotState}
 use Rattle.semantics.specs.Program.{Instr, Program, instr_at}
 use Rattle.semantics.specs.Rule.{Outcome, Becomes, Excluded, outcome_of, rule_at, slot_of}
 use Rattle.semantics.specs.Machine.{CellState, Vacant, Full, Deferred, Machine, Store, Size, Events, Run, answer, answers, put_at, with_slot_in, slot_in, slot_used, outputs_of, reader_count, Fires, Fetches, Stores, Requests, Releases, Hosts, Happens}
-use Rattle.reuse.proofs.Fold.{put_same, put_other}
-use Rattle.reuse.proofs.Stands.{Found, found}
+use Rattle.law_reuse.proofs.Fold.{put_same, put_other}
+use Rattle.law_reuse.proofs.Stands.{Found, found}
 use Rattle.law_once.specs.Bounded.{HasFewDests}
 use Rattle.law_once.proofs.Weights.{tot, tot_append, tot_perm, op_weight, instr_weight, to_weight, weight, weights, slot_weight, op_charge, instr_charge, charge, cost, outcome_cost, back_few}
 

@@ -11,7 +11,7 @@ use Rattle.semantics.specs.Machine.{Machine, Events}
 use Rattle.semantics.specs.Handed.{EachOnce}
 use Rattle.semantics.specs.Plan.{Plan}
 use Rattle.semantics.specs.Orderly.{IsMarked, met}
-use Rattle.reuse.proofs.Members.{contains_head}
+use Rattle.law_reuse.proofs.Members.{contains_head}
 use Rattle.law_once.specs.Spreads.{ip_word, Spot, StandsFor, here, fork, Spreads}
 use Rattle.law_once.proofs.SpreadClumps.{spot_token, at_port}
 use Rattle.law_once.proofs.SpreadOldRun.{Setting, OldRun, Explained, is_orderly_run}

@@ -17,10 +17,10 @@ use Rattle.semantics.specs.Machine.{Machine, Store as MStore, put_at, with_slot,
 use Rattle.semantics.specs.Plan.{Plan, HasShape, IsPlanBlock}
 use Rattle.semantics.specs.Wired.{IsWired}
 use Rattle.semantics.specs.Arcs.{UsesArc}
-use Rattle.determinacy.proofs.Resolved.{all_get}
-use Rattle.reuse.proofs.Fold.{put_same}
-use Rattle.reuse.proofs.Stands.{Found, found}
-use Rattle.reuse.proofs.Members.{contains_mapped}
+use Rattle.law_determinacy.proofs.Resolved.{all_get}
+use Rattle.law_reuse.proofs.Fold.{put_same}
+use Rattle.law_reuse.proofs.Stands.{Found, found}
+use Rattle.law_reuse.proofs.Members.{contains_mapped}
 use Rattle.law_once.proofs.Parts.{instr_parts}
 use Rattle.law_once.specs.Alike.{plain_dests}
 use Rattle.law_once.specs.Spreads.{ip_token, ip_slot, ip_store, Spot, StandsFor, IsCopyAt, fork, Lead, IsMoved, Spreads}

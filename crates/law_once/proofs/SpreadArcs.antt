@@ -9,7 +9,7 @@ use Rattle.semantics.specs.declared.program.Op.TheVariants.{Link}
 use Rattle.semantics.specs.Program.{Instr}
 use Rattle.semantics.specs.Plan.{Plan, landing}
 use Rattle.semantics.specs.Sharing.{Arc, arc, inlet, arcs_to, row, arcs_from, arcs_of}
-use Rattle.reuse.proofs.Members.{contains_cases, contains_none, contains_mapped}
+use Rattle.law_reuse.proofs.Members.{contains_cases, contains_none, contains_mapped}
 
 arcs_to_from : (n : ℕ) (s : Bool) (ds : List Dest) (x : Arc) → Contains (arcs_to n s ds) x → x.from ≡ n
 arcs_to_from n s ds x c = let d = contains_mapped (λ (d : Dest). arc n s (inlet (n + d.ahead) d.port)) ds x c in sym (ap (λ (x : Arc). x.from) d.2)

@@ -10,7 +10,7 @@ use Rattle.semantics.specs.Machine.{Machine, Events}
 use Rattle.semantics.specs.Handed.{EachOnce}
 use Rattle.semantics.specs.Plan.{Plan}
 use Rattle.semantics.specs.Orderly.{same_block, met}
-use Rattle.reuse.proofs.Members.{contains_map}
+use Rattle.law_reuse.proofs.Members.{contains_map}
 use Rattle.law_once.specs.Spreads.{Spot, StandsFor, Spreads}
 use Rattle.law_once.proofs.SpreadClumps.{spot_token, at_port}
 use Rattle.law_once.proofs.SpreadRelease.{some_spot}

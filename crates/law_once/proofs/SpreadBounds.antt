@@ -22,10 +22,10 @@ use Rattle.semantics.specs.Wired.{IsWired}
 use Rattle.semantics.specs.Holders.{Holder, holder_at}
 use Rattle.semantics.specs.Credits.{IsPart, IsLink, IsLoop, granted, released}
 use Rattle.semantics.specs.Orderly.{Orderly, IsStart, met}
-use Rattle.reuse.specs.Bounds.{OnlyAsks, PlanKeepsBound, PlanKeepsBounds}
-use Rattle.reuse.proofs.Tallies.{granted_is, released_is}
-use Rattle.reuse.proofs.Stands.{some_same}
-use Rattle.reuse.proofs.Members.{contains_head, contains_tail, contains_cases, contains_none}
+use Rattle.law_reuse.specs.Bounds.{OnlyAsks, PlanKeepsBound, PlanKeepsBounds}
+use Rattle.law_reuse.proofs.Tallies.{granted_is, released_is}
+use Rattle.law_reuse.proofs.Stands.{some_same}
+use Rattle.law_reuse.proofs.Members.{contains_head, contains_tail, contains_cases, contains_none}
 use Rattle.law_once.proofs.Parts.{one_part}
 use Rattle.law_once.specs.Alike.{LandsRightly}
 use Rattle.law_once.specs.Spreads.{ip_to, ip_slot, Spot, here, is_answered, Spreads}

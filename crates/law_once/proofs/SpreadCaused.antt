@@ -13,7 +13,7 @@ use Rattle.semantics.specs.Handed.{EachOnce}
 use Rattle.semantics.specs.Plan.{Plan}
 use Rattle.semantics.specs.Arcs.{UsesArc, SomeEvent}
 use Rattle.semantics.specs.Orderly.{is_entry}
-use Rattle.reuse.proofs.Members.{contains_head, contains_mapped}
+use Rattle.law_reuse.proofs.Members.{contains_head, contains_mapped}
 use Rattle.law_once.specs.Spreads.{Spot, StandsFor, here, fork, Spreads}
 use Rattle.law_once.proofs.SpreadClumps.{spot_token, in_meant, at_port, Clump}
 use Rattle.law_once.proofs.SpreadWays.{Pending}

@@ -11,8 +11,8 @@ use Rattle.semantics.specs.declared.program.Dest.{Dest}
 use Rattle.semantics.specs.Program.{Instr, Program, instr_at}
 use Rattle.semantics.specs.Rule.{token}
 use Rattle.semantics.specs.Orderly.{is_at, eq_port}
-use Rattle.reuse.proofs.Members.{contains_head, contains_cases, contains_none, contains_map, contains_tail}
-use Rattle.reuse.proofs.Stands.{some_same}
+use Rattle.law_reuse.proofs.Members.{contains_head, contains_cases, contains_none, contains_map, contains_tail}
+use Rattle.law_reuse.proofs.Stands.{some_same}
 use Rattle.law_once.proofs.Parts.{instr_parts, one_part}
 use Rattle.law_once.specs.Spreads.{Spot, StandsFor, here, fork}
 use Rattle.law_once.proofs.Weights.{tot, tot_append, tot_perm}

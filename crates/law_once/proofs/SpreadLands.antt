@@ -12,8 +12,8 @@ use Rattle.semantics.specs.Handed.{handed, EachOnce, UsesEachOnce}
 use Rattle.semantics.specs.Plan.{Plan}
 use Rattle.semantics.specs.Wired.{IsWired}
 use Rattle.semantics.specs.Orderly.{Orderly, IsStart, met}
-use Rattle.reuse.proofs.Stands.{some_same}
-use Rattle.reuse.proofs.Members.{contains_head}
+use Rattle.law_reuse.proofs.Stands.{some_same}
+use Rattle.law_reuse.proofs.Members.{contains_head}
 use Rattle.law_once.proofs.Parts.{back_parts, cont_parts}
 use Rattle.law_once.specs.Alike.{offset_of, HasLanding, LandsRightly}
 use Rattle.law_once.specs.Spreads.{ip_word, Spot, StandsFor, here, fork, Spreads}

@@ -17,7 +17,7 @@ use Rattle.semantics.specs.Machine.{Machine, Store as MStore, Size, Events, slot
 use Rattle.semantics.specs.Handed.{EachOnce}
 use Rattle.semantics.specs.Plan.{Plan}
 use Rattle.semantics.specs.Orderly.{IsOrderlyRun}
-use Rattle.reuse.proofs.Members.{contains_head, contains_mapped}
+use Rattle.law_reuse.proofs.Members.{contains_head, contains_mapped}
 use Rattle.law_once.specs.Spreads.{ip_word, ip_to, Spot, StandsFor, here, fork, IsMoved, Spreads}
 use Rattle.law_once.proofs.SpreadClumps.{spot_token, Stands as StandsToken, moved, spread, Clump}
 use Rattle.law_once.proofs.SpreadSteps.{slot_same, slot_there}

@@ -18,9 +18,9 @@ use Rattle.semantics.specs.Machine.{Machine}
 use Rattle.semantics.specs.Plan.{Plan, landing}
 use Rattle.semantics.specs.Sharing.{arc, inlet, arcs_to, row, arcs_from}
 use Rattle.semantics.specs.Arcs.{UsesBy, UsesArc}
-use Rattle.reuse.proofs.Stands.{Found, found, stands_at}
-use Rattle.reuse.proofs.UsedArcs.{stands_arcs}
-use Rattle.reuse.proofs.Members.{contains_cases, contains_none, contains_map, contains_mapped}
+use Rattle.law_reuse.proofs.Stands.{Found, found, stands_at}
+use Rattle.law_reuse.proofs.UsedArcs.{stands_arcs}
+use Rattle.law_reuse.proofs.Members.{contains_cases, contains_none, contains_map, contains_mapped}
 use Rattle.law_once.specs.Alike.{plain_dests}
 use Rattle.law_once.specs.Spreads.{ip_word, ip_token, Spot, IsMoved}
 use Rattle.law_once.proofs.SpreadWays.{LeadsTo, Pending, Direct, goes_on, pending_in, not_fresh}

@@ -21,13 +21,13 @@ use Rattle.semantics.specs.Handed.{handed_by, EachOnce}
 use Rattle.semantics.specs.Plan.{Plan}
 use Rattle.semantics.specs.Wired.{IsWired}
 use Rattle.semantics.specs.Orderly.{IsOrderlyRun, met}
-use Rattle.reuse.proofs.Members.{contains_head, contains_tail, contains_cases, contains_none}
-use Rattle.reuse.proofs.Snoc.{run_snoc, some_snoc, handed_snoc, tally_snoc}
-use Rattle.reuse.proofs.Counts.{requests_more, credits_more}
-use Rattle.reuse.proofs.Tallies.{Grants, Releases, count_at, count_apart}
+use Rattle.law_reuse.proofs.Members.{contains_head, contains_tail, contains_cases, contains_none}
+use Rattle.law_reuse.proofs.Snoc.{run_snoc, some_snoc, handed_snoc, tally_snoc}
+use Rattle.law_reuse.proofs.Counts.{requests_more, credits_more}
+use Rattle.law_reuse.proofs.Tallies.{Grants, Releases, count_at, count_apart}
 use Rattle.semantics.specs.Holders.{Holder}
 use Rattle.semantics.specs.Credits.{granted_at, released_at}
-use Rattle.reuse.proofs.History.{taken, kept_next}
+use Rattle.law_reuse.proofs.History.{taken, kept_next}
 use Rattle.law_once.specs.Spreads.{ip_word, ip_to, ip_token, ip_store, Spot, StandsFor, IsCopyAt, here, fork, IsMoved, Spreads}
 use Rattle.law_once.proofs.Lifted.{first_lifted, flat_map-IsPermutation}
 use Rattle.law_once.proofs.SpreadClumps.{spot_token, map_join, Stands as StandsToken, moved, spread, Clump, seen_of, meant_of}

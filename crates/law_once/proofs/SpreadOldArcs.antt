@@ -19,9 +19,9 @@ use Rattle.semantics.specs.Machine.{Machine}
 use Rattle.semantics.specs.Plan.{Plan, HasShape, landing}
 use Rattle.semantics.specs.Sharing.{Arc, arc, Inlet, inlet, arcs_to, row, arcs_from, arcs_of, arcs_in}
 use Rattle.semantics.specs.Arcs.{GoesTo, AsksFor, Lands, UsesBy, UsesArc}
-use Rattle.reuse.proofs.Stands.{some_same, stands_at, Found, found}
-use Rattle.reuse.proofs.UsedArcs.{arc_stands, stands_arcs}
-use Rattle.reuse.proofs.Members.{contains_head, contains_tail, contains_cases, contains_none, contains_mapped}
+use Rattle.law_reuse.proofs.Stands.{some_same, stands_at, Found, found}
+use Rattle.law_reuse.proofs.UsedArcs.{arc_stands, stands_arcs}
+use Rattle.law_reuse.proofs.Members.{contains_head, contains_tail, contains_cases, contains_none, contains_mapped}
 use Rattle.law_once.proofs.Parts.{instr_parts, back_parts, cont_parts}
 use Rattle.law_once.specs.Alike.{plain_dests}
 use Rattle.law_once.specs.Spreads.{ip_word, ip_to, ip_token, ip_slot, Leads, is_answered, IsMoved, Spreads}

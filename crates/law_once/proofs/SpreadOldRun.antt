@@ -20,15 +20,15 @@ use Rattle.semantics.specs.Handed.{handed, EachOnce, UsesEachOnce}
 use Rattle.semantics.specs.Plan.{Plan, is_credit}
 use Rattle.semantics.specs.Wired.{IsWired}
 use Rattle.semantics.specs.Orderly.{Orderly, IsOrderlyRun, IsStart, met}
-use Rattle.reuse.proofs.Snoc.{tally}
-use Rattle.reuse.proofs.Tallies.{Grants, Releases, count_at}
+use Rattle.law_reuse.proofs.Snoc.{tally}
+use Rattle.law_reuse.proofs.Tallies.{Grants, Releases, count_at}
 use Rattle.semantics.specs.Holders.{Holder}
-use Rattle.reuse.proofs.Turns.{dyadic_not_credit}
-use Rattle.reuse.proofs.Stands.{Stands, Found, found}
-use Rattle.reuse.proofs.Fillings.{at_port, Filled, EmptyOr}
-use Rattle.reuse.proofs.UsedArcs.{one_frame}
-use Rattle.reuse.proofs.Firings.{holders_of}
-use Rattle.reuse.proofs.History.{taken, Kept, ports_of}
+use Rattle.law_reuse.proofs.Turns.{dyadic_not_credit}
+use Rattle.law_reuse.proofs.Stands.{Stands, Found, found}
+use Rattle.law_reuse.proofs.Fillings.{at_port, Filled, EmptyOr}
+use Rattle.law_reuse.proofs.UsedArcs.{one_frame}
+use Rattle.law_reuse.proofs.Firings.{holders_of}
+use Rattle.law_reuse.proofs.History.{taken, Kept, ports_of}
 use Rattle.law_once.specs.Alike.{offset_of, LandsRightly}
 use Rattle.law_once.specs.Spreads.{ip_store, Spreads}
 use Rattle.law_once.proofs.SpreadClumps.{Stands as StandsToken, Clump, seen_of, meant_of}

@@ -9,8 +9,8 @@ use Rattle.semantics.specs.Machine.{Machine, Size, Events}
 use Rattle.semantics.specs.Handed.{EachOnce}
 use Rattle.semantics.specs.Plan.{Plan}
 use Rattle.semantics.specs.Orderly.{IsOrderlyRun, met, is_at, often}
-use Rattle.reuse.proofs.Members.{contains_cases, contains_none}
-use Rattle.reuse.proofs.History.{taken}
+use Rattle.law_reuse.proofs.Members.{contains_cases, contains_none}
+use Rattle.law_reuse.proofs.History.{taken}
 use Rattle.law_once.specs.Spreads.{Spot, StandsFor, here, fork, Spreads}
 use Rattle.law_once.proofs.Rows.{count_tot}
 use Rattle.law_once.proofs.SpreadCounts.{ones, ones_some, counted_met}

@@ -12,8 +12,8 @@ use Rattle.semantics.specs.Machine.{Machine, Events}
 use Rattle.semantics.specs.Handed.{EachOnce}
 use Rattle.semantics.specs.Plan.{Plan}
 use Rattle.semantics.specs.Orderly.{met, is_at, often}
-use Rattle.reuse.proofs.History.{taken}
-use Rattle.reuse.proofs.Members.{contains_head, contains_cases, contains_none, contains_mapped}
+use Rattle.law_reuse.proofs.History.{taken}
+use Rattle.law_reuse.proofs.Members.{contains_head, contains_cases, contains_none, contains_mapped}
 use Rattle.law_once.proofs.Parts.{instr_parts}
 use Rattle.law_once.specs.Spreads.{Spot, StandsFor, here, fork, Spreads}
 use Rattle.law_once.proofs.Weights.{tot, tot_append, tot_perm}

@@ -9,8 +9,8 @@ use Rattle.semantics.specs.declared.program.Op.TheVariants.{Copy, Give, Take}
 use Rattle.semantics.specs.Program.{Instr, CodeBlock, Program, first_of, instr_at}
 use Rattle.semantics.specs.Plan.{Plan}
 use Rattle.semantics.specs.Orderly.{same_block, often}
-use Rattle.reuse.proofs.Stands.{first_in, first_next, some_same, instr_in, Stands, stands_at, stands_block, stands_within, Found, found}
-use Rattle.reuse.proofs.Members.{contains_head}
+use Rattle.law_reuse.proofs.Stands.{first_in, first_next, some_same, instr_in, Stands, stands_at, stands_block, stands_within, Found, found}
+use Rattle.law_reuse.proofs.Members.{contains_head}
 use Rattle.law_once.proofs.Parts.{one_part, there}
 use Rattle.law_once.specs.Alike.{HasLanding}
 use Rattle.law_once.specs.Spreads.{Spot, StandsFor, here, fork, is_answered, IsMoved, Spreads}

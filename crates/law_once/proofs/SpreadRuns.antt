@@ -19,10 +19,10 @@ use Rattle.semantics.specs.Handed.{handed_by, handed, EachOnce, UsesEachOnce}
 use Rattle.semantics.specs.Plan.{Plan}
 use Rattle.semantics.specs.Wired.{IsWired}
 use Rattle.semantics.specs.Orderly.{Orderly, IsStart, met}
-use Rattle.reuse.proofs.Members.{contains_head, contains_cases, contains_none, contains_mapped}
-use Rattle.reuse.proofs.History.{taken, kept_start}
-use Rattle.reuse.proofs.OnceRuns.{once_before}
-use Rattle.reuse.proofs.Clauses.{perm_nil}
+use Rattle.law_reuse.proofs.Members.{contains_head, contains_cases, contains_none, contains_mapped}
+use Rattle.law_reuse.proofs.History.{taken, kept_start}
+use Rattle.law_reuse.proofs.OnceRuns.{once_before}
+use Rattle.law_reuse.proofs.Clauses.{perm_nil}
 use Rattle.law_once.specs.Alike.{LooksAlike, RunsAlike, LandsRightly}
 use Rattle.law_once.specs.Spreads.{ip_cont, ip_to, ip_token, ip_slot, ip_cell, Spreads}
 use Rattle.law_once.proofs.SpreadClumps.{in_meant, Stands as StandsToken, moved, spread, Clump, seen_of, meant_of, Clumped, none_clumped, cons_clumped}

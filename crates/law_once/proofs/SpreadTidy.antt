@@ -12,8 +12,8 @@ use Rattle.semantics.specs.Program.{Instr, CodeBlock, Program, first_of, instr_a
 use Rattle.semantics.specs.Plan.{Plan, landing, landing_in}
 use Rattle.semantics.specs.Orderly.{often}
 use Rattle.code.specs.Sound.{NamesRightly, IsSound}
-use Rattle.reuse.proofs.Stands.{some_same, Stands, stands_at, Found, found}
-use Rattle.reuse.proofs.Members.{contains_head, contains_cases, contains_none, contains_mapped}
+use Rattle.law_reuse.proofs.Stands.{some_same, Stands, stands_at, Found, found}
+use Rattle.law_reuse.proofs.Members.{contains_head, contains_cases, contains_none, contains_mapped}
 use Rattle.law_once.proofs.Parts.{there}
 use Rattle.law_once.specs.Alike.{plain_dests, HasLanding, IsTidy}
 use Rattle.law_once.specs.Spreads.{Spot, StandsFor, here, fork, Lead, targets, Leads, is_answered, IsMoved, Spreads, SpreadPlansStayTidy}

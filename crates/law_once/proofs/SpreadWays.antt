@@ -10,7 +10,7 @@ use Rattle.tags.specs.declared.token.Token.{Token}
 use Rattle.semantics.specs.declared.program.Dest.{Dest}
 use Rattle.semantics.specs.Program.{Program}
 use Rattle.semantics.specs.Rule.{at_dest, to_each}
-use Rattle.reuse.proofs.Members.{contains_head, contains_tail, contains_cases, contains_none, contains_map}
+use Rattle.law_reuse.proofs.Members.{contains_head, contains_tail, contains_cases, contains_none, contains_map}
 use Rattle.law_once.proofs.Parts.{instr_parts}
 use Rattle.law_once.specs.Spreads.{ip_to, ip_token, Spot, StandsFor, here, fork, Lead, targets, Leads}
 

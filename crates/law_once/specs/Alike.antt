@@ -18,8 +18,8 @@ use Rattle.semantics.specs.Handed.{UsesEachOnce}
 use Rattle.semantics.specs.Plan.{Plan, landing}
 use Rattle.semantics.specs.Orderly.{Orderly, IsStart, inputs_of, met, often}
 use Rattle.code.specs.Sound.{IsSound}
-use Rattle.reuse.specs.Bounds.{PlanKeepsBounds}
-use Rattle.reuse.specs.Theorem.{TakesInputs}
+use Rattle.law_reuse.specs.Bounds.{PlanKeepsBounds}
+use Rattle.law_reuse.specs.Theorem.{TakesInputs}
 use Rattle.law_once.specs.Once.{FaithfulOnce}
 
 -- the state m of a run looks like the state u of another one

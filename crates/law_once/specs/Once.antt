@@ -11,7 +11,7 @@ use Rattle.semantics.specs.Placed.{placed}
 use Rattle.semantics.specs.Wired.{IsWired}
 use Rattle.semantics.specs.Handed.{UsesEachOnce}
 use Rattle.semantics.specs.Orderly.{Orderly, IsStart}
-use Rattle.reuse.specs.Theorem.{TakesInputs}
+use Rattle.law_reuse.specs.Theorem.{TakesInputs}
 
 -- What such a run keeps, of what faithfulness says. That its outputs are reached is in `cause`, and that no rule excludes a
 -- token is said by `Orderly`.

@@ -9,8 +9,8 @@ use Rattle.semantics.specs.Placed.{placed}
 use Rattle.semantics.specs.Orderly.{Orderly, inputs_of}
 use Rattle.semantics.specs.Reuse.{UsesAgain}
 use Rattle.code.specs.Sound.{IsSound}
-use Rattle.reuse.specs.Bounds.{PlanKeepsBounds}
-use Rattle.reuse.specs.Theorem.{TakesInputs}
+use Rattle.law_reuse.specs.Bounds.{PlanKeepsBounds}
+use Rattle.law_reuse.specs.Theorem.{TakesInputs}
 use Rattle.law_once.specs.Once.{FaithfulOnce}
 use Rattle.law_once.specs.Bounded.{HasFewDests}
 use Rattle.law_once.specs.Alike.{LandsRightly, IsTidy, Keeps}

@@ -18,10 +18,10 @@ use Rattle.semantics.specs.Plan.{Plan}
 use Rattle.semantics.specs.Rule.{token}
 use Rattle.semantics.specs.Machine.{Machine}
 use Rattle.semantics.specs.Orderly.{NamesCont, NamesWord, NamesTo, NamesSlot, IsFreeAtRelease}
-use Rattle.lowering.specs.Roles.{one}
-use Rattle.lowering.proofs.NetSlots.{AtSlot}
-use Rattle.lowering.proofs.Members.{contains_head, contains_tail, contains_cases, contains_none}
-use Rattle.lowering.proofs.Orders.{first_lifted, total-IsPermutation, total-append}
+use Rattle.law_net.specs.Roles.{one}
+use Rattle.law_net.proofs.NetSlots.{AtSlot}
+use Rattle.law_net.proofs.Members.{contains_head, contains_tail, contains_cases, contains_none}
+use Rattle.law_net.proofs.Orders.{first_lifted, total-IsPermutation, total-append}
 use Rattle.law_contexts.specs.Parts.{Part, Opener, Drained, Taker, Asked, NextAsked, Held, Shown, Done, Freed, End, Inlet, inlet, Note, Datum, FrameOf, BackTo, ToHost, Item, Firing, Spot, spot_of, same_spot}
 use Rattle.law_contexts.specs.Blocks.{waits_in, is_store, is_loop, bound_at, entered}
 use Rattle.law_contexts.specs.Contexts.{Wires, or_zero, block_in, wiring_in, IsContext}

@@ -7,8 +7,8 @@ use Rattle.semantics.specs.Graph.{Flow}
 use Rattle.semantics.specs.Meaning.{Context, Main, Called, Turned}
 use Rattle.semantics.specs.Plan.{Plan}
 use Rattle.semantics.specs.Machine.{Machine}
-use Rattle.lowering.specs.Roles.{one}
-use Rattle.lowering.proofs.Orders.{total-append}
+use Rattle.law_net.specs.Roles.{one}
+use Rattle.law_net.proofs.Orders.{total-append}
 use Rattle.law_contexts.specs.Parts.{Part, Entry, Line, Framer, Fanned, Linker, CallDone, Taker, LoopDone, Asker, NextFramer, NextFanned, NextSender, End, Asked, NextAsked, Held, Drained, Inlet, inlet, Item, Firing, Spot, spot_of, same_spot, Role, role, role_of, turn_in}
 use Rattle.law_contexts.specs.Blocks.{there_in, is_cell}
 use Rattle.law_contexts.specs.Contexts.{Wires, block_in, site_in, wiring_in}

@@ -24,7 +24,7 @@ use Rattle.folding.proofs.SoundRows.{link_before, shut_stays, place_low}
 use Rattle.folding.proofs.SoundDests.{dyadic_is}
 use Rattle.folding.proofs.Cases.{value_at, FoldCase, is_kept, is_right, is_left, fold_cases}
 use Rattle.semantics.specs.Bytes as Bytes
-use Rattle.reuse.proofs.Stands.{some_same, instr_in}
+use Rattle.law_reuse.proofs.Stands.{some_same, instr_in}
 use Rattle.law_once.specs.Alike.{plain_dests, IsTidy}
 use Rattle.law_passes.specs.Passes.{FoldedIsTidy}
 use Rattle.law_passes.proofs.Tidy.{some_landing, one_only, sole, often_op, all_named, PlainOr, plain_or}

@@ -20,11 +20,11 @@ use Rattle.semantics.specs.Plan.{Plan}
 use Rattle.semantics.specs.Orderly.{met, Orderly, IsStart}
 use Rattle.semantics.specs.Holders.{Holder, holder_of, holder_at, same_holder}
 use Rattle.semantics.specs.Credits.{granted_in, granted_at, released_in, released_at, granted, released, IsPart, IsLoop}
-use Rattle.reuse.specs.Bounds.{OnlyAsks, PlanKeepsBound, PlanKeepsBounds}
-use Rattle.reuse.proofs.Stands.{some_same}
-use Rattle.reuse.proofs.Fillings.{at_port}
-use Rattle.reuse.proofs.Claims.{holder_here}
-use Rattle.reuse.proofs.History.{taken, ports_of}
+use Rattle.law_reuse.specs.Bounds.{OnlyAsks, PlanKeepsBound, PlanKeepsBounds}
+use Rattle.law_reuse.proofs.Stands.{some_same}
+use Rattle.law_reuse.proofs.Fillings.{at_port}
+use Rattle.law_reuse.proofs.Claims.{holder_here}
+use Rattle.law_reuse.proofs.History.{taken, ports_of}
 use Rattle.law_renumber.specs.Renumbers.{IsRenumbered, HoldsIn, RenumbersBlock, RenumbersAll, with_blocks}
 use Rattle.law_renumber.proofs.Places.{Located, Nowhere, There, located, first_is, inputs_is, landing_is}
 use Rattle.law_renumber.proofs.Events.{held, slot_held, Agrees}

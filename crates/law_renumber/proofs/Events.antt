@@ -13,10 +13,10 @@ use Rattle.semantics.specs.Program.{Instr, CodeBlock, Program, instr_at}
 use Rattle.semantics.specs.Rule.{Seat, Outcome, Becomes, Excluded, outcome_of, rule_at, slot_of}
 use Rattle.semantics.specs.Machine.{Store as MStore, put_at, with_slot, with_output, with_done, slot_in, slot_used, Fires, Hosts, Happens, outputs_of}
 use Rattle.semantics.specs.Plan.{Plan}
-use Rattle.reuse.proofs.Fold.{put_same, put_other}
-use Rattle.reuse.proofs.PlacedCode.{outcome_same}
-use Rattle.reuse.proofs.PlacedEvents.{Unmoved, in_slot, slot_moved}
-use Rattle.reuse.proofs.OtherEvents.{Same, Carried, fetch_carried, store_carried, request_carried, release_carried}
+use Rattle.law_reuse.proofs.Fold.{put_same, put_other}
+use Rattle.law_reuse.proofs.PlacedCode.{outcome_same}
+use Rattle.law_reuse.proofs.PlacedEvents.{Unmoved, in_slot, slot_moved}
+use Rattle.law_reuse.proofs.OtherEvents.{Same, Carried, fetch_carried, store_carried, request_carried, release_carried}
 use Rattle.law_renumber.specs.Renumbers.{IsRenumbered, HoldsIn, RenumbersBlock, RenumbersAll, with_blocks}
 use Rattle.law_renumber.proofs.Places.{first_is, outputs_is}
 

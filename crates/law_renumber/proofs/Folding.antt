@@ -19,7 +19,7 @@ use Rattle.folding.proofs.SoundLists.{get_contains, all_get}
 use Rattle.folding.proofs.Cases.{value_at, FoldCase, is_kept, is_right, is_left, fold_cases}
 use Rattle.law_fold.specs.Kept.{slotted, kept_block, kept_slots}
 use Rattle.law_renumber.specs.Renumbers.{IsRenumbered, HoldsIn, RenumbersBlock, Renumbers}
-use Rattle.reuse.proofs.Stands.{some_same}
+use Rattle.law_reuse.proofs.Stands.{some_same}
 use Rattle.law_renumber.proofs.Holders.{Keeps, holders_apart}
 
 length_left : {X Y : Type 0} (l : Layout) (f : ℕ → Instr → X) (g : ℕ → Instr → Y) (n : ℕ) (is : List Instr) → length (left_from l f n is) ≡ length (left_from l g n is)

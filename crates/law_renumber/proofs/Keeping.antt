@@ -19,8 +19,8 @@ use Rattle.semantics.specs.Machine.{CellState, Machine, Size, Events, Wants, rea
 use Rattle.semantics.specs.Cause.{seeks_credit, is_credit_event, credit_count}
 use Rattle.semantics.specs.Plan.{Plan, landing}
 use Rattle.semantics.specs.Orderly.{Orderly, IsStart, met, often}
-use Rattle.reuse.proofs.Stands.{some_same}
-use Rattle.reuse.proofs.History.{taken}
+use Rattle.law_reuse.proofs.Stands.{some_same}
+use Rattle.law_reuse.proofs.History.{taken}
 use Rattle.law_once.specs.Alike.{LooksAlike, RunsAlike, offset_of, HasLanding, LandsRightly, plain_dests, IsTidy}
 use Rattle.law_renumber.specs.Renumbers.{RenumbersAll, with_blocks}
 use Rattle.law_renumber.specs.Keeps.{KeepsAll, RenumberedKeeps}

@@ -22,11 +22,11 @@ use Rattle.semantics.specs.Sharing.{Arc}
 use Rattle.semantics.specs.Arcs.{Lands, UsesBy, UsesArc, SomeEvent}
 use Rattle.semantics.specs.Handed.{UsesEachOnce}
 use Rattle.semantics.specs.Orderly.{NamesSlot, readers_of, IsFreeAtRelease, met, is_at, IsMarked, Orderly, IsStart, IsOrderlyRun}
-use Rattle.reuse.proofs.PlacedCode.{empty_or}
-use Rattle.reuse.proofs.OtherEvents.{Same}
-use Rattle.reuse.proofs.Stands.{some_same}
-use Rattle.reuse.proofs.Fillings.{at_port}
-use Rattle.reuse.proofs.History.{taken, ports_of}
+use Rattle.law_reuse.proofs.PlacedCode.{empty_or}
+use Rattle.law_reuse.proofs.OtherEvents.{Same}
+use Rattle.law_reuse.proofs.Stands.{some_same}
+use Rattle.law_reuse.proofs.Fillings.{at_port}
+use Rattle.law_reuse.proofs.History.{taken, ports_of}
 use Rattle.law_renumber.specs.Renumbers.{RenumbersAll, with_blocks}
 use Rattle.law_renumber.proofs.Places.{Located, Nowhere, There, located, block_back, first_is, outputs_is, landing_is, arcs_is, often_is, entry_same, blocks_same}
 use Rattle.law_renumber.proofs.Events.{held, slot_held, rule_same, Agrees}

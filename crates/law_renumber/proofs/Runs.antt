@@ -19,15 +19,15 @@ use Rattle.semantics.specs.Machine.{Machine, Store as MStore, Size, Event, Event
 use Rattle.semantics.specs.Plan.{Plan}
 use Rattle.semantics.specs.Handed.{handed_by, handed, EachOnce, UsesEachOnce}
 use Rattle.semantics.specs.Orderly.{Orderly, IsStart, IsOrderlyRun}
-use Rattle.reuse.proofs.Fold.{map_append}
-use Rattle.reuse.proofs.Snoc.{run_snoc, handed_snoc}
-use Rattle.reuse.proofs.OtherEvents.{Same, Carried}
-use Rattle.reuse.proofs.Stands.{some_same, Stands}
-use Rattle.reuse.proofs.Fillings.{at_port, later_on}
-use Rattle.reuse.proofs.UsedArcs.{Ports, one_frame}
-use Rattle.reuse.proofs.History.{taken, ports_of}
-use Rattle.reuse.proofs.OnceRuns.{once_before}
-use Rattle.reuse.proofs.Members.{contains_head}
+use Rattle.law_reuse.proofs.Fold.{map_append}
+use Rattle.law_reuse.proofs.Snoc.{run_snoc, handed_snoc}
+use Rattle.law_reuse.proofs.OtherEvents.{Same, Carried}
+use Rattle.law_reuse.proofs.Stands.{some_same, Stands}
+use Rattle.law_reuse.proofs.Fillings.{at_port, later_on}
+use Rattle.law_reuse.proofs.UsedArcs.{Ports, one_frame}
+use Rattle.law_reuse.proofs.History.{taken, ports_of}
+use Rattle.law_reuse.proofs.OnceRuns.{once_before}
+use Rattle.law_reuse.proofs.Members.{contains_head}
 use Rattle.law_renumber.specs.Renumbers.{RenumbersAll, with_blocks}
 use Rattle.law_renumber.proofs.Places.{Located, Nowhere, There, located, first_is}
 use Rattle.law_renumber.proofs.Events.{held, slot_held, Agrees, agrees_idle, Answered, instr_answered, other_carried}

@@ -1,7 +1,7 @@
 -- What a plan keeps when its holders get other numbers, and so when it is folded.
 use Rattle.semantics.specs.Plan.{Plan}
 use Rattle.semantics.specs.Orderly.{Orderly}
-use Rattle.reuse.specs.Bounds.{PlanKeepsBounds}
+use Rattle.law_reuse.specs.Bounds.{PlanKeepsBounds}
 use Rattle.law_once.specs.Alike.{RunsAlike, LandsRightly, IsTidy}
 use Rattle.law_renumber.specs.Renumbers.{Renumbers}
 

@@ -10,10 +10,10 @@ use Rattle.semantics.specs.Graph.{Node, Block, Flow, node_at}
 use Rattle.semantics.specs.Plan.{Plan}
 use Rattle.semantics.specs.Meaning.{Context, Turned, AtNode, AtTurn, Operand, Predicate, Flag, Tagged, tagged, taken, Stood, start, block_of, arm_of, HadTrueFlag}
 use Rattle.semantics.specs.Machine.{Machine}
-use Rattle.determinacy.proofs.Perm.{Within}
-use Rattle.determinacy.proofs.History.{run_lawful}
-use Rattle.determinacy.proofs.Due.{ever_stood}
-use Rattle.determinacy.proofs.Laws.{Tokens, Lawful}
+use Rattle.law_determinacy.proofs.Perm.{Within}
+use Rattle.law_determinacy.proofs.History.{run_lawful}
+use Rattle.law_determinacy.proofs.Due.{ever_stood}
+use Rattle.law_determinacy.proofs.Laws.{Tokens, Lawful}
 use Rattle.law_contexts.specs.Parts.{Part, Gate, TurnValue, Inlet, inlet, Datum, Item, Firing}
 use Rattle.law_contexts.specs.Blocks.{is_kind, enter_kind, lies_in, outside, flag}
 use Rattle.law_contexts.specs.Contexts.{Wires, or_none, block_in, IsContext}
@@ -33,7 +33,7 @@ use Rattle.law_rest.proofs.Stores.{fits_main}
 use Rattle.law_rest.proofs.Waits.{carries}
 use Rattle.law_rest.proofs.Forward.{At, feeder, decided_comes}
 use Rattle.law_rest.proofs.Story.{story, ever_told}
-use Rattle.lowering.proofs.Members.{contains_head}
+use Rattle.law_net.proofs.Members.{contains_head}
 
 some_line : (a b : Node ℕ) → Some a ≡ Some b → a ≡ b
 some_line a b e = cc

@@ -15,9 +15,9 @@ use Rattle.semantics.specs.Program.{instr_at}
 use Rattle.semantics.specs.Meaning.{Context, Called, Turned}
 use Rattle.semantics.specs.Machine.{Machine}
 use Rattle.semantics.specs.Cause.{is_request, seeks_credit, is_credit_event, is_turn}
-use Rattle.lowering.specs.Roles.{one, total}
-use Rattle.lowering.proofs.Orders.{total-append, total-map, total-IsPermutation}
-use Rattle.lowering.proofs.Members.{contains_head, contains_tail, contains_cases, contains_none}
+use Rattle.law_net.specs.Roles.{one, total}
+use Rattle.law_net.proofs.Orders.{total-append, total-map, total-IsPermutation}
+use Rattle.law_net.proofs.Members.{contains_head, contains_tail, contains_cases, contains_none}
 use Rattle.law_contexts.specs.Parts as Parts
 use Rattle.law_contexts.specs.Parts.{Part, Line, Opener, Taker, Asked, NextAsked, Held, Item, Spot, spot_of, same_spot, same_context}
 use Rattle.law_contexts.specs.Blocks.{Site, there_in, op_of, kind_op, line_op, is_loop}

@@ -10,9 +10,9 @@ use Rattle.semantics.specs.Graph.{Node, Block, Flow, node_at, node_count}
 use Rattle.semantics.specs.Plan.{Plan}
 use Rattle.semantics.specs.Meaning.{Context, block_of, block_number, block_numbered, arm_of, arms_round, arms_at, ArmsTaken, callee}
 use Rattle.semantics.specs.Machine.{Machine}
-use Rattle.determinacy.proofs.Rows.{Gate, Join, Telling, class_of, class_node, class_in, class_at, region_node, region_in}
-use Rattle.determinacy.proofs.Laws.{ArmLaw, IsLineWell, well_at}
-use Rattle.determinacy.proofs.Grounds.{own_arm, node_class}
+use Rattle.law_determinacy.proofs.Rows.{Gate, Join, Telling, class_of, class_node, class_in, class_at, region_node, region_in}
+use Rattle.law_determinacy.proofs.Laws.{ArmLaw, IsLineWell, well_at}
+use Rattle.law_determinacy.proofs.Grounds.{own_arm, node_class}
 use Rattle.law_contexts.specs.Blocks.{is_kind, enter_kind, lies_in}
 use Rattle.law_contexts.specs.Contexts.{Wires, block_in, IsContext}
 use Rattle.law_contexts.specs.Operands.{HasOperands}

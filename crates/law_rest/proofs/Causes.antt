@@ -9,7 +9,7 @@ use Rattle.semantics.specs.Meaning as Meaning
 use Rattle.semantics.specs.Meaning.{Context, Main, Called, Turned, Due}
 use Rattle.semantics.specs.Machine.{Machine}
 use Rattle.semantics.specs.Cause.{HasCause, SameSeen, is_turn}
-use Rattle.lowering.proofs.Members.{contains_cases, contains_none}
+use Rattle.law_net.proofs.Members.{contains_cases, contains_none}
 use Rattle.law_contexts.specs.Parts.{Part, turn_in, Framer, Opener, Taker, Asked, NextAsked, NextFramer, inlet, Item, Firing}
 use Rattle.law_contexts.specs.Blocks.{is_loop}
 use Rattle.law_contexts.specs.Contexts.{Wires, block_in, child, next}

@@ -14,9 +14,9 @@ use Rattle.semantics.specs.Graph.{Flow}
 use Rattle.semantics.specs.Meaning.{Context, Main, Tagged, tagged, AtNode, Operand, entering, Memory, done, fetched, when_full, adds, sent, cell_is, cell_in}
 use Rattle.semantics.specs.Machine.{CellState, Vacant, Full, Deferred, reader_count, value_in}
 use Rattle.semantics.specs.Orderly.{readers_of}
-use Rattle.determinacy.proofs.Perm.{within_from, perm_add, perm_refl, perm_to, put_first}
-use Rattle.lowering.specs.Roles.{total}
-use Rattle.lowering.proofs.Members.{contains_head, contains_tail, contains_cases, contains_none}
+use Rattle.law_determinacy.proofs.Perm.{within_from, perm_add, perm_refl, perm_to, put_first}
+use Rattle.law_net.specs.Roles.{total}
+use Rattle.law_net.proofs.Members.{contains_head, contains_tail, contains_cases, contains_none}
 use Rattle.law_contexts.specs.Blocks.{cell_kind, store_kind}
 use Rattle.law_contexts.specs.Told.{told}
 use Rattle.law_contexts.specs.Firings.{place_at, input_items}

@@ -9,7 +9,7 @@ use Rattle.semantics.specs.Graph.{Node, Block, Flow}
 use Rattle.semantics.specs.Plan.{Plan}
 use Rattle.semantics.specs.Meaning.{Context, Called, Turned, block_of, arms_at, node_of, node_in, Due, IsCall, IsLoop, StartsWhenStrict, HadTrueFlag}
 use Rattle.semantics.specs.Machine.{Machine}
-use Rattle.lowering.proofs.Members.{contains_tail}
+use Rattle.law_net.proofs.Members.{contains_tail}
 use Rattle.law_contexts.specs.Parts.{Firing}
 use Rattle.law_contexts.specs.Blocks.{call_kind, loop_kind, is_call, is_loop, lies_in, flag}
 use Rattle.law_contexts.specs.Contexts.{Wires, block_in, IsContext}

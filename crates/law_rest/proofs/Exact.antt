@@ -10,12 +10,12 @@ use Rattle.semantics.specs.Meaning as Meaning
 use Rattle.semantics.specs.Meaning.{Context, AtNode, Operand, Predicate, Tagged, tagged, Activity, Fires, Fills, taken, node_of, node_in, cell_is, fetches, fetch_cell, waits_for, fetch_count}
 use Rattle.semantics.specs.Machine.{Machine, Resting, Wants, reader_count}
 use Rattle.semantics.specs.Faithful.{IsExact}
-use Rattle.determinacy.specs.Outcome.{NoClash}
-use Rattle.determinacy.proofs.Keys.{fires_mode}
-use Rattle.determinacy.proofs.Diamond.{held_from}
-use Rattle.determinacy.proofs.History.{flow_determinate}
-use Rattle.lowering.specs.Roles.{one, total}
-use Rattle.lowering.proofs.Orders.{total-IsPermutation}
+use Rattle.law_determinacy.specs.Outcome.{NoClash}
+use Rattle.law_determinacy.proofs.Keys.{fires_mode}
+use Rattle.law_determinacy.proofs.Diamond.{held_from}
+use Rattle.law_determinacy.proofs.History.{flow_determinate}
+use Rattle.law_net.specs.Roles.{one, total}
+use Rattle.law_net.proofs.Orders.{total-IsPermutation}
 use Rattle.law_contexts.specs.Parts as Parts
 use Rattle.law_contexts.specs.Parts.{Part, Item}
 use Rattle.law_contexts.specs.Blocks.{waits_in, pair_kind, enter_kind, strict_kind, is_kind}

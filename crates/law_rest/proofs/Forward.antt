@@ -12,10 +12,10 @@ use Rattle.semantics.specs.Graph.{Flow, Block}
 use Rattle.semantics.specs.Plan.{Plan}
 use Rattle.semantics.specs.Meaning.{Context}
 use Rattle.semantics.specs.Machine.{Machine}
-use Rattle.lowering.specs.Roles.{one, total}
-use Rattle.lowering.proofs.Members.{contains_none}
-use Rattle.lowering.proofs.Net.{weigh}
-use Rattle.lowering.proofs.Orders.{total-append}
+use Rattle.law_net.specs.Roles.{one, total}
+use Rattle.law_net.proofs.Members.{contains_none}
+use Rattle.law_net.proofs.Net.{weigh}
+use Rattle.law_net.proofs.Orders.{total-append}
 use Rattle.law_contexts.specs.Parts.{Part, Line, Trigger, Gate, Framer, Linker, Giver, Taker, Drainer, TurnCont, TurnFlag, TurnValue, Asker, NextFramer, End, Asked, NextAsked, Held, Drained, Shown, Done, Freed, Inlet, inlet, Datum, Item, item, Firing, Spot, spot_of, same_spot, Role}
 use Rattle.law_contexts.specs.Blocks.{Side, side, waits_in, is_cell, leaves_in, lies_in, arm_round, is_switch, flag}
 use Rattle.law_contexts.specs.Contexts.{Wires, block_in, wiring_in, IsContext}

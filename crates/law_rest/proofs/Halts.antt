@@ -13,11 +13,11 @@ use Rattle.semantics.specs.Plan.{Plan}
 use Rattle.semantics.specs.Meaning as Meaning
 use Rattle.semantics.specs.Meaning.{Context, Statement, AtNode, AtOut, AtTurn, Operand, Predicate, Flag, Carried, Tagged, tagged, Activity, Fires, Gates, Passes, Returns, Turns, Outputs, taken, Effect, done_if, effect, deed, fired, fetched, operands_from, origin_at, block_of, node_of, node_in, AtRest}
 use Rattle.semantics.specs.Machine.{Machine, Resting, Wants}
-use Rattle.determinacy.proofs.Perm.{Within, within_to}
-use Rattle.determinacy.proofs.Keys.{Together, ByGate, Alone, mode_of, mode_node, mode_in, mode_at, Held, fires_mode, gates_mode, passes_mode}
-use Rattle.determinacy.proofs.Diamond.{deed_of, held_from}
-use Rattle.determinacy.proofs.Rest.{takes_some}
-use Rattle.lowering.proofs.Members.{contains_none}
+use Rattle.law_determinacy.proofs.Perm.{Within, within_to}
+use Rattle.law_determinacy.proofs.Keys.{Together, ByGate, Alone, mode_of, mode_node, mode_in, mode_at, Held, fires_mode, gates_mode, passes_mode}
+use Rattle.law_determinacy.proofs.Diamond.{deed_of, held_from}
+use Rattle.law_determinacy.proofs.Rest.{takes_some}
+use Rattle.law_net.proofs.Members.{contains_none}
 use Rattle.law_contexts.specs.Parts as Parts
 use Rattle.law_contexts.specs.Parts.{Part, Line, Gate, Sender, TurnValue, Inlet, inlet, Item}
 use Rattle.law_contexts.specs.Blocks.{is_pair, is_cell, is_store, is_strict, is_kind, pair_kind, cell_kind, store_kind, enter_kind, strict_kind, source_count}

@@ -7,8 +7,8 @@ use Rattle.semantics.specs.Plan.{Plan}
 use Rattle.semantics.specs.Meaning.{Memory}
 use Rattle.semantics.specs.Machine.{Machine}
 use Rattle.semantics.specs.Orderly.{readers_of}
-use Rattle.lowering.specs.Roles.{one, total}
-use Rattle.lowering.proofs.Members.{contains_head, contains_tail, contains_none}
+use Rattle.law_net.specs.Roles.{one, total}
+use Rattle.law_net.proofs.Members.{contains_head, contains_tail, contains_none}
 use Rattle.law_contexts.specs.Parts.{Part, Line, Held, Inlet, Note, Item}
 use Rattle.law_contexts.specs.Blocks.{side, is_cell}
 use Rattle.law_contexts.specs.Contexts.{Wires, block_in, wiring_in}

@@ -14,9 +14,9 @@ use Rattle.semantics.specs.Meaning.{Context, Main, AtNode, Operand, Tagged, tagg
 use Rattle.semantics.specs.Machine.{Machine, Full, value_in}
 use Rattle.semantics.specs.Cause.{SameSeen}
 use Rattle.semantics.specs.Faithful.{inputs_in, HasStoreOfFull, IsSecondStore}
-use Rattle.determinacy.proofs.Clash.{IsClash, clash_from}
-use Rattle.determinacy.proofs.History.{Fits, flow_determinate}
-use Rattle.lowering.proofs.Orders.{flat_map-IsPermutation}
+use Rattle.law_determinacy.proofs.Clash.{IsClash, clash_from}
+use Rattle.law_determinacy.proofs.History.{Fits, flow_determinate}
+use Rattle.law_net.proofs.Orders.{flat_map-IsPermutation}
 use Rattle.law_contexts.specs.Parts.{Part, Held, Item}
 use Rattle.law_contexts.specs.Blocks.{is_store, store_kind}
 use Rattle.law_contexts.specs.Contexts.{Wires, block_in, IsContext}

@@ -9,11 +9,11 @@ use Rattle.semantics.specs.Meaning as Meaning
 use Rattle.semantics.specs.Meaning.{State, Memory, Activity, Main, Tagged, taken, start, entering, Leads}
 use Rattle.semantics.specs.Plan.{Plan}
 use Rattle.semantics.specs.Machine.{Machine}
-use Rattle.determinacy.proofs.Perm.{Within, within_permutation, within_append, within_left, within_right, within_from}
-use Rattle.lowering.proofs.Orders.{at_last, shuffled, flat_map-IsPermutation, Part, ◌⊕◌}
-use Rattle.lowering.proofs.Net.{Waits, Fires, net_sound_moves, net_sound_begins, fires_allowed, All-append_left, All-append_right}
-use Rattle.lowering.proofs.NetFollows.{run_from, run_join, state_of, Simulates}
-use Rattle.lowering.proofs.Arms.{arms_lawful}
+use Rattle.law_determinacy.proofs.Perm.{Within, within_permutation, within_append, within_left, within_right, within_from}
+use Rattle.law_net.proofs.Orders.{at_last, shuffled, flat_map-IsPermutation, Part, ◌⊕◌}
+use Rattle.law_net.proofs.Net.{Waits, Fires, net_sound_moves, net_sound_begins, fires_allowed, All-append_left, All-append_right}
+use Rattle.law_net.proofs.NetFollows.{run_from, run_join, state_of, Simulates}
+use Rattle.law_net.proofs.Arms.{arms_lawful}
 use Rattle.law_contexts.specs.Parts.{Item, Firing, spot_of, same_spot, role_of}
 use Rattle.law_contexts.specs.Contexts.{Wires}
 use Rattle.law_contexts.specs.Told.{told}

@@ -8,9 +8,9 @@ use Rattle.semantics.specs.Graph.{Node, Block, Flow}
 use Rattle.semantics.specs.Plan.{Plan}
 use Rattle.semantics.specs.Meaning.{Context, Called, Tagged, tagged, AtNode, Operand, node_of, node_in, StartsWhenStrict}
 use Rattle.semantics.specs.Machine.{Machine}
-use Rattle.determinacy.proofs.Due.{stood_due}
-use Rattle.lowering.proofs.Members.{contains_head, contains_tail, contains_cases, contains_none}
-use Rattle.lowering.proofs.Net.{Waits, Fires}
+use Rattle.law_determinacy.proofs.Due.{stood_due}
+use Rattle.law_net.proofs.Members.{contains_head, contains_tail, contains_cases, contains_none}
+use Rattle.law_net.proofs.Net.{Waits, Fires}
 use Rattle.law_contexts.specs.Parts.{Part, Framer, Fanned, Asked, Sender, Inlet, inlet, Datum, BackTo, Item, item, Firing, Spot}
 use Rattle.law_contexts.specs.Blocks.{strict_kind, is_strict, source_count}
 use Rattle.law_contexts.specs.Contexts.{Wires, block_in, is_strict_in}

@@ -10,7 +10,7 @@ use Rattle.semantics.specs.Plan.{Plan}
 use Rattle.semantics.specs.Meaning.{Context, Main, Called, Turned, AtNode, AtTurn, Operand, Predicate, Flag, Carried, Tagged, tagged, operands_from}
 use Rattle.semantics.specs.Cause.{is_turn}
 use Rattle.semantics.specs.Machine.{Machine, Resting, Wants}
-use Rattle.lowering.proofs.Members.{contains_none}
+use Rattle.law_net.proofs.Members.{contains_none}
 use Rattle.law_contexts.specs.Parts.{Part, Entry, Line, Answer, Merge, Landing, Giver, Drainer, Shown, Gate, Framer, Sender, Strict, Asker, NextFramer, NextFanned, NextSender, Result, TurnValue, LastReturn, Held, Inlet, inlet, Note, Datum, Item, item, Firing, spot_of}
 use Rattle.law_contexts.specs.Blocks.{side, waits_in, is_pair, is_cell, is_store, is_strict, is_call, is_loop, is_kind, enter_kind, entered, lies_in, source_count, there_in, invokes}
 use Rattle.law_contexts.specs.Contexts.{Wires, block_in, site_in, wiring_in, IsContext}

@@ -15,8 +15,8 @@ use Rattle.semantics.specs.Graph.{Flow}
 use Rattle.semantics.specs.Plan.{Plan}
 use Rattle.semantics.specs.Meaning.{Context}
 use Rattle.semantics.specs.Machine.{Machine, Resting, Wants}
-use Rattle.lowering.proofs.Members.{contains_head, contains_cases, contains_none}
-use Rattle.lowering.proofs.Orders.{empty_list}
+use Rattle.law_net.proofs.Members.{contains_head, contains_cases, contains_none}
+use Rattle.law_net.proofs.Orders.{empty_list}
 use Rattle.law_contexts.specs.Parts.{Part, Opener, Framer, NextFramer, Sender, Taker, Giver, Drainer, Asked, NextAsked, Held, Drained, inlet, Note, Datum, BackTo, signal, Item, item, Firing}
 use Rattle.law_contexts.specs.Blocks.{waits_in, is_loop}
 use Rattle.law_contexts.specs.Contexts.{Wires, block_in, wiring_in, IsContext, is_strict_in}

@@ -8,7 +8,7 @@ use Rattle.law_contexts.specs.Blocks.{Side, side, Wiring, Site, there_in, is_cal
 use Rattle.law_contexts.specs.Wires.{is_start}
 use Rattle.law_contexts.specs.Contexts.{Wires, site_in, wiring_in, IsContext}
 
--- where the arguments of a strict call are joined: behind the first so many there is the next join, or the request for the frame
+-- where the arguments of a strict call are joined: behind the l-th one there is the next join, or the request for the frame
 abbrev pub join_after : Block ℕ → ℕ → ℕ → Inlet
 join_after b n l = if l + 1 == source_count b n then inlet (Framer n) Left 0 else inlet (Strict n (l + 1)) Left 0
 

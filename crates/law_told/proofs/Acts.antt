@@ -5,8 +5,8 @@ use Rattle.std.proofs.lemmas.List.Sorted.{IsPermutation-refl, IsPermutation-sym,
 use Rattle.tags.specs.declared.value.Value.{Value}
 use Rattle.semantics.specs.Graph.{Node, Block, Flow, node_at}
 use Rattle.semantics.specs.Meaning.{Context, Activity, Fires, Gates, Passes, Tagged, Memory, Deed, Says, Message, Sends, State, Leads, taken, effect, deed, done_if, fired, fired_in, input_passed, gated, passed, on_block, on_node, block_of, tokens_of}
-use Rattle.lowering.proofs.Orders.{shuffled, Part, ◌⊕◌}
-use Rattle.lowering.proofs.NetFollows.{state_of, run_join}
+use Rattle.law_net.proofs.Orders.{shuffled, Part, ◌⊕◌}
+use Rattle.law_net.proofs.NetFollows.{state_of, run_join}
 
 -- a line of the block is past the inputs
 pub line_past : (b : Block ℕ) (n : ℕ) (node : Node ℕ) → node_at b n ≡ Some node → nat_lt n b.inputs ≡ false

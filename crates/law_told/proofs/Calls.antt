@@ -10,7 +10,7 @@ use Rattle.semantics.specs.Graph.{Node, Block, Flow, node_at}
 use Rattle.semantics.specs.Plan.{Plan}
 use Rattle.semantics.specs.Meaning.{Context, Main, Called, Turned, Tagged, tagged, Memory, AtNode, AtOut, AtTurn, Operand, Flag, Carried, Fires, Passes, Returns, Turns, Outputs, Says, Sends, Enters, deed, fired, passed, taken, entering, operands_from, with_output, block_of, node_of}
 use Rattle.semantics.specs.Cause.{is_turn}
-use Rattle.lowering.proofs.Orders.{shuffled, Part, ◌⊕◌, IsPermutation-same}
+use Rattle.law_net.proofs.Orders.{shuffled, Part, ◌⊕◌, IsPermutation-same}
 use Rattle.law_contexts.specs.Parts as Parts
 use Rattle.law_contexts.specs.Parts.{Line, Answer, Framer, Sender, Landing, TurnValue, NextSender, LastReturn, Shown, Asked, Fanned, inlet, Note, Datum, BackTo, signal, Item, item, each, Firing}
 use Rattle.law_contexts.specs.Blocks.{side, Wiring, there_in, is_call, is_loop, is_strict, invokes, call_kind, loop_kind, strict_kind, source_count, exit_kind}

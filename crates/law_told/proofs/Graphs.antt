@@ -7,7 +7,7 @@ use Rattle.semantics.specs.declared.graph.Kind.{Kind}
 use Rattle.semantics.specs.declared.graph.Kind.TheVariants.{Lit, Apply1, Apply2, Cond, Enter, Merge, Fetch, Store, Call, StrictCall, Loop}
 use Rattle.semantics.specs.Graph.{Node, Block, Graph, flow_of, node_at, array_names, block_names, resolved_kind}
 use Rattle.semantics.specs.WellFormed.{WellFormed, IsBlockWell, IsEarlier, NamesWell, LiesWell}
-use Rattle.determinacy.proofs.Resolved.{all_get, block_in, node_back}
+use Rattle.law_determinacy.proofs.Resolved.{all_get, block_in, node_back}
 use Rattle.law_contexts.specs.Operands.{HasOperands, HaveOperands, SourcesAreEarlier}
 use Rattle.law_told.specs.Told.{GraphsHaveOperands, GraphsAreEarlier}
 

@@ -11,7 +11,7 @@ use Rattle.semantics.specs.declared.graph.Kind.{Kind}
 use Rattle.semantics.specs.Graph.{Node, Block, Flow, node_at}
 use Rattle.semantics.specs.Plan.{Plan}
 use Rattle.semantics.specs.Meaning.{Context, Tagged, tagged, Memory, AtNode, Predicate, Activity, Fires, Gates, Passes, Says, Sends, Nothing, deed, fired, gated, passed, same_side, taken, block_of, node_of, node_in, arm_of}
-use Rattle.lowering.proofs.Orders.{at_first}
+use Rattle.law_net.proofs.Orders.{at_first}
 use Rattle.law_contexts.specs.Parts.{Part, Line, Merge, Gate, Note, Datum, each}
 use Rattle.law_contexts.specs.Blocks.{Side, side, Wiring, exit, exit_kind, second_side, lies_in, there_in, is_plain, is_pair, is_cell, is_kind, plain_kind, pair_kind, cell_kind, merge_kind, enter_kind}
 use Rattle.law_contexts.specs.Contexts.{Wires, block_in, site_in, wiring_in}

@@ -14,8 +14,8 @@ use Rattle.semantics.specs.Program.{Instr, CodeBlock, instr_at, first_of}
 use Rattle.semantics.specs.Plan.{Plan}
 use Rattle.semantics.specs.Cause.{is_looped}
 use Rattle.semantics.specs.Orderly.{often}
-use Rattle.reuse.proofs.Stands.{stands_at}
-use Rattle.lowering.proofs.Members.{contains_none, contains_cases, contains_head, contains_tail}
+use Rattle.law_reuse.proofs.Stands.{stands_at}
+use Rattle.law_net.proofs.Members.{contains_none, contains_cases, contains_head, contains_tail}
 use Rattle.law_once.specs.Alike.{plain_dests}
 use Rattle.law_contexts.specs.Parts.{Part, Line, Giver, Taker, Drainer, LoopDone, Framer, Fanned, Linker, Asker, NextFramer, NextFanned, Inlet, inlet}
 use Rattle.law_contexts.specs.Blocks.{Site, Wiring, side, there_in, op_of, kind_op, line_op}

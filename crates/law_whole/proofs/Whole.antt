@@ -6,7 +6,7 @@ use Rattle.semantics.specs.Text.{HasText}
 use Rattle.semantics.specs.WellFormed.{WellFormed}
 use Rattle.semantics.specs.Meaning.{Main}
 use Rattle.semantics.specs.Faithful.{inputs_of}
-use Rattle.determinacy.proofs.Resolved.{flow_well, fits}
+use Rattle.law_determinacy.proofs.Resolved.{flow_well, fits}
 use Rattle.expansion.specs.Expanded.{expanded}
 use Rattle.law_expansion.proofs.Wholes.{has_bounds}
 use Rattle.law_renumber.proofs.Twice.{folding_keeps}

@@ -7,7 +7,7 @@ use Rattle.semantics.specs.WellFormed.{WellFormed}
 use Rattle.semantics.specs.Sharing.{Good}
 use Rattle.select.specs.declared.Version.{Version}
 use Rattle.select.specs.Emitted.{version_number}
-use Rattle.composition.specs.Graphs.{plan_of}
+use Rattle.law_composition.specs.Graphs.{plan_of}
 use Rattle.law_contexts.specs.Contexts.{Wires}
 use Rattle.law_contexts.specs.Theorem.{HasOnly, IsGood}
 use Rattle.law_contexts.specs.Packages.{AllPackages}

@@ -9,7 +9,7 @@ use Rattle.semantics.specs.declared.graph.Source.{Source}
 use Rattle.semantics.specs.declared.graph.Kind.{Kind}
 use Rattle.semantics.specs.declared.graph.Kind.TheVariants.{Lit, Apply1, Apply2, Cond, Enter, Merge, Fetch, Store, Call, StrictCall, Loop}
 use Rattle.semantics.specs.Graph.{Node, Block, Flow, node_at}
-use Rattle.lowering.specs.Roles.{one}
+use Rattle.law_net.specs.Roles.{one}
 use Rattle.law_contexts.specs.Parts.{Opener, Framer, Fanned, Linker, Landing, Giver, Drainer, LoopDone, Asker, NextFramer, NextFanned, TurnCont, TurnFlag, Entry, NextSender, DrainReturn}
 use Rattle.law_contexts.specs.Blocks.{Side, side, Site, is_kind, call_kind, loop_kind}
 use Rattle.law_wires.specs.Written.{Wire, wire, same_side, same_bool, along, inlet_of, leaves, trigger_side, meet_wires, sender_wires, strict_wires, strict_end, strict_call_wires, invoke_wires, kind_wires, node_wires, value_wires, next_wires, last_wires, turn_wires, tail_wires, inner_wires, wires_in}

@@ -11,7 +11,7 @@ use Rattle.semantics.specs.WellFormed.{WellFormed}
 use Rattle.semantics.specs.Cause.{is_looped}
 use Rattle.semantics.specs.Program.{Instr, CodeBlock}
 use Rattle.semantics.specs.Plan.{OneHolder}
-use Rattle.determinacy.proofs.Resolved.{all_get}
+use Rattle.law_determinacy.proofs.Resolved.{all_get}
 use Rattle.code.specs.Sound.{DestsAreSound}
 use Rattle.expansion.specs.Variants.{variants_of, next_variant, some_block_loops}
 use Rattle.expansion.specs.Blocks.{Coded, plain_build, variant_build, finished}

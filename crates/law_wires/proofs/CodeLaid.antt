@@ -9,8 +9,8 @@ use Rattle.semantics.specs.Graph.{Node, Block, Flow, flow_of, node_at}
 use Rattle.semantics.specs.Program.{Instr, CodeBlock}
 use Rattle.semantics.specs.Plan.{mark_at, mark_in, is_credit, is_open}
 use Rattle.semantics.specs.Rule.{slot_of}
-use Rattle.lowering.specs.Roles.{one}
-use Rattle.lowering.proofs.Orders.{IsPermutation-same}
+use Rattle.law_net.specs.Roles.{one}
+use Rattle.law_net.proofs.Orders.{IsPermutation-same}
 use Rattle.expansion.specs.Builds.{mark_of}
 use Rattle.expansion.specs.Expanded.{expanded}
 use Rattle.law_expansion.proofs.ArcsLists.{get_within, get_some, length_push}

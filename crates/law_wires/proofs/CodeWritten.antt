@@ -11,7 +11,7 @@ use Rattle.semantics.specs.Graph.{Node, Block, Flow, node_at}
 use Rattle.semantics.specs.Program.{Instr, CodeBlock}
 use Rattle.semantics.specs.Plan.{is_credit, is_open}
 use Rattle.semantics.specs.Rule.{slot_of}
-use Rattle.determinacy.proofs.Resolved.{all_get}
+use Rattle.law_determinacy.proofs.Resolved.{all_get}
 use Rattle.law_expansion.specs.Shapes.{HasExactShape}
 use Rattle.law_expansion.proofs.ArcsLists.{get_within, get_some}
 use Rattle.law_contexts.specs.Parts as Parts

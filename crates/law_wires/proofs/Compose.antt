@@ -13,7 +13,7 @@ use Rattle.semantics.specs.WellFormed.{WellFormed}
 use Rattle.semantics.specs.Meaning as Meaning
 use Rattle.semantics.specs.Cause as Cause
 use Rattle.semantics.specs.Cause.{is_looped}
-use Rattle.determinacy.proofs.Resolved.{flow_well}
+use Rattle.law_determinacy.proofs.Resolved.{flow_well}
 use Rattle.expansion.specs.Variants.{loops_to, some_node_loops, some_block_loops, next_variant, variants_from}
 use Rattle.law_expansion.proofs.FactsCodes.{some_loop, plain_at, variant_at}
 use Rattle.law_contexts.specs.Expanded.{CodesAreThere, variant_in}

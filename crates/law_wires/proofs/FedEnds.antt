@@ -10,7 +10,7 @@ use Rattle.semantics.specs.declared.graph.Kind.{Kind}
 use Rattle.semantics.specs.declared.graph.Kind.TheVariants.{Lit, Apply1, Apply2, Cond, Enter, Merge, Fetch, Store, Call, StrictCall, Loop}
 use Rattle.semantics.specs.Graph.{Node, Block, Flow, node_at, node_count}
 use Rattle.semantics.specs.Meaning.{arm_of}
-use Rattle.lowering.specs.Roles.{one}
+use Rattle.law_net.specs.Roles.{one}
 use Rattle.law_contexts.specs.Parts as Parts
 use Rattle.law_contexts.specs.Parts.{Part, Entry, Line, Result, TurnCont, TurnFlag, TurnValue, Asker, NextFramer, NextFanned, NextSender, LastReturn, DrainReturn, Join, CondEnd, same_part}
 use Rattle.law_contexts.specs.Blocks.{Side, side, Site, leaves_in, lies_in, is_kind, cond_kind}

@@ -12,7 +12,7 @@ use Rattle.semantics.specs.declared.graph.Kind.TheVariants.{Lit, Apply1, Apply2,
 use Rattle.semantics.specs.Graph.{Graph, Flow, Block, Node, node_at, node_count, place_of, resolved_kind, array_names, block_names, flow_of}
 use Rattle.semantics.specs.WellFormed.{WellFormed, IsBlockWell, IsNodeWell, NamesWell, HasShape, LiesWell, IsRegion, IsCond, IsCondNode, IsEarlier, HasPortOf, HasPortIn, region_in, region_of, arm_outside, AllLieIn}
 use Rattle.semantics.specs.Meaning.{arm_of}
-use Rattle.determinacy.proofs.Resolved.{all_get, contains_get, place_get, block_in, node_in, node_back}
+use Rattle.law_determinacy.proofs.Resolved.{all_get, contains_get, place_get, block_in, node_in, node_back}
 use Rattle.expansion.specs.Triggers as Triggers
 use Rattle.expansion.specs.Triggers.{takes_trigger}
 use Rattle.law_contexts.specs.Blocks.{is_kind, cond_kind, call_kind, loop_kind, lies_in, outside, outputs_in}

@@ -4,7 +4,7 @@ use Rattle.std.proofs.lemmas.Bool.{lt-ltb, le-ltb, cases_lt}
 use Rattle.semantics.specs.declared.graph.Kind.{Kind}
 use Rattle.semantics.specs.declared.graph.Kind.TheVariants.{Cond}
 use Rattle.semantics.specs.Graph.{Node, Block, Flow, node_at}
-use Rattle.lowering.specs.Roles.{one}
+use Rattle.law_net.specs.Roles.{one}
 use Rattle.law_contexts.specs.Parts as Parts
 use Rattle.law_contexts.specs.Parts.{Part, Entry, Line, Answer, Trigger, Gate, Opener, Framer, Fanned, Linker, Sender, Landing, CallDone, Giver, Taker, Drainer, LoopDone, Strict, Result, Join, CondEnd, same_part}
 use Rattle.law_contexts.specs.Blocks.{Site, is_kind, cond_kind, loop_kind, call_kind, strict_kind, cell_kind, plain_kind, enter_kind, merge_kind, source_count, result_count, kind_results}

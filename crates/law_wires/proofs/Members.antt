@@ -7,7 +7,7 @@ use Rattle.semantics.specs.declared.graph.Region.{Region}
 use Rattle.semantics.specs.declared.graph.Region.TheVariants.{Root, Arm}
 use Rattle.semantics.specs.Graph.{Block}
 use Rattle.expansion.specs.Ends.{same_region}
-use Rattle.lowering.specs.Roles.{one}
+use Rattle.law_net.specs.Roles.{one}
 use Rattle.law_contexts.specs.Parts.{Part, Inlet, same_part}
 use Rattle.law_contexts.specs.Blocks.{Side, side, leaves_in, is_switch}
 use Rattle.law_contexts.specs.Wires.{is_side, has_no_wire}

@@ -4,7 +4,7 @@ use Rattle.std.specs.Prelude.{slice_get, count_by}
 use Rattle.std.proofs.lemmas.Bool.{lt-ltb, le-ltb, cases_lt}
 use Rattle.semantics.specs.Graph.{Block, Flow}
 use Rattle.semantics.specs.Program.{Instr}
-use Rattle.lowering.specs.Roles.{one}
+use Rattle.law_net.specs.Roles.{one}
 use Rattle.law_expansion.proofs.ArcsLists.{length_push}
 use Rattle.law_contexts.specs.Parts as Parts
 use Rattle.law_contexts.specs.Parts.{Part, Entry, Line, Answer, Trigger, Gate, Opener, Framer, Fanned, Linker, Sender, Landing, CallDone, Giver, Taker, Drainer, LoopDone, Strict, Result, Join, CondEnd, same_part}

@@ -5,7 +5,7 @@ use Rattle.std.proofs.lemmas.List.Elements.{Contains-append_left, Contains-appen
 use Rattle.semantics.specs.declared.graph.Region.{Region}
 use Rattle.semantics.specs.declared.program.Dest.{Dest}
 use Rattle.semantics.specs.Graph.{Block}
-use Rattle.lowering.specs.Roles.{one}
+use Rattle.law_net.specs.Roles.{one}
 use Rattle.law_contexts.specs.Parts.{Part, Entry, Inlet, inlet, same_part}
 use Rattle.law_contexts.specs.Blocks.{Side, Wiring, leaves_in}
 use Rattle.law_contexts.specs.Wires.{leads_to, stands_at}

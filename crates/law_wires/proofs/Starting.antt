@@ -9,7 +9,7 @@ use Rattle.semantics.specs.declared.graph.Source.{Source}
 use Rattle.semantics.specs.declared.graph.Kind.{Kind}
 use Rattle.semantics.specs.declared.graph.Kind.TheVariants.{Call, StrictCall, Loop}
 use Rattle.semantics.specs.Graph.{Node, Flow}
-use Rattle.lowering.specs.Roles.{one}
+use Rattle.law_net.specs.Roles.{one}
 use Rattle.law_contexts.specs.Parts.{Part, Framer, Opener, Asker, TurnFlag, DrainReturn, TurnCont, NextSender, NextFanned, Inlet, inlet, same_port, same_inlet}
 use Rattle.law_contexts.specs.Blocks.{Side, side, Site, Wiring, there_in, is_call, is_strict, is_loop, call_kind, strict_kind, loop_kind}
 use Rattle.law_contexts.specs.Wires.{hits, is_start, IsFed, StartsRightly}

@@ -6,7 +6,7 @@ use Rattle.semantics.specs.declared.graph.Region.{Region}
 use Rattle.semantics.specs.declared.graph.Region.TheVariants.{Root, Arm}
 use Rattle.semantics.specs.Graph.{Node, Block, Flow, node_at, node_count}
 use Rattle.semantics.specs.Program.{Instr}
-use Rattle.lowering.specs.Roles.{one}
+use Rattle.law_net.specs.Roles.{one}
 use Rattle.expansion.specs.Ends.{same_region}
 use Rattle.law_expansion.proofs.ArcsLists.{get_some}
 use Rattle.law_contexts.specs.Parts as Parts

@@ -8,7 +8,7 @@ use Rattle.tags.specs.declared.token.Port.TheVariants.{Left, Right}
 use Rattle.semantics.specs.declared.graph.Source.{Source}
 use Rattle.semantics.specs.Graph.{Flow}
 use Rattle.semantics.specs.Meaning.{Context, AtTurn, Flag, Carried, Tagged, tagged, block_of, positions, turns_from, result_uses}
-use Rattle.lowering.proofs.Orders.{IsPermutation-same, shuffled, Part, ◌⊕◌}
+use Rattle.law_net.proofs.Orders.{IsPermutation-same, shuffled, Part, ◌⊕◌}
 use Rattle.law_contexts.specs.Parts.{Entry, TurnCont, TurnFlag, TurnValue, Asker, NextFanned, NextSender, DrainReturn}
 use Rattle.law_contexts.specs.Blocks.{Side, side, Site}
 use Rattle.law_contexts.specs.Told.{settled_sent}

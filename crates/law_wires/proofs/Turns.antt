@@ -8,7 +8,7 @@ use Rattle.semantics.specs.declared.graph.Kind.{Kind}
 use Rattle.semantics.specs.declared.graph.Kind.TheVariants.{Loop}
 use Rattle.semantics.specs.Graph.{Node, Block, Flow}
 use Rattle.semantics.specs.Cause.{loops_to, is_looped}
-use Rattle.lowering.specs.Roles.{one}
+use Rattle.law_net.specs.Roles.{one}
 use Rattle.law_contexts.specs.Blocks.{Wiring}
 use Rattle.law_contexts.specs.Wires.{turn_site, AreFed, LeadOn}
 use Rattle.law_wires.specs.Fit.{Takes, IsTurned, IsFit}

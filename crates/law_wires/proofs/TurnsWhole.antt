@@ -9,7 +9,7 @@ use Rattle.semantics.specs.declared.graph.Kind.TheVariants.{Loop}
 use Rattle.semantics.specs.Graph.{Node, Block, Flow, node_at}
 use Rattle.semantics.specs.Meaning.{Context, Main, Called, Turned, AtTurn, Carried, callee_of, callee_in, block_of, block_number, result_uses}
 use Rattle.semantics.specs.Cause.{loops_to, is_looped}
-use Rattle.lowering.specs.Roles.{one}
+use Rattle.law_net.specs.Roles.{one}
 use Rattle.law_contexts.specs.Blocks.{Wiring, is_loop, loop_kind}
 use Rattle.law_contexts.specs.Contexts.{Wires, IsContext, number_in, or_none, or_zero}
 use Rattle.law_contexts.specs.Wires.{plain_site, turn_site, FollowArms, GoesToUses, Runs}

@@ -11,8 +11,8 @@ use Rattle.semantics.specs.declared.graph.Kind.{Kind}
 use Rattle.semantics.specs.declared.graph.Kind.TheVariants.{Lit, Apply1, Apply2, Cond, Enter, Merge, Fetch, Store, Call, StrictCall, Loop}
 use Rattle.semantics.specs.Graph.{Node, Flow, node_at}
 use Rattle.semantics.specs.Meaning.{Context, AtNode, AtOut, Operand, Predicate, Tagged, tagged, block_of, positions, uses_at, result_uses, sent_in, is_enter_of, predicates_from}
-use Rattle.lowering.proofs.Orders.{IsPermutation-same, shuffled, Part, ◌⊕◌}
-use Rattle.determinacy.proofs.Perm.{permutation_cancel}
+use Rattle.law_net.proofs.Orders.{IsPermutation-same, shuffled, Part, ◌⊕◌}
+use Rattle.law_determinacy.proofs.Perm.{permutation_cancel}
 use Rattle.expansion.specs.Builds.{first_source}
 use Rattle.expansion.specs.Scopes.{predicate_of, predicate_in}
 use Rattle.law_contexts.specs.Blocks.{Site, cond_kind}

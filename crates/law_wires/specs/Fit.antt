@@ -10,7 +10,7 @@ use Rattle.expansion.specs.Triggers.{takes_trigger}
 use Rattle.law_contexts.specs.Blocks.{is_kind, cond_kind, invokes, lies_in, outside, outputs_in}
 use Rattle.law_wires.specs.Written.{is_triggered}
 
--- the block that a node names is there, with so many inputs and so many outputs, and neither is none
+-- the block that a node names is there, with these numbers of inputs and outputs, and neither is none
 pub record IsCallee (fl : Flow) (f inputs : ℕ) : Type 0 where
   pub block : Block ℕ
   pub there : slice_get fl.blocks f ≡ Some block

@@ -153,7 +153,7 @@ abbrev pub value_wires : Site → Side → ℕ → List Source → List Wire
 value_wires s t from [] = []
 value_wires s t from (x ∷ xs) = wire (leaves s x) (TurnValue from) Left ∷ wire t (TurnValue from) Right ∷ value_wires s t (from + 1) xs
 
--- so many values
+-- the given number of values
 abbrev pub next_wires : ℕ → ℕ → List Wire
 next_wires from zero = []
 next_wires from (suc n) = meet_wires (side NextFanned false) (side (TurnValue from) false) (NextSender from) ++ next_wires (from + 1) n

@@ -15,12 +15,12 @@ use Rattle.mesh.proofs.Deeds.{created_more}
 use Rattle.rounds.specs.Turns.{Turns, by, logged}
 use Rattle.machine.specs.declared.runner.Runner.{Runner}
 use Rattle.semantics.specs.Machine.{Events}
-use Rattle.free_runs.specs.Blocks.{Act, Block}
+use Rattle.law_free_runs.specs.Blocks.{Act, Block}
 use Rattle.ordering.specs.declared.log.Counts.{Counts}
 use Rattle.ordering.specs.Noted.{Noted, noted_in, with_block}
 use Rattle.ordering.specs.Logs.{taken_in, made_in, counts_of, SpendsOldest, Notes, Logs}
 use Rattle.ordering.proofs.Logging.{ends_block}
-use Rattle.lowering.proofs.Orders.{at_first, IsPermutation-same}
+use Rattle.law_net.proofs.Orders.{at_first, IsPermutation-same}
 use Rattle.machine.specs.Runners.{Ran, IsRunning, IsClear, HasMade, NotesBlock, left_last, still_first, away, tokens_of, behind_all}
 use Rattle.machine.proofs.Tokens.{minus}
 use Rattle.machine.proofs.Flowing.{counts, acts_take}

@@ -1,7 +1,7 @@
 -- What a block of events is made of the turn of a lane.
 use Rattle.std.proofs.Common.{◌≡◌, refl, sym, ◌∙◌, ap, subst, ℕ, suc, ◌+◌, ◌%◌, ◌<◌, ◌≤◌, List, [], ◌∷◌, ◌++◌, length, map, get_or, Some, arith, append_assoc}
 use Rattle.std.specs.Prelude.{All, IsPermutation, slice_get, remove}
-use Rattle.lowering.proofs.Orders.{at_first, at_last}
+use Rattle.law_net.proofs.Orders.{at_first, at_last}
 use Rattle.tags.specs.declared.token.Token.{Token}
 use Rattle.tags.specs.Addresses.{element_of}
 use Rattle.semantics.specs.Program.{Program}
@@ -16,8 +16,8 @@ use Rattle.schedule.specs.Setting.{Setting}
 use Rattle.schedule.specs.State.{IsPlaced}
 use Rattle.schedule.proofs.Stepping.{bounds_are}
 use Rattle.rounds.specs.Turns.{Turns}
-use Rattle.free_runs.specs.Blocks.{Act, bounds_of, IsOwn, Chain, Flows}
-use Rattle.free_runs.proofs.Acting.{steps_act}
+use Rattle.law_free_runs.specs.Blocks.{Act, bounds_of, IsOwn, Chain, Flows}
+use Rattle.law_free_runs.proofs.Acting.{steps_act}
 
 -- the events of a turn
 abbrev pub acts_of : (p : Program) (steps : ℕ) (old : Held) (before ts : List Token) (new : Held) (after : List Token) → Turns p steps old before ts new after → List Act

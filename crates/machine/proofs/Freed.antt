@@ -24,13 +24,13 @@ use Rattle.rounds.specs.Turns.{HaltsLane, coming}
 use Rattle.rounds.specs.Rounds.{IsHalted, ShowsOn}
 use Rattle.rounds.proofs.Closing.{raw_sound, none_sound, shows_any}
 use Rattle.rounds.proofs.Rounding.{halts_as}
-use Rattle.free_runs.specs.Blocks.{Block, events_in, LeavesTokens, AreBelow}
-use Rattle.free_runs.specs.Ends as ends
+use Rattle.law_free_runs.specs.Blocks.{Block, events_in, LeavesTokens, AreBelow}
+use Rattle.law_free_runs.specs.Ends as ends
 use Rattle.ordering.specs.declared.log.Log.{Log}
 use Rattle.ordering.specs.Noted.{noted_in}
 use Rattle.ordering.specs.Logs.{Logs}
 use Rattle.ordering.specs.Orders.{IsHistory}
-use Rattle.free_runs.proofs.Ending.{ends_freely}
+use Rattle.law_free_runs.proofs.Ending.{ends_freely}
 use Rattle.machine.specs.declared.runner.Left.{Left}
 use Rattle.machine.specs.declared.runner.Runner.{Runner}
 use Rattle.machine.specs.Runners.{Ran, IsRunning, Runs, IsClear, IsLeft, away}

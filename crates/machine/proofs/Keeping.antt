@@ -6,8 +6,8 @@ use Rattle.std.proofs.lemmas.List.Elements.{All-nil, All-cons, All-append}
 use Rattle.std.proofs.lemmas.List.Sorted.{IsPermutation-sym, IsPermutation-trans, IsPermutation-append_left, IsPermutation-append_right}
 use mathlib.Core.Logic.{dite}
 use native.Mathlib.Decide.{ℕ_discrete}
-use Rattle.determinacy.proofs.Perm.{permutation_cancel}
-use Rattle.lowering.proofs.Orders.{shuffled, Part as Piece, ◌⊕◌, at_first, at_last, IsPermutation-same}
+use Rattle.law_determinacy.proofs.Perm.{permutation_cancel}
+use Rattle.law_net.proofs.Orders.{shuffled, Part as Piece, ◌⊕◌, at_first, at_last, IsPermutation-same}
 use Rattle.tags.specs.declared.token.Token.{Token}
 use Rattle.tags.specs.Addresses.{element_of}
 use Rattle.element.specs.declared.lane.Lane.{Lane}

@@ -5,8 +5,8 @@ use Rattle.std.proofs.lemmas.Bool.{cases_lt}
 use Rattle.std.proofs.lemmas.List.{append-nil, length-append, map-append, length-take, take-append-drop}
 use Rattle.std.proofs.lemmas.List.Elements.{All-append}
 use Rattle.std.proofs.lemmas.List.Sorted.{IsPermutation-refl, IsPermutation-sym, IsPermutation-trans, IsPermutation-append_left, IsPermutation-append_right, length_permutation, All-permutation}
-use Rattle.determinacy.proofs.Perm.{permutation_cancel}
-use Rattle.lowering.proofs.Orders.{shuffled, Part as Piece, ◌⊕◌, at_first, at_last}
+use Rattle.law_determinacy.proofs.Perm.{permutation_cancel}
+use Rattle.law_net.proofs.Orders.{shuffled, Part as Piece, ◌⊕◌, at_first, at_last}
 use Rattle.tags.specs.declared.token.Token.{Token}
 use Rattle.tags.specs.Addresses.{element_of}
 use Rattle.element.specs.Near.{Bounds, IsNearToken}
@@ -22,7 +22,7 @@ use Rattle.mesh.specs.Deeds.{Bundle}
 use Rattle.mesh.specs.Seats.{MeshId, AllTo}
 use Rattle.mesh.proofs.Deeds.{commits_more, commits_same}
 use Rattle.rounds.specs.Turns.{Turns}
-use Rattle.free_runs.specs.Blocks.{Act, Block, bounds_of, commit_of, count_acts, IsOwn, Chain, Flows, Blocks}
+use Rattle.law_free_runs.specs.Blocks.{Act, Block, bounds_of, commit_of, count_acts, IsOwn, Chain, Flows, Blocks}
 use Rattle.machine.specs.Runners.{Ran}
 use Rattle.machine.proofs.Tokens.{minus, minus_is}
 use Rattle.machine.proofs.Flowing.{acts_of, acts_are, counts, flows_whole, flows_first, oldest_taken, is_own, turn_placed, turn_chain}

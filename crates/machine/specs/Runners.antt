@@ -14,8 +14,8 @@ use Rattle.ordering.specs.declared.log.Counts.{Counts}
 use Rattle.ordering.specs.Noted.{Noted, noted_in}
 use Rattle.ordering.specs.Logs.{Logs}
 use Rattle.semantics.specs.Machine.{Events}
-use Rattle.free_runs.specs.Blocks.{Block, Blocks, bounds_of, commit_of, count_acts}
-use Rattle.free_runs.specs.Laws.{IsBalanced}
+use Rattle.law_free_runs.specs.Blocks.{Block, Blocks, bounds_of, commit_of, count_acts}
+use Rattle.law_free_runs.specs.Laws.{IsBalanced}
 use Rattle.machine.specs.declared.nearness.Reach.{Reach}
 use Rattle.machine.specs.declared.runner.Left.{Left}
 use Rattle.machine.specs.declared.runner.Runner.{Runner}
@@ -90,8 +90,8 @@ pub record Ended {A : Type 0} (g : Setting) (mesh : MeshId) (may_stop : Bool) (o
   pub keeps : new.left ≢ Left.Lost → Keeps g mesh old new
   pub left : IsLeft g may_stop new new.left
 
--- The lane has taken tokens since it was `old`, an event each, and the block that they make has no commit yet. The queue had so
--- many tokens before, and so many events were made.
+-- The lane has taken tokens since it was `old`, an event each, and the block that they make has no commit yet. The queue had
+-- `before` tokens before, and `events` events were made.
 pub record HasMade {A : Type 0} (g : Setting) (mesh : MeshId) (start old : Held) (before events : ℕ) (r : Runner A) : Type 0 where
   pub at : r.seat.mesh ≡ mesh
   pub alone : r.seat.joined ≡ []
@@ -111,7 +111,7 @@ pub record HasMade {A : Type 0} (g : Setting) (mesh : MeshId) (start old : Held)
 abbrev pub tokens_of : Events → List Token
 tokens_of log = map (λ (ev : ℕ × Token). ev.1) log
 
--- a block of so many tokens made: what it left in the queue, and what the queue had before and has still
+-- a block that made this number of tokens: what it left in the queue, and what the queue had before and has still
 abbrev pub left_last : {A : Type 0} → Runner A → ℕ → List Token
 left_last r made = drop (length r.lane.queue.items - (made - length r.sent.items)) r.lane.queue.items ++ r.sent.items
 
@@ -128,7 +128,7 @@ pub record KeepsTokens {A : Type 0} (n : ℕ) (old new : List (Vec Token A)) (mo
 abbrev pub behind_all : Noted → List Token → List Token → Counts → Noted
 behind_all n taken made c = record { taken = n.taken ++ taken; made = n.made ++ made; blocks = n.blocks ++ c ∷ [] }
 
--- The block that stands in the log of the turn is noted, where events are listed: it spent and made so many tokens.
+-- The block that stands in the log of the turn is noted, where events are listed, with the numbers of tokens that it spent and made.
 pub record NotesBlock {A : Type 0} (spent made : ℕ) (old new : Runner A) : Type 0 where
   pub others : new ≡ record old { log = new.log; notes = new.notes }
   pub log : new.log.items ≡ (if old.listed then [] else old.log.items)

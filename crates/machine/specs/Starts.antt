@@ -8,7 +8,7 @@ use Rattle.schedule.specs.declared.halt.Halt.{Halt}
 use Rattle.schedule.specs.Setting.{Setting}
 use Rattle.mesh.specs.Seats.{MeshId, SeatView}
 use Rattle.semantics.specs.Machine.{Events}
-use Rattle.free_runs.specs.Blocks.{Block}
+use Rattle.law_free_runs.specs.Blocks.{Block}
 use Rattle.ordering.specs.declared.log.Log.{Log}
 use Rattle.ordering.specs.Noted.{noted_in, nothing}
 use Rattle.ordering.specs.Orders.{IsHistory, IsOrdered}
@@ -52,7 +52,7 @@ abbrev pub Lists : {A : Type 0} → List (Log A) → List Token → Events → E
 Lists logs opening old new =
     (log : List Block) (start last : List Token) → IsHistory logs log start last → IsPermutation opening start → (made : Events) × IsOrdered (length logs) log start last made × (new ≡ old ++ made)
 
--- so many bundles, all empty
+-- n bundles, all empty
 abbrev pub AreEmpty : {A : Type 0} → ℕ → List (Vec Token A) → Type 0
 AreEmpty n kept = (length kept ≡ n) × All (λ v. v.items ≡ []) kept
 

@@ -25,7 +25,7 @@ use token_queue::queue::TokenQueue;
 // How many tokens the commits of an element may make.
 const MOST: u64 = 1 << 40;
 
-// The commit of a block that spent and made so many tokens.
+// The commit of a block, by the numbers of tokens that it spent and made.
 fn commit_counts<J: Ask, A: Allocator>(
     runner: &mut Runner<'_, A>,
     mesh: &Mesh<A>,
@@ -118,7 +118,7 @@ fn note_block<A: Allocator>(
     Ok(())
 }
 
-// Commits a block of so many events, before which the queue had so many tokens. The oldest of these were taken, and what
+// Commits a block of `events` events, before which the queue had `before` tokens. The oldest of these were taken, and what
 // the block left stands last in the queue, or was sent. It needs no memory, so nothing stands between events and their commit.
 fn commit<C: MainCode, A: Allocator>(
     runner: &mut Runner<'_, A>,

@@ -9,6 +9,7 @@ ghost use Rattle.schedule.specs.Setting.{IsGoodSetting};
 ghost use Rattle.machine.specs.Runners.{Runs, Keeps, IsClear, StaysAt, KeepsTokens};
 
 use crate::runner::Runner;
+use element::dealt::element_for;
 use mesh::Mesh;
 use schedule::main_code::MainCode;
 use schedule::setup::Setup;
@@ -27,7 +28,7 @@ fn keep<A: Allocator>(
     ensures ok { OnOk result (KeepsTokens elements kept.old.items kept.new.items (token ∷ [])) }
     ensures err { OnErr result (KeepsTokens elements kept.old.items kept.new.items []) }
 {
-    let to = token.to.element(elements) as usize;
+    let to = element_for(&token.to, elements) as usize;
     kept[to].push(token)?;
     Ok(())
 }

@@ -38,7 +38,7 @@ pub fn tokens_of<A: Allocator>(alloc: A, lanes: &[Lane<'_, A>]) -> Result<Vec<To
     Ok(tokens)
 }
 
-// An empty bundle for each of so many elements.
+// An empty bundle for each element.
 fn bundles<A: Allocator + Clone>(
     alloc: &A,
     elements: u32,

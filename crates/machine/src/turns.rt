@@ -22,10 +22,11 @@ use std::alloc::{AllocError, Allocator};
 use std::sync::Wait;
 use std::thread;
 
-// How many events an element that has tokens enough makes between two looks at its mailboxes.
+// How many events an element that has tokens enough makes between two looks at the mailboxes: those in which it takes what
+// others posted, and those in which it posts what it has for others.
 const LOOK: u64 = 256;
 
-// Whether the element has tokens for a whole turn, and looked at its mailboxes a short while ago.
+// Whether the element has tokens for a whole turn, and looked at the mailboxes a short while ago.
 fn is_busy<C: MainCode, A: Allocator>(runner: &Runner<'_, A>, setup: &Setup<'_, C, A>) -> bool
     requires { IsGoodSetting (setting_in C.program C.width setup.now) }
 {
@@ -74,7 +75,7 @@ fn work<C: MainCode, A: Allocator + Clone, G: Gate>(
     }
 }
 
-// Deals out what the block made for others, and offers it.
+// Deals out what the block made for others, and offers it, if it is time to.
 fn hand_on<C: MainCode, A: Allocator + Clone>(
     runner: &mut Runner<'_, A>,
     mesh: &Mesh<A>,
@@ -88,6 +89,9 @@ fn hand_on<C: MainCode, A: Allocator + Clone>(
     ensures clear { OnOk result (IsClear runner.new) }
 {
     deal(runner, mesh, setup)?;
+    if is_busy(runner, setup) {
+        return Ok(());
+    }
     offer_all(runner, mesh, setup)
 }
 

@@ -141,7 +141,7 @@ with_seen v p seen = record v { parts = (record p { last = seen }) ∷ []; seen 
 abbrev pub Sits : View → Type 0
 Sits v = (0 < v.elements) × (v.elements ≤ v.spare)
 
--- the history that was seen is legal and leaves so many tokens
+-- the history that was seen is legal and leaves `count` tokens
 abbrev pub Leaves : View → ℕ → Type 0
 Leaves v count = (last : List Token) × LeavesPool v.elements v.start (map entry v.seen) last × (length last ≡ count) × Busy v.seen
 

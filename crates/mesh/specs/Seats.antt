@@ -43,7 +43,7 @@ AllTo n e tokens = All (λ (t : Token). element_of n t.to ≡ e) tokens
 abbrev pub Has : List Token → List Token → Type 0
 Has held some_of_them = (kept : List Token) × IsPermutation held (some_of_them ++ kept)
 
--- the history is legal, each commit of it takes a token, and it leaves so many tokens
+-- the history is legal, each commit of it takes a token, and it leaves `count` tokens
 abbrev pub Leaves : MeshId → List Commit → ℕ → Type 0
 Leaves mesh history count = (pool : List Token) × LeavesPool mesh.elements mesh.start (map entry history) pool × (length pool ≡ count) × Busy history
 
@@ -89,7 +89,7 @@ Commits spent made old new =
     × (new ≡ having_committed old spent made kept ((old.seen ++ between) ++ commit old.own.element spent made ∷ []))
     × ((count : ℕ) × Leaves new.mesh new.seen count)
 
--- a look at the live word: the history goes on from all that was seen, and leaves so many tokens
+-- a look at the live word: the history goes on from all that was seen, and leaves `count` tokens
 abbrev pub Counts : ℕ → SeatView → SeatView → Type 0
 Counts count old new = (between : List Commit) × (new ≡ having_seen_live old count (old.seen ++ between)) × Leaves new.mesh new.seen count
 

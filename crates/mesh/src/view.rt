@@ -22,7 +22,7 @@ pub enum Deed {
     Took(u32, LinkedList<Token>),
     /// Found the box from that element empty.
     FoundEmpty(u32),
-    /// Read so many live tokens.
+    /// Read this number of live tokens.
     SawLive(u64),
     /// Tried to set the first as the reason to stop, and found the second: 0 where it was set.
     Stopped(u64, u64),

@@ -20,7 +20,7 @@ first_then (Err e) next = Err e
 abbrev pub unless : Bool → ObjectFault → Checked
 unless fits fault = if fits then Ok tt else Err fault
 
--- a check of so many numbers in a row
+-- a check of numbers in a row, from i on
 abbrev pub each : (ℕ → Checked) → ℕ → ℕ → Checked
 each check i zero = Ok tt
 each check i (suc k) = first_then (check i) (each check (i + 1) k)
@@ -68,7 +68,7 @@ literal_checked w k = unless (int_lt (literal_in w k) (literal_in w (k + 1))) Ba
 abbrev pub literals_checked : (ℕ → ℕ) → Checked
 literals_checked w = each (literal_checked w) 0 (w 3 - 1)
 
--- AN INSTRUCTION, whose block ends before the instruction `end` and has so many slots
+-- AN INSTRUCTION, whose block ends before the instruction `end`, and which has `slots` slots
 abbrev pub operand_fits : Version → Opcode → ℕ → Bool
 operand_fits One o y = may_have o y
 operand_fits Two o y = nat_le (origin_number Two o y) 262144 && nat_lt (operand_in Two o y) (2 ^ 32) && may_have o (operand_in Two o y)

@@ -12,7 +12,7 @@ use Rattle.object_view.specs.declared.instr.CodeInstr.{CodeInstr}
 use Rattle.object_view.specs.declared.instr.PackedInstr.{PackedInstr}
 use Rattle.object_view.specs.Fields.{word_at, version_number, count_in, inputs_in, outputs_in, slots_in, opcode_in, slot_in, dest_of, first_half, second_half, operand_in, origin_number, origin_of, with}
 
--- what a function gives for so many numbers in a row
+-- what a function gives for numbers in a row, from i on
 abbrev pub listed : {X : Type 0} → (ℕ → X) → ℕ → ℕ → List X
 listed f i zero = []
 listed f i (suc k) = f i ∷ listed f (i + 1) k
@@ -30,7 +30,7 @@ unpacked i = record { op = i.op; origin = origin_of i.origin; slot = i.slot; fir
 abbrev pub version_in : ℕ → Version
 version_in n = if n == 2 then Two else One
 
--- how many instructions the first so many blocks have
+-- how many instructions the first blocks have, whose number is given
 abbrev pub instrs_below : (ℕ → ℕ) → ℕ → ℕ
 instrs_below w zero = 0
 instrs_below w (suc b) = instrs_below w b + count_in (w (6 + b))

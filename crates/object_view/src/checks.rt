@@ -284,7 +284,7 @@ impl<'a> Tables<'a> {
         }
     }
 
-    /// Looks at an instruction of a block that ends before the instruction `end` and has so many slots.
+    /// Looks at an instruction of a block that ends before the instruction `end` and has `slots` slots.
     #[tactic(auto, unfolding(crate::specs::Checks::instr_checked))]
     fn check_instr(&self, slots: u32, end: usize, ip: usize) -> Result<(), ObjectFault>
         requires below { ip < end }

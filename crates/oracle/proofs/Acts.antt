@@ -12,8 +12,8 @@ use Rattle.semantics.specs.Graph.{Node as Row, Block, Graph, flow_of, node_at}
 use Rattle.semantics.specs.Text.{HasText, HasBlockText}
 use Rattle.semantics.specs.Meaning.{Context, origin_at, same_side, block_number, block_numbered, block_of, on_block, on_node, fired_in, Activity, deed}
 use Rattle.semantics.specs.Meaning as Meaning
-use Rattle.determinacy.proofs.Grounds.{get_below}
-use Rattle.determinacy.proofs.Resolved.{all_get}
+use Rattle.law_determinacy.proofs.Grounds.{get_below}
+use Rattle.law_determinacy.proofs.Resolved.{all_get}
 use Rattle.oracle.specs.declared.invocations.Made.TheVariants.{Main, Called, Turned}
 use Rattle.oracle.specs.declared.invocations.Invocation.{Invocation}
 use Rattle.oracle.specs.declared.lines.Line.{Line}

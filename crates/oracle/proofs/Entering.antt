@@ -4,9 +4,9 @@ use Rattle.std.proofs.lemmas.List.{length-append}
 use Rattle.semantics.specs.Graph.{Graph, flow_of}
 use Rattle.semantics.specs.Meaning.{Context, Tagged, block_number}
 use Rattle.semantics.specs.Meaning as Meaning
-use Rattle.determinacy.proofs.Options.{some_same}
-use Rattle.determinacy.proofs.Perm.{Each}
-use Rattle.determinacy.proofs.Grounds.{get_below}
+use Rattle.law_determinacy.proofs.Options.{some_same}
+use Rattle.law_determinacy.proofs.Perm.{Each}
+use Rattle.law_determinacy.proofs.Grounds.{get_below}
 use Rattle.oracle.specs.declared.invocations.Made.{Made}
 use Rattle.oracle.specs.declared.invocations.Made.TheVariants.{Main, Called, Turned}
 use Rattle.oracle.specs.declared.invocations.Invocation.{Invocation}

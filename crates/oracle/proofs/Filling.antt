@@ -4,7 +4,7 @@ use Rattle.std.specs.Prelude.{slice_set}
 use Rattle.std.proofs.lemmas.List.{length-append}
 use Rattle.tags.specs.declared.value.Value.{Value}
 use Rattle.semantics.specs.Meaning.{Memory, at_place}
-use Rattle.determinacy.proofs.Grounds.{get_below}
+use Rattle.law_determinacy.proofs.Grounds.{get_below}
 use Rattle.oracle.specs.Lines.{first_of, len_of, total_of}
 use Rattle.oracle.specs.Acting.{held_of, held_in, filled_in}
 use Rattle.oracle.specs.Running.{nones, no_cells}

@@ -9,10 +9,10 @@ use Rattle.semantics.specs.WellFormed.{WellFormed}
 use Rattle.semantics.specs.Faithful.{inputs_of}
 use Rattle.semantics.specs.Meaning.{Context, Statement, AtNode, AtOut, Tagged, tagged, State, Activity, taken, operands_from, deed, Run, Same, start, Clashes}
 use Rattle.semantics.specs.Meaning as Meaning
-use Rattle.determinacy.proofs.Perm.{Within, Each, put_first, each_from, each_within, each_permutation, each_append, each_append_back, within_permutation, within_left}
-use Rattle.determinacy.proofs.Shapes.{storing, showing}
-use Rattle.determinacy.proofs.Runs.{run_to_same}
-use Rattle.determinacy.proofs.Theorems.{reached_unique}
+use Rattle.law_determinacy.proofs.Perm.{Within, Each, put_first, each_from, each_within, each_permutation, each_append, each_append_back, within_permutation, within_left}
+use Rattle.law_determinacy.proofs.Shapes.{storing, showing}
+use Rattle.law_determinacy.proofs.Runs.{run_to_same}
+use Rattle.law_determinacy.proofs.Theorems.{reached_unique}
 use Rattle.oracle.specs.declared.invocations.Invocation.{Invocation}
 use Rattle.oracle.specs.declared.deeds.Deed.{Deed}
 use Rattle.oracle.specs.declared.deeds.Deed.TheVariants.{Sends, Tells, Enters, EntersAll, Stops, Reads, Fills, Puts}
@@ -73,7 +73,7 @@ module _ (g : Graph) (text : HasText g) (well : WellFormed g) (inputs : List ℤ
       }
 
   -- the same state, with its tokens in other lists
-  moved : (s : Plain) (ts w d : List Token) (cs : List Context) (run : List Activity) → Run (flow_of g) (start inputs) run (meant cs s) → IsPermutation (all_tokens s) (ts ++ (w ++ d)) → s.cells ≡ cells → s.outputs ≡ outputs
+  pub moved : (s : Plain) (ts w d : List Token) (cs : List Context) (run : List Activity) → Run (flow_of g) (start inputs) run (meant cs s) → IsPermutation (all_tokens s) (ts ++ (w ++ d)) → s.cells ≡ cells → s.outputs ≡ outputs
       → Run (flow_of g) (start inputs) run (meant cs (plain xs ts w d cells outputs))
   moved s ts w d cs run r p e h =
       run_to_same (flow_of g) (start inputs) (meant cs s) (meant cs (plain xs ts w d cells outputs)) run r
@@ -86,25 +86,25 @@ module _ (g : Graph) (text : HasText g) (well : WellFormed g) (inputs : List ℤ
     abbrev cs : List Context
     cs = f.sound.names
 
-    here : t.context < length xs
+    pub here : t.context < length xs
     here = s.known.0
 
-    x : (x : Invocation) × (slice_get xs t.context ≡ Some x)
+    pub x : (x : Invocation) × (slice_get xs t.context ≡ Some x)
     x = get_there xs t.context here
 
-    made : made_of cs x.0.made ≡ name_in cs t.context
+    pub made : made_of cs x.0.made ≡ name_in cs t.context
     made = s.named.made t.context x.0 x.1
 
-    block : Meaning.block_number (flow_of g) (name_in cs t.context) ≡ Some x.0.block
+    pub block : Meaning.block_number (flow_of g) (name_in cs t.context) ≡ Some x.0.block
     block = s.named.block t.context x.0 x.1
 
-    others_known : AreKnown (length xs) ts × AreKnown (length xs) w × AreKnown (length xs) d
+    pub others_known : AreKnown (length xs) ts × AreKnown (length xs) w × AreKnown (length xs) d
     others_known =
         let p = each_append_back (λ (t : Token). t.context < length xs) ts (w ++ d) s.known.1 in
         let q = each_append_back (λ (t : Token). t.context < length xs) w d p.1 in
         (p.0, q.0, q.1)
 
-    waits : join_in g w t (Some x.0) ≡ Alone → Now ts (w ++ t ∷ []) d
+    pub waits : join_in g w t (Some x.0) ≡ Alone → Now ts (w ++ t ∷ []) d
     waits e =
         let order = to_waiting t ts w d in
         record {
@@ -125,26 +125,26 @@ module _ (g : Graph) (text : HasText g) (well : WellFormed g) (inputs : List ℤ
         }
 
     module _ (left : List Token) (vs : List Value) (deed' : Deed) (e : join_in g w t (Some x.0) ≡ Joins left vs deed') where
-      view : IsJoined g w t x.0 left vs deed'
+      pub view : IsJoined g w t x.0 left vs deed'
       view = joined_view g w t x.0 left vs deed' e
 
-      join : IsJoin g cs t w (Joins left vs deed')
+      pub join : IsJoin g cs t w (Joins left vs deed')
       join = subst (IsJoin g cs t w) e (join_law g text cs t x.0 made block w)
 
-      is_known : IsKnown g cs (length xs) vs deed'
+      pub is_known : IsKnown g cs (length xs) vs deed'
       is_known = known_law g cs (length xs) t.context x.0 here (s.named.below t.context x.0 x.1) made block view.shape vs deed' view.deed
 
-      left_known : AreKnown (length xs) left
+      pub left_known : AreKnown (length xs) left
       left_known = subst (AreKnown (length xs)) view.rest (known_left (spots_in view.shape) w others_known.1)
         where
           known_left : (ss : List Spot) (w : List Token) → AreKnown (length xs) w → AreKnown (length xs) (left_of t ss w)
           known_left ss w h = each_from (λ (u : Token). u.context < length xs) (left_of t ss w) (λ u k. each_within (λ (u : Token). u.context < length xs) u w (left_within t ss w u k) h)
 
-      left_stuck : Stuck (flow_of g) (map (tagged_of cs) left)
+      pub left_stuck : Stuck (flow_of g) (map (tagged_of cs) left)
       left_stuck = subst (λ l. Stuck (flow_of g) (map (tagged_of cs) l)) view.rest (stuck_left (flow_of g) (tagged_of cs) t (spots_in view.shape) w s.stuck)
 
       -- what the activity takes is out
-      takes : IsPermutation (meant cs (plain xs (t ∷ ts) w d cells outputs)).tokens (taken join.0 ++ map (tagged_of cs) (ts ++ (left ++ d)))
+      pub takes : IsPermutation (meant cs (plain xs (t ∷ ts) w d cells outputs)).tokens (taken join.0 ++ map (tagged_of cs) (ts ++ (left ++ d)))
       takes =
           let h = tagged_of cs in
           let old : map h ((t ∷ ts) ++ (w ++ d)) ≡ (h t ∷ map h ts) ++ (map h w ++ map h d) = ap (λ l. h t ∷ l) (map-append h ts (w ++ d) ∙ ap (λ l. map h ts ++ l) (map-append h w d)) in
@@ -152,7 +152,7 @@ module _ (g : Graph) (text : HasText g) (well : WellFormed g) (inputs : List ℤ
           subst (λ l. IsPermutation l (taken join.0 ++ map h (ts ++ (left ++ d)))) (sym old)
           (subst (λ l. IsPermutation ((h t ∷ map h ts) ++ (map h w ++ map h d)) (taken join.0 ++ l)) (sym new) (to_taken (h t) (map h ts) (map h w) (map h d) (taken join.0) (map h left) join.1))
 
-      put_low : (e : Deed) → e ≡ deed' → PutLow e (plain xs ts left d cells outputs)
+      pub put_low : (e : Deed) → e ≡ deed' → PutLow e (plain xs ts left d cells outputs)
       put_low (Puts j v) q =
           let a = join.0 in
           let is : a ≡ Meaning.Outputs j v = showing (flow_of g) a j v (join.2 ∙ ap (λ e. Some (deed_of cs vs e)) (sym q)) in
@@ -168,7 +168,7 @@ module _ (g : Graph) (text : HasText g) (well : WellFormed g) (inputs : List ℤ
       put_low (Reads c n y) q = tt
       put_low (Fills c n y a i v) q = tt
 
-      acts : gate_of cells deed' ≡ Free → Ready g inputs k (plain xs ts left d cells outputs) vs deed'
+      pub acts : gate_of cells deed' ≡ Free → Ready g inputs k (plain xs ts left d cells outputs) vs deed'
       acts free = record {
         sound = record {
           names = cs;
@@ -196,13 +196,13 @@ module _ (g : Graph) (text : HasText g) (well : WellFormed g) (inputs : List ℤ
       }
 
       -- a fetch of an empty cell takes no other token
-      left_same : length vs ≡ 1 → left ≡ w
+      pub left_same : length vs ≡ 1 → left ≡ w
       left_same one =
           let ss = spots_in view.shape in
           let spots : ss ≡ t.spot ∷ [] = one_own t.spot ss (own_law g x.0.made x.0.block t.spot view.shape view.here) (sym view.long ∙ one) in
           sym view.rest ∙ ap (λ ss. left_of t ss w) spots ∙ one_left t w
 
-      defers : gate_of cells deed' ≡ Defers → Now ts left (d ++ t ∷ [])
+      pub defers : gate_of cells deed' ≡ Defers → Now ts left (d ++ t ∷ [])
       defers gate =
           let r = gate_defers cells deed' gate in
           let known : IsKnown g cs (length xs) vs (Reads r.0 r.1 r.2) = subst (IsKnown g cs (length xs) vs) r.3 is_known in
@@ -229,7 +229,7 @@ module _ (g : Graph) (text : HasText g) (well : WellFormed g) (inputs : List ℤ
             count = f.count;
           }
 
-      clashes : (a i : ℕ) → gate_of cells deed' ≡ GateClashes a i → Ended g inputs k cells outputs (Clash a i)
+      pub clashes : (a i : ℕ) → gate_of cells deed' ≡ GateClashes a i → Ended g inputs k cells outputs (Clash a i)
       clashes a i gate =
           let r = gate_clashes cells deed' a i gate in
           let known : IsKnown g cs (length xs) vs (Fills r.0 r.1 r.2 a i r.3) = subst (IsKnown g cs (length xs) vs) r.5 is_known in

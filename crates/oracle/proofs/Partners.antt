@@ -4,9 +4,9 @@ use Rattle.std.specs.Prelude.{remove}
 use Rattle.std.proofs.lemmas.List.{length-append}
 use Rattle.std.proofs.lemmas.List.Sorted.{IsPermutation-refl, IsPermutation-trans, IsPermutation-append_right, IsPermutation-remove}
 use Rattle.tags.specs.declared.value.Value.{Value}
-use Rattle.determinacy.proofs.Options.{some_same}
-use Rattle.determinacy.proofs.Diamond.{permutation_exchange}
-use Rattle.determinacy.proofs.Grounds.{get_below}
+use Rattle.law_determinacy.proofs.Options.{some_same}
+use Rattle.law_determinacy.proofs.Diamond.{permutation_exchange}
+use Rattle.law_determinacy.proofs.Grounds.{get_below}
 use Rattle.oracle.specs.declared.tokens.Spot.{Spot}
 use Rattle.oracle.specs.declared.tokens.Spot.TheVariants.{Operand, Predicate, Out, Flag, Carried}
 use Rattle.oracle.specs.declared.tokens.Token.{Token}

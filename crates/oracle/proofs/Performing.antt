@@ -7,10 +7,10 @@ use Rattle.tags.specs.declared.value.Value.{Value}
 use Rattle.semantics.specs.Graph.{Graph, flow_of}
 use Rattle.semantics.specs.Meaning.{Context, Tagged, Memory, Effect, State, Activity, taken, effect, done, adds, tokens_of, with_cell, with_output, when_full, when_empty, Step, Run, start}
 use Rattle.semantics.specs.Meaning as Meaning
-use Rattle.determinacy.proofs.Perm.{Each, each_append, each_append_back, each_weaker}
-use Rattle.determinacy.proofs.Diamond.{effect_of}
-use Rattle.determinacy.proofs.Determinacy.{same_refl}
-use Rattle.determinacy.proofs.Runs.{run_append, step_of}
+use Rattle.law_determinacy.proofs.Perm.{Each, each_append, each_append_back, each_weaker}
+use Rattle.law_determinacy.proofs.Diamond.{effect_of}
+use Rattle.law_determinacy.proofs.Determinacy.{same_refl}
+use Rattle.law_determinacy.proofs.Runs.{run_append, step_of}
 use Rattle.oracle.specs.declared.invocations.Made.{Made}
 use Rattle.oracle.specs.declared.deeds.Deed.{Deed}
 use Rattle.oracle.specs.declared.deeds.Deed.TheVariants.{Sends, Tells, Enters, EntersAll, Stops, Reads, Fills, Puts}
@@ -47,12 +47,17 @@ free_fills : (o : Option Value) (a i : ℕ) → (if is_some o then Clashes a i e
 free_fills None a i h = refl
 free_fills (Some v) a i h = cc
 
+-- the activity leads to that state
+pub record Acted (g : Graph) (inputs : List ℤ) (k : ℕ) (s : Plain) (vs : List Value) (d : Deed) (r : Ready g inputs k s vs d) (t : Plain) : Type 0 where
+  pub follows : Follows g inputs (suc k) t
+  pub step : Step (flow_of g) r.activity r.old (meant follows.sound.names t)
+
 module _ (g : Graph) (inputs : List ℤ) (k : ℕ) (s : Plain) (vs : List Value) where
   abbrev m : Memory
   m = memory_of s.cells s.outputs
 
   -- a free deed is done
-  does : (cs : List Context) (d : Deed) → gate_of s.cells d ≡ Free → (E : Effect) × (done (flow_of g) m (deed_of cs vs d) ≡ Some E)
+  pub does : (cs : List Context) (d : Deed) → gate_of s.cells d ≡ Free → (E : Effect) × (done (flow_of g) m (deed_of cs vs d) ≡ Some E)
   does cs (Sends c n p v) h = (_, refl)
   does cs (Tells c n v) h = (_, refl)
   does cs (Enters made f i v) h = (_, refl)
@@ -80,7 +85,7 @@ module _ (g : Graph) (inputs : List ℤ) (k : ℕ) (s : Plain) (vs : List Value)
 
     -- the run goes on to a state that stands for what the effect makes
     goes : (E : Effect) → done (flow_of g) m (deed_of names vs d) ≡ Some E → (t : Plain) (sound : Sound g (suc k) t)
-        → IsPermutation (map (tagged_of sound.names) (all_tokens t)) (E.added ++ map (tagged_of names) (all_tokens s)) → memory_of t.cells t.outputs ≡ E.memory → Follows g inputs (suc k) t
+        → IsPermutation (map (tagged_of sound.names) (all_tokens t)) (E.added ++ map (tagged_of names) (all_tokens s)) → memory_of t.cells t.outputs ≡ E.memory → Acted g inputs k s vs d r t
     goes E h t sound tokens memory =
         let step : Step (flow_of g) r.activity r.old (meant sound.names t) = record {
           does = E;
@@ -93,10 +98,13 @@ module _ (g : Graph) (inputs : List ℤ) (k : ℕ) (s : Plain) (vs : List Value)
         let long = length-append r.run (r.activity ∷ []) in
         let count = r.count in
         record {
-          sound = sound;
-          run = r.run ++ r.activity ∷ [];
-          is_run = run_append (flow_of g) (start inputs) r.old (meant sound.names t) r.run (r.activity ∷ []) r.is_run (meant sound.names t, step, same_refl (meant sound.names t));
-          count = omega (arith, long, count);
+          follows = record {
+            sound = sound;
+            run = r.run ++ r.activity ∷ [];
+            is_run = run_append (flow_of g) (start inputs) r.old (meant sound.names t) r.run (r.activity ∷ []) r.is_run (meant sound.names t, step, same_refl (meant sound.names t));
+            count = omega (arith, long, count);
+          };
+          step = step;
         }
 
     -- MORE TOKENS, and nothing else
@@ -122,13 +130,13 @@ module _ (g : Graph) (inputs : List ℤ) (k : ℕ) (s : Plain) (vs : List Value)
         (IsPermutation-map (tagged_of cs) ((s.fresh ++ new) ++ (s.waiting ++ s.deferred)) (new ++ all_tokens s) (to_fresh s.fresh new (s.waiting ++ s.deferred)))
 
     sent_more : (new : List Token) (added : List Tagged) → AreKnown (length s.invocations) new → map (tagged_of names) new ≡ added → done (flow_of g) m (deed_of names vs d) ≡ Some record { added = added; memory = m }
-        → Follows g inputs (suc k) (plain s.invocations (s.fresh ++ new) s.waiting s.deferred s.cells s.outputs)
+        → Acted g inputs k s vs d r (plain s.invocations (s.fresh ++ new) s.waiting s.deferred s.cells s.outputs)
     unfolding sent_sound
     sent_more new added known same h =
         goes record { added = added; memory = m } h (plain s.invocations (s.fresh ++ new) s.waiting s.deferred s.cells s.outputs) (sent_sound new known)
         (subst (λ l. IsPermutation (map (tagged_of names) ((s.fresh ++ new) ++ (s.waiting ++ s.deferred))) (l ++ map (tagged_of names) (all_tokens s))) same (fresh_order names new)) refl
 
-    stops : done (flow_of g) m (deed_of names vs d) ≡ Some record { added = []; memory = m } → Follows g inputs (suc k) s
+    stops : done (flow_of g) m (deed_of names vs d) ≡ Some record { added = []; memory = m } → Acted g inputs k s vs d r s
     stops h =
         let sound : Sound g (suc k) s = record {
           names = names;
@@ -146,7 +154,7 @@ module _ (g : Graph) (inputs : List ℤ) (k : ℕ) (s : Plain) (vs : List Value)
     -- A CELL IS FILLED
     fills : (x : ℕ) (v : Value) (new : List Token) (added : List Tagged) → x < length s.cells → AreKnown (length s.invocations) new → map (tagged_of names) new ≡ added
         → done (flow_of g) m (deed_of names vs d) ≡ Some record { added = added; memory = with_cell m x v }
-        → Follows g inputs (suc k) (plain s.invocations ((s.fresh ++ s.deferred) ++ new) s.waiting [] (filled_in s.cells x v) s.outputs)
+        → Acted g inputs k s vs d r (plain s.invocations ((s.fresh ++ s.deferred) ++ new) s.waiting [] (filled_in s.cells x v) s.outputs)
     fills x v new added low known same h =
         let P : Token → Type 0 = λ t. t.context < length s.invocations in
         let one = each_append_back P s.fresh (s.waiting ++ s.deferred) r.sound.known in
@@ -172,7 +180,7 @@ module _ (g : Graph) (inputs : List ℤ) (k : ℕ) (s : Plain) (vs : List Value)
 
     -- AN OUTPUT IS FILLED
     puts : (j : ℕ) (v : Value) → j < length s.outputs → done (flow_of g) m (deed_of names vs d) ≡ Some record { added = []; memory = with_output m j v }
-        → Follows g inputs (suc k) (plain s.invocations s.fresh s.waiting s.deferred s.cells (filled_in s.outputs j v))
+        → Acted g inputs k s vs d r (plain s.invocations s.fresh s.waiting s.deferred s.cells (filled_in s.outputs j v))
     puts j v low h =
         let t : Plain = plain s.invocations s.fresh s.waiting s.deferred s.cells (filled_in s.outputs j v) in
         let sound : Sound g (suc k) t = record {
@@ -193,7 +201,7 @@ module _ (g : Graph) (inputs : List ℤ) (k : ℕ) (s : Plain) (vs : List Value)
     enters : (made : Made) (f : ℕ) (new : List Token) (added : List Tagged) → CanEnter g names (length s.invocations) made f → TurnBelow (suc k) made → AreOf (number_in s.invocations made) new
         → ((cs : List Context) → name_in cs (number_in s.invocations made) ≡ made_of names made → map (tagged_of cs) new ≡ added)
         → done (flow_of g) m (deed_of names vs d) ≡ Some record { added = added; memory = m }
-        → Follows g inputs (suc k) (plain (with_made s.invocations made f) (s.fresh ++ new) s.waiting s.deferred s.cells s.outputs)
+        → Acted g inputs k s vs d r (plain (with_made s.invocations made f) (s.fresh ++ new) s.waiting s.deferred s.cells s.outputs)
     enters made f new added can turn of same h =
         let e = entered_law g s.invocations names made f r.sound.named can in
         let t : Plain = plain (with_made s.invocations made f) (s.fresh ++ new) s.waiting s.deferred s.cells s.outputs in
@@ -225,33 +233,36 @@ module _ (g : Graph) (inputs : List ℤ) (k : ℕ) (s : Plain) (vs : List Value)
         (subst (λ l. IsPermutation (map (tagged_of e.names) (all_tokens t)) (l ++ map (tagged_of e.names) (all_tokens s))) (same e.names e.name) (fresh_order e.names new))) refl
 
   -- Each deed in its turn.
-  pub acted : (d : Deed) → Ready g inputs k s vs d → Follows g inputs (suc k) (performed g s vs d)
-  acted (Sends c n p v) r =
+  pub acts : (d : Deed) (r : Ready g inputs k s vs d) → Acted g inputs k s vs d r (performed g s vs d)
+  acts (Sends c n p v) r =
       let q = sends_same g s.invocations r.sound.names r.sound.named c r.is_known v n p in
       sent_more (Sends c n p v) r (sent_in g s.invocations (sent_of c v) n p) _ (known_of c _ r.is_known _ q.1) q.0 refl
-  acted (Tells c n v) r =
+  acts (Tells c n v) r =
       let q = tells_same g s.invocations r.sound.names r.sound.named c r.is_known v n in
       sent_more (Tells c n v) r (told_in g s.invocations (sent_of c v) n) _ (known_of c _ r.is_known _ q.1) q.0 refl
-  acted (Enters made f i v) r =
+  acts (Enters made f i v) r =
       let c = number_in s.invocations made in
       enters (Enters made f i v) r made f (token_at (sent_of c v) (Operand i 0) ∷ []) _ r.is_known r.turn (refl, tt)
       (λ cs e. ap (λ c. Meaning.tagged c (Meaning.AtNode i) (Meaning.Operand 0) v ∷ []) e) refl
-  acted (EntersAll made f) r =
+  acts (EntersAll made f) r =
       let c = number_in s.invocations made in
       enters (EntersAll made f) r made f (entering_tokens c 0 vs) _ r.is_known r.turn (entering_of c 0 vs)
       (λ cs e. entering_same cs c 0 vs ∙ ap (λ c. Meaning.entering c 0 vs) e) refl
-  acted Stops r = stops Stops r refl
-  acted (Reads c n x) r =
+  acts Stops r = stops Stops r refl
+  acts (Reads c n x) r =
       let cs = r.sound.names in
       let held = free_reads (held_in s.cells x) r.free in
       let q = sends_same g s.invocations cs r.sound.named c r.is_known.0 held.0 n 0 in
-      subst (λ o. Follows g inputs (suc k) (plain s.invocations (s.fresh ++ answered g s.invocations c n o) s.waiting s.deferred s.cells s.outputs)) (sym held.1)
+      subst (λ o. Acted g inputs k s vs (Reads c n x) r (plain s.invocations (s.fresh ++ answered g s.invocations c n o) s.waiting s.deferred s.cells s.outputs)) (sym held.1)
       (sent_more (Reads c n x) r (sent_in g s.invocations (sent_of c held.0) n 0) _ (known_of c _ r.is_known.0 _ q.1) q.0
       (ap (λ o. when_full o (λ v. adds (tokens_of (flow_of g) (Meaning.Sends (name_in cs c) n 0 v)) m)) held.1))
-  acted (Fills c n x a i v) r =
+  acts (Fills c n x a i v) r =
       let cs = r.sound.names in
       let q = sends_same g s.invocations cs r.sound.named c r.is_known.0 v n 0 in
       let low : x < length s.cells = subst (λ y. y < length s.cells) (sym r.is_known.1) (subst (λ l. first_of g.arrays a + i < l) (sym r.sound.cell_count) (cell_low g.arrays a i r.is_known.2)) in
       fills (Fills c n x a i v) r x v (sent_in g s.invocations (sent_of c v) n 0) _ low (known_of c _ r.is_known.0 _ q.1) q.0
       (ap (λ o. when_empty o (adds (tokens_of (flow_of g) (Meaning.Sends (name_in cs c) n 0 v)) (with_cell m x v))) (free_fills (held_in s.cells x) a i r.free))
-  acted (Puts j v) r = puts (Puts j v) r j v r.put refl
+  acts (Puts j v) r = puts (Puts j v) r j v r.put refl
+
+  pub acted : (d : Deed) → Ready g inputs k s vs d → Follows g inputs (suc k) (performed g s vs d)
+  acted d r = (acts d r).follows

@@ -17,13 +17,13 @@ use Rattle.oracle.specs.Acting.{all_there, left_of, values_of, deed_in, gate_of}
 use Rattle.oracle.specs.Running.{Plain, plain, Joined, Alone, Joins, Fails, joins, join_values, join_all, join_shape, join_in, join_of, Came, Acts, Ends, Broken, next_of, next_in, run_of, performed, start_of, told_of, told}
 use Rattle.std.specs.Prelude.{MatchOption, IfOk}
 use Rattle.oracle.proofs.RowLists.{row_here, row_set, set_here}
-use Rattle.oracle.specs.Rows.{rows_of, with_row, Next, Goes, Stays, Breaks, row_next, next_among, run_among}
+use Rattle.oracle.specs.Rows.{rows_of, with_row, no_rows, Next, Goes, Stays, Breaks, row_next, next_among, run_among}
 use Rattle.oracle.proofs.Views.{joined_view}
 use Rattle.oracle.proofs.Rows.{keep, mine, there_mine, left_mine, left_other, values_mine}
 
 -- JOINING
 
-abbrev cut : ℕ → Joined → Joined
+abbrev pub cut : ℕ → Joined → Joined
 cut c Alone = Alone
 cut c (Joins left vs d) = Joins (mine c left) vs d
 cut c Fails = Fails
@@ -50,12 +50,12 @@ module _ (g : Graph) (w : List Token) (t : Token) where
           ap (λ vs. join_values g (mine t.context w) t x shape vs) (values_mine t (spots_in shape) w) ∙ counted_mine x shape vs (length vs == length (spots_in shape))
       go false = refl
 
-  in_mine : (o : Option Invocation) → join_in g (mine t.context w) t o ≡ cut t.context (join_in g w t o)
+  pub in_mine : (o : Option Invocation) → join_in g (mine t.context w) t o ≡ cut t.context (join_in g w t o)
   in_mine None = refl
   in_mine (Some x) = shape_mine x (shape_in g x.made x.block t.spot)
 
   -- what is left when some of the token's partners are out
-  left_by : (o : Option Invocation) (left : List Token) (vs : List Value) (d : Deed) → join_in g w t o ≡ Joins left vs d → (ss : List Spot) × (left_of t ss w ≡ left)
+  pub left_by : (o : Option Invocation) (left : List Token) (vs : List Value) (d : Deed) → join_in g w t o ≡ Joins left vs d → (ss : List Spot) × (left_of t ss w ≡ left)
   left_by None left vs d e = cc
   left_by (Some x) left vs d e = let v = joined_view g w t x left vs d e in (spots_in v.shape, v.rest)
 
@@ -82,7 +82,7 @@ mine_last d (u ∷ us) t = ap (λ r. keep (u.context == d) u r) (mine_last d us 
     go true = refl
     go false = refl
 
-rows_alone : (w : List Token) (t : Token) → with_row (λ c. mine c w) t.context (mine t.context w ++ t ∷ []) ≡ (λ c. mine c (w ++ t ∷ []))
+pub rows_alone : (w : List Token) (t : Token) → with_row (λ c. mine c w) t.context (mine t.context w ++ t ∷ []) ≡ (λ c. mine c (w ++ t ∷ []))
 rows_alone w t = λ i d. at d i
   where
     at : (d : ℕ) → with_row (λ c. mine c w) t.context (mine t.context w ++ t ∷ []) d ≡ mine d (w ++ t ∷ [])
@@ -94,7 +94,7 @@ rows_alone w t = λ i d. at d i
             ap (λ k. mine k w ++ t ∷ []) same ∙ sym (ap (λ b. mine d w ++ keep b t []) (eq-eqb t.context d same))
         go false p = nil_right (mine d w) ∙ sym (ap (λ b. mine d w ++ keep b t []) (flip d t.context p))
 
-rows_left : (w : List Token) (t : Token) (ss : List Spot) (left : List Token) → left_of t ss w ≡ left → with_row (λ c. mine c w) t.context (mine t.context left) ≡ (λ c. mine c left)
+pub rows_left : (w : List Token) (t : Token) (ss : List Spot) (left : List Token) → left_of t ss w ≡ left → with_row (λ c. mine c w) t.context (mine t.context left) ≡ (λ c. mine c left)
 rows_left w t ss left e = λ i d. at d i
   where
     at : (d : ℕ) → with_row (λ c. mine c w) t.context (mine t.context left) d ≡ mine d left
@@ -169,7 +169,7 @@ next_rows g s = next_same g s.invocations s.cells s.outputs s.fresh s.waiting s.
 
 -- A RUN
 
-performed_bare : (g : Graph) (s : Plain) (vs : List Value) (d : Deed) → performed g (bare s) vs d ≡ bare (performed g s vs d)
+pub performed_bare : (g : Graph) (s : Plain) (vs : List Value) (d : Deed) → performed g (bare s) vs d ≡ bare (performed g s vs d)
 performed_bare g s vs (Sends c n p v) = refl
 performed_bare g s vs (Tells c k v) = refl
 performed_bare g s vs (Enters made f i v) = refl
@@ -179,7 +179,7 @@ performed_bare g s vs (Reads c n x) = refl
 performed_bare g s vs (Fills c n x a i v) = refl
 performed_bare g s vs (Puts j v) = refl
 
-performed_waits : (g : Graph) (s : Plain) (vs : List Value) (d : Deed) → s.waiting ≡ (performed g s vs d).waiting
+pub performed_waits : (g : Graph) (s : Plain) (vs : List Value) (d : Deed) → s.waiting ≡ (performed g s vs d).waiting
 performed_waits g s vs (Sends c n p v) = refl
 performed_waits g s vs (Tells c k v) = refl
 performed_waits g s vs (Enters made f i v) = refl
@@ -216,9 +216,6 @@ run_rows g (suc k) s = ap (went g k) (next_rows g s) ∙ go (run_rows g k) (next
         ∙ ih (performed g t vs d)
     go ih (Ends t e) = refl
     go ih Broken = refl
-
-abbrev pub no_rows : ℕ → List Token
-no_rows c = []
 
 pub told_among : (g : Graph) (inputs : List ℤ) (steps : ℕ) → told g inputs steps ≡ told_of g (run_among g steps (start_of g inputs) no_rows)
 told_among g inputs steps = go (run_of g steps (start_of g inputs)) ∙ sym (ap (told_of g) (run_rows g steps (start_of g inputs)))

@@ -6,7 +6,7 @@ use Rattle.semantics.specs.declared.graph.Kind.TheVariants.{Lit, Apply1, Apply2,
 use Rattle.semantics.specs.Graph.{Graph}
 use Rattle.semantics.specs.Meaning.{Context, tagged, taken, operands_from}
 use Rattle.semantics.specs.Meaning as Meaning
-use Rattle.determinacy.proofs.Options.{some_same}
+use Rattle.law_determinacy.proofs.Options.{some_same}
 use Rattle.oracle.specs.declared.invocations.Made.{Made}
 use Rattle.oracle.specs.declared.invocations.Made.TheVariants.{Main, Called, Turned}
 use Rattle.oracle.specs.declared.invocations.Invocation.{Invocation}

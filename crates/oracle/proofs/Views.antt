@@ -11,8 +11,8 @@ use Rattle.semantics.specs.declared.graph.Kind.{Kind}
 use Rattle.semantics.specs.declared.graph.Kind.TheVariants.{Lit, Apply1, Apply2, Cond, Enter, Merge, Fetch, Store, Call, StrictCall, Loop}
 use Rattle.semantics.specs.Graph.{Node as Row, Block, Graph, node_at}
 use Rattle.semantics.specs.WellFormed.{WellFormed, IsBlockWell, LiesWell}
-use Rattle.determinacy.proofs.Options.{some_same}
-use Rattle.determinacy.proofs.Resolved.{all_get}
+use Rattle.law_determinacy.proofs.Options.{some_same}
+use Rattle.law_determinacy.proofs.Resolved.{all_get}
 use Rattle.oracle.specs.declared.invocations.Made.{Made}
 use Rattle.oracle.specs.declared.invocations.Made.TheVariants.{Main, Called, Turned}
 use Rattle.oracle.specs.declared.invocations.Invocation.{Invocation}

@@ -6,14 +6,14 @@ use Rattle.tags.specs.declared.value.Value.{Value}
 use Rattle.semantics.specs.Graph.{Graph, Flow, flow_of}
 use Rattle.semantics.specs.Meaning.{Context, Statement, AtNode, Port, Tagged, tagged, Memory, State, Effect, Activity, taken, deed, done, adds, tokens_of, block_number, Step, AtRest, Clashes}
 use Rattle.semantics.specs.Meaning as Meaning
-use Rattle.determinacy.specs.Outcome.{NoClash}
-use Rattle.determinacy.proofs.Options.{some_same}
-use Rattle.determinacy.proofs.Perm.{Within, Each, put_first, put_later, each_within, within_append, within_right}
-use Rattle.determinacy.proofs.Keys.{Unique, Held, same_activity}
-use Rattle.determinacy.proofs.Deeds.{full_of}
-use Rattle.determinacy.proofs.Diamond.{deed_of, held_from}
-use Rattle.determinacy.proofs.Laws.{IsFlowWell}
-use Rattle.determinacy.proofs.Rest.{takes_some}
+use Rattle.law_determinacy.specs.Outcome.{NoClash}
+use Rattle.law_determinacy.proofs.Options.{some_same}
+use Rattle.law_determinacy.proofs.Perm.{Within, Each, put_first, put_later, each_within, within_append, within_right}
+use Rattle.law_determinacy.proofs.Keys.{Unique, Held, same_activity}
+use Rattle.law_determinacy.proofs.Deeds.{full_of}
+use Rattle.law_determinacy.proofs.Diamond.{deed_of, held_from}
+use Rattle.law_determinacy.proofs.Laws.{IsFlowWell}
+use Rattle.law_determinacy.proofs.Rest.{takes_some}
 use Rattle.oracle.specs.declared.invocations.Invocation.{Invocation}
 use Rattle.oracle.specs.declared.tokens.Spot.{Spot}
 use Rattle.oracle.specs.declared.tokens.Token.{Token}
@@ -42,13 +42,13 @@ within_map f x (y ∷ xs) (zs, inl h) = (map f xs, inl (ap f h.0, refl))
 within_map f x (y ∷ xs) (zs, inr h) = let ih = within_map f x xs (h.0, h.2) in (f y ∷ ih.0, put_later (f x) (f y) ih.0 (map f xs) ih.1)
 
 -- either all are of one kind, or one is of the other
-each_either : {X : Type 0} (P Q : X → Type 0) (xs : List X) → Each (λ x. P x ⊎ Q x) xs → Each P xs ⊎ ((x : X) × Within x xs × Q x)
+pub each_either : {X : Type 0} (P Q : X → Type 0) (xs : List X) → Each (λ x. P x ⊎ Q x) xs → Each P xs ⊎ ((x : X) × Within x xs × Q x)
 each_either P Q [] h = inl tt
 each_either P Q (x ∷ xs) (inl p, h) =
     ⊎_elim (λ r. inl (p, r)) (λ r. inr (r.0, (x ∷ r.1.0, put_later r.0 x r.1.0 xs r.1.1), r.2)) (each_either P Q xs h)
 each_either P Q (x ∷ xs) (inr q, h) = inr (x, (xs, put_first x xs), q)
 
-each_to : {X : Type 0} (P Q : X → Type 0) → ((x : X) → P x → Q x) → (xs : List X) → Each P xs → Each Q xs
+pub each_to : {X : Type 0} (P Q : X → Type 0) → ((x : X) → P x → Q x) → (xs : List X) → Each P xs → Each Q xs
 each_to P Q f [] h = tt
 each_to P Q f (x ∷ xs) h = (f x h.0, each_to P Q f xs h.1)
 

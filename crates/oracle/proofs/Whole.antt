@@ -9,10 +9,10 @@ use Rattle.semantics.specs.WellFormed.{WellFormed}
 use Rattle.semantics.specs.Faithful.{inputs_of}
 use Rattle.semantics.specs.Meaning.{Context, Tagged, Memory, State, Activity, Step, Run, Reached, start, entering}
 use Rattle.semantics.specs.Meaning as Meaning
-use Rattle.determinacy.proofs.Options.{some_same}
-use Rattle.determinacy.proofs.Perm.{each_append, each_weaker}
-use Rattle.determinacy.proofs.Resolved.{flow_well}
-use Rattle.determinacy.proofs.Theorems.{determinacy, second_store_from}
+use Rattle.law_determinacy.proofs.Options.{some_same}
+use Rattle.law_determinacy.proofs.Perm.{each_append, each_weaker}
+use Rattle.law_determinacy.proofs.Resolved.{flow_well}
+use Rattle.law_determinacy.proofs.Theorems.{determinacy, second_store_from}
 use Rattle.oracle.specs.declared.invocations.Made.TheVariants.{Main}
 use Rattle.oracle.specs.declared.invocations.Invocation.{Invocation}
 use Rattle.oracle.specs.declared.deeds.Deed.{Deed}
@@ -61,7 +61,7 @@ module _ (g : Graph) (well : WellFormed g) (inputs : List ℤ) where
   abbrev values : List Value
   values = map (λ (z : ℤ). Int z) inputs
 
-  begins : Follows g inputs 0 (start_of g inputs)
+  pub begins : Follows g inputs 0 (start_of g inputs)
   begins =
       let sound : Sound g 0 (start_of g inputs) = record {
         names = cs;

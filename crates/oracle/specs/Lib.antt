@@ -1,5 +1,6 @@
 pub mod Acting
 pub mod Agreeing
+pub mod Gathering
 pub mod Lines
 pub mod Meant
 pub mod Naming
@@ -8,3 +9,4 @@ pub mod Reporting
 pub mod Rows
 pub mod Running
 pub mod Sending
+pub mod Waves

@@ -23,7 +23,7 @@ IsBelow m (Turned by n i) = by < m
 abbrev pub CanEnter : Graph → List Context → ℕ → Made → ℕ → Type 0
 CanEnter g cs m made block = IsBelow m made × (block_number (flow_of g) (made_of cs made) ≡ Some block)
 
--- of so many invocations
+-- of m invocations
 abbrev pub IsKnown : Graph → List Context → ℕ → List Value → Deed → Type 0
 IsKnown g cs m vs (Sends c n p v) = c < m
 IsKnown g cs m vs (Tells c k v) = c < m

@@ -5,7 +5,7 @@ use Rattle.semantics.specs.Graph.{Graph, flow_of, first_cell, array_len}
 use Rattle.semantics.specs.Text.{HasText}
 use Rattle.semantics.specs.WellFormed.{WellFormed}
 use Rattle.semantics.specs.Meaning.{State, Activity, Step, Run, Reached, AtRest, Clashes, start}
-use Rattle.determinacy.specs.Outcome.{NoClash, IsOnlyOutcome}
+use Rattle.law_determinacy.specs.Outcome.{NoClash, IsOnlyOutcome}
 use Rattle.oracle.specs.declared.report.MeanEnd.{MeanEnd}
 use Rattle.oracle.specs.declared.report.MeanEnd.TheVariants.{Rest, Clash, Steps}
 use Rattle.oracle.specs.declared.report.Full.{Full}
@@ -38,7 +38,7 @@ IsOutcome g inputs s Rest = IsOnlyOutcome (flow_of g) inputs s
 IsOutcome g inputs s (Clash a i) = (other : State) → Reached (flow_of g) inputs other → AtRest (flow_of g) other → NoClash (flow_of g) other → ⊥
 IsOutcome g inputs s Steps = ⊤
 
--- A report is true: a run of the meaning of at most so many activities reaches a state with these outputs and full cells,
+-- A report is true: a run of the meaning of at most `steps` activities reaches a state with these outputs and full cells,
 -- and the end is as it says.
 pub record IsMeant (g : Graph) (inputs : List ℤ) (steps : ℕ) (end : MeanEnd) (outputs : List (Option Value)) (listed : List Full) : Type 0 where
   pub run : List Activity

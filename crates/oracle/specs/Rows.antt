@@ -20,6 +20,9 @@ rows_of (r ∷ rs) (suc c) = rows_of rs c
 abbrev pub with_row : (ℕ → List Token) → ℕ → List Token → ℕ → List Token
 with_row rows c r d = if d == c then r else rows d
 
+abbrev pub no_rows : ℕ → List Token
+no_rows c = []
+
 -- what comes next. The states have no list of tokens that wait: the rows stand beside them.
 pub data Next : Type 0 where
   Goes : (state : Plain) (rows : ℕ → List Token) (values : List Value) (deed : Deed) → Next
@@ -42,7 +45,7 @@ row_next g xs cells outputs (t ∷ ts) rows d =
 abbrev pub next_among : Graph → Plain → (ℕ → List Token) → Next
 next_among g s rows = row_next g s.invocations s.cells s.outputs s.fresh rows s.deferred
 
--- a run of at most so many activities
+-- a run of at most a given number of activities
 abbrev pub run_among : Graph → ℕ → Plain → (ℕ → List Token) → Option (MeanEnd × Plain)
 run_among g zero s rows = elim (next_among g s rows) [ Goes t rs vs d ↦ Some (Steps, t) | Stays t e ↦ Some (e, t) | Breaks ↦ None ]
 run_among g (suc k) s rows = elim (next_among g s rows) [ Goes t rs vs d ↦ run_among g k (performed g t vs d) rs | Stays t e ↦ Some (e, t) | Breaks ↦ None ]

@@ -143,7 +143,7 @@ performed g s vs (Reads c n x) = plain s.invocations (s.fresh ++ answered g s.in
 performed g s vs (Fills c n x a i v) = plain s.invocations ((s.fresh ++ s.deferred) ++ sent_in g s.invocations (sent_of c v) n 0) s.waiting [] (filled_in s.cells x v) s.outputs
 performed g s vs (Puts j v) = plain s.invocations s.fresh s.waiting s.deferred s.cells (filled_in s.outputs j v)
 
--- A RUN of at most so many activities
+-- A RUN of at most a given number of activities
 abbrev pub next_in : Graph → Plain → Came
 next_in g s = next_of g s.invocations s.cells s.outputs s.fresh s.waiting s.deferred
 
@@ -172,7 +172,7 @@ abbrev pub full_if : ℕ → ℕ → Option Value → List Full
 full_if a i None = []
 full_if a i (Some v) = record { array = a; index = i; value = v } ∷ []
 
--- from cell x on, which is index i of array a, so many cells
+-- from cell x on, which is index i of array a, a given number of cells
 abbrev pub full_from : List (Option Value) → ℕ → ℕ → ℕ → ℕ → List Full
 full_from cells a x i zero = []
 full_from cells a x i (suc n) = full_if a i (held_in cells x) ++ full_from cells a (x + 1) (i + 1) n

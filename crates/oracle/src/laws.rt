@@ -3,6 +3,7 @@
 ghost use Rattle.oracle.specs.Agreeing.{JoinsAgree, SendingAgrees};
 ghost use Rattle.oracle.specs.Naming.{DeedsAreKnown, EnteringAgrees};
 ghost use Rattle.oracle.specs.Reporting.{RunsEnd, ReportsAreTrue};
+ghost use Rattle.oracle.specs.Waves.{WorkIsOne, SpanIsLow};
 
 /// What the steps of a run do is what the meaning says: each join of a token with its partners is an activity of the
 /// meaning, with its deed, and no other token is touched; a deed names only what is there; an invocation that is entered
@@ -19,4 +20,11 @@ pub fn steps_agree()
 pub fn runs_are_meant()
     ensures ends { RunsEnd }
     ensures reports { ReportsAreTrue }
+{}
+
+/// What the waves say of every schedule. The work does not hang on the order: each run of the meaning to rest has just as many
+/// activities as the waves have in all. And there are at most as many waves as activities.
+pub fn waves_are_meant()
+    ensures work { WorkIsOne }
+    ensures span { SpanIsLow }
 {}

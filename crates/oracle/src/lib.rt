@@ -7,13 +7,16 @@ mod gather;
 mod invocations;
 mod laws;
 mod lines;
+mod profile;
 mod report;
 mod runs;
 mod sending;
 mod shapes;
 mod state;
 mod tokens;
+mod wave;
 
-pub use laws::{runs_are_meant, steps_agree};
-pub use report::{Full, MeanEnd, MeanFault, MeanReport};
+pub use laws::{runs_are_meant, steps_agree, waves_are_meant};
+pub use profile::waves;
+pub use report::{Full, MeanEnd, MeanFault, MeanReport, WaveReport};
 pub use runs::mean;

@@ -32,6 +32,14 @@ pub struct MeanReport<A: Allocator> {
     pub cells: Vec<Full, A>,
 }
 
+/// How the waves ended, and how many activities each has, which is at least one. Their sum is the work, and how many there are
+/// is the span.
+#[derive(Drop)]
+pub struct WaveReport<A: Allocator> {
+    pub end: MeanEnd,
+    pub counts: Vec<u64, A>,
+}
+
 /// Why a graph was not run.
 #[derive(Clone, Copy, Debug, Drop, PartialEq, Eq)]
 pub enum MeanFault {

@@ -19,7 +19,7 @@ use std::alloc::{AllocError, Allocator};
 use std::collections::VecDeque;
 use tags::value::Value;
 
-/// So many empty places.
+/// `count` empty places.
 fn empty<A: Allocator>(alloc: A, count: usize) -> Result<Vec<Option<Value>, A>, AllocError>
     ensures { IfOk result (λ v. v.items ≡ nones count) }
 {
@@ -28,7 +28,7 @@ fn empty<A: Allocator>(alloc: A, count: usize) -> Result<Vec<Option<Value>, A>, 
     Ok(places)
 }
 
-/// Adds so many empty places.
+/// Adds `count` empty places.
 fn push_empty<A: Allocator>(
     places: &mut Vec<Option<Value>, A>,
     count: usize,
@@ -71,7 +71,7 @@ fn entering<A: Allocator>(alloc: A, inputs: &[i64]) -> Result<VecDeque<Token, A>
 }
 
 /// The start of a run.
-fn start<'a, A: Allocator + Clone>(
+pub fn start<'a, A: Allocator + Clone>(
     alloc: A,
     checked: &Checked<'a, A>,
     inputs: &[i64],
@@ -89,7 +89,7 @@ fn start<'a, A: Allocator + Clone>(
     })
 }
 
-/// Does at most so many activities.
+/// Does at most `steps` activities.
 fn run<'a, A: Allocator + Clone>(
     checked: &Checked<'a, A>,
     state: &mut State<A>,
@@ -196,15 +196,15 @@ fn run_to_end<'a, A: Allocator + Clone>(
 }
 
 /// What the graph means on these inputs: a list of tagged tokens, one for each input at first, is rewritten one activity
-/// at a time, up to so many activities.
+/// at a time, up to `steps` activities.
 ///
 /// The first token in the list's order that can act acts first. New tokens go behind those that were not looked at yet,
 /// and tokens that were looked at and can't act behind all others. A run ends at rest, at the first store that has both
 /// operands and a full cell, or where one more activity than allowed is enabled.
 ///
-/// The report is true of the meaning: a run of at most so many of its activities, in some order, reaches a state that has
+/// The report is true of the meaning: a run of at most `steps` of its activities, in some order, reaches a state that has
 /// just the outputs and the full cells that are told. `Rest` is told only where no activity is enabled in that state and no
-/// store clashes, `Clash` only where a store clashes at that cell, and `Steps` only after just so many activities with one
+/// store clashes, `Clash` only where a store clashes at that cell, and `Steps` only after exactly `steps` activities with one
 /// more enabled. A rest is the only outcome: every other order of activities comes to the same one. After a clash none comes
 /// to rest without one.
 ///

@@ -14,7 +14,7 @@ use std::alloc::{AllocError, Allocator};
 /// An activity without the values that it takes.
 #[derive(Clone, Copy, Debug)]
 pub enum Shape {
-    /// A node takes so many operands, all at once.
+    /// A node takes this number of operands, all at once.
     Fires { node: usize, count: usize },
     /// An `enter` takes its source and its predicate.
     Gates { node: usize },

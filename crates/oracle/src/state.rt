@@ -43,7 +43,7 @@ pub struct Act<A: Allocator> {
 
 /// What the memory says to a deed.
 #[derive(Clone, Copy, Debug)]
-enum Gate {
+pub enum Gate {
     Free,
     /// The cell of a fetch is empty.
     Defers,
@@ -133,7 +133,7 @@ pub fn held(cells: &[Option<Value>], cell: usize) -> Option<Value>
 }
 
 /// Asks the cell of a fetch or a store.
-fn ask(cells: &[Option<Value>], deed: &Deed) -> Gate
+pub fn ask(cells: &[Option<Value>], deed: &Deed) -> Gate
     ensures { result ≡ Acting.gate_of cells.now deed.now }
 {
     match *deed {
@@ -161,7 +161,7 @@ fn ask(cells: &[Option<Value>], deed: &Deed) -> Gate
 }
 
 /// Joins a token with its partners, which wait in its invocation's row.
-fn join_among<'a, A: Allocator + Clone>(
+pub fn join_among<'a, A: Allocator + Clone>(
     checked: &Checked<'a, A>,
     invocations: &Invocations<A>,
     rows: &mut Vec<Row<A>, A>,

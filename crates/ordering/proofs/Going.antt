@@ -4,7 +4,7 @@ use Rattle.std.proofs.lemmas.Bool.{eqb-true}
 use Rattle.tags.specs.declared.token.Token.{Token}
 use Rattle.semantics.specs.Machine.{Events}
 use Rattle.rounds.specs.Turns.{by}
-use Rattle.free_runs.specs.Blocks.{Block, by_element}
+use Rattle.law_free_runs.specs.Blocks.{Block, by_element}
 use Rattle.ordering.specs.declared.log.Counts.{Counts}
 use Rattle.ordering.specs.declared.rest.Rest.{Rest}
 use Rattle.ordering.specs.Logs.{taken_in}

@@ -4,13 +4,13 @@ use Rattle.std.specs.Prelude.{All, IsPermutation, ◌==◌}
 use Rattle.std.proofs.lemmas.Bool.{eqb-true, eqb-false}
 use Rattle.std.proofs.lemmas.List.Elements.{All-contains, All-append, All-nil, All-cons, All-head, All-tail}
 use Rattle.std.proofs.lemmas.List.Sorted.{IsPermutation-refl, IsPermutation-sym, IsPermutation-trans}
-use Rattle.determinacy.proofs.Perm.{within_to, Meet, permutation_cancel, permutation_meet}
+use Rattle.law_determinacy.proofs.Perm.{within_to, Meet, permutation_cancel, permutation_meet}
 use Rattle.tags.specs.declared.token.Token.{Token}
 use Rattle.tags.specs.Addresses.{element_of}
 use Rattle.semantics.specs.Machine.{Events}
-use Rattle.free_runs.specs.Blocks.{Block, by_element, events_in, blocks_by, if_by, LeavesTokens}
-use Rattle.free_runs.proofs.Running.{by_same, by_other}
-use Rattle.free_runs.proofs.Reordering.{swapped, behind, takes_first}
+use Rattle.law_free_runs.specs.Blocks.{Block, by_element, events_in, blocks_by, if_by, LeavesTokens}
+use Rattle.law_free_runs.proofs.Running.{by_same, by_other}
+use Rattle.law_free_runs.proofs.Reordering.{swapped, behind, takes_first}
 use Rattle.ordering.specs.Rests.{with_spent, AreOwn, SameOthers, Leads}
 
 abbrev Tokens : Type 0

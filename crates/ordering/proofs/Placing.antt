@@ -5,8 +5,8 @@ use Rattle.std.proofs.lemmas.Bool.{eqb-true, eqb-false, ltb-true, ltb-false}
 use Rattle.std.proofs.lemmas.List.Sorted.{IsPermutation-sym}
 use Rattle.tags.specs.declared.token.Token.{Token}
 use Rattle.semantics.specs.Machine.{Events}
-use Rattle.free_runs.specs.Blocks.{Block, events_in, blocks_by, entry_of, LeavesTokens, AreBelow}
-use Rattle.free_runs.proofs.Running.{leaves_same, by_same}
+use Rattle.law_free_runs.specs.Blocks.{Block, events_in, blocks_by, entry_of, LeavesTokens, AreBelow}
+use Rattle.law_free_runs.proofs.Running.{leaves_same, by_same}
 use Rattle.ordering.specs.declared.log.Counts.{Counts}
 use Rattle.ordering.specs.declared.log.Log.{Log}
 use Rattle.ordering.specs.declared.rest.Rest.{Rest}

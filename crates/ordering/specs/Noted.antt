@@ -26,6 +26,6 @@ with_made n t = record { taken = n.taken; made = n.made ++ t ∷ []; blocks = n.
 abbrev pub with_block : Noted → Counts → Noted
 with_block n c = record { taken = n.taken; made = n.made; blocks = n.blocks ++ c ∷ [] }
 
--- there is room for so many events, made tokens and blocks more
+-- there is room for these numbers of further events, made tokens and blocks
 abbrev pub HasRoom : {A : Type 0} → ℕ → ℕ → ℕ → Log A → Type 0
 HasRoom events made blocks l = (vec_len l.taken + events ≤ vec_capacity l.taken) × (vec_len l.made + made ≤ vec_capacity l.made) × (vec_len l.blocks + blocks ≤ vec_capacity l.blocks)

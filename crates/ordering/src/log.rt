@@ -40,7 +40,7 @@ impl<A: Allocator> Log<A> {
         })
     }
 
-    /// Makes room for so many events, made tokens and blocks. After an error it notes what it did before.
+    /// Makes room for that number of events, made tokens and blocks. After an error it notes what it did before.
     pub fn reserve(&mut self, events: usize, made: usize, blocks: usize) -> Result<(), AllocError>
         ensures same { noted_in self.new ≡ noted_in self.old }
         ensures room { OnOk result (HasRoom events made blocks self.new) }
@@ -70,7 +70,7 @@ impl<A: Allocator> Log<A> {
         self.made.push_reserved(token);
     }
 
-    /// Ends a block of so many of the last events and made tokens.
+    /// Ends a block, which has that number of the last events and made tokens.
     pub fn end_block(&mut self, counts: Counts)
         requires { HasRoom 0 0 1 self.old }
         ensures noted { noted_in self.new ≡ with_block (noted_in self.old) counts }

@@ -3,7 +3,7 @@
 ghost use Rattle.std.specs.Prelude.{◌≡◌, ℕ, ◌+◌, ◌<◌, ◌≤◌, ◌++◌, List, length, take, drop, OnOk, IfOk, true, false};
 ghost use Rattle.tags.specs.declared.token.Token.{Token};
 ghost use Rattle.rounds.specs.Turns.{by};
-ghost use Rattle.free_runs.specs.Blocks.{Block};
+ghost use Rattle.law_free_runs.specs.Blocks.{Block};
 ghost use Rattle.ordering.specs.Pools.{amount, all_copies};
 ghost use Rattle.ordering.specs.Rests.{first_spent, IsWhole, StandsFor, Holds, TakesNeeded, GoesOn, IsStuck};
 
@@ -22,7 +22,7 @@ pub struct Rest<'l> {
     pub blocks: &'l [Counts],
 }
 
-// The first so many of the tokens, and the others.
+// The first `count` tokens, and the others.
 fn split(tokens: &[Token], count: usize) -> (&[Token], &[Token])
     ensures front { result.0.now ≡ take count tokens.now }
     ensures back { result.1.now ≡ drop count tokens.now }

@@ -18,7 +18,7 @@ fn token(frame: u32, number: i64) -> Token {
     }
 }
 
-/// Notes a block that spends so many of the tokens that its events took.
+/// Notes a block that spends that number of the tokens that its events took.
 fn note<A: Allocator>(
     log: &mut Log<A>,
     taken: &[Token],

@@ -1,10 +1,10 @@
--- Arrays that are named by their numbers.
+-- Arrays that are named by their numbers instead of names.
 use Rattle.std.proofs.Common.{◌≡◌, ◌<◌, ◌≤◌, ◌+◌, ◌-◌, ℕ, zero, suc, List, [], ◌∷◌, length, drop, Bool, true, false, Option, Some, None, refl, sym, ap, ◌∙◌, arith}
 use Rattle.std.proofs.lemmas.List.{drop_all}
 use Rattle.std.specs.Prelude.{decimal, nat_lt, slice_get, if◌then◌else◌}
 use Rattle.report_text.specs.ReportText.{Arrays, name_of, name_at, named_by_number, place_in}
 
--- the array of a number
+-- the array with a given number
 from_place : (lens : List ℕ) (n : ℕ) (len : ℕ) → slice_get lens n ≡ Some len → drop n lens ≡ len ∷ drop (suc n) lens
 from_place [] n len e = cc
 from_place (l ∷ lens) zero len e = cc
@@ -24,7 +24,7 @@ unnamed [] k n le = refl
 unnamed (l ∷ lens) k zero le = absurd (omega (arith, le))
 unnamed (l ∷ lens) k (suc n) le = unnamed lens (k + 1) n (omega (arith, le))
 
--- a cell in the array at hand, or behind it
+-- a cell in the first array of the list, or in one after it
 step : (lens rest : List ℕ) (n len i : ℕ) (b : Bool) → lens ≡ len ∷ rest → nat_lt i len ≡ b
     → place_in (named_by_number n lens) i ≡ (if b then Some (decimal n, i) else place_in (named_by_number (n + 1) rest) (i - len))
 unfolding named_by_number

@@ -35,7 +35,7 @@ found_text (Some v) = value_text v
 abbrev pub output_line : ℕ → Option Value → List ℕ
 output_line port v = line (codes "output" ++ field (decimal port) ++ field (found_text v))
 
--- in order of the ports, which are numbered from 0 on
+-- in the order of the ports, which are numbered from 0
 abbrev pub outputs_text : List (Option Value) → List ℕ
 outputs_text outputs = numbered output_line 0 outputs
 
@@ -48,11 +48,11 @@ abbrev pub name_of : Option (List ℕ × ℕ) → List ℕ
 name_of None = []
 name_of (Some a) = a.0
 
--- the name of the array at that place
+-- the name of the array with this number
 abbrev pub name_at : Arrays → ℕ → List ℕ
 name_at arrays place = name_of (slice_get arrays place)
 
--- Cells are numbered through all arrays: the name of the array that a cell lies in, and its index there.
+-- Cells are numbered through all arrays: the name of the array in which a cell lies, and its index there.
 abbrev pub place_in : Arrays → ℕ → Option (List ℕ × ℕ)
 place_in [] cell = None
 place_in (a ∷ arrays) cell = if nat_lt cell a.1 then Some (a.0, cell) else place_in arrays (cell - a.1)

@@ -1,4 +1,4 @@
-//! The lines of the full cells.
+//! The lines of full cells.
 
 ghost use Rattle.std.specs.Prelude.{◌≡◌, ◌++◌, ◌∷◌, [], ℕ, List, codes, decimal, flat_map, option_map};
 ghost use Rattle.semantics.specs.Text.{field, line};
@@ -13,7 +13,7 @@ use sink::{send, send_all};
 use std::io::{self, Write};
 use tags::value::Value;
 
-/// The name of the array at that place, and none where there is no array.
+/// The name of array number `place`; empty where there is no such array.
 pub(crate) fn name_at<'t>(arrays: &[Array<'t>], place: usize) -> &'t [u8]
     ensures { result.now ≡ name_at arrays.now place }
 {
@@ -23,7 +23,7 @@ pub(crate) fn name_at<'t>(arrays: &[Array<'t>], place: usize) -> &'t [u8]
     }
 }
 
-/// The name of the array that the cell lies in, and the cell's index there.
+/// The name of the array in which the cell lies, and the cell's index in it.
 fn place_in<'t>(arrays: &[Array<'t>], cell: u32) -> Option<(&'t [u8], u32)>
     ensures { option_map (λ p. (p.0.now, p.1)) result ≡ place_in arrays.now cell }
 {
@@ -37,7 +37,7 @@ fn place_in<'t>(arrays: &[Array<'t>], cell: u32) -> Option<(&'t [u8], u32)>
     None
 }
 
-/// What the line of a full cell begins with that has an index in an array of that name.
+/// Writes the beginning of a full cell's line: the array's name and the cell's index in it.
 fn send_place<W: Write>(writer: &mut W, name: &[u8], index: u32) -> io::Result<()>
     ensures { Sends result (W.contents writer.old) (W.contents writer.new) (codes "cell " ++ (name.now ++ field (decimal index))) }
 {
@@ -48,7 +48,7 @@ fn send_place<W: Write>(writer: &mut W, name: &[u8], index: u32) -> io::Result<(
     )
 }
 
-/// The line of a full cell that has an index in an array of that name.
+/// Writes the line of a full cell, which is given by its array's name and its index there.
 pub(crate) fn send_named<W: Write>(
     writer: &mut W,
     name: &[u8],
@@ -61,7 +61,7 @@ pub(crate) fn send_named<W: Write>(
     send_value(writer, value)
 }
 
-/// The line of a full cell that lies past the last array.
+/// Writes the line of a full cell that lies past the last array.
 pub(crate) fn send_unplaced<W: Write>(writer: &mut W, value: Value) -> io::Result<()>
     ensures { Sends result (W.contents writer.old) (W.contents writer.new) (cell_text [] value) }
 {
@@ -69,7 +69,7 @@ pub(crate) fn send_unplaced<W: Write>(writer: &mut W, value: Value) -> io::Resul
     send_value(writer, value)
 }
 
-/// The line of a full cell that has a number over all arrays.
+/// Writes the line of a full cell, which is given by its number over all arrays.
 fn send_cell<W: Write>(writer: &mut W, arrays: &[Array<'_>], cell: &(u32, Value)) -> io::Result<()>
     ensures { Sends result (W.contents writer.old) (W.contents writer.new) (cell_line arrays.now cell.now) }
 {
@@ -80,7 +80,7 @@ fn send_cell<W: Write>(writer: &mut W, arrays: &[Array<'_>], cell: &(u32, Value)
     }
 }
 
-/// The lines of the full cells that have numbers over all arrays.
+/// Writes the lines of the full cells, which are given by their numbers over all arrays.
 pub(crate) fn send_cells<W: Write>(
     writer: &mut W,
     arrays: &[Array<'_>],
@@ -94,14 +94,14 @@ pub(crate) fn send_cells<W: Write>(
     Ok(())
 }
 
-/// The line of a full cell of the meaning.
+/// Writes the line of a full cell of the meaning.
 fn send_full<W: Write>(writer: &mut W, arrays: &[Array<'_>], full: &Full) -> io::Result<()>
     ensures { Sends result (W.contents writer.old) (W.contents writer.new) (full_line arrays.now full.now) }
 {
     send_named(writer, name_at(arrays, full.array), full.index, full.value)
 }
 
-/// The lines of the full cells of the meaning.
+/// Writes the lines of the full cells of the meaning.
 pub(crate) fn send_fulls<W: Write>(
     writer: &mut W,
     arrays: &[Array<'_>],

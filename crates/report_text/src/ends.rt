@@ -1,4 +1,4 @@
-//! What waits at the end of a run, and the line of its end.
+//! What waits at the end of a run, and the line that tells the end.
 
 ghost use Rattle.std.specs.Prelude.{◌≡◌, ◌++◌, ◌∷◌, [], ℕ, List, codes, decimal};
 ghost use Rattle.semantics.specs.Text.{field, line};
@@ -15,7 +15,7 @@ use sink::{send, send_all};
 use std::alloc::Allocator;
 use std::io::{self, Write};
 
-/// The lines of what waits: readers, requests for frames and for credits, and how many frames are out.
+/// Writes the lines that tell what waits: deferred readers, requests for frames and for credits, and how many frames are out.
 pub(crate) fn send_counts<A: Allocator, W: Write>(
     writer: &mut W,
     report: &Report<A>,
@@ -46,7 +46,7 @@ pub(crate) fn send_counts<A: Allocator, W: Write>(
     )
 }
 
-/// The last line of a run in which a store met a full cell.
+/// Writes the last line of a run in which a store met a full cell.
 fn send_clash<W: Write>(
     writer: &mut W,
     arrays: &[Array<'_>],
@@ -61,7 +61,7 @@ fn send_clash<W: Write>(
     send_all(writer, &[b"end Clash ", name, b" ", index, b"\n"])
 }
 
-/// The last line of a report.
+/// Writes the last line of a report.
 pub(crate) fn send_end<W: Write>(writer: &mut W, arrays: &[Array<'_>], end: End) -> io::Result<()>
     ensures { Sends result (W.contents writer.old) (W.contents writer.new) (end_line arrays.now end) }
 {
@@ -82,7 +82,7 @@ pub(crate) fn send_end<W: Write>(writer: &mut W, arrays: &[Array<'_>], end: End)
     }
 }
 
-/// The last line of what the meaning gave.
+/// Writes the last line of what the meaning gave.
 pub(crate) fn send_meaning_end<W: Write>(
     writer: &mut W,
     arrays: &[Array<'_>],

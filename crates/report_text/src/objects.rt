@@ -1,4 +1,4 @@
-//! The report of a run of an object, whose arrays have numbers and no names.
+//! The report of a run of an object, whose arrays have numbers instead of names.
 
 ghost use Rattle.std.specs.Prelude.{◌≡◌, flat_map, decimal, option_map};
 ghost use Rattle.report_text.specs.ReportText.{name_at, place_in, cell_line, clash_line, end_line, named_by_number, object_report_text};
@@ -16,7 +16,7 @@ use std::alloc::Allocator;
 use std::io::{self, Write};
 use tags::value::Value;
 
-/// The digits of the array's number, which the buffer keeps, and none where there is no array of that number.
+/// The digits of the array's number, written into the buffer; empty where there is no array with this number.
 fn name_at<'b>(buffer: &'b mut Buffer, object: &Object<'_>, number: u32) -> &'b [u8]
     ensures { result.now ≡ name_at (named_by_number 0 object.now.code.program.arrays) number }
 {
@@ -27,7 +27,7 @@ fn name_at<'b>(buffer: &'b mut Buffer, object: &Object<'_>, number: u32) -> &'b 
     }
 }
 
-/// The number of the array that the cell lies in, and the cell's index there.
+/// The number of the array in which the cell lies, and the cell's index in it.
 fn place_in(object: &Object<'_>, cell: u32) -> Option<(u32, u32)>
     ensures { option_map (λ p. (decimal p.0, p.1)) result ≡ place_in (named_by_number 0 object.now.code.program.arrays) cell }
 {
@@ -44,7 +44,7 @@ fn place_in(object: &Object<'_>, cell: u32) -> Option<(u32, u32)>
     None
 }
 
-/// The line of a full cell that has a number over all arrays.
+/// Writes the line of a full cell, which is given by its number over all arrays.
 fn send_cell<W: Write>(writer: &mut W, object: &Object<'_>, cell: &(u32, Value)) -> io::Result<()>
     ensures { Sends result (W.contents writer.old) (W.contents writer.new) (cell_line (named_by_number 0 object.now.code.program.arrays) cell.now) }
 {
@@ -58,7 +58,7 @@ fn send_cell<W: Write>(writer: &mut W, object: &Object<'_>, cell: &(u32, Value))
     }
 }
 
-/// The lines of the full cells that have numbers over all arrays.
+/// Writes the lines of the full cells, which are given by their numbers over all arrays.
 fn send_cells<W: Write>(
     writer: &mut W,
     object: &Object<'_>,
@@ -72,7 +72,7 @@ fn send_cells<W: Write>(
     Ok(())
 }
 
-/// The last line of a run in which a store met a full cell.
+/// Writes the last line of a run in which a store met a full cell.
 fn send_clash<W: Write>(
     writer: &mut W,
     object: &Object<'_>,
@@ -88,7 +88,7 @@ fn send_clash<W: Write>(
     send_all(writer, &[b"end Clash ", name, b" ", index, b"\n"])
 }
 
-/// The last line of a report. All but a clash have the same one with names.
+/// Writes the last line of a report. Only for a clash does it differ from the line of a report with names.
 fn send_object_end<W: Write>(writer: &mut W, object: &Object<'_>, end: End) -> io::Result<()>
     ensures { Sends result (W.contents writer.old) (W.contents writer.new) (end_line (named_by_number 0 object.now.code.program.arrays) end) }
 {

@@ -1,4 +1,4 @@
-//! Values, and the lines of the outputs.
+//! Values, and the lines of outputs.
 
 ghost use Rattle.std.specs.Prelude.{◌≡◌, ◌++◌, ◌∷◌, [], ℕ, List, codes, decimal};
 ghost use Rattle.semantics.specs.Text.{field, line};
@@ -12,7 +12,7 @@ use sink::{send, send_all};
 use std::io::{self, Write};
 use tags::value::{FaultKind, Origin, Value};
 
-/// The word of a fault's kind.
+/// The word for a kind of fault.
 fn kind_word(kind: FaultKind) -> &'static [u8]
     ensures { result.now ≡ kind_word kind }
 {
@@ -22,14 +22,14 @@ fn kind_word(kind: FaultKind) -> &'static [u8]
     }
 }
 
-/// What a fault begins with, with the space before it.
+/// Writes the beginning of a fault, with a space before it.
 fn send_kind<W: Write>(writer: &mut W, kind: FaultKind) -> io::Result<()>
     ensures { Sends result (W.contents writer.old) (W.contents writer.new) (field (codes "fault" ++ field (kind_word kind))) }
 {
     send_all(writer, &[b" fault ", kind_word(kind)])
 }
 
-/// Where a fault was made, if that is told, at the end of a line.
+/// Writes where a fault was made, if that is told, and ends the line.
 fn send_origin<W: Write>(writer: &mut W, origin: Origin) -> io::Result<()>
     ensures { Sends result (W.contents writer.old) (W.contents writer.new) (line (origin_text origin)) }
 {
@@ -45,7 +45,7 @@ fn send_origin<W: Write>(writer: &mut W, origin: Origin) -> io::Result<()>
     }
 }
 
-/// A fault at the end of a line, with the space before it.
+/// Writes a fault, with a space before it, and ends the line.
 fn send_fault<W: Write>(writer: &mut W, kind: FaultKind, origin: Origin) -> io::Result<()>
     ensures { Sends result (W.contents writer.old) (W.contents writer.new) (line (field (value_text (Fault kind origin)))) }
 {
@@ -53,7 +53,7 @@ fn send_fault<W: Write>(writer: &mut W, kind: FaultKind, origin: Origin) -> io::
     send_origin(writer, origin)
 }
 
-/// A value at the end of a line, with the space before it.
+/// Writes a value, with a space before it, and ends the line.
 pub(crate) fn send_value<W: Write>(writer: &mut W, value: Value) -> io::Result<()>
     ensures { Sends result (W.contents writer.old) (W.contents writer.new) (line (field (value_text value))) }
 {
@@ -66,7 +66,7 @@ pub(crate) fn send_value<W: Write>(writer: &mut W, value: Value) -> io::Result<(
     }
 }
 
-/// What the line of an output port begins with.
+/// Writes the beginning of an output port's line.
 fn send_port<W: Write>(writer: &mut W, port: usize) -> io::Result<()>
     ensures { Sends result (W.contents writer.old) (W.contents writer.new) (codes "output" ++ field (decimal port)) }
 {
@@ -74,7 +74,7 @@ fn send_port<W: Write>(writer: &mut W, port: usize) -> io::Result<()>
     send_all(writer, &[b"output ", digits.format(port).as_bytes()])
 }
 
-/// The line of an output port, `-` where the output is missing.
+/// Writes the line of an output port, with `-` where the output is missing.
 fn send_output<W: Write>(writer: &mut W, port: usize, output: &Option<Value>) -> io::Result<()>
     ensures { Sends result (W.contents writer.old) (W.contents writer.new) (output_line port output.now) }
 {
@@ -85,7 +85,7 @@ fn send_output<W: Write>(writer: &mut W, port: usize, output: &Option<Value>) ->
     }
 }
 
-/// The lines of the outputs, by their ports.
+/// Writes the lines of the outputs, in the order of their ports.
 pub(crate) fn send_outputs<W: Write>(writer: &mut W, outputs: &[Option<Value>]) -> io::Result<()>
     ensures { Sends result (W.contents writer.old) (W.contents writer.new) (outputs_text outputs.now) }
 {

@@ -10,7 +10,7 @@ pub trait Gate {
     /// The element begins its turn.
     fn enter(&self, element: u32);
 
-    /// Whether an element that has a token, and has made so many blocks of events, may make one more.
+    /// Whether an element that has a token, and has made this number of blocks of events, may make one more.
     fn go_on(&self, _element: u32, _blocks: u64) -> bool
         ensures { result ≡ false → may_stop ≡ true }
     {

@@ -7,6 +7,7 @@ ghost use Rattle.schedule.specs.State.{AllFrom, IsAt, delivered};
 ghost use Rattle.rounds.specs.Rounds.{lane_held, lanes_held, tokens_sent, events_noted, halts_in};
 
 use crate::turn::Turner;
+use element::dealt::element_for;
 use std::alloc::{AllocError, Allocator};
 use tags::token::Token;
 
@@ -37,7 +38,7 @@ fn receive<A: Allocator>(
     ensures halts { halts_in turners.new.items ≡ halts_in turners.old.items }
     ensures count { length turners.new.items ≡ length turners.old.items }
 {
-    let element = token.to.element(elements) as usize;
+    let element = element_for(&token.to, elements) as usize;
     let turner = &mut turners[element];
     receive_one(turner, token)
 }

@@ -45,7 +45,7 @@ fn note<A: Allocator>(log: &mut Vec<(u32, Token), A>, listed: bool, element: u32
     }
 }
 
-/// The lane takes its oldest tokens, up to so many.
+/// The lane takes its oldest tokens, up to `turn` of them.
 pub fn take_turn<C: MainCode, A: Allocator + Clone>(
     lane: &mut Lane<'_, A>,
     sent: &mut Vec<Token, A>,

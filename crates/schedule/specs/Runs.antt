@@ -63,7 +63,7 @@ Plays listed (p ∷ picks) s last halt evs =
     (next : State) × (now : Events) × (later : Events) × (why : Option Halt) × Advances listed s p.0 p.1 next now why × (evs ≡ now ++ later)
     × Then why next last halt later (Plays listed picks next last halt later)
 
--- the oldest token of each of so many elements from the k-th on
+-- the oldest token of each of a number of elements from the k-th on
 abbrev pub in_turn : ℕ → ℕ → List (ℕ × ℕ)
 in_turn k zero = []
 in_turn k (suc n) = (k, 0) ∷ in_turn (suc k) n
@@ -90,7 +90,7 @@ HaltsAs s listed (Halt.Stuck rule) = (e : ℕ) × (pick : ℕ) × IsStuckAt s e 
 HaltsAs s listed Halt.Memory = Unit {0}
 HaltsAs s listed Halt.Stop = ⊥
 
--- how a run ends that halts so, with so many requests for frames and credits that wait; and which array a cell is in
+-- how a run ends that halts so, by the numbers of requests for frames and credits that wait; and which array a cell is in
 abbrev pub EndsWith : Program → End → ℕ → ℕ → Halt → Type 0
 EndsWith p end frames credits Halt.NoToken = ((end ≡ End.Rest) × (frames ≡ 0) × (credits ≡ 0)) ⊎ ((end ≡ End.Starved) × ((0 < frames) ⊎ (0 < credits)))
 EndsWith p end frames credits (Halt.Clash cell) = (a : ℕ) × (i : ℕ) × (end ≡ End.Clash a i) × (a < length p.arrays) × (i < array_len p a) × (array_base p a + i ≡ cell)

@@ -11,7 +11,7 @@ inputs_in (Some b) = b.inputs
 abbrev pub inputs_of : Program → ℕ
 inputs_of p = inputs_in (slice_get p.blocks p.main)
 
--- each slot that an instruction uses is one of so many
+-- each slot that an instruction uses is below `width`
 abbrev pub FitsSlots : Program → ℕ → Type 0
 FitsSlots p width = (ip : ℕ) (i : Instr) → instr_at p ip ≡ Some i → i.slot < width
 

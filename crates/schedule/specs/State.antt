@@ -29,7 +29,7 @@ delivered ts lanes = map (λ (h : Held). queued h ts) lanes
 abbrev pub tokens_in : List Held → List Token
 tokens_in lanes = flat_map (λ (h : Held). h.queue) lanes
 
--- the lane is that of its place, of so many
+-- the lane is that of its place, of n
 abbrev pub IsAt : ℕ → ℕ → Held → Type 0
 IsAt n i h = (h.part.shape.element ≡ i) × (h.part.shape.elements ≡ n)
 

@@ -77,7 +77,7 @@ TellsLanes g lanes outputs cells deferred requests credits out =
     × (deferred ≡ sum_below (sum g.program.arrays) (λ x. cell_readers g.elements lanes x)) × (requests ≡ requests_in first.part.manager)
     × (credits ≡ sum_below (total g) (λ f. credits_below g.elements lanes g.width f)) × (out ≡ out_in first.part.manager)
 
--- the report of the machine before its first event, with so many outputs
+-- the report of the machine before its first event, with `outputs` outputs
 abbrev pub opening_picture : ℕ → Report
 opening_picture outputs = record { end = End.Memory; outputs = replicate outputs None; cells = []; deferred = 0; waiting_frames = 0; waiting_credits = 0; frames_out = 1; events = [] }
 

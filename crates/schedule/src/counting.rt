@@ -26,7 +26,7 @@ fn list_full<A: Allocator>(
     Ok(())
 }
 
-/// The full ones of so many cells with their values, in order.
+/// The full ones of the first `cells` cells with their values, in order.
 pub fn full_cells<A: Allocator>(
     alloc: A,
     lanes: &[Lane<'_, A>],
@@ -45,7 +45,7 @@ pub fn full_cells<A: Allocator>(
     Ok(full)
 }
 
-/// How many readers wait in so many cells. More than a number of 64 bits counts are refused like a growth.
+/// How many readers wait in the first `cells` cells. More than a number of 64 bits counts are refused like a growth.
 pub fn deferred<A: Allocator>(
     lanes: &[Lane<'_, A>],
     elements: u32,

@@ -6,6 +6,7 @@ ghost use Rattle.tags.specs.Addresses.{element_of};
 ghost use Rattle.element.specs.Held.{held_of};
 ghost use Rattle.schedule.specs.State.{AllFrom, IsAt, delivered, lanes_of};
 
+use element::dealt::element_for;
 use element::lane::Lane;
 use std::alloc::{AllocError, Allocator};
 use tags::token::Token;
@@ -23,7 +24,7 @@ pub fn receive<A: Allocator>(
     ensures err { OnErr result (map held_of lanes.new.items ≡ map held_of lanes.old.items) }
     ensures count { length lanes.new.items ≡ length lanes.old.items }
 {
-    let element = token.to.element(elements) as usize;
+    let element = element_for(&token.to, elements) as usize;
     let lane = &mut lanes[element];
     lane.receive(token)
 }
@@ -92,7 +93,7 @@ pub fn has_token_for(tokens: &[Token], start: usize, elements: u32, element: u32
     ensures { result ≡ list_any (λ t. element_of elements t.to == element) (drop start tokens.now) }
 {
     for place in start..tokens.len() {
-        if tokens[place].to.element(elements) == element {
+        if element_for(&tokens[place].to, elements) == element {
             return true;
         }
     }

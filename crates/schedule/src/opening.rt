@@ -17,7 +17,7 @@ use frame_store::store::Store;
 use istructure::Cells;
 use std::alloc::{AllocError, Allocator};
 
-// The frame manager of so many frames, on element 0.
+// The frame manager of `frames` frames, on element 0.
 fn manager_at<A: Allocator>(
     alloc: A,
     element: u32,

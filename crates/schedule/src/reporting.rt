@@ -16,7 +16,7 @@ use semantics::report::End;
 use std::alloc::{AllocError, Allocator};
 use tags::token::Token;
 
-// How a run ends that halts so, with so many requests that wait.
+// How a run ends that halts so, by the number of requests that wait.
 fn end_of<C: MainCode>(code: &C, halt: Halt, frames: u64, credits: u64) -> End
     requires { NamesCell (C.program code.now) halt }
     ensures { EndsWith (C.program code.now) result frames credits halt }

@@ -21,7 +21,7 @@ GoesTo f ip q t = t.to ≡ To.Instr f ip q
 abbrev pub AsksFor : ℕ → ℕ → Port → Token → Type 0
 AsksFor f ip q t = t.word ≡ Word.Back (Cont.Frame f ip q)
 
--- the token links a landing of so many instructions, and the port is one of them
+-- the token links a landing of `size` instructions, and the port is one of them
 abbrev pub Lands : ℕ → ℕ → ℕ → Port → Token → Type 0
 Lands size f ip q t = (base : ℕ) × (t.word ≡ Word.Back (Cont.Frame f base Left)) × (base ≤ ip) × (ip < base + size) × (q ≡ Left)
 

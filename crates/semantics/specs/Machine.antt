@@ -34,7 +34,7 @@ pub record Machine : Type 0 where
   pub store : Store
   pub pool : List Token
 
--- so many elements, each with so many frames
+-- how many elements there are, and how many frames each has
 pub record Size : Type 0 where
   pub elements : ℕ
   pub frames : ℕ

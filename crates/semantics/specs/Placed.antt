@@ -4,7 +4,7 @@ use Rattle.semantics.specs.Program.{CodeBlock, Program}
 use Rattle.semantics.specs.Plan.{Plan}
 use Rattle.semantics.specs.Sharing.{placed_instrs}
 
--- one more than the greatest: so many slots does a block need
+-- one more than the greatest: how many slots a block needs
 abbrev pub needed : List ℕ → ℕ
 needed [] = 0
 needed (s ∷ ss) = max (s + 1) (needed ss)

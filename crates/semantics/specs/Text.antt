@@ -99,7 +99,7 @@ abbrev pub IsWrittenRegion : Region → Type 0
 IsWrittenRegion Root = ⊤
 IsWrittenRegion (Arm k side) = IsNumber k
 
--- a kind with so many sources has a line of that version: only `call`, `scall` and `loop` have any number up to 16
+-- a kind with n sources has a line of that version: only `call`, `scall` and `loop` have any number up to 16
 abbrev pub HasLine : ℕ → Kind (List ℕ) → ℕ → Type 0
 HasLine v (Lit z) n = FitsSigned w64 z × (n ≡ 1)
 HasLine v (Apply1 op) n = n ≡ 1

@@ -9,15 +9,12 @@ use Rattle.tags.specs.declared.slot.SlotState.TheVariants.{Empty}
 use Rattle.semantics.specs.Rule.{token}
 use Rattle.semantics.specs.Machine.{Machine, Size, Events, Run, at_start}
 use Rattle.semantics.specs.Plan.{Plan}
-use Rattle.semantics.specs.Sharing.{Good}
 use Rattle.semantics.specs.Cause.{request_count, credit_count}
-use Rattle.semantics.specs.Orderly.{Orderly, IsStart}
 use Rattle.semantics.specs.Handed.{UsesEachOnce}
 use Rattle.semantics.specs.Placed.{placed}
 use Rattle.semantics.specs.Renamed.{re_token, re_slot, re_cell}
-use Rattle.semantics.specs.Wired.{IsWired}
 
--- Of so many frames in all, the use of frame g after so many releases of it is the frame of this number.
+-- Of `total` frames in all, the use of frame g after `gen g` releases of it is the frame of this number.
 abbrev pub use_of : ℕ → (ℕ → ℕ) → ℕ → ℕ
 use_of total gen g = g + gen g * total
 
@@ -64,8 +61,3 @@ pub record HasUnfolded (p : Plan) (slots : List (List ℕ)) (z : Size) (inputs :
   pub event_count : length events ≡ length unfolded + length m.store.requests
   pub requests : request_count events ≡ request_count unfolded + length m.store.requests
   pub credits : credit_count (placed p slots) events ≡ credit_count p.program unfolded
-
--- The law: each run over good slots of an orderly plan has its unfolded run.
-abbrev pub EachRunUnfolds : Plan → List (List ℕ) → Type 0
-EachRunUnfolds p slots = IsWired p → Good p slots → Orderly p → (inputs : List ℤ) (z : Size) (events : Events) (m : Machine) → IsStart p z inputs
-    → Run (placed p slots) z (at_start (placed p slots) inputs) events m → HasUnfolded p slots z inputs events m

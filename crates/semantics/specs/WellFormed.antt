@@ -32,7 +32,7 @@ abbrev pub IsRegion : Block (List ℕ) → ℕ → Region → Type 0
 IsRegion b n Root = ⊤
 IsRegion b n (Arm k side) = (k < n) × IsCond b k
 
--- a block of that name is there, with so many inputs and outputs
+-- a block of that name is there, with these numbers of inputs and outputs
 abbrev pub HasShape : Graph → List ℕ → ℕ → ℕ → Type 0
 HasShape g name inputs outputs = (b : Block (List ℕ)) × Contains g.blocks (name, b) × (b.inputs ≡ inputs) × (b.outputs ≡ outputs)
 

@@ -3,7 +3,7 @@
 use operators::{Binary, Unary};
 use tags::token::Port;
 
-/// A later instruction of the same block, so many instructions on, and one of its ports.
+/// A later instruction of the same block, by its distance in instructions, and one of its ports.
 #[derive(Clone, Copy, Debug, PartialEq, Eq)]
 pub struct Dest {
     pub ahead: u32,

@@ -9,7 +9,7 @@ pub enum End {
     Starved,
     /// A store met a full cell; its token and the cell stay.
     Clash { array: u8, index: u32 },
-    /// An element that had made so many steps as were allowed had a token to take.
+    /// An element that had made as many steps as were allowed had a token to take.
     Steps,
     /// A token met a case that the rule of this number excludes.
     Stuck { rule: u8 },

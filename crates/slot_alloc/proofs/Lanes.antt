@@ -1,5 +1,5 @@
 -- Each lane of the pass over words is the pass for one choice of arcs.
-use Rattle.std.proofs.Common.{◌≡◌, refl, sym, ap, ◌∙◌, ℕ, zero, suc, ◌+◌, ◌^◌, ◌<◌, min, max, Bool, true, false, ◌&&◌, ◌||◌, ◌==◌, nat_lt, List, [], ◌∷◌, map, length, replicate, get_or, set, cond, Option, Some, None, ⊎_elim, arith, bit_and, bit_or}
+use Rattle.std.proofs.Common.{◌≡◌, refl, sym, ap, ◌∙◌, ℕ, zero, suc, ◌+◌, ◌^◌, ◌<◌, min, max, Bool, true, false, not, ◌&&◌, ◌||◌, ◌==◌, nat_lt, List, [], ◌∷◌, map, length, replicate, get_or, set, cond, Option, Some, None, ⊎_elim, arith, bit_and, bit_or}
 use Rattle.std.specs.Int.{bit_at}
 use Rattle.std.proofs.lemmas.Bool.{cases_eq, eq-eqb, ne_eqb}
 use Rattle.std.proofs.lemmas.Nat.{one_shl}
@@ -80,13 +80,13 @@ module _ (k : ℕ) where
   inflow_of true false = NotAll
 
   abbrev pub flow_at : Flow → Inflow
-  flow_at x = inflow_of x.some (lane_bit k x.lanes)
+  flow_at x = inflow_of (not (x.arcs == 0)) (lane_bit k x.lanes)
 
   abbrev pub pair_at : Flows → Inlets
   pair_at x = record { left = flow_at x.left; right = flow_at x.right }
 
   flow_with_at : (x : Flow) (w : ℕ) → flow_at (words.flow_with x w) ≡ inflow_with (flow_at x) (lane_bit k w)
-  flow_with_at x w = go x.some
+  flow_with_at x w = go (x.arcs == 0)
     where
       first : (b : Bool) → inflow_of true b ≡ inflow_with Bare b
       first true = refl
@@ -98,20 +98,20 @@ module _ (k : ℕ) where
       more false true = refl
       more false false = refl
 
-      go : (s : Bool) → inflow_of true (lane_bit k (cond s (bit_and x.lanes w) w)) ≡ inflow_with (inflow_of s (lane_bit k x.lanes)) (lane_bit k w)
-      go true = ap (inflow_of true) (lane_and k x.lanes w) ∙ more (lane_bit k x.lanes) (lane_bit k w)
-      go false = first (lane_bit k w)
+      go : (bare : Bool) → inflow_of true (lane_bit k (cond bare w (bit_and x.lanes w))) ≡ inflow_with (inflow_of (not bare) (lane_bit k x.lanes)) (lane_bit k w)
+      go true = first (lane_bit k w)
+      go false = ap (inflow_of true) (lane_and k x.lanes w) ∙ more (lane_bit k x.lanes) (lane_bit k w)
 
   led_at : (x : Flow) → lane_bit k (words.led x) ≡ all_lead (flow_at x)
-  led_at x = go x.some
+  led_at x = go (x.arcs == 0)
     where
       same : (b : Bool) → b ≡ all_lead (inflow_of true b)
       same true = refl
       same false = refl
 
-      go : (s : Bool) → lane_bit k (cond s x.lanes 0) ≡ all_lead (inflow_of s (lane_bit k x.lanes))
-      go true = same (lane_bit k x.lanes)
-      go false = lane_zero k
+      go : (bare : Bool) → lane_bit k (cond bare 0 x.lanes) ≡ all_lead (inflow_of (not bare) (lane_bit k x.lanes))
+      go true = lane_zero k
+      go false = same (lane_bit k x.lanes)
 
   some_led_at : (x : Flows) → lane_bit k (words.some_led x) ≡ some_lead (pair_at x)
   some_led_at x =

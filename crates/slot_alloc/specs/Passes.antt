@@ -52,7 +52,7 @@ abbrev pub enter_each : List Inlets → ℕ → Bool → List Dest → List Inle
 enter_each xs n b [] = xs
 enter_each xs n b (d ∷ ds) = enter_each (enter xs (n + d.ahead) d.port b) n b ds
 
--- arcs to the left ports of so many instructions in a row
+-- arcs to the left ports of a number of instructions in a row
 abbrev pub enter_row : List Inlets → ℕ → Bool → ℕ → List Inlets
 enter_row xs n b zero = xs
 enter_row xs n b (suc k) = enter (enter_row xs n b k) (n + k) Left b

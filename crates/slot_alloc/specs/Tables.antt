@@ -18,7 +18,7 @@ pub record Table : Type 0 where
   pub after : List (List ℕ)
   pub splits : List Split
 
--- how many groups of 64 so many things need
+-- how many groups of 64 are needed for n things
 abbrev pub groups : ℕ → ℕ
 groups n = (n + 63) / 64
 

@@ -17,7 +17,7 @@ use Rattle.slot_alloc.specs.declared.choices.Choice.TheVariants.{Ends, Sides}
 use Rattle.slot_alloc.specs.Passes.{same_mark, is_marked, mark_of}
 
 abbrev pub none : Flow
-none = record { some = false; lanes = 0 }
+none = record { arcs = 0; lanes = 0 }
 
 abbrev pub bare : Flows
 bare = record { left = none; right = none }
@@ -27,7 +27,7 @@ flows_at xs n = slice_index_or xs n bare
 
 -- one more arc, which leads in such lanes
 abbrev pub flow_with : Flow → ℕ → Flow
-flow_with x w = record { some = true; lanes = if x.some then bit_and x.lanes w else w }
+flow_with x w = record { arcs = 1; lanes = if x.arcs == 0 then w else bit_and x.lanes w }
 
 abbrev pub flows_with : Flows → Port → ℕ → Flows
 flows_with x Left w = record x { left = flow_with x.left w }
@@ -41,7 +41,7 @@ abbrev pub enter_each : List Flows → ℕ → ℕ → List Dest → List Flows
 enter_each xs n w [] = xs
 enter_each xs n w (d ∷ ds) = enter_each (enter xs (n + d.ahead) d.port w) n w ds
 
--- arcs to the left ports of so many instructions in a row
+-- arcs to the left ports of a number of instructions in a row
 abbrev pub enter_row : List Flows → ℕ → ℕ → ℕ → List Flows
 enter_row xs n w zero = xs
 enter_row xs n w (suc k) = enter (enter_row xs n w k) (n + k) Left w
@@ -56,7 +56,7 @@ enter_firsts p xs n w ds op = enter_each xs n w ds
 
 -- the lanes in which there is an arc and each one leads
 abbrev pub led : Flow → ℕ
-led x = if x.some then x.lanes else 0
+led x = if x.arcs == 0 then 0 else x.lanes
 
 -- an instruction with such a port
 abbrev pub some_led : Flows → ℕ

@@ -28,7 +28,7 @@ pub(crate) fn check_block<A: Allocator + Clone>(
     Ok(table.admits(slots))
 }
 
-/// Gives each of so many holders of a block the least slot that is open to it.
+/// Gives each of the `holders` holders of a block the least slot that is open to it.
 fn fill<A: Allocator>(
     alloc: A,
     table: &Table<A>,

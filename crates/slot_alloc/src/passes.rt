@@ -15,9 +15,9 @@ use tags::token::Port;
 /// What is known of the arcs into a port.
 #[derive(Clone, Copy)]
 pub(crate) struct Flow {
-    /// Whether there is one.
-    pub some: bool,
-    /// If so, the lanes in which each one leads: it is chosen, or starts at an instruction with a port of this kind.
+    /// 0 where there is none, and else 1: a word, so that two words are copied at once.
+    pub arcs: u64,
+    /// The lanes in which each one leads: it is chosen, or starts at an instruction with a port of this kind.
     pub lanes: u64,
 }
 
@@ -27,8 +27,12 @@ impl Flow {
         ensures { result ≡ of_words.flow_with self lanes }
     {
         Flow {
-            some: true,
-            lanes: if self.some { self.lanes & lanes } else { lanes },
+            arcs: 1,
+            lanes: if self.arcs == 0 {
+                lanes
+            } else {
+                self.lanes & lanes
+            },
         }
     }
 
@@ -36,7 +40,7 @@ impl Flow {
     pub fn led(self) -> u64
         ensures { result ≡ of_words.led self }
     {
-        if self.some { self.lanes } else { 0 }
+        if self.arcs == 0 { 0 } else { self.lanes }
     }
 }
 
@@ -99,7 +103,7 @@ fn enter_each(flows: &mut [Flows], from: usize, lanes: u64, dests: &[Dest])
     }
 }
 
-/// Enters the arcs to a landing of so many instructions.
+/// Enters the arcs to a landing of `size` instructions.
 fn enter_row(flows: &mut [Flows], from: usize, ahead: u32, lanes: u64, size: u64)
     requires from { from ≤ length flows.old }
     requires few { size < 2 ^ 33 }
@@ -235,10 +239,7 @@ pub(crate) fn pass<A: Allocator>(
     ensures all { IfOk result (λ v. length v.items ≡ length block.now.instrs) }
     ensures exact { IfOk result (λ v. v.items ≡ of_words.pass plan.now choice known.now marks.now (replicate (length block.now.instrs) of_words.bare) 0 block.now.instrs) }
 {
-    const BARE: Flow = Flow {
-        some: false,
-        lanes: 0,
-    };
+    const BARE: Flow = Flow { arcs: 0, lanes: 0 };
     const NONE: Flows = Flows {
         left: BARE,
         right: BARE,

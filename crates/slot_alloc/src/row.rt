@@ -20,7 +20,7 @@ impl<A: Allocator> Model for Row<A> {
 }
 
 impl<A: Allocator> Row<A> {
-    /// So many words with all lanes.
+    /// `count` words with all lanes.
     pub fn full(alloc: A, count: usize) -> Result<Row<A>, AllocError>
         ensures { IfOk result (λ r. r ≡ replicate count (2 ^ 64 - 1)) }
     {

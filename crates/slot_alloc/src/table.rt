@@ -83,7 +83,7 @@ fn split_of<A: Allocator + Clone>(
     Ok(Split { yes, no })
 }
 
-/// In how many groups of 64 so many things lie.
+/// How many groups of 64 `count` things fill.
 fn groups(count: usize) -> usize
     requires { count < 2 ^ 63 }
     ensures { result ≡ of_tables.groups count }

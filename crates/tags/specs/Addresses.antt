@@ -1,4 +1,4 @@
--- Which element takes a token, of so many.
+-- Which of the elements takes a token.
 use Rattle.std.specs.Prelude.{ℕ, ◌%◌}
 use Rattle.tags.specs.declared.token.To.{To}
 

@@ -11,10 +11,10 @@ pub enum SlotState {
     Left(Word),
     /// A word that came on the right port waits for its partner.
     Right(Word),
-    /// So many iterations may still begin.
+    /// How many iterations may still begin.
     Credits(u32),
     /// No credit is left, and this one waits for the next.
     Waiter(Cont),
-    /// The loop has ended, and so many iterations have not given their credit back.
+    /// The loop has ended, and this number of iterations have not given their credit back.
     Draining(u32),
 }

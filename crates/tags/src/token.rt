@@ -43,7 +43,7 @@ pub enum To {
 impl To {
     ghost use Rattle.tags.specs.Addresses.{element_of};
 
-    /// The element, of so many, that takes a token with this address.
+    /// The element, one of `elements`, that takes a token with this address.
     pub fn element(&self, elements: u32) -> u32
         requires { 0 < elements }
         ensures { result ≡ element_of elements self.now }

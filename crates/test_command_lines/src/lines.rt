@@ -52,7 +52,7 @@ pub const LIMITS: [&str; 15] = [
 ];
 
 /// Command lines that ask for help of each command.
-pub const HELPS: [&str; 26] = [
+pub const HELPS: [&str; 36] = [
     "ets --help",
     "ets -h",
     "ets help",
@@ -79,4 +79,14 @@ pub const HELPS: [&str; 26] = [
     "ets dot --help",
     "ets dot -h",
     "ets help dot",
+    "ets exec --help",
+    "ets help exec",
+    "ets asm --help",
+    "ets help asm",
+    "ets trace --help",
+    "ets help trace",
+    "ets profile --help",
+    "ets help profile",
+    "ets orders --help",
+    "ets help orders",
 ];

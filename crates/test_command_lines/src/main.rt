@@ -1,12 +1,12 @@
-//! What the whole program answers to command lines: mistakes, with their texts whole; numbers at and beyond their limits; and
-//! help, which has to be just what `clap` says of the same words. Prints each command line with its status and, but for
-//! help, its text, which `stdout` has to have, and `agree`.
+//! What the whole program answers to command lines. These are mistakes, with their whole texts; numbers at their limits and
+//! beyond; and help, which has to be exactly the text that `clap` has for the same words. Prints each command line with its
+//! status and, except for help, its text, which has to be as in `stdout`. Then prints `agree`.
 #![tactic(auto)]
 
 mod lines;
 
 use command_texts::program_command;
-use driver::serving::serve;
+use commands::serving::serve;
 use lines::{HELPS, LIMITS, MISTAKES};
 use rounds::Open;
 use std::alloc::{AllocError, Global};
@@ -15,7 +15,7 @@ use std::process::ExitCode;
 use std::sync::Wait;
 use std::thread::Threads;
 
-/// A graph that adds two inputs, and these.
+/// A graph that adds two inputs, and two inputs after it.
 const ADD: &[u8] = b"etsgraph 1\nblock m 2 1\n- add 0.0 1.0\nout 2.0\nend\nmain m\n2\n3\n";
 
 /// What the program wrote, and its exit status.
@@ -25,7 +25,7 @@ struct Answer {
     status: u8,
 }
 
-/// The words of a line, with a space between each two.
+/// The words of a line. One space stands between each two words.
 fn words_of<'a>(alloc: Global, line: &'a str) -> Result<Vec<&'a str>, AllocError> {
     let mut words = Vec::new(alloc);
     for word in line.split(' ') {
@@ -34,7 +34,7 @@ fn words_of<'a>(alloc: Global, line: &'a str) -> Result<Vec<&'a str>, AllocError
     Ok(words)
 }
 
-/// The answer to the words.
+/// What the program answers to the words.
 fn answer_of<R: Threads + Wait + Sync>(rt: &R, alloc: Global, words: &[&str]) -> Answer {
     let mut text = Vec::new(alloc);
     let mut reader = ADD;
@@ -56,7 +56,7 @@ fn print_answer<R: Threads + Wait + Sync, W: Write>(
     out.write_all(&answer.text)
 }
 
-/// Whether the program prints just what `clap` says of the words, with status 0.
+/// Whether the program prints exactly the text that `clap` has for the words, with status 0.
 fn is_help_of<R: Threads + Wait + Sync>(
     rt: &R,
     alloc: Global,

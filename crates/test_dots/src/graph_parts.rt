@@ -1,4 +1,4 @@
-//! The parts of a graph's picture, as its text has them.
+//! The parts that a graph's text calls for in the graph's picture.
 
 use crate::parts::{box_part, edge_part, node_part};
 use anyhow::Context;
@@ -11,14 +11,14 @@ struct Place {
     parts: String,
 }
 
-/// The parts so far, and the block that is read.
+/// The parts so far, and the block that is being read.
 #[derive(Drop)]
 struct Reader {
     alloc: Global,
     parts: Vec<String>,
-    /// Blocks that are read.
+    /// How many blocks were begun so far.
     blocks: usize,
-    /// The place of each node of the block.
+    /// The place of each node of the block that is being read.
     places: Vec<Place>,
 }
 
@@ -32,7 +32,7 @@ impl Reader {
         Ok(format!(in self.alloc; "b{block}n{node}")?)
     }
 
-    /// Where a node of that region lies.
+    /// The place of a node in this region.
     fn place_of(&self, region: &str) -> anyhow::Result<Place> {
         let alloc = self.alloc;
         let block = self.block();
@@ -59,7 +59,7 @@ impl Reader {
         })
     }
 
-    /// A node of that region.
+    /// Adds a node in this region.
     fn add_node(&mut self, region: &str, label: &str) -> anyhow::Result<()> {
         let place = self.place_of(region)?;
         let node = format!(in self.alloc; "{}", self.places.len())?;
@@ -74,7 +74,7 @@ impl Reader {
         Ok(())
     }
 
-    /// An edge from that source.
+    /// Adds an edge from this source.
     fn add_edge(&mut self, source: &str, to: &str, head: &str, style: &str) -> anyhow::Result<()> {
         let (node, port) = source.split_once('.').context("no source")?;
         let from = self.name_of(node)?;
@@ -101,7 +101,7 @@ impl Reader {
         Ok(())
     }
 
-    /// The line of a node: its region, what it does, and its sources, which have a point.
+    /// Reads the line of a node: its region, what it does, and its sources, which have a point in them.
     fn read_node(&mut self, words: &[&str]) -> anyhow::Result<()> {
         let (region, words) = words.split_first().context("an empty line")?;
         let mut label = String::new(self.alloc);
@@ -130,7 +130,7 @@ impl Reader {
         Ok(())
     }
 
-    /// The line of the results.
+    /// Reads the line of the results.
     fn read_results(&mut self, words: &[&str]) -> anyhow::Result<()> {
         let place = self.place_of("-")?;
         let block = self.block();
@@ -161,7 +161,7 @@ impl Reader {
     }
 }
 
-/// The parts that the picture of the graph has to have.
+/// The parts that the picture of this graph has to have.
 pub fn parts_of_graph(alloc: Global, text: &str) -> anyhow::Result<Vec<String>> {
     let mut reader = Reader {
         alloc,

@@ -1,10 +1,10 @@
-//! The parts of the picture of an object's code, as its listing has them.
+//! The parts that the listing of an object calls for in the picture of its code.
 
 use crate::parts::{box_part, edge_part, node_part};
 use anyhow::Context;
 use std::alloc::Global;
 
-/// The parts so far, and the number of the block that is read.
+/// The parts so far, and the number of the block that is being read.
 #[derive(Drop)]
 struct Reader {
     alloc: Global,
@@ -12,7 +12,7 @@ struct Reader {
     block: String,
 }
 
-/// The port at the end of a destination, as in `+4l`, and how far on it is; none where there is no destination.
+/// Splits a destination, as in `+4l`, into how far ahead it is and its port; `None` where there is no destination.
 fn split_port(dest: &str) -> Option<(&str, &str)> {
     let far = dest.strip_prefix("+")?;
     if let Some(far) = far.strip_suffix("l") {
@@ -35,7 +35,7 @@ impl Reader {
         Ok(())
     }
 
-    /// The arc to a destination, if there is one.
+    /// Adds the arc to a destination, if there is one.
     fn add_arc(&mut self, name: &str, number: u64, tail: &str, dest: &str) -> anyhow::Result<()> {
         let Some((far, port)) = split_port(dest) else {
             return Ok(());
@@ -46,7 +46,7 @@ impl Reader {
         self.add_edge(name, to.as_str(), tail, port, "")
     }
 
-    /// The arc to the entry of a block, as in `b2.1`, or `b2` for entry 0.
+    /// Adds the arc to the entry of a block, as in `b2.1`, or `b2` for entry 0.
     fn add_far_arc(&mut self, name: &str, operand: &str) -> anyhow::Result<()> {
         let operand = operand.strip_prefix("b").context("no block")?;
         let (block, entry) = operand.split_once('.').unwrap_or((operand, "0"));
@@ -97,7 +97,7 @@ impl Reader {
     }
 }
 
-/// The parts that the picture of the code has to have.
+/// The parts that the picture of this code has to have.
 pub fn parts_of_listing(alloc: Global, listing: &str) -> anyhow::Result<Vec<String>> {
     let mut reader = Reader {
         alloc,

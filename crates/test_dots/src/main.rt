@@ -1,6 +1,7 @@
-//! Reads pictures back: of random graphs, and of their code. Each has to have the nodes and the edges that the text of the graph,
-//! or the listing of its object, has, each once and no other. The words of the command line may say how many graphs, and which.
-//! Prints how many nodes and edges there were, or the first picture that differs, with status 1.
+//! Reads pictures back: those of random graphs, and those of their code. Each picture has to have the nodes and the edges that
+//! the graph's text, or the listing of its object, has, each exactly once, and no others. The words of the command line may
+//! give the number of graphs and the seed. Prints how many nodes and edges there were, or the first picture that differs, with
+//! status 1.
 #![tactic(auto)]
 
 mod graph_parts;
@@ -11,16 +12,16 @@ mod served;
 use graph_parts::parts_of_graph;
 use listing_parts::parts_of_listing;
 use parts::{Tally, agree};
-use random_graphs::dice::Dice;
-use random_graphs::graphs::{Graph, Part};
 use served::printed;
 use std::io::{self, Write};
 use std::process::ExitCode;
 use std::sync::Wait;
 use std::thread::Threads;
 use std::{env, str};
+use test_random_graphs::dice::Dice;
+use test_random_graphs::graphs::{Graph, Part};
 
-/// The number that a word is, if there is one.
+/// The number that word `place` is, or `otherwise` where there is no such word or no number in it.
 fn number_in(words: &[String], place: usize, otherwise: u64) -> u64 {
     match words.get(place) {
         Some(word) => word.parse().unwrap_or(otherwise),
@@ -28,7 +29,7 @@ fn number_in(words: &[String], place: usize, otherwise: u64) -> u64 {
     }
 }
 
-/// Whether both pictures of the graph agree. Tells the first part that differs.
+/// Whether both pictures of the graph agree. Prints the first part that differs.
 fn graph_agrees<R: Threads + Wait + Sync, W: Write>(
     rt: &R,
     out: &mut W,

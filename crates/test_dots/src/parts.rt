@@ -1,9 +1,9 @@
 //! The parts of a picture: its boxes, nodes and edges, each as a line of text.
 
-use dot_reader::{Edge, Node, Picture, read};
 use std::alloc::Global;
 use std::io::Write;
 use std::{fmt, str};
+use test_dot_reader::{Edge, Node, Picture, read};
 
 /// How many nodes and edges there were.
 #[derive(Drop)]
@@ -36,12 +36,12 @@ pub fn box_part(alloc: Global, name: &str, label: &str) -> anyhow::Result<String
     Ok(format!(in alloc; "box {name} \"{label}\"")?)
 }
 
-/// A node: its name and its label, and the names of the boxes around it, each with a space before it.
+/// A node: its name, its label, and the names of the boxes around it, each with a space before it.
 pub fn node_part(alloc: Global, name: &str, label: &str, boxes: &str) -> anyhow::Result<String> {
     Ok(format!(in alloc; "node {name} \"{label}\" in{boxes}")?)
 }
 
-/// An edge: from which node, to which, and what stands at its tail and its head, and its style.
+/// An edge: the node it comes from, the node it goes to, the texts at its tail and its head, and its style.
 pub fn edge_part(
     alloc: Global,
     from: &str,
@@ -88,7 +88,7 @@ fn parts_of_picture(alloc: Global, picture: &Picture<'_>) -> anyhow::Result<Vec<
     Ok(parts)
 }
 
-/// Whether the picture has those parts, in any order, and nothing else. Tells the first part that it lacks or has too often.
+/// Whether the picture has these parts, in any order, and nothing else. Prints the first part that it lacks or has too often.
 pub fn agree<W: Write>(
     alloc: Global,
     out: &mut W,

@@ -1,13 +1,13 @@
-//! The program in memory.
+//! Runs the program in memory.
 
 use anyhow::ensure;
-use driver::serving::serve;
+use commands::serving::serve;
 use rounds::Open;
 use std::alloc::Global;
 use std::sync::Wait;
 use std::thread::Threads;
 
-/// What the program prints, which has to end with status 0.
+/// What the program prints. It has to end with status 0.
 pub fn printed<R: Threads + Wait + Sync>(
     rt: &R,
     alloc: Global,

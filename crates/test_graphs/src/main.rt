@@ -1,7 +1,8 @@
-//! Runs random graphs in random orders of steps, and compares each run with the graph's meaning: first graphs with calls and
-//! arrays, with just enough frames, then graphs of all kinds with few frames and small bounds. The words of the command line
-//! may say how many there are of each, behind `--seed` which, and behind `--free` how often free elements run each. Prints how
-//! many there were of what, or the first graph whose run differs, with status 1.
+//! Runs random graphs in random orders of steps, and compares each run with the graph's meaning. First come graphs with calls
+//! and arrays, with just enough frames; then graphs of all kinds, with few frames and small bounds. The words of the command
+//! line may say how many graphs there are of each part; after `--seed`, which graphs; and after `--free`, how often free
+//! elements run each. Prints how many graphs and runs there were of each kind, or the first graph whose run differs, with
+//! status 1.
 #![tactic(auto)]
 
 mod tally;
@@ -10,8 +11,6 @@ mod verdict;
 
 use driver::meaning::mean_text;
 use oracle::MeanEnd;
-use random_graphs::dice::Dice;
-use random_graphs::graphs::{Graph, Part};
 use std::alloc::Global;
 use std::env;
 use std::io::{self, Write};
@@ -19,6 +18,8 @@ use std::process::ExitCode;
 use std::sync::Wait;
 use std::thread::Threads;
 use tally::Tally;
+use test_random_graphs::dice::Dice;
+use test_random_graphs::graphs::{Graph, Part};
 use trials::Trials;
 
 /// The most activities of a meaning.
@@ -30,11 +31,11 @@ struct Sizes {
     calls: u64,
     all: u64,
     seed: u64,
-    /// How often each graph is run by free elements; where nothing is said, each eighth graph once.
+    /// How often free elements run each graph; where nothing is said, every eighth graph is run once.
     free: Option<u64>,
 }
 
-/// What the next word is.
+/// What the next word of the command line says.
 #[derive(Clone, Copy, PartialEq, Eq)]
 enum Next {
     Size,
@@ -42,7 +43,7 @@ enum Next {
     Free,
 }
 
-/// The numbers of the words.
+/// The numbers that the words give.
 fn sizes_in(words: &[String]) -> Option<Sizes> {
     let mut numbers = [500, 1_000];
     let mut place = 0usize;
@@ -78,7 +79,7 @@ fn sizes_in(words: &[String]) -> Option<Sizes> {
     })
 }
 
-/// Whether all runs of the graph agree with its meaning. Tells the run that differs.
+/// Whether all runs of the graph agree with its meaning. Prints the run that differs.
 fn graph_agrees<R: Threads + Wait + Sync, W: Write>(
     rt: &R,
     alloc: Global,
@@ -107,7 +108,7 @@ fn graph_agrees<R: Threads + Wait + Sync, W: Write>(
     Ok(true)
 }
 
-/// Whether so many graphs of that part agree.
+/// Whether `graphs` random graphs of this part agree.
 fn part_agrees<R: Threads + Wait + Sync, W: Write>(
     rt: &R,
     alloc: Global,

@@ -1,18 +1,18 @@
-//! What is told of all the graphs and their runs.
+//! The numbers that are printed for all graphs and their runs.
 
 use crate::verdict::Verdict;
 use oracle::MeanEnd;
-use random_graphs::graphs::Graph;
-use random_graphs::kind::{KINDS, NAMES};
 use std::io::{self, Write};
+use test_random_graphs::graphs::Graph;
+use test_random_graphs::kind::{KINDS, NAMES};
 
-/// How many of each there were.
+/// How many there were of each.
 #[derive(Drop)]
 pub struct Tally {
     graphs: u64,
     rest: u64,
     clash: u64,
-    /// Graphs with readers that wait at rest.
+    /// Graphs at rest in which readers wait.
     wait: u64,
     kinds: [u64; KINDS],
     rested: u64,
@@ -36,7 +36,7 @@ impl Tally {
         }
     }
 
-    /// Counts a graph and its meaning.
+    /// Counts a graph, and the end of its meaning.
     pub fn count_graph(&mut self, graph: &Graph, end: MeanEnd) {
         self.graphs = self.graphs.wrapping_add(1);
         match end {
@@ -49,7 +49,7 @@ impl Tally {
         }
     }
 
-    /// Counts a graph with readers that wait at rest.
+    /// Counts a graph at rest in which readers wait.
     pub fn count_waiting(&mut self) {
         self.wait = self.wait.wrapping_add(1);
     }
@@ -65,7 +65,7 @@ impl Tally {
         }
     }
 
-    /// Prints them.
+    /// Prints the numbers.
     pub fn print<W: Write>(&self, out: &mut W, name: &str) -> io::Result<()> {
         let Tally {
             graphs,

@@ -8,9 +8,6 @@ use command_line::Mode;
 use driver::emulation::{emulate, emulate_picks, run_text};
 use driver::fault::Fault;
 use oracle::MeanReport;
-use random_graphs::dice::Dice;
-use random_graphs::graphs::{Graph, Part};
-use random_graphs::orders::picks;
 use rounds::Open;
 use schedule::config::Config;
 use schedule::report::Report;
@@ -19,11 +16,14 @@ use std::alloc::{AllocError, Global};
 use std::io::{self, Write};
 use std::sync::Wait;
 use std::thread::Threads;
+use test_random_graphs::dice::Dice;
+use test_random_graphs::graphs::{Graph, Part};
+use test_random_graphs::orders::picks;
 
 /// Random orders of each graph.
 const ORDERS: u64 = 4;
 
-/// The frames of an element that are tried one after another, until there are enough.
+/// The numbers of frames of an element that are tried one after another, until one is enough.
 const FRAMES: [u64; 14] = [1, 2, 3, 4, 5, 6, 8, 10, 13, 16, 24, 40, 100, 1_024];
 
 fn config(elements: u64, frames: u64) -> Config
@@ -42,9 +42,9 @@ fn config(elements: u64, frames: u64) -> Config
 pub struct Trials<'a> {
     graph: &'a Graph,
     meaning: &'a MeanReport<Global>,
-    /// How many readers wait at rest.
+    /// How many readers wait at rest, once a run has rested.
     pub deferred: Option<u64>,
-    /// The most events of a run.
+    /// The greatest number of events of a run so far.
     events: u64,
     way: &'static str,
     config: Config,
@@ -66,7 +66,7 @@ impl<'a> Trials<'a> {
         }
     }
 
-    /// What that run says.
+    /// Compares that run with the meaning.
     fn judge(
         &mut self,
         tally: &mut Tally,
@@ -87,7 +87,7 @@ impl<'a> Trials<'a> {
         verdict
     }
 
-    /// Whether a run in that mode agrees.
+    /// Whether a run in this mode agrees.
     fn agrees_in<R: Threads + Wait + Sync>(
         &mut self,
         rt: &R,
@@ -106,7 +106,7 @@ impl<'a> Trials<'a> {
         self.judge(tally, config, &run) != Verdict::Differs
     }
 
-    /// Whether a free run agrees. How it ends may hang on which thread came first, so it is not counted.
+    /// Whether a free run agrees. How it ends may depend on which thread came first, so it is not counted.
     fn agrees_free<R: Threads + Wait + Sync>(
         &mut self,
         rt: &R,
@@ -122,7 +122,7 @@ impl<'a> Trials<'a> {
         self.judge(&mut Tally::new(), config, &run) != Verdict::Differs
     }
 
-    /// What a run in that order says.
+    /// Makes a run in the order of a list, and compares it with the meaning.
     fn run_listed(
         &mut self,
         alloc: Global,
@@ -138,8 +138,8 @@ impl<'a> Trials<'a> {
         self.judge(tally, config, &run)
     }
 
-    /// Whether runs in a random order agree: one with few frames, or in the part of calls with more and more, until there
-    /// are just enough.
+    /// Whether runs in a random order agree. There is one run with few frames; in the part of calls there are runs with more
+    /// and more frames, until there are just enough.
     fn agrees_listed(
         &mut self,
         alloc: Global,
@@ -166,7 +166,7 @@ impl<'a> Trials<'a> {
         Ok(verdict != Verdict::Differs)
     }
 
-    /// Whether all runs agree with the meaning, up to the first that differs; so many are by free elements.
+    /// Whether all runs agree with the meaning; stops at the first that differs. `free` of the runs are by free elements.
     pub fn all_agree<R: Threads + Wait + Sync>(
         &mut self,
         rt: &R,
@@ -195,7 +195,7 @@ impl<'a> Trials<'a> {
         Ok(true)
     }
 
-    /// Tells of the last run.
+    /// Prints how the last run was made.
     pub fn tell<W: Write>(&self, out: &mut W) -> io::Result<()> {
         let elements = self.config.elements;
         let frames = self.config.frames;

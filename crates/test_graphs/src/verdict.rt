@@ -2,20 +2,20 @@
 
 use driver::fault::Fault;
 use oracle::{Full, MeanEnd, MeanReport};
-use random_graphs::graphs::Graph;
 use schedule::report::Report;
 use semantics::report::End;
 use std::alloc::Global;
 use tags::value::Value;
+use test_random_graphs::graphs::Graph;
 
-/// What a run says beside the meaning.
+/// The outcome of comparing a run with the meaning.
 #[derive(Clone, Copy, PartialEq, Eq)]
 pub enum Verdict {
-    /// It came to rest, and has all that the meaning has, and nothing else.
+    /// The run came to rest with all that the meaning has, and nothing else.
     Rested,
-    /// A request waits at the end. What there is, the meaning has.
+    /// A request waits at the end. All that the run has, the meaning has too.
     Starved,
-    /// A store met a full cell, in the meaning, too.
+    /// A store met a full cell, as one does in the meaning.
     Clashed,
     /// The list of picks, or the limit of steps, was too short.
     CutOff,
@@ -31,7 +31,7 @@ fn cell_number(graph: &Graph, full: &Full) -> u64 {
     number
 }
 
-/// Whether the meaning has that cell.
+/// Whether the meaning has this cell with this value.
 fn has_cell(graph: &Graph, meaning: &MeanReport<Global>, number: u32, value: Value) -> bool {
     for full in &meaning.cells {
         if cell_number(graph, full) == u64::from(number) {
@@ -56,8 +56,8 @@ fn has_all(graph: &Graph, meaning: &MeanReport<Global>, report: &Report<Global>)
     true
 }
 
-/// Whether a run that rests has just what the meaning has, as many readers wait as in other runs, and where none waits
-/// nothing is left behind.
+/// Whether a run at rest has exactly what the meaning has, and as many waiting readers as other runs had. Where no reader
+/// waits, no frame may be left out.
 fn is_same(
     graph: &Graph,
     meaning: &MeanReport<Global>,
@@ -73,7 +73,8 @@ fn is_same(
         && (report.deferred > 0 || report.frames_out == 0)
 }
 
-/// What a run says beside the meaning, where so many readers waited at the end of another run that rested.
+/// Compares a run with the meaning. `deferred` is the number of readers that waited at the end of another run that rested, if
+/// there was one.
 pub fn verdict_of(
     graph: &Graph,
     meaning: &MeanReport<Global>,

@@ -1,8 +1,8 @@
-//! Each growth refused in turn, under the whole program. For each command line and its input the Nth growth is refused, for N
-//! from 1 on, until there are not so many: each answer before is `refused: memory`, or a report with the end `Memory` that
-//! tells no value that the whole run does not have; and the last one, with all growths granted, is the text that is wanted.
-//! Prints how that was told, with any word on the command line also how often, and `agree`, or the first answer that differs,
-//! with status 1.
+//! Refuses each growth in turn, under the whole program. For each command line and its input, growth number N is refused, for N
+//! from 1 until the run has fewer than N growths. Until then each answer is `refused: memory`, or a report with the end
+//! `Memory` that tells no value which the whole run does not have. The last answer, with all growths granted, is the text that
+//! it should be. Prints how the refusals were told and, with any word on the command line, also how often. Then prints `agree`,
+//! or the first answer that differs, with status 1.
 #![tactic(auto)]
 
 mod rows;
@@ -18,8 +18,8 @@ use std::sync::Wait;
 use std::thread::Threads;
 use trials::{Refusals, answer_of, refuse_each};
 
-/// What the trials of a command line came to, in a line: with the figures, if they are asked for. They are as many as the
-/// program's growths are at present.
+/// Prints, in a line, the outcome of a command line's trials: with the numbers of refusals, if they are asked for. These depend
+/// on how many growths the program has at present.
 fn print_trials<W: Write>(
     out: &mut W,
     name: &str,
@@ -51,7 +51,7 @@ fn print_trials<W: Write>(
     }
 }
 
-/// Whether the answers of each row agree.
+/// Whether the answers to all rows agree.
 fn rows_agree<R: Threads + Wait + Sync, W: Write>(
     rt: &R,
     alloc: Global,
@@ -67,7 +67,7 @@ fn rows_agree<R: Threads + Wait + Sync, W: Write>(
     Ok(true)
 }
 
-/// Whether the answers of commands that read a graph's text alone agree with the one where no growth is refused.
+/// Whether the answers of commands that read only a graph's text agree with their answer where no growth is refused.
 fn texts_agree<R: Threads + Wait + Sync, W: Write>(
     rt: &R,
     alloc: Global,

@@ -1,11 +1,11 @@
-//! Command lines, and the answers that are wanted.
+//! Command lines, and the answers that they should have.
 
 use crate::texts::{
-    ADD, ADD_TEXT, CHAIN, CHAIN_TEXT, FACTORIAL, FACTORIAL_TEXT, READERS, READERS_TEXT, SHORT_SUM,
-    STARVED_CHAIN, SUM, SUM_TEXT, UNANSWERED,
+    ADD, ADD_LISTING, ADD_TEXT, CHAIN, CHAIN_TEXT, FACTORIAL, FACTORIAL_TEXT, READERS,
+    READERS_TEXT, SHORT_SUM, STARVED_CHAIN, SUM, SUM_TEXT, UNANSWERED,
 };
 
-/// A command line with its input, and the text and the status that are wanted.
+/// A command line with its input, and the text and the exit status that it should have.
 #[derive(Clone, Copy)]
 pub struct Row<'a> {
     pub name: &'static str,
@@ -15,7 +15,7 @@ pub struct Row<'a> {
     pub status: u8,
 }
 
-/// Worked examples, with texts and statuses that were known before.
+/// Worked examples. Their texts and statuses were known before.
 pub const ROWS: [Row<'static>; 19] = [
     Row {
         name: "add",
@@ -170,11 +170,11 @@ pub const ROWS: [Row<'static>; 19] = [
     },
 ];
 
-/// The words of a command line, with its name and its input.
+/// The words of a command line, with the name of the row and the input.
 type Command = (&'static str, &'static [&'static str], &'static [u8]);
 
-/// Commands that read a graph's text alone.
-pub const COMPILED: [Command; 7] = [
+/// Commands that read only a graph's text, or a listing.
+pub const COMPILED: [Command; 8] = [
     ("compile of add", &["ets", "compile"], ADD_TEXT),
     ("compile of factorial", &["ets", "compile"], FACTORIAL_TEXT),
     ("compile of sum", &["ets", "compile"], SUM_TEXT),
@@ -182,4 +182,5 @@ pub const COMPILED: [Command; 7] = [
     ("compile of chain", &["ets", "compile"], CHAIN_TEXT),
     ("check of chain", &["ets", "check"], CHAIN_TEXT),
     ("dot of chain", &["ets", "dot"], CHAIN_TEXT),
+    ("asm of add", &["ets", "asm"], ADD_LISTING),
 ];

@@ -1,7 +1,7 @@
-//! One command line, with each growth refused in turn.
+//! One command line, in which each growth is refused in turn.
 
 use crate::rows::Row;
-use driver::serving::serve;
+use commands::serving::serve;
 use rationed::Rationed;
 use rounds::Open;
 use std::alloc::{Allocator, Global};
@@ -9,22 +9,22 @@ use std::fmt;
 use std::sync::Wait;
 use std::thread::Threads;
 
-/// More growths than a command line has.
+/// More growths than any of the command lines has.
 const ENOUGH: u64 = 100_000;
 
-/// What went out, and the exit status.
+/// What was written, and the exit status.
 #[derive(Drop)]
 pub struct Answer {
     pub text: Vec<u8>,
     pub status: u8,
 }
 
-/// How often a growth was refused, and how it was told.
+/// How often a growth was refused, and how that was told.
 #[derive(Clone, Copy)]
 pub struct Refusals {
-    /// By a line in place of an answer.
+    /// Told by a line in place of an answer.
     pub before: u64,
-    /// By a report with the end `Memory`.
+    /// Told by a report with the end `Memory`.
     pub within: u64,
 }
 
@@ -57,8 +57,8 @@ fn is_next_refused<A: Allocator>(alloc: A) -> bool {
     probe.push(0).is_err()
 }
 
-/// The answer where the growth of that number, from 1, is refused, and whether there were fewer by just one. An allocator
-/// that has refused once grants all that comes after.
+/// The answer where growth number `ration`, counted from 1, is refused; and whether there was one growth fewer than that. An
+/// allocator that has refused once grants all growths after it.
 fn rationed_answer<R: Threads + Wait + Sync>(
     rt: &R,
     alloc: Global,
@@ -73,7 +73,7 @@ fn rationed_answer<R: Threads + Wait + Sync>(
     (Answer { text, status }, is_over)
 }
 
-/// Whether the line tells an output that is missing.
+/// Whether the line says that an output is missing.
 fn is_missing(line: &[u8]) -> bool {
     line.starts_with(b"output ") && line.ends_with(b" -")
 }
@@ -83,7 +83,7 @@ fn has_line(text: &[u8], wanted: &[u8]) -> bool {
     text.split(|byte| *byte == b'\n').any(|line| line == wanted)
 }
 
-/// Whether a report with the end `Memory` tells no output and no cell that the whole one does not have.
+/// Whether all outputs and cells that a report with the end `Memory` tells are also in the whole report.
 fn is_part(report: &[u8], whole: &[u8]) -> bool {
     report
         .split(|byte| *byte == b'\n')
@@ -91,8 +91,8 @@ fn is_part(report: &[u8], whole: &[u8]) -> bool {
         .all(|line| is_missing(line) || has_line(whole, line))
 }
 
-/// How often a growth is refused before none is, if each is told, and the last answer is the whole one; else at which growth
-/// that is not so.
+/// How often a growth is refused before none is, if each refusal is told and the last answer is the whole one. Else an `Err`
+/// with the number of the growth where that is not so.
 pub fn refuse_each<R: Threads + Wait + Sync>(
     rt: &R,
     alloc: Global,

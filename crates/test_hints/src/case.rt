@@ -1,22 +1,22 @@
 //! One case: a command line with its input.
 
-use driver::serving::serve;
+use commands::serving::serve;
 use hints::{KeepingReader, KeepingWriter, explain};
-use pieces::{append, append_repeated, append_word};
 use rounds::Open;
 use std::alloc::{AllocError, Global};
 use std::io::{self, Write};
 use std::str;
 use std::sync::Wait;
 use std::thread::Threads;
+use test_pieces::{append, append_repeated, append_word};
 
-/// A case as far as its lines were read.
+/// A case, as far as its lines have been read.
 #[derive(Drop)]
 pub struct Case {
     alloc: Global,
     words: Vec<u8>,
     input: Vec<u8>,
-    /// What was written, where the table says it.
+    /// The bytes that the table gives in place of what the program writes.
     output: Vec<u8>,
 }
 
@@ -29,7 +29,8 @@ fn words_of(alloc: Global, line: &[u8]) -> Result<Vec<&str>, AllocError> {
     Ok(words)
 }
 
-/// The line of an output that tells what happened: the first line of a refusal or a mistake, the last one of a report.
+/// The line of an output that tells what happened: the first line of a refusal or of a mistake, else the last line, of a
+/// report.
 fn telling_line(output: &[u8]) -> &[u8] {
     let output = output.strip_suffix(b"\n".as_slice()).unwrap_or(output);
     let mut lines = output.split(|byte| *byte == b'\n');
@@ -52,7 +53,7 @@ impl Case {
         }
     }
 
-    /// A new case with these words.
+    /// Begins a new case with these words.
     pub fn begin(&mut self, words: &[u8]) -> Result<(), AllocError> {
         self.words.clear();
         self.input.clear();
@@ -60,7 +61,7 @@ impl Case {
         self.words.extend_from_slice(words)
     }
 
-    /// Takes a line of the case.
+    /// Takes one line of the case.
     pub fn take(&mut self, line: &[u8]) -> Result<(), AllocError> {
         match line {
             [b'|', piece @ ..] => {
@@ -79,7 +80,7 @@ impl Case {
         Ok(())
     }
 
-    /// Serves the case, if there is one, and writes what is told of it.
+    /// Runs the case, if there is one, and writes what was told of it.
     pub fn try_out<R: Threads + Wait + Sync, W: Write>(
         &self,
         rt: &R,

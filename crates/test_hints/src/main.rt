@@ -4,7 +4,7 @@
 //! - `|LINE` is a line of its input, and `!LINE` a line without its end;
 //! - `*FIRST LAST PIECE` is the piece, once for each number from FIRST to LAST;
 //! - `@DIGITS` is a word of its input, of 16 hexadecimal digits, in 8 bytes, the lowest first;
-//! - `>LINE` is a line of what was written, in place of what the program writes;
+//! - `>LINE` is a line of an output that takes the place of what the program writes;
 //! - `# WORDS` is a comment.
 //!
 //! In a line or a piece `%` is the number (in a line 0), and `\HH` the byte that these two hexadecimal digits are. For each
@@ -14,7 +14,7 @@
 mod case;
 
 use case::Case;
-use driver::input::read_input;
+use commands::input::read_input;
 use std::io::{self, ErrorKind, Write};
 
 fn main(rt: HostRuntime) -> io::Result<()> {

@@ -1,26 +1,28 @@
-//! Command lines, and what they read.
+//! Command lines and their inputs.
 
 use crate::trials::answer_of;
 use std::alloc::{AllocError, Global};
 use std::sync::Wait;
 use std::thread::Threads;
 
-/// What a command line reads.
+/// The input of a command line.
 #[derive(Clone, Copy, Debug, PartialEq, Eq)]
 pub enum Input {
-    /// A graph's text.
+    /// The text of a graph.
     Text,
-    /// A graph's text, and its inputs.
+    /// The text of a graph, and inputs after it.
     TextAndInputs,
     /// The object of the graph.
     Object,
-    /// The graph's text cut off in a node line.
+    /// The listing of this object.
+    Listing,
+    /// The text of the graph, cut off in a node line.
     CutText,
-    /// A graph's text, and a line that is no integer.
+    /// The text of a graph, and a line after it that is not an integer.
     TextAndWord,
-    /// Nothing is read.
+    /// Nothing: the command line reads no input.
     Nothing,
-    /// Nothing is read, and the text is not told of.
+    /// Nothing, and the text that is printed is not shown.
     Help,
 }
 
@@ -33,7 +35,7 @@ pub struct Case {
 }
 
 /// Every command, some refusals, help, the version, and a mistake.
-pub const CASES: [Case; 19] = [
+pub const CASES: [Case; 28] = [
     Case {
         name: "check",
         words: &["ets", "check"],
@@ -85,6 +87,41 @@ pub const CASES: [Case; 19] = [
         input: Input::TextAndInputs,
     },
     Case {
+        name: "exec",
+        words: &["ets", "exec", "9"],
+        input: Input::Object,
+    },
+    Case {
+        name: "asm",
+        words: &["ets", "asm"],
+        input: Input::Listing,
+    },
+    Case {
+        name: "trace",
+        words: &["ets", "trace"],
+        input: Input::TextAndInputs,
+    },
+    Case {
+        name: "trace, as JSON",
+        words: &["ets", "trace", "--last", "2", "--format", "chrome"],
+        input: Input::TextAndInputs,
+    },
+    Case {
+        name: "profile",
+        words: &["ets", "profile", "--elements", "1"],
+        input: Input::TextAndInputs,
+    },
+    Case {
+        name: "profile, drawn",
+        words: &["ets", "profile", "--svg"],
+        input: Input::TextAndInputs,
+    },
+    Case {
+        name: "orders",
+        words: &["ets", "orders", "--count", "3"],
+        input: Input::TextAndInputs,
+    },
+    Case {
         name: "check, refused",
         words: &["ets", "check"],
         input: Input::CutText,
@@ -98,6 +135,16 @@ pub const CASES: [Case; 19] = [
         name: "dis, refused",
         words: &["ets", "dis"],
         input: Input::Text,
+    },
+    Case {
+        name: "asm, refused",
+        words: &["ets", "asm"],
+        input: Input::Text,
+    },
+    Case {
+        name: "exec, refused",
+        words: &["ets", "exec"],
+        input: Input::Object,
     },
     Case {
         name: "mean, refused",
@@ -135,12 +182,13 @@ pub const CASES: [Case; 19] = [
 const TEXT: &[u8] =
     b"etsgraph 1\narray A 2\nblock m 1 3\n- lit 0 0.0\n- fetch A 1.0\n- fetch A 1.0\n- store A 1.0 0.0\nout 2.0 3.0 4.0\nend\nmain m\n";
 
-/// All that is read by some command line.
+/// All inputs that some command line reads.
 #[derive(Drop)]
 pub struct Inputs {
     text_and_inputs: Vec<u8>,
     text_and_word: Vec<u8>,
     object: Vec<u8>,
+    listing: Vec<u8>,
 }
 
 fn text_with(alloc: Global, lines: &[u8]) -> Result<Vec<u8>, AllocError> {
@@ -150,21 +198,25 @@ fn text_with(alloc: Global, lines: &[u8]) -> Result<Vec<u8>, AllocError> {
 }
 
 impl Inputs {
-    /// Compiles the graph for its object.
+    /// Compiles the graph to get its object.
     pub fn new<R: Threads + Wait + Sync>(rt: &R, alloc: Global) -> Result<Inputs, AllocError> {
+        let object = answer_of(rt, alloc, &["ets", "compile"], TEXT)?.text;
+        let listing = answer_of(rt, alloc, &["ets", "dis"], &object)?.text;
         Ok(Inputs {
             text_and_inputs: text_with(alloc, b"9\n")?,
             text_and_word: text_with(alloc, b"9\nnine\n")?,
-            object: answer_of(rt, alloc, &["ets", "compile"], TEXT)?.text,
+            object,
+            listing,
         })
     }
 
-    /// The bytes of that input.
+    /// The bytes of this input.
     pub fn bytes(&self, input: Input) -> &[u8] {
         match input {
             Input::Text => TEXT,
             Input::TextAndInputs => &self.text_and_inputs,
             Input::Object => &self.object,
+            Input::Listing => &self.listing,
             Input::CutText => TEXT.get(..50).unwrap_or(TEXT),
             Input::TextAndWord => &self.text_and_word,
             Input::Nothing | Input::Help => &[],

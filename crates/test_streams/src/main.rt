@@ -1,7 +1,7 @@
-//! Readers and writers that fail, under every command. For each command line and its input: a reader of one byte a call, and
-//! of seven, changes nothing; a reader that fails at any of its calls gives `refused: input`; and of a writer that fails at
-//! any byte, with an error or by taking nothing, just the bytes before that one went out, and the status is 1. Prints how
-//! often each failed, and `agree`, or the first answer that differs, with status 1.
+//! Readers and writers that fail, under every command. For each command line and its input: a reader that gives one byte for
+//! each call, or seven, changes nothing. A reader that fails at any of its calls gives `refused: input`. A writer that fails at
+//! any byte, with an error or by taking nothing, gets exactly the bytes before that one, and the status is 1. Prints how often
+//! each failed, and `agree`, or the first answer that differs, with status 1.
 #![tactic(auto)]
 
 mod cases;
@@ -17,7 +17,7 @@ use std::sync::Wait;
 use std::thread::Threads;
 use trials::{Trial, answer_of};
 
-/// Whether all answers agree. Says so of each command line, or which answer differs.
+/// Whether all answers agree. Prints that for each command line, or which answer differs.
 fn all_agree<R: Threads + Wait + Sync, W: Write>(
     rt: &R,
     alloc: Global,

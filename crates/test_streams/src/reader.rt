@@ -2,7 +2,7 @@
 
 use std::io::{self, ErrorKind, Read};
 
-/// Gives so many bytes a call at most, and fails once its calls are used up.
+/// Gives at most `chunk` bytes for each call, and fails once its calls are used up.
 #[derive(Drop)]
 pub struct Feeder<'a> {
     pub rest: &'a [u8],

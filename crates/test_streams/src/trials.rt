@@ -3,7 +3,7 @@
 use crate::cases::{Case, Input};
 use crate::reader::Feeder;
 use crate::writer::{Failure, Taker, WRITERS};
-use driver::serving::serve;
+use commands::serving::serve;
 use rounds::Open;
 use std::alloc::{AllocError, Global};
 use std::fmt;
@@ -11,10 +11,10 @@ use std::io::{self, Write};
 use std::sync::Wait;
 use std::thread::Threads;
 
-/// More calls than a reader gets.
+/// More calls than any reader gets.
 const ENOUGH: u64 = 1_000_000;
 
-/// What went out, and the exit status.
+/// What was written, and the exit status.
 #[derive(Drop)]
 pub struct Answer {
     pub text: Vec<u8>,
@@ -34,7 +34,7 @@ pub fn answer_of<R: Threads + Wait + Sync>(
     Ok(Answer { text, status })
 }
 
-/// How often a reader and a writer failed.
+/// How many readers and how many writers failed.
 #[derive(Drop)]
 pub struct Failures {
     bytes: usize,
@@ -53,7 +53,7 @@ impl fmt::Display for Failures {
     }
 }
 
-/// A command line with its input and its answer.
+/// A command line, its input, and its answer where nothing fails.
 #[derive(Drop)]
 pub struct Trial<'a> {
     case: Case,
@@ -66,7 +66,7 @@ impl<'a> Trial<'a> {
         Trial { case, input, whole }
     }
 
-    /// The answer over a reader of so many bytes a call that fails after so many calls.
+    /// The answer over a reader that gives `chunk` bytes for each call and fails after `calls` calls.
     fn fed<R: Threads + Wait + Sync>(
         &self,
         rt: &R,
@@ -89,7 +89,7 @@ impl<'a> Trial<'a> {
         answer.status == self.whole.status && answer.text.as_slice() == self.whole.text.as_slice()
     }
 
-    /// How many calls a reader of so many bytes a call gets: the last one finds the end.
+    /// How many calls a reader gets that gives `chunk` bytes for each call. The last call finds the end.
     fn calls(&self, chunk: usize) -> u64 {
         if matches!(self.case.input, Input::Nothing | Input::Help) {
             return 0;
@@ -98,7 +98,7 @@ impl<'a> Trial<'a> {
         (full as u64).wrapping_add(1)
     }
 
-    /// How often a reader of so many bytes a call fails, if each failure is told, and nothing else is.
+    /// How often a reader of `chunk` bytes for each call fails, if each failure is told and nothing else is.
     fn reads<R: Threads + Wait + Sync>(&self, rt: &R, alloc: Global, chunk: usize) -> Option<u64> {
         let calls = self.calls(chunk);
         for granted in 0..calls {
@@ -116,7 +116,7 @@ impl<'a> Trial<'a> {
         }
     }
 
-    /// Whether a writer of so many bytes a call, with so much room, has a beginning of the answer.
+    /// Whether a writer that takes `chunk` bytes for each call and has room for `room` bytes gets a beginning of the answer.
     fn is_cut<R: Threads + Wait + Sync>(
         &self,
         rt: &R,
@@ -139,7 +139,7 @@ impl<'a> Trial<'a> {
         status == wanted && writer.taken.as_slice() == kept
     }
 
-    /// How many writers fail, if each has a beginning of the answer.
+    /// How many writers fail, if each of them gets a beginning of the answer.
     fn writes<R: Threads + Wait + Sync>(&self, rt: &R, alloc: Global) -> Option<u64> {
         let mut failed = 0u64;
         let bytes = self.whole.text.len();
@@ -157,7 +157,7 @@ impl<'a> Trial<'a> {
         Some(failed)
     }
 
-    /// How often a reader and a writer failed, if all answers are as they must be; else says which is not.
+    /// How many readers and writers failed, if all answers are as they should be. Else prints which answer is not.
     pub fn run<R: Threads + Wait + Sync, W: Write>(
         &self,
         rt: &R,

@@ -3,18 +3,18 @@
 use std::alloc::Global;
 use std::io::{self, ErrorKind, Write};
 
-/// How a writer fails.
+/// The way in which a writer fails.
 #[derive(Clone, Copy, Debug, PartialEq, Eq)]
 pub enum Failure {
     /// With an error.
     Broken,
     /// With the error that a call was interrupted.
     Interrupted,
-    /// It takes no byte.
+    /// By taking no byte.
     TakesNone,
 }
 
-/// Each of them, with how many bytes the writer takes a call.
+/// All the ways, each with the number of bytes that the writer takes for each call.
 pub const WRITERS: [(Failure, usize); 4] = [
     (Failure::Broken, 1),
     (Failure::Interrupted, 1),
@@ -22,7 +22,7 @@ pub const WRITERS: [(Failure, usize); 4] = [
     (Failure::Broken, 5),
 ];
 
-/// Takes so many bytes a call at most, and fails once it has taken all that it has room for.
+/// Takes at most `chunk` bytes for each call, and fails once `room` bytes are taken.
 #[derive(Drop)]
 pub struct Taker {
     pub taken: Vec<u8>,

@@ -1,10 +1,10 @@
 //! Drawings in SVG, as Graphviz makes them.
 
-use dot_reader::read;
 use std::alloc::Global;
 use std::str;
+use test_dot_reader::read;
 
-/// The text with the signs that SVG writes in another way.
+/// The text, with those signs replaced that SVG writes in another way.
 fn escape(alloc: Global, text: &str) -> anyhow::Result<String> {
     let mut escaped = String::new(alloc);
     for sign in text.chars() {
@@ -37,14 +37,14 @@ fn parts_of_picture(alloc: Global, dot: &[u8]) -> anyhow::Result<Vec<String>> {
     Ok(parts)
 }
 
-/// What a line of a drawing has between its first tag of that name and the end of this one.
+/// The part of a line between its first tag `tag` and the end of that tag's element.
 fn inside<'a>(line: &'a str, tag: &str) -> Option<&'a str> {
     let (_, rest) = line.strip_prefix(tag)?.split_once('>')?;
     let (text, _) = rest.split_once("</")?;
     Some(text)
 }
 
-/// What the drawing's group that was begun last stands for.
+/// What the group of the drawing stands for that was begun last.
 #[derive(Clone, Copy)]
 enum Group<'a> {
     Node(&'a str),
@@ -52,7 +52,7 @@ enum Group<'a> {
     Other,
 }
 
-/// The nodes and edges of a drawing, as those of a picture.
+/// The nodes and edges of a drawing, in the form of those of a picture.
 fn parts_of_drawing(alloc: Global, svg: &str) -> anyhow::Result<Vec<String>> {
     let mut parts = Vec::new(alloc);
     let mut group = Group::Other;
@@ -81,7 +81,7 @@ fn parts_of_drawing(alloc: Global, svg: &str) -> anyhow::Result<Vec<String>> {
     Ok(parts)
 }
 
-/// Whether the drawing has just the nodes and the edges of the picture, with the nodes' labels.
+/// Whether the drawing has exactly the nodes and the edges of the picture, and the labels of the nodes.
 pub fn is_drawn(alloc: Global, dot: &[u8], svg: &[u8]) -> anyhow::Result<bool> {
     let parts = parts_of_picture(alloc, dot)?;
     let drawn = parts_of_drawing(alloc, str::from_utf8(svg)?)?;

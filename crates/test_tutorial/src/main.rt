@@ -1,15 +1,15 @@
-//! Whether the tutorial is as the program would have it now. The words are the file of the page, which lies with the files that
-//! the page names, and maybe `make`. Each command of the page is done again, and has to print what stands below it. Prints
-//! `agree`, or the first line that differs, with status 1; with `make` the page as it has to be, and each file that a command
-//! writes.
+//! Checks that the tutorial is as the program would have it now. The first word of the command line names the file of the page;
+//! after it `make` may stand. The page lies with the files that it names. Each command of the page is run again, and has to
+//! print what stands below it. Prints `agree`, or the first line that differs, with status 1. With `make` it prints the page as
+//! it should be, and each file that a command writes.
 #![tactic(auto)]
 
-mod commands;
 mod drawings;
 mod pages;
+mod shell;
 
-use commands::Shell;
 use pages::{first_difference, made_page};
+use shell::Shell;
 use std::io::{self, Write};
 use std::process::ExitCode;
 use std::{env, fs};

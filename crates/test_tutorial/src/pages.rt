@@ -1,15 +1,15 @@
-//! Pages with commands and what these print.
+//! Pages with commands and with what these print.
 //!
-//! In a block of code that begins with a line "```console", each line that begins with `$ ` is a command, and the lines up to
-//! the next command or the end of the block are what it prints.
+//! In a block of code that begins with a line "```console", each line that begins with `$ ` is a command. The lines up to the
+//! next command, or up to the end of the block, are what it prints.
 
-use crate::commands::Shell;
+use crate::shell::Shell;
 use anyhow::Context;
 use std::sync::Wait;
 use std::thread::Threads;
 use std::{fmt, str};
 
-/// The page with what its commands print now.
+/// The page, with what its commands print now.
 pub fn made_page<R: Threads + Wait + Sync>(
     rt: &R,
     shell: &mut Shell<'_>,
@@ -35,7 +35,7 @@ pub fn made_page<R: Threads + Wait + Sync>(
     Ok(made)
 }
 
-/// Where two pages differ first.
+/// The first place where two pages differ.
 #[derive(Clone, Copy)]
 pub struct Difference<'a> {
     line: usize,
@@ -52,7 +52,7 @@ impl fmt::Display for Difference<'_> {
     }
 }
 
-/// Where the first page differs from the one that is wanted.
+/// The first place where `page` differs from `wanted`.
 pub fn first_difference<'a>(page: &'a str, wanted: &'a str) -> Option<Difference<'a>> {
     let mut last = 0usize;
     for (number, (stands, wanted)) in page.lines().zip(wanted.lines()).enumerate() {

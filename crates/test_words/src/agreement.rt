@@ -2,19 +2,21 @@
 
 use clap::ArgMatches;
 use clap::error::ErrorKind;
-use command_line::{Asked, Inputs, Mode, Request, RunOptions, read_words, version_line};
+use command_line::{
+    Asked, Format, Inputs, Mode, Request, RunOptions, Sizes, read_words, version_line,
+};
 use command_texts::{help_text, mistake_text, program_command};
 use std::alloc::Global;
 use std::fmt;
 
-/// How many lists of words ask for what.
+/// How many lists of words ask for each thing.
 #[derive(Debug, Drop)]
 pub struct Tally {
     requests: u64,
     helps: u64,
     versions: u64,
     mistakes: u64,
-    /// Lists of which the two readings differ, or the two texts.
+    /// Lists for which the two readings, or the two texts, differ.
     differing: u64,
 }
 
@@ -82,7 +84,47 @@ fn options_in(matches: &ArgMatches<'_>) -> Option<RunOptions> {
     })
 }
 
-/// The request that `clap` reads, but for inputs.
+fn options_without_mode(matches: &ArgMatches<'_>) -> Option<RunOptions> {
+    Some(RunOptions {
+        elements: matches.get_one::<u64>("elements")?,
+        frames: matches.get_one::<u64>("frames")?,
+        steps: matches.get_one::<u64>("steps")?,
+        mode: Some(Mode::One),
+    })
+}
+
+fn format_in(word: &str) -> Option<Format> {
+    if word == "text" {
+        Some(Format::Lines)
+    } else if word == "chrome" {
+        Some(Format::Chrome)
+    } else {
+        None
+    }
+}
+
+/// Whether the numbers of elements are those in this list.
+fn are_sizes(sizes: Sizes, words: &[&str]) -> bool {
+    (0..64).all(|size: u64| {
+        sizes.has(size)
+            == words.iter().any(|word| match word.parse::<u64>() {
+                Ok(number) => number.min(63) == size,
+                Err(_fault) => false,
+            })
+    })
+}
+
+/// Whether `clap` reads this profile.
+fn is_profile(matches: &ArgMatches<'_>, options: &RunOptions, sizes: Sizes, svg: bool) -> bool {
+    matches.get_one::<u64>("frames") == Some(options.frames)
+        && matches.get_one::<u64>("steps") == Some(options.steps)
+        && options.elements == 1
+        && options.mode == Some(Mode::One)
+        && matches.get_flag("svg") == svg
+        && are_sizes(sizes, matches.get_strs("elements").unwrap_or(&[]))
+}
+
+/// The request that `clap` reads, except for its inputs and lists.
 fn request_in(matches: &ArgMatches<'_>) -> Option<Request> {
     match matches.subcommand() {
         Some(("run", run)) => Some(Request::Run(options_in(run)?)),
@@ -95,6 +137,17 @@ fn request_in(matches: &ArgMatches<'_>) -> Option<Request> {
         }),
         Some(("dot", dot)) => Some(Request::Dot {
             code: dot.get_flag("code"),
+        }),
+        Some(("asm", _)) => Some(Request::Asm),
+        Some(("trace", trace)) => Some(Request::Trace {
+            options: options_in(trace)?,
+            last: trace.get_one::<u64>("last"),
+            format: format_in(trace.get_str("format")?)?,
+        }),
+        Some(("orders", orders)) => Some(Request::Orders {
+            options: options_without_mode(orders)?,
+            count: orders.get_one::<u64>("count")?,
+            seed: orders.get_one::<u64>("seed")?,
         }),
         _ => None,
     }
@@ -131,7 +184,7 @@ fn are_inputs(inputs: &Inputs, words: &[&str]) -> bool {
     }
 }
 
-/// Whether `clap` reads the request.
+/// Whether `clap` reads this request.
 fn is_read(request: &Request, matches: &ArgMatches<'_>) -> bool {
     match (request, matches.subcommand()) {
         (Request::Exec { options, inputs }, Some(("exec", exec))) => {
@@ -141,6 +194,14 @@ fn is_read(request: &Request, matches: &ArgMatches<'_>) -> bool {
                 None => false,
             }
         }
+        (
+            Request::Profile {
+                options,
+                sizes,
+                svg,
+            },
+            Some(("profile", profile)),
+        ) => is_profile(profile, options, *sizes, *svg),
         _ => match request_in(matches) {
             Some(other) => is_same(request, &other),
             None => false,
@@ -157,6 +218,31 @@ fn is_same(a: &Request, b: &Request) -> bool {
         (Request::Compile, Request::Compile) => true,
         (Request::Dis, Request::Dis) => true,
         (Request::Upgrade, Request::Upgrade) => true,
+        (Request::Asm, Request::Asm) => true,
+        (
+            Request::Trace {
+                options: a,
+                last: b,
+                format: c,
+            },
+            Request::Trace {
+                options: d,
+                last: e,
+                format: f,
+            },
+        ) => are_same(a, d) && *b == *e && *c == *f,
+        (
+            Request::Orders {
+                options: a,
+                count: b,
+                seed: c,
+            },
+            Request::Orders {
+                options: d,
+                count: e,
+                seed: f,
+            },
+        ) => are_same(a, d) && *b == *e && *c == *f,
         _ => false,
     }
 }
@@ -172,7 +258,7 @@ fn agreed_if(agrees: bool, agreed: Agreed) -> Agreed {
     if agrees { agreed } else { Agreed::Differing }
 }
 
-/// What both readings say of the words, of which the program's name is the first. Of help, the version and a mistake the texts
+/// What both readings say of the words, the first of which is the program's name. For help, the version and a mistake the texts
 /// have to agree too.
 pub fn agree_on(alloc: Global, words: &[&str]) -> anyhow::Result<Agreed> {
     let asked = read_words(words.get(1..).unwrap_or(&[]));

@@ -1,5 +1,6 @@
-//! Thousands of command lines: `clap`, with the command line as it stands in `command_texts`, and `read_words` have to agree on
-//! what each asks for, with all its values, and on its text. Then some texts whole, which `stdout` has to have.
+//! Tries thousands of command lines. `clap`, with the command line as it stands in `command_texts`, and `read_words` have to
+//! agree on what each of them asks for, with all its values, and on its text. Then prints some texts whole, which have to be as
+//! in `stdout`.
 #![tactic(auto)]
 
 mod agreement;
@@ -9,7 +10,7 @@ use command_line::{Asked, read_words};
 use command_texts::{help_text, mistake_text};
 use std::alloc::Global;
 
-/// What may stand after `ets`: units of one word or more, with a space between.
+/// What may stand after `ets`: units of one or more words, with a space between two words.
 const FIRST: [&str; 34] = [
     "run",
     "mean",
@@ -74,7 +75,7 @@ const OPTIONS: [&str; 23] = [
     "",
 ];
 
-/// Options with their values, to be given in any order, and some that are refused.
+/// Options with their values, to be given in any order; some of them are refused.
 const VALUES: [&str; 10] = [
     "--elements 4",
     "--elements=16",
@@ -88,7 +89,7 @@ const VALUES: [&str; 10] = [
     "--help",
 ];
 
-/// Words of which all short lists are tried.
+/// Words; all short lists of them are tried.
 const WORDS: [&str; 8] = [
     "--elements",
     "--elements=4",
@@ -118,6 +119,30 @@ const INPUTS: [&str; 16] = [
     "-h",
     "-V",
     "1 2 3 4 5 6 7 8 9",
+];
+
+/// What may stand after `trace`, `profile` and `orders`.
+const MEASURES: [&str; 20] = [
+    "--last 3",
+    "--last=x",
+    "--format chrome",
+    "--format=text",
+    "--format=Text",
+    "--elements 4",
+    "--elements=1,2,16",
+    "--elements=1,,2",
+    "--elements=,",
+    "--elements 3,3,+07,99",
+    "--frames=21",
+    "--mode free",
+    "--svg",
+    "--svg=x",
+    "--count 7",
+    "--seed=0",
+    "--code",
+    "--",
+    "--help",
+    "4",
 ];
 
 /// Words for a number.
@@ -151,16 +176,17 @@ const NUMBERS: [&str; 26] = [
 ];
 
 /// Commands without options.
-const LEAVES: [&str; 5] = [
+const LEAVES: [&str; 6] = [
     "ets check",
     "ets compile",
     "ets dis",
+    "ets asm",
     "ets upgrade",
     "ets help",
 ];
 
-/// Command lines of which the text is printed whole.
-const TEXTS: [&str; 23] = [
+/// Command lines whose text is printed whole.
+const TEXTS: [&str; 28] = [
     "ets",
     "ets --help",
     "ets help help",
@@ -184,6 +210,11 @@ const TEXTS: [&str; 23] = [
     "ets run -4",
     "ets exec --help",
     "ets exec -4",
+    "ets asm --help",
+    "ets trace --help",
+    "ets trace --format dot",
+    "ets profile --help",
+    "ets orders --help",
 ];
 
 fn try_lists<'a>(
@@ -216,7 +247,7 @@ fn words_of<'a>(alloc: Global, line: &'a str) -> anyhow::Result<Vec<&'a str>> {
     Ok(words)
 }
 
-/// All lists of so many units at most after the words of the front.
+/// Tries all lists of at most `more` units after the words of `front`.
 fn try_after<'a>(
     alloc: Global,
     front: &'a str,
@@ -259,7 +290,7 @@ fn try_numbers(alloc: Global) -> anyhow::Result<Tally> {
     Ok(tally)
 }
 
-/// The text of what is no request.
+/// The text of a command line that is not a request.
 fn text_of(alloc: Global, words: &[&str]) -> anyhow::Result<Option<String>> {
     Ok(match read_words(words.get(1..).unwrap_or(&[])) {
         Asked::Request(_request) => None,
@@ -302,6 +333,12 @@ fn main(rt: HostRuntime) -> anyhow::Result<()> {
         "ets exec: {}",
         try_after(alloc, "ets exec", INPUTS.as_slice(), 2)?
     )?;
+    for command in ["ets trace", "ets profile", "ets orders"] {
+        println!(rt;
+            "{command}: {}",
+            try_after(alloc, command, MEASURES.as_slice(), 2)?
+        )?;
+    }
     println!(rt; "numbers: {}", try_numbers(alloc)?)?;
     for line in TEXTS {
         print_text(&rt, line)?;

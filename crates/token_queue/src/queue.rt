@@ -72,7 +72,7 @@ impl<A: Allocator> TokenQueue<A> {
         self.count
     }
 
-    /// Makes room for so many tokens more; room that is there already stays as it is. After an error all stands as before.
+    /// Makes room for `tokens` more tokens; room that is there already stays as it is. After an error all stands as before.
     #[inline(always)]
     pub fn reserve(&mut self, tokens: usize) -> Result<(), AllocError>
         ensures items { self.new.items ≡ self.old.items }
@@ -88,7 +88,7 @@ impl<A: Allocator> TokenQueue<A> {
         self.grow(tokens)
     }
 
-    // Takes at least twice the room, and enough for so many tokens more.
+    // Takes at least twice the room, and enough for `tokens` more tokens.
     #[inline(never)]
     fn grow(&mut self, tokens: usize) -> Result<(), AllocError>
         ensures items { self.new.items ≡ self.old.items }

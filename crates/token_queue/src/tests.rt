@@ -115,7 +115,7 @@ fn keeps_its_tokens_at_each_head(rt: HostRuntime) -> Result<(), Fail> {
     Ok(())
 }
 
-/// Puts so many tokens into a queue whose first was taken out, and says how many went in.
+/// Puts tokens into a queue whose first was taken out, and says how many went in.
 fn pushed<A: Allocator>(queue: &mut TokenQueue<A>, count: u32) -> Result<u32, AllocError> {
     for number in 0..count {
         if queue.reserve(1).is_err() {

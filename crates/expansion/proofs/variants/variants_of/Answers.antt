@@ -10,13 +10,15 @@ next_more : (bs : List (Block ℕ)) (n x y : ℕ) (t : Bool) → x ≡ next_vari
 next_more bs n x y t a h q =
     q ∙ ap (λ u. if u then x + 1 else x) h ∙ ap (λ k. if some_block_loops n bs then k + 1 else k) a ∙ sym (ap (next_variant bs) (add-one n))
 
-pub loop-number-preserved : goal.loop-number-preserved
-loop-number-preserved g c =
+pub loop-looped-preserved : goal.loop-looped-preserved
+loop-looped-preserved g c =
     let bs = c.args.blocks.now in
-    let n = c.loop-number.number in
+    let n = c.loop-looped.looped-index in
     let few = c.following-next.ensures.few in
-    let old = c.loop-number.invariant.2 in (
-      items_more bs n c.loop-number.variants.items c.push.new.self.items c.loop-number.next c.loop-number.invariant.0 c.loop-number.invariant.1 c.in_ok-push.ensures.items,
-      next_more bs n c.loop-number.next c.following-next.result c.is_looped.result c.loop-number.invariant.1 c.is_looped.ensures c.following-next.ensures.exact,
+    let below = c.loop-looped-test.true in
+    let same = c.requires.looped.0 in
+    let old = c.loop-looped.invariant.2 in (
+      items_more bs n c.loop-looped.variants.items c.push.new.self.items c.loop-looped.next c.loop-looped.invariant.0 c.loop-looped.invariant.1 c.in_ok-push.ensures.items,
+      next_more bs n c.loop-looped.next c.following-next.result _ c.loop-looped.invariant.1 (c.requires.looped.1 n (omega (arith, below, same))) c.following-next.ensures.exact,
       omega (arith, few, old),
     )

@@ -12,7 +12,7 @@ use Rattle.element.proofs.lane.Lane.at_any.Goals as goal
 
 pub fire-requires-clause-slot_room : goal.fire-requires-clause-slot_room
 fire-requires-clause-slot_room g c =
-    subst (λ (v : SlotState). HasRoomInSlot v) (sym c.slot_of-slot.ensures) (room_in_slot (g.C.Instructions.program c.args.code.now) (part_of c.args.self.now) c.args.seat.frame (slot_of (instr_of c.args.instr) c.args.instr.op) c.requires.sound.part)
+    subst (λ (v : SlotState). HasRoomInSlot v) (sym c.slot_of-slot.ensures) (room_in_slot (g.C.Instructions.program c.args.code.now) (part_of c.args.self.now) c.args.seat.frame (slot_of (instr_of c.args.instr) c.args.instr.op) c.requires.can.sound.part)
 
 pub send_all-requires-clause-some : goal.send_all-requires-clause-some
 send_all-requires-clause-some g c =
@@ -23,10 +23,10 @@ send_all-requires-clause-some g c =
     let i = c.args.instr in
     let v = c.in-Becomes.slot in
     let made = tokens_of (seat_of c.args.seat) c.fire.new.made in
-    let changes = instructed p (g.C.Instructions.width c.args.code.now) old.part c.args.token.now c.args.seat.frame c.args.seat.ip c.args.port i v made c.slot_of-slot.result c.requires.sound.part c.requires.width c.requires.address c.requires.near c.requires.addressed
+    let changes = instructed p (g.C.Instructions.width c.args.code.now) old.part c.args.token.now c.args.seat.frame c.args.seat.ip c.args.port i v made c.slot_of-slot.result c.requires.can.sound.part c.requires.can.width c.requires.address c.requires.can.near c.requires.can.addressed
     c.requires.short c.requires.found c.slot_of-slot.ensures (sym c.in-Becomes.ensures) in
     let second = c.take.ensures.held ∙ ap (λ (m : Held). taken m c.args.at) c.keep.ensures.held ∙ ap (λ (m : Held). taken (with_part mid (with_state_in m.part c.args.seat.frame (slot_of (instr_of i) i.op) v)) c.args.at) same in
-    let some : 0 < c.args.self.now.elements = (let l = c.requires.sound.part.there in omega (arith, l)) in
+    let some : 0 < c.args.self.now.elements = (let l = c.requires.can.sound.part.there in omega (arith, l)) in
     subst (λ (n : ℕ). 0 < n) (sym (ap (λ (h : Held). h.part.shape.elements) second ∙ ap (λ (z : Shape). z.elements) changes.shape)) some
 
 pub returns-else-is_err : goal.returns-else-is_err
@@ -38,7 +38,7 @@ returns-else-is_err g c =
     let i = c.args.instr in
     let v = c.in-Becomes.slot in
     let made = tokens_of (seat_of c.args.seat) c.fire.new.made in
-    let changes = instructed p (g.C.Instructions.width c.args.code.now) old.part c.args.token.now c.args.seat.frame c.args.seat.ip c.args.port i v made c.slot_of-slot.result c.requires.sound.part c.requires.width c.requires.address c.requires.near c.requires.addressed
+    let changes = instructed p (g.C.Instructions.width c.args.code.now) old.part c.args.token.now c.args.seat.frame c.args.seat.ip c.args.port i v made c.slot_of-slot.result c.requires.can.sound.part c.requires.can.width c.requires.address c.requires.can.near c.requires.can.addressed
     c.requires.short c.requires.found c.slot_of-slot.ensures (sym c.in-Becomes.ensures) in
     let second = c.take.ensures.held ∙ ap (λ (m : Held). taken m c.args.at) c.keep.ensures.held ∙ ap (λ (m : Held). taken (with_part mid (with_state_in m.part c.args.seat.frame (slot_of (instr_of i) i.op) v)) c.args.at) same in
     acts p old mid (held_of c.take.new.self) (held_of c.send_all.new.self) c.args.at c.args.token.now made (with_state_in old.part c.args.seat.frame (slot_of (instr_of i) i.op) v) c.args.sent.now.items c.make_room.new.sent.items c.send_all.new.sent.items

@@ -16,7 +16,7 @@ returns-in-Waits g c =
     let old : Held = held_of c.args.self.now in
     let s = c.args.seat in
     let i = c.args.instr.now in
-    waits_as p (g.C.Instructions.width c.args.code.now) old c.args.token.now s.frame s.ip c.args.port i (Some i.slot) c.slot_state-held.result c.requires.sound.part c.requires.width c.requires.address c.requires.near c.requires.addressed c.requires.short
+    waits_as p (g.C.Instructions.width c.args.code.now) old c.args.token.now s.frame s.ip c.args.port i (Some i.slot) c.slot_state-held.result c.requires.can.sound.part c.requires.can.width c.requires.address c.requires.can.near c.requires.can.addressed c.requires.short
     c.requires.found (pair_slot (instr_of i) i.op c.requires.pair) c.slot_state-held.ensures c.in-Waits.state c.args.at c.args.sent.now.items (held_of c.wait.new.self)
     (pair_meets p (seat_of s) (instr_of i) i.op c.slot_state-held.result c.args.port c.args.token.now.word c.requires.pair ∙ c.in-Waits.ensures.meets p (seat_of s) (instr_of i)) c.wait.ensures
 
@@ -28,7 +28,7 @@ returns-in-Some g c =
     let i = c.args.instr.now in
     let w = c.args.token.now.word in
     let made : Option (List Token) → Type 0 = λ m. FiresAs m (with_state_in old.part s.frame (Some i.slot) Empty) old c.args.at c.args.sent.now.items c.pass.result (held_of c.pass.new.self) c.pass.new.sent.items in
-    fired_as p (g.C.Instructions.width c.args.code.now) old c.args.token.now s.frame s.ip c.args.port i (Some i.slot) c.slot_state-held.result c.requires.sound.part c.requires.width c.requires.address c.requires.near c.requires.addressed c.requires.short
+    fired_as p (g.C.Instructions.width c.args.code.now) old c.args.token.now s.frame s.ip c.args.port i (Some i.slot) c.slot_state-held.result c.requires.can.sound.part c.requires.can.width c.requires.address c.requires.can.near c.requires.can.addressed c.requires.short
     c.requires.found (pair_slot (instr_of i) i.op c.requires.pair) c.slot_state-held.ensures Empty (fire_two p (seat_of s) (instr_of i) i.op c.in-Both.left c.in-Both.right) c.args.at c.args.sent.now.items c.pass.result (held_of c.pass.new.self)
     c.pass.new.sent.items (pair_meets p (seat_of s) (instr_of i) i.op c.slot_state-held.result c.args.port w c.requires.pair ∙ c.in-Both.ensures.meets p (seat_of s) (instr_of i))
     (subst made (sym (c.in-Some.ensures p (seat_of s))) c.pass.ensures)
@@ -40,6 +40,6 @@ returns-in-None g c =
     let s = c.args.seat in
     let i = c.args.instr.now in
     let w = c.args.token.now.word in
-    fired_as p (g.C.Instructions.width c.args.code.now) old c.args.token.now s.frame s.ip c.args.port i (Some i.slot) c.slot_state-held.result c.requires.sound.part c.requires.width c.requires.address c.requires.near c.requires.addressed c.requires.short
+    fired_as p (g.C.Instructions.width c.args.code.now) old c.args.token.now s.frame s.ip c.args.port i (Some i.slot) c.slot_state-held.result c.requires.can.sound.part c.requires.can.width c.requires.address c.requires.can.near c.requires.can.addressed c.requires.short
     c.requires.found (pair_slot (instr_of i) i.op c.requires.pair) c.slot_state-held.ensures Empty (fire_two p (seat_of s) (instr_of i) i.op c.in-Both.left c.in-Both.right) c.args.at c.args.sent.now.items c.fire_pair.result (held_of c.fire_pair.new.self)
     c.fire_pair.new.sent.items (pair_meets p (seat_of s) (instr_of i) i.op c.slot_state-held.result c.args.port w c.requires.pair ∙ c.in-Both.ensures.meets p (seat_of s) (instr_of i)) c.fire_pair.ensures

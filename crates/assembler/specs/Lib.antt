@@ -1,0 +1,10 @@
+pub mod Words
+pub mod Grammar
+pub mod Given
+pub mod Fields
+pub mod Lines
+pub mod Found
+pub mod Reading
+pub mod Checks
+pub mod Assembling
+pub mod Laws

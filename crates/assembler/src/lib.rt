@@ -1,0 +1,15 @@
+//! The assembler: reads a listing, and gives the code of the object that it is of. The inverse of `disassembler::list`.
+#![tactic(auto)]
+
+mod assembling;
+mod checks;
+mod fault;
+mod fields;
+mod found;
+mod lines;
+mod names;
+mod reading;
+mod words;
+
+pub use assembling::{Assembled, assemble, comes_back, one_object};
+pub use fault::{AsmFault, AsmFaultKind};

@@ -1,0 +1,128 @@
+-- What refuses an input, or what is made of it.
+use Rattle.std.proofs.Common.{◌≡◌, ℕ, ℤ, List, ◌++◌, length, Bool, false, inl, inr, Result, Ok, Err, refl, sym, ◌∙◌, subst}
+use Rattle.std.specs.Prelude.{Option, Some, None, ⊤}
+use Rattle.std.specs.Io.KnownBytes.{Appends}
+use Rattle.sink.specs.Sends.{Sends}
+use Rattle.tags.specs.declared.value.Value.{Value}
+use Rattle.semantics.specs.Graph.{Graph}
+use Rattle.semantics.specs.Report.{Report}
+use Rattle.schedule.specs.declared.config.Config.{Config}
+use Rattle.schedule.specs.declared.config.StartFault.{StartFault}
+use Rattle.oracle.specs.declared.report.MeanEnd.{MeanEnd}
+use Rattle.oracle.specs.declared.report.Full.{Full}
+use Rattle.oracle.specs.Reporting.{IsMeant}
+use Rattle.command_line.specs.declared.Mode.{Mode}
+use Rattle.command_line.specs.declared.RunOptions.{RunOptions}
+use Rattle.command_line.specs.declared.inputs.Inputs.{Inputs}
+use Rattle.driver.specs.declared.fault.Fault.{Fault}
+use Rattle.commands.specs.declared.input.LinesFault.{LinesFault}
+use Rattle.commands.specs.declared.refusal.Refusal.{Refusal}
+use Rattle.driver.specs.Headline.{TellsQuietly, stops_in}
+use Rattle.commands.specs.Input.{graph_length, integers_of, IsBadInput}
+use Rattle.driver.specs.Objects.{ShowsObject, Quietly}
+use Rattle.driver.specs.Refused.{IsGoodText, IsReady, IsReadyObject, IsBadText, IsRefused, IsRefusedMeaning, IsRefusedObject}
+use Rattle.commands.specs.Refusals.{told_as}
+use Rattle.commands.specs.Served.{Prints, Parts, config_of, IsRefusedLine, IsRunOf, IsNoRunOf, WhyNoRun, IsMeaningOf, IsNoMeaningOf, WhyNoMeaning, IsExecOf, IsNoExecOf}
+
+-- WHAT IS PRINTED
+pub printed : (E : Type 0) (x : ⊤) (n : ℕ) (old new : Option (List ℕ)) (sent text : List ℕ) (status : ℕ) → sent ≡ text → n ≡ status → Sends {E = E} (Ok x) old new sent → Prints {E = E} (Ok n) old new text status
+unfolding Sends
+printed E x n old new sent text status same is h = (is, subst (λ (l : List ℕ). Appends old new l) same h)
+
+pub stopped : (E : Type 0) (e : E) (old new : Option (List ℕ)) (sent text : List ℕ) (status : ℕ) → sent ≡ text → Sends {E = E} (Err e) old new sent → Prints {E = E} (Err e) old new text status
+unfolding Sends
+stopped E e old new sent text status same h = (h.0, h.1, sym same ∙ h.2, h.3)
+
+-- no run is stopped by a gate that stops none
+pub never_stops : (mode : Mode) (may_stop : Bool) → may_stop ≡ false → stops_in mode may_stop ≡ false
+never_stops Mode.One may_stop never = refl
+never_stops Mode.Rounds may_stop never = never
+never_stops Mode.Free may_stop never = never
+
+-- a line that is no integer
+pub bad_line_of : (lines : List ℕ) (f : LinesFault) (n : ℕ) → f ≡ LinesFault.BadLine n → IsBadInput lines f → integers_of lines ≡ Err n
+bad_line_of lines f n is bad = subst (λ (x : LinesFault). IsBadInput lines x) is bad
+
+-- EXEC
+pub executed : (bytes : List ℕ) (o : RunOptions) (inputs : List ℤ) (r : Report) (mode : Mode) → o.mode ≡ Some mode → (c : Config) → c ≡ config_of o
+    → Quietly (ShowsObject bytes inputs c false false) r → IsExecOf bytes o (Inputs.Integers (record { items = inputs })) r
+executed bytes o inputs r mode named c same shows = record {
+  inputs = inputs;
+  integers = refl;
+  mode = mode;
+  named = named;
+  shows = subst (λ (d : Config). Quietly (ShowsObject bytes inputs d false false) r) same shows;
+}
+
+pub refused_exec : (bytes : List ℕ) (o : RunOptions) (inputs : List ℤ) (c : Config) → c ≡ config_of o → (fault : Fault) → IsRefusedObject bytes inputs c fault
+    → (f : Refusal) → f ≡ told_as fault → IsNoExecOf bytes o (Inputs.Integers (record { items = inputs })) f
+refused_exec bytes o inputs c same fault refused f told = inr (inr (inl (fault, subst (λ (d : Config). IsRefusedObject bytes inputs d fault) same refused, told)))
+
+pub no_mode_to_exec : (bytes : List ℕ) (o : RunOptions) (inputs : List ℤ) (c : Config) → c ≡ config_of o → IsReadyObject bytes inputs c → o.mode ≡ None
+    → IsNoExecOf bytes o (Inputs.Integers (record { items = inputs })) (Refusal.Start StartFault.BadConfig)
+no_mode_to_exec bytes o inputs c same ready mode = inr (inr (inr (subst (λ (d : Config). IsReadyObject bytes inputs d) same ready, mode, refl)))
+
+module _ (input text lines : List ℕ) (whole : text ++ lines ≡ input) (end : length text ≡ graph_length input) where
+  abbrev parts : Parts input
+  parts = record { text = text; lines = lines; whole = whole; end = end }
+
+  -- RUN
+  pub ran : (o : RunOptions) (g : Graph) (r : Report) (inputs : List ℤ) → integers_of lines ≡ Ok inputs → (mode : Mode) → o.mode ≡ Some mode → (c : Config) → c ≡ config_of o
+      → TellsQuietly text g inputs c false r → IsRunOf input o g r
+  ran o g r inputs integers mode named c same tells = record {
+    parts = parts;
+    inputs = inputs;
+    integers = integers;
+    mode = mode;
+    named = named;
+    tells = subst (λ (d : Config). TellsQuietly text g inputs d false r) same tells;
+  }
+
+  pub no_memory : (o : RunOptions) → IsNoRunOf input o Refusal.Memory
+  no_memory o = record { parts = parts; why = inl refl }
+
+  pub refused_run : (o : RunOptions) (inputs : List ℤ) → integers_of lines ≡ Ok inputs → (c : Config) → c ≡ config_of o → (fault : Fault) → IsRefused text inputs c fault
+      → (f : Refusal) → f ≡ told_as fault → IsNoRunOf input o f
+  refused_run o inputs integers c same fault refused f told = record {
+    parts = parts;
+    why = inr (subst (λ (z : Result (List ℤ) ℕ). WhyNoRun z text o f) (sym integers) (inl (fault, subst (λ (d : Config). IsRefused text inputs d fault) same refused, told)));
+  }
+
+  pub no_mode : (o : RunOptions) (inputs : List ℤ) → integers_of lines ≡ Ok inputs → (c : Config) → c ≡ config_of o → IsReady text inputs c → o.mode ≡ None
+      → IsNoRunOf input o (Refusal.Start StartFault.BadConfig)
+  no_mode o inputs integers c same ready mode = record {
+    parts = parts;
+    why = inr (subst (λ (z : Result (List ℤ) ℕ). WhyNoRun z text o (Refusal.Start StartFault.BadConfig)) (sym integers) (inr (subst (λ (d : Config). IsReady text inputs d) same ready, mode, refl)));
+  }
+
+  pub bad_line : (o : RunOptions) (n : ℕ) (f : Refusal) → integers_of lines ≡ Err n → IsRefusedLine text n f → IsNoRunOf input o f
+  bad_line o n f integers refused = record {
+    parts = parts;
+    why = inr (subst (λ (z : Result (List ℤ) ℕ). WhyNoRun z text o f) (sym integers) refused);
+  }
+
+  -- MEAN
+  pub meant : (steps : ℕ) (g : Graph) (e : MeanEnd) (outputs : List (Option Value)) (cells : List Full) (inputs : List ℤ) → integers_of lines ≡ Ok inputs
+      → IsGoodText text g → IsMeant g inputs steps e outputs cells → IsMeaningOf input steps g e outputs cells
+  meant steps g e outputs cells inputs integers good is = record { parts = parts; inputs = inputs; integers = integers; good = good; meant = is }
+
+  pub no_memory_to_mean : IsNoMeaningOf input Refusal.Memory
+  no_memory_to_mean = record { parts = parts; why = inl refl }
+
+  pub refused_meaning : (inputs : List ℤ) → integers_of lines ≡ Ok inputs → (fault : Fault) → IsRefusedMeaning text inputs fault → (f : Refusal) → f ≡ told_as fault → IsNoMeaningOf input f
+  refused_meaning inputs integers fault refused f told = record {
+    parts = parts;
+    why = inr (subst (λ (z : Result (List ℤ) ℕ). WhyNoMeaning z text f) (sym integers) (fault, refused, told));
+  }
+
+  pub bad_text : (n : ℕ) → integers_of lines ≡ Err n → (fault : Fault) → IsBadText text fault → (f : Refusal) → f ≡ told_as fault → IsNoMeaningOf input f
+  bad_text n integers fault bad f told = record {
+    parts = parts;
+    why = inr (subst (λ (z : Result (List ℤ) ℕ). WhyNoMeaning z text f) (sym integers) (inl (fault, bad, told)));
+  }
+
+  pub bad_line_to_mean : (n : ℕ) (g : Graph) → integers_of lines ≡ Err n → IsGoodText text g → IsNoMeaningOf input (Refusal.InputLine n)
+  bad_line_to_mean n g integers good = record {
+    parts = parts;
+    why = inr (subst (λ (z : Result (List ℤ) ℕ). WhyNoMeaning z text (Refusal.InputLine n)) (sym integers) (inr ((g, good), refl)));
+  }

@@ -1,0 +1,23 @@
+use Rattle.std.proofs.Common.{◌≡◌, ◌⊎◌, false, ℤ, List, subst}
+use Rattle.oracle.specs.Waves.{AreWavesOf}
+use Rattle.driver.specs.Refused.{IsRefusedMeaning}
+use Rattle.commands.specs.declared.refusal.Refusal.{Refusal}
+use Rattle.commands.specs.Profiled.{IsNoRow}
+use Rattle.commands.proofs.Givens.{not_profiled, waves_refused, rows_refused}
+use Rattle.commands.proofs.profiling.make_profile.Goals as goal
+
+pub returns-in-Err : goal.returns-in-Err
+returns-in-Err g c = not_profiled c.args.input.now c.in-Err.refusal c.in-Err.ensures c.args.options.now c.args.sizes c.args.svg
+
+pub returns-in-Err-waves_text : goal.returns-in-Err-waves_text
+returns-in-Err-waves_text g c =
+    waves_refused c.args.input.now _ _ c.in-Ok.ensures c.args.options.now c.args.sizes c.args.svg c.in-Err-waves_text.fault
+    (subst (λ (zs : List ℤ). IsRefusedMeaning c.in-Ok.given.text.now zs c.in-Err-waves_text.fault) c.deref.ensures.value c.in-Err-waves_text.ensures.refused) c.from.result c.from.ensures
+
+pub returns : goal.returns
+returns g c =
+    let w = c.in-Ok-waves_text.waves in
+    let f = c.in-Err-rows_beside.refusal in
+    rows_refused c.args.input.now _ _ c.in-Ok.ensures c.args.options.now c.args.sizes c.args.svg w.checked w.report.end w.report.counts.items c.in-Ok-waves_text.ensures.good
+    (subst (λ (zs : List ℤ). AreWavesOf w.checked zs c.args.options.now.steps w.report.end w.report.counts.items) c.deref.ensures.value c.in-Ok-waves_text.ensures.waves) f
+    (subst (λ (zs : List ℤ). (f ≡ Refusal.Memory) ⊎ ((c.args.svg ≡ false) × IsNoRow c.in-Ok.given.text.now zs c.args.options.now c.args.sizes f)) c.deref-2.ensures.value c.in-Err-rows_beside.ensures)

@@ -1,0 +1,30 @@
+use Rattle.std.proofs.Common.{inl, ap, List}
+use Rattle.profile_text.specs.declared.lines.MachineRow.{MachineRow}
+use Rattle.commands.specs.Status.{meaning_status}
+use Rattle.commands.specs.Profiled.{text_of}
+use Rattle.commands.proofs.Served.{printed, stopped}
+use Rattle.commands.proofs.profiling.print_profile.Goals as goal
+
+pub returns-in-Ok-write_made : goal.returns-in-Ok-write_made
+returns-in-Ok-write_made g c =
+    let p = c.in-Ok.profile in
+    inl (
+      p.waves.checked,
+      p.waves.report.end,
+      p.waves.report.counts.items,
+      p.rows.items,
+      c.in-Ok.ensures,
+      printed _ _ _ _ _ _ _ (meaning_status p.waves.report.end) (ap (λ (l : List MachineRow). text_of c.args.svg p.waves.checked p.waves.report.end p.waves.report.counts.items l) c.deref.ensures.value) c.status_of_meaning.ensures c.in-Ok-write_made.ensures,
+    )
+
+pub returns : goal.returns
+returns g c =
+    let p = c.in-Ok.profile in
+    inl (
+      p.waves.checked,
+      p.waves.report.end,
+      p.waves.report.counts.items,
+      p.rows.items,
+      c.in-Ok.ensures,
+      stopped _ _ _ _ _ _ (meaning_status p.waves.report.end) (ap (λ (l : List MachineRow). text_of c.args.svg p.waves.checked p.waves.report.end p.waves.report.counts.items l) c.deref.ensures.value) c.in-Err-write_made.ensures,
+    )

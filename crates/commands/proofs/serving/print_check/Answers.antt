@@ -1,0 +1,9 @@
+use Rattle.std.proofs.Common.{inl, refl}
+use Rattle.commands.proofs.Served.{printed, stopped}
+use Rattle.commands.proofs.serving.print_check.Goals as goal
+
+pub returns-in-Ok-send : goal.returns-in-Ok-send
+returns-in-Ok-send g c = inl (c.in-Ok._checked, c.in-Ok.ensures, printed _ _ 0 _ _ _ _ 0 refl refl c.in-Ok-send.ensures)
+
+pub returns-in-Ok : goal.returns-in-Ok
+returns-in-Ok g c = inl (c.in-Ok._checked, c.in-Ok.ensures, stopped _ _ _ _ _ _ 0 refl c.in-Err-send.ensures)

@@ -1,0 +1,30 @@
+use Rattle.std.proofs.Common.{inl, ap}
+use Rattle.semantics.specs.Graph.{Graph}
+use Rattle.report_text.specs.ReportText.{meaning_text}
+use Rattle.commands.specs.Status.{meaning_status}
+use Rattle.commands.proofs.Served.{printed, stopped}
+use Rattle.commands.proofs.serving.print_meaning.Goals as goal
+
+pub returns-in-Ok-write_meaning : goal.returns-in-Ok-write_meaning
+returns-in-Ok-write_meaning g c =
+    let m = c.in-Ok.meant in
+    inl (
+      m.checked,
+      m.report.end,
+      m.report.outputs.items,
+      m.report.cells.items,
+      c.in-Ok.ensures,
+      printed _ _ _ _ _ _ _ (meaning_status m.report.end) (ap (λ (h : Graph). meaning_text h.arrays m.report.outputs.items m.report.cells.items m.report.end) c.graph.ensures.same) c.status_of_meaning.ensures c.in-Ok-write_meaning.ensures,
+    )
+
+pub returns-in-Ok : goal.returns-in-Ok
+returns-in-Ok g c =
+    let m = c.in-Ok.meant in
+    inl (
+      m.checked,
+      m.report.end,
+      m.report.outputs.items,
+      m.report.cells.items,
+      c.in-Ok.ensures,
+      stopped _ _ _ _ _ _ (meaning_status m.report.end) (ap (λ (h : Graph). meaning_text h.arrays m.report.outputs.items m.report.cells.items m.report.end) c.graph.ensures.same) c.in-Err-write_meaning.ensures,
+    )

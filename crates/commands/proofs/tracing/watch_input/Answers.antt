@@ -1,0 +1,24 @@
+use Rattle.std.proofs.Common.{ℤ, List, subst}
+use Rattle.driver.specs.Listed.{IsWatched}
+use Rattle.driver.specs.Refused.{IsRefused}
+use Rattle.commands.proofs.Givens.{IsRefusedOption, not_run, trace_of, run_refused, mode_refused}
+use Rattle.commands.proofs.tracing.watch_input.Goals as goal
+
+pub returns-in-Err : goal.returns-in-Err
+returns-in-Err g c = not_run c.args.input.now c.in-Err.refusal c.in-Err.ensures c.args.options.now
+
+pub returns-in_default : goal.returns-in_default
+returns-in_default g c =
+    mode_refused c.args.input.now _ _ c.in-Ok.ensures c.args.options.now c.config_of-config.result c.config_of-config.ensures c.in_default.is c.option_refusal.result
+    (subst (λ (zs : List ℤ). IsRefusedOption c.in-Ok.given.text.now zs c.config_of-config.result c.option_refusal.result) c.deref.ensures.value c.option_refusal.ensures)
+
+pub returns-in-Ok-run_watched : goal.returns-in-Ok-run_watched
+returns-in-Ok-run_watched g c =
+    let w = c.in-Ok-run_watched.watched in
+    trace_of c.args.input.now _ _ c.in-Ok.ensures c.args.options.now w.run.compiled.checked w.run.compiled.object.items w.run.report w.moments.items c.in-Some.mode c.in-Some.is c.config_of-config.result c.config_of-config.ensures g.G.Gate.may_stop c.requires
+    (subst (λ (zs : List ℤ). IsWatched c.in-Some.mode c.in-Ok.given.text.now w.run.compiled.checked w.run.compiled.object.items zs c.config_of-config.result g.G.Gate.may_stop w.run.report w.moments.items) c.deref-2.ensures.value c.in-Ok-run_watched.ensures)
+
+pub returns : goal.returns
+returns g c =
+    run_refused c.args.input.now _ _ c.in-Ok.ensures c.args.options.now c.config_of-config.result c.config_of-config.ensures c.in-Err-run_watched.fault
+    (subst (λ (zs : List ℤ). IsRefused c.in-Ok.given.text.now zs c.config_of-config.result c.in-Err-run_watched.fault) c.deref-2.ensures.value c.in-Err-run_watched.ensures) c.from.result c.from.ensures

@@ -1,0 +1,11 @@
+pub mod Input
+pub mod Status
+pub mod Refusals
+pub mod Served
+pub mod Given
+pub mod Ordered
+pub mod Agreed
+pub mod Traced
+pub mod Profiled
+pub mod Answered
+pub mod Assembled

@@ -1,0 +1,100 @@
+-- What `profile` prints: the waves of a graph's meaning, and what the machine took with each number of elements.
+use Rattle.std.specs.Prelude.{◌≡◌, ℕ, zero, suc, ◌+◌, ◌*◌, ◌<◌, ◌≤◌, Bool, true, false, ℤ, ◌⊎◌, List, [], ◌∷◌, ◌++◌, length, map, Option, Result, Ok, Err, if◌then◌else◌, ⊤}
+use Rattle.semantics.specs.Graph.{Graph}
+use Rattle.semantics.specs.Report.{Report}
+use Rattle.schedule.specs.declared.config.Config.{Config}
+use Rattle.oracle.specs.declared.report.MeanEnd.{MeanEnd}
+use Rattle.oracle.specs.Waves.{AreWavesOf}
+use Rattle.replay.specs.declared.moment.Moment.{Moment}
+use Rattle.profile_text.specs.declared.lines.MachineRow.{MachineRow}
+use Rattle.profile_text.specs.Picture.{greatest_from, svg_text}
+use Rattle.profile_text.specs.ProfileText.{profile_text}
+use Rattle.command_line.specs.declared.Mode.{Mode}
+use Rattle.command_line.specs.declared.RunOptions.{RunOptions}
+use Rattle.command_line.specs.declared.sizes.Sizes.{Sizes}
+use Rattle.command_line.specs.Words.{has_size}
+use Rattle.driver.specs.Listed.{IsWatched}
+use Rattle.driver.specs.Refused.{IsGoodText, IsRefused, IsRefusedMeaning}
+use Rattle.commands.specs.declared.profiling.Held.{Held}
+use Rattle.commands.specs.declared.refusal.Refusal.{Refusal}
+use Rattle.commands.specs.Input.{integers_of}
+use Rattle.commands.specs.Served.{Parts, Prints, Refuses, IsTold, IsRefusedLine}
+use Rattle.commands.specs.Status.{meaning_status}
+use Rattle.commands.specs.Given.{IsGiven}
+
+-- ROWS. What the machine is set to for a row: each turn has one event.
+abbrev pub config_with : RunOptions → ℕ → Config
+config_with o elements = record { elements = elements; frames = o.frames; steps = o.steps; turn = 1 }
+
+-- what is counted in a moment
+abbrev pub held_in : Held → Moment → ℕ
+held_in Held.Tokens x = x.tokens
+held_in Held.Slots x = x.full_slots
+held_in Held.Frames x = x.frames_out
+
+-- What a run with so many elements took: it is a run in rounds, its rounds have room for its events, and the tokens, the full slots and the
+-- frames out are the most that there were at any moment. At the start there are a token for each input and one more, and one
+-- frame is out.
+pub record IsRow (text : List ℕ) (inputs : List ℤ) (o : RunOptions) (elements : ℕ) (row : MachineRow) : Type 0 where
+  pub graph : Graph
+  pub bytes : List ℕ
+  pub report : Report
+  pub moments : List Moment
+  pub watched : IsWatched Mode.Rounds text graph bytes inputs (config_with o elements) false report moments
+  pub number : row.elements ≡ elements
+  pub rounds : length report.events ≤ row.rounds * elements
+  pub tokens : row.tokens ≡ greatest_from (length inputs + 1) (map (held_in Held.Tokens) moments)
+  pub slots : row.slots ≡ greatest_from 0 (map (held_in Held.Slots) moments)
+  pub frames : row.frames ≡ greatest_from 1 (map (held_in Held.Frames) moments)
+
+-- a row for each of these numbers of elements, in order
+abbrev pub AreRows : List ℕ → List ℤ → RunOptions → List ℕ → List MachineRow → Type 0
+AreRows text inputs o [] [] = ⊤
+AreRows text inputs o (n ∷ ns) (row ∷ rows) = IsRow text inputs o n row × AreRows text inputs o ns rows
+AreRows text inputs o ns rows = ⊥
+
+-- the numbers below n that are in the set, in order
+unfoldable pub sizes_below : Sizes → ℕ → List ℕ
+sizes_below z zero = []
+sizes_below z (suc n) = sizes_below z n ++ (if has_size z n then n ∷ [] else [])
+
+-- the first number of elements in the set with which the machine does not start, where each smaller one has a row
+pub record IsNoRow (text : List ℕ) (inputs : List ℤ) (o : RunOptions) (z : Sizes) (f : Refusal) : Type 0 where
+  pub elements : ℕ
+  pub low : elements < 64
+  pub chosen : has_size z elements ≡ true
+  pub refused : IsTold (IsRefused text inputs (config_with o elements)) f
+  pub rows : List MachineRow
+  pub earlier : AreRows text inputs o (sizes_below z elements) rows
+
+-- The waves of the graph that the input has, on the integers that follow it, and how they end; and a row for each number of elements in
+-- the set. A picture has no rows.
+pub record IsProfileOf (input : List ℕ) (o : RunOptions) (z : Sizes) (svg : Bool) (g : Graph) (end : MeanEnd) (counts : List ℕ) (rows : List MachineRow) : Type 0 where
+  pub text : List ℕ
+  pub inputs : List ℤ
+  pub given : IsGiven input text inputs
+  pub good : IsGoodText text g
+  pub waves : AreWavesOf g inputs o.steps end counts
+  pub machine : svg ≡ false → AreRows text inputs o (sizes_below z 64) rows
+
+-- Why there is no profile: the first cause in the order of the work.
+abbrev pub WhyNoProfile : Result (List ℤ) ℕ → List ℕ → RunOptions → Sizes → Bool → Refusal → Type 0
+WhyNoProfile (Ok inputs) text o z svg f =
+    IsTold (IsRefusedMeaning text inputs) f
+    ⊎ (((g : Graph) × (end : MeanEnd) × (counts : List ℕ) × IsGoodText text g × AreWavesOf g inputs o.steps end counts) × (svg ≡ false) × IsNoRow text inputs o z f)
+WhyNoProfile (Err n) text o z svg f = IsRefusedLine text n f
+
+pub record IsNoProfileOf (input : List ℕ) (o : RunOptions) (z : Sizes) (svg : Bool) (f : Refusal) : Type 0 where
+  pub parts : Parts input
+  pub why : (f ≡ Refusal.Memory) ⊎ WhyNoProfile (integers_of parts.lines) parts.text o z svg f
+
+abbrev pub text_of : Bool → Graph → MeanEnd → List ℕ → List MachineRow → List ℕ
+text_of true g end counts rows = svg_text counts
+text_of false g end counts rows = profile_text g.arrays counts rows end
+
+-- THE COMMAND
+abbrev pub PrintsProfile : {E : Type 0} → Result ℕ E → Option (List ℕ) → Option (List ℕ) → List ℕ → RunOptions → Sizes → Bool → Type 0
+PrintsProfile result old new input o z svg =
+    ((g : Graph) × (end : MeanEnd) × (counts : List ℕ) × (rows : List MachineRow) × IsProfileOf input o z svg g end counts rows
+    × Prints result old new (text_of svg g end counts rows) (meaning_status end))
+    ⊎ ((f : Refusal) × IsNoProfileOf input o z svg f × Refuses result old new f)

@@ -1,0 +1,153 @@
+-- What the commands print, and their exit status.
+use Rattle.std.specs.Prelude.{◌≡◌, ℕ, ℤ, Bool, true, false, ◌⊎◌, List, ◌++◌, length, Option, Some, None, Result, Ok, Err, codes}
+use Rattle.std.specs.Io.KnownBytes.{Appends}
+use Rattle.tags.specs.declared.value.Value.{Value}
+use Rattle.semantics.specs.Graph.{Graph}
+use Rattle.semantics.specs.Text.{line}
+use Rattle.semantics.specs.Report.{Report}
+use Rattle.schedule.specs.declared.config.Config.{Config}
+use Rattle.schedule.specs.declared.config.StartFault.{StartFault}
+use Rattle.oracle.specs.declared.report.MeanEnd.{MeanEnd}
+use Rattle.oracle.specs.declared.report.Full.{Full}
+use Rattle.oracle.specs.Reporting.{IsMeant}
+use Rattle.object_view.specs.Checks.{first_refusal}
+use Rattle.object_view.specs.Reading.{opened}
+use Rattle.object_view.specs.declared.fault.ObjectFault.{ObjectFault}
+use Rattle.dot.specs.GraphDot.{graph_dot}
+use Rattle.report_text.specs.ReportText.{report_text, meaning_text, object_report_text}
+use Rattle.command_line.specs.declared.Mode.{Mode}
+use Rattle.command_line.specs.declared.RunOptions.{RunOptions}
+use Rattle.command_line.specs.declared.inputs.Inputs.{Inputs}
+use Rattle.driver.specs.declared.fault.Fault.{Fault}
+use Rattle.commands.specs.declared.refusal.Refusal.{Refusal}
+use Rattle.driver.specs.Disassembled.{IsOpened, IsUnopened, picture_of}
+use Rattle.driver.specs.Headline.{TellsQuietly}
+use Rattle.commands.specs.Input.{graph_length, integers_of}
+use Rattle.driver.specs.Objects.{ShowsObject, Quietly}
+use Rattle.driver.specs.Refused.{IsGoodText, IsCompiled, IsReady, IsReadyObject, IsBadText, IsRefusedText, IsRefused, IsRefusedMeaning, IsRefusedObject}
+use Rattle.commands.specs.Refusals.{refusal_line, told_as}
+use Rattle.commands.specs.Status.{exit_status, meaning_status}
+
+-- this text, and then this status; after a fault of the writer a beginning of the text
+abbrev pub Prints : {E : Type 0} → Result ℕ E → Option (List ℕ) → Option (List ℕ) → List ℕ → ℕ → Type 0
+Prints (Ok n) old new text status = (n ≡ status) × Appends old new text
+Prints (Err e) old new text status = (front : List ℕ) × (rest : List ℕ) × (text ≡ front ++ rest) × Appends old new front
+
+-- the line of a refusal, and status 1
+abbrev pub Refuses : {E : Type 0} → Result ℕ E → Option (List ℕ) → Option (List ℕ) → Refusal → Type 0
+Refuses result old new f = Prints result old new (refusal_line f) 1
+
+-- the refusal tells a fault that has this cause
+abbrev pub IsTold : (Fault → Type 0) → Refusal → Type 0
+IsTold Cause f = (fault : Fault) × Cause fault × (f ≡ told_as fault)
+
+-- the text of a graph, and what follows it
+pub record Parts (input : List ℕ) : Type 0 where
+  pub text : List ℕ
+  pub lines : List ℕ
+  pub whole : text ++ lines ≡ input
+  pub end : length text ≡ graph_length input
+
+-- RUN
+abbrev pub config_of : RunOptions → Config
+config_of o = record { elements = o.elements; frames = o.frames; steps = o.steps; turn = 64 }
+
+-- a true report of a run of the graph that the input has, on the integers that follow it
+pub record IsRunOf (input : List ℕ) (o : RunOptions) (g : Graph) (r : Report) : Type 0 where
+  pub parts : Parts input
+  pub inputs : List ℤ
+  pub integers : integers_of parts.lines ≡ Ok inputs
+  pub mode : Mode
+  pub named : o.mode ≡ Some mode
+  pub tells : TellsQuietly parts.text g inputs (config_of o) false r
+
+-- Why there is no report: the first cause in the order of the work. A line that is not an integer is told only of a graph that
+-- has an object, and a mode that does not exist only where a run is ready.
+abbrev pub IsRefusedLine : List ℕ → ℕ → Refusal → Type 0
+IsRefusedLine text n f = IsTold (IsRefusedText text) f ⊎ (((g : Graph) × (bytes : List ℕ) × IsCompiled text g bytes) × (f ≡ Refusal.InputLine n))
+
+abbrev pub WhyNoRun : Result (List ℤ) ℕ → List ℕ → RunOptions → Refusal → Type 0
+WhyNoRun (Ok inputs) text o f = IsTold (IsRefused text inputs (config_of o)) f ⊎ (IsReady text inputs (config_of o) × (o.mode ≡ None) × (f ≡ Refusal.Start StartFault.BadConfig))
+WhyNoRun (Err n) text o f = IsRefusedLine text n f
+
+pub record IsNoRunOf (input : List ℕ) (o : RunOptions) (f : Refusal) : Type 0 where
+  pub parts : Parts input
+  pub why : (f ≡ Refusal.Memory) ⊎ WhyNoRun (integers_of parts.lines) parts.text o f
+
+abbrev pub PrintsRun : {E : Type 0} → Result ℕ E → Option (List ℕ) → Option (List ℕ) → List ℕ → RunOptions → Type 0
+PrintsRun result old new input o =
+    ((g : Graph) × (r : Report) × IsRunOf input o g r × Prints result old new (report_text g.arrays r) (exit_status r.end))
+    ⊎ ((f : Refusal) × IsNoRunOf input o f × Refuses result old new f)
+
+-- MEAN
+pub record IsMeaningOf (input : List ℕ) (steps : ℕ) (g : Graph) (end : MeanEnd) (outputs : List (Option Value)) (cells : List Full) : Type 0 where
+  pub parts : Parts input
+  pub inputs : List ℤ
+  pub integers : integers_of parts.lines ≡ Ok inputs
+  pub good : IsGoodText parts.text g
+  pub meant : IsMeant g inputs steps end outputs cells
+
+abbrev pub WhyNoMeaning : Result (List ℤ) ℕ → List ℕ → Refusal → Type 0
+WhyNoMeaning (Ok inputs) text f = IsTold (IsRefusedMeaning text inputs) f
+WhyNoMeaning (Err n) text f = IsTold (IsBadText text) f ⊎ (((g : Graph) × IsGoodText text g) × (f ≡ Refusal.InputLine n))
+
+pub record IsNoMeaningOf (input : List ℕ) (f : Refusal) : Type 0 where
+  pub parts : Parts input
+  pub why : (f ≡ Refusal.Memory) ⊎ WhyNoMeaning (integers_of parts.lines) parts.text f
+
+abbrev pub PrintsMeaning : {E : Type 0} → Result ℕ E → Option (List ℕ) → Option (List ℕ) → List ℕ → ℕ → Type 0
+PrintsMeaning result old new input steps =
+    ((g : Graph) × (end : MeanEnd) × (outputs : List (Option Value)) × (cells : List Full) × IsMeaningOf input steps g end outputs cells
+    × Prints result old new (meaning_text g.arrays outputs cells end) (meaning_status end))
+    ⊎ ((f : Refusal) × IsNoMeaningOf input f × Refuses result old new f)
+
+-- CHECK AND COMPILE
+abbrev pub PrintsCheck : {E : Type 0} → Result ℕ E → Option (List ℕ) → Option (List ℕ) → List ℕ → Type 0
+PrintsCheck result old new text =
+    ((g : Graph) × IsGoodText text g × Prints result old new (line (codes "ok")) 0)
+    ⊎ ((f : Refusal) × IsTold (IsBadText text) f × Refuses result old new f)
+
+abbrev pub PrintsObject : {E : Type 0} → Result ℕ E → Option (List ℕ) → Option (List ℕ) → List ℕ → Type 0
+PrintsObject result old new text =
+    ((g : Graph) × (bytes : List ℕ) × IsCompiled text g bytes × Prints result old new bytes 0)
+    ⊎ ((f : Refusal) × IsTold (IsRefusedText text) f × Refuses result old new f)
+
+-- DIS AND UPGRADE
+abbrev pub PrintsOf : {E : Type 0} → (List ℕ → List ℕ) → Result ℕ E → Option (List ℕ) → Option (List ℕ) → List ℕ → Type 0
+PrintsOf text result old new bytes =
+    (IsOpened bytes × Prints result old new (text bytes) 0)
+    ⊎ ((fault : ObjectFault) × IsUnopened bytes fault × Refuses result old new (Refusal.Object fault))
+
+-- DOT: the picture of a graph that is well formed, or of an object's code
+abbrev pub PrintsPicture : {E : Type 0} → Result ℕ E → Option (List ℕ) → Option (List ℕ) → List ℕ → Type 0
+PrintsPicture result old new text =
+    ((g : Graph) × IsGoodText text g × Prints result old new (graph_dot g) 0)
+    ⊎ ((f : Refusal) × IsTold (IsBadText text) f × Refuses result old new f)
+
+abbrev pub PrintsDot : {E : Type 0} → Result ℕ E → Option (List ℕ) → Option (List ℕ) → List ℕ → Bool → Type 0
+PrintsDot result old new input true = PrintsOf picture_of result old new input
+PrintsDot result old new input false = PrintsPicture result old new input
+
+-- EXEC: a report of a run of the object on the inputs of the command line
+pub record IsExecOf (bytes : List ℕ) (o : RunOptions) (ins : Inputs) (r : Report) : Type 0 where
+  pub inputs : List ℤ
+  pub integers : ins ≡ Inputs.Integers (record { items = inputs })
+  pub mode : Mode
+  pub named : o.mode ≡ Some mode
+  pub shows : Quietly (ShowsObject bytes inputs (config_of o) false false) r
+
+-- Why there is no report: what is wrong with the object first, then with the inputs, then with the options, and last a mode that does not
+-- exist. Of more than 16 inputs no more is said: no object takes more than 16.
+abbrev pub WhyNoExec : Inputs → List ℕ → RunOptions → Refusal → Type 0
+WhyNoExec (Inputs.Integers inputs) bytes o f =
+    IsTold (IsRefusedObject bytes inputs.items (config_of o)) f ⊎ (IsReadyObject bytes inputs.items (config_of o) × (o.mode ≡ None) × (f ≡ Refusal.Start StartFault.BadConfig))
+WhyNoExec (Inputs.NoInteger n) bytes o f = (first_refusal bytes ≡ None) × (f ≡ Refusal.InputLine n)
+WhyNoExec Inputs.TooMany bytes o f = (first_refusal bytes ≡ None) × (f ≡ Refusal.Start StartFault.WrongInputs)
+
+abbrev pub IsNoExecOf : List ℕ → RunOptions → Inputs → Refusal → Type 0
+IsNoExecOf bytes o ins f = (f ≡ Refusal.Memory) ⊎ (((fault : ObjectFault) × (first_refusal bytes ≡ Some fault) × (f ≡ Refusal.Object fault)) ⊎ WhyNoExec ins bytes o f)
+
+abbrev pub PrintsExec : {E : Type 0} → Result ℕ E → Option (List ℕ) → Option (List ℕ) → List ℕ → RunOptions → Inputs → Type 0
+PrintsExec result old new bytes o ins =
+    ((r : Report) × IsExecOf bytes o ins r × Prints result old new (object_report_text (opened bytes).code.program.arrays r) (exit_status r.end))
+    ⊎ ((f : Refusal) × IsNoExecOf bytes o ins f × Refuses result old new f)

@@ -1,0 +1,16 @@
+//! What each command prints, and the whole program over a reader and a writer: `serving::serve`. `driver` defines what a run
+//! and a compiled object are.
+#![tactic(auto)]
+
+pub mod assembling;
+mod comparing;
+mod drawing;
+pub mod given;
+pub mod input;
+pub mod orders;
+pub mod profiling;
+pub mod refusal;
+pub mod refusal_text;
+pub mod serving;
+pub mod status;
+pub mod tracing;

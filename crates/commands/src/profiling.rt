@@ -1,0 +1,292 @@
+//! How much parallelism a graph has.
+
+ghost use Rattle.std.specs.Prelude.{◌≡◌, ◌≤◌, ◌<◌, ◌+◌, ◌*◌, ◌⊎◌, false, length, map, IfErr, IfOk, MatchResult};
+ghost use Rattle.profile_text.specs.Picture.{greatest_from};
+ghost use Rattle.sink.specs.Sends.{Sends};
+ghost use Rattle.commands.specs.declared.refusal.Refusal.{Refusal as Told};
+ghost use Rattle.driver.specs.Refused.{IsRefused};
+ghost use Rattle.commands.specs.Served.{IsTold};
+ghost use Rattle.commands.specs.Profiled.{AreRows, IsNoProfileOf, IsNoRow, IsProfileOf, IsRow, PrintsProfile, config_with, held_in, sizes_below, text_of};
+
+use crate::given::read_given;
+use crate::refusal::Refusal;
+use crate::serving::refuse;
+use crate::status::status_of_meaning;
+use command_line::{Mode, RunOptions, Sizes};
+use driver::meaning::{Waved, waves_text};
+use driver::watching::{Watched, run_watched};
+use profile_text::{MachineRow, write_profile, write_svg};
+use replay::Moment;
+use rounds::Gate;
+use schedule::config::Config;
+use schedule::report::Report;
+use std::alloc::Allocator;
+use std::io::{self, Write};
+use std::sync::Wait;
+use std::sync::atomic::{AtomicU64, Ordering};
+use std::thread::Threads;
+
+/// How many numbers of elements there may be.
+const SIZES: u64 = 64;
+
+/// Counts the rounds of a run: in each, element 0 begins one turn.
+#[derive(Drop)]
+struct Counter {
+    rounds: AtomicU64,
+}
+
+impl Gate for Counter {
+    ghost use Rattle.std.specs.Prelude.{false};
+
+    ghost may_stop = { false };
+
+    fn enter(&self, element: u32) {
+        if element == 0 {
+            self.rounds.fetch_add(1, Ordering::SeqCst);
+        }
+    }
+}
+
+/// What the machine is set to for a row.
+fn config_with(options: &RunOptions, elements: u64) -> Config
+    ensures { result ≡ config_with options.now elements }
+{
+    Config {
+        elements,
+        frames: options.frames,
+        steps: options.steps,
+        turn: 1,
+    }
+}
+
+/// What a machine holds, and a moment counts.
+#[derive(Clone, Copy)]
+enum Held {
+    Tokens,
+    Slots,
+    Frames,
+}
+
+/// How much of it there is after an event.
+fn held_in(held: Held, moment: &Moment) -> u64
+    ensures { result ≡ held_in held moment.now }
+{
+    match held {
+        Held::Tokens => moment.tokens,
+        Held::Slots => moment.full_slots,
+        Held::Frames => moment.frames_out,
+    }
+}
+
+/// The most of it that there is at any time, where there was so much at first.
+fn most_held(held: Held, first: u64, moments: &[Moment]) -> u64
+    ensures { result ≡ greatest_from first (map (held_in held) moments.now) }
+{
+    let mut most = first;
+    for moment in moments {
+        let number = held_in(held, moment);
+        if most < number {
+            most = number;
+        }
+    }
+    most
+}
+
+/// A number of rounds that is enough for so many events: the one that was counted, unless that is too small.
+fn enough_rounds(counted: u64, events: u64, elements: u64) -> u64
+    requires { 0 < elements }
+    ensures { events ≤ result * elements }
+{
+    counted.max(events.div_ceil(elements))
+}
+
+/// What a run said by its events and moments for a row.
+fn row_of(
+    elements: u64,
+    inputs: &[i64],
+    counted: u64,
+    events: u64,
+    moments: &[Moment],
+) -> MachineRow
+    requires { 0 < elements }
+    ensures number { result.elements ≡ elements }
+    ensures rounds { events ≤ result.rounds * elements }
+    ensures tokens { result.tokens ≡ greatest_from (length inputs.now + 1) (map (held_in Held.Tokens) moments.now) }
+    ensures slots { result.slots ≡ greatest_from 0 (map (held_in Held.Slots) moments.now) }
+    ensures frames { result.frames ≡ greatest_from 1 (map (held_in Held.Frames) moments.now) }
+{
+    MachineRow {
+        elements,
+        rounds: enough_rounds(counted, events, elements),
+        tokens: most_held(Held::Tokens, inputs.len() as u64 + 1, moments),
+        slots: most_held(Held::Slots, 0, moments),
+        frames: most_held(Held::Frames, 1, moments),
+    }
+}
+
+/// How many events the report lists.
+fn count_events<A: Allocator>(report: &Report<A>) -> u64
+    ensures { result ≡ length report.now.events }
+{
+    report.events.len() as u64
+}
+
+/// The row of a run on this number of elements.
+fn measure<R: Threads + Wait + Sync, A: Allocator + Clone + Send + Sync>(
+    alloc: A,
+    text: &[u8],
+    inputs: &[i64],
+    options: &RunOptions,
+    elements: u64,
+    rt: &R,
+) -> Result<MachineRow, Refusal>
+    ensures { MatchResult result (IsRow text.now inputs.now options.now elements) (IsTold (IsRefused text.now inputs.now (config_with options.now elements))) }
+{
+    let counter = Counter {
+        rounds: AtomicU64::new(0),
+    };
+    let config = config_with(options, elements);
+    let mode = Mode::Rounds;
+    let Watched { run, moments } = match run_watched(
+        alloc, text, inputs, config, mode, rt, &counter,
+    ) {
+        Ok(watched) => watched,
+        Err(fault) => return Err(Refusal::from(fault)),
+    };
+    let counted = counter.rounds.load(Ordering::SeqCst);
+    let events = count_events(&run.report);
+    Ok(row_of(elements, inputs, counted, events, &moments))
+}
+
+/// A row for each number of elements, in order.
+fn rows_of<R: Threads + Wait + Sync, A: Allocator + Clone + Send + Sync>(
+    alloc: A,
+    text: &[u8],
+    inputs: &[i64],
+    options: &RunOptions,
+    sizes: Sizes,
+    rt: &R,
+) -> Result<Vec<MachineRow, A>, Refusal>
+    ensures { MatchResult result
+        (λ v. AreRows text.now inputs.now options.now (sizes_below sizes 64) v.items)
+        (λ f. (f ≡ Told.Memory) ⊎ IsNoRow text.now inputs.now options.now sizes f) }
+{
+    let Ok(room) = alloc.clone() else {
+        return Err(Refusal::Memory);
+    };
+    let mut rows = Vec::new(room);
+    for elements in 0..SIZES {
+        if sizes.has(elements) {
+            let Ok(room) = alloc.clone() else {
+                return Err(Refusal::Memory);
+            };
+            let row = match measure(room, text, inputs, options, elements, rt) {
+                Ok(row) => row,
+                Err(refusal) => return Err(refusal),
+            };
+            let Ok(()) = rows.push(row) else {
+                return Err(Refusal::Memory);
+            };
+        }
+    }
+    Ok(rows)
+}
+
+/// The rows that are printed: none beside a picture.
+fn rows_beside<R: Threads + Wait + Sync, A: Allocator + Clone + Send + Sync>(
+    alloc: A,
+    text: &[u8],
+    inputs: &[i64],
+    options: &RunOptions,
+    sizes: Sizes,
+    svg: bool,
+    rt: &R,
+) -> Result<Vec<MachineRow, A>, Refusal>
+    ensures { MatchResult result
+        (λ v. svg ≡ false → AreRows text.now inputs.now options.now (sizes_below sizes 64) v.items)
+        (λ f. (f ≡ Told.Memory) ⊎ ((svg ≡ false) × IsNoRow text.now inputs.now options.now sizes f)) }
+{
+    if svg {
+        return Ok(Vec::new(alloc));
+    }
+    match rows_of(alloc, text, inputs, options, sizes, rt) {
+        Ok(rows) => Ok(rows),
+        Err(refusal) => Err(refusal),
+    }
+}
+
+/// The waves of a graph's meaning, and what the machine took.
+#[derive(Drop)]
+struct Profile<'a, A: Allocator> {
+    waves: Waved<'a, A>,
+    rows: Vec<MachineRow, A>,
+}
+
+/// The profile of the graph of the input on the integers after it. Refusals come in the order of the work.
+fn make_profile<'a, R: Threads + Wait + Sync, A: Allocator + Clone + Send + Sync>(
+    alloc: A,
+    input: &'a [u8],
+    options: &RunOptions,
+    sizes: Sizes,
+    svg: bool,
+    rt: &R,
+) -> Result<Profile<'a, A>, Refusal>
+    ensures { MatchResult result
+        (λ p. IsProfileOf input.now options.now sizes svg p.waves.checked p.waves.report.end p.waves.report.counts.items p.rows.items)
+        (IsNoProfileOf input.now options.now sizes svg) }
+{
+    let given = match read_given(&alloc, input) {
+        Ok(given) => given,
+        Err(refusal) => return Err(refusal),
+    };
+    let Ok(room) = alloc.clone() else {
+        return Err(Refusal::Memory);
+    };
+    let waves = match waves_text(room, given.text, &given.integers, options.steps) {
+        Ok(waves) => waves,
+        Err(fault) => return Err(Refusal::from(fault)),
+    };
+    match rows_beside(alloc, given.text, &given.integers, options, sizes, svg, rt) {
+        Ok(rows) => Ok(Profile { waves, rows }),
+        Err(refusal) => Err(refusal),
+    }
+}
+
+/// Writes the lines of a profile, or the picture of its waves.
+fn write_made<A: Allocator, W: Write>(
+    writer: &mut W,
+    svg: bool,
+    waves: &Waved<'_, A>,
+    rows: &[MachineRow],
+) -> io::Result<()>
+    ensures { Sends result (W.contents writer.old) (W.contents writer.new) (text_of svg waves.now.checked waves.now.report.end waves.now.report.counts.items rows.now) }
+{
+    if svg {
+        write_svg(writer, &waves.report.counts)
+    } else {
+        write_profile(writer, waves.checked.graph(), &waves.report, rows)
+    }
+}
+
+/// Prints how much parallelism the graph of the input has, on the integers after it: its waves as a picture, or as lines, with a row
+/// for each number of elements; or why there is none. Gives the exit status, which is that of the meaning.
+pub fn print_profile<R: Threads + Wait + Sync, A: Allocator + Clone + Send + Sync, W: Write>(
+    alloc: A,
+    input: &[u8],
+    options: &RunOptions,
+    sizes: Sizes,
+    svg: bool,
+    writer: &mut W,
+    rt: &R,
+) -> io::Result<u8>
+    ensures { PrintsProfile result (W.contents writer.old) (W.contents writer.new) input.now options.now sizes svg }
+{
+    let Profile { waves, rows } = match make_profile(alloc, input, options, sizes, svg, rt) {
+        Ok(profile) => profile,
+        Err(refusal) => return refuse(writer, &refusal),
+    };
+    match write_made(writer, svg, &waves, &rows) {
+        Ok(()) => Ok(status_of_meaning(waves.report.end)),
+        Err(fault) => Err(fault),
+    }
+}

@@ -1,0 +1,69 @@
+//! Why a command has no result.
+
+ghost use Rattle.std.specs.Prelude.{◌≡◌};
+ghost use Rattle.commands.specs.Refusals.{told_as, unread_as};
+
+use crate::input::InputFault;
+use assembler::AsmFault;
+use driver::fault::Fault;
+use graph_check::CheckFault;
+use graph_file::ReadFault;
+use object_view::ObjectFault;
+use schedule::config::StartFault;
+use std::alloc::AllocError;
+
+/// Why a command has no result.
+#[derive(Debug, Drop)]
+pub enum Refusal {
+    /// Standard input is too long, or a read failed.
+    Input,
+    Read(ReadFault),
+    Check(CheckFault),
+    /// The holders of the code block with this number do not fit into the slots of a frame.
+    TooManySlots(u64),
+    /// The code block with this number is too long for an object, or has too many literals.
+    TooFar(u64),
+    /// This line of the inputs, counted from 1, is not an integer.
+    InputLine(u64),
+    Start(StartFault),
+    /// Standard input is not an object.
+    Object(ObjectFault),
+    /// Standard input is no listing of an object.
+    Asm(AsmFault),
+    Memory,
+}
+
+impl From<InputFault> for Refusal {
+    fn from(fault: InputFault) -> Refusal
+        ensures { result ≡ unread_as fault }
+    {
+        match fault {
+            InputFault::Input => Refusal::Input,
+            InputFault::Memory => Refusal::Memory,
+        }
+    }
+}
+
+impl From<Fault> for Refusal {
+    fn from(fault: Fault) -> Refusal
+        ensures { result ≡ told_as fault }
+    {
+        match fault {
+            Fault::Read(fault) => Refusal::Read(fault),
+            Fault::Check(fault) => Refusal::Check(fault),
+            Fault::TooManySlots(block) => Refusal::TooManySlots(block),
+            Fault::TooFar(block) => Refusal::TooFar(block),
+            Fault::Object(fault) => Refusal::Object(fault),
+            Fault::Start(fault) => Refusal::Start(fault),
+            Fault::Memory => Refusal::Memory,
+        }
+    }
+}
+
+impl From<AllocError> for Refusal {
+    fn from(_refused: AllocError) -> Refusal
+        ensures { result ≡ Refusal.Memory }
+    {
+        Refusal::Memory
+    }
+}

@@ -1,0 +1,496 @@
+//! The program over a reader and a writer.
+
+ghost use Rattle.std.specs.Prelude.{◌≡◌, MatchResult, None, drop, false, map};
+ghost use Rattle.object_view.specs.Checks.{first_refusal};
+ghost use Rattle.driver.specs.Disassembled.{listing_of, picture_of, upgrade_of};
+ghost use Rattle.commands.specs.Served.{config_of, IsRunOf, IsNoRunOf, IsMeaningOf, IsNoMeaningOf, Refuses, PrintsRun, PrintsMeaning, PrintsCheck, PrintsObject, PrintsOf, PrintsPicture, PrintsExec, IsExecOf, IsNoExecOf, Prints};
+ghost use Rattle.commands.specs.Answered.{Answers, ServesRequest, Says, ServesAsked, ServesWords, Serves};
+
+use crate::assembling::print_assembled;
+use crate::given::{option_refusal, read_given};
+use crate::input::{LinesFault, parse_integers, read_input, split_at_main};
+use crate::orders::print_orders;
+use crate::profiling::print_profile;
+use crate::refusal::Refusal;
+use crate::refusal_text::write_refusal;
+use crate::status::{status_of, status_of_meaning};
+use crate::tracing::print_trace;
+use command_line::{Asked, Inputs, Request, RunOptions, read_words, version_line};
+use command_texts::{help_text, mistake_text};
+use dot::write_graph_dot;
+use driver::compiling::{CompileRefusal, check_text, write_object};
+use driver::emulation::{Emulated, emulate_object_quietly, run_text, start_object};
+use driver::meaning::{Meant, mean_text};
+use driver::objects::{ObjectRefusal, disassemble, draw_object, upgrade_object};
+use object_view::Object;
+use report_text::{write_meaning, write_object_report, write_report};
+use rounds::Gate;
+use schedule::config::{Config, StartFault};
+use schedule::report::Report;
+use sink::send;
+use std::alloc::{AllocError, Allocator, Global};
+use std::convert::AsStr;
+use std::io::{self, Read, Write};
+use std::sync::Wait;
+use std::thread::Threads;
+
+/// The exit status of a refusal, of a fault of the command line and of a failed write.
+pub(crate) const REFUSED: u8 = 1;
+
+/// How many steps an element takes in one turn.
+const TURN: u64 = 64;
+
+/// How the machine is to be configured.
+pub(crate) fn config_of(options: &RunOptions) -> Config
+    ensures { result ≡ config_of options.now }
+{
+    Config {
+        elements: options.elements,
+        frames: options.frames,
+        steps: options.steps,
+        turn: TURN,
+    }
+}
+
+/// Runs the graph of the input on the integers after it. Refusals come in the order of the work; whether the mode exists is
+/// checked last.
+fn run_input<'a, R: Threads + Wait + Sync, A: Allocator + Clone + Send + Sync, G: Gate + Sync>(
+    alloc: A,
+    input: &'a [u8],
+    options: &RunOptions,
+    rt: &R,
+    gate: &G,
+) -> Result<Emulated<'a, A>, Refusal>
+    requires { G.may_stop ≡ false }
+    ensures { MatchResult result (λ e. IsRunOf input.now options.now e.checked e.report) (IsNoRunOf input.now options.now) }
+{
+    let given = match read_given(&alloc, input) {
+        Ok(given) => given,
+        Err(refusal) => return Err(refusal),
+    };
+    let config = config_of(options);
+    let Some(mode) = options.mode else {
+        return Err(option_refusal(alloc, given.text, &given.integers, config));
+    };
+    match run_text(alloc, given.text, &given.integers, config, mode, rt, gate) {
+        Ok(emulated) => Ok(emulated),
+        Err(fault) => Err(Refusal::from(fault)),
+    }
+}
+
+/// Prints the line of the refusal, and gives the exit status of a refusal.
+pub(crate) fn refuse<W: Write>(writer: &mut W, refusal: &Refusal) -> io::Result<u8>
+    ensures { Refuses result (W.contents writer.old) (W.contents writer.new) refusal.now }
+{
+    match write_refusal(writer, refusal) {
+        Ok(()) => Ok(REFUSED),
+        Err(fault) => Err(fault),
+    }
+}
+
+/// Runs the graph of the input on the integers after it, and prints the report, or why there is none. Gives the exit status.
+pub fn print_run<
+    R: Threads + Wait + Sync,
+    A: Allocator + Clone + Send + Sync,
+    G: Gate + Sync,
+    W: Write,
+>(alloc: A, input: &[u8], options: &RunOptions, writer: &mut W, rt: &R, gate: &G) -> io::Result<u8>
+    requires { G.may_stop ≡ false }
+    ensures { PrintsRun result (W.contents writer.old) (W.contents writer.new) input.now options.now }
+{
+    match run_input(alloc, input, options, rt, gate) {
+        Ok(emulated) => match write_report(writer, emulated.checked.graph(), &emulated.report) {
+            Ok(()) => Ok(status_of(emulated.report.end)),
+            Err(fault) => Err(fault),
+        },
+        Err(refusal) => refuse(writer, &refusal),
+    }
+}
+
+/// Runs the meaning of the graph of the input on the integers after it. Refusals come in the order of the work.
+fn mean_input<'a, A: Allocator + Clone>(
+    alloc: A,
+    input: &'a [u8],
+    steps: u64,
+) -> Result<Meant<'a, A>, Refusal>
+    ensures { MatchResult result (λ m. IsMeaningOf input.now steps m.checked m.report.end m.report.outputs.items m.report.cells.items) (IsNoMeaningOf input.now) }
+{
+    let (text, lines) = split_at_main(input);
+    let Ok(room) = alloc.clone() else {
+        return Err(Refusal::Memory);
+    };
+    let integers = match parse_integers(room, lines) {
+        Ok(integers) => integers,
+        Err(LinesFault::Memory) => return Err(Refusal::Memory),
+        Err(LinesFault::BadLine(line)) => {
+            return match check_text(alloc, text) {
+                Ok(_checked) => Err(Refusal::InputLine(line)),
+                Err(fault) => Err(Refusal::from(fault)),
+            };
+        }
+    };
+    match mean_text(alloc, text, &integers, steps) {
+        Ok(meant) => Ok(meant),
+        Err(fault) => Err(Refusal::from(fault)),
+    }
+}
+
+/// Runs the meaning of the graph of the input on the integers after it, for at most `steps` activities. Prints what it gave, or
+/// why it was not run. Gives the exit status.
+pub fn print_meaning<A: Allocator + Clone, W: Write>(
+    alloc: A,
+    input: &[u8],
+    steps: u64,
+    writer: &mut W,
+) -> io::Result<u8>
+    ensures { PrintsMeaning result (W.contents writer.old) (W.contents writer.new) input.now steps }
+{
+    match mean_input(alloc, input, steps) {
+        Ok(meant) => match write_meaning(writer, meant.checked.graph(), &meant.report) {
+            Ok(()) => Ok(status_of_meaning(meant.report.end)),
+            Err(fault) => Err(fault),
+        },
+        Err(refusal) => refuse(writer, &refusal),
+    }
+}
+
+/// Prints `ok` where the text has a well-formed graph, or what is wrong with it. Gives the exit status.
+pub fn print_check<A: Allocator + Clone, W: Write>(
+    alloc: A,
+    text: &[u8],
+    writer: &mut W,
+) -> io::Result<u8>
+    ensures { PrintsCheck result (W.contents writer.old) (W.contents writer.new) text.now }
+{
+    match check_text(alloc, text) {
+        Ok(_checked) => match send(writer, b"ok\n") {
+            Ok(()) => Ok(0),
+            Err(fault) => Err(fault),
+        },
+        Err(fault) => refuse(writer, &Refusal::from(fault)),
+    }
+}
+
+/// Prints the object of the text's graph, or why there is none. Gives the exit status.
+pub fn print_object<A: Allocator + Clone, W: Write>(
+    alloc: A,
+    text: &[u8],
+    writer: &mut W,
+) -> io::Result<u8>
+    ensures { PrintsObject result (W.contents writer.old) (W.contents writer.new) text.now }
+{
+    match write_object(alloc, text, writer) {
+        Ok(()) => Ok(0),
+        Err(CompileRefusal::Fault(fault)) => refuse(writer, &Refusal::from(fault)),
+        Err(CompileRefusal::Write(fault)) => Err(fault),
+    }
+}
+
+/// Prints the listing of the object with these bytes, or why they are not an object. Gives the exit status.
+pub fn print_listing<W: Write>(bytes: &[u8], writer: &mut W) -> io::Result<u8>
+    ensures { PrintsOf listing_of result (W.contents writer.old) (W.contents writer.new) bytes.now }
+{
+    match disassemble(bytes, writer) {
+        Ok(()) => Ok(0),
+        Err(ObjectRefusal::Object(fault)) => refuse(writer, &Refusal::Object(fault)),
+        Err(ObjectRefusal::Write(fault)) => Err(fault),
+    }
+}
+
+/// Prints, as version 2, the object with these bytes, or why they are not an object. Gives the exit status.
+pub fn print_upgrade<W: Write>(bytes: &[u8], writer: &mut W) -> io::Result<u8>
+    ensures { PrintsOf upgrade_of result (W.contents writer.old) (W.contents writer.new) bytes.now }
+{
+    match upgrade_object(bytes, writer) {
+        Ok(()) => Ok(0),
+        Err(ObjectRefusal::Object(fault)) => refuse(writer, &Refusal::Object(fault)),
+        Err(ObjectRefusal::Write(fault)) => Err(fault),
+    }
+}
+
+/// Prints the picture of the text's graph, or what is wrong with the graph. Gives the exit status.
+pub fn print_graph_picture<A: Allocator + Clone, W: Write>(
+    alloc: A,
+    text: &[u8],
+    writer: &mut W,
+) -> io::Result<u8>
+    ensures { PrintsPicture result (W.contents writer.old) (W.contents writer.new) text.now }
+{
+    match check_text(alloc, text) {
+        Ok(checked) => match write_graph_dot(checked.graph(), writer) {
+            Ok(()) => Ok(0),
+            Err(fault) => Err(fault),
+        },
+        Err(fault) => refuse(writer, &Refusal::from(fault)),
+    }
+}
+
+/// Prints the picture of the code of the object with these bytes, or why they are not an object. Gives the exit status.
+pub fn print_code_picture<W: Write>(bytes: &[u8], writer: &mut W) -> io::Result<u8>
+    ensures { PrintsOf picture_of result (W.contents writer.old) (W.contents writer.new) bytes.now }
+{
+    match draw_object(bytes, writer) {
+        Ok(()) => Ok(0),
+        Err(ObjectRefusal::Object(fault)) => refuse(writer, &Refusal::Object(fault)),
+        Err(ObjectRefusal::Write(fault)) => Err(fault),
+    }
+}
+
+/// Runs the object on these inputs. Whether the mode exists is checked last.
+fn exec_object<R: Threads + Wait + Sync, A: Allocator + Clone + Send + Sync, G: Gate + Sync>(
+    alloc: A,
+    bytes: &[u8],
+    options: &RunOptions,
+    inputs: &[i64],
+    rt: &R,
+    gate: &G,
+) -> Result<Report<A>, Refusal>
+    requires { G.may_stop ≡ false }
+    ensures { MatchResult result
+        (λ r. IsExecOf bytes.now options.now (Inputs.Integers (record { items = inputs.now })) r)
+        (IsNoExecOf bytes.now options.now (Inputs.Integers (record { items = inputs.now }))) }
+{
+    let config = config_of(options);
+    match options.mode {
+        Some(mode) => match emulate_object_quietly(alloc, bytes, inputs, config, mode, rt, gate) {
+            Ok(report) => Ok(report),
+            Err(fault) => Err(Refusal::from(fault)),
+        },
+        None => match start_object(alloc, bytes, inputs, config) {
+            Ok(_ready) => Err(Refusal::Start(StartFault::BadConfig)),
+            Err(fault) => Err(Refusal::from(fault)),
+        },
+    }
+}
+
+/// Runs the object on the inputs of the command line, if these are good. The caller knows that the bytes are an object.
+fn exec_inputs<R: Threads + Wait + Sync, A: Allocator + Clone + Send + Sync, G: Gate + Sync>(
+    alloc: A,
+    bytes: &[u8],
+    options: &RunOptions,
+    inputs: &Inputs,
+    rt: &R,
+    gate: &G,
+) -> Result<Report<A>, Refusal>
+    requires may_stop { G.may_stop ≡ false }
+    requires object { first_refusal bytes.now ≡ None }
+    ensures { MatchResult result (λ r. IsExecOf bytes.now options.now inputs.now r) (IsNoExecOf bytes.now options.now inputs.now) }
+{
+    match inputs {
+        Inputs::Integers(integers) => {
+            exec_object(alloc, bytes, options, integers.as_slice(), rt, gate)
+        }
+        Inputs::NoInteger(number) => Err(Refusal::InputLine(*number)),
+        Inputs::TooMany => Err(Refusal::Start(StartFault::WrongInputs)),
+    }
+}
+
+/// Runs the object with these bytes on the inputs of the command line. Prints the report, or why there is none. Gives the exit
+/// status.
+pub fn print_exec<
+    R: Threads + Wait + Sync,
+    A: Allocator + Clone + Send + Sync,
+    G: Gate + Sync,
+    W: Write,
+>(
+    alloc: A,
+    bytes: &[u8],
+    options: &RunOptions,
+    inputs: &Inputs,
+    writer: &mut W,
+    rt: &R,
+    gate: &G,
+) -> io::Result<u8>
+    requires { G.may_stop ≡ false }
+    ensures { PrintsExec result (W.contents writer.old) (W.contents writer.new) bytes.now options.now inputs.now }
+{
+    let object = match Object::open(bytes) {
+        Ok(object) => object,
+        Err(fault) => return refuse(writer, &Refusal::Object(fault)),
+    };
+    match exec_inputs(alloc, bytes, options, inputs, rt, gate) {
+        Ok(report) => match write_object_report(writer, &object, &report) {
+            Ok(()) => Ok(status_of(report.end)),
+            Err(fault) => Err(fault),
+        },
+        Err(refusal) => refuse(writer, &refusal),
+    }
+}
+
+/// All that the reader has, printed on by what the words of the command line ask for.
+fn answer<R: Threads + Wait + Sync, A: Allocator + Clone + Send + Sync, G: Gate + Sync, W: Write>(
+    request: &Request,
+    input: &[u8],
+    writer: &mut W,
+    alloc: A,
+    rt: &R,
+    gate: &G,
+) -> io::Result<u8>
+    requires { G.may_stop ≡ false }
+    ensures { Answers result (W.contents writer.old) (W.contents writer.new) input.now request.now }
+{
+    match request {
+        Request::Check => print_check(alloc, input, writer),
+        Request::Compile => print_object(alloc, input, writer),
+        Request::Dis => print_listing(input, writer),
+        Request::Asm => print_assembled(alloc, input, writer),
+        Request::Upgrade => print_upgrade(input, writer),
+        Request::Run(options) => print_run(alloc, input, options, writer, rt, gate),
+        Request::Mean { steps } => print_meaning(alloc, input, *steps, writer),
+        Request::Dot { code: true } => print_code_picture(input, writer),
+        Request::Dot { code: false } => print_graph_picture(alloc, input, writer),
+        Request::Exec { options, inputs } => {
+            print_exec(alloc, input, options, inputs, writer, rt, gate)
+        }
+        Request::Orders {
+            options,
+            count,
+            seed,
+        } => print_orders(alloc, input, options, *count, *seed, writer),
+        Request::Trace {
+            options,
+            last,
+            format,
+        } => print_trace(alloc, input, options, *last, *format, writer, rt, gate),
+        Request::Profile {
+            options,
+            sizes,
+            svg,
+        } => print_profile(alloc, input, options, *sizes, *svg, writer, rt),
+    }
+}
+
+/// Reads all that the reader has, and prints what is asked for, or why that is not possible. Gives the exit status.
+pub fn serve_request<
+    R: Threads + Wait + Sync,
+    A: Allocator + Clone + Send + Sync,
+    G: Gate + Sync,
+    I: Read,
+    W: Write,
+>(request: &Request, reader: &mut I, writer: &mut W, alloc: A, rt: &R, gate: &G) -> io::Result<u8>
+    requires { G.may_stop ≡ false }
+    ensures { ServesRequest (I.remaining reader.old) result (W.contents writer.old) (W.contents writer.new) request.now }
+{
+    let Ok(room) = alloc.clone() else {
+        return refuse(writer, &Refusal::Memory);
+    };
+    match read_input(room, reader) {
+        Ok(input) => answer(request, &input, writer, alloc, rt, gate),
+        Err(fault) => refuse(writer, &Refusal::from(fault)),
+    }
+}
+
+/// What is printed for a fault of the command line that has no other text.
+const NO_TEXT: &[u8] = b"error: unknown command line\n";
+
+/// Prints the text, and gives `status`.
+pub(crate) fn print_text<W: Write>(writer: &mut W, text: &[u8], status: u8) -> io::Result<u8>
+    ensures { Prints result (W.contents writer.old) (W.contents writer.new) text.now status }
+{
+    match send(writer, text) {
+        Ok(()) => Ok(status),
+        Err(fault) => Err(fault),
+    }
+}
+
+/// Prints the text of a command line that is not a request, and gives `status`.
+fn say<W: Write>(
+    writer: &mut W,
+    text: Result<Option<String>, AllocError>,
+    status: u8,
+) -> io::Result<u8>
+    ensures { Says result (W.contents writer.old) (W.contents writer.new) status }
+{
+    match text {
+        Ok(Some(text)) => print_text(writer, text.as_bytes(), status),
+        Ok(None) => print_text(writer, NO_TEXT, status),
+        Err(_refused) => refuse(writer, &Refusal::Memory),
+    }
+}
+
+/// The words without the program's name.
+fn arguments_of<S>(words: &[S]) -> &[S]
+    ensures { result.now ≡ drop 1 words.now }
+{
+    match words.split_first() {
+        Some((_program, arguments)) => arguments,
+        None => words,
+    }
+}
+
+fn program_of<S: AsStr>(words: &[S]) -> &str {
+    match words.first() {
+        Some(program) => program.as_str(),
+        None => "ets",
+    }
+}
+
+/// Prints what is asked for, or the text of a command line that is not a request. Gives the exit status.
+fn serve_asked<
+    R: Threads + Wait + Sync,
+    A: Allocator + Clone + Send + Sync,
+    G: Gate + Sync,
+    S: AsStr,
+    I: Read,
+    W: Write,
+>(
+    asked: &Asked,
+    words: &[S],
+    reader: &mut I,
+    writer: &mut W,
+    alloc: A,
+    global: Global,
+    rt: &R,
+    gate: &G,
+) -> io::Result<u8>
+    requires { G.may_stop ≡ false }
+    ensures { ServesAsked (I.remaining reader.old) result (W.contents writer.old) (W.contents writer.new) asked.now }
+{
+    match asked {
+        Asked::Request(request) => serve_request(request, reader, writer, alloc, rt, gate),
+        Asked::Help(topic) => say(writer, help_text(global, program_of(words), *topic), 0),
+        Asked::Version => print_text(writer, version_line(), 0),
+        Asked::Mistake => say(writer, mistake_text(global, words), REFUSED),
+    }
+}
+
+/// Prints what the words of the command line ask for. Gives the exit status.
+pub fn serve_words<
+    R: Threads + Wait + Sync,
+    A: Allocator + Clone + Send + Sync,
+    G: Gate + Sync,
+    S: AsStr,
+    I: Read,
+    W: Write,
+>(
+    words: &[S],
+    reader: &mut I,
+    writer: &mut W,
+    alloc: A,
+    global: Global,
+    rt: &R,
+    gate: &G,
+) -> io::Result<u8>
+    requires { G.may_stop ≡ false }
+    ensures { ServesWords (map S.text (drop 1 words.now)) (I.remaining reader.old) result (W.contents writer.old) (W.contents writer.new) }
+{
+    let asked = read_words(arguments_of(words));
+    serve_asked(&asked, words, reader, writer, alloc, global, rt, gate)
+}
+
+/// The whole program over a reader and a writer. `words` are the words of the command line, the program's name first. The
+/// elements ask a gate that stops no run. Gives the exit status: 0 at rest or done, 1 refused or a failed write, 2 starved, 3 a
+/// clash, 4 out of steps, 5 stuck, 6 out of memory.
+pub fn serve<
+    R: Threads + Wait + Sync,
+    A: Allocator + Clone + Send + Sync,
+    G: Gate + Sync,
+    S: AsStr,
+    I: Read,
+    W: Write,
+>(words: &[S], reader: &mut I, writer: &mut W, alloc: A, global: Global, rt: &R, gate: &G) -> u8
+    requires { G.may_stop ≡ false }
+    ensures { Serves (map S.text (drop 1 words.now)) (I.remaining reader.old) (W.contents writer.old) (W.contents writer.new) result }
+{
+    serve_words(words, reader, writer, alloc, global, rt, gate).unwrap_or(REFUSED)
+}

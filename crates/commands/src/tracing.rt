@@ -1,0 +1,188 @@
+//! The events of a run.
+
+ghost use Rattle.std.specs.Prelude.{◌≡◌, ◌≤◌, ◌++◌, ℕ, drop, false, length, MatchResult};
+ghost use Rattle.semantics.specs.Bytes.{IsObject};
+ghost use Rattle.semantics.specs.Program as Programs;
+ghost use Rattle.sink.specs.Sends.{Sends};
+ghost use Rattle.trace_text.specs.TraceText.{trace_text};
+ghost use Rattle.report_text.specs.ReportText.{report_text};
+ghost use Rattle.commands.specs.Served.{IsNoRunOf};
+ghost use Rattle.commands.specs.Traced.{IsTraceOf, PrintsTrace, events_text, first_of};
+
+use crate::given::{option_refusal, read_given};
+use crate::refusal::Refusal;
+use crate::serving::{config_of, refuse};
+use crate::status::status_of;
+use command_line::{Format, RunOptions};
+use driver::watching::{Watched, run_watched};
+use graph::Graph;
+use object_view::Object;
+use replay::Moment;
+use report_text::write_report;
+use rounds::Gate;
+use schedule::report::Report;
+use std::alloc::Allocator;
+use std::io::{self, Write};
+use std::sync::Wait;
+use std::thread::Threads;
+use tags::token::Token;
+use trace_text::{write_chrome, write_events};
+
+/// The number of the first event that is printed, of `count`.
+fn first_of_last(count: usize, last: Option<u64>) -> usize
+    ensures { result ≡ first_of count last }
+{
+    match last {
+        None => 0,
+        Some(last) => (count as u64).saturating_sub(last) as usize,
+    }
+}
+
+/// The events from that place on.
+fn events_from(events: &[(u32, Token)], first: usize) -> &[(u32, Token)]
+    ensures { result.now ≡ drop first events.now }
+{
+    if first < events.len() {
+        &events[first..]
+    } else {
+        &[]
+    }
+}
+
+/// The moments from that place on.
+fn moments_from(moments: &[Moment], first: usize) -> &[Moment]
+    ensures { result.now ≡ drop first moments.now }
+{
+    if first < moments.len() {
+        &moments[first..]
+    } else {
+        &[]
+    }
+}
+
+/// Writes lines of events, and behind them the report.
+fn write_lines<'a, A: Allocator, W: Write>(
+    writer: &mut W,
+    object: &Object<'_>,
+    first: u64,
+    events: &[(u32, Token)],
+    moments: &[Moment],
+    graph: &Graph<'a, A>,
+    report: &Report<A>,
+) -> io::Result<()>
+    ensures { Sends result (W.contents writer.old) (W.contents writer.new) (trace_text object.now.code.program first events.now moments.now ++ report_text graph.now.arrays report.now) }
+{
+    write_events(writer, object, first, events, moments)?;
+    write_report(writer, graph, report)
+}
+
+/// Writes the events from number `first` on in the format, and behind lines the report.
+fn write_trace<'a, A: Allocator, W: Write>(
+    writer: &mut W,
+    bytes: &[u8],
+    graph: &Graph<'a, A>,
+    report: &Report<A>,
+    moments: &[Moment],
+    elements: u64,
+    last: Option<u64>,
+    format: Format,
+) -> io::Result<()>
+    requires object { (version : ℕ) × (code : Programs.Code) × IsObject bytes.now version code }
+    requires few { elements ≤ 16 }
+    ensures { Sends result (W.contents writer.old) (W.contents writer.new) (events_text format (first_of (length report.now.events) last) elements graph.now bytes.now report.now moments.now) }
+{
+    let object = match Object::open(bytes) {
+        Ok(object) => object,
+        Err(_) => unreachable!(),
+    };
+    let first = first_of_last(report.events.len(), last);
+    let events = events_from(&report.events, first);
+    let moments = moments_from(moments, first);
+    match format {
+        Format::Lines => write_lines(
+            writer,
+            &object,
+            first as u64,
+            events,
+            moments,
+            graph,
+            report,
+        ),
+        Format::Chrome => write_chrome(
+            writer,
+            &object,
+            elements as u32,
+            first as u64,
+            events,
+            moments,
+        ),
+    }
+}
+
+/// Runs the graph of the input on the integers after it, and says what each event did. Refusals come in the order of the work; whether
+/// the mode exists is checked last.
+fn watch_input<'a, R: Threads + Wait + Sync, A: Allocator + Clone + Send + Sync, G: Gate + Sync>(
+    alloc: A,
+    input: &'a [u8],
+    options: &RunOptions,
+    rt: &R,
+    gate: &G,
+) -> Result<Watched<'a, A>, Refusal>
+    requires { G.may_stop ≡ false }
+    ensures { MatchResult result
+        (λ w. IsTraceOf input.now options.now w.run.compiled.checked w.run.compiled.object.items w.run.report w.moments.items)
+        (IsNoRunOf input.now options.now) }
+{
+    let given = match read_given(&alloc, input) {
+        Ok(given) => given,
+        Err(refusal) => return Err(refusal),
+    };
+    let config = config_of(options);
+    let Some(mode) = options.mode else {
+        return Err(option_refusal(alloc, given.text, &given.integers, config));
+    };
+    match run_watched(alloc, given.text, &given.integers, config, mode, rt, gate) {
+        Ok(watched) => Ok(watched),
+        Err(fault) => Err(Refusal::from(fault)),
+    }
+}
+
+/// Runs the graph of the input on the integers after it, and prints its events, or only the last ones: as lines, behind which stands the
+/// report, or as JSON; or why there are none. Gives the exit status, which is that of the report.
+pub fn print_trace<
+    R: Threads + Wait + Sync,
+    A: Allocator + Clone + Send + Sync,
+    G: Gate + Sync,
+    W: Write,
+>(
+    alloc: A,
+    input: &[u8],
+    options: &RunOptions,
+    last: Option<u64>,
+    format: Format,
+    writer: &mut W,
+    rt: &R,
+    gate: &G,
+) -> io::Result<u8>
+    requires { G.may_stop ≡ false }
+    ensures { PrintsTrace result (W.contents writer.old) (W.contents writer.new) input.now options.now last format }
+{
+    let Watched { run, moments } = match watch_input(alloc, input, options, rt, gate) {
+        Ok(watched) => watched,
+        Err(refusal) => return refuse(writer, &refusal),
+    };
+    let compiled = &run.compiled;
+    match write_trace(
+        writer,
+        &compiled.object,
+        compiled.checked.graph(),
+        &run.report,
+        &moments,
+        options.elements,
+        last,
+        format,
+    ) {
+        Ok(()) => Ok(status_of(run.report.end)),
+        Err(fault) => Err(fault),
+    }
+}

@@ -1,0 +1,99 @@
+//! Requests for the elements of arrays.
+
+ghost use Rattle.std.specs.Prelude.{◌≡◌};
+ghost use Rattle.operators.specs.Values as Values;
+ghost use Rattle.semantics.specs.Rule as Rule;
+ghost use Rattle.element.specs.Decoded.{instr_of, origin_in, IsShort};
+ghost use Rattle.element.specs.Fired.{seat_of, tokens_of, indexed_of, IsWithin};
+
+use super::continuations::answer_to;
+use super::made::{Made, Seat, one, to_first};
+use crate::instructions::{Instruction, Instructions};
+use tags::token::{To, Token, Word};
+use tags::value::{FaultKind, Origin, Value};
+
+/// What an index names in an array.
+#[derive(Clone, Copy, Debug, PartialEq, Eq)]
+pub enum Indexed {
+    Place(u32),
+    /// There is no such place: the fault that stands for the element.
+    Outside(Value),
+}
+
+#[inline(always)]
+fn index_in(len: u32, index: Value, origin: Origin) -> Indexed
+    ensures exact { indexed_of result ≡ Values.index_in len index origin }
+    ensures within { IsWithin len result }
+{
+    match index {
+        Value::Int(number) => {
+            if 0 <= number && number < i64::from(len) {
+                Indexed::Place(number as u32)
+            } else {
+                Indexed::Outside(Value::Fault {
+                    kind: FaultKind::Range,
+                    origin,
+                })
+            }
+        }
+        Value::Fault { .. } => Indexed::Outside(index),
+    }
+}
+
+// The request for an element of an array, or the fault where there is none.
+#[inline(always)]
+pub(super) fn asks_for<C: Instructions>(
+    code: &C,
+    seat: Seat,
+    instr: &Instruction,
+    array: u8,
+    index: Value,
+    made: &mut Made,
+)
+    requires short { IsShort (C.width code.now) seat.ip instr.now }
+    ensures { tokens_of (seat_of seat) made.new ≡ Rule.asks_for (C.program code.now) (seat_of seat) (instr_of instr.now) array (Values.index_in (Rule.array_len (C.program code.now) array) index (origin_in instr.now.origin)) }
+{
+    let cells = code.array(array);
+    match index_in(cells.len, index, instr.origin()) {
+        Indexed::Place(place) => one(
+            Token {
+                to: To::Fetch {
+                    cell: cells.base + place,
+                },
+                word: Word::Back(answer_to(seat, instr)),
+            },
+            made,
+        ),
+        Indexed::Outside(fault) => to_first(seat, Word::Val(fault), instr, made),
+    }
+}
+
+// The request to store a value in an array, or the fault where there is no such element.
+#[inline(always)]
+pub(super) fn puts<C: Instructions>(
+    code: &C,
+    seat: Seat,
+    instr: &Instruction,
+    array: u8,
+    index: Value,
+    value: Value,
+    made: &mut Made,
+)
+    requires short { IsShort (C.width code.now) seat.ip instr.now }
+    ensures { tokens_of (seat_of seat) made.new ≡ Rule.puts (C.program code.now) (seat_of seat) (instr_of instr.now) array value (Values.index_in (Rule.array_len (C.program code.now) array) index (origin_in instr.now.origin)) }
+{
+    let cells = code.array(array);
+    match index_in(cells.len, index, instr.origin()) {
+        Indexed::Place(place) => one(
+            Token {
+                to: To::Store {
+                    cell: cells.base + place,
+                    value,
+                },
+                word: Word::Back(answer_to(seat, instr)),
+            },
+            made,
+        ),
+        Indexed::Outside(fault) => to_first(seat, Word::Val(fault), instr, made),
+    }
+}

@@ -1,0 +1,97 @@
+//! The instructions that keep the credits of a loop.
+
+ghost use Rattle.std.specs.Prelude.{◌≡◌};
+ghost use Rattle.semantics.specs.Rule as Rule;
+ghost use Rattle.element.specs.Decoded.{instr_of};
+ghost use Rattle.element.specs.Fired.{seat_of, tokens_of, outcome_by};
+
+use super::continuations::answer;
+use super::made::{Made, SIGNAL, Seat};
+use super::outcomes::{Outcome, becomes, becomes_signalled, becomes_with, excluded};
+use crate::instructions::Instruction;
+use tags::slot::SlotState;
+use tags::token::Word;
+
+// The first credits of a loop, but for the one that begins it.
+pub(super) fn opens(
+    seat: Seat,
+    instr: &Instruction,
+    bound: u8,
+    slot: SlotState,
+    made: &mut Made,
+) -> Outcome
+    ensures { outcome_by result (tokens_of (seat_of seat) made.new) ≡ Rule.opens (seat_of seat) (instr_of instr.now) bound slot }
+{
+    match slot {
+        SlotState::Empty => {
+            let credits = u32::from(bound).saturating_sub(1);
+            becomes_signalled(SlotState::Credits(credits), seat, instr, made)
+        }
+        _ => excluded(3),
+    }
+}
+
+// A credit is taken, or whoever asks for it waits.
+pub(super) fn takes(slot: SlotState, word: Word, made: &mut Made) -> Outcome
+    ensures { (s : Rule.Seat) → outcome_by result (tokens_of s made.new) ≡ Rule.takes slot word }
+{
+    match (slot, word) {
+        (SlotState::Credits(0), Word::Back(cont)) => becomes(SlotState::Waiter(cont), made),
+        (SlotState::Credits(credits), Word::Back(cont)) => {
+            becomes_with(SlotState::Credits(credits - 1), answer(cont, SIGNAL), made)
+        }
+        (SlotState::Credits(_), _) => excluded(4),
+        _ => excluded(3),
+    }
+}
+
+// A credit comes back.
+pub(super) fn gives(
+    seat: Seat,
+    instr: &Instruction,
+    bound: u8,
+    slot: SlotState,
+    made: &mut Made,
+) -> Outcome
+    ensures { outcome_by result (tokens_of (seat_of seat) made.new) ≡ Rule.gives (seat_of seat) (instr_of instr.now) bound slot }
+{
+    match slot {
+        SlotState::Credits(credits) => {
+            if credits < u32::from(bound) {
+                becomes(SlotState::Credits(credits + 1), made)
+            } else {
+                excluded(3)
+            }
+        }
+        SlotState::Waiter(cont) => becomes_with(SlotState::Credits(0), answer(cont, SIGNAL), made),
+        SlotState::Draining(0) => excluded(3),
+        SlotState::Draining(1) => becomes_signalled(SlotState::Empty, seat, instr, made),
+        SlotState::Draining(owed) => becomes(SlotState::Draining(owed - 1), made),
+        _ => excluded(3),
+    }
+}
+
+// The loop has ended: the credits that are still out are waited for.
+pub(super) fn drains(
+    seat: Seat,
+    instr: &Instruction,
+    bound: u8,
+    slot: SlotState,
+    made: &mut Made,
+) -> Outcome
+    ensures { outcome_by result (tokens_of (seat_of seat) made.new) ≡ Rule.drains (seat_of seat) (instr_of instr.now) bound slot }
+{
+    let bound = u32::from(bound);
+    match slot {
+        SlotState::Credits(credits) => {
+            if credits == bound {
+                becomes_signalled(SlotState::Empty, seat, instr, made)
+            } else if credits < bound {
+                becomes(SlotState::Draining(bound - credits), made)
+            } else {
+                excluded(3)
+            }
+        }
+        _ => excluded(3),
+    }
+}

@@ -1,0 +1,115 @@
+//! The tokens that an instruction makes.
+
+ghost use Rattle.std.specs.Prelude.{◌≡◌, ◌++◌, ◌∷◌, [], option_to_list, take};
+ghost use Rattle.semantics.specs.Rule as Rule;
+ghost use Rattle.element.specs.Decoded.{instr_of};
+ghost use Rattle.element.specs.Fired.{seat_of, tokens_of};
+
+use crate::instructions::Instruction;
+use tags::token::{FrameId, Token, Word};
+use tags::value::Value;
+
+/// Where an instruction stands: its frame, and its number.
+#[derive(Clone, Copy, Debug, PartialEq, Eq)]
+pub struct Seat {
+    pub frame: FrameId,
+    pub ip: u32,
+}
+
+/// The tokens that an instruction makes, at most four, in order: the release of a frame, a token that leaves, and a word
+/// to each of two destinations, which are the half words of the instruction, or 0.
+#[derive(Clone, Copy, Debug, PartialEq, Eq)]
+pub struct Made {
+    pub released: Option<FrameId>,
+    pub outside: Option<Token>,
+    pub word: Word,
+    pub first: u32,
+    pub second: u32,
+}
+
+/// A word that only tells that something happened.
+pub const SIGNAL: Word = Word::Val(Value::Int(0));
+
+/// No tokens.
+pub const NONE: Made = Made {
+    released: None,
+    outside: None,
+    word: SIGNAL,
+    first: 0,
+    second: 0,
+};
+
+#[inline(always)]
+pub(super) fn one(token: Token, made: &mut Made)
+    ensures { (s : Rule.Seat) → tokens_of s made.new ≡ token ∷ [] }
+{
+    made.released = None;
+    made.outside = Some(token);
+    made.first = 0;
+    made.second = 0;
+}
+
+#[inline(always)]
+pub(super) fn nothing(made: &mut Made)
+    ensures { (s : Rule.Seat) → tokens_of s made.new ≡ [] }
+{
+    made.released = None;
+    made.outside = None;
+    made.first = 0;
+    made.second = 0;
+}
+
+// One token or none, and then a word to each destination.
+#[inline(always)]
+fn before_all(outside: Option<Token>, seat: Seat, word: Word, instr: &Instruction, made: &mut Made)
+    ensures { tokens_of (seat_of seat) made.new ≡ option_to_list outside ++ Rule.to_all (seat_of seat) word (instr_of instr.now) }
+{
+    made.released = None;
+    made.outside = outside;
+    made.word = word;
+    made.first = instr.first;
+    made.second = instr.second;
+}
+
+#[inline(always)]
+pub(super) fn to_all(seat: Seat, word: Word, instr: &Instruction, made: &mut Made)
+    ensures { tokens_of (seat_of seat) made.new ≡ Rule.to_all (seat_of seat) word (instr_of instr.now) }
+{
+    before_all(None, seat, word, instr, made);
+}
+
+#[inline(always)]
+pub(super) fn to_first(seat: Seat, word: Word, instr: &Instruction, made: &mut Made)
+    ensures { tokens_of (seat_of seat) made.new ≡ Rule.to_each (seat_of seat) word (take 1 (instr_of instr.now).firsts) }
+{
+    made.released = None;
+    made.outside = None;
+    made.word = word;
+    made.first = instr.first;
+    made.second = 0;
+}
+
+#[inline(always)]
+pub(super) fn to_second(
+    outside: Token,
+    seat: Seat,
+    word: Word,
+    instr: &Instruction,
+    made: &mut Made,
+)
+    ensures { tokens_of (seat_of seat) made.new ≡ outside ∷ Rule.to_each (seat_of seat) word (instr_of instr.now).seconds }
+{
+    made.released = None;
+    made.outside = Some(outside);
+    made.word = word;
+    made.first = 0;
+    made.second = instr.second;
+}
+
+// A token, and then a signal to each destination.
+#[inline(always)]
+pub(super) fn and_signals(token: Token, seat: Seat, instr: &Instruction, made: &mut Made)
+    ensures { tokens_of (seat_of seat) made.new ≡ token ∷ Rule.to_all (seat_of seat) Rule.signal (instr_of instr.now) }
+{
+    before_all(Some(token), seat, SIGNAL, instr, made);
+}

@@ -1,0 +1,182 @@
+//! Instructions with two inputs.
+
+ghost use Rattle.std.specs.Prelude.{◌≡◌, ◌<◌, ◌^◌, ◌∷◌, [], ◌+◌, if◌then◌else◌};
+ghost use Rattle.tags.specs.declared.token.Port.TheVariants.{Left};
+ghost use Rattle.tags.specs.declared.token.To.{To};
+ghost use Rattle.semantics.specs.Rule as Rule;
+ghost use Rattle.element.specs.Decoded.{instr_of, IsShort};
+ghost use Rattle.element.specs.Fired.{seat_of, tokens_of, fired_by, outcome_by, HasRoomInWord, HasRoomInSlot};
+ghost use Rattle.semantics.specs.Program.{Program, Instr};
+ghost use Rattle.element.specs.Outcomes.{MeetingIs, LeftHasRoom};
+
+use super::arrays::puts;
+use super::continuations::{answer_to, beyond};
+use super::made::{Made, SIGNAL, Seat, and_signals, one, to_all};
+use super::outcomes::{Outcome, becomes, excluded, fires};
+use crate::instructions::{Instruction, Instructions};
+use operators::{apply2_at, truth};
+use semantics::program::Op;
+use tags::slot::SlotState;
+use tags::token::{FrameId, Port, To, Token, Word};
+
+/// What a token meets at an instruction with two inputs.
+#[derive(Clone, Copy, Debug, PartialEq, Eq)]
+pub enum Meeting {
+    /// The other one: both words.
+    Both { left: Word, right: Word },
+    /// None: it waits in the slot, which has this state then.
+    Waits { state: SlotState },
+    /// What it can't meet.
+    Apart,
+}
+
+/// What a token meets in its slot.
+#[inline(always)]
+pub fn meet(held: SlotState, port: Port, word: Word) -> Meeting
+    requires slot_room { HasRoomInSlot held }
+    requires word_room { HasRoomInWord word }
+    ensures meets { (p : Program) (s : Rule.Seat) (i : Instr) → MeetingIs p s i (Rule.meets p s i held port word) result }
+    ensures room { LeftHasRoom result }
+{
+    match (held, port) {
+        (SlotState::Empty, Port::Left) => Meeting::Waits {
+            state: SlotState::Left(word),
+        },
+        (SlotState::Empty, Port::Right) => Meeting::Waits {
+            state: SlotState::Right(word),
+        },
+        (SlotState::Left(left), Port::Right) => Meeting::Both { left, right: word },
+        (SlotState::Right(right), Port::Left) => Meeting::Both { left: word, right },
+        _ => Meeting::Apart,
+    }
+}
+
+// An instruction with two inputs.
+pub(super) fn meets<C: Instructions>(
+    code: &C,
+    seat: Seat,
+    instr: &Instruction,
+    slot: SlotState,
+    port: Port,
+    word: Word,
+    made: &mut Made,
+) -> Outcome
+    requires short { IsShort (C.width code.now) seat.ip instr.now }
+    requires slot_room { HasRoomInSlot slot }
+    requires word_room { HasRoomInWord word }
+    ensures { outcome_by result (tokens_of (seat_of seat) made.new) ≡ Rule.meets (C.program code.now) (seat_of seat) (instr_of instr.now) slot port word }
+{
+    match (slot, port) {
+        (SlotState::Empty, Port::Left) => becomes(SlotState::Left(word), made),
+        (SlotState::Empty, Port::Right) => becomes(SlotState::Right(word), made),
+        (SlotState::Left(left), Port::Right) => {
+            let fired = fire_two(code, seat, instr, left, word, made);
+            fires(SlotState::Empty, fired)
+        }
+        (SlotState::Right(right), Port::Left) => {
+            let fired = fire_two(code, seat, instr, word, right, made);
+            fires(SlotState::Empty, fired)
+        }
+        _ => excluded(3),
+    }
+}
+
+/// What an instruction with two inputs makes of its words; false where one is of a wrong kind.
+#[inline(always)]
+pub fn fire_two<C: Instructions>(
+    code: &C,
+    seat: Seat,
+    instr: &Instruction,
+    left: Word,
+    right: Word,
+    made: &mut Made,
+) -> bool
+    requires short { IsShort (C.width code.now) seat.ip instr.now }
+    requires room { HasRoomInWord left }
+    ensures { fired_by result (tokens_of (seat_of seat) made.new) ≡ Rule.fire_two (C.program code.now) (seat_of seat) (instr_of instr.now) instr.now.op left right }
+{
+    match (instr.op, left, right) {
+        (Op::Apply2 { op }, Word::Val(x), Word::Val(y)) => {
+            let value = apply2_at(op, x, y, instr.origin());
+            to_all(seat, Word::Val(value), instr, made);
+            true
+        }
+        (Op::Sync, _, _) => {
+            to_all(seat, SIGNAL, instr, made);
+            true
+        }
+        (Op::Switch, _, Word::Val(value)) => {
+            choose(truth(value), seat, left, instr, made);
+            true
+        }
+        (Op::Store { array }, Word::Val(index), Word::Val(value)) => {
+            puts(code, seat, instr, array, index, value, made);
+            true
+        }
+        (Op::Send { block, entry }, Word::Frame(frame), _) => {
+            let to = left_of(frame, entry_at(code.entry(block), entry));
+            and_signals(Token { to, word: right }, seat, instr, made);
+            true
+        }
+        (Op::Return { offset }, Word::Back(cont), Word::Val(_)) => {
+            let to = beyond(cont, offset);
+            and_signals(Token { to, word: right }, seat, instr, made);
+            true
+        }
+        (Op::Ask { offset }, Word::Back(cont), _) => {
+            let to = beyond(cont, offset);
+            let word = Word::Back(answer_to(seat, instr));
+            one(Token { to, word }, made);
+            true
+        }
+        (Op::Release { offset }, Word::Back(cont), _) => {
+            released(beyond(cont, offset), seat.frame, made);
+            true
+        }
+        _ => false,
+    }
+}
+
+// A switch sends its left word to one side.
+#[inline(always)]
+fn choose(holds: bool, seat: Seat, word: Word, instr: &Instruction, made: &mut Made)
+    ensures { tokens_of (seat_of seat) made.new ≡ Rule.to_each (seat_of seat) word (if holds then (instr_of instr.now).firsts else (instr_of instr.now).seconds) }
+{
+    let side = if holds { instr.first } else { instr.second };
+    made.released = None;
+    made.outside = None;
+    made.word = word;
+    made.first = side;
+    made.second = 0;
+}
+
+// The release of the frame, and a signal.
+#[inline(always)]
+fn released(to: To, frame: FrameId, made: &mut Made)
+    ensures { (s : Rule.Seat) → tokens_of s made.new ≡ Rule.token (To.Release frame) Rule.signal ∷ Rule.token to Rule.signal ∷ [] }
+{
+    made.released = Some(frame);
+    made.outside = Some(Token { to, word: SIGNAL });
+    made.first = 0;
+    made.second = 0;
+}
+
+// The left port of an instruction in the frame.
+#[inline(always)]
+fn left_of(frame: FrameId, ip: u32) -> To
+    ensures { result ≡ To.Instr frame ip Left }
+{
+    To::Instr {
+        frame,
+        ip,
+        port: Port::Left,
+    }
+}
+
+// An entry of the block that begins there.
+fn entry_at(first: u32, entry: u16) -> u32
+    requires { first < 2 ^ 30 }
+    ensures { result ≡ first + entry }
+{
+    first + u32::from(entry)
+}

@@ -1,0 +1,4 @@
+pub mod OwnSlots
+pub mod Theorem
+pub mod Bounds
+pub mod Generations

@@ -1,5 +1,0 @@
-use Rattle.mesh_tests.specs.Playing.{IsPlaying}
-use Rattle.mesh_tests.proofs.player.Player.run_to_stop.Given as goal
-
-abbrev pub invariant-rounds : goal.invariant-rounds
-invariant-rounds g l = IsPlaying l.mesh l.self

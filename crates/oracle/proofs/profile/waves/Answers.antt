@@ -1,0 +1,27 @@
+use Rattle.std.proofs.Common.{◌≡◌, Some, None, length, sym, ap, ◌∙◌, arith}
+use Rattle.oracle.specs.Lines.{inputs_at}
+use Rattle.oracle.specs.Running.{main_place}
+use Rattle.oracle.proofs.Resolved.{few_cells}
+use Rattle.oracle.proofs.WaveRuns.{waves_end, waves_true}
+use Rattle.oracle.proofs.profile.waves.Goals as goal
+
+pub run_waves-requires-clause-few : goal.run_waves-requires-clause-few
+run_waves-requires-clause-few g c = few_cells c.args.checked.now c.requires.limits
+
+pub run_waves-requires-clause-comes_to_an_end : goal.run_waves-requires-clause-comes_to_an_end
+run_waves-requires-clause-comes_to_an_end g c =
+    let checked = c.args.checked.now in
+    let fit : length c.args.inputs.now ≡ inputs_at checked (main_place checked) = c.if-inputs-input_count.false ∙ c.input_count.ensures
+    ∙ ap (λ g. inputs_at g c.main_place.result) c.graph.ensures.same ∙ ap (inputs_at checked) c.main_place.ensures in
+    let low = c.ranges.steps.fits in
+    let end = waves_end checked c.args.inputs.now c.args.steps c.requires.limits c.graph.ensures.well fit (omega (arith, low)) in
+    λ e. let no : Some end.0 ≡ None = sym end.1 ∙ e in cc
+
+pub returns-in-Ok-clause-meant : goal.returns-in-Ok-clause-meant
+returns-in-Ok-clause-meant g c =
+    let r = c.in-Ok.report in
+    let checked = c.args.checked.now in
+    let fit : length c.args.inputs.now ≡ inputs_at checked (main_place checked) = c.if-inputs-input_count.false ∙ c.input_count.ensures
+    ∙ ap (λ g. inputs_at g c.main_place.result) c.graph.ensures.same ∙ ap (inputs_at checked) c.main_place.ensures in
+    let low = c.ranges.steps.fits in
+    waves_true checked c.args.inputs.now c.args.steps r.end r.counts.items c.requires.limits c.graph.ensures.well fit (omega (arith, low)) c.in-Ok.ensures

@@ -1,0 +1,71 @@
+//! The waves of the greedy schedule: the meaning with unlimited processors.
+
+ghost use Rattle.std.specs.Prelude.{◌≡◌, ◌≢◌, ◌↔◌, ◌≤◌, length, Some, None, IfOk};
+ghost use Rattle.semantics.specs.Text.{HasText};
+ghost use Rattle.oracle.specs.Lines.{total_of, inputs_at};
+ghost use Rattle.oracle.specs.Running.{main_place};
+ghost use Rattle.oracle.specs.Gathering.{waves_told};
+ghost use Rattle.oracle.specs.Waves.{AreWavesOf};
+
+use crate::lines::input_count;
+use crate::report::{MeanFault, WaveReport};
+use crate::runs::start;
+use crate::wave::next_wave;
+use graph_check::Checked;
+use std::alloc::{AllocError, Allocator};
+
+/// Does waves until there is no further one.
+fn run_waves<'a, A: Allocator + Clone>(
+    alloc: A,
+    checked: &Checked<'a, A>,
+    inputs: &[i64],
+    steps: u64,
+) -> Result<WaveReport<A>, AllocError>
+    requires few { total_of checked.now.arrays ≤ 65536 }
+    requires comes_to_an_end { waves_told checked.now inputs.now steps ≢ None }
+    ensures { IfOk result (λ r. waves_told checked.now inputs.now steps ≡ Some (r.end, r.counts.items)) }
+{
+    let mut state = start(alloc.clone()?, checked, inputs)?;
+    let mut counts = Vec::new(alloc);
+    let mut left = steps;
+    loop {
+        match next_wave(checked, &mut state, left)? {
+            Ok(count) => {
+                counts.push(count)?;
+                left -= count;
+            }
+            Err(end) => return Ok(WaveReport { end, counts }),
+        }
+    }
+}
+
+/// The waves of the greedy schedule of the graph on these inputs, of at most `steps` activities in all. It is the schedule of
+/// unlimited processors: every activity that is enabled at the beginning of a wave happens in it, and no other, so that what
+/// they make is used in later waves.
+///
+/// Each count is how many activities a wave of the meaning has, in order from the first. `Rest` is told only where after the last
+/// wave no activity is enabled and no store clashes. `Clash` is told where the activities that are enabled after the last wave, done
+/// one after the other, come to a store at a full cell, which is that one: so a wave with two stores to one cell is none.
+/// `Steps` is told where the next wave would bring the activities above the number that is allowed: a wave is never cut.
+///
+/// `WrongInputs` comes first: there are not as many inputs as main has. `Memory` is answered where a growth was refused, and
+/// only there.
+pub fn waves<'a, A: Allocator + Clone>(
+    alloc: A,
+    checked: &Checked<'a, A>,
+    inputs: &[i64],
+    steps: u64,
+) -> Result<WaveReport<A>, MeanFault>
+    requires limits { HasText checked.now }
+    ensures wrong { result ≡ Err MeanFault.WrongInputs ↔ (length inputs.now ≢ inputs_at checked.now (main_place checked.now)) }
+    ensures told { IfOk result (λ r. waves_told checked.now inputs.now steps ≡ Some (r.end, r.counts.items)) }
+    ensures meant { IfOk result (λ r. AreWavesOf checked.now inputs.now steps r.end r.counts.items) }
+{
+    if inputs.len() != input_count(checked.graph(), checked.main_place()) {
+        return Err(MeanFault::WrongInputs);
+    }
+    match run_waves(alloc, checked, inputs, steps) {
+        Ok(report) => Ok(report),
+        Err(_) => Err(MeanFault::Memory),
+    }
+}

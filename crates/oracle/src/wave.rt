@@ -1,0 +1,92 @@
+//! A wave: all tokens that came before it are looked at, and then all that act do so.
+
+ghost use Rattle.std.specs.Prelude.{◌≡◌, ◌≢◌, ◌≤◌, ◌<◌, [], map, IfOk, MatchResult};
+ghost use Rattle.oracle.specs.Lines.{total_of};
+ghost use Rattle.oracle.specs.Running.{plain};
+ghost use Rattle.oracle.specs.Rows.{rows_of};
+ghost use Rattle.oracle.specs.Gathering.{gathered, Found, Clashed, Failed, performed_all, Does, Hits, wave_among, Passes, Halts, Breaks};
+
+use crate::report::MeanEnd;
+use crate::state::{Act, Gate, State, ask, join_among, perform};
+use graph_check::Checked;
+use std::alloc::{AllocError, Allocator};
+
+/// Looks at all fresh tokens, and gives the activities that act. None is done yet. A store to a full cell is the end.
+fn gather<'a, A: Allocator + Clone>(
+    checked: &Checked<'a, A>,
+    state: &mut State<A>,
+) -> Result<Result<Vec<Act<A>, A>, MeanEnd>, AllocError>
+    requires few { total_of checked.now.arrays ≤ 65536 }
+    requires never_failed { gathered checked.now state.old.invocations state.old.cells.items state.old.fresh.items (rows_of (map (λ v. v.items) state.old.waiting.items)) state.old.deferred.items [] ≢ Failed }
+    ensures found { let all = gathered checked.now state.old.invocations state.old.cells.items state.old.fresh.items (rows_of (map (λ v. v.items) state.old.waiting.items)) state.old.deferred.items [] in
+        IfOk result (λ r. MatchResult r
+        (λ acts. all ≡ Found (rows_of (map (λ v. v.items) state.new.waiting.items)) state.new.deferred.items (map (λ a. (a.values.items, a.deed)) acts.items))
+        (λ e. all ≡ Clashed e)) }
+    ensures kept { IfOk result (λ r. IfOk r (λ acts. plain state.new.invocations state.new.fresh.items [] [] state.new.cells.items state.new.outputs.items ≡ plain state.old.invocations [] [] [] state.old.cells.items state.old.outputs.items)) }
+{
+    let mut acts = Vec::new(state.waiting.allocator().clone()?);
+    while let Some(token) = state.fresh.pop_front() {
+        if let Some(act) = join_among(checked, &state.invocations, &mut state.waiting, &token)? {
+            match ask(&state.cells, &act.deed) {
+                Gate::Free => acts.push(act)?,
+                Gate::Defers => state.deferred.push(token)?,
+                Gate::Clashes { array, index } => return Ok(Err(MeanEnd::Clash { array, index })),
+            }
+        }
+    }
+    Ok(Ok(acts))
+}
+
+/// Does the activities one after the other. A store to a cell that one of them filled is the end.
+fn perform_all<'a, A: Allocator + Clone>(
+    checked: &Checked<'a, A>,
+    state: &mut State<A>,
+    acts: &[Act<A>],
+) -> Result<Result<(), MeanEnd>, AllocError>
+    ensures done { let old = plain state.old.invocations state.old.fresh.items [] state.old.deferred.items state.old.cells.items state.old.outputs.items in
+        let new = plain state.new.invocations state.new.fresh.items [] state.new.deferred.items state.new.cells.items state.new.outputs.items in
+        let all = performed_all checked.now old (map (λ a. (a.values.items, a.deed)) acts.now) in
+        IfOk result (λ r. MatchResult r (λ u. all ≡ Does new) (λ e. all ≡ Hits e)) }
+    ensures waiting { IfOk result (λ r. state.new.waiting.items ≡ state.old.waiting.items) }
+{
+    for act in acts {
+        if let Gate::Clashes { array, index } = ask(&state.cells, &act.deed) {
+            return Ok(Err(MeanEnd::Clash { array, index }));
+        }
+        perform(checked, state, &act.deed, &act.values)?;
+    }
+    Ok(Ok(()))
+}
+
+/// Does a wave of at most `left` activities, and gives how many there were. Where no activity is enabled, a store clashes, or
+/// the wave has more, there is none.
+pub fn next_wave<'a, A: Allocator + Clone>(
+    checked: &Checked<'a, A>,
+    state: &mut State<A>,
+    left: u64,
+) -> Result<Result<u64, MeanEnd>, AllocError>
+    requires few { total_of checked.now.arrays ≤ 65536 }
+    requires never_broken { wave_among checked.now left (plain state.old.invocations state.old.fresh.items [] state.old.deferred.items state.old.cells.items state.old.outputs.items) (rows_of (map (λ v. v.items) state.old.waiting.items)) ≢ Breaks }
+    ensures wave { let old = plain state.old.invocations state.old.fresh.items [] state.old.deferred.items state.old.cells.items state.old.outputs.items in
+        let new = plain state.new.invocations state.new.fresh.items [] state.new.deferred.items state.new.cells.items state.new.outputs.items in
+        let all = wave_among checked.now left old (rows_of (map (λ v. v.items) state.old.waiting.items)) in
+        IfOk result (λ r. MatchResult r (λ n. all ≡ Passes new (rows_of (map (λ v. v.items) state.new.waiting.items)) n) (λ e. all ≡ Halts e)) }
+    ensures some { IfOk result (λ r. IfOk r (λ n. 0 < n)) }
+    ensures few { IfOk result (λ r. IfOk r (λ n. n ≤ left)) }
+{
+    let acts = match gather(checked, state)? {
+        Ok(acts) => acts,
+        Err(end) => return Ok(Err(end)),
+    };
+    let count = acts.len() as u64;
+    if count == 0 {
+        return Ok(Err(MeanEnd::Rest));
+    }
+    if count > left {
+        return Ok(Err(MeanEnd::Steps));
+    }
+    match perform_all(checked, state, &acts)? {
+        Ok(()) => Ok(Ok(count)),
+        Err(end) => Ok(Err(end)),
+    }
+}

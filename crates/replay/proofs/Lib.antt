@@ -1,0 +1,5 @@
+pub mod Sums
+pub mod Keeping
+pub mod Serving
+pub mod Instructing
+pub mod Watching

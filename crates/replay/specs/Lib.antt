@@ -1,0 +1,4 @@
+pub mod Moments
+pub mod Held
+pub mod Nearby
+pub mod Follows

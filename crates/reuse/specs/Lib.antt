@@ -1,3 +1,0 @@
-pub mod OwnSlots
-pub mod Theorem
-pub mod Bounds

@@ -1,0 +1,276 @@
+//! Plans made by hand, and the code that is emitted for them.
+
+use code::{Code, CodeBlock, Instr, Plan, Program, Slots};
+use operators::Binary;
+use rationed::Rationed;
+use select::{EmitFault, Version, emit};
+use semantics::program::{Dest, Op};
+use std::alloc::{AllocError, Allocator};
+use std::test::Fail;
+use tags::token::Port;
+use tags::value::{NodeNumber, Origin};
+
+const fn left(ahead: u32) -> Dest {
+    Dest {
+        ahead,
+        port: Port::Left,
+    }
+}
+
+const fn right(ahead: u32) -> Dest {
+    Dest {
+        ahead,
+        port: Port::Right,
+    }
+}
+
+/// Node 7 of block 3.
+fn node_seven() -> Origin {
+    Origin::At {
+        block: 3,
+        node: NodeNumber::new(7),
+    }
+}
+
+fn instr<A: Allocator + Clone>(
+    alloc: A,
+    op: Op,
+    slot: u32,
+    firsts: &[Dest],
+) -> Result<Instr<A>, AllocError> {
+    Ok(Instr {
+        op,
+        origin: node_seven(),
+        slot,
+        firsts: Vec::from_slice(alloc.clone()?, firsts)?,
+        seconds: Vec::new(alloc),
+    })
+}
+
+fn plan_of<A: Allocator + Clone>(
+    alloc: A,
+    slots: u32,
+    instrs: Vec<Instr<A>, A>,
+) -> Result<Plan<A>, AllocError> {
+    let block = CodeBlock {
+        inputs: 2,
+        outputs: 1,
+        slots,
+        instrs,
+    };
+    let mut blocks = Vec::new(alloc.clone()?);
+    blocks.push(block)?;
+    Ok(Plan {
+        program: Program {
+            blocks,
+            arrays: Vec::new(alloc.clone()?),
+            main: 0,
+        },
+        plain: 1,
+        marks: Vec::new(alloc),
+    })
+}
+
+/// The instructions of a block that does the operation on its two inputs.
+fn adder_instr<A: Allocator + Clone>(
+    alloc: A,
+    number: u32,
+    op: Op,
+) -> Result<Instr<A>, AllocError> {
+    match number {
+        0 => instr(alloc, Op::Copy, 0, &[left(4), left(5)]),
+        1 => instr(alloc, Op::Copy, 0, &[left(2)]),
+        2 => instr(alloc, Op::Copy, 0, &[right(1)]),
+        3 => instr(alloc, op, 0, &[right(1)]),
+        4 => instr(alloc, Op::Return { offset: 0 }, 1, &[right(1)]),
+        _ => instr(alloc, Op::Release { offset: 1 }, 2, &[]),
+    }
+}
+
+fn adder<A: Allocator + Clone>(alloc: A, op: Op) -> Result<Plan<A>, AllocError> {
+    let mut instrs = Vec::new(alloc.clone()?);
+    for number in 0..6 {
+        instrs.push(adder_instr(alloc.clone()?, number, op)?)?;
+    }
+    plan_of(alloc, 3, instrs)
+}
+
+fn slots_of<A: Allocator + Clone>(alloc: A, slots: &[u16]) -> Result<Slots<A>, AllocError> {
+    let holders = Vec::from_slice(alloc.clone()?, slots)?;
+    let mut lists = Vec::new(alloc);
+    lists.push(holders)?;
+    Ok(Slots::of(lists))
+}
+
+/// The slot and the destinations of an instruction, and whether its origin is told.
+#[derive(Clone, Copy, Debug, PartialEq, Eq)]
+struct Shape {
+    slot: u32,
+    first: Option<Dest>,
+    second: Option<Dest>,
+    told: bool,
+}
+
+const fn make_shape(slot: u32, first: Option<Dest>, second: Option<Dest>, told: bool) -> Shape {
+    Shape {
+        slot,
+        first,
+        second,
+        told,
+    }
+}
+
+fn shape_of<A: Allocator>(instr: &Instr<A>) -> Shape {
+    make_shape(
+        instr.slot,
+        instr.firsts.first().copied(),
+        instr.seconds.first().copied(),
+        instr.origin == node_seven(),
+    )
+}
+
+/// The shapes of the instructions of the first block.
+fn shapes_of<A: Allocator, B: Allocator>(
+    alloc: B,
+    code: &Code<A>,
+) -> Result<Vec<Shape, B>, AllocError> {
+    let mut shapes = Vec::new(alloc);
+    if let Some(block) = code.program.blocks.first() {
+        for instr in &block.instrs {
+            shapes.push(shape_of(instr))?;
+        }
+    }
+    Ok(shapes)
+}
+
+#[test]
+fn an_adder(rt: HostRuntime) -> Result<(), Fail> {
+    let plan = adder(rt.alloc(), Op::Apply2 { op: Binary::Add })?;
+    let slots = slots_of(rt.alloc(), &[0, 1, 2])?;
+    let code = emit(rt.alloc(), &plan, &slots, Version::One)?;
+    let shapes = shapes_of(rt.alloc(), &code)?;
+    let wanted = [
+        make_shape(0, Some(left(4)), Some(left(5)), false),
+        make_shape(0, Some(left(2)), None, false),
+        make_shape(0, Some(right(1)), None, false),
+        make_shape(0, Some(right(1)), None, false),
+        make_shape(1, Some(right(1)), None, false),
+        make_shape(2, None, None, false),
+    ];
+    assert_eq!(rt; shapes.as_slice(), wanted.as_slice());
+    Ok(())
+}
+
+#[test]
+fn a_divider_tells_its_origin(rt: HostRuntime) -> Result<(), Fail> {
+    let plan = adder(rt.alloc(), Op::Apply2 { op: Binary::Div })?;
+    let slots = slots_of(rt.alloc(), &[2, 0, 1])?;
+    let code = emit(rt.alloc(), &plan, &slots, Version::Two)?;
+    let shapes = shapes_of(rt.alloc(), &code)?;
+    let divider = make_shape(2, Some(right(1)), None, true);
+    let answer = make_shape(0, Some(right(1)), None, false);
+    assert_eq!(rt; shapes.get(3), Some(&divider));
+    assert_eq!(rt; shapes.get(4), Some(&answer));
+    Ok(())
+}
+
+#[test]
+fn the_first_version_tells_no_origin(rt: HostRuntime) -> Result<(), Fail> {
+    let plan = adder(rt.alloc(), Op::Apply2 { op: Binary::Div })?;
+    let slots = slots_of(rt.alloc(), &[0, 1, 2])?;
+    let code = emit(rt.alloc(), &plan, &slots, Version::One)?;
+    let shapes = shapes_of(rt.alloc(), &code)?;
+    let divider = make_shape(0, Some(right(1)), None, false);
+    assert_eq!(rt; shapes.get(3), Some(&divider));
+    Ok(())
+}
+
+/// A plan whose literals are out of order, and that has one of them twice.
+fn literal_plan<A: Allocator + Clone>(alloc: A) -> Result<Plan<A>, AllocError> {
+    let mut instrs = Vec::new(alloc.clone()?);
+    for literal in &[7, -7, 7] {
+        instrs.push(instr(alloc.clone()?, Op::Lit { literal: *literal }, 0, &[left(1)])?)?;
+    }
+    instrs.push(instr(alloc.clone()?, Op::Copy, 0, &[])?)?;
+    plan_of(alloc, 0, instrs)
+}
+
+#[test]
+fn literals_ascend(rt: HostRuntime) -> Result<(), Fail> {
+    let plan = literal_plan(rt.alloc())?;
+    let slots = slots_of(rt.alloc(), &[])?;
+    let code = emit(rt.alloc(), &plan, &slots, Version::One)?;
+    assert_eq!(rt; code.literals.as_slice(), [-7i64, 7].as_slice());
+    Ok(())
+}
+
+fn copies<A: Allocator + Clone>(alloc: A, count: u32) -> Result<Plan<A>, AllocError> {
+    let mut instrs = Vec::new(alloc.clone()?);
+    for _ in 0..count {
+        instrs.push(instr(alloc.clone()?, Op::Copy, 0, &[])?)?;
+    }
+    plan_of(alloc, 0, instrs)
+}
+
+fn fault_of<A: Allocator>(emitted: &Result<Code<A>, EmitFault>) -> Option<EmitFault> {
+    match emitted {
+        Ok(_) => None,
+        Err(fault) => Some(*fault),
+    }
+}
+
+#[test]
+fn a_full_block(rt: HostRuntime) -> Result<(), Fail> {
+    let slots = slots_of(rt.alloc(), &[])?;
+    let plan = copies(rt.alloc(), 32_768)?;
+    let emitted = emit(rt.alloc(), &plan, &slots, Version::One);
+    assert_eq!(rt; fault_of(&emitted), None);
+    Ok(())
+}
+
+#[test]
+fn a_block_too_far(rt: HostRuntime) -> Result<(), Fail> {
+    let slots = slots_of(rt.alloc(), &[])?;
+    let plan = copies(rt.alloc(), 32_769)?;
+    let emitted = emit(rt.alloc(), &plan, &slots, Version::One);
+    assert_eq!(rt; fault_of(&emitted), Some(EmitFault::TooFar { block: 0 }));
+    Ok(())
+}
+
+/// How far a plan came on its way to code.
+#[derive(Clone, Copy, Debug, PartialEq, Eq)]
+enum Stage {
+    NoPlan,
+    NoCode,
+    Code,
+}
+
+fn stage_of<A: Allocator + Clone>(alloc: A, again: A, more: A) -> Stage {
+    let Ok(plan) = literal_plan(alloc) else {
+        return Stage::NoPlan;
+    };
+    let Ok(slots) = slots_of(again, &[]) else {
+        return Stage::NoPlan;
+    };
+    match emit(more, &plan, &slots, Version::One) {
+        Ok(_) => Stage::Code,
+        Err(_) => Stage::NoCode,
+    }
+}
+
+#[test]
+fn refuses_each_growth(rt: HostRuntime) -> Result<(), Fail> {
+    let mut stages = Vec::new(rt.alloc());
+    for at in 1..40u64 {
+        let heap = Rationed::new(rt.alloc(), at);
+        let stage = stage_of(&heap, &heap, &heap);
+        if stages.last() != Some(&stage) {
+            stages.push(stage)?;
+        }
+    }
+    assert_eq!(rt;
+        stages.as_slice(),
+        [Stage::NoPlan, Stage::NoCode, Stage::Code].as_slice()
+    );
+    Ok(())
+}

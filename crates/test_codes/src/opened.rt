@@ -1,0 +1,151 @@
+//! An object that adds its two inputs: it is opened, refused, upgraded and written.
+
+use object_view::{Object, ObjectFault, upgrade, write};
+use std::io::{self, ErrorKind, Write};
+
+/// Adds two inputs.
+fn adds() -> [u8; 152] {
+    let mut bytes = [0u8; 152];
+    let words: [u64; 19] = [
+        0x5443_4a42_4f53_5445,
+        1,
+        1,
+        0,
+        0,
+        0,
+        0x0003_0102_0000_0006,
+        0x0005_0004_0000_0012,
+        0,
+        0x0000_0002_0000_0012,
+        0,
+        0x0000_8001_0000_0012,
+        0,
+        0x0000_8001_0000_0001,
+        0,
+        0x0000_8001_0001_001a,
+        0,
+        0x0000_0000_0002_0020,
+        1,
+    ];
+    for (place, byte) in bytes.iter_mut().enumerate() {
+        *byte = words[place / 8].to_le_bytes()[place % 8];
+    }
+    bytes
+}
+
+fn refusal(bytes: &[u8]) -> Option<ObjectFault> {
+    match Object::open(bytes) {
+        Ok(_) => None,
+        Err(fault) => Some(fault),
+    }
+}
+
+/// Takes `room` bytes, one for each call, and then fails.
+#[derive(Drop)]
+struct Taker {
+    taken: [u8; 152],
+    count: usize,
+    room: usize,
+}
+
+fn with_room(room: usize) -> Taker {
+    Taker {
+        taken: [0; 152],
+        count: 0,
+        room,
+    }
+}
+
+impl Write for Taker {
+    fn write(&mut self, buf: &[u8]) -> io::Result<usize> {
+        if self.count >= self.room {
+            return Err(io::Error::from(ErrorKind::Other));
+        }
+        match (buf.first(), self.taken.get_mut(self.count)) {
+            (Some(byte), Some(place)) => {
+                *place = *byte;
+                self.count = self.count.wrapping_add(1);
+                Ok(1)
+            }
+            _ => Ok(0),
+        }
+    }
+
+    fn flush(&mut self) -> io::Result<()> {
+        Ok(())
+    }
+}
+
+#[test]
+fn opens(rt: HostRuntime) {
+    let bytes = adds();
+    assert_eq!(rt; refusal(&bytes), None);
+    for n in 0..152usize {
+        let front = bytes.get(..n).expect(&rt, "enough bytes");
+        assert_eq!(rt; refusal(front), Some(ObjectFault::Truncated), "{n} bytes");
+    }
+    let mut longer = [0u8; 160];
+    longer[..152].copy_from_slice(&bytes);
+    assert_eq!(rt; refusal(&longer), Some(ObjectFault::Trailing));
+}
+
+#[test]
+fn refuses(rt: HostRuntime) {
+    let faults = [
+        (8, 3, ObjectFault::BadVersion),
+        (0, 0, ObjectFault::BadMagic),
+        (31, 0xff, ObjectFault::BadTable),
+        (104, 0x21, ObjectFault::BadOpcode),
+        (124, 2, ObjectFault::BadDestination),
+        (138, 3, ObjectFault::BadSlot),
+        (117, 1, ObjectFault::BadOpcode),
+        (105, 1, ObjectFault::BadDestination),
+    ];
+    for (place, byte, fault) in faults {
+        let mut bytes = adds();
+        *bytes.get_mut(place).expect(&rt, "there") = byte;
+        assert_eq!(rt; refusal(&bytes), Some(fault), "byte {place}");
+    }
+}
+
+#[test]
+fn upgrades(rt: HostRuntime) {
+    let mut bytes = adds();
+    let mut out = with_room(152);
+    let object = Object::open(&bytes).expect(&rt, "it opens");
+    assert!(rt; upgrade(&object, &mut out).is_ok());
+    for room in 0..152usize {
+        let mut cut = with_room(room);
+        assert!(rt; upgrade(&object, &mut cut).is_err());
+        assert_eq!(rt; cut.count, room);
+    }
+    bytes[8] = 2;
+    assert!(rt; out.taken == bytes);
+    assert_eq!(rt; refusal(&out.taken), None);
+}
+
+#[test]
+fn origins(rt: HostRuntime) {
+    let mut bytes = adds();
+    bytes[104] = 4;
+    bytes[116] = 3;
+    assert_eq!(rt; refusal(&bytes), Some(ObjectFault::BadOpcode));
+    bytes[8] = 2;
+    let object = Object::open(&bytes).expect(&rt, "it opens");
+    let instr = object.instr(3).expect(&rt, "it is there");
+    assert_eq!(rt; instr.origin.code(), 3);
+    assert!(rt; object.instr(6).is_none());
+}
+
+#[test]
+fn writes_what_was_taken_apart(rt: HostRuntime) {
+    let bytes = adds();
+    let object = Object::open(&bytes).expect(&rt, "it opens");
+    let code = object.to_code(rt.alloc()).expect(&rt, "there is memory");
+    for room in 0..153usize {
+        let mut out = with_room(room);
+        let written = write(&code, object.version(), &mut out);
+        assert_eq!(rt; written.is_ok(), room == 152);
+        assert_eq!(rt; out.count, room);
+    }
+}

@@ -1,0 +1,155 @@
+//! Checks, for each example, that runs of its code have exactly the outputs, the cells and the end of its meaning. The runs are
+//! on 1, 2, 3 and 16 elements: one event after another, in rounds, and free. The words of the command line are the names of the
+//! files. A run that says something else than the first one gets a line of its own.
+#![tactic(auto)]
+
+use command_line::Mode;
+use commands::input::{parse_integers, split_at_main};
+use driver::emulation::run_text;
+use driver::meaning::mean_text;
+use report_text::{write_meaning, write_report};
+use rounds::Open;
+use schedule::config::Config;
+use std::alloc::{AllocError, Global};
+use std::io::{self, Write};
+use std::sync::Wait;
+use std::thread::Threads;
+use std::{env, fs};
+
+/// The example whose token goes to another element every few events. Each time a round ends, so it takes thousands of rounds.
+const SERIAL: &str = "sum_loop.ets";
+
+const STEPS: u64 = 1_000_000;
+
+/// How often free elements run an example. Each time their threads may meet in another order.
+const FREE_RUNS: u64 = 5;
+
+/// How often free elements run this example. In some examples the tokens go to another element again and again, and each time
+/// another thread has to get its turn.
+fn free_runs(name: &str) -> u64 {
+    if name == SERIAL {
+        0
+    } else if name == "collatz.ets" || name == "nested_loops.ets" {
+        1
+    } else {
+        FREE_RUNS
+    }
+}
+
+/// The text of the report of a run in this mode on `elements` elements.
+fn report_of<R: Threads + Wait + Sync>(
+    rt: &R,
+    alloc: Global,
+    input: &[u8],
+    mode: Mode,
+    elements: u64,
+) -> Option<Vec<u8>> {
+    let (text, lines) = split_at_main(input);
+    let integers = parse_integers(alloc, lines).ok()?;
+    let config = Config {
+        elements,
+        frames: 256,
+        steps: STEPS,
+        turn: 1_024,
+    };
+    let emulated = run_text(alloc, text, &integers, config, mode, rt, &Open).ok()?;
+    let mut report = Vec::new(alloc);
+    write_report(&mut report, emulated.checked.graph(), &emulated.report).ok()?;
+    Some(report)
+}
+
+/// The text of the meaning.
+fn meaning_of(alloc: Global, input: &[u8]) -> Option<Vec<u8>> {
+    let (text, lines) = split_at_main(input);
+    let integers = parse_integers(alloc, lines).ok()?;
+    let meant = mean_text(alloc, text, &integers, STEPS).ok()?;
+    let mut meaning = Vec::new(alloc);
+    write_meaning(&mut meaning, meant.checked.graph(), &meant.report).ok()?;
+    Some(meaning)
+}
+
+/// Whether the line is one that both a report and a meaning have.
+fn is_shared(line: &[u8]) -> bool {
+    line.starts_with(b"output ") || line.starts_with(b"cell ") || line.starts_with(b"end ")
+}
+
+/// The lines of a report that a meaning has too.
+fn shared(alloc: Global, report: &[u8]) -> Result<Vec<u8>, AllocError> {
+    let mut lines = Vec::new(alloc);
+    for line in report.split(|byte| *byte == b'\n') {
+        if is_shared(line) {
+            lines.extend_from_slice(line)?;
+            lines.push(b'\n')?;
+        }
+    }
+    Ok(lines)
+}
+
+/// What a run in this mode on `elements` elements says, compared with this meaning.
+fn verdict<R: Threads + Wait + Sync>(
+    rt: &R,
+    alloc: Global,
+    input: &[u8],
+    meaning: &[u8],
+    mode: Mode,
+    elements: u64,
+) -> io::Result<&'static str> {
+    let Some(report) = report_of(rt, alloc, input, mode, elements) else {
+        return Ok("is refused");
+    };
+    if report.ends_with(b"\nend Starved\n") {
+        return Ok("starves");
+    }
+    let lines = shared(alloc, &report)?;
+    Ok(if lines.as_slice() == meaning {
+        "agrees"
+    } else {
+        "differs"
+    })
+}
+
+/// Prints what the runs of an example say.
+fn tell<R: Threads + Wait + Sync, W: Write>(
+    rt: &R,
+    alloc: Global,
+    out: &mut W,
+    name: &str,
+    input: &[u8],
+) -> io::Result<()> {
+    let Some(meaning) = meaning_of(alloc, input) else {
+        return writeln!(out, "{name} is refused");
+    };
+    let first = verdict(rt, alloc, input, &meaning, Mode::One, 1)?;
+    writeln!(out, "{name} {first}")?;
+    for elements in [1, 2, 3, 16] {
+        let one = verdict(rt, alloc, input, &meaning, Mode::One, elements)?;
+        if one != first {
+            writeln!(out, "{name} on {elements} {one}")?;
+        }
+        for _ in 0..free_runs(name) {
+            let free = verdict(rt, alloc, input, &meaning, Mode::Free, elements)?;
+            if free != first {
+                writeln!(out, "{name} free on {elements} {free}")?;
+            }
+        }
+        if name == SERIAL && elements > 1 {
+            continue;
+        }
+        let rounds = verdict(rt, alloc, input, &meaning, Mode::Rounds, elements)?;
+        if rounds != first {
+            writeln!(out, "{name} in rounds on {elements} {rounds}")?;
+        }
+    }
+    Ok(())
+}
+
+fn main(rt: HostRuntime) -> io::Result<()> {
+    let alloc = rt.alloc();
+    let words: Vec<String> = env::args(&rt)?.collect(alloc)?;
+    let mut out = io::writer(&rt);
+    for name in words.iter().skip(1) {
+        let input = fs::read(&rt, name.as_str())?;
+        tell(&rt, alloc, &mut out, name.as_str(), &input)?;
+    }
+    Ok(())
+}

@@ -1,0 +1,185 @@
+//! One thread that holds both seats of a mesh of two elements.
+ghost use Rattle.std.specs.Prelude.{◌≡◌, ◌<◌, ◌≤◌, ◌∷◌, [], length};
+ghost use Rattle.tags.specs.Addresses.{element_of};
+ghost use Rattle.mesh.specs.Deeds.{created};
+ghost use Rattle.mesh.specs.Seats.{AllTo, AreFresh, fresh_seat};
+ghost use Rattle.test_meshes.specs.Playing.{Holds};
+
+use crate::step::{commit, live, post, take};
+use mesh::{Mesh, Seat};
+use rationed::Rationed;
+use std::alloc::Global;
+use std::process::Abort;
+use std::test::Fail;
+use tags::token::{Port, To, Token, Word};
+
+fn token(frame: u32, number: u32) -> Token
+    requires { frame < 2 }
+    ensures { element_of 2 result.to ≡ frame }
+{
+    Token {
+        to: To::Instr {
+            frame,
+            ip: 0,
+            port: Port::Left,
+        },
+        word: Word::Frame(number),
+    }
+}
+
+/// Element 0 spends t to make u and v, and posts u. Then the box is full, so v comes back.
+fn spend_and_post(
+    rt: &impl Abort,
+    alloc: Global,
+    mesh: &Mesh<Global>,
+    seat: &mut Seat<Global>,
+    t: &Token,
+    u: &Token,
+    v: &Token,
+) -> Vec<Token>
+    requires mesh { mesh.now.elements ≡ 2 }
+    requires seat { (seat.old.own.element ≡ 0) × (created seat.old.own.deeds ≡ 0) × Holds mesh.now seat.old (t.now ∷ []) }
+    requires tokens { (element_of 2 t.now.to ≡ 0) × (element_of 2 u.now.to ≡ 1) × (element_of 2 v.now.to ≡ 1) }
+    ensures back { result.items ≡ v.now ∷ [] }
+    ensures seat { (seat.new.own.element ≡ 0) × Holds mesh.now seat.new (v.now ∷ []) }
+{
+    let spent = [*t];
+    let made = [*u, *v];
+    let later = [*v];
+    assert_eq!(rt; live(mesh, seat, &spent), 1);
+    commit(mesh, seat, &spent, &made, &[]);
+    assert_eq!(rt; live(mesh, seat, &made), 2);
+    let first = vec![in alloc; *u].expect(rt, "memory");
+    let Ok(()) = post(mesh, seat, 1, first, &later) else {
+        panic!(rt; "the box is empty")
+    };
+    let second = vec![in alloc; *v].expect(rt, "memory");
+    match post(mesh, seat, 1, second, &[]) {
+        Err(back) => back,
+        Ok(()) => panic!(rt; "the box is full"),
+    }
+}
+
+/// Element 1 takes what element 0 posted. Then the box is empty.
+fn take_one(rt: &impl Abort, mesh: &Mesh<Global>, seat: &mut Seat<Global>) -> Vec<Token>
+    requires mesh { mesh.now.elements ≡ 2 }
+    requires seat { (seat.old.own.element ≡ 1) × (created seat.old.own.deeds ≡ 0) × Holds mesh.now seat.old [] }
+    ensures seat { (seat.new.own.element ≡ 1) × (created seat.new.own.deeds ≡ 0) × Holds mesh.now seat.new result.items }
+    ensures address { AllTo 2 1 result.items }
+{
+    let Some(first) = take(mesh, seat, 0, &[]) else {
+        panic!(rt; "the box is full")
+    };
+    assert!(rt; take(mesh, seat, 0, &first).is_none());
+    first
+}
+
+/// Element 1 takes the next bundle too, and spends both.
+fn take_and_spend(
+    rt: &impl Abort,
+    mesh: &Mesh<Global>,
+    seat: &mut Seat<Global>,
+    first: &[Token],
+) -> Vec<Token>
+    requires mesh { mesh.now.elements ≡ 2 }
+    requires seat { (seat.old.own.element ≡ 1) × (created seat.old.own.deeds ≡ 0) × Holds mesh.now seat.old first.now }
+    requires address { AllTo 2 1 first.now }
+    ensures seat { (seat.new.own.element ≡ 1) × Holds mesh.now seat.new [] }
+{
+    let Some(second) = take(mesh, seat, 0, first) else {
+        panic!(rt; "the box is full")
+    };
+    assert!(rt; first.len() == 1 && second.len() == 1);
+    commit(mesh, seat, first, &[], &second);
+    commit(mesh, seat, &second, &[], &[]);
+    second
+}
+
+/// Joins both seats.
+fn join_both(
+    rt: &impl Abort,
+    alloc: Global,
+    mesh: &Mesh<Global>,
+    zero: Seat<Global>,
+    one: Seat<Global>,
+)
+    requires mesh { mesh.now.elements ≡ 2 }
+    requires zero { (zero.own.element ≡ 0) × (zero.mesh ≡ mesh.now) × (zero.joined ≡ []) }
+    requires one { (one.own.element ≡ 1) × (one.mesh ≡ mesh.now) × (one.joined ≡ []) }
+{
+    let seats = vec![in alloc; zero, one].expect(rt, "memory");
+    let _both = mesh.join_seats(seats);
+}
+
+/// The seats of elements 0 and 1.
+fn both_seats(
+    rt: &impl Abort,
+    mesh: &Mesh<Global>,
+    mut seats: Vec<Seat<Global>>,
+) -> (Seat<Global>, Seat<Global>)
+    requires seats { (length seats.items ≡ 2) × AreFresh mesh.now seats.items }
+    ensures zero { result.0 ≡ fresh_seat mesh.now 0 }
+    ensures one { result.1 ≡ fresh_seat mesh.now 1 }
+{
+    let Some(one) = seats.pop() else {
+        panic!(rt; "there are two")
+    };
+    let Some(zero) = seats.pop() else {
+        panic!(rt; "there are two")
+    };
+    (zero, one)
+}
+
+fn the_row(rt: &impl Abort, alloc: Global, mesh: &Mesh<Global>, seats: Vec<Seat<Global>>, t: &Token)
+    requires mesh { (mesh.now.elements ≡ 2) × (mesh.now.start ≡ t.now ∷ []) × (element_of 2 t.now.to ≡ 0) }
+    requires seats { (length seats.items ≡ 2) × AreFresh mesh.now seats.items }
+{
+    let (mut zero, mut one) = both_seats(rt, mesh, seats);
+    let u = token(1, 1);
+    let v = token(1, 2);
+    let only_u = [token(1, 1)];
+    let only_v = [token(1, 2)];
+    let back = spend_and_post(rt, alloc, mesh, &mut zero, t, &u, &v);
+    assert_eq!(rt; back.as_slice(), only_v.as_slice());
+    let first = take_one(rt, mesh, &mut one);
+    assert_eq!(rt; first.as_slice(), only_u.as_slice());
+    let Ok(()) = post(mesh, &mut zero, 1, back, &[]) else {
+        panic!(rt; "the box is empty")
+    };
+    let second = take_and_spend(rt, mesh, &mut one, &first);
+    assert_eq!(rt; second.as_slice(), only_v.as_slice());
+    assert_eq!(rt; live(mesh, &mut zero, &[]), 0);
+    assert_eq!(rt; live(mesh, &mut one, &[]), 0);
+    assert!(rt; mesh.stop(&mut zero, 3));
+    assert!(rt; !mesh.stop(&mut one, 5));
+    assert_eq!(rt; mesh.stopped(&mut one), 3);
+    join_both(rt, alloc, mesh, zero, one);
+}
+
+fn open_and_play(rt: &impl Abort, alloc: Global, t: &Token)
+    requires { element_of 2 t.now.to ≡ 0 }
+{
+    let start = [*t];
+    let (mesh, seats) = Mesh::new(alloc, 2, &start).expect(rt, "memory");
+    the_row(rt, alloc, &mesh, seats, t);
+}
+
+#[test]
+fn the_worked_row(rt: HostRuntime) {
+    let t = token(0, 0);
+    open_and_play(&rt, rt.alloc(), &t);
+}
+
+#[test]
+fn each_growth_refused(rt: HostRuntime) -> Result<(), Fail> {
+    let start = [token(0, 0), token(1, 1)];
+    let mut refused = 0u32;
+    for at in 1..20u64 {
+        let heap = Rationed::new(rt.alloc(), at);
+        if Mesh::new(&heap, 16, &start).is_err() {
+            refused = refused.wrapping_add(1);
+        }
+    }
+    assert!(rt; 3 < refused && refused < 19);
+    Ok(())
+}

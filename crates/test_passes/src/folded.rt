@@ -1,0 +1,336 @@
+//! Plans made by hand, and their literal operands.
+
+use code::{CodeBlock, Instr, Plan, Program};
+use folding::fold;
+use operators::Binary;
+use rationed::Rationed;
+use semantics::program::{Dest, Mark, Op};
+use std::alloc::{AllocError, Allocator};
+use std::test::Fail;
+use tags::token::Port;
+use tags::value::{NodeNumber, Origin};
+
+/// Destinations; each is given by how far ahead it lies, and by its port.
+type Dests = &'static [(u32, Port)];
+
+/// The number of a line, the operation of its instruction, its holder, and its first and its second destinations.
+type Line = (u16, Op, u32, Dests, Dests);
+
+const L: Port = Port::Left;
+
+const R: Port = Port::Right;
+
+const NONE: Dests = &[];
+
+const ADD: Op = Op::Apply2 { op: Binary::Add };
+
+const SUB: Op = Op::Apply2 { op: Binary::Sub };
+
+const ADD_ONE: Op = Op::Apply2Right {
+    op: Binary::Add,
+    literal: 1,
+};
+
+const FROM_ONE: Op = Op::Apply2Left {
+    op: Binary::Sub,
+    literal: 1,
+};
+
+const ONE: Op = Op::Lit { literal: 1 };
+
+const TWO: Op = Op::Lit { literal: 2 };
+
+const RETURN: Op = Op::Return { offset: 0 };
+
+const RELEASE: Op = Op::Release { offset: 1 };
+
+fn origin_of(line: u16) -> Origin {
+    Origin::At {
+        block: 0,
+        node: NodeNumber::new(line % NodeNumber::LIMIT),
+    }
+}
+
+fn dests_of<A: Allocator>(alloc: A, dests: &[(u32, Port)]) -> Result<Vec<Dest, A>, AllocError> {
+    let mut list = Vec::new(alloc);
+    for (ahead, port) in dests {
+        list.push(Dest {
+            ahead: *ahead,
+            port: *port,
+        })?;
+    }
+    Ok(list)
+}
+
+fn instr_of<A: Allocator + Clone>(alloc: A, line: Line) -> Result<Instr<A>, AllocError> {
+    let (number, op, slot, firsts, seconds) = line;
+    Ok(Instr {
+        op,
+        origin: origin_of(number),
+        slot,
+        firsts: dests_of(alloc.clone()?, firsts)?,
+        seconds: dests_of(alloc, seconds)?,
+    })
+}
+
+fn mark_of(op: Op) -> Mark {
+    match op {
+        Op::Switch => Mark::OfCond { cond: 3 },
+        _ => Mark::Unmarked,
+    }
+}
+
+/// A plan of one block with one input, `holders` holders, and these instructions.
+fn plan_of<A: Allocator + Clone>(
+    alloc: A,
+    holders: u32,
+    lines: &[Line],
+) -> Result<Plan<A>, AllocError> {
+    let mut instrs = Vec::new(alloc.clone()?);
+    let mut marks = Vec::new(alloc.clone()?);
+    for line in lines {
+        let (_, op, _, _, _) = *line;
+        instrs.push(instr_of(alloc.clone()?, *line)?)?;
+        marks.push(mark_of(op))?;
+    }
+    let mut blocks = Vec::new(alloc.clone()?);
+    blocks.push(CodeBlock {
+        inputs: 1,
+        outputs: 1,
+        slots: holders,
+        instrs,
+    })?;
+    let mut all_marks = Vec::new(alloc.clone()?);
+    all_marks.push(marks)?;
+    Ok(Plan {
+        program: Program {
+            blocks,
+            arrays: Vec::new(alloc),
+            main: 0,
+        },
+        plain: 1,
+        marks: all_marks,
+    })
+}
+
+fn has_dests(list: &[Dest], dests: &[(u32, Port)]) -> bool {
+    if list.len() != dests.len() {
+        return false;
+    }
+    for (dest, (ahead, port)) in list.iter().zip(dests) {
+        if dest.ahead != *ahead || dest.port != *port {
+            return false;
+        }
+    }
+    true
+}
+
+fn is_line<A: Allocator>(instr: &Instr<A>, line: Line) -> bool {
+    let (number, op, slot, firsts, seconds) = line;
+    instr.op == op
+        && instr.origin == origin_of(number)
+        && instr.slot == slot
+        && has_dests(&instr.firsts, firsts)
+        && has_dests(&instr.seconds, seconds)
+}
+
+/// The first instruction or mark that differs from the lines; `None` where the block has exactly these lines.
+fn first_other<A: Allocator>(plan: &Plan<A>, lines: &[Line]) -> Option<usize> {
+    let block = plan.program.blocks.get(0)?;
+    let marks = plan.marks_of(0);
+    for (place, line) in lines.iter().enumerate() {
+        let (_, op, _, _, _) = *line;
+        match (block.instrs.get(place), marks.get(place)) {
+            (Some(instr), Some(mark)) if is_line(instr, *line) && *mark == mark_of(op) => {}
+            _ => return Some(place),
+        }
+    }
+    if block.instrs.len() == lines.len() && marks.len() == lines.len() {
+        None
+    } else {
+        Some(lines.len())
+    }
+}
+
+fn holders<A: Allocator>(plan: &Plan<A>) -> Option<u32> {
+    Some(plan.program.blocks.get(0)?.slots)
+}
+
+#[test]
+fn the_right_operand_is_in_the_code(rt: HostRuntime) -> Result<(), Fail> {
+    let alloc = rt.alloc();
+    let lines = [
+        (0, Op::Copy, 0, [(4, L), (5, L)].as_slice(), NONE),
+        (1, Op::Copy, 0, [(1, L), (2, L)].as_slice(), NONE),
+        (2, ONE, 0, [(1, R)].as_slice(), NONE),
+        (3, ADD, 0, [(1, R)].as_slice(), NONE),
+        (4, RETURN, 1, [(1, R)].as_slice(), NONE),
+        (5, RELEASE, 2, NONE, NONE),
+    ];
+    let plan = fold(alloc, &plan_of(alloc, 3, &lines)?)?;
+    let wanted = [
+        (0, Op::Copy, 0, [(3, L), (4, L)].as_slice(), NONE),
+        (1, Op::Copy, 0, [(1, L)].as_slice(), NONE),
+        (3, ADD_ONE, 0, [(1, R)].as_slice(), NONE),
+        (4, RETURN, 0, [(1, R)].as_slice(), NONE),
+        (5, RELEASE, 1, NONE, NONE),
+    ];
+    assert_eq!(rt; first_other(&plan, &wanted), None);
+    assert_eq!(rt; holders(&plan), Some(2));
+    Ok(())
+}
+
+#[test]
+fn the_left_operand_is_in_the_code(rt: HostRuntime) -> Result<(), Fail> {
+    let alloc = rt.alloc();
+    let lines = [
+        (0, Op::Copy, 0, [(4, L), (5, L)].as_slice(), NONE),
+        (1, Op::Copy, 0, [(1, L), (2, R)].as_slice(), NONE),
+        (2, ONE, 0, [(1, L)].as_slice(), NONE),
+        (3, SUB, 0, [(1, R)].as_slice(), NONE),
+        (4, RETURN, 1, [(1, R)].as_slice(), NONE),
+        (5, RELEASE, 2, NONE, NONE),
+    ];
+    let plan = fold(alloc, &plan_of(alloc, 3, &lines)?)?;
+    let wanted = [
+        (0, Op::Copy, 0, [(3, L), (4, L)].as_slice(), NONE),
+        (1, Op::Copy, 0, [(1, L)].as_slice(), NONE),
+        (3, FROM_ONE, 0, [(1, R)].as_slice(), NONE),
+        (4, RETURN, 0, [(1, R)].as_slice(), NONE),
+        (5, RELEASE, 1, NONE, NONE),
+    ];
+    assert_eq!(rt; first_other(&plan, &wanted), None);
+    assert_eq!(rt; holders(&plan), Some(2));
+    Ok(())
+}
+
+#[test]
+fn a_literal_with_another_use_stays(rt: HostRuntime) -> Result<(), Fail> {
+    let alloc = rt.alloc();
+    let lines = [
+        (0, Op::Copy, 0, [(4, L), (6, L)].as_slice(), NONE),
+        (1, Op::Copy, 0, [(1, L), (2, L)].as_slice(), NONE),
+        (2, ONE, 0, [(1, R), (2, R)].as_slice(), NONE),
+        (3, ADD, 0, [(2, L)].as_slice(), NONE),
+        (4, RETURN, 1, [(1, R)].as_slice(), NONE),
+        (5, Op::Sync, 2, [(1, R)].as_slice(), NONE),
+        (6, RELEASE, 3, NONE, NONE),
+    ];
+    let plan = fold(alloc, &plan_of(alloc, 4, &lines)?)?;
+    let wanted = [
+        (0, Op::Copy, 0, [(4, L), (6, L)].as_slice(), NONE),
+        (1, Op::Copy, 0, [(1, L), (2, L)].as_slice(), NONE),
+        (2, ONE, 0, [(2, R)].as_slice(), NONE),
+        (3, ADD_ONE, 0, [(2, L)].as_slice(), NONE),
+        (4, RETURN, 0, [(1, R)].as_slice(), NONE),
+        (5, Op::Sync, 1, [(1, R)].as_slice(), NONE),
+        (6, RELEASE, 2, NONE, NONE),
+    ];
+    assert_eq!(rt; first_other(&plan, &wanted), None);
+    assert_eq!(rt; holders(&plan), Some(3));
+    Ok(())
+}
+
+#[test]
+fn two_operands_from_one_literal_stay(rt: HostRuntime) -> Result<(), Fail> {
+    let alloc = rt.alloc();
+    let lines = [
+        (0, Op::Copy, 0, [(4, L), (5, L)].as_slice(), NONE),
+        (1, Op::Copy, 0, [(1, L)].as_slice(), NONE),
+        (2, ONE, 0, [(1, L), (1, R)].as_slice(), NONE),
+        (3, ADD, 0, [(1, R)].as_slice(), NONE),
+        (4, RETURN, 1, [(1, R)].as_slice(), NONE),
+        (5, RELEASE, 2, NONE, NONE),
+    ];
+    let plan = fold(alloc, &plan_of(alloc, 3, &lines)?)?;
+    assert_eq!(rt; first_other(&plan, &lines), None);
+    assert_eq!(rt; holders(&plan), Some(3));
+    Ok(())
+}
+
+/// One literal is the trigger of another, and both are operands of one operator. The operator takes the second one as its
+/// literal operand.
+#[test]
+fn a_literal_for_another_stays(rt: HostRuntime) -> Result<(), Fail> {
+    let alloc = rt.alloc();
+    let lines = [
+        (0, Op::Copy, 0, [(5, L), (6, L)].as_slice(), NONE),
+        (1, Op::Copy, 0, [(1, L)].as_slice(), NONE),
+        (2, TWO, 0, [(1, L), (2, L)].as_slice(), NONE),
+        (3, ONE, 0, [(1, R)].as_slice(), NONE),
+        (4, ADD, 0, [(1, R)].as_slice(), NONE),
+        (5, RETURN, 1, [(1, R)].as_slice(), NONE),
+        (6, RELEASE, 2, NONE, NONE),
+    ];
+    let plan = fold(alloc, &plan_of(alloc, 3, &lines)?)?;
+    let wanted = [
+        (0, Op::Copy, 0, [(4, L), (5, L)].as_slice(), NONE),
+        (1, Op::Copy, 0, [(1, L)].as_slice(), NONE),
+        (2, TWO, 0, [(1, L)].as_slice(), NONE),
+        (4, ADD_ONE, 0, [(1, R)].as_slice(), NONE),
+        (5, RETURN, 0, [(1, R)].as_slice(), NONE),
+        (6, RELEASE, 1, NONE, NONE),
+    ];
+    assert_eq!(rt; first_other(&plan, &wanted), None);
+    Ok(())
+}
+
+/// A switch sends to a literal and its operator on one side, and to another literal and its operator on different sides.
+#[test]
+fn a_side_of_a_switch_is_a_source(rt: HostRuntime) -> Result<(), Fail> {
+    let alloc = rt.alloc();
+    let same = [(1, L), (2, L), (3, L)].as_slice();
+    let lines = [
+        (0, Op::Copy, 0, [(7, L), (8, L)].as_slice(), NONE),
+        (1, Op::Copy, 0, [(1, L), (1, R)].as_slice(), NONE),
+        (2, Op::Switch, 0, same, [(4, L)].as_slice()),
+        (3, ONE, 0, [(1, R)].as_slice(), NONE),
+        (4, ADD, 1, [(3, R)].as_slice(), NONE),
+        (5, ONE, 0, [(1, R)].as_slice(), NONE),
+        (6, ADD, 2, [(1, R)].as_slice(), NONE),
+        (7, RETURN, 3, [(1, R)].as_slice(), NONE),
+        (8, RELEASE, 4, NONE, NONE),
+    ];
+    let plan = fold(alloc, &plan_of(alloc, 5, &lines)?)?;
+    let left = [(1, L), (2, L)].as_slice();
+    let wanted = [
+        (0, Op::Copy, 0, [(6, L), (7, L)].as_slice(), NONE),
+        (1, Op::Copy, 0, [(1, L), (1, R)].as_slice(), NONE),
+        (2, Op::Switch, 0, left, [(3, L)].as_slice()),
+        (4, ADD_ONE, 0, [(3, R)].as_slice(), NONE),
+        (5, ONE, 0, [(1, R)].as_slice(), NONE),
+        (6, ADD, 1, [(1, R)].as_slice(), NONE),
+        (7, RETURN, 2, [(1, R)].as_slice(), NONE),
+        (8, RELEASE, 3, NONE, NONE),
+    ];
+    assert_eq!(rt; first_other(&plan, &wanted), None);
+    assert_eq!(rt; holders(&plan), Some(4));
+    Ok(())
+}
+
+/// Makes a plan, with 23 growths, and folds it.
+fn fold_one<A: Allocator + Clone>(alloc: A) -> Result<u32, AllocError> {
+    let lines = [
+        (0, Op::Copy, 0, [(3, L)].as_slice(), NONE),
+        (1, Op::Copy, 0, [(1, L), (2, L)].as_slice(), NONE),
+        (2, ONE, 0, [(1, R)].as_slice(), NONE),
+        (3, ADD, 0, NONE, NONE),
+    ];
+    let plan = fold(alloc.clone()?, &plan_of(alloc, 1, &lines)?)?;
+    Ok(plan.plain)
+}
+
+#[test]
+fn refuses_each_growth(rt: HostRuntime) -> Result<(), Fail> {
+    let mut first = 0u64;
+    for at in 1..100u64 {
+        let heap = Rationed::new(rt.alloc(), at);
+        let refused = fold_one(&heap).is_err();
+        if !refused && first == 0 {
+            first = at;
+        }
+        assert_eq!(rt; refused, first == 0);
+    }
+    assert!(rt; first > 20);
+    Ok(())
+}

@@ -1,0 +1,351 @@
+//! Plans made by hand, and where narrowing puts copies.
+
+use code::{CodeBlock, Instr, Plan, Program};
+use fanout::narrow;
+use operators::Binary;
+use rationed::Rationed;
+use semantics::program::{Dest, Mark, Op};
+use std::alloc::{AllocError, Allocator};
+use std::test::Fail;
+use tags::token::Port;
+use tags::value::Origin;
+
+/// Destinations; each is given by how far ahead it lies, and by its port.
+type Dests = &'static [(u32, Port)];
+
+/// The operation of an instruction, and its first and its second destinations.
+type Line = (Op, Dests, Dests);
+
+const L: Port = Port::Left;
+
+const R: Port = Port::Right;
+
+const NONE: Dests = &[];
+
+const ADD: Op = Op::Apply2 { op: Binary::Add };
+
+fn dests_of<A: Allocator>(alloc: A, ahead: &[(u32, Port)]) -> Result<Vec<Dest, A>, AllocError> {
+    let mut dests = Vec::new(alloc);
+    for (ahead, port) in ahead {
+        dests.push(Dest {
+            ahead: *ahead,
+            port: *port,
+        })?;
+    }
+    Ok(dests)
+}
+
+fn instr_of<A: Allocator + Clone>(alloc: A, slot: u32, line: Line) -> Result<Instr<A>, AllocError> {
+    let (op, firsts, seconds) = line;
+    Ok(Instr {
+        op,
+        origin: Origin::Untold,
+        slot,
+        firsts: dests_of(alloc.clone()?, firsts)?,
+        seconds: dests_of(alloc, seconds)?,
+    })
+}
+
+fn block_of<A: Allocator + Clone>(
+    alloc: A,
+    inputs: u32,
+    outputs: u32,
+    lines: &[Line],
+) -> Result<CodeBlock<A>, AllocError> {
+    let mut instrs = Vec::new(alloc.clone()?);
+    let mut slots: u32 = 0;
+    for line in lines {
+        instrs.push(instr_of(alloc.clone()?, slots, *line)?)?;
+        slots = slots.wrapping_add(1);
+    }
+    Ok(CodeBlock {
+        inputs,
+        outputs,
+        slots,
+        instrs,
+    })
+}
+
+/// The marks of these instructions: only switches have one.
+fn marks_of<A: Allocator>(alloc: A, lines: &[Line]) -> Result<Vec<Mark, A>, AllocError> {
+    let mut marks = Vec::new(alloc);
+    for line in lines {
+        let (op, _, _) = *line;
+        marks.push(match op {
+            Op::Switch => Mark::OfFlag,
+            _ => Mark::Unmarked,
+        })?;
+    }
+    Ok(marks)
+}
+
+/// A plan whose first block has these instructions. The second block, which links may name, has two inputs and three outputs,
+/// and is plain or not.
+fn plan_of<A: Allocator + Clone>(
+    alloc: A,
+    inputs: u32,
+    lines: &[Line],
+    is_plain: bool,
+) -> Result<Plan<A>, AllocError> {
+    let mut blocks = Vec::new(alloc.clone()?);
+    blocks.push(block_of(alloc.clone()?, inputs, 1, lines)?)?;
+    blocks.push(block_of(alloc.clone()?, 2, 3, &[])?)?;
+    let arrays = Vec::new(alloc.clone()?);
+    let mut marks = Vec::new(alloc.clone()?);
+    marks.push(marks_of(alloc, lines)?)?;
+    Ok(Plan {
+        program: Program {
+            blocks,
+            arrays,
+            main: 0,
+        },
+        plain: if is_plain { 2 } else { 1 },
+        marks,
+    })
+}
+
+fn is_same(dests: &[Dest], wanted: &[(u32, Port)]) -> bool {
+    dests.len() == wanted.len()
+        && dests.iter().zip(wanted.iter()).all(|(dest, (ahead, port))| dest.ahead == *ahead
+            && dest.port == *port)
+}
+
+/// Whether the first block of the plan has exactly these instructions.
+fn has_lines<A: Allocator>(plan: &Plan<A>, lines: &[Line]) -> bool {
+    match plan.program.blocks.first() {
+        None => false,
+        Some(block) => {
+            block.instrs.len() == lines.len()
+                && block.instrs.iter().zip(lines.iter()).all(|(instr, line)| {
+                    let (op, firsts, seconds) = *line;
+                    instr.op == op
+                        && is_same(&instr.firsts, firsts)
+                        && is_same(&instr.seconds, seconds)
+                })
+        }
+    }
+}
+
+#[test]
+fn an_entry_with_five_uses_has_three_copies(rt: HostRuntime) -> Result<(), Fail> {
+    let alloc = rt.alloc();
+    let lines: [Line; 4] = [
+        (Op::Copy, &[(2, L), (2, R), (3, L), (3, R), (1, L)], NONE),
+        (Op::Copy, &[(1, L)], NONE),
+        (ADD, NONE, NONE),
+        (ADD, NONE, NONE),
+    ];
+    let plan = plan_of(alloc, 0, &lines, true)?;
+    let narrowed = narrow(alloc, &plan)?;
+    let wanted: [Line; 7] = [
+        (Op::Copy, &[(1, L)], &[(3, L)]),
+        (Op::Copy, &[(1, L)], &[(4, L)]),
+        (Op::Copy, &[(3, R)], &[(4, L)]),
+        (Op::Copy, &[(3, R)], &[(1, L)]),
+        (Op::Copy, &[(1, L)], NONE),
+        (ADD, NONE, NONE),
+        (ADD, NONE, NONE),
+    ];
+    assert!(rt; has_lines(&narrowed, &wanted));
+    Ok(())
+}
+
+#[test]
+fn copies_of_entries_stand_behind_the_last_one(rt: HostRuntime) -> Result<(), Fail> {
+    let alloc = rt.alloc();
+    let lines: [Line; 5] = [
+        (Op::Copy, &[(3, L), (4, L), (4, R)], NONE),
+        (Op::Copy, &[(2, L), (2, R), (3, L)], NONE),
+        (Op::Copy, &[(1, R)], NONE),
+        (ADD, NONE, NONE),
+        (ADD, NONE, NONE),
+    ];
+    let plan = plan_of(alloc, 2, &lines, true)?;
+    let narrowed = narrow(alloc, &plan)?;
+    let wanted: [Line; 7] = [
+        (Op::Copy, &[(3, L)], &[(6, R)]),
+        (Op::Copy, &[(3, L)], &[(5, L)]),
+        (Op::Copy, &[(3, R)], NONE),
+        (Op::Copy, &[(2, L)], &[(3, L)]),
+        (Op::Copy, &[(1, L)], &[(1, R)]),
+        (ADD, NONE, NONE),
+        (ADD, NONE, NONE),
+    ];
+    assert!(rt; has_lines(&narrowed, &wanted));
+    Ok(())
+}
+
+#[test]
+fn each_side_of_a_switch_has_its_own_tree(rt: HostRuntime) -> Result<(), Fail> {
+    let alloc = rt.alloc();
+    let lines: [Line; 4] = [
+        (Op::Switch, &[(1, L), (2, L), (3, L)], &[(1, R), (3, R)]),
+        (ADD, NONE, NONE),
+        (Op::Copy, NONE, NONE),
+        (ADD, NONE, NONE),
+    ];
+    let plan = plan_of(alloc, 0, &lines, true)?;
+    let narrowed = narrow(alloc, &plan)?;
+    let wanted: [Line; 7] = [
+        (Op::Switch, &[(1, L)], &[(3, L)]),
+        (Op::Copy, &[(1, L)], &[(3, L)]),
+        (Op::Copy, &[(3, L)], &[(4, L)]),
+        (Op::Copy, &[(1, R)], &[(3, R)]),
+        (ADD, NONE, NONE),
+        (Op::Copy, NONE, NONE),
+        (ADD, NONE, NONE),
+    ];
+    assert!(rt; has_lines(&narrowed, &wanted));
+    let marks = narrowed.marks_of(0);
+    assert_eq!(rt; marks.len(), 7);
+    assert!(rt; matches!(marks.first(), Some(Mark::OfFlag)));
+    assert!(rt; marks.iter().skip(1).all(|mark| *mark == Mark::Unmarked));
+    Ok(())
+}
+
+/// A link with four signals, and a landing of four copies, of which the first two are wide.
+const LINKED: [Line; 9] = [
+    (
+        Op::Link { block: 1 },
+        &[(1, L)],
+        &[(5, L), (5, R), (6, L), (6, R)],
+    ),
+    (Op::Copy, &[(4, L), (4, R), (5, L)], NONE),
+    (Op::Copy, &[(3, L), (3, R), (4, L), (4, R)], NONE),
+    (Op::Copy, &[(5, L)], NONE),
+    (Op::Copy, &[(4, R)], NONE),
+    (ADD, NONE, NONE),
+    (ADD, NONE, NONE),
+    (Op::Copy, NONE, NONE),
+    (ADD, NONE, NONE),
+];
+
+#[test]
+fn a_landing_is_not_cut(rt: HostRuntime) -> Result<(), Fail> {
+    let alloc = rt.alloc();
+    let plan = plan_of(alloc, 0, &LINKED, true)?;
+    let narrowed = narrow(alloc, &plan)?;
+    let wanted: [Line; 15] = [
+        (Op::Link { block: 1 }, &[(4, L)], &[(1, L)]),
+        (Op::Copy, &[(1, L)], &[(2, L)]),
+        (Op::Copy, &[(9, L)], &[(9, R)]),
+        (Op::Copy, &[(9, L)], &[(9, R)]),
+        (Op::Copy, &[(4, L)], &[(8, L)]),
+        (Op::Copy, &[(4, L)], &[(5, L)]),
+        (Op::Copy, &[(8, L)], NONE),
+        (Op::Copy, &[(7, R)], NONE),
+        (Op::Copy, &[(3, L)], &[(3, R)]),
+        (Op::Copy, &[(2, L)], &[(2, R)]),
+        (Op::Copy, &[(2, L)], &[(2, R)]),
+        (ADD, NONE, NONE),
+        (ADD, NONE, NONE),
+        (Op::Copy, NONE, NONE),
+        (ADD, NONE, NONE),
+    ];
+    assert!(rt; has_lines(&narrowed, &wanted));
+    Ok(())
+}
+
+#[test]
+fn a_landing_of_a_loop_has_its_values_and_three_more(rt: HostRuntime) -> Result<(), Fail> {
+    let alloc = rt.alloc();
+    let plan = plan_of(alloc, 0, &LINKED, false)?;
+    let narrowed = narrow(alloc, &plan)?;
+    match narrowed.program.blocks.first() {
+        None => assert!(rt; false, "no block"),
+        Some(block) => {
+            let wide = block.instrs.iter().skip(9).take(3);
+            assert_eq!(rt; block.instrs.len(), 15);
+            assert!(rt; wide.fold(true, |all, instr| all && instr.op == Op::Copy));
+        }
+    }
+    Ok(())
+}
+
+#[test]
+fn a_give_sends_to_one_place(rt: HostRuntime) -> Result<(), Fail> {
+    let alloc = rt.alloc();
+    let lines: [Line; 2] = [
+        (Op::Give { bound: 2 }, &[(1, L)], &[(1, R)]),
+        (Op::Sync, NONE, NONE),
+    ];
+    let plan = plan_of(alloc, 0, &lines, true)?;
+    let narrowed = narrow(alloc, &plan)?;
+    let wanted: [Line; 3] = [
+        (Op::Give { bound: 2 }, &[(1, L)], NONE),
+        (Op::Copy, &[(1, L)], &[(1, R)]),
+        (Op::Sync, NONE, NONE),
+    ];
+    assert!(rt; has_lines(&narrowed, &wanted));
+    Ok(())
+}
+
+/// A plan of `blocks` blocks, each of `count` copies in a row; each copy names the five instructions after it.
+fn long_plan<A: Allocator + Clone>(
+    alloc: A,
+    blocks: u32,
+    count: u32,
+) -> Result<Plan<A>, AllocError> {
+    let mut list = Vec::new(alloc.clone()?);
+    let mut marks = Vec::new(alloc.clone()?);
+    for _block in 0..blocks {
+        let mut instrs = Vec::new(alloc.clone()?);
+        for slot in 0..count {
+            instrs.push(instr_of(
+                alloc.clone()?,
+                slot,
+                (Op::Copy, &[(1, L), (2, L), (3, L), (4, L), (5, L)], NONE),
+            )?)?;
+        }
+        list.push(CodeBlock {
+            inputs: 16,
+            outputs: 1,
+            slots: 0,
+            instrs,
+        })?;
+        marks.push(Vec::new(alloc.clone()?))?;
+    }
+    Ok(Plan {
+        program: Program {
+            blocks: list,
+            arrays: Vec::new(alloc),
+            main: 0,
+        },
+        plain: blocks,
+        marks,
+    })
+}
+
+#[test]
+fn many_blocks_are_narrowed(rt: HostRuntime) -> Result<(), Fail> {
+    let alloc = rt.alloc();
+    let plan = long_plan(alloc, 64, 1000)?;
+    let narrowed = narrow(alloc, &plan)?;
+    let mut total: u64 = 0;
+    for block in &narrowed.program.blocks {
+        total = total.wrapping_add(block.instrs.len() as u64);
+    }
+    assert_eq!(rt; total, 256_000);
+    Ok(())
+}
+
+#[test]
+fn each_growth_is_refused_in_turn(rt: HostRuntime) -> Result<(), Fail> {
+    let mut refused: u32 = 0;
+    let mut done: u32 = 0;
+    for growth in 1..200 {
+        let heap = Rationed::new(rt.alloc(), growth);
+        if let Ok(plan) = plan_of(&heap, 0, &LINKED, true) {
+            match narrow(&heap, &plan) {
+                Ok(narrowed) => {
+                    assert_eq!(rt; narrowed.program.blocks.len(), 2);
+                    done = done.wrapping_add(1);
+                }
+                Err(_) => refused = refused.wrapping_add(1),
+            }
+        }
+    }
+    assert!(rt; refused > 10);
+    assert!(rt; done > 10);
+    Ok(())
+}

@@ -1,0 +1,49 @@
+//! Each growth is refused in turn.
+
+use commands::serving::serve;
+use rationed::Rationed;
+use rounds::Open;
+use std::test::Fail;
+
+const ADD: &[u8] = b"etsgraph 1\nblock m 2 1\n- add 0.0 1.0\nout 2.0\nend\nmain m\n2\n3\n";
+
+const REST: &[u8] = b"output 0 5\ndeferred 0\nwaiting 0 0\nframes 0\nend Rest\n";
+
+/// The reports of a run that is refused memory: before its result, after it, and once its frame is back.
+const REFUSED: [&[u8]; 3] = [
+    b"output 0 -\ndeferred 0\nwaiting 0 0\nframes 1\nend Memory\n",
+    b"output 0 5\ndeferred 0\nwaiting 0 0\nframes 1\nend Memory\n",
+    b"output 0 5\ndeferred 0\nwaiting 0 0\nframes 0\nend Memory\n",
+];
+
+#[test]
+fn each_growth_refused(rt: HostRuntime) -> Result<(), Fail> {
+    let mut whole = false;
+    for at in 1..2000u64 {
+        let heap = Rationed::new(rt.alloc(), at);
+        let mut text = Vec::new(rt.alloc());
+        let mut reader = ADD;
+        let status = serve(
+            ["ets", "run"].as_slice(),
+            &mut reader,
+            &mut text,
+            &heap,
+            rt.alloc(),
+            &rt,
+            &Open,
+        );
+        if status == 0 {
+            assert_eq!(rt; text.as_slice(), REST);
+            whole = true;
+            break;
+        }
+        if status == 1 {
+            assert_eq!(rt; text.as_slice(), b"refused: memory\n".as_slice());
+        } else {
+            assert_eq!(rt; status, 6);
+            assert!(rt; REFUSED.iter().any(|report| text.as_slice() == *report));
+        }
+    }
+    assert!(rt; whole);
+    Ok(())
+}

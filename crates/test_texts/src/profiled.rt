@@ -1,0 +1,111 @@
+//! Profiles as texts and pictures.
+
+use graph::{Graph, Name, Version};
+use oracle::{MeanEnd, WaveReport};
+use profile_text::{MachineRow, write_profile, write_svg};
+use std::alloc::{AllocError, Global};
+use std::test::Fail;
+
+/// The waves of a sum of eight inputs, by pairs.
+const TREE: &[u64] = &[8, 4, 2, 1, 1];
+
+const TEXT: &[u8] = b"work 16
+span 5
+parallelism 3.20
+wave 1 8
+wave 2 4
+wave 3 2
+wave 4 1
+wave 5 1
+elements 1 rounds 17 tokens 9 slots 7 frames 1
+elements 4 rounds 6 tokens 8 slots 7 frames 1
+end Rest
+";
+
+const BARS: &[u8] = b"<rect x=\"0\" width=\"160\" height=\"300\"/>
+<rect x=\"160\" width=\"160\" height=\"150\"/>
+<rect x=\"320\" width=\"160\" height=\"75\"/>
+<rect x=\"480\" width=\"160\" height=\"37\"/>
+<rect x=\"640\" width=\"160\" height=\"37\"/>
+</g>
+</svg>
+";
+
+/// A graph without blocks and arrays.
+fn empty_graph(alloc: Global) -> Graph<'static, Global> {
+    Graph {
+        version: Version::Two,
+        arrays: Vec::new(alloc),
+        blocks: Vec::new(alloc),
+        main: Name { bytes: b"m" },
+    }
+}
+
+fn waves_of(alloc: Global, counts: &[u64]) -> Result<WaveReport<Global>, AllocError> {
+    Ok(WaveReport {
+        end: MeanEnd::Rest,
+        counts: Vec::from_slice(alloc, counts)?,
+    })
+}
+
+#[test]
+fn writes_a_profile(rt: HostRuntime) -> Result<(), Fail> {
+    let rows = [
+        MachineRow {
+            elements: 1,
+            rounds: 17,
+            tokens: 9,
+            slots: 7,
+            frames: 1,
+        },
+        MachineRow {
+            elements: 4,
+            rounds: 6,
+            tokens: 8,
+            slots: 7,
+            frames: 1,
+        },
+    ];
+    let graph = empty_graph(rt.alloc());
+    let waves = waves_of(rt.alloc(), TREE)?;
+    let mut text = Vec::new(rt.alloc());
+    write_profile(&mut text, &graph, &waves, &rows)?;
+    assert_eq!(&rt; text.as_slice(), TEXT);
+    Ok(())
+}
+
+#[test]
+fn without_waves_the_parallelism_is_nothing(rt: HostRuntime) -> Result<(), Fail> {
+    let graph = empty_graph(rt.alloc());
+    let waves = waves_of(rt.alloc(), &[])?;
+    let mut text = Vec::new(rt.alloc());
+    write_profile(&mut text, &graph, &waves, &[])?;
+    assert_eq!(&rt;
+        text.as_slice(),
+        b"work 0\nspan 0\nparallelism 0.00\nend Rest\n".as_slice()
+    );
+    Ok(())
+}
+
+#[test]
+fn draws_a_bar_for_each_wave(rt: HostRuntime) -> Result<(), Fail> {
+    let mut picture = Vec::new(rt.alloc());
+    write_svg(&mut picture, TREE)?;
+    assert!(&rt; picture.as_slice().starts_with(b"<svg xmlns="));
+    assert!(&rt; picture.as_slice().ends_with(BARS));
+    Ok(())
+}
+
+/// 401 waves stand in 201 bars, two in each, and the last alone.
+#[test]
+fn joins_neighbours(rt: HostRuntime) -> Result<(), Fail> {
+    let mut counts: Vec<u64, _> = Vec::new(rt.alloc());
+    for wave in 0..401u64 {
+        counts.push(wave)?;
+    }
+    let mut picture = Vec::new(rt.alloc());
+    write_svg(&mut picture, &counts)?;
+    let last = b"<rect x=\"796\" width=\"4\" height=\"300\"/>\n</g>\n</svg>\n";
+    assert!(&rt; picture.as_slice().ends_with(last.as_slice()));
+    Ok(())
+}

@@ -1,0 +1,142 @@
+//! Looks at what the commands of the workbench print. Objects of random graphs are listed and assembled again; traces have the report
+//! of their run, and as many slices as lines; profiles add up, and their pictures are well formed; random orders have the report of
+//! the run; graphs whose waves are known have these. The words of the command line may give the number of graphs and the seed. Prints
+//! how much was looked at, or the first graph that differs, with status 1.
+#![tactic(auto)]
+
+mod known;
+mod lines;
+mod objects;
+mod orders;
+mod profiles;
+mod served;
+mod tally;
+mod traces;
+
+use known::{CHAIN, LISTING, LOOP_OF_2, LOOP_OF_8, TREE, looks_right};
+use served::answer;
+use std::alloc::Global;
+use std::env;
+use std::io::{self, Write};
+use std::process::ExitCode;
+use std::sync::Wait;
+use std::thread::Threads;
+use tally::Tally;
+use test_random_graphs::dice::Dice;
+use test_random_graphs::graphs::{Graph, Part};
+
+/// The runs of one graph in 16 are looked at, too.
+const RUNS_ONE_IN: u64 = 16;
+
+/// The number that word `place` is, or `otherwise` where there is no such word or no number in it.
+fn number_in(words: &[String], place: usize, otherwise: u64) -> u64 {
+    match words.get(place) {
+        Some(word) => word.parse().unwrap_or(otherwise),
+        None => otherwise,
+    }
+}
+
+/// The numbers of elements of which the profile of a graph has rows. A round of more than one starts threads, and each round has one
+/// event of an element, so only few graphs have such rows.
+fn sizes_at(number: u64) -> &'static str {
+    if number % 256 == 0 { "1,2,4" } else { "1" }
+}
+
+/// The text of the graph, and its inputs, one a line.
+fn input_of(graph: &Graph) -> io::Result<Vec<u8>> {
+    let mut input = Vec::new(*graph.text.allocator());
+    input.extend_from_slice(&graph.text)?;
+    for number in &graph.inputs {
+        writeln!(input, "{number}")?;
+    }
+    Ok(input)
+}
+
+/// What is wrong with the object of the graph.
+fn look_at_object<R: Threads + Wait + Sync>(
+    rt: &R,
+    tally: &mut Tally,
+    graph: &Graph,
+) -> Result<(), &'static str> {
+    let alloc = *graph.text.allocator();
+    let object = answer(rt, alloc, &["ets", "compile"], &graph.text);
+    if object.status != 0 {
+        tally.refused = tally.refused.wrapping_add(1);
+        return Ok(());
+    }
+    if !objects::comes_back(rt, alloc, &object.text) {
+        return Err("an object does not come back");
+    }
+    tally.objects = tally.objects.wrapping_add(1);
+    Ok(())
+}
+
+/// What is wrong with the runs of the graph on its inputs.
+fn look_at_runs<R: Threads + Wait + Sync>(
+    rt: &R,
+    tally: &mut Tally,
+    input: &Vec<u8>,
+    sizes: &str,
+) -> Result<(), &'static str> {
+    let alloc = *input.allocator();
+    let traced = traces::look(rt, alloc, input)?;
+    let waves = profiles::look(rt, alloc, input, &traced, sizes)?;
+    if traced.status == 0 && !orders::agree(rt, alloc, input) {
+        return Err("orders differ");
+    }
+    tally.graphs = tally.graphs.wrapping_add(1);
+    tally.events = tally.events.wrapping_add(traced.events);
+    tally.waves = tally.waves.wrapping_add(waves);
+    Ok(())
+}
+
+/// Looks at random graphs: what is wrong with the first one that differs.
+fn look_at_graphs<R: Threads + Wait + Sync, W: Write>(
+    rt: &R,
+    out: &mut W,
+    tally: &mut Tally,
+    words: &[String],
+    alloc: Global,
+) -> anyhow::Result<bool> {
+    let mut dice = Dice::new(number_in(words, 2, 0));
+    for number in 0..number_in(words, 1, 1_000) {
+        let seed = dice.throw(u64::MAX).wrapping_add(number);
+        let graph = Graph::random(alloc, Part::All, seed)?;
+        let mut found = look_at_object(rt, tally, &graph);
+        if found.is_ok() && number % RUNS_ONE_IN == 0 {
+            found = look_at_runs(rt, tally, &input_of(&graph)?, sizes_at(number));
+        }
+        if let Err(wrong) = found {
+            writeln!(out, "{wrong}")?;
+            out.write_all(&input_of(&graph)?)?;
+            return Ok(false);
+        }
+    }
+    Ok(true)
+}
+
+/// Whether the graphs that are known have the profile that they have to have.
+fn knows<R: Threads + Wait + Sync>(rt: &R, alloc: Global) -> bool {
+    looks_right(rt, alloc, CHAIN, 6, 6)
+        && looks_right(rt, alloc, TREE, 16, 5)
+        && looks_right(rt, alloc, LOOP_OF_2, 1_007, 504)
+        && looks_right(rt, alloc, LOOP_OF_8, 1_007, 504)
+        && objects::adds(rt, alloc, LISTING)
+}
+
+fn main(rt: HostRuntime) -> anyhow::Result<ExitCode> {
+    let alloc = rt.alloc();
+    let words: Vec<String> = env::args(&rt)?.collect(alloc)?;
+    let mut out = io::writer(&rt);
+    let mut tally = Tally::new();
+    if !look_at_graphs(&rt, &mut out, &mut tally, &words, alloc)? {
+        return Ok(ExitCode::FAILURE);
+    }
+    writeln!(out, "{tally}")?;
+    if !knows(&rt, alloc) {
+        writeln!(out, "a graph that is known differs")?;
+        return Ok(ExitCode::FAILURE);
+    }
+    writeln!(out, "agree")?;
+    Ok(ExitCode::SUCCESS)
+}
