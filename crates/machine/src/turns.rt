@@ -24,7 +24,7 @@ use std::thread;
 
 // How many events an element that has tokens enough makes between two looks at the mailboxes: those in which it takes what
 // others posted, and those in which it posts what it has for others.
-const LOOK: u64 = 256;
+const LOOK: u64 = 128;
 
 // Whether the element has tokens for a whole turn, and looked at the mailboxes a short while ago.
 fn is_busy<C: MainCode, A: Allocator>(runner: &Runner<'_, A>, setup: &Setup<'_, C, A>) -> bool

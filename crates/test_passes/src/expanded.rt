@@ -162,7 +162,7 @@ fn expand_both<A: Allocator + Clone>(alloc: A) -> Result<u32, AllocError> {
 fn refuses_each_growth(rt: HostRuntime) -> Result<(), Fail> {
     for at in 1..300u64 {
         let heap = Rationed::new(rt.alloc(), at);
-        assert_eq!(rt; expand_both(&heap).is_err(), at <= 43);
+        assert_eq!(rt; expand_both(&heap).is_err(), at <= 44);
     }
     Ok(())
 }
