@@ -6,24 +6,16 @@
 mod lines;
 
 use command_texts::program_command;
-use commands::serving::serve;
 use lines::{HELPS, LIMITS, MISTAKES};
-use rounds::Open;
 use std::alloc::{AllocError, Global};
 use std::io::{self, Write};
 use std::process::ExitCode;
 use std::sync::Wait;
 use std::thread::Threads;
+use test_served::answer;
 
 /// A graph that adds two inputs, and two inputs after it.
 const ADD: &[u8] = b"etsgraph 1\nblock m 2 1\n- add 0.0 1.0\nout 2.0\nend\nmain m\n2\n3\n";
-
-/// What the program wrote, and its exit status.
-#[derive(Drop)]
-struct Answer {
-    text: Vec<u8>,
-    status: u8,
-}
 
 /// The words of a line. One space stands between each two words.
 fn words_of<'a>(alloc: Global, line: &'a str) -> Result<Vec<&'a str>, AllocError> {
@@ -34,14 +26,6 @@ fn words_of<'a>(alloc: Global, line: &'a str) -> Result<Vec<&'a str>, AllocError
     Ok(words)
 }
 
-/// What the program answers to the words.
-fn answer_of<R: Threads + Wait + Sync>(rt: &R, alloc: Global, words: &[&str]) -> Answer {
-    let mut text = Vec::new(alloc);
-    let mut reader = ADD;
-    let status = serve(words, &mut reader, &mut text, alloc, alloc, rt, &Open);
-    Answer { text, status }
-}
-
 /// Prints a command line with its status and its text.
 fn print_answer<R: Threads + Wait + Sync, W: Write>(
     rt: &R,
@@ -50,7 +34,7 @@ fn print_answer<R: Threads + Wait + Sync, W: Write>(
     line: &str,
 ) -> io::Result<()> {
     let words = words_of(alloc, line)?;
-    let answer = answer_of(rt, alloc, &words);
+    let answer = answer(rt, alloc, &words, ADD);
     let status = answer.status;
     writeln!(out, "== {line} == {status}")?;
     out.write_all(&answer.text)
@@ -63,7 +47,7 @@ fn is_help_of<R: Threads + Wait + Sync>(
     line: &str,
 ) -> Result<bool, AllocError> {
     let words = words_of(alloc, line)?;
-    let answer = answer_of(rt, alloc, &words);
+    let answer = answer(rt, alloc, &words, ADD);
     let text = match program_command(alloc)?.try_get_matches_from(words.as_slice()) {
         Ok(_matches) => return Ok(false),
         Err(error) if error.use_stderr() => return Ok(false),
@@ -75,7 +59,7 @@ fn is_help_of<R: Threads + Wait + Sync>(
 fn main(rt: HostRuntime) -> io::Result<ExitCode> {
     let alloc = rt.alloc();
     let mut out = io::writer(&rt);
-    let nothing = answer_of(&rt, alloc, &[]);
+    let nothing = answer(&rt, alloc, &[], ADD);
     writeln!(out, "== no words == {}", nothing.status)?;
     out.write_all(&nothing.text)?;
     for line in MISTAKES {

@@ -1,7 +1,10 @@
 //! Checks, for each example, that runs of its code have exactly the outputs, the cells and the end of its meaning. The runs are
 //! on 1, 2, 3 and 16 elements: one event after another, in rounds, and free. The words of the command line are the names of the
-//! files. A run that says something else than the first one gets a line of its own.
+//! files. A run that says something else than the first one gets a line of its own. So does an example whose object does not come
+//! back from its listing, or runs in another way than its graph, or whose random orders differ.
 #![tactic(auto)]
+
+mod tools;
 
 use command_line::Mode;
 use commands::input::{parse_integers, split_at_main};
@@ -121,6 +124,9 @@ fn tell<R: Threads + Wait + Sync, W: Write>(
     };
     let first = verdict(rt, alloc, input, &meaning, Mode::One, 1)?;
     writeln!(out, "{name} {first}")?;
+    if let Some(fault) = tools::fault_of(rt, alloc, input)? {
+        writeln!(out, "{name} {fault}")?;
+    }
     for elements in [1, 2, 3, 16] {
         let one = verdict(rt, alloc, input, &meaning, Mode::One, elements)?;
         if one != first {

@@ -16,7 +16,8 @@ use std::io::{self, Write};
 use std::process::ExitCode;
 use std::sync::Wait;
 use std::thread::Threads;
-use trials::{Refusals, answer_of, refuse_each};
+use test_served::answer;
+use trials::{Refusals, refuse_each};
 
 /// Prints, in a line, the outcome of a command line's trials: with the numbers of refusals, if they are asked for. These depend
 /// on how many growths the program has at present.
@@ -75,7 +76,7 @@ fn texts_agree<R: Threads + Wait + Sync, W: Write>(
     has_figures: bool,
 ) -> io::Result<bool> {
     for (name, words, input) in COMPILED {
-        let whole = answer_of(rt, alloc, words, input);
+        let whole = answer(rt, alloc, words, input);
         if whole.status != 0 {
             writeln!(out, "{name}: is refused")?;
             return Ok(false);

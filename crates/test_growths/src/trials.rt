@@ -8,16 +8,10 @@ use std::alloc::{Allocator, Global};
 use std::fmt;
 use std::sync::Wait;
 use std::thread::Threads;
+use test_served::Outcome;
 
 /// More growths than any of the command lines has.
 const ENOUGH: u64 = 100_000;
-
-/// What was written, and the exit status.
-#[derive(Drop)]
-pub struct Answer {
-    pub text: Vec<u8>,
-    pub status: u8,
-}
 
 /// How often a growth was refused, and how that was told.
 #[derive(Clone, Copy)]
@@ -38,19 +32,6 @@ impl fmt::Display for Refusals {
     }
 }
 
-/// The answer of the program with all growths granted.
-pub fn answer_of<R: Threads + Wait + Sync>(
-    rt: &R,
-    alloc: Global,
-    words: &[&str],
-    input: &[u8],
-) -> Answer {
-    let mut text = Vec::new(alloc);
-    let mut reader = input;
-    let status = serve(words, &mut reader, &mut text, alloc, alloc, rt, &Open);
-    Answer { text, status }
-}
-
 /// Whether the next growth is refused.
 fn is_next_refused<A: Allocator>(alloc: A) -> bool {
     let mut probe: Vec<u64, A> = Vec::new(alloc);
@@ -64,13 +45,13 @@ fn rationed_answer<R: Threads + Wait + Sync>(
     alloc: Global,
     row: &Row<'_>,
     ration: u64,
-) -> (Answer, bool) {
+) -> (Outcome, bool) {
     let heap = Rationed::new(alloc, ration);
     let mut text = Vec::new(alloc);
     let mut reader = row.input;
     let status = serve(row.words, &mut reader, &mut text, &heap, alloc, rt, &Open);
     let is_over = is_next_refused(&heap);
-    (Answer { text, status }, is_over)
+    (Outcome { text, status }, is_over)
 }
 
 /// Whether the line says that an output is missing.

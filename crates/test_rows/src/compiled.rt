@@ -1,11 +1,12 @@
 //! Runs of compiled graphs, of every kind of node.
 
-use crate::served::{expect_served, serve_words};
+use crate::served::expect_served;
 use std::alloc::Global;
 use std::process::Abort;
 use std::sync::Wait;
 use std::test::Fail;
 use std::thread::Threads;
+use test_served::answer;
 
 /// The words of a command line after the program's name, an input, and what the program writes and its exit status.
 struct Row {
@@ -337,12 +338,12 @@ fn strict_calls(rt: HostRuntime) -> Result<(), Fail> {
 #[test]
 fn a_second_store_ends_each_run(rt: HostRuntime) -> Result<(), Fail> {
     for elements in ["1", "2", "4", "16"] {
-        let served = serve_words(
+        let served = answer(
             &rt,
             rt.alloc(),
             &["ets", "run", "--elements", elements],
             b"etsgraph 1\narray A 1\nblock m 2 2\n- lit 0 0.0\n- store A 2.0 0.0\n- store A 2.0 1.0\nout 3.0 4.0\nend\nmain m\n5\n6\n",
-        )?;
+        );
         assert!(rt; served.text.ends_with(b"\nend Clash A 0\n"));
         assert_eq!(rt; served.status, 3);
     }

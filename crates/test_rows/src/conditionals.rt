@@ -1,11 +1,11 @@
 //! The instructions that conditionals are compiled to: none that their region does not need.
 
-use crate::served::serve_words;
 use std::alloc::{AllocError, Global};
 use std::process::Abort;
 use std::sync::Wait;
 use std::test::Fail;
 use std::thread::Threads;
+use test_served::answer;
 
 /// Appends the name of the instruction in a line of a listing, and a space.
 fn push_name(names: &mut Vec<u8>, line: &[u8]) -> Result<(), AllocError> {
@@ -26,9 +26,9 @@ fn expect_code<R: Abort + Threads + Wait + Sync>(
     text: &[u8],
     wanted: &[u8],
 ) -> Result<(), Fail> {
-    let object = serve_words(rt, alloc, &["ets", "compile"], text)?;
+    let object = answer(rt, alloc, &["ets", "compile"], text);
     assert_eq!(rt; object.status, 0);
-    let listing = serve_words(rt, alloc, &["ets", "dis"], &object.text)?;
+    let listing = answer(rt, alloc, &["ets", "dis"], &object.text);
     let mut names = Vec::new(alloc);
     for line in listing.text.split(|byte| *byte == b'\n') {
         if line.starts_with(b" ") {

@@ -1,14 +1,15 @@
 //! Runs of objects: their reports are those of the graph's run, with numbers of arrays in place of names.
 
-use crate::served::{expect_served, serve_words};
+use crate::served::expect_served;
 use std::test::Fail;
+use test_served::answer;
 
 const GRAPH: &[u8] =
     b"etsgraph 2\narray A 2\nblock m 2 2\n- store A 1.0 0.0\n- div 0.0 1.0\nout 2.0 3.0\nend\nmain m\n";
 
 #[test]
 fn an_object_reports_what_its_graph_does(rt: HostRuntime) -> Result<(), Fail> {
-    let object = serve_words(&rt, rt.alloc(), &["ets", "compile"], GRAPH)?;
+    let object = answer(&rt, rt.alloc(), &["ets", "compile"], GRAPH);
     expect_served(
         &rt,
         rt.alloc(),
@@ -21,7 +22,7 @@ fn an_object_reports_what_its_graph_does(rt: HostRuntime) -> Result<(), Fail> {
 
 #[test]
 fn inputs_that_do_not_fit_refuse_an_object(rt: HostRuntime) -> Result<(), Fail> {
-    let object = serve_words(&rt, rt.alloc(), &["ets", "compile"], GRAPH)?;
+    let object = answer(&rt, rt.alloc(), &["ets", "compile"], GRAPH);
     for (words, wanted) in [
         (
             ["ets", "exec", "2", "--frames=4"],

@@ -1,7 +1,8 @@
 //! Worked examples whose elements are threads, in rounds and free, over the whole program.
 
-use crate::served::{expect_served, serve_words};
+use crate::served::expect_served;
 use std::test::Fail;
+use test_served::answer;
 
 const SUM: &[u8] =
     b"etsgraph 1\nblock b 3 4\n- lit 1 0.0\n- add 0.0 3.0\n- add 1.0 0.0\n- le 4.0 2.0\nout 6.0 4.0 5.0 2.0\nend\nblock m 1 1\n- lit 1 0.0\n- lit 0 0.0\n- loop b 2 1.0 2.0 0.0\nout 3.1\nend\nmain m\n1000\n";
@@ -58,7 +59,7 @@ fn a_second_store(rt: HostRuntime) -> Result<(), Fail> {
     for mode in MODES {
         for elements in ["1", "2", "4", "16"] {
             let words = ["ets", "run", "--mode", mode, "--elements", elements];
-            let served = serve_words(&rt, rt.alloc(), &words, CLASH)?;
+            let served = answer(&rt, rt.alloc(), &words, CLASH);
             assert!(rt; served.text.ends_with(b"\nend Clash A 0\n"));
             assert_eq!(rt; served.status, 3);
         }

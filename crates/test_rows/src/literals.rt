@@ -1,11 +1,12 @@
 //! Literal operands in the listings of compiled graphs.
 
-use crate::served::{expect_served, serve_words};
+use crate::served::expect_served;
 use std::alloc::Global;
 use std::process::Abort;
 use std::sync::Wait;
 use std::test::Fail;
 use std::thread::Threads;
+use test_served::answer;
 
 /// Checks that the graph's object has this listing.
 fn expect_listing<R: Abort + Threads + Wait + Sync>(
@@ -14,7 +15,7 @@ fn expect_listing<R: Abort + Threads + Wait + Sync>(
     text: &[u8],
     listing: &[u8],
 ) -> Result<(), Fail> {
-    let compiled = serve_words(rt, alloc, &["ets", "compile"], text)?;
+    let compiled = answer(rt, alloc, &["ets", "compile"], text);
     assert_eq!(rt; compiled.status, 0);
     expect_served(rt, alloc, &["ets", "dis"], &compiled.text, listing, 0)
 }

@@ -2,6 +2,7 @@
 
 use crate::served::expect_served;
 use std::test::Fail;
+use test_served::answer;
 
 const FACTORIAL: &[u8] = b"etsgraph 1
 block fact 1 1
@@ -76,7 +77,7 @@ fn calls_and_loops(rt: HostRuntime) -> Result<(), Fail> {
 fn cells_and_clashes(rt: HostRuntime) -> Result<(), Fail> {
     let wanted = b"output 0 8\noutput 1 8\noutput 2 8\ncell A 0 8\nend Rest\n";
     expect_served(&rt, rt.alloc(), &["ets", "mean"], CELLS, wanted, 0)?;
-    let served = crate::served::serve_words(&rt, rt.alloc(), &["ets", "mean"], CLASH)?;
+    let served = answer(&rt, rt.alloc(), &["ets", "mean"], CLASH);
     assert!(rt; served.text.ends_with(b"end Clash A 0\n"));
     assert_eq!(rt; served.status, 3);
     Ok(())

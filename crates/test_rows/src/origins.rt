@@ -1,7 +1,6 @@
 //! Runs of objects of version 2, and how the origin of a fault is printed.
 
 use crate::objects::changed;
-use crate::served::serve_words;
 use command_line::Mode;
 use driver::emulation::emulate_object;
 use graph_file::read;
@@ -13,6 +12,7 @@ use std::process::Abort;
 use std::sync::Wait;
 use std::test::Fail;
 use std::thread::Threads;
+use test_served::answer;
 
 const CONFIG: Config = Config {
     elements: 2,
@@ -63,7 +63,7 @@ fn compiled_objects_tell_origins(rt: HostRuntime) -> Result<(), Fail> {
             b"output 0 fault range at 0 2\noutput 1 fault range at 0 3\ndeferred 0\nwaiting 0 0\nframes 0\nend Rest\n",
         ),
     ] {
-        let compiled = serve_words(&rt, alloc, &["ets", "compile"], graph)?;
+        let compiled = answer(&rt, alloc, &["ets", "compile"], graph);
         assert_eq!(rt; compiled.status, 0);
         expect_printed(&rt, alloc, graph, &compiled.text, inputs, wanted)?;
     }
@@ -80,7 +80,7 @@ fn objects_by_hand_tell_origins(rt: HostRuntime) -> Result<(), Fail> {
     let wanted = b"output 0 fault zero at 0 2\ndeferred 0\nwaiting 0 0\nframes 0\nend Rest\n";
     expect_printed(&rt, alloc, DIVISION, &told, &[7, 0], wanted)?;
     let untold = changed(alloc, &[(104, 4)])?;
-    let upgraded = serve_words(&rt, alloc, &["ets", "upgrade"], &untold)?;
+    let upgraded = answer(&rt, alloc, &["ets", "upgrade"], &untold);
     let wanted = b"output 0 fault zero\ndeferred 0\nwaiting 0 0\nframes 0\nend Rest\n";
     expect_printed(&rt, alloc, DIVISION, &untold, &[7, 0], wanted)?;
     expect_printed(&rt, alloc, DIVISION, &upgraded.text, &[7, 0], wanted)

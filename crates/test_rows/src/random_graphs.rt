@@ -1,9 +1,9 @@
 //! Random graphs of blocks that call each other: runs in rounds have the outputs of the meaning.
 
-use crate::served::serve_words;
 use std::alloc::Global;
 use std::fmt::Write;
 use std::test::Fail;
+use test_served::answer;
 
 const OPERATORS: [&str; 8] = ["add", "sub", "mul", "and", "lt", "le", "div", "rem"];
 
@@ -76,7 +76,7 @@ fn outputs(text: &[u8]) -> &[u8] {
 fn five_hundred(rt: HostRuntime) -> Result<(), Fail> {
     for seed in 0..500u64 {
         let input = random_input(rt.alloc(), seed)?;
-        let meaning = serve_words(&rt, rt.alloc(), &["ets", "mean"], input.as_bytes())?;
+        let meaning = answer(&rt, rt.alloc(), &["ets", "mean"], input.as_bytes());
         let elements = match seed % 4 {
             0 => "1",
             1 => "2",
@@ -84,7 +84,7 @@ fn five_hundred(rt: HostRuntime) -> Result<(), Fail> {
             _ => "16",
         };
         let words = ["ets", "run", "--mode", "rounds", "--elements", elements];
-        let run = serve_words(&rt, rt.alloc(), &words, input.as_bytes())?;
+        let run = answer(&rt, rt.alloc(), &words, input.as_bytes());
         assert_eq!(rt; meaning.status, 0, "{seed}");
         assert_eq!(rt; run.status, 0, "{seed}");
         assert!(rt; run.text.starts_with(b"output 0 "), "{seed}");

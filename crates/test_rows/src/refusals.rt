@@ -1,8 +1,9 @@
 //! What the program refuses, and the words in which it does so.
 
-use crate::served::{expect_served, serve_words};
+use crate::served::expect_served;
 use std::alloc::Global;
 use std::test::Fail;
+use test_served::answer;
 
 const ADD: &[u8] = b"etsgraph 1\nblock m 2 1\n- add 0.0 1.0\nout 2.0\nend\nmain m\n2\n3\n";
 
@@ -145,13 +146,10 @@ fn refuses_command_lines(rt: HostRuntime) -> Result<(), Fail> {
         ["ets", "walk"].as_slice(),
         ["ets", "run", "--frames", "x"].as_slice(),
     ] {
-        let served = serve_words(&rt, rt.alloc(), words, b"")?;
+        let served = answer(&rt, rt.alloc(), words, b"");
         assert_eq!(rt; served.status, 1);
         assert!(rt; served.text.len() > 10);
     }
-    assert_eq!(rt;
-        serve_words(&rt, rt.alloc(), &["ets", "--help"], b"")?.status,
-        0
-    );
+    assert_eq!(rt; answer(&rt, rt.alloc(), &["ets", "--help"], b"").status, 0);
     Ok(())
 }

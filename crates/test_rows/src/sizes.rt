@@ -1,9 +1,10 @@
 //! Graphs at the limits of an object.
 
-use crate::served::{expect_served, serve_words};
+use crate::served::expect_served;
 use std::alloc::Global;
 use std::io::Write;
 use std::test::Fail;
+use test_served::answer;
 
 /// The text of a block `m` with `count` nodes `and`, each of which takes the node before it twice.
 fn chain(alloc: Global, count: u32) -> Result<Vec<u8>, Fail> {
@@ -20,9 +21,9 @@ fn chain(alloc: Global, count: u32) -> Result<Vec<u8>, Fail> {
 fn a_long_chain_shares_its_slots(rt: HostRuntime) -> Result<(), Fail> {
     let alloc = rt.alloc();
     let mut text = chain(alloc, 600)?;
-    let object = serve_words(&rt, alloc, &["ets", "compile"], &text)?;
+    let object = answer(&rt, alloc, &["ets", "compile"], &text);
     assert_eq!(rt; object.status, 0);
-    let listing = serve_words(&rt, alloc, &["ets", "dis"], &object.text)?;
+    let listing = answer(&rt, alloc, &["ets", "dis"], &object.text);
     assert!(rt;
         listing
             .text
@@ -67,7 +68,7 @@ fn literals_run_out(rt: HostRuntime) -> Result<(), Fail> {
     let wanted = b"refused: emit TooFar block 64\n";
     expect_served(&rt, alloc, &["ets", "compile"], &text, wanted, 1)?;
     let text = literals(alloc, 64)?;
-    let object = serve_words(&rt, alloc, &["ets", "compile"], &text)?;
+    let object = answer(&rt, alloc, &["ets", "compile"], &text);
     assert_eq!(rt; object.status, 0);
     Ok(())
 }

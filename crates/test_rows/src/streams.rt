@@ -1,6 +1,6 @@
 //! Texts that end early, readers and writers that fail, and inputs that are too long.
 
-use crate::served::{Served, expect_served, serve_words};
+use crate::served::expect_served;
 use commands::serving::serve;
 use rounds::Open;
 use std::alloc::Global;
@@ -9,6 +9,7 @@ use std::process::Abort;
 use std::sync::Wait;
 use std::test::Fail;
 use std::thread::Threads;
+use test_served::{Outcome, answer};
 
 /// A graph that adds its two inputs.
 const GRAPH: &[u8] = b"etsgraph 1\nblock m 2 1\n- add 0.0 1.0\nout 2.0\nend\nmain m\n";
@@ -75,12 +76,12 @@ fn serve_failing<R: Threads + Wait + Sync>(
     alloc: Global,
     words: &[&str],
     calls: u64,
-) -> Served {
+) -> Outcome {
     let mut text = Vec::new(alloc);
     let mut reader = FailingReader { calls, rest: ADD };
     let status = serve(words, &mut reader, &mut text, alloc, alloc, rt, &Open);
     let FailingReader { calls: _, rest: _ } = reader;
-    Served { text, status }
+    Outcome { text, status }
 }
 
 #[test]

@@ -1,9 +1,9 @@
 //! Command lines and their inputs.
 
-use crate::trials::answer_of;
 use std::alloc::{AllocError, Global};
 use std::sync::Wait;
 use std::thread::Threads;
+use test_served::answer;
 
 /// The input of a command line.
 #[derive(Clone, Copy, Debug, PartialEq, Eq)]
@@ -200,8 +200,8 @@ fn text_with(alloc: Global, lines: &[u8]) -> Result<Vec<u8>, AllocError> {
 impl Inputs {
     /// Compiles the graph to get its object.
     pub fn new<R: Threads + Wait + Sync>(rt: &R, alloc: Global) -> Result<Inputs, AllocError> {
-        let object = answer_of(rt, alloc, &["ets", "compile"], TEXT)?.text;
-        let listing = answer_of(rt, alloc, &["ets", "dis"], &object)?.text;
+        let object = answer(rt, alloc, &["ets", "compile"], TEXT).text;
+        let listing = answer(rt, alloc, &["ets", "dis"], &object).text;
         Ok(Inputs {
             text_and_inputs: text_with(alloc, b"9\n")?,
             text_and_word: text_with(alloc, b"9\nnine\n")?,

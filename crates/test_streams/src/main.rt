@@ -15,7 +15,8 @@ use std::io::{self, Write};
 use std::process::ExitCode;
 use std::sync::Wait;
 use std::thread::Threads;
-use trials::{Trial, answer_of};
+use test_served::answer;
+use trials::Trial;
 
 /// Whether all answers agree. Prints that for each command line, or which answer differs.
 fn all_agree<R: Threads + Wait + Sync, W: Write>(
@@ -26,7 +27,7 @@ fn all_agree<R: Threads + Wait + Sync, W: Write>(
     let inputs = Inputs::new(rt, alloc)?;
     for case in CASES {
         let input = inputs.bytes(case.input);
-        let whole = answer_of(rt, alloc, case.words, input)?;
+        let whole = answer(rt, alloc, case.words, input);
         let trial = Trial::new(case, input, &whole);
         let Some(failures) = trial.run(rt, alloc, out)? else {
             return Ok(false);

@@ -5,34 +5,15 @@ use crate::reader::Feeder;
 use crate::writer::{Failure, Taker, WRITERS};
 use commands::serving::serve;
 use rounds::Open;
-use std::alloc::{AllocError, Global};
+use std::alloc::Global;
 use std::fmt;
 use std::io::{self, Write};
 use std::sync::Wait;
 use std::thread::Threads;
+use test_served::Outcome;
 
 /// More calls than any reader gets.
 const ENOUGH: u64 = 1_000_000;
-
-/// What was written, and the exit status.
-#[derive(Drop)]
-pub struct Answer {
-    pub text: Vec<u8>,
-    pub status: u8,
-}
-
-/// The answer of the program.
-pub fn answer_of<R: Threads + Wait + Sync>(
-    rt: &R,
-    alloc: Global,
-    words: &[&str],
-    input: &[u8],
-) -> Result<Answer, AllocError> {
-    let mut text = Vec::new(alloc);
-    let mut reader = input;
-    let status = serve(words, &mut reader, &mut text, alloc, alloc, rt, &Open);
-    Ok(Answer { text, status })
-}
 
 /// How many readers and how many writers failed.
 #[derive(Drop)]
@@ -58,11 +39,11 @@ impl fmt::Display for Failures {
 pub struct Trial<'a> {
     case: Case,
     input: &'a [u8],
-    whole: &'a Answer,
+    whole: &'a Outcome,
 }
 
 impl<'a> Trial<'a> {
-    pub fn new(case: Case, input: &'a [u8], whole: &'a Answer) -> Trial<'a> {
+    pub fn new(case: Case, input: &'a [u8], whole: &'a Outcome) -> Trial<'a> {
         Trial { case, input, whole }
     }
 
@@ -73,7 +54,7 @@ impl<'a> Trial<'a> {
         alloc: Global,
         chunk: usize,
         calls: u64,
-    ) -> Answer {
+    ) -> Outcome {
         let mut text = Vec::new(alloc);
         let mut reader = Feeder {
             rest: self.input,
@@ -82,10 +63,10 @@ impl<'a> Trial<'a> {
         };
         let words = self.case.words;
         let status = serve(words, &mut reader, &mut text, alloc, alloc, rt, &Open);
-        Answer { text, status }
+        Outcome { text, status }
     }
 
-    fn is_whole(&self, answer: &Answer) -> bool {
+    fn is_whole(&self, answer: &Outcome) -> bool {
         answer.status == self.whole.status && answer.text.as_slice() == self.whole.text.as_slice()
     }
 

@@ -13,26 +13,18 @@
 use crate::drawings::is_drawn;
 use anyhow::{Context, bail};
 use commands::input::split_at_main;
-use commands::serving::serve;
-use rounds::Open;
 use std::alloc::Global;
 use std::fs;
 use std::io::Write;
 use std::sync::Wait;
 use std::thread::Threads;
+use test_served::{Outcome, answer};
 
 /// The folder in which the page says that its files lie.
 const FOLDER: &str = "tutorial/";
 
 /// The beginning of a stage that gives the graph of a file.
 const GRAPH_OF: &str = "sed '/^main /q' ";
-
-/// What a command printed, and its exit status.
-#[derive(Drop)]
-struct Ran {
-    text: Vec<u8>,
-    status: u8,
-}
 
 /// Runs commands. What they write to files is kept, and compared with those files.
 #[derive(Drop)]
@@ -84,7 +76,7 @@ impl<'a> Shell<'a> {
         rt: &R,
         stages: &str,
         file: &str,
-    ) -> anyhow::Result<Ran> {
+    ) -> anyhow::Result<Outcome> {
         if let Some(dot) = stages.strip_prefix("dot -Tsvg ") {
             let picture = self.read(dot)?;
             let drawing = self.read(file)?;
@@ -104,8 +96,8 @@ impl<'a> Shell<'a> {
         Ok(nothing)
     }
 
-    fn nothing(&self) -> Ran {
-        Ran {
+    fn nothing(&self) -> Outcome {
+        Outcome {
             text: Vec::new(self.alloc()),
             status: 0,
         }
@@ -120,7 +112,11 @@ impl<'a> Shell<'a> {
         Ok(())
     }
 
-    fn run_stages<R: Threads + Wait + Sync>(&self, rt: &R, stages: &str) -> anyhow::Result<Ran> {
+    fn run_stages<R: Threads + Wait + Sync>(
+        &self,
+        rt: &R,
+        stages: &str,
+    ) -> anyhow::Result<Outcome> {
         let mut ran = self.nothing();
         for stage in stages.split(" | ") {
             let next = self.run_stage(rt, stage, ran.text.as_slice())?;
@@ -134,7 +130,7 @@ impl<'a> Shell<'a> {
         rt: &R,
         stage: &str,
         input: &[u8],
-    ) -> anyhow::Result<Ran> {
+    ) -> anyhow::Result<Outcome> {
         if let Some(words) = stage.strip_prefix("ets ") {
             return match words.split_once(" < ") {
                 Some((words, file)) => self.serve(rt, words, self.read(file)?.as_slice()),
@@ -150,7 +146,7 @@ impl<'a> Shell<'a> {
         } else {
             bail!("not known: {stage}")
         };
-        Ok(Ran { text, status: 0 })
+        Ok(Outcome { text, status: 0 })
     }
 
     /// Runs the program on these words and this input.
@@ -159,18 +155,14 @@ impl<'a> Shell<'a> {
         rt: &R,
         words: &str,
         input: &[u8],
-    ) -> anyhow::Result<Ran> {
+    ) -> anyhow::Result<Outcome> {
         let alloc = self.alloc();
         let mut list: Vec<&str> = Vec::new(alloc);
         list.push("ets")?;
         for word in words.split(' ') {
             list.push(word)?;
         }
-        let mut text = Vec::new(alloc);
-        let mut reader = input;
-        let words = list.as_slice();
-        let status = serve(words, &mut reader, &mut text, alloc, alloc, rt, &Open);
-        Ok(Ran { text, status })
+        Ok(answer(rt, alloc, &list, input))
     }
 
     /// The bytes of a file of the page; empty where there is no such file.

@@ -1,10 +1,10 @@
 //! Graphs whose profile is known, and an object that was typed.
 
 use crate::lines::{count, sum};
-use crate::served::answer;
 use std::alloc::Global;
 use std::sync::Wait;
 use std::thread::Threads;
+use test_served::answer;
 
 /// A chain: each node waits for the one before it.
 pub const CHAIN: &[u8] = b"etsgraph 1

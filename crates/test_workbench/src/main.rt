@@ -9,12 +9,10 @@ mod lines;
 mod objects;
 mod orders;
 mod profiles;
-mod served;
 mod tally;
 mod traces;
 
 use known::{CHAIN, LISTING, LOOP_OF_2, LOOP_OF_8, TREE, looks_right};
-use served::answer;
 use std::alloc::Global;
 use std::env;
 use std::io::{self, Write};
@@ -24,6 +22,10 @@ use std::thread::Threads;
 use tally::Tally;
 use test_random_graphs::dice::Dice;
 use test_random_graphs::graphs::{Graph, Part};
+use test_served::{answer, comes_back};
+
+/// How many events an element makes at most, and how many activities a meaning has: as a word of a command line.
+const STEPS: &str = "20000";
 
 /// The runs of one graph in 16 are looked at, too.
 const RUNS_ONE_IN: u64 = 16;
@@ -64,7 +66,7 @@ fn look_at_object<R: Threads + Wait + Sync>(
         tally.refused = tally.refused.wrapping_add(1);
         return Ok(());
     }
-    if !objects::comes_back(rt, alloc, &object.text) {
+    if !comes_back(rt, alloc, &object.text) {
         return Err("an object does not come back");
     }
     tally.objects = tally.objects.wrapping_add(1);

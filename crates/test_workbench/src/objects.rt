@@ -1,16 +1,9 @@
-//! Objects are listed and assembled again.
+//! An object that adds.
 
-use crate::served::answer;
 use std::alloc::Global;
 use std::sync::Wait;
 use std::thread::Threads;
-
-/// Whether the object's listing is assembled as the same object.
-pub fn comes_back<R: Threads + Wait + Sync>(rt: &R, alloc: Global, object: &[u8]) -> bool {
-    let listing = answer(rt, alloc, &["ets", "dis"], object);
-    let again = answer(rt, alloc, &["ets", "asm"], &listing.text);
-    listing.status == 0 && again.status == 0 && again.text.as_slice() == object
-}
+use test_served::{answer, comes_back};
 
 /// Whether the listing is of an object that adds 2 and 3, and comes back from what is written of it.
 pub fn adds<R: Threads + Wait + Sync>(rt: &R, alloc: Global, listing: &[u8]) -> bool {

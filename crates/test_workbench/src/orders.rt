@@ -1,10 +1,11 @@
 //! Runs in random orders, and runs of the object.
 
+use crate::STEPS;
 use crate::lines::behind;
-use crate::served::{STEPS, answer};
 use std::alloc::Global;
 use std::sync::Wait;
 use std::thread::Threads;
+use test_served::answer;
 
 /// Whether five random orders have the report of the run.
 pub fn agree<R: Threads + Wait + Sync>(rt: &R, alloc: Global, input: &[u8]) -> bool {

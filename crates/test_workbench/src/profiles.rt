@@ -1,11 +1,12 @@
 //! Profiles, as lines and as pictures.
 
+use crate::STEPS;
 use crate::lines::{count, number, sum};
-use crate::served::{STEPS, answer};
 use crate::traces::Traced;
 use std::alloc::Global;
 use std::sync::Wait;
 use std::thread::Threads;
+use test_served::answer;
 
 /// Whether each row has room for the events: rounds times elements are at least as many.
 fn has_room(profile: &[u8], events: u64) -> bool {

@@ -1,12 +1,13 @@
 //! Traces, as lines and as JSON.
 
+use crate::STEPS;
 use crate::lines::{behind, count};
-use crate::served::{STEPS, answer};
 use serde_json::Value;
 use std::alloc::Global;
 use std::str;
 use std::sync::Wait;
 use std::thread::Threads;
+use test_served::answer;
 
 /// How many events the JSON has that are slices.
 fn slices(alloc: Global, text: &[u8]) -> Option<u64> {

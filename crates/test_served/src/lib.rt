@@ -1,13 +1,11 @@
-//! Runs the program in memory.
+//! The whole program in memory, for programs that test it: words and an input in, a text and a status out.
+#![tactic(auto)]
 
 use commands::serving::serve;
 use rounds::Open;
 use std::alloc::Global;
 use std::sync::Wait;
 use std::thread::Threads;
-
-/// How many events an element makes at most, and how many activities a meaning has: as a word of a command line.
-pub const STEPS: &str = "20000";
 
 /// What the program printed, and its exit status.
 #[derive(Drop)]
@@ -27,4 +25,11 @@ pub fn answer<R: Threads + Wait + Sync>(
     let mut reader = input;
     let status = serve(words, &mut reader, &mut text, alloc, alloc, rt, &Open);
     Outcome { text, status }
+}
+
+/// Whether the object is listed, and the listing is assembled as the same object.
+pub fn comes_back<R: Threads + Wait + Sync>(rt: &R, alloc: Global, object: &[u8]) -> bool {
+    let listing = answer(rt, alloc, &["ets", "dis"], object);
+    let again = answer(rt, alloc, &["ets", "asm"], &listing.text);
+    listing.status == 0 && again.status == 0 && again.text.as_slice() == object
 }
