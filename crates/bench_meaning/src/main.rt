@@ -2,9 +2,6 @@
 //! input is the graph. Says how the run ended.
 #![tactic(auto)]
 
-ghost use Rattle.std.specs.Prelude.{IfSome};
-ghost use Rattle.semantics.specs.Text.{HasText};
-
 use graph_check::{Checked, check};
 use graph_file::read;
 use oracle::{MeanEnd, MeanFault, mean};
@@ -13,9 +10,7 @@ use std::io::Read;
 use std::{env, io};
 
 /// The graph of the text, if it is well formed.
-fn graph_of(alloc: Global, text: &[u8]) -> Option<Checked<'_, Global>>
-    ensures { IfSome result HasText }
-{
+fn graph_of(alloc: Global, text: &[u8]) -> Option<Checked<'_, Global>> {
     let Ok(graph) = read(alloc, text) else {
         return None;
     };

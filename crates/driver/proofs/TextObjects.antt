@@ -37,14 +37,14 @@ compiled_bytes text g c good made n e =
     subst B (ap (λ k. bytes_of k c) (sym e)) record { good = good; object = record { code = c; made = made; object = (refl, made.lawful) } }
 
 -- or none, where it is too large
-pub too_large : (text : List ℕ) (g h : Graph) → h ≡ g → IsGoodText text g → (f : Fault) → IsTooLarge h f → IsRefusedText text f
-too_large text g h e good (Fault.Read f) x = absurd x
-too_large text g h e good (Fault.Check f) x = absurd x
-too_large text g h e good (Fault.TooManySlots b) x = (g, good, subst (λ (k : Graph). IsTooLarge k (Fault.TooManySlots b)) e x)
-too_large text g h e good (Fault.TooFar b) x = (g, good, subst (λ (k : Graph). IsTooLarge k (Fault.TooFar b)) e x)
-too_large text g h e good (Fault.Object f) x = absurd x
-too_large text g h e good (Fault.Start f) x = absurd x
-too_large text g h e good Fault.Memory x = tt
+pub too_large : (text : List ℕ) (g : Graph) → IsGoodText text g → (f : Fault) → IsTooLarge g f → IsRefusedText text f
+too_large text g good (Fault.Read f) x = absurd x
+too_large text g good (Fault.Check f) x = absurd x
+too_large text g good (Fault.TooManySlots b) x = (g, good, x)
+too_large text g good (Fault.TooFar b) x = (g, good, x)
+too_large text g good (Fault.Object f) x = absurd x
+too_large text g good (Fault.Start f) x = absurd x
+too_large text g good Fault.Memory x = tt
 
 -- RUNNING
 -- an opened object is the graph's code

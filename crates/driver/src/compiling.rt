@@ -2,8 +2,7 @@
 //! assigned, and code and the bytes of an object are made.
 
 ghost use Rattle.std.specs.Prelude.{◌≡◌, IfOk, MatchResult};
-ghost use Rattle.semantics.specs.Text.{HasText, IsText};
-ghost use Rattle.semantics.specs.WellFormed.{WellFormed};
+ghost use Rattle.semantics.specs.Text.{IsText};
 ghost use Rattle.select.specs.Emitted.{version_number as emitted_number};
 ghost use Rattle.object_view.specs.Fields.{version_number as written_number};
 ghost use Rattle.law_composition.specs.Graphs.{plan_of};
@@ -74,12 +73,13 @@ pub fn check_text<'a, A: Allocator + Clone>(
 
 /// Makes the plan of a graph, pass by pass: first with any number of destinations at an instruction, then with literal
 /// operands, and then with at most two destinations.
-fn plan<'a, A: Allocator + Clone>(alloc: &A, graph: &Graph<'a, A>) -> Result<Plan<A>, AllocError>
-    requires well_formed { WellFormed graph.now }
-    requires limits { HasText graph.now }
-    ensures { IfOk result (λ p. p ≡ plan_of graph.now) }
+fn plan<'a, A: Allocator + Clone>(
+    alloc: &A,
+    checked: &Checked<'a, A>,
+) -> Result<Plan<A>, AllocError>
+    ensures { IfOk result (λ p. p ≡ plan_of checked.now) }
 {
-    let wide = expand(alloc.clone()?, graph)?;
+    let wide = expand(alloc.clone()?, checked)?;
     let folded = fold(alloc.clone()?, &wide)?;
     narrow(alloc.clone()?, &folded)
 }
@@ -104,12 +104,10 @@ fn object_version<'a, A: Allocator>(graph: &Graph<'a, A>) -> object_view::Versio
 }
 
 /// Makes the code of a graph.
-fn code_of<'a, A: Allocator + Clone>(alloc: A, graph: &Graph<'a, A>) -> Result<Code<A>, Fault>
-    requires well_formed { WellFormed graph.now }
-    requires limits { HasText graph.now }
-    ensures { MatchResult result (IsCodeFor graph.now) (IsTooLarge graph.now) }
+fn code_of<'a, A: Allocator + Clone>(alloc: A, checked: &Checked<'a, A>) -> Result<Code<A>, Fault>
+    ensures { MatchResult result (IsCodeFor checked.now) (IsTooLarge checked.now) }
 {
-    let Ok(plan) = plan(&alloc, graph) else {
+    let Ok(plan) = plan(&alloc, checked) else {
         return Err(Fault::Memory);
     };
     let Ok(room) = alloc.clone() else {
@@ -120,7 +118,7 @@ fn code_of<'a, A: Allocator + Clone>(alloc: A, graph: &Graph<'a, A>) -> Result<C
         Err(AssignFault::TooManySlots { block }) => return Err(Fault::TooManySlots(block)),
         Err(AssignFault::Memory) => return Err(Fault::Memory),
     };
-    match emit(alloc, &plan, &slots, version_of(graph)) {
+    match emit(alloc, &plan, &slots, version_of(checked.graph())) {
         Ok(code) => Ok(code),
         Err(EmitFault::TooFar { block }) => Err(Fault::TooFar(block)),
         Err(EmitFault::Memory) => Err(Fault::Memory),
@@ -141,7 +139,7 @@ pub fn compile<'a, A: Allocator + Clone>(alloc: A, text: &'a [u8]) -> Result<Com
     let Ok(room) = alloc.clone() else {
         return Err(Fault::Memory);
     };
-    let code = match code_of(room, checked.graph()) {
+    let code = match code_of(room, &checked) {
         Ok(code) => code,
         Err(fault) => return Err(fault),
     };
@@ -176,7 +174,7 @@ pub fn write_object<A: Allocator + Clone, W: Write>(
         Ok(checked) => checked,
         Err(fault) => return Err(CompileRefusal::Fault(fault)),
     };
-    let code = match code_of(alloc, checked.graph()) {
+    let code = match code_of(alloc, &checked) {
         Ok(code) => code,
         Err(fault) => return Err(CompileRefusal::Fault(fault)),
     };

@@ -13,8 +13,6 @@
 
 ghost use Rattle.std.specs.Prelude.{◌≡◌, ℕ, ◌+◌, ◌<◌, ◌≤◌, Bool, List, map, length, All, IfOk, OnOk};
 ghost use Rattle.semantics.specs.Graph.{flow_of};
-ghost use Rattle.semantics.specs.WellFormed.{WellFormed};
-ghost use Rattle.semantics.specs.Text.{HasText};
 ghost use Rattle.expansion.specs.Blocks as Blocks;
 ghost use Rattle.expansion.specs.Expanded as Expanded;
 
@@ -31,21 +29,19 @@ mod uses;
 mod variants;
 
 use code::Plan;
-use graph::Graph;
+use graph_check::Checked;
 use std::alloc::{AllocError, Allocator};
 
-/// The plan of a well-formed graph within the limits.
+/// The plan of a checked graph.
 ///
 /// It takes all rooms from the allocator, and fails only where a growth is refused. Then nothing is left of the plan.
 #[tactic(auto, using(crate::proofs::Small::small_flow))]
 pub fn expand<'a, A: Allocator + Clone>(
     alloc: A,
-    graph: &Graph<'a, A>,
+    checked: &Checked<'a, A>,
 ) -> Result<Plan<A>, AllocError>
-    requires well_formed { WellFormed graph.now }
-    requires limits { HasText graph.now }
-    ensures exact { IfOk result (λ p. p ≡ Expanded.expanded (flow_of graph.now)) }
+    ensures exact { IfOk result (λ p. p ≡ Expanded.expanded (flow_of checked.now)) }
 {
-    let flow = flow::resolve(alloc.clone()?, graph)?;
+    let flow = flow::resolve(alloc.clone()?, checked.graph())?;
     plans::plan_of(alloc, flow)
 }

@@ -80,7 +80,8 @@ impl<'a, A: Allocator> Model for Block<'a, A> {
     ghost view = { λ b. (b.name, record { inputs = b.inputs; outputs = b.outputs; nodes = b.nodes.items; results = b.results.items }) };
 }
 
-/// A graph: its arrays, its code blocks, and the name of the block that is run.
+/// A graph: its arrays, its code blocks, and the name of the block that is run. Every graph has a text: it has the form and
+/// keeps the limits of texts. Who makes one proves that.
 #[derive(Drop)]
 pub struct Graph<'a, A: Allocator> {
     pub version: Version,
@@ -97,4 +98,8 @@ impl<'a, A: Allocator> Model for Graph<'a, A> {
     ghost use Rattle.graph.specs.Versions.{version_number};
 
     ghost view = { λ g. record { version = version_number g.version; arrays = g.arrays.items; blocks = g.blocks.items; main = g.main } };
+
+    ghost use Rattle.semantics.specs.Text.{HasText};
+
+    ghost invariant = { λ g. HasText record { version = version_number g.version; arrays = g.arrays.items; blocks = g.blocks.items; main = g.main } };
 }

@@ -4,6 +4,7 @@
 ghost use Rattle.std.specs.Prelude.{◌≡◌, IfOk, IfErr, OnOk};
 ghost use Rattle.semantics.specs.Graph.{place_of, array_names, block_names};
 ghost use Rattle.semantics.specs.WellFormed.{WellFormed};
+ghost use Rattle.semantics.specs.Text.{HasText};
 ghost use Rattle.graph_check.specs.FirstFault.{main_fault, all_blocks_fault, fault_of, IsRefusal};
 
 use graph::{Block, Graph, Name};
@@ -20,7 +21,7 @@ pub use faults::{CheckFault, CheckFaultKind};
 use names::Named;
 use nodes::require;
 
-/// A graph that is well formed, with its names looked up. Contracts see the graph.
+/// A graph that is well formed and within the limits, with its names looked up. Contracts see the graph.
 #[derive(Drop)]
 pub struct Checked<'a, A: Allocator> {
     named: Named<'a, A>,
@@ -29,12 +30,13 @@ pub struct Checked<'a, A: Allocator> {
 impl<'a, A: Allocator> Model for Checked<'a, A> {
     ghost use Rattle.semantics.specs.Graph.{Graph};
     ghost use Rattle.semantics.specs.WellFormed.{WellFormed};
+    ghost use Rattle.semantics.specs.Text.{HasText};
 
     ghost Value = { Graph };
 
     ghost view = { λ c. c.named };
 
-    ghost invariant = { λ c. WellFormed c.named };
+    ghost invariant = { λ c. WellFormed c.named × HasText c.named };
 }
 
 impl<'a, A: Allocator> Checked<'a, A> {
@@ -42,6 +44,7 @@ impl<'a, A: Allocator> Checked<'a, A> {
     pub fn graph(&self) -> &Graph<'a, A>
         ensures same { result.now ≡ self.now }
         ensures well { WellFormed self.now }
+        ensures limits { HasText self.now }
     {
         self.named.graph()
     }
@@ -93,7 +96,8 @@ fn check_blocks<'a, A: Allocator>(
 }
 
 fn blocks_of<'b, 'a, A: Allocator>(graph: &'b Graph<'a, A>) -> &'b [Block<'a, A>]
-    ensures { result.now ≡ graph.now.blocks }
+    ensures same { result.now ≡ graph.now.blocks }
+    ensures limits { HasText graph.now }
 {
     &graph.blocks
 }

@@ -1,17 +1,13 @@
 -- From what reading gives to what a text is.
 use Rattle.std.proofs.Common.{◌≡◌, ℕ, List, Result, Ok, Err, sym, ap, ◌∙◌, inl, inr}
-use Rattle.std.specs.Prelude.{IfOk, MatchResult}
+use Rattle.std.specs.Prelude.{MatchResult}
 use Rattle.semantics.specs.Graph.{Graph}
 use Rattle.semantics.specs.Text.{IsText}
 use Rattle.graph_file.specs.declared.fault.ReadFault.{ReadFault}
 use Rattle.graph_file.specs.declared.fault.ReadFaultKind.TheVariants.{Memory}
 use Rattle.graph_file.specs.Reading.{text_from, IsFirstFault}
-use Rattle.graph_file.proofs.Sound.{read, text_takes}
+use Rattle.graph_file.proofs.Sound.{read}
 use Rattle.graph_file.proofs.Complete.{text_gives}
-
-pub is_found : (text : List ℕ) (r : Result Graph ReadFault) → MatchResult r (λ g. text_from text ≡ Ok g) (λ e. IsFirstFault e (text_from text)) → IfOk r (λ g. IsText text g)
-is_found text (Ok g) h = text_takes text g h
-is_found text (Err e) h = tt
 
 pub is_only : (text : List ℕ) (r : Result Graph ReadFault) → MatchResult r (λ g. text_from text ≡ Ok g) (λ e. IsFirstFault e (text_from text)) → (g : Graph) → IsText text g → MatchResult r (λ h. h ≡ g) (λ e. e.kind ≡ Memory)
 is_only text (Ok h) k g is = same h g (sym k ∙ read_is text g is)

@@ -7,6 +7,7 @@ mod lines;
 mod nodes;
 mod parts;
 mod reading;
+mod whole;
 mod words;
 mod writing;
 

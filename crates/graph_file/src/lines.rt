@@ -8,8 +8,9 @@ use crate::fault::ReadFaultKind;
 use crate::fields::{field_of, name_field, number_field, source_fields};
 use crate::nodes::node_of;
 use crate::parts::{Parts, is_line};
+use crate::whole::Whole;
 use crate::words::SOURCES;
-use graph::{Array, Block, Graph, Name, Version};
+use graph::{Array, Block, Name, Version};
 use std::alloc::Allocator;
 use std::marker::Model;
 
@@ -245,13 +246,13 @@ impl<'a, A: Allocator + Clone> Found<'a, A> {
         Ok((self, Place::Blocks))
     }
 
-    /// The graph, if the text is whole: nothing stands behind the last line feed.
+    /// What the text says, if it is whole: nothing stands behind the last line feed.
     #[tactic(auto, unfolding(crate::specs::Reading::end_from))]
     pub(crate) fn end(
         self,
         place: Place<Block<'a, A>, Name<'a>>,
         rest: &[u8],
-    ) -> Result<Graph<'a, A>, ReadFaultKind>
+    ) -> Result<Whole<'a, A>, ReadFaultKind>
         ensures { Gives (λ x. x) result (end_from self.entry place.entry rest.now) }
     {
         match (place, rest) {
@@ -263,7 +264,7 @@ impl<'a, A: Allocator + Clone> Found<'a, A> {
                     cells: _,
                     blocks,
                 } = self;
-                Ok(Graph {
+                Ok(Whole {
                     version,
                     arrays,
                     blocks,

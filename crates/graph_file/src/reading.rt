@@ -9,15 +9,16 @@ ghost use Rattle.graph_file.specs.Reading.{body_from, text_from, IsFirstFault};
 use crate::fault::{ReadFault, ReadFaultKind};
 use crate::lines::{Found, Place};
 use crate::parts::Parts;
+use crate::whole::Whole;
 use graph::{Graph, Version};
 use std::alloc::Allocator;
 
-/// The graph that the lines behind the header say.
+/// What the lines behind the header say.
 fn read_body<'a, A: Allocator + Clone>(
     alloc: A,
     version: Version,
     body: &'a [u8],
-) -> Result<Graph<'a, A>, ReadFault>
+) -> Result<Whole<'a, A>, ReadFault>
     requires { length body.now + 11 < 2 ^ 64 }
     ensures { MatchResult result (λ g. body_from version body.now ≡ Ok g) (λ e. IsFirstFault e (body_from version body.now)) }
 {
@@ -32,7 +33,7 @@ fn read_body<'a, A: Allocator + Clone>(
         let (found, place) = state;
         if rest.has(0) {
             return match found.end(place, text) {
-                Ok(graph) => Ok(graph),
+                Ok(whole) => Ok(whole),
                 Err(kind) => Err(ReadFault { kind, line }),
             };
         }
@@ -60,11 +61,14 @@ pub fn read<'a, A: Allocator + Clone>(alloc: A, text: &'a [u8]) -> Result<Graph<
     // Which fault it is.
     ensures exact { MatchResult result (λ g. text_from text.now ≡ Ok g) (λ e. IsFirstFault e (text_from text.now)) }
 {
-    read_text(alloc, text)
+    match read_text(alloc, text) {
+        Ok(whole) => Ok(whole.graph()),
+        Err(fault) => Err(fault),
+    }
 }
 
 #[tactic(auto, unfolding(crate::specs::Reading::text_from))]
-fn read_text<'a, A: Allocator + Clone>(alloc: A, text: &'a [u8]) -> Result<Graph<'a, A>, ReadFault>
+fn read_text<'a, A: Allocator + Clone>(alloc: A, text: &'a [u8]) -> Result<Whole<'a, A>, ReadFault>
     ensures { MatchResult result (λ g. text_from text.now ≡ Ok g) (λ e. IsFirstFault e (text_from text.now)) }
 {
     if let Some(body) = text.strip_prefix(b"etsgraph 1\n".as_slice()) {

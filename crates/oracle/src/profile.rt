@@ -1,7 +1,6 @@
 //! The waves of the greedy schedule: the meaning with unlimited processors.
 
 ghost use Rattle.std.specs.Prelude.{◌≡◌, ◌≢◌, ◌↔◌, ◌≤◌, length, Some, None, IfOk};
-ghost use Rattle.semantics.specs.Text.{HasText};
 ghost use Rattle.oracle.specs.Lines.{total_of, inputs_at};
 ghost use Rattle.oracle.specs.Running.{main_place};
 ghost use Rattle.oracle.specs.Gathering.{waves_told};
@@ -56,7 +55,6 @@ pub fn waves<'a, A: Allocator + Clone>(
     inputs: &[i64],
     steps: u64,
 ) -> Result<WaveReport<A>, MeanFault>
-    requires limits { HasText checked.now }
     ensures wrong { result ≡ Err MeanFault.WrongInputs ↔ (length inputs.now ≢ inputs_at checked.now (main_place checked.now)) }
     ensures told { IfOk result (λ r. waves_told checked.now inputs.now steps ≡ Some (r.end, r.counts.items)) }
     ensures meant { IfOk result (λ r. AreWavesOf checked.now inputs.now steps r.end r.counts.items) }

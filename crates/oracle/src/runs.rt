@@ -1,7 +1,6 @@
 //! Runs of the meaning.
 
 ghost use Rattle.std.specs.Prelude.{◌≡◌, ◌≢◌, ◌↔◌, ◌≤◌, ◌++◌, [], map, length, None, IfOk, OnOk};
-ghost use Rattle.semantics.specs.Text.{HasText};
 ghost use Rattle.oracle.specs.Lines.{total_of, inputs_at};
 ghost use Rattle.oracle.specs.Sending.{entering_tokens};
 ghost use Rattle.oracle.specs.Reporting.{IsMeant};
@@ -216,7 +215,6 @@ pub fn mean<'a, A: Allocator + Clone>(
     inputs: &[i64],
     steps: u64,
 ) -> Result<MeanReport<A>, MeanFault>
-    requires limits { HasText checked.now }
     ensures wrong { result ≡ Err MeanFault.WrongInputs ↔ (length inputs.now ≢ inputs_at checked.now (main_place checked.now)) }
     ensures told { IfOk result (λ r. told checked.now inputs.now steps ≡ Some (r.end, r.outputs.items, r.cells.items)) }
     ensures meant { IfOk result (λ r. IsMeant checked.now inputs.now steps r.end r.outputs.items r.cells.items) }

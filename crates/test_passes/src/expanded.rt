@@ -1,88 +1,43 @@
 //! The plans of small graphs, instruction by instruction.
 
-ghost use Rattle.std.specs.Prelude.{◌≡◌, IfOk};
-ghost use Rattle.semantics.specs.WellFormed.{WellFormed};
-ghost use Rattle.semantics.specs.Text.{HasText};
-ghost use Rattle.test_passes.specs.Samples as Samples;
-
-use code::CodeBlock;
+use code::{CodeBlock, Plan};
 use expansion::expand;
-use graph::{Block, Graph, Name, Node, Version};
+use graph_check::check;
+use graph_file::read;
 use operators::Binary;
 use rationed::Rationed;
-use semantics::graph::{Kind, Region, Source};
 use semantics::program::{Dest, Mark, Op};
-use std::alloc::{AllocError, Allocator};
+use std::alloc::{AllocError, Allocator, Global};
 use std::process::Abort;
 use std::test::Fail;
 use tags::token::Port::{self, Left, Right};
 
-fn source(node: u32) -> Source
-    ensures { result ≡ Samples.source node }
-{
-    Source { node, port: 0 }
+/// The graph of the block `m` alone, which gives the sum of its two inputs.
+const ALONE: &[u8] = b"etsgraph 1\nblock m 2 1\n- add 0.0 1.0\nout 2.0\nend\nmain m\n";
+
+/// The graph of that block and of the block `g`, which gives its first input and does not use its second one.
+const BOTH: &[u8] =
+    b"etsgraph 1\nblock g 2 1\nout 0.0\nend\nblock m 2 1\n- add 0.0 1.0\nout 2.0\nend\nmain m\n";
+
+/// The plan of a text's graph. The pass alone takes its rooms from the second allocator.
+fn plan_of<A: Allocator + Clone>(
+    rt: &impl Abort,
+    plenty: A,
+    scarce: A,
+    text: &[u8],
+) -> Result<Plan<A>, AllocError> {
+    let Ok(graph) = read(plenty, text) else {
+        rt.exit(101)
+    };
+    let Ok(checked) = check(graph) else {
+        rt.exit(102)
+    };
+    expand(scarce, &checked)
 }
 
-/// The block `m`, which gives the sum of its two inputs.
-fn adder<A: Allocator + Clone>(alloc: A) -> Result<Block<'static, A>, AllocError>
-    ensures { IfOk result (λ b. b ≡ Samples.adder) }
-{
-    let sources = [source(0), source(1)].to_vec(alloc.clone()?)?;
-    let mut nodes = Vec::new(alloc.clone()?);
-    nodes.push(Node {
-        region: Region::Root,
-        kind: Kind::Apply2 { op: Binary::Add },
-        sources,
-    })?;
-    Ok(Block {
-        name: Name { bytes: b"m" },
-        inputs: 2,
-        outputs: 1,
-        nodes,
-        results: [source(2)].to_vec(alloc)?,
-    })
-}
-
-/// The block `g`, which gives its first input and does not use its second one.
-fn first<A: Allocator + Clone>(alloc: A) -> Result<Block<'static, A>, AllocError>
-    ensures { IfOk result (λ b. b ≡ Samples.first) }
-{
-    Ok(Block {
-        name: Name { bytes: b"g" },
-        inputs: 2,
-        outputs: 1,
-        nodes: Vec::new(alloc.clone()?),
-        results: [source(0)].to_vec(alloc)?,
-    })
-}
-
-/// The graph of the block `m` alone.
-fn alone<A: Allocator + Clone>(alloc: A) -> Result<Graph<'static, A>, AllocError>
-    ensures { IfOk result (λ g. g ≡ Samples.alone) }
-{
-    let mut blocks = Vec::new(alloc.clone()?);
-    blocks.push(adder(alloc.clone()?)?)?;
-    Ok(Graph {
-        version: Version::One,
-        arrays: Vec::new(alloc),
-        blocks,
-        main: Name { bytes: b"m" },
-    })
-}
-
-/// The graph of the blocks `g` and `m`, in which `m` is main.
-fn both<A: Allocator + Clone>(alloc: A) -> Result<Graph<'static, A>, AllocError>
-    ensures { IfOk result (λ g. g ≡ Samples.both) }
-{
-    let mut blocks = Vec::new(alloc.clone()?);
-    blocks.push(first(alloc.clone()?)?)?;
-    blocks.push(adder(alloc.clone()?)?)?;
-    Ok(Graph {
-        version: Version::One,
-        arrays: Vec::new(alloc),
-        blocks,
-        main: Name { bytes: b"m" },
-    })
+/// The plan of a text's graph.
+fn whole_plan(rt: &impl Abort, alloc: Global, text: &[u8]) -> Result<Plan<Global>, AllocError> {
+    plan_of(rt, alloc, alloc, text)
 }
 
 fn to(ahead: u32, port: Port) -> Dest {
@@ -119,8 +74,7 @@ fn expect_adder<R: Abort, A: Allocator>(rt: &R, block: &CodeBlock<A>) {
 
 #[test]
 fn adds_two_inputs(rt: HostRuntime) -> Result<(), Fail> {
-    let graph = alone(rt.alloc())?;
-    let plan = expand(rt.alloc(), &graph)?;
+    let plan = whole_plan(&rt, rt.alloc(), ALONE)?;
     assert_eq!(rt; plan.program.main, 0);
     assert_eq!(rt; plan.plain, 1);
     assert_eq!(rt; plan.program.blocks.len(), 1);
@@ -132,8 +86,7 @@ fn adds_two_inputs(rt: HostRuntime) -> Result<(), Fail> {
 /// The unused input goes to the left port of the join, and the signal of the `return` to its right port.
 #[test]
 fn an_unused_input_is_an_end(rt: HostRuntime) -> Result<(), Fail> {
-    let graph = both(rt.alloc())?;
-    let plan = expand(rt.alloc(), &graph)?;
+    let plan = whole_plan(&rt, rt.alloc(), BOTH)?;
     assert_eq!(rt; plan.program.main, 1);
     assert_eq!(rt; plan.plain, 2);
     assert_eq!(rt; plan.program.blocks.len(), 2);
@@ -150,19 +103,14 @@ fn an_unused_input_is_an_end(rt: HostRuntime) -> Result<(), Fail> {
     Ok(())
 }
 
-/// Makes the graph of two blocks, and its plan.
-fn expand_both<A: Allocator + Clone>(alloc: A) -> Result<u32, AllocError> {
-    let graph = both(alloc.clone()?)?;
-    let plan = expand(alloc, &graph)?;
-    Ok(plan.program.main)
-}
-
 /// Each growth is refused in turn: the answer is the error, and the plan once no growth is refused.
 #[test]
 fn refuses_each_growth(rt: HostRuntime) -> Result<(), Fail> {
+    let plenty = Rationed::new(rt.alloc(), 0);
     for at in 1..300u64 {
-        let heap = Rationed::new(rt.alloc(), at);
-        assert_eq!(rt; expand_both(&heap).is_err(), at <= 44);
+        let scarce = Rationed::new(rt.alloc(), at);
+        let plan = plan_of(&rt, &plenty, &scarce, BOTH);
+        assert_eq!(rt; plan.is_err(), at <= 39);
     }
     Ok(())
 }

@@ -1,216 +1,57 @@
-//! Graphs made by hand, and what the checker answers to them.
+//! Texts of graphs, and what the checker answers to them.
 
-use graph::{Array, Block, Graph, Name, Node, Version};
+use graph::Name;
 use graph_check::{CheckFault, CheckFaultKind, check};
-use operators::{Binary, Unary};
+use graph_file::read;
 use rationed::Rationed;
-use semantics::graph::{Kind, Region, Source};
-use std::alloc::{AllocError, Allocator};
+use std::alloc::Global;
 use std::test::Fail;
 
-/// What a line does.
-#[derive(Clone, Copy)]
-enum Does {
-    Lit,
-    Neg,
-    Add,
-    Cond,
-    Enter,
-    Merge(u32),
-    Fetch(&'static [u8]),
-    Store(&'static [u8]),
-    Call(&'static [u8]),
-    StrictCall(&'static [u8]),
-    Loop(&'static [u8], u32),
-}
-
-/// Sources; each is a node and one of its ports.
-type Sources = &'static [(u32, u32)];
-
-type Line = (Region, Does, Sources);
-
-/// The upper arm of node 2.
-const UPPER: Region = Region::Arm {
-    cond: 2,
-    side: true,
-};
-
-/// The lower arm of node 2.
-const LOWER: Region = Region::Arm {
-    cond: 2,
-    side: false,
-};
-
-fn name(bytes: &'static [u8]) -> Name<'static> {
-    Name { bytes }
-}
-
-fn kind_of(does: Does) -> Kind<Name<'static>> {
-    match does {
-        Does::Lit => Kind::Lit { value: 0 },
-        Does::Neg => Kind::Apply1 { op: Unary::Neg },
-        Does::Add => Kind::Apply2 { op: Binary::Add },
-        Does::Cond => Kind::Cond,
-        Does::Enter => Kind::Enter,
-        Does::Merge(cond) => Kind::Merge { cond },
-        Does::Fetch(array) => Kind::Fetch { array: name(array) },
-        Does::Store(array) => Kind::Store { array: name(array) },
-        Does::Call(block) => Kind::Call { block: name(block) },
-        Does::StrictCall(block) => Kind::StrictCall { block: name(block) },
-        Does::Loop(block, bound) => Kind::Loop {
-            block: name(block),
-            bound,
-        },
-    }
-}
-
-fn sources_of<A: Allocator>(alloc: A, pairs: &[(u32, u32)]) -> Result<Vec<Source, A>, AllocError> {
-    let mut sources = Vec::new(alloc);
-    for (node, port) in pairs {
-        sources.push(Source {
-            node: *node,
-            port: *port,
-        })?;
-    }
-    Ok(sources)
-}
-
-fn node_of<A: Allocator>(alloc: A, line: Line) -> Result<Node<'static, A>, AllocError> {
-    let (region, does, pairs) = line;
-    Ok(Node {
-        region,
-        kind: kind_of(does),
-        sources: sources_of(alloc, pairs)?,
-    })
-}
-
-fn nodes_of<A: Allocator + Clone>(
-    alloc: A,
-    lines: &[Line],
-) -> Result<Vec<Node<'static, A>, A>, AllocError> {
-    let mut nodes = Vec::new(alloc.clone()?);
-    for line in lines {
-        nodes.push(node_of(alloc.clone()?, *line)?)?;
-    }
-    Ok(nodes)
-}
-
-/// A block: its name, its numbers of inputs and outputs, its lines and its results.
-#[derive(Clone, Copy)]
-struct Made<'t> {
-    name: &'static [u8],
-    inputs: u32,
-    outputs: u32,
-    lines: &'t [Line],
-    results: Sources,
-}
-
-fn block_of<A: Allocator + Clone>(
-    alloc: A,
-    made: Made<'_>,
-) -> Result<Block<'static, A>, AllocError> {
-    let nodes = nodes_of(alloc.clone()?, made.lines)?;
-    Ok(Block {
-        name: name(made.name),
-        inputs: made.inputs,
-        outputs: made.outputs,
-        nodes,
-        results: sources_of(alloc, made.results)?,
-    })
-}
-
-/// The array `A` and a second one.
-fn arrays_of<A: Allocator>(
-    alloc: A,
-    second: &'static [u8],
-) -> Result<Vec<Array<'static>, A>, AllocError> {
-    let mut arrays = Vec::new(alloc);
-    for bytes in [b"A".as_slice(), second] {
-        arrays.push(Array {
-            name: name(bytes),
-            len: 1,
-        })?;
-    }
-    Ok(arrays)
-}
+/// The arrays `A` and `B`.
+const ARRAYS: &[u8] = b"etsgraph 2\narray A 1\narray B 1\n";
 
 /// The blocks `g`, with 1 input and 1 output, and `b`, with 1 input and 2 outputs.
-fn blocks_of<A: Allocator + Clone>(
-    alloc: A,
-    last: Made<'_>,
-) -> Result<Vec<Block<'static, A>, A>, AllocError> {
-    let mut blocks = Vec::new(alloc.clone()?);
-    for (name, outputs, results) in [
-        (b"g".as_slice(), 1, [(0, 0)].as_slice()),
-        (b"b".as_slice(), 2, [(0, 0), (0, 0)].as_slice()),
-    ] {
-        let made = Made {
-            name,
-            inputs: 1,
-            outputs,
-            lines: &[],
-            results,
-        };
-        blocks.push(block_of(alloc.clone()?, made)?)?;
-    }
-    blocks.push(block_of(alloc, last)?)?;
-    Ok(blocks)
-}
+const BLOCKS: &[u8] = b"block g 1 1\nout 0.0\nend\nblock b 1 2\nout 0.0 0.0\nend\n";
 
-/// A graph with two arrays, the blocks `g` and `b`, and this block.
-fn graph_of<A: Allocator + Clone>(
-    alloc: A,
-    second: &'static [u8],
-    last: Made<'_>,
-    main: &'static [u8],
-) -> Result<Graph<'static, A>, AllocError> {
-    let arrays = arrays_of(alloc.clone()?, second)?;
-    Ok(Graph {
-        version: Version::Two,
-        arrays,
-        blocks: blocks_of(alloc, last)?,
-        main: name(main),
-    })
+/// A block with each kind of node, up to the bound of its loop.
+const UP_TO_BOUND: &[u8] =
+    b"block m 1 1\n- lit 0 0.0\n- cond 1.0\n2+ enter 0.0\n2- enter 1.0\n2- neg 4.0\n- merge 2 3.0 5.0\n- add 6.0 1.0\n- fetch A 7.0\n- store B 8.0 0.0\n- call g 9.0\n- scall g 10.0\n- loop b ";
+
+const BEHIND_BOUND: &[u8] = b" 11.0\nout 12.0\nend\nmain m\n";
+
+/// The text of these pieces.
+fn joined(alloc: Global, pieces: &[&[u8]]) -> Result<Vec<u8>, Fail> {
+    let mut text = Vec::new(alloc);
+    for piece in pieces {
+        text.extend_from_slice(piece)?;
+    }
+    Ok(text)
 }
 
 /// A graph with each kind of node, and with this bound.
-fn whole<A: Allocator + Clone>(alloc: A, bound: u32) -> Result<Graph<'static, A>, AllocError> {
-    let root = Region::Root;
-    let lines = [
-        (root, Does::Lit, [(0, 0)].as_slice()),
-        (root, Does::Cond, [(1, 0)].as_slice()),
-        (UPPER, Does::Enter, [(0, 0)].as_slice()),
-        (LOWER, Does::Enter, [(1, 0)].as_slice()),
-        (LOWER, Does::Neg, [(4, 0)].as_slice()),
-        (root, Does::Merge(2), [(3, 0), (5, 0)].as_slice()),
-        (root, Does::Add, [(6, 0), (1, 0)].as_slice()),
-        (root, Does::Fetch(b"A"), [(7, 0)].as_slice()),
-        (root, Does::Store(b"B"), [(8, 0), (0, 0)].as_slice()),
-        (root, Does::Call(b"g"), [(9, 0)].as_slice()),
-        (root, Does::StrictCall(b"g"), [(10, 0)].as_slice()),
-        (root, Does::Loop(b"b", bound), [(11, 0)].as_slice()),
-    ];
-    let last = Made {
-        name: b"m",
-        inputs: 1,
-        outputs: 1,
-        lines: &lines,
-        results: &[(12, 0)],
-    };
-    graph_of(alloc, b"B", last, b"m")
+fn whole(alloc: Global, bound: &[u8]) -> Result<Vec<u8>, Fail> {
+    joined(alloc, &[ARRAYS, BLOCKS, UP_TO_BOUND, bound, BEHIND_BOUND])
+}
+
+/// The fault of the graph of these pieces.
+fn fault_of(alloc: Global, pieces: &[&[u8]]) -> Result<Option<CheckFault>, Fail> {
+    let text = joined(alloc, pieces)?;
+    let graph = read(alloc, &text)?;
+    Ok(check(graph).err())
 }
 
 #[test]
 fn accepts_each_kind(rt: HostRuntime) -> Result<(), Fail> {
-    match check(whole(rt.alloc(), 64)?) {
+    let text = whole(rt.alloc(), b"64")?;
+    match check(read(rt.alloc(), &text)?) {
         Err(_) => assert!(rt; false, "refused"),
         Ok(checked) => {
             assert_eq!(rt; checked.graph().blocks.len(), 3);
             assert_eq!(rt; checked.main_place(), 2);
-            assert_eq!(rt; checked.place_of_block(&name(b"b")), 1);
-            assert_eq!(rt; checked.place_of_block(&name(b"A")), 3);
-            assert_eq!(rt; checked.place_of_array(&name(b"B")), 1);
-            assert_eq!(rt; checked.place_of_array(&name(b"C")), 2);
+            assert_eq!(rt; checked.place_of_block(&Name { bytes: b"b" }), 1);
+            assert_eq!(rt; checked.place_of_block(&Name { bytes: b"A" }), 3);
+            assert_eq!(rt; checked.place_of_array(&Name { bytes: b"B" }), 1);
+            assert_eq!(rt; checked.place_of_array(&Name { bytes: b"C" }), 2);
         }
     }
     Ok(())
@@ -218,184 +59,131 @@ fn accepts_each_kind(rt: HostRuntime) -> Result<(), Fail> {
 
 #[test]
 fn tells_bad_bounds(rt: HostRuntime) -> Result<(), Fail> {
-    for bound in [0, 1, 65, 4_294_967_295] {
+    for (i, bound) in [b"0".as_slice(), b"1", b"65", b"4294967295"]
+        .iter()
+        .enumerate()
+    {
         let fault = CheckFault {
             kind: CheckFaultKind::BadBound,
             block: Some(2),
             node: Some(12),
         };
-        assert_eq!(rt;
-            check(whole(rt.alloc(), bound)?).err(),
-            Some(fault),
-            "at {bound}"
-        );
+        let pieces = [ARRAYS, BLOCKS, UP_TO_BOUND, bound, BEHIND_BOUND];
+        assert_eq!(rt; fault_of(rt.alloc(), &pieces)?, Some(fault), "case {i}");
     }
     Ok(())
 }
+
+/// The graph's first lines, its last block without nodes and results, main, and the fault.
+type Names = (
+    &'static [u8],
+    &'static [u8],
+    &'static [u8],
+    CheckFaultKind,
+    Option<u64>,
+);
+
+const DOUBLE: &[u8] = b"etsgraph 2\narray A 1\narray A 1\n";
+
+static NAMES: [Names; 5] = [
+    (DOUBLE, b"m 1 1", b"m", CheckFaultKind::SameName, None),
+    (ARRAYS, b"g 1 1", b"g", CheckFaultKind::SameName, Some(2)),
+    (ARRAYS, b"A 1 1", b"m", CheckFaultKind::NoSuchName, None),
+    (ARRAYS, b"m 0 0", b"m", CheckFaultKind::NoInput, Some(2)),
+    (ARRAYS, b"m 1 0", b"m", CheckFaultKind::NoOutput, Some(2)),
+];
 
 #[test]
 fn tells_faults_of_names(rt: HostRuntime) -> Result<(), Fail> {
-    for (second, last, main, inputs, outputs, kind, block) in [
-        (b"A", b"m", b"m", 1, 1, CheckFaultKind::SameName, None),
-        (b"B", b"g", b"g", 1, 1, CheckFaultKind::SameName, Some(2)),
-        (b"B", b"A", b"m", 1, 1, CheckFaultKind::NoSuchName, None),
-        (b"B", b"m", b"m", 0, 0, CheckFaultKind::NoInput, Some(2)),
-        (b"B", b"m", b"m", 1, 0, CheckFaultKind::NoOutput, Some(2)),
-    ] {
-        let made = Made {
-            name: last,
-            inputs,
-            outputs,
-            lines: &[],
-            results: &[],
-        };
+    for (i, (arrays, head, main, kind, block)) in NAMES.iter().enumerate() {
         let fault = CheckFault {
-            kind,
-            block,
+            kind: *kind,
+            block: *block,
             node: None,
         };
-        assert_eq!(rt;
-            check(graph_of(rt.alloc(), second, made, main)?).err(),
-            Some(fault)
-        );
+        let pieces = [
+            *arrays,
+            BLOCKS,
+            b"block ",
+            head,
+            b"\nout\nend\nmain ",
+            main,
+            b"\n",
+        ];
+        assert_eq!(rt; fault_of(rt.alloc(), &pieces)?, Some(fault), "case {i}");
     }
     Ok(())
 }
 
-/// The lines and the result of a block of 2 inputs and 1 output, and the fault of one of its nodes.
-type Case = (&'static [Line], Sources, CheckFaultKind, u64);
-
-const ROOT: Region = Region::Root;
+/// The node lines and the line of outputs of a block of 2 inputs and 1 output, and the fault of one of its nodes.
+type Case = (&'static [u8], CheckFaultKind, u64);
 
 static CASES: [Case; 16] = [
+    (b"- fetch g 0.0\nout 2.0\n", CheckFaultKind::NoSuchName, 2),
+    (b"- call g 0.0 1.0\nout 2.0\n", CheckFaultKind::Arity, 2),
+    (b"- loop g 2 0.0\nout 2.0\n", CheckFaultKind::Arity, 2),
+    (b"- enter 0.0\nout 0.0\n", CheckFaultKind::BadRegion, 2),
     (
-        &[(ROOT, Does::Fetch(b"g"), &[(0, 0)])],
-        &[(2, 0)],
-        CheckFaultKind::NoSuchName,
-        2,
-    ),
-    (
-        &[(ROOT, Does::Call(b"g"), &[(0, 0), (1, 0)])],
-        &[(2, 0)],
-        CheckFaultKind::Arity,
-        2,
-    ),
-    (
-        &[(ROOT, Does::Loop(b"g", 2), &[(0, 0)])],
-        &[(2, 0)],
-        CheckFaultKind::Arity,
-        2,
-    ),
-    (
-        &[(ROOT, Does::Enter, &[(0, 0)])],
-        &[(0, 0)],
+        b"- merge 1 0.0 1.0\nout 0.0\n",
         CheckFaultKind::BadRegion,
         2,
     ),
+    (b"2+ lit 0 0.0\nout 0.0\n", CheckFaultKind::BadRegion, 2),
     (
-        &[(ROOT, Does::Merge(1), &[(0, 0), (1, 0)])],
-        &[(0, 0)],
-        CheckFaultKind::BadRegion,
-        2,
-    ),
-    (
-        &[(UPPER, Does::Lit, &[(0, 0)])],
-        &[(0, 0)],
-        CheckFaultKind::BadRegion,
-        2,
-    ),
-    (
-        &[(ROOT, Does::Cond, &[(0, 0)]), (ROOT, Does::Neg, &[(2, 0)])],
-        &[(0, 0)],
+        b"- cond 0.0\n- neg 2.0\nout 0.0\n",
         CheckFaultKind::NoSuchPort,
         3,
     ),
     (
-        &[(ROOT, Does::Cond, &[(0, 0)]), (UPPER, Does::Neg, &[(0, 0)])],
-        &[(0, 0)],
+        b"- cond 0.0\n2+ neg 0.0\nout 0.0\n",
         CheckFaultKind::CrossesRegion,
         3,
     ),
     (
-        &[
-            (ROOT, Does::Cond, &[(0, 0)]),
-            (UPPER, Does::Enter, &[(0, 0)]),
-            (LOWER, Does::Enter, &[(0, 0)]),
-            (ROOT, Does::Merge(2), &[(4, 0), (3, 0)]),
-        ],
-        &[(5, 0)],
+        b"- cond 0.0\n2+ enter 0.0\n2- enter 0.0\n- merge 2 4.0 3.0\nout 5.0\n",
         CheckFaultKind::CrossesRegion,
         5,
     ),
     (
-        &[
-            (ROOT, Does::Cond, &[(0, 0)]),
-            (UPPER, Does::Enter, &[(0, 0)]),
-        ],
-        &[(3, 0)],
+        b"- cond 0.0\n2+ enter 0.0\nout 3.0\n",
         CheckFaultKind::OutNotRoot,
         4,
     ),
-    (
-        &[(ROOT, Does::Lit, &[(0, 0)])],
-        &[],
-        CheckFaultKind::Arity,
-        3,
-    ),
-    (&[], &[(2, 0)], CheckFaultKind::SourceNotEarlier, 2),
-    (&[], &[(1, 1)], CheckFaultKind::NoSuchPort, 2),
+    (b"- lit 0 0.0\nout\n", CheckFaultKind::Arity, 3),
+    (b"out 2.0\n", CheckFaultKind::SourceNotEarlier, 2),
+    (b"out 1.1\n", CheckFaultKind::NoSuchPort, 2),
     // Of two faults the first one is told; of two bad sources, the left one.
     (
-        &[(ROOT, Does::Add, &[(2, 0), (0, 1)])],
-        &[(7, 7)],
+        b"- add 2.0 0.1\nout 7.7\n",
         CheckFaultKind::SourceNotEarlier,
         2,
     ),
-    (
-        &[(ROOT, Does::Add, &[(0, 1), (2, 0)])],
-        &[(7, 7)],
-        CheckFaultKind::NoSuchPort,
-        2,
-    ),
-    (
-        &[(UPPER, Does::Loop(b"A", 1), &[(9, 9), (9, 9)])],
-        &[],
-        CheckFaultKind::BadRegion,
-        2,
-    ),
+    (b"- add 0.1 2.0\nout 7.7\n", CheckFaultKind::NoSuchPort, 2),
+    (b"2+ loop A 1 9.9 9.9\nout\n", CheckFaultKind::BadRegion, 2),
 ];
 
 #[test]
 fn tells_faults_of_nodes(rt: HostRuntime) -> Result<(), Fail> {
-    for (i, (lines, results, kind, node)) in CASES.iter().enumerate() {
-        let made = Made {
-            name: b"m",
-            inputs: 2,
-            outputs: 1,
-            lines,
-            results,
-        };
+    for (i, (lines, kind, node)) in CASES.iter().enumerate() {
         let fault = CheckFault {
             kind: *kind,
             block: Some(2),
             node: Some(*node),
         };
-        assert_eq!(rt;
-            check(graph_of(rt.alloc(), b"B", made, b"m")?).err(),
-            Some(fault),
-            "case {i}"
-        );
+        let pieces = [ARRAYS, BLOCKS, b"block m 2 1\n", lines, b"end\nmain m\n"];
+        assert_eq!(rt; fault_of(rt.alloc(), &pieces)?, Some(fault), "case {i}");
     }
     Ok(())
 }
 
 #[test]
 fn refuses_each_growth(rt: HostRuntime) -> Result<(), Fail> {
+    let text = whole(rt.alloc(), b"2")?;
     let mut refused = 0u64;
     let mut accepted = 0u64;
     for growth in 1..80u64 {
         let heap = Rationed::new(rt.alloc(), growth);
-        if let Ok(graph) = whole(&heap, 2) {
+        if let Ok(graph) = read(&heap, &text) {
             match check(graph) {
                 Ok(_) => accepted = accepted.wrapping_add(1),
                 Err(fault) => {

@@ -1,6 +1,6 @@
 //! Profiles as texts and pictures.
 
-use graph::{Graph, Name, Version};
+use graph_file::read;
 use oracle::{MeanEnd, WaveReport};
 use profile_text::{MachineRow, write_profile, write_svg};
 use std::alloc::{AllocError, Global};
@@ -32,14 +32,7 @@ const BARS: &[u8] = b"<rect x=\"0\" width=\"160\" height=\"300\"/>
 ";
 
 /// A graph without blocks and arrays.
-fn empty_graph(alloc: Global) -> Graph<'static, Global> {
-    Graph {
-        version: Version::Two,
-        arrays: Vec::new(alloc),
-        blocks: Vec::new(alloc),
-        main: Name { bytes: b"m" },
-    }
-}
+const EMPTY: &[u8] = b"etsgraph 2\nmain m\n";
 
 fn waves_of(alloc: Global, counts: &[u64]) -> Result<WaveReport<Global>, AllocError> {
     Ok(WaveReport {
@@ -66,7 +59,7 @@ fn writes_a_profile(rt: HostRuntime) -> Result<(), Fail> {
             frames: 1,
         },
     ];
-    let graph = empty_graph(rt.alloc());
+    let graph = read(rt.alloc(), EMPTY)?;
     let waves = waves_of(rt.alloc(), TREE)?;
     let mut text = Vec::new(rt.alloc());
     write_profile(&mut text, &graph, &waves, &rows)?;
@@ -76,7 +69,7 @@ fn writes_a_profile(rt: HostRuntime) -> Result<(), Fail> {
 
 #[test]
 fn without_waves_the_parallelism_is_nothing(rt: HostRuntime) -> Result<(), Fail> {
-    let graph = empty_graph(rt.alloc());
+    let graph = read(rt.alloc(), EMPTY)?;
     let waves = waves_of(rt.alloc(), &[])?;
     let mut text = Vec::new(rt.alloc());
     write_profile(&mut text, &graph, &waves, &[])?;

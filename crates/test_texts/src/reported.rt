@@ -3,7 +3,7 @@
 ghost use Rattle.std.specs.Prelude.{◌<◌};
 
 use arrayvec::ArrayVec;
-use graph::{Array, Graph, Name, Version};
+use graph_file::read;
 use oracle::{Full, MeanEnd, MeanReport};
 use report_text::{write_meaning, write_report};
 use schedule::report::Report;
@@ -34,23 +34,7 @@ fn fault(kind: FaultKind) -> Value {
 }
 
 /// A graph with two arrays, of three cells and of two.
-fn two_arrays(alloc: Global) -> Result<Graph<'static, Global>, AllocError> {
-    let mut arrays = Vec::new(alloc);
-    arrays.push(Array {
-        name: Name { bytes: b"x" },
-        len: 3,
-    })?;
-    arrays.push(Array {
-        name: Name { bytes: b"yy" },
-        len: 2,
-    })?;
-    Ok(Graph {
-        version: Version::Two,
-        arrays,
-        blocks: Vec::new(alloc),
-        main: Name { bytes: b"m" },
-    })
-}
+const TWO_ARRAYS: &[u8] = b"etsgraph 2\narray x 3\narray yy 2\nmain m\n";
 
 const COUNTS: &[u8] = b"output 0 -7
 output 1 -
@@ -96,7 +80,7 @@ fn report_of(alloc: Global, end: End) -> Result<Report<Global>, AllocError> {
 #[test]
 fn writes_reports(rt: HostRuntime) -> Result<(), Fail> {
     let alloc = rt.alloc();
-    let graph = two_arrays(alloc)?;
+    let graph = read(alloc, TWO_ARRAYS)?;
     for (end, last) in [
         (End::Rest, b"end Rest\n".as_slice()),
         (End::Starved, b"end Starved\n"),
@@ -118,7 +102,7 @@ fn writes_reports(rt: HostRuntime) -> Result<(), Fail> {
 #[test]
 fn writes_meanings(rt: HostRuntime) -> Result<(), Fail> {
     let alloc = rt.alloc();
-    let graph = two_arrays(alloc)?;
+    let graph = read(alloc, TWO_ARRAYS)?;
     for (end, wanted) in [
         (
             MeanEnd::Rest,

@@ -1,4 +1,5 @@
 use Rattle.std.proofs.Common.{ap, ◌∙◌, sym, subst, List, ℕ}
+use Rattle.semantics.specs.Graph.{Graph}
 use Rattle.semantics.specs.Plan.{Plan}
 use Rattle.slot_alloc.specs.Assigned.{IsAssigned}
 use Rattle.select.specs.Emitted.{code_of}
@@ -13,8 +14,9 @@ returns-in-Ok-emit g c =
     let same = c.in-Ok.ensures in
     let A : Plan → Type 0 = λ p. IsAssigned p slots in
     let E : Plan → Type 0 = λ p. IsEmittable p slots in
-    compiled c.args.graph.now c.requires.limits c.requires.well_formed slots
-    (subst A same c.in-Ok-assign.ensures.assigned) version c.version_of.ensures c.in-Ok-emit.code
+    let number = c.version_of.ensures ∙ ap (λ (x : Graph). x.version) c.graph.ensures.same in
+    compiled c.args.checked.now c.graph.ensures.limits c.graph.ensures.well slots
+    (subst A same c.in-Ok-assign.ensures.assigned) version number c.in-Ok-emit.code
     (c.in-Ok-emit.ensures.program ∙ ap (λ (p : Plan). code_of version p slots) same)
-    (same_literals c.args.graph.now _ c.in-Ok-emit.code same c.in-Ok-emit.ensures.literals)
+    (same_literals c.args.checked.now _ c.in-Ok-emit.code same c.in-Ok-emit.ensures.literals)
     (λ fit. c.in-Ok-emit.ensures.spelling (subst E (sym same) fit))

@@ -1,8 +1,17 @@
-use Rattle.graph_file.proofs.Ends.{is_found, is_only}
+use Rattle.std.proofs.Common.{Ok, Err, sym, subst, ◌∙◌}
+use Rattle.semantics.specs.Text.{IsText}
+use Rattle.graph_file.proofs.Sound.{text_takes}
+use Rattle.graph_file.proofs.Ends.{is_only}
 use Rattle.graph_file.proofs.reading.read.Goals as goal
 
-pub returns-clause-found : goal.returns-clause-found
-returns-clause-found g c = is_found c.args.text.now c.read_text.result c.read_text.ensures
+pub graph-requires : goal.graph-requires
+graph-requires g c = record { limits = (text_takes c.args.text.now c.in-Ok.whole c.in-Ok.ensures).1 }
 
-pub returns-clause-only : goal.returns-clause-only
-returns-clause-only g c = is_only c.args.text.now c.read_text.result c.read_text.ensures
+pub returns-in-Ok-clause-found : goal.returns-in-Ok-clause-found
+returns-in-Ok-clause-found g c = subst (IsText c.args.text.now) (sym c.graph.ensures) (text_takes c.args.text.now c.in-Ok.whole c.in-Ok.ensures)
+
+pub returns-in-Ok-clause-only : goal.returns-in-Ok-clause-only
+returns-in-Ok-clause-only g c = λ h is. c.graph.ensures ∙ is_only c.args.text.now (Ok c.in-Ok.whole) c.in-Ok.ensures h is
+
+pub returns-in-Err-clause-only : goal.returns-in-Err-clause-only
+returns-in-Err-clause-only g c = λ h is. is_only c.args.text.now (Err c.in-Err.fault) c.in-Err.ensures h is

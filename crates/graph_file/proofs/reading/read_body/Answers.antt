@@ -17,7 +17,7 @@ pub returns-in-Ok-end : goal.returns-in-Ok-end
 returns-in-Ok-end g c =
     let l = c.loop-text in
     let total = body_from c.args.version c.args.body.now in
-    ends_with l.line (end_from l.state.0 l.state.1 c.in-Some.text.now) total c.in-Ok-end.graph
+    ends_with l.line (end_from l.state.0 l.state.1 c.in-Some.text.now) total c.in-Ok-end.whole
     (last_line l.line l.state.0 l.state.1 l.lines c.in-Some.text.now c.in-Some.rest total c.in-Some.ensures (sym c.if-has.ensures) l.invariant.so_far) c.in-Ok-end.ensures
 
 pub returns-in-Err-end : goal.returns-in-Err-end

@@ -6,7 +6,7 @@ use Rattle.oracle.proofs.Whole.{runs_end, reports_true}
 use Rattle.oracle.proofs.runs.mean.Goals as goal
 
 pub run_to_end-requires-clause-few : goal.run_to_end-requires-clause-few
-run_to_end-requires-clause-few g c = few_cells c.args.checked.now c.requires.limits
+run_to_end-requires-clause-few g c = few_cells c.args.checked.now c.graph.ensures.limits
 
 pub run_to_end-requires-clause-comes_to_an_end : goal.run_to_end-requires-clause-comes_to_an_end
 run_to_end-requires-clause-comes_to_an_end g c =
@@ -14,7 +14,7 @@ run_to_end-requires-clause-comes_to_an_end g c =
     let fit : length c.args.inputs.now ≡ inputs_at checked (main_place checked) = c.if-inputs-input_count.false ∙ c.input_count.ensures
     ∙ ap (λ g. inputs_at g c.main_place.result) c.graph.ensures.same ∙ ap (inputs_at checked) c.main_place.ensures in
     let low = c.ranges.steps.fits in
-    let end = runs_end checked c.args.inputs.now c.args.steps c.requires.limits c.graph.ensures.well fit (omega (arith, low)) in
+    let end = runs_end checked c.args.inputs.now c.args.steps c.graph.ensures.limits c.graph.ensures.well fit (omega (arith, low)) in
     λ e. let no : Some end.0 ≡ None = sym end.1 ∙ e in cc
 
 pub returns-in-Ok-clause-meant : goal.returns-in-Ok-clause-meant
@@ -24,4 +24,4 @@ returns-in-Ok-clause-meant g c =
     let fit : length c.args.inputs.now ≡ inputs_at checked (main_place checked) = c.if-inputs-input_count.false ∙ c.input_count.ensures
     ∙ ap (λ g. inputs_at g c.main_place.result) c.graph.ensures.same ∙ ap (inputs_at checked) c.main_place.ensures in
     let low = c.ranges.steps.fits in
-    reports_true checked c.args.inputs.now c.args.steps r.end r.outputs.items r.cells.items c.requires.limits c.graph.ensures.well fit (omega (arith, low)) c.in-Ok.ensures
+    reports_true checked c.args.inputs.now c.args.steps r.end r.outputs.items r.cells.items c.graph.ensures.limits c.graph.ensures.well fit (omega (arith, low)) c.in-Ok.ensures
