@@ -127,58 +127,22 @@ pub(crate) fn op_of(name: Name, bytes: &[u8]) -> Option<Op>
     match name {
         Name::Apply1(op) => no_operand(Op::Apply1 { op }, bytes),
         Name::Apply2(op) => binary(op, bytes),
-        Name::Lit => {
-            let literal = literal_behind(bytes)?;
-            Some(Op::Lit { literal })
-        }
+        Name::Lit => literal_behind(bytes).map(|literal| Op::Lit { literal }),
         Name::Copy => no_operand(Op::Copy, bytes),
         Name::Sync => no_operand(Op::Sync, bytes),
         Name::Switch => no_operand(Op::Switch, bytes),
-        Name::Fetch => {
-            let array = small_behind(bytes, b'a')?;
-            Some(Op::Fetch { array })
-        }
-        Name::Store => {
-            let array = small_behind(bytes, b'a')?;
-            Some(Op::Store { array })
-        }
+        Name::Fetch => small_behind(bytes, b'a').map(|array| Op::Fetch { array }),
+        Name::Store => small_behind(bytes, b'a').map(|array| Op::Store { array }),
         Name::Frame => no_operand(Op::Frame, bytes),
-        Name::Link => {
-            let block = wide_behind(bytes, b'b')?;
-            Some(Op::Link { block })
-        }
-        Name::Send => {
-            let (block, entry) = entry_behind(bytes)?;
-            Some(Op::Send { block, entry })
-        }
-        Name::Return => {
-            let offset = small_behind(bytes, b'o')?;
-            Some(Op::Return { offset })
-        }
-        Name::Ask => {
-            let offset = small_behind(bytes, b'o')?;
-            Some(Op::Ask { offset })
-        }
-        Name::Open => {
-            let bound = small_behind(bytes, b'k')?;
-            Some(Op::Open { bound })
-        }
-        Name::Take => {
-            let bound = small_behind(bytes, b'k')?;
-            Some(Op::Take { bound })
-        }
-        Name::Give => {
-            let bound = small_behind(bytes, b'k')?;
-            Some(Op::Give { bound })
-        }
-        Name::Drain => {
-            let bound = small_behind(bytes, b'k')?;
-            Some(Op::Drain { bound })
-        }
-        Name::Release => {
-            let offset = small_behind(bytes, b'o')?;
-            Some(Op::Release { offset })
-        }
+        Name::Link => wide_behind(bytes, b'b').map(|block| Op::Link { block }),
+        Name::Send => entry_behind(bytes).map(|(block, entry)| Op::Send { block, entry }),
+        Name::Return => small_behind(bytes, b'o').map(|offset| Op::Return { offset }),
+        Name::Ask => small_behind(bytes, b'o').map(|offset| Op::Ask { offset }),
+        Name::Open => small_behind(bytes, b'k').map(|bound| Op::Open { bound }),
+        Name::Take => small_behind(bytes, b'k').map(|bound| Op::Take { bound }),
+        Name::Give => small_behind(bytes, b'k').map(|bound| Op::Give { bound }),
+        Name::Drain => small_behind(bytes, b'k').map(|bound| Op::Drain { bound }),
+        Name::Release => small_behind(bytes, b'o').map(|offset| Op::Release { offset }),
     }
 }
 

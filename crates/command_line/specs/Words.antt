@@ -147,9 +147,9 @@ abbrev pub first_number : Option ℕ → Text → Option ℕ
 first_number (Some before) value = None
 first_number None value = number_of value
 
-abbrev pub with_mode : Given → Option (Option Mode) → Text → Option Given
-with_mode g (Some before) value = None
-with_mode g None value = Some (record g { mode = Some (mode_named value) })
+abbrev pub first_mode : Option (Option Mode) → Text → Option (Option Mode)
+first_mode (Some before) value = None
+first_mode None value = Some (mode_named value)
 
 abbrev pub format_named : Text → Option Format
 format_named word =
@@ -187,7 +187,7 @@ abbrev pub with_option : Given → OptionName → Text → Option Given
 with_option g OptionName.Elements value = option_map (λ n. record g { elements = Some n }) (first_number g.elements value)
 with_option g OptionName.Frames value = option_map (λ n. record g { frames = Some n }) (first_number g.frames value)
 with_option g OptionName.Steps value = option_map (λ n. record g { steps = Some n }) (first_number g.steps value)
-with_option g OptionName.Mode value = with_mode g g.mode value
+with_option g OptionName.Mode value = option_map (λ m. record g { mode = Some m }) (first_mode g.mode value)
 with_option g OptionName.Last value = option_map (λ n. record g { last = Some n }) (first_number g.last value)
 with_option g OptionName.Count value = option_map (λ n. record g { count = Some n }) (first_number g.count value)
 with_option g OptionName.Seed value = option_map (λ n. record g { seed = Some n }) (first_number g.seed value)

@@ -90,13 +90,10 @@ impl Given {
                 steps: Some(first_number(self.steps, value)?),
                 ..self
             }),
-            OptionName::Mode => match self.mode {
-                Some(_before) => None,
-                None => Some(Given {
-                    mode: Some(mode_named(value)),
-                    ..self
-                }),
-            },
+            OptionName::Mode => Some(Given {
+                mode: Some(first_mode(self.mode, value)?),
+                ..self
+            }),
             OptionName::Last => Some(Given {
                 last: Some(first_number(self.last, value)?),
                 ..self
@@ -185,6 +182,16 @@ fn number_of(text: &str) -> Option<u64>
     match text.parse::<u64>() {
         Ok(number) => Some(number),
         Err(_fault) => None,
+    }
+}
+
+/// What the value says of the mode, where nothing was said before: the mode that it names, if it names one.
+fn first_mode(before: Option<Option<Mode>>, value: &str) -> Option<Option<Mode>>
+    ensures { result ≡ first_mode before value.now }
+{
+    match before {
+        Some(_before) => None,
+        None => Some(mode_named(value)),
     }
 }
 

@@ -184,7 +184,7 @@ fn trace_command<'a>(alloc: Global) -> Result<Command<'a>, AllocError> {
         .long("last")
         .value_name("N")
         .value_parser(value_parser!(u64))
-        .help("only so many events, the last ones of the run");
+        .help("only the last N events of the run");
     let format = Arg::new(alloc, "format")
         .long("format")
         .value_name("FORMAT")

@@ -32,7 +32,7 @@ held_in Held.Tokens x = x.tokens
 held_in Held.Slots x = x.full_slots
 held_in Held.Frames x = x.frames_out
 
--- What a run with so many elements took: it is a run in rounds, its rounds have room for its events, and the tokens, the full slots and the
+-- What a run on that number of elements took: it is a run in rounds, its rounds have room for its events, and the tokens, the full slots and the
 -- frames out are the most that there were at any moment. At the start there are a token for each input and one more, and one
 -- frame is out.
 pub record IsRow (text : List ℕ) (inputs : List ℤ) (o : RunOptions) (elements : ℕ) (row : MachineRow) : Type 0 where

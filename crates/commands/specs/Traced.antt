@@ -25,7 +25,7 @@ pub record IsTraceOf (input : List ℕ) (o : RunOptions) (g : Graph) (bytes : Li
   pub named : o.mode ≡ Some mode
   pub watched : IsWatched mode text g bytes inputs (config_of o) false r moments
 
--- how many of so many events stand before the last ones that are asked for
+-- how many of `count` events stand before the last ones that are asked for
 abbrev pub first_of : ℕ → Option ℕ → ℕ
 first_of count None = 0
 first_of count (Some last) = count - last

@@ -92,7 +92,7 @@ fn most_held(held: Held, first: u64, moments: &[Moment]) -> u64
     most
 }
 
-/// A number of rounds that is enough for so many events: the one that was counted, unless that is too small.
+/// A number of rounds that is enough for that number of events: the one that was counted, unless that is too small.
 fn enough_rounds(counted: u64, events: u64, elements: u64) -> u64
     requires { 0 < elements }
     ensures { events ≤ result * elements }

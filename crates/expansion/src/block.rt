@@ -5,6 +5,8 @@ ghost use Rattle.semantics.specs.Graph.{node_count};
 ghost use Rattle.semantics.specs.Meaning.{origin_in};
 ghost use Rattle.expansion.specs.Builds as Builds;
 ghost use Rattle.expansion.specs.Ends as Ends;
+ghost use Rattle.expansion.specs.Rows as Rows;
+ghost use Rattle.expansion.specs.Triggers as Triggers;
 ghost use Rattle.expansion.specs.Blocks as Blocks;
 
 use crate::builder::{Builder, Outlet};
@@ -56,6 +58,41 @@ fn answered<A: Allocator + Clone>(
     } else {
         rows::operator(builder, op, origin, region, sources)
     }
+}
+
+/// An operator, or a literal.
+fn operated<A: Allocator + Clone>(
+    builder: &mut Builder<A>,
+    scope: &Scope<'_, A>,
+    op: Op,
+    number: u32,
+    region: Region,
+    sources: &[Source],
+) -> Result<(), AllocError>
+    requires room { length builder.old.instrs < 2 ^ 27 }
+    requires number { number < 1024 }
+    ensures exact { OnOk result (builder.new ≡ Rows.operator builder.old op (origin_in scope.now.version (Some scope.now.number) number) region sources.now) }
+    ensures longer { OnOk result (length builder.new.instrs ≤ length builder.old.instrs + 1) }
+{
+    let origin = origin_of(scope.version, scope.number, number);
+    rows::operator(builder, op, origin, region, sources)
+}
+
+/// A conditional. Where calls in its arms need a trigger, it gives them one.
+fn divided<A: Allocator + Clone>(
+    builder: &mut Builder<A>,
+    scope: &Scope<'_, A>,
+    number: u32,
+    region: Region,
+    sources: &[Source],
+) -> Result<(), AllocError>
+    requires room { length builder.old.instrs < 2 ^ 27 }
+    requires number { number < 1024 }
+    ensures exact { OnOk result (builder.new ≡ Rows.conditional builder.old (Triggers.has_trigger scope.now.triggers number) number region sources.now) }
+    ensures longer { OnOk result (length builder.new.instrs ≤ length builder.old.instrs + 1) }
+{
+    let triggered = has_trigger(scope.triggers, number);
+    rows::conditional(builder, triggered, number, region, sources)
 }
 
 fn entered<A: Allocator + Clone>(
@@ -115,40 +152,27 @@ fn push_node<A: Allocator + Clone>(
     let sources = &node.sources;
     match &node.kind {
         Kind::Lit { value } => {
-            let origin = origin_of(scope.version, scope.number, number);
-            rows::operator(
-                builder,
-                Op::Lit { literal: *value },
-                origin,
-                region,
-                sources,
-            )
+            let op = Op::Lit { literal: *value };
+            operated(builder, scope, op, number, region, sources)
         }
         Kind::Apply1 { op } => {
-            let origin = origin_of(scope.version, scope.number, number);
-            rows::operator(builder, Op::Apply1 { op: *op }, origin, region, sources)
+            let op = Op::Apply1 { op: *op };
+            operated(builder, scope, op, number, region, sources)
         }
         Kind::Apply2 { op } => {
-            let origin = origin_of(scope.version, scope.number, number);
-            rows::operator(builder, Op::Apply2 { op: *op }, origin, region, sources)
+            let op = Op::Apply2 { op: *op };
+            operated(builder, scope, op, number, region, sources)
         }
-        Kind::Cond => {
-            let triggered = has_trigger(scope.triggers, number);
-            rows::conditional(builder, triggered, number, region, sources)
-        }
+        Kind::Cond => divided(builder, scope, number, region, sources),
         Kind::Enter => entered(builder, scope, region, sources),
         Kind::Merge { .. } => rows::merge(builder, region, sources),
         Kind::Fetch { array } => {
-            let op = Op::Fetch {
-                array: *array as u8,
-            };
-            answered(builder, scope, op, number, region, sources)
+            let array = *array as u8;
+            answered(builder, scope, Op::Fetch { array }, number, region, sources)
         }
         Kind::Store { array } => {
-            let op = Op::Store {
-                array: *array as u8,
-            };
-            answered(builder, scope, op, number, region, sources)
+            let array = *array as u8;
+            answered(builder, scope, Op::Store { array }, number, region, sources)
         }
         Kind::Call { block } => {
             let outputs = scope.outputs(*block);

@@ -15,7 +15,7 @@ use Rattle.fanout.specs.Trees.{dest_at, leaf, leaf_or, child, copy_at, side}
 abbrev pub Address : Type 0
 Address = ℕ × Port
 
--- so many values of a function, from one on
+-- the first values of a function, in order, from the k-th on
 abbrev pub window : {X : Type 0} → (ℕ → X) → ℕ → ℕ → List X
 window f k zero = []
 window f k (suc c) = f k ∷ window f (k + 1) c

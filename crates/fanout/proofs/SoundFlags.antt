@@ -36,7 +36,7 @@ tie_back ts from (suc c) k h = pick (cases_eq k (from + c)) (tie_back ts from c 
     pick (inl e) more = inr (omega (arith, e), omega (arith, e))
     pick (inr d) more = wider (more (sym (get_or-set_other (tie ts from c) (from + c) k true false d) ∙ h))
 
--- a destination's landing of so many instructions has the k-th one, which is not its last
+-- a destination's landing of `size` instructions has the k-th one, which is not its last
 record IsWithin (n size : ℕ) (ds : List Dest) (k : ℕ) : Type 0 where
   pub dest : Dest
   pub named : Contains ds dest

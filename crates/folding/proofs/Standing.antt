@@ -11,7 +11,7 @@ use Rattle.folding.specs.Moved.{moved}
 use Rattle.folding.specs.Folded.{left_from}
 use Rattle.folding.specs.Laws.{KeepsInstrs, HasNoOthers, KeepsOrder}
 
--- how many of the first so many are left
+-- how many of the first n are left
 abbrev pub before : List Bool → ℕ → ℕ
 before gs zero = 0
 before [] (suc k) = 0

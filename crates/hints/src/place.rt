@@ -66,16 +66,11 @@ impl fmt::Display for Place<'_> {
             Place::Code {
                 number,
                 block,
-                iterations: false,
-            } => write!(f, "code block {number} is that of block {block}"),
-            Place::Code {
-                number,
-                block,
-                iterations: true,
-            } => write!(
-                f,
-                "code block {number} is that of the iterations of block {block}"
-            ),
+                iterations,
+            } => {
+                let part = if iterations { "the iterations of " } else { "" };
+                write!(f, "code block {number} is that of {part}block {block}")
+            }
             Place::Input { line, text } if text.bytes.is_empty() => {
                 write!(f, "line {line} of the inputs is empty")
             }

@@ -7,7 +7,7 @@ use Rattle.semantics.specs.Machine.{CellState, Vacant}
 use Rattle.istructure.specs.OwnCells.{cell_at, own_count, all_vacant}
 use Rattle.istructure.proofs.Places.{place_is, is_place, cell_at-place, place_from_state}
 
--- so many full rows fit
+-- row q lies within m cells, so q is below the number of whole rows of n cells
 row_below : (n q m : ℕ) → 0 < n → n * q + n ≤ m → q < m / n
 row_below n q m pos h =
     let e : suc q * n ≤ m = omega (arith, h) in

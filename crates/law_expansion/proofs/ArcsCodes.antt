@@ -75,7 +75,7 @@ get_plain v bs vars n (c ∷ rest) (suc k) b e =
     let at : (n + 1) + k ≡ n + suc k = omega arith in
     get_plain v bs vars (n + 1) rest k b e ∙ ap (λ m. Some (plain_code v bs vars m b).code) at
 
--- how many of so many blocks from n on are looped
+-- how many of the next blocks from n on are looped
 abbrev looped_below : List (Block ℕ) → ℕ → ℕ → ℕ
 looped_below bs n zero = 0
 looped_below bs n (suc k) = if some_block_loops n bs then suc (looped_below bs (n + 1) k) else looped_below bs (n + 1) k

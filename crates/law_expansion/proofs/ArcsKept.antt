@@ -85,7 +85,7 @@ pub record Leads (e : Env) (is : List Instr) (frees : List ℕ) (n : ℕ) (d : D
   pub from : n ≤ over
   pub to : over < n + d.ahead
 
--- a landing of a link: so many of its instructions are missing so far
+-- a landing of a link, of which `missing` instructions are still to come
 pub record Lands (e : Env) (is : List Instr) (frees : List ℕ) (missing m block : ℕ) (d : Dest) : Type 0 where
   pub left : d.port ≡ Left
   pub inside : (m + d.ahead) + e.size block ≤ length is + missing

@@ -19,7 +19,7 @@ use Rattle.law_expansion.proofs.ArcsKept.{Env, is_link, OpAt, Leaves, Grows, gro
 use Rattle.law_expansion.proofs.ArcsSettled.{Settled, Joining, Step, Grown, Outlets, Exits, exits_on, exits_more, first_out, left_right, false_true, SourcesFit, source_leaves}
 use Rattle.law_expansion.proofs.ArcsSteps.{joins_end, joins_more, joins_behind, behinds, meets}
 
--- so many instructions of the last landing are missing
+-- `missing` instructions of the last landing are still to come
 pub record Pending (e : Env) (missing n : ℕ) (b : Build) : Type 0 where
   pub frees : List ℕ
   pub kept : Kept e b.instrs frees missing 0

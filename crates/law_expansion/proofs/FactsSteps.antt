@@ -59,11 +59,11 @@ pub record Basics (Ok : Op → Type 0) (most : ℕ) : Type 0 where
   pub ask : (o : ℕ) → o ≤ most → Ok (Op.Ask o)
   pub release : (o : ℕ) → o ≤ most → Ok (Op.Release o)
 
--- an invocation of a code block with so many arguments
+-- an invocation of code block f with n arguments
 abbrev pub Invokes : (Op → Type 0) → ℕ → ℕ → Type 0
 Invokes Ok f n = Ok (Op.Link f) × ((e : ℕ) → e ≤ n → Ok (Op.Send f e))
 
--- a node of that kind with so many sources
+-- a node of that kind with n sources
 abbrev pub AllowsKind : (Op → Type 0) → List ℕ → Kind ℕ → ℕ → Type 0
 AllowsKind Ok vars (Fetch a) n = Ok (Op.Fetch a)
 AllowsKind Ok vars (Store a) n = Ok (Op.Store a)

@@ -141,7 +141,7 @@ none_after bl (Arm k side) j t =
     let below = slice_get_within bl.nodes (k - bl.inputs) x.1.0 x.1.1 in
     other_arm k (node_count bl) side t (λ e. omega (arith, e, low, below))
 
--- so many arcs are laid at an instruction by all joins
+-- how many arcs all joins lay at an instruction
 abbrev due : Bool → ℕ
 due t = if t then 1 else 0
 

@@ -64,7 +64,7 @@ abbrev pub FairSignal : ℕ → Option Outlet → Type 0
 FairSignal p None = ⊤
 FairSignal p (Some o) = Fair p o
 
--- THE INSTRUCTION AT A PLACE, with so many first destinations and no second one
+-- THE INSTRUCTION AT A PLACE, with c first destinations and no second one
 abbrev pub Has : Instr → Op → ℕ → Type 0
 Has i op c = (i.op ≡ op) × (length i.firsts ≡ c) × (length i.seconds ≡ 0)
 
@@ -123,7 +123,7 @@ meet_at p op c b x m r left right h f g =
     connect_at p op (c + hit_at (start left) p) (connected one left (length b.instrs) Left) right (length b.instrs) Right
     (connect_at p op c one left (length b.instrs) Left (add_at p op c b x Untold m r h) f) g
 
--- JOINS. The arcs laid so far and the one of the signal are so many.
+-- JOINS. The arcs laid so far and the one of the signal are `total` together.
 abbrev pub Joining : ℕ → Op → Signalled → ℕ → Type 0
 Joining p op x total = (k : ℕ) × At p op k x.build × FairSignal p x.signal × (k + held p x.signal ≡ total)
 
@@ -163,7 +163,7 @@ pub signalled_at : (p : ℕ) (op : Op) (c : ℕ) (b : Build) (signal : Option Ou
 signalled_at p op c b None to q h f = let same : c ≡ c + 0 = omega arith in subst (λ k. At p op k b) same h
 signalled_at p op c b (Some o) to q h f = connect_at p op c b o to q h f
 
--- CLOSINGS. So many arcs, and so many more ends in each region.
+-- CLOSINGS. c arcs are laid, and h r ends are left in region r.
 abbrev pub Held : ℕ → Op → ℕ → (Region → ℕ) → Closing → Type 0
 Held p op c h x = At p op c x.build × AllFair p x.ends × ((r : Region) → hits p r x.ends ≡ h r)
 

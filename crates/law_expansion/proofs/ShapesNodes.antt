@@ -28,7 +28,7 @@ use Rattle.law_expansion.proofs.ShapesTrack.{FreeAt, Track, ports_at, ports_of, 
 use Rattle.law_expansion.proofs.ShapesRows.{push_free, push_waits, push_take, behind_free, behind_waits, meets_free, zone_track, zone_free, zone_shut, zone_place, AreValid, Plays, operands_track, alternatives_track, frees, AllOften, join_sources_track, invoked, invoke_track}
 use Rattle.law_expansion.proofs.ShapesUses.{Below, rare_noted, sources_length, plays_once, plays_often, all_often, twice_track}
 
--- a build of so many nodes is tracked
+-- the build of the first n nodes is tracked
 abbrev pub Tracked : Scope → List Uses → ℕ → Build → Type 0
 Tracked s us n b = (ts : List State) × Track s us n b ts
 

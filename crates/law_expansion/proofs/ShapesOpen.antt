@@ -58,7 +58,7 @@ pub wants_release : (op : Op) (m : ℕ) → Wants op m → is_release op ≡ fal
 wants_release (Op.Release o) m w = absurd w
 wants_release op m w = refl
 
--- the instruction at that place, of so many, has as many destinations as it wants, and is `release` just where it is last
+-- the instruction at place p of `count` has as many destinations as it wants, and is `release` just where it is last
 abbrev pub IsDone : ℕ → ℕ → Instr → Type 0
 IsDone count p i = IsExact i × (is_release i.op ≡ true → p + 1 ≡ count) × (p + 1 ≡ count → is_release i.op ≡ true)
 

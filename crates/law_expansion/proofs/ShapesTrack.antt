@@ -120,7 +120,7 @@ FreeAt ts o = slice_get ts (o.place + o.port) ≡ Some Free
 abbrev pub Leads : Scope → List State → ℕ → Outlet → Type 0
 Leads s ts n o = ((q : ℕ) → q < ports_at s n → slice_get ts (o.place + q) ≡ Some Free) ⊎ (slice_get ts o.place ≡ Some (Owned n))
 
--- that node, one of the first so many, leaves at that place, and is used once or never
+-- node m, one of the first n, leaves at place p, and is used once or never
 abbrev pub IsOwner : Scope → ℕ → List Outlet → ℕ → ℕ → Type 0
 IsOwner s n es p m = (m < n) × (exit_in es m ≡ first_of p) × (is_often (uses_at s.uses m) ≡ false) × (owns_in (node_at s.block m) ≡ true)
 
@@ -300,7 +300,7 @@ cond_free s us n b ts k h l e = by_exit (h.leads k l)
     by_exit (inl f) = let one = (cond_ports s.blocks (node_at s.block k) e).0 in f 0 (omega (arith, one))
     by_exit (inr f) = let owns = (h.owner (exit_in b.exits k).place k f).3 in let not_owns = (cond_ports s.blocks (node_at s.block k) e).1 in absurd (cc)
 
--- a region in which a node may lie, after the first so many
+-- a region in which a node may lie that comes after the first n
 abbrev pub LiesIn : Scope → ℕ → Region → Type 0
 LiesIn s n Root = ⊤
 LiesIn s n (Arm k side) = (k < n) × (is_cond_in (node_at s.block k) ≡ true)

@@ -26,7 +26,7 @@ at_account (a ∷ later) zero low = refl
 at_account (a ∷ later) (suc i) low = let within : i < length later = omega (arith, low) in at_account later i within
 
 -- LANES
--- all of so many, with the first before the others
+-- the tokens of the first n + 1 are those of the first one and then those of the n others
 all_first : (n : ℕ) (f : ℕ → List Token) → all_of (suc n) f ≡ f 0 ++ all_of n (λ e. f (suc e))
 all_first zero f = sym (append-nil (f 0))
 all_first (suc n) f = ap (λ (l : List Token). l ++ f (suc n)) (all_first n f) ∙ append_assoc (f 0) (all_of n (λ e. f (suc e))) (f (suc n))

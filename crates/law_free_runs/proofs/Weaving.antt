@@ -84,7 +84,7 @@ nothing_after : (xs ys : List Block) → xs ++ ys ≡ [] → ys ≡ []
 nothing_after [] ys h = h
 nothing_after (x ∷ xs) ys h = absurd (let no : ⊥ = cc in no)
 
--- where later elements have no block, each block is of one of so many
+-- where no element from n on has a block, each block is of an element below n
 pub all_below : (n : ℕ) (log : List Block) → ((e : ℕ) → n ≤ e → blocks_by e log ≡ []) → AreBelow n log
 all_below n [] none = tt
 all_below n (b ∷ log) none = (by_case (nat_lt b.element n) refl, all_below n log (λ e over. nothing_after (if_by e b) (blocks_by e log) (none e over))) where

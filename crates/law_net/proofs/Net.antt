@@ -59,7 +59,7 @@ module _ {I X F R : Type 0} (inlet : I → X) (same : X → X → Bool) (takes m
       let x = total-append g now rest in let y = total-append g now kept in
       omega (arith, a, t, u, v, k, n, x, y))
 
-  -- so many items were taken up
+  -- how many items wait or were taken up
   abbrev pub net_size : NetConfig I F → ℕ
   net_size c = length c.waiting + total (λ f. length (takes f)) c.fired
 

@@ -47,7 +47,7 @@ module _ (fl : Flow) (s : Site) (place : Part → ℕ) (apart : (r q : Part) →
   abbrev Before : ℕ → Source → Type 0
   Before n x = ComesBefore fl b n x
 
-  -- with the exits of so many nodes
+  -- with the exits of the first n nodes
   pub record Grown (c : Build) (rs : List Part) (ws : List Wire) (n : ℕ) : Type 0 where
     pub laid : IsLaid env c rs ws
     pub exits : HasExits env c rs n

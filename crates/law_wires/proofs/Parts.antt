@@ -92,7 +92,7 @@ abbrev pub merge_has : Part → Bool
 merge_has (Parts.Merge n) = true
 merge_has r = false
 
--- with so many arguments and results
+-- the parts of a call with m arguments and q results
 abbrev pub invoked_has : ℕ → ℕ → Part → Bool
 invoked_has m q (Framer n) = true
 invoked_has m q (Fanned n) = true

@@ -1,4 +1,4 @@
--- From what there is for each of so many to one function.
+-- From a value for each number below n to one function.
 use Rattle.std.proofs.Common.{ℕ, ◌<◌, ◌≤◌, ◌⊎◌, inl, inr, arith}
 use Rattle.std.proofs.lemmas.Bool.{cases_lt}
 
@@ -10,6 +10,6 @@ picked : {X : Type 0} (n e : ℕ) (d : X) (P : ℕ → X → Type 0) (all : (i :
 picked n e d P all (inl low) within = (all e low).1
 picked n e d P all (inr over) within = absurd (let no : ⊥ = omega (arith, over, within) in no)
 
--- what there is for each of so many, as one function
+-- the values that there are for the numbers below n, as one function
 pub chosen : {X : Type 0} (n : ℕ) (d : X) (P : ℕ → X → Type 0) → ((i : ℕ) → i < n → (x : X) × P i x) → (f : ℕ → X) × ((i : ℕ) → i < n → P i (f i))
 chosen n d P all = ((λ e. pick n e d P all (cases_lt e n)), (λ e low. picked n e d P all (cases_lt e n) low))

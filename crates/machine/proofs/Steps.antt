@@ -183,7 +183,7 @@ parted p steps old ts new sent turns = by_count (cases_lt (length old.queue) (le
           oldest = oldest_taken p steps old [] ts new sent turns mine tail whole (omega (arith, count));
         }
 
--- A turn, and its commit: so many tokens spent, and so many made.
+-- A turn, and its commit by two counts: tokens spent and tokens made.
 module _ (g : Setting) (mesh : MeshId) (start : Held) (e : ℕ) (old : Held) (ds : List Deed) (ts bs : Ts) {blocks : List Block} (r : Ran g mesh e start old ds ts bs blocks) (taken : Ts) (new : Held) (sent : Ts) (turns : Turns g.program g.steps old [] taken new sent) where
   abbrev pub acts : List Act
   acts = acts_of g.program g.steps old [] taken new sent turns

@@ -1,4 +1,4 @@
--- What a function gives for so many numbers in a row, and the instructions of blocks in a row.
+-- What a function gives for consecutive numbers, and the instructions of consecutive blocks.
 use Rattle.std.proofs.Common.{◌≡◌, ℕ, zero, suc, ◌+◌, ◌-◌, ◌<◌, ◌≤◌, Bool, true, false, nat_lt, if◌then◌else◌, List, length, map, take, Some, None, sum, refl, ap, ◌∙◌, arith}
 use Rattle.std.specs.Prelude.{slice_get}
 use Rattle.std.proofs.lemmas.Bool.{ltb-true, ltb-false}

@@ -196,6 +196,7 @@ impl Opcode {
     pub fn with(self, operand: u64, literal: i64) -> Op
         ensures { result ≡ Fields.with self operand literal }
     {
+        let small = (operand % 256) as u8;
         match self {
             Opcode::Apply1 { op } => Op::Apply1 { op },
             Opcode::Apply2 { op } => Op::Apply2 { op },
@@ -205,12 +206,8 @@ impl Opcode {
             Opcode::Copy => Op::Copy,
             Opcode::Sync => Op::Sync,
             Opcode::Switch => Op::Switch,
-            Opcode::Fetch => Op::Fetch {
-                array: (operand % 256) as u8,
-            },
-            Opcode::Store => Op::Store {
-                array: (operand % 256) as u8,
-            },
+            Opcode::Fetch => Op::Fetch { array: small },
+            Opcode::Store => Op::Store { array: small },
             Opcode::Frame => Op::Frame,
             Opcode::Link => Op::Link {
                 block: (operand % 65_536) as u16,
@@ -219,27 +216,13 @@ impl Opcode {
                 block: (operand / 65_536 % 65_536) as u16,
                 entry: (operand % 65_536) as u16,
             },
-            Opcode::Return => Op::Return {
-                offset: (operand % 256) as u8,
-            },
-            Opcode::Ask => Op::Ask {
-                offset: (operand % 256) as u8,
-            },
-            Opcode::Open => Op::Open {
-                bound: (operand % 256) as u8,
-            },
-            Opcode::Take => Op::Take {
-                bound: (operand % 256) as u8,
-            },
-            Opcode::Give => Op::Give {
-                bound: (operand % 256) as u8,
-            },
-            Opcode::Drain => Op::Drain {
-                bound: (operand % 256) as u8,
-            },
-            Opcode::Release => Op::Release {
-                offset: (operand % 256) as u8,
-            },
+            Opcode::Return => Op::Return { offset: small },
+            Opcode::Ask => Op::Ask { offset: small },
+            Opcode::Open => Op::Open { bound: small },
+            Opcode::Take => Op::Take { bound: small },
+            Opcode::Give => Op::Give { bound: small },
+            Opcode::Drain => Op::Drain { bound: small },
+            Opcode::Release => Op::Release { offset: small },
         }
     }
 }

@@ -45,7 +45,7 @@ pub record Sound (g : Graph) (k : ℕ) (s : Plain) : Type 0 where
   pub cell_count : length s.cells ≡ total_of g.arrays
   pub output_count : length s.outputs ≡ outputs_at g (main_place g)
 
--- so many activities of the meaning lead to the state
+-- k activities of the meaning lead to the state
 pub record Follows (g : Graph) (inputs : List ℤ) (k : ℕ) (s : Plain) : Type 0 where
   pub sound : Sound g k s
   pub run : List Activity
@@ -57,7 +57,7 @@ abbrev pub PutLow : Deed → Plain → Type 0
 PutLow (Puts j v) s = j < length s.outputs
 PutLow d s = ⊤
 
--- so many activities lead to a state in which an activity with this deed is enabled; its tokens are out already
+-- k activities lead to a state in which an activity with this deed is enabled; its tokens are out already
 pub record Ready (g : Graph) (inputs : List ℤ) (k : ℕ) (s : Plain) (vs : List Value) (d : Deed) : Type 0 where
   pub sound : Sound g k s
   pub run : List Activity
@@ -73,7 +73,7 @@ pub record Ready (g : Graph) (inputs : List ℤ) (k : ℕ) (s : Plain) (vs : Lis
   pub turn : DeedTurn k d
   pub put : PutLow d s
 
--- so many activities lead to a state with that memory, in which the run ends
+-- k activities lead to a state with that memory, in which the run ends
 pub record Ended (g : Graph) (inputs : List ℤ) (k : ℕ) (cells outputs : List (Option Value)) (e : MeanEnd) : Type 0 where
   pub run : List Activity
   pub state : State

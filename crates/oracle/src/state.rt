@@ -1,6 +1,7 @@
 //! A state of a run: the tokens, the cells, and the outputs.
 
 ghost use Rattle.std.specs.Prelude.{◌≡◌, ◌≢◌, ◌≤◌, ◌∷◌, ◌++◌, [], map, Some, slice_get, IfOk, OnOk, MatchOption, MatchResult};
+ghost use Rattle.semantics.specs.Graph.{Graph};
 ghost use Rattle.oracle.specs.Lines.{total_of, spots_in};
 ghost use Rattle.oracle.specs.Acting as Acting;
 ghost use Rattle.oracle.specs.Running.{plain, join_of, Alone, Joins, Fails, performed};
@@ -9,7 +10,7 @@ ghost use Rattle.oracle.specs.Rows.{rows_of, with_row, next_among, Goes, Stays, 
 
 use crate::deeds::{Deed, deed_of};
 use crate::gather::{Row, all_there, reach, take_out};
-use crate::invocations::{Invocation, Invocations};
+use crate::invocations::{Invocation, Invocations, Made};
 use crate::lines::block_at;
 use crate::report::MeanEnd;
 use crate::sending::{Sent, enter, enter_all, send, tell};
@@ -301,6 +302,57 @@ fn fill(places: &mut [Option<Value>], place: usize, value: Value)
     }
 }
 
+/// Sends a value on a port of a node.
+fn send_value<'a, A: Allocator + Clone>(
+    checked: &Checked<'a, A>,
+    state: &mut State<A>,
+    context: usize,
+    node: usize,
+    port: usize,
+    value: Value,
+) -> Result<(), AllocError>
+    ensures { let old = plain state.old.invocations state.old.fresh.items [] state.old.deferred.items state.old.cells.items state.old.outputs.items in
+        let new = plain state.new.invocations state.new.fresh.items [] state.new.deferred.items state.new.cells.items state.new.outputs.items in
+        OnOk result ((new ≡ performed checked.now old [] (Deed.Sends context node port value)) × (state.new.waiting.items ≡ state.old.waiting.items)) }
+{
+    let sent = Sent { context, value };
+    let invocations = &state.invocations;
+    send_from(checked, invocations, &mut state.fresh, &sent, node, port)
+}
+
+/// Tells a predicate to the arms of a conditional.
+fn tell_value<'a, A: Allocator + Clone>(
+    checked: &Checked<'a, A>,
+    state: &mut State<A>,
+    context: usize,
+    cond: usize,
+    value: Value,
+) -> Result<(), AllocError>
+    ensures { let old = plain state.old.invocations state.old.fresh.items [] state.old.deferred.items state.old.cells.items state.old.outputs.items in
+        let new = plain state.new.invocations state.new.fresh.items [] state.new.deferred.items state.new.cells.items state.new.outputs.items in
+        OnOk result ((new ≡ performed checked.now old [] (Deed.Tells context cond value)) × (state.new.waiting.items ≡ state.old.waiting.items)) }
+{
+    let sent = Sent { context, value };
+    tell_from(checked, &state.invocations, &mut state.fresh, &sent, cond)
+}
+
+/// Sends a value to an input of the invocation of that name, which is made where it is not there.
+fn enter_value<A: Allocator + Clone>(
+    state: &mut State<A>,
+    made: &Made,
+    block: usize,
+    input: usize,
+    value: Value,
+) -> Result<(), AllocError>
+    ensures { let old = plain state.old.invocations state.old.fresh.items [] state.old.deferred.items state.old.cells.items state.old.outputs.items in
+        let new = plain state.new.invocations state.new.fresh.items [] state.new.deferred.items state.new.cells.items state.new.outputs.items in
+        OnOk result (((g : Graph) → new ≡ performed g old [] (Deed.Enters made.now block input value)) × (state.new.waiting.items ≡ state.old.waiting.items)) }
+{
+    let context = state.invocations.number_of(made, block)?;
+    let sent = Sent { context, value };
+    enter(&mut state.fresh, &sent, input)
+}
+
 /// Does what the activity does.
 pub fn perform<'a, A: Allocator + Clone>(
     checked: &Checked<'a, A>,
@@ -318,35 +370,18 @@ pub fn perform<'a, A: Allocator + Clone>(
             node,
             port,
             value,
-        } => {
-            let sent = Sent { context, value };
-            send_from(
-                checked,
-                &state.invocations,
-                &mut state.fresh,
-                &sent,
-                node,
-                port,
-            )
-        }
+        } => send_value(checked, state, context, node, port, value),
         Deed::Tells {
             context,
             cond,
             value,
-        } => {
-            let sent = Sent { context, value };
-            tell_from(checked, &state.invocations, &mut state.fresh, &sent, cond)
-        }
+        } => tell_value(checked, state, context, cond, value),
         Deed::Enters {
             made,
             block,
             input,
             value,
-        } => {
-            let context = state.invocations.number_of(&made, block)?;
-            let sent = Sent { context, value };
-            enter(&mut state.fresh, &sent, input)
-        }
+        } => enter_value(state, &made, block, input, value),
         Deed::EntersAll { made, block } => {
             let context = state.invocations.number_of(&made, block)?;
             enter_all(&mut state.fresh, context, values)
@@ -363,10 +398,7 @@ pub fn perform<'a, A: Allocator + Clone>(
             cell,
             value,
             ..
-        } => {
-            let sent = Sent { context, value };
-            fill_cell(checked, state, &sent, node, cell)
-        }
+        } => fill_cell(checked, state, context, node, cell, value),
         Deed::Puts { number, value } => {
             fill(&mut state.outputs, number, value);
             Ok(())
@@ -387,17 +419,7 @@ fn answer<'a, A: Allocator + Clone>(
         OnOk result ((new ≡ performed checked.now old [] (Deed.Reads context node cell)) × (state.new.waiting.items ≡ state.old.waiting.items)) }
 {
     match held(&state.cells, cell) {
-        Some(value) => {
-            let sent = Sent { context, value };
-            send_from(
-                checked,
-                &state.invocations,
-                &mut state.fresh,
-                &sent,
-                node,
-                0,
-            )
-        }
+        Some(value) => send_value(checked, state, context, node, 0, value),
         None => Ok(()),
     }
 }
@@ -406,15 +428,16 @@ fn answer<'a, A: Allocator + Clone>(
 fn fill_cell<'a, A: Allocator + Clone>(
     checked: &Checked<'a, A>,
     state: &mut State<A>,
-    sent: &Sent,
+    context: usize,
     node: usize,
     cell: usize,
+    value: Value,
 ) -> Result<(), AllocError>
     ensures { let old = plain state.old.invocations state.old.fresh.items [] state.old.deferred.items state.old.cells.items state.old.outputs.items in
         let new = plain state.new.invocations state.new.fresh.items [] state.new.deferred.items state.new.cells.items state.new.outputs.items in
-        OnOk result ((new ≡ performed checked.now old [] (Deed.Fills sent.now.context node cell 0 0 sent.now.value)) × (state.new.waiting.items ≡ state.old.waiting.items)) }
+        OnOk result ((new ≡ performed checked.now old [] (Deed.Fills context node cell 0 0 value)) × (state.new.waiting.items ≡ state.old.waiting.items)) }
 {
-    fill(&mut state.cells, cell, sent.value);
+    fill(&mut state.cells, cell, value);
     wake(&mut state.fresh, &mut state.deferred)?;
-    send_from(checked, &state.invocations, &mut state.fresh, sent, node, 0)
+    send_value(checked, state, context, node, 0, value)
 }

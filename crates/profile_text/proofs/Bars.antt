@@ -6,7 +6,7 @@ use Rattle.sink.specs.Sends.{Sends}
 use Rattle.sink.proofs.Sent.{appends_none, appends_then, sends_more, sends_less, sends_same, sends_whole}
 use Rattle.profile_text.specs.Picture.{greatest, waves_a_bar, bar_count, bar_text, bars_from, bars_text}
 
--- these were sent, and so many are left
+-- these bars were sent, and those from k on are left
 abbrev pub SentSo : (bars size top : ℕ) → List ℕ → List ℕ → ℕ → Option (List ℕ) → Option (List ℕ) → Type 0
 SentSo bars size top counts rest k a b = (sent : List ℕ) × (bars_from bars size top 0 bars counts ≡ sent ++ bars_from bars size top k (bars - k) rest) × Appends a b sent
 

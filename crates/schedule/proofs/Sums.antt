@@ -1,4 +1,4 @@
--- Sums and lists over the first so many numbers.
+-- Sums and lists over the numbers below n.
 use Rattle.std.proofs.Common.{◌≡◌, sym, ap, subst, ℕ, suc, ◌+◌, ◌<◌, List, ◌++◌, length, map, get_or, Option, Some, arith}
 use Rattle.std.specs.Prelude.{◌%◌, ◌*◌, ◌/◌}
 use Rattle.std.proofs.Math.Nat.{mul_comm}

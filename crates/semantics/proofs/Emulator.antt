@@ -73,7 +73,7 @@ event_from p n s before (t ∷ ts) =
       | Some r ↦ Some record { token = t; made = r.1; after = record { store = r.0; pool = before ++ ts ++ r.1 } }
     ]
 
--- where a run of at most so many events comes to, and how many it had
+-- where a bounded run comes to, and how many events it had
 pub record Came : Type 0 where
   pub machine : Machine
   pub events : ℕ
@@ -82,7 +82,7 @@ abbrev came_from : ℕ → Program → ℕ → ℕ → Machine → Came
 came_from zero p n e m = record { machine = m; events = e }
 came_from (suc k) p n e m = elim (event_from p n m.store [] m.pool) as (λ x. Came) [ None ↦ record { machine = m; events = e } | Some u ↦ came_from k p n (e + 1) u.after ]
 
--- with so many frames
+-- a run with that number of frames
 abbrev pub come : Program → ℕ → List ℤ → Came
 come p frames inputs = came_from 200 p frames 0 (at_start p inputs)
 

@@ -102,7 +102,7 @@ plan_of p = record { program = p; plain = 1; marks = [] }
 abbrev loop : Holder
 loop = record { block = 0; number = 0 }
 
--- WATCHING the loop in frame 0, where the emulator goes: so many credits are out, so many were out at most, who holds the
+-- WATCHING the loop in frame 0, where the emulator goes: how many credits are out, how many were out at most, who holds the
 -- loop's slot, and whether each event at a slot of frame 0 found it held by none or by its own holder
 pub record Watch : Type 0 where
   pub granted : ℕ

@@ -1,6 +1,6 @@
 //! Each growth is refused in turn.
 
-ghost use Rattle.std.specs.Prelude.{◌<◌};
+ghost use Rattle.std.specs.Prelude.{◌≡◌, ◌<◌};
 
 use crate::objects::{CALL, LOOP, READERS, STORES};
 use crate::tests::on;
@@ -11,6 +11,7 @@ use rationed::Rationed;
 use schedule::config::{Config, StartFault};
 use schedule::halt::Halt;
 use schedule::machine::Machine;
+use schedule::main_code::MainCode;
 use schedule::report::Report;
 use semantics::report::End;
 use std::alloc::Allocator;
@@ -143,8 +144,48 @@ fn told_once<A: Allocator>(report: &Report<A>, case: Case) -> Refused {
     }
 }
 
-/// Runs the case on `elements` elements. Where a growth is refused in the run, the same step is tried again, and then has to
-/// succeed.
+/// Runs the machine without events. Where a growth is refused, the run goes on from there.
+fn run_quietly<C: MainCode, A: Allocator + Clone>(
+    machine: Machine<'_, C, A>,
+    case: Case,
+) -> Refused {
+    let mut quiet = machine.without_events();
+    let halt = quiet.play_in_turn();
+    if halt == Halt::Memory {
+        let halt = quiet.play_in_turn();
+        return told(&quiet.report(halt), case, 0, Refused::InTheRun);
+    }
+    told(&quiet.report(halt), case, 0, Refused::Nowhere)
+}
+
+/// Runs the machine step by step. Where a growth is refused, the same step is tried again, and then has to succeed.
+fn run_by_steps<C: MainCode, A: Allocator + Clone>(
+    mut machine: Machine<'_, C, A>,
+    case: Case,
+    elements: u32,
+) -> Refused
+    requires some { 0 < elements }
+    requires elements { machine.state.setting.elements ≡ elements }
+{
+    for turn in 0..20_000 {
+        let element = turn % elements;
+        match machine.step(element, 0) {
+            Some(Stepped::Memory) => {
+                if machine.step(element, 0) != Some(Stepped::Did) {
+                    return Refused::Wrongly;
+                }
+                let halt = machine.play_in_turn();
+                return told(&machine.report(halt), case, case.events, Refused::InTheRun);
+            }
+            Some(_) => {}
+            None => return Refused::Wrongly,
+        }
+    }
+    let report = machine.report(Halt::NoToken);
+    told(&report, case, case.events, Refused::Nowhere)
+}
+
+/// Runs the case on `elements` elements in this way.
 fn run_on<A: Allocator + Clone>(alloc: A, case: Case, elements: u32, way: Way) -> Refused
     requires { 0 < elements }
 {
@@ -162,43 +203,16 @@ fn run_on<A: Allocator + Clone>(alloc: A, case: Case, elements: u32, way: Way) -
         frames: case.frames,
         ..on(u64::from(elements))
     };
-    let mut machine = match Machine::start(alloc, &mut store, &code, &[case.input], config) {
+    let machine = match Machine::start(alloc, &mut store, &code, &[case.input], config) {
         Ok(machine) => machine,
         Err(StartFault::Memory) => return Refused::AtTheStart,
         Err(_) => return Refused::Wrongly,
     };
-    if way == Way::Whole {
-        return told_once(&machine.run_one(), case);
+    match way {
+        Way::Whole => told_once(&machine.run_one(), case),
+        Way::Quietly => run_quietly(machine, case),
+        Way::StepByStep => run_by_steps(machine, case, elements),
     }
-    if way == Way::Quietly {
-        let mut quiet = machine.without_events();
-        let halt = quiet.play_in_turn();
-        if halt == Halt::Memory {
-            let halt = quiet.play_in_turn();
-            return told(&quiet.report(halt), case, 0, Refused::InTheRun);
-        }
-        return told(&quiet.report(halt), case, 0, Refused::Nowhere);
-    }
-    for turn in 0..20_000 {
-        let element = turn % elements;
-        match machine.step(element, 0) {
-            Some(Stepped::Memory) => {
-                if machine.step(element, 0) != Some(Stepped::Did) {
-                    return Refused::Wrongly;
-                }
-                let halt = machine.play_in_turn();
-                return told(&machine.report(halt), case, case.events, Refused::InTheRun);
-            }
-            Some(_) => {}
-            None => return Refused::Wrongly,
-        }
-    }
-    told(
-        &machine.report(Halt::NoToken),
-        case,
-        case.events,
-        Refused::Nowhere,
-    )
 }
 
 /// How often a growth was refused at the start, in the run and in the report, before none was refused; `None` where a run went

@@ -301,6 +301,16 @@ fn strict_calls(rt: HostRuntime) -> Result<(), Fail> {
                 wanted: b"output 0 -\noutput 1 -\nend Rest\n",
                 status: 0,
             },
+        ],
+    )
+}
+
+#[test]
+fn frames_of_strict_calls(rt: HostRuntime) -> Result<(), Fail> {
+    expect_rows(
+        &rt,
+        rt.alloc(),
+        &[
             Row {
                 words: &["ets", "run", "--frames", "2"],
                 input: b"etsgraph 2\nblock g 1 1\n- neg 0.0\nout 1.0\nend\nblock m 1 1\n- scall g 0.0\n- scall g 1.0\nout 2.0\nend\nmain m\n4\n",
