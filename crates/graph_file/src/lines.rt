@@ -9,7 +9,8 @@ use crate::fields::{field_of, name_field, number_field, source_fields};
 use crate::nodes::node_of;
 use crate::parts::{Parts, is_line};
 use crate::words::SOURCES;
-use graph::{Array, Block, Graph, Name, Version};
+use graph::{Array, Block, Graph, Name};
+use semantics::version::Version;
 use std::alloc::Allocator;
 use std::marker::Model;
 

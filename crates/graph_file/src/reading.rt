@@ -9,7 +9,8 @@ ghost use Rattle.graph_file.specs.Reading.{body_from, text_from, IsFirstFault};
 use crate::fault::{ReadFault, ReadFaultKind};
 use crate::lines::{Found, Place};
 use crate::parts::Parts;
-use graph::{Graph, Version};
+use graph::Graph;
+use semantics::version::Version;
 use std::alloc::Allocator;
 
 /// The graph that the lines behind the header say.

@@ -7,11 +7,12 @@ ghost use Rattle.test_passes.specs.Samples as Samples;
 
 use code::CodeBlock;
 use expansion::expand;
-use graph::{Block, Graph, Name, Node, Version};
+use graph::{Block, Graph, Name, Node};
 use operators::Binary;
 use rationed::Rationed;
 use semantics::graph::{Kind, Region, Source};
 use semantics::program::{Dest, Mark, Op};
+use semantics::version::Version;
 use std::alloc::{AllocError, Allocator};
 use std::process::Abort;
 use std::test::Fail;

@@ -1,10 +1,11 @@
 //! Graphs made by hand, and what the checker answers to them.
 
-use graph::{Array, Block, Graph, Name, Node, Version};
+use graph::{Array, Block, Graph, Name, Node};
 use graph_check::{CheckFault, CheckFaultKind, check};
 use operators::{Binary, Unary};
 use rationed::Rationed;
 use semantics::graph::{Kind, Region, Source};
+use semantics::version::Version;
 use std::alloc::{AllocError, Allocator};
 use std::test::Fail;
 

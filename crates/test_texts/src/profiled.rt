@@ -1,8 +1,9 @@
 //! Profiles as texts and pictures.
 
-use graph::{Graph, Name, Version};
+use graph::{Graph, Name};
 use oracle::{MeanEnd, WaveReport};
 use profile_text::{MachineRow, write_profile, write_svg};
+use semantics::version::Version;
 use std::alloc::{AllocError, Global};
 use std::test::Fail;
 

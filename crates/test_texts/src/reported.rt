@@ -3,11 +3,12 @@
 ghost use Rattle.std.specs.Prelude.{◌<◌};
 
 use arrayvec::ArrayVec;
-use graph::{Array, Graph, Name, Version};
+use graph::{Array, Graph, Name};
 use oracle::{Full, MeanEnd, MeanReport};
 use report_text::{write_meaning, write_report};
 use schedule::report::Report;
 use semantics::report::End;
+use semantics::version::Version;
 use std::alloc::{AllocError, Global};
 use std::test::Fail;
 use tags::value::{FaultKind, NodeNumber, Origin, Value};
