@@ -18,8 +18,9 @@ use Rattle.operators.specs.declared.Binary.TheVariants.{Add, Sub, Mul, Div, Rem,
 use Rattle.semantics.specs.declared.program.Dest.{Dest}
 use Rattle.semantics.specs.declared.program.Op.{Op}
 use Rattle.semantics.specs.declared.program.Op.TheVariants as ops
-use Rattle.semantics.specs.Program.{Instr, CodeBlock}
+use Rattle.semantics.specs.Program.{Instr, CodeBlock, uses_slot}
 use Rattle.semantics.specs.Rule.{slot_of}
+use Rattle.semantics.specs.Words.{operator_of as operators_of}
 use Rattle.semantics.specs.Text.{literal, unary_word, binary_word}
 use Rattle.semantics.specs.Bytes.{IsSlot}
 use Rattle.disassembler.specs.Listing.{slot_text, port_letter, dest_text, operand_text}
@@ -30,7 +31,7 @@ use Rattle.graph_file.proofs.Marks.{number_again, literal_again, decimal_no_dot}
 use Rattle.assembler.specs.declared.names.Name.{Name}
 use Rattle.assembler.specs.declared.names.Name.TheVariants.{Apply1, Apply2, Lit, Copy, Sync, Switch, Fetch, Store, Frame, Link, Send, Return, Ask, Open, Take, Give, Drain, Release}
 use Rattle.assembler.specs.Grammar.{origin_words}
-use Rattle.assembler.specs.Fields.{operator_of, name_of, then_some, tagged, below, small_of, wide_of, small_behind, wide_behind, literal_behind, side_behind, no_operand, sided, binary_from, pair_of, entry_parts, entry_of, entry_behind, op_of, uses_slot, slot_from, dest_to, dest_parts, dest_behind, dest_of, node_of, place_of, place_parts, place_in, origin_of}
+use Rattle.assembler.specs.Fields.{operator_of, name_of, then_some, tagged, below, small_of, wide_of, small_behind, wide_behind, literal_behind, side_behind, no_operand, sided, binary_from, pair_of, entry_parts, entry_of, entry_behind, op_of, slot_from, dest_to, dest_parts, dest_behind, dest_of, node_of, place_of, place_parts, place_in, origin_of}
 use Rattle.assembler.specs.Lines.{origin_from}
 use Rattle.assembler.proofs.Spelled.{dotted, send_text, at_text}
 
@@ -58,12 +59,12 @@ name_for (ops.Drain k) = Drain
 name_for (ops.Release o) = Release
 
 unary_again : (op : Unary) → name_of (unary_word op) ≡ Some (Apply1 op)
-unfolding name_of operator_of
+unfolding name_of operator_of operators_of
 unary_again Neg = refl
 unary_again Not = refl
 
 binary_again : (op : Binary) → name_of (binary_word op) ≡ Some (Apply2 op)
-unfolding name_of operator_of
+unfolding name_of operator_of operators_of
 binary_again Add = refl
 binary_again Sub = refl
 binary_again Mul = refl
@@ -80,7 +81,7 @@ binary_again Lt = refl
 binary_again Le = refl
 
 pub name_again : (op : Op) → name_of (Listing.name_of op) ≡ Some (name_for op)
-unfolding name_of operator_of
+unfolding name_of operator_of operators_of
 name_again (ops.Apply1 op) = unary_again op
 name_again (ops.Apply2 op) = binary_again op
 name_again (ops.Apply2Right op z) = binary_again op

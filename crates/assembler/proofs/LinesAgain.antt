@@ -10,7 +10,7 @@ use Rattle.std.proofs.lemmas.Slice.Eq.{bytes_eq-Decides}
 use Rattle.tags.specs.declared.value.Origin.{Origin}
 use Rattle.semantics.specs.declared.program.Op.{Op}
 use Rattle.semantics.specs.declared.program.Dest.{Dest}
-use Rattle.semantics.specs.Program.{Instr, CodeBlock}
+use Rattle.semantics.specs.Program.{Instr, CodeBlock, uses_slot}
 use Rattle.semantics.specs.Rule.{slot_of}
 use Rattle.semantics.specs.Text.{literal}
 use Rattle.semantics.specs.Bytes.{IsSlot}
@@ -23,7 +23,7 @@ use Rattle.assembler.specs.declared.fault.AsmFaultKind.{AsmFaultKind}
 use Rattle.assembler.specs.declared.fault.AsmFaultKind.TheVariants.{BadLine, BadNumber, BadName, BadSlot, BadDestination, BadOperand}
 use Rattle.assembler.specs.Words.{Word}
 use Rattle.assembler.specs.Grammar.{head_words, origin_words, instr_words}
-use Rattle.assembler.specs.Fields.{name_of, op_of, uses_slot, slot_from, dest_of}
+use Rattle.assembler.specs.Fields.{name_of, op_of, slot_from, dest_of}
 use Rattle.assembler.specs.Lines.{word_from, none_from, key_from, number_from, count_from, keyed_from, head_from, block_from, array_from, literal_from, origin_from, op_from, Tail, tail_from, named_from, instr_from}
 use Rattle.assembler.proofs.Again.{name_for, name_again, HasRoom, op_again, slot_again, IsNear, dest_again, IsPlace, origin_again}
 

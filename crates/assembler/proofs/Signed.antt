@@ -10,7 +10,7 @@ use Rattle.std.proofs.lemmas.Map.Views.{All-insert_key}
 use Rattle.operators.specs.declared.Binary.{Binary}
 use Rattle.semantics.specs.declared.program.Op.{Op}
 use Rattle.semantics.specs.declared.program.Op.TheVariants as ops
-use Rattle.semantics.specs.Program.{Instr, Code}
+use Rattle.semantics.specs.Program.{Instr, Code, uses_slot}
 use Rattle.semantics.specs.Bytes.{IsCode}
 use Rattle.disassembler.specs.Listing as Listing
 use Rattle.graph_file.specs.Given.{◌>>=◌}
@@ -26,7 +26,7 @@ use Rattle.assembler.specs.Words.{Word, lines_in}
 use Rattle.assembler.specs.Given.{must}
 use Rattle.assembler.specs.Grammar.{with_literal, IsListingOf}
 use Rattle.assembler.specs.Found.{Found}
-use Rattle.assembler.specs.Fields.{name_of, tagged, small_behind, wide_behind, literal_behind, side_behind, no_operand, sided, binary_from, entry_behind, op_of, uses_slot, slot_from, dest_of}
+use Rattle.assembler.specs.Fields.{name_of, tagged, small_behind, wide_behind, literal_behind, side_behind, no_operand, sided, binary_from, entry_behind, op_of, slot_from, dest_of}
 use Rattle.assembler.specs.Lines.{word_from, none_from, count_from, head_from, block_from, array_from, literal_from, origin_from, op_from, Tail, tail_from, named_from, instr_from}
 use Rattle.assembler.specs.Reading.{all_blocks, with_instr, nothing, head_line, first_block, next_block, array_line, literal_line, instr_line, takes_array, takes_literal, block_line, other_line, step, code_with, end_from, text_from}
 use Rattle.assembler.specs.Checks.{Checked, code_checked}

@@ -15,8 +15,12 @@ use Rattle.operators.specs.declared.Binary.{Binary}
 use Rattle.semantics.specs.declared.program.Dest.{Dest}
 use Rattle.semantics.specs.declared.program.Op.{Op}
 use Rattle.semantics.specs.declared.program.Op.TheVariants as ops
-use Rattle.semantics.specs.Program.{Instr}
+use Rattle.semantics.specs.Program.{Instr, uses_slot}
 use Rattle.semantics.specs.Rule.{slot_of}
+use Rattle.semantics.specs.declared.words.Operator.{Operator}
+use Rattle.semantics.specs.declared.words.Operator.TheVariants as operators
+use Rattle.semantics.specs.Words.{operator_word, operator_of as operators_of}
+use Rattle.semantics.proofs.OperatorWords.{operator_is as word_is_operator}
 use Rattle.semantics.specs.Text.{literal, unary_word, binary_word}
 use Rattle.disassembler.specs.Listing.{slot_text, port_letter, dest_text, operand_text}
 use Rattle.disassembler.specs.Listing as Listing
@@ -26,7 +30,7 @@ use Rattle.graph_file.proofs.Marks.{number_is, literal_is}
 use Rattle.assembler.specs.declared.names.Name.{Name}
 use Rattle.assembler.specs.declared.names.Name.TheVariants.{Apply1, Apply2, Lit, Copy, Sync, Switch, Fetch, Store, Frame, Link, Send, Return, Ask, Open, Take, Give, Drain, Release}
 use Rattle.assembler.specs.Grammar.{origin_words}
-use Rattle.assembler.specs.Fields.{operator_names, other_names, name_in, operator_of, name_of, then_some, tagged, below, small_of, wide_of, small_behind, wide_behind, literal_behind, side_behind, no_operand, sided, binary_from, pair_of, entry_parts, entry_of, entry_behind, op_of, uses_slot, slot_from, dest_to, dest_parts, dest_behind, dest_of, node_of, place_of, place_parts, place_in, origin_of}
+use Rattle.assembler.specs.Fields.{other_names, name_in, name_for, operator_of, name_of, then_some, tagged, below, small_of, wide_of, small_behind, wide_behind, literal_behind, side_behind, no_operand, sided, binary_from, pair_of, entry_parts, entry_of, entry_behind, op_of, slot_from, dest_to, dest_parts, dest_behind, dest_of, node_of, place_of, place_parts, place_in, origin_of}
 
 -- ---- names
 abbrev pub name_text : Name → List ℕ
@@ -64,11 +68,26 @@ name_in_is (x ∷ xs) otherwise w n h k e = go (bytes_eq w x.0) refl (name_in_is
         (bytes_eq-Decides w x.0).0 t ∙ h.0 ∙ ap name_text is
     go false t rec = rec (let k : name_in xs otherwise w ≡ Some n = rw t at e in k)
 
+operator_is : (w : List ℕ) (n : Name) → operator_of w ≡ Some n → w ≡ name_text n
+unfolding operator_of
+operator_is w n e = go (operators_of w) refl
+  where
+    text : (o : Operator) → operator_word o ≡ name_text (name_for o)
+    text (operators.One op) = refl
+    text (operators.Two op) = refl
+
+    go : (o : Option Operator) → operators_of w ≡ o → w ≡ name_text n
+    go None t = absurd (let k : None ≡ Some n = rw t at e in cc)
+    go (Some o) t =
+        let k : Some (name_for o) ≡ Some n = rw t at e in
+        let same : name_for o ≡ n = cc in
+        word_is_operator w o t ∙ text o ∙ ap name_text same
+
 pub name_is : (w : List ℕ) (n : Name) → name_of w ≡ Some n → w ≡ name_text n
-unfolding name_of operator_of
-name_is w n e = name_in_is other_names (name_in operator_names None w) w n
+unfolding name_of
+name_is w n e = name_in_is other_names (operator_of w) w n
     (refl, (refl, (refl, (refl, (refl, (refl, (refl, (refl, (refl, (refl, (refl, (refl, (refl, (refl, (refl, (refl, tt))))))))))))))))
-    (name_in_is operator_names None w n (refl, (refl, (refl, (refl, (refl, (refl, (refl, (refl, (refl, (refl, (refl, (refl, (refl, (refl, (refl, (refl, tt)))))))))))))))) (λ k. absurd cc)) e
+    (operator_is w n) e
 
 -- ---- small parts
 chosen : {A : Type 0} (b : Bool) (x y z : A) → cond b x y ≡ z → ((b ≡ true) × (x ≡ z)) ⊎ ((b ≡ false) × (y ≡ z))

@@ -9,7 +9,7 @@ use Rattle.tags.specs.declared.value.Origin.{Origin}
 use Rattle.tags.specs.declared.value.Origin.TheVariants.{Untold}
 use Rattle.semantics.specs.declared.program.Op.{Op}
 use Rattle.semantics.specs.declared.program.Dest.{Dest}
-use Rattle.semantics.specs.Program.{Instr, CodeBlock}
+use Rattle.semantics.specs.Program.{Instr, CodeBlock, uses_slot}
 use Rattle.semantics.specs.Rule.{slot_of}
 use Rattle.semantics.specs.Text.{literal}
 use Rattle.disassembler.specs.Listing.{slot_text, dest_text, operand_text}
@@ -22,7 +22,7 @@ use Rattle.assembler.specs.declared.fault.AsmFaultKind.{AsmFaultKind}
 use Rattle.assembler.specs.declared.fault.AsmFaultKind.TheVariants.{BadLine, BadNumber, BadName, BadSlot, BadDestination, BadOperand, BadOrigin}
 use Rattle.assembler.specs.Words.{Word}
 use Rattle.assembler.specs.Grammar.{head_words, block_words, origin_words, instr_words, array_words, literal_words}
-use Rattle.assembler.specs.Fields.{name_of, op_of, uses_slot, slot_from, dest_of, origin_of}
+use Rattle.assembler.specs.Fields.{name_of, op_of, slot_from, dest_of, origin_of}
 use Rattle.assembler.specs.Lines.{word_from, none_from, key_from, number_from, count_from, keyed_from, head_from, block_from, array_from, literal_from, origin_from, op_from, Tail, tail_from, named_from, instr_from}
 use Rattle.assembler.proofs.Spelled.{name_is, op_is, slot_is, dest_is, origin_is}
 

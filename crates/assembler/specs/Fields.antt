@@ -5,24 +5,19 @@ use Rattle.tags.specs.declared.token.Port.{Port}
 use Rattle.tags.specs.declared.token.Port.TheVariants.{Left, Right}
 use Rattle.tags.specs.declared.value.Origin.{Origin}
 use Rattle.tags.specs.declared.value.Origin.TheVariants.{At}
-use Rattle.operators.specs.declared.Unary.TheVariants.{Neg, Not}
 use Rattle.operators.specs.declared.Binary.{Binary}
-use Rattle.operators.specs.declared.Binary.TheVariants.{Add, Sub, Mul, Div, Rem, And, Or, Xor, Shl, Shr, Eq, Ne, Lt, Le}
 use Rattle.semantics.specs.declared.program.Dest.{Dest}
 use Rattle.semantics.specs.declared.program.Op.{Op}
 use Rattle.semantics.specs.declared.program.Op.TheVariants as ops
+use Rattle.semantics.specs.declared.words.Operator.{Operator}
+use Rattle.semantics.specs.declared.words.Operator.TheVariants as operators
+use Rattle.semantics.specs.Words as Spelled
 use Rattle.graph_file.specs.Lines.{parts}
 use Rattle.graph_file.specs.Fields.{number_of, literal_of}
 use Rattle.assembler.specs.declared.names.Name.{Name}
 use Rattle.assembler.specs.declared.names.Name.TheVariants.{Apply1, Apply2, Lit, Copy, Sync, Switch, Fetch, Store, Frame, Link, Send, Return, Ask, Open, Take, Give, Drain, Release}
 
 -- NAMES
-abbrev pub operator_names : List (List ℕ × Name)
-operator_names = (codes "neg", Apply1 Neg) ∷ (codes "not", Apply1 Not)
-    ∷ (codes "add", Apply2 Add) ∷ (codes "sub", Apply2 Sub) ∷ (codes "mul", Apply2 Mul) ∷ (codes "div", Apply2 Div) ∷ (codes "rem", Apply2 Rem)
-    ∷ (codes "and", Apply2 And) ∷ (codes "or", Apply2 Or) ∷ (codes "xor", Apply2 Xor) ∷ (codes "shl", Apply2 Shl) ∷ (codes "shr", Apply2 Shr)
-    ∷ (codes "eq", Apply2 Eq) ∷ (codes "ne", Apply2 Ne) ∷ (codes "lt", Apply2 Lt) ∷ (codes "le", Apply2 Le) ∷ []
-
 abbrev pub other_names : List (List ℕ × Name)
 other_names = (codes "lit", Lit) ∷ (codes "copy", Copy) ∷ (codes "sync", Sync) ∷ (codes "switch", Switch) ∷ (codes "fetch", Fetch) ∷ (codes "store", Store)
     ∷ (codes "frame", Frame) ∷ (codes "link", Link) ∷ (codes "send", Send) ∷ (codes "return", Return) ∷ (codes "ask", Ask) ∷ (codes "open", Open)
@@ -33,8 +28,13 @@ abbrev pub name_in : List (List ℕ × Name) → Option Name → List ℕ → Op
 name_in [] otherwise w = otherwise
 name_in (n ∷ ns) otherwise w = if bytes_eq w n.0 then Some n.1 else name_in ns otherwise w
 
+abbrev pub name_for : Operator → Name
+name_for (operators.One op) = Apply1 op
+name_for (operators.Two op) = Apply2 op
+
+-- the names of operators
 unfoldable pub operator_of : List ℕ → Option Name
-operator_of w = name_in operator_names None w
+operator_of w = option_map name_for (Spelled.operator_of w)
 
 unfoldable pub name_of : List ℕ → Option Name
 name_of w = name_in other_names (operator_of w) w
@@ -125,21 +125,6 @@ op_of Drain w = option_map ops.Drain (small_behind 107 w)
 op_of Release w = option_map ops.Release (small_behind 111 w)
 
 -- SLOTS
-abbrev pub uses_slot : Op → Bool
-uses_slot (ops.Apply2 op) = true
-uses_slot ops.Sync = true
-uses_slot ops.Switch = true
-uses_slot (ops.Store a) = true
-uses_slot (ops.Send b e) = true
-uses_slot (ops.Return o) = true
-uses_slot (ops.Ask o) = true
-uses_slot (ops.Release o) = true
-uses_slot (ops.Open k) = true
-uses_slot (ops.Take k) = true
-uses_slot (ops.Give k) = true
-uses_slot (ops.Drain k) = true
-uses_slot op = false
-
 -- A slot stands where the operation uses one, and else `-`.
 unfoldable pub slot_from : Bool → List ℕ → Option ℕ
 slot_from true w = number_of w

@@ -4,13 +4,13 @@ use Rattle.std.specs.Str.{bytes_eq}
 use Rattle.tags.specs.declared.value.Origin.{Origin}
 use Rattle.tags.specs.declared.value.Origin.TheVariants.{Untold}
 use Rattle.semantics.specs.declared.program.Op.{Op}
-use Rattle.semantics.specs.Program.{Instr, CodeBlock}
+use Rattle.semantics.specs.Program.{Instr, CodeBlock, uses_slot}
 use Rattle.graph_file.specs.Given.{◌>>=◌}
 use Rattle.graph_file.specs.Fields.{number_of, literal_of}
 use Rattle.assembler.specs.declared.fault.AsmFaultKind.{AsmFaultKind}
 use Rattle.assembler.specs.declared.fault.AsmFaultKind.TheVariants.{BadLine, BadNumber, BadName, BadSlot, BadDestination, BadOperand, BadOrigin}
 use Rattle.assembler.specs.Words.{Word}
-use Rattle.assembler.specs.Fields.{name_of, op_of, uses_slot, slot_from, dest_of, origin_of}
+use Rattle.assembler.specs.Fields.{name_of, op_of, slot_from, dest_of, origin_of}
 
 unfoldable pub word_from : List Word → Result (Word × List Word) AsmFaultKind
 word_from [] = Err BadLine

@@ -1,7 +1,7 @@
 //! The object that a listing is of.
 
 ghost use Rattle.std.specs.Prelude.{◌≡◌, ◌⊎◌, ℕ, None, Ok, IfOk, MatchResult};
-ghost use Rattle.object_view.specs.Fields.{version_number};
+ghost use Rattle.semantics.specs.Versions.{version_number};
 ghost use Rattle.object_view.specs.Reading.{opened};
 ghost use Rattle.object_view.specs.Checks.{first_refusal};
 ghost use Rattle.semantics.specs.Program as Program;
@@ -15,7 +15,8 @@ use crate::checks::check_code;
 use crate::fault::AsmFault;
 use crate::reading::{line_at, read_text};
 use code::Code;
-use object_view::{Object, Version};
+use object_view::Object;
+use semantics::version::Version;
 use std::alloc::Allocator;
 
 /// What a listing is of: `object_view::write` makes the object.

@@ -8,7 +8,6 @@ ghost use Rattle.semantics.specs.Rule.{slot_of};
 ghost use Rattle.assembler.specs.Checks as Checks;
 
 use crate::fault::AsmFaultKind;
-use crate::fields::uses_slot;
 use code::{Code, CodeBlock, Instr};
 use operators::Binary;
 use semantics::program::{Dest, Op};
@@ -87,7 +86,7 @@ fn operand_fits<A: Allocator>(code: &Code<A>, op: Op) -> bool
 fn slot_fits<A: Allocator>(slots: u32, instr: &Instr<A>) -> bool
     ensures { result ≡ Checks.slot_fits slots (slot_of instr.now instr.now.op) instr.now.slot }
 {
-    if uses_slot(instr.op) {
+    if instr.op.uses_slot() {
         instr.slot < slots
     } else {
         instr.slot == 0

@@ -146,27 +146,6 @@ pub(crate) fn op_of(name: Name, bytes: &[u8]) -> Option<Op>
     }
 }
 
-/// Whether the operation uses a slot.
-pub(crate) fn uses_slot(op: Op) -> bool
-    ensures { result ≡ Fields.uses_slot op }
-{
-    matches!(
-        op,
-        Op::Apply2 { .. }
-            | Op::Sync
-            | Op::Switch
-            | Op::Store { .. }
-            | Op::Send { .. }
-            | Op::Return { .. }
-            | Op::Ask { .. }
-            | Op::Release { .. }
-            | Op::Open { .. }
-            | Op::Take { .. }
-            | Op::Give { .. }
-            | Op::Drain { .. }
-    )
-}
-
 /// The slot that stands there, if one may, or `-`.
 #[tactic(auto, unfolding(crate::specs::Fields::slot_from))]
 pub(crate) fn slot_from(used: bool, bytes: &[u8]) -> Option<u32>

@@ -5,7 +5,7 @@ ghost use Rattle.assembler.specs.Given.{Gives};
 ghost use Rattle.assembler.specs.Lines as Lines;
 
 use crate::fault::AsmFaultKind;
-use crate::fields::{dest_of, op_of, origin_of, slot_from, uses_slot};
+use crate::fields::{dest_of, op_of, origin_of, slot_from};
 use crate::names::Name;
 use crate::words::Words;
 use code::{CodeBlock, Instr};
@@ -204,7 +204,7 @@ fn named_from<A: Allocator + Clone>(
     ensures { Gives (λ i. i) result (Lines.named_from name.now (tail.entry.slot.now, tail.entry.first.now, tail.entry.second.now, tail.entry.operand.now, tail.entry.rest)) }
 {
     let op = op_from(name, tail.operand)?;
-    let slot = slot_from(uses_slot(op), tail.slot).ok_or(AsmFaultKind::BadSlot)?;
+    let slot = slot_from(op.uses_slot(), tail.slot).ok_or(AsmFaultKind::BadSlot)?;
     let first = dest_of(tail.first).ok_or(AsmFaultKind::BadDestination)?;
     let second = dest_of(tail.second).ok_or(AsmFaultKind::BadDestination)?;
     let origin = origin_from(tail.rest)?;

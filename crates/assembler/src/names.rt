@@ -4,6 +4,7 @@ ghost use Rattle.std.specs.Prelude.{◌≡◌};
 ghost use Rattle.assembler.specs.Fields.{operator_of, name_of};
 
 use operators::{Binary, Unary};
+use semantics::words::{Operator, operator_of};
 
 /// The name of an operation.
 #[derive(Clone, Copy, Debug, PartialEq, Eq)]
@@ -77,24 +78,8 @@ impl Name {
 fn operator(bytes: &[u8]) -> Option<Name>
     ensures { result ≡ operator_of bytes.now }
 {
-    let name = match bytes {
-        b"neg" => Name::Apply1(Unary::Neg),
-        b"not" => Name::Apply1(Unary::Not),
-        b"add" => Name::Apply2(Binary::Add),
-        b"sub" => Name::Apply2(Binary::Sub),
-        b"mul" => Name::Apply2(Binary::Mul),
-        b"div" => Name::Apply2(Binary::Div),
-        b"rem" => Name::Apply2(Binary::Rem),
-        b"and" => Name::Apply2(Binary::And),
-        b"or" => Name::Apply2(Binary::Or),
-        b"xor" => Name::Apply2(Binary::Xor),
-        b"shl" => Name::Apply2(Binary::Shl),
-        b"shr" => Name::Apply2(Binary::Shr),
-        b"eq" => Name::Apply2(Binary::Eq),
-        b"ne" => Name::Apply2(Binary::Ne),
-        b"lt" => Name::Apply2(Binary::Lt),
-        b"le" => Name::Apply2(Binary::Le),
-        _ => return None,
-    };
-    Some(name)
+    match operator_of(bytes)? {
+        Operator::One(op) => Some(Name::Apply1(op)),
+        Operator::Two(op) => Some(Name::Apply2(op)),
+    }
 }

@@ -2,7 +2,7 @@
 
 ghost use Rattle.std.specs.Prelude.{◌≡◌, ◌++◌, ◌∷◌, [], ℕ, option_to_list, decimal, length};
 ghost use Rattle.semantics.specs.Program.{Instr};
-ghost use Rattle.semantics.specs.Text.{field, unary_word, binary_word};
+ghost use Rattle.semantics.specs.Text.{field};
 ghost use Rattle.semantics.specs.Rule.{slot_of};
 ghost use Rattle.disassembler.specs.Listing.{name_of, right_in, left_in, slot_text, dest_text, port_letter, operand_text, origin_text, instr_line};
 ghost use Rattle.object_view.specs.Reading.{shown};
@@ -11,44 +11,12 @@ ghost use Rattle.sink.specs.Sends.{Sends};
 use crate::column::gap;
 use itoa::Buffer;
 use object_view::CodeInstr;
-use operators::{Binary, Unary};
 use semantics::program::{Dest, Op};
+use semantics::words::{binary_word, unary_word};
 use sink::{send, send_all};
 use std::io::{self, Write};
 use tags::token::Port;
 use tags::value::Origin;
-
-/// The name of an operator.
-fn unary_word(op: Unary) -> &'static [u8]
-    ensures { result.now ≡ unary_word op }
-{
-    match op {
-        Unary::Neg => b"neg",
-        Unary::Not => b"not",
-    }
-}
-
-/// The name of an operator.
-fn binary_word(op: Binary) -> &'static [u8]
-    ensures { result.now ≡ binary_word op }
-{
-    match op {
-        Binary::Add => b"add",
-        Binary::Sub => b"sub",
-        Binary::Mul => b"mul",
-        Binary::Div => b"div",
-        Binary::Rem => b"rem",
-        Binary::And => b"and",
-        Binary::Or => b"or",
-        Binary::Xor => b"xor",
-        Binary::Shl => b"shl",
-        Binary::Shr => b"shr",
-        Binary::Eq => b"eq",
-        Binary::Ne => b"ne",
-        Binary::Lt => b"lt",
-        Binary::Le => b"le",
-    }
-}
 
 /// The name of an operation.
 pub fn name_of(op: Op) -> &'static [u8]
@@ -82,20 +50,10 @@ pub fn name_of(op: Op) -> &'static [u8]
 fn slot_used(instr: &CodeInstr) -> Option<u32>
     ensures { result ≡ slot_of (shown instr.now) instr.now.op }
 {
-    match instr.op {
-        Op::Apply2 { .. }
-        | Op::Sync
-        | Op::Switch
-        | Op::Store { .. }
-        | Op::Send { .. }
-        | Op::Return { .. }
-        | Op::Ask { .. }
-        | Op::Release { .. }
-        | Op::Open { .. }
-        | Op::Take { .. }
-        | Op::Give { .. }
-        | Op::Drain { .. } => Some(instr.slot),
-        _ => None,
+    if instr.op.uses_slot() {
+        Some(instr.slot)
+    } else {
+        None
     }
 }
 

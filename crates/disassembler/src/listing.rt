@@ -2,7 +2,6 @@
 
 ghost use Rattle.std.specs.Prelude.{◌≡◌, ◌++◌, ◌∷◌, [], ℕ, ◌<◌, Some, decimal, codes, length, slice_get, option_map};
 ghost use Rattle.semantics.specs.Program.{CodeBlock};
-ghost use Rattle.object_view.specs.Fields.{version_number};
 ghost use Rattle.object_view.specs.Reading.{shown};
 ghost use Rattle.disassembler.specs.Places.{IsBlockAt};
 ghost use Rattle.sink.specs.Sends.{Sends};
@@ -12,18 +11,9 @@ ghost use Rattle.sink.specs.Numbered.{numbered};
 use crate::line::list_instr;
 use crate::literals::is_told;
 use itoa::Buffer;
-use object_view::{BlockView, CodeInstr, Object, Version};
+use object_view::{BlockView, CodeInstr, Object};
 use sink::{send, send_all};
 use std::io::{self, Write};
-
-fn version_number(version: Version) -> u32
-    ensures { result ≡ version_number version }
-{
-    match version {
-        Version::One => 1,
-        Version::Two => 2,
-    }
-}
 
 /// The first line.
 fn list_head<W: Write>(writer: &mut W, object: &Object<'_>) -> io::Result<()>
@@ -31,7 +21,7 @@ fn list_head<W: Write>(writer: &mut W, object: &Object<'_>) -> io::Result<()>
 {
     let mut first = Buffer::new();
     let mut second = Buffer::new();
-    let version = first.format(version_number(object.version())).as_bytes();
+    let version = first.format(object.version().number()).as_bytes();
     let main = second.format(object.main()).as_bytes();
     send_all(writer, &[b"ets ", version, b" main ", main, b"\n"])
 }

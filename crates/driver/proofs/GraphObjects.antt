@@ -12,8 +12,9 @@ use Rattle.semantics.specs.Cause.{HasBounds}
 use Rattle.semantics.specs.Machine.{outputs_of}
 use Rattle.semantics.specs.Orderly as Orderly
 use Rattle.slot_alloc.specs.Assigned.{IsAssigned}
-use Rattle.select.specs.declared.Version.{Version}
-use Rattle.select.specs.Emitted.{version_number, code_of, emitted_block}
+use Rattle.semantics.specs.declared.version.Version.{Version}
+use Rattle.semantics.specs.Versions.{version_number}
+use Rattle.select.specs.Emitted.{code_of, emitted_block}
 use Rattle.select.specs.Emittable.{IsEmittable}
 use Rattle.select.specs.Literals.{table_of}
 use Rattle.schedule.specs.Setting.{inputs_in, inputs_of}

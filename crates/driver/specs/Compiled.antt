@@ -8,8 +8,9 @@ use Rattle.semantics.specs.Faithful.{inputs_of}
 use Rattle.semantics.specs.Machine.{outputs_of}
 use Rattle.law_graphs.specs.Graphs.{KeepsPromises}
 use Rattle.slot_alloc.specs.Assigned.{IsAssigned, IsFirstCrowded}
-use Rattle.select.specs.declared.Version.{Version}
-use Rattle.select.specs.Emitted.{version_number, code_of}
+use Rattle.semantics.specs.declared.version.Version.{Version}
+use Rattle.semantics.specs.Versions.{version_number}
+use Rattle.select.specs.Emitted.{code_of}
 use Rattle.select.specs.Literals.{table_of, too_far}
 use Rattle.schedule.specs.Setting.{inputs_of as inputs_in_code}
 use Rattle.law_composition.specs.Graphs.{plan_of}

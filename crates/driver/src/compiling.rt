@@ -3,8 +3,7 @@
 
 ghost use Rattle.std.specs.Prelude.{◌≡◌, IfOk, MatchResult};
 ghost use Rattle.semantics.specs.Text.{IsText};
-ghost use Rattle.select.specs.Emitted.{version_number as emitted_number};
-ghost use Rattle.object_view.specs.Fields.{version_number as written_number};
+ghost use Rattle.semantics.specs.Versions.{version_number};
 ghost use Rattle.law_composition.specs.Graphs.{plan_of};
 ghost use Rattle.driver.specs.Compiled.{IsCodeFor, IsTooLarge};
 ghost use Rattle.driver.specs.Refused.{IsGoodText, IsCompiled, IsBadText, IsRefusedText};
@@ -15,11 +14,12 @@ use code::{Code, Plan};
 use expansion::expand;
 use fanout::narrow;
 use folding::fold;
-use graph::{Graph, Version};
+use graph::Graph;
 use graph_check::{CheckFaultKind, Checked, check};
 use graph_file::{ReadFaultKind, read};
 use object_view::write;
 use select::{EmitFault, emit};
+use semantics::version::Version;
 use slot_alloc::{AssignFault, assign};
 use std::alloc::{AllocError, Allocator};
 use std::io::{self, Write};
@@ -85,22 +85,10 @@ fn plan<'a, A: Allocator + Clone>(
 }
 
 /// The version of the graph's object, which is that of its text.
-fn version_of<'a, A: Allocator>(graph: &Graph<'a, A>) -> select::Version
-    ensures { emitted_number result ≡ graph.now.version }
+fn version_of<'a, A: Allocator>(graph: &Graph<'a, A>) -> Version
+    ensures { version_number result ≡ graph.now.version }
 {
-    match graph.version {
-        Version::One => select::Version::One,
-        Version::Two => select::Version::Two,
-    }
-}
-
-fn object_version<'a, A: Allocator>(graph: &Graph<'a, A>) -> object_view::Version
-    ensures { written_number result ≡ graph.now.version }
-{
-    match graph.version {
-        Version::One => object_view::Version::One,
-        Version::Two => object_view::Version::Two,
-    }
+    graph.version
 }
 
 /// Makes the code of a graph.
@@ -144,7 +132,7 @@ pub fn compile<'a, A: Allocator + Clone>(alloc: A, text: &'a [u8]) -> Result<Com
         Err(fault) => return Err(fault),
     };
     let mut object = Vec::new(alloc);
-    match write(&code, object_version(checked.graph()), &mut object) {
+    match write(&code, version_of(checked.graph()), &mut object) {
         Ok(()) => Ok(Compiled { checked, object }),
         Err(_) => Err(Fault::Memory),
     }
@@ -178,7 +166,7 @@ pub fn write_object<A: Allocator + Clone, W: Write>(
         Ok(code) => code,
         Err(fault) => return Err(CompileRefusal::Fault(fault)),
     };
-    match write(&code, object_version(checked.graph()), writer) {
+    match write(&code, version_of(checked.graph()), writer) {
         Ok(()) => Ok(()),
         Err(fault) => Err(CompileRefusal::Write(fault)),
     }

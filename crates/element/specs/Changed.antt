@@ -10,9 +10,6 @@ use Rattle.frame_manager.specs.Managed.{Managed}
 use Rattle.frame_manager.specs.Answered.{Requested, Released, RequestIsEvent, ReleaseIsEvent}
 use Rattle.tags.specs.declared.slot.SlotState.TheVariants.{Empty}
 use Rattle.tags.specs.declared.token.Word.{Word}
-use Rattle.semantics.specs.declared.program.Op.{Op}
-use Rattle.semantics.specs.Program.{Instr}
-use Rattle.semantics.specs.Rule.{slot_of}
 use Rattle.semantics.specs.Machine.{Store, host_rule}
 use Rattle.element.specs.declared.lane.host.HostChange.{HostChange}
 use Rattle.element.specs.declared.lane.host.HostChange.TheVariants.{Output, Done}
@@ -50,9 +47,6 @@ state_in h f (Some r) = slice_index_or h.states (slot_place h.shape f r) Empty
 abbrev pub with_state_in : Part → ℕ → Option ℕ → SlotState → Part
 with_state_in h f None v = h
 with_state_in h f (Some r) v = with_state h (slot_place h.shape f r) v
-
-abbrev pub UsesSlot : Op → Bool → Type 0
-UsesSlot op b = (i : Instr) → slot_of i op ≡ (if b then Some i.slot else None)
 
 -- the cell lies here
 abbrev pub OwnsCell : Part → ℕ → Type 0

@@ -4,8 +4,9 @@ ghost use Rattle.std.specs.Prelude.{◌≡◌, ℕ, ◌≤◌, List, map, length
 ghost use Rattle.semantics.specs.Graph.{flow_of, place_of, array_names, block_names, same_name, resolved_kind, resolved_block};
 ghost use Rattle.expansion.specs.Flows.{NamedArray, NamedBlock, array_name, block_name, resolved_node, resolved_named, array_length};
 
-use graph::{Array, Graph, Name, Version};
+use graph::{Array, Graph, Name};
 use semantics::graph::{Kind, Region, Source};
+use semantics::version::Version;
 use std::alloc::{AllocError, Allocator};
 use std::marker::Model;
 
@@ -54,7 +55,7 @@ pub(crate) struct Flow<A: Allocator> {
 }
 
 impl<A: Allocator> Model for Flow<A> {
-    ghost use Rattle.graph.specs.Versions.{version_number};
+    ghost use Rattle.semantics.specs.Versions.{version_number};
     ghost use Rattle.semantics.specs.Graph.{Flow};
 
     ghost Value = { Flow };

@@ -1,7 +1,7 @@
 //! The plan of a whole graph.
 
 ghost use Rattle.std.specs.Prelude.{◌≡◌, ℕ, ◌<◌, ◌≤◌, true, false, length, map, All, IfOk, OnOk, Some, slice_get};
-ghost use Rattle.graph.specs.Versions.{version_number};
+ghost use Rattle.semantics.specs.Versions.{version_number};
 ghost use Rattle.semantics.specs.Graph.{node_count};
 ghost use Rattle.expansion.specs.Blocks as Blocks;
 ghost use Rattle.expansion.specs.Expanded as Expanded;
@@ -14,8 +14,8 @@ use crate::triggers::triggers_of;
 use crate::uses::uses_of;
 use crate::variants::{looped_of, variants_of};
 use code::{CodeBlock, Plan, Program};
-use graph::Version;
 use semantics::program::Mark;
+use semantics::version::Version;
 use std::alloc::{AllocError, Allocator};
 use std::marker::Model;
 

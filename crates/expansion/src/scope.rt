@@ -1,15 +1,15 @@
 //! What the code of a block rests on.
 
 ghost use Rattle.std.specs.Prelude.{◌≡◌, ◌<◌, ◌≤◌, Some};
-ghost use Rattle.graph.specs.Versions.{version_number};
+ghost use Rattle.semantics.specs.Versions.{version_number};
 ghost use Rattle.semantics.specs.Meaning.{origin_in};
 ghost use Rattle.expansion.specs.Blocks as Blocks;
 ghost use Rattle.expansion.specs.Scopes as Scopes;
 
 use crate::flow::Block;
 use crate::uses::Uses;
-use graph::Version;
 use semantics::graph::Source;
+use semantics::version::Version;
 use std::alloc::Allocator;
 use std::marker::Model;
 use tags::value::{NodeNumber, Origin};
@@ -28,7 +28,7 @@ pub(crate) struct Scope<'b, A: Allocator> {
 }
 
 impl<'b, A: Allocator> Model for Scope<'b, A> {
-    ghost use Rattle.graph.specs.Versions.{version_number};
+    ghost use Rattle.semantics.specs.Versions.{version_number};
     ghost use Rattle.expansion.specs.Scopes.{Scope};
 
     ghost Value = { Scope };

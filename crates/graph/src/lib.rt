@@ -3,6 +3,7 @@
 #![tactic(auto)]
 
 use semantics::graph::{Kind, Region, Source};
+use semantics::version::Version;
 use std::alloc::Allocator;
 use std::marker::Model;
 
@@ -18,13 +19,6 @@ impl<'a> Model for Name<'a> {
     ghost Value = { List ℕ };
 
     ghost view = { λ n. n.bytes.now };
-}
-
-/// The version of a graph's text: in the second one faults tell where they were made, and there are strict calls.
-#[derive(Clone, Copy, Debug, PartialEq, Eq)]
-pub enum Version {
-    One,
-    Two,
 }
 
 /// An array of cells.
@@ -95,7 +89,7 @@ impl<'a, A: Allocator> Model for Graph<'a, A> {
 
     ghost Value = { Graph };
 
-    ghost use Rattle.graph.specs.Versions.{version_number};
+    ghost use Rattle.semantics.specs.Versions.{version_number};
 
     ghost view = { λ g. record { version = version_number g.version; arrays = g.arrays.items; blocks = g.blocks.items; main = g.main } };
 

@@ -15,9 +15,9 @@ use Rattle.semantics.specs.declared.graph.Region.{Region}
 use Rattle.semantics.specs.declared.graph.Source.{Source}
 use Rattle.semantics.specs.Graph.{Node, Graph}
 use Rattle.semantics.specs.Text.{line, node_line as node_text, array_line as array_text, block_text, text_of, region_text, IsName, IsWrittenRegion, IsWrittenSource, HasNodeLine, HasBlockText, HasText}
-use Rattle.graph.specs.Versions.{version_number}
-use Rattle.graph.specs.declared.Version.{Version}
-use Rattle.graph.specs.declared.Version.TheVariants.{One, Two}
+use Rattle.semantics.specs.Versions.{version_number}
+use Rattle.semantics.specs.declared.version.Version.{Version}
+use Rattle.semantics.specs.declared.version.Version.TheVariants.{One, Two}
 use Rattle.graph_file.specs.declared.lines.Place.{Place}
 use Rattle.graph_file.specs.declared.lines.Place.TheVariants.{Arrays, Blocks, Nodes, Closing, Done}
 use Rattle.graph_file.specs.Given.{◌>>=◌}

@@ -8,9 +8,9 @@ use Rattle.semantics.specs.declared.graph.Kind.{Kind}
 use Rattle.semantics.specs.declared.graph.Kind.TheVariants as kinds
 use Rattle.semantics.specs.Graph.{Node}
 use Rattle.semantics.specs.Text.{region_text, IsWrittenRegion, HasLine, HasNodeLine}
-use Rattle.graph.specs.Versions.{version_number}
-use Rattle.graph.specs.declared.Version.{Version}
-use Rattle.graph.specs.declared.Version.TheVariants.{One, Two}
+use Rattle.semantics.specs.Versions.{version_number}
+use Rattle.semantics.specs.declared.version.Version.{Version}
+use Rattle.semantics.specs.declared.version.Version.TheVariants.{One, Two}
 use Rattle.graph_file.specs.declared.fault.ReadFaultKind.TheVariants.{BadLine, TooMany}
 use Rattle.graph_file.specs.declared.words.Word.{Word}
 use Rattle.graph_file.specs.Given.{◌>>=◌}

@@ -12,15 +12,19 @@ use Rattle.operators.specs.declared.Binary.TheVariants.{Add, Sub, Mul, Div, Rem,
 use Rattle.semantics.specs.declared.graph.Source.{Source}
 use Rattle.semantics.specs.declared.graph.Kind.{Kind}
 use Rattle.semantics.specs.declared.graph.Kind.TheVariants as kinds
+use Rattle.semantics.specs.declared.words.Operator.{Operator}
+use Rattle.semantics.specs.declared.words.Operator.TheVariants as operators
+use Rattle.semantics.specs.Words.{operator_word, operator_of as operators_of}
+use Rattle.semantics.proofs.OperatorWords.{operator_is as word_is_operator}
 use Rattle.semantics.specs.Text.{literal, unary_word, binary_word, IsName, IsNumber, IsWrittenSource}
-use Rattle.graph.specs.declared.Version.{Version}
-use Rattle.graph.specs.declared.Version.TheVariants.{One, Two}
+use Rattle.semantics.specs.declared.version.Version.{Version}
+use Rattle.semantics.specs.declared.version.Version.TheVariants.{One, Two}
 use Rattle.graph_file.specs.declared.fault.ReadFaultKind.TheVariants.{BadNumber, BadName}
 use Rattle.graph_file.specs.declared.words.Word.{Word}
 use Rattle.graph_file.specs.declared.words.Word.TheVariants.{Lit, Apply1, Apply2, Cond, Enter, Merge, Fetch, Store, Call, StrictCall, Loop}
 use Rattle.graph_file.specs.Given.{◌>>=◌}
 use Rattle.graph_file.specs.Fields.{number_of, literal_of, is_name, source_of, field_from, number_from, literal_from, name_from, sources_from}
-use Rattle.graph_file.specs.Words.{operator_words, common_words, word_in, operator_of, common_of, word_of}
+use Rattle.graph_file.specs.Words.{common_words, word_in, word_for, operator_of, common_of, word_of}
 use Rattle.graph_file.specs.Nodes.{kind_from}
 use Rattle.graph_file.proofs.Binds.{bind_ok, done, ok_is, ok_or_is}
 use Rattle.graph_file.proofs.Marks.{number_is, number_again, literal_is, literal_again}
@@ -74,11 +78,26 @@ word_in_is v (x ∷ xs) otherwise bs w h k e = go (bytes_eq bs x.0) refl (word_i
         subst (λ (u : Word). Spells v bs u) is ((bytes_eq-Decides bs x.0).0 t ∙ h.0.0, h.0.1)
     go false t rec = rec (let k : word_in xs otherwise bs ≡ Some w = rw t at e in k)
 
+operator_is : (v : Version) (bs : List ℕ) (w : Word) → operator_of bs ≡ Some w → Spells v bs w
+unfolding operator_of
+operator_is v bs w e = go (operators_of bs) refl
+  where
+    spells : (o : Operator) → Spells v (operator_word o) (word_for o)
+    spells (operators.One op) = (refl, tt)
+    spells (operators.Two op) = (refl, tt)
+
+    go : (o : Option Operator) → operators_of bs ≡ o → Spells v bs w
+    go None t = absurd (let k : None ≡ Some w = rw t at e in cc)
+    go (Some o) t =
+        let k : Some (word_for o) ≡ Some w = rw t at e in
+        let same : word_for o ≡ w = cc in
+        subst (λ (u : Word). Spells v bs u) same (subst (λ (x : List ℕ). Spells v x (word_for o)) (sym (word_is_operator bs o t)) (spells o))
+
 common_is : (v : Version) (bs : List ℕ) (w : Word) → common_of bs ≡ Some w → Spells v bs w
-unfolding common_of operator_of
-common_is v bs w e = word_in_is v common_words (word_in operator_words None bs) bs w
+unfolding common_of
+common_is v bs w e = word_in_is v common_words (operator_of bs) bs w
     ((refl, tt), ((refl, tt), ((refl, tt), ((refl, tt), ((refl, tt), ((refl, tt), ((refl, tt), ((refl, tt), tt))))))))
-    (word_in_is v operator_words None bs w ((refl, tt), ((refl, tt), ((refl, tt), ((refl, tt), ((refl, tt), ((refl, tt), ((refl, tt), ((refl, tt), ((refl, tt), ((refl, tt), ((refl, tt), ((refl, tt), ((refl, tt), ((refl, tt), ((refl, tt), ((refl, tt), tt)))))))))))))))) (λ k. absurd cc)) e
+    (operator_is v bs w) e
 
 pub word_is : (v : Version) (bs : List ℕ) (w : Word) → word_of v bs ≡ Some w → Spells v bs w
 unfolding word_of
@@ -86,7 +105,7 @@ word_is One bs w e = common_is One bs w e
 word_is Two bs w e = word_in_is Two ((codes "scall", StrictCall) ∷ []) (common_of bs) bs w ((refl, tt), tt) (common_is Two bs w) e
 
 pub word_again : (w : Word) (v : Version) → IsWordIn w v → word_of v (word_text w) ≡ Some w
-unfolding word_of common_of operator_of
+unfolding word_of common_of operator_of operators_of
 word_again Lit One h = refl
 word_again Lit Two h = refl
 word_again Cond One h = refl

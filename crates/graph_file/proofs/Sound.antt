@@ -14,9 +14,9 @@ use Rattle.std.proofs.lemmas.Fmt.{decimal_digit}
 use Rattle.semantics.specs.declared.graph.Source.{Source}
 use Rattle.semantics.specs.Graph.{Node, Graph}
 use Rattle.semantics.specs.Text.{line, node_line as node_text, array_line as array_text, block_text, IsName, HasNodeLine, HasBlockText, HasText, IsText}
-use Rattle.graph.specs.Versions.{version_number}
-use Rattle.graph.specs.declared.Version.{Version}
-use Rattle.graph.specs.declared.Version.TheVariants.{One, Two}
+use Rattle.semantics.specs.Versions.{version_number}
+use Rattle.semantics.specs.declared.version.Version.{Version}
+use Rattle.semantics.specs.declared.version.Version.TheVariants.{One, Two}
 use Rattle.graph_file.specs.declared.fault.ReadFault.{ReadFault}
 use Rattle.graph_file.specs.declared.fault.ReadFaultKind.{ReadFaultKind}
 use Rattle.graph_file.specs.declared.fault.ReadFaultKind.TheVariants.{NoHeader, BadLine, BadNumber, TooMany}

@@ -15,8 +15,8 @@ use Rattle.semantics.specs.declared.graph.Kind.{Kind}
 use Rattle.semantics.specs.declared.graph.Kind.TheVariants as kinds
 use Rattle.semantics.specs.Graph.{Node}
 use Rattle.semantics.specs.Text.{field, line, kind_text, sources_text, node_line, region_text, literal, IsWrittenSource, HasNodeLine}
-use Rattle.graph.specs.Versions.{version_number}
-use Rattle.graph.specs.declared.Version.{Version}
+use Rattle.semantics.specs.Versions.{version_number}
+use Rattle.semantics.specs.declared.version.Version.{Version}
 use Rattle.graph_file.specs.declared.fault.ReadFaultKind.TheVariants.{BadLine}
 use Rattle.graph_file.specs.declared.words.Word.{Word}
 use Rattle.graph_file.specs.declared.words.Word.TheVariants as words

@@ -6,7 +6,7 @@ use Rattle.std.proofs.lemmas.List.{append-nil}
 use Rattle.std.proofs.lemmas.List.Concat.{flat_map-cons, flat_map-append}
 use Rattle.semantics.specs.declared.graph.Source.{Source}
 use Rattle.semantics.specs.Text.{field, line, sources_text, node_line, array_line, block_text, IsName, HasNodeLine, HasBlockText}
-use Rattle.graph.specs.Versions.{version_number}
+use Rattle.semantics.specs.Versions.{version_number}
 use Rattle.graph_file.specs.declared.lines.Place.{Place}
 use Rattle.graph_file.specs.declared.lines.Place.TheVariants.{Arrays, Blocks, Nodes, Closing, Done}
 use Rattle.graph_file.specs.Found.{Found}

@@ -1,7 +1,7 @@
 -- What was found in a text so far.
 use Rattle.std.specs.Prelude.{ℕ, List}
 use Rattle.semantics.specs.Graph.{Block}
-use Rattle.graph.specs.declared.Version.{Version}
+use Rattle.semantics.specs.declared.version.Version.{Version}
 
 pub record Found : Type 0 where
   pub version : Version

@@ -4,7 +4,7 @@ use Rattle.semantics.specs.declared.graph.Region.{Region}
 use Rattle.semantics.specs.declared.graph.Kind.{Kind}
 use Rattle.semantics.specs.declared.graph.Kind.TheVariants as kinds
 use Rattle.semantics.specs.Graph.{Node}
-use Rattle.graph.specs.declared.Version.{Version}
+use Rattle.semantics.specs.declared.version.Version.{Version}
 use Rattle.graph_file.specs.declared.fault.ReadFaultKind.{ReadFaultKind}
 use Rattle.graph_file.specs.declared.fault.ReadFaultKind.TheVariants.{BadLine, TooMany}
 use Rattle.graph_file.specs.declared.words.Word.{Word}

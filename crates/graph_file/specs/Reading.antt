@@ -4,9 +4,9 @@
 use Rattle.std.specs.Prelude.{◌≡◌, ◌⊎◌, ℕ, ◌+◌, ◌&&◌, ◌==◌, not, nat_le, nat_lt, Bool, true, false, List, [], ◌∷◌, ◌++◌, length, take, drop, Result, Ok, Err, codes, ⊤, if◌then◌else◌}
 use Rattle.std.specs.Str.{bytes_eq}
 use Rattle.semantics.specs.Graph.{Block, Graph}
-use Rattle.graph.specs.Versions.{version_number}
-use Rattle.graph.specs.declared.Version.{Version}
-use Rattle.graph.specs.declared.Version.TheVariants.{One, Two}
+use Rattle.semantics.specs.Versions.{version_number}
+use Rattle.semantics.specs.declared.version.Version.{Version}
+use Rattle.semantics.specs.declared.version.Version.TheVariants.{One, Two}
 use Rattle.graph_file.specs.declared.fault.ReadFault.{ReadFault}
 use Rattle.graph_file.specs.declared.fault.ReadFaultKind.{ReadFaultKind}
 use Rattle.graph_file.specs.declared.fault.ReadFaultKind.TheVariants.{NoHeader, BadLine, BadNumber, Unended, NoMain, TooMany, TrailingText, Memory}

@@ -1,18 +1,13 @@
 -- The words of node lines, and what stands behind each.
-use Rattle.std.specs.Prelude.{ℕ, ◌==◌, ◌+◌, nat_le, nat_lt, Bool, List, [], ◌∷◌, Option, None, Some, codes, if◌then◌else◌}
+use Rattle.std.specs.Prelude.{ℕ, ◌==◌, ◌+◌, nat_le, nat_lt, Bool, List, [], ◌∷◌, Option, Some, None, option_map, codes, if◌then◌else◌}
 use Rattle.std.specs.Str.{bytes_eq}
-use Rattle.operators.specs.declared.Unary.TheVariants.{Neg, Not}
-use Rattle.operators.specs.declared.Binary.TheVariants.{Add, Sub, Mul, Div, Rem, And, Or, Xor, Shl, Shr, Eq, Ne, Lt, Le}
-use Rattle.graph.specs.declared.Version.{Version}
-use Rattle.graph.specs.declared.Version.TheVariants.{One, Two}
+use Rattle.semantics.specs.declared.words.Operator.{Operator}
+use Rattle.semantics.specs.declared.words.Operator.TheVariants as operators
+use Rattle.semantics.specs.Words as Spelled
+use Rattle.semantics.specs.declared.version.Version.{Version}
+use Rattle.semantics.specs.declared.version.Version.TheVariants.{One, Two}
 use Rattle.graph_file.specs.declared.words.Word.{Word}
 use Rattle.graph_file.specs.declared.words.Word.TheVariants.{Lit, Apply1, Apply2, Cond, Enter, Merge, Fetch, Store, Call, StrictCall, Loop}
-
-abbrev pub operator_words : List (List ℕ × Word)
-operator_words = (codes "neg", Apply1 Neg) ∷ (codes "not", Apply1 Not)
-    ∷ (codes "add", Apply2 Add) ∷ (codes "sub", Apply2 Sub) ∷ (codes "mul", Apply2 Mul) ∷ (codes "div", Apply2 Div) ∷ (codes "rem", Apply2 Rem)
-    ∷ (codes "and", Apply2 And) ∷ (codes "or", Apply2 Or) ∷ (codes "xor", Apply2 Xor) ∷ (codes "shl", Apply2 Shl) ∷ (codes "shr", Apply2 Shr)
-    ∷ (codes "eq", Apply2 Eq) ∷ (codes "ne", Apply2 Ne) ∷ (codes "lt", Apply2 Lt) ∷ (codes "le", Apply2 Le) ∷ []
 
 abbrev pub common_words : List (List ℕ × Word)
 common_words = (codes "lit", Lit) ∷ (codes "cond", Cond) ∷ (codes "enter", Enter) ∷ (codes "merge", Merge) ∷ (codes "fetch", Fetch) ∷ (codes "store", Store)
@@ -23,8 +18,13 @@ abbrev pub word_in : List (List ℕ × Word) → Option Word → List ℕ → Op
 word_in [] otherwise bytes = otherwise
 word_in (w ∷ ws) otherwise bytes = if bytes_eq bytes w.0 then Some w.1 else word_in ws otherwise bytes
 
+abbrev pub word_for : Operator → Word
+word_for (operators.One op) = Apply1 op
+word_for (operators.Two op) = Apply2 op
+
+-- the words of operators
 unfoldable pub operator_of : List ℕ → Option Word
-operator_of bytes = word_in operator_words None bytes
+operator_of bytes = option_map word_for (Spelled.operator_of bytes)
 
 -- the words of both versions
 unfoldable pub common_of : List ℕ → Option Word

@@ -10,7 +10,8 @@ use crate::nodes::node_of;
 use crate::parts::{Parts, is_line};
 use crate::whole::Whole;
 use crate::words::SOURCES;
-use graph::{Array, Block, Name, Version};
+use graph::{Array, Block, Name};
+use semantics::version::Version;
 use std::alloc::Allocator;
 use std::marker::Model;
 

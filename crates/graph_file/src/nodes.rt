@@ -8,8 +8,9 @@ use crate::fault::ReadFaultKind;
 use crate::fields::{field_of, literal_field, name_field, number_field, region, source_fields};
 use crate::parts::Parts;
 use crate::words::Word;
-use graph::{Name, Node, Version};
+use graph::{Name, Node};
 use semantics::graph::{Kind, Region};
+use semantics::version::Version;
 use std::alloc::Allocator;
 
 /// The region and the word of a node line, and the fields after them, if they are of a form that a line may have.

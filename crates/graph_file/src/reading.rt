@@ -10,7 +10,8 @@ use crate::fault::{ReadFault, ReadFaultKind};
 use crate::lines::{Found, Place};
 use crate::parts::Parts;
 use crate::whole::Whole;
-use graph::{Graph, Version};
+use graph::Graph;
+use semantics::version::Version;
 use std::alloc::Allocator;
 
 /// What the lines behind the header say.

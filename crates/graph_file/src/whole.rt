@@ -3,7 +3,8 @@
 ghost use Rattle.std.specs.Prelude.{◌≡◌};
 ghost use Rattle.semantics.specs.Text.{HasText};
 
-use graph::{Array, Block, Graph, Name, Version};
+use graph::{Array, Block, Graph, Name};
+use semantics::version::Version;
 use std::alloc::Allocator;
 use std::marker::Model;
 
@@ -19,7 +20,7 @@ pub(crate) struct Whole<'a, A: Allocator> {
 
 impl<'a, A: Allocator> Model for Whole<'a, A> {
     ghost use Rattle.semantics.specs.Graph.{Graph};
-    ghost use Rattle.graph.specs.Versions.{version_number};
+    ghost use Rattle.semantics.specs.Versions.{version_number};
 
     ghost Value = { Graph };
 

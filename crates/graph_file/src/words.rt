@@ -4,8 +4,9 @@ ghost use Rattle.std.specs.Prelude.{◌≡◌, ◌+◌, ℕ, length};
 ghost use Rattle.graph_file.specs.Words.{operator_of, common_of, word_of, operand_count, source_count, has_form, has_room};
 
 use crate::parts::Parts;
-use graph::Version;
 use operators::{Binary, Unary};
+use semantics::version::Version;
+use semantics::words::{Operator, operator_of};
 
 /// The most sources of a line.
 pub(crate) const SOURCES: usize = 16;
@@ -112,24 +113,8 @@ fn common(bytes: &[u8]) -> Option<Word>
 fn operator(bytes: &[u8]) -> Option<Word>
     ensures { result ≡ operator_of bytes.now }
 {
-    let word = match bytes {
-        b"neg" => Word::Apply1(Unary::Neg),
-        b"not" => Word::Apply1(Unary::Not),
-        b"add" => Word::Apply2(Binary::Add),
-        b"sub" => Word::Apply2(Binary::Sub),
-        b"mul" => Word::Apply2(Binary::Mul),
-        b"div" => Word::Apply2(Binary::Div),
-        b"rem" => Word::Apply2(Binary::Rem),
-        b"and" => Word::Apply2(Binary::And),
-        b"or" => Word::Apply2(Binary::Or),
-        b"xor" => Word::Apply2(Binary::Xor),
-        b"shl" => Word::Apply2(Binary::Shl),
-        b"shr" => Word::Apply2(Binary::Shr),
-        b"eq" => Word::Apply2(Binary::Eq),
-        b"ne" => Word::Apply2(Binary::Ne),
-        b"lt" => Word::Apply2(Binary::Lt),
-        b"le" => Word::Apply2(Binary::Le),
-        _ => return None,
-    };
-    Some(word)
+    match operator_of(bytes)? {
+        Operator::One(op) => Some(Word::Apply1(op)),
+        Operator::Two(op) => Some(Word::Apply2(op)),
+    }
 }

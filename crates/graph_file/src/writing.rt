@@ -1,15 +1,14 @@
 //! Graphs as texts: writing.
 
 ghost use Rattle.std.specs.Prelude.{◌≡◌, ◌++◌, ◌∷◌, [], ℕ, List, flat_map};
-ghost use Rattle.semantics.specs.Text.{field, sources_text, region_text, unary_word, binary_word, kind_text, node_line, block_text, array_line, text_of};
+ghost use Rattle.semantics.specs.Text.{field, sources_text, region_text, kind_text, node_line, block_text, array_line, text_of};
 ghost use Rattle.graph_file.specs.Sending.{source_text, head_text, out_text, version_text, main_text};
 ghost use Rattle.sink.specs.Sends.{Sends};
-ghost use Rattle.graph.specs.Versions.{version_number};
 
-use graph::{Array, Block, Graph, Name, Node, Version};
+use graph::{Array, Block, Graph, Name, Node};
 use itoa::Buffer;
-use operators::{Binary, Unary};
 use semantics::graph::{Kind, Region, Source};
+use semantics::words::{binary_word, unary_word};
 use sink::{send, send_all};
 use std::alloc::Allocator;
 use std::io::{self, Write};
@@ -50,38 +49,6 @@ fn send_region<W: Write>(writer: &mut W, region: Region) -> io::Result<()>
                 send_all(writer, &[k, b"-"])
             }
         }
-    }
-}
-
-/// The word of an operator.
-fn unary_word(op: Unary) -> &'static [u8]
-    ensures { result.now ≡ unary_word op }
-{
-    match op {
-        Unary::Neg => b"neg",
-        Unary::Not => b"not",
-    }
-}
-
-/// The word of an operator.
-fn binary_word(op: Binary) -> &'static [u8]
-    ensures { result.now ≡ binary_word op }
-{
-    match op {
-        Binary::Add => b"add",
-        Binary::Sub => b"sub",
-        Binary::Mul => b"mul",
-        Binary::Div => b"div",
-        Binary::Rem => b"rem",
-        Binary::And => b"and",
-        Binary::Or => b"or",
-        Binary::Xor => b"xor",
-        Binary::Shl => b"shl",
-        Binary::Shr => b"shr",
-        Binary::Eq => b"eq",
-        Binary::Ne => b"ne",
-        Binary::Lt => b"lt",
-        Binary::Le => b"le",
     }
 }
 
@@ -203,21 +170,12 @@ fn send_arrays<W: Write>(writer: &mut W, arrays: &[Array<'_>]) -> io::Result<()>
     Ok(())
 }
 
-fn version_number(version: Version) -> u32
-    ensures { result ≡ version_number version }
-{
-    match version {
-        Version::One => 1,
-        Version::Two => 2,
-    }
-}
-
 /// The first line of a text.
 fn send_header<A: Allocator, W: Write>(writer: &mut W, graph: &Graph<'_, A>) -> io::Result<()>
     ensures { Sends result (W.contents writer.old) (W.contents writer.new) (version_text graph.now.version) }
 {
     let mut number = Buffer::new();
-    let number = number.format(version_number(graph.version)).as_bytes();
+    let number = number.format(graph.version.number()).as_bytes();
     send_all(writer, &[b"etsgraph ", number, b"\n"])
 }
 

@@ -12,7 +12,7 @@ use Rattle.code.specs.Sound.{IsSound}
 use Rattle.expansion.specs.Expanded.{expanded}
 use Rattle.folding.specs.Folded.{folded}
 use Rattle.fanout.specs.Narrowed.{narrowed}
-use Rattle.select.specs.declared.Version.{Version}
+use Rattle.semantics.specs.declared.version.Version.{Version}
 use Rattle.select.specs.Emitted.{code_of}
 use Rattle.select.specs.Emittable.{IsEmittable}
 

@@ -12,9 +12,10 @@ use Rattle.semantics.specs.Bytes.{may_fault}
 use Rattle.semantics.specs.Plan.{Plan, HasShape, IsPlan}
 use Rattle.semantics.specs.Sharing.{placed_slot, placed_instrs}
 use Rattle.semantics.specs.Placed.{placed_blocks, placed}
-use Rattle.select.specs.declared.Version.{Version}
-use Rattle.select.specs.declared.Version.TheVariants.{One, Two}
-use Rattle.select.specs.Emitted.{version_number, told, has_sides, firsts_of, seconds_of, emitted, emitted_instrs, emitted_blocks, code_of}
+use Rattle.semantics.specs.declared.version.Version.{Version}
+use Rattle.semantics.specs.declared.version.Version.TheVariants.{One, Two}
+use Rattle.semantics.specs.Versions.{version_number}
+use Rattle.select.specs.Emitted.{told, has_sides, firsts_of, seconds_of, emitted, emitted_instrs, emitted_blocks, code_of}
 use Rattle.law_emitted.specs.Alike.{is_split, AreAlikeInstrs, AllAlike, AllBlocksAlike, AreAlike}
 use Rattle.law_emitted.specs.SameRuns.{HasOrigins}
 

@@ -5,7 +5,8 @@ use Rattle.semantics.specs.Program.{Instr, CodeBlock}
 use Rattle.semantics.specs.Sharing.{placed_instrs}
 use Rattle.semantics.specs.Placed.{needed, placed_blocks}
 use Rattle.semantics.specs.Cause.{opened_by, open_bounds, loop_bounds}
-use Rattle.select.specs.Emitted.{version_number, emitted_instrs, emitted_block, emitted_blocks}
+use Rattle.semantics.specs.Versions.{version_number}
+use Rattle.select.specs.Emitted.{emitted_instrs, emitted_block, emitted_blocks}
 use Rattle.law_emitted.specs.Loops.{EmittedHasBounds, EmittedKeepsArrays}
 
 abbrev opens : List Instr → List ℕ

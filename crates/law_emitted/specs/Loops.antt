@@ -3,7 +3,7 @@ use Rattle.std.specs.Prelude.{◌≡◌, ℕ, List, length}
 use Rattle.semantics.specs.Graph.{Flow}
 use Rattle.semantics.specs.Plan.{Plan}
 use Rattle.semantics.specs.Cause.{HasBounds}
-use Rattle.select.specs.declared.Version.{Version}
+use Rattle.semantics.specs.declared.version.Version.{Version}
 use Rattle.select.specs.Emitted.{code_of}
 
 -- The loops of a plan's code open with the graph's bounds, if those of the plan do and each block has its slots,

@@ -10,8 +10,8 @@ use Rattle.semantics.specs.Faithful.{Faithful}
 use Rattle.semantics.specs.Reuse.{ReleasesLast}
 use Rattle.semantics.specs.Credits.{KeepsBounds}
 use Rattle.semantics.specs.Holders.{HoldsAlone}
-use Rattle.select.specs.declared.Version.{Version}
-use Rattle.select.specs.declared.Version.TheVariants.{One, Two}
+use Rattle.semantics.specs.declared.version.Version.{Version}
+use Rattle.semantics.specs.declared.version.Version.TheVariants.{One, Two}
 use Rattle.select.specs.Emitted.{code_of}
 use Rattle.law_emitted.specs.Same.{HaveSameEvents, KeepsBoundsAs, HoldsAloneAs}
 

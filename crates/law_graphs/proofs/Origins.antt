@@ -20,7 +20,7 @@ use Rattle.law_expansion.proofs.FactsHeads.{push_cases, get_map, head, heads, he
 use Rattle.law_expansion.proofs.FactsSteps.{Stage, Idle, Step, Basics, AllowsKind, Allows, entries_keep, plain_keeps, variant_keeps}
 use Rattle.law_expansion.proofs.FactsCodes.{code_cases}
 use Rattle.law_composition.proofs.FoldedInstrs.{AllInstrs, IsUntold, all_untold}
-use Rattle.select.specs.declared.Version.TheVariants.{One, Two}
+use Rattle.semantics.specs.declared.version.Version.TheVariants.{One, Two}
 use Rattle.law_graphs.specs.Graphs.{PlansHaveOrigins}
 
 -- any operation may stand

@@ -15,8 +15,9 @@ use Rattle.law_emitted.specs.SameRuns.{HasOrigins}
 use Rattle.law_reuse.specs.Bounds.{PlanKeepsBounds}
 use Rattle.expansion.specs.Expanded.{expanded}
 use Rattle.folding.specs.Folded.{folded}
-use Rattle.select.specs.declared.Version.{Version}
-use Rattle.select.specs.Emitted.{version_number, code_of}
+use Rattle.semantics.specs.declared.version.Version.{Version}
+use Rattle.semantics.specs.Versions.{version_number}
+use Rattle.select.specs.Emitted.{code_of}
 use Rattle.law_composition.specs.Graphs.{plan_of}
 use Rattle.law_once.specs.Once.{FaithfulOnce}
 use Rattle.law_once.specs.Alike.{LandsRightly, plain_dests, IsTidy, Keeps}

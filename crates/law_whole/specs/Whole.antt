@@ -5,8 +5,8 @@ use Rattle.semantics.specs.Plan.{Plan}
 use Rattle.semantics.specs.Text.{HasText}
 use Rattle.semantics.specs.WellFormed.{WellFormed}
 use Rattle.semantics.specs.Sharing.{Good}
-use Rattle.select.specs.declared.Version.{Version}
-use Rattle.select.specs.Emitted.{version_number}
+use Rattle.semantics.specs.declared.version.Version.{Version}
+use Rattle.semantics.specs.Versions.{version_number}
 use Rattle.law_composition.specs.Graphs.{plan_of}
 use Rattle.law_contexts.specs.Contexts.{Wires}
 use Rattle.law_contexts.specs.Theorem.{HasOnly, IsGood}

@@ -15,8 +15,8 @@ use Rattle.semantics.specs.declared.program.Op.TheVariants.{Apply1, Apply2, Appl
 use Rattle.semantics.specs.Program.{Instr, CodeBlock, Code}
 use Rattle.semantics.specs.Bytes as Bytes
 use Rattle.semantics.specs.Bytes.{binary_code, number_from, Head, head, head_of, dest_word, port_bit, origin_code, instr_words, HasOperand, HasDests, IsOrigin, IsSlot, IsDest, IsInstr, IsCodeBlock, IsCode}
-use Rattle.object_view.specs.declared.object.Version.{Version}
-use Rattle.object_view.specs.declared.object.Version.TheVariants.{One, Two}
+use Rattle.semantics.specs.declared.version.Version.{Version}
+use Rattle.semantics.specs.declared.version.Version.TheVariants.{One, Two}
 use Rattle.object_view.specs.declared.opcode.Opcode.{Opcode}
 use Rattle.object_view.specs.declared.opcode.Opcode.TheVariants as Named
 use Rattle.object_view.specs.Fields.{binary_of, opcode_from, opcode_of, opcode_in, slot_in, first_half, second_half, with, may_fault, dest_of, port_of, operand_in, origin_number, origin_of}

@@ -18,8 +18,8 @@ use Rattle.object_view.specs.Fields as Fields
 use Rattle.semantics.specs.Bytes.{number_from, head_of, dest_word, port_bit, origin_code, block_word, words_of, bytes_of, HasOperand, HasDests, IsOrigin, IsSlot, IsDest, IsInstr, IsCodeBlock, IsCode, IsObject}
 use Rattle.object_view.specs.declared.fault.ObjectFault.{ObjectFault}
 use Rattle.object_view.specs.declared.fault.ObjectFault.TheVariants.{Truncated, Trailing, BadMagic, BadVersion, BadTable, BadOpcode, BadDestination, BadSlot, BadLiteral}
-use Rattle.object_view.specs.declared.object.Version.{Version}
-use Rattle.object_view.specs.declared.object.Version.TheVariants.{One, Two}
+use Rattle.semantics.specs.declared.version.Version.{Version}
+use Rattle.semantics.specs.declared.version.Version.TheVariants.{One, Two}
 use Rattle.object_view.specs.Fields.{word_at, count_in, inputs_in, outputs_in, slots_in, opcode_in, slot_in, dest_of, first_half, second_half, operand_in, origin_number, may_fault, may_have, may_go_to, is_dyadic}
 use Rattle.object_view.specs.Reading.{listed, version_in, instrs_below, instr_place, literal_in, array_in, word_count}
 use Rattle.object_view.specs.Checks.{Checked, first_then, unless, each, MAGIC, counts_fit, header_checked, entry_fits, entry_checked, length_checked, tables_checked, cells_below, array_checked, arrays_checked, literal_checked, literals_checked, operand_fits, slot_fits, may_take_right, dest_fits, dests_fit, target_fits, number_checked, opcode_checked, instr_checked_as, instr_checked, block_checked, opening_checked, content_checked, first_refusal}

@@ -16,11 +16,12 @@ use Rattle.semantics.specs.Rule.{slot_of}
 use Rattle.semantics.specs.Bytes as Bytes
 use Rattle.semantics.specs.Bytes.{IsDest, HasOperand, HasDests, IsOrigin, IsSlot, IsInstr, IsCodeBlock, IsCode}
 use Rattle.object_view.specs.declared.fault.ObjectFault.TheVariants.{BadTable, BadLiteral}
-use Rattle.object_view.specs.declared.object.Version.{Version}
-use Rattle.object_view.specs.declared.object.Version.TheVariants.{One, Two}
+use Rattle.semantics.specs.declared.version.Version.{Version}
+use Rattle.semantics.specs.declared.version.Version.TheVariants.{One, Two}
 use Rattle.object_view.specs.declared.opcode.Opcode.{Opcode}
 use Rattle.object_view.specs.declared.opcode.Opcode.TheVariants.{Apply1, Apply2, Apply2Right, Apply2Left, Lit, Copy, Sync, Switch, Fetch, Store, Frame, Link, Send, Return, Ask, Open, Take, Give, Drain, Release}
-use Rattle.object_view.specs.Fields.{word_at, version_number, count_in, inputs_in, slots_in, opcode_in, first_half, second_half, dest_of, port_of, with, may_fault, may_have, may_go_to, goes_left, is_left, is_dyadic, operand_in, origin_number, origin_of}
+use Rattle.semantics.specs.Versions.{version_number}
+use Rattle.object_view.specs.Fields.{word_at, count_in, inputs_in, slots_in, opcode_in, first_half, second_half, dest_of, port_of, with, may_fault, may_have, may_go_to, goes_left, is_left, is_dyadic, operand_in, origin_number, origin_of}
 use Rattle.object_view.specs.Reading.{Opened, opened, literal_place, listed, shown, version_in, instrs_below, instr_place, literal_in, literal_or_zero, array_in, instr_as, instr_in, block_in, code_in}
 use Rattle.object_view.specs.Checks.{unless, each, entry_fits, entry_checked, array_checked, arrays_checked, cells_below, slot_fits, may_take_right, dest_fits, target_fits, number_checked, instr_checked_as, instr_checked, block_checked, checked}
 use Rattle.object_view.proofs.Each.{cells_next}

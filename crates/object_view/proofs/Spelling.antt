@@ -8,7 +8,7 @@ use Rattle.operators.specs.declared.Unary.TheVariants.{Neg, Not}
 use Rattle.operators.specs.declared.Binary.{Binary}
 use Rattle.operators.specs.declared.Binary.TheVariants.{Add, Sub, Mul, Div, Rem, And, Or, Xor, Shl, Shr, Eq, Ne, Lt, Le}
 use Rattle.semantics.specs.Bytes.{binary_code, number_from, head, head_of, dest_word, port_bit, origin_code}
-use Rattle.object_view.specs.declared.object.Version.{Version}
+use Rattle.semantics.specs.declared.version.Version.{Version}
 use Rattle.object_view.specs.declared.opcode.Opcode.{Opcode}
 use Rattle.object_view.specs.declared.opcode.Opcode.TheVariants.{Apply1, Apply2, Apply2Right, Apply2Left, Lit, Copy, Sync, Switch, Fetch, Store, Frame, Link, Send, Return, Ask, Open, Take, Give, Drain, Release}
 use Rattle.object_view.specs.Fields.{binary_of, flagged, unflagged, opcode_from, opcode_of, with, dest_of, port_of, has_origin, operand_in, origin_number, origin_of}

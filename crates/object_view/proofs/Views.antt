@@ -1,6 +1,7 @@
 -- What is seen of an object that was opened.
 use Rattle.std.proofs.Common.{◌≡◌, ℕ, List, sym, ap}
-use Rattle.object_view.specs.Fields.{word_at, version_number}
+use Rattle.semantics.specs.Versions.{version_number}
+use Rattle.object_view.specs.Fields.{word_at}
 use Rattle.object_view.specs.Reading.{Opened, opened, code_in, listed, block_in, array_in, literal_in, version_in}
 
 pub blocks_seen : (bytes : List ℕ) (o : Opened) → opened bytes ≡ o → o.code.program.blocks ≡ listed (block_in (word_at bytes)) 0 (word_at bytes 2)

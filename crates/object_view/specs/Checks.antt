@@ -4,8 +4,8 @@ use Rattle.object_view.specs.declared.fault.ObjectFault.{ObjectFault}
 use Rattle.object_view.specs.declared.fault.ObjectFault.TheVariants.{Truncated, BadMagic, BadVersion, BadTable, BadOpcode, BadDestination, BadSlot, BadLiteral, Trailing}
 use Rattle.object_view.specs.declared.opcode.Opcode.{Opcode}
 use Rattle.object_view.specs.declared.opcode.Opcode.TheVariants.{Apply2Right, Apply2Left, Lit, Fetch, Store, Link, Send, Return, Ask, Release}
-use Rattle.object_view.specs.declared.object.Version.{Version}
-use Rattle.object_view.specs.declared.object.Version.TheVariants.{One, Two}
+use Rattle.semantics.specs.declared.version.Version.{Version}
+use Rattle.semantics.specs.declared.version.Version.TheVariants.{One, Two}
 use Rattle.object_view.specs.Fields.{word_at, count_in, inputs_in, outputs_in, slots_in, opcode_in, slot_in, dest_of, first_half, second_half, operand_in, origin_number, may_have, may_go_to, is_dyadic, uses_slot}
 use Rattle.object_view.specs.Reading.{version_in, instrs_below, instr_place, literal_in, array_in, word_count}
 

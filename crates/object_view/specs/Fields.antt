@@ -10,18 +10,14 @@ use Rattle.operators.specs.declared.Binary.{Binary}
 use Rattle.operators.specs.declared.Binary.TheVariants.{Add, Sub, Mul, Div, Rem, And, Or, Xor, Shl, Shr, Eq, Ne, Lt, Le}
 use Rattle.semantics.specs.declared.program.Dest.{Dest}
 use Rattle.semantics.specs.declared.program.Op.{Op}
-use Rattle.object_view.specs.declared.object.Version.{Version}
-use Rattle.object_view.specs.declared.object.Version.TheVariants.{One, Two}
+use Rattle.semantics.specs.declared.version.Version.{Version}
+use Rattle.semantics.specs.declared.version.Version.TheVariants.{One, Two}
 use Rattle.object_view.specs.declared.opcode.Opcode.{Opcode}
 use Rattle.object_view.specs.declared.opcode.Opcode.TheVariants.{Apply1, Apply2, Apply2Right, Apply2Left, Lit, Copy, Sync, Switch, Fetch, Store, Frame, Link, Send, Return, Ask, Open, Take, Give, Drain, Release}
 
 -- the word at a place: eight bytes, the lowest first
 unfoldable pub word_at : List ℕ → ℕ → ℕ
 word_at bytes i = little_number 8 (drop (8 * i) bytes)
-
-abbrev pub version_number : Version → ℕ
-version_number One = 1
-version_number Two = 2
 
 -- AN ENTRY OF THE BLOCK TABLE
 abbrev pub count_in : ℕ → ℕ

@@ -6,10 +6,10 @@ ghost use Rattle.object_view.specs.Reading as Reading;
 ghost use Rattle.object_view.specs.Checks as Checks;
 
 use crate::fault::ObjectFault;
-use crate::object::Version;
 use crate::opcode::Opcode;
 use crate::tables::{HEADER, Tables};
 use crate::words::{self, Entry, Head};
+use semantics::version::Version;
 
 /// The bytes `ETSOBJCT` as a word.
 const MAGIC: u64 = 0x5443_4a42_4f53_5445;

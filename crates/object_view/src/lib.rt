@@ -13,5 +13,5 @@ mod writing;
 
 pub use fault::ObjectFault;
 pub use instr::{CodeInstr, PackedInstr};
-pub use object::{BlockView, Object, Version, one_spelling};
+pub use object::{BlockView, Object, one_spelling};
 pub use writing::{upgrade, write};

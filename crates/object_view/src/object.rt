@@ -8,14 +8,8 @@ ghost use Rattle.object_view.specs.Unique.{ReadsBack, IsUnique, AllOpen};
 use crate::fault::ObjectFault;
 use crate::instr::{CodeInstr, PackedInstr};
 use crate::tables::Tables;
+use semantics::version::Version;
 use std::marker::Model;
-
-/// The version of an object: in the second one instructions may have origins.
-#[derive(Clone, Copy, Debug, PartialEq, Eq)]
-pub enum Version {
-    One,
-    Two,
-}
 
 /// A code block of an object: the numbers of its inputs, outputs, slots and instructions, and the number of its first
 /// instruction.
@@ -48,7 +42,7 @@ impl<'a> Model for Object<'a> {
 }
 
 impl<'a> Object<'a> {
-    ghost use Rattle.object_view.specs.Fields.{version_number};
+    ghost use Rattle.semantics.specs.Versions.{version_number};
     ghost use Rattle.object_view.specs.Reading.{opened, shown, unpacked, block_shown, instr_bytes};
     ghost use Rattle.object_view.specs.Checks.{first_refusal};
 

@@ -5,10 +5,10 @@ ghost use Rattle.object_view.specs.Fields as Fields;
 ghost use Rattle.object_view.specs.Reading as Reading;
 
 use crate::instr::{CodeInstr, PackedInstr};
-use crate::object::Version;
 use crate::opcode::Opcode;
 use crate::words::{self, Entry, Head};
 use semantics::program::Op;
+use semantics::version::Version;
 
 /// How many words the header has.
 pub const HEADER: usize = 6;

@@ -3,14 +3,15 @@
 ghost use Rattle.std.specs.Prelude.{◌≡◌, ◌≤◌, ◌+◌, ◌<◌, ◌++◌, ◌∷◌, [], ℕ, ℤ, List, All, flat_map, length, int_lt, slice_index_or};
 ghost use Rattle.std.specs.Int.{w64, to_le_bytes};
 ghost use Rattle.semantics.specs.Bytes as Bytes;
-ghost use Rattle.object_view.specs.Fields.{version_number};
+ghost use Rattle.semantics.specs.Versions.{version_number};
 ghost use Rattle.object_view.specs.Sending.{IsAscending, HasRoom, HasWords, HasEntry, bytes_of_instr, bytes_of_block, bytes_of_entry, bytes_of_literal, bytes_of_word, bytes_of_header};
 ghost use Rattle.sink.specs.Sends.{Sends};
 
-use crate::object::{Object, Version};
+use crate::object::Object;
 use code::{Code, CodeBlock, Instr};
 use operators::{Binary, Unary};
 use semantics::program::{Dest, Op};
+use semantics::version::Version;
 use sink::send;
 use std::alloc::Allocator;
 use std::io::{self, Write};
@@ -286,15 +287,6 @@ fn send_blocks<A: Allocator, W: Write>(
     Ok(())
 }
 
-fn version_word(version: Version) -> u64
-    ensures { result ≡ version_number version }
-{
-    match version {
-        Version::One => 1,
-        Version::Two => 2,
-    }
-}
-
 fn blocks_of<A: Allocator>(code: &Code<A>) -> &[CodeBlock<A>]
     ensures { result.now ≡ code.now.program.blocks }
 {
@@ -329,7 +321,7 @@ fn counts<A: Allocator>(version: Version, code: &Code<A>) -> [u64; 5]
         ∷ [] }
 {
     [
-        version_word(version),
+        version.number(),
         blocks_of(code).len() as u64,
         literals_of(code).len() as u64,
         arrays_of(code).len() as u64,

@@ -1,12 +1,13 @@
 //! What stands at a node's number, with names looked up.
 
 ghost use Rattle.std.specs.Prelude.{◌≡◌, ◌≤◌, ◌+◌, Some, slice_get, option_copied};
-ghost use Rattle.graph.specs.Versions.{version_number};
+ghost use Rattle.semantics.specs.Versions.{version_number};
 ghost use Rattle.oracle.specs.Lines as Lines;
 
-use graph::{Array, Block, Graph, Name, Node, Version};
+use graph::{Array, Block, Graph, Name, Node};
 use graph_check::Checked;
 use semantics::graph::{Kind, Region};
+use semantics::version::Version;
 use std::alloc::Allocator;
 use tags::value::{NodeNumber, Origin};
 

@@ -9,12 +9,8 @@ use Rattle.semantics.specs.Program.{Instr, CodeBlock, Program}
 use Rattle.semantics.specs.Plan.{Plan}
 use Rattle.semantics.specs.Placed.{placed}
 use Rattle.semantics.specs.Bytes.{may_fault}
-use Rattle.select.specs.declared.Version.{Version}
-use Rattle.select.specs.declared.Version.TheVariants.{One, Two}
-
-abbrev pub version_number : Version → ℕ
-version_number One = 1
-version_number Two = 2
+use Rattle.semantics.specs.declared.version.Version.{Version}
+use Rattle.semantics.specs.Versions.{version_number}
 
 -- An origin stands where a fault can be made, in an object of version 2.
 abbrev pub told : ℕ → Bool → Origin → Origin

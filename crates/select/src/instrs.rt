@@ -6,12 +6,12 @@ ghost use Rattle.semantics.specs.Bytes as Bytes;
 ghost use Rattle.semantics.specs.Sharing as Sharing;
 ghost use Rattle.semantics.specs.Placed as Placed;
 ghost use Rattle.select.specs.Emitted as Emitted;
-ghost use Rattle.select.specs.Emitted.{version_number};
+ghost use Rattle.semantics.specs.Versions.{version_number};
 
-use crate::Version;
 use code::{CodeBlock, Instr, Slots};
 use operators::Binary;
 use semantics::program::{Dest, Op};
+use semantics::version::Version;
 use std::alloc::{AllocError, Allocator};
 use tags::value::Origin;
 
@@ -19,20 +19,10 @@ use tags::value::Origin;
 fn holder_of<A: Allocator>(instr: &Instr<A>) -> Option<u32>
     ensures { result ≡ Rule.slot_of instr.now instr.now.op }
 {
-    match instr.op {
-        Op::Apply2 { .. }
-        | Op::Sync
-        | Op::Switch
-        | Op::Store { .. }
-        | Op::Send { .. }
-        | Op::Return { .. }
-        | Op::Ask { .. }
-        | Op::Release { .. }
-        | Op::Open { .. }
-        | Op::Take { .. }
-        | Op::Give { .. }
-        | Op::Drain { .. } => Some(instr.slot),
-        _ => None,
+    if instr.op.uses_slot() {
+        Some(instr.slot)
+    } else {
+        None
     }
 }
 

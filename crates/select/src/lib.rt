@@ -6,7 +6,8 @@
 
 ghost use Rattle.std.specs.Prelude.{◌≡◌, IfOk, IfErr, OnOk, None, All, Contains};
 ghost use Rattle.semantics.specs.Bytes.{IsCode};
-ghost use Rattle.select.specs.Emitted.{version_number, code_of};
+ghost use Rattle.semantics.specs.Versions.{version_number};
+ghost use Rattle.select.specs.Emitted.{code_of};
 ghost use Rattle.select.specs.Emittable.{IsEmittable};
 ghost use Rattle.select.specs.Literals as Literals;
 
@@ -18,14 +19,8 @@ use code::{Code, Plan, Program, Slots};
 pub use fault::EmitFault;
 use instrs::emit_blocks;
 use literals::table_of;
+use semantics::version::Version;
 use std::alloc::Allocator;
-
-/// The version of an object: in the second one instructions may have origins.
-#[derive(Clone, Copy, Debug, PartialEq, Eq)]
-pub enum Version {
-    One,
-    Two,
-}
 
 /// The code of a plan whose holders have these slots, in time n log n of its instructions.
 ///

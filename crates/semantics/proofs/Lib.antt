@@ -19,3 +19,4 @@ pub mod Histories
 pub mod Reused
 pub mod LoopCode
 pub mod SharedSlots
+pub mod OperatorWords

@@ -22,3 +22,5 @@ pub mod Reuse
 pub mod Report
 pub mod Bytes
 pub mod Text
+pub mod Words
+pub mod Versions

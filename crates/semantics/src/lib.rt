@@ -4,3 +4,5 @@
 pub mod graph;
 pub mod program;
 pub mod report;
+pub mod version;
+pub mod words;

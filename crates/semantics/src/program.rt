@@ -1,5 +1,9 @@
 //! The plain data of programs for the explicit token store.
 
+ghost use Rattle.std.specs.Prelude.{◌≡◌, Some, None, if◌then◌else◌};
+ghost use Rattle.semantics.specs.Program.{Instr, uses_slot};
+ghost use Rattle.semantics.specs.Rule.{slot_of};
+
 use operators::{Binary, Unary};
 use tags::token::Port;
 
@@ -35,6 +39,31 @@ pub enum Op {
     Give { bound: u8 },
     Drain { bound: u8 },
     Release { offset: u8 },
+}
+
+impl Op {
+    /// Whether an instruction with this operation uses its slot.
+    #[inline(always)]
+    pub fn uses_slot(self) -> bool
+        ensures result { result ≡ uses_slot self }
+        ensures slot { (i : Instr) → slot_of i self ≡ (if result then Some i.slot else None) }
+    {
+        matches!(
+            self,
+            Op::Apply2 { .. }
+                | Op::Sync
+                | Op::Switch
+                | Op::Store { .. }
+                | Op::Send { .. }
+                | Op::Return { .. }
+                | Op::Ask { .. }
+                | Op::Release { .. }
+                | Op::Open { .. }
+                | Op::Take { .. }
+                | Op::Give { .. }
+                | Op::Drain { .. }
+        )
+    }
 }
 
 /// Whose predicate a switch of a plan takes: none, where the instruction is no switch; that of the conditional at a node

@@ -124,19 +124,9 @@ fn ends(op: Op) -> bool
 pub(crate) fn holder_of<A: Allocator>(instr: &Instr<A>) -> Option<u32>
     ensures { result ≡ slot_of instr.now instr.now.op }
 {
-    match instr.op {
-        Op::Apply2 { .. }
-        | Op::Sync
-        | Op::Switch
-        | Op::Store { .. }
-        | Op::Send { .. }
-        | Op::Return { .. }
-        | Op::Ask { .. }
-        | Op::Release { .. }
-        | Op::Open { .. }
-        | Op::Take { .. }
-        | Op::Give { .. }
-        | Op::Drain { .. } => Some(instr.slot),
-        _ => None,
+    if instr.op.uses_slot() {
+        Some(instr.slot)
+    } else {
+        None
     }
 }

@@ -3,8 +3,9 @@
 use code::{Code, CodeBlock, Instr, Plan, Program, Slots};
 use operators::Binary;
 use rationed::Rationed;
-use select::{EmitFault, Version, emit};
+use select::{EmitFault, emit};
 use semantics::program::{Dest, Op};
+use semantics::version::Version;
 use std::alloc::{AllocError, Allocator};
 use std::test::Fail;
 use tags::token::Port;

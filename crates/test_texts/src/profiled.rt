@@ -3,6 +3,7 @@
 use graph_file::read;
 use oracle::{MeanEnd, WaveReport};
 use profile_text::{MachineRow, write_profile, write_svg};
+use semantics::version::Version;
 use std::alloc::{AllocError, Global};
 use std::test::Fail;
 

@@ -8,6 +8,7 @@ use oracle::{Full, MeanEnd, MeanReport};
 use report_text::{write_meaning, write_report};
 use schedule::report::Report;
 use semantics::report::End;
+use semantics::version::Version;
 use std::alloc::{AllocError, Global};
 use std::test::Fail;
 use tags::value::{FaultKind, NodeNumber, Origin, Value};

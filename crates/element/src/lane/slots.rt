@@ -7,12 +7,11 @@ ghost use Rattle.frame_store.specs.BankViews.{IsBank};
 ghost use Rattle.element.specs.Parts.{slot_place};
 ghost use Rattle.semantics.specs.Rule.{slot_of};
 ghost use Rattle.element.specs.Decoded.{instr_of};
-ghost use Rattle.element.specs.Changed.{with_state, with_state_in, state_in, UsesSlot};
+ghost use Rattle.element.specs.Changed.{with_state, with_state_in, state_in};
 
 use super::Lane;
 use crate::dealt::place_of;
 use crate::instructions::Instruction;
-use semantics::program::Op;
 use std::alloc::Allocator;
 use tags::slot::SlotState;
 use tags::token::FrameId;
@@ -60,7 +59,7 @@ impl<'m, A: Allocator> Lane<'m, A> {
         requires slot { instr.now.slot < self.now.bank.width }
         ensures { result ≡ state_in (part_of self.now) frame (slot_of (instr_of instr.now) instr.now.op) }
     {
-        if uses_slot(instr.op) {
+        if instr.op.uses_slot() {
             self.slot_state(frame, instr.slot)
         } else {
             SlotState::Empty
@@ -75,29 +74,8 @@ impl<'m, A: Allocator> Lane<'m, A> {
         ensures held { held_of self.new ≡ with_part (held_of self.old) (with_state_in (part_of self.old) frame (slot_of (instr_of instr.now) instr.now.op) state) }
         ensures queue { self.new.queue ≡ self.old.queue }
     {
-        if uses_slot(instr.op) {
+        if instr.op.uses_slot() {
             self.set_slot(frame, instr.slot, state);
         }
     }
-}
-
-// Whether an instruction uses its slot.
-fn uses_slot(op: Op) -> bool
-    ensures { UsesSlot op result }
-{
-    matches!(
-        op,
-        Op::Apply2 { .. }
-            | Op::Sync
-            | Op::Switch
-            | Op::Store { .. }
-            | Op::Send { .. }
-            | Op::Return { .. }
-            | Op::Ask { .. }
-            | Op::Release { .. }
-            | Op::Open { .. }
-            | Op::Take { .. }
-            | Op::Give { .. }
-            | Op::Drain { .. }
-    )
 }

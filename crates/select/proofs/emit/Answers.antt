@@ -1,8 +1,8 @@
 use Rattle.std.proofs.Common.{◌≡◌, ℤ, List, refl, sym, subst, All, Contains, rules, ◌⊎◌, inl, inr}
 use Rattle.std.specs.Prelude.{None}
-use Rattle.select.specs.declared.Version.{Version}
-use Rattle.select.specs.declared.Version.TheVariants.{One, Two}
-use Rattle.select.specs.Emitted.{version_number}
+use Rattle.semantics.specs.declared.version.Version.{Version}
+use Rattle.semantics.specs.declared.version.Version.TheVariants.{One, Two}
+use Rattle.semantics.specs.Versions.{version_number}
 use Rattle.select.specs.Literals.{used_in, table_of, too_far}
 use Rattle.select.proofs.Tables.{table_has, table_only}
 use Rattle.select.proofs.Codes.{is_code}

@@ -3,7 +3,7 @@ use Rattle.std.specs.Prelude.{Ok}
 use Rattle.assembler.proofs.Placed.{refused_text, given, unfit}
 use Rattle.std.proofs.Common.{inr}
 use Rattle.std.specs.Prelude.{Err}
-use Rattle.object_view.specs.Fields.{version_number}
+use Rattle.semantics.specs.Versions.{version_number}
 use Rattle.assembler.proofs.Sound.{sound}
 use Rattle.assembler.proofs.Complete.{only_code, only_memory}
 use Rattle.assembler.proofs.assembling.assemble.Goals as goal

@@ -6,13 +6,13 @@ use Rattle.driver.proofs.compiling.write_object.Goals as goal
 pub returns-in-Ok-write : goal.returns-in-Ok-write
 returns-in-Ok-write g c =
     let graph : Graph = c.in-Ok-check_text.checked in
-    let number = c.object_version.ensures ∙ ap (λ (x : Graph). x.version) c.graph.ensures.same in
+    let number = c.version_of.ensures ∙ ap (λ (x : Graph). x.version) c.graph.ensures.same in
     (graph, _, compiled_bytes c.args.text.now graph c.in-Ok-code_of.code c.in-Ok-check_text.ensures c.in-Ok-code_of.ensures _ number, sends_whole _ c.in-Ok-write.field-0 _ _ _ c.in-Ok-write.ensures)
 
 pub returns : goal.returns
 returns g c =
     let graph : Graph = c.in-Ok-check_text.checked in
-    let number = c.object_version.ensures ∙ ap (λ (x : Graph). x.version) c.graph.ensures.same in
+    let number = c.version_of.ensures ∙ ap (λ (x : Graph). x.version) c.graph.ensures.same in
     (graph, _, compiled_bytes c.args.text.now graph c.in-Ok-code_of.code c.in-Ok-check_text.ensures c.in-Ok-code_of.ensures _ number, sends_front _ c.in-Err-write.fault _ _ _ c.in-Err-write.ensures)
 
 pub returns-in-Err-code_of : goal.returns-in-Err-code_of

@@ -1,5 +1,5 @@
 use Rattle.std.proofs.Common.{◌≡◌, ℕ, List, map, ap, ◌∙◌}
-use Rattle.graph.specs.Versions.{version_number}
+use Rattle.semantics.specs.Versions.{version_number}
 use Rattle.semantics.specs.Graph.{Flow, Block, place_of}
 use Rattle.expansion.specs.Flows.{block_name, resolved_named, array_length}
 use Rattle.expansion.proofs.flow.resolve.Goals as goal

@@ -1,5 +1,5 @@
 use Rattle.std.proofs.Common.{◌≡◌, drop}
-use Rattle.graph.specs.Versions.{version_number}
+use Rattle.semantics.specs.Versions.{version_number}
 use Rattle.expansion.specs.Expanded as Expanded
 use Rattle.expansion.proofs.plans.push_plain.Given as goal
 

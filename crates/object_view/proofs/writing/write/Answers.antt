@@ -3,7 +3,7 @@ use Rattle.std.specs.Prelude.{flat_map, All}
 use Rattle.std.proofs.lemmas.Result.{err_from_is_err_and}
 use Rattle.semantics.specs.Program.{CodeBlock}
 use Rattle.semantics.specs.Bytes.{bytes_of}
-use Rattle.object_view.specs.Fields.{version_number}
+use Rattle.semantics.specs.Versions.{version_number}
 use Rattle.object_view.specs.Sending.{bytes_of_word, bytes_of_header, bytes_of_entry, bytes_of_block, bytes_of_literal, HasWords}
 use Rattle.sink.proofs.Sent.{sends_from, sends_more, sends_less, sends_other, sends_same, appends_then}
 use Rattle.object_view.proofs.Whole.{whole, stopped, words_fit, entries, instrs, literals, arrays}

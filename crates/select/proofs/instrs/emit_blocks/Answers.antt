@@ -3,7 +3,8 @@ use Rattle.std.specs.Prelude.{Some, None, slice_get}
 use Rattle.semantics.specs.Program.{CodeBlock}
 use Rattle.semantics.specs.Sharing.{placed_instrs}
 use Rattle.semantics.specs.Placed.{needed, placed_blocks}
-use Rattle.select.specs.Emitted.{version_number, emitted_instrs, emitted_block, emitted_blocks}
+use Rattle.semantics.specs.Versions.{version_number}
+use Rattle.select.specs.Emitted.{emitted_instrs, emitted_block, emitted_blocks}
 use Rattle.select.proofs.Steps.{blocks_step, blocks_end, slots_end}
 use Rattle.select.proofs.instrs.emit_blocks.Goals as goal
 

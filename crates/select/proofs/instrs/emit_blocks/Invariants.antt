@@ -1,6 +1,7 @@
 use Rattle.std.proofs.Common.{◌≡◌, ◌++◌, drop}
 use Rattle.semantics.specs.Placed.{placed_blocks}
-use Rattle.select.specs.Emitted.{version_number, emitted_blocks}
+use Rattle.semantics.specs.Versions.{version_number}
+use Rattle.select.specs.Emitted.{emitted_blocks}
 use Rattle.select.proofs.instrs.emit_blocks.Given as goal
 
 abbrev pub invariant-loop-number : goal.invariant-loop-number

@@ -1,6 +1,7 @@
 use Rattle.std.proofs.Common.{◌≡◌, ◌++◌, drop}
 use Rattle.semantics.specs.Sharing.{placed_instrs}
-use Rattle.select.specs.Emitted.{version_number, emitted_instrs}
+use Rattle.semantics.specs.Versions.{version_number}
+use Rattle.select.specs.Emitted.{emitted_instrs}
 use Rattle.select.proofs.instrs.emit_instrs.Given as goal
 
 abbrev pub invariant-loop-instr : goal.invariant-loop-instr

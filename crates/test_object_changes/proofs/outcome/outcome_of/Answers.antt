@@ -5,7 +5,7 @@ use Rattle.std.specs.Cmp.Lexicographic.{other_text}
 use Rattle.semantics.specs.Program.{Code}
 use Rattle.semantics.specs.Bytes.{bytes_of}
 use Rattle.sink.specs.Sends.{Sends}
-use Rattle.object_view.specs.Fields.{version_number}
+use Rattle.semantics.specs.Versions.{version_number}
 use Rattle.test_object_changes.proofs.outcome.outcome_of.Goals as goal
 
 -- what went out where nothing failed

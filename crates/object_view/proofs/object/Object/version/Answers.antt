@@ -1,4 +1,5 @@
-use Rattle.object_view.specs.Fields.{word_at, version_number}
+use Rattle.semantics.specs.Versions.{version_number}
+use Rattle.object_view.specs.Fields.{word_at}
 use Rattle.object_view.proofs.Views.{version_seen}
 use Rattle.std.proofs.Common.{sym, ap, ◌∙◌}
 use Rattle.object_view.proofs.object.Object.version.Goals as goal

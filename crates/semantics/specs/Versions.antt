@@ -1,7 +1,7 @@
 -- The number of a version.
 use Rattle.std.specs.Prelude.{ℕ}
-use Rattle.graph.specs.declared.Version.{Version}
-use Rattle.graph.specs.declared.Version.TheVariants.{One, Two}
+use Rattle.semantics.specs.declared.version.Version.{Version}
+use Rattle.semantics.specs.declared.version.Version.TheVariants.{One, Two}
 
 abbrev pub version_number : Version → ℕ
 version_number One = 1
