@@ -3,8 +3,6 @@
 //! lists its events; a line `quiet` and a number asks for a run that lists none.
 #![tactic(auto)]
 
-mod sum_loop;
-
 use loaded::Loaded;
 use object_view::Object;
 use schedule::config::Config;
@@ -12,7 +10,7 @@ use schedule::machine::Machine;
 use schedule::report::Report;
 use std::alloc::Allocator;
 use std::io;
-use sum_loop::SUM_LOOP;
+use test_machines::objects::LOOP;
 
 const ONE_ELEMENT: Config = Config {
     elements: 1,
@@ -23,7 +21,7 @@ const ONE_ELEMENT: Config = Config {
 
 /// The report of the sum up to `last`; `None` where the run does not start.
 fn sum_up_to<A: Allocator + Clone>(alloc: A, last: i64, is_quiet: bool) -> Option<Report<A>> {
-    let object = Object::open(SUM_LOOP).ok()?;
+    let object = Object::open(LOOP).ok()?;
     let code = Loaded::new(alloc.clone().ok()?, object).ok()?;
     let mut store = None;
     let machine = Machine::start(alloc, &mut store, &code, &[last], ONE_ELEMENT).ok()?;

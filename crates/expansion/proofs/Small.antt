@@ -1,5 +1,5 @@
 -- A well-formed graph that has a text is within the limits.
-use Rattle.std.proofs.Common.{◌≡◌, ℕ, zero, suc, ◌+◌, ◌-◌, ◌≤◌, Bool, true, false, List, [], ◌∷◌, map, length, get_or, refl, ap, ◌∙◌, subst, arith, Option, Some, None, nat_lt, if◌then◌else◌}
+use Rattle.std.proofs.Common.{◌≡◌, ℕ, zero, suc, ◌+◌, ◌-◌, ◌<◌, ◌≤◌, Bool, true, false, List, [], ◌∷◌, map, length, get_or, refl, ap, ◌∙◌, subst, arith, Option, Some, None, nat_lt, if◌then◌else◌}
 use Rattle.std.specs.Prelude.{All, slice_get}
 use Rattle.std.proofs.lemmas.Bool.{le-ltb}
 use Rattle.std.proofs.lemmas.List.{length-map}
@@ -7,7 +7,7 @@ use Rattle.std.proofs.lemmas.Option.{slice_get-get_or}
 use Rattle.law_determinacy.proofs.Resolved.{all_get}
 use Rattle.semantics.specs.declared.graph.Kind.{Kind}
 use Rattle.semantics.specs.declared.graph.Kind.TheVariants.{Lit, Apply1, Apply2, Cond, Enter, Merge, Fetch, Store, Call, StrictCall, Loop}
-use Rattle.semantics.specs.Graph.{Graph, Block, Node, node_at, flow_of, resolved_kind, resolved_block, array_names, block_names, same_name, place_from}
+use Rattle.semantics.specs.Graph.{Graph, Block, Node, node_at, flow_of, resolved_kind, resolved_block, array_names, block_names, same_name, place_from, place_of}
 use Rattle.semantics.specs.WellFormed.{WellFormed, IsBlockWell, IsNodeWell, NamesWell}
 use Rattle.semantics.specs.Text.{HasText, HasBlockText, HasNodeLine, HasLine}
 use Rattle.expansion.specs.Blocks.{IsSmallKind, IsSmallNode, IsSmallBlock, FewOutputs, outputs_in, outputs_of}
@@ -26,6 +26,18 @@ place_below n name [] = omega arith
 place_below n name (x ∷ xs) =
     let more = place_below (n + 1) name xs in
     place_step (same_name name x) n (place_from (n + 1) name xs) (n + length (x ∷ xs)) (omega arith) (omega (arith, more))
+
+pub array_place_is_small : (g : Graph) (name : List ℕ) → HasText g → place_of name (array_names g) < 4294967296
+array_place_is_small g name text =
+    let e = length-map g.arrays (λ (a : List ℕ × ℕ). a.0) in
+    let low = place_below 0 name (array_names g) in
+    omega (arith, e, low, text.few_arrays)
+
+pub block_place_is_small : (g : Graph) (name : List ℕ) → HasText g → place_of name (block_names g) < 4294967296
+block_place_is_small g name text =
+    let e = length-map g.blocks (λ (b : List ℕ × Block (List ℕ)). b.0) in
+    let low = place_below 0 name (block_names g) in
+    omega (arith, e, low, text.few_blocks)
 
 -- LISTS
 map_get_back : {X Y : Type 0} (f : X → Y) (xs : List X) (i : ℕ) (y : Y) → slice_get (map f xs) i ≡ Some y → (x : X) × (slice_get xs i ≡ Some x) × (f x ≡ y)

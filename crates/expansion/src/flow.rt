@@ -1,10 +1,12 @@
 //! Graphs whose names are resolved.
 
-ghost use Rattle.std.specs.Prelude.{◌≡◌, ℕ, ◌≤◌, List, map, length, IfOk};
-ghost use Rattle.semantics.specs.Graph.{flow_of, place_of, array_names, block_names, same_name, resolved_kind, resolved_block};
-ghost use Rattle.expansion.specs.Flows.{NamedArray, NamedBlock, array_name, block_name, resolved_node, resolved_named, array_length};
+ghost use Rattle.std.specs.Prelude.{◌≡◌, ℕ, List, map, IfOk};
+ghost use Rattle.semantics.specs.Graph.{flow_of, place_of, array_names, block_names, resolved_kind, resolved_block};
+ghost use Rattle.semantics.specs.Text.{HasText};
+ghost use Rattle.expansion.specs.Flows.{NamedArray, NamedBlock, resolved_node, resolved_named, array_length};
 
-use graph::{Array, Graph, Name};
+use graph::{Array, Name};
+use graph_check::Checked;
 use semantics::graph::{Kind, Region, Source};
 use semantics::version::Version;
 use std::alloc::{AllocError, Allocator};
@@ -66,96 +68,83 @@ impl<A: Allocator> Model for Flow<A> {
 /// The graph with the place of each name for the name.
 pub(crate) fn resolve<'a, A: Allocator + Clone>(
     alloc: A,
-    graph: &Graph<'a, A>,
+    checked: &Checked<'a, A>,
 ) -> Result<Flow<A>, AllocError>
-    requires arrays { length graph.now.arrays ≤ 64 }
-    requires blocks { length graph.now.blocks ≤ 256 }
-    ensures { IfOk result (λ f. f ≡ flow_of graph.now) }
+    ensures { IfOk result (λ f. f ≡ flow_of checked.now) }
 {
+    let graph = checked.graph();
     Ok(Flow {
         version: graph.version,
         arrays: array_lengths(alloc.clone()?, &graph.arrays)?,
-        blocks: resolve_blocks(alloc, &graph.arrays, &graph.blocks)?,
-        main: block_number(&graph.blocks, &graph.main),
+        blocks: resolve_blocks(alloc, checked, &graph.blocks)?,
+        main: checked.main_place() as u32,
     })
 }
 
 fn resolve_blocks<'a, A: Allocator + Clone>(
     alloc: A,
-    arrays: &[Array<'a>],
+    checked: &Checked<'a, A>,
     blocks: &[graph::Block<'a, A>],
 ) -> Result<Vec<Block<A>, A>, AllocError>
-    requires arrays { length arrays.now ≤ 64 }
-    requires blocks { length blocks.now ≤ 256 }
-    ensures { IfOk result (λ v. v.items ≡ map (resolved_named arrays.now blocks.now) blocks.now) }
+    requires limits { HasText checked.now }
+    ensures { IfOk result (λ v. v.items ≡ map (resolved_named checked.now) blocks.now) }
 {
     let mut resolved = Vec::with_capacity(alloc.clone()?, blocks.len())?;
     for block in blocks {
-        resolved.push(resolve_block(alloc.clone()?, arrays, blocks, block)?)?;
+        resolved.push(resolve_block(alloc.clone()?, checked, block)?)?;
     }
     Ok(resolved)
 }
 
 fn resolve_block<'a, A: Allocator + Clone>(
     alloc: A,
-    arrays: &[Array<'a>],
-    blocks: &[graph::Block<'a, A>],
+    checked: &Checked<'a, A>,
     block: &graph::Block<'a, A>,
 ) -> Result<Block<A>, AllocError>
-    requires arrays { length arrays.now ≤ 64 }
-    requires blocks { length blocks.now ≤ 256 }
-    ensures { IfOk result (λ b. b ≡ resolved_named arrays.now blocks.now block.now) }
+    requires limits { HasText checked.now }
+    ensures { IfOk result (λ b. b ≡ resolved_named checked.now block.now) }
 {
     Ok(Block {
         inputs: block.inputs,
         outputs: block.outputs,
-        nodes: resolve_nodes(alloc.clone()?, arrays, blocks, &block.nodes)?,
+        nodes: resolve_nodes(alloc.clone()?, checked, &block.nodes)?,
         results: block.results.to_vec(alloc)?,
     })
 }
 
 fn resolve_nodes<'a, A: Allocator + Clone>(
     alloc: A,
-    arrays: &[Array<'a>],
-    blocks: &[graph::Block<'a, A>],
+    checked: &Checked<'a, A>,
     nodes: &[graph::Node<'a, A>],
 ) -> Result<Vec<Node<A>, A>, AllocError>
-    requires arrays { length arrays.now ≤ 64 }
-    requires blocks { length blocks.now ≤ 256 }
-    ensures { IfOk result (λ v. v.items ≡ map (resolved_node arrays.now blocks.now) nodes.now) }
+    requires limits { HasText checked.now }
+    ensures { IfOk result (λ v. v.items ≡ map (resolved_node checked.now) nodes.now) }
 {
     let mut resolved = Vec::with_capacity(alloc.clone()?, nodes.len())?;
     for node in nodes {
-        resolved.push(resolve_node(alloc.clone()?, arrays, blocks, node)?)?;
+        resolved.push(resolve_node(alloc.clone()?, checked, node)?)?;
     }
     Ok(resolved)
 }
 
 fn resolve_node<'a, A: Allocator + Clone>(
     alloc: A,
-    arrays: &[Array<'a>],
-    blocks: &[graph::Block<'a, A>],
+    checked: &Checked<'a, A>,
     node: &graph::Node<'a, A>,
 ) -> Result<Node<A>, AllocError>
-    requires arrays { length arrays.now ≤ 64 }
-    requires blocks { length blocks.now ≤ 256 }
-    ensures { IfOk result (λ n. n ≡ resolved_node arrays.now blocks.now node.now) }
+    requires limits { HasText checked.now }
+    ensures { IfOk result (λ n. n ≡ resolved_node checked.now node.now) }
 {
     Ok(Node {
         region: node.region,
-        kind: resolve_kind(arrays, blocks, &node.kind),
+        kind: resolve_kind(checked, &node.kind),
         sources: node.sources.to_vec(alloc)?,
     })
 }
 
-fn resolve_kind<'a, A: Allocator>(
-    arrays: &[Array<'a>],
-    blocks: &[graph::Block<'a, A>],
-    kind: &Kind<Name<'a>>,
-) -> Kind<u32>
-    requires arrays { length arrays.now ≤ 64 }
-    requires blocks { length blocks.now ≤ 256 }
-    ensures { result ≡ resolved_kind (map array_name arrays.now) (map block_name blocks.now) kind.now }
+fn resolve_kind<'a, A: Allocator>(checked: &Checked<'a, A>, kind: &Kind<Name<'a>>) -> Kind<u32>
+    requires limits { HasText checked.now }
+    ensures { result ≡ resolved_kind (array_names checked.now) (block_names checked.now) kind.now }
 {
     match kind {
         Kind::Lit { value } => Kind::Lit { value: *value },
@@ -165,19 +154,19 @@ fn resolve_kind<'a, A: Allocator>(
         Kind::Enter => Kind::Enter,
         Kind::Merge { cond } => Kind::Merge { cond: *cond },
         Kind::Fetch { array } => Kind::Fetch {
-            array: array_number(arrays, array),
+            array: array_number(checked, array),
         },
         Kind::Store { array } => Kind::Store {
-            array: array_number(arrays, array),
+            array: array_number(checked, array),
         },
         Kind::Call { block } => Kind::Call {
-            block: block_number(blocks, block),
+            block: block_number(checked, block),
         },
         Kind::StrictCall { block } => Kind::StrictCall {
-            block: block_number(blocks, block),
+            block: block_number(checked, block),
         },
         Kind::Loop { block, bound } => Kind::Loop {
-            block: block_number(blocks, block),
+            block: block_number(checked, block),
             bound: *bound,
         },
     }
@@ -198,33 +187,19 @@ fn array_lengths<'a, A: Allocator>(
 }
 
 /// The place of an array's name, or how many arrays there are where none has it.
-fn array_number<'a>(arrays: &[Array<'a>], name: &Name<'a>) -> u32
-    requires { length arrays.now ≤ 64 }
-    ensures { result ≡ place_of name.now (map array_name arrays.now) }
+#[tactic(auto, using(crate::proofs::Small::array_place_is_small))]
+fn array_number<'a, A: Allocator>(checked: &Checked<'a, A>, name: &Name<'a>) -> u32
+    requires limits { HasText checked.now }
+    ensures { result ≡ place_of name.now (array_names checked.now) }
 {
-    for (number, array) in arrays.iter().enumerate() {
-        if is_same(name, &array.name) {
-            return number as u32;
-        }
-    }
-    arrays.len() as u32
+    checked.place_of_array(name) as u32
 }
 
 /// The place of a block's name, or how many blocks there are where none has it.
-fn block_number<'a, A: Allocator>(blocks: &[graph::Block<'a, A>], name: &Name<'a>) -> u32
-    requires { length blocks.now ≤ 256 }
-    ensures { result ≡ place_of name.now (map block_name blocks.now) }
+#[tactic(auto, using(crate::proofs::Small::block_place_is_small))]
+fn block_number<'a, A: Allocator>(checked: &Checked<'a, A>, name: &Name<'a>) -> u32
+    requires limits { HasText checked.now }
+    ensures { result ≡ place_of name.now (block_names checked.now) }
 {
-    for (number, block) in blocks.iter().enumerate() {
-        if is_same(name, &block.name) {
-            return number as u32;
-        }
-    }
-    blocks.len() as u32
-}
-
-fn is_same<'a>(name: &Name<'a>, other: &Name<'a>) -> bool
-    ensures { result ≡ same_name name.now other.now }
-{
-    name.bytes == other.bytes
+    checked.place_of_block(name) as u32
 }

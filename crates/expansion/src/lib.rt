@@ -42,6 +42,6 @@ pub fn expand<'a, A: Allocator + Clone>(
 ) -> Result<Plan<A>, AllocError>
     ensures exact { IfOk result (λ p. p ≡ Expanded.expanded (flow_of checked.now)) }
 {
-    let flow = flow::resolve(alloc.clone()?, checked.graph())?;
+    let flow = flow::resolve(alloc.clone()?, checked)?;
     plans::plan_of(alloc, flow)
 }

@@ -101,7 +101,26 @@ pub const READERS: &[u8] = b"\
     \x01\0\0\0\0\0\0\0\
     \x02\0\0\0\0\0\0\0";
 
-/// A loop with bound 2 that sums the numbers up to its input.
+/// A loop with bound 2 that sums the numbers up to its input: the object of the graph below. The header and the block table take
+/// the first 72 bytes, and each instruction takes 16.
+///
+/// ```text
+/// etsgraph 1
+/// block b 3 4
+/// - lit 1 0.0
+/// - add 0.0 3.0
+/// - add 1.0 0.0
+/// - le 4.0 2.0
+/// out 6.0 4.0 5.0 2.0
+/// end
+/// block m 1 1
+/// - lit 1 0.0
+/// - lit 0 0.0
+/// - loop b 2 1.0 2.0 0.0
+/// out 3.1
+/// end
+/// main m
+/// ```
 pub const LOOP: &[u8] = b"\
     ETSOBJCT\
     \x01\0\0\0\0\0\0\0\x03\0\0\0\0\0\0\0\

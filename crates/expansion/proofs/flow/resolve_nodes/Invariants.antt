@@ -3,4 +3,4 @@ use Rattle.expansion.specs.Flows.{resolved_node}
 use Rattle.expansion.proofs.flow.resolve_nodes.Given as goal
 
 abbrev pub invariant-loop-node : goal.invariant-loop-node
-invariant-loop-node g l = l.resolved.items ≡ map (resolved_node l.arrays l.blocks) (take l.node-index l.nodes)
+invariant-loop-node g l = l.resolved.items ≡ map (resolved_node l.checked) (take l.node-index l.nodes)
