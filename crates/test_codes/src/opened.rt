@@ -1,7 +1,8 @@
 //! An object that adds its two inputs: it is opened, refused, upgraded and written.
 
 use object_view::{Object, ObjectFault, upgrade, write};
-use std::io::{self, ErrorKind, Write};
+use std::alloc::Global;
+use test_failing_streams::writer::{Failure, Taker};
 
 /// Adds two inputs.
 fn adds() -> [u8; 152] {
@@ -41,39 +42,8 @@ fn refusal(bytes: &[u8]) -> Option<ObjectFault> {
 }
 
 /// Takes `room` bytes, one for each call, and then fails.
-#[derive(Drop)]
-struct Taker {
-    taken: [u8; 152],
-    count: usize,
-    room: usize,
-}
-
-fn with_room(room: usize) -> Taker {
-    Taker {
-        taken: [0; 152],
-        count: 0,
-        room,
-    }
-}
-
-impl Write for Taker {
-    fn write(&mut self, buf: &[u8]) -> io::Result<usize> {
-        if self.count >= self.room {
-            return Err(io::Error::from(ErrorKind::Other));
-        }
-        match (buf.first(), self.taken.get_mut(self.count)) {
-            (Some(byte), Some(place)) => {
-                *place = *byte;
-                self.count = self.count.wrapping_add(1);
-                Ok(1)
-            }
-            _ => Ok(0),
-        }
-    }
-
-    fn flush(&mut self) -> io::Result<()> {
-        Ok(())
-    }
+fn with_room(alloc: Global, room: usize) -> Taker {
+    Taker::new(alloc, 1, room, Failure::Broken)
 }
 
 #[test]
@@ -111,16 +81,16 @@ fn refuses(rt: HostRuntime) {
 #[test]
 fn upgrades(rt: HostRuntime) {
     let mut bytes = adds();
-    let mut out = with_room(152);
+    let mut out = with_room(rt.alloc(), 152);
     let object = Object::open(&bytes).expect(&rt, "it opens");
     assert!(rt; upgrade(&object, &mut out).is_ok());
     for room in 0..152usize {
-        let mut cut = with_room(room);
+        let mut cut = with_room(rt.alloc(), room);
         assert!(rt; upgrade(&object, &mut cut).is_err());
-        assert_eq!(rt; cut.count, room);
+        assert_eq!(rt; cut.taken.len(), room);
     }
     bytes[8] = 2;
-    assert!(rt; out.taken == bytes);
+    assert_eq!(rt; out.taken.as_slice(), bytes.as_slice());
     assert_eq!(rt; refusal(&out.taken), None);
 }
 
@@ -143,9 +113,9 @@ fn writes_what_was_taken_apart(rt: HostRuntime) {
     let object = Object::open(&bytes).expect(&rt, "it opens");
     let code = object.to_code(rt.alloc()).expect(&rt, "there is memory");
     for room in 0..153usize {
-        let mut out = with_room(room);
+        let mut out = with_room(rt.alloc(), room);
         let written = write(&code, object.version(), &mut out);
         assert_eq!(rt; written.is_ok(), room == 152);
-        assert_eq!(rt; out.count, room);
+        assert_eq!(rt; out.taken.len(), room);
     }
 }

@@ -1,10 +1,7 @@
 //! Objects on standard input.
 
 use crate::served::expect_served;
-use commands::serving::serve;
-use rounds::Open;
 use std::alloc::Global;
-use std::io::{self, ErrorKind, Write};
 use std::test::Fail;
 
 /// An object that adds two inputs.
@@ -92,56 +89,4 @@ fn lists_origins(rt: HostRuntime) -> Result<(), Fail> {
     let first = changed(rt.alloc(), &[(104, 4), (116, 3)])?;
     let wanted = b"refused: object BadOpcode\n";
     expect_served(&rt, rt.alloc(), &["ets", "dis"], &first, wanted, 1)
-}
-
-/// Takes one byte for each call, and fails once its calls are used up.
-struct FailingWriter {
-    calls: u64,
-    taken: Vec<u8>,
-}
-
-impl Write for FailingWriter {
-    fn write(&mut self, bytes: &[u8]) -> io::Result<usize> {
-        if self.calls == 0 {
-            return Err(io::Error::from(ErrorKind::BrokenPipe));
-        }
-        self.calls -= 1;
-        match bytes.first() {
-            Some(byte) => {
-                self.taken.push(*byte)?;
-                Ok(1)
-            }
-            None => Ok(0),
-        }
-    }
-
-    fn flush(&mut self) -> io::Result<()> {
-        Ok(())
-    }
-}
-
-#[test]
-fn stops_at_failed_writes(rt: HostRuntime) -> Result<(), Fail> {
-    let length = LISTING.len() as u64;
-    for calls in 0..=length {
-        let mut writer = FailingWriter {
-            calls,
-            taken: Vec::new(rt.alloc()),
-        };
-        let mut reader = ADD;
-        let status = serve(
-            ["ets", "dis"].as_slice(),
-            &mut reader,
-            &mut writer,
-            rt.alloc(),
-            rt.alloc(),
-            &rt,
-            &Open,
-        );
-        let FailingWriter { calls: _, taken } = writer;
-        assert!(rt; LISTING.starts_with(taken.as_slice()));
-        assert_eq!(rt; taken.len() as u64, calls);
-        assert_eq!(rt; status, u8::from(calls < length));
-    }
-    Ok(())
 }

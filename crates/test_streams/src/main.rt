@@ -5,9 +5,7 @@
 #![tactic(auto)]
 
 mod cases;
-mod reader;
 mod trials;
-mod writer;
 
 use cases::{CASES, Input, Inputs};
 use std::alloc::Global;

@@ -1,8 +1,6 @@
 //! The trials of one command line.
 
 use crate::cases::{Case, Input};
-use crate::reader::Feeder;
-use crate::writer::{Failure, Taker, WRITERS};
 use commands::serving::serve;
 use rounds::Open;
 use std::alloc::Global;
@@ -10,6 +8,8 @@ use std::fmt;
 use std::io::{self, Write};
 use std::sync::Wait;
 use std::thread::Threads;
+use test_failing_streams::reader::Feeder;
+use test_failing_streams::writer::{Failure, Taker, WRITERS};
 use test_served::Outcome;
 
 /// More calls than any reader gets.

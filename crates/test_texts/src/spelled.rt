@@ -2,8 +2,8 @@
 
 use graph_file::{ReadFault, ReadFaultKind, read, write};
 use rationed::Rationed;
-use std::io::{self, ErrorKind, Write};
 use std::test::Fail;
+use test_failing_streams::writer::{Failure, Taker};
 
 const ROW: &[u8] = b"etsgraph 1\nblock m 2 1\n- add 0.0 1.0\nout 2.0\nend\nmain m\n";
 
@@ -130,45 +130,15 @@ fn graphs(rt: HostRuntime) -> Result<(), Fail> {
     Ok(())
 }
 
-/// A writer that takes one byte for each call, and fails once its calls are used up.
-struct Drip {
-    calls: u64,
-    taken: Vec<u8>,
-}
-
-impl Write for Drip {
-    fn write(&mut self, bytes: &[u8]) -> io::Result<usize> {
-        if self.calls == 0 {
-            return Err(io::Error::from(ErrorKind::BrokenPipe));
-        }
-        self.calls -= 1;
-        match bytes.first() {
-            Some(byte) => {
-                self.taken.push(*byte)?;
-                Ok(1)
-            }
-            None => Ok(0),
-        }
-    }
-
-    fn flush(&mut self) -> io::Result<()> {
-        Ok(())
-    }
-}
-
 #[test]
 fn failing_writers(rt: HostRuntime) -> Result<(), Fail> {
     let graph = read(rt.alloc(), ROW)?;
-    for calls in 0..57u64 {
-        let mut drip = Drip {
-            calls,
-            taken: Vec::new(rt.alloc()),
-        };
-        let answer = write(&graph, &mut drip);
-        let Drip { calls: _, taken } = drip;
-        assert_eq!(rt; answer.is_ok(), calls == 56);
-        assert_eq!(rt; taken.len() as u64, calls);
-        assert!(rt; ROW.starts_with(taken.as_slice()));
+    for room in 0..57usize {
+        let mut taker = Taker::new(rt.alloc(), 1, room, Failure::Broken);
+        let answer = write(&graph, &mut taker);
+        assert_eq!(rt; answer.is_ok(), room == 56);
+        assert_eq!(rt; taker.taken.len(), room);
+        assert!(rt; ROW.starts_with(&taker.taken));
     }
     Ok(())
 }

@@ -1,0 +1,5 @@
+//! A reader and a writer that fail, for tests.
+#![tactic(auto)]
+
+pub mod reader;
+pub mod writer;
