@@ -1,5 +1,7 @@
 //! The forms of the lines of a graph.
 
+use semantics::words::{Operator, operator_of};
+
 /// The form of a node line after its region.
 #[derive(Clone, Copy, Debug)]
 pub struct Shape {
@@ -30,22 +32,10 @@ pub fn shape_of(kind: &[u8]) -> Option<Shape> {
         b"call" => shaped("call F S..", 1, None),
         b"scall" => shaped("scall F S..", 1, None),
         b"loop" => shaped("loop F k S..", 2, None),
-        b"neg" | b"not" => shaped("OP S", 0, Some(1)),
-        b"add"
-        | b"sub"
-        | b"mul"
-        | b"div"
-        | b"rem"
-        | b"and"
-        | b"or"
-        | b"xor"
-        | b"shl"
-        | b"shr"
-        | b"eq"
-        | b"ne"
-        | b"lt"
-        | b"le" => shaped("OP S T", 0, Some(2)),
-        _ => None,
+        _ => match operator_of(kind)? {
+            Operator::One(_) => shaped("OP S", 0, Some(1)),
+            Operator::Two(_) => shaped("OP S T", 0, Some(2)),
+        },
     }
 }
 
