@@ -142,12 +142,13 @@ impl<'m, A: Allocator> Lane<'m, A> {
             Meeting::Apart => Stepped::Stuck { rule: 3 },
             Meeting::Both { left, right } => match pass_two(instr, &left, &right) {
                 Some(passed) => self.pass(at, seat, Some(instr.slot), &passed, sent),
-                None => self.fire_pair(code, at, seat, *instr, &left, &right, sent),
+                None => self.fire_pair(code, at, seat, *instr, left, right, sent),
             },
         }
     }
 
-    // An instruction with one input, whose word goes to its own destinations.
+    // An instruction with one input, whose word goes to its own destinations. The port is looked at last, so that the choice
+    // of the instruction goes straight on into what it does.
     #[inline(always)]
     fn at_lone<C: Instructions>(
         &mut self,
@@ -166,12 +167,12 @@ impl<'m, A: Allocator> Lane<'m, A> {
         requires lone { IsLone instr.now.op }
         ensures { ActsAs (C.program code.now) (held_of self.old) at token.now sent.old.items result (held_of self.new) sent.new.items }
     {
-        match port {
-            Port::Right => Stepped::Stuck { rule: 2 },
-            Port::Left => match pass_one(instr, token.word) {
-                Some(passed) => self.pass(at, seat, None, &passed, sent),
-                None => self.read_again(code, at, token, seat, port, sent),
+        match pass_one(instr, token.word) {
+            Some(passed) => match port {
+                Port::Right => Stepped::Stuck { rule: 2 },
+                Port::Left => self.pass(at, seat, None, &passed, sent),
             },
+            None => self.read_again(code, at, token, seat, port, sent),
         }
     }
 
@@ -221,7 +222,8 @@ impl<'m, A: Allocator> Lane<'m, A> {
         Stepped::Did
     }
 
-    // Both words are there, of any instruction with two inputs: the slot is empty then.
+    // Both words are there, of any instruction with two inputs: the slot is empty then. The words are copies, so that those of
+    // whoever calls stay in registers.
     #[inline(never)]
     fn fire_pair<C: Instructions>(
         &mut self,
@@ -229,8 +231,8 @@ impl<'m, A: Allocator> Lane<'m, A> {
         at: usize,
         seat: Seat,
         instr: Instruction,
-        left: &Word,
-        right: &Word,
+        left: Word,
+        right: Word,
         sent: &mut Vec<Token, A>,
     ) -> Stepped
         requires some { 0 < self.old.elements }
@@ -240,11 +242,11 @@ impl<'m, A: Allocator> Lane<'m, A> {
         requires there { at < length self.old.queue.items }
         requires few { self.old.made < 2 ^ 63 }
         requires short { IsShort (C.width code.now) seat.ip instr }
-        requires room { HasRoomInWord left.now }
-        ensures { FiresAs (fire_two (C.program code.now) (seat_of seat) (instr_of instr) instr.op left.now right.now) (with_state (part_of self.old) (slot_place (shape_of self.old) seat.frame instr.slot) Empty) (held_of self.old) at sent.old.items result (held_of self.new) sent.new.items }
+        requires room { HasRoomInWord left }
+        ensures { FiresAs (fire_two (C.program code.now) (seat_of seat) (instr_of instr) instr.op left right) (with_state (part_of self.old) (slot_place (shape_of self.old) seat.frame instr.slot) Empty) (held_of self.old) at sent.old.items result (held_of self.new) sent.new.items }
     {
         let mut made = NONE;
-        if !fire_two(code, seat, &instr, *left, *right, &mut made) {
+        if !fire_two(code, seat, &instr, left, right, &mut made) {
             return Stepped::Stuck { rule: 4 };
         }
         if self.make_room(4, sent).is_err() {

@@ -11,8 +11,8 @@ use Rattle.element.specs.Acts.{FiresAs}
 use Rattle.element.proofs.Classes.{lone_slot, lone_alone, fired_as}
 use Rattle.element.proofs.lane.Lane.at_lone.Goals as goal
 
-pub returns-in-Some : goal.returns-in-Some
-returns-in-Some g c =
+pub returns-in-Left : goal.returns-in-Left
+returns-in-Left g c =
     let p = g.C.Instructions.program c.args.code.now in
     let old : Held = held_of c.args.self.now in
     let s = c.args.seat in
