@@ -143,8 +143,8 @@ impl<'m, A: Allocator> Lane<'m, A> {
             },
             Meeting::Apart => Stepped::Stuck { rule: 3 },
             Meeting::Both { left, right } => match port {
-                Port::Left => self.both(code, at, seat, instr, &left, &right, sent),
-                Port::Right => self.both(code, at, seat, instr, &left, &right, sent),
+                Port::Left => self.both(code, at, seat, instr, left, right, sent),
+                Port::Right => self.both(code, at, seat, instr, left, right, sent),
             },
         }
     }
@@ -264,8 +264,8 @@ impl<'m, A: Allocator> Lane<'m, A> {
         at: usize,
         seat: Seat,
         instr: &Instruction,
-        left: &Word,
-        right: &Word,
+        left: Word,
+        right: Word,
         sent: &mut Vec<Token, A>,
     ) -> Stepped
         requires some { 0 < self.old.elements }
@@ -276,10 +276,10 @@ impl<'m, A: Allocator> Lane<'m, A> {
         requires there { at < length self.old.queue.items }
         requires few { self.old.made < 2 ^ 63 }
         requires short { IsShort (C.width code.now) seat.ip instr.now }
-        requires room { HasRoomInWord left.now }
-        ensures { FiresAs (fire_two (C.program code.now) (seat_of seat) (instr_of instr.now) instr.now.op left.now right.now) (with_state (part_of self.old) (slot_place (shape_of self.old) seat.frame instr.now.slot) Empty) (held_of self.old) at sent.old.items result (held_of self.new) sent.new.items }
+        requires room { HasRoomInWord left }
+        ensures { FiresAs (fire_two (C.program code.now) (seat_of seat) (instr_of instr.now) instr.now.op left right) (with_state (part_of self.old) (slot_place (shape_of self.old) seat.frame instr.now.slot) Empty) (held_of self.old) at sent.old.items result (held_of self.new) sent.new.items }
     {
-        match pass_two(instr, left, right) {
+        match pass_two(instr, &left, &right) {
             Some(passed) => self.pass(
                 at,
                 seat,
@@ -288,7 +288,7 @@ impl<'m, A: Allocator> Lane<'m, A> {
                 passed.first,
                 passed.second,
             ),
-            None => self.fire_pair(code, at, seat, *instr, *left, *right, sent),
+            None => self.fire_pair(code, at, seat, *instr, left, right, sent),
         }
     }
 
