@@ -2,9 +2,9 @@
 //! instruction decoded from its 16 bytes when it is run, one match on its opcode. It is no part of what is proved.
 //!
 //! Build: rustc --edition 2021 -O plain_machine.rs. Run: plain_machine INPUT [ELEMENTS [FRAMES [OBJECT]]]; the object is that
-//! of crates/loop_events, where none is given. An object is taken to be sound.
+//! of crates/bench_events, where none is given. An object is taken to be sound.
 
-#[path = "../../crates/loop_events/src/sum_loop.rt"]
+#[path = "../../crates/bench_events/src/sum_loop.rt"]
 mod sum_loop;
 
 use std::collections::VecDeque;

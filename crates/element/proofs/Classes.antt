@@ -8,13 +8,16 @@ use Rattle.tags.specs.declared.slot.SlotState.{SlotState}
 use Rattle.tags.specs.Addresses.{element_of}
 use Rattle.semantics.specs.declared.program.Op.{Op}
 use Rattle.semantics.specs.declared.program.Op.TheVariants.{Apply1, Apply2, Apply2Right, Apply2Left, Lit, Copy, Sync, Switch, Fetch, Store, Frame, Link, Send, Return, Ask, Release}
+use Rattle.std.specs.Prelude.{option_to_list}
+use Rattle.semantics.specs.declared.program.Dest.{Dest}
 use Rattle.semantics.specs.Program.{Instr, Program, instr_at}
-use Rattle.semantics.specs.Rule.{Seat, Outcome, Becomes, Excluded, outcome_of, slot_of, fires, meets, alone, rule_at}
+use Rattle.semantics.specs.Rule.{Seat, Outcome, Becomes, Excluded, outcome_of, slot_of, fires, meets, alone, rule_at, fire_one, to_each}
 use Rattle.semantics.specs.Machine.{slot_in, slot_used, excluded_by, stuck_rule}
 use Rattle.element.specs.declared.instructions.Instruction.{Instruction}
 use Rattle.element.specs.declared.lane.Stepped.{Stepped}
 use Rattle.element.specs.declared.lane.Stepped.TheVariants as Step
-use Rattle.element.specs.Decoded.{instr_of, IsShort, IsPair, IsLone}
+use Rattle.element.specs.Decoded.{instr_of, dest_in, IsShort, IsPair, IsLone}
+use Rattle.element.specs.Fired.{to_half}
 use Rattle.element.specs.Near.{IsNearToken, IsNearTo}
 use Rattle.element.specs.Parts.{Shape, Part, IsSound, bounds}
 use Rattle.element.specs.Held.{Held, queued, taken, with_part, elsewhere}
@@ -68,6 +71,14 @@ lone_alone p s i (Fetch a) slot port w k = refl
 lone_alone p s i Frame slot port w k = refl
 lone_alone p s i (Link b) slot port w k = refl
 lone_alone p s i op slot port w k = absurd k
+
+-- a copy passes its word on to both destinations
+to_two : (s : Seat) (w : Word) (a b : Option Dest) → to_each s w (option_to_list a ++ option_to_list b) ≡ to_each s w (option_to_list a) ++ to_each s w (option_to_list b)
+to_two s w None b = refl
+to_two s w (Some d) b = refl
+
+pub copied : (p : Program) (s : Seat) (i : Instruction) (w : Word) → i.op ≡ Copy → fire_one p s (instr_of i) i.op w ≡ Some (to_half s w i.first ++ to_half s w i.second)
+copied p s i w is = ap (λ (op : Op). fire_one p s (instr_of i) op w) is ∙ ap (λ (ts : List Token). Some ts) (to_two s w (dest_in i.first) (dest_in i.second))
 
 -- WHAT COMES OF A TOKEN
 abbrev seat : ℕ → ℕ → Seat

@@ -152,17 +152,17 @@ impl<'m, A: Allocator> Lane<'m, A> {
         &mut self,
         code: &C,
         at: usize,
-        token: Token,
+        token: &Token,
         sent: &mut Vec<Token, A>,
     ) -> Stepped
     where
         A: Clone,
-        requires { CanAct (C.program code.now) (C.width code.now) (held_of self.old) at token }
-        ensures { ActsAs (C.program code.now) (held_of self.old) at token sent.old.items result (held_of self.new) sent.new.items }
+        requires { CanAct (C.program code.now) (C.width code.now) (held_of self.old) at token.now }
+        ensures { ActsAs (C.program code.now) (held_of self.old) at token.now sent.old.items result (held_of self.new) sent.new.items }
     {
         match token.to {
             To::Instr { frame, ip, port } => {
-                self.at_instruction(code, at, &token, Seat { frame, ip }, port, sent)
+                self.at_instruction(code, at, token, Seat { frame, ip }, port, sent)
             }
             _ => self.act_anywhere(code, at, token, sent),
         }
@@ -174,24 +174,24 @@ impl<'m, A: Allocator> Lane<'m, A> {
         &mut self,
         code: &C,
         at: usize,
-        token: Token,
+        token: &Token,
         sent: &mut Vec<Token, A>,
     ) -> Stepped
     where
         A: Clone,
-        requires { CanAct (C.program code.now) (C.width code.now) (held_of self.old) at token }
-        ensures { ActsAs (C.program code.now) (held_of self.old) at token sent.old.items result (held_of self.new) sent.new.items }
+        requires { CanAct (C.program code.now) (C.width code.now) (held_of self.old) at token.now }
+        ensures { ActsAs (C.program code.now) (held_of self.old) at token.now sent.old.items result (held_of self.new) sent.new.items }
     {
         let to = token.to;
         match to {
             To::Instr { frame, ip, port } => {
-                self.read_again(code, at, &token, Seat { frame, ip }, port, sent)
+                self.read_again(code, at, token, Seat { frame, ip }, port, sent)
             }
-            To::Fetch { cell } => self.at_fetch(at, token, cell, sent),
-            To::Store { cell, value } => self.at_store(at, token, cell, &value, sent),
-            To::Manager => self.at_manager(at, token, sent),
-            To::Release { frame } => self.at_release(at, token, frame, sent),
-            To::Host { port } => self.at_host(at, token, port),
+            To::Fetch { cell } => self.at_fetch(at, *token, cell, sent),
+            To::Store { cell, value } => self.at_store(at, *token, cell, &value, sent),
+            To::Manager => self.at_manager(at, *token, sent),
+            To::Release { frame } => self.at_release(at, *token, frame, sent),
+            To::Host { port } => self.at_host(at, *token, port),
         }
     }
 
@@ -223,6 +223,6 @@ impl<'m, A: Allocator> Lane<'m, A> {
         }
         let at = among(pick, waiting);
         let token = self.queue.get(at);
-        self.act(code, at, token, sent)
+        self.act(code, at, &token, sent)
     }
 }

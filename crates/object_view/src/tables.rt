@@ -143,24 +143,38 @@ impl<'a> Tables<'a> {
         }
     }
 
-    /// The operation of this opcode with this operand. The table of literals is read where the operand is a literal.
+    /// The operation of this opcode with this second word, and the number of its origin. The table of literals is read where
+    /// the operand is a literal. Each opcode goes its own way to the end, so that where the operation is looked at next no
+    /// second choice is made.
     #[inline(always)]
-    fn op(&self, opcode: Opcode, operand: u64) -> Op
-        ensures { result ≡ Fields.with opcode operand (Reading.literal_or_zero (Fields.word_at self.now.bytes.now) operand) }
+    fn read_op(&self, opcode: Opcode, word: u64) -> (Op, u64)
+        ensures op { result.0 ≡ Fields.with opcode (Fields.operand_in self.now.version opcode word) (Reading.literal_or_zero (Fields.word_at self.now.bytes.now) (Fields.operand_in self.now.version opcode word)) }
+        ensures origin { result.1 ≡ Fields.origin_number self.now.version opcode word }
     {
         match opcode {
-            Opcode::Apply2Right { op } => Op::Apply2Right {
-                op,
-                literal: self.literal_or_zero(operand),
-            },
-            Opcode::Apply2Left { op } => Op::Apply2Left {
-                op,
-                literal: self.literal_or_zero(operand),
-            },
-            Opcode::Lit => Op::Lit {
-                literal: self.literal_or_zero(operand),
-            },
-            _ => opcode.with(operand, 0),
+            Opcode::Apply2 { op } => {
+                let (_, origin) = self.parted(opcode, word);
+                (Op::Apply2 { op }, origin)
+            }
+            Opcode::Apply2Right { op } => {
+                let (operand, origin) = self.parted(opcode, word);
+                let literal = self.literal_or_zero(operand);
+                (Op::Apply2Right { op, literal }, origin)
+            }
+            Opcode::Apply2Left { op } => {
+                let (operand, origin) = self.parted(opcode, word);
+                let literal = self.literal_or_zero(operand);
+                (Op::Apply2Left { op, literal }, origin)
+            }
+            Opcode::Lit => {
+                let literal = self.literal_or_zero(word);
+                (Op::Lit { literal }, 0)
+            }
+            Opcode::Fetch | Opcode::Store => {
+                let (operand, origin) = self.parted(opcode, word);
+                (opcode.with(operand, 0), origin)
+            }
+            _ => (opcode.with(word, 0), 0),
         }
     }
 
@@ -174,13 +188,13 @@ impl<'a> Tables<'a> {
         let head = self.head(ip);
         let word = self.operand_word(ip);
         let opcode = head.opcode().unwrap_or(Opcode::Copy);
-        let (operand, origin) = self.parted(opcode, word);
+        let (op, origin) = self.read_op(opcode, word);
         PackedInstr {
             origin,
             slot: head.slot(),
             first: head.first(),
             second: head.second(),
-            op: self.op(opcode, operand),
+            op,
         }
     }
 

@@ -198,6 +198,24 @@ impl<'m, C: MainCode, A: Allocator> Elements<'m, C, A> {
         }
     }
 
+    // The same as `play_in_turn`, of one element, which is always in turn.
+    #[inline(never)]
+    fn play_alone<L: Log>(&mut self, log: &mut L) -> Halt
+    where
+        A: Clone,
+        requires well { IsWell C.program C.width self.old }
+        requires one { self.old.elements ≡ 1 }
+        ensures well { IsWell C.program C.width self.new }
+        ensures exact { (rounds : ℕ) × (events : Events) × Plays false (rounds_of rounds self.old.elements) (state_of C.program C.width self.old) (state_of C.program C.width self.new) result events × ((before : Events) → L.noted log.old before → L.noted log.new (before ++ events)) }
+    {
+        'events: loop {
+            match self.advance(false, 0, 0, log) {
+                None => {}
+                Some(halt) => return halt,
+            }
+        }
+    }
+
     /// Makes one step after another, each with the oldest token of an element, the elements in turn, and answers why it
     /// makes no more.
     pub fn play_in_turn<L: Log>(&mut self, log: &mut L) -> Halt
@@ -207,6 +225,9 @@ impl<'m, C: MainCode, A: Allocator> Elements<'m, C, A> {
         ensures well { IsWell C.program C.width self.new }
         ensures exact { (rounds : ℕ) × (events : Events) × Plays false (rounds_of rounds self.old.elements) (state_of C.program C.width self.old) (state_of C.program C.width self.new) result events × ((before : Events) → L.noted log.old before → L.noted log.new (before ++ events)) }
     {
+        if self.elements == 1 {
+            return self.play_alone(log);
+        }
         'passes: loop {
             for element in 0..self.elements {
                 match self.advance(false, element, 0, log) {

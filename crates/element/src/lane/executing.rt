@@ -1,6 +1,6 @@
 //! What an element does with a token for an instruction.
 
-ghost use Rattle.std.specs.Prelude.{◌≡◌, ◌*◌, ◌<◌, ◌^◌, length, IfSome, Some};
+ghost use Rattle.std.specs.Prelude.{◌≡◌, ◌*◌, ◌%◌, ◌<◌, ◌^◌, ◌++◌, List, length, IfSome, Some};
 ghost use Rattle.tags.specs.declared.token.To.{To};
 ghost use Rattle.element.specs.Held.{held_of, part_of, shape_of, taken, cleared, with_part};
 ghost use Rattle.tags.specs.declared.slot.SlotState.TheVariants.{Empty};
@@ -11,17 +11,19 @@ ghost use Rattle.semantics.specs.Rule.{fire_two};
 ghost use Rattle.element.specs.Decoded.{instr_of, IsShort, IsPair, IsLone};
 ghost use Rattle.element.specs.Acts.{CanAct, ActsAs, FiresAs};
 ghost use Rattle.element.specs.Changed.{with_state, with_state_in};
-ghost use Rattle.element.specs.Fired.{seat_of, passed_on, HasRoomInWord};
+ghost use Rattle.element.specs.Fired.{seat_of, to_half, HasRoomInWord};
+ghost use Rattle.element.specs.declared.lane.Stepped.TheVariants.{Did};
+ghost use Rattle.semantics.specs.declared.program.Op.TheVariants.{Copy};
+ghost use Rattle.tags.specs.declared.token.Token.{Token};
 
 use super::{Lane, Stepped};
-use crate::firing::{
-    Meeting, NONE, Outcome, Passed, Seat, fire, fire_two, meet, pass_one, pass_two,
-};
+use crate::firing::{Meeting, NONE, Outcome, Seat, fire, fire_two, meet, pass_one, pass_two};
 use crate::instructions::{Instruction, Instructions};
 use semantics::program::Op;
 use std::alloc::Allocator;
 use tags::slot::SlotState;
 use tags::token::{FrameId, Port, Token, Word};
+use tags::value::Value;
 
 impl<'m, A: Allocator> Lane<'m, A> {
     #[inline(always)]
@@ -50,11 +52,9 @@ impl<'m, A: Allocator> Lane<'m, A> {
             | Op::Return { .. }
             | Op::Ask { .. }
             | Op::Release { .. } => self.at_pair(code, at, token, seat, &instr, port, sent),
-            Op::Apply1 { .. }
-            | Op::Apply2Right { .. }
-            | Op::Apply2Left { .. }
-            | Op::Lit { .. }
-            | Op::Copy => self.at_lone(code, at, token, seat, &instr, port, sent),
+            Op::Apply1 { .. } | Op::Apply2Right { .. } | Op::Apply2Left { .. } | Op::Lit { .. } =>
+                self.at_lone(code, at, token, seat, &instr, port, sent),
+            Op::Copy => self.at_copy(code, at, token, seat, &instr, port, sent),
             _ => self.read_again(code, at, token, seat, port, sent),
         }
     }
@@ -114,7 +114,9 @@ impl<'m, A: Allocator> Lane<'m, A> {
         }
     }
 
-    // An instruction with two inputs: the first token waits in the slot for the second.
+    // An instruction with two inputs: the first token waits in the slot for the second. Two arms do the same where what was
+    // asked lets each be compiled shorter: an integer is packed without a look at the other words, and on either port it is
+    // known which of the words is the token's.
     #[inline(always)]
     fn at_pair<C: Instructions>(
         &mut self,
@@ -135,19 +137,20 @@ impl<'m, A: Allocator> Lane<'m, A> {
     {
         let held = self.slot_state(seat.frame, instr.slot);
         match meet(held, port, token.word) {
-            Meeting::Waits { state } => {
-                self.wait(at, seat.frame, instr.slot, state);
-                Stepped::Did
-            }
+            Meeting::Waits { state } => match token.word {
+                Word::Val(Value::Int(_)) => self.wait(at, seat.frame, instr.slot, state),
+                _ => self.wait(at, seat.frame, instr.slot, state),
+            },
             Meeting::Apart => Stepped::Stuck { rule: 3 },
-            Meeting::Both { left, right } => match pass_two(instr, &left, &right) {
-                Some(passed) => self.pass(at, seat, Some(instr.slot), &passed, sent),
-                None => self.fire_pair(code, at, seat, *instr, &left, &right, sent),
+            Meeting::Both { left, right } => match port {
+                Port::Left => self.both(code, at, seat, instr, left, right, sent),
+                Port::Right => self.both(code, at, seat, instr, left, right, sent),
             },
         }
     }
 
-    // An instruction with one input, whose word goes to its own destinations.
+    // An instruction with one input, whose word goes to its own destinations. The port is looked at last, so that the choice
+    // of the instruction goes straight on into what it does.
     #[inline(always)]
     fn at_lone<C: Instructions>(
         &mut self,
@@ -166,62 +169,131 @@ impl<'m, A: Allocator> Lane<'m, A> {
         requires lone { IsLone instr.now.op }
         ensures { ActsAs (C.program code.now) (held_of self.old) at token.now sent.old.items result (held_of self.new) sent.new.items }
     {
+        match pass_one(instr, token.word) {
+            Some(passed) => match port {
+                Port::Right => Stepped::Stuck { rule: 2 },
+                Port::Left => {
+                    self.pass(at, seat, None, &passed.word, passed.first, passed.second)
+                }
+            },
+            None => self.read_again(code, at, token, seat, port, sent),
+        }
+    }
+
+    // A copy passes the token's own word on.
+    #[inline(always)]
+    fn at_copy<C: Instructions>(
+        &mut self,
+        code: &C,
+        at: usize,
+        token: &Token,
+        seat: Seat,
+        instr: &Instruction,
+        port: Port,
+        sent: &mut Vec<Token, A>,
+    ) -> Stepped
+        requires can { CanAct (C.program code.now) (C.width code.now) (held_of self.old) at token.now }
+        requires address { token.now.to ≡ To.Instr seat.frame seat.ip port }
+        requires found { instr_at (C.program code.now) seat.ip ≡ Some (instr_of instr.now) }
+        requires short { IsShort (C.width code.now) seat.ip instr.now }
+        requires copy { instr.now.op ≡ Copy }
+        ensures { ActsAs (C.program code.now) (held_of self.old) at token.now sent.old.items result (held_of self.new) sent.new.items }
+    {
         match port {
             Port::Right => Stepped::Stuck { rule: 2 },
-            Port::Left => match pass_one(instr, token.word) {
-                Some(passed) => self.pass(at, seat, None, &passed, sent),
-                None => self.read_again(code, at, token, seat, port, sent),
-            },
+            Port::Left => self.pass(at, seat, None, &token.word, instr.first, instr.second),
         }
     }
 
     // The slot changes, the token is taken out, and nothing is made.
     #[inline(always)]
-    fn wait(&mut self, at: usize, frame: FrameId, slot: u32, state: SlotState)
+    fn wait(&mut self, at: usize, frame: FrameId, slot: u32, state: SlotState) -> Stepped
         requires some { 0 < self.old.elements }
         requires bank { IsBank self.old.bank }
         requires frame { frame < self.old.elements * self.old.bank.frames }
         requires slot { slot < self.old.bank.width }
         requires there { at < length self.old.queue.items }
         requires few { self.old.made < 2 ^ 63 }
-        ensures { held_of self.new ≡ taken (with_part (held_of self.old) (with_state (part_of self.old) (slot_place (shape_of self.old) frame slot) state)) at }
+        ensures held { held_of self.new ≡ taken (with_part (held_of self.old) (with_state (part_of self.old) (slot_place (shape_of self.old) frame slot) state)) at }
+        ensures did { result ≡ Did }
     {
         self.set_slot(frame, slot, state);
         self.take(at);
+        Stepped::Did
     }
 
-    // The slot that is cleared is empty then, the token is taken out, and a word goes to the destinations.
+    // The slot that is cleared is empty then, the token is taken out, and a word goes to two destinations of its frame, which
+    // are half words of the instruction, or 0.
     #[inline(always)]
     fn pass(
         &mut self,
         at: usize,
         seat: Seat,
         cleared: Option<u32>,
-        passed: &Passed,
-        sent: &mut Vec<Token, A>,
+        word: &Word,
+        first: u32,
+        second: u32,
     ) -> Stepped
         requires some { 0 < self.old.elements }
         requires bank { IsBank self.old.bank }
         requires near { seat.ip < 2 ^ 30 }
         requires frame { seat.frame < self.old.elements * self.old.bank.frames }
+        requires own { seat.frame % self.old.elements ≡ self.old.element }
         requires slot { IfSome cleared (λ slot. slot < self.old.bank.width) }
         requires there { at < length self.old.queue.items }
         requires few { self.old.made < 2 ^ 63 }
-        ensures { FiresAs (Some (passed_on (seat_of seat) passed.now)) (with_state_in (part_of self.old) seat.frame cleared Empty) (held_of self.old) at sent.old.items result (held_of self.new) sent.new.items }
+        ensures { (before : List Token) → FiresAs (Some (to_half (seat_of seat) word.now first ++ to_half (seat_of seat) word.now second)) (with_state_in (part_of self.old) seat.frame cleared Empty) (held_of self.old) at before result (held_of self.new) before }
     {
-        if self.make_room(2, sent).is_err() {
+        if self.make_own_room(2).is_err() {
             return Stepped::Memory;
         }
         if let Some(slot) = cleared {
             self.set_slot(seat.frame, slot, SlotState::Empty);
         }
         self.take(at);
-        self.send_to(seat, &passed.word, passed.first, sent);
-        self.send_to(seat, &passed.word, passed.second, sent);
+        self.send_near(seat, word, first);
+        self.send_near(seat, word, second);
         Stepped::Did
     }
 
-    // Both words are there, of any instruction with two inputs: the slot is empty then.
+    // Both words are there. What comes of them is the same on both ports; whoever calls keeps the ports apart.
+    #[inline(always)]
+    fn both<C: Instructions>(
+        &mut self,
+        code: &C,
+        at: usize,
+        seat: Seat,
+        instr: &Instruction,
+        left: Word,
+        right: Word,
+        sent: &mut Vec<Token, A>,
+    ) -> Stepped
+        requires some { 0 < self.old.elements }
+        requires bank { IsBank self.old.bank }
+        requires frame { seat.frame < self.old.elements * self.old.bank.frames }
+        requires own { seat.frame % self.old.elements ≡ self.old.element }
+        requires slot { instr.now.slot < self.old.bank.width }
+        requires there { at < length self.old.queue.items }
+        requires few { self.old.made < 2 ^ 63 }
+        requires short { IsShort (C.width code.now) seat.ip instr.now }
+        requires room { HasRoomInWord left }
+        ensures { FiresAs (fire_two (C.program code.now) (seat_of seat) (instr_of instr.now) instr.now.op left right) (with_state (part_of self.old) (slot_place (shape_of self.old) seat.frame instr.now.slot) Empty) (held_of self.old) at sent.old.items result (held_of self.new) sent.new.items }
+    {
+        match pass_two(instr, &left, &right) {
+            Some(passed) => self.pass(
+                at,
+                seat,
+                Some(instr.slot),
+                &passed.word,
+                passed.first,
+                passed.second,
+            ),
+            None => self.fire_pair(code, at, seat, *instr, left, right, sent),
+        }
+    }
+
+    // Both words are there, of any instruction with two inputs: the slot is empty then. The words are copies, so that those of
+    // whoever calls stay in registers.
     #[inline(never)]
     fn fire_pair<C: Instructions>(
         &mut self,
@@ -229,8 +301,8 @@ impl<'m, A: Allocator> Lane<'m, A> {
         at: usize,
         seat: Seat,
         instr: Instruction,
-        left: &Word,
-        right: &Word,
+        left: Word,
+        right: Word,
         sent: &mut Vec<Token, A>,
     ) -> Stepped
         requires some { 0 < self.old.elements }
@@ -240,11 +312,11 @@ impl<'m, A: Allocator> Lane<'m, A> {
         requires there { at < length self.old.queue.items }
         requires few { self.old.made < 2 ^ 63 }
         requires short { IsShort (C.width code.now) seat.ip instr }
-        requires room { HasRoomInWord left.now }
-        ensures { FiresAs (fire_two (C.program code.now) (seat_of seat) (instr_of instr) instr.op left.now right.now) (with_state (part_of self.old) (slot_place (shape_of self.old) seat.frame instr.slot) Empty) (held_of self.old) at sent.old.items result (held_of self.new) sent.new.items }
+        requires room { HasRoomInWord left }
+        ensures { FiresAs (fire_two (C.program code.now) (seat_of seat) (instr_of instr) instr.op left right) (with_state (part_of self.old) (slot_place (shape_of self.old) seat.frame instr.slot) Empty) (held_of self.old) at sent.old.items result (held_of self.new) sent.new.items }
     {
         let mut made = NONE;
-        if !fire_two(code, seat, &instr, *left, *right, &mut made) {
+        if !fire_two(code, seat, &instr, left, right, &mut made) {
             return Stepped::Stuck { rule: 4 };
         }
         if self.make_room(4, sent).is_err() {

@@ -1,6 +1,6 @@
 //! Tokens are taken out of the queue, and sent: into the queue, or to other elements.
 
-ghost use Rattle.std.specs.Prelude.{◌≡◌, ◌+◌, ◌<◌, ◌≤◌, ◌^◌, [], ◌∷◌, ◌++◌, ◌==◌, length, OnOk, vec_len};
+ghost use Rattle.std.specs.Prelude.{◌≡◌, ◌+◌, ◌<◌, ◌≤◌, ◌^◌, ◌%◌, [], ◌∷◌, ◌++◌, ◌==◌, length, OnOk, vec_len};
 ghost use Rattle.std.specs.Vec.{vec_capacity};
 ghost use Rattle.element.specs.Held.{held_of, shape_of, elsewhere, queued, taken};
 ghost use Rattle.tags.specs.Addresses.{element_of};
@@ -28,6 +28,15 @@ impl<'m, A: Allocator> Lane<'m, A> {
     {
         self.queue.reserve(tokens)?;
         sent.reserve(tokens)
+    }
+
+    // Makes room for `tokens` more tokens of this element. After an error all stands as before.
+    #[inline(always)]
+    pub(super) fn make_own_room(&mut self, tokens: usize) -> Result<(), AllocError>
+        ensures held { held_of self.new ≡ held_of self.old }
+        ensures room { OnOk result (length self.new.queue.items + tokens ≤ self.new.queue.room) }
+    {
+        self.queue.reserve(tokens)
     }
 
     // Takes the token at `at` out of the queue.
@@ -97,6 +106,27 @@ impl<'m, A: Allocator> Lane<'m, A> {
                 port: dest.port,
             };
             self.send(Token { to, word: *word }, sent);
+        }
+    }
+
+    // The same, where the frame lies on this element: so does the destination, and no token goes elsewhere.
+    #[inline(always)]
+    pub(super) fn send_near(&mut self, seat: Seat, word: &Word, half: u32)
+        requires near { seat.ip < 2 ^ 30 }
+        requires own { seat.frame % self.old.elements ≡ self.old.element }
+        requires room { length self.old.queue.items < self.old.queue.room }
+        ensures held { held_of self.new ≡ queued (held_of self.old) (to_half (seat_of seat) word.now half) }
+        ensures none { elsewhere (shape_of self.old) (to_half (seat_of seat) word.now half) ≡ [] }
+        ensures len { length self.new.queue.items ≤ length self.old.queue.items + 1 }
+        ensures capacity { self.new.queue.room ≡ self.old.queue.room }
+    {
+        if let Some(dest) = dest_in(half) {
+            let to = To::Instr {
+                frame: seat.frame,
+                ip: seat.ip + dest.ahead,
+                port: dest.port,
+            };
+            self.queue.push_back_reserved(Token { to, word: *word });
         }
     }
 
