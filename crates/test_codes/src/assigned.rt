@@ -1,28 +1,17 @@
 //! Plans made by hand, and which slots are good for them.
 
-use code::{CodeBlock, Instr, Plan, Program, Slots};
+use code::{Instr, Plan, Slots};
 use operators::Binary;
 use rationed::Rationed;
-use semantics::program::{Dest, Mark, Op};
+use semantics::program::{Mark, Op};
 use slot_alloc::{AssignFault, assign, check_slots};
 use std::alloc::{AllocError, Allocator};
 use std::test::Fail;
-use tags::token::Port;
 use tags::value::Origin;
-
-/// Destinations; each is given by how far ahead it lies, and by its port.
-type Dests = &'static [(u32, Port)];
+use test_plans::{ADD, Dests, L, NONE, R, instr_of, plan_of};
 
 /// The operation of an instruction, its holder, and its first and its second destinations.
 type Line = (Op, u32, Dests, Dests);
-
-const L: Port = Port::Left;
-
-const R: Port = Port::Right;
-
-const NONE: Dests = &[];
-
-const ADD: Op = Op::Apply2 { op: Binary::Add };
 
 const MUL: Op = Op::Apply2 { op: Binary::Mul };
 
@@ -30,54 +19,9 @@ const AND: Op = Op::Apply2 { op: Binary::And };
 
 const OR: Op = Op::Apply2 { op: Binary::Or };
 
-fn dests_of<A: Allocator>(alloc: A, ahead: &[(u32, Port)]) -> Result<Vec<Dest, A>, AllocError> {
-    let mut dests = Vec::new(alloc);
-    for (ahead, port) in ahead {
-        dests.push(Dest {
-            ahead: *ahead,
-            port: *port,
-        })?;
-    }
-    Ok(dests)
-}
-
-fn instr_of<A: Allocator + Clone>(alloc: A, line: Line) -> Result<Instr<A>, AllocError> {
+fn instr<A: Allocator + Clone>(alloc: A, line: Line) -> Result<Instr<A>, AllocError> {
     let (op, slot, firsts, seconds) = line;
-    Ok(Instr {
-        op,
-        origin: Origin::Untold,
-        slot,
-        firsts: dests_of(alloc.clone()?, firsts)?,
-        seconds: dests_of(alloc, seconds)?,
-    })
-}
-
-fn plan_of<A: Allocator + Clone>(
-    alloc: A,
-    holders: u32,
-    instrs: Vec<Instr<A>, A>,
-    marks: Vec<Mark, A>,
-) -> Result<Plan<A>, AllocError> {
-    let block = CodeBlock {
-        inputs: 1,
-        outputs: 1,
-        slots: holders,
-        instrs,
-    };
-    let mut blocks = Vec::new(alloc.clone()?);
-    blocks.push(block)?;
-    let arrays = Vec::new(alloc.clone()?);
-    let mut all_marks = Vec::new(alloc);
-    all_marks.push(marks)?;
-    Ok(Plan {
-        program: Program {
-            blocks,
-            arrays,
-            main: 0,
-        },
-        plain: 1,
-        marks: all_marks,
-    })
+    instr_of(alloc, op, Origin::Untold, slot, firsts, seconds)
 }
 
 /// A plan of one block with these instructions. All its switches have the mark `mark`.
@@ -91,13 +35,13 @@ fn lines_plan<A: Allocator + Clone>(
     let mut marks = Vec::new(alloc.clone()?);
     for line in lines {
         let (op, _, _, _) = *line;
-        instrs.push(instr_of(alloc.clone()?, *line)?)?;
+        instrs.push(instr(alloc.clone()?, *line)?)?;
         marks.push(match (op, mark) {
             (Op::Switch, Some(mark)) => mark,
             _ => Mark::Unmarked,
         })?;
     }
-    plan_of(alloc, holders, instrs, marks)
+    plan_of(alloc, 1, holders, instrs, marks)
 }
 
 /// Whether the slots are a good choice for the plan.
@@ -342,12 +286,12 @@ fn two_returns_share_with_nothing(rt: HostRuntime) -> Result<(), Fail> {
 /// A block of `count` instructions `and`, each of which takes the result of the one before at both ports.
 fn long_chain<A: Allocator + Clone>(alloc: A, count: u32) -> Result<Plan<A>, AllocError> {
     let mut instrs = Vec::new(alloc.clone()?);
-    instrs.push(instr_of(alloc.clone()?, (Op::Copy, 0, &[(1, L), (1, R)], NONE))?)?;
+    instrs.push(instr(alloc.clone()?, (Op::Copy, 0, &[(1, L), (1, R)], NONE))?)?;
     for holder in 0..count {
-        instrs.push(instr_of(alloc.clone()?, (AND, holder, &[(1, L), (1, R)], NONE))?)?;
+        instrs.push(instr(alloc.clone()?, (AND, holder, &[(1, L), (1, R)], NONE))?)?;
     }
     let marks = Vec::new(alloc.clone()?);
-    plan_of(alloc, count, instrs, marks)
+    plan_of(alloc, 1, count, instrs, marks)
 }
 
 #[test]
@@ -365,10 +309,10 @@ fn a_long_chain_needs_few_slots(rt: HostRuntime) -> Result<(), Fail> {
 fn wide_plan<A: Allocator + Clone>(alloc: A, count: u32) -> Result<Plan<A>, AllocError> {
     let mut instrs = Vec::new(alloc.clone()?);
     for holder in 0..count {
-        instrs.push(instr_of(alloc.clone()?, (AND, holder, NONE, NONE))?)?;
+        instrs.push(instr(alloc.clone()?, (AND, holder, NONE, NONE))?)?;
     }
     let marks = Vec::new(alloc.clone()?);
-    plan_of(alloc, count, instrs, marks)
+    plan_of(alloc, 1, count, instrs, marks)
 }
 
 #[test]

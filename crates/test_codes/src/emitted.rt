@@ -1,6 +1,6 @@
 //! Plans made by hand, and the code that is emitted for them.
 
-use code::{Code, CodeBlock, Instr, Plan, Program, Slots};
+use code::{Code, Instr, Plan, Slots};
 use operators::Binary;
 use rationed::Rationed;
 use select::{EmitFault, emit};
@@ -10,6 +10,7 @@ use std::alloc::{AllocError, Allocator};
 use std::test::Fail;
 use tags::token::Port;
 use tags::value::{NodeNumber, Origin};
+use test_plans::{L, NONE, R, instr_of, plan_of};
 
 const fn left(ahead: u32) -> Dest {
     Dest {
@@ -37,39 +38,19 @@ fn instr<A: Allocator + Clone>(
     alloc: A,
     op: Op,
     slot: u32,
-    firsts: &[Dest],
+    firsts: &[(u32, Port)],
 ) -> Result<Instr<A>, AllocError> {
-    Ok(Instr {
-        op,
-        origin: node_seven(),
-        slot,
-        firsts: Vec::from_slice(alloc.clone()?, firsts)?,
-        seconds: Vec::new(alloc),
-    })
+    instr_of(alloc, op, node_seven(), slot, firsts, NONE)
 }
 
-fn plan_of<A: Allocator + Clone>(
+/// A plan of one block with two inputs.
+fn two_inputs<A: Allocator + Clone>(
     alloc: A,
     slots: u32,
     instrs: Vec<Instr<A>, A>,
 ) -> Result<Plan<A>, AllocError> {
-    let block = CodeBlock {
-        inputs: 2,
-        outputs: 1,
-        slots,
-        instrs,
-    };
-    let mut blocks = Vec::new(alloc.clone()?);
-    blocks.push(block)?;
-    Ok(Plan {
-        program: Program {
-            blocks,
-            arrays: Vec::new(alloc.clone()?),
-            main: 0,
-        },
-        plain: 1,
-        marks: Vec::new(alloc),
-    })
+    let marks = Vec::new(alloc.clone()?);
+    plan_of(alloc, 2, slots, instrs, marks)
 }
 
 /// The instructions of a block that does the operation on its two inputs.
@@ -79,11 +60,11 @@ fn adder_instr<A: Allocator + Clone>(
     op: Op,
 ) -> Result<Instr<A>, AllocError> {
     match number {
-        0 => instr(alloc, Op::Copy, 0, &[left(4), left(5)]),
-        1 => instr(alloc, Op::Copy, 0, &[left(2)]),
-        2 => instr(alloc, Op::Copy, 0, &[right(1)]),
-        3 => instr(alloc, op, 0, &[right(1)]),
-        4 => instr(alloc, Op::Return { offset: 0 }, 1, &[right(1)]),
+        0 => instr(alloc, Op::Copy, 0, &[(4, L), (5, L)]),
+        1 => instr(alloc, Op::Copy, 0, &[(2, L)]),
+        2 => instr(alloc, Op::Copy, 0, &[(1, R)]),
+        3 => instr(alloc, op, 0, &[(1, R)]),
+        4 => instr(alloc, Op::Return { offset: 0 }, 1, &[(1, R)]),
         _ => instr(alloc, Op::Release { offset: 1 }, 2, &[]),
     }
 }
@@ -93,7 +74,7 @@ fn adder<A: Allocator + Clone>(alloc: A, op: Op) -> Result<Plan<A>, AllocError> 
     for number in 0..6 {
         instrs.push(adder_instr(alloc.clone()?, number, op)?)?;
     }
-    plan_of(alloc, 3, instrs)
+    two_inputs(alloc, 3, instrs)
 }
 
 fn slots_of<A: Allocator + Clone>(alloc: A, slots: &[u16]) -> Result<Slots<A>, AllocError> {
@@ -190,10 +171,10 @@ fn the_first_version_tells_no_origin(rt: HostRuntime) -> Result<(), Fail> {
 fn literal_plan<A: Allocator + Clone>(alloc: A) -> Result<Plan<A>, AllocError> {
     let mut instrs = Vec::new(alloc.clone()?);
     for literal in &[7, -7, 7] {
-        instrs.push(instr(alloc.clone()?, Op::Lit { literal: *literal }, 0, &[left(1)])?)?;
+        instrs.push(instr(alloc.clone()?, Op::Lit { literal: *literal }, 0, &[(1, L)])?)?;
     }
     instrs.push(instr(alloc.clone()?, Op::Copy, 0, &[])?)?;
-    plan_of(alloc, 0, instrs)
+    two_inputs(alloc, 0, instrs)
 }
 
 #[test]
@@ -210,7 +191,7 @@ fn copies<A: Allocator + Clone>(alloc: A, count: u32) -> Result<Plan<A>, AllocEr
     for _ in 0..count {
         instrs.push(instr(alloc.clone()?, Op::Copy, 0, &[])?)?;
     }
-    plan_of(alloc, 0, instrs)
+    two_inputs(alloc, 0, instrs)
 }
 
 fn fault_of<A: Allocator>(emitted: &Result<Code<A>, EmitFault>) -> Option<EmitFault> {

@@ -1,28 +1,17 @@
 //! Plans made by hand, and their literal operands.
 
-use code::{CodeBlock, Instr, Plan, Program};
+use code::{Instr, Plan};
 use folding::fold;
 use operators::Binary;
 use rationed::Rationed;
-use semantics::program::{Dest, Mark, Op};
+use semantics::program::{Mark, Op};
 use std::alloc::{AllocError, Allocator};
 use std::test::Fail;
-use tags::token::Port;
 use tags::value::{NodeNumber, Origin};
-
-/// Destinations; each is given by how far ahead it lies, and by its port.
-type Dests = &'static [(u32, Port)];
+use test_plans::{ADD, Dests, L, NONE, R, has_dests, instr_of, plan_of};
 
 /// The number of a line, the operation of its instruction, its holder, and its first and its second destinations.
 type Line = (u16, Op, u32, Dests, Dests);
-
-const L: Port = Port::Left;
-
-const R: Port = Port::Right;
-
-const NONE: Dests = &[];
-
-const ADD: Op = Op::Apply2 { op: Binary::Add };
 
 const SUB: Op = Op::Apply2 { op: Binary::Sub };
 
@@ -51,26 +40,9 @@ fn origin_of(line: u16) -> Origin {
     }
 }
 
-fn dests_of<A: Allocator>(alloc: A, dests: &[(u32, Port)]) -> Result<Vec<Dest, A>, AllocError> {
-    let mut list = Vec::new(alloc);
-    for (ahead, port) in dests {
-        list.push(Dest {
-            ahead: *ahead,
-            port: *port,
-        })?;
-    }
-    Ok(list)
-}
-
-fn instr_of<A: Allocator + Clone>(alloc: A, line: Line) -> Result<Instr<A>, AllocError> {
+fn instr<A: Allocator + Clone>(alloc: A, line: Line) -> Result<Instr<A>, AllocError> {
     let (number, op, slot, firsts, seconds) = line;
-    Ok(Instr {
-        op,
-        origin: origin_of(number),
-        slot,
-        firsts: dests_of(alloc.clone()?, firsts)?,
-        seconds: dests_of(alloc, seconds)?,
-    })
+    instr_of(alloc, op, origin_of(number), slot, firsts, seconds)
 }
 
 fn mark_of(op: Op) -> Mark {
@@ -81,7 +53,7 @@ fn mark_of(op: Op) -> Mark {
 }
 
 /// A plan of one block with one input, `holders` holders, and these instructions.
-fn plan_of<A: Allocator + Clone>(
+fn lines_plan<A: Allocator + Clone>(
     alloc: A,
     holders: u32,
     lines: &[Line],
@@ -90,39 +62,10 @@ fn plan_of<A: Allocator + Clone>(
     let mut marks = Vec::new(alloc.clone()?);
     for line in lines {
         let (_, op, _, _, _) = *line;
-        instrs.push(instr_of(alloc.clone()?, *line)?)?;
+        instrs.push(instr(alloc.clone()?, *line)?)?;
         marks.push(mark_of(op))?;
     }
-    let mut blocks = Vec::new(alloc.clone()?);
-    blocks.push(CodeBlock {
-        inputs: 1,
-        outputs: 1,
-        slots: holders,
-        instrs,
-    })?;
-    let mut all_marks = Vec::new(alloc.clone()?);
-    all_marks.push(marks)?;
-    Ok(Plan {
-        program: Program {
-            blocks,
-            arrays: Vec::new(alloc),
-            main: 0,
-        },
-        plain: 1,
-        marks: all_marks,
-    })
-}
-
-fn has_dests(list: &[Dest], dests: &[(u32, Port)]) -> bool {
-    if list.len() != dests.len() {
-        return false;
-    }
-    for (dest, (ahead, port)) in list.iter().zip(dests) {
-        if dest.ahead != *ahead || dest.port != *port {
-            return false;
-        }
-    }
-    true
+    plan_of(alloc, 1, holders, instrs, marks)
 }
 
 fn is_line<A: Allocator>(instr: &Instr<A>, line: Line) -> bool {
@@ -167,7 +110,7 @@ fn the_right_operand_is_in_the_code(rt: HostRuntime) -> Result<(), Fail> {
         (4, RETURN, 1, [(1, R)].as_slice(), NONE),
         (5, RELEASE, 2, NONE, NONE),
     ];
-    let plan = fold(alloc, &plan_of(alloc, 3, &lines)?)?;
+    let plan = fold(alloc, &lines_plan(alloc, 3, &lines)?)?;
     let wanted = [
         (0, Op::Copy, 0, [(3, L), (4, L)].as_slice(), NONE),
         (1, Op::Copy, 0, [(1, L)].as_slice(), NONE),
@@ -191,7 +134,7 @@ fn the_left_operand_is_in_the_code(rt: HostRuntime) -> Result<(), Fail> {
         (4, RETURN, 1, [(1, R)].as_slice(), NONE),
         (5, RELEASE, 2, NONE, NONE),
     ];
-    let plan = fold(alloc, &plan_of(alloc, 3, &lines)?)?;
+    let plan = fold(alloc, &lines_plan(alloc, 3, &lines)?)?;
     let wanted = [
         (0, Op::Copy, 0, [(3, L), (4, L)].as_slice(), NONE),
         (1, Op::Copy, 0, [(1, L)].as_slice(), NONE),
@@ -216,7 +159,7 @@ fn a_literal_with_another_use_stays(rt: HostRuntime) -> Result<(), Fail> {
         (5, Op::Sync, 2, [(1, R)].as_slice(), NONE),
         (6, RELEASE, 3, NONE, NONE),
     ];
-    let plan = fold(alloc, &plan_of(alloc, 4, &lines)?)?;
+    let plan = fold(alloc, &lines_plan(alloc, 4, &lines)?)?;
     let wanted = [
         (0, Op::Copy, 0, [(4, L), (6, L)].as_slice(), NONE),
         (1, Op::Copy, 0, [(1, L), (2, L)].as_slice(), NONE),
@@ -242,7 +185,7 @@ fn two_operands_from_one_literal_stay(rt: HostRuntime) -> Result<(), Fail> {
         (4, RETURN, 1, [(1, R)].as_slice(), NONE),
         (5, RELEASE, 2, NONE, NONE),
     ];
-    let plan = fold(alloc, &plan_of(alloc, 3, &lines)?)?;
+    let plan = fold(alloc, &lines_plan(alloc, 3, &lines)?)?;
     assert_eq!(rt; first_other(&plan, &lines), None);
     assert_eq!(rt; holders(&plan), Some(3));
     Ok(())
@@ -262,7 +205,7 @@ fn a_literal_for_another_stays(rt: HostRuntime) -> Result<(), Fail> {
         (5, RETURN, 1, [(1, R)].as_slice(), NONE),
         (6, RELEASE, 2, NONE, NONE),
     ];
-    let plan = fold(alloc, &plan_of(alloc, 3, &lines)?)?;
+    let plan = fold(alloc, &lines_plan(alloc, 3, &lines)?)?;
     let wanted = [
         (0, Op::Copy, 0, [(4, L), (5, L)].as_slice(), NONE),
         (1, Op::Copy, 0, [(1, L)].as_slice(), NONE),
@@ -291,7 +234,7 @@ fn a_side_of_a_switch_is_a_source(rt: HostRuntime) -> Result<(), Fail> {
         (7, RETURN, 3, [(1, R)].as_slice(), NONE),
         (8, RELEASE, 4, NONE, NONE),
     ];
-    let plan = fold(alloc, &plan_of(alloc, 5, &lines)?)?;
+    let plan = fold(alloc, &lines_plan(alloc, 5, &lines)?)?;
     let left = [(1, L), (2, L)].as_slice();
     let wanted = [
         (0, Op::Copy, 0, [(6, L), (7, L)].as_slice(), NONE),
@@ -316,7 +259,7 @@ fn fold_one<A: Allocator + Clone>(alloc: A) -> Result<u32, AllocError> {
         (2, ONE, 0, [(1, R)].as_slice(), NONE),
         (3, ADD, 0, NONE, NONE),
     ];
-    let plan = fold(alloc.clone()?, &plan_of(alloc, 1, &lines)?)?;
+    let plan = fold(alloc.clone()?, &lines_plan(alloc, 1, &lines)?)?;
     Ok(plan.plain)
 }
 

@@ -2,48 +2,19 @@
 
 use code::{CodeBlock, Instr, Plan, Program};
 use fanout::narrow;
-use operators::Binary;
 use rationed::Rationed;
-use semantics::program::{Dest, Mark, Op};
+use semantics::program::{Mark, Op};
 use std::alloc::{AllocError, Allocator};
 use std::test::Fail;
-use tags::token::Port;
 use tags::value::Origin;
-
-/// Destinations; each is given by how far ahead it lies, and by its port.
-type Dests = &'static [(u32, Port)];
+use test_plans::{ADD, Dests, L, NONE, R, has_dests, instr_of};
 
 /// The operation of an instruction, and its first and its second destinations.
 type Line = (Op, Dests, Dests);
 
-const L: Port = Port::Left;
-
-const R: Port = Port::Right;
-
-const NONE: Dests = &[];
-
-const ADD: Op = Op::Apply2 { op: Binary::Add };
-
-fn dests_of<A: Allocator>(alloc: A, ahead: &[(u32, Port)]) -> Result<Vec<Dest, A>, AllocError> {
-    let mut dests = Vec::new(alloc);
-    for (ahead, port) in ahead {
-        dests.push(Dest {
-            ahead: *ahead,
-            port: *port,
-        })?;
-    }
-    Ok(dests)
-}
-
-fn instr_of<A: Allocator + Clone>(alloc: A, slot: u32, line: Line) -> Result<Instr<A>, AllocError> {
+fn instr<A: Allocator + Clone>(alloc: A, slot: u32, line: Line) -> Result<Instr<A>, AllocError> {
     let (op, firsts, seconds) = line;
-    Ok(Instr {
-        op,
-        origin: Origin::Untold,
-        slot,
-        firsts: dests_of(alloc.clone()?, firsts)?,
-        seconds: dests_of(alloc, seconds)?,
-    })
+    instr_of(alloc, op, Origin::Untold, slot, firsts, seconds)
 }
 
 fn block_of<A: Allocator + Clone>(
@@ -55,7 +26,7 @@ fn block_of<A: Allocator + Clone>(
     let mut instrs = Vec::new(alloc.clone()?);
     let mut slots: u32 = 0;
     for line in lines {
-        instrs.push(instr_of(alloc.clone()?, slots, *line)?)?;
+        instrs.push(instr(alloc.clone()?, slots, *line)?)?;
         slots = slots.wrapping_add(1);
     }
     Ok(CodeBlock {
@@ -104,12 +75,6 @@ fn plan_of<A: Allocator + Clone>(
     })
 }
 
-fn is_same(dests: &[Dest], wanted: &[(u32, Port)]) -> bool {
-    dests.len() == wanted.len()
-        && dests.iter().zip(wanted.iter()).all(|(dest, (ahead, port))| dest.ahead == *ahead
-            && dest.port == *port)
-}
-
 /// Whether the first block of the plan has exactly these instructions.
 fn has_lines<A: Allocator>(plan: &Plan<A>, lines: &[Line]) -> bool {
     match plan.program.blocks.first() {
@@ -119,8 +84,8 @@ fn has_lines<A: Allocator>(plan: &Plan<A>, lines: &[Line]) -> bool {
                 && block.instrs.iter().zip(lines.iter()).all(|(instr, line)| {
                     let (op, firsts, seconds) = *line;
                     instr.op == op
-                        && is_same(&instr.firsts, firsts)
-                        && is_same(&instr.seconds, seconds)
+                        && has_dests(&instr.firsts, firsts)
+                        && has_dests(&instr.seconds, seconds)
                 })
         }
     }
@@ -291,7 +256,7 @@ fn long_plan<A: Allocator + Clone>(
     for _block in 0..blocks {
         let mut instrs = Vec::new(alloc.clone()?);
         for slot in 0..count {
-            instrs.push(instr_of(
+            instrs.push(instr(
                 alloc.clone()?,
                 slot,
                 (Op::Copy, &[(1, L), (2, L), (3, L), (4, L), (5, L)], NONE),
