@@ -437,7 +437,9 @@ fn fill_cell<'a, A: Allocator + Clone>(
         let new = plain state.new.invocations state.new.fresh.items [] state.new.deferred.items state.new.cells.items state.new.outputs.items in
         OnOk result ((new ≡ performed checked.now old [] (Deed.Fills context node cell 0 0 value)) × (state.new.waiting.items ≡ state.old.waiting.items)) }
 {
-    fill(&mut state.cells, cell, value);
+    let sent = Sent { context, value };
+    fill(&mut state.cells, cell, sent.value);
     wake(&mut state.fresh, &mut state.deferred)?;
-    send_value(checked, state, context, node, 0, value)
+    let invocations = &state.invocations;
+    send_from(checked, invocations, &mut state.fresh, &sent, node, 0)
 }
