@@ -3,6 +3,7 @@
 ghost use Rattle.std.specs.Prelude.{◌≡◌, ℕ, List, map, IfOk};
 ghost use Rattle.semantics.specs.Graph.{flow_of, place_of, array_names, block_names, resolved_kind, resolved_block};
 ghost use Rattle.semantics.specs.Text.{HasText};
+ghost use Rattle.expansion.specs.Expanded.{IsSmallFlow};
 ghost use Rattle.expansion.specs.Flows.{NamedArray, NamedBlock, resolved_node, resolved_named, array_length};
 
 use graph::{Array, Name};
@@ -66,11 +67,13 @@ impl<A: Allocator> Model for Flow<A> {
 }
 
 /// The graph with the place of each name for the name.
+#[tactic(auto, using(crate::proofs::Small::block_place_is_small))]
 pub(crate) fn resolve<'a, A: Allocator + Clone>(
     alloc: A,
     checked: &Checked<'a, A>,
 ) -> Result<Flow<A>, AllocError>
-    ensures { IfOk result (λ f. f ≡ flow_of checked.now) }
+    ensures exact { IfOk result (λ f. f ≡ flow_of checked.now) }
+    ensures small { IfOk result IsSmallFlow }
 {
     let graph = checked.graph();
     Ok(Flow {

@@ -35,7 +35,6 @@ use std::alloc::{AllocError, Allocator};
 /// The plan of a checked graph.
 ///
 /// It takes all rooms from the allocator, and fails only where a growth is refused. Then nothing is left of the plan.
-#[tactic(auto, using(crate::proofs::Small::small_flow))]
 pub fn expand<'a, A: Allocator + Clone>(
     alloc: A,
     checked: &Checked<'a, A>,

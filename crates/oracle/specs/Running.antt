@@ -133,10 +133,14 @@ abbrev pub answered : Graph → List Invocation → ℕ → ℕ → Option Value
 answered g xs c n None = []
 answered g xs c n (Some v) = sent_in g xs (sent_of c v) n 0
 
+-- a value enters an invocation, which is made where it is not there
+abbrev pub entered : Plain → Made → ℕ → ℕ → Value → Plain
+entered s made f i v = plain (with_made s.invocations made f) (s.fresh ++ token_at (sent_of (number_in s.invocations made) v) (Operand i 0) ∷ []) s.waiting s.deferred s.cells s.outputs
+
 abbrev pub performed : Graph → Plain → List Value → Deed → Plain
 performed g s vs (Sends c n p v) = plain s.invocations (s.fresh ++ sent_in g s.invocations (sent_of c v) n p) s.waiting s.deferred s.cells s.outputs
 performed g s vs (Tells c k v) = plain s.invocations (s.fresh ++ told_in g s.invocations (sent_of c v) k) s.waiting s.deferred s.cells s.outputs
-performed g s vs (Enters made f i v) = plain (with_made s.invocations made f) (s.fresh ++ token_at (sent_of (number_in s.invocations made) v) (Operand i 0) ∷ []) s.waiting s.deferred s.cells s.outputs
+performed g s vs (Enters made f i v) = entered s made f i v
 performed g s vs (EntersAll made f) = plain (with_made s.invocations made f) (s.fresh ++ entering_tokens (number_in s.invocations made) 0 vs) s.waiting s.deferred s.cells s.outputs
 performed g s vs Stops = s
 performed g s vs (Reads c n x) = plain s.invocations (s.fresh ++ answered g s.invocations c n (held_in s.cells x)) s.waiting s.deferred s.cells s.outputs

@@ -1,10 +1,9 @@
 //! A state of a run: the tokens, the cells, and the outputs.
 
 ghost use Rattle.std.specs.Prelude.{◌≡◌, ◌≢◌, ◌≤◌, ◌∷◌, ◌++◌, [], map, Some, slice_get, IfOk, OnOk, MatchOption, MatchResult};
-ghost use Rattle.semantics.specs.Graph.{Graph};
 ghost use Rattle.oracle.specs.Lines.{total_of, spots_in};
 ghost use Rattle.oracle.specs.Acting as Acting;
-ghost use Rattle.oracle.specs.Running.{plain, join_of, Alone, Joins, Fails, performed};
+ghost use Rattle.oracle.specs.Running.{plain, join_of, Alone, Joins, Fails, entered, performed};
 ghost use Rattle.oracle.specs.Running as Running;
 ghost use Rattle.oracle.specs.Rows.{rows_of, with_row, next_among, Goes, Stays, Breaks};
 
@@ -346,7 +345,7 @@ fn enter_value<A: Allocator + Clone>(
 ) -> Result<(), AllocError>
     ensures { let old = plain state.old.invocations state.old.fresh.items [] state.old.deferred.items state.old.cells.items state.old.outputs.items in
         let new = plain state.new.invocations state.new.fresh.items [] state.new.deferred.items state.new.cells.items state.new.outputs.items in
-        OnOk result (((g : Graph) → new ≡ performed g old [] (Deed.Enters made.now block input value)) × (state.new.waiting.items ≡ state.old.waiting.items)) }
+        OnOk result ((new ≡ entered old made.now block input value) × (state.new.waiting.items ≡ state.old.waiting.items)) }
 {
     let context = state.invocations.number_of(made, block)?;
     let sent = Sent { context, value };
