@@ -1,6 +1,6 @@
 -- The readers that a report counts are the fetches that wait in the meaning, and where none waits no frame is out.
-use Rattle.std.proofs.Common.{◌≡◌, ℕ, zero, suc, ◌+◌, ◌*◌, ◌<◌, ◌≤◌, ◌==◌, Bool, true, false, pos, negsuc, List, [], ◌∷◌, length, Option, Some, None, refl, sym, ◌∙◌, ap, subst, arith, nat_lt, if◌then◌else◌, ◌⊎◌, inl, inr}
-use Rattle.std.specs.Prelude.{sum, take, slice_index_or, count_by, cond}
+use Rattle.std.proofs.Common.{◌≡◌, ℕ, zero, suc, ◌+◌, ◌*◌, ◌<◌, ◌≤◌, Bool, true, false, pos, negsuc, List, [], ◌∷◌, length, Option, Some, None, refl, sym, ◌∙◌, ap, subst, arith, nat_lt, if◌then◌else◌}
+use Rattle.std.specs.Prelude.{sum, take, slice_index_or, cond}
 use Rattle.std.proofs.lemmas.List.{take_all}
 use Rattle.std.proofs.lemmas.List.Sums.{sum_by-cons}
 use Rattle.std.proofs.lemmas.Bool.{ltb-true, ltb-false, eqb-true}
@@ -8,11 +8,11 @@ use Rattle.tags.specs.declared.value.Value.{Value}
 use Rattle.tags.specs.declared.value.Value.TheVariants.{Int, Fault}
 use Rattle.tags.specs.declared.value.FaultKind.TheVariants.{Range}
 use Rattle.tags.specs.declared.value.Origin.{Origin}
-use Rattle.operators.specs.Values.{Indexed, Place, Outside, index_in}
+use Rattle.operators.specs.Values.{Place, Outside, index_in}
 use Rattle.semantics.specs.declared.graph.Kind.{Kind}
 use Rattle.semantics.specs.declared.graph.Kind.TheVariants.{Lit, Apply1, Apply2, Cond, Enter, Merge, Fetch, Store, Call, StrictCall, Loop}
 use Rattle.semantics.specs.Graph.{Flow, Node, first_cell, array_len}
-use Rattle.semantics.specs.Meaning.{Tagged, Context, Statement, AtNode, cell_in, cell_of, node_of, fetch_cell, cell_is, fetches, waits_for, fetch_count}
+use Rattle.semantics.specs.Meaning.{Tagged, Context, Statement, AtNode, cell_in, node_of, fetch_cell, cell_is, fetches, waits_for, fetch_count}
 use Rattle.semantics.specs.Meaning.{State}
 use Rattle.semantics.specs.Program.{Program}
 use Rattle.semantics.specs.Rule.{array_base}

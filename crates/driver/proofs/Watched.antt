@@ -1,7 +1,7 @@
 -- The moments of a run of an object, replayed over the object's code.
 use Rattle.std.proofs.Common.{◌≡◌, ◌*◌, ◌∙◌, ℕ, ℤ, Bool, false, List, length, Ok, Err, sym, ap, subst}
 use Rattle.semantics.specs.Bytes.{IsObject}
-use Rattle.semantics.specs.Machine.{Events, Machine, Run, Size, at_start}
+use Rattle.semantics.specs.Machine.{Run, at_start}
 use Rattle.semantics.specs.Program.{Code, Program}
 use Rattle.semantics.specs.Report.{Report}
 use Rattle.object_view.specs.Reading.{Opened, opened}

@@ -4,5 +4,6 @@ pub mod Objects
 pub mod Compiled
 pub mod Written
 pub mod Refused
+pub mod Told
 pub mod Disassembled
 pub mod Listed

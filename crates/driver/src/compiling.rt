@@ -2,7 +2,6 @@
 //! assigned, and code and the bytes of an object are made.
 
 ghost use Rattle.std.specs.Prelude.{◌≡◌, IfOk, MatchResult};
-ghost use Rattle.semantics.specs.Text.{IsText};
 ghost use Rattle.semantics.specs.Versions.{version_number};
 ghost use Rattle.law_composition.specs.Graphs.{plan_of};
 ghost use Rattle.driver.specs.Compiled.{IsCodeFor, IsTooLarge};
@@ -15,12 +14,12 @@ use expansion::expand;
 use fanout::narrow;
 use folding::fold;
 use graph::Graph;
-use graph_check::{CheckFaultKind, Checked, check};
-use graph_file::{ReadFaultKind, read};
+use graph_check::{Checked, check};
+use graph_file::read;
 use object_view::write;
-use select::{EmitFault, emit};
+use select::emit;
 use semantics::version::Version;
-use slot_alloc::{AssignFault, assign};
+use slot_alloc::assign;
 use std::alloc::{AllocError, Allocator};
 use std::io::{self, Write};
 
@@ -32,22 +31,6 @@ pub struct Compiled<'a, A: Allocator> {
     pub object: Vec<u8, A>,
 }
 
-/// Reads the graph of the text.
-fn read_text<'a, A: Allocator + Clone>(alloc: A, text: &'a [u8]) -> Result<Graph<'a, A>, Fault>
-    ensures { MatchResult result (IsText text.now) (IsBadText text.now) }
-{
-    match read(alloc, text) {
-        Ok(graph) => Ok(graph),
-        Err(fault) => {
-            if fault.kind == ReadFaultKind::Memory {
-                Err(Fault::Memory)
-            } else {
-                Err(Fault::Read(fault))
-            }
-        }
-    }
-}
-
 /// Reads the graph of the text, and checks that it is well formed.
 pub fn check_text<'a, A: Allocator + Clone>(
     alloc: A,
@@ -55,20 +38,8 @@ pub fn check_text<'a, A: Allocator + Clone>(
 ) -> Result<Checked<'a, A>, Fault>
     ensures { MatchResult result (IsGoodText text.now) (IsBadText text.now) }
 {
-    let graph = match read_text(alloc, text) {
-        Ok(graph) => graph,
-        Err(fault) => return Err(fault),
-    };
-    match check(graph) {
-        Ok(checked) => Ok(checked),
-        Err(fault) => {
-            if fault.kind == CheckFaultKind::Memory {
-                Err(Fault::Memory)
-            } else {
-                Err(Fault::Check(fault))
-            }
-        }
-    }
+    let graph = read(alloc, text)?;
+    Ok(check(graph)?)
 }
 
 /// Makes the plan of a graph, pass by pass: first with any number of destinations at an instruction, then with literal
@@ -95,42 +66,17 @@ fn version_of<'a, A: Allocator>(graph: &Graph<'a, A>) -> Version
 fn code_of<'a, A: Allocator + Clone>(alloc: A, checked: &Checked<'a, A>) -> Result<Code<A>, Fault>
     ensures { MatchResult result (IsCodeFor checked.now) (IsTooLarge checked.now) }
 {
-    let Ok(plan) = plan(&alloc, checked) else {
-        return Err(Fault::Memory);
-    };
-    let Ok(room) = alloc.clone() else {
-        return Err(Fault::Memory);
-    };
-    let slots = match assign(room, &plan) {
-        Ok(slots) => slots,
-        Err(AssignFault::TooManySlots { block }) => return Err(Fault::TooManySlots(block)),
-        Err(AssignFault::Memory) => return Err(Fault::Memory),
-    };
-    match emit(alloc, &plan, &slots, version_of(checked.graph())) {
-        Ok(code) => Ok(code),
-        Err(EmitFault::TooFar { block }) => Err(Fault::TooFar(block)),
-        Err(EmitFault::Memory) => Err(Fault::Memory),
-    }
+    let plan = plan(&alloc, checked)?;
+    let slots = assign(alloc.clone()?, &plan)?;
+    Ok(emit(alloc, &plan, &slots, version_of(checked.graph()))?)
 }
 
 /// Compiles the text: its graph, and the object of the graph's code.
 pub fn compile<'a, A: Allocator + Clone>(alloc: A, text: &'a [u8]) -> Result<Compiled<'a, A>, Fault>
     ensures { MatchResult result (λ c. IsCompiled text.now c.checked c.object.items) (IsRefusedText text.now) }
 {
-    let Ok(room) = alloc.clone() else {
-        return Err(Fault::Memory);
-    };
-    let checked = match check_text(room, text) {
-        Ok(checked) => checked,
-        Err(fault) => return Err(fault),
-    };
-    let Ok(room) = alloc.clone() else {
-        return Err(Fault::Memory);
-    };
-    let code = match code_of(room, &checked) {
-        Ok(code) => code,
-        Err(fault) => return Err(fault),
-    };
+    let checked = check_text(alloc.clone()?, text)?;
+    let code = code_of(alloc.clone()?, &checked)?;
     let mut object = Vec::new(alloc);
     match write(&code, version_of(checked.graph()), &mut object) {
         Ok(()) => Ok(Compiled { checked, object }),

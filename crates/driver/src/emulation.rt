@@ -2,7 +2,7 @@
 
 ghost use Rattle.std.specs.Prelude.{◌≡◌, ◌<◌, All, IfOk, MatchResult, true, false};
 ghost use Rattle.semantics.specs.Graph as Graphs;
-ghost use Rattle.driver.specs.Refused.{IsCompiled, refusal_of, IsReady, IsReadyObject, IsRefused, IsRefusedObject};
+ghost use Rattle.driver.specs.Refused.{IsCompiled, IsReady, IsReadyObject, IsRefused, IsRefusedObject};
 ghost use Rattle.command_line.specs.declared.Mode.{Mode};
 ghost use Rattle.driver.specs.Headline.{TellsTruthIn, TellsTruthListed, TellsQuietly, stops_in};
 ghost use Rattle.driver.specs.Listed.{IsListed};
@@ -17,7 +17,7 @@ use graph_check::Checked;
 use loaded::Loaded;
 use object_view::Object;
 use rounds::Gate;
-use schedule::config::{Config, StartFault};
+use schedule::config::Config;
 use schedule::machine::Machine;
 use schedule::report::Report;
 use std::alloc::{AllocError, Allocator};
@@ -29,18 +29,6 @@ use std::thread::Threads;
 pub struct Emulated<'a, A: Allocator> {
     pub checked: Checked<'a, A>,
     pub report: Report<A>,
-}
-
-/// The refusal that is given for a machine that does not start.
-fn start_refusal(fault: StartFault) -> Fault
-    ensures { result ≡ refusal_of fault }
-{
-    match fault {
-        StartFault::Memory => Fault::Memory,
-        StartFault::WrongInputs => Fault::Start(StartFault::WrongInputs),
-        StartFault::NoFrames => Fault::Start(StartFault::NoFrames),
-        StartFault::BadConfig => Fault::Start(StartFault::BadConfig),
-    }
 }
 
 fn load<'a, A: Allocator + Clone>(
@@ -66,18 +54,11 @@ pub fn emulate_object<R: Threads + Wait + Sync, A: Allocator + Clone + Send + Sy
     ensures shows { MatchResult result (ShowsObject bytes.now inputs.now config false (stops_in mode G.may_stop)) (IsRefusedObject bytes.now inputs.now config) }
     ensures turns { mode ≡ Mode.One → IfOk result (RunsObject bytes.now inputs.now config FollowsTurns) }
 {
-    let object = match Object::open(bytes) {
-        Ok(object) => object,
-        Err(fault) => return Err(Fault::Object(fault)),
-    };
-    let Ok(code) = load(&alloc, object) else {
-        return Err(Fault::Memory);
-    };
+    let object = Object::open(bytes)?;
+    let code = load(&alloc, object)?;
     let mut store = None;
-    match Machine::start(alloc, &mut store, &code, inputs, config) {
-        Ok(machine) => Ok(run_in(machine, mode, rt, gate)),
-        Err(fault) => Err(start_refusal(fault)),
-    }
+    let machine = Machine::start(alloc, &mut store, &code, inputs, config)?;
+    Ok(run_in(machine, mode, rt, gate))
 }
 
 /// Like `emulate_object`, but the report lists no events, so a long run takes no more memory than a short one.
@@ -96,18 +77,11 @@ pub fn emulate_object_quietly<
 ) -> Result<Report<A>, Fault>
     ensures { MatchResult result (Quietly (ShowsObject bytes.now inputs.now config false (stops_in mode G.may_stop))) (IsRefusedObject bytes.now inputs.now config) }
 {
-    let object = match Object::open(bytes) {
-        Ok(object) => object,
-        Err(fault) => return Err(Fault::Object(fault)),
-    };
-    let Ok(code) = load(&alloc, object) else {
-        return Err(Fault::Memory);
-    };
+    let object = Object::open(bytes)?;
+    let code = load(&alloc, object)?;
     let mut store = None;
-    match Machine::start(alloc, &mut store, &code, inputs, config) {
-        Ok(machine) => Ok(run_quietly_in(machine, mode, rt, gate)),
-        Err(fault) => Err(start_refusal(fault)),
-    }
+    let machine = Machine::start(alloc, &mut store, &code, inputs, config)?;
+    Ok(run_quietly_in(machine, mode, rt, gate))
 }
 
 /// The report of a run, in the order of a list, of the object with these bytes. Each entry of the list names an element, and
@@ -123,18 +97,11 @@ pub fn emulate_object_picks<A: Allocator + Clone>(
     ensures shows { MatchResult result (ShowsObject bytes.now inputs.now config true false) (IsRefusedObject bytes.now inputs.now config) }
     ensures list { IfOk result (RunsObject bytes.now inputs.now config (FollowsList picks.now)) }
 {
-    let object = match Object::open(bytes) {
-        Ok(object) => object,
-        Err(fault) => return Err(Fault::Object(fault)),
-    };
-    let Ok(code) = load(&alloc, object) else {
-        return Err(Fault::Memory);
-    };
+    let object = Object::open(bytes)?;
+    let code = load(&alloc, object)?;
     let mut store = None;
-    match Machine::start(alloc, &mut store, &code, inputs, config) {
-        Ok(machine) => Ok(machine.run(picks)),
-        Err(fault) => Err(start_refusal(fault)),
-    }
+    let machine = Machine::start(alloc, &mut store, &code, inputs, config)?;
+    Ok(machine.run(picks))
 }
 
 /// Checks whether a run of the text's graph can start. An `Err` says what refuses it.
@@ -146,25 +113,15 @@ pub fn start_text<A: Allocator + Clone>(
 ) -> Result<(), Fault>
     ensures { MatchResult result (λ _. IsReady text.now inputs.now config) (IsRefused text.now inputs.now config) }
 {
-    let Ok(room) = alloc.clone() else {
-        return Err(Fault::Memory);
-    };
-    let compiled = match compile(room, text) {
-        Ok(compiled) => compiled,
-        Err(fault) => return Err(fault),
-    };
+    let compiled = compile(alloc.clone()?, text)?;
     let object = match Object::open(&compiled.object) {
         Ok(object) => object,
         Err(_) => unreachable!(),
     };
-    let Ok(code) = load(&alloc, object) else {
-        return Err(Fault::Memory);
-    };
+    let code = load(&alloc, object)?;
     let mut store = None;
-    match Machine::start(alloc, &mut store, &code, inputs, config) {
-        Ok(_machine) => Ok(()),
-        Err(fault) => Err(start_refusal(fault)),
-    }
+    let _machine = Machine::start(alloc, &mut store, &code, inputs, config)?;
+    Ok(())
 }
 
 /// Checks whether a run of the object with these bytes can start. An `Err` says what refuses it.
@@ -176,18 +133,11 @@ pub fn start_object<A: Allocator + Clone>(
 ) -> Result<(), Fault>
     ensures { MatchResult result (λ _. IsReadyObject bytes.now inputs.now config) (IsRefusedObject bytes.now inputs.now config) }
 {
-    let object = match Object::open(bytes) {
-        Ok(object) => object,
-        Err(fault) => return Err(Fault::Object(fault)),
-    };
-    let Ok(code) = load(&alloc, object) else {
-        return Err(Fault::Memory);
-    };
+    let object = Object::open(bytes)?;
+    let code = load(&alloc, object)?;
     let mut store = None;
-    match Machine::start(alloc, &mut store, &code, inputs, config) {
-        Ok(_started) => Ok(()),
-        Err(fault) => Err(start_refusal(fault)),
-    }
+    let _started = Machine::start(alloc, &mut store, &code, inputs, config)?;
+    Ok(())
 }
 
 /// Runs the text's graph in the given mode. Gives the graph, and a report that lists no events, so a long run takes no more
@@ -203,17 +153,9 @@ pub fn run_text<'a, R: Threads + Wait + Sync, A: Allocator + Clone + Send + Sync
 ) -> Result<Emulated<'a, A>, Fault>
     ensures { MatchResult result (λ e. TellsQuietly text.now e.checked inputs.now config (stops_in mode G.may_stop) e.report) (IsRefused text.now inputs.now config) }
 {
-    let Ok(room) = alloc.clone() else {
-        return Err(Fault::Memory);
-    };
-    let Compiled { checked, object } = match compile(room, text) {
-        Ok(compiled) => compiled,
-        Err(fault) => return Err(fault),
-    };
-    match emulate_object_quietly(alloc, &object, inputs, config, mode, rt, gate) {
-        Ok(report) => Ok(Emulated { checked, report }),
-        Err(fault) => Err(fault),
-    }
+    let Compiled { checked, object } = compile(alloc.clone()?, text)?;
+    let report = emulate_object_quietly(alloc, &object, inputs, config, mode, rt, gate)?;
+    Ok(Emulated { checked, report })
 }
 
 /// A run of the text's graph, with the object of its code. The report lists the events.
@@ -236,17 +178,9 @@ pub fn run_listed<'a, R: Threads + Wait + Sync, A: Allocator + Clone + Send + Sy
 ) -> Result<Listed<'a, A>, Fault>
     ensures { MatchResult result (λ l. IsListed mode text.now l.compiled.checked l.compiled.object.items inputs.now config G.may_stop l.report) (IsRefused text.now inputs.now config) }
 {
-    let Ok(room) = alloc.clone() else {
-        return Err(Fault::Memory);
-    };
-    let compiled = match compile(room, text) {
-        Ok(compiled) => compiled,
-        Err(fault) => return Err(fault),
-    };
-    match emulate_object(alloc, &compiled.object, inputs, config, mode, rt, gate) {
-        Ok(report) => Ok(Listed { compiled, report }),
-        Err(fault) => Err(fault),
-    }
+    let compiled = compile(alloc.clone()?, text)?;
+    let report = emulate_object(alloc, &compiled.object, inputs, config, mode, rt, gate)?;
+    Ok(Listed { compiled, report })
 }
 
 /// The report of a run of the text's graph in the given mode. In the mode `One` the elements take turns, and each takes its
@@ -262,10 +196,8 @@ pub fn emulate<R: Threads + Wait + Sync, A: Allocator + Clone + Send + Sync, G: 
 ) -> Result<Report<A>, Fault>
     ensures { MatchResult result (λ report. (g : Graphs.Graph) × TellsTruthIn mode text.now g inputs.now config G.may_stop report) (IsRefused text.now inputs.now config) }
 {
-    match run_listed(alloc, text, inputs, config, mode, rt, gate) {
-        Ok(run) => Ok(run.report),
-        Err(fault) => Err(fault),
-    }
+    let run = run_listed(alloc, text, inputs, config, mode, rt, gate)?;
+    Ok(run.report)
 }
 
 /// Runs the text's graph in the order of a list. Each entry names an element, and one of its tokens by its place in the queue,
@@ -280,17 +212,9 @@ pub fn run_picks<'a, A: Allocator + Clone>(
     requires { All (λ pick. pick.0 < config.elements) picks.now }
     ensures { MatchResult result (λ e. TellsTruthListed text.now e.checked inputs.now config picks.now e.report) (IsRefused text.now inputs.now config) }
 {
-    let Ok(room) = alloc.clone() else {
-        return Err(Fault::Memory);
-    };
-    let Compiled { checked, object } = match compile(room, text) {
-        Ok(compiled) => compiled,
-        Err(fault) => return Err(fault),
-    };
-    match emulate_object_picks(alloc, &object, inputs, config, picks) {
-        Ok(report) => Ok(Emulated { checked, report }),
-        Err(fault) => Err(fault),
-    }
+    let Compiled { checked, object } = compile(alloc.clone()?, text)?;
+    let report = emulate_object_picks(alloc, &object, inputs, config, picks)?;
+    Ok(Emulated { checked, report })
 }
 
 /// The report of a run of the text's graph, in the order of a list of elements and picks, as `run_picks` takes it.
@@ -304,8 +228,6 @@ pub fn emulate_picks<A: Allocator + Clone>(
     requires { All (λ pick. pick.0 < config.elements) picks.now }
     ensures { MatchResult result (λ report. (g : Graphs.Graph) × TellsTruthListed text.now g inputs.now config picks.now report) (IsRefused text.now inputs.now config) }
 {
-    match run_picks(alloc, text, inputs, config, picks) {
-        Ok(run) => Ok(run.report),
-        Err(fault) => Err(fault),
-    }
+    let run = run_picks(alloc, text, inputs, config, picks)?;
+    Ok(run.report)
 }

@@ -1,11 +1,17 @@
 //! Why a text has no object or no report.
 
 ghost use Rattle.std.specs.Prelude.{◌≡◌};
+ghost use Rattle.driver.specs.Refused.{refusal_of};
+ghost use Rattle.driver.specs.Told.{IsUnread, IsUnchecked, unassigned_as, unemitted_as, unmeant_as};
+ghost use Rattle.driver.specs.declared.fault.Fault.TheVariants.{Memory, Object};
 
-use graph_check::CheckFault;
-use graph_file::ReadFault;
+use graph_check::{CheckFault, CheckFaultKind};
+use graph_file::{ReadFault, ReadFaultKind};
 use object_view::ObjectFault;
+use oracle::MeanFault;
 use schedule::config::StartFault;
+use select::EmitFault;
+use slot_alloc::AssignFault;
 use std::alloc::AllocError;
 
 /// Why a text or an object has no report.
@@ -28,9 +34,85 @@ pub enum Fault {
 }
 
 impl From<AllocError> for Fault {
-    fn from(_error: AllocError) -> Fault
-        ensures { result ≡ Fault.Memory }
-    {
+    ghost from_gives = { λ _ told. told ≡ Memory };
+
+    fn from(_error: AllocError) -> Fault {
         Fault::Memory
+    }
+}
+
+impl From<ReadFault> for Fault {
+    ghost from_gives = { λ fault told. IsUnread fault told };
+
+    fn from(fault: ReadFault) -> Fault {
+        match fault.kind {
+            ReadFaultKind::Memory => Fault::Memory,
+            _ => Fault::Read(fault),
+        }
+    }
+}
+
+impl From<CheckFault> for Fault {
+    ghost from_gives = { λ fault told. IsUnchecked fault told };
+
+    fn from(fault: CheckFault) -> Fault {
+        match fault.kind {
+            CheckFaultKind::Memory => Fault::Memory,
+            _ => Fault::Check(fault),
+        }
+    }
+}
+
+impl From<AssignFault> for Fault {
+    ghost from_gives = { λ fault told. told ≡ unassigned_as fault };
+
+    fn from(fault: AssignFault) -> Fault {
+        match fault {
+            AssignFault::TooManySlots { block } => Fault::TooManySlots(block),
+            AssignFault::Memory => Fault::Memory,
+        }
+    }
+}
+
+impl From<EmitFault> for Fault {
+    ghost from_gives = { λ fault told. told ≡ unemitted_as fault };
+
+    fn from(fault: EmitFault) -> Fault {
+        match fault {
+            EmitFault::TooFar { block } => Fault::TooFar(block),
+            EmitFault::Memory => Fault::Memory,
+        }
+    }
+}
+
+impl From<MeanFault> for Fault {
+    ghost from_gives = { λ fault told. told ≡ unmeant_as fault };
+
+    fn from(fault: MeanFault) -> Fault {
+        match fault {
+            MeanFault::WrongInputs => Fault::Start(StartFault::WrongInputs),
+            MeanFault::Memory => Fault::Memory,
+        }
+    }
+}
+
+impl From<ObjectFault> for Fault {
+    ghost from_gives = { λ fault told. told ≡ Object fault };
+
+    fn from(fault: ObjectFault) -> Fault {
+        Fault::Object(fault)
+    }
+}
+
+impl From<StartFault> for Fault {
+    ghost from_gives = { λ fault told. told ≡ refusal_of fault };
+
+    fn from(fault: StartFault) -> Fault {
+        match fault {
+            StartFault::Memory => Fault::Memory,
+            StartFault::WrongInputs => Fault::Start(StartFault::WrongInputs),
+            StartFault::NoFrames => Fault::Start(StartFault::NoFrames),
+            StartFault::BadConfig => Fault::Start(StartFault::BadConfig),
+        }
     }
 }

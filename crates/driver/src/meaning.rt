@@ -8,8 +8,7 @@ ghost use Rattle.oracle.specs.Waves.{AreWavesOf};
 use crate::compiling::check_text;
 use crate::fault::Fault;
 use graph_check::Checked;
-use oracle::{MeanFault, MeanReport, WaveReport, mean, waves};
-use schedule::config::StartFault;
+use oracle::{MeanReport, WaveReport, mean, waves};
 use std::alloc::Allocator;
 
 /// A run of the meaning of the text's graph.
@@ -30,18 +29,9 @@ pub fn mean_text<'a, A: Allocator + Clone>(
     ensures meant { IfOk result (λ m. IsMeant m.checked inputs.now steps m.report.end m.report.outputs.items m.report.cells.items) }
     ensures refused { IfErr result (IsRefusedMeaning text.now inputs.now) }
 {
-    let Ok(room) = alloc.clone() else {
-        return Err(Fault::Memory);
-    };
-    let checked = match check_text(room, text) {
-        Ok(checked) => checked,
-        Err(fault) => return Err(fault),
-    };
-    match mean(alloc, &checked, inputs, steps) {
-        Ok(report) => Ok(Meant { checked, report }),
-        Err(MeanFault::WrongInputs) => Err(Fault::Start(StartFault::WrongInputs)),
-        Err(MeanFault::Memory) => Err(Fault::Memory),
-    }
+    let checked = check_text(alloc.clone()?, text)?;
+    let report = mean(alloc, &checked, inputs, steps)?;
+    Ok(Meant { checked, report })
 }
 
 /// The waves of the meaning of the graph that the text has.
@@ -63,16 +53,7 @@ pub fn waves_text<'a, A: Allocator + Clone>(
     ensures waves { IfOk result (λ w. AreWavesOf w.checked inputs.now steps w.report.end w.report.counts.items) }
     ensures refused { IfErr result (IsRefusedMeaning text.now inputs.now) }
 {
-    let Ok(room) = alloc.clone() else {
-        return Err(Fault::Memory);
-    };
-    let checked = match check_text(room, text) {
-        Ok(checked) => checked,
-        Err(cause) => return Err(cause),
-    };
-    match waves(alloc, &checked, inputs, steps) {
-        Ok(report) => Ok(Waved { checked, report }),
-        Err(MeanFault::WrongInputs) => Err(Fault::Start(StartFault::WrongInputs)),
-        Err(MeanFault::Memory) => Err(Fault::Memory),
-    }
+    let checked = check_text(alloc.clone()?, text)?;
+    let report = waves(alloc, &checked, inputs, steps)?;
+    Ok(Waved { checked, report })
 }

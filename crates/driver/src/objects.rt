@@ -1,6 +1,8 @@
 //! Object files as input.
 
+ghost use Rattle.std.specs.Prelude.{◌≡◌};
 ghost use Rattle.driver.specs.Disassembled.{Disassembles, Draws, Upgrades};
+ghost use Rattle.driver.specs.declared.objects.ObjectRefusal.TheVariants.{Object, Write};
 
 use disassembler::list;
 use dot::write_code_dot;
@@ -16,44 +18,42 @@ pub enum ObjectRefusal {
     Write(io::Error),
 }
 
+impl From<ObjectFault> for ObjectRefusal {
+    ghost from_gives = { λ fault told. told ≡ Object fault };
+
+    fn from(fault: ObjectFault) -> ObjectRefusal {
+        ObjectRefusal::Object(fault)
+    }
+}
+
+impl From<io::Error> for ObjectRefusal {
+    ghost from_gives = { λ fault told. told ≡ Write fault };
+
+    fn from(fault: io::Error) -> ObjectRefusal {
+        ObjectRefusal::Write(fault)
+    }
+}
+
 /// Writes the listing of the object with these bytes.
 pub fn disassemble<W: Write>(bytes: &[u8], writer: &mut W) -> Result<(), ObjectRefusal>
     ensures { Disassembles result (W.contents writer.old) (W.contents writer.new) bytes.now }
 {
-    let object = match Object::open(bytes) {
-        Ok(object) => object,
-        Err(fault) => return Err(ObjectRefusal::Object(fault)),
-    };
-    match list(&object, writer) {
-        Ok(()) => Ok(()),
-        Err(fault) => Err(ObjectRefusal::Write(fault)),
-    }
+    let object = Object::open(bytes)?;
+    Ok(list(&object, writer)?)
 }
 
 /// Writes the picture of the code of the object with these bytes.
 pub fn draw_object<W: Write>(bytes: &[u8], writer: &mut W) -> Result<(), ObjectRefusal>
     ensures { Draws result (W.contents writer.old) (W.contents writer.new) bytes.now }
 {
-    let object = match Object::open(bytes) {
-        Ok(object) => object,
-        Err(cause) => return Err(ObjectRefusal::Object(cause)),
-    };
-    match write_code_dot(&object, writer) {
-        Ok(()) => Ok(()),
-        Err(cause) => Err(ObjectRefusal::Write(cause)),
-    }
+    let object = Object::open(bytes)?;
+    Ok(write_code_dot(&object, writer)?)
 }
 
 /// Writes the object with these bytes as version 2 of the object file: the same code, and no origin where version 1 has none.
 pub fn upgrade_object<W: Write>(bytes: &[u8], writer: &mut W) -> Result<(), ObjectRefusal>
     ensures { Upgrades result (W.contents writer.old) (W.contents writer.new) bytes.now }
 {
-    let object = match Object::open(bytes) {
-        Ok(object) => object,
-        Err(refusal) => return Err(ObjectRefusal::Object(refusal)),
-    };
-    match upgrade(&object, writer) {
-        Ok(()) => Ok(()),
-        Err(error) => Err(ObjectRefusal::Write(error)),
-    }
+    let old = Object::open(bytes)?;
+    Ok(upgrade(&old, writer)?)
 }

@@ -72,15 +72,7 @@ pub fn run_watched<
         (λ w. IsWatched mode text.now w.run.compiled.checked w.run.compiled.object.items inputs.now config G.may_stop w.run.report w.moments.items)
         (IsRefused text.now inputs.now config) }
 {
-    let Ok(room) = alloc.clone() else {
-        return Err(Fault::Memory);
-    };
-    let run = match run_listed(room, text, inputs, config, mode, rt, gate) {
-        Ok(run) => run,
-        Err(fault) => return Err(fault),
-    };
-    match moments_of(alloc, &run.compiled.object, inputs, config, &run.report) {
-        Ok(moments) => Ok(Watched { run, moments }),
-        Err(_refused) => Err(Fault::Memory),
-    }
+    let run = run_listed(alloc.clone()?, text, inputs, config, mode, rt, gate)?;
+    let moments = moments_of(alloc, &run.compiled.object, inputs, config, &run.report)?;
+    Ok(Watched { run, moments })
 }

@@ -1,17 +1,17 @@
-use Rattle.std.proofs.Common.{sym, subst, false}
-use Rattle.driver.specs.declared.fault.Fault.{Fault}
+use Rattle.std.proofs.Common.{false}
+use Rattle.std.proofs.lemmas.Result.{err_from_is_err_and}
 use Rattle.driver.specs.Headline.{stops_in}
-use Rattle.driver.specs.Refused.{IsRefusedObject}
 use Rattle.driver.proofs.TextObjects.{object_refused}
 use Rattle.driver.proofs.ObjectRuns.{shows_object_quietly}
 use Rattle.driver.proofs.emulation.emulate_object_quietly.Goals as goal
 
-pub returns-in-Ok-start : goal.returns-in-Ok-start
-returns-in-Ok-start g c =
-    shows_object_quietly c.args.bytes.now c.args.inputs.now c.args.config false (stops_in c.args.mode g.G.Gate.may_stop) c.run_quietly_in.result c.in-Ok.object c.in-Ok-load.code c.in-Ok-load.ensures c.in-Ok.ensures.object
-    c.in-Ok.ensures.complete _ c.in-Ok-start.machine c.in-Ok-start.ensures c.run_quietly_in.ensures
-
 pub returns : goal.returns
 returns g c =
-    subst (λ (r : Fault). IsRefusedObject c.args.bytes.now c.args.inputs.now c.args.config r) (sym c.start_refusal.ensures)
-    (object_refused c.args.bytes.now c.args.inputs.now c.args.config c.in-Ok.object c.in-Ok-load.code c.in-Ok-load.ensures c.in-Ok.ensures.object c.in-Ok.ensures.complete c.in-Err-start.fault c.in-Err-start.ensures)
+    shows_object_quietly c.args.bytes.now c.args.inputs.now c.args.config false (stops_in c.args.mode g.G.Gate.may_stop) c.run_quietly_in.result c.in_ok-object.object c.in_ok-code.code c.in_ok-code.ensures c.in_ok-object.ensures.object
+    c.in_ok-object.ensures.complete _ c.in_ok-machine.machine c.in_ok-machine.ensures c.run_quietly_in.ensures
+
+pub returns-in_err-machine : goal.returns-in_err-machine
+returns-in_err-machine g c =
+    let p = err_from_is_err_and c.from_residual-in_err-machine.result c.from_residual-in_err-machine.ensures.1 in
+    rw (p.1, p.2)
+    (object_refused c.args.bytes.now c.args.inputs.now c.args.config c.in_ok-object.object c.in_ok-code.code c.in_ok-code.ensures c.in_ok-object.ensures.object c.in_ok-object.ensures.complete c.in_err-machine.field-0.0 c.in_err-machine.ensures)

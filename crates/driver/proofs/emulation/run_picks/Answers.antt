@@ -1,4 +1,5 @@
 use Rattle.std.proofs.Common.{subst, List, ℕ, true, false}
+use Rattle.std.proofs.lemmas.Result.{err_from_is_err_and}
 use Rattle.driver.specs.Objects.{ShowsObject, RunsObject}
 use Rattle.driver.specs.Orders.{FollowsList}
 use Rattle.driver.specs.Refused.{IsRefusedObject}
@@ -6,13 +7,15 @@ use Rattle.driver.proofs.Truth.{tells_listed}
 use Rattle.driver.proofs.TextObjects.{refused_as_text}
 use Rattle.driver.proofs.emulation.run_picks.Goals as goal
 
-pub returns-in-Ok-emulate_object_picks : goal.returns-in-Ok-emulate_object_picks
-returns-in-Ok-emulate_object_picks g c =
-    tells_listed c.args.text.now c.in-Ok-compile.compiled.checked _ c.args.inputs.now c.args.config c.args.picks.now c.in-Ok-emulate_object_picks.report c.in-Ok-compile.ensures
-    (subst (λ (bs : List ℕ). ShowsObject bs c.args.inputs.now c.args.config true false c.in-Ok-emulate_object_picks.report) c.deref.ensures.value c.in-Ok-emulate_object_picks.ensures.shows)
-    (subst (λ (bs : List ℕ). RunsObject bs c.args.inputs.now c.args.config (FollowsList c.args.picks.now) c.in-Ok-emulate_object_picks.report) c.deref.ensures.value c.in-Ok-emulate_object_picks.ensures.list)
-
 pub returns : goal.returns
 returns g c =
-    refused_as_text c.args.text.now c.in-Ok-compile.compiled.checked _ c.args.inputs.now c.args.config c.in-Ok-compile.ensures c.in-Err-emulate_object_picks.fault
-    (subst (λ (bs : List ℕ). IsRefusedObject bs c.args.inputs.now c.args.config c.in-Err-emulate_object_picks.fault) c.deref.ensures.value c.in-Err-emulate_object_picks.ensures.shows)
+    tells_listed c.args.text.now c.in_ok-checked.field-0.checked _ c.args.inputs.now c.args.config c.args.picks.now c.in_ok-report.report c.in_ok-checked.ensures
+    (subst (λ (bs : List ℕ). ShowsObject bs c.args.inputs.now c.args.config true false c.in_ok-report.report) c.deref.ensures.value c.in_ok-report.ensures.shows)
+    (subst (λ (bs : List ℕ). RunsObject bs c.args.inputs.now c.args.config (FollowsList c.args.picks.now) c.in_ok-report.report) c.deref.ensures.value c.in_ok-report.ensures.list)
+
+pub returns-in_err-report : goal.returns-in_err-report
+returns-in_err-report g c =
+    let p = err_from_is_err_and c.from_residual-in_err-report.result c.from_residual-in_err-report.ensures.1 in
+    rw (p.1, p.2)
+    (refused_as_text c.args.text.now c.in_ok-checked.field-0.checked _ c.args.inputs.now c.args.config c.in_ok-checked.ensures c.in_err-report.field-0.0
+    (subst (λ (bs : List ℕ). IsRefusedObject bs c.args.inputs.now c.args.config c.in_err-report.field-0.0) c.deref.ensures.value c.in_err-report.ensures.shows))

@@ -1,8 +1,7 @@
-use Rattle.std.proofs.Common.{◌≡◌, sym, subst, ℤ, List, false}
+use Rattle.std.proofs.Common.{sym, subst, false}
 use Rattle.command_line.specs.declared.Mode.{Mode}
 use Rattle.semantics.specs.Report.{Shows}
 use Rattle.schedule.specs.Setting.{Setting, size}
-use Rattle.schedule.specs.Runs.{Began}
 use Rattle.driver.specs.Headline.{stops_in}
 use Rattle.driver.proofs.modes.run_in.Goals as goal
 

@@ -1,7 +1,6 @@
-use Rattle.std.proofs.Common.{◌≡◌, sym, subst, ℤ, List, false}
+use Rattle.std.proofs.Common.{sym, subst, false}
 use Rattle.command_line.specs.declared.Mode.{Mode}
 use Rattle.schedule.specs.Setting.{Setting, size}
-use Rattle.schedule.specs.Runs.{Began}
 use Rattle.schedule.specs.Unlisted.{ShowsQuietly}
 use Rattle.driver.specs.Headline.{stops_in}
 use Rattle.driver.proofs.modes.run_quietly_in.Goals as goal

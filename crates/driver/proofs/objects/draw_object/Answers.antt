@@ -1,4 +1,5 @@
-use Rattle.std.proofs.Common.{refl, ◌≡◌, ◌++◌, ℕ, List, Option, subst}
+use Rattle.std.proofs.Common.{◌≡◌, ◌++◌, ℕ, List, Option, subst}
+use Rattle.std.proofs.lemmas.Result.{err_from_is_err_and}
 use Rattle.std.specs.Io.KnownBytes.{Appends}
 use Rattle.object_view.specs.Reading.{Opened}
 use Rattle.sink.specs.Sends.{Sends}
@@ -6,19 +7,17 @@ use Rattle.dot.specs.CodeDot.{code_dot}
 use Rattle.driver.proofs.OpenedObjects.{is_opened}
 use Rattle.driver.proofs.objects.draw_object.Goals as goal
 
-pub returns-in-Ok-write_code_dot : goal.returns-in-Ok-write_code_dot
+pub returns : goal.returns
 unfolding Sends
-returns-in-Ok-write_code_dot g c =
+returns g c =
     let w0 : Option (List ℕ) = g.W.Write.contents c.args.writer.now in
     let w1 : Option (List ℕ) = g.W.Write.contents c.write_code_dot.new.writer in
-    (is_opened c.args.bytes.now c.in-Ok.object c.in-Ok.ensures.opened c.in-Ok.ensures.refused c.in-Ok.ensures.object c.in-Ok.ensures.complete, subst (λ (o : Opened). Appends w0 w1 (code_dot o.code.program)) c.in-Ok.ensures.opened c.in-Ok-write_code_dot.ensures)
+    (is_opened c.args.bytes.now c.in_ok-object.object c.in_ok-object.ensures.opened c.in_ok-object.ensures.refused c.in_ok-object.ensures.object c.in_ok-object.ensures.complete, subst (λ (o : Opened). Appends w0 w1 (code_dot o.code.program)) c.in_ok-object.ensures.opened c.in_ok-write_code_dot.ensures)
 
-pub returns-in-Err-write_code_dot : goal.returns-in-Err-write_code_dot
+pub returns-in_err-write_code_dot : goal.returns-in_err-write_code_dot
 unfolding Sends
-returns-in-Err-write_code_dot g c =
+returns-in_err-write_code_dot g c =
     let w0 : Option (List ℕ) = g.W.Write.contents c.args.writer.now in
     let w1 : Option (List ℕ) = g.W.Write.contents c.write_code_dot.new.writer in
-    (is_opened c.args.bytes.now c.in-Ok.object c.in-Ok.ensures.opened c.in-Ok.ensures.refused c.in-Ok.ensures.object c.in-Ok.ensures.complete, subst (λ (o : Opened). (front : List ℕ) × (rest : List ℕ) × (code_dot o.code.program ≡ front ++ rest) × Appends w0 w1 front) c.in-Ok.ensures.opened c.in-Err-write_code_dot.ensures)
-
-pub returns-in-Err : goal.returns-in-Err
-returns-in-Err g c = (record { first = c.in-Err.ensures.refused; none = c.in-Err.ensures.complete }, refl)
+    let p = err_from_is_err_and c.from_residual-in_err-write_code_dot.result c.from_residual-in_err-write_code_dot.ensures.1 in
+    rw (p.1, p.2) (is_opened c.args.bytes.now c.in_ok-object.object c.in_ok-object.ensures.opened c.in_ok-object.ensures.refused c.in_ok-object.ensures.object c.in_ok-object.ensures.complete, subst (λ (o : Opened). (front : List ℕ) × (rest : List ℕ) × (code_dot o.code.program ≡ front ++ rest) × Appends w0 w1 front) c.in_ok-object.ensures.opened c.in_err-write_code_dot.ensures)

@@ -1,4 +1,5 @@
-use Rattle.std.proofs.Common.{refl, ◌≡◌, ◌++◌, ℕ, List, Option, subst}
+use Rattle.std.proofs.Common.{◌≡◌, ◌++◌, ℕ, List, Option, subst}
+use Rattle.std.proofs.lemmas.Result.{err_from_is_err_and}
 use Rattle.std.specs.Io.KnownBytes.{Appends}
 use Rattle.semantics.specs.Bytes.{bytes_of}
 use Rattle.object_view.specs.Reading.{Opened}
@@ -6,19 +7,17 @@ use Rattle.sink.specs.Sends.{Sends}
 use Rattle.driver.proofs.OpenedObjects.{is_opened}
 use Rattle.driver.proofs.objects.upgrade_object.Goals as goal
 
-pub returns-in-Ok-upgrade : goal.returns-in-Ok-upgrade
+pub returns : goal.returns
 unfolding Sends
-returns-in-Ok-upgrade g c =
+returns g c =
     let w0 : Option (List ℕ) = g.W.Write.contents c.args.writer.now in
     let w1 : Option (List ℕ) = g.W.Write.contents c.upgrade.new.writer in
-    (is_opened c.args.bytes.now c.in-Ok.object c.in-Ok.ensures.opened c.in-Ok.ensures.refused c.in-Ok.ensures.object c.in-Ok.ensures.complete, subst (λ (o : Opened). Appends w0 w1 (bytes_of 2 o.code)) c.in-Ok.ensures.opened c.in-Ok-upgrade.ensures)
+    (is_opened c.args.bytes.now c.in_ok-old.old c.in_ok-old.ensures.opened c.in_ok-old.ensures.refused c.in_ok-old.ensures.object c.in_ok-old.ensures.complete, subst (λ (o : Opened). Appends w0 w1 (bytes_of 2 o.code)) c.in_ok-old.ensures.opened c.in_ok-upgrade.ensures)
 
-pub returns-in-Err-upgrade : goal.returns-in-Err-upgrade
+pub returns-in_err-upgrade : goal.returns-in_err-upgrade
 unfolding Sends
-returns-in-Err-upgrade g c =
+returns-in_err-upgrade g c =
     let w0 : Option (List ℕ) = g.W.Write.contents c.args.writer.now in
     let w1 : Option (List ℕ) = g.W.Write.contents c.upgrade.new.writer in
-    (is_opened c.args.bytes.now c.in-Ok.object c.in-Ok.ensures.opened c.in-Ok.ensures.refused c.in-Ok.ensures.object c.in-Ok.ensures.complete, subst (λ (o : Opened). (front : List ℕ) × (rest : List ℕ) × (bytes_of 2 o.code ≡ front ++ rest) × Appends w0 w1 front) c.in-Ok.ensures.opened c.in-Err-upgrade.ensures)
-
-pub returns-in-Err : goal.returns-in-Err
-returns-in-Err g c = (record { first = c.in-Err.ensures.refused; none = c.in-Err.ensures.complete }, refl)
+    let p = err_from_is_err_and c.from_residual-in_err-upgrade.result c.from_residual-in_err-upgrade.ensures.1 in
+    rw (p.1, p.2) (is_opened c.args.bytes.now c.in_ok-old.old c.in_ok-old.ensures.opened c.in_ok-old.ensures.refused c.in_ok-old.ensures.object c.in_ok-old.ensures.complete, subst (λ (o : Opened). (front : List ℕ) × (rest : List ℕ) × (bytes_of 2 o.code ≡ front ++ rest) × Appends w0 w1 front) c.in_ok-old.ensures.opened c.in_err-upgrade.ensures)
