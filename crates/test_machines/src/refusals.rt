@@ -144,48 +144,41 @@ fn told_once<A: Allocator>(report: &Report<A>, case: Case) -> Refused {
     }
 }
 
-/// Runs the machine without events. Where a growth is refused, the run goes on from there.
-fn run_quietly<C: MainCode, A: Allocator + Clone>(
-    machine: Machine<'_, C, A>,
-    case: Case,
-) -> Refused {
-    let mut quiet = machine.without_events();
-    let halt = quiet.play_in_turn();
-    if halt == Halt::Memory {
-        let halt = quiet.play_in_turn();
-        return told(&quiet.report(halt), case, 0, Refused::InTheRun);
+/// A case on `elements` elements.
+fn config_of(case: Case, elements: u32) -> Config
+    ensures { result.elements ≡ elements }
+{
+    Config {
+        frames: case.frames,
+        ..on(u64::from(elements))
     }
-    told(&quiet.report(halt), case, 0, Refused::Nowhere)
 }
 
-/// Runs the machine step by step. Where a growth is refused, the same step is tried again, and then has to succeed.
-fn run_by_steps<C: MainCode, A: Allocator + Clone>(
-    mut machine: Machine<'_, C, A>,
-    case: Case,
+/// Runs the machine step by step, until a growth is refused. Then the same step is tried again: whether it was refused. `None` where
+/// something else was wrong.
+fn step_to_refusal<C: MainCode, A: Allocator + Clone>(
+    machine: &mut Machine<'_, C, A>,
     elements: u32,
-) -> Refused
+) -> Option<bool>
     requires some { 0 < elements }
-    requires elements { machine.state.setting.elements ≡ elements }
+    requires elements { machine.old.state.setting.elements ≡ elements }
 {
     for turn in 0..20_000 {
         let element = turn % elements;
         match machine.step(element, 0) {
             Some(Stepped::Memory) => {
-                if machine.step(element, 0) != Some(Stepped::Did) {
-                    return Refused::Wrongly;
-                }
-                let halt = machine.play_in_turn();
-                return told(&machine.report(halt), case, case.events, Refused::InTheRun);
+                let again = machine.step(element, 0);
+                return (again == Some(Stepped::Did)).then_some(true);
             }
             Some(_) => {}
-            None => return Refused::Wrongly,
+            None => return None,
         }
     }
-    let report = machine.report(Halt::NoToken);
-    told(&report, case, case.events, Refused::Nowhere)
+    Some(false)
 }
 
-/// Runs the case on `elements` elements in this way.
+/// Runs the case on `elements` elements. Where a growth is refused in the run, the same step is tried again, and then has to
+/// succeed.
 fn run_on<A: Allocator + Clone>(alloc: A, case: Case, elements: u32, way: Way) -> Refused
     requires { 0 < elements }
 {
@@ -199,20 +192,33 @@ fn run_on<A: Allocator + Clone>(alloc: A, case: Case, elements: u32, way: Way) -
         return Refused::AtTheStart;
     };
     let mut store = None;
-    let config = Config {
-        frames: case.frames,
-        ..on(u64::from(elements))
-    };
-    let machine = match Machine::start(alloc, &mut store, &code, &[case.input], config) {
+    let config = config_of(case, elements);
+    let mut machine = match Machine::start(alloc, &mut store, &code, &[case.input], config) {
         Ok(machine) => machine,
         Err(StartFault::Memory) => return Refused::AtTheStart,
         Err(_) => return Refused::Wrongly,
     };
-    match way {
-        Way::Whole => told_once(&machine.run_one(), case),
-        Way::Quietly => run_quietly(machine, case),
-        Way::StepByStep => run_by_steps(machine, case, elements),
+    if way == Way::Whole {
+        return told_once(&machine.run_one(), case);
     }
+    if way == Way::Quietly {
+        let mut quiet = machine.without_events();
+        let halt = quiet.play_in_turn();
+        if halt == Halt::Memory {
+            let halt = quiet.play_in_turn();
+            return told(&quiet.report(halt), case, 0, Refused::InTheRun);
+        }
+        return told(&quiet.report(halt), case, 0, Refused::Nowhere);
+    }
+    let Some(is_refused) = step_to_refusal(&mut machine, elements) else {
+        return Refused::Wrongly;
+    };
+    if is_refused {
+        let halt = machine.play_in_turn();
+        return told(&machine.report(halt), case, case.events, Refused::InTheRun);
+    }
+    let report = machine.report(Halt::NoToken);
+    told(&report, case, case.events, Refused::Nowhere)
 }
 
 /// How often a growth was refused at the start, in the run and in the report, before none was refused; `None` where a run went
