@@ -4,8 +4,9 @@
 //! Build: rustc --edition 2021 -O plain_machine.rs. Run: plain_machine INPUT [ELEMENTS [FRAMES [OBJECT]]]; the object is that
 //! of crates/bench_events, where none is given. An object is taken to be sound.
 
-#[path = "../../crates/bench_events/src/sum_loop.rt"]
-mod sum_loop;
+#[path = "../../crates/test_machines/src/objects.rt"]
+#[allow(dead_code)]
+mod objects;
 
 use std::collections::VecDeque;
 use std::time::Instant;
@@ -531,7 +532,7 @@ fn main() {
     let args: Vec<String> = std::env::args().collect();
     let bytes = match args.get(4) {
         Some(path) => std::fs::read(path).expect("an object"),
-        None => sum_loop::SUM_LOOP.to_vec(),
+        None => objects::LOOP.to_vec(),
     };
     let number = |place: usize, other: u32| args.get(place).map_or(other, |it| it.parse().expect("a number"));
     let input: i64 = args[1].parse().expect("a number");
