@@ -1,14 +1,18 @@
 //! The machine's inner loop in plain Rust, for comparison: the same object, tokens in queues, slots as two words, each
 //! instruction decoded from its 16 bytes when it is run, one match on its opcode. It is no part of what is proved.
 //!
-//! Build: rustc --edition 2021 -O plain_machine.rs. Run: plain_machine INPUT [ELEMENTS [FRAMES [OBJECT]]]; the object is that
-//! of crates/bench_events, where none is given. An object is taken to be sound.
+//! Build: rustc --edition 2021 -O plain_machine.rs. Run: plain_machine INPUT [ELEMENTS [FRAMES [OBJECT [LOOK]]]]; the object is that
+//! of crates/bench_events, where none is given. An object is taken to be sound. With LOOK each element runs in a thread of its own, and looks
+//! at its boxes each time it has made that number of events.
 
 #[path = "../../crates/test_machines/src/objects.rt"]
 #[allow(dead_code)]
 mod objects;
 
 use std::collections::VecDeque;
+use std::sync::Mutex;
+use std::sync::atomic::{AtomicI64, Ordering::SeqCst};
+use std::thread;
 use std::time::Instant;
 
 #[derive(Clone, Copy, PartialEq, Debug)]
@@ -139,6 +143,7 @@ impl<'a> Code<'a> {
 }
 
 /// The free frames as bits.
+#[derive(Clone)]
 struct Manager {
     free: Vec<u64>,
     waiting: VecDeque<Cont>,
@@ -187,6 +192,7 @@ struct Lane {
 }
 
 /// What element 0 serves beside.
+#[derive(Clone)]
 struct Host {
     manager: Manager,
     outputs: Vec<Option<Value>>,
@@ -528,6 +534,82 @@ fn run(code: &Code, lanes: &mut [Lane], host: &mut Host, steps: u64) -> Option<E
     }
 }
 
+/// What the threads of the elements share: how many tokens there are, and a box for each two elements.
+struct Shared {
+    elements: usize,
+    live: AtomicI64,
+    boxes: Vec<Mutex<Vec<Token>>>,
+}
+
+impl Shared {
+    fn new(lanes: &[Lane]) -> Shared {
+        let elements = lanes.len();
+        let live = lanes.iter().map(|lane| lane.queue.len() as i64).sum();
+        Shared { elements, live: AtomicI64::new(live), boxes: (0..elements * elements).map(|_| Mutex::default()).collect() }
+    }
+
+    /// Takes what lies in the boxes to this lane.
+    fn take(&self, lane: &mut Lane, bundle: &mut Vec<Token>) {
+        for from in 0..self.elements {
+            if let Ok(mut tokens) = self.boxes[from * self.elements + lane.element as usize].try_lock() {
+                std::mem::swap(&mut *tokens, bundle);
+            }
+            lane.queue.extend(bundle.drain(..));
+        }
+    }
+
+    /// Posts what there is for other elements, where their boxes are empty.
+    fn post(&self, element: u32, kept: &mut [Vec<Token>]) {
+        for (to, bundle) in kept.iter_mut().enumerate().filter(|(_, bundle)| !bundle.is_empty()) {
+            if let Ok(mut tokens) = self.boxes[element as usize * self.elements + to].try_lock() {
+                if tokens.is_empty() {
+                    std::mem::swap(&mut *tokens, bundle);
+                }
+            }
+        }
+    }
+}
+
+/// Runs an element in its thread until there are no tokens.
+fn run_apart(code: &Code, lane: &mut Lane, host: &mut Host, shared: &Shared, look: u64) {
+    let (mut sent, mut bundle, mut kept) = (Vec::new(), Vec::new(), vec![Vec::new(); shared.elements]);
+    loop {
+        shared.take(lane, &mut bundle);
+        if lane.queue.is_empty() {
+            if shared.live.load(SeqCst) == 0 {
+                return;
+            }
+            thread::yield_now();
+        }
+        let before = lane.queue.len() as i64;
+        for _ in 0..look {
+            match lane.step(code, host, &mut sent) {
+                Some(done) => done.expect("no end but rest"),
+                None => break,
+            }
+        }
+        shared.live.fetch_add(lane.queue.len() as i64 + sent.len() as i64 - before, SeqCst);
+        for token in sent.drain(..) {
+            let token: Token = token;
+            kept[element_of(&token.to, lane.elements) as usize].push(token);
+        }
+        shared.post(lane.element, &mut kept);
+    }
+}
+
+/// Runs the elements in threads. The frame manager and the outputs are element 0's.
+fn run_free(code: &Code, lanes: &mut [Lane], host: &mut Host, look: u64) -> Option<End> {
+    let shared = Shared::new(lanes);
+    let mut hosts: Vec<Host> = lanes.iter().map(|_| host.clone()).collect();
+    thread::scope(|scope| {
+        for (lane, host) in lanes.iter_mut().zip(&mut hosts) {
+            scope.spawn(|| run_apart(code, lane, host, &shared, look));
+        }
+    });
+    *host = hosts.swap_remove(0);
+    Some(End::NoToken)
+}
+
 fn main() {
     let args: Vec<String> = std::env::args().collect();
     let bytes = match args.get(4) {
@@ -560,8 +642,12 @@ fn main() {
     lanes[0].queue.push_back(Token { to: instr(first), word: Word::Back(Cont::Host { port: 0 }) });
     lanes[0].queue.push_back(Token { to: instr(first + 1), word: Word::Val(Value::Int(input)) });
     let begun = Instant::now();
-    let end = run(&code, &mut lanes, &mut host, 4_294_967_296);
+    let end = match number(5, 0) {
+        0 => run(&code, &mut lanes, &mut host, 4_294_967_296),
+        look => run_free(&code, &mut lanes, &mut host, look.into()),
+    };
     let time = begun.elapsed().as_secs_f64();
-    let events: u64 = lanes.iter().map(|lane| lane.made).sum();
-    println!("{:?}, end {end:?}, {events} events, {time:.3} s, {:.1} M events/s", host.outputs, events as f64 / time / 1e6);
+    let made: Vec<u64> = lanes.iter().map(|lane| lane.made).collect();
+    let events: u64 = made.iter().sum();
+    println!("{:?}, end {end:?}, {events} events {made:?}, {time:.3} s, {:.1} M events/s", host.outputs, events as f64 / time / 1e6);
 }
