@@ -21,8 +21,8 @@ use Rattle.istructure.specs.Answered.{FetchedAt, StoredAt}
 use Rattle.istructure.specs.Holds.{fetch_tokens, IsFetchAnswer, FetchIsEvent, StoreIsEvent}
 use Rattle.frame_manager.specs.Flags.{flag_at}
 use Rattle.frame_manager.specs.Answered.{Requested, Released, HoldsFrames, RequestIsEvent, ReleaseIsEvent, request_tokens, release_tokens}
-use Rattle.element.specs.declared.lane.host.HostChange.{HostChange}
-use Rattle.element.specs.declared.lane.host.HostChange.TheVariants.{Output, Done}
+use Rattle.element.specs.declared.contents.host.HostChange.{HostChange}
+use Rattle.element.specs.declared.contents.host.HostChange.TheVariants.{Output, Done}
 use Rattle.element.specs.Near.{Bounds, IsNearCont, IsNearWord, IsNearToken, IsNearSlot, IsNearCell}
 use Rattle.element.specs.Parts.{Part, Manages, IsPart, IsSoundManager, SameElsewhere, IsSound, bounds}
 use Rattle.element.specs.Changed.{state_in, with_state_in, with_cells, with_manager, IsRequested, IsReleased, IsHostChange, filled, with_output as part_output, with_done as part_done}

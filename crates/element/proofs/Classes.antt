@@ -19,8 +19,8 @@ use Rattle.element.specs.declared.lane.Stepped.TheVariants as Step
 use Rattle.element.specs.Decoded.{instr_of, dest_in, IsShort, IsPair, IsLone}
 use Rattle.element.specs.Fired.{to_half}
 use Rattle.element.specs.Near.{IsNearToken, IsNearTo}
-use Rattle.element.specs.Parts.{Shape, Part, IsSound, bounds}
-use Rattle.element.specs.Held.{Held, queued, taken, with_part, elsewhere}
+use Rattle.element.specs.Parts.{IsSound, bounds}
+use Rattle.element.specs.Held.{Held, taken, with_part}
 use Rattle.element.specs.Changed.{state_in, with_state_in}
 use Rattle.element.specs.Acts.{Changes, Acts, ActsAs, FiresAs, IsStuck}
 use Rattle.element.proofs.Changing.{slot_same}

@@ -11,8 +11,8 @@ use Rattle.frame_manager.specs.Answered.{Requested, Released, RequestIsEvent, Re
 use Rattle.tags.specs.declared.slot.SlotState.TheVariants.{Empty}
 use Rattle.tags.specs.declared.token.Word.{Word}
 use Rattle.semantics.specs.Machine.{Store, host_rule}
-use Rattle.element.specs.declared.lane.host.HostChange.{HostChange}
-use Rattle.element.specs.declared.lane.host.HostChange.TheVariants.{Output, Done}
+use Rattle.element.specs.declared.contents.host.HostChange.{HostChange}
+use Rattle.element.specs.declared.contents.host.HostChange.TheVariants.{Output, Done}
 use Rattle.element.specs.Parts.{Part, slot_place}
 
 abbrev pub with_state : Part → ℕ → SlotState → Part

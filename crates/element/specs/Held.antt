@@ -1,13 +1,13 @@
--- What a lane holds.
-use Rattle.std.specs.Prelude.{◌≡◌, ℕ, ◌+◌, List, [], ◌++◌, All, Bool, not, ◌==◌, remove}
+-- What lanes hold, and what contracts see of them.
+use Rattle.std.specs.Prelude.{◌≡◌, ℕ, ◌+◌, ◌<◌, ◌≤◌, ◌^◌, List, [], ◌++◌, All, Bool, not, ◌==◌, remove}
 use Rattle.std.specs.List.{filter}
 use Rattle.tags.specs.declared.token.Cont.{Cont}
 use Rattle.tags.specs.declared.token.Token.{Token}
 use Rattle.tags.specs.Addresses.{element_of}
 use Rattle.frame_store.specs.BankViews.{bank_states}
 use Rattle.semantics.specs.Program.{Program}
-use Rattle.element.specs.declared.lane.Lane.{Lane}
-use Rattle.element.specs.Near.{IsNearToken}
+use Rattle.element.specs.declared.contents.Contents.{Contents}
+use Rattle.element.specs.Near.{Bounds, IsNearToken}
 use Rattle.element.specs.Parts.{Shape, Part, bounds, IsSound}
 
 pub record Held : Type 0 where
@@ -19,14 +19,14 @@ pub record Held : Type 0 where
   -- empty between the events
   pub answered : List Cont
 
-abbrev pub shape_of : {A : Type 0} → Lane A → Shape
-shape_of lane = record { element = lane.element; elements = lane.elements; start = lane.bank.start; frames = lane.bank.frames; width = lane.bank.width }
+abbrev pub shape_of : {A : Type 0} → Contents A → Shape
+shape_of c = record { element = c.element; elements = c.elements; start = c.bank.start; frames = c.bank.frames; width = c.bank.width }
 
-abbrev pub part_of : {A : Type 0} → Lane A → Part
-part_of lane = record { shape = shape_of lane; states = bank_states lane.bank; cells = lane.cells; manager = lane.manager; outputs = lane.outputs.items; done = lane.done }
+abbrev pub part_of : {A : Type 0} → Contents A → Part
+part_of c = record { shape = shape_of c; states = bank_states c.bank; cells = c.cells; manager = c.manager; outputs = c.outputs.items; done = c.done }
 
-abbrev pub held_of : {A : Type 0} → Lane A → Held
-held_of lane = record { part = part_of lane; queue = lane.queue.items; made = lane.made; answered = lane.answered.items }
+abbrev pub held_in : {A : Type 0} → Contents A → Held
+held_in c = record { part = part_of c; queue = c.queue.items; made = c.made; answered = c.answered.items }
 
 abbrev pub is_here : Shape → Token → Bool
 is_here z t = element_of z.elements t.to == z.element
@@ -61,3 +61,44 @@ pub record IsSoundLane (p : Program) (h : Held) : Type 0 where
   pub near : All (IsNearToken (bounds p h.part.shape)) h.queue
   pub addressed : All (λ (t : Token). element_of h.part.shape.elements t.to ≡ h.part.shape.element) h.queue
   pub answered : h.answered ≡ []
+
+-- WHAT CONTRACTS SEE OF A LANE: the program that it runs, how many events it may make, and what it holds
+pub record LaneView : Type 0 where
+  pub program : Program
+  pub steps : ℕ
+  pub held : Held
+
+abbrev pub held_of : LaneView → Held
+held_of l = l.held
+
+-- what stays the same of a lane
+pub record Fixed : Type 0 where
+  pub program : Program
+  pub steps : ℕ
+  pub shape : Shape
+
+abbrev pub fixed_of : LaneView → Fixed
+fixed_of l = record { program = l.program; steps = l.steps; shape = l.held.part.shape }
+
+abbrev pub bounds_at : Fixed → Bounds
+bounds_at f = bounds f.program f.shape
+
+-- the lane can receive the token: it names what there is, and is addressed to the element
+pub record IsFor (f : Fixed) (t : Token) : Type 0 where
+  pub near : IsNearToken (bounds_at f) t
+  pub addressed : element_of f.shape.elements t.to ≡ f.shape.element
+
+-- with tokens more, which come last
+abbrev pub with_more : LaneView → List Token → LaneView
+with_more l ts = record { program = l.program; steps = l.steps; held = with_queue l.held (l.held.queue ++ ts) }
+
+-- it has made all its events
+abbrev pub IsSpent : LaneView → Type 0
+IsSpent l = l.held.made ≡ l.steps
+
+-- what holds of a lane at all times, under code that names slots below a width
+pub record IsRunnable (slots : ℕ) (l : LaneView) : Type 0 where
+  pub sound : IsSoundLane l.program l.held
+  pub width : slots ≤ l.held.part.shape.width
+  pub made : l.held.made ≤ l.steps
+  pub few : l.steps < 2 ^ 63

@@ -1,33 +1,25 @@
-//! What an element holds, and what it does with a token.
+//! The lane of an element: what it holds, with the code that it runs. It is sound between its events.
 
-ghost use Rattle.std.specs.Prelude.{◌≡◌, ◌+◌, ◌%◌, ◌<◌, ◌≤◌, ◌^◌, [], ◌∷◌, ◌++◌, OnOk, OnErr, IfOk, IfSome, IfNone, None, replicate};
-ghost use Rattle.element.specs.Held.{held_of, part_of, shape_of, with_queue, IsSoundLane};
+ghost use Rattle.std.specs.Prelude.{◌≡◌, ◌<◌, ◌≤◌, ◌*◌, ◌^◌, true, false, [], ◌∷◌, length, All, OnOk, OnErr, IfOk, IfSome, IfNone, slice_index_or};
+ghost use Rattle.tags.specs.declared.slot.SlotState.TheVariants.{Empty};
 ghost use Rattle.frame_store.specs.BankViews.{bank_states};
-ghost use Rattle.element.specs.Parts.{bounds};
-ghost use Rattle.tags.specs.Addresses.{element_of};
-ghost use Rattle.semantics.specs.Program.{Program};
-ghost use Rattle.element.specs.Near.{IsNearToken};
-ghost use Rattle.element.specs.Acts.{CanAct, ActsAs};
-ghost use Rattle.element.specs.Steps.{Steps, Picks};
+ghost use Rattle.element.specs.Parts.{slot_place};
+ghost use Rattle.element.specs.Held.{fixed_of, with_more, IsFor, IsSpent, IsSoundLane};
+ghost use Rattle.element.specs.Steps.{Steps, Stays, Picks};
 ghost use Rattle.element.specs.Openings.{opened, shape_at, IsOpening, StartsAs};
 
-use crate::firing::Seat;
+use crate::contents::Contents;
 use crate::instructions::Instructions;
 use arrayvec::ArrayVec;
 use frame_manager::Manager;
 use frame_store::bank::BankMut;
 use istructure::Cells;
 use std::alloc::{AllocError, Allocator};
-use tags::token::{Cont, To, Token};
+use std::marker::Model;
+use tags::slot::SlotState;
+use tags::token::{FrameId, Token};
 use tags::value::Value;
 use token_queue::queue::TokenQueue;
-
-mod executing;
-mod host;
-mod memory;
-mod requests;
-mod sending;
-mod slots;
 
 /// What a step did.
 #[derive(Clone, Copy, Debug, PartialEq, Eq)]
@@ -44,185 +36,172 @@ pub enum Stepped {
     Memory,
 }
 
-/// What an element holds: the slots of its frames, its cells, its tokens, and on element 0 the frame manager, the outputs
-/// and the done mark.
+/// An element's lane. Contracts see the program that it runs, how many events it may make, and what it holds: the slots of
+/// its frames, its cells, its tokens, and on element 0 the frame manager, the outputs and the done mark. At all times what
+/// it holds is sound, and it has made no more events than it may.
 #[derive(Drop)]
-pub struct Lane<'m, A: Allocator> {
-    pub element: u32,
-    pub elements: u32,
-    pub bank: BankMut<'m>,
-    pub cells: Cells<A>,
-    pub manager: Option<Manager<A>>,
-    /// The tokens, oldest first.
-    pub queue: TokenQueue<A>,
-    pub outputs: ArrayVec<Option<Value>, 16>,
-    pub done: bool,
-    /// How many events it has made.
-    pub made: u64,
-    /// The readers that a store answers; empty between the events.
-    pub answered: Vec<Cont, A>,
+pub struct Lane<'m, C: Instructions, A: Allocator> {
+    code: &'m C,
+    steps: u64,
+    contents: Contents<'m, A>,
 }
 
-// The index that a pick selects among `count`.
-#[tactic(auto, using(crate::proofs::Quotients::below))]
-#[inline(always)]
-fn among(pick: u64, count: usize) -> usize
-    requires { 0 < count }
-    ensures exact { result ≡ pick % count }
-    ensures within { result < count }
-{
-    let count = count as u64;
-    if pick < count {
-        return pick as usize;
-    }
-    (pick % count) as usize
+impl<'m, C: Instructions, A: Allocator> Model for Lane<'m, C, A> {
+    ghost use Rattle.element.specs.Held.{LaneView, held_in, IsRunnable};
+
+    ghost Value = { LaneView };
+
+    ghost view = { λ l. record { program = C.program l.code.now; steps = l.steps; held = held_in l.contents } };
+
+    ghost invariant = { λ l. IsRunnable (C.width l.code.now) (record { program = C.program l.code.now; steps = l.steps; held = held_in l.contents }) };
 }
 
-// `count` outputs that are not filled.
-fn no_outputs(count: u32) -> ArrayVec<Option<Value>, 16>
-    requires { count ≤ 16 }
-    ensures { result.items ≡ replicate count None }
-{
-    let mut outputs = ArrayVec::from([None; 16]);
-    outputs.truncate(count as usize);
-    outputs
-}
-
-impl<'m, A: Allocator> Lane<'m, A> {
-    /// A lane with no tokens, over the slots and the cells of its element, and on element 0 with the frame manager and as
-    /// many outputs as main has.
+impl<'m, C: Instructions, A: Allocator> Lane<'m, C, A> {
+    /// A lane with no tokens, which may make so many events of this code, over the slots and the cells of its element, and on
+    /// element 0 with the frame manager and as many outputs as main has.
     pub fn new(
         alloc: A,
+        code: &'m C,
+        steps: u64,
         element: u32,
         elements: u32,
         bank: BankMut<'m>,
         cells: Cells<A>,
         manager: Option<Manager<A>>,
         outputs: u32,
-    ) -> Result<Lane<'m, A>, AllocError>
+    ) -> Result<Lane<'m, C, A>, AllocError>
     where
         A: Clone,
-        requires { outputs ≤ 16 }
-        ensures exact { IfOk result (λ lane. held_of lane ≡ opened (shape_at element elements bank.entry) (bank_states bank.entry) cells manager outputs) }
-        ensures starts { IfOk result (λ lane. (p : Program) → IsOpening p (part_of lane) → IsSoundLane p (held_of lane) × StartsAs p (part_of lane)) }
+        requires outputs { outputs ≤ 16 }
+        requires opening { IsOpening (C.program code.now) (opened (shape_at element elements bank) (bank_states bank) cells manager outputs).part }
+        requires width { C.width code.now ≤ bank.width }
+        requires few { steps < 2 ^ 63 }
+        ensures exact { IfOk result (λ lane. lane ≡ record { program = C.program code.now; steps = steps; held = opened (shape_at element elements bank.entry) (bank_states bank.entry) cells manager outputs }) }
+        ensures sound { IfOk result (λ lane. IsSoundLane lane.program lane.held) }
+        ensures starts { IfOk result (λ lane. StartsAs lane.program lane.held.part) }
     {
-        let queue = TokenQueue::new(alloc.clone()?);
+        let contents = Contents::new(alloc, element, elements, bank, cells, manager, outputs)?;
         Ok(Lane {
-            element,
-            elements,
-            bank,
-            cells,
-            manager,
-            queue,
-            outputs: no_outputs(outputs),
-            done: false,
-            made: 0,
-            answered: Vec::new(alloc),
+            code,
+            steps,
+            contents,
         })
+    }
+
+    /// The number of its element.
+    #[inline(always)]
+    pub fn element(&self) -> u32
+        ensures { result ≡ self.now.held.part.shape.element }
+    {
+        self.contents.element
+    }
+
+    /// How many events it has made.
+    #[inline(always)]
+    pub fn made(&self) -> u64
+        ensures { result ≡ self.now.held.made }
+    {
+        self.contents.made
+    }
+
+    /// Whether it has made all its events.
+    #[inline(always)]
+    pub fn is_spent(&self) -> bool
+        ensures yes { result ≡ true → IsSpent self.now }
+        ensures no { result ≡ false → self.now.held.made < self.now.steps }
+    {
+        self.contents.made == self.steps
+    }
+
+    /// Its tokens, oldest first.
+    #[inline(always)]
+    pub fn queue(&self) -> &TokenQueue<A>
+        ensures { result.now.items ≡ self.now.held.queue }
+    {
+        &self.contents.queue
+    }
+
+    /// Its cells.
+    pub fn cells(&self) -> &Cells<A>
+        ensures { result.now ≡ self.now.held.part.cells }
+    {
+        &self.contents.cells
+    }
+
+    /// The frame manager, on element 0.
+    pub fn manager(&self) -> &Option<Manager<A>>
+        ensures { result.now ≡ self.now.held.part.manager }
+    {
+        &self.contents.manager
+    }
+
+    /// What a slot holds of a frame that lies here.
+    pub fn slot_state(&self, frame: FrameId, slot: u32) -> SlotState
+        requires frame { frame < self.now.held.part.shape.elements * self.now.held.part.shape.frames }
+        requires slot { slot < self.now.held.part.shape.width }
+        ensures { result ≡ slice_index_or self.now.held.part.states (slot_place self.now.held.part.shape frame slot) Empty }
+    {
+        self.contents.slot_state(frame, slot)
+    }
+
+    /// The outputs.
+    pub fn into_outputs(self) -> ArrayVec<Option<Value>, 16>
+        ensures { result.items ≡ self.entry.held.part.outputs }
+    {
+        let Lane { contents, .. } = self;
+        let Contents { outputs, .. } = contents;
+        outputs
+    }
+
+    /// Puts tokens for this element last into the queue. After an error all stands as before.
+    pub fn receive_all(&mut self, tokens: &[Token]) -> Result<(), AllocError>
+        requires { All (IsFor (fixed_of self.old)) tokens.now }
+        ensures ok { OnOk result (self.new ≡ with_more self.old tokens.now) }
+        ensures err { OnErr result (self.new ≡ self.old) }
+    {
+        self.contents.receive(tokens)
     }
 
     /// Puts a token for this element last into the queue. After an error all stands as before.
     pub fn receive(&mut self, token: Token) -> Result<(), AllocError>
-        ensures ok { OnOk result (held_of self.new ≡ with_queue (held_of self.old) (self.old.queue.items ++ token ∷ [])) }
-        ensures err { OnErr result (held_of self.new ≡ held_of self.old) }
-        ensures sound { (p : Program) → IsSoundLane p (held_of self.old) → IsNearToken (bounds p (shape_of self.old)) token → element_of self.old.elements token.to ≡ self.old.element → IsSoundLane p (held_of self.new) }
+        requires { IsFor (fixed_of self.old) token }
+        ensures ok { OnOk result (self.new ≡ with_more self.old (token ∷ [])) }
+        ensures err { OnErr result (self.new ≡ self.old) }
     {
-        self.queue.reserve(1)?;
-        self.queue.push_back_reserved(token);
-        Ok(())
+        self.contents.receive_one(token)
     }
 
     /// The token that `pick` names, as `step` takes it.
     #[inline(always)]
     pub fn token(&self, pick: u64) -> Option<Token>
-        ensures some { IfSome result (Picks (held_of self.now) pick) }
-        ensures none { IfNone result (self.now.queue.items ≡ []) }
+        ensures some { IfSome result (Picks self.now.held pick) }
+        ensures none { IfNone result (self.now.held.queue ≡ []) }
     {
-        let waiting = self.queue.len();
-        if waiting == 0 {
+        self.contents.token(pick)
+    }
+
+    /// The element takes the token that `pick`, modulo the number of its tokens, names from the oldest on; `None` where it
+    /// has a token and has made all its events. The token is taken out and the others close up. New tokens go last: into the
+    /// queue, and those for other elements into `sent`; those to the outside come first, then those to the first destination
+    /// and to the second; a store answers its readers in the order in which they came, and whoever stored last. After
+    /// `Clash`, `Stuck` and `Memory` all stands as before.
+    #[inline(always)]
+    pub fn step(&mut self, pick: u64, sent: &mut Vec<Token, A>) -> Option<Stepped>
+    where
+        A: Clone,
+        ensures exact { IfSome result (λ stepped. Steps self.old.program self.old.held pick sent.old.items stepped self.new.held sent.new.items) }
+        ensures allowed { IfSome result (λ stepped. 0 < length self.old.held.queue → self.old.held.made < self.old.steps) }
+        ensures spent { IfNone result (IsSpent self.old × (0 < length self.old.held.queue) × Stays self.old.held sent.old.items self.new.held sent.new.items) }
+        ensures sound { IsSoundLane self.new.program self.new.held }
+        ensures most { self.new.held.made ≤ self.new.steps }
+        ensures fixed { fixed_of self.new ≡ fixed_of self.old }
+    {
+        if self.contents.queue.len() == 0 {
+            return Some(Stepped::Idle);
+        }
+        if self.contents.made == self.steps {
             return None;
         }
-        let at = among(pick, waiting);
-        Some(self.queue.get(at))
-    }
-
-    // What the token at `at` of the queue does.
-    #[inline(always)]
-    fn act<C: Instructions>(
-        &mut self,
-        code: &C,
-        at: usize,
-        token: &Token,
-        sent: &mut Vec<Token, A>,
-    ) -> Stepped
-    where
-        A: Clone,
-        requires { CanAct (C.program code.now) (C.width code.now) (held_of self.old) at token.now }
-        ensures { ActsAs (C.program code.now) (held_of self.old) at token.now sent.old.items result (held_of self.new) sent.new.items }
-    {
-        match token.to {
-            To::Instr { frame, ip, port } => {
-                self.at_instruction(code, at, token, Seat { frame, ip }, port, sent)
-            }
-            _ => self.act_anywhere(code, at, token, sent),
-        }
-    }
-
-    // The same, apart from the short way to an instruction.
-    #[inline(never)]
-    fn act_anywhere<C: Instructions>(
-        &mut self,
-        code: &C,
-        at: usize,
-        token: &Token,
-        sent: &mut Vec<Token, A>,
-    ) -> Stepped
-    where
-        A: Clone,
-        requires { CanAct (C.program code.now) (C.width code.now) (held_of self.old) at token.now }
-        ensures { ActsAs (C.program code.now) (held_of self.old) at token.now sent.old.items result (held_of self.new) sent.new.items }
-    {
-        let to = token.to;
-        match to {
-            To::Instr { frame, ip, port } => {
-                self.read_again(code, at, token, Seat { frame, ip }, port, sent)
-            }
-            To::Fetch { cell } => self.at_fetch(at, *token, cell, sent),
-            To::Store { cell, value } => self.at_store(at, *token, cell, &value, sent),
-            To::Manager => self.at_manager(at, *token, sent),
-            To::Release { frame } => self.at_release(at, *token, frame, sent),
-            To::Host { port } => self.at_host(at, *token, port),
-        }
-    }
-
-    /// The element takes the token that `pick`, modulo the number of its tokens, names from the oldest on. The token is
-    /// taken out and the others close up. New tokens go last: into the queue, and those for other elements into `sent`;
-    /// those to the outside come first, then those to the first destination and to the second; a store answers its
-    /// readers in the order in which they came, and whoever stored last. After `Clash`, `Stuck` and `Memory` all stands
-    /// as before.
-    #[inline(always)]
-    pub fn step<C: Instructions>(
-        &mut self,
-        pick: u64,
-        code: &C,
-        sent: &mut Vec<Token, A>,
-    ) -> Stepped
-    where
-        A: Clone,
-        requires sound { IsSoundLane (C.program code.now) (held_of self.old) }
-        requires width { C.width code.now ≤ self.old.bank.width }
-        requires few { self.old.made < 2 ^ 63 }
-        ensures exact { Steps (C.program code.now) (held_of self.old) pick sent.old.items result (held_of self.new) sent.new.items }
-        ensures sound { IsSoundLane (C.program code.now) (held_of self.new) }
-        ensures shape { shape_of self.new ≡ shape_of self.old }
-        ensures made { self.new.made ≤ self.old.made + 1 }
-    {
-        let waiting = self.queue.len();
-        if waiting == 0 {
-            return Stepped::Idle;
-        }
-        let at = among(pick, waiting);
-        let token = self.queue.get(at);
-        self.act(code, at, &token, sent)
+        Some(self.contents.step(pick, self.code, sent))
     }
 }

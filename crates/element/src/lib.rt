@@ -1,6 +1,7 @@
 //! One element of the explicit token store machine: what it holds, and a step of it.
 #![tactic(auto)]
 
+mod contents;
 pub mod dealt;
 pub mod firing;
 pub mod instructions;

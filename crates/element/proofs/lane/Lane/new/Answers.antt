@@ -1,5 +1,33 @@
-use Rattle.element.proofs.Opening.{lane_opens}
+use Rattle.std.proofs.Common.{◌≡◌, sym, ap, subst, arith}
+use Rattle.element.specs.Held.{Held, held_in}
+use Rattle.element.specs.Parts.{Part}
+use Rattle.element.specs.Openings.{IsOpening}
 use Rattle.element.proofs.lane.Lane.new.Goals as goal
 
+pub invariant_of-result : goal.invariant_of-result
+invariant_of-result g c =
+    let p = g.C.Instructions.program c.args.code.now in
+    let held : Held = held_in c.in_ok-contents.contents in
+    let e = c.in_ok-contents.ensures.exact in
+    let opens = c.in_ok-contents.ensures.starts p (subst (λ (h : Part). IsOpening p h) (sym (ap (λ (h : Held). h.part) e)) c.requires.opening) in
+    let none : held.made ≡ 0 = ap (λ (h : Held). h.made) e in
+    let width : held.part.shape.width ≡ c.args.bank.width = ap (λ (h : Held). h.part.shape.width) e in
+    let slots = c.requires.width in
+    record {
+      sound = opens.0;
+      width = omega arith;
+      made = omega arith;
+      few = c.requires.few;
+    }
+
+pub returns-clause-sound : goal.returns-clause-sound
+returns-clause-sound g c =
+    let p = g.C.Instructions.program c.args.code.now in
+    let e = c.in_ok-contents.ensures.exact in
+    (c.in_ok-contents.ensures.starts p (subst (λ (h : Part). IsOpening p h) (sym (ap (λ (h : Held). h.part) e)) c.requires.opening)).0
+
 pub returns-clause-starts : goal.returns-clause-starts
-returns-clause-starts g c = λ p o. lane_opens p _ c.new-queue.ensures.items c.new.ensures.items o
+returns-clause-starts g c =
+    let p = g.C.Instructions.program c.args.code.now in
+    let e = c.in_ok-contents.ensures.exact in
+    (c.in_ok-contents.ensures.starts p (subst (λ (h : Part). IsOpening p h) (sym (ap (λ (h : Held). h.part) e)) c.requires.opening)).1

@@ -1,0 +1,222 @@
+//! What an element holds, and what it does with a token. In the midst of an event it is not sound.
+
+ghost use Rattle.std.specs.Prelude.{◌≡◌, ◌+◌, ◌%◌, ◌<◌, ◌≤◌, ◌^◌, [], ◌∷◌, ◌++◌, OnOk, OnErr, IfOk, IfSome, IfNone, None, replicate};
+ghost use Rattle.element.specs.Held.{held_in, part_of, shape_of, with_queue, IsSoundLane};
+ghost use Rattle.frame_store.specs.BankViews.{bank_states};
+ghost use Rattle.semantics.specs.Program.{Program};
+ghost use Rattle.element.specs.Acts.{CanAct, ActsAs};
+ghost use Rattle.element.specs.Steps.{Steps, Picks};
+ghost use Rattle.element.specs.Openings.{opened, shape_at, IsOpening, StartsAs};
+
+use crate::firing::Seat;
+use crate::instructions::Instructions;
+use crate::lane::Stepped;
+use arrayvec::ArrayVec;
+use frame_manager::Manager;
+use frame_store::bank::BankMut;
+use istructure::Cells;
+use std::alloc::{AllocError, Allocator};
+use tags::token::{Cont, To, Token};
+use tags::value::Value;
+use token_queue::queue::TokenQueue;
+
+mod executing;
+mod host;
+mod memory;
+mod requests;
+mod sending;
+mod slots;
+
+/// What an element holds: the slots of its frames, its cells, its tokens, and on element 0 the frame manager, the outputs
+/// and the done mark.
+#[derive(Drop)]
+pub struct Contents<'m, A: Allocator> {
+    pub element: u32,
+    pub elements: u32,
+    pub bank: BankMut<'m>,
+    pub cells: Cells<A>,
+    pub manager: Option<Manager<A>>,
+    /// The tokens, oldest first.
+    pub queue: TokenQueue<A>,
+    pub outputs: ArrayVec<Option<Value>, 16>,
+    pub done: bool,
+    /// How many events it has made.
+    pub made: u64,
+    /// The readers that a store answers; empty between the events.
+    pub answered: Vec<Cont, A>,
+}
+
+// The index that a pick selects among `count`.
+#[tactic(auto, using(crate::proofs::Quotients::below))]
+#[inline(always)]
+fn among(pick: u64, count: usize) -> usize
+    requires { 0 < count }
+    ensures exact { result ≡ pick % count }
+    ensures within { result < count }
+{
+    let count = count as u64;
+    if pick < count {
+        return pick as usize;
+    }
+    (pick % count) as usize
+}
+
+// `count` outputs that are not filled.
+fn no_outputs(count: u32) -> ArrayVec<Option<Value>, 16>
+    requires { count ≤ 16 }
+    ensures { result.items ≡ replicate count None }
+{
+    let mut outputs = ArrayVec::from([None; 16]);
+    outputs.truncate(count as usize);
+    outputs
+}
+
+impl<'m, A: Allocator> Contents<'m, A> {
+    /// A lane with no tokens, over the slots and the cells of its element, and on element 0 with the frame manager and as
+    /// many outputs as main has.
+    pub fn new(
+        alloc: A,
+        element: u32,
+        elements: u32,
+        bank: BankMut<'m>,
+        cells: Cells<A>,
+        manager: Option<Manager<A>>,
+        outputs: u32,
+    ) -> Result<Contents<'m, A>, AllocError>
+    where
+        A: Clone,
+        requires { outputs ≤ 16 }
+        ensures exact { IfOk result (λ lane. held_in lane ≡ opened (shape_at element elements bank.entry) (bank_states bank.entry) cells manager outputs) }
+        ensures starts { IfOk result (λ lane. (p : Program) → IsOpening p (part_of lane) → IsSoundLane p (held_in lane) × StartsAs p (part_of lane)) }
+    {
+        let queue = TokenQueue::new(alloc.clone()?);
+        Ok(Contents {
+            element,
+            elements,
+            bank,
+            cells,
+            manager,
+            queue,
+            outputs: no_outputs(outputs),
+            done: false,
+            made: 0,
+            answered: Vec::new(alloc),
+        })
+    }
+
+    /// Puts tokens for this element last into the queue. After an error all stands as before.
+    pub fn receive(&mut self, tokens: &[Token]) -> Result<(), AllocError>
+        ensures ok { OnOk result (held_in self.new ≡ with_queue (held_in self.old) (self.old.queue.items ++ tokens.now)) }
+        ensures err { OnErr result (held_in self.new ≡ held_in self.old) }
+    {
+        self.queue.reserve(tokens.len())?;
+        for token in tokens {
+            self.queue.push_back_reserved(*token);
+        }
+        Ok(())
+    }
+
+    /// Puts a token for this element last into the queue. After an error all stands as before.
+    pub fn receive_one(&mut self, token: Token) -> Result<(), AllocError>
+        ensures ok { OnOk result (held_in self.new ≡ with_queue (held_in self.old) (self.old.queue.items ++ token ∷ [])) }
+        ensures err { OnErr result (held_in self.new ≡ held_in self.old) }
+    {
+        self.queue.reserve(1)?;
+        self.queue.push_back_reserved(token);
+        Ok(())
+    }
+
+    /// The token that `pick` names, as `step` takes it.
+    #[inline(always)]
+    pub fn token(&self, pick: u64) -> Option<Token>
+        ensures some { IfSome result (Picks (held_in self.now) pick) }
+        ensures none { IfNone result (self.now.queue.items ≡ []) }
+    {
+        let waiting = self.queue.len();
+        if waiting == 0 {
+            return None;
+        }
+        let at = among(pick, waiting);
+        Some(self.queue.get(at))
+    }
+
+    // What the token at `at` of the queue does.
+    #[inline(always)]
+    fn act<C: Instructions>(
+        &mut self,
+        code: &C,
+        at: usize,
+        token: &Token,
+        sent: &mut Vec<Token, A>,
+    ) -> Stepped
+    where
+        A: Clone,
+        requires { CanAct (C.program code.now) (C.width code.now) (held_in self.old) at token.now }
+        ensures { ActsAs (C.program code.now) (held_in self.old) at token.now sent.old.items result (held_in self.new) sent.new.items }
+    {
+        match token.to {
+            To::Instr { frame, ip, port } => {
+                self.at_instruction(code, at, token, Seat { frame, ip }, port, sent)
+            }
+            _ => self.act_anywhere(code, at, token, sent),
+        }
+    }
+
+    // The same, apart from the short way to an instruction.
+    #[inline(never)]
+    fn act_anywhere<C: Instructions>(
+        &mut self,
+        code: &C,
+        at: usize,
+        token: &Token,
+        sent: &mut Vec<Token, A>,
+    ) -> Stepped
+    where
+        A: Clone,
+        requires { CanAct (C.program code.now) (C.width code.now) (held_in self.old) at token.now }
+        ensures { ActsAs (C.program code.now) (held_in self.old) at token.now sent.old.items result (held_in self.new) sent.new.items }
+    {
+        let to = token.to;
+        match to {
+            To::Instr { frame, ip, port } => {
+                self.read_again(code, at, token, Seat { frame, ip }, port, sent)
+            }
+            To::Fetch { cell } => self.at_fetch(at, *token, cell, sent),
+            To::Store { cell, value } => self.at_store(at, *token, cell, &value, sent),
+            To::Manager => self.at_manager(at, *token, sent),
+            To::Release { frame } => self.at_release(at, *token, frame, sent),
+            To::Host { port } => self.at_host(at, *token, port),
+        }
+    }
+
+    /// The element takes the token that `pick`, modulo the number of its tokens, names from the oldest on. The token is
+    /// taken out and the others close up. New tokens go last: into the queue, and those for other elements into `sent`;
+    /// those to the outside come first, then those to the first destination and to the second; a store answers its
+    /// readers in the order in which they came, and whoever stored last. After `Clash`, `Stuck` and `Memory` all stands
+    /// as before.
+    #[inline(always)]
+    pub fn step<C: Instructions>(
+        &mut self,
+        pick: u64,
+        code: &C,
+        sent: &mut Vec<Token, A>,
+    ) -> Stepped
+    where
+        A: Clone,
+        requires sound { IsSoundLane (C.program code.now) (held_in self.old) }
+        requires width { C.width code.now ≤ self.old.bank.width }
+        requires few { self.old.made < 2 ^ 63 }
+        ensures exact { Steps (C.program code.now) (held_in self.old) pick sent.old.items result (held_in self.new) sent.new.items }
+        ensures sound { IsSoundLane (C.program code.now) (held_in self.new) }
+        ensures shape { shape_of self.new ≡ shape_of self.old }
+        ensures made { self.new.made ≤ self.old.made + 1 }
+    {
+        let waiting = self.queue.len();
+        if waiting == 0 {
+            return Stepped::Idle;
+        }
+        let at = among(pick, waiting);
+        let token = self.queue.get(at);
+        self.act(code, at, &token, sent)
+    }
+}

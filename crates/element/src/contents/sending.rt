@@ -1,0 +1,169 @@
+//! Tokens are taken out of the queue, and sent: into the queue, or to other elements.
+
+ghost use Rattle.std.specs.Prelude.{◌≡◌, ◌+◌, ◌<◌, ◌≤◌, ◌^◌, ◌%◌, [], ◌∷◌, ◌++◌, ◌==◌, length, OnOk, vec_len};
+ghost use Rattle.std.specs.Vec.{vec_capacity};
+ghost use Rattle.element.specs.Held.{held_in, shape_of, elsewhere, queued, taken};
+ghost use Rattle.tags.specs.Addresses.{element_of};
+ghost use Rattle.element.specs.Fired.{seat_of, tokens_of, outside_of, to_half};
+
+use super::Contents;
+use crate::dealt::element_for;
+use crate::firing::{Made, SIGNAL, Seat};
+use crate::instructions::dest_in;
+use std::alloc::{AllocError, Allocator};
+use tags::token::{To, Token, Word};
+
+impl<'m, A: Allocator> Contents<'m, A> {
+    // Makes room for `tokens` more tokens. After an error all stands as before.
+    #[inline(always)]
+    pub(super) fn make_room(
+        &mut self,
+        tokens: usize,
+        sent: &mut Vec<Token, A>,
+    ) -> Result<(), AllocError>
+        ensures held { held_in self.new ≡ held_in self.old }
+        ensures sent { sent.new.items ≡ sent.old.items }
+        ensures room { OnOk result (length self.new.queue.items + tokens ≤ self.new.queue.room) }
+        ensures sent_room { OnOk result (vec_len sent.new + tokens ≤ vec_capacity sent.new) }
+    {
+        self.queue.reserve(tokens)?;
+        sent.reserve(tokens)
+    }
+
+    // Makes room for `tokens` more tokens of this element. After an error all stands as before.
+    #[inline(always)]
+    pub(super) fn make_own_room(&mut self, tokens: usize) -> Result<(), AllocError>
+        ensures held { held_in self.new ≡ held_in self.old }
+        ensures room { OnOk result (length self.new.queue.items + tokens ≤ self.new.queue.room) }
+    {
+        self.queue.reserve(tokens)
+    }
+
+    // Takes the token at `at` out of the queue.
+    #[inline(always)]
+    pub(super) fn take(&mut self, at: usize)
+        requires there { at < length self.old.queue.items }
+        requires few { self.old.made < 2 ^ 63 }
+        ensures held { held_in self.new ≡ taken (held_in self.old) at }
+        ensures len { length self.new.queue.items ≤ length self.old.queue.items }
+        ensures capacity { self.new.queue.room ≡ self.old.queue.room }
+    {
+        if at == 0 {
+            self.queue.pop_front();
+        } else {
+            self.queue.remove(at);
+        }
+        self.made += 1;
+    }
+
+    // Whether this element takes tokens with this address.
+    #[inline(always)]
+    fn serves(&self, to: &To) -> bool
+        requires some { 0 < self.now.elements }
+        ensures { result ≡ (element_of self.now.elements to.now == self.now.element) }
+    {
+        element_for(to, self.elements) == self.element
+    }
+
+    // Puts a token last into the queue, or last among those for other elements.
+    #[inline(always)]
+    pub(super) fn send(&mut self, token: Token, sent: &mut Vec<Token, A>)
+        requires some { 0 < self.old.elements }
+        requires room { length self.old.queue.items < self.old.queue.room }
+        requires sent_room { vec_len sent.old < vec_capacity sent.old }
+        ensures held { held_in self.new ≡ queued (held_in self.old) (token ∷ []) }
+        ensures sent { sent.new.items ≡ sent.old.items ++ elsewhere (shape_of self.old) (token ∷ []) }
+        ensures len { length self.new.queue.items ≤ length self.old.queue.items + 1 }
+        ensures capacity { self.new.queue.room ≡ self.old.queue.room }
+        ensures sent_len { vec_len sent.new ≤ vec_len sent.old + 1 }
+        ensures sent_capacity { vec_capacity sent.new ≡ vec_capacity sent.old }
+    {
+        if self.serves(&token.to) {
+            self.queue.push_back_reserved(token);
+        } else {
+            sent.push_reserved(token);
+        }
+    }
+
+    // Sends a word to the destination that a half word tells, if it tells one.
+    #[inline(always)]
+    pub(super) fn send_to(&mut self, seat: Seat, word: &Word, half: u32, sent: &mut Vec<Token, A>)
+        requires some { 0 < self.old.elements }
+        requires near { seat.ip < 2 ^ 30 }
+        requires room { length self.old.queue.items < self.old.queue.room }
+        requires sent_room { vec_len sent.old < vec_capacity sent.old }
+        ensures held { held_in self.new ≡ queued (held_in self.old) (to_half (seat_of seat) word.now half) }
+        ensures sent { sent.new.items ≡ sent.old.items ++ elsewhere (shape_of self.old) (to_half (seat_of seat) word.now half) }
+        ensures len { length self.new.queue.items ≤ length self.old.queue.items + 1 }
+        ensures capacity { self.new.queue.room ≡ self.old.queue.room }
+        ensures sent_len { vec_len sent.new ≤ vec_len sent.old + 1 }
+        ensures sent_capacity { vec_capacity sent.new ≡ vec_capacity sent.old }
+    {
+        if let Some(dest) = dest_in(half) {
+            let to = To::Instr {
+                frame: seat.frame,
+                ip: seat.ip + dest.ahead,
+                port: dest.port,
+            };
+            self.send(Token { to, word: *word }, sent);
+        }
+    }
+
+    // The same, where the frame lies on this element: so does the destination, and no token goes elsewhere.
+    #[inline(always)]
+    pub(super) fn send_near(&mut self, seat: Seat, word: &Word, half: u32)
+        requires near { seat.ip < 2 ^ 30 }
+        requires own { seat.frame % self.old.elements ≡ self.old.element }
+        requires room { length self.old.queue.items < self.old.queue.room }
+        ensures held { held_in self.new ≡ queued (held_in self.old) (to_half (seat_of seat) word.now half) }
+        ensures none { elsewhere (shape_of self.old) (to_half (seat_of seat) word.now half) ≡ [] }
+        ensures len { length self.new.queue.items ≤ length self.old.queue.items + 1 }
+        ensures capacity { self.new.queue.room ≡ self.old.queue.room }
+    {
+        if let Some(dest) = dest_in(half) {
+            let to = To::Instr {
+                frame: seat.frame,
+                ip: seat.ip + dest.ahead,
+                port: dest.port,
+            };
+            self.queue.push_back_reserved(Token { to, word: *word });
+        }
+    }
+
+    // Sends what leaves the frame, in order.
+    #[inline(always)]
+    pub(super) fn send_outside(&mut self, made: &Made, sent: &mut Vec<Token, A>)
+        requires some { 0 < self.old.elements }
+        requires room { length self.old.queue.items + 2 ≤ self.old.queue.room }
+        requires sent_room { vec_len sent.old + 2 ≤ vec_capacity sent.old }
+        ensures held { held_in self.new ≡ queued (held_in self.old) (outside_of made.now) }
+        ensures sent { sent.new.items ≡ sent.old.items ++ elsewhere (shape_of self.old) (outside_of made.now) }
+        ensures len { length self.new.queue.items ≤ length self.old.queue.items + 2 }
+        ensures capacity { self.new.queue.room ≡ self.old.queue.room }
+        ensures sent_len { vec_len sent.new ≤ vec_len sent.old + 2 }
+        ensures sent_capacity { vec_capacity sent.new ≡ vec_capacity sent.old }
+    {
+        if let Some(frame) = made.released {
+            let to = To::Release { frame };
+            self.send(Token { to, word: SIGNAL }, sent);
+        }
+        if let Some(token) = made.outside {
+            self.send(token, sent);
+        }
+    }
+
+    // Sends what an instruction made, in order.
+    #[inline(always)]
+    pub(super) fn send_all(&mut self, seat: Seat, made: &Made, sent: &mut Vec<Token, A>)
+        requires some { 0 < self.old.elements }
+        requires near { seat.ip < 2 ^ 30 }
+        requires room { length self.old.queue.items + 4 ≤ self.old.queue.room }
+        requires sent_room { vec_len sent.old + 4 ≤ vec_capacity sent.old }
+        ensures held { held_in self.new ≡ queued (held_in self.old) (tokens_of (seat_of seat) made.now) }
+        ensures sent { sent.new.items ≡ sent.old.items ++ elsewhere (shape_of self.old) (tokens_of (seat_of seat) made.now) }
+    {
+        self.send_outside(made, sent);
+        self.send_to(seat, &made.word, made.first, sent);
+        self.send_to(seat, &made.word, made.second, sent);
+    }
+}
