@@ -3,6 +3,7 @@ pub mod Tokens
 pub mod Openings
 pub mod Bounding
 pub mod Stepping
+pub mod Staying
 pub mod Memory
 pub mod Starting
 pub mod Playing

@@ -16,15 +16,19 @@ use Rattle.element.specs.Held.{Held, IsSoundLane}
 use Rattle.element.specs.Openings.{opened, IsOpening, StartsAs}
 use Rattle.schedule.specs.Starts.{IsFresh, sized}
 
-pub both_ok : {X Y : Type 0} (r : Result X Y) (P Q R : X → Type 0) → ((x : X) → P x → Q x → R x) → IfOk r P → IfOk r Q → IfOk r R
-both_ok (Result.Ok x) P Q R f p q = f x p q
-both_ok (Result.Err e) P Q R f p q = tt
+pub ok_then : {X Y : Type 0} (r : Result X Y) (P R : X → Type 0) → ((x : X) → P x → R x) → IfOk r P → IfOk r R
+ok_then (Result.Ok x) P R f p = f x p
+ok_then (Result.Err e) P R f p = tt
+
+pub three_ok : {X Y : Type 0} (r : Result X Y) (P Q S R : X → Type 0) → ((x : X) → P x → Q x → S x → R x) → IfOk r P → IfOk r Q → IfOk r S → IfOk r R
+three_ok (Result.Ok x) P Q S R f p q s = f x p q s
+three_ok (Result.Err e) P Q S R f p q s = tt
 
 module _ (p : Program) (z : Shape) (states : List SlotState) (cells : OwnCells) (manager : Option Managed) (outputs : ℕ) (h : Held) (is : h ≡ opened z states cells manager outputs) where
   shape_is : h.part.shape ≡ z
   shape_is = ap (λ (x : Held). x.part.shape) is
 
-  opening : z.element < z.elements → 0 < z.frames → z.start + z.frames * z.width ≤ length states → All (λ (s : SlotState). s ≡ Empty) states
+  pub opening : z.element < z.elements → 0 < z.frames → z.start + z.frames * z.width ≤ length states → All (λ (s : SlotState). s ≡ Empty) states
       → cells ≡ all_vacant (sum p.arrays) z.element z.elements → (z.element ≡ 0 → manager ≡ Some (at_first (z.elements * z.frames))) → outputs ≡ outputs_of p → IsOpening p h.part
   opening there frames bank empty cells_are manager_is outputs_are =
       let some : 1 ≤ z.elements * z.frames = one-le-mul {a = z.elements} {b = z.frames} (omega arith) (omega arith) in
@@ -40,21 +44,17 @@ module _ (p : Program) (z : Shape) (states : List SlotState) (cells : OwnCells) 
         done = refl;
       })
 
-  pub fresh : ((q : Program) → IsOpening q h.part → IsSoundLane q h × StartsAs q h.part) → z.element < z.elements → 0 < z.frames → z.start + z.frames * z.width ≤ length states → All (λ (s : SlotState). s ≡ Empty) states
-      → cells ≡ all_vacant (sum p.arrays) z.element z.elements → (z.element ≡ 0 → manager ≡ Some (at_first (z.elements * z.frames))) → outputs ≡ outputs_of p
-      → IsFresh (sized p z.elements z.frames z.width 0) z.element h
-  fresh opens there frames bank empty cells_are manager_is outputs_are =
-      let both = opens p (opening there frames bank empty cells_are manager_is outputs_are) in
-      record {
-        element = ap (λ (x : Shape). x.element) shape_is;
-        elements = ap (λ (x : Shape). x.elements) shape_is;
-        frames = ap (λ (x : Shape). x.frames) shape_is;
-        width = ap (λ (x : Shape). x.width) shape_is;
-        sound = both.0;
-        starts = both.1;
-        queue = ap (λ (x : Held). x.queue) is;
-        made = ap (λ (x : Held). x.made) is;
-      }
+  pub fresh : IsSoundLane p h → StartsAs p h.part → IsFresh (sized p z.elements z.frames z.width 0) z.element h
+  fresh sound starts = record {
+    element = ap (λ (x : Shape). x.element) shape_is;
+    elements = ap (λ (x : Shape). x.elements) shape_is;
+    frames = ap (λ (x : Shape). x.frames) shape_is;
+    width = ap (λ (x : Shape). x.width) shape_is;
+    sound = sound;
+    starts = starts;
+    queue = ap (λ (x : Held). x.queue) is;
+    made = ap (λ (x : Held). x.made) is;
+  }
 
 -- SO MANY BANKS
 pub at_least : (k s : ℕ) → 0 < k → s ≤ k * s

@@ -159,10 +159,10 @@ pub shows_reported : {C A : Type 0} (program : C → Program) (width : C → ℕ
     → (inputs : List ℤ) (listed : Bool) (evs : Events) → Began inputs (state_of program width m) evs → HaltsAs (state_of program width m) listed halt
     → (shown : Events) × Shows (state_of program width m).setting.program (size (state_of program width m).setting) inputs (state_of program width m).setting.steps listed false (with_events r shown) × (list ≡ evs → r.events ≡ shown)
 shows_reported {C} {A} program width m list halt r well reported inputs listed evs began halts =
-    shows_lanes (state_of program width m).setting (map (held_of {A = A}) m.lanes.items) (drop m.come m.sent.items) list halt r well.sound reported inputs listed evs began halts
+    shows_lanes (state_of program width m).setting (map held_of m.lanes.items) (drop m.come m.sent.items) list halt r well.sound reported inputs listed evs began halts
 
 unlisted : {C A : Type 0} (program : C → Program) (width : C → ℕ) (m : Elements C A) (list : Events) (halt : Halt) (r : Report) → Reports program width m list halt r → list ≡ [] → r.events ≡ []
-unlisted {C} {A} program width m list halt r reported none = unlisted_lanes (state_of program width m).setting (map (held_of {A = A}) m.lanes.items) list halt r reported none
+unlisted {C} {A} program width m list halt r reported none = unlisted_lanes (state_of program width m).setting (map held_of m.lanes.items) list halt r reported none
 
 -- with no events listed there is a run that it shows
 pub shows_quietly : {C A : Type 0} (program : C → Program) (width : C → ℕ) (m : Elements C A) (list : Events) (halt : Halt) (r : Report) → IsWell program width m → Reports program width m list halt r → list ≡ []

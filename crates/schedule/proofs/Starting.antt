@@ -3,7 +3,7 @@ use Rattle.std.proofs.Common.{◌≡◌, refl, sym, ◌∙◌, ap, subst, ℕ, s
 use Rattle.std.specs.Prelude.{All, IsPermutation}
 use Rattle.std.proofs.Math.Nat.{one-le-mul}
 use Rattle.std.proofs.lemmas.List.{length-take-le, take_more}
-use Rattle.std.proofs.lemmas.List.Elements.{All-nil, All-cons}
+use Rattle.std.proofs.lemmas.List.Elements.{All-nil, All-cons, All-weaker}
 use Rattle.std.proofs.lemmas.List.Sorted.{IsPermutation-refl, IsPermutation-sym}
 use Rattle.tags.specs.declared.value.Value.TheVariants.{Int}
 use Rattle.tags.specs.declared.token.Port.TheVariants.{Left}
@@ -14,12 +14,11 @@ use Rattle.tags.specs.declared.token.Token.{Token}
 use Rattle.semantics.specs.Program.{Program, first_of}
 use Rattle.semantics.specs.Rule.{token}
 use Rattle.semantics.specs.Machine.{input_tokens, at_start}
-use Rattle.element.specs.Near.{IsNearToken}
+use Rattle.element.specs.Near.{Bounds, IsNearToken}
 use Rattle.element.specs.Parts.{IsPart}
-use Rattle.element.specs.Held.{Held, held_of, queued}
-use Rattle.element.specs.declared.lane.Lane.{Lane}
+use Rattle.element.specs.Held.{Held, LaneView, Fixed, held_of, bounds_at, queued}
 use Rattle.schedule.specs.Setting.{Setting, total, FitsSlots, IsGoodSetting}
-use Rattle.schedule.specs.State.{State, AllFrom, IsAt, IsPlaced, IsSoundState, Stands, delivered, tokens_in, lanes_of}
+use Rattle.schedule.specs.State.{State, AllFrom, IsAt, IsPlaced, IsSoundState, RunsAs, Stands, delivered, tokens_in, lanes_of}
 use Rattle.schedule.specs.Runs.{Began}
 use Rattle.frame_store.specs.Slots.{Slots, all_empty}
 use Rattle.schedule.specs.declared.config.Config.{Config}
@@ -27,6 +26,7 @@ use Rattle.schedule.specs.Starts.{IsFresh, IsGood, sized, setting_of, start_toke
 use Rattle.schedule.proofs.Memory.{none_coming}
 use Rattle.schedule.proofs.Places.{from_map, from_weaker}
 use Rattle.schedule.proofs.Tokens.{tokens_delivered}
+use Rattle.schedule.proofs.Staying.{bounds_as}
 use Rattle.schedule.proofs.Stepping.{bounds_in, delivered_sound}
 
 inputs_push : (ip : ℕ) (xs : List ℤ) (x : ℤ) → input_tokens ip (xs ++ x ∷ []) ≡ input_tokens ip xs ++ token (To.Instr 0 (ip + length xs) Left) (Word.Val (Int x)) ∷ []
@@ -112,6 +112,18 @@ pub fresh_over : (p : Program) (v : Slots) (elements frames slots width : ℕ) (
 fresh_over p v elements frames slots width lanes e w all =
     subst (λ (n : ℕ). AllFrom (IsFresh (sized p elements frames n 0)) 0 lanes) w (subst (λ (x : Slots). AllFrom (IsFresh (sized p x.elements x.frames x.width 0)) 0 lanes) e all)
 
+pub runs_over : (p : Program) (v : Slots) (elements frames slots width steps : ℕ) (fs : List Fixed) → v ≡ all_empty elements frames slots → slots ≡ width
+    → All (RunsAs (sized p v.elements v.frames v.width steps)) fs → All (RunsAs (sized p elements frames width steps)) fs
+runs_over p v elements frames slots width steps fs e w all =
+    subst (λ (n : ℕ). All (RunsAs (sized p elements frames n steps)) fs) w (subst (λ (x : Slots). All (RunsAs (sized p x.elements x.frames x.width steps)) fs) e all)
+
+-- they run in the machine of these numbers, and there is a frame
+pub runs_good : (p : Program) (width : ℕ) (c : Config) (fs : List Fixed) → All (RunsAs (sized p c.elements c.frames width c.steps)) fs → All (RunsAs (setting_of p width c)) fs
+runs_good p width c fs all = All-weaker (RunsAs (sized p c.elements c.frames width c.steps)) (RunsAs (setting_of p width c)) (λ (f : Fixed) r. record { program = r.program; steps = r.steps; elements = r.elements; frames = r.frames }) fs all
+
+pub runs_some : (g : Setting) (fs : List Fixed) → 0 < total g → All (RunsAs g) fs → All (λ (f : Fixed). 0 < (bounds_at f).frames) fs
+runs_some g fs some all = All-weaker (RunsAs g) (λ (f : Fixed). 0 < (bounds_at f).frames) (λ (f : Fixed) r. subst (λ (b : Bounds). 0 < b.frames) (sym (bounds_as g f r)) some) fs all
+
 pub good_setting : (p : Program) (width slots : ℕ) (c : Config) → IsGood c → 0 < c.frames → slots ≡ width → 0 < slots → slots ≤ 512 → FitsSlots p width → IsGoodSetting (setting_of p width c)
 good_setting p width slots c good some_frame is some few fits = record {
   some = good.elements;
@@ -127,7 +139,7 @@ good_setting p width slots c good some_frame is some few fits = record {
 }
 
 -- the lanes with what is on its way, before the first event
-pub lanes_are : {A : Type 0} (p : Program) (items : List (Lane A)) (sent : List Token) (start : ℕ) (inputs : List ℤ) (lanes : List Held) → sent ≡ [] → start ≡ first_of p p.main
-    → map (held_of {A = A}) items ≡ delivered (start_tokens start inputs) lanes → delivered (start_tokens (first_of p p.main) inputs) lanes ≡ lanes_of items (drop 0 sent)
+pub lanes_are : (p : Program) (items : List LaneView) (sent : List Token) (start : ℕ) (inputs : List ℤ) (lanes : List Held) → sent ≡ [] → start ≡ first_of p p.main
+    → map held_of items ≡ delivered (start_tokens start inputs) lanes → delivered (start_tokens (first_of p p.main) inputs) lanes ≡ lanes_of items (drop 0 sent)
 lanes_are p items sent start inputs lanes none is got =
     sym (none_coming items sent 0 none refl ∙ got ∙ ap (λ (n : ℕ). delivered (start_tokens n inputs) lanes) is)

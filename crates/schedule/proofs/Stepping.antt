@@ -182,7 +182,7 @@ module _ (old : State) (e pick : ℕ) (lane next : Held) (sent : List Token) (so
   }
 
 -- THE ANSWERS OF A STEP
-unchanged : (old : State) (e : ℕ) (lane next : Held) (sent : List Token) → slice_get old.lanes e ≡ Some lane → next ≡ lane → sent ≡ [] → (let s : State = record { setting = old.setting; lanes = delivered sent (slice_set old.lanes e next) } in s) ≡ old
+pub unchanged : (old : State) (e : ℕ) (lane next : Held) (sent : List Token) → slice_get old.lanes e ≡ Some lane → next ≡ lane → sent ≡ [] → (let s : State = record { setting = old.setting; lanes = delivered sent (slice_set old.lanes e next) } in s) ≡ old
 unchanged old e lane next sent there same none =
     let lanes : delivered sent (slice_set old.lanes e next) ≡ old.lanes = ap (λ (ts : List Token). delivered ts (slice_set old.lanes e next)) none ∙ delivered_none (slice_set old.lanes e next) ∙ ap (λ (h : Held). slice_set old.lanes e h) same ∙ set_same old.lanes e lane there in
     ap (λ (l : List Held). let s : State = record { setting = old.setting; lanes = l } in s) lanes
@@ -191,22 +191,21 @@ one_token : (lane : Held) (pick : ℕ) (t u : Token) → one.Picks lane pick t �
 one_token lane pick t u p q = let a = p.token in let b = q.token in cc
 
 pub answered : (old : State) (e pick : ℕ) (lane next : Held) (t : Token) (sent : List Token) (result : Stepped) → IsSoundState old → slice_get old.lanes e ≡ Some lane → 0 < length lane.queue → lane.made < old.setting.steps
-    → one.Picks lane pick t → one.Steps old.setting.program lane pick [] result next sent → IsSoundLane old.setting.program next → next.made ≤ lane.made + 1
+    → one.Picks lane pick t → one.Steps old.setting.program lane pick [] result next sent → IsSoundLane old.setting.program next → next.made ≤ old.setting.steps
     → (let s : State = record { setting = old.setting; lanes = delivered sent (slice_set old.lanes e next) } in IsSoundState s × Steps old e pick (Some result) s (events_of result e t))
-answered old e pick lane next t sent Idle sound there some few picks step next_sound count = absurd (let l : length lane.queue ≡ 0 = ap (λ (q : List Token). length q) step.0 in omega arith)
-answered old e pick lane next t sent Did sound there some few picks step next_sound count =
-    let most : next.made ≤ old.setting.steps = omega arith in
+answered old e pick lane next t sent Idle sound there some few picks step next_sound most = absurd (let l : length lane.queue ≡ 0 = ap (λ (q : List Token). length q) step.0 in omega arith)
+answered old e pick lane next t sent Did sound there some few picks step next_sound most =
     let same : step.token ≡ t = one_token lane pick step.token t step.picks picks in (
       sound_after old e pick lane next sent sound there step next_sound most,
       subst (λ (u : Token). Does old e pick (record { setting = old.setting; lanes = delivered sent (slice_set old.lanes e next) }) ((e, u) ∷ [])) same (does old e pick lane next sent sound there step few),
     )
-answered old e pick lane next t sent (Clash cell) sound there some few picks step next_sound count =
+answered old e pick lane next t sent (Clash cell) sound there some few picks step next_sound most =
     let same = unchanged old e lane next sent there step.1.held step.1.sent in
     (subst (λ (s : State). IsSoundState s) (sym same) sound, ((lane, (record { there = there }, some, few), step.0), (same, refl)))
-answered old e pick lane next t sent (Stuck rule) sound there some few picks step next_sound count =
+answered old e pick lane next t sent (Stuck rule) sound there some few picks step next_sound most =
     let same = unchanged old e lane next sent there step.1.held step.1.sent in
     (subst (λ (s : State). IsSoundState s) (sym same) sound, ((lane, (record { there = there }, some, few), step.0), (same, refl)))
-answered old e pick lane next t sent Memory sound there some few picks step next_sound count =
+answered old e pick lane next t sent Memory sound there some few picks step next_sound most =
     let same = unchanged old e lane next sent there step.1.held step.1.sent in
     (subst (λ (s : State). IsSoundState s) (sym same) sound, ((lane, (record { there = there }, some, few)), (same, refl)))
 

@@ -133,10 +133,10 @@ tokens_set (x ∷ xs) (suc i) h new e =
     IsPermutation-trans (x.queue ++ tokens_in (slice_set xs i new)) (x.queue ++ (new.queue ++ tokens_in (remove xs i))) (new.queue ++ (x.queue ++ tokens_in (remove xs i)))
     (IsPermutation-append_right x.queue _ _ (tokens_set xs i h new e)) (swapped x.queue new.queue (tokens_in (remove xs i)))
 
-pub set_same : (lanes : List Held) (i : ℕ) (h : Held) → slice_get lanes i ≡ Some h → slice_set lanes i h ≡ lanes
+pub set_same : {X : Type 0} (lanes : List X) (i : ℕ) (h : X) → slice_get lanes i ≡ Some h → slice_set lanes i h ≡ lanes
 set_same [] i h e = absurd (let no : ⊥ = cc in no)
-set_same (x ∷ xs) zero h e = let same : x ≡ h = cc in ap (λ (y : Held). y ∷ xs) (sym same)
-set_same (x ∷ xs) (suc i) h e = ap (λ (ys : List Held). x ∷ ys) (set_same xs i h e)
+set_same {X} (x ∷ xs) zero h e = let same : x ≡ h = cc in ap (λ (y : X). y ∷ xs) (sym same)
+set_same {X} (x ∷ xs) (suc i) h e = ap (λ (ys : List X). x ∷ ys) (set_same xs i h e)
 
 pub tokens_first : (lanes : List Held) (i : ℕ) (h : Held) → slice_get lanes i ≡ Some h → IsPermutation (tokens_in lanes) (h.queue ++ tokens_in (remove lanes i))
 tokens_first lanes i h e = subst (λ (l : List Held). IsPermutation (tokens_in l) (h.queue ++ tokens_in (remove lanes i))) (set_same lanes i h e) (tokens_set lanes i h h e)

@@ -2,8 +2,7 @@
 use Rattle.std.specs.Prelude.{ℕ, List, map}
 use Rattle.tags.specs.declared.token.Token.{Token}
 use Rattle.semantics.specs.Program.{Program}
-use Rattle.element.specs.declared.lane.Lane.{Lane}
-use Rattle.element.specs.Held.{held_of}
+use Rattle.element.specs.Held.{LaneView, held_of}
 use Rattle.schedule.specs.declared.setup.Setup.{Setup}
 use Rattle.schedule.specs.Setting.{Setting}
 use Rattle.schedule.specs.State.{State, delivered}
@@ -13,10 +12,10 @@ abbrev pub setting_in : {C A : Type 0} → (C → Program) → (C → ℕ) → S
 setting_in program width s = record { program = program s.code.now; elements = s.elements; frames = s.frames; width = width s.code.now; steps = s.steps; turn = s.turn }
 
 -- the lanes as they stand, with no token on its way
-abbrev pub state_in : {C A : Type 0} → (C → Program) → (C → ℕ) → Setup C A → List (Lane A) → State
+abbrev pub state_in : {C A : Type 0} → (C → Program) → (C → ℕ) → Setup C A → List LaneView → State
 state_in program width s lanes = record { setting = setting_in program width s; lanes = map held_of lanes }
 
-abbrev pub kept_of : {C A : Type 0} → (C → Program) → (C → ℕ) → Setup C A → List (Lane A) → Kept
+abbrev pub kept_of : {C A : Type 0} → (C → Program) → (C → ℕ) → Setup C A → List LaneView → Kept
 kept_of program width s lanes = record { state = state_in program width s lanes; events = s.events.items }
 
 -- tokens that are on their way are seen where they are addressed to

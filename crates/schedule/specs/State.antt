@@ -1,13 +1,13 @@
 -- What contracts see of the machine.
-use Rattle.std.specs.Prelude.{◌≡◌, ℕ, suc, ◌<◌, ◌≤◌, List, [], ◌∷◌, map, drop, length, ⊤, sum, IsPermutation}
+use Rattle.std.specs.Prelude.{◌≡◌, ℕ, suc, ◌<◌, ◌≤◌, List, [], ◌∷◌, map, drop, length, All, ⊤, sum, IsPermutation}
 use Rattle.std.specs.List.{flat_map}
 use Rattle.tags.specs.declared.token.Token.{Token}
 use Rattle.tags.specs.declared.slot.SlotState.TheVariants.{Empty}
 use Rattle.semantics.specs.Program.{Program}
 use Rattle.semantics.specs.Machine.{Machine, Store, Vacant}
-use Rattle.element.specs.declared.lane.Lane.{Lane}
 use Rattle.element.specs.Parts.{IsPart}
-use Rattle.element.specs.Held.{Held, held_of, queued, IsSoundLane}
+use Rattle.element.specs.Near.{IsNearToken}
+use Rattle.element.specs.Held.{Held, LaneView, Fixed, held_of, fixed_of, bounds_at, queued, IsSoundLane}
 use Rattle.schedule.specs.declared.elements.Elements.{Elements}
 use Rattle.schedule.specs.Setting.{Setting, total, IsGoodSetting}
 
@@ -34,7 +34,7 @@ abbrev pub IsAt : ℕ → ℕ → Held → Type 0
 IsAt n i h = (h.part.shape.element ≡ i) × (h.part.shape.elements ≡ n)
 
 -- what the lanes hold, with the tokens that are on their way
-abbrev pub lanes_of : {A : Type 0} → List (Lane A) → List Token → List Held
+abbrev pub lanes_of : List LaneView → List Token → List Held
 lanes_of lanes ts = delivered ts (map held_of lanes)
 
 pub record IsPlaced (g : Setting) (i : ℕ) (h : Held) : Type 0 where
@@ -50,6 +50,17 @@ pub record IsSoundState (s : State) : Type 0 where
   pub setting : IsGoodSetting s.setting
   pub count : length s.lanes ≡ s.setting.elements
   pub lanes : AllFrom (IsPlaced s.setting) 0 s.lanes
+
+-- The lane runs the machine's code, in a machine of this size.
+pub record RunsAs (g : Setting) (f : Fixed) : Type 0 where
+  pub program : f.program ≡ g.program
+  pub steps : f.steps ≡ g.steps
+  pub elements : f.shape.elements ≡ g.elements
+  pub frames : f.shape.frames ≡ g.frames
+
+-- the token names what there is, for each of the lanes
+abbrev pub IsNearIn : List Fixed → Token → Type 0
+IsNearIn fs t = All (λ (f : Fixed). IsNearToken (bounds_at f) t) fs
 
 -- THE MACHINE OF THE DEFINITIONS. Nothing lies beyond the frames, the slots and the cells that there are.
 pub record IsBounded (g : Setting) (s : Store) : Type 0 where
@@ -71,4 +82,6 @@ state_of program width m = record {
 
 pub record IsWell {C A : Type 0} (program : C → Program) (width : C → ℕ) (m : Elements C A) : Type 0 where
   pub come : m.come ≤ length m.sent.items
+  -- each lane runs the code of the machine
+  pub runs : All (RunsAs (state_of program width m).setting) (map fixed_of m.lanes.items)
   pub sound : IsSoundState (state_of program width m)

@@ -1,11 +1,11 @@
 //! What lanes hold, counted and listed for a report.
 
-ghost use Rattle.std.specs.Prelude.{◌≡◌, ◌/◌, ◌<◌, ◌≤◌, length, map, IfOk, OnOk, ◌++◌, Some};
+ghost use Rattle.std.specs.Prelude.{◌≡◌, ◌*◌, ◌<◌, ◌≤◌, length, map, IfOk, OnOk, ◌++◌, Some};
 ghost use Rattle.semantics.specs.Report.{sum_below, waiters};
-ghost use Rattle.frame_store.specs.BankViews.{IsBank};
 ghost use Rattle.element.specs.Held.{held_of};
 ghost use Rattle.schedule.specs.Told.{cell_readers, entry, full_below, slot_of_lane, requests_in, out_in};
 
+use element::instructions::Instructions;
 use element::lane::Lane;
 use frame_manager::Manager;
 use std::alloc::{AllocError, Allocator};
@@ -27,9 +27,9 @@ fn list_full<A: Allocator>(
 }
 
 /// The full ones of the first `cells` cells with their values, in order.
-pub fn full_cells<A: Allocator>(
+pub fn full_cells<C: Instructions, A: Allocator>(
     alloc: A,
-    lanes: &[Lane<'_, A>],
+    lanes: &[Lane<'_, C, A>],
     elements: u32,
     cells: u32,
 ) -> Result<Vec<(u32, Value), A>, AllocError>
@@ -40,14 +40,14 @@ pub fn full_cells<A: Allocator>(
     let mut full = Vec::new(alloc);
     for cell in 0..cells {
         let lane = &lanes[(cell % elements) as usize];
-        list_full(&mut full, cell, lane.cells.value(cell))?;
+        list_full(&mut full, cell, lane.cells().value(cell))?;
     }
     Ok(full)
 }
 
 /// How many readers wait in the first `cells` cells. More than a number of 64 bits counts are refused like a growth.
-pub fn deferred<A: Allocator>(
-    lanes: &[Lane<'_, A>],
+pub fn deferred<C: Instructions, A: Allocator>(
+    lanes: &[Lane<'_, C, A>],
     elements: u32,
     cells: u32,
 ) -> Result<u64, AllocError>
@@ -58,7 +58,7 @@ pub fn deferred<A: Allocator>(
     let mut count: u64 = 0;
     for cell in 0..cells {
         let lane = &lanes[(cell % elements) as usize];
-        let Some(more) = count.checked_add(lane.cells.readers(cell) as u64) else {
+        let Some(more) = count.checked_add(lane.cells().readers(cell) as u64) else {
             return Err(AllocError);
         };
         count = more;
@@ -76,19 +76,20 @@ fn waits(state: SlotState) -> u64
     }
 }
 
-/// How many requests for credits wait in the slots of a frame of the machine.
-pub fn credits_in<A: Allocator>(lane: &Lane<'_, A>, elements: u32, frame: u32, width: u32) -> u64
-    requires some { 0 < elements }
-    requires elements { lane.now.elements ≡ elements }
-    requires bank { IsBank lane.now.bank }
-    requires frame { frame / elements < lane.now.bank.frames }
-    requires width { lane.now.bank.width ≡ width }
+/// How many requests for credits wait in the first slots of a frame that lies on the lane.
+pub fn credits_in<C: Instructions, A: Allocator>(
+    lane: &Lane<'_, C, A>,
+    frame: u32,
+    width: u32,
+) -> u64
+    requires frame { frame < lane.now.held.part.shape.elements * lane.now.held.part.shape.frames }
+    requires width { width ≤ lane.now.held.part.shape.width }
     ensures exact { result ≡ sum_below width (λ r. waiters (slot_of_lane frame r (Some (held_of lane.now)))) }
     ensures few { result ≤ width }
 {
     let mut count = 0;
     for slot in 0..width {
-        count += waits(lane.bank.state((frame / elements) as usize, slot as usize));
+        count += waits(lane.slot_state(frame, slot));
     }
     count
 }

@@ -1,27 +1,30 @@
 //! Tokens on their way to other elements.
 
-ghost use Rattle.std.specs.Prelude.{◌≡◌, ◌<◌, ◌≤◌, ◌==◌, [], ◌∷◌, length, map, drop, OnOk, OnErr};
+ghost use Rattle.std.specs.Prelude.{◌≡◌, ◌<◌, ◌≤◌, ◌==◌, [], ◌∷◌, length, map, drop, All, OnOk, OnErr};
 ghost use Rattle.std.specs.List.{list_any};
 ghost use Rattle.tags.specs.Addresses.{element_of};
-ghost use Rattle.element.specs.Held.{held_of};
-ghost use Rattle.schedule.specs.State.{AllFrom, IsAt, delivered, lanes_of};
+ghost use Rattle.element.specs.Held.{held_of, fixed_of};
+ghost use Rattle.schedule.specs.State.{AllFrom, IsAt, IsNearIn, delivered, lanes_of};
 
 use element::dealt::element_for;
+use element::instructions::Instructions;
 use element::lane::Lane;
 use std::alloc::{AllocError, Allocator};
 use tags::token::Token;
 
 /// Puts a token into the lane of its element. After an error all stands as before.
-pub fn receive<A: Allocator>(
-    lanes: &mut Vec<Lane<'_, A>, A>,
+pub fn receive<C: Instructions, A: Allocator>(
+    lanes: &mut Vec<Lane<'_, C, A>, A>,
     elements: u32,
     token: Token,
 ) -> Result<(), AllocError>
     requires some { 0 < elements }
     requires count { length lanes.old.items ≡ elements }
     requires at { AllFrom (IsAt elements) 0 (map held_of lanes.old.items) }
+    requires near { IsNearIn (map fixed_of lanes.old.items) token }
     ensures ok { OnOk result (map held_of lanes.new.items ≡ delivered (token ∷ []) (map held_of lanes.old.items)) }
     ensures err { OnErr result (map held_of lanes.new.items ≡ map held_of lanes.old.items) }
+    ensures fixed { map fixed_of lanes.new.items ≡ map fixed_of lanes.old.items }
     ensures count { length lanes.new.items ≡ length lanes.old.items }
 {
     let element = element_for(&token.to, elements) as usize;
@@ -30,8 +33,8 @@ pub fn receive<A: Allocator>(
 }
 
 // Lets them come one by one.
-fn deliver_all<A: Allocator>(
-    lanes: &mut Vec<Lane<'_, A>, A>,
+fn deliver_all<C: Instructions, A: Allocator>(
+    lanes: &mut Vec<Lane<'_, C, A>, A>,
     elements: u32,
     sent: &mut Vec<Token, A>,
     come: &mut usize,
@@ -40,7 +43,9 @@ fn deliver_all<A: Allocator>(
     requires count { length lanes.old.items ≡ elements }
     requires at { AllFrom (IsAt elements) 0 (map held_of lanes.old.items) }
     requires come { come.old ≤ length sent.old.items }
+    requires near { All (IsNearIn (map fixed_of lanes.old.items)) (drop come.old sent.old.items) }
     ensures same { lanes_of lanes.new.items (drop come.new sent.new.items) ≡ lanes_of lanes.old.items (drop come.old sent.old.items) }
+    ensures fixed { map fixed_of lanes.new.items ≡ map fixed_of lanes.old.items }
     ensures sent { OnOk result (sent.new.items ≡ []) }
     ensures come { OnOk result (come.new ≡ 0) }
     ensures within { come.new ≤ length sent.new.items }
@@ -64,8 +69,8 @@ fn deliver_all<A: Allocator>(
 /// Lets the tokens that are on their way come, from the first that has not come on. After an error the others are still
 /// on their way.
 #[inline(always)]
-pub fn deliver<A: Allocator>(
-    lanes: &mut Vec<Lane<'_, A>, A>,
+pub fn deliver<C: Instructions, A: Allocator>(
+    lanes: &mut Vec<Lane<'_, C, A>, A>,
     elements: u32,
     sent: &mut Vec<Token, A>,
     come: &mut usize,
@@ -74,7 +79,9 @@ pub fn deliver<A: Allocator>(
     requires count { length lanes.old.items ≡ elements }
     requires at { AllFrom (IsAt elements) 0 (map held_of lanes.old.items) }
     requires come { come.old ≤ length sent.old.items }
+    requires near { All (IsNearIn (map fixed_of lanes.old.items)) (drop come.old sent.old.items) }
     ensures same { lanes_of lanes.new.items (drop come.new sent.new.items) ≡ lanes_of lanes.old.items (drop come.old sent.old.items) }
+    ensures fixed { map fixed_of lanes.new.items ≡ map fixed_of lanes.old.items }
     ensures sent { OnOk result (sent.new.items ≡ []) }
     ensures come { OnOk result (come.new ≡ 0) }
     ensures within { come.new ≤ length sent.new.items }

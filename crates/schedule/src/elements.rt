@@ -6,7 +6,7 @@ ghost use Rattle.semantics.specs.Report.{sum_below};
 ghost use Rattle.element.specs.Held.{Held, held_of};
 ghost use Rattle.schedule.specs.Setting.{total};
 ghost use Rattle.schedule.specs.Told.{credits_below, TellsLanes};
-ghost use Rattle.schedule.specs.State.{state_of, IsWell, tokens_in};
+ghost use Rattle.schedule.specs.State.{state_of, IsWell, IsSoundState, tokens_in};
 ghost use Rattle.schedule.specs.Steps.{Steps};
 ghost use Rattle.schedule.specs.Runs.{HasToken, IsHalt, Advances, Plays, rounds_of};
 
@@ -31,7 +31,7 @@ pub struct Elements<'m, C: MainCode, A: Allocator> {
     pub steps: u64,
     /// How many events a turn has.
     pub turn: u64,
-    pub lanes: Vec<Lane<'m, A>, A>,
+    pub lanes: Vec<Lane<'m, C, A>, A>,
     /// The tokens that the last event made for other elements.
     pub sent: Vec<Token, A>,
     /// How many of these have come.
@@ -40,6 +40,7 @@ pub struct Elements<'m, C: MainCode, A: Allocator> {
 
 impl<'m, C: MainCode, A: Allocator> Elements<'m, C, A> {
     /// Lets the tokens that are on their way come.
+    #[inline(always)]
     pub fn settle(&mut self) -> Result<(), AllocError>
         requires { IsWell C.program C.width self.old }
         ensures well { IsWell C.program C.width self.new }
@@ -63,34 +64,47 @@ impl<'m, C: MainCode, A: Allocator> Elements<'m, C, A> {
         ensures yes { result ≡ true → (h : Held) → slice_get (state_of C.program C.width self.now).lanes element ≡ Some h → 0 < length h.queue }
         ensures no { result ≡ false → (h : Held) → slice_get (state_of C.program C.width self.now).lanes element ≡ Some h → h.queue ≡ [] }
     {
-        let waiting = self.lanes[element as usize].queue.len();
+        let waiting = self.lanes[element as usize].queue().len();
         waiting != 0 || has_token_for(&self.sent, self.come, self.elements, element)
     }
 
-    // A step of an element that has a token and may make an event, with no token on its way.
+    // What a step answers that is refused memory.
+    #[cold]
+    #[inline(never)]
+    fn refused(&self, element: u32) -> Option<Stepped>
+        requires well { IsWell C.program C.width self.now }
+        requires element { element < self.now.elements }
+        ensures { (pick : ℕ) → Steps (state_of C.program C.width self.now) element pick result (state_of C.program C.width self.now) [] }
+    {
+        if !self.has_token(element) {
+            return Some(Stepped::Idle);
+        }
+        if self.lanes[element as usize].is_spent() {
+            return None;
+        }
+        Some(Stepped::Memory)
+    }
+
+    // A step with no token on its way, where there is room to note an event.
     #[inline(always)]
-    fn step_lane<L: Log>(&mut self, element: u32, pick: u64, log: &mut L) -> Stepped
+    fn step_lane<L: Log>(&mut self, element: u32, pick: u64, log: &mut L) -> Option<Stepped>
     where
         A: Clone,
         requires well { IsWell C.program C.width self.old }
         requires element { element < self.old.elements }
         requires sent { self.old.sent.items ≡ [] }
         requires come { self.old.come ≡ 0 }
-        requires some { (h : Held) → slice_get (state_of C.program C.width self.old).lanes element ≡ Some h → 0 < length h.queue }
-        requires few { (h : Held) → slice_get (state_of C.program C.width self.old).lanes element ≡ Some h → h.made < self.old.steps }
+        requires room { L.has_room log.old }
         ensures well { IsWell C.program C.width self.new }
-        ensures exact { (events : Events) × Steps (state_of C.program C.width self.old) element pick (Some result) (state_of C.program C.width self.new) events × ((before : Events) → L.noted log.old before → L.noted log.new (before ++ events)) }
+        ensures exact { (events : Events) × Steps (state_of C.program C.width self.old) element pick result (state_of C.program C.width self.new) events × ((before : Events) → L.noted log.old before → L.noted log.new (before ++ events)) }
     {
-        if log.make_room().is_err() {
-            return Stepped::Memory;
-        }
         let lane = &mut self.lanes[element as usize];
         let Some(token) = lane.token(pick) else {
-            unreachable!()
+            return Some(Stepped::Idle);
         };
-        let stepped = lane.step(pick, self.code, &mut self.sent);
+        let stepped = lane.step(pick, &mut self.sent)?;
         note(log, element, token, stepped);
-        stepped
+        Some(stepped)
     }
 
     /// The element takes the token that `pick`, modulo the number of its tokens, names from the oldest on; `None` where it
@@ -104,22 +118,10 @@ impl<'m, C: MainCode, A: Allocator> Elements<'m, C, A> {
         ensures well { IsWell C.program C.width self.new }
         ensures exact { (events : Events) × Steps (state_of C.program C.width self.old) element pick result (state_of C.program C.width self.new) events × ((before : Events) → L.noted log.old before → L.noted log.new (before ++ events)) }
     {
-        let came = deliver(
-            &mut self.lanes,
-            self.elements,
-            &mut self.sent,
-            &mut self.come,
-        );
-        if !self.has_token(element) {
-            return Some(Stepped::Idle);
+        if self.settle().is_err() || log.make_room().is_err() {
+            return self.refused(element);
         }
-        if self.lanes[element as usize].made == self.steps {
-            return None;
-        }
-        if came.is_err() {
-            return Some(Stepped::Memory);
-        }
-        Some(self.step_lane(element, pick, log))
+        self.step_lane(element, pick, log)
     }
 
     // Whether there is a token.
@@ -240,21 +242,21 @@ impl<'m, C: MainCode, A: Allocator> Elements<'m, C, A> {
 
     // How many requests for credits wait.
     fn credits(&self) -> u64
-        requires { IsWell C.program C.width self.now }
+        requires { IsSoundState (state_of C.program C.width self.now) }
         ensures { result ≡ sum_below (total (state_of C.program C.width self.now).setting) (λ f. credits_below self.now.elements (map held_of self.now.lanes.items) (C.width self.now.code.now) f) }
     {
         let width = self.code.slots();
         let mut count: u64 = 0;
         for frame in 0..self.elements * self.frames {
             let lane = &self.lanes[(frame % self.elements) as usize];
-            count += credits_in(lane, self.elements, frame, width);
+            count += credits_in(lane, frame, width);
         }
         count
     }
 
     /// What the lanes hold, for a report.
     pub fn tell(self, alloc: A) -> Result<Told<A>, AllocError>
-        requires { IsWell C.program C.width self }
+        requires { IsSoundState (state_of C.program C.width self) }
         ensures { IfOk result (λ told. TellsLanes (state_of C.program C.width self.entry).setting (map held_of self.entry.lanes.items) told.outputs.items told.cells.items told.deferred told.requests told.credits told.out) }
     {
         let number = self.code.cells();
@@ -263,9 +265,9 @@ impl<'m, C: MainCode, A: Allocator> Elements<'m, C, A> {
         let credits = self.credits();
         let Elements { mut lanes, .. } = self;
         let first = lanes.swap_remove(0);
-        let requests = requests(&first.manager);
-        let out = frames_out(&first.manager);
-        let Lane { outputs, .. } = first;
+        let requests = requests(first.manager());
+        let out = frames_out(first.manager());
+        let outputs = first.into_outputs();
         Ok(Told {
             outputs,
             cells,

@@ -2,7 +2,7 @@
 
 ghost use Rattle.std.specs.Prelude.{◌≡◌, ℕ, ℤ, List, Bool, true, false, ◌<◌, ◌≤◌, ◌^◌, ◌↔◌, ◌∷◌, ◌++◌, [], length, map, All, IfOk, OnOk, MatchResult, IsTrue};
 ghost use Rattle.semantics.specs.Machine.{Events};
-ghost use Rattle.element.specs.Held.{held_of};
+ghost use Rattle.element.specs.Held.{held_of, fixed_of, bounds_at};
 ghost use Rattle.schedule.specs.Setting.{inputs_of};
 ghost use Rattle.schedule.specs.State.{AllFrom, IsAt, delivered};
 ghost use Rattle.schedule.specs.Starts.{IsGood, IsCause, Opens, setting_of, start_tokens};
@@ -14,8 +14,8 @@ ghost use Rattle.semantics.specs.Report.{Shows};
 ghost use Rattle.schedule.specs.Setting.{size};
 ghost use Rattle.schedule.specs.State.{State};
 ghost use Rattle.schedule.specs.Unlisted.{ShowsQuietly, without_events};
-ghost use Rattle.schedule.specs.State.{IsSoundState};
-ghost use Rattle.schedule.specs.Apart.{kept_of, state_in};
+ghost use Rattle.schedule.specs.State.{IsSoundState, RunsAs};
+ghost use Rattle.schedule.specs.Apart.{kept_of, setting_in, state_in};
 
 use crate::config::{Config, StartFault};
 use crate::delivery::receive;
@@ -27,6 +27,7 @@ use crate::quiet::Quiet;
 use crate::report::Report;
 use crate::reporting::report_of;
 use crate::setup::{Apart, Setup};
+use element::instructions::Instructions;
 use element::lane::{Lane, Stepped};
 use frame_store::store::Store;
 use std::alloc::{AllocError, Allocator};
@@ -65,8 +66,8 @@ fn has_good_numbers(config: &Config) -> bool
 }
 
 // Gives the lanes the tokens at the start.
-fn give_inputs<A: Allocator>(
-    lanes: &mut Vec<Lane<'_, A>, A>,
+fn give_inputs<C: Instructions, A: Allocator>(
+    lanes: &mut Vec<Lane<'_, C, A>, A>,
     elements: u32,
     first: u32,
     inputs: &[i64],
@@ -76,6 +77,8 @@ fn give_inputs<A: Allocator>(
     requires at { AllFrom (IsAt elements) 0 (map held_of lanes.old.items) }
     requires short { first < 2 ^ 30 }
     requires few { length inputs.now ≤ 16 }
+    requires frames { All (λ f. 0 < (bounds_at f).frames) (map fixed_of lanes.old.items) }
+    ensures fixed { map fixed_of lanes.new.items ≡ map fixed_of lanes.old.items }
     ensures ok { OnOk result (map held_of lanes.new.items ≡ delivered (start_tokens first inputs.now) (map held_of lanes.old.items)) }
     ensures count { length lanes.new.items ≡ length lanes.old.items }
 {
@@ -132,7 +135,7 @@ where
         code.slots() as usize,
     )?;
     let store = store.insert(made);
-    let mut lanes = fresh_lanes(alloc.clone()?, store, code)?;
+    let mut lanes = fresh_lanes(alloc.clone()?, store, code, config.steps)?;
     give_inputs(&mut lanes, elements, code.main_entry(), inputs)?;
     let elements = Elements {
         code,
@@ -269,11 +272,12 @@ impl<'m, C: MainCode, A: Allocator> Machine<'m, C, A> {
         self.report(halt)
     }
 
-    /// The machine taken apart, with each token in the queue of the lane that it is addressed to. After an error it is as
-    /// before.
+    /// The machine taken apart, with each token in the queue of the lane that it is addressed to. Each lane runs its code.
+    /// After an error it is as before.
     pub fn into_lanes(self) -> Result<Apart<'m, C, A>, Machine<'m, C, A>>
     where
-        ensures { MatchResult result (λ apart. (kept_of C.program C.width apart.0 apart.1.items ≡ self.entry) × IsSoundState (state_in C.program C.width apart.0 apart.1.items)) (λ machine. machine ≡ self.entry) }
+        ensures apart { MatchResult result (λ apart. (kept_of C.program C.width apart.0 apart.1.items ≡ self.entry) × IsSoundState (state_in C.program C.width apart.0 apart.1.items)) (λ machine. machine ≡ self.entry) }
+        ensures runs { IfOk result (λ apart. All (RunsAs (setting_in C.program C.width apart.0)) (map fixed_of apart.1.items)) }
     {
         let Machine {
             mut elements,

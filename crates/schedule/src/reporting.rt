@@ -2,7 +2,7 @@
 
 ghost use Rattle.std.specs.Prelude.{◌≡◌, ◌≤◌, map, IfOk};
 ghost use Rattle.element.specs.Held.{held_of};
-ghost use Rattle.schedule.specs.State.{state_of, IsWell};
+ghost use Rattle.schedule.specs.State.{state_of, IsSoundState};
 ghost use Rattle.schedule.specs.Runs.{EndsWith, NamesCell};
 ghost use Rattle.schedule.specs.Told.{Reports, TellsLanes, opening_picture};
 
@@ -73,7 +73,7 @@ fn tell<C: MainCode, A: Allocator>(
 ) -> Result<Told<A>, AllocError>
 where
     A: Clone,
-    requires { IsWell C.program C.width elements }
+    requires { IsSoundState (state_of C.program C.width elements) }
     ensures { IfOk result (λ told. TellsLanes (state_of C.program C.width elements.entry).setting (map held_of elements.entry.lanes.items) told.outputs.items told.cells.items told.deferred told.requests told.credits told.out) }
 {
     elements.tell(alloc.clone()?)
@@ -89,7 +89,7 @@ pub fn report_of<C: MainCode, A: Allocator>(
 ) -> Report<A>
 where
     A: Clone,
-    requires well { IsWell C.program C.width elements }
+    requires sound { IsSoundState (state_of C.program C.width elements) }
     requires cell { NamesCell (C.program elements.code.now) halt }
     ensures { Reports C.program C.width elements.entry events.items halt result }
 {

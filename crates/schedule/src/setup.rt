@@ -40,12 +40,12 @@ pub struct Setup<'m, C: MainCode, A: Allocator> {
 }
 
 /// A machine taken apart: its lanes in order, and the rest.
-pub type Apart<'m, C, A> = (Setup<'m, C, A>, Vec<Lane<'m, A>, A>);
+pub type Apart<'m, C, A> = (Setup<'m, C, A>, Vec<Lane<'m, C, A>, A>);
 
 impl<'m, C: MainCode, A: Allocator> Setup<'m, C, A> {
     /// What all lanes hold as they stand, with the events and the end of a run that halted so, whatever tokens are on their
     /// way; of a run whose events were not kept it shows all but these. Where its own lists are refused it is the report of the machine before its first event, with the end `Memory`.
-    pub fn report(self, lanes: Vec<Lane<'m, A>, A>, halt: Halt) -> Report<A>
+    pub fn report(self, lanes: Vec<Lane<'m, C, A>, A>, halt: Halt) -> Report<A>
     where
         A: Clone,
         requires sound { IsSoundState (state_in C.program C.width self lanes.items) }

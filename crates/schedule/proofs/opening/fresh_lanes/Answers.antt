@@ -2,14 +2,14 @@ use Rattle.std.proofs.Common.{◌≡◌, refl, sym, ◌∙◌, ap, subst, ℕ, �
 use Rattle.std.specs.Prelude.{All, replicate}
 use Rattle.std.proofs.Math.Nat.{one-le-mul}
 use Rattle.std.proofs.lemmas.List.{length-replicate, map-append, length-map, length_push}
-use Rattle.std.proofs.lemmas.List.Elements.{All-replicate}
+use Rattle.std.proofs.lemmas.List.Elements.{All-nil, All-push, All-replicate}
 use Rattle.tags.specs.declared.slot.SlotState.{SlotState}
 use Rattle.tags.specs.declared.slot.SlotState.TheVariants.{Empty}
-use Rattle.element.specs.Held.{held_of}
+use Rattle.element.specs.Held.{held_of, fixed_of}
 use Rattle.frame_store.specs.BankViews.{bank_states}
 use Rattle.frame_store.specs.Banked.{left_of}
 use Rattle.frame_store.specs.Slots.{Slots}
-use Rattle.schedule.specs.State.{AllFrom}
+use Rattle.schedule.specs.State.{AllFrom, RunsAs}
 use Rattle.schedule.specs.Starts.{IsFresh, sized}
 use Rattle.schedule.proofs.Openings.{bank_states_are, banks_left, banks_come}
 use Rattle.schedule.proofs.Places.{from_push}
@@ -33,7 +33,8 @@ loop-element-init g c =
       size = c.banks-banks.ensures.size;
       frames = c.banks-banks.ensures.frames;
       width = c.banks-banks.ensures.width;
-      fresh = subst (λ (l : List _). AllFrom (IsFresh (sized (g.C.Instructions.program c.args.code.now) c.elements-elements.result c.args.store.now.frames c.args.store.now.width 0)) 0 (map (held_of {A = g.row.A.Denot}) l)) (sym none) tt;
+      fresh = subst (λ (l : List _). AllFrom (IsFresh (sized (g.C.Instructions.program c.args.code.now) c.elements-elements.result c.args.store.now.frames c.args.store.now.width 0)) 0 (map held_of l)) (sym none) tt;
+      runs = subst (λ (l : List _). All (RunsAs (sized (g.C.Instructions.program c.args.code.now) c.elements-elements.result c.args.store.now.frames c.args.store.now.width c.args.steps)) (map fixed_of l)) (sym none) (All-nil _);
     }
 
 pub unreachable-requires : goal.unreachable-requires
@@ -80,11 +81,14 @@ loop-element-preserved g c =
     let b = c.in-Some.bank in
     let p = g.C.Instructions.program c.args.code.now in
     let is = IsFresh (sized p n c.args.store.now.frames c.args.store.now.width 0) in
-    let old = map (held_of {A = g.row.A.Denot}) c.loop-element.lanes.items in
-    let one = c.in_ok-lane.ensures in
+    let old = map held_of c.loop-element.lanes.items in
+    let one = c.in_ok-lane.ensures.fresh in
+    let run = RunsAs (sized p n c.args.store.now.frames c.args.store.now.width c.args.steps) in
+    let runs_frames = subst (λ (f : ℕ). RunsAs (sized p n f b.width c.args.steps) (fixed_of c.in_ok-lane.lane)) (e.0.3 ∙ c.loop-element.invariant.frames) c.in_ok-lane.ensures.runs in
+    let runs_width = subst (λ (w : ℕ). RunsAs (sized p n c.args.store.now.frames w c.args.steps) (fixed_of c.in_ok-lane.lane)) (e.0.4 ∙ c.loop-element.invariant.width) runs_frames in
     let at_frames = subst (λ (f : ℕ). IsFresh (sized p n f b.width 0) k (held_of c.in_ok-lane.lane)) (e.0.3 ∙ c.loop-element.invariant.frames) one in
     let at_width = subst (λ (w : ℕ). IsFresh (sized p n c.args.store.now.frames w 0) k (held_of c.in_ok-lane.lane)) (e.0.4 ∙ c.loop-element.invariant.width) at_frames in
-    let place : k ≡ 0 + length old = (let a = length-map c.loop-element.lanes.items (held_of {A = g.row.A.Denot}) in let q = c.loop-element.invariant.count in omega arith) in
+    let place : k ≡ 0 + length old = (let a = length-map c.loop-element.lanes.items held_of in let q = c.loop-element.invariant.count in omega arith) in
     let more = from_push is 0 old (held_of c.in_ok-lane.lane) c.loop-element.invariant.fresh (subst (λ (m : ℕ). is m (held_of c.in_ok-lane.lane)) place at_width) in
     let items = c.in_ok-push.ensures.items in
     record {
@@ -93,5 +97,11 @@ loop-element-preserved g c =
       size = e.1.0 ∙ c.loop-element.invariant.size;
       frames = e.1.1 ∙ c.loop-element.invariant.frames;
       width = e.1.2 ∙ c.loop-element.invariant.width;
-      fresh = subst (λ (l : List _). AllFrom is 0 l) (sym (ap (λ (l : List _). map (held_of {A = g.row.A.Denot}) l) items ∙ map-append (held_of {A = g.row.A.Denot}) c.loop-element.lanes.items (c.in_ok-lane.lane ∷ []))) more;
+      fresh = subst (λ (l : List _). AllFrom is 0 l) (sym (ap (λ (l : List _). map held_of l) items ∙ map-append held_of c.loop-element.lanes.items (c.in_ok-lane.lane ∷ []))) more;
+      runs = subst (λ (l : List _). All run l) (sym (ap (λ (l : List _). map fixed_of l) items ∙ map-append fixed_of c.loop-element.lanes.items (c.in_ok-lane.lane ∷ []))) (All-push run (map fixed_of c.loop-element.lanes.items) (fixed_of c.in_ok-lane.lane) c.loop-element.invariant.runs runs_width);
     }
+
+pub returns-clause-runs : goal.returns-clause-runs
+returns-clause-runs g c =
+    let p = g.C.Instructions.program c.args.code.now in
+    subst (λ (n : ℕ). All (RunsAs (sized p n c.args.store.now.frames c.args.store.now.width c.args.steps)) (map fixed_of c.loop-element.lanes.items)) c.elements-elements.ensures c.loop-element.invariant.runs

@@ -13,7 +13,7 @@ returns-then-waiting-ne0-clause-yes g c = λ yes h there.
     let x = c.index.result.now in
     let count = lane_count items (drop c.args.self.now.come c.args.self.now.sent.items) c.args.self.now.elements c.requires.well.sound.count in
     let low : c.args.element < length items = (let l = c.requires.element in omega arith) in
-    let some : 0 < length x.queue.items = grind (arith, common_steps) in
+    let some : 0 < length x.held.queue = grind (arith, common_steps) in
     has_waiting items (drop c.args.self.now.come c.args.self.now.sent.items) c.args.element x h low c.index.ensures there some
 
 pub returns-else-waiting-ne0-clause-yes : goal.returns-else-waiting-ne0-clause-yes
@@ -38,5 +38,5 @@ returns-else-waiting-ne0-clause-no g c = λ no h there.
     let low : c.args.element < length items = (let l = c.requires.element in omega arith) in
     let at = first_get (IsAt m.elements) (map held_of items) c.args.element (held_of x) (raw_at (state_of g.C.Instructions.program g.C.Instructions.width m).setting items ts c.requires.well.sound.lanes) (held_at items c.args.element x low c.index.ensures) in
     let e = rw c.deref.ensures.value at c.has_token_for.ensures in
-    let none : length x.queue.items ≡ 0 = grind (arith, common_steps) in
-    has_none items ts m.elements c.args.element x h low c.index.ensures at there (nil_from_length x.queue.items none) (sym e ∙ no)
+    let none : length x.held.queue ≡ 0 = grind (arith, common_steps) in
+    has_none items ts m.elements c.args.element x h low c.index.ensures at there (nil_from_length x.held.queue none) (sym e ∙ no)

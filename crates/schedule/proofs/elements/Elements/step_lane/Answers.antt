@@ -1,73 +1,116 @@
-use Rattle.std.proofs.Common.{◌≡◌, refl, sym, ap, subst, ◌<◌, [], List, length, Some, arith}
+use Rattle.std.proofs.Common.{refl, sym, ◌∙◌, ap, subst, ◌<◌, ◌≤◌, [], List, length, drop, Option, Some, arith}
+use Rattle.std.specs.Prelude.{All, slice_set}
 use Rattle.std.proofs.lemmas.List.{append-nil}
+use Rattle.semantics.specs.Program.{Program}
 use Rattle.semantics.specs.Machine.{Events}
-use Rattle.element.specs.Held.{Held, held_of}
-use Rattle.element.specs.Steps.{Picks}
-use Rattle.schedule.specs.State.{State, IsPlaced, state_of}
+use Rattle.tags.specs.declared.token.Token.{Token}
+use Rattle.element.specs.declared.lane.Stepped.{Stepped}
+use Rattle.element.specs.Held.{Held, Fixed, held_of, IsSoundLane}
+use Rattle.element.specs.Steps as one
+use Rattle.schedule.specs.State.{State, RunsAs, IsSoundState, lanes_of, state_of}
 use Rattle.schedule.specs.Steps.{Steps, events_of}
-use Rattle.schedule.proofs.Places.{first_get}
-use Rattle.schedule.proofs.Memory.{get_there, lane_there, state_next}
-use Rattle.schedule.proofs.Stepping.{answered, is_refused}
+use Rattle.schedule.proofs.Memory.{lane_count, lane_there, state_next}
+use Rattle.schedule.proofs.Staying.{runs_at, fixed_set, stays_so}
+use Rattle.schedule.proofs.Stepping.{answered, is_idle, is_used_up}
 use Rattle.schedule.proofs.elements.Elements.step_lane.Goals as goal
 
-pub returns-then-is_err-clause-exact : goal.returns-then-is_err-clause-exact
-returns-then-is_err-clause-exact g c =
-    let s = state_of g.C.Instructions.program g.C.Instructions.width c.args.self.now in
-    let low : c.args.element < length s.lanes = (let l = c.requires.element in let n = c.requires.well.sound.count in omega arith) in
-    let lane = get_there s.lanes c.args.element low in
-    ([], is_refused s s c.args.element c.args.pick lane.0 refl lane.1 (c.requires.some lane.0 lane.1) (c.requires.few lane.0 lane.1), λ before noted. subst (λ (l : Events). g.L.Log.noted c.make_room.new.self l) (sym (append-nil before)) (c.make_room.ensures.same before noted))
+pub returns-in_default-clause-exact : goal.returns-in_default-clause-exact
+returns-in_default-clause-exact g c =
+    let m = c.args.self.now in
+    let x = c.index_mut-lane.result.now in
+    let s = state_of g.C.Instructions.program g.C.Instructions.width m in
+    let there = lane_there g.C.Instructions.program g.C.Instructions.width m c.args.element x c.requires.well c.requires.element c.requires.sent c.requires.come c.index_mut-lane.ensures.value in
+    let same = stays_so s.setting m.lanes.items m.sent.items m.sent.items m.come c.args.element x x c.requires.sent c.requires.come there refl refl in
+    ([], is_idle s _ c.args.element c.args.pick (held_of x) same there c.in_default.ensures.none, λ before noted. subst (λ (l : Events). g.L.Log.noted c.args.log.now l) (sym (append-nil before)) noted)
 
-pub unreachable-requires : goal.unreachable-requires
-unreachable-requires g c =
-    let there = lane_there g.C.Instructions.program g.C.Instructions.width c.args.self.now c.args.element c.index_mut-lane.result.now c.requires.well c.requires.element c.requires.sent c.requires.come c.index_mut-lane.ensures.value in
-    let some = c.requires.some (held_of c.index_mut-lane.result.now) there in
-    let none : length c.index_mut-lane.result.now.queue.items ≡ 0 = ap (λ (l : List _). length l) c.in_default.ensures.none in
-    omega arith
+pub returns-in_err-stepped-clause-well : goal.returns-in_err-stepped-clause-well
+returns-in_err-stepped-clause-well g c =
+    let m = c.args.self.now in
+    let x = c.index_mut-lane.result.now in
+    let s = state_of g.C.Instructions.program g.C.Instructions.width m in
+    let there = lane_there g.C.Instructions.program g.C.Instructions.width m c.args.element x c.requires.well c.requires.element c.requires.sent c.requires.come c.index_mut-lane.ensures.value in
+    let stays = c.in_err-stepped.ensures.spent.2 in
+    let same = stays_so s.setting m.lanes.items m.sent.items c.step.new.sent.items m.come c.args.element x c.step.new.self c.requires.sent c.requires.come there stays.held stays.sent in
+    let count = lane_count m.lanes.items _ m.elements c.requires.well.sound.count in
+    let low : c.args.element < length m.lanes.items = (let l = c.requires.element in omega arith) in
+    let first = c.requires.come in
+    record {
+      come = omega arith;
+      runs = subst (λ (fs : List Fixed). All (RunsAs s.setting) fs) (sym (fixed_set m.lanes.items c.args.element x c.step.new.self low c.index_mut-lane.ensures.value c.step.ensures.fixed)) c.requires.well.runs;
+      sound = subst (λ (t : State). IsSoundState t) (sym same) c.requires.well.sound;
+    }
 
-pub step-stepped-requires-clause-sound : goal.step-stepped-requires-clause-sound
-step-stepped-requires-clause-sound g c =
-    let s = state_of g.C.Instructions.program g.C.Instructions.width c.args.self.now in
-    let there = lane_there g.C.Instructions.program g.C.Instructions.width c.args.self.now c.args.element c.index_mut-lane.result.now c.requires.well c.requires.element c.requires.sent c.requires.come c.index_mut-lane.ensures.value in
-    (first_get (IsPlaced s.setting) s.lanes c.args.element (held_of c.index_mut-lane.result.now) c.requires.well.sound.lanes there).sound
-
-pub step-stepped-requires-clause-width : goal.step-stepped-requires-clause-width
-step-stepped-requires-clause-width g c =
-    let s = state_of g.C.Instructions.program g.C.Instructions.width c.args.self.now in
-    let there = lane_there g.C.Instructions.program g.C.Instructions.width c.args.self.now c.args.element c.index_mut-lane.result.now c.requires.well c.requires.element c.requires.sent c.requires.come c.index_mut-lane.ensures.value in
-    let width = (first_get (IsPlaced s.setting) s.lanes c.args.element (held_of c.index_mut-lane.result.now) c.requires.well.sound.lanes there).width in
-    omega arith
-
-pub step-stepped-requires-clause-few : goal.step-stepped-requires-clause-few
-step-stepped-requires-clause-few g c =
-    let there = lane_there g.C.Instructions.program g.C.Instructions.width c.args.self.now c.args.element c.index_mut-lane.result.now c.requires.well c.requires.element c.requires.sent c.requires.come c.index_mut-lane.ensures.value in
-    let few = c.requires.few (held_of c.index_mut-lane.result.now) there in
-    let most = c.requires.well.sound.setting.steps in
-    omega arith
+pub returns-in_err-stepped-clause-exact : goal.returns-in_err-stepped-clause-exact
+returns-in_err-stepped-clause-exact g c =
+    let m = c.args.self.now in
+    let e = c.args.element in
+    let x = c.index_mut-lane.result.now in
+    let s = state_of g.C.Instructions.program g.C.Instructions.width m in
+    let there = lane_there g.C.Instructions.program g.C.Instructions.width m e x c.requires.well c.requires.element c.requires.sent c.requires.come c.index_mut-lane.ensures.value in
+    let spent = c.in_err-stepped.ensures.spent in
+    let same = stays_so s.setting m.lanes.items m.sent.items c.step.new.sent.items m.come e x c.step.new.self c.requires.sent c.requires.come there spent.2.held spent.2.sent in
+    let count = lane_count m.lanes.items _ m.elements c.requires.well.sound.count in
+    let low : e < length m.lanes.items = (let l = c.requires.element in omega arith) in
+    let runs = runs_at (RunsAs s.setting) m.lanes.items e x c.requires.well.runs low c.index_mut-lane.ensures.value in
+    let next : State = record { setting = s.setting; lanes = lanes_of (slice_set m.lanes.items e c.step.new.self) (drop m.come c.step.new.sent.items) } in (
+      [],
+      subst (λ (r : Option Stepped). Steps s e c.args.pick r next []) (sym c.from_residual.ensures) (is_used_up s next e c.args.pick (held_of x) same there spent.1 (spent.0 ∙ runs.steps)),
+      λ before noted. subst (λ (l : Events). g.L.Log.noted c.args.log.now l) (sym (append-nil before)) noted,
+    )
 
 pub returns-clause-well : goal.returns-clause-well
 returns-clause-well g c =
     let m = c.args.self.now in
+    let e = c.args.element in
     let x = c.index_mut-lane.result.now in
-    let there = lane_there g.C.Instructions.program g.C.Instructions.width m c.args.element x c.requires.well c.requires.element c.requires.sent c.requires.come c.index_mut-lane.ensures.value in
+    let new = c.step.new.self in
     let s = state_of g.C.Instructions.program g.C.Instructions.width m in
-    let both = answered s c.args.element c.args.pick (held_of x) (held_of c.step-stepped.new.self) c.in-Some.token c.step-stepped.new.sent.items c.step-stepped.result c.requires.well.sound there (c.requires.some (held_of x) there) (c.requires.few (held_of x) there) c.in-Some.ensures.some
-    (subst (λ (ts : List _). Rattle.element.specs.Steps.Steps s.setting.program (held_of x) c.args.pick ts c.step-stepped.result (held_of c.step-stepped.new.self) c.step-stepped.new.sent.items) c.requires.sent c.step-stepped.ensures.exact) c.step-stepped.ensures.sound c.step-stepped.ensures.made in
+    let there = lane_there g.C.Instructions.program g.C.Instructions.width m e x c.requires.well c.requires.element c.requires.sent c.requires.come c.index_mut-lane.ensures.value in
+    let count = lane_count m.lanes.items _ m.elements c.requires.well.sound.count in
+    let low : e < length m.lanes.items = (let l = c.requires.element in omega arith) in
+    let runs = runs_at (RunsAs s.setting) m.lanes.items e x c.requires.well.runs low c.index_mut-lane.ensures.value in
+    let program = ap (λ (f : Fixed). f.program) c.step.ensures.fixed ∙ runs.program in
+    let steps = ap (λ (f : Fixed). f.steps) c.step.ensures.fixed ∙ runs.steps in
+    let some = c.in-Some.ensures.some.some in
+    let allowed = c.in_ok-stepped.ensures.allowed some in
+    let is = runs.steps in
+    let few : x.held.made < m.steps = omega arith in
+    let within = c.step.ensures.most in
+    let most : new.held.made ≤ m.steps = omega arith in
+    let exact = subst (λ (p : Program). one.Steps p x.held c.args.pick m.sent.items c.in_ok-stepped.stepped new.held c.step.new.sent.items) runs.program c.in_ok-stepped.ensures.exact in
+    let both = answered s e c.args.pick (held_of x) (held_of new) c.in-Some.token c.step.new.sent.items c.in_ok-stepped.stepped c.requires.well.sound there some few c.in-Some.ensures.some
+    (subst (λ (ts : List Token). one.Steps s.setting.program x.held c.args.pick ts c.in_ok-stepped.stepped new.held c.step.new.sent.items) c.requires.sent exact) (subst (λ (p : Program). IsSoundLane p new.held) program c.step.ensures.sound) most in
     let first = c.requires.come in
     record {
       come = omega arith;
-      sound = subst (λ (l : List Held). Rattle.schedule.specs.State.IsSoundState (record { setting = s.setting; lanes = l })) (state_next m.lanes.items m.sent.items c.step-stepped.new.sent.items m.come c.args.element c.step-stepped.new.self c.requires.sent first) both.0;
+      runs = subst (λ (fs : List Fixed). All (RunsAs s.setting) fs) (sym (fixed_set m.lanes.items e x new low c.index_mut-lane.ensures.value c.step.ensures.fixed)) c.requires.well.runs;
+      sound = subst (λ (l : List Held). IsSoundState (record { setting = s.setting; lanes = l })) (state_next m.lanes.items m.sent.items c.step.new.sent.items m.come e new c.requires.sent first) both.0;
     }
 
 pub returns-clause-exact : goal.returns-clause-exact
 returns-clause-exact g c =
     let m = c.args.self.now in
+    let e = c.args.element in
     let x = c.index_mut-lane.result.now in
-    let there = lane_there g.C.Instructions.program g.C.Instructions.width m c.args.element x c.requires.well c.requires.element c.requires.sent c.requires.come c.index_mut-lane.ensures.value in
+    let new = c.step.new.self in
     let s = state_of g.C.Instructions.program g.C.Instructions.width m in
-    let events = events_of c.step-stepped.result c.args.element c.in-Some.token in
-    let both = answered s c.args.element c.args.pick (held_of x) (held_of c.step-stepped.new.self) c.in-Some.token c.step-stepped.new.sent.items c.step-stepped.result c.requires.well.sound there (c.requires.some (held_of x) there) (c.requires.few (held_of x) there) c.in-Some.ensures.some
-    (subst (λ (ts : List _). Rattle.element.specs.Steps.Steps s.setting.program (held_of x) c.args.pick ts c.step-stepped.result (held_of c.step-stepped.new.self) c.step-stepped.new.sent.items) c.requires.sent c.step-stepped.ensures.exact) c.step-stepped.ensures.sound c.step-stepped.ensures.made in (
+    let there = lane_there g.C.Instructions.program g.C.Instructions.width m e x c.requires.well c.requires.element c.requires.sent c.requires.come c.index_mut-lane.ensures.value in
+    let count = lane_count m.lanes.items _ m.elements c.requires.well.sound.count in
+    let low : e < length m.lanes.items = (let l = c.requires.element in omega arith) in
+    let runs = runs_at (RunsAs s.setting) m.lanes.items e x c.requires.well.runs low c.index_mut-lane.ensures.value in
+    let program = ap (λ (f : Fixed). f.program) c.step.ensures.fixed ∙ runs.program in
+    let steps = ap (λ (f : Fixed). f.steps) c.step.ensures.fixed ∙ runs.steps in
+    let some = c.in-Some.ensures.some.some in
+    let allowed = c.in_ok-stepped.ensures.allowed some in
+    let is = runs.steps in
+    let few : x.held.made < m.steps = omega arith in
+    let within = c.step.ensures.most in
+    let most : new.held.made ≤ m.steps = omega arith in
+    let exact = subst (λ (p : Program). one.Steps p x.held c.args.pick m.sent.items c.in_ok-stepped.stepped new.held c.step.new.sent.items) runs.program c.in_ok-stepped.ensures.exact in
+    let events = events_of c.in_ok-stepped.stepped e c.in-Some.token in
+    let both = answered s e c.args.pick (held_of x) (held_of new) c.in-Some.token c.step.new.sent.items c.in_ok-stepped.stepped c.requires.well.sound there some few c.in-Some.ensures.some
+    (subst (λ (ts : List Token). one.Steps s.setting.program x.held c.args.pick ts c.in_ok-stepped.stepped new.held c.step.new.sent.items) c.requires.sent exact) (subst (λ (p : Program). IsSoundLane p new.held) program c.step.ensures.sound) most in (
       events,
-      subst (λ (l : List Held). Steps s c.args.element c.args.pick (Some c.step-stepped.result) (record { setting = s.setting; lanes = l }) events) (state_next m.lanes.items m.sent.items c.step-stepped.new.sent.items m.come c.args.element c.step-stepped.new.self c.requires.sent c.requires.come) both.1,
-      λ before noted. c.note.ensures before (c.make_room.ensures.same before noted),
+      subst (λ (l : List Held). Steps s e c.args.pick (Some c.in_ok-stepped.stepped) (record { setting = s.setting; lanes = l }) events) (state_next m.lanes.items m.sent.items c.step.new.sent.items m.come e new c.requires.sent c.requires.come) both.1,
+      λ before noted. c.note.ensures before noted,
     )
