@@ -1,5 +1,5 @@
 -- What a round leaves once its tokens are handed over.
-use Rattle.std.proofs.Common.{◌≡◌, refl, sym, ◌∙◌, ap, subst, ℕ, zero, suc, get_or, ◌<◌, ◌≤◌, ◌⊎◌, inl, inr, ℤ, List, [], ◌∷◌, ◌++◌, length, map, take, drop, append_assoc, Option, Some, None, Bool, true, false, arith}
+use Rattle.std.proofs.Common.{◌≡◌, refl, sym, ◌∙◌, ap, subst, ℕ, zero, suc, get_or, ◌<◌, ◌≤◌, inl, inr, ℤ, List, [], ◌∷◌, ◌++◌, length, map, take, drop, append_assoc, Option, Some, None, Bool, true, false, arith}
 use Rattle.std.specs.Prelude.{All, slice_get}
 use Rattle.std.proofs.lemmas.List.{append-nil, length-append, drop_all, take_all, length-map}
 use Rattle.tags.specs.declared.token.Token.{Token}
@@ -10,10 +10,10 @@ use Rattle.semantics.specs.Report.{Report, Shows, HasEnd}
 use Rattle.element.specs.Near.{IsNearToken}
 use Rattle.element.specs.Parts.{bounds}
 use Rattle.tags.specs.Addresses.{element_of}
-use Rattle.element.specs.Held.{Held, held_of, here, queued, IsSoundLane}
+use Rattle.element.specs.Held.{Held, held_of, here, queued}
 use Rattle.schedule.specs.declared.halt.Halt.{Halt}
 use Rattle.schedule.specs.Setting.{Setting, size}
-use Rattle.schedule.specs.State.{State, AllFrom, IsAt, IsPlaced, IsSoundState, delivered, tokens_in}
+use Rattle.schedule.specs.State.{State, AllFrom, IsAt, IsPlaced, IsSoundState, RunsAs, delivered, tokens_in}
 use Rattle.schedule.specs.Runs.{Began, HaltsAs, NamesCell}
 use Rattle.schedule.specs.Told.{opening_picture}
 use Rattle.schedule.specs.Unlisted.{with_events, ShowsBut, ShowsQuietly}
@@ -22,7 +22,7 @@ use Rattle.schedule.proofs.Tokens.{delivered_none}
 use Rattle.schedule.proofs.Places.{to_map}
 use Rattle.rounds.specs.declared.turn.Turner.{Turner}
 use Rattle.rounds.specs.Turns.{coming, logged}
-use Rattle.rounds.specs.Rounds.{lanes_held, tokens_sent, events_noted, halts_in, IsWhy, IsBetween, IsHalted, GoesOn, Rounds, Leads, MadeRound, ShowsOn}
+use Rattle.rounds.specs.Rounds.{lanes_held, lanes_fixed, tokens_sent, events_noted, halts_in, IsWhy, IsBetween, IsHalted, GoesOn, Rounds, Leads, MadeRound, ShowsOn}
 use Rattle.rounds.proofs.Turning.{logged_twice}
 
 -- what a slice of a whole vector writes back
@@ -32,21 +32,21 @@ same_slice n new old whole same =
     let all : length new ≤ n = omega (arith, same, whole) in
     ap (λ (l : List _). take n (new ++ l)) (drop_all (length new) old past) ∙ ap (λ (l : List _). take n l) (append-nil new) ∙ take_all n new all
 
-module _ {A : Type 0} where
-  pub some_turner : (g : Setting) (ts : List (Turner A)) → IsBetween g ts → 0 < length ts
+module _ {C A : Type 0} where
+  pub some_turner : (g : Setting) (ts : List (Turner C A)) → IsBetween g ts → 0 < length ts
   some_turner g ts between =
       let count : length (delivered [] (lanes_held ts)) ≡ g.elements = between.sound.count in
       let one = length-map (lanes_held ts) (λ (h : Held). queued h []) in
-      let two = length-map ts (λ (t : Turner A). held_of t.lane) in
+      let two = length-map ts (λ (t : Turner C A). held_of t.lane) in
       let some : 0 < g.elements = between.sound.setting.some in
       omega (arith, count, one, two, some)
 
-  module _ (g : Setting) (listed may_stop : Bool) (olds news : List (Turner A)) (before after : Events) (tokens : List Token) (made : MadeRound g listed may_stop olds before news after tokens) where
+  module _ (g : Setting) (listed may_stop : Bool) (olds news : List (Turner C A)) (before after : Events) (tokens : List Token) (made : MadeRound g listed may_stop olds before news after tokens) where
     pub count_all : length news ≡ g.elements
     count_all =
         let count : length (delivered tokens (lanes_held news)) ≡ g.elements = made.sound.count in
         let one = length-map (lanes_held news) (λ (h : Held). queued h tokens) in
-        let two = length-map news (λ (t : Turner A). held_of t.lane) in
+        let two = length-map news (λ (t : Turner C A). held_of t.lane) in
         omega (arith, count, one, two)
 
     pub at_all : AllFrom (IsAt g.elements) 0 (lanes_held news)
@@ -56,7 +56,7 @@ module _ {A : Type 0} where
     pub refused_round : Rounds g listed may_stop olds before news after (Some Halt.Memory)
     refused_round = record { rest = tokens; made = made.made; goes = (made.sound, inl tt); noted = made.noted; leads = made.leads }
 
-    module _ (last : List (Turner A)) (rest : List Token) (handed : delivered rest (lanes_held last) ≡ delivered tokens (lanes_held news)) where
+    module _ (last : List (Turner C A)) (rest : List Token) (handed : delivered rest (lanes_held last) ≡ delivered tokens (lanes_held news)) where
       same : coming g (lanes_held news) tokens ≡ coming g (lanes_held last) rest
       same = ap (λ (l : List Held). let s : State = record { setting = g; lanes = l } in s) (sym handed)
 
@@ -70,14 +70,15 @@ module _ {A : Type 0} where
       pub refused_handing : Rounds g listed may_stop olds before last after (Some Halt.Memory)
       refused_handing = record { rest = rest; made = made.made; goes = (sound_last, inl tt); noted = made.noted; leads = leads_last }
 
-      pub closed_round : rest ≡ [] → tokens_sent last ≡ [] → events_noted last ≡ [] → halts_in last ≡ halts_in news → (halt : Option Halt) → IsWhy (lanes_held last) (halts_in last) halt
+      pub closed_round : All (RunsAs g) (lanes_fixed last) → rest ≡ [] → tokens_sent last ≡ [] → events_noted last ≡ [] → halts_in last ≡ halts_in news → (halt : Option Halt) → IsWhy (lanes_held last) (halts_in last) halt
           → Rounds g listed may_stop olds before last after halt
-      closed_round none sent noted halts halt why = record { rest = rest; made = made.made; goes = goes halt why; noted = made.noted; leads = leads_last }
+      closed_round runs none sent noted halts halt why = record { rest = rest; made = made.made; goes = goes halt why; noted = made.noted; leads = leads_last }
         where
           goes : (halt : Option Halt) → IsWhy (lanes_held last) (halts_in last) halt → GoesOn g may_stop last rest halt
           goes None why = (
             record {
               sound = subst (λ (l : List Token). IsSoundState (coming g (lanes_held last) l)) none sound_last;
+              runs = runs;
               sent = sent;
               noted = noted;
             },
@@ -91,12 +92,12 @@ module _ {A : Type 0} where
           )
 
 -- MANY ROUNDS
-module _ {A : Type 0} where
-  pub leads_none : (g : Setting) (ts : List (Turner A)) → Leads g ts ts [] []
+module _ {C A : Type 0} where
+  pub leads_none : (g : Setting) (ts : List (Turner C A)) → Leads g ts ts [] []
   leads_none g ts = λ inputs evs b. subst (λ (l : Events). Began inputs (coming g (lanes_held ts) []) l) (sym (append-nil evs)) b
 
   -- more rounds behind others
-  pub rounds_twice : (g now : Setting) (setting : now ≡ g) (listed may_stop : Bool) (olds mids news : List (Turner A)) (before mid after made : Events) (halt : Option Halt)
+  pub rounds_twice : (g now : Setting) (setting : now ≡ g) (listed may_stop : Bool) (olds mids news : List (Turner C A)) (before mid after made : Events) (halt : Option Halt)
       → mid ≡ logged listed before made → Leads g olds mids [] made → Rounds now listed may_stop mids mid news after halt → Rounds g listed may_stop olds before news after halt
   rounds_twice g now setting listed may_stop olds mids news before mid after made halt noted leads next = subst (λ (x : Setting). Rounds x listed may_stop olds before news after halt) setting (record {
     rest = next.rest;
@@ -107,7 +108,7 @@ module _ {A : Type 0} where
   })
 
   -- what holds between rounds, after those in which nothing halted
-  pub leads_on : (g : Setting) (listed may_stop : Bool) (olds news : List (Turner A)) (before after : Events) (rounds : Rounds g listed may_stop olds before news after None) → Leads g olds news [] rounds.made
+  pub leads_on : (g : Setting) (listed may_stop : Bool) (olds news : List (Turner C A)) (before after : Events) (rounds : Rounds g listed may_stop olds before news after None) → Leads g olds news [] rounds.made
   leads_on g listed may_stop olds news before after rounds = subst (λ (l : List Token). Leads g olds news l rounds.made) rounds.goes.1 rounds.leads
 
 pub map_same : {X : Type 0} (xs : List X) → map (λ y. y) xs ≡ xs
@@ -184,11 +185,11 @@ told_run p z inputs steps may_stop evs r (shown, shows, lists) = subst (λ (l : 
 pub told_quietly : (p : Program) (z : Size) (inputs : List ℤ) (steps : ℕ) (may_stop : Bool) (kept evs : Events) (r : Report) → r.events ≡ [] → ShowsOn false p z inputs steps may_stop kept evs r → ShowsQuietly p z inputs steps false may_stop r
 told_quietly p z inputs steps may_stop kept evs r none (shown, shows, lists) = record { unlisted = none; events = shown; shows = shows }
 
-module _ {A : Type 0} where
-  pub between_start : (g : Setting) (ts : List (Turner A)) (raw : List Held) → lanes_held ts ≡ raw → tokens_sent ts ≡ [] → events_noted ts ≡ [] → IsSoundState (coming g raw []) → IsBetween g ts
-  between_start g ts raw is sent noted sound = record { sound = subst (λ (l : List Held). IsSoundState (coming g l [])) (sym is) sound; sent = sent; noted = noted }
+module _ {C A : Type 0} where
+  pub between_start : (g : Setting) (ts : List (Turner C A)) (raw : List Held) → lanes_held ts ≡ raw → tokens_sent ts ≡ [] → events_noted ts ≡ [] → IsSoundState (coming g raw []) → All (RunsAs g) (lanes_fixed ts) → IsBetween g ts
+  between_start g ts raw is sent noted sound runs = record { runs = runs; sound = subst (λ (l : List Held). IsSoundState (coming g l [])) (sym is) sound; sent = sent; noted = noted }
 
-  module _ (g now : Setting) (setting : now ≡ g) (listed may_stop : Bool) (olds news : List (Turner A)) (before after : Events) (halt : Halt) (rounds : Rounds g listed may_stop olds before news after (Some halt)) (raw : List Held) (lanes : raw ≡ lanes_held news) where
+  module _ (g now : Setting) (setting : now ≡ g) (listed may_stop : Bool) (olds news : List (Turner C A)) (before after : Events) (halt : Halt) (rounds : Rounds g listed may_stop olds before news after (Some halt)) (raw : List Held) (lanes : raw ≡ lanes_held news) where
     same_state : coming g (lanes_held news) rounds.rest ≡ coming now raw rounds.rest
     same_state = ap (λ (x : Setting). coming x (lanes_held news) rounds.rest) (sym setting) ∙ ap (λ (l : List Held). coming now l rounds.rest) (sym lanes)
 

@@ -1,5 +1,5 @@
 -- Turns, and rounds of them.
-use Rattle.std.proofs.Common.{◌≡◌, ◌≢◌, refl, sym, ◌∙◌, ap, subst, ℕ, zero, suc, ◌+◌, ◌<◌, ◌≤◌, Bool, true, false, ℤ, List, [], ◌∷◌, ◌++◌, length, Some, None, arith, append_assoc, map}
+use Rattle.std.proofs.Common.{◌≡◌, refl, sym, ◌∙◌, ap, subst, ℕ, zero, suc, ◌<◌, ◌≤◌, Bool, true, false, ℤ, List, [], ◌∷◌, ◌++◌, length, Some, arith, append_assoc}
 use Rattle.std.specs.Prelude.{All, slice_get, slice_set}
 use Rattle.std.proofs.lemmas.List.{append-nil, length-set, length-append, map-append}
 use Rattle.std.proofs.lemmas.List.Elements.{All-append, All-nil}
@@ -8,15 +8,14 @@ use Rattle.semantics.specs.Program.{Program}
 use Rattle.semantics.specs.Machine.{Events}
 use Rattle.element.specs.Near.{IsNearToken}
 use Rattle.element.specs.Held.{Held, IsSoundLane}
-use Rattle.element.specs.Parts.{Shape}
 use Rattle.element.specs.Steps as one
 use Rattle.schedule.specs.Setting.{Setting, IsGoodSetting}
-use Rattle.schedule.specs.State.{State, AllFrom, IsPlaced}
+use Rattle.schedule.specs.State.{AllFrom, IsPlaced}
 use Rattle.schedule.specs.Runs.{Began}
 use Rattle.schedule.proofs.Places.{first_get, first_set}
 use Rattle.schedule.proofs.Tokens.{set_same}
 use Rattle.schedule.proofs.Stepping.{bounds_in}
-use Rattle.rounds.specs.Turns.{by, logged, Turns, Turned, TakesTurn, Round, made_in, helds, all_sent, all_noted, coming}
+use Rattle.rounds.specs.Turns.{by, logged, Turns, Turned, Round, made_in, helds, all_sent, all_noted, coming}
 use Rattle.rounds.proofs.Going.{began_one, near_sent, next_placed}
 
 -- one event more at the end of a turn

@@ -1,39 +1,45 @@
 -- What lanes hold between rounds.
-use Rattle.std.specs.Prelude.{◌≡◌, ℕ, ◌<◌, ◌⊎◌, ℤ, List, [], ◌++◌, Bool, true, false, length, map, Option, Some, None, slice_get, ⊤}
+use Rattle.std.specs.Prelude.{◌≡◌, ℕ, ◌<◌, ◌⊎◌, ℤ, List, [], ◌++◌, Bool, true, false, length, map, All, Option, Some, None, slice_get, ⊤}
 use Rattle.std.specs.List.{flat_map}
 use Rattle.tags.specs.declared.token.Token.{Token}
 use Rattle.semantics.specs.Program.{Program}
 use Rattle.semantics.specs.Machine.{Size, Events}
 use Rattle.semantics.specs.Report.{Report, Shows}
 use Rattle.schedule.specs.Unlisted.{with_events}
-use Rattle.element.specs.Held.{Held, held_of}
+use Rattle.element.specs.Held.{Held, Fixed, held_of, fixed_of}
 use Rattle.schedule.specs.declared.halt.Halt.{Halt}
 use Rattle.schedule.specs.Setting.{Setting}
-use Rattle.schedule.specs.State.{State, IsSoundState, tokens_in}
+use Rattle.schedule.specs.State.{State, IsSoundState, RunsAs, tokens_in}
 use Rattle.schedule.specs.Runs.{Began, HaltsAs}
 use Rattle.rounds.specs.declared.turn.Turner.{Turner}
 use Rattle.rounds.specs.Turns.{coming, logged}
 
-abbrev pub lane_held : {A : Type 0} → Turner A → Held
+abbrev pub lane_held : {C A : Type 0} → Turner C A → Held
 lane_held t = held_of t.lane
 
-abbrev pub lanes_held : {A : Type 0} → List (Turner A) → List Held
+abbrev pub lanes_held : {C A : Type 0} → List (Turner C A) → List Held
 lanes_held ts = map lane_held ts
 
-abbrev pub tokens_sent : {A : Type 0} → List (Turner A) → List Token
+abbrev pub lane_fixed : {C A : Type 0} → Turner C A → Fixed
+lane_fixed t = fixed_of t.lane
+
+abbrev pub lanes_fixed : {C A : Type 0} → List (Turner C A) → List Fixed
+lanes_fixed ts = map lane_fixed ts
+
+abbrev pub tokens_sent : {C A : Type 0} → List (Turner C A) → List Token
 tokens_sent ts = flat_map (λ t. t.sent.items) ts
 
-abbrev pub events_noted : {A : Type 0} → List (Turner A) → Events
+abbrev pub events_noted : {C A : Type 0} → List (Turner C A) → Events
 events_noted ts = flat_map (λ t. t.log.items) ts
 
-abbrev pub halt_in : {A : Type 0} → Turner A → Option Halt
+abbrev pub halt_in : {C A : Type 0} → Turner C A → Option Halt
 halt_in t = t.halt
 
-abbrev pub halts_in : {A : Type 0} → List (Turner A) → List (Option Halt)
+abbrev pub halts_in : {C A : Type 0} → List (Turner C A) → List (Option Halt)
 halts_in ts = map halt_in ts
 
 -- nothing is on its way
-abbrev pub IsCleared : {A : Type 0} → List (Turner A) → Type 0
+abbrev pub IsCleared : {C A : Type 0} → List (Turner C A) → Type 0
 IsCleared ts = (tokens_sent ts ≡ []) × (events_noted ts ≡ [])
 
 -- the first element that halts
@@ -46,8 +52,10 @@ IsWhy lanes halts None = ⊤
 IsWhy lanes halts (Some halt) = IsFirst halts halt ⊎ ((tokens_in lanes ≡ []) × (halt ≡ Halt.NoToken))
 
 -- what holds between rounds
-pub record IsBetween {A : Type 0} (g : Setting) (ts : List (Turner A)) : Type 0 where
+pub record IsBetween {C A : Type 0} (g : Setting) (ts : List (Turner C A)) : Type 0 where
   pub sound : IsSoundState (coming g (lanes_held ts) [])
+  -- each lane runs the code of the machine
+  pub runs : All (RunsAs g) (lanes_fixed ts)
   pub sent : tokens_sent ts ≡ []
   pub noted : events_noted ts ≡ []
 
@@ -56,16 +64,16 @@ abbrev pub IsHalted : State → Bool → Halt → Type 0
 IsHalted s may_stop halt = HaltsAs s false halt ⊎ ((halt ≡ Halt.Stop) × (may_stop ≡ true))
 
 -- Where nothing halts it is as between rounds; and else the tokens that are on their way are these.
-abbrev pub GoesOn : {A : Type 0} → Setting → Bool → List (Turner A) → List Token → Option Halt → Type 0
+abbrev pub GoesOn : {C A : Type 0} → Setting → Bool → List (Turner C A) → List Token → Option Halt → Type 0
 GoesOn g may_stop ts rest None = IsBetween g ts × (rest ≡ [])
 GoesOn g may_stop ts rest (Some halt) = IsSoundState (coming g (lanes_held ts) rest) × IsHalted (coming g (lanes_held ts) rest) may_stop halt
 
 -- what is known of the machine with these tokens on their way, if it was known with none
-abbrev pub Leads : {A : Type 0} → Setting → List (Turner A) → List (Turner A) → List Token → Events → Type 0
+abbrev pub Leads : {C A : Type 0} → Setting → List (Turner C A) → List (Turner C A) → List Token → Events → Type 0
 Leads g old new rest made = (inputs : List ℤ) (before : Events) → Began inputs (coming g (lanes_held old) []) before → Began inputs (coming g (lanes_held new) rest) (before ++ made)
 
 -- what rounds do, with the events that they made
-pub record Rounds {A : Type 0} (g : Setting) (listed may_stop : Bool) (old : List (Turner A)) (before : Events) (new : List (Turner A)) (after : Events) (halt : Option Halt) : Type 0 where
+pub record Rounds {C A : Type 0} (g : Setting) (listed may_stop : Bool) (old : List (Turner C A)) (before : Events) (new : List (Turner C A)) (after : Events) (halt : Option Halt) : Type 0 where
   pub rest : List Token
   pub made : Events
   pub goes : GoesOn g may_stop new rest halt
@@ -73,8 +81,9 @@ pub record Rounds {A : Type 0} (g : Setting) (listed may_stop : Bool) (old : Lis
   pub leads : Leads g old new rest made
 
 -- what the turns of a round leave, with all tokens that are on their way
-pub record MadeRound {A : Type 0} (g : Setting) (listed may_stop : Bool) (old : List (Turner A)) (before : Events) (new : List (Turner A)) (after : Events) (tokens : List Token) : Type 0 where
+pub record MadeRound {C A : Type 0} (g : Setting) (listed may_stop : Bool) (old : List (Turner C A)) (before : Events) (new : List (Turner C A)) (after : Events) (tokens : List Token) : Type 0 where
   pub sound : IsSoundState (coming g (lanes_held new) tokens)
+  pub runs : All (RunsAs g) (lanes_fixed new)
   pub made : Events
   pub noted : after ≡ logged listed before made
   pub leads : Leads g old new tokens made

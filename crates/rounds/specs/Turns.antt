@@ -1,14 +1,14 @@
 -- What a lane does in its turn, and what lanes do in a round.
-use Rattle.std.specs.Prelude.{◌≡◌, ℕ, suc, ◌<◌, ◌≤◌, Bool, true, false, List, [], ◌∷◌, ◌++◌, ◌^◌, map, length, Option, Some, None, ⊤}
+use Rattle.std.specs.Prelude.{◌≡◌, ℕ, ◌<◌, ◌≤◌, Bool, true, false, List, [], ◌∷◌, ◌++◌, map, length, Option, Some, None, ⊤}
 use Rattle.std.specs.List.{flat_map}
 use Rattle.tags.specs.declared.token.Token.{Token}
 use Rattle.semantics.specs.Program.{Program}
 use Rattle.semantics.specs.Machine.{Events}
-use Rattle.element.specs.Held.{Held, held_of, IsSoundLane}
+use Rattle.element.specs.Held.{Held, held_of, fixed_of, IsSoundLane}
 use Rattle.element.specs.Steps.{Does, Clashes, Excludes}
 use Rattle.schedule.specs.declared.halt.Halt.{Halt}
 use Rattle.schedule.specs.Setting.{Setting}
-use Rattle.schedule.specs.State.{State, delivered, IsPlaced}
+use Rattle.schedule.specs.State.{State, delivered}
 use Rattle.rounds.specs.declared.turn.Turner.{Turner}
 
 -- the events of an element that took these tokens
@@ -44,24 +44,21 @@ pub record Turned : Type 0 where
   pub log : Events
   pub halt : Option Halt
 
-abbrev pub turned_of : {A : Type 0} → Turner A → Turned
+abbrev pub turned_of : {C A : Type 0} → Turner C A → Turned
 turned_of t = record { held = held_of t.lane; sent = t.sent.items; log = t.log.items; halt = t.halt }
-
--- it may take a turn
-pub record IsReady (p : Program) (slots most : ℕ) (t : Turned) : Type 0 where
-  pub sound : IsSoundLane p t.held
-  pub width : slots ≤ t.held.part.shape.width
-  pub few : t.held.made ≤ most
-  pub steps : most ≤ 2 ^ 32
 
 -- it took its turn
 pub record TakesTurn (p : Program) (steps turn : ℕ) (listed may_stop : Bool) (old new : Turned) : Type 0 where
-  pub sound : IsSoundLane p new.held
   pub taken : List Token
   pub turns : Turns p steps old.held old.sent taken new.held new.sent
   pub noted : new.log ≡ logged listed old.log (by old.held.part.shape.element taken)
   pub few : length taken ≤ turn
   pub halts : HaltsLane p steps may_stop new.held new.halt
+
+-- The lane of a turner took its turn, and runs the same code.
+pub record TookTurn {C A : Type 0} (turn : ℕ) (listed may_stop : Bool) (old new : Turner C A) : Type 0 where
+  pub takes : TakesTurn old.lane.program old.lane.steps turn listed may_stop (turned_of old) (turned_of new)
+  pub fixed : fixed_of new.lane ≡ fixed_of old.lane
 
 -- lanes before, and after their turns
 abbrev pub Round : Setting → Bool → Bool → List Held → List Turned → Type 0

@@ -1,17 +1,19 @@
 //! What the elements made in a round is gathered.
 
 ghost use Rattle.std.specs.Prelude.{◌≡◌, ◌++◌, [], length, OnOk};
-ghost use Rattle.rounds.specs.Rounds.{lane_held, lanes_held, tokens_sent, events_noted, halts_in};
+ghost use Rattle.rounds.specs.Rounds.{lane_held, lanes_held, lane_fixed, lanes_fixed, tokens_sent, events_noted, halts_in};
 
 use crate::turn::Turner;
+use element::instructions::Instructions;
 use std::alloc::{AllocError, Allocator};
 use tags::token::Token;
 
-fn take_events<A: Allocator>(
-    turner: &mut Turner<'_, A>,
+fn take_events<C: Instructions, A: Allocator>(
+    turner: &mut Turner<'_, C, A>,
     events: &mut Vec<(u32, Token), A>,
 ) -> Result<(), AllocError>
     ensures held { lane_held turner.new ≡ lane_held turner.old }
+    ensures fixed { lane_fixed turner.new ≡ lane_fixed turner.old }
     ensures sent { turner.new.sent.items ≡ turner.old.sent.items }
     ensures halt { turner.new.halt ≡ turner.old.halt }
     ensures events { events.new.items ++ turner.new.log.items ≡ events.old.items ++ turner.old.log.items }
@@ -21,11 +23,12 @@ fn take_events<A: Allocator>(
     events.append(log)
 }
 
-fn take_tokens<A: Allocator>(
-    turner: &mut Turner<'_, A>,
+fn take_tokens<C: Instructions, A: Allocator>(
+    turner: &mut Turner<'_, C, A>,
     tokens: &mut Vec<Token, A>,
 ) -> Result<(), AllocError>
     ensures held { lane_held turner.new ≡ lane_held turner.old }
+    ensures fixed { lane_fixed turner.new ≡ lane_fixed turner.old }
     ensures events { turner.new.log.items ≡ turner.old.log.items }
     ensures halt { turner.new.halt ≡ turner.old.halt }
     ensures tokens { tokens.new.items ++ turner.new.sent.items ≡ tokens.old.items ++ turner.old.sent.items }
@@ -36,11 +39,12 @@ fn take_tokens<A: Allocator>(
 }
 
 /// Takes the events of all elements, in order.
-pub fn gather_events<A: Allocator>(
-    turners: &mut [Turner<'_, A>],
+pub fn gather_events<C: Instructions, A: Allocator>(
+    turners: &mut [Turner<'_, C, A>],
     events: &mut Vec<(u32, Token), A>,
 ) -> Result<(), AllocError>
     ensures lanes { lanes_held turners.new ≡ lanes_held turners.old }
+    ensures fixed { lanes_fixed turners.new ≡ lanes_fixed turners.old }
     ensures sent { tokens_sent turners.new ≡ tokens_sent turners.old }
     ensures halts { halts_in turners.new ≡ halts_in turners.old }
     ensures events { events.new.items ++ events_noted turners.new ≡ events.old.items ++ events_noted turners.old }
@@ -55,11 +59,12 @@ pub fn gather_events<A: Allocator>(
 }
 
 /// Takes the tokens that all elements made for others, in order.
-pub fn gather_tokens<A: Allocator>(
-    turners: &mut [Turner<'_, A>],
+pub fn gather_tokens<C: Instructions, A: Allocator>(
+    turners: &mut [Turner<'_, C, A>],
     tokens: &mut Vec<Token, A>,
 ) -> Result<(), AllocError>
     ensures lanes { lanes_held turners.new ≡ lanes_held turners.old }
+    ensures fixed { lanes_fixed turners.new ≡ lanes_fixed turners.old }
     ensures events { events_noted turners.new ≡ events_noted turners.old }
     ensures halts { halts_in turners.new ≡ halts_in turners.old }
     ensures tokens { tokens.new.items ++ tokens_sent turners.new ≡ tokens.old.items ++ tokens_sent turners.old }

@@ -1,19 +1,24 @@
 //! Tokens are handed over to the elements that they are addressed to.
 
-ghost use Rattle.std.specs.Prelude.{◌≡◌, ◌<◌, ◌++◌, ◌∷◌, [], List, length, OnOk, OnErr};
+ghost use Rattle.std.specs.Prelude.{◌≡◌, ◌<◌, ◌∷◌, [], List, length, All, OnOk, OnErr};
 ghost use Rattle.tags.specs.declared.token.Token.{Token};
-ghost use Rattle.element.specs.Held.{with_queue};
-ghost use Rattle.schedule.specs.State.{AllFrom, IsAt, delivered};
-ghost use Rattle.rounds.specs.Rounds.{lane_held, lanes_held, tokens_sent, events_noted, halts_in};
+ghost use Rattle.element.specs.Held.{fixed_of, with_more, IsFor};
+ghost use Rattle.schedule.specs.State.{AllFrom, IsAt, IsNearIn, delivered};
+ghost use Rattle.rounds.specs.Rounds.{lanes_held, lanes_fixed, tokens_sent, events_noted, halts_in};
 
 use crate::turn::Turner;
 use element::dealt::element_for;
+use element::instructions::Instructions;
 use std::alloc::{AllocError, Allocator};
 use tags::token::Token;
 
-fn receive_one<A: Allocator>(turner: &mut Turner<'_, A>, token: Token) -> Result<(), AllocError>
-    ensures ok { OnOk result (lane_held turner.new ≡ with_queue (lane_held turner.old) (turner.old.lane.queue.items ++ token ∷ [])) }
-    ensures err { OnErr result (lane_held turner.new ≡ lane_held turner.old) }
+fn receive_one<C: Instructions, A: Allocator>(
+    turner: &mut Turner<'_, C, A>,
+    token: Token,
+) -> Result<(), AllocError>
+    requires { IsFor (fixed_of turner.old.lane) token }
+    ensures ok { OnOk result (turner.new.lane ≡ with_more turner.old.lane (token ∷ [])) }
+    ensures err { OnErr result (turner.new.lane ≡ turner.old.lane) }
     ensures sent { turner.new.sent.items ≡ turner.old.sent.items }
     ensures events { turner.new.log.items ≡ turner.old.log.items }
     ensures halt { turner.new.halt ≡ turner.old.halt }
@@ -23,14 +28,16 @@ fn receive_one<A: Allocator>(turner: &mut Turner<'_, A>, token: Token) -> Result
 }
 
 // Puts a token into the lane of its element. After an error all stands as before.
-fn receive<A: Allocator>(
-    turners: &mut Vec<Turner<'_, A>, A>,
+fn receive<C: Instructions, A: Allocator>(
+    turners: &mut Vec<Turner<'_, C, A>, A>,
     elements: u32,
     token: Token,
 ) -> Result<(), AllocError>
     requires some { 0 < elements }
     requires count { length turners.old.items ≡ elements }
     requires at { AllFrom (IsAt elements) 0 (lanes_held turners.old.items) }
+    requires near { IsNearIn (lanes_fixed turners.old.items) token }
+    ensures fixed { lanes_fixed turners.new.items ≡ lanes_fixed turners.old.items }
     ensures ok { OnOk result (lanes_held turners.new.items ≡ delivered (token ∷ []) (lanes_held turners.old.items)) }
     ensures err { OnErr result (lanes_held turners.new.items ≡ lanes_held turners.old.items) }
     ensures sent { tokens_sent turners.new.items ≡ tokens_sent turners.old.items }
@@ -44,14 +51,16 @@ fn receive<A: Allocator>(
 }
 
 /// Hands the tokens over. After an error the others are still on their way.
-pub fn hand_over<A: Allocator>(
-    turners: &mut Vec<Turner<'_, A>, A>,
+pub fn hand_over<C: Instructions, A: Allocator>(
+    turners: &mut Vec<Turner<'_, C, A>, A>,
     elements: u32,
     tokens: &mut Vec<Token, A>,
 ) -> Result<(), AllocError>
     requires some { 0 < elements }
     requires count { length turners.old.items ≡ elements }
     requires at { AllFrom (IsAt elements) 0 (lanes_held turners.old.items) }
+    requires near { All (IsNearIn (lanes_fixed turners.old.items)) tokens.old.items }
+    ensures fixed { lanes_fixed turners.new.items ≡ lanes_fixed turners.old.items }
     ensures same { (rest : List Token) × (delivered rest (lanes_held turners.new.items) ≡ delivered tokens.old.items (lanes_held turners.old.items)) × OnOk result (rest ≡ []) }
     ensures tokens { OnOk result (tokens.new.items ≡ []) }
     ensures sent { tokens_sent turners.new.items ≡ tokens_sent turners.old.items }

@@ -4,19 +4,20 @@ ghost use Rattle.std.specs.Prelude.{◌≡◌, ◌<◌, ◌++◌, [], ℕ, ℤ, 
 ghost use Rattle.tags.specs.declared.token.Token.{Token};
 ghost use Rattle.semantics.specs.Machine.{Events};
 ghost use Rattle.semantics.specs.Report.{Shows};
-ghost use Rattle.element.specs.Held.{held_of};
+ghost use Rattle.element.specs.Held.{held_of, fixed_of};
 ghost use Rattle.schedule.specs.Setting.{size};
-ghost use Rattle.schedule.specs.State.{IsSoundState, tokens_in};
+ghost use Rattle.schedule.specs.State.{IsSoundState, RunsAs, tokens_in};
 ghost use Rattle.schedule.specs.Runs.{Began};
 ghost use Rattle.schedule.specs.Apart.{setting_in};
 ghost use Rattle.schedule.specs.Unlisted.{ShowsQuietly};
-ghost use Rattle.rounds.specs.Turns.{IsReady, TakesTurn, turned_of, coming};
-ghost use Rattle.rounds.specs.Rounds.{lanes_held, tokens_sent, IsCleared, halts_in, IsFirst, IsWhy, IsBetween, Rounds, MadeRound, ShowsOn};
+ghost use Rattle.rounds.specs.Turns.{TookTurn, coming};
+ghost use Rattle.rounds.specs.Rounds.{lanes_held, lanes_fixed, tokens_sent, IsCleared, halts_in, IsFirst, IsWhy, IsBetween, Rounds, MadeRound, ShowsOn};
 
 use crate::gate::Gate;
 use crate::gathering::{gather_events, gather_tokens};
 use crate::handing::hand_over;
 use crate::turn::{Turner, make_turn};
+use element::instructions::Instructions;
 use element::lane::Lane;
 use schedule::halt::Halt;
 use schedule::machine::Machine;
@@ -30,18 +31,14 @@ use std::thread::Threads;
 use tags::token::Token;
 
 // Each element makes its turn, in a thread of its own.
-fn make_turns<R: Threads + Sync, C: MainCode + Sync, A: Allocator + Clone + Send, G: Gate + Sync>(
-    rt: &R,
-    turners: &mut [Turner<'_, A>],
-    code: &C,
-    gate: &G,
-    steps: u64,
-    turn: u64,
-    listed: bool,
-)
-    requires some { 0 < length turners.old }
-    requires ready { All (λ t. IsReady (C.program code.now) (C.width code.now) steps (turned_of t)) turners.old }
-    ensures each { (i : ℕ) (d : _) → i < length turners.old → TakesTurn (C.program code.now) steps turn listed G.may_stop (turned_of (slice_index_or turners.old i d)) (turned_of (slice_index_or turners.new i d)) }
+fn make_turns<
+    R: Threads + Sync,
+    C: Instructions + Sync,
+    A: Allocator + Clone + Send,
+    G: Gate + Sync,
+>(rt: &R, turners: &mut [Turner<'_, C, A>], gate: &G, turn: u64, listed: bool)
+    requires { 0 < length turners.old }
+    ensures each { (i : ℕ) (d : _) → i < length turners.old → TookTurn turn listed G.may_stop (slice_index_or turners.old i d) (slice_index_or turners.new i d) }
     ensures count { length turners.new ≡ length turners.old }
 {
     let threads = turners.len();
@@ -49,15 +46,14 @@ fn make_turns<R: Threads + Sync, C: MainCode + Sync, A: Allocator + Clone + Send
         rt,
         turners,
         threads,
-        &|_: usize, turner: &mut Turner<'_, A>| -> ()
-            requires { IsReady (C.program code.now) (C.width code.now) steps (turned_of turner.old) }
-            ensures { TakesTurn (C.program code.entry.now) steps turn listed G.may_stop (turned_of turner.old) (turned_of turner.new) }
-        { make_turn(turner, code, gate, steps, turn, listed) },
+        &|_: usize, turner: &mut Turner<'_, C, A>| -> ()
+            ensures { TookTurn turn listed G.may_stop turner.old turner.new }
+        { make_turn(turner, gate, turn, listed) },
     );
 }
 
 // The first reason of an element to halt.
-fn first_halt<A: Allocator>(turners: &[Turner<'_, A>]) -> Option<Halt>
+fn first_halt<C: Instructions, A: Allocator>(turners: &[Turner<'_, C, A>]) -> Option<Halt>
     ensures { IfSome result (λ halt. IsFirst (halts_in turners.now) halt) }
 {
     for at in 0..turners.len() {
@@ -69,11 +65,11 @@ fn first_halt<A: Allocator>(turners: &[Turner<'_, A>]) -> Option<Halt>
 }
 
 // Whether no element has a token.
-fn is_idle<A: Allocator>(turners: &[Turner<'_, A>]) -> bool
+fn is_idle<C: Instructions, A: Allocator>(turners: &[Turner<'_, C, A>]) -> bool
     ensures { result ≡ true → tokens_in (lanes_held turners.now) ≡ [] }
 {
     for at in 0..turners.len() {
-        if turners[at].lane.queue.len() != 0 {
+        if turners[at].lane.queue().len() != 0 {
             return false;
         }
     }
@@ -81,7 +77,7 @@ fn is_idle<A: Allocator>(turners: &[Turner<'_, A>]) -> bool
 }
 
 // Why the run halts after a round, in which no token is on its way.
-fn why<A: Allocator>(turners: &[Turner<'_, A>]) -> Option<Halt>
+fn why<C: Instructions, A: Allocator>(turners: &[Turner<'_, C, A>]) -> Option<Halt>
     ensures { IsWhy (lanes_held turners.now) (halts_in turners.now) result }
 {
     match first_halt(turners) {
@@ -100,7 +96,7 @@ fn why<A: Allocator>(turners: &[Turner<'_, A>]) -> Option<Halt>
 fn make_round<R: Threads + Sync, C: MainCode + Sync, A: Allocator + Clone + Send, G: Gate + Sync>(
     rt: &R,
     setup: &mut Setup<'_, C, A>,
-    turners: &mut [Turner<'_, A>],
+    turners: &mut [Turner<'_, C, A>],
     tokens: &mut Vec<Token, A>,
     gate: &G,
     listed: bool,
@@ -113,15 +109,7 @@ fn make_round<R: Threads + Sync, C: MainCode + Sync, A: Allocator + Clone + Send
     ensures all { IfOk result (λ all. all ≡ true → tokens_sent turners.new ≡ []) }
     ensures count { length turners.new ≡ length turners.old }
 {
-    make_turns(
-        rt,
-        turners,
-        setup.code,
-        gate,
-        setup.steps,
-        setup.turn,
-        listed,
-    );
+    make_turns(rt, turners, gate, setup.turn, listed);
     gather_events(turners, &mut setup.events)?;
     match gather_tokens(turners, tokens) {
         Ok(()) => Ok(true),
@@ -138,7 +126,7 @@ fn make_whole_round<
 >(
     rt: &R,
     setup: &mut Setup<'_, C, A>,
-    turners: &mut Vec<Turner<'_, A>, A>,
+    turners: &mut Vec<Turner<'_, C, A>, A>,
     tokens: &mut Vec<Token, A>,
     gate: &G,
     listed: bool,
@@ -158,7 +146,7 @@ fn make_whole_round<
 fn round<R: Threads + Sync, C: MainCode + Sync, A: Allocator + Clone + Send, G: Gate + Sync>(
     rt: &R,
     setup: &mut Setup<'_, C, A>,
-    turners: &mut Vec<Turner<'_, A>, A>,
+    turners: &mut Vec<Turner<'_, C, A>, A>,
     tokens: &mut Vec<Token, A>,
     gate: &G,
     listed: bool,
@@ -183,7 +171,7 @@ fn round<R: Threads + Sync, C: MainCode + Sync, A: Allocator + Clone + Send, G: 
 fn play<R: Threads + Wait + Sync, C: MainCode + Sync, A: Allocator + Clone + Send, G: Gate + Sync>(
     rt: &R,
     setup: &mut Setup<'_, C, A>,
-    turners: &mut Vec<Turner<'_, A>, A>,
+    turners: &mut Vec<Turner<'_, C, A>, A>,
     tokens: &mut Vec<Token, A>,
     gate: &G,
     listed: bool,
@@ -201,42 +189,47 @@ fn play<R: Threads + Wait + Sync, C: MainCode + Sync, A: Allocator + Clone + Sen
     unreachable!()
 }
 
-fn turner<'m, A: Allocator>(alloc: &A, lane: Lane<'m, A>) -> Result<Turner<'m, A>, AllocError>
-where
-    A: Clone,
-    ensures { IfOk result (λ t. (held_of t.lane ≡ held_of lane.entry) × (t.sent.items ≡ []) × (t.log.items ≡ [])) }
+// A lane before its first turn, with lists that are empty.
+fn turner<'m, C: Instructions, A: Allocator>(
+    lane: Lane<'m, C, A>,
+    sent: Vec<Token, A>,
+    log: Vec<(u32, Token), A>,
+) -> Turner<'m, C, A>
+    ensures lane { result.lane ≡ lane.entry }
+    ensures lists { (result.sent.items ≡ sent.items) × (result.log.items ≡ log.items) }
 {
-    let sent = Vec::new(alloc.clone()?);
-    let log = Vec::new(alloc.clone()?);
-    Ok(Turner {
+    Turner {
         lane,
         sent,
         log,
         halt: None,
         blocks: 0,
-    })
+    }
 }
 
-fn turners_of<'m, A: Allocator>(
+fn turners_of<'m, C: Instructions, A: Allocator>(
     alloc: &A,
-    lanes: Vec<Lane<'m, A>, A>,
-) -> Result<Vec<Turner<'m, A>, A>, AllocError>
+    mut lanes: Vec<Lane<'m, C, A>, A>,
+) -> Result<Vec<Turner<'m, C, A>, A>, AllocError>
 where
     A: Clone,
     ensures lanes { IfOk result (λ ts. lanes_held ts.items ≡ map held_of lanes.entry.items) }
+    ensures fixed { IfOk result (λ ts. lanes_fixed ts.items ≡ map fixed_of lanes.entry.items) }
     ensures cleared { IfOk result (λ ts. IsCleared ts.items) }
 {
     let mut turners = Vec::with_capacity(alloc.clone()?, lanes.len())?;
-    for lane in lanes {
-        turners.push(turner(alloc, lane)?)?;
+    'each: for _at in 0..lanes.len() {
+        let sent = Vec::new(alloc.clone()?);
+        let log = Vec::new(alloc.clone()?);
+        turners.push(turner(lanes.remove(0), sent, log))?;
     }
     Ok(turners)
 }
 
 // The lanes, in their order.
-fn lanes_in<'m, A: Allocator>(
-    turners: Vec<Turner<'m, A>, A>,
-    lanes: &mut Vec<Lane<'m, A>, A>,
+fn lanes_in<'m, C: Instructions, A: Allocator>(
+    turners: Vec<Turner<'m, C, A>, A>,
+    lanes: &mut Vec<Lane<'m, C, A>, A>,
 ) -> Result<(), AllocError>
     requires { lanes.old.items ≡ [] }
     ensures { OnOk result (map held_of lanes.new.items ≡ lanes_held turners.entry.items) }
@@ -248,15 +241,20 @@ fn lanes_in<'m, A: Allocator>(
     Ok(())
 }
 
-type Ready<'m, A> = (Vec<Turner<'m, A>, A>, Vec<Token, A>, Vec<Lane<'m, A>, A>);
+type Ready<'m, C, A> = (
+    Vec<Turner<'m, C, A>, A>,
+    Vec<Token, A>,
+    Vec<Lane<'m, C, A>, A>,
+);
 
-fn ready<'m, A: Allocator>(
+fn ready<'m, C: Instructions, A: Allocator>(
     alloc: &A,
-    lanes: Vec<Lane<'m, A>, A>,
-) -> Result<Ready<'m, A>, AllocError>
+    lanes: Vec<Lane<'m, C, A>, A>,
+) -> Result<Ready<'m, C, A>, AllocError>
 where
     A: Clone,
     ensures lanes { IfOk result (λ r. lanes_held r.0.items ≡ map held_of lanes.entry.items) }
+    ensures fixed { IfOk result (λ r. lanes_fixed r.0.items ≡ map fixed_of lanes.entry.items) }
     ensures cleared { IfOk result (λ r. IsCleared r.0.items × (r.1.items ≡ []) × (r.2.items ≡ [])) }
 {
     let spare = Vec::with_capacity(alloc.clone()?, lanes.len())?;
@@ -272,12 +270,13 @@ fn run_apart<
     G: Gate + Sync,
 >(
     mut setup: Setup<'_, C, A>,
-    lanes: Vec<Lane<'_, A>, A>,
+    lanes: Vec<Lane<'_, C, A>, A>,
     rt: &R,
     gate: &G,
     listed: bool,
 ) -> Report<A>
-    requires { IsSoundState (coming (setting_in C.program C.width setup) (map held_of lanes.items) []) }
+    requires sound { IsSoundState (coming (setting_in C.program C.width setup) (map held_of lanes.items) []) }
+    requires runs { All (RunsAs (setting_in C.program C.width setup)) (map fixed_of lanes.items) }
     ensures unlisted { listed ≡ false → setup.entry.events.items ≡ [] → result.events ≡ [] }
     ensures shows { (inputs : List ℤ) (events : Events) → Began inputs (coming (setting_in C.program C.width setup.entry) (map held_of lanes.entry.items) []) events → ShowsOn listed (C.program setup.entry.code.now) (size (setting_in C.program C.width setup.entry)) inputs setup.entry.steps G.may_stop setup.entry.events.items events result }
 {

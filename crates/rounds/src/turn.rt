@@ -3,20 +3,20 @@
 ghost use Rattle.std.specs.Prelude.{◌≡◌, ◌<◌, ◌≤◌, ◌^◌, ◌∷◌, [], List, length, OnOk, true, false, vec_len};
 ghost use Rattle.std.specs.Vec.{vec_capacity};
 ghost use Rattle.tags.specs.declared.token.Token.{Token};
-ghost use Rattle.element.specs.Held.{held_of, IsSoundLane};
-ghost use Rattle.rounds.specs.Turns.{by, logged, Turns, HaltsLane, TakesTurn, turned_of, IsReady};
+ghost use Rattle.element.specs.Held.{fixed_of, IsSoundLane};
+ghost use Rattle.rounds.specs.Turns.{by, logged, Turns, HaltsLane, TookTurn};
 
 use crate::gate::Gate;
+use element::instructions::Instructions;
 use element::lane::{Lane, Stepped};
 use schedule::halt::Halt;
-use schedule::main_code::MainCode;
 use std::alloc::{AllocError, Allocator};
 use tags::token::Token;
 
 /// A lane with what it made in its turn.
 #[derive(Drop)]
-pub struct Turner<'m, A: Allocator> {
-    pub lane: Lane<'m, A>,
+pub struct Turner<'m, C: Instructions, A: Allocator> {
+    pub lane: Lane<'m, C, A>,
     /// The tokens for other elements.
     pub sent: Vec<Token, A>,
     /// The events that it made, where events are listed.
@@ -46,36 +46,31 @@ fn note<A: Allocator>(log: &mut Vec<(u32, Token), A>, listed: bool, element: u32
 }
 
 /// The lane takes its oldest tokens, up to `turn` of them.
-pub fn take_turn<C: MainCode, A: Allocator + Clone>(
-    lane: &mut Lane<'_, A>,
+pub fn take_turn<C: Instructions, A: Allocator + Clone>(
+    lane: &mut Lane<'_, C, A>,
     sent: &mut Vec<Token, A>,
     log: &mut Vec<(u32, Token), A>,
-    code: &C,
-    steps: u64,
     turn: u64,
     listed: bool,
 ) -> Option<Halt>
-    requires sound { IsSoundLane (C.program code.now) (held_of lane.old) }
-    requires width { C.width code.now ≤ lane.old.bank.width }
-    requires few { lane.old.made ≤ steps }
-    requires steps { steps ≤ 2 ^ 32 }
-    ensures sound { IsSoundLane (C.program code.now) (held_of lane.new) }
-    ensures turns { (taken : List Token) × Turns (C.program code.now) steps (held_of lane.old) sent.old.items taken (held_of lane.new) sent.new.items × (log.new.items ≡ logged listed log.old.items (by lane.old.element taken)) × (length taken ≤ turn) }
-    ensures halts { HaltsLane (C.program code.now) steps false (held_of lane.new) result }
+    ensures sound { IsSoundLane lane.old.program lane.old.held → IsSoundLane lane.new.program lane.new.held }
+    ensures turns { (taken : List Token) × Turns lane.old.program lane.old.steps lane.old.held sent.old.items taken lane.new.held sent.new.items × (log.new.items ≡ logged listed log.old.items (by lane.old.held.part.shape.element taken)) × (length taken ≤ turn) }
+    ensures halts { HaltsLane lane.old.program lane.old.steps false lane.new.held result }
+    ensures fixed { fixed_of lane.new ≡ fixed_of lane.old }
 {
     'events: for _done in 0..turn {
         let Some(token) = lane.token(0) else {
             return None;
         };
-        if lane.made == steps {
-            return Some(Halt::Steps);
-        }
         if make_room(log, listed).is_err() {
             return Some(Halt::Memory);
         }
-        match lane.step(0, code, sent) {
-            Stepped::Did => note(log, listed, lane.element, token),
-            Stepped::Idle => unreachable!(),
+        let Some(stepped) = lane.step(0, sent) else {
+            return Some(Halt::Steps);
+        };
+        match stepped {
+            Stepped::Did => note(log, listed, lane.element(), token),
+            Stepped::Idle => return None,
             Stepped::Clash { cell } => return Some(Halt::Clash { cell }),
             Stepped::Stuck { rule } => return Some(Halt::Stuck { rule }),
             Stepped::Memory => return Some(Halt::Memory),
@@ -85,25 +80,26 @@ pub fn take_turn<C: MainCode, A: Allocator + Clone>(
 }
 
 // Whether the lane may take its turn: it asks the gate only where it has a token.
-fn may_go_on<A: Allocator, G: Gate>(lane: &Lane<'_, A>, gate: &G, blocks: u64) -> bool
+fn may_go_on<C: Instructions, A: Allocator, G: Gate>(
+    lane: &Lane<'_, C, A>,
+    gate: &G,
+    blocks: u64,
+) -> bool
     ensures { result ≡ false → G.may_stop ≡ true }
 {
-    lane.queue.len() == 0 || gate.go_on(lane.element, blocks)
+    lane.queue().len() == 0 || gate.go_on(lane.element(), blocks)
 }
 
 /// The element asks the gate, and takes its turn.
-pub fn make_turn<C: MainCode, A: Allocator + Clone, G: Gate>(
-    turner: &mut Turner<'_, A>,
-    code: &C,
+pub fn make_turn<C: Instructions, A: Allocator + Clone, G: Gate>(
+    turner: &mut Turner<'_, C, A>,
     gate: &G,
-    steps: u64,
     turn: u64,
     listed: bool,
 )
-    requires { IsReady (C.program code.now) (C.width code.now) steps (turned_of turner.old) }
-    ensures { TakesTurn (C.program code.now) steps turn listed G.may_stop (turned_of turner.old) (turned_of turner.new) }
+    ensures { TookTurn turn listed G.may_stop turner.old turner.new }
 {
-    gate.enter(turner.lane.element);
+    gate.enter(turner.lane.element());
     let Turner {
         lane,
         sent,
@@ -115,6 +111,6 @@ pub fn make_turn<C: MainCode, A: Allocator + Clone, G: Gate>(
         *halt = Some(Halt::Stop);
         return;
     }
-    *blocks = blocks.wrapping_add(u64::from(lane.queue.len() != 0));
-    *halt = take_turn(lane, sent, log, code, steps, turn, listed);
+    *blocks = blocks.wrapping_add(u64::from(lane.queue().len() != 0));
+    *halt = take_turn(lane, sent, log, turn, listed);
 }

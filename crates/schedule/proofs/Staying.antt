@@ -11,8 +11,9 @@ use Rattle.semantics.specs.Program.{Program}
 use Rattle.element.specs.Near.{Bounds, IsNearToken}
 use Rattle.element.specs.Held.{Held, LaneView, Fixed, held_of, fixed_of, bounds_at, queued}
 use Rattle.schedule.specs.Setting.{Setting}
-use Rattle.schedule.specs.State.{State, AllFrom, IsPlaced, IsSoundState, RunsAs, IsNearIn, delivered, lanes_of, tokens_in}
-use Rattle.schedule.proofs.Memory.{raw_at, state_next}
+use Rattle.schedule.specs.State.{State, AllFrom, IsAt, IsPlaced, IsSoundState, RunsAs, IsNearIn, delivered, lanes_of, tokens_in}
+use Rattle.schedule.proofs.Places.{to_map}
+use Rattle.schedule.proofs.Memory.{state_next}
 use Rattle.schedule.proofs.Tokens.{set_same, tokens_delivered}
 use Rattle.schedule.proofs.Stepping.{bounds_in, bounds_are, unchanged}
 
@@ -52,11 +53,10 @@ last_all P [] ys all = all
 last_all P (x ∷ xs) ys all = last_all P xs ys (All-tail P x (xs ++ ys) all)
 
 -- so do tokens that are on their way
-pub near_coming : (g : Setting) (items : List LaneView) (ts : List Token) → IsSoundState (record { setting = g; lanes = lanes_of items ts }) → All (IsNearToken (bounds_in g)) ts
-near_coming g items ts sound =
-    let raw = map held_of items in
+pub near_coming : (g : Setting) (raw : List Held) (ts : List Token) → IsSoundState (record { setting = g; lanes = delivered ts raw }) → All (IsNearToken (bounds_in g)) ts
+near_coming g raw ts sound =
     let count : length raw ≡ g.elements = sym (length-map raw (λ (h : Held). queued h ts)) ∙ sound.count in
-    let at = raw_at g items ts sound.lanes in
+    let at = to_map (IsAt g.elements) (IsPlaced g) (λ (h : Held). queued h ts) (λ (i : ℕ) (h : Held) (p : IsPlaced g i (queued h ts)). (p.element, p.elements)) 0 raw sound.lanes in
     let all = near_in g 0 (delivered ts raw) sound.lanes in
     last_all (IsNearToken (bounds_in g)) (tokens_in raw) ts (All-permutation (IsNearToken (bounds_in g)) (tokens_in (delivered ts raw)) (tokens_in raw ++ ts) (tokens_delivered g.elements raw ts sound.setting.some count at) all)
 

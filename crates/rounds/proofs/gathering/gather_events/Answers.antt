@@ -1,6 +1,6 @@
-use Rattle.std.proofs.Common.{◌≡◌, refl, sym, ◌∙◌, ap, ◌<◌, ◌≤◌, ◌++◌, [], List, length, arith}
+use Rattle.std.proofs.Common.{◌∙◌, ◌<◌, ◌≤◌, length, arith}
 use Rattle.std.proofs.lemmas.List.{length-set}
-use Rattle.rounds.specs.Rounds.{lane_held, halt_in}
+use Rattle.rounds.specs.Rounds.{lane_held, lane_fixed, halt_in}
 use Rattle.rounds.proofs.Changes.{map_kept, flat_kept, flat_moved, flat_taken, flat_all}
 use Rattle.rounds.proofs.gathering.gather_events.Goals as goal
 
@@ -14,6 +14,17 @@ returns-in_err-take_events-clause-lanes g c =
     let inv = c.loop-at.invariant in
     let low : at < length ts = (let t = c.loop-at-test.true in let a = c.loop-at.auto.at-end in let n = inv.count in omega arith) in
     map_kept (λ t. lane_held t) ts at old new low e.held ∙ inv.lanes
+
+pub returns-in_err-take_events-clause-fixed : goal.returns-in_err-take_events-clause-fixed
+returns-in_err-take_events-clause-fixed g c =
+    let ts = c.loop-at.turners in
+    let at = c.loop-at.at in
+    let old = c.index-turners-at.result in
+    let new = c.take_events.new.turner in
+    let e = c.take_events.ensures in
+    let inv = c.loop-at.invariant in
+    let low : at < length ts = (let t = c.loop-at-test.true in let a = c.loop-at.auto.at-end in let n = inv.count in omega arith) in
+    map_kept (λ t. lane_fixed t) ts at old new low e.fixed ∙ inv.fixed
 
 pub returns-in_err-take_events-clause-sent : goal.returns-in_err-take_events-clause-sent
 returns-in_err-take_events-clause-sent g c =
@@ -58,6 +69,7 @@ loop-at-preserved g c =
     let inv = c.loop-at.invariant in
     let low : at < length ts = (let t = c.loop-at-test.true in let a = c.loop-at.auto.at-end in let n = inv.count in omega arith) in
     record {
+      fixed = map_kept (λ t. lane_fixed t) ts at old new low e.fixed ∙ inv.fixed;
       lanes = map_kept (λ t. lane_held t) ts at old new low e.held ∙ inv.lanes;
       sent = flat_kept (λ t. t.sent.items) ts at old new low e.sent ∙ inv.sent;
       halts = map_kept (λ t. halt_in t) ts at old new low e.halt ∙ inv.halts;

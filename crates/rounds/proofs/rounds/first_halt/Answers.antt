@@ -1,4 +1,3 @@
-use Rattle.std.proofs.Common.{◌≡◌}
 use Rattle.rounds.proofs.Rounding.{halt_at, none_more}
 use Rattle.rounds.proofs.rounds.first_halt.Goals as goal
 

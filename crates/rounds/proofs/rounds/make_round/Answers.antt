@@ -1,14 +1,11 @@
-use Rattle.std.proofs.Common.{◌≡◌, sym, ◌∙◌, ap, ◌++◌, [], List}
+use Rattle.std.proofs.Common.{sym, ◌∙◌, ap, ◌++◌, List}
 use Rattle.std.proofs.lemmas.List.{append-nil}
 use Rattle.tags.specs.declared.token.Token.{Token}
 use Rattle.semantics.specs.Machine.{Events}
 use Rattle.schedule.specs.Apart.{setting_in}
 use Rattle.rounds.specs.Rounds.{tokens_sent}
-use Rattle.rounds.proofs.Rounding.{made_round, all_ready}
+use Rattle.rounds.proofs.Rounding.{made_round}
 use Rattle.rounds.proofs.rounds.make_round.Goals as goal
-
-pub make_turns-requires-clause-ready : goal.make_turns-requires-clause-ready
-make_turns-requires-clause-ready g c = λ κs within. all_ready {A = g.row.A.Denot} (setting_in g.C.Instructions.program g.C.Instructions.width c.args.setup.now) c.args.turners.now c.requires.between
 
 pub returns-in-Ok-clause-made : goal.returns-in-Ok-clause-made
 returns-in-Ok-clause-made g c =
@@ -21,8 +18,8 @@ returns-in-Ok-clause-made g c =
     let e = c.gather_events.ensures in
     let s = c.gather_tokens.ensures in
     let none = c.in_ok-gather_events.ensures.cleared in
-    made_round {A = g.row.A.Denot} (setting_in g.C.Instructions.program g.C.Instructions.width c.args.setup.now) c.args.listed g.G.Gate.may_stop c.args.turners.now news last before after (c.gather_tokens.new.tokens.items ++ tokens_sent last) c.requires.between t.count t.each
-    (s.lanes ∙ e.lanes) (s.halts ∙ e.halts)
+    made_round {C = g.row.C.Denot} {A = g.row.A.Denot} (setting_in g.C.Instructions.program g.C.Instructions.width c.args.setup.now) c.args.listed g.G.Gate.may_stop c.args.turners.now news last before after (c.gather_tokens.new.tokens.items ++ tokens_sent last) c.requires.between t.count t.each
+    (s.lanes ∙ e.lanes) (s.fixed ∙ e.fixed) (s.halts ∙ e.halts)
     (s.tokens ∙ ap (λ (l : List Token). l ++ tokens_sent first) c.requires.tokens ∙ e.sent)
     (sym (append-nil after) ∙ ap (λ (l : Events). after ++ l) (sym none) ∙ e.events)
     (s.events ∙ none) (s.count ∙ e.count ∙ t.count)
@@ -38,8 +35,8 @@ returns-in-Err-clause-made g c =
     let e = c.gather_events.ensures in
     let s = c.gather_tokens.ensures in
     let none = c.in_ok-gather_events.ensures.cleared in
-    made_round {A = g.row.A.Denot} (setting_in g.C.Instructions.program g.C.Instructions.width c.args.setup.now) c.args.listed g.G.Gate.may_stop c.args.turners.now news last before after (c.gather_tokens.new.tokens.items ++ tokens_sent last) c.requires.between t.count t.each
-    (s.lanes ∙ e.lanes) (s.halts ∙ e.halts)
+    made_round {C = g.row.C.Denot} {A = g.row.A.Denot} (setting_in g.C.Instructions.program g.C.Instructions.width c.args.setup.now) c.args.listed g.G.Gate.may_stop c.args.turners.now news last before after (c.gather_tokens.new.tokens.items ++ tokens_sent last) c.requires.between t.count t.each
+    (s.lanes ∙ e.lanes) (s.fixed ∙ e.fixed) (s.halts ∙ e.halts)
     (s.tokens ∙ ap (λ (l : List Token). l ++ tokens_sent first) c.requires.tokens ∙ e.sent)
     (sym (append-nil after) ∙ ap (λ (l : Events). after ++ l) (sym none) ∙ e.events)
     (s.events ∙ none) (s.count ∙ e.count ∙ t.count)

@@ -14,7 +14,7 @@ rounds-init g c = record {
   tokens = c.requires.tokens;
   made = [];
   noted = logged_none c.args.listed c.args.setup.now.events.items;
-  leads = leads_none {A = g.row.A.Denot} (setting_in g.C.Instructions.program g.C.Instructions.width c.args.setup.now) c.args.turners.now.items;
+  leads = leads_none {C = g.row.C.Denot} {A = g.row.A.Denot} (setting_in g.C.Instructions.program g.C.Instructions.width c.args.setup.now) c.args.turners.now.items;
 }
 
 pub returns-in-Some-2-clause-rounds : goal.returns-in-Some-2-clause-rounds
@@ -25,7 +25,7 @@ returns-in-Some-2-clause-rounds g c =
     let mids = c.rounds.turners.items in
     let news = c.round.new.turners.items in
     let may = g.G.Gate.may_stop in
-    rounds_twice {A = g.row.A.Denot} s now inv.setting c.args.listed may c.args.turners.now.items mids news c.args.setup.now.events.items c.rounds.setup.events.items c.round.new.setup.events.items inv.made (Some c.in-Some-2.halt) inv.noted inv.leads
+    rounds_twice {C = g.row.C.Denot} {A = g.row.A.Denot} s now inv.setting c.args.listed may c.args.turners.now.items mids news c.args.setup.now.events.items c.rounds.setup.events.items c.round.new.setup.events.items inv.made (Some c.in-Some-2.halt) inv.noted inv.leads
     (subst (λ (o : Option Halt). Rounds now c.args.listed may mids c.rounds.setup.events.items news c.round.new.setup.events.items o) c.in-Some-2.is c.in_ok-halt.ensures.rounds)
 
 pub rounds-preserved : goal.rounds-preserved
@@ -38,7 +38,7 @@ rounds-preserved g c =
     let may = g.G.Gate.may_stop in
     let after = c.round.new.setup.events.items in
     let none : c.in_ok-halt.field-0 ≡ None = cc in
-    let all = rounds_twice {A = g.row.A.Denot} s now inv.setting c.args.listed may c.args.turners.now.items mids news c.args.setup.now.events.items c.rounds.setup.events.items after inv.made None inv.noted inv.leads
+    let all = rounds_twice {C = g.row.C.Denot} {A = g.row.A.Denot} s now inv.setting c.args.listed may c.args.turners.now.items mids news c.args.setup.now.events.items c.rounds.setup.events.items after inv.made None inv.noted inv.leads
     (subst (λ (o : Option Halt). Rounds now c.args.listed may mids c.rounds.setup.events.items news after o) none c.in_ok-halt.ensures.rounds) in
     record {
       setting = c.round.ensures.setting ∙ inv.setting;
@@ -46,5 +46,5 @@ rounds-preserved g c =
       tokens = c.in_ok-halt.ensures.tokens none;
       made = all.made;
       noted = all.noted;
-      leads = leads_on {A = g.row.A.Denot} s c.args.listed may c.args.turners.now.items news c.args.setup.now.events.items after all;
+      leads = leads_on {C = g.row.C.Denot} {A = g.row.A.Denot} s c.args.listed may c.args.turners.now.items news c.args.setup.now.events.items after all;
     }

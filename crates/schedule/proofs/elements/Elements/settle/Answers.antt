@@ -1,5 +1,5 @@
 use Rattle.std.proofs.Common.{map, drop}
-use Rattle.element.specs.Held.{fixed_of}
+use Rattle.element.specs.Held.{held_of, fixed_of}
 use Rattle.schedule.specs.State.{state_of}
 use Rattle.schedule.proofs.Memory.{raw_at}
 use Rattle.schedule.proofs.Staying.{near_for, near_coming}
@@ -13,4 +13,4 @@ deliver-requires-clause-near g c =
     let m = c.args.self.now in
     let z = (state_of g.C.Instructions.program g.C.Instructions.width m).setting in
     let ts = drop m.come m.sent.items in
-    near_for z (map fixed_of m.lanes.items) c.requires.runs ts (near_coming z m.lanes.items ts c.requires.sound)
+    near_for z (map fixed_of m.lanes.items) c.requires.runs ts (near_coming z (map held_of m.lanes.items) ts c.requires.sound)
