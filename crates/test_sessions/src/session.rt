@@ -5,7 +5,7 @@ use std::alloc::{AllocError, Global};
 use std::io::{self, Write};
 use std::sync::Wait;
 use std::thread::Threads;
-use test_pieces::{append, append_repeated};
+use test_pieces::{append, append_repeated, changed};
 use test_served::{Outcome, answer};
 
 /// A session, as far as its lines have been read.
@@ -77,15 +77,6 @@ fn overwrite(input: &mut [u8], place: usize, bytes: &[u8]) -> bool {
         *old = *new;
     }
     true
-}
-
-/// What stands before the first place where these bytes stand in the input, and what stands behind it.
-fn split_at<'a>(input: &'a [u8], bytes: &[u8]) -> Option<(&'a [u8], &'a [u8])> {
-    let place = input
-        .windows(bytes.len().max(1))
-        .position(|window| window == bytes)?;
-    let (front, rest) = input.split_at_checked(place)?;
-    Some((front, rest.strip_prefix(bytes)?))
 }
 
 /// Writes a text, and ends its last line.
@@ -192,14 +183,13 @@ impl<'a> Session<'a> {
         let Some((old, new)) = words.split_once(" -> ") else {
             return Ok(false);
         };
-        let Some((front, rest)) = split_at(&self.input, old.as_bytes()) else {
-            return Ok(false);
-        };
-        let mut changed = Vec::from_slice(self.alloc, front)?;
-        append(&mut changed, new.as_bytes(), 0)?;
-        changed.extend_from_slice(rest)?;
-        self.input = changed;
-        Ok(true)
+        match changed(self.alloc, &self.input, old.as_bytes(), new.as_bytes())? {
+            Some(input) => {
+                self.input = input;
+                Ok(true)
+            }
+            None => Ok(false),
+        }
     }
 
     /// Overwrites the input as these words say.
