@@ -1,2 +1,3 @@
+pub mod Holders
 pub mod Marks
 pub mod Sound

@@ -5,10 +5,13 @@
 ghost use Rattle.std.specs.Prelude.{◌≡◌, length, map, slice_get};
 ghost use Rattle.std.specs.Option.{option_copied};
 
+pub use holders::Holder;
 use semantics::program::{Dest, Mark, Op};
 use std::alloc::Allocator;
 use std::marker::Model;
 use tags::value::Origin;
+
+mod holders;
 
 /// An instruction with any number of destinations. A switch sends to the first ones where it is true and else to the
 /// second ones; a link has its landing in the first ones and signals to the second ones; any other sends to all.

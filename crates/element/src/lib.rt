@@ -5,8 +5,6 @@ pub mod dealt;
 pub mod firing;
 pub mod instructions;
 pub mod lane;
-#[cfg(test)]
-mod tests;
 
 ghost use Rattle.element.specs.Openings.{OthersStay};
 

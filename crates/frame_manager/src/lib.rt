@@ -8,8 +8,6 @@ ghost use Rattle.frame_manager.specs.Answered.{Requested, Released, RequestIsEve
 
 mod bits;
 mod frames;
-#[cfg(test)]
-mod tests;
 
 use frames::Frames;
 use std::alloc::{AllocError, Allocator};

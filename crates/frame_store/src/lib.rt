@@ -8,5 +8,3 @@ pub mod packing;
 pub mod slot;
 pub mod store;
 pub mod store_bank;
-#[cfg(test)]
-mod tests;

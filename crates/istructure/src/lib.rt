@@ -8,8 +8,6 @@ ghost use Rattle.istructure.specs.Answered.{FetchedAt, StoredAt};
 ghost use Rattle.istructure.specs.Holds.{FetchIsEvent, StoreIsEvent};
 
 mod cell;
-#[cfg(test)]
-mod tests;
 
 use cell::Cell;
 use std::alloc::{AllocError, Allocator};

@@ -11,8 +11,6 @@ ghost use Rattle.schedule.specs.Setting.{FitsSlots};
 ghost use Rattle.loaded.specs.Ready.{widest, inputs_of};
 
 mod making;
-#[cfg(test)]
-mod tests;
 
 use element::instructions::{Array, Instruction, Instructions};
 use making::{arrays_of, cells_of, entries_of, most_slots};

@@ -5,7 +5,5 @@ mod legal_order;
 pub mod log;
 mod pool;
 mod rest;
-#[cfg(test)]
-mod tests;
 
 pub use legal_order::order;

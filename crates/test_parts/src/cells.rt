@@ -1,7 +1,11 @@
-use super::*;
+//! The cells of an element.
+
+use istructure::{Cells, FetchAnswer, StoreAnswer};
 use rationed::Rationed;
+use std::alloc::Allocator;
 use std::test::Fail;
-use tags::token::Port;
+use tags::token::{Cont, Port};
+use tags::value::Value;
 
 const fn reader(ip: u32) -> Cont {
     Cont::Frame {

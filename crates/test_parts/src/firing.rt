@@ -3,8 +3,8 @@
 ghost use Rattle.std.specs.Prelude.{◌≡◌, true, [], ◌∷◌};
 ghost use Rattle.element.specs.Fired.{HasRoom, HasRoomInWord, HasRoomInSlot};
 
-use crate::firing::{Made, NONE, Outcome, SIGNAL, Seat, fire};
-use crate::instructions::{Array, Instruction, Instructions, dest_in};
+use element::firing::{Made, NONE, Outcome, SIGNAL, Seat, fire};
+use element::instructions::{Array, Instruction, Instructions, dest_in};
 use operators::{Binary, Unary};
 use semantics::program::{Dest, Op};
 use tags::slot::SlotState;

@@ -1,6 +1,10 @@
-use super::*;
+//! The frame manager.
+
+use frame_manager::{Manager, NotOut};
 use rationed::Rationed;
+use std::alloc::Allocator;
 use std::test::Fail;
+use tags::token::Cont;
 
 #[test]
 fn answers_each_call(rt: HostRuntime) -> Result<(), Fail> {

@@ -1,10 +1,12 @@
-use crate::queue::TokenQueue;
+//! The queue of tokens.
+
 use rationed::Rationed;
 use std::alloc::{AllocError, Allocator};
 use std::collections::VecDeque;
 use std::test::Fail;
 use tags::token::{Port, To, Token, Word};
 use tags::value::{FaultKind, Origin, Value};
+use token_queue::queue::TokenQueue;
 
 fn token(number: u32) -> Token {
     Token {

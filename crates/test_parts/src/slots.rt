@@ -1,12 +1,14 @@
+//! The slots of frames, in banks.
+
 ghost use Rattle.std.specs.Prelude.{◌≡◌, ◌<◌, length, slice_set, true};
 ghost use Rattle.frame_store.specs.BankViews.{bank_states, IsBank, place_in};
 ghost use Rattle.frame_store.specs.Slots.{place_of, with_state};
 
-use crate::bank::BankMut;
-use crate::frame::LendSlot;
-use crate::packing::{pack, unpack};
-use crate::slot::Slot;
-use crate::store::Store;
+use frame_store::bank::BankMut;
+use frame_store::frame::LendSlot;
+use frame_store::packing::{pack, unpack};
+use frame_store::slot::Slot;
+use frame_store::store::Store;
 use rationed::Rationed;
 use std::alloc::Allocator;
 use std::test::Fail;

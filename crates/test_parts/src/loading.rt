@@ -1,9 +1,11 @@
 //! The object that adds its two inputs, ready to be run.
 
-use super::*;
-use element::instructions::dest_in;
+use element::instructions::{Array, Instructions, dest_in};
+use loaded::Loaded;
+use object_view::Object;
 use operators::Binary;
 use rationed::Rationed;
+use schedule::main_code::MainCode;
 use semantics::program::{Dest, Op};
 use tags::token::Port;
 

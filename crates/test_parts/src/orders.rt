@@ -1,5 +1,7 @@
-use crate::log::{Counts, Log};
-use crate::order;
+//! The order of the blocks of free-running elements.
+
+use ordering::log::{Counts, Log};
+use ordering::order;
 use rationed::Rationed;
 use std::alloc::{AllocError, Allocator};
 use std::test::Fail;
