@@ -56,230 +56,218 @@ fn is_good<A: Allocator + Clone>(
 }
 
 /// The sum of two inputs: holders 0 to 2 are `add`, `return` and `release`.
-fn sum_plan<A: Allocator + Clone>(alloc: A) -> Result<Plan<A>, AllocError> {
-    let lines = [
-        (Op::Copy, 0, [(4, L), (5, L)].as_slice(), NONE),
-        (Op::Copy, 0, [(2, L)].as_slice(), NONE),
-        (Op::Copy, 0, [(1, R)].as_slice(), NONE),
-        (ADD, 0, [(1, R)].as_slice(), NONE),
-        (Op::Return { offset: 0 }, 1, [(1, R)].as_slice(), NONE),
-        (Op::Release { offset: 1 }, 2, NONE, NONE),
-    ];
-    lines_plan(alloc, 3, &lines, None)
-}
-
-#[test]
-fn the_return_waits_beside_the_sum(rt: HostRuntime) -> Result<(), Fail> {
-    let alloc = rt.alloc();
-    let plan = sum_plan(alloc)?;
-    assert!(rt; is_good(alloc, &plan, &[0, 1, 2])?);
-    assert!(rt; !is_good(alloc, &plan, &[0, 0, 1])?);
-    assert!(rt; !is_good(alloc, &plan, &[0, 1, 1])?);
-    assert!(rt; is_good(alloc, &plan, &[511, 0, 7])?);
-    assert!(rt; !is_good(alloc, &plan, &[512, 0, 7])?);
-    assert!(rt; !is_good(alloc, &plan, &[0, 1])?);
-    assert!(rt; !is_good(alloc, &plan, &[0, 1, 2, 3])?);
-    Ok(())
-}
+const SUM: &[Line] = &[
+    (Op::Copy, 0, &[(4, L), (5, L)], NONE),
+    (Op::Copy, 0, &[(2, L)], NONE),
+    (Op::Copy, 0, &[(1, R)], NONE),
+    (ADD, 0, &[(1, R)], NONE),
+    (Op::Return { offset: 0 }, 1, &[(1, R)], NONE),
+    (Op::Release { offset: 1 }, 2, NONE, NONE),
+];
 
 /// `or` of an input with itself, then `and` of that with itself.
-fn chain_plan<A: Allocator + Clone>(alloc: A) -> Result<Plan<A>, AllocError> {
-    let lines = [
-        (Op::Copy, 0, [(4, L), (5, L)].as_slice(), NONE),
-        (Op::Copy, 0, [(1, L), (1, R)].as_slice(), NONE),
-        (OR, 0, [(1, L), (1, R)].as_slice(), NONE),
-        (AND, 1, [(1, R)].as_slice(), NONE),
-        (Op::Return { offset: 0 }, 2, [(1, R)].as_slice(), NONE),
-        (Op::Release { offset: 1 }, 3, NONE, NONE),
-    ];
-    lines_plan(alloc, 4, &lines, None)
-}
-
-#[test]
-fn one_comes_after_the_other(rt: HostRuntime) -> Result<(), Fail> {
-    let alloc = rt.alloc();
-    let plan = chain_plan(alloc)?;
-    assert!(rt; is_good(alloc, &plan, &[0, 0, 1, 2])?);
-    assert!(rt; !is_good(alloc, &plan, &[0, 1, 0, 2])?);
-    Ok(())
-}
+const CHAIN: &[Line] = &[
+    (Op::Copy, 0, &[(4, L), (5, L)], NONE),
+    (Op::Copy, 0, &[(1, L), (1, R)], NONE),
+    (OR, 0, &[(1, L), (1, R)], NONE),
+    (AND, 1, &[(1, R)], NONE),
+    (Op::Return { offset: 0 }, 2, &[(1, R)], NONE),
+    (Op::Release { offset: 1 }, 3, NONE, NONE),
+];
 
 /// An `add` in the upper arm of a conditional and a `mul` in the lower arm: holders 2 and 3.
-fn arms_plan<A: Allocator + Clone>(alloc: A, mark: Option<Mark>) -> Result<Plan<A>, AllocError> {
-    let lines = [
-        (Op::Copy, 0, [(8, L), (9, L)].as_slice(), NONE),
-        (
-            Op::Copy,
-            0,
-            [(1, L), (1, R), (2, L), (2, R)].as_slice(),
-            NONE,
-        ),
-        (
-            Op::Switch,
-            0,
-            [(2, L), (2, R)].as_slice(),
-            [(5, R)].as_slice(),
-        ),
-        (
-            Op::Switch,
-            1,
-            [(4, R)].as_slice(),
-            [(2, L), (2, R)].as_slice(),
-        ),
-        (ADD, 2, [(2, L)].as_slice(), NONE),
-        (MUL, 3, [(1, L)].as_slice(), NONE),
-        (Op::Copy, 0, [(2, R)].as_slice(), NONE),
-        (Op::Sync, 6, NONE, NONE),
-        (Op::Return { offset: 0 }, 4, [(1, R)].as_slice(), NONE),
-        (Op::Release { offset: 1 }, 5, NONE, NONE),
-    ];
-    lines_plan(alloc, 7, &lines, mark)
-}
-
-#[test]
-fn arms_share(rt: HostRuntime) -> Result<(), Fail> {
-    let alloc = rt.alloc();
-    let marked = arms_plan(alloc, Some(Mark::OfCond { cond: 1 }))?;
-    assert!(rt; is_good(alloc, &marked, &[0, 1, 2, 2, 3, 4, 5])?);
-    assert!(rt; !is_good(alloc, &marked, &[0, 0, 2, 3, 4, 5, 6])?);
-    let of_loop = arms_plan(alloc, Some(Mark::OfFlag))?;
-    assert!(rt; is_good(alloc, &of_loop, &[0, 1, 2, 2, 3, 4, 5])?);
-    let unmarked = arms_plan(alloc, None)?;
-    assert!(rt; !is_good(alloc, &unmarked, &[0, 1, 2, 2, 3, 4, 5])?);
-    Ok(())
-}
+const ARMS: &[Line] = &[
+    (Op::Copy, 0, &[(8, L), (9, L)], NONE),
+    (Op::Copy, 0, &[(1, L), (1, R), (2, L), (2, R)], NONE),
+    (Op::Switch, 0, &[(2, L), (2, R)], &[(5, R)]),
+    (Op::Switch, 1, &[(4, R)], &[(2, L), (2, R)]),
+    (ADD, 2, &[(2, L)], NONE),
+    (MUL, 3, &[(1, L)], NONE),
+    (Op::Copy, 0, &[(2, R)], NONE),
+    (Op::Sync, 6, NONE, NONE),
+    (Op::Return { offset: 0 }, 4, &[(1, R)], NONE),
+    (Op::Release { offset: 1 }, 5, NONE, NONE),
+];
 
 /// The sum and the product of an input with itself: holders 0 and 1.
-fn independent_plan<A: Allocator + Clone>(alloc: A) -> Result<Plan<A>, AllocError> {
-    let lines = [
-        (Op::Copy, 0, NONE, NONE),
-        (
-            Op::Copy,
-            0,
-            [(1, L), (1, R), (2, L), (2, R)].as_slice(),
-            NONE,
-        ),
-        (ADD, 0, NONE, NONE),
-        (MUL, 1, NONE, NONE),
-    ];
-    lines_plan(alloc, 2, &lines, None)
-}
-
-#[test]
-fn independent_operators_do_not_share(rt: HostRuntime) -> Result<(), Fail> {
-    let alloc = rt.alloc();
-    let plan = independent_plan(alloc)?;
-    assert!(rt; is_good(alloc, &plan, &[1, 0])?);
-    assert!(rt; !is_good(alloc, &plan, &[0, 0])?);
-    let slots = assign(alloc, &plan).map_err(|_| "assigned")?;
-    assert!(rt; check_slots(alloc, &plan, &slots)?);
-    assert_eq!(rt; slots.block(0), Some([0, 1].as_slice()));
-    Ok(())
-}
+const INDEPENDENT: &[Line] = &[
+    (Op::Copy, 0, NONE, NONE),
+    (Op::Copy, 0, &[(1, L), (1, R), (2, L), (2, R)], NONE),
+    (ADD, 0, NONE, NONE),
+    (MUL, 1, NONE, NONE),
+];
 
 /// The sum of an input with itself, which a switch lets the continuation pass to the return: holders 0 to 3 are `add`, the
 /// switch, `return` and `release`.
-fn late_return_plan<A: Allocator + Clone>(alloc: A) -> Result<Plan<A>, AllocError> {
-    let lines = [
-        (Op::Copy, 0, [(3, L), (5, L)].as_slice(), NONE),
-        (Op::Copy, 0, [(1, L), (1, R)].as_slice(), NONE),
-        (ADD, 0, [(1, R), (2, R)].as_slice(), NONE),
-        (Op::Switch, 1, [(1, L)].as_slice(), [(1, L)].as_slice()),
-        (Op::Return { offset: 0 }, 2, [(1, R)].as_slice(), NONE),
-        (Op::Release { offset: 1 }, 3, NONE, NONE),
-    ];
-    lines_plan(alloc, 4, &lines, None)
-}
-
-#[test]
-fn a_late_return_shares_with_the_sum(rt: HostRuntime) -> Result<(), Fail> {
-    let alloc = rt.alloc();
-    let plan = late_return_plan(alloc)?;
-    assert!(rt; is_good(alloc, &plan, &[0, 1, 2, 3])?);
-    assert!(rt; is_good(alloc, &plan, &[0, 1, 0, 2])?);
-    for crowded in [
-        [0, 0, 1, 2],
-        [0, 1, 1, 2],
-        [0, 1, 2, 0],
-        [0, 1, 2, 1],
-        [0, 1, 2, 2],
-        [0, 1, 0, 0],
-    ] {
-        assert!(rt; !is_good(alloc, &plan, &crowded)?, "{crowded:?}");
-    }
-    let slots = assign(alloc, &plan).map_err(|_| "assigned")?;
-    assert_eq!(rt; slots.block(0), Some([0, 1, 0, 2].as_slice()));
-    Ok(())
-}
+const LATE_RETURN: &[Line] = &[
+    (Op::Copy, 0, &[(3, L), (5, L)], NONE),
+    (Op::Copy, 0, &[(1, L), (1, R)], NONE),
+    (ADD, 0, &[(1, R), (2, R)], NONE),
+    (Op::Switch, 1, &[(1, L)], &[(1, L)]),
+    (Op::Return { offset: 0 }, 2, &[(1, R)], NONE),
+    (Op::Release { offset: 1 }, 3, NONE, NONE),
+];
 
 /// The same sum, with a switch that lets the continuation pass from the return to the release: holders 0 to 3 are `add`,
 /// `return`, the switch and `release`.
-fn late_release_plan<A: Allocator + Clone>(alloc: A) -> Result<Plan<A>, AllocError> {
-    let lines = [
-        (Op::Copy, 0, [(3, L), (4, L)].as_slice(), NONE),
-        (Op::Copy, 0, [(1, L), (1, R)].as_slice(), NONE),
-        (ADD, 0, [(1, R)].as_slice(), NONE),
-        (
-            Op::Return { offset: 0 },
-            1,
-            [(1, R), (2, R)].as_slice(),
-            NONE,
-        ),
-        (Op::Switch, 2, [(1, L)].as_slice(), [(1, L)].as_slice()),
-        (Op::Release { offset: 1 }, 3, NONE, NONE),
-    ];
-    lines_plan(alloc, 4, &lines, None)
-}
-
-#[test]
-fn a_late_release_shares_with_the_return(rt: HostRuntime) -> Result<(), Fail> {
-    let alloc = rt.alloc();
-    let plan = late_release_plan(alloc)?;
-    assert!(rt; is_good(alloc, &plan, &[0, 1, 2, 1])?);
-    assert!(rt; is_good(alloc, &plan, &[0, 1, 2, 0])?);
-    for crowded in [[0, 0, 1, 2], [0, 1, 0, 2], [0, 1, 1, 2], [0, 1, 2, 2]] {
-        assert!(rt; !is_good(alloc, &plan, &crowded)?, "{crowded:?}");
-    }
-    let slots = assign(alloc, &plan).map_err(|_| "assigned")?;
-    assert_eq!(rt; slots.block(0), Some([0, 1, 2, 0].as_slice()));
-    Ok(())
-}
+const LATE_RELEASE: &[Line] = &[
+    (Op::Copy, 0, &[(3, L), (4, L)], NONE),
+    (Op::Copy, 0, &[(1, L), (1, R)], NONE),
+    (ADD, 0, &[(1, R)], NONE),
+    (Op::Return { offset: 0 }, 1, &[(1, R), (2, R)], NONE),
+    (Op::Switch, 2, &[(1, L)], &[(1, L)]),
+    (Op::Release { offset: 1 }, 3, NONE, NONE),
+];
 
 /// The sum and the product of an input with itself, both returned: holders 0 to 5 are `add`, `mul`, their returns, the `sync`
 /// of these, and `release`.
-fn two_returns_plan<A: Allocator + Clone>(alloc: A) -> Result<Plan<A>, AllocError> {
-    let lines = [
-        (Op::Copy, 0, [(4, L), (5, L), (7, L)].as_slice(), NONE),
-        (
-            Op::Copy,
-            0,
-            [(1, L), (1, R), (2, L), (2, R)].as_slice(),
-            NONE,
-        ),
-        (ADD, 0, [(2, R)].as_slice(), NONE),
-        (MUL, 1, [(2, R)].as_slice(), NONE),
-        (Op::Return { offset: 0 }, 2, [(2, L)].as_slice(), NONE),
-        (Op::Return { offset: 1 }, 3, [(1, R)].as_slice(), NONE),
-        (Op::Sync, 4, [(1, R)].as_slice(), NONE),
-        (Op::Release { offset: 2 }, 5, NONE, NONE),
-    ];
-    lines_plan(alloc, 6, &lines, None)
+const TWO_RETURNS: &[Line] = &[
+    (Op::Copy, 0, &[(4, L), (5, L), (7, L)], NONE),
+    (Op::Copy, 0, &[(1, L), (1, R), (2, L), (2, R)], NONE),
+    (ADD, 0, &[(2, R)], NONE),
+    (MUL, 1, &[(2, R)], NONE),
+    (Op::Return { offset: 0 }, 2, &[(2, L)], NONE),
+    (Op::Return { offset: 1 }, 3, &[(1, R)], NONE),
+    (Op::Sync, 4, &[(1, R)], NONE),
+    (Op::Release { offset: 2 }, 5, NONE, NONE),
+];
+
+/// A plan, which choices of slots are good for it and which are not, and which one is made, where that is said.
+struct Case {
+    name: &'static str,
+    holders: u32,
+    lines: &'static [Line],
+    mark: Option<Mark>,
+    good: &'static [&'static [u16]],
+    crowded: &'static [&'static [u16]],
+    assigned: Option<&'static [u16]>,
 }
 
+static CASES: [Case; 9] = [
+    Case {
+        name: "the return waits beside the sum",
+        holders: 3,
+        lines: SUM,
+        mark: None,
+        good: &[&[0, 1, 2], &[511, 0, 7]],
+        crowded: &[&[0, 0, 1], &[0, 1, 1], &[512, 0, 7], &[0, 1], &[0, 1, 2, 3]],
+        assigned: None,
+    },
+    Case {
+        name: "one comes after the other",
+        holders: 4,
+        lines: CHAIN,
+        mark: None,
+        good: &[&[0, 0, 1, 2]],
+        crowded: &[&[0, 1, 0, 2]],
+        assigned: None,
+    },
+    Case {
+        name: "arms of a conditional share",
+        holders: 7,
+        lines: ARMS,
+        mark: Some(Mark::OfCond { cond: 1 }),
+        good: &[&[0, 1, 2, 2, 3, 4, 5]],
+        crowded: &[&[0, 0, 2, 3, 4, 5, 6]],
+        assigned: None,
+    },
+    Case {
+        name: "sides of a loop's flag share",
+        holders: 7,
+        lines: ARMS,
+        mark: Some(Mark::OfFlag),
+        good: &[&[0, 1, 2, 2, 3, 4, 5]],
+        crowded: &[],
+        assigned: None,
+    },
+    Case {
+        name: "sides of other switches do not share",
+        holders: 7,
+        lines: ARMS,
+        mark: None,
+        good: &[],
+        crowded: &[&[0, 1, 2, 2, 3, 4, 5]],
+        assigned: None,
+    },
+    Case {
+        name: "independent operators do not share",
+        holders: 2,
+        lines: INDEPENDENT,
+        mark: None,
+        good: &[&[1, 0]],
+        crowded: &[&[0, 0]],
+        assigned: Some(&[0, 1]),
+    },
+    Case {
+        name: "a late return shares with the sum",
+        holders: 4,
+        lines: LATE_RETURN,
+        mark: None,
+        good: &[&[0, 1, 2, 3], &[0, 1, 0, 2]],
+        crowded: &[
+            &[0, 0, 1, 2],
+            &[0, 1, 1, 2],
+            &[0, 1, 2, 0],
+            &[0, 1, 2, 1],
+            &[0, 1, 2, 2],
+            &[0, 1, 0, 0],
+        ],
+        assigned: Some(&[0, 1, 0, 2]),
+    },
+    Case {
+        name: "a late release shares with the return",
+        holders: 4,
+        lines: LATE_RELEASE,
+        mark: None,
+        good: &[&[0, 1, 2, 1], &[0, 1, 2, 0]],
+        crowded: &[&[0, 0, 1, 2], &[0, 1, 0, 2], &[0, 1, 1, 2], &[0, 1, 2, 2]],
+        assigned: Some(&[0, 1, 2, 0]),
+    },
+    Case {
+        name: "two returns share with nothing",
+        holders: 6,
+        lines: TWO_RETURNS,
+        mark: None,
+        good: &[&[0, 1, 2, 3, 4, 5]],
+        crowded: &[
+            &[0, 0, 2, 3, 4, 5],
+            &[0, 1, 0, 3, 4, 5],
+            &[0, 1, 1, 3, 4, 5],
+            &[0, 1, 2, 0, 4, 5],
+            &[0, 1, 2, 1, 4, 5],
+            &[0, 1, 2, 2, 4, 5],
+            &[0, 1, 2, 3, 0, 5],
+            &[0, 1, 2, 3, 1, 5],
+            &[0, 1, 2, 3, 2, 5],
+            &[0, 1, 2, 3, 3, 5],
+            &[0, 1, 2, 3, 4, 0],
+            &[0, 1, 2, 3, 4, 1],
+            &[0, 1, 2, 3, 4, 2],
+            &[0, 1, 2, 3, 4, 3],
+            &[0, 1, 2, 3, 4, 4],
+        ],
+        assigned: Some(&[0, 1, 2, 3, 4, 5]),
+    },
+];
+
 #[test]
-fn two_returns_share_with_nothing(rt: HostRuntime) -> Result<(), Fail> {
+fn slots_are_good_or_crowded(rt: HostRuntime) -> Result<(), Fail> {
     let alloc = rt.alloc();
-    let plan = two_returns_plan(alloc)?;
-    assert!(rt; is_good(alloc, &plan, &[0, 1, 2, 3, 4, 5])?);
-    for first in 0..6usize {
-        for second in 0..first {
-            let mut slots = [0u16, 1, 2, 3, 4, 5];
-            slots[first] = slots[second];
-            assert!(rt; !is_good(alloc, &plan, &slots)?, "{second} and {first}");
+    for case in &CASES {
+        let name = case.name;
+        let plan = lines_plan(alloc, case.holders, case.lines, case.mark)?;
+        for slots in case.good {
+            assert!(rt; is_good(alloc, &plan, slots)?, "{name}: {slots:?}");
+        }
+        for slots in case.crowded {
+            assert!(rt; !is_good(alloc, &plan, slots)?, "{name}: {slots:?}");
+        }
+        let slots = assign(alloc, &plan).map_err(|_| "assigned")?;
+        assert!(rt; check_slots(alloc, &plan, &slots)?, "{name}");
+        if let Some(wanted) = case.assigned {
+            assert_eq!(rt; slots.block(0), Some(wanted), "{name}");
         }
     }
-    let slots = assign(alloc, &plan).map_err(|_| "assigned")?;
-    assert_eq!(rt; slots.block(0), Some([0, 1, 2, 3, 4, 5].as_slice()));
     Ok(())
 }
 
@@ -334,7 +322,7 @@ fn each_growth_is_refused_in_turn(rt: HostRuntime) -> Result<(), Fail> {
     let mut done: u32 = 0;
     for growth in 1..120 {
         let heap = Rationed::new(rt.alloc(), growth);
-        if let Ok(plan) = sum_plan(&heap) {
+        if let Ok(plan) = lines_plan(&heap, 3, SUM, None) {
             match assign(&heap, &plan) {
                 Ok(slots) => match check_slots(&heap, &plan, &slots) {
                     Ok(good) => {

@@ -125,12 +125,24 @@ fn shapes_of<A: Allocator, B: Allocator>(
     Ok(shapes)
 }
 
+/// The shapes of the code of a block that does the operation on its two inputs, with these slots.
+fn emitted_shapes<A: Allocator + Clone>(
+    alloc: A,
+    op: Op,
+    slots: &[u16],
+    version: Version,
+) -> Result<Vec<Shape, A>, Fail> {
+    let plan = adder(alloc.clone()?, op)?;
+    let slots = slots_of(alloc.clone()?, slots)?;
+    let code = emit(alloc.clone()?, &plan, &slots, version)?;
+    Ok(shapes_of(alloc, &code)?)
+}
+
+/// A divider tells its origin, but not in the first version.
 #[test]
-fn an_adder(rt: HostRuntime) -> Result<(), Fail> {
-    let plan = adder(rt.alloc(), Op::Apply2 { op: Binary::Add })?;
-    let slots = slots_of(rt.alloc(), &[0, 1, 2])?;
-    let code = emit(rt.alloc(), &plan, &slots, Version::One)?;
-    let shapes = shapes_of(rt.alloc(), &code)?;
+fn an_adder_and_dividers(rt: HostRuntime) -> Result<(), Fail> {
+    let add = Op::Apply2 { op: Binary::Add };
+    let shapes = emitted_shapes(rt.alloc(), add, &[0, 1, 2], Version::One)?;
     let wanted = [
         make_shape(0, Some(left(4)), Some(left(5)), false),
         make_shape(0, Some(left(2)), None, false),
@@ -140,30 +152,21 @@ fn an_adder(rt: HostRuntime) -> Result<(), Fail> {
         make_shape(2, None, None, false),
     ];
     assert_eq!(rt; shapes.as_slice(), wanted.as_slice());
-    Ok(())
-}
-
-#[test]
-fn a_divider_tells_its_origin(rt: HostRuntime) -> Result<(), Fail> {
-    let plan = adder(rt.alloc(), Op::Apply2 { op: Binary::Div })?;
-    let slots = slots_of(rt.alloc(), &[2, 0, 1])?;
-    let code = emit(rt.alloc(), &plan, &slots, Version::Two)?;
-    let shapes = shapes_of(rt.alloc(), &code)?;
-    let divider = make_shape(2, Some(right(1)), None, true);
-    let answer = make_shape(0, Some(right(1)), None, false);
-    assert_eq!(rt; shapes.get(3), Some(&divider));
-    assert_eq!(rt; shapes.get(4), Some(&answer));
-    Ok(())
-}
-
-#[test]
-fn the_first_version_tells_no_origin(rt: HostRuntime) -> Result<(), Fail> {
-    let plan = adder(rt.alloc(), Op::Apply2 { op: Binary::Div })?;
-    let slots = slots_of(rt.alloc(), &[0, 1, 2])?;
-    let code = emit(rt.alloc(), &plan, &slots, Version::One)?;
-    let shapes = shapes_of(rt.alloc(), &code)?;
-    let divider = make_shape(0, Some(right(1)), None, false);
-    assert_eq!(rt; shapes.get(3), Some(&divider));
+    let divide = Op::Apply2 { op: Binary::Div };
+    let shapes = emitted_shapes(rt.alloc(), divide, &[2, 0, 1], Version::Two)?;
+    assert_eq!(rt;
+        shapes.get(3),
+        Some(&make_shape(2, Some(right(1)), None, true))
+    );
+    assert_eq!(rt;
+        shapes.get(4),
+        Some(&make_shape(0, Some(right(1)), None, false))
+    );
+    let shapes = emitted_shapes(rt.alloc(), divide, &[0, 1, 2], Version::One)?;
+    assert_eq!(rt;
+        shapes.get(3),
+        Some(&make_shape(0, Some(right(1)), None, false))
+    );
     Ok(())
 }
 
@@ -202,20 +205,16 @@ fn fault_of<A: Allocator>(emitted: &Result<Code<A>, EmitFault>) -> Option<EmitFa
 }
 
 #[test]
-fn a_full_block(rt: HostRuntime) -> Result<(), Fail> {
+fn a_block_goes_so_far(rt: HostRuntime) -> Result<(), Fail> {
     let slots = slots_of(rt.alloc(), &[])?;
-    let plan = copies(rt.alloc(), 32_768)?;
-    let emitted = emit(rt.alloc(), &plan, &slots, Version::One);
-    assert_eq!(rt; fault_of(&emitted), None);
-    Ok(())
-}
-
-#[test]
-fn a_block_too_far(rt: HostRuntime) -> Result<(), Fail> {
-    let slots = slots_of(rt.alloc(), &[])?;
-    let plan = copies(rt.alloc(), 32_769)?;
-    let emitted = emit(rt.alloc(), &plan, &slots, Version::One);
-    assert_eq!(rt; fault_of(&emitted), Some(EmitFault::TooFar { block: 0 }));
+    for (count, fault) in [
+        (32_768, None),
+        (32_769, Some(EmitFault::TooFar { block: 0 })),
+    ] {
+        let plan = copies(rt.alloc(), count)?;
+        let emitted = emit(rt.alloc(), &plan, &slots, Version::One);
+        assert_eq!(rt; fault_of(&emitted), fault);
+    }
     Ok(())
 }
 

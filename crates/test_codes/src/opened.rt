@@ -1,4 +1,4 @@
-//! An object that adds its two inputs: it is opened, refused, upgraded and written.
+//! An object that adds its two inputs: it is opened, upgraded and written.
 
 use object_view::{Object, ObjectFault, upgrade, write};
 use std::alloc::Global;
@@ -44,38 +44,6 @@ fn refusal(bytes: &[u8]) -> Option<ObjectFault> {
 /// Takes `room` bytes, one for each call, and then fails.
 fn with_room(alloc: Global, room: usize) -> Taker {
     Taker::new(alloc, 1, room, Failure::Broken)
-}
-
-#[test]
-fn opens(rt: HostRuntime) {
-    let bytes = adds();
-    assert_eq!(rt; refusal(&bytes), None);
-    for n in 0..152usize {
-        let front = bytes.get(..n).expect(&rt, "enough bytes");
-        assert_eq!(rt; refusal(front), Some(ObjectFault::Truncated), "{n} bytes");
-    }
-    let mut longer = [0u8; 160];
-    longer[..152].copy_from_slice(&bytes);
-    assert_eq!(rt; refusal(&longer), Some(ObjectFault::Trailing));
-}
-
-#[test]
-fn refuses(rt: HostRuntime) {
-    let faults = [
-        (8, 3, ObjectFault::BadVersion),
-        (0, 0, ObjectFault::BadMagic),
-        (31, 0xff, ObjectFault::BadTable),
-        (104, 0x21, ObjectFault::BadOpcode),
-        (124, 2, ObjectFault::BadDestination),
-        (138, 3, ObjectFault::BadSlot),
-        (117, 1, ObjectFault::BadOpcode),
-        (105, 1, ObjectFault::BadDestination),
-    ];
-    for (place, byte, fault) in faults {
-        let mut bytes = adds();
-        *bytes.get_mut(place).expect(&rt, "there") = byte;
-        assert_eq!(rt; refusal(&bytes), Some(fault), "byte {place}");
-    }
 }
 
 #[test]

@@ -122,6 +122,19 @@ impl<'a> Trials<'a> {
         self.judge(&mut Tally::new(), config, &run) != Verdict::Differs
     }
 
+    /// Whether a run in rounds agrees that has plenty of frames, on a number of elements that differs from graph to graph. Only
+    /// graphs of the part of calls have such a run, and it is not counted.
+    fn agrees_widely<R: Threads + Wait + Sync>(&mut self, rt: &R, alloc: Global) -> bool {
+        let elements = match self.events % 3 {
+            0 => 1,
+            1 => 2,
+            _ => 16,
+        };
+        let uncounted = &mut Tally::new();
+        self.graph.part != Part::Calls
+            || self.agrees_in(rt, alloc, uncounted, Mode::Rounds, config(elements, 256))
+    }
+
     /// Makes a run in the order of a list, and compares it with the meaning.
     fn run_listed(
         &mut self,
@@ -179,6 +192,7 @@ impl<'a> Trials<'a> {
         let some = config(3, dice.throw(16).wrapping_add(1));
         if !self.agrees_in(rt, alloc, tally, Mode::One, many)
             || !self.agrees_in(rt, alloc, tally, Mode::Rounds, some)
+            || !self.agrees_widely(rt, alloc)
         {
             return Ok(false);
         }

@@ -6,16 +6,16 @@
 #![tactic(auto)]
 
 mod rows;
-mod texts;
 mod trials;
 
-use rows::{COMPILED, ROWS, Row};
-use std::alloc::Global;
+use rows::{COMPILED, EXAMPLES, Example, Row};
+use std::alloc::{AllocError, Global};
 use std::env;
 use std::io::{self, Write};
 use std::process::ExitCode;
 use std::sync::Wait;
 use std::thread::Threads;
+use test_graph_texts::{with_change, with_inputs};
 use test_served::answer;
 use trials::{Refusals, refuse_each};
 
@@ -52,14 +52,33 @@ fn print_trials<W: Write>(
     }
 }
 
-/// Whether the answers to all rows agree.
-fn rows_agree<R: Threads + Wait + Sync, W: Write>(
+/// What an example reads: its graph, and its inputs behind it.
+fn input_of(alloc: Global, example: &Example) -> Result<Vec<u8>, AllocError> {
+    match example.change {
+        Some((old, new)) => {
+            let graph = with_change(alloc, example.graph, old, new)?;
+            with_inputs(alloc, &graph, example.inputs)
+        }
+        None => with_inputs(alloc, example.graph, example.inputs),
+    }
+}
+
+/// Whether the answers to all examples agree.
+fn examples_agree<R: Threads + Wait + Sync, W: Write>(
     rt: &R,
     alloc: Global,
     out: &mut W,
     has_figures: bool,
 ) -> io::Result<bool> {
-    for row in ROWS {
+    for example in EXAMPLES {
+        let input = input_of(alloc, &example)?;
+        let row = Row {
+            name: example.name,
+            words: example.words,
+            input: &input,
+            wanted: example.wanted,
+            status: example.status,
+        };
         let refusals = refuse_each(rt, alloc, &row);
         if !print_trials(out, row.name, refusals, has_figures)? {
             return Ok(false);
@@ -101,7 +120,7 @@ fn main(rt: HostRuntime) -> io::Result<ExitCode> {
     let alloc = rt.alloc();
     let words: Vec<String> = env::args(&rt)?.collect(alloc)?;
     let has_figures = words.len() > 1;
-    if rows_agree(&rt, alloc, &mut out, has_figures)?
+    if examples_agree(&rt, alloc, &mut out, has_figures)?
         && texts_agree(&rt, alloc, &mut out, has_figures)?
     {
         writeln!(out, "agree")?;

@@ -11,11 +11,10 @@ use std::alloc::{AllocError, Allocator, Global};
 use std::process::Abort;
 use std::test::Fail;
 use tags::token::Port::{self, Left, Right};
+use test_graph_texts::ADD;
 
-/// The graph of the block `m` alone, which gives the sum of its two inputs.
-const ALONE: &[u8] = b"etsgraph 1\nblock m 2 1\n- add 0.0 1.0\nout 2.0\nend\nmain m\n";
-
-/// The graph of that block and of the block `g`, which gives its first input and does not use its second one.
+/// The graph of the block `m`, which gives the sum of its two inputs, and of the block `g`, which gives its first input and does
+/// not use its second one.
 const BOTH: &[u8] =
     b"etsgraph 1\nblock g 2 1\nout 0.0\nend\nblock m 2 1\n- add 0.0 1.0\nout 2.0\nend\nmain m\n";
 
@@ -72,20 +71,15 @@ fn expect_adder<R: Abort, A: Allocator>(rt: &R, block: &CodeBlock<A>) {
     expect_code(rt, block, &expected);
 }
 
+/// In the second graph, the unused input goes to the left port of the join, and the signal of the `return` to its right port.
 #[test]
-fn adds_two_inputs(rt: HostRuntime) -> Result<(), Fail> {
-    let plan = whole_plan(&rt, rt.alloc(), ALONE)?;
+fn plans_of_small_graphs(rt: HostRuntime) -> Result<(), Fail> {
+    let plan = whole_plan(&rt, rt.alloc(), ADD)?;
     assert_eq!(rt; plan.program.main, 0);
     assert_eq!(rt; plan.plain, 1);
     assert_eq!(rt; plan.program.blocks.len(), 1);
     expect_adder(&rt, &plan.program.blocks[0]);
     assert_eq!(rt; plan.marks_of(0), [Mark::Unmarked; 6].as_slice());
-    Ok(())
-}
-
-/// The unused input goes to the left port of the join, and the signal of the `return` to its right port.
-#[test]
-fn an_unused_input_is_an_end(rt: HostRuntime) -> Result<(), Fail> {
     let plan = whole_plan(&rt, rt.alloc(), BOTH)?;
     assert_eq!(rt; plan.program.main, 1);
     assert_eq!(rt; plan.plain, 2);

@@ -99,155 +99,161 @@ fn holders<A: Allocator>(plan: &Plan<A>) -> Option<u32> {
     Some(plan.program.blocks.get(0)?.slots)
 }
 
-#[test]
-fn the_right_operand_is_in_the_code(rt: HostRuntime) -> Result<(), Fail> {
-    let alloc = rt.alloc();
-    let lines = [
-        (0, Op::Copy, 0, [(4, L), (5, L)].as_slice(), NONE),
-        (1, Op::Copy, 0, [(1, L), (2, L)].as_slice(), NONE),
-        (2, ONE, 0, [(1, R)].as_slice(), NONE),
-        (3, ADD, 0, [(1, R)].as_slice(), NONE),
-        (4, RETURN, 1, [(1, R)].as_slice(), NONE),
-        (5, RELEASE, 2, NONE, NONE),
-    ];
-    let plan = fold(alloc, &lines_plan(alloc, 3, &lines)?)?;
-    let wanted = [
-        (0, Op::Copy, 0, [(3, L), (4, L)].as_slice(), NONE),
-        (1, Op::Copy, 0, [(1, L)].as_slice(), NONE),
-        (3, ADD_ONE, 0, [(1, R)].as_slice(), NONE),
-        (4, RETURN, 0, [(1, R)].as_slice(), NONE),
-        (5, RELEASE, 1, NONE, NONE),
-    ];
-    assert_eq!(rt; first_other(&plan, &wanted), None);
-    assert_eq!(rt; holders(&plan), Some(2));
-    Ok(())
+/// A plan of one block, and what it is after folding: the instructions, and the number of holders.
+struct Case {
+    name: &'static str,
+    holders: u32,
+    lines: &'static [Line],
+    wanted_holders: u32,
+    wanted: &'static [Line],
 }
 
-#[test]
-fn the_left_operand_is_in_the_code(rt: HostRuntime) -> Result<(), Fail> {
-    let alloc = rt.alloc();
-    let lines = [
-        (0, Op::Copy, 0, [(4, L), (5, L)].as_slice(), NONE),
-        (1, Op::Copy, 0, [(1, L), (2, R)].as_slice(), NONE),
-        (2, ONE, 0, [(1, L)].as_slice(), NONE),
-        (3, SUB, 0, [(1, R)].as_slice(), NONE),
-        (4, RETURN, 1, [(1, R)].as_slice(), NONE),
-        (5, RELEASE, 2, NONE, NONE),
-    ];
-    let plan = fold(alloc, &lines_plan(alloc, 3, &lines)?)?;
-    let wanted = [
-        (0, Op::Copy, 0, [(3, L), (4, L)].as_slice(), NONE),
-        (1, Op::Copy, 0, [(1, L)].as_slice(), NONE),
-        (3, FROM_ONE, 0, [(1, R)].as_slice(), NONE),
-        (4, RETURN, 0, [(1, R)].as_slice(), NONE),
-        (5, RELEASE, 1, NONE, NONE),
-    ];
-    assert_eq!(rt; first_other(&plan, &wanted), None);
-    assert_eq!(rt; holders(&plan), Some(2));
-    Ok(())
-}
+static CASES: [Case; 6] = [
+    Case {
+        name: "the right operand is in the code",
+        holders: 3,
+        lines: &[
+            (0, Op::Copy, 0, &[(4, L), (5, L)], NONE),
+            (1, Op::Copy, 0, &[(1, L), (2, L)], NONE),
+            (2, ONE, 0, &[(1, R)], NONE),
+            (3, ADD, 0, &[(1, R)], NONE),
+            (4, RETURN, 1, &[(1, R)], NONE),
+            (5, RELEASE, 2, NONE, NONE),
+        ],
+        wanted_holders: 2,
+        wanted: &[
+            (0, Op::Copy, 0, &[(3, L), (4, L)], NONE),
+            (1, Op::Copy, 0, &[(1, L)], NONE),
+            (3, ADD_ONE, 0, &[(1, R)], NONE),
+            (4, RETURN, 0, &[(1, R)], NONE),
+            (5, RELEASE, 1, NONE, NONE),
+        ],
+    },
+    Case {
+        name: "the left operand is in the code",
+        holders: 3,
+        lines: &[
+            (0, Op::Copy, 0, &[(4, L), (5, L)], NONE),
+            (1, Op::Copy, 0, &[(1, L), (2, R)], NONE),
+            (2, ONE, 0, &[(1, L)], NONE),
+            (3, SUB, 0, &[(1, R)], NONE),
+            (4, RETURN, 1, &[(1, R)], NONE),
+            (5, RELEASE, 2, NONE, NONE),
+        ],
+        wanted_holders: 2,
+        wanted: &[
+            (0, Op::Copy, 0, &[(3, L), (4, L)], NONE),
+            (1, Op::Copy, 0, &[(1, L)], NONE),
+            (3, FROM_ONE, 0, &[(1, R)], NONE),
+            (4, RETURN, 0, &[(1, R)], NONE),
+            (5, RELEASE, 1, NONE, NONE),
+        ],
+    },
+    Case {
+        name: "a literal with another use stays",
+        holders: 4,
+        lines: &[
+            (0, Op::Copy, 0, &[(4, L), (6, L)], NONE),
+            (1, Op::Copy, 0, &[(1, L), (2, L)], NONE),
+            (2, ONE, 0, &[(1, R), (2, R)], NONE),
+            (3, ADD, 0, &[(2, L)], NONE),
+            (4, RETURN, 1, &[(1, R)], NONE),
+            (5, Op::Sync, 2, &[(1, R)], NONE),
+            (6, RELEASE, 3, NONE, NONE),
+        ],
+        wanted_holders: 3,
+        wanted: &[
+            (0, Op::Copy, 0, &[(4, L), (6, L)], NONE),
+            (1, Op::Copy, 0, &[(1, L), (2, L)], NONE),
+            (2, ONE, 0, &[(2, R)], NONE),
+            (3, ADD_ONE, 0, &[(2, L)], NONE),
+            (4, RETURN, 0, &[(1, R)], NONE),
+            (5, Op::Sync, 1, &[(1, R)], NONE),
+            (6, RELEASE, 2, NONE, NONE),
+        ],
+    },
+    Case {
+        name: "two operands from one literal stay",
+        holders: 3,
+        lines: &[
+            (0, Op::Copy, 0, &[(4, L), (5, L)], NONE),
+            (1, Op::Copy, 0, &[(1, L)], NONE),
+            (2, ONE, 0, &[(1, L), (1, R)], NONE),
+            (3, ADD, 0, &[(1, R)], NONE),
+            (4, RETURN, 1, &[(1, R)], NONE),
+            (5, RELEASE, 2, NONE, NONE),
+        ],
+        wanted_holders: 3,
+        wanted: &[
+            (0, Op::Copy, 0, &[(4, L), (5, L)], NONE),
+            (1, Op::Copy, 0, &[(1, L)], NONE),
+            (2, ONE, 0, &[(1, L), (1, R)], NONE),
+            (3, ADD, 0, &[(1, R)], NONE),
+            (4, RETURN, 1, &[(1, R)], NONE),
+            (5, RELEASE, 2, NONE, NONE),
+        ],
+    },
+    // One literal is the trigger of another, and both are operands of one operator. The operator takes the second one as its
+    // literal operand.
+    Case {
+        name: "a literal for another stays",
+        holders: 3,
+        lines: &[
+            (0, Op::Copy, 0, &[(5, L), (6, L)], NONE),
+            (1, Op::Copy, 0, &[(1, L)], NONE),
+            (2, TWO, 0, &[(1, L), (2, L)], NONE),
+            (3, ONE, 0, &[(1, R)], NONE),
+            (4, ADD, 0, &[(1, R)], NONE),
+            (5, RETURN, 1, &[(1, R)], NONE),
+            (6, RELEASE, 2, NONE, NONE),
+        ],
+        wanted_holders: 2,
+        wanted: &[
+            (0, Op::Copy, 0, &[(4, L), (5, L)], NONE),
+            (1, Op::Copy, 0, &[(1, L)], NONE),
+            (2, TWO, 0, &[(1, L)], NONE),
+            (4, ADD_ONE, 0, &[(1, R)], NONE),
+            (5, RETURN, 0, &[(1, R)], NONE),
+            (6, RELEASE, 1, NONE, NONE),
+        ],
+    },
+    // A switch sends to a literal and its operator on one side, and to another literal and its operator on different sides.
+    Case {
+        name: "a side of a switch is a source",
+        holders: 5,
+        lines: &[
+            (0, Op::Copy, 0, &[(7, L), (8, L)], NONE),
+            (1, Op::Copy, 0, &[(1, L), (1, R)], NONE),
+            (2, Op::Switch, 0, &[(1, L), (2, L), (3, L)], &[(4, L)]),
+            (3, ONE, 0, &[(1, R)], NONE),
+            (4, ADD, 1, &[(3, R)], NONE),
+            (5, ONE, 0, &[(1, R)], NONE),
+            (6, ADD, 2, &[(1, R)], NONE),
+            (7, RETURN, 3, &[(1, R)], NONE),
+            (8, RELEASE, 4, NONE, NONE),
+        ],
+        wanted_holders: 4,
+        wanted: &[
+            (0, Op::Copy, 0, &[(6, L), (7, L)], NONE),
+            (1, Op::Copy, 0, &[(1, L), (1, R)], NONE),
+            (2, Op::Switch, 0, &[(1, L), (2, L)], &[(3, L)]),
+            (4, ADD_ONE, 0, &[(3, R)], NONE),
+            (5, ONE, 0, &[(1, R)], NONE),
+            (6, ADD, 1, &[(1, R)], NONE),
+            (7, RETURN, 2, &[(1, R)], NONE),
+            (8, RELEASE, 3, NONE, NONE),
+        ],
+    },
+];
 
 #[test]
-fn a_literal_with_another_use_stays(rt: HostRuntime) -> Result<(), Fail> {
+fn literals_become_operands(rt: HostRuntime) -> Result<(), Fail> {
     let alloc = rt.alloc();
-    let lines = [
-        (0, Op::Copy, 0, [(4, L), (6, L)].as_slice(), NONE),
-        (1, Op::Copy, 0, [(1, L), (2, L)].as_slice(), NONE),
-        (2, ONE, 0, [(1, R), (2, R)].as_slice(), NONE),
-        (3, ADD, 0, [(2, L)].as_slice(), NONE),
-        (4, RETURN, 1, [(1, R)].as_slice(), NONE),
-        (5, Op::Sync, 2, [(1, R)].as_slice(), NONE),
-        (6, RELEASE, 3, NONE, NONE),
-    ];
-    let plan = fold(alloc, &lines_plan(alloc, 4, &lines)?)?;
-    let wanted = [
-        (0, Op::Copy, 0, [(4, L), (6, L)].as_slice(), NONE),
-        (1, Op::Copy, 0, [(1, L), (2, L)].as_slice(), NONE),
-        (2, ONE, 0, [(2, R)].as_slice(), NONE),
-        (3, ADD_ONE, 0, [(2, L)].as_slice(), NONE),
-        (4, RETURN, 0, [(1, R)].as_slice(), NONE),
-        (5, Op::Sync, 1, [(1, R)].as_slice(), NONE),
-        (6, RELEASE, 2, NONE, NONE),
-    ];
-    assert_eq!(rt; first_other(&plan, &wanted), None);
-    assert_eq!(rt; holders(&plan), Some(3));
-    Ok(())
-}
-
-#[test]
-fn two_operands_from_one_literal_stay(rt: HostRuntime) -> Result<(), Fail> {
-    let alloc = rt.alloc();
-    let lines = [
-        (0, Op::Copy, 0, [(4, L), (5, L)].as_slice(), NONE),
-        (1, Op::Copy, 0, [(1, L)].as_slice(), NONE),
-        (2, ONE, 0, [(1, L), (1, R)].as_slice(), NONE),
-        (3, ADD, 0, [(1, R)].as_slice(), NONE),
-        (4, RETURN, 1, [(1, R)].as_slice(), NONE),
-        (5, RELEASE, 2, NONE, NONE),
-    ];
-    let plan = fold(alloc, &lines_plan(alloc, 3, &lines)?)?;
-    assert_eq!(rt; first_other(&plan, &lines), None);
-    assert_eq!(rt; holders(&plan), Some(3));
-    Ok(())
-}
-
-/// One literal is the trigger of another, and both are operands of one operator. The operator takes the second one as its
-/// literal operand.
-#[test]
-fn a_literal_for_another_stays(rt: HostRuntime) -> Result<(), Fail> {
-    let alloc = rt.alloc();
-    let lines = [
-        (0, Op::Copy, 0, [(5, L), (6, L)].as_slice(), NONE),
-        (1, Op::Copy, 0, [(1, L)].as_slice(), NONE),
-        (2, TWO, 0, [(1, L), (2, L)].as_slice(), NONE),
-        (3, ONE, 0, [(1, R)].as_slice(), NONE),
-        (4, ADD, 0, [(1, R)].as_slice(), NONE),
-        (5, RETURN, 1, [(1, R)].as_slice(), NONE),
-        (6, RELEASE, 2, NONE, NONE),
-    ];
-    let plan = fold(alloc, &lines_plan(alloc, 3, &lines)?)?;
-    let wanted = [
-        (0, Op::Copy, 0, [(4, L), (5, L)].as_slice(), NONE),
-        (1, Op::Copy, 0, [(1, L)].as_slice(), NONE),
-        (2, TWO, 0, [(1, L)].as_slice(), NONE),
-        (4, ADD_ONE, 0, [(1, R)].as_slice(), NONE),
-        (5, RETURN, 0, [(1, R)].as_slice(), NONE),
-        (6, RELEASE, 1, NONE, NONE),
-    ];
-    assert_eq!(rt; first_other(&plan, &wanted), None);
-    Ok(())
-}
-
-/// A switch sends to a literal and its operator on one side, and to another literal and its operator on different sides.
-#[test]
-fn a_side_of_a_switch_is_a_source(rt: HostRuntime) -> Result<(), Fail> {
-    let alloc = rt.alloc();
-    let same = [(1, L), (2, L), (3, L)].as_slice();
-    let lines = [
-        (0, Op::Copy, 0, [(7, L), (8, L)].as_slice(), NONE),
-        (1, Op::Copy, 0, [(1, L), (1, R)].as_slice(), NONE),
-        (2, Op::Switch, 0, same, [(4, L)].as_slice()),
-        (3, ONE, 0, [(1, R)].as_slice(), NONE),
-        (4, ADD, 1, [(3, R)].as_slice(), NONE),
-        (5, ONE, 0, [(1, R)].as_slice(), NONE),
-        (6, ADD, 2, [(1, R)].as_slice(), NONE),
-        (7, RETURN, 3, [(1, R)].as_slice(), NONE),
-        (8, RELEASE, 4, NONE, NONE),
-    ];
-    let plan = fold(alloc, &lines_plan(alloc, 5, &lines)?)?;
-    let left = [(1, L), (2, L)].as_slice();
-    let wanted = [
-        (0, Op::Copy, 0, [(6, L), (7, L)].as_slice(), NONE),
-        (1, Op::Copy, 0, [(1, L), (1, R)].as_slice(), NONE),
-        (2, Op::Switch, 0, left, [(3, L)].as_slice()),
-        (4, ADD_ONE, 0, [(3, R)].as_slice(), NONE),
-        (5, ONE, 0, [(1, R)].as_slice(), NONE),
-        (6, ADD, 1, [(1, R)].as_slice(), NONE),
-        (7, RETURN, 2, [(1, R)].as_slice(), NONE),
-        (8, RELEASE, 3, NONE, NONE),
-    ];
-    assert_eq!(rt; first_other(&plan, &wanted), None);
-    assert_eq!(rt; holders(&plan), Some(4));
+    for case in &CASES {
+        let plan = fold(alloc, &lines_plan(alloc, case.holders, case.lines)?)?;
+        assert_eq!(rt; first_other(&plan, case.wanted), None, "{}", case.name);
+        assert_eq!(rt; holders(&plan), Some(case.wanted_holders), "{}", case.name);
+    }
     Ok(())
 }
 

@@ -91,83 +91,6 @@ fn has_lines<A: Allocator>(plan: &Plan<A>, lines: &[Line]) -> bool {
     }
 }
 
-#[test]
-fn an_entry_with_five_uses_has_three_copies(rt: HostRuntime) -> Result<(), Fail> {
-    let alloc = rt.alloc();
-    let lines: [Line; 4] = [
-        (Op::Copy, &[(2, L), (2, R), (3, L), (3, R), (1, L)], NONE),
-        (Op::Copy, &[(1, L)], NONE),
-        (ADD, NONE, NONE),
-        (ADD, NONE, NONE),
-    ];
-    let plan = plan_of(alloc, 0, &lines, true)?;
-    let narrowed = narrow(alloc, &plan)?;
-    let wanted: [Line; 7] = [
-        (Op::Copy, &[(1, L)], &[(3, L)]),
-        (Op::Copy, &[(1, L)], &[(4, L)]),
-        (Op::Copy, &[(3, R)], &[(4, L)]),
-        (Op::Copy, &[(3, R)], &[(1, L)]),
-        (Op::Copy, &[(1, L)], NONE),
-        (ADD, NONE, NONE),
-        (ADD, NONE, NONE),
-    ];
-    assert!(rt; has_lines(&narrowed, &wanted));
-    Ok(())
-}
-
-#[test]
-fn copies_of_entries_stand_behind_the_last_one(rt: HostRuntime) -> Result<(), Fail> {
-    let alloc = rt.alloc();
-    let lines: [Line; 5] = [
-        (Op::Copy, &[(3, L), (4, L), (4, R)], NONE),
-        (Op::Copy, &[(2, L), (2, R), (3, L)], NONE),
-        (Op::Copy, &[(1, R)], NONE),
-        (ADD, NONE, NONE),
-        (ADD, NONE, NONE),
-    ];
-    let plan = plan_of(alloc, 2, &lines, true)?;
-    let narrowed = narrow(alloc, &plan)?;
-    let wanted: [Line; 7] = [
-        (Op::Copy, &[(3, L)], &[(6, R)]),
-        (Op::Copy, &[(3, L)], &[(5, L)]),
-        (Op::Copy, &[(3, R)], NONE),
-        (Op::Copy, &[(2, L)], &[(3, L)]),
-        (Op::Copy, &[(1, L)], &[(1, R)]),
-        (ADD, NONE, NONE),
-        (ADD, NONE, NONE),
-    ];
-    assert!(rt; has_lines(&narrowed, &wanted));
-    Ok(())
-}
-
-#[test]
-fn each_side_of_a_switch_has_its_own_tree(rt: HostRuntime) -> Result<(), Fail> {
-    let alloc = rt.alloc();
-    let lines: [Line; 4] = [
-        (Op::Switch, &[(1, L), (2, L), (3, L)], &[(1, R), (3, R)]),
-        (ADD, NONE, NONE),
-        (Op::Copy, NONE, NONE),
-        (ADD, NONE, NONE),
-    ];
-    let plan = plan_of(alloc, 0, &lines, true)?;
-    let narrowed = narrow(alloc, &plan)?;
-    let wanted: [Line; 7] = [
-        (Op::Switch, &[(1, L)], &[(3, L)]),
-        (Op::Copy, &[(1, L)], &[(3, L)]),
-        (Op::Copy, &[(3, L)], &[(4, L)]),
-        (Op::Copy, &[(1, R)], &[(3, R)]),
-        (ADD, NONE, NONE),
-        (Op::Copy, NONE, NONE),
-        (ADD, NONE, NONE),
-    ];
-    assert!(rt; has_lines(&narrowed, &wanted));
-    let marks = narrowed.marks_of(0);
-    assert_eq!(rt; marks.len(), 7);
-    assert!(rt; matches!(marks.first(), Some(Mark::OfFlag)));
-    assert!(rt; marks.iter().skip(1).all(|mark| *mark == Mark::Unmarked));
-    Ok(())
-}
-
 /// A link with four signals, and a landing of four copies, of which the first two are wide.
 const LINKED: [Line; 9] = [
     (
@@ -185,29 +108,121 @@ const LINKED: [Line; 9] = [
     (ADD, NONE, NONE),
 ];
 
+/// A block with this number of inputs, and its instructions after narrowing.
+struct Case {
+    name: &'static str,
+    inputs: u32,
+    lines: &'static [Line],
+    wanted: &'static [Line],
+}
+
+static CASES: [Case; 5] = [
+    Case {
+        name: "an entry with five uses has three copies",
+        inputs: 0,
+        lines: &[
+            (Op::Copy, &[(2, L), (2, R), (3, L), (3, R), (1, L)], NONE),
+            (Op::Copy, &[(1, L)], NONE),
+            (ADD, NONE, NONE),
+            (ADD, NONE, NONE),
+        ],
+        wanted: &[
+            (Op::Copy, &[(1, L)], &[(3, L)]),
+            (Op::Copy, &[(1, L)], &[(4, L)]),
+            (Op::Copy, &[(3, R)], &[(4, L)]),
+            (Op::Copy, &[(3, R)], &[(1, L)]),
+            (Op::Copy, &[(1, L)], NONE),
+            (ADD, NONE, NONE),
+            (ADD, NONE, NONE),
+        ],
+    },
+    Case {
+        name: "copies of entries stand behind the last one",
+        inputs: 2,
+        lines: &[
+            (Op::Copy, &[(3, L), (4, L), (4, R)], NONE),
+            (Op::Copy, &[(2, L), (2, R), (3, L)], NONE),
+            (Op::Copy, &[(1, R)], NONE),
+            (ADD, NONE, NONE),
+            (ADD, NONE, NONE),
+        ],
+        wanted: &[
+            (Op::Copy, &[(3, L)], &[(6, R)]),
+            (Op::Copy, &[(3, L)], &[(5, L)]),
+            (Op::Copy, &[(3, R)], NONE),
+            (Op::Copy, &[(2, L)], &[(3, L)]),
+            (Op::Copy, &[(1, L)], &[(1, R)]),
+            (ADD, NONE, NONE),
+            (ADD, NONE, NONE),
+        ],
+    },
+    Case {
+        name: "each side of a switch has its own tree",
+        inputs: 0,
+        lines: &[
+            (Op::Switch, &[(1, L), (2, L), (3, L)], &[(1, R), (3, R)]),
+            (ADD, NONE, NONE),
+            (Op::Copy, NONE, NONE),
+            (ADD, NONE, NONE),
+        ],
+        wanted: &[
+            (Op::Switch, &[(1, L)], &[(3, L)]),
+            (Op::Copy, &[(1, L)], &[(3, L)]),
+            (Op::Copy, &[(3, L)], &[(4, L)]),
+            (Op::Copy, &[(1, R)], &[(3, R)]),
+            (ADD, NONE, NONE),
+            (Op::Copy, NONE, NONE),
+            (ADD, NONE, NONE),
+        ],
+    },
+    Case {
+        name: "a landing is not cut",
+        inputs: 0,
+        lines: &LINKED,
+        wanted: &[
+            (Op::Link { block: 1 }, &[(4, L)], &[(1, L)]),
+            (Op::Copy, &[(1, L)], &[(2, L)]),
+            (Op::Copy, &[(9, L)], &[(9, R)]),
+            (Op::Copy, &[(9, L)], &[(9, R)]),
+            (Op::Copy, &[(4, L)], &[(8, L)]),
+            (Op::Copy, &[(4, L)], &[(5, L)]),
+            (Op::Copy, &[(8, L)], NONE),
+            (Op::Copy, &[(7, R)], NONE),
+            (Op::Copy, &[(3, L)], &[(3, R)]),
+            (Op::Copy, &[(2, L)], &[(2, R)]),
+            (Op::Copy, &[(2, L)], &[(2, R)]),
+            (ADD, NONE, NONE),
+            (ADD, NONE, NONE),
+            (Op::Copy, NONE, NONE),
+            (ADD, NONE, NONE),
+        ],
+    },
+    Case {
+        name: "a give sends to one place",
+        inputs: 0,
+        lines: &[
+            (Op::Give { bound: 2 }, &[(1, L)], &[(1, R)]),
+            (Op::Sync, NONE, NONE),
+        ],
+        wanted: &[
+            (Op::Give { bound: 2 }, &[(1, L)], NONE),
+            (Op::Copy, &[(1, L)], &[(1, R)]),
+            (Op::Sync, NONE, NONE),
+        ],
+    },
+];
+
+/// Only a switch has a mark afterwards, too.
 #[test]
-fn a_landing_is_not_cut(rt: HostRuntime) -> Result<(), Fail> {
+fn copies_stand_where_they_should(rt: HostRuntime) -> Result<(), Fail> {
     let alloc = rt.alloc();
-    let plan = plan_of(alloc, 0, &LINKED, true)?;
-    let narrowed = narrow(alloc, &plan)?;
-    let wanted: [Line; 15] = [
-        (Op::Link { block: 1 }, &[(4, L)], &[(1, L)]),
-        (Op::Copy, &[(1, L)], &[(2, L)]),
-        (Op::Copy, &[(9, L)], &[(9, R)]),
-        (Op::Copy, &[(9, L)], &[(9, R)]),
-        (Op::Copy, &[(4, L)], &[(8, L)]),
-        (Op::Copy, &[(4, L)], &[(5, L)]),
-        (Op::Copy, &[(8, L)], NONE),
-        (Op::Copy, &[(7, R)], NONE),
-        (Op::Copy, &[(3, L)], &[(3, R)]),
-        (Op::Copy, &[(2, L)], &[(2, R)]),
-        (Op::Copy, &[(2, L)], &[(2, R)]),
-        (ADD, NONE, NONE),
-        (ADD, NONE, NONE),
-        (Op::Copy, NONE, NONE),
-        (ADD, NONE, NONE),
-    ];
-    assert!(rt; has_lines(&narrowed, &wanted));
+    for case in &CASES {
+        let plan = plan_of(alloc, case.inputs, case.lines, true)?;
+        let narrowed = narrow(alloc, &plan)?;
+        assert!(rt; has_lines(&narrowed, case.wanted), "{}", case.name);
+        let marks = marks_of(alloc, case.wanted)?;
+        assert_eq!(rt; narrowed.marks_of(0), marks.as_slice(), "{}", case.name);
+    }
     Ok(())
 }
 
@@ -224,24 +239,6 @@ fn a_landing_of_a_loop_has_its_values_and_three_more(rt: HostRuntime) -> Result<
             assert!(rt; wide.fold(true, |all, instr| all && instr.op == Op::Copy));
         }
     }
-    Ok(())
-}
-
-#[test]
-fn a_give_sends_to_one_place(rt: HostRuntime) -> Result<(), Fail> {
-    let alloc = rt.alloc();
-    let lines: [Line; 2] = [
-        (Op::Give { bound: 2 }, &[(1, L)], &[(1, R)]),
-        (Op::Sync, NONE, NONE),
-    ];
-    let plan = plan_of(alloc, 0, &lines, true)?;
-    let narrowed = narrow(alloc, &plan)?;
-    let wanted: [Line; 3] = [
-        (Op::Give { bound: 2 }, &[(1, L)], NONE),
-        (Op::Copy, &[(1, L)], &[(1, R)]),
-        (Op::Sync, NONE, NONE),
-    ];
-    assert!(rt; has_lines(&narrowed, &wanted));
     Ok(())
 }
 

@@ -3,7 +3,7 @@
 #![tactic(auto)]
 
 use itoa::Buffer;
-use std::alloc::AllocError;
+use std::alloc::{AllocError, Global};
 use std::str;
 
 /// The value of a hexadecimal digit; 0 for any other byte.
@@ -65,6 +65,31 @@ pub fn append_repeated(text: &mut Vec<u8>, line: &[u8]) -> Result<(), AllocError
         }
     }
     Ok(())
+}
+
+/// What stands before the first place where these bytes stand in the text, and what stands behind it.
+fn split_around<'a>(text: &'a [u8], bytes: &[u8]) -> Option<(&'a [u8], &'a [u8])> {
+    let place = text
+        .windows(bytes.len().max(1))
+        .position(|window| window == bytes)?;
+    let (front, rest) = text.split_at_checked(place)?;
+    Some((front, rest.strip_prefix(bytes)?))
+}
+
+/// The text with a piece in the first place where these bytes stand; `None` where they do not stand in it.
+pub fn changed(
+    alloc: Global,
+    text: &[u8],
+    bytes: &[u8],
+    piece: &[u8],
+) -> Result<Option<Vec<u8>>, AllocError> {
+    let Some((front, rest)) = split_around(text, bytes) else {
+        return Ok(None);
+    };
+    let mut changed = Vec::from_slice(alloc, front)?;
+    append(&mut changed, piece, 0)?;
+    changed.extend_from_slice(rest)?;
+    Ok(Some(changed))
 }
 
 /// Appends the bytes of a word, the lowest first. `digits` has the highest digits first.

@@ -14,11 +14,7 @@ use std::sync::atomic::{AtomicBool, AtomicU64, Ordering};
 use std::test::Fail;
 use std::thread::Threads;
 use tags::value::Value;
-
-const SUM: &[u8] =
-    b"etsgraph 1\nblock b 3 4\n- lit 1 0.0\n- add 0.0 3.0\n- add 1.0 0.0\n- le 4.0 2.0\nout 6.0 4.0 5.0 2.0\nend\nblock m 1 1\n- lit 1 0.0\n- lit 0 0.0\n- loop b 2 1.0 2.0 0.0\nout 3.1\nend\nmain m\n";
-
-const ADD: &[u8] = b"etsgraph 1\nblock m 2 1\n- add 0.0 1.0\nout 2.0\nend\nmain m\n";
+use test_graph_texts::{ADD, SUM_LOOP};
 
 const CLASHES: &[u8] =
     b"etsgraph 1\narray A 2\nblock m 2 4\n- lit 0 0.0\n- lit 1 0.0\n- store A 2.0 0.0\n- store A 2.0 1.0\n- store A 3.0 0.0\n- store A 3.0 1.0\nout 4.0 5.0 6.0 7.0\nend\nmain m\n";
@@ -180,9 +176,16 @@ fn rests_after<R: Abort + Threads + Wait + Sync>(
 ) -> Result<bool, Fail> {
     let gate = Stopper::after(count);
     let (last, sum) = sum_in(mode);
-    let report = report_in(rt, alloc, SUM, [last].as_slice(), config(2, 4), mode, &gate).ok_or(
-        "a report",
-    )?;
+    let report = report_in(
+        rt,
+        alloc,
+        SUM_LOOP,
+        [last].as_slice(),
+        config(2, 4),
+        mode,
+        &gate,
+    )
+    .ok_or("a report")?;
     if report.end == End::Rest {
         assert!(rt; report.outputs.as_slice() == [Some(Value::Int(sum))].as_slice());
         return Ok(true);
@@ -235,7 +238,15 @@ fn with_ration<R: Threads + Wait + Sync>(
     mode: Mode,
 ) -> Option<(End, Option<Value>)> {
     let (last, _sum) = sum_in(mode);
-    let report = report_in(rt, heap, SUM, [last].as_slice(), config(2, 64), mode, &Open)?;
+    let report = report_in(
+        rt,
+        heap,
+        SUM_LOOP,
+        [last].as_slice(),
+        config(2, 64),
+        mode,
+        &Open,
+    )?;
     Some((report.end, *report.outputs.as_slice().first()?))
 }
 

@@ -2,13 +2,9 @@
 
 ghost use Rattle.std.specs.Prelude.{◌≡◌, ◌<◌, ℕ, All, IfOk};
 
-use crate::objects::changed;
 use command_line::Mode;
 use driver::emulation::{emulate_object, emulate_object_picks};
 use driver::fault::Fault;
-use graph_file::read;
-use object_view::ObjectFault;
-use report_text::write_report;
 use rounds::Open;
 use schedule::config::Config;
 use schedule::report::Report;
@@ -19,6 +15,10 @@ use std::sync::Wait;
 use std::test::Fail;
 use std::thread::Threads;
 use tags::value::Value;
+
+/// An object that adds two inputs.
+const ADD: &[u8] =
+    b"ETSOBJCT\x01\0\0\0\0\0\0\0\x01\0\0\0\0\0\0\0\0\0\0\0\0\0\0\0\0\0\0\0\0\0\0\0\0\0\0\0\0\0\0\0\x06\0\0\0\x02\x01\x03\0\x12\0\0\0\x04\0\x05\0\0\0\0\0\0\0\0\0\x12\0\0\0\x02\0\0\0\0\0\0\0\0\0\0\0\x12\0\0\0\x01\x80\0\0\0\0\0\0\0\0\0\0\x01\0\0\0\x01\x80\0\0\0\0\0\0\0\0\0\0\x1a\0\x01\0\x01\x80\0\0\0\0\0\0\0\0\0\0\x20\0\x02\0\0\0\0\0\x01\0\0\0\0\0\0\0";
 
 /// An object that links a block into a frame, but gives it no continuation that leads anywhere.
 const ASTRAY: &[u8] =
@@ -71,6 +71,17 @@ fn picks(alloc: Global, elements: u32, seed: u64) -> Result<Vec<(u32, u64)>, All
         ))?;
     }
     Ok(picks)
+}
+
+/// The object, with other bytes at some places.
+fn changed(alloc: Global, object: &[u8], changes: &[(usize, u8)]) -> Result<Vec<u8>, AllocError> {
+    let mut bytes = Vec::from_slice(alloc, object)?;
+    for (place, byte) in changes {
+        if let Some(old) = bytes.get_mut(*place) {
+            *old = *byte;
+        }
+    }
+    Ok(bytes)
 }
 
 /// How a run ends.
@@ -172,101 +183,111 @@ fn expect_always<R: Abort + Threads + Wait + Sync>(
     Ok(())
 }
 
+/// An object, with other bytes at some places; its inputs; and how its runs end.
+#[derive(Clone, Copy)]
+struct Case {
+    object: &'static [u8],
+    changes: &'static [(usize, u8)],
+    inputs: &'static [i64],
+    wanted: Wanted<'static>,
+}
+
+/// Objects that bring a token to each case that a rule excludes; one without its result; and calls, readers and a loop.
+const CASES: [Case; 10] = [
+    Case {
+        object: ASTRAY,
+        changes: &[],
+        inputs: &[2],
+        wanted: Wanted::Stuck(1),
+    },
+    Case {
+        object: ADD,
+        changes: &[(93, 0)],
+        inputs: &[2, 3],
+        wanted: Wanted::Stuck(3),
+    },
+    Case {
+        object: ADD,
+        changes: &[(60, 5)],
+        inputs: &[2, 3],
+        wanted: Wanted::Stuck(3),
+    },
+    Case {
+        object: ADD,
+        changes: &[(60, 3), (76, 3)],
+        inputs: &[2, 3],
+        wanted: Wanted::Stuck(4),
+    },
+    Case {
+        object: ADD,
+        changes: &[
+            (108, 1),
+            (109, 0x80),
+            (110, 2),
+            (111, 0x80),
+            (120, 0x20),
+            (124, 0),
+            (125, 0),
+            (128, 1),
+            (144, 0),
+        ],
+        inputs: &[2, 3],
+        wanted: Wanted::Stuck(5),
+    },
+    Case {
+        object: ADD,
+        changes: &[(128, 3)],
+        inputs: &[2, 3],
+        wanted: Wanted::Stuck(6),
+    },
+    Case {
+        object: ADD,
+        changes: &[(108, 2)],
+        inputs: &[2, 3],
+        wanted: Wanted::Rest {
+            events: 10,
+            outputs: &[None],
+            cells: &[],
+        },
+    },
+    Case {
+        object: CALLS,
+        changes: &[],
+        inputs: &[4, 3],
+        wanted: Wanted::Rest {
+            events: 75,
+            outputs: &[Some(-4), Some(4)],
+            cells: &[],
+        },
+    },
+    Case {
+        object: READERS,
+        changes: &[],
+        inputs: &[8],
+        wanted: Wanted::Rest {
+            events: 30,
+            outputs: &[Some(8), Some(8), Some(8)],
+            cells: &[(1, 8)],
+        },
+    },
+    Case {
+        object: LOOP,
+        changes: &[],
+        inputs: &[10],
+        wanted: Wanted::Rest {
+            events: 577,
+            outputs: &[Some(55)],
+            cells: &[],
+        },
+    },
+];
+
 #[test]
-fn excluded_tokens_are_told(rt: HostRuntime) -> Result<(), Fail> {
+fn each_object_ends_as_it_should(rt: HostRuntime) -> Result<(), Fail> {
     let alloc = rt.alloc();
-    expect_always(&rt, alloc, ASTRAY, &[2], Wanted::Stuck(1))?;
-    for (changes, rule) in [
-        ([(93, 0)].as_slice(), 3),
-        ([(60, 5)].as_slice(), 3),
-        ([(60, 3), (76, 3)].as_slice(), 4),
-        (
-            [
-                (108, 1),
-                (109, 0x80),
-                (110, 2),
-                (111, 0x80),
-                (120, 0x20),
-                (124, 0),
-                (125, 0),
-                (128, 1),
-                (144, 0),
-            ]
-            .as_slice(),
-            5,
-        ),
-        ([(128, 3)].as_slice(), 6),
-    ] {
-        let object = changed(alloc, changes)?;
-        expect_always(&rt, alloc, &object, &[2, 3], Wanted::Stuck(rule))?;
-    }
-    Ok(())
-}
-
-#[test]
-fn a_stuck_run_is_printed(rt: HostRuntime) -> Result<(), Fail> {
-    let alloc = rt.alloc();
-    let graph = read(
-        alloc,
-        b"etsgraph 1\nblock m 1 1\n- neg 0.0\nout 1.0\nend\nmain m\n",
-    )?;
-    let report = run_object(&rt, alloc, ASTRAY, &[2], 1, Mode::One).map_err(|_| "a report")?;
-    let mut text = Vec::new(alloc);
-    write_report(&mut text, &graph, &report)?;
-    assert!(rt; text.as_slice().ends_with(b"\nend Stuck 1\n"));
-    Ok(())
-}
-
-#[test]
-fn a_result_may_stay_away(rt: HostRuntime) -> Result<(), Fail> {
-    let object = changed(rt.alloc(), &[(108, 2)])?;
-    let wanted = Wanted::Rest {
-        events: 10,
-        outputs: &[None],
-        cells: &[],
-    };
-    expect_always(&rt, rt.alloc(), &object, &[2, 3], wanted)
-}
-
-#[test]
-fn calls_readers_and_loops_run(rt: HostRuntime) -> Result<(), Fail> {
-    let alloc = rt.alloc();
-    let called = Wanted::Rest {
-        events: 75,
-        outputs: &[Some(-4), Some(4)],
-        cells: &[],
-    };
-    expect_always(&rt, alloc, CALLS, &[4, 3], called)?;
-    let read = Wanted::Rest {
-        events: 30,
-        outputs: &[Some(8), Some(8), Some(8)],
-        cells: &[(1, 8)],
-    };
-    expect_always(&rt, alloc, READERS, &[8], read)?;
-    let summed = Wanted::Rest {
-        events: 577,
-        outputs: &[Some(55)],
-        cells: &[],
-    };
-    expect_always(&rt, alloc, LOOP, &[10], summed)
-}
-
-#[test]
-fn an_object_is_refused(rt: HostRuntime) -> Result<(), Fail> {
-    let changes = [
-        (24, 255),
-        (25, 255),
-        (26, 255),
-        (27, 255),
-        (28, 255),
-        (29, 255),
-        (30, 255),
-        (31, 255),
-    ];
-    let object = changed(rt.alloc(), &changes)?;
-    match run_object(&rt, rt.alloc(), &object, &[2, 3], 1, Mode::One) {
-        Err(Fault::Object(fault)) => assert_eq!(rt; fault, ObjectFault::BadTable),
-        _ => assert!(rt; false, "refused"),
+    for case in CASES {
+        let object = changed(alloc, case.object, case.changes)?;
+        expect_always(&rt, alloc, &object, case.inputs, case.wanted)?;
     }
     Ok(())
 }

@@ -1,6 +1,9 @@
-//! The input, split into the graph and the integers after it.
+//! The input, and what follows the graph in it.
 
-use commands::input::{LinesFault, parse_integers, split_at_main};
+use commands::input::split_at_main;
+use commands::serving::serve;
+use rounds::Open;
+use std::io::{self, Read};
 use std::test::Fail;
 
 #[test]
@@ -14,29 +17,39 @@ fn parts_input(rt: HostRuntime) -> Result<(), Fail> {
     Ok(())
 }
 
+/// Gives `left` bytes, whichever bytes stand in the buffers already.
+struct LongReader {
+    left: u64,
+}
+
+impl Read for LongReader {
+    fn read(&mut self, buffer: &mut [u8]) -> io::Result<usize> {
+        let count = (buffer.len() as u64).min(self.left);
+        self.left -= count;
+        Ok(count as usize)
+    }
+}
+
 #[test]
-fn parses_integers(rt: HostRuntime) -> Result<(), Fail> {
-    let all = parse_integers(
-        rt.alloc(),
-        b"0\n-1\n9223372036854775807\n-9223372036854775808",
-    )
-    .map_err(|_| "integers")?;
-    assert_eq!(rt; all.as_slice(), [0, -1, i64::MAX, i64::MIN].as_slice());
-    for (lines, bad) in [
-        (b"1\n\n2".as_slice(), 2),
-        (b"\n".as_slice(), 1),
-        (b"-0".as_slice(), 1),
-        (b"1\n03\n".as_slice(), 2),
-        (b"+1".as_slice(), 1),
-        (b"-".as_slice(), 1),
-        (b"9223372036854775808".as_slice(), 1),
-        (b" 1".as_slice(), 1),
-        (b"1\n2\n\n".as_slice(), 3),
+fn refuses_long_input(rt: HostRuntime) -> Result<(), Fail> {
+    for (length, wanted) in [
+        (67_108_864, b"refused: read NoHeader line 1\n".as_slice()),
+        (67_108_865, b"refused: input\n".as_slice()),
     ] {
-        match parse_integers(rt.alloc(), lines) {
-            Err(LinesFault::BadLine(line)) => assert_eq!(rt; line, bad),
-            _ => assert!(rt; false, "bad line"),
-        }
+        let mut text = Vec::new(rt.alloc());
+        let mut reader = LongReader { left: length };
+        let status = serve(
+            ["ets", "check"].as_slice(),
+            &mut reader,
+            &mut text,
+            rt.alloc(),
+            rt.alloc(),
+            &rt,
+            &Open,
+        );
+        let LongReader { left: _ } = reader;
+        assert_eq!(rt; text.as_slice(), wanted);
+        assert_eq!(rt; status, 1);
     }
     Ok(())
 }

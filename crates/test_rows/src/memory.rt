@@ -4,8 +4,7 @@ use commands::serving::serve;
 use rationed::Rationed;
 use rounds::Open;
 use std::test::Fail;
-
-const ADD: &[u8] = b"etsgraph 1\nblock m 2 1\n- add 0.0 1.0\nout 2.0\nend\nmain m\n2\n3\n";
+use test_graph_texts::{ADD, with_inputs};
 
 const REST: &[u8] = b"output 0 5\ndeferred 0\nwaiting 0 0\nframes 0\nend Rest\n";
 
@@ -18,11 +17,12 @@ const REFUSED: [&[u8]; 3] = [
 
 #[test]
 fn each_growth_refused(rt: HostRuntime) -> Result<(), Fail> {
+    let input = with_inputs(rt.alloc(), ADD, b"2\n3\n")?;
     let mut whole = false;
     for at in 1..2000u64 {
         let heap = Rationed::new(rt.alloc(), at);
         let mut text = Vec::new(rt.alloc());
-        let mut reader = ADD;
+        let mut reader = input.as_slice();
         let status = serve(
             ["ets", "run"].as_slice(),
             &mut reader,

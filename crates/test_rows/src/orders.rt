@@ -13,6 +13,7 @@ use std::alloc::{AllocError, Global};
 use std::process::Abort;
 use std::test::Fail;
 use tags::value::Value;
+use test_graph_texts::{ADD, FIVE_RESULTS};
 
 const CONFIG: Config = Config {
     elements: 1,
@@ -49,21 +50,9 @@ fn expect_row<R: Abort>(rt: &R, report: &Report<Global>, wanted: &[i64]) {
 #[test]
 fn orders(rt: HostRuntime) -> Result<(), Fail> {
     for (text, inputs, wanted) in [
-        (
-            b"etsgraph 1\nblock m 2 1\n- add 0.0 1.0\nout 2.0\nend\nmain m\n".as_slice(),
-            [2, 3],
-            [5].as_slice(),
-        ),
-        (
-            b"etsgraph 1\nblock m 2 1\n- add 0.0 1.0\nout 2.0\nend\nmain m\n".as_slice(),
-            [i64::MAX, 1],
-            [i64::MIN].as_slice(),
-        ),
-        (
-            b"etsgraph 1\nblock m 2 5\n- sub 0.0 1.0\n- add 0.0 1.0\n- mul 0.0 1.0\n- and 0.0 1.0\n- lt 0.0 1.0\nout 2.0 3.0 4.0 5.0 6.0\nend\nmain m\n".as_slice(),
-            [10, 3],
-            [7, 13, 30, 2, 0].as_slice(),
-        ),
+        (ADD, [2, 3], [5].as_slice()),
+        (ADD, [i64::MAX, 1], [i64::MIN].as_slice()),
+        (FIVE_RESULTS, [10, 3], [7, 13, 30, 2, 0].as_slice()),
     ] {
         let first = emulate(
             rt.alloc(),
@@ -91,8 +80,7 @@ fn orders(rt: HostRuntime) -> Result<(), Fail> {
 /// A list of one entry makes one event, with the token that the entry chooses.
 #[test]
 fn follows_the_list(rt: HostRuntime) -> Result<(), Fail> {
-    let text = b"etsgraph 1\nblock m 2 1\n- add 0.0 1.0\nout 2.0\nend\nmain m\n".as_slice();
-    let compiled = compile(rt.alloc(), text).map_err(|_| "compiled")?;
+    let compiled = compile(rt.alloc(), ADD).map_err(|_| "compiled")?;
     let mut tokens = Vec::new(rt.alloc());
     for seed in 0..3u64 {
         let picks = picks(rt.alloc(), seed, 1)?;

@@ -1,5 +1,6 @@
-//! Tests of texts: how they are read and written, checked, and run as their meaning; and of reports as texts. They are in a
-//! crate of their own, since a crate with tests is proved twice.
+//! Tests of texts: how graphs are read, checked and written where memory or a writer fails, and reports and profiles as texts. They
+//! are in a crate of their own, since a crate with tests is proved twice. `test_sessions` shows what is refused, and what graphs
+//! mean.
 #![tactic(auto)]
 
 #[cfg(test)]
@@ -12,5 +13,3 @@ mod profiled;
 mod reported;
 #[cfg(test)]
 mod spelled;
-#[cfg(test)]
-mod waved;

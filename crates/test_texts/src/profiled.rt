@@ -65,15 +65,10 @@ fn writes_a_profile(rt: HostRuntime) -> Result<(), Fail> {
     let mut text = Vec::new(rt.alloc());
     write_profile(&mut text, &graph, &waves, &rows)?;
     assert_eq!(&rt; text.as_slice(), TEXT);
-    Ok(())
-}
-
-#[test]
-fn without_waves_the_parallelism_is_nothing(rt: HostRuntime) -> Result<(), Fail> {
-    let graph = read(rt.alloc(), EMPTY)?;
-    let waves = waves_of(rt.alloc(), &[])?;
-    let mut text = Vec::new(rt.alloc());
-    write_profile(&mut text, &graph, &waves, &[])?;
+    // Without waves there is no parallelism.
+    let nothing = waves_of(rt.alloc(), &[])?;
+    text.clear();
+    write_profile(&mut text, &graph, &nothing, &[])?;
     assert_eq!(&rt;
         text.as_slice(),
         b"work 0\nspan 0\nparallelism 0.00\nend Rest\n".as_slice()
@@ -82,22 +77,17 @@ fn without_waves_the_parallelism_is_nothing(rt: HostRuntime) -> Result<(), Fail>
 }
 
 #[test]
-fn draws_a_bar_for_each_wave(rt: HostRuntime) -> Result<(), Fail> {
+fn draws_waves(rt: HostRuntime) -> Result<(), Fail> {
     let mut picture = Vec::new(rt.alloc());
     write_svg(&mut picture, TREE)?;
     assert!(&rt; picture.as_slice().starts_with(b"<svg xmlns="));
     assert!(&rt; picture.as_slice().ends_with(BARS));
-    Ok(())
-}
-
-/// 401 waves stand in 201 bars, two in each, and the last alone.
-#[test]
-fn joins_neighbours(rt: HostRuntime) -> Result<(), Fail> {
+    // 401 waves stand in 201 bars, two in each, and the last alone.
     let mut counts: Vec<u64, _> = Vec::new(rt.alloc());
     for wave in 0..401u64 {
         counts.push(wave)?;
     }
-    let mut picture = Vec::new(rt.alloc());
+    picture.clear();
     write_svg(&mut picture, &counts)?;
     let last = b"<rect x=\"796\" width=\"4\" height=\"300\"/>\n</g>\n</svg>\n";
     assert!(&rt; picture.as_slice().ends_with(last.as_slice()));

@@ -1,13 +1,10 @@
 //! Tries thousands of command lines. `clap`, with the command line as it stands in `command_texts`, and `read_words` have to
-//! agree on what each of them asks for, with all its values, and on its text. Then prints some texts whole, which have to be as
-//! in `stdout`.
+//! agree on what each of them asks for, with all its values, and on its text.
 #![tactic(auto)]
 
 mod agreement;
 
 use agreement::{Tally, agree_on};
-use command_line::{Asked, read_words};
-use command_texts::{help_text, mistake_text};
 use std::alloc::Global;
 
 /// What may stand after `ets`: units of one or more words, with a space between two words.
@@ -185,38 +182,6 @@ const LEAVES: [&str; 6] = [
     "ets help",
 ];
 
-/// Command lines whose text is printed whole.
-const TEXTS: [&str; 28] = [
-    "ets",
-    "ets --help",
-    "ets help help",
-    "ets run --help",
-    "ets mean --help",
-    "ets check --help",
-    "ets compile --help",
-    "ets dis --help",
-    "ets upgrade --help",
-    "ets dot --help",
-    "ets walk",
-    "ets rn",
-    "ets help walk",
-    "ets run --frame 4",
-    "ets run --elements x",
-    "ets run --steps=18446744073709551616",
-    "ets run --elements",
-    "ets run --elements 1 --elements=2",
-    "ets check more",
-    "ets run -- more",
-    "ets run -4",
-    "ets exec --help",
-    "ets exec -4",
-    "ets asm --help",
-    "ets trace --help",
-    "ets trace --format dot",
-    "ets profile --help",
-    "ets orders --help",
-];
-
 fn try_lists<'a>(
     tally: &mut Tally,
     alloc: Global,
@@ -290,26 +255,6 @@ fn try_numbers(alloc: Global) -> anyhow::Result<Tally> {
     Ok(tally)
 }
 
-/// The text of a command line that is not a request.
-fn text_of(alloc: Global, words: &[&str]) -> anyhow::Result<Option<String>> {
-    Ok(match read_words(words.get(1..).unwrap_or(&[])) {
-        Asked::Request(_request) => None,
-        Asked::Version => None,
-        Asked::Help(topic) => help_text(alloc, "ets", topic)?,
-        Asked::Mistake => mistake_text(alloc, words)?,
-    })
-}
-
-fn print_text(rt: &HostRuntime, line: &str) -> anyhow::Result<()> {
-    println!(rt; "== {line} ==")?;
-    let words = words_of(rt.alloc(), line)?;
-    match text_of(rt.alloc(), words.as_slice())? {
-        Some(text) => print!(rt; "{text}")?,
-        None => println!(rt; "no text")?,
-    }
-    Ok(())
-}
-
 fn main(rt: HostRuntime) -> anyhow::Result<()> {
     let alloc = rt.alloc();
     let first = FIRST.as_slice();
@@ -340,8 +285,5 @@ fn main(rt: HostRuntime) -> anyhow::Result<()> {
         )?;
     }
     println!(rt; "numbers: {}", try_numbers(alloc)?)?;
-    for line in TEXTS {
-        print_text(&rt, line)?;
-    }
     Ok(())
 }

@@ -1,9 +1,10 @@
 //! Graphs whose profile is known, and an object that was typed.
 
 use crate::lines::{count, sum};
-use std::alloc::Global;
+use std::alloc::{AllocError, Global};
 use std::sync::Wait;
 use std::thread::Threads;
+use test_graph_texts::{SUM_LOOP, with_change, with_inputs};
 use test_served::answer;
 
 /// A chain: each node waits for the one before it.
@@ -42,44 +43,6 @@ main m
 8
 ";
 
-/// A loop that sums the numbers up to 100, of which two turns may be under way.
-pub const LOOP_OF_2: &[u8] = b"etsgraph 1
-block b 3 4
-- lit 1 0.0
-- add 0.0 3.0
-- add 1.0 0.0
-- le 4.0 2.0
-out 6.0 4.0 5.0 2.0
-end
-block m 1 1
-- lit 1 0.0
-- lit 0 0.0
-- loop b 2 1.0 2.0 0.0
-out 3.1
-end
-main m
-100
-";
-
-/// The same loop with eight turns.
-pub const LOOP_OF_8: &[u8] = b"etsgraph 1
-block b 3 4
-- lit 1 0.0
-- add 0.0 3.0
-- add 1.0 0.0
-- le 4.0 2.0
-out 6.0 4.0 5.0 2.0
-end
-block m 1 1
-- lit 1 0.0
-- lit 0 0.0
-- loop b 8 1.0 2.0 0.0
-out 3.1
-end
-main m
-100
-";
-
 /// An object that adds its two inputs, as it may be typed, and a literal that no instruction uses.
 pub const LISTING: &[u8] = b"ets 1 main 0
 block 0 inputs 2 outputs 1 slots 3
@@ -104,4 +67,16 @@ pub fn looks_right<R: Threads + Wait + Sync>(
     sum(&profile.text, b"work ", 1) == work
         && sum(&profile.text, b"span ", 1) == span
         && count(&profile.text, b"parallelism 1.00") == u64::from(work == span)
+}
+
+/// Whether the loop that sums the numbers up to its input has the profile that it should have, with this text in the place of
+/// its bound.
+pub fn loop_looks_right<R: Threads + Wait + Sync>(
+    rt: &R,
+    alloc: Global,
+    bound: &[u8],
+) -> Result<bool, AllocError> {
+    let graph = with_change(alloc, SUM_LOOP, b"loop b 2", bound)?;
+    let input = with_inputs(alloc, &graph, b"100\n")?;
+    Ok(looks_right(rt, alloc, &input, 1_007, 504))
 }

@@ -12,8 +12,8 @@ mod profiles;
 mod tally;
 mod traces;
 
-use known::{CHAIN, LISTING, LOOP_OF_2, LOOP_OF_8, TREE, looks_right};
-use std::alloc::Global;
+use known::{CHAIN, LISTING, TREE, looks_right, loop_looks_right};
+use std::alloc::{AllocError, Global};
 use std::env;
 use std::io::{self, Write};
 use std::process::ExitCode;
@@ -118,12 +118,14 @@ fn look_at_graphs<R: Threads + Wait + Sync, W: Write>(
 }
 
 /// Whether the graphs that are known have the profile that they have to have.
-fn knows<R: Threads + Wait + Sync>(rt: &R, alloc: Global) -> bool {
-    looks_right(rt, alloc, CHAIN, 6, 6)
-        && looks_right(rt, alloc, TREE, 16, 5)
-        && looks_right(rt, alloc, LOOP_OF_2, 1_007, 504)
-        && looks_right(rt, alloc, LOOP_OF_8, 1_007, 504)
-        && objects::adds(rt, alloc, LISTING)
+fn knows<R: Threads + Wait + Sync>(rt: &R, alloc: Global) -> Result<bool, AllocError> {
+    Ok(
+        looks_right(rt, alloc, CHAIN, 6, 6)
+            && looks_right(rt, alloc, TREE, 16, 5)
+            && loop_looks_right(rt, alloc, b"loop b 2")?
+            && loop_looks_right(rt, alloc, b"loop b 8")?
+            && objects::adds(rt, alloc, LISTING),
+    )
 }
 
 fn main(rt: HostRuntime) -> anyhow::Result<ExitCode> {
@@ -135,7 +137,7 @@ fn main(rt: HostRuntime) -> anyhow::Result<ExitCode> {
         return Ok(ExitCode::FAILURE);
     }
     writeln!(out, "{tally}")?;
-    if !knows(&rt, alloc) {
+    if !knows(&rt, alloc)? {
         writeln!(out, "a graph that is known differs")?;
         return Ok(ExitCode::FAILURE);
     }

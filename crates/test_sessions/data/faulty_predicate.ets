@@ -1,0 +1,10 @@
+etsgraph 1
+block m 2 2
+- div 0.0 1.0
+- cond 2.0
+3+ enter 0.0
+3- enter 1.0
+- merge 3 4.0 5.0
+out 2.0 6.0
+end
+main m

@@ -1,0 +1,291 @@
+//! One session.
+
+use crate::tally::Tally;
+use std::alloc::{AllocError, Global};
+use std::io::{self, Write};
+use std::sync::Wait;
+use std::thread::Threads;
+use test_pieces::{append, append_repeated, changed};
+use test_served::{Outcome, answer};
+
+/// A session, as far as its lines have been read.
+#[derive(Drop)]
+pub struct Session<'a> {
+    alloc: Global,
+    /// The number of its first line in the file.
+    line: u64,
+    /// The command lines that are tried, one after another.
+    commands: Vec<&'a str>,
+    /// Whether a line stands behind its command lines.
+    has_more: bool,
+    input: Vec<u8>,
+    /// On how many bytes of the input it is played at first, and at last; else it is played on all of them.
+    lengths: Option<(usize, usize)>,
+    /// What should be printed; where lines are left out, what should be printed before them.
+    wanted: Vec<u8>,
+    /// What should be printed behind the lines that are left out, if any are.
+    last: Option<Vec<u8>>,
+    status: u8,
+}
+
+/// The words of a command.
+fn words_of<'a>(alloc: Global, command: &'a str) -> Result<Vec<&'a str>, AllocError> {
+    let mut words = Vec::new(alloc);
+    if command.is_empty() {
+        return Ok(words);
+    }
+    for word in command.split(' ') {
+        if word == "<" {
+            break;
+        }
+        words.push(word)?;
+    }
+    Ok(words)
+}
+
+/// What the last of the commands prints, where the first one reads this input.
+fn outcome_of<R: Threads + Wait + Sync>(
+    rt: &R,
+    alloc: Global,
+    commands: &str,
+    input: &[u8],
+) -> Result<Outcome, AllocError> {
+    let mut outcome = Outcome {
+        text: Vec::from_slice(alloc, input)?,
+        status: 0,
+    };
+    for command in commands.split(" | ") {
+        let words = words_of(alloc, command)?;
+        let next = answer(rt, alloc, &words, &outcome.text);
+        outcome = next;
+    }
+    Ok(outcome)
+}
+
+/// A number, and what stands behind it and a space.
+fn split_number(words: &str) -> Option<(usize, &str)> {
+    let (number, rest) = words.split_once(' ')?;
+    Some((number.parse().ok()?, rest))
+}
+
+/// Overwrites the input from this place on. Says whether it is as long as that.
+fn overwrite(input: &mut [u8], place: usize, bytes: &[u8]) -> bool {
+    let Some(rest) = input.get_mut(place..) else {
+        return false;
+    };
+    for (old, new) in rest.iter_mut().zip(bytes) {
+        *old = *new;
+    }
+    true
+}
+
+/// Writes a text, and ends its last line.
+fn write_lines<W: Write>(out: &mut W, text: &[u8]) -> io::Result<()> {
+    out.write_all(text)?;
+    if !text.is_empty() && !text.ends_with(b"\n") {
+        out.write_all(b"\n")?;
+    }
+    Ok(())
+}
+
+impl<'a> Session<'a> {
+    /// A session that begins in this line of its file.
+    pub fn new(alloc: Global, line: u64) -> Session<'a> {
+        Session {
+            alloc,
+            line,
+            commands: Vec::new(alloc),
+            has_more: false,
+            input: Vec::new(alloc),
+            lengths: None,
+            wanted: Vec::new(alloc),
+            last: None,
+            status: 0,
+        }
+    }
+
+    /// Whether more command lines may come.
+    pub fn is_new(&self) -> bool {
+        !self.has_more
+    }
+
+    /// Takes a command line. The bytes are those of the file that it reads.
+    pub fn take_commands(&mut self, commands: &'a str, bytes: Vec<u8>) -> Result<(), AllocError> {
+        self.commands.push(commands)?;
+        self.input = bytes;
+        Ok(())
+    }
+
+    /// Takes the next line. Says whether it has one of the forms that a line may have.
+    pub fn take(&mut self, line: &str) -> Result<bool, AllocError> {
+        self.has_more = true;
+        match line {
+            "..." if self.last.is_none() => {
+                self.last = Some(Vec::new(self.alloc));
+                Ok(true)
+            }
+            ">" => self.want(b""),
+            "|" => {
+                self.input.push(b'\n')?;
+                Ok(true)
+            }
+            _ => match line.split_once(' ') {
+                Some((mark, rest)) => self.take_marked(mark, rest),
+                None => Ok(false),
+            },
+        }
+    }
+
+    /// Takes a line with this mark.
+    fn take_marked(&mut self, mark: &str, rest: &str) -> Result<bool, AllocError> {
+        let bytes = rest.as_bytes();
+        match mark {
+            "|" => {
+                append(&mut self.input, bytes, 0)?;
+                self.input.push(b'\n')?;
+            }
+            "!" => append(&mut self.input, bytes, 0)?,
+            "*" => append_repeated(&mut self.input, bytes)?,
+            ">" => return self.want(bytes),
+            "change" => return self.change(rest),
+            "at" => return self.take_bytes(rest),
+            "first" => return Ok(self.take_lengths(rest)),
+            "=" => return Ok(self.take_status(rest)),
+            _ => return Ok(false),
+        }
+        Ok(true)
+    }
+
+    /// Takes a line that should be printed.
+    fn want(&mut self, line: &[u8]) -> Result<bool, AllocError> {
+        let wanted = match &mut self.last {
+            Some(last) => last,
+            None => &mut self.wanted,
+        };
+        wanted.extend_from_slice(line)?;
+        wanted.push(b'\n')?;
+        Ok(true)
+    }
+
+    /// Takes the exit status.
+    fn take_status(&mut self, words: &str) -> bool {
+        match words.parse() {
+            Ok(status) => {
+                self.status = status;
+                true
+            }
+            Err(_fault) => false,
+        }
+    }
+
+    /// Changes the text of the input as these words say, if what they name stands in it.
+    fn change(&mut self, words: &str) -> Result<bool, AllocError> {
+        let Some((old, new)) = words.split_once(" -> ") else {
+            return Ok(false);
+        };
+        match changed(self.alloc, &self.input, old.as_bytes(), new.as_bytes())? {
+            Some(input) => {
+                self.input = input;
+                Ok(true)
+            }
+            None => Ok(false),
+        }
+    }
+
+    /// Overwrites the input as these words say.
+    fn take_bytes(&mut self, words: &str) -> Result<bool, AllocError> {
+        let Some((place, piece)) = split_number(words) else {
+            return Ok(false);
+        };
+        let mut bytes = Vec::new(self.alloc);
+        append(&mut bytes, piece.as_bytes(), 0)?;
+        Ok(overwrite(&mut self.input, place, &bytes))
+    }
+
+    /// Takes the lengths of the input on which the session is played.
+    fn take_lengths(&mut self, words: &str) -> bool {
+        match split_number(words) {
+            Some((first, last)) => match last.parse() {
+                Ok(last) => {
+                    self.lengths = Some((first, last));
+                    true
+                }
+                Err(_fault) => false,
+            },
+            None => false,
+        }
+    }
+
+    /// Whether this is what should be printed.
+    fn is_wanted(&self, outcome: &Outcome) -> bool {
+        let text = outcome.text.as_slice();
+        let is_text_wanted = match &self.last {
+            None => text == self.wanted.as_slice(),
+            Some(last) => match text.strip_prefix(self.wanted.as_slice()) {
+                Some(rest) => rest.ends_with(last),
+                None => false,
+            },
+        };
+        is_text_wanted && outcome.status == self.status
+    }
+
+    /// Tells what was printed, and what should have been.
+    fn tell<W: Write>(
+        &self,
+        out: &mut W,
+        name: &str,
+        commands: &str,
+        outcome: &Outcome,
+    ) -> io::Result<()> {
+        let line = self.line;
+        let status = self.status;
+        writeln!(out, "{name}:{line}: {commands}")?;
+        writeln!(out, "wanted, with status {status}:")?;
+        write_lines(out, &self.wanted)?;
+        if let Some(last) = &self.last {
+            out.write_all(b"...\n")?;
+            write_lines(out, last)?;
+        }
+        let came = outcome.status;
+        writeln!(out, "came, with status {came}:")?;
+        write_lines(out, &outcome.text)
+    }
+
+    /// Plays the session with these commands, once on each of its lengths of the input. Says whether all is as it should be, and
+    /// tells the first time that it is not.
+    fn play_commands<R: Threads + Wait + Sync, W: Write>(
+        &self,
+        rt: &R,
+        out: &mut W,
+        name: &str,
+        commands: &str,
+    ) -> io::Result<bool> {
+        let (first, last) = match self.lengths {
+            Some(lengths) => lengths,
+            None => (self.input.len(), self.input.len()),
+        };
+        for length in first..=last {
+            let input = self.input.get(..length).unwrap_or(&self.input);
+            let outcome = outcome_of(rt, self.alloc, commands, input)?;
+            if !self.is_wanted(&outcome) {
+                self.tell(out, name, commands, &outcome)?;
+                return Ok(false);
+            }
+        }
+        Ok(true)
+    }
+
+    /// Plays the session with each of its command lines, and counts them.
+    pub fn play<R: Threads + Wait + Sync, W: Write>(
+        &self,
+        rt: &R,
+        out: &mut W,
+        tally: &mut Tally,
+        name: &str,
+    ) -> io::Result<()> {
+        for commands in &self.commands {
+            tally.add(self.play_commands(rt, out, name, commands)?);
+        }
+        Ok(())
+    }
+}
