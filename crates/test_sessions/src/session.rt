@@ -79,6 +79,13 @@ fn overwrite(input: &mut [u8], place: usize, bytes: &[u8]) -> bool {
     true
 }
 
+/// Appends a line, and its end.
+fn push_line(lines: &mut Vec<u8>, line: &[u8]) -> Result<(), AllocError> {
+    lines.extend_from_slice(line)?;
+    lines.push(b'\n')?;
+    Ok(())
+}
+
 /// Writes a text, and ends its last line.
 fn write_lines<W: Write>(out: &mut W, text: &[u8]) -> io::Result<()> {
     out.write_all(text)?;
@@ -158,12 +165,10 @@ impl<'a> Session<'a> {
 
     /// Takes a line that should be printed.
     fn want(&mut self, line: &[u8]) -> Result<bool, AllocError> {
-        let wanted = match &mut self.last {
-            Some(last) => last,
-            None => &mut self.wanted,
-        };
-        wanted.extend_from_slice(line)?;
-        wanted.push(b'\n')?;
+        match &mut self.last {
+            Some(last) => push_line(last, line)?,
+            None => push_line(&mut self.wanted, line)?,
+        }
         Ok(true)
     }
 
@@ -264,7 +269,7 @@ impl<'a> Session<'a> {
             Some(lengths) => lengths,
             None => (self.input.len(), self.input.len()),
         };
-        for length in first..=last {
+        for length in first..last.saturating_add(1) {
             let input = self.input.get(..length).unwrap_or(&self.input);
             let outcome = outcome_of(rt, self.alloc, commands, input)?;
             if !self.is_wanted(&outcome) {
