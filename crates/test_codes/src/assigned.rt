@@ -8,7 +8,7 @@ use slot_alloc::{AssignFault, assign, check_slots};
 use std::alloc::{AllocError, Allocator};
 use std::test::Fail;
 use tags::value::Origin;
-use test_plans::{ADD, Dests, L, NONE, R, instr_of, plan_of};
+use test_plans::{ADD, Dests, L, NONE, R, instr_of, mark_of, plan_of};
 
 /// The operation of an instruction, its holder, and its first and its second destinations.
 type Line = (Op, u32, Dests, Dests);
@@ -29,17 +29,14 @@ fn lines_plan<A: Allocator + Clone>(
     alloc: A,
     holders: u32,
     lines: &[Line],
-    mark: Option<Mark>,
+    mark: Mark,
 ) -> Result<Plan<A>, AllocError> {
     let mut instrs = Vec::new(alloc.clone()?);
     let mut marks = Vec::new(alloc.clone()?);
     for line in lines {
         let (op, _, _, _) = *line;
         instrs.push(instr(alloc.clone()?, *line)?)?;
-        marks.push(match (op, mark) {
-            (Op::Switch, Some(mark)) => mark,
-            _ => Mark::Unmarked,
-        })?;
+        marks.push(mark_of(op, mark))?;
     }
     plan_of(alloc, 1, holders, instrs, marks)
 }
@@ -137,7 +134,7 @@ struct Case {
     name: &'static str,
     holders: u32,
     lines: &'static [Line],
-    mark: Option<Mark>,
+    mark: Mark,
     good: &'static [&'static [u16]],
     crowded: &'static [&'static [u16]],
     assigned: Option<&'static [u16]>,
@@ -148,7 +145,7 @@ static CASES: [Case; 9] = [
         name: "the return waits beside the sum",
         holders: 3,
         lines: SUM,
-        mark: None,
+        mark: Mark::Unmarked,
         good: &[&[0, 1, 2], &[511, 0, 7]],
         crowded: &[&[0, 0, 1], &[0, 1, 1], &[512, 0, 7], &[0, 1], &[0, 1, 2, 3]],
         assigned: None,
@@ -157,7 +154,7 @@ static CASES: [Case; 9] = [
         name: "one comes after the other",
         holders: 4,
         lines: CHAIN,
-        mark: None,
+        mark: Mark::Unmarked,
         good: &[&[0, 0, 1, 2]],
         crowded: &[&[0, 1, 0, 2]],
         assigned: None,
@@ -166,7 +163,7 @@ static CASES: [Case; 9] = [
         name: "arms of a conditional share",
         holders: 7,
         lines: ARMS,
-        mark: Some(Mark::OfCond { cond: 1 }),
+        mark: Mark::OfCond { cond: 1 },
         good: &[&[0, 1, 2, 2, 3, 4, 5]],
         crowded: &[&[0, 0, 2, 3, 4, 5, 6]],
         assigned: None,
@@ -175,7 +172,7 @@ static CASES: [Case; 9] = [
         name: "sides of a loop's flag share",
         holders: 7,
         lines: ARMS,
-        mark: Some(Mark::OfFlag),
+        mark: Mark::OfFlag,
         good: &[&[0, 1, 2, 2, 3, 4, 5]],
         crowded: &[],
         assigned: None,
@@ -184,7 +181,7 @@ static CASES: [Case; 9] = [
         name: "sides of other switches do not share",
         holders: 7,
         lines: ARMS,
-        mark: None,
+        mark: Mark::Unmarked,
         good: &[],
         crowded: &[&[0, 1, 2, 2, 3, 4, 5]],
         assigned: None,
@@ -193,7 +190,7 @@ static CASES: [Case; 9] = [
         name: "independent operators do not share",
         holders: 2,
         lines: INDEPENDENT,
-        mark: None,
+        mark: Mark::Unmarked,
         good: &[&[1, 0]],
         crowded: &[&[0, 0]],
         assigned: Some(&[0, 1]),
@@ -202,7 +199,7 @@ static CASES: [Case; 9] = [
         name: "a late return shares with the sum",
         holders: 4,
         lines: LATE_RETURN,
-        mark: None,
+        mark: Mark::Unmarked,
         good: &[&[0, 1, 2, 3], &[0, 1, 0, 2]],
         crowded: &[
             &[0, 0, 1, 2],
@@ -218,7 +215,7 @@ static CASES: [Case; 9] = [
         name: "a late release shares with the return",
         holders: 4,
         lines: LATE_RELEASE,
-        mark: None,
+        mark: Mark::Unmarked,
         good: &[&[0, 1, 2, 1], &[0, 1, 2, 0]],
         crowded: &[&[0, 0, 1, 2], &[0, 1, 0, 2], &[0, 1, 1, 2], &[0, 1, 2, 2]],
         assigned: Some(&[0, 1, 2, 0]),
@@ -227,7 +224,7 @@ static CASES: [Case; 9] = [
         name: "two returns share with nothing",
         holders: 6,
         lines: TWO_RETURNS,
-        mark: None,
+        mark: Mark::Unmarked,
         good: &[&[0, 1, 2, 3, 4, 5]],
         crowded: &[
             &[0, 0, 2, 3, 4, 5],
@@ -322,7 +319,7 @@ fn each_growth_is_refused_in_turn(rt: HostRuntime) -> Result<(), Fail> {
     let mut done: u32 = 0;
     for growth in 1..120 {
         let heap = Rationed::new(rt.alloc(), growth);
-        if let Ok(plan) = lines_plan(&heap, 3, SUM, None) {
+        if let Ok(plan) = lines_plan(&heap, 3, SUM, Mark::Unmarked) {
             match assign(&heap, &plan) {
                 Ok(slots) => match check_slots(&heap, &plan, &slots) {
                     Ok(good) => {

@@ -85,7 +85,7 @@ fn slots_of<A: Allocator + Clone>(alloc: A, slots: &[u16]) -> Result<Slots<A>, A
 }
 
 /// The slot and the destinations of an instruction, and whether its origin is told.
-#[derive(Clone, Copy, Debug, PartialEq, Eq)]
+#[derive(Clone, Copy, PartialEq, Eq)]
 struct Shape {
     slot: u32,
     first: Option<Dest>,
@@ -151,22 +151,13 @@ fn an_adder_and_dividers(rt: HostRuntime) -> Result<(), Fail> {
         make_shape(1, Some(right(1)), None, false),
         make_shape(2, None, None, false),
     ];
-    assert_eq!(rt; shapes.as_slice(), wanted.as_slice());
+    assert!(rt; shapes.as_slice() == wanted.as_slice());
     let divide = Op::Apply2 { op: Binary::Div };
     let shapes = emitted_shapes(rt.alloc(), divide, &[2, 0, 1], Version::Two)?;
-    assert_eq!(rt;
-        shapes.get(3),
-        Some(&make_shape(2, Some(right(1)), None, true))
-    );
-    assert_eq!(rt;
-        shapes.get(4),
-        Some(&make_shape(0, Some(right(1)), None, false))
-    );
+    assert!(rt; shapes.get(3) == Some(&make_shape(2, Some(right(1)), None, true)));
+    assert!(rt; shapes.get(4) == Some(&make_shape(0, Some(right(1)), None, false)));
     let shapes = emitted_shapes(rt.alloc(), divide, &[0, 1, 2], Version::One)?;
-    assert_eq!(rt;
-        shapes.get(3),
-        Some(&make_shape(0, Some(right(1)), None, false))
-    );
+    assert!(rt; shapes.get(3) == Some(&make_shape(0, Some(right(1)), None, false)));
     Ok(())
 }
 
@@ -219,7 +210,7 @@ fn a_block_goes_so_far(rt: HostRuntime) -> Result<(), Fail> {
 }
 
 /// How far a plan came on its way to code.
-#[derive(Clone, Copy, Debug, PartialEq, Eq)]
+#[derive(Clone, Copy, PartialEq, Eq)]
 enum Stage {
     NoPlan,
     NoCode,
@@ -249,9 +240,6 @@ fn refuses_each_growth(rt: HostRuntime) -> Result<(), Fail> {
             stages.push(stage)?;
         }
     }
-    assert_eq!(rt;
-        stages.as_slice(),
-        [Stage::NoPlan, Stage::NoCode, Stage::Code].as_slice()
-    );
+    assert!(rt; stages.as_slice() == [Stage::NoPlan, Stage::NoCode, Stage::Code].as_slice());
     Ok(())
 }

@@ -4,14 +4,12 @@ use code::{CodeBlock, Plan};
 use expansion::expand;
 use graph_check::check;
 use graph_file::read;
-use operators::Binary;
 use rationed::Rationed;
-use semantics::program::{Dest, Mark, Op};
+use semantics::program::{Mark, Op};
 use std::alloc::{AllocError, Allocator, Global};
 use std::process::Abort;
 use std::test::Fail;
-use tags::token::Port::{self, Left, Right};
-use test_graph_texts::ADD;
+use test_plans::{ADD, Dests, L, NONE, R, is_instr};
 
 /// The graph of the block `m`, which gives the sum of its two inputs, and of the block `g`, which gives its first input and does
 /// not use its second one.
@@ -39,33 +37,26 @@ fn whole_plan(rt: &impl Abort, alloc: Global, text: &[u8]) -> Result<Plan<Global
     plan_of(rt, alloc, alloc, text)
 }
 
-fn to(ahead: u32, port: Port) -> Dest {
-    Dest { ahead, port }
-}
-
 /// Ends the process unless the block has these operations, with these slots and destinations.
 fn expect_code<R: Abort, A: Allocator>(
     rt: &R,
     block: &CodeBlock<A>,
-    expected: &[(Op, u32, &[Dest])],
+    expected: &[(Op, u32, Dests)],
 ) {
     assert_eq!(rt; block.instrs.len(), expected.len());
     for (instr, (op, slot, firsts)) in block.instrs.iter().zip(expected) {
-        assert_eq!(rt; instr.op, *op);
-        assert_eq!(rt; instr.slot, *slot);
-        assert_eq!(rt; instr.firsts.as_slice(), *firsts);
-        assert!(rt; instr.seconds.is_empty());
+        assert!(rt; is_instr(instr, *op, firsts, NONE) && instr.slot == *slot);
     }
 }
 
 fn expect_adder<R: Abort, A: Allocator>(rt: &R, block: &CodeBlock<A>) {
     assert_eq!(rt; block.slots, 3);
-    let expected: [(Op, u32, &[Dest]); 6] = [
-        (Op::Copy, 0, &[to(4, Left), to(5, Left)]),
-        (Op::Copy, 0, &[to(2, Left)]),
-        (Op::Copy, 0, &[to(1, Right)]),
-        (Op::Apply2 { op: Binary::Add }, 0, &[to(1, Right)]),
-        (Op::Return { offset: 0 }, 1, &[to(1, Right)]),
+    let expected: [(Op, u32, Dests); 6] = [
+        (Op::Copy, 0, &[(4, L), (5, L)]),
+        (Op::Copy, 0, &[(2, L)]),
+        (Op::Copy, 0, &[(1, R)]),
+        (ADD, 0, &[(1, R)]),
+        (Op::Return { offset: 0 }, 1, &[(1, R)]),
         (Op::Release { offset: 1 }, 2, &[]),
     ];
     expect_code(rt, block, &expected);
@@ -74,7 +65,7 @@ fn expect_adder<R: Abort, A: Allocator>(rt: &R, block: &CodeBlock<A>) {
 /// In the second graph, the unused input goes to the left port of the join, and the signal of the `return` to its right port.
 #[test]
 fn plans_of_small_graphs(rt: HostRuntime) -> Result<(), Fail> {
-    let plan = whole_plan(&rt, rt.alloc(), ADD)?;
+    let plan = whole_plan(&rt, rt.alloc(), test_graph_texts::ADD)?;
     assert_eq!(rt; plan.program.main, 0);
     assert_eq!(rt; plan.plain, 1);
     assert_eq!(rt; plan.program.blocks.len(), 1);
@@ -84,12 +75,12 @@ fn plans_of_small_graphs(rt: HostRuntime) -> Result<(), Fail> {
     assert_eq!(rt; plan.program.main, 1);
     assert_eq!(rt; plan.plain, 2);
     assert_eq!(rt; plan.program.blocks.len(), 2);
-    let expected: [(Op, u32, &[Dest]); 6] = [
-        (Op::Copy, 0, &[to(3, Left), to(5, Left)]),
-        (Op::Copy, 0, &[to(2, Right)]),
-        (Op::Copy, 0, &[to(2, Left)]),
-        (Op::Return { offset: 0 }, 0, &[to(1, Right)]),
-        (Op::Sync, 1, &[to(1, Right)]),
+    let expected: [(Op, u32, Dests); 6] = [
+        (Op::Copy, 0, &[(3, L), (5, L)]),
+        (Op::Copy, 0, &[(2, R)]),
+        (Op::Copy, 0, &[(2, L)]),
+        (Op::Return { offset: 0 }, 0, &[(1, R)]),
+        (Op::Sync, 1, &[(1, R)]),
         (Op::Release { offset: 1 }, 2, &[]),
     ];
     expect_code(&rt, &plan.program.blocks[0], &expected);

@@ -8,7 +8,7 @@ use semantics::program::{Mark, Op};
 use std::alloc::{AllocError, Allocator};
 use std::test::Fail;
 use tags::value::{NodeNumber, Origin};
-use test_plans::{ADD, Dests, L, NONE, R, has_dests, instr_of, plan_of};
+use test_plans::{ADD, Dests, L, NONE, R, instr_of, is_instr, mark_of, plan_of};
 
 /// The number of a line, the operation of its instruction, its holder, and its first and its second destinations.
 type Line = (u16, Op, u32, Dests, Dests);
@@ -45,12 +45,8 @@ fn instr<A: Allocator + Clone>(alloc: A, line: Line) -> Result<Instr<A>, AllocEr
     instr_of(alloc, op, origin_of(number), slot, firsts, seconds)
 }
 
-fn mark_of(op: Op) -> Mark {
-    match op {
-        Op::Switch => Mark::OfCond { cond: 3 },
-        _ => Mark::Unmarked,
-    }
-}
+/// The mark of each switch.
+const MARK: Mark = Mark::OfCond { cond: 3 };
 
 /// A plan of one block with one input, `holders` holders, and these instructions.
 fn lines_plan<A: Allocator + Clone>(
@@ -63,18 +59,14 @@ fn lines_plan<A: Allocator + Clone>(
     for line in lines {
         let (_, op, _, _, _) = *line;
         instrs.push(instr(alloc.clone()?, *line)?)?;
-        marks.push(mark_of(op))?;
+        marks.push(mark_of(op, MARK))?;
     }
     plan_of(alloc, 1, holders, instrs, marks)
 }
 
 fn is_line<A: Allocator>(instr: &Instr<A>, line: Line) -> bool {
     let (number, op, slot, firsts, seconds) = line;
-    instr.op == op
-        && instr.origin == origin_of(number)
-        && instr.slot == slot
-        && has_dests(&instr.firsts, firsts)
-        && has_dests(&instr.seconds, seconds)
+    is_instr(instr, op, firsts, seconds) && instr.origin == origin_of(number) && instr.slot == slot
 }
 
 /// The first instruction or mark that differs from the lines; `None` where the block has exactly these lines.
@@ -84,7 +76,7 @@ fn first_other<A: Allocator>(plan: &Plan<A>, lines: &[Line]) -> Option<usize> {
     for (place, line) in lines.iter().enumerate() {
         let (_, op, _, _, _) = *line;
         match (block.instrs.get(place), marks.get(place)) {
-            (Some(instr), Some(mark)) if is_line(instr, *line) && *mark == mark_of(op) => {}
+            (Some(instr), Some(mark)) if is_line(instr, *line) && *mark == mark_of(op, MARK) => {}
             _ => return Some(place),
         }
     }

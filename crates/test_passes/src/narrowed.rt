@@ -7,7 +7,7 @@ use semantics::program::{Mark, Op};
 use std::alloc::{AllocError, Allocator};
 use std::test::Fail;
 use tags::value::Origin;
-use test_plans::{ADD, Dests, L, NONE, R, has_dests, instr_of};
+use test_plans::{ADD, Dests, L, NONE, R, has_op, instr_of, is_instr, mark_of};
 
 /// The operation of an instruction, and its first and its second destinations.
 type Line = (Op, Dests, Dests);
@@ -42,10 +42,7 @@ fn marks_of<A: Allocator>(alloc: A, lines: &[Line]) -> Result<Vec<Mark, A>, Allo
     let mut marks = Vec::new(alloc);
     for line in lines {
         let (op, _, _) = *line;
-        marks.push(match op {
-            Op::Switch => Mark::OfFlag,
-            _ => Mark::Unmarked,
-        })?;
+        marks.push(mark_of(op, Mark::OfFlag))?;
     }
     Ok(marks)
 }
@@ -83,9 +80,7 @@ fn has_lines<A: Allocator>(plan: &Plan<A>, lines: &[Line]) -> bool {
             block.instrs.len() == lines.len()
                 && block.instrs.iter().zip(lines.iter()).all(|(instr, line)| {
                     let (op, firsts, seconds) = *line;
-                    instr.op == op
-                        && has_dests(&instr.firsts, firsts)
-                        && has_dests(&instr.seconds, seconds)
+                    is_instr(instr, op, firsts, seconds)
                 })
         }
     }
@@ -234,9 +229,11 @@ fn a_landing_of_a_loop_has_its_values_and_three_more(rt: HostRuntime) -> Result<
     match narrowed.program.blocks.first() {
         None => assert!(rt; false, "no block"),
         Some(block) => {
-            let wide = block.instrs.iter().skip(9).take(3);
             assert_eq!(rt; block.instrs.len(), 15);
-            assert!(rt; wide.fold(true, |all, instr| all && instr.op == Op::Copy));
+            for place in 9..12usize {
+                let instr = block.instrs.get(place).ok_or("an instruction")?;
+                assert!(rt; has_op(instr, Op::Copy));
+            }
         }
     }
     Ok(())

@@ -82,3 +82,21 @@ pub fn has_dests(list: &[Dest], dests: &[(u32, Port)]) -> bool {
         && list.iter().zip(dests.iter()).all(|(dest, (ahead, port))| dest.ahead == *ahead
             && dest.port == *port)
 }
+
+/// The mark of an instruction in a plan whose switches have this mark: no other instruction has one.
+pub fn mark_of(op: Op, mark: Mark) -> Mark {
+    match op {
+        Op::Switch => mark,
+        _ => Mark::Unmarked,
+    }
+}
+
+/// Whether the instruction does this.
+pub fn has_op<A: Allocator>(instr: &Instr<A>, op: Op) -> bool {
+    instr.op == op
+}
+
+/// Whether the instruction does this, and sends to these destinations.
+pub fn is_instr<A: Allocator>(instr: &Instr<A>, op: Op, firsts: Dests, seconds: Dests) -> bool {
+    has_op(instr, op) && has_dests(&instr.firsts, firsts) && has_dests(&instr.seconds, seconds)
+}
