@@ -32,7 +32,8 @@ use Rattle.law_free_runs.proofs.Running.{run_join, leaves_same, run_of_history}
 use Rattle.law_free_runs.proofs.Balancing.{same_perm, then_perm, all_perm, all_both, what_is_left}
 use Rattle.law_free_runs.proofs.Showing.{found, at_all, made_by, count_events}
 use Rattle.law_free_runs.proofs.Weaving.{Woven, weave, same_entries, all_below}
-use Rattle.law_free_runs.proofs.Joining.{no_account, at_account, tokens_by, near_in, last_all, box, box_is}
+use Rattle.law_free_runs.proofs.Joining.{no_account, at_account, tokens_by, box, box_is}
+use Rattle.schedule.proofs.Staying.{near_in, last_all}
 
 -- what is known of the elements and of their seats
 record Joined (g : Setting) (s : SeatView) (olds news : List Held) (kept : ℕ → List Token) (blocks : ℕ → List Block) : Type 0 where

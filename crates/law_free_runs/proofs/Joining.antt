@@ -1,19 +1,14 @@
 -- What lanes, accounts and boxes hold, element by element.
-use Rattle.std.proofs.Common.{◌≡◌, refl, sym, ◌∙◌, ap, subst, ℕ, zero, suc, ◌<◌, List, [], ◌∷◌, ◌++◌, length, get_or, drop, append_assoc, arith}
-use Rattle.std.specs.Prelude.{All}
+use Rattle.std.proofs.Common.{◌≡◌, refl, sym, ◌∙◌, ap, ℕ, zero, suc, ◌<◌, List, [], ◌∷◌, ◌++◌, length, get_or, drop, append_assoc, arith}
 use Rattle.std.proofs.lemmas.List.{append-nil, drop_at}
-use Rattle.std.proofs.lemmas.List.Elements.{All-nil, All-append, All-drop}
 use mathlib.Core.Option.{some}
 use mathlib.Core.List.{IsPrefix}
 use lib.ListN.{get_elem?}
 use Rattle.tags.specs.declared.token.Token.{Token}
 use Rattle.mesh.specs.Deeds.{Bundle}
 use Rattle.mesh.specs.Seats.{Account}
-use Rattle.element.specs.Near.{Bounds, IsNearToken}
 use Rattle.element.specs.Held.{Held}
-use Rattle.schedule.specs.Setting.{Setting}
-use Rattle.schedule.specs.State.{AllFrom, IsPlaced, tokens_in}
-use Rattle.schedule.proofs.Stepping.{bounds_in, bounds_are}
+use Rattle.schedule.specs.State.{tokens_in}
 use Rattle.law_free_runs.specs.Laws.{joined, all_of}
 
 -- ACCOUNTS
@@ -35,16 +30,6 @@ all_first (suc n) f = ap (λ (l : List Token). l ++ f (suc n)) (all_first n f) �
 pub tokens_by : (d : Held) (lanes : List Held) → tokens_in lanes ≡ all_of (length lanes) (λ e. (get_or lanes e d).queue)
 tokens_by d [] = refl
 tokens_by d (h ∷ hs) = ap (λ (l : List Token). h.queue ++ l) (tokens_by d hs) ∙ sym (all_first (length hs) (λ e. (get_or (h ∷ hs) e d).queue))
-
--- the tokens of lanes in their places are near
-pub near_in : (g : Setting) (k : ℕ) (lanes : List Held) → AllFrom (IsPlaced g) k lanes → All (IsNearToken (bounds_in g)) (tokens_in lanes)
-near_in g k [] placed = All-nil (IsNearToken (bounds_in g))
-near_in g k (h ∷ hs) placed =
-    let own : All (IsNearToken (bounds_in g)) h.queue = subst (λ (b : Bounds). All (IsNearToken b) h.queue) (bounds_are g k h placed.0) placed.0.sound.near in
-    All-append (IsNearToken (bounds_in g)) h.queue (tokens_in hs) own (near_in g (suc k) hs placed.1)
-
-pub last_all : (P : Token → Type 0) (xs ys : List Token) → All P (xs ++ ys) → All P ys
-last_all P xs ys all = subst (λ (l : List Token). All P l) (drop_at xs ys (length xs) refl) (All-drop P (length xs) (xs ++ ys) all)
 
 -- BOXES
 -- what was sent and not taken

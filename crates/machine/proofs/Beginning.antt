@@ -8,9 +8,9 @@ use Rattle.std.proofs.lemmas.List.Sorted.{IsPermutation-refl}
 use Rattle.law_net.proofs.Orders.{at_first, at_last}
 use Rattle.tags.specs.declared.token.Token.{Token}
 use Rattle.tags.specs.Addresses.{element_of}
-use Rattle.element.specs.Held.{Held, held_of}
+use Rattle.element.specs.Held.{Held, held_of, fixed_of}
 use Rattle.schedule.specs.Setting.{Setting}
-use Rattle.schedule.specs.State.{AllFrom, IsPlaced, tokens_in}
+use Rattle.schedule.specs.State.{AllFrom, IsPlaced, RunsAs, tokens_in}
 use Rattle.schedule.proofs.Places.{first_get}
 use Rattle.mesh.specs.declared.view.Deed.{Deed}
 use Rattle.mesh.specs.Seats.{MeshId, SeatView, AllTo, fresh_seat}
@@ -75,16 +75,17 @@ module _ {A : Type 0} where
   no_tokens (v ∷ vs) all =
       ap (λ (l : List Token). l ++ flat_map (λ (v : Vec Token A). v.items) vs) (All-head (λ (v : Vec Token A). v.items ≡ []) v vs all) ∙ no_tokens vs (All-tail (λ (v : Vec Token A). v.items ≡ []) v vs all)
 
-  nothing_beside : (r : Runner A) → IsClear r → All (λ (v : Vec Token A). v.items ≡ []) r.kept.items → away r ≡ []
+module _ {C A : Type 0} where
+  nothing_beside : (r : Runner C A) → IsClear r → All (λ (v : Vec Token A). v.items ≡ []) r.kept.items → away r ≡ []
   nothing_beside r (hand, sent, dealt) empty =
       ap (λ (l : List Token). l ++ (flat_map (λ (v : Vec Token A). v.items) r.kept.items ++ drop r.dealt r.sent.items)) hand
       ∙ ap (λ (l : List Token). l ++ drop r.dealt r.sent.items) (no_tokens r.kept.items empty)
       ∙ ap (λ (n : ℕ). drop n r.sent.items) dealt ∙ sent
 
   -- a lane with its fresh seat
-  pub new_running : (g : Setting) (mesh : MeshId) (e : ℕ) (lanes : List Held) (r : Runner A) → mesh.elements ≡ g.elements → mesh.start ≡ tokens_in lanes → AllFrom (IsPlaced g) 0 lanes → slice_get lanes e ≡ Some (held_of r.lane)
+  pub new_running : (g : Setting) (mesh : MeshId) (e : ℕ) (lanes : List Held) (r : Runner C A) → mesh.elements ≡ g.elements → mesh.start ≡ tokens_in lanes → AllFrom (IsPlaced g) 0 lanes → slice_get lanes e ≡ Some (held_of r.lane) → RunsAs g (fixed_of r.lane)
       → r.seat ≡ fresh_seat mesh e → IsNew g.elements r → IsRunning g mesh (held_of r.lane) r
-  new_running g mesh e lanes r elements start placed there seat new =
+  new_running g mesh e lanes r elements start placed there runs seat new =
       let h : Held = held_of r.lane in
       let element : r.seat.own.element ≡ e = ap (λ (s : SeatView). s.own.element) seat in
       let deeds : r.seat.own.deeds ≡ [] = ap (λ (s : SeatView). s.own.deeds) seat in
@@ -94,6 +95,7 @@ module _ {A : Type 0} where
       record {
         at = ap (λ (s : SeatView). s.mesh) seat;
         alone = ap (λ (s : SeatView). s.joined) seat;
+        runs = runs;
         blocks = [];
         noted = λ on. subst (λ (n : Noted). Logs n []) (sym new.notes) notes_nothing;
         unlogged = new.log;

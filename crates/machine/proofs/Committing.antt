@@ -4,9 +4,10 @@ use Rattle.std.specs.Prelude.{IsPermutation, flat_map, min, Vec, if◌then◌els
 use Rattle.std.proofs.lemmas.Bool.{cases_lt}
 use Rattle.std.proofs.lemmas.List.{length-append, length-map, append-nil, take-append-drop}
 use Rattle.tags.specs.declared.token.Token.{Token}
-use Rattle.element.specs.declared.lane.Lane.{Lane}
-use Rattle.element.specs.Held.{Held, held_of, IsSoundLane}
+use Rattle.semantics.specs.Program.{Program}
+use Rattle.element.specs.Held.{LaneView, Held, held_of, IsSoundLane, Fixed, fixed_of}
 use Rattle.schedule.specs.Setting.{Setting}
+use Rattle.schedule.specs.State.{RunsAs}
 use Rattle.mesh.specs.declared.view.Deed.{Deed}
 use Rattle.mesh.specs.declared.view.Deed.TheVariants.{Committed}
 use Rattle.mesh.specs.Deeds.{created}
@@ -40,7 +41,7 @@ tokens_by e (t ∷ ts) = ap (λ (l : List Token). t ∷ l) (tokens_by e ts)
 
 -- Which tokens a block spent: those that its first events took, where events are listed, and else those that the element held and
 -- holds no more.
-abbrev pub gone_in : {A : Type 0} → Runner A → ℕ → ℕ → List Token
+abbrev pub gone_in : {C A : Type 0} → Runner C A → ℕ → ℕ → List Token
 gone_in r spent made = if r.listed then take spent (tokens_of r.log.items) else minus r.seat.own.held (still_first r made)
 
 more_logs : (n : Noted) (blocks : List Block) (b : Block) (taken made : List Token) (events spent left : ℕ) → taken ≡ taken_in b → made ≡ b.made → events ≡ length b.acts → spent ≡ length b.spent → left ≡ length b.made → SpendsOldest b → Logs n blocks
@@ -56,7 +57,7 @@ more_logs n blocks b taken made events spent left took makes many gone stay olde
     let counts : counts_of b ≡ record { events = events; spent = spent; made = left } = λ i. (let c : Counts = record { events = sym many i; spent = sym gone i; made = sym stay i } in c) in
     subst (λ (c : Counts). Logs (with_block open_one c) (blocks ++ b ∷ [])) counts (ends_block open_one blocks b notes oldest)
 
-module _ {A : Type 0} (g : Setting) (mesh : MeshId) (start old : Held) (before events : ℕ) (r : Runner A) (h : HasMade g mesh start old before events r) where
+module _ {C A : Type 0} (g : Setting) (mesh : MeshId) (start old : Held) (before events : ℕ) (r : Runner C A) (h : HasMade g mesh start old before events r) where
   abbrev pub beside : List Token
   beside = r.hand.items ++ flat_map (λ v. v.items) r.kept.items
 
@@ -95,14 +96,14 @@ module _ {A : Type 0} (g : Setting) (mesh : MeshId) (start old : Held) (before e
         let s = spent_is in
         omega (arith, q, l, w, s)
 
-    new_is : length r.lane.queue.items ≡ length parts.keep + length parts.more
+    new_is : length r.lane.held.queue ≡ length parts.keep + length parts.more
     new_is = ap (λ (x : List Token). length x) parts.after ∙ length-append parts.keep parts.more
 
     -- what the queue had before and has still is no more than it has
-    pub behind : before - spent ≤ length r.lane.queue.items
+    pub behind : before - spent ≤ length r.lane.held.queue
     behind = let k = keep_is in let n = new_is in omega (arith, k, n)
 
-    module _ (made : ℕ) (made_is : made ≡ (length r.lane.queue.items - (before - spent)) + length r.sent.items) where
+    module _ (made : ℕ) (made_is : made ≡ (length r.lane.held.queue - (before - spent)) + length r.sent.items) where
       pub count_is : made ≡ length parts.more + length r.sent.items
       count_is = let k = keep_is in let n = new_is in omega (arith, k, n, made_is)
 
@@ -146,7 +147,7 @@ module _ {A : Type 0} (g : Setting) (mesh : MeshId) (start old : Held) (before e
           let oldest : taken_in the_block ≡ gone ++ drop spent h.taken = took ∙ sym (take-append-drop spent h.taken) ∙ ap (λ (l : List Token). l ++ drop spent h.taken) (sym (gone_listed on)) in
           more_logs (noted_in r.notes) h.blocks the_block (tokens_of r.log.items) left (length r.log.items) spent made tokens refl events (sym asked.0) (sym asked.1) (drop spent h.taken, oldest) (h.noted on)
 
-      pub committed : (s last : Runner A) → s ≡ record r { seat = s.seat } → Commits gone left r.seat s.seat → r.created + made ≤ 2 ^ 40 → NotesBlock spent made (record s { created = s.created + made }) last → IsRunning g mesh start last
+      pub committed : (s last : Runner C A) → s ≡ record r { seat = s.seat } → Commits gone left r.seat s.seat → r.created + made ≤ 2 ^ 40 → NotesBlock spent made (record s { created = s.created + made }) last → IsRunning g mesh start last
       committed s last others commits small notes =
           let own = r.seat.own in
           let kept = commits.0 in
@@ -154,29 +155,30 @@ module _ {A : Type 0} (g : Setting) (mesh : MeshId) (start old : Held) (before e
           let ds : List Deed = own.deeds ++ Committed gone left ∷ [] in
           let ran = ran_committed g mesh start r.seat.own.element old r.seat.own.deeds r.seat.own.held beside h.ran h.taken new r.sent.items h.turns spent made spent_is count_is gone gone_is kept commits.2 in
           let undealt : drop r.dealt r.sent.items ≡ r.sent.items = ap (λ (n : ℕ). drop n r.sent.items) h.undealt in
-          let same_away : away s ≡ beside ++ r.sent.items = ap (λ (z : Runner A). away z) others ∙ ap (λ (l : List Token). r.hand.items ++ (flat_map (λ v. v.items) r.kept.items ++ l)) undealt ∙ sym (append_assoc r.hand.items (flat_map (λ v. v.items) r.kept.items) r.sent.items) in
-          let lane : held_of s.lane ≡ new = ap (λ (z : Runner A). held_of z.lane) others in
+          let same_away : away s ≡ beside ++ r.sent.items = ap (λ (z : Runner C A). away z) others ∙ ap (λ (l : List Token). r.hand.items ++ (flat_map (λ v. v.items) r.kept.items ++ l)) undealt ∙ sym (append_assoc r.hand.items (flat_map (λ v. v.items) r.kept.items) r.sent.items) in
+          let lane : held_of s.lane ≡ new = ap (λ (z : Runner C A). held_of z.lane) others in
           let deeds : s.seat.own.deeds ≡ ds = ap (λ (z : SeatView). z.own.deeds) is in
-          let counted : created s.seat.own.deeds ≡ s.created + made = (let more = created_more own.deeds (Committed gone left) in let same : created s.seat.own.deeds ≡ created ds = ap created deeds in let c = h.tidy.created in let n = asked.1 in let o : s.created ≡ r.created = ap (λ (z : Runner A). z.created) others in omega arith) in
-          let listed : s.listed ≡ r.listed = ap (λ (z : Runner A). z.listed) others in
-          let as_noted = ap (λ (z : Runner A). behind_all (noted_in z.notes) (tokens_of z.log.items) (left_last z made) (record { events = length z.log.items; spent = spent; made = made })) others in
-          subst (λ (z : Runner A). IsRunning g mesh start z) (sym notes.others) (record {
+          let counted : created s.seat.own.deeds ≡ s.created + made = (let more = created_more own.deeds (Committed gone left) in let same : created s.seat.own.deeds ≡ created ds = ap created deeds in let c = h.tidy.created in let n = asked.1 in let o : s.created ≡ r.created = ap (λ (z : Runner C A). z.created) others in omega arith) in
+          let listed : s.listed ≡ r.listed = ap (λ (z : Runner C A). z.listed) others in
+          let as_noted = ap (λ (z : Runner C A). behind_all (noted_in z.notes) (tokens_of z.log.items) (left_last z made) (record { events = length z.log.items; spent = spent; made = made })) others in
+          subst (λ (z : Runner C A). IsRunning g mesh start z) (sym notes.others) (record {
             at = ap (λ (z : SeatView). z.mesh) is ∙ h.at;
             alone = ap (λ (z : SeatView). z.joined) is ∙ h.alone;
+            runs = subst (λ (z : Runner C A). RunsAs g (fixed_of z.lane)) (sym others) h.runs;
             blocks = h.blocks ++ the_block ∷ [];
             ran = ran_as g mesh start own.element s.seat.own.element new (held_of s.lane) ds s.seat.own.deeds (left ++ kept) s.seat.own.held (beside ++ r.sent.items) (away s)
                 (ap (λ (z : SeatView). z.own.element) is) lane deeds (ap (λ (z : SeatView). z.own.held) is) same_away ran;
             tidy = record {
-              count = ap (λ (z : Runner A). length z.kept.items) others ∙ h.tidy.count;
-              addressed = λ i d low. subst (λ (z : Runner A). AllTo g.elements i (get_or z.kept.items i d).items) (sym others) (h.tidy.addressed i d low);
+              count = ap (λ (z : Runner C A). length z.kept.items) others ∙ h.tidy.count;
+              addressed = λ i d low. subst (λ (z : Runner C A). AllTo g.elements i (get_or z.kept.items i d).items) (sym others) (h.tidy.addressed i d low);
               created = counted;
-              few = let o : s.created ≡ r.created = ap (λ (z : Runner A). z.created) others in omega (arith, o, small);
+              few = let o : s.created ≡ r.created = ap (λ (z : Runner C A). z.created) others in omega (arith, o, small);
             };
             noted = λ on. subst (λ (n : Noted). Logs n (h.blocks ++ the_block ∷ [])) (sym (notes.notes on ∙ as_noted)) (logs_more (sym listed ∙ on));
-            unlogged = by_listed s.listed s last refl notes listed (ap (λ (z : Runner A). z.log.items) others);
+            unlogged = by_listed s.listed s last refl notes listed (ap (λ (z : Runner C A). z.log.items) others);
           })
         where
-          by_listed : (b : Bool) (s last : Runner A) → s.listed ≡ b → NotesBlock spent made (record s { created = s.created + made }) last → s.listed ≡ r.listed → s.log.items ≡ r.log.items → last.log.items ≡ []
+          by_listed : (b : Bool) (s last : Runner C A) → s.listed ≡ b → NotesBlock spent made (record s { created = s.created + made }) last → s.listed ≡ r.listed → s.log.items ≡ r.log.items → last.log.items ≡ []
           by_listed true s last on notes same log = notes.log ∙ ap (λ (b : Bool). if b then [] else s.log.items) on
           by_listed false s last off notes same log = notes.log ∙ ap (λ (b : Bool). if b then [] else s.log.items) off ∙ log ∙ h.log ∙ ap (λ (b : Bool). logged b [] (by old.part.shape.element h.taken)) (sym same ∙ off)
 
@@ -190,6 +192,7 @@ module _ {A : Type 0} (g : Setting) (mesh : MeshId) (start old : Held) (before e
       record {
         at = h.at;
         alone = h.alone;
+        runs = h.runs;
         blocks = h.blocks;
         ran = ran_as g mesh start r.seat.own.element r.seat.own.element old new r.seat.own.deeds r.seat.own.deeds r.seat.own.held r.seat.own.held beside (away r) refl still.0 refl refl same h.ran;
         tidy = record { count = h.tidy.count; addressed = h.tidy.addressed; created = h.tidy.created; few = h.tidy.few };
@@ -206,22 +209,31 @@ module _ {A : Type 0} (g : Setting) (mesh : MeshId) (start old : Held) (before e
       nothing_logged false = refl
 
 -- A turn has been taken, and is not committed.
-module _ {A : Type 0} (g : Setting) (mesh : MeshId) (start : Held) (r : Runner A) (run : IsRunning g mesh start r) (clear : IsClear r) where
-  pub has_made : (lane : Lane A) (sent : Vec Token A) (log : Vec (ℕ × Token) A) (taken : List Token) (before events : ℕ) → Turns g.program g.steps (held_of r.lane) r.sent.items taken (held_of lane) sent.items → IsSoundLane g.program (held_of lane)
-      → before ≡ length r.lane.queue.items → events ≡ lane.made - r.lane.made → log.items ≡ logged r.listed r.log.items (by r.lane.element taken) → HasMade g mesh start (held_of r.lane) before events (record r { lane = lane; sent = sent; log = log })
-  has_made lane sent log taken before events turns sound before_is events_is logs =
+module _ {C A : Type 0} (g : Setting) (mesh : MeshId) (start : Held) (r : Runner C A) (run : IsRunning g mesh start r) (clear : IsClear r) where
+  -- the lane runs the code of the machine
+  turned : (lane : LaneView) (sent : Vec Token A) (taken : List Token) → Turns r.lane.program r.lane.steps r.lane.held r.sent.items taken lane.held sent.items → Turns g.program g.steps (held_of r.lane) r.sent.items taken (held_of lane) sent.items
+  turned lane sent taken turns =
+      subst (λ (p : Program). Turns p g.steps (held_of r.lane) r.sent.items taken (held_of lane) sent.items) run.runs.program
+      (subst (λ (n : ℕ). Turns r.lane.program n (held_of r.lane) r.sent.items taken (held_of lane) sent.items) run.runs.steps turns)
+
+  pub has_made : (lane : LaneView) (sent : Vec Token A) (log : Vec (ℕ × Token) A) (taken : List Token) (before events : ℕ) → Turns r.lane.program r.lane.steps r.lane.held r.sent.items taken lane.held sent.items → (IsSoundLane r.lane.program r.lane.held → IsSoundLane lane.program lane.held) → fixed_of lane ≡ fixed_of r.lane
+      → before ≡ length r.lane.held.queue → events ≡ lane.held.made - r.lane.held.made → log.items ≡ logged r.listed r.log.items (by r.lane.held.part.shape.element taken) → HasMade g mesh start (held_of r.lane) before events (record r { lane = lane; sent = sent; log = log })
+  has_made lane sent log taken before events as_turns as_sound fixed before_is events_is logs =
       let old : Held = held_of r.lane in
+      let turns = turned lane sent taken as_turns in
+      let sound : IsSoundLane g.program (held_of lane) = subst (λ (p : Program). IsSoundLane p (held_of lane)) (ap (λ (f : Fixed). f.program) fixed ∙ run.runs.program) (as_sound (subst (λ (p : Program). IsSoundLane p (held_of r.lane)) (sym run.runs.program) run.ran.placed.sound)) in
       let fresh : Turns g.program g.steps old [] taken (held_of lane) sent.items = subst (λ (l : List Token). Turns g.program g.steps old l taken (held_of lane) sent.items) clear.1 turns in
-      let count : lane.made ≡ r.lane.made + length taken = counts g.program g.steps old [] taken (held_of lane) sent.items fresh in
+      let count : lane.held.made ≡ r.lane.held.made + length taken = counts g.program g.steps old [] taken (held_of lane) sent.items fresh in
       let all : List Token = flat_map (λ v. v.items) r.kept.items in
       let less : away r ≡ r.hand.items ++ all = ap (λ (n : ℕ). r.hand.items ++ (all ++ drop n r.sent.items)) clear.2 ∙ ap (λ (l : List Token). r.hand.items ++ (all ++ l)) clear.1 ∙ ap (λ (l : List Token). r.hand.items ++ l) (append-nil all) in
       record {
         at = run.at;
         alone = run.alone;
+        runs = subst (λ (f : Fixed). RunsAs g f) (sym fixed) run.runs;
         blocks = run.blocks;
         ran = subst (λ (l : List Token). Ran g mesh r.seat.own.element start old r.seat.own.deeds r.seat.own.held l run.blocks) less run.ran;
         noted = run.noted;
-        log = logs ∙ ap (λ (l : Events). logged r.listed l (by r.lane.element taken)) run.unlogged;
+        log = logs ∙ ap (λ (l : Events). logged r.listed l (by r.lane.held.part.shape.element taken)) run.unlogged;
         tidy = record { count = run.tidy.count; addressed = run.tidy.addressed; created = run.tidy.created; few = run.tidy.few };
         taken = taken;
         turns = fresh;
@@ -231,5 +243,5 @@ module _ {A : Type 0} (g : Setting) (mesh : MeshId) (start : Held) (r : Runner A
         undealt = clear.2;
       }
 
-  pub more_made : (lane : Lane A) (sent : Vec Token A) (taken : List Token) → Turns g.program g.steps (held_of r.lane) r.sent.items taken (held_of lane) sent.items → r.lane.made ≤ lane.made
-  more_made lane sent taken turns = let count : lane.made ≡ r.lane.made + length taken = counts g.program g.steps (held_of r.lane) r.sent.items taken (held_of lane) sent.items turns in omega (arith, count)
+  pub more_made : (lane : LaneView) (sent : Vec Token A) (taken : List Token) → Turns r.lane.program r.lane.steps r.lane.held r.sent.items taken lane.held sent.items → r.lane.held.made ≤ lane.held.made
+  more_made lane sent taken as_turns = let turns = turned lane sent taken as_turns in let count : lane.held.made ≡ r.lane.held.made + length taken = counts g.program g.steps (held_of r.lane) r.sent.items taken (held_of lane) sent.items turns in omega (arith, count)

@@ -2,7 +2,8 @@
 use Rattle.std.proofs.Common.{◌≡◌, refl, sym, ◌∙◌, ap, subst, ℕ, zero, suc, ◌+◌, ◌<◌, ◌⊎◌, inl, inr, Bool, true, false, ℤ, List, [], ◌∷◌, ◌++◌, length, map, get_or, Option, Some, arith}
 use Rattle.std.specs.Prelude.{All, IsPermutation, slice_get}
 use Rattle.std.specs.Option.{option_map}
-use Rattle.std.proofs.lemmas.List.{length-map}
+use Rattle.std.proofs.lemmas.List.{length-map, get_or-map}
+use Rattle.std.proofs.lemmas.List.Elements.{All-get_or}
 use Rattle.std.proofs.lemmas.List.Sorted.{IsPermutation-refl}
 use Rattle.std.proofs.lemmas.Option.{slice_get-map, slice_get-get_or}
 use mathlib.Core.Option.{some}
@@ -12,10 +13,10 @@ use Rattle.crossbeam_utils.specs.Padded.{padded_value}
 use Rattle.tags.specs.declared.token.Token.{Token}
 use Rattle.semantics.specs.Machine.{Events}
 use Rattle.semantics.specs.Report.{Report, Shows}
-use Rattle.element.specs.Held.{Held}
+use Rattle.element.specs.Held.{Held, Fixed}
 use Rattle.schedule.specs.declared.halt.Halt.{Halt}
 use Rattle.schedule.specs.Setting.{Setting, size}
-use Rattle.schedule.specs.State.{State, AllFrom, IsPlaced, IsSoundState, tokens_in}
+use Rattle.schedule.specs.State.{State, AllFrom, IsPlaced, IsSoundState, RunsAs, tokens_in}
 use Rattle.schedule.specs.Runs.{Began, HaltsAs, NamesCell}
 use Rattle.schedule.specs.Unlisted.{with_events, ShowsBut}
 use Rattle.schedule.proofs.Reports.{clash_cell}
@@ -34,7 +35,7 @@ use Rattle.law_free_runs.proofs.Ending.{ends_freely}
 use Rattle.machine.specs.declared.runner.Left.{Left}
 use Rattle.machine.specs.declared.runner.Runner.{Runner}
 use Rattle.machine.specs.Runners.{Ran, IsRunning, Runs, IsClear, IsLeft, away}
-use Rattle.machine.specs.Starts.{lane_in, seat_of, left_of, notes_of, listed_of, lanes_in, seats_in, lefts_in, logs_in, AreListed, IsNew, Tells, AllEnded, Lists}
+use Rattle.machine.specs.Starts.{lane_in, seat_of, left_of, notes_of, listed_of, lane_fixed, lanes_in, lanes_fixed, seats_in, lefts_in, logs_in, AreListed, IsNew, Tells, AllEnded, Lists}
 use Rattle.machine.proofs.Beginning.{new_running}
 use Rattle.machine.proofs.Chosen.{chosen}
 use Rattle.machine.proofs.Freeing.{left_at}
@@ -78,30 +79,32 @@ each_from P k (x ∷ xs) each = (
   each_from P (suc k) xs (λ i y is. subst (λ (n : ℕ). P n y) (omega arith) (each (suc i) y is)),
 )
 
-module _ {A : Type 0} where
-  abbrev own_of : CachePadded (Runner A) → Account
+module _ {C A : Type 0} where
+  abbrev own_of : CachePadded (Runner C A) → Account
   own_of p = (seat_of p).own
 
-  abbrev owns : List (CachePadded (Runner A)) → List Account
+  abbrev owns : List (CachePadded (Runner C A)) → List Account
   owns ps = map own_of ps
 
-  owns_are : (ps : List (CachePadded (Runner A))) → map (λ (s : SeatView). s.own) (seats_in ps) ≡ owns ps
+  owns_are : (ps : List (CachePadded (Runner C A))) → map (λ (s : SeatView). s.own) (seats_in ps) ≡ owns ps
   owns_are [] = refl
   owns_are (p ∷ ps) = ap (λ (l : List Account). own_of p ∷ l) (owns_are ps)
 
   -- RUNNERS BEFORE THE FIRST EVENT
-  pub record AreReady (g : Setting) (mesh : MeshId) (listed : Bool) (ps : List (CachePadded (Runner A))) : Type 0 where
+  pub record AreReady (g : Setting) (mesh : MeshId) (listed : Bool) (ps : List (CachePadded (Runner C A))) : Type 0 where
     pub sound : IsSoundState (coming g (lanes_in ps) [])
+    pub runs : All (RunsAs g) (lanes_fixed ps)
     pub elements : mesh.elements ≡ g.elements
     pub start : mesh.start ≡ tokens_in (lanes_in ps)
     pub count : length ps ≡ g.elements
     pub fresh : AreFresh mesh (seats_in ps)
-    pub new : All (λ (p : CachePadded (Runner A)). IsNew g.elements (padded_value p)) ps
+    pub new : All (λ (p : CachePadded (Runner C A)). IsNew g.elements (padded_value p)) ps
     pub all_listed : AreListed listed ps
 
-  pub are_ready : (g : Setting) (mesh : MeshId) (on : Bool) (ps : List (CachePadded (Runner A))) (raw : List Held) → IsSoundState (coming g raw []) → (mesh.elements ≡ g.elements) × (mesh.start ≡ tokens_in raw) → (lanes_in ps ≡ raw) × (length ps ≡ g.elements)
-      → AreFresh mesh (seats_in ps) → All (λ (p : CachePadded (Runner A)). IsNew g.elements (padded_value p)) ps → AreListed on ps → AreReady g mesh on ps
-  are_ready g mesh on ps raw sound is lanes fresh new listed = record {
+  pub are_ready : (g : Setting) (mesh : MeshId) (on : Bool) (ps : List (CachePadded (Runner C A))) (raw : List Held) (fixed : List Fixed) → IsSoundState (coming g raw []) → All (RunsAs g) fixed → lanes_fixed ps ≡ fixed → (mesh.elements ≡ g.elements) × (mesh.start ≡ tokens_in raw) → (lanes_in ps ≡ raw) × (length ps ≡ g.elements)
+      → AreFresh mesh (seats_in ps) → All (λ (p : CachePadded (Runner C A)). IsNew g.elements (padded_value p)) ps → AreListed on ps → AreReady g mesh on ps
+  are_ready g mesh on ps raw fixed sound runs same is lanes fresh new listed = record {
+    runs = subst (λ (l : List Fixed). All (RunsAs g) l) (sym same) runs;
     sound = subst (λ (l : List Held). IsSoundState (coming g l [])) (sym lanes.0) sound;
     elements = is.0;
     start = is.1 ∙ ap (λ (l : List Held). tokens_in l) (sym lanes.0);
@@ -111,45 +114,45 @@ module _ {A : Type 0} where
     all_listed = listed;
   }
 
-  module _ (g : Setting) (mesh : MeshId) (listed : Bool) (olds : List (CachePadded (Runner A))) (ready : AreReady g mesh listed olds) where
-    fresh_at : (i : ℕ) (d : CachePadded (Runner A)) → i < length olds → seat_of (get_or olds i d) ≡ fresh_seat mesh i
+  module _ (g : Setting) (mesh : MeshId) (listed : Bool) (olds : List (CachePadded (Runner C A))) (ready : AreReady g mesh listed olds) where
+    fresh_at : (i : ℕ) (d : CachePadded (Runner C A)) → i < length olds → seat_of (get_or olds i d) ≡ fresh_seat mesh i
     fresh_at i d low = ready.fresh i (seat_of (get_or olds i d)) (get_map seat_of olds i d low)
 
-    running : (i : ℕ) (d : CachePadded (Runner A)) → i < length olds → IsRunning g mesh (lane_in (get_or olds i d)) (padded_value (get_or olds i d))
+    running : (i : ℕ) (d : CachePadded (Runner C A)) → i < length olds → IsRunning g mesh (lane_in (get_or olds i d)) (padded_value (get_or olds i d))
     running i d low =
-        new_running g mesh i (lanes_in olds) (padded_value (get_or olds i d)) ready.elements ready.start (raw_sound g (lanes_in olds) [] ready.sound).lanes (slice_map lane_in olds i d low) (fresh_at i d low)
-        (ready.new i d low)
+        new_running g mesh i (lanes_in olds) (padded_value (get_or olds i d)) ready.elements ready.start (raw_sound g (lanes_in olds) [] ready.sound).lanes (slice_map lane_in olds i d low)
+        (subst (λ (f : Fixed). RunsAs g f) (get_or-map lane_fixed olds i d (lane_fixed d) low) (All-get_or (RunsAs g) (lanes_fixed olds) i (lane_fixed d) (let count = length-map olds lane_fixed in omega (arith, low, count)) ready.runs)) (fresh_at i d low) (ready.new i d low)
 
-    pub all_run : All (λ (p : CachePadded (Runner A)). Runs g mesh (padded_value p) × IsClear (padded_value p)) olds
+    pub all_run : All (λ (p : CachePadded (Runner C A)). Runs g mesh (padded_value p) × IsClear (padded_value p)) olds
     all_run = λ i d low. ((lane_in (get_or olds i d), running i d low), (ready.new i d low).clear)
 
     -- RUNNERS THAT HAVE LEFT
-    module _ (may_stop : Bool) (news : List (CachePadded (Runner A))) (ended : AllEnded g mesh may_stop olds news) (count : length news ≡ length olds) (none_lost : (i : ℕ) → slice_get (lefts_in news) i ≡ Some Left.Lost → ⊥) where
+    module _ (may_stop : Bool) (news : List (CachePadded (Runner C A))) (ended : AllEnded g mesh may_stop olds news) (count : length news ≡ length olds) (none_lost : (i : ℕ) → slice_get (lefts_in news) i ≡ Some Left.Lost → ⊥) where
       within : (i : ℕ) → i < length olds → i < length news
       within i low = omega (arith, low, count)
 
-      ran : (i : ℕ) (d : CachePadded (Runner A)) → i < length olds → IsRunning g mesh (lane_in (get_or olds i d)) (padded_value (get_or news i d))
+      ran : (i : ℕ) (d : CachePadded (Runner C A)) → i < length olds → IsRunning g mesh (lane_in (get_or olds i d)) (padded_value (get_or news i d))
       ran i d low = (ended i d low).keeps (λ (is : left_of (get_or news i d) ≡ Left.Lost). none_lost i (left_at news i d Left.Lost (within i low) is)) (lane_in (get_or olds i d)) (running i d low)
 
-      element : (i : ℕ) (d : CachePadded (Runner A)) → i < length olds → (own_of (get_or news i d)).element ≡ i
+      element : (i : ℕ) (d : CachePadded (Runner C A)) → i < length olds → (own_of (get_or news i d)).element ≡ i
       element i d low = (ended i d low).stays.2 ∙ ap (λ (s : SeatView). s.own.element) (fresh_at i d low)
 
       -- the same, of what was found at its place
-      module _ (i : ℕ) (p : CachePadded (Runner A)) (low : i < length news) (is : get_or news i p ≡ p) where
+      module _ (i : ℕ) (p : CachePadded (Runner C A)) (low : i < length news) (is : get_or news i p ≡ p) where
         low_old : i < length olds
         low_old = omega (arith, low, count)
 
         ran_at : IsRunning g mesh (lane_in (get_or olds i p)) (padded_value p)
-        ran_at = subst (λ (q : CachePadded (Runner A)). IsRunning g mesh (lane_in (get_or olds i p)) (padded_value q)) is (ran i p low_old)
+        ran_at = subst (λ (q : CachePadded (Runner C A)). IsRunning g mesh (lane_in (get_or olds i p)) (padded_value q)) is (ran i p low_old)
 
         element_at : (own_of p).element ≡ i
-        element_at = ap (λ (q : CachePadded (Runner A)). (own_of q).element) (sym is) ∙ element i p low_old
+        element_at = ap (λ (q : CachePadded (Runner C A)). (own_of q).element) (sym is) ∙ element i p low_old
 
         listed_at : listed_of p ≡ listed
-        listed_at = ap (λ (q : CachePadded (Runner A)). listed_of q) (sym is) ∙ (ended i p low_old).stays.3 ∙ ready.all_listed i p low_old
+        listed_at = ap (λ (q : CachePadded (Runner C A)). listed_of q) (sym is) ∙ (ended i p low_old).stays.3 ∙ ready.all_listed i p low_old
 
         left_is : IsLeft g may_stop (padded_value p) (left_of p)
-        left_is = subst (λ (q : CachePadded (Runner A)). IsLeft g may_stop (padded_value q) (left_of q)) is (ended i p low_old).left
+        left_is = subst (λ (q : CachePadded (Runner C A)). IsLeft g may_stop (padded_value q) (left_of q)) is (ended i p low_old).left
 
         placed_at : IsPlaced g i (lane_in p)
         placed_at = subst (λ (n : ℕ). IsPlaced g n (lane_in p)) element_at ran_at.ran.placed
@@ -200,17 +203,17 @@ module _ {A : Type 0} where
       abbrev Did : ℕ → List Token × List Block → Type 0
       Did i x = RanAs i x × HasNoted i x.1
 
-      noted_at : (i : ℕ) (p : CachePadded (Runner A)) (low : i < length news) (is : get_or news i p ≡ p) → HasNoted i (ran_at i p low is).blocks
+      noted_at : (i : ℕ) (p : CachePadded (Runner C A)) (low : i < length news) (is : get_or news i p ≡ p) → HasNoted i (ran_at i p low is).blocks
       noted_at i p low is = λ l on w.
-          let notes : notes_of p ≡ l = ap (λ (q : CachePadded (Runner A)). notes_of q) (sym is) ∙ same_Some (notes_of (get_or news i p)) l (sym (slice_map notes_of news i p low) ∙ w) in
+          let notes : notes_of p ≡ l = ap (λ (q : CachePadded (Runner C A)). notes_of q) (sym is) ∙ same_Some (notes_of (get_or news i p)) l (sym (slice_map notes_of news i p low) ∙ w) in
           subst (λ (z : Log A). Logs (noted_in z) (ran_at i p low is).blocks) notes ((ran_at i p low is).noted (listed_at i p low is ∙ on))
 
-      did_at : (i : ℕ) (p : CachePadded (Runner A)) (low : i < length news) (is : get_or news i p ≡ p) → RanAs i (away (padded_value p), (ran_at i p low is).blocks)
+      did_at : (i : ℕ) (p : CachePadded (Runner C A)) (low : i < length news) (is : get_or news i p ≡ p) → RanAs i (away (padded_value p), (ran_at i p low is).blocks)
       did_at i p low is = λ old new a o n w.
           let d = did i p low is in
           let first : lane_in (get_or olds i p) ≡ old = same_Some (lane_in (get_or olds i p)) old (sym (slice_map lane_in olds i p (low_old i p low is)) ∙ o) in
-          let last : lane_in p ≡ new = ap (λ (q : CachePadded (Runner A)). lane_in q) (sym is) ∙ same_Some (lane_in (get_or news i p)) new (sym (slice_map lane_in news i p low) ∙ w) in
-          let own : own_of p ≡ a = ap (λ (q : CachePadded (Runner A)). own_of q) (sym is) ∙ same_some (own_of (get_or news i p)) a (sym (get_map own_of news i p low) ∙ n) in
+          let last : lane_in p ≡ new = ap (λ (q : CachePadded (Runner C A)). lane_in q) (sym is) ∙ same_Some (lane_in (get_or news i p)) new (sym (slice_map lane_in news i p low) ∙ w) in
+          let own : own_of p ≡ a = ap (λ (q : CachePadded (Runner C A)). own_of q) (sym is) ∙ same_some (own_of (get_or news i p)) a (sym (get_map own_of news i p low) ∙ n) in
           let kept : List Token = away (padded_value p) in
           let blocks : List Block = (ran_at i p low is).blocks in
           subst (λ (x : Held). ends.Ran g i x a new kept blocks) first (subst (λ (x : Account). ends.Ran g i (lane_in (get_or olds i p)) x new kept blocks) own (subst (λ (x : Held). ends.Ran g i (lane_in (get_or olds i p)) (own_of p) x kept blocks) last d))
@@ -232,7 +235,7 @@ module _ {A : Type 0} where
       lane_halts halt tokens e is =
           let f = slice_found left_of news e (Left.Halted halt) is in
           let why : HaltsLane g.program g.steps may_stop (lane_in f.0) (Some halt) = subst (λ (l : Left). IsLeft g may_stop (padded_value f.0) l) (sym f.2) (left_is e f.0 f.1 f.3) in
-          halts_as g may_stop (lanes_in news) tokens e (lane_in f.0) halt (slice_map lane_in news e f.0 f.1 ∙ ap (λ (q : CachePadded (Runner A)). Some (lane_in q)) f.3) why
+          halts_as g may_stop (lanes_in news) tokens e (lane_in f.0) halt (slice_map lane_in news e f.0 f.1 ∙ ap (λ (q : CachePadded (Runner C A)). Some (lane_in q)) f.3) why
 
       pub cell : (halt : Halt) → Tells (lefts_in news) halt → NamesCell g.program halt
       cell halt tells = by_left tells.1
@@ -268,7 +271,7 @@ module _ {A : Type 0} where
         rests inputs before x e is =
             let f = slice_found left_of news e Left.Rested is in
             let seen : Leaves (seat_of f.0).mesh (own_of f.0).last 0 = subst (λ (l : Left). IsLeft g may_stop (padded_value f.0) l) (sym f.2) (left_is e f.0 f.1 f.3) in
-            let there : get_elem? (owns news) e ≡ some (own_of f.0) = get_map own_of news e f.0 f.1 ∙ ap (λ (q : CachePadded (Runner A)). some (own_of q)) f.3 in
+            let there : get_elem? (owns news) e ≡ some (own_of f.0) = get_map own_of news e f.0 f.1 ∙ ap (λ (q : CachePadded (Runner C A)). some (own_of q)) f.3 in
             x.rest e (own_of f.0) (subst (λ (l : List Account). get_elem? l e ≡ some (own_of f.0)) (sym accounts_are) there)
             (subst (λ (m : MeshId). Leaves m (own_of f.0).last 0) ((ran_at e f.0 f.1 f.3).at ∙ sym mesh_is) seen)
 

@@ -3,7 +3,7 @@ use Rattle.std.specs.Prelude.{◌≡◌, ℕ, ◌<◌, ◌⊎◌, List, [], leng
 use Rattle.crossbeam_utils.specs.declared.cache_padded.CachePadded.{CachePadded}
 use Rattle.crossbeam_utils.specs.Padded.{padded_value}
 use Rattle.tags.specs.declared.token.Token.{Token}
-use Rattle.element.specs.Held.{Held, held_of}
+use Rattle.element.specs.Held.{Held, Fixed, held_of, fixed_of}
 use Rattle.schedule.specs.declared.halt.Halt.{Halt}
 use Rattle.schedule.specs.Setting.{Setting}
 use Rattle.mesh.specs.Seats.{MeshId, SeatView}
@@ -12,39 +12,46 @@ use Rattle.law_free_runs.specs.Blocks.{Block}
 use Rattle.ordering.specs.declared.log.Log.{Log}
 use Rattle.ordering.specs.Noted.{noted_in, nothing}
 use Rattle.ordering.specs.Orders.{IsHistory, IsOrdered}
+use Rattle.machine.specs.declared.belongings.Belongings.{Belongings}
 use Rattle.machine.specs.declared.runner.Left.{Left}
 use Rattle.machine.specs.declared.runner.Runner.{Runner}
 use Rattle.machine.specs.Runners.{IsClear, Ended}
 
-abbrev pub lane_in : {A : Type 0} → CachePadded (Runner A) → Held
+abbrev pub lane_in : {C A : Type 0} → CachePadded (Runner C A) → Held
 lane_in p = held_of (padded_value p).lane
 
-abbrev pub seat_of : {A : Type 0} → CachePadded (Runner A) → SeatView
+abbrev pub seat_of : {C A : Type 0} → CachePadded (Runner C A) → SeatView
 seat_of p = (padded_value p).seat
 
-abbrev pub left_of : {A : Type 0} → CachePadded (Runner A) → Left
+abbrev pub left_of : {C A : Type 0} → CachePadded (Runner C A) → Left
 left_of p = (padded_value p).left
 
-abbrev pub notes_of : {A : Type 0} → CachePadded (Runner A) → Log A
+abbrev pub notes_of : {C A : Type 0} → CachePadded (Runner C A) → Log A
 notes_of p = (padded_value p).notes
 
-abbrev pub listed_of : {A : Type 0} → CachePadded (Runner A) → Bool
+abbrev pub listed_of : {C A : Type 0} → CachePadded (Runner C A) → Bool
 listed_of p = (padded_value p).listed
 
-abbrev pub lanes_in : {A : Type 0} → List (CachePadded (Runner A)) → List Held
+abbrev pub lanes_in : {C A : Type 0} → List (CachePadded (Runner C A)) → List Held
 lanes_in ps = map lane_in ps
 
-abbrev pub seats_in : {A : Type 0} → List (CachePadded (Runner A)) → List SeatView
+abbrev pub lane_fixed : {C A : Type 0} → CachePadded (Runner C A) → Fixed
+lane_fixed p = fixed_of (padded_value p).lane
+
+abbrev pub lanes_fixed : {C A : Type 0} → List (CachePadded (Runner C A)) → List Fixed
+lanes_fixed ps = map lane_fixed ps
+
+abbrev pub seats_in : {C A : Type 0} → List (CachePadded (Runner C A)) → List SeatView
 seats_in ps = map seat_of ps
 
-abbrev pub lefts_in : {A : Type 0} → List (CachePadded (Runner A)) → List Left
+abbrev pub lefts_in : {C A : Type 0} → List (CachePadded (Runner C A)) → List Left
 lefts_in ps = map left_of ps
 
-abbrev pub logs_in : {A : Type 0} → List (CachePadded (Runner A)) → List (Log A)
+abbrev pub logs_in : {C A : Type 0} → List (CachePadded (Runner C A)) → List (Log A)
 logs_in ps = map notes_of ps
 
 -- each notes its blocks, or none does
-abbrev pub AreListed : {A : Type 0} → Bool → List (CachePadded (Runner A)) → Type 0
+abbrev pub AreListed : {C A : Type 0} → Bool → List (CachePadded (Runner C A)) → Type 0
 AreListed listed ps = All (λ p. listed_of p ≡ listed) ps
 
 -- Of each history that has these logs the list has the events behind those that it had, in some legal order of the same blocks.
@@ -56,8 +63,16 @@ Lists logs opening old new =
 abbrev pub AreEmpty : {A : Type 0} → ℕ → List (Vec Token A) → Type 0
 AreEmpty n kept = (length kept ≡ n) × All (λ v. v.items ≡ []) kept
 
+-- lists with nothing
+pub record AreBlank {A : Type 0} (n : ℕ) (l : Belongings A) : Type 0 where
+  pub hand : l.hand.items ≡ []
+  pub sent : l.sent.items ≡ []
+  pub kept : AreEmpty n l.kept.items
+  pub notes : noted_in l.notes ≡ nothing
+  pub log : l.log.items ≡ []
+
 -- it holds no token beside its queue, and has made none
-pub record IsNew {A : Type 0} (n : ℕ) (r : Runner A) : Type 0 where
+pub record IsNew {C A : Type 0} (n : ℕ) (r : Runner C A) : Type 0 where
   pub clear : IsClear r
   pub kept : AreEmpty n r.kept.items
   pub created : r.created ≡ 0
@@ -71,5 +86,5 @@ Tells lefts halt =
     × (((e : ℕ) × (slice_get lefts e ≡ Some (Left.Halted halt))) ⊎ (((e : ℕ) × (slice_get lefts e ≡ Some Left.Rested)) × (halt ≡ Halt.NoToken)))
 
 -- all have run
-abbrev pub AllEnded : {A : Type 0} → Setting → MeshId → Bool → List (CachePadded (Runner A)) → List (CachePadded (Runner A)) → Type 0
+abbrev pub AllEnded : {C A : Type 0} → Setting → MeshId → Bool → List (CachePadded (Runner C A)) → List (CachePadded (Runner C A)) → Type 0
 AllEnded g mesh may_stop olds news = (i : ℕ) (d : _) → i < length olds → Ended g mesh may_stop (padded_value (slice_index_or olds i d)) (padded_value (slice_index_or news i d))

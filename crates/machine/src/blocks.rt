@@ -11,6 +11,7 @@ ghost use Rattle.ordering.specs.Noted.{noted_in, with_block};
 ghost use Rattle.machine.specs.Runners.{IsRunning, Runs, Keeps, IsClear, StaysAt, HasMade, NotesBlock, tokens_of};
 
 use crate::runner::{Lost, Runner};
+use element::instructions::Instructions;
 use mesh::{Ask, Mesh};
 use ordering::log::{Counts, Log};
 use rounds::{Gate, take_turn};
@@ -26,8 +27,8 @@ use token_queue::queue::TokenQueue;
 const MOST: u64 = 1 << 40;
 
 // The commit of a block, by the numbers of tokens that it spent and made.
-fn commit_counts<J: Ask, A: Allocator>(
-    runner: &mut Runner<'_, A>,
+fn commit_counts<J: Ask, C: Instructions, A: Allocator>(
+    runner: &mut Runner<'_, C, A>,
     mesh: &Mesh<A>,
     spent: u64,
     made: u64,
@@ -92,12 +93,12 @@ fn note_counts<A: Allocator>(notes: &mut Log<A>, counts: Counts) -> Result<(), A
 }
 
 // Notes the block that stands in the log of the turn, where events are listed.
-fn note_block<A: Allocator>(
-    runner: &mut Runner<'_, A>,
+fn note_block<C: Instructions, A: Allocator>(
+    runner: &mut Runner<'_, C, A>,
     spent: u64,
     made: u64,
 ) -> Result<(), AllocError>
-    requires { (length runner.old.sent.items ≤ made) × (made ≤ length runner.old.lane.queue.items + length runner.old.sent.items) }
+    requires { (length runner.old.sent.items ≤ made) × (made ≤ length runner.old.lane.held.queue + length runner.old.sent.items) }
     ensures notes { OnOk result (NotesBlock spent made runner.old runner.new) }
     ensures others { runner.new ≡ record runner.old { log = runner.new.log; notes = runner.new.notes } }
 {
@@ -109,9 +110,9 @@ fn note_block<A: Allocator>(
         spent: spent as usize,
         made: made as usize,
     };
-    let from = runner.lane.queue.len() - (counts.made - runner.sent.len());
+    let from = runner.lane.queue().len() - (counts.made - runner.sent.len());
     note_taken(&mut runner.notes, &runner.log)?;
-    note_queue(&mut runner.notes, &runner.lane.queue, from)?;
+    note_queue(&mut runner.notes, runner.lane.queue(), from)?;
     note_sent(&mut runner.notes, &runner.sent)?;
     note_counts(&mut runner.notes, counts)?;
     runner.log.clear();
@@ -121,7 +122,7 @@ fn note_block<A: Allocator>(
 // Commits a block of `events` events, before which the queue had `before` tokens. The oldest of these were taken, and what
 // the block left stands last in the queue, or was sent. It needs no memory, so nothing stands between events and their commit.
 fn commit<C: MainCode, A: Allocator>(
-    runner: &mut Runner<'_, A>,
+    runner: &mut Runner<'_, C, A>,
     mesh: &Mesh<A>,
     setup: &Setup<'_, C, A>,
     before: u64,
@@ -138,13 +139,13 @@ fn commit<C: MainCode, A: Allocator>(
         return Ok(());
     }
     let spent = events.min(before);
-    let left = runner.lane.queue.len() as u64 - (before - spent);
+    let left = runner.lane.queue().len() as u64 - (before - spent);
     let sent = runner.sent.len() as u64;
     let room = MOST - runner.created;
     if sent > room || left > room - sent {
         return Err(Lost);
     }
-    commit_counts::<Brand, A>(runner, mesh, spent, left + sent);
+    commit_counts::<Brand, C, A>(runner, mesh, spent, left + sent);
     runner.created += left + sent;
     match note_block(runner, spent, left + sent) {
         Ok(()) => Ok(()),
@@ -154,7 +155,7 @@ fn commit<C: MainCode, A: Allocator>(
 
 // Makes up to `turn` events, oldest token first, and commits them.
 fn make_events<C: MainCode, A: Allocator + Clone>(
-    runner: &mut Runner<'_, A>,
+    runner: &mut Runner<'_, C, A>,
     mesh: &Mesh<A>,
     setup: &Setup<'_, C, A>,
 ) -> Result<Option<Halt>, Lost>
@@ -166,8 +167,8 @@ fn make_events<C: MainCode, A: Allocator + Clone>(
     ensures halts { IfOk result (λ halt. HaltsLane (C.program setup.now.code.now) setup.now.steps false (held_of runner.new.lane) halt) }
     ensures undealt { (runner.new.hand.items ≡ []) × (runner.new.dealt ≡ 0) }
 {
-    let before = runner.lane.queue.len() as u64;
-    let first = runner.lane.made;
+    let before = runner.lane.queue().len() as u64;
+    let first = runner.lane.made();
     let listed = runner.listed;
     let Runner {
         lane,
@@ -175,15 +176,15 @@ fn make_events<C: MainCode, A: Allocator + Clone>(
         log,
         ..
     } = runner;
-    let halt = take_turn(lane, sent, log, setup.code, setup.steps, setup.turn, listed);
-    let events = runner.lane.made - first;
+    let halt = take_turn(lane, sent, log, setup.turn, listed);
+    let events = runner.lane.made() - first;
     commit(runner, mesh, setup, before, events)?;
     Ok(halt)
 }
 
 /// Makes a block of events, if the element has a token and the gate lets it.
 pub fn make_block<C: MainCode, A: Allocator + Clone, G: Gate>(
-    runner: &mut Runner<'_, A>,
+    runner: &mut Runner<'_, C, A>,
     mesh: &Mesh<A>,
     setup: &Setup<'_, C, A>,
     gate: &G,
@@ -196,10 +197,10 @@ pub fn make_block<C: MainCode, A: Allocator + Clone, G: Gate>(
     ensures halts { IfOk result (λ halt. HaltsLane (C.program setup.now.code.now) setup.now.steps G.may_stop (held_of runner.new.lane) halt) }
     ensures undealt { (runner.new.hand.items ≡ []) × (runner.new.dealt ≡ 0) }
 {
-    if runner.lane.queue.len() == 0 {
+    if runner.lane.queue().len() == 0 {
         return Ok(None);
     }
-    if !gate.go_on(runner.lane.element, runner.blocks) {
+    if !gate.go_on(runner.lane.element(), runner.blocks) {
         return Ok(Some(Halt::Stop));
     }
     runner.blocks = runner.blocks.wrapping_add(1);

@@ -35,7 +35,7 @@ fn keep<A: Allocator>(
 
 /// Puts what the last block made for other elements into the bundles. After an error the others are not dealt.
 pub fn deal<C: MainCode, A: Allocator>(
-    runner: &mut Runner<'_, A>,
+    runner: &mut Runner<'_, C, A>,
     mesh: &Mesh<A>,
     setup: &Setup<'_, C, A>,
 ) -> Result<(), AllocError>
@@ -59,7 +59,7 @@ pub fn deal<C: MainCode, A: Allocator>(
 
 // Posts the bundle for an element. Where the box is full the bundle is kept.
 fn post_bundle<C: MainCode, A: Allocator>(
-    runner: &mut Runner<'_, A>,
+    runner: &mut Runner<'_, C, A>,
     mesh: &Mesh<A>,
     setup: &Setup<'_, C, A>,
     empty: Vec<Token, A>,
@@ -100,7 +100,7 @@ fn empty_bundle<A: Allocator + Clone>(
 
 // Offers the bundle for an element, if it has a token.
 fn offer_to<C: MainCode, A: Allocator + Clone>(
-    runner: &mut Runner<'_, A>,
+    runner: &mut Runner<'_, C, A>,
     mesh: &Mesh<A>,
     setup: &Setup<'_, C, A>,
     to: u32,
@@ -123,7 +123,7 @@ fn offer_to<C: MainCode, A: Allocator + Clone>(
 
 /// Offers all bundles that have a token.
 pub fn offer_all<C: MainCode, A: Allocator + Clone>(
-    runner: &mut Runner<'_, A>,
+    runner: &mut Runner<'_, C, A>,
     mesh: &Mesh<A>,
     setup: &Setup<'_, C, A>,
 ) -> Result<(), AllocError>

@@ -4,9 +4,9 @@ ghost use Rattle.std.specs.Prelude.{◌≡◌, ◌<◌, ◌≤◌, ◌^◌, [], 
 ghost use Rattle.crossbeam_utils.specs.Padded.{padded_value};
 ghost use Rattle.semantics.specs.Machine.{Events};
 ghost use Rattle.semantics.specs.Report.{Shows};
-ghost use Rattle.element.specs.Held.{held_of};
+ghost use Rattle.element.specs.Held.{held_of, fixed_of};
 ghost use Rattle.schedule.specs.Setting.{size, IsGoodSetting};
-ghost use Rattle.schedule.specs.State.{IsSoundState, tokens_in};
+ghost use Rattle.schedule.specs.State.{IsSoundState, RunsAs, tokens_in};
 ghost use Rattle.schedule.specs.Runs.{Began};
 ghost use Rattle.schedule.specs.Apart.{setting_in};
 ghost use Rattle.schedule.specs.Unlisted.{ShowsQuietly};
@@ -15,12 +15,13 @@ ghost use Rattle.rounds.specs.Turns.{coming};
 ghost use Rattle.rounds.specs.Rounds.{ShowsOn};
 ghost use Rattle.machine.specs.declared.runner.Left.{Left};
 ghost use Rattle.machine.specs.Runners.{Runs, IsClear, Ended};
-ghost use Rattle.machine.specs.Starts.{AreListed, IsNew, Lists, lanes_in, seats_in, lefts_in, Tells, AllEnded};
+ghost use Rattle.machine.specs.Starts.{AreListed, IsNew, Lists, lanes_in, lanes_fixed, seats_in, lefts_in, Tells, AllEnded};
 
 use crate::runner::{Left, Runner};
 use crate::starting::{parts_in, runners_of, tokens_of};
 use crate::turns;
 use crossbeam_utils::CachePadded;
+use element::instructions::Instructions;
 use element::lane::Lane;
 use mesh::{Mesh, Seat};
 use ordering::log::Log;
@@ -45,7 +46,7 @@ fn run_each<
     G: Gate + Sync,
 >(
     rt: &R,
-    runners: &mut [CachePadded<Runner<'_, A>>],
+    runners: &mut [CachePadded<Runner<'_, C, A>>],
     mesh: &Mesh<A>,
     setup: &Setup<'_, C, A>,
     gate: &G,
@@ -61,11 +62,11 @@ fn run_each<
         rt,
         runners,
         threads,
-        &|_: usize, padded: &mut CachePadded<Runner<'_, A>>| -> ()
+        &|_: usize, padded: &mut CachePadded<Runner<'_, C, A>>| -> ()
             requires { IsGoodSetting (setting_in C.program C.width setup.now) × Runs (setting_in C.program C.width setup.now) mesh.now (padded_value padded.old) × IsClear (padded_value padded.old) }
             ensures { Ended (setting_in C.program C.width setup.entry.now) mesh.entry.now G.may_stop (padded_value padded.old) (padded_value padded.new) }
         {
-            let runner: &mut Runner<'_, A> = padded;
+            let runner: &mut Runner<'_, C, A> = padded;
             turns::run(rt, runner, mesh, setup, gate);
         },
     );
@@ -79,7 +80,7 @@ fn run_all<
     G: Gate + Sync,
 >(
     rt: &R,
-    runners: &mut Vec<CachePadded<Runner<'_, A>>, A>,
+    runners: &mut Vec<CachePadded<Runner<'_, C, A>>, A>,
     mesh: &Mesh<A>,
     setup: &Setup<'_, C, A>,
     gate: &G,
@@ -94,11 +95,11 @@ fn run_all<
 }
 
 // Whether an element is lost.
-fn is_lost<A: Allocator>(runners: &[CachePadded<Runner<'_, A>>]) -> bool
+fn is_lost<C: Instructions, A: Allocator>(runners: &[CachePadded<Runner<'_, C, A>>]) -> bool
     ensures { result ≡ false → (i : ℕ) → slice_get (lefts_in runners.now) i ≡ Some Left.Lost → ⊥ }
 {
     for at in 0..runners.len() {
-        let runner: &Runner<'_, A> = &runners[at];
+        let runner: &Runner<'_, C, A> = &runners[at];
         if let Left::Lost = runner.left {
             return true;
         }
@@ -107,11 +108,13 @@ fn is_lost<A: Allocator>(runners: &[CachePadded<Runner<'_, A>>]) -> bool
 }
 
 // The first reason of an element to halt.
-fn first_halt<A: Allocator>(runners: &[CachePadded<Runner<'_, A>>]) -> Option<Halt>
+fn first_halt<C: Instructions, A: Allocator>(
+    runners: &[CachePadded<Runner<'_, C, A>>],
+) -> Option<Halt>
     ensures { IfSome result (λ halt. (e : ℕ) × (slice_get (lefts_in runners.now) e ≡ Some (Left.Halted halt))) }
 {
     for at in 0..runners.len() {
-        let runner: &Runner<'_, A> = &runners[at];
+        let runner: &Runner<'_, C, A> = &runners[at];
         if let Left::Halted(halt) = runner.left {
             return Some(halt);
         }
@@ -120,11 +123,11 @@ fn first_halt<A: Allocator>(runners: &[CachePadded<Runner<'_, A>>]) -> Option<Ha
 }
 
 // Whether an element saw that no token is live.
-fn is_rested<A: Allocator>(runners: &[CachePadded<Runner<'_, A>>]) -> bool
+fn is_rested<C: Instructions, A: Allocator>(runners: &[CachePadded<Runner<'_, C, A>>]) -> bool
     ensures { result ≡ true → (e : ℕ) × (slice_get (lefts_in runners.now) e ≡ Some Left.Rested) }
 {
     for at in 0..runners.len() {
-        let runner: &Runner<'_, A> = &runners[at];
+        let runner: &Runner<'_, C, A> = &runners[at];
         if let Left::Rested = runner.left {
             return true;
         }
@@ -133,7 +136,7 @@ fn is_rested<A: Allocator>(runners: &[CachePadded<Runner<'_, A>>]) -> bool
 }
 
 // Why the run halted, if that can be told.
-fn why<A: Allocator>(runners: &[CachePadded<Runner<'_, A>>]) -> Option<Halt>
+fn why<C: Instructions, A: Allocator>(runners: &[CachePadded<Runner<'_, C, A>>]) -> Option<Halt>
     ensures { IfSome result (Tells (lefts_in runners.now)) }
 {
     if is_lost(runners) {
@@ -154,25 +157,26 @@ fn why<A: Allocator>(runners: &[CachePadded<Runner<'_, A>>]) -> Option<Halt>
 // What a run is made of: the mesh and the runners, room for the lanes, the seats and the logs on the way back, and the tokens that
 // the lanes have.
 #[derive(Drop)]
-struct Ready<'m, A: Allocator> {
+struct Ready<'m, C: Instructions, A: Allocator> {
     mesh: Mesh<A>,
-    runners: Vec<CachePadded<Runner<'m, A>>, A>,
-    lanes: Vec<Lane<'m, A>, A>,
+    runners: Vec<CachePadded<Runner<'m, C, A>>, A>,
+    lanes: Vec<Lane<'m, C, A>, A>,
     seats: Vec<Seat<A>, A>,
     logs: Vec<Log<A>, A>,
     tokens: Vec<Token, A>,
 }
 
-fn make_ready<'m, A: Allocator + Clone>(
+fn make_ready<'m, C: Instructions, A: Allocator + Clone>(
     alloc: &A,
-    lanes: Vec<Lane<'m, A>, A>,
+    lanes: Vec<Lane<'m, C, A>, A>,
     elements: u32,
     listed: bool,
-) -> Result<Ready<'m, A>, AllocError>
+) -> Result<Ready<'m, C, A>, AllocError>
     requires elements { (0 < elements) × (elements ≤ 16) }
     requires count { length lanes.items ≡ elements }
     ensures mesh { IfOk result (λ r. (r.mesh.elements ≡ elements) × (r.mesh.start ≡ tokens_in (map held_of lanes.entry.items))) }
     ensures lanes { IfOk result (λ r. (lanes_in r.runners.items ≡ map held_of lanes.entry.items) × (length r.runners.items ≡ elements)) }
+    ensures fixed { IfOk result (λ r. lanes_fixed r.runners.items ≡ map fixed_of lanes.entry.items) }
     ensures seats { IfOk result (λ r. AreFresh r.mesh (seats_in r.runners.items)) }
     ensures new { IfOk result (λ r. All (λ p. IsNew elements (padded_value p)) r.runners.items) }
     ensures listed { IfOk result (λ r. AreListed listed r.runners.items) }
@@ -227,12 +231,13 @@ fn run_apart<
     G: Gate + Sync,
 >(
     mut setup: Setup<'_, C, A>,
-    lanes: Vec<Lane<'_, A>, A>,
+    lanes: Vec<Lane<'_, C, A>, A>,
     rt: &R,
     gate: &G,
     listed: bool,
 ) -> Report<A>
-    requires { IsSoundState (coming (setting_in C.program C.width setup) (map held_of lanes.items) []) }
+    requires sound { IsSoundState (coming (setting_in C.program C.width setup) (map held_of lanes.items) []) }
+    requires runs { All (RunsAs (setting_in C.program C.width setup)) (map fixed_of lanes.items) }
     ensures unlisted { listed ≡ false → setup.entry.events.items ≡ [] → result.events ≡ [] }
     ensures shows { (inputs : List ℤ) (events : Events) → Began inputs (coming (setting_in C.program C.width setup.entry) (map held_of lanes.entry.items) []) events → ShowsOn listed (C.program setup.entry.code.now) (size (setting_in C.program C.width setup.entry)) inputs setup.entry.steps G.may_stop setup.entry.events.items events result }
 {

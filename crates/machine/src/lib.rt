@@ -1,6 +1,7 @@
 //! Elements that run freely: each in a thread of its own for the whole run, over the mailboxes of a mesh.
 #![tactic(auto)]
 
+mod belongings;
 mod blocks;
 mod dealing;
 mod free;

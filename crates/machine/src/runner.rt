@@ -1,5 +1,6 @@
 //! An element that runs freely, with all that it holds.
 
+use element::instructions::Instructions;
 use element::lane::Lane;
 use mesh::Seat;
 use ordering::log::Log;
@@ -27,8 +28,8 @@ pub enum Left {
 
 /// A lane with its seat, and the tokens that it holds beside its queue.
 #[derive(Drop)]
-pub struct Runner<'m, A: Allocator> {
-    pub lane: Lane<'m, A>,
+pub struct Runner<'m, C: Instructions, A: Allocator> {
+    pub lane: Lane<'m, C, A>,
     pub seat: Seat<A>,
     /// What its last block made for other elements.
     pub sent: Vec<Token, A>,

@@ -1,13 +1,15 @@
 //! Runners are made of lanes and seats, and taken apart.
 
-ghost use Rattle.std.specs.Prelude.{◌≡◌, [], ◌++◌, length, map, All, OnOk, IfOk};
+ghost use Rattle.std.specs.Prelude.{◌≡◌, ℕ, [], ◌++◌, length, map, All, OnOk, IfOk};
 ghost use Rattle.crossbeam_utils.specs.Padded.{padded_value};
-ghost use Rattle.element.specs.Held.{held_of};
+ghost use Rattle.element.specs.Held.{held_of, fixed_of};
 ghost use Rattle.schedule.specs.State.{tokens_in};
-ghost use Rattle.machine.specs.Starts.{AreEmpty, AreListed, IsNew, lanes_in, seats_in, logs_in};
+ghost use Rattle.machine.specs.Starts.{AreBlank, AreEmpty, AreListed, IsNew, lanes_in, lanes_fixed, seats_in, logs_in};
 
+use crate::belongings::Belongings;
 use crate::runner::{Left, Runner};
 use crossbeam_utils::CachePadded;
+use element::instructions::Instructions;
 use element::lane::Lane;
 use mesh::Seat;
 use ordering::log::Log;
@@ -15,20 +17,24 @@ use std::alloc::{AllocError, Allocator};
 use tags::token::Token;
 
 // Puts the tokens of a lane behind others.
-fn list_queue<A: Allocator>(
-    lane: &Lane<'_, A>,
+fn list_queue<C: Instructions, A: Allocator>(
+    lane: &Lane<'_, C, A>,
     tokens: &mut Vec<Token, A>,
 ) -> Result<(), AllocError>
-    ensures { OnOk result (tokens.new.items ≡ tokens.old.items ++ lane.now.queue.items) }
+    ensures { OnOk result (tokens.new.items ≡ tokens.old.items ++ lane.now.held.queue) }
 {
-    for at in 0..lane.queue.len() {
-        tokens.push(lane.queue.get(at))?;
+    let queue = lane.queue();
+    for at in 0..queue.len() {
+        tokens.push(queue.get(at))?;
     }
     Ok(())
 }
 
 /// All tokens of the lanes, in order.
-pub fn tokens_of<A: Allocator>(alloc: A, lanes: &[Lane<'_, A>]) -> Result<Vec<Token, A>, AllocError>
+pub fn tokens_of<C: Instructions, A: Allocator>(
+    alloc: A,
+    lanes: &[Lane<'_, C, A>],
+) -> Result<Vec<Token, A>, AllocError>
     ensures { IfOk result (λ tokens. tokens.items ≡ tokens_in (map held_of lanes.now)) }
 {
     let mut tokens = Vec::new(alloc);
@@ -52,15 +58,8 @@ fn bundles<A: Allocator + Clone>(
     Ok(all)
 }
 
-fn runner<'m, A: Allocator + Clone>(
-    alloc: &A,
-    lane: Lane<'m, A>,
-    seat: Seat<A>,
-    elements: u32,
-    listed: bool,
-) -> Result<Runner<'m, A>, AllocError>
-    ensures new { IfOk result (λ r. IsNew elements r) }
-    ensures parts { IfOk result (λ r. (held_of r.lane ≡ held_of lane.entry) × (r.seat ≡ seat) × (r.listed ≡ listed)) }
+fn belongings<A: Allocator + Clone>(alloc: &A, elements: u32) -> Result<Belongings<A>, AllocError>
+    ensures { IfOk result (AreBlank elements) }
 {
     let kept = bundles(alloc, elements)?;
     let sent = Vec::new(alloc.clone()?);
@@ -68,7 +67,34 @@ fn runner<'m, A: Allocator + Clone>(
     let spare = Vec::with_capacity(alloc.clone()?, elements as usize)?;
     let log = Vec::new(alloc.clone()?);
     let notes = Log::new(alloc.clone()?)?;
-    Ok(Runner {
+    Ok(Belongings {
+        sent,
+        kept,
+        hand,
+        spare,
+        log,
+        notes,
+    })
+}
+
+fn runner<'m, C: Instructions, A: Allocator>(
+    lane: Lane<'m, C, A>,
+    seat: Seat<A>,
+    belongings: Belongings<A>,
+    listed: bool,
+) -> Runner<'m, C, A>
+    ensures new { (n : ℕ) → AreBlank n belongings → IsNew n result }
+    ensures parts { (result.lane ≡ lane.entry) × (result.seat ≡ seat) × (result.listed ≡ listed) }
+{
+    let Belongings {
+        sent,
+        kept,
+        hand,
+        spare,
+        log,
+        notes,
+    } = belongings;
+    Runner {
         lane,
         seat,
         sent,
@@ -82,38 +108,39 @@ fn runner<'m, A: Allocator + Clone>(
         created: 0,
         blocks: 0,
         left: Left::Lost,
-    })
+    }
 }
 
 /// A runner for each lane, with the seat of its element, in order; `listed`: whether it notes its blocks.
-pub fn runners_of<'m, A: Allocator + Clone>(
+pub fn runners_of<'m, C: Instructions, A: Allocator + Clone>(
     alloc: &A,
-    lanes: Vec<Lane<'m, A>, A>,
+    mut lanes: Vec<Lane<'m, C, A>, A>,
     mut seats: Vec<Seat<A>, A>,
     elements: u32,
     listed: bool,
-) -> Result<Vec<CachePadded<Runner<'m, A>>, A>, AllocError>
+) -> Result<Vec<CachePadded<Runner<'m, C, A>>, A>, AllocError>
     requires { length seats.items ≡ length lanes.items }
     ensures lanes { IfOk result (λ ps. lanes_in ps.items ≡ map held_of lanes.entry.items) }
+    ensures fixed { IfOk result (λ ps. lanes_fixed ps.items ≡ map fixed_of lanes.entry.items) }
     ensures seats { IfOk result (λ ps. seats_in ps.items ≡ seats.items) }
     ensures new { IfOk result (λ ps. All (λ p. IsNew elements (padded_value p)) ps.items) }
     ensures listed { IfOk result (λ ps. AreListed listed ps.items) }
 {
     let mut runners = Vec::with_capacity(alloc.clone()?, lanes.len())?;
-    for lane in lanes {
-        if seats.is_empty() {
-            return Err(AllocError);
-        }
+    'each: for _at in 0..lanes.len() {
+        let belongings = belongings(alloc, elements)?;
+        let lane = lanes.remove(0);
         let seat = seats.remove(0);
-        runners.push(CachePadded::new(runner(alloc, lane, seat, elements, listed)?))?;
+        let one = runner(lane, seat, belongings, listed);
+        runners.push(CachePadded::new(one))?;
     }
     Ok(runners)
 }
 
 /// Takes the runners apart into lanes, seats and notes, in order.
-pub fn parts_in<'m, A: Allocator>(
-    runners: Vec<CachePadded<Runner<'m, A>>, A>,
-    lanes: &mut Vec<Lane<'m, A>, A>,
+pub fn parts_in<'m, C: Instructions, A: Allocator>(
+    runners: Vec<CachePadded<Runner<'m, C, A>>, A>,
+    lanes: &mut Vec<Lane<'m, C, A>, A>,
     seats: &mut Vec<Seat<A>, A>,
     logs: &mut Vec<Log<A>, A>,
 ) -> Result<(), AllocError>

@@ -1,7 +1,9 @@
 //! An element takes what others posted to it.
 
-ghost use Rattle.std.specs.Prelude.{◌≡◌, ◌<◌, ◌≤◌, ◌++◌, OnOk, OnErr, IfSome, IfNone};
-ghost use Rattle.element.specs.Held.{held_of, with_queue};
+ghost use Rattle.std.specs.Prelude.{◌≡◌, ◌<◌, All, IfSome, IfNone};
+ghost use Rattle.tags.specs.Addresses.{element_of};
+ghost use Rattle.element.specs.Held.{fixed_of};
+ghost use Rattle.schedule.specs.State.{RunsAs};
 ghost use Rattle.schedule.specs.Apart.{setting_in};
 ghost use Rattle.schedule.specs.Setting.{IsGoodSetting};
 ghost use Rattle.schedule.specs.declared.halt.Halt.{Halt};
@@ -10,25 +12,12 @@ ghost use Rattle.machine.specs.Runners.{bounds_within, Runs, Keeps, IsClear, Sta
 
 use crate::nearness::{Reach, are_near};
 use crate::runner::Runner;
-use element::lane::Lane;
 use mesh::Mesh;
 use schedule::halt::Halt;
 use schedule::main_code::MainCode;
 use schedule::setup::Setup;
 use std::alloc::{AllocError, Allocator};
 use tags::token::Token;
-
-// Puts tokens last into the queue. After an error all stands as before.
-fn receive_all<A: Allocator>(lane: &mut Lane<'_, A>, tokens: &[Token]) -> Result<(), AllocError>
-    ensures ok { OnOk result (held_of lane.new ≡ with_queue (held_of lane.old) (lane.old.queue.items ++ tokens.now)) }
-    ensures err { OnErr result (held_of lane.new ≡ held_of lane.old) }
-{
-    lane.queue.reserve(tokens.len())?;
-    for token in tokens {
-        lane.queue.push_back_reserved(*token);
-    }
-    Ok(())
-}
 
 // How much the machine has.
 fn reach_of<C: MainCode, A: Allocator>(setup: &Setup<'_, C, A>) -> Reach
@@ -52,16 +41,18 @@ fn keep_spare<A: Allocator>(spare: &mut Vec<Vec<Token, A>, A>, mut bundle: Vec<T
 // Puts a bundle into the queue. Where there is no room for it, or where it has a token that names what is not there, it stays in
 // hand; the latter comes of no run.
 fn receive_or_hold<C: MainCode, A: Allocator>(
-    runner: &mut Runner<'_, A>,
+    runner: &mut Runner<'_, C, A>,
     setup: &Setup<'_, C, A>,
     bundle: Vec<Token, A>,
 ) -> Option<Halt>
     requires good { IsGoodSetting (setting_in C.program C.width setup.now) }
+    requires runs { RunsAs (setting_in C.program C.width setup.now) (fixed_of runner.old.lane) }
+    requires addressed { All (λ t. element_of runner.old.lane.held.part.shape.elements t.to ≡ runner.old.lane.held.part.shape.element) bundle.items }
     ensures none { IfNone result (Receives (setting_in C.program C.width setup.now) runner.old bundle.items runner.new) }
-    ensures some { IfSome result (λ halt. (halt ≡ Halt.Memory) × (held_of runner.new.lane ≡ held_of runner.old.lane) × (runner.new ≡ record runner.old { lane = runner.new.lane; hand = bundle })) }
+    ensures some { IfSome result (λ halt. (halt ≡ Halt.Memory) × (runner.new.lane ≡ runner.old.lane) × (runner.new ≡ record runner.old { lane = runner.new.lane; hand = bundle })) }
 {
     let near = are_near(&bundle, reach_of(setup));
-    if near && receive_all(&mut runner.lane, &bundle).is_ok() {
+    if near && runner.lane.receive_all(&bundle).is_ok() {
         keep_spare(&mut runner.spare, bundle);
         return None;
     }
@@ -71,7 +62,7 @@ fn receive_or_hold<C: MainCode, A: Allocator>(
 
 // Takes a bundle of the element `from`, if there is one.
 fn take_from<C: MainCode, A: Allocator>(
-    runner: &mut Runner<'_, A>,
+    runner: &mut Runner<'_, C, A>,
     mesh: &Mesh<A>,
     setup: &Setup<'_, C, A>,
     from: u32,
@@ -93,7 +84,7 @@ fn take_from<C: MainCode, A: Allocator>(
 
 /// Takes what lies in the boxes to this element.
 pub fn take_all<C: MainCode, A: Allocator>(
-    runner: &mut Runner<'_, A>,
+    runner: &mut Runner<'_, C, A>,
     mesh: &Mesh<A>,
     setup: &Setup<'_, C, A>,
 ) -> Option<Halt>

@@ -27,16 +27,16 @@ use std::thread;
 const LOOK: u64 = 128;
 
 // Whether the element has tokens for a whole turn, and looked at the mailboxes a short while ago.
-fn is_busy<C: MainCode, A: Allocator>(runner: &Runner<'_, A>, setup: &Setup<'_, C, A>) -> bool
+fn is_busy<C: MainCode, A: Allocator>(runner: &Runner<'_, C, A>, setup: &Setup<'_, C, A>) -> bool
     requires { IsGoodSetting (setting_in C.program C.width setup.now) }
 {
     let every = LOOK / setup.turn;
-    every > 1 && runner.blocks % every != 0 && runner.lane.queue.len() as u64 >= setup.turn
+    every > 1 && runner.blocks % every != 0 && runner.lane.queue().len() as u64 >= setup.turn
 }
 
 // Takes what others posted, if it is time to look.
 fn take<C: MainCode, A: Allocator>(
-    runner: &mut Runner<'_, A>,
+    runner: &mut Runner<'_, C, A>,
     mesh: &Mesh<A>,
     setup: &Setup<'_, C, A>,
 ) -> Option<Halt>
@@ -56,7 +56,7 @@ fn take<C: MainCode, A: Allocator>(
 
 // Takes what others posted, and makes a block of events.
 fn work<C: MainCode, A: Allocator + Clone, G: Gate>(
-    runner: &mut Runner<'_, A>,
+    runner: &mut Runner<'_, C, A>,
     mesh: &Mesh<A>,
     setup: &Setup<'_, C, A>,
     gate: &G,
@@ -77,7 +77,7 @@ fn work<C: MainCode, A: Allocator + Clone, G: Gate>(
 
 // Deals out what the block made for others, and offers it, if it is time to.
 fn hand_on<C: MainCode, A: Allocator + Clone>(
-    runner: &mut Runner<'_, A>,
+    runner: &mut Runner<'_, C, A>,
     mesh: &Mesh<A>,
     setup: &Setup<'_, C, A>,
 ) -> Result<(), AllocError>
@@ -97,7 +97,7 @@ fn hand_on<C: MainCode, A: Allocator + Clone>(
 
 // Whether the element leaves between two turns.
 fn look<C: MainCode, A: Allocator>(
-    runner: &mut Runner<'_, A>,
+    runner: &mut Runner<'_, C, A>,
     mesh: &Mesh<A>,
     setup: &Setup<'_, C, A>,
 ) -> Option<Left>
@@ -112,7 +112,7 @@ fn look<C: MainCode, A: Allocator>(
     if mesh.stopped(&mut runner.seat) != 0 {
         return Some(Left::Stopped);
     }
-    if runner.lane.queue.len() == 0 {
+    if runner.lane.queue().len() == 0 {
         if mesh.live(&mut runner.seat) == 0 {
             return Some(Left::Rested);
         }
@@ -123,7 +123,7 @@ fn look<C: MainCode, A: Allocator>(
 
 // One turn: why the element leaves after it, if it does.
 fn turn<C: MainCode, A: Allocator + Clone, G: Gate>(
-    runner: &mut Runner<'_, A>,
+    runner: &mut Runner<'_, C, A>,
     mesh: &Mesh<A>,
     setup: &Setup<'_, C, A>,
     gate: &G,
@@ -148,7 +148,7 @@ fn turn<C: MainCode, A: Allocator + Clone, G: Gate>(
 // Turns until the element leaves.
 fn go<R: Wait, C: MainCode, A: Allocator + Clone, G: Gate>(
     rt: &R,
-    runner: &mut Runner<'_, A>,
+    runner: &mut Runner<'_, C, A>,
     mesh: &Mesh<A>,
     setup: &Setup<'_, C, A>,
     gate: &G,
@@ -170,7 +170,7 @@ fn go<R: Wait, C: MainCode, A: Allocator + Clone, G: Gate>(
 
 // Calls for a stop, where the element leaves for a reason of its own.
 fn call_stop<C: MainCode, A: Allocator>(
-    runner: &mut Runner<'_, A>,
+    runner: &mut Runner<'_, C, A>,
     mesh: &Mesh<A>,
     setup: &Setup<'_, C, A>,
 )
@@ -192,7 +192,7 @@ fn call_stop<C: MainCode, A: Allocator>(
 // Runs the element until it leaves: why it does.
 fn leave<R: Wait, C: MainCode, A: Allocator + Clone, G: Gate>(
     rt: &R,
-    runner: &mut Runner<'_, A>,
+    runner: &mut Runner<'_, C, A>,
     mesh: &Mesh<A>,
     setup: &Setup<'_, C, A>,
     gate: &G,
@@ -214,7 +214,7 @@ fn leave<R: Wait, C: MainCode, A: Allocator + Clone, G: Gate>(
 /// calls for a stop then.
 pub fn run<R: Wait, C: MainCode, A: Allocator + Clone, G: Gate>(
     rt: &R,
-    runner: &mut Runner<'_, A>,
+    runner: &mut Runner<'_, C, A>,
     mesh: &Mesh<A>,
     setup: &Setup<'_, C, A>,
     gate: &G,
@@ -224,7 +224,7 @@ pub fn run<R: Wait, C: MainCode, A: Allocator + Clone, G: Gate>(
     requires clear { IsClear runner.old }
     ensures { Ended (setting_in C.program C.width setup.now) mesh.now G.may_stop runner.old runner.new }
 {
-    gate.enter(runner.lane.element);
+    gate.enter(runner.lane.element());
     runner.left = leave(rt, runner, mesh, setup, gate);
     call_stop(runner, mesh, setup);
 }

@@ -251,7 +251,7 @@ fn takes_a_machine_apart(rt: HostRuntime) -> Result<(), Fail> {
     };
     let mut tokens = 0usize;
     for lane in &lanes {
-        tokens = tokens.wrapping_add(lane.queue.len());
+        tokens = tokens.wrapping_add(lane.queue().len());
     }
     assert_eq!(rt; tokens, 1);
     let report = setup.report(lanes, Halt::Steps);

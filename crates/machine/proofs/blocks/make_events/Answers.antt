@@ -1,5 +1,9 @@
-use Rattle.std.proofs.Common.{◌-◌, refl}
-use Rattle.element.specs.Held.{held_of}
+use Rattle.std.proofs.Common.{sym, ◌∙◌, ap, subst, ℕ, ◌-◌, false, List, length, arith}
+use Rattle.tags.specs.declared.token.Token.{Token}
+use Rattle.semantics.specs.Program.{Program}
+use Rattle.element.specs.Held.{Held, held_of}
+use Rattle.rounds.specs.Turns.{HaltsLane}
+use Rattle.schedule.specs.Setting.{Setting}
 use Rattle.schedule.specs.Apart.{setting_in}
 use Rattle.machine.proofs.Committing.{has_made, more_made}
 use Rattle.machine.proofs.blocks.make_events.Goals as goal
@@ -8,7 +12,10 @@ pub overflow_sub-events : goal.overflow_sub-events
 overflow_sub-events g c =
     let run = c.requires.runs in
     let t = c.take_turn-halt.ensures.turns in
-    more_made {A = g.row.A.Denot} (setting_in g.C.Instructions.program g.C.Instructions.width c.args.setup.now) c.args.mesh.now run.0 c.args.runner.now run.1 c.requires.clear c.take_turn-halt.new.lane c.take_turn-halt.new.sent t.0 t.1
+    let first = c.made-first.ensures in
+    let last = c.made.ensures in
+    let more = more_made {C = g.row.C.Denot} {A = g.row.A.Denot} (setting_in g.C.Instructions.program g.C.Instructions.width c.args.setup.now) c.args.mesh.now run.0 c.args.runner.now run.1 c.requires.clear c.take_turn-halt.new.lane c.take_turn-halt.new.sent t.0 t.1 in
+    omega arith
 
 pub commit-requires : goal.commit-requires
 commit-requires g c =
@@ -17,8 +24,8 @@ commit-requires g c =
       made = (
         run.0,
         held_of c.args.runner.now.lane,
-        has_made {A = g.row.A.Denot} (setting_in g.C.Instructions.program g.C.Instructions.width c.args.setup.now) c.args.mesh.now run.0 c.args.runner.now run.1 c.requires.clear c.take_turn-halt.new.lane c.take_turn-halt.new.sent c.take_turn-halt.new.log t.0 c.len-before.result (c.take_turn-halt.new.lane.made - c.args.runner.now.lane.made)
-            t.1 c.take_turn-halt.ensures.sound c.len-before.ensures refl t.2,
+        has_made {C = g.row.C.Denot} {A = g.row.A.Denot} (setting_in g.C.Instructions.program g.C.Instructions.width c.args.setup.now) c.args.mesh.now run.0 c.args.runner.now run.1 c.requires.clear c.take_turn-halt.new.lane c.take_turn-halt.new.sent c.take_turn-halt.new.log t.0 c.len-before.result (c.made.result - c.made-first.result)
+            t.1 c.take_turn-halt.ensures.sound c.take_turn-halt.ensures.fixed (c.len-before.ensures ∙ ap (λ (q : List Token). length q) c.queue.ensures) (ap (λ (n : ℕ). n - c.made-first.result) c.made.ensures ∙ ap (λ (n : ℕ). c.take_turn-halt.new.lane.held.made - n) c.made-first.ensures) t.2,
       );
     }
 
@@ -26,5 +33,15 @@ pub returns-clause-keeps : goal.returns-clause-keeps
 returns-clause-keeps g c = λ start run.
     let t = c.take_turn-halt.ensures.turns in
     c.in_ok-commit.ensures.keeps start (held_of c.args.runner.now.lane)
-    (has_made {A = g.row.A.Denot} (setting_in g.C.Instructions.program g.C.Instructions.width c.args.setup.now) c.args.mesh.now start c.args.runner.now run c.requires.clear c.take_turn-halt.new.lane c.take_turn-halt.new.sent c.take_turn-halt.new.log t.0 c.len-before.result (c.take_turn-halt.new.lane.made - c.args.runner.now.lane.made)
-    t.1 c.take_turn-halt.ensures.sound c.len-before.ensures refl t.2)
+    (has_made {C = g.row.C.Denot} {A = g.row.A.Denot} (setting_in g.C.Instructions.program g.C.Instructions.width c.args.setup.now) c.args.mesh.now start c.args.runner.now run c.requires.clear c.take_turn-halt.new.lane c.take_turn-halt.new.sent c.take_turn-halt.new.log t.0 c.len-before.result (c.made.result - c.made-first.result)
+    t.1 c.take_turn-halt.ensures.sound c.take_turn-halt.ensures.fixed (c.len-before.ensures ∙ ap (λ (q : List Token). length q) c.queue.ensures) (ap (λ (n : ℕ). n - c.made-first.result) c.made.ensures ∙ ap (λ (n : ℕ). c.take_turn-halt.new.lane.held.made - n) c.made-first.ensures) t.2)
+
+pub returns-clause-halts : goal.returns-clause-halts
+returns-clause-halts g c =
+    let s : Setting = setting_in g.C.Instructions.program g.C.Instructions.width c.args.setup.now in
+    let runs = c.requires.runs.1.runs in
+    let new : Held = held_of c.take_turn-halt.new.lane in
+    let why = c.take_turn-halt.result in
+    subst (λ (h : Held). HaltsLane s.program s.steps false h why) (sym c.in_ok-commit.ensures.lane)
+    (subst (λ (p : Program). HaltsLane p s.steps false new why) runs.program
+    (subst (λ (n : ℕ). HaltsLane c.args.runner.now.lane.program n false new why) runs.steps c.take_turn-halt.ensures.halts))

@@ -9,20 +9,20 @@ use Rattle.schedule.proofs.Tokens.{delivered_none}
 use Rattle.rounds.proofs.Closing.{none_sound, shows_any, told_run}
 use Rattle.machine.proofs.free.run.Goals as goal
 
-pub run_apart-requires-after_bounds : goal.run_apart-requires-after_bounds
-run_apart-requires-after_bounds g c κs within =
+pub run_apart-requires-clause-sound : goal.run_apart-requires-clause-sound
+run_apart-requires-clause-sound g c κs within =
     let s : Setting = setting_in g.C.Instructions.program g.C.Instructions.width c.in-Ok.setup in
-    none_sound s (map (held_of {A = g.row.A.Denot}) c.in-Ok.lanes.items) c.in-Ok.ensures.1
+    none_sound s (map held_of c.in-Ok.lanes.items) c.in-Ok.ensures.apart.1
 
 pub returns-in-Ok : goal.returns-in-Ok
 returns-in-Ok g c =
     let s : Setting = setting_in g.C.Instructions.program g.C.Instructions.width c.in-Ok.setup in
-    let raw : List Held = map (held_of {A = g.row.A.Denot}) c.in-Ok.lanes.items in
+    let raw : List Held = map held_of c.in-Ok.lanes.items in
     let events = c.in-Ok.setup.events.items in
     let may = g.G.Gate.may_stop in
     let r = c.run_apart.result in
     record {
-      shows = subst (λ (k : Kept). (inputs : List ℤ) → Began inputs k.state k.events → Shows k.state.setting.program (size k.state.setting) inputs k.state.setting.steps false may r) c.in-Ok.ensures.0
+      shows = subst (λ (k : Kept). (inputs : List ℤ) → Began inputs k.state k.events → Shows k.state.setting.program (size k.state.setting) inputs k.state.setting.steps false may r) c.in-Ok.ensures.apart.0
           (λ inputs b. told_run s.program (size s) inputs s.steps may events r (c.run_apart.ensures.shows inputs events (subst (λ (l : List Held). Began inputs (let x : State = record { setting = s; lanes = l } in x) events) (sym (delivered_none raw)) b)));
     }
 
@@ -31,6 +31,6 @@ returns-in-Err g c =
     let r = c.report.result in
     let may = g.G.Gate.may_stop in
     record {
-      shows = subst (λ (k : Kept). (inputs : List ℤ) → Began inputs k.state k.events → Shows k.state.setting.program (size k.state.setting) inputs k.state.setting.steps false may r) c.in-Err.ensures
+      shows = subst (λ (k : Kept). (inputs : List ℤ) → Began inputs k.state k.events → Shows k.state.setting.program (size k.state.setting) inputs k.state.setting.steps false may r) c.in-Err.ensures.apart
           (λ inputs b. let z = c.in-Err.machine.state.setting in shows_any z.program (size z) inputs z.steps false may r (c.report.ensures.shows inputs false b tt));
     }

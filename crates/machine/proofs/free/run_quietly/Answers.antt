@@ -9,21 +9,21 @@ use Rattle.schedule.proofs.Tokens.{delivered_none}
 use Rattle.rounds.proofs.Closing.{none_sound, shows_any, told_quietly}
 use Rattle.machine.proofs.free.run_quietly.Goals as goal
 
-pub run_apart-requires-after_bounds : goal.run_apart-requires-after_bounds
-run_apart-requires-after_bounds g c κs within =
+pub run_apart-requires-clause-sound : goal.run_apart-requires-clause-sound
+run_apart-requires-clause-sound g c κs within =
     let s : Setting = setting_in g.C.Instructions.program g.C.Instructions.width c.in-Ok.setup in
-    none_sound s (map (held_of {A = g.row.A.Denot}) c.in-Ok.lanes.items) c.in-Ok.ensures.1
+    none_sound s (map held_of c.in-Ok.lanes.items) c.in-Ok.ensures.apart.1
 
 pub returns-in-Ok : goal.returns-in-Ok
 returns-in-Ok g c =
     let s : Setting = setting_in g.C.Instructions.program g.C.Instructions.width c.in-Ok.setup in
-    let raw : List Held = map (held_of {A = g.row.A.Denot}) c.in-Ok.lanes.items in
+    let raw : List Held = map held_of c.in-Ok.lanes.items in
     let events = c.in-Ok.setup.events.items in
     let kept = c.clear.new.self.items in
     let may = g.G.Gate.may_stop in
     let r = c.run_apart.result in
     record {
-      shows = subst (λ (k : Kept). (inputs : List ℤ) → Began inputs k.state k.events → ShowsQuietly k.state.setting.program (size k.state.setting) inputs k.state.setting.steps false may r) c.in-Ok.ensures.0
+      shows = subst (λ (k : Kept). (inputs : List ℤ) → Began inputs k.state k.events → ShowsQuietly k.state.setting.program (size k.state.setting) inputs k.state.setting.steps false may r) c.in-Ok.ensures.apart.0
           (λ inputs b. told_quietly s.program (size s) inputs s.steps may kept events r (c.run_apart.ensures.unlisted refl c.clear.ensures.items)
           (c.run_apart.ensures.shows inputs events (subst (λ (l : List Held). Began inputs (let x : State = record { setting = s; lanes = l } in x) events) (sym (delivered_none raw)) b)));
     }
@@ -34,7 +34,7 @@ returns-in-Err g c =
     let may = g.G.Gate.may_stop in
     let w : Setting = c.without_events.result.setting in
     record {
-      shows = subst (λ (k : Kept). (inputs : List ℤ) → Began inputs k.state k.events → ShowsQuietly k.state.setting.program (size k.state.setting) inputs k.state.setting.steps false may r) c.in-Err.ensures
+      shows = subst (λ (k : Kept). (inputs : List ℤ) → Began inputs k.state k.events → ShowsQuietly k.state.setting.program (size k.state.setting) inputs k.state.setting.steps false may r) c.in-Err.ensures.apart
           (λ inputs b.
           let q = c.report.ensures.shows inputs false c.in-Err.machine.events (subst (λ (x : State). Began inputs x c.in-Err.machine.events) (sym c.without_events.ensures) b) tt in
           subst (λ (x : State). ShowsQuietly x.setting.program (size x.setting) inputs x.setting.steps false may r) c.without_events.ensures (record { unlisted = q.unlisted; events = q.events; shows = shows_any w.program (size w) inputs w.steps false may (with_events r q.events) q.shows }));

@@ -1,71 +1,91 @@
 use Rattle.std.proofs.Common.{◌≡◌, sym, ◌∙◌, ap, subst, ◌<◌, ◌++◌, [], ◌∷◌, List, length, map, All, arith}
-use Rattle.std.specs.Prelude.{remove}
-use Rattle.std.proofs.lemmas.List.{map-id, length_push}
+use Rattle.std.proofs.lemmas.List.{append-nil, nil_from_length}
 use Rattle.std.proofs.lemmas.List.Elements.{All-nil, All-push}
-use Rattle.std.proofs.lemmas.Iterator.Adapters.{YieldsList-from_vec}
-use Rattle.std.proofs.lemmas.Iterator.Consumers.{YieldsList-end}
 use Rattle.crossbeam_utils.specs.declared.cache_padded.CachePadded.{CachePadded}
 use Rattle.crossbeam_utils.specs.Padded.{padded_value}
-use Rattle.element.specs.declared.lane.Lane.{Lane}
-use Rattle.element.specs.Held.{held_of}
+use Rattle.element.specs.Held.{LaneView, held_of, fixed_of}
 use Rattle.mesh.specs.Seats.{SeatView}
+use Rattle.rounds.proofs.Changes.{moved_first}
 use Rattle.machine.specs.declared.runner.Runner.{Runner}
-use Rattle.machine.specs.Starts.{AreListed, IsNew, lanes_in, seats_in}
-use Rattle.machine.proofs.Lists.{lanes_more, seats_more, fewer_seats, no_seats}
+use Rattle.machine.specs.Starts.{AreListed, IsNew, lane_in, lane_fixed, lanes_in, lanes_fixed, seats_in}
+use Rattle.machine.proofs.Lists.{seats_more, no_seats}
 use Rattle.machine.proofs.starting.runners_of.Goals as goal
 
-pub returns-clause-lanes : goal.returns-clause-lanes
-returns-clause-lanes g c =
-    let a = c.into_iter-lane-iterator.ensures.into_iter_gives in
-    let all = c.args.lanes.items in
-    let given = YieldsList-end (YieldsList-from_vec all a.0 (a.1 ∙ c.args.lanes.ok.0)) c.loop-lane.yielded c.loop-lane.lane-iterator c.loop-lane.yielded_by c.next.result c.next.new.self c.in-None.is c.next.ensures.steps in
-    c.loop-lane.invariant.lanes ∙ ap (λ (l : List (Lane g.row.A.Denot)). map held_of l) (sym (map-id c.loop-lane.yielded) ∙ given.0)
-
-pub returns-clause-seats : goal.returns-clause-seats
-returns-clause-seats g c =
-    let a = c.into_iter-lane-iterator.ensures.into_iter_gives in
-    let all = c.args.lanes.items in
-    let given = YieldsList-end (YieldsList-from_vec all a.0 (a.1 ∙ c.args.lanes.ok.0)) c.loop-lane.yielded c.loop-lane.lane-iterator c.loop-lane.yielded_by c.next.result c.next.new.self c.in-None.is c.next.ensures.steps in
-    let many : length c.loop-lane.yielded ≡ length all = ap (λ (l : List (Lane g.row.A.Denot)). length l) (sym (map-id c.loop-lane.yielded) ∙ given.0) in
-    let none : length c.loop-lane.seats.items ≡ 0 = (let n = c.loop-lane.invariant.count in let r = c.requires in omega arith) in
-    no_seats c.loop-lane.runners.items c.loop-lane.seats.items c.args.seats.items none c.loop-lane.invariant.seats
-
-pub loop-lane-init : goal.loop-lane-init
-loop-lane-init g c =
+pub each-init : goal.each-init
+each-init g c =
     let none = c.in_ok-runners.ensures.items in
     let n = c.args.elements in
     record {
-      lanes = ap (λ (l : List (CachePadded (Runner g.row.A.Denot))). lanes_in l) none;
-      seats = ap (λ (l : List (CachePadded (Runner g.row.A.Denot))). seats_in l ++ c.args.seats.items) none;
-      new = subst (λ (l : List (CachePadded (Runner g.row.A.Denot))). All (λ (p : CachePadded (Runner g.row.A.Denot)). IsNew n (padded_value p)) l) (sym none) (All-nil (λ (p : CachePadded (Runner g.row.A.Denot)). IsNew n (padded_value p)));
-      listed = subst (λ (l : List (CachePadded (Runner g.row.A.Denot))). AreListed c.args.listed l) (sym none) (All-nil (λ (p : CachePadded (Runner g.row.A.Denot)). (padded_value p).listed ≡ c.args.listed));
+      held = ap (λ (l : List (CachePadded (Runner g.row.C.Denot g.row.A.Denot))). lanes_in l ++ map held_of c.args.lanes.items) none;
+      fixed = ap (λ (l : List (CachePadded (Runner g.row.C.Denot g.row.A.Denot))). lanes_fixed l ++ map fixed_of c.args.lanes.items) none;
+      seats = ap (λ (l : List (CachePadded (Runner g.row.C.Denot g.row.A.Denot))). seats_in l ++ c.args.seats.items) none;
+      new = subst (λ (l : List (CachePadded (Runner g.row.C.Denot g.row.A.Denot))). All (λ (p : CachePadded (Runner g.row.C.Denot g.row.A.Denot)). IsNew n (padded_value p)) l) (sym none) (All-nil (λ (p : CachePadded (Runner g.row.C.Denot g.row.A.Denot)). IsNew n (padded_value p)));
+      listed = subst (λ (l : List (CachePadded (Runner g.row.C.Denot g.row.A.Denot))). AreListed c.args.listed l) (sym none) (All-nil (λ (p : CachePadded (Runner g.row.C.Denot g.row.A.Denot)). (padded_value p).listed ≡ c.args.listed));
       count = omega arith;
+      seat_count = c.requires;
     }
 
-pub loop-lane-preserved : goal.loop-lane-preserved
-loop-lane-preserved g c =
+pub each-preserved : goal.each-preserved
+each-preserved g c =
     let n = c.args.elements in
-    let inv = c.loop-lane.invariant in
-    let ps = c.loop-lane.runners.items in
-    let p = c.new.result in
-    let seats = c.loop-lane.seats.items in
-    let some : 0 < length seats = omega arith in
-    let made = c.in_ok-runner.ensures in
-    let value : padded_value p ≡ c.in_ok-runner.field-0 = c.new.ensures in
+    let inv = c.each.invariant in
+    let ps : List (CachePadded (Runner g.row.C.Denot g.row.A.Denot)) = c.each.runners.items in
+    let p : CachePadded (Runner g.row.C.Denot g.row.A.Denot) = c.new.result in
+    let xs = c.each.lanes.items in
+    let seats = c.each.seats.items in
+    let end = c.len-at-end.ensures in
+    let low = c.each-test.true in
+    let a = inv.count in
+    let b = inv.seat_count in
+    let some : 0 < length xs = omega arith in
+    let some_seat : 0 < length seats = omega arith in
+    let made = c.runner-one.ensures in
+    let value : padded_value p ≡ c.runner-one.result = c.new.ensures in
+    let lane = ap (λ (r : Runner g.row.C.Denot g.row.A.Denot). r.lane) value ∙ made.parts.0 in
     let all = c.in_ok-push.ensures.items in
-    let fewer = c.remove-seat.ensures.items in
+    let fewer = c.remove-lane.ensures.items in
+    let fewer_seats = c.remove-seat.ensures.items in
+    let k = c.remove-lane.ensures.len in
+    let m = c.remove-seat.ensures.len in
     record {
-      lanes = ap (λ (l : List (CachePadded (Runner g.row.A.Denot))). lanes_in l) all ∙ lanes_more ps p c.loop-lane.yielded c.in-Some.lane inv.lanes (ap (λ (r : Runner g.row.A.Denot). held_of r.lane) value ∙ made.parts.0);
-      seats = ap (λ (l : List (CachePadded (Runner g.row.A.Denot))). seats_in l ++ c.remove-seat.new.self.items) all ∙ ap (λ (l : List SeatView). seats_in (ps ++ p ∷ []) ++ l) fewer
-          ∙ seats_more ps p seats c.remove-seat.result c.args.seats.items some c.remove-seat.ensures.value (ap (λ (r : Runner g.row.A.Denot). r.seat) value ∙ made.parts.1) inv.seats;
-      new = subst (λ (l : List (CachePadded (Runner g.row.A.Denot))). All (λ (q : CachePadded (Runner g.row.A.Denot)). IsNew n (padded_value q)) l) (sym all)
-          (All-push (λ (q : CachePadded (Runner g.row.A.Denot)). IsNew n (padded_value q)) ps p inv.new (subst (λ (r : Runner g.row.A.Denot). IsNew n r) (sym value) made.new));
-      listed = subst (λ (l : List (CachePadded (Runner g.row.A.Denot))). AreListed c.args.listed l) (sym all)
-          (All-push (λ (q : CachePadded (Runner g.row.A.Denot)). (padded_value q).listed ≡ c.args.listed) ps p inv.listed (ap (λ (r : Runner g.row.A.Denot). r.listed) value ∙ made.parts.2));
-      count =
-          let one = length_push c.loop-lane.yielded c.in-Some.lane in
-          let two = fewer_seats seats some in
-          let three : length c.remove-seat.new.self.items ≡ length (remove seats 0) = ap (λ (l : List SeatView). length l) fewer in
-          let four = inv.count in
-          omega (arith, one, two, three, four);
+      held = ap (λ (l : List (CachePadded (Runner g.row.C.Denot g.row.A.Denot))). lanes_in l ++ map held_of c.remove-lane.new.self.items) all ∙ ap (λ (l : List LaneView). lanes_in (ps ++ p ∷ []) ++ map held_of l) fewer
+          ∙ moved_first lane_in held_of ps p xs c.remove-lane.result some c.remove-lane.ensures.value (ap (λ (l : LaneView). held_of l) lane) ∙ inv.held;
+      fixed = ap (λ (l : List (CachePadded (Runner g.row.C.Denot g.row.A.Denot))). lanes_fixed l ++ map fixed_of c.remove-lane.new.self.items) all ∙ ap (λ (l : List LaneView). lanes_fixed (ps ++ p ∷ []) ++ map fixed_of l) fewer
+          ∙ moved_first lane_fixed fixed_of ps p xs c.remove-lane.result some c.remove-lane.ensures.value (ap (λ (l : LaneView). fixed_of l) lane) ∙ inv.fixed;
+      seats = ap (λ (l : List (CachePadded (Runner g.row.C.Denot g.row.A.Denot))). seats_in l ++ c.remove-seat.new.self.items) all ∙ ap (λ (l : List SeatView). seats_in (ps ++ p ∷ []) ++ l) fewer_seats
+          ∙ seats_more ps p seats c.remove-seat.result c.args.seats.items some_seat c.remove-seat.ensures.value (ap (λ (r : Runner g.row.C.Denot g.row.A.Denot). r.seat) value ∙ made.parts.1) inv.seats;
+      new = subst (λ (l : List (CachePadded (Runner g.row.C.Denot g.row.A.Denot))). All (λ (q : CachePadded (Runner g.row.C.Denot g.row.A.Denot)). IsNew n (padded_value q)) l) (sym all)
+          (All-push (λ (q : CachePadded (Runner g.row.C.Denot g.row.A.Denot)). IsNew n (padded_value q)) ps p inv.new (subst (λ (r : Runner g.row.C.Denot g.row.A.Denot). IsNew n r) (sym value) (made.new n c.in_ok-belongings.ensures)));
+      listed = subst (λ (l : List (CachePadded (Runner g.row.C.Denot g.row.A.Denot))). AreListed c.args.listed l) (sym all)
+          (All-push (λ (q : CachePadded (Runner g.row.C.Denot g.row.A.Denot)). (padded_value q).listed ≡ c.args.listed) ps p inv.listed (ap (λ (r : Runner g.row.C.Denot g.row.A.Denot). r.listed) value ∙ made.parts.2));
+      count = omega arith;
+      seat_count = omega arith;
     }
+
+pub returns-clause-lanes : goal.returns-clause-lanes
+returns-clause-lanes g c =
+    let inv = c.each.invariant in
+    let n = inv.count in
+    let end = c.len-at-end.ensures in
+    let past = c.each-test.false in
+    let none : length c.each.lanes.items ≡ 0 = omega arith in
+    sym (append-nil (lanes_in c.each.runners.items)) ∙ ap (λ (l : List LaneView). lanes_in c.each.runners.items ++ map held_of l) (sym (nil_from_length c.each.lanes.items none)) ∙ inv.held
+
+pub returns-clause-fixed : goal.returns-clause-fixed
+returns-clause-fixed g c =
+    let inv = c.each.invariant in
+    let n = inv.count in
+    let end = c.len-at-end.ensures in
+    let past = c.each-test.false in
+    let none : length c.each.lanes.items ≡ 0 = omega arith in
+    sym (append-nil (lanes_fixed c.each.runners.items)) ∙ ap (λ (l : List LaneView). lanes_fixed c.each.runners.items ++ map fixed_of l) (sym (nil_from_length c.each.lanes.items none)) ∙ inv.fixed
+
+pub returns-clause-seats : goal.returns-clause-seats
+returns-clause-seats g c =
+    let inv = c.each.invariant in
+    let n = inv.count in
+    let m = inv.seat_count in
+    let end = c.len-at-end.ensures in
+    let past = c.each-test.false in
+    let none : length c.each.seats.items ≡ 0 = omega arith in
+    no_seats c.each.runners.items c.each.seats.items c.args.seats.items none inv.seats

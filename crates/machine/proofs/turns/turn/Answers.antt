@@ -3,18 +3,18 @@ use Rattle.machine.proofs.Keeping.{runs_on, keeps_twice}
 use Rattle.machine.proofs.turns.turn.Goals as goal
 
 pub hand_on-requires-clause-runs : goal.hand_on-requires-clause-runs
-hand_on-requires-clause-runs g c = runs_on {A = g.row.A.Denot} (setting_in g.C.Instructions.program g.C.Instructions.width c.args.setup.now) c.args.mesh.now c.args.runner.now c.work.new.runner c.requires.runs c.in_ok-halt.ensures.keeps
+hand_on-requires-clause-runs g c = runs_on {C = g.row.C.Denot} {A = g.row.A.Denot} (setting_in g.C.Instructions.program g.C.Instructions.width c.args.setup.now) c.args.mesh.now c.args.runner.now c.work.new.runner c.requires.runs c.in_ok-halt.ensures.keeps
 
 pub look-requires-clause-runs : goal.look-requires-clause-runs
 look-requires-clause-runs g c =
-    runs_on {A = g.row.A.Denot} (setting_in g.C.Instructions.program g.C.Instructions.width c.args.setup.now) c.args.mesh.now c.args.runner.now c.hand_on.new.runner c.requires.runs
-    (keeps_twice {A = g.row.A.Denot} (setting_in g.C.Instructions.program g.C.Instructions.width c.args.setup.now) c.args.mesh.now c.args.runner.now c.work.new.runner c.hand_on.new.runner c.in_ok-halt.ensures.keeps c.hand_on.ensures.keeps)
+    runs_on {C = g.row.C.Denot} {A = g.row.A.Denot} (setting_in g.C.Instructions.program g.C.Instructions.width c.args.setup.now) c.args.mesh.now c.args.runner.now c.hand_on.new.runner c.requires.runs
+    (keeps_twice {C = g.row.C.Denot} {A = g.row.A.Denot} (setting_in g.C.Instructions.program g.C.Instructions.width c.args.setup.now) c.args.mesh.now c.args.runner.now c.work.new.runner c.hand_on.new.runner c.in_ok-halt.ensures.keeps c.hand_on.ensures.keeps)
 
 pub returns-in-Ok-clause-keeps : goal.returns-in-Ok-clause-keeps
 returns-in-Ok-clause-keeps g c =
-    keeps_twice {A = g.row.A.Denot} (setting_in g.C.Instructions.program g.C.Instructions.width c.args.setup.now) c.args.mesh.now c.args.runner.now c.hand_on.new.runner c.look.new.runner
-    (keeps_twice {A = g.row.A.Denot} (setting_in g.C.Instructions.program g.C.Instructions.width c.args.setup.now) c.args.mesh.now c.args.runner.now c.work.new.runner c.hand_on.new.runner c.in_ok-halt.ensures.keeps c.hand_on.ensures.keeps)
+    keeps_twice {C = g.row.C.Denot} {A = g.row.A.Denot} (setting_in g.C.Instructions.program g.C.Instructions.width c.args.setup.now) c.args.mesh.now c.args.runner.now c.hand_on.new.runner c.look.new.runner
+    (keeps_twice {C = g.row.C.Denot} {A = g.row.A.Denot} (setting_in g.C.Instructions.program g.C.Instructions.width c.args.setup.now) c.args.mesh.now c.args.runner.now c.work.new.runner c.hand_on.new.runner c.in_ok-halt.ensures.keeps c.hand_on.ensures.keeps)
     c.look.ensures.keeps
 
 pub returns-in-Err-clause-keeps : goal.returns-in-Err-clause-keeps
-returns-in-Err-clause-keeps g c = keeps_twice {A = g.row.A.Denot} (setting_in g.C.Instructions.program g.C.Instructions.width c.args.setup.now) c.args.mesh.now c.args.runner.now c.work.new.runner c.hand_on.new.runner c.in_ok-halt.ensures.keeps c.hand_on.ensures.keeps
+returns-in-Err-clause-keeps g c = keeps_twice {C = g.row.C.Denot} {A = g.row.A.Denot} (setting_in g.C.Instructions.program g.C.Instructions.width c.args.setup.now) c.args.mesh.now c.args.runner.now c.work.new.runner c.hand_on.new.runner c.in_ok-halt.ensures.keeps c.hand_on.ensures.keeps
