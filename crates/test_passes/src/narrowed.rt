@@ -229,11 +229,9 @@ fn a_landing_of_a_loop_has_its_values_and_three_more(rt: HostRuntime) -> Result<
     match narrowed.program.blocks.first() {
         None => assert!(rt; false, "no block"),
         Some(block) => {
+            let wide = block.instrs.iter().skip(9).take(3);
             assert_eq!(rt; block.instrs.len(), 15);
-            for place in 9..12usize {
-                let instr = block.instrs.get(place).ok_or("an instruction")?;
-                assert!(rt; has_op(instr, Op::Copy));
-            }
+            assert!(rt; wide.fold(true, |all, instr| all && has_op(instr, Op::Copy)));
         }
     }
     Ok(())
