@@ -57,7 +57,7 @@ impl<'m, C: Instructions, A: Allocator> Model for Lane<'m, C, A> {
 }
 
 impl<'m, C: Instructions, A: Allocator> Lane<'m, C, A> {
-    /// A lane with no tokens, which may make so many events of this code, over the slots and the cells of its element, and on
+    /// A lane with no tokens, which may make `steps` events of this code, over the slots and the cells of its element, and on
     /// element 0 with the frame manager and as many outputs as main has.
     pub fn new(
         alloc: A,
