@@ -13,6 +13,14 @@ instrs_of (Some c) = c.instrs
 abbrev pub instrs_in : Plan → ℕ → List Instr
 instrs_in p b = instrs_of (slice_get p.program.blocks b)
 
+abbrev pub slots_of : Option CodeBlock → ℕ
+slots_of None = 0
+slots_of (Some c) = c.slots
+
+-- how many holders a block has
+abbrev pub holders_in : Plan → ℕ → ℕ
+holders_in p b = slots_of (slice_get p.program.blocks b)
+
 -- what the holder of an instruction does: a loop opens
 abbrev pub holding : Op → Op
 holding (Take k) = Open k

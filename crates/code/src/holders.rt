@@ -1,8 +1,7 @@
 //! The holders of a plan's slots.
 
 ghost use Rattle.std.specs.Prelude.{◌≡◌, option_map};
-ghost use Rattle.code.specs.Holders as Holders;
-ghost use Rattle.code.specs.Holders.{instrs_in, holding, held_by};
+ghost use Rattle.code.specs.Holders.{instrs_in, holders_in, holding, is_of, held_by};
 
 use crate::{Instr, Plan};
 use semantics::program::Op;
@@ -30,8 +29,8 @@ impl Holder {
 }
 
 // Whether the instruction has the holder of that number.
-fn is_of<A: Allocator>(instr: &Instr<A>, number: u32) -> bool
-    ensures { result ≡ Holders.is_of number instr.now }
+fn has_holder<A: Allocator>(instr: &Instr<A>, number: u32) -> bool
+    ensures { result ≡ is_of number instr.now }
 {
     instr.op.uses_slot() && instr.slot == number
 }
@@ -41,21 +40,51 @@ fn first_held<A: Allocator>(instrs: &[Instr<A>], number: u32) -> Option<Holder>
     ensures { option_map (λ h. h.op) result ≡ held_by instrs.now number }
 {
     for instr in instrs {
-        if is_of(instr, number) {
+        if has_holder(instr, number) {
             return Some(Holder::of(instr.op));
         }
     }
     None
 }
 
+/// The holders of a block, by number. Nothing is kept of them but the block's instructions, which say what they are.
+pub struct Holders<'p, A: Allocator> {
+    pub instrs: &'p [Instr<A>],
+    /// How many holders there are.
+    pub count: u32,
+}
+
+impl<'p, A: Allocator> Holders<'p, A> {
+    /// How many holders there are.
+    pub fn len(&self) -> u32
+        ensures { result ≡ self.now.count }
+    {
+        self.count
+    }
+
+    /// The holder of that number; none where no instruction has it.
+    pub fn get(&self, number: u32) -> Option<Holder>
+        ensures { option_map (λ h. h.op) result ≡ held_by self.now.instrs.now number }
+    {
+        first_held(self.instrs, number)
+    }
+}
+
 impl<A: Allocator> Plan<A> {
-    /// The holder of that number in that block; none where no instruction of the block has it.
-    pub fn holder(&self, block: usize, number: u32) -> Option<Holder>
-        ensures { option_map (λ h. h.op) result ≡ held_by (instrs_in self.now block) number }
+    /// The holders of that block; none where there is no such block.
+    pub fn holders(&self, block: usize) -> Holders<'_, A>
+        ensures instrs { result.instrs.now ≡ instrs_in self.now block }
+        ensures count { result.count ≡ holders_in self.now block }
     {
         match self.program.blocks.get(block) {
-            Some(found) => first_held(&found.instrs, number),
-            None => None,
+            Some(found) => Holders {
+                instrs: &found.instrs,
+                count: found.slots,
+            },
+            None => Holders {
+                instrs: &[],
+                count: 0,
+            },
         }
     }
 }

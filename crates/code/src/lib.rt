@@ -5,7 +5,7 @@
 ghost use Rattle.std.specs.Prelude.{◌≡◌, length, map, slice_get};
 ghost use Rattle.std.specs.Option.{option_copied};
 
-pub use holders::Holder;
+pub use holders::{Holder, Holders};
 use semantics::program::{Dest, Mark, Op};
 use std::alloc::Allocator;
 use std::marker::Model;

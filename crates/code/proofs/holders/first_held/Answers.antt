@@ -9,12 +9,12 @@ loop-instr-init g c = refl
 
 pub loop-instr-preserved : goal.loop-instr-preserved
 loop-instr-preserved g c =
-    sym (passed c.args.instrs.now c.args.number c.loop-instr.instr-index c.instr-item.result c.loop-instr-test.true c.instr-item.is c.if-is_of.ensures) ∙ c.loop-instr.invariant
+    sym (passed c.args.instrs.now c.args.number c.loop-instr.instr-index c.instr-item.result c.loop-instr-test.true c.instr-item.is c.if-has_holder.ensures) ∙ c.loop-instr.invariant
 
-pub returns-then-is_of : goal.returns-then-is_of
-returns-then-is_of g c =
+pub returns-then-has_holder : goal.returns-then-has_holder
+returns-then-has_holder g c =
     ap Some c.of.ensures ∙ ap (λ (i : Instr). Some (holding i.op)) c.instr.view_is
-    ∙ sym (found c.args.instrs.now c.args.number c.loop-instr.instr-index c.instr-item.result c.loop-instr-test.true c.instr-item.is c.if-is_of.ensures)
+    ∙ sym (found c.args.instrs.now c.args.number c.loop-instr.instr-index c.instr-item.result c.loop-instr-test.true c.instr-item.is c.if-has_holder.ensures)
     ∙ c.loop-instr.invariant
 
 pub returns : goal.returns
