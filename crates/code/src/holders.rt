@@ -48,6 +48,7 @@ fn first_held<A: Allocator>(instrs: &[Instr<A>], number: u32) -> Option<Holder>
 }
 
 /// The holders of a block, by number. Nothing is kept of them but the block's instructions, which say what they are.
+#[derive(Drop)]
 pub struct Holders<'p, A: Allocator> {
     pub instrs: &'p [Instr<A>],
     /// How many holders there are.
