@@ -1,6 +1,6 @@
 //! Plans made by hand, and which slots are good for them.
 
-use code::{Instr, Plan, Slots};
+use code::{Holder, Instr, Plan, Slots};
 use operators::Binary;
 use rationed::Rationed;
 use semantics::program::{Mark, Op};
@@ -127,6 +127,13 @@ const TWO_RETURNS: &[Line] = &[
     (Op::Return { offset: 1 }, 3, &[(1, R)], NONE),
     (Op::Sync, 4, &[(1, R)], NONE),
     (Op::Release { offset: 2 }, 5, NONE, NONE),
+];
+
+/// A give before the open of its loop.
+const CREDITS: &[Line] = &[
+    (Op::Copy, 0, NONE, NONE),
+    (Op::Give { bound: 3 }, 0, NONE, NONE),
+    (Op::Open { bound: 3 }, 0, NONE, NONE),
 ];
 
 /// A plan, which choices of slots are good for it and which are not, and which one is made, where that is said.
@@ -265,6 +272,42 @@ fn slots_are_good_or_crowded(rt: HostRuntime) -> Result<(), Fail> {
             assert_eq!(rt; slots.block(0), Some(wanted), "{name}");
         }
     }
+    Ok(())
+}
+
+#[test]
+fn holders_tell_what_they_do(rt: HostRuntime) -> Result<(), Fail> {
+    let alloc = rt.alloc();
+    let plan = lines_plan(alloc, 3, SUM, Mark::Unmarked)?;
+    let holders = plan.holders(0);
+    assert_eq!(rt; holders.len(), 3);
+    assert!(rt;
+        matches!(
+            holders.get(1),
+            Some(Holder {
+                op: Op::Return { offset: 0 }
+            })
+        )
+    );
+    assert!(rt;
+        matches!(
+            holders.get(2),
+            Some(Holder {
+                op: Op::Release { offset: 1 }
+            })
+        )
+    );
+    assert!(rt; holders.get(3).is_none());
+    assert_eq!(rt; plan.holders(1).len(), 0);
+    let credits = lines_plan(alloc, 1, CREDITS, Mark::Unmarked)?;
+    assert!(rt;
+        matches!(
+            credits.holders(0).get(0),
+            Some(Holder {
+                op: Op::Open { bound: 3 }
+            })
+        )
+    );
     Ok(())
 }
 

@@ -60,6 +60,10 @@ fn upgrades(rt: HostRuntime) {
     bytes[8] = 2;
     assert_eq!(rt; out.taken.as_slice(), bytes.as_slice());
     assert_eq!(rt; refusal(&out.taken), None);
+    let mut again = with_room(rt.alloc(), 152);
+    let upgraded = Object::open(&out.taken).expect(&rt, "it opens");
+    assert!(rt; upgrade(&upgraded, &mut again).is_ok());
+    assert_eq!(rt; again.taken.as_slice(), bytes.as_slice());
 }
 
 #[test]

@@ -122,8 +122,8 @@ impl<'a> Trials<'a> {
         self.judge(&mut Tally::new(), config, &run) != Verdict::Differs
     }
 
-    /// Whether a run in rounds agrees that has plenty of frames, on a number of elements that differs from graph to graph. Only
-    /// graphs of the part of calls have such a run, and it is not counted.
+    /// Whether a run in rounds agrees, and is not starved, that has plenty of frames, on a number of elements that differs from
+    /// graph to graph. Only graphs of the part of calls have such a run, and it is not counted.
     fn agrees_widely<R: Threads + Wait + Sync>(&mut self, rt: &R, alloc: Global) -> bool {
         let elements = match self.events % 3 {
             0 => 1,
@@ -133,6 +133,7 @@ impl<'a> Trials<'a> {
         let uncounted = &mut Tally::new();
         self.graph.part != Part::Calls
             || self.agrees_in(rt, alloc, uncounted, Mode::Rounds, config(elements, 256))
+                && !matches!(self.end, Some(End::Starved))
     }
 
     /// Makes a run in the order of a list, and compares it with the meaning.
