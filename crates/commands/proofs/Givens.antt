@@ -7,6 +7,7 @@ use Rattle.schedule.specs.declared.config.Config.{Config}
 use Rattle.schedule.specs.declared.config.StartFault.{StartFault}
 use Rattle.schedule.specs.Starts.{IsGood}
 use Rattle.oracle.specs.declared.report.MeanEnd.{MeanEnd}
+use Rattle.oracle.specs.Gathering.{waves_told}
 use Rattle.oracle.specs.Waves.{AreWavesOf}
 use Rattle.replay.specs.declared.moment.Moment.{Moment}
 use Rattle.profile_text.specs.declared.lines.MachineRow.{MachineRow}
@@ -130,6 +131,6 @@ module _ (input text : List ℕ) (inputs : List ℤ) (given : IsGiven input text
   rows_refused o s svg g e counts good waves f (inl memory) = no_room_for_profile o s svg f memory
   rows_refused o s svg g e counts good waves f (inr none) = stopped_profile o s svg f (inr ((g, e, counts, good, waves), none.0, none.1))
 
-  pub profile_of : (o : RunOptions) (s : Sizes) (svg : Bool) (g : Graph) (e : MeanEnd) (counts : List ℕ) (rows : List MachineRow) → IsGoodText text g → AreWavesOf g inputs o.steps e counts
+  pub profile_of : (o : RunOptions) (s : Sizes) (svg : Bool) (g : Graph) (e : MeanEnd) (counts : List ℕ) (rows : List MachineRow) → IsGoodText text g → AreWavesOf g inputs o.steps e counts → waves_told g inputs o.steps ≡ Some (e, counts)
       → (svg ≡ false → AreRows text inputs o (sizes_below s 64) rows) → IsProfileOf input o s svg g e counts rows
-  profile_of o s svg g e counts rows good waves machine = record { text = text; inputs = inputs; given = given; good = good; waves = waves; machine = machine }
+  profile_of o s svg g e counts rows good waves told machine = record { text = text; inputs = inputs; given = given; good = good; waves = waves; told = told; machine = machine }

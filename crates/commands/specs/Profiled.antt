@@ -1,9 +1,11 @@
 -- What `profile` prints: the waves of a graph's meaning, and what the machine took with each number of elements.
-use Rattle.std.specs.Prelude.{◌≡◌, ℕ, zero, suc, ◌+◌, ◌*◌, ◌<◌, ◌≤◌, Bool, true, false, ℤ, ◌⊎◌, List, [], ◌∷◌, ◌++◌, length, map, Option, Result, Ok, Err, if◌then◌else◌, ⊤}
+use Rattle.std.specs.Prelude.{◌≡◌, ◌≢◌, ℕ, zero, suc, ◌+◌, ◌*◌, ◌<◌, ◌≤◌, Bool, true, false, ℤ, ◌⊎◌, List, [], ◌∷◌, ◌++◌, length, map, Option, Some, Result, Ok, Err, if◌then◌else◌, ⊤}
 use Rattle.semantics.specs.Graph.{Graph}
+use Rattle.semantics.specs.declared.report.End.{End}
 use Rattle.semantics.specs.Report.{Report}
 use Rattle.schedule.specs.declared.config.Config.{Config}
 use Rattle.oracle.specs.declared.report.MeanEnd.{MeanEnd}
+use Rattle.oracle.specs.Gathering.{waves_told}
 use Rattle.oracle.specs.Waves.{AreWavesOf}
 use Rattle.replay.specs.declared.moment.Moment.{Moment}
 use Rattle.profile_text.specs.declared.lines.MachineRow.{MachineRow}
@@ -41,6 +43,8 @@ pub record IsRow (text : List ℕ) (inputs : List ℤ) (o : RunOptions) (element
   pub report : Report
   pub moments : List Moment
   pub watched : IsWatched Mode.Rounds text graph bytes inputs (config_with o elements) false report moments
+  -- no run is cut off because the list of its events could not grow
+  pub kept : report.end ≢ End.Memory
   pub number : row.elements ≡ elements
   pub rounds : length report.events ≤ row.rounds * elements
   pub tokens : row.tokens ≡ greatest_from (length inputs + 1) (map (held_in Held.Tokens) moments)
@@ -75,6 +79,8 @@ pub record IsProfileOf (input : List ℕ) (o : RunOptions) (z : Sizes) (svg : Bo
   pub given : IsGiven input text inputs
   pub good : IsGoodText text g
   pub waves : AreWavesOf g inputs o.steps end counts
+  -- the first of these that the definition comes to, which does one activity after the other
+  pub told : waves_told g inputs o.steps ≡ Some (end, counts)
   pub machine : svg ≡ false → AreRows text inputs o (sizes_below z 64) rows
 
 -- Why there is no profile: the first cause in the order of the work.

@@ -1,7 +1,8 @@
 //! How much parallelism a graph has.
 
-ghost use Rattle.std.specs.Prelude.{◌≡◌, ◌≤◌, ◌<◌, ◌+◌, ◌*◌, ◌⊎◌, false, length, map, IfErr, IfOk, MatchResult};
+ghost use Rattle.std.specs.Prelude.{◌≡◌, ◌≢◌, ◌≤◌, ◌<◌, ◌+◌, ◌*◌, ◌⊎◌, false, length, map, IfErr, IfOk, MatchResult};
 ghost use Rattle.profile_text.specs.Picture.{greatest_from};
+ghost use Rattle.semantics.specs.declared.report.End.{End};
 ghost use Rattle.sink.specs.Sends.{Sends};
 ghost use Rattle.commands.specs.declared.refusal.Refusal.{Refusal as Told};
 ghost use Rattle.driver.specs.Refused.{IsRefused};
@@ -20,6 +21,7 @@ use replay::Moment;
 use rounds::Gate;
 use schedule::config::Config;
 use schedule::report::Report;
+use semantics::report::End;
 use std::alloc::Allocator;
 use std::io::{self, Write};
 use std::sync::Wait;
@@ -131,7 +133,14 @@ fn count_events<A: Allocator>(report: &Report<A>) -> u64
     report.events.len() as u64
 }
 
-/// The row of a run on this number of elements.
+/// Whether the run was cut off because memory was refused. A list of events that could not grow is empty then.
+fn wants_memory<A: Allocator>(report: &Report<A>) -> bool
+    ensures { result ≡ false → report.now.end ≢ End.Memory }
+{
+    matches!(report.end, End::Memory)
+}
+
+/// The row of a run on this number of elements. A run that was refused memory has none.
 fn measure<R: Threads + Wait + Sync, A: Allocator + Clone + Send + Sync>(
     alloc: A,
     text: &[u8],
@@ -153,6 +162,9 @@ fn measure<R: Threads + Wait + Sync, A: Allocator + Clone + Send + Sync>(
         Ok(watched) => watched,
         Err(fault) => return Err(Refusal::from(fault)),
     };
+    if wants_memory(&run.report) {
+        return Err(Refusal::Memory);
+    }
     let counted = counter.rounds.load(Ordering::SeqCst);
     let events = count_events(&run.report);
     Ok(row_of(elements, inputs, counted, events, &moments))

@@ -18,6 +18,7 @@ returns g c =
       report = run.report;
       moments = moments;
       watched = subst (λ (d : Config). IsWatched Mode.Rounds c.args.text.now run.compiled.checked run.compiled.object.items c.args.inputs.now d _ run.report moments) c.config_with-config.ensures c.in-Ok.ensures;
+      kept = c.wants_memory.ensures c.if-wants_memory.false;
       number = c.row_of.ensures.number;
       rounds = subst (λ (n : ℕ). n ≤ c.row_of.result.rounds * c.args.elements) c.count_events-events.ensures c.row_of.ensures.rounds;
       tokens = subst (λ (l : List Moment). c.row_of.result.tokens ≡ greatest_from (length c.args.inputs.now + 1) (map (held_in Held.Tokens) l)) c.deref.ensures.value c.row_of.ensures.tokens;
