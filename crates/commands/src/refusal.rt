@@ -19,7 +19,7 @@ pub enum Refusal {
     Input,
     Read(ReadFault),
     Check(CheckFault),
-    /// The holders of the code block with this number do not fit into the slots of a frame.
+    /// In the code block with this number a holder finds no slot of a frame open, where each takes the least that it may share.
     TooManySlots(u64),
     /// The code block with this number is too long for an object, or has too many literals.
     TooFar(u64),

@@ -21,7 +21,7 @@ pub enum Fault {
     Read(ReadFault),
     /// The graph is not well formed: this is its first fault. Want of memory is never told so.
     Check(CheckFault),
-    /// The code block of this number is the first whose holders do not fit into the slots of a frame.
+    /// The code block of this number is the first in which a holder finds no slot of a frame open, where each takes the least that it may share.
     TooManySlots(u64),
     /// The code block with this number is the first that is too long for an object, or the first with which there are too many
     /// literals.
