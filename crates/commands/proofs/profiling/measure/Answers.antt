@@ -1,8 +1,9 @@
-use Rattle.std.proofs.Common.{ℕ, List, subst, ◌≡◌, ◌≤◌, ◌*◌, ◌+◌, length, map}
+use Rattle.std.proofs.Common.{ℕ, List, subst, ◌≡◌, ◌≤◌, ◌*◌, ◌+◌, length, map, refl}
 use Rattle.schedule.specs.declared.config.Config.{Config}
 use Rattle.replay.specs.declared.moment.Moment.{Moment}
 use Rattle.command_line.specs.declared.Mode.{Mode}
 use Rattle.profile_text.specs.Picture.{greatest_from}
+use Rattle.driver.specs.declared.fault.Fault.{Fault}
 use Rattle.driver.specs.Listed.{IsWatched}
 use Rattle.commands.specs.declared.profiling.Held.{Held}
 use Rattle.commands.specs.Profiled.{held_in}
@@ -25,3 +26,6 @@ returns g c =
       slots = subst (λ (l : List Moment). c.row_of.result.slots ≡ greatest_from 0 (map (held_in Held.Slots) l)) c.deref.ensures.value c.row_of.ensures.slots;
       frames = subst (λ (l : List Moment). c.row_of.result.frames ≡ greatest_from 1 (map (held_in Held.Frames) l)) c.deref.ensures.value c.row_of.ensures.frames;
     }
+
+pub returns-then-wants_memory : goal.returns-then-wants_memory
+returns-then-wants_memory g c = (Fault.Memory, tt, refl)
