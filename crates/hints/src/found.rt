@@ -4,7 +4,7 @@ use crate::cause::Cause;
 use crate::place::Place;
 
 /// A cause, and its place if that is known.
-#[derive(Clone, Copy, Debug)]
+#[derive(Clone, Copy)]
 pub struct Found<'a> {
     pub place: Option<Place<'a>>,
     pub cause: Cause<'a>,

@@ -1,6 +1,6 @@
 //! What is wrong with a graph that is not well formed, or that has no code.
 
-use crate::cause::{Cause, GraphCause};
+use crate::cause::{CallCause, Cause, GraphCause, NodeCause, RegionCause};
 use crate::found::Found;
 use crate::graphs::{
     block_line, block_named, coded_block, is_earlier_cond, node_at, node_count, ports_of,
@@ -28,16 +28,16 @@ fn region_cause<'a, A: Allocator>(
     block: &Block<'a, A>,
     number: u64,
     node: &Node<'a, A>,
-) -> Option<GraphCause<'a>> {
+) -> Option<RegionCause> {
     match (node.region, &node.kind) {
         (Region::Arm { cond, .. }, _) if !is_earlier_cond(block, number, cond) => {
-            Some(GraphCause::NoCond { node: cond })
+            Some(RegionCause::NoCond { node: cond })
         }
-        (_, Kind::Enter) => Some(GraphCause::EnterInRoot),
+        (_, Kind::Enter) => Some(RegionCause::EnterInRoot),
         (region, Kind::Merge { cond }) => {
             let cond = *cond;
             if is_earlier_cond(block, number, cond) {
-                Some(GraphCause::MergeElsewhere {
+                Some(RegionCause::MergeElsewhere {
                     node: cond,
                     lies: Lying {
                         region: region_of(block, cond),
@@ -45,7 +45,7 @@ fn region_cause<'a, A: Allocator>(
                     here: Lying { region },
                 })
             } else {
-                Some(GraphCause::NoCond { node: cond })
+                Some(RegionCause::NoCond { node: cond })
             }
         }
         _ => None,
@@ -68,7 +68,7 @@ fn name_cause<'a>(kind: &Kind<Name<'a>>) -> Option<GraphCause<'a>> {
 fn arity_cause<'a, A: Allocator>(
     graph: &Graph<'a, A>,
     node: &Node<'a, A>,
-) -> Option<GraphCause<'a>> {
+) -> Option<CallCause<'a>> {
     let (Kind::Call { block } | Kind::StrictCall { block } | Kind::Loop { block, .. }) = &node.kind
     else {
         return None;
@@ -77,13 +77,13 @@ fn arity_cause<'a, A: Allocator>(
     let name = shown(block);
     let has = node.sources.len() as u64;
     if has == u64::from(named.inputs) {
-        Some(GraphCause::LoopShape {
+        Some(CallCause::LoopShape {
             name,
             inputs: many(has, "input"),
             outputs: many(u64::from(named.outputs), "output"),
         })
     } else {
-        Some(GraphCause::BlockSources {
+        Some(CallCause::BlockSources {
             name,
             wants: many(u64::from(named.inputs), "input"),
             has: many(has, "source"),
@@ -92,10 +92,10 @@ fn arity_cause<'a, A: Allocator>(
 }
 
 /// The first source whose node is not earlier than node `number`.
-fn late_source<'a>(sources: &[Source], number: u64) -> Option<GraphCause<'a>> {
+fn late_source(sources: &[Source], number: u64) -> Option<NodeCause> {
     for source in sources {
         if u64::from(source.node) >= number {
-            return Some(GraphCause::NotEarlier {
+            return Some(NodeCause::NotEarlier {
                 source: Spelled { source: *source },
                 node: number,
             });
@@ -109,11 +109,11 @@ fn portless_source<'a, A: Allocator>(
     graph: &Graph<'a, A>,
     block: &Block<'a, A>,
     sources: &[Source],
-) -> Option<GraphCause<'a>> {
+) -> Option<NodeCause> {
     for source in sources {
         let ports = ports_of(graph, block, *source);
         if u64::from(source.port) >= ports {
-            return Some(GraphCause::NoSuchPort {
+            return Some(NodeCause::NoSuchPort {
                 port: source.port,
                 node: source.node,
                 ports: many(ports, "output port"),
@@ -127,12 +127,12 @@ fn portless_source<'a, A: Allocator>(
 fn crossing_source<'a, A: Allocator>(
     block: &Block<'a, A>,
     node: &Node<'a, A>,
-) -> Option<GraphCause<'a>> {
+) -> Option<NodeCause> {
     for (place, source) in node.sources.iter().enumerate() {
         let wanted = wanted_region(block, node, place);
         let lies = region_of(block, source.node);
         if lies != wanted {
-            return Some(GraphCause::Crosses {
+            return Some(NodeCause::Crosses {
                 source: Spelled { source: *source },
                 lies: Lying { region: lies },
                 wanted: Lying { region: wanted },
@@ -143,17 +143,36 @@ fn crossing_source<'a, A: Allocator>(
 }
 
 /// The first result whose node lies in an arm.
-fn unrooted_result<'a, A: Allocator>(block: &Block<'a, A>) -> Option<GraphCause<'a>> {
+fn unrooted_result<'a, A: Allocator>(block: &Block<'a, A>) -> Option<NodeCause> {
     for source in &block.results {
         let region = region_of(block, source.node);
         if region != Region::Root {
-            return Some(GraphCause::OutNotRoot {
+            return Some(NodeCause::OutNotRoot {
                 source: Spelled { source: *source },
                 lies: Lying { region },
             });
         }
     }
     None
+}
+
+fn bound_cause<'a>(kind: &Kind<Name<'a>>) -> Option<CallCause<'a>> {
+    match kind {
+        Kind::Loop { bound, .. } => Some(CallCause::Bound { bound: *bound }),
+        _ => None,
+    }
+}
+
+fn of_call<'a>(cause: Option<CallCause<'a>>) -> Option<Cause<'a>> {
+    Some(Cause::Graph(GraphCause::Call(cause?)))
+}
+
+fn of_region<'a>(cause: Option<RegionCause>) -> Option<Cause<'a>> {
+    Some(Cause::Node(NodeCause::Region(cause?)))
+}
+
+fn of_node<'a>(cause: Option<NodeCause>) -> Option<Cause<'a>> {
+    Some(Cause::Node(cause?))
 }
 
 /// The cause of a fault of kind `kind` at node `number`.
@@ -163,18 +182,15 @@ fn node_cause<'a, A: Allocator>(
     number: u64,
     node: &Node<'a, A>,
     kind: CheckFaultKind,
-) -> Option<GraphCause<'a>> {
+) -> Option<Cause<'a>> {
     match kind {
-        CheckFaultKind::BadRegion => region_cause(block, number, node),
-        CheckFaultKind::NoSuchName => name_cause(&node.kind),
-        CheckFaultKind::Arity => arity_cause(graph, node),
-        CheckFaultKind::BadBound => match &node.kind {
-            Kind::Loop { bound, .. } => Some(GraphCause::Bound { bound: *bound }),
-            _ => None,
-        },
-        CheckFaultKind::SourceNotEarlier => late_source(&node.sources, number),
-        CheckFaultKind::NoSuchPort => portless_source(graph, block, &node.sources),
-        CheckFaultKind::CrossesRegion => crossing_source(block, node),
+        CheckFaultKind::BadRegion => of_region(region_cause(block, number, node)),
+        CheckFaultKind::NoSuchName => Some(Cause::Graph(name_cause(&node.kind)?)),
+        CheckFaultKind::Arity => of_call(arity_cause(graph, node)),
+        CheckFaultKind::BadBound => of_call(bound_cause(&node.kind)),
+        CheckFaultKind::SourceNotEarlier => of_node(late_source(&node.sources, number)),
+        CheckFaultKind::NoSuchPort => of_node(portless_source(graph, block, &node.sources)),
+        CheckFaultKind::CrossesRegion => of_node(crossing_source(block, node)),
         _ => None,
     }
 }
@@ -184,16 +200,18 @@ fn results_cause<'a, A: Allocator>(
     graph: &Graph<'a, A>,
     block: &Block<'a, A>,
     kind: CheckFaultKind,
-) -> Option<GraphCause<'a>> {
+) -> Option<Cause<'a>> {
     match kind {
-        CheckFaultKind::Arity => Some(GraphCause::BlockSources {
+        CheckFaultKind::Arity => of_call(Some(CallCause::BlockSources {
             name: shown(&block.name),
             wants: many(u64::from(block.outputs), "output"),
             has: many(block.results.len() as u64, "source"),
-        }),
-        CheckFaultKind::SourceNotEarlier => late_source(&block.results, node_count(block)),
-        CheckFaultKind::NoSuchPort => portless_source(graph, block, &block.results),
-        CheckFaultKind::OutNotRoot => unrooted_result(block),
+        })),
+        CheckFaultKind::SourceNotEarlier => {
+            of_node(late_source(&block.results, node_count(block)))
+        }
+        CheckFaultKind::NoSuchPort => of_node(portless_source(graph, block, &block.results)),
+        CheckFaultKind::OutNotRoot => of_node(unrooted_result(block)),
         _ => None,
     }
 }
@@ -224,26 +242,38 @@ fn in_line<'a, A: Allocator>(
     text: Shown<'a>,
 ) -> Option<Found<'a>> {
     let name = shown(&block.name);
-    let (place, cause) = match node_at(block, number) {
-        Some(node) => (
-            Place::Node {
-                block: name,
-                node: number,
-                line,
-                text,
-            },
-            node_cause(graph, block, number, node, kind)?,
-        ),
-        None => (
-            Place::Block {
-                block: name,
-                line,
-                text,
-            },
-            results_cause(graph, block, kind)?,
-        ),
+    match node_at(block, number) {
+        Some(node) => {
+            let cause = node_cause(graph, block, number, node, kind)?;
+            Some(at_node(name, number, line, text, cause))
+        }
+        None => {
+            let cause = results_cause(graph, block, kind)?;
+            let block = name;
+            Some(Found::at(Place::Block { block, line, text }, cause))
+        }
+    }
+}
+
+fn at_node<'a>(
+    block: Shown<'a>,
+    node: u64,
+    line: u64,
+    text: Shown<'a>,
+    cause: Cause<'a>,
+) -> Found<'a> {
+    let place = Place::Node {
+        block,
+        node,
+        line,
+        text,
     };
-    Some(Found::at(place, Cause::Graph(cause)))
+    Found::at(place, cause)
+}
+
+fn at_line<'a>(line: u64, bytes: &'a [u8], cause: GraphCause<'a>) -> Found<'a> {
+    let text = Shown { bytes };
+    Found::at(Place::Line { line, text }, Cause::Graph(cause))
 }
 
 /// A fault in block number `place`: at a node, at the line of results, or at the line of the block itself.
@@ -257,10 +287,8 @@ fn in_block<'a, A: Allocator>(
     let block = graph.blocks.get(place as usize)?;
     let first = block_line(graph, place);
     let Some(number) = node else {
-        let bytes = line_at(text, first);
-        let cause = Cause::Graph(block_cause(block, kind)?);
-        let text = Shown { bytes };
-        return Some(Found::at(Place::Line { line: first, text }, cause));
+        let cause = block_cause(block, kind)?;
+        return Some(at_line(first, line_at(text, first), cause));
     };
     let behind = number.saturating_sub(u64::from(block.inputs));
     let line = first.saturating_add(behind).saturating_add(1);
@@ -289,19 +317,19 @@ fn outside<'a, A: Allocator>(
     text: &'a [u8],
     kind: CheckFaultKind,
 ) -> Option<Found<'a>> {
-    let (line, cause) = match kind {
-        CheckFaultKind::SameName => same_array(graph)?,
+    match kind {
+        CheckFaultKind::SameName => {
+            let (line, cause) = same_array(graph)?;
+            Some(at_line(line, line_at(text, line), cause))
+        }
         CheckFaultKind::NoSuchName => {
             let name = shown(&graph.main);
-            let blocks = graph.blocks.len() as u64;
-            (block_line(graph, blocks), GraphCause::NoMainBlock { name })
+            let line = block_line(graph, graph.blocks.len() as u64);
+            let cause = GraphCause::NoMainBlock { name };
+            Some(at_line(line, line_at(text, line), cause))
         }
-        _ => return None,
-    };
-    let text = Shown {
-        bytes: line_at(text, line),
-    };
-    Some(Found::at(Place::Line { line, text }, Cause::Graph(cause)))
+        _ => None,
+    }
 }
 
 /// Why the graph of the text is not well formed: a fault of kind `kind` at block `block` and node `node`. `None` also where

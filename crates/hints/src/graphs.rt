@@ -100,10 +100,24 @@ pub fn wanted_region<A: Allocator>(
 }
 
 fn loops_to<'a, A: Allocator>(block: &Block<'a, A>, name: &Name<'a>) -> bool {
-    block.nodes.iter().any(|node| match &node.kind {
-        Kind::Loop { block, .. } => block.bytes == name.bytes,
-        _ => false,
-    })
+    for node in &block.nodes {
+        if let Kind::Loop { block, .. } = &node.kind {
+            if block.bytes == name.bytes {
+                return true;
+            }
+        }
+    }
+    false
+}
+
+/// Whether some loop of the graph names this block.
+fn is_looped<'a, A: Allocator>(graph: &Graph<'a, A>, name: &Name<'a>) -> bool {
+    for block in &graph.blocks {
+        if loops_to(block, name) {
+            return true;
+        }
+    }
+    false
 }
 
 /// The block that code block `number` belongs to, and whether that is the code of its iterations. The plain codes of all blocks
@@ -117,11 +131,7 @@ pub fn coded_block<'g, 'a, A: Allocator>(
     }
     let mut before = graph.blocks.len() as u64;
     for looped in &graph.blocks {
-        if graph
-            .blocks
-            .iter()
-            .any(|block| loops_to(block, &looped.name))
-        {
+        if is_looped(graph, &looped.name) {
             if before == number {
                 return Some((looped, true));
             }

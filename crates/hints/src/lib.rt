@@ -17,6 +17,7 @@ mod kinds;
 mod line;
 mod line_faults;
 mod lines;
+mod message;
 mod mistakes;
 mod object_faults;
 mod object_words;
@@ -33,6 +34,7 @@ use graph_faults::{code_fault, graph_fault};
 pub use keeping::{KeepingReader, KeepingWriter};
 pub use line::{Hint, Line};
 use lines::split_graph;
+use message::Message;
 use object_faults::object_fault;
 use outcome::{Outcome, outcome_of};
 use runs::{end_cause, input_fault, memory_cause, start_fault};
@@ -198,18 +200,19 @@ fn cause_of<'a, S: AsStr, A: Allocator + Clone>(
     }
 }
 
+/// The line that shows this message.
+fn line_of<A: Allocator + Clone>(alloc: A, message: &Message<'_>) -> Result<Line<A>, AllocError> {
+    let text = format!(in alloc.clone()?; "{message}")?;
+    Line::of(alloc, text.as_str())
+}
+
 /// The hint that tells this cause.
 fn hint_of<A: Allocator + Clone>(alloc: A, found: &Found<'_>) -> Result<Hint<A>, AllocError> {
     let place = match found.place {
-        Some(place) => {
-            let text = format!(in alloc.clone()?; "{place}")?;
-            Some(Line::of(alloc.clone()?, text.as_str())?)
-        }
+        Some(place) => Some(line_of(alloc.clone()?, &place.message())?),
         None => None,
     };
-    let cause = found.cause;
-    let text = format!(in alloc.clone()?; "{cause}")?;
-    let cause = Line::of(alloc, text.as_str())?;
+    let cause = line_of(alloc, &found.cause.message())?;
     Ok(Hint { place, cause })
 }
 

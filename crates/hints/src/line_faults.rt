@@ -1,9 +1,9 @@
 //! What is wrong with a line of a graph's text, for each kind of fault.
 
-use crate::cause::{Cause, FieldCause, TextCause};
+use crate::cause::{Cause, FieldCause, FormCause, LineCause, TextCause};
 use crate::field_faults::{length_fault, literal_fault, name_fault, number_fault, source_fault};
-use crate::kinds::{outer_form, shape_of};
-use crate::lines::{Context, SPACE, Spot, field_at, field_count};
+use crate::kinds::{Shape, outer_form, shape_of};
+use crate::lines::{Context, SPACE, Spot, field_at, field_count, text_at};
 use crate::shown::{Many, Shown};
 
 /// The most sources of a line, and the most inputs and the most outputs of a block.
@@ -17,48 +17,45 @@ fn fields_behind(line: &[u8], before: u64) -> Many {
 }
 
 /// The cause for the first byte that no line may contain.
-fn stray_byte(line: &[u8]) -> Option<TextCause<'_>> {
+fn stray_byte(line: &[u8]) -> Option<LineCause<'_>> {
     let place = line.iter().position(|byte| !matches!(*byte, b' '..=b'~'))?;
     let column = (place as u64).saturating_add(1);
     match line.get(place).copied()? {
-        b'\r' => Some(TextCause::CarriageReturn),
-        b'\t' => Some(TextCause::Tab { column }),
-        byte => Some(TextCause::StrayByte { byte, column }),
+        b'\r' => Some(LineCause::CarriageReturn),
+        b'\t' => Some(LineCause::Tab { column }),
+        byte => Some(LineCause::StrayByte { byte, column }),
     }
 }
 
 /// The cause for the first space that does not separate two fields.
-fn spacing(line: &[u8]) -> Option<TextCause<'_>> {
+fn spacing(line: &[u8]) -> Option<LineCause<'_>> {
     let mut is_fresh = true;
     let mut column = 0u64;
     for byte in line {
         column = column.saturating_add(1);
         if *byte == SPACE && is_fresh {
-            return Some(TextCause::Spacing { column });
+            return Some(LineCause::Spacing { column });
         }
         is_fresh = *byte == SPACE;
     }
     if is_fresh {
-        Some(TextCause::Spacing { column })
+        Some(LineCause::Spacing { column })
     } else {
         None
     }
 }
 
 /// The cause for a line that has none of the forms that may stand outside a block.
-fn outside<'a>(line: &'a [u8], word: &'a [u8], spot: Spot) -> TextCause<'a> {
-    let word = Shown { bytes: word };
-    match outer_form(word.bytes) {
-        Some(_form) if word.bytes == b"array".as_slice() && spot == Spot::Blocks => {
-            TextCause::ArrayAfterBlock
-        }
-        Some(form) => TextCause::Form {
-            form,
-            word,
-            has: fields_behind(line, 1),
-        },
-        None => TextCause::Outside { word },
+fn outside<'a>(line: &'a [u8], bytes: &'a [u8], spot: Spot) -> Cause<'a> {
+    let word = Shown { bytes };
+    let Some(form) = outer_form(bytes) else {
+        return Cause::Line(LineCause::Outside { word });
+    };
+    if spot == Spot::Blocks && bytes == b"array".as_slice() {
+        return Cause::Line(LineCause::ArrayAfterBlock);
     }
+    let has = fields_behind(line, 1);
+    Cause::Form(FormCause::Form { form, word, has })
 }
 
 fn is_region(word: &[u8]) -> bool {
@@ -70,20 +67,24 @@ fn is_region(word: &[u8]) -> bool {
 }
 
 /// The cause for a node line with a good region but with none of the forms that may stand there.
-fn kind_cause<'a>(line: &'a [u8], is_second: bool) -> TextCause<'a> {
+fn kind_cause<'a>(line: &'a [u8], is_second: bool) -> FormCause<'a> {
     let Some(kind) = field_at(line, 1) else {
-        return TextCause::NoKind;
+        return FormCause::NoKind;
     };
     let word = Shown { bytes: kind };
     if kind == b"scall".as_slice() && !is_second {
-        return TextCause::StrictCall;
+        return FormCause::StrictCall;
     }
     let Some(shape) = shape_of(kind) else {
-        return TextCause::Kind { word };
+        return FormCause::Kind { word };
     };
-    let has = fields_behind(line, 2);
+    shape_cause(shape, word, fields_behind(line, 2))
+}
+
+/// The cause for a node line of kind `word` that does not have this shape.
+fn shape_cause<'a>(shape: Shape, word: Shown<'a>, has: Many) -> FormCause<'a> {
     match shape.sources {
-        Some(count) if shape.operands == 0 => TextCause::Sources {
+        Some(count) if shape.operands == 0 => FormCause::Sources {
             word,
             wants: Many {
                 count,
@@ -91,7 +92,7 @@ fn kind_cause<'a>(line: &'a [u8], is_second: bool) -> TextCause<'a> {
             },
             has: has.count,
         },
-        _ => TextCause::Form {
+        _ => FormCause::Form {
             form: shape.form,
             word,
             has,
@@ -105,43 +106,43 @@ fn inside<'a>(
     bytes: &'a [u8],
     context: &Context<'a>,
     is_second: bool,
-) -> TextCause<'a> {
+) -> Cause<'a> {
     let word = Shown { bytes };
     if bytes == b"end".as_slice() || outer_form(bytes).is_some() {
-        return TextCause::Inside {
-            word,
-            block: Shown {
-                bytes: context.block,
-            },
+        let block = Shown {
+            bytes: context.block,
         };
+        return Cause::Line(LineCause::Inside { word, block });
     }
-    if is_region(bytes) {
-        return kind_cause(line, is_second);
-    }
-    match shape_of(bytes) {
-        Some(_shape) => TextCause::NoRegion { word },
-        None => TextCause::Region { word },
-    }
+    let cause = if is_region(bytes) {
+        kind_cause(line, is_second)
+    } else if shape_of(bytes).is_some() {
+        FormCause::NoRegion { word }
+    } else {
+        FormCause::Region { word }
+    };
+    Cause::Form(cause)
 }
 
 /// The cause for a line that has none of the forms that may stand at its place. `is_second` says that the text has the header
 /// of version 2.
-pub fn bad_line<'a>(line: &'a [u8], context: &Context<'a>, is_second: bool) -> TextCause<'a> {
+pub fn bad_line<'a>(line: &'a [u8], context: &Context<'a>, is_second: bool) -> Cause<'a> {
     if line.is_empty() || line.starts_with(b"#") {
-        return TextCause::EmptyLine;
+        return Cause::Line(LineCause::EmptyLine);
     }
     if let Some(cause) = stray_byte(line).or(spacing(line)) {
-        return cause;
+        return Cause::Line(cause);
     }
     let word = field_at(line, 0).unwrap_or(line);
     match context.spot {
         Spot::Arrays | Spot::Blocks => outside(line, word, context.spot),
         Spot::Nodes => inside(line, word, context, is_second),
-        Spot::Closing => TextCause::EndWanted {
-            block: Shown {
+        Spot::Closing => {
+            let block = Shown {
                 bytes: context.block,
-            },
-        },
+            };
+            Cause::Line(LineCause::EndWanted { block })
+        }
     }
 }
 
@@ -158,23 +159,23 @@ fn source_from(line: &[u8], first: usize) -> Option<FieldCause<'_>> {
 
 /// The first bad number, literal or source of a node line.
 fn node_number(line: &[u8]) -> Option<FieldCause<'_>> {
-    match field_at(line, 1)? {
-        b"lit" => literal_fault(field_at(line, 2)?).or(source_from(line, 3)),
-        b"merge" => number_fault(field_at(line, 2)?).or(source_from(line, 3)),
-        b"loop" => number_fault(field_at(line, 3)?).or(source_from(line, 4)),
-        b"fetch" | b"store" | b"call" | b"scall" => source_from(line, 3),
+    match text_at(line, 1).unwrap_or("") {
+        "lit" => literal_fault(field_at(line, 2)?).or(source_from(line, 3)),
+        "merge" => number_fault(field_at(line, 2)?).or(source_from(line, 3)),
+        "loop" => number_fault(field_at(line, 3)?).or(source_from(line, 4)),
+        "fetch" | "store" | "call" | "scall" => source_from(line, 3),
         _ => source_from(line, 2),
     }
 }
 
 /// The first bad number, literal or source of a line.
 pub fn bad_number<'a>(line: &'a [u8], context: &Context<'a>) -> Option<FieldCause<'a>> {
-    match (context.spot, field_at(line, 0)?) {
-        (Spot::Arrays | Spot::Blocks, b"array") => length_fault(field_at(line, 2)?),
+    match (context.spot, text_at(line, 0).unwrap_or("")) {
+        (Spot::Arrays | Spot::Blocks, "array") => length_fault(field_at(line, 2)?),
         (Spot::Arrays | Spot::Blocks, _) => {
             number_fault(field_at(line, 2)?).or(number_fault(field_at(line, 3)?))
         }
-        (_, b"out") => source_from(line, 1),
+        (_, "out") => source_from(line, 1),
         _ => node_number(line),
     }
 }
@@ -211,8 +212,8 @@ pub fn too_many<'a>(line: &'a [u8], context: &Context<'a>) -> TextCause<'a> {
     if context.spot != Spot::Nodes {
         return outer_limit(line, context);
     }
-    let (operands, before) = match field_at(line, 0) {
-        Some(b"out") => (0, 1),
+    let (operands, before) = match text_at(line, 0) {
+        Some("out") => (0, 1),
         _ => {
             let shape = shape_of(field_at(line, 1).unwrap_or(b""));
             (shape.map_or(0, |shape| shape.operands), 2)
@@ -226,9 +227,12 @@ pub fn too_many<'a>(line: &'a [u8], context: &Context<'a>) -> TextCause<'a> {
     }
 }
 
-/// The cause that is told where the bad field was not found.
-pub fn unknown_field<'a>(line: &'a [u8]) -> Cause<'a> {
-    Cause::Field(FieldCause::Number {
-        field: Shown { bytes: line },
-    })
+/// This cause; where the bad field was not found, that the line is no number.
+pub fn field_cause<'a>(found: Option<FieldCause<'a>>, line: &'a [u8]) -> Cause<'a> {
+    match found {
+        Some(cause) => Cause::Field(cause),
+        None => Cause::Field(FieldCause::Number {
+            field: Shown { bytes: line },
+        }),
+    }
 }

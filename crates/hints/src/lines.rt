@@ -1,5 +1,7 @@
 //! The lines of a text, their fields, and where in a graph a line stands.
 
+use std::str;
+
 /// The byte between two fields.
 pub const SPACE: u8 = b' ';
 /// The byte at the end of a line.
@@ -15,6 +17,11 @@ pub fn line_at(text: &[u8], number: u64) -> &[u8] {
 /// The field at `place` in a line, counted from 0.
 pub fn field_at(line: &[u8], place: usize) -> Option<&[u8]> {
     line.split(|byte| *byte == SPACE).nth(place)
+}
+
+/// The field at `place` in a line, where that is text.
+pub fn text_at(line: &[u8], place: usize) -> Option<&str> {
+    str::from_utf8(field_at(line, place)?).ok()
 }
 
 /// How many fields a line has.
@@ -38,7 +45,7 @@ pub fn split_graph(input: &[u8]) -> (&[u8], &[u8]) {
 }
 
 /// Where in a graph a line stands.
-#[derive(Clone, Copy, Debug, PartialEq, Eq)]
+#[derive(Clone, Copy, PartialEq, Eq)]
 pub enum Spot {
     /// Outside a block, before the first one.
     Arrays,
@@ -51,7 +58,7 @@ pub enum Spot {
 }
 
 /// What the lines before a line of a graph say.
-#[derive(Clone, Copy, Debug)]
+#[derive(Clone, Copy)]
 pub struct Context<'a> {
     pub spot: Spot,
     /// The name in the last `block` line.
@@ -65,22 +72,22 @@ pub struct Context<'a> {
 impl<'a> Context<'a> {
     /// The context after this line as well.
     fn behind(self, line: &'a [u8]) -> Context<'a> {
-        match (self.spot, field_at(line, 0)) {
-            (Spot::Arrays, Some(b"array")) => Context {
+        match (self.spot, text_at(line, 0).unwrap_or("")) {
+            (Spot::Arrays, "array") => Context {
                 arrays: self.arrays.saturating_add(1),
                 ..self
             },
-            (Spot::Arrays | Spot::Blocks, Some(b"block")) => Context {
+            (Spot::Arrays | Spot::Blocks, "block") => Context {
                 spot: Spot::Nodes,
                 block: field_at(line, 1).unwrap_or(b""),
                 blocks: self.blocks.saturating_add(1),
                 ..self
             },
-            (Spot::Nodes, Some(b"out")) => Context {
+            (Spot::Nodes, "out") => Context {
                 spot: Spot::Closing,
                 ..self
             },
-            (Spot::Closing, Some(b"end")) => Context {
+            (Spot::Closing, "end") => Context {
                 spot: Spot::Blocks,
                 ..self
             },

@@ -1,6 +1,6 @@
 //! What is wrong with bytes that are not an object.
 
-use crate::cause::{Cause, ObjectCause};
+use crate::cause::{Cause, InstrCause, ObjectCause, OperandCause};
 use crate::found::Found;
 use crate::object_words::{Entry, HALF, HEADER, Header, Instr, word_at};
 use crate::place::Place;
@@ -29,32 +29,43 @@ struct Within {
     place: u64,
 }
 
-fn unless(holds: bool, cause: ObjectCause) -> Option<ObjectCause> {
+fn unless(holds: bool, cause: InstrCause) -> Option<InstrCause> {
     if holds { None } else { Some(cause) }
 }
 
+/// The same for the second word of an instruction.
+fn unless_operand(holds: bool, cause: OperandCause) -> Option<InstrCause> {
+    unless(holds, InstrCause::Operand(cause))
+}
+
 fn range(what: &'static str, value: u64, least: u64, most: u64) -> Option<ObjectCause> {
-    unless(
-        least <= value && value <= most,
-        ObjectCause::Range {
+    if least <= value && value <= most {
+        None
+    } else {
+        Some(ObjectCause::Range {
             what,
             value,
             least,
             most,
-        },
-    )
+        })
+    }
 }
 
 /// The cause for `number`, where there are only `count` of these things.
-fn numbered(noun: &'static str, number: u64, count: u64) -> Option<ObjectCause> {
+fn numbered(noun: &'static str, number: u64, count: u64) -> Option<InstrCause> {
     let has = Many { count, noun };
-    unless(number < count, ObjectCause::Numbered { noun, number, has })
+    unless_operand(number < count, OperandCause::Numbered { noun, number, has })
 }
 
 /// A cause at word number `place`.
 fn at_word<'a>(place: u64, cause: ObjectCause) -> Found<'a> {
     let offset = place.saturating_mul(8);
     Found::at(Place::Byte { offset }, Cause::Object(cause))
+}
+
+/// A cause that lies in no one word.
+fn at_all<'a>(cause: ObjectCause) -> Found<'a> {
+    Found::nowhere(Cause::Object(cause))
 }
 
 fn header_cause(header: &Header) -> Option<(u64, ObjectCause)> {
@@ -67,10 +78,15 @@ fn header_cause(header: &Header) -> Option<(u64, ObjectCause)> {
     if let Some(cause) = range("arrays", header.arrays, 0, 64) {
         return Some((4, cause));
     }
-    match numbered("code block", header.main, header.blocks) {
-        Some(cause) => Some((5, cause)),
-        None => None,
+    let main = header.main;
+    if main < header.blocks {
+        return None;
     }
+    let has = Many {
+        count: header.blocks,
+        noun: "code block",
+    };
+    Some((5, ObjectCause::NoMain { main, has }))
 }
 
 fn entry_cause(entry: &Entry) -> Option<ObjectCause> {
@@ -153,48 +169,52 @@ impl<'a> Tables<'a> {
         self.array_cause()
     }
 
-    fn operand_cause(&self, instr: Instr) -> Option<ObjectCause> {
+    fn operand_cause(&self, instr: Instr) -> Option<InstrCause> {
         let (operand, origin) = instr.parts(self.header.version);
         let is_half = self.header.version == 1 || operand < HALF;
         let fits = instr.may_have(operand) && is_half;
-        let cause = ObjectCause::Operand {
+        let cause = OperandCause::Unknown {
             opcode: instr.opcode,
             operand,
         };
-        unless(fits, cause).or(range("the origin", origin, 0, ORIGINS))
+        let most = ORIGINS;
+        unless_operand(fits, cause).or(unless_operand(
+            origin <= most,
+            OperandCause::Origin { origin, most },
+        ))
     }
 
-    fn slot_cause(&self, instr: Instr, within: Within) -> Option<ObjectCause> {
+    fn slot_cause(&self, instr: Instr, within: Within) -> Option<InstrCause> {
         let Instr { opcode, slot, .. } = instr;
         if instr.has_slot() {
             let slots = Many {
                 count: within.slots,
                 noun: "slot",
             };
-            unless(slot < within.slots, ObjectCause::Slot { slot, slots })
+            unless(slot < within.slots, InstrCause::Slot { slot, slots })
         } else {
-            unless(slot == 0, ObjectCause::NoSlot { opcode, slot })
+            unless(slot == 0, InstrCause::NoSlot { opcode, slot })
         }
     }
 
-    fn destination_cause(&self, half: u64, within: Within) -> Option<ObjectCause> {
+    fn destination_cause(&self, half: u64, within: Within) -> Option<InstrCause> {
         let ahead = half % 32_768;
         if ahead == 0 {
-            return unless(half == 0, ObjectCause::NoDistance);
+            return unless(half == 0, InstrCause::NoDistance);
         }
         if ahead > within.behind {
-            return Some(ObjectCause::PastEnd { ahead });
+            return Some(InstrCause::PastEnd { ahead });
         }
         let to = within.place.saturating_add(ahead.saturating_mul(2));
         let target = Instr::of(self.bytes, to);
         let takes_right = target.is_dyadic() || !target.is_known();
         unless(
             half < 32_768 || takes_right,
-            ObjectCause::RightPort { ahead },
+            InstrCause::RightPort { ahead },
         )
     }
 
-    fn target_cause(&self, instr: Instr) -> Option<ObjectCause> {
+    fn target_cause(&self, instr: Instr) -> Option<InstrCause> {
         let operand = instr.operand;
         let blocks = self.header.blocks;
         let fits = match instr.opcode {
@@ -206,10 +226,10 @@ impl<'a> Tables<'a> {
             26 | 27 | 32 => operand <= 255,
             _ => true,
         };
-        unless(fits, ObjectCause::Target { operand })
+        unless_operand(fits, OperandCause::Target { operand })
     }
 
-    fn number_cause(&self, instr: Instr) -> Option<ObjectCause> {
+    fn number_cause(&self, instr: Instr) -> Option<InstrCause> {
         let (operand, _origin) = instr.parts(self.header.version);
         if instr.has_literal() {
             numbered("literal", operand, self.header.literals)
@@ -221,14 +241,14 @@ impl<'a> Tables<'a> {
     }
 
     /// The first thing that is wrong with an instruction.
-    fn instr_cause(&self, instr: Instr, within: Within) -> Option<ObjectCause> {
+    fn instr_cause(&self, instr: Instr, within: Within) -> Option<InstrCause> {
         let Instr { opcode, flag, .. } = instr;
-        unless(instr.is_known(), ObjectCause::Opcode { opcode, flag })
+        unless(instr.is_known(), InstrCause::Opcode { opcode, flag })
             .or(self.operand_cause(instr))
             .or(self.slot_cause(instr, within))
             .or(self.destination_cause(instr.first, within))
             .or(self.destination_cause(instr.second, within))
-            .or(unless(instr.may_go_to(), ObjectCause::Destinations { opcode }))
+            .or(unless(instr.may_go_to(), InstrCause::Destinations { opcode }))
             .or(self.target_cause(instr))
             .or(self.number_cause(instr))
     }
@@ -248,7 +268,7 @@ impl<'a> Tables<'a> {
                     block,
                     offset: place.saturating_mul(8),
                 };
-                return Some(Found::at(place, Cause::Object(cause)));
+                return Some(Found::at(place, Cause::Instr(cause)));
             }
         }
         None
@@ -265,6 +285,14 @@ impl<'a> Tables<'a> {
             first = first.saturating_add(entry.instrs.saturating_mul(2));
         }
         None
+    }
+
+    /// This cause at its word; where there is none, the first bad instruction of the object.
+    fn bad_word<'b>(&self, found: Option<(u64, ObjectCause)>) -> Option<Found<'b>> {
+        match found {
+            Some((place, cause)) => Some(at_word(place, cause)),
+            None => self.bad_instr(),
+        }
     }
 
     /// How many bytes the tables call for, as far as the tables are there.
@@ -296,27 +324,19 @@ fn length_cause(tables: &Tables<'_>) -> ObjectCause {
 /// Why the bytes are not an object: a fault of kind `kind`.
 pub fn object_fault<'a>(kind: ObjectFault, bytes: &[u8]) -> Option<Found<'a>> {
     if bytes.is_empty() {
-        return Some(Found::nowhere(Cause::Object(ObjectCause::Empty)));
+        return Some(at_all(ObjectCause::Empty));
     }
     if bytes.starts_with(b"etsgraph ") {
-        return Some(Found::nowhere(Cause::Object(ObjectCause::AGraph)));
+        return Some(at_all(ObjectCause::AGraph));
     }
     let tables = Tables::of(bytes);
     let version = tables.header.version;
     match kind {
         ObjectFault::BadMagic => Some(at_word(0, ObjectCause::Magic)),
         ObjectFault::BadVersion => Some(at_word(1, ObjectCause::Version { version })),
-        ObjectFault::Truncated | ObjectFault::Trailing => {
-            Some(Found::nowhere(Cause::Object(length_cause(&tables))))
-        }
-        ObjectFault::BadTable => match tables.table_cause() {
-            Some((place, cause)) => Some(at_word(place, cause)),
-            None => tables.bad_instr(),
-        },
-        ObjectFault::BadLiteral => match tables.literal_cause() {
-            Some((place, cause)) => Some(at_word(place, cause)),
-            None => tables.bad_instr(),
-        },
+        ObjectFault::Truncated | ObjectFault::Trailing => Some(at_all(length_cause(&tables))),
+        ObjectFault::BadTable => tables.bad_word(tables.table_cause()),
+        ObjectFault::BadLiteral => tables.bad_word(tables.literal_cause()),
         ObjectFault::BadOpcode | ObjectFault::BadSlot | ObjectFault::BadDestination => {
             tables.bad_instr()
         }

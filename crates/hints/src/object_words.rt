@@ -18,7 +18,7 @@ pub fn word_at(bytes: &[u8], place: u64) -> u64 {
 }
 
 /// What the header says.
-#[derive(Clone, Copy, Debug)]
+#[derive(Clone, Copy)]
 pub struct Header {
     pub version: u64,
     pub blocks: u64,
@@ -40,7 +40,7 @@ impl Header {
 }
 
 /// An entry of the block table.
-#[derive(Clone, Copy, Debug)]
+#[derive(Clone, Copy)]
 pub struct Entry {
     pub instrs: u64,
     pub inputs: u64,
@@ -62,7 +62,7 @@ impl Entry {
 }
 
 /// An instruction.
-#[derive(Clone, Copy, Debug)]
+#[derive(Clone, Copy)]
 pub struct Instr {
     pub opcode: u64,
     pub flag: u64,

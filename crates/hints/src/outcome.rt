@@ -1,12 +1,12 @@
 //! What an output says: which refusal, or which end of a run.
 
-use crate::lines::{LINE_FEED, SPACE};
+use crate::lines::{LINE_FEED, field_at, text_at};
 use graph_check::CheckFaultKind;
 use graph_file::{ReadFaultKind, literal};
 use object_view::ObjectFault;
 
 /// Why a run did not start.
-#[derive(Clone, Copy, Debug, PartialEq, Eq)]
+#[derive(Clone, Copy, PartialEq, Eq)]
 pub enum Unstarted {
     WrongInputs,
     NoFrames,
@@ -14,7 +14,7 @@ pub enum Unstarted {
 }
 
 /// An end of a run other than rest.
-#[derive(Clone, Copy, Debug)]
+#[derive(Clone, Copy)]
 pub enum Ended<'a> {
     /// How many requests for frames and how many for credits wait; each is 0 where that is not told.
     Starved { frames: u64, credits: u64 },
@@ -25,7 +25,7 @@ pub enum Ended<'a> {
 }
 
 /// A refusal, or an end other than rest.
-#[derive(Clone, Copy, Debug)]
+#[derive(Clone, Copy)]
 pub enum Outcome<'a> {
     Unread,
     Memory,
@@ -52,60 +52,60 @@ pub enum Outcome<'a> {
     Ended(Ended<'a>),
 }
 
-fn read_kind(word: &[u8]) -> Option<ReadFaultKind> {
+fn read_kind(word: &str) -> Option<ReadFaultKind> {
     let kind = match word {
-        b"NoHeader" => ReadFaultKind::NoHeader,
-        b"BadLine" => ReadFaultKind::BadLine,
-        b"BadNumber" => ReadFaultKind::BadNumber,
-        b"BadName" => ReadFaultKind::BadName,
-        b"Unended" => ReadFaultKind::Unended,
-        b"NoMain" => ReadFaultKind::NoMain,
-        b"TooMany" => ReadFaultKind::TooMany,
-        b"TrailingText" => ReadFaultKind::TrailingText,
+        "NoHeader" => ReadFaultKind::NoHeader,
+        "BadLine" => ReadFaultKind::BadLine,
+        "BadNumber" => ReadFaultKind::BadNumber,
+        "BadName" => ReadFaultKind::BadName,
+        "Unended" => ReadFaultKind::Unended,
+        "NoMain" => ReadFaultKind::NoMain,
+        "TooMany" => ReadFaultKind::TooMany,
+        "TrailingText" => ReadFaultKind::TrailingText,
         _ => return None,
     };
     Some(kind)
 }
 
-fn check_kind(word: &[u8]) -> Option<CheckFaultKind> {
+fn check_kind(word: &str) -> Option<CheckFaultKind> {
     let kind = match word {
-        b"SameName" => CheckFaultKind::SameName,
-        b"NoSuchName" => CheckFaultKind::NoSuchName,
-        b"Arity" => CheckFaultKind::Arity,
-        b"SourceNotEarlier" => CheckFaultKind::SourceNotEarlier,
-        b"NoSuchPort" => CheckFaultKind::NoSuchPort,
-        b"BadRegion" => CheckFaultKind::BadRegion,
-        b"CrossesRegion" => CheckFaultKind::CrossesRegion,
-        b"BadBound" => CheckFaultKind::BadBound,
-        b"OutNotRoot" => CheckFaultKind::OutNotRoot,
-        b"NoInput" => CheckFaultKind::NoInput,
-        b"NoOutput" => CheckFaultKind::NoOutput,
+        "SameName" => CheckFaultKind::SameName,
+        "NoSuchName" => CheckFaultKind::NoSuchName,
+        "Arity" => CheckFaultKind::Arity,
+        "SourceNotEarlier" => CheckFaultKind::SourceNotEarlier,
+        "NoSuchPort" => CheckFaultKind::NoSuchPort,
+        "BadRegion" => CheckFaultKind::BadRegion,
+        "CrossesRegion" => CheckFaultKind::CrossesRegion,
+        "BadBound" => CheckFaultKind::BadBound,
+        "OutNotRoot" => CheckFaultKind::OutNotRoot,
+        "NoInput" => CheckFaultKind::NoInput,
+        "NoOutput" => CheckFaultKind::NoOutput,
         _ => return None,
     };
     Some(kind)
 }
 
-fn object_kind(word: &[u8]) -> Option<ObjectFault> {
+fn object_kind(word: &str) -> Option<ObjectFault> {
     let kind = match word {
-        b"Truncated" => ObjectFault::Truncated,
-        b"BadMagic" => ObjectFault::BadMagic,
-        b"BadVersion" => ObjectFault::BadVersion,
-        b"BadTable" => ObjectFault::BadTable,
-        b"BadOpcode" => ObjectFault::BadOpcode,
-        b"BadDestination" => ObjectFault::BadDestination,
-        b"BadSlot" => ObjectFault::BadSlot,
-        b"BadLiteral" => ObjectFault::BadLiteral,
-        b"Trailing" => ObjectFault::Trailing,
+        "Truncated" => ObjectFault::Truncated,
+        "BadMagic" => ObjectFault::BadMagic,
+        "BadVersion" => ObjectFault::BadVersion,
+        "BadTable" => ObjectFault::BadTable,
+        "BadOpcode" => ObjectFault::BadOpcode,
+        "BadDestination" => ObjectFault::BadDestination,
+        "BadSlot" => ObjectFault::BadSlot,
+        "BadLiteral" => ObjectFault::BadLiteral,
+        "Trailing" => ObjectFault::Trailing,
         _ => return None,
     };
     Some(kind)
 }
 
-fn start_kind(word: &[u8]) -> Option<Unstarted> {
+fn start_kind(word: &str) -> Option<Unstarted> {
     match word {
-        b"WrongInputs" => Some(Unstarted::WrongInputs),
-        b"NoFrames" => Some(Unstarted::NoFrames),
-        b"BadConfig" => Some(Unstarted::BadConfig),
+        "WrongInputs" => Some(Unstarted::WrongInputs),
+        "NoFrames" => Some(Unstarted::NoFrames),
+        "BadConfig" => Some(Unstarted::BadConfig),
         _ => None,
     }
 }
@@ -114,72 +114,102 @@ fn number(word: &[u8]) -> Option<u64> {
     u64::try_from(literal(word)?).ok()
 }
 
-/// The field at `place` in a line, counted from 0.
-fn word(line: &[u8], place: usize) -> Option<&[u8]> {
-    line.split(|byte| *byte == SPACE).nth(place)
+/// The number that is the field at `place` in a line.
+fn number_at(line: &[u8], place: usize) -> Option<u64> {
+    number(field_at(line, place)?)
 }
 
 fn check_outcome<'a>(line: &'a [u8]) -> Option<Outcome<'a>> {
     Some(Outcome::Check {
-        kind: check_kind(word(line, 1)?)?,
-        block: number(word(line, 3)?),
-        node: number(word(line, 5)?),
+        kind: check_kind(text_at(line, 1)?)?,
+        block: number(field_at(line, 3)?),
+        node: number(field_at(line, 5)?),
     })
+}
+
+/// The outcome of a refusal because of a line of the input, or because the input could not be read.
+fn input_outcome<'a>(line: &'a [u8]) -> Option<Outcome<'a>> {
+    match field_at(line, 2) {
+        Some(digits) => Some(Outcome::InputLine {
+            line: number(digits)?,
+        }),
+        None => Some(Outcome::Unread),
+    }
+}
+
+fn read_outcome<'a>(line: &'a [u8]) -> Option<Outcome<'a>> {
+    Some(Outcome::Read {
+        kind: read_kind(text_at(line, 1)?)?,
+        line: number_at(line, 3)?,
+    })
+}
+
+/// The outcome of a refusal because of the code of a block.
+fn code_outcome<'a>(line: &'a [u8]) -> Option<Outcome<'a>> {
+    let block = number_at(line, 3)?;
+    if line.starts_with(b"slots") {
+        Some(Outcome::TooManySlots { block })
+    } else {
+        Some(Outcome::TooFar { block })
+    }
+}
+
+fn start_outcome<'a>(word: &str) -> Option<Outcome<'a>> {
+    Some(Outcome::Start(start_kind(word)?))
+}
+
+fn object_outcome<'a>(word: &str) -> Option<Outcome<'a>> {
+    Some(Outcome::Object(object_kind(word)?))
 }
 
 /// What the line of a refusal says after `refused: `.
 fn refused(line: &[u8]) -> Option<Outcome<'_>> {
-    match word(line, 0)? {
-        b"input" => match word(line, 2) {
-            Some(digits) => Some(Outcome::InputLine {
-                line: number(digits)?,
-            }),
-            None => Some(Outcome::Unread),
-        },
-        b"memory" => Some(Outcome::Memory),
-        b"read" => Some(Outcome::Read {
-            kind: read_kind(word(line, 1)?)?,
-            line: number(word(line, 3)?)?,
-        }),
-        b"check" => check_outcome(line),
-        b"slots" => Some(Outcome::TooManySlots {
-            block: number(word(line, 3)?)?,
-        }),
-        b"emit" => Some(Outcome::TooFar {
-            block: number(word(line, 3)?)?,
-        }),
-        b"start" => Some(Outcome::Start(start_kind(word(line, 1)?)?)),
-        b"object" => Some(Outcome::Object(object_kind(word(line, 1)?)?)),
+    match text_at(line, 0)? {
+        "input" => input_outcome(line),
+        "memory" => Some(Outcome::Memory),
+        "read" => read_outcome(line),
+        "check" => check_outcome(line),
+        "slots" | "emit" => code_outcome(line),
+        "start" => start_outcome(text_at(line, 1)?),
+        "object" => object_outcome(text_at(line, 1)?),
         _ => None,
     }
 }
 
 /// The number at `place` in the last of a report's lines that tells what waits.
 fn waiting(report: &[u8], place: usize) -> u64 {
-    let line = report.rsplit(|byte| *byte == LINE_FEED).nth(2);
-    line.and_then(|line| number(word(line, place)?))
-        .unwrap_or(0)
+    match report.rsplit(|byte| *byte == LINE_FEED).nth(2) {
+        Some(line) => number_at(line, place).unwrap_or(0),
+        None => 0,
+    }
+}
+
+/// The end that the line of an end tells, as the last one of this report.
+fn end_of<'a>(line: &'a [u8], report: &[u8]) -> Option<Ended<'a>> {
+    match text_at(line, 1)? {
+        "Starved" => Some(Ended::Starved {
+            frames: waiting(report, 1),
+            credits: waiting(report, 2),
+        }),
+        "Clash" => Some(Ended::Clash {
+            array: field_at(line, 2)?,
+            index: field_at(line, 3)?,
+        }),
+        "Steps" => Some(Ended::Steps),
+        "Stuck" => Some(Ended::Stuck),
+        "Memory" => Some(Ended::Memory),
+        _ => None,
+    }
 }
 
 /// The end that the last line of a report tells.
 fn end_in(report: &[u8]) -> Option<Outcome<'_>> {
     let report = report.strip_suffix(b"\n".as_slice())?;
     let line = report.rsplit(|byte| *byte == LINE_FEED).next()?;
-    let end = match word(line.strip_prefix(b"end ".as_slice())?, 0)? {
-        b"Starved" => Ended::Starved {
-            frames: waiting(report, 1),
-            credits: waiting(report, 2),
-        },
-        b"Clash" => Ended::Clash {
-            array: word(line, 2)?,
-            index: word(line, 3)?,
-        },
-        b"Steps" => Ended::Steps,
-        b"Stuck" => Ended::Stuck,
-        b"Memory" => Ended::Memory,
-        _ => return None,
-    };
-    Some(Outcome::Ended(end))
+    if text_at(line, 0)? != "end" {
+        return None;
+    }
+    Some(Outcome::Ended(end_of(line, report)?))
 }
 
 /// What the output of a command says. `output` is the whole of it, or its beginning and its end.

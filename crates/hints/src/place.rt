@@ -1,10 +1,11 @@
 //! Where a cause stands.
 
+use crate::message::Piece::{Bytes, Number};
+use crate::message::{Message, four, one, three, two};
 use crate::shown::Shown;
-use std::fmt;
 
 /// Where a cause stands, with the line that stands there.
-#[derive(Clone, Copy, Debug)]
+#[derive(Clone, Copy)]
 pub enum Place<'a> {
     /// A line of a text, from 1.
     Line {
@@ -47,43 +48,71 @@ pub enum Place<'a> {
     },
 }
 
-impl fmt::Display for Place<'_> {
-    fn fmt<W: fmt::Write>(&self, f: &mut fmt::Formatter<W>) -> fmt::Result {
-        match *self {
-            Place::Line { line, text } if text.bytes.is_empty() => {
-                write!(f, "line {line} is empty")
-            }
-            Place::Line { line, text } => write!(f, "line {line} is `{text}`"),
+impl<'a> Place<'a> {
+    /// What a person is told.
+    pub fn message(self) -> Message<'a> {
+        match self {
+            Place::Line { line, text } => line_message(line, text),
             Place::Node {
                 block,
                 node,
                 line,
                 text,
-            } => write!(f, "node {node} of block {block}, line {line}, is `{text}`"),
-            Place::Block { block, line, text } => {
-                write!(f, "in block {block}, line {line} is `{text}`")
-            }
+            } => four(
+                "node {} of block {}, line {}, is `{}`",
+                Number(node),
+                Bytes(block),
+                Number(line),
+                Bytes(text),
+            ),
+            Place::Block { block, line, text } => three(
+                "in block {}, line {} is `{}`",
+                Bytes(block),
+                Number(line),
+                Bytes(text),
+            ),
             Place::Code {
                 number,
                 block,
                 iterations,
-            } => {
-                let part = if iterations { "the iterations of " } else { "" };
-                write!(f, "code block {number} is that of {part}block {block}")
-            }
-            Place::Input { line, text } if text.bytes.is_empty() => {
-                write!(f, "line {line} of the inputs is empty")
-            }
-            Place::Input { line, text } => write!(f, "line {line} of the inputs is `{text}`"),
-            Place::Byte { offset } => write!(f, "at byte {offset} of the object"),
+            } => code_message(number, block, iterations),
+            Place::Input { line, text } => input_message(line, text),
+            Place::Byte { offset } => one("at byte {} of the object", Number(offset)),
             Place::Instr {
                 number,
                 block,
                 offset,
-            } => write!(
-                f,
-                "instruction {number} of code block {block}, at byte {offset} of the object"
+            } => three(
+                "instruction {} of code block {}, at byte {} of the object",
+                Number(number),
+                Number(block),
+                Number(offset),
             ),
         }
     }
+}
+
+fn line_message<'a>(line: u64, text: Shown<'a>) -> Message<'a> {
+    if text.bytes.is_empty() {
+        one("line {} is empty", Number(line))
+    } else {
+        two("line {} is `{}`", Number(line), Bytes(text))
+    }
+}
+
+fn input_message<'a>(line: u64, text: Shown<'a>) -> Message<'a> {
+    if text.bytes.is_empty() {
+        one("line {} of the inputs is empty", Number(line))
+    } else {
+        two("line {} of the inputs is `{}`", Number(line), Bytes(text))
+    }
+}
+
+fn code_message<'a>(number: u64, block: Shown<'a>, iterations: bool) -> Message<'a> {
+    let text = if iterations {
+        "code block {} is that of the iterations of block {}"
+    } else {
+        "code block {} is that of block {}"
+    };
+    two(text, Number(number), Bytes(block))
 }

@@ -1,6 +1,6 @@
 //! Why a run does not start, and why it did not end at rest.
 
-use crate::cause::{Cause, RunCause};
+use crate::cause::{Cause, EndCause, RunCause};
 use crate::found::Found;
 use crate::graphs::block_named;
 use crate::lines::{LINE_FEED, line_at, split_graph};
@@ -93,6 +93,16 @@ fn option_cause(options: &RunOptions) -> RunCause<'static> {
         .unwrap_or(RunCause::Mode)
 }
 
+/// The options of a request that can be refused because of them.
+fn options_of(request: &Request) -> Option<&RunOptions> {
+    match request {
+        Request::Run(options) | Request::Exec { options, .. } | Request::Trace { options, .. } => {
+            Some(options)
+        }
+        _ => None,
+    }
+}
+
 /// Why a run of this request does not start. `None` also where memory is refused, or where the input was not kept.
 pub fn start_fault<'a, A: Allocator + Clone>(
     alloc: A,
@@ -100,14 +110,11 @@ pub fn start_fault<'a, A: Allocator + Clone>(
     input: Option<&'a [u8]>,
     kind: Unstarted,
 ) -> Option<Found<'a>> {
-    match (kind, request) {
-        (Unstarted::WrongInputs, _) => inputs_fault(alloc, input?),
-        (
-            _,
-            Request::Run(options) | Request::Exec { options, .. } | Request::Trace { options, .. },
-        ) => Some(Found::nowhere(Cause::Run(option_cause(options)))),
-        _ => None,
+    if kind == Unstarted::WrongInputs {
+        return inputs_fault(alloc, input?);
     }
+    let cause = option_cause(options_of(request)?);
+    Some(Found::nowhere(Cause::Run(cause)))
 }
 
 /// What is said where memory is refused.
@@ -131,19 +138,19 @@ fn steps_of(request: &Request) -> Many {
     }
 }
 
-fn starved_cause<'a>(frames: u64, credits: u64) -> RunCause<'a> {
+fn starved_cause<'a>(frames: u64, credits: u64) -> EndCause<'a> {
     let waiting_frames = many(frames, "request");
     let waiting_credits = many(credits, "request");
     if credits == 0 {
-        RunCause::StarvedOfFrames {
+        EndCause::StarvedOfFrames {
             frames: waiting_frames,
         }
     } else if frames == 0 {
-        RunCause::StarvedOfCredits {
+        EndCause::StarvedOfCredits {
             credits: waiting_credits,
         }
     } else {
-        RunCause::Starved {
+        EndCause::Starved {
             frames: waiting_frames,
             credits: waiting_credits,
         }
@@ -153,15 +160,15 @@ fn starved_cause<'a>(frames: u64, credits: u64) -> RunCause<'a> {
 /// Why a run of this request did not end at rest.
 pub fn end_cause<'a>(request: &Request, end: Ended<'a>) -> RunCause<'a> {
     match end {
-        Ended::Starved { frames, credits } => starved_cause(frames, credits),
-        Ended::Clash { array, index } => RunCause::Clash {
+        Ended::Starved { frames, credits } => RunCause::Ended(starved_cause(frames, credits)),
+        Ended::Clash { array, index } => RunCause::Ended(EndCause::Clash {
             array: Shown { bytes: array },
             index: Shown { bytes: index },
-        },
-        Ended::Steps => RunCause::Steps {
+        }),
+        Ended::Steps => RunCause::Ended(EndCause::Steps {
             steps: steps_of(request),
-        },
-        Ended::Stuck => RunCause::Stuck,
+        }),
+        Ended::Stuck => RunCause::Ended(EndCause::Stuck),
         Ended::Memory => RunCause::RunMemory,
     }
 }

@@ -7,7 +7,7 @@ use std::fmt;
 const MOST: usize = 60;
 
 /// Bytes of a text. A byte that is not printable stands as `\xHH`, and only the beginning of a long piece is shown.
-#[derive(Clone, Copy, Debug)]
+#[derive(Clone, Copy)]
 pub struct Shown<'a> {
     pub bytes: &'a [u8],
 }
@@ -28,7 +28,7 @@ impl fmt::Display for Shown<'_> {
 }
 
 /// How many of a thing there are: `1 source`, `2 sources`.
-#[derive(Clone, Copy, Debug)]
+#[derive(Clone, Copy)]
 pub struct Many {
     pub count: u64,
     pub noun: &'static str,
@@ -46,7 +46,7 @@ impl fmt::Display for Many {
 }
 
 /// A region: `the root`, or `arm 3+`.
-#[derive(Clone, Copy, Debug)]
+#[derive(Clone, Copy)]
 pub struct Lying {
     pub region: Region,
 }
@@ -62,7 +62,7 @@ impl fmt::Display for Lying {
 }
 
 /// A source as a text has it: `N.P`.
-#[derive(Clone, Copy, Debug)]
+#[derive(Clone, Copy)]
 pub struct Spelled {
     pub source: Source,
 }

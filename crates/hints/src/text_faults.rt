@@ -1,28 +1,29 @@
 //! What is wrong with a text that is not the text of a graph.
 
-use crate::cause::{Cause, TextCause};
+use crate::cause::{Cause, LineCause, TextCause};
 use crate::found::Found;
-use crate::line_faults::{bad_line, bad_name, bad_number, too_many, unknown_field};
+use crate::line_faults::{bad_line, bad_name, bad_number, field_cause, too_many};
 use crate::lines::{Context, Spot, line_at};
 use crate::place::Place;
 use crate::shown::Shown;
 use graph_file::{ReadFaultKind, literal};
 
 /// The cause for a text whose first line is not the header of a graph.
-fn no_header<'a>(text: &'a [u8], first: &'a [u8], command: &'a str) -> TextCause<'a> {
-    if text.is_empty() {
+fn no_header<'a>(text: &[u8], first: &[u8], command: &'a str) -> Cause<'a> {
+    let cause = if text.is_empty() {
         TextCause::Empty { command }
     } else if text.starts_with(b"ETSOBJCT") {
         TextCause::AnObject { command }
     } else if text.starts_with(b"\xef\xbb\xbf") {
         TextCause::ByteOrderMark
     } else if first.ends_with(b"\r") {
-        TextCause::CarriageReturn
+        return Cause::Line(LineCause::CarriageReturn);
     } else if first == b"etsgraph 1".as_slice() || first == b"etsgraph 2".as_slice() {
         TextCause::LineUnended
     } else {
         TextCause::Header
-    }
+    };
+    Cause::Text(cause)
 }
 
 /// The cause for a text that ends too early.
@@ -70,15 +71,13 @@ fn cause_of<'a>(
     command: &'a str,
 ) -> Cause<'a> {
     match kind {
-        ReadFaultKind::NoHeader => Cause::Text(no_header(text, line, command)),
+        ReadFaultKind::NoHeader => no_header(text, line, command),
         ReadFaultKind::BadLine => {
             let is_second = text.starts_with(b"etsgraph 2\n");
-            Cause::Text(bad_line(line, context, is_second))
+            bad_line(line, context, is_second)
         }
-        ReadFaultKind::BadNumber => {
-            bad_number(line, context).map_or(unknown_field(line), Cause::Field)
-        }
-        ReadFaultKind::BadName => bad_name(line, context).map_or(unknown_field(line), Cause::Field),
+        ReadFaultKind::BadNumber => field_cause(bad_number(line, context), line),
+        ReadFaultKind::BadName => field_cause(bad_name(line, context), line),
         ReadFaultKind::Unended => Cause::Text(unended(text, context)),
         ReadFaultKind::TooMany => Cause::Text(too_many(line, context)),
         ReadFaultKind::TrailingText => Cause::Text(trailing(line, command)),
