@@ -1,79 +1,92 @@
 //! The frame manager.
 
+use crate::part::{Heap, Part};
+use crate::shown::push_cont;
+use crate::words::Words;
 use frame_manager::{Manager, NotOut};
-use rationed::Rationed;
-use std::alloc::Allocator;
-use std::test::Fail;
-use tags::token::Cont;
+use std::alloc::AllocError;
+use tags::token::{Cont, FrameId};
 
-#[test]
-fn answers_each_call(rt: HostRuntime) -> Result<(), Fail> {
-    let mut manager = Manager::new(rt.alloc(), 3)?;
-    let waiter = |port| Cont::Host { port };
-    assert_eq!(rt; manager.out(), 1);
-    assert_eq!(rt; manager.request(waiter(1))?, Some(1));
-    assert_eq!(rt; manager.request(waiter(2))?, Some(2));
-    assert_eq!(rt; manager.request(waiter(3))?, None);
-    assert_eq!(rt; manager.request(waiter(4))?, None);
-    assert_eq!(rt; manager.waiting(), 2);
-    assert_eq!(rt; manager.release(1), Ok(Some((waiter(3), 1))));
-    assert_eq!(rt; manager.release(0), Ok(Some((waiter(4), 0))));
-    assert_eq!(rt; manager.release(2), Ok(None));
-    assert_eq!(rt; manager.release(2), Err(NotOut));
-    assert_eq!(rt; manager.release(3), Err(NotOut));
-    assert_eq!(rt; manager.release(0), Ok(None));
-    assert_eq!(rt; manager.out(), 1);
-    assert_eq!(rt; manager.request(waiter(5))?, Some(0));
-    assert_eq!(rt; manager.request(waiter(6))?, Some(2));
-    Ok(())
+/// A frame manager.
+#[derive(Drop)]
+pub struct FramesPart<'h> {
+    manager: Manager<Heap<'h>>,
 }
 
-#[test]
-fn hands_out_all_frames_in_order(rt: HostRuntime) -> Result<(), Fail> {
-    let mut manager = Manager::new(rt.alloc(), 16_384)?;
-    for frame in 1..16_384u32 {
-        assert_eq!(rt; manager.request(Cont::Host { port: 0 })?, Some(frame));
-    }
-    assert_eq!(rt; manager.request(Cont::Host { port: 0 })?, None);
-    assert_eq!(rt; manager.out(), 16_384);
-    Ok(())
-}
-
-/// What a manager of one frame reaches whose allocator runs out.
-#[derive(Clone, Copy, Debug, PartialEq, Eq)]
-enum Reached {
-    NotMade,
-    /// Its request was refused room, and all is as it was.
-    Refused,
-    /// Its request was refused room, and something has changed.
-    Changed,
-    /// Its request waits.
-    Waits,
-}
-
-/// Makes a manager of one frame, lets a request wait, and says what it reached.
-fn make_and_use<A: Allocator + Clone>(alloc: A) -> Reached {
-    let Ok(mut manager) = Manager::new(alloc, 1) else {
-        return Reached::NotMade;
-    };
-    match manager.request(Cont::Host { port: 0 }) {
-        Ok(_) => Reached::Waits,
-        Err(_) if manager.out() == 1 && manager.waiting() == 0 => Reached::Refused,
-        Err(_) => Reached::Changed,
+impl<'h> FramesPart<'h> {
+    /// The manager of so many frames. `None` where there is no frame or no memory.
+    pub fn new(heap: Heap<'h>, frames: u32) -> Option<FramesPart<'h>> {
+        if frames == 0 {
+            return None;
+        }
+        match Manager::new(heap, frames) {
+            Ok(manager) => Some(FramesPart { manager }),
+            Err(_refused) => None,
+        }
     }
 }
 
-#[test]
-fn refuses_each_growth(rt: HostRuntime) -> Result<(), Fail> {
-    for (growths, wanted) in [
-        (1, Reached::NotMade),
-        (2, Reached::NotMade),
-        (3, Reached::Refused),
-        (4, Reached::Waits),
-        (5, Reached::Waits),
-    ] {
-        let heap = Rationed::new(rt.alloc(), growths);
-        assert_eq!(rt; make_and_use(&heap), wanted);
+fn push_requested(
+    answer: &mut String,
+    requested: Result<Option<FrameId>, AllocError>,
+) -> Result<(), AllocError> {
+    match requested {
+        Ok(Some(frame)) => write!(answer, "frame {frame}"),
+        Ok(None) => answer.push_str("waits"),
+        Err(_refused) => answer.push_str("no memory"),
     }
-    Ok(())
+}
+
+fn push_released(
+    answer: &mut String,
+    released: Result<Option<(Cont, FrameId)>, NotOut>,
+) -> Result<(), AllocError> {
+    match released {
+        Ok(Some((cont, frame))) => {
+            write!(answer, "frame {frame} for ")?;
+            push_cont(answer, cont)
+        }
+        Ok(None) => answer.push_str("free"),
+        Err(NotOut) => answer.push_str("not out"),
+    }
+}
+
+/// Requests the frames of these numbers, one after another. Says which is the first that is not handed out in this order.
+fn request_in_order(
+    manager: &mut Manager<Heap<'_>>,
+    answer: &mut String,
+    first: u32,
+    last: u32,
+) -> Result<(), AllocError> {
+    for frame in first..=last {
+        let requested = manager.request(Cont::Host { port: 0 })?;
+        if requested != Some(frame) {
+            return write!(answer, "not {frame}");
+        }
+    }
+    answer.push_str("in order")
+}
+
+impl Part for FramesPart<'_> {
+    fn act(&mut self, words: &mut Words<'_>, answer: &mut String) -> Option<()> {
+        let manager = &mut self.manager;
+        match words.word() {
+            "request" => push_requested(answer, manager.request(words.cont()?)).ok(),
+            "requests" => {
+                let first = words.number()?;
+                let last = words.number()?;
+                request_in_order(manager, answer, first, last).ok()
+            }
+            "release" => push_released(answer, manager.release(words.number()?)).ok(),
+            "out" => {
+                let out = manager.out();
+                write!(answer, "{out}").ok()
+            }
+            "waiting" => {
+                let waiting = manager.waiting();
+                write!(answer, "{waiting}").ok()
+            }
+            _ => None,
+        }
+    }
 }

@@ -1,104 +1,155 @@
 //! The order of the blocks of free-running elements.
 
+use crate::part::{Heap, Part};
+use crate::shown::push_token;
+use crate::words::Words;
 use ordering::log::{Counts, Log};
 use ordering::order;
-use rationed::Rationed;
-use std::alloc::{AllocError, Allocator};
-use std::test::Fail;
+use std::alloc::{AllocError, Global};
 use tags::token::{Port, To, Token, Word};
 use tags::value::Value;
 
-/// A token for the frame of this number.
-fn token(frame: u32, number: i64) -> Token {
-    Token {
-        to: To::Instr {
-            frame,
-            ip: 0,
-            port: Port::Left,
-        },
-        word: Word::Val(Value::Int(number)),
+/// A block of an element: the tokens that its events took, how many of them it spent, and the tokens that it made.
+#[derive(Drop)]
+struct Block {
+    element: usize,
+    spent: usize,
+    taken: Vec<Token>,
+    made: Vec<Token>,
+}
+
+/// The blocks of some elements, and the tokens that were there before them.
+#[derive(Drop)]
+pub struct OrderPart<'h> {
+    heap: Heap<'h>,
+    elements: usize,
+    opening: Vec<Token>,
+    blocks: Vec<Block>,
+}
+
+impl<'h> OrderPart<'h> {
+    pub fn new(heap: Heap<'h>, alloc: Global, elements: usize) -> OrderPart<'h> {
+        OrderPart {
+            heap,
+            elements,
+            opening: Vec::new(alloc),
+            blocks: Vec::new(alloc),
+        }
     }
 }
 
-/// Notes a block that spends that number of the tokens that its events took.
-fn note<A: Allocator>(
-    log: &mut Log<A>,
-    taken: &[Token],
-    spent: usize,
-    made: &[Token],
-) -> Result<(), AllocError> {
-    for token in taken {
+/// The token that a word tells by a frame and a number with a dot between them.
+fn token_of(word: &str) -> Option<Token> {
+    let (frame, number) = word.split_once('.')?;
+    Some(Token {
+        to: To::Instr {
+            frame: frame.parse().ok()?,
+            ip: 0,
+            port: Port::Left,
+        },
+        word: Word::Val(Value::Int(number.parse().ok()?)),
+    })
+}
+
+/// The tokens that these words tell.
+fn tokens_of(alloc: Global, words: Words<'_>) -> Option<Vec<Token>> {
+    let mut tokens = Vec::new(alloc);
+    if words.is_over() {
+        return Some(tokens);
+    }
+    for word in words.rest().split(' ') {
+        let Some(token) = token_of(word) else {
+            return None;
+        };
+        tokens.push(token).ok()?;
+    }
+    Some(tokens)
+}
+
+/// The block that these words tell: its element, how many tokens it spent, those that it took, and those that it made.
+fn block_of(alloc: Global, words: &mut Words<'_>) -> Option<Block> {
+    let mut counts = words.piece();
+    Some(Block {
+        element: counts.place()?,
+        spent: counts.place()?,
+        taken: tokens_of(alloc, words.piece())?,
+        made: tokens_of(alloc, words.piece())?,
+    })
+}
+
+/// Notes a block.
+fn note(log: &mut Log<Heap<'_>>, block: &Block) -> Result<(), AllocError> {
+    for token in block.taken.as_slice() {
         log.reserve(1, 0, 0)?;
         log.note_event(*token);
     }
-    for token in made {
+    for token in block.made.as_slice() {
         log.reserve(0, 1, 0)?;
         log.note_made(*token);
     }
     log.reserve(0, 0, 1)?;
     log.end_block(Counts {
-        events: taken.len(),
-        spent,
-        made: made.len(),
+        events: block.taken.len(),
+        spent: block.spent,
+        made: block.made.len(),
     });
     Ok(())
 }
 
-/// Element 1 waits for a token that element 0 makes in its second block, and element 0 for one of element 1 before its third. The
-/// token of number 7 is there twice.
-fn order_of_two<A: Allocator + Clone>(alloc: A) -> Result<Vec<(u32, Token), A>, AllocError> {
-    let mut first = Log::new(alloc.clone()?)?;
-    let mut second = Log::new(alloc.clone()?)?;
-    note(&mut first, &[token(0, 7), token(0, 8)], 1, &[token(0, 7)])?;
-    note(&mut first, &[token(0, 7)], 1, &[token(1, 1), token(1, 1)])?;
-    note(&mut first, &[token(0, 5), token(0, 7)], 2, &[])?;
-    note(&mut second, &[token(1, 1)], 1, &[token(0, 5)])?;
-    note(&mut second, &[token(1, 2), token(1, 1)], 2, &[])?;
-    let mut logs = Vec::with_capacity(alloc.clone()?, 2)?;
-    logs.push(first)?;
-    logs.push(second)?;
-    let opening = [token(1, 2), token(0, 7), token(0, 7)];
-    order(&logs, &opening, alloc)
-}
-
-fn has(events: &[(u32, Token)], wanted: &[(u32, Token)]) -> bool {
-    if events.len() != wanted.len() {
-        return false;
-    }
-    for at in 0..events.len() {
-        if events[at] != wanted[at] {
-            return false;
+/// The log of an element.
+fn log_of<'h>(
+    heap: Heap<'h>,
+    blocks: &[Block],
+    element: usize,
+) -> Result<Log<Heap<'h>>, AllocError> {
+    let mut log = Log::new(heap)?;
+    for block in blocks {
+        if block.element == element {
+            note(&mut log, block)?;
         }
     }
-    true
+    Ok(log)
 }
 
-#[test]
-fn blocks_wait_for_their_tokens(rt: HostRuntime) -> Result<(), Fail> {
-    let events = order_of_two(rt.alloc())?;
-    let wanted = [
-        (0, token(0, 7)),
-        (0, token(0, 8)),
-        (0, token(0, 7)),
-        (1, token(1, 1)),
-        (1, token(1, 2)),
-        (1, token(1, 1)),
-        (0, token(0, 5)),
-        (0, token(0, 7)),
-    ];
-    assert!(rt; has(&events, &wanted));
-    Ok(())
-}
-
-#[test]
-fn a_refused_growth_is_an_error(rt: HostRuntime) -> Result<(), Fail> {
-    let mut refused = true;
-    for ration in 1..100 {
-        let heap = Rationed::new(rt.alloc(), ration);
-        let failed = order_of_two(&heap).is_err();
-        assert!(rt; refused || !failed);
-        refused = failed;
+/// The events of all blocks in one order.
+fn ordered<'h>(part: &OrderPart<'h>) -> Result<Vec<(u32, Token), Heap<'h>>, AllocError> {
+    let heap = part.heap;
+    let mut logs = Vec::new(heap);
+    for element in 0..part.elements {
+        logs.push(log_of(heap, &part.blocks, element)?)?;
     }
-    assert!(rt; !refused);
+    if logs.len() >= 16 {
+        return Err(AllocError);
+    }
+    order(&logs, &part.opening, heap)
+}
+
+/// Writes events, each with its element and the token that it took.
+fn push_events(answer: &mut String, events: &[(u32, Token)]) -> Result<(), AllocError> {
+    for (element, token) in events {
+        if !answer.is_empty() {
+            answer.push_str(", ")?;
+        }
+        write!(answer, "{element} takes ")?;
+        push_token(answer, *token)?;
+    }
     Ok(())
+}
+
+impl Part for OrderPart<'_> {
+    fn act(&mut self, words: &mut Words<'_>, answer: &mut String) -> Option<()> {
+        let alloc = *answer.allocator();
+        match words.word() {
+            "block" => self.blocks.push(block_of(alloc, words)?).ok(),
+            "opening" => {
+                self.opening = tokens_of(alloc, *words)?;
+                Some(())
+            }
+            "order" => match ordered(self) {
+                Ok(events) => push_events(answer, &events).ok(),
+                Err(AllocError) => answer.push_str("no memory").ok(),
+            },
+            _ => None,
+        }
+    }
 }

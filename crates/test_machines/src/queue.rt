@@ -1,33 +1,90 @@
 //! The queue of tokens.
 
-use rationed::Rationed;
-use std::alloc::{AllocError, Allocator};
+use crate::part::{Heap, Part};
+use crate::shown::push_token;
+use crate::words::Words;
+use std::alloc::{AllocError, Global};
 use std::collections::VecDeque;
-use std::test::Fail;
 use tags::token::{Port, To, Token, Word};
 use tags::value::{FaultKind, Origin, Value};
 use token_queue::queue::TokenQueue;
 
+/// The token of this number.
 fn token(number: u32) -> Token {
+    let value = if number % 3 == 0 {
+        Value::Fault {
+            kind: FaultKind::Range,
+            origin: Origin::Untold,
+        }
+    } else {
+        Value::Int(-i64::from(number))
+    };
     Token {
         to: To::Instr {
             frame: number,
             ip: number % 7,
             port: Port::Right,
         },
-        word: Word::Val(if number % 3 == 0 {
-            Value::Fault {
-                kind: FaultKind::Range,
-                origin: Origin::Untold,
-            }
-        } else {
-            Value::Int(-i64::from(number))
-        }),
+        word: Word::Val(value),
     }
 }
 
+/// A queue.
+#[derive(Drop)]
+pub struct QueuePart<'h> {
+    queue: TokenQueue<Heap<'h>>,
+}
+
+/// Puts the token of this number in, where there is room for it and that many more.
+fn put(queue: &mut TokenQueue<Heap<'_>>, number: u32, more: usize) -> Result<(), AllocError> {
+    queue.reserve(more.checked_add(1).ok_or(AllocError)?)?;
+    queue.push_back_reserved(token(number));
+    Ok(())
+}
+
+/// Takes the oldest token out, if there is one.
+fn pop(queue: &mut TokenQueue<Heap<'_>>) -> Option<()> {
+    if queue.len() == 0 {
+        return None;
+    }
+    queue.pop_front();
+    Some(())
+}
+
+/// Takes the token at this place out, if there is one.
+fn remove(queue: &mut TokenQueue<Heap<'_>>, at: usize) -> Option<()> {
+    if at >= queue.len() {
+        return None;
+    }
+    queue.remove(at);
+    Some(())
+}
+
+/// Says whether memory was refused.
+fn done(outcome: Result<(), AllocError>, answer: &mut String) -> Option<()> {
+    if outcome.is_err() {
+        answer.push_str("no memory").ok()?;
+    }
+    Some(())
+}
+
+/// Writes the numbers of the tokens, and more of those that are not the tokens of these numbers.
+fn push_all(queue: &TokenQueue<Heap<'_>>, answer: &mut String) -> Result<(), AllocError> {
+    for at in 0..queue.len() {
+        if at > 0 {
+            answer.push(' ')?;
+        }
+        let held = queue.get(at);
+        match held.to {
+            To::Instr { frame, .. } if held == token(frame) => write!(answer, "{frame}")?,
+            _ => push_token(answer, held)?,
+        }
+    }
+    Ok(())
+}
+
 /// Whether the queue has the tokens of these numbers in this order.
-fn has<A: Allocator, B: Allocator>(queue: &TokenQueue<A>, numbers: &VecDeque<u32, B>) -> bool {
+fn has(queue: &TokenQueue<Heap<'_>>, numbers: &VecDeque<u32>) -> bool {
     if queue.len() != numbers.len() {
         return false;
     }
@@ -39,113 +96,83 @@ fn has<A: Allocator, B: Allocator>(queue: &TokenQueue<A>, numbers: &VecDeque<u32
     true
 }
 
-#[test]
-fn answers_each_call(rt: HostRuntime) -> Result<(), Fail> {
-    let mut queue = TokenQueue::new(rt.alloc());
-    assert_eq!(rt; queue.len(), 0);
-    for number in 0..3 {
-        queue.reserve(1)?;
-        queue.push_back_reserved(token(number));
-    }
-    assert_eq!(rt; queue.len(), 3);
-    assert_eq!(rt; queue.get(1), token(1));
-    queue.remove(1);
-    assert_eq!(rt; queue.len(), 2);
-    assert_eq!(rt; queue.get(1), token(2));
-    queue.pop_front();
-    assert_eq!(rt; queue.len(), 1);
-    assert_eq!(rt; queue.get(0), token(2));
-    Ok(())
-}
-
-#[test]
-fn goes_round_as_a_deque_does(rt: HostRuntime) -> Result<(), Fail> {
-    let mut queue = TokenQueue::new(rt.alloc());
-    let mut numbers = VecDeque::new(rt.alloc());
-    let mut pick = 1u32;
-    for number in 0..2000u32 {
-        pick = pick.wrapping_mul(1_664_525).wrapping_add(1_013_904_223);
-        let choice = pick >> 24;
-        // More tokens for 200 steps, and fewer for 200.
-        let grows = number / 200 % 2 == 0;
-        if choice % 4 == 0 || (grows && choice % 4 != 1) {
-            let more = (choice / 4 % 5) as usize;
-            queue.reserve(more + 1)?;
-            queue.push_back_reserved(token(number));
-            numbers.push_back(number)?;
-        } else if queue.len() > 0 {
+/// Makes one step of a walk: as the choice says, a token is put in or taken out, of the queue and of the numbers.
+fn walk_on(
+    queue: &mut TokenQueue<Heap<'_>>,
+    numbers: &mut VecDeque<u32>,
+    number: u32,
+    choice: u32,
+) -> Option<()> {
+    // More tokens for 200 steps, and fewer for 200.
+    let grows = number / 200 % 2 == 0;
+    if choice % 4 == 0 || (grows && choice % 4 != 1) {
+        put(queue, number, (choice / 4 % 5) as usize).ok()?;
+        numbers.push_back(number).ok()?;
+    } else if queue.len() > 0 {
+        if choice % 8 < 4 {
+            pop(queue)?;
+            let _ = numbers.pop_front();
+        } else {
             let at = choice as usize % queue.len();
-            if choice % 8 < 4 {
-                queue.pop_front();
-                let _ = numbers.pop_front();
-            } else {
-                queue.remove(at);
-                let _ = numbers.remove(at);
-            }
-        }
-        assert!(rt; has(&queue, &numbers));
-    }
-    Ok(())
-}
-
-#[test]
-fn keeps_its_tokens_at_each_head(rt: HostRuntime) -> Result<(), Fail> {
-    for head in 0..4u32 {
-        for at in 0..4usize {
-            let mut queue = TokenQueue::new(rt.alloc());
-            let mut numbers = VecDeque::new(rt.alloc());
-            for number in 0..head + 4 {
-                queue.reserve(1)?;
-                queue.push_back_reserved(token(number));
-                numbers.push_back(number)?;
-                if number < head {
-                    queue.pop_front();
-                    let _ = numbers.pop_front();
-                }
-            }
-            assert_eq!(rt; queue.len(), 4);
-            queue.remove(at);
+            remove(queue, at)?;
             let _ = numbers.remove(at);
-            assert!(rt; has(&queue, &numbers));
-            queue.reserve(9)?;
-            assert!(rt; has(&queue, &numbers));
-            queue.push_back_reserved(token(99));
-            numbers.push_back(99)?;
-            assert!(rt; has(&queue, &numbers));
         }
     }
-    Ok(())
+    Some(())
 }
 
-/// Puts tokens into a queue whose first was taken out, and says how many went in.
-fn pushed<A: Allocator>(queue: &mut TokenQueue<A>, count: u32) -> Result<u32, AllocError> {
-    for number in 0..count {
-        if queue.reserve(1).is_err() {
-            return Ok(number);
-        }
-        queue.push_back_reserved(token(number));
-        if number == 0 {
-            queue.pop_front();
+/// Makes a pseudorandom walk, and says whether the queue does what a deque of the tokens' numbers does.
+fn walk(
+    queue: &mut TokenQueue<Heap<'_>>,
+    alloc: Global,
+    steps: u32,
+    answer: &mut String,
+) -> Option<()> {
+    let mut numbers = VecDeque::new(alloc);
+    let mut pick = 1u32;
+    for number in 0..steps {
+        pick = pick.wrapping_mul(1_664_525).wrapping_add(1_013_904_223);
+        walk_on(queue, &mut numbers, number, pick >> 24)?;
+        if !has(queue, &numbers) {
+            return write!(answer, "another at step {number}").ok();
         }
     }
-    Ok(count)
+    answer.push_str("as a deque").ok()
 }
 
-#[test]
-fn keeps_its_tokens_where_its_growth_is_refused(rt: HostRuntime) -> Result<(), Fail> {
-    for (refused, many) in [(1u64, 0u32), (2, 5), (3, 9), (4, 17)] {
-        let heap = Rationed::new(rt.alloc(), refused);
-        let mut queue = TokenQueue::new(&heap);
-        let count = pushed(&mut queue, 20)?;
-        assert_eq!(rt; count, many);
-        let mut numbers = VecDeque::new(rt.alloc());
-        for number in 1..count {
-            numbers.push_back(number)?;
+impl<'h> QueuePart<'h> {
+    pub fn new(heap: Heap<'h>) -> QueuePart<'h> {
+        QueuePart {
+            queue: TokenQueue::new(heap),
         }
-        assert!(rt; has(&queue, &numbers));
-        assert!(rt; queue.reserve(usize::MAX).is_err());
-        assert!(rt; queue.reserve(usize::MAX / 2).is_err());
-        assert!(rt; has(&queue, &numbers));
     }
-    Ok(())
+}
+
+impl Part for QueuePart<'_> {
+    fn act(&mut self, words: &mut Words<'_>, answer: &mut String) -> Option<()> {
+        let queue = &mut self.queue;
+        match words.word() {
+            "reserve" => done(queue.reserve(words.place()?), answer),
+            "push" => done(put(queue, words.number()?, 0), answer),
+            "pop" => pop(queue),
+            "remove" => remove(queue, words.place()?),
+            "length" => {
+                let length = queue.len();
+                write!(answer, "{length}").ok()
+            }
+            "get" => {
+                let at = words.place()?;
+                if at >= queue.len() {
+                    return None;
+                }
+                push_token(answer, queue.get(at)).ok()
+            }
+            "walk" => {
+                let alloc = *answer.allocator();
+                walk(queue, alloc, words.number()?, answer)
+            }
+            "all" => push_all(queue, answer).ok(),
+            _ => None,
+        }
+    }
 }

@@ -1,0 +1,32 @@
+//! A part of the machine that a section of a script is about.
+
+use crate::tally::{Line, Tally};
+use crate::words::Words;
+use rationed::Rationed;
+use std::alloc::{AllocError, Global};
+
+/// The memory that a section has.
+pub type Heap<'h> = &'h Rationed<Global>;
+
+/// What is played.
+pub trait Part {
+    /// Does what a line says, and writes the answer. `None` where it is not understood.
+    fn act(&mut self, words: &mut Words<'_>, answer: &mut String) -> Option<()>;
+}
+
+/// Plays lines, one after another.
+pub fn play<P: Part>(
+    part: &mut P,
+    lines: &[Line<'_>],
+    tally: &mut Tally,
+) -> Result<(), AllocError> {
+    for line in lines {
+        let mut words = Words::of(line.operation);
+        let mut answer = String::new(tally.alloc);
+        if part.act(&mut words, &mut answer).is_none() {
+            answer.push_str("not understood")?;
+        }
+        tally.take(line, answer.as_str())?;
+    }
+    Ok(())
+}
