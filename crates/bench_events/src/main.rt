@@ -10,7 +10,7 @@ use schedule::machine::Machine;
 use schedule::report::Report;
 use std::alloc::Allocator;
 use std::io;
-use test_machines::objects::LOOP;
+use test_objects::LOOP;
 
 const ONE_ELEMENT: Config = Config {
     elements: 1,

@@ -4,6 +4,7 @@ ghost use Rattle.std.specs.Prelude.{◌≡◌, ◌<◌, length, slice_set};
 ghost use Rattle.frame_store.specs.BankViews.{bank_states, IsBank, place_in};
 
 use crate::shown::push_state;
+use crate::slots::push_slots;
 use crate::words::Words;
 use frame_store::bank::BankMut;
 use frame_store::frame::LendSlot;
@@ -164,17 +165,17 @@ fn fill(number: usize, bank: &mut BankMut<'_>) {
     }
 }
 
-/// Slots of two banks that two threads have filled.
-pub fn filled_in_threads<R: Threads + AllocGlobal + Sync, A: Allocator>(
+/// Two threads fill two banks. Writes what all slots hold then.
+pub fn push_filled<R: Threads + AllocGlobal + Sync>(
     rt: &R,
-    alloc: A,
-) -> Result<Store<A>, AllocError> {
-    let mut store = Store::new(alloc, 2, 3, 4)?;
+    answer: &mut String,
+) -> Result<(), AllocError> {
+    let mut store = Store::new(rt.alloc(), 2, 3, 4)?;
     let mut banks = Vec::with_capacity(rt.alloc(), 2)?;
     for bank in store.banks() {
         banks.push(bank)?;
     }
     thread::for_each_mut(rt, &mut banks, 2, &|number, bank| fill(number, bank));
     drop(banks);
-    Ok(store)
+    push_slots(&mut store, answer)
 }

@@ -51,6 +51,14 @@ fn token_of(word: &str) -> Option<Token> {
     })
 }
 
+/// Puts the token that a word tells behind the others.
+fn put_token(tokens: &mut Vec<Token>, word: &str) -> Option<()> {
+    match token_of(word) {
+        Some(token) => tokens.push(token).ok(),
+        None => None,
+    }
+}
+
 /// The tokens that these words tell.
 fn tokens_of(alloc: Global, words: Words<'_>) -> Option<Vec<Token>> {
     let mut tokens = Vec::new(alloc);
@@ -58,10 +66,7 @@ fn tokens_of(alloc: Global, words: Words<'_>) -> Option<Vec<Token>> {
         return Some(tokens);
     }
     for word in words.rest().split(' ') {
-        let Some(token) = token_of(word) else {
-            return None;
-        };
-        tokens.push(token).ok()?;
+        put_token(&mut tokens, word)?;
     }
     Some(tokens)
 }

@@ -1,7 +1,6 @@
 //! A machine that runs an object.
 
 ghost use Rattle.std.specs.Prelude.{◌≡◌, ◌<◌, All, IfOk, IfSome};
-ghost use Rattle.schedule.specs.Runs.{NamesCell};
 
 use crate::part::{Heap, Part};
 use crate::reports::{push_halt, push_report, push_stepped};
@@ -14,14 +13,12 @@ use std::alloc::{AllocError, Global};
 /// The machine of an object.
 pub type ObjectMachine<'m, 'h> = Machine<'m, Loaded<'static, Heap<'h>>, Heap<'h>>;
 
-/// A machine, how many elements it has, and why it halted last.
+/// A machine, and how many elements it has.
 #[derive(Drop)]
 struct Running<'m, 'h> {
     machine: ObjectMachine<'m, 'h>,
     elements: u32,
-    halt: Halt,
     ghost counted: { machine.state.setting.elements ≡ elements },
-    ghost named: { NamesCell machine.state.setting.program halt },
 }
 
 /// A run, until it is reported.
@@ -35,12 +32,17 @@ impl<'m, 'h> RunPart<'m, 'h> {
         requires { machine.state.setting.elements ≡ elements }
     {
         RunPart {
-            running: Some(Running {
-                machine,
-                elements,
-                halt: Halt::Steps,
-            }),
+            running: Some(Running { machine, elements }),
         }
+    }
+}
+
+impl<'m, 'h> RunPart<'m, 'h> {
+    /// Goes on with what a line has left. There is nothing where it was not understood.
+    fn go_on(&mut self, running: Option<Running<'m, 'h>>) -> Option<()> {
+        let is_understood = running.is_some();
+        self.running = running;
+        is_understood.then_some(())
     }
 }
 
@@ -106,15 +108,10 @@ fn step<'m, 'h>(
     let Running {
         mut machine,
         elements,
-        halt,
     } = running;
     let stepped = machine.step(element, pick);
     push_stepped(answer, stepped).ok()?;
-    Some(Running {
-        machine,
-        elements,
-        halt,
-    })
+    Some(Running { machine, elements })
 }
 
 /// Plays the picks that the words tell.
@@ -126,16 +123,11 @@ fn play<'m, 'h>(
     let Running {
         mut machine,
         elements,
-        ..
     } = running;
     let picks = picks_in(*answer.allocator(), words, elements)?;
     let halt = machine.play(&picks);
     push_halt(answer, halt).ok()?;
-    Some(Running {
-        machine,
-        elements,
-        halt,
-    })
+    Some(Running { machine, elements })
 }
 
 /// Plays the elements in turn.
@@ -143,24 +135,15 @@ fn play_in_turn<'m, 'h>(running: Running<'m, 'h>, answer: &mut String) -> Option
     let Running {
         mut machine,
         elements,
-        ..
     } = running;
     let halt = machine.play_in_turn();
     push_halt(answer, halt).ok()?;
-    Some(Running {
-        machine,
-        elements,
-        halt,
-    })
+    Some(Running { machine, elements })
 }
 
 /// Runs in a pseudorandom order, and reports.
 fn run_in_order(running: Running<'_, '_>, order: u64, answer: &mut String) -> Option<()> {
-    let Running {
-        machine,
-        elements,
-        ..
-    } = running;
+    let Running { machine, elements } = running;
     if elements == 0 {
         return None;
     }
@@ -168,18 +151,29 @@ fn run_in_order(running: Running<'_, '_>, order: u64, answer: &mut String) -> Op
     push_report(answer, &machine.run(&picks)).ok()
 }
 
+/// Reports a machine that halted as the word says.
+fn report(running: Running<'_, '_>, halt: &str, answer: &mut String) -> Option<()> {
+    let Running { machine, .. } = running;
+    match halt {
+        "steps" => push_report(answer, &machine.report(Halt::Steps)).ok(),
+        "no-token" => push_report(answer, &machine.report(Halt::NoToken)).ok(),
+        _ => None,
+    }
+}
+
 /// Goes on without the list of events, and reports.
 fn go_on_quietly(running: Running<'_, '_>, answer: &mut String) -> Option<()> {
-    let mut quiet = running.machine.without_events();
+    let Running { machine, .. } = running;
+    let mut quiet = machine.without_events();
     let halt = quiet.play_in_turn();
     push_halt(answer, halt).ok()?;
     answer.push_str(": ").ok()?;
     push_report(answer, &quiet.report(halt)).ok()
 }
 
-/// Takes the machine apart, tells what it has, and reports.
-fn take_apart(running: Running<'_, '_>, answer: &mut String) -> Option<()> {
-    let Running { machine, halt, .. } = running;
+/// Takes a machine apart that halted as the word says, tells what it has, and reports.
+fn take_apart(running: Running<'_, '_>, halt: &str, answer: &mut String) -> Option<()> {
+    let Running { machine, .. } = running;
     let Ok((setup, lanes)) = machine.into_lanes() else {
         return None;
     };
@@ -195,7 +189,23 @@ fn take_apart(running: Running<'_, '_>, answer: &mut String) -> Option<()> {
         "{count} lanes, {tokens} tokens, steps {steps}, turn {turn}: "
     )
     .ok()?;
-    push_report(answer, &setup.report(lanes, halt)).ok()
+    match halt {
+        "steps" => push_report(answer, &setup.report(lanes, Halt::Steps)).ok(),
+        "no-token" => push_report(answer, &setup.report(lanes, Halt::NoToken)).ok(),
+        _ => None,
+    }
+}
+
+/// Runs the elements in turn, and reports.
+fn run_one(running: Running<'_, '_>, answer: &mut String) -> Option<()> {
+    let Running { machine, .. } = running;
+    push_report(answer, &machine.run_one()).ok()
+}
+
+/// The same with no list of events.
+fn run_quietly(running: Running<'_, '_>, answer: &mut String) -> Option<()> {
+    let Running { machine, .. } = running;
+    push_report(answer, &machine.run_quietly()).ok()
 }
 
 /// Does what ends the run.
@@ -206,27 +216,26 @@ fn finish(
     answer: &mut String,
 ) -> Option<()> {
     match operation {
-        "report" => push_report(answer, &running.machine.report(running.halt)).ok(),
-        "run-one" => push_report(answer, &running.machine.run_one()).ok(),
-        "run-quietly" => push_report(answer, &running.machine.run_quietly()).ok(),
+        "report" => report(running, words.word(), answer),
+        "run-one" => run_one(running, answer),
+        "run-quietly" => run_quietly(running, answer),
         "run-in-order" => run_in_order(running, words.long()?, answer),
         "go-on-quietly" => go_on_quietly(running, answer),
-        "take-apart" => take_apart(running, answer),
+        "take-apart" => take_apart(running, words.word(), answer),
         _ => None,
     }
 }
 
 impl Part for RunPart<'_, '_> {
     fn act(&mut self, words: &mut Words<'_>, answer: &mut String) -> Option<()> {
-        let Some(running) = self.running.take() else {
-            return None;
-        };
-        self.running = match words.word() {
-            "step" => step(running, words, answer),
-            "play" => play(running, words, answer),
-            "play-in-turn" => play_in_turn(running, answer),
-            operation => return finish(running, operation, words, answer),
-        };
-        self.running.is_some().then_some(())
+        match self.running.take() {
+            Some(running) => match words.word() {
+                "step" => self.go_on(step(running, words, answer)),
+                "play" => self.go_on(play(running, words, answer)),
+                "play-in-turn" => self.go_on(play_in_turn(running, answer)),
+                operation => finish(running, operation, words, answer),
+            },
+            None => None,
+        }
     }
 }

@@ -1,5 +1,6 @@
 //! Files of sections.
 
+use crate::banks::push_filled;
 use crate::cells::CellsPart;
 use crate::firing::FiringPart;
 use crate::frames::FramesPart;
@@ -88,7 +89,11 @@ fn play_part<R: Threads + AllocGlobal + Sync>(
         "packing" => play_made(Some(PackingPart), first, rest, tally).ok(),
         "instructions" => play_made(Some(FiringPart), first, rest, tally).ok(),
         "slots" => play_made(SlotsPart::new(heap).ok(), first, rest, tally).ok(),
-        "filled" => play_made(SlotsPart::filled(rt, heap).ok(), first, rest, tally).ok(),
+        "threads" => {
+            let mut answer = String::new(tally.alloc);
+            push_filled(rt, &mut answer).ok()?;
+            tally.take(first, answer.as_str()).ok()
+        }
         "frames" => {
             let made = FramesPart::new(heap, words.number()?);
             play_made(made, first, rest, tally).ok()

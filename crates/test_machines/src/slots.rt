@@ -3,7 +3,7 @@
 ghost use Rattle.std.specs.Prelude.{◌≡◌, ◌<◌, true};
 ghost use Rattle.frame_store.specs.Slots.{place_of, with_state};
 
-use crate::banks::{filled_in_threads, on_last_bank};
+use crate::banks::on_last_bank;
 use crate::part::{Heap, Part};
 use crate::shown::push_state;
 use crate::words::Words;
@@ -11,7 +11,6 @@ use frame_store::packing::{pack, unpack};
 use frame_store::slot::Slot;
 use frame_store::store::Store;
 use std::alloc::{AllocError, Allocator};
-use std::thread::Threads;
 use tags::slot::SlotState;
 
 /// Where a slot is.
@@ -32,15 +31,6 @@ impl<'h> SlotsPart<'h> {
     /// Slots that are all empty.
     pub fn new(heap: Heap<'h>) -> Result<SlotsPart<'h>, AllocError> {
         let store = Store::new(heap, 2, 3, 4)?;
-        Ok(SlotsPart { store })
-    }
-
-    /// Slots that two threads have filled.
-    pub fn filled<R: Threads + AllocGlobal + Sync>(
-        rt: &R,
-        heap: Heap<'h>,
-    ) -> Result<SlotsPart<'h>, AllocError> {
-        let store = filled_in_threads(rt, heap)?;
         Ok(SlotsPart { store })
     }
 }
@@ -238,6 +228,42 @@ impl Part for SlotsPart<'_> {
             }
         }
     }
+}
+
+/// Writes what a slot holds.
+fn push_slot<A: Allocator>(
+    store: &mut Store<A>,
+    at: Place,
+    answer: &mut String,
+) -> Result<(), AllocError> {
+    if !has(store, at) {
+        return answer.push_str("none");
+    }
+    let state = store.slot(at.element, at.frame, at.slot).state();
+    push_state(answer, state)
+}
+
+/// Writes what all slots hold, parted by commas.
+pub fn push_slots<A: Allocator>(
+    store: &mut Store<A>,
+    answer: &mut String,
+) -> Result<(), AllocError> {
+    for element in 0..store.elements() {
+        for frame in 0..store.frames() {
+            for slot in 0..store.width() {
+                if !answer.is_empty() {
+                    answer.push_str(", ")?;
+                }
+                let at = Place {
+                    element,
+                    frame,
+                    slot,
+                };
+                push_slot(store, at, answer)?;
+            }
+        }
+    }
+    Ok(())
 }
 
 /// The two words of a slot.
