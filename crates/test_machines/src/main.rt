@@ -1,4 +1,28 @@
-//! Plays scripts.
+//! Plays scripts of calls of the machine and of its parts, and compares the answers with those that stand in the scripts. The words of
+//! this program's command line name files of scripts, which lie in `data`. Empty lines part a script into sections:
+//!
+//! ```text
+//! # the frame manager of two frames
+//! frames 2
+//! request host 1 -> frame 1
+//! request host 2 -> waits
+//! release 1 -> frame 1 for host 2
+//! ```
+//!
+//! - A line is an operation, and behind ` -> ` the answer that should come. Without it the operation should say nothing.
+//! - The first line makes what the section is about: a `queue`, `slots`, `frames N`, `cells N ELEMENT ELEMENTS`, an `object NAME`, the
+//!   `order ELEMENTS` of blocks, a `run NAME ELEMENTS FRAMES STEPS INPUT ..`, or `refusals NAME ELEMENTS FRAMES INPUT EVENTS` of memory to a
+//!   run. In `packing` and `instructions` each line stands for itself, and `threads` is alone. What the other lines may be stands in the
+//!   module of the part, at `act`.
+//! - `refuse FIRST LAST` before the first line has the section played once for each number from FIRST to LAST, on memory that refuses the
+//!   growth of this number.
+//! - A value is a number, or `zero` or `range` with the origin of the fault: `untold`, or a block and a node. A continuation is `host PORT`,
+//!   or a frame, an instruction and a port. A word is a value, `frame N`, or `back` and a continuation.
+//! - A slot is `empty`, `left WORD`, `right WORD`, `credits N`, `waiter CONTINUATION` or `draining N`.
+//! - `# WORDS` is a heading.
+//!
+//! Each answer that differs is told, with its place, and then the exit status is 1. At the end stands how many answers came as told; the
+//! answer of a line that is played several times counts each time.
 #![tactic(auto)]
 
 mod banks;

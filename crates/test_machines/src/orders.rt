@@ -5,7 +5,7 @@ use crate::shown::push_token;
 use crate::words::Words;
 use ordering::log::{Counts, Log};
 use ordering::order;
-use std::alloc::{AllocError, Global};
+use std::alloc::{AllocError, Allocator, Global};
 use tags::token::{Port, To, Token, Word};
 use tags::value::Value;
 
@@ -38,25 +38,24 @@ impl<'h> OrderPart<'h> {
     }
 }
 
-/// The token that a word tells by a frame and a number with a dot between them.
-fn token_of(word: &str) -> Option<Token> {
-    let (frame, number) = word.split_once('.')?;
-    Some(Token {
+/// The token with this number for a frame.
+fn token(frame: u32, number: i64) -> Token {
+    Token {
         to: To::Instr {
-            frame: frame.parse().ok()?,
+            frame,
             ip: 0,
             port: Port::Left,
         },
-        word: Word::Val(Value::Int(number.parse().ok()?)),
-    })
+        word: Word::Val(Value::Int(number)),
+    }
 }
 
-/// Puts the token that a word tells behind the others.
-fn put_token(tokens: &mut Vec<Token>, word: &str) -> Option<()> {
-    match token_of(word) {
-        Some(token) => tokens.push(token).ok(),
-        None => None,
-    }
+/// Puts the token behind the others that a word tells by a frame and a number with a dot between them.
+fn put_token<A: Allocator>(tokens: &mut Vec<Token, A>, word: &str) -> Option<()> {
+    let (frame, number) = word.split_once('.')?;
+    let frame = frame.parse().ok()?;
+    let number = number.parse().ok()?;
+    tokens.push(token(frame, number)).ok()
 }
 
 /// The tokens that these words tell.
