@@ -87,7 +87,7 @@ fn examples_agree<R: Threads + Wait + Sync, W: Write>(
     Ok(true)
 }
 
-/// Whether the answers of commands that read only a graph's text agree with their answer where no growth is refused.
+/// Whether the answers of commands without a report of a run agree with their answer where no growth is refused.
 fn texts_agree<R: Threads + Wait + Sync, W: Write>(
     rt: &R,
     alloc: Global,

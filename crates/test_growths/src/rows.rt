@@ -221,8 +221,8 @@ pub const EXAMPLES: [Example; 19] = [
 /// The words of a command line, with the name of the row and the input.
 type Command = (&'static str, &'static [&'static str], &'static [u8]);
 
-/// Commands that read only a graph's text, or a listing.
-pub const COMPILED: [Command; 8] = [
+/// Commands without a report of a run: the wanted answer is the one where no growth is refused.
+pub const COMPILED: [Command; 9] = [
     ("compile of add", &["ets", "compile"], ADD),
     ("compile of factorial", &["ets", "compile"], FACTORIAL),
     ("compile of sum", &["ets", "compile"], SUM_LOOP),
@@ -231,7 +231,16 @@ pub const COMPILED: [Command; 8] = [
     ("check of chain", &["ets", "check"], ARRAY_LOOP),
     ("dot of chain", &["ets", "dot"], ARRAY_LOOP),
     ("asm of add", &["ets", "asm"], ADD_LISTING),
+    (
+        "profile of add",
+        &["ets", "profile", "--elements", "1,2"],
+        ADD_AND_INPUTS,
+    ),
 ];
+
+/// A graph that adds two inputs, and these.
+const ADD_AND_INPUTS: &[u8] =
+    b"etsgraph 1\nblock m 2 1\n- add 0.0 1.0\nout 2.0\nend\nmain m\n2\n3\n";
 
 /// The listing of an object that adds two inputs.
 const ADD_LISTING: &[u8] =
