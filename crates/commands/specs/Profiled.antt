@@ -43,7 +43,7 @@ pub record IsRow (text : List ℕ) (inputs : List ℤ) (o : RunOptions) (element
   pub report : Report
   pub moments : List Moment
   pub watched : IsWatched Mode.Rounds text graph bytes inputs (config_with o elements) false report moments
-  -- no run is cut off because the list of its events could not grow
+  -- a run that was refused memory has no row
   pub kept : report.end ≢ End.Memory
   pub number : row.elements ≡ elements
   pub rounds : length report.events ≤ row.rounds * elements
@@ -79,7 +79,7 @@ pub record IsProfileOf (input : List ℕ) (o : RunOptions) (z : Sizes) (svg : Bo
   pub given : IsGiven input text inputs
   pub good : IsGoodText text g
   pub waves : AreWavesOf g inputs o.steps end counts
-  -- the first of these that the definition comes to, which does one activity after the other
+  -- and they are the ones that the definition comes to, which looks for all that is enabled and then does it
   pub told : waves_told g inputs o.steps ≡ Some (end, counts)
   pub machine : svg ≡ false → AreRows text inputs o (sizes_below z 64) rows
 
