@@ -1,11 +1,19 @@
 -- Tables of literals that ascend: two with the same literals are the same, and a literal that is put in keeps the order.
-use Rattle.std.proofs.Common.{◌≡◌, ℕ, zero, suc, ◌+◌, ◌<◌, not, Bool, true, false, cond, List, [], ◌∷◌, length, get_or, Some, ℤ, pos, negsuc, refl, sym, ap, subst, ◌∙◌, arith, inl, inr, Less, Equal, Greater}
+use Rattle.std.proofs.Common.{◌≡◌, ℕ, zero, suc, ◌+◌, ◌<◌, ◌≤◌, not, Bool, true, false, cond, List, [], ◌∷◌, length, get_or, Some, ℤ, pos, negsuc, refl, sym, ap, subst, ◌∙◌, arith, inl, inr, Less, Equal, Greater}
 use Rattle.std.specs.Prelude.{⊤, ◌⊎◌, slice_get, int_lt}
 use Rattle.std.specs.Ordering.{int_cmp, match_ordering}
 use Rattle.std.specs.BTreeSet.{insert_key}
-use Rattle.std.proofs.lemmas.Bool.{le-ltb, and_from, not_from_false, false≢true}
-use Rattle.disassembler.proofs.Numbers.{int_lt_trans}
+use Rattle.std.proofs.lemmas.Bool.{ltb-true, lt-ltb, le-ltb, and_from, not_from_false, false≢true}
 use Rattle.assembler.proofs.Fitting.{same_int}
+
+int_lt_trans : (a b c : ℤ) → int_lt a b ≡ true → int_lt b c ≡ true → int_lt a c ≡ true
+int_lt_trans (pos a) (pos b) (pos c) p q = lt-ltb a c (omega (arith, ltb-true a b p, ltb-true b c q))
+int_lt_trans (pos a) (pos b) (negsuc c) p q = absurd cc
+int_lt_trans (pos a) (negsuc b) c p q = absurd cc
+int_lt_trans (negsuc a) (pos b) (pos c) p q = refl
+int_lt_trans (negsuc a) (pos b) (negsuc c) p q = absurd cc
+int_lt_trans (negsuc a) (negsuc b) (pos c) p q = refl
+int_lt_trans (negsuc a) (negsuc b) (negsuc c) p q = lt-ltb c a (omega (arith, ltb-true b a p, ltb-true c b q))
 
 -- z is one of them
 abbrev pub In : ℤ → List ℤ → Type 0
@@ -45,6 +53,18 @@ ascends_from (y ∷ z ∷ zs) h =
     let rest = ascends_from (z ∷ zs) (λ k a b at next. let e : suc k + 1 ≡ suc (k + 1) = omega arith in h (suc k) a b at (ap (slice_get (y ∷ z ∷ zs)) e ∙ next)) in
     ((first, above_more y z zs first rest.0), rest)
 
+above_first : (x z : ℤ) (xs : List ℤ) → Above x xs → slice_get xs 0 ≡ Some z → int_lt x z ≡ true
+above_first x z [] h at = absurd cc
+above_first x z (y ∷ ys) h at = let e : y ≡ z = cc (at) in subst (λ (w : ℤ). int_lt x w ≡ true) e h.0
+
+pub steps_up : (zs : List ℤ) → Ascends zs → (k : ℕ) (y z : ℤ) → slice_get zs k ≡ Some y → slice_get zs (k + 1) ≡ Some z → int_lt y z ≡ true
+steps_up [] h zero y z at next = absurd cc
+steps_up [] h (suc k) y z at next = absurd cc
+steps_up (x ∷ xs) h zero y z at next = let e : x ≡ y = cc (at) in subst (λ (w : ℤ). int_lt w z ≡ true) e (above_first x z xs h.0 next)
+steps_up (x ∷ xs) h (suc k) y z at next =
+    let e : suc (k + 1) ≡ suc k + 1 = omega arith in
+    steps_up xs h.1 k y z at (ap (slice_get (x ∷ xs)) e ∙ next)
+
 -- ---- the same literals
 abbrev Covers : List ℤ → List ℤ → Type 0
 Covers xs ys = (z : ℤ) → In z xs → In z ys
@@ -68,6 +88,28 @@ same_members (x ∷ xs) [] a b h k = absurd (h x (inl refl))
 same_members (x ∷ xs) (y ∷ ys) a b h k =
     let e : x ≡ y = same_heads x y xs ys a.0 b.0 (h x (inl refl)) (k y (inl refl)) in
     ap (λ (w : ℤ). w ∷ xs) e ∙ ap (λ (zs : List ℤ). y ∷ zs) (same_members xs ys a.1 b.1 (in_tail x y xs ys e a.0 h) (in_tail y x ys xs (sym e) b.0 k))
+
+-- a table that has no other literals has no more
+pub no_more : (ys xs : List ℤ) → Ascends xs → Ascends ys → Covers xs ys → length xs ≤ length ys
+no_more [] [] a b h = omega arith
+no_more [] (x ∷ xs) a b h = absurd (h x (inl refl))
+no_more (y ∷ ys) [] a b h = omega arith
+no_more (y ∷ ys) (x ∷ xs) a b h = go (h x (inl refl)) (no_more ys xs a.1 b.1) (no_more ys (x ∷ xs) a b.1)
+  where
+    behind : In x ys → Covers (x ∷ xs) ys
+    behind i z j = skip (h z j)
+      where
+        below : In z (x ∷ xs) → int_lt y z ≡ true
+        below (inl e) = subst (λ (w : ℤ). int_lt y w ≡ true) e (above_in y x ys b.0 i)
+        below (inr m) = int_lt_trans y x z (above_in y x ys b.0 i) (above_in x z xs a.0 m)
+
+        skip : In z (y ∷ ys) → In z ys
+        skip (inl e) = absurd (never z (subst (λ (w : ℤ). int_lt w z ≡ true) e (below j)))
+        skip (inr m) = m
+
+    go : In x (y ∷ ys) → (Covers xs ys → length xs ≤ length ys) → (Covers (x ∷ xs) ys → length (x ∷ xs) ≤ length ys) → length (x ∷ xs) ≤ length (y ∷ ys)
+    go (inl e) one two = let le = one (in_tail x y xs ys (sym e) a.0 h) in omega arith
+    go (inr i) one two = let le = two (behind i) in omega arith
 
 -- ---- one more literal
 abbrev put : List ℤ → ℤ → List ℤ
@@ -145,3 +187,9 @@ pub place_of : (z : ℤ) (zs : List ℤ) → In z zs → (k : ℕ) × (k < lengt
 place_of z [] i = absurd i
 place_of z (y ∷ ys) (inl e) = (0, omega arith, ap (λ (w : ℤ). Some w) e)
 place_of z (y ∷ ys) (inr i) = let p = place_of z ys i in (suc p.0, (let lt = p.1 in omega arith), p.2)
+
+pub in_at : (z : ℤ) (zs : List ℤ) (k : ℕ) → slice_get zs k ≡ Some z → In z zs
+in_at z [] zero at = absurd cc
+in_at z [] (suc k) at = absurd cc
+in_at z (y ∷ ys) zero at = let e : y ≡ z = cc (at) in inl e
+in_at z (y ∷ ys) (suc k) at = inr (in_at z ys k at)

@@ -1,15 +1,15 @@
 -- Every listing of an object is assembled, as this object.
-use Rattle.std.proofs.Common.{◌≡◌, ℕ, not, Bool, true, false, List, Some, None, Result, Ok, Err, refl, sym, ap, subst, ◌∙◌, inl, inr}
+use Rattle.std.proofs.Common.{◌≡◌, ℕ, ◌<◌, true, List, [], ◌∷◌, ◌++◌, length, All, Some, None, Result, Ok, Err, ℤ, refl, sym, ap, subst, ◌∙◌, arith, inl, inr}
 use Rattle.std.specs.Prelude.{IfOk, MatchResult}
 use Rattle.semantics.specs.Program.{Code}
 use Rattle.semantics.specs.Bytes.{IsCode, IsObject}
 use Rattle.object_view.specs.declared.fault.ObjectFault.{ObjectFault}
 use Rattle.object_view.specs.Reading.{Opened, opened}
 use Rattle.object_view.specs.Checks.{first_refusal}
-use Rattle.disassembler.specs.Listing.{is_told, listing}
+use Rattle.disassembler.specs.Listing.{listing, listing_with_literals}
 use Rattle.assembler.specs.declared.fault.AsmFault.{AsmFault}
 use Rattle.assembler.specs.declared.fault.AsmFaultKind.TheVariants.{Memory}
-use Rattle.assembler.specs.Grammar.{code_lines, IsListingOf}
+use Rattle.assembler.specs.Grammar.{head_words, array_words, numbered_lines, block_lines, table_lines, IsListingOf, IsOperand, AllOperands, with_operands}
 use Rattle.assembler.specs.Assembling.{IsFirstFault, assembled}
 use Rattle.assembler.specs.Laws.{IsExact, IsUnique, AllListed, ComesBack, RoundTrips}
 use Rattle.assembler.proofs.Placed.{given}
@@ -17,8 +17,8 @@ use Rattle.assembler.proofs.Steps.{text_restored}
 use Rattle.assembler.proofs.CodeAgain.{listing_again}
 use Rattle.assembler.proofs.Lawful.{lawful_passes}
 use Rattle.assembler.proofs.Signed.{all_sound}
-use Rattle.assembler.proofs.Listed.{lines_listed}
-use Rattle.assembler.proofs.Table.{table_told, table_some}
+use Rattle.assembler.proofs.Listed.{lines_listed, lines_with_literals}
+use Rattle.assembler.proofs.Table.{table_told, told_itself, code_told}
 
 all_assembled : (text : List ℕ) (version : ℕ) (c : Code) → IsListingOf text version c → IsCode version c → assembled text ≡ Ok (version, c)
 all_assembled text version c is has = given text (version, c) (text_restored text (version, c) (listing_again text version c is has)) (lawful_passes version c has)
@@ -26,15 +26,39 @@ all_assembled text version c is has = given text (version, c) (text_restored tex
 pub exact : IsExact
 exact text version c = (λ e. all_sound text version c e, λ h. all_assembled text version c h.0 h.1)
 
-pub all_listed : AllListed
-all_listed version c is = go (is_told c) refl
+whole_listed : (version : ℕ) (c : Code) → IsCode version c → IsListingOf (listing_with_literals version c) version c
+unfolding numbered_lines
+whole_listed version c is = go c.literals refl
   where
-    go : (told : Bool) → is_told c ≡ told → IsListingOf (listing version c) version c
-    go true e = inr (table_told version c is e, lines_listed version c is ∙ ap (λ (t : Bool). code_lines (not t) version c) e)
-    go false e = inl (table_some c e, lines_listed version c is ∙ ap (λ (t : Bool). code_lines (not t) version c) e)
+    none : [] ≡ c.literals → AllOperands c
+    none e = subst (λ (zs : List ℤ). All (IsOperand c.program.blocks) zs) e (λ k d lt. absurd (omega arith))
+
+    go : (table : List ℤ) → c.literals ≡ table → IsListingOf (listing_with_literals version c) version c
+    go [] e = inr (table_told version c is (none (sym e)), lines_with_literals version c is ∙ ap (λ (zs : List ℤ). head_words version c.program.main ∷ (block_lines 0 c.program.blocks ++ (numbered_lines array_words 0 c.program.arrays ++ table_lines true zs))) e)
+    go (z ∷ zs) e = inl (subst (λ (t : List ℤ). 0 < length t) (sym e) (omega arith), lines_with_literals version c is)
+
+same_code : (version : ℕ) (c : Code) → IsCode version c → AllOperands c → with_operands c ≡ c
+same_code version c is told = ap (λ (table : List ℤ). record c { literals = table }) (sym (table_told version c is told))
+
+pub all_listed : AllListed
+all_listed version c is = record {
+  whole = whole_listed version c is;
+  program = inr (refl, lines_listed version c is);
+  object = code_told version c is;
+  same = (λ e. subst AllOperands e (told_itself c), same_code version c is);
+}
 
 pub round_trips : RoundTrips
-round_trips bytes version c is = (all_assembled (listing version c) version c (all_listed version c is.1) is.1, sym is.0)
+round_trips bytes version c is =
+    let listed = all_listed version c is.1 in
+    let text = listing version c.program in
+    let program = all_assembled text version (with_operands c) listed.program listed.object in
+    record {
+      whole = all_assembled (listing_with_literals version c) version c listed.whole is.1;
+      told = λ told. program ∙ ap (λ (d : Code). Ok (version, d)) (same_code version c is.1 told);
+      program = program;
+      spelling = sym is.0;
+    }
 
 abbrev done : ℕ × Code → Result (ℕ × Code) AsmFault
 done r = Ok r

@@ -1,5 +1,5 @@
 -- What is written of a code that has an object falls into the lines of this code.
-use Rattle.std.proofs.Common.{◌≡◌, ℕ, ◌+◌, ◌^◌, ◌<◌, ◌≤◌, not, eqb, leb, Bool, true, false, List, [], ◌∷◌, ◌++◌, length, All, Option, Some, None, ℤ, pos, negsuc, refl, sym, subst, ◌∙◌, append_assoc, arith, inl, inr}
+use Rattle.std.proofs.Common.{◌≡◌, ℕ, ◌+◌, ◌^◌, ◌<◌, ◌≤◌, not, eqb, leb, Bool, true, false, List, [], ◌∷◌, ◌++◌, length, All, Option, Some, None, ℤ, pos, negsuc, refl, sym, ap, subst, ◌∙◌, append_assoc, arith, inl, inr}
 use Rattle.std.specs.Prelude.{codes, ◌⊎◌}
 use Rattle.std.specs.Int.{w64}
 use Rattle.std.specs.Int.RustNames.{FitsSigned}
@@ -27,7 +27,7 @@ use Rattle.semantics.specs.Rule.{slot_of}
 use Rattle.semantics.specs.Text.{field, literal, unary_word, binary_word}
 use Rattle.semantics.specs.Bytes.{IsSlot, IsCode}
 use Rattle.sink.specs.Numbered.{numbered}
-use Rattle.disassembler.specs.Listing.{right_in, left_in, name_of, slot_text, port_letter, dest_text, operand_text, origin_text, instr_line, is_told, literal_line, literal_lines, block_line, array_line, head_line, program_lines, listing}
+use Rattle.disassembler.specs.Listing.{right_in, left_in, name_of, slot_text, port_letter, dest_text, operand_text, origin_text, instr_line, literal_line, block_line, array_line, head_line, listing, listing_with_literals}
 use Rattle.disassembler.specs.Listing as Listing
 use Rattle.graph_file.proofs.Numbers.{own, same_digits}
 use Rattle.graph_file.proofs.Marks.{weaker}
@@ -230,23 +230,33 @@ tells_blocks n (b ∷ bs) few all =
     tells_both (Listing.block_lines n b) (numbered Listing.block_lines (n + 1) bs) (block_words n b ∷ numbered_lines instr_words 0 b.instrs) (block_lines (n + 1) bs)
     (tells_block n b (omega arith) (All-head HasLines b bs all)) (tells_blocks (n + 1) bs (omega arith) (All-tail HasLines b bs all))
 
-tells_table : (used : Bool) (v : ℕ) (c : Code) → IsCode v c → Tells (literal_lines used c.literals) (table_lines (not used) c.literals)
-tells_table true v c is = tells_none
-tells_table false v c is = tells_all (λ (z : ℤ). FitsSigned w64 z) literal_line literal_words 0 c.literals tells_literal (let few = is.few_literals in omega arith) is.literals
+tells_table : (v : ℕ) (c : Code) → IsCode v c → Tells (numbered literal_line 0 c.literals) (table_lines true c.literals)
+tells_table v c is = tells_all (λ (z : ℤ). FitsSigned w64 z) literal_line literal_words 0 c.literals tells_literal (let few = is.few_literals in omega arith) is.literals
 
 version_few : (v : ℕ) → (v ≡ 1) ⊎ (v ≡ 2) → v < 2 ^ 32
 version_few v (inl e) = omega (arith, e)
 version_few v (inr e) = omega (arith, e)
 
-pub lines_listed : (v : ℕ) (c : Code) → IsCode v c → lines_in (listing v c) ≡ code_lines (not (is_told c)) v c
-lines_listed v c is =
+abbrev head_and_blocks : ℕ → Code → Lines
+head_and_blocks v c = head_words v c.program.main ∷ block_lines 0 c.program.blocks
+
+abbrev array_part : Code → Lines
+array_part c = numbered_lines array_words 0 c.program.arrays
+
+tells_program : (v : ℕ) (c : Code) → IsCode v c → Tells (listing v c.program) (head_and_blocks v c ++ array_part c)
+tells_program v c is =
     let m = c.program.main in
-    let head : Lines = head_words v m ∷ [] in
-    let blocks : Lines = block_lines 0 c.program.blocks in
-    let arrays : Lines = numbered_lines array_words 0 c.program.arrays in
-    let table : Lines = table_lines (not (is_told c)) c.literals in
     let main-few : m < 2 ^ 32 = let h = is.main in let k = is.some_block.1 in omega arith in
-    let one = tells_both (head_line v m) (numbered Listing.block_lines 0 c.program.blocks) head blocks (tells_head v m (version_few v is.version_known) main-few) (tells_blocks 0 c.program.blocks (let few = is.some_block.1 in omega arith) (all_lines v c is)) in
-    let two = tells_both (head_line v m ++ numbered Listing.block_lines 0 c.program.blocks) (numbered array_line 0 c.program.arrays) (head ++ blocks) arrays one (tells_all (λ n. n < 2 ^ 32) array_line array_words 0 c.program.arrays tells_array (let few = is.few_arrays in omega arith) (all_lengths v c is)) in
-    let three = tells_both (program_lines v c.program) (literal_lines (is_told c) c.literals) ((head ++ blocks) ++ arrays) table two (tells_table (is_told c) v c is) in
-    told (listing v c) (((head ++ blocks) ++ arrays) ++ table) three ∙ append_assoc (head ++ blocks) arrays table ∙ append_assoc head blocks (arrays ++ table)
+    let one = tells_both (head_line v m) (numbered Listing.block_lines 0 c.program.blocks) (head_words v m ∷ []) (block_lines 0 c.program.blocks) (tells_head v m (version_few v is.version_known) main-few) (tells_blocks 0 c.program.blocks (let few = is.some_block.1 in omega arith) (all_lines v c is)) in
+    tells_both (head_line v m ++ numbered Listing.block_lines 0 c.program.blocks) (numbered array_line 0 c.program.arrays) (head_and_blocks v c) (array_part c) one (tells_all (λ n. n < 2 ^ 32) array_line array_words 0 c.program.arrays tells_array (let few = is.few_arrays in omega arith) (all_lengths v c is))
+
+-- the lines of the listing, and of the listing with the literals
+pub lines_listed : (v : ℕ) (c : Code) → IsCode v c → lines_in (listing v c.program) ≡ code_lines false v c
+lines_listed v c is =
+    told (listing v c.program) (head_and_blocks v c ++ array_part c) (tells_program v c is) ∙ ap (λ (more : Lines). head_and_blocks v c ++ more) (sym (append-nil (array_part c)))
+
+pub lines_with_literals : (v : ℕ) (c : Code) → IsCode v c → lines_in (listing_with_literals v c) ≡ code_lines true v c
+lines_with_literals v c is =
+    let table : Lines = table_lines true c.literals in
+    let all = tells_both (listing v c.program) (numbered literal_line 0 c.literals) (head_and_blocks v c ++ array_part c) table (tells_program v c is) (tells_table v c is) in
+    told (listing_with_literals v c) ((head_and_blocks v c ++ array_part c) ++ table) all ∙ append_assoc (head_and_blocks v c) (array_part c) table

@@ -1,19 +1,19 @@
--- Where the instructions tell the table of literals, it is the one that they tell.
-use Rattle.std.proofs.Common.{◌≡◌, ℕ, zero, suc, ◌+◌, ◌-◌, ◌<◌, ◌≤◌, ltb, Bool, true, false, cond, List, [], ◌∷◌, length, get_or, Option, Some, None, ℤ, refl, sym, ap, subst, ◌∙◌, arith, inl, inr}
-use Rattle.std.specs.Prelude.{◌⊎◌, slice_get, int_lt, Contains}
-use Rattle.std.proofs.lemmas.Bool.{ltb-true, ltb-false, eqb-true, and_parts, or_cases}
-use Rattle.std.proofs.lemmas.Option.{slice_get-get_or, get_or_from_slice_get}
+-- The table that the instructions of a code tell: with it the program has an object, too; and where each literal of the code's
+-- own table is an operand, the two are the same.
+use Rattle.std.proofs.Common.{◌≡◌, ℕ, zero, suc, ◌≤◌, List, [], ◌∷◌, Option, Some, None, ℤ, refl, sym, ap, subst, ◌∙◌, arith, inl, inr}
+use Rattle.std.specs.Prelude.{◌⊎◌, slice_get, Contains}
+use Rattle.std.specs.Int.{w64}
+use Rattle.std.specs.Int.RustNames.{FitsSigned}
+use Rattle.std.proofs.lemmas.Option.{get_or_from_slice_get}
+use Rattle.std.proofs.lemmas.List.Elements.{All-contains}
 use Rattle.semantics.specs.declared.program.Op.{Op}
 use Rattle.semantics.specs.declared.program.Op.TheVariants.{Apply1, Apply2, Apply2Right, Apply2Left, Lit, Copy, Sync, Switch, Fetch, Store, Frame, Link, Send, Return, Ask, Open, Take, Give, Drain, Release}
-use Rattle.semantics.specs.Program.{Instr, CodeBlock, Code, first_of, instr_from, instr_at}
-use Rattle.semantics.specs.Bytes.{number_from, HasOperand, IsCodeBlock, IsCode}
-use Rattle.object_view.specs.Sending.{IsAscending}
-use Rattle.disassembler.specs.Listing.{literal_of, has_number, uses, is_used, are_used, is_told}
-use Rattle.disassembler.proofs.Ascends.{ascending}
-use Rattle.disassembler.proofs.Numbers.{number_stops, number_goes}
-use Rattle.assembler.specs.Grammar.{with_literal, used_by, used_in, table_of}
-use Rattle.assembler.proofs.Room.{all_at}
-use Rattle.assembler.proofs.Ascents.{In, Ascends, not_below, ascends_from, same_members, ascends_put, put_has, put_new, put_old, in_from, place_of}
+use Rattle.semantics.specs.Program.{Instr, CodeBlock, Code}
+use Rattle.semantics.specs.Bytes.{HasOperand, IsInstr, IsCodeBlock, IsCode}
+use Rattle.disassembler.specs.Listing.{literal_of}
+use Rattle.assembler.specs.Grammar.{with_literal, used_by, used_in, table_of, IsOperand, AllOperands, with_operands}
+use Rattle.assembler.proofs.Room.{all_at, all_from}
+use Rattle.assembler.proofs.Ascents.{In, Ascends, ascends_from, steps_up, same_members, no_more, ascends_put, put_has, put_new, put_old, in_from, in_at, place_of}
 
 -- ---- which literals instructions have
 abbrev UsedBy : ℤ → List Instr → Type 0
@@ -148,90 +148,101 @@ by_instr z [] n i at e = absurd cc
 by_instr z (j ∷ js) zero i at e = let k : j ≡ i = cc (at) in inl (ap (λ (x : Instr). literal_of x.op) k ∙ e)
 by_instr z (j ∷ js) (suc n) i at e = inr (by_instr z js n i at e)
 
-in_block : (z : ℤ) (bs : List CodeBlock) (n : ℕ) (i : Instr) → instr_from bs n ≡ Some i → literal_of i.op ≡ Some z → UsedIn z bs
-in_block z [] n i at e = absurd cc
-in_block z (b ∷ bs) n i at e = go (ltb n (length b.instrs)) at (in_block z bs (n - length b.instrs) i)
+by_block : (z : ℤ) (bs : List CodeBlock) (k : ℕ) (b : CodeBlock) → slice_get bs k ≡ Some b → UsedBy z b.instrs → UsedIn z bs
+by_block z [] k b at u = absurd cc
+by_block z (x ∷ xs) zero b at u = let same : x ≡ b = cc (at) in inl (subst (λ (y : CodeBlock). UsedBy z y.instrs) (sym same) u)
+by_block z (x ∷ xs) (suc k) b at u = inr (by_block z xs k b at u)
+
+used_from : (z : ℤ) (bs : List CodeBlock) → IsOperand bs z → UsedIn z bs
+used_from z bs o = by_block z bs o.0 o.1 o.2 (by_instr z o.1.instrs o.3.0 o.3.1 o.3.2 o.3.3)
+
+operand_from : (z : ℤ) (bs : List CodeBlock) → UsedIn z bs → IsOperand bs z
+operand_from z bs u = let b = block_of z bs u in (b.0, b.1, b.2, instr_of z b.1.instrs b.3)
+
+-- ---- the table that the instructions tell
+told_used : (z : ℤ) (bs : List CodeBlock) → In z (table_of bs) → UsedIn z bs
+told_used z bs i = go (in_has z bs [] i)
   where
-    go : (t : Bool) → cond t (slice_get b.instrs n) (instr_from bs (n - length b.instrs)) ≡ Some i → (instr_from bs (n - length b.instrs) ≡ Some i → literal_of i.op ≡ Some z → UsedIn z bs) → UsedIn z (b ∷ bs)
-    go true h ih = inl (by_instr z b.instrs n i h e)
-    go false h ih = inr (ih h e)
+    go : UsedIn z bs ⊎ In z [] → UsedIn z bs
+    go (inl u) = u
+    go (inr j) = absurd j
 
--- an instruction that has the literal of that number
-abbrev HasNumber : Code → ℕ → Type 0
-HasNumber c k = (y : ℤ) × UsedIn y c.program.blocks × (number_from 0 y c.literals ≡ k)
+told_contained : (v : ℕ) (c : Code) (z : ℤ) → IsCode v c → In z (table_of c.program.blocks) → Contains c.literals z
+told_contained v c z is i = used_contained v c z is (told_used z c.program.blocks i)
 
-number_used : (c : Code) (k n : ℕ) (i : Instr) (o : Option ℤ) → instr_at c.program n ≡ Some i → literal_of i.op ≡ o → has_number c.literals o k ≡ true → HasNumber c k
-number_used c k n i None at e h = absurd cc
-number_used c k n i (Some y) at e h = (y, in_block y c.program.blocks n i at e, eqb-true (number_from 0 y c.literals) k h)
+told_in : (v : ℕ) (c : Code) (z : ℤ) → IsCode v c → In z (table_of c.program.blocks) → In z c.literals
+told_in v c z is i = let h = told_contained v c z is i in in_from z c.literals h.0 h.1 h.2
 
-uses_number : (c : Code) (k n : ℕ) (o : Option Instr) → instr_at c.program n ≡ o → uses c.literals o k ≡ true → HasNumber c k
-uses_number c k n None at h = absurd cc
-uses_number c k n (Some i) at h = number_used c k n i (literal_of i.op) at refl h
+told_ascends : (c : Code) → Ascends (table_of c.program.blocks)
+told_ascends c = ascends_in c.program.blocks [] tt
 
-one_uses : (c : Code) (k n : ℕ) → is_used c n k ≡ true → HasNumber c k
-one_uses c k zero h = absurd cc
-one_uses c k (suc n) h = go (or_cases (is_used c n k) (uses c.literals (instr_at c.program n) k) h) (one_uses c k n)
-  where
-    go : (is_used c n k ≡ true) ⊎ (uses c.literals (instr_at c.program n) k ≡ true) → (is_used c n k ≡ true → HasNumber c k) → HasNumber c k
-    go (inl e) ih = ih e
-    go (inr e) ih = uses_number c k n (instr_at c.program n) refl e
-
-abbrev count : Code → ℕ
-count c = first_of c.program (length c.program.blocks)
-
-each_used : (c : Code) (m k : ℕ) → are_used c m ≡ true → k < m → is_used c (count c) k ≡ true
-each_used c zero k h lt = absurd (omega arith)
-each_used c (suc m) k h lt = go (ltb k m) refl (each_used c m k)
-  where
-    p : (are_used c m ≡ true) × (is_used c (count c) m ≡ true)
-    p = and_parts (are_used c m) (is_used c (count c) m) h
-
-    go : (t : Bool) → ltb k m ≡ t → (are_used c m ≡ true → k < m → is_used c (count c) k ≡ true) → is_used c (count c) k ≡ true
-    go true e ih = ih p.0 (ltb-true k m e)
-    go false e ih =
-        let same : m ≡ k = (let le = ltb-false k m e in omega arith) in
-        ap (λ (j : ℕ). is_used c (count c) j) (sym same) ∙ p.1
-
-number_there : (z : ℤ) (ls : List ℤ) (k : ℕ) → IsAscending ls → k < length ls → get_or ls k z ≡ z → number_from 0 z ls ≡ k
-number_there z ls k up lt at =
-    let stop = number_stops 0 z ls k z lt (ap (λ (a : ℤ). int_lt a z) at ∙ not_below z) in
-    omega (arith, stop, least k lt at)
-  where
-    least : (k : ℕ) → k < length ls → get_or ls k z ≡ z → k ≤ number_from 0 z ls
-    least zero lt at = omega arith
-    least (suc m) lt at =
-        let one : m + 1 ≡ suc m = omega arith in
-        let first = slice_get-get_or ls m z (omega (arith, lt)) in
-        let second : slice_get ls (m + 1) ≡ Some z = ap (slice_get ls) one ∙ slice_get-get_or ls (suc m) z lt ∙ ap (λ (a : ℤ). Some a) at in
-        let goes = number_goes 0 z ls m z up (omega (arith, lt)) (up.steps m (get_or ls m z) z first second) in
-        omega (arith, goes)
-
-table_used : (v : ℕ) (c : Code) (z : ℤ) → IsCode v c → is_told c ≡ true → In z c.literals → UsedIn z c.program.blocks
-table_used v c z is told i =
-    let p = place_of z c.literals i in
-    let n = one_uses c p.0 (count c) (each_used c (length c.literals) p.0 told p.1) in
-    let y = n.0 in
-    let there = used_contained v c y is n.1 in
-    let same : there.0 ≡ p.0 = sym (number_there y c.literals there.0 (ascending c.literals is.ascend) there.1 there.2) ∙ n.2 in
-    let at : get_or c.literals p.0 y ≡ y = ap (λ (k : ℕ). get_or c.literals k y) (sym same) ∙ there.2 in
-    let is-z : y ≡ z = sym at ∙ get_or_from_slice_get c.literals p.0 z y p.2 in
-    subst (λ (w : ℤ). UsedIn w c.program.blocks) is-z n.1
-
--- ---- the whole
-pub table_told : (v : ℕ) (c : Code) → IsCode v c → is_told c ≡ true → c.literals ≡ table_of c.program.blocks
+pub table_told : (v : ℕ) (c : Code) → IsCode v c → AllOperands c → c.literals ≡ table_of c.program.blocks
 table_told v c is told =
-    same_members c.literals (table_of c.program.blocks) (ascends_from c.literals is.ascend) (ascends_in c.program.blocks [] tt)
-    (λ z i. in_new z c.program.blocks [] (table_used v c z is told i))
-    (λ z i. go z (in_has z c.program.blocks [] i))
-  where
-    go : (z : ℤ) → UsedIn z c.program.blocks ⊎ In z [] → In z c.literals
-    go z (inl u) = let h = used_contained v c z is u in in_from z c.literals h.0 h.1 h.2
-    go z (inr i) = absurd i
+    same_members c.literals (table_of c.program.blocks) (ascends_from c.literals is.ascend) (told_ascends c)
+    (λ z i. let p = place_of z c.literals i in in_new z c.program.blocks [] (used_from z c.program.blocks (all_at (IsOperand c.program.blocks) c.literals p.0 z told p.2)))
+    (λ z i. told_in v c z is i)
 
--- where the table is listed, it has a literal
-pub table_some : (c : Code) → is_told c ≡ false → 0 < length c.literals
-table_some c e = go (length c.literals) refl
-  where
-    go : (n : ℕ) → length c.literals ≡ n → 0 < length c.literals
-    go zero k = absurd (let h : true ≡ false = sym (ap (are_used c) k) ∙ e in cc)
-    go (suc n) k = omega (arith, k)
+pub told_itself : (c : Code) → AllOperands (with_operands c)
+told_itself c = all_from (IsOperand c.program.blocks) (table_of c.program.blocks) (λ k z at. operand_from z c.program.blocks (told_used z c.program.blocks (in_at z (table_of c.program.blocks) k at)))
+
+-- ---- with that table a program has an object, too
+contains_from : (z : ℤ) (zs : List ℤ) → In z zs → Contains zs z
+contains_from z zs i = let p = place_of z zs i in (p.0, p.1, get_or_from_slice_get zs p.0 z z p.2)
+
+operand_told : (c : Code) (op : Op) → ((z : ℤ) → literal_of op ≡ Some z → Contains (table_of c.program.blocks) z) → HasOperand c op → HasOperand (with_operands c) op
+operand_told c (Apply1 op) u h = tt
+operand_told c (Apply2 op) u h = tt
+operand_told c (Apply2Right op z) u h = u z refl
+operand_told c (Apply2Left op z) u h = u z refl
+operand_told c (Lit z) u h = u z refl
+operand_told c Copy u h = tt
+operand_told c Sync u h = tt
+operand_told c Switch u h = tt
+operand_told c (Fetch a) u h = h
+operand_told c (Store a) u h = h
+operand_told c Frame u h = tt
+operand_told c (Link b) u h = h
+operand_told c (Send b x) u h = h
+operand_told c (Return o) u h = h
+operand_told c (Ask o) u h = h
+operand_told c (Open k) u h = h
+operand_told c (Take k) u h = h
+operand_told c (Give k) u h = h
+operand_told c (Drain k) u h = h
+operand_told c (Release o) u h = h
+
+instr_told : (v : ℕ) (c : Code) (k : ℕ) (b : CodeBlock) (n : ℕ) (i : Instr) → slice_get c.program.blocks k ≡ Some b → slice_get b.instrs n ≡ Some i → IsInstr v c b n i → IsInstr v (with_operands c) b n i
+instr_told v c k b n i at here is = record {
+  operand = operand_told c i.op (λ z e. contains_from z (table_of c.program.blocks) (in_new z c.program.blocks [] (by_block z c.program.blocks k b at (by_instr z b.instrs n i here e)))) is.operand;
+  origin = is.origin;
+  slot = is.slot;
+  dests = is.dests;
+  firsts = is.firsts;
+  seconds = is.seconds;
+}
+
+block_told : (v : ℕ) (c : Code) (k : ℕ) (b : CodeBlock) → slice_get c.program.blocks k ≡ Some b → IsCodeBlock v c b → IsCodeBlock v (with_operands c) b
+block_told v c k b at is = record {
+  inputs = is.inputs;
+  outputs = is.outputs;
+  size = is.size;
+  slots = is.slots;
+  instrs = λ n i here. instr_told v c k b n i at here (is.instrs n i here);
+}
+
+pub code_told : (v : ℕ) (c : Code) → IsCode v c → IsCode v (with_operands c)
+code_told v c is =
+    let table = table_of c.program.blocks in
+    let few = no_more c.literals table (told_ascends c) (ascends_from c.literals is.ascend) (λ z i. told_in v c z is i) in
+    record {
+      version_known = is.version_known;
+      some_block = is.some_block;
+      main = is.main;
+      few_literals = (let most = is.few_literals in omega (arith, few, most));
+      literals = all_from (λ (z : ℤ). FitsSigned w64 z) table (λ k z at. All-contains (λ (y : ℤ). FitsSigned w64 y) c.literals z is.literals (told_contained v c z is (in_at z table k at)));
+      ascend = steps_up table (told_ascends c);
+      few_arrays = is.few_arrays;
+      arrays = is.arrays;
+      cells = is.cells;
+      blocks = all_from (IsCodeBlock v (with_operands c)) c.program.blocks (λ k b at. block_told v c k b at (all_at (IsCodeBlock v c) c.program.blocks k b is.blocks at));
+    }

@@ -1,6 +1,6 @@
 -- Which texts are listings of a code: those whose lines have the words of its listing, in order. Columns are free, and so are
 -- lines with no words.
-use Rattle.std.specs.Prelude.{◌≡◌, ◌⊎◌, ◌<◌, ℕ, ◌+◌, Bool, true, false, ℤ, Option, Some, None, List, [], ◌∷◌, ◌++◌, length, decimal, codes}
+use Rattle.std.specs.Prelude.{◌≡◌, ◌⊎◌, ◌<◌, ℕ, ◌+◌, Bool, true, false, ℤ, Option, Some, None, List, [], ◌∷◌, ◌++◌, All, length, slice_get, decimal, codes}
 use Rattle.tags.specs.declared.value.Origin.{Origin}
 use Rattle.tags.specs.declared.value.Origin.TheVariants.{Untold, At}
 use Rattle.semantics.specs.Program.{Instr, CodeBlock, Code}
@@ -63,6 +63,18 @@ used_in (b ∷ bs) table = used_in bs (used_by b.instrs table)
 
 abbrev pub table_of : List CodeBlock → List ℤ
 table_of blocks = used_in blocks []
+
+-- some instruction of the blocks has the literal as its operand
+abbrev pub IsOperand : List CodeBlock → ℤ → Type 0
+IsOperand blocks z = (k : ℕ) × (b : CodeBlock) × (slice_get blocks k ≡ Some b) × ((n : ℕ) × (i : Instr) × (slice_get b.instrs n ≡ Some i) × (literal_of i.op ≡ Some z))
+
+-- The instructions tell the table: each of its literals is an operand.
+abbrev pub AllOperands : Code → Type 0
+AllOperands c = All (IsOperand c.program.blocks) c.literals
+
+-- the same program, with the table that its instructions tell
+abbrev pub with_operands : Code → Code
+with_operands c = record c { literals = table_of c.program.blocks }
 
 -- A TEXT IS A LISTING of this version and code: with the table of literals, or without it where the instructions tell it.
 abbrev pub IsListingOf : List ℕ → ℕ → Code → Type 0

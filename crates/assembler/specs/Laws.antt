@@ -1,10 +1,10 @@
--- Listings and objects: what is assembled of a text is the one object that the text is a listing of, and the listing that is
--- written of an object gives the object's bytes again.
+-- Listings and objects: what is assembled of a text is the one object that the text is a listing of, and what is listed of an
+-- object gives the object's bytes again: with its table of literals always, and without it where the instructions tell the table.
 use Rattle.std.specs.Prelude.{◌≡◌, ◌↔◌, ℕ, List, Ok}
 use Rattle.semantics.specs.Program.{Code}
 use Rattle.semantics.specs.Bytes.{bytes_of, IsCode, IsObject}
-use Rattle.disassembler.specs.Listing.{listing}
-use Rattle.assembler.specs.Grammar.{IsListingOf}
+use Rattle.disassembler.specs.Listing.{listing, listing_with_literals}
+use Rattle.assembler.specs.Grammar.{IsListingOf, AllOperands, with_operands}
 use Rattle.assembler.specs.Assembling.{assembled}
 
 -- What is assembled of a text is the code that has an object and that the text is a listing of.
@@ -15,13 +15,24 @@ IsExact = (text : List ℕ) (version : ℕ) (c : Code) → (assembled text ≡ O
 abbrev pub IsUnique : Type 0
 IsUnique = (text : List ℕ) (v w : ℕ) (c d : Code) → IsListingOf text v c → IsCode v c → IsListingOf text w d → IsCode w d → (v ≡ w) × (c ≡ d)
 
--- what is written of an object is a listing of it
-abbrev pub AllListed : Type 0
-AllListed = (version : ℕ) (c : Code) → IsCode version c → IsListingOf (listing version c) version c
+-- What is written of an object with its literals is a listing of it; without them, of the same program with the table that its
+-- instructions tell, which is the object's own exactly where they tell all of it.
+pub record IsListed (version : ℕ) (c : Code) : Type 0 where
+  pub whole : IsListingOf (listing_with_literals version c) version c
+  pub program : IsListingOf (listing version c.program) version (with_operands c)
+  pub object : IsCode version (with_operands c)
+  pub same : (with_operands c ≡ c) ↔ AllOperands c
 
--- The listing that is written of a version and a code is assembled as these, and the bytes of these are the given ones.
-abbrev pub ComesBack : List ℕ → ℕ → Code → Type 0
-ComesBack bytes version c = (assembled (listing version c) ≡ Ok (version, c)) × (bytes_of version c ≡ bytes)
+abbrev pub AllListed : Type 0
+AllListed = (version : ℕ) (c : Code) → IsCode version c → IsListed version c
+
+-- The bytes of a version and a code are the given ones. The listing with the literals is assembled as these; the listing
+-- without them, where the instructions tell the table; and else as the same program with the table that they tell.
+pub record ComesBack (bytes : List ℕ) (version : ℕ) (c : Code) : Type 0 where
+  pub whole : assembled (listing_with_literals version c) ≡ Ok (version, c)
+  pub told : AllOperands c → assembled (listing version c.program) ≡ Ok (version, c)
+  pub program : assembled (listing version c.program) ≡ Ok (version, with_operands c)
+  pub spelling : bytes_of version c ≡ bytes
 
 -- each object comes back
 abbrev pub RoundTrips : Type 0

@@ -65,7 +65,8 @@ pub fn assemble<A: Allocator + Clone>(alloc: A, text: &[u8]) -> Result<Assembled
 }
 
 /// What is assembled of a text is the object that the text is a listing of, and a text is a listing of one object at most.
-/// What is written of an object is a listing of it, and gives the object's bytes again.
+/// What is listed of an object with its literals is a listing of it, and gives the object's bytes again; so does what is listed
+/// without them, where each literal of the table is an operand.
 pub fn one_object()
     ensures exact { IsExact }
     ensures unique { IsUnique }
@@ -73,7 +74,8 @@ pub fn one_object()
     ensures round_trip { RoundTrips }
 {}
 
-/// What is written of an object that is opened is assembled as this object.
+/// What is listed of an object that is opened is assembled as this object: with its literals always, and without them where each
+/// of them is an operand.
 pub fn comes_back(bytes: &[u8])
     ensures { first_refusal bytes.now ≡ None → ComesBack bytes.now (opened bytes.now).version (opened bytes.now).code }
 {

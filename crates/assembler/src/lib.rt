@@ -1,4 +1,5 @@
-//! The assembler: reads a listing, and gives the code of the object that it is of. The inverse of `disassembler::list`.
+//! The assembler: reads a listing, and gives the code of the object that it is of. The inverse of
+//! `disassembler::list_with_literals`, and of `disassembler::list` where the instructions tell the table of literals.
 #![tactic(auto)]
 
 mod assembling;

@@ -9,6 +9,7 @@ use Rattle.graph_file.specs.Fields.{literal_of}
 use Rattle.command_line.specs.declared.Asked.{Asked}
 use Rattle.command_line.specs.declared.Command.{Command}
 use Rattle.command_line.specs.declared.Format.{Format}
+use Rattle.command_line.specs.declared.Literals.{Literals}
 use Rattle.command_line.specs.declared.Mode.{Mode}
 use Rattle.command_line.specs.declared.Request.{Request}
 use Rattle.command_line.specs.declared.RunOptions.{RunOptions}
@@ -46,13 +47,14 @@ option_named name =
     else (if bytes_eq name (codes "frames") then Some OptionName.Frames
     else (if bytes_eq name (codes "steps") then Some OptionName.Steps
     else (if bytes_eq name (codes "mode") then Some OptionName.Mode
+    else (if bytes_eq name (codes "literals") then Some OptionName.Literals
     else (if bytes_eq name (codes "code") then Some OptionName.Code
     else (if bytes_eq name (codes "last") then Some OptionName.Last
     else (if bytes_eq name (codes "format") then Some OptionName.Format
     else (if bytes_eq name (codes "count") then Some OptionName.Count
     else (if bytes_eq name (codes "seed") then Some OptionName.Seed
     else (if bytes_eq name (codes "svg") then Some OptionName.Svg
-    else None)))))))))
+    else None))))))))))
 
 abbrev pub says_how_to_run : OptionName → Bool
 says_how_to_run OptionName.Elements = true
@@ -73,6 +75,7 @@ takes Command.Trace OptionName.Last = true
 takes Command.Trace OptionName.Format = true
 takes Command.Trace o = says_how_to_run o
 takes Command.Mean OptionName.Steps = true
+takes Command.Dis OptionName.Literals = true
 takes Command.Dot OptionName.Code = true
 takes Command.Profile OptionName.Sizes = true
 takes Command.Profile OptionName.Frames = true
@@ -109,7 +112,7 @@ request_of Command.Run g ins = Request.Run (run_options g)
 request_of Command.Mean g ins = Request.Mean (unwrap_or g.steps 1000000)
 request_of Command.Check g ins = Request.Check
 request_of Command.Compile g ins = Request.Compile
-request_of Command.Dis g ins = Request.Dis
+request_of Command.Dis g ins = Request.Dis g.literals
 request_of Command.Upgrade g ins = Request.Upgrade
 request_of Command.Dot g ins = Request.Dot g.code
 request_of Command.Exec g ins = Request.Exec (run_options g) ins
@@ -193,6 +196,7 @@ with_option g OptionName.Count value = option_map (λ n. record g { count = Some
 with_option g OptionName.Seed value = option_map (λ n. record g { seed = Some n }) (first_number g.seed value)
 with_option g OptionName.Format value = option_map (λ f. record g { format = Some f }) (first_format g.format value)
 with_option g OptionName.Sizes value = option_map (λ z. record g { sizes = Some z }) (first_sizes g.sizes value)
+with_option g OptionName.Literals value = None
 with_option g OptionName.Code value = None
 with_option g OptionName.Svg value = None
 
@@ -236,8 +240,13 @@ long_of word = option_map (parts_at 61) (option_and_then (after 45) (after 45 wo
 abbrev pub valued : Given → OptionName → Text → Step
 valued g o value = option_map_or (λ more. Step.Next more None) (with_option g o value) Step.Mistake
 
--- `code` and `svg` have no value, and may be given once; each other option waits for the next word
+-- `literals`, `code` and `svg` have no value, and may be given once; each other option waits for the next word
+abbrev pub literals_listed : Given → Literals → Step
+literals_listed g Literals.Listed = Step.Mistake
+literals_listed g Literals.LeftOut = Step.Next (record g { literals = Literals.Listed }) None
+
 abbrev pub without_value : Given → OptionName → Step
+without_value g OptionName.Literals = literals_listed g g.literals
 without_value g OptionName.Code = if g.code then Step.Mistake else Step.Next (record g { code = true }) None
 without_value g OptionName.Svg = if g.svg then Step.Mistake else Step.Next (record g { svg = true }) None
 without_value g o = Step.Next g (Some o)
@@ -301,6 +310,7 @@ nothing = record {
   frames = None;
   steps = None;
   mode = None;
+  literals = Literals.LeftOut;
   code = false;
   last = None;
   format = None;

@@ -25,7 +25,9 @@ pub enum Request {
     /// Compiles and runs the graph on standard input.
     Run(RunOptions),
     /// Lists the object on standard input.
-    Dis,
+    Dis {
+        literals: Literals,
+    },
     /// Writes the object on standard input as version 2.
     Upgrade,
     /// Runs the meaning of the graph on standard input, for at most this number of activities.
@@ -61,6 +63,13 @@ pub enum Request {
         count: u64,
         seed: u64,
     },
+}
+
+/// Whether the table of literals stands behind a listing.
+#[derive(Clone, Copy, Debug, PartialEq, Eq)]
+pub enum Literals {
+    LeftOut,
+    Listed,
 }
 
 /// How a trace is written.

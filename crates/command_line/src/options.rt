@@ -1,9 +1,9 @@
 //! The options of a command, and what one word after it says.
 
 ghost use Rattle.std.specs.Prelude.{◌≡◌, ◌<◌, option_map};
-ghost use Rattle.command_line.specs.Words.{after, asks_help, asks_version, first_mode, first_format, first_number, first_sizes, flag_met, format_named, is_flag, is_short, long_of, mode_named, named, nothing, number_of, option_met, option_named, option_of, parts_at, plain_met, request_of, run_options, says_how_to_run, sizes_from, takes, takes_inputs, usual_sizes, valued, with_option, without_value, word_met};
+ghost use Rattle.command_line.specs.Words.{after, asks_help, asks_version, first_mode, first_format, first_number, first_sizes, flag_met, format_named, is_flag, is_short, literals_listed, long_of, mode_named, named, nothing, number_of, option_met, option_named, option_of, parts_at, plain_met, request_of, run_options, says_how_to_run, sizes_from, takes, takes_inputs, usual_sizes, valued, with_option, without_value, word_met};
 
-use crate::{Command, Format, Inputs, Mode, Request, RunOptions, Sizes};
+use crate::{Command, Format, Inputs, Literals, Mode, Request, RunOptions, Sizes};
 
 /// The options of all commands.
 #[derive(Clone, Copy, Debug, PartialEq, Eq)]
@@ -12,6 +12,8 @@ pub(crate) enum OptionName {
     Frames,
     Steps,
     Mode,
+    /// It has no value.
+    Literals,
     /// It has no value.
     Code,
     Last,
@@ -32,6 +34,7 @@ pub(crate) struct Given {
     pub(crate) steps: Option<u64>,
     /// Within: `None` where the word is that of no mode.
     pub(crate) mode: Option<Option<Mode>>,
+    pub(crate) literals: Literals,
     pub(crate) code: bool,
     pub(crate) last: Option<u64>,
     pub(crate) format: Option<Format>,
@@ -63,6 +66,7 @@ impl Given {
             frames: None,
             steps: None,
             mode: None,
+            literals: Literals::LeftOut,
             code: false,
             last: None,
             format: None,
@@ -114,7 +118,7 @@ impl Given {
                 sizes: Some(first_sizes(self.sizes, value)?),
                 ..self
             }),
-            OptionName::Code | OptionName::Svg => None,
+            OptionName::Literals | OptionName::Code | OptionName::Svg => None,
         }
     }
 }
@@ -220,6 +224,8 @@ fn option_named(name: &str) -> Option<OptionName>
         Some(OptionName::Steps)
     } else if name == "mode" {
         Some(OptionName::Mode)
+    } else if name == "literals" {
+        Some(OptionName::Literals)
     } else if name == "code" {
         Some(OptionName::Code)
     } else if name == "last" {
@@ -266,6 +272,7 @@ fn takes(command: Command, option: OptionName) -> bool
             says_how_to_run(option) || matches!(option, OptionName::Last | OptionName::Format)
         }
         Command::Mean => option == OptionName::Steps,
+        Command::Dis => option == OptionName::Literals,
         Command::Dot => option == OptionName::Code,
         Command::Profile => matches!(
             option,
@@ -312,7 +319,9 @@ pub(crate) fn request_of(command: Command, given: Given, inputs: Inputs) -> Requ
         },
         Command::Check => Request::Check,
         Command::Compile => Request::Compile,
-        Command::Dis => Request::Dis,
+        Command::Dis => Request::Dis {
+            literals: given.literals,
+        },
         Command::Upgrade => Request::Upgrade,
         Command::Dot => Request::Dot { code: given.code },
         Command::Exec => Request::Exec {
@@ -407,11 +416,28 @@ fn valued(given: Given, option: OptionName, value: &str) -> Step
     }
 }
 
+/// The option `--literals`, which may be given once.
+fn literals_listed(given: Given) -> Step
+    ensures { result ≡ literals_listed given given.literals }
+{
+    match given.literals {
+        Literals::Listed => Step::Mistake,
+        Literals::LeftOut => Step::Next(
+            Given {
+                literals: Literals::Listed,
+                ..given
+            },
+            None,
+        ),
+    }
+}
+
 /// The option where no `=` follows its name.
 fn without_value(given: Given, option: OptionName) -> Step
     ensures { result ≡ without_value given option }
 {
     match option {
+        OptionName::Literals => literals_listed(given),
         OptionName::Code if given.code => Step::Mistake,
         OptionName::Code => Step::Next(
             Given {

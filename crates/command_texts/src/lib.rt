@@ -43,7 +43,8 @@ Graphs, inputs, reports, objects and all refusals: docs/FORMATS.md. Graphs to tr
 
 Exit status: 0 done, or a run that ended at rest; 1 a refusal, a mistake in the command line, or a failed write;
   2 a run that starved; 3 a cell that was filled twice; 4 out of steps; 5 stuck; 6 out of memory in a run.
-After a refusal, and after an end that is not at rest, a hint stands on standard error.";
+After a refusal, a mistake, and a report or a profile that does not end at rest, a hint stands on standard
+  error; profile --svg and trace --format chrome tell no end, so there only after a refusal or a mistake.";
 
 /// The end of the help of `ets run`.
 const AFTER_RUN: &str = "\
@@ -63,7 +64,8 @@ Example: sed '/^main /q' examples/add.ets | ets compile > object
 The object file: docs/FORMATS.md, \"Object file\".";
 
 const AFTER_DIS: &str = "\
-Example: ets dis < examples/add.etsobject
+Examples: ets dis < examples/add.etsobject
+          ets dis --literals < object | ets asm > again
 The listing: docs/FORMATS.md, \"Listing of `ets dis`\".";
 
 const AFTER_UPGRADE: &str = "\
@@ -168,6 +170,17 @@ fn mean_command<'a>(alloc: Global) -> Result<Command<'a>, AllocError> {
         .arg(number(alloc, "steps", "1000000", "activities at most"))
 }
 
+fn dis_command<'a>(alloc: Global) -> Result<Command<'a>, AllocError> {
+    let literals = Arg::new(alloc, "literals")
+        .long("literals")
+        .action(ArgAction::SetTrue)
+        .help("the object's table of literals, too");
+    Command::new(alloc, "dis")
+        .about("Lists the code of the object on standard input")
+        .after_help(AFTER_DIS)
+        .arg(literals)
+}
+
 fn dot_command<'a>(alloc: Global) -> Result<Command<'a>, AllocError> {
     let code = Arg::new(alloc, "code")
         .long("code")
@@ -242,9 +255,6 @@ pub fn program_command<'a>(alloc: Global) -> Result<Command<'a>, AllocError> {
     let compile = Command::new(alloc, "compile")
         .about("Writes the object of the graph on standard input")
         .after_help(AFTER_COMPILE);
-    let dis = Command::new(alloc, "dis")
-        .about("Lists the code of the object on standard input")
-        .after_help(AFTER_DIS);
     let upgrade = Command::new(alloc, "upgrade")
         .about("Writes the object on standard input as version 2 of the object file")
         .after_help(AFTER_UPGRADE);
@@ -258,7 +268,7 @@ pub fn program_command<'a>(alloc: Global) -> Result<Command<'a>, AllocError> {
         .subcommand_required(true)
         .subcommand(check)?
         .subcommand(compile)?
-        .subcommand(dis)?
+        .subcommand(dis_command(alloc)?)?
         .subcommand(asm)?
         .subcommand(upgrade)?
         .subcommand(dot_command(alloc)?)?

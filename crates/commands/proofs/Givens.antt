@@ -83,15 +83,16 @@ module _ (input text : List ℕ) (inputs : List ℤ) (given : IsGiven input text
   stopped_profile o s svg f why = record { parts = parts; why = inr (subst (λ (z : Result (List ℤ) ℕ). WhyNoProfile z text o s svg f) (sym given.integers) why) }
 
   -- RUN AND TRACE
-  pub run_of : (o : RunOptions) (g : Graph) (r : Report) (mode : Mode) → o.mode ≡ Some mode → (c : Config) → c ≡ config_of o → TellsQuietly text g inputs c false r → IsRunOf input o g r
+  pub run_of : (o : RunOptions) (g : Graph) (r : Report) (mode : Mode) → o.mode ≡ Some mode → (c : Config) → c ≡ config_of o
+      → (may_stop : Bool) → may_stop ≡ false → TellsQuietly mode text g inputs c may_stop r → IsRunOf input o g r
   unfolding parts
-  run_of o g r mode named c same tells = record {
+  run_of o g r mode named c same may_stop never tells = record {
     parts = parts;
     inputs = inputs;
     integers = given.integers;
     mode = mode;
     named = named;
-    tells = subst (λ (d : Config). TellsQuietly text g inputs d false r) same tells;
+    tells = subst (λ (b : Bool). TellsQuietly mode text g inputs (config_of o) b r) never (subst (λ (d : Config). TellsQuietly mode text g inputs d may_stop r) same tells);
   }
 
   pub trace_of : (o : RunOptions) (g : Graph) (bytes : List ℕ) (r : Report) (moments : List Moment) (mode : Mode) → o.mode ≡ Some mode → (c : Config) → c ≡ config_of o

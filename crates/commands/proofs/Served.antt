@@ -8,6 +8,7 @@ use Rattle.semantics.specs.Graph.{Graph}
 use Rattle.semantics.specs.Report.{Report}
 use Rattle.schedule.specs.declared.config.Config.{Config}
 use Rattle.schedule.specs.declared.config.StartFault.{StartFault}
+use Rattle.schedule.specs.Unlisted.{Quietly}
 use Rattle.oracle.specs.declared.report.MeanEnd.{MeanEnd}
 use Rattle.oracle.specs.declared.report.Full.{Full}
 use Rattle.oracle.specs.Reporting.{IsMeant}
@@ -17,12 +18,11 @@ use Rattle.command_line.specs.declared.inputs.Inputs.{Inputs}
 use Rattle.driver.specs.declared.fault.Fault.{Fault}
 use Rattle.commands.specs.declared.input.LinesFault.{LinesFault}
 use Rattle.commands.specs.declared.refusal.Refusal.{Refusal}
-use Rattle.driver.specs.Headline.{TellsQuietly, stops_in}
 use Rattle.commands.specs.Input.{graph_length, integers_of, IsBadInput}
-use Rattle.driver.specs.Objects.{ShowsObject, Quietly}
+use Rattle.driver.specs.Objects.{ShowsObjectIn}
 use Rattle.driver.specs.Refused.{IsGoodText, IsReady, IsReadyObject, IsBadText, IsRefused, IsRefusedMeaning, IsRefusedObject}
 use Rattle.commands.specs.Refusals.{told_as}
-use Rattle.commands.specs.Served.{Prints, Parts, config_of, IsRefusedLine, IsRunOf, IsNoRunOf, WhyNoRun, IsMeaningOf, IsNoMeaningOf, WhyNoMeaning, IsExecOf, IsNoExecOf}
+use Rattle.commands.specs.Served.{Prints, Parts, config_of, IsRefusedLine, IsNoRunOf, WhyNoRun, IsMeaningOf, IsNoMeaningOf, WhyNoMeaning, IsExecOf, IsNoExecOf}
 
 -- WHAT IS PRINTED
 pub printed : (E : Type 0) (x : ⊤) (n : ℕ) (old new : Option (List ℕ)) (sent text : List ℕ) (status : ℕ) → sent ≡ text → n ≡ status → Sends {E = E} (Ok x) old new sent → Prints {E = E} (Ok n) old new text status
@@ -33,25 +33,19 @@ pub stopped : (E : Type 0) (e : E) (old new : Option (List ℕ)) (sent text : Li
 unfolding Sends
 stopped E e old new sent text status same h = (h.0, h.1, sym same ∙ h.2, h.3)
 
--- no run is stopped by a gate that stops none
-pub never_stops : (mode : Mode) (may_stop : Bool) → may_stop ≡ false → stops_in mode may_stop ≡ false
-never_stops Mode.One may_stop never = refl
-never_stops Mode.Rounds may_stop never = never
-never_stops Mode.Free may_stop never = never
-
 -- a line that is no integer
 pub bad_line_of : (lines : List ℕ) (f : LinesFault) (n : ℕ) → f ≡ LinesFault.BadLine n → IsBadInput lines f → integers_of lines ≡ Err n
 bad_line_of lines f n is bad = subst (λ (x : LinesFault). IsBadInput lines x) is bad
 
 -- EXEC
 pub executed : (bytes : List ℕ) (o : RunOptions) (inputs : List ℤ) (r : Report) (mode : Mode) → o.mode ≡ Some mode → (c : Config) → c ≡ config_of o
-    → Quietly (ShowsObject bytes inputs c false false) r → IsExecOf bytes o (Inputs.Integers (record { items = inputs })) r
-executed bytes o inputs r mode named c same shows = record {
+    → (may_stop : Bool) → may_stop ≡ false → Quietly (ShowsObjectIn mode bytes inputs c may_stop) r → IsExecOf bytes o (Inputs.Integers (record { items = inputs })) r
+executed bytes o inputs r mode named c same may_stop never shows = record {
   inputs = inputs;
   integers = refl;
   mode = mode;
   named = named;
-  shows = subst (λ (d : Config). Quietly (ShowsObject bytes inputs d false false) r) same shows;
+  shows = subst (λ (b : Bool). Quietly (ShowsObjectIn mode bytes inputs (config_of o) b) r) never (subst (λ (d : Config). Quietly (ShowsObjectIn mode bytes inputs d may_stop) r) same shows);
 }
 
 pub refused_exec : (bytes : List ℕ) (o : RunOptions) (inputs : List ℤ) (c : Config) → c ≡ config_of o → (fault : Fault) → IsRefusedObject bytes inputs c fault
@@ -67,17 +61,6 @@ module _ (input text lines : List ℕ) (whole : text ++ lines ≡ input) (end : 
   parts = record { text = text; lines = lines; whole = whole; end = end }
 
   -- RUN
-  pub ran : (o : RunOptions) (g : Graph) (r : Report) (inputs : List ℤ) → integers_of lines ≡ Ok inputs → (mode : Mode) → o.mode ≡ Some mode → (c : Config) → c ≡ config_of o
-      → TellsQuietly text g inputs c false r → IsRunOf input o g r
-  ran o g r inputs integers mode named c same tells = record {
-    parts = parts;
-    inputs = inputs;
-    integers = integers;
-    mode = mode;
-    named = named;
-    tells = subst (λ (d : Config). TellsQuietly text g inputs d false r) same tells;
-  }
-
   pub no_memory : (o : RunOptions) → IsNoRunOf input o Refusal.Memory
   no_memory o = record { parts = parts; why = inl refl }
 

@@ -4,8 +4,9 @@ use Rattle.std.specs.Result.{result_unwrap_or}
 use Rattle.std.specs.declared.io.Error.{Error}
 use Rattle.command_line.specs.Words.{asked, version_line}
 use Rattle.command_line.specs.declared.Asked.{Asked}
+use Rattle.command_line.specs.declared.Literals.{Literals}
 use Rattle.command_line.specs.declared.Request.{Request}
-use Rattle.driver.specs.Disassembled.{listing_of, upgrade_of}
+use Rattle.driver.specs.Disassembled.{listing_of, listing_with_literals_of, upgrade_of}
 use Rattle.commands.specs.declared.input.InputFault.{InputFault}
 use Rattle.commands.specs.declared.refusal.Refusal.{Refusal}
 use Rattle.commands.specs.Assembled.{PrintsAssembled}
@@ -20,7 +21,8 @@ abbrev pub Answers : {E : Type 0} → Result ℕ E → Option (List ℕ) → Opt
 Answers result old new input Request.Check = PrintsCheck result old new input
 Answers result old new input Request.Compile = PrintsObject result old new input
 Answers result old new input (Request.Run o) = PrintsRun result old new input o
-Answers result old new input Request.Dis = PrintsOf listing_of result old new input
+Answers result old new input (Request.Dis Literals.LeftOut) = PrintsOf listing_of result old new input
+Answers result old new input (Request.Dis Literals.Listed) = PrintsOf listing_with_literals_of result old new input
 Answers result old new input Request.Upgrade = PrintsOf upgrade_of result old new input
 Answers result old new input (Request.Mean steps) = PrintsMeaning result old new input steps
 Answers result old new input (Request.Dot code) = PrintsDot result old new input code

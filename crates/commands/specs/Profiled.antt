@@ -1,5 +1,5 @@
 -- What `profile` prints: the waves of a graph's meaning, and what the machine took with each number of elements.
-use Rattle.std.specs.Prelude.{◌≡◌, ◌≢◌, ℕ, zero, suc, ◌+◌, ◌*◌, ◌<◌, ◌≤◌, Bool, true, false, ℤ, ◌⊎◌, List, [], ◌∷◌, ◌++◌, length, map, Option, Some, Result, Ok, Err, if◌then◌else◌, ⊤}
+use Rattle.std.specs.Prelude.{◌≡◌, ◌≢◌, ℕ, zero, suc, ◌+◌, ◌<◌, Bool, true, false, ℤ, ◌⊎◌, List, [], ◌∷◌, ◌++◌, length, map, Option, Some, Result, Ok, Err, if◌then◌else◌, ⊤}
 use Rattle.semantics.specs.Graph.{Graph}
 use Rattle.semantics.specs.declared.report.End.{End}
 use Rattle.semantics.specs.Report.{Report}
@@ -16,6 +16,8 @@ use Rattle.command_line.specs.declared.RunOptions.{RunOptions}
 use Rattle.command_line.specs.declared.sizes.Sizes.{Sizes}
 use Rattle.command_line.specs.Words.{has_size}
 use Rattle.driver.specs.Listed.{IsWatched}
+use Rattle.driver.specs.Objects.{RunsObject}
+use Rattle.driver.specs.Orders.{FollowsRounds}
 use Rattle.driver.specs.Refused.{IsGoodText, IsRefused, IsRefusedMeaning}
 use Rattle.commands.specs.declared.profiling.Held.{Held}
 use Rattle.commands.specs.declared.refusal.Refusal.{Refusal}
@@ -34,9 +36,9 @@ held_in Held.Tokens x = x.tokens
 held_in Held.Slots x = x.full_slots
 held_in Held.Frames x = x.frames_out
 
--- What a run on that number of elements took: it is a run in rounds, its rounds have room for its events, and the tokens, the full slots and the
--- frames out are the most that there were at any moment. At the start there are a token for each input and one more, and one
--- frame is out.
+-- What a run on that number of elements took: it is a run in rounds, in each of which every element makes one event if it has a token; these are exactly its
+-- rounds, and the tokens, the full slots and the frames out are the most that there were at any moment. At the start there are a token
+-- for each input and one more, and one frame is out.
 pub record IsRow (text : List ℕ) (inputs : List ℤ) (o : RunOptions) (elements : ℕ) (row : MachineRow) : Type 0 where
   pub graph : Graph
   pub bytes : List ℕ
@@ -46,7 +48,7 @@ pub record IsRow (text : List ℕ) (inputs : List ℤ) (o : RunOptions) (element
   -- a run that was refused memory has no row
   pub kept : report.end ≢ End.Memory
   pub number : row.elements ≡ elements
-  pub rounds : length report.events ≤ row.rounds * elements
+  pub rounds : RunsObject bytes inputs (config_with o elements) (FollowsRounds false row.rounds) report
   pub tokens : row.tokens ≡ greatest_from (length inputs + 1) (map (held_in Held.Tokens) moments)
   pub slots : row.slots ≡ greatest_from 0 (map (held_in Held.Slots) moments)
   pub frames : row.frames ≡ greatest_from 1 (map (held_in Held.Frames) moments)

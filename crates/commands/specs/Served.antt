@@ -7,6 +7,7 @@ use Rattle.semantics.specs.Text.{line}
 use Rattle.semantics.specs.Report.{Report}
 use Rattle.schedule.specs.declared.config.Config.{Config}
 use Rattle.schedule.specs.declared.config.StartFault.{StartFault}
+use Rattle.schedule.specs.Unlisted.{Quietly}
 use Rattle.oracle.specs.declared.report.MeanEnd.{MeanEnd}
 use Rattle.oracle.specs.declared.report.Full.{Full}
 use Rattle.oracle.specs.Reporting.{IsMeant}
@@ -23,7 +24,7 @@ use Rattle.commands.specs.declared.refusal.Refusal.{Refusal}
 use Rattle.driver.specs.Disassembled.{IsOpened, IsUnopened, picture_of}
 use Rattle.driver.specs.Headline.{TellsQuietly}
 use Rattle.commands.specs.Input.{graph_length, integers_of}
-use Rattle.driver.specs.Objects.{ShowsObject, Quietly}
+use Rattle.driver.specs.Objects.{ShowsObjectIn}
 use Rattle.driver.specs.Refused.{IsGoodText, IsCompiled, IsReady, IsReadyObject, IsBadText, IsRefusedText, IsRefused, IsRefusedMeaning, IsRefusedObject}
 use Rattle.commands.specs.Refusals.{refusal_line, told_as}
 use Rattle.commands.specs.Status.{exit_status, meaning_status}
@@ -52,14 +53,14 @@ pub record Parts (input : List ℕ) : Type 0 where
 abbrev pub config_of : RunOptions → Config
 config_of o = record { elements = o.elements; frames = o.frames; steps = o.steps; turn = 64 }
 
--- a true report of a run of the graph that the input has, on the integers that follow it
+-- a true report of a run, in the mode that is asked for, of the graph that the input has, on the integers that follow it
 pub record IsRunOf (input : List ℕ) (o : RunOptions) (g : Graph) (r : Report) : Type 0 where
   pub parts : Parts input
   pub inputs : List ℤ
   pub integers : integers_of parts.lines ≡ Ok inputs
   pub mode : Mode
   pub named : o.mode ≡ Some mode
-  pub tells : TellsQuietly parts.text g inputs (config_of o) false r
+  pub tells : TellsQuietly mode parts.text g inputs (config_of o) false r
 
 -- Why there is no report: the first cause in the order of the work. A line that is not an integer is told only of a graph that
 -- has an object, and a mode that does not exist only where a run is ready.
@@ -128,13 +129,13 @@ abbrev pub PrintsDot : {E : Type 0} → Result ℕ E → Option (List ℕ) → O
 PrintsDot result old new input true = PrintsOf picture_of result old new input
 PrintsDot result old new input false = PrintsPicture result old new input
 
--- EXEC: a report of a run of the object on the inputs of the command line
+-- EXEC: a report of a run, in the mode that is asked for, of the object on the inputs of the command line
 pub record IsExecOf (bytes : List ℕ) (o : RunOptions) (ins : Inputs) (r : Report) : Type 0 where
   pub inputs : List ℤ
   pub integers : ins ≡ Inputs.Integers (record { items = inputs })
   pub mode : Mode
   pub named : o.mode ≡ Some mode
-  pub shows : Quietly (ShowsObject bytes inputs (config_of o) false false) r
+  pub shows : Quietly (ShowsObjectIn mode bytes inputs (config_of o) false) r
 
 -- Why there is no report: what is wrong with the object first, then with the inputs, then with the options, and last a mode that does not
 -- exist. Of more than 16 inputs no more is said: no object takes more than 16.

@@ -1,6 +1,6 @@
 //! How much parallelism a graph has.
 
-ghost use Rattle.std.specs.Prelude.{◌≡◌, ◌≢◌, ◌≤◌, ◌<◌, ◌+◌, ◌*◌, ◌⊎◌, false, length, map, IfErr, IfOk, MatchResult};
+ghost use Rattle.std.specs.Prelude.{◌≡◌, ◌≢◌, ◌+◌, ◌⊎◌, false, length, map, IfErr, IfOk, MatchResult};
 ghost use Rattle.profile_text.specs.Picture.{greatest_from};
 ghost use Rattle.semantics.specs.declared.report.End.{End};
 ghost use Rattle.sink.specs.Sends.{Sends};
@@ -13,41 +13,22 @@ use crate::given::read_given;
 use crate::refusal::Refusal;
 use crate::serving::refuse;
 use crate::status::status_of_meaning;
-use command_line::{Mode, RunOptions, Sizes};
+use command_line::{RunOptions, Sizes};
+use driver::counting::{WatchedRounds, watch_rounds};
 use driver::meaning::{Waved, waves_text};
-use driver::watching::{Watched, run_watched};
 use profile_text::{MachineRow, write_profile, write_svg};
 use replay::Moment;
-use rounds::Gate;
+use rounds::Open;
 use schedule::config::Config;
 use schedule::report::Report;
 use semantics::report::End;
 use std::alloc::Allocator;
 use std::io::{self, Write};
 use std::sync::Wait;
-use std::sync::atomic::{AtomicU64, Ordering};
 use std::thread::Threads;
 
 /// How many numbers of elements there may be.
 const SIZES: u64 = 64;
-
-/// Counts the rounds of a run: in each, element 0 begins one turn.
-#[derive(Drop)]
-struct Counter {
-    rounds: AtomicU64,
-}
-
-impl Gate for Counter {
-    ghost use Rattle.std.specs.Prelude.{false};
-
-    ghost may_stop = { false };
-
-    fn enter(&self, element: u32) {
-        if element == 0 {
-            self.rounds.fetch_add(1, Ordering::SeqCst);
-        }
-    }
-}
 
 /// What the machine is set to for a row.
 fn config_with(options: &RunOptions, elements: u64) -> Config
@@ -94,43 +75,21 @@ fn most_held(held: Held, first: u64, moments: &[Moment]) -> u64
     most
 }
 
-/// A number of rounds that is enough for that number of events: the one that was counted, unless that is too small.
-fn enough_rounds(counted: u64, events: u64, elements: u64) -> u64
-    requires { 0 < elements }
-    ensures { events ≤ result * elements }
-{
-    counted.max(events.div_ceil(elements))
-}
-
-/// What a run said by its events and moments for a row.
-fn row_of(
-    elements: u64,
-    inputs: &[i64],
-    counted: u64,
-    events: u64,
-    moments: &[Moment],
-) -> MachineRow
-    requires { 0 < elements }
+/// What a run of this number of rounds said by its moments for a row.
+fn row_of(elements: u64, inputs: &[i64], rounds: u64, moments: &[Moment]) -> MachineRow
     ensures number { result.elements ≡ elements }
-    ensures rounds { events ≤ result.rounds * elements }
+    ensures rounds { result.rounds ≡ rounds }
     ensures tokens { result.tokens ≡ greatest_from (length inputs.now + 1) (map (held_in Held.Tokens) moments.now) }
     ensures slots { result.slots ≡ greatest_from 0 (map (held_in Held.Slots) moments.now) }
     ensures frames { result.frames ≡ greatest_from 1 (map (held_in Held.Frames) moments.now) }
 {
     MachineRow {
         elements,
-        rounds: enough_rounds(counted, events, elements),
+        rounds,
         tokens: most_held(Held::Tokens, inputs.len() as u64 + 1, moments),
         slots: most_held(Held::Slots, 0, moments),
         frames: most_held(Held::Frames, 1, moments),
     }
-}
-
-/// How many events the report lists.
-fn count_events<A: Allocator>(report: &Report<A>) -> u64
-    ensures { result ≡ length report.now.events }
-{
-    report.events.len() as u64
 }
 
 /// Whether the run was cut off because memory was refused. A list of events that could not grow is empty then.
@@ -140,7 +99,7 @@ fn wants_memory<A: Allocator>(report: &Report<A>) -> bool
     matches!(report.end, End::Memory)
 }
 
-/// The row of a run on this number of elements. A run that was refused memory has none.
+/// The row of a run in rounds on this number of elements. A run that was refused memory has none.
 fn measure<R: Threads + Wait + Sync, A: Allocator + Clone + Send + Sync>(
     alloc: A,
     text: &[u8],
@@ -151,23 +110,17 @@ fn measure<R: Threads + Wait + Sync, A: Allocator + Clone + Send + Sync>(
 ) -> Result<MachineRow, Refusal>
     ensures { MatchResult result (IsRow text.now inputs.now options.now elements) (IsTold (IsRefused text.now inputs.now (config_with options.now elements))) }
 {
-    let counter = Counter {
-        rounds: AtomicU64::new(0),
-    };
     let config = config_with(options, elements);
-    let mode = Mode::Rounds;
-    let Watched { run, moments } = match run_watched(
-        alloc, text, inputs, config, mode, rt, &counter,
+    let WatchedRounds { watched, rounds } = match watch_rounds(
+        alloc, text, inputs, config, rt, &Open,
     ) {
-        Ok(watched) => watched,
+        Ok(counted) => counted,
         Err(fault) => return Err(Refusal::from(fault)),
     };
-    if wants_memory(&run.report) {
+    if wants_memory(&watched.run.report) {
         return Err(Refusal::Memory);
     }
-    let counted = counter.rounds.load(Ordering::SeqCst);
-    let events = count_events(&run.report);
-    Ok(row_of(elements, inputs, counted, events, &moments))
+    Ok(row_of(elements, inputs, rounds, &watched.moments))
 }
 
 /// A row for each number of elements, in order.

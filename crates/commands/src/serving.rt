@@ -2,7 +2,7 @@
 
 ghost use Rattle.std.specs.Prelude.{◌≡◌, MatchResult, None, drop, false, map};
 ghost use Rattle.object_view.specs.Checks.{first_refusal};
-ghost use Rattle.driver.specs.Disassembled.{listing_of, picture_of, upgrade_of};
+ghost use Rattle.driver.specs.Disassembled.{listing_of, listing_with_literals_of, picture_of, upgrade_of};
 ghost use Rattle.commands.specs.Served.{config_of, IsRunOf, IsNoRunOf, IsMeaningOf, IsNoMeaningOf, Refuses, PrintsRun, PrintsMeaning, PrintsCheck, PrintsObject, PrintsOf, PrintsPicture, PrintsExec, IsExecOf, IsNoExecOf, Prints};
 ghost use Rattle.commands.specs.Answered.{Answers, ServesRequest, Says, ServesAsked, ServesWords, Serves};
 
@@ -15,13 +15,15 @@ use crate::refusal::Refusal;
 use crate::refusal_text::write_refusal;
 use crate::status::{status_of, status_of_meaning};
 use crate::tracing::print_trace;
-use command_line::{Asked, Inputs, Request, RunOptions, read_words, version_line};
+use command_line::{Asked, Inputs, Literals, Request, RunOptions, read_words, version_line};
 use command_texts::{help_text, mistake_text};
 use dot::write_graph_dot;
 use driver::compiling::{CompileRefusal, check_text, write_object};
 use driver::emulation::{Emulated, emulate_object_quietly, run_text, start_object};
 use driver::meaning::{Meant, mean_text};
-use driver::objects::{ObjectRefusal, disassemble, draw_object, upgrade_object};
+use driver::objects::{
+    ObjectRefusal, disassemble, disassemble_with_literals, draw_object, upgrade_object,
+};
 use object_view::Object;
 use report_text::{write_meaning, write_object_report, write_report};
 use rounds::Gate;
@@ -197,6 +199,18 @@ pub fn print_listing<W: Write>(bytes: &[u8], writer: &mut W) -> io::Result<u8>
     }
 }
 
+/// Prints the listing of the object with these bytes and its table of literals, or why they are not an object. Gives the exit
+/// status.
+pub fn print_listing_with_literals<W: Write>(bytes: &[u8], writer: &mut W) -> io::Result<u8>
+    ensures { PrintsOf listing_with_literals_of result (W.contents writer.old) (W.contents writer.new) bytes.now }
+{
+    match disassemble_with_literals(bytes, writer) {
+        Ok(()) => Ok(0),
+        Err(ObjectRefusal::Object(fault)) => refuse(writer, &Refusal::Object(fault)),
+        Err(ObjectRefusal::Write(fault)) => Err(fault),
+    }
+}
+
 /// Prints, as version 2, the object with these bytes, or why they are not an object. Gives the exit status.
 pub fn print_upgrade<W: Write>(bytes: &[u8], writer: &mut W) -> io::Result<u8>
     ensures { PrintsOf upgrade_of result (W.contents writer.old) (W.contents writer.new) bytes.now }
@@ -332,7 +346,12 @@ fn answer<R: Threads + Wait + Sync, A: Allocator + Clone + Send + Sync, G: Gate 
     match request {
         Request::Check => print_check(alloc, input, writer),
         Request::Compile => print_object(alloc, input, writer),
-        Request::Dis => print_listing(input, writer),
+        Request::Dis {
+            literals: Literals::LeftOut,
+        } => print_listing(input, writer),
+        Request::Dis {
+            literals: Literals::Listed,
+        } => print_listing_with_literals(input, writer),
         Request::Asm => print_assembled(alloc, input, writer),
         Request::Upgrade => print_upgrade(input, writer),
         Request::Run(options) => print_run(alloc, input, options, writer, rt, gate),

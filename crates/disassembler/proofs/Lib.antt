@@ -1,4 +1,1 @@
 pub mod Places
-pub mod Ascends
-pub mod Numbers
-pub mod Used

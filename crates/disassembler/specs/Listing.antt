@@ -1,5 +1,5 @@
 -- The listing of an object: its code as lines of text.
-use Rattle.std.specs.Prelude.{ℕ, zero, suc, ◌-◌, ◌==◌, ◌&&◌, ◌||◌, Bool, true, false, ℤ, Option, Some, None, List, [], ◌∷◌, ◌++◌, length, decimal, codes}
+use Rattle.std.specs.Prelude.{ℕ, zero, suc, ◌-◌, ℤ, Option, Some, None, List, [], ◌∷◌, ◌++◌, length, decimal, codes}
 use Rattle.tags.specs.declared.token.Port.{Port}
 use Rattle.tags.specs.declared.token.Port.TheVariants.{Left, Right}
 use Rattle.tags.specs.declared.value.Origin.{Origin}
@@ -7,8 +7,7 @@ use Rattle.tags.specs.declared.value.Origin.TheVariants.{Untold, At}
 use Rattle.semantics.specs.declared.program.Dest.{Dest}
 use Rattle.semantics.specs.declared.program.Op.{Op}
 use Rattle.semantics.specs.declared.program.Op.TheVariants.{Apply1, Apply2, Apply2Right, Apply2Left, Lit, Copy, Sync, Switch, Fetch, Store, Frame, Link, Send, Return, Ask, Open, Take, Give, Drain, Release}
-use Rattle.semantics.specs.Program.{Instr, CodeBlock, Program, Code, first_of, instr_at}
-use Rattle.semantics.specs.Bytes.{number_from}
+use Rattle.semantics.specs.Program.{Instr, CodeBlock, Program, Code}
 use Rattle.semantics.specs.Rule.{slot_of}
 use Rattle.sink.specs.Numbered.{numbered}
 use Rattle.semantics.specs.Text.{field, line, literal, unary_word, binary_word}
@@ -92,43 +91,16 @@ abbrev pub instr_line : ℕ → Instr → List ℕ
 instr_line n i = line (right_in 5 (decimal n) ++ field (left_in 8 (name_of i.op)) ++ field (right_in 4 (slot_text (slot_of i i.op)))
     ++ field (right_in 7 (dest_text i.firsts)) ++ field (right_in 7 (dest_text i.seconds)) ++ field (operand_text i.op) ++ origin_text i.origin)
 
--- THE TABLE OF LITERALS. Where each of its literals is the operand of some instruction, the instructions tell the whole
--- table, and it is not listed.
+-- THE TABLE OF LITERALS
+-- the literal that an operation has as its operand
 abbrev pub literal_of : Op → Option ℤ
 literal_of (Apply2Right op z) = Some z
 literal_of (Apply2Left op z) = Some z
 literal_of (Lit z) = Some z
 literal_of op = None
 
--- whether the literal is the one of that number in the table
-abbrev pub has_number : List ℤ → Option ℤ → ℕ → Bool
-has_number table None k = false
-has_number table (Some z) k = number_from 0 z table == k
-
--- whether the instruction has the literal of that number
-abbrev pub uses : List ℤ → Option Instr → ℕ → Bool
-uses table None k = false
-uses table (Some i) k = has_number table (literal_of i.op) k
-
--- whether one of the first n instructions has it
-abbrev pub is_used : Code → ℕ → ℕ → Bool
-is_used c zero k = false
-is_used c (suc n) k = is_used c n k || uses c.literals (instr_at c.program n) k
-
--- whether some instruction has it, for each of the first k literals
-abbrev pub are_used : Code → ℕ → Bool
-are_used c zero = true
-are_used c (suc k) = are_used c k && is_used c (first_of c.program (length c.program.blocks)) k
-
-abbrev pub is_told : Code → Bool
-is_told c = are_used c (length c.literals)
-
 abbrev pub literal_line : ℕ → ℤ → List ℕ
 literal_line n z = line (codes "literal " ++ decimal n ++ codes " " ++ literal z)
-
-abbrev pub literal_lines : Bool → List ℤ → List ℕ
-literal_lines true table = []
-literal_lines false table = numbered literal_line 0 table
 
 -- THE WHOLE
 abbrev pub block_line : ℕ → ℕ → ℕ → ℕ → List ℕ
@@ -143,8 +115,10 @@ array_line n len = line (codes "array " ++ decimal n ++ codes " " ++ decimal len
 abbrev pub head_line : ℕ → ℕ → List ℕ
 head_line version main = line (codes "ets " ++ decimal version ++ codes " main " ++ decimal main)
 
-abbrev pub program_lines : ℕ → Program → List ℕ
-program_lines version p = head_line version p.main ++ numbered block_lines 0 p.blocks ++ numbered array_line 0 p.arrays
+-- THE LISTING
+abbrev pub listing : ℕ → Program → List ℕ
+listing version p = head_line version p.main ++ numbered block_lines 0 p.blocks ++ numbered array_line 0 p.arrays
 
-abbrev pub listing : ℕ → Code → List ℕ
-listing version c = program_lines version c.program ++ literal_lines (is_told c) c.literals
+-- with the whole table of literals behind it
+abbrev pub listing_with_literals : ℕ → Code → List ℕ
+listing_with_literals version c = listing version c.program ++ numbered literal_line 0 c.literals

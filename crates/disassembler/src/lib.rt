@@ -7,5 +7,5 @@ mod listing;
 mod literals;
 
 pub use line::{list_operand, name_of, port_letter};
-pub use listing::{instr_in, list};
-pub use literals::{is_told, literal_of};
+pub use listing::{instr_in, list, list_with_literals};
+pub use literals::literal_of;

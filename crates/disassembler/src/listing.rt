@@ -5,11 +5,10 @@ ghost use Rattle.semantics.specs.Program.{CodeBlock};
 ghost use Rattle.object_view.specs.Reading.{shown};
 ghost use Rattle.disassembler.specs.Places.{IsBlockAt};
 ghost use Rattle.sink.specs.Sends.{Sends};
-ghost use Rattle.disassembler.specs.Listing.{instr_line, block_line, block_lines, array_line, literal_line, literal_lines, is_told, head_line, program_lines, listing};
+ghost use Rattle.disassembler.specs.Listing.{instr_line, block_line, block_lines, array_line, literal_line, head_line, listing, listing_with_literals};
 ghost use Rattle.sink.specs.Numbered.{numbered};
 
 use crate::line::list_instr;
-use crate::literals::is_told;
 use itoa::Buffer;
 use object_view::{BlockView, CodeInstr, Object};
 use sink::{send, send_all};
@@ -155,31 +154,20 @@ fn list_table<W: Write>(writer: &mut W, object: &Object<'_>) -> io::Result<()>
     Ok(())
 }
 
-/// The lines of the table of literals, where the instructions do not tell it.
-fn list_literals<W: Write>(writer: &mut W, object: &Object<'_>) -> io::Result<()>
-    ensures { Sends result (W.contents writer.old) (W.contents writer.new) (literal_lines (is_told object.now.code) object.now.code.literals) }
-{
-    if is_told(object) {
-        send(writer, b"")
-    } else {
-        list_table(writer, object)
-    }
-}
-
-/// The lines up to the table of literals.
-fn list_program<W: Write>(writer: &mut W, object: &Object<'_>) -> io::Result<()>
-    ensures { Sends result (W.contents writer.old) (W.contents writer.new) (program_lines object.now.version object.now.code.program) }
+/// Writes the listing of an object. The writer is called until it has taken all of it; a call that takes no byte is a
+/// fault. After an `Err` a beginning of the listing was written. Takes no memory.
+pub fn list<W: Write>(object: &Object<'_>, writer: &mut W) -> io::Result<()>
+    ensures { Sends result (W.contents writer.old) (W.contents writer.new) (listing object.now.version object.now.code.program) }
 {
     list_head(writer, object)?;
     list_blocks(writer, object)?;
     list_arrays(writer, object)
 }
 
-/// Writes the listing of an object. The writer is called until it has taken all of it; a call that takes no byte is a
-/// fault. After an `Err` a beginning of the listing was written. Takes no memory.
-pub fn list<W: Write>(object: &Object<'_>, writer: &mut W) -> io::Result<()>
-    ensures { Sends result (W.contents writer.old) (W.contents writer.new) (listing object.now.version object.now.code) }
+/// Writes the listing of an object and its table of literals, as `list` does.
+pub fn list_with_literals<W: Write>(object: &Object<'_>, writer: &mut W) -> io::Result<()>
+    ensures { Sends result (W.contents writer.old) (W.contents writer.new) (listing_with_literals object.now.version object.now.code) }
 {
-    list_program(writer, object)?;
-    list_literals(writer, object)
+    list(object, writer)?;
+    list_table(writer, object)
 }

@@ -7,3 +7,4 @@ pub mod TextObjects
 pub mod OpenedObjects
 pub mod Joined
 pub mod Watched
+pub mod Valued

@@ -1,5 +1,5 @@
 -- A run of a machine that started on an object's code is shown of the object.
-use Rattle.std.proofs.Common.{◌≡◌, ℕ, ◌++◌, Bool, true, false, ℤ, List, sym, ap, ◌∙◌, subst}
+use Rattle.std.proofs.Common.{◌≡◌, ℕ, ◌++◌, Bool, true, false, ℤ, List, refl, sym, ap, ◌∙◌, subst}
 use Rattle.semantics.specs.Program.{Program, Code}
 use Rattle.semantics.specs.Bytes.{IsObject}
 use Rattle.semantics.specs.Machine.{Events}
@@ -11,9 +11,12 @@ use Rattle.schedule.specs.Starts.{Opens}
 use Rattle.schedule.specs.declared.halt.Halt.{Halt}
 use Rattle.schedule.specs.Runs.{Kept, Began, Plays, rounds_of}
 use Rattle.schedule.specs.Told.{IsReportOf}
-use Rattle.schedule.specs.Unlisted.{with_events, ShowsQuietly}
-use Rattle.driver.specs.Objects.{ShowsObject, RunsObject, Quietly}
-use Rattle.driver.specs.Orders.{Follows, FollowsTurns, FollowsList}
+use Rattle.schedule.specs.Unlisted.{with_events, ShowsQuietly, Quietly, RunsInTurn}
+use Rattle.command_line.specs.declared.Mode.{Mode}
+use Rattle.rounds.specs.Counted.{TellsRounds}
+use Rattle.driver.specs.Headline.{stops_in}
+use Rattle.driver.specs.Objects.{ShowsObject, ShowsObjectIn, RunsObject}
+use Rattle.driver.specs.Orders.{Follows, FollowsTurns, FollowsList, FollowsRounds}
 
 pub elements_of : (p : Program) (width : ℕ) (c : Config) (inputs : List ℤ) (k : Kept) → Opens p width c inputs k → k.state.setting.elements ≡ c.elements
 elements_of p width c inputs k o = ap (λ (g : Setting). g.elements) o.setting
@@ -42,7 +45,7 @@ pub shows_object : (bytes : List ℕ) (inputs : List ℤ) (c : Config) (listed m
 shows_object bytes inputs c listed may_stop r o loaded e object only width k opens shows =
     shown_object bytes inputs c listed may_stop r o loaded e object only width k opens (shows inputs opens.began)
 
-pub shows_object_quietly : (bytes : List ℕ) (inputs : List ℤ) (c : Config) (listed may_stop : Bool) (r : Report) (o loaded : Opened) → loaded ≡ o → IsObject bytes o.version o.code
+shows_object_quietly : (bytes : List ℕ) (inputs : List ℤ) (c : Config) (listed may_stop : Bool) (r : Report) (o loaded : Opened) → loaded ≡ o → IsObject bytes o.version o.code
     → ((v : ℕ) (d : Code) → IsObject bytes v d → (o.version ≡ v) × (o.code ≡ d)) → (width : ℕ) (k : Kept) → Opens loaded.code.program width c inputs k
     → ((ins : List ℤ) → Began ins k.state k.events → ShowsQuietly k.state.setting.program (size k.state.setting) ins k.state.setting.steps listed may_stop r)
     → Quietly (ShowsObject bytes inputs c listed may_stop) r
@@ -86,3 +89,29 @@ follows_turns bytes inputs c r o loaded e object width k opens h =
     let P : ℕ → Type 0 = λ n. Plays false (rounds_of h.2 n) k.state (h.0).state h.1 h.3 in
     let plays = subst P (elements_of loaded.code.program width c inputs k opens) h.4 in
     runs bytes inputs c FollowsTurns r o loaded e object (h.2, follows loaded.code.program c inputs false (rounds_of h.2 c.elements) r width k opens h.0 h.1 h.3 plays h.5 h.6)
+
+-- QUIETLY. In each mode: the run in turns that is shown is the one that is followed.
+pub shows_in_quietly : (mode : Mode) (bytes : List ℕ) (inputs : List ℤ) (c : Config) (may_stop : Bool) (r : Report) (o loaded : Opened) → loaded ≡ o → IsObject bytes o.version o.code
+    → ((v : ℕ) (d : Code) → IsObject bytes v d → (o.version ≡ v) × (o.code ≡ d)) → (width : ℕ) (k : Kept) → Opens loaded.code.program width c inputs k
+    → ((ins : List ℤ) → Began ins k.state k.events → ShowsQuietly k.state.setting.program (size k.state.setting) ins k.state.setting.steps false (stops_in mode may_stop) r)
+    → (mode ≡ Mode.One → Quietly (RunsInTurn k) r) → Quietly (ShowsObjectIn mode bytes inputs c may_stop) r
+shows_in_quietly Mode.One bytes inputs c may_stop r o loaded e object only width k opens shows turns =
+    let q = turns refl in
+    let x : Report = with_events r q.1 in
+    let t : RunsInTurn k x = q.2 in (
+      q.0,
+      q.1,
+      (
+        shown_object bytes inputs c false false x o loaded e object only width k opens (t.shows inputs opens.began),
+        follows_turns bytes inputs c x o loaded e object width k opens (t.last, t.halt, t.rounds, t.made, t.plays, t.events, t.told),
+      ),
+    )
+shows_in_quietly Mode.Rounds bytes inputs c may_stop r o loaded e object only width k opens shows turns =
+    shows_object_quietly bytes inputs c false may_stop r o loaded e object only width k opens shows
+shows_in_quietly Mode.Free bytes inputs c may_stop r o loaded e object only width k opens shows turns =
+    shows_object_quietly bytes inputs c false may_stop r o loaded e object only width k opens shows
+
+pub follows_rounds : (bytes : List ℕ) (inputs : List ℤ) (c : Config) (may_stop : Bool) (rounds : ℕ) (r : Report) (o loaded : Opened) → loaded ≡ o → IsObject bytes o.version o.code
+    → (width : ℕ) (k : Kept) → Opens loaded.code.program width c inputs k → TellsRounds true may_stop k rounds r → RunsObject bytes inputs c (FollowsRounds may_stop rounds) r
+follows_rounds bytes inputs c may_stop rounds r o loaded e object width k opens tells =
+    runs bytes inputs c (FollowsRounds may_stop rounds) r o loaded e object (record { width = width; start = k; opens = opens; tells = tells })

@@ -15,10 +15,10 @@ use Rattle.semantics.specs.Faithful.{Faithful, IsRun, IsSecondStore, IsBounded, 
 use Rattle.semantics.specs.Report.{Report, IsPicture, HasEnd, Shows}
 use Rattle.schedule.specs.declared.config.Config.{Config}
 use Rattle.schedule.specs.Setting.{inputs_of as inputs_of_program}
-use Rattle.schedule.specs.Unlisted.{with_events}
+use Rattle.schedule.specs.Unlisted.{with_events, Quietly}
 use Rattle.driver.specs.Headline.{ShowsMemory, IsBoundedByMeaning, TellsMeaning, TellsOf, TellsTruth, TellsTruthListed, TellsTruthIn, stops_in, TellsQuietly}
 use Rattle.driver.specs.Orders.{FollowsTurns, FollowsList, size_of}
-use Rattle.driver.specs.Objects.{ShowsObject, RunsObject, Quietly}
+use Rattle.driver.specs.Objects.{ShowsObject, ShowsObjectIn, RunsObject}
 use Rattle.driver.proofs.Waiting.{deferred_are, no_frame_is_out}
 use Rattle.command_line.specs.declared.Mode.{Mode}
 use Rattle.driver.specs.Refused.{IsCompiled}
@@ -122,12 +122,6 @@ tells_truth text g bytes inputs c listed may_stop r compiled shown =
           tells_meaning inputs (size_of c) c.steps listed may_stop r (flow_of g) code.program fit some_element shown.some_frame (subst P (sym made.program) made.promises.faithful) shows;
     }
 
--- So does a report that lists no events.
-pub tells_quietly : (text : List ℕ) (g : Graph) (bytes : List ℕ) (inputs : List ℤ) (c : Config) (may_stop : Bool) (r : Report)
-    → IsCompiled text g bytes → Quietly (ShowsObject bytes inputs c false may_stop) r → TellsQuietly text g inputs c may_stop r
-tells_quietly text g bytes inputs c may_stop r compiled shown =
-    ((shown.2).good, (shown.2).some_frame, (shown.0, shown.1, tells_truth text g bytes inputs c false may_stop (with_events r shown.1) compiled shown.2))
-
 -- The order of a run of the object's code is that of a run of the graph's code.
 ordered : (text : List ℕ) (g : Graph) (bytes : List ℕ) (inputs : List ℤ) (c : Config) (listed may_stop : Bool) (r : Report) (Ordered : Program → Config → List ℤ → Report → Type 0)
     → (compiled : IsCompiled text g bytes) → ShowsObject bytes inputs c listed may_stop r → RunsObject bytes inputs c Ordered r → Ordered compiled.object.code.program c inputs r
@@ -152,3 +146,13 @@ pub tells_in : (mode : Mode) (text : List ℕ) (g : Graph) (bytes : List ℕ) (i
 tells_in Mode.One text g bytes inputs c may_stop r compiled shown runs = tells_in_turn text g bytes inputs c r compiled shown (runs refl)
 tells_in Mode.Rounds text g bytes inputs c may_stop r compiled shown runs = tells_truth text g bytes inputs c false may_stop r compiled shown
 tells_in Mode.Free text g bytes inputs c may_stop r compiled shown runs = tells_truth text g bytes inputs c false may_stop r compiled shown
+
+-- So does a report that lists no events.
+pub tells_quietly : (mode : Mode) (text : List ℕ) (g : Graph) (bytes : List ℕ) (inputs : List ℤ) (c : Config) (may_stop : Bool) (r : Report)
+    → IsCompiled text g bytes → Quietly (ShowsObjectIn mode bytes inputs c may_stop) r → TellsQuietly mode text g inputs c may_stop r
+tells_quietly Mode.One text g bytes inputs c may_stop r compiled (none, events, shown) =
+    ((shown.0).good, (shown.0).some_frame, (none, events, tells_in_turn text g bytes inputs c (with_events r events) compiled shown.0 shown.1))
+tells_quietly Mode.Rounds text g bytes inputs c may_stop r compiled (none, events, shown) =
+    (shown.good, shown.some_frame, (none, events, tells_truth text g bytes inputs c false may_stop (with_events r events) compiled shown))
+tells_quietly Mode.Free text g bytes inputs c may_stop r compiled (none, events, shown) =
+    (shown.good, shown.some_frame, (none, events, tells_truth text g bytes inputs c false may_stop (with_events r events) compiled shown))

@@ -91,7 +91,7 @@ sum_of_zeros zero f h = refl
 sum_of_zeros (suc n) f h = omega (arith, sum_of_zeros n f h, h n)
 
 -- where none is counted, none waits anywhere
-none_waits : (fl : Flow) (ts : List Tagged) → sum_below (sum fl.arrays) (λ x. fetch_count fl x ts) ≡ 0 → (x : ℕ) → fetch_count fl x ts ≡ 0
+pub none_waits : (fl : Flow) (ts : List Tagged) → sum_below (sum fl.arrays) (λ x. fetch_count fl x ts) ≡ 0 → (x : ℕ) → fetch_count fl x ts ≡ 0
 none_waits fl ts e x = by_place (nat_lt x (sum fl.arrays)) refl where
   by_place : (b : Bool) → nat_lt x (sum fl.arrays) ≡ b → fetch_count fl x ts ≡ 0
   by_place true t = sum_zero (sum fl.arrays) (λ y. fetch_count fl y ts) e x (ltb-true x (sum fl.arrays) t)

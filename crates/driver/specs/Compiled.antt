@@ -47,8 +47,8 @@ pub record IsObjectOf (g : Graph) (bytes : List ℕ) : Type 0 where
   pub made : IsCodeFor g code
   pub object : IsObject bytes g.version code
 
--- Why there is no code: the first block that has too few slots; or, where all have slots, the first that goes too far. Else memory
--- ran out.
+-- Why there is no code: the first block that has too few slots; or, where all have slots, the first that goes too far. `Memory` may be answered of any
+-- graph: no definition says when an allocator refuses a growth.
 abbrev pub IsTooLarge : Graph → Fault → Type 0
 IsTooLarge g (Fault.TooManySlots b) = IsFirstCrowded (plan_of g) b
 IsTooLarge g (Fault.TooFar b) = ((slots : List (List ℕ)) × IsAssigned (plan_of g) slots) × (too_far (plan_of g).program.blocks ≡ Some b)

@@ -1,4 +1,4 @@
--- What is written for bytes that should be an object: its listing, its picture, or the same code as version 2.
+-- What is written for bytes that should be an object: its listing, alone or with its literals, its picture, or the same code as version 2.
 use Rattle.std.specs.Prelude.{◌≡◌, ◌++◌, ℕ, List, Option, Some, None, Result, Ok, Err, ⊤}
 use Rattle.std.specs.Io.KnownBytes.{Appends}
 use Rattle.object_view.specs.Reading.{opened}
@@ -6,7 +6,7 @@ use Rattle.object_view.specs.Checks.{first_refusal}
 use Rattle.object_view.specs.declared.fault.ObjectFault.{ObjectFault}
 use Rattle.semantics.specs.Program.{Code}
 use Rattle.semantics.specs.Bytes.{IsObject, bytes_of}
-use Rattle.disassembler.specs.Listing.{listing}
+use Rattle.disassembler.specs.Listing.{listing, listing_with_literals}
 use Rattle.dot.specs.CodeDot.{code_dot}
 use Rattle.driver.specs.declared.objects.ObjectRefusal.{ObjectRefusal}
 use Rattle.driver.specs.declared.objects.ObjectRefusal.TheVariants.{Object, Write}
@@ -23,7 +23,11 @@ pub record IsUnopened (bytes : List ℕ) (fault : ObjectFault) : Type 0 where
   pub none : (v : ℕ) (c : Code) → IsObject bytes v c → ⊥
 
 abbrev pub listing_of : List ℕ → List ℕ
-listing_of bytes = listing (opened bytes).version (opened bytes).code
+listing_of bytes = listing (opened bytes).version (opened bytes).code.program
+
+-- with its table of literals
+abbrev pub listing_with_literals_of : List ℕ → List ℕ
+listing_with_literals_of bytes = listing_with_literals (opened bytes).version (opened bytes).code
 
 -- For an object this text is written. For other bytes nothing is, and the first fault is given. After a failed write a
 -- beginning of the text was written.
@@ -34,6 +38,9 @@ Writes text (Err (Write e)) old new bytes = IsOpened bytes × ((front : List ℕ
 
 abbrev pub Disassembles : Result ⊤ ObjectRefusal → Option (List ℕ) → Option (List ℕ) → List ℕ → Type 0
 Disassembles = Writes listing_of
+
+abbrev pub DisassemblesWithLiterals : Result ⊤ ObjectRefusal → Option (List ℕ) → Option (List ℕ) → List ℕ → Type 0
+DisassemblesWithLiterals = Writes listing_with_literals_of
 
 -- the picture of the code
 abbrev pub picture_of : List ℕ → List ℕ

@@ -14,10 +14,10 @@ use Rattle.semantics.specs.Faithful.{Faithful, IsSecondStore, inputs_of, largest
 use Rattle.semantics.specs.Report.{Report, Shows, sum_below}
 use Rattle.schedule.specs.declared.config.Config.{Config}
 use Rattle.schedule.specs.Starts.{IsGood}
+use Rattle.schedule.specs.Unlisted.{Quietly}
 use Rattle.command_line.specs.declared.Mode.{Mode}
 use Rattle.driver.specs.Compiled.{IsCodeFor}
 use Rattle.driver.specs.Orders.{size_of, FollowsTurns, FollowsList}
-use Rattle.driver.specs.Objects.{Quietly}
 
 -- The report has exactly the outputs and the full cells of a memory of the meaning.
 pub record ShowsMemory (r : Report) (m : Meaning.Memory) : Type 0 where
@@ -100,6 +100,6 @@ stops_in Mode.One may_stop = false
 stops_in Mode.Rounds may_stop = may_stop
 stops_in Mode.Free may_stop = may_stop
 
--- RUNS OF ANY LENGTH, whose report lists no events: with those of some run it is such a report.
-abbrev pub TellsQuietly : List ℕ → Graph → List ℤ → Config → Bool → Report → Type 0
-TellsQuietly text g inputs c may_stop r = IsGood c × (0 < c.frames) × Quietly (TellsOf text g inputs (size_of c) c.steps false may_stop) r
+-- RUNS OF ANY LENGTH, whose report lists no events: with those of some run it tells what a report that lists them tells in this mode.
+abbrev pub TellsQuietly : Mode → List ℕ → Graph → List ℤ → Config → Bool → Report → Type 0
+TellsQuietly mode text g inputs c may_stop r = IsGood c × (0 < c.frames) × Quietly (TellsTruthIn mode text g inputs c may_stop) r

@@ -7,3 +7,4 @@ pub mod Refused
 pub mod Told
 pub mod Disassembled
 pub mod Listed
+pub mod Values

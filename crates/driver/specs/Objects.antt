@@ -1,14 +1,13 @@
 -- What a report of a run of an object says, whoever made the object.
-use Rattle.std.specs.Prelude.{◌≡◌, ℕ, ◌<◌, Bool, ℤ, List, [], length}
+use Rattle.std.specs.Prelude.{◌≡◌, ℕ, ◌<◌, Bool, false, ℤ, List, length}
 use Rattle.semantics.specs.Program.{Program, Code}
 use Rattle.semantics.specs.Bytes.{IsObject}
-use Rattle.semantics.specs.Machine.{Events}
 use Rattle.semantics.specs.Report.{Report, Shows}
 use Rattle.schedule.specs.declared.config.Config.{Config}
 use Rattle.schedule.specs.Setting.{inputs_of as inputs_in_code}
 use Rattle.schedule.specs.Starts.{IsGood}
-use Rattle.schedule.specs.Unlisted.{with_events}
-use Rattle.driver.specs.Orders.{size_of}
+use Rattle.command_line.specs.declared.Mode.{Mode}
+use Rattle.driver.specs.Orders.{size_of, FollowsTurns}
 
 -- The bytes are an object, and the report is of a run of its code.
 pub record ShowsObject (bytes : List ℕ) (inputs : List ℤ) (c : Config) (listed may_stop : Bool) (r : Report) : Type 0 where
@@ -30,6 +29,9 @@ pub record RunsObject (bytes : List ℕ) (inputs : List ℤ) (c : Config) (Order
   pub object : IsObject bytes version code
   pub ordered : Ordered code.program c inputs r
 
--- RUNS OF ANY LENGTH. The report lists no events; with those of some run it is such a report.
-abbrev pub Quietly : (Report → Type 0) → Report → Type 0
-Quietly Tells r = (r.events ≡ []) × (events : Events) × Tells (with_events r events)
+-- The report is of a run of the object in this mode: only where the elements take turns on one thread is the order promised, and no
+-- gate asked.
+abbrev pub ShowsObjectIn : Mode → List ℕ → List ℤ → Config → Bool → Report → Type 0
+ShowsObjectIn Mode.One bytes inputs c may_stop r = ShowsObject bytes inputs c false false r × RunsObject bytes inputs c FollowsTurns r
+ShowsObjectIn Mode.Rounds bytes inputs c may_stop r = ShowsObject bytes inputs c false may_stop r
+ShowsObjectIn Mode.Free bytes inputs c may_stop r = ShowsObject bytes inputs c false may_stop r

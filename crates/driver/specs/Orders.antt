@@ -8,14 +8,15 @@ use Rattle.schedule.specs.declared.halt.Halt.{Halt}
 use Rattle.schedule.specs.Starts.{Opens}
 use Rattle.schedule.specs.Runs.{Kept, Plays, rounds_of}
 use Rattle.schedule.specs.Told.{IsReportOf}
+use Rattle.rounds.specs.Counted.{TellsRounds}
 
 -- the machine that a configuration asks for: its elements, each with its frames
 abbrev pub size_of : Config → Size
 size_of c = record { elements = c.elements; frames = c.frames }
 
 -- ORDER. The events are the steps that a list names, in its order: an entry is an element and a pick among its tokens, and
--- makes an event where the element then has a token and may make one. The report is of the machine where the run halts, or
--- of the machine at the start where its own lists are refused.
+-- makes an event where the element then has a token and may make one. The report is of the machine where the run halts, and
+-- tells what its lanes hold, or of the machine at the start where its own lists are refused.
 pub record Follows (p : Program) (c : Config) (inputs : List ℤ) (listed : Bool) (picks : List (ℕ × ℕ)) (r : Report) : Type 0 where
   pub width : ℕ
   pub start : Kept
@@ -34,3 +35,10 @@ FollowsTurns p c inputs r = (rounds : ℕ) × Follows p c inputs false (rounds_o
 -- the steps are taken in the order of this list
 abbrev pub FollowsList : List (ℕ × ℕ) → Program → Config → List ℤ → Report → Type 0
 FollowsList picks p c inputs r = Follows p c inputs true picks r
+
+-- the run makes exactly this number of rounds: in each every element makes a turn of the events that the configuration says
+pub record FollowsRounds (may_stop : Bool) (rounds : ℕ) (p : Program) (c : Config) (inputs : List ℤ) (r : Report) : Type 0 where
+  pub width : ℕ
+  pub start : Kept
+  pub opens : Opens p width c inputs start
+  pub tells : TellsRounds true may_stop start rounds r

@@ -47,8 +47,8 @@ pub record IsReadyObject (bytes : List ℕ) (inputs : List ℤ) (config : Config
   pub some_frame : 0 < config.frames
   pub good : IsGood config
 
--- Why a text has no well-formed graph: it has no graph at all, or one that is not well formed. Memory is answered only where a
--- growth was refused.
+-- Why a text has no well-formed graph: it has no graph at all, or one that is not well formed. `Memory` may be answered of any text: no definition
+-- says when an allocator refuses a growth.
 abbrev pub IsBadText : List ℕ → Fault → Type 0
 IsBadText text (Fault.Read f) = (text_from text ≡ Err f) × (f.kind ≢ ReadFaultKind.Memory) × ((g : Graph) → IsText text g → ⊥)
 IsBadText text (Fault.Check f) = (g : Graph) × IsText text g × (first_fault g ≡ Some f) × (f.kind ≢ CheckFaultKind.Memory) × (WellFormed g → ⊥)

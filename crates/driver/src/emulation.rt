@@ -6,7 +6,8 @@ ghost use Rattle.driver.specs.Refused.{IsCompiled, IsReady, IsReadyObject, IsRef
 ghost use Rattle.command_line.specs.declared.Mode.{Mode};
 ghost use Rattle.driver.specs.Headline.{TellsTruthIn, TellsTruthListed, TellsQuietly, stops_in};
 ghost use Rattle.driver.specs.Listed.{IsListed};
-ghost use Rattle.driver.specs.Objects.{ShowsObject, RunsObject, Quietly};
+ghost use Rattle.schedule.specs.Unlisted.{Quietly};
+ghost use Rattle.driver.specs.Objects.{ShowsObject, ShowsObjectIn, RunsObject};
 ghost use Rattle.driver.specs.Orders.{FollowsTurns, FollowsList};
 
 use crate::compiling::{Compiled, compile};
@@ -31,7 +32,7 @@ pub struct Emulated<'a, A: Allocator> {
     pub report: Report<A>,
 }
 
-fn load<'a, A: Allocator + Clone>(
+pub(crate) fn load<'a, A: Allocator + Clone>(
     alloc: &A,
     object: Object<'a>,
 ) -> Result<Loaded<'a, A>, AllocError>
@@ -61,7 +62,8 @@ pub fn emulate_object<R: Threads + Wait + Sync, A: Allocator + Clone + Send + Sy
     Ok(run_in(machine, mode, rt, gate))
 }
 
-/// Like `emulate_object`, but the report lists no events, so a long run takes no more memory than a short one.
+/// Like `emulate_object`, also in the order of the mode `One`, but the report lists no events, so a long run takes no more memory
+/// than a short one.
 pub fn emulate_object_quietly<
     R: Threads + Wait + Sync,
     A: Allocator + Clone + Send + Sync,
@@ -75,7 +77,7 @@ pub fn emulate_object_quietly<
     rt: &R,
     gate: &G,
 ) -> Result<Report<A>, Fault>
-    ensures { MatchResult result (Quietly (ShowsObject bytes.now inputs.now config false (stops_in mode G.may_stop))) (IsRefusedObject bytes.now inputs.now config) }
+    ensures { MatchResult result (Quietly (ShowsObjectIn mode bytes.now inputs.now config G.may_stop)) (IsRefusedObject bytes.now inputs.now config) }
 {
     let object = Object::open(bytes)?;
     let code = load(&alloc, object)?;
@@ -141,7 +143,7 @@ pub fn start_object<A: Allocator + Clone>(
 }
 
 /// Runs the text's graph in the given mode. Gives the graph, and a report that lists no events, so a long run takes no more
-/// memory than a short one.
+/// memory than a short one. In the mode `One` the elements take turns, and each takes its oldest token.
 pub fn run_text<'a, R: Threads + Wait + Sync, A: Allocator + Clone + Send + Sync, G: Gate + Sync>(
     alloc: A,
     text: &'a [u8],
@@ -151,7 +153,7 @@ pub fn run_text<'a, R: Threads + Wait + Sync, A: Allocator + Clone + Send + Sync
     rt: &R,
     gate: &G,
 ) -> Result<Emulated<'a, A>, Fault>
-    ensures { MatchResult result (λ e. TellsQuietly text.now e.checked inputs.now config (stops_in mode G.may_stop) e.report) (IsRefused text.now inputs.now config) }
+    ensures { MatchResult result (λ e. TellsQuietly mode text.now e.checked inputs.now config G.may_stop e.report) (IsRefused text.now inputs.now config) }
 {
     let Compiled { checked, object } = compile(alloc.clone()?, text)?;
     let report = emulate_object_quietly(alloc, &object, inputs, config, mode, rt, gate)?;

@@ -8,7 +8,7 @@ ghost use Rattle.schedule.specs.declared.halt.Halt.{Halt};
 ghost use Rattle.schedule.specs.Setting.{size};
 ghost use Rattle.schedule.specs.Runs.{Kept, Began, Plays, rounds_of};
 ghost use Rattle.schedule.specs.Told.{IsReportOf};
-ghost use Rattle.schedule.specs.Unlisted.{ShowsQuietly};
+ghost use Rattle.schedule.specs.Unlisted.{ShowsQuietly, Quietly, RunsInTurn};
 ghost use Rattle.driver.specs.Headline.{stops_in};
 
 use command_line::Mode;
@@ -45,7 +45,8 @@ pub fn run_quietly_in<
     A: Allocator + Clone + Send + Sync,
     G: Gate + Sync,
 >(machine: Machine<'_, C, A>, mode: Mode, rt: &R, gate: &G) -> Report<A>
-    ensures { (inputs : List ℤ) → Began inputs machine.entry.state machine.entry.events → ShowsQuietly machine.entry.state.setting.program (size machine.entry.state.setting) inputs machine.entry.state.setting.steps false (stops_in mode G.may_stop) result }
+    ensures turns { mode ≡ Mode.One → Quietly (RunsInTurn machine.entry) result }
+    ensures shows { (inputs : List ℤ) → Began inputs machine.entry.state machine.entry.events → ShowsQuietly machine.entry.state.setting.program (size machine.entry.state.setting) inputs machine.entry.state.setting.steps false (stops_in mode G.may_stop) result }
 {
     match mode {
         Mode::One => machine.run_quietly(),

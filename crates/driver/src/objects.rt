@@ -1,10 +1,10 @@
 //! Object files as input.
 
 ghost use Rattle.std.specs.Prelude.{◌≡◌};
-ghost use Rattle.driver.specs.Disassembled.{Disassembles, Draws, Upgrades};
+ghost use Rattle.driver.specs.Disassembled.{Disassembles, DisassemblesWithLiterals, Draws, Upgrades};
 ghost use Rattle.driver.specs.declared.objects.ObjectRefusal.TheVariants.{Object, Write};
 
-use disassembler::list;
+use disassembler::{list, list_with_literals};
 use dot::write_code_dot;
 use object_view::{Object, ObjectFault, upgrade};
 use std::io::{self, Write};
@@ -40,6 +40,17 @@ pub fn disassemble<W: Write>(bytes: &[u8], writer: &mut W) -> Result<(), ObjectR
 {
     let object = Object::open(bytes)?;
     Ok(list(&object, writer)?)
+}
+
+/// Writes the listing of the object with these bytes, and its table of literals.
+pub fn disassemble_with_literals<W: Write>(
+    bytes: &[u8],
+    writer: &mut W,
+) -> Result<(), ObjectRefusal>
+    ensures { DisassemblesWithLiterals result (W.contents writer.old) (W.contents writer.new) bytes.now }
+{
+    let object = Object::open(bytes)?;
+    Ok(list_with_literals(&object, writer)?)
 }
 
 /// Writes the picture of the code of the object with these bytes.

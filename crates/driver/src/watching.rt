@@ -28,7 +28,7 @@ pub struct Watched<'a, A: Allocator> {
 }
 
 /// The moments of the events that the report lists. The report is of a run of the object with these bytes.
-fn moments_of<A: Allocator + Clone>(
+pub(crate) fn moments_of<A: Allocator + Clone>(
     alloc: A,
     bytes: &[u8],
     inputs: &[i64],

@@ -92,7 +92,7 @@ fn arity_cause<'a, A: Allocator>(
 }
 
 /// The first source whose node is not earlier than node `number`.
-fn late_source(sources: &[Source], number: u64) -> Option<NodeCause> {
+fn late_source<'a>(sources: &[Source], number: u64) -> Option<NodeCause<'a>> {
     for source in sources {
         if u64::from(source.node) >= number {
             return Some(NodeCause::NotEarlier {
@@ -104,12 +104,27 @@ fn late_source(sources: &[Source], number: u64) -> Option<NodeCause> {
     None
 }
 
+/// The first result whose node is none of the block's.
+fn nodeless_result<'a, A: Allocator>(block: &Block<'a, A>) -> Option<NodeCause<'a>> {
+    let count = node_count(block);
+    for source in &block.results {
+        if u64::from(source.node) >= count {
+            return Some(NodeCause::NoNode {
+                source: Spelled { source: *source },
+                block: shown(&block.name),
+                nodes: many(count, "node"),
+            });
+        }
+    }
+    None
+}
+
 /// The first source whose node does not have the port that it names.
 fn portless_source<'a, A: Allocator>(
     graph: &Graph<'a, A>,
     block: &Block<'a, A>,
     sources: &[Source],
-) -> Option<NodeCause> {
+) -> Option<NodeCause<'a>> {
     for source in sources {
         let ports = ports_of(graph, block, *source);
         if u64::from(source.port) >= ports {
@@ -127,7 +142,7 @@ fn portless_source<'a, A: Allocator>(
 fn crossing_source<'a, A: Allocator>(
     block: &Block<'a, A>,
     node: &Node<'a, A>,
-) -> Option<NodeCause> {
+) -> Option<NodeCause<'a>> {
     for (place, source) in node.sources.iter().enumerate() {
         let wanted = wanted_region(block, node, place);
         let lies = region_of(block, source.node);
@@ -143,7 +158,7 @@ fn crossing_source<'a, A: Allocator>(
 }
 
 /// The first result whose node lies in an arm.
-fn unrooted_result<'a, A: Allocator>(block: &Block<'a, A>) -> Option<NodeCause> {
+fn unrooted_result<'a, A: Allocator>(block: &Block<'a, A>) -> Option<NodeCause<'a>> {
     for source in &block.results {
         let region = region_of(block, source.node);
         if region != Region::Root {
@@ -171,7 +186,7 @@ fn of_region<'a>(cause: Option<RegionCause>) -> Option<Cause<'a>> {
     Some(Cause::Node(NodeCause::Region(cause?)))
 }
 
-fn of_node<'a>(cause: Option<NodeCause>) -> Option<Cause<'a>> {
+fn of_node<'a>(cause: Option<NodeCause<'a>>) -> Option<Cause<'a>> {
     Some(Cause::Node(cause?))
 }
 
@@ -207,9 +222,7 @@ fn results_cause<'a, A: Allocator>(
             wants: many(u64::from(block.outputs), "output"),
             has: many(block.results.len() as u64, "source"),
         })),
-        CheckFaultKind::SourceNotEarlier => {
-            of_node(late_source(&block.results, node_count(block)))
-        }
+        CheckFaultKind::SourceNotEarlier => of_node(nodeless_result(block)),
         CheckFaultKind::NoSuchPort => of_node(portless_source(graph, block, &block.results)),
         CheckFaultKind::OutNotRoot => of_node(unrooted_result(block)),
         _ => None,

@@ -1,7 +1,7 @@
 //! A reader and a writer that also keep what goes through them. They pass on the same bytes as the reader and the writer inside
 //! them.
 
-ghost use Rattle.std.specs.Prelude.{option_map};
+ghost use Rattle.std.specs.Prelude.{◌≡◌, option_map};
 ghost use Rattle.hints.specs.Keeping.{KeepsMore};
 
 use std::alloc::Allocator;
@@ -24,7 +24,9 @@ pub struct KeepingReader<R, A: Allocator> {
 
 impl<R, A: Allocator> KeepingReader<R, A> {
     /// A reader that keeps what is read from now on.
-    pub fn new(alloc: A, inner: R) -> KeepingReader<R, A> {
+    pub fn new(alloc: A, inner: R) -> KeepingReader<R, A>
+        ensures { result.inner ≡ inner }
+    {
         KeepingReader {
             inner,
             kept: Some(Vec::new(alloc)),
@@ -78,11 +80,20 @@ pub struct KeepingWriter<W, A: Allocator> {
 
 impl<W, A: Allocator> KeepingWriter<W, A> {
     /// A writer that keeps what is written from now on.
-    pub fn new(alloc: A, inner: W) -> KeepingWriter<W, A> {
+    pub fn new(alloc: A, inner: W) -> KeepingWriter<W, A>
+        ensures { result.inner ≡ inner }
+    {
         KeepingWriter {
             inner,
             kept: Some(Vec::new(alloc)),
         }
+    }
+
+    /// The writer inside.
+    pub fn into_inner(self) -> W
+        ensures { result ≡ self.inner }
+    {
+        self.inner
     }
 
     /// All that was written if that is short, else its beginning and its end; `None` if a growth was refused.

@@ -1,6 +1,7 @@
-//! Hints: what a person is told on standard error when a graph or an object is refused, when a run did not end at rest, or when
-//! the words of a command line are a mistake. Hints change nothing on standard output. The first or the last line there names
-//! the cause; a hint is made from that line, from the words of the command line, and from the input that was read.
+//! Hints: what a person is told on standard error when a graph, an object or a listing is refused, when a report tells an end
+//! that is not rest, or when the words of a command line are a mistake. Hints change nothing on standard output. The first or
+//! the last line there names the cause; a hint is made from that line, from the words of the command line, and from the input
+//! that was read.
 #![tactic(auto)]
 
 ghost use Rattle.std.specs.Prelude.{◌≡◌, IfOk, drop, is_some, map};
@@ -17,15 +18,20 @@ mod kinds;
 mod line;
 mod line_faults;
 mod lines;
+mod listing_faults;
+mod listing_lines;
 mod message;
 mod mistakes;
 mod object_faults;
 mod object_words;
+mod operands;
 mod outcome;
 mod place;
+mod rules;
 mod runs;
 mod shown;
 mod text_faults;
+mod words;
 
 use cause::{Cause, GraphCause, RunCause};
 use command_line::{Asked, Format, Request, read_words};
@@ -34,10 +40,11 @@ use graph_faults::{code_fault, graph_fault};
 pub use keeping::{KeepingReader, KeepingWriter};
 pub use line::{Hint, Line};
 use lines::split_graph;
+use listing_faults::{listing_fault, unknown_listing};
 use message::Message;
 use object_faults::object_fault;
-use outcome::{Outcome, outcome_of};
-use runs::{end_cause, input_fault, memory_cause, start_fault};
+use outcome::{Outcome, is_differing, outcome_of};
+use runs::{end_fault, given_fault, input_fault, memory_cause, orders_fault, start_fault};
 use std::alloc::{AllocError, Allocator};
 use std::convert::AsStr;
 use text_faults::text_fault;
@@ -54,7 +61,7 @@ fn is_at_rest(output: &[u8]) -> bool
     output.ends_with(b"end Rest\n")
 }
 
-/// Whether the output of this request wants a hint.
+/// Whether the output of this request wants a hint. A picture and a trace in JSON do not tell how a run ended.
 fn wants_reason(request: &Request, output: &[u8]) -> bool
     ensures { result ≡ wants_reason request.now output.now }
 {
@@ -62,18 +69,19 @@ fn wants_reason(request: &Request, output: &[u8]) -> bool
         Request::Run(_)
         | Request::Mean { .. }
         | Request::Exec { .. }
-        | Request::Orders { .. }
+        | Request::Profile { svg: false, .. }
         | Request::Trace {
             format: Format::Lines,
             ..
         } => !is_at_rest(output),
+        Request::Orders { .. } => is_differing(output) || !is_at_rest(output),
         Request::Check
         | Request::Compile
-        | Request::Dis
+        | Request::Dis { .. }
         | Request::Upgrade
         | Request::Dot { .. }
         | Request::Asm
-        | Request::Profile { .. }
+        | Request::Profile { svg: true, .. }
         | Request::Trace {
             format: Format::Chrome,
             ..
@@ -93,15 +101,33 @@ fn graph_text<'a>(request: &Request, input: &'a [u8]) -> &'a [u8] {
     }
 }
 
+/// The command of a request, with the option without which it reads something else.
+fn command_of(request: &Request) -> &'static str {
+    match request {
+        Request::Run(_) => "run",
+        Request::Mean { .. } => "mean",
+        Request::Exec { .. } => "exec",
+        Request::Trace { .. } => "trace",
+        Request::Profile { .. } => "profile",
+        Request::Orders { .. } => "orders",
+        Request::Check => "check",
+        Request::Compile => "compile",
+        Request::Dis { .. } => "dis",
+        Request::Upgrade => "upgrade",
+        Request::Asm => "asm",
+        Request::Dot { code: false } => "dot",
+        Request::Dot { code: true } => "dot --code",
+    }
+}
+
 /// The cause of a refusal whose place is in the input.
 fn input_cause<'a, A: Allocator + Clone>(
     alloc: A,
     request: &Request,
-    command: &'a str,
     input: &'a [u8],
     outcome: Outcome<'a>,
 ) -> Option<Found<'a>> {
-    let has_lines = !matches!(request, Request::Exec { .. });
+    let command = command_of(request);
     let text = graph_text(request, input);
     match outcome {
         Outcome::Read { kind, line } => Some(text_fault(kind, text, line, command)),
@@ -110,8 +136,9 @@ fn input_cause<'a, A: Allocator + Clone>(
             code_fault(alloc, text, block, GraphCause::TooManySlots)
         }
         Outcome::TooFar { block } => code_fault(alloc, text, block, GraphCause::TooFar),
-        Outcome::InputLine { line } if has_lines => Some(input_fault(input, line)),
-        Outcome::Object(kind) => object_fault(kind, input),
+        Outcome::InputLine { line } => Some(input_fault(input, line)),
+        Outcome::Object(kind) => object_fault(kind, input, command),
+        Outcome::Listing { kind, line } => Some(listing_fault(kind, input, line)),
         _ => None,
     }
 }
@@ -121,7 +148,11 @@ fn plain(outcome: Outcome<'_>) -> Found<'_> {
     let cause = match outcome {
         Outcome::Read { kind, .. } => Cause::Reading(kind),
         Outcome::Check { kind, .. } => Cause::Checking(kind),
-        _ => Cause::Run(RunCause::Unknown),
+        Outcome::Listing { .. } => unknown_listing(),
+        Outcome::Object(_) => Cause::Run(RunCause::Unknown {
+            part: "Refusals of an object",
+        }),
+        _ => Cause::Run(RunCause::Unknown { part: "Refusals" }),
     };
     Found::nowhere(cause)
 }
@@ -129,33 +160,48 @@ fn plain(outcome: Outcome<'_>) -> Found<'_> {
 /// What is told of an output that names no outcome.
 fn unknown<'a>(output: &[u8]) -> Found<'a> {
     let cause = if is_refused(output) {
-        RunCause::Unknown
+        RunCause::Unknown { part: "Refusals" }
     } else {
         RunCause::Unwritten
     };
     Found::nowhere(Cause::Run(cause))
 }
 
-/// Why this request had this output.
-fn request_cause<'a, A: Allocator + Clone>(
+/// The cause of an outcome, where it can be told from the input that was kept.
+fn outcome_cause<'a, S: AsStr, A: Allocator + Clone>(
     alloc: A,
     request: &Request,
-    command: &'a str,
+    words: &'a [S],
+    input: Option<&'a [u8]>,
+    outcome: Outcome<'a>,
+) -> Option<Found<'a>> {
+    match outcome {
+        Outcome::Unread => Some(Found::nowhere(Cause::Run(RunCause::Unread))),
+        Outcome::Memory => Some(Found::nowhere(Cause::Run(memory_cause(request)))),
+        Outcome::OrdersDiffer => Some(orders_fault()),
+        Outcome::Start(kind) => start_fault(alloc, request, input, kind),
+        Outcome::Ended(end) => Some(end_fault(request, end)),
+        Outcome::InputLine { line } if matches!(request, Request::Exec { .. }) => {
+            given_fault(after_command(words), line)
+        }
+        _ => input_cause(alloc, request, input?, outcome),
+    }
+}
+
+/// Why this request, which these words are, had this output.
+fn request_cause<'a, S: AsStr, A: Allocator + Clone>(
+    alloc: A,
+    request: &Request,
+    words: &'a [S],
     input: Option<&'a [u8]>,
     output: &'a [u8],
 ) -> Found<'a> {
-    let Some(outcome) = outcome_of(output) else {
-        return unknown(output);
-    };
-    let found = match (outcome, input) {
-        (Outcome::Unread, _) => Some(Found::nowhere(Cause::Run(RunCause::Unread))),
-        (Outcome::Memory, _) => Some(Found::nowhere(Cause::Run(memory_cause(request)))),
-        (Outcome::Start(kind), _) => start_fault(alloc, request, input, kind),
-        (Outcome::Ended(end), _) => Some(Found::nowhere(Cause::Run(end_cause(request, end)))),
-        (_, Some(input)) => input_cause(alloc, request, command, input, outcome),
-        (_, None) => None,
-    };
-    found.unwrap_or(plain(outcome))
+    match outcome_of(output) {
+        Some(outcome) => {
+            outcome_cause(alloc, request, words, input, outcome).unwrap_or(plain(outcome))
+        }
+        None => unknown(output),
+    }
 }
 
 /// The words without the program's name.
@@ -168,11 +214,11 @@ fn arguments_of<S>(words: &[S]) -> &[S]
     }
 }
 
-/// The first word, which names the command.
-fn command_of<S: AsStr>(words: &[S]) -> &str {
-    match words.first() {
-        Some(word) => word.as_str(),
-        None => "COMMAND",
+/// The words after the first one, which names the command.
+fn after_command<S>(words: &[S]) -> &[S] {
+    match words.split_first() {
+        Some((_command, rest)) => rest,
+        None => words,
     }
 }
 
@@ -191,8 +237,7 @@ fn cause_of<'a, S: AsStr, A: Allocator + Clone>(
             if !wants_reason(request, output) {
                 return None;
             }
-            let command = command_of(words);
-            Some(request_cause(alloc, request, command, input, output))
+            Some(request_cause(alloc, request, words, input, output))
         }
         Asked::Mistake => Some(Found::nowhere(Cause::Word(mistakes::mistake(words)))),
         Asked::Help(_topic) => None,

@@ -21,7 +21,7 @@ fn stray_byte(line: &[u8]) -> Option<LineCause<'_>> {
     let place = line.iter().position(|byte| !matches!(*byte, b' '..=b'~'))?;
     let column = (place as u64).saturating_add(1);
     match line.get(place).copied()? {
-        b'\r' => Some(LineCause::CarriageReturn),
+        b'\r' if column == line.len() as u64 => Some(LineCause::CarriageReturn),
         b'\t' => Some(LineCause::Tab { column }),
         byte => Some(LineCause::StrayByte { byte, column }),
     }
@@ -49,7 +49,12 @@ fn spacing(line: &[u8]) -> Option<LineCause<'_>> {
 fn outside<'a>(line: &'a [u8], bytes: &'a [u8], spot: Spot) -> Cause<'a> {
     let word = Shown { bytes };
     let Some(form) = outer_form(bytes) else {
-        return Cause::Line(LineCause::Outside { word });
+        let others = if spot == Spot::Arrays {
+            "`array`, `block` and `main`"
+        } else {
+            "`block` and `main`"
+        };
+        return Cause::Line(LineCause::Outside { word, others });
     };
     if spot == Spot::Blocks && bytes == b"array".as_slice() {
         return Cause::Line(LineCause::ArrayAfterBlock);
@@ -108,10 +113,13 @@ fn inside<'a>(
     is_second: bool,
 ) -> Cause<'a> {
     let word = Shown { bytes };
-    if bytes == b"end".as_slice() || outer_form(bytes).is_some() {
-        let block = Shown {
-            bytes: context.block,
-        };
+    let block = Shown {
+        bytes: context.block,
+    };
+    if bytes == b"end".as_slice() {
+        return Cause::Line(LineCause::OutWanted { block });
+    }
+    if outer_form(bytes).is_some() {
         return Cause::Line(LineCause::Inside { word, block });
     }
     let cause = if is_region(bytes) {

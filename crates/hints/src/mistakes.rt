@@ -1,13 +1,18 @@
 //! What is wrong with a command line that is a mistake.
 
 use crate::cause::WordCause;
+use crate::words::{file_in, negative_in};
+use graph_file::literal;
 use std::convert::AsStr;
 
 /// The options of a command, where it has some.
 fn options_of(command: &str) -> Option<&'static str> {
     match command {
-        "run" | "exec" => Some(
+        "run" => Some(
             "--elements N (1 to 16), --frames N (1 to 1024), --steps N (at most 4294967296) and --mode one, rounds or free, each at most once",
+        ),
+        "exec" => Some(
+            "--elements N (1 to 16), --frames N (1 to 1024), --steps N (at most 4294967296) and --mode one, rounds or free, each at most once; all other words are inputs",
         ),
         "trace" => Some(
             "--last N, --format text or chrome, --elements N (1 to 16), --frames N (1 to 1024), --steps N (at most 4294967296) and --mode one, rounds or free, each at most once",
@@ -19,6 +24,7 @@ fn options_of(command: &str) -> Option<&'static str> {
             "--count N, --seed N, --elements N (1 to 16), --frames N (1 to 1024) and --steps N (at most 4294967296), each at most once",
         ),
         "mean" => Some("--steps N, at most once"),
+        "dis" => Some("--literals, at most once"),
         "dot" => Some("--code, at most once"),
         _ => None,
     }
@@ -42,34 +48,50 @@ fn is_command(word: &str) -> bool {
     )
 }
 
-/// Whether the next word may be the value of this option.
-fn waits(word: &str) -> bool {
-    word.starts_with("--")
-        && word.len() > 2
-        && word != "--code"
-        && word != "--svg"
-        && !word.contains('=')
+/// Whether the command takes the inputs of a run behind the graph.
+fn takes_lines(command: &str) -> bool {
+    matches!(command, "run" | "mean" | "trace" | "profile" | "orders")
 }
 
-/// The first word after the command that is neither an option nor the value of one.
-fn file_in<'a, S: AsStr>(words: &'a [S]) -> Option<&'a str> {
-    let mut is_value = false;
+/// The command with the option by which it reads or prints something else.
+fn reading<'a, S: AsStr>(command: &'a str, words: &[S]) -> &'a str {
     for word in words {
-        let word = word.as_str();
-        if !is_value && !word.is_empty() && !word.starts_with('-') {
-            return Some(word);
+        match (command, word.as_str()) {
+            ("dis", "--literals") => return "dis --literals",
+            ("dot", "--code") => return "dot --code",
+            _ => (),
         }
-        is_value = waits(word);
     }
-    None
+    command
+}
+
+/// What is wrong with a word that is neither an option nor the value of one.
+fn stray_word<'a>(command: &'a str, word: &'a str) -> WordCause<'a> {
+    if takes_lines(command) && literal(word.as_bytes()).is_some() {
+        WordCause::Input { command }
+    } else {
+        WordCause::File {
+            command,
+            file: word,
+        }
+    }
+}
+
+/// A word that the command does not take, whatever its options are.
+fn bad_word<'a, S: AsStr>(command: &'a str, words: &'a [S]) -> Option<WordCause<'a>> {
+    if command == "exec" {
+        let word = negative_in(words)?;
+        Some(WordCause::Negative { word })
+    } else {
+        let word = file_in(words)?;
+        Some(stray_word(reading(command, words), word))
+    }
 }
 
 /// What is wrong with the words after a command.
 fn after_command<'a, S: AsStr>(command: &'a str, words: &'a [S]) -> WordCause<'a> {
-    if command != "exec" {
-        if let Some(file) = file_in(words) {
-            return WordCause::File { command, file };
-        }
+    if let Some(cause) = bad_word(command, words) {
+        return cause;
     }
     match options_of(command) {
         Some(options) => WordCause::Options { command, options },
@@ -80,6 +102,16 @@ fn after_command<'a, S: AsStr>(command: &'a str, words: &'a [S]) -> WordCause<'a
 /// Whether a word looks like the name of a file.
 fn is_file(word: &str) -> bool {
     word.contains('.') || word.contains('/')
+}
+
+/// What is wrong with words that begin with the name of a file.
+fn no_command<'a>(file: &'a str) -> WordCause<'a> {
+    let command = if file.ends_with(".etsobject") {
+        "dis"
+    } else {
+        "run"
+    };
+    WordCause::File { command, file }
 }
 
 /// What is wrong with the words, which are those after the program's name.
@@ -95,10 +127,7 @@ pub fn mistake<'a, S: AsStr>(words: &'a [S]) -> WordCause<'a> {
     } else if word.starts_with('-') {
         WordCause::NoCommand
     } else if is_file(word) {
-        WordCause::File {
-            command: "run",
-            file: word,
-        }
+        no_command(word)
     } else {
         WordCause::Command
     }

@@ -38,7 +38,7 @@ fn unless_operand(holds: bool, cause: OperandCause) -> Option<InstrCause> {
     unless(holds, InstrCause::Operand(cause))
 }
 
-fn range(what: &'static str, value: u64, least: u64, most: u64) -> Option<ObjectCause> {
+fn range<'a>(what: &'static str, value: u64, least: u64, most: u64) -> Option<ObjectCause<'a>> {
     if least <= value && value <= most {
         None
     } else {
@@ -58,17 +58,17 @@ fn numbered(noun: &'static str, number: u64, count: u64) -> Option<InstrCause> {
 }
 
 /// A cause at word number `place`.
-fn at_word<'a>(place: u64, cause: ObjectCause) -> Found<'a> {
+fn at_word<'a>(place: u64, cause: ObjectCause<'a>) -> Found<'a> {
     let offset = place.saturating_mul(8);
     Found::at(Place::Byte { offset }, Cause::Object(cause))
 }
 
 /// A cause that lies in no one word.
-fn at_all<'a>(cause: ObjectCause) -> Found<'a> {
+fn at_all<'a>(cause: ObjectCause<'a>) -> Found<'a> {
     Found::nowhere(Cause::Object(cause))
 }
 
-fn header_cause(header: &Header) -> Option<(u64, ObjectCause)> {
+fn header_cause<'a>(header: &Header) -> Option<(u64, ObjectCause<'a>)> {
     if let Some(cause) = range("code blocks", header.blocks, 1, 512) {
         return Some((2, cause));
     }
@@ -89,7 +89,7 @@ fn header_cause(header: &Header) -> Option<(u64, ObjectCause)> {
     Some((5, ObjectCause::NoMain { main, has }))
 }
 
-fn entry_cause(entry: &Entry) -> Option<ObjectCause> {
+fn entry_cause<'a>(entry: &Entry) -> Option<ObjectCause<'a>> {
     let least = entry.inputs.saturating_add(1);
     range("inputs of a code block", entry.inputs, 1, 16)
         .or(range("outputs of a code block", entry.outputs, 1, 16))
@@ -126,7 +126,7 @@ impl<'a> Tables<'a> {
         self.literals().saturating_add(self.header.literals)
     }
 
-    fn array_cause(&self) -> Option<(u64, ObjectCause)> {
+    fn array_cause<'b>(&self) -> Option<(u64, ObjectCause<'b>)> {
         let first = self.arrays();
         let mut cells = 0u64;
         for array in 0..self.header.arrays.min(64) {
@@ -144,7 +144,7 @@ impl<'a> Tables<'a> {
     }
 
     /// The first literal that is not greater than the one before.
-    fn literal_cause(&self) -> Option<(u64, ObjectCause)> {
+    fn literal_cause<'b>(&self) -> Option<(u64, ObjectCause<'b>)> {
         let first = self.literals();
         for literal in 1..self.header.literals.min(65_536) {
             let place = first.saturating_add(literal);
@@ -157,7 +157,7 @@ impl<'a> Tables<'a> {
     }
 
     /// The first count or size that is out of its range, as far as this can be seen without the instructions.
-    fn table_cause(&self) -> Option<(u64, ObjectCause)> {
+    fn table_cause<'b>(&self) -> Option<(u64, ObjectCause<'b>)> {
         if let Some(cause) = header_cause(&self.header) {
             return Some(cause);
         }
@@ -288,46 +288,78 @@ impl<'a> Tables<'a> {
     }
 
     /// This cause at its word; where there is none, the first bad instruction of the object.
-    fn bad_word<'b>(&self, found: Option<(u64, ObjectCause)>) -> Option<Found<'b>> {
+    fn bad_word<'b>(&self, found: Option<(u64, ObjectCause<'b>)>) -> Option<Found<'b>> {
         match found {
             Some((place, cause)) => Some(at_word(place, cause)),
             None => self.bad_instr(),
         }
     }
 
-    /// How many bytes the tables call for, as far as the tables are there.
+    /// How many bytes the header and the table of the blocks take, as far as the header is there.
+    fn least(&self) -> u64 {
+        if self.bytes.len() < 48 {
+            48
+        } else {
+            self.start.saturating_mul(8)
+        }
+    }
+
+    /// How many bytes the tables call for.
     fn length(&self) -> u64 {
-        let has = self.bytes.len() as u64;
-        if has < 48 {
-            return 48;
-        }
-        let table = self.start.saturating_mul(8);
-        if has < table {
-            return table;
-        }
         self.arrays()
             .saturating_add(self.header.arrays)
             .saturating_mul(8)
     }
 }
 
-fn length_cause(tables: &Tables<'_>) -> ObjectCause {
-    ObjectCause::Length {
-        has: Many {
-            count: tables.bytes.len() as u64,
-            noun: "byte",
-        },
-        wants: tables.length(),
+fn length_cause<'a>(tables: &Tables<'_>) -> ObjectCause<'a> {
+    let count = tables.bytes.len() as u64;
+    let has = Many {
+        count,
+        noun: "byte",
+    };
+    let least = tables.least();
+    if count < least {
+        ObjectCause::Short { has, least }
+    } else {
+        ObjectCause::Length {
+            has,
+            wants: tables.length(),
+        }
     }
 }
 
-/// Why the bytes are not an object: a fault of kind `kind`.
-pub fn object_fault<'a>(kind: ObjectFault, bytes: &[u8]) -> Option<Found<'a>> {
-    if bytes.is_empty() {
-        return Some(at_all(ObjectCause::Empty));
+/// What could be done with a graph, for a command that reads an object.
+fn graph_advice(command: &str) -> &'static str {
+    match command {
+        "exec" => "`ets run` runs it, and `ets compile` makes an object of it",
+        "dot --code" => "`ets dot` without --code draws it",
+        _ => "`ets compile` makes an object of it",
     }
-    if bytes.starts_with(b"etsgraph ") {
-        return Some(at_all(ObjectCause::AGraph));
+}
+
+/// The cause for bytes that do not begin as an object does.
+fn beginning<'a>(bytes: &[u8], command: &'a str) -> Option<Found<'a>> {
+    let cause = if bytes.is_empty() {
+        ObjectCause::Empty { command }
+    } else if bytes.starts_with(b"etsgraph ") {
+        ObjectCause::AGraph {
+            advice: graph_advice(command),
+        }
+    } else if bytes.starts_with(b"ets ") {
+        ObjectCause::AListing
+    } else if bytes.len() >= 8 && !bytes.starts_with(b"ETSOBJCT") {
+        return Some(at_word(0, ObjectCause::Magic));
+    } else {
+        return None;
+    };
+    Some(at_all(cause))
+}
+
+/// Why the bytes are not an object: a fault of kind `kind`. `command` is what was asked for.
+pub fn object_fault<'a>(kind: ObjectFault, bytes: &[u8], command: &'a str) -> Option<Found<'a>> {
+    if let Some(found) = beginning(bytes, command) {
+        return Some(found);
     }
     let tables = Tables::of(bytes);
     let version = tables.header.version;

@@ -1,6 +1,10 @@
 //! What an output says: which refusal, or which end of a run.
 
+ghost use Rattle.std.specs.Prelude.{◌≡◌};
+ghost use Rattle.hints.specs.Hints.{is_differing};
+
 use crate::lines::{LINE_FEED, field_at, text_at};
+use crate::rules::Rule;
 use graph_check::CheckFaultKind;
 use graph_file::{ReadFaultKind, literal};
 use object_view::ObjectFault;
@@ -13,21 +17,37 @@ pub enum Unstarted {
     BadConfig,
 }
 
-/// An end of a run other than rest.
+/// What is wrong with a listing.
+#[derive(Clone, Copy, PartialEq, Eq)]
+pub enum ListingFault {
+    BadLine,
+    BadNumber,
+    BadName,
+    BadSlot,
+    BadDestination,
+    BadOperand,
+    BadOrigin,
+    BadLiteral,
+    Unended,
+    BadVersion,
+    BadTable,
+}
+
+/// An end of a run other than rest, and other than want of memory.
 #[derive(Clone, Copy)]
 pub enum Ended<'a> {
     /// How many requests for frames and how many for credits wait; each is 0 where that is not told.
     Starved { frames: u64, credits: u64 },
     Clash { array: &'a [u8], index: &'a [u8] },
     Steps,
-    Stuck,
-    Memory,
+    Stuck(Rule),
 }
 
 /// A refusal, or an end other than rest.
 #[derive(Clone, Copy)]
 pub enum Outcome<'a> {
     Unread,
+    /// Of a refusal, or of a run that ended so.
     Memory,
     Read {
         kind: ReadFaultKind,
@@ -49,7 +69,13 @@ pub enum Outcome<'a> {
     },
     Start(Unstarted),
     Object(ObjectFault),
+    Listing {
+        kind: ListingFault,
+        line: u64,
+    },
     Ended(Ended<'a>),
+    /// Two orders have different reports.
+    OrdersDiffer,
 }
 
 fn read_kind(word: &str) -> Option<ReadFaultKind> {
@@ -101,6 +127,24 @@ fn object_kind(word: &str) -> Option<ObjectFault> {
     Some(kind)
 }
 
+fn listing_kind(word: &str) -> Option<ListingFault> {
+    let kind = match word {
+        "BadLine" => ListingFault::BadLine,
+        "BadNumber" => ListingFault::BadNumber,
+        "BadName" => ListingFault::BadName,
+        "BadSlot" => ListingFault::BadSlot,
+        "BadDestination" => ListingFault::BadDestination,
+        "BadOperand" => ListingFault::BadOperand,
+        "BadOrigin" => ListingFault::BadOrigin,
+        "BadLiteral" => ListingFault::BadLiteral,
+        "Unended" => ListingFault::Unended,
+        "BadVersion" => ListingFault::BadVersion,
+        "BadTable" => ListingFault::BadTable,
+        _ => return None,
+    };
+    Some(kind)
+}
+
 fn start_kind(word: &str) -> Option<Unstarted> {
     match word {
         "WrongInputs" => Some(Unstarted::WrongInputs),
@@ -144,6 +188,13 @@ fn read_outcome<'a>(line: &'a [u8]) -> Option<Outcome<'a>> {
     })
 }
 
+fn listing_outcome<'a>(line: &'a [u8]) -> Option<Outcome<'a>> {
+    Some(Outcome::Listing {
+        kind: listing_kind(text_at(line, 1)?)?,
+        line: number_at(line, 3)?,
+    })
+}
+
 /// The outcome of a refusal because of the code of a block.
 fn code_outcome<'a>(line: &'a [u8]) -> Option<Outcome<'a>> {
     let block = number_at(line, 3)?;
@@ -172,6 +223,7 @@ fn refused(line: &[u8]) -> Option<Outcome<'_>> {
         "slots" | "emit" => code_outcome(line),
         "start" => start_outcome(text_at(line, 1)?),
         "object" => object_outcome(text_at(line, 1)?),
+        "asm" => listing_outcome(line),
         _ => None,
     }
 }
@@ -196,8 +248,7 @@ fn end_of<'a>(line: &'a [u8], report: &[u8]) -> Option<Ended<'a>> {
             index: field_at(line, 3)?,
         }),
         "Steps" => Some(Ended::Steps),
-        "Stuck" => Some(Ended::Stuck),
-        "Memory" => Some(Ended::Memory),
+        "Stuck" => Some(Ended::Stuck(Rule::of(number_at(line, 2)?)?)),
         _ => None,
     }
 }
@@ -209,13 +260,24 @@ fn end_in(report: &[u8]) -> Option<Outcome<'_>> {
     if text_at(line, 0)? != "end" {
         return None;
     }
+    if text_at(line, 1)? == "Memory" {
+        return Some(Outcome::Memory);
+    }
     Some(Outcome::Ended(end_of(line, report)?))
+}
+
+/// Whether the output says that two orders have different reports.
+pub fn is_differing(output: &[u8]) -> bool
+    ensures { result ≡ is_differing output.now }
+{
+    output.starts_with(b"orders differ")
 }
 
 /// What the output of a command says. `output` is the whole of it, or its beginning and its end.
 pub fn outcome_of(output: &[u8]) -> Option<Outcome<'_>> {
     match output.strip_prefix(b"refused: ".as_slice()) {
         Some(rest) => refused(rest.split(|byte| *byte == LINE_FEED).next()?),
+        None if is_differing(output) => Some(Outcome::OrdersDiffer),
         None => end_in(output),
     }
 }

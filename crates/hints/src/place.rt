@@ -1,7 +1,8 @@
 //! Where a cause stands.
 
-use crate::message::Piece::{Bytes, Number};
+use crate::message::Piece::{Bytes, Number, Word};
 use crate::message::{Message, four, one, three, two};
+use crate::rules::Rule;
 use crate::shown::Shown;
 
 /// Where a cause stands, with the line that stands there.
@@ -36,6 +37,11 @@ pub enum Place<'a> {
         line: u64,
         text: Shown<'a>,
     },
+    /// An input among the words of the command line, counted from 1.
+    Given {
+        number: u64,
+        text: Shown<'a>,
+    },
     /// A byte of an object, from 0.
     Byte {
         offset: u64,
@@ -46,6 +52,8 @@ pub enum Place<'a> {
         block: u64,
         offset: u64,
     },
+    /// A rule of the machine, where no more is known of the token that it excludes.
+    Rule(Rule),
 }
 
 impl<'a> Place<'a> {
@@ -77,6 +85,11 @@ impl<'a> Place<'a> {
                 iterations,
             } => code_message(number, block, iterations),
             Place::Input { line, text } => input_message(line, text),
+            Place::Given { number, text } => two(
+                "input {} of the command line is `{}`",
+                Number(number),
+                Bytes(text),
+            ),
             Place::Byte { offset } => one("at byte {} of the object", Number(offset)),
             Place::Instr {
                 number,
@@ -87,6 +100,11 @@ impl<'a> Place<'a> {
                 Number(number),
                 Number(block),
                 Number(offset),
+            ),
+            Place::Rule(rule) => two(
+                "rule {} excludes a token: {}",
+                Number(rule.number()),
+                Word(rule.text()),
             ),
         }
     }

@@ -8,12 +8,24 @@ use crate::place::Place;
 use crate::shown::Shown;
 use graph_file::{ReadFaultKind, literal};
 
+/// What could be done with an object, for a command that reads a graph.
+fn object_advice(command: &str) -> &'static str {
+    match command {
+        "run" | "mean" | "trace" | "profile" | "orders" => "`ets exec` runs an object",
+        "dot" => "`ets dot --code` draws an object",
+        _ => "`ets dis` lists an object",
+    }
+}
+
 /// The cause for a text whose first line is not the header of a graph.
 fn no_header<'a>(text: &[u8], first: &[u8], command: &'a str) -> Cause<'a> {
     let cause = if text.is_empty() {
         TextCause::Empty { command }
     } else if text.starts_with(b"ETSOBJCT") {
-        TextCause::AnObject { command }
+        let advice = object_advice(command);
+        TextCause::AnObject { command, advice }
+    } else if text.starts_with(b"ets ") {
+        TextCause::AListing { command }
     } else if text.starts_with(b"\xef\xbb\xbf") {
         TextCause::ByteOrderMark
     } else if first.ends_with(b"\r") {
@@ -57,6 +69,7 @@ fn has_line(cause: &Cause<'_>) -> bool {
         Cause::Text(
             TextCause::Empty { .. }
                 | TextCause::AnObject { .. }
+                | TextCause::AListing { .. }
                 | TextCause::BlockUnended { .. }
                 | TextCause::NoMain
         )

@@ -1,5 +1,5 @@
 -- A block is committed.
-use Rattle.std.proofs.Common.{◌≡◌, sym, ◌∙◌, ap, subst, ℕ, ◌+◌, ◌-◌, ◌^◌, ◌<◌, ◌≤◌, List, [], ◌∷◌, ◌++◌, length, drop, get_or, arith, append_assoc, ◌⊎◌, inl, inr, Bool, true, false, take, refl}
+use Rattle.std.proofs.Common.{◌≡◌, sym, ◌∙◌, ap, subst, ℕ, ◌+◌, ◌-◌, ◌^◌, ◌<◌, ◌≤◌, List, [], ◌∷◌, ◌++◌, length, drop, get_or, arith, append_assoc, ◌⊎◌, inl, inr, Bool, true, false, take, refl, None}
 use Rattle.std.specs.Prelude.{IsPermutation, flat_map, min, Vec, if◌then◌else◌}
 use Rattle.std.proofs.lemmas.Bool.{cases_lt}
 use Rattle.std.proofs.lemmas.List.{length-append, length-map, append-nil, take-append-drop}
@@ -13,7 +13,7 @@ use Rattle.mesh.specs.declared.view.Deed.TheVariants.{Committed}
 use Rattle.mesh.specs.Deeds.{created}
 use Rattle.mesh.specs.Seats.{MeshId, SeatView, AllTo, Has, Commits}
 use Rattle.mesh.proofs.Deeds.{created_more}
-use Rattle.rounds.specs.Turns.{Turns, by, logged}
+use Rattle.rounds.specs.Turns.{Turns, IsWhole, by, logged}
 use Rattle.machine.specs.declared.runner.Runner.{Runner}
 use Rattle.semantics.specs.Machine.{Events}
 use Rattle.law_free_runs.specs.Blocks.{Act, Block}
@@ -22,7 +22,7 @@ use Rattle.ordering.specs.Noted.{Noted, noted_in, with_block}
 use Rattle.ordering.specs.Logs.{taken_in, made_in, counts_of, SpendsOldest, Notes, Logs}
 use Rattle.ordering.proofs.Logging.{ends_block}
 use Rattle.law_net.proofs.Orders.{at_first, IsPermutation-same}
-use Rattle.machine.specs.Runners.{Ran, IsRunning, IsClear, HasMade, NotesBlock, left_last, still_first, away, tokens_of, behind_all}
+use Rattle.machine.specs.Runners.{Ran, IsRunning, IsClear, HasNoReason, HasMade, NotesBlock, left_last, still_first, away, tokens_of, behind_all}
 use Rattle.machine.proofs.Tokens.{minus}
 use Rattle.machine.proofs.Flowing.{counts, acts_take}
 use Rattle.machine.proofs.Steps.{Parted, acts, cut, ran_as, first_gone, minus_gone, gone_count, left_count, gone_has, gone_mine, block, ran_committed, ran_still}
@@ -56,6 +56,11 @@ more_logs n blocks b taken made events spent left took makes many gone stay olde
     } in
     let counts : counts_of b ≡ record { events = events; spent = spent; made = left } = λ i. (let c : Counts = record { events = sym many i; spent = sym gone i; made = sym stay i } in c) in
     subst (λ (c : Counts). Logs (with_block open_one c) (blocks ++ b ∷ [])) counts (ends_block open_one blocks b notes oldest)
+
+-- a lane that made its whole turn, or has no token left, has no reason to halt
+pub no_reason : (g : Setting) (old new : Held) → IsWhole g.turn old new None → HasNoReason g new
+no_reason g old new (inl made) = inr (omega arith)
+no_reason g old new (inr none) = inl none
 
 module _ {C A : Type 0} (g : Setting) (mesh : MeshId) (start old : Held) (before events : ℕ) (r : Runner C A) (h : HasMade g mesh start old before events r) where
   abbrev pub beside : List Token

@@ -1,5 +1,5 @@
 -- From runners that have left to one run of the machine, and its report.
-use Rattle.std.proofs.Common.{◌≡◌, refl, sym, ◌∙◌, ap, subst, ℕ, zero, suc, ◌+◌, ◌<◌, ◌⊎◌, inl, inr, Bool, true, false, ℤ, List, [], ◌∷◌, ◌++◌, length, map, get_or, Option, Some, arith}
+use Rattle.std.proofs.Common.{◌≡◌, ◌≢◌, refl, sym, ◌∙◌, ap, subst, ℕ, zero, suc, ◌+◌, ◌<◌, ◌⊎◌, inl, inr, Bool, true, false, ℤ, List, [], ◌∷◌, ◌++◌, length, map, get_or, Option, Some, arith}
 use Rattle.std.specs.Prelude.{All, IsPermutation, slice_get}
 use Rattle.std.specs.Option.{option_map}
 use Rattle.std.proofs.lemmas.List.{length-map, get_or-map}
@@ -12,12 +12,14 @@ use Rattle.crossbeam_utils.specs.declared.cache_padded.CachePadded.{CachePadded}
 use Rattle.crossbeam_utils.specs.Padded.{padded_value}
 use Rattle.tags.specs.declared.token.Token.{Token}
 use Rattle.semantics.specs.Machine.{Events}
+use Rattle.semantics.specs.declared.report.End.{End}
 use Rattle.semantics.specs.Report.{Report, Shows}
-use Rattle.element.specs.Held.{Held, Fixed}
+use Rattle.element.specs.Held.{Held, Fixed, held_of}
 use Rattle.schedule.specs.declared.halt.Halt.{Halt}
 use Rattle.schedule.specs.Setting.{Setting, size}
 use Rattle.schedule.specs.State.{State, AllFrom, IsPlaced, IsSoundState, RunsAs, tokens_in}
-use Rattle.schedule.specs.Runs.{Began, HaltsAs, NamesCell}
+use Rattle.schedule.specs.Runs.{Kept, Began, HaltsAs, NamesCell}
+use Rattle.schedule.specs.Told.{IsReportOf}
 use Rattle.schedule.specs.Unlisted.{with_events, ShowsBut}
 use Rattle.schedule.proofs.Reports.{clash_cell}
 use Rattle.mesh.specs.Seats.{MeshId, Account, SeatView, AreFresh, AreAll, accounts, Leaves, HasCommits, Agree, IsFinal, fresh_seat}
@@ -35,10 +37,11 @@ use Rattle.law_free_runs.proofs.Ending.{ends_freely}
 use Rattle.machine.specs.declared.runner.Left.{Left}
 use Rattle.machine.specs.declared.runner.Runner.{Runner}
 use Rattle.machine.specs.Runners.{Ran, IsRunning, Runs, IsClear, IsLeft, away}
+use Rattle.machine.specs.Ends.{reason_of, reasons_of, IsLeast, NoneHalts, IsOwn, EndsFreely, EndsOn}
 use Rattle.machine.specs.Starts.{lane_in, seat_of, left_of, notes_of, listed_of, lane_fixed, lanes_in, lanes_fixed, seats_in, lefts_in, logs_in, AreListed, IsNew, Tells, AllEnded, Lists}
 use Rattle.machine.proofs.Beginning.{new_running}
 use Rattle.machine.proofs.Chosen.{chosen}
-use Rattle.machine.proofs.Freeing.{left_at}
+use Rattle.machine.proofs.Freeing.{left_at, halted_at, reason_at}
 
 -- PLACES
 module _ {X Y : Type 0} (f : X → Y) where
@@ -78,6 +81,19 @@ each_from P k (x ∷ xs) each = (
   subst (λ (n : ℕ). P n x) (omega arith) (each 0 x refl),
   each_from P (suc k) xs (λ i y is. subst (λ (n : ℕ). P n y) (omega arith) (each (suc i) y is)),
 )
+
+-- what is told of lanes is told with other events, too
+told_with : (s : State) (after all : Events) (halt : Halt) (r : Report) → r.end ≢ End.Memory → IsReportOf (record { state = s; events = after }) halt r
+    → (r.events ≡ after) × IsReportOf (record { state = s; events = all }) halt (with_events r all)
+told_with s after all halt r kept (inl is) = absurd (kept (ap (λ (x : Report). x.end) is))
+told_with s after all halt r kept (inr (has, ends, (first, t))) = (
+  has,
+  inr (refl, ends, (first, record { there = t.there; outputs = t.outputs; cells = t.cells; deferred = t.deferred; requests = t.requests; credits = t.credits; out = t.out })),
+)
+
+pub ends_in_memory : (k : Kept) (r : Report) → IsReportOf k Halt.Memory r → r.end ≡ End.Memory
+ends_in_memory k r (inl is) = ap (λ (x : Report). x.end) is
+ends_in_memory k r (inr (has, ends, told)) = ends
 
 module _ {C A : Type 0} where
   abbrev own_of : CachePadded (Runner C A) → Account
@@ -237,6 +253,22 @@ module _ {C A : Type 0} where
           let why : HaltsLane g.program g.steps may_stop (lane_in f.0) (Some halt) = subst (λ (l : Left). IsLeft g may_stop (padded_value f.0) l) (sym f.2) (left_is e f.0 f.1 f.3) in
           halts_as g may_stop (lanes_in news) tokens e (lane_in f.0) halt (slice_map lane_in news e f.0 f.1 ∙ ap (λ (q : CachePadded (Runner C A)). Some (lane_in q)) f.3) why
 
+      -- what each says of itself is so
+      own_said : (r : Runner C A) (left : Left) → (left ≡ Left.Lost → ⊥) → IsLeft g may_stop r left → IsOwn g may_stop (held_of r.lane) (reason_of left)
+      own_said r Left.Lost none is = absurd (none refl)
+      own_said r (Left.Halted halt) none is = is
+      own_said r Left.Rested none is = is.1
+      own_said r Left.Stopped none is = is
+
+      own_reason : (e : ℕ) (h : Held) (reason : Option Halt) → slice_get (lanes_in news) e ≡ Some h → slice_get (reasons_of (lefts_in news)) e ≡ Some reason → IsOwn g may_stop h reason
+      own_reason e h reason lane said =
+          let f = slice_found lane_in news e h lane in
+          let p : CachePadded (Runner C A) = f.0 in
+          let there : slice_get (lefts_in news) e ≡ Some (left_of p) = left_at news e p (left_of p) f.1 (ap (λ (q : CachePadded (Runner C A)). left_of q) f.3) in
+          let same : reason ≡ reason_of (left_of p) = same_Some reason (reason_of (left_of p)) (sym said ∙ reason_at (lefts_in news) e (left_of p) there) in
+          let own = own_said (padded_value p) (left_of p) (λ (is : left_of p ≡ Left.Lost). none_lost e (there ∙ ap (λ (l : Left). Some l) is)) (left_is e p f.1 f.3) in
+          subst (λ (o : Option Halt). IsOwn g may_stop h o) (sym same) (subst (λ (x : Held). IsOwn g may_stop x (reason_of (left_of p))) (sym f.2) own)
+
       pub cell : (halt : Halt) → Tells (lefts_in news) halt → NamesCell g.program halt
       cell halt tells = by_left tells.1
         where
@@ -244,9 +276,9 @@ module _ {C A : Type 0} where
           by_halt (inl halts) = clash_cell (coming g (lanes_in news) []) false halt (none_sound g (lanes_in news) sound_last) halts
           by_halt (inr (stop, may)) = subst (λ (h : Halt). NamesCell g.program h) (sym stop) tt
 
-          by_left : ((e : ℕ) × (slice_get (lefts_in news) e ≡ Some (Left.Halted halt))) ⊎ (((e : ℕ) × (slice_get (lefts_in news) e ≡ Some Left.Rested)) × (halt ≡ Halt.NoToken)) → NamesCell g.program halt
-          by_left (inl (e, is)) = by_halt (lane_halts halt [] e is)
-          by_left (inr (at, none)) = subst (λ (h : Halt). NamesCell g.program h) (sym none) tt
+          by_left : IsLeast (reasons_of (lefts_in news)) halt ⊎ (((e : ℕ) × (slice_get (lefts_in news) e ≡ Some Left.Rested)) × NoneHalts (reasons_of (lefts_in news)) × (halt ≡ Halt.NoToken)) → NamesCell g.program halt
+          by_left (inl least) = by_halt (lane_halts halt [] least.element (halted_at (lefts_in news) least.element halt least.there))
+          by_left (inr (at, silent, none)) = subst (λ (h : Halt). NamesCell g.program h) (sym none) tt
 
       module _ (s : SeatView) (mesh_is : s.mesh ≡ mesh) (seats : accounts s ≡ map (λ (x : SeatView). x.own) (seats_in news)) (history : (n : ℕ) × Leaves s.mesh s.seen n) (commits : HasCommits s) (agree : Agree s) (final : IsFinal s) where
         accounts_are : accounts s ≡ owns news
@@ -270,7 +302,7 @@ module _ {C A : Type 0} where
         rests : (inputs : List ℤ) (before : Events) (x : ends.Ended g s inputs before (lanes_in news) blocks_of) (e : ℕ) → slice_get (lefts_in news) e ≡ Some Left.Rested → tokens_in (coming g (lanes_in news) x.tokens).lanes ≡ []
         rests inputs before x e is =
             let f = slice_found left_of news e Left.Rested is in
-            let seen : Leaves (seat_of f.0).mesh (own_of f.0).last 0 = subst (λ (l : Left). IsLeft g may_stop (padded_value f.0) l) (sym f.2) (left_is e f.0 f.1 f.3) in
+            let seen : Leaves (seat_of f.0).mesh (own_of f.0).last 0 = (subst (λ (l : Left). IsLeft g may_stop (padded_value f.0) l) (sym f.2) (left_is e f.0 f.1 f.3)).0 in
             let there : get_elem? (owns news) e ≡ some (own_of f.0) = get_map own_of news e f.0 f.1 ∙ ap (λ (q : CachePadded (Runner C A)). some (own_of q)) f.3 in
             x.rest e (own_of f.0) (subst (λ (l : List Account). get_elem? l e ≡ some (own_of f.0)) (sym accounts_are) there)
             (subst (λ (m : MeshId). Leaves m (own_of f.0).last 0) ((ran_at e f.0 f.1 f.3).at ∙ sym mesh_is) seen)
@@ -278,9 +310,9 @@ module _ {C A : Type 0} where
         halted : (halt : Halt) → Tells (lefts_in news) halt → (inputs : List ℤ) (before : Events) (x : ends.Ended g s inputs before (lanes_in news) blocks_of) → IsHalted (coming g (lanes_in news) x.tokens) may_stop halt
         halted halt tells inputs before x = by_left tells.1
           where
-            by_left : ((e : ℕ) × (slice_get (lefts_in news) e ≡ Some (Left.Halted halt))) ⊎ (((e : ℕ) × (slice_get (lefts_in news) e ≡ Some Left.Rested)) × (halt ≡ Halt.NoToken)) → IsHalted (coming g (lanes_in news) x.tokens) may_stop halt
-            by_left (inl (e, is)) = lane_halts halt x.tokens e is
-            by_left (inr (at, none)) = inl (subst (λ (h : Halt). HaltsAs (coming g (lanes_in news) x.tokens) false h) (sym none) (rests inputs before x at.0 at.1))
+            by_left : IsLeast (reasons_of (lefts_in news)) halt ⊎ (((e : ℕ) × (slice_get (lefts_in news) e ≡ Some Left.Rested)) × NoneHalts (reasons_of (lefts_in news)) × (halt ≡ Halt.NoToken)) → IsHalted (coming g (lanes_in news) x.tokens) may_stop halt
+            by_left (inl least) = lane_halts halt x.tokens least.element (halted_at (lefts_in news) least.element halt least.there)
+            by_left (inr (at, silent, none)) = inl (subst (λ (h : Halt). HaltsAs (coming g (lanes_in news) x.tokens) false h) (sym none) (rests inputs before x at.0 at.1))
 
         logs_count : length (logs_in news) ≡ g.elements
         logs_count = length-map news notes_of ∙ count ∙ ready.count
@@ -343,3 +375,44 @@ module _ {C A : Type 0} where
                     let o = ordered on kept after opening opens (subst (λ (l : List (Log A)). Lists l opening kept after) logs_are (lists on)) inputs before x in
                     let t = told (before ++ o.0) o.1 in
                     (t.0, t.1, λ yes at. t.2 (o.2 ∙ ap (λ (l : Events). l ++ o.0) at))
+
+        -- and how the run ended
+        pub ends_last : (halt : Halt) → Tells (lefts_in news) halt → (now : Setting) → now ≡ g → (raw : List Held) → raw ≡ lanes_in news → (logs : List (Log A)) → logs ≡ logs_in news → (opening : List Token) → opening ≡ tokens_in (lanes_in olds)
+            → (kept after : Events) (r : Report) → (listed ≡ true → Lists logs opening kept after)
+            → (let w : State = record { setting = now; lanes = raw } in let k : Kept = record { state = w; events = after } in IsReportOf k halt r)
+            → (inputs : List ℤ) (before : Events) → Began inputs (coming g (lanes_in olds) []) before → r.end ≢ End.Memory → EndsOn listed g inputs may_stop kept before r
+        ends_last halt tells now setting raw is logs logs_are opening opens kept after r lists told inputs before began ne = by_end (the_end inputs before began)
+          where
+            last_state : State
+            last_state = record { setting = g; lanes = lanes_in news }
+
+            told_here : let k : Kept = record { state = last_state; events = after } in IsReportOf k halt r
+            told_here = subst (λ (z : Setting). let w : State = record { setting = z; lanes = lanes_in news } in let k : Kept = record { state = w; events = after } in IsReportOf k halt r) setting
+                (subst (λ (l : List Held). let w : State = record { setting = now; lanes = l } in let k : Kept = record { state = w; events = after } in IsReportOf k halt r) is told)
+
+            by_end : ends.Ended g s inputs before (lanes_in news) blocks_of → EndsOn listed g inputs may_stop kept before r
+            by_end x = by_listed listed refl
+              where
+                by_why : IsLeast (reasons_of (lefts_in news)) halt ⊎ (((e : ℕ) × (slice_get (lefts_in news) e ≡ Some Left.Rested)) × NoneHalts (reasons_of (lefts_in news)) × (halt ≡ Halt.NoToken))
+                    → IsLeast (reasons_of (lefts_in news)) halt ⊎ (NoneHalts (reasons_of (lefts_in news)) × (tokens_in (coming g (lanes_in news) x.tokens).lanes ≡ []) × (halt ≡ Halt.NoToken))
+                by_why (inl least) = inl least
+                by_why (inr (at, silent, none)) = inr (silent, rests inputs before x at.0 at.1, none)
+
+                ending : (all : Events) → Began inputs (coming g (lanes_in news) x.tokens) all → EndsFreely g inputs may_stop (with_events r all)
+                ending all last = record {
+                  lanes = lanes_in news;
+                  on_way = x.tokens;
+                  began = last;
+                  reasons = reasons_of (lefts_in news);
+                  count = length-map (lefts_in news) reason_of ∙ length-map news left_of ∙ sym (length-map news lane_in);
+                  own = own_reason;
+                  halt = halt;
+                  least = by_why tells.1;
+                  told = (told_with last_state after all halt r ne told_here).1;
+                }
+
+                by_listed : (b : Bool) → listed ≡ b → EndsOn listed g inputs may_stop kept before r
+                by_listed false off = (before ++ events_in x.log, ending (before ++ events_in x.log) x.began, λ on same. absurd (let no : ⊥ = cc in no))
+                by_listed true on =
+                    let o = ordered on kept after opening opens (subst (λ (l : List (Log A)). Lists l opening kept after) logs_are (lists on)) inputs before x in
+                    (before ++ o.0, ending (before ++ o.0) o.1, λ yes at. (told_with last_state after after halt r ne told_here).0 ∙ o.2 ∙ ap (λ (l : Events). l ++ o.0) at)

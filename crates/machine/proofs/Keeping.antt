@@ -26,7 +26,7 @@ use Rattle.machine.specs.declared.runner.Runner.{Runner}
 use Rattle.rounds.specs.Turns.{HaltsLane}
 use Rattle.ordering.specs.Noted.{noted_in}
 use Rattle.ordering.specs.Logs.{Logs}
-use Rattle.machine.specs.Runners.{Ended, IsLeft, StaysAt, Runs, Keeps, IsClear, Receives, KeepsTokens, away}
+use Rattle.machine.specs.Runners.{Ended, IsLeft, StaysAt, Runs, Keeps, IsClear, Receives, KeepsTokens, away, HasNoReason}
 use Rattle.machine.proofs.Accounts.{IsQuiet, found_full, saw_live}
 use Rattle.machine.proofs.Steps.{ran_as, ran_quiet, ran_beside, ran_received, ran_in_hand, ran_posted}
 
@@ -373,8 +373,11 @@ module _ {C A : Type 0} (g : Setting) (mesh : MeshId) (may_stop : Bool) where
   left_as : (old new : Runner C A) (left : Left) → held_of new.lane ≡ held_of old.lane → new.seat.mesh ≡ old.seat.mesh → new.seat.own.last ≡ old.seat.own.last → IsLeft g may_stop old left → IsLeft g may_stop new left
   left_as old new Left.Lost lane at last is = tt
   left_as old new (Left.Halted halt) lane at last is = subst (λ (h : Held). HaltsLane g.program g.steps may_stop h (Some halt)) (sym lane) is
-  left_as old new Left.Rested lane at last is = subst (λ (m : MeshId). Leaves m new.seat.own.last 0) (sym at) (subst (λ (l : List Commit). Leaves old.seat.mesh l 0) (sym last) is)
-  left_as old new Left.Stopped lane at last is = tt
+  left_as old new Left.Rested lane at last is = (
+    subst (λ (m : MeshId). Leaves m new.seat.own.last 0) (sym at) (subst (λ (l : List Commit). Leaves old.seat.mesh l 0) (sym last) is.0),
+    subst (λ (h : Held). HasNoReason g h) (sym lane) is.1,
+  )
+  left_as old new Left.Stopped lane at last is = subst (λ (h : Held). HasNoReason g h) (sym lane) is
 
   -- it left, and then called for a stop if it had to
   pub ended : (old mid new : Runner C A) (left : Left) → StaysAt old mid → (left ≢ Left.Lost → Keeps g mesh old mid) → IsLeft g may_stop mid left

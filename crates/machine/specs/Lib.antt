@@ -1,2 +1,3 @@
 pub mod Runners
+pub mod Ends
 pub mod Starts

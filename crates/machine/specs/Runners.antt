@@ -1,5 +1,5 @@
 -- What holds of an element that runs freely.
-use Rattle.std.specs.Prelude.{◌≡◌, ◌≢◌, ℕ, ◌+◌, ◌-◌, ◌≤◌, ◌<◌, ◌^◌, List, [], ◌++◌, map, take, drop, length, Bool, Some, IsPermutation, All, slice_index_or, ⊤, Vec, true, if◌then◌else◌, ◌∷◌}
+use Rattle.std.specs.Prelude.{◌≡◌, ◌≢◌, ℕ, ◌+◌, ◌-◌, ◌≤◌, ◌<◌, ◌^◌, ◌⊎◌, List, [], ◌++◌, map, take, drop, length, Bool, Some, IsPermutation, All, slice_index_or, ⊤, Vec, true, if◌then◌else◌, ◌∷◌}
 use Rattle.std.specs.List.{flat_map}
 use Rattle.tags.specs.declared.token.Token.{Token}
 use Rattle.element.specs.Near.{Bounds, IsNearToken}
@@ -80,12 +80,16 @@ pub record Receives {C A : Type 0} (g : Setting) (old : Runner C A) (tokens : Li
 abbrev pub StaysAt : {C A : Type 0} → Runner C A → Runner C A → Type 0
 StaysAt old new = (new.seat.mesh ≡ old.seat.mesh) × (new.seat.joined ≡ old.seat.joined) × (new.seat.own.element ≡ old.seat.own.element) × (new.listed ≡ old.listed)
 
+-- it had no token left, or has made as many events as a turn has
+abbrev pub HasNoReason : Setting → Held → Type 0
+HasNoReason g h = (h.queue ≡ []) ⊎ (g.turn ≤ h.made)
+
 -- why it left; `may_stop`: the gate may answer false
 abbrev pub IsLeft : {C A : Type 0} → Setting → Bool → Runner C A → Left → Type 0
 IsLeft g may_stop r Left.Lost = ⊤
 IsLeft g may_stop r (Left.Halted halt) = HaltsLane g.program g.steps may_stop (held_of r.lane) (Some halt)
-IsLeft g may_stop r Left.Rested = Leaves r.seat.mesh r.seat.own.last 0
-IsLeft g may_stop r Left.Stopped = ⊤
+IsLeft g may_stop r Left.Rested = Leaves r.seat.mesh r.seat.own.last 0 × HasNoReason g (held_of r.lane)
+IsLeft g may_stop r Left.Stopped = HasNoReason g (held_of r.lane)
 
 -- what is known of an element that has run
 pub record Ended {C A : Type 0} (g : Setting) (mesh : MeshId) (may_stop : Bool) (old new : Runner C A) : Type 0 where

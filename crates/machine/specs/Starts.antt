@@ -16,6 +16,7 @@ use Rattle.machine.specs.declared.belongings.Belongings.{Belongings}
 use Rattle.machine.specs.declared.runner.Left.{Left}
 use Rattle.machine.specs.declared.runner.Runner.{Runner}
 use Rattle.machine.specs.Runners.{IsClear, Ended}
+use Rattle.machine.specs.Ends.{reasons_of, IsLeast, NoneHalts}
 
 abbrev pub lane_in : {C A : Type 0} → CachePadded (Runner C A) → Held
 lane_in p = held_of (padded_value p).lane
@@ -79,11 +80,11 @@ pub record IsNew {C A : Type 0} (n : ℕ) (r : Runner C A) : Type 0 where
   pub notes : noted_in r.notes ≡ nothing
   pub log : r.log.items ≡ []
 
--- no element is lost; this is the reason of one that halted, or one saw that no token is live
+-- no element is lost; of those that halted the one of least number has this reason, or none halted and one saw that no token is live
 abbrev pub Tells : List Left → Halt → Type 0
 Tells lefts halt =
     ((i : ℕ) → slice_get lefts i ≡ Some Left.Lost → ⊥)
-    × (((e : ℕ) × (slice_get lefts e ≡ Some (Left.Halted halt))) ⊎ (((e : ℕ) × (slice_get lefts e ≡ Some Left.Rested)) × (halt ≡ Halt.NoToken)))
+    × (IsLeast (reasons_of lefts) halt ⊎ (((e : ℕ) × (slice_get lefts e ≡ Some Left.Rested)) × NoneHalts (reasons_of lefts) × (halt ≡ Halt.NoToken)))
 
 -- all have run
 abbrev pub AllEnded : {C A : Type 0} → Setting → MeshId → Bool → List (CachePadded (Runner C A)) → List (CachePadded (Runner C A)) → Type 0

@@ -1,6 +1,6 @@
 //! An element makes a block of events, and commits it.
 
-ghost use Rattle.std.specs.Prelude.{◌≡◌, ◌<◌, ◌≤◌, ◌+◌, ◌^◌, ◌++◌, ◌-◌, [], drop, length, false, OnOk, IfOk};
+ghost use Rattle.std.specs.Prelude.{◌≡◌, ◌<◌, ◌≤◌, ◌+◌, ◌^◌, ◌++◌, ◌-◌, [], drop, length, None, false, OnOk, IfOk};
 ghost use Rattle.element.specs.Held.{Held, held_of};
 ghost use Rattle.schedule.specs.Apart.{setting_in};
 ghost use Rattle.schedule.specs.Setting.{IsGoodSetting};
@@ -8,7 +8,7 @@ ghost use Rattle.mesh.specs.Deeds.{created};
 ghost use Rattle.mesh.specs.Seats.{AllTo, Has, Commits};
 ghost use Rattle.rounds.specs.Turns.{HaltsLane};
 ghost use Rattle.ordering.specs.Noted.{noted_in, with_block};
-ghost use Rattle.machine.specs.Runners.{IsRunning, Runs, Keeps, IsClear, StaysAt, HasMade, NotesBlock, tokens_of};
+ghost use Rattle.machine.specs.Runners.{IsRunning, Runs, Keeps, IsClear, StaysAt, HasNoReason, HasMade, NotesBlock, tokens_of};
 
 use crate::runner::{Lost, Runner};
 use element::instructions::Instructions;
@@ -165,6 +165,7 @@ fn make_events<C: MainCode, A: Allocator + Clone>(
     ensures stays { StaysAt runner.old runner.new }
     ensures keeps { OnOk result (Keeps (setting_in C.program C.width setup.now) mesh.now runner.old runner.new) }
     ensures halts { IfOk result (λ halt. HaltsLane (C.program setup.now.code.now) setup.now.steps false (held_of runner.new.lane) halt) }
+    ensures whole { IfOk result (λ halt. halt ≡ None → HasNoReason (setting_in C.program C.width setup.now) (held_of runner.new.lane)) }
     ensures undealt { (runner.new.hand.items ≡ []) × (runner.new.dealt ≡ 0) }
 {
     let before = runner.lane.queue().len() as u64;
@@ -195,6 +196,7 @@ pub fn make_block<C: MainCode, A: Allocator + Clone, G: Gate>(
     ensures stays { StaysAt runner.old runner.new }
     ensures keeps { OnOk result (Keeps (setting_in C.program C.width setup.now) mesh.now runner.old runner.new) }
     ensures halts { IfOk result (λ halt. HaltsLane (C.program setup.now.code.now) setup.now.steps G.may_stop (held_of runner.new.lane) halt) }
+    ensures whole { IfOk result (λ halt. halt ≡ None → HasNoReason (setting_in C.program C.width setup.now) (held_of runner.new.lane)) }
     ensures undealt { (runner.new.hand.items ≡ []) × (runner.new.dealt ≡ 0) }
 {
     if runner.lane.queue().len() == 0 {

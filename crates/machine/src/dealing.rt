@@ -45,6 +45,7 @@ pub fn deal<C: MainCode, A: Allocator>(
     ensures stays { StaysAt runner.old runner.new }
     ensures keeps { Keeps (setting_in C.program C.width setup.now) mesh.now runner.old runner.new }
     ensures dealt { OnOk result ((runner.new.sent.items ≡ []) × (runner.new.dealt ≡ 0) × (runner.new.hand.items ≡ runner.old.hand.items)) }
+    ensures lane { held_of runner.new.lane ≡ held_of runner.old.lane }
 {
     let _ = mesh;
     for at in 0..runner.sent.len() {
@@ -73,6 +74,7 @@ fn post_bundle<C: MainCode, A: Allocator>(
     ensures stays { StaysAt runner.old runner.new }
     ensures keeps { Keeps (setting_in C.program C.width setup.now) mesh.now runner.old runner.new }
     ensures clear { IsClear runner.new }
+    ensures lane { held_of runner.new.lane ≡ held_of runner.old.lane }
 {
     let _ = setup;
     let at = to as usize;
@@ -112,6 +114,7 @@ fn offer_to<C: MainCode, A: Allocator + Clone>(
     ensures stays { StaysAt runner.old runner.new }
     ensures keeps { Keeps (setting_in C.program C.width setup.now) mesh.now runner.old runner.new }
     ensures clear { IsClear runner.new }
+    ensures lane { held_of runner.new.lane ≡ held_of runner.old.lane }
 {
     if runner.kept[to as usize].is_empty() {
         return Ok(());
@@ -133,6 +136,7 @@ pub fn offer_all<C: MainCode, A: Allocator + Clone>(
     ensures stays { StaysAt runner.old runner.new }
     ensures keeps { Keeps (setting_in C.program C.width setup.now) mesh.now runner.old runner.new }
     ensures clear { IsClear runner.new }
+    ensures lane { held_of runner.new.lane ≡ held_of runner.old.lane }
 {
     for to in 0..setup.elements {
         offer_to(runner, mesh, setup, to)?;

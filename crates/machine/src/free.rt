@@ -1,20 +1,22 @@
 //! Free runs.
 
-ghost use Rattle.std.specs.Prelude.{◌≡◌, ◌<◌, ◌≤◌, ◌^◌, [], ℕ, ℤ, List, length, map, All, IfOk, IfSome, OnOk, Some, true, false, slice_get};
+ghost use Rattle.std.specs.Prelude.{◌≡◌, ◌≢◌, ◌<◌, ◌≤◌, ◌^◌, [], ℕ, ℤ, List, length, map, All, IfOk, IfSome, IfNone, OnOk, Some, true, false, slice_get};
 ghost use Rattle.crossbeam_utils.specs.Padded.{padded_value};
 ghost use Rattle.semantics.specs.Machine.{Events};
+ghost use Rattle.semantics.specs.declared.report.End.{End};
 ghost use Rattle.semantics.specs.Report.{Shows};
 ghost use Rattle.element.specs.Held.{held_of, fixed_of};
 ghost use Rattle.schedule.specs.Setting.{size, IsGoodSetting};
 ghost use Rattle.schedule.specs.State.{IsSoundState, RunsAs, tokens_in};
 ghost use Rattle.schedule.specs.Runs.{Began};
 ghost use Rattle.schedule.specs.Apart.{setting_in};
-ghost use Rattle.schedule.specs.Unlisted.{ShowsQuietly};
+ghost use Rattle.schedule.specs.Unlisted.{ShowsQuietly, with_events};
 ghost use Rattle.mesh.specs.Seats.{AreFresh};
 ghost use Rattle.rounds.specs.Turns.{coming};
 ghost use Rattle.rounds.specs.Rounds.{ShowsOn};
 ghost use Rattle.machine.specs.declared.runner.Left.{Left};
 ghost use Rattle.machine.specs.Runners.{Runs, IsClear, Ended};
+ghost use Rattle.machine.specs.Ends.{reasons_of, IsLeast, NoneHalts, EndsFreely, EndsOn};
 ghost use Rattle.machine.specs.Starts.{AreListed, IsNew, Lists, lanes_in, lanes_fixed, seats_in, lefts_in, Tells, AllEnded};
 
 use crate::runner::{Left, Runner};
@@ -107,11 +109,12 @@ fn is_lost<C: Instructions, A: Allocator>(runners: &[CachePadded<Runner<'_, C, A
     false
 }
 
-// The first reason of an element to halt.
+// The reason of the element of least number that halted for one of its own.
 fn first_halt<C: Instructions, A: Allocator>(
     runners: &[CachePadded<Runner<'_, C, A>>],
 ) -> Option<Halt>
-    ensures { IfSome result (λ halt. (e : ℕ) × (slice_get (lefts_in runners.now) e ≡ Some (Left.Halted halt))) }
+    ensures least { IfSome result (IsLeast (reasons_of (lefts_in runners.now))) }
+    ensures none { IfNone result (NoneHalts (reasons_of (lefts_in runners.now))) }
 {
     for at in 0..runners.len() {
         let runner: &Runner<'_, C, A> = &runners[at];
@@ -239,6 +242,7 @@ fn run_apart<
     requires sound { IsSoundState (coming (setting_in C.program C.width setup) (map held_of lanes.items) []) }
     requires runs { All (RunsAs (setting_in C.program C.width setup)) (map fixed_of lanes.items) }
     ensures unlisted { listed ≡ false → setup.entry.events.items ≡ [] → result.events ≡ [] }
+    ensures ends { (inputs : List ℤ) (events : Events) → Began inputs (coming (setting_in C.program C.width setup.entry) (map held_of lanes.entry.items) []) events → result.end ≢ End.Memory → EndsOn listed (setting_in C.program C.width setup.entry) inputs G.may_stop setup.entry.events.items events result }
     ensures shows { (inputs : List ℤ) (events : Events) → Began inputs (coming (setting_in C.program C.width setup.entry) (map held_of lanes.entry.items) []) events → ShowsOn listed (C.program setup.entry.code.now) (size (setting_in C.program C.width setup.entry)) inputs setup.entry.steps G.may_stop setup.entry.events.items events result }
 {
     let Ok(ready) = make_ready(&setup.alloc, lanes, setup.elements, listed) else {
@@ -277,6 +281,7 @@ pub fn run<
     G: Gate + Sync,
 >(machine: Machine<'_, C, A>, rt: &R, gate: &G) -> Report<A>
     ensures shows { (inputs : List ℤ) → Began inputs machine.entry.state machine.entry.events → Shows machine.entry.state.setting.program (size machine.entry.state.setting) inputs machine.entry.state.setting.steps false G.may_stop result }
+    ensures ends { (inputs : List ℤ) → Began inputs machine.entry.state machine.entry.events → result.end ≢ End.Memory → EndsFreely machine.entry.state.setting inputs G.may_stop result }
 {
     match machine.into_lanes() {
         Ok((setup, lanes)) => run_apart(setup, lanes, rt, gate, true),
@@ -292,6 +297,7 @@ pub fn run_quietly<
     G: Gate + Sync,
 >(machine: Machine<'_, C, A>, rt: &R, gate: &G) -> Report<A>
     ensures shows { (inputs : List ℤ) → Began inputs machine.entry.state machine.entry.events → ShowsQuietly machine.entry.state.setting.program (size machine.entry.state.setting) inputs machine.entry.state.setting.steps false G.may_stop result }
+    ensures ends { (inputs : List ℤ) → Began inputs machine.entry.state machine.entry.events → result.end ≢ End.Memory → (events : Events) × EndsFreely machine.entry.state.setting inputs G.may_stop (with_events result events) }
 {
     match machine.into_lanes() {
         Ok((mut setup, lanes)) => {

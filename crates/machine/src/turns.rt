@@ -7,7 +7,7 @@ ghost use Rattle.schedule.specs.Setting.{IsGoodSetting};
 ghost use Rattle.rounds.specs.Turns.{HaltsLane};
 ghost use Rattle.schedule.specs.declared.halt.Halt.{Halt};
 ghost use Rattle.machine.specs.declared.runner.Left.{Left};
-ghost use Rattle.machine.specs.Runners.{Runs, Keeps, IsClear, StaysAt, IsLeft, Ended};
+ghost use Rattle.machine.specs.Runners.{Runs, Keeps, IsClear, StaysAt, HasNoReason, IsLeft, Ended};
 
 use crate::blocks::make_block;
 use crate::dealing::{deal, offer_all};
@@ -67,6 +67,7 @@ fn work<C: MainCode, A: Allocator + Clone, G: Gate>(
     ensures stays { StaysAt runner.old runner.new }
     ensures keeps { OnOk result (Keeps (setting_in C.program C.width setup.now) mesh.now runner.old runner.new) }
     ensures halts { IfOk result (λ halt. HaltsLane (C.program setup.now.code.now) setup.now.steps G.may_stop (held_of runner.new.lane) halt) }
+    ensures whole { IfOk result (λ halt. halt ≡ None → HasNoReason (setting_in C.program C.width setup.now) (held_of runner.new.lane)) }
     ensures undealt { IfOk result (λ halt. halt ≡ None → (runner.new.hand.items ≡ []) × (runner.new.dealt ≡ 0)) }
 {
     match take(runner, mesh, setup) {
@@ -87,6 +88,7 @@ fn hand_on<C: MainCode, A: Allocator + Clone>(
     ensures stays { StaysAt runner.old runner.new }
     ensures keeps { Keeps (setting_in C.program C.width setup.now) mesh.now runner.old runner.new }
     ensures clear { OnOk result (IsClear runner.new) }
+    ensures lane { held_of runner.new.lane ≡ held_of runner.old.lane }
 {
     deal(runner, mesh, setup)?;
     if is_busy(runner, setup) {
@@ -103,6 +105,7 @@ fn look<C: MainCode, A: Allocator>(
 ) -> Option<Left>
     requires runs { Runs (setting_in C.program C.width setup.now) mesh.now runner.old }
     requires clear { IsClear runner.old }
+    requires whole { HasNoReason (setting_in C.program C.width setup.now) (held_of runner.old.lane) }
     ensures stays { StaysAt runner.old runner.new }
     ensures keeps { Keeps (setting_in C.program C.width setup.now) mesh.now runner.old runner.new }
     ensures left { IfSome result (λ left. (may_stop : Bool) → IsLeft (setting_in C.program C.width setup.now) may_stop runner.new left) }

@@ -1,4 +1,4 @@
-//! An allocator for tests: it gives out what another does, and refuses one growth.
+//! An allocator for tests: it gives out what another does, counts the growths, and refuses one.
 #![tactic(auto)]
 
 use std::alloc::{AllocError, Allocator};
@@ -17,12 +17,24 @@ impl<B: Allocator> Rationed<B> {
             left: AtomicU64::new(ration),
         }
     }
+
+    /// What is left of its ration. Each growth that it is asked for takes one, so a call that leaves this as it was took no memory.
+    pub fn left(&self) -> u64 {
+        self.left.load(Ordering::SeqCst)
+    }
 }
 
 impl<B: Allocator> Drop for Rationed<B> {
     fn drop(self) {
         let Self { inner: _, left: _ } = self;
     }
+}
+
+/// Whether this allocator refuses the next growth, which it is asked for. One of `Rationed` refuses one growth and grants all after it,
+/// so after a run over it this says that the run had exactly one growth fewer than were needed for a refusal: none was refused.
+pub fn is_next_refused<A: Allocator>(alloc: A) -> bool {
+    let mut probe: Vec<u64, A> = Vec::new(alloc);
+    probe.push(0).is_err()
 }
 
 fn admits(left: &AtomicU64) -> bool {

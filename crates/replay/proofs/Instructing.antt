@@ -1,6 +1,6 @@
 -- What instructions do.
 use Rattle.std.proofs.Common.{◌≡◌, refl, sym, ◌∙◌, ap, subst, ℕ, ◌+◌, ◌<◌, ◌≤◌, ◌^◌, List, length, Option, Some, None, arith, ⊎_elim}
-use Rattle.std.specs.Prelude.{All, sum, IfSome, take, slice_index_or, option_to_list}
+use Rattle.std.specs.Prelude.{sum, IfSome, take, slice_index_or, option_to_list}
 use Rattle.std.proofs.lemmas.List.{get_or_past}
 use Rattle.std.proofs.lemmas.List.Sums.{sum_by-take-drop, sum_by-drop_more}
 use Rattle.std.proofs.lemmas.Grind.{common_steps}
@@ -15,21 +15,20 @@ use Rattle.semantics.specs.declared.program.Dest.{Dest}
 use Rattle.semantics.specs.declared.program.Op.{Op}
 use Rattle.semantics.specs.declared.program.Op.TheVariants.{Apply2, Sync, Switch, Send, Return, Ask, Open, Take, Give, Drain, Release}
 use Rattle.semantics.specs.Program.{Instr, Program, instr_at}
-use Rattle.semantics.specs.Rule.{Seat, Outcome, Becomes, Excluded, alone, fires, fire_one, outcome_of, rule_at, slot_of, answer_to, landing_at, token}
+use Rattle.semantics.specs.Rule.{Seat, Outcome, Becomes, alone, fires, fire_one, outcome_of, rule_at, slot_of, answer_to, landing_at}
 use Rattle.semantics.specs.Machine.{Store, Happens, Fires, slot_in, slot_used, with_slot_in, put_at}
 use Rattle.element.specs.declared.instructions.Instruction.{Instruction}
 use Rattle.element.specs.Decoded.{instr_of, dest_in, IsShort}
-use Rattle.element.specs.Near.{Bounds, IsNearCont, IsNearWord, IsNearToken, IsNearSlot}
+use Rattle.element.specs.Near.{Bounds, IsNearCont, IsNearWord, IsNearSlot}
 use Rattle.frame_store.proofs.Apart.{either}
 use Rattle.element.proofs.Places.{put_same}
 use Rattle.element.proofs.Nearness.{IsNearSeat, NearOutcome, outcome_near}
 use Rattle.element.proofs.Instructing.{low_slot}
-use Rattle.element.proofs.Changing.{IsLow}
 use Rattle.replay.specs.declared.slots.Slots.{Slots}
 use Rattle.replay.specs.declared.state.State.{State}
 use Rattle.replay.specs.declared.state.Did.{Did}
 use Rattle.replay.specs.Moments.{at_slot, deed_of}
-use Rattle.replay.specs.Held.{held, Holds}
+use Rattle.replay.specs.Held.{Holds}
 use Rattle.replay.specs.Nearby.{bounds_of, IsNearStore}
 use Rattle.replay.specs.Follows.{held_in, Sets, IsDone}
 use Rattle.replay.proofs.Keeping.{with_slots, slot_is, slot_kept, slot_near, slot_stays}
@@ -61,7 +60,7 @@ alone_empty p s i Left w v ts e = fired_empty v ts (fire_one p s i i.op w) e
 alone_empty p s i Right w v ts e = absurd (let bad : ⊥ = cc in bad)
 
 -- an instruction that uses no slot leaves none
-none_left : (p : Program) (s : Seat) (i : Instr) (op : Op) (port : Port) (w : Word) (v : SlotState) (ts : List Token) → Becomes v ts ≡ outcome_of p s i op Empty port w → slot_of i op ≡ None → v ≡ Empty
+pub none_left : (p : Program) (s : Seat) (i : Instr) (op : Op) (port : Port) (w : Word) (v : SlotState) (ts : List Token) → Becomes v ts ≡ outcome_of p s i op Empty port w → slot_of i op ≡ None → v ≡ Empty
 none_left p s i (Apply2 op) port w v ts e n = absurd (let bad : ⊥ = cc in bad)
 none_left p s i Sync port w v ts e n = absurd (let bad : ⊥ = cc in bad)
 none_left p s i Switch port w v ts e n = absurd (let bad : ⊥ = cc in bad)
@@ -75,6 +74,16 @@ none_left p s i (Take k) port w v ts e n = absurd (let bad : ⊥ = cc in bad)
 none_left p s i (Give k) port w v ts e n = absurd (let bad : ⊥ = cc in bad)
 none_left p s i (Drain k) port w v ts e n = absurd (let bad : ⊥ = cc in bad)
 none_left p s i op port w v ts e n = alone_empty p s i port w v ts e
+
+-- the slot that the instruction uses is this one then; where it uses none, it is as empty as before
+pub slot_then : (s : Store) (f : ℕ) (i : Instr) (v : SlotState) (r : Option ℕ) → slot_of i i.op ≡ r → (slot_of i i.op ≡ None → v ≡ Empty) → v ≡ slot_in (with_slot_in s f r v) f (slot_of i i.op)
+slot_then s f i v r r_is none = by r r_is where
+  by : (q : Option ℕ) → slot_of i i.op ≡ q → v ≡ slot_in (with_slot_in s f r v) f (slot_of i i.op)
+  by None is = none is ∙ sym (ap (λ (q : Option ℕ). slot_in (with_slot_in s f r v) f q) is)
+  by (Some q) is =
+      let used : r ≡ Some q = sym r_is ∙ is in
+      let put : slot_in (with_slot_in s f (Some q) v) f (Some q) ≡ v = ap (λ (k : ℕ → SlotState). k q) (put_same s.slots f f (put_at (s.slots f) q v) refl) ∙ put_same (s.slots f) q q v refl in
+      sym (ap (λ (x : Option ℕ). slot_in (with_slot_in s f r v) f x) is ∙ ap (λ (x : Option ℕ). slot_in (with_slot_in s f x v) f (Some q)) used ∙ put)
 
 abbrev pub slot_at : Instruction → Option ℕ
 slot_at i = slot_of (instr_of i) i.op
@@ -93,16 +102,13 @@ module _ {A : Type 0} (p : Program) (h : State A) (s : Store) (holds : Holds h s
   held_near : (f : ℕ) (r : Option ℕ) → IsNearSlot b (held_in h.slots f r)
   held_near f r = subst (λ (v : SlotState). IsNearSlot b v) (sym (slot_is h s holds f r)) (slot_near b s near f r)
 
-  -- the deed at the slot that the instruction uses; where it uses none, it has fired
+  -- the deed at the slot that the instruction uses
   deed_is : (f ip : ℕ) (port : Port) (i : Instr) (v : SlotState) (r : Option ℕ) (ts : List Token) → Some i ≡ instr_at p ip → slot_of i i.op ≡ r → (slot_of i i.op ≡ None → v ≡ Empty)
-      → at_slot v ts ≡ deed_of p (with_slot_in s f r v) (To.Instr f ip port) ts
-  deed_is f ip port i v r ts e r_is none = by r r_is ∙ ap (λ (x : Option Instr). at_slot (slot_in (with_slot_in s f r v) f (slot_used x)) ts) e where
-    by : (q : Option ℕ) → slot_of i i.op ≡ q → at_slot v ts ≡ at_slot (slot_in (with_slot_in s f r v) f (slot_of i i.op)) ts
-    by None is = ap (λ (x : SlotState). at_slot x ts) (none is) ∙ sym (ap (λ (q : Option ℕ). at_slot (slot_in (with_slot_in s f r v) f q) ts) is)
-    by (Some q) is =
-        let used : r ≡ Some q = sym r_is ∙ is in
-        let put : slot_in (with_slot_in s f (Some q) v) f (Some q) ≡ v = ap (λ (k : ℕ → SlotState). k q) (put_same s.slots f f (put_at (s.slots f) q v) refl) ∙ put_same (s.slots f) q q v refl in
-        sym (ap (λ (x : Option ℕ). at_slot (slot_in (with_slot_in s f r v) f x) ts) is ∙ ap (λ (x : Option ℕ). at_slot (slot_in (with_slot_in s f x v) f (Some q)) ts) used ∙ ap (λ (x : SlotState). at_slot x ts) put)
+      → at_slot (held_in h.slots f (slot_of i i.op)) v ≡ deed_of p s (with_slot_in s f r v) (To.Instr f ip port) ts
+  deed_is f ip port i v r ts e r_is none =
+      ap (λ (x : SlotState). at_slot x v) (slot_is h s holds f (slot_of i i.op))
+      ∙ ap (λ (x : SlotState). at_slot (slot_in s f (slot_of i i.op)) x) (slot_then s f i v r r_is none)
+      ∙ ap (λ (x : Option Instr). at_slot (slot_in s f (slot_used x)) (slot_in (with_slot_in s f r v) f (slot_used x))) e
 
   seat_near : (width f ip : ℕ) (i : Instruction) → f < h.frames → IsShort width ip i → IsNearSeat p b (seat f ip) (instr_of i)
   seat_near width f ip i there short = record {
@@ -112,19 +118,22 @@ module _ {A : Type 0} (p : Program) (h : State A) (s : Store) (holds : Holds h s
     cells = λ a x l. cell_there p.arrays a x l;
   }
 
-  pub fired : (width f ip : ℕ) (port : Port) (w : Word) (i : Instruction) (v : SlotState) (ts : List Token) (slots : Slots A) (did : Did) (made : List Token) (n : Store) → width ≤ 512 → f < h.frames → IsNearWord b w → IsShort width ip i → Some (instr_of i) ≡ instr_at p ip
-      → Becomes v ts ≡ outcome_of p (seat f ip) (instr_of i) i.op (held_in h.slots f (slot_of (instr_of i) i.op)) port w → Sets h.slots f (slot_of (instr_of i) i.op) v slots → did.made ≡ length ts → did.deed ≡ at_slot v ts
-      → Happens p h.frames s (To.Instr f ip port) w made n → IsDone p h.frames did (To.Instr f ip port) made (with_slots h slots) n
-  fired width f ip port w i v ts slots did made n wide there near_w short found comes sets count deed_at happens =
-      subst (λ (x : Store). IsDone p h.frames did (To.Instr f ip port) made (with_slots h slots) x) (sym fires.1)
-      (subst (λ (us : List Token). IsDone p h.frames did (To.Instr f ip port) us (with_slots h slots) (with_slot_in s f (slot_at i) v)) (sym fires.0) (record {
+  pub fired : (width f ip : ℕ) (port : Port) (w : Word) (i : Instruction) (u v : SlotState) (ts : List Token) (slots : Slots A) (did : Did) (made : List Token) (n : Store) → width ≤ 512 → f < h.frames → IsNearWord b w → IsShort width ip i → Some (instr_of i) ≡ instr_at p ip
+      → u ≡ held_in h.slots f (slot_of (instr_of i) i.op) → Becomes v ts ≡ outcome_of p (seat f ip) (instr_of i) i.op u port w → Sets h.slots f (slot_of (instr_of i) i.op) v slots → did.made ≡ length ts → did.deed ≡ at_slot u v
+      → Happens p h.frames s (To.Instr f ip port) w made n → IsDone p h.frames did (To.Instr f ip port) made s (with_slots h slots) n
+  fired width f ip port w i u v ts slots did made n wide there near_w short found was becomes sets count deed_at happens =
+      subst (λ (x : Store). IsDone p h.frames did (To.Instr f ip port) made s (with_slots h slots) x) (sym fires.1)
+      (subst (λ (us : List Token). IsDone p h.frames did (To.Instr f ip port) us s (with_slots h slots) (with_slot_in s f (slot_at i) v)) (sym fires.0) (record {
         made = count;
-        deed = deed_at ∙ deed_is f ip port (instr_of i) v (slot_at i) ts found refl none;
+        deed = deed_at ∙ ap (λ (x : SlotState). at_slot x v) was ∙ deed_is f ip port (instr_of i) v (slot_at i) ts found refl none;
         holds = slot_kept h s holds f (slot_at i) v slots there (low_slot (instr_of i) i.op 512 (let low = short.slot in omega (arith, wide, low))) sets;
         near_store = slot_stays b s near f (slot_at i) v after.0;
         near = after.1;
       }))
     where
+      comes : Becomes v ts ≡ outcome_of p (seat f ip) (instr_of i) i.op (held_in h.slots f (slot_at i)) port w
+      comes = becomes ∙ ap (λ (x : SlotState). outcome_of p (seat f ip) (instr_of i) i.op x port w) was
+
       fires : (made ≡ ts) × (n ≡ with_slot_in s f (slot_at i) v)
       fires = subst (λ (o : Outcome). Fires s f (slot_at i) o made n) (sym comes) (at_instr f ip port w (instr_of i) made n found happens)
 

@@ -1,20 +1,18 @@
 -- What is held stays held where the store changes in one place.
-use Rattle.std.proofs.Common.{◌≡◌, refl, sym, ◌∙◌, ap, subst, ℕ, ◌+◌, ◌-◌, ◌<◌, Bool, true, false, List, [], ◌∷◌, ◌++◌, length, Option, Some, None, arith, ⊎_elim}
+use Rattle.std.proofs.Common.{◌≡◌, refl, sym, ◌∙◌, ap, subst, ℕ, ◌+◌, ◌<◌, Bool, List, length, Option, Some, None, arith, ⊎_elim}
 use Rattle.std.specs.Prelude.{All}
 use Rattle.std.proofs.lemmas.Bool.{cases_eq}
 use Rattle.tags.specs.declared.token.Cont.{Cont}
 use Rattle.tags.specs.declared.slot.SlotState.{SlotState}
-use Rattle.tags.specs.declared.slot.SlotState.TheVariants.{Empty}
-use Rattle.semantics.specs.Machine.{Store, CellState, put_at, with_slot, with_slot_in, with_cell, with_out, with_requests, slot_in}
-use Rattle.semantics.specs.Report.{sum_below, one_if}
+use Rattle.semantics.specs.Machine.{Store, CellState, put_at, with_slot_in, with_cell, with_out, with_requests, slot_in}
+use Rattle.semantics.specs.Report.{one_if}
 use Rattle.element.specs.Near.{Bounds, IsNearCont, IsNearSlot, IsNearCell}
-use Rattle.element.proofs.Places.{put_same, put_other, agree}
+use Rattle.element.proofs.Places.{put_same, put_other}
 use Rattle.element.proofs.Changing.{IsLow}
-use Rattle.replay.specs.declared.cells.Cell.{Cell}
 use Rattle.replay.specs.declared.cells.Cells.{Cells}
 use Rattle.replay.specs.declared.slots.Slots.{Slots}
 use Rattle.replay.specs.declared.state.State.{State}
-use Rattle.replay.specs.Moments.{fullness, count_full, count_out}
+use Rattle.replay.specs.Moments.{fullness}
 use Rattle.replay.specs.Held.{held, kept, known, Holds}
 use Rattle.replay.specs.Nearby.{IsNearStore}
 use Rattle.replay.specs.Follows.{held_in, Sets}

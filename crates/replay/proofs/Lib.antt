@@ -3,3 +3,4 @@ pub mod Keeping
 pub mod Serving
 pub mod Instructing
 pub mod Watching
+pub mod Deeds

@@ -1,17 +1,12 @@
 -- Runs and their moments, event by event.
-use Rattle.std.proofs.Common.{◌≡◌, refl, sym, ◌∙◌, ap, subst, ℕ, zero, suc, ◌+◌, ◌*◌, ◌<◌, ◌≤◌, take, take_all, drop, get_or, Bool, true, false, ℤ, List, [], ◌∷◌, ◌++◌, length, length-append, arith, ⊎_elim, IsPermutation}
-use Rattle.std.specs.Prelude.{All, ◌==◌, Result, Ok, Err, Vec}
+use Rattle.std.proofs.Common.{◌≡◌, refl, sym, ◌∙◌, ap, subst, ℕ, zero, suc, ◌+◌, ◌*◌, ◌<◌, ◌≤◌, take, take_all, drop, get_or, true, false, ℤ, List, [], ◌∷◌, ◌++◌, length, length-append, arith, IsPermutation}
+use Rattle.std.specs.Prelude.{All, ◌==◌, Result, Err, Vec}
 use Rattle.std.specs.Result.{result_map_both}
 use Rattle.std.proofs.lemmas.List.Elements.{All-nil, All-cons, All-head, All-tail, All-append}
 use Rattle.std.proofs.lemmas.List.Sorted.{All-permutation, length_permutation, IsPermutation-refl, IsPermutation-trans, IsPermutation-sym}
 use Rattle.std.proofs.lemmas.Bool.{ne_eqb}
 use Rattle.std.proofs.lemmas.List.{take_more, drop_more, drop_all}
-use Rattle.tags.specs.declared.token.Port.TheVariants.{Left}
-use Rattle.tags.specs.declared.token.Word.{Word}
-use Rattle.tags.specs.declared.token.Cont.{Cont}
-use Rattle.tags.specs.declared.token.To.{To}
 use Rattle.tags.specs.declared.token.Token.{Token}
-use Rattle.tags.specs.declared.slot.SlotState.{SlotState}
 use Rattle.tags.specs.declared.slot.SlotState.TheVariants.{Empty}
 use Rattle.semantics.specs.Program.{Program, first_of}
 use Rattle.semantics.specs.Machine.{Store, Machine, Size, Event, Events, Run, Happens, at_start, input_tokens}
@@ -21,8 +16,8 @@ use Rattle.replay.specs.declared.cells.Cell.TheVariants.{Vacant}
 use Rattle.replay.specs.declared.moment.Moment.{Moment}
 use Rattle.replay.specs.declared.state.State.{State}
 use Rattle.replay.specs.declared.state.Did.{Did}
-use Rattle.replay.specs.Moments.{fullness, count_full, count_out, IsMoment, Watches, deed_of}
-use Rattle.replay.specs.Held.{held, kept, Holds}
+use Rattle.replay.specs.Moments.{count_full, count_out, IsMoment, Watches, deed_of}
+use Rattle.replay.specs.Held.{held, kept}
 use Rattle.replay.specs.Nearby.{bounds_of, IsNearStore}
 use Rattle.replay.specs.Follows.{OfRun, IsCounted, IsDone, Stands}
 use Rattle.replay.specs.declared.fault.ReplayFault.{ReplayFault}
@@ -39,10 +34,19 @@ event_from p z e t a b c perm same ev = record {
   leaves = ev.leaves;
 }
 
-pub watch_push : (p : Program) (z : Size) (a b c : Machine) (events : Events) (xs : List Moment) (ev : ℕ × Token) (x : Moment) → Watches p z a events xs b → (e : Event p z ev.0 ev.1 b c) → IsMoment p z ev.1 e.made c x
+-- a moment tells the same of a machine with the same store
+moment_from : (p : Program) (z : Size) (t : Token) (made : List Token) (a b c : Machine) (x : Moment) → b.store ≡ a.store → IsMoment p z t made b c x → IsMoment p z t made a c x
+moment_from p z t made a b c x same m = record {
+  deed = m.deed ∙ ap (λ (s : Store). deed_of p s c.store t.to made) same;
+  tokens = m.tokens;
+  full_slots = m.full_slots;
+  frames_out = m.frames_out;
+}
+
+pub watch_push : (p : Program) (z : Size) (a b c : Machine) (events : Events) (xs : List Moment) (ev : ℕ × Token) (x : Moment) → Watches p z a events xs b → (e : Event p z ev.0 ev.1 b c) → IsMoment p z ev.1 e.made b c x
     → Watches p z a (events ++ ev ∷ []) (xs ++ x ∷ []) c
 unfolding event_from
-watch_push p z a b c [] [] ev x w e m = (c, event_from p z ev.0 ev.1 a b c w.0 w.1 e, m, (IsPermutation-refl c.pool, refl))
+watch_push p z a b c [] [] ev x w e m = (c, event_from p z ev.0 ev.1 a b c w.0 w.1 e, moment_from p z ev.1 e.made a b c x w.1 m, (IsPermutation-refl c.pool, refl))
 watch_push p z a b c [] (y ∷ ys) ev x w e m = absurd w
 watch_push p z a b c (f ∷ events) [] ev x w e m = absurd w
 watch_push p z a b c (f ∷ events) (y ∷ ys) ev x w e m = (w.0, w.1, w.2, watch_push p z w.0 b c events ys ev x w.3 e m)
@@ -69,12 +73,12 @@ pub some_token : {A : Type 0} (p : Program) (h : State A) (z : Size) (e : ℕ) (
 some_token p h z e t m n stands ev = let count = length_permutation m.pool (t ∷ ev.rest) ev.takes in let is = stands.tokens in let one : length (t ∷ ev.rest) ≡ suc (length ev.rest) = refl in omega (arith, count, is, one)
 
 pub moves : {A : Type 0} (p : Program) (old mid new : State A) (z : Size) (e : ℕ) (t : Token) (m n : Machine) (did : Did) (x : Moment) → z.elements * z.frames ≡ old.frames → Stands p old m → (ev : Event p z e t m n)
-    → IsDone p old.frames did t.to ev.made mid n.store → mid.frames ≡ old.frames → mid.tokens ≡ old.tokens → old.tokens + did.made ≡ new.tokens + 1
+    → IsDone p old.frames did t.to ev.made m.store mid n.store → mid.frames ≡ old.frames → mid.tokens ≡ old.tokens → old.tokens + did.made ≡ new.tokens + 1
     → new ≡ record { slots = mid.slots; cells = mid.cells; tokens = new.tokens; frames = mid.frames; frames_out = mid.frames_out; requests = mid.requests }
     → x ≡ record { deed = did.deed; tokens = new.tokens; full_slots = mid.slots.full; frames_out = mid.frames_out }
-    → IsMoment p z t ev.made n x × Stands p new n
+    → IsMoment p z t ev.made m n x × Stands p new n
 moves {A} p old mid new z e t m n did x frames stands ev done same_frames same_tokens counted new_is x_is = (
-  subst (λ (y : Moment). IsMoment p z t ev.made n y) (sym x_is) (record {
+  subst (λ (y : Moment). IsMoment p z t ev.made m n y) (sym x_is) (record {
     deed = done.deed;
     tokens = count;
     full_slots = done.holds.full ∙ ap (λ (k : ℕ). count_full k n.store) all_frames;
@@ -165,7 +169,7 @@ pub next_event : (p : Program) (z : Size) (mid last : Machine) (events : Events)
 next_event p z mid last events i ev low is run = subst (λ (es : Events). Run p z mid es last) (drop_more events i ev low ∙ ap (λ (x : ℕ × Token). x ∷ drop (i + 1) events) (sym is)) run
 
 pub watch_next : (p : Program) (z : Size) (a b c : Machine) (events : Events) (i : ℕ) (ev : ℕ × Token) (xs ys : List Moment) (x : Moment) → i < length events → ev ≡ get_or events i ev → ys ≡ xs ++ x ∷ []
-    → Watches p z a (take i events) xs b → (e : Event p z ev.0 ev.1 b c) → IsMoment p z ev.1 e.made c x → Watches p z a (take (i + 1) events) ys c
+    → Watches p z a (take i events) xs b → (e : Event p z ev.0 ev.1 b c) → IsMoment p z ev.1 e.made b c x → Watches p z a (take (i + 1) events) ys c
 watch_next p z a b c events i ev xs ys x low is pushed w e m =
     subst (λ (zs : List Moment). Watches p z a (take (i + 1) events) zs c) (sym pushed)
     (subst (λ (es : Events). Watches p z a es (xs ++ x ∷ []) c) (sym (take_more events i ev low ∙ ap (λ (y : ℕ × Token). take i events ++ y ∷ []) (sym is))) (watch_push p z a b c (take i events) xs ev x w e m))

@@ -44,10 +44,10 @@ IsCounted tokens made (Ok left) = tokens + made ≡ left + 1
 IsCounted tokens made (Err NotARun) = tokens ≡ 0
 IsCounted tokens made (Err Memory) = ⊤
 
--- What is told of an event that made these tokens and left this store is so, and it is held.
-pub record IsDone {A : Type 0} (p : Program) (frames : ℕ) (did : Did) (to : To) (ts : List Token) (new : State A) (n : Store) : Type 0 where
+-- What is told of an event that found the store `s`, made these tokens and left the store `n` is so, and it is held.
+pub record IsDone {A : Type 0} (p : Program) (frames : ℕ) (did : Did) (to : To) (ts : List Token) (s : Store) (new : State A) (n : Store) : Type 0 where
   pub made : did.made ≡ length ts
-  pub deed : did.deed ≡ deed_of p n to ts
+  pub deed : did.deed ≡ deed_of p s n to ts
   pub holds : Holds new n
   pub near_store : IsNearStore (bounds_of p frames) n
   pub near : All (IsNearToken (bounds_of p frames)) ts
@@ -55,7 +55,7 @@ pub record IsDone {A : Type 0} (p : Program) (frames : ℕ) (did : Did) (to : To
 -- Whatever the token does in a store that is held, is done.
 abbrev pub Follows : {A : Type 0} → Program → State A → Token → Result Did ReplayFault → State A → Type 0
 Follows p old t result new = (s n : Store) (made : List Token) → Holds old s → IsNearStore (bounds_of p old.frames) s → IsNearToken (bounds_of p old.frames) t → Happens p old.frames s t.to t.word made n
-    → OfRun result (λ did. IsDone p old.frames did t.to made new n)
+    → OfRun result (λ did. IsDone p old.frames did t.to made s new n)
 
 -- All of the machine is held.
 pub record Stands {A : Type 0} (p : Program) (h : State A) (m : Machine) : Type 0 where
@@ -66,7 +66,7 @@ pub record Stands {A : Type 0} (p : Program) (h : State A) (m : Machine) : Type 
 
 -- Whatever event takes the token in a machine that is held, this is its moment.
 abbrev pub Moves : {A : Type 0} → Program → State A → Token → Result Moment ReplayFault → State A → Type 0
-Moves p old t result new = (z : Size) (e : ℕ) (m n : Machine) → z.elements * z.frames ≡ old.frames → Stands p old m → (ev : Event p z e t m n) → OfRun result (λ x. IsMoment p z t ev.made n x × Stands p new n)
+Moves p old t result new = (z : Size) (e : ℕ) (m n : Machine) → z.elements * z.frames ≡ old.frames → Stands p old m → (ev : Event p z e t m n) → OfRun result (λ x. IsMoment p z t ev.made m n x × Stands p new n)
 
 -- Of each run by these events, of machines with `frames` frames and from `inputs` inputs, these are the moments.
 abbrev pub IsReplay : Program → ℕ → ℕ → Events → Result (List Moment) ReplayFault → Type 0

@@ -1,9 +1,8 @@
 //! What each token does.
 
-ghost use Rattle.std.specs.Prelude.{◌≡◌, ◌≤◌, OnOk, List, length, option_to_list};
+ghost use Rattle.std.specs.Prelude.{◌≡◌, ◌≤◌, OnOk, length, option_to_list};
 ghost use Rattle.tags.specs.declared.token.To.{To};
 ghost use Rattle.tags.specs.declared.token.Word.{Word};
-ghost use Rattle.tags.specs.declared.token.Token.{Token};
 ghost use Rattle.semantics.specs.Program.{Program};
 ghost use Rattle.semantics.specs.Rule as Rule;
 ghost use Rattle.element.specs.Decoded.{instr_of, dest_in};
@@ -82,13 +81,21 @@ fn count_made(made: &Made) -> u64
         + count_half(made.second)
 }
 
-// What a token did at an instruction whose slot has this state then, and how many tokens that made.
-fn deed_at(slot: &SlotState, made: u64) -> Deed
-    ensures { (ts : List Token) → length ts ≡ made → result ≡ at_slot slot.now ts }
+// What a token did at an instruction whose slot had the one state before and has the other then.
+fn deed_at(before: &SlotState, after: &SlotState) -> Deed
+    ensures { result ≡ at_slot before.now after.now }
 {
-    match *slot {
-        SlotState::Empty => Deed::Fired,
-        _ => { if made == 0 { Deed::Waited } else { Deed::Fired } }
+    match *before {
+        SlotState::Empty => match *after {
+            SlotState::Left(_) | SlotState::Right(_) => Deed::Waited,
+            _ => Deed::Fired,
+        },
+        SlotState::Credits(_) => match *after {
+            SlotState::Waiter(_) => Deed::Queued,
+            SlotState::Draining(_) => Deed::Waited,
+            _ => Deed::Fired,
+        },
+        _ => Deed::Fired,
     }
 }
 
@@ -150,7 +157,7 @@ impl<A: Allocator> State<A> {
                 self.slots.set_in(seat.frame, slot, after)?;
                 let made = count_made(&made);
                 Ok(Did {
-                    deed: deed_at(&after, made),
+                    deed: deed_at(&state, &after),
                     made,
                 })
             }

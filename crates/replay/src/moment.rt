@@ -3,9 +3,9 @@
 /// What an event did.
 #[derive(Clone, Copy, Debug, PartialEq, Eq)]
 pub enum Deed {
-    /// A token came to an instruction, nothing was made, and the instruction's slot is full: there is something that waits.
+    /// A token came to an instruction and waits in its slot: for the other word, or, of a `drain`, for the credits that are out.
     Waited,
-    /// An instruction fired: tokens were made, or its slot is empty.
+    /// An instruction fired, whether it made tokens or not, and whatever its slot holds then.
     Fired,
     /// A fetch found a value.
     Answered,
@@ -17,7 +17,7 @@ pub enum Deed {
     Served,
     /// A request for a frame was given one.
     Given,
-    /// A request for a frame waits.
+    /// A request waits, for a frame, or in the slot of a `take` for a credit.
     Queued,
     /// A frame that came back is free.
     Freed,

@@ -1,5 +1,5 @@
 -- What a round leaves once its tokens are handed over.
-use Rattle.std.proofs.Common.{◌≡◌, refl, sym, ◌∙◌, ap, subst, ℕ, zero, suc, get_or, ◌<◌, ◌≤◌, inl, inr, ℤ, List, [], ◌∷◌, ◌++◌, length, map, take, drop, append_assoc, Option, Some, None, Bool, true, false, arith}
+use Rattle.std.proofs.Common.{◌≡◌, refl, sym, ◌∙◌, ap, subst, ℕ, zero, suc, get_or, ◌+◌, ◌<◌, ◌≤◌, ◌⊎◌, inl, inr, ℤ, List, [], ◌∷◌, ◌++◌, length, map, take, drop, append_assoc, Option, Some, None, Bool, true, false, arith}
 use Rattle.std.specs.Prelude.{All, slice_get}
 use Rattle.std.proofs.lemmas.List.{append-nil, length-append, drop_all, take_all, length-map}
 use Rattle.tags.specs.declared.token.Token.{Token}
@@ -15,15 +15,17 @@ use Rattle.schedule.specs.declared.halt.Halt.{Halt}
 use Rattle.schedule.specs.Setting.{Setting, size}
 use Rattle.schedule.specs.State.{State, AllFrom, IsAt, IsPlaced, IsSoundState, RunsAs, delivered, tokens_in}
 use Rattle.schedule.specs.Runs.{Began, HaltsAs, NamesCell}
-use Rattle.schedule.specs.Told.{opening_picture}
+use Rattle.schedule.specs.Told.{IsReportOf, opening_picture}
 use Rattle.schedule.specs.Unlisted.{with_events, ShowsBut, ShowsQuietly}
 use Rattle.schedule.proofs.Reports.{shows_opening, clash_cell}
 use Rattle.schedule.proofs.Tokens.{delivered_none}
 use Rattle.schedule.proofs.Places.{to_map}
 use Rattle.rounds.specs.declared.turn.Turner.{Turner}
-use Rattle.rounds.specs.Turns.{coming, logged}
-use Rattle.rounds.specs.Rounds.{lanes_held, lanes_fixed, tokens_sent, events_noted, halts_in, IsWhy, IsBetween, IsHalted, GoesOn, Rounds, Leads, MadeRound, ShowsOn}
+use Rattle.rounds.specs.Turns.{all_sent, coming, logged}
+use Rattle.rounds.specs.Rounds.{lanes_held, lanes_fixed, tokens_sent, events_noted, halts_in, IsBetween, IsHalted, GoesOn, Rounds, Leads, MadeRound, ShowsOn}
+use Rattle.rounds.specs.Counted.{answers, IsWhy, MakesRounds, TellsRounds}
 use Rattle.rounds.proofs.Turning.{logged_twice}
+use Rattle.rounds.proofs.Counting.{one_round, makes_more, tells_rounds}
 
 -- what a slice of a whole vector writes back
 pub same_slice : {X : Type 0} (n : ℕ) (new old : List X) → n ≡ length old → length new ≡ length old → take n (new ++ drop (length new) old) ≡ new
@@ -52,9 +54,21 @@ module _ {C A : Type 0} where
     pub at_all : AllFrom (IsAt g.elements) 0 (lanes_held news)
     at_all = to_map (λ (i : ℕ) (h : Held). IsAt g.elements i h) (IsPlaced g) (λ (h : Held). queued h tokens) (λ (i : ℕ) (h : Held) p. (p.element, p.elements)) 0 (lanes_held news) made.sound.lanes
 
+    -- it is a round, whatever tokens were handed over
+    makes_one : (last : List (Turner C A)) (rest : List Token) (halt : Option Halt) → delivered rest (lanes_held last) ≡ delivered tokens (lanes_held news)
+        → IsWhy (delivered rest (lanes_held last)) (answers made.turned) halt ⊎ (halt ≡ Some Halt.Memory) → MakesRounds g may_stop 1 (lanes_held olds) (delivered rest (lanes_held last)) made.made halt
+    makes_one last rest halt handed halts = one_round g may_stop (lanes_held olds) (delivered rest (lanes_held last)) made.made halt (record {
+      listed = listed;
+      turned = made.turned;
+      round = made.round;
+      handed = handed ∙ ap (λ (l : List Token). delivered l (lanes_held news)) made.sent ∙ ap (λ (l : List Held). delivered (all_sent made.turned) l) made.lanes;
+      events = made.events;
+      halts = halts;
+    })
+
     -- memory was refused
-    pub refused_round : Rounds g listed may_stop olds before news after (Some Halt.Memory)
-    refused_round = record { rest = tokens; made = made.made; goes = (made.sound, inl tt); noted = made.noted; leads = made.leads }
+    pub refused_round : Rounds g listed may_stop 1 olds before news after (Some Halt.Memory)
+    refused_round = record { rest = tokens; made = made.made; goes = (made.sound, inl tt); noted = made.noted; leads = made.leads; makes = makes_one news tokens (Some Halt.Memory) refl (inr refl) }
 
     module _ (last : List (Turner C A)) (rest : List Token) (handed : delivered rest (lanes_held last) ≡ delivered tokens (lanes_held news)) where
       same : coming g (lanes_held news) tokens ≡ coming g (lanes_held last) rest
@@ -67,13 +81,17 @@ module _ {C A : Type 0} where
       leads_last inputs evs b = subst (λ (s : State). Began inputs s (evs ++ made.made)) same (made.leads inputs evs b)
 
       -- memory was refused while tokens were handed over
-      pub refused_handing : Rounds g listed may_stop olds before last after (Some Halt.Memory)
-      refused_handing = record { rest = rest; made = made.made; goes = (sound_last, inl tt); noted = made.noted; leads = leads_last }
+      pub refused_handing : Rounds g listed may_stop 1 olds before last after (Some Halt.Memory)
+      refused_handing = record { rest = rest; made = made.made; goes = (sound_last, inl tt); noted = made.noted; leads = leads_last; makes = makes_one last rest (Some Halt.Memory) handed (inr refl) }
 
       pub closed_round : All (RunsAs g) (lanes_fixed last) → rest ≡ [] → tokens_sent last ≡ [] → events_noted last ≡ [] → halts_in last ≡ halts_in news → (halt : Option Halt) → IsWhy (lanes_held last) (halts_in last) halt
-          → Rounds g listed may_stop olds before last after halt
-      closed_round runs none sent noted halts halt why = record { rest = rest; made = made.made; goes = goes halt why; noted = made.noted; leads = leads_last }
+          → Rounds g listed may_stop 1 olds before last after halt
+      closed_round runs none sent noted halts halt why = record { rest = rest; made = made.made; goes = goes halt why; noted = made.noted; leads = leads_last; makes = makes_one last rest halt handed (inl why_then) }
         where
+          why_then : IsWhy (delivered rest (lanes_held last)) (answers made.turned) halt
+          why_then = subst (λ (l : List Held). IsWhy l (answers made.turned) halt) (sym (ap (λ (l : List Token). delivered l (lanes_held last)) none ∙ delivered_none (lanes_held last)))
+              (subst (λ (l : List (Option Halt)). IsWhy (lanes_held last) l halt) (halts ∙ made.answered) why)
+
           goes : (halt : Option Halt) → IsWhy (lanes_held last) (halts_in last) halt → GoesOn g may_stop last rest halt
           goes None why = (
             record {
@@ -87,8 +105,8 @@ module _ {C A : Type 0} where
           goes (Some h) (inl at) = (sound_last, subst (λ (s : State). IsHalted s may_stop h) same (made.halts at.0 h (subst (λ (l : List (Option Halt)). slice_get l at.0 ≡ Some (Some h)) halts at.1)))
           goes (Some h) (inr idle) = (
             sound_last,
-            inl (subst (λ (w : Halt). HaltsAs (coming g (lanes_held last) rest) false w) (sym idle.1)
-                (subst (λ (l : List Token). tokens_in (delivered l (lanes_held last)) ≡ []) (sym none) (ap (λ (l : List Held). tokens_in l) (delivered_none (lanes_held last)) ∙ idle.0))),
+            inl (subst (λ (w : Halt). HaltsAs (coming g (lanes_held last) rest) false w) (sym idle.2)
+                (subst (λ (l : List Token). tokens_in (delivered l (lanes_held last)) ≡ []) (sym none) (ap (λ (l : List Held). tokens_in l) (delivered_none (lanes_held last)) ∙ idle.1))),
           )
 
 -- MANY ROUNDS
@@ -96,20 +114,27 @@ module _ {C A : Type 0} where
   pub leads_none : (g : Setting) (ts : List (Turner C A)) → Leads g ts ts [] []
   leads_none g ts = λ inputs evs b. subst (λ (l : Events). Began inputs (coming g (lanes_held ts) []) l) (sym (append-nil evs)) b
 
-  -- more rounds behind others
-  pub rounds_twice : (g now : Setting) (setting : now ≡ g) (listed may_stop : Bool) (olds mids news : List (Turner C A)) (before mid after made : Events) (halt : Option Halt)
-      → mid ≡ logged listed before made → Leads g olds mids [] made → Rounds now listed may_stop mids mid news after halt → Rounds g listed may_stop olds before news after halt
-  rounds_twice g now setting listed may_stop olds mids news before mid after made halt noted leads next = subst (λ (x : Setting). Rounds x listed may_stop olds before news after halt) setting (record {
+  -- one more round behind others
+  pub rounds_twice : (g now : Setting) (setting : now ≡ g) (listed may_stop : Bool) (n : ℕ) (olds mids news : List (Turner C A)) (before mid after made : Events) (halt : Option Halt)
+      → mid ≡ logged listed before made → Leads g olds mids [] made → MakesRounds g may_stop n (lanes_held olds) (lanes_held mids) made None → Rounds now listed may_stop 1 mids mid news after halt
+      → Rounds g listed may_stop (n + 1) olds before news after halt
+  rounds_twice g now setting listed may_stop n olds mids news before mid after made halt noted leads makes next = subst (λ (x : Setting). Rounds x listed may_stop (n + 1) olds before news after halt) setting (record {
     rest = next.rest;
     made = made ++ next.made;
     goes = next.goes;
     noted = next.noted ∙ ap (λ (l : Events). logged listed l next.made) noted ∙ logged_twice listed before made next.made;
     leads = λ inputs evs b. subst (λ (l : Events). Began inputs (coming now (lanes_held news) next.rest) l) (append_assoc evs made next.made) (next.leads inputs (evs ++ made) (subst (λ (x : Setting). Leads x olds mids [] made) (sym setting) leads inputs evs b));
+    makes = makes_more now may_stop n (lanes_held olds) (lanes_held mids) (delivered next.rest (lanes_held news)) made next.made halt (subst (λ (x : Setting). MakesRounds x may_stop n (lanes_held olds) (lanes_held mids) made None) (sym setting) makes) next.makes;
   })
 
   -- what holds between rounds, after those in which nothing halted
-  pub leads_on : (g : Setting) (listed may_stop : Bool) (olds news : List (Turner C A)) (before after : Events) (rounds : Rounds g listed may_stop olds before news after None) → Leads g olds news [] rounds.made
-  leads_on g listed may_stop olds news before after rounds = subst (λ (l : List Token). Leads g olds news l rounds.made) rounds.goes.1 rounds.leads
+  pub leads_on : (g : Setting) (listed may_stop : Bool) (n : ℕ) (olds news : List (Turner C A)) (before after : Events) (rounds : Rounds g listed may_stop n olds before news after None) → Leads g olds news [] rounds.made
+  leads_on g listed may_stop n olds news before after rounds = subst (λ (l : List Token). Leads g olds news l rounds.made) rounds.goes.1 rounds.leads
+
+  pub makes_on : (g : Setting) (listed may_stop : Bool) (n : ℕ) (olds news : List (Turner C A)) (before after : Events) (rounds : Rounds g listed may_stop n olds before news after None)
+      → MakesRounds g may_stop n (lanes_held olds) (lanes_held news) rounds.made None
+  makes_on g listed may_stop n olds news before after rounds = subst (λ (l : List Held). MakesRounds g may_stop n (lanes_held olds) l rounds.made None)
+      (ap (λ (l : List Token). delivered l (lanes_held news)) rounds.goes.1 ∙ delivered_none (lanes_held news)) rounds.makes
 
 pub map_same : {X : Type 0} (xs : List X) → map (λ y. y) xs ≡ xs
 map_same [] = refl
@@ -189,7 +214,7 @@ module _ {C A : Type 0} where
   pub between_start : (g : Setting) (ts : List (Turner C A)) (raw : List Held) → lanes_held ts ≡ raw → tokens_sent ts ≡ [] → events_noted ts ≡ [] → IsSoundState (coming g raw []) → All (RunsAs g) (lanes_fixed ts) → IsBetween g ts
   between_start g ts raw is sent noted sound runs = record { runs = runs; sound = subst (λ (l : List Held). IsSoundState (coming g l [])) (sym is) sound; sent = sent; noted = noted }
 
-  module _ (g now : Setting) (setting : now ≡ g) (listed may_stop : Bool) (olds news : List (Turner C A)) (before after : Events) (halt : Halt) (rounds : Rounds g listed may_stop olds before news after (Some halt)) (raw : List Held) (lanes : raw ≡ lanes_held news) where
+  module _ (g now : Setting) (setting : now ≡ g) (listed may_stop : Bool) (n : ℕ) (olds news : List (Turner C A)) (before after : Events) (halt : Halt) (rounds : Rounds g listed may_stop n olds before news after (Some halt)) (raw : List Held) (lanes : raw ≡ lanes_held news) where
     same_state : coming g (lanes_held news) rounds.rest ≡ coming now raw rounds.rest
     same_state = ap (λ (x : Setting). coming x (lanes_held news) rounds.rest) (sym setting) ∙ ap (λ (l : List Held). coming now l rounds.rest) (sym lanes)
 
@@ -212,6 +237,13 @@ module _ {C A : Type 0} where
     -- a list that was empty stays so where no events are listed
     pub end_unlisted : (r : Report) → (after ≡ [] → r.events ≡ []) → listed ≡ false → before ≡ [] → r.events ≡ []
     end_unlisted r unlisted off none = unlisted (rounds.noted ∙ ap (λ (b : Bool). logged b before rounds.made) off ∙ none)
+
+    pub end_tells : (start : List Held) → lanes_held olds ≡ start → (r : Report) → IsReportOf (record { state = record { setting = now; lanes = raw }; events = after }) halt r
+        → TellsRounds listed may_stop (record { state = record { setting = g; lanes = start }; events = before }) n r
+    end_tells start is r told = tells_rounds listed may_stop g start raw rounds.rest n before after rounds.made halt r
+        (subst (λ (l : List Held). MakesRounds g may_stop n l (delivered rounds.rest raw) rounds.made (Some halt)) is
+        (subst (λ (l : List Held). MakesRounds g may_stop n (lanes_held olds) (delivered rounds.rest l) rounds.made (Some halt)) (sym lanes) rounds.makes)) rounds.noted
+        (subst (λ (x : Setting). IsReportOf (record { state = record { setting = x; lanes = raw }; events = after }) halt r) setting told)
 
     pub end_shows : (start : List Held) → lanes_held olds ≡ start → (r : Report)
         → ((inputs : List ℤ) (in_list : Bool) (ts : List Token) (evs : Events) → IsSoundState (coming now raw ts) → Began inputs (coming now raw ts) evs → HaltsAs (coming now raw ts) in_list halt → ShowsBut now.program (size now) inputs now.steps in_list false after evs r)

@@ -1,5 +1,6 @@
 pub mod Going
 pub mod Turning
+pub mod Counting
 pub mod Rounding
 pub mod Changes
 pub mod Closing

@@ -1,5 +1,5 @@
 -- What a round does.
-use Rattle.std.proofs.Common.{◌≡◌, refl, sym, ◌∙◌, ap, subst, ℕ, zero, suc, ◌+◌, ◌%◌, ◌<◌, ◌≤◌, ◌⊎◌, inl, inr, Bool, List, [], ◌∷◌, ◌++◌, length, map, drop, get_or, Option, Some, None, Result, arith}
+use Rattle.std.proofs.Common.{◌≡◌, ◌≢◌, refl, sym, ◌∙◌, ap, subst, ℕ, zero, suc, ◌+◌, ◌%◌, ◌<◌, ◌≤◌, ◌⊎◌, inl, inr, Bool, List, [], ◌∷◌, ◌++◌, length, map, drop, get_or, Option, Some, None, Result, arith}
 use Rattle.std.specs.Prelude.{All, slice_get, slice_set, OnOk}
 use Rattle.std.specs.Result.{IsErr}
 use Rattle.tags.specs.Addresses.{element_of}
@@ -34,6 +34,10 @@ nil_left (x ∷ xs) ys e = absurd (let no : ⊥ = cc in no)
 nil_right : {X : Type 0} (xs ys : List X) → xs ++ ys ≡ [] → ys ≡ []
 nil_right [] ys e = e
 nil_right (x ∷ xs) ys e = absurd (let no : ⊥ = cc in no)
+
+pub not_none : (n m : ℕ) → n ≡ m → m ≢ 0 → 0 < n
+not_none zero m same some = absurd (some (sym same))
+not_none (suc n) m same some = omega arith
 
 pub err_any : {X Y : Type 0} (r : Result X Y) (P : Type 0) → IsErr r → OnOk r P
 err_any (Result.Ok x) P e = absurd (let no : ⊥ = cc in no)
@@ -90,6 +94,7 @@ module _ {C A : Type 0} where
     turns = subst (λ (l : List Token). Turns p steps (lane_held x) l turn.taken t.held t.sent) sent turn.turns;
     noted = turn.noted ∙ ap (λ (l : Events). logged listed l (by (lane_held x).part.shape.element turn.taken)) log;
     few = turn.few;
+    whole = turn.whole;
     halts = turn.halts;
   }
 
@@ -224,6 +229,15 @@ module _ {C A : Type 0} where
           let q : h.queue ≡ (get_or ts k d).lane.held.queue = queue_at ts k d h (subst (λ (n : ℕ). slice_get (lanes_held ts) n ≡ Some h) here is) in
           q ∙ nil_from_length (get_or ts k d).lane.held.queue none
 
+  -- where a lane has a token there is one
+  pub some_token : (ts : List (Turner C A)) (k : ℕ) (d : Turner C A) → k < length ts → 0 < length (get_or ts k d).lane.held.queue → 0 < length (tokens_in (lanes_held ts))
+  some_token [] k d low some = absurd (omega (arith, low))
+  some_token (t ∷ ts) zero d low some = let l = length-append t.lane.held.queue (tokens_in (lanes_held ts)) in omega (arith, l, some)
+  some_token (t ∷ ts) (suc k) d low some =
+      let l = length-append t.lane.held.queue (tokens_in (lanes_held ts)) in
+      let m = some_token ts k d (omega arith) some in
+      omega (arith, l, m)
+
   pub idle_all : (ts : List (Turner C A)) (k : ℕ) → length ts ≤ k → ((i : ℕ) (h : Held) → i < k → slice_get (lanes_held ts) i ≡ Some h → h.queue ≡ []) → tokens_in (lanes_held ts) ≡ []
   idle_all ts k past none = tokens_none (lanes_held ts) (λ i h low is. none i h (let l = length-map ts lane_held in omega arith) is)
 
@@ -244,4 +258,10 @@ module _ {C A : Type 0} where
         halts = λ e halt is. subst (λ (s : State). IsHalted s may_stop halt) same (halts_then g listed may_stop olds news between count each e halt (subst (λ (l : List (Option Halt)). slice_get l e ≡ Some (Some halt)) halts is));
         cleared = none;
         count = length_is;
+        turned = map turned_of news;
+        round = round g listed may_stop olds news between count each;
+        events = refl;
+        lanes = lanes ∙ sym (helds_are news);
+        sent = sent ∙ sym (sent_are news);
+        answered = halts ∙ sym (halts_are news);
       }

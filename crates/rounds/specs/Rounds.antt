@@ -1,5 +1,5 @@
 -- What lanes hold between rounds.
-use Rattle.std.specs.Prelude.{◌≡◌, ℕ, ◌<◌, ◌⊎◌, ℤ, List, [], ◌++◌, Bool, true, false, length, map, All, Option, Some, None, slice_get, ⊤}
+use Rattle.std.specs.Prelude.{◌≡◌, ℕ, ◌⊎◌, ℤ, List, [], ◌++◌, Bool, true, false, length, map, All, Option, Some, None, slice_get}
 use Rattle.std.specs.List.{flat_map}
 use Rattle.tags.specs.declared.token.Token.{Token}
 use Rattle.semantics.specs.Program.{Program}
@@ -9,10 +9,11 @@ use Rattle.schedule.specs.Unlisted.{with_events}
 use Rattle.element.specs.Held.{Held, Fixed, held_of, fixed_of}
 use Rattle.schedule.specs.declared.halt.Halt.{Halt}
 use Rattle.schedule.specs.Setting.{Setting}
-use Rattle.schedule.specs.State.{State, IsSoundState, RunsAs, tokens_in}
+use Rattle.schedule.specs.State.{State, IsSoundState, RunsAs, delivered}
 use Rattle.schedule.specs.Runs.{Began, HaltsAs}
 use Rattle.rounds.specs.declared.turn.Turner.{Turner}
-use Rattle.rounds.specs.Turns.{coming, logged}
+use Rattle.rounds.specs.Turns.{Turned, Round, made_in, helds, all_sent, coming, logged}
+use Rattle.rounds.specs.Counted.{answers, MakesRounds}
 
 abbrev pub lane_held : {C A : Type 0} → Turner C A → Held
 lane_held t = held_of t.lane
@@ -42,15 +43,6 @@ halts_in ts = map halt_in ts
 abbrev pub IsCleared : {C A : Type 0} → List (Turner C A) → Type 0
 IsCleared ts = (tokens_sent ts ≡ []) × (events_noted ts ≡ [])
 
--- the first element that halts
-abbrev pub IsFirst : List (Option Halt) → Halt → Type 0
-IsFirst halts halt = (e : ℕ) × (slice_get halts e ≡ Some (Some halt)) × ((i : ℕ) → i < e → slice_get halts i ≡ Some None)
-
--- the first element that halts says why, or no token is left
-abbrev pub IsWhy : List Held → List (Option Halt) → Option Halt → Type 0
-IsWhy lanes halts None = ⊤
-IsWhy lanes halts (Some halt) = IsFirst halts halt ⊎ ((tokens_in lanes ≡ []) × (halt ≡ Halt.NoToken))
-
 -- what holds between rounds
 pub record IsBetween {C A : Type 0} (g : Setting) (ts : List (Turner C A)) : Type 0 where
   pub sound : IsSoundState (coming g (lanes_held ts) [])
@@ -72,13 +64,14 @@ GoesOn g may_stop ts rest (Some halt) = IsSoundState (coming g (lanes_held ts) r
 abbrev pub Leads : {C A : Type 0} → Setting → List (Turner C A) → List (Turner C A) → List Token → Events → Type 0
 Leads g old new rest made = (inputs : List ℤ) (before : Events) → Began inputs (coming g (lanes_held old) []) before → Began inputs (coming g (lanes_held new) rest) (before ++ made)
 
--- what rounds do, with the events that they made
-pub record Rounds {C A : Type 0} (g : Setting) (listed may_stop : Bool) (old : List (Turner C A)) (before : Events) (new : List (Turner C A)) (after : Events) (halt : Option Halt) : Type 0 where
+-- what this number of rounds does, with the events that they made
+pub record Rounds {C A : Type 0} (g : Setting) (listed may_stop : Bool) (rounds : ℕ) (old : List (Turner C A)) (before : Events) (new : List (Turner C A)) (after : Events) (halt : Option Halt) : Type 0 where
   pub rest : List Token
   pub made : Events
   pub goes : GoesOn g may_stop new rest halt
   pub noted : after ≡ logged listed before made
   pub leads : Leads g old new rest made
+  pub makes : MakesRounds g may_stop rounds (lanes_held old) (delivered rest (lanes_held new)) made halt
 
 -- what the turns of a round leave, with all tokens that are on their way
 pub record MadeRound {C A : Type 0} (g : Setting) (listed may_stop : Bool) (old : List (Turner C A)) (before : Events) (new : List (Turner C A)) (after : Events) (tokens : List Token) : Type 0 where
@@ -90,6 +83,12 @@ pub record MadeRound {C A : Type 0} (g : Setting) (listed may_stop : Bool) (old 
   pub halts : (e : ℕ) (halt : Halt) → slice_get (halts_in new) e ≡ Some (Some halt) → IsHalted (coming g (lanes_held new) tokens) may_stop halt
   pub cleared : events_noted new ≡ []
   pub count : length new ≡ length old
+  pub turned : List Turned
+  pub round : Round g listed may_stop (lanes_held old) turned
+  pub events : made ≡ made_in g listed may_stop (lanes_held old) turned round
+  pub lanes : lanes_held new ≡ helds turned
+  pub sent : tokens ≡ all_sent turned
+  pub answered : halts_in new ≡ answers turned
 
 -- The report shows a run that went on from these events; where events are listed, and these are those that were kept, it
 -- lists those of the run.

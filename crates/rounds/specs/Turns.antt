@@ -1,5 +1,5 @@
 -- What a lane does in its turn, and what lanes do in a round.
-use Rattle.std.specs.Prelude.{◌≡◌, ℕ, ◌<◌, ◌≤◌, Bool, true, false, List, [], ◌∷◌, ◌++◌, map, length, Option, Some, None, ⊤}
+use Rattle.std.specs.Prelude.{◌≡◌, ℕ, ◌+◌, ◌<◌, ◌≤◌, ◌⊎◌, Bool, true, false, List, [], ◌∷◌, ◌++◌, map, length, Option, Some, None, ⊤}
 use Rattle.std.specs.List.{flat_map}
 use Rattle.tags.specs.declared.token.Token.{Token}
 use Rattle.semantics.specs.Program.{Program}
@@ -37,6 +37,17 @@ HaltsLane p steps may_stop h (Some (Halt.Stuck rule)) = (0 < length h.queue) × 
 HaltsLane p steps may_stop h (Some Halt.Memory) = ⊤
 HaltsLane p steps may_stop h (Some Halt.Stop) = may_stop ≡ true
 
+-- How much of its turn a lane made. One that does not halt made all of it, or has no token left. One that halts does so in place of an
+-- event, and one that a gate stops had a token and made none.
+abbrev pub IsWhole : ℕ → Held → Held → Option Halt → Type 0
+IsWhole turn old new None = (new.made ≡ old.made + turn) ⊎ (new.queue ≡ [])
+IsWhole turn old new (Some Halt.NoToken) = ⊥
+IsWhole turn old new (Some (Halt.Clash cell)) = new.made < old.made + turn
+IsWhole turn old new (Some Halt.Steps) = new.made < old.made + turn
+IsWhole turn old new (Some (Halt.Stuck rule)) = new.made < old.made + turn
+IsWhole turn old new (Some Halt.Memory) = new.made < old.made + turn
+IsWhole turn old new (Some Halt.Stop) = (new ≡ old) × (0 < length old.queue)
+
 -- A lane with what it made for others, the events that it noted, and why it halts
 pub record Turned : Type 0 where
   pub held : Held
@@ -53,6 +64,7 @@ pub record TakesTurn (p : Program) (steps turn : ℕ) (listed may_stop : Bool) (
   pub turns : Turns p steps old.held old.sent taken new.held new.sent
   pub noted : new.log ≡ logged listed old.log (by old.held.part.shape.element taken)
   pub few : length taken ≤ turn
+  pub whole : IsWhole turn old.held new.held new.halt
   pub halts : HaltsLane p steps may_stop new.held new.halt
 
 -- The lane of a turner took its turn, and runs the same code.

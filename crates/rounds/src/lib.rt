@@ -8,5 +8,5 @@ mod rounds;
 mod turn;
 
 pub use gate::{Gate, Open};
-pub use rounds::{run, run_quietly};
+pub use rounds::{Counted, run, run_counted, run_quietly};
 pub use turn::take_turn;

@@ -1,6 +1,6 @@
 //! Rounds.
 
-ghost use Rattle.std.specs.Prelude.{◌≡◌, ◌<◌, ◌++◌, [], ℕ, ℤ, List, length, map, All, slice_index_or, IfOk, IfSome, OnOk, Some, None, true, false};
+ghost use Rattle.std.specs.Prelude.{◌≡◌, ◌<◌, ◌++◌, [], ℕ, ℤ, List, length, map, All, slice_index_or, IfOk, IfSome, IfNone, OnOk, Some, None, true, false};
 ghost use Rattle.tags.specs.declared.token.Token.{Token};
 ghost use Rattle.semantics.specs.Machine.{Events};
 ghost use Rattle.semantics.specs.Report.{Shows};
@@ -8,10 +8,11 @@ ghost use Rattle.element.specs.Held.{held_of, fixed_of};
 ghost use Rattle.schedule.specs.Setting.{size};
 ghost use Rattle.schedule.specs.State.{IsSoundState, RunsAs, tokens_in};
 ghost use Rattle.schedule.specs.Runs.{Began};
-ghost use Rattle.schedule.specs.Apart.{setting_in};
-ghost use Rattle.schedule.specs.Unlisted.{ShowsQuietly};
+ghost use Rattle.schedule.specs.Apart.{setting_in, kept_of};
+ghost use Rattle.schedule.specs.Unlisted.{ShowsQuietly, without_events};
+ghost use Rattle.rounds.specs.Counted.{IsFirst, NoneHalts, IsWhy, TellsRounds};
 ghost use Rattle.rounds.specs.Turns.{TookTurn, coming};
-ghost use Rattle.rounds.specs.Rounds.{lanes_held, lanes_fixed, tokens_sent, IsCleared, halts_in, IsFirst, IsWhy, IsBetween, Rounds, MadeRound, ShowsOn};
+ghost use Rattle.rounds.specs.Rounds.{lanes_held, lanes_fixed, tokens_sent, IsCleared, halts_in, IsBetween, Rounds, MadeRound, ShowsOn};
 
 use crate::gate::Gate;
 use crate::gathering::{gather_events, gather_tokens};
@@ -54,7 +55,8 @@ fn make_turns<
 
 // The first reason of an element to halt.
 fn first_halt<C: Instructions, A: Allocator>(turners: &[Turner<'_, C, A>]) -> Option<Halt>
-    ensures { IfSome result (λ halt. IsFirst (halts_in turners.now) halt) }
+    ensures first { IfSome result (λ halt. IsFirst (halts_in turners.now) halt) }
+    ensures none { IfNone result (NoneHalts (halts_in turners.now)) }
 {
     for at in 0..turners.len() {
         if let Some(halt) = turners[at].halt {
@@ -66,7 +68,8 @@ fn first_halt<C: Instructions, A: Allocator>(turners: &[Turner<'_, C, A>]) -> Op
 
 // Whether no element has a token.
 fn is_idle<C: Instructions, A: Allocator>(turners: &[Turner<'_, C, A>]) -> bool
-    ensures { result ≡ true → tokens_in (lanes_held turners.now) ≡ [] }
+    ensures yes { result ≡ true → tokens_in (lanes_held turners.now) ≡ [] }
+    ensures no { result ≡ false → 0 < length (tokens_in (lanes_held turners.now)) }
 {
     for at in 0..turners.len() {
         if turners[at].lane.queue().len() != 0 {
@@ -154,7 +157,7 @@ fn round<R: Threads + Sync, C: MainCode + Sync, A: Allocator + Clone + Send, G: 
     requires between { IsBetween (setting_in C.program C.width setup.old) turners.old.items }
     requires tokens { tokens.old.items ≡ [] }
     ensures setting { setting_in C.program C.width setup.new ≡ setting_in C.program C.width setup.old }
-    ensures rounds { IfOk result (λ halt. Rounds (setting_in C.program C.width setup.old) listed G.may_stop turners.old.items setup.old.events.items turners.new.items setup.new.events.items halt) }
+    ensures rounds { IfOk result (λ halt. Rounds (setting_in C.program C.width setup.old) listed G.may_stop 1 turners.old.items setup.old.events.items turners.new.items setup.new.events.items halt) }
     ensures tokens { IfOk result (λ halt. halt ≡ None → tokens.new.items ≡ []) }
 {
     let all = make_whole_round(rt, setup, turners, tokens, gate, listed)?;
@@ -167,6 +170,13 @@ fn round<R: Threads + Sync, C: MainCode + Sync, A: Allocator + Clone + Send, G: 
     }
 }
 
+// Why a run halted, and after how many rounds.
+#[derive(Clone, Copy)]
+struct Played {
+    halt: Halt,
+    rounds: u64,
+}
+
 // Rounds until the run halts. An error is that the list of events could not grow.
 fn play<R: Threads + Wait + Sync, C: MainCode + Sync, A: Allocator + Clone + Send, G: Gate + Sync>(
     rt: &R,
@@ -175,15 +185,17 @@ fn play<R: Threads + Wait + Sync, C: MainCode + Sync, A: Allocator + Clone + Sen
     tokens: &mut Vec<Token, A>,
     gate: &G,
     listed: bool,
-) -> Result<Halt, AllocError>
+) -> Result<Played, AllocError>
     requires between { IsBetween (setting_in C.program C.width setup.old) turners.old.items }
     requires tokens { tokens.old.items ≡ [] }
     ensures setting { setting_in C.program C.width setup.new ≡ setting_in C.program C.width setup.old }
-    ensures rounds { IfOk result (λ halt. Rounds (setting_in C.program C.width setup.old) listed G.may_stop turners.old.items setup.old.events.items turners.new.items setup.new.events.items (Some halt)) }
+    ensures rounds { IfOk result (λ p. Rounds (setting_in C.program C.width setup.old) listed G.may_stop p.rounds turners.old.items setup.old.events.items turners.new.items setup.new.events.items (Some p.halt)) }
 {
+    let mut rounds = 0;
     'rounds: for _ in rt.forever() {
+        rounds += 1;
         if let Some(halt) = round(rt, setup, turners, tokens, gate, listed)? {
-            return Ok(halt);
+            return Ok(Played { halt, rounds });
         }
     }
     unreachable!()
@@ -263,6 +275,15 @@ where
     Ok((turners, tokens, spare))
 }
 
+/// The report of a run, and how many rounds it made.
+#[derive(Drop)]
+pub struct Counted<A: Allocator> {
+    pub report: Report<A>,
+    /// The round after which the run halted counts, too. Where memory was refused, and the report is that of the machine before its
+    /// first event, the rounds need not be those that were made.
+    pub rounds: u64,
+}
+
 fn run_apart<
     R: Threads + Wait + Sync,
     C: MainCode + Sync,
@@ -274,22 +295,34 @@ fn run_apart<
     rt: &R,
     gate: &G,
     listed: bool,
-) -> Report<A>
+) -> Counted<A>
     requires sound { IsSoundState (coming (setting_in C.program C.width setup) (map held_of lanes.items) []) }
     requires runs { All (RunsAs (setting_in C.program C.width setup)) (map fixed_of lanes.items) }
-    ensures unlisted { listed ≡ false → setup.entry.events.items ≡ [] → result.events ≡ [] }
-    ensures shows { (inputs : List ℤ) (events : Events) → Began inputs (coming (setting_in C.program C.width setup.entry) (map held_of lanes.entry.items) []) events → ShowsOn listed (C.program setup.entry.code.now) (size (setting_in C.program C.width setup.entry)) inputs setup.entry.steps G.may_stop setup.entry.events.items events result }
+    ensures unlisted { listed ≡ false → setup.entry.events.items ≡ [] → result.report.events ≡ [] }
+    ensures shows { (inputs : List ℤ) (events : Events) → Began inputs (coming (setting_in C.program C.width setup.entry) (map held_of lanes.entry.items) []) events → ShowsOn listed (C.program setup.entry.code.now) (size (setting_in C.program C.width setup.entry)) inputs setup.entry.steps G.may_stop setup.entry.events.items events result.report }
+    ensures tells { TellsRounds listed G.may_stop (kept_of C.program C.width setup.entry lanes.entry.items) result.rounds result.report }
 {
     let Ok((mut turners, mut tokens, mut spare)) = ready(&setup.alloc, lanes) else {
-        return setup.refused();
+        return unmade(setup.refused());
     };
-    let Ok(halt) = play(rt, &mut setup, &mut turners, &mut tokens, gate, listed) else {
-        return setup.refused();
+    let Ok(played) = play(rt, &mut setup, &mut turners, &mut tokens, gate, listed) else {
+        return unmade(setup.refused());
     };
     match lanes_in(turners, &mut spare) {
-        Ok(()) => setup.report(spare, halt),
-        Err(_) => setup.refused(),
+        Ok(()) => Counted {
+            report: setup.report(spare, played.halt),
+            rounds: played.rounds,
+        },
+        Err(_) => unmade(setup.refused()),
     }
+}
+
+// The report of the machine before its first round.
+fn unmade<A: Allocator>(report: Report<A>) -> Counted<A>
+    ensures report { result.report ≡ report }
+    ensures rounds { result.rounds ≡ 0 }
+{
+    Counted { report, rounds: 0 }
 }
 
 /// Makes rounds until the run halts, and reports. In each round every element asks the gate, and makes up to `turn` events
@@ -302,10 +335,24 @@ pub fn run<
     G: Gate + Sync,
 >(machine: Machine<'_, C, A>, rt: &R, gate: &G) -> Report<A>
     ensures shows { (inputs : List ℤ) → Began inputs machine.entry.state machine.entry.events → Shows machine.entry.state.setting.program (size machine.entry.state.setting) inputs machine.entry.state.setting.steps false G.may_stop result }
+    ensures tells { (rounds : ℕ) × TellsRounds true G.may_stop machine.entry rounds result }
+{
+    run_counted(machine, rt, gate).report
+}
+
+/// As `run`, and answers how many rounds were made, too.
+pub fn run_counted<
+    R: Threads + Wait + Sync,
+    C: MainCode + Sync,
+    A: Allocator + Clone + Send,
+    G: Gate + Sync,
+>(machine: Machine<'_, C, A>, rt: &R, gate: &G) -> Counted<A>
+    ensures shows { (inputs : List ℤ) → Began inputs machine.entry.state machine.entry.events → Shows machine.entry.state.setting.program (size machine.entry.state.setting) inputs machine.entry.state.setting.steps false G.may_stop result.report }
+    ensures tells { TellsRounds true G.may_stop machine.entry result.rounds result.report }
 {
     match machine.into_lanes() {
         Ok((setup, lanes)) => run_apart(setup, lanes, rt, gate, true),
-        Err(machine) => machine.report(Halt::Memory),
+        Err(machine) => unmade(machine.report(Halt::Memory)),
     }
 }
 
@@ -317,11 +364,12 @@ pub fn run_quietly<
     G: Gate + Sync,
 >(machine: Machine<'_, C, A>, rt: &R, gate: &G) -> Report<A>
     ensures shows { (inputs : List ℤ) → Began inputs machine.entry.state machine.entry.events → ShowsQuietly machine.entry.state.setting.program (size machine.entry.state.setting) inputs machine.entry.state.setting.steps false G.may_stop result }
+    ensures tells { (rounds : ℕ) × TellsRounds false G.may_stop (without_events machine.entry.state) rounds result }
 {
     match machine.into_lanes() {
         Ok((mut setup, lanes)) => {
             setup.events.clear();
-            run_apart(setup, lanes, rt, gate, false)
+            run_apart(setup, lanes, rt, gate, false).report
         }
         Err(machine) => machine.without_events().report(Halt::Memory),
     }

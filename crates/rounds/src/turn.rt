@@ -4,7 +4,7 @@ ghost use Rattle.std.specs.Prelude.{◌≡◌, ◌<◌, ◌≤◌, ◌^◌, ◌�
 ghost use Rattle.std.specs.Vec.{vec_capacity};
 ghost use Rattle.tags.specs.declared.token.Token.{Token};
 ghost use Rattle.element.specs.Held.{fixed_of, IsSoundLane};
-ghost use Rattle.rounds.specs.Turns.{by, logged, Turns, HaltsLane, TookTurn};
+ghost use Rattle.rounds.specs.Turns.{by, logged, Turns, IsWhole, HaltsLane, TookTurn};
 
 use crate::gate::Gate;
 use element::instructions::Instructions;
@@ -55,6 +55,7 @@ pub fn take_turn<C: Instructions, A: Allocator + Clone>(
 ) -> Option<Halt>
     ensures sound { IsSoundLane lane.old.program lane.old.held → IsSoundLane lane.new.program lane.new.held }
     ensures turns { (taken : List Token) × Turns lane.old.program lane.old.steps lane.old.held sent.old.items taken lane.new.held sent.new.items × (log.new.items ≡ logged listed log.old.items (by lane.old.held.part.shape.element taken)) × (length taken ≤ turn) }
+    ensures whole { IsWhole turn lane.old.held lane.new.held result }
     ensures halts { HaltsLane lane.old.program lane.old.steps false lane.new.held result }
     ensures fixed { fixed_of lane.new ≡ fixed_of lane.old }
 {
@@ -85,7 +86,8 @@ fn may_go_on<C: Instructions, A: Allocator, G: Gate>(
     gate: &G,
     blocks: u64,
 ) -> bool
-    ensures { result ≡ false → G.may_stop ≡ true }
+    ensures stop { result ≡ false → G.may_stop ≡ true }
+    ensures some { result ≡ false → 0 < length lane.now.held.queue }
 {
     lane.queue().len() == 0 || gate.go_on(lane.element(), blocks)
 }

@@ -1,6 +1,6 @@
 -- The report of a machine shows a run.
-use Rattle.std.proofs.Common.{◌≡◌, refl, sym, ◌∙◌, ap, subst, ℕ, zero, suc, ◌*◌, ◌<◌, ◌≤◌, Bool, true, false, ℤ, List, [], length, map, drop, replicate, Option, None, arith, inl, inr}
-use Rattle.std.specs.Prelude.{◌==◌}
+use Rattle.std.proofs.Common.{◌≡◌, refl, sym, ◌∙◌, ap, subst, ℕ, zero, suc, ◌*◌, ◌%◌, ◌<◌, ◌≤◌, Bool, true, false, ℤ, List, [], ◌∷◌, ◌++◌, length, map, drop, replicate, Option, Some, None, arith, inl, inr}
+use Rattle.std.specs.Prelude.{◌==◌, slice_get, sum}
 use Rattle.std.proofs.Math.Dec.{eqb-suc-zero}
 use Rattle.std.proofs.Math.Nat.{one-le-mul}
 use Rattle.std.proofs.lemmas.List.{length-replicate, length-map}
@@ -23,8 +23,8 @@ use Rattle.schedule.specs.declared.halt.Halt.{Halt}
 use Rattle.schedule.specs.Setting.{Setting, size, total}
 use Rattle.schedule.specs.State.{State, IsPlaced, IsSoundState, Stands, IsWell, state_of, delivered}
 use Rattle.schedule.specs.Runs.{Kept, Began, HaltsAs, NamesCell}
-use Rattle.schedule.specs.Told.{TellsLanes, opening_picture, IsReportOf, ReportsLanes, Reports}
-use Rattle.schedule.specs.Unlisted.{with_events, ShowsQuietly}
+use Rattle.schedule.specs.Told.{TellsLanes, Tells, opening_picture, IsReportOf, ReportsLanes, Reports, value_of, readers_of, slot_of_lane, cell_readers, slot_at, entry, full_below}
+use Rattle.schedule.specs.Unlisted.{with_events, ShowsQuietly, Quietly, ReportsKept, kept_with}
 use Rattle.schedule.proofs.Places.{first_get, to_map}
 use Rattle.schedule.proofs.Pictures.{IsKnown, known_lanes, pictured}
 use Rattle.schedule.proofs.Showing.{picked, shows_here}
@@ -109,16 +109,57 @@ pub opening_is : (n : ℕ) (outputs : List (Option Value)) (cells : List (ℕ ×
     → (let r : Report = record { end = End.Memory; outputs = outputs; cells = cells; deferred = 0; waiting_frames = 0; waiting_credits = 0; frames_out = 1; events = evs } in r) ≡ opening_picture n
 opening_is n outputs cells evs o c e = λ i. record { end = End.Memory; outputs = o i; cells = c i; deferred = 0; waiting_frames = 0; waiting_credits = 0; frames_out = 1; events = e i }
 
+-- tokens that are on their way change nothing of what is told of a lane
+told_alike : {X : Type 0} (F : Option Held → X) (ts : List Token) → ((h : Held) → F (Some (queued h ts)) ≡ F (Some h)) → (lanes : List Held) (i : ℕ) → F (slice_get (delivered ts lanes) i) ≡ F (slice_get lanes i)
+told_alike F ts same [] i = refl
+told_alike F ts same (h ∷ hs) zero = same h
+told_alike F ts same (h ∷ hs) (suc i) = told_alike F ts same hs i
+
+full_alike : (n : ℕ) (ts : List Token) (lanes : List Held) (k : ℕ) → full_below n (delivered ts lanes) k ≡ full_below n lanes k
+full_alike n ts lanes zero = refl
+full_alike n ts lanes (suc k) = λ i. full_alike n ts lanes k i ++ entry k (told_alike (λ (o : Option Held). value_of k o) ts (λ h. refl) lanes (k % n) i)
+
+first_queued : (ts : List Token) (lanes : List Held) (h : Held) → slice_get lanes 0 ≡ Some h → slice_get (delivered ts lanes) 0 ≡ Some (queued h ts)
+first_queued ts [] h e = absurd (let no : ⊥ = cc in no)
+first_queued ts (x ∷ xs) h e = let same : x ≡ h = cc in ap (λ (y : Held). Some (queued y ts)) same
+
+-- what is told of lanes is told of them with the tokens that are on their way
+tells_coming : (g : Setting) (raw : List Held) (ts : List Token) (r : Report) → TellsLanes g raw r.outputs r.cells r.deferred r.waiting_frames r.waiting_credits r.frames_out
+    → (first : Held) × Tells g (delivered ts raw) first r
+tells_coming g raw ts r told =
+    let n = g.elements in
+    let readers : (x : ℕ) → cell_readers n raw x ≡ cell_readers n (delivered ts raw) x = λ x. sym (told_alike (λ (o : Option Held). readers_of x o) ts (λ h. refl) raw (x % n)) in
+    let slots : (f k : ℕ) → slot_at n raw f k ≡ slot_at n (delivered ts raw) f k = λ f k. sym (told_alike (λ (o : Option Held). slot_of_lane f k o) ts (λ h. refl) raw (f % n)) in (
+      queued told.0 ts,
+      record {
+        there = first_queued ts raw told.0 told.1;
+        outputs = told.2;
+        cells = told.3 ∙ sym (full_alike n ts raw (sum g.program.arrays));
+        deferred = told.4 ∙ (λ i. sum_below (sum g.program.arrays) (λ x. readers x i));
+        requests = told.5;
+        credits = told.6 ∙ (λ i. sum_below (total g) (λ f. sum_below g.width (λ k. waiters (slots f k i))));
+        out = told.7;
+      },
+    )
+
 -- the report of elements is one of the machine with these events
 pub told_of : {C A : Type 0} (program : C → Program) (width : C → ℕ) (m : Elements C A) (list : Events) (halt : Halt) (r : Report) → Reports program width m list halt r
-    → (let k : Kept = record { state = state_of program width m; events = list } in IsReportOf k halt r)
+    → IsReportOf (kept_with (state_of program width m) list) halt r
 told_of program width m list halt r (inl is) = inl is
-told_of program width m list halt r (inr (has, ends, told)) = inr (has, ends)
+told_of program width m list halt r (inr (has, ends, told)) = inr (has, ends, tells_coming (state_of program width m).setting (map held_of m.lanes.items) (drop m.come m.sent.items) r told)
 
 pub told_lanes : (g : Setting) (raw : List Held) (list : Events) (halt : Halt) (r : Report) → ReportsLanes g raw list halt r
-    → (let s : State = record { setting = g; lanes = raw } in let k : Kept = record { state = s; events = list } in IsReportOf k halt r)
+    → (let s : State = record { setting = g; lanes = raw } in IsReportOf (kept_with s list) halt r)
 told_lanes g raw list halt r (inl is) = inl is
-told_lanes g raw list halt r (inr (has, ends, told)) = inr (has, ends)
+told_lanes g raw list halt r (inr (has, ends, told)) =
+    inr (has, ends, (told.0, record { there = told.1; outputs = told.2; cells = told.3; deferred = told.4; requests = told.5; credits = told.6; out = told.7 }))
+
+-- what is told of a machine is told of it with tokens that are on their way
+pub told_coming : (g : Setting) (raw : List Held) (ts : List Token) (list : Events) (halt : Halt) (r : Report) → (let s : State = record { setting = g; lanes = raw } in IsReportOf (kept_with s list) halt r)
+    → IsReportOf (kept_with (coming g raw ts) list) halt r
+told_coming g raw ts list halt r (inl is) = inl is
+told_coming g raw ts list halt r (inr (has, ends, (first, t))) =
+    inr (has, ends, tells_coming g raw ts r (first, t.there, t.outputs, t.cells, t.deferred, t.requests, t.credits, t.out))
 
 -- with the events of a run, or with none, the report of lanes shows that run, whatever tokens are on their way
 pub shows_lanes : (g : Setting) (raw : List Held) (ts : List Token) (list : Events) (halt : Halt) (r : Report) → IsSoundState (coming g raw ts) → ReportsLanes g raw list halt r
@@ -175,3 +216,27 @@ shows_quietly program width m list halt r well reported none inputs listed evs b
       events = found.0;
       shows = found.1;
     }
+
+-- and with the events that led to the machine it is the report of that machine
+pub reports_quietly : {C A : Type 0} (program : C → Program) (width : C → ℕ) (m : Elements C A) (list : Events) (halt : Halt) (r : Report) → IsWell program width m → Reports program width m list halt r → list ≡ []
+    → (evs : Events) → Quietly (ReportsKept (kept_with (state_of program width m) evs) halt) r
+reports_quietly program width m list halt r well (inl is) none evs =
+    let s : State = state_of program width m in (
+      ap (λ (x : Report). x.events) is,
+      [],
+      record {
+        told = inl (ap (λ (x : Report). with_events x []) is);
+        shows = λ inputs listed began halts. subst (λ (x : Report). Shows s.setting.program (size s.setting) inputs s.setting.steps listed false (with_events x [])) (sym is) (shows_opening s inputs listed (outputs_of s.setting.program) well.sound refl);
+      },
+    )
+reports_quietly program width m list halt r well (inr (has, ends, told)) none evs =
+    let s : State = state_of program width m in
+    let raw : List Held = map held_of m.lanes.items in
+    let ts : List Token = drop m.come m.sent.items in (
+      has ∙ none,
+      evs,
+      record {
+        told = inr (refl, ends, tells_coming s.setting raw ts (with_events r evs) told);
+        shows = λ inputs listed began halts. shows_here inputs s evs listed halt (with_events r evs) well.sound began halts ends refl (lanes_pictured s.setting raw ts began.machine (with_events r evs) well.sound began.stands told);
+      },
+    )

@@ -81,9 +81,12 @@ TellsLanes g lanes outputs cells deferred requests credits out =
 abbrev pub opening_picture : ℕ → Report
 opening_picture outputs = record { end = End.Memory; outputs = replicate outputs None; cells = []; deferred = 0; waiting_frames = 0; waiting_credits = 0; frames_out = 1; events = [] }
 
--- The report has the events and the end; where its own lists were refused it is that of the machine before its first event.
+-- The report has the events and the end, and tells what the lanes hold; where its own lists were refused it is that of the machine
+-- before its first event.
 abbrev pub IsReportOf : Kept → Halt → Report → Type 0
-IsReportOf k halt r = (r ≡ opening_picture (outputs_of k.state.setting.program)) ⊎ ((r.events ≡ k.events) × EndsAs k.state.setting.program r halt)
+IsReportOf k halt r =
+    (r ≡ opening_picture (outputs_of k.state.setting.program))
+    ⊎ ((r.events ≡ k.events) × EndsAs k.state.setting.program r halt × ((first : Held) × Tells k.state.setting k.state.lanes first r))
 
 -- The report of lanes: it has these events and the end, and tells what they hold; or its own lists were refused.
 abbrev pub ReportsLanes : Setting → List Held → Events → Halt → Report → Type 0

@@ -13,7 +13,7 @@ ghost use Rattle.schedule.specs.Told.{IsReportOf};
 ghost use Rattle.semantics.specs.Report.{Shows};
 ghost use Rattle.schedule.specs.Setting.{size};
 ghost use Rattle.schedule.specs.State.{State};
-ghost use Rattle.schedule.specs.Unlisted.{ShowsQuietly, without_events};
+ghost use Rattle.schedule.specs.Unlisted.{Quietly, RunsInTurn};
 ghost use Rattle.schedule.specs.State.{IsSoundState, RunsAs};
 ghost use Rattle.schedule.specs.Apart.{kept_of, setting_in, state_in};
 
@@ -330,13 +330,12 @@ impl<'m, C: MainCode, A: Allocator> Machine<'m, C, A> {
         }
     }
 
-    /// As `run_one`, but the report lists no events: there is a run that it shows. A long run takes no more memory than a
-    /// short one.
+    /// As `run_one`, but the report lists no events: with the events of the run that the elements made in turn it is the report
+    /// of `run_one`. A long run takes no more memory than a short one.
     pub fn run_quietly(self) -> Report<A>
     where
         A: Clone,
-        ensures plays { (last : State) × (halt : Halt) × (rounds : ℕ) × (made : Events) × Plays false (rounds_of rounds self.entry.state.setting.elements) self.entry.state last halt made × IsReportOf (without_events last) halt result }
-        ensures shows { (inputs : List ℤ) → Began inputs self.entry.state self.entry.events → ShowsQuietly self.entry.state.setting.program (size self.entry.state.setting) inputs self.entry.state.setting.steps false false result }
+        ensures { Quietly (RunsInTurn self.entry) result }
     {
         let mut quiet = self.without_events();
         let halt = quiet.play_in_turn();

@@ -5,7 +5,7 @@ ghost use Rattle.semantics.specs.Machine.{Events};
 ghost use Rattle.schedule.specs.Setting.{size};
 ghost use Rattle.schedule.specs.Runs.{Began, Plays, HaltsAs, NamesCell, rounds_of};
 ghost use Rattle.schedule.specs.Told.{IsReportOf};
-ghost use Rattle.schedule.specs.Unlisted.{ShowsQuietly, without_events};
+ghost use Rattle.schedule.specs.Unlisted.{ShowsQuietly, Quietly, ReportsKept, kept_with, without_events};
 
 use crate::elements::Elements;
 use crate::halt::Halt;
@@ -50,13 +50,15 @@ impl<'m, C: MainCode, A: Allocator> Quiet<'m, C, A> {
         self.elements.play_in_turn(&mut NoLog)
     }
 
-    /// What the machine holds, with the end of a run that halted so and no events: there is a run that it shows. Where its
-    /// own lists are refused it is the report of the machine before its first event, with the end `Memory`.
+    /// What the machine holds, with the end of a run that halted so and no events. With the events that led to the machine it
+    /// is the report that lists them. Where its own lists are refused it is the report of the machine before its first event,
+    /// with the end `Memory`.
     pub fn report(self, halt: Halt) -> Report<A>
     where
         A: Clone,
         requires { NamesCell self.setting.program halt }
         ensures told { IsReportOf (without_events self.entry) halt result }
+        ensures quietly { (events : Events) → Quietly (ReportsKept (kept_with self.entry events) halt) result }
         ensures shows { (inputs : List ℤ) (listed : Bool) (events : Events) → Began inputs self.entry events → HaltsAs self.entry listed halt → ShowsQuietly self.entry.setting.program (size self.entry.setting) inputs self.entry.setting.steps listed false result }
     {
         let Quiet {

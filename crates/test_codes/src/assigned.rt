@@ -2,7 +2,7 @@
 
 use code::{Holder, Instr, Plan, Slots};
 use operators::Binary;
-use rationed::Rationed;
+use rationed::{Rationed, is_next_refused};
 use semantics::program::{Mark, Op};
 use slot_alloc::{AssignFault, assign, check_slots};
 use std::alloc::{AllocError, Allocator};
@@ -277,8 +277,9 @@ fn slots_are_good_or_crowded(rt: HostRuntime) -> Result<(), Fail> {
 
 #[test]
 fn holders_tell_what_they_do(rt: HostRuntime) -> Result<(), Fail> {
-    let alloc = rt.alloc();
-    let plan = lines_plan(alloc, 3, SUM, Mark::Unmarked)?;
+    let heap = Rationed::new(rt.alloc(), 0);
+    let plan = lines_plan(&heap, 3, SUM, Mark::Unmarked)?;
+    let left = heap.left();
     let holders = plan.holders(0);
     assert_eq!(rt; holders.len(), 3);
     assert!(rt;
@@ -299,7 +300,8 @@ fn holders_tell_what_they_do(rt: HostRuntime) -> Result<(), Fail> {
     );
     assert!(rt; holders.get(3).is_none());
     assert_eq!(rt; plan.holders(1).len(), 0);
-    let credits = lines_plan(alloc, 1, CREDITS, Mark::Unmarked)?;
+    assert_eq!(rt; heap.left(), left);
+    let credits = lines_plan(&heap, 1, CREDITS, Mark::Unmarked)?;
     assert!(rt;
         matches!(
             credits.holders(0).get(0),
@@ -356,29 +358,32 @@ fn slots_run_out(rt: HostRuntime) -> Result<(), Fail> {
     Ok(())
 }
 
+/// Each growth of both calls is refused in turn: the answer is the error, and that the slots are good once no growth is refused.
 #[test]
 fn each_growth_is_refused_in_turn(rt: HostRuntime) -> Result<(), Fail> {
-    let mut refused: u32 = 0;
-    let mut done: u32 = 0;
-    for growth in 1..120 {
-        let heap = Rationed::new(rt.alloc(), growth);
-        if let Ok(plan) = lines_plan(&heap, 3, SUM, Mark::Unmarked) {
-            match assign(&heap, &plan) {
-                Ok(slots) => match check_slots(&heap, &plan, &slots) {
-                    Ok(good) => {
-                        assert!(rt; good);
-                        done = done.wrapping_add(1);
-                    }
-                    Err(_) => refused = refused.wrapping_add(1),
-                },
-                Err(fault) => {
-                    assert_eq!(rt; fault, AssignFault::Memory);
-                    refused = refused.wrapping_add(1);
-                }
+    let mut unassigned = 0u64;
+    let mut unchecked = 0u64;
+    let mut whole = false;
+    for growth in 1..10_000u64 {
+        let plenty = Rationed::new(rt.alloc(), 0);
+        let scarce = Rationed::new(rt.alloc(), growth);
+        let plan = lines_plan(&plenty, 3, SUM, Mark::Unmarked)?;
+        let checked = match assign(&scarce, &plan) {
+            Ok(slots) => check_slots(&scarce, &plan, &slots).ok(),
+            Err(fault) => {
+                assert_eq!(rt; fault, AssignFault::Memory, "{growth}");
+                assert!(rt; !is_next_refused(&scarce), "{growth}");
+                unassigned = unassigned.wrapping_add(1);
+                continue;
             }
+        };
+        whole = is_next_refused(&scarce);
+        assert_eq!(rt; checked, whole.then_some(true), "{growth}");
+        if whole {
+            break;
         }
+        unchecked = unchecked.wrapping_add(1);
     }
-    assert!(rt; refused > 5);
-    assert!(rt; done > 10);
+    assert!(rt; whole && unassigned > 0 && unchecked > 0);
     Ok(())
 }

@@ -2,7 +2,7 @@
 
 use code::{Code, Instr, Plan, Slots};
 use operators::Binary;
-use rationed::Rationed;
+use rationed::{Rationed, is_next_refused};
 use select::{EmitFault, emit};
 use semantics::program::{Dest, Op};
 use semantics::version::Version;
@@ -230,14 +230,20 @@ fn stage_of<A: Allocator + Clone>(alloc: A, again: A, more: A) -> Stage {
     }
 }
 
+/// Each growth is refused in turn, until none is.
 #[test]
 fn refuses_each_growth(rt: HostRuntime) -> Result<(), Fail> {
     let mut stages = Vec::new(rt.alloc());
-    for at in 1..40u64 {
+    for at in 1..10_000u64 {
         let heap = Rationed::new(rt.alloc(), at);
         let stage = stage_of(&heap, &heap, &heap);
+        let whole = is_next_refused(&heap);
+        assert_eq!(rt; stage == Stage::Code, whole, "{at}");
         if stages.last() != Some(&stage) {
             stages.push(stage)?;
+        }
+        if whole {
+            break;
         }
     }
     assert!(rt; stages.as_slice() == [Stage::NoPlan, Stage::NoCode, Stage::Code].as_slice());

@@ -1,6 +1,7 @@
 //! An object that adds its two inputs: it is opened, upgraded and written.
 
 use object_view::{Object, ObjectFault, upgrade, write};
+use rationed::Rationed;
 use std::alloc::Global;
 use test_failing_streams::writer::{Failure, Taker};
 
@@ -83,11 +84,14 @@ fn origins(rt: HostRuntime) {
 fn writes_what_was_taken_apart(rt: HostRuntime) {
     let bytes = adds();
     let object = Object::open(&bytes).expect(&rt, "it opens");
-    let code = object.to_code(rt.alloc()).expect(&rt, "there is memory");
+    let heap = Rationed::new(rt.alloc(), 0);
+    let code = object.to_code(&heap).expect(&rt, "there is memory");
+    let left = heap.left();
     for room in 0..153usize {
         let mut out = with_room(rt.alloc(), room);
         let written = write(&code, object.version(), &mut out);
         assert_eq!(rt; written.is_ok(), room == 152);
         assert_eq!(rt; out.taken.len(), room);
     }
+    assert_eq!(rt; heap.left(), left);
 }

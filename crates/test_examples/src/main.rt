@@ -1,7 +1,8 @@
 //! Checks, for each example, that runs of its code have exactly the outputs, the cells and the end of its meaning. The runs are
 //! on 1, 2, 3 and 16 elements: one event after another, in rounds, and free. The words of the command line are the names of the
-//! files. A run that says something else than the first one gets a line of its own. So does an example whose object does not come
-//! back from its listing, or runs in another way than its graph, or whose random orders differ.
+//! files. A run that starves has no output and no cell that its meaning does not have. A run that says something else than the first
+//! one gets a line of its own. So does an example whose object does not come back from its listing, or runs in another way than its
+//! graph, or whose random orders differ.
 #![tactic(auto)]
 
 mod tools;
@@ -88,6 +89,31 @@ fn shared(alloc: Global, report: &[u8]) -> Result<Vec<u8>, AllocError> {
     Ok(lines)
 }
 
+/// How many lines of the text begin so.
+fn count_of(text: &[u8], word: &[u8]) -> usize {
+    text.split(|byte| *byte == b'\n')
+        .filter(|line| line.starts_with(word))
+        .count()
+}
+
+/// Whether a line of a run that starves is the end or a missing output, or a line of the meaning, too.
+fn is_within(line: &[u8], meaning: &[u8]) -> bool {
+    line.starts_with(b"end ")
+        || line.starts_with(b"output ") && line.ends_with(b" -")
+        || meaning
+            .split(|byte| *byte == b'\n')
+            .any(|wanted| wanted == line)
+}
+
+/// Whether a run starves rightly: a request waits, and the meaning has all outputs and cells that the run has.
+fn starves_within(report: &[u8], lines: &[u8], meaning: &[u8]) -> bool {
+    count_of(report, b"waiting 0 0") == 0
+        && count_of(lines, b"output ") == count_of(meaning, b"output ")
+        && lines
+            .split(|byte| *byte == b'\n')
+            .all(|line| is_within(line, meaning))
+}
+
 /// What a run in this mode on `elements` elements says, compared with this meaning.
 fn verdict<R: Threads + Wait + Sync>(
     rt: &R,
@@ -100,12 +126,11 @@ fn verdict<R: Threads + Wait + Sync>(
     let Some(report) = report_of(rt, alloc, input, mode, elements) else {
         return Ok("is refused");
     };
-    if report.ends_with(b"\nend Starved\n") {
-        return Ok("starves");
-    }
     let lines = shared(alloc, &report)?;
     Ok(if lines.as_slice() == meaning {
         "agrees"
+    } else if report.ends_with(b"\nend Starved\n") && starves_within(&report, &lines, meaning) {
+        "starves"
     } else {
         "differs"
     })

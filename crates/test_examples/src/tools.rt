@@ -5,7 +5,7 @@ use std::alloc::{AllocError, Global};
 use std::str;
 use std::sync::Wait;
 use std::thread::Threads;
-use test_served::{answer, comes_back};
+use test_served::{answer, comes_back, comes_back_with_literals};
 
 /// The words that run an object on the integers of these lines.
 fn exec_words<'a>(alloc: Global, lines: &'a [u8]) -> Result<Vec<&'a str>, AllocError> {
@@ -42,7 +42,7 @@ fn nameless(alloc: Global, report: &[u8]) -> Result<Vec<u8>, AllocError> {
 }
 
 /// What is wrong with the example's object, its run, and its runs in random orders, if anything is: the object does not come back from
-/// its listing; it runs in another way than its graph does; or the orders of a graph that comes to rest differ.
+/// one of its listings; it runs in another way than its graph does; or the orders of a graph that comes to rest differ.
 pub fn fault_of<R: Threads + Wait + Sync>(
     rt: &R,
     alloc: Global,
@@ -50,7 +50,10 @@ pub fn fault_of<R: Threads + Wait + Sync>(
 ) -> Result<Option<&'static str>, AllocError> {
     let (text, lines) = split_at_main(input);
     let object = answer(rt, alloc, &["ets", "compile"], text);
-    if object.status != 0 || !comes_back(rt, alloc, &object.text) {
+    if object.status != 0
+        || !comes_back(rt, alloc, &object.text)
+        || !comes_back_with_literals(rt, alloc, &object.text)
+    {
         return Ok(Some("does not come back"));
     }
     let run = answer(rt, alloc, &["ets", "run"], input);

@@ -6,6 +6,77 @@ use std::io::{self, Write};
 use test_random_graphs::graphs::Graph;
 use test_random_graphs::kind::{KINDS, NAMES};
 
+/// How many runs there were of each outcome.
+#[derive(Clone, Copy)]
+pub struct Runs {
+    rested: u64,
+    starved: u64,
+    clashed: u64,
+    /// Those that clashed at the cell at which the meaning does.
+    as_meant: u64,
+    cut_off: u64,
+}
+
+impl Runs {
+    fn new() -> Runs {
+        Runs {
+            rested: 0,
+            starved: 0,
+            clashed: 0,
+            as_meant: 0,
+            cut_off: 0,
+        }
+    }
+
+    /// Counts a run.
+    pub fn count(&mut self, verdict: Verdict) {
+        match verdict {
+            Verdict::Rested => self.rested = self.rested.wrapping_add(1),
+            Verdict::Starved => self.starved = self.starved.wrapping_add(1),
+            Verdict::Clashed { is_meant } => {
+                self.clashed = self.clashed.wrapping_add(1);
+                self.as_meant = self.as_meant.wrapping_add(u64::from(is_meant));
+            }
+            Verdict::CutOff => self.cut_off = self.cut_off.wrapping_add(1),
+            Verdict::Differs => {}
+        }
+    }
+
+    /// How many there were in all.
+    fn all(&self) -> u64 {
+        self.rested
+            .wrapping_add(self.starved)
+            .wrapping_add(self.clashed)
+            .wrapping_add(self.cut_off)
+    }
+
+    /// Prints the numbers.
+    fn print<W: Write>(&self, out: &mut W, name: &str, runs: &str) -> io::Result<()> {
+        let Runs {
+            rested,
+            starved,
+            clashed,
+            as_meant,
+            cut_off,
+        } = self;
+        writeln!(
+            out,
+            "{name}: {runs}: {rested} rested, {starved} starved, {clashed} clashed, {as_meant} of them where the meaning does; {cut_off} cut off"
+        )
+    }
+
+    /// Prints the numbers that do not depend on which thread came first.
+    fn print_free<W: Write>(&self, out: &mut W, name: &str) -> io::Result<()> {
+        let all = self.all();
+        let rest = if self.rested > 0 { "some" } else { "none" };
+        let cut_off = self.cut_off;
+        writeln!(
+            out,
+            "{name}: free runs: {all}, {rest} of which rested, {cut_off} cut off"
+        )
+    }
+}
+
 /// How many there were of each.
 #[derive(Drop)]
 pub struct Tally {
@@ -15,10 +86,11 @@ pub struct Tally {
     /// Graphs at rest in which readers wait.
     wait: u64,
     kinds: [u64; KINDS],
-    rested: u64,
-    starved: u64,
-    clashed: u64,
-    cut_off: u64,
+    pub runs: Runs,
+    /// Runs in rounds with plenty of frames.
+    pub wide: Runs,
+    /// Runs of free elements. How each of them ends may depend on which thread came first.
+    pub free: Runs,
 }
 
 impl Tally {
@@ -29,10 +101,9 @@ impl Tally {
             clash: 0,
             wait: 0,
             kinds: [0; KINDS],
-            rested: 0,
-            starved: 0,
-            clashed: 0,
-            cut_off: 0,
+            runs: Runs::new(),
+            wide: Runs::new(),
+            free: Runs::new(),
         }
     }
 
@@ -54,17 +125,6 @@ impl Tally {
         self.wait = self.wait.wrapping_add(1);
     }
 
-    /// Counts a run.
-    pub fn count_run(&mut self, verdict: Verdict) {
-        match verdict {
-            Verdict::Rested => self.rested = self.rested.wrapping_add(1),
-            Verdict::Starved => self.starved = self.starved.wrapping_add(1),
-            Verdict::Clashed => self.clashed = self.clashed.wrapping_add(1),
-            Verdict::CutOff => self.cut_off = self.cut_off.wrapping_add(1),
-            Verdict::Differs => {}
-        }
-    }
-
     /// Prints the numbers.
     pub fn print<W: Write>(&self, out: &mut W, name: &str) -> io::Result<()> {
         let Tally {
@@ -84,20 +144,10 @@ impl Tally {
             write!(out, " {count} {kind}")?;
         }
         writeln!(out)?;
-        self.print_runs(out, name)
-    }
-
-    fn print_runs<W: Write>(&self, out: &mut W, name: &str) -> io::Result<()> {
-        let Tally {
-            rested,
-            starved,
-            clashed,
-            cut_off,
-            ..
-        } = self;
-        writeln!(
-            out,
-            "{name}: runs: {rested} rested, {starved} starved, {clashed} clashed, {cut_off} cut off"
-        )
+        self.runs.print(out, name, "runs")?;
+        if self.wide.all() > 0 {
+            self.wide.print(out, name, "runs with plenty of frames")?;
+        }
+        self.free.print_free(out, name)
     }
 }

@@ -2,7 +2,7 @@
 
 ghost use Rattle.std.specs.Prelude.{◌≡◌, ◌<◌, All};
 
-use crate::tally::Tally;
+use crate::tally::{Runs, Tally};
 use crate::verdict::{Verdict, verdict_of};
 use command_line::Mode;
 use driver::emulation::{emulate, emulate_picks, run_text};
@@ -69,12 +69,12 @@ impl<'a> Trials<'a> {
     /// Compares that run with the meaning.
     fn judge(
         &mut self,
-        tally: &mut Tally,
+        runs: &mut Runs,
         config: Config,
         run: &Result<Report<Global>, Fault>,
     ) -> Verdict {
         let verdict = verdict_of(self.graph, self.meaning, self.deferred, run);
-        tally.count_run(verdict);
+        runs.count(verdict);
         self.config = config;
         self.end = None;
         if let Ok(report) = run {
@@ -92,7 +92,7 @@ impl<'a> Trials<'a> {
         &mut self,
         rt: &R,
         alloc: Global,
-        tally: &mut Tally,
+        runs: &mut Runs,
         mode: Mode,
         config: Config,
     ) -> bool {
@@ -103,14 +103,15 @@ impl<'a> Trials<'a> {
         };
         let text = &self.graph.text;
         let run = emulate(alloc, text, &self.graph.inputs, config, mode, rt, &Open);
-        self.judge(tally, config, &run) != Verdict::Differs
+        self.judge(runs, config, &run) != Verdict::Differs
     }
 
-    /// Whether a free run agrees. How it ends may depend on which thread came first, so it is not counted.
+    /// Whether a free run agrees.
     fn agrees_free<R: Threads + Wait + Sync>(
         &mut self,
         rt: &R,
         alloc: Global,
+        runs: &mut Runs,
         config: Config,
     ) -> bool {
         self.way = "free";
@@ -119,20 +120,24 @@ impl<'a> Trials<'a> {
         let run = run_text(alloc, text, inputs, config, Mode::Free, rt, &Open).map(
             |emulated| emulated.report,
         );
-        self.judge(&mut Tally::new(), config, &run) != Verdict::Differs
+        self.judge(runs, config, &run) != Verdict::Differs
     }
 
     /// Whether a run in rounds agrees, and is not starved, that has plenty of frames, on a number of elements that differs from
-    /// graph to graph. Only graphs of the part of calls have such a run, and it is not counted.
-    fn agrees_widely<R: Threads + Wait + Sync>(&mut self, rt: &R, alloc: Global) -> bool {
+    /// graph to graph. Only graphs of the part of calls have such a run.
+    fn agrees_widely<R: Threads + Wait + Sync>(
+        &mut self,
+        rt: &R,
+        alloc: Global,
+        runs: &mut Runs,
+    ) -> bool {
         let elements = match self.events % 3 {
             0 => 1,
             1 => 2,
             _ => 16,
         };
-        let uncounted = &mut Tally::new();
         self.graph.part != Part::Calls
-            || self.agrees_in(rt, alloc, uncounted, Mode::Rounds, config(elements, 256))
+            || self.agrees_in(rt, alloc, runs, Mode::Rounds, config(elements, 256))
                 && !matches!(self.end, Some(End::Starved))
     }
 
@@ -140,7 +145,7 @@ impl<'a> Trials<'a> {
     fn run_listed(
         &mut self,
         alloc: Global,
-        tally: &mut Tally,
+        runs: &mut Runs,
         elements: u32,
         frames: u64,
         picks: &[(u32, u64)],
@@ -149,7 +154,7 @@ impl<'a> Trials<'a> {
     {
         let config = config(u64::from(elements), frames);
         let run = emulate_picks(alloc, &self.graph.text, &self.graph.inputs, config, picks);
-        self.judge(tally, config, &run)
+        self.judge(runs, config, &run)
     }
 
     /// Whether runs in a random order agree. There is one run with few frames; in the part of calls there are runs with more
@@ -157,7 +162,7 @@ impl<'a> Trials<'a> {
     fn agrees_listed(
         &mut self,
         alloc: Global,
-        tally: &mut Tally,
+        runs: &mut Runs,
         dice: &mut Dice,
     ) -> Result<bool, AllocError> {
         self.way = "in the order of these picks";
@@ -168,11 +173,11 @@ impl<'a> Trials<'a> {
         let mut verdict = Verdict::Starved;
         if self.graph.part == Part::All {
             let frames = dice.throw(6).wrapping_add(1);
-            verdict = self.run_listed(alloc, tally, elements, frames, &picks);
+            verdict = self.run_listed(alloc, runs, elements, frames, &picks);
         } else {
             for frames in FRAMES {
                 if verdict == Verdict::Starved {
-                    verdict = self.run_listed(alloc, tally, elements, frames, &picks);
+                    verdict = self.run_listed(alloc, runs, elements, frames, &picks);
                 }
             }
         }
@@ -191,19 +196,19 @@ impl<'a> Trials<'a> {
     ) -> Result<bool, AllocError> {
         let many = config(1, 1_024);
         let some = config(3, dice.throw(16).wrapping_add(1));
-        if !self.agrees_in(rt, alloc, tally, Mode::One, many)
-            || !self.agrees_in(rt, alloc, tally, Mode::Rounds, some)
-            || !self.agrees_widely(rt, alloc)
+        if !self.agrees_in(rt, alloc, &mut tally.runs, Mode::One, many)
+            || !self.agrees_in(rt, alloc, &mut tally.runs, Mode::Rounds, some)
+            || !self.agrees_widely(rt, alloc, &mut tally.wide)
         {
             return Ok(false);
         }
         for _ in 0..free {
-            if !self.agrees_free(rt, alloc, some) {
+            if !self.agrees_free(rt, alloc, &mut tally.free, some) {
                 return Ok(false);
             }
         }
         for _ in 0..ORDERS {
-            if !self.agrees_listed(alloc, tally, dice)? {
+            if !self.agrees_listed(alloc, &mut tally.runs, dice)? {
                 return Ok(false);
             }
         }

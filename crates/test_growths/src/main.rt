@@ -1,14 +1,14 @@
 //! Refuses each growth in turn, under the whole program. For each command line and its input, growth number N is refused, for N
-//! from 1 until the run has fewer than N growths. Until then each answer is `refused: memory`, or a report with the end
-//! `Memory` that tells no value which the whole run does not have. The last answer, with all growths granted, is the text that
-//! it should be. Prints how the refusals were told and, with any word on the command line, also how often. Then prints `agree`,
+//! from 1 until the run has fewer than N growths. Until then each answer is `refused: memory`, or tells of a run with the end
+//! `Memory`, and of no value or event which the whole run does not have. The last answer, with all growths granted, is the text
+//! that it should be. Prints how the refusals were told and, with any word on the command line, also how often. Then prints `agree`,
 //! or the first answer that differs, with status 1.
 #![tactic(auto)]
 
 mod rows;
 mod trials;
 
-use rows::{COMPILED, EXAMPLES, Example, Row};
+use rows::{COMMANDS, Command, EXAMPLES, Example, Reads, Row};
 use std::alloc::{AllocError, Global};
 use std::env;
 use std::io::{self, Write};
@@ -76,6 +76,7 @@ fn examples_agree<R: Threads + Wait + Sync, W: Write>(
             name: example.name,
             words: example.words,
             input: &input,
+            answer: example.answer(),
             wanted: example.wanted,
             status: example.status,
         };
@@ -87,23 +88,39 @@ fn examples_agree<R: Threads + Wait + Sync, W: Write>(
     Ok(true)
 }
 
-/// Whether the answers of commands without a report of a run agree with their answer where no growth is refused.
-fn texts_agree<R: Threads + Wait + Sync, W: Write>(
+/// What a command reads.
+fn read_by<R: Threads + Wait + Sync>(
+    rt: &R,
+    alloc: Global,
+    command: &Command,
+) -> Result<Vec<u8>, AllocError> {
+    let text = with_inputs(alloc, command.text, command.inputs)?;
+    if command.reads == Reads::Text {
+        return Ok(text);
+    }
+    Ok(answer(rt, alloc, &["ets", "compile"], &text).text)
+}
+
+/// Whether the answers of commands agree with their answers where no growth is refused.
+fn commands_agree<R: Threads + Wait + Sync, W: Write>(
     rt: &R,
     alloc: Global,
     out: &mut W,
     has_figures: bool,
 ) -> io::Result<bool> {
-    for (name, words, input) in COMPILED {
-        let whole = answer(rt, alloc, words, input);
+    for command in COMMANDS {
+        let name = command.name;
+        let input = read_by(rt, alloc, &command)?;
+        let whole = answer(rt, alloc, command.words, &input);
         if whole.status != 0 {
             writeln!(out, "{name}: is refused")?;
             return Ok(false);
         }
         let row = Row {
             name,
-            words,
-            input,
+            words: command.words,
+            input: &input,
+            answer: command.answer,
             wanted: &whole.text,
             status: 0,
         };
@@ -121,7 +138,7 @@ fn main(rt: HostRuntime) -> io::Result<ExitCode> {
     let words: Vec<String> = env::args(&rt)?.collect(alloc)?;
     let has_figures = words.len() > 1;
     if examples_agree(&rt, alloc, &mut out, has_figures)?
-        && texts_agree(&rt, alloc, &mut out, has_figures)?
+        && commands_agree(&rt, alloc, &mut out, has_figures)?
     {
         writeln!(out, "agree")?;
         return Ok(ExitCode::SUCCESS);

@@ -2,12 +2,26 @@
 
 use test_graph_texts::{ADD, ARRAY_LOOP, FACTORIAL, NEVER_FILLED, READERS, SUM_LOOP};
 
+/// What an answer has of a run, and so how a growth is told that is refused in the run.
+#[derive(Clone, Copy)]
+pub enum Answer {
+    /// Nothing: each growth that is refused is told in place of the answer.
+    Text,
+    /// A report, which then has the end `Memory`. Lines of events may stand before it.
+    Report,
+    /// A list of events, as JSON.
+    Json,
+    /// The report of several orders. Then the orders differ, and one of them has the end `Memory`.
+    Orders,
+}
+
 /// A command line with its input, and the text and the exit status that it should have.
 #[derive(Clone, Copy)]
 pub struct Row<'a> {
     pub name: &'static str,
     pub words: &'static [&'static str],
     pub input: &'a [u8],
+    pub answer: Answer,
     pub wanted: &'a [u8],
     pub status: u8,
 }
@@ -25,8 +39,19 @@ pub struct Example {
     pub status: u8,
 }
 
+impl Example {
+    /// What its answer has of a run: a meaning is not made by the machine.
+    pub fn answer(&self) -> Answer {
+        if self.words.contains(&"mean") {
+            Answer::Text
+        } else {
+            Answer::Report
+        }
+    }
+}
+
 /// Worked examples. Their texts and statuses were known before.
-pub const EXAMPLES: [Example; 19] = [
+pub const EXAMPLES: [Example; 22] = [
     Example {
         name: "add",
         words: &["ets", "run"],
@@ -39,6 +64,15 @@ pub const EXAMPLES: [Example; 19] = [
     Example {
         name: "add, in rounds",
         words: &["ets", "run", "--mode", "rounds", "--elements", "2"],
+        graph: ADD,
+        change: None,
+        inputs: b"2\n3\n",
+        wanted: b"output 0 5\ndeferred 0\nwaiting 0 0\nframes 0\nend Rest\n",
+        status: 0,
+    },
+    Example {
+        name: "add, free",
+        words: &["ets", "run", "--mode", "free", "--elements", "2"],
         graph: ADD,
         change: None,
         inputs: b"2\n3\n",
@@ -109,6 +143,24 @@ pub const EXAMPLES: [Example; 19] = [
         status: 0,
     },
     Example {
+        name: "sum, free",
+        words: &[
+            "ets",
+            "run",
+            "--frames",
+            "2",
+            "--mode",
+            "free",
+            "--elements",
+            "2",
+        ],
+        graph: SUM_LOOP,
+        change: None,
+        inputs: b"20\n",
+        wanted: b"output 0 210\ndeferred 0\nwaiting 0 0\nframes 0\nend Rest\n",
+        status: 0,
+    },
+    Example {
         name: "readers",
         words: &["ets", "run"],
         graph: READERS,
@@ -120,6 +172,15 @@ pub const EXAMPLES: [Example; 19] = [
     Example {
         name: "readers, in rounds",
         words: &["ets", "run", "--mode", "rounds", "--elements", "2"],
+        graph: READERS,
+        change: None,
+        inputs: b"8\n",
+        wanted: b"output 0 8\noutput 1 8\noutput 2 8\ncell A 0 8\ndeferred 0\nwaiting 0 0\nframes 0\nend Rest\n",
+        status: 0,
+    },
+    Example {
+        name: "readers, free",
+        words: &["ets", "run", "--mode", "free", "--elements", "2"],
         graph: READERS,
         change: None,
         inputs: b"8\n",
@@ -218,29 +279,198 @@ pub const EXAMPLES: [Example; 19] = [
     },
 ];
 
-/// The words of a command line, with the name of the row and the input.
-type Command = (&'static str, &'static [&'static str], &'static [u8]);
+/// What a command reads.
+#[derive(Clone, Copy, PartialEq, Eq)]
+pub enum Reads {
+    /// The text.
+    Text,
+    /// The object of the text.
+    Object,
+}
 
-/// Commands without a report of a run: the wanted answer is the one where no growth is refused.
-pub const COMPILED: [Command; 9] = [
-    ("compile of add", &["ets", "compile"], ADD),
-    ("compile of factorial", &["ets", "compile"], FACTORIAL),
-    ("compile of sum", &["ets", "compile"], SUM_LOOP),
-    ("compile of readers", &["ets", "compile"], READERS),
-    ("compile of chain", &["ets", "compile"], ARRAY_LOOP),
-    ("check of chain", &["ets", "check"], ARRAY_LOOP),
-    ("dot of chain", &["ets", "dot"], ARRAY_LOOP),
-    ("asm of add", &["ets", "asm"], ADD_LISTING),
-    (
-        "profile of add",
-        &["ets", "profile", "--elements", "1,2"],
-        ADD_AND_INPUTS,
-    ),
+/// A command line, what it reads, and what its answer has of a run. The wanted answer is the one where no growth is refused.
+#[derive(Clone, Copy)]
+pub struct Command {
+    pub name: &'static str,
+    pub words: &'static [&'static str],
+    pub text: &'static [u8],
+    /// Lines behind the text.
+    pub inputs: &'static [u8],
+    pub reads: Reads,
+    pub answer: Answer,
+}
+
+/// Command lines whose answers are compared with those where no growth is refused.
+pub const COMMANDS: [Command; 21] = [
+    Command {
+        name: "compile of add",
+        words: &["ets", "compile"],
+        text: ADD,
+        inputs: b"",
+        reads: Reads::Text,
+        answer: Answer::Text,
+    },
+    Command {
+        name: "compile of factorial",
+        words: &["ets", "compile"],
+        text: FACTORIAL,
+        inputs: b"",
+        reads: Reads::Text,
+        answer: Answer::Text,
+    },
+    Command {
+        name: "compile of sum",
+        words: &["ets", "compile"],
+        text: SUM_LOOP,
+        inputs: b"",
+        reads: Reads::Text,
+        answer: Answer::Text,
+    },
+    Command {
+        name: "compile of readers",
+        words: &["ets", "compile"],
+        text: READERS,
+        inputs: b"",
+        reads: Reads::Text,
+        answer: Answer::Text,
+    },
+    Command {
+        name: "compile of chain",
+        words: &["ets", "compile"],
+        text: ARRAY_LOOP,
+        inputs: b"",
+        reads: Reads::Text,
+        answer: Answer::Text,
+    },
+    Command {
+        name: "check of chain",
+        words: &["ets", "check"],
+        text: ARRAY_LOOP,
+        inputs: b"",
+        reads: Reads::Text,
+        answer: Answer::Text,
+    },
+    Command {
+        name: "dot of chain",
+        words: &["ets", "dot"],
+        text: ARRAY_LOOP,
+        inputs: b"",
+        reads: Reads::Text,
+        answer: Answer::Text,
+    },
+    Command {
+        name: "asm of add",
+        words: &["ets", "asm"],
+        text: ADD_LISTING,
+        inputs: b"",
+        reads: Reads::Text,
+        answer: Answer::Text,
+    },
+    Command {
+        name: "dot --code of add",
+        words: &["ets", "dot", "--code"],
+        text: ADD,
+        inputs: b"",
+        reads: Reads::Object,
+        answer: Answer::Text,
+    },
+    Command {
+        name: "upgrade of add",
+        words: &["ets", "upgrade"],
+        text: ADD,
+        inputs: b"",
+        reads: Reads::Object,
+        answer: Answer::Text,
+    },
+    Command {
+        name: "dis of add",
+        words: &["ets", "dis"],
+        text: ADD,
+        inputs: b"",
+        reads: Reads::Object,
+        answer: Answer::Text,
+    },
+    Command {
+        name: "exec of readers",
+        words: &["ets", "exec", "8"],
+        text: READERS,
+        inputs: b"",
+        reads: Reads::Object,
+        answer: Answer::Report,
+    },
+    Command {
+        name: "exec of readers, in rounds",
+        words: &["ets", "exec", "--mode", "rounds", "--elements", "2", "8"],
+        text: READERS,
+        inputs: b"",
+        reads: Reads::Object,
+        answer: Answer::Report,
+    },
+    Command {
+        name: "exec of readers, free",
+        words: &["ets", "exec", "--mode", "free", "--elements", "2", "8"],
+        text: READERS,
+        inputs: b"",
+        reads: Reads::Object,
+        answer: Answer::Report,
+    },
+    Command {
+        name: "profile of add",
+        words: &["ets", "profile", "--elements", "1,2"],
+        text: ADD,
+        inputs: b"2\n3\n",
+        reads: Reads::Text,
+        answer: Answer::Text,
+    },
+    Command {
+        name: "profile --svg of add",
+        words: &["ets", "profile", "--svg"],
+        text: ADD,
+        inputs: b"2\n3\n",
+        reads: Reads::Text,
+        answer: Answer::Text,
+    },
+    Command {
+        name: "trace of readers",
+        words: &["ets", "trace"],
+        text: READERS,
+        inputs: b"8\n",
+        reads: Reads::Text,
+        answer: Answer::Report,
+    },
+    Command {
+        name: "trace of readers, in rounds",
+        words: &["ets", "trace", "--mode", "rounds", "--elements", "2"],
+        text: READERS,
+        inputs: b"8\n",
+        reads: Reads::Text,
+        answer: Answer::Report,
+    },
+    Command {
+        name: "trace of readers, as JSON",
+        words: &["ets", "trace", "--format", "chrome"],
+        text: READERS,
+        inputs: b"8\n",
+        reads: Reads::Text,
+        answer: Answer::Json,
+    },
+    Command {
+        name: "one order of readers",
+        words: &["ets", "orders", "--count", "1"],
+        text: READERS,
+        inputs: b"8\n",
+        reads: Reads::Text,
+        answer: Answer::Report,
+    },
+    Command {
+        name: "three orders of readers",
+        words: &["ets", "orders", "--count", "3", "--elements", "2"],
+        text: READERS,
+        inputs: b"8\n",
+        reads: Reads::Text,
+        answer: Answer::Orders,
+    },
 ];
-
-/// A graph that adds two inputs, and these.
-const ADD_AND_INPUTS: &[u8] =
-    b"etsgraph 1\nblock m 2 1\n- add 0.0 1.0\nout 2.0\nend\nmain m\n2\n3\n";
 
 /// The listing of an object that adds two inputs.
 const ADD_LISTING: &[u8] =

@@ -1,10 +1,10 @@
 //! One command line, in which each growth is refused in turn.
 
-use crate::rows::Row;
+use crate::rows::{Answer, Row};
 use commands::serving::serve;
-use rationed::Rationed;
+use rationed::{Rationed, is_next_refused};
 use rounds::Open;
-use std::alloc::{Allocator, Global};
+use std::alloc::Global;
 use std::fmt;
 use std::sync::Wait;
 use std::thread::Threads;
@@ -32,12 +32,6 @@ impl fmt::Display for Refusals {
     }
 }
 
-/// Whether the next growth is refused.
-fn is_next_refused<A: Allocator>(alloc: A) -> bool {
-    let mut probe: Vec<u64, A> = Vec::new(alloc);
-    probe.push(0).is_err()
-}
-
 /// The answer where growth number `ration`, counted from 1, is refused; and whether there was one growth fewer than that. An
 /// allocator that has refused once grants all growths after it.
 fn rationed_answer<R: Threads + Wait + Sync>(
@@ -59,17 +53,66 @@ fn is_missing(line: &[u8]) -> bool {
     line.starts_with(b"output ") && line.ends_with(b" -")
 }
 
-/// Whether the line stands in the text.
-fn has_line(text: &[u8], wanted: &[u8]) -> bool {
-    text.split(|byte| *byte == b'\n').any(|line| line == wanted)
+/// The line; that of an event without the number, which is another where events before it are missing.
+fn without_number(line: &[u8]) -> &[u8] {
+    let Some(rest) = line.strip_prefix(b"event ") else {
+        return line;
+    };
+    match rest.iter().position(|byte| *byte == b' ') {
+        Some(end) => rest.get(end..).unwrap_or(rest),
+        None => rest,
+    }
 }
 
-/// Whether all outputs and cells that a report with the end `Memory` tells are also in the whole report.
-fn is_part(report: &[u8], whole: &[u8]) -> bool {
-    report
-        .split(|byte| *byte == b'\n')
-        .filter(|line| line.starts_with(b"output ") || line.starts_with(b"cell "))
-        .all(|line| is_missing(line) || has_line(whole, line))
+/// Whether the line stands in the text; that of an event perhaps with another number.
+fn has_line(text: &[u8], wanted: &[u8]) -> bool {
+    text.split(|byte| *byte == b'\n')
+        .any(|line| without_number(line) == without_number(wanted))
+}
+
+/// Whether the line tells something that the whole text tells, too, where it tells anything of the run.
+fn is_known(line: &[u8], whole: &[u8]) -> bool {
+    let tells = [b"output ".as_slice(), b"cell ", b"event "];
+    !tells.iter().any(|word| line.starts_with(*word)) || is_missing(line) || has_line(whole, line)
+}
+
+/// Whether all outputs, cells and events that a report with the end `Memory` tells are also in the whole text.
+fn is_part(text: &[u8], whole: &[u8]) -> bool {
+    text.split(|byte| *byte == b'\n')
+        .all(|line| is_known(line, whole))
+}
+
+/// The line without a comma at its end.
+fn without_comma(line: &[u8]) -> &[u8] {
+    line.strip_suffix(b",").unwrap_or(line)
+}
+
+/// Whether the text is a list in JSON that has only lines of the whole one.
+fn is_json_part(text: &[u8], whole: &[u8]) -> bool {
+    text.ends_with(b"\n]}\n")
+        && text.split(|byte| *byte == b'\n').all(|line| {
+            whole
+                .split(|byte| *byte == b'\n')
+                .any(|wanted| without_comma(wanted) == without_comma(line))
+        })
+}
+
+/// Whether the answer tells that a growth was refused in a run, and nothing of the run that the whole answer does not tell.
+fn is_told(row: &Row<'_>, answer: &Outcome) -> bool {
+    let text = answer.text.as_slice();
+    match row.answer {
+        Answer::Text => false,
+        Answer::Report => {
+            answer.status == 6 && text.ends_with(b"\nend Memory\n") && is_part(text, row.wanted)
+        }
+        Answer::Json => answer.status == 6 && is_json_part(text, row.wanted),
+        Answer::Orders => {
+            answer.status == 1
+                && text.starts_with(b"orders differ\norder 1\n")
+                && has_line(text, b"end Memory")
+                && is_part(text, row.wanted)
+        }
+    }
 }
 
 /// How often a growth is refused before none is, if each refusal is told and the last answer is the whole one. Else an `Err`
@@ -92,10 +135,7 @@ pub fn refuse_each<R: Threads + Wait + Sync>(
         }
         if answer.status == 1 && text == b"refused: memory\n".as_slice() {
             refusals.before = refusals.before.wrapping_add(1);
-        } else if answer.status == 6
-            && text.ends_with(b"\nend Memory\n")
-            && is_part(text, row.wanted)
-        {
+        } else if is_told(row, &answer) {
             refusals.within = refusals.within.wrapping_add(1);
         } else {
             return Err(ration);

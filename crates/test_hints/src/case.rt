@@ -1,4 +1,4 @@
-//! One case: a command line with its input.
+//! One case: command lines with one input.
 
 use commands::serving::serve;
 use hints::{KeepingReader, KeepingWriter, explain};
@@ -14,7 +14,8 @@ use test_pieces::{append, append_repeated, append_word};
 #[derive(Drop)]
 pub struct Case {
     alloc: Global,
-    words: Vec<u8>,
+    /// The command lines, each with a line feed behind it.
+    lines: Vec<u8>,
     input: Vec<u8>,
     /// The bytes that the table gives in place of what the program writes.
     output: Vec<u8>,
@@ -47,18 +48,23 @@ impl Case {
     pub fn new(alloc: Global) -> Case {
         Case {
             alloc,
-            words: Vec::new(alloc),
+            lines: Vec::new(alloc),
             input: Vec::new(alloc),
             output: Vec::new(alloc),
         }
     }
 
-    /// Begins a new case with these words.
-    pub fn begin(&mut self, words: &[u8]) -> Result<(), AllocError> {
-        self.words.clear();
+    /// Begins a new case, without a command line.
+    pub fn begin(&mut self) {
+        self.lines.clear();
         self.input.clear();
         self.output.clear();
-        self.words.extend_from_slice(words)
+    }
+
+    /// Takes these words for a further command line.
+    pub fn add(&mut self, words: &[u8]) -> Result<(), AllocError> {
+        self.lines.extend_from_slice(words)?;
+        Ok(self.lines.push(b'\n')?)
     }
 
     /// Takes one line of the case.
@@ -80,16 +86,14 @@ impl Case {
         Ok(())
     }
 
-    /// Runs the case, if there is one, and writes what was told of it.
-    pub fn try_out<R: Threads + Wait + Sync, W: Write>(
+    /// Runs a command line, and writes what was told of it.
+    fn tell<R: Threads + Wait + Sync, W: Write>(
         &self,
         rt: &R,
+        line: &[u8],
         out: &mut W,
     ) -> io::Result<()> {
-        if self.words.is_empty() {
-            return Ok(());
-        }
-        let words = words_of(self.alloc, &self.words)?;
+        let words = words_of(self.alloc, line)?;
         let words = words.as_slice();
         let mut reader = KeepingReader::new(self.alloc, self.input.as_slice());
         let mut writer = KeepingWriter::new(self.alloc, Vec::new(self.alloc));
@@ -107,9 +111,6 @@ impl Case {
             writer.write_all(&self.output)?;
         }
         let output = writer.kept().unwrap_or(b"");
-        out.write_all(b"$ ")?;
-        out.write_all(&self.words)?;
-        out.write_all(b"\n")?;
         out.write_all(telling_line(output))?;
         out.write_all(b"\n")?;
         let hint = if self.output.is_empty() {
@@ -118,9 +119,39 @@ impl Case {
             explain(self.alloc, words, Some(self.input.as_slice()), output)?
         };
         match hint {
-            Some(hint) => hint.write(out)?,
-            None => out.write_all(b"no hint\n")?,
+            Some(hint) => hint.write(out),
+            None => out.write_all(b"no hint\n"),
         }
+    }
+
+    /// Runs each command line of the case, and writes what was told: once for all that follow one another and are told the
+    /// same.
+    pub fn try_out<R: Threads + Wait + Sync, W: Write>(
+        &self,
+        rt: &R,
+        out: &mut W,
+    ) -> io::Result<()> {
+        let mut told = Vec::new(self.alloc);
+        let lines = self.lines.strip_suffix(b"\n".as_slice());
+        let Some(lines) = lines else {
+            return Ok(());
+        };
+        for line in lines.split(|byte| *byte == b'\n') {
+            let mut text = Vec::new(self.alloc);
+            self.tell(rt, line, &mut text)?;
+            if told.is_empty() {
+                out.write_all(b"$ ")?;
+            } else if told == text {
+                out.write_all(b"& ")?;
+            } else {
+                out.write_all(&told)?;
+                out.write_all(b"\n$ ")?;
+            }
+            out.write_all(line)?;
+            out.write_all(b"\n")?;
+            told = text;
+        }
+        out.write_all(&told)?;
         out.write_all(b"\n")
     }
 }

@@ -1,6 +1,6 @@
 //! What `ets` says on standard error of many inputs: a hint for each cause. The table is standard input. Its lines:
 //!
-//! - `$ WORDS` begins a case, and is its command line;
+//! - `$ WORDS` begins a case, and is its command line; `& WORDS` is a further command line on the same input;
 //! - `|LINE` is a line of its input, and `!LINE` a line without its end;
 //! - `*FIRST LAST PIECE` is the piece, once for each number from FIRST to LAST;
 //! - `@DIGITS` is a word of its input, of 16 hexadecimal digits, in 8 bytes, the lowest first;
@@ -8,7 +8,8 @@
 //! - `# WORDS` is a comment.
 //!
 //! In a line or a piece `%` is the number (in a line 0), and `\HH` the byte that these two hexadecimal digits are. For each
-//! case the program writes the words, the line of the output that tells what happened, and the hint.
+//! command line the program writes the words, the line of the output that tells what happened, and the hint; these once for
+//! all command lines of a case that follow one another and are told the same, of which all but the first have `&`.
 #![tactic(auto)]
 
 mod case;
@@ -27,8 +28,10 @@ fn main(rt: HostRuntime) -> io::Result<()> {
         match line {
             [b'$', b' ', words @ ..] => {
                 case.try_out(&rt, &mut writer)?;
-                case.begin(words)?;
+                case.begin();
+                case.add(words)?;
             }
+            [b'&', b' ', words @ ..] => case.add(words)?,
             _ => case.take(line)?,
         }
     }

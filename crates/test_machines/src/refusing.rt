@@ -10,7 +10,7 @@ use crate::words::Words;
 use element::lane::Stepped;
 use loaded::Loaded;
 use object_view::Object;
-use rationed::Rationed;
+use rationed::{Rationed, is_next_refused};
 use schedule::config::{Config, StartFault};
 use schedule::halt::Halt;
 use schedule::machine::Machine;
@@ -197,7 +197,7 @@ struct Counts {
     report: u64,
 }
 
-/// Refuses one growth after another, until none is refused; `None` where a run went wrong.
+/// Refuses one growth after another, until none is refused; `None` where a run went wrong, or does not tell a refusal.
 fn refusals(part: &RefusingPart, alloc: Global, way: Way) -> Option<Counts> {
     let mut counts = Counts {
         start: 0,
@@ -206,7 +206,12 @@ fn refusals(part: &RefusingPart, alloc: Global, way: Way) -> Option<Counts> {
     };
     for number in 1..1000 {
         let heap = Rationed::new(alloc, number);
-        match run_on(part, &heap, way)? {
+        let refused = run_on(part, &heap, way)?;
+        let is_over = is_next_refused(&heap);
+        if is_over != matches!(refused, Refused::Nowhere) {
+            return None;
+        }
+        match refused {
             Refused::AtTheStart => counts.start = counts.start.wrapping_add(1),
             Refused::InTheRun => counts.run = counts.run.wrapping_add(1),
             Refused::InTheReport => counts.report = counts.report.wrapping_add(1),

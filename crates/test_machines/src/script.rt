@@ -26,6 +26,7 @@ use std::thread::Threads;
 /// Plays the lines of a section whose first line has made a part, or has found no memory for it.
 fn play_made<P: Part + Drop>(
     made: Option<P>,
+    heap: Heap<'_>,
     first: &Line<'_>,
     rest: &[Line<'_>],
     tally: &mut Tally,
@@ -33,7 +34,7 @@ fn play_made<P: Part + Drop>(
     match made {
         Some(mut part) => {
             tally.take(first, "")?;
-            play(&mut part, rest, tally)
+            play(&mut part, heap, rest, tally)
         }
         None => {
             tally.take(first, "no memory")?;
@@ -69,7 +70,7 @@ fn play_run(
     match Machine::start(heap, &mut store, &code, &inputs, config) {
         Ok(machine) => {
             let part = RunPart::new(machine, elements);
-            play_made(Some(part), first, rest, tally).ok()
+            play_made(Some(part), heap, first, rest, tally).ok()
         }
         Err(fault) => tally.take(first, fault_of(fault)).ok(),
     }
@@ -85,10 +86,10 @@ fn play_part<R: Threads + AllocGlobal + Sync>(
 ) -> Option<()> {
     let mut words = Words::of(first.operation);
     match words.word() {
-        "queue" => play_made(Some(QueuePart::new(heap)), first, rest, tally).ok(),
-        "packing" => play_made(Some(PackingPart), first, rest, tally).ok(),
-        "instructions" => play_made(Some(FiringPart), first, rest, tally).ok(),
-        "slots" => play_made(SlotsPart::new(heap).ok(), first, rest, tally).ok(),
+        "queue" => play_made(Some(QueuePart::new(heap)), heap, first, rest, tally).ok(),
+        "packing" => play_made(Some(PackingPart), heap, first, rest, tally).ok(),
+        "instructions" => play_made(Some(FiringPart), heap, first, rest, tally).ok(),
+        "slots" => play_made(SlotsPart::new(heap).ok(), heap, first, rest, tally).ok(),
         "threads" => {
             let mut answer = String::new(tally.alloc);
             push_filled(rt, &mut answer).ok()?;
@@ -96,27 +97,27 @@ fn play_part<R: Threads + AllocGlobal + Sync>(
         }
         "frames" => {
             let made = FramesPart::new(heap, words.number()?);
-            play_made(made, first, rest, tally).ok()
+            play_made(made, heap, first, rest, tally).ok()
         }
         "cells" => {
             let cells = words.number()?;
             let element = words.number()?;
             let elements = words.number()?;
             let made = CellsPart::new(heap, cells, element, elements);
-            play_made(made, first, rest, tally).ok()
+            play_made(made, heap, first, rest, tally).ok()
         }
         "object" => {
             let made = LoadedPart::new(heap, words.word());
-            play_made(made, first, rest, tally).ok()
+            play_made(made, heap, first, rest, tally).ok()
         }
         "order" => {
             let part = OrderPart::new(heap, rt.alloc(), words.place()?);
-            play_made(Some(part), first, rest, tally).ok()
+            play_made(Some(part), heap, first, rest, tally).ok()
         }
         "run" => play_run(heap, &mut words, first, rest, tally),
         "refusals" => {
             let part = RefusingPart::new(rt.alloc(), &mut words)?;
-            play_made(Some(part), first, rest, tally).ok()
+            play_made(Some(part), heap, first, rest, tally).ok()
         }
         _ => None,
     }

@@ -7,11 +7,14 @@ ghost use Rattle.test_meshes.specs.Playing.{Holds};
 
 use crate::step::{commit, live, post, take};
 use mesh::{Mesh, Seat};
-use rationed::Rationed;
+use rationed::{Rationed, is_next_refused};
 use std::alloc::Global;
 use std::process::Abort;
 use std::test::Fail;
 use tags::token::{Port, To, Token, Word};
+
+/// Memory that counts how often it is asked: `Mesh::new` alone takes some.
+type Heap<'h> = &'h Rationed<Global>;
 
 fn token(frame: u32, number: u32) -> Token
     requires { frame < 2 }
@@ -28,15 +31,15 @@ fn token(frame: u32, number: u32) -> Token
 }
 
 /// Element 0 spends t to make u and v, and posts u. Then the box is full, so v comes back.
-fn spend_and_post(
+fn spend_and_post<'h>(
     rt: &impl Abort,
-    alloc: Global,
-    mesh: &Mesh<Global>,
-    seat: &mut Seat<Global>,
+    heap: Heap<'h>,
+    mesh: &Mesh<Heap<'h>>,
+    seat: &mut Seat<Heap<'h>>,
     t: &Token,
     u: &Token,
     v: &Token,
-) -> Vec<Token>
+) -> Vec<Token, Heap<'h>>
     requires mesh { mesh.now.elements ≡ 2 }
     requires seat { (seat.old.own.element ≡ 0) × (created seat.old.own.deeds ≡ 0) × Holds mesh.now seat.old (t.now ∷ []) }
     requires tokens { (element_of 2 t.now.to ≡ 0) × (element_of 2 u.now.to ≡ 1) × (element_of 2 v.now.to ≡ 1) }
@@ -46,22 +49,28 @@ fn spend_and_post(
     let spent = [*t];
     let made = [*u, *v];
     let later = [*v];
+    let first = vec![in heap; *u].expect(rt, "memory");
+    let second = vec![in heap; *v].expect(rt, "memory");
+    let left = heap.left();
     assert_eq!(rt; live(mesh, seat, &spent), 1);
     commit(mesh, seat, &spent, &made, &[]);
     assert_eq!(rt; live(mesh, seat, &made), 2);
-    let first = vec![in alloc; *u].expect(rt, "memory");
     let Ok(()) = post(mesh, seat, 1, first, &later) else {
         panic!(rt; "the box is empty")
     };
-    let second = vec![in alloc; *v].expect(rt, "memory");
-    match post(mesh, seat, 1, second, &[]) {
-        Err(back) => back,
-        Ok(()) => panic!(rt; "the box is full"),
-    }
+    let Err(back) = post(mesh, seat, 1, second, &[]) else {
+        panic!(rt; "the box is full")
+    };
+    assert_eq!(rt; heap.left(), left);
+    back
 }
 
 /// Element 1 takes what element 0 posted. Then the box is empty.
-fn take_one(rt: &impl Abort, mesh: &Mesh<Global>, seat: &mut Seat<Global>) -> Vec<Token>
+fn take_one<'h>(
+    rt: &impl Abort,
+    mesh: &Mesh<Heap<'h>>,
+    seat: &mut Seat<Heap<'h>>,
+) -> Vec<Token, Heap<'h>>
     requires mesh { mesh.now.elements ≡ 2 }
     requires seat { (seat.old.own.element ≡ 1) × (created seat.old.own.deeds ≡ 0) × Holds mesh.now seat.old [] }
     ensures seat { (seat.new.own.element ≡ 1) × (created seat.new.own.deeds ≡ 0) × Holds mesh.now seat.new result.items }
@@ -75,12 +84,12 @@ fn take_one(rt: &impl Abort, mesh: &Mesh<Global>, seat: &mut Seat<Global>) -> Ve
 }
 
 /// Element 1 takes the next bundle too, and spends both.
-fn take_and_spend(
+fn take_and_spend<'h>(
     rt: &impl Abort,
-    mesh: &Mesh<Global>,
-    seat: &mut Seat<Global>,
+    mesh: &Mesh<Heap<'h>>,
+    seat: &mut Seat<Heap<'h>>,
     first: &[Token],
-) -> Vec<Token>
+) -> Vec<Token, Heap<'h>>
     requires mesh { mesh.now.elements ≡ 2 }
     requires seat { (seat.old.own.element ≡ 1) × (created seat.old.own.deeds ≡ 0) × Holds mesh.now seat.old first.now }
     requires address { AllTo 2 1 first.now }
@@ -96,27 +105,29 @@ fn take_and_spend(
 }
 
 /// Joins both seats.
-fn join_both(
+fn join_both<'h>(
     rt: &impl Abort,
-    alloc: Global,
-    mesh: &Mesh<Global>,
-    zero: Seat<Global>,
-    one: Seat<Global>,
+    heap: Heap<'h>,
+    mesh: &Mesh<Heap<'h>>,
+    zero: Seat<Heap<'h>>,
+    one: Seat<Heap<'h>>,
 )
     requires mesh { mesh.now.elements ≡ 2 }
     requires zero { (zero.own.element ≡ 0) × (zero.mesh ≡ mesh.now) × (zero.joined ≡ []) }
     requires one { (one.own.element ≡ 1) × (one.mesh ≡ mesh.now) × (one.joined ≡ []) }
 {
-    let seats = vec![in alloc; zero, one].expect(rt, "memory");
+    let seats = vec![in heap; zero, one].expect(rt, "memory");
+    let left = heap.left();
     let _both = mesh.join_seats(seats);
+    assert_eq!(rt; heap.left(), left);
 }
 
 /// The seats of elements 0 and 1.
-fn both_seats(
+fn both_seats<'h>(
     rt: &impl Abort,
-    mesh: &Mesh<Global>,
-    mut seats: Vec<Seat<Global>>,
-) -> (Seat<Global>, Seat<Global>)
+    mesh: &Mesh<Heap<'h>>,
+    mut seats: Vec<Seat<Heap<'h>>, Heap<'h>>,
+) -> (Seat<Heap<'h>>, Seat<Heap<'h>>)
     requires seats { (length seats.items ≡ 2) × AreFresh mesh.now seats.items }
     ensures zero { result.0 ≡ fresh_seat mesh.now 0 }
     ensures one { result.1 ≡ fresh_seat mesh.now 1 }
@@ -130,7 +141,13 @@ fn both_seats(
     (zero, one)
 }
 
-fn the_row(rt: &impl Abort, alloc: Global, mesh: &Mesh<Global>, seats: Vec<Seat<Global>>, t: &Token)
+fn the_row<'h>(
+    rt: &impl Abort,
+    heap: Heap<'h>,
+    mesh: &Mesh<Heap<'h>>,
+    seats: Vec<Seat<Heap<'h>>, Heap<'h>>,
+    t: &Token,
+)
     requires mesh { (mesh.now.elements ≡ 2) × (mesh.now.start ≡ t.now ∷ []) × (element_of 2 t.now.to ≡ 0) }
     requires seats { (length seats.items ≡ 2) × AreFresh mesh.now seats.items }
 {
@@ -139,8 +156,9 @@ fn the_row(rt: &impl Abort, alloc: Global, mesh: &Mesh<Global>, seats: Vec<Seat<
     let v = token(1, 2);
     let only_u = [token(1, 1)];
     let only_v = [token(1, 2)];
-    let back = spend_and_post(rt, alloc, mesh, &mut zero, t, &u, &v);
+    let back = spend_and_post(rt, heap, mesh, &mut zero, t, &u, &v);
     assert_eq!(rt; back.as_slice(), only_v.as_slice());
+    let left = heap.left();
     let first = take_one(rt, mesh, &mut one);
     assert_eq!(rt; first.as_slice(), only_u.as_slice());
     let Ok(()) = post(mesh, &mut zero, 1, back, &[]) else {
@@ -153,33 +171,41 @@ fn the_row(rt: &impl Abort, alloc: Global, mesh: &Mesh<Global>, seats: Vec<Seat<
     assert!(rt; mesh.stop(&mut zero, 3));
     assert!(rt; !mesh.stop(&mut one, 5));
     assert_eq!(rt; mesh.stopped(&mut one), 3);
-    join_both(rt, alloc, mesh, zero, one);
+    assert_eq!(rt; heap.left(), left);
+    join_both(rt, heap, mesh, zero, one);
 }
 
-fn open_and_play(rt: &impl Abort, alloc: Global, t: &Token)
+fn open_and_play<'h>(rt: &impl Abort, heap: Heap<'h>, t: &Token)
     requires { element_of 2 t.now.to ≡ 0 }
 {
     let start = [*t];
-    let (mesh, seats) = Mesh::new(alloc, 2, &start).expect(rt, "memory");
-    the_row(rt, alloc, &mesh, seats, t);
+    let (mesh, seats) = Mesh::new(heap, 2, &start).expect(rt, "memory");
+    the_row(rt, heap, &mesh, seats, t);
 }
 
 #[test]
 fn the_worked_row(rt: HostRuntime) {
     let t = token(0, 0);
-    open_and_play(&rt, rt.alloc(), &t);
+    let heap = Rationed::new(rt.alloc(), 0);
+    open_and_play(&rt, &heap, &t);
 }
 
+/// Each growth is refused in turn, until none is.
 #[test]
 fn each_growth_refused(rt: HostRuntime) -> Result<(), Fail> {
     let start = [token(0, 0), token(1, 1)];
-    let mut refused = 0u32;
-    for at in 1..20u64 {
+    let mut refused = 0u64;
+    let mut whole = false;
+    for at in 1..10_000u64 {
         let heap = Rationed::new(rt.alloc(), at);
-        if Mesh::new(&heap, 16, &start).is_err() {
-            refused = refused.wrapping_add(1);
+        let is_made = Mesh::new(&heap, 16, &start).is_ok();
+        whole = is_next_refused(&heap);
+        assert_eq!(rt; is_made, whole, "{at}");
+        if whole {
+            break;
         }
+        refused = refused.wrapping_add(1);
     }
-    assert!(rt; 3 < refused && refused < 19);
+    assert!(rt; whole && refused > 0);
     Ok(())
 }

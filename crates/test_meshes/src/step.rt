@@ -5,14 +5,14 @@ ghost use Rattle.mesh.specs.Seats.{AllTo, Has, Commits};
 ghost use Rattle.test_meshes.specs.Playing.{Holds};
 
 use mesh::{Ask, Mesh, Seat};
-use std::alloc::Global;
+use std::alloc::Allocator;
 use std::marker::Brand;
 use tags::token::Token;
 
 /// A commit by counts: the mesh gets no list.
-fn commit_counts<J: Ask>(
-    mesh: &Mesh<Global>,
-    seat: &mut Seat<Global>,
+fn commit_counts<A: Allocator, J: Ask>(
+    mesh: &Mesh<A>,
+    seat: &mut Seat<A>,
     spent: &[Token],
     made: &[Token],
 )
@@ -27,9 +27,9 @@ fn commit_counts<J: Ask>(
     mesh.commit_by::<J>(seat, spent.len() as u64, made.len() as u64);
 }
 
-pub fn commit(
-    mesh: &Mesh<Global>,
-    seat: &mut Seat<Global>,
+pub fn commit<A: Allocator>(
+    mesh: &Mesh<A>,
+    seat: &mut Seat<A>,
     spent: &[Token],
     made: &[Token],
     rest: &[Token],
@@ -43,16 +43,16 @@ pub fn commit(
     ensures made { created seat.new.own.deeds ≡ created seat.old.own.deeds + length made.now }
 {
     let _ = rest;
-    commit_counts::<Brand>(mesh, seat, spent, made);
+    commit_counts::<A, Brand>(mesh, seat, spent, made);
 }
 
-pub fn post(
-    mesh: &Mesh<Global>,
-    seat: &mut Seat<Global>,
+pub fn post<A: Allocator>(
+    mesh: &Mesh<A>,
+    seat: &mut Seat<A>,
     to: u32,
-    bundle: Vec<Token>,
+    bundle: Vec<Token, A>,
     rest: &[Token],
-) -> Result<(), Vec<Token>>
+) -> Result<(), Vec<Token, A>>
     requires to { to < mesh.now.elements }
     requires address { AllTo mesh.now.elements to bundle.items }
     requires holds { Holds mesh.now seat.old (bundle.items ++ rest.now) }
@@ -67,12 +67,12 @@ pub fn post(
     }
 }
 
-pub fn take(
-    mesh: &Mesh<Global>,
-    seat: &mut Seat<Global>,
+pub fn take<A: Allocator>(
+    mesh: &Mesh<A>,
+    seat: &mut Seat<A>,
     from: u32,
     rest: &[Token],
-) -> Option<Vec<Token>>
+) -> Option<Vec<Token, A>>
     requires from { from < mesh.now.elements }
     requires holds { Holds mesh.now seat.old rest.now }
     ensures element { (seat.new.own.element ≡ seat.old.own.element) × (created seat.new.own.deeds ≡ created seat.old.own.deeds) }
@@ -86,7 +86,7 @@ pub fn take(
     }
 }
 
-pub fn live(mesh: &Mesh<Global>, seat: &mut Seat<Global>, rest: &[Token]) -> u64
+pub fn live<A: Allocator>(mesh: &Mesh<A>, seat: &mut Seat<A>, rest: &[Token]) -> u64
     requires holds { Holds mesh.now seat.old rest.now }
     ensures element { (seat.new.own.element ≡ seat.old.own.element) × (created seat.new.own.deeds ≡ created seat.old.own.deeds) }
     ensures holds { Holds mesh.now seat.new rest.now }

@@ -4,7 +4,7 @@ use code::{CodeBlock, Plan};
 use expansion::expand;
 use graph_check::check;
 use graph_file::read;
-use rationed::Rationed;
+use rationed::{Rationed, is_next_refused};
 use semantics::program::{Mark, Op};
 use std::alloc::{AllocError, Allocator, Global};
 use std::process::Abort;
@@ -92,10 +92,18 @@ fn plans_of_small_graphs(rt: HostRuntime) -> Result<(), Fail> {
 #[test]
 fn refuses_each_growth(rt: HostRuntime) -> Result<(), Fail> {
     let plenty = Rationed::new(rt.alloc(), 0);
-    for at in 1..300u64 {
+    let mut refused = 0u64;
+    let mut whole = false;
+    for at in 1..10_000u64 {
         let scarce = Rationed::new(rt.alloc(), at);
-        let plan = plan_of(&rt, &plenty, &scarce, BOTH);
-        assert_eq!(rt; plan.is_err(), at <= 39);
+        let is_made = plan_of(&rt, &plenty, &scarce, BOTH).is_ok();
+        whole = is_next_refused(&scarce);
+        assert_eq!(rt; is_made, whole, "{at}");
+        if whole {
+            break;
+        }
+        refused = refused.wrapping_add(1);
     }
+    assert!(rt; whole && refused > 0);
     Ok(())
 }

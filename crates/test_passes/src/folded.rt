@@ -3,7 +3,7 @@
 use code::{Instr, Plan};
 use folding::fold;
 use operators::Binary;
-use rationed::Rationed;
+use rationed::{Rationed, is_next_refused};
 use semantics::program::{Mark, Op};
 use std::alloc::{AllocError, Allocator};
 use std::test::Fail;
@@ -249,29 +249,31 @@ fn literals_become_operands(rt: HostRuntime) -> Result<(), Fail> {
     Ok(())
 }
 
-/// Makes a plan, with 23 growths, and folds it.
-fn fold_one<A: Allocator + Clone>(alloc: A) -> Result<u32, AllocError> {
-    let lines = [
-        (0, Op::Copy, 0, [(3, L)].as_slice(), NONE),
-        (1, Op::Copy, 0, [(1, L), (2, L)].as_slice(), NONE),
-        (2, ONE, 0, [(1, R)].as_slice(), NONE),
-        (3, ADD, 0, NONE, NONE),
-    ];
-    let plan = fold(alloc.clone()?, &lines_plan(alloc, 1, &lines)?)?;
-    Ok(plan.plain)
-}
+/// A sum with a literal, which becomes an operand.
+const SUM: [Line; 4] = [
+    (0, Op::Copy, 0, &[(3, L)], NONE),
+    (1, Op::Copy, 0, &[(1, L), (2, L)], NONE),
+    (2, ONE, 0, &[(1, R)], NONE),
+    (3, ADD, 0, NONE, NONE),
+];
 
+/// Each growth of the pass is refused in turn: the answer is the error, and the plan once no growth is refused.
 #[test]
 fn refuses_each_growth(rt: HostRuntime) -> Result<(), Fail> {
-    let mut first = 0u64;
-    for at in 1..100u64 {
-        let heap = Rationed::new(rt.alloc(), at);
-        let refused = fold_one(&heap).is_err();
-        if !refused && first == 0 {
-            first = at;
+    let mut refused = 0u64;
+    let mut whole = false;
+    for at in 1..10_000u64 {
+        let plenty = Rationed::new(rt.alloc(), 0);
+        let scarce = Rationed::new(rt.alloc(), at);
+        let plan = lines_plan(&plenty, 1, &SUM)?;
+        let folded = fold(&scarce, &plan);
+        whole = is_next_refused(&scarce);
+        assert_eq!(rt; folded.is_ok(), whole, "{at}");
+        if whole {
+            break;
         }
-        assert_eq!(rt; refused, first == 0);
+        refused = refused.wrapping_add(1);
     }
-    assert!(rt; first > 20);
+    assert!(rt; whole && refused > 0);
     Ok(())
 }

@@ -2,7 +2,7 @@
 
 use code::{CodeBlock, Instr, Plan, Program};
 use fanout::narrow;
-use rationed::Rationed;
+use rationed::{Rationed, is_next_refused};
 use semantics::program::{Mark, Op};
 use std::alloc::{AllocError, Allocator};
 use std::test::Fail;
@@ -286,23 +286,23 @@ fn many_blocks_are_narrowed(rt: HostRuntime) -> Result<(), Fail> {
     Ok(())
 }
 
+/// Each growth of the pass is refused in turn: the answer is the error, and the plan once no growth is refused.
 #[test]
 fn each_growth_is_refused_in_turn(rt: HostRuntime) -> Result<(), Fail> {
-    let mut refused: u32 = 0;
-    let mut done: u32 = 0;
-    for growth in 1..200 {
-        let heap = Rationed::new(rt.alloc(), growth);
-        if let Ok(plan) = plan_of(&heap, 0, &LINKED, true) {
-            match narrow(&heap, &plan) {
-                Ok(narrowed) => {
-                    assert_eq!(rt; narrowed.program.blocks.len(), 2);
-                    done = done.wrapping_add(1);
-                }
-                Err(_) => refused = refused.wrapping_add(1),
-            }
+    let mut refused = 0u64;
+    let mut whole = false;
+    for growth in 1..10_000u64 {
+        let plenty = Rationed::new(rt.alloc(), 0);
+        let scarce = Rationed::new(rt.alloc(), growth);
+        let plan = plan_of(&plenty, 0, &LINKED, true)?;
+        let narrowed = narrow(&scarce, &plan);
+        whole = is_next_refused(&scarce);
+        assert_eq!(rt; narrowed.is_ok(), whole, "{growth}");
+        if whole {
+            break;
         }
+        refused = refused.wrapping_add(1);
     }
-    assert!(rt; refused > 10);
-    assert!(rt; done > 10);
+    assert!(rt; whole && refused > 0);
     Ok(())
 }

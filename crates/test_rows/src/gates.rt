@@ -2,7 +2,8 @@
 
 use command_line::Mode;
 use driver::emulation::emulate;
-use rationed::Rationed;
+use driver::fault::Fault;
+use rationed::{Rationed, is_next_refused};
 use rounds::{Gate, Open};
 use schedule::config::Config;
 use schedule::report::Report;
@@ -56,15 +57,10 @@ impl Gate for Meeting {
 /// The modes whose elements are threads.
 const MODES: [Mode; 2] = [Mode::Rounds, Mode::Free];
 
-/// The number up to which a run sums that is made again and again, and the sum. It is smaller for free elements: each of them
-/// has to get its turn for every token that comes to it.
-fn sum_in(mode: Mode) -> (i64, i64) {
-    if mode == Mode::Free {
-        (5, 15)
-    } else {
-        (20, 210)
-    }
-}
+/// The number up to which a run sums that is made again and again, and the sum.
+const LAST: i64 = 20;
+
+const SUM: i64 = 210;
 
 /// The report of a run in this mode.
 fn report_in<R: Threads + Wait + Sync, A: Allocator + Clone + Send + Sync, G: Gate + Sync>(
@@ -103,7 +99,7 @@ fn two_elements_meet(rt: HostRuntime) -> Result<(), Fail> {
     Ok(())
 }
 
-/// Counts how often it is entered, and lets `left` more blocks begin.
+/// Counts how often it is entered, and lets `left` more blocks begin. Once it has let none begin, `left` is more than it ever was.
 #[derive(Drop)]
 struct Stopper {
     turns: AtomicU64,
@@ -167,6 +163,11 @@ fn each_turn_asks(rt: HostRuntime) -> Result<(), Fail> {
     Ok(())
 }
 
+/// Whether these are the outputs of a run that was cut off: the sum, or none yet.
+fn is_none_or_sum(outputs: &[Option<Value>]) -> bool {
+    outputs == [None].as_slice() || outputs == [Some(Value::Int(SUM))].as_slice()
+}
+
 /// Stops a run at question number `count`, if the run comes that far. Says whether the run came to rest.
 fn rests_after<R: Abort + Threads + Wait + Sync>(
     rt: &R,
@@ -175,22 +176,24 @@ fn rests_after<R: Abort + Threads + Wait + Sync>(
     count: u64,
 ) -> Result<bool, Fail> {
     let gate = Stopper::after(count);
-    let (last, sum) = sum_in(mode);
     let report = report_in(
         rt,
         alloc,
         SUM_LOOP,
-        [last].as_slice(),
+        [LAST].as_slice(),
         config(2, 4),
         mode,
         &gate,
     )
     .ok_or("a report")?;
+    let was_stopped = gate.left.load(Ordering::SeqCst) > count;
+    assert_eq!(rt; was_stopped, report.end == End::Stop, "{count}");
     if report.end == End::Rest {
-        assert!(rt; report.outputs.as_slice() == [Some(Value::Int(sum))].as_slice());
+        assert!(rt; report.outputs.as_slice() == [Some(Value::Int(SUM))].as_slice());
         return Ok(true);
     }
     assert_eq!(rt; report.end, End::Stop, "{count}");
+    assert!(rt; is_none_or_sum(report.outputs.as_slice()), "{count}");
     if count == 0 {
         assert!(rt; report.outputs.as_slice() == [None].as_slice());
         assert_eq!(rt; report.events.len(), 0);
@@ -198,20 +201,30 @@ fn rests_after<R: Abort + Threads + Wait + Sync>(
     Ok(false)
 }
 
-/// Every run ends stopped or at rest. The first one has no output, and one run comes to rest.
-#[test]
-fn stopped_at_each_question(rt: HostRuntime) -> Result<(), Fail> {
-    for mode in MODES {
-        let mut rests = false;
-        for count in 0..10_000u64 {
-            rests = rests_after(&rt, rt.alloc(), mode, count)?;
-            if rests {
-                break;
-            }
+/// Every run ends stopped or at rest. The first one has no output, and one run comes to rest after others were stopped.
+fn stops_at_each_question<R: Abort + Threads + Wait + Sync>(
+    rt: &R,
+    alloc: Global,
+    mode: Mode,
+) -> Result<(), Fail> {
+    for count in 0..10_000u64 {
+        if rests_after(rt, alloc, mode, count)? {
+            assert!(rt; count > 0);
+            return Ok(());
         }
-        assert!(rt; rests);
     }
+    assert!(rt; false, "no run came to rest");
     Ok(())
+}
+
+#[test]
+fn stopped_at_each_question_in_rounds(rt: HostRuntime) -> Result<(), Fail> {
+    stops_at_each_question(&rt, rt.alloc(), Mode::Rounds)
+}
+
+#[test]
+fn stopped_at_each_question_free(rt: HostRuntime) -> Result<(), Fail> {
+    stops_at_each_question(&rt, rt.alloc(), Mode::Free)
 }
 
 /// Both elements meet a second store in one round. The end names the element with the lower number.
@@ -231,46 +244,63 @@ fn the_first_element_names_the_end(rt: HostRuntime) -> Result<(), Fail> {
     Ok(())
 }
 
-/// The end and the first output of a run in threads whose memory may run out; `None` where there is no report.
-fn with_ration<R: Threads + Wait + Sync>(
-    rt: &R,
-    heap: &Rationed<Global>,
-    mode: Mode,
-) -> Option<(End, Option<Value>)> {
-    let (last, _sum) = sum_in(mode);
-    let report = report_in(
-        rt,
-        heap,
-        SUM_LOOP,
-        [last].as_slice(),
-        config(2, 64),
-        mode,
-        &Open,
-    )?;
-    Some((report.end, *report.outputs.as_slice().first()?))
+/// What came of a run in threads whose memory may run out.
+#[derive(Clone, Copy, Debug, PartialEq, Eq)]
+enum Ended {
+    /// A report has this end and this first output.
+    Reported(End, Option<Value>),
+    /// There is no report, for want of memory.
+    Refused,
+    /// There is no report, for another reason, or it has no output.
+    Otherwise,
 }
 
+fn with_ration<R: Threads + Wait + Sync>(rt: &R, heap: &Rationed<Global>, mode: Mode) -> Ended {
+    let inputs = [LAST];
+    match emulate(
+        heap,
+        SUM_LOOP,
+        inputs.as_slice(),
+        config(2, 64),
+        mode,
+        rt,
+        &Open,
+    ) {
+        Ok(report) => match report.outputs.as_slice().first() {
+            Some(output) => Ended::Reported(report.end, *output),
+            None => Ended::Otherwise,
+        },
+        Err(Fault::Memory) => Ended::Refused,
+        Err(_fault) => Ended::Otherwise,
+    }
+}
+
+/// A growth is refused in each run but the last, and each says so: in place of its report, or by the report's end.
 #[test]
 fn each_growth_refused(rt: HostRuntime) -> Result<(), Fail> {
+    let sum = Some(Value::Int(SUM));
     for mode in MODES {
-        let (_last, sum) = sum_in(mode);
+        let mut before = 0u64;
+        let mut within = 0u64;
         let mut whole = false;
         for at in 1..5000u64 {
             let heap = Rationed::new(rt.alloc(), at);
-            match with_ration(&rt, &heap, mode) {
-                Some((End::Rest, output)) => {
-                    assert_eq!(rt; output, Some(Value::Int(sum)));
-                    whole = true;
-                    break;
-                }
-                Some((end, output)) => {
-                    assert_eq!(rt; end, End::Memory, "{at}");
-                    assert!(rt; output == None || output == Some(Value::Int(sum)), "{at}");
-                }
-                None => {}
+            let ended = with_ration(&rt, &heap, mode);
+            if is_next_refused(&heap) {
+                assert_eq!(rt; ended, Ended::Reported(End::Rest, sum), "{at}");
+                whole = true;
+                break;
+            }
+            if ended == Ended::Refused {
+                before = before.wrapping_add(1);
+            } else {
+                let is_told = ended == Ended::Reported(End::Memory, None)
+                    || ended == Ended::Reported(End::Memory, sum);
+                assert!(rt; is_told, "{at}: {ended:?}");
+                within = within.wrapping_add(1);
             }
         }
-        assert!(rt; whole);
+        assert!(rt; whole && before > 0 && within > 0);
     }
     Ok(())
 }

@@ -1,7 +1,8 @@
 //! Objects that no compiler made. They run on one element and on many, in many orders.
 
-ghost use Rattle.std.specs.Prelude.{◌≡◌, ◌<◌, ℕ, All, IfOk};
+ghost use Rattle.std.specs.Prelude.{◌≡◌};
 
+use crate::lists::picks;
 use command_line::Mode;
 use driver::emulation::{emulate_object, emulate_object_picks};
 use driver::fault::Fault;
@@ -47,30 +48,6 @@ fn config(elements: u32) -> Config
         steps: 1_000_000,
         turn: 64,
     }
-}
-
-/// The element that a pick names.
-fn element_of(number: u64, elements: u32) -> u32
-    requires { 0 < elements }
-    ensures { result < elements }
-{
-    (number % elements as u64) as u32
-}
-
-/// Thirty thousand picks, in an order that the seed chooses.
-fn picks(alloc: Global, elements: u32, seed: u64) -> Result<Vec<(u32, u64)>, AllocError>
-    requires { 0 < elements }
-    ensures { IfOk result (λ v. All (λ pick. pick.0 < elements) v.items) }
-{
-    let mut picks = Vec::with_capacity(alloc, 30_000)?;
-    for i in 0..30_000u64 {
-        let element = element_of(seed.wrapping_add(i.wrapping_mul(5)), elements);
-        picks.push((
-            element,
-            seed.wrapping_mul(31).wrapping_add(i.wrapping_mul(17)),
-        ))?;
-    }
-    Ok(picks)
 }
 
 /// The object, with other bytes at some places.
@@ -151,7 +128,7 @@ fn run_object<R: Threads + Wait + Sync>(
     emulate_object(alloc, object, inputs, config(elements), mode, rt, &Open)
 }
 
-/// Runs the object on 1, 2, 7 and 16 elements: each takes its oldest token in turn, in rounds, and in ten orders of picks.
+/// Runs the object on 1, 2, 7 and 16 elements: each takes its oldest token in turn, in rounds, and free; and in ten orders of picks.
 fn expect_always<R: Abort + Threads + Wait + Sync>(
     rt: &R,
     alloc: Global,
@@ -160,7 +137,7 @@ fn expect_always<R: Abort + Threads + Wait + Sync>(
     wanted: Wanted<'_>,
 ) -> Result<(), Fail> {
     for elements in SIZES {
-        for mode in [Mode::One, Mode::Rounds] {
+        for mode in [Mode::One, Mode::Rounds, Mode::Free] {
             let report = run_object(rt, alloc, object, inputs, elements, mode).map_err(
                 |_| "a report",
             )?;
@@ -168,7 +145,7 @@ fn expect_always<R: Abort + Threads + Wait + Sync>(
         }
         if elements > 0 {
             for seed in 0..10u64 {
-                let picks = picks(alloc, elements, seed)?;
+                let picks = picks(alloc, elements, seed, 5, seed, 30_000)?;
                 let report = emulate_object_picks(
                     alloc,
                     object,

@@ -1,7 +1,7 @@
 //! Each growth is refused in turn.
 
 use commands::serving::serve;
-use rationed::Rationed;
+use rationed::{Rationed, is_next_refused};
 use rounds::Open;
 use std::test::Fail;
 use test_graph_texts::{ADD, with_inputs};
@@ -15,9 +15,12 @@ const REFUSED: [&[u8]; 3] = [
     b"output 0 5\ndeferred 0\nwaiting 0 0\nframes 0\nend Memory\n",
 ];
 
+/// A growth is refused in each run but the last: it is told in place of the report, or by its end.
 #[test]
 fn each_growth_refused(rt: HostRuntime) -> Result<(), Fail> {
     let input = with_inputs(rt.alloc(), ADD, b"2\n3\n")?;
+    let mut before = 0u64;
+    let mut within = 0u64;
     let mut whole = false;
     for at in 1..2000u64 {
         let heap = Rationed::new(rt.alloc(), at);
@@ -32,18 +35,24 @@ fn each_growth_refused(rt: HostRuntime) -> Result<(), Fail> {
             &rt,
             &Open,
         );
-        if status == 0 {
+        if is_next_refused(&heap) {
+            assert_eq!(rt; status, 0, "{at}");
             assert_eq!(rt; text.as_slice(), REST);
             whole = true;
             break;
         }
         if status == 1 {
-            assert_eq!(rt; text.as_slice(), b"refused: memory\n".as_slice());
+            assert_eq!(rt; text.as_slice(), b"refused: memory\n".as_slice(), "{at}");
+            before = before.wrapping_add(1);
         } else {
-            assert_eq!(rt; status, 6);
-            assert!(rt; REFUSED.iter().any(|report| text.as_slice() == *report));
+            assert_eq!(rt; status, 6, "{at}");
+            assert!(rt;
+                REFUSED.iter().any(|report| text.as_slice() == *report),
+                "{at}"
+            );
+            within = within.wrapping_add(1);
         }
     }
-    assert!(rt; whole);
+    assert!(rt; whole && before > 0 && within > 0);
     Ok(())
 }

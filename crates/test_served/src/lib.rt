@@ -27,9 +27,28 @@ pub fn answer<R: Threads + Wait + Sync>(
     Outcome { text, status }
 }
 
-/// Whether the object is listed, and the listing is assembled as the same object.
-pub fn comes_back<R: Threads + Wait + Sync>(rt: &R, alloc: Global, object: &[u8]) -> bool {
-    let listing = answer(rt, alloc, &["ets", "dis"], object);
+/// Whether what these words list of the object is assembled as the same object.
+fn is_listed_by<R: Threads + Wait + Sync>(
+    rt: &R,
+    alloc: Global,
+    words: &[&str],
+    object: &[u8],
+) -> bool {
+    let listing = answer(rt, alloc, words, object);
     let again = answer(rt, alloc, &["ets", "asm"], &listing.text);
     listing.status == 0 && again.status == 0 && again.text.as_slice() == object
+}
+
+/// Whether the object's listing is assembled as the same object.
+pub fn comes_back<R: Threads + Wait + Sync>(rt: &R, alloc: Global, object: &[u8]) -> bool {
+    is_listed_by(rt, alloc, &["ets", "dis"], object)
+}
+
+/// Whether the object's listing with its literals is assembled as the same object.
+pub fn comes_back_with_literals<R: Threads + Wait + Sync>(
+    rt: &R,
+    alloc: Global,
+    object: &[u8],
+) -> bool {
+    is_listed_by(rt, alloc, &["ets", "dis", "--literals"], object)
 }

@@ -20,9 +20,11 @@
 //! - `* FIRST LAST PIECE` is that piece, once for each number from FIRST to LAST.
 //! - `change OLD -> PIECE` puts the piece in the first place where OLD stands in the input.
 //! - `at PLACE PIECE` overwrites the input from byte PLACE on, counted from 0.
-//! - `first FIRST LAST` has the session played once for each number N from FIRST to LAST, on the first N bytes of the input.
+//! - `first FIRST LAST` has the session played once for each number N from FIRST to LAST, on the first N bytes of the input. FIRST is
+//!   not above LAST, and the input that the lines before it give has LAST bytes.
 //! - `> LINE` is a line that should be printed, and no other should be. But where `...` stands there may be any lines.
-//! - `= STATUS` is the exit status, where it should not be 0.
+//! - `= STATUS` is the exit status of the last command, where it should not be 0. The commands before it should have 0, too; of those
+//!   that should not, the statuses stand before the last one, with spaces between them.
 //! - `# WORDS` is a heading.
 //!
 //! In a line or a piece of the input `%` is the number (in a line 0), and `\HH` the byte that these two hexadecimal digits are.

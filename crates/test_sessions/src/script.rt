@@ -51,7 +51,9 @@ pub fn play<R: Threads + Wait + Sync, W: Write>(
                 session.play(rt, out, tally, name)?;
                 session = Session::new(files.alloc(), number);
             }
-            session.take_commands(commands, bytes_of(files, commands)?)?;
+            if !session.take_commands(commands, bytes_of(files, commands)?)? {
+                bail!("{name}:{number}: reads another file than the line before it");
+            }
         } else if !line.is_empty() && !line.starts_with("#") && !session.take(line)? {
             bail!("{name}:{number}: not known: {line}");
         }

@@ -6,7 +6,7 @@ use std::io::{self, Write};
 use std::sync::Wait;
 use std::thread::Threads;
 use test_pieces::{append, append_repeated, changed};
-use test_served::{Outcome, answer};
+use test_served::answer;
 
 /// A session, as far as its lines have been read.
 #[derive(Drop)]
@@ -25,7 +25,15 @@ pub struct Session<'a> {
     wanted: Vec<u8>,
     /// What should be printed behind the lines that are left out, if any are.
     last: Option<Vec<u8>>,
-    status: u8,
+    /// The exit statuses that the last of the commands should have, in their order; those before them should have 0.
+    statuses: Vec<u8>,
+}
+
+/// What the last command of a line printed, and the exit statuses of all of them.
+#[derive(Drop)]
+struct Ran {
+    text: Vec<u8>,
+    statuses: Vec<u8>,
 }
 
 /// The words of a command.
@@ -43,23 +51,40 @@ fn words_of<'a>(alloc: Global, command: &'a str) -> Result<Vec<&'a str>, AllocEr
     Ok(words)
 }
 
-/// What the last of the commands prints, where the first one reads this input.
-fn outcome_of<R: Threads + Wait + Sync>(
+/// Runs the commands, where the first one reads this input.
+fn run_commands<R: Threads + Wait + Sync>(
     rt: &R,
     alloc: Global,
     commands: &str,
     input: &[u8],
-) -> Result<Outcome, AllocError> {
-    let mut outcome = Outcome {
+) -> Result<Ran, AllocError> {
+    let mut ran = Ran {
         text: Vec::from_slice(alloc, input)?,
-        status: 0,
+        statuses: Vec::new(alloc),
     };
     for command in commands.split(" | ") {
         let words = words_of(alloc, command)?;
-        let next = answer(rt, alloc, &words, &outcome.text);
-        outcome = next;
+        let outcome = answer(rt, alloc, &words, &ran.text);
+        ran.text = outcome.text;
+        ran.statuses.push(outcome.status)?;
     }
-    Ok(outcome)
+    Ok(ran)
+}
+
+/// Whether the last of these statuses are the wanted ones, and those before them 0.
+fn are_wanted(statuses: &[u8], wanted: &[u8]) -> bool {
+    match statuses.strip_suffix(wanted) {
+        Some(others) => others.iter().all(|status| *status == 0),
+        None => false,
+    }
+}
+
+/// Writes exit statuses, each behind a space.
+fn write_statuses<W: Write>(out: &mut W, statuses: &[u8]) -> io::Result<()> {
+    for status in statuses {
+        write!(out, " {status}")?;
+    }
+    writeln!(out)
 }
 
 /// A number, and what stands behind it and a space.
@@ -107,7 +132,7 @@ impl<'a> Session<'a> {
             lengths: None,
             wanted: Vec::new(alloc),
             last: None,
-            status: 0,
+            statuses: Vec::new(alloc),
         }
     }
 
@@ -116,11 +141,12 @@ impl<'a> Session<'a> {
         !self.has_more
     }
 
-    /// Takes a command line. The bytes are those of the file that it reads.
-    pub fn take_commands(&mut self, commands: &'a str, bytes: Vec<u8>) -> Result<(), AllocError> {
+    /// Takes a command line. The bytes are those of the file that it reads. Says whether the command lines before it read the same.
+    pub fn take_commands(&mut self, commands: &'a str, bytes: Vec<u8>) -> Result<bool, AllocError> {
+        let is_same = self.commands.is_empty() || self.input.as_slice() == bytes.as_slice();
         self.commands.push(commands)?;
         self.input = bytes;
-        Ok(())
+        Ok(is_same)
     }
 
     /// Takes the next line. Says whether it has one of the forms that a line may have.
@@ -157,7 +183,7 @@ impl<'a> Session<'a> {
             "change" => return self.change(rest),
             "at" => return self.take_bytes(rest),
             "first" => return Ok(self.take_lengths(rest)),
-            "=" => return Ok(self.take_status(rest)),
+            "=" => return self.take_statuses(rest),
             _ => return Ok(false),
         }
         Ok(true)
@@ -172,15 +198,15 @@ impl<'a> Session<'a> {
         Ok(true)
     }
 
-    /// Takes the exit status.
-    fn take_status(&mut self, words: &str) -> bool {
-        match words.parse() {
-            Ok(status) => {
-                self.status = status;
-                true
-            }
-            Err(_fault) => false,
+    /// Takes the exit statuses.
+    fn take_statuses(&mut self, words: &str) -> Result<bool, AllocError> {
+        for word in words.split(' ') {
+            let Ok(status) = word.parse() else {
+                return Ok(false);
+            };
+            self.statuses.push(status)?;
         }
+        Ok(true)
     }
 
     /// Changes the text of the input as these words say, if what they name stands in it.
@@ -207,23 +233,21 @@ impl<'a> Session<'a> {
         Ok(overwrite(&mut self.input, place, &bytes))
     }
 
-    /// Takes the lengths of the input on which the session is played.
+    /// Takes the lengths of the input on which the session is played. Says whether there are any, and the input is as long.
     fn take_lengths(&mut self, words: &str) -> bool {
-        match split_number(words) {
-            Some((first, last)) => match last.parse() {
-                Ok(last) => {
-                    self.lengths = Some((first, last));
-                    true
-                }
-                Err(_fault) => false,
-            },
-            None => false,
-        }
+        let Some((first, last)) = split_number(words) else {
+            return false;
+        };
+        let Ok(last) = last.parse() else {
+            return false;
+        };
+        self.lengths = Some((first, last));
+        first <= last && last <= self.input.len()
     }
 
     /// Whether this is what should be printed.
-    fn is_wanted(&self, outcome: &Outcome) -> bool {
-        let text = outcome.text.as_slice();
+    fn is_wanted(&self, ran: &Ran) -> bool {
+        let text = ran.text.as_slice();
         let is_text_wanted = match &self.last {
             None => text == self.wanted.as_slice(),
             Some(last) => match text.strip_prefix(self.wanted.as_slice()) {
@@ -231,29 +255,23 @@ impl<'a> Session<'a> {
                 None => false,
             },
         };
-        is_text_wanted && outcome.status == self.status
+        is_text_wanted && are_wanted(&ran.statuses, &self.statuses)
     }
 
     /// Tells what was printed, and what should have been.
-    fn tell<W: Write>(
-        &self,
-        out: &mut W,
-        name: &str,
-        commands: &str,
-        outcome: &Outcome,
-    ) -> io::Result<()> {
+    fn tell<W: Write>(&self, out: &mut W, name: &str, commands: &str, ran: &Ran) -> io::Result<()> {
         let line = self.line;
-        let status = self.status;
         writeln!(out, "{name}:{line}: {commands}")?;
-        writeln!(out, "wanted, with status {status}:")?;
+        out.write_all(b"wanted, with statuses that end with")?;
+        write_statuses(out, &self.statuses)?;
         write_lines(out, &self.wanted)?;
         if let Some(last) = &self.last {
             out.write_all(b"...\n")?;
             write_lines(out, last)?;
         }
-        let came = outcome.status;
-        writeln!(out, "came, with status {came}:")?;
-        write_lines(out, &outcome.text)
+        out.write_all(b"came, with statuses")?;
+        write_statuses(out, &ran.statuses)?;
+        write_lines(out, &ran.text)
     }
 
     /// Plays the session with these commands, once on each of its lengths of the input. Says whether all is as it should be, and
@@ -271,9 +289,9 @@ impl<'a> Session<'a> {
         };
         for length in first..last.saturating_add(1) {
             let input = self.input.get(..length).unwrap_or(&self.input);
-            let outcome = outcome_of(rt, self.alloc, commands, input)?;
-            if !self.is_wanted(&outcome) {
-                self.tell(out, name, commands, &outcome)?;
+            let ran = run_commands(rt, self.alloc, commands, input)?;
+            if !self.is_wanted(&ran) {
+                self.tell(out, name, commands, &ran)?;
                 return Ok(false);
             }
         }

@@ -35,7 +35,7 @@ pub struct Case {
 }
 
 /// Every command, some refusals, help, the version, and a mistake.
-pub const CASES: [Case; 28] = [
+pub const CASES: [Case; 29] = [
     Case {
         name: "check",
         words: &["ets", "check"],
@@ -49,6 +49,11 @@ pub const CASES: [Case; 28] = [
     Case {
         name: "dis",
         words: &["ets", "dis"],
+        input: Input::Object,
+    },
+    Case {
+        name: "dis --literals",
+        words: &["ets", "dis", "--literals"],
         input: Input::Object,
     },
     Case {

@@ -3,7 +3,7 @@
 use graph::Name;
 use graph_check::{CheckFaultKind, check};
 use graph_file::read;
-use rationed::Rationed;
+use rationed::{Rationed, is_next_refused};
 use std::test::Fail;
 
 /// The blocks `g` and `b`, and a block with each kind of node.
@@ -50,23 +50,28 @@ fn accepts_each_kind(rt: HostRuntime) -> Result<(), Fail> {
     Ok(())
 }
 
+/// Each growth of the check is refused in turn, until none is.
 #[test]
 fn refuses_each_growth(rt: HostRuntime) -> Result<(), Fail> {
     let mut refused = 0u64;
-    let mut accepted = 0u64;
-    for growth in 1..80u64 {
+    let mut whole = false;
+    for growth in 1..10_000u64 {
         let heap = Rationed::new(rt.alloc(), growth);
-        if let Ok(graph) = read(&heap, EACH_KIND) {
-            match check(graph) {
-                Ok(_) => accepted = accepted.wrapping_add(1),
-                Err(fault) => {
-                    assert_eq!(rt; fault.kind, CheckFaultKind::Memory);
-                    refused = refused.wrapping_add(1);
-                }
-            }
+        let Ok(graph) = read(&heap, EACH_KIND) else {
+            continue;
+        };
+        let fault = match check(graph) {
+            Ok(_) => None,
+            Err(fault) => Some(fault.kind),
+        };
+        whole = is_next_refused(&heap);
+        if whole {
+            assert_eq!(rt; fault, None, "{growth}");
+            break;
         }
+        assert_eq!(rt; fault, Some(CheckFaultKind::Memory), "{growth}");
+        refused = refused.wrapping_add(1);
     }
-    assert_eq!(rt; refused, 2);
-    assert!(rt; accepted > 20);
+    assert!(rt; whole && refused > 0);
     Ok(())
 }

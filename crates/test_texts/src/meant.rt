@@ -1,7 +1,7 @@
 //! Meanings for whose growths there is no room.
 
 use oracle::{MeanEnd, MeanFault, mean};
-use rationed::Rationed;
+use rationed::{Rationed, is_next_refused};
 use std::alloc::Allocator;
 use std::process::Abort;
 use std::test::Fail;
@@ -10,8 +10,7 @@ use test_graph_texts::{EARLY_RESULT, READERS, SUM_LOOP};
 /// More activities than any run here takes.
 const ENOUGH: u64 = 1_000_000;
 
-/// Whether growth number `ration` was refused, with the outcome of the run. An allocator that has refused once grants all
-/// growths after it; so the next growth is refused only where the run had one growth fewer than that.
+/// Whether growth number `ration` was refused, with the outcome of the run.
 fn rationed_run<B: Allocator + Clone>(
     rt: &impl Abort,
     inner: B,
@@ -28,8 +27,7 @@ fn rationed_run<B: Allocator + Clone>(
         rt.exit(102)
     };
     let end = mean(&scarce, &checked, inputs, ENOUGH).map(|report| report.end);
-    let mut probe: Vec<u64, _> = Vec::new(&scarce);
-    Ok((probe.push(0).is_ok(), end))
+    Ok((!is_next_refused(&scarce), end))
 }
 
 /// Each growth that is refused is told; with all of them granted, the run comes to rest.

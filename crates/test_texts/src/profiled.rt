@@ -3,9 +3,13 @@
 use graph_file::read;
 use oracle::{MeanEnd, WaveReport};
 use profile_text::{MachineRow, write_profile, write_svg};
+use rationed::Rationed;
 use semantics::version::Version;
 use std::alloc::{AllocError, Global};
 use std::test::Fail;
+
+/// Memory that counts how often it is asked.
+type Heap<'h> = &'h Rationed<Global>;
 
 /// The waves of a sum of eight inputs, by pairs.
 const TREE: &[u64] = &[8, 4, 2, 1, 1];
@@ -35,10 +39,10 @@ const BARS: &[u8] = b"<rect x=\"0\" width=\"160\" height=\"300\"/>
 /// A graph without blocks and arrays.
 const EMPTY: &[u8] = b"etsgraph 2\nmain m\n";
 
-fn waves_of(alloc: Global, counts: &[u64]) -> Result<WaveReport<Global>, AllocError> {
+fn waves_of<'h>(heap: Heap<'h>, counts: &[u64]) -> Result<WaveReport<Heap<'h>>, AllocError> {
     Ok(WaveReport {
         end: MeanEnd::Rest,
-        counts: Vec::from_slice(alloc, counts)?,
+        counts: Vec::from_slice(heap, counts)?,
     })
 }
 
@@ -60,13 +64,16 @@ fn writes_a_profile(rt: HostRuntime) -> Result<(), Fail> {
             frames: 1,
         },
     ];
-    let graph = read(rt.alloc(), EMPTY)?;
-    let waves = waves_of(rt.alloc(), TREE)?;
+    let heap = Rationed::new(rt.alloc(), 0);
+    let graph = read(&heap, EMPTY)?;
+    let waves = waves_of(&heap, TREE)?;
+    let left = heap.left();
     let mut text = Vec::new(rt.alloc());
     write_profile(&mut text, &graph, &waves, &rows)?;
     assert_eq!(&rt; text.as_slice(), TEXT);
+    assert_eq!(&rt; heap.left(), left);
     // Without waves there is no parallelism.
-    let nothing = waves_of(rt.alloc(), &[])?;
+    let nothing = waves_of(&heap, &[])?;
     text.clear();
     write_profile(&mut text, &graph, &nothing, &[])?;
     assert_eq!(&rt;

@@ -4,14 +4,20 @@ ghost use Rattle.std.specs.Prelude.{◌<◌};
 
 use arrayvec::ArrayVec;
 use graph_file::read;
+use object_view::Object;
 use oracle::{Full, MeanEnd, MeanReport};
-use report_text::{write_meaning, write_report};
+use rationed::Rationed;
+use report_text::{write_meaning, write_object_report, write_report};
 use schedule::report::Report;
 use semantics::report::End;
 use semantics::version::Version;
 use std::alloc::{AllocError, Global};
 use std::test::Fail;
 use tags::value::{FaultKind, NodeNumber, Origin, Value};
+use test_objects::STORES;
+
+/// Memory that counts how often it is asked.
+type Heap<'h> = &'h Rationed<Global>;
 
 /// A fault that says where it was made.
 fn fault_at(kind: FaultKind, block: u8, node: u16) -> Value
@@ -51,7 +57,7 @@ frames 4
 ";
 
 /// A report with outputs and cells of all forms, and with this end.
-fn report_of(alloc: Global, end: End) -> Result<Report<Global>, AllocError> {
+fn report_of<'h>(heap: Heap<'h>, end: End) -> Result<Report<Heap<'h>>, AllocError> {
     let mut outputs = ArrayVec::new();
     for output in [
         Some(Value::Int(-7)),
@@ -61,7 +67,7 @@ fn report_of(alloc: Global, end: End) -> Result<Report<Global>, AllocError> {
     ] {
         let _ = outputs.try_push(output);
     }
-    let mut cells = Vec::new(alloc);
+    let mut cells = Vec::new(heap);
     cells.push((2, Value::Int(40)))?;
     cells.push((3, fault(FaultKind::Range)))?;
     cells.push((4, fault_at(FaultKind::Zero, 255, 1023)))?;
@@ -74,14 +80,15 @@ fn report_of(alloc: Global, end: End) -> Result<Report<Global>, AllocError> {
         waiting_frames: 2,
         waiting_credits: 3,
         frames_out: 4,
-        events: Vec::new(alloc),
+        events: Vec::new(heap),
     })
 }
 
 #[test]
 fn writes_reports(rt: HostRuntime) -> Result<(), Fail> {
-    let alloc = rt.alloc();
-    let graph = read(alloc, TWO_ARRAYS)?;
+    let heap = Rationed::new(rt.alloc(), 0);
+    let graph = read(&heap, TWO_ARRAYS)?;
+    let object = Object::open(STORES).expect(&rt, "it opens");
     for (end, last) in [
         (End::Rest, b"end Rest\n".as_slice()),
         (End::Starved, b"end Starved\n"),
@@ -92,18 +99,21 @@ fn writes_reports(rt: HostRuntime) -> Result<(), Fail> {
         (End::Memory, b"end Memory\n"),
         (End::Stop, b"end Stop\n"),
     ] {
-        let report = report_of(alloc, end)?;
-        let mut text = Vec::new(alloc);
+        let report = report_of(&heap, end)?;
+        let left = heap.left();
+        let mut text = Vec::new(rt.alloc());
         write_report(&mut text, &graph, &report)?;
         assert!(rt; text.strip_prefix(COUNTS) == Some(last));
+        write_object_report(&mut text, &object, &report)?;
+        assert_eq!(rt; heap.left(), left);
     }
     Ok(())
 }
 
 #[test]
 fn writes_meanings(rt: HostRuntime) -> Result<(), Fail> {
-    let alloc = rt.alloc();
-    let graph = read(alloc, TWO_ARRAYS)?;
+    let heap = Rationed::new(rt.alloc(), 0);
+    let graph = read(&heap, TWO_ARRAYS)?;
     for (end, wanted) in [
         (
             MeanEnd::Rest,
@@ -118,10 +128,10 @@ fn writes_meanings(rt: HostRuntime) -> Result<(), Fail> {
             b"output 0 -\noutput 1 8\ncell yy 1 -9\nend Steps\n",
         ),
     ] {
-        let mut outputs = Vec::new(alloc);
+        let mut outputs = Vec::new(&heap);
         outputs.push(None)?;
         outputs.push(Some(Value::Int(8)))?;
-        let mut cells = Vec::new(alloc);
+        let mut cells = Vec::new(&heap);
         cells.push(Full {
             array: 1,
             index: 1,
@@ -132,9 +142,11 @@ fn writes_meanings(rt: HostRuntime) -> Result<(), Fail> {
             outputs,
             cells,
         };
-        let mut text = Vec::new(alloc);
+        let left = heap.left();
+        let mut text = Vec::new(rt.alloc());
         write_meaning(&mut text, &graph, &report)?;
         assert_eq!(rt; text.as_slice(), wanted);
+        assert_eq!(rt; heap.left(), left);
     }
     Ok(())
 }

@@ -1,7 +1,8 @@
 //! What is written for a graph that was read.
 
+use dot::write_graph_dot;
 use graph_file::{ReadFaultKind, read, write};
-use rationed::Rationed;
+use rationed::{Rationed, is_next_refused};
 use std::test::Fail;
 use test_failing_streams::writer::{Failure, Taker};
 use test_graph_texts::{ADD, EARLY_RESULT, LATE_RESULT, SUM_LOOP};
@@ -17,11 +18,15 @@ const GRAPHS: [&[u8]; 5] = [
 
 #[test]
 fn graphs(rt: HostRuntime) -> Result<(), Fail> {
+    let heap = Rationed::new(rt.alloc(), 0);
     for text in GRAPHS {
-        let graph = read(rt.alloc(), text)?;
+        let graph = read(&heap, text)?;
+        let left = heap.left();
         let mut out = Vec::new(rt.alloc());
         write(&graph, &mut out)?;
         assert_eq!(rt; out.as_slice(), text);
+        write_graph_dot(&graph, &mut out)?;
+        assert_eq!(rt; heap.left(), left);
     }
     Ok(())
 }
@@ -39,19 +44,25 @@ fn failing_writers(rt: HostRuntime) -> Result<(), Fail> {
     Ok(())
 }
 
+/// Each growth is refused in turn, until none is.
 #[test]
 fn refused_growths(rt: HostRuntime) -> Result<(), Fail> {
     let mut refused = 0u64;
-    for n in 1..40u64 {
+    let mut whole = false;
+    for n in 1..10_000u64 {
         let heap = Rationed::new(rt.alloc(), n);
-        match read(&heap, ADD) {
-            Ok(_) => {}
-            Err(fault) => {
-                assert_eq!(rt; fault.kind, ReadFaultKind::Memory);
-                refused = refused.saturating_add(1);
-            }
+        let fault = match read(&heap, ADD) {
+            Ok(_) => None,
+            Err(fault) => Some(fault.kind),
+        };
+        whole = is_next_refused(&heap);
+        if whole {
+            assert_eq!(rt; fault, None, "{n}");
+            break;
         }
+        assert_eq!(rt; fault, Some(ReadFaultKind::Memory), "{n}");
+        refused = refused.wrapping_add(1);
     }
-    assert!(rt; 0 < refused && refused < 39, "{refused} refused");
+    assert!(rt; whole && refused > 0);
     Ok(())
 }

@@ -112,6 +112,7 @@ impl<'a> Shell<'a> {
         Ok(())
     }
 
+    /// Runs stages. Each but the last has to have status 0.
     fn run_stages<R: Threads + Wait + Sync>(
         &self,
         rt: &R,
@@ -119,6 +120,9 @@ impl<'a> Shell<'a> {
     ) -> anyhow::Result<Outcome> {
         let mut ran = self.nothing();
         for stage in stages.split(" | ") {
+            if ran.status != 0 {
+                bail!("refused before {stage}: {stages}");
+            }
             let next = self.run_stage(rt, stage, ran.text.as_slice())?;
             ran = next;
         }

@@ -3,7 +3,7 @@
 use clap::ArgMatches;
 use clap::error::ErrorKind;
 use command_line::{
-    Asked, Format, Inputs, Mode, Request, RunOptions, Sizes, read_words, version_line,
+    Asked, Format, Inputs, Literals, Mode, Request, RunOptions, Sizes, read_words, version_line,
 };
 use command_texts::{help_text, mistake_text, program_command};
 use std::alloc::Global;
@@ -103,6 +103,14 @@ fn format_in(word: &str) -> Option<Format> {
     }
 }
 
+fn literals_in(matches: &ArgMatches<'_>) -> Literals {
+    if matches.get_flag("literals") {
+        Literals::Listed
+    } else {
+        Literals::LeftOut
+    }
+}
+
 /// Whether the numbers of elements are those in this list.
 fn are_sizes(sizes: Sizes, words: &[&str]) -> bool {
     (0..64).all(|size: u64| {
@@ -130,7 +138,9 @@ fn request_in(matches: &ArgMatches<'_>) -> Option<Request> {
         Some(("run", run)) => Some(Request::Run(options_in(run)?)),
         Some(("check", _)) => Some(Request::Check),
         Some(("compile", _)) => Some(Request::Compile),
-        Some(("dis", _)) => Some(Request::Dis),
+        Some(("dis", dis)) => Some(Request::Dis {
+            literals: literals_in(dis),
+        }),
         Some(("upgrade", _)) => Some(Request::Upgrade),
         Some(("mean", mean)) => Some(Request::Mean {
             steps: mean.get_one::<u64>("steps")?,
@@ -216,7 +226,7 @@ fn is_same(a: &Request, b: &Request) -> bool {
         (Request::Dot { code: a }, Request::Dot { code: b }) => *a == *b,
         (Request::Check, Request::Check) => true,
         (Request::Compile, Request::Compile) => true,
-        (Request::Dis, Request::Dis) => true,
+        (Request::Dis { literals: a }, Request::Dis { literals: b }) => *a == *b,
         (Request::Upgrade, Request::Upgrade) => true,
         (Request::Asm, Request::Asm) => true,
         (

@@ -142,6 +142,22 @@ const MEASURES: [&str; 20] = [
     "4",
 ];
 
+/// What may stand after `dis` and `dot`.
+const FLAGS: [&str; 12] = [
+    "--literals",
+    "--literals=x",
+    "--literals=",
+    "--lit",
+    "--code",
+    "--",
+    "-",
+    "",
+    "x",
+    "-h",
+    "--help",
+    "-V",
+];
+
 /// Words for a number.
 const NUMBERS: [&str; 26] = [
     "0",
@@ -173,10 +189,9 @@ const NUMBERS: [&str; 26] = [
 ];
 
 /// Commands without options.
-const LEAVES: [&str; 6] = [
+const LEAVES: [&str; 5] = [
     "ets check",
     "ets compile",
-    "ets dis",
     "ets asm",
     "ets upgrade",
     "ets help",
@@ -273,6 +288,12 @@ fn main(rt: HostRuntime) -> anyhow::Result<()> {
     println!(rt; "ets mean: {}", try_after(alloc, "ets mean", options, 2)?)?;
     for command in LEAVES {
         println!(rt; "{command}: {}", try_after(alloc, command, options, 1)?)?;
+    }
+    for command in ["ets dis", "ets dot"] {
+        println!(rt;
+            "{command}: {}",
+            try_after(alloc, command, FLAGS.as_slice(), 2)?
+        )?;
     }
     println!(rt;
         "ets exec: {}",

@@ -1,7 +1,7 @@
-//! Looks at what the commands of the workbench print. Objects of random graphs are listed and assembled again; traces have the report
-//! of their run, and as many slices as lines; profiles add up, and their pictures are well formed; random orders have the report of
-//! the run; graphs whose waves are known have these. The words of the command line may give the number of graphs and the seed. Prints
-//! how much was looked at, or the first graph that differs, with status 1.
+//! Looks at what the commands of the workbench print. Objects of random graphs are listed, with their literals and without, and
+//! assembled again; traces have the report of their run, and as many slices as lines; profiles add up, and their pictures are well
+//! formed; random orders have the report of the run; graphs whose waves are known have these. The words of the command line may give
+//! the number of graphs and the seed. Prints how much was looked at, or the first graph that differs, with status 1.
 #![tactic(auto)]
 
 mod known;
@@ -22,7 +22,7 @@ use std::thread::Threads;
 use tally::Tally;
 use test_random_graphs::dice::Dice;
 use test_random_graphs::graphs::{Graph, Part};
-use test_served::{answer, comes_back};
+use test_served::{answer, comes_back, comes_back_with_literals};
 
 /// How many events an element makes at most, and how many activities a meaning has: as a word of a command line.
 const STEPS: &str = "20000";
@@ -66,7 +66,7 @@ fn look_at_object<R: Threads + Wait + Sync>(
         tally.refused = tally.refused.wrapping_add(1);
         return Ok(());
     }
-    if !comes_back(rt, alloc, &object.text) {
+    if !comes_back(rt, alloc, &object.text) || !comes_back_with_literals(rt, alloc, &object.text) {
         return Err("an object does not come back");
     }
     tally.objects = tally.objects.wrapping_add(1);

@@ -1,12 +1,10 @@
-use Rattle.std.proofs.Common.{Bool, subst, false}
-use Rattle.driver.specs.Objects.{ShowsObject, Quietly}
-use Rattle.commands.proofs.Served.{never_stops, executed, refused_exec, no_mode_to_exec}
+use Rattle.commands.proofs.Served.{executed, refused_exec, no_mode_to_exec}
 use Rattle.commands.proofs.serving.exec_object.Goals as goal
 
 pub returns-in-Ok : goal.returns-in-Ok
 returns-in-Ok g c =
     executed c.args.bytes.now c.args.options.now c.args.inputs.now c.in-Ok.report c.in-Some.mode c.in-Some.is c.config_of-config.result c.config_of-config.ensures
-    (subst (λ (b : Bool). Quietly (ShowsObject c.args.bytes.now c.args.inputs.now c.config_of-config.result false b) c.in-Ok.report) (never_stops c.in-Some.mode g.G.Gate.may_stop c.requires) c.in-Ok.ensures)
+    g.G.Gate.may_stop c.requires c.in-Ok.ensures
 
 pub returns-in-Err : goal.returns-in-Err
 returns-in-Err g c =

@@ -1,7 +1,6 @@
-use Rattle.std.proofs.Common.{ℤ, List, Bool, subst}
-use Rattle.driver.specs.Headline.{TellsQuietly, stops_in}
+use Rattle.std.proofs.Common.{ℤ, List, subst}
+use Rattle.driver.specs.Headline.{TellsQuietly}
 use Rattle.driver.specs.Refused.{IsRefused}
-use Rattle.commands.proofs.Served.{never_stops}
 use Rattle.commands.proofs.Givens.{IsRefusedOption, not_run, run_of, run_refused, mode_refused}
 use Rattle.commands.proofs.serving.run_input.Goals as goal
 
@@ -17,8 +16,8 @@ pub returns-in-Ok-run_text : goal.returns-in-Ok-run_text
 returns-in-Ok-run_text g c =
     let e = c.in-Ok-run_text.emulated in
     run_of c.args.input.now _ _ c.in-Ok.ensures c.args.options.now e.checked e.report c.in-Some.mode c.in-Some.is c.config_of-config.result c.config_of-config.ensures
-    (subst (λ (b : Bool). TellsQuietly c.in-Ok.given.text.now e.checked c.in-Ok.given.integers.items c.config_of-config.result b e.report) (never_stops c.in-Some.mode g.G.Gate.may_stop c.requires)
-    (subst (λ (zs : List ℤ). TellsQuietly c.in-Ok.given.text.now e.checked zs c.config_of-config.result (stops_in c.in-Some.mode g.G.Gate.may_stop) e.report) c.deref-2.ensures.value c.in-Ok-run_text.ensures))
+    g.G.Gate.may_stop c.requires
+    (subst (λ (zs : List ℤ). TellsQuietly c.in-Some.mode c.in-Ok.given.text.now e.checked zs c.config_of-config.result g.G.Gate.may_stop e.report) c.deref-2.ensures.value c.in-Ok-run_text.ensures)
 
 pub returns : goal.returns
 returns g c =

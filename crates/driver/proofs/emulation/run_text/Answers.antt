@@ -1,7 +1,7 @@
-use Rattle.std.proofs.Common.{subst, List, ℕ, false}
+use Rattle.std.proofs.Common.{subst, List, ℕ}
 use Rattle.std.proofs.lemmas.Result.{err_from_is_err_and}
-use Rattle.driver.specs.Headline.{stops_in}
-use Rattle.driver.specs.Objects.{ShowsObject, Quietly}
+use Rattle.schedule.specs.Unlisted.{Quietly}
+use Rattle.driver.specs.Objects.{ShowsObjectIn}
 use Rattle.driver.specs.Refused.{IsRefusedObject}
 use Rattle.driver.proofs.Truth.{tells_quietly}
 use Rattle.driver.proofs.TextObjects.{refused_as_text}
@@ -9,8 +9,8 @@ use Rattle.driver.proofs.emulation.run_text.Goals as goal
 
 pub returns : goal.returns
 returns g c =
-    tells_quietly c.args.text.now c.in_ok-checked.field-0.checked _ c.args.inputs.now c.args.config (stops_in c.args.mode g.G.Gate.may_stop) c.in_ok-report.report c.in_ok-checked.ensures
-    (subst (λ (bs : List ℕ). Quietly (ShowsObject bs c.args.inputs.now c.args.config false (stops_in c.args.mode g.G.Gate.may_stop)) c.in_ok-report.report) c.deref.ensures.value c.in_ok-report.ensures)
+    tells_quietly c.args.mode c.args.text.now c.in_ok-checked.field-0.checked _ c.args.inputs.now c.args.config g.G.Gate.may_stop c.in_ok-report.report c.in_ok-checked.ensures
+    (subst (λ (bs : List ℕ). Quietly (ShowsObjectIn c.args.mode bs c.args.inputs.now c.args.config g.G.Gate.may_stop) c.in_ok-report.report) c.deref.ensures.value c.in_ok-report.ensures)
 
 pub returns-in_err-report : goal.returns-in_err-report
 returns-in_err-report g c =

@@ -1,11 +1,13 @@
-use Rattle.std.proofs.Common.{sym, ◌∙◌, ap, subst, ℕ, ◌-◌, false, List, length, arith}
+use Rattle.std.proofs.Common.{sym, ◌∙◌, ap, subst, ℕ, ◌-◌, false, List, length, Option, None, arith}
 use Rattle.tags.specs.declared.token.Token.{Token}
 use Rattle.semantics.specs.Program.{Program}
 use Rattle.element.specs.Held.{Held, held_of}
-use Rattle.rounds.specs.Turns.{HaltsLane}
+use Rattle.schedule.specs.declared.halt.Halt.{Halt}
+use Rattle.rounds.specs.Turns.{HaltsLane, IsWhole}
+use Rattle.machine.specs.Runners.{HasNoReason}
 use Rattle.schedule.specs.Setting.{Setting}
 use Rattle.schedule.specs.Apart.{setting_in}
-use Rattle.machine.proofs.Committing.{has_made, more_made}
+use Rattle.machine.proofs.Committing.{has_made, more_made, no_reason}
 use Rattle.machine.proofs.blocks.make_events.Goals as goal
 
 pub overflow_sub-events : goal.overflow_sub-events
@@ -45,3 +47,11 @@ returns-clause-halts g c =
     subst (λ (h : Held). HaltsLane s.program s.steps false h why) (sym c.in_ok-commit.ensures.lane)
     (subst (λ (p : Program). HaltsLane p s.steps false new why) runs.program
     (subst (λ (n : ℕ). HaltsLane c.args.runner.now.lane.program n false new why) runs.steps c.take_turn-halt.ensures.halts))
+
+pub returns-clause-whole : goal.returns-clause-whole
+returns-clause-whole g c = λ none.
+    let s : Setting = setting_in g.C.Instructions.program g.C.Instructions.width c.args.setup.now in
+    let old : Held = held_of c.args.runner.now.lane in
+    let new : Held = held_of c.take_turn-halt.new.lane in
+    let whole : IsWhole s.turn old new None = subst (λ (why : Option Halt). IsWhole s.turn old new why) none c.take_turn-halt.ensures.whole in
+    subst (λ (h : Held). HasNoReason s h) (sym c.in_ok-commit.ensures.lane) (no_reason s old new whole)

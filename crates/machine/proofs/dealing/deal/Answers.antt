@@ -24,6 +24,7 @@ loop-at-preserved g c =
       dealt = refl;
       sent = i.sent;
       hand = i.hand;
+      lane = i.lane;
     }
 
 pub returns-clause-keeps : goal.returns-clause-keeps

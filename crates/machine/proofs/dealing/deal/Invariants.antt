@@ -1,4 +1,5 @@
 use Rattle.std.proofs.Common.{◌≡◌}
+use Rattle.element.specs.Held.{held_of}
 use Rattle.schedule.specs.Apart.{setting_in}
 use Rattle.machine.specs.Runners.{Keeps, StaysAt}
 use Rattle.machine.proofs.dealing.deal.Given as goal
@@ -10,4 +11,5 @@ invariant-loop-at g l = record {
   dealt : l.runner.dealt ≡ l.at;
   sent : l.runner.sent.items ≡ l.fn.runner.sent.items;
   hand : l.runner.hand.items ≡ l.fn.runner.hand.items;
+  lane : held_of l.runner.lane ≡ held_of l.fn.runner.lane;
 }

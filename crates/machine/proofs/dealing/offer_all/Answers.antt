@@ -18,4 +18,5 @@ loop-to-preserved g c =
       stays = (e.stays.0 ∙ i.stays.0, e.stays.1 ∙ i.stays.1, e.stays.2 ∙ i.stays.2, e.stays.3 ∙ i.stays.3);
       keeps = keeps_twice {C = g.row.C.Denot} {A = g.row.A.Denot} (setting_in g.C.Instructions.program g.C.Instructions.width c.args.setup.now) c.args.mesh.now c.args.runner.now c.loop-to.runner c.offer_to.new.runner i.keeps e.keeps;
       clear = e.clear;
+      lane = e.lane ∙ i.lane;
     }

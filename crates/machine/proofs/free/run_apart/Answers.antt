@@ -2,6 +2,7 @@ use Rattle.std.proofs.Common.{◌≡◌, sym, ◌∙◌, ap, subst, [], List, le
 use Rattle.std.proofs.lemmas.List.{length-map}
 use Rattle.tags.specs.declared.token.Token.{Token}
 use Rattle.semantics.specs.Machine.{outputs_of}
+use Rattle.semantics.specs.Report.{Report}
 use Rattle.crossbeam_utils.specs.declared.cache_padded.CachePadded.{CachePadded}
 use Rattle.element.specs.Held.{Held, held_of, fixed_of, queued}
 use Rattle.schedule.specs.Apart.{setting_in}
@@ -15,7 +16,7 @@ use Rattle.rounds.proofs.Closing.{refused_shows}
 use Rattle.ordering.specs.declared.log.Log.{Log}
 use Rattle.machine.specs.declared.runner.Runner.{Runner}
 use Rattle.machine.specs.Starts.{lefts_in, logs_in, notes_of, Tells, Lists}
-use Rattle.machine.proofs.Freed.{AreReady, are_ready, all_run, all_seats, sound_last, cell, shows_last}
+use Rattle.machine.proofs.Freed.{AreReady, are_ready, all_run, all_seats, sound_last, cell, shows_last, ends_last}
 use Rattle.machine.proofs.free.run_apart.Goals as goal
 
 pub make_ready-requires-clause-count : goal.make_ready-requires-clause-count
@@ -153,3 +154,42 @@ list_events-requires g c =
 
 pub returns-in-Ok-list_events-clause-unlisted : goal.returns-in-Ok-list_events-clause-unlisted
 returns-in-Ok-list_events-clause-unlisted g c = λ off none. c.report.ensures.unlisted (c.list_events.ensures.unlisted off ∙ none)
+
+pub returns-in-Ok-list_events-clause-ends : goal.returns-in-Ok-list_events-clause-ends
+returns-in-Ok-list_events-clause-ends g c = λ inputs evs began some.
+    let s : Setting = setting_in g.C.Instructions.program g.C.Instructions.width c.args.setup in
+    let raw : List Held = map held_of c.args.lanes.items in
+    let on = c.args.listed in
+    let mesh = c.in-Ok.ready.mesh in
+    let olds = c.in-Ok.ready.runners.items in
+    let e = c.in-Ok.ensures in
+    let ready : AreReady s mesh on olds = are_ready {C = g.row.C.Denot} {A = g.row.A.Denot} s mesh on olds raw (map fixed_of c.args.lanes.items) c.requires.sound c.requires.runs e.fixed e.mesh e.lanes e.seats e.new e.listed in
+    let news = c.run_all.new.runners.items in
+    let tells : Tells (lefts_in news) c.in-Some.halt = subst (λ (l : List (CachePadded (Runner g.row.C.Denot g.row.A.Denot))). Tells (lefts_in l) c.in-Some.halt) c.deref.ensures.value c.in-Some.ensures in
+    let may = g.G.Gate.may_stop in
+    let each = c.run_all.ensures.each in
+    let count = c.run_all.ensures.count in
+    let now : Setting = setting_in g.C.Instructions.program g.C.Instructions.width c.list_events.new.setup in
+    let setting : now ≡ s = c.list_events.ensures.setting in
+    let j = c.join_seats-joined.ensures in
+    let parts = c.in-Ok-parts_in.ensures in
+    let logs = c.parts_in.new.logs.items in
+    let opening = c.in-Ok.ready.tokens.items in
+    let kept = c.args.setup.events.items in
+    let after = c.list_events.new.setup.events.items in
+    ends_last {C = g.row.C.Denot} {A = g.row.A.Denot} s mesh on olds ready may news each count tells.0 c.join_seats-joined.result j.mesh (j.accounts ∙ ap (λ (l : List SeatView). map (λ (x : SeatView). x.own) l) parts.seats) j.history j.commits j.bundles j.no_more
+    c.in-Some.halt tells now setting (map held_of c.parts_in.new.lanes.items) parts.lanes logs parts.logs opening (e.tokens ∙ ap (λ (l : List Held). tokens_in l) (sym e.lanes.0)) kept after c.report.result
+    (λ yes. subst (λ (l : List (Log g.row.A.Denot)). Lists l opening kept after) c.deref-2.ensures.value (subst (λ (l : List Token). Lists c.deref-2.result.now l kept after) c.deref-3.ensures.value (c.in-Ok-list_events.ensures.listed yes)))
+    c.report.ensures.told inputs evs (subst (λ (l : List Held). Began inputs (coming s l []) evs) (sym e.lanes.0) began) some
+
+pub returns-in_default-clause-ends : goal.returns-in_default-clause-ends
+returns-in_default-clause-ends g c = λ inputs evs began some. absurd (some (ap (λ (r : Report). r.end) c.refused.ensures))
+
+pub returns-in_default-why-clause-ends : goal.returns-in_default-why-clause-ends
+returns-in_default-why-clause-ends g c = λ inputs evs began some. absurd (some (ap (λ (r : Report). r.end) c.refused-in_default-why.ensures))
+
+pub returns-in_default-parts_in-clause-ends : goal.returns-in_default-parts_in-clause-ends
+returns-in_default-parts_in-clause-ends g c = λ inputs evs began some. absurd (some (ap (λ (r : Report). r.end) c.refused-in_default-parts_in.ensures))
+
+pub returns-clause-ends : goal.returns-clause-ends
+returns-clause-ends g c = λ inputs evs began some. absurd (some (ap (λ (r : Report). r.end) c.refused-in-Err.ensures))

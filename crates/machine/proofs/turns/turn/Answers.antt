@@ -1,4 +1,7 @@
+use Rattle.std.proofs.Common.{◌≡◌, None, sym, subst}
+use Rattle.element.specs.Held.{Held}
 use Rattle.schedule.specs.Apart.{setting_in}
+use Rattle.machine.specs.Runners.{HasNoReason}
 use Rattle.machine.proofs.Keeping.{runs_on, keeps_twice}
 use Rattle.machine.proofs.turns.turn.Goals as goal
 
@@ -18,3 +21,8 @@ returns-in-Ok-clause-keeps g c =
 
 pub returns-in-Err-clause-keeps : goal.returns-in-Err-clause-keeps
 returns-in-Err-clause-keeps g c = keeps_twice {C = g.row.C.Denot} {A = g.row.A.Denot} (setting_in g.C.Instructions.program g.C.Instructions.width c.args.setup.now) c.args.mesh.now c.args.runner.now c.work.new.runner c.hand_on.new.runner c.in_ok-halt.ensures.keeps c.hand_on.ensures.keeps
+
+pub look-requires-clause-whole : goal.look-requires-clause-whole
+look-requires-clause-whole g c =
+    let none : c.in_ok-halt.field-0 ≡ None = cc in
+    subst (λ (h : Held). HasNoReason (setting_in g.C.Instructions.program g.C.Instructions.width c.args.setup.now) h) (sym c.hand_on.ensures.lane) (c.in_ok-halt.ensures.whole none)

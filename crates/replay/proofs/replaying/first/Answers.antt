@@ -1,4 +1,4 @@
-use Rattle.std.proofs.Common.{◌∙◌, refl, sym, ap, suc, ◌+◌, ℕ}
+use Rattle.std.proofs.Common.{◌∙◌, refl, sym, ap, ◌+◌, ℕ}
 use Rattle.replay.proofs.Watching.{stands_first}
 use Rattle.replay.proofs.replaying.first.Goals as goal
 

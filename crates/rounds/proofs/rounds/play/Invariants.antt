@@ -1,8 +1,9 @@
-use Rattle.std.proofs.Common.{◌≡◌, []}
+use Rattle.std.proofs.Common.{◌≡◌, [], None}
 use Rattle.semantics.specs.Machine.{Events}
 use Rattle.schedule.specs.Apart.{setting_in}
 use Rattle.rounds.specs.Turns.{logged}
-use Rattle.rounds.specs.Rounds.{IsBetween, Leads}
+use Rattle.rounds.specs.Rounds.{lanes_held, IsBetween, Leads}
+use Rattle.rounds.specs.Counted.{MakesRounds}
 use Rattle.rounds.proofs.rounds.play.Given as goal
 
 abbrev pub invariant-rounds : goal.invariant-rounds
@@ -13,4 +14,5 @@ invariant-rounds g l = record {
   made : Events;
   noted : l.setup.events.items ≡ logged l.listed l.fn.setup.events.items made;
   leads : Leads (setting_in g.C.Instructions.program g.C.Instructions.width l.fn.setup) l.fn.turners.items l.turners.items [] made;
+  makes : MakesRounds (setting_in g.C.Instructions.program g.C.Instructions.width l.fn.setup) g.G.Gate.may_stop l.rounds (lanes_held l.fn.turners.items) (lanes_held l.turners.items) made None;
 }

@@ -10,8 +10,9 @@ use Rattle.std.specs.Prelude.{All}
 use Rattle.element.specs.Near.{IsNearToken}
 use Rattle.element.specs.Held.{Fixed}
 use Rattle.rounds.specs.declared.turn.Turner.{Turner}
-use Rattle.rounds.specs.Rounds.{lanes_held, lanes_fixed, halts_in, tokens_sent, IsWhy}
-use Rattle.rounds.proofs.Closing.{at_all, closed_round}
+use Rattle.rounds.specs.Rounds.{lanes_held, lanes_fixed, halts_in, tokens_sent}
+use Rattle.rounds.specs.Counted.{IsWhy}
+use Rattle.rounds.proofs.Closing.{at_all, closed_round, refused_handing}
 use Rattle.rounds.proofs.rounds.round.Goals as goal
 
 pub hand_over-requires-clause-at : goal.hand_over-requires-clause-at
@@ -48,3 +49,14 @@ hand_over-requires-clause-near g c =
     let none : tokens_sent new ≡ [] = c.in_ok-all.ensures.all (let t = c.if-not-all.false in cc) in
     let all : tokens ++ tokens_sent new ≡ tokens = ap (λ (l : List Token). tokens ++ l) none ∙ append-nil tokens in
     near_for s (lanes_fixed new) made.runs tokens (subst (λ (l : List Token). All (IsNearToken (bounds_in s)) l) all (near_coming s (lanes_held new) (tokens ++ tokens_sent new) made.sound))
+
+pub returns-in-Err-clause-rounds : goal.returns-in-Err-clause-rounds
+returns-in-Err-clause-rounds g c =
+    let s : Setting = setting_in g.C.Instructions.program g.C.Instructions.width c.args.setup.now in
+    let new = c.make_whole_round.new.turners.items in
+    let tokens = c.make_whole_round.new.tokens.items in
+    let h = c.hand_over.ensures in
+    let none : tokens_sent new ≡ [] = c.in_ok-all.ensures.all (let t = c.if-not-all.false in cc) in
+    let all : tokens ++ tokens_sent new ≡ tokens = ap (λ (l : List Token). tokens ++ l) none ∙ append-nil tokens in
+    refused_handing {C = g.row.C.Denot} {A = g.row.A.Denot} s c.args.listed g.G.Gate.may_stop c.args.turners.now.items new c.args.setup.now.events.items c.make_whole_round.new.setup.events.items (tokens ++ tokens_sent new) c.in_ok-all.ensures.made c.hand_over.new.turners.items h.same.0
+    (h.same.1 ∙ ap (λ (l : List Token). delivered l (lanes_held new)) (sym all))

@@ -27,6 +27,7 @@ events-preserved g c =
     let element : c.element.result ≡ start.held.part.shape.element = c.element.ensures ∙ ap (λ (f : Fixed). f.shape.element) fixed in
     record {
       sound = λ _. c.step.ensures.sound;
+      made = (let m = inv.made in let d = does.count in omega (arith, m, d));
       fixed = fixed;
       turns = (
         so_far.0 ++ does.token ∷ [],

@@ -5,10 +5,10 @@ use Rattle.test_meshes.proofs.Held.{more_created, has_first, has_made_first}
 use Rattle.test_meshes.proofs.step.commit.Goals as goal
 
 pub commit_counts-requires-clause-held : goal.commit_counts-requires-clause-held
-commit_counts-requires-clause-held c = has_first _ _ _ c.requires.holds.2
+commit_counts-requires-clause-held g c = has_first _ _ _ c.requires.holds.2
 
 pub returns : goal.returns
-returns c = let h = c.requires.holds in let e = c.commit_counts.ensures.3 in record {
+returns g c = let h = c.requires.holds in let e = c.commit_counts.ensures.3 in record {
   element = ap (λ (s : SeatView). s.own.element) e;
   holds = (
     ap (λ (s : SeatView). s.mesh) e ∙ h.0,

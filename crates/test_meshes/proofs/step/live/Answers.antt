@@ -6,7 +6,7 @@ use Rattle.test_meshes.proofs.Held.{same_created}
 use Rattle.test_meshes.proofs.step.live.Goals as goal
 
 pub returns : goal.returns
-returns c = let h = c.requires.holds in let e = c.live.ensures.counts.1 in record {
+returns g c = let h = c.requires.holds in let e = c.live.ensures.counts.1 in record {
   element = (ap (λ (s : SeatView). s.own.element) e, same_created _ _ _ (created c.args.seat.now.own.deeds) (ap (λ (s : SeatView). s.own.deeds) e) refl refl);
   holds = (
     ap (λ (s : SeatView). s.mesh) e ∙ h.0,

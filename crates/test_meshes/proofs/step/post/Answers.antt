@@ -6,10 +6,10 @@ use Rattle.test_meshes.proofs.Held.{same_created, has_first, has_rest}
 use Rattle.test_meshes.proofs.step.post.Goals as goal
 
 pub post-requires-clause-held : goal.post-requires-clause-held
-post-requires-clause-held c = has_first _ _ _ c.requires.holds.2
+post-requires-clause-held g c = has_first _ _ _ c.requires.holds.2
 
 pub returns-in-Ok : goal.returns-in-Ok
-returns-in-Ok c = let h = c.requires.holds in let e = c.in-Ok.ensures.ok in record {
+returns-in-Ok g c = let h = c.requires.holds in let e = c.in-Ok.ensures.ok in record {
   element = (ap (λ (s : SeatView). s.own.element) e.2, same_created _ _ _ (created c.args.seat.now.own.deeds) (ap (λ (s : SeatView). s.own.deeds) e.2) refl refl);
   ok = (
     ap (λ (s : SeatView). s.mesh) e.2 ∙ h.0,
@@ -20,7 +20,7 @@ returns-in-Ok c = let h = c.requires.holds in let e = c.in-Ok.ensures.ok in reco
 }
 
 pub returns-in-Err : goal.returns-in-Err
-returns-in-Err c = let h = c.requires.holds in let e = c.in-Err.ensures.err in record {
+returns-in-Err g c = let h = c.requires.holds in let e = c.in-Err.ensures.err in record {
   element = (ap (λ (s : SeatView). s.own.element) e.1, same_created _ _ _ (created c.args.seat.now.own.deeds) (ap (λ (s : SeatView). s.own.deeds) e.1) refl refl);
   ok = tt;
   err = (

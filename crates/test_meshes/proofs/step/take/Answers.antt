@@ -6,7 +6,7 @@ use Rattle.test_meshes.proofs.Held.{same_created, has_more_last}
 use Rattle.test_meshes.proofs.step.take.Goals as goal
 
 pub returns-in-Some : goal.returns-in-Some
-returns-in-Some c = let h = c.requires.holds in let e = c.in-Some.ensures.some in record {
+returns-in-Some g c = let h = c.requires.holds in let e = c.in-Some.ensures.some in record {
   element = (ap (λ (s : SeatView). s.own.element) e.0, same_created _ _ _ (created c.args.seat.now.own.deeds) (ap (λ (s : SeatView). s.own.deeds) e.0) refl refl);
   some = (
     (
@@ -20,7 +20,7 @@ returns-in-Some c = let h = c.requires.holds in let e = c.in-Some.ensures.some i
 }
 
 pub returns-in-None : goal.returns-in-None
-returns-in-None c = let h = c.requires.holds in let e = c.in-None.ensures.none in record {
+returns-in-None g c = let h = c.requires.holds in let e = c.in-None.ensures.none in record {
   element = (ap (λ (s : SeatView). s.own.element) e, same_created _ _ _ (created c.args.seat.now.own.deeds) (ap (λ (s : SeatView). s.own.deeds) e) refl refl);
   some = tt;
   none = (

@@ -1,4 +1,4 @@
-use Rattle.std.proofs.Common.{◌≡◌, sym, ◌∙◌, subst, ap, ◌+◌, ℕ}
+use Rattle.std.proofs.Common.{◌∙◌, subst, ap, ℕ}
 use Rattle.semantics.specs.Machine.{put_at}
 use Rattle.replay.specs.declared.cells.Cell.{Cell}
 use Rattle.replay.specs.declared.cells.Cell.TheVariants.{Deferred}

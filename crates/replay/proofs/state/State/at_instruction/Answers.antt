@@ -1,9 +1,6 @@
-use Rattle.std.proofs.Common.{◌≡◌, sym, ◌∙◌, subst, ap, ℕ, Option, List}
-use Rattle.tags.specs.declared.slot.SlotState.{SlotState}
+use Rattle.std.proofs.Common.{◌∙◌, subst, ap, ℕ, Option, List}
 use Rattle.tags.specs.declared.token.Token.{Token}
-use Rattle.element.specs.Decoded.{instr_of}
 use Rattle.element.specs.Fired.{tokens_of, seat_of}
-use Rattle.semantics.specs.Rule.{outcome_of}
 use Rattle.replay.specs.Follows.{held_in, Sets}
 use Rattle.replay.proofs.Instructing.{fired}
 use Rattle.replay.proofs.state.State.at_instruction.Goals as goal
@@ -17,8 +14,8 @@ returns-in_ok-set_in-in-Becomes-clause-follows g c s n made holds near token hap
     let ts : List Token = tokens_of (seat_of c.args.seat) c.fire.new.made in
     let used = c.slot_used-slot.ensures in
     let count = c.count_made-made.ensures (seat_of c.args.seat) in
-    fired p c.args.self.now s holds near (g.C.Instructions.width c.args.code.now) f c.args.seat.ip c.args.port c.args.word i c.in-Becomes.after
+    fired p c.args.self.now s holds near (g.C.Instructions.width c.args.code.now) f c.args.seat.ip c.args.port c.args.word i c.state_in-state.result c.in-Becomes.after
     ts c.set_in.new.self record { deed = c.deed_at.result; made = c.count_made-made.result } made n c.requires.narrow token.to token.word c.in-Some.ensures.short c.in-Some.ensures.exact
-    (c.in-Becomes.ensures ∙ ap (λ (v : SlotState). outcome_of p (seat_of c.args.seat) (instr_of i) i.op v c.args.port c.args.word) (c.state_in-state.ensures ∙ ap (λ (r : Option ℕ). held_in slots f r) used))
+    (c.state_in-state.ensures ∙ ap (λ (r : Option ℕ). held_in slots f r) used) c.in-Becomes.ensures
     (subst (λ (r : Option ℕ). Sets slots f r c.in-Becomes.after c.set_in.new.self) used c.in_ok-set_in-in-Becomes.ensures)
-    count (c.deed_at.ensures ts (sym count)) happens
+    count c.deed_at.ensures happens

@@ -1,4 +1,4 @@
-use Rattle.std.proofs.Common.{◌≡◌, sym, ◌∙◌, subst, ap, ◌+◌, ℕ}
+use Rattle.std.proofs.Common.{sym, subst, ap}
 use Rattle.replay.specs.declared.cells.Cell.{Cell}
 use Rattle.replay.specs.declared.moment.Deed.TheVariants as deed
 use Rattle.replay.specs.Held.{kept}

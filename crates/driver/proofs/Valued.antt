@@ -1,0 +1,38 @@
+-- A report at rest with no deferred reader tells the values of the graph's ports.
+use Rattle.std.proofs.Common.{◌≡◌, ℕ, Bool, ℤ, List, sym, ◌∙◌}
+use Rattle.semantics.specs.declared.report.End.TheVariants.{Rest}
+use Rattle.semantics.specs.Graph.{Graph, flow_of}
+use Rattle.semantics.specs.Machine.{Size}
+use Rattle.semantics.specs.Report.{Report}
+use Rattle.schedule.specs.declared.config.Config.{Config}
+use Rattle.schedule.specs.Unlisted.{with_events}
+use Rattle.command_line.specs.declared.Mode.{Mode}
+use Rattle.law_values.proofs.Theorem.{runs_at_rest}
+use Rattle.driver.specs.Headline.{TellsOf, TellsTruthIn, TellsQuietly}
+use Rattle.driver.specs.Values.{TellsValues}
+use Rattle.driver.proofs.Waiting.{none_waits}
+
+pub tells_values : (text : List ℕ) (g : Graph) (inputs : List ℤ) (z : Size) (steps : ℕ) (listed may_stop : Bool) (r : Report)
+    → TellsOf text g inputs z steps listed may_stop r → r.end ≡ Rest → r.deferred ≡ 0 → TellsValues (flow_of g) inputs r
+tells_values text g inputs z steps listed may_stop r t rest none =
+    let o = t.tells.rest rest in
+    record {
+      run = o.reached.run;
+      state = o.state;
+      is_run = o.reached.is_run;
+      shown = o.shown;
+      settled = runs_at_rest g inputs t.well_formed t.inputs_fit o.reached.run o.state o.reached.is_run o.at_rest (λ x. o.no_clash o.state x o.reached) (none_waits (flow_of g) o.state.tokens (sym o.deferred ∙ none));
+    }
+
+pub modes_tell : (mode : Mode) (text : List ℕ) (g : Graph) (inputs : List ℤ) (c : Config) (may_stop : Bool) (r : Report)
+    → TellsTruthIn mode text g inputs c may_stop r → r.end ≡ Rest → r.deferred ≡ 0 → TellsValues (flow_of g) inputs r
+modes_tell Mode.One text g inputs c may_stop r t = tells_values text g inputs _ _ _ _ r t.0
+modes_tell Mode.Rounds text g inputs c may_stop r t = tells_values text g inputs _ _ _ _ r t
+modes_tell Mode.Free text g inputs c may_stop r t = tells_values text g inputs _ _ _ _ r t
+
+-- the events of a report have no part in it
+pub quiet_tells : (mode : Mode) (text : List ℕ) (g : Graph) (inputs : List ℤ) (c : Config) (may_stop : Bool) (r : Report)
+    → TellsQuietly mode text g inputs c may_stop r → r.end ≡ Rest → r.deferred ≡ 0 → TellsValues (flow_of g) inputs r
+quiet_tells mode text g inputs c may_stop r t rest none =
+    let v = modes_tell mode text g inputs c may_stop (with_events r t.2.1) t.2.2 rest none in
+    record { run = v.run; state = v.state; is_run = v.is_run; shown = record { outputs = v.shown.outputs; cells = v.shown.cells }; settled = v.settled }

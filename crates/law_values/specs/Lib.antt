@@ -1,0 +1,4 @@
+pub mod Given
+pub mod Equations
+pub mod Settled
+pub mod Shown

@@ -1,0 +1,63 @@
+-- How a free run ends: which elements halted for a reason of their own, and which of them says why the run ends.
+use Rattle.std.specs.Prelude.{◌≡◌, ℕ, ◌<◌, ◌⊎◌, ℤ, List, [], map, Bool, true, Option, Some, None, slice_get, length}
+use Rattle.tags.specs.declared.token.Token.{Token}
+use Rattle.semantics.specs.Machine.{Events}
+use Rattle.semantics.specs.Report.{Report}
+use Rattle.element.specs.Held.{Held}
+use Rattle.schedule.specs.declared.halt.Halt.{Halt}
+use Rattle.schedule.specs.Setting.{Setting}
+use Rattle.schedule.specs.State.{tokens_in}
+use Rattle.schedule.specs.Runs.{Began}
+use Rattle.schedule.specs.Told.{IsReportOf}
+use Rattle.schedule.specs.Unlisted.{with_events}
+use Rattle.rounds.specs.Turns.{HaltsLane, coming}
+use Rattle.machine.specs.declared.runner.Left.{Left}
+use Rattle.machine.specs.Runners.{HasNoReason}
+
+-- the reason of its own for which an element halted, if it did
+abbrev pub reason_of : Left → Option Halt
+reason_of (Left.Halted halt) = Some halt
+reason_of Left.Lost = None
+reason_of Left.Rested = None
+reason_of Left.Stopped = None
+
+abbrev pub reasons_of : List Left → List (Option Halt)
+reasons_of lefts = map reason_of lefts
+
+-- this is the reason of the element of least number that has one
+pub record IsLeast (reasons : List (Option Halt)) (halt : Halt) : Type 0 where
+  pub element : ℕ
+  pub there : slice_get reasons element ≡ Some (Some halt)
+  pub none_below : (e : ℕ) → e < element → slice_get reasons e ≡ Some None
+
+-- no element has one
+abbrev pub NoneHalts : List (Option Halt) → Type 0
+NoneHalts reasons = (e : ℕ) → e < length reasons → slice_get reasons e ≡ Some None
+
+-- The reason is true of what the element held when it left. An element without one had no token left, or has made as many events as a
+-- turn has: so one that has tokens, and has made fewer, has a reason.
+abbrev pub IsOwn : Setting → Bool → Held → Option Halt → Type 0
+IsOwn g may_stop h (Some halt) = HaltsLane g.program g.steps may_stop h (Some halt)
+IsOwn g may_stop h None = HasNoReason g h
+
+-- THE END OF A FREE RUN. Each element ran in its own thread until it halted for a reason of its own, until another called for a stop, or until
+-- no token was live. Of those that halted, the one of least number says why the run ends; where none did, no token is left.
+pub record EndsFreely (g : Setting) (inputs : List ℤ) (may_stop : Bool) (r : Report) : Type 0 where
+  -- what each element held when it left, by its number, and the tokens that were on their way to others
+  pub lanes : List Held
+  pub on_way : List Token
+  -- the events that the report lists led there
+  pub began : Began inputs (coming g lanes on_way) r.events
+  -- the reason of each element, where it has one
+  pub reasons : List (Option Halt)
+  pub count : length reasons ≡ length lanes
+  pub own : (e : ℕ) (h : Held) (reason : Option Halt) → slice_get lanes e ≡ Some h → slice_get reasons e ≡ Some reason → IsOwn g may_stop h reason
+  -- why the run ends
+  pub halt : Halt
+  pub least : IsLeast reasons halt ⊎ (NoneHalts reasons × (tokens_in (coming g lanes on_way).lanes ≡ []) × (halt ≡ Halt.NoToken))
+  -- and the report has that end, and tells what the elements held
+  pub told : IsReportOf (record { state = record { setting = g; lanes = lanes }; events = r.events }) halt r
+
+-- The report ends so with the events of some run; where events are listed, and these are those that were kept, it lists those of the run.
+abbrev pub EndsOn : Bool → Setting → List ℤ → Bool → Events → Events → Report → Type 0
+EndsOn listed g inputs may_stop kept events r = (shown : Events) × EndsFreely g inputs may_stop (with_events r shown) × (listed ≡ true → kept ≡ events → r.events ≡ shown)
