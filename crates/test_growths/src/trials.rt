@@ -115,8 +115,19 @@ fn is_told(row: &Row<'_>, answer: &Outcome) -> bool {
     }
 }
 
-/// How often a growth is refused before none is, if each refusal is told and the last answer is the whole one. Else an `Err`
-/// with the number of the growth where that is not so.
+/// Whether the answer is the whole one.
+fn is_whole(row: &Row<'_>, answer: &Outcome) -> bool {
+    answer.status == row.status && answer.text.as_slice() == row.wanted
+}
+
+/// Whether a growth that is refused in a run may leave the answer whole. A growth that is refused in the turn of an element that
+/// has no token is asked for again in the next turn.
+fn may_be_made_good(row: &Row<'_>) -> bool {
+    row.words.contains(&"--elements") && !matches!(row.answer, Answer::Text)
+}
+
+/// How often a growth is refused before none is, if each refusal is told or made good and the last answer is the whole one. Else
+/// an `Err` with the number of the growth where that is not so.
 pub fn refuse_each<R: Threads + Wait + Sync>(
     rt: &R,
     alloc: Global,
@@ -130,14 +141,17 @@ pub fn refuse_each<R: Threads + Wait + Sync>(
         let (answer, is_over) = rationed_answer(rt, alloc, row, ration);
         let text = answer.text.as_slice();
         if is_over {
-            let is_whole = answer.status == row.status && text == row.wanted;
-            return if is_whole { Ok(refusals) } else { Err(ration) };
+            return if is_whole(row, &answer) {
+                Ok(refusals)
+            } else {
+                Err(ration)
+            };
         }
         if answer.status == 1 && text == b"refused: memory\n".as_slice() {
             refusals.before = refusals.before.wrapping_add(1);
         } else if is_told(row, &answer) {
             refusals.within = refusals.within.wrapping_add(1);
-        } else {
+        } else if !(may_be_made_good(row) && is_whole(row, &answer)) {
             return Err(ration);
         }
     }

@@ -197,7 +197,8 @@ struct Counts {
     report: u64,
 }
 
-/// Refuses one growth after another, until none is refused; `None` where a run went wrong, or does not tell a refusal.
+/// Refuses one growth after another, until none is refused; `None` where a run went wrong. A growth that is refused in the turn of an
+/// element that has no token is asked for again in the next turn: then the run is as if none had been refused.
 fn refusals(part: &RefusingPart, alloc: Global, way: Way) -> Option<Counts> {
     let mut counts = Counts {
         start: 0,
@@ -208,14 +209,14 @@ fn refusals(part: &RefusingPart, alloc: Global, way: Way) -> Option<Counts> {
         let heap = Rationed::new(alloc, number);
         let refused = run_on(part, &heap, way)?;
         let is_over = is_next_refused(&heap);
-        if is_over != matches!(refused, Refused::Nowhere) {
-            return None;
-        }
         match refused {
+            Refused::Nowhere if is_over => return Some(counts),
+            _ if is_over => return None,
+            Refused::Nowhere if part.elements == 1 => return None,
+            Refused::Nowhere => {}
             Refused::AtTheStart => counts.start = counts.start.wrapping_add(1),
             Refused::InTheRun => counts.run = counts.run.wrapping_add(1),
             Refused::InTheReport => counts.report = counts.report.wrapping_add(1),
-            Refused::Nowhere => return Some(counts),
         }
     }
     None
