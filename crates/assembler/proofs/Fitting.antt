@@ -16,7 +16,8 @@ use Rattle.semantics.specs.declared.program.Op.{Op}
 use Rattle.semantics.specs.declared.program.Op.TheVariants.{Apply1, Apply2, Apply2Right, Apply2Left, Lit, Copy, Sync, Switch, Fetch, Store, Frame, Link, Send, Return, Ask, Open, Take, Give, Drain, Release}
 use Rattle.semantics.specs.Program.{Instr, CodeBlock, Code}
 use Rattle.semantics.specs.Rule.{slot_of}
-use Rattle.semantics.specs.Bytes.{is_dyadic, may_fault, IsDest, HasOperand, HasDests, IsOrigin, IsSlot, IsInstr, IsCodeBlock, IsCode}
+use Rattle.semantics.specs.Bytes.{is_dyadic, IsDest, HasOperand, HasDests, IsOrigin, IsSlot, IsInstr, IsCodeBlock, IsCode}
+use Rattle.semantics.specs.Opcodes.{may_fault}
 use Rattle.graph_file.specs.Given.{◌>>=◌}
 use Rattle.graph_file.proofs.Binds.{bind_ok}
 use Rattle.assembler.specs.declared.fault.AsmFaultKind.{AsmFaultKind}

@@ -27,7 +27,8 @@ use Rattle.semantics.specs.Rule.{slot_of}
 use Rattle.semantics.specs.Text.{field, literal, unary_word, binary_word}
 use Rattle.semantics.specs.Bytes.{IsSlot, IsCode}
 use Rattle.sink.specs.Numbered.{numbered}
-use Rattle.disassembler.specs.Listing.{right_in, left_in, name_of, slot_text, port_letter, dest_text, operand_text, origin_text, instr_line, literal_line, block_line, array_line, head_line, listing, listing_with_literals}
+use Rattle.disassembler.specs.Listing.{right_in, left_in, slot_text, port_letter, dest_text, operand_text, origin_text, instr_line, literal_line, block_line, array_line, head_line, listing, listing_with_literals}
+use Rattle.semantics.specs.Opcodes.{op_word}
 use Rattle.disassembler.specs.Listing as Listing
 use Rattle.graph_file.proofs.Numbers.{own, same_digits}
 use Rattle.graph_file.proofs.Marks.{weaker}
@@ -88,7 +89,7 @@ word_binary Ne = known (codes "ne") (omega arith) refl
 word_binary Lt = known (codes "lt") (omega arith) refl
 word_binary Le = known (codes "le") (omega arith) refl
 
-word_name : (op : Op) → IsWord (name_of op)
+word_name : (op : Op) → IsWord (op_word op)
 word_name (Apply1 op) = word_unary op
 word_name (Apply2 op) = word_binary op
 word_name (Apply2Right op z) = word_binary op
@@ -164,7 +165,7 @@ says_column bs ws width w h says = says_field bs (right_in width w) ws (w ∷ []
 
 tells_instr : (b : CodeBlock) (n : ℕ) (i : Instr) → n < 2 ^ 32 → HasLine b i → Tells (instr_line n i) (instr_words n i ∷ [])
 tells_instr b n i lt h =
-    let name = name_of i.op in
+    let name = op_word i.op in
     let slot = slot_text (slot_of i i.op) in
     let first = dest_text i.firsts in
     let second = dest_text i.seconds in

@@ -16,7 +16,8 @@ use Rattle.code.specs.Sound.{NamesRightly, IsSoundBlock, IsSound}
 use Rattle.fanout.specs.Narrowed.{narrowed}
 use Rattle.fanout.specs.Laws.{AllInstrs, HasItsDests}
 use Rattle.fanout.proofs.SoundPlans.{stays_sound, sound_has_dests}
-use Rattle.select.specs.Emitted.{has_sides, firsts_of, seconds_of}
+use Rattle.select.specs.Emitted.{firsts_of, seconds_of}
+use Rattle.semantics.specs.Opcodes.{has_sides}
 use Rattle.select.specs.Literals.{literal_of, listed}
 use Rattle.select.specs.Emittable.{with_table, IsEmittableInstr, IsEmittableBlock, IsEmittable}
 use Rattle.law_composition.specs.Sound.{SoundHaveObjects}

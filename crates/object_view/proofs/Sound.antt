@@ -12,10 +12,11 @@ use Rattle.semantics.specs.Bytes.{number_from, Head, head_of, dest_word, origin_
 use Rattle.object_view.specs.declared.fault.ObjectFault.TheVariants.{Truncated, BadMagic, BadVersion, BadTable, BadOpcode, BadDestination, BadSlot, BadLiteral}
 use Rattle.semantics.specs.declared.version.Version.{Version}
 use Rattle.semantics.specs.declared.version.Version.TheVariants.{One, Two}
-use Rattle.object_view.specs.declared.opcode.Opcode.{Opcode}
-use Rattle.object_view.specs.declared.opcode.Opcode.TheVariants.{Apply1, Apply2, Apply2Right, Apply2Left, Lit, Copy, Sync, Switch, Fetch, Store, Frame, Link, Send, Return, Ask, Open, Take, Give, Drain, Release}
+use Rattle.semantics.specs.declared.opcode.Opcode.{Opcode}
+use Rattle.semantics.specs.declared.opcode.Opcode.TheVariants.{Apply1, Apply2, Apply2Right, Apply2Left, Lit, Copy, Sync, Switch, Fetch, Store, Frame, Link, Send, Return, Ask, Open, Take, Give, Drain, Release}
 use Rattle.semantics.specs.Versions.{version_number}
-use Rattle.object_view.specs.Fields.{word_at, count_in, slots_in, opcode_in, slot_in, first_half, second_half, dest_of, with, may_have, may_go_to, operand_in, origin_number, origin_of}
+use Rattle.object_view.specs.Fields.{word_at, count_in, slots_in, opcode_in, slot_in, first_half, second_half, dest_of, operand_in, origin_number, origin_of}
+use Rattle.semantics.specs.Opcodes.{with, may_have, may_go_to}
 use Rattle.object_view.specs.Reading.{Opened, opened, instr_bytes, listed, shown, version_in, instrs_below, instr_count, instr_place, literal_place, array_place, word_count, literal_in, literal_or_zero, array_in, instr_as, instr_in, block_in, code_in}
 use Rattle.object_view.specs.Sending.{IsAscending}
 use Rattle.object_view.specs.Checks.{Checked, first_then, unless, each, MAGIC, counts_fit, header_checked, entry_checked, length_checked, tables_checked, arrays_checked, literal_checked, literals_checked, operand_fits, slot_fits, may_take_right, dest_fits, dests_fit, target_fits, number_checked, opcode_checked, instr_checked_as, instr_checked, block_checked, opening_checked, content_checked, checked}

@@ -50,6 +50,12 @@ on_ints Ne x y o = flag_of (int_lt x y || int_lt y x)
 on_ints Lt x y o = flag_of (int_lt x y)
 on_ints Le x y o = flag_of (int_le x y)
 
+-- the operators that make a fault where the divisor is 0
+abbrev pub is_division : Binary → Bool
+is_division Div = true
+is_division Rem = true
+is_division op = false
+
 -- a faulty operand is the result, the left one first
 abbrev pub apply1 : Unary → Value → Value
 apply1 op (Int x) = Int (on_int op x)

@@ -6,8 +6,10 @@ use Rattle.std.proofs.lemmas.List.Elements.{All-nil, All-cons, All-head, All-tai
 use Rattle.semantics.specs.Program.{Instr, CodeBlock, Code}
 use Rattle.semantics.specs.Plan.{Plan}
 use Rattle.semantics.specs.Placed.{placed}
-use Rattle.semantics.specs.Bytes.{IsDest, IsInstr, IsCodeBlock, IsCode, may_fault}
-use Rattle.select.specs.Emitted.{has_sides, emitted_program}
+use Rattle.semantics.specs.Bytes.{IsDest, IsInstr, IsCodeBlock, IsCode}
+use Rattle.semantics.specs.Opcodes.{may_fault}
+use Rattle.select.specs.Emitted.{emitted_program}
+use Rattle.semantics.specs.Opcodes.{has_sides}
 use Rattle.select.specs.Literals.{literal_of, listed, used_by, used_in, table_of, too_far, IsAscending}
 use Rattle.select.specs.Emittable.{IsEmittableInstr, IsEmittableBlock, IsEmittable, with_table}
 use Rattle.select.proofs.Tables.{near, table_has}

@@ -20,3 +20,4 @@ pub mod Reused
 pub mod LoopCode
 pub mod SharedSlots
 pub mod OperatorWords
+pub mod OpcodeWords
