@@ -28,7 +28,7 @@ use Rattle.disassembler.specs.Listing as Listing
 use Rattle.graph_file.specs.Lines.{parts}
 use Rattle.graph_file.specs.Fields.{number_of, literal_of}
 use Rattle.graph_file.proofs.Marks.{number_again, literal_again, decimal_no_dot}
-use Rattle.semantics.proofs.OpcodeWords.{named_by}
+use Rattle.semantics.proofs.OperatorWords.{named_by}
 use Rattle.assembler.specs.Grammar.{origin_words}
 use Rattle.assembler.specs.Fields.{then_some, tagged, below, small_of, wide_of, small_behind, wide_behind, literal_behind, side_behind, no_operand, sided, binary_from, pair_of, entry_parts, entry_of, entry_behind, op_of, slot_from, dest_to, dest_parts, dest_behind, dest_of, node_of, place_of, place_parts, place_in, origin_of}
 use Rattle.assembler.specs.Lines.{origin_from}

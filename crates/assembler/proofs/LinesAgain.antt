@@ -24,7 +24,7 @@ use Rattle.assembler.specs.declared.fault.AsmFaultKind.TheVariants.{BadLine, Bad
 use Rattle.assembler.specs.Words.{Word}
 use Rattle.assembler.specs.Grammar.{head_words, origin_words, instr_words}
 use Rattle.semantics.specs.Opcodes.{op_word, opcode_named}
-use Rattle.semantics.proofs.OpcodeWords.{named_by, word_again}
+use Rattle.semantics.proofs.OperatorWords.{named_by, word_again}
 use Rattle.assembler.specs.Fields.{op_of, slot_from, dest_of}
 use Rattle.assembler.specs.Lines.{word_from, none_from, key_from, number_from, count_from, keyed_from, head_from, block_from, array_from, literal_from, origin_from, op_from, Tail, tail_from, named_from, instr_from}
 use Rattle.assembler.proofs.Again.{HasRoom, op_again, slot_again, IsNear, dest_again, IsPlace, origin_again}

@@ -23,7 +23,7 @@ use Rattle.assembler.specs.declared.fault.AsmFaultKind.TheVariants.{BadLine, Bad
 use Rattle.assembler.specs.Words.{Word}
 use Rattle.assembler.specs.Grammar.{head_words, block_words, origin_words, instr_words, array_words, literal_words}
 use Rattle.semantics.specs.Opcodes.{opcode_named, op_word}
-use Rattle.semantics.proofs.OpcodeWords.{opcode_is}
+use Rattle.semantics.proofs.OperatorWords.{opcode_is}
 use Rattle.assembler.specs.Fields.{op_of, slot_from, dest_of, origin_of}
 use Rattle.assembler.specs.Lines.{word_from, none_from, key_from, number_from, count_from, keyed_from, head_from, block_from, array_from, literal_from, origin_from, op_from, Tail, tail_from, named_from, instr_from}
 use Rattle.assembler.proofs.Spelled.{op_is, slot_is, dest_is, origin_is}

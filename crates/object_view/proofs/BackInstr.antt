@@ -19,7 +19,7 @@ use Rattle.semantics.specs.declared.version.Version.{Version}
 use Rattle.semantics.specs.declared.version.Version.TheVariants.{One, Two}
 use Rattle.semantics.specs.declared.opcode.Opcode.{Opcode}
 use Rattle.semantics.specs.declared.opcode.Opcode.TheVariants as Named
-use Rattle.operators.proofs.Every.{each_binary}
+use Rattle.semantics.proofs.OperatorWords.{binary_back, binary_few}
 use Rattle.semantics.specs.Opcodes as Opcodes
 use Rattle.semantics.specs.Opcodes.{binary_code, opcode_for}
 use Rattle.object_view.specs.Fields.{opcode_in, slot_in, first_half, second_half, dest_of, port_of, operand_in, origin_number, origin_of}
@@ -27,9 +27,6 @@ use Rattle.semantics.specs.Opcodes.{binary_of, opcode_from, opcode_of, with, mak
 use Rattle.object_view.specs.Reading.{shown, version_in, instr_as, literal_or_zero}
 use Rattle.object_view.proofs.Lawful.{same_fault}
 use Rattle.object_view.proofs.Numbers.{number_most}
-
-binary_back : (op : Binary) → binary_of (binary_code op) ≡ Some op
-binary_back = each_binary (λ op. binary_of (binary_code op) ≡ Some op) (refl, (refl, (refl, (refl, (refl, (refl, (refl, (refl, (refl, (refl, (refl, (refl, (refl, (refl, tt))))))))))))))
 
 pub opcode_back : (ls : List ℤ) (op : Op) → opcode_of (head_of ls op).opcode (head_of ls op).flag ≡ Some (opcode_for op)
 unfolding opcode_of
@@ -54,9 +51,6 @@ opcode_back ls (Take k) = refl
 opcode_back ls (Give k) = refl
 opcode_back ls (Drain k) = refl
 opcode_back ls (Release o) = refl
-
-binary_few : (op : Binary) → binary_code op < 2 ^ 8
-binary_few = each_binary (λ op. binary_code op < 2 ^ 8) (omega arith, (omega arith, (omega arith, (omega arith, (omega arith, (omega arith, (omega arith, (omega arith, (omega arith, (omega arith, (omega arith, (omega arith, (omega arith, (omega arith, tt))))))))))))))
 
 pub opcode_few : (ls : List ℤ) (op : Op) → (head_of ls op).opcode < 2 ^ 8
 opcode_few ls (Apply1 Neg) = omega arith

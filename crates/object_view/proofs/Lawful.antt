@@ -9,7 +9,6 @@ use Rattle.std.proofs.lemmas.List.Sums.{sum-map, sum_by-cons}
 use Rattle.tags.specs.declared.token.Port.{Port}
 use Rattle.tags.specs.declared.token.Port.TheVariants.{Left, Right}
 use Rattle.tags.specs.declared.value.Origin.TheVariants.{Untold, At}
-use Rattle.operators.specs.declared.Binary.TheVariants.{Add, Sub, Mul, Div, Rem, And, Or, Xor, Shl, Shr, Eq, Ne, Lt, Le}
 use Rattle.semantics.specs.declared.program.Dest.{Dest}
 use Rattle.semantics.specs.Program.{Instr, CodeBlock}
 use Rattle.semantics.specs.Rule.{slot_of}
@@ -126,48 +125,9 @@ operand_there w Drain k c m t n = bound_there k m
 operand_there w Release k c m t n = omega (arith, leb-true k 255 t)
 
 pub same_fault : (o : Opcode) (k : ℕ) (z : ℤ) → Opcodes.may_fault (with o k z) ≡ makes_faults o
-same_fault (Apply2 Add) k z = refl
-same_fault (Apply2 Sub) k z = refl
-same_fault (Apply2 Mul) k z = refl
-same_fault (Apply2 Div) k z = refl
-same_fault (Apply2 Rem) k z = refl
-same_fault (Apply2 And) k z = refl
-same_fault (Apply2 Or) k z = refl
-same_fault (Apply2 Xor) k z = refl
-same_fault (Apply2 Shl) k z = refl
-same_fault (Apply2 Shr) k z = refl
-same_fault (Apply2 Eq) k z = refl
-same_fault (Apply2 Ne) k z = refl
-same_fault (Apply2 Lt) k z = refl
-same_fault (Apply2 Le) k z = refl
-same_fault (Apply2Right Add) k z = refl
-same_fault (Apply2Right Sub) k z = refl
-same_fault (Apply2Right Mul) k z = refl
-same_fault (Apply2Right Div) k z = refl
-same_fault (Apply2Right Rem) k z = refl
-same_fault (Apply2Right And) k z = refl
-same_fault (Apply2Right Or) k z = refl
-same_fault (Apply2Right Xor) k z = refl
-same_fault (Apply2Right Shl) k z = refl
-same_fault (Apply2Right Shr) k z = refl
-same_fault (Apply2Right Eq) k z = refl
-same_fault (Apply2Right Ne) k z = refl
-same_fault (Apply2Right Lt) k z = refl
-same_fault (Apply2Right Le) k z = refl
-same_fault (Apply2Left Add) k z = refl
-same_fault (Apply2Left Sub) k z = refl
-same_fault (Apply2Left Mul) k z = refl
-same_fault (Apply2Left Div) k z = refl
-same_fault (Apply2Left Rem) k z = refl
-same_fault (Apply2Left And) k z = refl
-same_fault (Apply2Left Or) k z = refl
-same_fault (Apply2Left Xor) k z = refl
-same_fault (Apply2Left Shl) k z = refl
-same_fault (Apply2Left Shr) k z = refl
-same_fault (Apply2Left Eq) k z = refl
-same_fault (Apply2Left Ne) k z = refl
-same_fault (Apply2Left Lt) k z = refl
-same_fault (Apply2Left Le) k z = refl
+same_fault (Apply2 op) k z = refl
+same_fault (Apply2Right op) k z = refl
+same_fault (Apply2Left op) k z = refl
 same_fault (Apply1 op) k z = refl
 same_fault Lit k z = refl
 same_fault Copy k z = refl

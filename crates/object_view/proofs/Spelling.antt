@@ -6,11 +6,11 @@ use Rattle.tags.specs.declared.token.Port.TheVariants.{Left, Right}
 use Rattle.tags.specs.declared.value.Origin.TheVariants.{Untold, At}
 use Rattle.operators.specs.declared.Unary.TheVariants.{Neg, Not}
 use Rattle.operators.specs.declared.Binary.{Binary}
-use Rattle.operators.specs.declared.Binary.TheVariants.{Add, Sub, Mul, Div, Rem, And, Or, Xor, Shl, Shr, Eq, Ne, Lt, Le}
 use Rattle.semantics.specs.Bytes.{number_from, head, head_of, dest_word, port_bit, origin_code}
 use Rattle.semantics.specs.declared.version.Version.{Version}
 use Rattle.semantics.specs.declared.opcode.Opcode.{Opcode}
 use Rattle.semantics.specs.declared.opcode.Opcode.TheVariants.{Apply1, Apply2, Apply2Right, Apply2Left, Lit, Copy, Sync, Switch, Fetch, Store, Frame, Link, Send, Return, Ask, Open, Take, Give, Drain, Release}
+use Rattle.semantics.proofs.OperatorWords.{binary_numbered}
 use Rattle.semantics.specs.Opcodes.{binary_code, code_number, flag_number}
 use Rattle.object_view.specs.Fields.{dest_of, port_of, has_origin, operand_in, origin_number, origin_of}
 use Rattle.semantics.specs.Opcodes.{binary_of, flagged, unflagged, opcode_from, opcode_of, with}
@@ -35,13 +35,6 @@ lookup_holds {X} P c x (p ∷ ps) k h = go (lookup_holds P c x ps k.1) (c == p.0
         let key : p.0 ≡ c = sym (eqb-true c p.0 e) in
         subst (λ (n : ℕ). P n x) key (subst (λ (y : X). P p.0 y) same k.0)
     go later false e q = later q
-
-abbrev binaries : List (ℕ × Binary)
-binaries = (1, Add) ∷ (2, Sub) ∷ (3, Mul) ∷ (4, Div) ∷ (5, Rem) ∷ (6, And) ∷ (7, Or) ∷ (8, Xor) ∷ (9, Shl) ∷ (10, Shr) ∷ (11, Eq) ∷ (12, Ne) ∷ (13, Lt) ∷ (14, Le) ∷ []
-
-binary_numbered : (c : ℕ) (op : Binary) → binary_of c ≡ Some op → binary_code op ≡ c
-unfolding lookup Holds
-binary_numbered c op h = lookup_holds (λ (n : ℕ) (b : Binary). binary_code b ≡ n) c op binaries (refl, (refl, (refl, (refl, (refl, (refl, (refl, (refl, (refl, (refl, (refl, (refl, (refl, (refl, tt)))))))))))))) h
 
 abbrev plain : List (ℕ × Opcode)
 plain = (15, Apply1 Neg) ∷ (16, Apply1 Not) ∷ (17, Lit) ∷ (18, Copy) ∷ (19, Sync) ∷ (20, Switch) ∷ (21, Fetch) ∷ (22, Store) ∷ (23, Frame) ∷ (24, Link) ∷ (25, Send) ∷ (26, Return) ∷ (27, Ask) ∷ (28, Open) ∷ (29, Take) ∷ (30, Give) ∷ (31, Drain) ∷ (32, Release) ∷ []

@@ -20,4 +20,3 @@ pub mod Reused
 pub mod LoopCode
 pub mod SharedSlots
 pub mod OperatorWords
-pub mod OpcodeWords

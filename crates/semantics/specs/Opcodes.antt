@@ -7,7 +7,7 @@ use Rattle.tags.specs.declared.token.Port.TheVariants.{Left, Right}
 use Rattle.operators.specs.declared.Unary.TheVariants.{Neg, Not}
 use Rattle.operators.specs.declared.Binary.{Binary}
 use Rattle.operators.specs.declared.Binary.TheVariants.{Add, Sub, Mul, Div, Rem, And, Or, Xor, Shl, Shr, Eq, Ne, Lt, Le}
-use Rattle.operators.specs.Values.{is_division}
+use Rattle.operators.specs.Values.{binaries, is_division}
 use Rattle.semantics.specs.declared.program.Dest.{Dest}
 use Rattle.semantics.specs.declared.program.Op.{Op}
 use Rattle.semantics.specs.declared.program.Op.TheVariants as ops
@@ -140,23 +140,12 @@ flag_number (Apply2Left op) = 2
 flag_number o = 0
 
 -- the other way round
+abbrev pub coded : List Binary → ℕ → Option Binary
+coded [] c = None
+coded (op ∷ ops) c = if c == binary_code op then Some op else coded ops c
+
 abbrev pub binary_of : ℕ → Option Binary
-binary_of c =
-    if c == 1 then Some Add
-    else if c == 2 then Some Sub
-    else if c == 3 then Some Mul
-    else if c == 4 then Some Div
-    else if c == 5 then Some Rem
-    else if c == 6 then Some And
-    else if c == 7 then Some Or
-    else if c == 8 then Some Xor
-    else if c == 9 then Some Shl
-    else if c == 10 then Some Shr
-    else if c == 11 then Some Eq
-    else if c == 12 then Some Ne
-    else if c == 13 then Some Lt
-    else if c == 14 then Some Le
-    else None
+binary_of c = coded binaries c
 
 abbrev pub flagged : Binary → ℕ → Option Opcode
 flagged op f =
