@@ -1,11 +1,11 @@
 -- Two different activities of one state: both orders lead to one state, or both fill one cell.
-use Rattle.std.proofs.Common.{◌≡◌, ℕ, Bool, List, [], ◌∷◌, ◌++◌, Option, Some, None, if◌then◌else◌, IsPermutation, refl, sym, ap, ◌∙◌, subst, subst₂, ⊎_elim, eq-eqb, append_assoc}
-use Rattle.std.proofs.lemmas.List.Sorted.{IsPermutation-refl, IsPermutation-sym, IsPermutation-trans, IsPermutation-append_left, IsPermutation-append_right, IsPermutation-append_comm}
+use Rattle.std.proofs.Common.{◌≡◌, ℕ, Bool, List, [], ◌∷◌, ◌++◌, Option, Some, None, if◌then◌else◌, IsPermutation, refl, sym, ap, ◌∙◌, subst, subst₂, ⊎_elim, eq-eqb}
+use Rattle.std.proofs.lemmas.List.Sorted.{IsPermutation-refl, IsPermutation-sym, IsPermutation-trans, IsPermutation-append_right}
 use Rattle.tags.specs.declared.value.Value.{Value}
 use Rattle.semantics.specs.Graph.{Flow}
 use Rattle.semantics.specs.Meaning.{Context, AtOut, Tagged, Memory, State, Effect, Activity, Fires, Outputs, taken, Deed, Fills, Puts, deed, done, done_if, effect, adds, tokens_of, Sends, with_cell, at_place, Step, Same, Clashes}
 use Rattle.law_determinacy.proofs.Options.{some_same}
-use Rattle.law_determinacy.proofs.Perm.{Within, Meet, each_from, spread_permutation, within_permutation, within_left, permutation_meet, permutation_cancel}
+use Rattle.lemmas.proofs.Permutations.{Within, Meet, each_from, spread_permutation, within_permutation, within_left, permutation_meet, permutation_cancel, permutation_exchange}
 use Rattle.law_determinacy.proofs.Keys.{Differ, Unique, Held, differ_turn, same_activity}
 use Rattle.law_determinacy.proofs.Deeds.{Apart, SameCell, Commutes, commutes, kept, empty_of}
 use Rattle.law_determinacy.proofs.Shapes.{storing, showing}
@@ -26,10 +26,6 @@ effect_of fl m a d E p q = ap (λ o. done_if fl m o) p ∙ q
 pub held_from : (ts us rest : List Tagged) → IsPermutation ts (us ++ rest) → Held ts us
 held_from ts us rest p =
     each_from (λ t. Within t ts) us (λ x h. within_permutation x (us ++ rest) ts (IsPermutation-sym ts (us ++ rest) p) (within_left x us rest h))
-
-pub permutation_exchange : {X : Type 0} (xs ys zs : List X) → IsPermutation (xs ++ (ys ++ zs)) (ys ++ (xs ++ zs))
-permutation_exchange xs ys zs =
-    subst₂ (λ l r. IsPermutation l r) (append_assoc xs ys zs) (append_assoc ys xs zs) (IsPermutation-append_left zs (xs ++ ys) (ys ++ xs) (IsPermutation-append_comm xs ys))
 
 -- old is a, then b, then a rest: so b is there after the step by a, and the rest has what a added
 pub moved_on : {X : Type 0} (new added rest bs ws : List X) → IsPermutation new (added ++ rest) → IsPermutation rest (bs ++ ws) → IsPermutation new (bs ++ (added ++ ws))

@@ -8,7 +8,7 @@ use Rattle.semantics.specs.declared.graph.Kind.{Kind}
 use Rattle.semantics.specs.declared.graph.Kind.TheVariants.{Call, StrictCall, Loop}
 use Rattle.semantics.specs.Graph.{Node, Block, Flow, node_at}
 use Rattle.semantics.specs.Meaning.{Context, Turned, AtNode, AtTurn, Operand, Predicate, Flag, Tagged, tagged, Activity, taken, operands_from, callee, callee_of, callee_in, block_numbered, block_of, Message}
-use Rattle.law_determinacy.proofs.Perm.{Each}
+use Rattle.lemmas.proofs.Permutations.{Each}
 use Rattle.law_determinacy.proofs.Keys.{Together, mode_of, mode_node, mode_in, mode_at}
 use Rattle.law_determinacy.proofs.Rows.{Class, Plain, Telling, Gate, Join, Calling, Strict, Looping, class_of, class_node, class_in, class_at, region_node, region_in, region_at, Row, RowFires, RowTells, RowGates, RowQuiet, RowMerges, RowCalls, RowStrict, RowLoops, RowReturns, RowAgain, RowLeaves}
 use Rattle.law_determinacy.proofs.Laws.{IsFlowWell, IsInvoking, well_at, Tokens, HasArgument, HasFlag, ContextLaw, ArmLaw, LineLaw, Lawful, Grounded}

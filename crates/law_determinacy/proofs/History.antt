@@ -5,10 +5,10 @@ use Rattle.tags.specs.declared.value.Value.TheVariants.{Int}
 use Rattle.semantics.specs.Graph.{Block, Flow}
 use Rattle.semantics.specs.Meaning.{Main, Tagged, State, Memory, Effect, Activity, taken, Deed, Says, Reads, Fills, Puts, done, adds, with_cell, Message, Sends, Tells, Enters, Nothing, tokens_of, block_of, Step, Same, Run, Stood, Reached, AtRest, start}
 use Rattle.law_determinacy.proofs.Options.{some_same}
-use Rattle.law_determinacy.proofs.Perm.{Within, Each, each_from, each_within, each_weaker, spread_append, spread_append_back, spread_permutation, within_permutation, within_append, within_left, within_right, within_from, within_to}
+use Rattle.lemmas.proofs.Permutations.{Within, Each, each_from, each_within, each_weaker, spread_append, spread_append_back, spread_permutation, within_permutation, within_append, within_left, within_right, within_from, within_to, permutation_exchange}
 use Rattle.law_determinacy.proofs.Keys.{Differ, Unique, Held, differ_turn, unique_same}
 use Rattle.law_determinacy.proofs.Deeds.{full_of, empty_of}
-use Rattle.law_determinacy.proofs.Diamond.{deed_of, held_from, permutation_exchange}
+use Rattle.law_determinacy.proofs.Diamond.{deed_of, held_from}
 use Rattle.law_determinacy.proofs.Determinacy.{IsKept, Converges, determinate}
 use Rattle.law_determinacy.proofs.Uses.{Member, tokens_member, tokens_unique, entering_member, entering_unique}
 use Rattle.law_determinacy.proofs.Rows.{Speaks, Row, rows}

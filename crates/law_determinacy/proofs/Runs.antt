@@ -5,7 +5,7 @@ use Rattle.tags.specs.declared.value.Value.{Value}
 use Rattle.semantics.specs.Graph.{Flow}
 use Rattle.semantics.specs.Meaning.{Main, AtOut, Operand, Tagged, tagged, Memory, State, Effect, Activity, Outputs, taken, Deed, Says, Reads, Fills, Puts, Sends, done, adds, tokens_of, with_cell, at_place, effect, Step, Same, Run, Reached, Leads, start}
 use Rattle.law_determinacy.proofs.Options.{some_same}
-use Rattle.law_determinacy.proofs.Perm.{Within, Each, put_first, each_within, within_append, within_left, within_right, spread_append_back}
+use Rattle.lemmas.proofs.Permutations.{Within, Each, put_first, each_within, within_append, within_left, within_right, spread_append_back}
 use Rattle.law_determinacy.proofs.Keys.{Differ, Unique}
 use Rattle.law_determinacy.proofs.Shapes.{showing}
 use Rattle.law_determinacy.proofs.Deeds.{CellsKept, kept, full_of, empty_of}

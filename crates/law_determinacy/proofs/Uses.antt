@@ -9,7 +9,7 @@ use Rattle.semantics.specs.declared.graph.Kind.{Kind}
 use Rattle.semantics.specs.declared.graph.Kind.TheVariants.{Enter}
 use Rattle.semantics.specs.Graph.{Node, Block, Flow, node_at}
 use Rattle.semantics.specs.Meaning.{Context, Main, Called, Turned, Statement, AtNode, AtOut, AtTurn, Port, Operand, Predicate, Flag, Carried, Tagged, tagged, positions, uses_at, turns_from, result_uses, uses_in, sent_in, block_of, entering, Message, Sends, Tells, Enters, Nothing, tokens_of, predicates_from, predicates_in, is_enter_of}
-use Rattle.law_determinacy.proofs.Perm.{Within, Each, Spread, put_first, put_later, each_weaker, each_from, each_append, each_map, each_flat_map, spread_append, spread_map, spread_weaker, spread_flat_map, within_map, within_flat_map, within_right}
+use Rattle.lemmas.proofs.Permutations.{Within, Each, Spread, put_first, put_later, each_weaker, each_from, each_append, each_map, each_flat_map, spread_append, spread_map, spread_weaker, spread_flat_map, within_map, within_flat_map, within_right}
 use Rattle.law_determinacy.proofs.Keys.{Differ, Unique}
 
 -- the output port p of node n

@@ -2,7 +2,7 @@
 use Rattle.std.proofs.Common.{◌≡◌, ℕ, zero, suc, ◌+◌, Bool, true, false, cond, List, [], ◌∷◌, ◌++◌, length, refl, sym, ap, ◌∙◌, subst, arith, append_assoc, append-nil, if◌then◌else◌, Some, nat_lt, lt-ltb, zero-add, sum_by}
 use Rattle.std.specs.Prelude.{slice_get, count_by, ⊤}
 use Rattle.std.proofs.lemmas.List.Sums.{sum-map, sum_by-cons}
-use Rattle.law_net.proofs.Orders.{IsPermutation-same}
+use Rattle.lemmas.proofs.Permutations.{permutation_same}
 use Rattle.semantics.specs.declared.graph.Kind.{Kind}
 use Rattle.semantics.specs.declared.graph.Kind.TheVariants.{Lit, Apply1, Apply2, Cond, Enter, Merge, Fetch, Store, Call, StrictCall, Loop}
 use Rattle.semantics.specs.declared.program.Mark.{Mark}
@@ -162,7 +162,7 @@ pub has_bounds : (fl : Flow) → HasBounds fl (expanded fl).program
 has_bounds fl =
     let good = all_good fl in (
       good_count (expanded fl).program.blocks (expanded fl).marks (coded_blocks fl) good,
-      λ b c g e f. IsPermutation-same (opens c.instrs) (loop_bounds g) (good_opens (expanded fl).program.blocks (expanded fl).marks (coded_blocks fl) good b c g e f),
+      λ b c g e f. permutation_same (opens c.instrs) (loop_bounds g) (good_opens (expanded fl).program.blocks (expanded fl).marks (coded_blocks fl) good b c g e f),
     )
 
 pub marks_fit : (fl : Flow) → MarksFit (expanded fl)

@@ -32,9 +32,9 @@ use Rattle.law_fold.proofs.FoldRules.{FitsSlot}
 use Rattle.law_fold.proofs.FoldParts.{Clump, meant_of, in_meant}
 use Rattle.law_fold.proofs.FoldPast.{again}
 use Rattle.std.specs.Prelude.{nat_lt}
+use Rattle.lemmas.proofs.Permutations.{one_out}
 use Rattle.semantics.specs.Machine.{unless_back, unless_value, filled, host_rule, outputs_of}
 use Rattle.law_once.proofs.SpreadSteps.{slot_same}
-use Rattle.law_fold.proofs.Readies.{one_out}
 use Rattle.law_fold.proofs.FoldRules.{Matches, rule_match}
 use Rattle.law_fold.proofs.FoldEvents.{slot_there}
 use Rattle.law_fold.proofs.FoldPast.{same_sums, value_of}

@@ -1,23 +1,15 @@
 -- Tokens are addressed, so only an element's own blocks spend them: a block whose tokens are in the pool may be taken first.
-use Rattle.std.proofs.Common.{◌≡◌, ◌≢◌, refl, sym, ◌∙◌, ap, subst, ℕ, suc, Bool, true, false, List, [], ◌∷◌, ◌++◌, length, append_assoc, ⊎_elim}
+use Rattle.std.proofs.Common.{◌≡◌, ◌≢◌, refl, sym, ◌∙◌, ap, subst, ℕ, suc, Bool, true, false, List, [], ◌∷◌, ◌++◌, length, ⊎_elim}
 use Rattle.std.specs.Prelude.{All, IsPermutation, ◌==◌, map}
 use Rattle.std.proofs.lemmas.Bool.{eqb-true, eqb-false}
 use Rattle.std.proofs.lemmas.List.Elements.{All-contains}
-use Rattle.std.proofs.lemmas.List.Sorted.{IsPermutation-refl, IsPermutation-sym, IsPermutation-trans, IsPermutation-append, IsPermutation-append_comm}
-use Rattle.law_determinacy.proofs.Perm.{within_to, Meet, permutation_cancel, permutation_meet}
+use Rattle.std.proofs.lemmas.List.Sorted.{IsPermutation-refl, IsPermutation-sym, IsPermutation-trans, IsPermutation-append}
+use Rattle.lemmas.proofs.Permutations.{within_to, Meet, permutation_cancel, permutation_meet, permutation_exchange}
 use Rattle.tags.specs.declared.token.Token.{Token}
 use Rattle.tags.specs.Addresses.{element_of}
 use Rattle.law_free_runs.specs.Blocks.{Block, blocks_by, if_by, entry_of, LeavesTokens}
 use Rattle.law_free_runs.specs.Laws.{TakesFirst}
 use Rattle.law_free_runs.proofs.Running.{leaves_same, by_same, by_other}
-
--- the middle list comes to the front
-pub swapped : (as' bs cs : List Token) → IsPermutation (as' ++ (bs ++ cs)) (bs ++ (as' ++ cs))
-swapped as' bs cs =
-    let one : as' ++ (bs ++ cs) ≡ (as' ++ bs) ++ cs = sym (append_assoc as' bs cs) in
-    let two : (bs ++ as') ++ cs ≡ bs ++ (as' ++ cs) = append_assoc bs as' cs in
-    let mid = IsPermutation-append (as' ++ bs) (bs ++ as') cs cs (IsPermutation-append_comm as' bs) (IsPermutation-refl cs) in
-    subst (λ (l : List Token). IsPermutation l (bs ++ (as' ++ cs))) (sym one) (subst (λ (l : List Token). IsPermutation ((as' ++ bs) ++ cs) l) two mid)
 
 -- a list behind another one may be in another order
 pub behind : (as' bs cs : List Token) → IsPermutation bs cs → IsPermutation (as' ++ bs) (as' ++ cs)
@@ -68,9 +60,9 @@ taken_other : (n e : ℕ) (x b : Block) (later log : List Block) (tokens rest la
     → (ws : List Token) → IsPermutation rest (x.spent ++ ws)
     → Taken n e b later log (x.made ++ ws) last → Taken n e b later (x ∷ log) rest last
 taken_other n e x b later log tokens rest last other leaves is ws meets ih =
-    let before = IsPermutation-trans (b.made ++ rest) (b.made ++ (x.spent ++ ws)) (x.spent ++ (b.made ++ ws)) (behind b.made rest (x.spent ++ ws) meets) (swapped b.made x.spent ws) in (
+    let before = IsPermutation-trans (b.made ++ rest) (b.made ++ (x.spent ++ ws)) (x.spent ++ (b.made ++ ws)) (behind b.made rest (x.spent ++ ws) meets) (permutation_exchange b.made x.spent ws) in (
       x ∷ ih.0,
-      (b.made ++ ws, before, leaves.2, leaves_same n (x.made ++ (b.made ++ ws)) (b.made ++ (x.made ++ ws)) (map entry_of ih.0) last (swapped x.made b.made ws) ih.1),
+      (b.made ++ ws, before, leaves.2, leaves_same n (x.made ++ (b.made ++ ws)) (b.made ++ (x.made ++ ws)) (map entry_of ih.0) last (permutation_exchange x.made b.made ws) ih.1),
       first_other x ih.0 e other ∙ ih.2,
       (λ i ne. ap (λ (l : List Block). if_by i x ++ l) (ih.3 i ne)),
       ap suc ih.4,
@@ -104,6 +96,6 @@ takes_first n e b later (x ∷ log) tokens rest last leaves is perm =
           let both = IsPermutation-trans (b.spent ++ rest) tokens (x.spent ++ leaves.0) (IsPermutation-sym tokens (b.spent ++ rest) perm) leaves.1 in
           ⊎_elim (λ (m : Meet b.spent x.spent). absurd (no_meet n e x b other mine leaves.2 m))
           (λ h.
-          let next = IsPermutation-trans (x.made ++ leaves.0) (x.made ++ (b.spent ++ h.0)) (b.spent ++ (x.made ++ h.0)) (behind x.made leaves.0 (b.spent ++ h.0) h.2) (swapped x.made b.spent h.0) in
+          let next = IsPermutation-trans (x.made ++ leaves.0) (x.made ++ (b.spent ++ h.0)) (b.spent ++ (x.made ++ h.0)) (behind x.made leaves.0 (b.spent ++ h.0) h.2) (permutation_exchange x.made b.spent h.0) in
           taken_other n e x b later log tokens rest last other leaves here h.0 h.1 (again (x.made ++ leaves.0) (x.made ++ h.0) leaves.3 here next))
           (permutation_meet b.spent x.spent rest leaves.0 both)

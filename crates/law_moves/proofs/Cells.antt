@@ -1,6 +1,7 @@
 -- Fetches and stores, at their nodes and at their cells.
 use Rattle.std.proofs.Common.{◌≡◌, ℕ, ◌+◌, Bool, true, false, List, [], ◌∷◌, ◌++◌, take, refl, sym, ap, ◌∙◌, subst, inl, inr, ◌⊎◌, arith, true≢false, Option, Some, None, if◌then◌else◌, sum}
 use Rattle.std.specs.Prelude.{Contains, slice_index_or}
+use Rattle.lemmas.proofs.Permutations.{permutation_same}
 use Rattle.tags.specs.declared.value.Value.{Value}
 use Rattle.tags.specs.declared.value.Origin.{Origin}
 use Rattle.tags.specs.declared.token.Cont.{Cont}
@@ -20,7 +21,7 @@ use Rattle.semantics.specs.Program.{Instr}
 use Rattle.semantics.specs.Rule.{Seat, token, to_each, answer_to, asks_for, puts, fires, fire_one, fire_two, array_base, array_len}
 use Rattle.semantics.specs.Machine.{Store, Fires, with_slot}
 use Rattle.law_net.proofs.NetSlots.{InSlots}
-use Rattle.law_net.proofs.Orders.{at_last, IsPermutation-same}
+use Rattle.law_net.proofs.Orders.{at_last}
 use Rattle.law_net.proofs.Members.{contains_head, contains_none}
 use Rattle.law_reuse.proofs.Stands.{some_same}
 use Rattle.law_once.specs.Alike.{plain_dests}
@@ -172,7 +173,7 @@ module _ {stage : ℕ} (s : Taking stage) (n : ℕ) (e : s.i.inlet.part ≡ Line
       later = net.waiting;
       waiting = refl;
       paired = λ j h. absurd (contains_none j h);
-      took = IsPermutation-same _ _ ((λ t. mine l refl one refl t ∷ []) ∙ sym (takes_one l refl one s.i.word signal s.i.inlet.way));
+      took = permutation_same _ _ ((λ t. mine l refl one refl t ∷ []) ∙ sym (takes_one l refl one s.i.word signal s.i.inlet.way));
       part = refl;
       held = held;
       makes_is = if_true (is_cell b n) _ _ cell;

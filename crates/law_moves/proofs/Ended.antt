@@ -2,6 +2,7 @@
 use Rattle.std.proofs.Common.{◌≡◌, ℕ, ◌+◌, ◌<◌, Bool, true, false, List, [], ◌∷◌, ◌++◌, map, refl, sym, ap, ◌∙◌, subst, inl, inr, ◌⊎◌, arith, true≢false, Some, eqb-true, eq-eqb, lt-ltb}
 use Rattle.std.specs.Prelude.{Contains, count_by}
 use Rattle.std.proofs.lemmas.Bool.{and_parts, and_from, or_left, or_right, cases_eq, cases_Bool, false_from_ne_true}
+use Rattle.lemmas.proofs.Permutations.{permutation_same}
 use Rattle.tags.specs.declared.token.Port.TheVariants.{Left}
 use Rattle.tags.specs.declared.token.Word.{Word}
 use Rattle.tags.specs.declared.token.To.{To}
@@ -15,7 +16,6 @@ use Rattle.semantics.specs.Machine.{Fires}
 use Rattle.semantics.specs.Orderly.{is_at}
 use Rattle.semantics.specs.Credits.{released_at, released_by}
 use Rattle.law_net.specs.Roles.{one}
-use Rattle.law_net.proofs.Orders.{IsPermutation-same}
 use Rattle.law_net.proofs.Members.{contains_cases, contains_none}
 use Rattle.law_contexts.specs.Parts.{Part, End, Giver, CallDone, Landing, Freed, inlet, Note, BackTo, signal, Item, item, each, same_context}
 use Rattle.law_contexts.specs.Blocks.{side, is_call, is_loop, op_of, there_in, result_count}
@@ -164,7 +164,7 @@ module _ {stage : ℕ} (s : Taking stage) (c d : Context) (n o t : ℕ) (q : Par
       books = g.books;
       makes_is = ap (λ (l : List Item). item c (inlet Freed Left 0) signal ∷ l) g.ends ∙ ap (λ l. ending ++ each c signal l) (sym no_wire);
       dests = [];
-      leads = IsPermutation-same _ _ (ap (map (stands_at (wiring_in s.fl s.w c))) (sym no_wire));
+      leads = permutation_same _ _ (ap (map (stands_at (wiring_in s.fl s.w c))) (sym no_wire));
       plain_dest = λ x h. absurd (contains_none x h);
       did = m;
       released = released m.0;

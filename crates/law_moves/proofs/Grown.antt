@@ -5,6 +5,7 @@ use Rattle.std.proofs.lemmas.Bool.{cases_eq}
 use Rattle.std.proofs.lemmas.List.{map-append}
 use Rattle.std.proofs.lemmas.List.Elements.{Contains-append_left, Contains-append_right}
 use Rattle.std.proofs.lemmas.List.Sorted.{IsPermutation-trans, IsPermutation-append}
+use Rattle.lemmas.proofs.Permutations.{permutation_same}
 use Rattle.tags.specs.declared.token.Port.TheVariants.{Left}
 use Rattle.tags.specs.declared.token.Word.{Word}
 use Rattle.tags.specs.declared.token.To.{To}
@@ -16,7 +17,7 @@ use Rattle.semantics.specs.Machine.{Store, answer, with_out, put_at, value_in}
 use Rattle.semantics.specs.Handed.{handed_by}
 use Rattle.semantics.specs.Orderly.{readers_of}
 use Rattle.law_net.proofs.NetSlots.{InSlots, put_same, put_other}
-use Rattle.law_net.proofs.Orders.{at_last, IsPermutation-same}
+use Rattle.law_net.proofs.Orders.{at_last}
 use Rattle.law_net.proofs.Members.{contains_head}
 use Rattle.law_contexts.specs.Parts.{Opener, Taker, Drained, Done, Freed, Held, inlet, FrameOf, Item, item, Firing, same_context}
 use Rattle.law_contexts.specs.Blocks.{is_loop, bound_at}
@@ -166,7 +167,7 @@ module _ {stage : ℕ} (s : Taking stage) (k : Hands s) (g : ℕ) (made : s.even
 
   pub grown_stands : Stands s.fl s.p s.w s.new grown
   grown_stands = record {
-    pool = at_last (IsPermutation-trans _ _ _ s.event.leaves (IsPermutation-append _ _ _ _ (IsPermutation-same _ _ given_token) (at_last (rest_is s) (sym (tokens_last s.fl s.p s.w net.fired grown.fired s.others (λ j h. lasts j (pending_in j h)))))))
+    pool = at_last (IsPermutation-trans _ _ _ s.event.leaves (IsPermutation-append _ _ _ _ (permutation_same _ _ given_token) (at_last (rest_is s) (sym (tokens_last s.fl s.p s.w net.fired grown.fired s.others (λ j h. lasts j (pending_in j h)))))))
         (sym (map-append (token_of s.fl s.p s.w grown.fired) (makes s.fl s.w given_by) s.others));
     known = λ j h. known j (alone_all s given_by (k.own g) (k.renews g) j h);
     apart = λ d e n a b. apart d e n (newer d n a) (newer e n b);

@@ -3,6 +3,7 @@ use Rattle.std.proofs.Common.{◌≡◌, ℕ, ◌*◌, ◌<◌, Bool, true, fals
 use Rattle.std.specs.Prelude.{IsPermutation, Contains, slice_get}
 use Rattle.std.proofs.lemmas.Bool.{cases_eq}
 use Rattle.std.proofs.lemmas.List.Elements.{Contains-append_right}
+use Rattle.lemmas.proofs.Permutations.{permutation_same}
 use Rattle.tags.specs.declared.value.Value.{Value}
 use Rattle.tags.specs.declared.token.Port.TheVariants.{Left}
 use Rattle.tags.specs.declared.token.Cont.{Cont}
@@ -17,7 +18,6 @@ use Rattle.semantics.specs.Handed.{handed_by}
 use Rattle.semantics.specs.Credits.{granted_at, released_at}
 use Rattle.semantics.specs.Plan.{Plan}
 use Rattle.law_net.proofs.NetSlots.{InSlots, put_same, put_other}
-use Rattle.law_net.proofs.Orders.{IsPermutation-same}
 use Rattle.law_net.proofs.Members.{contains_head, contains_tail, contains_cases, contains_none}
 use Rattle.law_contexts.specs.Parts.{Shown, Done, Freed, same_context, Note, Datum, FrameOf, BackTo, ToHost, signal, Item, Firing}
 use Rattle.law_contexts.specs.Contexts.{Wires, block_in, or_zero}
@@ -101,10 +101,10 @@ module _ {stage : ℕ} (s : Taking stage) where
     later = net.waiting;
     waiting = refl;
     paired = λ j h. absurd (contains_none j h);
-    took = IsPermutation-same _ _ (sym takes_is);
+    took = permutation_same _ _ (sym takes_is);
     part = refl;
     still = still;
-    made = IsPermutation-same _ _ (made ∙ ap (map (token_of s.fl s.p s.w net.fired)) (sym makes_is));
+    made = permutation_same _ _ (made ∙ ap (map (token_of s.fl s.p s.w net.fired)) (sym makes_is));
     quiet = λ j h. absurd (none j h);
     known = λ j h. absurd (none j h);
     named = λ j d h e. absurd (none j h);

@@ -2,6 +2,7 @@
 use Rattle.std.proofs.Common.{◌≡◌, ℕ, ◌+◌, true, false, List, [], ◌∷◌, map, refl, sym, ap, ◌∙◌, subst, inl, inr, ◌⊎◌, arith, true≢false, Some, None}
 use Rattle.std.specs.Prelude.{IsPermutation, Contains, flat_map}
 use Rattle.std.proofs.lemmas.List.Elements.{Contains-append_left}
+use Rattle.lemmas.proofs.Permutations.{permutation_same}
 use Rattle.tags.specs.declared.token.Port.{Port}
 use Rattle.tags.specs.declared.token.Port.TheVariants.{Left}
 use Rattle.tags.specs.declared.token.Cont.{Cont}
@@ -21,7 +22,7 @@ use Rattle.semantics.specs.Machine.{Store, Fires}
 use Rattle.semantics.specs.Sharing.{arc, row, arcs_to, arcs_from, inlet as port_at}
 use Rattle.semantics.specs.Arcs.{UsesBy}
 use Rattle.law_net.proofs.NetSlots.{InSlots}
-use Rattle.law_net.proofs.Orders.{at_last, IsPermutation-same}
+use Rattle.law_net.proofs.Orders.{at_last}
 use Rattle.law_net.proofs.Members.{contains_head, contains_none}
 use Rattle.law_reuse.proofs.UsedArcs.{stands_arcs}
 use Rattle.law_once.specs.Alike.{plain_dests}
@@ -168,7 +169,7 @@ module _ {stage : ℕ} (s : Taking stage) (n : ℕ) (e : s.i.inlet.part ≡ Link
     later = net.waiting;
     waiting = refl;
     paired = λ j h. absurd (contains_none j h);
-    took = IsPermutation-same _ _ ((λ t. mine l refl refl is_link t ∷ []) ∙ sym (takes_one l refl refl s.i.word signal s.i.inlet.way));
+    took = permutation_same _ _ ((λ t. mine l refl refl is_link t ∷ []) ∙ sym (takes_one l refl refl s.i.word signal s.i.inlet.way));
     same = refl;
     out = sent ∷ [];
     out_made = sent_token ∷ [];

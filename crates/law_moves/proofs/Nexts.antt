@@ -2,6 +2,7 @@
 use Rattle.std.proofs.Common.{◌≡◌, ℕ, zero, suc, ◌+◌, ◌<◌, true, false, List, [], ◌∷◌, ◌++◌, map, refl, sym, ap, ◌∙◌, subst, inl, inr, ◌⊎◌, arith, true≢false, Some, ltb-true, lt-ltb}
 use Rattle.std.specs.Prelude.{IsPermutation, Contains}
 use Rattle.std.proofs.lemmas.List.Elements.{Contains-append_left}
+use Rattle.lemmas.proofs.Permutations.{permutation_same}
 use Rattle.tags.specs.declared.token.Port.{Port}
 use Rattle.tags.specs.declared.token.Port.TheVariants.{Left, Right}
 use Rattle.tags.specs.declared.token.Cont.{Cont}
@@ -18,7 +19,6 @@ use Rattle.semantics.specs.Rule.{token, fires, fire_two, to_all, answer_to}
 use Rattle.semantics.specs.Rule as Rule
 use Rattle.semantics.specs.Machine.{Fires, with_slot}
 use Rattle.semantics.specs.Arcs.{UsesArc, UsesBy}
-use Rattle.law_net.proofs.Orders.{IsPermutation-same}
 use Rattle.law_net.proofs.Members.{contains_head, contains_none}
 use Rattle.law_once.specs.Alike.{plain_dests}
 use Rattle.law_once.proofs.SpreadNewArcs.{arc_used}
@@ -281,7 +281,7 @@ module _ {stage : ℕ} (s : Taking stage) (d : Context) (n i : ℕ) (in_turn : s
         books = λ x m b g. asker_books x m;
         makes_is = ap (λ ws. asked ∷ each c signal ws) (sym asker_wire);
         dests = [];
-        leads = IsPermutation-same _ _ (ap (map (stands_at (wiring_in s.fl s.w c))) (sym asker_wire));
+        leads = permutation_same _ _ (ap (map (stands_at (wiring_in s.fl s.w c))) (sym asker_wire));
         plain_dest = λ x h. absurd (contains_none x h);
         did = asks;
         released = λ x m g b h f. asker_free.released g (ip_of s.fl s.p s.w x (Landing m 0)) ∙ sym (no_turn x m);

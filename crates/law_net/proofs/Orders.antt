@@ -11,9 +11,6 @@ use Rattle.std.proofs.lemmas.List.Recursion.{is_sum_by}
 use Rattle.std.proofs.lemmas.List.Concat.{flat_map-append}
 use Rattle.std.proofs.lemmas.List.Sorted.{length_permutation, IsPermutation-refl, IsPermutation-sym, IsPermutation-trans, IsPermutation-cons, IsPermutation-append_left, IsPermutation-append_right, IsPermutation-append_comm, IsPermutation-keeps, sum_by-IsPermutation}
 
-pub IsPermutation-same : {X : Type 0} (xs ys : List X) → xs ≡ ys → IsPermutation xs ys
-IsPermutation-same xs ys e = subst (λ l. IsPermutation xs l) e (IsPermutation-refl xs)
-
 pub at_first : {X : Type 0} {xs zs ys : List X} → xs ≡ zs → IsPermutation zs ys → IsPermutation xs ys
 at_first {ys = ys} e p = subst (λ l. IsPermutation l ys) (sym e) p
 

@@ -10,7 +10,7 @@ use Rattle.semantics.specs.Graph.{Node, Block, Flow, node_at}
 use Rattle.semantics.specs.Plan.{Plan}
 use Rattle.semantics.specs.Meaning.{Context, Turned, AtNode, AtTurn, Operand, Predicate, Flag, Tagged, tagged, taken, Stood, start, block_of, arm_of, HadTrueFlag}
 use Rattle.semantics.specs.Machine.{Machine}
-use Rattle.law_determinacy.proofs.Perm.{Within}
+use Rattle.lemmas.proofs.Permutations.{Within}
 use Rattle.law_determinacy.proofs.History.{run_lawful}
 use Rattle.law_determinacy.proofs.Due.{ever_stood}
 use Rattle.law_determinacy.proofs.Laws.{Tokens, Lawful}

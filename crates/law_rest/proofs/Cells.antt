@@ -1,6 +1,6 @@
 -- Cells, their readers, and the fetches and stores of nodes.
 use Rattle.std.proofs.Common.{◌≡◌, ℕ, ℤ, ◌+◌, ◌<◌, ◌≤◌, Bool, true, false, ◌⊎◌, inl, inr, List, [], ◌∷◌, map, length, Option, Some, None, nat_lt, if◌then◌else◌, refl, sym, ap, ◌∙◌, subst, arith, true≢false}
-use Rattle.std.specs.Prelude.{Contains, IsPermutation, flat_map, pos, negsuc}
+use Rattle.std.specs.Prelude.{Contains, flat_map, pos, negsuc}
 use Rattle.std.proofs.lemmas.List.Elements.{Contains-append_cases}
 use Rattle.tags.specs.declared.value.Value.{Value}
 use Rattle.tags.specs.declared.value.Value.TheVariants.{Int, Fault}
@@ -14,7 +14,6 @@ use Rattle.semantics.specs.Graph.{Flow}
 use Rattle.semantics.specs.Meaning.{Context, Main, Tagged, tagged, AtNode, Operand, entering, Memory, done, fetched, when_full, adds, sent, cell_is, cell_in}
 use Rattle.semantics.specs.Machine.{CellState, Vacant, Full, Deferred, reader_count, value_in}
 use Rattle.semantics.specs.Orderly.{readers_of}
-use Rattle.law_determinacy.proofs.Perm.{within_from, perm_add, perm_refl, perm_to, put_first}
 use Rattle.law_net.specs.Roles.{total}
 use Rattle.law_net.proofs.Members.{contains_head, contains_tail, contains_cases, contains_none}
 use Rattle.law_contexts.specs.Blocks.{cell_kind, store_kind}
@@ -46,10 +45,6 @@ flat_back f (x ∷ xs) y c = pick (Contains-append_cases (f x) (flat_map f xs) y
     pick : Contains (f x) y ⊎ Contains (flat_map f xs) y → (Contains (flat_map f xs) y → (z : _) × Contains xs z × Contains (f z) y) → (z : _) × Contains (x ∷ xs) z × Contains (f z) y
     pick (inl d) more = (x, contains_head x xs, d)
     pick (inr d) more = let m = more d in (m.0, contains_tail x xs m.0 m.1, m.2)
-
--- one of a list, and the others
-pub one_out : {X : Type 0} (xs : List X) (x : X) → Contains xs x → (rest : List X) × IsPermutation xs (x ∷ rest)
-one_out xs x c = let (rest, put) = within_from x xs c in (rest, perm_to xs (x ∷ rest) (perm_add x xs (x ∷ rest) rest rest (perm_refl rest) put (put_first x rest)))
 
 pub one_of : {X : Type 0} (x y : X) → Contains (x ∷ []) y → y ≡ x
 one_of x y c = pick (contains_cases x [] y c)

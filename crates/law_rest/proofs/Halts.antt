@@ -13,7 +13,7 @@ use Rattle.semantics.specs.Plan.{Plan}
 use Rattle.semantics.specs.Meaning as Meaning
 use Rattle.semantics.specs.Meaning.{Context, Statement, AtNode, AtOut, AtTurn, Operand, Predicate, Flag, Carried, Tagged, tagged, Activity, Fires, Gates, Passes, Returns, Turns, Outputs, taken, Effect, done_if, effect, deed, fired, fetched, operands_from, origin_at, block_of, node_of, node_in, AtRest}
 use Rattle.semantics.specs.Machine.{Machine, Resting, Wants}
-use Rattle.law_determinacy.proofs.Perm.{Within, within_to}
+use Rattle.lemmas.proofs.Permutations.{Within, within_to}
 use Rattle.law_determinacy.proofs.Keys.{Together, ByGate, Alone, mode_of, mode_node, mode_in, mode_at, Held, fires_mode, gates_mode, passes_mode}
 use Rattle.law_determinacy.proofs.Diamond.{deed_of, held_from}
 use Rattle.law_determinacy.proofs.Rest.{takes_some}

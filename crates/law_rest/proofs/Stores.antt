@@ -3,6 +3,7 @@ use Rattle.std.proofs.Common.{◌≡◌, ℕ, ℤ, Bool, true, List, [], ◌∷�
 use Rattle.std.specs.Prelude.{Contains, IsPermutation, flat_map}
 use Rattle.std.proofs.lemmas.List.Sorted.{IsPermutation-trans, Contains-permutation}
 use Rattle.std.proofs.lemmas.List.Elements.{Contains-append_left}
+use Rattle.lemmas.proofs.Permutations.{one_out}
 use Rattle.tags.specs.declared.value.Value.{Value}
 use Rattle.tags.specs.declared.token.To.{To}
 use Rattle.tags.specs.declared.token.Token.{Token}
@@ -30,7 +31,7 @@ use Rattle.law_told.proofs.Nodes.{kind_is}
 use Rattle.law_arms.proofs.Sends.{contains_map}
 use Rattle.law_arms.proofs.Invoked.{block_here}
 use Rattle.law_over.proofs.Made.{left_stands, fits, word}
-use Rattle.law_rest.proofs.Cells.{one_out, two_values, store_of, same_cell, cell_store}
+use Rattle.law_rest.proofs.Cells.{two_values, store_of, same_cell, cell_store}
 
 module _ (stage : ℕ) (fl : Flow) (p : Plan) (w : Wires) (inputs : List ℤ) (past : Past) (m : Machine) (good : IsGood stage fl p w) (fit : InputsFit fl inputs) (kept : Keeps fl p w inputs past m) where
   pub seen : SameSeen m.store kept.state.memory

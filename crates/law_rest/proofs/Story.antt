@@ -9,7 +9,7 @@ use Rattle.semantics.specs.Meaning as Meaning
 use Rattle.semantics.specs.Meaning.{State, Memory, Activity, Main, Tagged, taken, start, entering, Leads}
 use Rattle.semantics.specs.Plan.{Plan}
 use Rattle.semantics.specs.Machine.{Machine}
-use Rattle.law_determinacy.proofs.Perm.{Within, within_permutation, within_append, within_left, within_right, within_from}
+use Rattle.lemmas.proofs.Permutations.{Within, within_permutation, within_append, within_left, within_right, within_from}
 use Rattle.law_net.proofs.Orders.{at_last, shuffled, flat_map-IsPermutation, Part, ◌⊕◌}
 use Rattle.law_net.proofs.Net.{Waits, Fires, net_sound_moves, net_sound_begins, fires_allowed, All-append_left, All-append_right}
 use Rattle.law_net.proofs.NetFollows.{run_from, run_join, state_of, Simulates}

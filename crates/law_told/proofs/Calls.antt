@@ -1,6 +1,7 @@
 -- Results, calls, loops and strict calls: what goes into an invocation, between turns, and comes back.
 use Rattle.std.proofs.Common.{◌≡◌, ℕ, suc, ◌+◌, ◌-◌, Bool, true, false, not, ◌||◌, ◌⊎◌, inl, inr, List, [], ◌∷◌, ◌++◌, length, flat_map, Some, None, if◌then◌else◌, refl, sym, ap, ◌∙◌, subst, arith, true≢false, append-nil}
 use Rattle.std.proofs.lemmas.List.Sorted.{IsPermutation-refl}
+use Rattle.lemmas.proofs.Permutations.{permutation_same}
 use Rattle.tags.specs.declared.value.Value.{Value}
 use Rattle.tags.specs.declared.token.Port.TheVariants.{Left, Right}
 use Rattle.operators.specs.Values.{truth}
@@ -10,7 +11,7 @@ use Rattle.semantics.specs.Graph.{Node, Block, Flow, node_at}
 use Rattle.semantics.specs.Plan.{Plan}
 use Rattle.semantics.specs.Meaning.{Context, Main, Called, Turned, Tagged, tagged, Memory, AtNode, AtOut, AtTurn, Operand, Flag, Carried, Fires, Passes, Returns, Turns, Outputs, Says, Sends, Enters, deed, fired, passed, taken, entering, operands_from, with_output, block_of, node_of}
 use Rattle.semantics.specs.Cause.{is_turn}
-use Rattle.law_net.proofs.Orders.{shuffled, Part, ◌⊕◌, IsPermutation-same}
+use Rattle.law_net.proofs.Orders.{shuffled, Part, ◌⊕◌}
 use Rattle.law_contexts.specs.Parts as Parts
 use Rattle.law_contexts.specs.Parts.{Line, Answer, Framer, Sender, Landing, TurnValue, NextSender, LastReturn, Shown, Asked, Fanned, inlet, Note, Datum, BackTo, signal, Item, item, each, Firing}
 use Rattle.law_contexts.specs.Blocks.{side, Wiring, there_in, is_call, is_loop, is_strict, invokes, call_kind, loop_kind, strict_kind, source_count, exit_kind}
@@ -63,7 +64,7 @@ module _ (fl : Flow) (p : Plan) (w : Wires) (operands : HaveOperands fl) (f : Fi
   pub shown : (j : ℕ) (v : Value) (k : Note) → is_main c ≡ true → IsToldBy (Shown j) (Datum v) k
   shown j v k main =
       let e : tagged c (AtOut j) (Operand 0) v ∷ [] ≡ taken (Outputs j v) = ap (λ (d : Context). tagged d (AtOut j) (Operand 0) v ∷ []) (main_is c main) in
-      acts fl (Outputs j v) (tagged c (AtOut j) (Operand 0) v ∷ []) [] [] mem (with_output mem j v) (IsPermutation-same _ _ e) refl (IsPermutation-refl [])
+      acts fl (Outputs j v) (tagged c (AtOut j) (Operand 0) v ∷ []) [] [] mem (with_output mem j v) (permutation_same _ _ e) refl (IsPermutation-refl [])
 
   -- WHAT LANDS
   exit_call : (n q : ℕ) (r : Region) (k : Kind ℕ) → call_kind k ≡ true → exit_kind wg n q r k ≡ side (Landing n q) false

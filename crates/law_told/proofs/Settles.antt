@@ -7,7 +7,7 @@ use Rattle.semantics.specs.declared.graph.Kind.{Kind}
 use Rattle.semantics.specs.declared.graph.Kind.TheVariants.{Cond}
 use Rattle.semantics.specs.Graph.{Node, Block, Flow, node_at}
 use Rattle.semantics.specs.Meaning.{Context, Statement, AtNode, Operand, Fires, Tagged, tagged, Memory, Activity, Says, Sends, Tells, deed, fired, taken, block_of, block_number, block_numbered, node_of, node_in, sent}
-use Rattle.law_determinacy.proofs.Perm.{Each, each_weaker}
+use Rattle.lemmas.proofs.Permutations.{Each, each_weaker}
 use Rattle.law_determinacy.proofs.Laws.{tagged_is}
 use Rattle.law_determinacy.proofs.Uses.{IsSource, UseOf, AsOperand, AsResult, AsFlag, AsCarried, Member, tokens_member}
 use Rattle.law_contexts.specs.Told.{settled_kind, settled_node, settled_at, settled_sent}

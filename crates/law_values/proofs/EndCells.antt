@@ -4,9 +4,9 @@ use Rattle.std.specs.Prelude.{slice_get}
 use Rattle.tags.specs.declared.value.Value.{Value}
 use Rattle.semantics.specs.Graph.{Flow}
 use Rattle.semantics.specs.Meaning.{Context, AtNode, Operand, Tagged, tagged, State, Memory, Effect, Activity, taken, Deed, Says, Reads, Fills, Puts, Sends, tokens_of, adds, with_cell, at_place, deed, done, Step, Run}
-use Rattle.law_determinacy.proofs.Perm.{Within, Spread, each_from, spread_append, each_within, within_append, within_right, within_flat_map, within_from, within_to, put_first, put_later}
+use Rattle.lemmas.proofs.Permutations.{Within, Spread, each_from, spread_append, each_within, within_append, within_right, within_flat_map, within_from, within_to, put_first, put_later, get_within}
 use Rattle.law_determinacy.proofs.Keys.{Unique, Differ}
-use Rattle.law_determinacy.proofs.Perm.{spread_append_back}
+use Rattle.lemmas.proofs.Permutations.{spread_append_back}
 use Rattle.law_determinacy.proofs.Deeds.{full_of, empty_of}
 use Rattle.law_determinacy.proofs.Diamond.{deed_of}
 use Rattle.law_determinacy.proofs.Options.{some_same}
@@ -15,7 +15,6 @@ use Rattle.law_determinacy.proofs.Runs.{run_cells, step_cells, activity_once}
 use Rattle.law_determinacy.proofs.Shapes.{storing}
 use Rattle.law_values.specs.Given.{Stored, stored_by, stores_of}
 use Rattle.law_values.proofs.RunRested.{Rested}
-use Rattle.law_values.proofs.RunTakers.{within_at}
 
 abbrev pub entry : Context → ℕ → ℕ → Value → Stored
 entry c n x v = record { context = c; node = n; cell = x; value = v }
@@ -151,9 +150,9 @@ spread_once : (P : Stored → Stored → Type 0) → ((u w : Stored) → P u w �
 spread_once P turn [] all i j u w e f h = cc
 spread_once P turn (x ∷ us) all zero zero u w e f h = refl
 spread_once P turn (x ∷ us) all zero (suc j) u w e f h =
-    absurd (each_within (λ w. P x w → ⊥) w us (within_at us j w f) all.0 (subst (λ u. P u w) (sym (some_same x u e)) h))
+    absurd (each_within (λ w. P x w → ⊥) w us (get_within us j w f) all.0 (subst (λ u. P u w) (sym (some_same x u e)) h))
 spread_once P turn (x ∷ us) all (suc i) zero u w e f h =
-    absurd (each_within (λ w. P x w → ⊥) u us (within_at us i u e) all.0 (subst (λ w. P w u) (sym (some_same x w f)) (turn u w h)))
+    absurd (each_within (λ w. P x w → ⊥) u us (get_within us i u e) all.0 (subst (λ w. P w u) (sym (some_same x w f)) (turn u w h)))
 spread_once P turn (x ∷ us) all (suc i) (suc j) u w e f h = ap suc (spread_once P turn us all.1 i j u w e f h)
 
 module _ (z : Rested) where

@@ -3,7 +3,7 @@ use Rattle.std.proofs.Common.{◌≡◌, ℕ, ◌⊎◌, Bool, true, false, List
 use Rattle.tags.specs.declared.value.Value.{Value}
 use Rattle.semantics.specs.Graph.{Flow}
 use Rattle.semantics.specs.Meaning.{Main, AtOut, Operand, State, Memory, Effect, Activity, Outputs, Deed, Says, Reads, Fills, Puts, Sends, tokens_of, adds, with_cell, at_place, deed, done, Step, Run}
-use Rattle.law_determinacy.proofs.Perm.{Within, put_later}
+use Rattle.lemmas.proofs.Permutations.{Within, put_later}
 use Rattle.law_determinacy.proofs.Deeds.{full_of, empty_of}
 use Rattle.law_determinacy.proofs.Diamond.{deed_of}
 use Rattle.law_determinacy.proofs.Options.{some_same}

@@ -9,7 +9,7 @@ use Rattle.semantics.specs.declared.graph.Kind.TheVariants.{Lit, Apply1, Apply2,
 use Rattle.semantics.specs.Graph.{Node, Block, node_at, node_count}
 use Rattle.semantics.specs.Meaning.{Context, Main, Called, Turned, Statement, AtNode, AtOut, AtTurn, Port, Operand, Predicate, Flag, Carried, Tagged, tagged, Activity, Fires, Gates, Passes, Returns, Turns, Outputs, taken, Deed, Says, Puts, Sends, Enters, passed, block_of, callee, arm_of, IsLoop}
 use Rattle.law_determinacy.specs.Outcome.{SameTag}
-use Rattle.law_determinacy.proofs.Perm.{Within, Each, each_within, spread_append_back, within_right, within_flat_map, put_first, put_later}
+use Rattle.lemmas.proofs.Permutations.{Within, Each, each_within, spread_append_back, within_right, within_flat_map, put_first, put_later}
 use Rattle.law_determinacy.proofs.Keys.{Differ}
 use Rattle.law_determinacy.proofs.Due.{ever_stood}
 use Rattle.law_determinacy.proofs.Grounds.{get_below, class_line}

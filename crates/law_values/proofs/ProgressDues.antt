@@ -7,7 +7,7 @@ use Rattle.semantics.specs.declared.graph.Kind.{Kind}
 use Rattle.semantics.specs.declared.graph.Kind.TheVariants.{Call, StrictCall, Loop}
 use Rattle.semantics.specs.Graph.{Node, Block, node_at}
 use Rattle.semantics.specs.Meaning.{Context, Main, Called, Turned, AtNode, AtTurn, Operand, Flag, tagged, Fires, block_of, callee, node_in, node_of, start, HadTrueFlag, arm_of, IsCall, IsLoop}
-use Rattle.law_determinacy.proofs.Perm.{Within, within_to}
+use Rattle.lemmas.proofs.Permutations.{Within, within_to}
 use Rattle.law_values.specs.Given.{ports_in, ports_at}
 use Rattle.law_values.proofs.GraphForms.{HasForm, InRegion}
 use Rattle.law_values.proofs.RunRested.{Rested, Came, IsDueIn, RegionTaken, one_at}

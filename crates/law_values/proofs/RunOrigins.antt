@@ -8,7 +8,7 @@ use Rattle.semantics.specs.declared.graph.Region.TheVariants.{Arm}
 use Rattle.semantics.specs.declared.graph.Kind.TheVariants.{Enter}
 use Rattle.semantics.specs.Graph.{Node, Block, node_at}
 use Rattle.semantics.specs.Meaning.{Context, Main, Called, Turned, AtNode, AtOut, AtTurn, Operand, Predicate, Flag, Carried, Tagged, tagged, Memory, Activity, Fires, taken, Deed, Says, Reads, Fills, Puts, Message, Sends, Tells, Enters, Nothing, tokens_of, block_of, node_in, start, entering}
-use Rattle.law_determinacy.proofs.Perm.{Within, Each, each_from, each_within, within_from, within_to}
+use Rattle.lemmas.proofs.Permutations.{Within, Each, each_from, each_within, within_from, within_to}
 use Rattle.law_determinacy.proofs.Uses.{IsSource, UseOf, AsOperand, AsResult, AsFlag, AsCarried, Member, IsTurned, tokens_member}
 use Rattle.law_determinacy.proofs.Grounds.{row_grounded, found_line, get_below}
 use Rattle.law_determinacy.proofs.Laws.{Grounded, IsInvoking}

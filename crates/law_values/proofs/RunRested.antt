@@ -7,7 +7,7 @@ use Rattle.semantics.specs.Meaning.{Context, Main, Tagged, tagged, Statement, Po
 use Rattle.semantics.specs.Graph.{node_count}
 use Rattle.semantics.specs.declared.graph.Region.{Region}
 use Rattle.law_determinacy.specs.Outcome.{SameTag}
-use Rattle.law_determinacy.proofs.Perm.{Within, Each, within_append, within_left, within_right, within_flat_map, within_from, within_to, within_permutation, put_first, put_later}
+use Rattle.lemmas.proofs.Permutations.{Within, Each, within_append, within_left, within_right, within_flat_map, within_from, within_to, within_permutation, put_first, put_later}
 use Rattle.law_determinacy.proofs.Keys.{Unique, unique_same}
 use Rattle.law_determinacy.proofs.Deeds.{CellsKept, full_of}
 use Rattle.law_determinacy.proofs.Diamond.{deed_of}

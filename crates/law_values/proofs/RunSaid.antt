@@ -4,7 +4,7 @@ use Rattle.std.specs.Prelude.{slice_get}
 use Rattle.std.proofs.lemmas.List.Sorted.{IsPermutation-sym, Contains-permutation}
 use Rattle.semantics.specs.Graph.{Flow}
 use Rattle.semantics.specs.Meaning.{Tagged, State, Memory, Effect, Activity, Deed, Says, Reads, Fills, Puts, Message, Sends, tokens_of, adds, with_cell, deed, done, Run, Stood}
-use Rattle.law_determinacy.proofs.Perm.{Within, within_left, within_permutation, within_to}
+use Rattle.lemmas.proofs.Permutations.{Within, within_left, within_permutation, within_to}
 use Rattle.law_determinacy.proofs.Deeds.{CellsKept, full_of, empty_of}
 use Rattle.law_determinacy.proofs.Diamond.{deed_of}
 use Rattle.law_determinacy.proofs.Options.{some_same}

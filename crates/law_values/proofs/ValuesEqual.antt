@@ -10,7 +10,7 @@ use Rattle.semantics.specs.declared.graph.Kind.{Kind}
 use Rattle.semantics.specs.declared.graph.Kind.TheVariants.{Lit, Apply1, Apply2, Cond, Enter, Merge, Fetch, Store, Call, StrictCall, Loop}
 use Rattle.semantics.specs.Graph.{Node, Block, node_at, first_cell, array_len}
 use Rattle.semantics.specs.Meaning.{Context, Called, Turned, AtNode, Operand, tagged, Activity, Fires, Gates, Passes, Returns, taken, Deed, Says, Sends, deed, fired, fetched, stored, block_of, origin_at}
-use Rattle.law_determinacy.proofs.Perm.{Within, each_within, within_to}
+use Rattle.lemmas.proofs.Permutations.{Within, each_within, within_to}
 use Rattle.law_determinacy.proofs.Keys.{Together, mode_of, mode_node, mode_in, fires_mode}
 use Rattle.law_determinacy.proofs.Grounds.{mode_line}
 use Rattle.law_determinacy.proofs.Options.{some_same}

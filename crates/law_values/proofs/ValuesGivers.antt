@@ -10,7 +10,7 @@ use Rattle.semantics.specs.declared.graph.Kind.TheVariants.{Merge}
 use Rattle.semantics.specs.Graph.{Node, Block, node_at}
 use Rattle.semantics.specs.Meaning.{Context, Called, Turned, AtNode, AtOut, AtTurn, Operand, Flag, Carried, Tagged, tagged, Memory, Activity, Fires, Gates, Passes, Returns, Turns, taken, Deed, Says, Reads, Fills, Puts, Message, Sends, deed, block_of, arm_of, HadTrueFlag}
 use Rattle.law_determinacy.specs.Outcome.{SameTag}
-use Rattle.law_determinacy.proofs.Perm.{Within, Each, each_from, within_left, within_flat_map, within_from, put_first}
+use Rattle.lemmas.proofs.Permutations.{Within, Each, each_from, within_left, within_flat_map, within_from, put_first}
 use Rattle.law_determinacy.proofs.Keys.{same_activity}
 use Rattle.law_determinacy.proofs.Options.{some_same}
 use Rattle.law_determinacy.proofs.Rows.{Class, Plain, Telling, Gate, Join, Calling, Strict, Looping, Absent, class_of, class_node, class_in, class_at, region_node, region_at, Row, RowFires, RowTells, RowGates, RowQuiet, RowMerges, RowCalls, RowStrict, RowLoops, RowReturns, RowAgain, RowLeaves, rows}

@@ -7,7 +7,7 @@ use Rattle.semantics.specs.declared.graph.Kind.{Kind}
 use Rattle.semantics.specs.declared.graph.Kind.TheVariants.{Lit, Apply1, Apply2, Cond, Enter, Merge, Fetch, Store, Call, StrictCall, Loop}
 use Rattle.semantics.specs.Graph.{Node, Block, Flow, node_at}
 use Rattle.semantics.specs.Meaning.{Context, Called, Turned, AtNode, Operand, tagged, Fires, Gates, Passes, Returns, taken, block_of, node_of, arm_of, callee}
-use Rattle.law_determinacy.proofs.Perm.{Within}
+use Rattle.lemmas.proofs.Permutations.{Within}
 use Rattle.law_determinacy.proofs.Grounds.{own_arm, get_below, node_class}
 use Rattle.law_determinacy.proofs.Laws.{ArmLaw}
 use Rattle.law_determinacy.proofs.Options.{some_same}

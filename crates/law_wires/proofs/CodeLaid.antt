@@ -1,6 +1,7 @@
 -- The laws of a plain block's layout, put together.
 use Rattle.std.proofs.Common.{◌≡◌, ℕ, zero, suc, ◌+◌, ◌-◌, ◌<◌, ◌≤◌, ◌⊎◌, inl, inr, Bool, true, false, not, ◌&&◌, ◌||◌, List, [], ◌∷◌, ◌++◌, map, length, refl, sym, ap, ◌∙◌, subst, arith, append_assoc, if◌then◌else◌, Some, None, Option, Contains, nat_lt}
 use Rattle.std.specs.Prelude.{slice_get, count_by}
+use Rattle.lemmas.proofs.Permutations.{permutation_same}
 use Rattle.semantics.specs.declared.graph.Region.TheVariants.{Root}
 use Rattle.semantics.specs.declared.program.Mark.{Mark}
 use Rattle.semantics.specs.declared.graph.Kind.{Kind}
@@ -10,7 +11,6 @@ use Rattle.semantics.specs.Program.{Instr, CodeBlock}
 use Rattle.semantics.specs.Plan.{mark_at, mark_in, is_credit, is_open}
 use Rattle.semantics.specs.Rule.{slot_of}
 use Rattle.law_net.specs.Roles.{one}
-use Rattle.law_net.proofs.Orders.{IsPermutation-same}
 use Rattle.expansion.specs.Builds.{mark_of}
 use Rattle.expansion.specs.Expanded.{expanded}
 use Rattle.law_expansion.proofs.ArcsLists.{get_within, get_some, length_push}
@@ -82,8 +82,8 @@ module _ (fl : Flow) (S : Site) (c : CodeBlock) (fit : IsFit fl S.block) (turned
           origin = x.2.origin;
           mark = mark_is r h;
           slot = sym (ap slot_at x.1);
-          firsts = IsPermutation-same (map (leads_to (place r)) i.firsts) (map (stands_at W) (answered_at r ++ W.wire (side r false))) (firsts_are fl S c fit turned facts r i h x.1 x.2);
-          seconds = IsPermutation-same (map (leads_to (place r)) i.seconds) (map (stands_at W) (W.wire (side r true))) (seconds_are fl S c fit turned facts r i h x.1 x.2);
+          firsts = permutation_same (map (leads_to (place r)) i.firsts) (map (stands_at W) (answered_at r ++ W.wire (side r false))) (firsts_are fl S c fit turned facts r i h x.1 x.2);
+          seconds = permutation_same (map (leads_to (place r)) i.seconds) (map (stands_at W) (W.wire (side r true))) (seconds_are fl S c fit turned facts r i h x.1 x.2);
         },
       )
 

@@ -11,8 +11,7 @@ use Rattle.semantics.specs.declared.graph.Kind.{Kind}
 use Rattle.semantics.specs.declared.graph.Kind.TheVariants.{Lit, Apply1, Apply2, Cond, Enter, Merge, Fetch, Store, Call, StrictCall, Loop}
 use Rattle.semantics.specs.Graph.{Node, Flow, node_at}
 use Rattle.semantics.specs.Meaning.{Context, AtNode, AtOut, Operand, Predicate, Tagged, tagged, block_of, positions, uses_at, result_uses, sent_in, is_enter_of, predicates_from}
-use Rattle.law_net.proofs.Orders.{IsPermutation-same, shuffled, Part, ◌⊕◌}
-use Rattle.law_determinacy.proofs.Perm.{permutation_cancel}
+use Rattle.lemmas.proofs.Permutations.{permutation_cancel, permutation_same, permutation_crossed}
 use Rattle.expansion.specs.Builds.{first_source}
 use Rattle.expansion.specs.Scopes.{predicate_of, predicate_in}
 use Rattle.law_contexts.specs.Blocks.{Site, cond_kind}
@@ -25,10 +24,6 @@ use Rattle.law_wires.proofs.Parts.{follow, node_within}
 use Rattle.law_wires.proofs.Nodes.{node_some, cond_is, first_before}
 use Rattle.law_wires.proofs.Uses.{IsPort, heard, heard_both, side_test, settle, made, settle_both, results_heard, used, gated, test, decides, kind_row}
 use Rattle.law_wires.proofs.Quiet.{all_heard}
-
--- four lists, the two in the middle exchanged
-middle : {X : Type 0} (a b c d : List X) → IsPermutation ((a ++ b) ++ (c ++ d)) ((a ++ c) ++ (b ++ d))
-middle a b c d = shuffled (a ∷ b ∷ c ∷ d ∷ []) ((Part 0 ⊕ Part 1) ⊕ (Part 2 ⊕ Part 3)) ((Part 0 ⊕ Part 2) ⊕ (Part 1 ⊕ Part 3)) refl
 
 module _ (fl : Flow) (s : Site) (fit : IsFit fl s.block) (c : Context) (v : Value) (there : block_of fl c ≡ Some s.block) (n q : ℕ) (port : IsPort s n q) where
   abbrev H : List Wire → List Tagged
@@ -70,9 +65,9 @@ module _ (fl : Flow) (s : Site) (fit : IsFit fl s.block) (c : Context) (v : Valu
       let row : a ++ d ≡ u ++ g = kind_row fl s fit c v there n q port m x (follow_here s.block m x xs f) in
       let split : H (node_wires s m (x ∷ xs)) ≡ a ++ r = heard_both fl s fit c v (leaves_at s n q) (kind_wires s m x.region x.kind x.sources) (node_wires s (m + 1) xs) in
       subst (λ zs. IsPermutation (zs ++ (d ++ e)) ((u ++ us) ++ (g ++ gs))) (sym split)
-      (IsPermutation-trans ((a ++ r) ++ (d ++ e)) ((a ++ d) ++ (r ++ e)) ((u ++ us) ++ (g ++ gs)) (middle a r d e)
+      (IsPermutation-trans ((a ++ r) ++ (d ++ e)) ((a ++ d) ++ (r ++ e)) ((u ++ us) ++ (g ++ gs)) (permutation_crossed a r d e)
       (subst (λ zs. IsPermutation (zs ++ (r ++ e)) ((u ++ us) ++ (g ++ gs))) (sym row)
-      (IsPermutation-trans ((u ++ g) ++ (r ++ e)) ((u ++ g) ++ (us ++ gs)) ((u ++ us) ++ (g ++ gs)) (IsPermutation-append_right (u ++ g) (r ++ e) (us ++ gs) (rows (m + 1) xs (follow_more s.block m x xs f))) (middle u g us gs))))
+      (IsPermutation-trans ((u ++ g) ++ (r ++ e)) ((u ++ g) ++ (us ++ gs)) ((u ++ us) ++ (g ++ gs)) (IsPermutation-append_right (u ++ g) (r ++ e) (us ++ gs) (rows (m + 1) xs (follow_more s.block m x xs f))) (permutation_crossed u g us gs))))
 
   -- EXCHANGE of the sums over conditionals and over gates
   no_conds : (m : ℕ) (xs : List (Node ℕ)) (g : ℕ) → conds m xs g [] ≡ []
@@ -108,7 +103,7 @@ module _ (fl : Flow) (s : Site) (fit : IsFit fl s.block) (c : Context) (v : Valu
       let ps = conds (m + 1) xs (g + 1) gs in
       subst (λ zs. IsPermutation (zs ++ conds (m + 1) xs g (y ∷ gs)) ((h ++ hs) ++ (p ++ ps))) (sym (go (D x)))
       (IsPermutation-trans ((h ++ p) ++ conds (m + 1) xs g (y ∷ gs)) ((h ++ p) ++ (hs ++ ps)) ((h ++ hs) ++ (p ++ ps))
-      (IsPermutation-append_right (h ++ p) (conds (m + 1) xs g (y ∷ gs)) (hs ++ ps) (conds_split (m + 1) xs g y gs)) (middle h p hs ps))
+      (IsPermutation-append_right (h ++ p) (conds (m + 1) xs g (y ∷ gs)) (hs ++ ps) (conds_split (m + 1) xs g y gs)) (permutation_crossed h p hs ps))
     where
       go : (t : Bool) → (if t then predicates_from c m v g (y ∷ gs) else []) ≡ (if t then from_cond m g y else []) ++ (if t then predicates_from c m v (g + 1) gs else [])
       go true = predicates_split m g y gs
@@ -181,7 +176,7 @@ module _ (fl : Flow) (s : Site) (fit : IsFit fl s.block) (c : Context) (v : Valu
       go (Loop a x) f u r = no_enter (Loop a x) f (λ j. refl) (λ j i t. refl)
 
   exchange : (g : ℕ) (gs : List (Node ℕ)) → Follow s.block g gs → IsPermutation (conds s.block.inputs s.block.nodes g gs) (gates g gs)
-  exchange g [] f = IsPermutation-same (conds s.block.inputs s.block.nodes g []) [] (no_conds s.block.inputs s.block.nodes g)
+  exchange g [] f = permutation_same (conds s.block.inputs s.block.nodes g []) [] (no_conds s.block.inputs s.block.nodes g)
   exchange g (y ∷ gs) f =
       let first = from_conds s.block.inputs s.block.nodes g y in
       let rest = conds s.block.inputs s.block.nodes (g + 1) gs in
@@ -229,5 +224,5 @@ module _ (fl : Flow) (s : Site) (fit : IsFit fl s.block) (c : Context) (v : Valu
   -- in a context that runs the code of a call
   pub call_told : s.turns ≡ false → ((j : ℕ) → result_uses c s.block.inputs j ≡ (AtOut j, Operand 0) ∷ []) → IsPermutation (told_along fl c v (along s.block (leaves_at s n q) (wires_in fl s))) (settled_sent fl c n q v)
   call_told plain_code plain =
-      all_told (IsPermutation-same (H (tail_wires s s.turns)) (after 0 s.block.results)
+      all_told (permutation_same (H (tail_wires s s.turns)) (after 0 s.block.results)
       (ap (λ t. H (tail_wires s t)) plain_code ∙ results_heard fl s fit c v there n q port plain 0 s.block.results (s.block.inputs + length s.block.nodes) fit.results))

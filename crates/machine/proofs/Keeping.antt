@@ -6,8 +6,8 @@ use Rattle.std.proofs.lemmas.List.Elements.{All-nil, All-cons, All-append}
 use Rattle.std.proofs.lemmas.List.Sorted.{IsPermutation-sym, IsPermutation-trans, IsPermutation-append_left, IsPermutation-append_right}
 use mathlib.Core.Logic.{dite}
 use native.Mathlib.Decide.{ℕ_discrete}
-use Rattle.law_determinacy.proofs.Perm.{permutation_cancel}
-use Rattle.law_net.proofs.Orders.{shuffled, Part as Piece, ◌⊕◌, at_first, at_last, IsPermutation-same}
+use Rattle.lemmas.proofs.Permutations.{permutation_cancel, permutation_same}
+use Rattle.law_net.proofs.Orders.{shuffled, Part as Piece, ◌⊕◌, at_first, at_last}
 use Rattle.tags.specs.declared.token.Token.{Token}
 use Rattle.tags.specs.Addresses.{element_of}
 use Rattle.element.specs.Held.{LaneView, Held, Fixed, held_of, fixed_of, with_queue}
@@ -250,7 +250,7 @@ module _ {C A : Type 0} (g : Setting) (mesh : MeshId) where
         noted = r.noted;
         unlogged = r.unlogged;
         ran = ran_beside g mesh start old.seat.own.element (held_of old.lane) old.seat.own.deeds old.seat.own.held (away old) r.ran (old.hand.items ++ (bundles old.kept.items ++ sent.items))
-            (IsPermutation-same _ _ (ap (λ (l : List Token). old.hand.items ++ (bundles old.kept.items ++ l)) same));
+            (permutation_same _ _ (ap (λ (l : List Token). old.hand.items ++ (bundles old.kept.items ++ l)) same));
         tidy = record { count = r.tidy.count; addressed = r.tidy.addressed; created = r.tidy.created; few = r.tidy.few };
       }
 

@@ -5,7 +5,7 @@ use Rattle.semantics.specs.Graph.{Graph, flow_of}
 use Rattle.semantics.specs.Meaning.{Context, Tagged, block_number}
 use Rattle.semantics.specs.Meaning as Meaning
 use Rattle.law_determinacy.proofs.Options.{some_same}
-use Rattle.law_determinacy.proofs.Perm.{Each}
+use Rattle.lemmas.proofs.Permutations.{Each}
 use Rattle.law_determinacy.proofs.Grounds.{get_below}
 use Rattle.oracle.specs.declared.invocations.Made.{Made}
 use Rattle.oracle.specs.declared.invocations.Made.TheVariants.{Main, Called, Turned}

@@ -4,7 +4,7 @@ use Rattle.std.proofs.lemmas.Bool.{cases_eq}
 use Rattle.tags.specs.declared.value.Value.{Value}
 use Rattle.semantics.specs.Graph.{Graph}
 use Rattle.law_determinacy.proofs.Options.{some_same}
-use Rattle.law_determinacy.proofs.Perm.{Within, Each, Spread, put_first, put_later, each_within, each_append, each_weaker, spread_append, within_left, within_right}
+use Rattle.lemmas.proofs.Permutations.{Within, Each, Spread, put_first, put_later, each_within, each_append, each_weaker, spread_append, within_left, within_right}
 use Rattle.oracle.specs.declared.report.Full.{Full}
 use Rattle.oracle.specs.Lines.{first_of, len_of, total_of}
 use Rattle.oracle.specs.Acting.{held_in}

@@ -4,7 +4,7 @@ use Rattle.std.specs.Prelude.{remove, is_some}
 use Rattle.std.proofs.lemmas.List.{length-append}
 use Rattle.std.proofs.lemmas.List.Sorted.{IsPermutation-sym}
 use Rattle.tags.specs.declared.value.Value.{Value}
-use Rattle.law_determinacy.proofs.Perm.{Within, Each, Spread, put_first, within_permutation}
+use Rattle.lemmas.proofs.Permutations.{Within, Each, Spread, put_first, within_permutation}
 use Rattle.oracle.specs.declared.shapes.Shape.{Shape}
 use Rattle.oracle.specs.declared.shapes.Shape.TheVariants.{Fires, Gates, Passes, Returns, Turns, Outputs}
 use Rattle.oracle.specs.declared.tokens.Spot.{Spot}

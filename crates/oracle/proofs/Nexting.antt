@@ -9,7 +9,7 @@ use Rattle.semantics.specs.WellFormed.{WellFormed}
 use Rattle.semantics.specs.Faithful.{inputs_of}
 use Rattle.semantics.specs.Meaning.{Context, Statement, AtNode, AtOut, Tagged, tagged, State, Activity, taken, operands_from, deed, Run, Same, start, Clashes}
 use Rattle.semantics.specs.Meaning as Meaning
-use Rattle.law_determinacy.proofs.Perm.{Within, Each, put_first, each_from, each_within, each_permutation, each_append, each_append_back, within_permutation, within_left}
+use Rattle.lemmas.proofs.Permutations.{Within, Each, put_first, each_from, each_within, each_permutation, each_append, each_append_back, within_permutation, within_left}
 use Rattle.law_determinacy.proofs.Shapes.{storing, showing}
 use Rattle.law_determinacy.proofs.Runs.{run_to_same}
 use Rattle.law_determinacy.proofs.Theorems.{reached_unique}

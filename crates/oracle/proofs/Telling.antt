@@ -10,7 +10,7 @@ use Rattle.semantics.specs.declared.graph.Kind.TheVariants.{Lit, Apply1, Apply2,
 use Rattle.semantics.specs.Graph.{Node, Block, Graph, flow_of}
 use Rattle.semantics.specs.Meaning.{Context, Tagged, tagged, sent, entering, predicates_from, predicates_in, is_enter_of, block_numbered, block_of}
 use Rattle.semantics.specs.Meaning as Meaning
-use Rattle.law_determinacy.proofs.Perm.{Each, each_append}
+use Rattle.lemmas.proofs.Permutations.{Each, each_append}
 use Rattle.oracle.specs.declared.invocations.Made.{Made}
 use Rattle.oracle.specs.declared.invocations.Made.TheVariants.{Main, Called, Turned}
 use Rattle.oracle.specs.declared.invocations.Invocation.{Invocation}

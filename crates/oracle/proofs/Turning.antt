@@ -16,7 +16,7 @@ use Rattle.semantics.specs.Faithful.{inputs_of, inputs_in}
 use Rattle.semantics.specs.Meaning.{Context, Statement, AtNode, AtOut, Port, Tagged, tagged, State, Activity, Run, start, same_side, block_of, Message}
 use Rattle.semantics.specs.Meaning as Meaning
 use Rattle.law_determinacy.proofs.Options.{some_same}
-use Rattle.law_determinacy.proofs.Perm.{Within, within_right}
+use Rattle.lemmas.proofs.Permutations.{Within, within_right}
 use Rattle.law_determinacy.proofs.Uses.{IsSource, UseOf, AsOperand, AsResult, AsFlag, AsCarried, Member}
 use Rattle.law_determinacy.proofs.History.{at_start, run_history}
 use Rattle.law_determinacy.proofs.Resolved.{all_get, flow_well, fits}

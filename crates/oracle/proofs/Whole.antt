@@ -10,7 +10,7 @@ use Rattle.semantics.specs.Faithful.{inputs_of}
 use Rattle.semantics.specs.Meaning.{Context, Tagged, Memory, State, Activity, Step, Run, Reached, start, entering}
 use Rattle.semantics.specs.Meaning as Meaning
 use Rattle.law_determinacy.proofs.Options.{some_same}
-use Rattle.law_determinacy.proofs.Perm.{each_append, each_weaker}
+use Rattle.lemmas.proofs.Permutations.{each_append, each_weaker}
 use Rattle.law_determinacy.proofs.Resolved.{flow_well}
 use Rattle.law_determinacy.proofs.Theorems.{determinacy, second_store_from}
 use Rattle.oracle.specs.declared.invocations.Made.TheVariants.{Main}
