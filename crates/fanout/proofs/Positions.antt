@@ -3,6 +3,7 @@ use Rattle.std.proofs.Common.{◌≡◌, ℕ, zero, suc, ◌+◌, ◌<◌, ◌�
 use Rattle.std.specs.Prelude.{slice_get, All}
 use Rattle.std.proofs.lemmas.Option.{slice_get_within}
 use Rattle.std.proofs.lemmas.List.Elements.{All-cons, All-nil, All-head, All-tail, All-append}
+use Rattle.lemmas.proofs.SliceGet.{get_append_cases}
 use Rattle.semantics.specs.Program.{Instr}
 use Rattle.fanout.specs.Rows.{is_tied, run}
 use Rattle.fanout.specs.Places.{size, places_from, bases_from}
@@ -17,16 +18,6 @@ get_left (x ∷ xs) ys (suc k) h = get_left xs ys k (le_of_suc-le-suc h)
 pub get_right : {X : Type 0} (xs ys : List X) (k : ℕ) → slice_get (xs ++ ys) (length xs + k) ≡ slice_get ys k
 get_right [] ys k = let e : 0 + k ≡ k = omega arith in ap (slice_get ys) e
 get_right (x ∷ xs) ys k = let e : length (x ∷ xs) + k ≡ suc (length xs + k) = omega arith in ap (slice_get (x ∷ (xs ++ ys))) e ∙ get_right xs ys k
-
--- what stands in two lists stands in one of them
-pub get_split : {X : Type 0} (xs ys : List X) (k : ℕ) (y : X) → slice_get (xs ++ ys) k ≡ Some y → (slice_get xs k ≡ Some y) ⊎ ((j : ℕ) × (k ≡ length xs + j) × (slice_get ys j ≡ Some y))
-get_split [] ys k y e = inr (k, omega arith, e)
-get_split (x ∷ xs) ys zero y e = inl e
-get_split (x ∷ xs) ys (suc k) y e = shift (get_split xs ys k y e)
-  where
-    shift : (slice_get xs k ≡ Some y) ⊎ ((j : ℕ) × (k ≡ length xs + j) × (slice_get ys j ≡ Some y)) → (slice_get xs k ≡ Some y) ⊎ ((j : ℕ) × (suc k ≡ length (x ∷ xs) + j) × (slice_get ys j ≡ Some y))
-    shift (inl h) = inl h
-    shift (inr (j, h, g)) = inr (j, omega (arith, h), g)
 
 -- the flag of an instruction, at the head of those that are left
 pub flag_here : (ts : List Bool) (n : ℕ) → n < length ts → drop n ts ≡ is_tied ts n ∷ drop (n + 1) ts
@@ -331,7 +322,7 @@ module _ {X : Type 0} (ts : List Bool) (one : ℕ → Instr → X) (more : ℕ �
   -- what waits behind an instruction waited before it, or is a copy of it
   waited_here : (n before copied : ℕ) (waiting : List X) (i : Instr) (is : List Instr) (x u : ℕ) (y : X) → before + length waiting ≡ copied → slice_get (waiting ++ more n i) u ≡ Some y → x ≡ run (drop n ts) + u
       → Comes n before copied waiting (i ∷ is) x y
-  waited_here n before copied waiting i is x u y h e f = pick (get_split waiting (more n i) u y e)
+  waited_here n before copied waiting i is x u y h e f = pick (get_append_cases waiting (more n i) u y e)
     where
       pick : (slice_get waiting u ≡ Some y) ⊎ ((j : ℕ) × (u ≡ length waiting + j) × (slice_get (more n i) j ≡ Some y)) → Comes n before copied waiting (i ∷ is) x y
       pick (inl g) = inr (inr (record { u = u; there = g; at = f }))
@@ -350,7 +341,7 @@ module _ {X : Type 0} (ts : List Bool) (one : ℕ → Instr → X) (more : ℕ �
             by_tied n before copied waiting i is x y h t here
             (comes_from (n + 1) before (copied + size i) (waiting ++ more n i) is x y (omega (arith, h, len)) (omega (arith, all)) e)
         | false ↦ λ t e.
-            by_free n before copied waiting i is x y h t here len (get_split (waiting ++ more n i) (spread_of ts one more (n + 1) [] is) x y e)
+            by_free n before copied waiting i is x y h t here len (get_append_cases (waiting ++ more n i) (spread_of ts one more (n + 1) [] is) x y e)
             (λ x' e. comes_from (n + 1) (copied + size i) (copied + size i) [] is x' y (omega arith) (omega (arith, all)) e)
       ] refl e
     where

@@ -2,19 +2,19 @@
 use Rattle.std.proofs.Common.{◌≡◌, ℕ, zero, suc, ◌+◌, ◌-◌, ◌<◌, Bool, true, false, List, ◌∷◌, length, replicate, sym, ap, ◌∙◌, subst, inl, inr, ◌⊎◌, arith, Some, if◌then◌else◌, []}
 use Rattle.std.specs.Prelude.{slice_get, Contains}
 use Rattle.std.proofs.lemmas.Option.{slice_get_within}
+use Rattle.lemmas.proofs.Contains.{contains_cases, contains_none}
+use Rattle.lemmas.proofs.SliceGet.{get_some}
 use Rattle.semantics.specs.declared.program.Dest.{Dest}
 use Rattle.semantics.specs.declared.program.Op.TheVariants.{Link}
 use Rattle.semantics.specs.Program.{Instr, CodeBlock}
 use Rattle.semantics.specs.Plan.{Plan, landing}
 use Rattle.semantics.specs.Wired.{StandsAt}
-use Rattle.law_net.proofs.Members.{contains_cases, contains_none}
 use Rattle.fanout.specs.Sides.{parted, firsts_of, parting_of}
 use Rattle.fanout.specs.Rows.{tie, tie_landings, tie_instr, tie_all, is_tied}
 use Rattle.fanout.specs.Places.{size, places_from, place_of}
 use Rattle.fanout.specs.Laws.{LandingsStay, InstrsStay}
 use Rattle.fanout.proofs.Positions.{same_number}
 use Rattle.fanout.proofs.Spots.{place_is}
-use Rattle.fanout.proofs.Queues.{there}
 use Rattle.fanout.proofs.Flags.{tie_length, tie_these, landings_keep, all_keeps, instr_length, none_length}
 use Rattle.fanout.proofs.Plans.{is, ts, l, all, at_place}
 use Rattle.fanout.proofs.Arrows.{in_parts}
@@ -77,7 +77,7 @@ module _ (p : Plan) (c : CodeBlock) (n t : ℕ) (i : Instr) (d : Dest) (there_i 
   stays zero j low at = let z : n + d.ahead + 0 ≡ n + d.ahead = omega arith in let e = ap (place_of (l p c)) z in omega (arith, e)
   stays (suc k) j low at =
       let within = slice_get_within c.instrs (n + d.ahead + suc k) j at in
-      let o = there c.instrs (n + d.ahead + k) (omega (arith, within)) in
+      let o = get_some c.instrs (n + d.ahead + k) (omega (arith, within)) in
       let ih = stays k o.0 (omega (arith, low)) o.1 in
       let s : n + d.ahead + suc k ≡ suc (n + d.ahead + k) = omega arith in
       let z : 0 + (n + d.ahead + k) ≡ n + d.ahead + k = omega arith in

@@ -4,6 +4,8 @@ use Rattle.std.specs.Prelude.{slice_get, Contains, flat_map}
 use Rattle.std.proofs.lemmas.Bool.{cases_lt}
 use Rattle.std.proofs.lemmas.Option.{slice_get_within}
 use Rattle.std.proofs.lemmas.List.Elements.{Contains-append_left, Contains-append_right, Contains-append_cases}
+use Rattle.lemmas.proofs.Contains.{contains_cases, contains_head, contains_mapped, contains_none, contains_tail}
+use Rattle.lemmas.proofs.SliceGet.{map_get_back, get_some}
 use Rattle.tags.specs.declared.token.Port.TheVariants.{Left, Right}
 use Rattle.semantics.specs.declared.program.Dest.{Dest}
 use Rattle.semantics.specs.declared.program.Op.{Op}
@@ -15,7 +17,6 @@ use Rattle.semantics.specs.Sharing.{Arc, Inlet, inlet, arc, arcs_to, row, arcs_f
 use Rattle.semantics.specs.Wired.{StandsAt}
 use Rattle.semantics.specs.Wired as Wired
 use Rattle.semantics.specs.Bytes as Bytes
-use Rattle.law_net.proofs.Members.{contains_cases, contains_none, contains_head, contains_tail, contains_map}
 use Rattle.fanout.specs.Sides.{parted}
 use Rattle.fanout.specs.Rows.{is_tied}
 use Rattle.fanout.specs.Places.{size, place_of, base_of}
@@ -24,9 +25,7 @@ use Rattle.fanout.specs.Narrowed.{narrowed, narrowed_block}
 use Rattle.fanout.specs.Laws.{Names, StandsClear, StaysWired}
 use Rattle.fanout.proofs.Positions.{place_low}
 use Rattle.fanout.proofs.Spots.{place_is, copy_apart}
-use Rattle.fanout.proofs.Queues.{there}
 use Rattle.fanout.proofs.Flags.{entries_tied, place_tied}
-use Rattle.fanout.proofs.Maps.{get_map}
 use Rattle.fanout.proofs.Plans.{is, ts, l, all, stays_plan, marks_stay, loops_stay}
 use Rattle.fanout.proofs.Arrows.{Known, past, names_all, in_parts, dests_stay}
 
@@ -46,7 +45,7 @@ Leads n ds x = (d : Dest) × Contains ds d × ((x.to ≡ inlet (n + d.ahead) d.p
 in_dests : (n : ℕ) (s : Bool) (ds : List Dest) (x : Arc) → Contains (arcs_to n s ds) x → Leads n ds x
 in_dests n s ds x h =
     let make : Dest → Arc = λ (d : Dest). arc n s (inlet (n + d.ahead) d.port) in
-    let m = contains_map make ds x h in (m.0, m.1, inl (sym (ap (λ (x : Arc). x.to) m.2)))
+    let m = contains_mapped make ds x h in (m.0, m.1, inl (sym (ap (λ (x : Arc). x.to) m.2)))
 
 in_row : (n from k : ℕ) (x : Arc) → Contains (row n from k) x → (x.to.port ≡ Left) × (from ≤ x.to.place)
 in_row n from zero x h = absurd (contains_none x h)
@@ -136,7 +135,7 @@ module _ (p : Plan) (clear : StandsClear p) (b : ℕ) (c : CodeBlock) (at_b : sl
           let n : Names p b v c d = record { i = i; block = at_b; there = e; named = h } in
           let far = past p c v i here (λ d k. clear.rows b v c d (record { i = i; block = at_b; there = e; named = k })) (λ d k. clear.dests b v c d (record { i = i; block = at_b; there = e; named = k })) d h in
           let t = v + d.ahead in
-          let to = there c.instrs t (clear.dests b v c d n).inside in
+          let to = get_some c.instrs t (clear.dests b v c d n).inside in
           let up = place_low (ts p c) 0 0 0 (is p c) t (place_of (l p c) t) (omega arith) (place_is (ts p c) (is p c) (all p c) t (parted to.0) (in_parts c t to.0 to.1)) in
           let f = clear.entries b v c d n in
           omega (arith, far, low, up, f)
@@ -147,7 +146,7 @@ module _ (p : Plan) (clear : StandsClear p) (b : ℕ) (c : CodeBlock) (at_b : sl
           pick : (c.inputs < at + ahead) ⊎ (at + ahead ≤ c.inputs) → c.inputs < at + ahead
           pick (inl h) = h
           pick (inr h) =
-              let k = there c.instrs (at + ahead) (let u = clear.there b c at_b in omega (arith, u, h)) in
+              let k = get_some c.instrs (at + ahead) (let u = clear.there b c at_b in omega (arith, u, h)) in
               let g = in_parts c (at + ahead) k.0 k.1 in
               absurd (copy_apart (ts p c) (is p c) (all p c) (at + ahead) v q (parted k.0) (parted i) g here low (entry_stays (at + ahead) (parted k.0) g h ∙ f))
 
@@ -157,7 +156,7 @@ module _ (p : Plan) (clear : StandsClear p) (b : ℕ) (c : CodeBlock) (at_b : sl
 pub stays_wired : StaysWired
 stays_wired p clear w = record {
   plan = stays_plan p w.plan;
-  entries = λ b c x e h. let f = from_dest (narrowed p) c x h in let o = get_map (narrowed_block p) p.program.blocks b c e in no_entry b c x f o.0 o.1 o.2 f.to;
+  entries = λ b c x e h. let f = from_dest (narrowed p) c x h in let o = map_get_back (narrowed_block p) p.program.blocks b c e in no_entry b c x f o.0 o.1 o.2 f.to;
   rights = λ b c x e h r. let f = from_dest (narrowed p) c x h in right b c x e f r f.to;
   switches = marks_stay p w.switches;
   loops = loops_stay p w.loops;

@@ -2,6 +2,8 @@
 use Rattle.std.proofs.Common.{◌≡◌, ℕ, zero, suc, ◌+◌, ◌<◌, ◌≤◌, Bool, true, false, List, ◌∷◌, ◌++◌, refl, sym, ap, ◌∙◌, inl, inr, ◌⊎◌, arith, Some, []}
 use Rattle.std.specs.Prelude.{slice_get, Contains, flat_map}
 use Rattle.std.proofs.lemmas.List.Elements.{Contains-append_left, Contains-append_right, Contains-append_cases}
+use Rattle.lemmas.proofs.Contains.{contains_cases, contains_head, contains_mapped, contains_none, contains_tail}
+use Rattle.lemmas.proofs.SliceGet.{get_some}
 use Rattle.tags.specs.declared.token.Port.TheVariants.{Left, Right}
 use Rattle.semantics.specs.declared.program.Dest.{Dest}
 use Rattle.semantics.specs.declared.program.Op.{Op}
@@ -13,8 +15,6 @@ use Rattle.semantics.specs.Wired.{StandsAt}
 use Rattle.semantics.specs.Wired as Wired
 use Rattle.semantics.specs.Bytes as Bytes
 use Rattle.code.specs.Sound.{IsSoundDest, DestsAreSound}
-use Rattle.folding.proofs.Taken.{get_there}
-use Rattle.folding.proofs.SoundLists.{contains_head, contains_tail, contains_cases, contains_none, contains_map}
 use Rattle.folding.proofs.SoundDests.{dyadic_is}
 
 -- WHAT AN ARC COMES FROM: a destination; it leads there, or further on in a landing
@@ -27,7 +27,7 @@ Leads n ds x = (d : Dest) × Contains ds d × LeadsBy n d x
 in_dests : (n : ℕ) (s : Bool) (ds : List Dest) (x : Arc) → Contains (arcs_to n s ds) x → Leads n ds x
 in_dests n s ds x h =
     let make : Dest → Arc = λ (d : Dest). arc n s (inlet (n + d.ahead) d.port) in
-    let m = contains_map make ds x h in
+    let m = contains_mapped make ds x h in
     (m.0, m.1, inl (sym (ap (λ (x : Arc). x.to) m.2)))
 
 in_row : (n from k : ℕ) (x : Arc) → Contains (row n from k) x → (x.to.port ≡ Left) × (from ≤ x.to.place)
@@ -101,7 +101,7 @@ module _ (q : Plan) (sound : DestsAreSound q) (b : ℕ) (c : CodeBlock) (at_b : 
   right_dyadic right = pick sound_arc.to
     where
       target : (j : Instr) × (slice_get c.instrs (sound_arc.n + sound_arc.d.ahead) ≡ Some j)
-      target = get_there c.instrs (sound_arc.n + sound_arc.d.ahead) sound_arc.sound.dest.inside
+      target = get_some c.instrs (sound_arc.n + sound_arc.d.ahead) sound_arc.sound.dest.inside
 
       pick : LeadsBy sound_arc.n sound_arc.d x → (i : Instr) × StandsAt c x.to.place i × (Wired.is_dyadic i.op ≡ true)
       pick (inl e) = (

@@ -1,6 +1,7 @@
 -- Regions, conditionals, names, ports: what each test decides.
 use Rattle.std.proofs.Common.{◌≡◌, ◌≢◌, ℕ, zero, suc, ◌+◌, ◌<◌, ◌≤◌, Bool, true, false, List, [], ◌∷◌, length, Option, Some, None, Contains, nat_eq, nat_lt, if◌then◌else◌, refl, sym, ap, ap₂, ◌∙◌, subst, arith, eqb-true, eq-eqb, ltb-true, ltb-false, lt-ltb, le-ltb}
 use Rattle.std.specs.Prelude.{slice_get}
+use Rattle.lemmas.proofs.Alls.{at_all, all_from}
 use Rattle.semantics.specs.declared.graph.Region.{Region}
 use Rattle.semantics.specs.declared.graph.Region.TheVariants.{Root, Arm}
 use Rattle.semantics.specs.declared.graph.Source.{Source}
@@ -9,7 +10,6 @@ use Rattle.semantics.specs.declared.graph.Kind.TheVariants.{Lit, Apply1, Apply2,
 use Rattle.semantics.specs.Graph.{Node, Block, Graph, node_at, array_names, block_names}
 use Rattle.semantics.specs.WellFormed.{AllDiffer, IsCondNode, IsCond, IsRegion, region_of, HasPortOf, HasPortIn, arm_outside, AllLieIn, LiesWell, NamesWell}
 use Rattle.graph_check.specs.FirstFault.{is_cond_kind, is_cond_node, is_earlier_cond, same_side, same_region, is_good_region, is_arm, fits_region, is_named, shape_of, takes, gives, has_arity, is_bounded, is_port_of, kind_has_port, has_port, wanted_region}
-use Rattle.graph_check.proofs.NoFault.{all_get, get_all}
 use Rattle.graph_check.proofs.Shapes.{is_name_contains, contains_is_name, shape_has, has_shape, there_shape, has_name}
 
 -- ---- tests in a row
@@ -263,10 +263,10 @@ module _ (b : Block (List ℕ)) (n : ℕ) where
   root_or_arm (Arm k s) e = λ f. cc
 
   all_lie : (r : Region) (ss : List Source) → ((i : ℕ) (s : Source) → slice_get ss i ≡ Some s → region_of b s.node ≡ r) → AllLieIn b r ss
-  all_lie r ss h = get_all (λ (s : Source). region_of b s.node ≡ r) ss h
+  all_lie r ss h = all_from (λ (s : Source). region_of b s.node ≡ r) ss h
 
   lie_all : (r : Region) (ss : List Source) → AllLieIn b r ss → (i : ℕ) (s : Source) → slice_get ss i ≡ Some s → region_of b s.node ≡ r
-  lie_all r ss h = all_get (λ (s : Source). region_of b s.node ≡ r) ss h
+  lie_all r ss h = at_all (λ (s : Source). region_of b s.node ≡ r) ss h
 
   pub lies_well : (g : Graph) (r : Region) (kind : Kind (List ℕ)) (ss : List Source) → fits_region b n r kind ≡ true → NamesWell g kind (length ss) → LieWanted r kind ss → LiesWell b n r kind ss
   lies_well g r (Lit v) ss e l h = all_lie r ss h

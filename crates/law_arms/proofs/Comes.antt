@@ -5,6 +5,7 @@ use Rattle.std.proofs.lemmas.Bool.{and_parts, and_from}
 use Rattle.std.proofs.lemmas.Option.{slice_get_within}
 use Rattle.std.proofs.lemmas.List.Sorted.{Contains-permutation}
 use Rattle.std.proofs.lemmas.List.Elements.{Contains-append_left, Contains-append_right}
+use Rattle.lemmas.proofs.Contains.{contains_cases, contains_head, contains_mapped, contains_none}
 use Rattle.tags.specs.declared.value.Value.{Value}
 use Rattle.tags.specs.declared.token.Port.{Port}
 use Rattle.tags.specs.declared.token.Port.TheVariants.{Left, Right}
@@ -24,7 +25,6 @@ use Rattle.law_reuse.proofs.Stands.{instr_in}
 use Rattle.law_net.specs.Roles.{one}
 use Rattle.law_net.proofs.Orders.{total-IsPermutation, total-map}
 use Rattle.law_net.proofs.Ports.{same_in, entry_in}
-use Rattle.law_net.proofs.Members.{contains_head, contains_cases, contains_none}
 use Rattle.law_contexts.specs.Parts.{Part, Entry, Line, Merge, CondEnd, Sender, Landing, Giver, Taker, Drainer, Asked, NextAsked, Held, Drained, Shown, Done, Freed, inlet, Item, Firing, Spot, spot_of, same_spot}
 use Rattle.law_contexts.specs.Blocks.{Wiring, is_loop, op_of, merge_cond, there_in, is_store}
 use Rattle.law_contexts.specs.Contexts.{or_zero, Wires, block_in, code_in, site_in, wiring_in, IsContext, is_strict_in}
@@ -36,7 +36,7 @@ use Rattle.law_contexts.specs.Stands.{Past, frame_of, ip_of, word_of, to_of, tok
 use Rattle.law_contexts.specs.Theorem.{IsGood}
 use Rattle.law_contexts.specs.Packages.{Keeps, AllFit, IsOnce, IsCaused, IsOfOneBlock}
 use Rattle.law_arms.proofs.Sames.{hits_at, hit_counted, spot_is, inlet_is}
-use Rattle.law_arms.proofs.Sends.{contains_map, all_from}
+use Rattle.law_arms.proofs.Sends.{all_from}
 use Rattle.law_arms.proofs.Words.{Begins, AtEntry, AtInput, begin_cases}
 use Rattle.law_arms.proofs.Rivals.{two_ways, merge_arm, end_arm, flag_at, turn_last, turn_later, landing_arm, Order, Same, Before, After, order}
 use Rattle.law_arms.proofs.Nets.{all_of, all_born, came_all, came_total, came_split, taken_in, flat_contains, only_total, only_contains, count_total, cells_apart, one_passes, once_all, allowed_in, not_opposed}
@@ -252,7 +252,7 @@ module _ (stage : ℕ) (fl : Flow) (p : Plan) (w : Wires) (inputs : List ℤ) (q
   from_met f ip r v c =
       let ts = events_taken q.events ++ m.pool in
       let t = token (To.Instr f ip r) v in
-      let i = contains_map (token_of fl p w net.fired) (only (λ (i : Item). not (is_held i.inlet.part)) (came fl net)) t (Contains-permutation _ _ t k.follows.met (keeps_token ts t c refl)) in (
+      let i = contains_mapped (token_of fl p w net.fired) (only (λ (i : Item). not (is_held i.inlet.part)) (came fl net)) t (Contains-permutation _ _ t k.follows.met (keeps_token ts t c refl)) in (
         i.0,
         came_at f ip r i.0 (came_all fl net i.0 (only_contains (λ (i : Item). not (is_held i.inlet.part)) (came fl net) i.0 i.1).0) (ap (λ (t : Token). is_at f ip r t.to) i.2 ∙ is_at-refl f ip r),
         ap (λ (t : Token). t.word) i.2,
@@ -261,7 +261,7 @@ module _ (stage : ℕ) (fl : Flow) (p : Plan) (w : Wires) (inputs : List ℤ) (q
   pub from_pool : (f ip : ℕ) (r : Port) (v : Word) → Contains m.pool (token (To.Instr f ip r) v) → (i : Item) × Contains net.pending i × CameAt f ip r i × (word_of fl p w net.fired i.word ≡ v)
   from_pool f ip r v c =
       let t = token (To.Instr f ip r) v in
-      let i = contains_map (token_of fl p w net.fired) net.pending t (Contains-permutation _ _ t k.follows.stands.pool c) in (
+      let i = contains_mapped (token_of fl p w net.fired) net.pending t (Contains-permutation _ _ t k.follows.stands.pool c) in (
         i.0,
         i.1,
         came_at f ip r i.0 (Contains-append_left net.pending (net.waiting ++ flat_map (takes fl) net.fired) i.0 i.1) (ap (λ (t : Token). is_at f ip r t.to) i.2 ∙ is_at-refl f ip r),

@@ -2,6 +2,7 @@
 use Rattle.std.proofs.Common.{◌≡◌, ℕ, suc, ◌+◌, ◌<◌, Bool, true, false, not, ◌&&◌, ℤ, List, refl, sym, ap, ◌∙◌, subst, inl, inr, ◌⊎◌, arith, true≢false, ltb-true, Some, None, ◌==◌, if◌then◌else◌}
 use Rattle.std.specs.Prelude.{Contains}
 use Rattle.std.proofs.lemmas.Bool.{and_parts}
+use Rattle.lemmas.proofs.Contains.{contains_none}
 use Rattle.tags.specs.declared.token.Port.TheVariants.{Right}
 use Rattle.tags.specs.declared.value.Value.{Value}
 use Rattle.operators.specs.Values.{truth}
@@ -11,7 +12,6 @@ use Rattle.semantics.specs.Graph.{Block, Flow}
 use Rattle.semantics.specs.Meaning.{Context, Main, Called, Turned}
 use Rattle.semantics.specs.Cause.{is_turn}
 use Rattle.semantics.specs.Plan.{Plan}
-use Rattle.law_net.proofs.Members.{contains_none}
 use Rattle.law_contexts.specs.Parts.{Part, Line, Trigger, Gate, Merge, Framer, Linker, Sender, Landing, Giver, Taker, Drainer, Result, TurnCont, TurnFlag, TurnValue, Asker, NextFramer, NextSender, LastReturn, DrainReturn, CondEnd, End, Asked, NextAsked, Held, Drained, Inlet, inlet, Note, Datum, Item, item, Firing, spot_of, role, role_of, turn_in}
 use Rattle.law_contexts.specs.Blocks.{Side, side, is_switch, is_kind, cond_kind, merge_cond, is_cell, is_loop, source_count, there_in, waits_in, lies_in, entered, leaves_in, arm_round, outside, flag}
 use Rattle.law_contexts.specs.Contexts.{Wires, block_in, site_in, wiring_in, IsContext, child}

@@ -79,12 +79,6 @@ counted_block g bs i b e h = let m = go bs i e in let s = sum-map g bs in let t 
     go (x ∷ bs) zero e = let same : x ≡ b = cc in let o = ap g same in omega (arith, o, h)
     go (x ∷ bs) (suc i) e = let m = go bs i e in omega (arith, m)
 
--- a list has what stands within it
-pub there_get : (xs : List (Block ℕ)) (i : ℕ) → i < length xs → (b : Block ℕ) × (slice_get xs i ≡ Some b)
-there_get [] i h = absurd (omega (arith, h))
-there_get (x ∷ xs) zero h = (x, refl)
-there_get (x ∷ xs) (suc i) h = there_get xs i (omega (arith, h))
-
 -- a loop's body is looped
 pub looped_by : (fl : Flow) (i n f : ℕ) (b : Block ℕ) (line : Node ℕ) → slice_get fl.blocks i ≡ Some b → node_at b n ≡ Some line → loops_to f line.kind ≡ true → is_looped fl f ≡ true
 looped_by fl i n f b line e g h =

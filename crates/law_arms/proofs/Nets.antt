@@ -3,12 +3,12 @@ use Rattle.std.proofs.Common.{◌≡◌, ℕ, zero, suc, ◌+◌, ◌<◌, ◌�
 use Rattle.std.specs.Prelude.{Contains, IsPermutation, flat_map, count_by}
 use Rattle.std.proofs.lemmas.List.Sorted.{IsPermutation-trans, IsPermutation-sym, IsPermutation-append, IsPermutation-append_left, Contains-permutation}
 use Rattle.std.proofs.lemmas.List.Elements.{All-contains, Contains-append_left, Contains-append_right, Contains-append_cases}
+use Rattle.lemmas.proofs.Contains.{contains_cases, contains_head, contains_none, contains_tail}
 use Rattle.tags.specs.declared.token.Token.{Token}
 use Rattle.semantics.specs.Graph.{Flow}
 use Rattle.law_net.specs.Roles.{one, total}
 use Rattle.law_net.proofs.Parts.{one-cases}
 use Rattle.law_net.proofs.Orders.{shuffled, Part, ◌⊕◌, total-append, total-sum_by, total-same}
-use Rattle.law_net.proofs.Members.{contains_head, contains_tail, contains_cases, contains_none}
 use Rattle.law_net.proofs.Net.{Waits, Fires}
 use Rattle.law_contexts.specs.Parts.{Item, Firing, spot_of, same_spot, Spot}
 use Rattle.law_contexts.specs.Contexts.{Wires}

@@ -1,7 +1,8 @@
 -- What a firing makes: along the wires of a side of one part, and what it gives besides.
-use Rattle.std.proofs.Common.{◌≡◌, ℕ, ◌+◌, ◌≤◌, Bool, true, false, not, ◌||◌, List, [], ◌∷◌, ◌++◌, map, refl, sym, ap, ◌∙◌, subst, inl, inr, ◌⊎◌, arith, true≢false, append-nil, Option, Some, None, nat_lt, if◌then◌else◌}
+use Rattle.std.proofs.Common.{◌≡◌, ℕ, ◌+◌, ◌≤◌, Bool, true, false, not, ◌||◌, List, [], ◌∷◌, ◌++◌, refl, sym, ap, ◌∙◌, subst, inl, inr, ◌⊎◌, arith, true≢false, append-nil, Option, Some, None, nat_lt, if◌then◌else◌}
 use Rattle.std.specs.Prelude.{All, Contains}
 use Rattle.std.proofs.lemmas.List.Elements.{All-weaker, All-contains, All-contains_itself, Contains-append_left, Contains-append_cases}
+use Rattle.lemmas.proofs.Contains.{contains_head, contains_mapped, contains_none, contains_tail}
 use Rattle.tags.specs.declared.token.Port.TheVariants.{Left, Right}
 use Rattle.operators.specs.Values.{truth}
 use Rattle.tags.specs.declared.value.Value.{Value}
@@ -10,7 +11,6 @@ use Rattle.semantics.specs.Graph.{Block, Flow, Node, node_at}
 use Rattle.semantics.specs.Meaning.{Context}
 use Rattle.law_net.specs.Roles.{one, total}
 use Rattle.law_net.proofs.Orders.{total-append}
-use Rattle.law_net.proofs.Members.{contains_head, contains_tail, contains_cases, contains_none}
 use Rattle.law_contexts.specs.Parts.{Part, Entry, Line, Trigger, Gate, Framer, Fanned, Linker, Sender, Landing, Giver, Taker, Drainer, LoopDone, Result, TurnCont, TurnFlag, TurnValue, Asker, NextFramer, NextFanned, NextSender, LastReturn, DrainReturn, End, Asked, NextAsked, Held, Drained, Shown, Done, Freed, Inlet, inlet, Note, Datum, FrameOf, BackTo, ToHost, signal, Item, item, each, Firing, Spot, spot_of, same_context, same_inlet, same_spot}
 use Rattle.law_contexts.specs.Blocks.{is_switch, Side, side, is_cell, is_store, is_kind, cell_kind, plain_kind, is_plain, waits_in, there_in, is_loop}
 use Rattle.law_contexts.specs.Contexts.{Wires, block_in, wiring_in, site_in, child, next, IsContext}
@@ -22,15 +22,6 @@ use Rattle.law_arms.proofs.Sames.{hits_at, one_and}
 -- all of a list, by each that it contains
 pub all_from : {X : Type 0} (P : X → Type 0) (xs : List X) → ((x : X) → Contains xs x → P x) → All P xs
 all_from P xs h = All-weaker (Contains xs) P h xs (All-contains_itself xs)
-
--- what stands in an image
-pub contains_map : {X Y : Type 0} (f : X → Y) (xs : List X) (y : Y) → Contains (map f xs) y → (x : X) × Contains xs x × (f x ≡ y)
-contains_map f [] y c = absurd (contains_none y c)
-contains_map f (x ∷ xs) y c = pick (contains_cases (f x) (map f xs) y c) (contains_map f xs y)
-  where
-    pick : (f x ≡ y) ⊎ Contains (map f xs) y → (Contains (map f xs) y → (z : _) × Contains xs z × (f z ≡ y)) → (z : _) × Contains (x ∷ xs) z × (f z ≡ y)
-    pick (inl e) more = (x, contains_head x xs, e)
-    pick (inr d) more = let m = more d in (m.0, contains_tail x xs m.0 m.1, m.2)
 
 -- THE SIDE along which it sends
 abbrev pub switch_side : Part → Note → Option Side
@@ -127,7 +118,7 @@ module _ (fl : Flow) (w : Wires) (f : Firing) where
 
   pub sent_is : (o : Option Side) → side_by fl f f.part ≡ o → (i : Item) → Contains (sent_along fl w f o) i → IsSent i
   sent_is None e i c = absurd (contains_none i c)
-  sent_is (Some t) e i c = let m = contains_map (λ (x : Inlet). item f.context x (sent_word fl f f.part)) ((wiring_in fl w f.context).wire t) i c in
+  sent_is (Some t) e i c = let m = contains_mapped (λ (x : Inlet). item f.context x (sent_word fl f f.part)) ((wiring_in fl w f.context).wire t) i c in
       let same : m.0 ≡ i.inlet = ap (λ (i : Item). i.inlet) m.2 in record {
         from = t;
         along = e;

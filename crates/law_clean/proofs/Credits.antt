@@ -3,13 +3,13 @@ use Rattle.std.proofs.Common.{◌≡◌, ℕ, zero, suc, ◌+◌, ◌-◌, ◌<�
 use Rattle.std.specs.Prelude.{Contains}
 use Rattle.std.proofs.lemmas.Bool.{cases_Bool}
 use Rattle.std.proofs.lemmas.List.Elements.{Contains-append_right}
+use Rattle.lemmas.proofs.Contains.{contains_cases, contains_none}
 use Rattle.tags.specs.declared.token.Port.TheVariants.{Left}
 use Rattle.tags.specs.declared.token.Cont.{Cont}
 use Rattle.tags.specs.declared.slot.SlotState.TheVariants as Slot
 use Rattle.semantics.specs.Graph.{Flow}
 use Rattle.semantics.specs.Meaning.{Context}
 use Rattle.law_net.specs.Roles.{one, total}
-use Rattle.law_net.proofs.Members.{contains_cases, contains_none}
 use Rattle.law_net.proofs.Net.{Waits, Fires}
 use Rattle.law_contexts.specs.Parts.{Part, Opener, Giver, Taker, Drainer, NextFramer, Drained, Inlet, inlet, Item, Firing}
 use Rattle.law_contexts.specs.Blocks.{is_loop}

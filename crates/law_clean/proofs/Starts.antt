@@ -3,6 +3,7 @@ use Rattle.std.proofs.Common.{◌≡◌, ℕ, zero, suc, ◌+◌, ◌<◌, ◌�
 use Rattle.std.specs.Prelude.{Contains}
 use Rattle.std.proofs.lemmas.Bool.{and_parts, or_left, or_right}
 use Rattle.std.proofs.lemmas.List.Elements.{Contains-append_left}
+use Rattle.lemmas.proofs.Contains.{contains_head, contains_none}
 use Rattle.tags.specs.declared.value.Value.{Value}
 use Rattle.tags.specs.declared.token.Port.TheVariants.{Left, Right}
 use Rattle.operators.specs.Values.{truth}
@@ -10,7 +11,6 @@ use Rattle.semantics.specs.declared.graph.Region.{Region}
 use Rattle.semantics.specs.declared.graph.Region.TheVariants.{Root, Arm}
 use Rattle.semantics.specs.Graph.{Block, Flow}
 use Rattle.semantics.specs.Meaning.{Context}
-use Rattle.law_net.proofs.Members.{contains_head, contains_none}
 use Rattle.law_contexts.specs.Parts.{Part, Entry, Line, Trigger, Gate, Framer, Fanned, Linker, Landing, CallDone, Giver, Taker, Drainer, LoopDone, TurnCont, TurnFlag, TurnValue, Asker, NextFramer, NextFanned, Inlet, inlet, Datum, Firing}
 use Rattle.law_contexts.specs.Blocks.{Side, side, waits_in, invokes, is_call, is_loop, is_switch, region_of, entered, leaves_in, arm_round, lies_in, flag}
 use Rattle.law_contexts.specs.Contexts.{block_in, site_in, wiring_in, IsContext}

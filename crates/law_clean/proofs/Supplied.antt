@@ -1,13 +1,13 @@
 -- A context that was asked for, and to which all its inputs came: a call's block, a loop's first turn, and the turn after another.
 use Rattle.std.proofs.Common.{◌≡◌, ℕ, suc, ◌+◌, ◌<◌, ◌≤◌, Bool, true, false, List, length, if◌then◌else◌, sym, ap, ◌∙◌, subst, arith}
 use Rattle.std.specs.Prelude.{Contains}
+use Rattle.lemmas.proofs.Contains.{contains_none}
 use Rattle.tags.specs.declared.token.Port.TheVariants.{Left}
 use Rattle.semantics.specs.declared.graph.Region.{Region}
 use Rattle.semantics.specs.declared.graph.Region.TheVariants.{Root, Arm}
 use Rattle.semantics.specs.Meaning.{Context, Main, Called, Turned}
 use Rattle.semantics.specs.Faithful.{inputs_in}
 use Rattle.law_net.specs.Roles.{total}
-use Rattle.law_net.proofs.Members.{contains_none}
 use Rattle.law_contexts.specs.Parts.{Part, Entry, Line, Linker, Sender, NextSender, inlet, Firing}
 use Rattle.law_contexts.specs.Blocks.{there_in, is_call, is_loop, source_count, lies_in, region_of, flag}
 use Rattle.law_contexts.specs.Contexts.{block_in, site_in, wiring_in, IsContext, child}

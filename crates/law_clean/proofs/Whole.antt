@@ -1,6 +1,7 @@
 -- At rest each part of a supplied context has fired that lies in an open region, if that holds of all that it invokes: by the places of its parts.
 use Rattle.std.proofs.Common.{◌≡◌, ℕ, zero, suc, ◌+◌, ◌<◌, ◌≤◌, Bool, true, false, ◌⊎◌, inl, inr, [], Option, Some, None, nat_lt, ◌==◌, if◌then◌else◌, refl, sym, ap, ◌∙◌, subst, arith, true≢false, ltb-true, lt-ltb}
 use Rattle.std.proofs.lemmas.Bool.{cases_Bool, cases_eq, and_parts, and_from}
+use Rattle.lemmas.proofs.Contains.{contains_head}
 use Rattle.tags.specs.declared.token.Port.TheVariants.{Left, Right}
 use Rattle.semantics.specs.declared.graph.Region.{Region}
 use Rattle.semantics.specs.declared.graph.Region.TheVariants.{Root, Arm}
@@ -25,7 +26,6 @@ use Rattle.law_clean.proofs.Starts.{feeder, zero_way, left_feeder, answer_later,
 use Rattle.law_clean.proofs.Along.{side_open, maker_fires, chose, sends}
 use Rattle.law_clean.proofs.Credits.{taker_fires, drained_fires}
 use Rattle.law_clean.proofs.Supplied.{size, turn_of, AllFired, Supplied, AllSent, call_supplied, loop_supplied, next_supplied, late}
-use Rattle.law_net.proofs.Members.{contains_head}
 use Rattle.law_net.specs.Roles.{total}
 
 arm_is : (k j : ℕ) (t s : Bool) → Arm k t ≡ Arm j s → k ≡ j

@@ -3,7 +3,10 @@ use Rattle.std.proofs.Common.{◌≡◌, ◌≢◌, ℕ, zero, suc, ◌+◌, ◌
 use Rattle.std.specs.Prelude.{slice_get, All, Contains}
 use Rattle.std.proofs.lemmas.List.{length-map}
 use Rattle.std.proofs.lemmas.List.Elements.{All-contains}
-use Rattle.law_determinacy.proofs.Resolved.{all_get, contains_get, place_get, block_in, node_in, node_back}
+use Rattle.lemmas.proofs.Alls.{all_at}
+use Rattle.lemmas.proofs.Contains.{contains_get}
+use Rattle.lemmas.proofs.SliceGet.{map_get}
+use Rattle.law_determinacy.proofs.Resolved.{place_get, block_in, node_in, node_back}
 use Rattle.semantics.specs.declared.graph.Region.{Region}
 use Rattle.semantics.specs.declared.graph.Region.TheVariants.{Root, Arm}
 use Rattle.semantics.specs.declared.graph.Source.{Source}
@@ -22,13 +25,9 @@ use Rattle.law_expansion.proofs.ShapesNodes.{IsSingle, IsSome, IsArm, IsValid, K
 use Rattle.law_expansion.proofs.ShapesBody.{AllFit, HasUses}
 
 -- LISTS
-map_get : {X Y : Type 0} (f : X → Y) (xs : List X) (i : ℕ) (x : X) → slice_get xs i ≡ Some x → slice_get (map f xs) i ≡ Some (f x)
-map_get f [] i x e = cc
-map_get f (y ∷ xs) zero x e = cc
-map_get f (y ∷ xs) (suc i) x e = map_get f xs i x e
 
 all_head : {X : Type 0} (P : X → Type 0) (x : X) (xs : List X) → All P (x ∷ xs) → P x
-all_head P x xs h = all_get P (x ∷ xs) 0 x h refl
+all_head P x xs h = all_at P (x ∷ xs) 0 x h refl
 
 all_tail : {X : Type 0} (P : X → Type 0) (x : X) (xs : List X) → All P (x ∷ xs) → All P xs
 all_tail P x xs h = λ k d l. h (suc k) d (omega (arith, l))

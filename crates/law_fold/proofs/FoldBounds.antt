@@ -21,7 +21,6 @@ use Rattle.semantics.specs.Handed.{handed, EachOnce, UsesEachOnce}
 use Rattle.semantics.specs.Plan.{Plan}
 use Rattle.semantics.specs.Wired.{IsWired}
 use Rattle.semantics.specs.Orderly.{Orderly, IsStart, met}
-use Rattle.law_reuse.proofs.Members.{contains_head, contains_tail, contains_cases, contains_none}
 use Rattle.law_reuse.proofs.Stands.{some_same, Found, found}
 use Rattle.law_once.specs.Alike.{HasLanding, LandsRightly}
 use Rattle.law_once.specs.Spreads.{ip_to, ip_slot, ip_store}
@@ -39,6 +38,7 @@ use Rattle.law_fold.proofs.FoldRuns.{simulated}
 use Rattle.law_fold.proofs.FoldSeen.{met_known}
 use Rattle.semantics.specs.Plan.{landing}
 use Rattle.std.specs.Prelude.{◌-◌}
+use Rattle.lemmas.proofs.Contains.{contains_cases, contains_head, contains_none, contains_tail}
 use Rattle.semantics.specs.declared.program.Op.TheVariants.{Link}
 use Rattle.semantics.specs.Holders.{Holder, holder_at}
 use Rattle.semantics.specs.Credits.{IsPart, IsLink, IsLoop, granted, released}

@@ -3,6 +3,7 @@ use Rattle.std.proofs.Common.{◌≡◌, refl, sym, ap, ◌∙◌, subst, ℕ, �
 use Rattle.std.specs.Prelude.{if◌then◌else◌}
 use Rattle.std.proofs.lemmas.List.Elements.{Contains-append_cases}
 use Rattle.std.proofs.lemmas.List.Sorted.{Contains-permutation, IsPermutation-sym}
+use Rattle.lemmas.proofs.Contains.{contains_cases, contains_head, contains_mapped, contains_none}
 use Rattle.tags.specs.declared.value.Value.{Value}
 use Rattle.tags.specs.declared.token.Port.{Port}
 use Rattle.tags.specs.declared.token.Cont.{Cont}
@@ -18,7 +19,6 @@ use Rattle.semantics.specs.Rule.{Seat, back_to, Outcome, Becomes, Excluded, outc
 use Rattle.semantics.specs.Machine.{Machine, CellState, Vacant, Full, Deferred, Store as MStore, answer, answers, put_at, with_slot, with_slot_in, slot_in, slot_used, outputs_of, Fires, Fetches, Stores, Requests, Releases, Hosts, Happens}
 use Rattle.semantics.specs.Plan.{Plan}
 use Rattle.semantics.specs.Arcs.{UsesArc}
-use Rattle.law_reuse.proofs.Members.{contains_head, contains_cases, contains_none, contains_mapped}
 use Rattle.law_once.specs.Spreads.{ip_cont, ip_word, ip_to, ip_slot, ip_cell, ip_store}
 use Rattle.law_once.proofs.SpreadNewArcs.{uses_new}
 use Rattle.law_once.proofs.SpreadSteps.{slot_same}

@@ -2,6 +2,7 @@
 use Rattle.std.proofs.Common.{◌≡◌, refl, sym, ap, ◌∙◌, subst, ℕ, ◌+◌, ◌<◌, ◌≤◌, ◌⊎◌, inl, inr, Bool, true, false, true≢false, ℤ, List, [], ◌∷◌, ◌++◌, Some, IsPermutation, Contains, nat_lt, lt-ltb, le-ltb, ltb-true, ltb-false, arith}
 use Rattle.std.proofs.lemmas.List.Elements.{Contains-append_left, Contains-append_right}
 use Rattle.std.proofs.lemmas.Bool.{cases_Bool}
+use Rattle.lemmas.proofs.Contains.{contains_cases, contains_head, contains_map, contains_mapped, contains_none, contains_tail}
 use Rattle.tags.specs.declared.value.Value.TheVariants.{Int}
 use Rattle.tags.specs.declared.token.Port.{Port}
 use Rattle.tags.specs.declared.token.Port.TheVariants.{Left, Right}
@@ -15,7 +16,6 @@ use Rattle.semantics.specs.declared.program.Op.TheVariants.{Apply2, Apply2Right,
 use Rattle.semantics.specs.Program.{Instr, Program, instr_at}
 use Rattle.semantics.specs.Rule.{token, at_dest}
 use Rattle.semantics.specs.Orderly.{is_at}
-use Rattle.law_reuse.proofs.Members.{contains_head, contains_tail, contains_cases, contains_none, contains_map, contains_mapped}
 use Rattle.law_reuse.proofs.Stands.{some_same}
 use Rattle.law_once.specs.Spreads.{ip_to, Spot}
 use Rattle.law_once.proofs.Weights.{tot, tot_append, tot_perm}

@@ -3,7 +3,7 @@ use Rattle.std.proofs.Common.{◌≡◌, refl, sym, ap, ◌∙◌, subst, ℕ, �
 use Rattle.std.specs.Prelude.{if◌then◌else◌, ◌==◌, filter_map, ⊤}
 use Rattle.std.proofs.lemmas.List.Elements.{Contains-append_cases}
 use Rattle.std.proofs.lemmas.List.Sorted.{Contains-permutation, IsPermutation-sym}
-use Rattle.law_reuse.proofs.Members.{contains_head, contains_tail, contains_cases, contains_none}
+use Rattle.lemmas.proofs.Contains.{contains_cases, contains_head, contains_none, contains_tail}
 use Rattle.tags.specs.declared.value.Value.{Value}
 use Rattle.tags.specs.declared.token.Port.{Port}
 use Rattle.tags.specs.declared.token.Cont.{Cont}

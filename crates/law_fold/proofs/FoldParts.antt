@@ -14,10 +14,10 @@ use Rattle.semantics.specs.Rule.{slot_of}
 use Rattle.semantics.specs.Machine.{Store as MStore, slot_in, slot_used}
 use Rattle.semantics.specs.Cause.{seeks_credit}
 use Rattle.semantics.specs.Plan.{Plan}
-use Rattle.law_reuse.proofs.Members.{contains_cases, contains_none}
 use Rattle.law_fold.specs.Folds.{Stands, StandAll, stand_none, stand_more}
 use Rattle.law_fold.proofs.FoldRules.{map_join}
 use Rattle.std.specs.Prelude.{◌&&◌}
+use Rattle.lemmas.proofs.Contains.{contains_cases, contains_none}
 use Rattle.law_reuse.proofs.Tallies.{Counter, Grants, Releases, count_at}
 use Rattle.semantics.specs.Holders.{holder_at, same_holder}
 use Rattle.semantics.specs.Credits.{granted_by, granted_in, released_by, released_in}

@@ -26,7 +26,6 @@ use Rattle.semantics.specs.Handed.{handed_by, handed, EachOnce}
 use Rattle.semantics.specs.Plan.{Plan}
 use Rattle.semantics.specs.Wired.{IsWired}
 use Rattle.semantics.specs.Orderly.{Orderly, IsOrderlyRun, IsStart, met}
-use Rattle.law_reuse.proofs.Members.{contains_none, contains_head, contains_tail, contains_cases}
 use Rattle.law_reuse.proofs.Snoc.{run_snoc, handed_snoc}
 use Rattle.law_reuse.proofs.Counts.{requests_more, credits_more}
 use Rattle.law_reuse.proofs.History.{taken, Kept, kept_next}
@@ -50,6 +49,7 @@ use Rattle.law_fold.proofs.FoldParts.{unit_of, no_seek, counts_none, count_none,
 use Rattle.semantics.specs.Arcs.{UsesArc, SomeEvent}
 use Rattle.law_reuse.proofs.Snoc.{some_snoc}
 use Rattle.std.specs.Prelude.{⊤}
+use Rattle.lemmas.proofs.Contains.{contains_cases, contains_head, contains_none, contains_tail}
 use Rattle.tags.specs.declared.token.Port.{Port}
 
 -- ---- THE OLD RUN

@@ -1,6 +1,7 @@
 -- A state of the new run and one of the old: the relation, and what it says of the words that come.
 use Rattle.std.proofs.Common.{◌≡◌, refl, sym, ap, ◌∙◌, subst, ℕ, ◌+◌, ◌*◌, ◌⊎◌, inl, inr, Bool, true, false, true≢false, ℤ, List, [], ◌∷◌, ◌++◌, Option, Some, None, IsPermutation, Contains, arith}
 use Rattle.std.proofs.lemmas.List.Elements.{Contains-append_left, Contains-append_right, Contains-append_cases}
+use Rattle.lemmas.proofs.Contains.{contains_cases, contains_none}
 use Rattle.tags.specs.declared.token.Port.{Port}
 use Rattle.tags.specs.declared.token.Port.TheVariants.{Left, Right}
 use Rattle.tags.specs.declared.token.Cont.{Cont}
@@ -20,7 +21,6 @@ use Rattle.semantics.specs.Handed.{EachOnce, UsesEachOnce}
 use Rattle.semantics.specs.Plan.{Plan, is_credit}
 use Rattle.semantics.specs.Wired.{IsWired}
 use Rattle.semantics.specs.Orderly.{Orderly, IsOrderlyRun, IsStart, met}
-use Rattle.law_reuse.proofs.Members.{contains_cases, contains_none}
 use Rattle.law_reuse.proofs.Turns.{dyadic_not_credit}
 use Rattle.law_reuse.proofs.Stands.{Found, found}
 use Rattle.law_reuse.proofs.Stands as Places

@@ -2,6 +2,7 @@
 use Rattle.std.proofs.Common.{◌≡◌, sym, ap, ◌∙◌, subst, ℕ, ◌+◌, ◌⊎◌, inl, inr, ℤ, List, [], ◌∷◌, ◌++◌, Some, IsPermutation, Contains}
 use Rattle.std.proofs.lemmas.List.Elements.{Contains-append_left, Contains-append_right, Contains-append_cases}
 use Rattle.std.proofs.lemmas.List.Sorted.{Contains-permutation, IsPermutation-sym}
+use Rattle.lemmas.proofs.Contains.{contains_map, contains_tail}
 use Rattle.tags.specs.declared.value.Value.TheVariants.{Int}
 use Rattle.tags.specs.declared.token.Port.{Port}
 use Rattle.tags.specs.declared.token.Port.TheVariants.{Left}
@@ -14,7 +15,6 @@ use Rattle.semantics.specs.Rule.{token, at_dest}
 use Rattle.semantics.specs.Machine.{Machine, Store as MStore}
 use Rattle.semantics.specs.Plan.{Plan}
 use Rattle.semantics.specs.Arcs.{UsesArc}
-use Rattle.law_reuse.proofs.Members.{contains_tail, contains_map}
 use Rattle.law_reuse.proofs.Stands.{some_same}
 use Rattle.law_once.proofs.SpreadSteps.{Step, step, HasStep, step_before, step_last}
 use Rattle.law_once.specs.Spreads.{ip_to, ip_token}

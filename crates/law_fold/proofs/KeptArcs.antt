@@ -3,6 +3,8 @@ use Rattle.std.proofs.Common.{◌≡◌, refl, sym, ap, ◌∙◌, subst, ℕ, �
 use Rattle.std.specs.Prelude.{slice_get, flat_map}
 use Rattle.std.proofs.lemmas.Option.{slice_get_within}
 use Rattle.std.proofs.lemmas.List.Elements.{Contains-append_left, Contains-append_right, Contains-append_cases}
+use Rattle.lemmas.proofs.Contains.{contains_cases, contains_get, contains_head, contains_map, contains_mapped, contains_none, contains_tail}
+use Rattle.lemmas.proofs.SliceGet.{get_some}
 use Rattle.tags.specs.declared.token.Port.TheVariants.{Left}
 use Rattle.semantics.specs.declared.program.Dest.{Dest}
 use Rattle.semantics.specs.declared.program.Op.{Op}
@@ -13,16 +15,14 @@ use Rattle.semantics.specs.Sharing.{Arc, arc, inlet, arcs_to, row, arcs_from}
 use Rattle.semantics.specs.Orderly.{is_entry}
 use Rattle.code.specs.Sound.{IsSound}
 use Rattle.law_reuse.proofs.Stands.{first_in, first_next}
-use Rattle.law_reuse.proofs.Members.{contains_head, contains_tail, contains_cases, contains_none, contains_map, contains_mapped}
 use Rattle.folding.specs.Folds.{new_port}
 use Rattle.folding.specs.Places.{layout_of, folds_at, gone_at, new_place}
 use Rattle.folding.specs.Moved.{is_shut, new_dest, moved_dests}
 use Rattle.folding.specs.Laws.{dests_of}
 use Rattle.folding.proofs.Standing.{keeps_order, stands_at}
-use Rattle.folding.proofs.Taken.{get_there, keeps_entries}
+use Rattle.folding.proofs.Taken.{keeps_entries}
 use Rattle.folding.proofs.Landing.{keeps_landings}
 use Rattle.folding.proofs.Sole.{keeps_sole}
-use Rattle.folding.proofs.SoundLists.{contains_get}
 use Rattle.folding.proofs.SoundRows.{link_before}
 use Rattle.folding.proofs.Cases.{KeptAt}
 use Rattle.folding.proofs.Plain.{PlainAt}
@@ -92,7 +92,7 @@ module _ (p : Plan) (s : IsSound p) (tidy : IsTidy p) (b : ℕ) (c : CodeBlock) 
         let M : PlainAt p c (n + d.ahead) = subst (PlainAt p c) to K in
         let low = inside p s b c at_b n g.0 i side d at g.1 in
         let more = ahead p s b c at_b n g.0 i side d at g.1 in
-        let k = get_there c.instrs (n + d.ahead) low in
+        let k = get_some c.instrs (n + d.ahead) low in
         let kept : KeptAt p c (n + d.ahead) = kept_of p c (n + d.ahead) M.folded in
         let here = stays p c (n + d.ahead) k.0 k.1 M.unused in
         let shut : is_shut (layout_of p c) (n + d.ahead) d.port ≡ false = (λ v. here v || kept.shut d.port v) in
@@ -216,7 +216,7 @@ entry_in (x ∷ bs) (suc b) n c e l w =
 pub entries_kept : (p : Plan) (s : IsSound p) (a : ℕ) → is_entry p.program.blocks a ≡ true → is_entry (kept_slots p).program.blocks (word_ip p a) ≡ true
 entries_kept p s a e =
     let E = entry_of p.program.blocks a e in
-    let k = get_there E.c.instrs E.n E.within in
+    let k = get_some E.c.instrs E.n E.within in
     let r = keeps_entries p E.c E.n E.low E.within in
     let at = (entry_at p s E.b E.c E.block E.n E.low).0 in
     let w = new_within p s E.b E.c E.block E.n k.0 k.1 r.0 in

@@ -4,6 +4,8 @@ use Rattle.std.specs.Prelude.{slice_get}
 use Rattle.std.specs.Option.{option_map}
 use Rattle.std.proofs.lemmas.Option.{slice_get_within, slice_get-map}
 use Rattle.std.proofs.lemmas.List.Elements.{Contains-append_left, Contains-append_right}
+use Rattle.lemmas.proofs.Contains.{contains_get, get_contains}
+use Rattle.lemmas.proofs.SliceGet.{get_some}
 use Rattle.tags.specs.declared.token.Port.{Port}
 use Rattle.operators.specs.declared.Binary.{Binary}
 use Rattle.semantics.specs.declared.program.Dest.{Dest}
@@ -21,11 +23,10 @@ use Rattle.folding.specs.Places.{layout_of, folds_at, gone_at, new_place}
 use Rattle.folding.specs.Moved.{new_dest, moved_dests}
 use Rattle.folding.specs.Laws.{dests_of}
 use Rattle.folding.proofs.Standing.{keeps_order, stands_at}
-use Rattle.folding.proofs.Taken.{get_there}
 use Rattle.folding.proofs.Landing.{keeps_landings}
 use Rattle.folding.proofs.Marked.{keeps_marks}
 use Rattle.folding.proofs.Sole.{keeps_sole}
-use Rattle.folding.proofs.SoundLists.{get_contains, contains_get, moved_back}
+use Rattle.folding.proofs.SoundLists.{moved_back}
 use Rattle.folding.proofs.SoundRows.{shut_stays}
 use Rattle.folding.proofs.Pairs.{closed_uses}
 use Rattle.folding.proofs.Cases.{KeptAt, FoldCase, is_kept, is_right, is_left, fold_cases}
@@ -187,7 +188,7 @@ module _ (p : Plan) (s : IsSound p) where
 
   -- where a destination leads
   dest_target : (c : CodeBlock) (n : ℕ) (b : ℕ) (at_b : slice_get P.blocks b ≡ Some c) (i : Instr) (at : slice_get c.instrs n ≡ Some i) (d : Dest) (D : DestAt p s c n i d) → (k : Instr) × (slice_get c.instrs (n + D.old.ahead) ≡ Some k)
-  dest_target c n b at_b i at d D = get_there c.instrs (n + D.old.ahead) (inside p s b c at_b n D.k i D.side D.old at D.named)
+  dest_target c n b at_b i at d D = get_some c.instrs (n + D.old.ahead) (inside p s b c at_b n D.k i D.side D.old at D.named)
 
   from_dest : (ip : ℕ) (j : Instr) (d : Dest) → instr_at Q ip ≡ Some j → Contains (j.firsts ++ j.seconds) d → (b : ℕ) → Inside Q b (ip + d.ahead) → Inside Q b ip
   from_dest ip j d at k b I =
@@ -245,7 +246,7 @@ module _ (p : Plan) (s : IsSound p) where
       let more = ahead p s N.b N.c N.block N.n 0 N.i false N.d N.instr first in
       let up = keeps_order p N.c N.n to (omega (arith, more)) low stay in
       let row = keeps_landings p N.c N.n 0 o N.callee N.i N.d N.instr N.links first below within in
-      let k = get_there N.c.instrs (to + o) within in
+      let k = get_some N.c.instrs (to + o) within in
       let last = new_within p s N.b N.c N.block (to + o) k.0 k.1 row.0 in
       let moves = row.1 in
       let begins = N.begins in
@@ -380,13 +381,13 @@ module _ (p : Plan) (s : IsSound p) where
                 row : (N : NewAt p s (first_of Q b + n) i) (e : Dest) (k : ℕ) → landing p callee ≡ k → N.i.op ≡ Link callee → slice_get (dests_of N.i false) 0 ≡ Some e → N.n + e.ahead + landing p callee ≤ length N.c.instrs → N.n + e.ahead < length N.c.instrs → PlainAt p N.c (N.n + e.ahead)
                     → new_place (layout_of p N.c) (N.n + e.ahead) + landing p callee ≤ length (kept_block p N.c).instrs
                 row N e zero none link first room low K =
-                    let t = get_there N.c.instrs (N.n + e.ahead) low in
+                    let t = get_some N.c.instrs (N.n + e.ahead) low in
                     let w = new_within p s N.b N.c N.block (N.n + e.ahead) t.0 t.1 (stays p N.c (N.n + e.ahead) t.0 t.1 K.unused) in
                     omega (arith, none, w)
                 row N e (suc k) some link first room low K =
                     let inside_last : N.n + e.ahead + k < length N.c.instrs = omega (arith, some, room) in
                     let r = keeps_landings p N.c N.n 0 k callee N.i e N.instr link first (omega (arith, some)) inside_last in
-                    let t = get_there N.c.instrs (N.n + e.ahead + k) inside_last in
+                    let t = get_some N.c.instrs (N.n + e.ahead + k) inside_last in
                     let w = new_within p s N.b N.c N.block (N.n + e.ahead + k) t.0 t.1 r.0 in
                     let moves = r.1 in
                     omega (arith, w, moves, some)

@@ -21,16 +21,16 @@ use Rattle.semantics.specs.Plan.{Plan, HasShape}
 use Rattle.semantics.specs.Orderly.{eq_port, inputs_in}
 use Rattle.code.specs.Sound.{NamesRightly, IsSound}
 use Rattle.law_reuse.proofs.Stands.{some_same, Found, found}
-use Rattle.law_reuse.proofs.Members.{contains_head, contains_none, contains_map}
 use Rattle.std.proofs.lemmas.List.Sorted.{Contains-permutation}
+use Rattle.lemmas.proofs.Contains.{contains_head, contains_map, contains_none, get_contains}
+use Rattle.lemmas.proofs.SliceGet.{get_some}
 use Rattle.folding.specs.Places.{layout_of, new_place}
 use Rattle.folding.specs.Moved.{moved_dests, new_dest}
 use Rattle.folding.specs.Laws.{dests_of, other_port}
 use Rattle.folding.proofs.Standing.{keeps_order}
-use Rattle.folding.proofs.Taken.{get_there, keeps_entries}
+use Rattle.folding.proofs.Taken.{keeps_entries}
 use Rattle.folding.proofs.Landing.{keeps_landings}
 use Rattle.folding.proofs.Sole.{keeps_sole}
-use Rattle.folding.proofs.SoundLists.{get_contains}
 use Rattle.folding.proofs.Pairs.{closed_in, closed_uses, uses_in, given, wanted, pairs_match}
 use Rattle.folding.proofs.Cases.{port_at, value_at, FoldedAt, FoldCase, is_kept, is_right, is_left, fold_cases}
 use Rattle.folding.proofs.Plain.{PlainAt, entry_plain, landing_plain, sole_plain}
@@ -229,7 +229,7 @@ module _ (p : Plan) (s : IsSound p) (b : ℕ) (c : CodeBlock) (at_b : slice_get 
         let z : h (F + n + d.ahead) ≡ h (F + (n + d.ahead)) = ap h (let z : F + n + d.ahead ≡ F + (n + d.ahead) = omega arith in z) in
         let up = keeps_order p c n (n + d.ahead) (omega (arith, later)) within (stays p c n i at K.unused) in
         let one = here in
-        let m = get_there c.instrs (n + d.ahead) within in
+        let m = get_some c.instrs (n + d.ahead) within in
         let z2 : F + (n + d.ahead) ≡ F + n + d.ahead = omega arith in
         (d, e, o.1, keeps_sole p c (spares p s b c at_b) n i d at o.1 (answers_no_lit i.op is), omega (arith, there, z, up, one), (kept_of p c (n + d.ahead) M.folded).port d.port, subst (Plain P Q h) z2 (plain_here p s b c at_b (n + d.ahead) m.0 m.1 M))
 
@@ -239,12 +239,12 @@ module _ (p : Plan) (s : IsSound p) (b : ℕ) (c : CodeBlock) (at_b : slice_get 
       let size = (s.program.blocks b c at_b).size in
       let within : n < length c.instrs = omega (arith, e, size) in
       let k = keeps_entries p c n e within in
-      let m = get_there c.instrs n within in
+      let m = get_some c.instrs n within in
       (plain_at_h p s b c at_b n within (entry_plain p c n e within) ∙ ap (λ (m : ℕ). E + m) k.1, plain_here p s b c at_b n m.0 m.1 (entry_plain p c n e within))
 
 enters_at : (p : Plan) (s : IsSound p) (op : Op) → NamesRightly p.program op → Enters p.program (kept_slots p).program (word_ip p) op
 enters_at p s (Link b) h =
-    let c = get_there p.program.blocks b h in
+    let c = get_some p.program.blocks b h in
     let e = entry_at p s b c.0 c.1 0 (omega arith) in
     let z : first_of p.program b + 0 ≡ first_of p.program b = omega arith in
     let y : first_of (kept_slots p).program b + 0 ≡ first_of (kept_slots p).program b = omega arith in
@@ -300,7 +300,7 @@ is_pair p s b c at_b n i j o at op there =
 
 -- ---- ALL
 pub main_block : (p : Plan) (s : IsSound p) → (c : CodeBlock) × (slice_get p.program.blocks p.program.main ≡ Some c)
-main_block p s = get_there p.program.blocks p.program.main s.program.main
+main_block p s = get_some p.program.blocks p.program.main s.program.main
 
 pub new_main : (p : Plan) (c : CodeBlock) → slice_get p.program.blocks p.program.main ≡ Some c → slice_get (kept_slots p).program.blocks p.program.main ≡ Some (kept_block p c)
 new_main p c e = slice_get-map (kept_block p) p.program.blocks p.program.main ∙ ap (option_map (kept_block p)) e
@@ -354,7 +354,7 @@ kept_slots_folds p s = record {
         let below = L.within in
         let first : slice_get L.i.firsts 0 ≡ Some L.d = ap (λ (l : List Dest). slice_get l 0) L.lands in
         let K = landing_plain p L.c L.n o L.callee L.i L.d L.instr L.links first below within in
-        let x = get_there L.c.instrs (to + o) within in
+        let x = get_some L.c.instrs (to + o) within in
         let one = plain_at_h p s L.b L.c L.block (to + o) within (landing_plain p L.c L.n o L.callee L.i L.d L.instr L.links first below within) in
         let z : to + 0 ≡ to = omega arith in
         let two = plain_at_h p s L.b L.c L.block to (omega (arith, within))

@@ -4,6 +4,7 @@ use Rattle.std.proofs.lemmas.List.Elements.{Contains-append_left, Contains-appen
 use Rattle.std.specs.Prelude.{⊤}
 use Rattle.std.proofs.lemmas.List.Sorted.{Contains-permutation, IsPermutation-trans, IsPermutation-cons}
 use Rattle.lemmas.proofs.Permutations.{one_out}
+use Rattle.lemmas.proofs.Contains.{contains_cases}
 use Rattle.tags.specs.declared.token.Port.TheVariants.{Left}
 use Rattle.tags.specs.declared.token.Word.{Word}
 use Rattle.tags.specs.declared.token.To.{To}
@@ -12,7 +13,6 @@ use Rattle.semantics.specs.declared.program.Op.TheVariants.{Lit}
 use Rattle.semantics.specs.Program.{Instr, Program, instr_at}
 use Rattle.semantics.specs.Rule.{token}
 use Rattle.law_net.proofs.Orders.{shuffled, Part, ◌⊕◌}
-use Rattle.law_reuse.proofs.Members.{contains_cases}
 use Rattle.law_fold.specs.Folds.{fires_lit, IsValue, Sends, Settles, settled, fired, Clumped, Pairs, Ready}
 use Rattle.law_fold.proofs.FoldRules.{settles_map, sends_grow, settles_then, settles_beside, settles_after}
 use Rattle.law_fold.proofs.Leading.{stand_join, settles_join}

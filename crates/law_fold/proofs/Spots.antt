@@ -4,6 +4,7 @@ use Rattle.std.specs.Prelude.{slice_get, ◌&&◌, not}
 use Rattle.std.proofs.lemmas.Bool.{cases_lt}
 use Rattle.std.proofs.lemmas.List.Elements.{Contains-append_cases}
 use Rattle.std.proofs.lemmas.Option.{slice_get_within}
+use Rattle.lemmas.proofs.Contains.{contains_get}
 use Rattle.semantics.specs.Program.{Instr, CodeBlock, Program, first_of, instr_at}
 use Rattle.semantics.specs.Plan.{Plan}
 use Rattle.semantics.specs.Orderly.{same_block}
@@ -23,7 +24,7 @@ use Rattle.folding.specs.Moved.{is_shut, new_dest, moved_dests}
 use Rattle.folding.specs.Laws.{dests_of}
 use Rattle.folding.proofs.Standing.{keeps_order, stands_at, comes_from}
 use Rattle.folding.proofs.Taken.{leaves_out}
-use Rattle.folding.proofs.SoundLists.{contains_get, moved_back}
+use Rattle.folding.proofs.SoundLists.{moved_back}
 use Rattle.folding.proofs.Pairs.{closed_uses}
 use Rattle.folding.proofs.Cases.{KeptAt, FoldCase, is_kept, is_right, is_left, fold_cases}
 use Rattle.folding.proofs.Plain.{PlainAt}

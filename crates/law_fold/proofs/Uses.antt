@@ -4,16 +4,17 @@ use Rattle.std.specs.Prelude.{slice_get, ◌&&◌, not}
 use Rattle.std.proofs.lemmas.List.Concat.{flat_map-append}
 use Rattle.std.proofs.lemmas.List.Elements.{Contains-append_left, Contains-append_right, Contains-append_cases}
 use Rattle.std.proofs.lemmas.List.Sorted.{Contains-permutation}
+use Rattle.lemmas.proofs.Contains.{contains_cases, contains_head, contains_none}
+use Rattle.lemmas.proofs.SliceGet.{get_some}
 use Rattle.semantics.specs.declared.program.Dest.{Dest}
 use Rattle.semantics.specs.declared.program.Op.TheVariants.{Lit}
 use Rattle.semantics.specs.Program.{Instr, CodeBlock}
 use Rattle.semantics.specs.Plan.{Plan}
-use Rattle.law_reuse.proofs.Members.{contains_head, contains_cases, contains_none}
 use Rattle.folding.specs.Folds.{is_folded, is_closed}
 use Rattle.folding.specs.Places.{layout_of, folds_at, gone_at}
 use Rattle.folding.specs.Moved.{is_shut, new_dest, moved_dest, moved_dests}
 use Rattle.folding.specs.Laws.{dests_of, SparesLiterals}
-use Rattle.folding.proofs.Taken.{get_there, leaves_out}
+use Rattle.folding.proofs.Taken.{leaves_out}
 use Rattle.folding.proofs.Pairs.{closed_one, closed_in, closed_uses, given, wanted_one, wanted, uses_in, pairs_match}
 use Rattle.folding.proofs.Cases.{FoldCase, is_kept, is_right, is_left, fold_cases}
 use Rattle.folding.proofs.Plain.{kept_open}
@@ -102,7 +103,7 @@ module _ (p : Plan) (c : CodeBlock) where
         go : (b : Bool) → gone_at (layout_of p c) (m + d.ahead) ≡ b → (x : Dest) × Contains (moved_dests (layout_of p c) m (dests_of j s)) x
         go false e = (new_dest (layout_of p c) m (m + d.ahead) d.port, moved_has m (dests_of j s) k d named (or_false (gone_at (layout_of p c) (m + d.ahead)) (is_closed (folds_at (layout_of p c) (m + d.ahead)) d.port) e o))
         go true e =
-            let o = get_there c.instrs (m + d.ahead) (inside m k j s d at named) in
+            let o = get_some c.instrs (m + d.ahead) (inside m k j s d at named) in
             let x = some_of (closed_uses p c (m + d.ahead)) (gone_some p c (m + d.ahead) o.0 o.1 e) in
             let W : Wants m (dests_of j s) x.0 = wanted_of m (dests_of j s) x.0 (Contains-permutation _ _ x.0 (pairs_match p c spares inside m j s at) (given_has m (dests_of j s) k d x.0 named x.1)) in (
               new_dest (layout_of p c) m (m + W.d.ahead) W.d.port,

@@ -3,6 +3,7 @@ use Rattle.std.proofs.Common.{◌≡◌, refl, sym, ◌∙◌, ap, subst, ℕ, z
 use Rattle.std.specs.Prelude.{slice_get, count_by, ◌==◌, if◌then◌else◌}
 use Rattle.std.proofs.lemmas.List.Sums.{sum_by-append, sum_by-cons}
 use Rattle.std.proofs.lemmas.List.Sorted.{IsPermutation-trans}
+use Rattle.lemmas.proofs.SliceGet.{get_some}
 use Rattle.tags.specs.declared.token.Token.{Token}
 use Rattle.semantics.specs.Machine.{Machine, Events, at_start}
 use Rattle.element.specs.Parts.{Part, IsPart}
@@ -16,10 +17,6 @@ use Rattle.law_free_runs.specs.Laws.{Came, BeganFreely, ShowsFreely, StopsFreely
 use Rattle.law_free_runs.proofs.Running.{run_of_history}
 
 -- LISTS
-pub found : {X : Type 0} (xs : List X) (i : ℕ) → i < length xs → (x : X) × (slice_get xs i ≡ Some x)
-found [] i low = absurd (let no : ⊥ = omega (arith, low) in no)
-found (y ∷ ys) zero low = (y, refl)
-found (y ∷ ys) (suc i) low = let within : i < length ys = omega (arith, low) in found ys i within
 
 points : {X : Type 0} (P : ℕ → X → Type 0) (k : ℕ) (xs : List X) → ((i : ℕ) (x : X) → slice_get xs i ≡ Some x → P (k + i) x) → AllFrom P k xs
 points P k [] all = tt
@@ -84,7 +81,7 @@ began_freely g good inputs (first ∷ others) log last tokens count placed near 
     let start : Machine = at_start g.program inputs in
     let parts : ℕ → Part = λ e. (held_or first (slice_get (first ∷ others) e)).part in
     let begun : (e : ℕ) → e < g.elements → Begins g start log (parts e) e
-    = λ e low. let x = found (first ∷ others) e (subst (λ (n : ℕ). e < n) (sym count) low) in subst (λ (o : Option Held). Begins g start log (held_or first o).part e) (sym x.1) (begins e x.0 x.1).0 in
+    = λ e low. let x = get_some (first ∷ others) e (subst (λ (n : ℕ). e < n) (sym count) low) in subst (λ (o : Option Held). Begins g start log (held_or first o).part e) (sym x.1) (begins e x.0 x.1).0 in
     let came : Came g start log last parts = run_of_history g good log start last parts near bounded below leaves begun in
     let is : AllFrom (λ (i : ℕ) (h : Held). IsPart h.part came.machine.store) 0 (first ∷ others)
     = at_all (λ (i : ℕ) (h : Held). IsPart h.part came.machine.store) (first ∷ others)

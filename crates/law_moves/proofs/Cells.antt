@@ -2,6 +2,7 @@
 use Rattle.std.proofs.Common.{◌≡◌, ℕ, ◌+◌, Bool, true, false, List, [], ◌∷◌, ◌++◌, take, refl, sym, ap, ◌∙◌, subst, inl, inr, ◌⊎◌, arith, true≢false, Option, Some, None, if◌then◌else◌, sum}
 use Rattle.std.specs.Prelude.{Contains, slice_index_or}
 use Rattle.lemmas.proofs.Permutations.{permutation_same}
+use Rattle.lemmas.proofs.Contains.{contains_head, contains_none}
 use Rattle.tags.specs.declared.value.Value.{Value}
 use Rattle.tags.specs.declared.value.Origin.{Origin}
 use Rattle.tags.specs.declared.token.Cont.{Cont}
@@ -22,7 +23,6 @@ use Rattle.semantics.specs.Rule.{Seat, token, to_each, answer_to, asks_for, puts
 use Rattle.semantics.specs.Machine.{Store, Fires, with_slot}
 use Rattle.law_net.proofs.NetSlots.{InSlots}
 use Rattle.law_net.proofs.Orders.{at_last}
-use Rattle.law_net.proofs.Members.{contains_head, contains_none}
 use Rattle.law_reuse.proofs.Stands.{some_same}
 use Rattle.law_once.specs.Alike.{plain_dests}
 use Rattle.law_contexts.specs.Parts.{Line, Note, Datum, FrameOf, BackTo, ToHost, signal, Item, Firing}

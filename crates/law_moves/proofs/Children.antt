@@ -1,6 +1,7 @@
 -- What a node invokes: its code, where its values come, and the landing to which it returns.
 use Rattle.std.proofs.Common.{◌≡◌, ℕ, zero, suc, ◌+◌, ◌<◌, true, false, sym, ap, ◌∙◌, subst, arith, true≢false, le-ltb, Option, Some, None}
 use Rattle.std.specs.Prelude.{Contains}
+use Rattle.lemmas.proofs.Contains.{contains_head, contains_tail}
 use Rattle.tags.specs.declared.token.Port.TheVariants.{Left}
 use Rattle.semantics.specs.declared.graph.Kind.{Kind}
 use Rattle.semantics.specs.Graph.{Node, Flow}
@@ -8,7 +9,6 @@ use Rattle.semantics.specs.Meaning.{Context, Called, Turned, callee}
 use Rattle.semantics.specs.Program.{first_of}
 use Rattle.semantics.specs.Plan.{Plan, landing, landing_in}
 use Rattle.semantics.specs.Sharing.{arc, row, inlet as port_at}
-use Rattle.law_net.proofs.Members.{contains_head, contains_tail}
 use Rattle.law_contexts.specs.Parts.{Entry, Line, Landing}
 use Rattle.law_contexts.specs.Blocks.{call_kind, code_called, callee_code, invokes, source_count}
 use Rattle.law_contexts.specs.Contexts.{Wires, or_zero, block_in, code_in, child, IsContext}

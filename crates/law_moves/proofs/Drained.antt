@@ -3,6 +3,7 @@ use Rattle.std.proofs.Common.{◌≡◌, ℕ, ◌+◌, ◌<◌, ◌≤◌, Bool,
 use Rattle.std.specs.Prelude.{IsPermutation, Contains}
 use Rattle.std.proofs.lemmas.List.Elements.{Contains-append_left, Contains-append_right, Contains-append_cases}
 use Rattle.std.proofs.lemmas.List.Sorted.{IsPermutation-trans, IsPermutation-append}
+use Rattle.lemmas.proofs.Contains.{contains_cases}
 use Rattle.tags.specs.declared.value.Value.TheVariants.{Int}
 use Rattle.tags.specs.declared.token.Port.TheVariants.{Left}
 use Rattle.tags.specs.declared.slot.SlotState.TheVariants.{Empty}
@@ -12,7 +13,6 @@ use Rattle.semantics.specs.Holders.{Holder, same_holder}
 use Rattle.semantics.specs.Credits.{granted_at, released_at}
 use Rattle.law_net.specs.Roles.{one}
 use Rattle.law_net.proofs.Orders.{total-append, shuffled, Part as Piece, ◌⊕◌, at_last}
-use Rattle.law_net.proofs.Members.{contains_cases}
 use Rattle.law_contexts.specs.Parts.{Opener, Giver, Taker, Drainer, Drained, DrainReturn, LoopDone, inlet, signal, Item, item, Firing, Spot, spot_of, same_spot}
 use Rattle.law_contexts.specs.Blocks.{is_loop}
 use Rattle.law_contexts.specs.Contexts.{block_in}

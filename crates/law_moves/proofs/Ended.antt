@@ -3,6 +3,7 @@ use Rattle.std.proofs.Common.{◌≡◌, ℕ, ◌+◌, ◌<◌, Bool, true, fals
 use Rattle.std.specs.Prelude.{Contains, count_by}
 use Rattle.std.proofs.lemmas.Bool.{and_parts, and_from, or_left, or_right, cases_eq, cases_Bool, false_from_ne_true}
 use Rattle.lemmas.proofs.Permutations.{permutation_same}
+use Rattle.lemmas.proofs.Contains.{contains_cases, contains_none}
 use Rattle.tags.specs.declared.token.Port.TheVariants.{Left}
 use Rattle.tags.specs.declared.token.Word.{Word}
 use Rattle.tags.specs.declared.token.To.{To}
@@ -16,7 +17,6 @@ use Rattle.semantics.specs.Machine.{Fires}
 use Rattle.semantics.specs.Orderly.{is_at}
 use Rattle.semantics.specs.Credits.{released_at, released_by}
 use Rattle.law_net.specs.Roles.{one}
-use Rattle.law_net.proofs.Members.{contains_cases, contains_none}
 use Rattle.law_contexts.specs.Parts.{Part, End, Giver, CallDone, Landing, Freed, inlet, Note, BackTo, signal, Item, item, each, same_context}
 use Rattle.law_contexts.specs.Blocks.{side, is_call, is_loop, op_of, there_in, result_count}
 use Rattle.law_contexts.specs.Contexts.{block_in, site_in, wiring_in, or_zero, IsContext, return_of}

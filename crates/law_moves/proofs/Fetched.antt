@@ -5,6 +5,7 @@ use Rattle.std.proofs.lemmas.Bool.{cases_eq}
 use Rattle.std.proofs.lemmas.List.Elements.{Contains-append_cases}
 use Rattle.std.proofs.lemmas.List.Sorted.{IsPermutation-refl, IsPermutation-trans, IsPermutation-sym, IsPermutation-append_right, IsPermutation-append_comm, Contains-permutation}
 use Rattle.lemmas.proofs.Permutations.{permutation_same}
+use Rattle.lemmas.proofs.Contains.{contains_cases, contains_none, contains_tail}
 use Rattle.tags.specs.declared.value.Value.{Value}
 use Rattle.tags.specs.declared.token.Cont.{Cont}
 use Rattle.tags.specs.declared.token.Word.{Word}
@@ -16,7 +17,6 @@ use Rattle.semantics.specs.Machine.{Store, CellState, Vacant, Full, Deferred, Ha
 use Rattle.semantics.specs.Credits.{granted_at, released_at}
 use Rattle.law_net.proofs.NetSlots.{InSlots, put_same, put_other}
 use Rattle.law_net.proofs.Orders.{at_first, at_last}
-use Rattle.law_net.proofs.Members.{contains_tail, contains_cases, contains_none}
 use Rattle.law_contexts.specs.Parts.{Part, Held, Done, Freed, Item, Firing}
 use Rattle.law_contexts.specs.Blocks.{is_store, waits_in}
 use Rattle.law_contexts.specs.Contexts.{block_in}

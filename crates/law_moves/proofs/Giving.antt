@@ -1,6 +1,7 @@
 -- A turn gives its credit back: it is kept, it is one of all that are asked for, or it is the last of them.
 use Rattle.std.proofs.Common.{◌≡◌, ℕ, zero, suc, ◌+◌, ◌-◌, ◌<◌, ◌≤◌, Bool, true, false, List, [], ◌∷◌, map, refl, sym, ap, ◌∙◌, subst, inl, inr, arith, true≢false, Some, None, ◌==◌, ◌&&◌, nat_lt, lt-ltb, if◌then◌else◌}
 use Rattle.std.specs.Prelude.{IsPermutation, Contains}
+use Rattle.lemmas.proofs.Contains.{contains_head, contains_tail}
 use Rattle.tags.specs.declared.token.Port.TheVariants.{Left}
 use Rattle.tags.specs.declared.token.Cont.{Cont}
 use Rattle.tags.specs.declared.slot.SlotState.{SlotState}
@@ -13,7 +14,6 @@ use Rattle.semantics.specs.Machine.{Fires as Happening, Store, with_slot}
 use Rattle.semantics.specs.Holders.{Holder, same_holder}
 use Rattle.semantics.specs.Credits.{granted_at, granted_by, released_at}
 use Rattle.law_net.proofs.NetSlots.{slot_same}
-use Rattle.law_net.proofs.Members.{contains_head, contains_tail}
 use Rattle.law_once.specs.Alike.{plain_dests}
 use Rattle.law_contexts.specs.Parts.{Opener, Giver, Taker, Drainer, LoopDone, Inlet, inlet, signal, Item, item}
 use Rattle.law_contexts.specs.Blocks.{side, is_loop}

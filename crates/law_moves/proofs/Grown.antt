@@ -6,6 +6,7 @@ use Rattle.std.proofs.lemmas.List.{map-append}
 use Rattle.std.proofs.lemmas.List.Elements.{Contains-append_left, Contains-append_right}
 use Rattle.std.proofs.lemmas.List.Sorted.{IsPermutation-trans, IsPermutation-append}
 use Rattle.lemmas.proofs.Permutations.{permutation_same}
+use Rattle.lemmas.proofs.Contains.{contains_head}
 use Rattle.tags.specs.declared.token.Port.TheVariants.{Left}
 use Rattle.tags.specs.declared.token.Word.{Word}
 use Rattle.tags.specs.declared.token.To.{To}
@@ -18,7 +19,6 @@ use Rattle.semantics.specs.Handed.{handed_by}
 use Rattle.semantics.specs.Orderly.{readers_of}
 use Rattle.law_net.proofs.NetSlots.{InSlots, put_same, put_other}
 use Rattle.law_net.proofs.Orders.{at_last}
-use Rattle.law_net.proofs.Members.{contains_head}
 use Rattle.law_contexts.specs.Parts.{Opener, Taker, Drained, Done, Freed, Held, inlet, FrameOf, Item, item, Firing, same_context}
 use Rattle.law_contexts.specs.Blocks.{is_loop, bound_at}
 use Rattle.law_contexts.specs.Contexts.{block_in, wiring_in, or_zero, IsContext}

@@ -3,6 +3,7 @@ use Rattle.std.proofs.Common.{◌≡◌, ℕ, true, false, List, [], ◌∷◌, 
 use Rattle.std.specs.Prelude.{IsPermutation, Contains, flat_map}
 use Rattle.std.proofs.lemmas.List.Sorted.{IsPermutation-sym, Contains-permutation}
 use Rattle.lemmas.proofs.Permutations.{permutation_same}
+use Rattle.lemmas.proofs.Contains.{contains_cases, contains_tail}
 use Rattle.tags.specs.declared.token.Port.{Port}
 use Rattle.tags.specs.declared.token.Port.TheVariants.{Left, Right}
 use Rattle.tags.specs.declared.token.Word.{Word}
@@ -14,7 +15,6 @@ use Rattle.semantics.specs.Cause.{SameSeen}
 use Rattle.semantics.specs.Orderly.{readers_of}
 use Rattle.law_net.proofs.NetSlots.{InSlots, slots_add}
 use Rattle.law_net.proofs.Orders.{at_last}
-use Rattle.law_net.proofs.Members.{contains_tail, contains_cases}
 use Rattle.law_contexts.specs.Parts.{Held, Done, Freed, Item, Firing}
 use Rattle.law_contexts.specs.Blocks.{is_store}
 use Rattle.law_contexts.specs.Contexts.{block_in}

@@ -4,6 +4,7 @@ use Rattle.std.specs.Prelude.{IsPermutation, Contains, slice_get}
 use Rattle.std.proofs.lemmas.Bool.{cases_eq}
 use Rattle.std.proofs.lemmas.List.Elements.{Contains-append_right}
 use Rattle.lemmas.proofs.Permutations.{permutation_same}
+use Rattle.lemmas.proofs.Contains.{contains_cases, contains_head, contains_none, contains_tail}
 use Rattle.tags.specs.declared.value.Value.{Value}
 use Rattle.tags.specs.declared.token.Port.TheVariants.{Left}
 use Rattle.tags.specs.declared.token.Cont.{Cont}
@@ -18,7 +19,6 @@ use Rattle.semantics.specs.Handed.{handed_by}
 use Rattle.semantics.specs.Credits.{granted_at, released_at}
 use Rattle.semantics.specs.Plan.{Plan}
 use Rattle.law_net.proofs.NetSlots.{InSlots, put_same, put_other}
-use Rattle.law_net.proofs.Members.{contains_head, contains_tail, contains_cases, contains_none}
 use Rattle.law_contexts.specs.Parts.{Shown, Done, Freed, same_context, Note, Datum, FrameOf, BackTo, ToHost, signal, Item, Firing}
 use Rattle.law_contexts.specs.Contexts.{Wires, block_in, or_zero}
 use Rattle.law_contexts.specs.Firings.{Config, takes, makes, frame_at, frame_if, frames_of, frames_if, handed_to, HasFired, memory_of}

@@ -3,8 +3,8 @@ use Rattle.std.proofs.Common.{◌≡◌, ℕ, ◌+◌, ◌<◌, Bool, true, fals
 use Rattle.std.specs.Prelude.{Contains}
 use Rattle.std.proofs.lemmas.Bool.{cases_Bool, cases_eq}
 use Rattle.std.proofs.lemmas.List.Elements.{Contains-append_left, Contains-append_right, Contains-append_cases}
+use Rattle.lemmas.proofs.Contains.{contains_head}
 use Rattle.law_net.proofs.Orders.{at_last}
-use Rattle.law_net.proofs.Members.{contains_head}
 use Rattle.semantics.specs.Meaning.{Context}
 use Rattle.semantics.specs.Handed.{handed_by}
 use Rattle.semantics.specs.Holders.{Holder, same_holder}

@@ -3,6 +3,7 @@ use Rattle.std.proofs.Common.{◌≡◌, ℕ, ◌+◌, true, false, List, [], �
 use Rattle.std.specs.Prelude.{IsPermutation, Contains, flat_map}
 use Rattle.std.proofs.lemmas.List.Elements.{Contains-append_left}
 use Rattle.lemmas.proofs.Permutations.{permutation_same}
+use Rattle.lemmas.proofs.Contains.{contains_head, contains_none}
 use Rattle.tags.specs.declared.token.Port.{Port}
 use Rattle.tags.specs.declared.token.Port.TheVariants.{Left}
 use Rattle.tags.specs.declared.token.Cont.{Cont}
@@ -23,7 +24,6 @@ use Rattle.semantics.specs.Sharing.{arc, row, arcs_to, arcs_from, inlet as port_
 use Rattle.semantics.specs.Arcs.{UsesBy}
 use Rattle.law_net.proofs.NetSlots.{InSlots}
 use Rattle.law_net.proofs.Orders.{at_last}
-use Rattle.law_net.proofs.Members.{contains_head, contains_none}
 use Rattle.law_reuse.proofs.UsedArcs.{stands_arcs}
 use Rattle.law_once.specs.Alike.{plain_dests}
 use Rattle.law_contexts.specs.Parts.{Part, Entry, Linker, Landing, Inlet, inlet, Note, FrameOf, BackTo, signal, Item, item, each}

@@ -3,6 +3,7 @@ use Rattle.std.proofs.Common.{◌≡◌, ℕ, zero, suc, ◌+◌, ◌<◌, true,
 use Rattle.std.specs.Prelude.{IsPermutation, Contains}
 use Rattle.std.proofs.lemmas.List.Elements.{Contains-append_left}
 use Rattle.lemmas.proofs.Permutations.{permutation_same}
+use Rattle.lemmas.proofs.Contains.{contains_head, contains_none}
 use Rattle.tags.specs.declared.token.Port.{Port}
 use Rattle.tags.specs.declared.token.Port.TheVariants.{Left, Right}
 use Rattle.tags.specs.declared.token.Cont.{Cont}
@@ -19,7 +20,6 @@ use Rattle.semantics.specs.Rule.{token, fires, fire_two, to_all, answer_to}
 use Rattle.semantics.specs.Rule as Rule
 use Rattle.semantics.specs.Machine.{Fires, with_slot}
 use Rattle.semantics.specs.Arcs.{UsesArc, UsesBy}
-use Rattle.law_net.proofs.Members.{contains_head, contains_none}
 use Rattle.law_once.specs.Alike.{plain_dests}
 use Rattle.law_once.proofs.SpreadNewArcs.{arc_used}
 use Rattle.law_contexts.specs.Parts.{Part, Asker, NextFramer, NextSender, Giver, Taker, Drainer, Landing, Inlet, inlet, Note, FrameOf, BackTo, signal, Item, item, each, same_context}

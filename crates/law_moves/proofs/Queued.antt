@@ -4,6 +4,7 @@ use Rattle.std.specs.Prelude.{IsPermutation, Contains, flat_map}
 use Rattle.std.proofs.lemmas.List.Elements.{Contains-append_left}
 use Rattle.std.proofs.lemmas.List.Sorted.{IsPermutation-trans, IsPermutation-sym, IsPermutation-append_left, IsPermutation-append_right, Contains-permutation}
 use Rattle.lemmas.proofs.Permutations.{permutation_same}
+use Rattle.lemmas.proofs.Contains.{contains_cases, contains_tail}
 use Rattle.semantics.specs.Meaning.{Context, Main}
 use Rattle.semantics.specs.Machine.{Store, with_requests}
 use Rattle.semantics.specs.Cause.{SameSeen}
@@ -11,7 +12,6 @@ use Rattle.semantics.specs.Handed.{handed_by}
 use Rattle.semantics.specs.Orderly.{readers_of}
 use Rattle.law_net.proofs.NetSlots.{InSlots}
 use Rattle.law_net.proofs.Orders.{shuffled, Part as Piece, ◌⊕◌, at_first, at_last}
-use Rattle.law_net.proofs.Members.{contains_tail, contains_cases}
 use Rattle.law_net.proofs.Net.{Waits}
 use Rattle.law_contexts.specs.Parts.{Part, Opener, Giver, Taker, Drainer, Landing, Done, Freed, Held, Item, Firing}
 use Rattle.law_contexts.specs.Blocks.{bound_at, is_store}

@@ -4,6 +4,7 @@ use Rattle.std.specs.Prelude.{IsPermutation, Contains}
 use Rattle.std.proofs.lemmas.List.Elements.{Contains-append_left, Contains-append_right, Contains-append_cases}
 use Rattle.std.proofs.lemmas.List.Sorted.{IsPermutation-refl, IsPermutation-trans, IsPermutation-append_right}
 use Rattle.lemmas.proofs.Permutations.{permutation_same}
+use Rattle.lemmas.proofs.Contains.{contains_head, contains_none}
 use Rattle.tags.specs.declared.value.Value.{Value}
 use Rattle.tags.specs.declared.token.Port.{Port}
 use Rattle.tags.specs.declared.token.Port.TheVariants.{Left}
@@ -22,7 +23,6 @@ use Rattle.semantics.specs.Sharing.{arc, inlet as port_at}
 use Rattle.semantics.specs.Arcs.{UsesArc, UsesBy}
 use Rattle.law_net.proofs.NetSlots.{InSlots}
 use Rattle.law_net.proofs.Orders.{shuffled, Part as Piece, ◌⊕◌, at_last}
-use Rattle.law_net.proofs.Members.{contains_head, contains_none}
 use Rattle.law_reuse.proofs.UsedArcs.{stands_arcs}
 use Rattle.law_once.specs.Alike.{plain_dests}
 use Rattle.law_once.proofs.SpreadNewArcs.{dest_arc, uses_new}

@@ -2,6 +2,7 @@
 use Rattle.std.proofs.Common.{◌≡◌, ℕ, ◌+◌, true, false, List, [], ◌∷◌, ◌++◌, map, refl, zero-add, sym, ap, ◌∙◌, subst, inl, inr, ◌⊎◌, true≢false, Some, None}
 use Rattle.std.specs.Prelude.{Contains}
 use Rattle.lemmas.proofs.Permutations.{permutation_same}
+use Rattle.lemmas.proofs.Contains.{contains_cases, contains_none}
 use Rattle.tags.specs.declared.value.Value.{Value}
 use Rattle.tags.specs.declared.token.Port.TheVariants.{Left}
 use Rattle.tags.specs.declared.token.Cont.{Cont}
@@ -16,7 +17,6 @@ use Rattle.semantics.specs.Rule.{token, to_each, to_all, fires, fire_two}
 use Rattle.semantics.specs.Rule as Rule
 use Rattle.semantics.specs.Machine.{Fires}
 use Rattle.semantics.specs.Credits.{released_by}
-use Rattle.law_net.proofs.Members.{contains_cases, contains_none}
 use Rattle.law_once.specs.Alike.{plain_dests}
 use Rattle.law_contexts.specs.Parts.{Result, End, Shown, Done, Freed, inlet, Note, Datum, FrameOf, BackTo, ToHost, signal, Item, item, each}
 use Rattle.law_contexts.specs.Blocks.{side}

@@ -4,6 +4,7 @@ use Rattle.std.specs.Prelude.{IsPermutation, Contains}
 use Rattle.std.proofs.lemmas.List.Elements.{Contains-append_left, Contains-append_right, Contains-append_cases}
 use Rattle.std.proofs.lemmas.List.Sorted.{IsPermutation-middle, IsPermutation-trans, IsPermutation-sym, IsPermutation-append_right, Contains-permutation}
 use Rattle.lemmas.proofs.Permutations.{permutation_same}
+use Rattle.lemmas.proofs.Contains.{contains_cases, contains_head, contains_tail}
 use Rattle.tags.specs.declared.value.Value.TheVariants.{Int}
 use Rattle.tags.specs.declared.token.Port.TheVariants.{Left}
 use Rattle.tags.specs.declared.token.Cont.{Cont}
@@ -12,7 +13,6 @@ use Rattle.tags.specs.declared.slot.SlotState.TheVariants.{Waiter}
 use Rattle.tags.specs.declared.slot.SlotState.TheVariants as Slot
 use Rattle.semantics.specs.Meaning.{Context}
 use Rattle.law_net.proofs.Orders.{shuffled, Part as Piece, ◌⊕◌}
-use Rattle.law_net.proofs.Members.{contains_head, contains_tail, contains_cases}
 use Rattle.law_contexts.specs.Parts.{Part, Opener, Giver, Taker, Drainer, Drained, NextFramer, inlet, signal, BackTo, Item, item, Firing, spot_of}
 use Rattle.law_contexts.specs.Blocks.{is_loop}
 use Rattle.law_contexts.specs.Contexts.{block_in}

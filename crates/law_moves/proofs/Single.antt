@@ -4,8 +4,8 @@ use Rattle.std.specs.Prelude.{IsPermutation, Contains, flat_map}
 use Rattle.std.proofs.lemmas.List.Elements.{Contains-append_left, Contains-append_right, Contains-append_cases}
 use Rattle.std.proofs.lemmas.List.Sorted.{IsPermutation-refl, IsPermutation-trans, IsPermutation-sym, IsPermutation-append_left, IsPermutation-append_right, Contains-permutation}
 use Rattle.lemmas.proofs.Permutations.{permutation_same}
+use Rattle.lemmas.proofs.Contains.{contains_tail}
 use Rattle.law_net.proofs.Orders.{shuffled, Part as Piece, ◌⊕◌, at_first}
-use Rattle.law_net.proofs.Members.{contains_tail}
 use Rattle.law_net.proofs.Net.{Fires}
 use Rattle.law_contexts.specs.Parts.{Item, Firing}
 use Rattle.law_contexts.specs.Firings.{Config, begin, takes, own_takes, renewed, makes, IsProper, ProperMoves}

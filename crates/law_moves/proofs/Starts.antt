@@ -17,8 +17,8 @@ use Rattle.semantics.specs.Program.{first_of}
 use Rattle.semantics.specs.Rule.{token}
 use Rattle.semantics.specs.Machine.{at_start, input_tokens}
 use Rattle.lemmas.proofs.Permutations.{Each, each_append, each_within, within_from, permutation_same}
+use Rattle.lemmas.proofs.Contains.{contains_none}
 use Rattle.law_net.proofs.Orders.{at_first, first_lifted}
-use Rattle.law_net.proofs.Members.{contains_none}
 use Rattle.law_contexts.specs.Parts.{Part, Entry, Line, Giver, Taker, Drainer, Item}
 use Rattle.law_contexts.specs.Contexts.{Wires, block_in, code_in, or_none}
 use Rattle.law_contexts.specs.Firings.{begin, begins, input_items, frame_at, Still}

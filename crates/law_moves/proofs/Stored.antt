@@ -6,6 +6,7 @@ use Rattle.std.proofs.lemmas.List.{map-append}
 use Rattle.std.proofs.lemmas.List.Elements.{Contains-append_left, Contains-append_right, Contains-append_cases}
 use Rattle.std.proofs.lemmas.List.Sorted.{IsPermutation-refl, IsPermutation-trans, IsPermutation-sym, IsPermutation-map, IsPermutation-append, IsPermutation-append_right, Contains-permutation}
 use Rattle.lemmas.proofs.Permutations.{permutation_same}
+use Rattle.lemmas.proofs.Contains.{contains_none, contains_tail}
 use Rattle.tags.specs.declared.value.Value.{Value}
 use Rattle.tags.specs.declared.token.Cont.{Cont}
 use Rattle.tags.specs.declared.token.Word.{Word}
@@ -16,7 +17,6 @@ use Rattle.semantics.specs.Orderly.{readers_of}
 use Rattle.semantics.specs.Machine.{Store, CellState, Vacant, Full, Deferred, Happens, Stores, value_in, answer, answers, with_cell, put_at}
 use Rattle.law_net.proofs.NetSlots.{put_same, put_other}
 use Rattle.law_net.proofs.Orders.{at_first, at_last}
-use Rattle.law_net.proofs.Members.{contains_tail, contains_none}
 use Rattle.law_contexts.specs.Parts.{Part, Held, Item, Firing}
 use Rattle.law_contexts.specs.Blocks.{is_store, waits_in}
 use Rattle.law_contexts.specs.Contexts.{block_in}

@@ -5,6 +5,7 @@ use Rattle.std.proofs.lemmas.List.{map-append}
 use Rattle.std.proofs.lemmas.List.Elements.{Contains-append_left, Contains-append_right, Contains-append_cases}
 use Rattle.std.proofs.lemmas.List.Sorted.{IsPermutation-refl, IsPermutation-trans, IsPermutation-sym, IsPermutation-map, IsPermutation-append, IsPermutation-append_left, IsPermutation-append_right}
 use Rattle.lemmas.proofs.Permutations.{permutation_same}
+use Rattle.lemmas.proofs.Contains.{contains_cases, contains_head}
 use Rattle.tags.specs.declared.token.Port.TheVariants.{Left}
 use Rattle.tags.specs.declared.token.Token.{Token}
 use Rattle.tags.specs.declared.slot.SlotState.{SlotState}
@@ -15,7 +16,6 @@ use Rattle.semantics.specs.Handed.{handed_by}
 use Rattle.semantics.specs.Orderly.{readers_of}
 use Rattle.law_net.proofs.NetSlots.{InSlots, AtSlot}
 use Rattle.law_net.proofs.Orders.{shuffled, Part as Piece, ◌⊕◌, at_first, at_last, flat_map-IsPermutation}
-use Rattle.law_net.proofs.Members.{contains_head, contains_cases}
 use Rattle.law_contexts.specs.Parts.{Part, Framer, Fanned, Opener, Giver, Taker, Drainer, Drained, Landing, Held, Inlet, inlet, BackTo, Item, Firing}
 use Rattle.law_contexts.specs.Blocks.{is_loop, is_store, bound_at}
 use Rattle.law_contexts.specs.Contexts.{block_in, code_in, wiring_in, or_zero, is_strict_in, IsContext}

@@ -14,6 +14,7 @@ use Rattle.law_once.specs.Alike.{IsTidy}
 use Rattle.std.proofs.Common.{◌≡◌, refl, sym, ap, ◌∙◌, ℕ, zero, suc, ◌+◌, ◌-◌, ◌<◌, ◌≤◌, Bool, true, false, true≢false, List, [], ◌∷◌, length, Some, arith, zero-add, nat_lt, lt-ltb, le-ltb, ltb-true, ltb-false}
 use Rattle.std.specs.Prelude.{slice_get, if◌then◌else◌}
 use Rattle.std.proofs.lemmas.Option.{slice_get_within, slice_get-map}
+use Rattle.lemmas.proofs.SliceGet.{get_some}
 use Rattle.semantics.specs.Program.{CodeBlock, first_of}
 use Rattle.semantics.specs.Plan.{Plan}
 use Rattle.code.specs.Sound.{IsSound}
@@ -23,7 +24,6 @@ use Rattle.fanout.specs.Rows.{is_tied}
 use Rattle.fanout.specs.Places.{place_of}
 use Rattle.fanout.specs.Narrowed.{layout_of, narrowed, narrowed_block}
 use Rattle.fanout.proofs.Spots.{place_is}
-use Rattle.fanout.proofs.Queues.{there}
 use Rattle.fanout.proofs.Flags.{entries_tied, place_tied}
 use Rattle.fanout.proofs.Plans.{is, ts, l, all}
 use Rattle.fanout.proofs.Arrows.{in_parts}
@@ -35,7 +35,7 @@ pub entry_at : (p : Plan) (s : IsSound p) (tidy : IsTidy p) (b : ℕ) (c : CodeB
 entry_at p s tidy b c at_b n low =
     let size = (s.program.blocks b c at_b).size in
     let within : n < length c.instrs = omega (arith, low, size) in
-    let i = there c.instrs n within in
+    let i = get_some c.instrs n within in
     let at_i = in_parts c n i.0 i.1 in
     let long = slice_get_within (is p c) n (parted i.0) at_i in
     let m = place_tied (ts p c) 0 0 0 (is p c) n (place_of (l p c) n) (λ k u. let z : 0 + k ≡ k = zero-add k in ap (is_tied (ts p c)) z ∙ entries_tied p c.inputs (is p c) k (omega (arith, low, u)) (omega (arith, long, u)))

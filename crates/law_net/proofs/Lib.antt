@@ -1,6 +1,5 @@
 -- lists
 pub mod Orders
-pub mod Members
 pub mod Parts
 -- nets
 pub mod Net

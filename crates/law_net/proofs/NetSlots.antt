@@ -4,10 +4,10 @@ use Rattle.std.proofs.Common.{◌≡◌, ℕ, List, ◌∷◌, refl, sym, ap, �
 use Rattle.std.specs.Prelude.{IsPermutation, Contains}
 use Rattle.std.proofs.lemmas.Bool.{cases_eq}
 use Rattle.std.proofs.lemmas.List.Sorted.{IsPermutation-sym, Contains-permutation}
+use Rattle.lemmas.proofs.Contains.{contains_cases, contains_head, contains_tail}
 use Rattle.tags.specs.declared.slot.SlotState.{SlotState}
 use Rattle.tags.specs.declared.slot.SlotState.TheVariants.{Empty}
 use Rattle.semantics.specs.Machine.{put_at, Store, with_slot}
-use Rattle.law_net.proofs.Members.{contains_head, contains_tail, contains_cases}
 
 pub put_same : {A : Type 0} (f : ℕ → A) (x : ℕ) (a : A) → put_at f x a x ≡ a
 put_same f x a = rw (eq-eqb x x refl)

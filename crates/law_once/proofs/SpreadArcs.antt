@@ -2,6 +2,7 @@
 use Rattle.std.proofs.Common.{◌≡◌, sym, ap, subst, ℕ, zero, suc, ◌+◌, ◌⊎◌, inl, inr, Bool, true, false, List, [], ◌∷◌, Some, Contains, arith}
 use Rattle.std.specs.Prelude.{flat_map, slice_get}
 use Rattle.std.proofs.lemmas.List.Elements.{Contains-append_cases}
+use Rattle.lemmas.proofs.Contains.{contains_cases, contains_mapped, contains_none}
 use Rattle.tags.specs.declared.token.Port.TheVariants.{Left}
 use Rattle.semantics.specs.declared.program.Dest.{Dest}
 use Rattle.semantics.specs.declared.program.Op.{Op}
@@ -9,7 +10,6 @@ use Rattle.semantics.specs.declared.program.Op.TheVariants.{Link}
 use Rattle.semantics.specs.Program.{Instr}
 use Rattle.semantics.specs.Plan.{Plan, landing}
 use Rattle.semantics.specs.Sharing.{Arc, arc, inlet, arcs_to, row, arcs_from, arcs_of}
-use Rattle.law_reuse.proofs.Members.{contains_cases, contains_none, contains_mapped}
 
 arcs_to_from : (n : ℕ) (s : Bool) (ds : List Dest) (x : Arc) → Contains (arcs_to n s ds) x → x.from ≡ n
 arcs_to_from n s ds x c = let d = contains_mapped (λ (d : Dest). arc n s (inlet (n + d.ahead) d.port)) ds x c in sym (ap (λ (x : Arc). x.from) d.2)

@@ -13,8 +13,8 @@ use Rattle.law_once.proofs.Parts.{instr_parts}
 use Rattle.law_once.specs.Spreads.{ip_to, here, ip_word, ip_token, Spot, StandsFor, Lead, targets, Leads}
 use Rattle.std.proofs.lemmas.List.Concat.{flat_map-append}
 use Rattle.std.proofs.lemmas.List.Elements.{Contains-append_left, Contains-append_right}
-use Rattle.law_reuse.proofs.Members.{contains_cases, contains_none}
 use Rattle.std.proofs.lemmas.List.Sorted.{IsPermutation-trans, IsPermutation-append_left, IsPermutation-append_right}
+use Rattle.lemmas.proofs.Contains.{contains_cases, contains_none}
 
 abbrev pub spot_token : ℕ → Word → Spot → Token
 spot_token f w x = token (To.Instr f x.0 x.1) w

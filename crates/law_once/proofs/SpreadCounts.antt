@@ -2,6 +2,7 @@
 use Rattle.std.proofs.Common.{◌≡◌, refl, sym, ap, ◌∙◌, subst, ℕ, ◌+◌, ◌<◌, ◌≤◌, ◌⊎◌, inl, inr, Bool, true, false, true≢false, List, [], ◌∷◌, ◌++◌, map, IsPermutation, Contains, nat_lt, lt-ltb, le-ltb, ltb-true, ltb-false, eqb-true, eq-eqb, arith}
 use Rattle.std.specs.Prelude.{◌==◌, ◌&&◌}
 use Rattle.std.proofs.lemmas.Bool.{cases_Bool, and_from}
+use Rattle.lemmas.proofs.Contains.{contains_cases, contains_head, contains_map, contains_none, contains_tail}
 use Rattle.tags.specs.declared.token.Port.{Port}
 use Rattle.tags.specs.declared.token.Port.TheVariants.{Left, Right}
 use Rattle.tags.specs.declared.token.Word.{Word}
@@ -11,7 +12,6 @@ use Rattle.semantics.specs.declared.program.Dest.{Dest}
 use Rattle.semantics.specs.Program.{Instr, Program, instr_at}
 use Rattle.semantics.specs.Rule.{token}
 use Rattle.semantics.specs.Orderly.{is_at, eq_port}
-use Rattle.law_reuse.proofs.Members.{contains_head, contains_cases, contains_none, contains_map, contains_tail}
 use Rattle.law_reuse.proofs.Stands.{some_same}
 use Rattle.law_once.proofs.Parts.{instr_parts, one_part}
 use Rattle.law_once.specs.Spreads.{Spot, StandsFor, here, fork}

@@ -1,5 +1,6 @@
 -- A word at a return still is a long enough landing's.
 use Rattle.std.proofs.Common.{◌≡◌, refl, sym, ap, ◌∙◌, subst, ℕ, List, [], ◌∷◌, map, Some, None, Contains}
+use Rattle.lemmas.proofs.Contains.{contains_head}
 use Rattle.tags.specs.declared.token.Port.TheVariants.{Left}
 use Rattle.tags.specs.declared.token.Cont.{Cont}
 use Rattle.tags.specs.declared.token.Word.{Word}
@@ -13,7 +14,6 @@ use Rattle.semantics.specs.Plan.{Plan}
 use Rattle.semantics.specs.Wired.{IsWired}
 use Rattle.semantics.specs.Orderly.{Orderly, IsStart, met}
 use Rattle.law_reuse.proofs.Stands.{some_same}
-use Rattle.law_reuse.proofs.Members.{contains_head}
 use Rattle.law_once.proofs.Parts.{back_parts, cont_parts}
 use Rattle.law_once.specs.Alike.{offset_of, HasLanding, LandsRightly}
 use Rattle.law_once.specs.Spreads.{ip_word, Spot, StandsFor, here, fork, Spreads}

@@ -2,6 +2,7 @@
 use Rattle.std.proofs.Common.{◌≡◌, refl, sym, ap, ◌∙◌, subst, ℕ, zero, suc, ◌+◌, ◌<◌, ◌⊎◌, inl, inr, Bool, true, false, List, [], ◌∷◌, ◌++◌, length, Option, Some, None, Contains, zero-add, arith}
 use Rattle.std.specs.Prelude.{flat_map, if◌then◌else◌, slice_get}
 use Rattle.std.proofs.lemmas.List.Elements.{Contains-append_left, Contains-append_right, Contains-append_cases}
+use Rattle.lemmas.proofs.Contains.{contains_cases, contains_head, contains_mapped, contains_none, contains_tail}
 use Rattle.tags.specs.declared.token.Port.{Port}
 use Rattle.tags.specs.declared.token.Port.TheVariants.{Left}
 use Rattle.tags.specs.declared.token.Cont.{Cont}
@@ -21,7 +22,6 @@ use Rattle.semantics.specs.Sharing.{Arc, arc, Inlet, inlet, arcs_to, row, arcs_f
 use Rattle.semantics.specs.Arcs.{GoesTo, AsksFor, Lands, UsesBy, UsesArc}
 use Rattle.law_reuse.proofs.Stands.{some_same, stands_at, Found, found}
 use Rattle.law_reuse.proofs.UsedArcs.{arc_stands, stands_arcs}
-use Rattle.law_reuse.proofs.Members.{contains_head, contains_tail, contains_cases, contains_none, contains_mapped}
 use Rattle.law_once.proofs.Parts.{instr_parts, back_parts, cont_parts}
 use Rattle.law_once.specs.Alike.{plain_dests}
 use Rattle.law_once.specs.Spreads.{ip_word, ip_to, ip_token, ip_slot, Leads, is_answered, IsMoved, Spreads}

@@ -2,6 +2,8 @@
 use Rattle.std.proofs.Common.{◌≡◌, refl, sym, ap, ◌∙◌, subst, ℕ, zero, suc, ◌+◌, ◌<◌, Bool, true, List, [], ◌∷◌, length, Option, Some, None, lt-ltb, le-ltb, arith}
 use Rattle.std.specs.Prelude.{slice_get, ◌-◌, nat_lt, false, if◌then◌else◌}
 use Rattle.std.proofs.lemmas.Option.{slice_get_within}
+use Rattle.lemmas.proofs.Contains.{contains_head}
+use Rattle.lemmas.proofs.SliceGet.{get_some}
 use Rattle.tags.specs.declared.token.Port.TheVariants.{Left}
 use Rattle.semantics.specs.declared.program.Dest.{Dest}
 use Rattle.semantics.specs.declared.program.Op.{Op}
@@ -10,8 +12,7 @@ use Rattle.semantics.specs.Program.{Instr, CodeBlock, Program, first_of, instr_a
 use Rattle.semantics.specs.Plan.{Plan}
 use Rattle.semantics.specs.Orderly.{same_block, often}
 use Rattle.law_reuse.proofs.Stands.{first_in, first_next, some_same, instr_in, Stands, stands_at, stands_block, stands_within, Found, found}
-use Rattle.law_reuse.proofs.Members.{contains_head}
-use Rattle.law_once.proofs.Parts.{one_part, there}
+use Rattle.law_once.proofs.Parts.{one_part}
 use Rattle.law_once.specs.Alike.{HasLanding}
 use Rattle.law_once.specs.Spreads.{Spot, StandsFor, here, fork, is_answered, IsMoved, Spreads}
 
@@ -90,7 +91,7 @@ module _ (p q : Plan) (S : Spreads p q) where
       let d_same : A.0 ≡ L.d = one_part A.0 L.d (sym A.2 ∙ L.lands) in
       let j_same : M.j ≡ j = some_same M.j j (sym M.there ∙ ap (instr_at Q) at_link ∙ stands_at Q b n j stands) in
       let e_same : A.1 ≡ e = one_part A.1 e (sym A.3 ∙ ap (λ (j : Instr). j.firsts) j_same ∙ lands) in
-      let k = there L.c.instrs (L.n + L.d.ahead + o) L.inside in
+      let k = get_some L.c.instrs (L.n + L.d.ahead + o) L.inside in
       let at_k : instr_at P to ≡ Some k.0 = instr_in P.blocks L.b (L.n + L.d.ahead + o) L.c L.block L.inside ∙ k.1 in
       let begins = L.begins in
       let place : to ≡ base + o = omega (arith, begins) in

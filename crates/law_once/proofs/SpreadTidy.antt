@@ -3,6 +3,8 @@ use Rattle.std.proofs.Common.{◌≡◌, refl, sym, ap, ◌∙◌, subst, ℕ, �
 use Rattle.std.specs.Prelude.{slice_get, nat_lt}
 use Rattle.std.proofs.lemmas.List.Elements.{Contains-append_left, Contains-append_right}
 use Rattle.std.proofs.lemmas.List.Sorted.{Contains-permutation, IsPermutation-sym}
+use Rattle.lemmas.proofs.Contains.{contains_cases, contains_head, contains_mapped, contains_none}
+use Rattle.lemmas.proofs.SliceGet.{get_some}
 use Rattle.tags.specs.declared.token.Port.{Port}
 use Rattle.tags.specs.declared.token.Port.TheVariants.{Left}
 use Rattle.semantics.specs.declared.program.Dest.{Dest}
@@ -13,8 +15,6 @@ use Rattle.semantics.specs.Plan.{Plan, landing, landing_in}
 use Rattle.semantics.specs.Orderly.{often}
 use Rattle.code.specs.Sound.{NamesRightly, IsSound}
 use Rattle.law_reuse.proofs.Stands.{some_same, Stands, stands_at, Found, found}
-use Rattle.law_reuse.proofs.Members.{contains_head, contains_cases, contains_none, contains_mapped}
-use Rattle.law_once.proofs.Parts.{there}
 use Rattle.law_once.specs.Alike.{plain_dests, HasLanding, IsTidy}
 use Rattle.law_once.specs.Spreads.{Spot, StandsFor, here, fork, Lead, targets, Leads, is_answered, IsMoved, Spreads, SpreadPlansStayTidy}
 use Rattle.law_once.proofs.SpreadPlaces.{often_kept, landing_inside}
@@ -29,7 +29,7 @@ module _ (p q : Plan) (S : Spreads p q) where
   abbrev h : ℕ → ℕ
   h = S.h
 
-  -- no `give` and no `take` stands there
+  -- no `give` and no `take` stands get_some
   abbrev Lone : ℕ → Type 0
   Lone ip = often (instr_at Q ip) ≡ false
 
@@ -122,7 +122,7 @@ module _ (p q : Plan) (S : Spreads p q) where
             let A = M.answered (ap is_answered op) in
             let F : Found P a o.0 = found P a o.0 o.1 in
             let names : callee < length P.blocks = subst (NamesRightly P) op ((s.program.blocks F.b F.stands.code F.stands.block).instrs F.n o.0 F.stands.instr).operand in
-            let c = there P.blocks callee names in
+            let c = get_some P.blocks callee names in
             let some = long (nat_lt callee p.plain) (slice_get P.blocks callee) c.0 c.1 in
             let fits = tidy.landings F.b F.n F.stands.code o.0 A.0 callee F.stands.block F.stands.instr op A.2 in
             let last : ℕ = landing p callee - 1 in

@@ -11,8 +11,8 @@ use Rattle.semantics.specs.Graph.{Node, Block, Flow}
 use Rattle.semantics.specs.Plan.{Plan}
 use Rattle.semantics.specs.Meaning.{Context, arm_of, block_number, block_numbered}
 use Rattle.semantics.specs.Cause.{is_turn}
-use Rattle.law_net.proofs.Members.{contains_head}
 use Rattle.std.specs.Prelude.{slice_get}
+use Rattle.lemmas.proofs.Contains.{contains_head}
 use Rattle.law_contexts.specs.Parts.{Part, Trigger, Gate, Merge, Framer, Fanned, Linker, Landing, CallDone, Giver, Taker, Drainer, LoopDone, TurnCont, TurnFlag, TurnValue, Asker, NextFramer, NextFanned, CondEnd, End, inlet, Firing, Held, Drained}
 use Rattle.law_contexts.specs.Blocks.{is_cell, is_plain, plain_kind, cell_kind, side, Wiring, there_in, waits_in, is_kind, enter_kind, is_call, is_loop, merge_cond, lies_in, outside, region_of, entered, arm_round, leaves_in, is_switch, flag}
 use Rattle.law_contexts.specs.Contexts.{Wires, block_in, site_in, wiring_in, IsContext}

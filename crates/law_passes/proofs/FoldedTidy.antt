@@ -3,6 +3,7 @@ use Rattle.std.proofs.Common.{◌≡◌, refl, sym, ap, ◌∙◌, subst, ℕ, z
 use Rattle.std.specs.Prelude.{slice_get, nat_lt}
 use Rattle.std.proofs.lemmas.List.Elements.{Contains-append_left, Contains-append_right, Contains-append_cases}
 use Rattle.std.proofs.lemmas.Option.{slice_get_within, slice_get_cases}
+use Rattle.lemmas.proofs.Contains.{contains_head, get_contains}
 use Rattle.operators.specs.declared.Binary.{Binary}
 use Rattle.semantics.specs.declared.program.Dest.{Dest}
 use Rattle.semantics.specs.declared.program.Op.{Op}
@@ -19,7 +20,7 @@ use Rattle.folding.specs.Laws.{dests_of, SparesLiterals}
 use Rattle.folding.proofs.Standing.{keeps_instrs, has_no_others}
 use Rattle.folding.proofs.Sole.{keeps_sole}
 use Rattle.folding.proofs.Landing.{keeps_landings}
-use Rattle.folding.proofs.SoundLists.{contains_head, get_contains, Stood, moved_back, block_back, block_there, landing_same}
+use Rattle.folding.proofs.SoundLists.{Stood, moved_back, block_back, block_there, landing_same}
 use Rattle.folding.proofs.SoundRows.{link_before, shut_stays, place_low}
 use Rattle.folding.proofs.SoundDests.{dyadic_is}
 use Rattle.folding.proofs.Cases.{value_at, FoldCase, is_kept, is_right, is_left, fold_cases}

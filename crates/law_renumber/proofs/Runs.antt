@@ -5,6 +5,7 @@ use Rattle.std.specs.Prelude.{slice_get, ⊤}
 use Rattle.std.proofs.lemmas.Bool.{cases_eq}
 use Rattle.std.proofs.lemmas.List.Elements.{Contains-append_left, Contains-append_right, Contains-push}
 use Rattle.std.proofs.lemmas.List.Sorted.{Contains-permutation, IsPermutation-refl, IsPermutation-sym, IsPermutation-trans}
+use Rattle.lemmas.proofs.Contains.{contains_head}
 use Rattle.tags.specs.declared.token.Port.{Port}
 use Rattle.tags.specs.declared.token.Port.TheVariants.{Left}
 use Rattle.tags.specs.declared.token.Cont.{Cont}
@@ -27,7 +28,6 @@ use Rattle.law_reuse.proofs.Fillings.{at_port, later_on}
 use Rattle.law_reuse.proofs.UsedArcs.{Ports, one_frame}
 use Rattle.law_reuse.proofs.History.{taken, ports_of}
 use Rattle.law_reuse.proofs.OnceRuns.{once_before}
-use Rattle.law_reuse.proofs.Members.{contains_head}
 use Rattle.law_renumber.specs.Renumbers.{RenumbersAll, with_blocks}
 use Rattle.law_renumber.proofs.Places.{Located, Nowhere, There, located, first_is}
 use Rattle.law_renumber.proofs.Events.{held, slot_held, Agrees, agrees_idle, Answered, instr_answered, other_carried}

@@ -1,12 +1,11 @@
 -- Lists of contexts in which none stands twice: those of a list, each once, and that no more of them fit into another list than it has.
 use Rattle.std.proofs.Common.{◌≡◌, ℕ, zero, suc, ◌+◌, ◌<◌, ◌≤◌, Bool, true, false, ◌&&◌, ◌⊎◌, inl, inr, List, [], ◌∷◌, length, map, Some, if◌then◌else◌, refl, sym, ap, ◌∙◌, subst, arith, true≢false}
 use Rattle.std.specs.Prelude.{Contains, slice_get, slice_index_or, count_by}
+use Rattle.lemmas.proofs.Contains.{contains_cases, contains_head, contains_mapped, contains_none, contains_tail, get_contains}
 use Rattle.semantics.specs.Meaning.{Context, Main}
 use Rattle.law_net.specs.Roles.{one, total}
-use Rattle.law_net.proofs.Members.{contains_head, contains_tail, contains_cases, contains_none}
 use Rattle.law_contexts.specs.Parts.{Entry, inlet, Item, item, signal, Spot, spot_of, same_inlet, same_context}
 use Rattle.tags.specs.declared.token.Port.TheVariants.{Left}
-use Rattle.law_arms.proofs.Sends.{contains_map}
 use Rattle.law_arms.proofs.Sames.{hits_at, same_context-true, same_context-refl}
 use Rattle.law_arms.proofs.Nets.{count_total}
 use Rattle.law_arms.proofs.Pigeons.{few_pigeons}
@@ -97,16 +96,10 @@ once_apart (x ∷ xs) c = go (has x (each_once xs)) refl (once_apart xs c)
         pick true s = let n = has_not x (each_once xs) e in let same = ap (λ (d : Context). often d (each_once xs)) (same_context-true c x s) in omega (arith, n, same)
         pick false s = omega (arith, more)
 
--- so two places have two contexts
-there : (xs : List Context) (j : ℕ) (c : Context) → slice_get xs j ≡ Some c → Contains xs c
-there [] j c f = absurd (cc)
-there (y ∷ ys) zero c f = let same : y ≡ c = cc in subst (λ (z : Context). Contains (y ∷ ys) z) same (contains_head y ys)
-there (y ∷ ys) (suc j) c f = contains_tail y ys c (there ys j c f)
-
 twice : (x : Context) (xs : List Context) → Apart (x ∷ xs) → (j : ℕ) (c : Context) → x ≡ c → slice_get xs j ≡ Some c → ⊥
 twice x xs few j c same f =
     let a = few c in let b = ap (λ (d : Context). one (same_context c d)) same ∙ ap one (same_context-refl c) in
-    let d = often_some c xs (there xs j c f) in omega (arith, a, b, d)
+    let d = often_some c xs (get_contains xs j c f) in omega (arith, a, b, d)
 
 some_context : (x c : Context) → Some x ≡ Some c → x ≡ c
 some_context x c e = cc
@@ -118,7 +111,7 @@ places_apart (x ∷ xs) few (suc i) (suc j) c e f = ap suc (places_apart xs (λ 
 places_apart (x ∷ xs) few zero (suc j) c e f = absurd (twice x xs few j c (some_context x c e) f)
 places_apart (x ∷ xs) few (suc i) zero c e f = absurd (twice x xs few i c (some_context x c f) e)
 
--- NO MORE FIT than there are
+-- NO MORE FIT than get_contains are
 abbrev passing : (Context → Bool) → List Context → List Context
 passing test [] = []
 passing test (x ∷ xs) = if test x then x ∷ passing test xs else passing test xs
@@ -170,7 +163,7 @@ fit_in test xs zs few all =
   where
     at : (i : Item) → Contains (map bird xs) i → true ≡ true → (k : ℕ) × (k < length (passing test zs)) × (spot_of i ≡ spot_for (slice_index_or (passing test zs) k Main))
     at i h t =
-        let c = contains_map bird xs i h in
+        let c = contains_mapped bird xs i h in
         let m = all c.0 c.1 in
         let k = passing_at test zs c.0 m.0 m.1 in
         (k.0, k.1, ap spot_of (sym c.2) ∙ ap spot_for (sym k.2))

@@ -11,6 +11,7 @@ use Rattle.semantics.specs.Plan.{Plan}
 use Rattle.semantics.specs.Meaning.{Context, Turned, AtNode, AtTurn, Operand, Predicate, Flag, Tagged, tagged, taken, Stood, start, block_of, arm_of, HadTrueFlag}
 use Rattle.semantics.specs.Machine.{Machine}
 use Rattle.lemmas.proofs.Permutations.{Within}
+use Rattle.lemmas.proofs.Contains.{contains_head}
 use Rattle.law_determinacy.proofs.History.{run_lawful}
 use Rattle.law_determinacy.proofs.Due.{ever_stood}
 use Rattle.law_determinacy.proofs.Laws.{Tokens, Lawful}
@@ -33,7 +34,6 @@ use Rattle.law_rest.proofs.Stores.{fits_main}
 use Rattle.law_rest.proofs.Waits.{carries}
 use Rattle.law_rest.proofs.Forward.{At, feeder, decided_comes}
 use Rattle.law_rest.proofs.Story.{story, ever_told}
-use Rattle.law_net.proofs.Members.{contains_head}
 
 some_line : (a b : Node ℕ) → Some a ≡ Some b → a ≡ b
 some_line a b e = cc

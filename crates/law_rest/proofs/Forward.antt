@@ -3,6 +3,7 @@ use Rattle.std.proofs.Common.{◌≡◌, ℕ, ◌+◌, ◌<◌, ℤ, Bool, true,
 use Rattle.std.specs.Prelude.{Contains, flat_map}
 use Rattle.std.proofs.lemmas.Bool.{cases_Bool}
 use Rattle.std.proofs.lemmas.List.Elements.{Contains-append_left, Contains-append_right}
+use Rattle.lemmas.proofs.Contains.{contains_none, contains_map}
 use Rattle.tags.specs.declared.value.Value.{Value}
 use Rattle.tags.specs.declared.token.Port.TheVariants.{Right}
 use Rattle.operators.specs.Values.{truth}
@@ -13,7 +14,6 @@ use Rattle.semantics.specs.Plan.{Plan}
 use Rattle.semantics.specs.Meaning.{Context}
 use Rattle.semantics.specs.Machine.{Machine}
 use Rattle.law_net.specs.Roles.{one, total}
-use Rattle.law_net.proofs.Members.{contains_none}
 use Rattle.law_net.proofs.Net.{weigh}
 use Rattle.law_net.proofs.Orders.{total-append}
 use Rattle.law_contexts.specs.Parts.{Part, Line, Trigger, Gate, Framer, Linker, Giver, Taker, Drainer, TurnCont, TurnFlag, TurnValue, Asker, NextFramer, End, Asked, NextAsked, Held, Drained, Shown, Done, Freed, Inlet, inlet, Datum, Item, item, Firing, Spot, spot_of, same_spot, Role}
@@ -33,7 +33,7 @@ use Rattle.law_over.proofs.Sorts.{IsHere, laws, Sort, Last, Joins, Switches, Oth
 use Rattle.law_over.proofs.Paths.{Wire, wire_of}
 use Rattle.law_over.proofs.Made.{Stands, taken_stands, allowed}
 use Rattle.law_over.proofs.Open.{one_side, arm_decided}
-use Rattle.law_rest.proofs.Cells.{total_one, contains_to}
+use Rattle.law_rest.proofs.Cells.{total_one}
 use Rattle.law_rest.proofs.Waits.{carries}
 
 -- a switch's second word is its conditional's
@@ -137,7 +137,7 @@ module _ (stage : ℕ) (fl : Flow) (p : Plan) (w : Wires) (inputs : List ℤ) (p
 
   pub sent_stands : (h : Firing) (s : Side) (x : Inlet) → Contains done h → Contains ((wiring_in fl w h.context).wire s) x → side_by fl h h.part ≡ Some s → (i : Item) × Stood i × (i.context ≡ h.context) × (i.inlet ≡ x)
   sent_stands h s x c goes g =
-      let made : Contains (sent_along fl w h (Some s)) (item h.context x (sent_word fl h h.part)) = contains_to (λ (y : Inlet). item h.context y (sent_word fl h h.part)) ((wiring_in fl w h.context).wire s) x goes in
+      let made : Contains (sent_along fl w h (Some s)) (item h.context x (sent_word fl h h.part)) = contains_map (λ (y : Inlet). item h.context y (sent_word fl h h.part)) ((wiring_in fl w h.context).wire s) x goes in
       let all = subst (λ (l : List Item). Contains l (item h.context x (sent_word fl h h.part))) (sym (splits fl w h))
       (Contains-append_right (gives_by fl w h h.part) (sent_along fl w h (side_by fl h h.part)) (item h.context x (sent_word fl h h.part))
       (subst (λ (o : Option Side). Contains (sent_along fl w h o) (item h.context x (sent_word fl h h.part))) (sym g) made)) in

@@ -2,13 +2,13 @@
 use Rattle.std.proofs.Common.{◌≡◌, ℕ, ◌+◌, ◌<◌, ℤ, Bool, true, false, List, [], ◌∷◌, ◌++◌, length, Some, None, if◌then◌else◌, refl, sym, ap, ◌∙◌, subst, arith, true≢false, eq-eqb, length-append}
 use Rattle.std.specs.Prelude.{Contains}
 use Rattle.std.proofs.lemmas.List.Sorted.{length_permutation}
+use Rattle.lemmas.proofs.Contains.{contains_head, contains_none, contains_tail}
 use Rattle.semantics.specs.Graph.{Flow}
 use Rattle.semantics.specs.Plan.{Plan}
 use Rattle.semantics.specs.Meaning.{Memory}
 use Rattle.semantics.specs.Machine.{Machine}
 use Rattle.semantics.specs.Orderly.{readers_of}
 use Rattle.law_net.specs.Roles.{one, total}
-use Rattle.law_net.proofs.Members.{contains_head, contains_tail, contains_none}
 use Rattle.law_contexts.specs.Parts.{Part, Line, Held, Inlet, Note, Item}
 use Rattle.law_contexts.specs.Blocks.{side, is_cell}
 use Rattle.law_contexts.specs.Contexts.{Wires, block_in, wiring_in}

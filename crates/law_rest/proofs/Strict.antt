@@ -1,6 +1,7 @@
 -- A strict call that asked for its frame has fired in the meaning: its arguments went into the context that it calls.
 use Rattle.std.proofs.Common.{◌≡◌, ℕ, ◌<◌, ℤ, Bool, true, ◌⊎◌, inl, inr, List, [], ◌∷◌, length, Option, Some, if◌then◌else◌, refl, sym, ap, ◌∙◌, subst, arith}
 use Rattle.std.specs.Prelude.{Contains}
+use Rattle.lemmas.proofs.Contains.{contains_cases, contains_head, contains_none, contains_tail}
 use Rattle.tags.specs.declared.value.Value.{Value}
 use Rattle.tags.specs.declared.token.Port.TheVariants.{Left, Right}
 use Rattle.semantics.specs.declared.graph.Kind.{Kind}
@@ -9,7 +10,6 @@ use Rattle.semantics.specs.Plan.{Plan}
 use Rattle.semantics.specs.Meaning.{Context, Called, Tagged, tagged, AtNode, Operand, node_of, node_in, StartsWhenStrict}
 use Rattle.semantics.specs.Machine.{Machine}
 use Rattle.law_determinacy.proofs.Due.{stood_due}
-use Rattle.law_net.proofs.Members.{contains_head, contains_tail, contains_cases, contains_none}
 use Rattle.law_net.proofs.Net.{Waits, Fires}
 use Rattle.law_contexts.specs.Parts.{Part, Framer, Fanned, Asked, Sender, Inlet, inlet, Datum, BackTo, Item, item, Firing, Spot}
 use Rattle.law_contexts.specs.Blocks.{strict_kind, is_strict, source_count}

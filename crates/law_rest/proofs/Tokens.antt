@@ -2,6 +2,7 @@
 use Rattle.std.proofs.Common.{◌≡◌, ℕ, zero, suc, ◌+◌, ◌-◌, ◌<◌, ℤ, Bool, true, false, ◌⊎◌, inl, inr, List, [], ◌∷◌, nat_lt, if◌then◌else◌, refl, sym, ap, ◌∙◌, subst, arith, true≢false, lt-ltb, ltb-true, eqb-true, eq-eqb, ne_eqb}
 use Rattle.std.specs.Prelude.{Contains, ◌&&◌}
 use Rattle.std.proofs.lemmas.Bool.{and_parts, or_left, cases_Bool}
+use Rattle.lemmas.proofs.Contains.{contains_none}
 use Rattle.tags.specs.declared.value.Value.{Value}
 use Rattle.tags.specs.declared.token.Port.{Port}
 use Rattle.tags.specs.declared.token.Port.TheVariants.{Left, Right}
@@ -10,7 +11,6 @@ use Rattle.semantics.specs.Plan.{Plan}
 use Rattle.semantics.specs.Meaning.{Context, Main, Called, Turned, AtNode, AtTurn, Operand, Predicate, Flag, Carried, Tagged, tagged, operands_from}
 use Rattle.semantics.specs.Cause.{is_turn}
 use Rattle.semantics.specs.Machine.{Machine, Resting, Wants}
-use Rattle.law_net.proofs.Members.{contains_none}
 use Rattle.law_contexts.specs.Parts.{Part, Entry, Line, Answer, Merge, Landing, Giver, Drainer, Shown, Gate, Framer, Sender, Strict, Asker, NextFramer, NextFanned, NextSender, Result, TurnValue, LastReturn, Held, Inlet, inlet, Note, Datum, Item, item, Firing, spot_of}
 use Rattle.law_contexts.specs.Blocks.{side, waits_in, is_pair, is_cell, is_store, is_strict, is_call, is_loop, is_kind, enter_kind, entered, lies_in, source_count, there_in, invokes}
 use Rattle.law_contexts.specs.Contexts.{Wires, block_in, site_in, wiring_in, IsContext}

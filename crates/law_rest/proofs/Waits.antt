@@ -4,6 +4,7 @@ use Rattle.std.specs.Prelude.{Contains, flat_map}
 use Rattle.std.proofs.lemmas.Bool.{cases_eq}
 use Rattle.std.proofs.lemmas.List.Sorted.{IsPermutation-sym}
 use Rattle.std.proofs.lemmas.List.Elements.{Contains-append_right, Contains-append_cases}
+use Rattle.lemmas.proofs.Contains.{contains_cases, contains_head, contains_none, contains_flat_mapped}
 use Rattle.tags.specs.declared.value.Value.{Value}
 use Rattle.tags.specs.declared.token.Port.{Port}
 use Rattle.tags.specs.declared.token.Port.TheVariants.{Left, Right}
@@ -15,7 +16,6 @@ use Rattle.semantics.specs.Graph.{Flow}
 use Rattle.semantics.specs.Plan.{Plan}
 use Rattle.semantics.specs.Meaning.{Context}
 use Rattle.semantics.specs.Machine.{Machine, Resting, Wants}
-use Rattle.law_net.proofs.Members.{contains_head, contains_cases, contains_none}
 use Rattle.law_net.proofs.Orders.{empty_list}
 use Rattle.law_contexts.specs.Parts.{Part, Opener, Framer, NextFramer, Sender, Taker, Giver, Drainer, Asked, NextAsked, Held, Drained, inlet, Note, Datum, BackTo, signal, Item, item, Firing}
 use Rattle.law_contexts.specs.Blocks.{waits_in, is_loop}
@@ -34,7 +34,7 @@ use Rattle.law_arms.proofs.Opened.{NTaker}
 use Rattle.law_arms.proofs.Turns.{no_later, turns_now}
 use Rattle.law_arms.proofs.Credits.{firing_of, near_opened, keeps, slot_is, open_form}
 use Rattle.law_over.proofs.Made.{fits, word, left_stands, Stands}
-use Rattle.law_rest.proofs.Cells.{flat_back, one_of, map_empty}
+use Rattle.law_rest.proofs.Cells.{one_of, map_empty}
 
 -- what a firing takes for another part than its own: credits, and the arguments of a strict call
 abbrev pub is_credit : Part → Bool
@@ -192,7 +192,7 @@ module _ (stage : ℕ) (fl : Flow) (p : Plan) (w : Wires) (inputs : List ℤ) (p
       where
         second : Waiting i ⊎ Contains (flat_map (takes fl) done) i → Waiting i ⊎ ((h : Firing) × Contains done h × Contains (takes fl h) i)
         second (inl d) = inl d
-        second (inr d) = inr (flat_back (takes fl) done i d)
+        second (inr d) = inr (contains_flat_mapped (takes fl) done i d)
 
         first : Contains kept.follows.net.pending i ⊎ Contains (kept.follows.net.waiting ++ flat_map (takes fl) done) i → Waiting i ⊎ ((h : Firing) × Contains done h × Contains (takes fl h) i)
         first (inl d) = absurd (contains_none i (subst (λ (l : List Item). Contains l i) rests_net d))

@@ -3,6 +3,8 @@ use Rattle.std.proofs.Common.{◌≡◌, refl, sym, ap, ◌∙◌, subst, ℕ, z
 use Rattle.std.specs.Prelude.{slice_get, slice_index_or}
 use Rattle.std.proofs.lemmas.List.Elements.{Contains-append_left}
 use Rattle.std.proofs.lemmas.List.Sorted.{Contains-permutation, IsPermutation-trans}
+use Rattle.lemmas.proofs.Alls.{all_at}
+use Rattle.lemmas.proofs.Contains.{get_contains, contains_mapped}
 use Rattle.tags.specs.declared.token.Port.TheVariants.{Left}
 use Rattle.tags.specs.declared.token.Cont.{Cont}
 use Rattle.tags.specs.declared.token.Word.{Word}
@@ -24,9 +26,7 @@ use Rattle.semantics.specs.Unfolded.{HasSlot}
 use Rattle.semantics.specs.Wired.{IsWired}
 use Rattle.semantics.specs.Holders.{Holder, holder_of, holder_at}
 use Rattle.semantics.specs.Credits.{IsPart, IsLink, IsLoop, granted, released}
-use Rattle.law_determinacy.proofs.Resolved.{all_get}
 use Rattle.law_reuse.specs.Bounds.{OnlyAsks, PlanKeepsBound, PlanKeepsBounds, BoundsAreKept, CodeUsesAgain}
-use Rattle.law_reuse.proofs.Members.{contains_mapped}
 use Rattle.law_reuse.proofs.Stands.{some_same, Stands, stands_at}
 use Rattle.law_reuse.proofs.Turns.{is_counting}
 use Rattle.law_reuse.proofs.PlacedCode.{moved_to, Located, Nowhere, There, located}
@@ -38,7 +38,6 @@ use Rattle.law_reuse.proofs.Frames.{asking, waits, so_start, so_after, FreesOnce
 use Rattle.law_reuse.proofs.Fillings.{at_port, EmptyOr, Opened, opened_from}
 use Rattle.law_reuse.proofs.UsedArcs.{Ports, one_frame}
 use Rattle.law_reuse.proofs.History.{taken, ports_of}
-use Rattle.law_reuse.proofs.Invocation.{contains_got}
 use Rattle.law_reuse.proofs.OnceRuns.{IdleOr, Own, own_so_after, own_counted, own_run, orderly_here}
 use Rattle.law_reuse.proofs.UnfoldedRuns.{frees_shared, release_shared}
 use Rattle.law_reuse.proofs.Tenures.{TenureRun, tenure_run}
@@ -77,7 +76,7 @@ module _ (p : Plan) (slots : List (List ℕ)) (wired : IsWired p) (good : Good p
           let slot : slot_of i i.op ≡ Some i.slot = ap (slot_of i) is_op ∙ has i in
           let stands : Stands p.program b n i = record { code = c; block = at_block; instr = at_instr } in
           let mine : holder_at p ip ≡ Some record { block = b; number = i.slot } = ap (holder_at p) place ∙ holder_here p b n i stands ∙ ap (holder_of b) slot in
-          let below = (all_get IsPlanBlock p.program.blocks b c wired.plan.blocks at_block).below i i.slot (contains_got c.instrs n i at_instr) slot in
+          let below = (all_at IsPlanBlock p.program.blocks b c wired.plan.blocks at_block).below i i.slot (get_contains c.instrs n i at_instr) slot in
           let long = (good.blocks b c ss at_block at_slots).all in
           let at_s : slice_index_or ss i.slot 0 ≡ s = sym (ap (placed_slot ss) slot) ∙ ap (λ (i : Instr). i.slot) same ∙ P.uses in
           let got : slice_get ss i.slot ≡ Some s = get_index ss i.slot (omega (arith, below, long)) ∙ ap Some at_s in

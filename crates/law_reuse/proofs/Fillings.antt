@@ -5,6 +5,7 @@ use Rattle.std.specs.Prelude.{count_by}
 use Rattle.std.proofs.lemmas.Bool.{cases_eq, and_from}
 use Rattle.std.proofs.lemmas.List.Sums.{sum_by-append, sum_by-cons}
 use Rattle.std.proofs.lemmas.List.Elements.{Contains-append_left, Contains-push}
+use Rattle.lemmas.proofs.Contains.{contains_cases, contains_none}
 use Rattle.tags.specs.declared.token.Port.{Port}
 use Rattle.tags.specs.declared.token.Port.TheVariants.{Left, Right}
 use Rattle.tags.specs.declared.token.Word.{Word}
@@ -22,7 +23,6 @@ use Rattle.semantics.specs.Wired.{is_dyadic}
 use Rattle.law_reuse.proofs.Fold.{put_same, put_other}
 use Rattle.law_reuse.proofs.Stands.{Stands, stands_at}
 use Rattle.law_reuse.proofs.Turns.{is_counting, Turn, waits_left, waits_right, meets_right, meets_left, lone, begins, counts, turn_of}
-use Rattle.law_reuse.proofs.Members.{contains_cases, contains_none}
 
 -- ---- TOKENS AT PORTS
 

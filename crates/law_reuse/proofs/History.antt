@@ -3,6 +3,7 @@ use Rattle.std.proofs.Common.{◌≡◌, refl, sym, ap, ◌∙◌, subst, ℕ, �
 use Rattle.std.specs.Prelude.{slice_get}
 use Rattle.std.proofs.lemmas.List.Elements.{Contains-push_cases}
 use Rattle.std.proofs.lemmas.List.Sorted.{Contains-permutation, IsPermutation-sym}
+use Rattle.lemmas.proofs.Contains.{contains_head, contains_none}
 use Rattle.tags.specs.declared.token.Port.{Port}
 use Rattle.tags.specs.declared.token.Word.{Word}
 use Rattle.tags.specs.declared.token.To.{To}
@@ -23,7 +24,6 @@ use Rattle.law_reuse.proofs.Stands.{some_same, Stands, stands_at, Found, found}
 use Rattle.law_reuse.proofs.Fillings.{at_port, Filled, EmptyOr, filled_more, Move, move_of, filled_after}
 use Rattle.law_reuse.proofs.UsedArcs.{arc_stands, Ports, used_same}
 use Rattle.law_reuse.proofs.Firings.{CausedBy, caused_next, caused_by}
-use Rattle.law_reuse.proofs.Members.{contains_head, contains_none}
 
 -- the tokens that the events took
 abbrev pub taken : Events → List Token

@@ -4,6 +4,7 @@ use Rattle.std.specs.Prelude.{slice_get, if◌then◌else◌, ◌==◌}
 use Rattle.std.proofs.lemmas.Bool.{cases_eq, and_parts, and_from, eqb-true, eq-eqb}
 use Rattle.std.proofs.lemmas.List.Elements.{Contains-append_left, Contains-append_right, Contains-push}
 use Rattle.std.proofs.lemmas.List.Sorted.{Contains-permutation, IsPermutation-refl, IsPermutation-sym, IsPermutation-trans}
+use Rattle.lemmas.proofs.Contains.{contains_head}
 use Rattle.tags.specs.declared.token.Port.{Port}
 use Rattle.tags.specs.declared.token.Port.TheVariants.{Left}
 use Rattle.tags.specs.declared.token.Cont.{Cont}
@@ -38,7 +39,6 @@ use Rattle.semantics.specs.Holders.{Holder, same_holder, holder_of, holder_at, h
 use Rattle.law_reuse.proofs.Claims.{index_got, holder_here, Claim, ClaimOr, claim_later, claim_slot, claim_same, slot_there, slot_is}
 use Rattle.law_reuse.proofs.History.{taken, Kept, ports_of, kept_next, kept_start}
 use Rattle.law_reuse.proofs.Invocation.{alone_here}
-use Rattle.law_reuse.proofs.Members.{contains_head}
 
 -- ---- THE TWO STATES
 

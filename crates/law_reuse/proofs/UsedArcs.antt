@@ -2,6 +2,7 @@
 use Rattle.std.proofs.Common.{◌≡◌, refl, sym, ap, ◌∙◌, subst, ℕ, zero, suc, ◌+◌, ◌≤◌, ◌⊎◌, inl, inr, Bool, true, false, not, true≢false, List, [], ◌∷◌, ◌++◌, Option, Some, Contains, arith}
 use Rattle.std.specs.Prelude.{count_by, slice_get, flat_map}
 use Rattle.std.proofs.lemmas.List.Elements.{Contains-append_left, Contains-append_right, Contains-append_cases}
+use Rattle.lemmas.proofs.Contains.{contains_cases, contains_mapped, contains_none}
 use Rattle.operators.specs.Values.{truth}
 use Rattle.tags.specs.declared.value.Value.{Value}
 use Rattle.tags.specs.declared.token.Port.{Port}
@@ -23,7 +24,6 @@ use Rattle.semantics.specs.Wired.{is_dyadic}
 use Rattle.law_reuse.proofs.Stands.{Stands, stands_at, stands_block}
 use Rattle.law_reuse.proofs.Turns.{is_counting, is_later, Turn, waits_left, waits_right, meets_right, meets_left, lone, begins, counts}
 use Rattle.law_reuse.proofs.Fillings.{at_port, Came, later_on, came_twice, none_some}
-use Rattle.law_reuse.proofs.Members.{contains_cases, contains_none, contains_mapped}
 
 -- ---- ARCS
 

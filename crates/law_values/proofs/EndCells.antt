@@ -7,10 +7,10 @@ use Rattle.semantics.specs.Meaning.{Context, AtNode, Operand, Tagged, tagged, St
 use Rattle.lemmas.proofs.Permutations.{Within, Spread, each_from, spread_append, each_within, within_append, within_right, within_flat_map, within_from, within_to, put_first, put_later, get_within}
 use Rattle.law_determinacy.proofs.Keys.{Unique, Differ}
 use Rattle.lemmas.proofs.Permutations.{spread_append_back}
+use Rattle.lemmas.proofs.Contains.{contains_get}
 use Rattle.law_determinacy.proofs.Deeds.{full_of, empty_of}
 use Rattle.law_determinacy.proofs.Diamond.{deed_of}
 use Rattle.law_determinacy.proofs.Options.{some_same}
-use Rattle.law_determinacy.proofs.Resolved.{contains_get}
 use Rattle.law_determinacy.proofs.Runs.{run_cells, step_cells, activity_once}
 use Rattle.law_determinacy.proofs.Shapes.{storing}
 use Rattle.law_values.specs.Given.{Stored, stored_by, stores_of}

@@ -10,6 +10,7 @@ use Rattle.semantics.specs.Graph.{Node, Block, node_at, node_count}
 use Rattle.semantics.specs.Meaning.{Context, Main, Called, Turned, Statement, AtNode, AtOut, AtTurn, Port, Operand, Predicate, Flag, Carried, Tagged, tagged, Activity, Fires, Gates, Passes, Returns, Turns, Outputs, taken, Deed, Says, Puts, Sends, Enters, passed, block_of, callee, arm_of, IsLoop}
 use Rattle.law_determinacy.specs.Outcome.{SameTag}
 use Rattle.lemmas.proofs.Permutations.{Within, Each, each_within, spread_append_back, within_right, within_flat_map, put_first, put_later}
+use Rattle.lemmas.proofs.SliceGet.{get_some}
 use Rattle.law_determinacy.proofs.Keys.{Differ}
 use Rattle.law_determinacy.proofs.Due.{ever_stood}
 use Rattle.law_determinacy.proofs.Grounds.{get_below, class_line}
@@ -25,7 +26,6 @@ use Rattle.law_values.proofs.RunOrigins.{Used, Entering, Told, origin, source_fo
 use Rattle.law_values.proofs.RunRegions.{block_shaped, arm_region, taken_in, arm_taken, round_at}
 use Rattle.law_values.proofs.ProgressNodes.{IsTogether, operands, operands_stand, line_fired, input_fires, passes_line}
 use Rattle.law_values.proofs.ProgressInvocations.{AllGiven, result_given, all_given, predicate_came, gate_happens, invoked_block}
-use Rattle.law_values.proofs.GraphForms.{get_some}
 use Rattle.law_values.proofs.ProgressDues.{due_open, sources_given, line_in}
 use Rattle.law_values.proofs.ValuesSilent.{operand_taken}
 

@@ -1,5 +1,5 @@
 -- What a well-formed graph's flow has, by kind of node: sources are earlier and have ports, regions nest, results lie in the root.
-use Rattle.std.proofs.Common.{◌≡◌, ℕ, zero, suc, ◌+◌, ◌-◌, ◌<◌, ◌≤◌, Bool, true, false, List, [], ◌∷◌, length, Option, Some, None, nat_lt, if◌then◌else◌, refl, ap, arith, ltb-false}
+use Rattle.std.proofs.Common.{◌≡◌, ℕ, ◌+◌, ◌-◌, ◌<◌, ◌≤◌, Bool, true, false, List, [], ◌∷◌, length, Option, Some, None, nat_lt, if◌then◌else◌, refl, ap, arith, ltb-false}
 use Rattle.std.specs.Prelude.{slice_get}
 use Rattle.semantics.specs.declared.graph.Region.{Region}
 use Rattle.semantics.specs.declared.graph.Region.TheVariants.{Root, Arm}
@@ -55,11 +55,6 @@ abbrev pub IsShaped : Flow → Type 0
 IsShaped fl = (i : ℕ) (b : Block ℕ) → slice_get fl.blocks i ≡ Some b → IsBlock fl b
 
 -- LINES
-
-pub get_some : {X : Type 0} (xs : List X) (i : ℕ) → i < length xs → (x : X) × (slice_get xs i ≡ Some x)
-get_some [] i h = absurd (omega arith)
-get_some (x ∷ xs) zero h = (x, refl)
-get_some (x ∷ xs) (suc i) h = get_some xs i (omega arith)
 
 -- a node line comes after the inputs
 pub line_past : {N : Type 0} (b : Block N) (n : ℕ) (line : Node N) → node_at b n ≡ Some line → (b.inputs ≤ n) × (slice_get b.nodes (n - b.inputs) ≡ Some line)

@@ -10,8 +10,8 @@ use Rattle.semantics.specs.declared.graph.Kind.TheVariants.{Enter}
 use Rattle.semantics.specs.Graph.{Node, Block, Flow, node_at}
 use Rattle.semantics.specs.Meaning.{Context, Main, Called, Turned, Statement, AtNode, AtOut, AtTurn, Operand, Predicate, Flag, Carried, Tagged, tagged, Activity, Deed, Message, Sends, Tells, deed, tokens_of, positions, uses_at, uses_in, result_uses, turns_from, sent_in, block_of, entering, is_enter_of, predicates_from, predicates_in, operands_from}
 use Rattle.lemmas.proofs.Permutations.{Within, Each, put_first, put_later, within_map, within_flat_map, within_left, within_right, within_from, within_to, each_from, each_append, each_map, each_flat_map}
+use Rattle.lemmas.proofs.Contains.{contains_get}
 use Rattle.law_determinacy.proofs.Uses.{IsSource, Use, IsTurned, flags_sent}
-use Rattle.law_determinacy.proofs.Resolved.{contains_get}
 use Rattle.law_values.specs.Given.{SaysIn}
 use Rattle.law_values.proofs.RunRested.{Rested, Came, GivesIn}
 use Rattle.law_values.proofs.RunSaid.{said_stood}

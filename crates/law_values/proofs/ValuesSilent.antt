@@ -8,6 +8,7 @@ use Rattle.semantics.specs.declared.graph.Kind.TheVariants.{Lit, Apply1, Apply2,
 use Rattle.semantics.specs.Graph.{Node, Block, Flow, node_at}
 use Rattle.semantics.specs.Meaning.{Context, Called, Turned, AtNode, Operand, tagged, Fires, Gates, Passes, Returns, taken, block_of, node_of, arm_of, callee}
 use Rattle.lemmas.proofs.Permutations.{Within}
+use Rattle.lemmas.proofs.SliceGet.{get_some}
 use Rattle.law_determinacy.proofs.Grounds.{own_arm, get_below, node_class}
 use Rattle.law_determinacy.proofs.Laws.{ArmLaw}
 use Rattle.law_determinacy.proofs.Options.{some_same}
@@ -20,7 +21,6 @@ use Rattle.law_values.proofs.RunUses.{operand_came}
 use Rattle.law_values.proofs.RunOrigins.{HasSomeIn, ResultIn, took_all, result_from, has_some, argument_is}
 use Rattle.law_values.proofs.RunRegions.{TakenIn, block_shaped, taken_in, in_taken, lawful_taken}
 use Rattle.law_values.proofs.ProgressInvocations.{invoked_block, merge_form}
-use Rattle.law_values.proofs.GraphForms.{get_some}
 use Rattle.law_values.proofs.ProgressDues.{due_open, sources_given, line_in}
 use Rattle.law_values.proofs.ValuesGivers.{Gave, gave, in_turns, merge_side, class_found, joined_line}
 

@@ -3,6 +3,7 @@ use Rattle.std.proofs.Common.{◌≡◌, ℕ, zero, suc, ◌+◌, ◌<◌, ◌�
 use Rattle.std.specs.Prelude.{slice_get}
 use Rattle.std.proofs.lemmas.Bool.{eqb-true}
 use Rattle.std.proofs.lemmas.Option.{slice_get_within}
+use Rattle.lemmas.proofs.Alls.{all_at}
 use Rattle.semantics.specs.declared.program.Dest.{Dest}
 use Rattle.semantics.specs.declared.program.Mark.{Mark}
 use Rattle.semantics.specs.Graph.{Block, Flow, Graph, flow_of}
@@ -11,7 +12,6 @@ use Rattle.semantics.specs.WellFormed.{WellFormed}
 use Rattle.semantics.specs.Cause.{is_looped}
 use Rattle.semantics.specs.Program.{Instr, CodeBlock}
 use Rattle.semantics.specs.Plan.{OneHolder}
-use Rattle.law_determinacy.proofs.Resolved.{all_get}
 use Rattle.code.specs.Sound.{DestsAreSound}
 use Rattle.expansion.specs.Variants.{variants_of, next_variant, some_block_loops}
 use Rattle.expansion.specs.Blocks.{Coded, plain_build, variant_build, finished}
@@ -163,7 +163,7 @@ module _ (g : Graph) (text : HasText g) (well : WellFormed g) (own : ℕ) (c : C
       (x.later, x.inside)
 
   code_exact : AreExact c
-  code_exact = all_get AreExact (expanded (flow_of g)).program.blocks own c (plans_are_exact g well) coded
+  code_exact = all_at AreExact (expanded (flow_of g)).program.blocks own c (plans_are_exact g well) coded
 
   code_holds : OneHolder c
   code_holds = (plans_hold_rightly (flow_of g) own c coded).holders

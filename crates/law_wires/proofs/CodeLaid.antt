@@ -2,6 +2,8 @@
 use Rattle.std.proofs.Common.{◌≡◌, ℕ, zero, suc, ◌+◌, ◌-◌, ◌<◌, ◌≤◌, ◌⊎◌, inl, inr, Bool, true, false, not, ◌&&◌, ◌||◌, List, [], ◌∷◌, ◌++◌, map, length, refl, sym, ap, ◌∙◌, subst, arith, append_assoc, if◌then◌else◌, Some, None, Option, Contains, nat_lt}
 use Rattle.std.specs.Prelude.{slice_get, count_by}
 use Rattle.lemmas.proofs.Permutations.{permutation_same}
+use Rattle.lemmas.proofs.Contains.{contains_cases, contains_none}
+use Rattle.lemmas.proofs.SliceGet.{get_some}
 use Rattle.semantics.specs.declared.graph.Region.TheVariants.{Root}
 use Rattle.semantics.specs.declared.program.Mark.{Mark}
 use Rattle.semantics.specs.declared.graph.Kind.{Kind}
@@ -13,7 +15,7 @@ use Rattle.semantics.specs.Rule.{slot_of}
 use Rattle.law_net.specs.Roles.{one}
 use Rattle.expansion.specs.Builds.{mark_of}
 use Rattle.expansion.specs.Expanded.{expanded}
-use Rattle.law_expansion.proofs.ArcsLists.{get_within, get_some, length_push}
+use Rattle.law_expansion.proofs.ArcsLists.{get_within, length_push}
 use Rattle.law_contexts.specs.Parts as Parts
 use Rattle.law_contexts.specs.Parts.{Part, Entry, Line, Answer, Trigger, Opener, Sender, Landing, CallDone, Giver, Taker, Drainer, LoopDone, Strict, Result, CondEnd, Inlet, same_part}
 use Rattle.law_contexts.specs.Blocks as Blocks
@@ -34,7 +36,7 @@ use Rattle.law_wires.proofs.Credits.{slots_meet, no_open, behind_opener}
 use Rattle.law_expansion.proofs.FactsHolders.{is_later}
 use Rattle.law_wires.proofs.Once.{answer_tally, trigger_tally, once, there_is}
 use Rattle.law_wires.proofs.Agree.{parts_agree}
-use Rattle.law_wires.proofs.Places.{at_place, stand_get, dests_forward, dests_land, contains_none, contains_cases}
+use Rattle.law_wires.proofs.Places.{at_place, stand_get, dests_forward, dests_land}
 use Rattle.law_wires.proofs.CodeFacts.{IsCodeOf, plain_no_turns, plain_facts, turn_facts}
 use Rattle.law_wires.proofs.Fits.{blocks_fit}
 use Rattle.law_wires.proofs.Turns.{turns_well}

@@ -4,6 +4,9 @@ use Rattle.std.specs.Prelude.{slice_get, slice_set, slice_index_or, replicate}
 use Rattle.std.proofs.lemmas.Bool.{cases_lt}
 use Rattle.std.proofs.lemmas.List.{get_or-set_same, get_or-set_other, length-set}
 use Rattle.std.proofs.lemmas.List.Elements.{All-weaker, All-contains}
+use Rattle.lemmas.proofs.Alls.{all_at}
+use Rattle.lemmas.proofs.Contains.{contains_get}
+use Rattle.lemmas.proofs.SliceGet.{map_get, map_get_back}
 use Rattle.semantics.specs.declared.graph.Region.{Region}
 use Rattle.semantics.specs.declared.graph.Region.TheVariants.{Root, Arm}
 use Rattle.semantics.specs.declared.graph.Source.{Source}
@@ -12,22 +15,12 @@ use Rattle.semantics.specs.declared.graph.Kind.TheVariants.{Lit, Apply1, Apply2,
 use Rattle.semantics.specs.Graph.{Graph, Flow, Block, Node, node_at, node_count, place_of, resolved_kind, array_names, block_names, flow_of}
 use Rattle.semantics.specs.WellFormed.{WellFormed, IsBlockWell, IsNodeWell, NamesWell, HasShape, LiesWell, IsRegion, IsCond, IsCondNode, IsEarlier, HasPortOf, HasPortIn, region_in, region_of, arm_outside, AllLieIn}
 use Rattle.semantics.specs.Meaning.{arm_of}
-use Rattle.law_determinacy.proofs.Resolved.{all_get, contains_get, place_get, block_in, node_in, node_back}
+use Rattle.law_determinacy.proofs.Resolved.{place_get, block_in, node_in, node_back}
 use Rattle.expansion.specs.Triggers as Triggers
 use Rattle.expansion.specs.Triggers.{takes_trigger}
 use Rattle.law_contexts.specs.Blocks.{is_kind, cond_kind, call_kind, loop_kind, lies_in, outside, outputs_in}
 use Rattle.law_wires.specs.Written.{is_triggered}
 use Rattle.law_wires.specs.Fit.{IsCallee, Takes, kind_ports, ComesBefore, LiesIn, Merges, Lies, IsLineFit, IsFit, BlocksFit}
-
-get_map_back : {X Y : Type 0} (f : X → Y) (xs : List X) (i : ℕ) (y : Y) → slice_get (map f xs) i ≡ Some y → (x : X) × (slice_get xs i ≡ Some x) × (f x ≡ y)
-get_map_back f [] i y e = absurd (cc)
-get_map_back f (x ∷ xs) zero y e = (x, refl, cc)
-get_map_back f (x ∷ xs) (suc i) y e = get_map_back f xs i y e
-
-get_map : {X Y : Type 0} (f : X → Y) (xs : List X) (i : ℕ) (x : X) → slice_get xs i ≡ Some x → slice_get (map f xs) i ≡ Some (f x)
-get_map f [] i x e = absurd (cc)
-get_map f (y ∷ xs) zero x e = cc
-get_map f (y ∷ xs) (suc i) x e = get_map f xs i x e
 
 -- TRIGGERS are set once and for all
 region_length : (ts : List Bool) (r : Region) → length (Triggers.with_region ts r) ≡ length ts
@@ -112,9 +105,9 @@ module _ (g : Graph) (well : WellFormed g) where
   named_block : (name : List ℕ) (c : Block (List ℕ)) → Contains g.blocks (name, c) → slice_get (flow_of g).blocks (place_of name (block_names g)) ≡ Some (block_in g c)
   named_block name c h =
       let k = contains_get g.blocks (name, c) h in
-      let at = get_map (λ (x : List ℕ × Block (List ℕ)). x.0) g.blocks k.0 (name, c) k.1 in
+      let at = map_get (λ (x : List ℕ × Block (List ℕ)). x.0) g.blocks k.0 (name, c) k.1 in
       let same = well.blocks_differ k.0 (place_of name (block_names g)) name at (place_get name (block_names g) k.0 at) in
-      subst (λ i. slice_get (flow_of g).blocks i ≡ Some (block_in g c)) same (get_map (λ (x : List ℕ × Block (List ℕ)). block_in g x.1) g.blocks k.0 (name, c) k.1)
+      subst (λ i. slice_get (flow_of g).blocks i ≡ Some (block_in g c)) same (map_get (λ (x : List ℕ × Block (List ℕ)). block_in g x.1) g.blocks k.0 (name, c) k.1)
 
   named_outputs : (name : List ℕ) (c : Block (List ℕ)) → Contains g.blocks (name, c) → outputs_in (slice_get (flow_of g).blocks (place_of name (block_names g))) ≡ c.outputs
   named_outputs name c h = ap outputs_in (named_block name c h)
@@ -271,6 +264,6 @@ module _ (g : Graph) (well : WellFormed g) where
 
 pub blocks_fit : BlocksFit
 blocks_fit g well i b e =
-    let named = get_map_back (λ (x : List ℕ × Block (List ℕ)). block_in g x.1) g.blocks i b e in
-    let good : IsBlockWell g named.0.1 = all_get (λ (x : List ℕ × Block (List ℕ)). IsBlockWell g x.1) g.blocks i named.0 well.blocks named.1 in
+    let named = map_get_back (λ (x : List ℕ × Block (List ℕ)). block_in g x.1) g.blocks i b e in
+    let good : IsBlockWell g named.0.1 = all_at (λ (x : List ℕ × Block (List ℕ)). IsBlockWell g x.1) g.blocks i named.0 well.blocks named.1 in
     subst (IsFit (flow_of g)) named.2 (block_fit g well named.0.1 good)

@@ -2,6 +2,7 @@
 use Rattle.std.proofs.Common.{◌≡◌, ◌≢◌, ℕ, ◌+◌, ◌<◌, ◌⊎◌, inl, inr, Bool, true, false, ◌&&◌, List, [], ◌∷◌, ◌++◌, refl, sym, ap, ◌∙◌, subst, arith, if◌then◌else◌, ◌==◌, Contains}
 use Rattle.std.specs.Prelude.{⊤}
 use Rattle.std.proofs.lemmas.Bool.{eqb-true}
+use Rattle.lemmas.proofs.Contains.{contains_cases, contains_head, contains_tail, contains_none}
 use Rattle.tags.specs.declared.token.Port.{Port}
 use Rattle.semantics.specs.declared.graph.Region.{Region}
 use Rattle.semantics.specs.declared.graph.Region.TheVariants.{Root, Arm}
@@ -16,7 +17,6 @@ use Rattle.law_wires.proofs.Same.{same_is, side_is}
 use Rattle.law_wires.proofs.Counts.{tally}
 use Rattle.law_wires.proofs.Laid.{same_part_self}
 use Rattle.law_wires.proofs.There.{region_self}
-use Rattle.law_wires.proofs.Places.{contains_first, contains_later, contains_none, contains_cases}
 
 -- SAMENESS
 bool_self : (s : Bool) → same_bool s s ≡ true
@@ -314,11 +314,11 @@ contains_along b v [] h = absurd h
 contains_along b v (w ∷ ws) (inl e) =
     let same : same_side v.from w.from ≡ true = ap (λ (u : Wire). same_side v.from u.from) e ∙ side_self v.from in
     subst (λ q. Contains (if q then inlet_of b w ∷ along b v.from ws else along b v.from ws) (inlet_of b v)) (sym same)
-    (subst (λ x. Contains (inlet_of b w ∷ along b v.from ws) x) (ap (inlet_of b) e) (contains_first (inlet_of b w) (along b v.from ws)))
+    (subst (λ x. Contains (inlet_of b w ∷ along b v.from ws) x) (ap (inlet_of b) e) (contains_head (inlet_of b w) (along b v.from ws)))
 contains_along b v (w ∷ ws) (inr h) = go (same_side v.from w.from) (contains_along b v ws h)
   where
     go : (q : Bool) → Contains (along b v.from ws) (inlet_of b v) → Contains (if q then inlet_of b w ∷ along b v.from ws else along b v.from ws) (inlet_of b v)
-    go true c = contains_later (inlet_of b w) (along b v.from ws) (inlet_of b v) c
+    go true c = contains_tail (inlet_of b w) (along b v.from ws) (inlet_of b v) c
     go false c = c
 
 -- who is used sends along some wire
@@ -327,5 +327,5 @@ used_along b t [] h = absurd (cc)
 used_along b t (w ∷ ws) h = go (same_side t w.from) h (used_along b t ws)
   where
     go : (s : Bool) → (if s then false else is_open t ws) ≡ false → (Used t ws → (x : Inlet) × Contains (along b t ws) x) → (x : Inlet) × Contains (if s then inlet_of b w ∷ along b t ws else along b t ws) x
-    go true h more = (inlet_of b w, contains_first (inlet_of b w) (along b t ws))
+    go true h more = (inlet_of b w, contains_head (inlet_of b w) (along b t ws))
     go false h more = more h

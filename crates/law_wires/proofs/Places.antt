@@ -1,7 +1,7 @@
 -- Where the parts of a list stand, and the wires of a side read off its destinations.
 use Rattle.std.proofs.Common.{◌≡◌, ℕ, zero, suc, ◌+◌, ◌-◌, ◌<◌, ◌≤◌, ◌⊎◌, inl, inr, Bool, true, false, List, [], ◌∷◌, map, length, refl, sym, ap, ◌∙◌, arith, if◌then◌else◌, Some, Contains}
 use Rattle.std.specs.Prelude.{slice_get, slice_index_or, ⊤}
-use Rattle.std.proofs.lemmas.List.Elements.{Contains-append_left, Contains-append_right, Contains-push, Contains-push_cases, Contains-append_cases}
+use Rattle.lemmas.proofs.Contains.{contains_cases, contains_head, contains_tail, contains_none}
 use Rattle.semantics.specs.declared.graph.Region.{Region}
 use Rattle.semantics.specs.declared.program.Dest.{Dest}
 use Rattle.semantics.specs.Graph.{Block}
@@ -66,29 +66,9 @@ abbrev pub AllDests : ℕ → ℕ → List Dest → Type 0
 AllDests size n [] = ⊤
 AllDests size n (d ∷ ds) = (0 < d.ahead) × (n + d.ahead < size) × AllDests size n ds
 
-pub contains_first : {X : Type 0} (x : X) (xs : List X) → Contains (x ∷ xs) x
-contains_first x xs = Contains-append_left (x ∷ []) xs x (Contains-push [] x)
-
-pub contains_later : {X : Type 0} (y : X) (xs : List X) (x : X) → Contains xs x → Contains (y ∷ xs) x
-contains_later y xs x h = Contains-append_right (y ∷ []) xs x h
-
-pub contains_none : {X : Type 0} (x : X) → Contains [] x → ⊥
-contains_none x h = let l = h.1 in omega (arith, l)
-
-pub contains_cases : {X : Type 0} (y : X) (xs : List X) (x : X) → Contains (y ∷ xs) x → (y ≡ x) ⊎ Contains xs x
-contains_cases {X} y xs x h = go (Contains-append_cases (y ∷ []) xs x h)
-  where
-    single : Contains [] x ⊎ (y ≡ x) → (y ≡ x) ⊎ Contains xs x
-    single (inl c) = absurd (contains_none x c)
-    single (inr e) = inl e
-
-    go : Contains (y ∷ []) x ⊎ Contains xs x → (y ≡ x) ⊎ Contains xs x
-    go (inl c) = single (Contains-push_cases [] y x c)
-    go (inr c) = inr c
-
 pub all_dests : (size n : ℕ) (ds : List Dest) → ((d : Dest) → Contains ds d → (0 < d.ahead) × (n + d.ahead < size)) → AllDests size n ds
 all_dests size n [] h = tt
-all_dests size n (d ∷ ds) h = let x = h d (contains_first d ds) in (x.0, x.1, all_dests size n ds (λ y c. h y (contains_later d ds y c)))
+all_dests size n (d ∷ ds) h = let x = h d (contains_head d ds) in (x.0, x.1, all_dests size n ds (λ y c. h y (contains_tail d ds y c)))
 
 module _ (P : List Part) (placed : Stand (λ r. place_from r 0 P) 0 P) where
   abbrev place : Part → ℕ

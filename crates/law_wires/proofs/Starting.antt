@@ -1,6 +1,7 @@
 -- What starts a call, a loop or the next turn: a call that is not strict, and a loop, wait for nothing but the entry or the trigger of their
 -- arm, and a turn asks for a credit behind its flag. All arguments are sent before a result comes.
 use Rattle.std.proofs.Common.{◌≡◌, ◌≢◌, ℕ, ◌+◌, ◌<◌, ◌⊎◌, inl, inr, Bool, true, false, ◌&&◌, List, [], ◌∷◌, ◌++◌, length, refl, sym, ap, ◌∙◌, subst, arith, Contains, ◌==◌}
+use Rattle.lemmas.proofs.Contains.{contains_cases, contains_none}
 use Rattle.tags.specs.declared.token.Port.{Port}
 use Rattle.tags.specs.declared.token.Port.TheVariants.{Left, Right}
 use Rattle.semantics.specs.declared.graph.Region.{Region}
@@ -22,7 +23,6 @@ use Rattle.law_wires.proofs.Laid.{same_part_self}
 use Rattle.law_wires.proofs.Members.{InW, wire_right, side_self}
 use Rattle.law_wires.proofs.Nodes.{node_some, kind_at}
 use Rattle.law_wires.proofs.NodeWires.{node_in_block, tail_in_block}
-use Rattle.law_wires.proofs.Places.{contains_none, contains_cases}
 use Rattle.law_wires.proofs.FedEnds.{TurnsWell}
 use Rattle.law_wires.proofs.Fed.{are_fed}
 use Rattle.law_wires.proofs.Waits.{wire_there, wire_leads}

@@ -3,13 +3,13 @@
 use Rattle.std.proofs.Common.{◌≡◌, ◌≢◌, ℕ, zero, suc, ◌+◌, ◌<◌, ◌≤◌, ◌⊎◌, inl, inr, Bool, true, false, ◌==◌, List, [], ◌∷◌, ◌++◌, length, refl, sym, ap, ◌∙◌, subst, arith, if◌then◌else◌, Some, None, Contains}
 use Rattle.std.specs.Prelude.{slice_get}
 use Rattle.std.proofs.lemmas.Bool.{eqb-true, cases_lt}
+use Rattle.lemmas.proofs.SliceGet.{get_some}
 use Rattle.tags.specs.declared.token.Port.TheVariants.{Left, Right}
 use Rattle.semantics.specs.declared.graph.Region.{Region}
 use Rattle.semantics.specs.declared.graph.Source.{Source}
 use Rattle.semantics.specs.declared.graph.Kind.{Kind}
 use Rattle.semantics.specs.declared.graph.Kind.TheVariants.{StrictCall}
 use Rattle.semantics.specs.Graph.{Node, Flow, node_at}
-use Rattle.law_expansion.proofs.ArcsLists.{get_some}
 use Rattle.law_contexts.specs.Parts.{Framer, Sender, Strict, Inlet, inlet}
 use Rattle.law_contexts.specs.Blocks.{Side, side, Site, Wiring, there_in, is_strict, strict_kind, source_count}
 use Rattle.law_contexts.specs.Wires.{wait_after, wait_for, WaitsForAll}

@@ -1,1 +1,4 @@
 pub mod Permutations
+pub mod Alls
+pub mod Contains
+pub mod SliceGet

@@ -5,6 +5,7 @@ use Rattle.std.specs.Int.{w64, cast_signed}
 use Rattle.std.proofs.lemmas.Bool.{lt-ltb}
 use Rattle.std.proofs.lemmas.Int.{to_z-of_z}
 use Rattle.std.proofs.lemmas.Option.{slice_get-get_or}
+use Rattle.lemmas.proofs.Alls.{all_at}
 use Rattle.semantics.specs.Program.{Instr, CodeBlock, Code}
 use Rattle.semantics.specs.Bytes.{number_from, words_of, bytes_of, IsCode}
 use Rattle.semantics.specs.declared.opcode.Opcode.{Opcode}
@@ -18,7 +19,7 @@ use Rattle.object_view.proofs.Numbers.{number_stops, number_goes}
 use Rattle.object_view.proofs.Sound.{not_below, version_told}
 use Rattle.object_view.proofs.BackWords.{object_back}
 use Rattle.object_view.proofs.BackInstr.{HasPlace, IsLooked, word_one, word_two, opcode_told, instr_back}
-use Rattle.object_view.proofs.BackLists.{listed_same, all_at, IsRead, is_read, all_words_fit, block_there, place_there, entry_back}
+use Rattle.object_view.proofs.BackLists.{listed_same, IsRead, is_read, all_words_fit, block_there, place_there, entry_back}
 
 -- LITERALS
 pub number_there : (z : ℤ) (ls : List ℤ) (k : ℕ) → IsAscending ls → k < length ls → get_or ls k z ≡ z → number_from 0 z ls ≡ k

@@ -1,6 +1,7 @@
 -- An activity by numbers of invocations is an activity of the meaning.
 use Rattle.std.proofs.Common.{◌≡◌, ℕ, ◌+◌, ◌-◌, ◌^◌, ◌&&◌, Bool, true, false, List, [], ◌∷◌, length, Option, Some, None, nat_lt, ◌==◌, slice_get, if◌then◌else◌, refl, sym, ap, ◌∙◌, arith, lt-ltb}
 use Rattle.std.specs.Prelude.{option_map}
+use Rattle.lemmas.proofs.Alls.{all_at}
 use Rattle.tags.specs.declared.value.Value.{Value}
 use Rattle.tags.specs.declared.value.Origin.TheVariants.{Untold, At}
 use Rattle.operators.specs.Values.{truth}
@@ -13,7 +14,6 @@ use Rattle.semantics.specs.Text.{HasText, HasBlockText}
 use Rattle.semantics.specs.Meaning.{Context, origin_at, same_side, block_number, block_numbered, block_of, on_block, on_node, fired_in, Activity, deed}
 use Rattle.semantics.specs.Meaning as Meaning
 use Rattle.law_determinacy.proofs.Grounds.{get_below}
-use Rattle.law_determinacy.proofs.Resolved.{all_get}
 use Rattle.oracle.specs.declared.invocations.Made.TheVariants.{Main, Called, Turned}
 use Rattle.oracle.specs.declared.invocations.Invocation.{Invocation}
 use Rattle.oracle.specs.declared.lines.Line.{Line}
@@ -38,7 +38,7 @@ module _ (g : Graph) (text : HasText g) (cs : List Context) (c block : ℕ) (is 
       → origin_of g.version block n ≡ origin_at (flow_of g) (name_in cs c) n
   origin_same b n row eb eh er =
       let few = get_below g.blocks block b eb in
-      let here : HasBlockText g.version b = all_get (HasBlockText g.version) g.blocks block b text.blocks eb in
+      let here : HasBlockText g.version b = all_at (HasBlockText g.version) g.blocks block b text.blocks eb in
       let size = here.size in
       let low = get_below b.1.nodes (n - b.1.inputs) row er in
       let count = text.few_blocks in

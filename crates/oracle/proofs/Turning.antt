@@ -17,9 +17,10 @@ use Rattle.semantics.specs.Meaning.{Context, Statement, AtNode, AtOut, Port, Tag
 use Rattle.semantics.specs.Meaning as Meaning
 use Rattle.law_determinacy.proofs.Options.{some_same}
 use Rattle.lemmas.proofs.Permutations.{Within, within_right}
+use Rattle.lemmas.proofs.Alls.{all_at}
 use Rattle.law_determinacy.proofs.Uses.{IsSource, UseOf, AsOperand, AsResult, AsFlag, AsCarried, Member}
 use Rattle.law_determinacy.proofs.History.{at_start, run_history}
-use Rattle.law_determinacy.proofs.Resolved.{all_get, flow_well, fits}
+use Rattle.law_determinacy.proofs.Resolved.{flow_well, fits}
 use Rattle.oracle.specs.declared.invocations.Made.{Made}
 use Rattle.oracle.specs.declared.invocations.Made.TheVariants.{Main, Called, Turned}
 use Rattle.oracle.specs.declared.invocations.Invocation.{Invocation}
@@ -183,7 +184,7 @@ module _ (g : Graph) (well : WellFormed g) where
         | None ↦ λ q h. cc
         | Some named ↦ λ q h.
             let same : block_in g named ≡ b = some_same (block_in g named) b h in
-            let here : IsBlockWell g named.1 = all_get (λ (named : List ℕ × Block (List ℕ)). IsBlockWell g named.1) g.blocks (main_place g) named well.blocks q in
+            let here : IsBlockWell g named.1 = all_at (λ (named : List ℕ × Block (List ℕ)). IsBlockWell g named.1) g.blocks (main_place g) named well.blocks q in
             ap (λ (b : Block ℕ). length b.results) (sym same) ∙ here.result_count ∙ ap outputs_in (sym q)
       ] in
       cases (slice_get g.blocks (main_place g)) refl (sym (block_same g (main_place g)) ∙ e)

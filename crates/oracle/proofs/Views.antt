@@ -2,6 +2,7 @@
 -- well-formed graph.
 use Rattle.std.proofs.Common.{◌≡◌, ℕ, zero, suc, ◌+◌, ◌-◌, ◌<◌, ◌^◌, Bool, true, false, ◌&&◌, ◌==◌, List, [], ◌∷◌, length, Option, Some, None, nat_lt, slice_get, if◌then◌else◌, refl, sym, ap, ◌∙◌, subst, arith, eqb-true, eq-eqb, lt-ltb}
 use Rattle.std.specs.Prelude.{⊤}
+use Rattle.lemmas.proofs.Alls.{all_at}
 use Rattle.tags.specs.declared.value.Value.{Value}
 use Rattle.tags.specs.declared.value.Origin.{Origin}
 use Rattle.operators.specs.Values.{truth}
@@ -12,7 +13,6 @@ use Rattle.semantics.specs.declared.graph.Kind.TheVariants.{Lit, Apply1, Apply2,
 use Rattle.semantics.specs.Graph.{Node as Row, Block, Graph, node_at}
 use Rattle.semantics.specs.WellFormed.{WellFormed, IsBlockWell, LiesWell}
 use Rattle.law_determinacy.proofs.Options.{some_same}
-use Rattle.law_determinacy.proofs.Resolved.{all_get}
 use Rattle.oracle.specs.declared.invocations.Made.{Made}
 use Rattle.oracle.specs.declared.invocations.Made.TheVariants.{Main, Called, Turned}
 use Rattle.oracle.specs.declared.invocations.Invocation.{Invocation}
@@ -151,7 +151,7 @@ module _ (g : Graph) (well : WellFormed g) (c : ℕ) (x : Invocation) where
   gate_row n arity b eb false et None eo h = cc
   gate_row n arity b eb false et (Some row) eo h =
       let at : node_at b.1 n ≡ Some row = ap (λ (t : Bool). if t then None else slice_get b.1.nodes (n - b.1.inputs)) et ∙ eo in
-      let line = (all_get (λ (named : List ℕ × Block (List ℕ)). IsBlockWell g named.1) g.blocks x.block b well.blocks eb).nodes n row at in
+      let line = (all_at (λ (named : List ℕ × Block (List ℕ)). IsBlockWell g named.1) g.blocks x.block b well.blocks eb).nodes n row at in
       let region : row.region ≡ Root = cc in
       let resolved : resolved_in g row.kind ≡ Enter = cc in
       let lies : LiesWell b.1 n row.region Enter row.sources = subst (λ kind. LiesWell b.1 n row.region kind row.sources) (enter_row row.kind resolved) line.lies in

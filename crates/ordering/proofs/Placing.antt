@@ -3,6 +3,7 @@ use Rattle.std.proofs.Common.{◌≡◌, ◌≢◌, refl, sym, ◌∙◌, ap, su
 use Rattle.std.specs.Prelude.{IsPermutation, slice_get, slice_set, ◌==◌, nat_lt}
 use Rattle.std.proofs.lemmas.Bool.{eqb-true, eqb-false, ltb-true, ltb-false}
 use Rattle.std.proofs.lemmas.List.Sorted.{IsPermutation-sym}
+use Rattle.lemmas.proofs.SliceGet.{get_some}
 use Rattle.tags.specs.declared.token.Token.{Token}
 use Rattle.semantics.specs.Machine.{Events}
 use Rattle.law_free_runs.specs.Blocks.{Block, events_in, blocks_by, entry_of, LeavesTokens, AreBelow}
@@ -36,11 +37,6 @@ set_apart (x ∷ xs) zero zero y ne = absurd (ne refl)
 set_apart (x ∷ xs) zero (suc j) y ne = refl
 set_apart (x ∷ xs) (suc i) zero y ne = refl
 set_apart (x ∷ xs) (suc i) (suc j) y ne = set_apart xs i j y (λ (s : i ≡ j). ne (ap suc s))
-
-pub found : {X : Type 0} (xs : List X) (i : ℕ) → i < length xs → (x : X) × (slice_get xs i ≡ Some x)
-found [] i low = absurd (let no : ⊥ = omega (arith, low) in no)
-found (y ∷ ys) zero low = (y, refl)
-found (y ∷ ys) (suc i) low = let within : i < length ys = omega (arith, low) in found ys i within
 
 pub first_of_dropped : {X : Type 0} (n : ℕ) (xs : List X) → slice_get (drop n xs) 0 ≡ slice_get xs n
 first_of_dropped zero xs = refl
@@ -160,7 +156,7 @@ none_left : (n : ℕ) (left : List Block) (tokens last : Tokens) (amounts : Amou
 none_left n [] tokens last amounts rests count leaves holds below stands stuck = refl
 none_left n (b ∷ later) tokens last amounts rests count leaves holds below stands stuck =
     let low : b.element < n = (all_below n (b ∷ later) below).0 in
-    let here = found rests b.element (omega (arith, low, count)) in
+    let here = get_some rests b.element (omega (arith, low, count)) in
     absurd (stuck_first n b later tokens last amounts here.0 leaves holds (subst (StandsFor here.0) (by_same b later) (stands b.element here.0 here.1)) (stuck b.element here.0 here.1))
 
 pub ends : {A : Type 0} (logs : List (Log A)) (log : List Block) (start last : Tokens) (amounts : Amounts) (rests : List Rest) (events : Events)

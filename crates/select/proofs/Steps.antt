@@ -1,11 +1,12 @@
 -- One more block in the loops over blocks.
-use Rattle.std.proofs.Common.{◌≡◌, ℕ, zero, suc, ◌+◌, ◌<◌, ◌≤◌, ℤ, Option, List, [], ◌∷◌, ◌++◌, length, get_or, drop, refl, ap, sym, ◌∙◌, subst, append_assoc, add-one, arith}
+use Rattle.std.proofs.Common.{◌≡◌, ℕ, suc, ◌+◌, ◌<◌, ◌≤◌, ℤ, Option, List, [], ◌∷◌, ◌++◌, length, get_or, drop, refl, ap, sym, ◌∙◌, subst, append_assoc, add-one, arith}
 use Rattle.std.specs.Prelude.{Some, None, nat_lt, false, slice_get}
 use Rattle.std.proofs.Common.{drop-cons}
 use Rattle.std.specs.Ordering.{int_cmp}
 use Rattle.std.specs.BTreeSet.{insert_key}
 use Rattle.std.proofs.lemmas.Grind.{common_steps}
 use Rattle.std.proofs.lemmas.Option.{slice_get_within, get_or_from_slice_get}
+use Rattle.lemmas.proofs.SliceGet.{get_none}
 use Rattle.semantics.specs.Program.{CodeBlock}
 use Rattle.semantics.specs.Sharing.{placed_instrs}
 use Rattle.semantics.specs.Placed.{needed, placed_blocks}
@@ -71,15 +72,10 @@ blocks_end v n done all slots bs le so_far =
     append_nil [] = refl
     append_nil (x ∷ xs) = ap (λ zs. x ∷ zs) (append_nil xs)
 
-past : (slots : List (List ℕ)) (n : ℕ) → slice_get slots n ≡ None → length slots ≤ n
-past [] n none = omega arith
-past (ss ∷ more) zero none = cc
-past (ss ∷ more) (suc n) none = let h = past more n none in omega arith
-
 pub slots_end : (v n : ℕ) (done all : List CodeBlock) (slots : List (List ℕ)) (bs : List CodeBlock) → slice_get slots n ≡ None
     → done ++ emitted_blocks v (placed_blocks (drop n slots) (drop n bs)) ≡ all → done ≡ all
 slots_end v n done all slots bs none so_far =
-    let le = past slots n none in
+    let le = get_none slots n none in
     let e : drop n slots ≡ [] = grind (arith, common_steps) in
     let f : emitted_blocks v (placed_blocks (drop n slots) (drop n bs)) ≡ [] = ap (λ (ts : List (List ℕ)). emitted_blocks v (placed_blocks ts (drop n bs))) e in
     let g : done ++ emitted_blocks v (placed_blocks (drop n slots) (drop n bs)) ≡ done = ap (λ zs. done ++ zs) f ∙ append_nil done in
