@@ -4,6 +4,7 @@ use Rattle.std.specs.Prelude.{slice_get, Contains}
 use Rattle.std.proofs.lemmas.Option.{slice_get_within}
 use Rattle.lemmas.proofs.Contains.{contains_cases, contains_none}
 use Rattle.lemmas.proofs.SliceGet.{get_some}
+use Rattle.lemmas.proofs.Lists.{length_of_falses}
 use Rattle.semantics.specs.declared.program.Dest.{Dest}
 use Rattle.semantics.specs.declared.program.Op.TheVariants.{Link}
 use Rattle.semantics.specs.Program.{Instr, CodeBlock}
@@ -15,7 +16,7 @@ use Rattle.fanout.specs.Places.{size, places_from, place_of}
 use Rattle.fanout.specs.Laws.{LandingsStay, InstrsStay}
 use Rattle.fanout.proofs.Positions.{same_number}
 use Rattle.fanout.proofs.Spots.{place_is}
-use Rattle.fanout.proofs.Flags.{tie_length, tie_these, landings_keep, all_keeps, instr_length, none_length}
+use Rattle.fanout.proofs.Flags.{tie_length, tie_these, landings_keep, all_keeps, instr_length}
 use Rattle.fanout.proofs.Plans.{is, ts, l, all, at_place}
 use Rattle.fanout.proofs.Arrows.{in_parts}
 
@@ -69,7 +70,7 @@ module _ (p : Plan) (c : CodeBlock) (n t : ℕ) (i : Instr) (d : Dest) (there_i 
   tied_here : (k : ℕ) → k + 1 < landing p t → n + d.ahead + k < length (is p c) → is_tied (ts p c) (n + d.ahead + k) ≡ true
   tied_here k low within =
       let size = tie_length (replicate (length (is p c)) false) 0 c.inputs in
-      let len = none_length (length (is p c)) in
+      let len = length_of_falses (length (is p c)) in
       all_tie p (tie (replicate (length (is p c)) false) 0 c.inputs) 0 (is p c) n n t (parted i) d k (in_parts c n i there_i) (omega arith) link
       (subst (λ ds. Contains ds d) (sym (ap (λ op. firsts_of (parting_of op) i.firsts i.seconds) link)) lands) low (omega (arith, within, size, len))
 

@@ -2,6 +2,7 @@
 use Rattle.std.proofs.Common.{◌≡◌, ◌≢◌, ℕ, zero, suc, ◌+◌, ◌<◌, ◌≤◌, Bool, true, false, List, [], ◌∷◌, length, Option, Some, None, Contains, nat_eq, nat_lt, if◌then◌else◌, refl, sym, ap, ap₂, ◌∙◌, subst, arith, eqb-true, eq-eqb, ltb-true, ltb-false, lt-ltb, le-ltb}
 use Rattle.std.specs.Prelude.{slice_get}
 use Rattle.lemmas.proofs.Alls.{at_all, all_from}
+use Rattle.lemmas.proofs.Bools.{if_parts}
 use Rattle.semantics.specs.declared.graph.Region.{Region}
 use Rattle.semantics.specs.declared.graph.Region.TheVariants.{Root, Arm}
 use Rattle.semantics.specs.declared.graph.Source.{Source}
@@ -13,10 +14,6 @@ use Rattle.graph_check.specs.FirstFault.{is_cond_kind, is_cond_node, is_earlier_
 use Rattle.graph_check.proofs.Shapes.{is_name_contains, contains_is_name, shape_has, has_shape, there_shape, has_name}
 
 -- ---- tests in a row
-
-pub both : (s t : Bool) → (if s then t else false) ≡ true → (s ≡ true) × (t ≡ true)
-both true t e = (refl, e)
-both false t e = cc
 
 pub both_yes : (s t : Bool) → s ≡ true → t ≡ true → (if s then t else false) ≡ true
 both_yes s t e f = ap₂ (λ (s t : Bool). if s then t else false) e f
@@ -46,7 +43,7 @@ cond_is_node (Some node) h = ap is_cond_kind h
 
 pub earlier_cond : (b : Block (List ℕ)) (n k : ℕ) → is_earlier_cond b n k ≡ true → (k < n) × IsCond b k
 earlier_cond b n k e =
-    let p = both _ _ e in
+    let p = if_parts _ _ e in
     (ltb-true k n p.0, node_is_cond (node_at b k) p.1)
 
 pub is_earlier : (b : Block (List ℕ)) (n k : ℕ) → k < n → IsCond b k → is_earlier_cond b n k ≡ true
@@ -69,7 +66,7 @@ region_is Root Root e = refl
 region_is Root (Arm k t) e = cc
 region_is (Arm j s) Root e = cc
 region_is (Arm j s) (Arm k t) e =
-    let p = both _ _ e in
+    let p = if_parts _ _ e in
     ap₂ (λ (k : ℕ) (t : Bool). Arm k t) (eqb-true j k p.0) (side_is s t p.1)
 
 region_self : (r : Region) → same_region r r ≡ true
@@ -135,7 +132,7 @@ module _ (g : Graph) where
       let k = takes_some _ n f in
       (k.0, shape_has g name n k.0 k.1)
   names_well (Loop name k) n e f h =
-      let p = both _ _ f in
+      let p = if_parts _ _ f in
       let q = bound_is k h in
       (shape_has g name n (n + 1) (takes_gives _ n (n + 1) p.0 p.1), q.0, q.1)
 
@@ -275,7 +272,7 @@ module _ (b : Block (List ℕ)) (n : ℕ) where
   lies_well g r Cond ss e l h = all_lie r ss h
   lies_well g r Enter ss e l h = (root_or_arm r e, all_lie (arm_outside b r) ss h)
   lies_well g r (Merge k) ss e l h =
-      let p = both _ _ e in
+      let p = if_parts _ _ e in
       merge_lies r k ss p.0 p.1 l h
   lies_well g r (Fetch a) ss e l h = all_lie r ss h
   lies_well g r (Store a) ss e l h = all_lie r ss h

@@ -3,6 +3,7 @@ use Rattle.std.proofs.Common.{◌≡◌, ℕ, suc, ◌+◌, ◌<◌, Bool, true,
 use Rattle.std.specs.Prelude.{Contains}
 use Rattle.std.proofs.lemmas.Bool.{and_parts}
 use Rattle.lemmas.proofs.Contains.{contains_none}
+use Rattle.lemmas.proofs.Bools.{not_not}
 use Rattle.tags.specs.declared.token.Port.TheVariants.{Right}
 use Rattle.tags.specs.declared.value.Value.{Value}
 use Rattle.operators.specs.Values.{truth}
@@ -30,10 +31,6 @@ use Rattle.law_arms.proofs.Fed.{MadeAt, ByGift, ByWire, made_at, turn_none}
 
 abbrev choice_way : Choice → Bool → Way
 choice_way k t = record { choice = k; side = t }
-
-not_not : (t : Bool) → not (not t) ≡ t
-not_not true = refl
-not_not false = refl
 
 -- the arms of a wire's inlet are those of its region
 wired_arms : (fl : Flow) (c : Context) (r : Part) (way : ℕ) → is_given (block_in fl c) r ≡ false → arms_of fl c r way ≡ in_region fl c (entered (block_in fl c) r way)

@@ -5,6 +5,7 @@ use Rattle.std.proofs.lemmas.Option.{slice_get_within}
 use Rattle.std.proofs.lemmas.List.Elements.{Contains-append_left, Contains-append_right, Contains-append_cases}
 use Rattle.lemmas.proofs.Contains.{contains_cases, contains_get, contains_head, contains_map, contains_mapped, contains_none, contains_tail}
 use Rattle.lemmas.proofs.SliceGet.{get_some}
+use Rattle.lemmas.proofs.Lists.{one_element}
 use Rattle.tags.specs.declared.token.Port.TheVariants.{Left}
 use Rattle.semantics.specs.declared.program.Dest.{Dest}
 use Rattle.semantics.specs.declared.program.Op.{Op}
@@ -39,7 +40,7 @@ use Rattle.law_fold.proofs.FoldUses.{NewArc, ArcFacts}
 use Rattle.law_reuse.proofs.Stands.{Stands}
 use Rattle.law_reuse.proofs.UsedArcs.{stands_arcs}
 use Rattle.folding.proofs.Taken.{leaves_out}
-use Rattle.law_fold.proofs.Moves.{one_list, shape_one, entry_at, kept_slots_folds}
+use Rattle.law_fold.proofs.Moves.{shape_one, entry_at, kept_slots_folds}
 use Rattle.law_fold.proofs.KeptStatic.{plain_of_op, same_landings}
 use Rattle.law_fold.proofs.FoldParts.{counts_none}
 
@@ -118,7 +119,7 @@ module _ (p : Plan) (s : IsSound p) (tidy : IsTidy p) (b : ℕ) (c : CodeBlock) 
     row_new : (t : ℕ) → i.op ≡ Link t → Contains (flat_map (λ (d : Dest). row n (n + d.ahead) (landing p t)) i.firsts) x → Contains (flat_map (λ (d : Dest). row (place n) (place n + d.ahead) (landing (kept_slots p) t)) j.firsts) (new_arc x)
     row_new t link k =
         let shape = ((s.program.blocks b c at_b).instrs n i at).shape in
-        let o = one_list i.firsts (shape_one i.op (length i.firsts) (length i.seconds) (ap is_answered link) shape) in
+        let o = one_element i.firsts (shape_one i.op (length i.firsts) (length i.seconds) (ap is_answered link) shape) in
         let d : Dest = o.0 in
         let first : slice_get (dests_of i false) 0 ≡ Some d = ap (λ (l : List Dest). slice_get l 0) o.1 in
         let sole : j.firsts ≡ new_dest (layout_of p c) n (n + d.ahead) d.port ∷ [] = keeps_sole p c (spares p s b c at_b) n i d at o.1 (λ z e. no_link_lit t z (sym link ∙ e)) in
@@ -244,7 +245,7 @@ module _ (p : Plan) (s : IsSound p) (tidy : IsTidy p) where
       shape = shape_one i.op (length i.firsts) (length i.seconds) (ap is_answered e) ((s.program.blocks b c at_b).instrs n i at).shape
 
       rooms : (d : Dest) → Contains i.firsts d → n + d.ahead + landing p t ≤ length c.instrs
-      rooms d k = one (one_list i.firsts shape)
+      rooms d k = one (one_element i.firsts shape)
         where
           one : (o : Dest) × (i.firsts ≡ o ∷ []) → n + d.ahead + landing p t ≤ length c.instrs
           one (o, is) = only (contains_cases o [] d (subst (λ (l : List Dest). Contains l d) is k))

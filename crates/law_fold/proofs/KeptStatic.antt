@@ -6,6 +6,7 @@ use Rattle.std.proofs.lemmas.Option.{slice_get_within, slice_get-map}
 use Rattle.std.proofs.lemmas.List.Elements.{Contains-append_left, Contains-append_right}
 use Rattle.lemmas.proofs.Contains.{contains_get, get_contains}
 use Rattle.lemmas.proofs.SliceGet.{get_some}
+use Rattle.lemmas.proofs.Lists.{one_element}
 use Rattle.tags.specs.declared.token.Port.{Port}
 use Rattle.operators.specs.declared.Binary.{Binary}
 use Rattle.semantics.specs.declared.program.Dest.{Dest}
@@ -33,7 +34,7 @@ use Rattle.folding.proofs.Cases.{KeptAt, FoldCase, is_kept, is_right, is_left, f
 use Rattle.folding.proofs.Plain.{PlainAt, landing_plain, sole_plain}
 use Rattle.law_once.specs.Alike.{HasLanding, IsTidy, plain_dests}
 use Rattle.law_once.specs.Spreads.{Spot, is_answered}
-use Rattle.law_fold.proofs.Moves.{one_list, shape_one}
+use Rattle.law_fold.proofs.Moves.{shape_one}
 use Rattle.law_fold.specs.Folds.{Plain}
 use Rattle.law_fold.specs.Kept.{slotted, kept_block, kept_slots}
 use Rattle.law_fold.proofs.Closed.{lit_or}
@@ -361,7 +362,7 @@ module _ (p : Plan) (s : IsSound p) where
                 let K : KeptAt p N.c N.n = pair_not N.c N.n N.i N.instr (ap is_pair new_link) in
                 let link : N.i.op ≡ Link callee = sym (K.op (N.i).op) ∙ new_link in
                 let shape = ((s.program.blocks N.b N.c N.block).instrs N.n N.i N.instr).shape in
-                let o = one_list N.i.firsts (shape_one N.i.op (length N.i.firsts) (length N.i.seconds) (ap is_answered link) shape) in
+                let o = one_element N.i.firsts (shape_one N.i.op (length N.i.firsts) (length N.i.seconds) (ap is_answered link) shape) in
                 let first : slice_get (dests_of N.i false) 0 ≡ Some o.0 = ap (λ (l : List Dest). slice_get l 0) o.1 in
                 let sole = keeps_sole p N.c (spares p s N.b N.c N.block) N.n N.i o.0 N.instr o.1 (λ z e. no_link_lit callee z (sym link ∙ e)) in
                 let same_d : d ≡ new_dest (layout_of p N.c) N.n (N.n + (o.0).ahead) (o.0).port = one_same d (new_dest (layout_of p N.c) N.n (N.n + (o.0).ahead) (o.0).port) (sym lands ∙ ap (λ (j : Instr). j.firsts) N.is ∙ sole) in

@@ -24,6 +24,7 @@ use Rattle.law_reuse.proofs.Stands.{some_same, Found, found}
 use Rattle.std.proofs.lemmas.List.Sorted.{Contains-permutation}
 use Rattle.lemmas.proofs.Contains.{contains_head, contains_map, contains_none, get_contains}
 use Rattle.lemmas.proofs.SliceGet.{get_some}
+use Rattle.lemmas.proofs.Lists.{map_append, one_element}
 use Rattle.folding.specs.Places.{layout_of, new_place}
 use Rattle.folding.specs.Moved.{moved_dests, new_dest}
 use Rattle.folding.specs.Laws.{dests_of, other_port}
@@ -38,7 +39,7 @@ use Rattle.law_once.specs.Spreads.{ip_word, is_answered}
 use Rattle.law_once.specs.Alike.{HasLanding}
 use Rattle.law_fold.specs.Folds.{Plain, IsValue, Sends, Settles, Clumped, Pairs, Ready, Leads, Enters, IsMoved, IsPair}
 use Rattle.law_fold.specs.Kept.{slotted, kept_block, kept_slots, KeptSlotsFolds}
-use Rattle.law_fold.proofs.FoldRules.{map_join, settles_map, settles_then}
+use Rattle.law_fold.proofs.FoldRules.{settles_map, settles_then}
 use Rattle.law_fold.proofs.Leading.{operands, Whole}
 use Rattle.law_fold.proofs.Closed.{lit_or}
 use Rattle.law_fold.proofs.Uses.{Wants, wanted_of}
@@ -51,11 +52,6 @@ use Rattle.law_fold.proofs.Spots.{stays, kept_of, plain_of, not_plain, plain_at_
 both_none : (xs ys : List ℕ) → xs ++ ys ≡ [] → (xs ≡ []) × (ys ≡ [])
 both_none [] ys e = (refl, e)
 both_none (x ∷ xs) ys e = absurd (cc)
-
-pub one_list : (xs : List Dest) → length xs ≡ 1 → (d : Dest) × (xs ≡ d ∷ [])
-one_list [] e = absurd (omega (arith, e))
-one_list (d ∷ []) e = (d, refl)
-one_list (d ∷ x ∷ xs) e = absurd (omega (arith, e))
 
 pub shape_one : (op : Op) (m n : ℕ) → is_answered op ≡ true → HasShape op m n → m ≡ 1
 shape_one (Fetch x) m n e h = h.0
@@ -198,8 +194,8 @@ module _ (p : Plan) (s : IsSound p) (b : ℕ) (c : CodeBlock) (at_b : slice_get 
     leads_all f w =
         let all = ready_join P Q g h w (New false f w) (New true f w) (Old false f w) (Old true f w) (ready_side false f w) (ready_side true f w) in
         subst (λ (l : List Token). Ready P Q g h w l (to_each record { frame = f; ip = F + n } w (i.firsts ++ i.seconds)))
-        (sym (map_join (at_dest record { frame = f; ip = E + place n } (ip_word h w)) (moved_dests (layout_of p c) n i.firsts) (moved_dests (layout_of p c) n i.seconds)))
-        (subst (λ (l : List Token). Ready P Q g h w (New false f w ++ New true f w) l) (sym (map_join (at_dest record { frame = f; ip = F + n } w) i.firsts i.seconds)) all)
+        (sym (map_append (at_dest record { frame = f; ip = E + place n } (ip_word h w)) (moved_dests (layout_of p c) n i.firsts) (moved_dests (layout_of p c) n i.seconds)))
+        (subst (λ (l : List Token). Ready P Q g h w (New false f w ++ New true f w) l) (sym (map_append (at_dest record { frame = f; ip = F + n } w) i.firsts i.seconds)) all)
 
   -- ---- AN INSTRUCTION THAT STANDS FOR ITSELF
   module _ (n : ℕ) (i : Instr) (at : slice_get c.instrs n ≡ Some i) (K : PlainAt p c n) where
@@ -218,7 +214,7 @@ module _ (p : Plan) (s : IsSound p) (b : ℕ) (c : CodeBlock) (at_b : slice_get 
     pub answered : is_answered i.op ≡ true → (d : Dest) × (e : Dest) × (i.firsts ≡ d ∷ []) × (j.firsts ≡ e ∷ []) × (h (F + n + d.ahead) ≡ h (F + n) + e.ahead) × (e.port ≡ d.port) × Plain P Q h (F + n + d.ahead)
     answered is =
         let shape = ((s.program.blocks b c at_b).instrs n i at).shape in
-        let o = one_list i.firsts (shape_one i.op (length i.firsts) (length i.seconds) is shape) in
+        let o = one_element i.firsts (shape_one i.op (length i.firsts) (length i.seconds) is shape) in
         let d : Dest = o.0 in
         let named : slice_get (dests_of i false) 0 ≡ Some d = ap (λ (l : List Dest). slice_get l 0) o.1 in
         let within : n + d.ahead < length c.instrs = inside p s b c at_b n 0 i false d at named in

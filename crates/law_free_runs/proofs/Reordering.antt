@@ -5,6 +5,7 @@ use Rattle.std.proofs.lemmas.Bool.{eqb-true, eqb-false}
 use Rattle.std.proofs.lemmas.List.Elements.{All-contains}
 use Rattle.std.proofs.lemmas.List.Sorted.{IsPermutation-refl, IsPermutation-sym, IsPermutation-trans, IsPermutation-append}
 use Rattle.lemmas.proofs.Permutations.{within_to, Meet, permutation_cancel, permutation_meet, permutation_exchange}
+use Rattle.lemmas.proofs.Lists.{same_head, same_tail}
 use Rattle.tags.specs.declared.token.Token.{Token}
 use Rattle.tags.specs.Addresses.{element_of}
 use Rattle.law_free_runs.specs.Blocks.{Block, blocks_by, if_by, entry_of, LeavesTokens}
@@ -21,12 +22,6 @@ Taken n e b later log rest last = (left : List Block) × LeavesTokens n (b.made 
 abbrev Mine : ℕ → ℕ → List Token → Type 0
 Mine n e ts = All (λ (t : Token). element_of n t.to ≡ e) ts
 
-head_is : (x b : Block) (xs bs : List Block) → x ∷ xs ≡ b ∷ bs → x ≡ b
-head_is x b xs bs e = cc
-
-tail_is : (x b : Block) (xs bs : List Block) → x ∷ xs ≡ b ∷ bs → xs ≡ bs
-tail_is x b xs bs e = cc
-
 -- the history's first block is of that element, or not
 first_own : (x : Block) (log : List Block) (e : ℕ) → x.element ≡ e → blocks_by e (x ∷ log) ≡ x ∷ blocks_by e log
 first_own x log e same = subst (λ (k : ℕ). blocks_by k (x ∷ log) ≡ x ∷ blocks_by k log) same (by_same x log)
@@ -41,7 +36,7 @@ mine_spent n e b later (x ∷ log) tokens last leaves is = by_case (x.element ==
   by_case : (t : Bool) → (x.element == e) ≡ t → (blocks_by e log ≡ b ∷ later → Mine n e b.spent) → Mine n e b.spent
   by_case true t again =
       let same = eqb-true x.element e t in
-      let one = head_is x b (blocks_by e log) later (sym (first_own x log e same) ∙ is) in
+      let one = same_head x b (blocks_by e log) later (sym (first_own x log e same) ∙ is) in
       subst (λ (y : Block). Mine n e y.spent) one (subst (λ (k : ℕ). Mine n k x.spent) same leaves.2)
   by_case false t again = again (sym (first_other x log e (eqb-false x.element e t)) ∙ is)
 
@@ -84,8 +79,8 @@ takes_first n e b later (x ∷ log) tokens rest last leaves is perm =
       by_case true t again =
           let same = eqb-true x.element e t in
           let cons = sym (first_own x log e same) ∙ is in
-          let one = head_is x b (blocks_by e log) later cons in
-          let all = tail_is x b (blocks_by e log) later cons in
+          let one = same_head x b (blocks_by e log) later cons in
+          let all = same_tail x b (blocks_by e log) later cons in
           let perm_x = subst (λ (y : Block). IsPermutation tokens (y.spent ++ rest)) (sym one) perm in
           let taken = taken_own n e x log tokens rest last same leaves perm_x in
           subst (λ (ls : List Block). Taken n e b ls (x ∷ log) rest last) all (subst (λ (y : Block). Taken n e y (blocks_by e log) (x ∷ log) rest last) one taken)

@@ -4,6 +4,8 @@ use Rattle.std.specs.Prelude.{IsPermutation, Contains}
 use Rattle.std.proofs.lemmas.List.Sorted.{IsPermutation-sym, length_permutation, Contains-permutation}
 use Rattle.lemmas.proofs.Contains.{contains_head}
 use Rattle.lemmas.proofs.Alls.{all_at}
+use Rattle.lemmas.proofs.Lists.{one_element}
+use Rattle.lemmas.proofs.Bools.{or_true}
 use Rattle.tags.specs.declared.token.Port.{Port}
 use Rattle.semantics.specs.declared.graph.Kind.{Kind}
 use Rattle.semantics.specs.declared.graph.Kind.TheVariants as Kinds
@@ -21,11 +23,6 @@ use Rattle.law_contexts.specs.Stands.{row_of, is_instr}
 use Rattle.law_contexts.specs.Theorem.{IsGood}
 use Rattle.law_moves.proofs.Lists.{contains_one}
 use Rattle.law_moves.proofs.Sites.{coded, Seated, seated, there_instr}
-
-one_only : {X : Type 0} (xs : List X) → length xs ≡ 1 → (x : X) × (xs ≡ x ∷ [])
-one_only [] e = absurd (omega (arith, e))
-one_only (x ∷ []) e = (x, refl)
-one_only (x ∷ y ∷ ys) e = absurd (omega (arith, e))
 
 none_at_all : {X : Type 0} (xs : List X) → length xs ≡ 0 → xs ≡ []
 none_at_all [] e = refl
@@ -45,10 +42,6 @@ shaped : (k : Kind ℕ) (m n : ℕ) → cell_kind k ≡ true → HasShape (kind_
 shaped (Kinds.Fetch a) m n e h = h
 shaped (Kinds.Store a) m n e h = h
 shaped k m n e h = absurd (true≢false (sym e))
-
-or_true : (t : Bool) → (t || true) ≡ true
-or_true true = refl
-or_true false = refl
 
 abbrev test_of : (Kind ℕ → Bool) → Option (Node ℕ) → Bool
 test_of test x = elim x as (λ y. Bool) [ None ↦ false | Some line ↦ test line.kind ]
@@ -105,7 +98,7 @@ module _ {stage : ℕ} (fl : Flow) (p : Plan) (w : Wires) (good : IsGood stage f
       let block = all_at IsPlanBlock p.program.blocks (code_in fl w c) s.stands.code good.plan.plan.blocks s.stands.block in
       let shape = all_at (λ (i : Instr). HasShape i.op (length i.firsts) (length i.seconds)) s.stands.code.instrs ((wiring_in fl w c).place (Line n)) s.instr block.shapes s.stands.instr in
       let lengths = shaped r.line.kind (length s.instr.firsts) (length s.instr.seconds) r.cell (subst (λ o. HasShape o (length s.instr.firsts) (length s.instr.seconds)) op shape) in
-      let one = one_only s.instr.firsts lengths.0 in
+      let one = one_element s.instr.firsts lengths.0 in
       let perm = subst (λ l. IsPermutation (map (leads_to ((wiring_in fl w c).place (Line n))) l) (map (stands_at (wiring_in fl w c)) ((wiring_in fl w c).wire (side (Line n) false)))) one.1 s.is.firsts in
       let image = one_image (stands_at (wiring_in fl w c)) (leads_to ((wiring_in fl w c).place (Line n)) one.0) ((wiring_in fl w c).wire (side (Line n) false)) perm in
       let inside : Contains ((wiring_in fl w c).wire (side (Line n) false)) image.0 = subst (λ l. Contains l image.0) (sym image.1) (contains_head image.0 []) in

@@ -5,6 +5,7 @@ use Rattle.std.proofs.lemmas.Bool.{cases_eq}
 use Rattle.std.proofs.lemmas.List.Elements.{Contains-append_right}
 use Rattle.lemmas.proofs.Permutations.{permutation_same}
 use Rattle.lemmas.proofs.Contains.{contains_cases, contains_head, contains_none, contains_tail}
+use Rattle.lemmas.proofs.Bools.{first_of_and, second_of_and}
 use Rattle.tags.specs.declared.value.Value.{Value}
 use Rattle.tags.specs.declared.token.Port.TheVariants.{Left}
 use Rattle.tags.specs.declared.token.Cont.{Cont}
@@ -27,7 +28,6 @@ use Rattle.law_contexts.specs.Laws.{is_main}
 use Rattle.law_contexts.specs.Stands.{frame_of, word_of, token_of, on_side, in_slot, slot_of, only, Stands}
 use Rattle.law_contexts.specs.Theorem.{IsGood}
 use Rattle.law_moves.specs.Cases.{Taking, net_of, Followed, IsFree, Shows, is_still}
-use Rattle.law_moves.proofs.Lists.{and_left, and_right}
 use Rattle.law_moves.proofs.Sites.{coded}
 use Rattle.law_moves.proofs.Goes.{goes_follow}
 use Rattle.law_moves.proofs.Fitted.{fits, framed, bare, bare_item, taken_here, lone_port, plain_way}
@@ -146,8 +146,8 @@ module _ {stage : ℕ} (s : Taking stage) (j : ℕ) (e : s.i.inlet.part ≡ Show
 
   within : j < outputs_of s.p.program
   within =
-      let m = main_is s.i.context (and_left (is_main s.i.context) (nat_lt j (block_in s.fl s.i.context).outputs) shown_there) in
-      let l = ltb-true j (block_in s.fl s.i.context).outputs (and_right (is_main s.i.context) (nat_lt j (block_in s.fl s.i.context).outputs) shown_there) in
+      let m = main_is s.i.context (first_of_and (is_main s.i.context) (nat_lt j (block_in s.fl s.i.context).outputs) shown_there) in
+      let l = ltb-true j (block_in s.fl s.i.context).outputs (second_of_and (is_main s.i.context) (nat_lt j (block_in s.fl s.i.context).outputs) shown_there) in
       let o = outputs_are s.fl s.p s.w s.good in
       let k = ap (λ c. (block_in s.fl c).outputs) m in omega (arith, l, o, k)
 

@@ -4,6 +4,7 @@ use Rattle.std.specs.Prelude.{IsPermutation, Contains}
 use Rattle.std.proofs.lemmas.List.Elements.{Contains-append_left}
 use Rattle.lemmas.proofs.Permutations.{permutation_same}
 use Rattle.lemmas.proofs.Contains.{contains_head, contains_none}
+use Rattle.lemmas.proofs.Bools.{and_false}
 use Rattle.tags.specs.declared.token.Port.{Port}
 use Rattle.tags.specs.declared.token.Port.TheVariants.{Left, Right}
 use Rattle.tags.specs.declared.token.Cont.{Cont}
@@ -31,7 +32,7 @@ use Rattle.law_contexts.specs.Stands.{frame_of, ip_of, word_of, token_of, slot_o
 use Rattle.law_arms.proofs.Invoked.{loop_invoked, is_turned, code_at}
 use Rattle.law_arms.proofs.Lands.{one_dest}
 use Rattle.law_moves.specs.Cases.{Taking, IsCaused, IsFree, net_of, Followed}
-use Rattle.law_moves.proofs.Lists.{contains_one, and_no, count_none}
+use Rattle.law_moves.proofs.Lists.{contains_one, count_none}
 use Rattle.law_moves.proofs.Still.{to_instr}
 use Rattle.law_moves.proofs.Moved.{WasThere, UsedNow, is_credit}
 use Rattle.law_moves.proofs.Fitted.{code, fits, framed, there, among, taken_here}
@@ -229,7 +230,7 @@ module _ {stage : ℕ} (s : Taking stage) (d : Context) (n i : ℕ) (in_turn : s
     }
 
     no_turn : (x : Context) (m : ℕ) → items_at x (Giver m) (asked ∷ []) ≡ 0
-    no_turn x m = count_none (is_item_at x (Giver m)) (asked ∷ []) (of_asked (λ (j : Item). is_item_at x (Giver m) j ≡ false) (and_no (same_context d x)))
+    no_turn x m = count_none (is_item_at x (Giver m)) (asked ∷ []) (of_asked (λ (j : Item). is_item_at x (Giver m) j ≡ false) (and_false (same_context d x)))
 
     module _ (sec : Second a refl refl) where
       abbrev cont_item : Item

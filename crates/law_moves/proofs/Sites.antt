@@ -1,7 +1,8 @@
 -- The code of each context, and the instruction of each of its parts.
-use Rattle.std.proofs.Common.{◌≡◌, ℕ, zero, suc, ◌≤◌, ◌-◌, Bool, true, false, List, [], ◌∷◌, map, refl, sym, ap, ◌∙◌, subst, arith, true≢false, Option, Some, None, nat_lt, lt-ltb, eq-eqb, if◌then◌else◌, sum, cond}
-use Rattle.std.specs.Prelude.{slice_get, sum_by, count_by}
-use Rattle.std.proofs.lemmas.List.Sums.{sum-map, sum_by-cons}
+use Rattle.std.proofs.Common.{◌≡◌, ℕ, ◌-◌, Bool, true, false, [], map, refl, sym, ap, ◌∙◌, subst, arith, true≢false, Option, Some, None, nat_lt, lt-ltb, eq-eqb, if◌then◌else◌, sum, cond}
+use Rattle.std.specs.Prelude.{slice_get, count_by}
+use Rattle.std.proofs.lemmas.List.Sums.{sum-map}
+use Rattle.lemmas.proofs.Sums.{one_of_sum}
 use Rattle.semantics.specs.declared.graph.Kind.{Kind}
 use Rattle.semantics.specs.declared.graph.Kind.TheVariants.{Loop}
 use Rattle.semantics.specs.Graph.{Node, Block, Flow, node_at}
@@ -16,12 +17,6 @@ use Rattle.law_contexts.specs.Contexts.{Wires, or_zero, or_none, no_block, code_
 use Rattle.law_contexts.specs.Wires.{IsWiredCode, AreWiredBy, Runs, IsInstr}
 use Rattle.law_contexts.specs.Laws.{spot_there}
 use Rattle.law_contexts.specs.Stands.{ip_of, is_instr}
-
--- one of a sum
-one_of_sum : {X : Type 0} (f : X → ℕ) (xs : List X) (i : ℕ) (x : X) → slice_get xs i ≡ Some x → f x ≤ sum_by f xs
-one_of_sum f [] i x e = absurd (cc)
-one_of_sum f (y ∷ ys) zero x e = let s : y ≡ x = cc in let a = sum_by-cons f y ys in let b = ap f s in omega (arith, a, b)
-one_of_sum f (y ∷ ys) (suc i) x e = let k = one_of_sum f ys i x e in let a = sum_by-cons f y ys in omega (arith, k, a)
 
 -- A LOOP'S BLOCK IS LOOPED
 node_within : (b : Block ℕ) (n : ℕ) (line : Node ℕ) → node_at b n ≡ Some line → (i : ℕ) × (slice_get b.nodes i ≡ Some line)

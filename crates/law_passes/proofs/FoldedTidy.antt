@@ -4,6 +4,7 @@ use Rattle.std.specs.Prelude.{slice_get, nat_lt}
 use Rattle.std.proofs.lemmas.List.Elements.{Contains-append_left, Contains-append_right, Contains-append_cases}
 use Rattle.std.proofs.lemmas.Option.{slice_get_within, slice_get_cases}
 use Rattle.lemmas.proofs.Contains.{contains_head, get_contains}
+use Rattle.lemmas.proofs.Lists.{one_element}
 use Rattle.operators.specs.declared.Binary.{Binary}
 use Rattle.semantics.specs.declared.program.Dest.{Dest}
 use Rattle.semantics.specs.declared.program.Op.{Op}
@@ -28,7 +29,7 @@ use Rattle.semantics.specs.Bytes as Bytes
 use Rattle.law_reuse.proofs.Stands.{some_same, instr_in}
 use Rattle.law_once.specs.Alike.{plain_dests, IsTidy}
 use Rattle.law_passes.specs.Passes.{FoldedIsTidy}
-use Rattle.law_passes.proofs.Tidy.{some_landing, one_only, sole, often_op, all_named, PlainOr, plain_or}
+use Rattle.law_passes.proofs.Tidy.{some_landing, one_only, often_op, all_named, PlainOr, plain_or}
 
 module _ (p : Plan) (s : IsSound p) (b : ℕ) (c : CodeBlock) (at_b : slice_get p.program.blocks b ≡ Some c) where
   abbrev l : Layout
@@ -72,7 +73,7 @@ module _ (p : Plan) (s : IsSound p) (b : ℕ) (c : CodeBlock) (at_b : slice_get 
   module _ (tidy : IsTidy p) where
     landing_fits : (n : ℕ) (i : Instr) (x : Dest) (callee : ℕ) → slice_get c.instrs n ≡ Some i → gone_at l n ≡ false → i.op ≡ Link callee → (moved l n i).firsts ≡ x ∷ []
         → new_place l n + x.ahead + landing p callee ≤ length (folded_block p c).instrs
-    landing_fits n i x callee at stay links lands = go (sole i.firsts one)
+    landing_fits n i x callee at stay links lands = go (one_element i.firsts one)
       where
         shape : HasShape (Link callee) (length i.firsts) (length i.seconds)
         shape = subst (λ (op : Op). HasShape op (length i.firsts) (length i.seconds)) links (block.instrs n i at).shape

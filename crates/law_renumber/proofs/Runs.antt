@@ -6,6 +6,7 @@ use Rattle.std.proofs.lemmas.Bool.{cases_eq}
 use Rattle.std.proofs.lemmas.List.Elements.{Contains-append_left, Contains-append_right, Contains-push}
 use Rattle.std.proofs.lemmas.List.Sorted.{Contains-permutation, IsPermutation-refl, IsPermutation-sym, IsPermutation-trans}
 use Rattle.lemmas.proofs.Contains.{contains_head}
+use Rattle.lemmas.proofs.Lists.{map_append}
 use Rattle.tags.specs.declared.token.Port.{Port}
 use Rattle.tags.specs.declared.token.Port.TheVariants.{Left}
 use Rattle.tags.specs.declared.token.Cont.{Cont}
@@ -20,7 +21,6 @@ use Rattle.semantics.specs.Machine.{Machine, Store as MStore, Size, Event, Event
 use Rattle.semantics.specs.Plan.{Plan}
 use Rattle.semantics.specs.Handed.{handed_by, handed, EachOnce, UsesEachOnce}
 use Rattle.semantics.specs.Orderly.{Orderly, IsStart, IsOrderlyRun}
-use Rattle.law_reuse.proofs.Fold.{map_append}
 use Rattle.law_reuse.proofs.Snoc.{run_snoc, handed_snoc}
 use Rattle.law_reuse.proofs.OtherEvents.{Same, Carried}
 use Rattle.law_reuse.proofs.Stands.{some_same, Stands}

@@ -49,12 +49,6 @@ pub total_nothing : {X : Type 0} (f : X → ℕ) (xs : List X) → ((x : X) → 
 total_nothing f [] h = refl
 total_nothing f (x ∷ xs) h = let a = h x (contains_head x xs) in let b = total_nothing f xs (λ y c. h y (contains_tail x xs y c)) in omega (arith, a, b)
 
--- VALUES that a request carries
-pub one_value : (vs : List Value) → length vs ≡ 1 → (v : Value) × (vs ≡ v ∷ [])
-one_value [] e = absurd (omega (arith, e))
-one_value (v ∷ []) e = (v, refl)
-one_value (v ∷ u ∷ vs) e = absurd (omega (arith, e))
-
 pub two_values : (vs : List Value) → length vs ≡ 2 → (v : Value) × (u : Value) × (vs ≡ v ∷ u ∷ [])
 two_values [] e = absurd (omega (arith, e))
 two_values (v ∷ []) e = absurd (omega (arith, e))

@@ -3,6 +3,7 @@ use Rattle.std.proofs.Common.{◌≡◌, ℕ, zero, suc, ◌+◌, ◌-◌, ◌<�
 use Rattle.std.specs.Prelude.{Contains, ◌&&◌}
 use Rattle.std.proofs.lemmas.Bool.{and_parts, or_left, cases_Bool}
 use Rattle.lemmas.proofs.Contains.{contains_none}
+use Rattle.lemmas.proofs.Lists.{one_element}
 use Rattle.tags.specs.declared.value.Value.{Value}
 use Rattle.tags.specs.declared.token.Port.{Port}
 use Rattle.tags.specs.declared.token.Port.TheVariants.{Left, Right}
@@ -32,7 +33,7 @@ use Rattle.law_over.proofs.Made.{Stands, fits, word, given_by, twice}
 use Rattle.law_over.proofs.Open.{stands_open, renewed_too}
 use Rattle.law_over.proofs.Back.{sender_of}
 use Rattle.law_rest.specs.Starts.{AllStart, join_after, join_of}
-use Rattle.law_rest.proofs.Cells.{one_of, one_value}
+use Rattle.law_rest.proofs.Cells.{one_of}
 use Rattle.law_rest.proofs.Waits.{Waiting, stood_of, left_of, apart, is_credit, Takes, Own, OfCredits, Renewed, taken_as, waits_or_taken, Waits, InSlot, AtCell, OfLoop, waits, fires_alone, fires_both}
 use Rattle.law_rest.proofs.Forward.{along}
 use Rattle.law_rest.proofs.Reached.{At, asked, fanned, next_fanned, next_asked, granted, entered_at, result_left, last_left, sender_left, next_left, loop_framed, call_framed, goes_on}
@@ -233,7 +234,7 @@ module _ (stage : ℕ) (fl : Flow) (p : Plan) (w : Wires) (inputs : List ℤ) (p
   reader i n c e =
       let store = kept.follows.stands.no_store i n c e in
       let long = holds_of fl w i n e (word stage fl p w inputs past m good fit kept i (stood i c)) in
-      let (v, held) = one_value i.held (long ∙ ap (λ (t : Bool). if t then 2 else 1) store) in
+      let (v, held) = one_element i.held (long ∙ ap (λ (t : Bool). if t then 2 else 1) store) in
       record { cell = there i c (Held n) e; store = store; index = v; held = held; told = ap (told_by fl i) e ∙ ap (operands_from i.context (AtNode n) 0) held }
 
   pub says : (i : Item) → Waits' i → (t : Tagged) → Contains (told fl i) t → Says i t

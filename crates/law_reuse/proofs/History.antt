@@ -4,6 +4,7 @@ use Rattle.std.specs.Prelude.{slice_get}
 use Rattle.std.proofs.lemmas.List.Elements.{Contains-push_cases}
 use Rattle.std.proofs.lemmas.List.Sorted.{Contains-permutation, IsPermutation-sym}
 use Rattle.lemmas.proofs.Contains.{contains_head, contains_none}
+use Rattle.lemmas.proofs.Lists.{map_append}
 use Rattle.tags.specs.declared.token.Port.{Port}
 use Rattle.tags.specs.declared.token.Word.{Word}
 use Rattle.tags.specs.declared.token.To.{To}
@@ -17,7 +18,6 @@ use Rattle.semantics.specs.Sharing.{arcs_in}
 use Rattle.semantics.specs.Arcs.{UsesArc, SomeEvent}
 use Rattle.semantics.specs.Orderly.{is_entry, IsOrderlyRun}
 use Rattle.semantics.specs.Wired.{IsWired}
-use Rattle.law_reuse.proofs.Fold.{map_append}
 use Rattle.law_reuse.proofs.Snoc.{run_snoc, some_snoc}
 use Rattle.law_reuse.proofs.StillSlots.{slots_or}
 use Rattle.law_reuse.proofs.Stands.{some_same, Stands, stands_at, Found, found}

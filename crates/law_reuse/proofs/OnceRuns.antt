@@ -5,6 +5,7 @@ use Rattle.std.proofs.lemmas.Bool.{cases_eq, and_parts, and_from, eqb-true, eq-e
 use Rattle.std.proofs.lemmas.List.Elements.{Contains-append_left, Contains-append_right, Contains-push}
 use Rattle.std.proofs.lemmas.List.Sorted.{Contains-permutation, IsPermutation-refl, IsPermutation-sym, IsPermutation-trans}
 use Rattle.lemmas.proofs.Contains.{contains_head}
+use Rattle.lemmas.proofs.Lists.{map_append}
 use Rattle.tags.specs.declared.token.Port.{Port}
 use Rattle.tags.specs.declared.token.Port.TheVariants.{Left}
 use Rattle.tags.specs.declared.token.Cont.{Cont}
@@ -24,7 +25,6 @@ use Rattle.semantics.specs.Handed.{handed_by, handed, EachOnce, UsesEachOnce}
 use Rattle.semantics.specs.Orderly.{Orderly, IsStart, IsOrderlyRun}
 use Rattle.semantics.specs.Unfolded.{HasSlot}
 use Rattle.semantics.specs.Wired.{IsWired}
-use Rattle.law_reuse.proofs.Fold.{map_append}
 use Rattle.law_reuse.proofs.Snoc.{run_snoc, handed_snoc, tally, tally_snoc}
 use Rattle.law_reuse.proofs.Tallies.{Counter, Grants, Releases, count_at, count_apart}
 use Rattle.law_reuse.proofs.Frames.{So, so_start}

@@ -2,6 +2,7 @@
 use Rattle.std.proofs.Common.{◌≡◌, ℕ, suc, ◌+◌, ◌-◌, Bool, true, false, not, ◌||◌, ◌⊎◌, inl, inr, List, [], ◌∷◌, ◌++◌, length, flat_map, Some, None, if◌then◌else◌, refl, sym, ap, ◌∙◌, subst, arith, true≢false, append-nil}
 use Rattle.std.proofs.lemmas.List.Sorted.{IsPermutation-refl}
 use Rattle.lemmas.proofs.Permutations.{permutation_same}
+use Rattle.lemmas.proofs.Bools.{first_of_and}
 use Rattle.tags.specs.declared.value.Value.{Value}
 use Rattle.tags.specs.declared.token.Port.TheVariants.{Left, Right}
 use Rattle.operators.specs.Values.{truth}
@@ -25,7 +26,7 @@ use Rattle.law_told.proofs.Acts.{Acts, same, stays, follow, acts, says_acts, fir
 use Rattle.law_told.proofs.Settles.{sends_settled}
 use Rattle.law_told.proofs.Words.{none_told}
 use Rattle.law_told.proofs.Nodes.{kind_is, kind_of, exit_of, goes, leaves, Sent}
-use Rattle.law_told.proofs.Control.{block_is, landed_call, landed_loop, both_left, along_none}
+use Rattle.law_told.proofs.Control.{block_is, landed_call, landed_loop, along_none}
 
 main_is : (c : Context) → is_main c ≡ true → c ≡ Main
 main_is Main e = refl
@@ -81,7 +82,7 @@ module _ (fl : Flow) (p : Plan) (w : Wires) (operands : HaveOperands fl) (f : Fi
   either false u e = inr e
 
   pub landing : (n j : ℕ) (v : Value) (k : Note) → there_in fl (site_in fl w c) wg (Landing n j) ≡ true → IsToldBy (Landing n j) (Datum v) k
-  landing n j v k there = pick (either (is_call b n) (is_loop b n) (both_left _ _ there))
+  landing n j v k there = pick (either (is_call b n) (is_loop b n) (first_of_and _ _ there))
     where
       port : has_port fl b n j ≡ true
       port = or_true _ _ there
@@ -167,7 +168,7 @@ module _ (fl : Flow) (p : Plan) (w : Wires) (operands : HaveOperands fl) (f : Fi
       let new : operand (child fl c n) i 0 v ∷ [] ≡ flat_map (told fl) (makes fl w (by (Sender n i) l (Datum v))) =
       (λ k. operand (child fl c n) i 0 v ∷ sym (along_none fl p w operands f fired' ctx Here here code (Sender n i) false signal there tt (λ e. e)) k) in
       subst (λ x. Acts fl x mem (flat_map (told fl) (makes fl w (by (Sender n i) l (Datum v)))) mem) old
-      (subst (λ x. Acts fl (told_at fl c (Sender n i) Right way v) mem x mem) new (sent_in n i v (both_left _ _ there)))
+      (subst (λ x. Acts fl (told_at fl c (Sender n i) Right way v) mem x mem) new (sent_in n i v (first_of_and _ _ there)))
 
   -- STRICT CALLS: all arguments at once
   arguments_before : (n i : ℕ) (vs : List Value) → flat_map (told fl) (arguments_from c n 0 i vs) ≡ operands_from c (AtNode n) i vs
@@ -238,7 +239,7 @@ module _ (fl : Flow) (p : Plan) (w : Wires) (operands : HaveOperands fl) (f : Fi
 
   pub turn_value : (j : ℕ) (v u : Value) → there_in fl (site_in fl w c) wg (TurnValue (j + 1)) ≡ true → IsToldBy (TurnValue (j + 1)) (Datum v) (Datum u)
   turn_value j v u there =
-      let turn = both_left (is_turn c) _ there in
+      let turn = first_of_and (is_turn c) _ there in
       let k = code.uses.turn_value j there in
       subst (λ x. Acts fl (tagged c (AtTurn (j + 1)) Carried v ∷ tagged c (AtTurn (j + 1)) Flag u ∷ []) mem x mem) (turn_wires c j v (truth u) turn ∙ ap (λ l. flat_map (told fl) (each c (Datum v) l)) (wire_of (truth u) k.0 k.1)) (turn_acts c j v u turn)
     where

@@ -1,7 +1,8 @@
 -- The code block of a context.
-use Rattle.std.proofs.Common.{◌≡◌, ℕ, zero, suc, ◌-◌, ◌≤◌, Bool, true, false, List, [], ◌∷◌, map, Option, Some, None, nat_lt, if◌then◌else◌, refl, sym, ap, ◌∙◌, subst, arith, true≢false, eq-eqb, lt-ltb}
-use Rattle.std.specs.Prelude.{slice_get, sum, sum_by, count_by}
-use Rattle.std.proofs.lemmas.List.Sums.{sum-map, sum_by-cons}
+use Rattle.std.proofs.Common.{◌≡◌, ℕ, ◌-◌, Bool, true, false, map, Option, Some, None, nat_lt, if◌then◌else◌, refl, sym, ap, ◌∙◌, subst, arith, true≢false, eq-eqb, lt-ltb}
+use Rattle.std.specs.Prelude.{slice_get, sum, count_by}
+use Rattle.std.proofs.lemmas.List.Sums.{sum-map}
+use Rattle.lemmas.proofs.Sums.{one_of_count, one_of_sum}
 use Rattle.semantics.specs.declared.graph.Kind.{Kind}
 use Rattle.semantics.specs.Graph.{Node, Block, Flow, node_at}
 use Rattle.semantics.specs.Plan.{Plan}
@@ -11,18 +12,6 @@ use Rattle.law_contexts.specs.Blocks.{loop_kind, is_loop}
 use Rattle.law_contexts.specs.Contexts.{Wires, or_zero, or_none, no_block, code_in, site_in, wiring_in, IsContext}
 use Rattle.law_contexts.specs.Wires.{IsWiredCode, Runs, AreWiredBy}
 use Rattle.law_told.proofs.Nodes.{kind_is}
-
-abbrev count_if : Bool → ℕ
-count_if t = if t then 1 else 0
-
--- one of a list counts
-sum_one : {X : Type 0} (g : X → ℕ) (xs : List X) (i : ℕ) (x : X) → slice_get xs i ≡ Some x → g x ≤ sum_by g xs
-sum_one g [] i x e = absurd (cc)
-sum_one g (y ∷ xs) zero x e = let same : y ≡ x = cc in let k = ap g same in let c = sum_by-cons g y xs in omega (arith, k, c)
-sum_one g (y ∷ xs) (suc i) x e = let k = sum_one g xs i x e in let c = sum_by-cons g y xs in omega (arith, k, c)
-
-count_one : {X : Type 0} (test : X → Bool) (xs : List X) (i : ℕ) (x : X) → slice_get xs i ≡ Some x → test x ≡ true → 1 ≤ count_by test xs
-count_one test xs i x e t = let k = sum_one (λ (x : _). count_if (test x)) xs i x e in let one = ap count_if t in omega (arith, k, one)
 
 -- a node of a block, as one of its lines
 line_get : (b : Block ℕ) (n : ℕ) (line : Node ℕ) → node_at b n ≡ Some line → slice_get b.nodes (n - b.inputs) ≡ Some line
@@ -39,8 +28,8 @@ loops_there k e = absurd (true≢false (sym e))
 looped : (fl : Flow) (i n f : ℕ) (b : Block ℕ) (line : Node ℕ) → slice_get fl.blocks i ≡ Some b → node_at b n ≡ Some line → loops_to f line.kind ≡ true → is_looped fl f ≡ true
 looped fl i n f b line e g h =
     let counts = λ (b : Block ℕ). count_by (λ (n : Node ℕ). loops_to f n.kind) b.nodes in
-    let one = count_one (λ (n : Node ℕ). loops_to f n.kind) b.nodes (n - b.inputs) line (line_get b n line g) h in
-    let all = sum_one counts fl.blocks i b e in
+    let one = one_of_count (λ (n : Node ℕ). loops_to f n.kind) b.nodes (n - b.inputs) line (line_get b n line g) h in
+    let all = one_of_sum counts fl.blocks i b e in
     let same = sum-map counts fl.blocks in
     lt-ltb 0 (sum (map counts fl.blocks)) (omega (arith, one, all, same))
 

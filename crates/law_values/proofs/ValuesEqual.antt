@@ -11,6 +11,7 @@ use Rattle.semantics.specs.declared.graph.Kind.TheVariants.{Lit, Apply1, Apply2,
 use Rattle.semantics.specs.Graph.{Node, Block, node_at, first_cell, array_len}
 use Rattle.semantics.specs.Meaning.{Context, Called, Turned, AtNode, Operand, tagged, Activity, Fires, Gates, Passes, Returns, taken, Deed, Says, Sends, deed, fired, fetched, stored, block_of, origin_at}
 use Rattle.lemmas.proofs.Permutations.{Within, each_within, within_to}
+use Rattle.lemmas.proofs.Lists.{one_element}
 use Rattle.law_determinacy.proofs.Keys.{Together, mode_of, mode_node, mode_in, fires_mode}
 use Rattle.law_determinacy.proofs.Grounds.{mode_line}
 use Rattle.law_determinacy.proofs.Options.{some_same}
@@ -29,11 +30,6 @@ use Rattle.law_values.proofs.EndCells.{entry, stored_in, stored_cells}
 
 abbrev LineIn : Rested → Context → ℕ → ℕ → Value → Kind ℕ → List Source → Type 0
 LineIn z c n p v kind ss = LineEquation z.flow z.inputs z.run z.state z.is_run c n p v kind ss
-
-one_of : {X : Type 0} (xs : List X) → length xs ≡ 1 → (x : X) × (xs ≡ x ∷ [])
-one_of [] e = absurd (omega (arith, e))
-one_of (x ∷ []) e = (x, refl)
-one_of (x ∷ y ∷ xs) e = absurd (omega (arith, e))
 
 two_of : {X : Type 0} (xs : List X) → length xs ≡ 2 → (x : X) × (y : X) × (xs ≡ x ∷ y ∷ [])
 two_of [] e = absurd (omega (arith, e))
@@ -69,13 +65,13 @@ module _ (z : Rested) (c : Context) (n p : ℕ) (v : Value) where
   plain_equation : (b : Block ℕ) (r : Region) (kind : Kind ℕ) (ss : List Source) (vs : List Value) (d : Deed) → IsPlain kind → HasForm z.flow b r kind ss → length ss ≡ length vs → fired z.flow c n kind vs ≡ Some d
       → SaysIn z.state.memory d (Sends c n 0 v) → Within (Fires c n vs) z.run → deed z.flow (Fires c n vs) ≡ Some d → Match ss vs → LineIn z c n p v kind ss
   plain_equation b r (Lit w) ss vs d is form long fires says ran e match =
-      let x = one_of ss form.0 in
-      let a = one_of vs (omega (arith, form.0, long)) in
+      let x = one_element ss form.0 in
+      let a = one_element vs (omega (arith, form.0, long)) in
       let f : Some (Says (Sends c n 0 (Int w))) ≡ Some d = ap (λ vs. fired z.flow c n (Lit w) vs) (sym a.1) ∙ fires in
       subst (λ ss. LineIn z c n p v (Lit w) ss) (sym x.1) (sent_value c n (Int w) v (says_as _ d f says))
   plain_equation b r (Apply1 op) ss vs d is form long fires says ran e match =
-      let x = one_of ss form.0 in
-      let a = one_of vs (omega (arith, form.0, long)) in
+      let x = one_element ss form.0 in
+      let a = one_element vs (omega (arith, form.0, long)) in
       let f : Some (Says (Sends c n 0 (apply1 op a.0))) ≡ Some d = ap (λ vs. fired z.flow c n (Apply1 op) vs) (sym a.1) ∙ fires in
       let g = at_place ss 0 x.0 a.0 (ap (λ ss. slice_get ss 0) x.1) (match 0 a.0 (ap (λ vs. slice_get vs 0) a.1)) in
       subst (λ ss. LineIn z c n p v (Apply1 op) ss) (sym x.1) (a.0, g, sent_value c n (apply1 op a.0) v (says_as _ d f says))
@@ -88,8 +84,8 @@ module _ (z : Rested) (c : Context) (n p : ℕ) (v : Value) where
       let h = at_place ss 1 x.1 a.1 (ap (λ ss. slice_get ss 1) x.2) (match 1 a.1 (ap (λ vs. slice_get vs 1) a.2)) in
       subst (λ ss. LineIn z c n p v (Apply2 op) ss) (sym x.2) (a.0, a.1, g, h, sent_value c n out v (says_as _ d f says))
   plain_equation b r (Fetch k) ss vs d is form long fires says ran e match =
-      let x = one_of ss form.0 in
-      let a = one_of vs (omega (arith, form.0, long)) in
+      let x = one_element ss form.0 in
+      let a = one_element vs (omega (arith, form.0, long)) in
       let place = index_in (array_len z.flow k) a.0 (origin_at z.flow c n) in
       let f : Some (fetched c n (first_cell z.flow k) place) ≡ Some d = ap (λ vs. fired z.flow c n (Fetch k) vs) (sym a.1) ∙ fires in
       let g = at_place ss 0 x.0 a.0 (ap (λ ss. slice_get ss 0) x.1) (match 0 a.0 (ap (λ vs. slice_get vs 0) a.1)) in
@@ -141,7 +137,7 @@ module _ (z : Rested) (c : Context) (n p : ℕ) (v : Value) where
     enter_line : line.kind ≡ Enter → Gave z c n p v Gate → LineIn z c n p v Enter line.sources
     enter_line kind h =
         let form = subst (λ kind. HasForm z.flow b line.region kind line.sources) kind ((block_shaped z c b eb).lines n line el).form in
-        let x = one_of line.sources form.0 in
+        let x = one_element line.sources form.0 in
         let s = operand_from z c b n 0 line v eb el (took_all z (Gates c n v h.0) h.2).0 in
         subst (λ ss. LineIn z c n p v Enter ss) (sym x.1) (at_place line.sources 0 x.0 v (ap (λ ss. slice_get ss 0) x.1) s)
 
@@ -210,7 +206,7 @@ module _ (z : Rested) (c : Context) (n p : ℕ) (v : Value) where
   input_equation : (b : Block ℕ) → block_of z.flow c ≡ Some b → n < b.inputs → Gave z c n p v Plain → (p ≡ 0) × InputEquation z.flow z.inputs z.run z.state z.is_run c n v
   input_equation b eb low h =
       let modes : Together 1 ≡ Together (length h.0) = sym (ap (λ (t : Bool). if t then Together 1 else mode_node (node_at b n)) (lt-ltb n b.inputs low)) ∙ sym (ap (λ o. mode_in o n) eb) ∙ fires_mode z.flow c n h.0 h.1 h.3 in
-      let a = one_of h.0 (let same : 1 ≡ length h.0 = cc in sym same) in
+      let a = one_element h.0 (let same : 1 ≡ length h.0 = cc in sym same) in
       let does : Some (Says (Sends c n 0 a.0)) ≡ Some h.1 = sym (fires_input z.flow c b eb n a.0 low) ∙ ap (λ vs. deed z.flow (Fires c n vs)) (sym a.1) ∙ h.3 in
       let value = sent_value c n a.0 v (says_as _ h.1 does h.4) in
       let ran = subst (λ vs. Within (Fires c n vs) z.run) a.1 h.2 in

@@ -4,6 +4,7 @@ use Rattle.std.specs.Prelude.{slice_get}
 use Rattle.std.proofs.lemmas.Bool.{eqb-true}
 use Rattle.std.proofs.lemmas.Option.{slice_get_within}
 use Rattle.lemmas.proofs.Alls.{all_at}
+use Rattle.lemmas.proofs.Bools.{equal_itself}
 use Rattle.semantics.specs.declared.program.Dest.{Dest}
 use Rattle.semantics.specs.declared.program.Mark.{Mark}
 use Rattle.semantics.specs.Graph.{Block, Flow, Graph, flow_of}
@@ -30,7 +31,6 @@ use Rattle.law_wires.proofs.LaidWhole.{site_build}
 use Rattle.law_wires.proofs.LaidUsual.{HasTurns}
 use Rattle.law_wires.proofs.Agree.{read_parts}
 use Rattle.law_wires.proofs.Credits.{AreLast, plain_lasts, variant_lasts}
-use Rattle.law_wires.proofs.Counts.{same_number}
 use Rattle.law_wires.proofs.Compose.{same_looped, number_is, codes_are_there}
 
 -- MARKS of the plain code of a block
@@ -205,7 +205,7 @@ module _ (fl : Flow) (i : ℕ) (b : Block ℕ) (looped : some_block_loops i fl.b
   found n zero (x ∷ xs) e at =
       let same : x ≡ b = cc in
       let here : n ≡ i = omega (arith, at) in
-      let self : (its == its) ≡ true = same_number its in
+      let self : (its == its) ≡ true = equal_itself its in
       let yes : (some_block_loops n fl.blocks && (variant_in fl n == its)) ≡ true = ap (λ m. some_block_loops m fl.blocks && (variant_in fl m == its)) here ∙ ap (λ t. t && (its == its)) looped ∙ self in
       ap (λ t. if t then wiring_of x (variant_parts (turn_scope fl n x) its) (instrs_at fl its) else turn_wiring fl its (n + 1) xs) yes ∙ (λ j. wiring_of (same j) (variant_parts (turn_scope fl (here j) (same j)) its) (instrs_at fl its))
   found n (suc k) (x ∷ xs) e at =

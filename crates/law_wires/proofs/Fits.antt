@@ -7,6 +7,7 @@ use Rattle.std.proofs.lemmas.List.Elements.{All-weaker, All-contains}
 use Rattle.lemmas.proofs.Alls.{all_at}
 use Rattle.lemmas.proofs.Contains.{contains_get}
 use Rattle.lemmas.proofs.SliceGet.{map_get, map_get_back}
+use Rattle.lemmas.proofs.Lists.{length_of_falses}
 use Rattle.semantics.specs.declared.graph.Region.{Region}
 use Rattle.semantics.specs.declared.graph.Region.TheVariants.{Root, Arm}
 use Rattle.semantics.specs.declared.graph.Source.{Source}
@@ -63,10 +64,6 @@ trigger_set ts (y ∷ xs) zero k t x l e takes r =
     = ap (λ (z : Node ℕ). Triggers.with_node ts z) same ∙ ap (λ u. if u then Triggers.with_region ts x.region else ts) takes ∙ ap (Triggers.with_region ts) r in
     nodes_keep (Triggers.with_node ts y) xs k (omega (arith, l, long)) (ap (λ us. slice_index_or us k false) here ∙ get_or-set_same ts k true false l)
 trigger_set ts (y ∷ xs) (suc j) k t x l e takes r = let long = node_length ts y in trigger_set (Triggers.with_node ts y) xs j k t x (omega (arith, l, long)) e takes r
-
-replicate_length : (n : ℕ) → length (replicate n false) ≡ n
-replicate_length zero = refl
-replicate_length (suc n) = ap suc (replicate_length n)
 
 module _ (g : Graph) (well : WellFormed g) where
   abbrev kind_in : Kind (List ℕ) → Kind ℕ
@@ -240,7 +237,7 @@ module _ (g : Graph) (well : WellFormed g) where
     triggered n x k t e l r takes =
         let s = node_slot n x e in
         let low = s.1 in
-        let long = replicate_length (b.inputs + length (block_in g b).nodes) in
+        let long = length_of_falses (b.inputs + length (block_in g b).nodes) in
         trigger_set (replicate (b.inputs + length (block_in g b).nodes) false) (block_in g b).nodes (n - b.inputs) k t x (omega (arith, low, long, l)) s.0 takes r
 
     line_fit : (n : ℕ) (line : Node (List ℕ)) → node_at (block_in g b) n ≡ Some (node_in g line) → IsNodeWell g b n line → IsLineFit fl (block_in g b) n (node_in g line)

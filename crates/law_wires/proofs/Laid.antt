@@ -1,6 +1,7 @@
 -- A builder's instructions stand as the parts of a list, with destinations as the wires of a list: how each step adds to both.
 use Rattle.std.proofs.Common.{◌≡◌, ◌≢◌, ℕ, suc, ◌+◌, ◌-◌, ◌<◌, ◌≤◌, ◌⊎◌, inl, inr, Bool, true, false, ◌&&◌, List, [], ◌∷◌, ◌++◌, length, refl, sym, ap, ◌∙◌, subst, arith, append-nil, append_assoc, if◌then◌else◌, Some, ◌==◌}
 use Rattle.std.specs.Prelude.{slice_get, slice_index_or, ⊤}
+use Rattle.lemmas.proofs.Bools.{equal_itself}
 use Rattle.tags.specs.declared.value.Origin.{Origin}
 use Rattle.tags.specs.declared.value.Origin.TheVariants.{Untold}
 use Rattle.tags.specs.declared.token.Port.TheVariants.{Left, Right}
@@ -81,15 +82,12 @@ other_part e r s u ne = go (same_side (side r s) u) refl
     go true h = absurd (ne (e.apart r u.part (both_true (same_part r u.part) (same_bool s u.second) h).0))
     go false h = refl
 
-same_number : (n : ℕ) → (n == n) ≡ true
-same_number n = grind (arith)
-
 pub same_part_self : (r : Part) → same_part r r ≡ true
 same_part_self r =
     let k = part_key r in
-    let a = same_number k.kind in
-    let b = same_number k.first in
-    let c = same_number k.second in
+    let a = equal_itself k.kind in
+    let b = equal_itself k.first in
+    let c = equal_itself k.second in
     ap (λ x. x && ((k.first == k.first) && (k.second == k.second))) a ∙ ap (λ x. x && (k.second == k.second)) b ∙ c
 
 -- all wires leave below a place

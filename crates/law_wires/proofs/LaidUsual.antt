@@ -1,6 +1,7 @@
 -- What is known of the parts of a block: a gate lies in an arm, and where the machine answers, and at a turn, arcs leave.
 use Rattle.std.proofs.Common.{◌≡◌, ◌≢◌, ℕ, zero, suc, ◌+◌, ◌-◌, ◌<◌, ◌==◌, ◌&&◌, Bool, true, false, List, [], ◌∷◌, ◌++◌, length, refl, ap, ◌∙◌, subst, arith, if◌then◌else◌, Some}
 use Rattle.std.specs.Prelude.{slice_get}
+use Rattle.lemmas.proofs.Bools.{equal_itself}
 use Rattle.tags.specs.declared.token.Port.TheVariants.{Left, Right}
 use Rattle.semantics.specs.declared.graph.Region.{Region}
 use Rattle.semantics.specs.declared.graph.Region.TheVariants.{Root, Arm}
@@ -18,7 +19,6 @@ use Rattle.law_wires.specs.Written.{Wire, wire, same_side, is_open, is_shared, i
 use Rattle.law_wires.specs.Written as Written
 use Rattle.law_wires.specs.Fit.{IsFit}
 use Rattle.law_wires.proofs.Laid.{Env, same_part_self}
-use Rattle.law_wires.proofs.Counts.{same_number}
 use Rattle.law_wires.proofs.Parts.{follow}
 use Rattle.law_wires.proofs.Arcs.{invoke_arcs, strict_call_arcs, credit_arcs, kind_arcs, node_arcs, turn_arcs, tail_arcs, inner_arcs}
 use Rattle.law_wires.proofs.LaidNodes.{env}
@@ -128,10 +128,10 @@ module _ (fl : Flow) (S : Site) (place : Part → ℕ) (apart : (r q : Part) →
 
   -- where the machine answers, an arc leaves
   self : (n : ℕ) → ((n == n) && true) ≡ true
-  self n = ap (λ t. t && true) (same_number n)
+  self n = ap (λ t. t && true) (equal_itself n)
 
   twice : (n : ℕ) → (((n == n) && true) && true) ≡ true
-  twice n = ap (λ t. (t && true) && true) (same_number n)
+  twice n = ap (λ t. (t && true) && true) (equal_itself n)
 
   invoked_usual : (n m q : ℕ) (t : Side) (xs : List Source) → Usual (invoke_arcs S n t xs) (invoked n m q)
   invoked_usual n m q t xs =

@@ -3,6 +3,7 @@ use Rattle.std.proofs.Common.{◌≡◌, ◌≢◌, ℕ, ◌+◌, ◌<◌, ◌�
 use Rattle.std.specs.Prelude.{⊤}
 use Rattle.std.proofs.lemmas.Bool.{eqb-true}
 use Rattle.lemmas.proofs.Contains.{contains_cases, contains_head, contains_tail, contains_none}
+use Rattle.lemmas.proofs.Bools.{first_of_and}
 use Rattle.tags.specs.declared.token.Port.{Port}
 use Rattle.semantics.specs.declared.graph.Region.{Region}
 use Rattle.semantics.specs.declared.graph.Region.TheVariants.{Root, Arm}
@@ -26,10 +27,6 @@ bool_self false = refl
 pub side_self : (t : Side) → same_side t t ≡ true
 side_self t = ap (λ x. x && same_bool t.second t.second) (same_part_self t.part) ∙ bool_self t.second
 
-first_true : (s t : Bool) → (s && t) ≡ true → s ≡ true
-first_true true t h = refl
-first_true false t h = absurd (cc)
-
 no_false : (s : Bool) → (s && false) ≡ true → ⊥
 no_false true h = cc
 no_false false h = cc
@@ -38,8 +35,8 @@ pub region_is : (q r : Region) → same_region q r ≡ true → q ≡ r
 region_is Root Root h = refl
 region_is Root (Arm k t) h = absurd (cc)
 region_is (Arm k t) Root h = absurd (cc)
-region_is (Arm k true) (Arm l true) h = let same : k ≡ l = eqb-true k l (first_true (k == l) true h) in ap (λ n. Arm n true) same
-region_is (Arm k false) (Arm l false) h = let same : k ≡ l = eqb-true k l (first_true (k == l) true h) in ap (λ n. Arm n false) same
+region_is (Arm k true) (Arm l true) h = let same : k ≡ l = eqb-true k l (first_of_and (k == l) true h) in ap (λ n. Arm n true) same
+region_is (Arm k false) (Arm l false) h = let same : k ≡ l = eqb-true k l (first_of_and (k == l) true h) in ap (λ n. Arm n false) same
 region_is (Arm k true) (Arm l false) h = absurd (no_false (k == l) h)
 region_is (Arm k false) (Arm l true) h = absurd (no_false (k == l) h)
 

@@ -2,6 +2,7 @@
 -- arm, and a turn asks for a credit behind its flag. All arguments are sent before a result comes.
 use Rattle.std.proofs.Common.{◌≡◌, ◌≢◌, ℕ, ◌+◌, ◌<◌, ◌⊎◌, inl, inr, Bool, true, false, ◌&&◌, List, [], ◌∷◌, ◌++◌, length, refl, sym, ap, ◌∙◌, subst, arith, Contains, ◌==◌}
 use Rattle.lemmas.proofs.Contains.{contains_cases, contains_none}
+use Rattle.lemmas.proofs.Bools.{equal_itself}
 use Rattle.tags.specs.declared.token.Port.{Port}
 use Rattle.tags.specs.declared.token.Port.TheVariants.{Left, Right}
 use Rattle.semantics.specs.declared.graph.Region.{Region}
@@ -18,7 +19,6 @@ use Rattle.law_wires.specs.Written.{Wire, wire, same_side, leaves, trigger_side,
 use Rattle.law_wires.specs.Fit.{IsFit}
 use Rattle.law_wires.specs.Halves.{IsWritten}
 use Rattle.law_wires.proofs.Same.{side_is}
-use Rattle.law_wires.proofs.Counts.{same_number}
 use Rattle.law_wires.proofs.Laid.{same_part_self}
 use Rattle.law_wires.proofs.Members.{InW, wire_right, side_self}
 use Rattle.law_wires.proofs.Nodes.{node_some, kind_at}
@@ -29,7 +29,7 @@ use Rattle.law_wires.proofs.Waits.{wire_there, wire_leads}
 
 -- what is among some inlets is counted there
 inlet_self : (x : Inlet) → same_inlet x x ≡ true
-inlet_self x = ap (λ t. t && (same_port x.port x.port && (x.way == x.way))) (same_part_self x.part) ∙ ap (λ t. t && (x.way == x.way)) (port_self x.port) ∙ same_number x.way
+inlet_self x = ap (λ t. t && (same_port x.port x.port && (x.way == x.way))) (same_part_self x.part) ∙ ap (λ t. t && (x.way == x.way)) (port_self x.port) ∙ equal_itself x.way
   where
     port_self : (q : Port) → same_port q q ≡ true
     port_self Left = refl

@@ -1,9 +1,11 @@
 -- In every context that runs a loop's turn what leaves goes to its uses, and the wires stay in their arms. The code of a turn is another
 -- one than that of a call, and that of another loop's turn.
-use Rattle.std.proofs.Common.{◌≡◌, ℕ, zero, suc, ◌-◌, ◌<◌, ◌≤◌, Bool, true, false, List, [], ◌∷◌, map, length, refl, sym, ap, ◌∙◌, arith, if◌then◌else◌, Some, None, nat_lt, lt-ltb, sum_by}
+use Rattle.std.proofs.Common.{◌≡◌, ℕ, zero, suc, ◌-◌, ◌<◌, ◌≤◌, Bool, true, false, List, [], ◌∷◌, map, length, refl, sym, ap, ◌∙◌, arith, if◌then◌else◌, Some, None, nat_lt, lt-ltb}
 use Rattle.std.specs.Prelude.{slice_get, count_by, sum}
-use Rattle.std.proofs.lemmas.List.Sums.{sum_by-cons, sum-map}
+use Rattle.std.proofs.lemmas.List.Sums.{sum-map}
 use Rattle.std.proofs.lemmas.Option.{slice_get_within}
+use Rattle.lemmas.proofs.Bools.{equal_itself}
+use Rattle.lemmas.proofs.Sums.{one_of_sum}
 use Rattle.semantics.specs.declared.graph.Kind.{Kind}
 use Rattle.semantics.specs.declared.graph.Kind.TheVariants.{Loop}
 use Rattle.semantics.specs.Graph.{Node, Block, Flow, node_at}
@@ -16,19 +18,13 @@ use Rattle.law_contexts.specs.Wires.{plain_site, turn_site, FollowArms, GoesToUs
 use Rattle.law_contexts.specs.Expanded.{CodesAreThere, wires_of}
 use Rattle.law_wires.specs.Fit.{IsFit}
 use Rattle.law_wires.specs.Halves.{IsWritten}
-use Rattle.law_wires.proofs.Counts.{tally, count_is, same_number}
+use Rattle.law_wires.proofs.Counts.{tally, count_is}
 use Rattle.law_wires.proofs.Nodes.{node_some}
 use Rattle.law_wires.proofs.Turns.{turns_well}
 use Rattle.law_wires.proofs.Arms.{follows}
 use Rattle.law_wires.proofs.UsesWhole.{has_block, numbered, number_is, RunsNoTurn, goes_to_uses, GoesOn, site_goes_to_uses}
 use Rattle.law_wires.proofs.TurnValues.{turns_on}
 use Rattle.law_wires.proofs.TurnUses.{turn_told}
-
--- A BLOCK THAT A LOOP NAMES is looped
-some_weight : {X : Type 0} (f : X → ℕ) (xs : List X) (i : ℕ) (x : X) → slice_get xs i ≡ Some x → f x ≤ sum_by f xs
-some_weight f [] i x e = absurd (cc)
-some_weight f (y ∷ ys) zero x e = let same : y ≡ x = cc in let c = sum_by-cons f y ys in let h = ap f same in omega (arith, c, h)
-some_weight f (y ∷ ys) (suc i) x e = let h = some_weight f ys i x e in let c = sum_by-cons f y ys in omega (arith, c, h)
 
 some_tally : {X : Type 0} (p : X → Bool) (xs : List X) (i : ℕ) (x : X) → slice_get xs i ≡ Some x → p x ≡ true → 0 < tally p xs
 some_tally p [] i x e h = absurd (cc)
@@ -62,11 +58,11 @@ module _ (fl : Flow) where
     where
       its : (i : ℕ) (b : Block ℕ) (k : ℕ) (y : Node ℕ) (f bound : ℕ) → slice_get fl.blocks i ≡ Some b → slice_get b.nodes k ≡ Some y → y.kind ≡ Loop f bound → is_looped fl f ≡ true
       its i b k y f bound e g q =
-          let passes : loops_to f y.kind ≡ true = ap (loops_to f) q ∙ same_number f in
+          let passes : loops_to f y.kind ≡ true = ap (loops_to f) q ∙ equal_itself f in
           let some = some_tally (λ (z : Node ℕ). loops_to f z.kind) b.nodes k y g passes in
           let count = count_is (λ (z : Node ℕ). loops_to f z.kind) b.nodes in
           let loops : Block ℕ → ℕ = λ (d : Block ℕ). count_by (λ (z : Node ℕ). loops_to f z.kind) d.nodes in
-          let weight = some_weight loops fl.blocks i b e in
+          let weight = one_of_sum loops fl.blocks i b e in
           let all = sum-map loops fl.blocks in
           lt-ltb 0 (sum (map loops fl.blocks)) (omega (arith, some, count, weight, all))
 

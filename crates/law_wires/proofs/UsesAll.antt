@@ -12,6 +12,7 @@ use Rattle.semantics.specs.declared.graph.Kind.TheVariants.{Lit, Apply1, Apply2,
 use Rattle.semantics.specs.Graph.{Node, Flow, node_at}
 use Rattle.semantics.specs.Meaning.{Context, AtNode, AtOut, Operand, Predicate, Tagged, tagged, block_of, positions, uses_at, result_uses, sent_in, is_enter_of, predicates_from}
 use Rattle.lemmas.proofs.Permutations.{permutation_cancel, permutation_same, permutation_crossed}
+use Rattle.lemmas.proofs.Bools.{equal_itself}
 use Rattle.expansion.specs.Builds.{first_source}
 use Rattle.expansion.specs.Scopes.{predicate_of, predicate_in}
 use Rattle.law_contexts.specs.Blocks.{Site, cond_kind}
@@ -19,7 +20,7 @@ use Rattle.law_contexts.specs.Told.{settled_sent}
 use Rattle.law_contexts.specs.Wires.{told_along}
 use Rattle.law_wires.specs.Written.{Wire, along, same_side, leaves_at, leaves, kind_wires, node_wires, tail_wires, wires_in}
 use Rattle.law_wires.specs.Fit.{Takes, ComesBefore, IsFit}
-use Rattle.law_wires.proofs.Counts.{Follow, follow_more, follow_here, same_number, same_some}
+use Rattle.law_wires.proofs.Counts.{Follow, follow_more, follow_here, same_some}
 use Rattle.law_wires.proofs.Parts.{follow, node_within}
 use Rattle.law_wires.proofs.Nodes.{node_some, cond_is, first_before}
 use Rattle.law_wires.proofs.Uses.{IsPort, heard, heard_both, side_test, settle, made, settle_both, results_heard, used, gated, test, decides, kind_row}
@@ -138,7 +139,7 @@ module _ (fl : Flow) (s : Site) (fit : IsFit fl s.block) (c : Context) (v : Valu
       let cond = cond_is z.0.kind z.2 in
       let enters : (j : ℕ) → from_cond j g y ≡ (if k == j then tagged c (AtNode g) Predicate v ∷ [] else []) = λ j. (λ i. if is_enter_of j (r i) (f i) then tagged c (AtNode g) Predicate v ∷ [] else []) in
       let other : (j : ℕ) → j ≢ k → from_cond j g y ≡ [] = λ j ne. enters j ∙ ap (λ x. if x then tagged c (AtNode g) Predicate v ∷ [] else []) (ne_eqb k j (λ i. ne (sym i))) in
-      let its : from_cond k g y ≡ tagged c (AtNode g) Predicate v ∷ [] = enters k ∙ ap (λ x. if x then tagged c (AtNode g) Predicate v ∷ [] else []) (same_number k) in
+      let its : from_cond k g y ≡ tagged c (AtNode g) Predicate v ∷ [] = enters k ∙ ap (λ x. if x then tagged c (AtNode g) Predicate v ∷ [] else []) (equal_itself k) in
       let x : Source = first_source z.0.sources in
       let takes : length z.0.sources ≡ 1 = subst (λ i. Takes fl i (length z.0.sources)) cond (fit.nodes k z.0 z.1).takes in
       let before : ComesBefore fl s.block k x = first_before fl s.block k z.0.sources (omega (arith, takes)) (fit.nodes k z.0 z.1).earlier in

@@ -14,6 +14,7 @@ use native.Mathlib.Decide.{ℕ_discrete}
 use lib.ListN.{get_elem?, length-map, length-replicate}
 use Rattle.atomic_table.specs.Table.{Step, keeps, Allows, Splits, Joins, opening}
 use Rattle.atomic_table.proofs.Lists.{at_set}
+use Rattle.lemmas.proofs.Lists.{nothing_before}
 use Rattle.tags.specs.declared.token.Token.{Token}
 use Rattle.tags.specs.declared.token.To.{To}
 use Rattle.tags.specs.Addresses.{element_of}
@@ -94,10 +95,6 @@ all_zero : (n i : ℕ) → ◌≡◌ {A = ℕ} (get_or {A = ℕ} (replicate {A =
 all_zero zero i = refl
 all_zero (suc n) zero = refl
 all_zero (suc n) (suc i) = all_zero n i
-
-nothing_left : {A : Type 0} (xs ys : List A) → xs ++ ys ≡ [] → xs ≡ []
-nothing_left [] ys e = refl
-nothing_left (x ∷ xs) ys e = absurd (cc)
 
 total_zero : (m : ℕ) (f : ℕ → ℕ) → ((j : ℕ) → f j ≡ 0) → total m f ≡ 0
 unfolding total
@@ -272,7 +269,7 @@ module _ {B : Type 0} (items : B → Ts) (n : ℕ) (start : Ts) where
           none_yet zero q is =
               let all : commits_by v.spare r.log ≡ [] = r.past.own v.spare below ∙ ap (λ (z : Part). commits_of v.spare z.deeds) its.1 in
               let pre = by_prefix v.spare v.seen r.log ok.seen in
-              subst (λ (z : Part). commits_by z.element v.seen ≡ commits_by z.element r.log) (some-injective f q is) (nothing_left (commits_by v.spare v.seen) pre.0 (pre.1 ∙ all) ∙ sym all)
+              subst (λ (z : Part). commits_by z.element v.seen ≡ commits_by z.element r.log) (some-injective f q is) (nothing_before (commits_by v.spare v.seen) pre.0 (pre.1 ∙ all) ∙ sym all)
           none_yet (suc k) q is = absurd (some-ne-none q (sym is))
 
       old : (j : ℕ) (u : View) → j < length vs' → get_elem? vs' j ≡ some u → Fits n start r.part owner' r.log j u

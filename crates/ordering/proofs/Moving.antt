@@ -5,6 +5,7 @@ use Rattle.std.proofs.lemmas.Bool.{eqb-true, eqb-false}
 use Rattle.std.proofs.lemmas.List.Elements.{All-contains, All-append, All-nil, All-cons, All-head, All-tail}
 use Rattle.std.proofs.lemmas.List.Sorted.{IsPermutation-refl, IsPermutation-sym, IsPermutation-trans}
 use Rattle.lemmas.proofs.Permutations.{within_to, Meet, permutation_cancel, permutation_meet, permutation_exchange}
+use Rattle.lemmas.proofs.Lists.{same_head, same_tail}
 use Rattle.tags.specs.declared.token.Token.{Token}
 use Rattle.tags.specs.Addresses.{element_of}
 use Rattle.semantics.specs.Machine.{Events}
@@ -28,11 +29,6 @@ behind_mine n e [] us all = all
 behind_mine n e (t ∷ ts) us all = behind_mine n e ts us (All-tail (λ (t : Token). element_of n t.to ≡ e) t (ts ++ us) all)
 
 -- LISTS OF BLOCKS
-head_is : (x b : Block) (xs bs : List Block) → x ∷ xs ≡ b ∷ bs → x ≡ b
-head_is x b xs bs e = cc
-
-tail_is : (x b : Block) (xs bs : List Block) → x ∷ xs ≡ b ∷ bs → xs ≡ bs
-tail_is x b xs bs e = cc
 
 pub first_own : (x : Block) (log : List Block) (e : ℕ) → x.element ≡ e → blocks_by e (x ∷ log) ≡ x ∷ blocks_by e log
 first_own x log e same = subst (λ (k : ℕ). blocks_by k (x ∷ log) ≡ x ∷ blocks_by k log) same (by_same x log)
@@ -95,8 +91,8 @@ sets_aside n e b later (x ∷ log) tokens rest last ts need leaves is spent mine
       by_case true t again =
           let same = eqb-true x.element e t in
           let cons = sym (first_own x log e same) ∙ is in
-          let one = head_is x b (blocks_by e log) later cons in
-          let all = tail_is x b (blocks_by e log) later cons in
+          let one = same_head x b (blocks_by e log) later cons in
+          let all = same_tail x b (blocks_by e log) later cons in
           let here = aside_own n e x log tokens rest last ts need same leaves (ap (λ (y : Block). y.spent) one ∙ spent) perm in
           subst (λ (ls : List Block). Aside n e b ls need (x ∷ log) rest last) all (subst (λ (y : Block). Aside n e y (blocks_by e log) need (x ∷ log) rest last) one here)
       by_case false t again =
@@ -141,8 +137,8 @@ puts_back n e b later (x ∷ next) tokens rest last ts need leaves is same spent
           → PutBack n e b later (x ∷ next) tokens last
       by_case true t again =
           let cons = sym (first_own x next e (eqb-true x.element e t)) ∙ is in
-          let one = head_is x (with_spent need b) (blocks_by e next) later cons in
-          let all = tail_is x (with_spent need b) (blocks_by e next) later cons in
+          let one = same_head x (with_spent need b) (blocks_by e next) later cons in
+          let all = same_tail x (with_spent need b) (blocks_by e next) later cons in
           subst (λ (ls : List Block). PutBack n e b ls (x ∷ next) tokens last) all (back_own n e x b next tokens rest last ts need one same leaves spent mine perm)
       by_case false t again =
           let other = eqb-false x.element e t in
