@@ -5,7 +5,7 @@ use Rattle.std.specs.Borrow.{Bor}
 use Rattle.std.specs.Char.{digit_value}
 use Rattle.std.specs.List.{list_all, list_any, before_first, after_first, position_or_len}
 use Rattle.std.specs.Str.Parse.{AllDigits, IsNumeral, digits_value, without_leading_plus}
-use Rattle.std.proofs.lemmas.Bool.{ltb-true, lt-ltb}
+use Rattle.std.proofs.lemmas.Bool.{ltb-true, lt-ltb, and_parts}
 use Rattle.std.proofs.lemmas.Bool.Decides.{nat_tests}
 use Rattle.std.proofs.lemmas.Grind.{common_steps}
 use Rattle.std.proofs.lemmas.List.{take_at, drop_at, take_all, append_assoc, get_or_append_left, get_or_at, length_push}
@@ -77,13 +77,10 @@ pub parts_at-without : (c : ℕ) (text : List ℕ) → Lacks c text → parts_at
 parts_at-without c text h = rw (before_first-Lacks c text h, list_any-Lacks c text h)
 
 -- NUMBERS
-both : (a b : Bool) → (a && b) ≡ true → (a ≡ true) × (b ≡ true)
-both true b e = (refl, e)
-both false b e = cc
 
 digits_from : (ds : List ℕ) → list_all (λ d. nat_lt (digit_value d) 10) ds ≡ true → AllDigits 10 ds
 digits_from [] e = tt
-digits_from (d ∷ ds) e = let parts = both _ _ e in (ltb-true _ _ parts.0, digits_from ds parts.1)
+digits_from (d ∷ ds) e = let parts = and_parts _ _ e in (ltb-true _ _ parts.0, digits_from ds parts.1)
 
 digits_back : (ds : List ℕ) → AllDigits 10 ds → list_all (λ d. nat_lt (digit_value d) 10) ds ≡ true
 digits_back [] h = refl
@@ -93,7 +90,7 @@ numeral : (ds : List ℕ) → IsNumeral 10 ds → is_numeral ds ≡ true
 numeral ds h = rw (lt-ltb 0 (length ds) h.0) (digits_back ds h.1)
 
 numeral_from : (ds : List ℕ) → is_numeral ds ≡ true → IsNumeral 10 ds
-numeral_from ds e = let parts = both _ _ e in (ltb-true _ _ parts.0, digits_from ds parts.1)
+numeral_from ds e = let parts = and_parts _ _ e in (ltb-true _ _ parts.0, digits_from ds parts.1)
 
 -- the number of the digits ds, where they are a numeral and fit
 abbrev number_if : List ℕ → Bool → Bool → Option ℕ

@@ -1,11 +1,11 @@
 -- Where slots stand, and what a change of one place leaves.
 use Rattle.std.proofs.Common.{◌≡◌, sym, ◌∙◌, ap, subst, ℕ, ◌+◌, ◌*◌, ◌/◌, ◌%◌, ◌<◌, ◌≤◌, cond, List, length, get_or, set, arith, get_or-set_other, get_or-set_same, ⊎_elim}
-use Rattle.std.proofs.lemmas.Bool.{cases_eq, eq-eqb, ne_eqb}
+use Rattle.std.proofs.lemmas.Bool.{cases_eq, eq-eqb, ne_eqb, cases_lt}
 use Rattle.std.proofs.Math.Nat.{mul-le-mul_left}
 use Rattle.tags.specs.declared.slot.SlotState.{SlotState}
 use Rattle.tags.specs.declared.slot.SlotState.TheVariants.{Empty}
 use Rattle.semantics.specs.Machine.{put_at}
-use Rattle.frame_store.proofs.Apart.{either, below, one_slot}
+use Rattle.frame_store.proofs.Apart.{below, one_slot}
 use Rattle.element.specs.Parts.{Shape, slot_place}
 
 -- what is the same at each place is the same
@@ -37,7 +37,7 @@ frame_there : (n m f : ℕ) → 0 < n → f < n * m → f / n < m
 frame_there n m f some l = ⊎_elim
     (λ (less : f / n < m). less)
     (λ (more : m ≤ f / n). absurd (let h : n * m ≤ n * (f / n) = mul-le-mul_left n more in omega (arith, div-mod f n)))
-    (either (f / n) m)
+    (cases_lt (f / n) m)
 
 -- the slots of the frames that lie here, after one changed
 module _ (z : Shape) (states : List SlotState) (some : 0 < z.elements) (bank : z.start + z.frames * z.width ≤ length states) where

@@ -3,6 +3,7 @@ use Rattle.std.proofs.Common.{◌≡◌, ℕ, zero, suc, ◌+◌, ◌-◌, ◌<�
 use Rattle.std.specs.Prelude.{slice_get, slice_set}
 use Rattle.std.proofs.lemmas.Bool.{cases_eq}
 use Rattle.std.proofs.lemmas.List.{get_or-set_same, get_or-set_other}
+use Rattle.std.proofs.lemmas.Option.{same_Some}
 use Rattle.lemmas.proofs.Lists.{length_of_falses}
 use Rattle.semantics.specs.declared.program.Dest.{Dest}
 use Rattle.semantics.specs.declared.program.Op.{Op}
@@ -11,7 +12,6 @@ use Rattle.semantics.specs.Program.{Instr}
 use Rattle.semantics.specs.Plan.{Plan, landing}
 use Rattle.fanout.specs.Rows.{tie, tie_landings, tie_instr, tie_all, tied_in, is_tied}
 use Rattle.fanout.specs.Places.{size, places_from}
-use Rattle.fanout.proofs.Positions.{same_number}
 
 -- there are as many flags as instructions
 pub tie_length : (ts : List Bool) (from k : ℕ) → length (tie ts from k) ≡ length ts
@@ -48,7 +48,7 @@ tie_these ts from (suc c) k l h there = pick (cases_eq k (from + c)) (tie_these 
 -- the instructions of the first row keep their places
 pub place_tied : (ts : List Bool) (n before copied : ℕ) (is : List Instr) (v m : ℕ) → ((k : ℕ) → k < v → is_tied ts (n + k) ≡ true) → slice_get (places_from ts n before copied is) v ≡ Some m → m ≡ n + v + before
 place_tied ts n before copied [] v m h e = absurd (cc)
-place_tied ts n before copied (i ∷ is) zero m h e = let k = same_number (n + before) m e in omega (arith, k)
+place_tied ts n before copied (i ∷ is) zero m h e = let k = same_Some (n + before) m e in omega (arith, k)
 place_tied ts n before copied (i ∷ is) (suc v) m h e =
     let z : n + 0 ≡ n = omega arith in
     let t : is_tied ts n ≡ true = sym (ap (is_tied ts) z) ∙ h 0 (omega arith) in

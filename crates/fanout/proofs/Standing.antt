@@ -1,7 +1,7 @@
 -- The landing of a link stays in a row.
 use Rattle.std.proofs.Common.{◌≡◌, ℕ, zero, suc, ◌+◌, ◌-◌, ◌<◌, Bool, true, false, List, ◌∷◌, length, replicate, sym, ap, ◌∙◌, subst, inl, inr, ◌⊎◌, arith, Some, if◌then◌else◌, []}
 use Rattle.std.specs.Prelude.{slice_get, Contains}
-use Rattle.std.proofs.lemmas.Option.{slice_get_within}
+use Rattle.std.proofs.lemmas.Option.{slice_get_within, same_Some}
 use Rattle.lemmas.proofs.Contains.{contains_cases, contains_none}
 use Rattle.lemmas.proofs.SliceGet.{get_some}
 use Rattle.lemmas.proofs.Lists.{length_of_falses}
@@ -14,7 +14,6 @@ use Rattle.fanout.specs.Sides.{parted, firsts_of, parting_of}
 use Rattle.fanout.specs.Rows.{tie, tie_landings, tie_instr, tie_all, is_tied}
 use Rattle.fanout.specs.Places.{size, places_from, place_of}
 use Rattle.fanout.specs.Laws.{LandingsStay, InstrsStay}
-use Rattle.fanout.proofs.Positions.{same_number}
 use Rattle.fanout.proofs.Spots.{place_is}
 use Rattle.fanout.proofs.Flags.{tie_length, tie_these, landings_keep, all_keeps, instr_length}
 use Rattle.fanout.proofs.Plans.{is, ts, l, all, at_place}
@@ -27,8 +26,8 @@ place_next ts n before copied (i ∷ []) zero m m' e f t = absurd (cc)
 place_next ts n before copied (i ∷ j ∷ is) zero m m' e f t =
     let z : n + 0 ≡ n = omega arith in
     let here : is_tied ts n ≡ true = sym (ap (is_tied ts) z) ∙ t in
-    let a = same_number (n + before) m e in
-    let b = same_number (n + 1 + before) m' (sym (ap (λ (t : Bool). Some (n + 1 + (if t then before else copied + size i))) here) ∙ f) in
+    let a = same_Some (n + before) m e in
+    let b = same_Some (n + 1 + before) m' (sym (ap (λ (t : Bool). Some (n + 1 + (if t then before else copied + size i))) here) ∙ f) in
     omega (arith, a, b)
 place_next ts n before copied (i ∷ is) (suc v) m m' e f t =
     let z : n + 1 + v ≡ n + suc v = omega arith in

@@ -1,5 +1,5 @@
 -- What a call or a loop invokes, and the code of every context.
-use Rattle.std.proofs.Common.{◌≡◌, ℕ, zero, suc, ◌-◌, ◌<◌, Bool, true, false, ◌||◌, List, [], ◌∷◌, map, length, sum, refl, sym, ap, ◌∙◌, subst, inl, inr, ◌⊎◌, arith, true≢false, Option, Some, None, nat_lt, lt-ltb, eq-eqb, if◌then◌else◌}
+use Rattle.std.proofs.Common.{◌≡◌, ℕ, zero, suc, ◌-◌, ◌<◌, Bool, true, false, List, [], ◌∷◌, map, length, sum, refl, sym, ap, ◌∙◌, subst, inl, inr, ◌⊎◌, arith, true≢false, Option, Some, None, nat_lt, lt-ltb, eq-eqb, if◌then◌else◌}
 use Rattle.std.specs.Prelude.{slice_get, count_by}
 use Rattle.semantics.specs.declared.graph.Kind.{Kind}
 use Rattle.semantics.specs.Graph.{Block, Flow, Node, node_at}
@@ -10,6 +10,8 @@ use Rattle.law_determinacy.proofs.Laws.{well_at}
 use Rattle.law_net.specs.Roles.{one, total}
 use Rattle.law_net.proofs.Orders.{total-sum_by}
 use Rattle.std.proofs.lemmas.List.Sums.{sum-map}
+use Rattle.std.proofs.lemmas.Bool.{or_cases}
+use Rattle.std.proofs.lemmas.Option.{same_Some}
 use Rattle.law_contexts.specs.Blocks.{is_kind, call_kind, loop_kind, strict_kind, is_call, is_loop, is_strict, invokes, source_count, outputs_in, kind_results, result_count}
 use Rattle.law_contexts.specs.Contexts.{Wires, or_zero, or_none, block_in, code_in, site_in, wiring_in, child, IsContext}
 use Rattle.law_contexts.specs.Wires.{IsWiredCode, Runs, AreLawful, plain_site, turn_site}
@@ -42,10 +44,6 @@ strict_or_not kind h = absurd (true≢false (sym h))
 pub strict_call : (b : Block ℕ) (n : ℕ) → is_strict b n ≡ true → is_call b n ≡ true
 strict_call b n h = let k = kind_line strict_kind b n h in ap (λ (o : Option (Node ℕ)). elim o as (λ x. Bool) [ None ↦ false | Some line ↦ call_kind line.kind ]) k.1 ∙ strict_or_not k.0.kind k.2
 
-pub or_cases : (x y : Bool) → (x || y) ≡ true → (x ≡ true) ⊎ (y ≡ true)
-or_cases true y h = inl refl
-or_cases false y h = inr h
-
 call_names : (fl : Flow) (m : ℕ) (kind : Kind ℕ) → call_kind kind ≡ true → (f : ℕ) × (callee kind ≡ Some f) × (kind_results fl m kind ≡ outputs_in (slice_get fl.blocks f))
 call_names fl m (Kind.Call f) h = (f, refl, refl)
 call_names fl m (Kind.StrictCall f) h = (f, refl, refl)
@@ -54,9 +52,6 @@ call_names fl m kind h = absurd (true≢false (sym h))
 pub loop_names : (fl : Flow) (m : ℕ) (kind : Kind ℕ) → loop_kind kind ≡ true → (f : ℕ) × (callee kind ≡ Some f) × (kind_results fl m kind ≡ m) × (loops_to f kind ≡ true)
 loop_names fl m (Kind.Loop f k) h = (f, refl, refl, eq-eqb f f refl)
 loop_names fl m kind h = absurd (true≢false (sym h))
-
-some_line : (a b : Node ℕ) → Some a ≡ Some b → a ≡ b
-some_line a b e = cc
 
 -- a block's line at a node is in its list
 node_listed : (b : Block ℕ) (n : ℕ) (line : Node ℕ) → node_at b n ≡ Some line → slice_get b.nodes (n - b.inputs) ≡ Some line
@@ -114,7 +109,7 @@ module _ (stage : ℕ) (fl : Flow) (p : Plan) (w : Wires) (good : IsGood stage f
         record {
           number = f;
           numbered = number;
-          named = λ line' e'. let same : line ≡ line' = some_line line line' (sym e ∙ e') in ap (λ (l : Node ℕ). callee l.kind) (sym same) ∙ g;
+          named = λ line' e'. let same : line ≡ line' = same_Some line line' (sym e ∙ e') in ap (λ (l : Node ℕ). callee l.kind) (sym same) ∙ g;
           found = well.1 ∙ ap Some (sym block);
           inputs = ap (λ (b : Block ℕ). b.inputs) block ∙ well.2 ∙ sym (ap (λ (o : Option (Node ℕ)). elim o as (λ x. ℕ) [ None ↦ 0 | Some line ↦ length line.sources ]) e);
           some_input = subst (λ (b : Block ℕ). 0 < b.inputs) (sym block) well.3;

@@ -2,6 +2,7 @@
 use Rattle.std.proofs.Common.{◌≡◌, ℕ, ◌+◌, ◌≤◌, Bool, true, false, not, ◌||◌, List, [], ◌∷◌, ◌++◌, refl, sym, ap, ◌∙◌, subst, inl, inr, ◌⊎◌, arith, true≢false, append-nil, Option, Some, None, nat_lt, if◌then◌else◌}
 use Rattle.std.specs.Prelude.{All, Contains}
 use Rattle.std.proofs.lemmas.List.Elements.{All-weaker, All-contains, All-contains_itself, Contains-append_left, Contains-append_cases}
+use Rattle.std.proofs.lemmas.Option.{same_Some}
 use Rattle.lemmas.proofs.Contains.{contains_head, contains_mapped, contains_none, contains_tail}
 use Rattle.tags.specs.declared.token.Port.TheVariants.{Left, Right}
 use Rattle.operators.specs.Values.{truth}
@@ -202,9 +203,6 @@ cell_plain b n e = or_right (nat_lt n b.inputs) (is_kind plain_kind b n) (go (no
         by_kind (Kind.Store a) e = refl
         by_kind kind e = absurd (true≢false (sym e))
 
-some_is : (t u : Side) → Some t ≡ Some u → t ≡ u
-some_is t u e = cc
-
 module _ (fl : Flow) (w : Wires) (f : Firing) where
   pub record SideOf (t : Side) (r : Part) : Type 0 where
     pub there : there_in fl (site_in fl w f.context) (wiring_in fl w f.context) t.part ≡ true
@@ -213,13 +211,13 @@ module _ (fl : Flow) (w : Wires) (f : Firing) where
     pub plain : is_switch t.part ≡ false → t.second ≡ false
 
   switch_facts : (r : Part) (t : Side) (k : Note) → f.right ≡ k → is_switch r ≡ true → maker_of (block_in fl f.context) r ≡ r → there_in fl (site_in fl w f.context) (wiring_in fl w f.context) r ≡ true → switch_side r k ≡ Some t → SideOf t r
-  switch_facts r t (Datum v) e s m h g = subst (λ (t : Side). SideOf t r) (some_is (side r (not (truth v))) t g) (record { there = h; maker = m; switches = λ x. (refl, (v, e, refl)); plain = λ x. absurd (true≢false (sym s ∙ x)) })
+  switch_facts r t (Datum v) e s m h g = subst (λ (t : Side). SideOf t r) (same_Some (side r (not (truth v))) t g) (record { there = h; maker = m; switches = λ x. (refl, (v, e, refl)); plain = λ x. absurd (true≢false (sym s ∙ x)) })
   switch_facts r t (FrameOf c) e s m h g = absurd (cc)
   switch_facts r t (BackTo c x) e s m h g = absurd (cc)
   switch_facts r t ToHost e s m h g = absurd (cc)
 
   one_facts : (r q : Part) (t : Side) → is_switch r ≡ false → maker_of (block_in fl f.context) r ≡ q → there_in fl (site_in fl w f.context) (wiring_in fl w f.context) r ≡ true → Some (side r false) ≡ Some t → SideOf t q
-  one_facts r q t s m h g = subst (λ (t : Side). SideOf t q) (some_is (side r false) t g) (record { there = h; maker = m; switches = λ x. absurd (true≢false (sym x ∙ s)); plain = λ x. refl })
+  one_facts r q t s m h g = subst (λ (t : Side). SideOf t q) (same_Some (side r false) t g) (record { there = h; maker = m; switches = λ x. absurd (true≢false (sym x ∙ s)); plain = λ x. refl })
 
   line_facts : (n : ℕ) (t : Side) (u : Bool) → is_cell (block_in fl f.context) n ≡ u → is_plain (block_in fl f.context) n ≡ true → (if u then None else Some (side (Line n) false)) ≡ Some t → SideOf t (Line n)
   line_facts n t true e h g = absurd (cc)

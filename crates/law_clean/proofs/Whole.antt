@@ -1,6 +1,6 @@
 -- At rest each part of a supplied context has fired that lies in an open region, if that holds of all that it invokes: by the places of its parts.
 use Rattle.std.proofs.Common.{◌≡◌, ℕ, zero, suc, ◌+◌, ◌<◌, ◌≤◌, Bool, true, false, ◌⊎◌, inl, inr, [], Option, Some, None, nat_lt, ◌==◌, if◌then◌else◌, refl, sym, ap, ◌∙◌, subst, arith, true≢false, ltb-true, lt-ltb}
-use Rattle.std.proofs.lemmas.Bool.{cases_Bool, cases_eq, and_parts, and_from}
+use Rattle.std.proofs.lemmas.Bool.{cases_Bool, cases_eq, and_parts, and_from, or_cases}
 use Rattle.lemmas.proofs.Contains.{contains_head}
 use Rattle.tags.specs.declared.token.Port.TheVariants.{Left, Right}
 use Rattle.semantics.specs.declared.graph.Region.{Region}
@@ -15,7 +15,7 @@ use Rattle.law_contexts.specs.Wires.{wired_way, wired_port, is_given, decider}
 use Rattle.law_contexts.specs.Firings.{right_way}
 use Rattle.law_contexts.specs.Laws.{maker_of, says}
 use Rattle.law_told.proofs.Nodes.{input_none}
-use Rattle.law_arms.proofs.Invoked.{or_cases, call_invoked, loop_invoked}
+use Rattle.law_arms.proofs.Invoked.{call_invoked, loop_invoked}
 use Rattle.law_over.specs.Over.{IsDecided, IsOpen, is_turning}
 use Rattle.law_over.proofs.Sorts.{laws, Joined, Switched, Sort, Last, Joins, Switches, Others, sort}
 use Rattle.law_over.proofs.Open.{arm_open}

@@ -1,6 +1,7 @@
 -- Tokens by their place: no two of a state at one place, and an activity by what it takes.
 use Rattle.std.proofs.Common.{◌≡◌, ℕ, zero, suc, ◌+◌, ◌-◌, ◌⊎◌, Bool, true, false, List, [], ◌∷◌, length, Option, Some, None, nat_lt, ◌==◌, if◌then◌else◌, inl, inr, refl, sym, ap, ap₂, ◌∙◌, subst, arith, ⊎_elim, eqb-true}
 use Rattle.std.specs.Prelude.{slice_get}
+use Rattle.std.proofs.lemmas.Option.{same_Some}
 use Rattle.tags.specs.declared.value.Value.{Value}
 use Rattle.semantics.specs.declared.graph.Region.{Region}
 use Rattle.semantics.specs.declared.graph.Region.TheVariants.{Root, Arm}
@@ -21,9 +22,6 @@ Unique ts = Spread Differ ts
 pub differ_turn : (t u : Tagged) → Differ t u → Differ u t
 differ_turn t u h k = h (sym k.0, sym k.1, sym k.2)
 
-some_tagged : (x y : Tagged) → Some x ≡ Some y → x ≡ y
-some_tagged x y e = cc
-
 put_other : (t u : Tagged) (zs ts ws : List Tagged) → Put t zs ts → Put u ws ts → (u ≡ t) ⊎ Within u zs
 put_other t u zs [] ws p q = absurd p
 put_other t u zs (x ∷ ts) ws (inl p) (inl q) = inl (q.0 ∙ sym p.0)
@@ -40,8 +38,8 @@ unique_same ts all t u h k same =
 pub tags_differ : (ts : List Tagged) → Unique ts → TagsDiffer ts
 tags_differ [] all i j t u e f same = cc
 tags_differ (x ∷ ts) all zero zero t u e f same = refl
-tags_differ (x ∷ ts) all zero (suc j) t u e f same = absurd (each_within (Differ x) u ts (get_within ts j u f) all.0 (subst (λ x. SameTag x u) (sym (some_tagged x t e)) same))
-tags_differ (x ∷ ts) all (suc i) zero t u e f same = absurd (each_within (Differ x) t ts (get_within ts i t e) all.0 (subst (λ x. SameTag x t) (sym (some_tagged x u f)) (sym same.0, sym same.1, sym same.2)))
+tags_differ (x ∷ ts) all zero (suc j) t u e f same = absurd (each_within (Differ x) u ts (get_within ts j u f) all.0 (subst (λ x. SameTag x u) (sym (same_Some x t e)) same))
+tags_differ (x ∷ ts) all (suc i) zero t u e f same = absurd (each_within (Differ x) t ts (get_within ts i t e) all.0 (subst (λ x. SameTag x t) (sym (same_Some x u f)) (sym same.0, sym same.1, sym same.2)))
 tags_differ (x ∷ ts) all (suc i) (suc j) t u e f same = ap suc (tags_differ ts all.1 i j t u e f same)
 
 -- HOW A NODE TAKES ITS TOKENS

@@ -1,4 +1,3 @@
-pub mod Options
 pub mod Keys
 pub mod Deeds
 pub mod Shapes

@@ -1,6 +1,7 @@
 -- The tokens of a message: where they are, and that no two are at one place.
 use Rattle.std.proofs.Common.{◌≡◌, ℕ, zero, suc, ◌+◌, ◌-◌, ◌<◌, ◌≤◌, ◌&&◌, Bool, true, false, List, [], ◌∷◌, length, map, flat_map, Option, Some, None, nat_lt, ◌==◌, if◌then◌else◌, inl, refl, sym, ap, ap₂, ◌∙◌, subst, subst₂, arith, eqb-true, eq-eqb, le-ltb}
 use Rattle.std.specs.Prelude.{⊤, slice_get}
+use Rattle.std.proofs.lemmas.Bool.{and_parts}
 use Rattle.tags.specs.declared.value.Value.{Value}
 use Rattle.semantics.specs.declared.graph.Region.{Region}
 use Rattle.semantics.specs.declared.graph.Region.TheVariants.{Root, Arm}
@@ -23,12 +24,8 @@ Use = Statement × Port
 abbrev pub UsesDiffer : Use → Use → Type 0
 UsesDiffer u w = u.0 ≡ w.0 → u.1 ≡ w.1 → ⊥
 
-both_true : (a b : Bool) → (a && b) ≡ true → (a ≡ true) × (b ≡ true)
-both_true true b e = (refl, e)
-both_true false b e = cc
-
 source_here : (s : Source) (n p : ℕ) → ((s.node == n) && (s.port == p)) ≡ true → IsSource n p (Some s)
-source_here s n p e = let h = both_true _ _ e in (eqb-true s.node n h.0, eqb-true s.port p h.1)
+source_here s n p e = let h = and_parts _ _ e in (eqb-true s.node n h.0, eqb-true s.port p h.1)
 
 -- POSITIONS
 

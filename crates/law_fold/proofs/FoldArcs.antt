@@ -1,7 +1,7 @@
 -- The arcs that events of the old run use, and where the tokens that they make are in the new run.
 use Rattle.std.proofs.Common.{◌≡◌, refl, sym, ap, ◌∙◌, subst, ℕ, ℤ, zero, suc, ◌+◌, ◌⊎◌, inl, inr, Bool, true, false, List, [], ◌∷◌, ◌++◌, Option, Some, None, Contains, arith}
 use Rattle.std.specs.Prelude.{flat_map, slice_get}
-use Rattle.std.proofs.lemmas.Option.{slice_get_within}
+use Rattle.std.proofs.lemmas.Option.{slice_get_within, same_Some}
 use Rattle.std.proofs.lemmas.List.Elements.{Contains-append_left, Contains-append_right, Contains-append_cases}
 use Rattle.lemmas.proofs.Contains.{contains_cases, contains_head, contains_mapped, contains_none, contains_tail}
 use Rattle.tags.specs.declared.value.Value.TheVariants.{Int}
@@ -19,7 +19,7 @@ use Rattle.semantics.specs.Machine.{Machine}
 use Rattle.semantics.specs.Plan.{Plan, landing}
 use Rattle.semantics.specs.Sharing.{Arc, arc, inlet, arcs_to, row, arcs_from, arcs_of, arcs_in}
 use Rattle.semantics.specs.Arcs.{UsesBy, UsesArc}
-use Rattle.law_reuse.proofs.Stands.{some_same, instr_in}
+use Rattle.law_reuse.proofs.Stands.{instr_in}
 use Rattle.law_once.specs.Spreads.{ip_to, ip_token}
 use Rattle.law_fold.specs.Folds.{fires_lit, Plain, Fresh, top, Pend, Sends, Stands, moved, lit, right, left, StandAll, stand_none, stand_more}
 use Rattle.law_fold.proofs.FoldRules.{node_grows, pend_with, lit_nodes}
@@ -102,7 +102,7 @@ use_at p f a r taken made new U = go (slice_get p.program.blocks U.b) refl
         let z : 0 + S.k ≡ S.k = omega arith in
         let from : U.x.from ≡ S.k = S.from ∙ z in
         let here : instr_at p.program (first_of p.program U.b + S.k) ≡ Some S.i = instr_in p.program.blocks U.b S.k c e (slice_get_within c.instrs S.k S.i S.at) ∙ S.at in
-        let same : U.i ≡ S.i = some_same U.i S.i (sym U.fired ∙ ap (λ (n : ℕ). instr_at p.program (first_of p.program U.b + n)) from ∙ here) in
+        let same : U.i ≡ S.i = same_Some U.i S.i (sym U.fired ∙ ap (λ (n : ℕ). instr_at p.program (first_of p.program U.b + n)) from ∙ here) in
         record {
           b = U.b;
           c = c;
@@ -143,7 +143,7 @@ module _ (p q : Plan) (g h : ℕ → ℕ) where
       spot = same_to U.taken_at
 
       same : U.i ≡ i
-      same = some_same U.i i (sym U.at ∙ ap (instr_at P) (sym spot.1) ∙ at)
+      same = same_Some U.i i (sym U.at ∙ ap (instr_at P) (sym spot.1) ∙ at)
 
       arcs : Contains (arcs_to U.n false i.firsts ++ arcs_to U.n true i.seconds) U.x
       arcs = subst (λ (op : Op). Contains (arcs_from p U.n i op) U.x) op (subst (λ (i : Instr). Contains (arcs_from p U.n i i.op) U.x) same U.here)

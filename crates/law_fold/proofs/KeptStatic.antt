@@ -2,7 +2,7 @@
 use Rattle.std.proofs.Common.{◌≡◌, refl, sym, ap, ◌∙◌, subst, ℕ, ℤ, zero, suc, ◌+◌, ◌-◌, ◌<◌, ◌≤◌, ◌⊎◌, inl, inr, Bool, true, false, true≢false, List, [], ◌∷◌, ◌++◌, length, Option, Some, None, Contains, nat_lt, ltb-true, ltb-false, zero-add, if◌then◌else◌, arith}
 use Rattle.std.specs.Prelude.{slice_get}
 use Rattle.std.specs.Option.{option_map}
-use Rattle.std.proofs.lemmas.Option.{slice_get_within, slice_get-map}
+use Rattle.std.proofs.lemmas.Option.{slice_get_within, slice_get-map, same_Some}
 use Rattle.std.proofs.lemmas.List.Elements.{Contains-append_left, Contains-append_right}
 use Rattle.lemmas.proofs.Contains.{contains_get, get_contains}
 use Rattle.lemmas.proofs.SliceGet.{get_some}
@@ -18,7 +18,7 @@ use Rattle.semantics.specs.Plan.{Plan, mark_at, landing, landing_in}
 use Rattle.semantics.specs.Orderly.{same_block, often, IsMarked}
 use Rattle.code.specs.Sound.{IsSound}
 use Rattle.law_net.proofs.Ports.{same_in}
-use Rattle.law_reuse.proofs.Stands.{some_same, first_in, first_next, one_block, instr_in, Found, found}
+use Rattle.law_reuse.proofs.Stands.{first_in, first_next, one_block, instr_in, Found, found}
 use Rattle.folding.specs.Folds.{new_op}
 use Rattle.folding.specs.Places.{layout_of, folds_at, gone_at, new_place}
 use Rattle.folding.specs.Moved.{new_dest, moved_dests}
@@ -106,10 +106,10 @@ module _ (p : Plan) (s : IsSound p) where
       go : FoldCase p c n → KeptAt p c n
       go (is_kept K) = K
       go (is_right (D, op)) =
-          let same : i ≡ D.i = some_same i D.i (sym at ∙ D.there) in
+          let same : i ≡ D.i = same_Some i D.i (sym at ∙ D.there) in
           absurd (true≢false (sym (ap (λ (i : Instr). is_pair (new_op (folds_at (layout_of p c) n) i.op)) same ∙ ap (λ (o : Op). is_pair (new_op (folds_at (layout_of p c) n) o)) D.was ∙ ap is_pair (op D.o)) ∙ off))
       go (is_left (D, op)) =
-          let same : i ≡ D.i = some_same i D.i (sym at ∙ D.there) in
+          let same : i ≡ D.i = same_Some i D.i (sym at ∙ D.there) in
           absurd (true≢false (sym (ap (λ (i : Instr). is_pair (new_op (folds_at (layout_of p c) n) i.op)) same ∙ ap (λ (o : Op). is_pair (new_op (folds_at (layout_of p c) n) o)) D.was ∙ ap is_pair (op D.o)) ∙ off))
 
   no_pair : (op : Op) → counts_none op ≡ false → is_pair op ≡ false
@@ -122,7 +122,7 @@ module _ (p : Plan) (s : IsSound p) where
   plain_of_op c n i at off = go (lit_or p c n i at) (fold_cases p c n)
     where
       no_apply : (j : Instr) (o : Binary) → slice_get c.instrs n ≡ Some j → j.op ≡ Apply2 o → ⊥
-      no_apply j o at_j e = true≢false (sym (ap counts_none (ap (λ (i : Instr). i.op) (some_same i j (sym at ∙ at_j)) ∙ e)) ∙ off)
+      no_apply j o at_j e = true≢false (sym (ap counts_none (ap (λ (i : Instr). i.op) (same_Some i j (sym at ∙ at_j)) ∙ e)) ∙ off)
 
       go : (closed_uses p c n ≡ []) ⊎ ((z : ℤ) × (i.op ≡ Lit z)) → FoldCase p c n → PlainAt p c n
       go (inr l) o = absurd (true≢false (sym (ap counts_none l.1) ∙ off))
@@ -217,7 +217,7 @@ module _ (p : Plan) (s : IsSound p) where
       let B = block_of P.blocks x.0 y.0 e in
       let X : Inside Q B.b ip = leaf_inside ip r x lx B.b (B.c, B.j, B.block, B.low, B.one) in
       let Y : Inside Q B.b jp = leaf_inside jp t y ly B.b (B.c, B.k, B.block, B.high, B.two) in
-      let same : Y.0 ≡ X.0 = some_same Y.0 X.0 (sym Y.2 ∙ X.2) in
+      let same : Y.0 ≡ X.0 = same_Some Y.0 X.0 (sym Y.2 ∙ X.2) in
       let len = ap (λ (c : CodeBlock). length c.instrs) same in let low = Y.3 in
       (λ k. same_block Q.blocks (X.4 k) (Y.4 k)) ∙ same_in Q.blocks B.b X.1 Y.1 X.0 X.2 X.3 (omega (arith, len, low))
 
@@ -283,8 +283,8 @@ module _ (p : Plan) (s : IsSound p) where
 
       go : FoldCase p c n → often (Some (slotted (layout_of p c) n i)) ≡ false
       go (is_kept K) = often_op i (slotted (layout_of p c) n i) (K.op i.op) ∙ off
-      go (is_right (D, op)) = by_pair (ap (λ (i : Instr). is_pair (new_op (folds_at (layout_of p c) n) i.op)) (some_same i D.i (sym at ∙ D.there)) ∙ ap (λ (o : Op). is_pair (new_op (folds_at (layout_of p c) n) o)) D.was ∙ ap is_pair (op D.o))
-      go (is_left (D, op)) = by_pair (ap (λ (i : Instr). is_pair (new_op (folds_at (layout_of p c) n) i.op)) (some_same i D.i (sym at ∙ D.there)) ∙ ap (λ (o : Op). is_pair (new_op (folds_at (layout_of p c) n) o)) D.was ∙ ap is_pair (op D.o))
+      go (is_right (D, op)) = by_pair (ap (λ (i : Instr). is_pair (new_op (folds_at (layout_of p c) n) i.op)) (same_Some i D.i (sym at ∙ D.there)) ∙ ap (λ (o : Op). is_pair (new_op (folds_at (layout_of p c) n) o)) D.was ∙ ap is_pair (op D.o))
+      go (is_left (D, op)) = by_pair (ap (λ (i : Instr). is_pair (new_op (folds_at (layout_of p c) n) i.op)) (same_Some i D.i (sym at ∙ D.there)) ∙ ap (λ (o : Op). is_pair (new_op (folds_at (layout_of p c) n) o)) D.was ∙ ap is_pair (op D.o))
 
   module _ (tidy : IsTidy p) where
     -- what a destination leads to gets one token
@@ -355,7 +355,7 @@ module _ (p : Plan) (s : IsSound p) where
             by N =
                 let I : Inside Q b (first_of Q b + n) = (c, n, at_b, slice_get_within c.instrs n i at, refl) in
                 let eb : N.b ≡ b = inside_one Q N.b b (first_of Q b + n) (new_inside (first_of Q b + n) i N) I in
-                let ec : kept_block p N.c ≡ c = some_same (kept_block p N.c) c (sym (new_block p s N.b N.c N.block) ∙ ap (slice_get Q.blocks) eb ∙ at_b) in
+                let ec : kept_block p N.c ≡ c = same_Some (kept_block p N.c) c (sym (new_block p s N.b N.c N.block) ∙ ap (slice_get Q.blocks) eb ∙ at_b) in
                 let f = ap (first_of Q) eb in let place = N.place in
                 let en : new_place (layout_of p N.c) N.n ≡ n = omega (arith, place, f) in
                 let new_link : (slotted (layout_of p N.c) N.n N.i).op ≡ Link callee = ap (λ (j : Instr). j.op) (sym N.is) ∙ op in

@@ -2,7 +2,7 @@
 use Rattle.std.proofs.Common.{◌≡◌, refl, sym, ap, ◌∙◌, subst, ℕ, ℤ, ◌+◌, ◌<◌, ◌≤◌, ◌⊎◌, inl, inr, Bool, true, false, true≢false, List, [], ◌∷◌, ◌++◌, length, Option, Some, None, Contains, arith}
 use Rattle.std.specs.Prelude.{slice_get, ⊤}
 use Rattle.std.specs.Option.{option_map}
-use Rattle.std.proofs.lemmas.Option.{slice_get_within, slice_get-map}
+use Rattle.std.proofs.lemmas.Option.{slice_get_within, slice_get-map, same_Some}
 use Rattle.std.proofs.lemmas.List.Concat.{flat_map-append}
 use Rattle.tags.specs.declared.value.Value.TheVariants.{Int}
 use Rattle.tags.specs.declared.token.Port.{Port}
@@ -20,7 +20,7 @@ use Rattle.semantics.specs.Machine.{results_in}
 use Rattle.semantics.specs.Plan.{Plan, HasShape}
 use Rattle.semantics.specs.Orderly.{eq_port, inputs_in}
 use Rattle.code.specs.Sound.{NamesRightly, IsSound}
-use Rattle.law_reuse.proofs.Stands.{some_same, Found, found}
+use Rattle.law_reuse.proofs.Stands.{Found, found}
 use Rattle.std.proofs.lemmas.List.Sorted.{Contains-permutation}
 use Rattle.lemmas.proofs.Contains.{contains_head, contains_map, contains_none, get_contains}
 use Rattle.lemmas.proofs.SliceGet.{get_some}
@@ -172,7 +172,7 @@ module _ (p : Plan) (s : IsSound p) (b : ℕ) (c : CodeBlock) (at_b : slice_get 
                 → instr_at P a ≡ Some i2 → i2.op ≡ Lit z → ⊥
             no_lit D old f2 a w2 z i2 e at2 op =
                 let same : a ≡ F + n + N.d.ahead = (let d = ap (λ (t : Token). t.to) e in cc) in
-                let j : i2 ≡ D.i = some_same i2 D.i (sym at2 ∙ ap (instr_at P) same ∙ old) in
+                let j : i2 ≡ D.i = same_Some i2 D.i (sym at2 ∙ ap (instr_at P) same ∙ old) in
                 apart_ops D.o z (sym D.was ∙ sym (ap (λ (i : Instr). i.op) j) ∙ op)
 
         by_case : FoldCase p c (n + N.d.ahead) → Pairs P (Old t f w) w
@@ -372,7 +372,7 @@ kept_slots_folds p s = record {
             no_apply o e = true≢false (sym is ∙ ap is_answered e)
 
             by_op : (j : Instr) (o : Binary) → slice_get N.stands.code.instrs N.n ≡ Some j → j.op ≡ Apply2 o → ⊥
-            by_op j o at_j e = let same : j ≡ i = some_same j i (sym at_j ∙ N.stands.instr) in no_apply o (sym (ap (λ (i : Instr). i.op) same) ∙ e)
+            by_op j o at_j e = let same : j ≡ i = same_Some j i (sym at_j ∙ N.stands.instr) in no_apply o (sym (ap (λ (i : Instr). i.op) same) ∙ e)
 
             go : (closed_uses p N.stands.code N.n ≡ []) ⊎ ((z : ℤ) × (i.op ≡ Lit z)) → FoldCase p N.stands.code N.n → PlainAt p N.stands.code N.n
             go (inr l) o = absurd (answers_no_lit i.op is l.0 l.1)

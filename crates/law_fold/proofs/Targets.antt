@@ -1,7 +1,7 @@
 -- What one destination makes, in the old code and in the new one.
 use Rattle.std.proofs.Common.{◌≡◌, refl, sym, ap, ◌∙◌, subst, ℕ, ℤ, zero, suc, ◌+◌, ◌-◌, ◌<◌, ◌≤◌, ◌⊎◌, inl, inr, Bool, true, false, true≢false, ◌||◌, List, [], ◌∷◌, ◌++◌, length, Option, Some, None, Contains, IsPermutation, append-nil, if◌then◌else◌, arith}
 use Rattle.std.specs.Prelude.{slice_get, ◌&&◌, not}
-use Rattle.std.proofs.lemmas.Option.{slice_get_within}
+use Rattle.std.proofs.lemmas.Option.{slice_get_within, same_Some}
 use Rattle.std.proofs.lemmas.List.Concat.{flat_map-append}
 use Rattle.std.proofs.lemmas.List.Sorted.{IsPermutation-refl}
 use Rattle.tags.specs.declared.value.Value.TheVariants.{Int}
@@ -31,7 +31,6 @@ use Rattle.law_fold.specs.Kept.{slotted}
 use Rattle.law_fold.proofs.FoldRules.{settles_map, sends_with, lit_nodes}
 use Rattle.law_fold.proofs.Spots.{plain_of, kept_of}
 use Rattle.law_fold.proofs.Spots.{stays as stands_still}
-use Rattle.law_reuse.proofs.Stands.{some_same}
 use Rattle.folding.proofs.Plain.{PlainAt}
 use Rattle.std.proofs.lemmas.List.Elements.{Contains-append_left, Contains-append_right, Contains-append_cases}
 use Rattle.lemmas.proofs.Contains.{contains_get, contains_head}
@@ -179,7 +178,7 @@ module _ (kind : Word → Type 0) (of_value : (z : ℤ) → kind (Word.Val (Int 
 
         -- a destination of it
         use_of : (i2 : Instr) (u : Dest) → instr_at P (F + m) ≡ Some i2 → Contains (i2.firsts ++ i2.seconds) u → (t : Bool) × (v : ℕ) × (slice_get (dests_of j t) v ≡ Some u)
-        use_of i2 u at2 k = go (Contains-append_cases j.firsts j.seconds u (subst (λ (i : Instr). Contains (i.firsts ++ i.seconds) u) (some_same i2 j (sym at2 ∙ there_old m j at_m)) k))
+        use_of i2 u at2 k = go (Contains-append_cases j.firsts j.seconds u (subst (λ (i : Instr). Contains (i.firsts ++ i.seconds) u) (same_Some i2 j (sym at2 ∙ there_old m j at_m)) k))
           where
             go : Contains j.firsts u ⊎ Contains j.seconds u → (t : Bool) × (v : ℕ) × (slice_get (dests_of j t) v ≡ Some u)
             go (inl k) = let r = contains_get j.firsts u k in (false, r.0, r.1)

@@ -4,6 +4,7 @@ use Rattle.std.specs.Prelude.{slice_get, ◌&&◌, not}
 use Rattle.std.proofs.lemmas.List.Concat.{flat_map-append}
 use Rattle.std.proofs.lemmas.List.Elements.{Contains-append_left, Contains-append_right, Contains-append_cases}
 use Rattle.std.proofs.lemmas.List.Sorted.{Contains-permutation}
+use Rattle.std.proofs.lemmas.Bool.{and_parts, not-true}
 use Rattle.lemmas.proofs.Contains.{contains_cases, contains_head, contains_none}
 use Rattle.lemmas.proofs.SliceGet.{get_some}
 use Rattle.semantics.specs.declared.program.Dest.{Dest}
@@ -19,14 +20,6 @@ use Rattle.folding.proofs.Pairs.{closed_one, closed_in, closed_uses, given, want
 use Rattle.folding.proofs.Cases.{FoldCase, is_kept, is_right, is_left, fold_cases}
 use Rattle.folding.proofs.Plain.{kept_open}
 use Rattle.law_fold.proofs.Closed.{gone_some, closed_or}
-
-both_true : (a b : Bool) → (a && b) ≡ true → (a ≡ true) × (b ≡ true)
-both_true true b e = (refl, e)
-both_true false b e = absurd (true≢false (sym e))
-
-not_true : (a : Bool) → not a ≡ true → a ≡ false
-not_true false e = refl
-not_true true e = absurd (true≢false (sym e))
 
 some_of : (xs : List ℕ) → (xs ≡ [] → ⊥) → (x : ℕ) × Contains xs x
 some_of [] full = absurd (full refl)
@@ -54,8 +47,8 @@ module _ (p : Plan) (c : CodeBlock) where
       here : (b : Bool) → (is_folded (folds_at (layout_of p c) (n + d.ahead)) && not (is_closed (folds_at (layout_of p c) (n + d.ahead)) d.port)) ≡ b → Contains (if b then (n + d.ahead) ∷ [] else []) x → Wants n (d ∷ ds) x
       here false e k = absurd (contains_none x k)
       here true e k =
-          let b = both_true (is_folded (folds_at (layout_of p c) (n + d.ahead))) (not (is_closed (folds_at (layout_of p c) (n + d.ahead)) d.port)) e in
-          record { k = 0; d = d; named = refl; to = same (contains_cases (n + d.ahead) [] x k); folded = b.0; still = not_true (is_closed (folds_at (layout_of p c) (n + d.ahead)) d.port) b.1 }
+          let b = and_parts (is_folded (folds_at (layout_of p c) (n + d.ahead))) (not (is_closed (folds_at (layout_of p c) (n + d.ahead)) d.port)) e in
+          record { k = 0; d = d; named = refl; to = same (contains_cases (n + d.ahead) [] x k); folded = b.0; still = not-true (is_closed (folds_at (layout_of p c) (n + d.ahead)) d.port) b.1 }
         where
           same : (n + d.ahead ≡ x) ⊎ Contains [] x → n + d.ahead ≡ x
           same (inl e) = e

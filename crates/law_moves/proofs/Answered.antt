@@ -2,6 +2,7 @@
 use Rattle.std.proofs.Common.{◌≡◌, ℕ, ◌+◌, Bool, true, false, ◌||◌, List, [], ◌∷◌, map, length, refl, sym, ap, ◌∙◌, subst, arith, true≢false, Option, Some, None, nat_lt}
 use Rattle.std.specs.Prelude.{IsPermutation, Contains}
 use Rattle.std.proofs.lemmas.List.Sorted.{IsPermutation-sym, length_permutation, Contains-permutation}
+use Rattle.std.proofs.lemmas.List.{nil_from_length}
 use Rattle.lemmas.proofs.Contains.{contains_head}
 use Rattle.lemmas.proofs.Alls.{all_at}
 use Rattle.lemmas.proofs.Lists.{one_element}
@@ -23,10 +24,6 @@ use Rattle.law_contexts.specs.Stands.{row_of, is_instr}
 use Rattle.law_contexts.specs.Theorem.{IsGood}
 use Rattle.law_moves.proofs.Lists.{contains_one}
 use Rattle.law_moves.proofs.Sites.{coded, Seated, seated, there_instr}
-
-none_at_all : {X : Type 0} (xs : List X) → length xs ≡ 0 → xs ≡ []
-none_at_all [] e = refl
-none_at_all (x ∷ xs) e = absurd (omega (arith, e))
 
 pub one_image : {X Y : Type 0} (g : X → Y) (y : Y) (xs : List X) → IsPermutation (y ∷ []) (map g xs) → (x : X) × (xs ≡ x ∷ []) × (y ≡ g x)
 one_image g y [] p = let n = length_permutation _ _ p in absurd (omega (arith, n))
@@ -109,7 +106,7 @@ module _ {stage : ℕ} (fl : Flow) (p : Plan) (w : Wires) (good : IsGood stage f
         op_is = op;
         dest = one.0;
         firsts = one.1;
-        seconds = none_at_all s.instr.seconds lengths.1;
+        seconds = nil_from_length s.instr.seconds lengths.1;
         inlet = image.0;
         wire = image.1;
         far = ap (λ (q : ℕ × Port). q.0) image.2;

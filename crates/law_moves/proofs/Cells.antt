@@ -1,6 +1,7 @@
 -- Fetches and stores, at their nodes and at their cells.
 use Rattle.std.proofs.Common.{◌≡◌, ℕ, ◌+◌, Bool, true, false, List, [], ◌∷◌, ◌++◌, take, refl, sym, ap, ◌∙◌, subst, inl, inr, ◌⊎◌, arith, true≢false, Option, Some, None, if◌then◌else◌, sum}
 use Rattle.std.specs.Prelude.{Contains, slice_index_or}
+use Rattle.std.proofs.lemmas.Option.{same_Some}
 use Rattle.lemmas.proofs.Permutations.{permutation_same}
 use Rattle.lemmas.proofs.Contains.{contains_head, contains_none}
 use Rattle.tags.specs.declared.value.Value.{Value}
@@ -23,7 +24,6 @@ use Rattle.semantics.specs.Rule.{Seat, token, to_each, answer_to, asks_for, puts
 use Rattle.semantics.specs.Machine.{Store, Fires, with_slot}
 use Rattle.law_net.proofs.NetSlots.{InSlots}
 use Rattle.law_net.proofs.Orders.{at_last}
-use Rattle.law_reuse.proofs.Stands.{some_same}
 use Rattle.law_once.specs.Alike.{plain_dests}
 use Rattle.law_contexts.specs.Parts.{Line, Note, Datum, FrameOf, BackTo, ToHost, signal, Item, Firing}
 use Rattle.law_contexts.specs.Blocks.{waits_in, is_cell, is_store, cell_kind, pair_kind, store_kind, kind_op, op_of}
@@ -144,7 +144,7 @@ module _ {stage : ℕ} (s : Taking stage) (n : ℕ) (e : s.i.inlet.part ≡ Line
     ins = instr l refl
 
     same_ins : ins ≡ A.seat.instr
-    same_ins = some_same ins A.seat.instr (sym (stood l refl).at ∙ A.seat.at)
+    same_ins = same_Some ins A.seat.instr (sym (stood l refl).at ∙ A.seat.at)
 
     value : (v : Value) × (s.i.word ≡ Datum v)
     value = carried l l.i (taken_here l)
@@ -206,7 +206,7 @@ module _ {stage : ℕ} (s : Taking stage) (n : ℕ) (e : s.i.inlet.part ≡ Line
     pair = instr l is
 
     same_pair : pair ≡ A.seat.instr
-    same_pair = some_same pair A.seat.instr (sym (stood l is).at ∙ A.seat.at)
+    same_pair = same_Some pair A.seat.instr (sym (stood l is).at ∙ A.seat.at)
 
     module _ (sec : Second l two refl) (v u : Value) (left : sec.left ≡ Datum v) (right : sec.right ≡ Datum u)
         (did : (s.event.made ≡ puts s.p.program seat pair a u (index_in (array_len s.p.program a) v pair.origin)) × (s.new.store ≡ with_slot s.m.store frame (slot_of s.fl s.w l.i) Empty)) where

@@ -2,6 +2,7 @@
 use Rattle.std.proofs.Common.{◌≡◌, refl, sym, ap, ◌∙◌, subst, ℕ, zero, suc, ◌+◌, ◌<◌, ◌⊎◌, inl, inr, Bool, true, false, List, [], ◌∷◌, ◌++◌, length, Option, Some, None, Contains, zero-add, arith}
 use Rattle.std.specs.Prelude.{flat_map, if◌then◌else◌, slice_get}
 use Rattle.std.proofs.lemmas.List.Elements.{Contains-append_left, Contains-append_right, Contains-append_cases}
+use Rattle.std.proofs.lemmas.Option.{same_Some}
 use Rattle.lemmas.proofs.Contains.{contains_cases, contains_head, contains_mapped, contains_none, contains_tail}
 use Rattle.tags.specs.declared.token.Port.{Port}
 use Rattle.tags.specs.declared.token.Port.TheVariants.{Left}
@@ -20,7 +21,7 @@ use Rattle.semantics.specs.Machine.{Machine}
 use Rattle.semantics.specs.Plan.{Plan, HasShape, landing}
 use Rattle.semantics.specs.Sharing.{Arc, arc, Inlet, inlet, arcs_to, row, arcs_from, arcs_of, arcs_in}
 use Rattle.semantics.specs.Arcs.{GoesTo, AsksFor, Lands, UsesBy, UsesArc}
-use Rattle.law_reuse.proofs.Stands.{some_same, stands_at, Found, found}
+use Rattle.law_reuse.proofs.Stands.{stands_at, Found, found}
 use Rattle.law_reuse.proofs.UsedArcs.{arc_stands, stands_arcs}
 use Rattle.law_once.proofs.Parts.{instr_parts, back_parts, cont_parts}
 use Rattle.law_once.specs.Alike.{plain_dests}
@@ -116,15 +117,15 @@ module _ (p q : Plan) (S : Spreads p q) (f a : ℕ) (i : Instr) (at : instr_at p
       same = instr_parts f a g (first_of P U.b + U.x.from) side U.side (sym from ∙ U.taken_at)
 
       is_i : U.i ≡ i
-      is_i = some_same U.i i (sym U.fired ∙ ap (instr_at P) (sym same.1) ∙ at)
+      is_i = same_Some U.i i (sym U.fired ∙ ap (instr_at P) (sym same.1) ∙ at)
 
       go : (o : Option CodeBlock) → slice_get P.blocks U.b ≡ o → Taken g b r old last
       go None e = absurd (contains_none U.x (subst (λ (o : Option CodeBlock). Contains (arcs_in p o) U.x) e U.is_arc))
       go (Some c) e =
           let inside : Contains (arcs_of p 0 c.instrs) U.x = subst (λ (o : Option CodeBlock). Contains (arcs_in p o) U.x) e U.is_arc in
           let k = arc_stands p U.b c U.x e inside in
-          let code : k.1.code ≡ c = some_same k.1.code c (sym k.1.block ∙ e) in
-          let ki : k.0 ≡ i = some_same k.0 i (sym (stands_at P U.b U.x.from k.0 k.1) ∙ ap (instr_at P) (sym same.1) ∙ at) in
+          let code : k.1.code ≡ c = same_Some k.1.code c (sym k.1.block ∙ e) in
+          let ki : k.0 ≡ i = same_Some k.0 i (sym (stands_at P U.b U.x.from k.0 k.1) ∙ ap (instr_at P) (sym same.1) ∙ at) in
           let there : slice_get c.instrs U.x.from ≡ Some i = ap (λ (c : CodeBlock). slice_get c.instrs U.x.from) (sym code) ∙ k.1.instr ∙ ap Some ki in
           let z : 0 + U.x.from ≡ U.x.from = zero-add U.x.from in
           record {

@@ -1,7 +1,7 @@
 -- What a plan that is another one with copies between says of single instructions and landings.
 use Rattle.std.proofs.Common.{◌≡◌, refl, sym, ap, ◌∙◌, subst, ℕ, zero, suc, ◌+◌, ◌<◌, Bool, true, List, [], ◌∷◌, length, Option, Some, None, lt-ltb, le-ltb, arith}
 use Rattle.std.specs.Prelude.{slice_get, ◌-◌, nat_lt, false, if◌then◌else◌}
-use Rattle.std.proofs.lemmas.Option.{slice_get_within}
+use Rattle.std.proofs.lemmas.Option.{slice_get_within, same_Some}
 use Rattle.lemmas.proofs.Contains.{contains_head}
 use Rattle.lemmas.proofs.SliceGet.{get_some}
 use Rattle.tags.specs.declared.token.Port.TheVariants.{Left}
@@ -11,7 +11,7 @@ use Rattle.semantics.specs.declared.program.Op.TheVariants.{Copy, Give, Take}
 use Rattle.semantics.specs.Program.{Instr, CodeBlock, Program, first_of, instr_at}
 use Rattle.semantics.specs.Plan.{Plan}
 use Rattle.semantics.specs.Orderly.{same_block, often}
-use Rattle.law_reuse.proofs.Stands.{first_in, first_next, some_same, instr_in, Stands, stands_at, stands_block, stands_within, Found, found}
+use Rattle.law_reuse.proofs.Stands.{first_in, first_next, instr_in, Stands, stands_at, stands_block, stands_within, Found, found}
 use Rattle.law_once.proofs.Parts.{one_part}
 use Rattle.law_once.specs.Alike.{HasLanding}
 use Rattle.law_once.specs.Spreads.{Spot, StandsFor, here, fork, is_answered, IsMoved, Spreads}
@@ -71,7 +71,7 @@ module _ (p q : Plan) (S : Spreads p q) where
     where
       go : (zs : List Spot) → StandsFor Q h ip Left zs → (a : ℕ) × (ip ≡ h a)
       go zs (here n r ys a e one) = (a, e)
-      go zs (fork n r ys us vs K left su sv one) = absurd (other (ap (λ (i : Instr). i.op) (some_same j K.i (sym at ∙ K.there)) ∙ K.copies))
+      go zs (fork n r ys us vs K left su sv one) = absurd (other (ap (λ (i : Instr). i.op) (same_Some j K.i (sym at ∙ K.there)) ∙ K.copies))
 
   -- the place of a landing's link
   abbrev link_of : (base o : ℕ) → HasLanding p base o → ℕ
@@ -89,7 +89,7 @@ module _ (p q : Plan) (S : Spreads p q) where
       let M : IsMoved P Q h a L.i = S.instrs a L.i (link_at base o L) in
       let A = M.answered (ap is_answered L.links) in
       let d_same : A.0 ≡ L.d = one_part A.0 L.d (sym A.2 ∙ L.lands) in
-      let j_same : M.j ≡ j = some_same M.j j (sym M.there ∙ ap (instr_at Q) at_link ∙ stands_at Q b n j stands) in
+      let j_same : M.j ≡ j = same_Some M.j j (sym M.there ∙ ap (instr_at Q) at_link ∙ stands_at Q b n j stands) in
       let e_same : A.1 ≡ e = one_part A.1 e (sym A.3 ∙ ap (λ (j : Instr). j.firsts) j_same ∙ lands) in
       let k = get_some L.c.instrs (L.n + L.d.ahead + o) L.inside in
       let at_k : instr_at P to ≡ Some k.0 = instr_in P.blocks L.b (L.n + L.d.ahead + o) L.c L.block L.inside ∙ k.1 in
@@ -106,7 +106,7 @@ module _ (p q : Plan) (S : Spreads p q) where
       let goes : h base ≡ h a + A.1.ahead = ap h (let ad = ap (λ (d : Dest). d.ahead) d_same in let z : base ≡ a + A.0.ahead = omega (arith, begins, ad) in z) ∙ A.4 in
       let kp = ap h place in let fk = FK.place in let ae = ap (λ (d : Dest). d.ahead) e_same in
       let fo = ap (first_of Q) eq in
-      let code : stands.code ≡ FK.stands.code = some_same stands.code FK.stands.code (sym stands.block ∙ ap (slice_get Q.blocks) eq ∙ FK.stands.block) in
+      let code : stands.code ≡ FK.stands.code = same_Some stands.code FK.stands.code (sym stands.block ∙ ap (slice_get Q.blocks) eq ∙ FK.stands.block) in
       let len = ap (λ (c : CodeBlock). length c.instrs) code in (omega (arith, goes, ae), omega (arith, ends, len, kp, at_link, fk, fo, goes, row, ae))
 
   -- so a landing is one in its new place

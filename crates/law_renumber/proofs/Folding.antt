@@ -2,7 +2,7 @@
 use Rattle.std.proofs.Common.{◌≡◌, refl, sym, ap, ◌∙◌, subst, ℕ, suc, ◌+◌, Bool, true, false, ℤ, List, [], ◌∷◌, map, length, Option, Some, None, if◌then◌else◌}
 use Rattle.std.specs.Prelude.{slice_get}
 use Rattle.std.specs.Option.{option_map}
-use Rattle.std.proofs.lemmas.Option.{slice_get-map}
+use Rattle.std.proofs.lemmas.Option.{slice_get-map, same_Some}
 use Rattle.lemmas.proofs.Alls.{all_at}
 use Rattle.lemmas.proofs.Contains.{get_contains}
 use Rattle.lemmas.proofs.SliceGet.{map_got}
@@ -21,7 +21,6 @@ use Rattle.folding.proofs.Held.{slot_any}
 use Rattle.folding.proofs.Cases.{value_at, FoldCase, is_kept, is_right, is_left, fold_cases}
 use Rattle.law_fold.specs.Kept.{slotted, kept_block, kept_slots}
 use Rattle.law_renumber.specs.Renumbers.{IsRenumbered, HoldsIn, RenumbersBlock, Renumbers}
-use Rattle.law_reuse.proofs.Stands.{some_same}
 use Rattle.law_renumber.proofs.Holders.{Keeps, holders_apart}
 
 length_left : {X Y : Type 0} (l : Layout) (f : ℕ → Instr → X) (g : ℕ → Instr → Y) (n : ℕ) (is : List Instr) → length (left_from l f n is) ≡ length (left_from l g n is)
@@ -48,7 +47,7 @@ module _ (p : Plan) (c : CodeBlock) where
   slot_kept n i r at holds = go (fold_cases p c n)
     where
       op_of : (j : Instr) → slice_get c.instrs n ≡ Some j → j.op ≡ i.op
-      op_of j there = ap (λ (x : Instr). x.op) (some_same j i (sym there ∙ at))
+      op_of j there = ap (λ (x : Instr). x.op) (same_Some j i (sym there ∙ at))
 
       go : FoldCase p c n → (is_folded (folds_at l n) ≡ false) × (slot_of i i.op ≡ Some r) × (i.slot ≡ r)
       go (is_kept K) =

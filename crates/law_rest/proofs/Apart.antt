@@ -1,6 +1,7 @@
 -- Lists of contexts in which none stands twice: those of a list, each once, and that no more of them fit into another list than it has.
 use Rattle.std.proofs.Common.{◌≡◌, ℕ, zero, suc, ◌+◌, ◌<◌, ◌≤◌, Bool, true, false, ◌&&◌, ◌⊎◌, inl, inr, List, [], ◌∷◌, length, map, Some, if◌then◌else◌, refl, sym, ap, ◌∙◌, subst, arith, true≢false}
 use Rattle.std.specs.Prelude.{Contains, slice_get, slice_index_or, count_by}
+use Rattle.std.proofs.lemmas.Option.{same_Some}
 use Rattle.lemmas.proofs.Contains.{contains_cases, contains_head, contains_mapped, contains_none, contains_tail, get_contains}
 use Rattle.semantics.specs.Meaning.{Context, Main}
 use Rattle.law_net.specs.Roles.{one, total}
@@ -101,15 +102,12 @@ twice x xs few j c same f =
     let a = few c in let b = ap (λ (d : Context). one (same_context c d)) same ∙ ap one (same_context-refl c) in
     let d = often_some c xs (get_contains xs j c f) in omega (arith, a, b, d)
 
-some_context : (x c : Context) → Some x ≡ Some c → x ≡ c
-some_context x c e = cc
-
 pub places_apart : (xs : List Context) → Apart xs → (i j : ℕ) (c : Context) → slice_get xs i ≡ Some c → slice_get xs j ≡ Some c → i ≡ j
 places_apart [] few i j c e f = absurd (cc)
 places_apart (x ∷ xs) few zero zero c e f = refl
 places_apart (x ∷ xs) few (suc i) (suc j) c e f = ap suc (places_apart xs (λ d. let a = few d in omega (arith, a)) i j c e f)
-places_apart (x ∷ xs) few zero (suc j) c e f = absurd (twice x xs few j c (some_context x c e) f)
-places_apart (x ∷ xs) few (suc i) zero c e f = absurd (twice x xs few i c (some_context x c f) e)
+places_apart (x ∷ xs) few zero (suc j) c e f = absurd (twice x xs few j c (same_Some x c e) f)
+places_apart (x ∷ xs) few (suc i) zero c e f = absurd (twice x xs few i c (same_Some x c f) e)
 
 -- NO MORE FIT than get_contains are
 abbrev passing : (Context → Bool) → List Context → List Context

@@ -35,9 +35,6 @@ use Rattle.law_rest.proofs.Waits.{carries}
 use Rattle.law_rest.proofs.Forward.{At, feeder, decided_comes}
 use Rattle.law_rest.proofs.Story.{story, ever_told}
 
-some_line : (a b : Node ℕ) → Some a ≡ Some b → a ≡ b
-some_line a b e = cc
-
 same_arm : (i j : ℕ) (s t : Bool) → Arm i s ≡ Arm j t → i ≡ j
 same_arm i j s t e = cc
 

@@ -1,7 +1,7 @@
 -- Which tokens of the meaning the items stand for that wait at rest: no word waits to leave its context, or to go into another, but the arguments of a strict call.
 use Rattle.std.proofs.Common.{◌≡◌, ℕ, zero, suc, ◌+◌, ◌-◌, ◌<◌, ℤ, Bool, true, false, ◌⊎◌, inl, inr, List, [], ◌∷◌, nat_lt, if◌then◌else◌, refl, sym, ap, ◌∙◌, subst, arith, true≢false, lt-ltb, ltb-true, eqb-true, eq-eqb, ne_eqb}
 use Rattle.std.specs.Prelude.{Contains, ◌&&◌}
-use Rattle.std.proofs.lemmas.Bool.{and_parts, or_left, cases_Bool}
+use Rattle.std.proofs.lemmas.Bool.{and_parts, or_left, cases_Bool, or_cases}
 use Rattle.lemmas.proofs.Contains.{contains_none}
 use Rattle.lemmas.proofs.Lists.{one_element}
 use Rattle.tags.specs.declared.value.Value.{Value}
@@ -25,7 +25,7 @@ use Rattle.law_contexts.proofs.Words.{holds_of}
 use Rattle.law_arms.proofs.Sames.{spot_is}
 use Rattle.law_arms.proofs.Sends.{takes_right}
 use Rattle.law_arms.proofs.Nets.{taken_in}
-use Rattle.law_arms.proofs.Invoked.{or_cases, strict_call}
+use Rattle.law_arms.proofs.Invoked.{strict_call}
 use Rattle.law_arms.proofs.Fed.{UWay}
 use Rattle.law_over.specs.Over.{IsOpen}
 use Rattle.law_over.proofs.Paths.{wire_of}

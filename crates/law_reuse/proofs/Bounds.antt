@@ -3,6 +3,7 @@ use Rattle.std.proofs.Common.{◌≡◌, refl, sym, ap, ◌∙◌, subst, ℕ, z
 use Rattle.std.specs.Prelude.{slice_get, slice_index_or}
 use Rattle.std.proofs.lemmas.List.Elements.{Contains-append_left}
 use Rattle.std.proofs.lemmas.List.Sorted.{Contains-permutation, IsPermutation-trans}
+use Rattle.std.proofs.lemmas.Option.{same_Some}
 use Rattle.lemmas.proofs.Alls.{all_at}
 use Rattle.lemmas.proofs.Contains.{get_contains, contains_mapped}
 use Rattle.tags.specs.declared.token.Port.TheVariants.{Left}
@@ -27,7 +28,7 @@ use Rattle.semantics.specs.Wired.{IsWired}
 use Rattle.semantics.specs.Holders.{Holder, holder_of, holder_at}
 use Rattle.semantics.specs.Credits.{IsPart, IsLink, IsLoop, granted, released}
 use Rattle.law_reuse.specs.Bounds.{OnlyAsks, PlanKeepsBound, PlanKeepsBounds, BoundsAreKept, CodeUsesAgain}
-use Rattle.law_reuse.proofs.Stands.{some_same, Stands, stands_at}
+use Rattle.law_reuse.proofs.Stands.{Stands, stands_at}
 use Rattle.law_reuse.proofs.Turns.{is_counting}
 use Rattle.law_reuse.proofs.PlacedCode.{moved_to, Located, Nowhere, There, located}
 use Rattle.law_reuse.proofs.Neighbours.{get_index}
@@ -47,7 +48,7 @@ use Rattle.law_reuse.proofs.AllRuns.{start_of, releases_are_last, holders_are_al
 
 index_of : (ss : List ℕ) (h s : ℕ) → slice_get ss h ≡ Some s → slice_index_or ss h 0 ≡ s
 index_of [] h s e = absurd (cc)
-index_of (x ∷ ss) zero s e = some_same x s e
+index_of (x ∷ ss) zero s e = same_Some x s e
 index_of (x ∷ ss) (suc h) s e = index_of ss h s e
 
 -- an instruction that has a slot
@@ -71,7 +72,7 @@ module _ (p : Plan) (slots : List (List ℕ)) (wired : IsWired p) (good : Good p
       go : Located slots p.program.blocks ip → Back p slots holder op ip s
       go (Nowhere at none) = absurd (none_at (instr_at (placed p slots) ip) P.instr none P.is_at)
       go (There b n ss c i at_slots at_block at_instr plan_at code_at place) =
-          let same : moved_to ss i ≡ P.instr = some_same (moved_to ss i) P.instr (sym code_at ∙ P.is_at) in
+          let same : moved_to ss i ≡ P.instr = same_Some (moved_to ss i) P.instr (sym code_at ∙ P.is_at) in
           let is_op : i.op ≡ op = ap (λ (i : Instr). i.op) same ∙ P.does in
           let slot : slot_of i i.op ≡ Some i.slot = ap (slot_of i) is_op ∙ has i in
           let stands : Stands p.program b n i = record { code = c; block = at_block; instr = at_instr } in
@@ -95,7 +96,7 @@ module _ (p : Plan) (slots : List (List ℕ)) (wired : IsWired p) (good : Good p
       go : Located slots p.program.blocks ip → IsPart p (placed p slots) holder op ip s
       go (Nowhere at none) = absurd (none_at (instr_at p.program ip) P.instr at P.is_at)
       go (There b n ss c i at_slots at_block at_instr plan_at code_at place) =
-          let same : i ≡ P.instr = some_same i P.instr (sym plan_at ∙ P.is_at) in
+          let same : i ≡ P.instr = same_Some i P.instr (sym plan_at ∙ P.is_at) in
           let is_op : i.op ≡ op = ap (λ (i : Instr). i.op) same ∙ P.does in
           let own : slot_of i i.op ≡ Some i.slot = ap (slot_of i) is_op ∙ has i in
           let at_h : i.slot ≡ h = ap (λ (i : Instr). i.slot) same ∙ P.uses in
@@ -115,7 +116,7 @@ module _ (p : Plan) (slots : List (List ℕ)) (wired : IsWired p) (good : Good p
       go : Located slots p.program.blocks ip → IsLink (placed p slots) ip callee base
       go (Nowhere at none) = absurd (none_at (instr_at p.program ip) L.instr at L.is_at)
       go (There b n ss c i at_slots at_block at_instr plan_at code_at place) =
-          let same : i ≡ L.instr = some_same i L.instr (sym plan_at ∙ L.is_at) in
+          let same : i ≡ L.instr = same_Some i L.instr (sym plan_at ∙ L.is_at) in
           record { instr = moved_to ss i; dest = L.dest; is_at = code_at; does = ap (λ (i : Instr). i.op) same ∙ L.does; lands = ap (λ (i : Instr). i.firsts) same ∙ L.lands; begins = L.begins }
 
   loop_on : (loop : Holder) (k h s base : ℕ) → HasSlot slots loop.block h s → IsLoop p p.program loop k h base → IsLoop p code loop k s base
@@ -133,9 +134,6 @@ module _ (p : Plan) (slots : List (List ℕ)) (wired : IsWired p) (good : Good p
 is_open_of : (op : Op) → is_open op ≡ true → (k : ℕ) × (op ≡ Open k)
 is_open_of (Open k) e = (k, refl)
 is_open_of op e = absurd (true≢false (sym e))
-
-slot_same : (x y : ℕ) → Some x ≡ Some y → x ≡ y
-slot_same x y e = cc
 
 empty_waits : (c : Cont) → Empty ≡ Waiter c → ⊥
 empty_waits c e = cc
@@ -247,7 +245,7 @@ module _ (p : Plan) (slots : List (List ℕ)) (wired : IsWired p) (good : Good p
                     instr = G.i;
                     is_at = stands_at p.program G.b G.n G.i G.stands;
                     does = op.1;
-                    uses = slot_same G.i.slot k (sym (ap (slot_of G.i) op.1) ∙ G.holds);
+                    uses = same_Some G.i.slot k (sym (ap (slot_of G.i) op.1) ∙ G.holds);
                     holds = holder_here p G.b G.n G.i G.stands ∙ ap (holder_of G.b) G.holds;
                   } in
                   let slot : HasSlot slots G.b k s = ap (λ (b : ℕ). slice_get (slice_index_or slots b []) k) block ∙ ap (λ (l : List ℕ). slice_get l k) (index_got slots B.b B.ss B.at_slots) ∙ at_k in

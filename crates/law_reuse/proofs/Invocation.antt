@@ -2,7 +2,7 @@
 use Rattle.std.proofs.Common.{◌≡◌, refl, sym, ap, ◌∙◌, subst, ℕ, ◌+◌, ◌<◌, ◌⊎◌, inl, inr, Bool, true, false, not, true≢false, List, ◌++◌, length, Option, Some, None, Contains, arith}
 use Rattle.std.specs.Prelude.{slice_get}
 use Rattle.std.proofs.lemmas.Bool.{cases_Bool, cases_eq}
-use Rattle.std.proofs.lemmas.Option.{slice_get_within}
+use Rattle.std.proofs.lemmas.Option.{slice_get_within, same_Some}
 use Rattle.std.proofs.lemmas.List.Elements.{Contains-append_left, Contains-append_right, Contains-append_cases}
 use Rattle.lemmas.proofs.Alls.{all_at}
 use Rattle.lemmas.proofs.Contains.{get_contains}
@@ -26,7 +26,7 @@ use Rattle.semantics.specs.Wired.{is_dyadic, IsWired}
 use Rattle.law_reuse.proofs.Neighbours.{alone_from}
 use Rattle.law_reuse.proofs.PlacedEvents.{Alone}
 use Rattle.law_reuse.proofs.Shares.{IsKept, one_live}
-use Rattle.law_reuse.proofs.Stands.{some_same, past_entries, Stands, stands_at, stands_one}
+use Rattle.law_reuse.proofs.Stands.{past_entries, Stands, stands_at, stands_one}
 use Rattle.law_reuse.proofs.Turns.{turn_of}
 use Rattle.law_reuse.proofs.Fillings.{at_port, Came, Tells, EmptyOr}
 use Rattle.law_reuse.proofs.UsedArcs.{dyadic_port, open_port, Ports, one_frame, not_twice, Over, Used, no_move}
@@ -81,7 +81,7 @@ module _ (p : Plan) (wired : IsWired p) (z : Size) (start : Machine) (events : E
   stands_here n i e = record { code = c; block = at; instr = e }
 
   instr_here : (n : ℕ) (i : Instr) → Stands p.program b n i → slice_get c.instrs n ≡ Some i
-  instr_here n i s = subst (λ (d : CodeBlock). slice_get d.instrs n ≡ Some i) (some_same s.code c (sym s.block ∙ at)) s.instr
+  instr_here n i s = subst (λ (d : CodeBlock). slice_get d.instrs n ≡ Some i) (same_Some s.code c (sym s.block ∙ at)) s.instr
 
   holds_here : (n h : ℕ) (i : Instr) → Stands p.program b n i → slot_of i i.op ≡ Some h → Holds (slice_get p.program.blocks b) h n i
   holds_here n h i s holds = (ap (λ (o : Option CodeBlock). instr_in o n) at ∙ instr_here n i s, holds)

@@ -1,6 +1,7 @@
 -- Results, calls, loops and strict calls: what goes into an invocation, between turns, and comes back.
 use Rattle.std.proofs.Common.{◌≡◌, ℕ, suc, ◌+◌, ◌-◌, Bool, true, false, not, ◌||◌, ◌⊎◌, inl, inr, List, [], ◌∷◌, ◌++◌, length, flat_map, Some, None, if◌then◌else◌, refl, sym, ap, ◌∙◌, subst, arith, true≢false, append-nil}
 use Rattle.std.proofs.lemmas.List.Sorted.{IsPermutation-refl}
+use Rattle.std.proofs.lemmas.Bool.{or_left}
 use Rattle.lemmas.proofs.Permutations.{permutation_same}
 use Rattle.lemmas.proofs.Bools.{first_of_and}
 use Rattle.tags.specs.declared.value.Value.{Value}
@@ -32,10 +33,6 @@ main_is : (c : Context) → is_main c ≡ true → c ≡ Main
 main_is Main e = refl
 main_is (Called c n) e = absurd (true≢false (sym e))
 main_is (Turned c n i) e = absurd (true≢false (sym e))
-
-or_true : (t u : Bool) → t ≡ true → (t || u) ≡ true
-or_true true u e = refl
-or_true false u e = absurd (true≢false (sym e))
 
 module _ (fl : Flow) (p : Plan) (w : Wires) (operands : HaveOperands fl) (f : Firing) (fired' : List Firing) (ctx : IsContext fl f.context) (Here : Context → Type 0) (here : Here f.context)
     (code : IsWiredCode fl p w.variant Here (site_in fl w f.context) (wiring_in fl w f.context)) where
@@ -85,7 +82,7 @@ module _ (fl : Flow) (p : Plan) (w : Wires) (operands : HaveOperands fl) (f : Fi
   landing n j v k there = pick (either (is_call b n) (is_loop b n) (first_of_and _ _ there))
     where
       port : has_port fl b n j ≡ true
-      port = or_true _ _ there
+      port = or_left _ _ there
 
       pick : (is_call b n ≡ true) ⊎ (is_loop b n ≡ true) → IsToldBy (Landing n j) (Datum v) k
       pick (inl e) =

@@ -1,6 +1,7 @@
 -- What only controls is told nothing, or just what it sends on.
 use Rattle.std.proofs.Common.{◌≡◌, ℕ, zero, suc, ◌+◌, Bool, true, false, not, List, [], ◌∷◌, ◌++◌, flat_map, Some, refl, sym, ap, ◌∙◌, true≢false, append-nil}
 use Rattle.std.proofs.lemmas.List.Concat.{flat_map-append}
+use Rattle.std.proofs.lemmas.Bool.{not-true}
 use Rattle.lemmas.proofs.Bools.{first_of_and}
 use Rattle.tags.specs.declared.value.Value.{Value}
 use Rattle.tags.specs.declared.token.Port.TheVariants.{Left, Right}
@@ -50,10 +51,6 @@ landed_call fl c n j v h e = let k = node_is fl c h call_kind n e in ap (landed 
 
 pub landed_loop : (fl : Flow) (c : Context) (n j : ℕ) (v : Value) → IsContext fl c → is_loop (block_in fl c) n ≡ true → landed fl c n j v (node_of fl c n) ≡ settled_sent fl c n j v
 landed_loop fl c n j v h e = let k = node_is fl c h loop_kind n e in ap (landed fl c n j v) k.1 ∙ loop_landed fl c n j v k.0.kind k.2
-
-pub not_true : (t : Bool) → not t ≡ true → t ≡ false
-not_true false e = refl
-not_true true e = absurd (true≢false (sym e))
 
 -- a result goes to where its context was made
 result_told : (fl : Flow) (c : Context) (j : ℕ) (k : Note) → IsContext fl c → is_turn c ≡ false → told fl (item c (inlet (Result j) Right 0) k) ++ [] ≡ flat_map (told fl) (result_back c j k)
@@ -217,7 +214,7 @@ module _ (fl : Flow) (p : Plan) (w : Wires) (operands : HaveOperands fl) (f : Fi
       ∙ sym (flat_map-append (told fl) more (each c signal ((wiring_in fl w c).wire (side r false))) ∙ (λ i. flat_map (told fl) more ++ along_none r false signal there quiet never i) ∙ append-nil _)
 
   pub result : (j : ℕ) → There (Result j) → IsTold (Result j)
-  result j there = same fl _ _ _ (sent_on (inlet (Result j) Left 0) (inlet (Result j) Right 0) (result_back c j f.right) (Result j) (λ v. refl) there tt (λ e. e) (result_told fl c j f.right ctx (not_true (is_turn c) (first_of_and _ _ there))))
+  result j there = same fl _ _ _ (sent_on (inlet (Result j) Left 0) (inlet (Result j) Right 0) (result_back c j f.right) (Result j) (λ v. refl) there tt (λ e. e) (result_told fl c j f.right ctx (not-true (is_turn c) (first_of_and _ _ there))))
 
   pub last_return : (j : ℕ) → There (LastReturn j) → IsTold (LastReturn j)
   last_return j there = same fl _ _ _ (sent_on (inlet (LastReturn j) Left 0) (inlet (LastReturn j) Right 0) (result_back c j f.right) (LastReturn j) (λ v. refl) there tt (λ e. e) (last_back fl c j f.right ctx (first_of_and _ _ there)))

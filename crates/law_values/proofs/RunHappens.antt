@@ -3,6 +3,7 @@ use Rattle.std.proofs.Common.{◌≡◌, ℕ, ◌+◌, ◌-◌, ◌<◌, ◌⊎�
 use Rattle.std.specs.Prelude.{pos, negsuc, slice_get, count_by}
 use Rattle.std.proofs.lemmas.List.Sums.{sum_by-cons}
 use Rattle.std.proofs.lemmas.List.Sorted.{IsPermutation-sym, sum_by-IsPermutation}
+use Rattle.std.proofs.lemmas.Option.{same_Some}
 use Rattle.tags.specs.declared.value.Value.{Value}
 use Rattle.tags.specs.declared.value.Value.TheVariants.{Int, Fault}
 use Rattle.tags.specs.declared.value.Origin.{Origin}
@@ -19,7 +20,6 @@ use Rattle.law_determinacy.specs.Outcome.{NoClash}
 use Rattle.lemmas.proofs.Permutations.{Put, Perm, Within, Each, each_from, each_within, perm_refl, perm_to, put_first, within_from, within_permutation, put_IsPermutation, get_within}
 use Rattle.law_determinacy.proofs.Keys.{Differ, Unique, Held}
 use Rattle.law_determinacy.proofs.Diamond.{effect_of}
-use Rattle.law_determinacy.proofs.Options.{some_same}
 use Rattle.law_determinacy.proofs.Shapes.{fires_deed, gates_said, passes_said, storing}
 use Rattle.law_determinacy.proofs.Runs.{step_of}
 use Rattle.law_values.specs.Settled.{NoneWaits}
@@ -87,11 +87,11 @@ module _ (fl : Flow) (c : Context) (n x : ℕ) where
 
   reads_kind : (kind : Kind ℕ) (vs : List Value) → fired fl c n kind vs ≡ Some (Reads c n x) → (i : Value) × (vs ≡ i ∷ []) × (fetch_cell fl i kind ≡ Some x)
   reads_kind (Fetch a) [] e = cc
-  reads_kind (Fetch a) (v ∷ []) e = (v, refl, place_read (array_len fl a) v Untold (origin_at fl c n) (first_cell fl a) (some_same _ _ e))
+  reads_kind (Fetch a) (v ∷ []) e = (v, refl, place_read (array_len fl a) v Untold (origin_at fl c n) (first_cell fl a) (same_Some _ _ e))
   reads_kind (Fetch a) (v ∷ w ∷ vs) e = cc
   reads_kind (Store a) [] e = cc
   reads_kind (Store a) (v ∷ []) e = cc
-  reads_kind (Store a) (v ∷ w ∷ []) e = absurd (no_store_reads (first_cell fl a) w (index_in (array_len fl a) v (origin_at fl c n)) (some_same _ _ e))
+  reads_kind (Store a) (v ∷ w ∷ []) e = absurd (no_store_reads (first_cell fl a) w (index_in (array_len fl a) v (origin_at fl c n)) (same_Some _ _ e))
   reads_kind (Store a) (v ∷ w ∷ z ∷ vs) e = cc
   reads_kind (Lit z) [] e = cc
   reads_kind (Lit z) (v ∷ []) e = cc

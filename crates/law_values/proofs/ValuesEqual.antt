@@ -1,6 +1,7 @@
 -- The values satisfy the equations of the nodes.
 use Rattle.std.proofs.Common.{◌≡◌, ℕ, ◌+◌, ◌<◌, ◌≤◌, Bool, true, false, List, [], ◌∷◌, length, Option, Some, None, nat_lt, if◌then◌else◌, refl, sym, ap, ◌∙◌, subst, arith, lt-ltb, ltb-true, ltb-false}
 use Rattle.std.specs.Prelude.{slice_get}
+use Rattle.std.proofs.lemmas.Option.{same_Some}
 use Rattle.tags.specs.declared.value.Value.{Value}
 use Rattle.tags.specs.declared.value.Value.TheVariants.{Int}
 use Rattle.operators.specs.Values.{truth, apply1, apply2, Indexed, Place, Outside, index_in}
@@ -14,7 +15,6 @@ use Rattle.lemmas.proofs.Permutations.{Within, each_within, within_to}
 use Rattle.lemmas.proofs.Lists.{one_element}
 use Rattle.law_determinacy.proofs.Keys.{Together, mode_of, mode_node, mode_in, fires_mode}
 use Rattle.law_determinacy.proofs.Grounds.{mode_line}
-use Rattle.law_determinacy.proofs.Options.{some_same}
 use Rattle.law_determinacy.proofs.Rows.{Plain, Gate, Join, Looping, class_of, class_node, class_in}
 use Rattle.law_values.specs.Given.{SaysIn, stores_of}
 use Rattle.law_values.specs.Equations.{Loops, Fetched, Storing, LineEquation, InputEquation, NodeEquation, BlockEquation, Equation}
@@ -46,7 +46,7 @@ module _ (z : Rested) (c : Context) (n p : ℕ) (v : Value) where
   Match ss vs = (i : ℕ) (a : Value) → slice_get vs i ≡ Some a → (s : Source) × (slice_get ss i ≡ Some s) × GivesIn z c s.node s.port a
 
   at_place : (ss : List Source) (i : ℕ) (x : Source) (a : Value) → slice_get ss i ≡ Some x → ((s : Source) × (slice_get ss i ≡ Some s) × GivesIn z c s.node s.port a) → GivesIn z c x.node x.port a
-  at_place ss i x a e h = subst (λ (s : Source). GivesIn z c s.node s.port a) (some_same h.0 x (sym h.1 ∙ e)) h.2
+  at_place ss i x a e h = subst (λ (s : Source). GivesIn z c s.node s.port a) (same_Some h.0 x (sym h.1 ∙ e)) h.2
 
   fetched_is : (base : ℕ) (i : Indexed) → SaysIn z.state.memory (fetched c n base i) (Sends c n 0 v) → Fetched z.flow z.inputs z.run z.state z.is_run base i v
   fetched_is base (Outside w) h = sent_value c n w v h
@@ -60,7 +60,7 @@ module _ (z : Rested) (c : Context) (n p : ℕ) (v : Value) where
       (sent_value c n w v says, stored_cells z (entry c n (base + i) w) here, here)
 
   says_as : (d e : Deed) → Some d ≡ Some e → SaysIn z.state.memory e (Sends c n 0 v) → SaysIn z.state.memory d (Sends c n 0 v)
-  says_as d e f h = subst (λ d. SaysIn z.state.memory d (Sends c n 0 v)) (some_same e d (sym f)) h
+  says_as d e f h = subst (λ d. SaysIn z.state.memory d (Sends c n 0 v)) (same_Some e d (sym f)) h
 
   plain_equation : (b : Block ℕ) (r : Region) (kind : Kind ℕ) (ss : List Source) (vs : List Value) (d : Deed) → IsPlain kind → HasForm z.flow b r kind ss → length ss ≡ length vs → fired z.flow c n kind vs ≡ Some d
       → SaysIn z.state.memory d (Sends c n 0 v) → Within (Fires c n vs) z.run → deed z.flow (Fires c n vs) ≡ Some d → Match ss vs → LineIn z c n p v kind ss
@@ -154,8 +154,8 @@ module _ (z : Rested) (c : Context) (n p : ℕ) (v : Value) where
         subst (λ ss. LineIn z c n p v (Merge k) ss) (sym f.2) (side.0, argument, chosen f.0 f.1 s.0 (truth side.0) (ap (λ i. slice_get (f.0 ∷ f.1 ∷ []) i) (sym side.2) ∙ es) s.2)
       where
         chosen : (x y s : Source) (on : Bool) → slice_get (x ∷ y ∷ []) (place_of_side z on) ≡ Some s → GivesIn z c s.node s.port v → HasSomeIn z c (Some (if on then x else y)) v
-        chosen x y s true e g = subst (λ (s : Source). GivesIn z c s.node s.port v) (some_same s x (sym e)) g
-        chosen x y s false e g = subst (λ (s : Source). GivesIn z c s.node s.port v) (some_same s y (sym e)) g
+        chosen x y s true e g = subst (λ (s : Source). GivesIn z c s.node s.port v) (same_Some s x (sym e)) g
+        chosen x y s false e g = subst (λ (s : Source). GivesIn z c s.node s.port v) (same_Some s y (sym e)) g
 
   called_line : Within (Returns c n p v) z.run → IsDueIn z (Called c n) × ResultIn z (Called c n) p v
   called_line h =

@@ -3,6 +3,8 @@ use Rattle.std.proofs.Common.{◌≡◌, ℕ, ◌+◌, ◌-◌, ◌<◌, ◌⊎�
 use Rattle.std.specs.Prelude.{slice_get, count_by}
 use Rattle.std.proofs.lemmas.List.Elements.{Contains-append_left, Contains-append_right}
 use Rattle.std.proofs.lemmas.Bool.{lt-ltb, ltb-true}
+use Rattle.std.proofs.lemmas.List.{nil_from_length}
+use Rattle.std.proofs.lemmas.Option.{slice_get_within}
 use Rattle.lemmas.proofs.Alls.{all_at}
 use Rattle.lemmas.proofs.Contains.{contains_cases, contains_head, contains_tail, contains_none}
 use Rattle.lemmas.proofs.SliceGet.{get_some}
@@ -15,7 +17,6 @@ use Rattle.semantics.specs.Program.{Instr, CodeBlock}
 use Rattle.semantics.specs.Plan.{is_credit, is_open}
 use Rattle.semantics.specs.Rule.{slot_of}
 use Rattle.law_expansion.specs.Shapes.{HasExactShape}
-use Rattle.law_expansion.proofs.ArcsLists.{get_within}
 use Rattle.law_contexts.specs.Parts as Parts
 use Rattle.law_contexts.specs.Parts.{Part, Entry, Line, Trigger, Gate, Opener, Framer, Fanned, Linker, Landing, Giver, Taker, Drainer, LoopDone, Result, Join, CondEnd, Inlet, inlet, same_part}
 use Rattle.law_contexts.specs.Blocks as Blocks
@@ -38,10 +39,6 @@ use Rattle.law_wires.proofs.ArcsSame.{arcs_agree}
 use Rattle.law_wires.proofs.ArcsMore as More
 use Rattle.law_wires.proofs.ArcsMore.{size_goes, no_size, some_size, goes_there, answer_arcs, frame_arc, link_arc, give_arc, drain_arc, ask_arc, fan_arc, arcs_mixed, invoke_there, loop_there, turn_there}
 use Rattle.law_wires.proofs.Places.{at_place, place_bounded, tally_there, AllDests, all_dests, dests_stand, dests_along}
-
-empty : {X : Type 0} (xs : List X) → length xs ≡ 0 → xs ≡ []
-empty [] h = refl
-empty (x ∷ xs) h = absurd (omega (arith, h))
 
 -- PARTS OF SUCH A BLOCK
 -- the machine answers only where no wire leaves
@@ -160,7 +157,7 @@ module _ (fl : Flow) (S : Site) (c : CodeBlock) (fit : IsFit fl S.block) (turned
   pub instr_of : (r : Part) → IsThere r → (i : Instr) × (slice_get c.instrs (at r) ≡ Some i) × IsAt it (arcs_in fl S) r i
   instr_of r h =
       let p = place_of r h in
-      let l = get_within P (at r) r p in
+      let l = slice_get_within P (at r) r p in
       let s = size in
       let i = get_some c.instrs (at r) (omega (arith, l, s)) in
       (i.0, i.1, laid.instrs (at r) r i.0 p (ap (λ is. slice_get is (at r)) (sym facts.instrs) ∙ i.1))
@@ -321,7 +318,7 @@ module _ (fl : Flow) (S : Site) (c : CodeBlock) (fit : IsFit fl S.block) (turned
           by_answer : (answered_at r ≡ []) ⊎ ((y : Inlet) × (answered_at r ≡ y ∷ [])) → map (leads_to (at r)) i.firsts ≡ map (stands_at w) (answered_at r ++ w.wire (side r false))
           by_answer (inl none) =
               let l = (exact_is r i h n e x.op).0 ∙ ap (λ (xs : List Inlet). length xs) none in
-              ap (map (leads_to (at r))) (empty i.firsts l) ∙ sym (ap (λ xs. map (stands_at w) (xs ++ w.wire (side r false))) none ∙ ap (map (stands_at w)) (read_none r false n))
+              ap (map (leads_to (at r))) (nil_from_length i.firsts l) ∙ sym (ap (λ xs. map (stands_at w) (xs ++ w.wire (side r false))) none ∙ ap (map (stands_at w)) (read_none r false n))
           by_answer (inr y) =
               let one = answer_dest r i y.0 h n e x y.1 in
               let less = answer_forward r y.0 h n y.1 in
@@ -333,4 +330,4 @@ module _ (fl : Flow) (S : Site) (c : CodeBlock) (fit : IsFit fl S.block) (turned
     where
       go : (t : Bool) → has_no_wire r ≡ t → map (leads_to (at r)) i.seconds ≡ map (stands_at w) (w.wire (side r true))
       go false n = dests_are_wires r true i h n e x
-      go true n = ap (map (leads_to (at r))) (empty i.seconds (exact_is r i h n e x.op).1) ∙ sym (ap (map (stands_at w)) (read_none r true n))
+      go true n = ap (map (leads_to (at r))) (nil_from_length i.seconds (exact_is r i h n e x.op).1) ∙ sym (ap (map (stands_at w)) (read_none r true n))

@@ -3,6 +3,7 @@ use Rattle.std.proofs.Common.{◌≡◌, ◌≢◌, ℕ, zero, suc, ◌+◌, ◌
 use Rattle.std.specs.Prelude.{slice_get, count_by}
 use Rattle.std.proofs.lemmas.Bool.{lt-ltb, le-ltb, eqb-true, cases_lt}
 use Rattle.std.proofs.lemmas.List.Sums.{sum_by-cons}
+use Rattle.std.proofs.lemmas.Option.{same_Some}
 use Rattle.lemmas.proofs.Bools.{equal_itself}
 use Rattle.semantics.specs.declared.graph.Region.TheVariants.{Root, Arm}
 use Rattle.semantics.specs.declared.graph.Kind.{Kind}
@@ -31,9 +32,6 @@ count_is p (x ∷ xs) = let h = sum_by-cons (λ y. if p y then 1 else 0) x xs in
 pub tally_both : {X : Type 0} (p : X → Bool) (xs ys : List X) → tally p (xs ++ ys) ≡ tally p xs + tally p ys
 tally_both p [] ys = omega arith
 tally_both p (x ∷ xs) ys = let h = tally_both p xs ys in omega (arith, h)
-
-pub same_some : {X : Type 0} (x y : X) → Some x ≡ Some y → x ≡ y
-same_some x y h = cc
 
 -- ROWS
 pub row_none : (p : Part → Bool) (f : ℕ → Part) (from n : ℕ) → ((j : ℕ) → from ≤ j → j < from + n → p (f j) ≡ false) → tally p (row f from n) ≡ 0
@@ -186,7 +184,7 @@ module _ (fl : Flow) (s : Site) where
       go later (inr a) =
           let same : n ≡ k = omega (arith, l, a) in
           let there = follow_here b n y xs f in
-          let its : y ≡ x = same_some y x (sym there ∙ ap (node_at b) same ∙ e) in
+          let its : y ≡ x = same_Some y x (sym there ∙ ap (node_at b) same ∙ e) in
           let here : tally p (kind_parts fl s n (length y.sources) y.kind) ≡ tally p (kind_parts fl s k (length x.sources) x.kind) = ap (λ (z : Node ℕ). tally p (kind_parts fl s n (length z.sources) z.kind)) its ∙ ap (λ j. tally p (kind_parts fl s j (length x.sources) x.kind)) same in
           let rest = nodes_none p (n + 1) xs (follow_more b n y xs f) (λ j z c g. h j z (λ q. omega (arith, q, c, same)) g) in
           let c = both in

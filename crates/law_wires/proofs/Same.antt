@@ -1,6 +1,6 @@
 -- Parts that are the same by their numbers are the same.
 use Rattle.std.proofs.Common.{◌≡◌, ℕ, Bool, true, false, ◌&&◌, refl, sym, ap, ◌∙◌, arith, if◌then◌else◌, ◌==◌}
-use Rattle.std.proofs.lemmas.Bool.{eqb-true}
+use Rattle.std.proofs.lemmas.Bool.{eqb-true, and_parts}
 use Rattle.semantics.specs.declared.graph.Region.{Region}
 use Rattle.semantics.specs.declared.graph.Region.TheVariants.{Root, Arm}
 use Rattle.law_contexts.specs.Parts.{Part, Entry, Line, Answer, Trigger, Gate, Merge, Opener, Framer, Fanned, Linker, Sender, Landing, CallDone, Giver, Taker, Drainer, LoopDone, Strict, Result, TurnCont, TurnFlag, TurnValue, Asker, NextFramer, NextFanned, NextSender, LastReturn, DrainReturn, Join, CondEnd, End, Asked, NextAsked, Held, Drained, Shown, Done, Freed, Key, key, region_key, part_key, same_key, same_part}
@@ -42,15 +42,10 @@ its_join : (r : Part) → is_join r ≡ true → (q : Region) × (i : ℕ) × (r
 its_join (Join q i) h = (q, i, refl)
 its_join r h = absurd (cc)
 
-both_true : (s t : Bool) → (s && t) ≡ true → (s ≡ true) × (t ≡ true)
-both_true true true h = (refl, refl)
-both_true true false h = absurd (cc)
-both_true false t h = absurd (cc)
-
 key_is : (a b : Key) → same_key a b ≡ true → (a.kind ≡ b.kind) × (a.first ≡ b.first) × (a.second ≡ b.second)
 key_is a b h =
-    let x = both_true (a.kind == b.kind) ((a.first == b.first) && (a.second == b.second)) h in
-    let y = both_true (a.first == b.first) (a.second == b.second) x.1 in
+    let x = and_parts (a.kind == b.kind) ((a.first == b.first) && (a.second == b.second)) h in
+    let y = and_parts (a.first == b.first) (a.second == b.second) x.1 in
     (eqb-true a.kind b.kind x.0, eqb-true a.first b.first y.0, eqb-true a.second b.second y.1)
 
 pub same_is : (r q : Part) → same_part r q ≡ true → r ≡ q
@@ -85,7 +80,7 @@ bool_is false true h = absurd (cc)
 
 pub side_is : (t u : Side) → same_side t u ≡ true → t ≡ u
 side_is t u h =
-    let x = both_true (same_part t.part u.part) (same_bool t.second u.second) h in
+    let x = and_parts (same_part t.part u.part) (same_bool t.second u.second) h in
     let a = same_is t.part u.part x.0 in
     let c = bool_is t.second u.second x.1 in
     (λ i. side (a i) (c i))

@@ -3,6 +3,7 @@ use Rattle.std.proofs.Common.{◌≡◌, ◌≢◌, ℕ, ◌+◌, ◌<◌, ◌�
 use Rattle.std.specs.Prelude.{flat_map, IsPermutation}
 use Rattle.std.proofs.lemmas.Bool.{cases_lt, ne_eqb}
 use Rattle.std.proofs.lemmas.List.Sorted.{IsPermutation-refl, IsPermutation-sym, IsPermutation-trans, IsPermutation-append_comm, IsPermutation-append_left, IsPermutation-append_right}
+use Rattle.std.proofs.lemmas.Option.{same_Some}
 use Rattle.tags.specs.declared.value.Value.{Value}
 use Rattle.semantics.specs.declared.graph.Region.{Region}
 use Rattle.semantics.specs.declared.graph.Region.TheVariants.{Root, Arm}
@@ -20,7 +21,7 @@ use Rattle.law_contexts.specs.Told.{settled_sent}
 use Rattle.law_contexts.specs.Wires.{told_along}
 use Rattle.law_wires.specs.Written.{Wire, along, same_side, leaves_at, leaves, kind_wires, node_wires, tail_wires, wires_in}
 use Rattle.law_wires.specs.Fit.{Takes, ComesBefore, IsFit}
-use Rattle.law_wires.proofs.Counts.{Follow, follow_more, follow_here, same_some}
+use Rattle.law_wires.proofs.Counts.{Follow, follow_more, follow_here}
 use Rattle.law_wires.proofs.Parts.{follow, node_within}
 use Rattle.law_wires.proofs.Nodes.{node_some, cond_is, first_before}
 use Rattle.law_wires.proofs.Uses.{IsPort, heard, heard_both, side_test, settle, made, settle_both, results_heard, used, gated, test, decides, kind_row}
@@ -127,7 +128,7 @@ module _ (fl : Flow) (s : Site) (fit : IsFit fl s.block) (c : Context) (v : Valu
       go (inl a) more = ap (λ zs. zs ++ from_conds (m + 1) xs g y) (none_if (D x) (from_cond m g y) (h m (λ q. omega (arith, q, a)))) ∙ more (omega (arith, a)) (omega (arith, u))
       go (inr a) more =
           let same : m ≡ k = omega (arith, l, a) in
-          let its : x ≡ z = same_some x z (sym (follow_here s.block m x xs f) ∙ ap (node_at s.block) same ∙ e) in
+          let its : x ≡ z = same_Some x z (sym (follow_here s.block m x xs f) ∙ ap (node_at s.block) same ∙ e) in
           ap (λ zs. (if D x then from_cond m g y else []) ++ zs) (none_from (m + 1) xs g y (λ j d. h j (λ q. omega (arith, q, d, same))))
           ∙ append-nil (if D x then from_cond m g y else []) ∙ (λ i. if D (its i) then from_cond (same i) g y else [])
 

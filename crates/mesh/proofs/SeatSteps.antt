@@ -1,5 +1,5 @@
 -- The opening, and seats that are split off, joined and settled.
-use Rattle.std.proofs.Common.{◌≡◌, ◌≢◌, ℕ, zero, suc, ◌+◌, ◌*◌, ◌%◌, ◌^◌, ◌<◌, ◌≤◌, Bool, true, false, List, [], ◌∷◌, ◌++◌, map, length, replicate, get_or, set, refl, ap, sym, ◌∙◌, subst, ⊎_elim, inl, inr, ◌⊎◌, arith, Option, Some, None, length-append, length-set, get_or-set_other, get_or-set_same, eq-eqb, ne_eqb, ◌==◌, if◌then◌else◌, nat_lt, filter}
+use Rattle.std.proofs.Common.{◌≡◌, ◌≢◌, ℕ, zero, suc, ◌+◌, ◌*◌, ◌^◌, ◌<◌, ◌≤◌, Bool, true, false, List, [], ◌∷◌, ◌++◌, map, length, replicate, get_or, set, refl, ap, sym, ◌∙◌, subst, ⊎_elim, inl, inr, ◌⊎◌, arith, Option, Some, None, length-append, length-set, get_or-set_other, get_or-set_same, eq-eqb, ne_eqb, ◌==◌, if◌then◌else◌, nat_lt, filter}
 use Rattle.std.proofs.lemmas.List.{append-nil}
 use Rattle.std.specs.List.Sorted.{IsPermutation}
 use Rattle.std.proofs.lemmas.List.Sorted.{IsPermutation-refl, IsPermutation-sym, IsPermutation-trans, IsPermutation-cons}
@@ -14,6 +14,7 @@ use native.Mathlib.Decide.{ℕ_discrete}
 use lib.ListN.{get_elem?, length-map, length-replicate}
 use Rattle.atomic_table.specs.Table.{Step, keeps, Allows, Splits, Joins, opening}
 use Rattle.atomic_table.proofs.Lists.{at_set}
+use Rattle.std.proofs.lemmas.Nat.{mod_below}
 use Rattle.lemmas.proofs.Lists.{nothing_before}
 use Rattle.tags.specs.declared.token.Token.{Token}
 use Rattle.tags.specs.declared.token.To.{To}
@@ -123,13 +124,10 @@ unfolding gather
 gather_none zero f h = refl
 gather_none (suc m) f h = let r = gather_none m f h in let t = h m in cc
 
-below_mod : (x n : ℕ) → 0 < n → x % n < n
-below_mod x n h = omega arith
-
 element_below : (n : ℕ) (to : To) → 0 < n → element_of n to < n
-element_below n (To.Instr f ip p) h = below_mod f n h
-element_below n (To.Fetch x) h = below_mod x n h
-element_below n (To.Store x v) h = below_mod x n h
+element_below n (To.Instr f ip p) h = mod_below f n h
+element_below n (To.Fetch x) h = mod_below x n h
+element_below n (To.Store x v) h = mod_below x n h
 element_below n To.Manager h = h
 element_below n (To.Release f) h = h
 element_below n (To.Host p) h = h

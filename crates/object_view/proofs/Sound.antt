@@ -2,7 +2,7 @@
 use Rattle.std.proofs.Common.{◌≡◌, ℕ, zero, suc, ◌+◌, ◌-◌, ◌*◌, ◌/◌, ◌%◌, ◌^◌, ◌<◌, ◌≤◌, Bool, true, false, ◌&&◌, ◌||◌, ◌==◌, nat_lt, nat_le, if◌then◌else◌, List, [], ◌∷◌, ◌++◌, length, get_or, map, take, drop, Option, Some, None, Ok, Err, ℤ, pos, ◌⊎◌, inl, inr, refl, sym, ap, subst, ◌∙◌, arith, eqb-true}
 use Rattle.std.specs.Prelude.{unwrap_or, option_to_list, flat_map, slice_get, int_lt}
 use Rattle.std.specs.Int.{w64, cast_unsigned, to_le_bytes}
-use Rattle.std.proofs.lemmas.Bool.{and_parts, leb-true, ltb-true, ltb-false, eqb-false}
+use Rattle.std.proofs.lemmas.Bool.{and_parts, leb-true, ltb-true, ltb-false, eqb-false, or_cases}
 use Rattle.std.proofs.lemmas.Int.{of_z-to_z}
 use Rattle.std.proofs.lemmas.List.{drop-drop}
 use Rattle.byteorder.specs.Endian.{little_number}
@@ -39,15 +39,11 @@ pub record Passed (n : ℕ) (w : ℕ → ℕ) : Type 0 where
   pub literals : literals_checked w ≡ Ok tt
   pub blocks : each (block_checked w) 0 (w 2) ≡ Ok tt
 
-either : (a b : Bool) → (a || b) ≡ true → (a ≡ true) ⊎ (b ≡ true)
-either true b h = inl refl
-either false b h = inr h
-
 header_passed : (w : ℕ → ℕ) → header_checked w ≡ Ok tt → (w 0 ≡ MAGIC) × ((w 1 ≡ 1) ⊎ (w 1 ≡ 2)) × CountsFit w
 header_passed w h = go (w 0 == MAGIC) (w 1 == 1 || w 1 == 2) refl refl h
   where
     version : (w 1 == 1 || w 1 == 2) ≡ true → (w 1 ≡ 1) ⊎ (w 1 ≡ 2)
-    version q = elim (either (w 1 == 1) (w 1 == 2) q) [ inl a ↦ inl (eqb-true _ _ a) | inr b ↦ inr (eqb-true _ _ b) ]
+    version q = elim (or_cases (w 1 == 1) (w 1 == 2) q) [ inl a ↦ inl (eqb-true _ _ a) | inr b ↦ inr (eqb-true _ _ b) ]
 
     go : (a b : Bool) → (w 0 == MAGIC) ≡ a → (w 1 == 1 || w 1 == 2) ≡ b → (if a then (if b then unless (counts_fit w) BadTable else Err BadVersion) else Err BadMagic) ≡ Ok tt → (w 0 ≡ MAGIC) × ((w 1 ≡ 1) ⊎ (w 1 ≡ 2)) × CountsFit w
     go false b p q k = absurd cc

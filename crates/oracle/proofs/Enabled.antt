@@ -2,6 +2,7 @@
 use Rattle.std.proofs.Common.{◌≡◌, ℕ, ◌<◌, ◌⊎◌, ℤ, List, [], ◌∷◌, ◌++◌, map, flat_map, length, Option, Some, None, slice_get, IsPermutation, Contains, inl, inr, refl, sym, ap, ap₂, ◌∙◌, subst, arith, ⊎_elim, append_assoc}
 use Rattle.std.proofs.lemmas.List.{map-append}
 use Rattle.std.proofs.lemmas.List.Sorted.{IsPermutation-refl, IsPermutation-trans, IsPermutation-append_left}
+use Rattle.std.proofs.lemmas.Option.{same_Some}
 use Rattle.tags.specs.declared.value.Value.{Value}
 use Rattle.semantics.specs.Graph.{Graph, flow_of}
 use Rattle.semantics.specs.WellFormed.{WellFormed}
@@ -13,7 +14,6 @@ use Rattle.law_determinacy.proofs.Deeds.{full_of}
 use Rattle.law_determinacy.proofs.Diamond.{deed_of, held_from, effect_of}
 use Rattle.law_determinacy.proofs.Determinacy.{same_sym}
 use Rattle.law_determinacy.proofs.Keys.{Unique, Held, same_activity}
-use Rattle.law_determinacy.proofs.Options.{some_same}
 use Rattle.lemmas.proofs.Permutations.{Within, Each, put_first, each_from, each_within, within_append, within_left, within_right, within_to, each_weaker, get_within}
 use Rattle.law_determinacy.proofs.Resolved.{flow_well}
 use Rattle.law_determinacy.proofs.Rest.{takes_some}
@@ -105,7 +105,7 @@ module _ (g : Graph) (well : WellFormed g) (inputs : List ℤ) (fit : length inp
       let z = tagged f.context (AtNode f.node) (Meaning.Operand 0) f.value in
       let mine : Within z ts = subst (λ u. Within u ts) f.is (each_within (λ u. Within u ts) y (taken a) ya held) in
       let same = same_activity (flow_of g) ts unique a b e (Meaning.Reads f.context f.node f.cell) is f.fetch held (mine, tt) y ya (subst (λ u. Within u (z ∷ [])) (sym f.is) ([], put_first z [])) in
-      let deeds : e ≡ Meaning.Reads f.context f.node f.cell = some_same _ _ (sym is ∙ ap (λ x. deed (flow_of g) x) same ∙ f.fetch) in
+      let deeds : e ≡ Meaning.Reads f.context f.node f.cell = same_Some _ _ (sym is ∙ ap (λ x. deed (flow_of g) x) same ∙ f.fetch) in
       let done_it = subst (λ e. done (flow_of g) m e ≡ Some E) deeds did in
       let v = full_of (held_in cells f.cell) (λ v. adds (tokens_of (flow_of g) (Meaning.Sends f.context f.node 0 v)) m) E done_it in
       let no : None ≡ Some v.0 = sym f.empty ∙ v.1 in

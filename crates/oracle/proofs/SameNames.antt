@@ -1,12 +1,12 @@
 -- Where invocations were added, all others keep their names: so what is known keeps its tokens, and a deed stays the same.
 use Rattle.std.proofs.Common.{◌≡◌, ℕ, ◌<◌, ◌≤◌, List, [], ◌∷◌, map, length, Some, slice_get, IsPermutation, refl, sym, ap, ◌∙◌, subst, arith}
 use Rattle.std.proofs.lemmas.List.Sorted.{IsPermutation-map}
+use Rattle.std.proofs.lemmas.Option.{slice_get_within}
 use Rattle.lemmas.proofs.SliceGet.{get_some}
 use Rattle.tags.specs.declared.value.Value.{Value}
 use Rattle.semantics.specs.Graph.{Graph, flow_of}
 use Rattle.semantics.specs.Meaning.{Context, block_number, Same}
 use Rattle.semantics.specs.Meaning as Meaning
-use Rattle.law_determinacy.proofs.Grounds.{get_below}
 use Rattle.oracle.specs.declared.invocations.Made.{Made}
 use Rattle.oracle.specs.declared.invocations.Made.TheVariants.{Main, Called, Turned}
 use Rattle.oracle.specs.declared.invocations.Invocation.{Invocation}
@@ -28,7 +28,7 @@ pub as_long : (xs ys : List Invocation) → StartsWith ys xs → length xs ≤ l
 as_long [] ys more = omega arith
 as_long (x ∷ xs) ys more =
     let last = get_some (x ∷ xs) (length xs) (omega arith) in
-    let low = get_below ys (length xs) last.0 (more (length xs) last.0 last.1) in
+    let low = slice_get_within ys (length xs) last.0 (more (length xs) last.0 last.1) in
     omega (arith, low)
 
 module _ (g : Graph) (xs ys : List Invocation) (cs ds : List Context) (old : Named g xs cs) (new : Named g ys ds) (more : StartsWith ys xs) where

@@ -2,6 +2,7 @@
 -- has.
 use Rattle.std.proofs.Common.{◌≡◌, ℕ, zero, suc, ◌+◌, ◌-◌, ◌<◌, ◌^◌, ℤ, true, false, ◌==◌, List, [], ◌∷◌, length, Option, Some, None, nat_lt, slice_get, if◌then◌else◌, refl, sym, ap, ◌∙◌, subst, arith, ⊎_elim}
 use Rattle.std.specs.Prelude.{⊤, option_map}
+use Rattle.std.proofs.lemmas.Option.{same_Some}
 use Rattle.tags.specs.declared.value.Value.{Value}
 use Rattle.tags.specs.declared.value.Origin.{Origin}
 use Rattle.operators.specs.Values.{truth, Indexed, Place, Outside, index_in}
@@ -15,7 +16,6 @@ use Rattle.semantics.specs.WellFormed.{WellFormed, IsBlockWell}
 use Rattle.semantics.specs.Faithful.{inputs_of, inputs_in}
 use Rattle.semantics.specs.Meaning.{Context, Statement, AtNode, AtOut, Port, Tagged, tagged, State, Activity, Run, start, same_side, block_of, Message}
 use Rattle.semantics.specs.Meaning as Meaning
-use Rattle.law_determinacy.proofs.Options.{some_same}
 use Rattle.lemmas.proofs.Permutations.{Within, within_right}
 use Rattle.lemmas.proofs.Alls.{all_at}
 use Rattle.law_determinacy.proofs.Uses.{IsSource, UseOf, AsOperand, AsResult, AsFlag, AsCarried, Member}
@@ -183,7 +183,7 @@ module _ (g : Graph) (well : WellFormed g) where
       = λ o. elim o as (λ o. slice_get g.blocks (main_place g) ≡ o → option_map (block_in g) o ≡ Some b → length b.results ≡ outputs_at g (main_place g)) [
         | None ↦ λ q h. cc
         | Some named ↦ λ q h.
-            let same : block_in g named ≡ b = some_same (block_in g named) b h in
+            let same : block_in g named ≡ b = same_Some (block_in g named) b h in
             let here : IsBlockWell g named.1 = all_at (λ (named : List ℕ × Block (List ℕ)). IsBlockWell g named.1) g.blocks (main_place g) named well.blocks q in
             ap (λ (b : Block ℕ). length b.results) (sym same) ∙ here.result_count ∙ ap outputs_in (sym q)
       ] in

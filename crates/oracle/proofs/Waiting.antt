@@ -2,12 +2,12 @@
 -- activity is enabled and no store clashes.
 use Rattle.std.proofs.Common.{◌≡◌, ℕ, ◌<◌, ◌⊎◌, inl, inr, true, false, List, [], ◌∷◌, ◌++◌, map, length, Option, Some, None, slice_get, if◌then◌else◌, refl, sym, ap, ◌∙◌, subst, arith, ⊎_elim}
 use Rattle.std.proofs.lemmas.List.{map-append}
+use Rattle.std.proofs.lemmas.Option.{same_Some}
 use Rattle.tags.specs.declared.value.Value.{Value}
 use Rattle.semantics.specs.Graph.{Graph, Flow, flow_of}
 use Rattle.semantics.specs.Meaning.{Context, Statement, AtNode, Port, Tagged, tagged, Memory, State, Effect, Activity, taken, deed, done, adds, tokens_of, block_number, Step, AtRest, Clashes}
 use Rattle.semantics.specs.Meaning as Meaning
 use Rattle.law_determinacy.specs.Outcome.{NoClash}
-use Rattle.law_determinacy.proofs.Options.{some_same}
 use Rattle.lemmas.proofs.Permutations.{Within, Each, put_first, put_later, each_within, within_append, within_right, each_weaker, within_map}
 use Rattle.law_determinacy.proofs.Keys.{Unique, Held, same_activity}
 use Rattle.law_determinacy.proofs.Deeds.{full_of}
@@ -143,7 +143,7 @@ module _ (fl : Flow) (cells : ℕ → Option Value) (ts waiting deferred : List 
       let y = tagged f.context (AtNode f.node) (Meaning.Operand 0) f.value in
       let mine : Within y ts = subst (λ z. Within z ts) f.is (subst (λ l. Within one.0 l) (sym here) (within_right one.0 waiting deferred one.2)) in
       let same = same_activity fl ts all a b d (Meaning.Reads f.context f.node f.cell) e f.fetch held (mine, tt) one.0 one.1 (subst (λ z. Within z (y ∷ [])) (sym f.is) ([], put_first y [])) in
-      let deeds : d ≡ Meaning.Reads f.context f.node f.cell = some_same _ _ (sym e ∙ ap (λ k. deed fl k) same ∙ f.fetch) in
+      let deeds : d ≡ Meaning.Reads f.context f.node f.cell = same_Some _ _ (sym e ∙ ap (λ k. deed fl k) same ∙ f.fetch) in
       (f.context, f.node, f.cell, deeds, f.empty))
       (each_either (λ y. Within y waiting) (λ y. Within y deferred) (taken a) sides)
 
