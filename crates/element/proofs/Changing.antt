@@ -15,6 +15,7 @@ use Rattle.tags.specs.declared.slot.SlotState.{SlotState}
 use Rattle.semantics.specs.Program.{Instr, Program, instr_at}
 use Rattle.semantics.specs.Rule.{back_to, Seat, Outcome, Becomes, rule_at, outcome_of, slot_of}
 use Rattle.semantics.specs.Machine.{Store, CellState, Vacant, Full, Deferred, Happens, Fires, Stores, Requests, slot_in, slot_used, with_slot_in, answer, answers, outputs_of, put_at, with_output, with_done}
+use Rattle.semantics.proofs.Stores.{put_other}
 use Rattle.istructure.specs.declared.FetchAnswer.{FetchAnswer}
 use Rattle.istructure.specs.declared.StoreAnswer.{StoreAnswer}
 use Rattle.istructure.specs.OwnCells.{OwnCells, place_of, with_cell_at, waiting_in, waiting_at}
@@ -31,7 +32,7 @@ use Rattle.element.specs.Acts.{Changes, ServesFirst}
 use Rattle.frame_manager.specs.Managed.{Managed}
 use Rattle.element.proofs.Only.{fetch_only, store_only, request_only, release_only, manages_as, part_with_cells, cells_elsewhere, part_with_manager, frames_elsewhere}
 use Rattle.element.proofs.Nearness.{back_near, one_near}
-use Rattle.element.proofs.Places.{put_other, set_at, slot_then, agree}
+use Rattle.element.proofs.Places.{set_at, slot_then, agree}
 
 abbrev seat : ℕ → ℕ → Seat
 seat f ip = record { frame = f; ip = ip }

@@ -1,14 +1,14 @@
 -- A well-formed graph that has a text is within the limits.
-use Rattle.std.proofs.Common.{◌≡◌, ℕ, ◌+◌, ◌-◌, ◌<◌, ◌≤◌, Bool, true, false, List, [], ◌∷◌, length, refl, ap, ◌∙◌, arith, Option, Some, None, nat_lt, if◌then◌else◌}
+use Rattle.std.proofs.Common.{◌≡◌, ℕ, ◌+◌, ◌-◌, ◌<◌, ◌≤◌, Bool, true, false, List, [], ◌∷◌, length, refl, ◌∙◌, arith, Option, Some, None, if◌then◌else◌}
 use Rattle.std.specs.Prelude.{All, slice_get}
-use Rattle.std.proofs.lemmas.Bool.{le-ltb}
 use Rattle.std.proofs.lemmas.List.{length-map}
 use Rattle.lemmas.proofs.Alls.{all_at, all_from_map}
 use Rattle.semantics.specs.declared.graph.Kind.{Kind}
 use Rattle.semantics.specs.declared.graph.Kind.TheVariants.{Lit, Apply1, Apply2, Cond, Enter, Merge, Fetch, Store, Call, StrictCall, Loop}
-use Rattle.semantics.specs.Graph.{Graph, Block, Node, node_at, flow_of, resolved_kind, resolved_block, array_names, block_names, same_name, place_from, place_of}
+use Rattle.semantics.specs.Graph.{Graph, Block, Node, flow_of, resolved_kind, resolved_block, array_names, block_names, same_name, place_from, place_of}
 use Rattle.semantics.specs.WellFormed.{WellFormed, IsBlockWell, IsNodeWell, NamesWell}
 use Rattle.semantics.specs.Text.{HasText, HasBlockText, HasNodeLine, HasLine}
+use Rattle.semantics.proofs.Lines.{named_line_at}
 use Rattle.expansion.specs.Blocks.{IsSmallKind, IsSmallNode, IsSmallBlock, FewOutputs, outputs_in, outputs_of}
 use Rattle.expansion.specs.Expanded.{IsSmallFlow}
 
@@ -37,14 +37,6 @@ block_place_is_small g name text =
     let e = length-map g.blocks (λ (b : List ℕ × Block (List ℕ)). b.0) in
     let low = place_below 0 name (block_names g) in
     omega (arith, e, low, text.few_blocks)
-
--- LISTS
-
-node_line : (b : Block (List ℕ)) (i : ℕ) → node_at b (b.inputs + i) ≡ slice_get b.nodes i
-node_line b i =
-    let past : nat_lt (b.inputs + i) b.inputs ≡ false = le-ltb (b.inputs + i) b.inputs (omega arith) in
-    let at : (b.inputs + i) - b.inputs ≡ i = omega arith in
-    ap (λ t. if t then None else slice_get b.nodes ((b.inputs + i) - b.inputs)) past ∙ ap (slice_get b.nodes) at
 
 -- NODES
 few_sources : (v : ℕ) (k : Kind (List ℕ)) (n : ℕ) → HasLine v k n → n ≤ 16
@@ -97,7 +89,7 @@ module _ (g : Graph) (well : WellFormed g) (text : HasText g) where
         size = let s = fits.size in omega (arith, s, count);
         nodes = all_from_map IsSmallNode (resolved g) named.1.nodes (λ i n here.
             let line : HasNodeLine g.version n = all_at (HasNodeLine g.version) named.1.nodes i n fits.nodes here in
-            let known : IsNodeWell g named.1 (named.1.inputs + i) n = good.nodes (named.1.inputs + i) n (node_line named.1 i ∙ here) in
+            let known : IsNodeWell g named.1 (named.1.inputs + i) n = good.nodes (named.1.inputs + i) n (named_line_at named.1 i ∙ here) in
             record { sources = few_sources g.version n.kind (length n.sources) line.1; kind = small_kind g n.kind (length n.sources) few_arrays few_blocks known.names });
         results = fits.results.0;
       }

@@ -6,10 +6,11 @@ use Rattle.lemmas.proofs.Contains.{contains_get, get_contains}
 use Rattle.lemmas.proofs.SliceGet.{map_get}
 use Rattle.semantics.specs.Graph.{Block, Graph, same_name, place_of, block_names}
 use Rattle.semantics.specs.WellFormed.{AllDiffer, HasShape}
+use Rattle.semantics.proofs.Lines.{same_name_is}
 use Rattle.graph_check.specs.declared.faults.CheckFaultKind.TheVariants.{SameName}
 use Rattle.graph_check.specs.Names.{is_name, place_if}
 use Rattle.graph_check.specs.FirstFault.{first_in, repeat_fault, array_name_fault, block_name_fault, shape_in, shape_of}
-use Rattle.graph_check.proofs.Places.{same_name_is, same_name_of, found_from, place_found}
+use Rattle.graph_check.proofs.Places.{same_name_of, found_from, place_found}
 use Rattle.graph_check.proofs.NoFault.{first_none, first_yes, fault_at_none, none_at}
 
 -- ---- a name stands at its place

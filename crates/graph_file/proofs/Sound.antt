@@ -1,6 +1,6 @@
 -- What is read is spelled so.
 use Rattle.std.proofs.Common.{◌≡◌, ℕ, ◌+◌, ◌<◌, ◌≤◌, ◌&&◌, not, eqb, ltb, leb, Bool, true, false, cond, List, [], ◌∷◌, ◌++◌, length, map, take, drop, Result, Ok, Err, refl, sym, ap, subst, ◌∙◌, append_assoc, arith, inl, inr}
-use Rattle.std.specs.Prelude.{◌⊎◌, codes, flat_map, sum}
+use Rattle.std.specs.Prelude.{codes, flat_map, sum}
 use Rattle.std.specs.Fmt.{decimal}
 use Rattle.std.specs.Str.{bytes_eq}
 use Rattle.std.specs.List.{join_with_byte}
@@ -18,6 +18,7 @@ use Rattle.semantics.specs.Text.{line, node_line as node_text, array_line as arr
 use Rattle.semantics.specs.Versions.{version_number}
 use Rattle.semantics.specs.declared.version.Version.{Version}
 use Rattle.semantics.specs.declared.version.Version.TheVariants.{One, Two}
+use Rattle.semantics.proofs.Lines.{version_is}
 use Rattle.graph_file.specs.declared.fault.ReadFault.{ReadFault}
 use Rattle.graph_file.specs.declared.fault.ReadFaultKind.{ReadFaultKind}
 use Rattle.graph_file.specs.declared.fault.ReadFaultKind.TheVariants.{NoHeader, BadLine, BadNumber, TooMany}
@@ -270,10 +271,6 @@ line_takes f (Done m) l s e h = absurd cc
 
 abbrev graph_of : Found → List ℕ → Graph
 graph_of f m = record { version = version_number f.version; arrays = f.arrays; blocks = f.blocks; main = m }
-
-version_is : (v : Version) → (version_number v ≡ 1) ⊎ (version_number v ≡ 2)
-version_is One = inl refl
-version_is Two = inr refl
 
 end_takes : (f : Found) (p : Place Named (List ℕ)) (l : List ℕ) (g : Graph) → end_from f p l ≡ Ok g → IsState f p → IsText (state_text f p ++ l) g
 unfolding end_from

@@ -1,7 +1,7 @@
 -- Along a run: a token at a port is that of one item, whose part stands there; so a port gets one token, and all of one block.
-use Rattle.std.proofs.Common.{◌≡◌, ℕ, ◌+◌, ◌<◌, ◌≤◌, Bool, true, false, not, ◌||◌, ℤ, List, [], ◌∷◌, ◌++◌, map, length, refl, sym, ap, ◌∙◌, subst, inl, inr, ◌⊎◌, arith, true≢false, ltb-true, eqb-true, eq-eqb, ◌==◌, nat_lt, Option, Some, None, if◌then◌else◌}
+use Rattle.std.proofs.Common.{◌≡◌, ℕ, ◌+◌, ◌<◌, ◌≤◌, Bool, true, false, not, ◌||◌, ℤ, List, [], ◌∷◌, ◌++◌, map, length, refl, sym, ap, ◌∙◌, subst, inl, inr, ◌⊎◌, arith, true≢false, ltb-true, eqb-true, ◌==◌, nat_lt, Option, Some, None, if◌then◌else◌}
 use Rattle.std.specs.Prelude.{Contains, flat_map, slice_get}
-use Rattle.std.proofs.lemmas.Bool.{and_parts, and_from}
+use Rattle.std.proofs.lemmas.Bool.{and_parts}
 use Rattle.std.proofs.lemmas.Option.{slice_get_within}
 use Rattle.std.proofs.lemmas.List.Sorted.{Contains-permutation}
 use Rattle.std.proofs.lemmas.List.Elements.{Contains-append_left, Contains-append_right}
@@ -20,11 +20,13 @@ use Rattle.semantics.specs.Plan.{Plan}
 use Rattle.semantics.specs.Program.{CodeBlock, instr_at}
 use Rattle.semantics.specs.Rule.{token}
 use Rattle.semantics.specs.Machine.{Machine}
-use Rattle.semantics.specs.Orderly.{met, often, is_at, eq_port, is_entry, same_block}
+use Rattle.semantics.specs.Orderly.{met, often, is_at, is_entry, same_block}
+use Rattle.semantics.proofs.Ports.{eq_port_true, is_at_itself}
+use Rattle.semantics.proofs.BlockPlaces.{same_in}
 use Rattle.law_reuse.proofs.Stands.{instr_in}
 use Rattle.law_net.specs.Roles.{one}
 use Rattle.law_net.proofs.Orders.{total-IsPermutation, total-map}
-use Rattle.law_net.proofs.Ports.{same_in, entry_in}
+use Rattle.law_net.proofs.Ports.{entry_in}
 use Rattle.law_contexts.specs.Parts.{Part, Entry, Line, Merge, CondEnd, Sender, Landing, Giver, Taker, Drainer, Asked, NextAsked, Held, Drained, Shown, Done, Freed, inlet, Item, Firing, Spot, spot_of, same_spot}
 use Rattle.law_contexts.specs.Blocks.{Wiring, is_loop, op_of, merge_cond, there_in, is_store}
 use Rattle.law_contexts.specs.Contexts.{or_zero, Wires, block_in, code_in, site_in, wiring_in, IsContext, is_strict_in}
@@ -48,20 +50,8 @@ use Rattle.law_arms.proofs.Gifts.{argument, Gift, GHeld, GAsked, GArgument, GFan
 abbrev often_op : Op → Bool
 often_op o = elim o as (λ x. Bool) [ Give k ↦ true | Take k ↦ true | _ ↦ false ]
 
-eq_port-true : (a b : Port) → eq_port a b ≡ true → a ≡ b
-eq_port-true Left Left h = refl
-eq_port-true Right Right h = refl
-eq_port-true a b h = absurd (true≢false (sym h))
-
-eq_port-refl : (a : Port) → eq_port a a ≡ true
-eq_port-refl Left = refl
-eq_port-refl Right = refl
-
-pub is_at-refl : (f ip : ℕ) (r : Port) → is_at f ip r (To.Instr f ip r) ≡ true
-is_at-refl f ip r = and_from _ _ (and_from _ _ (eq-eqb f f refl) (eq-eqb ip ip refl)) (eq_port-refl r)
-
 at_instr : (f ip : ℕ) (r : Port) (g jp : ℕ) (s : Port) → is_at f ip r (To.Instr g jp s) ≡ true → (g ≡ f) × (jp ≡ ip) × (s ≡ r)
-at_instr f ip r g jp s h = let a = and_parts _ _ h in let d = and_parts _ _ a.0 in (eqb-true g f d.0, eqb-true jp ip d.1, sym (eq_port-true r s a.1))
+at_instr f ip r g jp s h = let a = and_parts _ _ h in let d = and_parts _ _ a.0 in (eqb-true g f d.0, eqb-true jp ip d.1, sym (eq_port_true r s a.1))
 
 pub frame_main : (fl : Flow) (fired : List Firing) → frame_at fl fired Main ≡ Some 0
 frame_main fl [] = refl
@@ -254,7 +244,7 @@ module _ (stage : ℕ) (fl : Flow) (p : Plan) (w : Wires) (inputs : List ℤ) (q
       let t = token (To.Instr f ip r) v in
       let i = contains_mapped (token_of fl p w net.fired) (only (λ (i : Item). not (is_held i.inlet.part)) (came fl net)) t (Contains-permutation _ _ t k.follows.met (keeps_token ts t c refl)) in (
         i.0,
-        came_at f ip r i.0 (came_all fl net i.0 (only_contains (λ (i : Item). not (is_held i.inlet.part)) (came fl net) i.0 i.1).0) (ap (λ (t : Token). is_at f ip r t.to) i.2 ∙ is_at-refl f ip r),
+        came_at f ip r i.0 (came_all fl net i.0 (only_contains (λ (i : Item). not (is_held i.inlet.part)) (came fl net) i.0 i.1).0) (ap (λ (t : Token). is_at f ip r t.to) i.2 ∙ is_at_itself f ip r),
         ap (λ (t : Token). t.word) i.2,
       )
 
@@ -264,7 +254,7 @@ module _ (stage : ℕ) (fl : Flow) (p : Plan) (w : Wires) (inputs : List ℤ) (q
       let i = contains_mapped (token_of fl p w net.fired) net.pending t (Contains-permutation _ _ t k.follows.stands.pool c) in (
         i.0,
         i.1,
-        came_at f ip r i.0 (Contains-append_left net.pending (net.waiting ++ flat_map (takes fl) net.fired) i.0 i.1) (ap (λ (t : Token). is_at f ip r t.to) i.2 ∙ is_at-refl f ip r),
+        came_at f ip r i.0 (Contains-append_left net.pending (net.waiting ++ flat_map (takes fl) net.fired) i.0 i.1) (ap (λ (t : Token). is_at f ip r t.to) i.2 ∙ is_at_itself f ip r),
         ap (λ (t : Token). t.word) i.2,
       )
 

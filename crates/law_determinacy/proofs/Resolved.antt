@@ -1,5 +1,5 @@
 -- A well-formed graph gives a well-formed flow.
-use Rattle.std.proofs.Common.{◌≡◌, ℕ, zero, suc, ◌+◌, ◌-◌, ◌<◌, ◌⊎◌, ℤ, Bool, true, false, List, [], ◌∷◌, map, length, Some, None, Contains, nat_lt, if◌then◌else◌, inl, inr, refl, sym, ap, ap₂, ◌∙◌, subst, subst₂, arith, ltb-false, le-ltb}
+use Rattle.std.proofs.Common.{◌≡◌, ℕ, zero, suc, ◌+◌, ◌-◌, ◌<◌, ◌⊎◌, ℤ, Bool, true, false, List, [], ◌∷◌, map, length, Some, None, Contains, nat_lt, if◌then◌else◌, inl, inr, refl, sym, ap, ◌∙◌, subst, subst₂, arith}
 use Rattle.std.specs.Prelude.{slice_get}
 use Rattle.std.proofs.lemmas.List.Elements.{All-contains}
 use Rattle.lemmas.proofs.Alls.{all_at}
@@ -14,31 +14,12 @@ use Rattle.semantics.specs.Graph.{Node, Block, Graph, node_at, same_name, place_
 use Rattle.semantics.specs.WellFormed.{AllDiffer, IsRegion, IsCondNode, IsCond, region_in, region_of, HasShape, AllLieIn, LiesWell, NamesWell, IsNodeWell, IsBlockWell, WellFormed}
 use Rattle.semantics.specs.Meaning.{callee}
 use Rattle.semantics.specs.Faithful.{inputs_in, inputs_of}
+use Rattle.semantics.proofs.Lines.{same_name_is, same_name_itself}
 use Rattle.law_determinacy.proofs.Rows.{Gate, Join, Telling, class_of, class_node, region_node}
 use Rattle.law_determinacy.proofs.Laws.{IsFlowWell, IsLineWell}
 use Rattle.law_determinacy.proofs.History.{Fits}
 
 -- NAMES
-
-same_name_is : (x y : List ℕ) → same_name x y ≡ true → x ≡ y
-same_name_is [] [] e = refl
-same_name_is [] (b ∷ y) e = cc
-same_name_is (a ∷ x) [] e = cc
-same_name_is (a ∷ x) (b ∷ y) e = go (nat_lt a b) (nat_lt b a) refl refl e (same_name_is x y)
-  where
-    go : (s t : Bool) → nat_lt a b ≡ s → nat_lt b a ≡ t → (if s then false else if t then false else same_name x y) ≡ true → (same_name x y ≡ true → x ≡ y) → a ∷ x ≡ b ∷ y
-    go true t p q f ih = cc
-    go false true p q f ih = cc
-    go false false p q f ih =
-        let up = ltb-false a b p in
-        let down = ltb-false b a q in
-        let same : a ≡ b = omega arith in
-        ap₂ (λ a (x : List ℕ). a ∷ x) same (ih f)
-
-same_name_self : (x : List ℕ) → same_name x x ≡ true
-same_name_self [] = refl
-same_name_self (a ∷ x) =
-    ap (λ (t : Bool). if t then false else if t then false else same_name x x) (le-ltb a a (omega arith)) ∙ same_name_self x
 
 placed : (name : List ℕ) (n : ℕ) (names : List (List ℕ)) (k : ℕ) → slice_get names k ≡ Some name → (j : ℕ) × (place_from n name names ≡ n + j) × (slice_get names j ≡ Some name)
 placed name n [] k e = cc
@@ -49,7 +30,7 @@ placed name n (x ∷ xs) zero e = go (same_name name x) refl
     go false p =
         let same : name ≡ x = cc in
         let other = ap (λ y. same_name name y) same in
-        let self = same_name_self name in
+        let self = same_name_itself name in
         absurd (cc)
 placed name n (x ∷ xs) (suc k) e = go (same_name name x) refl (placed name (n + 1) xs k e)
   where

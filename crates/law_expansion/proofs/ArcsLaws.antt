@@ -3,7 +3,7 @@ use Rattle.std.proofs.Common.{◌≡◌, ℕ, zero, suc, ◌+◌, ◌<◌, ◌�
 use Rattle.std.specs.Prelude.{slice_get, Contains, flat_map}
 use Rattle.std.proofs.lemmas.List.Elements.{All-weaker, All-contains_itself, Contains-append_left, Contains-append_right, Contains-append_cases}
 use Rattle.lemmas.proofs.Alls.{all_at}
-use Rattle.lemmas.proofs.Contains.{contains_cases, contains_none, contains_flat_mapped, contains_mapped}
+use Rattle.lemmas.proofs.Contains.{contains_cases, contains_none, contains_flat_mapped}
 use Rattle.tags.specs.declared.token.Port.TheVariants.{Left, Right}
 use Rattle.semantics.specs.declared.program.Dest.{Dest}
 use Rattle.semantics.specs.declared.program.Op.{Op}
@@ -17,6 +17,7 @@ use Rattle.semantics.specs.Rule.{slot_of}
 use Rattle.semantics.specs.Bytes as Bytes
 use Rattle.semantics.specs.Wired.{is_dyadic, StandsAt}
 use Rattle.semantics.specs.Sharing.{Arc, Inlet, inlet, arc, arcs_to, row, arcs_from, arcs_of}
+use Rattle.semantics.proofs.ArcEnds.{arcs_to_dest}
 use Rattle.code.specs.Sound.{LandsLeft, IsTied, IsSoundDest, DestsAreSound}
 use Rattle.law_expansion.specs.Arcs.{LinksLandLeft, ArcsPassEntries, RightArcsMeet, LandingsStand, ArcsAreSound, HasSizes, BlocksHaveSizes}
 use Rattle.expansion.specs.Expanded.{expanded}
@@ -34,11 +35,6 @@ ByDest n i x = (d : Dest) × Contains (i.firsts ++ i.seconds) d × (x.to ≡ inl
 abbrev ByLanding : Plan → ℕ → Instr → Op → Arc → Type 0
 ByLanding p n i op x = (block : ℕ) × (d : Dest) × (k : ℕ) × (op ≡ Link block) × Contains i.firsts d × (n + d.ahead ≤ k) × (k < (n + d.ahead) + landing p block) × (x.to ≡ inlet k Left)
 
-to_back : (n : ℕ) (s : Bool) (ds : List Dest) (x : Arc) → Contains (arcs_to n s ds) x → (d : Dest) × Contains ds d × (x.to ≡ inlet (n + d.ahead) d.port)
-to_back n s ds x c =
-    let r = contains_mapped (λ (d : Dest). arc n s (inlet (n + d.ahead) d.port)) ds x c in
-    (r.0, r.1, ap (λ (y : Arc). y.to) (sym r.2))
-
 row_back : (n from count : ℕ) (x : Arc) → Contains (row n from count) x → (k : ℕ) × (from ≤ k) × (k < from + count) × (x.to ≡ inlet k Left)
 row_back n from zero x c = absurd (contains_none x c)
 row_back n from (suc count) x c = go (contains_cases (arc n false (inlet from Left)) (row n (from + 1) count) x c) (row_back n (from + 1) count x)
@@ -50,7 +46,7 @@ row_back n from (suc count) x c = go (contains_cases (arc n false (inlet from Le
     go (inr h) ih = let r = ih h in let a = r.1 in let b = r.2 in (r.0, omega (arith, a), omega (arith, b), r.3)
 
 second_dest : (n : ℕ) (i : Instr) (x : Arc) → Contains (arcs_to n true i.seconds) x → ByDest n i x
-second_dest n i x c = let r = to_back n true i.seconds x c in (r.0, right r.0 r.1, r.2)
+second_dest n i x c = let r = arcs_to_dest n true i.seconds x c in (r.0, right r.0 r.1, r.2)
   where
     right : (d : Dest) → Contains i.seconds d → Contains (i.firsts ++ i.seconds) d
     right d h = Contains-append_right i.firsts i.seconds d h
@@ -59,7 +55,7 @@ either_dest : (n : ℕ) (i : Instr) (x : Arc) → Contains (arcs_to n false i.fi
 either_dest n i x c = go (Contains-append_cases (arcs_to n false i.firsts) (arcs_to n true i.seconds) x c)
   where
     go : Contains (arcs_to n false i.firsts) x ⊎ Contains (arcs_to n true i.seconds) x → ByDest n i x
-    go (inl h) = let r = to_back n false i.firsts x h in (r.0, Contains-append_left i.firsts i.seconds r.0 r.1, r.2)
+    go (inl h) = let r = arcs_to_dest n false i.firsts x h in (r.0, Contains-append_left i.firsts i.seconds r.0 r.1, r.2)
     go (inr h) = second_dest n i x h
 
 link_arc : (p : Plan) (n : ℕ) (i : Instr) (block : ℕ) (x : Arc)

@@ -1,7 +1,6 @@
 -- The resolved flow of a well-formed graph that has a text is within its ranges.
-use Rattle.std.proofs.Common.{◌≡◌, ℕ, ◌+◌, ◌-◌, ◌<◌, ◌≤◌, false, List, length, sym, ap, ◌∙◌, subst, arith, Some, None, nat_lt, if◌then◌else◌}
+use Rattle.std.proofs.Common.{◌≡◌, ℕ, ◌+◌, ◌-◌, ◌<◌, ◌≤◌, List, length, sym, ◌∙◌, subst, arith, Some}
 use Rattle.std.specs.Prelude.{All, Contains, slice_get, sum, ⊤}
-use Rattle.std.proofs.lemmas.Bool.{le-ltb}
 use Rattle.std.proofs.lemmas.List.{length-map}
 use Rattle.std.proofs.lemmas.Option.{slice_get_within}
 use Rattle.lemmas.proofs.Alls.{all_at, all_from_map}
@@ -10,9 +9,10 @@ use Rattle.lemmas.proofs.SliceGet.{map_get, map_get_back}
 use Rattle.law_determinacy.proofs.Resolved.{place_get, block_in, node_in}
 use Rattle.semantics.specs.declared.graph.Kind.{Kind}
 use Rattle.semantics.specs.declared.graph.Kind.TheVariants.{Lit, Apply1, Apply2, Cond, Enter, Merge, Fetch, Store, Call, StrictCall, Loop}
-use Rattle.semantics.specs.Graph.{Graph, Block, Node, Flow, node_at, node_count, flow_of, resolved_kind, array_names, block_names, place_of}
+use Rattle.semantics.specs.Graph.{Graph, Block, Node, Flow, node_count, flow_of, resolved_kind, array_names, block_names, place_of}
 use Rattle.semantics.specs.WellFormed.{WellFormed, IsBlockWell, IsNodeWell, NamesWell, HasShape}
 use Rattle.semantics.specs.Text.{HasText, HasBlockText, IsName}
+use Rattle.semantics.proofs.Lines.{named_line_at}
 
 -- WITHIN ITS RANGES. A node names an array, or a block with as many inputs as it has sources.
 abbrev pub Takes : Flow → ℕ → ℕ → Type 0
@@ -43,12 +43,6 @@ pub record FlowFits (fl : Flow) : Type 0 where
   pub arrays : All (λ n. (1 ≤ n) × (n ≤ 65536)) fl.arrays
   pub cells : sum fl.arrays ≤ 65536
   pub blocks : (f : ℕ) (b : Block ℕ) → slice_get fl.blocks f ≡ Some b → BlockFits fl b
-
-node_line : (b : Block (List ℕ)) (i : ℕ) → node_at b (b.inputs + i) ≡ slice_get b.nodes i
-node_line b i =
-    let past : nat_lt (b.inputs + i) b.inputs ≡ false = le-ltb (b.inputs + i) b.inputs (omega arith) in
-    let at : (b.inputs + i) - b.inputs ≡ i = omega arith in
-    ap (λ t. if t then None else slice_get b.nodes ((b.inputs + i) - b.inputs)) past ∙ ap (slice_get b.nodes) at
 
 abbrev NamedArray : Type 0
 NamedArray = List ℕ × ℕ
@@ -120,7 +114,7 @@ module _ (g : Graph) (text : HasText g) (well : WellFormed g) where
         results = good.result_count;
         nodes = λ k n f.
             let m = map_get_back (node_in g) named.1.nodes k n f in
-            let known : IsNodeWell g named.1 (named.1.inputs + k) m.0 = good.nodes (named.1.inputs + k) m.0 (node_line named.1 k ∙ m.1) in
+            let known : IsNodeWell g named.1 (named.1.inputs + k) m.0 = good.nodes (named.1.inputs + k) m.0 (named_line_at named.1 k ∙ m.1) in
             subst (λ (x : Node ℕ). KindFits (flow_of g) x.kind (length x.sources)) m.2 (kind_fits m.0.kind (length m.0.sources) known.names);
       }
 

@@ -1,5 +1,5 @@
 -- Marks, blocks, landings and loops of the plan with its slots kept.
-use Rattle.std.proofs.Common.{◌≡◌, refl, sym, ap, ◌∙◌, subst, ℕ, ℤ, zero, suc, ◌+◌, ◌-◌, ◌<◌, ◌≤◌, ◌⊎◌, inl, inr, Bool, true, false, true≢false, List, [], ◌∷◌, ◌++◌, length, Option, Some, None, Contains, nat_lt, ltb-true, ltb-false, zero-add, if◌then◌else◌, arith}
+use Rattle.std.proofs.Common.{◌≡◌, refl, sym, ap, ◌∙◌, subst, ℕ, ℤ, zero, suc, ◌+◌, ◌-◌, ◌<◌, ◌≤◌, ◌⊎◌, inl, inr, Bool, true, false, true≢false, List, [], ◌∷◌, ◌++◌, length, Option, Some, None, Contains, nat_lt, arith}
 use Rattle.std.specs.Prelude.{slice_get}
 use Rattle.std.specs.Option.{option_map}
 use Rattle.std.proofs.lemmas.Option.{slice_get_within, slice_get-map, same_Some}
@@ -16,9 +16,9 @@ use Rattle.semantics.specs.declared.program.Op.TheVariants.{Apply2, Apply2Right,
 use Rattle.semantics.specs.Program.{Instr, CodeBlock, Program, first_of, instr_at}
 use Rattle.semantics.specs.Plan.{Plan, mark_at, landing, landing_in}
 use Rattle.semantics.specs.Orderly.{same_block, often, IsMarked}
+use Rattle.semantics.proofs.BlockPlaces.{block_of, first_in, same_in}
 use Rattle.code.specs.Sound.{IsSound}
-use Rattle.law_net.proofs.Ports.{same_in}
-use Rattle.law_reuse.proofs.Stands.{first_in, first_next, one_block, instr_in, Found, found}
+use Rattle.law_reuse.proofs.Stands.{one_block, instr_in, Found, found}
 use Rattle.folding.specs.Folds.{new_op}
 use Rattle.folding.specs.Places.{layout_of, folds_at, gone_at, new_place}
 use Rattle.folding.specs.Moved.{new_dest, moved_dests}
@@ -43,35 +43,6 @@ use Rattle.law_fold.proofs.Static.{new_block, spares, inside, ahead, there_old, 
 use Rattle.law_fold.proofs.Spots.{stays, kept_of, plain_at_h, plain_here, new_within, apply_stays, At, at_of, plain_apart, pairs_apart, NewAt, new_at, DestAt, dest_of, dest_place}
 use Rattle.law_fold.proofs.FoldParts.{counts_none}
 use Rattle.law_fold.proofs.FoldCounts.{is_pair, Leaf, at_moved, at_pair, at_lit}
-
--- two numbers of one block
-record InBlock (bs : List CodeBlock) (ip jp : ℕ) : Type 0 where
-  pub b : ℕ
-  pub c : CodeBlock
-  pub j : ℕ
-  pub k : ℕ
-  pub block : slice_get bs b ≡ Some c
-  pub low : j < length c.instrs
-  pub high : k < length c.instrs
-  pub one : ip ≡ first_in bs b + j
-  pub two : jp ≡ first_in bs b + k
-
-block_of : (bs : List CodeBlock) (ip jp : ℕ) → same_block bs ip jp ≡ true → InBlock bs ip jp
-block_of [] ip jp e = absurd (true≢false (sym e))
-block_of (x ∷ bs) ip jp e = go (nat_lt ip (length x.instrs)) (nat_lt jp (length x.instrs)) refl refl e (block_of bs (ip - length x.instrs) (jp - length x.instrs))
-  where
-    go : (s t : Bool) → nat_lt ip (length x.instrs) ≡ s → nat_lt jp (length x.instrs) ≡ t
-        → (if s then t else if t then false else same_block bs (ip - length x.instrs) (jp - length x.instrs)) ≡ true
-        → (same_block bs (ip - length x.instrs) (jp - length x.instrs) ≡ true → InBlock bs (ip - length x.instrs) (jp - length x.instrs)) → InBlock (x ∷ bs) ip jp
-    go true true a b e more = record { b = 0; c = x; j = ip; k = jp; block = refl; low = ltb-true ip (length x.instrs) a; high = ltb-true jp (length x.instrs) b; one = sym (zero-add ip); two = sym (zero-add jp) }
-    go true false a b e more = absurd (true≢false (sym e))
-    go false true a b e more = absurd (true≢false (sym e))
-    go false false a b e more =
-        let m = more e in
-        let n = first_next x bs m.b in
-        let fa = ltb-false ip (length x.instrs) a in let fb = ltb-false jp (length x.instrs) b in
-        let o = m.one in let t = m.two in
-        record { b = suc m.b; c = m.c; j = m.j; k = m.k; block = m.block; low = m.low; high = m.high; one = omega (arith, n, fa, o); two = omega (arith, n, fb, t) }
 
 often_op : (i j : Instr) → j.op ≡ i.op → often (Some j) ≡ often (Some i)
 often_op i j e = ap (λ (op : Op). elim op as (λ x. Bool) [ Give k ↦ true | Take k ↦ true | _ ↦ false ]) e

@@ -25,6 +25,7 @@ use Rattle.std.proofs.lemmas.List.Sorted.{Contains-permutation}
 use Rattle.lemmas.proofs.Contains.{contains_head, contains_map, contains_none, get_contains}
 use Rattle.lemmas.proofs.SliceGet.{get_some}
 use Rattle.lemmas.proofs.Lists.{map_append, one_element}
+use Rattle.code.proofs.Mains.{main_block}
 use Rattle.folding.specs.Places.{layout_of, new_place}
 use Rattle.folding.specs.Moved.{moved_dests, new_dest}
 use Rattle.folding.specs.Laws.{dests_of, other_port}
@@ -295,8 +296,6 @@ is_pair p s b c at_b n i j o at op there =
     unused (inr l) = absurd (apart l.0 (sym op ∙ l.1))
 
 -- ---- ALL
-pub main_block : (p : Plan) (s : IsSound p) → (c : CodeBlock) × (slice_get p.program.blocks p.program.main ≡ Some c)
-main_block p s = get_some p.program.blocks p.program.main s.program.main
 
 pub new_main : (p : Plan) (c : CodeBlock) → slice_get p.program.blocks p.program.main ≡ Some c → slice_get (kept_slots p).program.blocks p.program.main ≡ Some (kept_block p c)
 new_main p c e = slice_get-map (kept_block p) p.program.blocks p.program.main ∙ ap (option_map (kept_block p)) e

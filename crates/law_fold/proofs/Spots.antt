@@ -9,8 +9,7 @@ use Rattle.semantics.specs.Program.{Instr, CodeBlock, Program, first_of, instr_a
 use Rattle.semantics.specs.Plan.{Plan}
 use Rattle.semantics.specs.Orderly.{same_block}
 use Rattle.code.specs.Sound.{IsSound}
-use Rattle.law_net.proofs.Ports.{same_in}
-use Rattle.law_reuse.proofs.Stands.{first_in, one_block, Found, found}
+use Rattle.law_reuse.proofs.Stands.{one_block, Found, found}
 use Rattle.law_reuse.proofs.Stands as Places
 use Rattle.law_reuse.proofs.Claims.{holder_here}
 use Rattle.law_once.proofs.SpreadSteps.{slot_same}
@@ -18,6 +17,7 @@ use Rattle.semantics.specs.Holders.{holder_of, holder_at}
 use Rattle.operators.specs.declared.Binary.{Binary}
 use Rattle.semantics.specs.declared.program.Dest.{Dest}
 use Rattle.semantics.specs.declared.program.Op.TheVariants.{Apply2, Lit}
+use Rattle.semantics.proofs.BlockPlaces.{first_in, same_in}
 use Rattle.folding.specs.Folds.{is_folded}
 use Rattle.folding.specs.Places.{layout_of, folds_at, gone_at, new_place}
 use Rattle.folding.specs.Moved.{is_shut, new_dest, moved_dests}

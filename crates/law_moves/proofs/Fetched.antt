@@ -15,7 +15,8 @@ use Rattle.semantics.specs.Meaning.{Context, Main, Memory}
 use Rattle.semantics.specs.Orderly.{readers_of}
 use Rattle.semantics.specs.Machine.{Store, CellState, Vacant, Full, Deferred, Happens, Fetches, value_in, answer, with_cell, put_at}
 use Rattle.semantics.specs.Credits.{granted_at, released_at}
-use Rattle.law_net.proofs.NetSlots.{InSlots, put_same, put_other}
+use Rattle.semantics.proofs.Stores.{put_other}
+use Rattle.law_net.proofs.NetSlots.{InSlots, put_same}
 use Rattle.law_net.proofs.Orders.{at_first, at_last}
 use Rattle.law_contexts.specs.Parts.{Part, Held, Done, Freed, Item, Firing}
 use Rattle.law_contexts.specs.Blocks.{is_store, waits_in}

@@ -17,7 +17,8 @@ use Rattle.semantics.specs.Rule.{token}
 use Rattle.semantics.specs.Machine.{Store, answer, with_out, put_at, value_in}
 use Rattle.semantics.specs.Handed.{handed_by}
 use Rattle.semantics.specs.Orderly.{readers_of}
-use Rattle.law_net.proofs.NetSlots.{InSlots, put_same, put_other}
+use Rattle.semantics.proofs.Stores.{put_other}
+use Rattle.law_net.proofs.NetSlots.{InSlots, put_same}
 use Rattle.law_net.proofs.Orders.{at_last}
 use Rattle.law_contexts.specs.Parts.{Opener, Taker, Drained, Done, Freed, Held, inlet, FrameOf, Item, item, Firing, same_context}
 use Rattle.law_contexts.specs.Blocks.{is_loop, bound_at}

@@ -19,7 +19,8 @@ use Rattle.semantics.specs.Machine.{Store, Happens, Hosts, Releases, outputs_of,
 use Rattle.semantics.specs.Handed.{handed_by}
 use Rattle.semantics.specs.Credits.{granted_at, released_at}
 use Rattle.semantics.specs.Plan.{Plan}
-use Rattle.law_net.proofs.NetSlots.{InSlots, put_same, put_other}
+use Rattle.semantics.proofs.Stores.{put_other}
+use Rattle.law_net.proofs.NetSlots.{InSlots, put_same}
 use Rattle.law_contexts.specs.Parts.{Shown, Done, Freed, same_context, Note, Datum, FrameOf, BackTo, ToHost, signal, Item, Firing}
 use Rattle.law_contexts.specs.Contexts.{Wires, block_in, or_zero}
 use Rattle.law_contexts.specs.Firings.{Config, takes, makes, frame_at, frame_if, frames_of, frames_if, handed_to, HasFired, memory_of}

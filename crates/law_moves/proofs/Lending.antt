@@ -15,7 +15,8 @@ use Rattle.semantics.specs.Machine.{Store, with_slot}
 use Rattle.semantics.specs.Holders.{Holder, same_holder}
 use Rattle.semantics.specs.Credits.{granted_at, released_at}
 use Rattle.semantics.specs.Orderly.{readers_of}
-use Rattle.law_net.proofs.NetSlots.{InSlots, with_base, slots_turn, slot_same, slot_other}
+use Rattle.semantics.proofs.Stores.{slot_filled}
+use Rattle.law_net.proofs.NetSlots.{InSlots, with_base, slots_turn, slot_other}
 use Rattle.law_net.proofs.Orders.{shuffled, Part as Piece, ◌⊕◌, at_first, at_last}
 use Rattle.law_contexts.specs.Parts.{Part, Opener, Giver, Taker, Drainer, Drained, Done, Freed, Held, signal, Item, Firing, same_context}
 use Rattle.law_contexts.specs.Blocks.{is_loop, is_store, waits_in, bound_at}
@@ -298,7 +299,7 @@ module _ {stage : ℕ} (s : Taking stage) (c : Context) (con : IsContext s.fl c)
         (subst (λ (x : List Item). InSlots F (slot_of s.fl s.w) H base x (with_slot s.m.store g slot v.state).slots) (sym (v.spared (in_slot s.fl) spares_slots)) a)
 
     base_here : base g slot ≡ v.state
-    base_here = slot_same (with_base s.m.store old.base) g slot v.state
+    base_here = slot_filled (with_base s.m.store old.base) g slot v.state
 
     base_other : (f q : ℕ) → (g ≡ f → slot ≡ q → ⊥) → base f q ≡ old.base f q
     base_other f q h = slot_other (with_base s.m.store old.base) g slot v.state f q h

@@ -22,6 +22,7 @@ use Rattle.semantics.specs.Rule as Rule
 use Rattle.semantics.specs.Machine.{Store, Fires}
 use Rattle.semantics.specs.Sharing.{arc, row, arcs_to, arcs_from, inlet as port_at}
 use Rattle.semantics.specs.Arcs.{UsesBy}
+use Rattle.semantics.proofs.ArcEnds.{row_has}
 use Rattle.law_net.proofs.NetSlots.{InSlots}
 use Rattle.law_net.proofs.Orders.{at_last}
 use Rattle.law_reuse.proofs.UsedArcs.{stands_arcs}
@@ -42,7 +43,7 @@ use Rattle.law_moves.proofs.Sends.{Wire, firing_of, stays_same}
 use Rattle.law_moves.proofs.Along.{takes_one, mine, does}
 use Rattle.law_moves.proofs.Moved.{UsedNow, WasThere, is_credit}
 use Rattle.law_moves.proofs.Inwards.{told_as, carried}
-use Rattle.law_moves.proofs.Children.{child_code, entry_at, row_has}
+use Rattle.law_moves.proofs.Children.{child_code, entry_at}
 use Rattle.law_moves.proofs.Passed.{calm_books, none_counted, none_released}
 use Rattle.law_moves.proofs.Leaving.{leaves_follow}
 

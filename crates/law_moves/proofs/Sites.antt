@@ -10,6 +10,7 @@ use Rattle.semantics.specs.Meaning.{Context, Main, Called, Turned, block_number,
 use Rattle.semantics.specs.Cause.{is_looped, loops_to}
 use Rattle.semantics.specs.Program.{Instr, instr_at}
 use Rattle.semantics.specs.Plan.{Plan}
+use Rattle.semantics.proofs.Lines.{block_is_there}
 use Rattle.law_reuse.proofs.Stands.{Stands, stands_at}
 use Rattle.law_contexts.specs.Parts.{Part, Asked, NextAsked, Held, Drained, Shown, Done, Freed}
 use Rattle.law_contexts.specs.Blocks.{Site, Wiring, there_in, is_kind, is_loop, loop_kind}
@@ -48,10 +49,6 @@ no_kind test n = ap (λ (x : Option (Node ℕ)). elim x as (λ y. Bool) [ None �
     none true = refl
     none false = refl
 
-pub numbered : (fl : Flow) (o : Option ℕ) (b : Block ℕ) → block_numbered fl o ≡ Some b → (i : ℕ) × (o ≡ Some i) × (slice_get fl.blocks i ≡ Some b)
-numbered fl None b e = absurd (cc)
-numbered fl (Some i) b e = (i, refl, e)
-
 -- the block that a loop runs is looped
 turn_looped : (fl : Flow) (o : Option ℕ) (n : ℕ) → is_loop (or_none (block_numbered fl o)) n ≡ true → is_looped fl (or_zero (callee_in (block_numbered fl o) n)) ≡ true
 turn_looped fl o n e = by_block (block_numbered fl o) refl e
@@ -69,7 +66,7 @@ turn_looped fl o n e = by_block (block_numbered fl o) refl e
 
     by_block : (x : Option (Block ℕ)) → block_numbered fl o ≡ x → is_loop (or_none x) n ≡ true → is_looped fl (or_zero (callee_in x n)) ≡ true
     by_block None at e = absurd (true≢false (sym e ∙ no_kind loop_kind n))
-    by_block (Some b) at e = let k = numbered fl o b at in by_node k.0 b k.2 (node_at b n) refl e
+    by_block (Some b) at e = let k = block_is_there fl o b at in by_node k.0 b k.2 (node_at b n) refl e
 
 -- EACH CONTEXT'S CODE IS WIRED
 module _ (fl : Flow) (p : Plan) (w : Wires) (wired : AreWiredBy fl p w) where

@@ -15,7 +15,8 @@ use Rattle.tags.specs.declared.token.Token.{Token}
 use Rattle.semantics.specs.Meaning.{Memory}
 use Rattle.semantics.specs.Orderly.{readers_of}
 use Rattle.semantics.specs.Machine.{Store, CellState, Vacant, Full, Deferred, Happens, Stores, value_in, answer, answers, with_cell, put_at}
-use Rattle.law_net.proofs.NetSlots.{put_same, put_other}
+use Rattle.semantics.proofs.Stores.{put_other}
+use Rattle.law_net.proofs.NetSlots.{put_same}
 use Rattle.law_net.proofs.Orders.{at_first, at_last}
 use Rattle.law_contexts.specs.Parts.{Part, Held, Item, Firing}
 use Rattle.law_contexts.specs.Blocks.{is_store, waits_in}

@@ -1,6 +1,6 @@
 -- The marks, the blocks and the landings of narrowed plans, and for what their instructions stand.
-use Rattle.std.proofs.Common.{◌≡◌, refl, sym, ap, ◌∙◌, subst, ℕ, zero, suc, ◌+◌, ◌-◌, ◌<◌, ◌⊎◌, inl, inr, Bool, true, false, true≢false, List, [], ◌∷◌, ◌++◌, length, Option, Some, None, Contains, arith, nat_lt, ltb-true, ltb-false, zero-add}
-use Rattle.std.specs.Prelude.{slice_get, if◌then◌else◌}
+use Rattle.std.proofs.Common.{◌≡◌, refl, sym, ap, ◌∙◌, subst, ℕ, zero, suc, ◌+◌, ◌-◌, ◌<◌, ◌⊎◌, inl, inr, Bool, true, false, List, [], ◌∷◌, ◌++◌, length, Option, Some, None, Contains, arith, nat_lt}
+use Rattle.std.specs.Prelude.{slice_get}
 use Rattle.std.proofs.lemmas.List.Elements.{Contains-append_cases}
 use Rattle.std.proofs.lemmas.Option.{slice_get_within, slice_get-map}
 use Rattle.tags.specs.declared.token.Port.{Port}
@@ -11,8 +11,7 @@ use Rattle.semantics.specs.Program.{Instr, CodeBlock, Program, first_of, instr_a
 use Rattle.semantics.specs.Plan.{Plan, landing, landing_in}
 use Rattle.semantics.specs.Orderly.{same_block, IsMarked}
 use Rattle.code.specs.Sound.{IsSound}
-use Rattle.law_net.proofs.Ports.{same_in}
-use Rattle.law_reuse.proofs.Stands.{first_in, first_next, one_block, stands_within, Found, found}
+use Rattle.law_reuse.proofs.Stands.{one_block, stands_within, Found, found}
 use Rattle.fanout.specs.Places.{size, place_of}
 use Rattle.fanout.specs.Narrowed.{layout_of, narrowed, narrowed_block, narrowed_blocks}
 use Rattle.fanout.specs.Laws.{StandsClear}
@@ -26,37 +25,9 @@ use Rattle.law_once.specs.Spreads.{Spot, StandsFor, here, fork}
 use Rattle.std.specs.Option.{option_map}
 use Rattle.lemmas.proofs.Contains.{contains_cases, contains_none}
 use Rattle.lemmas.proofs.SliceGet.{map_get_back, get_some}
+use Rattle.semantics.proofs.BlockPlaces.{block_of, first_in, same_in}
 use Rattle.law_narrow.proofs.NewPlaces.{new_ip, back_in, place_in, ip_at}
 use Rattle.law_narrow.proofs.Trees.{copy_node}
-
--- two numbers of one block
-pub record InBlock (bs : List CodeBlock) (ip jp : ℕ) : Type 0 where
-  pub b : ℕ
-  pub c : CodeBlock
-  pub j : ℕ
-  pub k : ℕ
-  pub block : slice_get bs b ≡ Some c
-  pub low : j < length c.instrs
-  pub high : k < length c.instrs
-  pub one : ip ≡ first_in bs b + j
-  pub two : jp ≡ first_in bs b + k
-
-block_of : (bs : List CodeBlock) (ip jp : ℕ) → same_block bs ip jp ≡ true → InBlock bs ip jp
-block_of [] ip jp e = absurd (true≢false (sym e))
-block_of (x ∷ bs) ip jp e = go (nat_lt ip (length x.instrs)) (nat_lt jp (length x.instrs)) refl refl e (block_of bs (ip - length x.instrs) (jp - length x.instrs))
-  where
-    go : (s t : Bool) → nat_lt ip (length x.instrs) ≡ s → nat_lt jp (length x.instrs) ≡ t
-        → (if s then t else if t then false else same_block bs (ip - length x.instrs) (jp - length x.instrs)) ≡ true
-        → (same_block bs (ip - length x.instrs) (jp - length x.instrs) ≡ true → InBlock bs (ip - length x.instrs) (jp - length x.instrs)) → InBlock (x ∷ bs) ip jp
-    go true true a b e more = record { b = 0; c = x; j = ip; k = jp; block = refl; low = ltb-true ip (length x.instrs) a; high = ltb-true jp (length x.instrs) b; one = sym (zero-add ip); two = sym (zero-add jp) }
-    go true false a b e more = absurd (true≢false (sym e))
-    go false true a b e more = absurd (true≢false (sym e))
-    go false false a b e more =
-        let m = more e in
-        let n = first_next x bs m.b in
-        let fa = ltb-false ip (length x.instrs) a in let fb = ltb-false jp (length x.instrs) b in
-        let o = m.one in let t = m.two in
-        record { b = suc m.b; c = m.c; j = m.j; k = m.k; block = m.block; low = m.low; high = m.high; one = omega (arith, n, fa, o); two = omega (arith, n, fb, t) }
 
 module _ (p : Plan) (s : IsSound p) (tidy : IsTidy p) where
   abbrev P : Program

@@ -7,7 +7,7 @@ use Rattle.semantics.specs.Program.{Instr, CodeBlock, instr_from}
 use Rattle.semantics.specs.Holders.{holder_of, holder_from}
 use Rattle.semantics.specs.Machine.{slot_used}
 use Rattle.semantics.specs.Plan.{Plan}
-use Rattle.law_reuse.proofs.Stands.{first_in, first_next}
+use Rattle.semantics.proofs.BlockPlaces.{first_in, first_next}
 use Rattle.fanout.specs.Sides.{parted}
 use Rattle.fanout.specs.Places.{place_of}
 use Rattle.fanout.specs.Trees.{moved}

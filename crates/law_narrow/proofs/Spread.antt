@@ -13,6 +13,7 @@ use Rattle.semantics.specs.Plan.{Plan, landing}
 use Rattle.semantics.specs.Wired.{StandsAt}
 use Rattle.semantics.specs.Orderly.{inputs_in}
 use Rattle.code.specs.Sound.{NamesRightly, IsSound}
+use Rattle.code.proofs.Mains.{main_block}
 use Rattle.law_reuse.proofs.Stands.{Found, found}
 use Rattle.fanout.specs.Sides.{parted, firsts_of, seconds_of, parting_of}
 use Rattle.fanout.specs.Places.{place_of}
@@ -68,9 +69,6 @@ is_moved p s tidy b c at_b v i at_v =
       answered = answered_once p s tidy b c at_b v i at_v;
       enters = enters_at p s tidy i.op ((s.program.blocks b c at_b).instrs v i at_v).operand;
     }
-
-main_block : (p : Plan) (s : IsSound p) → (c : CodeBlock) × (slice_get p.program.blocks p.program.main ≡ Some c)
-main_block p s = get_some p.program.blocks p.program.main s.program.main
 
 new_main : (p : Plan) (c : CodeBlock) → slice_get p.program.blocks p.program.main ≡ Some c → slice_get (narrowed p).program.blocks p.program.main ≡ Some (narrowed_block p c)
 new_main p c e = slice_get-map (narrowed_block p) p.program.blocks p.program.main ∙ ap (option_map (narrowed_block p)) e

@@ -8,5 +8,4 @@ pub mod NetSlots
 pub mod NetChains
 pub mod Arms
 -- code blocks
-pub mod Placed
 pub mod Ports

@@ -15,11 +15,11 @@ use Rattle.semantics.specs.declared.program.Op.{Op}
 use Rattle.semantics.specs.declared.program.Op.TheVariants.{Copy, Give}
 use Rattle.semantics.specs.Program.{Instr, Program, instr_at}
 use Rattle.semantics.specs.Rule.{token, at_dest, to_each, slot_of}
-use Rattle.semantics.specs.Machine.{Machine, Store as MStore, put_at, with_slot, with_slot_in}
+use Rattle.semantics.specs.Machine.{Machine, Store as MStore, with_slot_in}
 use Rattle.semantics.specs.Plan.{Plan, HasShape, IsPlanBlock}
 use Rattle.semantics.specs.Wired.{IsWired}
 use Rattle.semantics.specs.Arcs.{UsesArc}
-use Rattle.law_reuse.proofs.Fold.{put_same}
+use Rattle.semantics.proofs.Stores.{slot_filled}
 use Rattle.law_reuse.proofs.Stands.{Found, found}
 use Rattle.law_once.proofs.Parts.{instr_parts}
 use Rattle.law_once.specs.Alike.{plain_dests}
@@ -35,9 +35,6 @@ shape_of : (p : Plan) → IsWired p → (a : ℕ) (i : Instr) → instr_at p.pro
 shape_of p wired a i at =
     let F : Found p.program a i = found p.program a i at in
     all_at (λ (i : Instr). HasShape i.op (length i.firsts) (length i.seconds)) F.stands.code.instrs F.n i (all_at IsPlanBlock p.program.blocks F.b F.stands.code wired.plan.blocks F.stands.block).shapes F.stands.instr
-
-slot_filled : (s : MStore) (f r : ℕ) (v : SlotState) → (with_slot s f r v).slots f r ≡ v
-slot_filled s f r v = ap (λ (g : ℕ → SlotState). g r) (put_same s.slots f (put_at (s.slots f) r v) f refl) ∙ put_same (s.slots f) r v r refl
 
 -- what a `give` leaves in its slot
 give_leaves : (i : Instr) (f k : ℕ) (s n : MStore) (v : SlotState) → i.op ≡ Give k → n ≡ with_slot_in s f (slot_of i i.op) v → n.slots f i.slot ≡ v

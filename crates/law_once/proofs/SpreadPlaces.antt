@@ -1,6 +1,6 @@
 -- What a plan that is another one with copies between says of single instructions and landings.
-use Rattle.std.proofs.Common.{◌≡◌, refl, sym, ap, ◌∙◌, subst, ℕ, zero, suc, ◌+◌, ◌<◌, Bool, true, List, [], ◌∷◌, length, Option, Some, None, lt-ltb, le-ltb, arith}
-use Rattle.std.specs.Prelude.{slice_get, ◌-◌, nat_lt, false, if◌then◌else◌}
+use Rattle.std.proofs.Common.{◌≡◌, refl, sym, ap, ◌∙◌, subst, ℕ, ◌+◌, ◌<◌, Bool, true, List, [], ◌∷◌, length, Option, Some, None, arith}
+use Rattle.std.specs.Prelude.{slice_get, ◌-◌, false}
 use Rattle.std.proofs.lemmas.Option.{slice_get_within, same_Some}
 use Rattle.lemmas.proofs.Contains.{contains_head}
 use Rattle.lemmas.proofs.SliceGet.{get_some}
@@ -11,26 +11,11 @@ use Rattle.semantics.specs.declared.program.Op.TheVariants.{Copy, Give, Take}
 use Rattle.semantics.specs.Program.{Instr, CodeBlock, Program, first_of, instr_at}
 use Rattle.semantics.specs.Plan.{Plan}
 use Rattle.semantics.specs.Orderly.{same_block, often}
-use Rattle.law_reuse.proofs.Stands.{first_in, first_next, instr_in, Stands, stands_at, stands_block, stands_within, Found, found}
+use Rattle.semantics.proofs.BlockPlaces.{same_in}
+use Rattle.law_reuse.proofs.Stands.{instr_in, Stands, stands_at, stands_block, stands_within, Found, found}
 use Rattle.law_once.proofs.Parts.{one_part}
 use Rattle.law_once.specs.Alike.{HasLanding}
 use Rattle.law_once.specs.Spreads.{Spot, StandsFor, here, fork, is_answered, IsMoved, Spreads}
-
--- two places of a block are of one block
-same_in : (bs : List CodeBlock) (m j k : ℕ) (c : CodeBlock) → slice_get bs m ≡ Some c → j < length c.instrs → k < length c.instrs → same_block bs (first_in bs m + j) (first_in bs m + k) ≡ true
-same_in [] m j k c e h g = absurd (cc)
-same_in (x ∷ bs) zero j k c e h g =
-    let same : x ≡ c = cc in
-    let n : length x.instrs ≡ length c.instrs = ap (λ (c : CodeBlock). length c.instrs) same in
-    ap (λ (t : Bool). if t then nat_lt (0 + k) (length x.instrs) else if nat_lt (0 + k) (length x.instrs) then false else same_block bs (0 + j - length x.instrs) (0 + k - length x.instrs)) (lt-ltb (0 + j) (length x.instrs) (omega (arith, h, n)))
-    ∙ lt-ltb (0 + k) (length x.instrs) (omega (arith, g, n))
-same_in (x ∷ bs) (suc m) j k c e h g =
-    let n = first_next x bs m in
-    let a = first_in (x ∷ bs) (suc m) + j in let d = first_in (x ∷ bs) (suc m) + k in
-    ap (λ (t : Bool). if t then nat_lt d (length x.instrs) else if nat_lt d (length x.instrs) then false else same_block bs (a - length x.instrs) (d - length x.instrs)) (le-ltb a (length x.instrs) (omega (arith, n)))
-    ∙ ap (λ (t : Bool). if t then false else same_block bs (a - length x.instrs) (d - length x.instrs)) (le-ltb d (length x.instrs) (omega (arith, n)))
-    ∙ (let aj : a - length x.instrs ≡ first_in bs m + j = omega (arith, n) in let dk : d - length x.instrs ≡ first_in bs m + k = omega (arith, n) in (λ t. same_block bs (aj t) (dk t)))
-    ∙ same_in bs m j k c e h g
 
 -- what is beyond the beginning of a landing stays so far beyond it
 pub row_stays : (p q : Plan) (S : Spreads p q) (base o : ℕ) → HasLanding p base o → S.h (base + o) ≡ S.h base + o

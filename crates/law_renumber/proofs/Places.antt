@@ -10,7 +10,7 @@ use Rattle.semantics.specs.Machine.{results_in, outputs_of}
 use Rattle.semantics.specs.Plan.{Plan, landing_in, landing}
 use Rattle.semantics.specs.Sharing.{Arc, row, arcs_to, arcs_from, arcs_of, arcs_in}
 use Rattle.semantics.specs.Orderly.{often, is_entry, same_block, inputs_in, inputs_of}
-use Rattle.law_reuse.proofs.Stands.{first_in, first_next}
+use Rattle.semantics.proofs.BlockPlaces.{first_in, first_next}
 use Rattle.law_renumber.specs.Renumbers.{IsRenumbered, RenumbersBlock, RenumbersAll, with_blocks}
 
 -- something is at a place of a list, or nothing

@@ -12,6 +12,7 @@ use Rattle.semantics.specs.Meaning.{Context, Turned, AtNode, AtTurn, Operand, Pr
 use Rattle.semantics.specs.Machine.{Machine}
 use Rattle.lemmas.proofs.Permutations.{Within}
 use Rattle.lemmas.proofs.Contains.{contains_head}
+use Rattle.semantics.proofs.Lines.{same_arm}
 use Rattle.law_determinacy.proofs.History.{run_lawful}
 use Rattle.law_determinacy.proofs.Due.{ever_stood}
 use Rattle.law_determinacy.proofs.Laws.{Tokens, Lawful}
@@ -34,9 +35,6 @@ use Rattle.law_rest.proofs.Stores.{fits_main}
 use Rattle.law_rest.proofs.Waits.{carries}
 use Rattle.law_rest.proofs.Forward.{At, feeder, decided_comes}
 use Rattle.law_rest.proofs.Story.{story, ever_told}
-
-same_arm : (i j : ℕ) (s t : Bool) → Arm i s ≡ Arm j t → i ≡ j
-same_arm i j s t e = cc
 
 module _ (stage : ℕ) (fl : Flow) (p : Plan) (w : Wires) (inputs : List ℤ) (past : Past) (m : Machine) (good : IsGood stage fl p w) (fit : InputsFit fl inputs) (kept : Keeps fl p w inputs past m) where
   abbrev done : List Firing

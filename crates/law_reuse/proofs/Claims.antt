@@ -16,9 +16,10 @@ use Rattle.semantics.specs.Plan.{Plan}
 use Rattle.semantics.specs.Sharing.{placed_slot}
 use Rattle.semantics.specs.Holders.{Holder, holder_of, holder_from, holder_at}
 use Rattle.semantics.specs.Unfolded.{HasSlot}
+use Rattle.semantics.proofs.BlockPlaces.{first_in, first_next}
 use Rattle.law_reuse.proofs.PlacedCode.{moved_to}
 use Rattle.law_reuse.proofs.PlacedEvents.{Alone, in_slot, slot_moved}
-use Rattle.law_reuse.proofs.Stands.{first_in, first_next, Stands, stands_within}
+use Rattle.law_reuse.proofs.Stands.{Stands, stands_within}
 use Rattle.law_reuse.proofs.Fillings.{at_port, later_on}
 use Rattle.law_reuse.proofs.UsedArcs.{Ports, one_frame}
 

@@ -17,8 +17,8 @@ use Rattle.semantics.specs.Rule.{token, signal, Seat, to_each, to_all, landing_a
 use Rattle.semantics.specs.Machine.{put_at}
 use Rattle.semantics.specs.Sharing.{placed_slot, placed_instrs}
 use Rattle.semantics.specs.Placed.{placed_blocks}
+use Rattle.semantics.proofs.BlockPlaces.{first_in, first_next}
 use Rattle.law_reuse.proofs.Fold.{put_same, put_other}
-use Rattle.law_reuse.proofs.Stands.{first_in, first_next}
 
 -- ---- the same rule
 

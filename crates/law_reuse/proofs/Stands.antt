@@ -1,17 +1,9 @@
 -- Where an instruction stands: its block, and its place there.
-use Rattle.std.proofs.Common.{◌≡◌, refl, zero-add, sym, ap, ◌∙◌, subst, ℕ, zero, suc, ◌+◌, ◌-◌, ◌<◌, ◌≤◌, Bool, true, false, true≢false, List, [], ◌∷◌, map, length, sum, take, Some, slice_get, nat_lt, lt-ltb, le-ltb, ltb-false, arith, if◌then◌else◌}
-use Rattle.std.proofs.lemmas.List.Sums.{sum-map, sum_by-cons}
+use Rattle.std.proofs.Common.{◌≡◌, refl, zero-add, sym, ap, ◌∙◌, subst, ℕ, zero, suc, ◌+◌, ◌-◌, ◌<◌, ◌≤◌, Bool, true, false, true≢false, List, [], ◌∷◌, length, Some, slice_get, nat_lt, lt-ltb, le-ltb, ltb-false, arith, if◌then◌else◌}
 use Rattle.std.proofs.lemmas.Option.{slice_get_within, same_Some}
 use Rattle.semantics.specs.Program.{Instr, CodeBlock, Program, first_of, instr_from, instr_at}
 use Rattle.semantics.specs.Orderly.{is_entry, same_block}
-
-abbrev pub first_in : List CodeBlock → ℕ → ℕ
-first_in bs m = sum (map (λ (x : CodeBlock). length x.instrs) (take m bs))
-
-pub first_next : (c : CodeBlock) (bs : List CodeBlock) (m : ℕ) → first_in (c ∷ bs) (suc m) ≡ length c.instrs + first_in bs m
-first_next c bs m =
-    let f : CodeBlock → ℕ = λ (x : CodeBlock). length x.instrs in
-    sum-map f (c ∷ take m bs) ∙ sum_by-cons f c (take m bs) ∙ ap (λ n. length c.instrs + n) (sym (sum-map f (take m bs)))
+use Rattle.semantics.proofs.BlockPlaces.{first_in, first_next}
 
 pub instr_in : (bs : List CodeBlock) (m k : ℕ) (c : CodeBlock) → slice_get bs m ≡ Some c → k < length c.instrs → instr_from bs (first_in bs m + k) ≡ slice_get c.instrs k
 instr_in [] m k c e h = absurd (cc)

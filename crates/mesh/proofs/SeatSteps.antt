@@ -14,11 +14,10 @@ use native.Mathlib.Decide.{ℕ_discrete}
 use lib.ListN.{get_elem?, length-map, length-replicate}
 use Rattle.atomic_table.specs.Table.{Step, keeps, Allows, Splits, Joins, opening}
 use Rattle.atomic_table.proofs.Lists.{at_set}
-use Rattle.std.proofs.lemmas.Nat.{mod_below}
 use Rattle.lemmas.proofs.Lists.{nothing_before}
 use Rattle.tags.specs.declared.token.Token.{Token}
-use Rattle.tags.specs.declared.token.To.{To}
 use Rattle.tags.specs.Addresses.{element_of}
+use Rattle.tags.proofs.Elements.{element_below}
 use Rattle.mesh.specs.declared.view.Commit.{Commit}
 use Rattle.mesh.specs.declared.view.Part.{Part}
 use Rattle.mesh.specs.declared.view.View.{View}
@@ -123,14 +122,6 @@ gather_none : (m : ℕ) (f : ℕ → Ts) → ((j : ℕ) → f j ≡ []) → gath
 unfolding gather
 gather_none zero f h = refl
 gather_none (suc m) f h = let r = gather_none m f h in let t = h m in cc
-
-element_below : (n : ℕ) (to : To) → 0 < n → element_of n to < n
-element_below n (To.Instr f ip p) h = mod_below f n h
-element_below n (To.Fetch x) h = mod_below x n h
-element_below n (To.Store x v) h = mod_below x n h
-element_below n To.Manager h = h
-element_below n (To.Release f) h = h
-element_below n (To.Host p) h = h
 
 abbrev theirs : ℕ → Ts → ℕ → Ts
 theirs n start e = filter (λ (t : Token). element_of n t.to == e) start

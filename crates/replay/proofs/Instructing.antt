@@ -18,10 +18,10 @@ use Rattle.semantics.specs.declared.program.Op.TheVariants.{Apply2, Sync, Switch
 use Rattle.semantics.specs.Program.{Instr, Program, instr_at}
 use Rattle.semantics.specs.Rule.{Seat, Outcome, Becomes, alone, fires, fire_one, outcome_of, rule_at, slot_of, answer_to, landing_at}
 use Rattle.semantics.specs.Machine.{Store, Happens, Fires, slot_in, slot_used, with_slot_in, put_at}
+use Rattle.semantics.proofs.Stores.{put_same}
 use Rattle.element.specs.declared.instructions.Instruction.{Instruction}
 use Rattle.element.specs.Decoded.{instr_of, dest_in, IsShort}
 use Rattle.element.specs.Near.{Bounds, IsNearCont, IsNearWord, IsNearSlot}
-use Rattle.element.proofs.Places.{put_same}
 use Rattle.element.proofs.Nearness.{IsNearSeat, NearOutcome, outcome_near}
 use Rattle.element.proofs.Instructing.{low_slot}
 use Rattle.replay.specs.declared.slots.Slots.{Slots}

@@ -17,6 +17,7 @@ use Rattle.istructure.proofs.Places.{cell_at-place}
 use Rattle.frame_manager.specs.Managed.{Managed}
 use Rattle.frame_manager.specs.Flags.{flag_at}
 use Rattle.tags.specs.declared.token.Token.{Token}
+use Rattle.semantics.proofs.Sums.{sum_same}
 use Rattle.element.specs.Parts.{IsPart, IsSound, IsSoundManager, Manages, bounds}
 use Rattle.element.specs.Near.{Bounds}
 use Rattle.element.specs.Held.{Held}
@@ -24,13 +25,6 @@ use Rattle.schedule.specs.Setting.{Setting, size, total, IsGoodSetting}
 use Rattle.schedule.specs.State.{State, AllFrom, IsPlaced, IsSoundState, IsBounded, Stands}
 use Rattle.schedule.specs.Told.{value_of, readers_of, cell_value, cell_readers, entry, full_below, slot_of_lane, slot_at, credits_below, requests_in, out_in, Tells}
 use Rattle.schedule.proofs.Places.{first_get, from_both}
-
-sum_same : (n : ℕ) (g h : ℕ → ℕ) → ((k : ℕ) → k < n → g k ≡ h k) → sum_below n g ≡ sum_below n h
-sum_same zero g h e = refl
-sum_same (suc n) g h e =
-    let before = sum_same n g h (λ k lt. e k (omega arith)) in
-    let here : g n ≡ h n = e n (omega arith) in
-    omega arith
 
 -- nothing from k on
 sum_stops : (n k : ℕ) (g : ℕ → ℕ) → k ≤ n → ((x : ℕ) → k ≤ x → g x ≡ 0) → sum_below n g ≡ sum_below k g

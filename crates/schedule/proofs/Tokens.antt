@@ -2,25 +2,16 @@
 use Rattle.std.proofs.Common.{◌≡◌, refl, sym, ◌∙◌, ap, subst, ℕ, zero, suc, ◌+◌, ◌<◌, ◌≤◌, Bool, true, false, ◌&&◌, cond, List, [], ◌∷◌, ◌++◌, length, Some, arith, append_assoc, ◌⊎◌, inl, inr}
 use Rattle.std.specs.Prelude.{slice_get, slice_set, remove, IsPermutation, nat_lt, nat_le, ◌==◌}
 use Rattle.std.specs.List.{filter}
-use Rattle.std.proofs.Math.Nat.{mod-lt}
 use Rattle.std.proofs.lemmas.Bool.{cases_order, cases_lt, eq-eqb, ne_eqb, lt-ltb, le-ltb, le-leb, lt-leb, and_left, and_right, and_from}
 use Rattle.std.proofs.lemmas.List.{append-nil}
 use Rattle.std.proofs.lemmas.List.Elements.{filter-append, filter_agree}
 use Rattle.std.proofs.lemmas.List.Sorted.{IsPermutation-refl, IsPermutation-sym, IsPermutation-trans, IsPermutation-cons, IsPermutation-middle, IsPermutation-append_right, IsPermutation-append_comm}
 use Rattle.lemmas.proofs.Permutations.{permutation_exchange}
 use Rattle.tags.specs.declared.token.Token.{Token}
-use Rattle.tags.specs.declared.token.To.{To}
 use Rattle.tags.specs.Addresses.{element_of}
+use Rattle.tags.proofs.Elements.{element_below}
 use Rattle.element.specs.Held.{Held, is_here, here, with_queue, queued}
 use Rattle.schedule.specs.State.{AllFrom, IsAt, delivered, tokens_in}
-
-pub element_below : (n : ℕ) (to : To) → 0 < n → element_of n to < n
-element_below n (To.Instr f ip p) some = mod-lt f some
-element_below n (To.Fetch x) some = mod-lt x some
-element_below n (To.Store x v) some = mod-lt x some
-element_below n To.Manager some = some
-element_below n (To.Release f) some = some
-element_below n (To.Host p) some = some
 
 -- LISTS IN ANOTHER ORDER
 

@@ -21,3 +21,9 @@ pub mod LoopCode
 pub mod SharedSlots
 pub mod OperatorWords
 pub mod OpcodeWords
+pub mod ArcEnds
+pub mod BlockPlaces
+pub mod Lines
+pub mod Ports
+pub mod Stores
+pub mod Sums
