@@ -15,7 +15,7 @@ use Rattle.law_contexts.specs.Parts.{Line, inlet, signal, Item, item, Spot, spot
 use Rattle.law_contexts.specs.Contexts.{Wires}
 use Rattle.law_contexts.specs.Theorem.{IsGood}
 use Rattle.law_arms.specs.Coded.{AllCoded}
-use Rattle.law_arms.proofs.Sames.{hits_at}
+use Rattle.law_contexts.proofs.Sames.{hits_at}
 use Rattle.law_arms.proofs.Fed.{cons_once}
 use Rattle.law_arms.proofs.Pigeons.{few_pigeons}
 

@@ -37,7 +37,7 @@ use Rattle.law_contexts.specs.Laws.{Fits, spot_there, way_fits, sender_way, arms
 use Rattle.law_contexts.specs.Stands.{Past, frame_of, ip_of, word_of, to_of, token_of, cell_to, came, only, but_cells, is_cell_token, events_taken, is_held, is_instr, is_entry_part, WasUsed}
 use Rattle.law_contexts.specs.Theorem.{IsGood}
 use Rattle.law_contexts.specs.Packages.{Keeps, AllFit, IsOnce, IsCaused, IsOfOneBlock}
-use Rattle.law_arms.proofs.Sames.{hits_at, hit_counted, spot_is, inlet_is}
+use Rattle.law_contexts.proofs.Sames.{hits_at, hit_counted, spot_is, inlet_is}
 use Rattle.law_arms.proofs.Sends.{all_from}
 use Rattle.law_arms.proofs.Words.{Begins, AtEntry, AtInput, begin_cases}
 use Rattle.law_arms.proofs.Rivals.{two_ways, merge_arm, end_arm, flag_at, turn_last, turn_later, landing_arm, Order, Same, Before, After, order}

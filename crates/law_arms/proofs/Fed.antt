@@ -19,7 +19,7 @@ use Rattle.law_contexts.specs.Firings.{takes, makes, begins, input_items, sent_w
 use Rattle.law_contexts.specs.Laws.{maker_of}
 use Rattle.law_contexts.specs.Theorem.{IsGood}
 use Rattle.law_contexts.specs.Packages.{InputsFit, AllFit, InletsAreFed}
-use Rattle.law_arms.proofs.Sames.{hits_at, hit_found, hit_never, same_spot-true, same_part-true, same_part-refl, inlet_found, inlet_counted}
+use Rattle.law_contexts.proofs.Sames.{hits_at, hit_found, hit_never, same_spot-true, same_part-true, same_part-refl, inlet_found, inlet_counted}
 use Rattle.law_arms.proofs.Sends.{side_by, gives_by, asks_cell, sent_along, IsSent, sent_is, made_cases, made_hits, each_hits, sent_facts, in_context}
 use Rattle.law_arms.proofs.Invoked.{not_loop, Child, ByCall, ByLoop, child_cases, child_here, lawful_at}
 use Rattle.law_arms.proofs.Gifts.{argument, Gift, GHeld, GAsked, GArgument, GFanned, GEntry, GInput, GShown, GLanding, GLeaves, GDrains, GFreed, GDone, GCallDone, GGiver, GTaker, GNextFramer, GNextAsked, GNextFanned, GNextEntry, GNextInput, GLoopDone, there_as, there_in_context, gift_of}

@@ -16,7 +16,7 @@ use Rattle.law_contexts.specs.Around.{Choice}
 use Rattle.law_contexts.specs.Firings.{Config, Move, begin, begins, takes, makes, own_takes, renewed, ProperMoves, Still, Then}
 use Rattle.law_contexts.specs.Laws.{Allowed, IsSoundNet, InArm, says}
 use Rattle.law_contexts.specs.Stands.{came, only, but_cells, is_cell_token}
-use Rattle.law_arms.proofs.Sames.{hits_at, hit_counted, same_spot-refl}
+use Rattle.law_contexts.proofs.Sames.{hits_at, hit_counted, same_spot-refl}
 
 -- TOTALS
 pub total_flat : {X Y : Type 0} (g : Y → ℕ) (h : X → List Y) (xs : List X) → total g (flat_map h xs) ≡ total (λ (x : X). total g (h x)) xs

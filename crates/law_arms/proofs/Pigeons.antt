@@ -9,7 +9,7 @@ use Rattle.semantics.specs.Meaning.{Context}
 use Rattle.law_contexts.specs.Parts.{Part, Item, Firing, Spot, spot_of, same_spot, same_context, same_part}
 use Rattle.law_contexts.specs.Firings.{is_firing, times}
 use Rattle.law_contexts.specs.Stands.{is_item_at, items_at}
-use Rattle.law_arms.proofs.Sames.{hits_at, same_spot-refl, same_context-refl, same_context-true, same_part-refl, same_part-true}
+use Rattle.law_contexts.proofs.Sames.{hits_at, same_spot-refl, same_context-refl, same_context-true, same_part-refl, same_part-true}
 use Rattle.law_arms.proofs.Nets.{count_total}
 
 abbrev pub sum_to : (ℕ → ℕ) → ℕ → ℕ

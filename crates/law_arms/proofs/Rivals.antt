@@ -16,7 +16,7 @@ use Rattle.law_contexts.specs.Firings.{takes, own_takes, renewed, given_back}
 use Rattle.law_contexts.specs.Laws.{spot_there, way_fits, InArm, landing_arms, flag_arm}
 use Rattle.law_contexts.specs.Theorem.{IsGood}
 use Rattle.law_contexts.specs.Packages.{AllFit, Shows, RivalsAreApart}
-use Rattle.law_arms.proofs.Sames.{hits_at, hit_counted, spot_is}
+use Rattle.law_contexts.proofs.Sames.{hits_at, hit_counted, spot_is}
 use Rattle.law_arms.proofs.Sends.{first_taken, takes_first, first_fits, first_context, in_context}
 use Rattle.law_arms.proofs.Invoked.{is_turned, lawful_at}
 use Rattle.law_arms.proofs.Rounds.{choice_in, end_choice, earlier_flag, under}

@@ -18,7 +18,7 @@ use Rattle.law_contexts.specs.Contexts.{Wires, block_in, wiring_in, site_in, chi
 use Rattle.law_contexts.specs.Firings.{left_way, right_way, left_item, own_takes, renewed, takes, request_of, given_back, arguments, sent_word, along, switched, value_in, back_from, result_back, drain_back, end_back, credit_asked, turn_before, next_entry, makes_by, makes}
 use Rattle.law_contexts.specs.Laws.{Fits, spot_there, maker_of}
 use Rattle.law_contexts.specs.Packages.{AllFit}
-use Rattle.law_arms.proofs.Sames.{hits_at, one_and}
+use Rattle.law_contexts.proofs.Sames.{hits_at, one_and}
 
 -- all of a list, by each that it contains
 pub all_from : {X : Type 0} (P : X → Type 0) (xs : List X) → ((x : X) → Contains xs x → P x) → All P xs

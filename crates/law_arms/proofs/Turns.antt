@@ -22,7 +22,7 @@ use Rattle.law_contexts.specs.Laws.{InArm, arms_of, flag_arm, way_fits, port_fit
 use Rattle.law_contexts.specs.Stands.{Past, came, is_item_at, items_at, granted_of}
 use Rattle.law_contexts.specs.Theorem.{IsGood}
 use Rattle.law_contexts.specs.Packages.{Keeps}
-use Rattle.law_arms.proofs.Sames.{hits_at, spot_is, inlet_is}
+use Rattle.law_contexts.proofs.Sames.{hits_at, spot_is, inlet_is}
 use Rattle.law_arms.proofs.Sends.{first_taken, takes_first, first_context}
 use Rattle.law_arms.proofs.Invoked.{is_turned}
 use Rattle.law_arms.proofs.Rounds.{choice_in, earlier_flag, under}

@@ -12,7 +12,7 @@ use Rattle.law_contexts.specs.Parts.{Part, Entry, Linker, Sender, NextSender, En
 use Rattle.law_contexts.specs.Blocks.{invokes, source_count, lies_in, entered, flag}
 use Rattle.law_contexts.specs.Contexts.{block_in, child, next}
 use Rattle.law_contexts.specs.Firings.{handed_to, frame_if, frame_at}
-use Rattle.law_arms.proofs.Sames.{same_context-true}
+use Rattle.law_contexts.proofs.Sames.{same_context-true}
 use Rattle.law_arms.proofs.Invoked.{Child, ByCall, ByLoop, child_cases}
 use Rattle.law_over.specs.Over.{IsOpen}
 use Rattle.law_over.proofs.Made.{first_in, taken_stands}

@@ -18,7 +18,7 @@ use Rattle.law_contexts.specs.Contexts.{block_in, site_in, wiring_in, IsContext}
 use Rattle.law_contexts.specs.Wires.{AValue, comes_at, IsLaidOut, answered_at, has_no_wire, is_given, wired_way, wired_port, is_side, predicate_at, right_only, cond_round, decider}
 use Rattle.law_contexts.specs.Firings.{right_way}
 use Rattle.law_contexts.specs.Laws.{maker_of}
-use Rattle.law_arms.proofs.Sames.{inlet_found}
+use Rattle.law_contexts.proofs.Sames.{inlet_found}
 use Rattle.law_arms.proofs.Sends.{side_by, switch_side}
 use Rattle.law_arms.proofs.Invoked.{code_at}
 use Rattle.law_arms.proofs.Rounds.{input_root}

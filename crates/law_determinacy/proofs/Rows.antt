@@ -9,7 +9,7 @@ use Rattle.semantics.specs.declared.graph.Region.TheVariants.{Root, Arm}
 use Rattle.semantics.specs.declared.graph.Kind.{Kind}
 use Rattle.semantics.specs.declared.graph.Kind.TheVariants.{Lit, Apply1, Apply2, Cond, Enter, Merge, Fetch, Store, Call, StrictCall, Loop}
 use Rattle.semantics.specs.Graph.{Node, Block, Flow, node_at, first_cell, array_len}
-use Rattle.semantics.specs.Meaning.{Context, Called, Turned, Activity, Fires, Gates, Passes, Returns, Turns, Outputs, taken, Message, Sends, Tells, Enters, Nothing, Deed, Says, Reads, Fills, Puts, deed, fired, fired_in, fetched, stored, input_passed, gated, passed, on_node, on_block, block_of, origin_at, same_side}
+use Rattle.semantics.specs.Meaning.{Context, Called, Turned, Activity, Fires, Gates, Passes, Returns, Turns, Outputs, taken, Message, Sends, Tells, Enters, Nothing, Deed, Says, Reads, Fills, Puts, deed, fired, fired_in, fetched, stored, input_passed, gated, passed, on_node, on_block, block_of, origin_at, same_side, arm_of}
 use Rattle.law_determinacy.proofs.Keys.{Together, mode_at, fires_mode}
 
 pub data Class : Type 0 where
@@ -179,3 +179,8 @@ rows fl (Passes c n i v) d m e s =
 rows fl (Returns c n j v) d m e s = RowReturns c n j v refl (speaks_of _ d m e s)
 rows fl (Turns c n i j b v) d m e s = turn_row fl c n i j b v m (truth b) refl (speaks_of _ d m e s)
 rows fl (Outputs j v) d m e s = RowQuiet (omega arith) (speaks_of _ d m e s)
+
+-- the region of a node is the arm that the meaning gives it
+pub region_is_arm : (o : Option (Node ℕ)) → region_node o ≡ arm_of o
+region_is_arm None = refl
+region_is_arm (Some line) = refl

@@ -249,3 +249,9 @@ all_flags b (Turned d m i) n p v h e k low high =
 
 pub flags_sent : (fl : Flow) (b : Block ℕ) (c : Context) (n p : ℕ) (v : Value) → block_of fl c ≡ Some b → IsTurned c → IsSource n p (slice_get b.results 0) → (k : ℕ) → 1 ≤ k → k ≤ b.inputs → Within (tagged c (AtTurn k) Flag v) (tokens_of fl (Sends c n p v))
 flags_sent fl b c n p v e h src k low high = subst (λ o. Within (tagged c (AtTurn k) Flag v) (sent_in o c n p v)) (sym e) (all_flags b c n p v h src k low high)
+
+-- a source that is there is within the list
+pub source_within : (n p : ℕ) (ss : List Source) (i : ℕ) → IsSource n p (slice_get ss i) → i < length ss
+source_within n p [] i h = absurd h
+source_within n p (s ∷ ss) zero h = omega arith
+source_within n p (s ∷ ss) (suc i) h = let ih = source_within n p ss i h in omega (arith, ih)

@@ -23,7 +23,7 @@ use Rattle.law_moves.specs.Cases.{Taking, net_of}
 use Rattle.law_moves.proofs.Lists.{contains_one}
 use Rattle.law_moves.proofs.Fitted.{fits, bare, taken_here, lone_port, plain_way}
 use Rattle.law_moves.proofs.Inwards.{carried}
-use Rattle.law_arms.proofs.Sames.{hit_counted, hit_found}
+use Rattle.law_contexts.proofs.Sames.{hit_counted, hit_found}
 use Rattle.law_arms.proofs.Sends.{first_taken, takes_first, takes_right, sent_facts, sent_along, gives_by, side_by, splits}
 use Rattle.law_arms.proofs.Words.{Begins, AtEntry, AtInput, begin_cases}
 use Rattle.law_arms.proofs.Fed.{MadeAt, ByGift, ByWire, made_at, gift_unwired, Unwired, UGiven, UNot, UWay, one_feeder}

@@ -18,7 +18,7 @@ use Rattle.law_contexts.specs.Contexts.{Wires, block_in, is_strict_in}
 use Rattle.law_contexts.specs.Firings.{Config, Move, begin, takes, own_takes, renewed, right_way, arguments_from, ProperAt, IsProperMove, ProperMoves, Still, Then}
 use Rattle.law_contexts.specs.Laws.{sender_way, way_fits, spot_there}
 use Rattle.law_contexts.specs.Stands.{came}
-use Rattle.law_arms.proofs.Sames.{hits_at, hit_counted, spot_is, inlet_is}
+use Rattle.law_contexts.proofs.Sames.{hits_at, hit_counted, spot_is, inlet_is}
 use Rattle.law_arms.proofs.Nets.{once_all, taken_in}
 use Rattle.law_arms.proofs.Comes.{sender_one}
 use Rattle.law_arms.proofs.Opened.{framed, NSender}

@@ -38,10 +38,11 @@ use Rattle.law_moves.proofs.Pairs as Pairs
 use Rattle.law_moves.proofs.Pairs.{Second, dyadic}
 use Rattle.law_moves.proofs.Sends.{firing_of, stays_same, stays_with}
 use Rattle.law_moves.proofs.Along.{does, both, mine, takes_one, takes_two, pair_follows}
-use Rattle.law_moves.proofs.Inwards.{told_as, carried, has_block, kept_node, origin_is}
+use Rattle.law_moves.proofs.Inwards.{told_as, carried, kept_node, origin_is}
 use Rattle.law_moves.proofs.Answered.{Answered}
 use Rattle.law_moves.proofs.Requests.{ans, Asks, back_is, asks_arc, sent_arc, asks_cell, answers_at_once}
 use Rattle.semantics.specs.Arcs.{UsesBy}
+use Rattle.law_contexts.proofs.Blocks.{has_block}
 
 if_true : (t : Bool) (xs ys : List Item) → t ≡ true → (if t then xs else ys) ≡ xs
 if_true true xs ys e = refl

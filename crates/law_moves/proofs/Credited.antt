@@ -16,7 +16,7 @@ use Rattle.law_contexts.specs.Wires.{is_given}
 use Rattle.law_contexts.specs.Firings.{begins, takes, makes, given_back}
 use Rattle.law_contexts.specs.Stands.{is_held}
 use Rattle.law_contexts.specs.Packages.{AllFit}
-use Rattle.law_arms.proofs.Sames.{hits_at, hit_found, hit_counted, same_spot-refl}
+use Rattle.law_contexts.proofs.Sames.{hits_at, hit_found, hit_counted, same_spot-refl}
 use Rattle.law_arms.proofs.Gifts.{Gift, GHeld, GAsked, GArgument, GFanned, GEntry, GInput, GShown, GLanding, GLeaves, GDrains, GFreed, GDone, GCallDone, GGiver, GTaker, GNextFramer, GNextAsked, GNextFanned, GNextEntry, GNextInput, GLoopDone}
 use Rattle.law_arms.proofs.Words.{Begins, AtEntry, AtInput, begin_cases}
 use Rattle.law_arms.proofs.Fed.{MadeAt, ByGift, ByWire, made_at, sent_there}

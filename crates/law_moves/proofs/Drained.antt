@@ -19,7 +19,7 @@ use Rattle.law_contexts.specs.Contexts.{block_in}
 use Rattle.law_contexts.specs.Credits.{Ledger}
 use Rattle.law_contexts.specs.Firings.{Config, takes, makes, times, given_back, frame_at}
 use Rattle.law_contexts.specs.Stands.{only, token_of, is_item_at, items_at, conts_of, first_cont, ledger, granted_of, KeepsCredits, is_held}
-use Rattle.law_arms.proofs.Sames.{hits_at}
+use Rattle.law_contexts.proofs.Sames.{hits_at}
 use Rattle.law_arms.proofs.Nets.{only_total, only_contains, only_has}
 use Rattle.law_arms.proofs.Pigeons.{items_total, item_here, item_there, some_item}
 use Rattle.law_arms.proofs.Turns.{left_at, opened_once}

@@ -38,7 +38,7 @@ use Rattle.law_moves.proofs.Lasting.{Lasts, item_word, tokens_last, conts_last, 
 use Rattle.law_moves.proofs.Single.{gone_alone, alone_all, alone_here, others_there}
 use Rattle.law_moves.proofs.Unframed.{no_firing, no_times}
 use Rattle.law_moves.proofs.Managed.{Hands, hand_out, cont, to_manager, asked_opens, asked_takes, asked_drains, asked_remembers, asked_done, asked_freed}
-use Rattle.law_arms.proofs.Sames.{same_context-true, same_context-refl}
+use Rattle.law_contexts.proofs.Sames.{same_context-true, same_context-refl}
 
 -- FRAMES after one was handed to d
 frame_now : (fl : Flow) (f : Firing) (fired : List Firing) (d : Context) → is_main d ≡ false → handed_to fl f.context f.part ≡ Some d → frame_at fl (f ∷ fired) d ≡ Some f.frame

@@ -24,7 +24,7 @@ use Rattle.law_contexts.specs.Contexts.{block_in, code_in, wiring_in, or_zero, I
 use Rattle.law_contexts.specs.Credits.{slot_for, CreditLaw}
 use Rattle.law_contexts.specs.Firings.{Config, begin, takes, own_takes, times, frame_at, cell_of, memory_of, ProperMoves}
 use Rattle.law_contexts.specs.Stands.{frame_of, word_of, token_of, on_side, in_slot, slot_of, only, is_asked, is_held, reads, is_item_at, items_at, cont_in, conts_of, granted_of, ledger, KeepsCredits, Stands, named_by, is_instr, is_entry_part, came}
-use Rattle.law_arms.proofs.Sames.{same_context-true, same_context-refl}
+use Rattle.law_contexts.proofs.Sames.{same_context-true, same_context-refl}
 use Rattle.law_arms.proofs.Pigeons.{item_there}
 use Rattle.law_moves.specs.Cases.{Taking, IsCaused, net_of, is_quiet}
 use Rattle.law_moves.proofs.Lists.{kept_out, count_append, count_same, count_none, count_no, count_kept}

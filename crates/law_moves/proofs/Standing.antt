@@ -12,7 +12,7 @@ use Rattle.law_contexts.specs.Parts.{Part, Opener, Giver, Taker, Drainer, Draine
 use Rattle.law_contexts.specs.Blocks.{is_loop, waits_in}
 use Rattle.law_contexts.specs.Contexts.{block_in}
 use Rattle.law_contexts.specs.Firings.{takes, times}
-use Rattle.law_arms.proofs.Sames.{hits_at, hit_counted, same_spot-refl}
+use Rattle.law_contexts.proofs.Sames.{hits_at, hit_counted, same_spot-refl}
 use Rattle.law_arms.proofs.Nets.{once_all, taken_in}
 use Rattle.law_arms.proofs.Sends.{first_taken, takes_first, first_context}
 use Rattle.law_arms.proofs.Turns.{spot_at, taken_all, drained_taken}

@@ -17,7 +17,7 @@ use Rattle.law_contexts.specs.Around.{Choice}
 use Rattle.law_contexts.specs.Firings.{Config, begins, takes, makes, right_way, times, is_firing}
 use Rattle.law_contexts.specs.Laws.{InArm, arms_of, flag_arm, way_fits}
 use Rattle.law_contexts.specs.Stands.{is_item_at, items_at, granted_of}
-use Rattle.law_arms.proofs.Sames.{spot_is, inlet_is}
+use Rattle.law_contexts.proofs.Sames.{spot_is, inlet_is}
 use Rattle.law_arms.proofs.Sends.{first_taken, takes_first, takes_right, first_context}
 use Rattle.law_arms.proofs.Invoked.{is_turned}
 use Rattle.law_arms.proofs.Words.{Begins, AtEntry, AtInput, begin_cases}

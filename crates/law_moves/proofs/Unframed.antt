@@ -17,7 +17,7 @@ use Rattle.law_contexts.specs.Laws.{is_main, spot_there}
 use Rattle.law_contexts.specs.Stands.{is_item_at, items_at, came, Stands}
 use Rattle.law_moves.specs.Cases.{Taking, net_of}
 use Rattle.law_moves.proofs.Lists.{count_none}
-use Rattle.law_arms.proofs.Sames.{same_context-true}
+use Rattle.law_contexts.proofs.Sames.{same_context-true}
 use Rattle.law_arms.proofs.Sends.{first_taken, takes_first, first_context, part_there}
 use Rattle.law_arms.proofs.Nets.{not_twice, taken_in, came_all}
 use Rattle.law_arms.proofs.Comes.{fired_fit}

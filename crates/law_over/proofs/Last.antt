@@ -31,7 +31,7 @@ use Rattle.law_contexts.specs.Laws.{Fits, way_fits, port_fits}
 use Rattle.law_contexts.specs.Stands.{Past, frame_of, to_of, token_of, word_of, cell_to, cont_in, conts_of, first_cont, only, in_slot, slot_of, on_side, is_item_at, is_asked, reads, ledger, named_by}
 use Rattle.law_contexts.specs.Theorem.{IsGood}
 use Rattle.law_contexts.specs.Packages.{OfRuns, Keeps, InputsFit, ReleasesLast}
-use Rattle.law_arms.proofs.Sames.{hits_at, hit_counted, spot_is, inlet_is}
+use Rattle.law_contexts.proofs.Sames.{hits_at, hit_counted, spot_is, inlet_is}
 use Rattle.law_arms.proofs.Nets.{once_all, only_contains}
 use Rattle.law_arms.proofs.Fed.{UNot}
 use Rattle.law_arms.proofs.Credits.{some_firing, firing_of}

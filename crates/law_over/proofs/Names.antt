@@ -22,7 +22,7 @@ use Rattle.law_contexts.specs.Stands.{Past, named_by}
 use Rattle.law_contexts.specs.Theorem.{IsGood}
 use Rattle.law_contexts.specs.Packages.{InputsFit, Keeps}
 use Rattle.law_contexts.proofs.Words.{carries_of}
-use Rattle.law_arms.proofs.Sames.{spot_is, inlet_is}
+use Rattle.law_contexts.proofs.Sames.{spot_is, inlet_is}
 use Rattle.law_arms.proofs.Sends.{side_by, first_taken, takes_first, sent_facts, in_context}
 use Rattle.law_arms.proofs.Invoked.{lawful_at, Child, ByCall, ByLoop, child_cases}
 use Rattle.law_arms.proofs.Nets.{taken_in}

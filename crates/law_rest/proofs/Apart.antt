@@ -1,5 +1,5 @@
 -- Lists of contexts in which none stands twice: those of a list, each once, and that no more of them fit into another list than it has.
-use Rattle.std.proofs.Common.{◌≡◌, ℕ, zero, suc, ◌+◌, ◌<◌, ◌≤◌, Bool, true, false, ◌&&◌, ◌⊎◌, inl, inr, List, [], ◌∷◌, length, map, Some, if◌then◌else◌, refl, sym, ap, ◌∙◌, subst, arith, true≢false}
+use Rattle.std.proofs.Common.{◌≡◌, ℕ, zero, suc, ◌+◌, ◌<◌, ◌≤◌, Bool, true, false, ◌⊎◌, inl, inr, List, [], ◌∷◌, length, map, Some, if◌then◌else◌, refl, sym, ap, ◌∙◌, subst, arith, true≢false}
 use Rattle.std.specs.Prelude.{Contains, slice_get, slice_index_or, count_by}
 use Rattle.std.proofs.lemmas.Option.{same_Some}
 use Rattle.lemmas.proofs.Contains.{contains_cases, contains_head, contains_mapped, contains_none, contains_tail, get_contains}
@@ -7,7 +7,8 @@ use Rattle.semantics.specs.Meaning.{Context, Main}
 use Rattle.law_net.specs.Roles.{one, total}
 use Rattle.law_contexts.specs.Parts.{Entry, inlet, Item, item, signal, Spot, spot_of, same_inlet, same_context}
 use Rattle.tags.specs.declared.token.Port.TheVariants.{Left}
-use Rattle.law_arms.proofs.Sames.{hits_at, same_context-true, same_context-refl}
+use Rattle.law_net.proofs.Orders.{one_of_both}
+use Rattle.law_contexts.proofs.Sames.{hits_at, same_context-true, same_context-refl}
 use Rattle.law_arms.proofs.Nets.{count_total}
 use Rattle.law_arms.proofs.Pigeons.{few_pigeons}
 
@@ -140,14 +141,9 @@ spot_for c = record { context = c; inlet = inlet Entry Left 0 }
 abbrev bird : Context → Item
 bird c = item c (inlet Entry Left 0) signal
 
-less : (t u : Bool) → one (t && u) ≤ one t
-less true true = omega arith
-less true false = omega arith
-less false u = omega arith
-
 birds_apart : (x : Spot) (xs : List Context) → hits_at x (map bird xs) ≤ often x.context xs
 birds_apart x [] = omega arith
-birds_apart x (c ∷ xs) = let more = birds_apart x xs in let a = less (same_context x.context c) (same_inlet x.inlet (inlet Entry Left 0)) in omega (arith, more, a)
+birds_apart x (c ∷ xs) = let more = birds_apart x xs in let a = one_of_both (same_context x.context c) (same_inlet x.inlet (inlet Entry Left 0)) in omega (arith, more, a)
 
 birds_length : (xs : List Context) → total (λ (i : Item). one true) (map bird xs) ≡ length xs
 birds_length [] = refl

@@ -27,7 +27,7 @@ use Rattle.law_contexts.specs.Firings.{Config}
 use Rattle.law_contexts.specs.Stands.{Past, ip_of, to_of, token_of, is_held, is_cell_token, but_cells, events_taken, only, came}
 use Rattle.law_contexts.specs.Theorem.{IsGood}
 use Rattle.law_contexts.specs.Packages.{Keeps}
-use Rattle.law_arms.proofs.Sames.{hits_at, same_context-true}
+use Rattle.law_contexts.proofs.Sames.{hits_at, same_context-true}
 use Rattle.law_arms.proofs.Nets.{all_of, count_total, came_all, came_total, cells_apart, only_contains, only_total, one_passes, once_all}
 use Rattle.law_arms.proofs.Comes.{laid, instr_here, fits_in}
 use Rattle.law_rest.specs.Counted.{frame_for, credit_for, frames, credits, IsCounted}

@@ -1,5 +1,5 @@
 -- Cells, their readers, and the fetches and stores of nodes.
-use Rattle.std.proofs.Common.{◌≡◌, ℕ, ℤ, ◌+◌, ◌<◌, ◌≤◌, Bool, true, false, ◌⊎◌, inl, inr, List, [], ◌∷◌, map, length, Option, Some, None, nat_lt, if◌then◌else◌, refl, sym, ap, ◌∙◌, arith, true≢false}
+use Rattle.std.proofs.Common.{◌≡◌, ℕ, ℤ, ◌+◌, ◌<◌, Bool, true, false, ◌⊎◌, inl, inr, List, [], ◌∷◌, map, length, Option, Some, None, nat_lt, if◌then◌else◌, refl, sym, ap, ◌∙◌, arith, true≢false}
 use Rattle.std.specs.Prelude.{Contains, flat_map, pos, negsuc}
 use Rattle.lemmas.proofs.Contains.{contains_cases, contains_head, contains_none, contains_tail}
 use Rattle.tags.specs.declared.value.Value.{Value}
@@ -21,13 +21,6 @@ use Rattle.law_contexts.specs.Firings.{place_at, input_items}
 use Rattle.law_contexts.specs.Stands.{reads_cell, cell_to}
 
 -- LISTS
-pub total_one : {X : Type 0} (f : X → ℕ) (xs : List X) (x : X) → Contains xs x → f x ≤ total f xs
-total_one f [] x c = absurd (contains_none x c)
-total_one f (y ∷ xs) x c = pick (contains_cases y xs x c) (total_one f xs x)
-  where
-    pick : (y ≡ x) ⊎ Contains xs x → (Contains xs x → f x ≤ total f xs) → f x ≤ total f (y ∷ xs)
-    pick (inl e) more = let k = ap f e in omega (arith, k)
-    pick (inr d) more = let m = more d in omega (arith, m)
 
 pub one_of : {X : Type 0} (x y : X) → Contains (x ∷ []) y → y ≡ x
 one_of x y c = pick (contains_cases x [] y c)

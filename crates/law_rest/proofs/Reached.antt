@@ -20,7 +20,7 @@ use Rattle.law_contexts.specs.Laws.{spot_there, maker_of}
 use Rattle.law_contexts.specs.Stands.{Past, is_held}
 use Rattle.law_contexts.specs.Theorem.{IsGood}
 use Rattle.law_contexts.specs.Packages.{Keeps, InputsFit}
-use Rattle.law_arms.proofs.Sames.{same_context-true}
+use Rattle.law_contexts.proofs.Sames.{same_context-true}
 use Rattle.law_arms.proofs.Sends.{gives_by, first_taken, takes_first, first_context}
 use Rattle.law_arms.proofs.Nets.{taken_in}
 use Rattle.law_over.specs.Over.{is_turning, IsDecided, IsOpen}

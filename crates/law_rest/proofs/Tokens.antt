@@ -22,7 +22,7 @@ use Rattle.law_contexts.specs.Stands.{Past, is_held}
 use Rattle.law_contexts.specs.Theorem.{IsGood}
 use Rattle.law_contexts.specs.Packages.{Keeps, InputsFit}
 use Rattle.law_contexts.proofs.Words.{holds_of}
-use Rattle.law_arms.proofs.Sames.{spot_is}
+use Rattle.law_contexts.proofs.Sames.{spot_is}
 use Rattle.law_arms.proofs.Sends.{takes_right}
 use Rattle.law_arms.proofs.Nets.{taken_in}
 use Rattle.law_arms.proofs.Invoked.{strict_call}

@@ -24,10 +24,11 @@ use Rattle.law_contexts.specs.Wires.{comes_at}
 use Rattle.law_contexts.specs.Credits.{waits_or}
 use Rattle.law_contexts.specs.Firings.{takes, own_takes, renewed, request_of, given_back, arguments_from, left_item, right_way, times, turn_before, HasFired}
 use Rattle.law_contexts.specs.Laws.{spot_there, port_fits, Carries}
-use Rattle.law_contexts.specs.Stands.{Past, cont_in, frame_of, word_of, slot_of, in_slot, on_side, is_asked, is_held, only, conts_of, first_cont, is_item_at, token_of, granted_of}
+use Rattle.law_contexts.specs.Stands.{Past, cont_in, frame_of, word_of, slot_of, in_slot, on_side, is_asked, is_held, only, conts_of, is_item_at, token_of, granted_of}
 use Rattle.law_contexts.specs.Theorem.{IsGood}
 use Rattle.law_contexts.specs.Packages.{Keeps, InputsFit}
 use Rattle.law_contexts.proofs.Words.{carries_of}
+use Rattle.law_contexts.proofs.Blocks.{first_cont_some}
 use Rattle.law_arms.proofs.Nets.{only_has, flat_contains}
 use Rattle.law_arms.proofs.Pigeons.{item_here}
 use Rattle.law_arms.proofs.Opened.{NTaker}
@@ -96,10 +97,6 @@ module _ (fl : Flow) (h : Firing) (i : Item) where
       pick (inl d) = owned h.part refl d
       pick (inr d) = anew h.part refl d
 
-first_some : (cs : List Cont) (c : Cont) → Contains cs c → (d : Cont) × (first_cont cs ≡ Some d)
-first_some [] c h = absurd (contains_none c h)
-first_some (d ∷ cs) c h = (d, refl)
-
 in_waiter : (t : Bool) (D : SlotState) (o : Option Cont) (d : Cont) (s : SlotState) → t ≡ false → o ≡ Some d → (if t then D else waits_or o s) ≡ Waiter d
 in_waiter true D o d s e f = absurd (true≢false e)
 in_waiter false D o d s e f = ap (λ (o : Option Cont). waits_or o s) f
@@ -161,7 +158,7 @@ module _ (stage : ℕ) (fl : Flow) (p : Plan) (w : Wires) (inputs : List ℤ) (p
       let opened = near_opened stage fl p w inputs past m good kept i.context con n loop i (stood_of i c) (NTaker refl e) in
       let law = keeps stage fl p w inputs past m good kept i.context con n loop in
       let back : i.word ≡ BackTo (turn_before i.context n i.inlet.way) (inlet NextFramer Left 0) = subst (λ (r : Part). Carries fl w i.context i.inlet.way (comes_at r i.inlet.port) i.word) e (carries i (stood_of i c)) in
-      let (d, first) = first_some (conts_of fl p w done (only (is_item_at i.context (Taker n)) kept.follows.net.waiting)) _ (conts_has (is_item_at i.context (Taker n)) i _ c (item_here i.context (Taker n) i refl e) (ap (λ (k : Note). cont_in (word_of fl p w done k)) back)) in
+      let (d, first) = first_cont_some (conts_of fl p w done (only (is_item_at i.context (Taker n)) kept.follows.net.waiting)) _ (conts_has (is_item_at i.context (Taker n)) i _ c (item_here i.context (Taker n) i refl e) (ap (λ (k : Note). cont_in (word_of fl p w done k)) back)) in
       let way = law.takes i (left_of i c) refl e in
       let over : nat_lt 0 (times i.context (Drained n) done) ≡ false = le-ltb 0 (times i.context (Drained n) done) (none_over con loop opened way (cases_eq (times i.context (Drained n) done) 0)) in
       let draining = (law.law.waits d first).1 in

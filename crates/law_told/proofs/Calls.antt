@@ -23,16 +23,12 @@ use Rattle.law_contexts.specs.Wires.{IsWiredCode, has_port}
 use Rattle.law_contexts.specs.Firings.{takes, makes, memory_of, arguments_from}
 use Rattle.law_contexts.specs.Laws.{is_main}
 use Rattle.law_contexts.specs.Operands.{HaveOperands}
+use Rattle.law_contexts.proofs.Blocks.{is_main_true}
 use Rattle.law_told.proofs.Acts.{Acts, same, stays, follow, acts, says_acts, fires_deed, passes_deed}
 use Rattle.law_told.proofs.Settles.{sends_settled}
 use Rattle.law_told.proofs.Words.{none_told}
 use Rattle.law_told.proofs.Nodes.{kind_is, kind_of, exit_of, goes, leaves, Sent}
 use Rattle.law_told.proofs.Control.{block_is, landed_call, landed_loop, along_none}
-
-main_is : (c : Context) → is_main c ≡ true → c ≡ Main
-main_is Main e = refl
-main_is (Called c n) e = absurd (true≢false (sym e))
-main_is (Turned c n i) e = absurd (true≢false (sym e))
 
 module _ (fl : Flow) (p : Plan) (w : Wires) (operands : HaveOperands fl) (f : Firing) (fired' : List Firing) (ctx : IsContext fl f.context) (Here : Context → Type 0) (here : Here f.context)
     (code : IsWiredCode fl p w.variant Here (site_in fl w f.context) (wiring_in fl w f.context)) where
@@ -61,7 +57,7 @@ module _ (fl : Flow) (p : Plan) (w : Wires) (operands : HaveOperands fl) (f : Fi
   -- RESULTS OF MAIN
   pub shown : (j : ℕ) (v : Value) (k : Note) → is_main c ≡ true → IsToldBy (Shown j) (Datum v) k
   shown j v k main =
-      let e : tagged c (AtOut j) (Operand 0) v ∷ [] ≡ taken (Outputs j v) = ap (λ (d : Context). tagged d (AtOut j) (Operand 0) v ∷ []) (main_is c main) in
+      let e : tagged c (AtOut j) (Operand 0) v ∷ [] ≡ taken (Outputs j v) = ap (λ (d : Context). tagged d (AtOut j) (Operand 0) v ∷ []) (is_main_true c main) in
       acts fl (Outputs j v) (tagged c (AtOut j) (Operand 0) v ∷ []) [] [] mem (with_output mem j v) (permutation_same _ _ e) refl (IsPermutation-refl [])
 
   -- WHAT LANDS

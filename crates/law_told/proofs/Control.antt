@@ -14,20 +14,15 @@ use Rattle.semantics.specs.Meaning.{Context, Main, Called, Turned, tagged, AtOut
 use Rattle.semantics.specs.Cause.{is_turn}
 use Rattle.law_contexts.specs.Parts.{Part, Entry, Line, Trigger, Opener, Fanned, Linker, CallDone, Taker, Drainer, LoopDone, Strict, Result, TurnCont, TurnFlag, Asker, NextFramer, NextFanned, NextSender, LastReturn, DrainReturn, Join, CondEnd, End, Asked, NextAsked, Drained, Done, Freed, Inlet, inlet, Note, Datum, FrameOf, BackTo, ToHost, signal, Item, item, each, Firing}
 use Rattle.law_contexts.specs.Blocks.{side, there_in, is_kind, is_call, is_loop, call_kind, loop_kind}
-use Rattle.law_contexts.specs.Contexts.{Wires, block_in, site_in, wiring_in, or_none, HasBlock, IsContext, next}
+use Rattle.law_contexts.specs.Contexts.{Wires, block_in, site_in, wiring_in, or_none, IsContext, next}
 use Rattle.law_contexts.specs.Told.{told, told_at, settled_sent, landed, landed_kind}
 use Rattle.law_contexts.specs.Wires.{IsWiredCode, IsSilent}
 use Rattle.law_contexts.specs.Firings.{takes, makes, memory_of, switched, sent_word, given_back, result_back, drain_back, end_back, credit_asked}
 use Rattle.law_contexts.specs.Operands.{HaveOperands}
+use Rattle.law_contexts.proofs.Blocks.{has_block}
 use Rattle.law_told.proofs.Acts.{Acts, same}
 use Rattle.law_told.proofs.Words.{none_told, IsExit}
 use Rattle.law_told.proofs.Nodes.{kind_is, silent_part}
-
--- the block of a context
-pub has_block : (fl : Flow) (c : Context) → IsContext fl c → HasBlock fl c
-has_block fl Main h = h
-has_block fl (Called c n) h = h.2
-has_block fl (Turned c n i) h = h.2
 
 pub block_is : (fl : Flow) (c : Context) → IsContext fl c → block_of fl c ≡ Some (block_in fl c)
 block_is fl c h = let k = has_block fl c h in k.1 ∙ ap (λ b. Some b) (sym (ap or_none k.1))

@@ -16,14 +16,14 @@ use Rattle.law_determinacy.proofs.Keys.{Differ}
 use Rattle.law_determinacy.proofs.Due.{ever_stood}
 use Rattle.law_determinacy.proofs.Grounds.{class_line}
 use Rattle.law_determinacy.proofs.Laws.{ArmLaw}
-use Rattle.law_determinacy.proofs.Rows.{Telling, Gate, Join, class_of, class_in, class_at, region_node}
+use Rattle.law_determinacy.proofs.Rows.{Telling, Gate, Join, class_of, class_in, class_at, region_node, region_is_arm}
 use Rattle.law_determinacy.proofs.Uses.{UseOf, AsOperand, AsResult, AsFlag, AsCarried, IsTurned}
 use Rattle.law_values.proofs.GraphForms.{HasForm, InRegion}
 use Rattle.law_values.proofs.RunRested.{Rested, Came, IsDueIn, RegionTaken}
 use Rattle.law_values.proofs.RunUses.{Ends, operand_came, carried_came, flag_came, operand_within}
 use Rattle.law_values.proofs.GraphForms.{line_past}
 use Rattle.law_values.proofs.RunOrigins.{Used, Entering, Told, origin, source_found}
-use Rattle.law_values.proofs.RunRegions.{block_shaped, arm_region, taken_in, arm_taken, round_at}
+use Rattle.law_values.proofs.RunRegions.{block_shaped, taken_in, arm_taken, round_at}
 use Rattle.law_values.proofs.ProgressNodes.{IsTogether, operands, operands_stand, line_fired, input_fires, passes_line}
 use Rattle.law_values.proofs.ProgressInvocations.{AllGiven, result_given, all_given, predicate_came, gate_happens, invoked_block}
 use Rattle.law_values.proofs.ProgressDues.{due_open, sources_given, line_in}
@@ -118,7 +118,7 @@ module _ (z : Rested) where
           (λ l.
           let lines = same_Some l.0 line (sym l.2 ∙ ap (λ (b : Block ℕ). node_at b m) bs ∙ el) in
           let from = same_Some l.1 s (sym l.3 ∙ ap (λ (n : Node ℕ). slice_get n.sources i) lines ∙ ei) in
-          let at = ap₂ (λ (b : Block ℕ) (s : Source). region_node (node_at b s.node)) bs from ∙ arm_region (node_at b s.node) ∙ f.1.3 i s ei in
+          let at = ap₂ (λ (b : Block ℕ) (s : Source). region_node (node_at b s.node)) bs from ∙ region_is_arm (node_at b s.node) ∙ f.1.3 i s ei in
           let arm : ArmLaw (Came z) c (arm_of (node_at b k)) = subst (λ r. ArmLaw (Came z) c r) at l.4 in
           let round = arm_taken z c b eb (node_count b) (arm_of (node_at b k)) (λ j t e. (round_at z c b eb k j t e).1) arm in
           let ran = gate_consumes c b m k f.1.1 line eb el f.1.2 kind (z.due x h) round in

@@ -13,13 +13,13 @@ use Rattle.semantics.specs.Meaning.{Context, Called, Turned, AtNode, AtOut, AtTu
 use Rattle.law_determinacy.specs.Outcome.{SameTag}
 use Rattle.lemmas.proofs.Permutations.{Within, Each, each_from, within_left, within_flat_map, within_from, put_first}
 use Rattle.law_determinacy.proofs.Keys.{same_activity}
-use Rattle.law_determinacy.proofs.Rows.{Class, Plain, Telling, Gate, Join, Calling, Strict, Looping, Absent, class_of, class_node, class_in, class_at, region_node, region_at, Row, RowFires, RowTells, RowGates, RowQuiet, RowMerges, RowCalls, RowStrict, RowLoops, RowReturns, RowAgain, RowLeaves, rows}
+use Rattle.law_determinacy.proofs.Rows.{Class, Plain, Telling, Gate, Join, Calling, Strict, Looping, Absent, class_of, class_node, class_in, class_at, region_node, region_at, Row, RowFires, RowTells, RowGates, RowQuiet, RowMerges, RowCalls, RowStrict, RowLoops, RowReturns, RowAgain, RowLeaves, rows, region_is_arm}
 use Rattle.law_values.specs.Given.{SaysIn}
 use Rattle.law_values.proofs.GraphForms.{IsCondAt, HasForm}
 use Rattle.law_values.proofs.RunRested.{Rested, Came, GivesIn, IsDueIn, took, one, one_at}
 use Rattle.law_determinacy.proofs.Laws.{ArmLaw}
 use Rattle.law_values.proofs.GraphForms.{line_past}
-use Rattle.law_values.proofs.RunRegions.{block_shaped, arm_region}
+use Rattle.law_values.proofs.RunRegions.{block_shaped}
 use Rattle.law_values.proofs.RunOrigins.{says_speaks, took_all}
 use Rattle.law_values.proofs.ProgressInvocations.{merge_form}
 
@@ -157,7 +157,7 @@ module _ (z : Rested) where
       (λ l.
       let lines = same_Some l.0 line (sym l.2 ∙ ap (λ (b : Block ℕ). node_at b n) blocks ∙ el) in
       let es : slice_get (f.0 ∷ f.1 ∷ []) i ≡ Some l.1 = ap (λ ss. slice_get ss i) (sym f.2) ∙ ap (λ (l : Node ℕ). slice_get l.sources i) (sym lines) ∙ l.3 in
-      go f.0 f.1 f.5 f.6 i l.1 es f.3 (subst (λ r. ArmLaw (Came z) c r) (ap (λ (b : Block ℕ). region_node (node_at b l.1.node)) blocks ∙ arm_region (node_at b l.1.node)) l.4))
+      go f.0 f.1 f.5 f.6 i l.1 es f.3 (subst (λ r. ArmLaw (Came z) c r) (ap (λ (b : Block ℕ). region_node (node_at b l.1.node)) blocks ∙ region_is_arm (node_at b l.1.node)) l.4))
       law.2
     where
       side_is : (q : Value) (side : Bool) → truth q ≡ side → place_of_side side ≡ place_of_side (truth q)

@@ -13,9 +13,10 @@ use Rattle.semantics.specs.Graph.{Node, Block, Flow, node_at}
 use Rattle.law_net.specs.Roles.{one}
 use Rattle.law_contexts.specs.Parts.{Opener, Framer, Fanned, Linker, Landing, Giver, Drainer, LoopDone, Asker, NextFramer, NextFanned, TurnCont, TurnFlag, Entry, NextSender, DrainReturn}
 use Rattle.law_contexts.specs.Blocks.{Side, side, Site, is_kind, call_kind, loop_kind}
+use Rattle.law_contexts.proofs.Sames.{same_part-refl}
 use Rattle.law_wires.specs.Written.{Wire, wire, same_side, same_bool, along, inlet_of, leaves, trigger_side, meet_wires, sender_wires, strict_wires, strict_end, strict_call_wires, invoke_wires, kind_wires, node_wires, value_wires, next_wires, last_wires, turn_wires, tail_wires, inner_wires, wires_in}
 use Rattle.law_wires.specs.Fit.{Takes, IsFit}
-use Rattle.law_wires.proofs.Laid.{Env, goes, dest, same_part_self}
+use Rattle.law_wires.proofs.Laid.{Env, goes, dest}
 use Rattle.law_wires.proofs.Arcs.{invoke_arcs, strict_call_arcs, credit_arcs, kind_arcs, node_arcs, turn_arcs, tail_arcs, inner_arcs, wires_with, arcs_in}
 use Rattle.law_wires.proofs.ArcsSame.{wires_split}
 
@@ -45,7 +46,7 @@ no_size b t (w ∷ ws) h = go (same_side t w.from) h (no_size b t ws)
     go false h more = more (omega (arith, h))
 
 side_self : (t : Side) → same_side t t ≡ true
-side_self t = ap (λ x. x && same_bool t.second t.second) (same_part_self t.part) ∙ both t.second
+side_self t = ap (λ x. x && same_bool t.second t.second) (same_part-refl t.part) ∙ both t.second
   where
     both : (s : Bool) → same_bool s s ≡ true
     both true = refl

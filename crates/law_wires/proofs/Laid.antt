@@ -1,9 +1,8 @@
 -- A builder's instructions stand as the parts of a list, with destinations as the wires of a list: how each step adds to both.
-use Rattle.std.proofs.Common.{◌≡◌, ◌≢◌, ℕ, suc, ◌+◌, ◌-◌, ◌<◌, ◌≤◌, ◌⊎◌, inl, inr, Bool, true, false, ◌&&◌, List, [], ◌∷◌, ◌++◌, length, refl, sym, ap, ◌∙◌, subst, arith, append-nil, append_assoc, if◌then◌else◌, Some, ◌==◌}
+use Rattle.std.proofs.Common.{◌≡◌, ◌≢◌, ℕ, suc, ◌+◌, ◌-◌, ◌<◌, ◌≤◌, ◌⊎◌, inl, inr, Bool, true, false, ◌&&◌, List, [], ◌∷◌, ◌++◌, length, refl, sym, ap, ◌∙◌, subst, arith, append-nil, append_assoc, if◌then◌else◌, Some}
 use Rattle.std.specs.Prelude.{slice_get, slice_index_or, ⊤}
 use Rattle.std.proofs.lemmas.Bool.{and_parts}
 use Rattle.std.proofs.lemmas.Option.{slice_get_within, same_Some}
-use Rattle.lemmas.proofs.Bools.{equal_itself}
 use Rattle.tags.specs.declared.value.Origin.{Origin}
 use Rattle.tags.specs.declared.value.Origin.TheVariants.{Untold}
 use Rattle.tags.specs.declared.token.Port.TheVariants.{Left, Right}
@@ -22,9 +21,10 @@ use Rattle.expansion.specs.Builds.{Build, bare, slot_in, added, quieted, connect
 use Rattle.law_expansion.proofs.ArcsLists.{get_push, length_push, length_linked, get_linked, index_old, index_new}
 use Rattle.law_expansion.proofs.ArcsKept.{split}
 use Rattle.law_expansion.proofs.FactsCodes.{get_left}
-use Rattle.law_contexts.specs.Parts.{Part, Trigger, Gate, TurnCont, TurnFlag, TurnValue, Asker, NextFramer, NextFanned, same_part, part_key}
+use Rattle.law_contexts.specs.Parts.{Part, Trigger, Gate, TurnCont, TurnFlag, TurnValue, Asker, NextFramer, NextFanned, same_part}
 use Rattle.law_contexts.specs.Blocks as Blocks
 use Rattle.law_contexts.specs.Blocks.{Side, side, Site, op_of, origin_of, is_kind, cond_kind}
+use Rattle.law_contexts.proofs.Sames.{same_part-refl}
 use Rattle.law_wires.specs.Written.{Wire, wire, same_side, same_bool, leaves, leaves_at, is_triggered, trigger_side}
 use Rattle.law_wires.specs.Fit.{ComesBefore, port_count}
 
@@ -78,14 +78,6 @@ other_part e r s u ne = go (same_side (side r s) u) refl
     go : (x : Bool) → same_side (side r s) u ≡ x → x ≡ false
     go true h = absurd (ne (e.apart r u.part (and_parts (same_part r u.part) (same_bool s u.second) h).0))
     go false h = refl
-
-pub same_part_self : (r : Part) → same_part r r ≡ true
-same_part_self r =
-    let k = part_key r in
-    let a = equal_itself k.kind in
-    let b = equal_itself k.first in
-    let c = equal_itself k.second in
-    ap (λ x. x && ((k.first == k.first) && (k.second == k.second))) a ∙ ap (λ x. x && (k.second == k.second)) b ∙ c
 
 -- all wires leave below a place
 abbrev pub Below : Env → ℕ → List Wire → Type 0
@@ -188,7 +180,7 @@ with_it e ws w j s d p q h = go s d p q
     r = w.from.part
 
     self : (t : Bool) → same_side (side r t) w.from ≡ same_bool t w.from.second
-    self t = ap (λ x. x && same_bool t w.from.second) (same_part_self r)
+    self t = ap (λ x. x && same_bool t w.from.second) (same_part-refl r)
 
     here : (t : Bool) → same_bool t w.from.second ≡ true → goes e (side r t) (ws ++ w ∷ []) ≡ goes e (side r t) ws ++ dest e w ∷ []
     here t f = this_side e (side r t) ws w (self t ∙ f)

@@ -13,10 +13,10 @@ use Rattle.law_net.specs.Roles.{one}
 use Rattle.law_contexts.specs.Parts.{Part, Inlet, same_part}
 use Rattle.law_contexts.specs.Blocks.{Side, side, leaves_in, is_switch}
 use Rattle.law_contexts.specs.Wires.{is_side, has_no_wire}
+use Rattle.law_contexts.proofs.Sames.{same_part-true, same_part-refl}
 use Rattle.law_wires.specs.Written.{Wire, wire, along, inlet_of, same_side, same_bool, sides_of, sides, open_of, is_open, in_region}
-use Rattle.law_wires.proofs.Same.{same_is, side_is}
+use Rattle.law_wires.proofs.Same.{side_is}
 use Rattle.law_wires.proofs.Counts.{tally}
-use Rattle.law_wires.proofs.Laid.{same_part_self}
 use Rattle.law_wires.proofs.There.{region_self}
 
 -- SAMENESS
@@ -25,7 +25,7 @@ bool_self true = refl
 bool_self false = refl
 
 pub side_self : (t : Side) → same_side t t ≡ true
-side_self t = ap (λ x. x && same_bool t.second t.second) (same_part_self t.part) ∙ bool_self t.second
+side_self t = ap (λ x. x && same_bool t.second t.second) (same_part-refl t.part) ∙ bool_self t.second
 
 no_false : (s : Bool) → (s && false) ≡ true → ⊥
 no_false true h = cc
@@ -158,7 +158,7 @@ side_in t [] l h o = absurd (omega (arith, l))
 side_in t (x ∷ xs) l h o = go (same_part t.part x) refl l (λ m. side_in t xs m h o)
   where
     go : (q : Bool) → same_part t.part x ≡ q → 0 < one q + tally (same_part t.part) xs → (0 < tally (same_part t.part) xs → In t (sides xs)) → In t (sides (x ∷ xs))
-    go true e l more = in_left t (sides_of x) (sides xs) (subst (λ r. In t (sides_of r)) (same_is t.part x e) (sides_self t h o))
+    go true e l more = in_left t (sides_of x) (sides xs) (subst (λ r. In t (sides_of r)) (same_part-true t.part x e) (sides_self t h o))
     go false e l more = in_right t (sides_of x) (sides xs) (more (omega (arith, l)))
 
 -- a side of a list of parts is a side of one of them, which sends along wires

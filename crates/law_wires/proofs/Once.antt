@@ -11,9 +11,9 @@ use Rattle.law_contexts.specs.Parts as Parts
 use Rattle.law_contexts.specs.Parts.{Part, Entry, Line, Answer, Trigger, Gate, Opener, Framer, Fanned, Linker, Sender, Landing, CallDone, Giver, Taker, Drainer, LoopDone, Strict, Result, Join, CondEnd, same_part}
 use Rattle.law_contexts.specs.Blocks.{Site, Wiring, there_in, is_kind, cond_kind, cell_kind, plain_kind}
 use Rattle.law_contexts.specs.Expanded.{has_part, place_from}
+use Rattle.law_contexts.proofs.Sames.{same_part-refl}
 use Rattle.law_wires.specs.Written.{is_shared, is_triggered, parts_in}
 use Rattle.law_wires.specs.Fit.{IsFit}
-use Rattle.law_wires.proofs.Laid.{same_part_self}
 use Rattle.law_wires.proofs.Standing.{Stand}
 use Rattle.law_wires.proofs.Counts.{tally, count_is, tally_both, row_none, row_below}
 use Rattle.law_wires.proofs.Parts.{other_number, number_of, of_node, kind_has, has_node, node_count_is, no_nodes}
@@ -176,7 +176,7 @@ module _ (fl : Flow) (T : Site) (is : List Instr) (fit : IsFit fl T.block) where
 
   -- IN ITS PLACE
   found : (r : Part) (n : ℕ) (xs ys : List Part) → tally (same_part r) xs ≡ 0 → place_from r n (xs ++ r ∷ ys) ≡ n + length xs
-  found r n [] ys h = ap (λ t. if t then n else place_from r (n + 1) ys) (same_part_self r) ∙ omega arith
+  found r n [] ys h = ap (λ t. if t then n else place_from r (n + 1) ys) (same_part-refl r) ∙ omega arith
   found r n (x ∷ xs) ys h = go (same_part r x) refl (λ k. found r (n + 1) xs ys k)
     where
       go : (t : Bool) → same_part r x ≡ t → (tally (same_part r) xs ≡ 0 → place_from r (n + 1) (xs ++ r ∷ ys) ≡ (n + 1) + length xs) → (if t then n else place_from r (n + 1) (xs ++ r ∷ ys)) ≡ n + suc (length xs)
@@ -188,7 +188,7 @@ module _ (fl : Flow) (T : Site) (is : List Instr) (fit : IsFit fl T.block) where
   stands_from xs (y ∷ ys) h =
       let a = h y in
       let c = tally_both (same_part y) xs (y ∷ ys) in
-      let d = ap one (same_part_self y) in
+      let d = ap one (same_part-refl y) in
       let here = found y 0 xs ys (omega (arith, a, c, d)) in
       let assoc : (xs ++ y ∷ []) ++ ys ≡ xs ++ y ∷ ys = append_assoc xs (y ∷ []) ys in
       let long : length (xs ++ y ∷ []) ≡ suc (length xs) = length_push xs y in

@@ -10,9 +10,10 @@ use Rattle.law_contexts.specs.Parts.{Part, Entry, Inlet, inlet, same_part}
 use Rattle.law_contexts.specs.Blocks.{Side, Wiring, leaves_in}
 use Rattle.law_contexts.specs.Wires.{leads_to, stands_at}
 use Rattle.law_contexts.specs.Expanded.{place_from, inlet_by, way_in}
+use Rattle.law_contexts.proofs.Sames.{same_part-true, same_part-refl}
 use Rattle.law_wires.specs.Written.{Wire, along, inlet_of, same_side}
-use Rattle.law_wires.proofs.Same.{same_is, side_is}
-use Rattle.law_wires.proofs.Laid.{Env, goes, dest, same_part_self}
+use Rattle.law_wires.proofs.Same.{side_is}
+use Rattle.law_wires.proofs.Laid.{Env, goes, dest}
 use Rattle.law_wires.proofs.Standing.{Stand}
 use Rattle.law_wires.proofs.Counts.{tally}
 
@@ -30,7 +31,7 @@ at_place r n k [] e l = absurd (omega (arith, l))
 at_place r n zero (x ∷ xs) e l = go (same_part r x) refl e
   where
     go : (t : Bool) → same_part r x ≡ t → (if t then n else place_from r (n + 1) xs) ≡ n + 0 → Some x ≡ Some r
-    go true f e = ap (λ y. Some y) (sym (same_is r x f))
+    go true f e = ap (λ y. Some y) (sym (same_part-true r x f))
     go false f e = let h = place_least r (n + 1) xs in absurd (omega (arith, h, e))
 at_place r n (suc k) (x ∷ xs) e l = go (same_part r x) e (λ f. at_place r (n + 1) k xs f (omega (arith, l)))
   where
@@ -48,7 +49,7 @@ place_bounded r n (x ∷ xs) h = go (same_part r x) h (place_bounded r (n + 1) x
 
 pub tally_there : (r : Part) (n : ℕ) (xs : List Part) → slice_get xs n ≡ Some r → 0 < tally (same_part r) xs
 tally_there r n [] e = absurd (cc)
-tally_there r zero (x ∷ xs) e = let same : x ≡ r = cc in let o : one (same_part r x) ≡ 1 = ap (λ y. one (same_part r y)) same ∙ ap one (same_part_self r) in omega (arith, o)
+tally_there r zero (x ∷ xs) e = let same : x ≡ r = cc in let o : one (same_part r x) ≡ 1 = ap (λ y. one (same_part r y)) same ∙ ap one (same_part-refl r) in omega (arith, o)
 tally_there r (suc n) (x ∷ xs) e = let h = tally_there r n xs e in omega (arith, h)
 
 pub index_is : {X : Type 0} (xs : List X) (n : ℕ) (x d : X) → slice_get xs n ≡ Some x → slice_index_or xs n d ≡ x

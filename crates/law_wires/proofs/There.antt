@@ -14,11 +14,11 @@ use Rattle.law_contexts.specs.Parts as Parts
 use Rattle.law_contexts.specs.Parts.{Part, Entry, Line, Answer, Trigger, Gate, Opener, Framer, Fanned, Linker, Sender, Landing, CallDone, Giver, Taker, Drainer, LoopDone, Strict, Result, TurnCont, TurnFlag, TurnValue, Asker, NextFramer, NextFanned, NextSender, LastReturn, DrainReturn, Join, CondEnd, same_part, region_key}
 use Rattle.law_contexts.specs.Blocks.{Side, Site, Wiring, there_in, is_kind, cond_kind}
 use Rattle.law_contexts.specs.Expanded.{row, turn_parts, is_join_of, wiring_of}
+use Rattle.law_contexts.proofs.Sames.{same_part-true}
 use Rattle.law_wires.specs.Written as Written
 use Rattle.law_wires.specs.Written.{node_parts, tail_parts, inner_parts, close_flag, joined_parts, cond_parts, Ended, arm_ends, inner, root_ends, parts_in}
 use Rattle.law_wires.proofs.Standing.{row_length}
 use Rattle.law_wires.proofs.Counts.{tally, tally_both, count_is, row_none, row_all, row_below, closing_parts, before_close, closes_none, closes_one, all_parts, inner_counts}
-use Rattle.law_wires.proofs.Same.{same_is}
 use Rattle.law_wires.proofs.Parts.{Misses, other_number, joins_none, conds_none, number_of, of_node, closing_counts, closing_none, no_nodes, follow, node_within}
 
 -- REGIONS by their keys
@@ -77,7 +77,7 @@ misses_nodes x none j r h = go (same_part x r) refl
     go : (t : Bool) → same_part x r ≡ t → t ≡ false
     go false e = refl
     go true e =
-        let same : r ≡ x = sym (same_is x r e) in
+        let same : r ≡ x = sym (same_part-true x r e) in
         let no : of_node j r ≡ false = ap (of_node j) same ∙ ap (λ o. elim o as (λ y. Bool) [ None ↦ false | Some n ↦ n == j ]) none in
         absurd (cc)
 
@@ -107,7 +107,7 @@ misses_tail x none r h = go (same_part x r) refl
   where
     go : (t : Bool) → same_part x r ≡ t → t ≡ false
     go false e = refl
-    go true e = let same : is_tail x ≡ is_tail r = ap is_tail (same_is x r e) in absurd (cc)
+    go true e = let same : is_tail x ≡ is_tail r = ap is_tail (same_part-true x r e) in absurd (cc)
 
 pub join_misses_tail : (q : Region) → MissesTail (is_join_of q)
 join_misses_tail q (Join r i) h = absurd (cc)

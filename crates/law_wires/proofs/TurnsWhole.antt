@@ -17,13 +17,14 @@ use Rattle.law_contexts.specs.Blocks.{Wiring, is_loop, loop_kind}
 use Rattle.law_contexts.specs.Contexts.{Wires, IsContext, number_in, or_none, or_zero}
 use Rattle.law_contexts.specs.Wires.{plain_site, turn_site, FollowArms, GoesToUses, Runs}
 use Rattle.law_contexts.specs.Expanded.{CodesAreThere, wires_of}
+use Rattle.law_contexts.proofs.Blocks.{has_block}
 use Rattle.law_wires.specs.Fit.{IsFit}
 use Rattle.law_wires.specs.Halves.{IsWritten}
 use Rattle.law_wires.proofs.Counts.{tally, count_is}
 use Rattle.law_wires.proofs.Nodes.{node_some}
 use Rattle.law_wires.proofs.Turns.{turns_well}
 use Rattle.law_wires.proofs.Arms.{follows}
-use Rattle.law_wires.proofs.UsesWhole.{has_block, number_is, RunsNoTurn, goes_to_uses, GoesOn, site_goes_to_uses}
+use Rattle.law_wires.proofs.UsesWhole.{number_is, RunsNoTurn, goes_to_uses, GoesOn, site_goes_to_uses}
 use Rattle.law_wires.proofs.TurnValues.{turns_on}
 use Rattle.law_wires.proofs.TurnUses.{turn_told}
 

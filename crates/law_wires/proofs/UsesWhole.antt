@@ -11,10 +11,11 @@ use Rattle.semantics.specs.Meaning.{Context, Main, Called, Turned, AtOut, Operan
 use Rattle.semantics.proofs.Lines.{block_is_there}
 use Rattle.law_contexts.specs.Parts.{Line, Answer, TurnValue, NextSender, LastReturn, inlet}
 use Rattle.law_contexts.specs.Blocks.{side, Site, Wiring, there_in, is_kind, cell_kind, plain_kind, is_loop, exit, invokes, result_count}
-use Rattle.law_contexts.specs.Contexts.{Wires, IsContext, HasBlock, number_in, or_none, or_zero}
+use Rattle.law_contexts.specs.Contexts.{Wires, IsContext, number_in, or_none, or_zero}
 use Rattle.law_contexts.specs.Told.{settled_sent}
 use Rattle.law_contexts.specs.Wires.{plain_site, GoesToUses, Runs, told_along, has_port}
 use Rattle.law_contexts.specs.Theorem.{HasOnly}
+use Rattle.law_contexts.proofs.Blocks.{has_block}
 use Rattle.law_wires.specs.Written.{is_shared, along, leaves_at, wires_in}
 use Rattle.law_wires.specs.Fit.{IsFit}
 use Rattle.law_wires.specs.Halves.{IsWritten, WrittenGoesToUses}
@@ -83,10 +84,6 @@ module _ (fl : Flow) (s : Site) (fit : IsFit fl s.block) (w : Wiring) (h : IsWri
   }
 
 -- CONTEXTS. Each has a block, and none is a turn where there is no loop.
-pub has_block : (fl : Flow) (c : Context) → IsContext fl c → HasBlock fl c
-has_block fl Main h = h
-has_block fl (Called c n) h = h.2
-has_block fl (Turned c n i) h = h.2
 
 pub no_turn : (fl : Flow) → HasOnly 3 fl → (c : Context) (n i : ℕ) → IsContext fl (Turned c n i) → ⊥
 no_turn fl only c n i h =

@@ -15,9 +15,6 @@ use Rattle.mesh.proofs.Deeds.{created_more}
 abbrev Ts : Type 0
 Ts = List Token
 
-pub same_created : (ds ds' : List Deed) (d : Deed) (n : ℕ) → ds' ≡ ds ++ d ∷ [] → made_in d ≡ 0 → created ds ≡ n → created ds' ≡ n
-same_created ds ds' d n is none was = let more = created_more ds d in let same : created ds' ≡ created (ds ++ d ∷ []) = ap created is in omega arith
-
 pub more_created : (ds ds' : List Deed) (d : Deed) (n : ℕ) → ds' ≡ ds ++ d ∷ [] → created ds ≡ n → created ds' ≡ n + made_in d
 more_created ds ds' d n is was = let more = created_more ds d in let same : created ds' ≡ created (ds ++ d ∷ []) = ap created is in omega arith
 

@@ -13,7 +13,7 @@ use Rattle.law_net.proofs.Parts.{one-cases}
 use Rattle.law_contexts.specs.Parts.{Part, Entry, Line, Answer, Trigger, Gate, Merge, Opener, Framer, Fanned, Linker, Sender, Landing, CallDone, Giver, Taker, Drainer, LoopDone, Strict, Result, TurnCont, TurnFlag, TurnValue, Asker, NextFramer, NextFanned, NextSender, LastReturn, DrainReturn, Join, CondEnd, End, Asked, NextAsked, Held, Drained, Shown, Done, Freed, Inlet, Item, Key, region_key, part_key, same_key, same_part, same_port, same_inlet, same_context, Spot, spot_of, same_spot}
 
 -- PARTS, by their keys: the numbers tell all but a join's region
-region_apart : (r s : Region) → region_key r ≡ region_key s → r ≡ s
+pub region_apart : (r s : Region) → region_key r ≡ region_key s → r ≡ s
 region_apart Root Root e = refl
 region_apart Root (Arm m true) e = absurd (omega (arith, e))
 region_apart Root (Arm m false) e = absurd (omega (arith, e))
