@@ -1,12 +1,12 @@
 -- A word that is written is read again: operands, slots, destinations and origins.
-use Rattle.std.proofs.Common.{◌≡◌, ℕ, ◌+◌, ◌-◌, ◌^◌, ◌<◌, ◌≤◌, eqb, true, false, List, [], ◌∷◌, ◌++◌, length, get_or, take, Option, Some, None, Ok, ℤ, refl, sym, ap, ◌∙◌, arith}
+use Rattle.std.proofs.Common.{◌≡◌, ℕ, ◌+◌, ◌-◌, ◌^◌, ◌<◌, ◌≤◌, eqb, true, false, List, [], ◌∷◌, ◌++◌, length, get_or, Option, Some, None, Ok, ℤ, refl, sym, ap, ◌∙◌, arith}
 use Rattle.std.specs.Prelude.{⊤, codes, option_to_list}
 use Rattle.std.specs.Int.{w64}
 use Rattle.std.specs.Int.RustNames.{FitsSigned}
 use Rattle.std.specs.Fmt.{decimal}
 use Rattle.std.proofs.lemmas.Bool.{lt-ltb, eq-eqb}
-use Rattle.std.proofs.lemmas.List.{length-append, take_at, get_or-append-add}
 use Rattle.std.proofs.lemmas.List.Splits.{slice_split_none, slice_split_at}
+use Rattle.lemmas.proofs.Lists.{front_of, last_of}
 use Rattle.tags.specs.declared.token.Port.{Port}
 use Rattle.tags.specs.declared.token.Port.TheVariants.{Left, Right}
 use Rattle.tags.specs.declared.value.Origin.{Origin}
@@ -182,13 +182,6 @@ slot_again b i (ops.Drain k) few h = used_again i.slot (omega arith)
 slot_again b i (ops.Release o) few h = used_again i.slot (omega arith)
 
 -- ---- destinations
-last_of : (front : List ℕ) (c : ℕ) → get_or (front ++ c ∷ []) (length (front ++ c ∷ []) - 1) 0 ≡ c
-last_of front c =
-    let n : length (front ++ c ∷ []) - 1 ≡ length front + 0 = omega (arith, length-append front (c ∷ [])) in
-    ap (λ (i : ℕ). get_or (front ++ c ∷ []) i 0) n ∙ get_or-append-add front (c ∷ []) 0 0
-
-front_of : (front : List ℕ) (c : ℕ) → take (length (front ++ c ∷ []) - 1) (front ++ c ∷ []) ≡ front
-front_of front c = take_at front (c ∷ []) (length (front ++ c ∷ []) - 1) (omega (arith, length-append front (c ∷ [])))
 
 abbrev made_dest : ℕ → Port → Dest
 made_dest n port = record { ahead = n; port = port }

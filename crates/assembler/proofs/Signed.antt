@@ -7,6 +7,7 @@ use Rattle.std.specs.Ordering.{int_cmp}
 use Rattle.std.specs.Str.{bytes_eq}
 use Rattle.std.proofs.lemmas.List.Elements.{All-nil, All-push}
 use Rattle.std.proofs.lemmas.Map.Views.{All-insert_key}
+use Rattle.lemmas.proofs.Bools.{cond_cases}
 use Rattle.operators.specs.declared.Binary.{Binary}
 use Rattle.semantics.specs.declared.program.Op.{Op}
 use Rattle.semantics.specs.declared.program.Op.TheVariants as ops
@@ -35,7 +36,7 @@ use Rattle.assembler.specs.Assembling.{unless_refused, assembled}
 use Rattle.assembler.proofs.Spelled.{then_is, map_is}
 use Rattle.assembler.proofs.Taken.{ok_is, ok_or_is, made_instr, dests_from}
 use Rattle.assembler.proofs.Steps.{steps, text_stripped}
-use Rattle.assembler.proofs.Prefixes.{Lines, chosen, by_word, step_is, no_step}
+use Rattle.assembler.proofs.Prefixes.{Lines, by_word, step_is, no_step}
 use Rattle.assembler.proofs.Fitting.{has_object}
 use Rattle.assembler.proofs.Sound.{is_listing}
 
@@ -62,7 +63,7 @@ side_signed c w z e = let t = then_is (tagged c w) literal_behind z e in behind_
 none_signed : (op : Op) (w : List ℕ) (y : Op) → HasSigned op → no_operand op w ≡ Some y → HasSigned y
 unfolding no_operand
 none_signed op w y h e =
-    elim (chosen (bytes_eq w (codes "-")) (Some op) None (Some y) e) as (λ _. HasSigned y) [
+    elim (cond_cases (bytes_eq w (codes "-")) (Some op) None (Some y) e) as (λ _. HasSigned y) [
       | inl k ↦ (let same : op ≡ y = let q = k.1 in cc in subst HasSigned same h)
       | inr k ↦ absurd (let q = k.1 in cc)
     ]
@@ -75,7 +76,7 @@ sided_signed op None None y right left e = absurd cc
 binary_signed : (op : Binary) (w : List ℕ) (y : Op) → binary_from op w ≡ Some y → HasSigned y
 unfolding binary_from
 binary_signed op w y e =
-    elim (chosen (bytes_eq w (codes "-")) (Some (ops.Apply2 op)) (sided op (side_behind 114 w) (side_behind 108 w)) (Some y) e) as (λ _. HasSigned y) [
+    elim (cond_cases (bytes_eq w (codes "-")) (Some (ops.Apply2 op)) (sided op (side_behind 114 w) (side_behind 108 w)) (Some y) e) as (λ _. HasSigned y) [
       | inl k ↦ (let same : ops.Apply2 op ≡ y = let q = k.1 in cc in subst HasSigned same tt)
       | inr k ↦ sided_signed op (side_behind 114 w) (side_behind 108 w) y (λ z h. side_signed 114 w z h) (λ z h. side_signed 108 w z h) k.1
     ]
@@ -208,11 +209,11 @@ word_signed f p w ws s e h =
     let array = must (takes_array p) BadLine >>= λ may. array_line f ws in
     let table = must (takes_literal p) BadLine >>= λ may. literal_line f ws in
     let rest = cond (bytes_eq w (codes "literal")) table (other_line f p (w ∷ ws)) in
-    elim (chosen (bytes_eq w (codes "block")) (block_line f p ws) (cond (bytes_eq w (codes "array")) array rest) (Ok s) e) as (λ _. AllSigned s) [
+    elim (cond_cases (bytes_eq w (codes "block")) (block_line f p ws) (cond (bytes_eq w (codes "array")) array rest) (Ok s) e) as (λ _. AllSigned s) [
       | inl k ↦ block_signed f p ws s k.1 h
-      | inr k ↦ elim (chosen (bytes_eq w (codes "array")) array rest (Ok s) k.1) as (λ _. AllSigned s) [
+      | inr k ↦ elim (cond_cases (bytes_eq w (codes "array")) array rest (Ok s) k.1) as (λ _. AllSigned s) [
         | inl j ↦ array_signed f ws s (bind_ok (must (takes_array p) BadLine) (λ may. array_line f ws) s j.1).2 h
-        | inr j ↦ elim (chosen (bytes_eq w (codes "literal")) table (other_line f p (w ∷ ws)) (Ok s) j.1) as (λ _. AllSigned s) [
+        | inr j ↦ elim (cond_cases (bytes_eq w (codes "literal")) table (other_line f p (w ∷ ws)) (Ok s) j.1) as (λ _. AllSigned s) [
           | inl i ↦ table_signed f ws s (bind_ok (must (takes_literal p) BadLine) (λ may. literal_line f ws) s i.1).2 h
           | inr i ↦ other_signed f p (w ∷ ws) s i.1 h
         ]

@@ -1,12 +1,14 @@
 -- A word that is read is the word that is written.
-use Rattle.std.proofs.Common.{◌≡◌, ℕ, suc, ◌-◌, ◌<◌, eqb, ltb, Bool, true, false, cond, List, [], ◌∷◌, ◌++◌, length, get_or, take, Option, Some, None, ℤ, refl, sym, ap, subst, ◌∙◌, append_assoc, arith, inl, inr}
-use Rattle.std.specs.Prelude.{◌⊎◌, ⊤, codes, option_map, option_to_list}
+use Rattle.std.proofs.Common.{◌≡◌, ℕ, ◌-◌, ◌<◌, eqb, ltb, Bool, true, false, cond, List, [], ◌∷◌, ◌++◌, length, get_or, take, Option, Some, None, ℤ, refl, sym, ap, subst, ◌∙◌, append_assoc, arith, inl, inr}
+use Rattle.std.specs.Prelude.{⊤, codes, option_map, option_to_list}
 use Rattle.std.specs.Fmt.{decimal}
 use Rattle.std.specs.List.{join_with_byte}
 use Rattle.std.specs.Str.{bytes_eq}
 use Rattle.std.proofs.lemmas.Bool.{eqb-true, ltb-true}
 use Rattle.std.proofs.lemmas.List.Splits.{join_with_byte-slice_split}
 use Rattle.std.proofs.lemmas.Slice.Eq.{bytes_eq-Decides}
+use Rattle.lemmas.proofs.Bools.{cond_cases}
+use Rattle.lemmas.proofs.Lists.{front_and_last}
 use Rattle.tags.specs.declared.token.Port.{Port}
 use Rattle.tags.specs.declared.token.Port.TheVariants.{Left, Right}
 use Rattle.tags.specs.declared.value.Origin.{Origin}
@@ -31,9 +33,6 @@ use Rattle.semantics.specs.Opcodes as Opcodes
 use Rattle.assembler.specs.Fields.{then_some, tagged, below, small_of, wide_of, small_behind, wide_behind, literal_behind, side_behind, no_operand, sided, binary_from, pair_of, entry_parts, entry_of, entry_behind, op_of, slot_from, dest_to, dest_parts, dest_behind, dest_of, node_of, place_of, place_parts, place_in, origin_of}
 
 -- ---- small parts
-chosen : {A : Type 0} (b : Bool) (x y z : A) → cond b x y ≡ z → ((b ≡ true) × (x ≡ z)) ⊎ ((b ≡ false) × (y ≡ z))
-chosen true x y z e = inl (refl, e)
-chosen false x y z e = inr (refl, e)
 
 pub then_is : {A B : Type 0} (o : Option A) (f : A → Option B) (y : B) → then_some o f ≡ Some y → (x : A) × (o ≡ Some x) × (f x ≡ Some y)
 then_is None f y e = absurd cc
@@ -109,7 +108,7 @@ Says n w op = (opcode_word n ≡ Opcodes.op_word op) × (w ≡ operand_text op)
 no_operand_is : (n : Opcode) (op : Op) (w : List ℕ) (y : Op) → opcode_word n ≡ Opcodes.op_word op → operand_text op ≡ codes "-" → no_operand op w ≡ Some y → Says n w y
 unfolding no_operand
 no_operand_is n op w y name none e =
-    elim (chosen (bytes_eq w (codes "-")) (Some op) None (Some y) e) as (λ _. Says n w y) [
+    elim (cond_cases (bytes_eq w (codes "-")) (Some op) None (Some y) e) as (λ _. Says n w y) [
       | inl h ↦
           let k : op ≡ y = let q = h.1 in cc in
           subst (Says n w) k (name, (bytes_eq-Decides w (codes "-")).0 h.0 ∙ sym none)
@@ -124,7 +123,7 @@ sided_is op w None None y right left e = absurd cc
 binary_is : (op : Binary) (w : List ℕ) (y : Op) → binary_from op w ≡ Some y → Says (Apply2 op) w y
 unfolding binary_from
 binary_is op w y e =
-    elim (chosen (bytes_eq w (codes "-")) (Some (ops.Apply2 op)) (sided op (side_behind 114 w) (side_behind 108 w)) (Some y) e) as (λ _. Says (Apply2 op) w y) [
+    elim (cond_cases (bytes_eq w (codes "-")) (Some (ops.Apply2 op)) (sided op (side_behind 114 w) (side_behind 108 w)) (Some y) e) as (λ _. Says (Apply2 op) w y) [
       | inl h ↦
           let k : ops.Apply2 op ≡ y = let q = h.1 in cc in
           subst (Says (Apply2 op) w) k (refl, (bytes_eq-Decides w (codes "-")).0 h.0)
@@ -198,7 +197,7 @@ used_slot w s e = (number_is w s e).0
 no_slot : (w : List ℕ) (s : ℕ) → slot_from false w ≡ Some s → w ≡ codes "-"
 unfolding slot_from
 no_slot w s e =
-    elim (chosen (bytes_eq w (codes "-")) (Some 0) None (Some s) e) as (λ _. w ≡ codes "-") [
+    elim (cond_cases (bytes_eq w (codes "-")) (Some 0) None (Some s) e) as (λ _. w ≡ codes "-") [
       | inl h ↦ (bytes_eq-Decides w (codes "-")).0 h.0
       | inr h ↦ absurd (let q = h.1 in cc)
     ]
@@ -229,12 +228,6 @@ pub slot_is : (i : Instr) (w : List ℕ) → slot_from (uses_slot i.op) w ≡ So
 slot_is i w e = slot_at i.op i w e
 
 -- ---- destinations
-rejoined : (bs : List ℕ) → 0 < length bs → bs ≡ take (length bs - 1) bs ++ get_or bs (length bs - 1) 0 ∷ []
-rejoined [] h = absurd (omega arith)
-rejoined (b ∷ []) h = refl
-rejoined (b ∷ c ∷ bs) h =
-    let n : length (b ∷ c ∷ bs) - 1 ≡ suc (length (c ∷ bs) - 1) = omega arith in
-    rw n (ap (λ (xs : List ℕ). b ∷ xs) (rejoined (c ∷ bs) (omega arith)))
 
 abbrev tail_text : List Dest → List ℕ
 tail_text [] = []
@@ -251,9 +244,9 @@ dest_to_is port w front y is e = go (number_of front) refl e
 
 dest_parts_is : (w front : List ℕ) (last : ℕ) (y : Option Dest) → w ≡ front ++ last ∷ [] → dest_parts front last ≡ Some y → (d : Dest) × (y ≡ Some d) × (w ≡ decimal d.ahead ++ port_letter d.port)
 dest_parts_is w front last y is e =
-    elim (chosen (eqb last 108) (dest_to Left (number_of front)) (cond (eqb last 114) (dest_to Right (number_of front)) None) (Some y) e) as (λ _. (d : Dest) × (y ≡ Some d) × (w ≡ decimal d.ahead ++ port_letter d.port)) [
+    elim (cond_cases (eqb last 108) (dest_to Left (number_of front)) (cond (eqb last 114) (dest_to Right (number_of front)) None) (Some y) e) as (λ _. (d : Dest) × (y ≡ Some d) × (w ≡ decimal d.ahead ++ port_letter d.port)) [
       | inl h ↦ dest_to_is Left w front y (is ∙ ap (λ (x : ℕ). front ++ x ∷ []) (eqb-true last 108 h.0)) h.1
-      | inr h ↦ elim (chosen (eqb last 114) (dest_to Right (number_of front)) None (Some y) h.1) as (λ _. (d : Dest) × (y ≡ Some d) × (w ≡ decimal d.ahead ++ port_letter d.port)) [
+      | inr h ↦ elim (cond_cases (eqb last 114) (dest_to Right (number_of front)) None (Some y) h.1) as (λ _. (d : Dest) × (y ≡ Some d) × (w ≡ decimal d.ahead ++ port_letter d.port)) [
         | inl k ↦ dest_to_is Right w front y (is ∙ ap (λ (x : ℕ). front ++ x ∷ []) (eqb-true last 114 k.0)) k.1
         | inr k ↦ absurd (let q = k.1 in cc)
       ]
@@ -262,12 +255,12 @@ dest_parts_is w front last y is e =
 dest_behind_is : (w : List ℕ) (y : Option Dest) → dest_behind w ≡ Some y → (d : Dest) × (y ≡ Some d) × (w ≡ decimal d.ahead ++ port_letter d.port)
 unfolding dest_behind
 dest_behind_is [] y e = absurd cc
-dest_behind_is (x ∷ xs) y e = dest_parts_is (x ∷ xs) (take (length (x ∷ xs) - 1) (x ∷ xs)) (get_or (x ∷ xs) (length (x ∷ xs) - 1) 0) y (rejoined (x ∷ xs) (omega arith)) e
+dest_behind_is (x ∷ xs) y e = dest_parts_is (x ∷ xs) (take (length (x ∷ xs) - 1) (x ∷ xs)) (get_or (x ∷ xs) (length (x ∷ xs) - 1) 0) y (front_and_last (x ∷ xs) (omega arith)) e
 
 pub dest_is : (w : List ℕ) (y : Option Dest) → dest_of w ≡ Some y → w ≡ dest_text (option_to_list y)
 unfolding dest_of
 dest_is w y e =
-    elim (chosen (bytes_eq w (codes "-")) (Some None) (then_some (tagged 43 w) dest_behind) (Some y) e) as (λ _. w ≡ dest_text (option_to_list y)) [
+    elim (cond_cases (bytes_eq w (codes "-")) (Some None) (then_some (tagged 43 w) dest_behind) (Some y) e) as (λ _. w ≡ dest_text (option_to_list y)) [
       | inl h ↦
           let k : None ≡ y = let q = h.1 in cc in
           subst (λ (o : Option Dest). w ≡ dest_text (option_to_list o)) k ((bytes_eq-Decides w (codes "-")).0 h.0)

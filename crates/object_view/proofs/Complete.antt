@@ -4,6 +4,8 @@ use Rattle.std.specs.Prelude.{slice_get, All, Contains, int_lt, sum_by, is_some,
 use Rattle.std.proofs.lemmas.Bool.{and_from, or_right, or_left, lt-ltb, le-leb, le-ltb, eq-eqb}
 use Rattle.std.proofs.lemmas.Option.{slice_get_within}
 use Rattle.std.proofs.lemmas.List.Sums.{sum-map}
+use Rattle.lemmas.proofs.Alls.{all_at}
+use Rattle.lemmas.proofs.SliceGet.{get_some}
 use Rattle.tags.specs.declared.token.Port.{Port}
 use Rattle.tags.specs.declared.token.Port.TheVariants.{Left, Right}
 use Rattle.operators.specs.declared.Unary.TheVariants.{Neg, Not}
@@ -31,7 +33,7 @@ use Rattle.object_view.proofs.Lawful.{cells_taken, map_same}
 use Rattle.object_view.proofs.BackWords.{length_words}
 use Rattle.semantics.specs.Opcodes.{opcode_for}
 use Rattle.object_view.proofs.BackInstr.{HasHalf, word_one, word_two, opcode_told, second_told, operand_few, half_few, opcode_few, flag_few, first_parts, dest_back, not_zero}
-use Rattle.object_view.proofs.BackLists.{IsRead, all_at, origin_few, block_there, place_there, entry_back}
+use Rattle.object_view.proofs.BackLists.{IsRead, origin_few, block_there, place_there, entry_back}
 use Rattle.object_view.proofs.Back.{number_there, literal_back, looked, object_read, all_listed_back}
 
 -- CHECKS
@@ -49,11 +51,6 @@ each_passes check i (suc n) h =
 
 from_zero : (check : ℕ → Checked) (n : ℕ) → ((k : ℕ) → k < n → check k ≡ Ok tt) → each check 0 n ≡ Ok tt
 from_zero check n h = each_passes check 0 n (λ k lt. let z : 0 + k ≡ k = omega arith in ap check z ∙ h k lt)
-
-element : {X : Type 0} (xs : List X) (k : ℕ) → k < length xs → (x : X) × (slice_get xs k ≡ Some x)
-element [] k lt = absurd (omega arith)
-element (x ∷ xs) zero lt = (x, refl)
-element (x ∷ xs) (suc k) lt = element xs k (omega arith)
 
 -- OPERANDS
 has_passes : (c : Code) (op : Op) → HasOperand c op → may_have (opcode_for op) (head_of c.literals op).operand ≡ true
@@ -258,7 +255,7 @@ dyadic_named i (Release o) h = refl
 right_passes : (w : ℕ → ℕ) (v : ℕ) (c : Code) (j k : ℕ) (b : CodeBlock) → IsCode v c → IsRead v c w j → slice_get c.program.blocks k ≡ Some b → (m : ℕ) → m < length b.instrs → Bytes.is_dyadic (slice_get b.instrs m) ≡ true → may_take_right (opcode_in (w (instr_place w (instrs_below w k + m)))) ≡ true
 right_passes w v c j k b is r at m lt dyadic =
     let ok = block_there v c k b is at in
-    let e = element b.instrs m lt in
+    let e = get_some b.instrs m lt in
     let i = e.0 in
     let told = ap opcode_in (r.instr k b at m i e.1).0 ∙ opcode_told v c i (place_there v c b m i is ok e.1) in
     ap may_take_right told ∙ dyadic_named i i.op (ap Bytes.is_dyadic (sym e.1) ∙ dyadic)
@@ -357,7 +354,7 @@ block_passes w v c j k b is r at =
     ap (λ (s : ℕ). each (instr_checked w s (first + count_in (w (6 + k)))) first (count_in (w (6 + k)))) slots
     ∙ ap (λ (m : ℕ). each (instr_checked w b.slots (first + m)) first m) count
     ∙ each_passes (instr_checked w b.slots (first + length b.instrs)) first (length b.instrs) (λ n lt.
-    let i = element b.instrs n lt in
+    let i = get_some b.instrs n lt in
     instr_checks w v c j k b n i.0 is r at i.1)
 
 entry_passes : (w : ℕ → ℕ) (v : ℕ) (c : Code) (j k : ℕ) (b : CodeBlock) → IsCode v c → IsRead v c w j → slice_get c.program.blocks k ≡ Some b → entry_checked w k ≡ Ok tt
@@ -391,7 +388,7 @@ arrays_pass w v c j is r =
     let cells : cells_below w (w 4) ≡ sum c.program.arrays = cells_all w (w 4) ∙ ap sum all in
     both_pass (each (array_checked w) 0 (w 4)) (unless (nat_le (cells_below w (w 4)) 65536) BadTable)
     (from_zero (array_checked w) (w 4) (λ k lt.
-    let e = element c.program.arrays k (omega (arith, lt, r.arrays)) in
+    let e = get_some c.program.arrays k (omega (arith, lt, r.arrays)) in
     let few = all_at (λ (m : ℕ). (1 ≤ m) × (m ≤ 65536)) c.program.arrays k e.0 is.arrays e.1 in
     let same : array_in w k ≡ e.0 = r.array k e.0 e.1 in
     passes (nat_le 1 (array_in w k) && nat_le (array_in w k) 65536) BadTable (and_from _ _ (le-leb 1 (array_in w k) (omega (arith, same, few.0))) (le-leb (array_in w k) 65536 (omega (arith, same, few.1))))))
@@ -399,8 +396,8 @@ arrays_pass w v c j is r =
 
 literals_pass : (w : ℕ → ℕ) (v : ℕ) (c : Code) (j : ℕ) → IsCode v c → IsRead v c w j → literals_checked w ≡ Ok tt
 literals_pass w v c j is r = from_zero (literal_checked w) (w 3 - 1) (λ k lt.
-    let y = element c.literals k (omega (arith, lt, r.literals)) in
-    let z = element c.literals (k + 1) (omega (arith, lt, r.literals)) in
+    let y = get_some c.literals k (omega (arith, lt, r.literals)) in
+    let z = get_some c.literals (k + 1) (omega (arith, lt, r.literals)) in
     passes (int_lt (literal_in w k) (literal_in w (k + 1))) BadLiteral
     (ap (λ (a : ℤ). int_lt a (literal_in w (k + 1))) (literal_back v c w j is r k y.0 y.1) ∙ ap (λ (a : ℤ). int_lt y.0 a) (literal_back v c w j is r (k + 1) z.0 z.1) ∙ is.ascend k y.0 z.0 y.1 z.1))
 
@@ -434,7 +431,7 @@ tables_pass : (n : ℕ) (w : ℕ → ℕ) (v : ℕ) (c : Code) (j : ℕ) → IsC
 tables_pass n w v c j is r e =
     ap (λ (t : Bool). if t then Err Truncated else first_then (each (entry_checked w) 0 (w 2)) (length_checked n w)) (le-ltb n (8 * (6 + w 2)) (omega (arith, e)))
     ∙ both_pass (each (entry_checked w) 0 (w 2)) (length_checked n w)
-    (from_zero (entry_checked w) (w 2) (λ k lt. let b = element c.program.blocks k (omega (arith, lt, r.blocks)) in entry_passes w v c j k b.0 is r b.1))
+    (from_zero (entry_checked w) (w 2) (λ k lt. let b = get_some c.program.blocks k (omega (arith, lt, r.blocks)) in entry_passes w v c j k b.0 is r b.1))
     (length_passes n w e)
 
 opening_passes : (n : ℕ) (w : ℕ → ℕ) (v : ℕ) (c : Code) (j : ℕ) → IsCode v c → IsRead v c w j → n ≡ 8 * word_count w → opening_checked n w ≡ Ok tt
@@ -446,7 +443,7 @@ content_passes : (w : ℕ → ℕ) (v : ℕ) (c : Code) (j : ℕ) → IsCode v c
 content_passes w v c j is r =
     both_pass (arrays_checked w) (first_then (literals_checked w) (each (block_checked w) 0 (w 2))) (arrays_pass w v c j is r)
     (both_pass (literals_checked w) (each (block_checked w) 0 (w 2)) (literals_pass w v c j is r)
-    (from_zero (block_checked w) (w 2) (λ k lt. let b = element c.program.blocks k (omega (arith, lt, r.blocks)) in block_passes w v c j k b.0 is r b.1)))
+    (from_zero (block_checked w) (w 2) (λ k lt. let b = get_some c.program.blocks k (omega (arith, lt, r.blocks)) in block_passes w v c j k b.0 is r b.1)))
 
 pub lawful_opens : (v : ℕ) (c : Code) → IsCode v c → first_refusal (bytes_of v c) ≡ None
 lawful_opens v c is =

@@ -7,8 +7,8 @@ ghost use Rattle.object_view.specs.Reading as Reading;
 
 use crate::instr::{CodeInstr, PackedInstr};
 use crate::words::{self, Entry, Head};
-use semantics::program::Op;
 use semantics::opcode::Opcode;
+use semantics::program::Op;
 use semantics::version::Version;
 
 /// How many words the header has.

@@ -68,12 +68,7 @@ fn operand_of(op: Op, literals: &[i64]) -> u32
         Op::Open { bound } | Op::Take { bound } | Op::Give { bound } | Op::Drain { bound } => {
             u32::from(bound)
         }
-        Op::Apply1 { .. }
-        | Op::Apply2 { .. }
-        | Op::Copy
-        | Op::Sync
-        | Op::Switch
-        | Op::Frame => 0,
+        Op::Apply1 { .. } | Op::Apply2 { .. } | Op::Copy | Op::Sync | Op::Switch | Op::Frame => 0,
     }
 }
 

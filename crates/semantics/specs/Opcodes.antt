@@ -268,4 +268,3 @@ may_go_to Give d e = is_none e
 may_go_to Drain d e = is_none e
 may_go_to Switch d e = true
 may_go_to o d e = is_some d || is_none e
-
