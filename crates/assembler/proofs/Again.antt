@@ -182,7 +182,6 @@ slot_again b i (ops.Drain k) few h = used_again i.slot (omega arith)
 slot_again b i (ops.Release o) few h = used_again i.slot (omega arith)
 
 -- ---- destinations
-
 abbrev made_dest : ℕ → Port → Dest
 made_dest n port = record { ahead = n; port = port }
 

@@ -14,7 +14,6 @@ use Rattle.expansion.specs.Variants.{loops_to, some_node_loops, some_block_loops
 use Rattle.expansion.specs.Expanded.{Codes, with_code, no_codes, plain_code, variant_code, plain_codes, variant_codes, codes_of}
 
 -- LISTS
-
 pub get_left : {X : Type 0} (xs ys : List X) (k : ℕ) (y : X) → slice_get xs k ≡ Some y → slice_get (xs ++ ys) k ≡ Some y
 get_left [] ys k y e = absurd (cc)
 get_left (x ∷ xs) ys zero y e = e
@@ -205,11 +204,11 @@ module _ (v : ℕ) (bs : List (Block ℕ)) (vars : List ℕ) where
       go false s d f more = looped_more n x rest c (more d f)
 
 -- VARIANT NUMBERS
-variants_length : (bs : List (Block ℕ)) (n : ℕ) → length (variants_from bs n) ≡ n
+pub variants_length : (bs : List (Block ℕ)) (n : ℕ) → length (variants_from bs n) ≡ n
 variants_length bs zero = refl
 variants_length bs (suc n) = let l = length_push (variants_from bs n) (next_variant bs n) in let m = variants_length bs n in omega (arith, l, m)
 
-variant_number : (bs : List (Block ℕ)) (n f : ℕ) → f < n → slice_index_or (variants_from bs n) f 0 ≡ next_variant bs f
+pub variant_number : (bs : List (Block ℕ)) (n f : ℕ) → f < n → slice_index_or (variants_from bs n) f 0 ≡ next_variant bs f
 variant_number bs zero f l = absurd (omega (arith, l))
 variant_number bs (suc n) f l = go (cases_lt f n) (variant_number bs n f)
   where

@@ -26,7 +26,6 @@ use Rattle.law_fold.specs.Folds.{fires_lit, Plain, Fresh, top, Pend, Sends, Stan
 use Rattle.law_fold.proofs.FoldRules.{node_grows, pend_with, lit_nodes}
 
 -- ---- WHERE AN ARC STARTS
-
 record Starts (p : Plan) (m : ℕ) (is : List Instr) (x : Arc) : Type 0 where
   pub k : ℕ
   pub i : Instr

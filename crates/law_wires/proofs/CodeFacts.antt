@@ -23,6 +23,7 @@ use Rattle.law_expansion.proofs.ArcsLaws.{arcs_go_forward}
 use Rattle.law_expansion.proofs.ShapesPlans.{plans_are_exact}
 use Rattle.law_expansion.proofs.FactsCodes.{plain_at, variant_at}
 use Rattle.law_expansion.proofs.FactsWholes.{plans_hold_rightly}
+use Rattle.law_expansion.proofs.Wholes.{same_looped}
 use Rattle.law_contexts.specs.Blocks.{Site}
 use Rattle.law_contexts.specs.Wires.{plain_site, turn_site}
 use Rattle.law_contexts.specs.Expanded.{plain_scope, turn_scope, plain_parts, variant_parts, wiring_of, wiring_from, turn_wiring, wires_of, instrs_in, instrs_at, variant_in}
@@ -31,7 +32,7 @@ use Rattle.law_wires.proofs.LaidWhole.{site_build}
 use Rattle.law_wires.proofs.LaidUsual.{HasTurns}
 use Rattle.law_wires.proofs.Agree.{read_parts}
 use Rattle.law_wires.proofs.Credits.{AreLast, plain_lasts, variant_lasts}
-use Rattle.law_wires.proofs.Compose.{same_looped, number_is, codes_are_there}
+use Rattle.law_wires.proofs.Compose.{number_is, codes_are_there}
 
 -- MARKS of the plain code of a block
 variant_marks : (v : ℕ) (bs : List (Block ℕ)) (vars : List ℕ) (cs : Codes) (n : ℕ) (rest : List (Block ℕ)) (i : ℕ) (m : List Mark) → slice_get cs.marks i ≡ Some m → slice_get (variant_codes cs v bs vars n rest).marks i ≡ Some m

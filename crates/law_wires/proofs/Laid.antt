@@ -172,7 +172,6 @@ laid_added e b rs ws op o m g r l p q k f at = record {
     place n x (inr y) = ap e.place (sym y.1) ∙ at ∙ sym y.0
 
 -- ONE WIRE MORE
-
 with_it : (e : Env) (ws : List Wire) (w : Wire) (j : Instr) (s : Bool) (d : Dest) → d ≡ dest e w → s ≡ w.from.second → IsAt e ws w.from.part j → IsAt e (ws ++ w ∷ []) w.from.part (with_dest j s d)
 with_it e ws w j s d p q h = go s d p q
   where
