@@ -17,13 +17,9 @@ use Rattle.law_expansion.proofs.ArcsFlows.{env_of, SizesFit, block_fits}
 use Rattle.law_expansion.proofs.ArcsEnds.{plain_settled, variant_settled}
 use Rattle.semantics.specs.Graph.{node_count}
 use Rattle.law_expansion.proofs.FactsCodes.{variant_number}
+use Rattle.law_expansion.proofs.ShapesStates.{get_left}
 
 -- LISTS
-get_left : {X : Type 0} (xs ys : List X) (k : ℕ) (y : X) → slice_get xs k ≡ Some y → slice_get (xs ++ ys) k ≡ Some y
-get_left [] ys k y e = absurd (cc)
-get_left (x ∷ xs) ys zero y e = e
-get_left (x ∷ xs) ys (suc k) y e = get_left xs ys k y e
-
 get_right : {X : Type 0} (xs ys : List X) (k : ℕ) (y : X) → slice_get ys k ≡ Some y → slice_get (xs ++ ys) (length xs + k) ≡ Some y
 get_right [] ys k y e = subst (λ m. slice_get ys m ≡ Some y) (let is_so : k ≡ 0 + k = omega arith in is_so) e
 get_right (x ∷ xs) ys k y e = subst (λ m. slice_get (x ∷ (xs ++ ys)) m ≡ Some y) (let is_so : suc (length xs + k) ≡ length (x ∷ xs) + k = omega arith in is_so) (get_right xs ys k y e)

@@ -26,9 +26,7 @@ use Rattle.law_fold.specs.Folds.{Fits, Fresh, IsMoved}
 use Rattle.law_fold.proofs.FoldRules.{Arrives, FitsWord, FitsSlot}
 use Rattle.law_fold.proofs.FoldEvents.{FitsAll, FitsCell, slot_there}
 use Rattle.law_fold.proofs.FoldFrom.{Stale, fits_stale, Direct, OutFrom, out_from}
-
-same_to : {a b x y : ℕ} {r s : Port} → To.Instr a x r ≡ To.Instr b y s → (a ≡ b) × (x ≡ y) × (r ≡ s)
-same_to e = (cc, cc, cc)
+use Rattle.law_fold.proofs.FoldArcs.{same_to}
 
 module _ (p q : Plan) (g h : ℕ → ℕ) where
   abbrev P : Program

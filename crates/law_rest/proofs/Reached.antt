@@ -82,7 +82,7 @@ taker_way fl h n i e c = ap (λ (i : Item). i.inlet.way) (one_of (left_item h.co
     takes_at : Part → List Item
     takes_at r = own_takes fl h r ++ renewed fl h r
 
-root_arm : (k : ℕ) (t : Bool) → Root ≡ Arm k t → ⊥
+pub root_arm : (k : ℕ) (t : Bool) → Root ≡ Arm k t → ⊥
 root_arm k t e = absurd (cc)
 
 module _ (stage : ℕ) (fl : Flow) (p : Plan) (w : Wires) (inputs : List ℤ) (past : Past) (m : Machine) (good : IsGood stage fl p w) (fit : InputsFit fl inputs) (kept : Keeps fl p w inputs past m) (rests : Resting m) (wants : Wants m → ⊥) where
