@@ -18,8 +18,8 @@ use std::process::ExitCode;
 use std::sync::Wait;
 use std::thread::Threads;
 use std::{env, str};
-use test_random_graphs::dice::Dice;
-use test_random_graphs::graphs::{Graph, Part};
+use test_inputs::random_graphs::dice::Dice;
+use test_inputs::random_graphs::graphs::{Graph, Part};
 
 /// The number that word `place` is, or `otherwise` where there is no such word or no number in it.
 fn number_in(words: &[String], place: usize, otherwise: u64) -> u64 {

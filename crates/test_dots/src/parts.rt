@@ -3,7 +3,7 @@
 use std::alloc::Global;
 use std::io::Write;
 use std::{fmt, str};
-use test_dot_reader::{Edge, Node, Picture, read};
+use test_inputs::dot_reader::{Edge, Node, Picture, read};
 
 /// How many nodes and edges there were.
 #[derive(Drop)]

@@ -15,7 +15,7 @@ use std::io::{self, Write};
 use std::process::ExitCode;
 use std::sync::Wait;
 use std::thread::Threads;
-use test_graph_texts::{with_change, with_inputs};
+use test_inputs::graph_texts::{with_change, with_inputs};
 use test_served::answer;
 use trials::{Refusals, refuse_each};
 

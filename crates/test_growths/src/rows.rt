@@ -1,6 +1,6 @@
 //! Command lines, and the answers that they should have.
 
-use test_graph_texts::{ADD, ARRAY_LOOP, FACTORIAL, NEVER_FILLED, READERS, SUM_LOOP};
+use test_inputs::graph_texts::{ADD, ARRAY_LOOP, FACTORIAL, NEVER_FILLED, READERS, SUM_LOOP};
 
 /// What an answer has of a run, and so how a growth is told that is refused in the run.
 #[derive(Clone, Copy)]

@@ -3,7 +3,7 @@
 use crate::object::words_of;
 use driver::compiling::compile;
 use std::alloc::{AllocError, Global};
-use test_graph_texts::{
+use test_inputs::graph_texts::{
     ADD, FACTORIAL, INNER_FAULT, LATE_RESULT, READERS, SECOND_STORE, SIGN, SUM_LOOP,
 };
 

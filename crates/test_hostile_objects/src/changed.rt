@@ -2,7 +2,7 @@
 
 use crate::object::HEADER;
 use std::alloc::{AllocError, Global};
-use test_random_graphs::dice::Dice;
+use test_inputs::random_graphs::dice::Dice;
 
 /// How many changes of each word are tried.
 const CHANGES: usize = 7;

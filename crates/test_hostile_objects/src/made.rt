@@ -2,7 +2,7 @@
 
 use crate::object::{Dest, Line, MARK, NONE, entry, push_line};
 use std::alloc::{AllocError, Global};
-use test_random_graphs::dice::Dice;
+use test_inputs::random_graphs::dice::Dice;
 
 const COPY: u64 = 18;
 

@@ -31,7 +31,7 @@ use std::process::ExitCode;
 use std::sync::Wait;
 use std::thread::Threads;
 use tally::Tally;
-use test_random_graphs::dice::Dice;
+use test_inputs::random_graphs::dice::Dice;
 
 /// How many objects there are where the command line does not say it.
 const OBJECTS: u64 = 500;

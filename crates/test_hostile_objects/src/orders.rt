@@ -3,7 +3,7 @@
 ghost use Rattle.std.specs.Prelude.{◌<◌, All, IfOk};
 
 use std::alloc::{AllocError, Global};
-use test_random_graphs::orders::element_of;
+use test_inputs::random_graphs::orders::element_of;
 
 /// A list of `count` picks: the elements take turns, and each takes its oldest token.
 pub fn in_turn(alloc: Global, elements: u32, count: u64) -> Result<Vec<(u32, u64)>, AllocError>

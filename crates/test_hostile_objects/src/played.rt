@@ -13,8 +13,8 @@ use std::alloc::{AllocError, Global};
 use std::io::{self, Write};
 use std::sync::Wait;
 use std::thread::Threads;
-use test_random_graphs::dice::Dice;
-use test_random_graphs::orders::picks as random_picks;
+use test_inputs::random_graphs::dice::Dice;
+use test_inputs::random_graphs::orders::picks as random_picks;
 
 /// Numbers of elements, and the frames of each element.
 const SIZES: [(u32, u64); 7] = [(1, 1), (1, 2), (2, 1), (2, 3), (3, 64), (7, 2), (16, 4)];

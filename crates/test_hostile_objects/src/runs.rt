@@ -15,8 +15,8 @@ use semantics::report::End;
 use std::alloc::{AllocError, Global};
 use std::sync::Wait;
 use std::thread::Threads;
-use test_random_graphs::dice::Dice;
-use test_random_graphs::orders::picks as random_picks;
+use test_inputs::random_graphs::dice::Dice;
+use test_inputs::random_graphs::orders::picks as random_picks;
 
 /// The most events of an element.
 const STEPS: u64 = 200;

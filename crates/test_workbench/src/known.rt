@@ -4,7 +4,7 @@ use crate::lines::{count, sum};
 use std::alloc::{AllocError, Global};
 use std::sync::Wait;
 use std::thread::Threads;
-use test_graph_texts::{SUM_LOOP, with_change, with_inputs};
+use test_inputs::graph_texts::{SUM_LOOP, with_change, with_inputs};
 use test_served::answer;
 
 /// A chain: each node waits for the one before it.

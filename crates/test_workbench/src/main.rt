@@ -20,8 +20,8 @@ use std::process::ExitCode;
 use std::sync::Wait;
 use std::thread::Threads;
 use tally::Tally;
-use test_random_graphs::dice::Dice;
-use test_random_graphs::graphs::{Graph, Part};
+use test_inputs::random_graphs::dice::Dice;
+use test_inputs::random_graphs::graphs::{Graph, Part};
 use test_served::{answer, comes_back, comes_back_with_literals};
 
 /// How many events an element makes at most, and how many activities a meaning has: as a word of a command line.

@@ -1,8 +1,7 @@
 //! Graphs that tests of several crates run. Each text stands here once, without inputs behind it.
-#![tactic(auto)]
 
+use crate::pieces::changed;
 use std::alloc::{AllocError, Global};
-use test_pieces::changed;
 
 /// Adds its two inputs.
 pub const ADD: &[u8] = b"etsgraph 1

@@ -1,7 +1,7 @@
 //! Blocks: how each begins and ends, and lines of nodes whose values are those of their regions.
 
-use crate::graphs::Graph;
-use crate::kind::Kind;
+use crate::random_graphs::graphs::Graph;
+use crate::random_graphs::kind::Kind;
 use std::alloc::{AllocError, Global};
 use std::io::{self, Write};
 

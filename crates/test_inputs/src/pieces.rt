@@ -1,6 +1,5 @@
 //! Texts that are given by pieces, in the tables of tests. A piece is written once or many times, and may contain numbers and
 //! bytes.
-#![tactic(auto)]
 
 use itoa::Buffer;
 use std::alloc::{AllocError, Global};

@@ -1,5 +1,4 @@
-//! Plans of one block, made by hand for tests.
-#![tactic(auto)]
+//! Plans of one block, made by hand.
 
 use code::{CodeBlock, Instr, Plan, Program};
 use operators::Binary;

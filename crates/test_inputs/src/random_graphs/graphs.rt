@@ -3,9 +3,9 @@
 //! Input 0 of each block is its fuel. A block calls blocks of earlier teams with little fuel, and those of its own team with
 //! less than it has, in an arm that is taken only where it has some; so most graphs come to an end.
 
-use crate::blocks::{Conditional, Node, Source};
-use crate::dice::Dice;
-use crate::kind::KINDS;
+use crate::random_graphs::blocks::{Conditional, Node, Source};
+use crate::random_graphs::dice::Dice;
+use crate::random_graphs::kind::KINDS;
 use std::alloc::{AllocError, Global};
 use std::io::{self, Write};
 

@@ -1,6 +1,6 @@
 //! A picture: its boxes, nodes and edges.
 
-use crate::tokens::{Token, tokens_of};
+use crate::dot_reader::tokens::{Token, tokens_of};
 use std::alloc::{AllocError, Global};
 
 /// A node, and the names of the boxes around it, the outermost first.

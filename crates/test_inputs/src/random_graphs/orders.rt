@@ -2,7 +2,7 @@
 
 ghost use Rattle.std.specs.Prelude.{◌<◌, All, IfOk};
 
-use crate::dice::Dice;
+use crate::random_graphs::dice::Dice;
 use std::alloc::{AllocError, Global};
 
 /// The element that a number stands for: its remainder modulo `elements`.

@@ -1,5 +1,4 @@
-//! Random well-formed graphs of all kinds, for tests.
-#![tactic(auto)]
+//! Random well-formed graphs of all kinds, and random orders of steps.
 
 pub mod blocks;
 mod deeds;

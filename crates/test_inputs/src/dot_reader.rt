@@ -1,5 +1,4 @@
 //! Reads pictures in Graphviz's language DOT, in any layout: as much of the language as `ets dot` writes.
-#![tactic(auto)]
 
 mod pictures;
 mod tokens;

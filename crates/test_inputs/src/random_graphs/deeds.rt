@@ -1,8 +1,8 @@
 //! What is added to a block: nodes of some kind, in some region where they may stand.
 
-use crate::blocks::{Conditional, FUEL, Source};
-use crate::graphs::{Array, Graph, Part, Shape};
-use crate::kind::Kind;
+use crate::random_graphs::blocks::{Conditional, FUEL, Source};
+use crate::random_graphs::graphs::{Array, Graph, Part, Shape};
+use crate::random_graphs::kind::Kind;
 use std::io;
 
 const UNARY: [&str; 2] = ["neg", "not"];

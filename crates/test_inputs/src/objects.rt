@@ -1,4 +1,4 @@
-//! The objects, each as its bytes.
+//! Objects made by hand, each as its bytes.
 
 /// Main calls a block that adds its input to itself: 33 events.
 pub const CALL: &[u8] = b"\
