@@ -4,6 +4,7 @@
 pub mod dot_reader;
 pub mod graph_texts;
 pub mod objects;
+pub mod parts;
 pub mod pieces;
 pub mod plans;
 pub mod random_graphs;

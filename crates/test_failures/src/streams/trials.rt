@@ -1,6 +1,6 @@
 //! The trials of one command line.
 
-use crate::cases::{Case, Input};
+use crate::streams::cases::{Case, Input};
 use commands::serving::serve;
 use rationed::reader::Feeder;
 use rationed::writer::{Failure, Taker, WRITERS};

@@ -1,8 +1,7 @@
 //! Readers and writers that fail, under every command. For each command line and its input: a reader that gives one byte for
 //! each call, or seven, changes nothing. A reader that fails at any of its calls gives `refused: input`. A writer that fails at
 //! any byte, with an error or by taking nothing, gets exactly the bytes before that one, and the status is 1. Prints how often
-//! each failed, and `agree`, or the first answer that differs, with status 1.
-#![tactic(auto)]
+//! each failed, and `agree`, or the first answer that differs.
 
 mod cases;
 mod trials;
@@ -10,14 +9,13 @@ mod trials;
 use cases::{CASES, Input, Inputs};
 use std::alloc::Global;
 use std::io::{self, Write};
-use std::process::ExitCode;
 use std::sync::Wait;
 use std::thread::Threads;
 use test_served::answer;
 use trials::Trial;
 
 /// Whether all answers agree. Prints that for each command line, or which answer differs.
-fn all_agree<R: Threads + Wait + Sync, W: Write>(
+pub fn agree<R: Threads + Wait + Sync, W: Write>(
     rt: &R,
     alloc: Global,
     out: &mut W,
@@ -36,14 +34,6 @@ fn all_agree<R: Threads + Wait + Sync, W: Write>(
             writeln!(out, "{}: {failures}", case.name)?;
         }
     }
+    writeln!(out, "agree")?;
     Ok(true)
-}
-
-fn main(rt: HostRuntime) -> io::Result<ExitCode> {
-    let mut out = io::writer(&rt);
-    if all_agree(&rt, rt.alloc(), &mut out)? {
-        writeln!(out, "agree")?;
-        return Ok(ExitCode::SUCCESS);
-    }
-    Ok(ExitCode::FAILURE)
 }

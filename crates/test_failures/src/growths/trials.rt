@@ -1,6 +1,6 @@
 //! One command line, in which each growth is refused in turn.
 
-use crate::rows::{Answer, Row};
+use crate::growths::rows::{Answer, Row};
 use commands::serving::serve;
 use rationed::{Rationed, is_next_refused};
 use rounds::Open;

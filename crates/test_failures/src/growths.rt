@@ -1,18 +1,15 @@
 //! Refuses each growth in turn, under the whole program. For each command line and its input, growth number N is refused, for N
 //! from 1 until the run has fewer than N growths. Until then each answer is `refused: memory`, or tells of a run with the end
 //! `Memory`, and of no value or event which the whole run does not have. The last answer, with all growths granted, is the text
-//! that it should be. Prints how the refusals were told and, with any word on the command line, also how often. Then prints `agree`,
-//! or the first answer that differs, with status 1.
-#![tactic(auto)]
+//! that it should be. Prints how the refusals were told and, where figures are asked for, also how often. Then prints `agree`, or the
+//! first answer that differs.
 
 mod rows;
 mod trials;
 
 use rows::{COMMANDS, Command, EXAMPLES, Example, Reads, Row};
 use std::alloc::{AllocError, Global};
-use std::env;
 use std::io::{self, Write};
-use std::process::ExitCode;
 use std::sync::Wait;
 use std::thread::Threads;
 use test_inputs::graph_texts::{with_change, with_inputs};
@@ -132,16 +129,17 @@ fn commands_agree<R: Threads + Wait + Sync, W: Write>(
     Ok(true)
 }
 
-fn main(rt: HostRuntime) -> io::Result<ExitCode> {
-    let mut out = io::writer(&rt);
-    let alloc = rt.alloc();
-    let words: Vec<String> = env::args(&rt)?.collect(alloc)?;
-    let has_figures = words.len() > 1;
-    if examples_agree(&rt, alloc, &mut out, has_figures)?
-        && commands_agree(&rt, alloc, &mut out, has_figures)?
-    {
+/// Whether all answers agree. Prints how the refusals were told; with figures, also how often.
+pub fn agree<R: Threads + Wait + Sync, W: Write>(
+    rt: &R,
+    alloc: Global,
+    out: &mut W,
+    has_figures: bool,
+) -> io::Result<bool> {
+    let agrees = examples_agree(rt, alloc, out, has_figures)?
+        && commands_agree(rt, alloc, out, has_figures)?;
+    if agrees {
         writeln!(out, "agree")?;
-        return Ok(ExitCode::SUCCESS);
     }
-    Ok(ExitCode::FAILURE)
+    Ok(agrees)
 }
