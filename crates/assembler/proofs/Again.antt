@@ -1,12 +1,12 @@
--- A word that is written is read again: names, operands, slots, destinations and origins.
-use Rattle.std.proofs.Common.{◌≡◌, ℕ, ◌+◌, ◌-◌, ◌^◌, ◌<◌, ◌≤◌, eqb, true, false, List, [], ◌∷◌, ◌++◌, length, get_or, take, Option, Some, None, Ok, ℤ, refl, sym, ap, ◌∙◌, arith}
+-- A word that is written is read again: operands, slots, destinations and origins.
+use Rattle.std.proofs.Common.{◌≡◌, ℕ, ◌+◌, ◌-◌, ◌^◌, ◌<◌, ◌≤◌, eqb, true, false, List, [], ◌∷◌, ◌++◌, length, get_or, Option, Some, None, Ok, ℤ, refl, sym, ap, ◌∙◌, arith}
 use Rattle.std.specs.Prelude.{⊤, codes, option_to_list}
 use Rattle.std.specs.Int.{w64}
 use Rattle.std.specs.Int.RustNames.{FitsSigned}
 use Rattle.std.specs.Fmt.{decimal}
 use Rattle.std.proofs.lemmas.Bool.{lt-ltb, eq-eqb}
-use Rattle.std.proofs.lemmas.List.{length-append, take_at, get_or-append-add}
 use Rattle.std.proofs.lemmas.List.Splits.{slice_split_none, slice_split_at}
+use Rattle.lemmas.proofs.Lists.{front_of, last_of}
 use Rattle.tags.specs.declared.token.Port.{Port}
 use Rattle.tags.specs.declared.token.Port.TheVariants.{Left, Right}
 use Rattle.tags.specs.declared.value.Origin.{Origin}
@@ -28,80 +28,11 @@ use Rattle.disassembler.specs.Listing as Listing
 use Rattle.graph_file.specs.Lines.{parts}
 use Rattle.graph_file.specs.Fields.{number_of, literal_of}
 use Rattle.graph_file.proofs.Marks.{number_again, literal_again, decimal_no_dot}
-use Rattle.assembler.specs.declared.names.Name.{Name}
-use Rattle.assembler.specs.declared.names.Name.TheVariants.{Apply1, Apply2, Lit, Copy, Sync, Switch, Fetch, Store, Frame, Link, Send, Return, Ask, Open, Take, Give, Drain, Release}
+use Rattle.semantics.proofs.OperatorWords.{named_by}
 use Rattle.assembler.specs.Grammar.{origin_words}
-use Rattle.assembler.specs.Fields.{operator_of, name_of, then_some, tagged, below, small_of, wide_of, small_behind, wide_behind, literal_behind, side_behind, no_operand, sided, binary_from, pair_of, entry_parts, entry_of, entry_behind, op_of, slot_from, dest_to, dest_parts, dest_behind, dest_of, node_of, place_of, place_parts, place_in, origin_of}
+use Rattle.assembler.specs.Fields.{then_some, tagged, below, small_of, wide_of, small_behind, wide_behind, literal_behind, side_behind, no_operand, sided, binary_from, pair_of, entry_parts, entry_of, entry_behind, op_of, slot_from, dest_to, dest_parts, dest_behind, dest_of, node_of, place_of, place_parts, place_in, origin_of}
 use Rattle.assembler.specs.Lines.{origin_from}
 use Rattle.assembler.proofs.Spelled.{dotted, send_text, at_text}
-
--- ---- names
-abbrev pub name_for : Op → Name
-name_for (ops.Apply1 op) = Apply1 op
-name_for (ops.Apply2 op) = Apply2 op
-name_for (ops.Apply2Right op z) = Apply2 op
-name_for (ops.Apply2Left op z) = Apply2 op
-name_for (ops.Lit z) = Lit
-name_for ops.Copy = Copy
-name_for ops.Sync = Sync
-name_for ops.Switch = Switch
-name_for (ops.Fetch a) = Fetch
-name_for (ops.Store a) = Store
-name_for ops.Frame = Frame
-name_for (ops.Link b) = Link
-name_for (ops.Send b e) = Send
-name_for (ops.Return o) = Return
-name_for (ops.Ask o) = Ask
-name_for (ops.Open k) = Open
-name_for (ops.Take k) = Take
-name_for (ops.Give k) = Give
-name_for (ops.Drain k) = Drain
-name_for (ops.Release o) = Release
-
-unary_again : (op : Unary) → name_of (unary_word op) ≡ Some (Apply1 op)
-unfolding name_of operator_of operators_of
-unary_again Neg = refl
-unary_again Not = refl
-
-binary_again : (op : Binary) → name_of (binary_word op) ≡ Some (Apply2 op)
-unfolding name_of operator_of operators_of
-binary_again Add = refl
-binary_again Sub = refl
-binary_again Mul = refl
-binary_again Div = refl
-binary_again Rem = refl
-binary_again And = refl
-binary_again Or = refl
-binary_again Xor = refl
-binary_again Shl = refl
-binary_again Shr = refl
-binary_again Eq = refl
-binary_again Ne = refl
-binary_again Lt = refl
-binary_again Le = refl
-
-pub name_again : (op : Op) → name_of (Listing.name_of op) ≡ Some (name_for op)
-unfolding name_of operator_of operators_of
-name_again (ops.Apply1 op) = unary_again op
-name_again (ops.Apply2 op) = binary_again op
-name_again (ops.Apply2Right op z) = binary_again op
-name_again (ops.Apply2Left op z) = binary_again op
-name_again (ops.Lit z) = refl
-name_again ops.Copy = refl
-name_again ops.Sync = refl
-name_again ops.Switch = refl
-name_again (ops.Fetch a) = refl
-name_again (ops.Store a) = refl
-name_again ops.Frame = refl
-name_again (ops.Link b) = refl
-name_again (ops.Send b e) = refl
-name_again (ops.Return o) = refl
-name_again (ops.Ask o) = refl
-name_again (ops.Open k) = refl
-name_again (ops.Take k) = refl
-name_again (ops.Give k) = refl
-name_again (ops.Drain k) = refl
-name_again (ops.Release o) = refl
 
 -- ---- small parts
 tagged_again : (c : ℕ) (r : List ℕ) → tagged c (c ∷ r) ≡ Some r
@@ -196,7 +127,7 @@ HasRoom (ops.Give k) = k < 256
 HasRoom (ops.Drain k) = k < 256
 HasRoom op = ⊤
 
-pub op_again : (op : Op) → HasRoom op → op_of (name_for op) (operand_text op) ≡ Some op
+pub op_again : (op : Op) → HasRoom op → op_of (named_by op) (operand_text op) ≡ Some op
 unfolding op_of
 op_again (ops.Apply1 op) h = none_again (ops.Apply1 op)
 op_again (ops.Apply2 op) h = plain_again op
@@ -251,13 +182,6 @@ slot_again b i (ops.Drain k) few h = used_again i.slot (omega arith)
 slot_again b i (ops.Release o) few h = used_again i.slot (omega arith)
 
 -- ---- destinations
-last_of : (front : List ℕ) (c : ℕ) → get_or (front ++ c ∷ []) (length (front ++ c ∷ []) - 1) 0 ≡ c
-last_of front c =
-    let n : length (front ++ c ∷ []) - 1 ≡ length front + 0 = omega (arith, length-append front (c ∷ [])) in
-    ap (λ (i : ℕ). get_or (front ++ c ∷ []) i 0) n ∙ get_or-append-add front (c ∷ []) 0 0
-
-front_of : (front : List ℕ) (c : ℕ) → take (length (front ++ c ∷ []) - 1) (front ++ c ∷ []) ≡ front
-front_of front c = take_at front (c ∷ []) (length (front ++ c ∷ []) - 1) (omega (arith, length-append front (c ∷ [])))
 
 abbrev made_dest : ℕ → Port → Dest
 made_dest n port = record { ahead = n; port = port }

@@ -1,19 +1,11 @@
 -- Tables of literals that ascend: two with the same literals are the same, and a literal that is put in keeps the order.
-use Rattle.std.proofs.Common.{◌≡◌, ℕ, zero, suc, ◌+◌, ◌<◌, ◌≤◌, not, Bool, true, false, cond, List, [], ◌∷◌, length, get_or, Some, ℤ, pos, negsuc, refl, sym, ap, subst, ◌∙◌, arith, inl, inr, Less, Equal, Greater}
+use Rattle.std.proofs.Common.{◌≡◌, ℕ, zero, suc, ◌+◌, ◌<◌, ◌≤◌, not, Bool, true, false, cond, List, [], ◌∷◌, length, get_or, Some, ℤ, refl, sym, ap, subst, ◌∙◌, arith, inl, inr, Less, Equal, Greater}
 use Rattle.std.specs.Prelude.{⊤, ◌⊎◌, slice_get, int_lt}
 use Rattle.std.specs.Ordering.{int_cmp, match_ordering}
 use Rattle.std.specs.BTreeSet.{insert_key}
-use Rattle.std.proofs.lemmas.Bool.{ltb-true, lt-ltb, le-ltb, and_from, not_from_false, false≢true}
+use Rattle.std.proofs.lemmas.Bool.{and_from, not_from_false, false≢true}
+use Rattle.lemmas.proofs.Integers.{int_lt_trans, int_lt_itself}
 use Rattle.assembler.proofs.Fitting.{same_int}
-
-int_lt_trans : (a b c : ℤ) → int_lt a b ≡ true → int_lt b c ≡ true → int_lt a c ≡ true
-int_lt_trans (pos a) (pos b) (pos c) p q = lt-ltb a c (omega (arith, ltb-true a b p, ltb-true b c q))
-int_lt_trans (pos a) (pos b) (negsuc c) p q = absurd cc
-int_lt_trans (pos a) (negsuc b) c p q = absurd cc
-int_lt_trans (negsuc a) (pos b) (pos c) p q = refl
-int_lt_trans (negsuc a) (pos b) (negsuc c) p q = absurd cc
-int_lt_trans (negsuc a) (negsuc b) (pos c) p q = refl
-int_lt_trans (negsuc a) (negsuc b) (negsuc c) p q = lt-ltb c a (omega (arith, ltb-true b a p, ltb-true c b q))
 
 -- z is one of them
 abbrev pub In : ℤ → List ℤ → Type 0
@@ -29,12 +21,8 @@ abbrev pub Ascends : List ℤ → Type 0
 Ascends [] = ⊤
 Ascends (x ∷ xs) = Above x xs × Ascends xs
 
-pub not_below : (z : ℤ) → int_lt z z ≡ false
-not_below (pos a) = le-ltb a a (omega arith)
-not_below (negsuc a) = le-ltb a a (omega arith)
-
 never : (z : ℤ) → int_lt z z ≡ true → ⊥
-never z e = false≢true (sym (not_below z) ∙ e)
+never z e = false≢true (sym (int_lt_itself z) ∙ e)
 
 above_in : (x z : ℤ) (xs : List ℤ) → Above x xs → In z xs → int_lt x z ≡ true
 above_in x z [] h i = absurd i

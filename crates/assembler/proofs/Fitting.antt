@@ -16,7 +16,8 @@ use Rattle.semantics.specs.declared.program.Op.{Op}
 use Rattle.semantics.specs.declared.program.Op.TheVariants.{Apply1, Apply2, Apply2Right, Apply2Left, Lit, Copy, Sync, Switch, Fetch, Store, Frame, Link, Send, Return, Ask, Open, Take, Give, Drain, Release}
 use Rattle.semantics.specs.Program.{Instr, CodeBlock, Code}
 use Rattle.semantics.specs.Rule.{slot_of}
-use Rattle.semantics.specs.Bytes.{is_dyadic, may_fault, IsDest, HasOperand, HasDests, IsOrigin, IsSlot, IsInstr, IsCodeBlock, IsCode}
+use Rattle.semantics.specs.Bytes.{is_dyadic, IsDest, HasOperand, HasDests, IsOrigin, IsSlot, IsInstr, IsCodeBlock, IsCode}
+use Rattle.semantics.specs.Opcodes.{may_fault}
 use Rattle.graph_file.specs.Given.{◌>>=◌}
 use Rattle.graph_file.proofs.Binds.{bind_ok}
 use Rattle.assembler.specs.declared.fault.AsmFaultKind.{AsmFaultKind}
@@ -32,29 +33,22 @@ then_ok : (b : Bool) (kind : AsmFaultKind) (n : ℕ) (next : ⊤ → Checked) (x
 then_ok true kind n next x e = (refl, e)
 then_ok false kind n next x e = absurd cc
 
--- ---- numbers
-le_is : (a b : ℕ) → leb a b ≡ true → a ≤ b
-le_is a b e = leb-true a b e
-
-both : (a b : Bool) → (a && b) ≡ true → (a ≡ true) × (b ≡ true)
-both a b e = and_parts a b e
-
 -- ---- operands
 pub same_int : (z y : ℤ) → is_same z y ≡ true → z ≡ y
 same_int (pos a) (pos b) e =
-    let p = both (not (ltb b a)) (not (ltb a b)) e in
+    let p = and_parts (not (ltb b a)) (not (ltb a b)) e in
     ap pos (grind (arith, p.0, p.1))
 same_int (pos a) (negsuc b) e = absurd cc
 same_int (negsuc a) (pos b) e = absurd cc
 same_int (negsuc a) (negsuc b) e =
-    let p = both (not (ltb a b)) (not (ltb b a)) e in
+    let p = and_parts (not (ltb a b)) (not (ltb b a)) e in
     ap negsuc (grind (arith, p.0, p.1))
 
 literal_has : (c : Code) (z : ℤ) → has_literal c.literals z ≡ true → Contains c.literals z
 literal_has c z e = Contains-from_any {eq = is_same} same_int z c.literals e
 
 bound_is : (k : ℕ) → is_bound k ≡ true → (2 ≤ k) × (k ≤ 64)
-bound_is k e = let p = both (leb 2 k) (leb k 64) e in (leb-true 2 k p.0, leb-true k 64 p.1)
+bound_is k e = let p = and_parts (leb 2 k) (leb k 64) e in (leb-true 2 k p.0, leb-true k 64 p.1)
 
 entry_is : (c : Code) (b e : ℕ) (o : Option CodeBlock) → slice_get c.program.blocks b ≡ o → enters o e ≡ true → (x : CodeBlock) × (slice_get c.program.blocks b ≡ Some x) × (e ≤ x.inputs)
 entry_is c b e None k h = absurd cc
@@ -99,13 +93,13 @@ right_not_left : (d : Dest) → d.port ≡ Right → is_left d ≡ false
 right_not_left d e = rw e refl
 
 both_sizes : (m n a b : ℕ) → (eqb m a && eqb n b) ≡ true → (m ≡ a) × (n ≡ b)
-both_sizes m n a b e = let p = both (eqb m a) (eqb n b) e in (eqb-true m a p.0, eqb-true n b p.1)
+both_sizes m n a b e = let p = and_parts (eqb m a) (eqb n b) e in (eqb-true m a p.0, eqb-true n b p.1)
 
 most_sizes : (m n a b : ℕ) → (leb m a && leb n b) ≡ true → (m ≤ a) × (n ≤ b)
-most_sizes m n a b e = let p = both (leb m a) (leb n b) e in (leb-true m a p.0, leb-true n b p.1)
+most_sizes m n a b e = let p = and_parts (leb m a) (leb n b) e in (leb-true m a p.0, leb-true n b p.1)
 
 most_and_none : (m n a b : ℕ) → (leb m a && eqb n b) ≡ true → (m ≤ a) × (n ≡ b)
-most_and_none m n a b e = let p = both (leb m a) (eqb n b) e in (leb-true m a p.0, eqb-true n b p.1)
+most_and_none m n a b e = let p = and_parts (leb m a) (eqb n b) e in (leb-true m a p.0, eqb-true n b p.1)
 
 all_left : (ds : List Dest) → list_all is_left ds ≡ true → All (λ (d : Dest). d.port ≡ Left) ds
 all_left ds e = λ k d lt. left_is (get_or ds k d) (AllPass-from_list_all is_left ds e k d lt)
@@ -123,8 +117,8 @@ has_dests (Fetch a) ds es e = both_sizes (length ds) (length es) 1 0 e
 has_dests (Store a) ds es e = both_sizes (length ds) (length es) 1 0 e
 has_dests Frame ds es e = both_sizes (length ds) (length es) 1 0 e
 has_dests (Link b) ds es e =
-    let p = both (eqb (length ds) 1 && list_all is_left ds) (leb (length es) 1) e in
-    let q = both (eqb (length ds) 1) (list_all is_left ds) p.0 in
+    let p = and_parts (eqb (length ds) 1 && list_all is_left ds) (leb (length es) 1) e in
+    let q = and_parts (eqb (length ds) 1) (list_all is_left ds) p.0 in
     (eqb-true (length ds) 1 q.0, all_left ds q.1, leb-true (length es) 1 p.1)
 has_dests (Send b x) ds es e = most_sizes (length ds) (length es) 1 (length ds) e
 has_dests (Return o) ds es e = most_sizes (length ds) (length es) 1 (length ds) e
@@ -142,8 +136,8 @@ or_second false b n e = e
 is_dest : (b : CodeBlock) (n : ℕ) (d : Dest) → dest_fits b.instrs n d ≡ true → IsDest b n d
 is_dest b n d e =
     let right = is_left d || is_dyadic (slice_get b.instrs (n + d.ahead)) in
-    let p = both (ltb 0 d.ahead && ltb (n + d.ahead) (length b.instrs)) right e in
-    let q = both (ltb 0 d.ahead) (ltb (n + d.ahead) (length b.instrs)) p.0 in
+    let p = and_parts (ltb 0 d.ahead && ltb (n + d.ahead) (length b.instrs)) right e in
+    let q = and_parts (ltb 0 d.ahead) (ltb (n + d.ahead) (length b.instrs)) p.0 in
     record {
       later = ltb-true 0 d.ahead q.0;
       inside = ltb-true (n + d.ahead) (length b.instrs) q.1;
@@ -157,9 +151,9 @@ are_dests b n ds e = λ k d lt. is_dest b n (get_or ds k d) (AllPass-from_list_a
 is_origin : (version : ℕ) (op : Op) (o : Origin) → origin_fits version op o ≡ true → IsOrigin version op o
 is_origin version op Untold e = tt
 is_origin version op (At b n) e =
-    let p = both (eqb version 2 && may_fault op && ltb b 256) (ltb n 1024) e in
-    let q = both (eqb version 2 && may_fault op) (ltb b 256) p.0 in
-    let r = both (eqb version 2) (may_fault op) q.0 in
+    let p = and_parts (eqb version 2 && may_fault op && ltb b 256) (ltb n 1024) e in
+    let q = and_parts (eqb version 2 && may_fault op) (ltb b 256) p.0 in
+    let r = and_parts (eqb version 2) (may_fault op) q.0 in
     (eqb-true version 2 r.0, r.1, ltb-true b 256 q.1, ltb-true n 1024 p.1)
 
 -- ---- an instruction
@@ -171,8 +165,8 @@ is_instr version c b index n i x e =
     let s = then_ok (slot_fits b.slots (slot_of i i.op) i.slot) BadSlot (index + n) (λ _. unless (dests_fit b n i) BadDestination (index + n) >>= λ _. unless (origin_fits version i.op i.origin) BadOrigin (index + n)) x o.1 in
     let d = then_ok (dests_fit b n i) BadDestination (index + n) (λ _. unless (origin_fits version i.op i.origin) BadOrigin (index + n)) x s.1 in
     let g = unless_ok (origin_fits version i.op i.origin) BadOrigin (index + n) x d.1 in
-    let p = both (shape_fits i.op i.firsts i.seconds && list_all (dest_fits b.instrs n) i.firsts) (list_all (dest_fits b.instrs n) i.seconds) d.0 in
-    let q = both (shape_fits i.op i.firsts i.seconds) (list_all (dest_fits b.instrs n) i.firsts) p.0 in
+    let p = and_parts (shape_fits i.op i.firsts i.seconds && list_all (dest_fits b.instrs n) i.firsts) (list_all (dest_fits b.instrs n) i.seconds) d.0 in
+    let q = and_parts (shape_fits i.op i.firsts i.seconds) (list_all (dest_fits b.instrs n) i.firsts) p.0 in
     record {
       operand = has_operand c i.op l.0 o.0;
       origin = is_origin version i.op i.origin g;
@@ -206,12 +200,12 @@ is_block : (version : ℕ) (c : Code) (index : ℕ) (b : CodeBlock) → block_ch
 unfolding block_checked
 is_block version c index b e =
     let h = then_ok (entry_fits b) BadTable index (λ _. each (instr_checked version c b (index + 1)) 0 b.instrs) tt e in
-    let a = both (leb 1 b.inputs && leb b.inputs 16 && leb 1 b.outputs && leb b.outputs 16 && leb (b.inputs + 1) (length b.instrs) && leb (length b.instrs) 32768) (leb b.slots 512) h.0 in
-    let d = both (leb 1 b.inputs && leb b.inputs 16 && leb 1 b.outputs && leb b.outputs 16 && leb (b.inputs + 1) (length b.instrs)) (leb (length b.instrs) 32768) a.0 in
-    let f = both (leb 1 b.inputs && leb b.inputs 16 && leb 1 b.outputs && leb b.outputs 16) (leb (b.inputs + 1) (length b.instrs)) d.0 in
-    let g = both (leb 1 b.inputs && leb b.inputs 16 && leb 1 b.outputs) (leb b.outputs 16) f.0 in
-    let i = both (leb 1 b.inputs && leb b.inputs 16) (leb 1 b.outputs) g.0 in
-    let j = both (leb 1 b.inputs) (leb b.inputs 16) i.0 in
+    let a = and_parts (leb 1 b.inputs && leb b.inputs 16 && leb 1 b.outputs && leb b.outputs 16 && leb (b.inputs + 1) (length b.instrs) && leb (length b.instrs) 32768) (leb b.slots 512) h.0 in
+    let d = and_parts (leb 1 b.inputs && leb b.inputs 16 && leb 1 b.outputs && leb b.outputs 16 && leb (b.inputs + 1) (length b.instrs)) (leb (length b.instrs) 32768) a.0 in
+    let f = and_parts (leb 1 b.inputs && leb b.inputs 16 && leb 1 b.outputs && leb b.outputs 16) (leb (b.inputs + 1) (length b.instrs)) d.0 in
+    let g = and_parts (leb 1 b.inputs && leb b.inputs 16 && leb 1 b.outputs) (leb b.outputs 16) f.0 in
+    let i = and_parts (leb 1 b.inputs && leb b.inputs 16) (leb 1 b.outputs) g.0 in
+    let j = and_parts (leb 1 b.inputs) (leb b.inputs 16) i.0 in
     record {
       inputs = (leb-true 1 b.inputs j.0, leb-true b.inputs 16 j.1);
       outputs = (leb-true 1 b.outputs i.1, leb-true b.outputs 16 g.1);
@@ -232,8 +226,8 @@ arrays_fit index cells [] t few e = (All-nil IsArray, omega arith)
 arrays_fit index cells (n ∷ ns) t few e =
     let fits = leb 1 n && leb n 65536 && leb (cells + n) 65536 in
     let h = then_ok fits BadTable index (λ _. arrays_checked (index + 1) (cells + n) ns) t e in
-    let p = both (leb 1 n && leb n 65536) (leb (cells + n) 65536) h.0 in
-    let q = both (leb 1 n) (leb n 65536) p.0 in
+    let p = and_parts (leb 1 n && leb n 65536) (leb (cells + n) 65536) h.0 in
+    let q = and_parts (leb 1 n) (leb n 65536) p.0 in
     let rest = arrays_fit (index + 1) (cells + n) ns t (leb-true (cells + n) 65536 p.1) h.1 in
     (All-cons IsArray n ns (leb-true 1 n q.0, leb-true n 65536 q.1) rest.0, omega (arith, rest.1, sum-cons n ns))
 
@@ -271,9 +265,9 @@ has_object version c fit e =
     let v = then_ok (eqb version 1 || eqb version 2) BadVersion 0 (λ _. unless (counts_fit c) BadTable 0 >>= λ _. unless (leb (length c.literals) 65536) BadLiteral 0) h.0 h.1 in
     let n = then_ok (counts_fit c) BadTable 0 (λ _. unless (leb (length c.literals) 65536) BadLiteral 0) h.0 v.1 in
     let l = unless_ok (leb (length c.literals) 65536) BadLiteral 0 h.0 n.1 in
-    let p = both (leb 1 (length c.program.blocks) && leb (length c.program.blocks) 512 && ltb c.program.main (length c.program.blocks)) (leb (length c.program.arrays) 64) n.0 in
-    let q = both (leb 1 (length c.program.blocks) && leb (length c.program.blocks) 512) (ltb c.program.main (length c.program.blocks)) p.0 in
-    let r = both (leb 1 (length c.program.blocks)) (leb (length c.program.blocks) 512) q.0 in
+    let p = and_parts (leb 1 (length c.program.blocks) && leb (length c.program.blocks) 512 && ltb c.program.main (length c.program.blocks)) (leb (length c.program.arrays) 64) n.0 in
+    let q = and_parts (leb 1 (length c.program.blocks) && leb (length c.program.blocks) 512) (ltb c.program.main (length c.program.blocks)) p.0 in
+    let r = and_parts (leb 1 (length c.program.blocks)) (leb (length c.program.blocks) 512) q.0 in
     let arrays = arrays_fit (before_arrays c) 0 c.program.arrays a.0 (omega arith) a.1 in
     record {
       version_known = known version v.0;

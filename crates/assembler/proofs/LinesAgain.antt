@@ -23,9 +23,11 @@ use Rattle.assembler.specs.declared.fault.AsmFaultKind.{AsmFaultKind}
 use Rattle.assembler.specs.declared.fault.AsmFaultKind.TheVariants.{BadLine, BadNumber, BadName, BadSlot, BadDestination, BadOperand}
 use Rattle.assembler.specs.Words.{Word}
 use Rattle.assembler.specs.Grammar.{head_words, origin_words, instr_words}
-use Rattle.assembler.specs.Fields.{name_of, op_of, slot_from, dest_of}
+use Rattle.semantics.specs.Opcodes.{op_word, opcode_named}
+use Rattle.semantics.proofs.OperatorWords.{named_by, word_again}
+use Rattle.assembler.specs.Fields.{op_of, slot_from, dest_of}
 use Rattle.assembler.specs.Lines.{word_from, none_from, key_from, number_from, count_from, keyed_from, head_from, block_from, array_from, literal_from, origin_from, op_from, Tail, tail_from, named_from, instr_from}
-use Rattle.assembler.proofs.Again.{name_for, name_again, HasRoom, op_again, slot_again, IsNear, dest_again, IsPlace, origin_again}
+use Rattle.assembler.proofs.Again.{HasRoom, op_again, slot_again, IsNear, dest_again, IsPlace, origin_again}
 
 -- first this, which succeeds, and then that
 pub then_gives : {A B E : Type 0} (r : Result A E) (x : A) (f : A → Result B E) (y : Result B E) → r ≡ Ok x → f x ≡ y → (r >>= f) ≡ y
@@ -119,11 +121,11 @@ pub record HasLine (b : CodeBlock) (i : Instr) : Type 0 where
   pub seconds : IsNear i.seconds
   pub origin : IsPlace i.origin
 
-op_gives : (op : Op) → HasRoom op → op_from (Listing.name_of op) (operand_text op) ≡ Ok op
+op_gives : (op : Op) → HasRoom op → op_from (op_word op) (operand_text op) ≡ Ok op
 unfolding op_from
 op_gives op h =
-    then_gives (ok_or (name_of (Listing.name_of op)) BadName) (name_for op) (λ n. ok_or (op_of n (operand_text op)) BadOperand) (Ok op) (some_gives (name_of (Listing.name_of op)) BadName (name_for op) (name_again op))
-    (some_gives (op_of (name_for op) (operand_text op)) BadOperand op (op_again op h))
+    then_gives (ok_or (opcode_named (op_word op)) BadName) (named_by op) (λ n. ok_or (op_of n (operand_text op)) BadOperand) (Ok op) (some_gives (opcode_named (op_word op)) BadName (named_by op) (word_again op))
+    (some_gives (op_of (named_by op) (operand_text op)) BadOperand op (op_again op h))
 
 tail_gives : (s d e o : Word) (ws : List Word) → tail_from (s ∷ d ∷ e ∷ o ∷ ws) ≡ Ok (s, d, e, o, ws)
 unfolding tail_from word_from
@@ -140,14 +142,14 @@ remade i d e h k =
     let made : List Dest → List Dest → Instr = λ ds es. record { op = i.op; origin = i.origin; slot = i.slot; firsts = ds; seconds = es } in
     ap (λ (ds : List Dest). made ds (option_to_list e)) h ∙ ap (λ (es : List Dest). made i.firsts es) k
 
-named_gives : (b : CodeBlock) (i : Instr) → HasLine b i → named_from (Listing.name_of i.op) (tail_of i) ≡ Ok i
+named_gives : (b : CodeBlock) (i : Instr) → HasLine b i → named_from (op_word i.op) (tail_of i) ≡ Ok i
 unfolding named_from
 named_gives b i h =
     let t = tail_of i in
     let d = dest_again i.firsts h.firsts in
     let e = dest_again i.seconds h.seconds in
     let made = Ok i in
-    then_gives (op_from (Listing.name_of i.op) t.3) i.op (λ op. ok_or (slot_from (uses_slot op) t.0) BadSlot >>= λ slot. ok_or (dest_of t.1) BadDestination >>= λ x. ok_or (dest_of t.2) BadDestination >>= λ y. origin_from t.4 >>= λ origin. Ok (made_instr op slot x y origin)) made (op_gives i.op h.room)
+    then_gives (op_from (op_word i.op) t.3) i.op (λ op. ok_or (slot_from (uses_slot op) t.0) BadSlot >>= λ slot. ok_or (dest_of t.1) BadDestination >>= λ x. ok_or (dest_of t.2) BadDestination >>= λ y. origin_from t.4 >>= λ origin. Ok (made_instr op slot x y origin)) made (op_gives i.op h.room)
     (then_gives (ok_or (slot_from (uses_slot i.op) t.0) BadSlot) i.slot (λ slot. ok_or (dest_of t.1) BadDestination >>= λ x. ok_or (dest_of t.2) BadDestination >>= λ y. origin_from t.4 >>= λ origin. Ok (made_instr i.op slot x y origin)) made (some_gives (slot_from (uses_slot i.op) t.0) BadSlot i.slot (slot_again b i i.op h.few h.slot))
     (then_gives (ok_or (dest_of t.1) BadDestination) d.0 (λ x. ok_or (dest_of t.2) BadDestination >>= λ y. origin_from t.4 >>= λ origin. Ok (made_instr i.op i.slot x y origin)) made (some_gives (dest_of t.1) BadDestination d.0 d.1)
     (then_gives (ok_or (dest_of t.2) BadDestination) e.0 (λ y. origin_from t.4 >>= λ origin. Ok (made_instr i.op i.slot d.0 y origin)) made (some_gives (dest_of t.2) BadDestination e.0 e.1)
@@ -159,7 +161,7 @@ unfolding instr_from
 instr_gives b n i lt h =
     let t = tail_of i in
     let behind : List Word = t.0 ∷ t.1 ∷ t.2 ∷ t.3 ∷ t.4 in
-    let named : List Word = Listing.name_of i.op ∷ behind in
+    let named : List Word = op_word i.op ∷ behind in
     then_gives (count_from n (decimal n ∷ named)) named (λ r. word_from r >>= λ name. tail_from name.1 >>= λ u. named_from name.0 u) (Ok i) (count_gives n named lt)
-    (then_gives (word_from named) (Listing.name_of i.op, behind) (λ name. tail_from name.1 >>= λ u. named_from name.0 u) (Ok i) (word_gives (Listing.name_of i.op) behind)
-    (then_gives (tail_from behind) t (λ u. named_from (Listing.name_of i.op) u) (Ok i) (tail_gives t.0 t.1 t.2 t.3 t.4) (named_gives b i h)))
+    (then_gives (word_from named) (op_word i.op, behind) (λ name. tail_from name.1 >>= λ u. named_from name.0 u) (Ok i) (word_gives (op_word i.op) behind)
+    (then_gives (tail_from behind) t (λ u. named_from (op_word i.op) u) (Ok i) (tail_gives t.0 t.1 t.2 t.3 t.4) (named_gives b i h)))

@@ -1,12 +1,12 @@
 -- What is written of a code that has an object falls into the lines of this code.
 use Rattle.std.proofs.Common.{◌≡◌, ℕ, ◌+◌, ◌^◌, ◌<◌, ◌≤◌, not, eqb, leb, Bool, true, false, List, [], ◌∷◌, ◌++◌, length, All, Option, Some, None, ℤ, pos, negsuc, refl, sym, ap, subst, ◌∙◌, append_assoc, arith, inl, inr}
-use Rattle.std.specs.Prelude.{codes, ◌⊎◌}
+use Rattle.std.specs.Prelude.{codes, ◌⊎◌, nat_lt}
 use Rattle.std.specs.Int.{w64}
 use Rattle.std.specs.Int.RustNames.{FitsSigned}
 use Rattle.std.specs.Fmt.{decimal}
 use Rattle.std.specs.List.{list_all}
 use Rattle.std.specs.Char.{is_ascii_digit}
-use Rattle.std.proofs.lemmas.Bool.{leb-true, le-leb, ne_eqb, and_parts, and_from, not_from_false}
+use Rattle.std.proofs.lemmas.Bool.{ltb-true, leb-true, le-leb, ne_eqb, and_parts, and_from, not_from_false}
 use Rattle.std.proofs.lemmas.List.{append-nil, length-append}
 use Rattle.std.proofs.lemmas.List.Folds.{list_all-append}
 use Rattle.std.proofs.lemmas.List.Elements.{All-head, All-tail}
@@ -18,7 +18,7 @@ use Rattle.tags.specs.declared.value.Origin.TheVariants.{Untold, At}
 use Rattle.operators.specs.declared.Unary.{Unary}
 use Rattle.operators.specs.declared.Unary.TheVariants.{Neg, Not}
 use Rattle.operators.specs.declared.Binary.{Binary}
-use Rattle.operators.specs.declared.Binary.TheVariants.{Add, Sub, Mul, Div, Rem, And, Or, Xor, Shl, Shr, Eq, Ne, Lt, Le}
+use Rattle.operators.proofs.Every.{all_binary}
 use Rattle.semantics.specs.declared.program.Dest.{Dest}
 use Rattle.semantics.specs.declared.program.Op.{Op}
 use Rattle.semantics.specs.declared.program.Op.TheVariants.{Apply1, Apply2, Apply2Right, Apply2Left, Lit, Copy, Sync, Switch, Fetch, Store, Frame, Link, Send, Return, Ask, Open, Take, Give, Drain, Release}
@@ -27,7 +27,8 @@ use Rattle.semantics.specs.Rule.{slot_of}
 use Rattle.semantics.specs.Text.{field, literal, unary_word, binary_word}
 use Rattle.semantics.specs.Bytes.{IsSlot, IsCode}
 use Rattle.sink.specs.Numbered.{numbered}
-use Rattle.disassembler.specs.Listing.{right_in, left_in, name_of, slot_text, port_letter, dest_text, operand_text, origin_text, instr_line, literal_line, block_line, array_line, head_line, listing, listing_with_literals}
+use Rattle.disassembler.specs.Listing.{right_in, left_in, slot_text, port_letter, dest_text, operand_text, origin_text, instr_line, literal_line, block_line, array_line, head_line, listing, listing_with_literals}
+use Rattle.semantics.specs.Opcodes.{op_word}
 use Rattle.disassembler.specs.Listing as Listing
 use Rattle.graph_file.proofs.Numbers.{own, same_digits}
 use Rattle.graph_file.proofs.Marks.{weaker}
@@ -73,22 +74,10 @@ word_unary Neg = known (codes "neg") (omega arith) refl
 word_unary Not = known (codes "not") (omega arith) refl
 
 word_binary : (op : Binary) → IsWord (binary_word op)
-word_binary Add = known (codes "add") (omega arith) refl
-word_binary Sub = known (codes "sub") (omega arith) refl
-word_binary Mul = known (codes "mul") (omega arith) refl
-word_binary Div = known (codes "div") (omega arith) refl
-word_binary Rem = known (codes "rem") (omega arith) refl
-word_binary And = known (codes "and") (omega arith) refl
-word_binary Or = known (codes "or") (omega arith) refl
-word_binary Xor = known (codes "xor") (omega arith) refl
-word_binary Shl = known (codes "shl") (omega arith) refl
-word_binary Shr = known (codes "shr") (omega arith) refl
-word_binary Eq = known (codes "eq") (omega arith) refl
-word_binary Ne = known (codes "ne") (omega arith) refl
-word_binary Lt = known (codes "lt") (omega arith) refl
-word_binary Le = known (codes "le") (omega arith) refl
+word_binary op = known (binary_word op) (ltb-true 0 (length (binary_word op)) (all_binary (λ o. nat_lt 0 (length (binary_word o))) refl op))
+    (all_binary (λ o. list_all is_word_byte (binary_word o)) refl op)
 
-word_name : (op : Op) → IsWord (name_of op)
+word_name : (op : Op) → IsWord (op_word op)
 word_name (Apply1 op) = word_unary op
 word_name (Apply2 op) = word_binary op
 word_name (Apply2Right op z) = word_binary op
@@ -164,7 +153,7 @@ says_column bs ws width w h says = says_field bs (right_in width w) ws (w ∷ []
 
 tells_instr : (b : CodeBlock) (n : ℕ) (i : Instr) → n < 2 ^ 32 → HasLine b i → Tells (instr_line n i) (instr_words n i ∷ [])
 tells_instr b n i lt h =
-    let name = name_of i.op in
+    let name = op_word i.op in
     let slot = slot_text (slot_of i i.op) in
     let first = dest_text i.firsts in
     let second = dest_text i.seconds in

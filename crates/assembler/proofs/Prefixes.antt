@@ -1,9 +1,10 @@
 -- What was read so far is written so: each line that is read makes it longer by just that line.
 use Rattle.std.proofs.Common.{◌≡◌, ℕ, ◌+◌, ◌<◌, Bool, true, false, cond, List, [], ◌∷◌, ◌++◌, length, Result, Ok, ℤ, refl, sym, ap, subst, ◌∙◌, append_assoc, arith, inl, inr}
-use Rattle.std.specs.Prelude.{◌⊎◌, codes}
+use Rattle.std.specs.Prelude.{codes}
 use Rattle.std.specs.Str.{bytes_eq}
 use Rattle.std.proofs.lemmas.List.{append-nil, length-append}
 use Rattle.std.proofs.lemmas.Slice.Eq.{bytes_eq-Decides}
+use Rattle.lemmas.proofs.Bools.{cond_cases}
 use Rattle.semantics.specs.Program.{Instr, CodeBlock, Code}
 use Rattle.disassembler.specs.Listing.{literal_of}
 use Rattle.graph_file.specs.Given.{◌>>=◌}
@@ -218,10 +219,6 @@ literals_lead f Blocks ws s e h = literal_leads f ws s e h.0
 literals_lead f Arrays ws s e h = literal_leads f ws s e h.0
 literals_lead f Literals ws s e h = literal_leads f ws s e h.0
 
-pub chosen : {A : Type 0} (b : Bool) (x y z : A) → cond b x y ≡ z → ((b ≡ true) × (x ≡ z)) ⊎ ((b ≡ false) × (y ≡ z))
-chosen true x y z e = inl (refl, e)
-chosen false x y z e = inr (refl, e)
-
 abbrev pub by_word : Found → Part → Word → List Word → Result (Found × Part) AsmFaultKind
 by_word f p w ws = cond (bytes_eq w (codes "block")) (block_line f p ws)
     (cond (bytes_eq w (codes "array")) (must (takes_array p) BadLine >>= λ may. array_line f ws)
@@ -239,11 +236,11 @@ step_leads f p w ws s e h =
     let array = must (takes_array p) BadLine >>= λ may. array_line f ws in
     let table = must (takes_literal p) BadLine >>= λ may. literal_line f ws in
     let rest = cond (bytes_eq w (codes "literal")) table (other_line f p (w ∷ ws)) in
-    elim (chosen (bytes_eq w (codes "block")) (block_line f p ws) (cond (bytes_eq w (codes "array")) array rest) (Ok s) e) as (λ _. Leads (said f p) (w ∷ ws) s) [
+    elim (cond_cases (bytes_eq w (codes "block")) (block_line f p ws) (cond (bytes_eq w (codes "array")) array rest) (Ok s) e) as (λ _. Leads (said f p) (w ∷ ws) s) [
       | inl k ↦ named (said f p) w (codes "block") ws s k.0 (block_leads f p ws s k.1 h)
-      | inr k ↦ elim (chosen (bytes_eq w (codes "array")) array rest (Ok s) k.1) as (λ _. Leads (said f p) (w ∷ ws) s) [
+      | inr k ↦ elim (cond_cases (bytes_eq w (codes "array")) array rest (Ok s) k.1) as (λ _. Leads (said f p) (w ∷ ws) s) [
         | inl j ↦ named (said f p) w (codes "array") ws s j.0 (arrays_lead f p ws s j.1 h)
-        | inr j ↦ elim (chosen (bytes_eq w (codes "literal")) table (other_line f p (w ∷ ws)) (Ok s) j.1) as (λ _. Leads (said f p) (w ∷ ws) s) [
+        | inr j ↦ elim (cond_cases (bytes_eq w (codes "literal")) table (other_line f p (w ∷ ws)) (Ok s) j.1) as (λ _. Leads (said f p) (w ∷ ws) s) [
           | inl i ↦ named (said f p) w (codes "literal") ws s i.0 (literals_lead f p ws s i.1 h)
           | inr i ↦ other_leads f p (w ∷ ws) s i.1 h
         ]

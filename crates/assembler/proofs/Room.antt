@@ -1,10 +1,10 @@
 -- A code that has an object has lines: each of its numbers has room there.
-use Rattle.std.proofs.Common.{◌≡◌, ℕ, ◌^◌, ◌<◌, ◌≤◌, List, [], ◌∷◌, length, get_or, All, Some, ℤ, refl, subst, arith}
-use Rattle.std.specs.Prelude.{slice_get}
+use Rattle.std.proofs.Common.{◌≡◌, ℕ, ◌^◌, ◌<◌, ◌≤◌, List, [], ◌∷◌, length, All, ℤ, refl, arith}
 use Rattle.std.specs.Int.{w64}
 use Rattle.std.specs.Int.RustNames.{FitsSigned}
-use Rattle.std.proofs.lemmas.Option.{slice_get-get_or, slice_get_within, get_or_from_slice_get}
+use Rattle.std.proofs.lemmas.Option.{slice_get_within}
 use Rattle.std.proofs.lemmas.List.Elements.{All-contains, All-weaker}
+use Rattle.lemmas.proofs.Alls.{all_at, all_from}
 use Rattle.tags.specs.declared.value.Origin.{Origin}
 use Rattle.tags.specs.declared.value.Origin.TheVariants.{Untold, At}
 use Rattle.semantics.specs.declared.program.Dest.{Dest}
@@ -15,13 +15,6 @@ use Rattle.semantics.specs.Bytes.{IsDest, HasOperand, HasDests, IsOrigin, IsInst
 use Rattle.assembler.proofs.Again.{HasRoom, IsNear, IsPlace}
 use Rattle.assembler.proofs.LinesAgain.{HasLine}
 use Rattle.assembler.proofs.StepsAgain.{HasLines}
-
--- what holds of all holds of each
-pub all_at : {X : Type 0} (P : X → Type 0) (xs : List X) (k : ℕ) (x : X) → All P xs → slice_get xs k ≡ Some x → P x
-all_at P xs k x all at = subst P (get_or_from_slice_get xs k x x at) (all k x (slice_get_within xs k x at))
-
-pub all_from : {X : Type 0} (P : X → Type 0) (xs : List X) → ((k : ℕ) (x : X) → slice_get xs k ≡ Some x → P x) → All P xs
-all_from P xs h = λ k d lt. h k (get_or xs k d) (slice_get-get_or xs k d lt)
 
 has_room : (version : ℕ) (c : Code) → IsCode version c → (op : Op) → HasOperand c op → HasRoom op
 has_room version c is (Apply1 op) h = tt

@@ -7,6 +7,7 @@ use Rattle.std.specs.Ordering.{int_cmp}
 use Rattle.std.specs.Str.{bytes_eq}
 use Rattle.std.proofs.lemmas.List.Elements.{All-nil, All-push}
 use Rattle.std.proofs.lemmas.Map.Views.{All-insert_key}
+use Rattle.lemmas.proofs.Bools.{cond_cases}
 use Rattle.operators.specs.declared.Binary.{Binary}
 use Rattle.semantics.specs.declared.program.Op.{Op}
 use Rattle.semantics.specs.declared.program.Op.TheVariants as ops
@@ -20,13 +21,14 @@ use Rattle.graph_file.proofs.Marks.{literal_is}
 use Rattle.assembler.specs.declared.fault.AsmFaultKind.TheVariants.{BadLine, BadNumber, BadName, BadSlot, BadDestination, BadOperand}
 use Rattle.assembler.specs.declared.found.Part.{Part}
 use Rattle.assembler.specs.declared.found.Part.TheVariants.{Head, Start, Blocks, Arrays, Literals}
-use Rattle.assembler.specs.declared.names.Name.{Name}
-use Rattle.assembler.specs.declared.names.Name.TheVariants.{Apply1, Apply2, Lit, Copy, Sync, Switch, Fetch, Store, Frame, Link, Send, Return, Ask, Open, Take, Give, Drain, Release}
+use Rattle.semantics.specs.declared.opcode.Opcode.{Opcode}
+use Rattle.semantics.specs.declared.opcode.Opcode.TheVariants.{Apply1, Apply2, Apply2Right, Apply2Left, Lit, Copy, Sync, Switch, Fetch, Store, Frame, Link, Send, Return, Ask, Open, Take, Give, Drain, Release}
 use Rattle.assembler.specs.Words.{Word, lines_in}
 use Rattle.assembler.specs.Given.{must}
 use Rattle.assembler.specs.Grammar.{with_literal, IsListingOf}
 use Rattle.assembler.specs.Found.{Found}
-use Rattle.assembler.specs.Fields.{name_of, tagged, small_behind, wide_behind, literal_behind, side_behind, no_operand, sided, binary_from, entry_behind, op_of, slot_from, dest_of}
+use Rattle.semantics.specs.Opcodes.{opcode_named}
+use Rattle.assembler.specs.Fields.{tagged, small_behind, wide_behind, literal_behind, side_behind, no_operand, sided, binary_from, entry_behind, op_of, slot_from, dest_of}
 use Rattle.assembler.specs.Lines.{word_from, none_from, count_from, head_from, block_from, array_from, literal_from, origin_from, op_from, Tail, tail_from, named_from, instr_from}
 use Rattle.assembler.specs.Reading.{all_blocks, with_instr, nothing, head_line, first_block, next_block, array_line, literal_line, instr_line, takes_array, takes_literal, block_line, other_line, step, code_with, end_from, text_from}
 use Rattle.assembler.specs.Checks.{Checked, code_checked}
@@ -34,7 +36,7 @@ use Rattle.assembler.specs.Assembling.{unless_refused, assembled}
 use Rattle.assembler.proofs.Spelled.{then_is, map_is}
 use Rattle.assembler.proofs.Taken.{ok_is, ok_or_is, made_instr, dests_from}
 use Rattle.assembler.proofs.Steps.{steps, text_stripped}
-use Rattle.assembler.proofs.Prefixes.{Lines, chosen, by_word, step_is, no_step}
+use Rattle.assembler.proofs.Prefixes.{Lines, by_word, step_is, no_step}
 use Rattle.assembler.proofs.Fitting.{has_object}
 use Rattle.assembler.proofs.Sound.{is_listing}
 
@@ -61,7 +63,7 @@ side_signed c w z e = let t = then_is (tagged c w) literal_behind z e in behind_
 none_signed : (op : Op) (w : List ℕ) (y : Op) → HasSigned op → no_operand op w ≡ Some y → HasSigned y
 unfolding no_operand
 none_signed op w y h e =
-    elim (chosen (bytes_eq w (codes "-")) (Some op) None (Some y) e) as (λ _. HasSigned y) [
+    elim (cond_cases (bytes_eq w (codes "-")) (Some op) None (Some y) e) as (λ _. HasSigned y) [
       | inl k ↦ (let same : op ≡ y = let q = k.1 in cc in subst HasSigned same h)
       | inr k ↦ absurd (let q = k.1 in cc)
     ]
@@ -74,7 +76,7 @@ sided_signed op None None y right left e = absurd cc
 binary_signed : (op : Binary) (w : List ℕ) (y : Op) → binary_from op w ≡ Some y → HasSigned y
 unfolding binary_from
 binary_signed op w y e =
-    elim (chosen (bytes_eq w (codes "-")) (Some (ops.Apply2 op)) (sided op (side_behind 114 w) (side_behind 108 w)) (Some y) e) as (λ _. HasSigned y) [
+    elim (cond_cases (bytes_eq w (codes "-")) (Some (ops.Apply2 op)) (sided op (side_behind 114 w) (side_behind 108 w)) (Some y) e) as (λ _. HasSigned y) [
       | inl k ↦ (let same : ops.Apply2 op ≡ y = let q = k.1 in cc in subst HasSigned same tt)
       | inr k ↦ sided_signed op (side_behind 114 w) (side_behind 108 w) y (λ z h. side_signed 114 w z h) (λ z h. side_signed 108 w z h) k.1
     ]
@@ -82,10 +84,12 @@ binary_signed op w y e =
 mapped_signed : {A : Type 0} (make : A → Op) (o : Option A) (y : Op) → ((x : A) → o ≡ Some x → HasSigned (make x)) → option_map make o ≡ Some y → HasSigned y
 mapped_signed make o y h e = let m = map_is make o y e in subst HasSigned m.2 (h m.0 m.1)
 
-op_signed : (n : Name) (w : List ℕ) (y : Op) → op_of n w ≡ Some y → HasSigned y
+op_signed : (n : Opcode) (w : List ℕ) (y : Op) → op_of n w ≡ Some y → HasSigned y
 unfolding op_of
 op_signed (Apply1 op) w y e = none_signed (ops.Apply1 op) w y tt e
 op_signed (Apply2 op) w y e = binary_signed op w y e
+op_signed (Apply2Right op) w y e = absurd cc
+op_signed (Apply2Left op) w y e = absurd cc
 op_signed Lit w y e = mapped_signed ops.Lit (literal_behind w) y (λ z k. behind_signed w z k) e
 op_signed Copy w y e = none_signed ops.Copy w y tt e
 op_signed Sync w y e = none_signed ops.Sync w y tt e
@@ -107,7 +111,7 @@ op_signed Release w y e = mapped_signed ops.Release (small_behind 111 w) y (λ o
 from_signed : (name operand : Word) (op : Op) → op_from name operand ≡ Ok op → HasSigned op
 unfolding op_from
 from_signed name operand op e =
-    let n = bind_ok (ok_or (name_of name) BadName) (λ n. ok_or (op_of n operand) BadOperand) op e in
+    let n = bind_ok (ok_or (opcode_named name) BadName) (λ n. ok_or (op_of n operand) BadOperand) op e in
     op_signed n.0 operand op (ok_or_is (op_of n.0 operand) BadOperand op n.2)
 
 named_signed : (name : Word) (t : Tail) (i : Instr) → named_from name t ≡ Ok i → HasSigned i.op
@@ -205,11 +209,11 @@ word_signed f p w ws s e h =
     let array = must (takes_array p) BadLine >>= λ may. array_line f ws in
     let table = must (takes_literal p) BadLine >>= λ may. literal_line f ws in
     let rest = cond (bytes_eq w (codes "literal")) table (other_line f p (w ∷ ws)) in
-    elim (chosen (bytes_eq w (codes "block")) (block_line f p ws) (cond (bytes_eq w (codes "array")) array rest) (Ok s) e) as (λ _. AllSigned s) [
+    elim (cond_cases (bytes_eq w (codes "block")) (block_line f p ws) (cond (bytes_eq w (codes "array")) array rest) (Ok s) e) as (λ _. AllSigned s) [
       | inl k ↦ block_signed f p ws s k.1 h
-      | inr k ↦ elim (chosen (bytes_eq w (codes "array")) array rest (Ok s) k.1) as (λ _. AllSigned s) [
+      | inr k ↦ elim (cond_cases (bytes_eq w (codes "array")) array rest (Ok s) k.1) as (λ _. AllSigned s) [
         | inl j ↦ array_signed f ws s (bind_ok (must (takes_array p) BadLine) (λ may. array_line f ws) s j.1).2 h
-        | inr j ↦ elim (chosen (bytes_eq w (codes "literal")) table (other_line f p (w ∷ ws)) (Ok s) j.1) as (λ _. AllSigned s) [
+        | inr j ↦ elim (cond_cases (bytes_eq w (codes "literal")) table (other_line f p (w ∷ ws)) (Ok s) j.1) as (λ _. AllSigned s) [
           | inl i ↦ table_signed f ws s (bind_ok (must (takes_literal p) BadLine) (λ may. literal_line f ws) s i.1).2 h
           | inr i ↦ other_signed f p (w ∷ ws) s i.1 h
         ]

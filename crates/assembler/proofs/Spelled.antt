@@ -1,12 +1,14 @@
 -- A word that is read is the word that is written.
-use Rattle.std.proofs.Common.{◌≡◌, ℕ, suc, ◌-◌, ◌<◌, eqb, ltb, Bool, true, false, cond, List, [], ◌∷◌, ◌++◌, length, get_or, take, Option, Some, None, ℤ, refl, sym, ap, subst, ◌∙◌, append_assoc, arith, inl, inr}
-use Rattle.std.specs.Prelude.{◌⊎◌, ⊤, codes, option_map, option_to_list}
+use Rattle.std.proofs.Common.{◌≡◌, ℕ, ◌-◌, ◌<◌, eqb, ltb, Bool, true, false, cond, List, [], ◌∷◌, ◌++◌, length, get_or, take, Option, Some, None, ℤ, refl, sym, ap, subst, ◌∙◌, append_assoc, arith, inl, inr}
+use Rattle.std.specs.Prelude.{⊤, codes, option_map, option_to_list}
 use Rattle.std.specs.Fmt.{decimal}
 use Rattle.std.specs.List.{join_with_byte}
 use Rattle.std.specs.Str.{bytes_eq}
 use Rattle.std.proofs.lemmas.Bool.{eqb-true, ltb-true}
 use Rattle.std.proofs.lemmas.List.Splits.{join_with_byte-slice_split}
 use Rattle.std.proofs.lemmas.Slice.Eq.{bytes_eq-Decides}
+use Rattle.lemmas.proofs.Bools.{cond_cases}
+use Rattle.lemmas.proofs.Lists.{front_and_last}
 use Rattle.tags.specs.declared.token.Port.{Port}
 use Rattle.tags.specs.declared.token.Port.TheVariants.{Left, Right}
 use Rattle.tags.specs.declared.value.Origin.{Origin}
@@ -17,82 +19,20 @@ use Rattle.semantics.specs.declared.program.Op.{Op}
 use Rattle.semantics.specs.declared.program.Op.TheVariants as ops
 use Rattle.semantics.specs.Program.{Instr, uses_slot}
 use Rattle.semantics.specs.Rule.{slot_of}
-use Rattle.semantics.specs.declared.words.Operator.{Operator}
-use Rattle.semantics.specs.declared.words.Operator.TheVariants as operators
-use Rattle.semantics.specs.Words.{operator_word, operator_of as operators_of}
-use Rattle.semantics.proofs.OperatorWords.{operator_is as word_is_operator}
 use Rattle.semantics.specs.Text.{literal, unary_word, binary_word}
 use Rattle.disassembler.specs.Listing.{slot_text, port_letter, dest_text, operand_text}
 use Rattle.disassembler.specs.Listing as Listing
 use Rattle.graph_file.specs.Lines.{parts}
 use Rattle.graph_file.specs.Fields.{number_of, literal_of}
 use Rattle.graph_file.proofs.Marks.{number_is, literal_is}
-use Rattle.assembler.specs.declared.names.Name.{Name}
-use Rattle.assembler.specs.declared.names.Name.TheVariants.{Apply1, Apply2, Lit, Copy, Sync, Switch, Fetch, Store, Frame, Link, Send, Return, Ask, Open, Take, Give, Drain, Release}
+use Rattle.semantics.specs.declared.opcode.Opcode.{Opcode}
+use Rattle.semantics.specs.declared.opcode.Opcode.TheVariants.{Apply1, Apply2, Apply2Right, Apply2Left, Lit, Copy, Sync, Switch, Fetch, Store, Frame, Link, Send, Return, Ask, Open, Take, Give, Drain, Release}
 use Rattle.assembler.specs.Grammar.{origin_words}
-use Rattle.assembler.specs.Fields.{other_names, name_in, name_for, operator_of, name_of, then_some, tagged, below, small_of, wide_of, small_behind, wide_behind, literal_behind, side_behind, no_operand, sided, binary_from, pair_of, entry_parts, entry_of, entry_behind, op_of, slot_from, dest_to, dest_parts, dest_behind, dest_of, node_of, place_of, place_parts, place_in, origin_of}
-
--- ---- names
-abbrev pub name_text : Name → List ℕ
-name_text (Apply1 op) = unary_word op
-name_text (Apply2 op) = binary_word op
-name_text Lit = codes "lit"
-name_text Copy = codes "copy"
-name_text Sync = codes "sync"
-name_text Switch = codes "switch"
-name_text Fetch = codes "fetch"
-name_text Store = codes "store"
-name_text Frame = codes "frame"
-name_text Link = codes "link"
-name_text Send = codes "send"
-name_text Return = codes "return"
-name_text Ask = codes "ask"
-name_text Open = codes "open"
-name_text Take = codes "take"
-name_text Give = codes "give"
-name_text Drain = codes "drain"
-name_text Release = codes "release"
-
-abbrev AreNames : List (List ℕ × Name) → Type 0
-AreNames [] = ⊤
-AreNames (e ∷ es) = (e.0 ≡ name_text e.1) × AreNames es
-
-name_in_is : (table : List (List ℕ × Name)) (otherwise : Option Name) (w : List ℕ) (n : Name) → AreNames table → (otherwise ≡ Some n → w ≡ name_text n) → name_in table otherwise w ≡ Some n → w ≡ name_text n
-name_in_is [] otherwise w n h k e = k e
-name_in_is (x ∷ xs) otherwise w n h k e = go (bytes_eq w x.0) refl (name_in_is xs otherwise w n h.1 k)
-  where
-    go : (t : Bool) → bytes_eq w x.0 ≡ t → (name_in xs otherwise w ≡ Some n → w ≡ name_text n) → w ≡ name_text n
-    go true t rec =
-        let same : Some x.1 ≡ Some n = rw t at e in
-        let is : x.1 ≡ n = cc in
-        (bytes_eq-Decides w x.0).0 t ∙ h.0 ∙ ap name_text is
-    go false t rec = rec (let k : name_in xs otherwise w ≡ Some n = rw t at e in k)
-
-operator_is : (w : List ℕ) (n : Name) → operator_of w ≡ Some n → w ≡ name_text n
-unfolding operator_of
-operator_is w n e = go (operators_of w) refl
-  where
-    text : (o : Operator) → operator_word o ≡ name_text (name_for o)
-    text (operators.One op) = refl
-    text (operators.Two op) = refl
-
-    go : (o : Option Operator) → operators_of w ≡ o → w ≡ name_text n
-    go None t = absurd (let k : None ≡ Some n = rw t at e in cc)
-    go (Some o) t =
-        let k : Some (name_for o) ≡ Some n = rw t at e in
-        let same : name_for o ≡ n = cc in
-        word_is_operator w o t ∙ text o ∙ ap name_text same
-
-pub name_is : (w : List ℕ) (n : Name) → name_of w ≡ Some n → w ≡ name_text n
-unfolding name_of
-name_is w n e = name_in_is other_names (operator_of w) w n
-    (refl, (refl, (refl, (refl, (refl, (refl, (refl, (refl, (refl, (refl, (refl, (refl, (refl, (refl, (refl, (refl, tt))))))))))))))))
-    (operator_is w n) e
+use Rattle.semantics.specs.Opcodes.{opcode_word}
+use Rattle.semantics.specs.Opcodes as Opcodes
+use Rattle.assembler.specs.Fields.{then_some, tagged, below, small_of, wide_of, small_behind, wide_behind, literal_behind, side_behind, no_operand, sided, binary_from, pair_of, entry_parts, entry_of, entry_behind, op_of, slot_from, dest_to, dest_parts, dest_behind, dest_of, node_of, place_of, place_parts, place_in, origin_of}
 
 -- ---- small parts
-chosen : {A : Type 0} (b : Bool) (x y z : A) → cond b x y ≡ z → ((b ≡ true) × (x ≡ z)) ⊎ ((b ≡ false) × (y ≡ z))
-chosen true x y z e = inl (refl, e)
-chosen false x y z e = inr (refl, e)
 
 pub then_is : {A B : Type 0} (o : Option A) (f : A → Option B) (y : B) → then_some o f ≡ Some y → (x : A) × (o ≡ Some x) × (f x ≡ Some y)
 then_is None f y e = absurd cc
@@ -162,13 +102,13 @@ side_behind_is c w z e =
     tagged_is c w t.0 t.1 ∙ ap (λ (xs : List ℕ). c ∷ xs) (literal_behind_is t.0 z t.2)
 
 -- ---- operands
-abbrev Says : Name → List ℕ → Op → Type 0
-Says n w op = (name_text n ≡ Listing.name_of op) × (w ≡ operand_text op)
+abbrev Says : Opcode → List ℕ → Op → Type 0
+Says n w op = (opcode_word n ≡ Opcodes.op_word op) × (w ≡ operand_text op)
 
-no_operand_is : (n : Name) (op : Op) (w : List ℕ) (y : Op) → name_text n ≡ Listing.name_of op → operand_text op ≡ codes "-" → no_operand op w ≡ Some y → Says n w y
+no_operand_is : (n : Opcode) (op : Op) (w : List ℕ) (y : Op) → opcode_word n ≡ Opcodes.op_word op → operand_text op ≡ codes "-" → no_operand op w ≡ Some y → Says n w y
 unfolding no_operand
 no_operand_is n op w y name none e =
-    elim (chosen (bytes_eq w (codes "-")) (Some op) None (Some y) e) as (λ _. Says n w y) [
+    elim (cond_cases (bytes_eq w (codes "-")) (Some op) None (Some y) e) as (λ _. Says n w y) [
       | inl h ↦
           let k : op ≡ y = let q = h.1 in cc in
           subst (Says n w) k (name, (bytes_eq-Decides w (codes "-")).0 h.0 ∙ sym none)
@@ -183,7 +123,7 @@ sided_is op w None None y right left e = absurd cc
 binary_is : (op : Binary) (w : List ℕ) (y : Op) → binary_from op w ≡ Some y → Says (Apply2 op) w y
 unfolding binary_from
 binary_is op w y e =
-    elim (chosen (bytes_eq w (codes "-")) (Some (ops.Apply2 op)) (sided op (side_behind 114 w) (side_behind 108 w)) (Some y) e) as (λ _. Says (Apply2 op) w y) [
+    elim (cond_cases (bytes_eq w (codes "-")) (Some (ops.Apply2 op)) (sided op (side_behind 114 w) (side_behind 108 w)) (Some y) e) as (λ _. Says (Apply2 op) w y) [
       | inl h ↦
           let k : ops.Apply2 op ≡ y = let q = h.1 in cc in
           subst (Says (Apply2 op) w) k (refl, (bytes_eq-Decides w (codes "-")).0 h.0)
@@ -221,15 +161,17 @@ entry_behind_is w p e =
     let t = then_is (tagged 98 w) entry_of p e in
     tagged_is 98 w t.0 t.1 ∙ ap (λ (xs : List ℕ). 98 ∷ xs) (entry_is t.0 p t.2) ∙ sym (send_text p.0 p.1)
 
-mapped : {A : Type 0} (n : Name) (w : List ℕ) (make : A → Op) (o : Option A) (y : Op) → ((x : A) → o ≡ Some x → Says n w (make x)) → option_map make o ≡ Some y → Says n w y
+mapped : {A : Type 0} (n : Opcode) (w : List ℕ) (make : A → Op) (o : Option A) (y : Op) → ((x : A) → o ≡ Some x → Says n w (make x)) → option_map make o ≡ Some y → Says n w y
 mapped n w make o y h e =
     let m = map_is make o y e in
     subst (Says n w) m.2 (h m.0 m.1)
 
-pub op_is : (n : Name) (w : List ℕ) (y : Op) → op_of n w ≡ Some y → Says n w y
+pub op_is : (n : Opcode) (w : List ℕ) (y : Op) → op_of n w ≡ Some y → Says n w y
 unfolding op_of
 op_is (Apply1 op) w y e = no_operand_is (Apply1 op) (ops.Apply1 op) w y refl refl e
 op_is (Apply2 op) w y e = binary_is op w y e
+op_is (Apply2Right op) w y e = absurd cc
+op_is (Apply2Left op) w y e = absurd cc
 op_is Lit w y e = mapped Lit w ops.Lit (literal_behind w) y (λ z k. (refl, literal_behind_is w z k)) e
 op_is Copy w y e = no_operand_is Copy ops.Copy w y refl refl e
 op_is Sync w y e = no_operand_is Sync ops.Sync w y refl refl e
@@ -255,7 +197,7 @@ used_slot w s e = (number_is w s e).0
 no_slot : (w : List ℕ) (s : ℕ) → slot_from false w ≡ Some s → w ≡ codes "-"
 unfolding slot_from
 no_slot w s e =
-    elim (chosen (bytes_eq w (codes "-")) (Some 0) None (Some s) e) as (λ _. w ≡ codes "-") [
+    elim (cond_cases (bytes_eq w (codes "-")) (Some 0) None (Some s) e) as (λ _. w ≡ codes "-") [
       | inl h ↦ (bytes_eq-Decides w (codes "-")).0 h.0
       | inr h ↦ absurd (let q = h.1 in cc)
     ]
@@ -286,12 +228,6 @@ pub slot_is : (i : Instr) (w : List ℕ) → slot_from (uses_slot i.op) w ≡ So
 slot_is i w e = slot_at i.op i w e
 
 -- ---- destinations
-rejoined : (bs : List ℕ) → 0 < length bs → bs ≡ take (length bs - 1) bs ++ get_or bs (length bs - 1) 0 ∷ []
-rejoined [] h = absurd (omega arith)
-rejoined (b ∷ []) h = refl
-rejoined (b ∷ c ∷ bs) h =
-    let n : length (b ∷ c ∷ bs) - 1 ≡ suc (length (c ∷ bs) - 1) = omega arith in
-    rw n (ap (λ (xs : List ℕ). b ∷ xs) (rejoined (c ∷ bs) (omega arith)))
 
 abbrev tail_text : List Dest → List ℕ
 tail_text [] = []
@@ -308,9 +244,9 @@ dest_to_is port w front y is e = go (number_of front) refl e
 
 dest_parts_is : (w front : List ℕ) (last : ℕ) (y : Option Dest) → w ≡ front ++ last ∷ [] → dest_parts front last ≡ Some y → (d : Dest) × (y ≡ Some d) × (w ≡ decimal d.ahead ++ port_letter d.port)
 dest_parts_is w front last y is e =
-    elim (chosen (eqb last 108) (dest_to Left (number_of front)) (cond (eqb last 114) (dest_to Right (number_of front)) None) (Some y) e) as (λ _. (d : Dest) × (y ≡ Some d) × (w ≡ decimal d.ahead ++ port_letter d.port)) [
+    elim (cond_cases (eqb last 108) (dest_to Left (number_of front)) (cond (eqb last 114) (dest_to Right (number_of front)) None) (Some y) e) as (λ _. (d : Dest) × (y ≡ Some d) × (w ≡ decimal d.ahead ++ port_letter d.port)) [
       | inl h ↦ dest_to_is Left w front y (is ∙ ap (λ (x : ℕ). front ++ x ∷ []) (eqb-true last 108 h.0)) h.1
-      | inr h ↦ elim (chosen (eqb last 114) (dest_to Right (number_of front)) None (Some y) h.1) as (λ _. (d : Dest) × (y ≡ Some d) × (w ≡ decimal d.ahead ++ port_letter d.port)) [
+      | inr h ↦ elim (cond_cases (eqb last 114) (dest_to Right (number_of front)) None (Some y) h.1) as (λ _. (d : Dest) × (y ≡ Some d) × (w ≡ decimal d.ahead ++ port_letter d.port)) [
         | inl k ↦ dest_to_is Right w front y (is ∙ ap (λ (x : ℕ). front ++ x ∷ []) (eqb-true last 114 k.0)) k.1
         | inr k ↦ absurd (let q = k.1 in cc)
       ]
@@ -319,12 +255,12 @@ dest_parts_is w front last y is e =
 dest_behind_is : (w : List ℕ) (y : Option Dest) → dest_behind w ≡ Some y → (d : Dest) × (y ≡ Some d) × (w ≡ decimal d.ahead ++ port_letter d.port)
 unfolding dest_behind
 dest_behind_is [] y e = absurd cc
-dest_behind_is (x ∷ xs) y e = dest_parts_is (x ∷ xs) (take (length (x ∷ xs) - 1) (x ∷ xs)) (get_or (x ∷ xs) (length (x ∷ xs) - 1) 0) y (rejoined (x ∷ xs) (omega arith)) e
+dest_behind_is (x ∷ xs) y e = dest_parts_is (x ∷ xs) (take (length (x ∷ xs) - 1) (x ∷ xs)) (get_or (x ∷ xs) (length (x ∷ xs) - 1) 0) y (front_and_last (x ∷ xs) (omega arith)) e
 
 pub dest_is : (w : List ℕ) (y : Option Dest) → dest_of w ≡ Some y → w ≡ dest_text (option_to_list y)
 unfolding dest_of
 dest_is w y e =
-    elim (chosen (bytes_eq w (codes "-")) (Some None) (then_some (tagged 43 w) dest_behind) (Some y) e) as (λ _. w ≡ dest_text (option_to_list y)) [
+    elim (cond_cases (bytes_eq w (codes "-")) (Some None) (then_some (tagged 43 w) dest_behind) (Some y) e) as (λ _. w ≡ dest_text (option_to_list y)) [
       | inl h ↦
           let k : None ≡ y = let q = h.1 in cc in
           subst (λ (o : Option Dest). w ≡ dest_text (option_to_list o)) k ((bytes_eq-Decides w (codes "-")).0 h.0)

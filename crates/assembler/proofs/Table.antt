@@ -6,13 +6,13 @@ use Rattle.std.specs.Int.{w64}
 use Rattle.std.specs.Int.RustNames.{FitsSigned}
 use Rattle.std.proofs.lemmas.Option.{get_or_from_slice_get}
 use Rattle.std.proofs.lemmas.List.Elements.{All-contains}
+use Rattle.lemmas.proofs.Alls.{all_at, all_from}
 use Rattle.semantics.specs.declared.program.Op.{Op}
 use Rattle.semantics.specs.declared.program.Op.TheVariants.{Apply1, Apply2, Apply2Right, Apply2Left, Lit, Copy, Sync, Switch, Fetch, Store, Frame, Link, Send, Return, Ask, Open, Take, Give, Drain, Release}
 use Rattle.semantics.specs.Program.{Instr, CodeBlock, Code}
 use Rattle.semantics.specs.Bytes.{HasOperand, IsInstr, IsCodeBlock, IsCode}
 use Rattle.disassembler.specs.Listing.{literal_of}
 use Rattle.assembler.specs.Grammar.{with_literal, used_by, used_in, table_of, IsOperand, AllOperands, with_operands}
-use Rattle.assembler.proofs.Room.{all_at, all_from}
 use Rattle.assembler.proofs.Ascents.{In, Ascends, ascends_from, steps_up, same_members, no_more, ascends_put, put_has, put_new, put_old, in_from, in_at, place_of}
 
 -- ---- which literals instructions have

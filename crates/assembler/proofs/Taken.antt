@@ -22,9 +22,11 @@ use Rattle.assembler.specs.declared.fault.AsmFaultKind.{AsmFaultKind}
 use Rattle.assembler.specs.declared.fault.AsmFaultKind.TheVariants.{BadLine, BadNumber, BadName, BadSlot, BadDestination, BadOperand, BadOrigin}
 use Rattle.assembler.specs.Words.{Word}
 use Rattle.assembler.specs.Grammar.{head_words, block_words, origin_words, instr_words, array_words, literal_words}
-use Rattle.assembler.specs.Fields.{name_of, op_of, slot_from, dest_of, origin_of}
+use Rattle.semantics.specs.Opcodes.{opcode_named, op_word}
+use Rattle.semantics.proofs.OperatorWords.{opcode_is}
+use Rattle.assembler.specs.Fields.{op_of, slot_from, dest_of, origin_of}
 use Rattle.assembler.specs.Lines.{word_from, none_from, key_from, number_from, count_from, keyed_from, head_from, block_from, array_from, literal_from, origin_from, op_from, Tail, tail_from, named_from, instr_from}
-use Rattle.assembler.proofs.Spelled.{name_is, op_is, slot_is, dest_is, origin_is}
+use Rattle.assembler.proofs.Spelled.{op_is, slot_is, dest_is, origin_is}
 
 abbrev done : {A : Type 0} → A → Result A AsmFaultKind
 done x = Ok x
@@ -144,14 +146,14 @@ origin_takes (w ∷ []) o e = origin_is w o (ok_or_is (origin_of w) BadOrigin o 
 origin_takes (w ∷ x ∷ ws) o e = absurd cc
 
 abbrev OpTakes : Word → Word → Op → Type 0
-OpTakes name operand op = (name ≡ Listing.name_of op) × (operand ≡ operand_text op)
+OpTakes name operand op = (name ≡ op_word op) × (operand ≡ operand_text op)
 
 op_takes : (name operand : Word) (op : Op) → op_from name operand ≡ Ok op → OpTakes name operand op
 unfolding op_from
 op_takes name operand op e =
-    let n = bind_ok (ok_or (name_of name) BadName) (λ n. ok_or (op_of n operand) BadOperand) op e in
+    let n = bind_ok (ok_or (opcode_named name) BadName) (λ n. ok_or (op_of n operand) BadOperand) op e in
     let is = op_is n.0 operand op (ok_or_is (op_of n.0 operand) BadOperand op n.2) in
-    (name_is name n.0 (ok_or_is (name_of name) BadName n.0 n.1) ∙ is.0, is.1)
+    (opcode_is name n.0 (ok_or_is (opcode_named name) BadName n.0 n.1) ∙ is.0, is.1)
 
 tail_takes : (ws : List Word) (t : Tail) → tail_from ws ≡ Ok t → ws ≡ t.0 ∷ t.1 ∷ t.2 ∷ t.3 ∷ t.4
 unfolding tail_from
@@ -174,7 +176,7 @@ abbrev behind_name : Instr → List Word
 behind_name i = slot_text (slot_of i i.op) ∷ dest_text i.firsts ∷ dest_text i.seconds ∷ operand_text i.op ∷ origin_words i.origin
 
 abbrev NamedTakes : Word → Tail → Instr → Type 0
-NamedTakes name t i = (name ≡ Listing.name_of i.op) × (t.0 ∷ t.1 ∷ t.2 ∷ t.3 ∷ t.4 ≡ behind_name i)
+NamedTakes name t i = (name ≡ op_word i.op) × (t.0 ∷ t.1 ∷ t.2 ∷ t.3 ∷ t.4 ≡ behind_name i)
 
 abbrev pub dests_from : Tail → Op → ℕ → Result Instr AsmFaultKind
 dests_from t op slot = ok_or (dest_of t.1) BadDestination >>= λ d. ok_or (dest_of t.2) BadDestination >>= λ x. origin_from t.4 >>= λ origin. Ok (made_instr op slot d x origin)
@@ -206,5 +208,5 @@ instr_takes n ws i e =
     let m = bind_ok (word_from r.0) (λ name. tail_from name.1 >>= λ t. named_from name.0 t) i r.2 in
     let t = bind_ok (tail_from m.0.1) (λ t. named_from m.0.0 t) i m.2 in
     let k = named_takes m.0.0 t.0 i t.2 in
-    let rest : r.0 ≡ Listing.name_of i.op ∷ behind_name i = word_takes r.0 m.0 m.1 ∙ ap (λ (w : Word). w ∷ m.0.1) k.0 ∙ ap (λ (ys : List Word). Listing.name_of i.op ∷ ys) (tail_takes m.0.1 t.0 t.1 ∙ k.1) in
+    let rest : r.0 ≡ op_word i.op ∷ behind_name i = word_takes r.0 m.0 m.1 ∙ ap (λ (w : Word). w ∷ m.0.1) k.0 ∙ ap (λ (ys : List Word). op_word i.op ∷ ys) (tail_takes m.0.1 t.0 t.1 ∙ k.1) in
     count_takes n ws r.0 r.1 ∙ ap (λ (ys : List Word). decimal n ∷ ys) rest

@@ -5,6 +5,7 @@ use Rattle.std.proofs.lemmas.Bool.{leb-true, le-leb, ne_eqb, and_parts, and_from
 use Rattle.std.proofs.lemmas.List.{append-nil}
 use Rattle.std.proofs.lemmas.List.Folds.{list_all-append}
 use Rattle.std.proofs.lemmas.List.Splits.{slice_split_none}
+use Rattle.lemmas.proofs.Lists.{map_append}
 use Rattle.semantics.specs.Text.{line, field}
 use Rattle.disassembler.specs.Listing.{spaces, right_in, left_in}
 use Rattle.graph_file.specs.Lines.{parts}
@@ -142,14 +143,10 @@ filled_one : (w : Word) (ws : List Word) → filled ((w ∷ ws) ∷ []) ≡ (w �
 unfolding filled
 filled_one w ws = refl
 
-map_both : (f : List ℕ → List Word) (xs ys : List (List ℕ)) → map f (xs ++ ys) ≡ map f xs ++ map f ys
-map_both f [] ys = refl
-map_both f (x ∷ xs) ys = ap (λ (ls : Lines). f x ∷ ls) (map_both f xs ys)
-
 lines_both : (bs rest : List ℕ) → lines_in (bs ++ 10 ∷ rest) ≡ lines_in bs ++ lines_in rest
 lines_both bs rest =
     ap (λ (ps : List (List ℕ)). filled (map words_of ps)) (parts_both 10 bs rest refl)
-    ∙ ap filled (map_both words_of (parts 10 bs) (parts 10 rest)) ∙ filled_both (map words_of (parts 10 bs)) (map words_of (parts 10 rest))
+    ∙ ap filled (map_append words_of (parts 10 bs) (parts 10 rest)) ∙ filled_both (map words_of (parts 10 bs)) (map words_of (parts 10 rest))
 
 no_lines : lines_in [] ≡ []
 unfolding filled words_of kept

@@ -13,7 +13,8 @@ use Rattle.semantics.specs.declared.program.Op.{Op}
 use Rattle.semantics.specs.declared.program.Op.TheVariants.{Apply2, Apply2Right, Apply2Left, Lit, Sync, Switch, Fetch, Store, Frame, Link, Send, Return, Ask, Open, Take, Give, Drain, Release}
 use Rattle.semantics.specs.Program.{Instr, CodeBlock, Code}
 use Rattle.semantics.specs.Rule.{slot_of}
-use Rattle.semantics.specs.Bytes.{is_dyadic, may_fault}
+use Rattle.semantics.specs.Bytes.{is_dyadic}
+use Rattle.semantics.specs.Opcodes.{may_fault}
 use Rattle.graph_file.specs.Given.{◌>>=◌}
 use Rattle.assembler.specs.declared.fault.AsmFaultKind.{AsmFaultKind}
 use Rattle.assembler.specs.declared.fault.AsmFaultKind.TheVariants.{BadVersion, BadTable, BadLiteral, BadOperand, BadSlot, BadDestination, BadOrigin}
@@ -85,22 +86,6 @@ shape_fits (Give k) ds es = nat_le (length ds) 1 && length es == 0
 shape_fits (Drain k) ds es = nat_le (length ds) 1 && length es == 0
 shape_fits Switch ds es = nat_le (length ds) 1 && nat_le (length es) 1
 shape_fits op ds es = nat_le (length ds) 1 && nat_le (length es) (length ds)
-
-abbrev pub takes_two : Op → Bool
-takes_two (Apply2 op) = true
-takes_two Sync = true
-takes_two Switch = true
-takes_two (Store a) = true
-takes_two (Send b e) = true
-takes_two (Return o) = true
-takes_two (Ask o) = true
-takes_two (Release o) = true
-takes_two op = false
-
-abbrev pub is_division : Binary → Bool
-is_division Div = true
-is_division Rem = true
-is_division op = false
 
 -- a later instruction of the block, and a right port only where it takes two tokens
 abbrev pub dest_fits : List Instr → ℕ → Dest → Bool

@@ -9,35 +9,10 @@ use Rattle.operators.specs.declared.Binary.{Binary}
 use Rattle.semantics.specs.declared.program.Dest.{Dest}
 use Rattle.semantics.specs.declared.program.Op.{Op}
 use Rattle.semantics.specs.declared.program.Op.TheVariants as ops
-use Rattle.semantics.specs.declared.words.Operator.{Operator}
-use Rattle.semantics.specs.declared.words.Operator.TheVariants as operators
-use Rattle.semantics.specs.Words as Spelled
 use Rattle.graph_file.specs.Lines.{parts}
 use Rattle.graph_file.specs.Fields.{number_of, literal_of}
-use Rattle.assembler.specs.declared.names.Name.{Name}
-use Rattle.assembler.specs.declared.names.Name.TheVariants.{Apply1, Apply2, Lit, Copy, Sync, Switch, Fetch, Store, Frame, Link, Send, Return, Ask, Open, Take, Give, Drain, Release}
-
--- NAMES
-abbrev pub other_names : List (List ℕ × Name)
-other_names = (codes "lit", Lit) ∷ (codes "copy", Copy) ∷ (codes "sync", Sync) ∷ (codes "switch", Switch) ∷ (codes "fetch", Fetch) ∷ (codes "store", Store)
-    ∷ (codes "frame", Frame) ∷ (codes "link", Link) ∷ (codes "send", Send) ∷ (codes "return", Return) ∷ (codes "ask", Ask) ∷ (codes "open", Open)
-    ∷ (codes "take", Take) ∷ (codes "give", Give) ∷ (codes "drain", Drain) ∷ (codes "release", Release) ∷ []
-
--- what the word is in a list of names, or in what else there is
-abbrev pub name_in : List (List ℕ × Name) → Option Name → List ℕ → Option Name
-name_in [] otherwise w = otherwise
-name_in (n ∷ ns) otherwise w = if bytes_eq w n.0 then Some n.1 else name_in ns otherwise w
-
-abbrev pub name_for : Operator → Name
-name_for (operators.One op) = Apply1 op
-name_for (operators.Two op) = Apply2 op
-
--- the names of operators
-unfoldable pub operator_of : List ℕ → Option Name
-operator_of w = option_map name_for (Spelled.operator_of w)
-
-unfoldable pub name_of : List ℕ → Option Name
-name_of w = name_in other_names (operator_of w) w
+use Rattle.semantics.specs.declared.opcode.Opcode.{Opcode}
+use Rattle.semantics.specs.declared.opcode.Opcode.TheVariants.{Apply1, Apply2, Apply2Right, Apply2Left, Lit, Copy, Sync, Switch, Fetch, Store, Frame, Link, Send, Return, Ask, Open, Take, Give, Drain, Release}
 
 -- SMALL PARTS
 abbrev pub then_some : {A B : Type 0} → Option A → (A → Option B) → Option B
@@ -103,10 +78,12 @@ entry_of w = entry_parts (parts 46 w)
 unfoldable pub entry_behind : List ℕ → Option (ℕ × ℕ)
 entry_behind w = then_some (tagged 98 w) entry_of
 
--- the operation of that name with the operand that the word says
-unfoldable pub op_of : Name → List ℕ → Option Op
+-- The operation of that opcode, which a word names, with the operand that the word says. No word says that an operand is a literal.
+unfoldable pub op_of : Opcode → List ℕ → Option Op
 op_of (Apply1 op) w = no_operand (ops.Apply1 op) w
 op_of (Apply2 op) w = binary_from op w
+op_of (Apply2Right op) w = None
+op_of (Apply2Left op) w = None
 op_of Lit w = option_map ops.Lit (literal_behind w)
 op_of Copy w = no_operand ops.Copy w
 op_of Sync w = no_operand ops.Sync w

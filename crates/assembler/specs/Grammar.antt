@@ -6,7 +6,8 @@ use Rattle.tags.specs.declared.value.Origin.TheVariants.{Untold, At}
 use Rattle.semantics.specs.Program.{Instr, CodeBlock, Code}
 use Rattle.semantics.specs.Rule.{slot_of}
 use Rattle.semantics.specs.Text.{literal}
-use Rattle.disassembler.specs.Listing.{name_of, slot_text, dest_text, operand_text, literal_of}
+use Rattle.disassembler.specs.Listing.{slot_text, dest_text, operand_text, literal_of}
+use Rattle.semantics.specs.Opcodes.{op_word}
 use Rattle.std.specs.Ordering.{int_cmp}
 use Rattle.std.specs.BTreeSet.{insert_key}
 use Rattle.assembler.specs.Words.{Word, lines_in}
@@ -23,7 +24,7 @@ origin_words Untold = []
 origin_words (At b n) = (codes "@" ++ decimal b ++ codes "." ++ decimal n) ∷ []
 
 abbrev pub instr_words : ℕ → Instr → List Word
-instr_words n i = decimal n ∷ name_of i.op ∷ slot_text (slot_of i i.op) ∷ dest_text i.firsts ∷ dest_text i.seconds ∷ operand_text i.op ∷ origin_words i.origin
+instr_words n i = decimal n ∷ op_word i.op ∷ slot_text (slot_of i i.op) ∷ dest_text i.firsts ∷ dest_text i.seconds ∷ operand_text i.op ∷ origin_words i.origin
 
 abbrev pub array_words : ℕ → ℕ → List Word
 array_words n len = codes "array" ∷ decimal n ∷ decimal len ∷ []

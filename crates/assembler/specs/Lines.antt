@@ -10,7 +10,8 @@ use Rattle.graph_file.specs.Fields.{number_of, literal_of}
 use Rattle.assembler.specs.declared.fault.AsmFaultKind.{AsmFaultKind}
 use Rattle.assembler.specs.declared.fault.AsmFaultKind.TheVariants.{BadLine, BadNumber, BadName, BadSlot, BadDestination, BadOperand, BadOrigin}
 use Rattle.assembler.specs.Words.{Word}
-use Rattle.assembler.specs.Fields.{name_of, op_of, slot_from, dest_of, origin_of}
+use Rattle.semantics.specs.Opcodes.{opcode_named}
+use Rattle.assembler.specs.Fields.{op_of, slot_from, dest_of, origin_of}
 
 unfoldable pub word_from : List Word → Result (Word × List Word) AsmFaultKind
 word_from [] = Err BadLine
@@ -89,7 +90,7 @@ origin_from (w ∷ x ∷ ws) = Err BadLine
 -- The words behind the name of an instruction. The operand says what the operation is, so it is looked at before the slot.
 unfoldable pub op_from : Word → Word → Result Op AsmFaultKind
 op_from name operand = do
-  n ← ok_or (name_of name) BadName
+  n ← ok_or (opcode_named name) BadName
   ok_or (op_of n operand) BadOperand
 
 abbrev pub Tail : Type 0

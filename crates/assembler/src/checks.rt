@@ -9,7 +9,6 @@ ghost use Rattle.assembler.specs.Checks as Checks;
 
 use crate::fault::AsmFaultKind;
 use code::{Code, CodeBlock, Instr};
-use operators::Binary;
 use semantics::program::{Dest, Op};
 use std::alloc::Allocator;
 use tags::token::Port;
@@ -128,25 +127,9 @@ fn is_dyadic<A: Allocator>(instrs: &[Instr<A>], number: u64) -> bool
     ensures { result ≡ Bytes.is_dyadic (slice_get instrs.now number) }
 {
     match instrs.get(number as usize) {
-        Some(instr) => takes_two(instr.op),
+        Some(instr) => instr.op.takes_two(),
         None => false,
     }
-}
-
-fn takes_two(op: Op) -> bool
-    ensures { result ≡ Checks.takes_two op }
-{
-    matches!(
-        op,
-        Op::Apply2 { .. }
-            | Op::Sync
-            | Op::Switch
-            | Op::Store { .. }
-            | Op::Send { .. }
-            | Op::Return { .. }
-            | Op::Ask { .. }
-            | Op::Release { .. }
-    )
 }
 
 /// Whether a destination of the instruction of that number is a later one, with a right port only where it takes two tokens.
@@ -173,32 +156,13 @@ fn dests_fit<A: Allocator>(block: &CodeBlock<A>, number: u32, instr: &Instr<A>) 
         && all_fit(&block.instrs, number, &instr.seconds)
 }
 
-fn is_division(op: Binary) -> bool
-    ensures { result ≡ Checks.is_division op }
-{
-    matches!(op, Binary::Div | Binary::Rem)
-}
-
-/// Whether the operation may make a fault.
-fn may_fault(op: Op) -> bool
-    ensures { result ≡ Bytes.may_fault op }
-{
-    match op {
-        Op::Apply2 { op } => is_division(op),
-        Op::Apply2Right { op, .. } => is_division(op),
-        Op::Apply2Left { op, .. } => is_division(op),
-        Op::Fetch { .. } | Op::Store { .. } => true,
-        _ => false,
-    }
-}
-
 /// Whether an origin may stand there.
 fn origin_fits(version: u32, op: Op, origin: Origin) -> bool
     ensures { result ≡ Checks.origin_fits version op origin }
 {
     match origin {
         Origin::Untold => true,
-        Origin::At { block: _, node: _ } => version == 2 && may_fault(op),
+        Origin::At { block: _, node: _ } => version == 2 && op.may_fault(),
     }
 }
 

@@ -3,9 +3,9 @@
 ghost use Rattle.std.specs.Prelude.{◌≡◌, option_map};
 ghost use Rattle.assembler.specs.Fields as Fields;
 
-use crate::names::Name;
 use graph_file::{Parts, literal, number};
 use operators::Binary;
+use semantics::opcode::Opcode;
 use semantics::program::{Dest, Op};
 use tags::token::Port;
 use tags::value::{NodeNumber, Origin};
@@ -119,30 +119,32 @@ fn entry_behind(bytes: &[u8]) -> Option<(u16, u16)>
     entry(tagged(bytes, b'b')?)
 }
 
-/// The operation of that name with the operand that stands there.
+/// The operation of that opcode, which a word names, with the operand that stands there. A word of an operator does not say that an
+/// operand is a literal.
 #[tactic(auto, unfolding(crate::specs::Fields::op_of))]
-pub(crate) fn op_of(name: Name, bytes: &[u8]) -> Option<Op>
-    ensures { result ≡ Fields.op_of name bytes.now }
+pub(crate) fn op_of(opcode: Opcode, bytes: &[u8]) -> Option<Op>
+    ensures { result ≡ Fields.op_of opcode bytes.now }
 {
-    match name {
-        Name::Apply1(op) => no_operand(Op::Apply1 { op }, bytes),
-        Name::Apply2(op) => binary(op, bytes),
-        Name::Lit => literal_behind(bytes).map(|literal| Op::Lit { literal }),
-        Name::Copy => no_operand(Op::Copy, bytes),
-        Name::Sync => no_operand(Op::Sync, bytes),
-        Name::Switch => no_operand(Op::Switch, bytes),
-        Name::Fetch => small_behind(bytes, b'a').map(|array| Op::Fetch { array }),
-        Name::Store => small_behind(bytes, b'a').map(|array| Op::Store { array }),
-        Name::Frame => no_operand(Op::Frame, bytes),
-        Name::Link => wide_behind(bytes, b'b').map(|block| Op::Link { block }),
-        Name::Send => entry_behind(bytes).map(|(block, entry)| Op::Send { block, entry }),
-        Name::Return => small_behind(bytes, b'o').map(|offset| Op::Return { offset }),
-        Name::Ask => small_behind(bytes, b'o').map(|offset| Op::Ask { offset }),
-        Name::Open => small_behind(bytes, b'k').map(|bound| Op::Open { bound }),
-        Name::Take => small_behind(bytes, b'k').map(|bound| Op::Take { bound }),
-        Name::Give => small_behind(bytes, b'k').map(|bound| Op::Give { bound }),
-        Name::Drain => small_behind(bytes, b'k').map(|bound| Op::Drain { bound }),
-        Name::Release => small_behind(bytes, b'o').map(|offset| Op::Release { offset }),
+    match opcode {
+        Opcode::Apply1 { op } => no_operand(Op::Apply1 { op }, bytes),
+        Opcode::Apply2 { op } => binary(op, bytes),
+        Opcode::Apply2Right { .. } | Opcode::Apply2Left { .. } => None,
+        Opcode::Lit => literal_behind(bytes).map(|literal| Op::Lit { literal }),
+        Opcode::Copy => no_operand(Op::Copy, bytes),
+        Opcode::Sync => no_operand(Op::Sync, bytes),
+        Opcode::Switch => no_operand(Op::Switch, bytes),
+        Opcode::Fetch => small_behind(bytes, b'a').map(|array| Op::Fetch { array }),
+        Opcode::Store => small_behind(bytes, b'a').map(|array| Op::Store { array }),
+        Opcode::Frame => no_operand(Op::Frame, bytes),
+        Opcode::Link => wide_behind(bytes, b'b').map(|block| Op::Link { block }),
+        Opcode::Send => entry_behind(bytes).map(|(block, entry)| Op::Send { block, entry }),
+        Opcode::Return => small_behind(bytes, b'o').map(|offset| Op::Return { offset }),
+        Opcode::Ask => small_behind(bytes, b'o').map(|offset| Op::Ask { offset }),
+        Opcode::Open => small_behind(bytes, b'k').map(|bound| Op::Open { bound }),
+        Opcode::Take => small_behind(bytes, b'k').map(|bound| Op::Take { bound }),
+        Opcode::Give => small_behind(bytes, b'k').map(|bound| Op::Give { bound }),
+        Opcode::Drain => small_behind(bytes, b'k').map(|bound| Op::Drain { bound }),
+        Opcode::Release => small_behind(bytes, b'o').map(|offset| Op::Release { offset }),
     }
 }
 

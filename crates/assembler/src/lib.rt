@@ -8,7 +8,6 @@ mod fault;
 mod fields;
 mod found;
 mod lines;
-mod names;
 mod reading;
 mod words;
 

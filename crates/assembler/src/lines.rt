@@ -6,10 +6,10 @@ ghost use Rattle.assembler.specs.Lines as Lines;
 
 use crate::fault::AsmFaultKind;
 use crate::fields::{dest_of, op_of, origin_of, slot_from};
-use crate::names::Name;
 use crate::words::Words;
 use code::{CodeBlock, Instr};
 use graph_file::{literal, number};
+use semantics::opcode::Opcode;
 use semantics::program::{Dest, Op};
 use std::alloc::Allocator;
 use tags::value::Origin;
@@ -152,7 +152,7 @@ fn origin_from(words: Words<'_>) -> Result<Origin, AsmFaultKind>
 fn op_from(name: &[u8], operand: &[u8]) -> Result<Op, AsmFaultKind>
     ensures { Gives (λ x. x) result (Lines.op_from name.now operand.now) }
 {
-    let name = Name::of(name).ok_or(AsmFaultKind::BadName)?;
+    let name = Opcode::of_word(name).ok_or(AsmFaultKind::BadName)?;
     op_of(name, operand).ok_or(AsmFaultKind::BadOperand)
 }
 

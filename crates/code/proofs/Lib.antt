@@ -1,1 +1,2 @@
 mod FirstHeld
+pub mod Mains

@@ -5,11 +5,12 @@ use Rattle.std.specs.Borrow.{Bor}
 use Rattle.std.specs.Char.{digit_value}
 use Rattle.std.specs.List.{list_all, list_any, before_first, after_first, position_or_len}
 use Rattle.std.specs.Str.Parse.{AllDigits, IsNumeral, digits_value, without_leading_plus}
-use Rattle.std.proofs.lemmas.Bool.{ltb-true, lt-ltb}
+use Rattle.std.proofs.lemmas.Bool.{ltb-true, lt-ltb, and_parts}
 use Rattle.std.proofs.lemmas.Bool.Decides.{nat_tests}
 use Rattle.std.proofs.lemmas.Grind.{common_steps}
 use Rattle.std.proofs.lemmas.List.{take_at, drop_at, take_all, append_assoc, get_or_append_left, get_or_at, length_push}
 use Rattle.std.proofs.lemmas.List.Sums.{position_or_len_is}
+use Rattle.lemmas.proofs.Bools.{equal_itself}
 use Rattle.command_line.specs.Words.{after, is_numeral, parts_at, number_of}
 
 -- A FIRST BYTE
@@ -44,11 +45,8 @@ list_any-Lacks : (c : ℕ) (xs : List ℕ) → Lacks c xs → list_any (λ x. x 
 list_any-Lacks c [] h = refl
 list_any-Lacks c (x ∷ xs) h = rw (head_differs c x xs h) (list_any-Lacks c xs (Lacks-tail c x xs h))
 
-same_test : (c : ℕ) → (c == c) ≡ true
-same_test c = grind (arith, nat_tests)
-
 list_any-at : (c : ℕ) (xs ys : List ℕ) → list_any (λ x. x == c) (xs ++ c ∷ ys) ≡ true
-list_any-at c [] ys = rw (same_test c)
+list_any-at c [] ys = rw (equal_itself c)
 list_any-at c (x ∷ xs) ys = let rest = list_any-at c xs ys in elim (x == c) as (λ b. ◌||◌ b (list_any (λ y. y == c) (xs ++ c ∷ ys)) ≡ true) [ true ↦ refl | false ↦ rest ]
 
 position_or_len-Lacks : (c : ℕ) (xs : List ℕ) → Lacks c xs → position_or_len (λ x. x == c) xs ≡ length xs
@@ -58,7 +56,7 @@ position_or_len-Lacks c xs h =
 position_or_len-at : (c : ℕ) (xs ys : List ℕ) → Lacks c xs → position_or_len (λ x. x == c) (xs ++ c ∷ ys) ≡ length xs
 position_or_len-at c xs ys h =
     position_or_len_is (λ x. x == c) (xs ++ c ∷ ys) (length xs) 0 (grind (arith, common_steps))
-    (λ k lt. let ne = h k lt in rw get_or_append_left (grind (arith, nat_tests))) (λ _. rw (get_or_at xs c ys 0 (length xs) refl) (same_test c))
+    (λ k lt. let ne = h k lt in rw get_or_append_left (grind (arith, nat_tests))) (λ _. rw (get_or_at xs c ys 0 (length xs) refl) (equal_itself c))
 
 before_first-Lacks : (c : ℕ) (xs : List ℕ) → Lacks c xs → before_first (λ x. x == c) xs ≡ xs
 before_first-Lacks c xs h = ap (λ n. take n xs) (position_or_len-Lacks c xs h) ∙ take_all (length xs) xs (omega arith)
@@ -79,13 +77,10 @@ pub parts_at-without : (c : ℕ) (text : List ℕ) → Lacks c text → parts_at
 parts_at-without c text h = rw (before_first-Lacks c text h, list_any-Lacks c text h)
 
 -- NUMBERS
-both : (a b : Bool) → (a && b) ≡ true → (a ≡ true) × (b ≡ true)
-both true b e = (refl, e)
-both false b e = cc
 
 digits_from : (ds : List ℕ) → list_all (λ d. nat_lt (digit_value d) 10) ds ≡ true → AllDigits 10 ds
 digits_from [] e = tt
-digits_from (d ∷ ds) e = let parts = both _ _ e in (ltb-true _ _ parts.0, digits_from ds parts.1)
+digits_from (d ∷ ds) e = let parts = and_parts _ _ e in (ltb-true _ _ parts.0, digits_from ds parts.1)
 
 digits_back : (ds : List ℕ) → AllDigits 10 ds → list_all (λ d. nat_lt (digit_value d) 10) ds ≡ true
 digits_back [] h = refl
@@ -95,7 +90,7 @@ numeral : (ds : List ℕ) → IsNumeral 10 ds → is_numeral ds ≡ true
 numeral ds h = rw (lt-ltb 0 (length ds) h.0) (digits_back ds h.1)
 
 numeral_from : (ds : List ℕ) → is_numeral ds ≡ true → IsNumeral 10 ds
-numeral_from ds e = let parts = both _ _ e in (ltb-true _ _ parts.0, digits_from ds parts.1)
+numeral_from ds e = let parts = and_parts _ _ e in (ltb-true _ _ parts.0, digits_from ds parts.1)
 
 -- the number of the digits ds, where they are a numeral and fit
 abbrev number_if : List ℕ → Bool → Bool → Option ℕ

@@ -1,5 +1,5 @@
 -- Rows, one after the other.
-use Rattle.std.proofs.Common.{◌≡◌, ℕ, suc, ◌+◌, ◌∷◌, [], ◌++◌, ℤ, Bool, true, false, List, sym, ap, ◌∙◌, subst, append-nil, arith}
+use Rattle.std.proofs.Common.{◌≡◌, ℕ, suc, ◌+◌, ◌∷◌, [], ◌++◌, ℤ, Bool, true, false, List, sym, ap, ◌∙◌, subst, append-nil, add-one}
 use Rattle.std.specs.Prelude.{if◌then◌else◌}
 use Rattle.profile_text.specs.declared.lines.MachineRow.{MachineRow}
 use Rattle.command_line.specs.declared.RunOptions.{RunOptions}
@@ -22,9 +22,6 @@ absent : (z : Sizes) (n : ℕ) (has : Bool) → has ≡ has_size z n → has ≡
 unfolding sizes_below
 absent z n has tells is = ap (λ (b : Bool). sizes_below z n ++ (if b then n ∷ [] else [])) (sym tells ∙ is) ∙ append-nil (sizes_below z n)
 
-next : (n : ℕ) → n + 1 ≡ suc n
-next n = omega (arith)
-
 module _ (text : List ℕ) (inputs : List ℤ) (o : RunOptions) (z : Sizes) where
   pub no_rows : (rows : List MachineRow) → rows ≡ [] → AreRows text inputs o (sizes_below z 0) rows
   unfolding sizes_below
@@ -34,10 +31,10 @@ module _ (text : List ℕ) (inputs : List ℤ) (o : RunOptions) (z : Sizes) wher
       → all ≡ rows ++ row ∷ [] → AreRows text inputs o (sizes_below z (n + 1)) all
   row_more n rows all row has tells has_it so_far is pushed =
       subst (λ (l : List MachineRow). AreRows text inputs o (sizes_below z (n + 1)) l) (sym pushed)
-      (subst (λ (ns : List ℕ). AreRows text inputs o ns (rows ++ row ∷ [])) (sym (ap (λ (m : ℕ). sizes_below z m) (next n) ∙ there z n has tells has_it)) (with_row text inputs o (sizes_below z n) rows n row so_far is))
+      (subst (λ (ns : List ℕ). AreRows text inputs o ns (rows ++ row ∷ [])) (sym (ap (λ (m : ℕ). sizes_below z m) (add-one n) ∙ there z n has tells has_it)) (with_row text inputs o (sizes_below z n) rows n row so_far is))
 
   pub no_row_more : (n : ℕ) (rows all : List MachineRow) (has : Bool) → has ≡ has_size z n → has ≡ false → AreRows text inputs o (sizes_below z n) rows → all ≡ rows
       → AreRows text inputs o (sizes_below z (n + 1)) all
   no_row_more n rows all has tells has_none so_far same =
       subst (λ (l : List MachineRow). AreRows text inputs o (sizes_below z (n + 1)) l) (sym same)
-      (subst (λ (ns : List ℕ). AreRows text inputs o ns rows) (sym (ap (λ (m : ℕ). sizes_below z m) (next n) ∙ absent z n has tells has_none)) so_far)
+      (subst (λ (ns : List ℕ). AreRows text inputs o ns rows) (sym (ap (λ (m : ℕ). sizes_below z m) (add-one n) ∙ absent z n has tells has_none)) so_far)

@@ -1,8 +1,8 @@
 -- Where the instructions of a block stand.
-use Rattle.std.proofs.Common.{arith, ◌≡◌, ℕ, zero, suc, ◌+◌, ◌-◌, ◌<◌, ◌≤◌, List, [], ◌∷◌, length, take, map, Option, Some, None, ap, ◌∙◌, refl, nat_lt, true, false}
+use Rattle.std.proofs.Common.{arith, ◌≡◌, ℕ, zero, suc, ◌+◌, ◌-◌, ◌<◌, ◌≤◌, List, [], ◌∷◌, length, take, map, Some, ap, ◌∙◌, nat_lt, true, false}
 use Rattle.std.proofs.lemmas.Grind.{common_steps}
 use Rattle.std.proofs.lemmas.List.{take_all}
-use Rattle.std.specs.Prelude.{slice_get, option_map, sum}
+use Rattle.std.specs.Prelude.{slice_get, sum}
 use Rattle.semantics.specs.Program.{CodeBlock, Program, first_of, instr_from, instr_at}
 
 -- how many instructions some blocks have
@@ -47,12 +47,3 @@ within p k b e =
     let below = within_from p.blocks k b e in
     let whole : first_of p (length p.blocks) ≡ count p.blocks = ap count (take_all (length p.blocks) p.blocks (omega (arith))) in
     omega (arith, below, whole)
-
--- what is seen of an element that may be there
-pub none_shown : {X Y : Type 0} (f : X → Y) (o : Option X) → option_map f o ≡ None → o ≡ None
-none_shown f None e = refl
-none_shown f (Some x) e = absurd cc
-
-pub some_shown : {X Y : Type 0} (f : X → Y) (o : Option X) (y : Y) → option_map f o ≡ Some y → (x : X) × (o ≡ Some x) × (y ≡ f x)
-some_shown f None y e = absurd cc
-some_shown f (Some x) y e = (x, refl, cc (e))

@@ -10,7 +10,8 @@ use Rattle.semantics.specs.declared.program.Op.TheVariants.{Apply1, Apply2, Appl
 use Rattle.semantics.specs.Program.{Instr, CodeBlock, Program, Code}
 use Rattle.semantics.specs.Rule.{slot_of}
 use Rattle.sink.specs.Numbered.{numbered}
-use Rattle.semantics.specs.Text.{field, line, literal, unary_word, binary_word}
+use Rattle.semantics.specs.Text.{field, line, literal}
+use Rattle.semantics.specs.Opcodes.{op_word}
 
 -- COLUMNS
 abbrev pub spaces : ℕ → List ℕ
@@ -28,28 +29,6 @@ abbrev pub left_in : ℕ → List ℕ → List ℕ
 left_in width text = text ++ gap width (length text)
 
 -- A LINE OF AN INSTRUCTION
-abbrev pub name_of : Op → List ℕ
-name_of (Apply1 op) = unary_word op
-name_of (Apply2 op) = binary_word op
-name_of (Apply2Right op z) = binary_word op
-name_of (Apply2Left op z) = binary_word op
-name_of (Lit z) = codes "lit"
-name_of Copy = codes "copy"
-name_of Sync = codes "sync"
-name_of Switch = codes "switch"
-name_of (Fetch a) = codes "fetch"
-name_of (Store a) = codes "store"
-name_of Frame = codes "frame"
-name_of (Link b) = codes "link"
-name_of (Send b e) = codes "send"
-name_of (Return o) = codes "return"
-name_of (Ask o) = codes "ask"
-name_of (Open k) = codes "open"
-name_of (Take k) = codes "take"
-name_of (Give k) = codes "give"
-name_of (Drain k) = codes "drain"
-name_of (Release o) = codes "release"
-
 -- the slot, where the instruction uses one
 abbrev pub slot_text : Option ℕ → List ℕ
 slot_text None = codes "-"
@@ -88,7 +67,7 @@ origin_text (At b n) = codes " @" ++ decimal b ++ codes "." ++ decimal n
 
 -- number in the block, name, slot, both destinations, operand
 abbrev pub instr_line : ℕ → Instr → List ℕ
-instr_line n i = line (right_in 5 (decimal n) ++ field (left_in 8 (name_of i.op)) ++ field (right_in 4 (slot_text (slot_of i i.op)))
+instr_line n i = line (right_in 5 (decimal n) ++ field (left_in 8 (op_word i.op)) ++ field (right_in 4 (slot_text (slot_of i i.op)))
     ++ field (right_in 7 (dest_text i.firsts)) ++ field (right_in 7 (dest_text i.seconds)) ++ field (operand_text i.op) ++ origin_text i.origin)
 
 -- THE TABLE OF LITERALS

@@ -6,6 +6,6 @@ mod line;
 mod listing;
 mod literals;
 
-pub use line::{list_operand, name_of, port_letter};
+pub use line::{list_operand, port_letter};
 pub use listing::{instr_in, list, list_with_literals};
 pub use literals::literal_of;

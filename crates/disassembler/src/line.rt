@@ -4,7 +4,8 @@ ghost use Rattle.std.specs.Prelude.{◌≡◌, ◌++◌, ◌∷◌, [], ℕ, opt
 ghost use Rattle.semantics.specs.Program.{Instr};
 ghost use Rattle.semantics.specs.Text.{field};
 ghost use Rattle.semantics.specs.Rule.{slot_of};
-ghost use Rattle.disassembler.specs.Listing.{name_of, right_in, left_in, slot_text, dest_text, port_letter, operand_text, origin_text, instr_line};
+ghost use Rattle.semantics.specs.Opcodes.{op_word};
+ghost use Rattle.disassembler.specs.Listing.{right_in, left_in, slot_text, dest_text, port_letter, operand_text, origin_text, instr_line};
 ghost use Rattle.object_view.specs.Reading.{shown};
 ghost use Rattle.sink.specs.Sends.{Sends};
 
@@ -12,50 +13,10 @@ use crate::column::gap;
 use itoa::Buffer;
 use object_view::CodeInstr;
 use semantics::program::{Dest, Op};
-use semantics::words::{binary_word, unary_word};
 use sink::{send, send_all};
 use std::io::{self, Write};
 use tags::token::Port;
 use tags::value::Origin;
-
-/// The name of an operation.
-pub fn name_of(op: Op) -> &'static [u8]
-    ensures { result.now ≡ name_of op }
-{
-    match op {
-        Op::Apply1 { op } => unary_word(op),
-        Op::Apply2 { op } => binary_word(op),
-        Op::Apply2Right { op, .. } => binary_word(op),
-        Op::Apply2Left { op, .. } => binary_word(op),
-        Op::Lit { .. } => b"lit",
-        Op::Copy => b"copy",
-        Op::Sync => b"sync",
-        Op::Switch => b"switch",
-        Op::Fetch { .. } => b"fetch",
-        Op::Store { .. } => b"store",
-        Op::Frame => b"frame",
-        Op::Link { .. } => b"link",
-        Op::Send { .. } => b"send",
-        Op::Return { .. } => b"return",
-        Op::Ask { .. } => b"ask",
-        Op::Open { .. } => b"open",
-        Op::Take { .. } => b"take",
-        Op::Give { .. } => b"give",
-        Op::Drain { .. } => b"drain",
-        Op::Release { .. } => b"release",
-    }
-}
-
-/// The slot of an instruction, if it uses one.
-fn slot_used(instr: &CodeInstr) -> Option<u32>
-    ensures { result ≡ slot_of (shown instr.now) instr.now.op }
-{
-    if instr.op.uses_slot() {
-        Some(instr.slot)
-    } else {
-        None
-    }
-}
 
 /// The number of an instruction in its block, in its column.
 fn list_number<W: Write>(writer: &mut W, number: u32) -> io::Result<()>
@@ -68,9 +29,9 @@ fn list_number<W: Write>(writer: &mut W, number: u32) -> io::Result<()>
 
 /// The name of an operation, in its column.
 fn list_name<W: Write>(writer: &mut W, op: Op) -> io::Result<()>
-    ensures { Sends result (W.contents writer.old) (W.contents writer.new) (field (left_in 8 (name_of op))) }
+    ensures { Sends result (W.contents writer.old) (W.contents writer.new) (field (left_in 8 (op_word op))) }
 {
-    let name = name_of(op);
+    let name = op.word();
     send_all(writer, &[b" ", name, gap(8, name.len())])
 }
 
@@ -78,7 +39,7 @@ fn list_name<W: Write>(writer: &mut W, op: Op) -> io::Result<()>
 fn list_slot<W: Write>(writer: &mut W, instr: &CodeInstr) -> io::Result<()>
     ensures { Sends result (W.contents writer.old) (W.contents writer.new) (field (right_in 4 (slot_text (slot_of (shown instr.now) instr.now.op)))) }
 {
-    match slot_used(instr) {
+    match instr.op.slot_in(instr.slot) {
         None => send(writer, b"    -"),
         Some(slot) => {
             let mut digits = Buffer::new();

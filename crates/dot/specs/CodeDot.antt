@@ -7,11 +7,12 @@ use Rattle.semantics.specs.declared.program.Op.TheVariants.{Apply1, Apply2, Appl
 use Rattle.semantics.specs.Program.{Instr, CodeBlock, Program}
 use Rattle.semantics.specs.Text.{field}
 use Rattle.sink.specs.Numbered.{numbered}
-use Rattle.disassembler.specs.Listing.{name_of, operand_text, port_letter}
+use Rattle.disassembler.specs.Listing.{operand_text, port_letter}
+use Rattle.semantics.specs.Opcodes.{op_word}
 
 -- an instruction by its number in its block, with its name and operand as a listing has them
 abbrev pub instr_box : ℕ → ℕ → Op → List ℕ
-instr_box b n op = codes "b" ++ decimal b ++ codes "i" ++ decimal n ++ codes " [label=\"" ++ decimal n ++ field (name_of op) ++ field (operand_text op) ++ codes "\"]\n"
+instr_box b n op = codes "b" ++ decimal b ++ codes "i" ++ decimal n ++ codes " [label=\"" ++ decimal n ++ field (op_word op) ++ field (operand_text op) ++ codes "\"]\n"
 
 -- an arc has which destination it is at its tail, and the port at its head
 abbrev pub arc_to : ℕ → ℕ → ℕ → ℕ → Port → List ℕ

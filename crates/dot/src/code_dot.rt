@@ -4,13 +4,14 @@ ghost use Rattle.std.specs.Prelude.{◌≡◌, ◌+◌, ◌++◌, ◌∷◌, [],
 ghost use Rattle.semantics.specs.Program.{CodeBlock};
 ghost use Rattle.semantics.specs.Text.{field};
 ghost use Rattle.object_view.specs.Reading.{shown};
-ghost use Rattle.disassembler.specs.Listing.{name_of, operand_text};
+ghost use Rattle.disassembler.specs.Listing.{operand_text};
+ghost use Rattle.semantics.specs.Opcodes.{op_word};
 ghost use Rattle.disassembler.specs.Places.{IsBlockAt};
 ghost use Rattle.sink.specs.Numbered.{numbered};
 ghost use Rattle.sink.specs.Sends.{Sends};
 ghost use Rattle.dot.specs.CodeDot.{instr_box, arc_to, arc, entry_arc, far_arc, instr_dot, code_head, code_block_dot, picture_head, code_dot};
 
-use disassembler::{instr_in, list_operand, name_of, port_letter};
+use disassembler::{instr_in, list_operand, port_letter};
 use itoa::Buffer;
 use object_view::{BlockView, CodeInstr, Object};
 use semantics::program::{Dest, Op};
@@ -20,7 +21,7 @@ use tags::token::Port;
 
 /// What the box of an instruction begins with.
 fn open_box<W: Write>(writer: &mut W, place: u32, number: u32, op: Op) -> io::Result<()>
-    ensures { Sends result (W.contents writer.old) (W.contents writer.new) (codes "b" ++ decimal place ++ codes "i" ++ decimal number ++ codes " [label=\"" ++ decimal number ++ field (name_of op)) }
+    ensures { Sends result (W.contents writer.old) (W.contents writer.new) (codes "b" ++ decimal place ++ codes "i" ++ decimal number ++ codes " [label=\"" ++ decimal number ++ field (op_word op)) }
 {
     let mut block = Buffer::new();
     let mut instr = Buffer::new();
@@ -36,7 +37,7 @@ fn open_box<W: Write>(writer: &mut W, place: u32, number: u32, op: Op) -> io::Re
             b" [label=\"",
             instr,
             b" ",
-            name_of(op),
+            op.word(),
         ],
     )
 }

@@ -3,13 +3,14 @@ use Rattle.std.proofs.Common.{◌≡◌, ℕ, zero, suc, ◌+◌, ◌<◌, Bool,
 use Rattle.std.specs.Prelude.{slice_get, ⊤}
 use Rattle.std.proofs.lemmas.List.{length-map}
 use Rattle.std.proofs.lemmas.Option.{slice_get_within}
+use Rattle.lemmas.proofs.Contains.{contains_get}
 use Rattle.semantics.specs.Graph.{Graph, Block, Flow, flow_of, place_of, block_names, array_names, resolved_block}
 use Rattle.semantics.specs.WellFormed.{WellFormed}
 use Rattle.semantics.specs.Program.{CodeBlock}
 use Rattle.semantics.specs.Plan.{Plan}
 use Rattle.semantics.specs.Placed.{placed_blocks}
 use Rattle.semantics.specs.Machine.{results_in, outputs_of}
-use Rattle.law_determinacy.proofs.Resolved.{contains_get, place_get}
+use Rattle.law_determinacy.proofs.Resolved.{place_get}
 use Rattle.expansion.specs.Variants.{some_block_loops, variants_of}
 use Rattle.expansion.specs.Blocks.{Coded}
 use Rattle.expansion.specs.Expanded.{Codes, with_code, no_codes, plain_code, variant_code, plain_codes, variant_codes, expanded}

@@ -1,5 +1,5 @@
 -- The readers that a report counts are the fetches that wait in the meaning, and where none waits no frame is out.
-use Rattle.std.proofs.Common.{◌≡◌, ℕ, zero, suc, ◌+◌, ◌*◌, ◌<◌, ◌≤◌, Bool, true, false, pos, negsuc, List, [], ◌∷◌, length, Option, Some, None, refl, sym, ◌∙◌, ap, subst, arith, nat_lt, if◌then◌else◌}
+use Rattle.std.proofs.Common.{◌≡◌, ℕ, zero, suc, ◌+◌, ◌*◌, ◌<◌, ◌≤◌, Bool, true, false, pos, negsuc, List, [], ◌∷◌, length, Option, Some, None, refl, sym, ◌∙◌, ap, arith, nat_lt, if◌then◌else◌}
 use Rattle.std.specs.Prelude.{sum, take, slice_index_or, cond}
 use Rattle.std.proofs.lemmas.List.{take_all}
 use Rattle.std.proofs.lemmas.List.Sums.{sum_by-cons}
@@ -19,6 +19,7 @@ use Rattle.semantics.specs.Rule.{array_base}
 use Rattle.semantics.specs.Machine.{Machine, Size, reader_count}
 use Rattle.semantics.specs.Faithful.{NoReader, IsClean}
 use Rattle.semantics.specs.Report.{Report, IsPicture, sum_below, one_if}
+use Rattle.semantics.proofs.Sums.{sum_of_zeros, sum_zero}
 
 -- the cells of an array lie below the number of all cells
 array_within : (a : ℕ) (ls : List ℕ) → sum (take a ls) + slice_index_or ls a 0 ≤ sum ls
@@ -78,17 +79,6 @@ none_beyond fl x (t ∷ ts) past =
 sum_same : (n : ℕ) (f g : ℕ → ℕ) → ((x : ℕ) → f x ≡ g x) → sum_below n f ≡ sum_below n g
 sum_same zero f g e = refl
 sum_same (suc n) f g e = omega (arith, sum_same n f g e, e n)
-
-sum_zero : (n : ℕ) (f : ℕ → ℕ) → sum_below n f ≡ 0 → (x : ℕ) → x < n → f x ≡ 0
-sum_zero zero f e x lt = omega (arith, lt)
-sum_zero (suc n) f e x lt = by_place (nat_lt x n) refl (λ l. sum_zero n f (omega (arith, e)) x l) where
-  by_place : (b : Bool) → nat_lt x n ≡ b → (x < n → f x ≡ 0) → f x ≡ 0
-  by_place true t h = h (ltb-true x n t)
-  by_place false t h = let same : n ≡ x = omega (arith, lt, ltb-false x n t) in subst (λ k. f k ≡ 0) same (omega (arith, e))
-
-sum_of_zeros : (n : ℕ) (f : ℕ → ℕ) → ((x : ℕ) → f x ≡ 0) → sum_below n f ≡ 0
-sum_of_zeros zero f h = refl
-sum_of_zeros (suc n) f h = omega (arith, sum_of_zeros n f h, h n)
 
 -- where none is counted, none waits anywhere
 pub none_waits : (fl : Flow) (ts : List Tagged) → sum_below (sum fl.arrays) (λ x. fetch_count fl x ts) ≡ 0 → (x : ℕ) → fetch_count fl x ts ≡ 0

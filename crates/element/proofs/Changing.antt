@@ -4,6 +4,7 @@ use Rattle.std.specs.Prelude.{All, slice_get, option_and_then}
 use Rattle.std.proofs.lemmas.List.{get_or_past}
 use Rattle.std.proofs.lemmas.Option.{same_Some, get_or_from_slice_get, slice_get_within}
 use Rattle.std.proofs.lemmas.List.Elements.{All-nil, All-map, All-set, All-push, All-head, All-tail}
+use Rattle.std.proofs.lemmas.Bool.{cases_lt}
 use Rattle.tags.specs.declared.value.Value.{Value}
 use Rattle.tags.specs.declared.token.Port.{Port}
 use Rattle.tags.specs.declared.token.Cont.{Cont}
@@ -14,6 +15,7 @@ use Rattle.tags.specs.declared.slot.SlotState.{SlotState}
 use Rattle.semantics.specs.Program.{Instr, Program, instr_at}
 use Rattle.semantics.specs.Rule.{back_to, Seat, Outcome, Becomes, rule_at, outcome_of, slot_of}
 use Rattle.semantics.specs.Machine.{Store, CellState, Vacant, Full, Deferred, Happens, Fires, Stores, Requests, slot_in, slot_used, with_slot_in, answer, answers, outputs_of, put_at, with_output, with_done}
+use Rattle.semantics.proofs.Stores.{put_other}
 use Rattle.istructure.specs.declared.FetchAnswer.{FetchAnswer}
 use Rattle.istructure.specs.declared.StoreAnswer.{StoreAnswer}
 use Rattle.istructure.specs.OwnCells.{OwnCells, place_of, with_cell_at, waiting_in, waiting_at}
@@ -30,8 +32,7 @@ use Rattle.element.specs.Acts.{Changes, ServesFirst}
 use Rattle.frame_manager.specs.Managed.{Managed}
 use Rattle.element.proofs.Only.{fetch_only, store_only, request_only, release_only, manages_as, part_with_cells, cells_elsewhere, part_with_manager, frames_elsewhere}
 use Rattle.element.proofs.Nearness.{back_near, one_near}
-use Rattle.frame_store.proofs.Apart.{either}
-use Rattle.element.proofs.Places.{put_other, set_at, slot_then, agree}
+use Rattle.element.proofs.Places.{set_at, slot_then, agree}
 
 abbrev seat : ℕ → ℕ → Seat
 seat f ip = record { frame = f; ip = ip }
@@ -262,7 +263,7 @@ request_changes p h t c m n given sound to_is word_is near zero has r event = re
     after = requested_sound b m n c given manager.0 manager.1 (word_near b t c near word_is) r
 
 out_there : (flags : List Bool) (f : ℕ) → flag_at flags f ≡ true → f < length flags
-out_there flags f e = ⊎_elim (λ (l : f < length flags). l) (λ (l : length flags ≤ f). absurd (let past : flag_at flags f ≡ false = get_or_past flags f false l in let bad : ⊥ = cc in bad)) (either f (length flags))
+out_there flags f e = ⊎_elim (λ (l : f < length flags). l) (λ (l : length flags ≤ f). absurd (let past : flag_at flags f ≡ false = get_or_past flags f false l in let bad : ⊥ = cc in bad)) (cases_lt f (length flags))
 
 released_sound : (b : Bounds) (m n : Managed) (f : ℕ) (given : Option (Cont × ℕ)) → length m.out ≡ b.frames → All (IsNearCont b) m.requests → Released m f (Ok given) n
     → (length n.out ≡ b.frames) × All (IsNearCont b) n.requests × All (IsNearToken b) (release_tokens given)

@@ -4,6 +4,7 @@ use Rattle.std.specs.Prelude.{sum, IfSome, take, slice_index_or, option_to_list}
 use Rattle.std.proofs.lemmas.List.{get_or_past}
 use Rattle.std.proofs.lemmas.List.Sums.{sum_by-take-drop, sum_by-drop_more}
 use Rattle.std.proofs.lemmas.Grind.{common_steps}
+use Rattle.std.proofs.lemmas.Bool.{cases_lt}
 use Rattle.tags.specs.declared.token.Port.{Port}
 use Rattle.tags.specs.declared.token.Cont.{Cont}
 use Rattle.tags.specs.declared.token.Word.{Word}
@@ -25,7 +26,6 @@ use Rattle.element.specs.Near.{Bounds, IsNearCont, IsNearWord, IsNearTo, IsNearT
 use Rattle.element.specs.Parts.{Part, IsSound, bounds, slot_place}
 use Rattle.element.specs.Changed.{state_in, with_state_in}
 use Rattle.element.specs.Acts.{Changes}
-use Rattle.frame_store.proofs.Apart.{either}
 use Rattle.element.proofs.Nearness.{IsNearSeat, NearOutcome, outcome_near}
 use Rattle.element.proofs.Changing.{IsLow, instr_changes}
 
@@ -48,7 +48,7 @@ state_near p h f None sound = tt
 state_near p h f (Some r) sound = ⊎_elim
     (λ (l : slot_place h.shape f r < length h.states). sound.slots (slot_place h.shape f r) Empty l)
     (λ (l : length h.states ≤ slot_place h.shape f r). subst (λ (v : SlotState). IsNearSlot (bounds p h.shape) v) (sym (get_or_past h.states (slot_place h.shape f r) Empty l)) tt)
-    (either (slot_place h.shape f r) (length h.states))
+    (cases_lt (slot_place h.shape f r) (length h.states))
 
 pub room_in_slot : (p : Program) (h : Part) (f : ℕ) (r : Option ℕ) → IsSound p h → HasRoomInSlot (state_in h f r)
 room_in_slot p h f r sound = room_slot (bounds p h.shape) (state_in h f r) (state_near p h f r sound)
@@ -81,7 +81,7 @@ cell_there : (arrays : List ℕ) (a x : ℕ) → x < slice_index_or arrays a 0 �
 cell_there arrays a x l = ⊎_elim
     (λ (low : a < length arrays). let whole = sum_by-take-drop (λ (n : ℕ). n) arrays a in let rest = sum_by-drop_more (λ (n : ℕ). n) arrays a 0 low in grind (arith, common_steps, whole, rest, l))
     (λ (past : length arrays ≤ a). absurd (let none = get_or_past arrays a 0 past in omega arith))
-    (either a (length arrays))
+    (cases_lt a (length arrays))
 
 pub instructed : (p : Program) (width : ℕ) (h : Part) (t : Token) (f ip : ℕ) (port : Port) (i : Instruction) (v : SlotState) (made : List Token) (slot : SlotState) → IsSound p h → width ≤ h.shape.width
     → t.to ≡ To.Instr f ip port → IsNearToken (bounds p h.shape) t → element_of h.shape.elements t.to ≡ h.shape.element → IsShort width ip i → instr_at p ip ≡ Some (instr_of i)

@@ -4,13 +4,13 @@ use Rattle.tags.specs.declared.value.Value.{Value}
 use Rattle.tags.specs.declared.token.Cont.{Cont}
 use Rattle.tags.specs.declared.token.Token.{Token}
 use Rattle.semantics.specs.Machine.{CellState, Vacant, Full, Deferred, Store, with_cell, with_out, with_requests, Fetches, Stores, Requests, Releases}
+use Rattle.semantics.proofs.Stores.{put_other}
 use Rattle.istructure.specs.OwnCells.{OwnCells}
 use Rattle.istructure.specs.Holds.{HoldsCells}
 use Rattle.frame_manager.specs.Managed.{Managed}
 use Rattle.frame_manager.specs.Answered.{HoldsFrames}
 use Rattle.element.specs.Parts.{Shape, Part, Manages, IsPart, SameElsewhere}
 use Rattle.element.specs.Changed.{with_cells, with_manager}
-use Rattle.element.proofs.Places.{put_other}
 
 -- CELLS
 pub record OnlyCell (x : ℕ) (old new : Store) : Type 0 where

@@ -6,6 +6,7 @@ use Rattle.std.proofs.lemmas.Option.{get_or_from_slice_get}
 use Rattle.std.proofs.Math.Dec.{eqb-suc-zero}
 use Rattle.istructure.proofs.Fresh.{vacant_here}
 use Rattle.std.proofs.lemmas.List.Elements.{All-nil, All-weaker, All-replicate, All-push}
+use Rattle.std.proofs.lemmas.Bool.{cases_lt}
 use Rattle.tags.specs.declared.value.Value.{Value}
 use Rattle.tags.specs.declared.token.Token.{Token}
 use Rattle.tags.specs.declared.slot.SlotState.{SlotState}
@@ -21,7 +22,6 @@ use Rattle.element.specs.Near.{Bounds, IsNearCont, IsNearToken, IsNearSlot, IsNe
 use Rattle.element.specs.Parts.{Shape, Part, Manages, IsSound, IsSoundManager, bounds}
 use Rattle.element.specs.Held.{Held, with_queue, IsSoundLane}
 use Rattle.element.specs.Openings.{IsOpening, StartsAs, OthersStay}
-use Rattle.frame_store.proofs.Apart.{either}
 use Rattle.element.proofs.Only.{manages_as}
 
 pub others_stay : OthersStay
@@ -60,7 +60,7 @@ own_there z n x there ours low =
     subst (λ (k : ℕ). k < length own.states) (sym q.here) q.within
 
 all_of : {A : Type 0} (xs : List A) (v : A) (k : ℕ) → All (λ (x : A). x ≡ v) xs → v ≡ get_or xs k v
-all_of xs v k all = ⊎_elim (λ (l : k < length xs). sym (all k v l)) (λ (l : length xs ≤ k). sym (get_or_past xs k v l)) (either k (length xs))
+all_of xs v k all = ⊎_elim (λ (l : k < length xs). sym (all k v l)) (λ (l : length xs ≤ k). sym (get_or_past xs k v l)) (cases_lt k (length xs))
 
 vacant_held : (z : Shape) (n : ℕ) (s : Store) → ((x : ℕ) → s.cells x ≡ Vacant) → HoldsCells (all_vacant n z.element z.elements) s
 vacant_held z n s none x state e =

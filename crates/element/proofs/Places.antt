@@ -1,22 +1,17 @@
 -- Where slots stand, and what a change of one place leaves.
-use Rattle.std.proofs.Common.{◌≡◌, sym, ◌∙◌, ap, subst, ℕ, ◌+◌, ◌*◌, ◌/◌, ◌%◌, ◌<◌, ◌≤◌, cond, List, length, get_or, set, arith, get_or-set_other, get_or-set_same, ⊎_elim}
-use Rattle.std.proofs.lemmas.Bool.{cases_eq, eq-eqb, ne_eqb}
+use Rattle.std.proofs.Common.{◌≡◌, sym, ◌∙◌, ap, subst, ℕ, ◌+◌, ◌*◌, ◌/◌, ◌%◌, ◌<◌, ◌≤◌, List, length, get_or, set, arith, get_or-set_other, get_or-set_same, ⊎_elim}
+use Rattle.std.proofs.lemmas.Bool.{cases_eq, cases_lt}
 use Rattle.std.proofs.Math.Nat.{mul-le-mul_left}
 use Rattle.tags.specs.declared.slot.SlotState.{SlotState}
 use Rattle.tags.specs.declared.slot.SlotState.TheVariants.{Empty}
 use Rattle.semantics.specs.Machine.{put_at}
-use Rattle.frame_store.proofs.Apart.{either, below, one_slot}
+use Rattle.semantics.proofs.Stores.{put_other, put_same}
+use Rattle.frame_store.proofs.Apart.{below, one_slot}
 use Rattle.element.specs.Parts.{Shape, slot_place}
 
 -- what is the same at each place is the same
 pub agree : {A : Type 0} {f g : ℕ → A} → ((x : ℕ) → f x ≡ g x) → f ≡ g
 agree h = λ i x. h x i
-
-pub put_same : {A : Type 0} (f : ℕ → A) (x y : ℕ) (a : A) → x ≡ y → put_at f x a y ≡ a
-put_same f x y a e = ap (λ b. cond b a (f y)) (eq-eqb x y e)
-
-pub put_other : {A : Type 0} (f : ℕ → A) (x y : ℕ) (a : A) → (x ≡ y → ⊥) → put_at f x a y ≡ f y
-put_other f x y a e = ap (λ b. cond b a (f y)) (ne_eqb x y e)
 
 -- a list with another item at one place
 pub set_at : {A : Type 0} (xs : List A) (r j : ℕ) (v d : A) → r < length xs → put_at (λ k. get_or xs k d) r v j ≡ get_or (set xs r v) j d
@@ -37,7 +32,7 @@ frame_there : (n m f : ℕ) → 0 < n → f < n * m → f / n < m
 frame_there n m f some l = ⊎_elim
     (λ (less : f / n < m). less)
     (λ (more : m ≤ f / n). absurd (let h : n * m ≤ n * (f / n) = mul-le-mul_left n more in omega (arith, div-mod f n)))
-    (either (f / n) m)
+    (cases_lt (f / n) m)
 
 -- the slots of the frames that lie here, after one changed
 module _ (z : Shape) (states : List SlotState) (some : 0 < z.elements) (bank : z.start + z.frames * z.width ≤ length states) where

@@ -1,15 +1,14 @@
 -- A well-formed graph that has a text is within the limits.
-use Rattle.std.proofs.Common.{◌≡◌, ℕ, zero, suc, ◌+◌, ◌-◌, ◌<◌, ◌≤◌, Bool, true, false, List, [], ◌∷◌, map, length, get_or, refl, ap, ◌∙◌, subst, arith, Option, Some, None, nat_lt, if◌then◌else◌}
+use Rattle.std.proofs.Common.{◌≡◌, ℕ, ◌+◌, ◌-◌, ◌<◌, ◌≤◌, Bool, true, false, List, [], ◌∷◌, length, refl, ◌∙◌, arith, Option, Some, None, if◌then◌else◌}
 use Rattle.std.specs.Prelude.{All, slice_get}
-use Rattle.std.proofs.lemmas.Bool.{le-ltb}
 use Rattle.std.proofs.lemmas.List.{length-map}
-use Rattle.std.proofs.lemmas.Option.{slice_get-get_or}
-use Rattle.law_determinacy.proofs.Resolved.{all_get}
+use Rattle.lemmas.proofs.Alls.{all_at, all_from_map}
 use Rattle.semantics.specs.declared.graph.Kind.{Kind}
 use Rattle.semantics.specs.declared.graph.Kind.TheVariants.{Lit, Apply1, Apply2, Cond, Enter, Merge, Fetch, Store, Call, StrictCall, Loop}
-use Rattle.semantics.specs.Graph.{Graph, Block, Node, node_at, flow_of, resolved_kind, resolved_block, array_names, block_names, same_name, place_from, place_of}
+use Rattle.semantics.specs.Graph.{Graph, Block, Node, flow_of, resolved_kind, resolved_block, array_names, block_names, same_name, place_from, place_of}
 use Rattle.semantics.specs.WellFormed.{WellFormed, IsBlockWell, IsNodeWell, NamesWell}
 use Rattle.semantics.specs.Text.{HasText, HasBlockText, HasNodeLine, HasLine}
+use Rattle.semantics.proofs.Lines.{named_line_at}
 use Rattle.expansion.specs.Blocks.{IsSmallKind, IsSmallNode, IsSmallBlock, FewOutputs, outputs_in, outputs_of}
 use Rattle.expansion.specs.Expanded.{IsSmallFlow}
 
@@ -38,24 +37,6 @@ block_place_is_small g name text =
     let e = length-map g.blocks (λ (b : List ℕ × Block (List ℕ)). b.0) in
     let low = place_below 0 name (block_names g) in
     omega (arith, e, low, text.few_blocks)
-
--- LISTS
-map_get_back : {X Y : Type 0} (f : X → Y) (xs : List X) (i : ℕ) (y : Y) → slice_get (map f xs) i ≡ Some y → (x : X) × (slice_get xs i ≡ Some x) × (f x ≡ y)
-map_get_back f [] i y e = cc
-map_get_back f (x ∷ xs) zero y e = (x, refl, cc)
-map_get_back f (x ∷ xs) (suc i) y e = map_get_back f xs i y e
-
--- each element of a mapped list is that of an element
-all_mapped : {X Y : Type 0} (P : Y → Type 0) (f : X → Y) (xs : List X) → ((i : ℕ) (x : X) → slice_get xs i ≡ Some x → P (f x)) → All P (map f xs)
-all_mapped P f xs h = λ k d lt.
-    let m = map_get_back f xs k (get_or (map f xs) k d) (slice_get-get_or (map f xs) k d lt) in
-    subst P m.2 (h k m.0 m.1)
-
-node_line : (b : Block (List ℕ)) (i : ℕ) → node_at b (b.inputs + i) ≡ slice_get b.nodes i
-node_line b i =
-    let past : nat_lt (b.inputs + i) b.inputs ≡ false = le-ltb (b.inputs + i) b.inputs (omega arith) in
-    let at : (b.inputs + i) - b.inputs ≡ i = omega arith in
-    ap (λ t. if t then None else slice_get b.nodes ((b.inputs + i) - b.inputs)) past ∙ ap (slice_get b.nodes) at
 
 -- NODES
 few_sources : (v : ℕ) (k : Kind (List ℕ)) (n : ℕ) → HasLine v k n → n ≤ 16
@@ -99,16 +80,16 @@ module _ (g : Graph) (well : WellFormed g) (text : HasText g) where
 
   small_block : (k : ℕ) (named : Named) → slice_get g.blocks k ≡ Some named → IsSmallBlock (resolved_block (array_names g) (block_names g) named.1)
   small_block k named e =
-      let good : IsBlockWell g named.1 = all_get (λ (x : Named). IsBlockWell g x.1) g.blocks k named well.blocks e in
-      let fits : HasBlockText g.version named = all_get (HasBlockText g.version) g.blocks k named text.blocks e in
+      let good : IsBlockWell g named.1 = all_at (λ (x : Named). IsBlockWell g x.1) g.blocks k named well.blocks e in
+      let fits : HasBlockText g.version named = all_at (HasBlockText g.version) g.blocks k named text.blocks e in
       let count = length-map named.1.nodes (resolved g) in
       record {
         inputs = fits.inputs;
         outputs = fits.outputs;
         size = let s = fits.size in omega (arith, s, count);
-        nodes = all_mapped IsSmallNode (resolved g) named.1.nodes (λ i n here.
-            let line : HasNodeLine g.version n = all_get (HasNodeLine g.version) named.1.nodes i n fits.nodes here in
-            let known : IsNodeWell g named.1 (named.1.inputs + i) n = good.nodes (named.1.inputs + i) n (node_line named.1 i ∙ here) in
+        nodes = all_from_map IsSmallNode (resolved g) named.1.nodes (λ i n here.
+            let line : HasNodeLine g.version n = all_at (HasNodeLine g.version) named.1.nodes i n fits.nodes here in
+            let known : IsNodeWell g named.1 (named.1.inputs + i) n = good.nodes (named.1.inputs + i) n (named_line_at named.1 i ∙ here) in
             record { sources = few_sources g.version n.kind (length n.sources) line.1; kind = small_kind g n.kind (length n.sources) few_arrays few_blocks known.names });
         results = fits.results.0;
       }
@@ -118,11 +99,11 @@ few_from bs h f = go (slice_get bs f) refl
   where
     go : (o : Option (Block ℕ)) → slice_get bs f ≡ o → outputs_in o ≤ 16
     go None e = omega arith
-    go (Some b) e = (all_get IsSmallBlock bs f b h e).outputs
+    go (Some b) e = (all_at IsSmallBlock bs f b h e).outputs
 
 pub small_flow : (g : Graph) → WellFormed g → HasText g → IsSmallFlow (flow_of g)
 small_flow g well text =
-    let small : All IsSmallBlock (flow_of g).blocks = all_mapped IsSmallBlock (λ (b : Named). resolved_block (array_names g) (block_names g) b.1) g.blocks (small_block g well text) in
+    let small : All IsSmallBlock (flow_of g).blocks = all_from_map IsSmallBlock (λ (b : Named). resolved_block (array_names g) (block_names g) b.1) g.blocks (small_block g well text) in
     let count = length-map g.blocks (λ (b : Named). resolved_block (array_names g) (block_names g) b.1) in
     record {
       few = let e = text.few_blocks in omega (arith, count, e);

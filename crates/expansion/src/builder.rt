@@ -75,36 +75,10 @@ impl<A: Allocator> Model for Builder<A> {
     ghost invariant = { λ b. b.holders ≤ length b.instrs.items };
 }
 
-/// Whether two words meet at an instruction.
-pub(crate) fn is_dyadic(op: Op) -> bool
-    ensures { result ≡ Wired.is_dyadic op }
-{
-    matches!(
-        op,
-        Op::Apply2 { .. }
-            | Op::Sync
-            | Op::Switch
-            | Op::Store { .. }
-            | Op::Send { .. }
-            | Op::Return { .. }
-            | Op::Ask { .. }
-            | Op::Release { .. }
-    )
-}
-
 fn is_open(op: Op) -> bool
     ensures { result ≡ Plans.is_open op }
 {
     matches!(op, Op::Open { .. })
-}
-
-fn is_credit(op: Op) -> bool
-    ensures { result ≡ Plans.is_credit op }
-{
-    matches!(
-        op,
-        Op::Open { .. } | Op::Take { .. } | Op::Give { .. } | Op::Drain { .. }
-    )
 }
 
 /// Adds a destination to an instruction.
@@ -137,9 +111,9 @@ impl<A: Allocator + Clone> Builder<A> {
     fn slot(&self, op: Op) -> u32
         ensures { result ≡ Builds.slot_in self.now op }
     {
-        if is_dyadic(op) || is_open(op) {
+        if op.takes_two() || is_open(op) {
             self.holders
-        } else if is_credit(op) {
+        } else if op.is_credit() {
             self.opened
         } else {
             0
@@ -176,7 +150,7 @@ impl<A: Allocator + Clone> Builder<A> {
         if is_open(op) {
             self.opened = self.holders;
         }
-        if is_dyadic(op) || is_open(op) {
+        if op.takes_two() || is_open(op) {
             self.holders += 1;
         }
         Ok(place)

@@ -3,25 +3,23 @@ use Rattle.std.proofs.Common.{◌≡◌, ℕ, ◌+◌, ◌-◌, ◌*◌, ◌<◌
 use Rattle.std.specs.Prelude.{slice_get, Contains}
 use Rattle.std.proofs.lemmas.Bool.{ltb-true, ltb-false}
 use Rattle.std.specs.Option.{option_map}
-use Rattle.std.proofs.lemmas.Option.{slice_get_within, get_or_from_slice_get, slice_get-map}
+use Rattle.std.proofs.lemmas.Option.{slice_get_within, slice_get-map}
 use Rattle.std.proofs.lemmas.List.Elements.{Contains-append_left, Contains-append_right, Contains-append_cases}
+use Rattle.lemmas.proofs.Contains.{contains_cases, contains_mapped, contains_none, get_contains}
+use Rattle.lemmas.proofs.SliceGet.{map_get_back, get_append_cases, get_some}
 use Rattle.tags.specs.declared.token.Port.TheVariants.{Left, Right}
 use Rattle.semantics.specs.declared.program.Dest.{Dest}
 use Rattle.semantics.specs.Program.{Instr, CodeBlock}
 use Rattle.semantics.specs.Rule.{slot_of}
 use Rattle.semantics.specs.Plan.{Plan, is_credit}
 use Rattle.semantics.specs.Bytes.{is_dyadic, IsDest}
-use Rattle.law_net.proofs.Members.{contains_cases, contains_none, contains_map}
 use Rattle.fanout.specs.Sides.{copies, parted}
 use Rattle.fanout.specs.Places.{Layout, size, place_of, base_of}
 use Rattle.fanout.specs.Trees.{dest_at, leaf, leaf_or, child, side, tree, copy_at, copies_of, moved}
 use Rattle.fanout.specs.Narrowed.{parts_of, narrowed_block}
 use Rattle.fanout.specs.Laws.{AreApart, DestsStay}
-use Rattle.fanout.proofs.Positions.{get_split}
 use Rattle.fanout.proofs.Spots.{length-tree, get-tree, sized, copy_stands, before_copies, past_copies, IsMoved, IsCopied, comes_here}
-use Rattle.fanout.proofs.Queues.{there}
 use Rattle.fanout.proofs.Parted.{parted_all}
-use Rattle.fanout.proofs.Maps.{get_map}
 use Rattle.fanout.proofs.Plans.{is, ts, l, all, slot_same, at_place}
 
 abbrev dyadic_by : Option ℕ → Bool → Bool
@@ -29,9 +27,6 @@ dyadic_by o credit = elim o as (λ x. Bool) [ None ↦ false | Some r ↦ if cre
 
 dyadic_same : (i j : Instr) → i.op ≡ j.op → i.slot ≡ j.slot → is_dyadic (Some i) ≡ is_dyadic (Some j)
 dyadic_same i j e f = (λ k. dyadic_by ((slot_same i j i.op f ∙ ap (slot_of j) e) k) (is_credit (e k)))
-
-contains_some : {X : Type 0} (xs : List X) (k : ℕ) (x : X) → slice_get xs k ≡ Some x → Contains xs x
-contains_some xs k x e = (k, slice_get_within xs k x e, get_or_from_slice_get xs k x x e)
 
 -- what a side or a copy names: a copy of the side, or one of its destinations
 abbrev Root : ℕ → ℕ → List Dest → Dest → Type 0
@@ -49,7 +44,7 @@ side_cases l n at root ds d h = by_test (nat_lt 1 (length ds)) refl h
         pick : (dest_at at root Left ≡ d) ⊎ Contains [] d → Root at root ds d ⊎ Leaf l n at ds d
         pick (inl e) = inl (ltb-true 1 (length ds) t, e)
         pick (inr k) = absurd (contains_none d k)
-    by_test false t h = let m = contains_map (leaf l n at) ds d h in inr (m.0, m.1, m.2)
+    by_test false t h = let m = contains_mapped (leaf l n at) ds d h in inr (m.0, m.1, m.2)
 
 child_cases : (l : Layout) (n at j : ℕ) (ds : List Dest) (c : ℕ) → c ≤ 2 * copies ds → 0 < copies ds → ((c < copies ds) × (dest_at j c Left ≡ child l n at j ds c)) ⊎ Leaf l n at ds (child l n at j ds c)
 child_cases l n at j ds c high some = by_test (nat_lt c (copies ds)) refl
@@ -59,8 +54,8 @@ child_cases l n at j ds c high some = by_test (nat_lt c (copies ds)) refl
     by_test true t = inl (ltb-true c (copies ds) t, refl)
     by_test false t =
         let k = ltb-false c (copies ds) t in
-        let d = there ds (c - copies ds) (omega (arith, k, high, some)) in
-        inr (d.0, contains_some ds (c - copies ds) d.0 d.1, sym (ap (leaf_or l n at) d.1))
+        let d = get_some ds (c - copies ds) (omega (arith, k, high, some)) in
+        inr (d.0, get_contains ds (c - copies ds) d.0 d.1, sym (ap (leaf_or l n at) d.1))
 
 -- ONE INSTRUCTION of a block. What holds of its destinations, wherever they are named from before the end of its copies,
 -- and of its copies, named from before them, holds of all that it and its copies name.
@@ -82,14 +77,14 @@ module _ (p : Plan) (c : CodeBlock) (v : ℕ) (i : Instr) (here : slice_get (is 
 
   copy_within : (q : ℕ) → q < count → root + q < length made
   copy_within q h =
-      let s = sized (l p c) v (parted i) in let k = there (copies_of (l p c) v (parted i)) q (omega (arith, h, s)) in
+      let s = sized (l p c) v (parted i) in let k = get_some (copies_of (l p c) v (parted i)) q (omega (arith, h, s)) in
       slice_get_within made (root + q) k.0 (copy_stands (ts p c) (is p c) (all p c) v q (parted i) k.0 here k.1)
 
   -- the destination's place is behind the copies
   pub past : (d : Dest) → Contains (i.firsts ++ i.seconds) d → root + count ≤ place_of (l p c) (v + d.ahead)
   past d h =
       let t = v + d.ahead in
-      let to = there c.instrs t (dests d h).inside in
+      let to = get_some c.instrs t (dests d h).inside in
       let a = apart d h in
       let in_parts : slice_get (is p c) t ≡ Some (parted to.0) = slice_get-map parted c.instrs t ∙ ap (option_map parted) to.1 in
       past_copies (ts p c) (is p c) (all p c) v t a.0 (parted i) (parted to.0) here in_parts a.1 a.2 a.3
@@ -98,7 +93,7 @@ module _ (p : Plan) (c : CodeBlock) (v : ℕ) (i : Instr) (here : slice_get (is 
   leaf_is at d low h =
       let t = v + d.ahead in
       let old = dests d h in
-      let to = there c.instrs t old.inside in
+      let to = get_some c.instrs t old.inside in
       let new = at_place p c t to.0 to.1 in
       let far = past d h in
       let within = slice_get_within made (place_of (l p c) t) (moved (l p c) t (parted to.0)) new in
@@ -191,7 +186,7 @@ module _ (p : Plan) (c : CodeBlock) (v : ℕ) (i : Instr) (here : slice_get (is 
       pick (inr k) = side_is twos (copies ones) (omega arith) (λ d h. whole d (Contains-append_right ones twos d h)) d k
 
   copied_names : (j : ℕ) (y : Instr) (d : Dest) → slice_get (copies_of (l p c) v (parted i)) j ≡ Some y → Contains (y.firsts ++ y.seconds) d → G (base + j) d
-  copied_names j y d e h = pick (get_split _ _ j y e)
+  copied_names j y d e h = pick (get_append_cases _ _ j y e)
     where
       some : (a b : Instr) → Some a ≡ Some b → a ≡ b
       some a b e = cc
@@ -229,12 +224,12 @@ names_all p c G known n y d there named = pick (comes_here (ts p c) (is p c) (al
   where
     pick : IsMoved (ts p c) (is p c) (all p c) n y ⊎ IsCopied (ts p c) (is p c) (all p c) n y → G n d
     pick (inl m) =
-        let q = get_map parted c.instrs m.v m.i m.there in
+        let q = map_get_back parted c.instrs m.v m.i m.there in
         let here : slice_get (is p c) m.v ≡ Some (parted q.0) = m.there ∙ ap Some (sym q.2) in
         subst (λ n. G n d) (sym m.at)
         (moved_names p c m.v q.0 here G (known m.v q.0 q.1) d (subst (λ (y : Instr). Contains (y.firsts ++ y.seconds) d) (sym (ap (moved (l p c) m.v) q.2 ∙ m.what)) named))
     pick (inr m) =
-        let q = get_map parted c.instrs m.v m.i m.there in
+        let q = map_get_back parted c.instrs m.v m.i m.there in
         let here : slice_get (is p c) m.v ≡ Some (parted q.0) = m.there ∙ ap Some (sym q.2) in
         let what : slice_get (copies_of (l p c) m.v (parted q.0)) m.j ≡ Some y = ap (λ i. slice_get (copies_of (l p c) m.v i) m.j) q.2 ∙ m.what in
         subst (λ n. G n d) (sym m.at) (copied_names p c m.v q.0 here G (known m.v q.0 q.1) m.j y d what named)
@@ -248,7 +243,7 @@ pub dests_stay : DestsStay
 dests_stay p leaves old b n c d h = of_old o.0 o.1 o.2
   where
     o : (x : CodeBlock) × (slice_get p.program.blocks b ≡ Some x) × (narrowed_block p x ≡ c)
-    o = get_map (narrowed_block p) p.program.blocks b c h.block
+    o = map_get_back (narrowed_block p) p.program.blocks b c h.block
 
     of_old : (x : CodeBlock) → slice_get p.program.blocks b ≡ Some x → narrowed_block p x ≡ c → IsDest c n d
     of_old x at same = subst (λ c. IsDest c n d) same

@@ -3,6 +3,8 @@ use Rattle.std.proofs.Common.{◌≡◌, ℕ, zero, suc, ◌+◌, ◌-◌, ◌<�
 use Rattle.std.specs.Prelude.{slice_get, slice_set}
 use Rattle.std.proofs.lemmas.Bool.{cases_eq}
 use Rattle.std.proofs.lemmas.List.{get_or-set_same, get_or-set_other}
+use Rattle.std.proofs.lemmas.Option.{same_Some}
+use Rattle.lemmas.proofs.Lists.{length_of_falses}
 use Rattle.semantics.specs.declared.program.Dest.{Dest}
 use Rattle.semantics.specs.declared.program.Op.{Op}
 use Rattle.semantics.specs.declared.program.Op.TheVariants.{Link}
@@ -10,7 +12,6 @@ use Rattle.semantics.specs.Program.{Instr}
 use Rattle.semantics.specs.Plan.{Plan, landing}
 use Rattle.fanout.specs.Rows.{tie, tie_landings, tie_instr, tie_all, tied_in, is_tied}
 use Rattle.fanout.specs.Places.{size, places_from}
-use Rattle.fanout.proofs.Positions.{same_number}
 
 -- there are as many flags as instructions
 pub tie_length : (ts : List Bool) (from k : ℕ) → length (tie ts from k) ≡ length ts
@@ -29,13 +30,9 @@ all_length : (p : Plan) (ts : List Bool) (n : ℕ) (is : List Instr) → length 
 all_length p ts n [] = refl
 all_length p ts n (i ∷ is) = all_length p (tie_instr p ts n i i.op) (n + 1) is ∙ instr_length p ts n i i.op
 
-pub none_length : (n : ℕ) → length (replicate n false) ≡ n
-none_length zero = refl
-none_length (suc n) = ap suc (none_length n)
-
 pub tied_length : (p : Plan) (inputs : ℕ) (is : List Instr) → length (tied_in p inputs is) ≡ length is
 tied_length p inputs is =
-    all_length p (tie (replicate (length is) false) 0 inputs) 0 is ∙ tie_length (replicate (length is) false) 0 inputs ∙ none_length (length is)
+    all_length p (tie (replicate (length is) false) 0 inputs) 0 is ∙ tie_length (replicate (length is) false) 0 inputs ∙ length_of_falses (length is)
 
 pub tie_these : (ts : List Bool) (from count k : ℕ) → from ≤ k → k < from + count → k < length ts → is_tied (tie ts from count) k ≡ true
 tie_these ts from zero k l h there = absurd (omega (arith, l, h))
@@ -51,7 +48,7 @@ tie_these ts from (suc c) k l h there = pick (cases_eq k (from + c)) (tie_these 
 -- the instructions of the first row keep their places
 pub place_tied : (ts : List Bool) (n before copied : ℕ) (is : List Instr) (v m : ℕ) → ((k : ℕ) → k < v → is_tied ts (n + k) ≡ true) → slice_get (places_from ts n before copied is) v ≡ Some m → m ≡ n + v + before
 place_tied ts n before copied [] v m h e = absurd (cc)
-place_tied ts n before copied (i ∷ is) zero m h e = let k = same_number (n + before) m e in omega (arith, k)
+place_tied ts n before copied (i ∷ is) zero m h e = let k = same_Some (n + before) m e in omega (arith, k)
 place_tied ts n before copied (i ∷ is) (suc v) m h e =
     let z : n + 0 ≡ n = omega arith in
     let t : is_tied ts n ≡ true = sym (ap (is_tied ts) z) ∙ h 0 (omega arith) in
@@ -89,5 +86,5 @@ all_keeps p ts n (i ∷ is) k h = all_keeps p (tie_instr p ts n i i.op) (n + 1) 
 
 pub entries_tied : (p : Plan) (inputs : ℕ) (is : List Instr) (k : ℕ) → k < inputs → k < length is → is_tied (tied_in p inputs is) k ≡ true
 entries_tied p inputs is k h there =
-    let len = none_length (length is) in
+    let len = length_of_falses (length is) in
     all_keeps p (tie (replicate (length is) false) 0 inputs) 0 is k (tie_these (replicate (length is) false) 0 inputs k (omega arith) (omega (arith, h)) (omega (arith, there, len)))

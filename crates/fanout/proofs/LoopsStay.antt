@@ -3,6 +3,7 @@ use Rattle.std.proofs.Common.{◌≡◌, ℕ, zero, suc, ◌+◌, Bool, true, fa
 use Rattle.std.specs.Prelude.{flat_map, IsPermutation}
 use Rattle.std.proofs.lemmas.List.{length-map}
 use Rattle.std.proofs.lemmas.Grind.{flat_map-append}
+use Rattle.lemmas.proofs.SliceGet.{map_get_back}
 use Rattle.semantics.specs.declared.program.Dest.{Dest}
 use Rattle.semantics.specs.Program.{Instr, CodeBlock}
 use Rattle.semantics.specs.Plan.{Plan}
@@ -13,7 +14,6 @@ use Rattle.fanout.specs.Places.{Layout, base_of}
 use Rattle.fanout.specs.Trees.{copy_at, tree, copies_of}
 use Rattle.fanout.specs.Narrowed.{held, released, spread, parts_of, layout_of, narrowed_block}
 use Rattle.fanout.specs.Loops.{StillHasBounds, KeepsArrays}
-use Rattle.fanout.proofs.Maps.{get_map}
 
 abbrev opens : List Instr → List ℕ
 opens is = flat_map (λ (i : Instr). opened_by i.op) is
@@ -64,7 +64,7 @@ block_opens p c = spread_opens (layout_of p c) 0 [] (parts_of c) refl ∙ parts_
 pub still_has_bounds : StillHasBounds
 still_has_bounds fl p h = (
   length-map p.program.blocks (narrowed_block p) ∙ h.0,
-  λ b e g at named. let o = get_map (narrowed_block p) p.program.blocks b e at in subst (λ xs. IsPermutation xs (loop_bounds g)) (sym (block_opens p o.0) ∙ ap open_bounds o.2) (h.1 b o.0 g o.1 named),
+  λ b e g at named. let o = map_get_back (narrowed_block p) p.program.blocks b e at in subst (λ xs. IsPermutation xs (loop_bounds g)) (sym (block_opens p o.0) ∙ ap open_bounds o.2) (h.1 b o.0 g o.1 named),
 )
 
 pub keeps_arrays : KeepsArrays

@@ -5,6 +5,8 @@ use Rattle.std.specs.Prelude.{slice_get, All}
 use Rattle.std.proofs.lemmas.Option.{slice_get_within, slice_get-get_or, get_or_from_slice_get, slice_get-map}
 use Rattle.std.proofs.lemmas.List.{length-replicate}
 use Rattle.std.proofs.lemmas.List.Elements.{All-cons, All-nil, All-append, All-head, All-tail}
+use Rattle.lemmas.proofs.Alls.{all_at}
+use Rattle.lemmas.proofs.SliceGet.{map_get_back}
 use Rattle.semantics.specs.declared.program.Op.TheVariants as Program
 use Rattle.semantics.specs.declared.program.Op.{Op}
 use Rattle.semantics.specs.declared.program.Op.TheVariants.{Apply2, Sync, Switch, Store, Send, Return, Ask, Release, Open, Take, Give, Drain}
@@ -16,7 +18,6 @@ use Rattle.semantics.specs.Rule.{slot_of}
 use Rattle.semantics.specs.Plan.{Plan, mark_in, mark_at, is_credit, is_open, OneHolder, IsPlanBlock}
 use Rattle.semantics.specs.Wired.{bound_of, part_of, LoopsAgree}
 use Rattle.code.specs.Marks.{marks_in}
-use Rattle.law_determinacy.proofs.Resolved.{all_get}
 use Rattle.fanout.specs.Sides.{copies, parted}
 use Rattle.fanout.specs.Rows.{tied_in}
 use Rattle.fanout.specs.Places.{Layout, size, layout_with, place_of, base_of}
@@ -27,7 +28,7 @@ use Rattle.fanout.proofs.Positions.{one_at, more_at}
 use Rattle.fanout.proofs.Spots.{sized, stands, place_is, base_is, IsMoved, IsCopied, comes_here}
 use Rattle.fanout.proofs.Flags.{tied_length}
 use Rattle.fanout.proofs.Shapes.{block_shapes}
-use Rattle.fanout.proofs.Maps.{get_map, same_mark}
+use Rattle.fanout.proofs.Maps.{same_mark}
 
 -- COPIES
 abbrev Copies : Instr → Type 0
@@ -99,7 +100,7 @@ module _ (p : Plan) (c : CodeBlock) where
     where
       pick : IsMoved ts is all x y ⊎ IsCopied ts is all x y → IsOld x y ⊎ IsNew x y
       pick (inl o) =
-          let q = get_map parted c.instrs o.v o.i o.there in
+          let q = map_get_back parted c.instrs o.v o.i o.there in
           inl (record {
             v = o.v;
             i = q.0;
@@ -110,7 +111,7 @@ module _ (p : Plan) (c : CodeBlock) where
           })
       pick (inr o) =
           let k = slice_get_within (copies_of l o.v o.i) o.j y o.what in let s = sized l o.v o.i in
-          inr (record { v = o.v; i = o.i; j = o.j; there = o.there; below = omega (arith, k, s); at = o.at; op = all_get Copies (copies_of l o.v o.i) o.j y (all_copies l o.v o.i) o.what })
+          inr (record { v = o.v; i = o.i; j = o.j; there = o.there; below = omega (arith, k, s); at = o.at; op = all_at Copies (copies_of l o.v o.i) o.j y (all_copies l o.v o.i) o.what })
 
   -- what has a slot is an old instruction
   held_is_old : (x h : ℕ) (y : Instr) → slice_get (narrowed_block p c).instrs x ≡ Some y → slot_of y y.op ≡ Some h → (o : IsOld x y) × (slot_of o.i o.i.op ≡ Some h)
@@ -218,7 +219,7 @@ pub stays_plan : StaysPlan
 stays_plan p h = record {
   blocks = blocks_plan p p.program.blocks h.blocks;
   marked = λ b n c i e f s.
-      let o = get_map (narrowed_block p) p.program.blocks b c e in
+      let o = map_get_back (narrowed_block p) p.program.blocks b c e in
       by_origin b n o.0 i o.1 s (origin_of p o.0 n i (ap (λ (c : CodeBlock). slice_get c.instrs n) o.2 ∙ f));
 }
   where
@@ -228,7 +229,7 @@ stays_plan p h = record {
 
 pub marks_stay : MarksStay
 marks_stay p h b n c i e f k =
-    let o = get_map (narrowed_block p) p.program.blocks b c e in
+    let o = map_get_back (narrowed_block p) p.program.blocks b c e in
     by_origin o.0 o.1 (origin_of p o.0 n i (ap (λ (c : CodeBlock). slice_get c.instrs n) o.2 ∙ f))
   where
     by_origin : (c : CodeBlock) → slice_get p.program.blocks b ≡ Some c → IsOld p c n i ⊎ IsNew p c n i → i.op ≡ Switch
@@ -237,4 +238,4 @@ marks_stay p h b n c i e f k =
 
 pub loops_stay : LoopsStay
 loops_stay p h b c e =
-    let o = get_map (narrowed_block p) p.program.blocks b c e in subst LoopsAgree o.2 (loops p o.0 (h b o.0 o.1))
+    let o = map_get_back (narrowed_block p) p.program.blocks b c e in subst LoopsAgree o.2 (loops p o.0 (h b o.0 o.1))

@@ -1,8 +1,9 @@
 -- Where the instructions of a block and their copies stand in the new order.
 use Rattle.std.proofs.Common.{◌≡◌, ℕ, zero, suc, ◌+◌, ◌<◌, ◌≤◌, Bool, true, false, List, ◌∷◌, ◌++◌, length, drop, refl, sym, ap, ◌∙◌, inl, inr, ◌⊎◌, arith, Some, if◌then◌else◌, le_of_suc-le-suc, not-suc-le-zero, length-append, true≢false, []}
 use Rattle.std.specs.Prelude.{slice_get, All}
-use Rattle.std.proofs.lemmas.Option.{slice_get_within}
+use Rattle.std.proofs.lemmas.Option.{slice_get_within, same_Some}
 use Rattle.std.proofs.lemmas.List.Elements.{All-cons, All-nil, All-head, All-tail, All-append}
+use Rattle.lemmas.proofs.SliceGet.{get_append_cases}
 use Rattle.semantics.specs.Program.{Instr}
 use Rattle.fanout.specs.Rows.{is_tied, run}
 use Rattle.fanout.specs.Places.{size, places_from, bases_from}
@@ -17,16 +18,6 @@ get_left (x ∷ xs) ys (suc k) h = get_left xs ys k (le_of_suc-le-suc h)
 pub get_right : {X : Type 0} (xs ys : List X) (k : ℕ) → slice_get (xs ++ ys) (length xs + k) ≡ slice_get ys k
 get_right [] ys k = let e : 0 + k ≡ k = omega arith in ap (slice_get ys) e
 get_right (x ∷ xs) ys k = let e : length (x ∷ xs) + k ≡ suc (length xs + k) = omega arith in ap (slice_get (x ∷ (xs ++ ys))) e ∙ get_right xs ys k
-
--- what stands in two lists stands in one of them
-pub get_split : {X : Type 0} (xs ys : List X) (k : ℕ) (y : X) → slice_get (xs ++ ys) k ≡ Some y → (slice_get xs k ≡ Some y) ⊎ ((j : ℕ) × (k ≡ length xs + j) × (slice_get ys j ≡ Some y))
-get_split [] ys k y e = inr (k, omega arith, e)
-get_split (x ∷ xs) ys zero y e = inl e
-get_split (x ∷ xs) ys (suc k) y e = shift (get_split xs ys k y e)
-  where
-    shift : (slice_get xs k ≡ Some y) ⊎ ((j : ℕ) × (k ≡ length xs + j) × (slice_get ys j ≡ Some y)) → (slice_get xs k ≡ Some y) ⊎ ((j : ℕ) × (suc k ≡ length (x ∷ xs) + j) × (slice_get ys j ≡ Some y))
-    shift (inl h) = inl h
-    shift (inr (j, h, g)) = inr (j, omega (arith, h), g)
 
 -- the flag of an instruction, at the head of those that are left
 pub flag_here : (ts : List Bool) (n : ℕ) → n < length ts → drop n ts ≡ is_tied ts n ∷ drop (n + 1) ts
@@ -60,13 +51,10 @@ base_there ts n copied [] v h = absurd (not-suc-le-zero h)
 base_there ts n copied (i ∷ is) zero h = (n + run (drop n ts) + copied, refl)
 base_there ts n copied (i ∷ is) (suc v) h = base_there ts (n + 1) (copied + size i) is v (le_of_suc-le-suc h)
 
-pub same_number : (m n : ℕ) → Some m ≡ Some n → m ≡ n
-same_number m n e = cc
-
 -- no place is lower than those before it
 pub place_low : (ts : List Bool) (n before copied : ℕ) (is : List Instr) (v m : ℕ) → before ≤ copied → slice_get (places_from ts n before copied is) v ≡ Some m → n + v + before ≤ m
 place_low ts n before copied [] v m h e = absurd (cc)
-place_low ts n before copied (i ∷ is) zero m h e = let k = same_number (n + before) m e in omega (arith, k)
+place_low ts n before copied (i ∷ is) zero m h e = let k = same_Some (n + before) m e in omega (arith, k)
 place_low ts n before copied (i ∷ is) (suc v) m h e = elim (is_tied ts n) as (λ t. slice_get (places_from ts (n + 1) (if t then before else copied + size i) (copied + size i) is) v ≡ Some m → n + suc v + before ≤ m) [
   | true ↦ λ e. let k = place_low ts (n + 1) before (copied + size i) is v m (omega (arith, h)) e in omega (arith, k)
   | false ↦ λ e. let k = place_low ts (n + 1) (copied + size i) (copied + size i) is v m (omega arith) e in omega (arith, k, h)
@@ -84,7 +72,7 @@ pub place_base : (ts : List Bool) (n before copied : ℕ) (is : List Instr) (v m
     → slice_get (places_from ts n before copied is) v ≡ Some m → slice_get (bases_from ts n copied is) v ≡ Some k → length ts ≡ n + length is → m < k
 place_base ts n before copied [] v m k h e f all = absurd (cc)
 place_base ts n before copied (i ∷ is) zero m k h e f all =
-    let a = same_number (n + before) m e in let b = same_number (n + run (drop n ts) + copied) k f in let r = run_some ts n (omega (arith, all)) in omega (arith, a, b, r, h)
+    let a = same_Some (n + before) m e in let b = same_Some (n + run (drop n ts) + copied) k f in let r = run_some ts n (omega (arith, all)) in omega (arith, a, b, r, h)
 place_base ts n before copied (i ∷ is) (suc v) m k h e f all = elim (is_tied ts n) as (λ t. slice_get (places_from ts (n + 1) (if t then before else copied + size i) (copied + size i) is) v ≡ Some m → m < k) [
   | true ↦ λ e. place_base ts (n + 1) before (copied + size i) is v m k (omega (arith, h)) e f (omega (arith, all))
   | false ↦ λ e. place_base ts (n + 1) (copied + size i) (copied + size i) is v m k (omega arith) e f (omega (arith, all))
@@ -120,7 +108,7 @@ pub place_past : (ts : List Bool) (n before copied : ℕ) (is : List Instr) (v w
     → slice_get is v ≡ Some i → slice_get (bases_from ts n copied is) v ≡ Some m → slice_get (places_from ts n before copied is) w ≡ Some m' → v ≤ k → k < w → is_tied ts (n + k) ≡ false → m + size i ≤ m'
 place_past ts n before copied [] v w m m' k i h all at b p l u free = absurd (cc)
 place_past ts n before copied (j ∷ is) zero w m m' k i h all at b p l u free =
-    let e : j ≡ i = cc in let s = ap size e in let q = same_number (n + run (drop n ts) + copied) m b in
+    let e : j ≡ i = cc in let s = ap size e in let q = same_Some (n + run (drop n ts) + copied) m b in
     let f = past_first ts n before copied j is w m' k h all p u free in omega (arith, s, q, f)
 place_past ts n before copied (j ∷ is) (suc v) zero m m' k i h all at b p l u free = absurd (not-suc-le-zero u)
 place_past ts n before copied (j ∷ is) (suc v) (suc w) m m' zero i h all at b p l u free = absurd (not-suc-le-zero l)
@@ -137,7 +125,7 @@ pub place_order : (ts : List Bool) (n before copied : ℕ) (is : List Instr) (v 
 place_order ts n before copied [] v w m m' h p q l = absurd (cc)
 place_order ts n before copied (i ∷ is) v zero m m' h p q l = absurd (not-suc-le-zero l)
 place_order ts n before copied (i ∷ is) zero (suc w) m m' h p q l =
-    let a = same_number (n + before) m p in let b = place_low ts n before copied (i ∷ is) (suc w) m' h q in omega (arith, a, b)
+    let a = same_Some (n + before) m p in let b = place_low ts n before copied (i ∷ is) (suc w) m' h q in omega (arith, a, b)
 place_order ts n before copied (i ∷ is) (suc v) (suc w) m m' h p q l = elim (is_tied ts n) as (λ t. slice_get (places_from ts (n + 1) (if t then before else copied + size i) (copied + size i) is) v ≡ Some m
     → slice_get (places_from ts (n + 1) (if t then before else copied + size i) (copied + size i) is) w ≡ Some m' → m < m') [
       | true ↦ λ p q. place_order ts (n + 1) before (copied + size i) is v w m m' (omega (arith, h)) p q (le_of_suc-le-suc l)
@@ -173,7 +161,7 @@ module _ {X : Type 0} (ts : List Bool) (one : ℕ → Instr → X) (more : ℕ �
       → slice_get (places_from ts n before copied is) v ≡ Some m → q ≡ n + v → (x : ℕ) × (n + before + x ≡ m) × (slice_get (spread_of ts one more n waiting is) x ≡ Some (one q i))
   one_from n before copied waiting [] v m q i h at p e = absurd (cc)
   one_from n before copied waiting (j ∷ is) zero m q i h at p e =
-      let s = same_number (n + before) m p in let z : n ≡ q = omega (arith, e) in let k : j ≡ i = cc in
+      let s = same_Some (n + before) m p in let z : n ≡ q = omega (arith, e) in let k : j ≡ i = cc in
       (0, omega (arith, s), (λ y. Some (one (z y) (k y))))
   one_from n before copied waiting (j ∷ is) (suc v) m q i h at p e =
       let k = length-append waiting (more n j) in let s = sized n j in
@@ -196,7 +184,7 @@ module _ {X : Type 0} (ts : List Bool) (one : ℕ → Instr → X) (more : ℕ �
   more_from n before copied waiting (k ∷ is) zero m q j i y h all at p e f = by_flag (is_tied ts n) refl
     where
       same : n + run (drop n ts) + copied ≡ m
-      same = same_number (n + run (drop n ts) + copied) m p
+      same = same_Some (n + run (drop n ts) + copied) m p
 
       here : n < length ts
       here = omega (arith, all)
@@ -331,7 +319,7 @@ module _ {X : Type 0} (ts : List Bool) (one : ℕ → Instr → X) (more : ℕ �
   -- what waits behind an instruction waited before it, or is a copy of it
   waited_here : (n before copied : ℕ) (waiting : List X) (i : Instr) (is : List Instr) (x u : ℕ) (y : X) → before + length waiting ≡ copied → slice_get (waiting ++ more n i) u ≡ Some y → x ≡ run (drop n ts) + u
       → Comes n before copied waiting (i ∷ is) x y
-  waited_here n before copied waiting i is x u y h e f = pick (get_split waiting (more n i) u y e)
+  waited_here n before copied waiting i is x u y h e f = pick (get_append_cases waiting (more n i) u y e)
     where
       pick : (slice_get waiting u ≡ Some y) ⊎ ((j : ℕ) × (u ≡ length waiting + j) × (slice_get (more n i) j ≡ Some y)) → Comes n before copied waiting (i ∷ is) x y
       pick (inl g) = inr (inr (record { u = u; there = g; at = f }))
@@ -350,7 +338,7 @@ module _ {X : Type 0} (ts : List Bool) (one : ℕ → Instr → X) (more : ℕ �
             by_tied n before copied waiting i is x y h t here
             (comes_from (n + 1) before (copied + size i) (waiting ++ more n i) is x y (omega (arith, h, len)) (omega (arith, all)) e)
         | false ↦ λ t e.
-            by_free n before copied waiting i is x y h t here len (get_split (waiting ++ more n i) (spread_of ts one more (n + 1) [] is) x y e)
+            by_free n before copied waiting i is x y h t here len (get_append_cases (waiting ++ more n i) (spread_of ts one more (n + 1) [] is) x y e)
             (λ x' e. comes_from (n + 1) (copied + size i) (copied + size i) [] is x' y (omega arith) (omega (arith, all)) e)
       ] refl e
     where

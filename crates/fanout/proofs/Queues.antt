@@ -1,8 +1,9 @@
 -- Where the destinations of a tree of copies lead, and how it grows: the copies are made from the last one on, and each
 -- takes the last two of those that still wait for one.
-use Rattle.std.proofs.Common.{◌≡◌, ℕ, zero, suc, ◌+◌, ◌-◌, ◌*◌, ◌<◌, ◌≤◌, Bool, true, false, List, ◌∷◌, ◌++◌, map, length, refl, sym, ap, ◌∙◌, arith, Option, Some, None, if◌then◌else◌, nat_lt, not-suc-le-zero, le_of_suc-le-suc, lt-ltb, []}
+use Rattle.std.proofs.Common.{◌≡◌, ℕ, zero, suc, ◌+◌, ◌-◌, ◌*◌, ◌<◌, ◌≤◌, Bool, true, false, List, ◌∷◌, ◌++◌, map, length, refl, sym, ap, ◌∙◌, arith, Option, Some, None, if◌then◌else◌, nat_lt, not-suc-le-zero, lt-ltb, []}
 use Rattle.std.specs.Prelude.{slice_get}
 use Rattle.std.proofs.lemmas.Bool.{ltb-false, le-ltb}
+use Rattle.lemmas.proofs.SliceGet.{get_some}
 use Rattle.tags.specs.declared.token.Port.{Port}
 use Rattle.tags.specs.declared.token.Port.TheVariants.{Left}
 use Rattle.semantics.specs.declared.program.Dest.{Dest}
@@ -25,11 +26,6 @@ window_end f k zero = let e : k ≡ k + 0 = omega arith in (λ z. f (e z) ∷ f 
 window_end f k (suc a) =
     let e : k + 1 + a ≡ k + suc a = omega arith in
     ap (λ xs. f k ∷ xs) (window_end f (k + 1) a) ∙ (λ z. f k ∷ (window f (k + 1) a ++ f (e z) ∷ f (e z + 1) ∷ []))
-
-pub there : {X : Type 0} (xs : List X) (i : ℕ) → i < length xs → (x : X) × (slice_get xs i ≡ Some x)
-there [] i h = absurd (not-suc-le-zero h)
-there (x ∷ xs) zero h = (x, refl)
-there (x ∷ xs) (suc i) h = there xs i (le_of_suc-le-suc h)
 
 module _ (l : Layout) (n : ℕ) where
   -- a destination of the n-th instruction
@@ -63,7 +59,7 @@ module _ (l : Layout) (n : ℕ) where
       by_test true t = let k : at + (c - j) ≡ root + c = omega (arith, e, low) in ap (λ p. (p, Left)) k
       by_test false t =
           let k = ltb-false c (copies ds) t in
-          let d = there ds (c - copies ds) (omega (arith, k, high, some)) in
+          let d = get_some ds (c - copies ds) (omega (arith, k, high, some)) in
           ap (λ o. leads_to at (leaf_or l n at o)) d.1 ∙ leaf_goes at d.0 (h (c - copies ds) d.0 d.1) ∙ sym (ap or_to d.1)
 
   pub copy_goes : (root j : ℕ) (ds : List Dest) → j < copies ds → Reaches (root + j) ds

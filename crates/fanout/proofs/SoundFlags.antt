@@ -3,19 +3,19 @@ use Rattle.std.proofs.Common.{◌≡◌, ℕ, zero, suc, ◌+◌, ◌-◌, ◌<�
 use Rattle.std.specs.Prelude.{slice_get, Contains}
 use Rattle.std.proofs.lemmas.Bool.{cases_eq}
 use Rattle.std.proofs.lemmas.List.{get_or-set_other}
+use Rattle.lemmas.proofs.Contains.{contains_head, contains_tail}
+use Rattle.lemmas.proofs.SliceGet.{map_get_back}
 use Rattle.semantics.specs.declared.program.Dest.{Dest}
 use Rattle.semantics.specs.declared.program.Op.{Op}
 use Rattle.semantics.specs.declared.program.Op.TheVariants.{Link}
 use Rattle.semantics.specs.Program.{Instr, CodeBlock}
 use Rattle.semantics.specs.Plan.{Plan, landing}
-use Rattle.law_net.proofs.Members.{contains_head, contains_tail}
 use Rattle.code.specs.Sound.{IsTied, StandApart, NamesDest}
 use Rattle.fanout.specs.Sides.{parted, parting_of, firsts_of}
 use Rattle.fanout.specs.Rows.{tie, tie_landings, tie_instr, tie_all, is_tied}
 use Rattle.fanout.specs.Narrowed.{parts_of, layout_of}
 use Rattle.fanout.specs.Laws.{AreApart, Names}
 use Rattle.fanout.specs.Sound.{SoundStandsClear}
-use Rattle.fanout.proofs.Maps.{get_map}
 
 -- WHERE A FLAG COMES FROM
 none_tied : (n k : ℕ) → is_tied (replicate n false) k ≡ false
@@ -114,7 +114,7 @@ tied_back p c k h = by (all_back p (tie (replicate (length (parts_of c)) false) 
 
     by : (is_tied (tie (replicate (length (parts_of c)) false) 0 c.inputs) k ≡ true) ⊎ IsOfLink p 0 (parts_of c) k → IsTied p c k
     by (inl e) = of_entries (tie_back (replicate (length (parts_of c)) false) 0 c.inputs k e)
-    by (inr o) = let q = get_map parted c.instrs o.v o.i o.there in of_link o.v o.i q.0 q.1 q.2 o.linked
+    by (inr o) = let q = map_get_back parted c.instrs o.v o.i o.there in of_link o.v o.i q.0 q.1 q.2 o.linked
 
 -- WHAT IS FREE has no flag
 pub flag_free : (p : Plan) (c : CodeBlock) (k : ℕ) → (IsTied p c k → ⊥) → is_tied (layout_of p c).tied k ≡ false

@@ -1,10 +1,11 @@
 -- A sound plan stays sound when it is narrowed.
-use Rattle.std.proofs.Common.{◌≡◌, ℕ, suc, ◌+◌, ◌≤◌, List, ◌∷◌, ◌++◌, length, refl, ap, ◌∙◌, subst, arith, Some, []}
+use Rattle.std.proofs.Common.{◌≡◌, ℕ, ◌+◌, ◌≤◌, List, ◌++◌, length, ap, ◌∙◌, subst, arith, Some}
 use Rattle.std.specs.Prelude.{slice_get, All, Contains}
 use Rattle.std.specs.Option.{option_map}
 use Rattle.std.proofs.lemmas.List.{length-map}
 use Rattle.std.proofs.lemmas.Option.{slice_get_within, slice_get-map}
-use Rattle.std.proofs.lemmas.List.Elements.{All-cons, All-nil}
+use Rattle.lemmas.proofs.Alls.{all_at, all_from}
+use Rattle.lemmas.proofs.SliceGet.{map_get_back, get_some}
 use Rattle.semantics.specs.declared.program.Dest.{Dest}
 use Rattle.semantics.specs.declared.program.Op.{Op}
 use Rattle.semantics.specs.declared.program.Op.TheVariants.{Fetch, Store, Frame, Link, Send, Ask, Take, Release}
@@ -12,7 +13,6 @@ use Rattle.semantics.specs.Program.{Instr, CodeBlock}
 use Rattle.semantics.specs.Plan.{Plan, HasShape}
 use Rattle.semantics.specs.Bytes.{HasDests, IsDest}
 use Rattle.semantics.specs.Wired.{StandsAt}
-use Rattle.law_determinacy.proofs.Resolved.{all_get}
 use Rattle.code.specs.Sound as Sound
 use Rattle.code.specs.Sound.{NamesRightly, IsPlace, IsSoundInstr, IsSoundBlock, IsSoundDest, IsSound}
 use Rattle.fanout.specs.Places.{place_of}
@@ -23,19 +23,12 @@ use Rattle.fanout.specs.Laws.{LandsLeft, IsShaped, HasItsDests, StandsClear}
 use Rattle.fanout.specs.Sound.{StaysSound, SoundHasDests}
 use Rattle.fanout.proofs.Positions.{place_low}
 use Rattle.fanout.proofs.Spots.{place_is}
-use Rattle.fanout.proofs.Queues.{there}
-use Rattle.fanout.proofs.Maps.{get_map}
 use Rattle.fanout.proofs.Shapes.{block_all, narrowed_dests}
 use Rattle.fanout.proofs.Plans.{is, ts, l, all, at_place}
 use Rattle.fanout.proofs.Arrows.{in_parts, dests_stay}
 use Rattle.fanout.proofs.Wires.{past_entries, stays_wired}
 use Rattle.fanout.proofs.SoundFlags.{sound_stands_clear}
 use Rattle.fanout.proofs.SoundRows.{stand_apart}
-
--- what holds at each place holds of all
-all_of : {X : Type 0} (P : X → Type 0) (xs : List X) → ((n : ℕ) (x : X) → slice_get xs n ≡ Some x → P x) → All P xs
-all_of P [] h = All-nil P
-all_of P (x ∷ xs) h = All-cons P x xs (h 0 x refl) (all_of P xs (λ n y e. h (suc n) y e))
 
 -- DESTINATIONS, as many as each kind has
 lands_so : (op : Op) (ds : List Dest) → Sound.LandsLeft op ds → LandsLeft op ds
@@ -44,8 +37,8 @@ lands_so op ds h = tt
 
 pub sound_has_dests : SoundHasDests
 sound_has_dests p s = narrowed_dests p
-    (all_of (λ (c : CodeBlock). All IsShaped c.instrs) p.program.blocks (λ b c e.
-    all_of IsShaped c.instrs (λ n i f. let h = (s.program.blocks b c e).instrs n i f in (h.shape, lands_so i.op i.firsts h.lands))))
+    (all_from (λ (c : CodeBlock). All IsShaped c.instrs) p.program.blocks (λ b c e.
+    all_from IsShaped c.instrs (λ n i f. let h = (s.program.blocks b c e).instrs n i f in (h.shape, lands_so i.op i.firsts h.lands))))
 
 -- and so of the shape that a plan asks for
 has_shape : (op : Op) (ds es : List Dest) → HasDests op ds es → HasShape op (length ds) (length es)
@@ -84,21 +77,21 @@ module _ (p : Plan) (s : IsSound p) (b : ℕ) (c : CodeBlock) (at : slice_get p.
 
   told : All (Told p) (narrowed_block p c).instrs
   told = block_all (Told p) (Told p) (Told p) (λ l n i h. h) (λ l n at j ds. (tt, tt)) (λ i h. h) p c
-      (all_of (Told p) c.instrs (λ n i e. let h = old.instrs n i e in (named_still p i.op h.operand, h.origin)))
+      (all_from (Told p) c.instrs (λ n i e. let h = old.instrs n i e in (named_still p i.op h.operand, h.origin)))
 
   with_dests : All HasItsDests (narrowed_block p c).instrs
-  with_dests = all_get (λ (c : CodeBlock). All HasItsDests c.instrs) (narrowed p).program.blocks b (narrowed_block p c) (sound_has_dests p s) at_new
+  with_dests = all_at (λ (c : CodeBlock). All HasItsDests c.instrs) (narrowed p).program.blocks b (narrowed_block p c) (sound_has_dests p s) at_new
 
   sound_instr : (n : ℕ) (i : Instr) → StandsAt (narrowed_block p c) n i → IsSoundInstr (narrowed p).program i
   sound_instr n i e =
-      let h = all_get (Told p) (narrowed_block p c).instrs n i told e in
-      let k = all_get HasItsDests (narrowed_block p c).instrs n i with_dests e in
+      let h = all_at (Told p) (narrowed_block p c).instrs n i told e in
+      let k = all_at HasItsDests (narrowed_block p c).instrs n i with_dests e in
       record { operand = h.0; origin = h.1; shape = has_shape i.op i.firsts i.seconds k; lands = has_landing i.op i.firsts i.seconds k }
 
   still_there : c.inputs + 1 ≤ length (narrowed_block p c).instrs
   still_there =
       let size = old.size in
-      let x = there c.instrs c.inputs (omega (arith, size)) in
+      let x = get_some c.instrs c.inputs (omega (arith, size)) in
       let up = place_low (ts p c) 0 0 0 (is p c) c.inputs (place_of (l p c) c.inputs) (omega arith) (place_is (ts p c) (is p c) (all p c) c.inputs (parted x.0) (in_parts c c.inputs x.0 x.1)) in
       let w = slice_get_within (narrowed_block p c).instrs (place_of (l p c) c.inputs) (moved (l p c) c.inputs (parted x.0)) (at_place p c c.inputs x.0 x.1) in
       omega (arith, up, w)
@@ -119,10 +112,10 @@ stays_sound p s = record {
     few_arrays = s.program.few_arrays;
     arrays = s.program.arrays;
     cells = s.program.cells;
-    blocks = λ b c e. let o = get_map (narrowed_block p) p.program.blocks b c e in subst (IsSoundBlock (narrowed p).program) o.2 (sound_block p s b o.0 o.1);
+    blocks = λ b c e. let o = map_get_back (narrowed_block p) p.program.blocks b c e in subst (IsSoundBlock (narrowed p).program) o.2 (sound_block p s b o.0 o.1);
   };
   dests = λ b n c d h.
-      let o = get_map (narrowed_block p) p.program.blocks b c h.block in
+      let o = map_get_back (narrowed_block p) p.program.blocks b c h.block in
       subst (λ c. IsSoundDest (narrowed p) c n d) o.2 (sound_dest p s b o.0 o.1 n h.i d (ap (λ (c : CodeBlock). slice_get c.instrs n) o.2 ∙ h.there) h.named);
   wired = stays_wired p (sound_stands_clear p s) s.wired;
 }

@@ -5,6 +5,9 @@ use Rattle.std.specs.Option.{option_map}
 use Rattle.std.proofs.lemmas.Bool.{cases_lt, ltb-true}
 use Rattle.std.proofs.lemmas.Option.{slice_get_within, slice_get-map}
 use Rattle.std.proofs.lemmas.List.Elements.{Contains-append_left, Contains-append_right, Contains-append_cases}
+use Rattle.lemmas.proofs.Alls.{all_at}
+use Rattle.lemmas.proofs.Contains.{contains_cases, contains_head, contains_mapped, contains_none}
+use Rattle.lemmas.proofs.SliceGet.{map_get_back, get_some}
 use Rattle.tags.specs.declared.token.Port.TheVariants.{Left}
 use Rattle.semantics.specs.declared.program.Dest.{Dest}
 use Rattle.semantics.specs.declared.program.Op.{Op}
@@ -13,8 +16,6 @@ use Rattle.semantics.specs.declared.program.Op.TheVariants.{Link}
 use Rattle.semantics.specs.Program.{Instr, CodeBlock}
 use Rattle.semantics.specs.Plan.{Plan, HasShape, landing, landing_in}
 use Rattle.semantics.specs.Wired.{StandsAt}
-use Rattle.law_determinacy.proofs.Resolved.{all_get}
-use Rattle.law_net.proofs.Members.{contains_cases, contains_none, contains_head, contains_map}
 use Rattle.code.specs.Sound.{IsInLanding, IsTied, StandApart, IsSoundDest, IsSound}
 use Rattle.fanout.specs.Sides.{copies, parted, parting_of, firsts_of}
 use Rattle.fanout.specs.Rows.{is_tied}
@@ -23,10 +24,8 @@ use Rattle.fanout.specs.Trees.{dest_at, leaf, side, copies_of, moved}
 use Rattle.fanout.specs.Narrowed.{narrowed, narrowed_block}
 use Rattle.fanout.proofs.Positions.{place_low}
 use Rattle.fanout.proofs.Spots.{sized, place_is, copy_apart, before_copies, past_copies, in_order, IsMoved, IsCopied, comes_here}
-use Rattle.fanout.proofs.Queues.{there}
 use Rattle.fanout.proofs.Flags.{entries_tied, place_tied}
 use Rattle.fanout.proofs.Parted.{parted_all}
-use Rattle.fanout.proofs.Maps.{get_map}
 use Rattle.fanout.proofs.Plans.{is, ts, l, all, all_copies}
 use Rattle.fanout.proofs.Arrows.{in_parts}
 use Rattle.fanout.proofs.Standing.{landings_stay}
@@ -54,7 +53,7 @@ side_names l n at root ds d h = by (nat_lt 1 (length ds)) refl h
         pick : (dest_at at root Left ≡ d) ⊎ Contains [] d → ((1 < length ds) × (dest_at at root Left ≡ d)) ⊎ ((e : Dest) × Contains ds e × (leaf l n at e ≡ d))
         pick (inl e) = inl (ltb-true 1 (length ds) t, e)
         pick (inr k) = absurd (contains_none d k)
-    by false t h = inr (contains_map (leaf l n at) ds d h)
+    by false t h = inr (contains_mapped (leaf l n at) ds d h)
 
 -- what has copies has a destination
 some_dest : (ds : List Dest) → 0 < length ds → (d : Dest) × Contains ds d
@@ -121,7 +120,7 @@ module _ (p : Plan) (s : IsSound p) (b : ℕ) (c : CodeBlock) (at_b : slice_get 
       pick (inl k) = k
       pick (inr k) =
           let u = (s.program.blocks b c at_b).size in
-          let x = there c.instrs (base v + q) (omega (arith, u, k)) in
+          let x = get_some c.instrs (base v + q) (omega (arith, u, k)) in
           absurd (apart_copy (base v + q) v q x.0 i x.1 e h (entry_stays (base v + q) x.0 x.1 k))
 
   -- nor in a landing, also where the block ends before the landing does
@@ -136,7 +135,7 @@ module _ (p : Plan) (s : IsSound p) (b : ℕ) (c : CodeBlock) (at_b : slice_get 
         pick : (f : ℕ) → v ≤ f → f < v + (a_dest i (omega (arith, copy))).0.ahead → (IsTied p c f → ⊥) → (f < u + d.ahead) ⊎ (u + d.ahead ≤ f) → v + (a_dest i (omega (arith, copy))).0.ahead < length c.instrs → ⊥
         pick f above below free (inl k) within =
             let w = (dest_of u j d at_u (Contains-append_left j.firsts j.seconds d lands)).dest.inside in
-            let x = there c.instrs (u + d.ahead) w in
+            let x = get_some c.instrs (u + d.ahead) w in
             let far = past_copies (ts p c) (is p c) (all p c) v (u + d.ahead) f (parted i) (parted x.0) (here v i at_v) (here (u + d.ahead) x.0 x.1) above k (flag_free p c f free) in
             omega (arith, far, from, copy)
         pick f above below free (inr k) within = free (inr (u, record { link = j; there = at_u; block = t; links = links; dest = d; named = lands; from = k; to = omega (arith, below, within, short) }))
@@ -146,7 +145,7 @@ module _ (p : Plan) (s : IsSound p) (b : ℕ) (c : CodeBlock) (at_b : slice_get 
       where
         pick : (k : ℕ) → place (u + d.ahead) + k ≡ base v + q → k < landing p t → (u + d.ahead + k < length c.instrs) ⊎ (length c.instrs ≤ u + d.ahead + k) → ⊥
         pick k z few (inl w) =
-            let x = there c.instrs (u + d.ahead + k) w in
+            let x = get_some c.instrs (u + d.ahead + k) w in
             apart_copy (u + d.ahead + k) v q x.0 i x.1 at_v copy (landings_stay p u t k c j x.0 d at_u links lands few x.1 ∙ z)
         pick k z few (inr w) = beyond from (omega (arith, few, w))
 
@@ -183,7 +182,7 @@ module _ (p : Plan) (s : IsSound p) (b : ℕ) (c : CodeBlock) (at_b : slice_get 
           pick (inr (d, lands, z)) =
               let old = (dest_of v j d e (Contains-append_left j.firsts j.seconds d lands)).dest in
               let later = old.later in let inside = old.inside in
-              let x = there c.instrs (v + d.ahead) inside in
+              let x = get_some c.instrs (v + d.ahead) inside in
               let up = ordered v (v + d.ahead) j x.0 e x.1 (omega (arith, later)) in
               let ahead = ap (λ (d : Dest). d.ahead) z in
               let from = h.from in let to = h.to in
@@ -202,9 +201,9 @@ module _ (p : Plan) (s : IsSound p) (b : ℕ) (c : CodeBlock) (at_b : slice_get 
               }
 
       by : IsMoved (ts p c) (is p c) (all p c) m h.link ⊎ IsCopied (ts p c) (is p c) (all p c) m h.link → IsOldLanding k
-      by (inl o) = let q = get_map parted c.instrs o.v o.i o.there in of_old o.v q.0 q.1 o.at (ap (moved (l p c) o.v) q.2 ∙ o.what)
+      by (inl o) = let q = map_get_back parted c.instrs o.v o.i o.there in of_old o.v q.0 q.1 o.at (ap (moved (l p c) o.v) q.2 ∙ o.what)
       by (inr o) =
-          let copied : h.link.op ≡ Program.Copy = all_get (λ (i : Instr). i.op ≡ Program.Copy) (copies_of (l p c) o.v o.i) o.j h.link (all_copies (l p c) o.v o.i) o.what in
+          let copied : h.link.op ≡ Program.Copy = all_at (λ (i : Instr). i.op ≡ Program.Copy) (copies_of (l p c) o.v o.i) o.j h.link (all_copies (l p c) o.v o.i) o.what in
           absurd (no_link h.block (sym copied ∙ h.links))
 
   -- WHAT IS FREE: a copy,
@@ -231,13 +230,13 @@ module _ (p : Plan) (s : IsSound p) (b : ℕ) (c : CodeBlock) (at_b : slice_get 
         where
           pick : (k < o.u + o.d.ahead) ⊎ (o.u + o.d.ahead ≤ k) → (k + 1 < o.u + o.d.ahead + landing p o.t) ⊎ (o.u + o.d.ahead + landing p o.t ≤ k + 1) → ⊥
           pick (inl before) far =
-              let x = there c.instrs (o.u + o.d.ahead) o.inside in
+              let x = get_some c.instrs (o.u + o.d.ahead) o.inside in
               let up = ordered k (o.u + o.d.ahead) i x.0 e x.1 before in let from = o.from in omega (arith, up, from)
           pick (inr past) (inl within) = free (inr (o.u, record { link = o.j; there = o.there; block = o.t; links = o.links; dest = o.d; named = o.lands; from = past; to = within }))
           pick (inr past) (inr beyond) =
               let from = o.from in let to = o.to in
               let w = slice_get_within c.instrs k i e in
-              let x = there c.instrs (o.u + o.d.ahead + (landing p o.t - 1)) (omega (arith, past, beyond, w, from, to)) in
+              let x = get_some c.instrs (o.u + o.d.ahead + (landing p o.t - 1)) (omega (arith, past, beyond, w, from, to)) in
               let last = landings_stay p o.u o.t (landing p o.t - 1) c o.j x.0 o.d o.there o.links o.lands (omega (arith, from, to)) x.1 in
               let up = rises (o.u + o.d.ahead + (landing p o.t - 1)) k x.0 i x.1 e (omega (arith, beyond, from, to)) in
               omega (arith, last, up, to)
@@ -259,8 +258,8 @@ module _ (p : Plan) (s : IsSound p) (b : ℕ) (c : CodeBlock) (at_b : slice_get 
         by : (f : ℕ) → v ≤ f → f < v + e.ahead → (IsTied p c f → ⊥) → StandApart (narrowed p) new (place v) (place v + d.ahead)
         by f above below free =
             let inside = old.dest.inside in
-            let x = there c.instrs f (omega (arith, below, inside)) in
-            let y = there c.instrs (v + e.ahead) inside in
+            let x = get_some c.instrs f (omega (arith, below, inside)) in
+            let y = get_some c.instrs (v + e.ahead) inside in
             let a = rises v f i x.0 at_v x.1 above in
             let k = ordered f (v + e.ahead) x.0 y.0 x.1 y.1 below in
             let z = ap (λ (d : Dest). d.ahead) same in
@@ -292,11 +291,11 @@ module _ (p : Plan) (s : IsSound p) (b : ℕ) (c : CodeBlock) (at_b : slice_get 
     where
       by : IsMoved (ts p c) (is p c) (all p c) n y ⊎ IsCopied (ts p c) (is p c) (all p c) n y → StandApart (narrowed p) new n (n + d.ahead)
       by (inl o) =
-          let q = get_map parted c.instrs o.v o.i o.there in
+          let q = map_get_back parted c.instrs o.v o.i o.there in
           subst (λ n. StandApart (narrowed p) new n (n + d.ahead)) (sym o.at)
           (of_moved o.v q.0 q.1 d (subst (λ (y : Instr). Contains (y.firsts ++ y.seconds) d) (sym (ap (moved (l p c) o.v) q.2 ∙ o.what)) h))
       by (inr o) =
-          let q = get_map parted c.instrs o.v o.i o.there in
+          let q = map_get_back parted c.instrs o.v o.i o.there in
           let k = slice_get_within (copies_of (l p c) o.v o.i) o.j y o.what in
           let m = sized (l p c) o.v o.i in
           let w = ap size q.2 in

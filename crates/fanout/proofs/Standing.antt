@@ -1,21 +1,21 @@
 -- The landing of a link stays in a row.
 use Rattle.std.proofs.Common.{◌≡◌, ℕ, zero, suc, ◌+◌, ◌-◌, ◌<◌, Bool, true, false, List, ◌∷◌, length, replicate, sym, ap, ◌∙◌, subst, inl, inr, ◌⊎◌, arith, Some, if◌then◌else◌, []}
 use Rattle.std.specs.Prelude.{slice_get, Contains}
-use Rattle.std.proofs.lemmas.Option.{slice_get_within}
+use Rattle.std.proofs.lemmas.Option.{slice_get_within, same_Some}
+use Rattle.lemmas.proofs.Contains.{contains_cases, contains_none}
+use Rattle.lemmas.proofs.SliceGet.{get_some}
+use Rattle.lemmas.proofs.Lists.{length_of_falses}
 use Rattle.semantics.specs.declared.program.Dest.{Dest}
 use Rattle.semantics.specs.declared.program.Op.TheVariants.{Link}
 use Rattle.semantics.specs.Program.{Instr, CodeBlock}
 use Rattle.semantics.specs.Plan.{Plan, landing}
 use Rattle.semantics.specs.Wired.{StandsAt}
-use Rattle.law_net.proofs.Members.{contains_cases, contains_none}
 use Rattle.fanout.specs.Sides.{parted, firsts_of, parting_of}
 use Rattle.fanout.specs.Rows.{tie, tie_landings, tie_instr, tie_all, is_tied}
 use Rattle.fanout.specs.Places.{size, places_from, place_of}
 use Rattle.fanout.specs.Laws.{LandingsStay, InstrsStay}
-use Rattle.fanout.proofs.Positions.{same_number}
 use Rattle.fanout.proofs.Spots.{place_is}
-use Rattle.fanout.proofs.Queues.{there}
-use Rattle.fanout.proofs.Flags.{tie_length, tie_these, landings_keep, all_keeps, instr_length, none_length}
+use Rattle.fanout.proofs.Flags.{tie_length, tie_these, landings_keep, all_keeps, instr_length}
 use Rattle.fanout.proofs.Plans.{is, ts, l, all, at_place}
 use Rattle.fanout.proofs.Arrows.{in_parts}
 
@@ -26,8 +26,8 @@ place_next ts n before copied (i ∷ []) zero m m' e f t = absurd (cc)
 place_next ts n before copied (i ∷ j ∷ is) zero m m' e f t =
     let z : n + 0 ≡ n = omega arith in
     let here : is_tied ts n ≡ true = sym (ap (is_tied ts) z) ∙ t in
-    let a = same_number (n + before) m e in
-    let b = same_number (n + 1 + before) m' (sym (ap (λ (t : Bool). Some (n + 1 + (if t then before else copied + size i))) here) ∙ f) in
+    let a = same_Some (n + before) m e in
+    let b = same_Some (n + 1 + before) m' (sym (ap (λ (t : Bool). Some (n + 1 + (if t then before else copied + size i))) here) ∙ f) in
     omega (arith, a, b)
 place_next ts n before copied (i ∷ is) (suc v) m m' e f t =
     let z : n + 1 + v ≡ n + suc v = omega arith in
@@ -69,7 +69,7 @@ module _ (p : Plan) (c : CodeBlock) (n t : ℕ) (i : Instr) (d : Dest) (there_i 
   tied_here : (k : ℕ) → k + 1 < landing p t → n + d.ahead + k < length (is p c) → is_tied (ts p c) (n + d.ahead + k) ≡ true
   tied_here k low within =
       let size = tie_length (replicate (length (is p c)) false) 0 c.inputs in
-      let len = none_length (length (is p c)) in
+      let len = length_of_falses (length (is p c)) in
       all_tie p (tie (replicate (length (is p c)) false) 0 c.inputs) 0 (is p c) n n t (parted i) d k (in_parts c n i there_i) (omega arith) link
       (subst (λ ds. Contains ds d) (sym (ap (λ op. firsts_of (parting_of op) i.firsts i.seconds) link)) lands) low (omega (arith, within, size, len))
 
@@ -77,7 +77,7 @@ module _ (p : Plan) (c : CodeBlock) (n t : ℕ) (i : Instr) (d : Dest) (there_i 
   stays zero j low at = let z : n + d.ahead + 0 ≡ n + d.ahead = omega arith in let e = ap (place_of (l p c)) z in omega (arith, e)
   stays (suc k) j low at =
       let within = slice_get_within c.instrs (n + d.ahead + suc k) j at in
-      let o = there c.instrs (n + d.ahead + k) (omega (arith, within)) in
+      let o = get_some c.instrs (n + d.ahead + k) (omega (arith, within)) in
       let ih = stays k o.0 (omega (arith, low)) o.1 in
       let s : n + d.ahead + suc k ≡ suc (n + d.ahead + k) = omega arith in
       let z : 0 + (n + d.ahead + k) ≡ n + d.ahead + k = omega arith in

@@ -1,21 +1,23 @@
 -- A narrowed plan is wired: no arc leads to an entry, and a right port is one of an instruction with two operands.
-use Rattle.std.proofs.Common.{◌≡◌, ℕ, zero, suc, ◌+◌, ◌<◌, ◌≤◌, Bool, true, false, List, ◌∷◌, ◌++◌, refl, sym, ap, ◌∙◌, inl, inr, ◌⊎◌, arith, true≢false, Option, Some, None, if◌then◌else◌, []}
-use Rattle.std.specs.Prelude.{slice_get, Contains, flat_map}
+use Rattle.std.proofs.Common.{◌≡◌, ℕ, suc, ◌+◌, ◌<◌, ◌≤◌, Bool, true, false, List, ◌∷◌, ◌++◌, refl, sym, ap, ◌∙◌, inl, inr, ◌⊎◌, arith, true≢false, Option, Some, None, if◌then◌else◌, []}
+use Rattle.std.specs.Prelude.{slice_get, Contains}
 use Rattle.std.proofs.lemmas.Bool.{cases_lt}
 use Rattle.std.proofs.lemmas.Option.{slice_get_within}
-use Rattle.std.proofs.lemmas.List.Elements.{Contains-append_left, Contains-append_right, Contains-append_cases}
+use Rattle.std.proofs.lemmas.List.Elements.{Contains-append_cases}
+use Rattle.lemmas.proofs.Contains.{contains_none}
+use Rattle.lemmas.proofs.SliceGet.{map_get_back, get_some}
 use Rattle.tags.specs.declared.token.Port.TheVariants.{Left, Right}
 use Rattle.semantics.specs.declared.program.Dest.{Dest}
 use Rattle.semantics.specs.declared.program.Op.{Op}
-use Rattle.semantics.specs.declared.program.Op.TheVariants.{Apply2, Sync, Switch, Store, Send, Return, Ask, Release, Link}
+use Rattle.semantics.specs.declared.program.Op.TheVariants.{Apply2, Sync, Switch, Store, Send, Return, Ask, Release}
 use Rattle.semantics.specs.Program.{Instr, CodeBlock}
 use Rattle.semantics.specs.Rule.{slot_of}
 use Rattle.semantics.specs.Plan.{Plan, landing, is_credit}
-use Rattle.semantics.specs.Sharing.{Arc, Inlet, inlet, arc, arcs_to, row, arcs_from, arcs_of}
+use Rattle.semantics.specs.Sharing.{Arc, Inlet, inlet, arc, arcs_from, arcs_of}
 use Rattle.semantics.specs.Wired.{StandsAt}
 use Rattle.semantics.specs.Wired as Wired
 use Rattle.semantics.specs.Bytes as Bytes
-use Rattle.law_net.proofs.Members.{contains_cases, contains_none, contains_head, contains_tail, contains_map}
+use Rattle.semantics.proofs.ArcEnds.{Leads, arcs_from_lead}
 use Rattle.fanout.specs.Sides.{parted}
 use Rattle.fanout.specs.Rows.{is_tied}
 use Rattle.fanout.specs.Places.{size, place_of, base_of}
@@ -24,9 +26,7 @@ use Rattle.fanout.specs.Narrowed.{narrowed, narrowed_block}
 use Rattle.fanout.specs.Laws.{Names, StandsClear, StaysWired}
 use Rattle.fanout.proofs.Positions.{place_low}
 use Rattle.fanout.proofs.Spots.{place_is, copy_apart}
-use Rattle.fanout.proofs.Queues.{there}
 use Rattle.fanout.proofs.Flags.{entries_tied, place_tied}
-use Rattle.fanout.proofs.Maps.{get_map}
 use Rattle.fanout.proofs.Plans.{is, ts, l, all, stays_plan, marks_stay, loops_stay}
 use Rattle.fanout.proofs.Arrows.{Known, past, names_all, in_parts, dests_stay}
 
@@ -39,47 +39,6 @@ pub record FromDest (c : CodeBlock) (x : Arc) : Type 0 where
   pub named : Contains (i.firsts ++ i.seconds) d
   pub to : (x.to ≡ inlet (n + d.ahead) d.port) ⊎ ((x.to.port ≡ Left) × (n + d.ahead ≤ x.to.place))
 
--- the same of one instruction
-abbrev Leads : ℕ → List Dest → Arc → Type 0
-Leads n ds x = (d : Dest) × Contains ds d × ((x.to ≡ inlet (n + d.ahead) d.port) ⊎ ((x.to.port ≡ Left) × (n + d.ahead ≤ x.to.place)))
-
-in_dests : (n : ℕ) (s : Bool) (ds : List Dest) (x : Arc) → Contains (arcs_to n s ds) x → Leads n ds x
-in_dests n s ds x h =
-    let make : Dest → Arc = λ (d : Dest). arc n s (inlet (n + d.ahead) d.port) in
-    let m = contains_map make ds x h in (m.0, m.1, inl (sym (ap (λ (x : Arc). x.to) m.2)))
-
-in_row : (n from k : ℕ) (x : Arc) → Contains (row n from k) x → (x.to.port ≡ Left) × (from ≤ x.to.place)
-in_row n from zero x h = absurd (contains_none x h)
-in_row n from (suc k) x h = pick (contains_cases (arc n false (inlet from Left)) (row n (from + 1) k) x h) (in_row n (from + 1) k x)
-  where
-    pick : (arc n false (inlet from Left) ≡ x) ⊎ Contains (row n (from + 1) k) x → (Contains (row n (from + 1) k) x → (x.to.port ≡ Left) × (from + 1 ≤ x.to.place)) → (x.to.port ≡ Left) × (from ≤ x.to.place)
-    pick (inl e) more = let p = ap (λ (x : Arc). x.to.place) e in (sym (ap (λ (x : Arc). x.to.port) e), omega (arith, p))
-    pick (inr m) more = let r = more m in let s = r.1 in (r.0, omega (arith, s))
-
-in_rows : (n size : ℕ) (ds : List Dest) (x : Arc) → Contains (flat_map (λ (d : Dest). row n (n + d.ahead) size) ds) x → Leads n ds x
-in_rows n size [] x h = absurd (contains_none x h)
-in_rows n size (d ∷ ds) x h = pick (Contains-append_cases (row n (n + d.ahead) size) (flat_map (λ (d : Dest). row n (n + d.ahead) size) ds) x h) (in_rows n size ds x)
-  where
-    pick : Contains (row n (n + d.ahead) size) x ⊎ Contains (flat_map (λ (d : Dest). row n (n + d.ahead) size) ds) x → (Contains (flat_map (λ (d : Dest). row n (n + d.ahead) size) ds) x → Leads n ds x) → Leads n (d ∷ ds) x
-    pick (inl m) more = (d, contains_head d ds, inr (in_row n (n + d.ahead) size x m))
-    pick (inr m) more = let r = more m in (r.0, contains_tail d ds r.0 r.1, r.2)
-
-either : (n : ℕ) (ds es : List Dest) (x : Arc) → Leads n ds x ⊎ Leads n es x → Leads n (ds ++ es) x
-either n ds es x (inl (d, h, t)) = (d, Contains-append_left ds es d h, t)
-either n ds es x (inr (d, h, t)) = (d, Contains-append_right ds es d h, t)
-
-in_instr : (q : Plan) (n : ℕ) (i : Instr) (op : Op) (x : Arc) → Contains (arcs_from q n i op) x → Leads n (i.firsts ++ i.seconds) x
-in_instr q n i (Link b) x h = pick (Contains-append_cases (flat_map (λ (d : Dest). row n (n + d.ahead) (landing q b)) i.firsts) (arcs_to n true i.seconds) x h)
-  where
-    pick : Contains (flat_map (λ (d : Dest). row n (n + d.ahead) (landing q b)) i.firsts) x ⊎ Contains (arcs_to n true i.seconds) x → Leads n (i.firsts ++ i.seconds) x
-    pick (inl m) = either n i.firsts i.seconds x (inl (in_rows n (landing q b) i.firsts x m))
-    pick (inr m) = either n i.firsts i.seconds x (inr (in_dests n true i.seconds x m))
-in_instr q n i op x h = pick (Contains-append_cases (arcs_to n false i.firsts) (arcs_to n true i.seconds) x h)
-  where
-    pick : Contains (arcs_to n false i.firsts) x ⊎ Contains (arcs_to n true i.seconds) x → Leads n (i.firsts ++ i.seconds) x
-    pick (inl m) = either n i.firsts i.seconds x (inl (in_dests n false i.firsts x m))
-    pick (inr m) = either n i.firsts i.seconds x (inr (in_dests n true i.seconds x m))
-
 in_instrs : (q : Plan) (from : ℕ) (is : List Instr) (x : Arc) → Contains (arcs_of q from is) x → (k n : ℕ) × (i : Instr) × (n ≡ from + k) × (slice_get is k ≡ Some i) × Leads n (i.firsts ++ i.seconds) x
 in_instrs q from [] x h = absurd (contains_none x h)
 in_instrs q from (i ∷ is) x h = pick (Contains-append_cases (arcs_from q from i i.op) (arcs_of q (from + 1) is) x h) (in_instrs q (from + 1) is x)
@@ -87,7 +46,7 @@ in_instrs q from (i ∷ is) x h = pick (Contains-append_cases (arcs_from q from 
     pick : Contains (arcs_from q from i i.op) x ⊎ Contains (arcs_of q (from + 1) is) x
         → (Contains (arcs_of q (from + 1) is) x → (k n : ℕ) × (j : Instr) × (n ≡ from + 1 + k) × (slice_get is k ≡ Some j) × Leads n (j.firsts ++ j.seconds) x)
         → (k n : ℕ) × (j : Instr) × (n ≡ from + k) × (slice_get (i ∷ is) k ≡ Some j) × Leads n (j.firsts ++ j.seconds) x
-    pick (inl m) more = (0, from, i, omega arith, refl, in_instr q from i i.op x m)
+    pick (inl m) more = (0, from, i, omega arith, refl, arcs_from_lead q from i i.op x m)
     pick (inr m) more = let r = more m in let e = r.3 in (suc r.0, r.1, r.2, omega (arith, e), r.4, r.5)
 
 from_dest : (q : Plan) (c : CodeBlock) (x : Arc) → Contains (arcs_of q 0 c.instrs) x → FromDest c x
@@ -136,7 +95,7 @@ module _ (p : Plan) (clear : StandsClear p) (b : ℕ) (c : CodeBlock) (at_b : sl
           let n : Names p b v c d = record { i = i; block = at_b; there = e; named = h } in
           let far = past p c v i here (λ d k. clear.rows b v c d (record { i = i; block = at_b; there = e; named = k })) (λ d k. clear.dests b v c d (record { i = i; block = at_b; there = e; named = k })) d h in
           let t = v + d.ahead in
-          let to = there c.instrs t (clear.dests b v c d n).inside in
+          let to = get_some c.instrs t (clear.dests b v c d n).inside in
           let up = place_low (ts p c) 0 0 0 (is p c) t (place_of (l p c) t) (omega arith) (place_is (ts p c) (is p c) (all p c) t (parted to.0) (in_parts c t to.0 to.1)) in
           let f = clear.entries b v c d n in
           omega (arith, far, low, up, f)
@@ -147,7 +106,7 @@ module _ (p : Plan) (clear : StandsClear p) (b : ℕ) (c : CodeBlock) (at_b : sl
           pick : (c.inputs < at + ahead) ⊎ (at + ahead ≤ c.inputs) → c.inputs < at + ahead
           pick (inl h) = h
           pick (inr h) =
-              let k = there c.instrs (at + ahead) (let u = clear.there b c at_b in omega (arith, u, h)) in
+              let k = get_some c.instrs (at + ahead) (let u = clear.there b c at_b in omega (arith, u, h)) in
               let g = in_parts c (at + ahead) k.0 k.1 in
               absurd (copy_apart (ts p c) (is p c) (all p c) (at + ahead) v q (parted k.0) (parted i) g here low (entry_stays (at + ahead) (parted k.0) g h ∙ f))
 
@@ -157,7 +116,7 @@ module _ (p : Plan) (clear : StandsClear p) (b : ℕ) (c : CodeBlock) (at_b : sl
 pub stays_wired : StaysWired
 stays_wired p clear w = record {
   plan = stays_plan p w.plan;
-  entries = λ b c x e h. let f = from_dest (narrowed p) c x h in let o = get_map (narrowed_block p) p.program.blocks b c e in no_entry b c x f o.0 o.1 o.2 f.to;
+  entries = λ b c x e h. let f = from_dest (narrowed p) c x h in let o = map_get_back (narrowed_block p) p.program.blocks b c e in no_entry b c x f o.0 o.1 o.2 f.to;
   rights = λ b c x e h r. let f = from_dest (narrowed p) c x h in right b c x e f r f.to;
   switches = marks_stay p w.switches;
   loops = loops_stay p w.loops;

@@ -1,9 +1,10 @@
 -- The holders of a folded block.
-use Rattle.std.proofs.Common.{◌≡◌, ℕ, zero, suc, ◌+◌, ◌<◌, ◌≤◌, Bool, true, false, ◌&&◌, List, ◌∷◌, length, replicate, refl, sym, ap, ◌∙◌, inl, inr, ◌⊎◌, arith, Some, if◌then◌else◌, true≢false, length-set, []}
+use Rattle.std.proofs.Common.{◌≡◌, ℕ, suc, ◌+◌, ◌<◌, ◌≤◌, Bool, true, false, ◌&&◌, List, ◌∷◌, length, replicate, refl, sym, ap, ◌∙◌, inl, inr, ◌⊎◌, arith, Some, if◌then◌else◌, true≢false, length-set, []}
 use Rattle.std.specs.Prelude.{slice_get, slice_set, slice_index_or}
 use Rattle.std.proofs.lemmas.Bool.{cases_eq, cases_lt}
 use Rattle.std.proofs.lemmas.Option.{get_or_from_slice_get}
 use Rattle.std.proofs.lemmas.List.{get_or-set_other, length-replicate}
+use Rattle.lemmas.proofs.Lists.{each_of_falses}
 use Rattle.operators.specs.declared.Binary.{Binary}
 use Rattle.semantics.specs.declared.program.Op.{Op}
 use Rattle.semantics.specs.declared.program.Op.TheVariants.{Apply2, Apply2Right, Apply2Left, Sync, Switch, Store, Send, Return, Ask, Open, Take, Give, Drain, Release}
@@ -47,11 +48,6 @@ freed_length fs hs n (i ∷ is) = freed_length fs (if is_folded (fold_at fs n) t
     same : (t : Bool) → length (if t then slice_set hs i.slot true else hs) ≡ length hs
     same true = length-set hs i.slot true
     same false = refl
-
-none_freed : (n k : ℕ) → slice_index_or (replicate n false) k false ≡ false
-none_freed zero k = refl
-none_freed (suc n) zero = refl
-none_freed (suc n) (suc k) = none_freed n k
 
 -- A slot is the one that the instruction has.
 pub slot_any : (i j : Instr) (op : Op) (h : ℕ) → slot_of j op ≡ Some h → (h ≡ j.slot) × (slot_of i op ≡ Some i.slot)
@@ -119,7 +115,7 @@ module _ (p : Plan) (c : CodeBlock) (one : OneHolder c) (below : IsBelow c) wher
           by_one k j o is folded (one k n i.slot j i there at holds held)
 
       found : Freed (folds_of p c) (replicate c.slots false) 0 c.instrs i.slot → ⊥
-      found (inl e) = absurd (true≢false (sym e ∙ none_freed c.slots i.slot))
+      found (inl e) = absurd (true≢false (sym e ∙ each_of_falses c.slots i.slot))
       found (inr (k, j, there, folded, s)) =
           let z : 0 + k ≡ k = omega arith in
           let f : is_folded (folds_at (layout_of p c) k) ≡ true = sym (ap (λ m. is_folded (fold_at (folds_of p c) m)) z) ∙ folded in

@@ -1,6 +1,7 @@
 -- The landing of a link stays a row.
 use Rattle.std.proofs.Common.{◌≡◌, ℕ, zero, suc, ◌+◌, ◌<◌, Bool, true, false, List, ◌∷◌, length, refl, sym, ap, ◌∙◌, subst, inl, inr, arith, Some, true≢false, []}
 use Rattle.std.specs.Prelude.{slice_get, slice_index_or}
+use Rattle.lemmas.proofs.SliceGet.{get_some}
 use Rattle.tags.specs.declared.token.Port.TheVariants.{Left}
 use Rattle.semantics.specs.declared.program.Dest.{Dest}
 use Rattle.semantics.specs.declared.program.Op.TheVariants.{Link}
@@ -13,7 +14,7 @@ use Rattle.folding.specs.Places.{layout_of, gone_at}
 use Rattle.folding.specs.Laws.{KeepsLandings}
 use Rattle.folding.proofs.Standing.{before, all, place_is}
 use Rattle.folding.proofs.Naming.{Grows, Sized, late, mid, landings_grow, all_grow, row_length, dests_sized, instr_sized, entries_sized}
-use Rattle.folding.proofs.Taken.{row_many, leaves_out, get_there}
+use Rattle.folding.proofs.Taken.{row_many, leaves_out}
 
 still_many : (x y : Namer) → Grows x y → x ≡ Many → y ≡ Many
 still_many x y (inl e) m = e ∙ m
@@ -71,7 +72,7 @@ before_row (false ∷ gs) (suc m) (suc k) h l =
 
 landing_stays : (p : Plan) (c : CodeBlock) (n v k b : ℕ) (i : Instr) (d : Dest) → slice_get c.instrs n ≡ Some i → i.op ≡ Link b → slice_get i.firsts v ≡ Some d → k < landing p b → n + d.ahead + k < length c.instrs
     → gone_at (layout_of p c) (n + d.ahead + k) ≡ false
-landing_stays p c n v k b i d there op at h l = pick (gone_at (layout_of p c) (n + d.ahead + k)) refl (get_there c.instrs (n + d.ahead + k) l)
+landing_stays p c n v k b i d there op at h l = pick (gone_at (layout_of p c) (n + d.ahead + k)) refl (get_some c.instrs (n + d.ahead + k) l)
   where
     many : namer_of (namers_of p c) (n + d.ahead + k) Left ≡ Many
     many =

@@ -1,6 +1,7 @@
 -- The marks of a folded plan are those of its switches.
-use Rattle.std.proofs.Common.{◌≡◌, ℕ, zero, suc, ◌+◌, false, List, ◌∷◌, map, refl, sym, ap, ◌∙◌, arith, Option, Some, None, unwrap_or, []}
+use Rattle.std.proofs.Common.{◌≡◌, ℕ, zero, suc, ◌+◌, false, List, ◌∷◌, refl, sym, ap, ◌∙◌, arith, Option, Some, None, unwrap_or, []}
 use Rattle.std.specs.Prelude.{◌≢◌, slice_get}
+use Rattle.lemmas.proofs.SliceGet.{map_got}
 use Rattle.semantics.specs.declared.program.Mark.{Mark}
 use Rattle.semantics.specs.declared.program.Mark.TheVariants.{Unmarked}
 use Rattle.semantics.specs.declared.program.Op.{Op}
@@ -47,17 +48,12 @@ switch_before (OnRight z) (Apply2 op) e = absurd (cc)
 switch_before (OnLeft z) (Apply2 op) e = absurd (cc)
 switch_before f op e = e
 
-block_from : {X Y : Type 0} (f : X → Y) (xs : List X) (k : ℕ) (y : Y) → slice_get (map f xs) k ≡ Some y → (x : X) × (slice_get xs k ≡ Some x) × (y ≡ f x)
-block_from f [] k y e = absurd (cc)
-block_from f (x ∷ xs) zero y e = let s : y ≡ f x = cc in (x, refl, s)
-block_from f (x ∷ xs) (suc k) y e = block_from f xs k y e
-
 -- an instruction of the folded plan is one of the plan, with its mark
 abbrev Origin : Plan → ℕ → ℕ → Instr → Type 0
 Origin p b m j = (n : ℕ) × (c : CodeBlock) × (i : Instr) × (f : Fold) × (slice_get p.program.blocks b ≡ Some c) × (slice_get c.instrs n ≡ Some i) × (j.op ≡ new_op f i.op) × (mark_at (folded p) b m ≡ mark_at p b n)
 
 origin : (p : Plan) (b m : ℕ) (d : CodeBlock) (j : Instr) → slice_get (folded p).program.blocks b ≡ Some d → slice_get d.instrs m ≡ Some j → Origin p b m j
-origin p b m d j block at = in_block (block_from (folded_block p) p.program.blocks b d block)
+origin p b m d j block at = in_block (map_got (folded_block p) p.program.blocks b d block)
   where
     in_block : (c : CodeBlock) × (slice_get p.program.blocks b ≡ Some c) × (d ≡ folded_block p c) → Origin p b m j
     in_block (c, there, same) = found (has_no_others p c m j (sym (ap (λ (x : CodeBlock). slice_get x.instrs m) same) ∙ at))

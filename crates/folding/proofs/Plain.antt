@@ -4,6 +4,7 @@ use Rattle.std.proofs.Common.{◌≡◌, refl, sym, ap, ◌∙◌, subst, ℕ, �
 use Rattle.std.specs.Prelude.{slice_get, if◌then◌else◌}
 use Rattle.std.proofs.lemmas.Option.{slice_get_within}
 use Rattle.std.proofs.lemmas.List.Concat.{flat_map-append}
+use Rattle.lemmas.proofs.SliceGet.{get_some}
 use Rattle.tags.specs.declared.token.Port.{Port}
 use Rattle.tags.specs.declared.token.Port.TheVariants.{Left, Right}
 use Rattle.operators.specs.declared.Binary.{Binary}
@@ -21,7 +22,7 @@ use Rattle.folding.specs.Places.{layout_of, folds_at, gone_at}
 use Rattle.folding.specs.Laws.{dests_of, NamedBy, other_port, TakesLiteral, SparesLiterals}
 use Rattle.folding.proofs.Naming.{knows_namers, entries_sized}
 use Rattle.folding.proofs.Named.{namers_name}
-use Rattle.folding.proofs.Taken.{folds_on_right, folds_on_left, closed_takes, entry_many, get_there, gone_is}
+use Rattle.folding.proofs.Taken.{folds_on_right, folds_on_left, closed_takes, entry_many, gone_is}
 use Rattle.folding.proofs.Landing.{all_many}
 use Rattle.folding.proofs.Sole.{this_one, number_of}
 use Rattle.folding.proofs.Pairs.{closed_one, closed_in, closed_uses, uses_in}
@@ -102,7 +103,7 @@ module _ (p : Plan) (c : CodeBlock) where
 
   -- an entry is such an instruction,
   pub entry_plain : (n : ℕ) → n ≤ c.inputs → n < length c.instrs → PlainAt n
-  entry_plain n h there = let j = get_there c.instrs n there in many_plain n j.0 j.1 (entry_many p c n h there)
+  entry_plain n h there = let j = get_some c.instrs n there in many_plain n j.0 j.1 (entry_many p c n h there)
 
   -- one of a landing,
   pub landing_plain : (n k b : ℕ) (i : Instr) (d : Dest) → slice_get c.instrs n ≡ Some i → i.op ≡ Link b → slice_get i.firsts 0 ≡ Some d → k < landing p b → n + d.ahead + k < length c.instrs → PlainAt (n + d.ahead + k)
@@ -111,7 +112,7 @@ module _ (p : Plan) (c : CodeBlock) where
       let many : namer_of (namers_of p c) (n + d.ahead + k) Left ≡ Many =
       subst (λ m. namer_at (namers_of p c).lefts (m + d.ahead + k) ≡ Many) z
       (all_many p (entries_noted c.inputs (length c.instrs)) 0 c.instrs n i b 0 k (length c.instrs) d (entries_sized c.inputs (length c.instrs)) at op there h (omega (arith, l, z))) in
-      let j = get_there c.instrs (n + d.ahead + k) l in many_plain (n + d.ahead + k) j.0 j.1 many
+      let j = get_some c.instrs (n + d.ahead + k) l in many_plain (n + d.ahead + k) j.0 j.1 many
 
   -- ---- ONE DESTINATION
   -- what names the operator and the literal by one list has two destinations
@@ -182,7 +183,7 @@ module _ (p : Plan) (c : CodeBlock) where
 
     -- and what an instruction names that has one destination
     pub sole_plain : n + d.ahead < length c.instrs → PlainAt (n + d.ahead)
-    sole_plain low = let j = get_there c.instrs (n + d.ahead) low in pick (plain_or (n + d.ahead) j.0 j.1)
+    sole_plain low = let j = get_some c.instrs (n + d.ahead) low in pick (plain_or (n + d.ahead) j.0 j.1)
       where
         pick : PlainAt (n + d.ahead) ⊎ Paired (n + d.ahead) → PlainAt (n + d.ahead)
         pick (inl P) = P

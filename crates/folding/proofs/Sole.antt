@@ -4,6 +4,7 @@ use Rattle.std.specs.Prelude.{slice_get}
 use Rattle.std.proofs.lemmas.Option.{slice_get_within}
 use Rattle.std.proofs.lemmas.Bool.{cases_lt}
 use Rattle.std.proofs.lemmas.List.{get_or_past}
+use Rattle.lemmas.proofs.SliceGet.{get_some}
 use Rattle.tags.specs.declared.token.Port.{Port}
 use Rattle.tags.specs.declared.token.Port.TheVariants.{Left, Right}
 use Rattle.operators.specs.declared.Binary.{Binary}
@@ -22,7 +23,7 @@ use Rattle.folding.specs.Laws.{dests_of, NamedBy, other_port, TakesLiteral, IsLe
 use Rattle.folding.proofs.Standing.{all}
 use Rattle.folding.proofs.Naming.{knows_namers}
 use Rattle.folding.proofs.Named.{namers_name}
-use Rattle.folding.proofs.Taken.{closed_takes, leaves_out, get_there}
+use Rattle.folding.proofs.Taken.{closed_takes, leaves_out}
 
 pub this_one : (a b : ℕ) (s t : Bool) (x : Namer) → NamedBy a s x → x ≡ One b t → One a s ≡ One b t
 this_one a b s t x (inl e) f = sym e ∙ f
@@ -100,7 +101,7 @@ module _ (p : Plan) (c : CodeBlock) (spares : SparesLiterals c) (n : ℕ) (i : I
       pick : (t : Bool) → gone_at (layout_of p c) to ≡ t → (u : Bool) → is_closed (folds_at (layout_of p c) to) d.port ≡ u → (to < length c.instrs) ⊎ (length c.instrs ≤ to) → is_shut (layout_of p c) to d.port ≡ false
       pick false g false e h = (λ k. g k || e k)
       pick t g true e h = absurd (not_closed (closed_takes p c to d.port e))
-      pick true g false e (inl h) = absurd (found g (get_there c.instrs to h))
+      pick true g false e (inl h) = absurd (found g (get_some c.instrs to h))
       pick true g false e (inr h) = let len = all p c in absurd (true≢false (sym g ∙ get_or_past (layout_of p c).gone to false (omega (arith, h, len))))
 
 pub keeps_sole : KeepsSole

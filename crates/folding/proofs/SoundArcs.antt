@@ -1,66 +1,24 @@
 -- Where the destinations of a plan are sound, its arcs are wired.
-use Rattle.std.proofs.Common.{◌≡◌, ℕ, zero, suc, ◌+◌, ◌<◌, ◌≤◌, Bool, true, false, List, ◌∷◌, ◌++◌, refl, sym, ap, ◌∙◌, inl, inr, ◌⊎◌, arith, Some, []}
-use Rattle.std.specs.Prelude.{slice_get, Contains, flat_map}
-use Rattle.std.proofs.lemmas.List.Elements.{Contains-append_left, Contains-append_right, Contains-append_cases}
+use Rattle.std.proofs.Common.{◌≡◌, ℕ, suc, ◌+◌, ◌<◌, ◌≤◌, true, List, ◌∷◌, ◌++◌, refl, sym, ap, ◌∙◌, inl, inr, ◌⊎◌, arith, Some, []}
+use Rattle.std.specs.Prelude.{slice_get, Contains}
+use Rattle.std.proofs.lemmas.List.Elements.{Contains-append_cases}
+use Rattle.lemmas.proofs.Contains.{contains_none}
+use Rattle.lemmas.proofs.SliceGet.{get_some}
 use Rattle.tags.specs.declared.token.Port.TheVariants.{Left, Right}
 use Rattle.semantics.specs.declared.program.Dest.{Dest}
-use Rattle.semantics.specs.declared.program.Op.{Op}
-use Rattle.semantics.specs.declared.program.Op.TheVariants.{Link}
 use Rattle.semantics.specs.Program.{Instr, CodeBlock}
 use Rattle.semantics.specs.Plan.{Plan, landing}
-use Rattle.semantics.specs.Sharing.{Arc, Inlet, inlet, arc, arcs_to, row, arcs_from, arcs_of}
+use Rattle.semantics.specs.Sharing.{Arc, Inlet, inlet, arc, arcs_from, arcs_of}
 use Rattle.semantics.specs.Wired.{StandsAt}
 use Rattle.semantics.specs.Wired as Wired
 use Rattle.semantics.specs.Bytes as Bytes
+use Rattle.semantics.proofs.ArcEnds.{Leads, arcs_from_lead}
 use Rattle.code.specs.Sound.{IsSoundDest, DestsAreSound}
-use Rattle.folding.proofs.Taken.{get_there}
-use Rattle.folding.proofs.SoundLists.{contains_head, contains_tail, contains_cases, contains_none, contains_map}
 use Rattle.folding.proofs.SoundDests.{dyadic_is}
 
 -- WHAT AN ARC COMES FROM: a destination; it leads there, or further on in a landing
 abbrev LeadsBy : ℕ → Dest → Arc → Type 0
 LeadsBy n d x = (x.to ≡ inlet (n + d.ahead) d.port) ⊎ ((x.to.port ≡ Left) × (n + d.ahead ≤ x.to.place))
-
-abbrev Leads : ℕ → List Dest → Arc → Type 0
-Leads n ds x = (d : Dest) × Contains ds d × LeadsBy n d x
-
-in_dests : (n : ℕ) (s : Bool) (ds : List Dest) (x : Arc) → Contains (arcs_to n s ds) x → Leads n ds x
-in_dests n s ds x h =
-    let make : Dest → Arc = λ (d : Dest). arc n s (inlet (n + d.ahead) d.port) in
-    let m = contains_map make ds x h in
-    (m.0, m.1, inl (sym (ap (λ (x : Arc). x.to) m.2)))
-
-in_row : (n from k : ℕ) (x : Arc) → Contains (row n from k) x → (x.to.port ≡ Left) × (from ≤ x.to.place)
-in_row n from zero x h = absurd (contains_none x h)
-in_row n from (suc k) x h = pick (contains_cases (arc n false (inlet from Left)) (row n (from + 1) k) x h) (in_row n (from + 1) k x)
-  where
-    pick : (arc n false (inlet from Left) ≡ x) ⊎ Contains (row n (from + 1) k) x → (Contains (row n (from + 1) k) x → (x.to.port ≡ Left) × (from + 1 ≤ x.to.place)) → (x.to.port ≡ Left) × (from ≤ x.to.place)
-    pick (inl e) more = let p = ap (λ (x : Arc). x.to.place) e in (sym (ap (λ (x : Arc). x.to.port) e), omega (arith, p))
-    pick (inr m) more = let r = more m in let s = r.1 in (r.0, omega (arith, s))
-
-in_rows : (n size : ℕ) (ds : List Dest) (x : Arc) → Contains (flat_map (λ (d : Dest). row n (n + d.ahead) size) ds) x → Leads n ds x
-in_rows n size [] x h = absurd (contains_none x h)
-in_rows n size (d ∷ ds) x h = pick (Contains-append_cases (row n (n + d.ahead) size) (flat_map (λ (d : Dest). row n (n + d.ahead) size) ds) x h) (in_rows n size ds x)
-  where
-    pick : Contains (row n (n + d.ahead) size) x ⊎ Contains (flat_map (λ (d : Dest). row n (n + d.ahead) size) ds) x → (Contains (flat_map (λ (d : Dest). row n (n + d.ahead) size) ds) x → Leads n ds x) → Leads n (d ∷ ds) x
-    pick (inl m) more = (d, contains_head d ds, inr (in_row n (n + d.ahead) size x m))
-    pick (inr m) more = let r = more m in (r.0, contains_tail d ds r.0 r.1, r.2)
-
-either : (n : ℕ) (ds es : List Dest) (x : Arc) → Leads n ds x ⊎ Leads n es x → Leads n (ds ++ es) x
-either n ds es x (inl (d, h, t)) = (d, Contains-append_left ds es d h, t)
-either n ds es x (inr (d, h, t)) = (d, Contains-append_right ds es d h, t)
-
-in_instr : (q : Plan) (n : ℕ) (i : Instr) (op : Op) (x : Arc) → Contains (arcs_from q n i op) x → Leads n (i.firsts ++ i.seconds) x
-in_instr q n i (Link b) x h = pick (Contains-append_cases (flat_map (λ (d : Dest). row n (n + d.ahead) (landing q b)) i.firsts) (arcs_to n true i.seconds) x h)
-  where
-    pick : Contains (flat_map (λ (d : Dest). row n (n + d.ahead) (landing q b)) i.firsts) x ⊎ Contains (arcs_to n true i.seconds) x → Leads n (i.firsts ++ i.seconds) x
-    pick (inl m) = either n i.firsts i.seconds x (inl (in_rows n (landing q b) i.firsts x m))
-    pick (inr m) = either n i.firsts i.seconds x (inr (in_dests n true i.seconds x m))
-in_instr q n i op x h = pick (Contains-append_cases (arcs_to n false i.firsts) (arcs_to n true i.seconds) x h)
-  where
-    pick : Contains (arcs_to n false i.firsts) x ⊎ Contains (arcs_to n true i.seconds) x → Leads n (i.firsts ++ i.seconds) x
-    pick (inl m) = either n i.firsts i.seconds x (inl (in_dests n false i.firsts x m))
-    pick (inr m) = either n i.firsts i.seconds x (inr (in_dests n true i.seconds x m))
 
 abbrev Found : ℕ → List Instr → Arc → Type 0
 Found from is x = (k n : ℕ) × (i : Instr) × (n ≡ from + k) × (slice_get is k ≡ Some i) × Leads n (i.firsts ++ i.seconds) x
@@ -70,7 +28,7 @@ in_instrs q from [] x h = absurd (contains_none x h)
 in_instrs q from (i ∷ is) x h = pick (Contains-append_cases (arcs_from q from i i.op) (arcs_of q (from + 1) is) x h) (in_instrs q (from + 1) is x)
   where
     pick : Contains (arcs_from q from i i.op) x ⊎ Contains (arcs_of q (from + 1) is) x → (Contains (arcs_of q (from + 1) is) x → Found (from + 1) is x) → Found from (i ∷ is) x
-    pick (inl m) more = (0, from, i, omega arith, refl, in_instr q from i i.op x m)
+    pick (inl m) more = (0, from, i, omega arith, refl, arcs_from_lead q from i i.op x m)
     pick (inr m) more = let r = more m in let e = r.3 in (suc r.0, r.1, r.2, omega (arith, e), r.4, r.5)
 
 -- a sound destination by which an arc leads
@@ -101,7 +59,7 @@ module _ (q : Plan) (sound : DestsAreSound q) (b : ℕ) (c : CodeBlock) (at_b : 
   right_dyadic right = pick sound_arc.to
     where
       target : (j : Instr) × (slice_get c.instrs (sound_arc.n + sound_arc.d.ahead) ≡ Some j)
-      target = get_there c.instrs (sound_arc.n + sound_arc.d.ahead) sound_arc.sound.dest.inside
+      target = get_some c.instrs (sound_arc.n + sound_arc.d.ahead) sound_arc.sound.dest.inside
 
       pick : LeadsBy sound_arc.n sound_arc.d x → (i : Instr) × StandsAt c x.to.place i × (Wired.is_dyadic i.op ≡ true)
       pick (inl e) = (

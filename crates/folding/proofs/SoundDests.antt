@@ -3,6 +3,7 @@ use Rattle.std.proofs.Common.{◌≡◌, ℕ, ◌+◌, ◌-◌, ◌<◌, ◌≤�
 use Rattle.std.specs.Prelude.{slice_get, Contains}
 use Rattle.std.proofs.lemmas.Option.{slice_get_within}
 use Rattle.std.proofs.lemmas.List.Elements.{Contains-append_left, Contains-append_right, Contains-append_cases}
+use Rattle.lemmas.proofs.SliceGet.{get_some}
 use Rattle.tags.specs.declared.token.Port.{Port}
 use Rattle.tags.specs.declared.token.Port.TheVariants.{Right}
 use Rattle.semantics.specs.declared.program.Dest.{Dest}
@@ -21,7 +22,7 @@ use Rattle.folding.specs.Places.{Layout, layout_of, new_place, gone_at, folds_at
 use Rattle.folding.specs.Moved.{is_shut, moved, moved_dests, new_dest}
 use Rattle.folding.specs.Folded.{folded_block, folded}
 use Rattle.folding.proofs.Standing.{keeps_order, keeps_instrs, has_no_others}
-use Rattle.folding.proofs.Taken.{keeps_entries, get_there}
+use Rattle.folding.proofs.Taken.{keeps_entries}
 use Rattle.folding.proofs.SoundLists.{moved_back, block_back}
 use Rattle.folding.proofs.SoundRows.{shut_stays, sound_dest, stand_apart}
 
@@ -71,7 +72,7 @@ module _ (p : Plan) (sound : DestsAreSound p) (b : ℕ) (c : CodeBlock) (at_b : 
     place = let k = in_order in omega (arith, k)
 
     target : (j : Instr) × (slice_get c.instrs to ≡ Some j)
-    target = get_there c.instrs to s.dest.inside
+    target = get_some c.instrs to s.dest.inside
 
     moved_there : slice_get (folded_block p c).instrs (new_place l to) ≡ Some (moved l to target.0)
     moved_there = keeps_instrs p c to target.0 target.1 stands

@@ -4,6 +4,9 @@ use Rattle.std.specs.Prelude.{slice_get, Contains}
 use Rattle.std.proofs.lemmas.Option.{slice_get_within}
 use Rattle.std.proofs.lemmas.List.{length-map}
 use Rattle.std.proofs.lemmas.List.Elements.{Contains-append_left, Contains-append_right, All-contains}
+use Rattle.lemmas.proofs.Alls.{all_from}
+use Rattle.lemmas.proofs.Contains.{get_contains}
+use Rattle.lemmas.proofs.SliceGet.{get_some}
 use Rattle.tags.specs.declared.token.Port.{Port}
 use Rattle.tags.specs.declared.token.Port.TheVariants.{Left}
 use Rattle.semantics.specs.declared.program.Dest.{Dest}
@@ -21,9 +24,9 @@ use Rattle.folding.specs.Moved.{moved, moved_dests}
 use Rattle.folding.specs.Folded.{folded_block, folded}
 use Rattle.folding.specs.Laws.{dests_of, SparesLiterals}
 use Rattle.folding.proofs.Standing.{keeps_instrs, has_no_others}
-use Rattle.folding.proofs.Taken.{keeps_entries, get_there}
+use Rattle.folding.proofs.Taken.{keeps_entries}
 use Rattle.folding.proofs.Sole.{keeps_sole}
-use Rattle.folding.proofs.SoundLists.{get_contains, get_all, Stood, moved_back, block_back, block_there}
+use Rattle.folding.proofs.SoundLists.{Stood, moved_back, block_back, block_there}
 use Rattle.folding.proofs.SoundRows.{sound_dest}
 use Rattle.folding.proofs.SoundDests.{dyadic_is}
 
@@ -58,7 +61,7 @@ left_stays (OnRight z) q e = refl
 left_stays (OnLeft z) q e = refl
 
 lands_same : (l : Layout) (n : ℕ) (op : Op) (ds : List Dest) → LandsLeft op ds → LandsLeft op (moved_dests l n ds)
-lands_same l n (Link b) ds h = get_all (λ (d : Dest). d.port ≡ Left) (moved_dests l n ds) (λ k x e. by_old x (moved_back l n ds x (get_contains (moved_dests l n ds) k x e)))
+lands_same l n (Link b) ds h = all_from (λ (d : Dest). d.port ≡ Left) (moved_dests l n ds) (λ k x e. by_old x (moved_back l n ds x (get_contains (moved_dests l n ds) k x e)))
   where
     by_old : (x : Dest) → Stood l n ds x → x.port ≡ Left
     by_old x (d, has, shut, e) = ap (λ (y : Dest). y.port) e ∙ left_stays (folds_at l (n + d.ahead)) d.port (All-contains (λ (d : Dest). d.port ≡ Left) ds d h has)
@@ -119,7 +122,7 @@ module _ (p : Plan) (sound : IsSound p) (b : ℕ) (c : CodeBlock) (at_b : slice_
   last_entry =
       let size = block.size in
       let entry = keeps_entries p c c.inputs (omega arith) (omega (arith, size)) in
-      let there = get_there c.instrs c.inputs (omega (arith, size)) in
+      let there = get_some c.instrs c.inputs (omega (arith, size)) in
       let within = slice_get_within (folded_block p c).instrs (new_place l c.inputs) (moved l c.inputs there.0) (keeps_instrs p c c.inputs there.0 there.1 entry.0) in
       let same = entry.1 in
       omega (arith, within, same)

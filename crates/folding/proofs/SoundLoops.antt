@@ -2,7 +2,7 @@
 use Rattle.std.proofs.Common.{◌≡◌, ℕ, ◌<◌, ◌≤◌, Bool, true, false, ◌&&◌, refl, sym, ap, ◌∙◌, inl, inr, ◌⊎◌, arith, Some, true≢false, if◌then◌else◌}
 use Rattle.std.specs.Prelude.{slice_get}
 use Rattle.std.proofs.lemmas.Bool.{cases_lt}
-use Rattle.std.proofs.lemmas.Option.{slice_get_within}
+use Rattle.std.proofs.lemmas.Option.{slice_get_within, same_Some}
 use Rattle.operators.specs.declared.Binary.{Binary}
 use Rattle.semantics.specs.declared.program.Op.{Op}
 use Rattle.semantics.specs.declared.program.Op.TheVariants.{Apply2, Open, Take, Give, Drain}
@@ -44,12 +44,6 @@ open_credit : (op : Op) → is_open op ≡ true → is_credit op ≡ true
 open_credit (Open k) h = refl
 open_credit op h = absurd (true≢false (sym h))
 
-same_instr : (i j : Instr) → Some i ≡ Some j → i ≡ j
-same_instr i j e = cc
-
-same_number : (g h : ℕ) → Some g ≡ Some h → g ≡ h
-same_number g h e = cc
-
 module _ (p : Plan) (c : CodeBlock) (one : OneHolder c) (below : IsBelow c) (used : IsUsed c) (agree : LoopsAgree c) where
   abbrev l : Layout
   l = layout_of p c
@@ -62,7 +56,7 @@ module _ (p : Plan) (c : CodeBlock) (one : OneHolder c) (below : IsBelow c) (use
   credit_kept n i at credit = pick (is_folded (folds_at l n)) refl
     where
       none : (y : Instr) × (o : Binary) × (slice_get c.instrs n ≡ Some y) × (y.op ≡ Apply2 o) → ⊥
-      none (y, o, there, op) = let s = same_instr i y (sym at ∙ there) in true≢false (sym credit ∙ ap (λ (z : Instr). is_credit z.op) s ∙ ap is_credit op)
+      none (y, o, there, op) = let s = same_Some i y (sym at ∙ there) in true≢false (sym credit ∙ ap (λ (z : Instr). is_credit z.op) s ∙ ap is_credit op)
 
       pick : (t : Bool) → is_folded (folds_at l n) ≡ t → is_folded (folds_at l n) ≡ false
       pick false e = e
@@ -97,7 +91,7 @@ module _ (p : Plan) (c : CodeBlock) (one : OneHolder c) (below : IsBelow c) (use
           of_credit k = (n, i, (there, k, holds), first_opens i.op k first)
 
           pick : (a ≡ n) ⊎ ((is_credit x.op ≡ true) × (is_credit i.op ≡ true) × (is_open x.op && is_open i.op ≡ false)) → Opening h
-          pick (inl e) = let s = same_instr i x (sym there ∙ sym (ap (slice_get c.instrs) e) ∙ at) in of_credit (ap (λ (z : Instr). is_credit z.op) s ∙ credit)
+          pick (inl e) = let s = same_Some i x (sym there ∙ sym (ap (slice_get c.instrs) e) ∙ at) in of_credit (ap (λ (z : Instr). is_credit z.op) s ∙ credit)
           pick (inr (u, k, v)) = of_credit k
 
   place_apart : (m n : ℕ) (i j : Instr) → slice_get c.instrs m ≡ Some i → slice_get c.instrs n ≡ Some j → gone_at l m ≡ false → gone_at l n ≡ false → new_place l m ≡ new_place l n → m ≡ n
@@ -129,8 +123,8 @@ module _ (p : Plan) (c : CodeBlock) (one : OneHolder c) (below : IsBelow c) (use
       pick : (new_place l m ≡ new_place l n) ⊎ ((is_credit (moved l m i).op ≡ true) × (is_credit (moved l n j).op ≡ true) × (is_open (moved l m i).op && is_open (moved l n j).op ≡ false)) → g ≡ h
       pick (inl place) =
           let same = place_apart m n i j first.0 second.0 stay stays place in
-          let s = same_instr i j (sym first.0 ∙ ap (slice_get c.instrs) same ∙ second.0) in
-          same_number g h (sym first.2 ∙ ap (λ (z : Instr). slot_of z z.op) s ∙ second.2)
+          let s = same_Some i j (sym first.0 ∙ ap (slice_get c.instrs) same ∙ second.0) in
+          same_Some g h (sym first.2 ∙ ap (λ (z : Instr). slot_of z z.op) s ∙ second.2)
       pick (inr (u, v, w)) = absurd (true≢false (sym (λ k. opens_still k && also_still k) ∙ w))
 
   -- where an instruction of a loop comes from
@@ -159,5 +153,5 @@ module _ (p : Plan) (c : CodeBlock) (one : OneHolder c) (below : IsBelow c) (use
           (ap (λ o. bound_of (part_of o)) op ∙ r.0 ∙ sym (ap (λ o. bound_of (part_of o)) op'), λ k. sym place ∙ ap (new_place l) (r.1 (sym (ap part_of op) ∙ k ∙ ap part_of op')) ∙ place')
 
       pick : (m ≡ n) ⊎ ((is_credit i.op ≡ true) × (is_credit j.op ≡ true) × (is_open i.op && is_open j.op ≡ false)) → (bound_of (part_of i.op) ≡ bound_of (part_of j.op)) × (part_of i.op ≡ part_of j.op → m ≡ n)
-      pick (inl e) = let s = same_instr i j (sym at ∙ ap (slice_get (folded_block p c).instrs) e ∙ there) in (ap (λ (x : Instr). bound_of (part_of x.op)) s, λ k. e)
+      pick (inl e) = let s = same_Some i j (sym at ∙ ap (slice_get (folded_block p c).instrs) e ∙ there) in (ap (λ (x : Instr). bound_of (part_of x.op)) s, λ k. e)
       pick (inr (u, v, w)) = found (from m h i at held u) (from n h j there holds v)

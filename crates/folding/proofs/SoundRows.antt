@@ -3,6 +3,7 @@ use Rattle.std.proofs.Common.{◌≡◌, ℕ, zero, suc, ◌+◌, ◌-◌, ◌<�
 use Rattle.std.specs.Prelude.{slice_get, Contains}
 use Rattle.std.proofs.lemmas.Bool.{cases_lt}
 use Rattle.std.proofs.lemmas.List.Elements.{Contains-append_left}
+use Rattle.lemmas.proofs.Contains.{contains_get}
 use Rattle.tags.specs.declared.token.Port.{Port}
 use Rattle.semantics.specs.declared.program.Dest.{Dest}
 use Rattle.semantics.specs.declared.program.Op.{Op}
@@ -19,7 +20,7 @@ use Rattle.folding.specs.Folded.{folded_block, folded}
 use Rattle.folding.proofs.Standing.{keeps_order, has_no_others}
 use Rattle.folding.proofs.Taken.{keeps_entries}
 use Rattle.folding.proofs.Landing.{keeps_landings}
-use Rattle.folding.proofs.SoundLists.{contains_get, Stood, moved_back, landing_same}
+use Rattle.folding.proofs.SoundLists.{Stood, moved_back, landing_same}
 
 -- what no literal operand makes was there before
 pub link_before : (f : Fold) (op : Op) (b : ℕ) → new_op f op ≡ Link b → op ≡ Link b

@@ -4,6 +4,7 @@ use Rattle.std.specs.Prelude.{slice_get, slice_set, slice_index_or}
 use Rattle.std.proofs.lemmas.Bool.{cases_eq, and_parts}
 use Rattle.std.proofs.lemmas.Option.{slice_get_within}
 use Rattle.std.proofs.lemmas.List.{get_or-set_same, get_or-set_other}
+use Rattle.lemmas.proofs.SliceGet.{get_some}
 use Rattle.tags.specs.declared.token.Port.{Port}
 use Rattle.tags.specs.declared.token.Port.TheVariants.{Left, Right}
 use Rattle.operators.specs.declared.Binary.{Binary}
@@ -242,13 +243,8 @@ entry_many p c n h there = still (all_grow p (entries_noted c.inputs (length c.i
     still (inr (inl e)) = e
     still (inr (inr e)) = let f = first in absurd (cc)
 
-pub get_there : {X : Type 0} (xs : List X) (n : ℕ) → n < length xs → (x : X) × (slice_get xs n ≡ Some x)
-get_there [] n h = absurd (not-suc-le-zero h)
-get_there (x ∷ xs) zero h = (x, refl)
-get_there (x ∷ xs) (suc n) h = get_there xs n (le_of_suc-le-suc h)
-
 entry_stays : (p : Plan) (c : CodeBlock) (n : ℕ) → n ≤ c.inputs → n < length c.instrs → gone_at (layout_of p c) n ≡ false
-entry_stays p c n h there = pick (gone_at (layout_of p c) n) refl (get_there c.instrs n there)
+entry_stays p c n h there = pick (gone_at (layout_of p c) n) refl (get_some c.instrs n there)
   where
     by_source : (m : ℕ) × (s : Bool) × (namer_of (namers_of p c) n Left ≡ One m s) → ⊥
     by_source (m, s, e) = let f = entry_many p c n h there in absurd (cc)

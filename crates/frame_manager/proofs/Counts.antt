@@ -3,14 +3,8 @@ use Rattle.std.proofs.Common.{◌≡◌, ◌≢◌, ℕ, zero, suc, ◌+◌, ◌
 use Rattle.std.proofs.lemmas.Bool.{cases_eq, cases_lt}
 use Rattle.std.proofs.lemmas.List.{get_or-set_same, get_or-set_other, get_or_past, same_lists, length-set, get_or-replicate, length-replicate, get_or_default, set-set, set-get_or}
 use Rattle.semantics.specs.Report.{sum_below, one_if}
+use Rattle.semantics.proofs.Sums.{one_if_le, sum_same}
 use Rattle.frame_manager.specs.Flags.{flag_at, out_count}
-
-sum_same : (n : ℕ) (g h : ℕ → ℕ) → ((k : ℕ) → k < n → g k ≡ h k) → sum_below n g ≡ sum_below n h
-sum_same zero g h e = refl
-sum_same (suc n) g h e =
-    let before = sum_same n g h (λ k lt. e k (omega arith)) in
-    let here : g n ≡ h n = e n (omega arith) in
-    omega arith
 
 sum_more : (n f : ℕ) (g h : ℕ → ℕ) → f < n → g f ≡ h f + 1 → ((k : ℕ) → k ≢ f → g k ≡ h k) → sum_below n g ≡ sum_below n h + 1
 sum_more zero f g h lt at others = absurd (omega arith)
@@ -28,10 +22,6 @@ sum_more (suc n) f g h lt at others = ⊎_elim
 sum_le : (n : ℕ) (g : ℕ → ℕ) → ((k : ℕ) → g k ≤ 1) → sum_below n g ≤ n
 sum_le zero g h = omega arith
 sum_le (suc n) g h = let before = sum_le n g h in let here = h n in omega arith
-
-one_if_le : (b : Bool) → one_if b ≤ 1
-one_if_le true = omega arith
-one_if_le false = omega arith
 
 pub count_le : (flags : List Bool) → out_count flags ≤ length flags
 count_le flags = sum_le (length flags) (λ f. one_if (flag_at flags f)) (λ k. one_if_le (flag_at flags k))

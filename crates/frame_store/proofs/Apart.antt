@@ -1,16 +1,9 @@
 -- Each slot stands at a place of its own.
-use Rattle.std.proofs.Common.{◌≡◌, refl, sym, ap, ℕ, ◌+◌, ◌*◌, ◌<◌, ◌≤◌, Bool, true, false, arith, get_or-set_other, get_or-set_same, ◌⊎◌, ⊎_elim, inl, inr, ltb}
-use Rattle.std.proofs.lemmas.Bool.{cases_eq, ltb-true, ltb-false}
+use Rattle.std.proofs.Common.{◌≡◌, sym, ap, ℕ, ◌+◌, ◌*◌, ◌<◌, ◌≤◌, arith, get_or-set_other, get_or-set_same, ◌⊎◌, ⊎_elim, inl, inr}
+use Rattle.std.proofs.lemmas.Bool.{cases_eq, cases_lt}
 use Rattle.std.proofs.Math.Nat.{mul-le-mul_right}
 use Rattle.tags.specs.declared.slot.SlotState.TheVariants.{Empty}
 use Rattle.frame_store.specs.Slots.{Slots, bank_size, place_of, IsSlot, SlotsStandApart}
-
-pub either : (a b : ℕ) → (a < b) ⊎ (b ≤ a)
-either a b = go (ltb a b) refl
-  where
-    go : (t : Bool) → ltb a b ≡ t → (a < b) ⊎ (b ≤ a)
-    go true e = inl (ltb-true a b e)
-    go false e = inr (ltb-false a b e)
 
 pub below : (w a b r q : ℕ) → r < w → a < b → a * w + r < b * w + q
 below w a b r q l m = let h : (a + 1) * w ≤ b * w = mul-le-mul_right w (omega arith) in omega (arith, h, times w a)
@@ -26,7 +19,7 @@ one_slot w a b r q l m e = ⊎_elim
     (cases_eq a b)
   where
     sides : (a b : ℕ) → (a ≡ b → ⊥) → (a < b) ⊎ (b < a)
-    sides a b ne = ⊎_elim (λ (l : a < b). inl l) (λ (l : b ≤ a). inr (omega arith)) (either a b)
+    sides a b ne = ⊎_elim (λ (l : a < b). inl l) (λ (l : b ≤ a). inr (omega arith)) (cases_lt a b)
 
     apart : (a ≡ b → ⊥) → ⊥
     apart ne = ⊎_elim

@@ -1,6 +1,7 @@
 -- No fault is found exactly where a graph is well formed.
 use Rattle.std.proofs.Common.{◌≡◌, ℕ, ◌+◌, ◌-◌, Bool, true, false, List, length, Some, None, nat_eq, nat_lt, if◌then◌else◌, refl, sym, ap, ◌∙◌, subst, arith, eqb-true, eq-eqb, ltb-true, ltb-false, lt-ltb, le-ltb}
 use Rattle.std.specs.Prelude.{slice_get}
+use Rattle.lemmas.proofs.Alls.{at_all, all_from}
 use Rattle.semantics.specs.declared.graph.Region.{Region}
 use Rattle.semantics.specs.declared.graph.Region.TheVariants.{Root}
 use Rattle.semantics.specs.declared.graph.Source.{Source}
@@ -11,7 +12,7 @@ use Rattle.graph_check.specs.declared.faults.CheckFaultKind.{CheckFaultKind}
 use Rattle.graph_check.specs.declared.faults.CheckFaultKind.TheVariants.{NoSuchName, Arity, SourceNotEarlier, NoSuchPort, BadRegion, CrossesRegion, BadBound, OutNotRoot, NoInput, NoOutput}
 use Rattle.graph_check.specs.Names.{is_name}
 use Rattle.graph_check.specs.FirstFault.{first_in, unless, same_region, is_good_region, fits_region, region_fault, is_named, has_arity, is_bounded, has_port, source_fault, wanted_region, node_fault, fault_at, lines_fault, block_fault, array_name_fault, names_fault, main_fault, first_fault}
-use Rattle.graph_check.proofs.NoFault.{unless_none, unless_yes, later_none, none_later, fault_at_none, none_at, first_none, first_yes, all_get, get_all}
+use Rattle.graph_check.proofs.NoFault.{unless_none, unless_yes, later_none, none_later, fault_at_none, none_at, first_none, first_yes}
 use Rattle.graph_check.proofs.Shapes.{is_name_contains, contains_is_name, arrays_differ, differ_arrays, blocks_differ, differ_blocks}
 use Rattle.graph_check.proofs.Regions.{region_is, is_region, good_region, region_good, names_well, well_named, well_arity, well_bounded, has_port_in, port_in_has, lies_well, well_fits, well_lies}
 
@@ -46,7 +47,7 @@ module _ (g : Graph) where
       record {
         region = good_region b n node.region (unless_none _ BadRegion r.0);
         names = names;
-        earlier = get_all (IsEarlier g b n) node.sources (λ i s at. (source_well b n (wanted_region b node.region node.kind i) CrossesRegion s (f i s at)).0);
+        earlier = all_from (IsEarlier g b n) node.sources (λ i s at. (source_well b n (wanted_region b node.region node.kind i) CrossesRegion s (f i s at)).0);
         lies = lies_well b n g node.region node.kind node.sources (unless_none _ BadRegion r.1) names (λ i s at. (source_well b n (wanted_region b node.region node.kind i) CrossesRegion s (f i s at)).1);
       }
 
@@ -61,7 +62,7 @@ module _ (g : Graph) where
       (none_later (unless (has_arity g node.kind m) Arity) _ (unless_yes (has_arity g node.kind m) Arity (well_arity g differ node.kind m h.names))
       (none_later (unless (is_bounded node.kind) BadBound) _ (unless_yes (is_bounded node.kind) BadBound (well_bounded g node.kind m h.names))
       (first_yes (λ i s. source_fault g b n (wanted_region b node.region node.kind i) CrossesRegion s) node.sources
-      (λ i s at. well_source differ b n (wanted_region b node.region node.kind i) CrossesRegion s (all_get (IsEarlier g b n) node.sources h.earlier i s at) (lie i s at))))))
+      (λ i s at. well_source differ b n (wanted_region b node.region node.kind i) CrossesRegion s (at_all (IsEarlier g b n) node.sources h.earlier i s at) (lie i s at))))))
 
   -- ---- blocks
 
@@ -93,8 +94,8 @@ module _ (g : Graph) where
         some_output = ltb-true 0 b.outputs (unless_none _ NoOutput (fault_at_none (Some i) None _ q.0));
         nodes = λ n node at. let k = line_at b n node at in subst (λ n. IsNodeWell g b n node) (sym k.1) (node_well b (b.inputs + k.0) node (fault_at_none (Some i) (Some (b.inputs + k.0)) _ (lines k.0 node k.2)));
         result_count = eqb-true (length b.results) b.outputs (unless_none _ Arity o.0);
-        results = get_all (IsEarlier g b (node_count b)) b.results (λ i s at. (source_well b (node_count b) Root OutNotRoot s (outs i s at)).0);
-        in_root = get_all (λ (s : Source). region_of b s.node ≡ Root) b.results (λ i s at. (source_well b (node_count b) Root OutNotRoot s (outs i s at)).1);
+        results = all_from (IsEarlier g b (node_count b)) b.results (λ i s at. (source_well b (node_count b) Root OutNotRoot s (outs i s at)).0);
+        in_root = all_from (λ (s : Source). region_of b s.node ≡ Root) b.results (λ i s at. (source_well b (node_count b) Root OutNotRoot s (outs i s at)).1);
       }
 
   well_block : AllDiffer (block_names g) → (i : ℕ) (b : Block (List ℕ)) → IsBlockWell g b → block_fault g i b ≡ None
@@ -107,7 +108,7 @@ module _ (g : Graph) where
       (none_at (Some i) (Some (node_count b)) _
       (none_later (unless (nat_eq (length b.results) b.outputs) Arity) _ (unless_yes (nat_eq (length b.results) b.outputs) Arity (eq-eqb (length b.results) b.outputs h.result_count))
       (first_yes (λ i s. source_fault g b (node_count b) Root OutNotRoot s) b.results
-      (λ i s at. well_source differ b (node_count b) Root OutNotRoot s (all_get (IsEarlier g b (node_count b)) b.results h.results i s at) (all_get (λ (s : Source). region_of b s.node ≡ Root) b.results h.in_root i s at)))))))
+      (λ i s at. well_source differ b (node_count b) Root OutNotRoot s (at_all (IsEarlier g b (node_count b)) b.results h.results i s at) (at_all (λ (s : Source). region_of b s.node ≡ Root) b.results h.in_root i s at)))))))
 
   -- ---- graphs
 
@@ -124,14 +125,14 @@ module _ (g : Graph) where
         arrays_differ = arrays_differ (array_names g) names.0;
         blocks_differ = blocks_differ (block_names g) names.1;
         main = is_name_contains g.main (block_names g) (unless_none _ NoSuchName (fault_at_none None None _ q.0));
-        blocks = get_all BlockIsWell g.blocks (λ i named at. block_well i named.1 (blocks i named at));
+        blocks = all_from BlockIsWell g.blocks (λ i named at. block_well i named.1 (blocks i named at));
       }
 
   pub faultless : WellFormed g → first_fault g ≡ None
   faultless h =
       none_later (names_fault g) _ (none_later (first_in (array_name_fault (array_names g)) 0 (array_names g)) _ (differ_arrays (array_names g) h.arrays_differ) (differ_blocks (block_names g) h.blocks_differ))
       (none_later (main_fault g) _ (none_at None None _ (unless_yes (is_name g.main (block_names g)) NoSuchName (contains_is_name g.main (block_names g) h.main)))
-      (first_yes (λ i (named : List ℕ × Block (List ℕ)). block_fault g i named.1) g.blocks (λ i named at. well_block h.blocks_differ i named.1 (all_get BlockIsWell g.blocks h.blocks i named at))))
+      (first_yes (λ i (named : List ℕ × Block (List ℕ)). block_fault g i named.1) g.blocks (λ i named at. well_block h.blocks_differ i named.1 (at_all BlockIsWell g.blocks h.blocks i named at))))
 
   pub not_well_formed : (e : CheckFault) → first_fault g ≡ Some e → WellFormed g → ⊥
   not_well_formed e is h =

@@ -1,7 +1,6 @@
 -- What it says that no fault was found.
-use Rattle.std.proofs.Common.{◌≡◌, ℕ, zero, suc, ◌+◌, Bool, true, false, List, [], ◌∷◌, get_or, Option, Some, None, All, Contains, refl, ap, ◌∙◌, subst, arith}
+use Rattle.std.proofs.Common.{◌≡◌, ℕ, zero, suc, ◌+◌, Bool, true, false, List, [], ◌∷◌, Option, Some, None, refl, ap, ◌∙◌, subst, arith}
 use Rattle.std.specs.Prelude.{slice_get}
-use Rattle.std.proofs.lemmas.Option.{slice_get-get_or, slice_get_within, get_or_from_slice_get}
 use Rattle.graph_check.specs.declared.faults.CheckFaultKind.{CheckFaultKind}
 use Rattle.graph_check.specs.FirstFault.{or_later, first_in, unless, fault_at}
 
@@ -53,15 +52,3 @@ first_from_yes f n (y ∷ ys) h =
 
 pub first_yes : {X F : Type 0} (f : ℕ → X → Option F) (xs : List X) → ((i : ℕ) (x : X) → slice_get xs i ≡ Some x → f i x ≡ None) → first_in f 0 xs ≡ None
 first_yes f xs h = first_from_yes f 0 xs (λ i x at. let z : 0 + i ≡ i = omega arith in rw z (h i x at))
-
-pub all_get : {X : Type 0} (P : X → Type 0) (xs : List X) → All P xs → (i : ℕ) (x : X) → slice_get xs i ≡ Some x → P x
-all_get P xs h i x e = subst P (get_or_from_slice_get xs i x x e) (h i x (slice_get_within xs i x e))
-
-pub get_all : {X : Type 0} (P : X → Type 0) (xs : List X) → ((i : ℕ) (x : X) → slice_get xs i ≡ Some x → P x) → All P xs
-get_all P xs h = λ i d l. h i (get_or xs i d) (slice_get-get_or xs i d l)
-
-pub contains_get : {X : Type 0} (xs : List X) (x : X) → Contains xs x → (i : ℕ) × (slice_get xs i ≡ Some x)
-contains_get xs x h = (h.0, slice_get-get_or xs h.0 x h.1 ∙ ap (λ y. Some y) h.2)
-
-pub get_contains : {X : Type 0} (xs : List X) (i : ℕ) (x : X) → slice_get xs i ≡ Some x → Contains xs x
-get_contains xs i x e = (i, slice_get_within xs i x e, get_or_from_slice_get xs i x x e)

@@ -9,33 +9,14 @@ use Rattle.std.specs.Ordering.{nat_cmp}
 use Rattle.std.proofs.lemmas.Slice.Eq.{bytes_eq-Decides}
 use Rattle.std.proofs.lemmas.Map.Text.{btree_map_updates_str}
 use Rattle.semantics.specs.Graph.{same_name, place_from, place_of}
+use Rattle.semantics.proofs.Lines.{same_name_is, same_name_itself}
 use Rattle.graph_check.specs.Names.{is_name, place_if, IsIndexOf}
 use Rattle.graph_check.specs.FirstFault.{or_later}
 
 -- ---- equal names
 
-pub same_name_is : (x y : List ℕ) → same_name x y ≡ true → x ≡ y
-same_name_is [] [] e = refl
-same_name_is [] (b ∷ y) e = cc
-same_name_is (a ∷ x) [] e = cc
-same_name_is (a ∷ x) (b ∷ y) e = go (nat_lt a b) (nat_lt b a) refl refl e (same_name_is x y)
-  where
-    go : (s t : Bool) → nat_lt a b ≡ s → nat_lt b a ≡ t → (if s then false else if t then false else same_name x y) ≡ true → (same_name x y ≡ true → x ≡ y) → a ∷ x ≡ b ∷ y
-    go true t p q f ih = cc
-    go false true p q f ih = cc
-    go false false p q f ih =
-        let up = ltb-false a b p in
-        let down = ltb-false b a q in
-        let same : a ≡ b = omega arith in
-        ap₂ (λ a (x : List ℕ). a ∷ x) same (ih f)
-
-pub same_name_self : (x : List ℕ) → same_name x x ≡ true
-same_name_self [] = refl
-same_name_self (a ∷ x) =
-    ap (λ (t : Bool). if t then false else if t then false else same_name x x) (le-ltb a a (omega arith)) ∙ same_name_self x
-
 pub same_name_of : (x y : List ℕ) → x ≡ y → same_name x y ≡ true
-same_name_of x y e = ap (λ z. same_name x z) (sym e) ∙ same_name_self x
+same_name_of x y e = ap (λ z. same_name x z) (sym e) ∙ same_name_itself x
 
 -- ---- places, found one after another
 

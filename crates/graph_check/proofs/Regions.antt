@@ -1,6 +1,8 @@
 -- Regions, conditionals, names, ports: what each test decides.
 use Rattle.std.proofs.Common.{◌≡◌, ◌≢◌, ℕ, zero, suc, ◌+◌, ◌<◌, ◌≤◌, Bool, true, false, List, [], ◌∷◌, length, Option, Some, None, Contains, nat_eq, nat_lt, if◌then◌else◌, refl, sym, ap, ap₂, ◌∙◌, subst, arith, eqb-true, eq-eqb, ltb-true, ltb-false, lt-ltb, le-ltb}
 use Rattle.std.specs.Prelude.{slice_get}
+use Rattle.lemmas.proofs.Alls.{at_all, all_from}
+use Rattle.lemmas.proofs.Bools.{if_parts}
 use Rattle.semantics.specs.declared.graph.Region.{Region}
 use Rattle.semantics.specs.declared.graph.Region.TheVariants.{Root, Arm}
 use Rattle.semantics.specs.declared.graph.Source.{Source}
@@ -9,14 +11,9 @@ use Rattle.semantics.specs.declared.graph.Kind.TheVariants.{Lit, Apply1, Apply2,
 use Rattle.semantics.specs.Graph.{Node, Block, Graph, node_at, array_names, block_names}
 use Rattle.semantics.specs.WellFormed.{AllDiffer, IsCondNode, IsCond, IsRegion, region_of, HasPortOf, HasPortIn, arm_outside, AllLieIn, LiesWell, NamesWell}
 use Rattle.graph_check.specs.FirstFault.{is_cond_kind, is_cond_node, is_earlier_cond, same_side, same_region, is_good_region, is_arm, fits_region, is_named, shape_of, takes, gives, has_arity, is_bounded, is_port_of, kind_has_port, has_port, wanted_region}
-use Rattle.graph_check.proofs.NoFault.{all_get, get_all}
 use Rattle.graph_check.proofs.Shapes.{is_name_contains, contains_is_name, shape_has, has_shape, there_shape, has_name}
 
 -- ---- tests in a row
-
-pub both : (s t : Bool) → (if s then t else false) ≡ true → (s ≡ true) × (t ≡ true)
-both true t e = (refl, e)
-both false t e = cc
 
 pub both_yes : (s t : Bool) → s ≡ true → t ≡ true → (if s then t else false) ≡ true
 both_yes s t e f = ap₂ (λ (s t : Bool). if s then t else false) e f
@@ -46,7 +43,7 @@ cond_is_node (Some node) h = ap is_cond_kind h
 
 pub earlier_cond : (b : Block (List ℕ)) (n k : ℕ) → is_earlier_cond b n k ≡ true → (k < n) × IsCond b k
 earlier_cond b n k e =
-    let p = both _ _ e in
+    let p = if_parts _ _ e in
     (ltb-true k n p.0, node_is_cond (node_at b k) p.1)
 
 pub is_earlier : (b : Block (List ℕ)) (n k : ℕ) → k < n → IsCond b k → is_earlier_cond b n k ≡ true
@@ -69,7 +66,7 @@ region_is Root Root e = refl
 region_is Root (Arm k t) e = cc
 region_is (Arm j s) Root e = cc
 region_is (Arm j s) (Arm k t) e =
-    let p = both _ _ e in
+    let p = if_parts _ _ e in
     ap₂ (λ (k : ℕ) (t : Bool). Arm k t) (eqb-true j k p.0) (side_is s t p.1)
 
 region_self : (r : Region) → same_region r r ≡ true
@@ -135,7 +132,7 @@ module _ (g : Graph) where
       let k = takes_some _ n f in
       (k.0, shape_has g name n k.0 k.1)
   names_well (Loop name k) n e f h =
-      let p = both _ _ f in
+      let p = if_parts _ _ f in
       let q = bound_is k h in
       (shape_has g name n (n + 1) (takes_gives _ n (n + 1) p.0 p.1), q.0, q.1)
 
@@ -263,10 +260,10 @@ module _ (b : Block (List ℕ)) (n : ℕ) where
   root_or_arm (Arm k s) e = λ f. cc
 
   all_lie : (r : Region) (ss : List Source) → ((i : ℕ) (s : Source) → slice_get ss i ≡ Some s → region_of b s.node ≡ r) → AllLieIn b r ss
-  all_lie r ss h = get_all (λ (s : Source). region_of b s.node ≡ r) ss h
+  all_lie r ss h = all_from (λ (s : Source). region_of b s.node ≡ r) ss h
 
   lie_all : (r : Region) (ss : List Source) → AllLieIn b r ss → (i : ℕ) (s : Source) → slice_get ss i ≡ Some s → region_of b s.node ≡ r
-  lie_all r ss h = all_get (λ (s : Source). region_of b s.node ≡ r) ss h
+  lie_all r ss h = at_all (λ (s : Source). region_of b s.node ≡ r) ss h
 
   pub lies_well : (g : Graph) (r : Region) (kind : Kind (List ℕ)) (ss : List Source) → fits_region b n r kind ≡ true → NamesWell g kind (length ss) → LieWanted r kind ss → LiesWell b n r kind ss
   lies_well g r (Lit v) ss e l h = all_lie r ss h
@@ -275,7 +272,7 @@ module _ (b : Block (List ℕ)) (n : ℕ) where
   lies_well g r Cond ss e l h = all_lie r ss h
   lies_well g r Enter ss e l h = (root_or_arm r e, all_lie (arm_outside b r) ss h)
   lies_well g r (Merge k) ss e l h =
-      let p = both _ _ e in
+      let p = if_parts _ _ e in
       merge_lies r k ss p.0 p.1 l h
   lies_well g r (Fetch a) ss e l h = all_lie r ss h
   lies_well g r (Store a) ss e l h = all_lie r ss h

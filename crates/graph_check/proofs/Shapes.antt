@@ -1,14 +1,17 @@
 -- Names that stand once, and what stands under a name.
-use Rattle.std.proofs.Common.{◌≡◌, ℕ, zero, suc, ◌+◌, ◌<◌, Bool, true, false, List, [], ◌∷◌, length, map, take, Option, Some, None, Contains, nat_lt, if◌then◌else◌, refl, sym, ap, ap₂, ◌∙◌, subst, arith, ltb-true, ltb-false, lt-ltb}
+use Rattle.std.proofs.Common.{◌≡◌, ℕ, zero, suc, ◌+◌, ◌<◌, Bool, true, false, List, [], ◌∷◌, length, take, Option, Some, None, Contains, nat_lt, if◌then◌else◌, refl, sym, ap, ap₂, ◌∙◌, subst, arith, ltb-true, ltb-false, lt-ltb}
 use Rattle.std.specs.Prelude.{slice_get}
 use Rattle.std.proofs.lemmas.Option.{slice_get_within}
+use Rattle.lemmas.proofs.Contains.{contains_get, get_contains}
+use Rattle.lemmas.proofs.SliceGet.{map_get}
 use Rattle.semantics.specs.Graph.{Block, Graph, same_name, place_of, block_names}
 use Rattle.semantics.specs.WellFormed.{AllDiffer, HasShape}
+use Rattle.semantics.proofs.Lines.{same_name_is}
 use Rattle.graph_check.specs.declared.faults.CheckFaultKind.TheVariants.{SameName}
 use Rattle.graph_check.specs.Names.{is_name, place_if}
 use Rattle.graph_check.specs.FirstFault.{first_in, repeat_fault, array_name_fault, block_name_fault, shape_in, shape_of}
-use Rattle.graph_check.proofs.Places.{same_name_is, same_name_of, found_from, place_found}
-use Rattle.graph_check.proofs.NoFault.{first_none, first_yes, fault_at_none, none_at, contains_get, get_contains}
+use Rattle.graph_check.proofs.Places.{same_name_of, found_from, place_found}
+use Rattle.graph_check.proofs.NoFault.{first_none, first_yes, fault_at_none, none_at}
 
 -- ---- a name stands at its place
 
@@ -127,11 +130,6 @@ pub differ_blocks : (names : List (List ℕ)) → AllDiffer names → first_in (
 differ_blocks names h = first_yes (block_name_fault names) names (λ i name at. none_at (Some i) None _ (none_repeats names h i name at))
 
 -- ---- the block of a name
-
-map_get : {X Y : Type 0} (f : X → Y) (xs : List X) (i : ℕ) (x : X) → slice_get xs i ≡ Some x → slice_get (map f xs) i ≡ Some (f x)
-map_get f [] i x e = cc
-map_get f (y ∷ ys) zero x e = let same : y ≡ x = cc in ap (λ x. Some (f x)) same
-map_get f (y ∷ ys) (suc i) x e = map_get f ys i x e
 
 abbrev name_in : List ℕ × Block (List ℕ) → List ℕ
 name_in b = b.0

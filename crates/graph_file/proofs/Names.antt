@@ -1,17 +1,19 @@
 -- Names, sources and regions: what is read is what is written, and what is written is read again.
-use Rattle.std.proofs.Common.{◌≡◌, ℕ, suc, ◌+◌, ◌-◌, ◌^◌, ◌<◌, ◌≤◌, ◌&&◌, ◌||◌, eqb, ltb, leb, Bool, true, false, cond, List, [], ◌∷◌, ◌++◌, length, get_or, take, Option, Some, None, refl, sym, ap, subst, ◌∙◌, append_assoc, arith, inl, inr}
-use Rattle.std.specs.Prelude.{◌⊎◌, codes}
+use Rattle.std.proofs.Common.{◌≡◌, ℕ, ◌+◌, ◌-◌, ◌^◌, ◌<◌, ◌≤◌, ◌&&◌, ◌||◌, eqb, ltb, leb, Bool, true, false, cond, List, [], ◌∷◌, ◌++◌, length, get_or, take, Option, Some, None, refl, sym, ap, subst, ◌∙◌, append_assoc, arith, inl, inr}
+use Rattle.std.specs.Prelude.{codes}
 use Rattle.std.specs.Fmt.{decimal}
 use Rattle.std.specs.List.{list_all, join_with_byte}
 use Rattle.std.specs.Str.{bytes_eq}
 use Rattle.std.proofs.lemmas.Bool.{false≢true, lt-ltb, ltb-true, le-leb, leb-true, eqb-true, eq-eqb, and_parts, and_from, or_cases, or_left, or_right}
-use Rattle.std.proofs.lemmas.List.{length-append, take_at, get_or-append-add}
+use Rattle.std.proofs.lemmas.List.{length-append}
 use Rattle.std.proofs.lemmas.List.Elements.{All-weaker}
 use Rattle.std.proofs.lemmas.List.Folds.{list_all-append}
 use Rattle.std.proofs.lemmas.List.Sums.{AllPass-from_list_all, list_all-from_AllPass}
 use Rattle.std.proofs.lemmas.List.Splits.{slice_split_none, slice_split_at, join_with_byte-slice_split}
 use Rattle.std.proofs.lemmas.Slice.Eq.{bytes_eq-Decides}
 use Rattle.std.proofs.lemmas.Fmt.{decimal_nonempty}
+use Rattle.lemmas.proofs.Bools.{cond_cases}
+use Rattle.lemmas.proofs.Lists.{front_of, last_of, front_and_last}
 use Rattle.semantics.specs.declared.graph.Region.{Region}
 use Rattle.semantics.specs.declared.graph.Region.TheVariants.{Root, Arm}
 use Rattle.semantics.specs.declared.graph.Source.{Source}
@@ -130,21 +132,6 @@ source_field s h =
 
 -- ---- regions
 
-last_of : (front : List ℕ) (c : ℕ) → get_or (front ++ c ∷ []) (length (front ++ c ∷ []) - 1) 0 ≡ c
-last_of front c =
-    let n : length (front ++ c ∷ []) - 1 ≡ length front + 0 = omega (arith, length-append front (c ∷ [])) in
-    ap (λ (i : ℕ). get_or (front ++ c ∷ []) i 0) n ∙ get_or-append-add front (c ∷ []) 0 0
-
-front_of : (front : List ℕ) (c : ℕ) → take (length (front ++ c ∷ []) - 1) (front ++ c ∷ []) ≡ front
-front_of front c = take_at front (c ∷ []) (length (front ++ c ∷ []) - 1) (omega (arith, length-append front (c ∷ [])))
-
-rejoined : (bs : List ℕ) → 0 < length bs → bs ≡ take (length bs - 1) bs ++ get_or bs (length bs - 1) 0 ∷ []
-rejoined [] h = absurd (omega arith)
-rejoined (b ∷ []) h = refl
-rejoined (b ∷ c ∷ bs) h =
-    let n : length (b ∷ c ∷ bs) - 1 ≡ suc (length (c ∷ bs) - 1) = omega arith in
-    rw n (ap (λ (xs : List ℕ). b ∷ xs) (rejoined (c ∷ bs) (omega arith)))
-
 arm_is : (side : Bool) (o : Option ℕ) (r : Region) → arm_of side o ≡ Some r → (k : ℕ) × (o ≡ Some k) × (r ≡ Arm k side)
 arm_is side None r e = absurd cc
 arm_is side (Some k) r e = let h : Arm k side ≡ r = cc in (k, refl, sym h)
@@ -163,15 +150,11 @@ arm_reads bs front c side r zero-is text b e =
     let made : (bs ≡ region_text (Arm a.0 side)) × IsWrittenRegion (Arm a.0 side) = (b ∙ ap (λ (xs : List ℕ). xs ++ c ∷ []) n.0 ∙ sym (text a.0), n.1) in
     subst (λ (q : Region). (bs ≡ region_text q) × IsWrittenRegion q) (sym a.2) made
 
-chosen : {A : Type 0} (b : Bool) (x y z : A) → cond b x y ≡ z → ((b ≡ true) × (x ≡ z)) ⊎ ((b ≡ false) × (y ≡ z))
-chosen true x y z e = inl (refl, e)
-chosen false x y z e = inr (refl, e)
-
 parts_reads : (bs front : List ℕ) (c : ℕ) (r : Region) → bs ≡ front ++ c ∷ [] → region_parts front c ≡ Some r → (bs ≡ region_text r) × IsWrittenRegion r
 parts_reads bs front c r b e =
-    elim (chosen (eqb c 43) (arm_of true (number_of front)) (cond (eqb c 45) (arm_of false (number_of front)) None) (Some r) e) as (λ _. (bs ≡ region_text r) × IsWrittenRegion r) [
+    elim (cond_cases (eqb c 43) (arm_of true (number_of front)) (cond (eqb c 45) (arm_of false (number_of front)) None) (Some r) e) as (λ _. (bs ≡ region_text r) × IsWrittenRegion r) [
       | inl h ↦ arm_reads bs front 43 true r refl (λ k. refl) (b ∙ ap (λ (x : ℕ). front ++ x ∷ []) (eqb-true c 43 h.0)) h.1
-      | inr h ↦ elim (chosen (eqb c 45) (arm_of false (number_of front)) None (Some r) h.1) as (λ _. (bs ≡ region_text r) × IsWrittenRegion r) [
+      | inr h ↦ elim (cond_cases (eqb c 45) (arm_of false (number_of front)) None (Some r) h.1) as (λ _. (bs ≡ region_text r) × IsWrittenRegion r) [
         | inl k ↦ arm_reads bs front 45 false r refl (λ k. refl) (b ∙ ap (λ (x : ℕ). front ++ x ∷ []) (eqb-true c 45 k.0)) k.1
         | inr k ↦ absurd (let q = k.1 in cc)
       ]
@@ -180,7 +163,7 @@ parts_reads bs front c r b e =
 pub region_is : (bs : List ℕ) (r : Region) → region_of bs ≡ Some r → (bs ≡ region_text r) × IsWrittenRegion r
 unfolding region_of
 region_is bs r e =
-    elim (chosen (bytes_eq bs (codes "-")) (Some Root) (region_parts (take (length bs - 1) bs) (get_or bs (length bs - 1) 0)) (Some r) e) as (λ _. (bs ≡ region_text r) × IsWrittenRegion r) [
+    elim (cond_cases (bytes_eq bs (codes "-")) (Some Root) (region_parts (take (length bs - 1) bs) (get_or bs (length bs - 1) 0)) (Some r) e) as (λ _. (bs ≡ region_text r) × IsWrittenRegion r) [
       | inl h ↦
           let k : Root ≡ r = let q = h.1 in cc in
           let made : (bs ≡ region_text Root) × IsWrittenRegion Root = ((bytes_eq-Decides bs (codes "-")).0 h.0, tt) in
@@ -190,7 +173,7 @@ region_is bs r e =
   where
     split : (xs : List ℕ) (q : Region) → region_parts (take (length xs - 1) xs) (get_or xs (length xs - 1) 0) ≡ Some q → (xs ≡ region_text q) × IsWrittenRegion q
     split [] q h = absurd cc
-    split (x ∷ xs) q h = parts_reads (x ∷ xs) (take (length (x ∷ xs) - 1) (x ∷ xs)) (get_or (x ∷ xs) (length (x ∷ xs) - 1) 0) q (rejoined (x ∷ xs) (omega arith)) h
+    split (x ∷ xs) q h = parts_reads (x ∷ xs) (take (length (x ∷ xs) - 1) (x ∷ xs)) (get_or (x ∷ xs) (length (x ∷ xs) - 1) 0) q (front_and_last (x ∷ xs) (omega arith)) h
 
 arm_again : (k c : ℕ) (side : Bool) → k < 2 ^ 32 → region_parts (decimal k) c ≡ arm_of side (number_of (decimal k)) → region_of (decimal k ++ c ∷ []) ≡ Some (Arm k side)
 unfolding region_of

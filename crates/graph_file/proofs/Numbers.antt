@@ -7,7 +7,7 @@ use Rattle.std.specs.Char.{is_ascii_digit}
 use Rattle.std.specs.Result.{OkIff, MatchResult, result_ok}
 use Rattle.std.specs.Str.{all_ascii_digits, IsUtf8, bytes_eq}
 use Rattle.std.specs.Str.Parse.{ParsesUnsigned, ParsesSigned, digits_value}
-use Rattle.std.proofs.lemmas.Bool.{false≢true, lt-ltb, ltb-true, le-leb, leb-true, eqb-true}
+use Rattle.std.proofs.lemmas.Bool.{false≢true, lt-ltb, ltb-true, le-leb, leb-true, eqb-true, and_parts}
 use Rattle.std.proofs.lemmas.Bool.Decides.{nat_tests}
 use Rattle.std.proofs.lemmas.Str.{IsUtf8-from_ascii}
 use Rattle.std.proofs.lemmas.Str.Ascii.{IsAscii-cons}
@@ -22,11 +22,6 @@ pub same_digits : (ds : List ℕ) → list_all is_ascii_digit ds ≡ all_ascii_d
 same_digits [] = refl
 same_digits (d ∷ ds) = ap (λ (b : Bool). is_ascii_digit d && b) (same_digits ds)
 
-both : (a b : Bool) → (a && b) ≡ true → (a ≡ true) × (b ≡ true)
-both true true e = (refl, refl)
-both true false e = absurd cc
-both false b e = absurd cc
-
 pub record IsNumeral (bs : List ℕ) : Type 0 where
   pub digits : all_ascii_digits bs ≡ true
   pub some : 0 < length bs
@@ -37,8 +32,8 @@ pub is_numeral_means : (bs : List ℕ) → is_numeral bs ≡ true → IsNumeral 
 unfolding is_numeral
 is_numeral_means [] e = absurd (false≢true e)
 is_numeral_means (d ∷ ds) e =
-    let h = both (list_all is_ascii_digit (d ∷ ds)) (not (eqb d 48) || eqb (length ds) 0) e in
-    let k = both (is_ascii_digit d) (list_all is_ascii_digit ds) h.0 in
+    let h = and_parts (list_all is_ascii_digit (d ∷ ds)) (not (eqb d 48) || eqb (length ds) 0) e in
+    let k = and_parts (is_ascii_digit d) (list_all is_ascii_digit ds) h.0 in
     record {
       digits = sym (same_digits (d ∷ ds)) ∙ h.0;
       some = omega arith;
@@ -83,7 +78,7 @@ literal_cases : {E : Type 0} (c : ℕ) (cs : List ℕ) (r : Result ℤ E) → Pa
 unfolding is_literal
 literal_cases c cs r h true t e =
     let one : (is_numeral cs && not (bytes_eq cs (codes "0"))) ≡ true = rw t at e in
-    let n = is_numeral_means cs (both (is_numeral cs) (not (bytes_eq cs (codes "0"))) one).0 in
+    let n = is_numeral_means cs (and_parts (is_numeral cs) (not (bytes_eq cs (codes "0"))) one).0 in
     let is : c ≡ 45 = eqb-true c 45 t in
     rw t (minus_at cs r (parse_signed_minus own w64 (c ∷ cs) r h is) n)
 literal_cases c cs r h false t e =
@@ -100,7 +95,7 @@ utf8_cases : (c : ℕ) (cs : List ℕ) → (t : Bool) → eqb c 45 ≡ t → is_
 unfolding is_literal
 utf8_cases c cs true t e =
     let one : (is_numeral cs && not (bytes_eq cs (codes "0"))) ≡ true = rw t at e in
-    let n = is_numeral_means cs (both (is_numeral cs) (not (bytes_eq cs (codes "0"))) one).0 in
+    let n = is_numeral_means cs (and_parts (is_numeral cs) (not (bytes_eq cs (codes "0"))) one).0 in
     let is : c ≡ 45 = eqb-true c 45 t in
     IsUtf8-from_ascii (c ∷ cs) (IsAscii-cons c cs (omega arith) (IsAscii-from_digits cs (own.to cs n.digits)))
 utf8_cases c cs false t e = numeral_is_utf8 (c ∷ cs) (rw t at e)

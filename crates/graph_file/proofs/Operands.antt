@@ -1,6 +1,6 @@
 -- A node line is what is written of its node, and what is written is read again.
 use Rattle.std.proofs.Common.{◌≡◌, ℕ, ◌^◌, ◌<◌, Bool, true, false, List, [], ◌∷◌, ◌++◌, map, All, Option, Some, None, Ok, Err, ℤ, refl, sym, ap, subst, ◌∙◌}
-use Rattle.std.specs.Prelude.{codes, ok_or, ⊤}
+use Rattle.std.specs.Prelude.{codes, ok_or, option_map, ⊤, if◌then◌else◌}
 use Rattle.std.specs.Int.{w64}
 use Rattle.std.specs.Int.RustNames.{FitsSigned}
 use Rattle.std.specs.Fmt.{decimal}
@@ -8,14 +8,15 @@ use Rattle.std.specs.Str.{bytes_eq}
 use Rattle.std.proofs.lemmas.List.Elements.{All-nil, All-cons, All-head, All-tail}
 use Rattle.std.proofs.lemmas.Slice.Eq.{bytes_eq-Decides}
 use Rattle.operators.specs.declared.Unary.TheVariants.{Neg, Not}
-use Rattle.operators.specs.declared.Binary.TheVariants.{Add, Sub, Mul, Div, Rem, And, Or, Xor, Shl, Shr, Eq, Ne, Lt, Le}
+use Rattle.operators.specs.declared.Binary.{Binary}
+use Rattle.operators.proofs.Every.{all_binary}
 use Rattle.semantics.specs.declared.graph.Source.{Source}
 use Rattle.semantics.specs.declared.graph.Kind.{Kind}
 use Rattle.semantics.specs.declared.graph.Kind.TheVariants as kinds
 use Rattle.semantics.specs.declared.words.Operator.{Operator}
 use Rattle.semantics.specs.declared.words.Operator.TheVariants as operators
 use Rattle.semantics.specs.Words.{operator_word, operator_of as operators_of}
-use Rattle.semantics.proofs.OperatorWords.{operator_is as word_is_operator}
+use Rattle.semantics.proofs.OperatorWords.{operator_is as word_is_operator, operator_again}
 use Rattle.semantics.specs.Text.{literal, unary_word, binary_word, IsName, IsNumber, IsWrittenSource}
 use Rattle.semantics.specs.declared.version.Version.{Version}
 use Rattle.semantics.specs.declared.version.Version.TheVariants.{One, Two}
@@ -104,6 +105,25 @@ unfolding word_of
 word_is One bs w e = common_is One bs w e
 word_is Two bs w e = word_in_is Two ((codes "scall", StrictCall) ∷ []) (common_of bs) bs w ((refl, tt), tt) (common_is Two bs w) e
 
+-- the word is none of the table
+abbrev is_other : List (List ℕ × Word) → List ℕ → Bool
+is_other [] w = true
+is_other (e ∷ es) w = if bytes_eq w e.0 then false else is_other es w
+
+other_in : (table : List (List ℕ × Word)) (otherwise : Option Word) (w : List ℕ) → is_other table w ≡ true → word_in table otherwise w ≡ otherwise
+other_in [] otherwise w e = refl
+other_in (x ∷ xs) otherwise w e = go (bytes_eq w x.0) refl (other_in xs otherwise w)
+  where
+    go : (t : Bool) → bytes_eq w x.0 ≡ t → (is_other xs w ≡ true → word_in xs otherwise w ≡ otherwise) → (if t then Some x.1 else word_in xs otherwise w) ≡ otherwise
+    go true t rec = absurd (let k : false ≡ true = rw t at e in cc)
+    go false t rec = rec (let k : is_other xs w ≡ true = rw t at e in k)
+
+operator_common : (op : Binary) → common_of (binary_word op) ≡ Some (Apply2 op)
+unfolding common_of operator_of
+operator_common op =
+    other_in common_words (operator_of (binary_word op)) (binary_word op) (all_binary (λ o. is_other common_words (binary_word o)) refl op)
+    ∙ ap (λ (o : Option Operator). option_map word_for o) (operator_again (operators.Two op))
+
 pub word_again : (w : Word) (v : Version) → IsWordIn w v → word_of v (word_text w) ≡ Some w
 unfolding word_of common_of operator_of operators_of
 word_again Lit One h = refl
@@ -128,34 +148,8 @@ word_again (Apply1 Neg) One h = refl
 word_again (Apply1 Neg) Two h = refl
 word_again (Apply1 Not) One h = refl
 word_again (Apply1 Not) Two h = refl
-word_again (Apply2 Add) One h = refl
-word_again (Apply2 Add) Two h = refl
-word_again (Apply2 Sub) One h = refl
-word_again (Apply2 Sub) Two h = refl
-word_again (Apply2 Mul) One h = refl
-word_again (Apply2 Mul) Two h = refl
-word_again (Apply2 Div) One h = refl
-word_again (Apply2 Div) Two h = refl
-word_again (Apply2 Rem) One h = refl
-word_again (Apply2 Rem) Two h = refl
-word_again (Apply2 And) One h = refl
-word_again (Apply2 And) Two h = refl
-word_again (Apply2 Or) One h = refl
-word_again (Apply2 Or) Two h = refl
-word_again (Apply2 Xor) One h = refl
-word_again (Apply2 Xor) Two h = refl
-word_again (Apply2 Shl) One h = refl
-word_again (Apply2 Shl) Two h = refl
-word_again (Apply2 Shr) One h = refl
-word_again (Apply2 Shr) Two h = refl
-word_again (Apply2 Eq) One h = refl
-word_again (Apply2 Eq) Two h = refl
-word_again (Apply2 Ne) One h = refl
-word_again (Apply2 Ne) Two h = refl
-word_again (Apply2 Lt) One h = refl
-word_again (Apply2 Lt) Two h = refl
-word_again (Apply2 Le) One h = refl
-word_again (Apply2 Le) Two h = refl
+word_again (Apply2 op) One h = operator_common op
+word_again (Apply2 op) Two h = other_in ((codes "scall", StrictCall) ∷ []) (common_of (binary_word op)) (binary_word op) (all_binary (λ o. is_other ((codes "scall", StrictCall) ∷ []) (binary_word o)) refl op) ∙ operator_common op
 
 -- ---- kinds
 

@@ -1,6 +1,6 @@
 -- What is read is spelled so.
 use Rattle.std.proofs.Common.{◌≡◌, ℕ, ◌+◌, ◌<◌, ◌≤◌, ◌&&◌, not, eqb, ltb, leb, Bool, true, false, cond, List, [], ◌∷◌, ◌++◌, length, map, take, drop, Result, Ok, Err, refl, sym, ap, subst, ◌∙◌, append_assoc, arith, inl, inr}
-use Rattle.std.specs.Prelude.{◌⊎◌, codes, flat_map, sum}
+use Rattle.std.specs.Prelude.{codes, flat_map, sum}
 use Rattle.std.specs.Fmt.{decimal}
 use Rattle.std.specs.Str.{bytes_eq}
 use Rattle.std.specs.List.{join_with_byte}
@@ -11,12 +11,14 @@ use Rattle.std.proofs.lemmas.List.Sums.{sum-map, sum_by_push}
 use Rattle.std.proofs.lemmas.List.Splits.{join_with_byte-slice_split}
 use Rattle.std.proofs.lemmas.Slice.Eq.{bytes_eq-Decides}
 use Rattle.std.proofs.lemmas.Fmt.{decimal_digit}
+use Rattle.lemmas.proofs.Bools.{cond_cases}
 use Rattle.semantics.specs.declared.graph.Source.{Source}
 use Rattle.semantics.specs.Graph.{Node, Graph}
 use Rattle.semantics.specs.Text.{line, node_line as node_text, array_line as array_text, block_text, IsName, HasNodeLine, HasBlockText, HasText, IsText}
 use Rattle.semantics.specs.Versions.{version_number}
 use Rattle.semantics.specs.declared.version.Version.{Version}
 use Rattle.semantics.specs.declared.version.Version.TheVariants.{One, Two}
+use Rattle.semantics.proofs.Lines.{version_is}
 use Rattle.graph_file.specs.declared.fault.ReadFault.{ReadFault}
 use Rattle.graph_file.specs.declared.fault.ReadFaultKind.{ReadFaultKind}
 use Rattle.graph_file.specs.declared.fault.ReadFaultKind.TheVariants.{NoHeader, BadLine, BadNumber, TooMany}
@@ -205,10 +207,6 @@ node_takes_line f b fs s e h =
     let leads : FromFields (state_text f (Nodes b)) (node_fields c.0) made = ((h.0, (h.1.0, is)), reads) in
     subst (FromFields (state_text f (Nodes b)) fs) (ok_is made s c.2) (subst (λ (ys : List (List ℕ)). FromFields (state_text f (Nodes b)) ys made) (sym n.1) leads)
 
-chosen : {A : Type 0} (b : Bool) (x y z : A) → cond b x y ≡ z → ((b ≡ true) × (x ≡ z)) ⊎ ((b ≡ false) × (y ≡ z))
-chosen true x y z e = inl (refl, e)
-chosen false x y z e = inr (refl, e)
-
 worded : (before : List ℕ) (w : List ℕ) (word : List ℕ) (fs args : List (List ℕ)) (s : State) → fs ≡ w ∷ args → bytes_eq w word ≡ true → FromFields before (word ∷ args) s → FromFields before fs s
 worded before w word fs args s e t h = subst (λ (ys : List (List ℕ)). FromFields before ys s) (sym (e ∙ ap (λ (x : List ℕ). x ∷ args) ((bytes_eq-Decides w word).0 t))) h
 
@@ -217,7 +215,7 @@ unfolding inside
 inside_takes f b fs s e h =
     let w = bind_ok (field_from fs) (λ word. cond (bytes_eq word.0 (codes "out")) (out_line f b word.1) (node_line f b fs)) s e in
     let is = field_is fs w.0 w.1 in
-    elim (chosen (bytes_eq w.0.0 (codes "out")) (out_line f b w.0.1) (node_line f b fs) (Ok s) w.2) as (λ _. FromFields (state_text f (Nodes b)) fs s) [
+    elim (cond_cases (bytes_eq w.0.0 (codes "out")) (out_line f b w.0.1) (node_line f b fs) (Ok s) w.2) as (λ _. FromFields (state_text f (Nodes b)) fs s) [
       | inl k ↦ worded (state_text f (Nodes b)) w.0.0 (codes "out") fs w.0.1 s is k.0 (out_takes f b w.0.1 s k.1 h)
       | inr k ↦ node_takes_line f b fs s k.1 h
     ]
@@ -227,11 +225,11 @@ unfolding outside
 outside_takes arrays f fs s e h none =
     let w = bind_ok (field_from fs) (λ word. cond (arrays && bytes_eq word.0 (codes "array")) (array_line f word.1) (cond (bytes_eq word.0 (codes "block")) (block_line f word.1) (cond (bytes_eq word.0 (codes "main")) (main_line f word.1) (Err BadLine)))) s e in
     let is = field_is fs w.0 w.1 in
-    elim (chosen (arrays && bytes_eq w.0.0 (codes "array")) (array_line f w.0.1) (cond (bytes_eq w.0.0 (codes "block")) (block_line f w.0.1) (cond (bytes_eq w.0.0 (codes "main")) (main_line f w.0.1) (Err BadLine))) (Ok s) w.2) as (λ _. FromFields (found_text f ++ []) fs s) [
+    elim (cond_cases (arrays && bytes_eq w.0.0 (codes "array")) (array_line f w.0.1) (cond (bytes_eq w.0.0 (codes "block")) (block_line f w.0.1) (cond (bytes_eq w.0.0 (codes "main")) (main_line f w.0.1) (Err BadLine))) (Ok s) w.2) as (λ _. FromFields (found_text f ++ []) fs s) [
       | inl k ↦ let t = and_parts arrays (bytes_eq w.0.0 (codes "array")) k.0 in worded (found_text f ++ []) w.0.0 (codes "array") fs w.0.1 s is t.1 (array_takes f w.0.1 s k.1 h (none t.0))
-      | inr k ↦ elim (chosen (bytes_eq w.0.0 (codes "block")) (block_line f w.0.1) (cond (bytes_eq w.0.0 (codes "main")) (main_line f w.0.1) (Err BadLine)) (Ok s) k.1) as (λ _. FromFields (found_text f ++ []) fs s) [
+      | inr k ↦ elim (cond_cases (bytes_eq w.0.0 (codes "block")) (block_line f w.0.1) (cond (bytes_eq w.0.0 (codes "main")) (main_line f w.0.1) (Err BadLine)) (Ok s) k.1) as (λ _. FromFields (found_text f ++ []) fs s) [
         | inl l ↦ worded (found_text f ++ []) w.0.0 (codes "block") fs w.0.1 s is l.0 (block_takes f w.0.1 s l.1 h)
-        | inr l ↦ elim (chosen (bytes_eq w.0.0 (codes "main")) (main_line f w.0.1) (Err BadLine) (Ok s) l.1) as (λ _. FromFields (found_text f ++ []) fs s) [
+        | inr l ↦ elim (cond_cases (bytes_eq w.0.0 (codes "main")) (main_line f w.0.1) (Err BadLine) (Ok s) l.1) as (λ _. FromFields (found_text f ++ []) fs s) [
           | inl m ↦ worded (found_text f ++ []) w.0.0 (codes "main") fs w.0.1 s is m.0 (main_takes f w.0.1 s m.1 h)
           | inr m ↦ absurd (let q : Err BadLine ≡ done s = m.1 in cc)
         ]
@@ -273,10 +271,6 @@ line_takes f (Done m) l s e h = absurd cc
 
 abbrev graph_of : Found → List ℕ → Graph
 graph_of f m = record { version = version_number f.version; arrays = f.arrays; blocks = f.blocks; main = m }
-
-version_is : (v : Version) → (version_number v ≡ 1) ⊎ (version_number v ≡ 2)
-version_is One = inl refl
-version_is Two = inr refl
 
 end_takes : (f : Found) (p : Place Named (List ℕ)) (l : List ℕ) (g : Graph) → end_from f p l ≡ Ok g → IsState f p → IsText (state_text f p ++ l) g
 unfolding end_from
@@ -338,9 +332,9 @@ body_takes v text g t e =
 pub text_takes : (text : List ℕ) (g : Graph) → text_from text ≡ Ok g → IsText text g
 unfolding text_from
 text_takes text g e =
-    elim (chosen (bytes_eq (take 11 text) (header One)) (body_from One (drop 11 text)) (cond (bytes_eq (take 11 text) (header Two)) (body_from Two (drop 11 text)) (Err record { kind = NoHeader; line = 1 })) (Ok g) e) as (λ _. IsText text g) [
+    elim (cond_cases (bytes_eq (take 11 text) (header One)) (body_from One (drop 11 text)) (cond (bytes_eq (take 11 text) (header Two)) (body_from Two (drop 11 text)) (Err record { kind = NoHeader; line = 1 })) (Ok g) e) as (λ _. IsText text g) [
       | inl k ↦ body_takes One text g k.0 k.1
-      | inr k ↦ elim (chosen (bytes_eq (take 11 text) (header Two)) (body_from Two (drop 11 text)) (Err record { kind = NoHeader; line = 1 }) (Ok g) k.1) as (λ _. IsText text g) [
+      | inr k ↦ elim (cond_cases (bytes_eq (take 11 text) (header Two)) (body_from Two (drop 11 text)) (Err record { kind = NoHeader; line = 1 }) (Ok g) k.1) as (λ _. IsText text g) [
         | inl l ↦ body_takes Two text g l.0 l.1
         | inr l ↦ absurd (let q = l.1 in cc)
       ]

@@ -1,20 +1,20 @@
 -- Fields with a space between are a line, and the line falls into these fields.
 use Rattle.std.proofs.Common.{◌≡◌, ℕ, ◌<◌, ◌≤◌, ◌&&◌, not, eqb, leb, Bool, true, false, cond, List, [], ◌∷◌, ◌++◌, length, map, All, Ok, refl, sym, ap, ◌∙◌, append_assoc, arith}
-use Rattle.std.specs.Prelude.{⊤, codes, flat_map}
+use Rattle.std.specs.Prelude.{⊤, codes, flat_map, nat_lt}
 use Rattle.std.specs.Fmt.{decimal}
 use Rattle.std.specs.List.{list_all, join_with_byte}
-use Rattle.std.proofs.lemmas.Bool.{leb-true, le-leb, ne_eqb, and_parts, and_from}
+use Rattle.std.proofs.lemmas.Bool.{ltb-true, leb-true, le-leb, ne_eqb, and_parts, and_from}
 use Rattle.std.proofs.lemmas.List.{append-nil}
 use Rattle.std.proofs.lemmas.List.Concat.{flat_map-cons, flat_map-append}
 use Rattle.std.proofs.lemmas.List.Elements.{All-nil, All-cons, All-head, All-tail}
 use Rattle.std.proofs.lemmas.List.Splits.{slice_split_none, slice_split_at, join_with_byte-slice_split}
 use Rattle.operators.specs.declared.Unary.TheVariants.{Neg, Not}
-use Rattle.operators.specs.declared.Binary.TheVariants.{Add, Sub, Mul, Div, Rem, And, Or, Xor, Shl, Shr, Eq, Ne, Lt, Le}
+use Rattle.operators.proofs.Every.{all_binary}
 use Rattle.semantics.specs.declared.graph.Source.{Source}
 use Rattle.semantics.specs.declared.graph.Kind.{Kind}
 use Rattle.semantics.specs.declared.graph.Kind.TheVariants as kinds
 use Rattle.semantics.specs.Graph.{Node}
-use Rattle.semantics.specs.Text.{field, line, kind_text, sources_text, node_line, region_text, literal, IsWrittenSource, HasNodeLine}
+use Rattle.semantics.specs.Text.{binary_word, field, line, kind_text, sources_text, node_line, region_text, literal, IsWrittenSource, HasNodeLine}
 use Rattle.semantics.specs.Versions.{version_number}
 use Rattle.semantics.specs.declared.version.Version.{Version}
 use Rattle.graph_file.specs.declared.fault.ReadFaultKind.TheVariants.{BadLine}
@@ -160,20 +160,8 @@ word_field : (w : Word) → IsField (word_text w)
 word_field words.Lit = known (codes "lit") (omega arith) refl
 word_field (words.Apply1 Neg) = known (codes "neg") (omega arith) refl
 word_field (words.Apply1 Not) = known (codes "not") (omega arith) refl
-word_field (words.Apply2 Add) = known (codes "add") (omega arith) refl
-word_field (words.Apply2 Sub) = known (codes "sub") (omega arith) refl
-word_field (words.Apply2 Mul) = known (codes "mul") (omega arith) refl
-word_field (words.Apply2 Div) = known (codes "div") (omega arith) refl
-word_field (words.Apply2 Rem) = known (codes "rem") (omega arith) refl
-word_field (words.Apply2 And) = known (codes "and") (omega arith) refl
-word_field (words.Apply2 Or) = known (codes "or") (omega arith) refl
-word_field (words.Apply2 Xor) = known (codes "xor") (omega arith) refl
-word_field (words.Apply2 Shl) = known (codes "shl") (omega arith) refl
-word_field (words.Apply2 Shr) = known (codes "shr") (omega arith) refl
-word_field (words.Apply2 Eq) = known (codes "eq") (omega arith) refl
-word_field (words.Apply2 Ne) = known (codes "ne") (omega arith) refl
-word_field (words.Apply2 Lt) = known (codes "lt") (omega arith) refl
-word_field (words.Apply2 Le) = known (codes "le") (omega arith) refl
+word_field (words.Apply2 op) = known (binary_word op) (ltb-true 0 (length (binary_word op)) (all_binary (λ o. nat_lt 0 (length (binary_word o))) refl op))
+    (all_binary (λ o. list_all is_plain (binary_word o)) refl op)
 word_field words.Cond = known (codes "cond") (omega arith) refl
 word_field words.Enter = known (codes "enter") (omega arith) refl
 word_field words.Merge = known (codes "merge") (omega arith) refl

@@ -1,24 +1,19 @@
 -- A fetch and a store are the machine's events.
-use Rattle.std.proofs.Common.{◌≡◌, ℕ, ◌/◌, ◌<◌, cond, List, [], ◌∷◌, ◌++◌, length, set, get_or, Option, Some, None, sym, ap, ◌∙◌, refl, subst, ⊎_elim}
+use Rattle.std.proofs.Common.{◌≡◌, ℕ, ◌/◌, ◌<◌, List, [], ◌∷◌, ◌++◌, length, set, get_or, Option, Some, None, sym, ap, ◌∙◌, refl, subst, ⊎_elim}
 use Rattle.std.specs.Prelude.{slice_get, option_and_then}
-use Rattle.std.proofs.lemmas.Bool.{cases_eq, eq-eqb, ne_eqb}
+use Rattle.std.proofs.lemmas.Bool.{cases_eq}
 use Rattle.std.proofs.lemmas.List.{get_or-set_same, get_or-set_other, length-set}
 use Rattle.std.proofs.lemmas.Option.{slice_get-get_or, get_or_from_slice_get, same_Some}
 use Rattle.tags.specs.declared.value.Value.{Value}
 use Rattle.tags.specs.declared.token.Cont.{Cont}
-use Rattle.semantics.specs.Machine.{CellState, Vacant, Full, Deferred, Store, put_at, with_cell, Fetches, Stores, answers}
+use Rattle.semantics.specs.Machine.{CellState, Vacant, Full, Deferred, Store, with_cell, Fetches, Stores, answers}
+use Rattle.semantics.proofs.Stores.{put_other, put_same}
 use Rattle.istructure.specs.declared.FetchAnswer.{FetchAnswer}
 use Rattle.istructure.specs.declared.StoreAnswer.{StoreAnswer}
 use Rattle.istructure.specs.OwnCells.{OwnCells, place_of, cell_at, with_cell_at, waiting_in}
 use Rattle.istructure.specs.Answered.{FetchedAt, StoredAt}
 use Rattle.istructure.specs.Holds.{HoldsCells, FetchIsEvent, StoreIsEvent, fetch_tokens}
 use Rattle.istructure.proofs.Places.{place_is, is_place, cell_at-place, place_from_state, one_cell}
-
-put_same : {A : Type 0} (f : ℕ → A) (x y : ℕ) (a : A) → x ≡ y → put_at f x a y ≡ a
-put_same f x y a e = ap (λ b. cond b a (f y)) (eq-eqb x y e)
-
-put_other : {A : Type 0} (f : ℕ → A) (x y : ℕ) (a : A) → (x ≡ y → ⊥) → put_at f x a y ≡ f y
-put_other f x y a e = ap (λ b. cond b a (f y)) (ne_eqb x y e)
 
 -- WHAT A CHANGED CELL LEAVES
 module _ (own : OwnCells) (x : ℕ) (old new : CellState) (e : cell_at own x ≡ Some old) where

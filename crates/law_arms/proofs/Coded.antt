@@ -3,20 +3,20 @@ use Rattle.std.proofs.Common.{◌≡◌, ℕ, zero, suc, ◌+◌, ◌-◌, ◌<�
 use Rattle.std.specs.Prelude.{Contains}
 use Rattle.std.proofs.lemmas.Bool.{cases_eq, cases_Bool}
 use Rattle.std.proofs.lemmas.Option.{slice_get_within}
+use Rattle.lemmas.proofs.Contains.{contains_cases, contains_none}
+use Rattle.lemmas.proofs.SliceGet.{get_some}
 use Rattle.tags.specs.declared.token.Port.TheVariants.{Left}
 use Rattle.semantics.specs.Graph.{Block, Flow}
 use Rattle.semantics.specs.Meaning.{Main}
 use Rattle.semantics.specs.Plan.{Plan}
 use Rattle.semantics.specs.Cause.{is_looped, looped_from}
 use Rattle.law_net.specs.Roles.{one, total}
-use Rattle.law_net.proofs.Members.{contains_cases, contains_none}
 use Rattle.law_contexts.specs.Parts.{Line, inlet, signal, Item, item, Spot, spot_of}
 use Rattle.law_contexts.specs.Contexts.{Wires}
 use Rattle.law_contexts.specs.Theorem.{IsGood}
 use Rattle.law_arms.specs.Coded.{AllCoded}
-use Rattle.law_arms.proofs.Sames.{hits_at}
+use Rattle.law_contexts.proofs.Sames.{hits_at}
 use Rattle.law_arms.proofs.Fed.{cons_once}
-use Rattle.law_arms.proofs.Invoked.{there_get}
 use Rattle.law_arms.proofs.Pigeons.{few_pigeons}
 
 module _ (stage : ℕ) (fl : Flow) (p : Plan) (w : Wires) (good : IsGood stage fl p w) where
@@ -87,7 +87,7 @@ module _ (stage : ℕ) (fl : Flow) (p : Plan) (w : Wires) (good : IsGood stage f
   -- where the turns of a looped block are
   turns_lie : (j : ℕ) → j < plain → is_looped fl j ≡ true → (plain ≤ w.variant j) × (w.variant j < plain + looped)
   turns_lie j h l =
-      let g = there_get fl.blocks j h in
+      let g = get_some fl.blocks j h in
       let x = good.wired.turns j g.0 g.1 l in
       let within = slice_get_within p.program.blocks (w.variant j) x.code x.there in let count = blocks_are in
       (good.wired.others j g.0 g.1 l, omega (arith, within, count))

@@ -1,10 +1,11 @@
 -- Along a run: a token at a port is that of one item, whose part stands there; so a port gets one token, and all of one block.
-use Rattle.std.proofs.Common.{◌≡◌, ℕ, ◌+◌, ◌<◌, ◌≤◌, Bool, true, false, not, ◌||◌, ℤ, List, [], ◌∷◌, ◌++◌, map, length, refl, sym, ap, ◌∙◌, subst, inl, inr, ◌⊎◌, arith, true≢false, ltb-true, eqb-true, eq-eqb, ◌==◌, nat_lt, Option, Some, None, if◌then◌else◌}
+use Rattle.std.proofs.Common.{◌≡◌, ℕ, ◌+◌, ◌<◌, ◌≤◌, Bool, true, false, not, ◌||◌, ℤ, List, [], ◌∷◌, ◌++◌, map, length, refl, sym, ap, ◌∙◌, subst, inl, inr, ◌⊎◌, arith, true≢false, ltb-true, eqb-true, ◌==◌, nat_lt, Option, Some, None, if◌then◌else◌}
 use Rattle.std.specs.Prelude.{Contains, flat_map, slice_get}
-use Rattle.std.proofs.lemmas.Bool.{and_parts, and_from}
+use Rattle.std.proofs.lemmas.Bool.{and_parts}
 use Rattle.std.proofs.lemmas.Option.{slice_get_within}
 use Rattle.std.proofs.lemmas.List.Sorted.{Contains-permutation}
 use Rattle.std.proofs.lemmas.List.Elements.{Contains-append_left, Contains-append_right}
+use Rattle.lemmas.proofs.Contains.{contains_cases, contains_head, contains_mapped, contains_none}
 use Rattle.tags.specs.declared.value.Value.{Value}
 use Rattle.tags.specs.declared.token.Port.{Port}
 use Rattle.tags.specs.declared.token.Port.TheVariants.{Left, Right}
@@ -19,12 +20,13 @@ use Rattle.semantics.specs.Plan.{Plan}
 use Rattle.semantics.specs.Program.{CodeBlock, instr_at}
 use Rattle.semantics.specs.Rule.{token}
 use Rattle.semantics.specs.Machine.{Machine}
-use Rattle.semantics.specs.Orderly.{met, often, is_at, eq_port, is_entry, same_block}
+use Rattle.semantics.specs.Orderly.{met, often, is_at, is_entry, same_block}
+use Rattle.semantics.proofs.Ports.{eq_port_true, is_at_itself}
+use Rattle.semantics.proofs.BlockPlaces.{same_in}
 use Rattle.law_reuse.proofs.Stands.{instr_in}
 use Rattle.law_net.specs.Roles.{one}
 use Rattle.law_net.proofs.Orders.{total-IsPermutation, total-map}
-use Rattle.law_net.proofs.Ports.{same_in, entry_in}
-use Rattle.law_net.proofs.Members.{contains_head, contains_cases, contains_none}
+use Rattle.law_net.proofs.Ports.{entry_in}
 use Rattle.law_contexts.specs.Parts.{Part, Entry, Line, Merge, CondEnd, Sender, Landing, Giver, Taker, Drainer, Asked, NextAsked, Held, Drained, Shown, Done, Freed, inlet, Item, Firing, Spot, spot_of, same_spot}
 use Rattle.law_contexts.specs.Blocks.{Wiring, is_loop, op_of, merge_cond, there_in, is_store}
 use Rattle.law_contexts.specs.Contexts.{or_zero, Wires, block_in, code_in, site_in, wiring_in, IsContext, is_strict_in}
@@ -35,8 +37,8 @@ use Rattle.law_contexts.specs.Laws.{Fits, spot_there, way_fits, sender_way, arms
 use Rattle.law_contexts.specs.Stands.{Past, frame_of, ip_of, word_of, to_of, token_of, cell_to, came, only, but_cells, is_cell_token, events_taken, is_held, is_instr, is_entry_part, WasUsed}
 use Rattle.law_contexts.specs.Theorem.{IsGood}
 use Rattle.law_contexts.specs.Packages.{Keeps, AllFit, IsOnce, IsCaused, IsOfOneBlock}
-use Rattle.law_arms.proofs.Sames.{hits_at, hit_counted, spot_is, inlet_is}
-use Rattle.law_arms.proofs.Sends.{contains_map, all_from}
+use Rattle.law_contexts.proofs.Sames.{hits_at, hit_counted, spot_is, inlet_is}
+use Rattle.law_arms.proofs.Sends.{all_from}
 use Rattle.law_arms.proofs.Words.{Begins, AtEntry, AtInput, begin_cases}
 use Rattle.law_arms.proofs.Rivals.{two_ways, merge_arm, end_arm, flag_at, turn_last, turn_later, landing_arm, Order, Same, Before, After, order}
 use Rattle.law_arms.proofs.Nets.{all_of, all_born, came_all, came_total, came_split, taken_in, flat_contains, only_total, only_contains, count_total, cells_apart, one_passes, once_all, allowed_in, not_opposed}
@@ -48,20 +50,8 @@ use Rattle.law_arms.proofs.Gifts.{argument, Gift, GHeld, GAsked, GArgument, GFan
 abbrev often_op : Op → Bool
 often_op o = elim o as (λ x. Bool) [ Give k ↦ true | Take k ↦ true | _ ↦ false ]
 
-eq_port-true : (a b : Port) → eq_port a b ≡ true → a ≡ b
-eq_port-true Left Left h = refl
-eq_port-true Right Right h = refl
-eq_port-true a b h = absurd (true≢false (sym h))
-
-eq_port-refl : (a : Port) → eq_port a a ≡ true
-eq_port-refl Left = refl
-eq_port-refl Right = refl
-
-pub is_at-refl : (f ip : ℕ) (r : Port) → is_at f ip r (To.Instr f ip r) ≡ true
-is_at-refl f ip r = and_from _ _ (and_from _ _ (eq-eqb f f refl) (eq-eqb ip ip refl)) (eq_port-refl r)
-
 at_instr : (f ip : ℕ) (r : Port) (g jp : ℕ) (s : Port) → is_at f ip r (To.Instr g jp s) ≡ true → (g ≡ f) × (jp ≡ ip) × (s ≡ r)
-at_instr f ip r g jp s h = let a = and_parts _ _ h in let d = and_parts _ _ a.0 in (eqb-true g f d.0, eqb-true jp ip d.1, sym (eq_port-true r s a.1))
+at_instr f ip r g jp s h = let a = and_parts _ _ h in let d = and_parts _ _ a.0 in (eqb-true g f d.0, eqb-true jp ip d.1, sym (eq_port_true r s a.1))
 
 pub frame_main : (fl : Flow) (fired : List Firing) → frame_at fl fired Main ≡ Some 0
 frame_main fl [] = refl
@@ -252,19 +242,19 @@ module _ (stage : ℕ) (fl : Flow) (p : Plan) (w : Wires) (inputs : List ℤ) (q
   from_met f ip r v c =
       let ts = events_taken q.events ++ m.pool in
       let t = token (To.Instr f ip r) v in
-      let i = contains_map (token_of fl p w net.fired) (only (λ (i : Item). not (is_held i.inlet.part)) (came fl net)) t (Contains-permutation _ _ t k.follows.met (keeps_token ts t c refl)) in (
+      let i = contains_mapped (token_of fl p w net.fired) (only (λ (i : Item). not (is_held i.inlet.part)) (came fl net)) t (Contains-permutation _ _ t k.follows.met (keeps_token ts t c refl)) in (
         i.0,
-        came_at f ip r i.0 (came_all fl net i.0 (only_contains (λ (i : Item). not (is_held i.inlet.part)) (came fl net) i.0 i.1).0) (ap (λ (t : Token). is_at f ip r t.to) i.2 ∙ is_at-refl f ip r),
+        came_at f ip r i.0 (came_all fl net i.0 (only_contains (λ (i : Item). not (is_held i.inlet.part)) (came fl net) i.0 i.1).0) (ap (λ (t : Token). is_at f ip r t.to) i.2 ∙ is_at_itself f ip r),
         ap (λ (t : Token). t.word) i.2,
       )
 
   pub from_pool : (f ip : ℕ) (r : Port) (v : Word) → Contains m.pool (token (To.Instr f ip r) v) → (i : Item) × Contains net.pending i × CameAt f ip r i × (word_of fl p w net.fired i.word ≡ v)
   from_pool f ip r v c =
       let t = token (To.Instr f ip r) v in
-      let i = contains_map (token_of fl p w net.fired) net.pending t (Contains-permutation _ _ t k.follows.stands.pool c) in (
+      let i = contains_mapped (token_of fl p w net.fired) net.pending t (Contains-permutation _ _ t k.follows.stands.pool c) in (
         i.0,
         i.1,
-        came_at f ip r i.0 (Contains-append_left net.pending (net.waiting ++ flat_map (takes fl) net.fired) i.0 i.1) (ap (λ (t : Token). is_at f ip r t.to) i.2 ∙ is_at-refl f ip r),
+        came_at f ip r i.0 (Contains-append_left net.pending (net.waiting ++ flat_map (takes fl) net.fired) i.0 i.1) (ap (λ (t : Token). is_at f ip r t.to) i.2 ∙ is_at_itself f ip r),
         ap (λ (t : Token). t.word) i.2,
       )
 

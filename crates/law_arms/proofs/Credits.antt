@@ -3,6 +3,7 @@ use Rattle.std.proofs.Common.{◌≡◌, ℕ, ◌-◌, ◌<◌, ◌≤◌, Bool,
 use Rattle.std.specs.Prelude.{Contains, flat_map}
 use Rattle.std.proofs.lemmas.Bool.{cases_eq, false_from_ne_true}
 use Rattle.std.proofs.lemmas.List.Elements.{Contains-append_left, Contains-append_right}
+use Rattle.lemmas.proofs.Contains.{contains_cases, contains_head, contains_none, contains_tail}
 use Rattle.tags.specs.declared.token.Port.TheVariants.{Left}
 use Rattle.tags.specs.declared.token.Cont.{Cont}
 use Rattle.tags.specs.declared.slot.SlotState.TheVariants.{Empty, Waiter, Draining}
@@ -12,7 +13,6 @@ use Rattle.semantics.specs.Meaning.{Context, Turned}
 use Rattle.semantics.specs.Plan.{Plan}
 use Rattle.semantics.specs.Machine.{Machine}
 use Rattle.law_net.specs.Roles.{one, total}
-use Rattle.law_net.proofs.Members.{contains_head, contains_tail, contains_cases, contains_none}
 use Rattle.law_contexts.specs.Parts.{Part, Entry, Line, Opener, Framer, Taker, Drainer, Drained, Inlet, inlet, Item, Firing, spot_of, Role, role}
 use Rattle.law_contexts.specs.Blocks.{Side, side, is_loop, waits_in, bound_at, there_in}
 use Rattle.law_contexts.specs.Contexts.{Wires, or_zero, block_in, site_in, wiring_in, IsContext}

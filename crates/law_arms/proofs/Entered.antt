@@ -2,6 +2,8 @@
 use Rattle.std.proofs.Common.{◌≡◌, ℕ, suc, ◌+◌, ◌<◌, Bool, true, false, not, ◌&&◌, ℤ, List, refl, sym, ap, ◌∙◌, subst, inl, inr, ◌⊎◌, arith, true≢false, ltb-true, Some, None, ◌==◌, if◌then◌else◌}
 use Rattle.std.specs.Prelude.{Contains}
 use Rattle.std.proofs.lemmas.Bool.{and_parts}
+use Rattle.lemmas.proofs.Contains.{contains_none}
+use Rattle.lemmas.proofs.Bools.{not_not}
 use Rattle.tags.specs.declared.token.Port.TheVariants.{Right}
 use Rattle.tags.specs.declared.value.Value.{Value}
 use Rattle.operators.specs.Values.{truth}
@@ -11,7 +13,6 @@ use Rattle.semantics.specs.Graph.{Block, Flow}
 use Rattle.semantics.specs.Meaning.{Context, Main, Called, Turned}
 use Rattle.semantics.specs.Cause.{is_turn}
 use Rattle.semantics.specs.Plan.{Plan}
-use Rattle.law_net.proofs.Members.{contains_none}
 use Rattle.law_contexts.specs.Parts.{Part, Line, Trigger, Gate, Merge, Framer, Linker, Sender, Landing, Giver, Taker, Drainer, Result, TurnCont, TurnFlag, TurnValue, Asker, NextFramer, NextSender, LastReturn, DrainReturn, CondEnd, End, Asked, NextAsked, Held, Drained, Inlet, inlet, Note, Datum, Item, item, Firing, spot_of, role, role_of, turn_in}
 use Rattle.law_contexts.specs.Blocks.{Side, side, is_switch, is_kind, cond_kind, merge_cond, is_cell, is_loop, source_count, there_in, waits_in, lies_in, entered, leaves_in, arm_round, outside, flag}
 use Rattle.law_contexts.specs.Contexts.{Wires, block_in, site_in, wiring_in, IsContext, child}
@@ -30,10 +31,6 @@ use Rattle.law_arms.proofs.Fed.{MadeAt, ByGift, ByWire, made_at, turn_none}
 
 abbrev choice_way : Choice → Bool → Way
 choice_way k t = record { choice = k; side = t }
-
-not_not : (t : Bool) → not (not t) ≡ t
-not_not true = refl
-not_not false = refl
 
 -- the arms of a wire's inlet are those of its region
 wired_arms : (fl : Flow) (c : Context) (r : Part) (way : ℕ) → is_given (block_in fl c) r ≡ false → arms_of fl c r way ≡ in_region fl c (entered (block_in fl c) r way)

@@ -2,6 +2,7 @@
 use Rattle.std.proofs.Common.{◌≡◌, ◌≢◌, ℕ, zero, suc, ◌+◌, ◌<◌, ◌≤◌, Bool, true, false, ℤ, List, [], ◌∷◌, length, refl, sym, ap, ◌∙◌, subst, inl, inr, ◌⊎◌, arith, true≢false, lt-ltb, ltb-true, Option, Some, None, if◌then◌else◌}
 use Rattle.std.specs.Prelude.{Contains}
 use Rattle.std.proofs.lemmas.Bool.{and_parts, cases_eq, cases_Bool}
+use Rattle.lemmas.proofs.Contains.{contains_cases, contains_none}
 use Rattle.tags.specs.declared.token.Port.TheVariants.{Left}
 use Rattle.tags.specs.declared.value.Value.{Value}
 use Rattle.tags.specs.declared.value.Value.TheVariants.{Int}
@@ -10,7 +11,6 @@ use Rattle.semantics.specs.Meaning.{Context, Main, Called, Turned}
 use Rattle.semantics.specs.Plan.{Plan}
 use Rattle.law_net.specs.Roles.{one}
 use Rattle.law_net.proofs.Parts.{one-cases}
-use Rattle.law_net.proofs.Members.{contains_cases, contains_none}
 use Rattle.law_contexts.specs.Parts.{Part, Entry, Line, Framer, Fanned, Linker, Sender, Landing, CallDone, Giver, Taker, Drainer, LoopDone, Result, Asker, NextFramer, NextFanned, NextSender, LastReturn, DrainReturn, End, Asked, NextAsked, Held, Drained, Shown, Done, Freed, Inlet, inlet, Note, Datum, FrameOf, BackTo, ToHost, signal, Item, item, Firing, Spot, spot_of, same_spot, same_part, Role, role, role_of, turn_in}
 use Rattle.law_contexts.specs.Blocks.{Side, there_in, is_cell, is_loop, source_count}
 use Rattle.law_contexts.specs.Contexts.{Wires, block_in, site_in, wiring_in, IsContext, child, next, is_strict_in}
@@ -19,7 +19,7 @@ use Rattle.law_contexts.specs.Firings.{takes, makes, begins, input_items, sent_w
 use Rattle.law_contexts.specs.Laws.{maker_of}
 use Rattle.law_contexts.specs.Theorem.{IsGood}
 use Rattle.law_contexts.specs.Packages.{InputsFit, AllFit, InletsAreFed}
-use Rattle.law_arms.proofs.Sames.{hits_at, hit_found, hit_never, same_spot-true, same_part-true, same_part-refl, inlet_found, inlet_counted}
+use Rattle.law_contexts.proofs.Sames.{hits_at, hit_found, hit_never, same_spot-true, same_part-true, same_part-refl, inlet_found, inlet_counted}
 use Rattle.law_arms.proofs.Sends.{side_by, gives_by, asks_cell, sent_along, IsSent, sent_is, made_cases, made_hits, each_hits, sent_facts, in_context}
 use Rattle.law_arms.proofs.Invoked.{not_loop, Child, ByCall, ByLoop, child_cases, child_here, lawful_at}
 use Rattle.law_arms.proofs.Gifts.{argument, Gift, GHeld, GAsked, GArgument, GFanned, GEntry, GInput, GShown, GLanding, GLeaves, GDrains, GFreed, GDone, GCallDone, GGiver, GTaker, GNextFramer, GNextAsked, GNextFanned, GNextEntry, GNextInput, GLoopDone, there_as, there_in_context, gift_of}

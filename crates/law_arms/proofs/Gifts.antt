@@ -1,11 +1,11 @@
 -- What a firing gives besides what it sends along wires, case by case.
 use Rattle.std.proofs.Common.{◌≡◌, ℕ, zero, suc, ◌+◌, Bool, true, false, List, [], ◌∷◌, refl, sym, ap, ◌∙◌, subst, inl, inr, ◌⊎◌, arith, true≢false, ltb-true, nat_lt, if◌then◌else◌}
 use Rattle.std.specs.Prelude.{Contains}
+use Rattle.lemmas.proofs.Contains.{contains_cases, contains_head, contains_none, contains_tail}
 use Rattle.tags.specs.declared.value.Value.{Value}
 use Rattle.tags.specs.declared.token.Port.TheVariants.{Left, Right}
 use Rattle.semantics.specs.Graph.{Flow}
 use Rattle.semantics.specs.Meaning.{Context, Main, Called, Turned}
-use Rattle.law_net.proofs.Members.{contains_head, contains_tail, contains_cases, contains_none}
 use Rattle.law_contexts.specs.Parts.{Part, Entry, Line, Framer, Fanned, Linker, Sender, Landing, CallDone, Giver, Taker, Drainer, LoopDone, Result, Asker, NextFramer, NextFanned, NextSender, LastReturn, DrainReturn, End, Asked, NextAsked, Drained, Shown, Done, Freed, inlet, Datum, FrameOf, BackTo, signal, Item, item, Firing}
 use Rattle.law_contexts.specs.Blocks.{is_cell, is_loop}
 use Rattle.law_contexts.specs.Contexts.{Wires, block_in, child, next, is_strict_in}

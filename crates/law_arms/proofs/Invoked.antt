@@ -1,5 +1,5 @@
 -- What a call or a loop invokes, and the code of every context.
-use Rattle.std.proofs.Common.{◌≡◌, ℕ, zero, suc, ◌-◌, ◌<◌, Bool, true, false, ◌||◌, List, [], ◌∷◌, map, length, sum, refl, sym, ap, ◌∙◌, subst, inl, inr, ◌⊎◌, arith, true≢false, Option, Some, None, nat_lt, lt-ltb, eq-eqb, if◌then◌else◌}
+use Rattle.std.proofs.Common.{◌≡◌, ℕ, zero, suc, ◌-◌, ◌<◌, Bool, true, false, List, [], ◌∷◌, map, length, sum, refl, sym, ap, ◌∙◌, subst, inl, inr, ◌⊎◌, arith, true≢false, Option, Some, None, lt-ltb, eq-eqb, if◌then◌else◌}
 use Rattle.std.specs.Prelude.{slice_get, count_by}
 use Rattle.semantics.specs.declared.graph.Kind.{Kind}
 use Rattle.semantics.specs.Graph.{Block, Flow, Node, node_at}
@@ -10,6 +10,9 @@ use Rattle.law_determinacy.proofs.Laws.{well_at}
 use Rattle.law_net.specs.Roles.{one, total}
 use Rattle.law_net.proofs.Orders.{total-sum_by}
 use Rattle.std.proofs.lemmas.List.Sums.{sum-map}
+use Rattle.std.proofs.lemmas.Bool.{or_cases}
+use Rattle.std.proofs.lemmas.Option.{same_Some}
+use Rattle.semantics.proofs.Lines.{line_listed}
 use Rattle.law_contexts.specs.Blocks.{is_kind, call_kind, loop_kind, strict_kind, is_call, is_loop, is_strict, invokes, source_count, outputs_in, kind_results, result_count}
 use Rattle.law_contexts.specs.Contexts.{Wires, or_zero, or_none, block_in, code_in, site_in, wiring_in, child, IsContext}
 use Rattle.law_contexts.specs.Wires.{IsWiredCode, Runs, AreLawful, plain_site, turn_site}
@@ -42,10 +45,6 @@ strict_or_not kind h = absurd (true≢false (sym h))
 pub strict_call : (b : Block ℕ) (n : ℕ) → is_strict b n ≡ true → is_call b n ≡ true
 strict_call b n h = let k = kind_line strict_kind b n h in ap (λ (o : Option (Node ℕ)). elim o as (λ x. Bool) [ None ↦ false | Some line ↦ call_kind line.kind ]) k.1 ∙ strict_or_not k.0.kind k.2
 
-pub or_cases : (x y : Bool) → (x || y) ≡ true → (x ≡ true) ⊎ (y ≡ true)
-or_cases true y h = inl refl
-or_cases false y h = inr h
-
 call_names : (fl : Flow) (m : ℕ) (kind : Kind ℕ) → call_kind kind ≡ true → (f : ℕ) × (callee kind ≡ Some f) × (kind_results fl m kind ≡ outputs_in (slice_get fl.blocks f))
 call_names fl m (Kind.Call f) h = (f, refl, refl)
 call_names fl m (Kind.StrictCall f) h = (f, refl, refl)
@@ -54,17 +53,6 @@ call_names fl m kind h = absurd (true≢false (sym h))
 pub loop_names : (fl : Flow) (m : ℕ) (kind : Kind ℕ) → loop_kind kind ≡ true → (f : ℕ) × (callee kind ≡ Some f) × (kind_results fl m kind ≡ m) × (loops_to f kind ≡ true)
 loop_names fl m (Kind.Loop f k) h = (f, refl, refl, eq-eqb f f refl)
 loop_names fl m kind h = absurd (true≢false (sym h))
-
-some_line : (a b : Node ℕ) → Some a ≡ Some b → a ≡ b
-some_line a b e = cc
-
--- a block's line at a node is in its list
-node_listed : (b : Block ℕ) (n : ℕ) (line : Node ℕ) → node_at b n ≡ Some line → slice_get b.nodes (n - b.inputs) ≡ Some line
-node_listed b n line e = go (nat_lt n b.inputs) e
-  where
-    go : (t : Bool) → (if t then None else slice_get b.nodes (n - b.inputs)) ≡ Some line → slice_get b.nodes (n - b.inputs) ≡ Some line
-    go true e = absurd (cc)
-    go false e = e
 
 counted_line : (f : ℕ) (nodes : List (Node ℕ)) (j : ℕ) (line : Node ℕ) → slice_get nodes j ≡ Some line → loops_to f line.kind ≡ true → 0 < total (λ (n : Node ℕ). one (loops_to f n.kind)) nodes
 counted_line f [] j line e h = absurd (cc)
@@ -78,19 +66,6 @@ counted_block g bs i b e h = let m = go bs i e in let s = sum-map g bs in let t 
     go [] i e = absurd (cc)
     go (x ∷ bs) zero e = let same : x ≡ b = cc in let o = ap g same in omega (arith, o, h)
     go (x ∷ bs) (suc i) e = let m = go bs i e in omega (arith, m)
-
--- a list has what stands within it
-pub there_get : (xs : List (Block ℕ)) (i : ℕ) → i < length xs → (b : Block ℕ) × (slice_get xs i ≡ Some b)
-there_get [] i h = absurd (omega (arith, h))
-there_get (x ∷ xs) zero h = (x, refl)
-there_get (x ∷ xs) (suc i) h = there_get xs i (omega (arith, h))
-
--- a loop's body is looped
-pub looped_by : (fl : Flow) (i n f : ℕ) (b : Block ℕ) (line : Node ℕ) → slice_get fl.blocks i ≡ Some b → node_at b n ≡ Some line → loops_to f line.kind ≡ true → is_looped fl f ≡ true
-looped_by fl i n f b line e g h =
-    let some = counted_line f b.nodes (n - b.inputs) line (node_listed b n line g) h in
-    let many = count_total (λ (n : Node ℕ). loops_to f n.kind) b.nodes in
-    lt-ltb 0 (sum (map (λ (b : Block ℕ). count_by (λ (n : Node ℕ). loops_to f n.kind) b.nodes) fl.blocks)) (counted_block (λ (b : Block ℕ). count_by (λ (n : Node ℕ). loops_to f n.kind) b.nodes) fl.blocks i b e (omega (arith, some, many)))
 
 module _ (stage : ℕ) (fl : Flow) (p : Plan) (w : Wires) (good : IsGood stage fl p w) where
   -- BLOCKS OF CONTEXTS
@@ -120,7 +95,7 @@ module _ (stage : ℕ) (fl : Flow) (p : Plan) (w : Wires) (good : IsGood stage f
         record {
           number = f;
           numbered = number;
-          named = λ line' e'. let same : line ≡ line' = some_line line line' (sym e ∙ e') in ap (λ (l : Node ℕ). callee l.kind) (sym same) ∙ g;
+          named = λ line' e'. let same : line ≡ line' = same_Some line line' (sym e ∙ e') in ap (λ (l : Node ℕ). callee l.kind) (sym same) ∙ g;
           found = well.1 ∙ ap Some (sym block);
           inputs = ap (λ (b : Block ℕ). b.inputs) block ∙ well.2 ∙ sym (ap (λ (o : Option (Node ℕ)). elim o as (λ x. ℕ) [ None ↦ 0 | Some line ↦ length line.sources ]) e);
           some_input = subst (λ (b : Block ℕ). 0 < b.inputs) (sym block) well.3;
@@ -179,7 +154,7 @@ module _ (stage : ℕ) (fl : Flow) (p : Plan) (w : Wires) (good : IsGood stage f
       let number : Some names.0 ≡ Some f = sym names.1 ∙ sym (ap callee_of k.1) ∙ sym (ap (λ (o : Option (Block ℕ)). callee_in o n) b) ∙ g in
       let same : names.0 ≡ f = cc in
       let loops = subst (λ (f : ℕ). loops_to f k.0.kind ≡ true) same names.3 in
-      let one' = counted_line f (block_in fl c).nodes (n - (block_in fl c).inputs) k.0 (node_listed (block_in fl c) n k.0 k.1) loops in
+      let one' = counted_line f (block_in fl c).nodes (n - (block_in fl c).inputs) k.0 (line_listed (block_in fl c) n k.0 k.1) loops in
       let many = count_total (λ (n : Node ℕ). loops_to f n.kind) (block_in fl c).nodes in
       let at = block_at c b in
       lt-ltb 0 (sum (map (λ (b : Block ℕ). count_by (λ (n : Node ℕ). loops_to f n.kind) b.nodes) fl.blocks)) (counted_block (λ (b : Block ℕ). count_by (λ (n : Node ℕ). loops_to f n.kind) b.nodes) fl.blocks at.0 (block_in fl c) at.1 (omega (arith, one', many)))

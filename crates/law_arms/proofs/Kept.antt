@@ -3,6 +3,8 @@ use Rattle.std.proofs.Common.{◌≡◌, ℕ, zero, suc, ◌+◌, ◌-◌, ◌<�
 use Rattle.std.specs.Prelude.{Contains, flat_map, slice_get}
 use Rattle.std.proofs.lemmas.Bool.{cases_Bool, cases_eq}
 use Rattle.std.proofs.lemmas.List.Sorted.{Contains-permutation, IsPermutation-sym}
+use Rattle.lemmas.proofs.Contains.{contains_cases, contains_head, contains_map, contains_none, contains_tail}
+use Rattle.lemmas.proofs.SliceGet.{get_some}
 use Rattle.tags.specs.declared.token.Port.TheVariants.{Left, Right}
 use Rattle.tags.specs.declared.token.Cont.{Cont}
 use Rattle.tags.specs.declared.token.To.{To}
@@ -20,12 +22,10 @@ use Rattle.semantics.specs.Credits.{IsPart, IsLoop}
 use Rattle.semantics.specs.Cause.{is_looped}
 use Rattle.law_reuse.specs.Bounds.{OnlyAsks}
 use Rattle.law_reuse.proofs.Claims.{holder_here}
-use Rattle.law_reuse.proofs.Members.{contains_map}
 use Rattle.law_reuse.proofs.Stands.{Found, found}
 use Rattle.law_net.specs.Roles.{one, total}
 use Rattle.law_net.proofs.Orders.{total-append}
 use Rattle.law_net.proofs.Net.{Waits, Fires}
-use Rattle.law_net.proofs.Members.{contains_head, contains_tail, contains_cases, contains_none}
 use Rattle.law_contexts.specs.Parts.{Part, Opener, Giver, Drainer, Drained, Landing, Held, inlet, signal, Item, item, Firing}
 use Rattle.law_contexts.specs.Blocks.{Wiring, Site, is_loop, bound_at, waits_in}
 use Rattle.law_contexts.specs.Contexts.{Wires, block_in, code_in, site_in, wiring_in, IsContext}
@@ -36,7 +36,7 @@ use Rattle.law_contexts.specs.Stands.{Past, came, is_item_at, items_at, granted_
 use Rattle.law_contexts.specs.Theorem.{IsGood}
 use Rattle.law_contexts.specs.Packages.{Keeps, BoundIsKept}
 use Rattle.law_arms.specs.Coded.{AllCoded}
-use Rattle.law_arms.proofs.Invoked.{block_here, code_at, there_get}
+use Rattle.law_arms.proofs.Invoked.{block_here, code_at}
 use Rattle.law_arms.proofs.Comes.{from_met, laid, instr_here}
 use Rattle.law_arms.proofs.Pigeons.{items_total, item_there}
 use Rattle.law_arms.proofs.Turns.{granted_few, given_enough}
@@ -269,8 +269,8 @@ module _ (stage : ℕ) (fl : Flow) (p : Plan) (w : Wires) (inputs : List ℤ) (q
           )
 
       pick : (fd.b < length fl.blocks) ⊎ ((i : ℕ) × (i < length fl.blocks) × (is_looped fl i ≡ true) × (fd.b ≡ w.variant i)) → Kept f loop b s
-      pick (inl h) = let g = there_get fl.blocks fd.b h in at_site (Runs fl w fd.b) (plain_site g.0 fd.b) (w.wiring fd.b) (good.wired.plain fd.b g.0 g.1) fd.b g.1 refl
-      pick (inr (i, h, l, e)) = let g = there_get fl.blocks i h in at_site (Runs fl w (w.variant i)) (turn_site g.0 i (w.variant i)) (w.wiring (w.variant i)) (good.wired.turns i g.0 g.1 l) i g.1 e
+      pick (inl h) = let g = get_some fl.blocks fd.b h in at_site (Runs fl w fd.b) (plain_site g.0 fd.b) (w.wiring fd.b) (good.wired.plain fd.b g.0 g.1) fd.b g.1 refl
+      pick (inr (i, h, l, e)) = let g = get_some fl.blocks i h in at_site (Runs fl w (w.variant i)) (turn_site g.0 i (w.variant i)) (w.wiring (w.variant i)) (good.wired.turns i g.0 g.1 l) i g.1 e
 
   -- the bounds of loops
   pub bound_is_kept : AllCoded fl p w → BoundIsKept fl p inputs q m

@@ -6,6 +6,7 @@ use Rattle.std.proofs.lemmas.Option.{slice_get_within}
 use Rattle.std.proofs.lemmas.List.{length-map}
 use Rattle.std.proofs.lemmas.List.Sorted.{length_permutation, Contains-permutation}
 use Rattle.std.proofs.lemmas.List.Elements.{All-contains}
+use Rattle.lemmas.proofs.Contains.{contains_cases, contains_head, contains_none}
 use Rattle.tags.specs.declared.token.Port.{Port}
 use Rattle.tags.specs.declared.token.Port.TheVariants.{Left}
 use Rattle.tags.specs.declared.token.Cont.{Cont}
@@ -19,7 +20,6 @@ use Rattle.semantics.specs.Plan.{Plan, landing, landing_in}
 use Rattle.semantics.specs.Program.{Instr, CodeBlock, first_of, instr_at}
 use Rattle.semantics.specs.Machine.{Machine}
 use Rattle.law_once.specs.Alike.{HasLanding, offset_of}
-use Rattle.law_net.proofs.Members.{contains_head, contains_cases, contains_none}
 use Rattle.law_contexts.proofs.Words.{carries_of}
 use Rattle.law_contexts.specs.Parts.{Part, Line, Linker, Landing, CallDone, Giver, Taker, Drainer, Result, Asker, LastReturn, DrainReturn, End, Inlet, inlet, Note}
 use Rattle.law_contexts.specs.Blocks.{side, op_of, line_op, kind_op, there_in, is_call, is_loop, call_kind, loop_kind, code_called, callee_code, result_count}

@@ -1,4 +1,3 @@
-pub mod Sames
 pub mod Regions
 pub mod Sends
 pub mod Sites

@@ -16,6 +16,7 @@ use Rattle.semantics.specs.Program.{Instr, first_of, instr_at}
 use Rattle.semantics.specs.Holders.{Holder, holder_at, holder_of}
 use Rattle.semantics.specs.Rule.{slot_of}
 use Rattle.semantics.specs.Credits.{IsPart, IsLink, IsLoop}
+use Rattle.semantics.proofs.Lines.{body_is_looped}
 use Rattle.law_reuse.proofs.Claims.{holder_here}
 use Rattle.law_reuse.proofs.Stands.{Stands, instr_in}
 use Rattle.law_contexts.specs.Parts.{Part, Line, Opener, Linker, Landing, Taker, Inlet, inlet}
@@ -23,7 +24,7 @@ use Rattle.law_contexts.specs.Blocks.{Wiring, Site, side, loop_kind, is_call, is
 use Rattle.law_contexts.specs.Contexts.{Wires}
 use Rattle.law_contexts.specs.Wires.{IsWiredCode, IsInstr, leads_to, stands_at}
 use Rattle.law_contexts.specs.Theorem.{IsGood}
-use Rattle.law_arms.proofs.Invoked.{kind_line, loop_names, looped_by}
+use Rattle.law_arms.proofs.Invoked.{kind_line, loop_names}
 use Rattle.law_arms.proofs.Lands.{loop_code, one_dest}
 
 -- an instruction that opens is a loop's opener
@@ -74,7 +75,7 @@ module _ (stage : ℕ) (fl : Flow) (p : Plan) (w : Wires) (good : IsGood stage f
         let line = kind_line loop_kind s.block n l in
         let names = loop_names fl (length line.0.sources) line.0.kind line.2 in
         let well = (good.well.lines i s.block found n line.0 line.1).invokes names.0 names.1 in
-        let looped = looped_by fl i n names.0 s.block line.0 found line.1 names.3 in
+        let looped = body_is_looped fl i n names.0 s.block line.0 found line.1 names.3 in
         let code = good.wired.turns names.0 well.0 well.1 looped in
         let over = good.wired.others names.0 well.0 well.1 looped in let count = good.wired.plain_count in
         let callee : callee_code w.variant s.block n ≡ w.variant names.0 = ap (λ (o : Option (Node ℕ)). elim o as (λ x. ℕ) [ None ↦ 0 | Some line ↦ code_called w.variant line.kind ]) line.1 ∙ loop_code w.variant line.0.kind names.0 line.2 names.1 in

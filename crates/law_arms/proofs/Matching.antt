@@ -4,6 +4,7 @@ use Rattle.std.specs.Prelude.{Contains, flat_map, slice_get}
 use Rattle.std.proofs.lemmas.Bool.{cases_Bool, and_parts}
 use Rattle.std.proofs.lemmas.List.Sorted.{Contains-permutation}
 use Rattle.std.proofs.lemmas.List.Elements.{All-contains, Contains-append_left, Contains-append_right}
+use Rattle.lemmas.proofs.Contains.{contains_head, contains_mapped, contains_tail}
 use Rattle.tags.specs.declared.value.Value.{Value}
 use Rattle.tags.specs.declared.token.Port.{Port}
 use Rattle.tags.specs.declared.token.Port.TheVariants.{Left, Right}
@@ -19,7 +20,6 @@ use Rattle.semantics.specs.Plan.{Plan}
 use Rattle.semantics.specs.Program.{Instr}
 use Rattle.semantics.specs.Rule.{Seat, fires, fire_two, meets, outcome_of, rule_at, slot_of}
 use Rattle.semantics.specs.Machine.{Machine, slot_in, slot_used, excluded_by, stuck_rule, outputs_of, results_in, filled, unless_value, unless_back}
-use Rattle.law_net.proofs.Members.{contains_head, contains_tail}
 use Rattle.law_contexts.proofs.Words.{carries_of}
 use Rattle.law_contexts.specs.Parts.{Part, Line, Opener, Asked, NextAsked, Held, Drained, Shown, Done, Freed, Inlet, inlet, Note, Item, Firing}
 use Rattle.law_contexts.specs.Blocks.{is_loop, is_store, waits_in, there_in, op_of}
@@ -30,7 +30,7 @@ use Rattle.law_contexts.specs.Laws.{WordFits, Carries, spot_there, port_fits, is
 use Rattle.law_contexts.specs.Stands.{Past, frame_of, ip_of, word_of, to_of, token_of, cell_to, came, on_side, in_slot, only}
 use Rattle.law_contexts.specs.Theorem.{IsGood}
 use Rattle.law_contexts.specs.Packages.{Keeps, IsMatching}
-use Rattle.law_arms.proofs.Sends.{contains_map, first_taken, takes_first, first_context}
+use Rattle.law_arms.proofs.Sends.{first_taken, takes_first, first_context}
 use Rattle.law_arms.proofs.Nets.{only_contains, not_twice, taken_in}
 use Rattle.law_arms.proofs.Comes.{net, all_here, there_at, fits_in, one_spot, Strays, sender_one, code_there, laid, instr_here}
 use Rattle.law_arms.specs.Credits.{is_credit_part}
@@ -374,7 +374,7 @@ module _ (stage : ℕ) (fl : Flow) (p : Plan) (w : Wires) (inputs : List ℤ) (q
   -- no token is excluded, if none is that asks for a credit or gives one back
   pub is_matching : ((i : Item) → Contains here.pending i → is_credit_part i.inlet.part ≡ true → IsFree i i.inlet.part) → IsMatching fl p inputs q m
   is_matching credits t c =
-      let i = contains_map (token_of fl p w fired) here.pending t (Contains-permutation _ _ t k.follows.stands.pool c) in
+      let i = contains_mapped (token_of fl p w fired) here.pending t (Contains-permutation _ _ t k.follows.stands.pool c) in
       let there = (fits_in stage fl p w inputs q m good k i.0 (pending_in i.0 i.1)).there in
       subst (λ (t : Token). stuck_rule p.program m.store t.to t.word ≡ None) i.2 (pick i.0 i.1 there (cases_Bool (is_credit_part i.0.inlet.part)))
     where

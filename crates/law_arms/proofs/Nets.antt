@@ -3,12 +3,12 @@ use Rattle.std.proofs.Common.{◌≡◌, ℕ, zero, suc, ◌+◌, ◌<◌, ◌�
 use Rattle.std.specs.Prelude.{Contains, IsPermutation, flat_map, count_by}
 use Rattle.std.proofs.lemmas.List.Sorted.{IsPermutation-trans, IsPermutation-sym, IsPermutation-append, IsPermutation-append_left, Contains-permutation}
 use Rattle.std.proofs.lemmas.List.Elements.{All-contains, Contains-append_left, Contains-append_right, Contains-append_cases}
+use Rattle.lemmas.proofs.Contains.{contains_cases, contains_head, contains_none, contains_tail}
 use Rattle.tags.specs.declared.token.Token.{Token}
 use Rattle.semantics.specs.Graph.{Flow}
 use Rattle.law_net.specs.Roles.{one, total}
 use Rattle.law_net.proofs.Parts.{one-cases}
 use Rattle.law_net.proofs.Orders.{shuffled, Part, ◌⊕◌, total-append, total-sum_by, total-same}
-use Rattle.law_net.proofs.Members.{contains_head, contains_tail, contains_cases, contains_none}
 use Rattle.law_net.proofs.Net.{Waits, Fires}
 use Rattle.law_contexts.specs.Parts.{Item, Firing, spot_of, same_spot, Spot}
 use Rattle.law_contexts.specs.Contexts.{Wires}
@@ -16,7 +16,7 @@ use Rattle.law_contexts.specs.Around.{Choice}
 use Rattle.law_contexts.specs.Firings.{Config, Move, begin, begins, takes, makes, own_takes, renewed, ProperMoves, Still, Then}
 use Rattle.law_contexts.specs.Laws.{Allowed, IsSoundNet, InArm, says}
 use Rattle.law_contexts.specs.Stands.{came, only, but_cells, is_cell_token}
-use Rattle.law_arms.proofs.Sames.{hits_at, hit_counted, same_spot-refl}
+use Rattle.law_contexts.proofs.Sames.{hits_at, hit_counted, same_spot-refl}
 
 -- TOTALS
 pub total_flat : {X Y : Type 0} (g : Y → ℕ) (h : X → List Y) (xs : List X) → total g (flat_map h xs) ≡ total (λ (x : X). total g (h x)) xs

@@ -2,14 +2,14 @@
 use Rattle.std.proofs.Common.{◌≡◌, ℕ, zero, suc, ◌+◌, ◌<◌, ◌≤◌, Bool, true, false, List, [], ◌∷◌, refl, ap, ◌∙◌, inl, inr, ◌⊎◌, arith}
 use Rattle.std.specs.Prelude.{Contains, flat_map}
 use Rattle.std.proofs.lemmas.Bool.{cases_eq, cases_Bool, and_from, and_parts}
+use Rattle.lemmas.proofs.Contains.{contains_cases, contains_head, contains_none, contains_tail}
 use Rattle.law_net.specs.Roles.{one, total}
 use Rattle.law_net.proofs.Orders.{total-append}
-use Rattle.law_net.proofs.Members.{contains_head, contains_tail, contains_cases, contains_none}
 use Rattle.semantics.specs.Meaning.{Context}
 use Rattle.law_contexts.specs.Parts.{Part, Item, Firing, Spot, spot_of, same_spot, same_context, same_part}
 use Rattle.law_contexts.specs.Firings.{is_firing, times}
 use Rattle.law_contexts.specs.Stands.{is_item_at, items_at}
-use Rattle.law_arms.proofs.Sames.{hits_at, same_spot-refl, same_context-refl, same_context-true, same_part-refl, same_part-true}
+use Rattle.law_contexts.proofs.Sames.{hits_at, same_spot-refl, same_context-refl, same_context-true, same_part-refl, same_part-true}
 use Rattle.law_arms.proofs.Nets.{count_total}
 
 abbrev pub sum_to : (ℕ → ℕ) → ℕ → ℕ

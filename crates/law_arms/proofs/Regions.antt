@@ -1,11 +1,11 @@
 -- The arms round a region: an arm's are itself and those round its conditional.
 use Rattle.std.proofs.Common.{◌≡◌, ℕ, zero, suc, ◌+◌, ◌<◌, ◌≤◌, Bool, List, [], ◌∷◌, ◌++◌, refl, sym, ap, subst, arith}
 use Rattle.std.specs.Prelude.{Contains}
+use Rattle.lemmas.proofs.Contains.{contains_head, contains_tail}
 use Rattle.semantics.specs.declared.graph.Region.{Region}
 use Rattle.semantics.specs.declared.graph.Region.TheVariants.{Root, Arm}
 use Rattle.semantics.specs.Graph.{Block, Flow, node_count}
 use Rattle.semantics.specs.Meaning.{Context, arms_round}
-use Rattle.law_net.proofs.Members.{contains_head, contains_tail}
 use Rattle.law_contexts.specs.Blocks.{lies_in}
 use Rattle.law_contexts.specs.Contexts.{block_in}
 use Rattle.law_contexts.specs.Around.{Way, way, own_ways, ways_round}

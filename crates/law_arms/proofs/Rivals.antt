@@ -3,11 +3,11 @@ use Rattle.std.proofs.Common.{◌≡◌, ℕ, zero, suc, ◌+◌, ◌<◌, Bool,
 use Rattle.std.specs.Prelude.{Contains}
 use Rattle.std.proofs.lemmas.Bool.{cases_eq, cases_Bool}
 use Rattle.std.proofs.lemmas.List.Elements.{Contains-append_left}
+use Rattle.lemmas.proofs.Contains.{contains_head, contains_tail}
 use Rattle.tags.specs.declared.token.Port.TheVariants.{Left}
 use Rattle.semantics.specs.Graph.{Flow}
 use Rattle.semantics.specs.Meaning.{Context, Turned}
 use Rattle.semantics.specs.Plan.{Plan}
-use Rattle.law_net.proofs.Members.{contains_head, contains_tail}
 use Rattle.law_contexts.specs.Parts.{Part, Merge, CondEnd, Landing, Taker, Giver, Drainer, Held, Drained, Inlet, inlet, signal, Item, item, Firing, Spot, spot_of, Role, turn_in}
 use Rattle.law_contexts.specs.Blocks.{is_kind, merge_kind, merge_cond, is_loop, flag}
 use Rattle.law_contexts.specs.Contexts.{Wires, block_in, IsContext}
@@ -16,7 +16,7 @@ use Rattle.law_contexts.specs.Firings.{takes, own_takes, renewed, given_back}
 use Rattle.law_contexts.specs.Laws.{spot_there, way_fits, InArm, landing_arms, flag_arm}
 use Rattle.law_contexts.specs.Theorem.{IsGood}
 use Rattle.law_contexts.specs.Packages.{AllFit, Shows, RivalsAreApart}
-use Rattle.law_arms.proofs.Sames.{hits_at, hit_counted, spot_is}
+use Rattle.law_contexts.proofs.Sames.{hits_at, hit_counted, spot_is}
 use Rattle.law_arms.proofs.Sends.{first_taken, takes_first, first_fits, first_context, in_context}
 use Rattle.law_arms.proofs.Invoked.{is_turned, lawful_at}
 use Rattle.law_arms.proofs.Rounds.{choice_in, end_choice, earlier_flag, under}

@@ -1,15 +1,15 @@
 -- The arms round what is invoked, and what a choice of a context is: a conditional, or the flag of a turn.
 use Rattle.std.proofs.Common.{◌≡◌, ℕ, zero, suc, ◌+◌, ◌-◌, ◌<◌, Bool, true, ◌&&◌, ◌||◌, List, [], ◌∷◌, ◌++◌, length, refl, sym, ap, ◌∙◌, subst, inl, inr, ◌⊎◌, arith, true≢false, eqb-true, lt-ltb, le-ltb, Option, None, ◌==◌, if◌then◌else◌}
 use Rattle.std.specs.Prelude.{Contains, slice_get}
-use Rattle.std.proofs.lemmas.Bool.{and_parts, cases_eq}
+use Rattle.std.proofs.lemmas.Bool.{and_parts, cases_eq, or_cases}
 use Rattle.std.proofs.lemmas.List.Elements.{Contains-append_left, Contains-append_right}
+use Rattle.lemmas.proofs.Contains.{contains_cases, contains_head, contains_tail}
 use Rattle.semantics.specs.declared.graph.Region.{Region}
 use Rattle.semantics.specs.declared.graph.Region.TheVariants.{Root, Arm}
 use Rattle.semantics.specs.Graph.{Block, Flow, Node, node_count}
 use Rattle.semantics.specs.Meaning.{Context, Main, Called, Turned, block_of, arms_round, arms_at, arm_of}
 use Rattle.semantics.specs.Cause.{is_turn}
 use Rattle.semantics.specs.Plan.{Plan}
-use Rattle.law_net.proofs.Members.{contains_head, contains_tail, contains_cases}
 use Rattle.law_contexts.specs.Parts.{CondEnd}
 use Rattle.law_contexts.specs.Blocks.{is_kind, cond_kind, lies_in, flag, there_in}
 use Rattle.law_contexts.specs.Contexts.{Wires, block_in, site_in, wiring_in, IsContext}
@@ -18,7 +18,7 @@ use Rattle.law_contexts.specs.Laws.{in_region}
 use Rattle.law_contexts.specs.Theorem.{IsGood}
 use Rattle.law_arms.proofs.Regions.{arms_root, arms_by_reach, reach_in, reach}
 use Rattle.law_arms.proofs.Sites.{cond_below}
-use Rattle.law_arms.proofs.Invoked.{block_here, loop_invoked, or_cases, lawful_at}
+use Rattle.law_arms.proofs.Invoked.{block_here, loop_invoked, lawful_at}
 
 -- the flag lies in the root
 pub flag_root : (b : Block ℕ) → lies_in b (node_count b) ≡ Root

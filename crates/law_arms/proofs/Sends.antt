@@ -1,7 +1,9 @@
 -- What a firing makes: along the wires of a side of one part, and what it gives besides.
-use Rattle.std.proofs.Common.{◌≡◌, ℕ, ◌+◌, ◌≤◌, Bool, true, false, not, ◌||◌, List, [], ◌∷◌, ◌++◌, map, refl, sym, ap, ◌∙◌, subst, inl, inr, ◌⊎◌, arith, true≢false, append-nil, Option, Some, None, nat_lt, if◌then◌else◌}
+use Rattle.std.proofs.Common.{◌≡◌, ℕ, ◌+◌, ◌≤◌, Bool, true, false, not, ◌||◌, List, [], ◌∷◌, ◌++◌, refl, sym, ap, ◌∙◌, subst, inl, inr, ◌⊎◌, arith, true≢false, append-nil, Option, Some, None, nat_lt, if◌then◌else◌}
 use Rattle.std.specs.Prelude.{All, Contains}
 use Rattle.std.proofs.lemmas.List.Elements.{All-weaker, All-contains, All-contains_itself, Contains-append_left, Contains-append_cases}
+use Rattle.std.proofs.lemmas.Option.{same_Some}
+use Rattle.lemmas.proofs.Contains.{contains_head, contains_mapped, contains_none, contains_tail}
 use Rattle.tags.specs.declared.token.Port.TheVariants.{Left, Right}
 use Rattle.operators.specs.Values.{truth}
 use Rattle.tags.specs.declared.value.Value.{Value}
@@ -10,27 +12,17 @@ use Rattle.semantics.specs.Graph.{Block, Flow, Node, node_at}
 use Rattle.semantics.specs.Meaning.{Context}
 use Rattle.law_net.specs.Roles.{one, total}
 use Rattle.law_net.proofs.Orders.{total-append}
-use Rattle.law_net.proofs.Members.{contains_head, contains_tail, contains_cases, contains_none}
 use Rattle.law_contexts.specs.Parts.{Part, Entry, Line, Trigger, Gate, Framer, Fanned, Linker, Sender, Landing, Giver, Taker, Drainer, LoopDone, Result, TurnCont, TurnFlag, TurnValue, Asker, NextFramer, NextFanned, NextSender, LastReturn, DrainReturn, End, Asked, NextAsked, Held, Drained, Shown, Done, Freed, Inlet, inlet, Note, Datum, FrameOf, BackTo, ToHost, signal, Item, item, each, Firing, Spot, spot_of, same_context, same_inlet, same_spot}
 use Rattle.law_contexts.specs.Blocks.{is_switch, Side, side, is_cell, is_store, is_kind, cell_kind, plain_kind, is_plain, waits_in, there_in, is_loop}
 use Rattle.law_contexts.specs.Contexts.{Wires, block_in, wiring_in, site_in, child, next, IsContext}
 use Rattle.law_contexts.specs.Firings.{left_way, right_way, left_item, own_takes, renewed, takes, request_of, given_back, arguments, sent_word, along, switched, value_in, back_from, result_back, drain_back, end_back, credit_asked, turn_before, next_entry, makes_by, makes}
 use Rattle.law_contexts.specs.Laws.{Fits, spot_there, maker_of}
 use Rattle.law_contexts.specs.Packages.{AllFit}
-use Rattle.law_arms.proofs.Sames.{hits_at, one_and}
+use Rattle.law_contexts.proofs.Sames.{hits_at, one_and}
 
 -- all of a list, by each that it contains
 pub all_from : {X : Type 0} (P : X → Type 0) (xs : List X) → ((x : X) → Contains xs x → P x) → All P xs
 all_from P xs h = All-weaker (Contains xs) P h xs (All-contains_itself xs)
-
--- what stands in an image
-pub contains_map : {X Y : Type 0} (f : X → Y) (xs : List X) (y : Y) → Contains (map f xs) y → (x : X) × Contains xs x × (f x ≡ y)
-contains_map f [] y c = absurd (contains_none y c)
-contains_map f (x ∷ xs) y c = pick (contains_cases (f x) (map f xs) y c) (contains_map f xs y)
-  where
-    pick : (f x ≡ y) ⊎ Contains (map f xs) y → (Contains (map f xs) y → (z : _) × Contains xs z × (f z ≡ y)) → (z : _) × Contains (x ∷ xs) z × (f z ≡ y)
-    pick (inl e) more = (x, contains_head x xs, e)
-    pick (inr d) more = let m = more d in (m.0, contains_tail x xs m.0 m.1, m.2)
 
 -- THE SIDE along which it sends
 abbrev pub switch_side : Part → Note → Option Side
@@ -127,7 +119,7 @@ module _ (fl : Flow) (w : Wires) (f : Firing) where
 
   pub sent_is : (o : Option Side) → side_by fl f f.part ≡ o → (i : Item) → Contains (sent_along fl w f o) i → IsSent i
   sent_is None e i c = absurd (contains_none i c)
-  sent_is (Some t) e i c = let m = contains_map (λ (x : Inlet). item f.context x (sent_word fl f f.part)) ((wiring_in fl w f.context).wire t) i c in
+  sent_is (Some t) e i c = let m = contains_mapped (λ (x : Inlet). item f.context x (sent_word fl f f.part)) ((wiring_in fl w f.context).wire t) i c in
       let same : m.0 ≡ i.inlet = ap (λ (i : Item). i.inlet) m.2 in record {
         from = t;
         along = e;
@@ -211,9 +203,6 @@ cell_plain b n e = or_right (nat_lt n b.inputs) (is_kind plain_kind b n) (go (no
         by_kind (Kind.Store a) e = refl
         by_kind kind e = absurd (true≢false (sym e))
 
-some_is : (t u : Side) → Some t ≡ Some u → t ≡ u
-some_is t u e = cc
-
 module _ (fl : Flow) (w : Wires) (f : Firing) where
   pub record SideOf (t : Side) (r : Part) : Type 0 where
     pub there : there_in fl (site_in fl w f.context) (wiring_in fl w f.context) t.part ≡ true
@@ -222,13 +211,13 @@ module _ (fl : Flow) (w : Wires) (f : Firing) where
     pub plain : is_switch t.part ≡ false → t.second ≡ false
 
   switch_facts : (r : Part) (t : Side) (k : Note) → f.right ≡ k → is_switch r ≡ true → maker_of (block_in fl f.context) r ≡ r → there_in fl (site_in fl w f.context) (wiring_in fl w f.context) r ≡ true → switch_side r k ≡ Some t → SideOf t r
-  switch_facts r t (Datum v) e s m h g = subst (λ (t : Side). SideOf t r) (some_is (side r (not (truth v))) t g) (record { there = h; maker = m; switches = λ x. (refl, (v, e, refl)); plain = λ x. absurd (true≢false (sym s ∙ x)) })
+  switch_facts r t (Datum v) e s m h g = subst (λ (t : Side). SideOf t r) (same_Some (side r (not (truth v))) t g) (record { there = h; maker = m; switches = λ x. (refl, (v, e, refl)); plain = λ x. absurd (true≢false (sym s ∙ x)) })
   switch_facts r t (FrameOf c) e s m h g = absurd (cc)
   switch_facts r t (BackTo c x) e s m h g = absurd (cc)
   switch_facts r t ToHost e s m h g = absurd (cc)
 
   one_facts : (r q : Part) (t : Side) → is_switch r ≡ false → maker_of (block_in fl f.context) r ≡ q → there_in fl (site_in fl w f.context) (wiring_in fl w f.context) r ≡ true → Some (side r false) ≡ Some t → SideOf t q
-  one_facts r q t s m h g = subst (λ (t : Side). SideOf t q) (some_is (side r false) t g) (record { there = h; maker = m; switches = λ x. absurd (true≢false (sym x ∙ s)); plain = λ x. refl })
+  one_facts r q t s m h g = subst (λ (t : Side). SideOf t q) (same_Some (side r false) t g) (record { there = h; maker = m; switches = λ x. absurd (true≢false (sym x ∙ s)); plain = λ x. refl })
 
   line_facts : (n : ℕ) (t : Side) (u : Bool) → is_cell (block_in fl f.context) n ≡ u → is_plain (block_in fl f.context) n ≡ true → (if u then None else Some (side (Line n) false)) ≡ Some t → SideOf t (Line n)
   line_facts n t true e h g = absurd (cc)

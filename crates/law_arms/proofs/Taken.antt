@@ -32,7 +32,7 @@ use Rattle.law_contexts.specs.Stands.{Past, is_item_at, items_at, granted_of, fr
 use Rattle.law_contexts.specs.Theorem.{IsGood}
 use Rattle.law_contexts.specs.Packages.{Keeps}
 use Rattle.law_arms.specs.Credits.{is_credit_part}
-use Rattle.law_arms.proofs.Sames.{hits_at, spot_is}
+use Rattle.law_contexts.proofs.Sames.{hits_at, spot_is}
 use Rattle.law_arms.proofs.Sends.{first_taken, takes_first, first_context}
 use Rattle.law_arms.proofs.Nets.{all_of, once_all, taken_in}
 use Rattle.law_arms.proofs.Comes.{fits_in, laid, instr_here}

@@ -3,6 +3,7 @@ use Rattle.std.proofs.Common.{◌≡◌, ℕ, zero, suc, ◌+◌, ◌<◌, ◌�
 use Rattle.std.specs.Prelude.{Contains, flat_map}
 use Rattle.std.proofs.lemmas.Bool.{cases_eq}
 use Rattle.std.proofs.lemmas.List.Elements.{Contains-append_left, Contains-append_right}
+use Rattle.lemmas.proofs.Contains.{contains_cases, contains_head, contains_none, contains_tail}
 use Rattle.tags.specs.declared.token.Port.{Port}
 use Rattle.tags.specs.declared.token.Port.TheVariants.{Left, Right}
 use Rattle.semantics.specs.Graph.{Flow}
@@ -12,7 +13,6 @@ use Rattle.semantics.specs.Machine.{Machine}
 use Rattle.law_net.specs.Roles.{one, total}
 use Rattle.law_net.proofs.Orders.{total-append}
 use Rattle.law_net.proofs.Net.{Waits, Fires}
-use Rattle.law_net.proofs.Members.{contains_head, contains_tail, contains_cases, contains_none}
 use Rattle.law_contexts.specs.Parts.{Part, Opener, Giver, Taker, Drainer, Drained, inlet, signal, Item, item, Firing, Spot, spot_of, same_spot}
 use Rattle.law_contexts.specs.Blocks.{is_loop, flag, waits_in}
 use Rattle.law_contexts.specs.Contexts.{Wires, block_in, IsContext}
@@ -22,7 +22,7 @@ use Rattle.law_contexts.specs.Laws.{InArm, arms_of, flag_arm, way_fits, port_fit
 use Rattle.law_contexts.specs.Stands.{Past, came, is_item_at, items_at, granted_of}
 use Rattle.law_contexts.specs.Theorem.{IsGood}
 use Rattle.law_contexts.specs.Packages.{Keeps}
-use Rattle.law_arms.proofs.Sames.{hits_at, spot_is, inlet_is}
+use Rattle.law_contexts.proofs.Sames.{hits_at, spot_is, inlet_is}
 use Rattle.law_arms.proofs.Sends.{first_taken, takes_first, first_context}
 use Rattle.law_arms.proofs.Invoked.{is_turned}
 use Rattle.law_arms.proofs.Rounds.{choice_in, earlier_flag, under}

@@ -3,6 +3,7 @@ use Rattle.std.proofs.Common.{◌≡◌, ℕ, zero, suc, ◌+◌, ◌<◌, ◌�
 use Rattle.std.specs.Prelude.{All, Contains, pos}
 use Rattle.std.proofs.lemmas.Bool.{and_parts, and_from, or_left}
 use Rattle.std.proofs.lemmas.List.Elements.{All-contains, Contains-append_right}
+use Rattle.lemmas.proofs.Contains.{contains_cases, contains_none}
 use Rattle.tags.specs.declared.value.Value.TheVariants.{Int}
 use Rattle.tags.specs.declared.token.Port.{Port}
 use Rattle.tags.specs.declared.token.Port.TheVariants.{Left, Right}
@@ -10,7 +11,6 @@ use Rattle.semantics.specs.Graph.{Flow}
 use Rattle.semantics.specs.Meaning.{Context, Main, Called, Turned}
 use Rattle.semantics.specs.Faithful.{inputs_in}
 use Rattle.semantics.specs.Plan.{Plan}
-use Rattle.law_net.proofs.Members.{contains_cases, contains_none}
 use Rattle.law_contexts.proofs.Words.{carries_of, word_there}
 use Rattle.law_contexts.specs.Parts.{Part, Entry, Line, Opener, Framer, Linker, Sender, Landing, Giver, Taker, Drainer, Strict, Result, Asker, NextFramer, NextSender, LastReturn, DrainReturn, Join, End, Asked, NextAsked, Held, Drained, Shown, Done, Freed, Inlet, inlet, Note, Datum, ToHost, BackTo, signal, Item, item, Firing, spot_of}
 use Rattle.law_contexts.specs.Blocks.{Side, waits_in, there_in, is_cell, is_store, is_kind, plain_kind, is_loop, is_call}

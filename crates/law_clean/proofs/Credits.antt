@@ -1,23 +1,25 @@
 -- At rest: a turn that asked for the next got its credit; and a loop whose last turn is over, and each before it, has all credits back.
-use Rattle.std.proofs.Common.{◌≡◌, ℕ, zero, suc, ◌+◌, ◌-◌, ◌<◌, ◌≤◌, Bool, true, false, ◌⊎◌, inl, inr, List, [], ◌∷◌, ◌++◌, Option, Some, nat_lt, ◌&&◌, ◌==◌, if◌then◌else◌, refl, sym, ap, ◌∙◌, subst, arith, true≢false, ltb-true, lt-ltb, eq-eqb, eqb-true}
+use Rattle.std.proofs.Common.{◌≡◌, ℕ, zero, suc, ◌+◌, ◌-◌, ◌<◌, ◌≤◌, Bool, true, false, ◌⊎◌, inl, inr, List, [], ◌∷◌, ◌++◌, Option, nat_lt, ◌&&◌, ◌==◌, if◌then◌else◌, refl, sym, ap, ◌∙◌, subst, arith, true≢false, ltb-true, lt-ltb, eq-eqb, eqb-true}
 use Rattle.std.specs.Prelude.{Contains}
 use Rattle.std.proofs.lemmas.Bool.{cases_Bool}
 use Rattle.std.proofs.lemmas.List.Elements.{Contains-append_right}
+use Rattle.lemmas.proofs.Contains.{contains_cases, contains_none}
 use Rattle.tags.specs.declared.token.Port.TheVariants.{Left}
 use Rattle.tags.specs.declared.token.Cont.{Cont}
 use Rattle.tags.specs.declared.slot.SlotState.TheVariants as Slot
 use Rattle.semantics.specs.Graph.{Flow}
 use Rattle.semantics.specs.Meaning.{Context}
 use Rattle.law_net.specs.Roles.{one, total}
-use Rattle.law_net.proofs.Members.{contains_cases, contains_none}
 use Rattle.law_net.proofs.Net.{Waits, Fires}
+use Rattle.law_net.proofs.Orders.{one_of_both}
 use Rattle.law_contexts.specs.Parts.{Part, Opener, Giver, Taker, Drainer, NextFramer, Drained, Inlet, inlet, Item, Firing}
 use Rattle.law_contexts.specs.Blocks.{is_loop}
 use Rattle.law_contexts.specs.Contexts.{Wires, block_in, wiring_in, IsContext}
 use Rattle.law_contexts.specs.Credits.{Ledger, waits_or}
 use Rattle.law_contexts.specs.Firings.{Config, Move, begin, takes, own_takes, renewed, frame_at, left_item, times, turn_before, ProperAt, IsProperMove, ProperMoves, Still, Then}
-use Rattle.law_contexts.specs.Stands.{first_cont, conts_of, only, is_item_at, items_at, is_over, granted_of}
-use Rattle.law_arms.proofs.Sames.{spot_is}
+use Rattle.law_contexts.specs.Stands.{conts_of, only, is_item_at, items_at, is_over, granted_of}
+use Rattle.law_contexts.proofs.Sames.{spot_is}
+use Rattle.law_contexts.proofs.Blocks.{first_cont_some}
 use Rattle.law_arms.proofs.Opened.{NTaker}
 use Rattle.law_arms.proofs.Credits.{near_opened, keeps, book, bound, slot_is, open_form, firing_of, some_firing}
 use Rattle.law_arms.proofs.Turns.{no_later}
@@ -40,18 +42,13 @@ one_step true x k = go (cases_Bool (nat_lt x k)) (cases_Bool (x == k)) (cases_Bo
     go (inl a) (inr b) (inr d) = let low = ltb-true x k a in absurd (true≢false (sym (lt-ltb x (suc k) (omega (arith, low))) ∙ d))
     go (inr a) (inl b) (inr d) = let same = eqb-true x k b in absurd (true≢false (sym (lt-ltb x (suc k) (omega (arith, same))) ∙ d))
 
-one_less : (a b : Bool) → one (a && b) ≤ one a
-one_less true true = omega arith
-one_less true false = omega arith
-one_less false b = omega arith
-
 total_step : (test : Item → Bool) (k : ℕ) (items : List Item) → total (λ (i : Item). one (test i && nat_lt i.inlet.way k)) items + total (λ (i : Item). one (test i && (i.inlet.way == k))) items ≤ total (λ (i : Item). one (test i && nat_lt i.inlet.way (suc k))) items
 total_step test k [] = omega arith
 total_step test k (i ∷ items) = let a = one_step (test i) i.inlet.way k in let more = total_step test k items in omega (arith, a, more)
 
 total_less : (test : Item → Bool) (k : ℕ) (items : List Item) → total (λ (i : Item). one (test i && nat_lt i.inlet.way k)) items ≤ total (λ (i : Item). one (test i)) items
 total_less test k [] = omega arith
-total_less test k (i ∷ items) = let a = one_less (test i) (nat_lt i.inlet.way k) in let more = total_less test k items in omega (arith, a, more)
+total_less test k (i ∷ items) = let a = one_of_both (test i) (nat_lt i.inlet.way k) in let more = total_less test k items in omega (arith, a, more)
 
 counts : (test : Item → Bool) (k : ℕ) (items : List Item) (i : Item) → Contains items i → test i ≡ true → i.inlet.way ≡ k → 0 < total (λ (i : Item). one (test i && (i.inlet.way == k))) items
 counts test k [] i c e g = absurd (contains_none i c)
@@ -68,10 +65,6 @@ many test items zero h = omega arith
 many test items (suc k) h =
     let more = many test items k (λ s low. h s (omega (arith, low))) in let (i, c, e, g) = h k (omega arith) in
     let this = counts test k items i c e g in let step = total_step test k items in omega (arith, more, this, step)
-
-first_some : (cs : List Cont) (k : Cont) → Contains cs k → (a : Cont) × (first_cont cs ≡ Some a)
-first_some [] k c = absurd (contains_none k c)
-first_some (a ∷ cs) k c = (a, refl)
 
 -- a loop's `give` and `drain` never fire by themselves
 no_credit_fires : (fl : Flow) (w : Wires) (c d : Config) → ProperMoves fl w c d → ((h : Firing) → Contains c.fired h → goes_back h.part ≡ true → ⊥) → (h : Firing) → Contains d.fired h → goes_back h.part ≡ true → ⊥
@@ -131,7 +124,7 @@ module _ (u : AtRest) (c : Context) (con : IsContext u.fl c) (n : ℕ) (l : is_l
     no_take_waits =
         let opened = lt-ltb 0 (times c (Opener n) u.kept.follows.net.fired) (near_opened u.stage u.fl u.p u.w u.inputs u.past u.m u.good u.kept c con n l i stood (NTaker a part)) in
         let (k, o) = cont_waits u (is_item_at c (Taker n)) i waits (item_here c (Taker n) i a part) (turn_before i.context n i.inlet.way) (inlet NextFramer Left 0) (carried u i stood (Taker n) part) in
-        let (b, some) = first_some (conts_of u.fl u.p u.w u.kept.follows.net.fired (only (is_item_at c (Taker n)) u.kept.follows.net.waiting)) k o in
+        let (b, some) = first_cont_some (conts_of u.fl u.p u.w u.kept.follows.net.fired (only (is_item_at c (Taker n)) u.kept.follows.net.waiting)) k o in
         let (g, at) = u.kept.follows.stands.known i stood in
         let drains = ((keeps u.stage u.fl u.p u.w u.inputs u.past u.m u.good u.kept c con n l).law.waits b some).1 in
         let slot = slot_is u.stage u.fl u.p u.w u.inputs u.past u.m u.good u.kept c con n l g (ap (frame_at u.fl u.kept.follows.net.fired) (sym a) ∙ at)

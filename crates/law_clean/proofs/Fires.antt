@@ -3,6 +3,7 @@ use Rattle.std.proofs.Common.{◌≡◌, ℕ, zero, suc, ◌+◌, Bool, true, fa
 use Rattle.std.specs.Prelude.{Contains, IsPermutation, flat_map}
 use Rattle.std.proofs.lemmas.List.Sorted.{IsPermutation-sym, Contains-permutation}
 use Rattle.std.proofs.lemmas.List.Elements.{Contains-append_right, Contains-append_cases}
+use Rattle.lemmas.proofs.Contains.{contains_cases, contains_head, contains_none, contains_flat_mapped}
 use Rattle.tags.specs.declared.value.Value.{Value}
 use Rattle.tags.specs.declared.token.Port.{Port}
 use Rattle.tags.specs.declared.token.Port.TheVariants.{Left, Right}
@@ -14,7 +15,6 @@ use Rattle.semantics.specs.Graph.{Flow}
 use Rattle.semantics.specs.Meaning.{Context}
 use Rattle.semantics.specs.Machine.{CellState, Vacant, Full, Deferred, reader_count}
 use Rattle.semantics.specs.Orderly.{readers_of}
-use Rattle.law_net.proofs.Members.{contains_head, contains_tail, contains_cases, contains_none}
 use Rattle.law_contexts.specs.Parts.{Part, Line, Framer, Fanned, Sender, Giver, Taker, Drainer, NextFanned, Asked, NextAsked, Held, Drained, Inlet, inlet, Note, Datum, BackTo, signal, Item, item, Firing, spot_of}
 use Rattle.law_contexts.specs.Blocks.{side, waits_in, is_cell}
 use Rattle.law_contexts.specs.Contexts.{block_in, wiring_in, is_strict_in}
@@ -29,14 +29,6 @@ use Rattle.law_over.proofs.Made.{fits, word, left_stands}
 use Rattle.law_over.proofs.Paths.{Wire, next}
 use Rattle.law_over.proofs.Sorts.{cell_plain}
 use Rattle.law_clean.proofs.Still.{AtRest, Stood, Comes, Fired}
-
-flat_back : {X Y : Type 0} (f : X → List Y) (xs : List X) (y : Y) → Contains (flat_map f xs) y → (x : X) × Contains xs x × Contains (f x) y
-flat_back f [] y c = absurd (contains_none y c)
-flat_back f (x ∷ xs) y c = pick (Contains-append_cases (f x) (flat_map f xs) y c) (flat_back f xs y)
-  where
-    pick : Contains (f x) y ⊎ Contains (flat_map f xs) y → (Contains (flat_map f xs) y → (z : _) × Contains xs z × Contains (f z) y) → (z : _) × Contains (x ∷ xs) z × Contains (f z) y
-    pick (inl d) more = (x, contains_head x xs, d)
-    pick (inr d) more = let o = more d in (o.0, contains_tail x xs o.0 o.1, o.2)
 
 none_left : {X : Type 0} (xs : List X) → length xs ≡ 0 → (x : X) → Contains xs x → ⊥
 none_left [] e x c = contains_none x c
@@ -146,7 +138,7 @@ module _ (u : AtRest) where
     where
       second : Contains u.kept.follows.net.waiting i ⊎ Contains (flat_map (takes u.fl) u.kept.follows.net.fired) i → Contains u.kept.follows.net.waiting i ⊎ ((h : Firing) × Contains u.kept.follows.net.fired h × Contains (takes u.fl h) i)
       second (inl d) = inl d
-      second (inr d) = inr (flat_back (takes u.fl) u.kept.follows.net.fired i d)
+      second (inr d) = inr (contains_flat_mapped (takes u.fl) u.kept.follows.net.fired i d)
 
       first : Contains u.kept.follows.net.pending i ⊎ Contains (u.kept.follows.net.waiting ++ flat_map (takes u.fl) u.kept.follows.net.fired) i → Contains u.kept.follows.net.waiting i ⊎ ((h : Firing) × Contains u.kept.follows.net.fired h × Contains (takes u.fl h) i)
       first (inl d) = absurd (none_pending i d)

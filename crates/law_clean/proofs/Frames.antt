@@ -2,17 +2,17 @@
 use Rattle.std.proofs.Common.{◌≡◌, ℕ, zero, suc, ◌+◌, ◌<◌, Bool, true, false, List, [], ◌∷◌, Option, Some, None, if◌then◌else◌, refl, sym, ap, ◌∙◌, subst, arith, true≢false, lt-ltb}
 use Rattle.std.specs.Prelude.{Contains}
 use Rattle.std.proofs.lemmas.Bool.{and_from}
+use Rattle.lemmas.proofs.Contains.{contains_head, contains_tail}
 use Rattle.semantics.specs.declared.graph.Region.TheVariants.{Arm}
 use Rattle.semantics.specs.Graph.{Flow}
 use Rattle.semantics.specs.Meaning.{Context, Main, Called, Turned}
 use Rattle.semantics.specs.Cause.{is_turn}
 use Rattle.law_net.specs.Roles.{total}
-use Rattle.law_net.proofs.Members.{contains_head, contains_tail}
 use Rattle.law_contexts.specs.Parts.{Part, Entry, Linker, Sender, NextSender, End, Asked, NextAsked, Freed, Inlet, Firing, same_context}
 use Rattle.law_contexts.specs.Blocks.{invokes, source_count, lies_in, entered, flag}
 use Rattle.law_contexts.specs.Contexts.{block_in, child, next}
 use Rattle.law_contexts.specs.Firings.{handed_to, frame_if, frame_at}
-use Rattle.law_arms.proofs.Sames.{same_context-true}
+use Rattle.law_contexts.proofs.Sames.{same_context-true}
 use Rattle.law_arms.proofs.Invoked.{Child, ByCall, ByLoop, child_cases}
 use Rattle.law_over.specs.Over.{IsOpen}
 use Rattle.law_over.proofs.Made.{first_in, taken_stands}

@@ -3,6 +3,7 @@ use Rattle.std.proofs.Common.{◌≡◌, ℕ, zero, suc, ◌+◌, ◌<◌, ◌�
 use Rattle.std.specs.Prelude.{Contains}
 use Rattle.std.proofs.lemmas.Bool.{and_parts, or_left, or_right}
 use Rattle.std.proofs.lemmas.List.Elements.{Contains-append_left}
+use Rattle.lemmas.proofs.Contains.{contains_head, contains_none}
 use Rattle.tags.specs.declared.value.Value.{Value}
 use Rattle.tags.specs.declared.token.Port.TheVariants.{Left, Right}
 use Rattle.operators.specs.Values.{truth}
@@ -10,14 +11,14 @@ use Rattle.semantics.specs.declared.graph.Region.{Region}
 use Rattle.semantics.specs.declared.graph.Region.TheVariants.{Root, Arm}
 use Rattle.semantics.specs.Graph.{Block, Flow}
 use Rattle.semantics.specs.Meaning.{Context}
-use Rattle.law_net.proofs.Members.{contains_head, contains_none}
+use Rattle.semantics.proofs.Lines.{same_arm}
 use Rattle.law_contexts.specs.Parts.{Part, Entry, Line, Trigger, Gate, Framer, Fanned, Linker, Landing, CallDone, Giver, Taker, Drainer, LoopDone, TurnCont, TurnFlag, TurnValue, Asker, NextFramer, NextFanned, Inlet, inlet, Datum, Firing}
 use Rattle.law_contexts.specs.Blocks.{Side, side, waits_in, invokes, is_call, is_loop, is_switch, region_of, entered, leaves_in, arm_round, lies_in, flag}
 use Rattle.law_contexts.specs.Contexts.{block_in, site_in, wiring_in, IsContext}
 use Rattle.law_contexts.specs.Wires.{AValue, comes_at, IsLaidOut, answered_at, has_no_wire, is_given, wired_way, wired_port, is_side, predicate_at, right_only, cond_round, decider}
 use Rattle.law_contexts.specs.Firings.{right_way}
 use Rattle.law_contexts.specs.Laws.{maker_of}
-use Rattle.law_arms.proofs.Sames.{inlet_found}
+use Rattle.law_contexts.proofs.Sames.{inlet_found}
 use Rattle.law_arms.proofs.Sends.{side_by, switch_side}
 use Rattle.law_arms.proofs.Invoked.{code_at}
 use Rattle.law_arms.proofs.Rounds.{input_root}
@@ -44,23 +45,20 @@ chooser b TurnFlag e = record { waits = refl; given = refl; way = refl; value = 
 chooser b (TurnValue j) e = record { waits = refl; given = refl; way = refl; value = refl; maker = refl; right = λ fl c. refl; sends = λ fl h v g. ap (switch_side (TurnValue j)) g }
 chooser b r e = absurd (true≢false (sym e))
 
-arm_same : (k j : ℕ) (t u : Bool) → Arm k t ≡ Arm j u → k ≡ j
-arm_same k j t u e = cc
-
 root_arm : (r : Region) (k : ℕ) (t : Bool) → r ≡ Root → r ≡ Arm k t → ⊥
 root_arm r k t e f = let g : Root ≡ Arm k t = sym e ∙ f in absurd (cc)
 
 -- its right word is that of the conditional whose arms it leads to
 pub predicate_is : (b : Block ℕ) (r : Part) (j : ℕ) (t : Bool) → is_switch r ≡ true → leaves_in b r true ≡ Arm j t → predicate_at b r Right ≡ Some j
-predicate_is b (Trigger k) j t e g = ap Some (arm_same k j false t g)
+predicate_is b (Trigger k) j t e g = ap Some (same_arm k j false t g)
 predicate_is b (Gate n) j t e g = go (lies_in b n) refl g
   where
     go : (r : Region) → lies_in b n ≡ r → arm_round r false ≡ Arm j t → right_only Right (cond_round r) ≡ Some j
     go Root e g = absurd (root_arm Root j t refl g)
-    go (Arm k s) e g = ap Some (arm_same k j false t g)
-predicate_is b TurnCont j t e g = ap Some (arm_same (flag b) j false t g)
-predicate_is b TurnFlag j t e g = ap Some (arm_same (flag b) j false t g)
-predicate_is b (TurnValue i) j t e g = ap Some (arm_same (flag b) j false t g)
+    go (Arm k s) e g = ap Some (same_arm k j false t g)
+predicate_is b TurnCont j t e g = ap Some (same_arm (flag b) j false t g)
+predicate_is b TurnFlag j t e g = ap Some (same_arm (flag b) j false t g)
+predicate_is b (TurnValue i) j t e g = ap Some (same_arm (flag b) j false t g)
 predicate_is b r j t e g = absurd (true≢false (sym e))
 
 module _ (u : AtRest) (c : Context) (con : IsContext u.fl c) where
@@ -209,7 +207,7 @@ module _ (u : AtRest) (c : Context) (con : IsContext u.fl c) where
       by_sort : Sort u.stage u.fl u.p u.w u.good c con s.part → StartsBelow n → ArmStart k (place s.part)
       by_sort (Last g) below = absurd (root_arm (leaves_in (block_in u.fl c) s.part s.second) k t (ap (λ (q : Part). leaves_in (block_in u.fl c) q s.second) g) leaves)
       by_sort (Switches j switch) below =
-          let same : j ≡ k = arm_same j k (not s.second) t (sym (switch.leaves s.second) ∙ leaves) in
+          let same : j ≡ k = same_arm j k (not s.second) t (sym (switch.leaves s.second) ∙ leaves) in
           record { part = s.part; here = h; switch = subst (λ (j : ℕ). Switched u.stage u.fl u.p u.w u.good c con j s.part) same switch; early = omega arith }
       by_sort (Others other) below = by_given other (out_of other.quiet) below (is_given (block_in u.fl c) s.part) refl
       by_sort (Joins j join) below =

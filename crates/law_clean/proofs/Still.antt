@@ -1,7 +1,8 @@
 -- A run at rest, with nothing wanted and no reader waiting; and what its firings made and gave.
-use Rattle.std.proofs.Common.{◌≡◌, ℕ, zero, suc, ◌+◌, ◌<◌, ◌≤◌, ℤ, Bool, true, ◌⊎◌, inl, inr, List, [], ◌∷◌, ◌++◌, map, length, Option, Some, if◌then◌else◌, refl, sym, ap, ◌∙◌, subst, arith}
+use Rattle.std.proofs.Common.{◌≡◌, ℕ, zero, suc, ◌+◌, ◌<◌, ℤ, Bool, true, ◌⊎◌, inl, inr, List, [], ◌∷◌, ◌++◌, length, Option, Some, if◌then◌else◌, refl, sym, ap, ◌∙◌, subst, arith}
 use Rattle.std.specs.Prelude.{Contains, flat_map}
 use Rattle.std.proofs.lemmas.List.Elements.{Contains-append_left, Contains-append_right}
+use Rattle.lemmas.proofs.Contains.{contains_cases, contains_head, contains_none, contains_tail, contains_map}
 use Rattle.tags.specs.declared.value.Value.{Value}
 use Rattle.tags.specs.declared.value.Value.TheVariants.{Int}
 use Rattle.tags.specs.declared.token.Port.TheVariants.{Left, Right}
@@ -11,9 +12,8 @@ use Rattle.semantics.specs.Meaning.{Context, Main, Called, Turned}
 use Rattle.semantics.specs.Machine.{Machine, Resting, Wants}
 use Rattle.semantics.specs.Faithful.{NoReader}
 use Rattle.law_net.specs.Roles.{one, total}
-use Rattle.law_net.proofs.Members.{contains_head, contains_tail, contains_cases, contains_none}
 use Rattle.law_net.proofs.Net.{weigh, Waits, Fires}
-use Rattle.law_net.proofs.Orders.{total-append}
+use Rattle.law_net.proofs.Orders.{total-append, total_there}
 use Rattle.law_contexts.specs.Parts.{Part, Entry, Line, Framer, Fanned, Linker, Sender, Landing, CallDone, Giver, Taker, Drainer, LoopDone, Result, Asker, NextFramer, NextFanned, NextSender, LastReturn, DrainReturn, End, Asked, NextAsked, Held, Drained, Freed, Inlet, inlet, Note, Datum, FrameOf, BackTo, ToHost, signal, Item, item, Firing, Spot, spot_of, same_spot}
 use Rattle.law_contexts.specs.Blocks.{Side, is_cell, source_count}
 use Rattle.law_contexts.specs.Contexts.{Wires, block_in, wiring_in, child, next, is_strict_in}
@@ -21,7 +21,7 @@ use Rattle.law_contexts.specs.Firings.{Config, Move, begin, begins, input_items,
 use Rattle.law_contexts.specs.Stands.{Past}
 use Rattle.law_contexts.specs.Theorem.{IsGood}
 use Rattle.law_contexts.specs.Packages.{InputsFit, Keeps}
-use Rattle.law_arms.proofs.Sames.{hits_at, hit_found, hit_counted}
+use Rattle.law_contexts.proofs.Sames.{hits_at, hit_found, hit_counted}
 use Rattle.law_arms.proofs.Sends.{side_by, gives_by, sent_along, splits, asks_cell}
 use Rattle.law_arms.proofs.Nets.{all_of, total_flat}
 
@@ -39,23 +39,6 @@ pub record AtRest : Type 0 where
   pub rests : Resting m
   pub wants : Wants m → ⊥
   pub unread : NoReader m
-
--- one of a list counts in the total
-pub total_one : {X : Type 0} (f : X → ℕ) (xs : List X) (x : X) → Contains xs x → f x ≤ total f xs
-total_one f [] x c = absurd (contains_none x c)
-total_one f (y ∷ xs) x c = pick (contains_cases y xs x c) (total_one f xs x)
-  where
-    pick : (y ≡ x) ⊎ Contains xs x → (Contains xs x → f x ≤ total f xs) → f x ≤ total f (y ∷ xs)
-    pick (inl e) more = let k = ap f e in omega (arith, k)
-    pick (inr d) more = let o = more d in omega (arith, o)
-
-contains_to : {X Y : Type 0} (f : X → Y) (xs : List X) (x : X) → Contains xs x → Contains (map f xs) (f x)
-contains_to f [] x c = absurd (contains_none x c)
-contains_to f (y ∷ xs) x c = pick (contains_cases y xs x c) (contains_to f xs x)
-  where
-    pick : (y ≡ x) ⊎ Contains xs x → (Contains xs x → Contains (map f xs) (f x)) → Contains (f y ∷ map f xs) (f x)
-    pick (inl e) more = subst (λ (z : _). Contains (f y ∷ map f xs) z) (ap f e) (contains_head (f y) (map f xs))
-    pick (inr d) more = contains_tail (f y) (map f xs) (f x) (more d)
 
 -- the inputs of main are there
 input_has : (n : ℕ) (zs : List ℤ) (l : ℕ) → l < length zs → (i : Item) × Contains (input_items n zs) i × (i.context ≡ Main) × (i.inlet ≡ inlet (Line (n + l)) Left 0)
@@ -137,7 +120,7 @@ module _ (u : AtRest) where
   made h i c d =
       let g : Item → ℕ = λ (j : Item). one (same_spot (spot_of i) (spot_of j)) in
       let k = hit_counted (makes u.fl u.w h) i d in
-      let more = total_one (λ (f : Firing). total g (makes u.fl u.w f)) u.kept.follows.net.fired h c in
+      let more = total_there (λ (f : Firing). total g (makes u.fl u.w f)) u.kept.follows.net.fired h c in
       came_of (spot_of i) (omega (arith, k, more))
 
   given : (h : Firing) → Contains done h → (r : Part) → h.part ≡ r → (i : Item) → Contains (gives_by u.fl u.w h r) i → Comes i.context i.inlet
@@ -152,7 +135,7 @@ module _ (u : AtRest) where
   pub sent : (h : Firing) (c : Context) (s : Side) (x : Inlet) → Contains done h → h.context ≡ c → side_by u.fl h h.part ≡ Some s → Contains ((wiring_in u.fl u.w c).wire s) x → Comes c x
   sent h c s x o a g goes =
       let there = subst (λ (d : Context). Contains ((wiring_in u.fl u.w d).wire s) x) (sym a) goes in
-      let along : Contains (sent_along u.fl u.w h (Some s)) (item h.context x (sent_word u.fl h h.part)) = contains_to (λ (y : Inlet). item h.context y (sent_word u.fl h h.part)) ((wiring_in u.fl u.w h.context).wire s) x there in
+      let along : Contains (sent_along u.fl u.w h (Some s)) (item h.context x (sent_word u.fl h h.part)) = contains_map (λ (y : Inlet). item h.context y (sent_word u.fl h h.part)) ((wiring_in u.fl u.w h.context).wire s) x there in
       let all = subst (λ (l : List Item). Contains l (item h.context x (sent_word u.fl h h.part))) (sym (splits u.fl u.w h))
       (Contains-append_right (gives_by u.fl u.w h h.part) (sent_along u.fl u.w h (side_by u.fl h h.part)) (item h.context x (sent_word u.fl h h.part))
       (subst (λ (t : Option Side). Contains (sent_along u.fl u.w h t) (item h.context x (sent_word u.fl h h.part))) (sym g) along)) in

@@ -1,13 +1,14 @@
 -- A context that was asked for, and to which all its inputs came: a call's block, a loop's first turn, and the turn after another.
 use Rattle.std.proofs.Common.{◌≡◌, ℕ, suc, ◌+◌, ◌<◌, ◌≤◌, Bool, true, false, List, length, if◌then◌else◌, sym, ap, ◌∙◌, subst, arith}
 use Rattle.std.specs.Prelude.{Contains}
+use Rattle.lemmas.proofs.Contains.{contains_none}
 use Rattle.tags.specs.declared.token.Port.TheVariants.{Left}
 use Rattle.semantics.specs.declared.graph.Region.{Region}
 use Rattle.semantics.specs.declared.graph.Region.TheVariants.{Root, Arm}
 use Rattle.semantics.specs.Meaning.{Context, Main, Called, Turned}
 use Rattle.semantics.specs.Faithful.{inputs_in}
 use Rattle.law_net.specs.Roles.{total}
-use Rattle.law_net.proofs.Members.{contains_none}
+use Rattle.law_net.proofs.Orders.{total_there}
 use Rattle.law_contexts.specs.Parts.{Part, Entry, Line, Linker, Sender, NextSender, inlet, Firing}
 use Rattle.law_contexts.specs.Blocks.{there_in, is_call, is_loop, source_count, lies_in, region_of, flag}
 use Rattle.law_contexts.specs.Contexts.{block_in, site_in, wiring_in, IsContext, child}
@@ -15,7 +16,7 @@ use Rattle.law_contexts.specs.Around.{Way}
 use Rattle.law_arms.proofs.Invoked.{block_here, not_loop, call_invoked, loop_invoked, is_called, is_turned}
 use Rattle.law_arms.proofs.Rounds.{root_region, round_node, round_next}
 use Rattle.law_over.specs.Over.{IsOpen, is_turning}
-use Rattle.law_clean.proofs.Still.{AtRest, Comes, Fired, total_one, main_entry, main_input, entry_comes, input_comes, next_comes}
+use Rattle.law_clean.proofs.Still.{AtRest, Comes, Fired, main_entry, main_input, entry_comes, input_comes, next_comes}
 
 -- HOW DEEP a context is, and which turn it is
 abbrev pub size : Context → ℕ
@@ -94,7 +95,7 @@ module _ (u : AtRest) where
   latest = total (λ (f : Firing). turn_of f.context) u.kept.follows.net.fired
 
   pub deep : (c : Context) (r : Part) → Fired u c r → size c ≤ total (λ (f : Firing). size f.context) u.kept.follows.net.fired
-  deep c r (h, d, a, e) = let o = total_one (λ (f : Firing). size f.context) u.kept.follows.net.fired h d in let same = ap size a in omega (arith, o, same)
+  deep c r (h, d, a, e) = let o = total_there (λ (f : Firing). size f.context) u.kept.follows.net.fired h d in let same = ap size a in omega (arith, o, same)
 
   pub late : (c : Context) (r : Part) → Fired u c r → turn_of c ≤ total (λ (f : Firing). turn_of f.context) u.kept.follows.net.fired
-  late c r (h, d, a, e) = let o = total_one (λ (f : Firing). turn_of f.context) u.kept.follows.net.fired h d in let same = ap turn_of a in omega (arith, o, same)
+  late c r (h, d, a, e) = let o = total_there (λ (f : Firing). turn_of f.context) u.kept.follows.net.fired h d in let same = ap turn_of a in omega (arith, o, same)

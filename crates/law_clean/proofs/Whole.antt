@@ -1,12 +1,14 @@
 -- At rest each part of a supplied context has fired that lies in an open region, if that holds of all that it invokes: by the places of its parts.
 use Rattle.std.proofs.Common.{◌≡◌, ℕ, zero, suc, ◌+◌, ◌<◌, ◌≤◌, Bool, true, false, ◌⊎◌, inl, inr, [], Option, Some, None, nat_lt, ◌==◌, if◌then◌else◌, refl, sym, ap, ◌∙◌, subst, arith, true≢false, ltb-true, lt-ltb}
-use Rattle.std.proofs.lemmas.Bool.{cases_Bool, cases_eq, and_parts, and_from}
+use Rattle.std.proofs.lemmas.Bool.{cases_Bool, cases_eq, and_parts, and_from, or_cases}
+use Rattle.lemmas.proofs.Contains.{contains_head}
 use Rattle.tags.specs.declared.token.Port.TheVariants.{Left, Right}
 use Rattle.semantics.specs.declared.graph.Region.{Region}
 use Rattle.semantics.specs.declared.graph.Region.TheVariants.{Root, Arm}
 use Rattle.semantics.specs.Graph.{Block, Node}
 use Rattle.semantics.specs.Meaning.{Context, Main, Called, Turned}
 use Rattle.semantics.specs.Cause.{is_turn}
+use Rattle.semantics.proofs.Lines.{same_arm}
 use Rattle.law_contexts.specs.Parts.{Part, Entry, Line, Framer, Fanned, Linker, Sender, Landing, CallDone, Giver, Taker, Drainer, LoopDone, Result, TurnFlag, Asker, NextFramer, NextFanned, NextSender, LastReturn, DrainReturn, End, Asked, NextAsked, Held, Drained, Inlet, inlet, Firing, role, turn_in}
 use Rattle.law_contexts.specs.Blocks.{Side, there_in, waits_in, is_cell, is_call, is_loop, invokes, pair_kind, source_count, result_count, lies_in, region_of, entered, leaves_in, flag}
 use Rattle.law_contexts.specs.Contexts.{block_in, site_in, wiring_in, IsContext, is_strict_in}
@@ -14,7 +16,7 @@ use Rattle.law_contexts.specs.Wires.{wired_way, wired_port, is_given, decider}
 use Rattle.law_contexts.specs.Firings.{right_way}
 use Rattle.law_contexts.specs.Laws.{maker_of, says}
 use Rattle.law_told.proofs.Nodes.{input_none}
-use Rattle.law_arms.proofs.Invoked.{or_cases, call_invoked, loop_invoked}
+use Rattle.law_arms.proofs.Invoked.{call_invoked, loop_invoked}
 use Rattle.law_over.specs.Over.{IsDecided, IsOpen, is_turning}
 use Rattle.law_over.proofs.Sorts.{laws, Joined, Switched, Sort, Last, Joins, Switches, Others, sort}
 use Rattle.law_over.proofs.Open.{arm_open}
@@ -25,11 +27,7 @@ use Rattle.law_clean.proofs.Starts.{feeder, zero_way, left_feeder, answer_later,
 use Rattle.law_clean.proofs.Along.{side_open, maker_fires, chose, sends}
 use Rattle.law_clean.proofs.Credits.{taker_fires, drained_fires}
 use Rattle.law_clean.proofs.Supplied.{size, turn_of, AllFired, Supplied, AllSent, call_supplied, loop_supplied, next_supplied, late}
-use Rattle.law_net.proofs.Members.{contains_head}
 use Rattle.law_net.specs.Roles.{total}
-
-arm_is : (k j : ℕ) (t s : Bool) → Arm k t ≡ Arm j s → k ≡ j
-arm_is k j t s e = cc
 
 -- the flag of a turn
 pub flag_switched : (u : AtRest) (c : Context) (con : IsContext u.fl c) → is_turn c ≡ true → Switched u.stage u.fl u.p u.w u.good c con (flag (block_in u.fl c)) TurnFlag
@@ -39,7 +37,7 @@ flag_switched u c con e = go (sort u.stage u.fl u.p u.w u.good c con TurnFlag e 
     go (Last g) = absurd (cc)
     go (Joins k j) = absurd (true≢false j.quiet.switch)
     go (Others o) = absurd (true≢false o.quiet.switch)
-    go (Switches k s) = subst (λ (k : ℕ). Switched u.stage u.fl u.p u.w u.good c con k TurnFlag) (sym (arm_is (flag (block_in u.fl c)) k false false (s.leaves true))) s
+    go (Switches k s) = subst (λ (k : ℕ). Switched u.stage u.fl u.p u.w u.good c con k TurnFlag) (sym (same_arm (flag (block_in u.fl c)) k false false (s.leaves true))) s
 
 -- no `take` makes what goes along wires
 maker_turn : (b : Block ℕ) (r : Part) (t : ℕ) → is_turning r ≡ false → turn_in (maker_of b r) t ≡ 0

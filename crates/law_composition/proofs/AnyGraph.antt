@@ -3,11 +3,13 @@ use Rattle.std.proofs.Common.{◌≡◌, refl, ◌∙◌, ℕ, zero, suc, ◌<�
 use Rattle.std.specs.Prelude.{slice_get}
 use Rattle.std.proofs.lemmas.List.{length-map}
 use Rattle.std.proofs.lemmas.Option.{slice_get_within}
+use Rattle.lemmas.proofs.Alls.{all_at}
+use Rattle.lemmas.proofs.Contains.{contains_get}
 use Rattle.semantics.specs.Graph.{Graph, Block, Flow, flow_of, place_of, block_names, array_names, resolved_block}
 use Rattle.semantics.specs.Program.{CodeBlock}
 use Rattle.semantics.specs.Plan.{Plan}
 use Rattle.semantics.specs.Orderly as Orderly
-use Rattle.law_determinacy.proofs.Resolved.{all_get, contains_get, place_get}
+use Rattle.law_determinacy.proofs.Resolved.{place_get}
 use Rattle.law_expansion.proofs.Inputs.{takes_inputs}
 use Rattle.law_expansion.specs.Shapes.{IsShaped, AreShaped}
 use Rattle.law_expansion.proofs.FactsSound.{is_sound}
@@ -32,7 +34,7 @@ expanded_is_sound : (g : Graph) → HasText g → WellFormed g → IsSound (expa
 expanded_is_sound g text well =
     let arcs = arcs_go_forward g text well in
     let p : Plan = expanded (flow_of g) in
-    is_sound g text well (λ b n c i at there. all_get IsShaped c.instrs n i (all_get AreShaped p.program.blocks b c (plans_are_shaped g well) at) there) arcs.lefts arcs.dests arcs.entries arcs.rights
+    is_sound g text well (λ b n c i at there. all_at IsShaped c.instrs n i (all_at AreShaped p.program.blocks b c (plans_are_shaped g well) at) there) arcs.lefts arcs.dests arcs.entries arcs.rights
 
 folded_is_sound : (g : Graph) → HasText g → WellFormed g → IsSound (folded (expanded (flow_of g)))
 folded_is_sound g text well = still_sound (expanded (flow_of g)) (expanded_is_sound g text well)

@@ -1,4 +1,3 @@
-pub mod Lines
 pub mod SoundObjects
 pub mod AnyGraph
 pub mod FoldedInstrs

@@ -2,8 +2,9 @@
 use Rattle.std.proofs.Common.{◌≡◌, refl, ℕ, ◌≤◌, List, ◌++◌, length, take, drop, Some, arith, length-append}
 use Rattle.std.specs.Prelude.{slice_get, All, Contains}
 use Rattle.std.proofs.lemmas.List.{length-take, length-drop}
-use Rattle.std.proofs.lemmas.Option.{slice_get_within, get_or_from_slice_get}
 use Rattle.std.proofs.lemmas.List.Elements.{Contains-append_left, Contains-append_right}
+use Rattle.lemmas.proofs.Alls.{all_at, all_from}
+use Rattle.lemmas.proofs.Contains.{get_contains}
 use Rattle.semantics.specs.declared.program.Dest.{Dest}
 use Rattle.semantics.specs.declared.program.Op.{Op}
 use Rattle.semantics.specs.declared.program.Op.TheVariants.{Apply2Right, Apply2Left, Lit, Switch, Fetch, Store, Frame, Link, Ask, Take, Give, Drain, Release}
@@ -11,16 +12,15 @@ use Rattle.semantics.specs.Program.{Instr, CodeBlock, Program}
 use Rattle.semantics.specs.Plan.{Plan, IsPlanBlock}
 use Rattle.semantics.specs.Bytes.{HasOperand, HasDests, IsDest}
 use Rattle.semantics.specs.Sharing.{Good, IsGoodBlock}
-use Rattle.law_determinacy.proofs.Resolved.{all_get}
 use Rattle.code.specs.Sound.{NamesRightly, IsSoundBlock, IsSound}
 use Rattle.fanout.specs.Narrowed.{narrowed}
 use Rattle.fanout.specs.Laws.{AllInstrs, HasItsDests}
 use Rattle.fanout.proofs.SoundPlans.{stays_sound, sound_has_dests}
-use Rattle.select.specs.Emitted.{has_sides, firsts_of, seconds_of}
+use Rattle.select.specs.Emitted.{firsts_of, seconds_of}
+use Rattle.semantics.specs.Opcodes.{has_sides}
 use Rattle.select.specs.Literals.{literal_of, listed}
 use Rattle.select.specs.Emittable.{with_table, IsEmittableInstr, IsEmittableBlock, IsEmittable}
 use Rattle.law_composition.specs.Sound.{SoundHaveObjects}
-use Rattle.law_composition.proofs.Lines.{all_of}
 
 -- ONE INSTRUCTION, by its operation: any literal is in a table of its own
 operand : (p : Program) (op : Op) → NamesRightly p op → HasOperand (with_table p (listed (literal_of op))) op
@@ -55,9 +55,6 @@ emitted_dests (Give k) ds es h = one_at_most ds es h
 emitted_dests (Drain k) ds es h = one_at_most ds es h
 emitted_dests op ds es h = two_at_most ds es h
 
-contains_some : {X : Type 0} (xs : List X) (k : ℕ) (x : X) → slice_get xs k ≡ Some x → Contains xs x
-contains_some xs k x e = (k, slice_get_within xs k x e, get_or_from_slice_get xs k x x e)
-
 -- A SOUND PLAN in which each instruction has as many destinations as its kind has in an object
 module _ (q : Plan) (s : IsSound q) (few : AllInstrs HasItsDests q.program) (slots : List (List ℕ)) (good : Good q slots) where
   module _ (b : ℕ) (c : CodeBlock) (ss : List ℕ) (at : slice_get q.program.blocks b ≡ Some c) (to : slice_get slots b ≡ Some ss) where
@@ -68,10 +65,10 @@ module _ (q : Plan) (s : IsSound q) (few : AllInstrs HasItsDests q.program) (slo
     slots_good = good.blocks b c ss at to
 
     plan : IsPlanBlock c
-    plan = all_get IsPlanBlock q.program.blocks b c s.wired.plan.blocks at
+    plan = all_at IsPlanBlock q.program.blocks b c s.wired.plan.blocks at
 
     dests : All HasItsDests c.instrs
-    dests = all_get (λ (c : CodeBlock). All HasItsDests c.instrs) q.program.blocks b c few at
+    dests = all_at (λ (c : CodeBlock). All HasItsDests c.instrs) q.program.blocks b c few at
 
     forward : (n : ℕ) (i : Instr) (d : Dest) → slice_get c.instrs n ≡ Some i → Contains (i.firsts ++ i.seconds) d → IsDest c n d
     forward n i d e h = (s.dests b n c d (record { i = i; block = at; there = e; named = h })).dest
@@ -80,10 +77,10 @@ module _ (q : Plan) (s : IsSound q) (few : AllInstrs HasItsDests q.program) (slo
     emittable_instr n i e = record {
       operand = operand q.program i.op (block.instrs n i e).operand;
       origin = (block.instrs n i e).origin;
-      holder = λ h k. let w = plan.below i h (contains_some c.instrs n i e) k in let a = slots_good.all in omega (arith, w, a);
-      dests = emitted_dests i.op i.firsts i.seconds (all_get HasItsDests c.instrs n i dests e);
-      firsts = all_of (IsDest c n) i.firsts (λ k d f. forward n i d e (Contains-append_left i.firsts i.seconds d (contains_some i.firsts k d f)));
-      seconds = all_of (IsDest c n) i.seconds (λ k d f. forward n i d e (Contains-append_right i.firsts i.seconds d (contains_some i.seconds k d f)));
+      holder = λ h k. let w = plan.below i h (get_contains c.instrs n i e) k in let a = slots_good.all in omega (arith, w, a);
+      dests = emitted_dests i.op i.firsts i.seconds (all_at HasItsDests c.instrs n i dests e);
+      firsts = all_from (IsDest c n) i.firsts (λ k d f. forward n i d e (Contains-append_left i.firsts i.seconds d (get_contains i.firsts k d f)));
+      seconds = all_from (IsDest c n) i.seconds (λ k d f. forward n i d e (Contains-append_right i.firsts i.seconds d (get_contains i.seconds k d f)));
     }
 
     emittable_block : IsEmittableBlock q.program c ss

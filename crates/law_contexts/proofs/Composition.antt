@@ -4,6 +4,8 @@ use Rattle.std.specs.Prelude.{All, IsPermutation, Contains, flat_map, slice_get,
 use Rattle.std.proofs.lemmas.List.Sorted.{IsPermutation-trans, IsPermutation-refl, IsPermutation-sym, IsPermutation-append, IsPermutation-append_left, IsPermutation-append_right, All-permutation}
 use Rattle.std.proofs.lemmas.List.Elements.{All-append, All-nil, All-weaker, Contains-append_left, Contains-append_cases}
 use Rattle.std.proofs.lemmas.Option.{slice_get_within}
+use Rattle.lemmas.proofs.Alls.{all_left, all_right}
+use Rattle.lemmas.proofs.Contains.{contains_cases, contains_get, contains_none}
 use Rattle.tags.specs.declared.value.Value.TheVariants.{Int}
 use Rattle.tags.specs.declared.token.Token.{Token}
 use Rattle.semantics.specs.Graph.{Flow}
@@ -11,8 +13,6 @@ use Rattle.semantics.specs.Meaning.{State, Main, Tagged, tagged, AtNode, Operand
 use Rattle.semantics.specs.Plan.{Plan}
 use Rattle.semantics.specs.Machine.{Machine, Store, Size, Events, Run, at_start}
 use Rattle.semantics.specs.Handed.{handed, handed_by, EachOnce, UsesEachOnce}
-use Rattle.law_determinacy.proofs.Resolved.{contains_get}
-use Rattle.law_net.proofs.Members.{contains_cases, contains_none}
 use Rattle.semantics.specs.Arcs.{UsesArc, SomeEvent}
 use Rattle.semantics.specs.Holders.{Holder}
 use Rattle.semantics.specs.Credits.{granted, released}
@@ -33,7 +33,7 @@ use Rattle.law_once.proofs.OnceFaith.{once_suffices}
 use Rattle.law_once.proofs.Alike.{alike_is_faithful}
 use Rattle.law_once.proofs.Bounded.{orderly_is_bounded}
 use Rattle.law_net.proofs.Orders.{shuffled, flat_map-IsPermutation, Part, ◌⊕◌}
-use Rattle.law_net.proofs.Net.{Waits, Fires, net_sound_moves, net_sound_begins, fires_allowed, All-append_left, All-append_right}
+use Rattle.law_net.proofs.Net.{Waits, Fires, net_sound_moves, net_sound_begins, fires_allowed}
 use Rattle.law_net.proofs.NetFollows.{OnFires, net_follows}
 use Rattle.law_net.proofs.Arms.{arms_lawful}
 use Rattle.law_contexts.specs.Parts.{Item, Firing, spot_of, same_spot, role_of}
@@ -90,13 +90,13 @@ module _ (stage : ℕ) (A : AllPackages stage) (fl : Flow) (p : Plan) (w : Wires
   words_move c d (Fires f now kept rest others a b both e) sound fits =
       let W = WordFits fl w in
       let all = split W c f now kept rest others a b both fits in
-      let mine = All-append_left W (takes fl f) (rest ++ (others ++ flat_map (takes fl) c.fired)) all in
-      let left = All-append_right W (takes fl f) (rest ++ (others ++ flat_map (takes fl) c.fired)) all in
-      let more = All-append_right W rest (others ++ flat_map (takes fl) c.fired) left in
+      let mine = all_left W (takes fl f) (rest ++ (others ++ flat_map (takes fl) c.fired)) all in
+      let left = all_right W (takes fl f) (rest ++ (others ++ flat_map (takes fl) c.fired)) all in
+      let more = all_right W rest (others ++ flat_map (takes fl) c.fired) left in
       subst (WordsFit fl w inputs) (sym e) (All-append W (makes fl w f ++ rest) (others ++ (takes fl f ++ flat_map (takes fl) c.fired))
-      (All-append W (makes fl w f) rest ((A.words fl p w inputs good fit).words f (fit_of f now kept rest others a b both) mine) (All-append_left W rest (others ++ flat_map (takes fl) c.fired) left))
-      (All-append W others (takes fl f ++ flat_map (takes fl) c.fired) (All-append_left W others (flat_map (takes fl) c.fired) more)
-      (All-append W (takes fl f) (flat_map (takes fl) c.fired) mine (All-append_right W others (flat_map (takes fl) c.fired) more))))
+      (All-append W (makes fl w f) rest ((A.words fl p w inputs good fit).words f (fit_of f now kept rest others a b both) mine) (all_left W rest (others ++ flat_map (takes fl) c.fired) left))
+      (All-append W others (takes fl f ++ flat_map (takes fl) c.fired) (all_left W others (flat_map (takes fl) c.fired) more)
+      (All-append W (takes fl f) (flat_map (takes fl) c.fired) mine (all_right W others (flat_map (takes fl) c.fired) more))))
     where
       fit_of : (f : Firing) (now kept rest others : List Item) → IsPermutation c.pending (now ++ rest) → IsPermutation c.waiting (kept ++ others) → IsPermutation (now ++ kept) (takes fl f) → All (λ (i : Item). Fits fl w (spot_of i)) (takes fl f)
       fit_of f now kept rest others a b both = fits_of (takes fl f) (fires_allowed spot_of same_spot (takes fl) (makes fl w) (begins inputs) role_of (Allowed fl w inputs) lawful c sound f now kept rest others a b both)
@@ -117,7 +117,7 @@ module _ (stage : ℕ) (A : AllPackages stage) (fl : Flow) (p : Plan) (w : Wires
       tells (Waits i rest a e) proper = tt
       tells (Fires f now kept rest others a b both e) proper = A.told (telling_of fl f.context f.part) fl p w inputs f c.fired good fit
           (fires_allowed spot_of same_spot (takes fl) (makes fl w) (begins inputs) role_of (Allowed fl w inputs) lawful c k.sound f now kept rest others a b both)
-          (All-append_left (WordFits fl w) (takes fl f) (rest ++ (others ++ flat_map (takes fl) c.fired)) (split (WordFits fl w) c f now kept rest others a b both k.fits))
+          (all_left (WordFits fl w) (takes fl f) (rest ++ (others ++ flat_map (takes fl) c.fired)) (split (WordFits fl w) c f now kept rest others a b both k.fits))
           proper refl
 
   pub moves_keep : (c d : Config) → ProperMoves fl w c d → IsKept c → IsKept d

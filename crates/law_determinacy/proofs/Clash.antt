@@ -7,12 +7,12 @@ use Rattle.tags.specs.declared.value.FaultKind.TheVariants.{Range}
 use Rattle.tags.specs.declared.value.Origin.{Origin}
 use Rattle.tags.specs.declared.value.Origin.TheVariants.{Untold}
 use Rattle.std.specs.Prelude.{pos, negsuc}
+use Rattle.std.proofs.lemmas.Option.{same_Some}
 use Rattle.operators.specs.Values.{Indexed, Place, Outside, index_in}
 use Rattle.semantics.specs.declared.graph.Kind.{Kind}
 use Rattle.semantics.specs.declared.graph.Kind.TheVariants.{Lit, Apply1, Apply2, Cond, Enter, Merge, Fetch, Store, Call, StrictCall, Loop}
 use Rattle.semantics.specs.Graph.{Node, Block, Flow, node_at, first_cell, array_len}
 use Rattle.semantics.specs.Meaning.{Context, AtNode, Operand, Tagged, tagged, State, Deed, Fills, fired, fired_in, fetched, stored, input_passed, on_node, on_block, block_of, node_of, node_in, origin_at, cell_of, cell_in, Clashes}
-use Rattle.law_determinacy.proofs.Options.{some_same}
 use Rattle.law_determinacy.proofs.Laws.{IsFlowWell, well_at}
 
 pub record IsClash (fl : Flow) (s : State) (cell : ℕ) : Type 0 where
@@ -97,7 +97,7 @@ abbrev IsStoreOf : Flow → ℕ → Value → Kind ℕ → Type 0
 IsStoreOf fl x index kind = (a : ℕ) × (kind ≡ Store a) × (cell_of fl a index ≡ Some x)
 
 store_kind : (fl : Flow) (c : Context) (n x : ℕ) (index value : Value) (kind : Kind ℕ) → fired fl c n kind (index ∷ value ∷ []) ≡ Some (Fills c n x value) → IsStoreOf fl x index kind
-store_kind fl c n x index value (Store a) e = (a, refl, place_back (array_len fl a) index Untold (origin_at fl c n) (first_cell fl a) x c n value (some_same _ _ e))
+store_kind fl c n x index value (Store a) e = (a, refl, place_back (array_len fl a) index Untold (origin_at fl c n) (first_cell fl a) x c n value (same_Some _ _ e))
 store_kind fl c n x index value (Lit z) e = cc
 store_kind fl c n x index value (Apply1 op) e = cc
 store_kind fl c n x index value (Apply2 op) e = absurd (cc)

@@ -2,10 +2,10 @@
 use Rattle.std.proofs.Common.{◌≡◌, ℕ, ◌⊎◌, Bool, true, false, [], Option, Some, None, ◌==◌, if◌then◌else◌, inl, inr, refl, sym, ap, ◌∙◌, subst₂, ⊎_elim, eqb-true, ne_eqb}
 use Rattle.std.specs.Prelude.{⊤}
 use Rattle.std.proofs.lemmas.Bool.{cases_eq}
+use Rattle.std.proofs.lemmas.Option.{same_Some}
 use Rattle.tags.specs.declared.value.Value.{Value}
 use Rattle.semantics.specs.Graph.{Flow}
 use Rattle.semantics.specs.Meaning.{Context, Memory, Effect, Message, Sends, Deed, Says, Reads, Fills, Puts, done, adds, tokens_of, when_full, when_empty, at_place, with_cell, with_output}
-use Rattle.law_determinacy.proofs.Options.{some_same}
 
 -- neither writes the output that the other writes
 abbrev pub Apart : Deed → Deed → Type 0
@@ -49,16 +49,16 @@ cells_swapped : (f : ℕ → Option Value) (x y : ℕ) (v w : Value) → (x ≡ 
 cells_swapped f x y v w other = λ i z. at_swapped f x y v w other z i
 
 pub kept : (fl : Flow) (m : Memory) (d : Deed) (E : Effect) → done fl m d ≡ Some E → CellsKept m E.memory
-kept fl m (Says t) E e x v h = let r = ap (λ (E : Effect). E.memory.cells x) (some_same _ E e) in sym r ∙ h
+kept fl m (Says t) E e x v h = let r = ap (λ (E : Effect). E.memory.cells x) (same_Some _ E e) in sym r ∙ h
 kept fl m (Reads c n y) E e x v h =
     let f = full_of (m.cells y) (λ v. adds (tokens_of fl (Sends c n 0 v)) m) E e in
-    let r = ap (λ (E : Effect). E.memory.cells x) (some_same _ E f.2) in sym r ∙ h
+    let r = ap (λ (E : Effect). E.memory.cells x) (same_Some _ E f.2) in sym r ∙ h
 kept fl m (Fills c n y w) E e x v h =
     let f = empty_of (m.cells y) (adds (tokens_of fl (Sends c n 0 w)) (with_cell m y w)) E e in
-    let r = ap (λ (E : Effect). E.memory.cells x) (some_same _ E f.1) in
+    let r = ap (λ (E : Effect). E.memory.cells x) (same_Some _ E f.1) in
     let other : y ≡ x → ⊥ = λ k. let s = ap m.cells k in cc in
     sym r ∙ at_other m.cells y x w other ∙ h
-kept fl m (Puts j w) E e x v h = let r = ap (λ (E : Effect). E.memory.cells x) (some_same _ E e) in sym r ∙ h
+kept fl m (Puts j w) E e x v h = let r = ap (λ (E : Effect). E.memory.cells x) (same_Some _ E e) in sym r ∙ h
 
 -- a deed that leaves the memory alone, and goes as well in any that keeps what is full
 abbrev pub Steady : Flow → Memory → Deed → Effect → Type 0
@@ -66,13 +66,13 @@ Steady fl m d E = (E.memory ≡ m) × ((n : Memory) → CellsKept m n → done f
 
 says_steady : (fl : Flow) (m : Memory) (t : Message) (E : Effect) → done fl m (Says t) ≡ Some E → Steady fl m (Says t) E
 says_steady fl m t E e =
-    let r = some_same _ E e in
+    let r = same_Some _ E e in
     (sym (ap (λ (E : Effect). E.memory) r), λ n h. ap (λ (E : Effect). Some record { added = E.added; memory = n }) r)
 
 reads_steady : (fl : Flow) (m : Memory) (c : Context) (n x : ℕ) (E : Effect) → done fl m (Reads c n x) ≡ Some E → Steady fl m (Reads c n x) E
 reads_steady fl m c n x E e =
     let f = full_of (m.cells x) (λ v. adds (tokens_of fl (Sends c n 0 v)) m) E e in
-    let r = some_same _ E f.2 in (
+    let r = same_Some _ E f.2 in (
       sym (ap (λ (E : Effect). E.memory) r),
       λ k h. ap (λ o. when_full o (λ v. adds (tokens_of fl (Sends c n 0 v)) k)) (h x f.0 f.1) ∙ ap (λ (E : Effect). Some record { added = E.added; memory = k }) r,
     )
@@ -110,24 +110,24 @@ commutes fl m (Fills c n x v) (Fills c' n' y w) E F p q h =
     let f = empty_of (m.cells x) (adds (tokens_of fl (Sends c n 0 v)) (with_cell m x v)) E p in
     let g = empty_of (m.cells y) (adds (tokens_of fl (Sends c' n' 0 w)) (with_cell m y w)) F q in
     ⊎_elim (λ same. inr same)
-    (λ other. inl (subst₂ (λ E F. Commutes fl (Fills c n x v) (Fills c' n' y w) E F) (some_same _ E f.1) (some_same _ F g.1) (fills_fills fl m c c' n n' x y v w f.0 g.0 other)))
+    (λ other. inl (subst₂ (λ E F. Commutes fl (Fills c n x v) (Fills c' n' y w) E F) (same_Some _ E f.1) (same_Some _ F g.1) (fills_fills fl m c c' n n' x y v w f.0 g.0 other)))
     (cases_eq x y)
 commutes fl m (Fills c n x v) (Puts j w) E F p q h =
     let f = empty_of (m.cells x) (adds (tokens_of fl (Sends c n 0 v)) (with_cell m x v)) E p in
-    inl (subst₂ (λ E F. Commutes fl (Fills c n x v) (Puts j w) E F) (some_same _ E f.1) (some_same _ F q) record {
+    inl (subst₂ (λ E F. Commutes fl (Fills c n x v) (Puts j w) E F) (same_Some _ E f.1) (same_Some _ F q) record {
       memory = with_output (with_cell m x v) j w;
       first = refl;
       second = ap (λ o. when_empty o (adds (tokens_of fl (Sends c n 0 v)) (with_cell (with_output m j w) x v))) f.0;
     })
 commutes fl m (Puts j w) (Fills c n x v) E F p q h =
     let f = empty_of (m.cells x) (adds (tokens_of fl (Sends c n 0 v)) (with_cell m x v)) F q in
-    inl (subst₂ (λ E F. Commutes fl (Puts j w) (Fills c n x v) E F) (some_same _ E p) (some_same _ F f.1) record {
+    inl (subst₂ (λ E F. Commutes fl (Puts j w) (Fills c n x v) E F) (same_Some _ E p) (same_Some _ F f.1) record {
       memory = with_output (with_cell m x v) j w;
       first = ap (λ o. when_empty o (adds (tokens_of fl (Sends c n 0 v)) (with_cell (with_output m j w) x v))) f.0;
       second = refl;
     })
 commutes fl m (Puts j v) (Puts k w) E F p q h =
-    inl (subst₂ (λ E F. Commutes fl (Puts j v) (Puts k w) E F) (some_same _ E p) (some_same _ F q) record {
+    inl (subst₂ (λ E F. Commutes fl (Puts j v) (Puts k w) E F) (same_Some _ E p) (same_Some _ F q) record {
       memory = with_output (with_output m j v) k w;
       first = refl;
       second = ap (λ f. adds [] record { cells = m.cells; outputs = f }) (sym (cells_swapped m.outputs j k v w h));

@@ -1,11 +1,11 @@
 -- Two different activities of one state: both orders lead to one state, or both fill one cell.
-use Rattle.std.proofs.Common.{◌≡◌, ℕ, Bool, List, [], ◌∷◌, ◌++◌, Option, Some, None, if◌then◌else◌, IsPermutation, refl, sym, ap, ◌∙◌, subst, subst₂, ⊎_elim, eq-eqb, append_assoc}
-use Rattle.std.proofs.lemmas.List.Sorted.{IsPermutation-refl, IsPermutation-sym, IsPermutation-trans, IsPermutation-append_left, IsPermutation-append_right, IsPermutation-append_comm}
+use Rattle.std.proofs.Common.{◌≡◌, ℕ, Bool, List, [], ◌∷◌, ◌++◌, Option, Some, None, if◌then◌else◌, IsPermutation, refl, sym, ap, ◌∙◌, subst, subst₂, ⊎_elim, eq-eqb}
+use Rattle.std.proofs.lemmas.List.Sorted.{IsPermutation-refl, IsPermutation-sym, IsPermutation-trans, IsPermutation-append_right}
+use Rattle.std.proofs.lemmas.Option.{same_Some}
 use Rattle.tags.specs.declared.value.Value.{Value}
 use Rattle.semantics.specs.Graph.{Flow}
 use Rattle.semantics.specs.Meaning.{Context, AtOut, Tagged, Memory, State, Effect, Activity, Fires, Outputs, taken, Deed, Fills, Puts, deed, done, done_if, effect, adds, tokens_of, Sends, with_cell, at_place, Step, Same, Clashes}
-use Rattle.law_determinacy.proofs.Options.{some_same}
-use Rattle.law_determinacy.proofs.Perm.{Within, Meet, each_from, spread_permutation, within_permutation, within_left, permutation_meet, permutation_cancel}
+use Rattle.lemmas.proofs.Permutations.{Within, Meet, each_from, spread_permutation, within_permutation, within_left, permutation_meet, permutation_cancel, permutation_exchange}
 use Rattle.law_determinacy.proofs.Keys.{Differ, Unique, Held, differ_turn, same_activity}
 use Rattle.law_determinacy.proofs.Deeds.{Apart, SameCell, Commutes, commutes, kept, empty_of}
 use Rattle.law_determinacy.proofs.Shapes.{storing, showing}
@@ -26,10 +26,6 @@ effect_of fl m a d E p q = ap (λ o. done_if fl m o) p ∙ q
 pub held_from : (ts us rest : List Tagged) → IsPermutation ts (us ++ rest) → Held ts us
 held_from ts us rest p =
     each_from (λ t. Within t ts) us (λ x h. within_permutation x (us ++ rest) ts (IsPermutation-sym ts (us ++ rest) p) (within_left x us rest h))
-
-pub permutation_exchange : {X : Type 0} (xs ys zs : List X) → IsPermutation (xs ++ (ys ++ zs)) (ys ++ (xs ++ zs))
-permutation_exchange xs ys zs =
-    subst₂ (λ l r. IsPermutation l r) (append_assoc xs ys zs) (append_assoc ys xs zs) (IsPermutation-append_left zs (xs ++ ys) (ys ++ xs) (IsPermutation-append_comm xs ys))
 
 -- old is a, then b, then a rest: so b is there after the step by a, and the rest has what a added
 pub moved_on : {X : Type 0} (new added rest bs ws : List X) → IsPermutation new (added ++ rest) → IsPermutation rest (bs ++ ws) → IsPermutation new (bs ++ (added ++ ws))
@@ -61,7 +57,7 @@ at_filled f x v = ap (λ (b : Bool). if b then Some v else f x) (eq-eqb x x refl
 filled : (fl : Flow) (m : Memory) (c : Context) (n x : ℕ) (v : Value) (E : Effect) → done fl m (Fills c n x v) ≡ Some E → E.memory.cells x ≡ Some v
 filled fl m c n x v E e =
     let f = empty_of (m.cells x) (adds (tokens_of fl (Sends c n 0 v)) (with_cell m x v)) E e in
-    ap (λ (E : Effect). E.memory.cells x) (sym (some_same _ E f.1)) ∙ at_filled m.cells x v
+    ap (λ (E : Effect). E.memory.cells x) (sym (same_Some _ E f.1)) ∙ at_filled m.cells x v
 
 clash_after : (fl : Flow) (t : State) (a b : Activity) (d e : Deed) (m : Memory) (E : Effect) (rest : List Tagged) → deed fl a ≡ Some d → deed fl b ≡ Some e → done fl m d ≡ Some E → SameCell d e
     → t.memory ≡ E.memory → IsPermutation t.tokens (taken b ++ rest) → (cell : ℕ) × StoresTo fl a cell × StoresTo fl b cell × Clashes fl t cell
@@ -92,7 +88,7 @@ diamond fl s t u a b all p q =
     ⊎_elim
     (λ (m : Meet (taken a) (taken b)).
     let one = same_activity fl s.tokens all a b d.0 e.0 d.1 e.1 (held_from s.tokens (taken a) p.rest p.takes) (held_from s.tokens (taken b) q.rest q.takes) m.0 m.1 m.2 in
-    let effects : p.does ≡ q.does = some_same p.does q.does (sym p.allowed ∙ ap (λ x. effect fl s.memory x) one ∙ q.allowed) in
+    let effects : p.does ≡ q.does = same_Some p.does q.does (sym p.allowed ∙ ap (λ x. effect fl s.memory x) one ∙ q.allowed) in
     let rests : IsPermutation p.rest q.rest = permutation_cancel (taken b) p.rest q.rest (subst (λ x. IsPermutation (taken x ++ p.rest) (taken b ++ q.rest)) one both) in
     let there : IsPermutation t.tokens (q.does.added ++ q.rest) =
     IsPermutation-trans _ _ _ (subst (λ (E : Effect). IsPermutation t.tokens (E.added ++ p.rest)) effects p.leaves) (IsPermutation-append_right q.does.added p.rest q.rest rests) in
@@ -133,7 +129,7 @@ clash_stays fl s t a x all c p =
     ⊎_elim
     (λ (m : Meet (taken a) (taken b)).
     let one = same_activity fl s.tokens all a b d.0 (Fills c.context c.node x c.value) d.1 c.is_store (held_from s.tokens (taken a) p.rest p.takes) (held_from s.tokens (taken b) c.rest c.tokens) m.0 m.1 m.2 in
-    let is : d.0 ≡ Fills c.context c.node x c.value = some_same _ _ (sym d.1 ∙ ap (λ x. deed fl x) one ∙ c.is_store) in
+    let is : d.0 ≡ Fills c.context c.node x c.value = same_Some _ _ (sym d.1 ∙ ap (λ x. deed fl x) one ∙ c.is_store) in
     let does = subst (λ d. done fl s.memory d ≡ Some p.does) is d.2 in
     let f = empty_of (s.memory.cells x) (adds (tokens_of fl (Sends c.context c.node 0 c.value)) (with_cell s.memory x c.value)) p.does does in
     let none = f.0 in

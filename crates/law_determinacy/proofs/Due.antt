@@ -9,13 +9,13 @@ use Rattle.semantics.specs.declared.graph.Kind.{Kind}
 use Rattle.semantics.specs.declared.graph.Kind.TheVariants.{Call, StrictCall, Loop}
 use Rattle.semantics.specs.Graph.{Node, Block, Flow, node_at, node_count}
 use Rattle.semantics.specs.Meaning.{Context, Main, Called, Turned, Tagged, Activity, Fires, taken, Message, Sends, State, Step, Run, start, block_of, node_of, node_in, Stood, Due, IsCall, IsLoop, StartsWhenStrict, ArmsTaken, arms_at, arms_round, arm_of}
-use Rattle.law_determinacy.proofs.Perm.{Within, Each, each_within, each_weaker, put_first, put_later, within_permutation, within_append, within_left, within_right, within_to}
+use Rattle.lemmas.proofs.Permutations.{Within, Each, each_within, each_weaker, put_first, put_later, within_permutation, within_append, within_left, within_right, within_to, permutation_exchange}
 use Rattle.std.proofs.Common.{map}
 use Rattle.tags.specs.declared.value.Value.TheVariants.{Int}
 use Rattle.std.proofs.lemmas.List.Sorted.{IsPermutation-append_right}
 use Rattle.semantics.specs.Meaning.{tokens_of}
 use Rattle.law_determinacy.proofs.Keys.{unique_same}
-use Rattle.law_determinacy.proofs.Diamond.{held_from, deed_of, permutation_exchange}
+use Rattle.law_determinacy.proofs.Diamond.{held_from, deed_of}
 use Rattle.law_determinacy.proofs.History.{HistoryOf, Fits, at_start, spoken, history_moved, step_history, start_history, once, run_lawful, stood_ever}
 use Rattle.law_determinacy.proofs.Uses.{Member, tokens_member, entering_member}
 use Rattle.law_determinacy.proofs.Rows.{Class, Telling, Calling, Strict, Looping, class_of, class_node, class_in, class_at, region_node, region_in, region_at, Row, RowFires, RowTells, RowGates, RowQuiet, RowMerges, RowCalls, RowStrict, RowLoops, RowReturns, RowAgain, RowLeaves, rows}

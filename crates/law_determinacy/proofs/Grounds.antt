@@ -1,6 +1,7 @@
 -- What an activity sends is grounded in what it takes.
-use Rattle.std.proofs.Common.{◌≡◌, ℕ, zero, suc, ◌+◌, ◌-◌, ◌<◌, ◌≤◌, ◌⊎◌, Bool, true, false, List, [], ◌∷◌, length, Option, Some, None, nat_lt, if◌then◌else◌, inl, inr, refl, sym, ap, ◌∙◌, subst, arith, ⊎_elim, lt-ltb}
+use Rattle.std.proofs.Common.{◌≡◌, ℕ, ◌+◌, ◌-◌, ◌<◌, ◌≤◌, ◌⊎◌, Bool, true, false, List, [], ◌∷◌, length, Option, Some, None, nat_lt, if◌then◌else◌, inl, inr, refl, sym, ap, ◌∙◌, subst, arith, ⊎_elim, lt-ltb}
 use Rattle.std.specs.Prelude.{slice_get}
+use Rattle.std.proofs.lemmas.Option.{slice_get_within}
 use Rattle.tags.specs.declared.value.Value.{Value}
 use Rattle.operators.specs.Values.{truth}
 use Rattle.semantics.specs.declared.graph.Region.TheVariants.{Root, Arm}
@@ -8,7 +9,7 @@ use Rattle.semantics.specs.declared.graph.Kind.{Kind}
 use Rattle.semantics.specs.declared.graph.Kind.TheVariants.{Call, StrictCall, Loop}
 use Rattle.semantics.specs.Graph.{Node, Block, Flow, node_at}
 use Rattle.semantics.specs.Meaning.{Context, Turned, AtNode, AtTurn, Operand, Predicate, Flag, Tagged, tagged, Activity, taken, operands_from, callee, callee_of, callee_in, block_numbered, block_of, Message}
-use Rattle.law_determinacy.proofs.Perm.{Each}
+use Rattle.lemmas.proofs.Permutations.{Each}
 use Rattle.law_determinacy.proofs.Keys.{Together, mode_of, mode_node, mode_in, mode_at}
 use Rattle.law_determinacy.proofs.Rows.{Class, Plain, Telling, Gate, Join, Calling, Strict, Looping, class_of, class_node, class_in, class_at, region_node, region_in, region_at, Row, RowFires, RowTells, RowGates, RowQuiet, RowMerges, RowCalls, RowStrict, RowLoops, RowReturns, RowAgain, RowLeaves}
 use Rattle.law_determinacy.proofs.Laws.{IsFlowWell, IsInvoking, well_at, Tokens, HasArgument, HasFlag, ContextLaw, ArmLaw, LineLaw, Lawful, Grounded}
@@ -55,11 +56,6 @@ found_node k false (Some node) e h = (node, refl, e)
 pub found_line : (o : Option (Block ℕ)) (n : ℕ) (k : Class) → class_in o n ≡ k → IsInvoking k → (b : Block ℕ) × (node : Node ℕ) × (o ≡ Some b) × (node_at b n ≡ Some node) × (class_of node.kind ≡ k)
 found_line None n k e h = absurd (subst IsInvoking (sym e) h)
 found_line (Some b) n k e h = let x = found_node k (nat_lt n b.inputs) (slice_get b.nodes (n - b.inputs)) e h in (b, x.0, refl, x.1, x.2)
-
-pub get_below : {X : Type 0} (xs : List X) (i : ℕ) (x : X) → slice_get xs i ≡ Some x → i < length xs
-get_below [] i x e = cc
-get_below (y ∷ xs) zero x e = omega arith
-get_below (y ∷ xs) (suc i) x e = let ih = get_below xs i x e in omega arith
 
 module _ (fl : Flow) (w : IsFlowWell fl) where
   -- what a node of that class invokes
@@ -150,7 +146,7 @@ module _ (fl : Flow) (w : IsFlowWell fl) (E : Tokens) (all : (t : Tagged) → E 
       let same_block : b ≡ x.5.0 = cc in
       let lines = sym l.2 ∙ ap (λ (b : Block ℕ). node_at b n) same_block ∙ x.5.2 in
       let same : l.0 ≡ x.1 = cc in
-      let below = get_below l.0.sources i l.1 l.3 in
+      let below = slice_get_within l.0.sources i l.1 l.3 in
       let long = ap (λ (node : Node ℕ). length node.sources) same in
       (x.0, x.2, omega (arith, x.3, below, long)))
       law.2

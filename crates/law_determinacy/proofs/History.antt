@@ -1,14 +1,14 @@
 -- A run's history: all tokens that ever stood, no two at one place, each with its cause.
 use Rattle.std.proofs.Common.{◌≡◌, ℕ, suc, ◌≤◌, ◌⊎◌, ℤ, List, [], ◌∷◌, ◌++◌, map, length, Some, IsPermutation, inl, inr, refl, sym, ap, subst, arith, ⊎_elim, append_assoc, append-nil, flat_map, Contains}
 use Rattle.std.proofs.lemmas.List.Sorted.{IsPermutation-refl, IsPermutation-sym, IsPermutation-trans, IsPermutation-append_right, IsPermutation-append_left, Contains-permutation}
+use Rattle.std.proofs.lemmas.Option.{same_Some}
 use Rattle.tags.specs.declared.value.Value.TheVariants.{Int}
 use Rattle.semantics.specs.Graph.{Block, Flow}
 use Rattle.semantics.specs.Meaning.{Main, Tagged, State, Memory, Effect, Activity, taken, Deed, Says, Reads, Fills, Puts, done, adds, with_cell, Message, Sends, Tells, Enters, Nothing, tokens_of, block_of, Step, Same, Run, Stood, Reached, AtRest, start}
-use Rattle.law_determinacy.proofs.Options.{some_same}
-use Rattle.law_determinacy.proofs.Perm.{Within, Each, each_from, each_within, each_weaker, spread_append, spread_append_back, spread_permutation, within_permutation, within_append, within_left, within_right, within_from, within_to}
+use Rattle.lemmas.proofs.Permutations.{Within, Each, each_from, each_within, each_weaker, spread_append, spread_append_back, spread_permutation, within_permutation, within_append, within_left, within_right, within_from, within_to, permutation_exchange}
 use Rattle.law_determinacy.proofs.Keys.{Differ, Unique, Held, differ_turn, unique_same}
 use Rattle.law_determinacy.proofs.Deeds.{full_of, empty_of}
-use Rattle.law_determinacy.proofs.Diamond.{deed_of, held_from, permutation_exchange}
+use Rattle.law_determinacy.proofs.Diamond.{deed_of, held_from}
 use Rattle.law_determinacy.proofs.Determinacy.{IsKept, Converges, determinate}
 use Rattle.law_determinacy.proofs.Uses.{Member, tokens_member, tokens_unique, entering_member, entering_unique}
 use Rattle.law_determinacy.proofs.Rows.{Speaks, Row, rows}
@@ -63,14 +63,14 @@ start_history fl inputs f =
 
 -- what a deed adds is a message
 pub spoken : (fl : Flow) (m : Memory) (d : Deed) (E : Effect) → done fl m d ≡ Some E → (x : Message) × Speaks d x × (E.added ≡ tokens_of fl x)
-spoken fl m (Says x) E e = (x, refl, ap (λ (E : Effect). E.added) (sym (some_same _ E e)))
+spoken fl m (Says x) E e = (x, refl, ap (λ (E : Effect). E.added) (sym (same_Some _ E e)))
 spoken fl m (Reads c n x) E e =
     let f = full_of (m.cells x) (λ v. adds (tokens_of fl (Sends c n 0 v)) m) E e in
-    (Sends c n 0 f.0, (f.0, refl), ap (λ (E : Effect). E.added) (sym (some_same _ E f.2)))
+    (Sends c n 0 f.0, (f.0, refl), ap (λ (E : Effect). E.added) (sym (same_Some _ E f.2)))
 spoken fl m (Fills c n x v) E e =
     let f = empty_of (m.cells x) (adds (tokens_of fl (Sends c n 0 v)) (with_cell m x v)) E e in
-    (Sends c n 0 v, refl, ap (λ (E : Effect). E.added) (sym (some_same _ E f.1)))
-spoken fl m (Puts j v) E e = (Nothing, refl, ap (λ (E : Effect). E.added) (sym (some_same _ E e)))
+    (Sends c n 0 v, refl, ap (λ (E : Effect). E.added) (sym (same_Some _ E f.1)))
+spoken fl m (Puts j v) E e = (Nothing, refl, ap (λ (E : Effect). E.added) (sym (same_Some _ E e)))
 
 grounded_more : (fl : Flow) (E F : Tokens) → ((t : Tagged) → E t → F t) → (m : Message) → Grounded fl E m → Grounded fl F m
 grounded_more fl E F more (Sends c n p v) g = (context_more fl E F more c g.0, arm_more fl E F more c _ g.1)

@@ -1,6 +1,7 @@
 -- Tokens by their place: no two of a state at one place, and an activity by what it takes.
 use Rattle.std.proofs.Common.{◌≡◌, ℕ, zero, suc, ◌+◌, ◌-◌, ◌⊎◌, Bool, true, false, List, [], ◌∷◌, length, Option, Some, None, nat_lt, ◌==◌, if◌then◌else◌, inl, inr, refl, sym, ap, ap₂, ◌∙◌, subst, arith, ⊎_elim, eqb-true}
 use Rattle.std.specs.Prelude.{slice_get}
+use Rattle.std.proofs.lemmas.Option.{same_Some}
 use Rattle.tags.specs.declared.value.Value.{Value}
 use Rattle.semantics.specs.declared.graph.Region.{Region}
 use Rattle.semantics.specs.declared.graph.Region.TheVariants.{Root, Arm}
@@ -8,7 +9,7 @@ use Rattle.semantics.specs.declared.graph.Kind.{Kind}
 use Rattle.semantics.specs.declared.graph.Kind.TheVariants.{Lit, Apply1, Apply2, Cond, Enter, Merge, Fetch, Store, Call, StrictCall, Loop}
 use Rattle.semantics.specs.Graph.{Node, Block, Flow, node_at}
 use Rattle.semantics.specs.Meaning.{Context, Main, Called, Turned, Statement, AtNode, AtOut, AtTurn, Port, Operand, Predicate, Flag, Carried, Tagged, tagged, Activity, Fires, Gates, Passes, Returns, Turns, Outputs, taken, operands_from, Deed, deed, fired, fired_in, input_passed, gated, passed, on_node, on_block, block_of}
-use Rattle.law_determinacy.proofs.Perm.{Put, Within, Each, Spread, put_later, each_within, spread_put}
+use Rattle.lemmas.proofs.Permutations.{Put, Within, Each, Spread, put_later, each_within, spread_put, get_within}
 use Rattle.law_determinacy.specs.Outcome.{SameTag, TagsDiffer}
 
 abbrev pub Differ : Tagged → Tagged → Type 0
@@ -21,12 +22,6 @@ Unique ts = Spread Differ ts
 pub differ_turn : (t u : Tagged) → Differ t u → Differ u t
 differ_turn t u h k = h (sym k.0, sym k.1, sym k.2)
 
-some_tagged : (x y : Tagged) → Some x ≡ Some y → x ≡ y
-some_tagged x y e = cc
-
-put_first_of : (x : Tagged) (xs : List Tagged) → Within x (x ∷ xs)
-put_first_of x xs = (xs, inl (refl, refl))
-
 put_other : (t u : Tagged) (zs ts ws : List Tagged) → Put t zs ts → Put u ws ts → (u ≡ t) ⊎ Within u zs
 put_other t u zs [] ws p q = absurd p
 put_other t u zs (x ∷ ts) ws (inl p) (inl q) = inl (q.0 ∙ sym p.0)
@@ -34,11 +29,6 @@ put_other t u zs (x ∷ ts) ws (inl p) (inr q) = inr (q.0, subst (λ l. Put u q.
 put_other t u zs (x ∷ ts) ws (inr p) (inl q) = inr (subst (λ l. Within u l) (sym p.1) (p.0, inl (q.0, refl)))
 put_other t u zs (x ∷ ts) ws (inr p) (inr q) =
     ⊎_elim (λ e. inl e) (λ w. inr (subst (λ l. Within u l) (sym p.1) (x ∷ w.0, put_later u x w.0 p.0 w.1))) (put_other t u p.0 ts q.0 p.2 q.2)
-
-within_get : (ts : List Tagged) (i : ℕ) (t : Tagged) → slice_get ts i ≡ Some t → Within t ts
-within_get [] i t e = cc
-within_get (x ∷ ts) zero t e = subst (λ t. Within t (x ∷ ts)) (some_tagged x t e) (put_first_of x ts)
-within_get (x ∷ ts) (suc i) t e = let h = within_get ts i t e in (x ∷ h.0, put_later t x h.0 ts h.1)
 
 pub unique_same : (ts : List Tagged) → Unique ts → (t u : Tagged) → Within t ts → Within u ts → SameTag t u → t ≡ u
 unique_same ts all t u h k same =
@@ -48,8 +38,8 @@ unique_same ts all t u h k same =
 pub tags_differ : (ts : List Tagged) → Unique ts → TagsDiffer ts
 tags_differ [] all i j t u e f same = cc
 tags_differ (x ∷ ts) all zero zero t u e f same = refl
-tags_differ (x ∷ ts) all zero (suc j) t u e f same = absurd (each_within (Differ x) u ts (within_get ts j u f) all.0 (subst (λ x. SameTag x u) (sym (some_tagged x t e)) same))
-tags_differ (x ∷ ts) all (suc i) zero t u e f same = absurd (each_within (Differ x) t ts (within_get ts i t e) all.0 (subst (λ x. SameTag x t) (sym (some_tagged x u f)) (sym same.0, sym same.1, sym same.2)))
+tags_differ (x ∷ ts) all zero (suc j) t u e f same = absurd (each_within (Differ x) u ts (get_within ts j u f) all.0 (subst (λ x. SameTag x u) (sym (same_Some x t e)) same))
+tags_differ (x ∷ ts) all (suc i) zero t u e f same = absurd (each_within (Differ x) t ts (get_within ts i t e) all.0 (subst (λ x. SameTag x t) (sym (same_Some x u f)) (sym same.0, sym same.1, sym same.2)))
 tags_differ (x ∷ ts) all (suc i) (suc j) t u e f same = ap suc (tags_differ ts all.1 i j t u e f same)
 
 -- HOW A NODE TAKES ITS TOKENS

@@ -9,7 +9,7 @@ use Rattle.semantics.specs.declared.graph.Source.{Source}
 use Rattle.semantics.specs.declared.graph.Kind.TheVariants.{Store}
 use Rattle.semantics.specs.Graph.{Node, Block, Flow, node_at}
 use Rattle.semantics.specs.Meaning.{Context, Main, Called, Turned, Statement, AtNode, AtTurn, Port, Operand, Predicate, Flag, Tagged, tagged, callee, block_numbered, block_number, block_of, Message, Sends, Tells, Enters, Nothing, tokens_of}
-use Rattle.law_determinacy.proofs.Perm.{Within}
+use Rattle.lemmas.proofs.Permutations.{Within}
 use Rattle.law_determinacy.proofs.Uses.{IsSource, UseOf, AsOperand, AsResult, AsFlag, AsCarried, Member, flags_sent}
 use Rattle.law_determinacy.proofs.Rows.{Class, Telling, Gate, Join, Calling, Strict, Looping, class_of, class_node, class_at, region_node, region_in, region_at}
 

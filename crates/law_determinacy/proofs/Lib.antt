@@ -1,5 +1,3 @@
-pub mod Options
-pub mod Perm
 pub mod Keys
 pub mod Deeds
 pub mod Shapes

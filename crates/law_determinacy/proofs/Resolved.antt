@@ -1,7 +1,10 @@
 -- A well-formed graph gives a well-formed flow.
-use Rattle.std.proofs.Common.{◌≡◌, ℕ, zero, suc, ◌+◌, ◌-◌, ◌<◌, ◌⊎◌, ℤ, Bool, true, false, List, [], ◌∷◌, map, length, get_or, Some, None, All, Contains, nat_lt, if◌then◌else◌, inl, inr, refl, sym, ap, ap₂, ◌∙◌, subst, subst₂, arith, ltb-false, le-ltb}
+use Rattle.std.proofs.Common.{◌≡◌, ℕ, zero, suc, ◌+◌, ◌-◌, ◌<◌, ◌⊎◌, ℤ, Bool, true, false, List, [], ◌∷◌, map, length, Some, None, Contains, nat_lt, if◌then◌else◌, inl, inr, refl, sym, ap, ◌∙◌, subst, subst₂, arith}
 use Rattle.std.specs.Prelude.{slice_get}
 use Rattle.std.proofs.lemmas.List.Elements.{All-contains}
+use Rattle.lemmas.proofs.Alls.{all_at}
+use Rattle.lemmas.proofs.Contains.{contains_get}
+use Rattle.lemmas.proofs.SliceGet.{map_get, map_get_back}
 use Rattle.semantics.specs.declared.graph.Region.{Region}
 use Rattle.semantics.specs.declared.graph.Region.TheVariants.{Root, Arm}
 use Rattle.semantics.specs.declared.graph.Source.{Source}
@@ -11,60 +14,12 @@ use Rattle.semantics.specs.Graph.{Node, Block, Graph, node_at, same_name, place_
 use Rattle.semantics.specs.WellFormed.{AllDiffer, IsRegion, IsCondNode, IsCond, region_in, region_of, HasShape, AllLieIn, LiesWell, NamesWell, IsNodeWell, IsBlockWell, WellFormed}
 use Rattle.semantics.specs.Meaning.{callee}
 use Rattle.semantics.specs.Faithful.{inputs_in, inputs_of}
+use Rattle.semantics.proofs.Lines.{same_name_is, same_name_itself}
 use Rattle.law_determinacy.proofs.Rows.{Gate, Join, Telling, class_of, class_node, region_node}
 use Rattle.law_determinacy.proofs.Laws.{IsFlowWell, IsLineWell}
-use Rattle.law_determinacy.proofs.Grounds.{get_below}
 use Rattle.law_determinacy.proofs.History.{Fits}
 
--- LISTS
-
-get_read : {X : Type 0} (xs : List X) (i : ℕ) (x : X) → slice_get xs i ≡ Some x → get_or xs i x ≡ x
-get_read [] i x e = cc
-get_read (y ∷ xs) zero x e = cc
-get_read (y ∷ xs) (suc i) x e = get_read xs i x e
-
-pub all_get : {X : Type 0} (P : X → Type 0) (xs : List X) (i : ℕ) (x : X) → All P xs → slice_get xs i ≡ Some x → P x
-all_get P xs i x h e = subst P (get_read xs i x e) (h i x (get_below xs i x e))
-
-read_get : {X : Type 0} (xs : List X) (i : ℕ) (d x : X) → i < length xs → get_or xs i d ≡ x → slice_get xs i ≡ Some x
-read_get [] i d x l e = absurd (omega arith)
-read_get (y ∷ xs) zero d x l e = ap (λ y. Some y) e
-read_get (y ∷ xs) (suc i) d x l e = read_get xs i d x (omega arith) e
-
-pub contains_get : {X : Type 0} (xs : List X) (x : X) → Contains xs x → (k : ℕ) × (slice_get xs k ≡ Some x)
-contains_get xs x h = (h.0, read_get xs h.0 x x h.1 h.2)
-
-map_get : {X Y : Type 0} (f : X → Y) (xs : List X) (i : ℕ) (x : X) → slice_get xs i ≡ Some x → slice_get (map f xs) i ≡ Some (f x)
-map_get f [] i x e = cc
-map_get f (y ∷ xs) zero x e = cc
-map_get f (y ∷ xs) (suc i) x e = map_get f xs i x e
-
-map_get_back : {X Y : Type 0} (f : X → Y) (xs : List X) (i : ℕ) (y : Y) → slice_get (map f xs) i ≡ Some y → (x : X) × (slice_get xs i ≡ Some x) × (f x ≡ y)
-map_get_back f [] i y e = cc
-map_get_back f (x ∷ xs) zero y e = (x, refl, cc)
-map_get_back f (x ∷ xs) (suc i) y e = map_get_back f xs i y e
-
 -- NAMES
-
-same_name_is : (x y : List ℕ) → same_name x y ≡ true → x ≡ y
-same_name_is [] [] e = refl
-same_name_is [] (b ∷ y) e = cc
-same_name_is (a ∷ x) [] e = cc
-same_name_is (a ∷ x) (b ∷ y) e = go (nat_lt a b) (nat_lt b a) refl refl e (same_name_is x y)
-  where
-    go : (s t : Bool) → nat_lt a b ≡ s → nat_lt b a ≡ t → (if s then false else if t then false else same_name x y) ≡ true → (same_name x y ≡ true → x ≡ y) → a ∷ x ≡ b ∷ y
-    go true t p q f ih = cc
-    go false true p q f ih = cc
-    go false false p q f ih =
-        let up = ltb-false a b p in
-        let down = ltb-false b a q in
-        let same : a ≡ b = omega arith in
-        ap₂ (λ a (x : List ℕ). a ∷ x) same (ih f)
-
-same_name_self : (x : List ℕ) → same_name x x ≡ true
-same_name_self [] = refl
-same_name_self (a ∷ x) =
-    ap (λ (t : Bool). if t then false else if t then false else same_name x x) (le-ltb a a (omega arith)) ∙ same_name_self x
 
 placed : (name : List ℕ) (n : ℕ) (names : List (List ℕ)) (k : ℕ) → slice_get names k ≡ Some name → (j : ℕ) × (place_from n name names ≡ n + j) × (slice_get names j ≡ Some name)
 placed name n [] k e = cc
@@ -75,7 +30,7 @@ placed name n (x ∷ xs) zero e = go (same_name name x) refl
     go false p =
         let same : name ≡ x = cc in
         let other = ap (λ y. same_name name y) same in
-        let self = same_name_self name in
+        let self = same_name_itself name in
         absurd (cc)
 placed name n (x ∷ xs) (suc k) e = go (same_name name x) refl (placed name (n + 1) xs k e)
   where
@@ -194,7 +149,7 @@ module _ (g : Graph) where
   node_well : WellFormed g → (b : Block (List ℕ)) (n : ℕ) (line : Node (List ℕ)) → IsNodeWell g b n line → IsLineWell (flow_of g) (block_in b) (node_in line)
   node_well well b n line h = record {
     round = λ k side e. round_cond b n line.region k side h.region e;
-    plain = λ gate join i s e. region_same b s.node ∙ all_get (λ (s : Source). region_of b s.node ≡ line.region) line.sources i s (lies_plain b n line.region line.kind line.sources h.lies gate join) e;
+    plain = λ gate join i s e. region_same b s.node ∙ all_at (λ (s : Source). region_of b s.node ≡ line.region) line.sources i s (lies_plain b n line.region line.kind line.sources h.lies gate join) e;
     stores = λ a e. names_stores line.kind (length line.sources) a h.names e;
     joins = λ e. lies_joins b n line.region line.kind line.sources h.lies e;
     invokes = λ f e. names_invokes well line.kind (length line.sources) f h.names e;
@@ -204,7 +159,7 @@ module _ (g : Graph) where
   flow_well h = record {
     lines = λ i b e n node f.
         let named = map_get_back (λ (b : List ℕ × Block (List ℕ)). block_in b.1) g.blocks i b e in
-        let well = all_get (λ (named : List ℕ × Block (List ℕ)). IsBlockWell g named.1) g.blocks i named.0 h.blocks named.1 in
+        let well = all_at (λ (named : List ℕ × Block (List ℕ)). IsBlockWell g named.1) g.blocks i named.0 h.blocks named.1 in
         let line = node_back named.0.1 n node (subst (λ b. node_at b n ≡ Some node) (sym named.2) f) in
         subst₂ (λ b node. IsLineWell (flow_of g) b node) named.2 line.2 (node_well h named.0.1 n line.0 (well.nodes n line.0 line.1));
   }

@@ -7,7 +7,7 @@ use Rattle.std.specs.Prelude.{pos}
 use Rattle.semantics.specs.Graph.{Flow}
 use Rattle.semantics.specs.Meaning.{Context, Statement, AtNode, Activity, taken, operands_from, Message, Sends, Nothing, Deed, Says, Reads, Fills, Puts, deed, State, AtRest}
 use Rattle.semantics.specs.Meaning.{Tagged, Effect, effect}
-use Rattle.law_determinacy.proofs.Perm.{Within, put_first, each_within}
+use Rattle.lemmas.proofs.Permutations.{Within, put_first, each_within}
 use Rattle.law_determinacy.proofs.Keys.{Held}
 use Rattle.law_determinacy.proofs.Diamond.{deed_of, held_from}
 use Rattle.law_determinacy.proofs.Rows.{Speaks, Row, RowFires, RowTells, RowGates, RowQuiet, RowMerges, RowCalls, RowStrict, RowLoops, RowReturns, RowAgain, RowLeaves, rows}

@@ -1,11 +1,11 @@
 -- Two activities that send to one place take from one place.
 use Rattle.std.proofs.Common.{◌≡◌, ℕ, ◌+◌, ◌<◌, ◌≤◌, List, length, Option, Some, None, refl, sym, ap, ap₂, ◌∙◌, subst, arith}
 use Rattle.std.specs.Prelude.{slice_get}
+use Rattle.std.proofs.lemmas.Option.{same_Some}
 use Rattle.tags.specs.declared.value.Value.{Value}
 use Rattle.semantics.specs.declared.graph.Source.{Source}
 use Rattle.semantics.specs.Graph.{Node, Block, Flow, node_at}
 use Rattle.semantics.specs.Meaning.{Context, Statement, AtNode, Port, Predicate, Tagged, block_of, Message, Sends, Tells, Enters, Nothing}
-use Rattle.law_determinacy.proofs.Options.{some_same}
 use Rattle.law_determinacy.proofs.Uses.{IsSource, UseOf, AsOperand, AsResult, AsFlag, AsCarried, Member}
 use Rattle.law_determinacy.proofs.Laws.{Tokens, Grounded}
 use Rattle.law_determinacy.specs.Outcome.{SameTag}
@@ -64,7 +64,7 @@ use_no_predicate b c n p s q (AsCarried j es eq low src) e = cc
 
 module _ (fl : Flow) where
   blocks_same : (c c' : Context) (b b' : Block ℕ) → block_of fl c ≡ Some b → block_of fl c' ≡ Some b' → c ≡ c' → b ≡ b'
-  blocks_same c c' b b' e f g = some_same b b' (sym e ∙ ap (block_of fl) g ∙ f)
+  blocks_same c c' b b' e f g = same_Some b b' (sym e ∙ ap (block_of fl) g ∙ f)
 
   sends_enters : (E : Tokens) (c c' : Context) (n p from : ℕ) (v : Value) (vs : List Value) (t u : Tagged) → Member fl (Sends c n p v) t → Member fl (Enters c' from vs) u → SameTag t u → Grounded fl E (Enters c' from vs) → ⊥
   sends_enters E c c' n p from v vs t u h k same g =
@@ -94,7 +94,7 @@ module _ (fl : Flow) where
       let blocks = blocks_same c c' x.0 y.0 x.4 y.4 contexts in
       let statements = sym x.5 ∙ same.1 ∙ y.5 in
       let ms : x.1 ≡ y.1 = cc in
-      let nodes = some_same x.2 y.2 (sym x.6 ∙ ap₂ (λ (b : Block ℕ) m. node_at b m) blocks ms ∙ y.6) in
+      let nodes = same_Some x.2 y.2 (sym x.6 ∙ ap₂ (λ (b : Block ℕ) m. node_at b m) blocks ms ∙ y.6) in
       let regions = sym x.7 ∙ ap (λ (n : Node ℕ). n.region) nodes ∙ y.7 in
       BothTell c k v v' refl (cc)
   member_rivals E (Tells c k v) (Enters c' from vs) t u h l same g g' = let ports = sym h.2 ∙ same.2 ∙ l.1 in absurd (cc)

@@ -1,6 +1,7 @@
 -- What an activity sends, row by row of the table of activities.
 use Rattle.std.proofs.Common.{◌≡◌, ℕ, ◌+◌, ◌-◌, ◌<◌, Bool, true, false, List, [], ◌∷◌, length, Option, Some, None, nat_lt, ◌==◌, if◌then◌else◌, refl, sym, ap, ◌∙◌, subst, arith}
 use Rattle.std.specs.Prelude.{slice_get}
+use Rattle.std.proofs.lemmas.Option.{same_Some}
 use Rattle.tags.specs.declared.value.Value.{Value}
 use Rattle.operators.specs.Values.{truth, Indexed, Place, Outside, index_in}
 use Rattle.semantics.specs.declared.graph.Region.{Region}
@@ -8,8 +9,7 @@ use Rattle.semantics.specs.declared.graph.Region.TheVariants.{Root, Arm}
 use Rattle.semantics.specs.declared.graph.Kind.{Kind}
 use Rattle.semantics.specs.declared.graph.Kind.TheVariants.{Lit, Apply1, Apply2, Cond, Enter, Merge, Fetch, Store, Call, StrictCall, Loop}
 use Rattle.semantics.specs.Graph.{Node, Block, Flow, node_at, first_cell, array_len}
-use Rattle.semantics.specs.Meaning.{Context, Called, Turned, Activity, Fires, Gates, Passes, Returns, Turns, Outputs, taken, Message, Sends, Tells, Enters, Nothing, Deed, Says, Reads, Fills, Puts, deed, fired, fired_in, fetched, stored, input_passed, gated, passed, on_node, on_block, block_of, origin_at, same_side}
-use Rattle.law_determinacy.proofs.Options.{some_same}
+use Rattle.semantics.specs.Meaning.{Context, Called, Turned, Activity, Fires, Gates, Passes, Returns, Turns, Outputs, taken, Message, Sends, Tells, Enters, Nothing, Deed, Says, Reads, Fills, Puts, deed, fired, fired_in, fetched, stored, input_passed, gated, passed, on_node, on_block, block_of, origin_at, same_side, arm_of}
 use Rattle.law_determinacy.proofs.Keys.{Together, mode_at, fires_mode}
 
 pub data Class : Type 0 where
@@ -74,7 +74,7 @@ pub data Row (fl : Flow) (a : Activity) (m : Message) : Type 0 where
   RowLeaves : (c : Context) (n i j : ℕ) (b v : Value) → a ≡ Turns c n i j b v → m ≡ Sends c n (j - 1) v → truth b ≡ false → Row fl a m
 
 speaks_of : (d e : Deed) (m : Message) → Some d ≡ Some e → Speaks e m → Speaks d m
-speaks_of d e m f h = subst (λ d. Speaks d m) (sym (some_same d e f)) h
+speaks_of d e m f h = subst (λ d. Speaks d m) (sym (same_Some d e f)) h
 
 module _ (fl : Flow) (c : Context) (n : ℕ) where
   plain_row : (vs : List Value) (v : Value) (m : Message) → class_at fl c n ≡ Plain → 0 < length vs → m ≡ Sends c n 0 v → Row fl (Fires c n vs) m
@@ -179,3 +179,8 @@ rows fl (Passes c n i v) d m e s =
 rows fl (Returns c n j v) d m e s = RowReturns c n j v refl (speaks_of _ d m e s)
 rows fl (Turns c n i j b v) d m e s = turn_row fl c n i j b v m (truth b) refl (speaks_of _ d m e s)
 rows fl (Outputs j v) d m e s = RowQuiet (omega arith) (speaks_of _ d m e s)
+
+-- the region of a node is the arm that the meaning gives it
+pub region_is_arm : (o : Option (Node ℕ)) → region_node o ≡ arm_of o
+region_is_arm None = refl
+region_is_arm (Some line) = refl

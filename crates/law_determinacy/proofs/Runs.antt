@@ -1,11 +1,11 @@
 -- Runs put together, and what they keep of the memory.
 use Rattle.std.proofs.Common.{◌≡◌, ℕ, zero, suc, ◌⊎◌, ℤ, Bool, true, false, List, [], ◌∷◌, ◌++◌, flat_map, Option, Some, ◌==◌, if◌then◌else◌, IsPermutation, inl, inr, refl, sym, ap, ◌∙◌, subst, subst₂, ⊎_elim, append_assoc, append-nil, slice_get, eqb-true}
 use Rattle.std.proofs.lemmas.List.Sorted.{IsPermutation-refl, IsPermutation-sym, IsPermutation-trans}
+use Rattle.std.proofs.lemmas.Option.{same_Some}
 use Rattle.tags.specs.declared.value.Value.{Value}
 use Rattle.semantics.specs.Graph.{Flow}
 use Rattle.semantics.specs.Meaning.{Main, AtOut, Operand, Tagged, tagged, Memory, State, Effect, Activity, Outputs, taken, Deed, Says, Reads, Fills, Puts, Sends, done, adds, tokens_of, with_cell, at_place, effect, Step, Same, Run, Reached, Leads, start}
-use Rattle.law_determinacy.proofs.Options.{some_same}
-use Rattle.law_determinacy.proofs.Perm.{Within, Each, put_first, each_within, within_append, within_left, within_right, spread_append_back}
+use Rattle.lemmas.proofs.Permutations.{Within, Each, put_first, each_within, within_append, within_left, within_right, spread_append_back}
 use Rattle.law_determinacy.proofs.Keys.{Differ, Unique}
 use Rattle.law_determinacy.proofs.Shapes.{showing}
 use Rattle.law_determinacy.proofs.Deeds.{CellsKept, kept, full_of, empty_of}
@@ -53,14 +53,14 @@ run_cells fl s t (a ∷ r) p x v h = run_cells fl p.0 t r p.2 x v (step_cells fl
 -- OUTPUTS
 
 outputs_of : (fl : Flow) (m : Memory) (d : Deed) (E : Effect) → done fl m d ≡ Some E → (m.outputs ≡ E.memory.outputs) ⊎ ((j : ℕ) × (v : Value) × (d ≡ Puts j v) × (at_place m.outputs j v ≡ E.memory.outputs))
-outputs_of fl m (Says x) E e = inl (ap (λ (E : Effect). E.memory.outputs) (some_same _ E e))
+outputs_of fl m (Says x) E e = inl (ap (λ (E : Effect). E.memory.outputs) (same_Some _ E e))
 outputs_of fl m (Reads c n x) E e =
     let f = full_of (m.cells x) (λ v. adds (tokens_of fl (Sends c n 0 v)) m) E e in
-    inl (ap (λ (E : Effect). E.memory.outputs) (some_same _ E f.2))
+    inl (ap (λ (E : Effect). E.memory.outputs) (same_Some _ E f.2))
 outputs_of fl m (Fills c n x v) E e =
     let f = empty_of (m.cells x) (adds (tokens_of fl (Sends c n 0 v)) (with_cell m x v)) E e in
-    inl (ap (λ (E : Effect). E.memory.outputs) (some_same _ E f.1))
-outputs_of fl m (Puts j v) E e = inr (j, v, refl, ap (λ (E : Effect). E.memory.outputs) (some_same _ E e))
+    inl (ap (λ (E : Effect). E.memory.outputs) (same_Some _ E f.1))
+outputs_of fl m (Puts j v) E e = inr (j, v, refl, ap (λ (E : Effect). E.memory.outputs) (same_Some _ E e))
 
 -- each output that is filled was taken from these tokens
 abbrev pub FilledFrom : List Tagged → Memory → Type 0
@@ -70,7 +70,7 @@ placed_cases : (f : ℕ → Option Value) (j k : ℕ) (v w : Value) → at_place
 placed_cases f j k v w e = go (j == k) refl e
   where
     go : (t : Bool) → (j == k) ≡ t → (if t then Some v else f k) ≡ Some w → ((j ≡ k) × (v ≡ w)) ⊎ (f k ≡ Some w)
-    go true p q = inl (eqb-true j k p, some_same v w q)
+    go true p q = inl (eqb-true j k p, same_Some v w q)
     go false p q = inr q
 
 step_filled : (fl : Flow) (s t : State) (a : Activity) (spent : List Tagged) → FilledFrom spent s.memory → Step fl a s t → FilledFrom (taken a ++ spent) t.memory
@@ -139,14 +139,14 @@ run_outputs fl inputs all s t r (a ∷ later) p q k w e =
 
 taken_in : (r : List Activity) (j : ℕ) (b : Activity) (y : Tagged) → slice_get r j ≡ Some b → Within y (taken b) → Within y (flat_map taken r)
 taken_in [] j b y e h = cc
-taken_in (c ∷ r) zero b y e h = within_left y (taken c) (flat_map taken r) (subst (λ a. Within y (taken a)) (sym (some_same c b e)) h)
+taken_in (c ∷ r) zero b y e h = within_left y (taken c) (flat_map taken r) (subst (λ a. Within y (taken a)) (sym (same_Some c b e)) h)
 taken_in (c ∷ r) (suc j) b y e h = within_right y (taken c) (flat_map taken r) (taken_in r j b y e h)
 
 first_only : (c : Activity) (r : List Activity) (rest : List Tagged) → Unique (flat_map taken (c ∷ r) ++ rest) → (j : ℕ) (a b : Activity) (x y : Tagged) → Some c ≡ Some a → slice_get r j ≡ Some b
     → Within x (taken a) → Within y (taken b) → SameTag x y → ⊥
 first_only c r rest all j a b x y e f h k same =
     let parts = (spread_append_back Differ (taken c) (flat_map taken r ++ rest) (subst Unique (append_assoc (taken c) (flat_map taken r) rest) all)).2 in
-    let mine = subst (λ a. Within x (taken a)) (sym (some_same c a e)) h in
+    let mine = subst (λ a. Within x (taken a)) (sym (same_Some c a e)) h in
     each_within (Differ x) y (flat_map taken r ++ rest) (within_left y (flat_map taken r) rest (taken_in r j b y f k)) (each_within (λ x. Each (Differ x) (flat_map taken r ++ rest)) x (taken c) mine parts) same
 
 -- Two activities of such a run that take from one place are one.

@@ -1,5 +1,6 @@
 -- Which deeds an activity can have.
 use Rattle.std.proofs.Common.{◌≡◌, ℕ, ◌+◌, Bool, true, false, List, [], ◌∷◌, length, Option, Some, None, nat_lt, ◌==◌, if◌then◌else◌, refl, subst}
+use Rattle.std.proofs.lemmas.Option.{same_Some}
 use Rattle.tags.specs.declared.value.Value.{Value}
 use Rattle.operators.specs.Values.{Indexed, Place, Outside, index_in}
 use Rattle.semantics.specs.declared.graph.Region.{Region}
@@ -8,7 +9,6 @@ use Rattle.semantics.specs.declared.graph.Kind.{Kind}
 use Rattle.semantics.specs.declared.graph.Kind.TheVariants.{Lit, Apply1, Apply2, Cond, Enter, Merge, Fetch, Store, Call, StrictCall, Loop}
 use Rattle.semantics.specs.Graph.{Node, Block, Flow, node_at, first_cell, array_len}
 use Rattle.semantics.specs.Meaning.{Context, Activity, Fires, Gates, Passes, Returns, Turns, Outputs, Message, Deed, Says, Reads, Fills, Puts, deed, fired, fired_in, fetched, stored, input_passed, gated, passed, on_node, on_block, block_of, origin_at}
-use Rattle.law_determinacy.proofs.Options.{some_same}
 
 -- the deeds of a node that takes all its operands at once
 module _ (fl : Flow) (c : Context) (n : ℕ) (P : List Value → Deed → Type 0)
@@ -23,7 +23,7 @@ module _ (fl : Flow) (c : Context) (n : ℕ) (P : List Value → Deed → Type 0
   stored_deed index v base (Outside w) = says (index ∷ v ∷ []) _
 
   put : (vs : List Value) (d e : Deed) → P vs d → Some d ≡ Some e → P vs e
-  put vs d e h k = subst (λ d. P vs d) (some_same d e k) h
+  put vs d e h k = subst (λ d. P vs d) (same_Some d e k) h
 
   fired_deed : (kind : Kind ℕ) (vs : List Value) (d : Deed) → fired fl c n kind vs ≡ Some d → P vs d
   fired_deed (Lit z) [] d e = cc

@@ -8,7 +8,7 @@ use Rattle.semantics.specs.declared.graph.Region.TheVariants.{Arm}
 use Rattle.semantics.specs.declared.graph.Source.{Source}
 use Rattle.semantics.specs.Graph.{Node, Block, Flow, node_at}
 use Rattle.semantics.specs.Meaning.{Context, Main, Called, Turned, Statement, AtNode, AtOut, AtTurn, Port, Operand, Flag, Tagged, tagged, Activity, Fires, Gates, Passes, Returns, Turns, taken, block_of, Message, Sends, Tells, Enters}
-use Rattle.law_determinacy.proofs.Perm.{Within, Each, put_first}
+use Rattle.lemmas.proofs.Permutations.{Within, Each, put_first}
 use Rattle.law_determinacy.proofs.Uses.{Member}
 use Rattle.law_determinacy.proofs.Rows.{Class, Plain, Gate, Join, Calling, Strict, Looping, class_of, class_at, region_node, Row, RowFires, RowTells, RowGates, RowQuiet, RowMerges, RowCalls, RowStrict, RowLoops, RowReturns, RowAgain, RowLeaves}
 use Rattle.law_determinacy.proofs.Laws.{IsFlowWell, well_at, Tokens, ContextLaw, ArmLaw, Lawful, Grounded}

@@ -11,7 +11,7 @@ use Rattle.semantics.specs.Cause.{SameSeen}
 use Rattle.law_determinacy.proofs.Keys.{Unique, unique_same, tags_differ}
 use Rattle.law_determinacy.proofs.Diamond.{Diamond, diamond}
 use Rattle.law_determinacy.proofs.History.{once, unique_tokens, flow_determinate, stood_ever}
-use Rattle.law_determinacy.proofs.Perm.{Within}
+use Rattle.lemmas.proofs.Permutations.{Within}
 use Rattle.law_determinacy.proofs.Runs.{activity_once, shows_once, run_cells, run_outputs}
 use Rattle.law_determinacy.proofs.Due.{stood_due}
 use Rattle.std.proofs.Common.{Some, slice_get}

@@ -1,6 +1,7 @@
 -- The tokens of a message: where they are, and that no two are at one place.
-use Rattle.std.proofs.Common.{◌≡◌, ℕ, zero, suc, ◌+◌, ◌-◌, ◌<◌, ◌≤◌, ◌&&◌, Bool, true, false, List, [], ◌∷◌, length, map, flat_map, Option, Some, None, nat_lt, ◌==◌, if◌then◌else◌, inl, refl, sym, ap, ap₂, ◌∙◌, subst, subst₂, arith, eqb-true, eq-eqb, le-ltb}
+use Rattle.std.proofs.Common.{◌≡◌, ℕ, zero, suc, ◌+◌, ◌-◌, ◌<◌, ◌≤◌, ◌&&◌, Bool, true, false, List, [], ◌∷◌, length, map, flat_map, Option, Some, None, ◌==◌, if◌then◌else◌, inl, refl, sym, ap, ap₂, subst, subst₂, arith, eqb-true, eq-eqb}
 use Rattle.std.specs.Prelude.{⊤, slice_get}
+use Rattle.std.proofs.lemmas.Bool.{and_parts}
 use Rattle.tags.specs.declared.value.Value.{Value}
 use Rattle.semantics.specs.declared.graph.Region.{Region}
 use Rattle.semantics.specs.declared.graph.Region.TheVariants.{Root, Arm}
@@ -9,7 +10,8 @@ use Rattle.semantics.specs.declared.graph.Kind.{Kind}
 use Rattle.semantics.specs.declared.graph.Kind.TheVariants.{Enter}
 use Rattle.semantics.specs.Graph.{Node, Block, Flow, node_at}
 use Rattle.semantics.specs.Meaning.{Context, Main, Called, Turned, Statement, AtNode, AtOut, AtTurn, Port, Operand, Predicate, Flag, Carried, Tagged, tagged, positions, uses_at, turns_from, result_uses, uses_in, sent_in, block_of, entering, Message, Sends, Tells, Enters, Nothing, tokens_of, predicates_from, predicates_in, is_enter_of}
-use Rattle.law_determinacy.proofs.Perm.{Within, Each, Spread, put_first, put_later, each_weaker, each_from, each_append, each_map, each_flat_map, spread_append, spread_map, spread_weaker, spread_flat_map, within_map, within_flat_map, within_right}
+use Rattle.lemmas.proofs.Permutations.{Within, Each, Spread, put_first, put_later, each_weaker, each_from, each_append, each_map, each_flat_map, spread_append, spread_map, spread_weaker, spread_flat_map, within_map, within_flat_map, within_right}
+use Rattle.semantics.proofs.Lines.{line_at}
 use Rattle.law_determinacy.proofs.Keys.{Differ, Unique}
 
 -- the output port p of node n
@@ -23,12 +25,8 @@ Use = Statement × Port
 abbrev pub UsesDiffer : Use → Use → Type 0
 UsesDiffer u w = u.0 ≡ w.0 → u.1 ≡ w.1 → ⊥
 
-both_true : (a b : Bool) → (a && b) ≡ true → (a ≡ true) × (b ≡ true)
-both_true true b e = (refl, e)
-both_true false b e = cc
-
 source_here : (s : Source) (n p : ℕ) → ((s.node == n) && (s.port == p)) ≡ true → IsSource n p (Some s)
-source_here s n p e = let h = both_true _ _ e in (eqb-true s.node n h.0, eqb-true s.port p h.1)
+source_here s n p e = let h = and_parts _ _ e in (eqb-true s.node n h.0, eqb-true s.port p h.1)
 
 -- POSITIONS
 
@@ -107,12 +105,6 @@ pub data UseOf (b : Block ℕ) (c : Context) (n p : ℕ) (s : Statement) (q : Po
   AsFlag : (j : ℕ) → s ≡ AtTurn j → q ≡ Flag → 1 ≤ j → j ≤ b.inputs → IsSource n p (slice_get b.results 0) → IsTurned c → UseOf b c n p s q
   AsCarried : (j : ℕ) → s ≡ AtTurn j → q ≡ Carried → 1 ≤ j → IsSource n p (slice_get b.results j) → UseOf b c n p s q
 
-node_line : (b : Block ℕ) (k : ℕ) (node : Node ℕ) → slice_get b.nodes k ≡ Some node → node_at b (b.inputs + k) ≡ Some node
-node_line b k node e =
-    let past : nat_lt (b.inputs + k) b.inputs ≡ false = le-ltb (b.inputs + k) b.inputs (omega arith) in
-    let back : b.inputs + k - b.inputs ≡ k = omega arith in
-    ap₂ (λ (t : Bool) i. if t then None else slice_get b.nodes i) past back ∙ e
-
 result_use : (b : Block ℕ) (c : Context) (n p j : ℕ) → IsSource n p (slice_get b.results j) → Each (λ (u : Use). UseOf b c n p u.0 u.1) (result_uses c b.inputs j)
 result_use b Main n p j e = (AsResult j refl refl e, tt)
 result_use b (Called d m) n p j e = (AsResult j refl refl e, tt)
@@ -124,7 +116,7 @@ uses_each : (b : Block ℕ) (c : Context) (n p : ℕ) → Each (λ (u : Use). Us
 uses_each b c n p =
     let P : Use → Type 0 = λ u. UseOf b c n p u.0 u.1 in
     each_append P (uses_at n p b.inputs b.nodes) (flat_map (λ j. result_uses c b.inputs j) (positions n p 0 b.results))
-    (uses_at_each P n p b.inputs b.nodes (λ k i node e f. AsOperand (b.inputs + k) i node refl refl (omega arith) (node_line b k node e) f))
+    (uses_at_each P n p b.inputs b.nodes (λ k i node e f. AsOperand (b.inputs + k) i node refl refl (omega arith) (line_at b k node e) f))
     (each_flat_map P (λ j. result_uses c b.inputs j) (positions n p 0 b.results)
     (positions_each (λ j. Each P (result_uses c b.inputs j)) n p 0 b.results (λ k e. subst (λ j. Each P (result_uses c b.inputs j)) (omega arith) (result_use b c n p k e))))
 
@@ -226,7 +218,7 @@ told_member : (fl : Flow) (c : Context) (k : ℕ) (v : Value) (o : Option (Block
 told_member fl c k v None e = tt
 told_member fl c k v (Some b) e =
     predicates_each (Member fl (Tells c k v)) c k v b.inputs b.nodes
-    (λ i node f g. let side = enter_of k node.region node.kind g in (refl, refl, refl, (b, b.inputs + i, node, side.0, e, refl, node_line b i node f, side.1)))
+    (λ i node f g. let side = enter_of k node.region node.kind g in (refl, refl, refl, (b, b.inputs + i, node, side.0, e, refl, line_at b i node f, side.1)))
 
 told_unique : (c : Context) (k : ℕ) (v : Value) (o : Option (Block ℕ)) → Unique (predicates_in o c k v)
 told_unique c k v None = tt
@@ -257,3 +249,9 @@ all_flags b (Turned d m i) n p v h e k low high =
 
 pub flags_sent : (fl : Flow) (b : Block ℕ) (c : Context) (n p : ℕ) (v : Value) → block_of fl c ≡ Some b → IsTurned c → IsSource n p (slice_get b.results 0) → (k : ℕ) → 1 ≤ k → k ≤ b.inputs → Within (tagged c (AtTurn k) Flag v) (tokens_of fl (Sends c n p v))
 flags_sent fl b c n p v e h src k low high = subst (λ o. Within (tagged c (AtTurn k) Flag v) (sent_in o c n p v)) (sym e) (all_flags b c n p v h src k low high)
+
+-- a source that is there is within the list
+pub source_within : (n p : ℕ) (ss : List Source) (i : ℕ) → IsSource n p (slice_get ss i) → i < length ss
+source_within n p [] i h = absurd h
+source_within n p (s ∷ ss) zero h = omega arith
+source_within n p (s ∷ ss) (suc i) h = let ih = source_within n p ss i h in omega (arith, ih)

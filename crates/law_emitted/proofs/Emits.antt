@@ -8,14 +8,15 @@ use Rattle.semantics.specs.declared.program.Op.{Op}
 use Rattle.semantics.specs.declared.program.Op.TheVariants.{Apply2, Sync, Switch, Fetch, Store, Frame, Link, Send, Return, Ask, Open, Take, Give, Drain, Release}
 use Rattle.semantics.specs.Program.{Instr, CodeBlock}
 use Rattle.semantics.specs.Rule.{slot_of}
-use Rattle.semantics.specs.Bytes.{may_fault}
+use Rattle.semantics.specs.Opcodes.{may_fault}
 use Rattle.semantics.specs.Plan.{Plan, HasShape, IsPlan}
 use Rattle.semantics.specs.Sharing.{placed_slot, placed_instrs}
 use Rattle.semantics.specs.Placed.{placed_blocks, placed}
 use Rattle.semantics.specs.declared.version.Version.{Version}
 use Rattle.semantics.specs.declared.version.Version.TheVariants.{One, Two}
 use Rattle.semantics.specs.Versions.{version_number}
-use Rattle.select.specs.Emitted.{told, has_sides, firsts_of, seconds_of, emitted, emitted_instrs, emitted_blocks, code_of}
+use Rattle.select.specs.Emitted.{told, firsts_of, seconds_of, emitted, emitted_instrs, emitted_blocks, code_of}
+use Rattle.semantics.specs.Opcodes.{has_sides}
 use Rattle.law_emitted.specs.Alike.{is_split, AreAlikeInstrs, AllAlike, AllBlocksAlike, AreAlike}
 use Rattle.law_emitted.specs.SameRuns.{HasOrigins}
 

@@ -2,6 +2,7 @@
 use Rattle.std.proofs.Common.{◌≡◌, refl, sym, ap, ◌∙◌, subst, ℕ, zero, suc, ◌+◌, ◌<◌, ◌≤◌, List, [], ◌∷◌, length, map, Option, Some, arith, All, Contains}
 use Rattle.std.specs.Prelude.{slice_get, slice_index_or}
 use Rattle.std.proofs.lemmas.List.Elements.{All-nil, All-cons, All-head, All-tail, All-weaker, All-contains_itself}
+use Rattle.lemmas.proofs.Alls.{all_at}
 use Rattle.semantics.specs.declared.program.Op.{Op}
 use Rattle.semantics.specs.declared.program.Op.TheVariants.{Apply2, Sync, Switch, Store, Send, Return, Ask, Open, Take, Give, Drain, Release}
 use Rattle.semantics.specs.Program.{Instr, CodeBlock}
@@ -42,11 +43,6 @@ row_of (d ∷ cs) zero c ss here there =
     let row : row_from 0 d.slots ≡ ss = cc in
     ap (λ (x : CodeBlock). row_from 0 x.slots) (sym same) ∙ row
 row_of (d ∷ cs) (suc b) c ss here there = row_of cs b c ss here there
-
-all_at : {X : Type 0} (P : X → Type 0) (xs : List X) (n : ℕ) (x : X) → All P xs → slice_get xs n ≡ Some x → P x
-all_at P [] n x a h = cc
-all_at P (y ∷ xs) zero x a h = let same : y ≡ x = cc in subst P same (All-head P y xs a)
-all_at P (y ∷ xs) (suc n) x a h = all_at P xs n x (All-tail P y xs a) h
 
 block_good : (p : Plan) (b : ℕ) (c : CodeBlock) → c.slots ≤ 512 → IsGoodBlock p b c (row_from 0 c.slots)
 block_good p b c few = record {

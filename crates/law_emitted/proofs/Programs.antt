@@ -12,7 +12,7 @@ use Rattle.tags.specs.declared.slot.SlotState.TheVariants.{Empty}
 use Rattle.semantics.specs.Program.{Instr, CodeBlock, Program, first_of, instr_from, instr_at}
 use Rattle.semantics.specs.Rule.{Seat, token, Outcome, rule_at}
 use Rattle.semantics.specs.Machine.{Machine, Store, Size, Vacant, Event, Events, Run, Fires, Hosts, Happens, at_start, input_tokens, slot_in, slot_used, excluded_by, host_rule, stuck_rule, results_in, outputs_of}
-use Rattle.semantics.specs.Bytes.{may_fault}
+use Rattle.semantics.specs.Opcodes.{may_fault}
 use Rattle.law_emitted.specs.Alike.{is_split, AreAlikeInstrs, AllAlike, AllBlocksAlike, AreAlike}
 use Rattle.law_emitted.specs.Same.{HaveSameEvents}
 use Rattle.law_emitted.proofs.Rules.{TellSame, rule_same}

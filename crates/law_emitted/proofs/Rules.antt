@@ -20,7 +20,7 @@ use Rattle.semantics.specs.declared.program.Op.{Op}
 use Rattle.semantics.specs.declared.program.Op.TheVariants.{Apply1, Apply2, Apply2Right, Apply2Left, Lit, Copy, Sync, Switch, Fetch, Store, Frame, Link, Send, Return, Ask, Open, Take, Give, Drain, Release}
 use Rattle.semantics.specs.Program.{Instr, Program, first_of}
 use Rattle.semantics.specs.Rule.{Seat, token, signal, to_each, to_all, answer_to, landing_at, beyond, Becomes, Excluded, fires, array_base, array_len, asks_for, puts, fire_one, fire_two, meets, opens, gives, drains, alone, on_left, outcome_of}
-use Rattle.semantics.specs.Bytes.{may_fault}
+use Rattle.semantics.specs.Opcodes.{may_fault}
 use Rattle.law_emitted.specs.Alike.{is_split}
 
 -- what programs tell an instruction

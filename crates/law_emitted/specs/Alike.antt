@@ -5,7 +5,7 @@ use Rattle.semantics.specs.declared.program.Op.{Op}
 use Rattle.semantics.specs.declared.program.Op.TheVariants.{Switch, Fetch, Store, Frame, Link, Ask}
 use Rattle.semantics.specs.Program.{Instr, CodeBlock, Program}
 use Rattle.semantics.specs.Rule.{slot_of}
-use Rattle.semantics.specs.Bytes.{may_fault}
+use Rattle.semantics.specs.Opcodes.{may_fault}
 
 -- where first destinations are told from second ones: at a switch and a link, and where the answer comes to the first
 abbrev pub is_split : Op → Bool

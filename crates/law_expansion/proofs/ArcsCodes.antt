@@ -1,6 +1,7 @@
 -- The code blocks of a plan at their numbers, and how long its landings are.
 use Rattle.std.proofs.Common.{◌≡◌, ℕ, zero, suc, ◌+◌, ◌≤◌, ◌<◌, ◌⊎◌, Bool, true, false, inl, inr, List, [], ◌∷◌, ◌++◌, length, refl, sym, ap, ◌∙◌, subst, arith, append_assoc, append-nil, if◌then◌else◌, Some, nat_lt, lt-ltb, le-ltb}
 use Rattle.std.specs.Prelude.{slice_get, slice_index_or, ⊤}
+use Rattle.std.proofs.lemmas.Option.{slice_get_within}
 use Rattle.semantics.specs.Graph.{Block, Flow, Graph, flow_of}
 use Rattle.semantics.specs.WellFormed.{WellFormed}
 use Rattle.semantics.specs.Program.{CodeBlock}
@@ -10,7 +11,7 @@ use Rattle.expansion.specs.Variants.{some_block_loops, next_variant, variants_fr
 use Rattle.expansion.specs.Builds.{Build}
 use Rattle.expansion.specs.Blocks.{plain_build, variant_build, code_of, Coded, variant_of}
 use Rattle.expansion.specs.Expanded.{Codes, with_code, no_codes, scope_of, plain_code, variant_code, plain_codes, variant_codes, codes_of, expanded}
-use Rattle.law_expansion.proofs.ArcsLists.{index_old, index_new, get_within, length_push}
+use Rattle.law_expansion.proofs.ArcsLists.{index_old, index_new, length_push}
 use Rattle.law_expansion.proofs.ArcsKept.{Env, Kept, split}
 use Rattle.law_expansion.proofs.ArcsSettled.{Settled}
 use Rattle.law_expansion.proofs.ArcsFlows.{env_of, SizesFit, block_fits}
@@ -142,7 +143,7 @@ plain_landing fl f b e =
     let c : CodeBlock = (plain_code fl.version fl.blocks vars (0 + f) b).code in
     let here : slice_get (expanded fl).program.blocks f ≡ Some c
     = ap (λ xs. slice_get xs f) (codes_are fl.version fl.blocks) ∙ get_left first (turns fl.version fl.blocks vars 0 fl.blocks) f c (get_plain fl.version fl.blocks vars 0 fl.blocks f b e) in
-    let below : nat_lt f (length fl.blocks) ≡ true = lt-ltb f (length fl.blocks) (get_within fl.blocks f b e) in
+    let below : nat_lt f (length fl.blocks) ≡ true = lt-ltb f (length fl.blocks) (slice_get_within fl.blocks f b e) in
     ap (λ t. landing_in t (slice_get (expanded fl).program.blocks f)) below ∙ ap (landing_in true) here ∙ ap (λ k. k + 1) (plain_outputs fl.version fl.blocks vars (0 + f) b)
 
 turn_landing : (fl : Flow) (f : ℕ) (b : Block ℕ) → slice_get fl.blocks f ≡ Some b → some_block_loops f fl.blocks ≡ true → landing (expanded fl) (variant_of (variants_of fl.blocks) f) ≡ b.inputs + 3
@@ -155,7 +156,7 @@ turn_landing fl f b e t =
     let c : CodeBlock = (variant_code fl.version bs vars (0 + f) b).code in
     let count : length first ≡ length bs = plain_count fl.version bs vars 0 bs in
     let zeros : 0 + f ≡ f = omega arith in
-    let number : place ≡ next_variant bs f = variant_is bs (length bs) f (get_within bs f b e) in
+    let number : place ≡ next_variant bs f = variant_is bs (length bs) f (slice_get_within bs f b e) in
     let added : next_variant bs (0 + f) ≡ length bs + looped_below bs 0 f = next_add bs 0 f in
     let same : next_variant bs (0 + f) ≡ next_variant bs f = ap (next_variant bs) zeros in
     let at : length first + looped_below bs 0 f ≡ place = omega (arith, count, number, added, same) in

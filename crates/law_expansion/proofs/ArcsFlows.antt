@@ -3,7 +3,10 @@ use Rattle.std.proofs.Common.{◌≡◌, ℕ, zero, suc, ◌+◌, ◌-◌, ◌<�
 use Rattle.std.specs.Prelude.{slice_get}
 use Rattle.std.proofs.lemmas.Bool.{lt-ltb, le-ltb}
 use Rattle.std.proofs.lemmas.List.Elements.{All-contains, All-head, All-tail}
-use Rattle.law_determinacy.proofs.Resolved.{all_get, contains_get, place_get, block_in, node_in}
+use Rattle.lemmas.proofs.Alls.{all_at}
+use Rattle.lemmas.proofs.Contains.{contains_get}
+use Rattle.lemmas.proofs.SliceGet.{map_get, map_get_back}
+use Rattle.law_determinacy.proofs.Resolved.{place_get, block_in, node_in}
 use Rattle.semantics.specs.declared.graph.Region.{Region}
 use Rattle.semantics.specs.declared.graph.Region.TheVariants.{Root, Arm}
 use Rattle.semantics.specs.declared.graph.Source.{Source}
@@ -41,15 +44,6 @@ pub record SizesFit (bs : List (Block ℕ)) (size : ℕ → ℕ) : Type 0 where
   pub looped : (f : ℕ) (b : Block ℕ) → slice_get bs f ≡ Some b → some_block_loops f bs ≡ true → size (variant_of (variants_of bs) f) ≡ b.inputs + 3
 
 -- LISTS
-get_map : {X Y : Type 0} (f : X → Y) (xs : List X) (i : ℕ) (x : X) → slice_get xs i ≡ Some x → slice_get (map f xs) i ≡ Some (f x)
-get_map f [] i x e = absurd (cc)
-get_map f (y ∷ xs) zero x e = let same : y ≡ x = cc in ap (λ z. Some (f z)) same
-get_map f (y ∷ xs) (suc i) x e = get_map f xs i x e
-
-get_map_back : {X Y : Type 0} (f : X → Y) (xs : List X) (i : ℕ) (y : Y) → slice_get (map f xs) i ≡ Some y → (x : X) × (slice_get xs i ≡ Some x) × (f x ≡ y)
-get_map_back f [] i y e = absurd (cc)
-get_map_back f (x ∷ xs) zero y e = (x, refl, cc)
-get_map_back f (x ∷ xs) (suc i) y e = get_map_back f xs i y e
 
 node_line : {N : Type 0} (b : Block N) (i : ℕ) → node_at b (b.inputs + i) ≡ slice_get b.nodes i
 node_line b i =
@@ -100,9 +94,9 @@ module _ (g : Graph) (well : WellFormed g) (size : ℕ → ℕ) (sizes : SizesFi
   named_there : (name : List ℕ) (b : Block (List ℕ)) → Contains g.blocks (name, b) → slice_get (flow_of g).blocks (place_of name (block_names g)) ≡ Some (block_in g b)
   named_there name b h =
       let k = contains_get g.blocks (name, b) h in
-      let at = get_map (λ (x : Named). x.0) g.blocks k.0 (name, b) k.1 in
+      let at = map_get (λ (x : Named). x.0) g.blocks k.0 (name, b) k.1 in
       let same = well.blocks_differ k.0 (place_of name (block_names g)) name at (place_get name (block_names g) k.0 at) in
-      subst (λ i. slice_get (flow_of g).blocks i ≡ Some (block_in g b)) same (get_map (λ (x : Named). block_in g x.1) g.blocks k.0 (name, b) k.1)
+      subst (λ i. slice_get (flow_of g).blocks i ≡ Some (block_in g b)) same (map_get (λ (x : Named). block_in g x.1) g.blocks k.0 (name, b) k.1)
 
   block_well : (name : List ℕ) (b : Block (List ℕ)) → Contains g.blocks (name, b) → IsBlockWell g b
   block_well name b h = All-contains (λ (x : Named). IsBlockWell g x.1) g.blocks (name, b) well.blocks h
@@ -168,7 +162,7 @@ module _ (g : Graph) (well : WellFormed g) (size : ℕ → ℕ) (sizes : SizesFi
           record {
             line = x.0;
             there = ap (λ t. if t then None else slice_get b.nodes (k - b.inputs)) same ∙ x.1;
-            resolved = ap (λ t. if t then None else slice_get (map (node_in g) b.nodes) (k - b.inputs)) same ∙ get_map (node_in g) b.nodes (k - b.inputs) x.0 x.1;
+            resolved = ap (λ t. if t then None else slice_get (map (node_in g) b.nodes) (k - b.inputs)) same ∙ map_get (node_in g) b.nodes (k - b.inputs) x.0 x.1;
             is_cond = x.2;
           }
 
@@ -244,7 +238,7 @@ module _ (g : Graph) (well : WellFormed g) (size : ℕ → ℕ) (sizes : SizesFi
   node_fits b place v number turns there good i x f =
       let n : ℕ = b.inputs + i in
       let line : IsNodeWell g b n x = good.nodes n x (node_line b i ∙ f) in
-      let here : slice_get (block_in g b).nodes i ≡ Some (node_in g x) = get_map (node_in g) b.nodes i x f in
+      let here : slice_get (block_in g b).nodes i ≡ Some (node_in g x) = map_get (node_in g) b.nodes i x f in
       let fit : SourcesFit (env b) n x.sources = sources_fit b n x.sources line.earlier in
       record {
         region = region_fits b n x.region line.region;
@@ -278,14 +272,14 @@ module _ (g : Graph) (well : WellFormed g) (size : ℕ → ℕ) (sizes : SizesFi
   pub block_fits : (place : ℕ) (b : Block ℕ) (v number : ℕ) (turns : Bool) → slice_get (flow_of g).blocks place ≡ Some b
       → BlockFits (env_of (flow_of g).blocks size b) (scope_of v (flow_of g).blocks (variants_of (flow_of g).blocks) number b turns)
   block_fits place b v number turns e =
-      let named = get_map_back (λ (x : Named). block_in g x.1) g.blocks place b e in
-      let good : IsBlockWell g named.0.1 = all_get (λ (x : Named). IsBlockWell g x.1) g.blocks place named.0 well.blocks named.1 in
+      let named = map_get_back (λ (x : Named). block_in g x.1) g.blocks place b e in
+      let good : IsBlockWell g named.0.1 = all_at (λ (x : Named). IsBlockWell g x.1) g.blocks place named.0 well.blocks named.1 in
       subst (λ c. BlockFits (env_of (flow_of g).blocks size c) (scope_of v (flow_of g).blocks (variants_of (flow_of g).blocks) number c turns)) named.2
       (line_fits named.0.1 place v number turns (e ∙ ap (λ c. Some c) (sym named.2)) good)
 
   -- each block has an input and an output
   pub block_some : (place : ℕ) (b : Block ℕ) → slice_get (flow_of g).blocks place ≡ Some b → (1 ≤ b.inputs) × (1 ≤ b.outputs)
   block_some place b e =
-      let named = get_map_back (λ (x : Named). block_in g x.1) g.blocks place b e in
-      let good : IsBlockWell g named.0.1 = all_get (λ (x : Named). IsBlockWell g x.1) g.blocks place named.0 well.blocks named.1 in
+      let named = map_get_back (λ (x : Named). block_in g x.1) g.blocks place b e in
+      let good : IsBlockWell g named.0.1 = all_at (λ (x : Named). IsBlockWell g x.1) g.blocks place named.0 well.blocks named.1 in
       subst (λ (c : Block ℕ). (1 ≤ c.inputs) × (1 ≤ c.outputs)) named.2 (good.some_input, good.some_output)

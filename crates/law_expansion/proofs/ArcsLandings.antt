@@ -1,6 +1,7 @@
 -- A link with its landing, and what returns a loop's credits.
 use Rattle.std.proofs.Common.{◌≡◌, ℕ, zero, suc, ◌+◌, ◌-◌, ◌<◌, ◌≤◌, true, false, ◌⊎◌, inl, inr, List, [], ◌∷◌, ◌++◌, length, refl, sym, ap, ◌∙◌, subst, arith, Some}
 use Rattle.std.specs.Prelude.{slice_get}
+use Rattle.std.proofs.lemmas.Option.{slice_get_within}
 use Rattle.tags.specs.declared.value.Origin.TheVariants.{Untold}
 use Rattle.tags.specs.declared.token.Port.TheVariants.{Left}
 use Rattle.semantics.specs.declared.graph.Region.{Region}
@@ -14,7 +15,7 @@ use Rattle.expansion.specs.declared.builder.Outlet.{Outlet}
 use Rattle.expansion.specs.Builds.{Build, bare, slot_in, first_of, quieted, connected, dest_of, outlet_of, behind, meeting, copies}
 use Rattle.expansion.specs.Ends.{is_empty}
 use Rattle.expansion.specs.Rows.{sends, landed, linked, invoke, credits}
-use Rattle.law_expansion.proofs.ArcsLists.{get_new, length_push, get_within, length_linked}
+use Rattle.law_expansion.proofs.ArcsLists.{get_new, length_push, length_linked}
 use Rattle.law_expansion.proofs.ArcsKept.{Env, is_link, OpAt, Leaves, Grows, grows_same, grows_on, grows_push, grows_linked, leaves_on, op_on, Leads, Lands, Kept, split, adds, links, frees_last}
 use Rattle.law_expansion.proofs.ArcsSettled.{Settled, Joining, Step, Grown, Outlets, Exits, exits_on, exits_more, first_out, left_right, false_true, SourcesFit, source_leaves}
 use Rattle.law_expansion.proofs.ArcsSteps.{joins_end, joins_more, joins_behind, behinds, meets}
@@ -116,7 +117,7 @@ module _ (e : Env) (link block outputs missing n : ℕ) (a : Build) (r : Region)
 
   leads : Leads e c.instrs h.frees at (dest_of (first_of link) (length a.instrs) Left)
   leads =
-      let within : link < length a.instrs = get_within a.instrs link is_there.0 is_there.1 in
+      let within : link < length a.instrs = slice_get_within a.instrs link is_there.0 is_there.1 in
       let long = h.long in
       let past = h.past in
       let more = in_row.long in
@@ -134,7 +135,7 @@ module _ (e : Env) (link block outputs missing n : ℕ) (a : Build) (r : Region)
 
   lands : Lands e c.instrs h.frees missing at block (dest_of (first_of link) (length a.instrs) Left)
   lands =
-      let within : link < length a.instrs = get_within a.instrs link is_there.0 is_there.1 in
+      let within : link < length a.instrs = slice_get_within a.instrs link is_there.0 is_there.1 in
       let back : (link + 0) + ((length a.instrs - link) - 0) ≡ length a.instrs = omega (arith, within) in
       let more = in_row.long in
       record {

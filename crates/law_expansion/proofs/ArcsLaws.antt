@@ -1,8 +1,9 @@
 -- The arcs of the plan of a well-formed graph go forward.
-use Rattle.std.proofs.Common.{◌≡◌, ℕ, zero, suc, ◌+◌, ◌<◌, ◌≤◌, Bool, true, false, ◌⊎◌, inl, inr, List, [], ◌∷◌, ◌++◌, map, refl, sym, ap, ◌∙◌, subst, arith, if◌then◌else◌, Some, None}
+use Rattle.std.proofs.Common.{◌≡◌, ℕ, zero, suc, ◌+◌, ◌<◌, ◌≤◌, Bool, true, false, ◌⊎◌, inl, inr, List, [], ◌∷◌, ◌++◌, refl, sym, ap, ◌∙◌, subst, arith, if◌then◌else◌, Some, None}
 use Rattle.std.specs.Prelude.{slice_get, Contains, flat_map}
 use Rattle.std.proofs.lemmas.List.Elements.{All-weaker, All-contains_itself, Contains-append_left, Contains-append_right, Contains-append_cases}
-use Rattle.law_net.proofs.Members.{contains_cases, contains_none, contains_head, contains_tail}
+use Rattle.lemmas.proofs.Alls.{all_at}
+use Rattle.lemmas.proofs.Contains.{contains_cases, contains_none, contains_flat_mapped}
 use Rattle.tags.specs.declared.token.Port.TheVariants.{Left, Right}
 use Rattle.semantics.specs.declared.program.Dest.{Dest}
 use Rattle.semantics.specs.declared.program.Op.{Op}
@@ -16,25 +17,16 @@ use Rattle.semantics.specs.Rule.{slot_of}
 use Rattle.semantics.specs.Bytes as Bytes
 use Rattle.semantics.specs.Wired.{is_dyadic, StandsAt}
 use Rattle.semantics.specs.Sharing.{Arc, Inlet, inlet, arc, arcs_to, row, arcs_from, arcs_of}
+use Rattle.semantics.proofs.ArcEnds.{arcs_to_dest}
 use Rattle.code.specs.Sound.{LandsLeft, IsTied, IsSoundDest, DestsAreSound}
 use Rattle.law_expansion.specs.Arcs.{LinksLandLeft, ArcsPassEntries, RightArcsMeet, LandingsStand, ArcsAreSound, HasSizes, BlocksHaveSizes}
 use Rattle.expansion.specs.Expanded.{expanded}
 use Rattle.law_expansion.proofs.ArcsKept.{Env, Has, MeetsAt, RowAt, Leads, Lands}
 use Rattle.law_expansion.proofs.ArcsSettled.{left_right}
-use Rattle.law_determinacy.proofs.Resolved.{all_get}
 use Rattle.expansion.specs.Blocks.{IsSmallBlock}
 use Rattle.expansion.proofs.Small.{small_flow}
 use Rattle.law_expansion.proofs.ArcsFlows.{block_some}
 use Rattle.law_expansion.proofs.ArcsCodes.{CodeKept, code_kept, IsOf, code_is_of, sizes_fit}
-
--- MEMBERS
-map_back : {X Y : Type 0} (f : X → Y) (xs : List X) (y : Y) → Contains (map f xs) y → (x : X) × Contains xs x × (f x ≡ y)
-map_back f [] y c = absurd (contains_none y c)
-map_back {X} {Y} f (x ∷ xs) y c = go (contains_cases (f x) (map f xs) y c) (map_back f xs y)
-  where
-    go : (f x ≡ y) ⊎ Contains (map f xs) y → (Contains (map f xs) y → (z : X) × Contains xs z × (f z ≡ y)) → (z : X) × Contains (x ∷ xs) z × (f z ≡ y)
-    go (inl e) ih = (x, contains_head x xs, e)
-    go (inr h) ih = let r = ih h in (r.0, contains_tail x xs r.0 r.1, r.2)
 
 -- AN ARC IS OF A DESTINATION, or of a landing
 abbrev ByDest : ℕ → Instr → Arc → Type 0
@@ -42,11 +34,6 @@ ByDest n i x = (d : Dest) × Contains (i.firsts ++ i.seconds) d × (x.to ≡ inl
 
 abbrev ByLanding : Plan → ℕ → Instr → Op → Arc → Type 0
 ByLanding p n i op x = (block : ℕ) × (d : Dest) × (k : ℕ) × (op ≡ Link block) × Contains i.firsts d × (n + d.ahead ≤ k) × (k < (n + d.ahead) + landing p block) × (x.to ≡ inlet k Left)
-
-to_back : (n : ℕ) (s : Bool) (ds : List Dest) (x : Arc) → Contains (arcs_to n s ds) x → (d : Dest) × Contains ds d × (x.to ≡ inlet (n + d.ahead) d.port)
-to_back n s ds x c =
-    let r = map_back (λ (d : Dest). arc n s (inlet (n + d.ahead) d.port)) ds x c in
-    (r.0, r.1, ap (λ (y : Arc). y.to) (sym r.2))
 
 row_back : (n from count : ℕ) (x : Arc) → Contains (row n from count) x → (k : ℕ) × (from ≤ k) × (k < from + count) × (x.to ≡ inlet k Left)
 row_back n from zero x c = absurd (contains_none x c)
@@ -58,16 +45,8 @@ row_back n from (suc count) x c = go (contains_cases (arc n false (inlet from Le
     go (inl e) ih = (from, omega arith, omega arith, ap (λ (y : Arc). y.to) (sym e))
     go (inr h) ih = let r = ih h in let a = r.1 in let b = r.2 in (r.0, omega (arith, a), omega (arith, b), r.3)
 
-flat_back : {X Y : Type 0} (f : X → List Y) (xs : List X) (y : Y) → Contains (flat_map f xs) y → (x : X) × Contains xs x × Contains (f x) y
-flat_back f [] y c = absurd (contains_none y c)
-flat_back {X} {Y} f (x ∷ xs) y c = go (Contains-append_cases (f x) (flat_map f xs) y c) (flat_back f xs y)
-  where
-    go : Contains (f x) y ⊎ Contains (flat_map f xs) y → (Contains (flat_map f xs) y → (z : X) × Contains xs z × Contains (f z) y) → (z : X) × Contains (x ∷ xs) z × Contains (f z) y
-    go (inl e) ih = (x, contains_head x xs, e)
-    go (inr h) ih = let r = ih h in (r.0, contains_tail x xs r.0 r.1, r.2)
-
 second_dest : (n : ℕ) (i : Instr) (x : Arc) → Contains (arcs_to n true i.seconds) x → ByDest n i x
-second_dest n i x c = let r = to_back n true i.seconds x c in (r.0, right r.0 r.1, r.2)
+second_dest n i x c = let r = arcs_to_dest n true i.seconds x c in (r.0, right r.0 r.1, r.2)
   where
     right : (d : Dest) → Contains i.seconds d → Contains (i.firsts ++ i.seconds) d
     right d h = Contains-append_right i.firsts i.seconds d h
@@ -76,13 +55,13 @@ either_dest : (n : ℕ) (i : Instr) (x : Arc) → Contains (arcs_to n false i.fi
 either_dest n i x c = go (Contains-append_cases (arcs_to n false i.firsts) (arcs_to n true i.seconds) x c)
   where
     go : Contains (arcs_to n false i.firsts) x ⊎ Contains (arcs_to n true i.seconds) x → ByDest n i x
-    go (inl h) = let r = to_back n false i.firsts x h in (r.0, Contains-append_left i.firsts i.seconds r.0 r.1, r.2)
+    go (inl h) = let r = arcs_to_dest n false i.firsts x h in (r.0, Contains-append_left i.firsts i.seconds r.0 r.1, r.2)
     go (inr h) = second_dest n i x h
 
 link_arc : (p : Plan) (n : ℕ) (i : Instr) (block : ℕ) (x : Arc)
     → Contains (flat_map (λ (d : Dest). row n (n + d.ahead) (landing p block)) i.firsts) x ⊎ Contains (arcs_to n true i.seconds) x → ByDest n i x ⊎ ByLanding p n i (Link block) x
 link_arc p n i block x (inl h) =
-    let r = flat_back (λ (d : Dest). row n (n + d.ahead) (landing p block)) i.firsts x h in
+    let r = contains_flat_mapped (λ (d : Dest). row n (n + d.ahead) (landing p block)) i.firsts x h in
     let k = row_back n (n + r.0.ahead) (landing p block) x r.2 in
     inr (block, r.0, k.0, refl, r.1, k.1, k.2, k.3)
 link_arc p n i block x (inr h) = inl (second_dest n i x h)
@@ -208,7 +187,7 @@ has_sizes : (g : Graph) → HasText g → WellFormed g → (b : ℕ) (c : CodeBl
 has_sizes g text well b c e =
     let of : IsOf (flow_of g).blocks c = code_is_of (flow_of g) b c e in
     let some = block_some g well (landing (expanded (flow_of g))) (sizes_fit (flow_of g)) of.place of.block of.there in
-    let small : IsSmallBlock of.block = all_get IsSmallBlock (flow_of g).blocks of.place of.block (small_flow g well text).small of.there in
+    let small : IsSmallBlock of.block = all_at IsSmallBlock (flow_of g).blocks of.place of.block (small_flow g well text).small of.there in
     let p = of.inputs in
     let q = of.outputs in
     let s = some.0 in

@@ -31,16 +31,6 @@ pub length_push : {X : Type 0} (xs : List X) (x : X) → length (xs ++ x ∷ [])
 length_push [] x = refl
 length_push (z ∷ xs) x = ap suc (length_push xs x)
 
-pub get_within : {X : Type 0} (xs : List X) (n : ℕ) (y : X) → slice_get xs n ≡ Some y → n < length xs
-get_within [] n y e = absurd (cc)
-get_within (x ∷ xs) zero y e = omega arith
-get_within (x ∷ xs) (suc n) y e = let h = get_within xs n y e in omega (arith, h)
-
-pub get_some : {X : Type 0} (xs : List X) (n : ℕ) → n < length xs → (x : X) × (slice_get xs n ≡ Some x)
-get_some [] n h = absurd (omega (arith, h))
-get_some (x ∷ xs) zero h = (x, refl)
-get_some (x ∷ xs) (suc n) h = get_some xs n (omega (arith, h))
-
 pub index_old : {X : Type 0} (xs : List X) (x d : X) (j : ℕ) → j < length xs → slice_index_or (xs ++ x ∷ []) j d ≡ slice_index_or xs j d
 index_old [] x d j h = absurd (omega (arith, h))
 index_old (y ∷ xs) x d zero h = refl

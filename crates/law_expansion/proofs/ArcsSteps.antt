@@ -1,6 +1,7 @@
 -- A block between two steps, and one instruction more with its arcs.
 use Rattle.std.proofs.Common.{◌≡◌, ℕ, zero, suc, ◌+◌, ◌-◌, ◌<◌, ◌≤◌, Bool, true, false, ◌⊎◌, inl, inr, List, [], ◌∷◌, length, refl, sym, ap, ◌∙◌, subst, arith, Some}
 use Rattle.std.specs.Prelude.{slice_get, slice_index_or}
+use Rattle.std.proofs.lemmas.Option.{slice_get_within, same_Some}
 use Rattle.tags.specs.declared.value.Origin.{Origin}
 use Rattle.tags.specs.declared.value.Origin.TheVariants.{Untold}
 use Rattle.tags.specs.declared.token.Port.{Port}
@@ -15,13 +16,11 @@ use Rattle.semantics.specs.Program.{Instr}
 use Rattle.semantics.specs.Wired.{is_dyadic}
 use Rattle.expansion.specs.declared.builder.Outlet.{Outlet}
 use Rattle.expansion.specs.Builds.{Build, bare, slot_in, added, quieted, connected, dest_of, nowhere, outlet_of, behind, meeting, side, operands, alternatives}
-use Rattle.law_expansion.proofs.ArcsLists.{get_new, length_push, get_within, length_linked}
+use Rattle.law_expansion.proofs.ArcsLists.{get_new, length_push, length_linked}
 use Rattle.law_expansion.proofs.ArcsSettled.{Settled, Joining, Grown, Outlets, false_true, left_right, exits_on, SourceFits, SourcesFit, source_leaves}
 use Rattle.law_expansion.proofs.ArcsKept.{Env, is_link, Leaves, grows_on, grows_push, grows_linked, leaves_on, op_on, Leads, adds, links, frees_last}
 
 -- JOINING
-same_some : (k j : Instr) → Some k ≡ Some j → k ≡ j
-same_some k j h = cc
 
 pub joins_begin : (e : Env) (waiting n : ℕ) (a : Build) (op : Op) (o : Origin) (m : Mark) (r : Region)
     → (is_link op ≡ true → length a.instrs ≡ waiting) → Settled e waiting n a → Joining e waiting a op (added a op o m r)
@@ -42,7 +41,7 @@ pub joins_more : (e : Env) (waiting : ℕ) (a : Build) (op : Op) (c : Build) (o 
     → Outlets a.instrs o → (p ≡ Right → is_dyadic op ≡ true) → Joining e waiting a op c → Joining e waiting a op (connected c o (length a.instrs) p)
 joins_more e waiting a op c o p out dyadic h =
     let n : ℕ = o.place + o.port in
-    let within : n < length a.instrs = get_within a.instrs n out.0 out.1 in
+    let within : n < length a.instrs = slice_get_within a.instrs n out.0 out.1 in
     let back : n + ((length a.instrs - o.place) - o.port) ≡ length a.instrs = omega (arith, within) in
     let last : ℕ = h.last in
     let long = h.long in
@@ -74,7 +73,7 @@ joins_more e waiting a op c o p out dyadic h =
   where
     no_landing : (is : List Instr) (n : ℕ) (s : Bool) (j : Instr) (block : ℕ) → Leaves is n s → slice_get is n ≡ Some j → j.op ≡ Link block → s ≡ false → ⊥
     no_landing is n s j block (k, f, inl t) g l u = false_true (sym u ∙ t)
-    no_landing is n s j block (k, f, inr t) g l u = false_true (sym t ∙ ap (λ (y : Instr). is_link y.op) (same_some k j (sym f ∙ g)) ∙ ap is_link l)
+    no_landing is n s j block (k, f, inr t) g l u = false_true (sym t ∙ ap (λ (y : Instr). is_link y.op) (same_Some k j (sym f ∙ g)) ∙ ap is_link l)
 
 pub joins_end : (e : Env) (waiting n : ℕ) (a : Build) (op : Op) (b : Build) → Settled e waiting n a → Joining e waiting a op b → Settled e waiting n b
 joins_end e waiting n a op b h j =

@@ -4,6 +4,7 @@ use Rattle.std.specs.Prelude.{slice_get, slice_index_or}
 use Rattle.std.proofs.lemmas.Bool.{cases_lt, eqb-true, eq-eqb}
 use Rattle.std.proofs.lemmas.List.{length-append, length_push, get_or_append_left, get_or_push}
 use Rattle.std.proofs.lemmas.Option.{slice_get_within}
+use Rattle.lemmas.proofs.SliceGet.{get_append_cases}
 use Rattle.semantics.specs.declared.graph.Kind.{Kind}
 use Rattle.semantics.specs.declared.graph.Kind.TheVariants.{Loop}
 use Rattle.semantics.specs.Graph.{Node, Block}
@@ -13,14 +14,6 @@ use Rattle.expansion.specs.Variants.{loops_to, some_node_loops, some_block_loops
 use Rattle.expansion.specs.Expanded.{Codes, with_code, no_codes, plain_code, variant_code, plain_codes, variant_codes, codes_of}
 
 -- LISTS
-pub get_append : {X : Type 0} (xs ys : List X) (k : ℕ) (y : X) → slice_get (xs ++ ys) k ≡ Some y → (slice_get xs k ≡ Some y) ⊎ ((j : ℕ) × (k ≡ length xs + j) × (slice_get ys j ≡ Some y))
-get_append [] ys k y e = inr (k, omega arith, e)
-get_append (x ∷ xs) ys zero y e = inl e
-get_append (x ∷ xs) ys (suc k) y e = go (get_append xs ys k y e)
-  where
-    go : (slice_get xs k ≡ Some y) ⊎ ((j : ℕ) × (k ≡ length xs + j) × (slice_get ys j ≡ Some y)) → (slice_get xs k ≡ Some y) ⊎ ((j : ℕ) × (suc k ≡ suc (length xs) + j) × (slice_get ys j ≡ Some y))
-    go (inl f) = inl f
-    go (inr f) = let at = f.1 in inr (f.0, omega (arith, at), f.2)
 
 pub get_left : {X : Type 0} (xs ys : List X) (k : ℕ) (y : X) → slice_get xs k ≡ Some y → slice_get (xs ++ ys) k ≡ Some y
 get_left [] ys k y e = absurd (cc)
@@ -245,7 +238,7 @@ module _ (v : ℕ) (bs : List (Block ℕ)) where
   pub code_cases : (b : ℕ) (c : CodeBlock) → slice_get all_codes b ≡ Some c
       → ((x : Block ℕ) × (slice_get bs b ≡ Some x) × ((plain_code v bs vars b x).code ≡ c))
       ⊎ ((f : ℕ) × (x : Block ℕ) × (slice_get bs f ≡ Some x) × (some_block_loops f bs ≡ true) × ((variant_code v bs vars f x).code ≡ c))
-  code_cases b c e = go (get_append (plain_list v bs vars 0 bs) (variant_list v bs vars 0 bs) b c (ap (λ xs. slice_get xs b) (sym all_are) ∙ e))
+  code_cases b c e = go (get_append_cases (plain_list v bs vars 0 bs) (variant_list v bs vars 0 bs) b c (ap (λ xs. slice_get xs b) (sym all_are) ∙ e))
     where
       go : (slice_get (plain_list v bs vars 0 bs) b ≡ Some c) ⊎ ((j : ℕ) × (b ≡ length (plain_list v bs vars 0 bs) + j) × (slice_get (variant_list v bs vars 0 bs) j ≡ Some c))
           → ((x : Block ℕ) × (slice_get bs b ≡ Some x) × ((plain_code v bs vars b x).code ≡ c))

@@ -1,16 +1,18 @@
 -- The resolved flow of a well-formed graph that has a text is within its ranges.
-use Rattle.std.proofs.Common.{◌≡◌, ℕ, ◌+◌, ◌-◌, ◌<◌, ◌≤◌, false, List, map, length, get_or, sym, ap, ◌∙◌, subst, arith, Some, None, nat_lt, if◌then◌else◌}
+use Rattle.std.proofs.Common.{◌≡◌, ℕ, ◌+◌, ◌-◌, ◌<◌, ◌≤◌, List, length, sym, ◌∙◌, subst, arith, Some}
 use Rattle.std.specs.Prelude.{All, Contains, slice_get, sum, ⊤}
-use Rattle.std.proofs.lemmas.Bool.{le-ltb}
 use Rattle.std.proofs.lemmas.List.{length-map}
-use Rattle.std.proofs.lemmas.Option.{slice_get-get_or, slice_get_within}
-use Rattle.law_determinacy.proofs.Resolved.{all_get, contains_get, place_get, block_in, node_in}
+use Rattle.std.proofs.lemmas.Option.{slice_get_within}
+use Rattle.lemmas.proofs.Alls.{all_at, all_from_map}
+use Rattle.lemmas.proofs.Contains.{contains_get}
+use Rattle.lemmas.proofs.SliceGet.{map_get, map_get_back}
+use Rattle.law_determinacy.proofs.Resolved.{place_get, block_in, node_in}
 use Rattle.semantics.specs.declared.graph.Kind.{Kind}
 use Rattle.semantics.specs.declared.graph.Kind.TheVariants.{Lit, Apply1, Apply2, Cond, Enter, Merge, Fetch, Store, Call, StrictCall, Loop}
-use Rattle.semantics.specs.Graph.{Graph, Block, Node, Flow, node_at, node_count, flow_of, resolved_kind, array_names, block_names, place_of}
+use Rattle.semantics.specs.Graph.{Graph, Block, Node, Flow, node_count, flow_of, resolved_kind, array_names, block_names, place_of}
 use Rattle.semantics.specs.WellFormed.{WellFormed, IsBlockWell, IsNodeWell, NamesWell, HasShape}
 use Rattle.semantics.specs.Text.{HasText, HasBlockText, IsName}
-use Rattle.law_expansion.proofs.FactsHeads.{get_map, map_get}
+use Rattle.semantics.proofs.Lines.{named_line_at}
 
 -- WITHIN ITS RANGES. A node names an array, or a block with as many inputs as it has sources.
 abbrev pub Takes : Flow → ℕ → ℕ → Type 0
@@ -41,18 +43,6 @@ pub record FlowFits (fl : Flow) : Type 0 where
   pub arrays : All (λ n. (1 ≤ n) × (n ≤ 65536)) fl.arrays
   pub cells : sum fl.arrays ≤ 65536
   pub blocks : (f : ℕ) (b : Block ℕ) → slice_get fl.blocks f ≡ Some b → BlockFits fl b
-
--- each element of a mapped list is that of an element
-all_of : {X Y : Type 0} (P : Y → Type 0) (f : X → Y) (xs : List X) → ((i : ℕ) (x : X) → slice_get xs i ≡ Some x → P (f x)) → All P (map f xs)
-all_of P f xs h = λ k d lt.
-    let m = map_get f xs k (get_or (map f xs) k d) (slice_get-get_or (map f xs) k d lt) in
-    subst P m.2 (h k m.0 m.1)
-
-node_line : (b : Block (List ℕ)) (i : ℕ) → node_at b (b.inputs + i) ≡ slice_get b.nodes i
-node_line b i =
-    let past : nat_lt (b.inputs + i) b.inputs ≡ false = le-ltb (b.inputs + i) b.inputs (omega arith) in
-    let at : (b.inputs + i) - b.inputs ≡ i = omega arith in
-    ap (λ t. if t then None else slice_get b.nodes ((b.inputs + i) - b.inputs)) past ∙ ap (slice_get b.nodes) at
 
 abbrev NamedArray : Type 0
 NamedArray = List ℕ × ℕ
@@ -85,9 +75,9 @@ module _ (g : Graph) (text : HasText g) (well : WellFormed g) where
   block_there : (name : List ℕ) (b : Block (List ℕ)) → Contains g.blocks (name, b) → slice_get (flow_of g).blocks (place_of name (block_names g)) ≡ Some (block_in g b)
   block_there name b h =
       let k = contains_get g.blocks (name, b) h in
-      let at = get_map (λ (x : NamedBlock). x.0) g.blocks k.0 (name, b) k.1 in
+      let at = map_get (λ (x : NamedBlock). x.0) g.blocks k.0 (name, b) k.1 in
       let same = well.blocks_differ k.0 (place_of name (block_names g)) name at (place_get name (block_names g) k.0 at) in
-      subst (λ i. slice_get (flow_of g).blocks i ≡ Some (block_in g b)) same (get_map (λ (x : NamedBlock). block_in g x.1) g.blocks k.0 (name, b) k.1)
+      subst (λ i. slice_get (flow_of g).blocks i ≡ Some (block_in g b)) same (map_get (λ (x : NamedBlock). block_in g x.1) g.blocks k.0 (name, b) k.1)
 
   takes_there : (name : List ℕ) (n m : ℕ) → HasShape g name n m → Takes (flow_of g) (place_of name (block_names g)) n
   takes_there name n m h = (block_in g h.0, block_there name h.0 h.1, h.2)
@@ -111,8 +101,8 @@ module _ (g : Graph) (text : HasText g) (well : WellFormed g) where
   -- BLOCKS
   block_fits : (i : ℕ) (named : NamedBlock) → slice_get g.blocks i ≡ Some named → BlockFits (flow_of g) (block_in g named.1)
   block_fits i named e =
-      let good : IsBlockWell g named.1 = all_get (λ (x : NamedBlock). IsBlockWell g x.1) g.blocks i named well.blocks e in
-      let fits : HasBlockText g.version named = all_get (HasBlockText g.version) g.blocks i named text.blocks e in
+      let good : IsBlockWell g named.1 = all_at (λ (x : NamedBlock). IsBlockWell g x.1) g.blocks i named well.blocks e in
+      let fits : HasBlockText g.version named = all_at (HasBlockText g.version) g.blocks i named text.blocks e in
       let count = length-map named.1.nodes (node_in g) in
       let some_input = good.some_input in
       let some_output = good.some_output in
@@ -123,8 +113,8 @@ module _ (g : Graph) (text : HasText g) (well : WellFormed g) where
         size = omega (arith, size, count);
         results = good.result_count;
         nodes = λ k n f.
-            let m = map_get (node_in g) named.1.nodes k n f in
-            let known : IsNodeWell g named.1 (named.1.inputs + k) m.0 = good.nodes (named.1.inputs + k) m.0 (node_line named.1 k ∙ m.1) in
+            let m = map_get_back (node_in g) named.1.nodes k n f in
+            let known : IsNodeWell g named.1 (named.1.inputs + k) m.0 = good.nodes (named.1.inputs + k) m.0 (named_line_at named.1 k ∙ m.1) in
             subst (λ (x : Node ℕ). KindFits (flow_of g) x.kind (length x.sources)) m.2 (kind_fits m.0.kind (length m.0.sources) known.names);
       }
 
@@ -138,11 +128,11 @@ module _ (g : Graph) (text : HasText g) (well : WellFormed g) where
         few = omega (arith, few_blocks, blocks_count);
         main = main_there;
         few_arrays = omega (arith, few_arrays, arrays_count);
-        arrays = all_of (λ n. (1 ≤ n) × (n ≤ 65536)) (λ (a : NamedArray). a.1) g.arrays (λ i a e.
-            let t = all_get (λ (a : NamedArray). IsName a.0 × (1 ≤ a.1) × (a.1 ≤ 65536)) g.arrays i a text.arrays e in
+        arrays = all_from_map (λ n. (1 ≤ n) × (n ≤ 65536)) (λ (a : NamedArray). a.1) g.arrays (λ i a e.
+            let t = all_at (λ (a : NamedArray). IsName a.0 × (1 ≤ a.1) × (a.1 ≤ 65536)) g.arrays i a text.arrays e in
             (t.1, t.2));
         cells = text.cells;
         blocks = λ f b e.
-            let m = map_get (λ (x : NamedBlock). block_in g x.1) g.blocks f b e in
+            let m = map_get_back (λ (x : NamedBlock). block_in g x.1) g.blocks f b e in
             subst (BlockFits (flow_of g)) m.2 (block_fits f m.0 m.1);
       }

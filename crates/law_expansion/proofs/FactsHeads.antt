@@ -34,16 +34,6 @@ push_new (z ∷ xs) x = push_new xs x
 pub same_at : {X : Type 0} (xs : List X) (m n : ℕ) (x y : X) → m ≡ n → slice_get xs m ≡ Some x → slice_get xs n ≡ Some y → x ≡ y
 same_at xs m n x y s e f = let at : slice_get xs m ≡ slice_get xs n = ap (slice_get xs) s in cc
 
-pub get_map : {X Y : Type 0} (f : X → Y) (xs : List X) (n : ℕ) (x : X) → slice_get xs n ≡ Some x → slice_get (map f xs) n ≡ Some (f x)
-get_map f [] n x e = absurd (cc)
-get_map f (y ∷ xs) zero x e = let p : y ≡ x = cc in ap (λ z. Some (f z)) p
-get_map f (y ∷ xs) (suc n) x e = get_map f xs n x e
-
-pub map_get : {X Y : Type 0} (f : X → Y) (xs : List X) (n : ℕ) (y : Y) → slice_get (map f xs) n ≡ Some y → (x : X) × (slice_get xs n ≡ Some x) × (f x ≡ y)
-map_get f [] n y e = absurd (cc)
-map_get f (x ∷ xs) zero y e = (x, refl, cc)
-map_get f (x ∷ xs) (suc n) y e = map_get f xs n y e
-
 -- HEADS: an instruction without its destinations
 abbrev pub head : Instr → Instr
 head i = bare i.op i.origin i.slot

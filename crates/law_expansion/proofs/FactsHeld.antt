@@ -1,7 +1,8 @@
 -- What a code block's holders keep to, from how its instructions were added.
 use Rattle.std.proofs.Common.{◌≡◌, ℕ, ◌<◌, ◌⊎◌, ◌&&◌, Bool, true, false, refl, sym, ap, ◌∙◌, subst, inl, inr, Some}
 use Rattle.std.specs.Prelude.{slice_get, Contains}
-use Rattle.law_determinacy.proofs.Resolved.{contains_get}
+use Rattle.lemmas.proofs.Contains.{contains_get}
+use Rattle.lemmas.proofs.SliceGet.{map_get, map_get_back}
 use Rattle.semantics.specs.declared.program.Op.{Op}
 use Rattle.semantics.specs.declared.program.Op.TheVariants.{Apply1, Apply2, Apply2Right, Apply2Left, Lit, Copy, Sync, Switch, Fetch, Store, Frame, Link, Send, Return, Ask, Open, Take, Give, Drain, Release}
 use Rattle.semantics.specs.Program.{Instr, CodeBlock}
@@ -10,7 +11,7 @@ use Rattle.semantics.specs.Rule.{slot_of}
 use Rattle.semantics.specs.Wired.{LoopsAgree, part_of, bound_of}
 use Rattle.expansion.specs.Builds.{takes_holder}
 use Rattle.law_expansion.specs.Facts.{HoldsRightly}
-use Rattle.law_expansion.proofs.FactsHeads.{get_map, map_get, same_at, head, heads}
+use Rattle.law_expansion.proofs.FactsHeads.{same_at, head, heads}
 use Rattle.law_expansion.proofs.FactsSteps.{Idle}
 use Rattle.law_expansion.proofs.FactsHolders.{is_later, is_later_part, holder_first, Held, OpenAt}
 
@@ -87,7 +88,7 @@ both_false false t e = refl
 
 module _ (c : CodeBlock) (opened : ℕ) (held : Held Idle (heads c.instrs) c.slots opened) where
   up : (n : ℕ) (i : Instr) → slice_get c.instrs n ≡ Some i → slice_get (heads c.instrs) n ≡ Some (head i)
-  up n i e = get_map head c.instrs n i e
+  up n i e = map_get head c.instrs n i e
 
   -- an instruction with the holder of a `take`, `give` or `drain`, and a holder of its own, is the loop's `open`
   its_open : (m n : ℕ) (i j : Instr) → slice_get c.instrs m ≡ Some i → slice_get c.instrs n ≡ Some j → takes_holder i.op ≡ true → is_later j.op ≡ true → i.slot ≡ j.slot
@@ -165,7 +166,7 @@ module _ (c : CodeBlock) (opened : ℕ) (held : Held Idle (heads c.instrs) c.slo
   pub holders_used : (h : ℕ) → h < c.slots → (n : ℕ) × (i : Instr) × (slice_get c.instrs n ≡ Some i) × (slot_of i i.op ≡ Some h) × IsFirst i.op
   holders_used h l =
       let u = held.used h l in
-      let i = map_get head c.instrs u.0 u.1 u.2 in
+      let i = map_get_back head c.instrs u.0 u.1 u.2 in
       let has : takes_holder i.0.op ≡ true = ap (λ (x : Instr). takes_holder x.op) i.2 ∙ u.3 in
       let own = own_slot i.0 i.0.op has in
       let slot : i.0.slot ≡ h = ap (λ (x : Instr). x.slot) i.2 ∙ u.4 in

@@ -3,6 +3,7 @@ use Rattle.std.proofs.Common.{◌≡◌, ℕ, zero, suc, ◌+◌, ◌<◌, ◌�
 use Rattle.std.specs.Prelude.{slice_get, slice_index_or}
 use Rattle.std.proofs.lemmas.List.{length_push, length-set}
 use Rattle.std.proofs.lemmas.Option.{slice_get_within}
+use Rattle.lemmas.proofs.SliceGet.{map_get}
 use Rattle.tags.specs.declared.value.Origin.{Origin}
 use Rattle.tags.specs.declared.value.Origin.TheVariants.{Untold, At}
 use Rattle.tags.specs.declared.token.Port.{Port}
@@ -23,7 +24,7 @@ use Rattle.expansion.specs.Variants.{some_block_loops, variants_of}
 use Rattle.expansion.specs.Blocks.{entries, with_inputs, plain_build, variant_build, variant_of}
 use Rattle.expansion.specs.Expanded.{scope_of, plain_code, variant_code, expanded}
 use Rattle.law_expansion.specs.Facts.{NamesAndComesRightly, NamesBlockRightly, NamesAllRightly}
-use Rattle.law_expansion.proofs.FactsHeads.{push_cases, same_at, get_map, head, heads, heads_connected, heads_added}
+use Rattle.law_expansion.proofs.FactsHeads.{push_cases, same_at, head, heads, heads_connected, heads_added}
 use Rattle.law_expansion.proofs.FactsSteps.{Stage, Idle, Step, Basics, Invokes, AllowsKind, Allows, entries_keep, plain_keeps, variant_keeps}
 use Rattle.law_expansion.proofs.FactsFlows.{Takes, Turns, KindFits, BlockFits, FlowFits}
 use Rattle.law_expansion.proofs.FactsCodes.{all_codes, code_cases, plain_at, variant_at, codes_count, is_looped, some_loop}
@@ -170,7 +171,7 @@ module _ (fl : Flow) (fits : FlowFits fl) where
         inputs = fit.inputs;
         outputs = fit.outputs;
         size = plain_keeps (HasMany (b.inputs + 1)) Ok IsPlace 255 (basics prog) tt (λ s t c op o m r x k f h. adds_many (b.inputs + 1) s t c op o m r h) (links_many (b.inputs + 1)) (λ s c o h. h) s a (entries_length s);
-        instrs = λ n x g. names n (head x) (get_map head (plain_build s).instrs n x g);
+        instrs = λ n x g. names n (head x) (map_get head (plain_build s).instrs n x g);
       }
 
   -- an iteration sends the next one what its loop has sources for
@@ -200,7 +201,7 @@ module _ (fl : Flow) (fits : FlowFits fl) where
         inputs = fit.inputs;
         outputs = fit.outputs;
         size = variant_keeps (HasMany (b.inputs + 1)) Ok IsPlace 255 (basics prog) tt (λ s t c op o m r x k f h. adds_many (b.inputs + 1) s t c op o m r h) (links_many (b.inputs + 1)) (λ s c o h. h) s (variant_of vars i) a next (entries_length s);
-        instrs = λ n x g. names n (head x) (get_map head (variant_build s (variant_of vars i)).instrs n x g);
+        instrs = λ n x g. names n (head x) (map_get head (variant_build s (variant_of vars i)).instrs n x g);
       }
 
   pub names_blocks : (b : ℕ) (c : CodeBlock) → slice_get prog.blocks b ≡ Some c → NamesBlockRightly prog c

@@ -1,7 +1,7 @@
 -- A sound plan from its parts: what it names, its holders and its marks, and the laws of its destinations.
-use Rattle.std.proofs.Common.{◌≡◌, ℕ, ◌<◌, true, List, length, get_or, Some}
-use Rattle.std.specs.Prelude.{All, Contains, slice_get}
-use Rattle.std.proofs.lemmas.Option.{slice_get-get_or}
+use Rattle.std.proofs.Common.{◌≡◌, ℕ, ◌<◌, true, length, Some}
+use Rattle.std.specs.Prelude.{Contains, slice_get}
+use Rattle.lemmas.proofs.Alls.{all_from}
 use Rattle.tags.specs.declared.token.Port.TheVariants.{Right}
 use Rattle.semantics.specs.Graph.{Flow, Graph, flow_of}
 use Rattle.semantics.specs.Text.{HasText}
@@ -23,9 +23,6 @@ HasShapes p = (b n : ℕ) (c : CodeBlock) (i : Instr) → slice_get p.blocks b �
 abbrev pub LandLeft : Program → Type 0
 LandLeft p = (b n : ℕ) (c : CodeBlock) (i : Instr) → slice_get p.blocks b ≡ Some c → StandsAt c n i → LandsLeft i.op i.firsts
 
-by_place : {X : Type 0} (P : X → Type 0) (xs : List X) → ((n : ℕ) (x : X) → slice_get xs n ≡ Some x → P x) → All P xs
-by_place P xs h = λ k d lt. h k (get_or xs k d) (slice_get-get_or xs k d lt)
-
 pub sound_program : (p : Program) → NamesAllRightly p → HasShapes p → LandLeft p → IsSoundProgram p
 sound_program p h shapes lands = record {
   some_block = h.some_block;
@@ -45,7 +42,7 @@ sound_program p h shapes lands = record {
 
 pub plan_block : (c : CodeBlock) → HoldsRightly c → ((n : ℕ) (i : Instr) → StandsAt c n i → HasShape i.op (length i.firsts) (length i.seconds)) → IsPlanBlock c
 plan_block c h shapes = record {
-  shapes = by_place (λ (i : Instr). HasShape i.op (length i.firsts) (length i.seconds)) c.instrs shapes;
+  shapes = all_from (λ (i : Instr). HasShape i.op (length i.firsts) (length i.seconds)) c.instrs shapes;
   holders = h.holders;
   below = h.below;
   used = h.used;
@@ -53,7 +50,7 @@ plan_block c h shapes = record {
 
 pub is_plan : (fl : Flow) → HasShapes (expanded fl).program → IsPlan (expanded fl)
 is_plan fl shapes = record {
-  blocks = by_place IsPlanBlock (expanded fl).program.blocks (λ b c e. plan_block c (plans_hold_rightly fl b c e) (λ n i f. shapes b n c i e f));
+  blocks = all_from IsPlanBlock (expanded fl).program.blocks (λ b c e. plan_block c (plans_hold_rightly fl b c e) (λ n i f. shapes b n c i e f));
   marked = (plans_mark_rightly fl).marked;
 }
 

@@ -2,6 +2,7 @@
 use Rattle.std.proofs.Common.{◌≡◌, ◌≢◌, ℕ, ◌+◌, ◌-◌, ◌<◌, ◌≤◌, Bool, true, false, not, ◌&&◌, List, [], ◌∷◌, ◌++◌, length, Option, Some, None, refl, sym, ap, ◌∙◌, subst, arith, inl, inr, ◌⊎◌, if◌then◌else◌, nat_lt, ltb-false}
 use Rattle.std.specs.Prelude.{slice_get}
 use Rattle.std.proofs.lemmas.Option.{slice_get_within}
+use Rattle.lemmas.proofs.Sums.{count_if}
 use Rattle.tags.specs.declared.token.Port.TheVariants.{Left, Right}
 use Rattle.tags.specs.declared.value.Origin.TheVariants.{Untold}
 use Rattle.semantics.specs.declared.graph.Region.{Region}
@@ -141,11 +142,7 @@ none_after bl (Arm k side) j t =
     let below = slice_get_within bl.nodes (k - bl.inputs) x.1.0 x.1.1 in
     other_arm k (node_count bl) side t (λ e. omega (arith, e, low, below))
 
--- how many arcs all joins lay at an instruction
-abbrev due : Bool → ℕ
-due t = if t then 1 else 0
-
-all_joined : (bl : Block ℕ) (r : Region) (t : Bool) → Joined bl r → joined_from (λ q. own_hits t r q) bl.inputs bl.nodes + own_hits t r Root ≡ due t
+all_joined : (bl : Block ℕ) (r : Region) (t : Bool) → Joined bl r → joined_from (λ q. own_hits t r q) bl.inputs bl.nodes + own_hits t r Root ≡ count_if t
 all_joined bl r true j = regions_once bl r j (λ q. own_hits true r q) (λ q. refl)
 all_joined bl r false j = let none : joined_from (λ q. own_hits false r q) bl.inputs bl.nodes ≡ 0 = from_none (λ q. own_hits false r q) bl.inputs bl.nodes (λ m t a b. refl) in omega (arith, none)
 
@@ -203,21 +200,21 @@ begins_sound s n b ts h =
 begins_held : (s : Scope) (b : Build) (p : ℕ) (r : Ready s b p) → Held p r.instr.op (length r.instr.firsts) (λ q. own_hits (is_end r.instr) (region_of b.regions p) q) (closing b (ends_of b))
 begins_held s b p r = ((r.instr, r.here, (refl, refl, r.seconds)), ends_fair p b r.mark, λ q. ends_hits p q b r.instr r.here r.mark)
 
-wants_all : (s : Scope) (b : Build) (p : ℕ) (r : Ready s b p) → Wants r.instr.op (length r.instr.firsts + due (is_end r.instr))
+wants_all : (s : Scope) (b : Build) (p : ℕ) (r : Ready s b p) → Wants r.instr.op (length r.instr.firsts + count_if (is_end r.instr))
 wants_all s b p r = by_want r.wants
   where
-    by_want : (Wants r.instr.op (length r.instr.firsts) × (is_end r.instr ≡ false)) ⊎ (Wants r.instr.op 1 × (length r.instr.firsts ≡ 0) × (is_end r.instr ≡ true)) → Wants r.instr.op (length r.instr.firsts + due (is_end r.instr))
+    by_want : (Wants r.instr.op (length r.instr.firsts) × (is_end r.instr ≡ false)) ⊎ (Wants r.instr.op 1 × (length r.instr.firsts ≡ 0) × (is_end r.instr ≡ true)) → Wants r.instr.op (length r.instr.firsts + count_if (is_end r.instr))
     by_want (inl x) =
-        let none : due (is_end r.instr) ≡ 0 = ap due x.1 in
-        let same : length r.instr.firsts ≡ length r.instr.firsts + due (is_end r.instr) = omega (arith, none) in
+        let none : count_if (is_end r.instr) ≡ 0 = ap count_if x.1 in
+        let same : length r.instr.firsts ≡ length r.instr.firsts + count_if (is_end r.instr) = omega (arith, none) in
         subst (λ k. Wants r.instr.op k) same x.0
     by_want (inr x) =
-        let one : due (is_end r.instr) ≡ 1 = ap due x.2 in
+        let one : count_if (is_end r.instr) ≡ 1 = ap count_if x.2 in
         let zero_firsts = x.1 in
-        let same : 1 ≡ length r.instr.firsts + due (is_end r.instr) = omega (arith, one, zero_firsts) in
+        let same : 1 ≡ length r.instr.firsts + count_if (is_end r.instr) = omega (arith, one, zero_firsts) in
         subst (λ k. Wants r.instr.op k) same x.0
 
-shape_ready : (s : Scope) (b c : Build) (p : ℕ) (r : Ready s b p) → At p r.instr.op (length r.instr.firsts + due (is_end r.instr)) c → (i : Instr) → slice_get c.instrs p ≡ Some i → p + 1 ≢ length c.instrs → IsDone (length c.instrs) p i
+shape_ready : (s : Scope) (b c : Build) (p : ℕ) (r : Ready s b p) → At p r.instr.op (length r.instr.firsts + count_if (is_end r.instr)) c → (i : Instr) → slice_get c.instrs p ≡ Some i → p + 1 ≢ length c.instrs → IsDone (length c.instrs) p i
 shape_ready s b c p r h i e d =
     let same : h.0 ≡ i = let there = h.1 in cc in
     let w : Wants h.0.op (length h.0.firsts) = subst (λ op. Wants op (length h.0.firsts)) (sym h.2.0) (subst (λ k. Wants r.instr.op k) (sym h.2.1) (wants_all s b p r)) in
@@ -225,7 +222,7 @@ shape_ready s b c p r h i e d =
     let kind : is_release i.op ≡ false = ap (λ (j : Instr). is_release j.op) (sym same) ∙ other in
     (subst IsExact same (wants_shape h.0.op (length h.0.firsts) (length h.0.seconds) w h.2.2), λ q. absurd (cc), λ q. absurd (d q))
 
-shaped_by : (s : Scope) (b c : Build) → ShapedBut (Ready s b) c → ((p : ℕ) (r : Ready s b p) → At p r.instr.op (length r.instr.firsts + due (is_end r.instr)) c) → ShapedBuild c
+shaped_by : (s : Scope) (b c : Build) → ShapedBut (Ready s b) c → ((p : ℕ) (r : Ready s b p) → At p r.instr.op (length r.instr.firsts + count_if (is_end r.instr)) c) → ShapedBuild c
 shaped_by s b c all ready p i e = elim (all p i e) as (λ u. IsDone (length c.instrs) p i) [ inl x ↦ x | inr r ↦ shape_ready s b c p r.0 (ready p r.0) i e r.1 ]
 
 pub plain_shaped : (s : Scope) → PredicatesValid s → AllFit s s.block.inputs s.block.nodes → AreValid s (node_count s.block) s.block.results → HasUses s false → ShapedBuild (plain_build s)
@@ -238,15 +235,15 @@ plain_shaped s q fits v e =
     shaped_by s b (released x.build x.ends s.block.outputs) (released_free (Ready s b) x.build x.ends s.block.outputs sound) (counted b)
   where
     counted : (b : Build) (p : ℕ) (r : Ready s b p)
-        → (let x : Closing = closed_nodes (closing b (ends_of b)) s.block.inputs s.block.nodes in At p r.instr.op (length r.instr.firsts + due (is_end r.instr)) (released x.build x.ends s.block.outputs))
+        → (let x : Closing = closed_nodes (closing b (ends_of b)) s.block.inputs s.block.nodes in At p r.instr.op (length r.instr.firsts + count_if (is_end r.instr)) (released x.build x.ends s.block.outputs))
     counted b p r =
         let h : Region → ℕ = λ (q : Region). own_hits (is_end r.instr) (region_of b.regions p) q in
         let x : Closing = closed_nodes (closing b (ends_of b)) s.block.inputs s.block.nodes in
         let firsts : ℕ = length r.instr.firsts in
         let arms = nodes_at p r.instr.op firsts h (closing b (ends_of b)) s.block.inputs s.block.nodes (begins_held s b p r) in
         let whole = released_at p r.instr.op (firsts + joined_from h s.block.inputs s.block.nodes) h x s.block.outputs arms r.later in
-        let sum : joined_from h s.block.inputs s.block.nodes + h Root ≡ due (is_end r.instr) = all_joined s.block (region_of b.regions p) (is_end r.instr) r.region in
-        let total : (firsts + joined_from h s.block.inputs s.block.nodes) + h Root ≡ firsts + due (is_end r.instr) = omega (arith, sum) in
+        let sum : joined_from h s.block.inputs s.block.nodes + h Root ≡ count_if (is_end r.instr) = all_joined s.block (region_of b.regions p) (is_end r.instr) r.region in
+        let total : (firsts + joined_from h s.block.inputs s.block.nodes) + h Root ≡ firsts + count_if (is_end r.instr) = omega (arith, sum) in
         subst (λ k. At p r.instr.op k (released x.build x.ends s.block.outputs)) total whole
 
 pub variant_shaped : (s : Scope) (code : ℕ) → PredicatesValid s → AllFit s s.block.inputs s.block.nodes → AreValid s (node_count s.block) s.block.results → HasUses s true → ShapedBuild (variant_build s code)
@@ -261,7 +258,7 @@ variant_shaped s code q fits v e =
     shaped_by s b (released x.build x.ends s.block.inputs) (released_free (Ready s b) x.build x.ends s.block.inputs sound) (counted b)
   where
     counted : (b : Build) (p : ℕ) (r : Ready s b p)
-        → (let x : Closing = closed_nodes (closed b (ends_of b) (node_count s.block) Root) s.block.inputs s.block.nodes in At p r.instr.op (length r.instr.firsts + due (is_end r.instr)) (released x.build x.ends s.block.inputs))
+        → (let x : Closing = closed_nodes (closed b (ends_of b) (node_count s.block) Root) s.block.inputs s.block.nodes in At p r.instr.op (length r.instr.firsts + count_if (is_end r.instr)) (released x.build x.ends s.block.inputs))
     counted b p r =
         let h : Region → ℕ = λ (q : Region). own_hits (is_end r.instr) (region_of b.regions p) q in
         let n : ℕ = node_count s.block in
@@ -272,7 +269,7 @@ variant_shaped s code q fits v e =
         let begun = closed_at p r.instr.op firsts h b (ends_of b) n Root (begins_held s b p r) in
         let arms = nodes_at p r.instr.op (firsts + turns) h first s.block.inputs s.block.nodes begun in
         let whole = released_at p r.instr.op ((firsts + turns) + joined_from h s.block.inputs s.block.nodes) h x s.block.inputs arms r.later in
-        let sum : joined_from h s.block.inputs s.block.nodes + h Root ≡ due (is_end r.instr) = all_joined s.block (region_of b.regions p) (is_end r.instr) r.region in
+        let sum : joined_from h s.block.inputs s.block.nodes + h Root ≡ count_if (is_end r.instr) = all_joined s.block (region_of b.regions p) (is_end r.instr) r.region in
         let none : turns ≡ 0 = none_joined s.block (region_of b.regions p) (is_end r.instr) r.region in
-        let total : ((firsts + turns) + joined_from h s.block.inputs s.block.nodes) + h Root ≡ firsts + due (is_end r.instr) = omega (arith, sum, none) in
+        let total : ((firsts + turns) + joined_from h s.block.inputs s.block.nodes) + h Root ≡ firsts + count_if (is_end r.instr) = omega (arith, sum, none) in
         subst (λ k. At p r.instr.op k (released x.build x.ends s.block.inputs)) total whole

@@ -22,7 +22,7 @@ use Rattle.expansion.specs.UseCounts.{is_often, uses_at, noted, noted_sources, n
 use Rattle.expansion.specs.Builds.{Build, nowhere, first_of, second_of, added, quieted, connected, outlet_of, trigger_of, exited, behind, meeting, operands, alternatives}
 use Rattle.expansion.specs.Rows.{operator, shared_answer, trigger_switch, conditional, enter, merge, invoke, called, Joined, join_sources, strict_call, credits, repeat}
 use Rattle.expansion.specs.Blocks.{answered, entered, repeated, with_kind, outputs_of, variant_of}
-use Rattle.law_expansion.proofs.ShapesStates.{State, Free, Shut, Waits, Owned, Wants, is_free, is_cond_in, get_right, length_push, length_both}
+use Rattle.law_expansion.proofs.ShapesStates.{State, Free, Shut, Waits, Owned, Wants, is_free, is_cond_in, get_right}
 use Rattle.law_expansion.proofs.ShapesStates as States
 use Rattle.law_expansion.proofs.ShapesTrack.{FreeAt, Track, ports_at, ports_of, ports_in, owns_in, LiesIn, joined, noted_length, track_length, track_exit, track_owned, track_source, often_free, trigger_free}
 use Rattle.law_expansion.proofs.ShapesRows.{push_free, push_waits, push_take, behind_free, behind_waits, meets_free, zone_track, zone_free, zone_shut, zone_place, AreValid, Plays, operands_track, alternatives_track, frees, AllOften, join_sources_track, invoked, invoke_track}

@@ -2,6 +2,7 @@
 use Rattle.std.proofs.Common.{◌≡◌, ◌≢◌, ℕ, zero, suc, ◌+◌, ◌<◌, ◌≤◌, Bool, true, false, List, [], ◌∷◌, ◌++◌, length, Option, Some, None, refl, sym, ap, ◌∙◌, subst, arith, inl, inr, ◌⊎◌, if◌then◌else◌}
 use Rattle.std.specs.Prelude.{slice_get, slice_set, slice_index_or, ⊤}
 use Rattle.std.proofs.lemmas.Option.{slice_get_within}
+use Rattle.std.proofs.lemmas.List.{length_push}
 use Rattle.tags.specs.declared.value.Origin.{Origin}
 use Rattle.tags.specs.declared.value.Origin.TheVariants.{Untold}
 use Rattle.tags.specs.declared.token.Port.{Port}
@@ -21,7 +22,7 @@ use Rattle.expansion.specs.declared.ends.End.{End}
 use Rattle.law_expansion.specs.Shapes.{HasExactShape, IsExact, is_release}
 use Rattle.expansion.specs.Builds.{Build, first_of, added, quieted, connected, with_dest, no_instr, bare, slot_in, behind, meeting}
 use Rattle.expansion.specs.Ends.{end_at, same_region, Signalled, join_with, join_end, join_ends, signalled, Closing, closing, copied, ended, closed, closed_kind, closed_nodes, released}
-use Rattle.law_expansion.proofs.ShapesStates.{Wants, is_free, get_right, get_push, length_push}
+use Rattle.law_expansion.proofs.ShapesStates.{Wants, is_free, get_right, get_push}
 use Rattle.law_expansion.proofs.ShapesCounts.{start, hit_at, hit_other, held, FairSignal, At, connect_at, signalled_at}
 
 -- SHAPES

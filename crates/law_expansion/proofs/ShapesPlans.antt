@@ -1,8 +1,10 @@
 -- Each instruction of a plan has as many destinations as its kind wants.
-use Rattle.std.proofs.Common.{◌≡◌, ℕ, zero, suc, ◌+◌, Bool, true, false, List, [], ◌∷◌, ◌++◌, length, get_or, Some, refl, subst, inl, inr, ◌⊎◌, if◌then◌else◌}
-use Rattle.std.specs.Prelude.{slice_get, map}
+use Rattle.std.proofs.Common.{◌≡◌, ℕ, suc, ◌+◌, Bool, true, false, List, [], ◌∷◌, ◌++◌, length, get_or, Some, refl, subst, inl, inr, ◌⊎◌, if◌then◌else◌}
+use Rattle.std.specs.Prelude.{slice_get}
 use Rattle.std.proofs.lemmas.Option.{slice_get-get_or}
-use Rattle.law_determinacy.proofs.Resolved.{all_get, block_in}
+use Rattle.lemmas.proofs.Alls.{all_at}
+use Rattle.lemmas.proofs.SliceGet.{map_get_back}
+use Rattle.law_determinacy.proofs.Resolved.{block_in}
 use Rattle.semantics.specs.Graph.{Graph, Block, flow_of}
 use Rattle.semantics.specs.WellFormed.{WellFormed, IsBlockWell}
 use Rattle.semantics.specs.declared.program.Op.{Op}
@@ -22,11 +24,6 @@ AllDone is = (p : ℕ) (i : Instr) → slice_get is p ≡ Some i → IsDone (len
 
 exact_code : (c : CodeBlock) → AllDone c.instrs → AreExact c
 exact_code c h = λ k d l. (h k (get_or c.instrs k d) (slice_get-get_or c.instrs k d l)).0
-
-map_back : {X Y : Type 0} (f : X → Y) (xs : List X) (i : ℕ) (y : Y) → slice_get (map f xs) i ≡ Some y → (x : X) × (slice_get xs i ≡ Some x) × (f x ≡ y)
-map_back f [] i y e = cc
-map_back f (x ∷ xs) zero y e = (x, refl, cc)
-map_back f (x ∷ xs) (suc i) y e = map_back f xs i y e
 
 module _ (g : Graph) (well : WellFormed g) where
   abbrev blocks : List (Block ℕ)
@@ -89,8 +86,8 @@ module _ (g : Graph) (well : WellFormed g) where
 
   all_made : AllMade blocks
   all_made k x e =
-      let named = map_back (λ (b : List ℕ × Block (List ℕ)). block_in g b.1) g.blocks k x e in
-      (named.0.1, all_get (λ (n : List ℕ × Block (List ℕ)). IsBlockWell g n.1) g.blocks k named.0 well.blocks named.1, named.2)
+      let named = map_get_back (λ (b : List ℕ × Block (List ℕ)). block_in g b.1) g.blocks k x e in
+      (named.0.1, all_at (λ (n : List ℕ × Block (List ℕ)). IsBlockWell g n.1) g.blocks k named.0 well.blocks named.1, named.2)
 
   none_shaped : AllShaped []
   none_shaped k c e = cc

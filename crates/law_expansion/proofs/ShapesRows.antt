@@ -1,5 +1,5 @@
 -- How the small rows of a builder keep what each instruction waits for.
-use Rattle.std.proofs.Common.{◌≡◌, ℕ, zero, suc, ◌+◌, ◌<◌, ◌≤◌, true, false, List, [], ◌∷◌, ◌++◌, length, Some, refl, sym, ap, ◌∙◌, subst, arith, ◌≢◌, inl, inr, ◌⊎◌, append-nil, append_assoc}
+use Rattle.std.proofs.Common.{◌≡◌, ℕ, zero, suc, ◌+◌, ◌<◌, ◌≤◌, true, false, List, [], ◌∷◌, ◌++◌, length, Some, refl, sym, ap, ◌∙◌, subst, arith, ◌≢◌, inl, inr, ◌⊎◌, append-nil, append_assoc, length-append}
 use Rattle.std.specs.Prelude.{slice_get, slice_set, ⊤}
 use Rattle.tags.specs.declared.value.Origin.{Origin}
 use Rattle.tags.specs.declared.value.Origin.TheVariants.{Untold}
@@ -16,7 +16,7 @@ use Rattle.expansion.specs.Scopes.{Scope}
 use Rattle.expansion.specs.UseCounts.{is_often, uses_at, noted}
 use Rattle.expansion.specs.Builds.{Build, first_of, added, quieted, connected, outlet_of, behind, meeting, side, operands, alternatives, copies}
 use Rattle.expansion.specs.Rows.{sends, invoke, Joined, join_sources}
-use Rattle.law_expansion.proofs.ShapesStates.{State, Free, Shut, Waits, Owned, Wants, is_free, get_left, get_right, set_right, length_both}
+use Rattle.law_expansion.proofs.ShapesStates.{State, Free, Shut, Waits, Owned, Wants, is_free, get_left, get_right, set_right}
 use Rattle.law_expansion.proofs.ShapesStates as States
 use Rattle.law_expansion.proofs.ShapesTrack.{FreeAt, Track, ports_at, track_length, track_push, track_free, track_shut, track_exit, often_free, track_source}
 
@@ -83,7 +83,7 @@ zone_shut s us n b ts mid o k to p h e f q =
     (track_shut s us n b (ts ++ mid) o to p h (get_right ts mid (o.place + o.port) k Waits e f) q)
 
 pub zone_place : (s : Scope) (us : List Uses) (n : ℕ) (b : Build) (ts mid : List State) → Track s us n b (ts ++ mid) → length b.instrs ≡ length ts + length mid
-zone_place s us n b ts mid h = track_length s us n b (ts ++ mid) h ∙ length_both ts mid
+zone_place s us n b ts mid h = track_length s us n b (ts ++ mid) h ∙ length-append ts mid
 
 -- SOURCES
 abbrev pub AreValid : Scope → ℕ → List Source → Type 0
@@ -224,7 +224,7 @@ invoke_track s us n b ts frame block outputs r ss vs h e ports j v p room =
     let three : Build = sends two (first_of (length b.instrs)) block r 0 ss in
     let sent : Track s vs n three ((ts ++ all) ++ frees inputs) = sends_track s us n two (ts ++ all) (first_of (length b.instrs)) block r 0 ss vs linked_one still v p in
     let at_landing = zone_place s vs n three (ts ++ all) (frees inputs) sent in
-    let before = length_both ts all in
+    let before = length-append ts all in
     let count = frees_length inputs in
     let landing : length three.instrs ≡ length ts + (3 + inputs) = omega (arith, at_landing, before, count) in
     let four : Build = copies three r outputs in

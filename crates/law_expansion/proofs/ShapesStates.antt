@@ -1,6 +1,7 @@
 -- What each instruction of a growing build still waits for, and how arcs change it.
 use Rattle.std.proofs.Common.{◌≡◌, ℕ, zero, suc, ◌+◌, Bool, true, false, List, [], ◌∷◌, ◌++◌, length, Option, Some, None, refl, sym, ap, ◌∙◌, subst, arith, ◌≢◌, ◌⊎◌, inl, inr}
 use Rattle.std.specs.Prelude.{slice_get, slice_set, slice_index_or, ⊤}
+use Rattle.std.proofs.lemmas.List.{length_push}
 use Rattle.semantics.specs.declared.graph.Region.{Region}
 use Rattle.semantics.specs.declared.graph.Region.TheVariants.{Root, Arm}
 use Rattle.semantics.specs.declared.graph.Kind.{Kind}
@@ -58,14 +59,6 @@ pub set_right : {X : Type 0} (xs ys : List X) (n k : ℕ) (x : X) → n ≡ leng
 set_right [] ys n k x q = let same : n ≡ k = omega (arith, q) in ap (λ m. slice_set ys m x) same
 set_right (y ∷ xs) ys zero k x q = absurd (omega (arith, q))
 set_right (y ∷ xs) ys (suc n) k x q = ap (λ zs. y ∷ zs) (set_right xs ys n k x (omega (arith, q)))
-
-pub length_push : {X : Type 0} (xs : List X) (x : X) → length (xs ++ x ∷ []) ≡ length xs + 1
-length_push [] x = refl
-length_push (y ∷ xs) x = let e = length_push xs x in omega (arith, e)
-
-pub length_both : {X : Type 0} (xs ys : List X) → length (xs ++ ys) ≡ length xs + length ys
-length_both [] ys = omega arith
-length_both (y ∷ xs) ys = let e = length_both xs ys in omega (arith, e)
 
 -- STATES. `Free`: it may have any destinations. `Shut`: it has those that it wants. `Waits`: it wants one and has none.
 -- `Owned n`: it is where node n leaves, and has as many as the node has uses so far.

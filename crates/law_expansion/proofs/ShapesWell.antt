@@ -2,8 +2,10 @@
 use Rattle.std.proofs.Common.{◌≡◌, ◌≢◌, ℕ, zero, suc, ◌+◌, ◌-◌, ◌<◌, Bool, true, false, List, [], ◌∷◌, map, length, Option, Some, None, refl, sym, ap, ◌∙◌, subst, arith, if◌then◌else◌, nat_lt, le-ltb}
 use Rattle.std.specs.Prelude.{slice_get, All, Contains}
 use Rattle.std.proofs.lemmas.List.{length-map}
-use Rattle.std.proofs.lemmas.List.Elements.{All-contains}
-use Rattle.law_determinacy.proofs.Resolved.{all_get, contains_get, place_get, block_in, node_in, node_back}
+use Rattle.std.proofs.lemmas.List.Elements.{All-contains, All-head, All-tail}
+use Rattle.lemmas.proofs.Contains.{contains_get}
+use Rattle.lemmas.proofs.SliceGet.{map_get}
+use Rattle.law_determinacy.proofs.Resolved.{place_get, block_in, node_in, node_back}
 use Rattle.semantics.specs.declared.graph.Region.{Region}
 use Rattle.semantics.specs.declared.graph.Region.TheVariants.{Root, Arm}
 use Rattle.semantics.specs.declared.graph.Source.{Source}
@@ -20,18 +22,6 @@ use Rattle.law_expansion.proofs.ShapesTrack.{ports_of, ports_in, LiesIn}
 use Rattle.law_expansion.proofs.ShapesRows.{AreValid}
 use Rattle.law_expansion.proofs.ShapesNodes.{IsSingle, IsSome, IsArm, IsValid, KindFits, NodeFits, PredicatesValid}
 use Rattle.law_expansion.proofs.ShapesBody.{AllFit, HasUses}
-
--- LISTS
-map_get : {X Y : Type 0} (f : X → Y) (xs : List X) (i : ℕ) (x : X) → slice_get xs i ≡ Some x → slice_get (map f xs) i ≡ Some (f x)
-map_get f [] i x e = cc
-map_get f (y ∷ xs) zero x e = cc
-map_get f (y ∷ xs) (suc i) x e = map_get f xs i x e
-
-all_head : {X : Type 0} (P : X → Type 0) (x : X) (xs : List X) → All P (x ∷ xs) → P x
-all_head P x xs h = all_get P (x ∷ xs) 0 x h refl
-
-all_tail : {X : Type 0} (P : X → Type 0) (x : X) (xs : List X) → All P (x ∷ xs) → All P xs
-all_tail P x xs h = λ k d l. h (suc k) d (omega (arith, l))
 
 -- NODES OF A GRAPH
 module _ (g : Graph) (well : WellFormed g) where
@@ -125,9 +115,9 @@ module _ (g : Graph) (well : WellFormed g) where
     valid : (n : ℕ) (ss : List Source) → All (IsEarlier g b n) ss → AreValid scope n ss
     valid n [] h = tt
     valid n (x ∷ ss) h =
-        let first = all_head (IsEarlier g b n) x ss h in
+        let first = All-head (IsEarlier g b n) x ss h in
         let port : x.port < ports_in blocks (lifted (node_at b x.node)) = port_in (node_at b x.node) x.port first.1 in
-        (first.0, subst (λ o. x.port < ports_in blocks o) (sym (node_same b x.node)) port, valid n ss (all_tail (IsEarlier g b n) x ss h))
+        (first.0, subst (λ o. x.port < ports_in blocks o) (sym (node_same b x.node)) port, valid n ss (All-tail (IsEarlier g b n) x ss h))
 
     lies_in : (n : ℕ) (r : Region) → IsRegion b n r → LiesIn scope n r
     lies_in n Root h = tt

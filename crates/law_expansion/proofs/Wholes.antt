@@ -1,8 +1,9 @@
 -- The code blocks of a plan and the graph's blocks: bounds, marks and holders.
-use Rattle.std.proofs.Common.{◌≡◌, ℕ, zero, suc, ◌+◌, Bool, true, false, cond, List, [], ◌∷◌, ◌++◌, length, refl, sym, ap, ◌∙◌, subst, arith, append_assoc, append-nil, if◌then◌else◌, Some, nat_lt, lt-ltb, zero-add, sum_by}
+use Rattle.std.proofs.Common.{◌≡◌, ℕ, zero, suc, ◌+◌, Bool, true, false, cond, List, [], ◌∷◌, ◌++◌, length, refl, sym, ap, ◌∙◌, subst, append_assoc, append-nil, if◌then◌else◌, Some, nat_lt, sum_by}
 use Rattle.std.specs.Prelude.{slice_get, count_by, ⊤}
 use Rattle.std.proofs.lemmas.List.Sums.{sum-map, sum_by-cons}
-use Rattle.law_net.proofs.Orders.{IsPermutation-same}
+use Rattle.lemmas.proofs.Permutations.{permutation_same}
+use Rattle.lemmas.proofs.Bools.{sum_is_positive}
 use Rattle.semantics.specs.declared.graph.Kind.{Kind}
 use Rattle.semantics.specs.declared.graph.Kind.TheVariants.{Lit, Apply1, Apply2, Cond, Enter, Merge, Fetch, Store, Call, StrictCall, Loop}
 use Rattle.semantics.specs.declared.program.Mark.{Mark}
@@ -72,9 +73,6 @@ variants_good cs gs v bs vars n (b ∷ rest) h =
     by_test v bs vars n rest cs ds gs b false p q = q
 
 -- WHICH BLOCKS ARE LOOPED
-some_of : (a b : ℕ) (s t : Bool) → s ≡ nat_lt 0 a → t ≡ nat_lt 0 b → (if s then true else t) ≡ nat_lt 0 (a + b)
-some_of zero b s t e f = ap (λ u. if u then true else t) e ∙ f ∙ ap (nat_lt 0) (sym (zero-add b))
-some_of (suc a) b s t e f = ap (λ u. if u then true else t) (e ∙ lt-ltb 0 (suc a) (omega arith)) ∙ sym (lt-ltb 0 (suc a + b) (omega arith))
 
 same_test : (f : ℕ) (k : Kind ℕ) → loops_to f k ≡ Cause.loops_to f k
 same_test f (Lit z) = refl
@@ -99,7 +97,7 @@ weight f n = cond (Cause.loops_to f n.kind) 1 0
 nodes_counted : (f : ℕ) (ns : List (Node ℕ)) → some_node_loops f ns ≡ nat_lt 0 (sum_by (weight f) ns)
 nodes_counted f [] = refl
 nodes_counted f (n ∷ ns) =
-    some_of (weight f n) (sum_by (weight f) ns) (loops_to f n.kind) (some_node_loops f ns) (same_test f n.kind ∙ one_test (Cause.loops_to f n.kind)) (nodes_counted f ns)
+    sum_is_positive (weight f n) (sum_by (weight f) ns) (loops_to f n.kind) (some_node_loops f ns) (same_test f n.kind ∙ one_test (Cause.loops_to f n.kind)) (nodes_counted f ns)
     ∙ ap (nat_lt 0) (sym (sum_by-cons (weight f) n ns))
 
 abbrev loops_in : ℕ → Block ℕ → ℕ
@@ -108,7 +106,7 @@ loops_in f b = count_by (λ (n : Node ℕ). Cause.loops_to f n.kind) b.nodes
 blocks_counted : (f : ℕ) (bs : List (Block ℕ)) → some_block_loops f bs ≡ nat_lt 0 (sum_by (loops_in f) bs)
 blocks_counted f [] = refl
 blocks_counted f (b ∷ bs) =
-    some_of (loops_in f b) (sum_by (loops_in f) bs) (some_node_loops f b.nodes) (some_block_loops f bs) (nodes_counted f b.nodes) (blocks_counted f bs)
+    sum_is_positive (loops_in f b) (sum_by (loops_in f) bs) (some_node_loops f b.nodes) (some_block_loops f bs) (nodes_counted f b.nodes) (blocks_counted f bs)
     ∙ ap (nat_lt 0) (sym (sum_by-cons (loops_in f) b bs))
 
 same_looped : (fl : Flow) (f : ℕ) → some_block_loops f fl.blocks ≡ is_looped fl f
@@ -162,7 +160,7 @@ pub has_bounds : (fl : Flow) → HasBounds fl (expanded fl).program
 has_bounds fl =
     let good = all_good fl in (
       good_count (expanded fl).program.blocks (expanded fl).marks (coded_blocks fl) good,
-      λ b c g e f. IsPermutation-same (opens c.instrs) (loop_bounds g) (good_opens (expanded fl).program.blocks (expanded fl).marks (coded_blocks fl) good b c g e f),
+      λ b c g e f. permutation_same (opens c.instrs) (loop_bounds g) (good_opens (expanded fl).program.blocks (expanded fl).marks (coded_blocks fl) good b c g e f),
     )
 
 pub marks_fit : (fl : Flow) → MarksFit (expanded fl)

@@ -12,7 +12,6 @@ use Rattle.semantics.specs.Handed.{EachOnce}
 use Rattle.semantics.specs.Plan.{Plan}
 use Rattle.semantics.specs.Wired.{IsWired}
 use Rattle.semantics.specs.Orderly.{Orderly, IsOrderlyRun, IsStart, met}
-use Rattle.law_reuse.proofs.Members.{contains_head}
 use Rattle.law_reuse.proofs.History.{taken}
 use Rattle.law_once.specs.Alike.{LandsRightly}
 use Rattle.law_once.specs.Spreads.{ip_word, ip_token}
@@ -22,6 +21,7 @@ use Rattle.law_once.proofs.SpreadSteps.{Step}
 use Rattle.law_fold.specs.Folds.{Plain, Fits, Stands, moved, lit, right, left, Folds}
 use Rattle.std.proofs.lemmas.Bool.{cases_order}
 use Rattle.std.specs.Prelude.{count_by}
+use Rattle.lemmas.proofs.Contains.{contains_head}
 use Rattle.semantics.specs.declared.program.Mark.{Mark}
 use Rattle.semantics.specs.Orderly.{IsMarked, same_block, often, is_at}
 use Rattle.law_once.specs.Spreads.{Spot}

@@ -1,8 +1,9 @@
 -- The arcs that events of the old run use, and where the tokens that they make are in the new run.
-use Rattle.std.proofs.Common.{◌≡◌, refl, sym, ap, ◌∙◌, subst, ℕ, ℤ, zero, suc, ◌+◌, ◌⊎◌, inl, inr, Bool, true, false, List, [], ◌∷◌, ◌++◌, Option, Some, None, Contains, arith}
-use Rattle.std.specs.Prelude.{flat_map, slice_get}
-use Rattle.std.proofs.lemmas.Option.{slice_get_within}
+use Rattle.std.proofs.Common.{◌≡◌, refl, sym, ap, ◌∙◌, subst, ℕ, ℤ, suc, ◌+◌, ◌⊎◌, inl, inr, Bool, true, false, List, [], ◌∷◌, ◌++◌, Option, Some, None, Contains, arith}
+use Rattle.std.specs.Prelude.{slice_get}
+use Rattle.std.proofs.lemmas.Option.{slice_get_within, same_Some}
 use Rattle.std.proofs.lemmas.List.Elements.{Contains-append_left, Contains-append_right, Contains-append_cases}
+use Rattle.lemmas.proofs.Contains.{contains_cases, contains_head, contains_mapped, contains_none, contains_tail}
 use Rattle.tags.specs.declared.value.Value.TheVariants.{Int}
 use Rattle.tags.specs.declared.token.Port.{Port}
 use Rattle.tags.specs.declared.token.Port.TheVariants.{Left, Right}
@@ -11,50 +12,20 @@ use Rattle.tags.specs.declared.token.To.{To}
 use Rattle.tags.specs.declared.token.Token.{Token}
 use Rattle.semantics.specs.declared.program.Dest.{Dest}
 use Rattle.semantics.specs.declared.program.Op.{Op}
-use Rattle.semantics.specs.declared.program.Op.TheVariants.{Link, Lit}
+use Rattle.semantics.specs.declared.program.Op.TheVariants.{Lit}
 use Rattle.semantics.specs.Program.{Instr, CodeBlock, Program, first_of, instr_at}
 use Rattle.semantics.specs.Rule.{token, at_dest}
 use Rattle.semantics.specs.Machine.{Machine}
-use Rattle.semantics.specs.Plan.{Plan, landing}
-use Rattle.semantics.specs.Sharing.{Arc, arc, inlet, arcs_to, row, arcs_from, arcs_of, arcs_in}
+use Rattle.semantics.specs.Plan.{Plan}
+use Rattle.semantics.specs.Sharing.{Arc, arc, inlet, arcs_to, arcs_from, arcs_of, arcs_in}
 use Rattle.semantics.specs.Arcs.{UsesBy, UsesArc}
-use Rattle.law_reuse.proofs.Stands.{some_same, instr_in}
-use Rattle.law_reuse.proofs.Members.{contains_head, contains_tail, contains_cases, contains_none, contains_mapped}
+use Rattle.semantics.proofs.ArcEnds.{arcs_from_from}
+use Rattle.law_reuse.proofs.Stands.{instr_in}
 use Rattle.law_once.specs.Spreads.{ip_to, ip_token}
 use Rattle.law_fold.specs.Folds.{fires_lit, Plain, Fresh, top, Pend, Sends, Stands, moved, lit, right, left, StandAll, stand_none, stand_more}
 use Rattle.law_fold.proofs.FoldRules.{node_grows, pend_with, lit_nodes}
 
 -- ---- WHERE AN ARC STARTS
-arcs_to_from : (n : ℕ) (s : Bool) (ds : List Dest) (x : Arc) → Contains (arcs_to n s ds) x → x.from ≡ n
-arcs_to_from n s ds x c = let d = contains_mapped (λ (d : Dest). arc n s (inlet (n + d.ahead) d.port)) ds x c in sym (ap (λ (x : Arc). x.from) d.2)
-
-row_from : (n from k : ℕ) (x : Arc) → Contains (row n from k) x → x.from ≡ n
-row_from n from zero x c = absurd (contains_none x c)
-row_from n from (suc k) x c = go (contains_cases (arc n false (inlet from Left)) (row n (from + 1) k) x c) (λ c. row_from n (from + 1) k x c)
-  where
-    go : (arc n false (inlet from Left) ≡ x) ⊎ Contains (row n (from + 1) k) x → (Contains (row n (from + 1) k) x → x.from ≡ n) → x.from ≡ n
-    go (inl e) more = sym (ap (λ (x : Arc). x.from) e)
-    go (inr c) more = more c
-
-rows_from : (n k : ℕ) (ds : List Dest) (x : Arc) → Contains (flat_map (λ (d : Dest). row n (n + d.ahead) k) ds) x → x.from ≡ n
-rows_from n k [] x c = absurd (contains_none x c)
-rows_from n k (d ∷ ds) x c = go (Contains-append_cases (row n (n + d.ahead) k) _ x c) (λ c. rows_from n k ds x c)
-  where
-    go : Contains (row n (n + d.ahead) k) x ⊎ Contains (flat_map (λ (d : Dest). row n (n + d.ahead) k) ds) x → (Contains (flat_map (λ (d : Dest). row n (n + d.ahead) k) ds) x → x.from ≡ n) → x.from ≡ n
-    go (inl c) more = row_from n (n + d.ahead) k x c
-    go (inr c) more = more c
-
-pub arcs_from_from : (p : Plan) (n : ℕ) (i : Instr) (op : Op) (x : Arc) → Contains (arcs_from p n i op) x → x.from ≡ n
-arcs_from_from p n i (Link b) x c = go (Contains-append_cases (flat_map (λ (d : Dest). row n (n + d.ahead) (landing p b)) i.firsts) (arcs_to n true i.seconds) x c)
-  where
-    go : Contains (flat_map (λ (d : Dest). row n (n + d.ahead) (landing p b)) i.firsts) x ⊎ Contains (arcs_to n true i.seconds) x → x.from ≡ n
-    go (inl c) = rows_from n (landing p b) i.firsts x c
-    go (inr c) = arcs_to_from n true i.seconds x c
-arcs_from_from p n i op x c = go (Contains-append_cases (arcs_to n false i.firsts) (arcs_to n true i.seconds) x c)
-  where
-    go : Contains (arcs_to n false i.firsts) x ⊎ Contains (arcs_to n true i.seconds) x → x.from ≡ n
-    go (inl c) = arcs_to_from n false i.firsts x c
-    go (inr c) = arcs_to_from n true i.seconds x c
 
 record Starts (p : Plan) (m : ℕ) (is : List Instr) (x : Arc) : Type 0 where
   pub k : ℕ
@@ -102,7 +73,7 @@ use_at p f a r taken made new U = go (slice_get p.program.blocks U.b) refl
         let z : 0 + S.k ≡ S.k = omega arith in
         let from : U.x.from ≡ S.k = S.from ∙ z in
         let here : instr_at p.program (first_of p.program U.b + S.k) ≡ Some S.i = instr_in p.program.blocks U.b S.k c e (slice_get_within c.instrs S.k S.i S.at) ∙ S.at in
-        let same : U.i ≡ S.i = some_same U.i S.i (sym U.fired ∙ ap (λ (n : ℕ). instr_at p.program (first_of p.program U.b + n)) from ∙ here) in
+        let same : U.i ≡ S.i = same_Some U.i S.i (sym U.fired ∙ ap (λ (n : ℕ). instr_at p.program (first_of p.program U.b + n)) from ∙ here) in
         record {
           b = U.b;
           c = c;
@@ -143,7 +114,7 @@ module _ (p q : Plan) (g h : ℕ → ℕ) where
       spot = same_to U.taken_at
 
       same : U.i ≡ i
-      same = some_same U.i i (sym U.at ∙ ap (instr_at P) (sym spot.1) ∙ at)
+      same = same_Some U.i i (sym U.at ∙ ap (instr_at P) (sym spot.1) ∙ at)
 
       arcs : Contains (arcs_to U.n false i.firsts ++ arcs_to U.n true i.seconds) U.x
       arcs = subst (λ (op : Op). Contains (arcs_from p U.n i op) U.x) op (subst (λ (i : Instr). Contains (arcs_from p U.n i i.op) U.x) same U.here)

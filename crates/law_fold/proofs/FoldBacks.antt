@@ -1,6 +1,7 @@
 -- An instruction that is answered asks in its new place as it did.
 use Rattle.std.proofs.Common.{◌≡◌, sym, ap, ◌∙◌, subst, ℕ, ◌+◌, ◌⊎◌, inl, inr, true, true≢false, List, [], ◌∷◌, Option, Some, None, Contains}
 use Rattle.std.specs.Prelude.{take, ⊤}
+use Rattle.lemmas.proofs.Contains.{contains_cases, contains_head, contains_mapped, contains_none}
 use Rattle.tags.specs.declared.value.Value.{Value}
 use Rattle.tags.specs.declared.token.Port.{Port}
 use Rattle.tags.specs.declared.token.Port.TheVariants.{Left, Right}
@@ -17,7 +18,6 @@ use Rattle.semantics.specs.declared.program.Op.{Op}
 use Rattle.semantics.specs.declared.program.Op.TheVariants.{Fetch, Store, Frame, Link, Ask, Return}
 use Rattle.semantics.specs.Program.{Instr, Program, first_of}
 use Rattle.semantics.specs.Rule.{token, signal, Seat, at_dest, to_each, beyond, answer_to, landing_at, Outcome, Becomes, fires, array_base, array_len, asks_for, puts, fire_one, fire_two, meets, alone, outcome_of}
-use Rattle.law_reuse.proofs.Members.{contains_head, contains_cases, contains_none, contains_mapped}
 use Rattle.law_once.specs.Spreads.{ip_cont, ip_word, ip_token, ip_slot, is_answered}
 use Rattle.law_fold.specs.Folds.{Plain, Enters, IsMoved}
 use Rattle.law_fold.proofs.FoldRules.{Goes, Arrives, answer_moved, landing_moved, index_moved, bases, beyond_moved, goes_return}

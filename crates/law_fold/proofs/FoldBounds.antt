@@ -21,8 +21,7 @@ use Rattle.semantics.specs.Handed.{handed, EachOnce, UsesEachOnce}
 use Rattle.semantics.specs.Plan.{Plan}
 use Rattle.semantics.specs.Wired.{IsWired}
 use Rattle.semantics.specs.Orderly.{Orderly, IsStart, met}
-use Rattle.law_reuse.proofs.Members.{contains_head, contains_tail, contains_cases, contains_none}
-use Rattle.law_reuse.proofs.Stands.{some_same, Found, found}
+use Rattle.law_reuse.proofs.Stands.{Found, found}
 use Rattle.law_once.specs.Alike.{HasLanding, LandsRightly}
 use Rattle.law_once.specs.Spreads.{ip_to, ip_slot, ip_store}
 use Rattle.law_reuse.proofs.Tallies.{Grants, Releases}
@@ -39,6 +38,8 @@ use Rattle.law_fold.proofs.FoldRuns.{simulated}
 use Rattle.law_fold.proofs.FoldSeen.{met_known}
 use Rattle.semantics.specs.Plan.{landing}
 use Rattle.std.specs.Prelude.{◌-◌}
+use Rattle.std.proofs.lemmas.Option.{same_Some}
+use Rattle.lemmas.proofs.Contains.{contains_cases, contains_head, contains_none, contains_tail}
 use Rattle.semantics.specs.declared.program.Op.TheVariants.{Link}
 use Rattle.semantics.specs.Holders.{Holder, holder_at}
 use Rattle.semantics.specs.Credits.{IsPart, IsLink, IsLoop, granted, released}
@@ -87,7 +88,7 @@ module _ (p q : Plan) (S : Folds p q) (same : (b : ℕ) → landing q b ≡ land
       let b = back ip K.instr K.is_at (ap counts_none K.does ∙ other) in
       let plain : Plain P Q h b.0 = b.2 in
       let M = moved_at b.0 plain.i plain.old plain in
-      let j : M.j ≡ K.instr = some_same M.j K.instr (sym M.there ∙ ap (instr_at Q) (sym b.1) ∙ K.is_at) in (
+      let j : M.j ≡ K.instr = same_Some M.j K.instr (sym M.there ∙ ap (instr_at Q) (sym b.1) ∙ K.is_at) in (
         b.0,
         b.1,
         plain,

@@ -1,8 +1,8 @@
 -- A token that an event of the new run makes where nothing stands for itself comes by an arc.
-use Rattle.std.proofs.Common.{◌≡◌, refl, sym, ap, ◌∙◌, subst, ℕ, ◌+◌, ◌⊎◌, inl, inr, Bool, eq-eqb, List, [], ◌∷◌, ◌++◌, map, Option, Contains}
-use Rattle.std.specs.Prelude.{if◌then◌else◌}
+use Rattle.std.proofs.Common.{◌≡◌, refl, sym, ap, ◌∙◌, subst, ℕ, ◌+◌, ◌⊎◌, inl, inr, List, [], ◌∷◌, ◌++◌, map, Option, Contains}
 use Rattle.std.proofs.lemmas.List.Elements.{Contains-append_cases}
 use Rattle.std.proofs.lemmas.List.Sorted.{Contains-permutation, IsPermutation-sym}
+use Rattle.lemmas.proofs.Contains.{contains_cases, contains_head, contains_mapped, contains_none}
 use Rattle.tags.specs.declared.value.Value.{Value}
 use Rattle.tags.specs.declared.token.Port.{Port}
 use Rattle.tags.specs.declared.token.Cont.{Cont}
@@ -15,10 +15,10 @@ use Rattle.semantics.specs.declared.program.Op.{Op}
 use Rattle.semantics.specs.declared.program.Op.TheVariants.{Give}
 use Rattle.semantics.specs.Program.{Instr, Program}
 use Rattle.semantics.specs.Rule.{Seat, back_to, Outcome, Becomes, Excluded, outcome_of, rule_at, slot_of}
-use Rattle.semantics.specs.Machine.{Machine, CellState, Vacant, Full, Deferred, Store as MStore, answer, answers, put_at, with_slot, with_slot_in, slot_in, slot_used, outputs_of, Fires, Fetches, Stores, Requests, Releases, Hosts, Happens}
+use Rattle.semantics.specs.Machine.{Machine, CellState, Vacant, Full, Deferred, Store as MStore, answer, answers, with_slot_in, slot_in, slot_used, outputs_of, Fires, Fetches, Stores, Requests, Releases, Hosts, Happens}
 use Rattle.semantics.specs.Plan.{Plan}
 use Rattle.semantics.specs.Arcs.{UsesArc}
-use Rattle.law_reuse.proofs.Members.{contains_head, contains_cases, contains_none, contains_mapped}
+use Rattle.semantics.proofs.Stores.{slot_filled}
 use Rattle.law_once.specs.Spreads.{ip_cont, ip_word, ip_to, ip_slot, ip_cell, ip_store}
 use Rattle.law_once.proofs.SpreadNewArcs.{uses_new}
 use Rattle.law_once.proofs.SpreadSteps.{slot_same}
@@ -26,10 +26,6 @@ use Rattle.law_fold.specs.Folds.{Fits, Fresh, IsMoved}
 use Rattle.law_fold.proofs.FoldRules.{Arrives, FitsWord, FitsSlot}
 use Rattle.law_fold.proofs.FoldEvents.{FitsAll, FitsCell, slot_there}
 use Rattle.law_fold.proofs.FoldFrom.{Stale, fits_stale, Direct, OutFrom, out_from}
-
--- what a `give` leaves in its slot
-slot_filled : (s : MStore) (f r : ℕ) (v : SlotState) → (with_slot s f r v).slots f r ≡ v
-slot_filled s f r v = ap (λ (b : Bool). (if b then put_at (s.slots f) r v else s.slots f) r) (eq-eqb f f refl) ∙ ap (λ (b : Bool). if b then v else s.slots f r) (eq-eqb r r refl)
 
 give_leaves : (i : Instr) (f k : ℕ) (s n : MStore) (v : SlotState) → i.op ≡ Give k → n ≡ with_slot_in s f (slot_of i i.op) v → n.slots f i.slot ≡ v
 give_leaves i f k s n v e is = ap (λ (n : MStore). n.slots f i.slot) (is ∙ ap (λ (op : Op). with_slot_in s f (slot_of i op) v) e) ∙ slot_filled s f i.slot v

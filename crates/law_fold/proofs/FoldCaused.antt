@@ -2,6 +2,7 @@
 use Rattle.std.proofs.Common.{◌≡◌, refl, sym, ap, ◌∙◌, subst, ℕ, ◌+◌, ◌≤◌, ◌⊎◌, inl, inr, Bool, true, false, true≢false, ℤ, List, [], ◌∷◌, Some, Contains, arith}
 use Rattle.std.proofs.lemmas.Bool.{cases_Bool}
 use Rattle.std.proofs.lemmas.List.Sorted.{Contains-permutation, IsPermutation-sym}
+use Rattle.lemmas.proofs.Contains.{contains_head, contains_mapped}
 use Rattle.tags.specs.declared.token.Port.{Port}
 use Rattle.tags.specs.declared.token.Port.TheVariants.{Left}
 use Rattle.tags.specs.declared.token.Word.{Word}
@@ -17,7 +18,6 @@ use Rattle.semantics.specs.Plan.{Plan}
 use Rattle.semantics.specs.Wired.{IsWired}
 use Rattle.semantics.specs.Arcs.{UsesArc}
 use Rattle.semantics.specs.Orderly.{Orderly, IsOrderlyRun, IsStart, met, is_at, is_entry, often}
-use Rattle.law_reuse.proofs.Members.{contains_head, contains_mapped}
 use Rattle.law_reuse.proofs.History.{taken}
 use Rattle.law_once.specs.Alike.{LandsRightly}
 use Rattle.law_once.specs.Spreads.{ip_to, Spot}

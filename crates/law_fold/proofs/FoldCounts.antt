@@ -2,6 +2,8 @@
 use Rattle.std.proofs.Common.{◌≡◌, refl, sym, ap, ◌∙◌, subst, ℕ, ◌+◌, ◌<◌, ◌≤◌, ◌⊎◌, inl, inr, Bool, true, false, true≢false, ℤ, List, [], ◌∷◌, ◌++◌, Some, IsPermutation, Contains, nat_lt, lt-ltb, le-ltb, ltb-true, ltb-false, arith}
 use Rattle.std.proofs.lemmas.List.Elements.{Contains-append_left, Contains-append_right}
 use Rattle.std.proofs.lemmas.Bool.{cases_Bool}
+use Rattle.std.proofs.lemmas.Option.{same_Some}
+use Rattle.lemmas.proofs.Contains.{contains_cases, contains_head, contains_map, contains_mapped, contains_none, contains_tail}
 use Rattle.tags.specs.declared.value.Value.TheVariants.{Int}
 use Rattle.tags.specs.declared.token.Port.{Port}
 use Rattle.tags.specs.declared.token.Port.TheVariants.{Left, Right}
@@ -15,8 +17,6 @@ use Rattle.semantics.specs.declared.program.Op.TheVariants.{Apply2, Apply2Right,
 use Rattle.semantics.specs.Program.{Instr, Program, instr_at}
 use Rattle.semantics.specs.Rule.{token, at_dest}
 use Rattle.semantics.specs.Orderly.{is_at}
-use Rattle.law_reuse.proofs.Members.{contains_head, contains_tail, contains_cases, contains_none, contains_map, contains_mapped}
-use Rattle.law_reuse.proofs.Stands.{some_same}
 use Rattle.law_once.specs.Spreads.{ip_to, Spot}
 use Rattle.law_once.proofs.Weights.{tot, tot_append, tot_perm}
 use Rattle.law_once.proofs.Rows.{unless, unit}
@@ -64,7 +64,7 @@ module _ (P Q : Program) (g h : ℕ → ℕ) (apart : (a b : ℕ) → Plain P Q 
           ones_there f b Left (token (To.Instr k a t) v ∷ token (To.Instr k a u) w ∷ []) (token (To.Instr k a u) w)
           (contains_tail (token (To.Instr k a t) v) (token (To.Instr k a u) w ∷ []) (token (To.Instr k a u) w) (contains_head (token (To.Instr k a u) w) [])) (λ n. To.Instr (d n) (same n) (e n))
   two_have f k a ip r t u v w x meant i j o which to at op there pair fresh is (at_lit n1 r1 x1 j2 d2 z2 there2 op3 fresh2 e2 k2 more) =
-      absurd (off_pair j j2 pair (off_lit z2 j2 op3) (some_same j j2 (sym there ∙ ap (instr_at Q) (instr_same k (g a) f ip Left r to).1 ∙ there2)))
+      absurd (off_pair j j2 pair (off_lit z2 j2 op3) (same_Some j j2 (sym there ∙ ap (instr_at Q) (instr_same k (g a) f ip Left r to).1 ∙ there2)))
 
   one_has : (meant : List Token) (u : Token) → meant ≡ u ∷ [] → Fits P Q h u.to → (f ip : ℕ) (r : Port) (x : Spot) → ip_to h u.to ≡ To.Instr f ip r → Leaf ip r x → 1 ≤ ones f x.0 x.1 meant
   one_has meant u one fits f ip r x e L = go u.to u.word one fits e
@@ -103,10 +103,10 @@ module _ (P Q : Program) (g h : ℕ → ℕ) (apart : (a b : ℕ) → Plain P Q 
     meant_has seen meant (moved s ts u is one fits) f ip r x e L = one_has meant u one fits f ip r x (sym (ap (λ (t : Token). t.to) is) ∙ e) L
     meant_has seen meant (lit s ts k n w z j is at op all val d some fresh) f ip r x e (at_moved n1 r1 x1 b e2 K2 s2) = absurd (fresh b K2 ((instr_same k n f ip Left r (sym (ap (λ (t : Token). t.to) is) ∙ e)).1 ∙ e2))
     meant_has seen meant (lit s ts k n w z j is at op all val d some fresh) f ip r x e (at_pair n1 r1 x1 b i2 j2 o2 e2 at2 op2 there2 pair2 fresh2 e3 s2) =
-        absurd (off_pair j2 j pair2 (off_lit z j op) (some_same j2 j (sym there2 ∙ ap (instr_at Q) (sym e2 ∙ sym (instr_same k n f ip Left r (sym (ap (λ (t : Token). t.to) is) ∙ e)).1) ∙ at)))
+        absurd (off_pair j2 j pair2 (off_lit z j op) (same_Some j2 j (sym there2 ∙ ap (instr_at Q) (sym e2 ∙ sym (instr_same k n f ip Left r (sym (ap (λ (t : Token). t.to) is) ∙ e)).1) ∙ at)))
     meant_has seen meant (lit s ts k n w z j is at op all val d some fresh) f ip r x e (at_lit n1 r1 x1 j2 d2 z2 there2 op3 fresh2 e2 k2 more) =
         all_has (fires_lit k n z j) meant all (token (To.Instr k (n + d2.ahead) d2.port) (Word.Val (Int z)))
-        (dest_there k n z j d2 (subst (λ (j : Instr). Contains (j.firsts ++ j.seconds) d2) (some_same j2 j (sym there2 ∙ ap (instr_at Q) (sym (instr_same k n f ip Left r (sym (ap (λ (t : Token). t.to) is) ∙ e)).1) ∙ at)) k2))
+        (dest_there k n z j d2 (subst (λ (j : Instr). Contains (j.firsts ++ j.seconds) d2) (same_Some j2 j (sym there2 ∙ ap (instr_at Q) (sym (instr_same k n f ip Left r (sym (ap (λ (t : Token). t.to) is) ∙ e)).1) ∙ at)) k2))
         f (ip + d2.ahead) d2.port x
         (λ v. To.Instr ((instr_same k n f ip Left r (sym (ap (λ (t : Token). t.to) is) ∙ e)).0 v) ((instr_same k n f ip Left r (sym (ap (λ (t : Token). t.to) is) ∙ e)).1 v + d2.ahead) d2.port) more
     meant_has seen meant (right s ts k a w o z i j is at op to new one fresh) f ip r x e L =

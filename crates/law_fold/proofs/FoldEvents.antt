@@ -3,7 +3,8 @@ use Rattle.std.proofs.Common.{◌≡◌, refl, sym, ap, ◌∙◌, subst, ℕ, �
 use Rattle.std.specs.Prelude.{if◌then◌else◌, ◌==◌, filter_map, ⊤}
 use Rattle.std.proofs.lemmas.List.Elements.{Contains-append_cases}
 use Rattle.std.proofs.lemmas.List.Sorted.{Contains-permutation, IsPermutation-sym}
-use Rattle.law_reuse.proofs.Members.{contains_head, contains_tail, contains_cases, contains_none}
+use Rattle.lemmas.proofs.Contains.{contains_cases, contains_head, contains_none, contains_tail}
+use Rattle.lemmas.proofs.Lists.{map_append}
 use Rattle.tags.specs.declared.value.Value.{Value}
 use Rattle.tags.specs.declared.token.Port.{Port}
 use Rattle.tags.specs.declared.token.Cont.{Cont}
@@ -20,7 +21,7 @@ use Rattle.semantics.specs.Handed.{frame_of, handed_by}
 use Rattle.law_once.specs.Spreads.{ip_cont, ip_word, ip_to, ip_slot, ip_cell, ip_store}
 use Rattle.law_fold.specs.Folds.{Fits, IsMoved}
 use Rattle.law_once.proofs.Lifted.{first_lifted}
-use Rattle.law_fold.proofs.FoldRules.{map_join, Made, none_clumped, one_clumped, cons_clumped, Matches, Arrives, FitsWord, FitsSlot, back_moved, rule_match}
+use Rattle.law_fold.proofs.FoldRules.{Made, none_clumped, one_clumped, cons_clumped, Matches, Arrives, FitsWord, FitsSlot, back_moved, rule_match}
 
 module _ (p q : Program) (g h : ℕ → ℕ) where
   -- ---- CHANGES
@@ -153,7 +154,7 @@ module _ (p q : Program) (g h : ℕ → ℕ) where
       after = with_cell old x (Deferred (cs ++ c ∷ []));
       happens = subst (λ (y : CellState). Fetches old x c y [] (with_cell old x (Deferred (cs ++ c ∷ [])))) (sym at) (refl, refl);
       clumped = subst (λ (l : List Token). Made p q g h l []) (sym e.0) (none_clumped p q g h);
-      same = e.1 ∙ ap (λ (l : List Cont). with_cell (ip_store h old) x (Deferred l)) (sym (map_join (ip_cont h) cs (c ∷ []))) ∙ cell_put old x (Deferred (cs ++ c ∷ []));
+      same = e.1 ∙ ap (λ (l : List Cont). with_cell (ip_store h old) x (Deferred l)) (sym (map_append (ip_cont h) cs (c ∷ []))) ∙ cell_put old x (Deferred (cs ++ c ∷ []));
       hands = refl;
     }
     fetch_back x c (Full v) made new fits at e = record {
@@ -178,7 +179,7 @@ module _ (p q : Program) (g h : ℕ → ℕ) where
       tokens = answers (cs ++ c ∷ []) v;
       after = with_cell old x (Full v);
       happens = subst (λ (y : CellState). Stores old x v c y (answers (cs ++ c ∷ []) v) (with_cell old x (Full v))) (sym at) (refl, refl);
-      clumped = subst (λ (l : List Token). Made p q g h l (answers (cs ++ c ∷ []) v)) (sym (e.0 ∙ ap (λ (l : List Cont). answers l v) (sym (map_join (ip_cont h) cs (c ∷ []))))) (answers_clumped (cs ++ c ∷ []) v (fits_more cs c all fits));
+      clumped = subst (λ (l : List Token). Made p q g h l (answers (cs ++ c ∷ []) v)) (sym (e.0 ∙ ap (λ (l : List Cont). answers l v) (sym (map_append (ip_cont h) cs (c ∷ []))))) (answers_clumped (cs ++ c ∷ []) v (fits_more cs c all fits));
       same = e.1 ∙ cell_put old x (Full v);
       hands = refl;
     }
@@ -198,7 +199,7 @@ module _ (p q : Program) (g h : ℕ → ℕ) where
       after = with_requests old (old.requests ++ c ∷ []);
       happens = inr (e.0, refl, refl);
       clumped = subst (λ (l : List Token). Made p q g h l []) (sym e.1) (none_clumped p q g h);
-      same = e.2 ∙ requests_put old (old.requests ++ c ∷ []) _ (sym (map_join (ip_cont h) old.requests (c ∷ [])));
+      same = e.2 ∙ requests_put old (old.requests ++ c ∷ []) _ (sym (map_append (ip_cont h) old.requests (c ∷ [])));
       hands = ap (filter_map frame_of) e.1;
     }
 

@@ -2,6 +2,8 @@
 use Rattle.std.proofs.Common.{◌≡◌, sym, ap, ◌∙◌, subst, ℕ, ◌+◌, ◌⊎◌, inl, inr, true, true≢false, ℤ, List, ◌∷◌, ◌++◌, Some, IsPermutation, Contains}
 use Rattle.std.proofs.lemmas.List.Elements.{Contains-append_left, Contains-append_right}
 use Rattle.std.proofs.lemmas.List.Sorted.{Contains-permutation}
+use Rattle.std.proofs.lemmas.Option.{same_Some}
+use Rattle.lemmas.proofs.Contains.{contains_cases, contains_map, contains_mapped}
 use Rattle.tags.specs.declared.value.Value.TheVariants.{Int}
 use Rattle.tags.specs.declared.token.Port.{Port}
 use Rattle.tags.specs.declared.token.Port.TheVariants.{Left}
@@ -17,8 +19,6 @@ use Rattle.semantics.specs.Rule.{token, at_dest, to_all}
 use Rattle.semantics.specs.Machine.{Machine}
 use Rattle.semantics.specs.Plan.{Plan}
 use Rattle.semantics.specs.Arcs.{UsesBy, UsesArc}
-use Rattle.law_reuse.proofs.Members.{contains_cases, contains_map, contains_mapped}
-use Rattle.law_reuse.proofs.Stands.{some_same}
 use Rattle.law_once.specs.Alike.{plain_dests}
 use Rattle.law_once.proofs.SpreadNewArcs.{uses_goes, uses_new}
 use Rattle.law_fold.specs.Folds.{fires_lit, Plain, Fresh, Clumped, Sends, Pend, Node, top, next, Folds}
@@ -53,7 +53,7 @@ module _ (p q : Program) (h : ℕ → ℕ) where
       go : ((f ≡ k) × (up ≡ n)) ⊎ Node p q h f (made ++ rest) up → ((f ≡ k) × (ip ≡ n)) ⊎ Node p q h f (made ++ rest) ip
       go (inr M) = inr (next ip up k2 j2 y z2 d M there opk c place port at2 op2 fresh)
       go (inl e) =
-          let same : k2 ≡ j = some_same k2 j (sym there ∙ ap (instr_at q) e.1 ∙ at) in
+          let same : k2 ≡ j = same_Some k2 j (sym there ∙ ap (instr_at q) e.1 ∙ at) in
           let u : Token = at_dest record { frame = k; ip = n } (Word.Val (Int z)) d in
           let inside : Contains made u = subst (λ (l : List Token). Contains l u) (sym is) (contains_map (at_dest record { frame = k; ip = n } (Word.Val (Int z))) (j.firsts ++ j.seconds) d (subst (λ (j : Instr). Contains (j.firsts ++ j.seconds) d) same c)) in
           inr (top ip u j2 z2 (Contains-append_left made rest u inside) (λ v. To.Instr (sym e.0 v) ((ap (λ (m : ℕ). m + d.ahead) (sym e.1) ∙ sym place) v) (port v)) at2 op2 fresh)
@@ -74,7 +74,7 @@ module _ (p q : Plan) (S : Folds p q) where
       spot = same_to U.taken_at
 
       same : U.i ≡ i
-      same = some_same U.i i (sym U.at ∙ ap (instr_at p.program) (sym spot.1) ∙ at)
+      same = same_Some U.i i (sym U.at ∙ ap (instr_at p.program) (sym spot.1) ∙ at)
 
       no_lit : (z : ℤ) → Apply2 o ≡ Lit z → ⊥
       no_lit z e = cc

@@ -1,5 +1,7 @@
 -- A word at a return still is a long enough landing's.
 use Rattle.std.proofs.Common.{◌≡◌, sym, ap, ◌∙◌, subst, ℕ, ◌⊎◌, inl, inr, true, false, true≢false, List, [], ◌∷◌, Some, None, Contains}
+use Rattle.std.proofs.lemmas.Option.{same_Some}
+use Rattle.lemmas.proofs.Contains.{contains_head}
 use Rattle.tags.specs.declared.token.Port.{Port}
 use Rattle.tags.specs.declared.token.Port.TheVariants.{Left}
 use Rattle.tags.specs.declared.token.Cont.{Cont}
@@ -15,8 +17,6 @@ use Rattle.semantics.specs.Handed.{handed, EachOnce, UsesEachOnce}
 use Rattle.semantics.specs.Plan.{Plan}
 use Rattle.semantics.specs.Wired.{IsWired}
 use Rattle.semantics.specs.Orderly.{Orderly, IsStart, met}
-use Rattle.law_reuse.proofs.Members.{contains_head}
-use Rattle.law_reuse.proofs.Stands.{some_same}
 use Rattle.law_once.specs.Alike.{offset_of, HasLanding, LandsRightly}
 use Rattle.law_once.specs.Spreads.{ip_word, ip_to}
 use Rattle.law_once.proofs.SpreadSteps.{Step, steps_of}
@@ -90,7 +90,7 @@ module _ (p q : Plan) (S : Folds p q) (moves : MovesLandings p q S) (wired : IsW
           go i2 at2 (inr nothing) = absurd (nothing_there K.j (sym K.new ∙ nothing))
           go i2 at2 (inl M) =
               let s = instr_same f ip k (h a) Left t e in
-              let ji : M.j ≡ i = some_same M.j i (sym M.there ∙ ap (instr_at Q) (sym s.1) ∙ at) in
+              let ji : M.j ≡ i = same_Some M.j i (sym M.there ∙ ap (instr_at Q) (sym s.1) ∙ at) in
               let off : offset_of i2.op ≡ Some o = ap offset_of (sym M.op ∙ ap (λ (i : Instr). i.op) ji) ∙ is in
               let L : HasLanding p b2 o = lands inputs z done last st run once k a g3 b2 o r2 i2 at2 off (subst (λ (t : Port). Contains (met done last) (token (To.Instr k a t) (Word.Back (Cont.Frame g3 b2 r2)))) (sym s.2) was) in
               subst (λ (n : ℕ). HasLanding q n o) (sym same) (moves b2 o L)
@@ -114,7 +114,7 @@ module _ (p q : Plan) (S : Folds p q) (moves : MovesLandings p q S) (wired : IsW
 
       not_there : (k n : ℕ) (w : Word) (j : Instr) → token (To.Instr f ip Left) (Word.Back (Cont.Frame g2 base r)) ≡ token (To.Instr k n Left) w → instr_at Q n ≡ Some j → counts_none j.op ≡ true → ⊥
       not_there k n w j e there off =
-          let same : j ≡ i = some_same j i (sym there ∙ ap (instr_at Q) (sym (instr_same f ip k n Left Left (ap (λ (t : Token). t.to) e)).1) ∙ at) in
+          let same : j ≡ i = same_Some j i (sym there ∙ ap (instr_at Q) (sym (instr_same f ip k n Left Left (ap (λ (t : Token). t.to) e)).1) ∙ at) in
           no_offset i.op o (sym (ap (λ (i : Instr). counts_none i.op) same) ∙ off) is
 
       by_stands : (st : IsStart p z inputs) (done : Events) (last : Machine) (run : Run P z (at_start P inputs) done last) → UsesEachOnce P z inputs done last run → (ts : List Token)

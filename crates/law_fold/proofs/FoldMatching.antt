@@ -21,7 +21,6 @@ use Rattle.semantics.specs.Handed.{EachOnce}
 use Rattle.semantics.specs.Plan.{Plan}
 use Rattle.semantics.specs.Wired.{IsWired}
 use Rattle.semantics.specs.Orderly.{Orderly, IsOrderlyRun, IsStart}
-use Rattle.law_reuse.proofs.Members.{contains_head, contains_mapped}
 use Rattle.law_once.specs.Alike.{LandsRightly}
 use Rattle.law_once.specs.Spreads.{ip_word, ip_to, ip_store}
 use Rattle.law_once.proofs.Lifted.{flat_map-IsPermutation}
@@ -32,9 +31,10 @@ use Rattle.law_fold.proofs.FoldRules.{FitsSlot}
 use Rattle.law_fold.proofs.FoldParts.{Clump, meant_of, in_meant}
 use Rattle.law_fold.proofs.FoldPast.{again}
 use Rattle.std.specs.Prelude.{nat_lt}
+use Rattle.lemmas.proofs.Permutations.{one_out}
+use Rattle.lemmas.proofs.Contains.{contains_head, contains_mapped}
 use Rattle.semantics.specs.Machine.{unless_back, unless_value, filled, host_rule, outputs_of}
 use Rattle.law_once.proofs.SpreadSteps.{slot_same}
-use Rattle.law_fold.proofs.Readies.{one_out}
 use Rattle.law_fold.proofs.FoldRules.{Matches, rule_match}
 use Rattle.law_fold.proofs.FoldEvents.{slot_there}
 use Rattle.law_fold.proofs.FoldPast.{same_sums, value_of}

@@ -2,6 +2,7 @@
 use Rattle.std.proofs.Common.{◌≡◌, refl, sym, ap, ◌∙◌, subst, ℕ, ◌+◌, ◌*◌, ◌⊎◌, inl, inr, Bool, true, false, ℤ, List, [], ◌∷◌, ◌++◌, Option, Some, None, IsPermutation, Contains, append-nil, arith}
 use Rattle.std.proofs.lemmas.List.Elements.{Contains-append_left, Contains-append_right}
 use Rattle.std.proofs.lemmas.List.Sorted.{Contains-permutation, IsPermutation-refl, IsPermutation-sym, IsPermutation-trans}
+use Rattle.lemmas.proofs.Contains.{contains_head, contains_none, contains_tail}
 use Rattle.tags.specs.declared.value.Value.TheVariants.{Int}
 use Rattle.tags.specs.declared.token.Port.{Port}
 use Rattle.tags.specs.declared.token.Port.TheVariants.{Left, Right}
@@ -25,7 +26,6 @@ use Rattle.semantics.specs.Handed.{handed_by, EachOnce}
 use Rattle.semantics.specs.Plan.{Plan}
 use Rattle.semantics.specs.Wired.{IsWired}
 use Rattle.semantics.specs.Orderly.{Orderly, IsStart, met}
-use Rattle.law_reuse.proofs.Members.{contains_head, contains_tail, contains_none}
 use Rattle.law_reuse.proofs.Counts.{requests_more, credits_more}
 use Rattle.law_reuse.proofs.History.{taken}
 use Rattle.law_once.specs.Alike.{LandsRightly}

@@ -1,6 +1,7 @@
 -- A release finds in the new code what it has to.
 use Rattle.std.proofs.Common.{◌≡◌, sym, ap, ◌∙◌, subst, ℕ, ℤ, List, [], ◌∷◌, ◌++◌, IsPermutation, Contains}
 use Rattle.std.proofs.lemmas.List.Sorted.{IsPermutation-sym, IsPermutation-trans}
+use Rattle.lemmas.proofs.Contains.{contains_head, contains_mapped}
 use Rattle.tags.specs.declared.value.Value.TheVariants.{Int}
 use Rattle.tags.specs.declared.token.Port.{Port}
 use Rattle.tags.specs.declared.token.Port.TheVariants.{Left, Right}
@@ -18,7 +19,6 @@ use Rattle.semantics.specs.Handed.{EachOnce}
 use Rattle.semantics.specs.Plan.{Plan}
 use Rattle.semantics.specs.Wired.{IsWired}
 use Rattle.semantics.specs.Orderly.{Orderly, IsOrderlyRun, IsStart}
-use Rattle.law_reuse.proofs.Members.{contains_head, contains_mapped}
 use Rattle.law_once.specs.Alike.{LandsRightly}
 use Rattle.law_once.specs.Spreads.{ip_cont, ip_word, ip_to, ip_token, ip_slot, ip_cell, ip_store}
 use Rattle.law_once.proofs.Lifted.{first_lifted, flat_map-IsPermutation}

@@ -14,10 +14,10 @@ use Rattle.semantics.specs.Rule.{slot_of}
 use Rattle.semantics.specs.Machine.{Store as MStore, slot_in, slot_used}
 use Rattle.semantics.specs.Cause.{seeks_credit}
 use Rattle.semantics.specs.Plan.{Plan}
-use Rattle.law_reuse.proofs.Members.{contains_cases, contains_none}
 use Rattle.law_fold.specs.Folds.{Stands, StandAll, stand_none, stand_more}
-use Rattle.law_fold.proofs.FoldRules.{map_join}
 use Rattle.std.specs.Prelude.{◌&&◌}
+use Rattle.lemmas.proofs.Contains.{contains_cases, contains_none}
+use Rattle.lemmas.proofs.Lists.{map_append}
 use Rattle.law_reuse.proofs.Tallies.{Counter, Grants, Releases, count_at}
 use Rattle.semantics.specs.Holders.{holder_at, same_holder}
 use Rattle.semantics.specs.Credits.{granted_by, granted_in, released_by, released_in}
@@ -85,7 +85,7 @@ module _ (P Q : Program) (g h : ℕ → ℕ) where
       (c ∷ m.0, ap (λ (l : List Token). t ∷ l) m.1 ∙ sym a, ap (λ (l : List Token). vs ++ l) m.2 ∙ sym b)
 
   pub seen_join : (xs ys : List Clump) → seen_of (xs ++ ys) ≡ seen_of xs ++ seen_of ys
-  seen_join xs ys = map_join (λ (c : Clump). c.seen) xs ys
+  seen_join xs ys = map_append (λ (c : Clump). c.seen) xs ys
 
   pub meant_join : (xs ys : List Clump) → meant_of (xs ++ ys) ≡ meant_of xs ++ meant_of ys
   meant_join xs ys = flat_map-append (λ (c : Clump). c.meant) xs ys

@@ -26,12 +26,11 @@ use Rattle.semantics.specs.Handed.{handed_by, handed, EachOnce}
 use Rattle.semantics.specs.Plan.{Plan}
 use Rattle.semantics.specs.Wired.{IsWired}
 use Rattle.semantics.specs.Orderly.{Orderly, IsOrderlyRun, IsStart, met}
-use Rattle.law_reuse.proofs.Members.{contains_none, contains_head, contains_tail, contains_cases}
 use Rattle.law_reuse.proofs.Snoc.{run_snoc, handed_snoc}
 use Rattle.law_reuse.proofs.Counts.{requests_more, credits_more}
 use Rattle.law_reuse.proofs.History.{taken, Kept, kept_next}
 use Rattle.law_fold.specs.Folds.{fires_lit, Settles, settled, fired, Clumped}
-use Rattle.law_fold.proofs.FoldRules.{map_join, Made}
+use Rattle.law_fold.proofs.FoldRules.{Made}
 use Rattle.law_reuse.proofs.Snoc.{tally, tally_snoc}
 use Rattle.law_reuse.proofs.Tallies.{Counter, count_at}
 use Rattle.semantics.specs.Orderly.{is_at}
@@ -50,6 +49,8 @@ use Rattle.law_fold.proofs.FoldParts.{unit_of, no_seek, counts_none, count_none,
 use Rattle.semantics.specs.Arcs.{UsesArc, SomeEvent}
 use Rattle.law_reuse.proofs.Snoc.{some_snoc}
 use Rattle.std.specs.Prelude.{⊤}
+use Rattle.lemmas.proofs.Contains.{contains_cases, contains_head, contains_none, contains_tail}
+use Rattle.lemmas.proofs.Lists.{map_append}
 use Rattle.tags.specs.declared.token.Port.{Port}
 
 -- ---- THE OLD RUN
@@ -114,7 +115,7 @@ module _ (p q : Plan) (g h : ℕ → ℕ) (answers : (a : ℕ) (i : Instr) → i
 
   met_grows : (done : Events) (e : ℕ) (u : Token) (pool made rest : List Token) → IsPermutation pool (u ∷ rest) → (x : Token) → Contains (taken done ++ pool) x → Contains (taken (done ++ (e, u) ∷ []) ++ (made ++ rest)) x
   met_grows done e u pool made rest takes x inside =
-      subst (λ (l : List Token). Contains (l ++ (made ++ rest)) x) (sym (map_join (λ (ev : ℕ × Token). ev.1) done ((e, u) ∷ []))) (go (Contains-append_cases (taken done) pool x inside))
+      subst (λ (l : List Token). Contains (l ++ (made ++ rest)) x) (sym (map_append (λ (ev : ℕ × Token). ev.1) done ((e, u) ∷ []))) (go (Contains-append_cases (taken done) pool x inside))
     where
       pick : (u ≡ x) ⊎ Contains rest x → Contains ((taken done ++ u ∷ []) ++ (made ++ rest)) x
       pick (inl d) = Contains-append_left (taken done ++ u ∷ []) (made ++ rest) x (Contains-append_right (taken done) (u ∷ []) x (subst (Contains (u ∷ [])) d (contains_head u [])))
@@ -159,7 +160,7 @@ module _ (p q : Plan) (g h : ℕ → ℕ) (answers : (a : ℕ) (i : Instr) → i
         grown = λ x inside. met_grows R.done e u R.last.pool made rest there x (R.grown x inside);
         took = λ f a r.
             (let l = R.took f a r in let m = tot_append (λ (t : Token). unit (is_at f a r t.to)) T.spent (u ∷ []) in
-            let n = tot_append (λ (t : Token). unit (is_at f a r t.to)) (taken R.done) (u ∷ []) in let k = ap (ones f a r) (map_join (λ (ev : ℕ × Token). ev.1) R.done ((e, u) ∷ [])) in omega (arith, l, m, n, k));
+            let n = tot_append (λ (t : Token). unit (is_at f a r t.to)) (taken R.done) (u ∷ []) in let k = ap (ones f a r) (map_append (λ (ev : ℕ × Token). ev.1) R.done ((e, u) ∷ [])) in omega (arith, l, m, n, k));
         counts = λ x f fair.
             (let l = tally_snoc (count_at p P x f) P z first R.last now R.done e u R.run evp in let m = R.counts x f fair in
             let n = ap (λ (s : MStore). count_at p P x f s u.to made) R.same in omega (arith, l, m, n));

@@ -1,7 +1,8 @@
 -- What an instruction does in its new place: the tokens that it makes stand for what comes of those that it made.
-use Rattle.std.proofs.Common.{◌≡◌, refl, sym, ap, ◌∙◌, subst, ℕ, zero, suc, ◌+◌, ◌-◌, ◌⊎◌, inl, inr, Bool, true, false, List, [], ◌∷◌, ◌++◌, map, ℤ, Option, Some, None, Contains, IsPermutation, append_assoc}
+use Rattle.std.proofs.Common.{◌≡◌, refl, sym, ap, ◌∙◌, subst, ℕ, zero, suc, ◌+◌, ◌-◌, ◌⊎◌, inl, inr, Bool, true, false, List, [], ◌∷◌, ◌++◌, ℤ, Option, Some, None, Contains, IsPermutation, append_assoc}
 use Rattle.std.specs.Prelude.{if◌then◌else◌, nat_lt, ◌==◌, take, sum, slice_index_or, ⊤}
 use Rattle.std.proofs.lemmas.List.Sorted.{IsPermutation-refl, IsPermutation-trans, IsPermutation-append_left, IsPermutation-append_comm}
+use Rattle.lemmas.proofs.Contains.{contains_head, contains_mapped, contains_tail}
 use Rattle.tags.specs.declared.value.Value.{Value}
 use Rattle.tags.specs.declared.value.Value.TheVariants.{Int}
 use Rattle.tags.specs.declared.value.Origin.{Origin}
@@ -20,14 +21,9 @@ use Rattle.semantics.specs.declared.program.Op.{Op}
 use Rattle.semantics.specs.declared.program.Op.TheVariants.{Apply1, Apply2, Apply2Right, Apply2Left, Lit, Copy, Sync, Switch, Fetch, Store, Frame, Link, Send, Return, Ask, Open, Take, Give, Drain, Release}
 use Rattle.semantics.specs.Program.{Instr, Program, first_of, instr_at}
 use Rattle.semantics.specs.Rule.{token, signal, Seat, at_dest, to_each, to_all, beyond, back_to, answer_to, landing_at, Outcome, Becomes, Excluded, fires, array_base, array_len, asks_for, puts, fire_one, fire_two, meets, signal_to, opens, takes, gives, drains, alone, on_left, outcome_of}
-use Rattle.law_reuse.proofs.Members.{contains_head, contains_tail, contains_mapped}
 use Rattle.law_net.proofs.Orders.{shuffled, Part, ◌⊕◌}
 use Rattle.law_once.specs.Spreads.{ip_cont, ip_word, ip_token, ip_slot, is_answered}
 use Rattle.law_fold.specs.Folds.{fires_lit, Plain, Fits, Fresh, Node, top, next, Pend, Sends, moved, stand_none, stand_more, Settles, settled, fired, Clumped, Pairs, Ready, Enters, IsMoved}
-
-pub map_join : {X Y : Type 0} (f : X → Y) (xs ys : List X) → map f (xs ++ ys) ≡ map f xs ++ map f ys
-map_join f [] ys = refl
-map_join f (x ∷ xs) ys = ap (λ l. f x ∷ l) (map_join f xs ys)
 
 -- ---- WHAT COMES OF TOKENS
 pub settles_map : (R T : ℕ → ℕ → Type 0) → ((f l : ℕ) → R f l → T f l) → (p : Program) (xs ys : List Token) → Settles R p xs ys → Settles T p xs ys

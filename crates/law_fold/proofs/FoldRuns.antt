@@ -1,6 +1,7 @@
 -- Each run of the new code is a run of the old one, in which literals fire at once.
 use Rattle.std.proofs.Common.{◌≡◌, refl, sym, ap, ◌∙◌, subst, ℕ, zero, suc, ◌+◌, ◌*◌, ◌<◌, ◌≤◌, ◌⊎◌, inl, inr, ℤ, Contains, List, [], ◌∷◌, ◌++◌, length, IsPermutation, append_assoc, append-nil, arith}
 use Rattle.std.proofs.lemmas.List.Sorted.{IsPermutation-refl, IsPermutation-sym, IsPermutation-trans}
+use Rattle.lemmas.proofs.Contains.{contains_cases, contains_none}
 use Rattle.tags.specs.declared.token.Port.{Port}
 use Rattle.tags.specs.declared.value.Value.TheVariants.{Int}
 use Rattle.tags.specs.declared.token.Port.TheVariants.{Left}
@@ -16,7 +17,6 @@ use Rattle.semantics.specs.Handed.{handed_by, handed, EachOnce, UsesEachOnce}
 use Rattle.semantics.specs.Plan.{Plan}
 use Rattle.semantics.specs.Wired.{IsWired}
 use Rattle.semantics.specs.Orderly.{Orderly, IsStart}
-use Rattle.law_reuse.proofs.Members.{contains_none, contains_cases}
 use Rattle.law_reuse.proofs.History.{kept_start}
 use Rattle.law_reuse.proofs.OnceRuns.{once_before}
 use Rattle.law_once.specs.Alike.{LandsRightly}

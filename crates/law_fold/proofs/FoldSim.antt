@@ -1,6 +1,8 @@
 -- A state of the new run and one of the old: the relation, and what it says of the words that come.
 use Rattle.std.proofs.Common.{◌≡◌, refl, sym, ap, ◌∙◌, subst, ℕ, ◌+◌, ◌*◌, ◌⊎◌, inl, inr, Bool, true, false, true≢false, ℤ, List, [], ◌∷◌, ◌++◌, Option, Some, None, IsPermutation, Contains, arith}
 use Rattle.std.proofs.lemmas.List.Elements.{Contains-append_left, Contains-append_right, Contains-append_cases}
+use Rattle.lemmas.proofs.Contains.{contains_cases, contains_none}
+use Rattle.lemmas.proofs.Lists.{map_append}
 use Rattle.tags.specs.declared.token.Port.{Port}
 use Rattle.tags.specs.declared.token.Port.TheVariants.{Left, Right}
 use Rattle.tags.specs.declared.token.Cont.{Cont}
@@ -20,7 +22,6 @@ use Rattle.semantics.specs.Handed.{EachOnce, UsesEachOnce}
 use Rattle.semantics.specs.Plan.{Plan, is_credit}
 use Rattle.semantics.specs.Wired.{IsWired}
 use Rattle.semantics.specs.Orderly.{Orderly, IsOrderlyRun, IsStart, met}
-use Rattle.law_reuse.proofs.Members.{contains_cases, contains_none}
 use Rattle.law_reuse.proofs.Turns.{dyadic_not_credit}
 use Rattle.law_reuse.proofs.Stands.{Found, found}
 use Rattle.law_reuse.proofs.Stands as Places
@@ -34,7 +35,7 @@ use Rattle.law_reuse.proofs.Tallies.{Counter, Grants, Releases, count_at}
 use Rattle.law_once.proofs.Weights.{tot}
 use Rattle.law_once.proofs.SpreadSteps.{Step}
 use Rattle.law_fold.specs.Folds.{Plain, Stands, Folds}
-use Rattle.law_fold.proofs.FoldRules.{map_join, Goes, Arrives, FitsSlot}
+use Rattle.law_fold.proofs.FoldRules.{Goes, Arrives, FitsSlot}
 use Rattle.law_fold.proofs.FoldParts.{Clump, seen_of, meant_of, Sums}
 use Rattle.law_fold.proofs.FoldPast.{Reached, order_of}
 use Rattle.law_fold.proofs.FoldCounts.{Counted}
@@ -136,7 +137,7 @@ module _ (p q : Plan) (S : Folds p q) (wired : IsWired p) (orderly : Orderly p) 
 
   pub explained_last : (events : Events) (e : ℕ) (t : Token) (done : Events) (last : Machine) → ((x : Token) → Contains (taken events) x → Explained done last x) → Explained done last t
       → (x : Token) → Contains (taken (events ++ (e, t) ∷ [])) x → Explained done last x
-  explained_last events e t done last all one x inside = go (Contains-append_cases (taken events) (t ∷ []) x (subst (λ (l : List Token). Contains l x) (map_join (λ (ev : ℕ × Token). ev.1) events ((e, t) ∷ [])) inside))
+  explained_last events e t done last all one x inside = go (Contains-append_cases (taken events) (t ∷ []) x (subst (λ (l : List Token). Contains l x) (map_append (λ (ev : ℕ × Token). ev.1) events ((e, t) ∷ [])) inside))
     where
       pick : (t ≡ x) ⊎ Contains [] x → Explained done last x
       pick (inl d) = subst (Explained done last) d one
@@ -147,7 +148,7 @@ module _ (p q : Plan) (S : Folds p q) (wired : IsWired p) (orderly : Orderly p) 
       go (inr c) = pick (contains_cases t [] x c)
 
   pub taken_more : (events : Events) (e : ℕ) (t : Token) → taken (events ++ (e, t) ∷ []) ≡ taken events ++ t ∷ []
-  taken_more events e t = map_join (λ (ev : ℕ × Token). ev.1) events ((e, t) ∷ [])
+  taken_more events e t = map_append (λ (ev : ℕ × Token). ev.1) events ((e, t) ∷ [])
 
   module _ (events : Events) (m : Machine) (gone : List ℕ) (ss : List Step) (V : Sim events m gone ss) (once : EachOnce (0 ∷ gone)) where
     abbrev pub olds : List Token

@@ -2,6 +2,8 @@
 use Rattle.std.proofs.Common.{◌≡◌, sym, ap, ◌∙◌, subst, ℕ, ◌+◌, ◌⊎◌, inl, inr, ℤ, List, [], ◌∷◌, ◌++◌, Some, IsPermutation, Contains}
 use Rattle.std.proofs.lemmas.List.Elements.{Contains-append_left, Contains-append_right, Contains-append_cases}
 use Rattle.std.proofs.lemmas.List.Sorted.{Contains-permutation, IsPermutation-sym}
+use Rattle.std.proofs.lemmas.Option.{same_Some}
+use Rattle.lemmas.proofs.Contains.{contains_map, contains_tail}
 use Rattle.tags.specs.declared.value.Value.TheVariants.{Int}
 use Rattle.tags.specs.declared.token.Port.{Port}
 use Rattle.tags.specs.declared.token.Port.TheVariants.{Left}
@@ -14,8 +16,6 @@ use Rattle.semantics.specs.Rule.{token, at_dest}
 use Rattle.semantics.specs.Machine.{Machine, Store as MStore}
 use Rattle.semantics.specs.Plan.{Plan}
 use Rattle.semantics.specs.Arcs.{UsesArc}
-use Rattle.law_reuse.proofs.Members.{contains_tail, contains_map}
-use Rattle.law_reuse.proofs.Stands.{some_same}
 use Rattle.law_once.proofs.SpreadSteps.{Step, step, HasStep, step_before, step_last}
 use Rattle.law_once.specs.Spreads.{ip_to, ip_token}
 use Rattle.law_fold.specs.Folds.{fires_lit, Plain, Fits, Fresh, Node, Pend, Sends, Folds}
@@ -102,7 +102,7 @@ module _ (p q : Plan) (S : Folds p q) where
         by_node : (N : Pend P Q h f a r pool) → ((f ≡ k) × (N.ip ≡ n)) ⊎ Node P Q h f (made ++ rest) N.ip → HasStep (UsesArc q f (h a) r) (ss ++ this ∷ []) ⊎ Pend P Q h f a r m1.pool
         by_node N (inr node) = inr record { ip = N.ip; j = N.j; z = N.z; d = N.d; node = node_grows P Q h f (made ++ rest) m1.pool back_in N.ip node; at = N.at; op = N.op; named = N.named; place = N.place; port = N.port }
         by_node N (inl e) =
-            let same : N.j ≡ j = some_same N.j j (sym N.at ∙ ap (instr_at Q) e.1 ∙ at) in
+            let same : N.j ≡ j = same_Some N.j j (sym N.at ∙ ap (instr_at Q) e.1 ∙ at) in
             let u : Token = at_dest record { frame = k; ip = n } (Word.Val (Int z)) N.d in
             let inside : Contains made u = subst (λ (l : List Token). Contains l u) (sym is) (contains_map (at_dest record { frame = k; ip = n } (Word.Val (Int z))) (j.firsts ++ j.seconds) N.d (subst (λ (j : Instr). Contains (j.firsts ++ j.seconds) N.d) same N.named)) in
             let goes : u.to ≡ To.Instr f (h a) r = (λ v. To.Instr (sym e.0 v) ((ap (λ (m : ℕ). m + (N.d).ahead) (sym e.1) ∙ N.place) v) (N.port v)) in
@@ -132,4 +132,4 @@ module _ (p q : Plan) (S : Folds p q) where
   pub pair_apart : (t : Token) (f a : ℕ) (w : Word) (j : Instr) → t ≡ token (To.Instr f (S.g a) Left) w → instr_at Q (S.g a) ≡ Some j → ((n : ℤ) → j.op ≡ Lit n → ⊥) → (k ip : ℕ) (i : Instr) (n : ℤ) → t.to ≡ To.Instr k ip Left → instr_at Q ip ≡ Some i → i.op ≡ Lit n → Fresh P Q h ip → ⊥
   pair_apart t f a w j is at no_lit k ip i n to there op fresh =
       let place : S.g a ≡ ip = same_place (sym (ap (λ (t : Token). t.to) is) ∙ to) in
-      no_lit n (ap (λ (i : Instr). i.op) (some_same j i (sym at ∙ ap (instr_at Q) place ∙ there)) ∙ op)
+      no_lit n (ap (λ (i : Instr). i.op) (same_Some j i (sym at ∙ ap (instr_at Q) place ∙ there)) ∙ op)

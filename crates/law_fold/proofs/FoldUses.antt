@@ -15,7 +15,6 @@ use Rattle.semantics.specs.Program.{Instr, Program, first_of, instr_at}
 use Rattle.semantics.specs.Rule.{token, Seat, Outcome, Becomes, Excluded, fires, fire_one, outcome_of, rule_at, slot_of}
 use Rattle.semantics.specs.Machine.{Machine, Store as MStore, slot_in, slot_used, Fires, Happens}
 use Rattle.semantics.specs.Plan.{Plan}
-use Rattle.law_reuse.proofs.Stands.{some_same}
 use Rattle.law_once.specs.Alike.{HasLanding}
 use Rattle.law_once.specs.Spreads.{ip_word, ip_token, ip_slot, ip_store}
 use Rattle.law_once.specs.Spreads.{is_answered}
@@ -25,6 +24,7 @@ use Rattle.law_fold.proofs.FoldEvents.{Answered}
 use Rattle.law_fold.proofs.FoldCame.{moved_fires}
 use Rattle.semantics.specs.Plan.{landing}
 use Rattle.std.specs.Prelude.{◌-◌}
+use Rattle.std.proofs.lemmas.Option.{same_Some}
 use Rattle.semantics.specs.declared.program.Op.TheVariants.{Link, Ask}
 use Rattle.law_once.specs.Alike.{IsTidy, HasLanding}
 use Rattle.law_once.specs.Spreads.{is_answered}
@@ -122,7 +122,7 @@ module _ (p q : Plan) (S : Folds p q) (F : ArcFacts p q S) where
         spot = same_to U.taken_at
 
         same : U.i ≡ i
-        same = some_same U.i i (sym U.at ∙ ap (instr_at P) (sym spot.1) ∙ at)
+        same = same_Some U.i i (sym U.at ∙ ap (instr_at P) (sym spot.1) ∙ at)
 
         plain_l : Plain P Q h l
         plain_l = record { i = i; j = M.j; old = at; new = M.there }

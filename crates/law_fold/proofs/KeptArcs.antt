@@ -1,8 +1,11 @@
 -- The arcs of the plan with its slots kept: those to what stands for itself are those of the plan, and entries are entries.
-use Rattle.std.proofs.Common.{◌≡◌, refl, sym, ap, ◌∙◌, subst, ℕ, ℤ, zero, suc, ◌+◌, ◌-◌, ◌<◌, ◌≤◌, ◌⊎◌, inl, inr, Bool, true, false, true≢false, ◌||◌, List, [], ◌∷◌, ◌++◌, length, Some, Contains, nat_lt, ltb-true, ltb-false, lt-ltb, le-ltb, zero-add, if◌then◌else◌, arith}
+use Rattle.std.proofs.Common.{◌≡◌, refl, sym, ap, ◌∙◌, subst, ℕ, ℤ, zero, suc, ◌+◌, ◌-◌, ◌<◌, ◌≤◌, ◌⊎◌, inl, inr, Bool, true, false, true≢false, ◌||◌, List, [], ◌∷◌, ◌++◌, length, Some, Contains, arith}
 use Rattle.std.specs.Prelude.{slice_get, flat_map}
 use Rattle.std.proofs.lemmas.Option.{slice_get_within}
 use Rattle.std.proofs.lemmas.List.Elements.{Contains-append_left, Contains-append_right, Contains-append_cases}
+use Rattle.lemmas.proofs.Contains.{contains_cases, contains_get, contains_head, contains_map, contains_mapped, contains_none, contains_tail}
+use Rattle.lemmas.proofs.SliceGet.{get_some}
+use Rattle.lemmas.proofs.Lists.{one_element}
 use Rattle.tags.specs.declared.token.Port.TheVariants.{Left}
 use Rattle.semantics.specs.declared.program.Dest.{Dest}
 use Rattle.semantics.specs.declared.program.Op.{Op}
@@ -11,18 +14,17 @@ use Rattle.semantics.specs.Program.{Instr, CodeBlock, first_of}
 use Rattle.semantics.specs.Plan.{Plan, landing}
 use Rattle.semantics.specs.Sharing.{Arc, arc, inlet, arcs_to, row, arcs_from}
 use Rattle.semantics.specs.Orderly.{is_entry}
+use Rattle.semantics.proofs.ArcEnds.{arcs_from_from, row_has}
+use Rattle.semantics.proofs.BlockPlaces.{entry_in, entry_of}
 use Rattle.code.specs.Sound.{IsSound}
-use Rattle.law_reuse.proofs.Stands.{first_in, first_next}
-use Rattle.law_reuse.proofs.Members.{contains_head, contains_tail, contains_cases, contains_none, contains_map, contains_mapped}
 use Rattle.folding.specs.Folds.{new_port}
 use Rattle.folding.specs.Places.{layout_of, folds_at, gone_at, new_place}
 use Rattle.folding.specs.Moved.{is_shut, new_dest, moved_dests}
 use Rattle.folding.specs.Laws.{dests_of}
 use Rattle.folding.proofs.Standing.{keeps_order, stands_at}
-use Rattle.folding.proofs.Taken.{get_there, keeps_entries}
+use Rattle.folding.proofs.Taken.{keeps_entries}
 use Rattle.folding.proofs.Landing.{keeps_landings}
 use Rattle.folding.proofs.Sole.{keeps_sole}
-use Rattle.folding.proofs.SoundLists.{contains_get}
 use Rattle.folding.proofs.SoundRows.{link_before}
 use Rattle.folding.proofs.Cases.{KeptAt}
 use Rattle.folding.proofs.Plain.{PlainAt}
@@ -34,12 +36,11 @@ use Rattle.law_fold.proofs.Uses.{moved_has}
 use Rattle.law_fold.proofs.Numbering.{place_ip, word_ip}
 use Rattle.law_fold.proofs.Static.{new_block, spares, inside, ahead, g_at}
 use Rattle.law_fold.proofs.Spots.{stays, kept_of, plain_of, plain_only, plain_at_h, new_within, at_of}
-use Rattle.law_fold.proofs.FoldArcs.{arcs_from_from}
 use Rattle.law_fold.proofs.FoldUses.{NewArc, ArcFacts}
 use Rattle.law_reuse.proofs.Stands.{Stands}
 use Rattle.law_reuse.proofs.UsedArcs.{stands_arcs}
 use Rattle.folding.proofs.Taken.{leaves_out}
-use Rattle.law_fold.proofs.Moves.{one_list, shape_one, entry_at, kept_slots_folds}
+use Rattle.law_fold.proofs.Moves.{shape_one, entry_at, kept_slots_folds}
 use Rattle.law_fold.proofs.KeptStatic.{plain_of_op, same_landings}
 use Rattle.law_fold.proofs.FoldParts.{counts_none}
 
@@ -51,13 +52,6 @@ row_get n from (suc k) x c = go (contains_cases (arc n false (inlet from Left)) 
     go : (arc n false (inlet from Left) ≡ x) ⊎ Contains (row n (from + 1) k) x → (Contains (row n (from + 1) k) x → (j : ℕ) × (j < k) × (x ≡ arc n false (inlet (from + 1 + j) Left))) → (j : ℕ) × (j < suc k) × (x ≡ arc n false (inlet (from + j) Left))
     go (inl e) more = let z : from ≡ from + 0 = omega arith in (0, omega arith, sym e ∙ ap (λ (m : ℕ). arc n false (inlet m Left)) z)
     go (inr c) more = let r = more c in let l = r.1 in let z : from + 1 + r.0 ≡ from + suc r.0 = omega arith in (suc r.0, omega (arith, l), r.2 ∙ ap (λ (m : ℕ). arc n false (inlet m Left)) z)
-
-row_has : (n from k j : ℕ) → j < k → Contains (row n from k) (arc n false (inlet (from + j) Left))
-row_has n from zero j l = absurd (omega (arith, l))
-row_has n from (suc k) zero l = let z : from ≡ from + 0 = omega arith in subst (λ (m : ℕ). Contains (row n from (suc k)) (arc n false (inlet m Left))) z (contains_head (arc n false (inlet from Left)) (row n (from + 1) k))
-row_has n from (suc k) (suc j) l =
-    let z : from + 1 + j ≡ from + suc j = omega arith in
-    contains_tail (arc n false (inlet from Left)) (row n (from + 1) k) (arc n false (inlet (from + suc j) Left)) (subst (λ (m : ℕ). Contains (row n (from + 1) k) (arc n false (inlet m Left))) z (row_has n (from + 1) k j (omega (arith, l))))
 
 rows_get : (n k : ℕ) (ds : List Dest) (x : Arc) → Contains (flat_map (λ (d : Dest). row n (n + d.ahead) k) ds) x → (d : Dest) × Contains ds d × (j : ℕ) × (j < k) × (x ≡ arc n false (inlet (n + d.ahead + j) Left))
 rows_get n k [] x c = absurd (contains_none x c)
@@ -92,7 +86,7 @@ module _ (p : Plan) (s : IsSound p) (tidy : IsTidy p) (b : ℕ) (c : CodeBlock) 
         let M : PlainAt p c (n + d.ahead) = subst (PlainAt p c) to K in
         let low = inside p s b c at_b n g.0 i side d at g.1 in
         let more = ahead p s b c at_b n g.0 i side d at g.1 in
-        let k = get_there c.instrs (n + d.ahead) low in
+        let k = get_some c.instrs (n + d.ahead) low in
         let kept : KeptAt p c (n + d.ahead) = kept_of p c (n + d.ahead) M.folded in
         let here = stays p c (n + d.ahead) k.0 k.1 M.unused in
         let shut : is_shut (layout_of p c) (n + d.ahead) d.port ≡ false = (λ v. here v || kept.shut d.port v) in
@@ -118,7 +112,7 @@ module _ (p : Plan) (s : IsSound p) (tidy : IsTidy p) (b : ℕ) (c : CodeBlock) 
     row_new : (t : ℕ) → i.op ≡ Link t → Contains (flat_map (λ (d : Dest). row n (n + d.ahead) (landing p t)) i.firsts) x → Contains (flat_map (λ (d : Dest). row (place n) (place n + d.ahead) (landing (kept_slots p) t)) j.firsts) (new_arc x)
     row_new t link k =
         let shape = ((s.program.blocks b c at_b).instrs n i at).shape in
-        let o = one_list i.firsts (shape_one i.op (length i.firsts) (length i.seconds) (ap is_answered link) shape) in
+        let o = one_element i.firsts (shape_one i.op (length i.firsts) (length i.seconds) (ap is_answered link) shape) in
         let d : Dest = o.0 in
         let first : slice_get (dests_of i false) 0 ≡ Some d = ap (λ (l : List Dest). slice_get l 0) o.1 in
         let sole : j.firsts ≡ new_dest (layout_of p c) n (n + d.ahead) d.port ∷ [] = keeps_sole p c (spares p s b c at_b) n i d at o.1 (λ z e. no_link_lit t z (sym link ∙ e)) in
@@ -180,43 +174,12 @@ module _ (p : Plan) (s : IsSound p) (tidy : IsTidy p) (b : ℕ) (c : CodeBlock) 
       omega (arith, low, to)
 
 -- ---- ENTRIES
-record Entry (bs : List CodeBlock) (a : ℕ) : Type 0 where
-  pub b : ℕ
-  pub n : ℕ
-  pub c : CodeBlock
-  pub block : slice_get bs b ≡ Some c
-  pub low : n ≤ c.inputs
-  pub within : n < length c.instrs
-  pub place : a ≡ first_in bs b + n
-
-entry_of : (bs : List CodeBlock) (a : ℕ) → is_entry bs a ≡ true → Entry bs a
-entry_of [] a e = absurd (true≢false (sym e))
-entry_of (x ∷ bs) a e = go (nat_lt a (length x.instrs)) refl e (entry_of bs (a - length x.instrs))
-  where
-    go : (t : Bool) → nat_lt a (length x.instrs) ≡ t → (if t then nat_lt a (x.inputs + 1) else is_entry bs (a - length x.instrs)) ≡ true → (is_entry bs (a - length x.instrs) ≡ true → Entry bs (a - length x.instrs)) → Entry (x ∷ bs) a
-    go true t e more = let l = ltb-true a (x.inputs + 1) e in record { b = 0; n = a; c = x; block = refl; low = omega (arith, l); within = ltb-true a (length x.instrs) t; place = sym (zero-add a) }
-    go false t e more =
-        let r = more e in let f = first_next x bs r.b in let l = ltb-false a (length x.instrs) t in let q = r.place in
-        record { b = suc r.b; n = r.n; c = r.c; block = r.block; low = r.low; within = r.within; place = omega (arith, f, l, q) }
-
-pub entry_in : (bs : List CodeBlock) (b n : ℕ) (c : CodeBlock) → slice_get bs b ≡ Some c → n ≤ c.inputs → n < length c.instrs → is_entry bs (first_in bs b + n) ≡ true
-entry_in [] b n c e l w = absurd (cc)
-entry_in (x ∷ bs) zero n c e l w =
-    let same : x ≡ c = cc in
-    let len = ap (λ (c : CodeBlock). length c.instrs) same in let ins = ap (λ (c : CodeBlock). c.inputs) same in
-    ap (λ (t : Bool). if t then nat_lt (0 + n) (x.inputs + 1) else is_entry bs (0 + n - length x.instrs)) (lt-ltb (0 + n) (length x.instrs) (omega (arith, w, len)))
-    ∙ lt-ltb (0 + n) (x.inputs + 1) (omega (arith, l, ins))
-entry_in (x ∷ bs) (suc b) n c e l w =
-    let f = first_next x bs b in
-    let ip = first_in (x ∷ bs) (suc b) + n in
-    let back : ip - length x.instrs ≡ first_in bs b + n = omega (arith, f) in
-    ap (λ (t : Bool). if t then nat_lt ip (x.inputs + 1) else is_entry bs (ip - length x.instrs)) (le-ltb ip (length x.instrs) (omega (arith, f))) ∙ ap (is_entry bs) back ∙ entry_in bs b n c e l w
 
 -- the entries are entries
 pub entries_kept : (p : Plan) (s : IsSound p) (a : ℕ) → is_entry p.program.blocks a ≡ true → is_entry (kept_slots p).program.blocks (word_ip p a) ≡ true
 entries_kept p s a e =
     let E = entry_of p.program.blocks a e in
-    let k = get_there E.c.instrs E.n E.within in
+    let k = get_some E.c.instrs E.n E.within in
     let r = keeps_entries p E.c E.n E.low E.within in
     let at = (entry_at p s E.b E.c E.block E.n E.low).0 in
     let w = new_within p s E.b E.c E.block E.n k.0 k.1 r.0 in
@@ -244,7 +207,7 @@ module _ (p : Plan) (s : IsSound p) (tidy : IsTidy p) where
       shape = shape_one i.op (length i.firsts) (length i.seconds) (ap is_answered e) ((s.program.blocks b c at_b).instrs n i at).shape
 
       rooms : (d : Dest) → Contains i.firsts d → n + d.ahead + landing p t ≤ length c.instrs
-      rooms d k = one (one_list i.firsts shape)
+      rooms d k = one (one_element i.firsts shape)
         where
           one : (o : Dest) × (i.firsts ≡ o ∷ []) → n + d.ahead + landing p t ≤ length c.instrs
           one (o, is) = only (contains_cases o [] d (subst (λ (l : List Dest). Contains l d) is k))

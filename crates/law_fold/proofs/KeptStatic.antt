@@ -1,9 +1,12 @@
 -- Marks, blocks, landings and loops of the plan with its slots kept.
-use Rattle.std.proofs.Common.{◌≡◌, refl, sym, ap, ◌∙◌, subst, ℕ, ℤ, zero, suc, ◌+◌, ◌-◌, ◌<◌, ◌≤◌, ◌⊎◌, inl, inr, Bool, true, false, true≢false, List, [], ◌∷◌, ◌++◌, length, Option, Some, None, Contains, nat_lt, ltb-true, ltb-false, zero-add, if◌then◌else◌, arith}
+use Rattle.std.proofs.Common.{◌≡◌, refl, sym, ap, ◌∙◌, subst, ℕ, ℤ, zero, suc, ◌+◌, ◌-◌, ◌<◌, ◌≤◌, ◌⊎◌, inl, inr, Bool, true, false, true≢false, List, [], ◌∷◌, ◌++◌, length, Option, Some, None, Contains, nat_lt, arith}
 use Rattle.std.specs.Prelude.{slice_get}
 use Rattle.std.specs.Option.{option_map}
-use Rattle.std.proofs.lemmas.Option.{slice_get_within, slice_get-map}
+use Rattle.std.proofs.lemmas.Option.{slice_get_within, slice_get-map, same_Some}
 use Rattle.std.proofs.lemmas.List.Elements.{Contains-append_left, Contains-append_right}
+use Rattle.lemmas.proofs.Contains.{contains_get, get_contains}
+use Rattle.lemmas.proofs.SliceGet.{get_some}
+use Rattle.lemmas.proofs.Lists.{one_element}
 use Rattle.tags.specs.declared.token.Port.{Port}
 use Rattle.operators.specs.declared.Binary.{Binary}
 use Rattle.semantics.specs.declared.program.Dest.{Dest}
@@ -13,26 +16,25 @@ use Rattle.semantics.specs.declared.program.Op.TheVariants.{Apply2, Apply2Right,
 use Rattle.semantics.specs.Program.{Instr, CodeBlock, Program, first_of, instr_at}
 use Rattle.semantics.specs.Plan.{Plan, mark_at, landing, landing_in}
 use Rattle.semantics.specs.Orderly.{same_block, often, IsMarked}
+use Rattle.semantics.proofs.BlockPlaces.{block_of, first_in, same_in}
 use Rattle.code.specs.Sound.{IsSound}
-use Rattle.law_net.proofs.Ports.{same_in}
-use Rattle.law_reuse.proofs.Stands.{some_same, first_in, first_next, one_block, instr_in, Found, found}
+use Rattle.law_reuse.proofs.Stands.{one_block, instr_in, Found, found}
 use Rattle.folding.specs.Folds.{new_op}
 use Rattle.folding.specs.Places.{layout_of, folds_at, gone_at, new_place}
 use Rattle.folding.specs.Moved.{new_dest, moved_dests}
 use Rattle.folding.specs.Laws.{dests_of}
 use Rattle.folding.proofs.Standing.{keeps_order, stands_at}
-use Rattle.folding.proofs.Taken.{get_there}
 use Rattle.folding.proofs.Landing.{keeps_landings}
 use Rattle.folding.proofs.Marked.{keeps_marks}
 use Rattle.folding.proofs.Sole.{keeps_sole}
-use Rattle.folding.proofs.SoundLists.{get_contains, contains_get, moved_back}
+use Rattle.folding.proofs.SoundLists.{moved_back}
 use Rattle.folding.proofs.SoundRows.{shut_stays}
 use Rattle.folding.proofs.Pairs.{closed_uses}
 use Rattle.folding.proofs.Cases.{KeptAt, FoldCase, is_kept, is_right, is_left, fold_cases}
 use Rattle.folding.proofs.Plain.{PlainAt, landing_plain, sole_plain}
 use Rattle.law_once.specs.Alike.{HasLanding, IsTidy, plain_dests}
 use Rattle.law_once.specs.Spreads.{Spot, is_answered}
-use Rattle.law_fold.proofs.Moves.{one_list, shape_one}
+use Rattle.law_fold.proofs.Moves.{shape_one}
 use Rattle.law_fold.specs.Folds.{Plain}
 use Rattle.law_fold.specs.Kept.{slotted, kept_block, kept_slots}
 use Rattle.law_fold.proofs.Closed.{lit_or}
@@ -41,35 +43,6 @@ use Rattle.law_fold.proofs.Static.{new_block, spares, inside, ahead, there_old, 
 use Rattle.law_fold.proofs.Spots.{stays, kept_of, plain_at_h, plain_here, new_within, apply_stays, At, at_of, plain_apart, pairs_apart, NewAt, new_at, DestAt, dest_of, dest_place}
 use Rattle.law_fold.proofs.FoldParts.{counts_none}
 use Rattle.law_fold.proofs.FoldCounts.{is_pair, Leaf, at_moved, at_pair, at_lit}
-
--- two numbers of one block
-record InBlock (bs : List CodeBlock) (ip jp : ℕ) : Type 0 where
-  pub b : ℕ
-  pub c : CodeBlock
-  pub j : ℕ
-  pub k : ℕ
-  pub block : slice_get bs b ≡ Some c
-  pub low : j < length c.instrs
-  pub high : k < length c.instrs
-  pub one : ip ≡ first_in bs b + j
-  pub two : jp ≡ first_in bs b + k
-
-block_of : (bs : List CodeBlock) (ip jp : ℕ) → same_block bs ip jp ≡ true → InBlock bs ip jp
-block_of [] ip jp e = absurd (true≢false (sym e))
-block_of (x ∷ bs) ip jp e = go (nat_lt ip (length x.instrs)) (nat_lt jp (length x.instrs)) refl refl e (block_of bs (ip - length x.instrs) (jp - length x.instrs))
-  where
-    go : (s t : Bool) → nat_lt ip (length x.instrs) ≡ s → nat_lt jp (length x.instrs) ≡ t
-        → (if s then t else if t then false else same_block bs (ip - length x.instrs) (jp - length x.instrs)) ≡ true
-        → (same_block bs (ip - length x.instrs) (jp - length x.instrs) ≡ true → InBlock bs (ip - length x.instrs) (jp - length x.instrs)) → InBlock (x ∷ bs) ip jp
-    go true true a b e more = record { b = 0; c = x; j = ip; k = jp; block = refl; low = ltb-true ip (length x.instrs) a; high = ltb-true jp (length x.instrs) b; one = sym (zero-add ip); two = sym (zero-add jp) }
-    go true false a b e more = absurd (true≢false (sym e))
-    go false true a b e more = absurd (true≢false (sym e))
-    go false false a b e more =
-        let m = more e in
-        let n = first_next x bs m.b in
-        let fa = ltb-false ip (length x.instrs) a in let fb = ltb-false jp (length x.instrs) b in
-        let o = m.one in let t = m.two in
-        record { b = suc m.b; c = m.c; j = m.j; k = m.k; block = m.block; low = m.low; high = m.high; one = omega (arith, n, fa, o); two = omega (arith, n, fb, t) }
 
 often_op : (i j : Instr) → j.op ≡ i.op → often (Some j) ≡ often (Some i)
 often_op i j e = ap (λ (op : Op). elim op as (λ x. Bool) [ Give k ↦ true | Take k ↦ true | _ ↦ false ]) e
@@ -104,10 +77,10 @@ module _ (p : Plan) (s : IsSound p) where
       go : FoldCase p c n → KeptAt p c n
       go (is_kept K) = K
       go (is_right (D, op)) =
-          let same : i ≡ D.i = some_same i D.i (sym at ∙ D.there) in
+          let same : i ≡ D.i = same_Some i D.i (sym at ∙ D.there) in
           absurd (true≢false (sym (ap (λ (i : Instr). is_pair (new_op (folds_at (layout_of p c) n) i.op)) same ∙ ap (λ (o : Op). is_pair (new_op (folds_at (layout_of p c) n) o)) D.was ∙ ap is_pair (op D.o)) ∙ off))
       go (is_left (D, op)) =
-          let same : i ≡ D.i = some_same i D.i (sym at ∙ D.there) in
+          let same : i ≡ D.i = same_Some i D.i (sym at ∙ D.there) in
           absurd (true≢false (sym (ap (λ (i : Instr). is_pair (new_op (folds_at (layout_of p c) n) i.op)) same ∙ ap (λ (o : Op). is_pair (new_op (folds_at (layout_of p c) n) o)) D.was ∙ ap is_pair (op D.o)) ∙ off))
 
   no_pair : (op : Op) → counts_none op ≡ false → is_pair op ≡ false
@@ -120,7 +93,7 @@ module _ (p : Plan) (s : IsSound p) where
   plain_of_op c n i at off = go (lit_or p c n i at) (fold_cases p c n)
     where
       no_apply : (j : Instr) (o : Binary) → slice_get c.instrs n ≡ Some j → j.op ≡ Apply2 o → ⊥
-      no_apply j o at_j e = true≢false (sym (ap counts_none (ap (λ (i : Instr). i.op) (some_same i j (sym at ∙ at_j)) ∙ e)) ∙ off)
+      no_apply j o at_j e = true≢false (sym (ap counts_none (ap (λ (i : Instr). i.op) (same_Some i j (sym at ∙ at_j)) ∙ e)) ∙ off)
 
       go : (closed_uses p c n ≡ []) ⊎ ((z : ℤ) × (i.op ≡ Lit z)) → FoldCase p c n → PlainAt p c n
       go (inr l) o = absurd (true≢false (sym (ap counts_none l.1) ∙ off))
@@ -187,7 +160,7 @@ module _ (p : Plan) (s : IsSound p) where
 
   -- where a destination leads
   dest_target : (c : CodeBlock) (n : ℕ) (b : ℕ) (at_b : slice_get P.blocks b ≡ Some c) (i : Instr) (at : slice_get c.instrs n ≡ Some i) (d : Dest) (D : DestAt p s c n i d) → (k : Instr) × (slice_get c.instrs (n + D.old.ahead) ≡ Some k)
-  dest_target c n b at_b i at d D = get_there c.instrs (n + D.old.ahead) (inside p s b c at_b n D.k i D.side D.old at D.named)
+  dest_target c n b at_b i at d D = get_some c.instrs (n + D.old.ahead) (inside p s b c at_b n D.k i D.side D.old at D.named)
 
   from_dest : (ip : ℕ) (j : Instr) (d : Dest) → instr_at Q ip ≡ Some j → Contains (j.firsts ++ j.seconds) d → (b : ℕ) → Inside Q b (ip + d.ahead) → Inside Q b ip
   from_dest ip j d at k b I =
@@ -215,7 +188,7 @@ module _ (p : Plan) (s : IsSound p) where
       let B = block_of P.blocks x.0 y.0 e in
       let X : Inside Q B.b ip = leaf_inside ip r x lx B.b (B.c, B.j, B.block, B.low, B.one) in
       let Y : Inside Q B.b jp = leaf_inside jp t y ly B.b (B.c, B.k, B.block, B.high, B.two) in
-      let same : Y.0 ≡ X.0 = some_same Y.0 X.0 (sym Y.2 ∙ X.2) in
+      let same : Y.0 ≡ X.0 = same_Some Y.0 X.0 (sym Y.2 ∙ X.2) in
       let len = ap (λ (c : CodeBlock). length c.instrs) same in let low = Y.3 in
       (λ k. same_block Q.blocks (X.4 k) (Y.4 k)) ∙ same_in Q.blocks B.b X.1 Y.1 X.0 X.2 X.3 (omega (arith, len, low))
 
@@ -245,7 +218,7 @@ module _ (p : Plan) (s : IsSound p) where
       let more = ahead p s N.b N.c N.block N.n 0 N.i false N.d N.instr first in
       let up = keeps_order p N.c N.n to (omega (arith, more)) low stay in
       let row = keeps_landings p N.c N.n 0 o N.callee N.i N.d N.instr N.links first below within in
-      let k = get_there N.c.instrs (to + o) within in
+      let k = get_some N.c.instrs (to + o) within in
       let last = new_within p s N.b N.c N.block (to + o) k.0 k.1 row.0 in
       let moves = row.1 in
       let begins = N.begins in
@@ -281,8 +254,8 @@ module _ (p : Plan) (s : IsSound p) where
 
       go : FoldCase p c n → often (Some (slotted (layout_of p c) n i)) ≡ false
       go (is_kept K) = often_op i (slotted (layout_of p c) n i) (K.op i.op) ∙ off
-      go (is_right (D, op)) = by_pair (ap (λ (i : Instr). is_pair (new_op (folds_at (layout_of p c) n) i.op)) (some_same i D.i (sym at ∙ D.there)) ∙ ap (λ (o : Op). is_pair (new_op (folds_at (layout_of p c) n) o)) D.was ∙ ap is_pair (op D.o))
-      go (is_left (D, op)) = by_pair (ap (λ (i : Instr). is_pair (new_op (folds_at (layout_of p c) n) i.op)) (some_same i D.i (sym at ∙ D.there)) ∙ ap (λ (o : Op). is_pair (new_op (folds_at (layout_of p c) n) o)) D.was ∙ ap is_pair (op D.o))
+      go (is_right (D, op)) = by_pair (ap (λ (i : Instr). is_pair (new_op (folds_at (layout_of p c) n) i.op)) (same_Some i D.i (sym at ∙ D.there)) ∙ ap (λ (o : Op). is_pair (new_op (folds_at (layout_of p c) n) o)) D.was ∙ ap is_pair (op D.o))
+      go (is_left (D, op)) = by_pair (ap (λ (i : Instr). is_pair (new_op (folds_at (layout_of p c) n) i.op)) (same_Some i D.i (sym at ∙ D.there)) ∙ ap (λ (o : Op). is_pair (new_op (folds_at (layout_of p c) n) o)) D.was ∙ ap is_pair (op D.o))
 
   module _ (tidy : IsTidy p) where
     -- what a destination leads to gets one token
@@ -353,14 +326,14 @@ module _ (p : Plan) (s : IsSound p) where
             by N =
                 let I : Inside Q b (first_of Q b + n) = (c, n, at_b, slice_get_within c.instrs n i at, refl) in
                 let eb : N.b ≡ b = inside_one Q N.b b (first_of Q b + n) (new_inside (first_of Q b + n) i N) I in
-                let ec : kept_block p N.c ≡ c = some_same (kept_block p N.c) c (sym (new_block p s N.b N.c N.block) ∙ ap (slice_get Q.blocks) eb ∙ at_b) in
+                let ec : kept_block p N.c ≡ c = same_Some (kept_block p N.c) c (sym (new_block p s N.b N.c N.block) ∙ ap (slice_get Q.blocks) eb ∙ at_b) in
                 let f = ap (first_of Q) eb in let place = N.place in
                 let en : new_place (layout_of p N.c) N.n ≡ n = omega (arith, place, f) in
                 let new_link : (slotted (layout_of p N.c) N.n N.i).op ≡ Link callee = ap (λ (j : Instr). j.op) (sym N.is) ∙ op in
                 let K : KeptAt p N.c N.n = pair_not N.c N.n N.i N.instr (ap is_pair new_link) in
                 let link : N.i.op ≡ Link callee = sym (K.op (N.i).op) ∙ new_link in
                 let shape = ((s.program.blocks N.b N.c N.block).instrs N.n N.i N.instr).shape in
-                let o = one_list N.i.firsts (shape_one N.i.op (length N.i.firsts) (length N.i.seconds) (ap is_answered link) shape) in
+                let o = one_element N.i.firsts (shape_one N.i.op (length N.i.firsts) (length N.i.seconds) (ap is_answered link) shape) in
                 let first : slice_get (dests_of N.i false) 0 ≡ Some o.0 = ap (λ (l : List Dest). slice_get l 0) o.1 in
                 let sole = keeps_sole p N.c (spares p s N.b N.c N.block) N.n N.i o.0 N.instr o.1 (λ z e. no_link_lit callee z (sym link ∙ e)) in
                 let same_d : d ≡ new_dest (layout_of p N.c) N.n (N.n + (o.0).ahead) (o.0).port = one_same d (new_dest (layout_of p N.c) N.n (N.n + (o.0).ahead) (o.0).port) (sym lands ∙ ap (λ (j : Instr). j.firsts) N.is ∙ sole) in
@@ -380,13 +353,13 @@ module _ (p : Plan) (s : IsSound p) where
                 row : (N : NewAt p s (first_of Q b + n) i) (e : Dest) (k : ℕ) → landing p callee ≡ k → N.i.op ≡ Link callee → slice_get (dests_of N.i false) 0 ≡ Some e → N.n + e.ahead + landing p callee ≤ length N.c.instrs → N.n + e.ahead < length N.c.instrs → PlainAt p N.c (N.n + e.ahead)
                     → new_place (layout_of p N.c) (N.n + e.ahead) + landing p callee ≤ length (kept_block p N.c).instrs
                 row N e zero none link first room low K =
-                    let t = get_there N.c.instrs (N.n + e.ahead) low in
+                    let t = get_some N.c.instrs (N.n + e.ahead) low in
                     let w = new_within p s N.b N.c N.block (N.n + e.ahead) t.0 t.1 (stays p N.c (N.n + e.ahead) t.0 t.1 K.unused) in
                     omega (arith, none, w)
                 row N e (suc k) some link first room low K =
                     let inside_last : N.n + e.ahead + k < length N.c.instrs = omega (arith, some, room) in
                     let r = keeps_landings p N.c N.n 0 k callee N.i e N.instr link first (omega (arith, some)) inside_last in
-                    let t = get_there N.c.instrs (N.n + e.ahead + k) inside_last in
+                    let t = get_some N.c.instrs (N.n + e.ahead + k) inside_last in
                     let w = new_within p s N.b N.c N.block (N.n + e.ahead + k) t.0 t.1 r.0 in
                     let moves = r.1 in
                     omega (arith, w, moves, some)

@@ -4,8 +4,9 @@ use Rattle.std.proofs.Common.{◌≡◌, refl, sym, ap, ◌∙◌, subst, ℕ, s
 use Rattle.std.specs.Prelude.{slice_get}
 use Rattle.std.proofs.lemmas.List.Concat.{flat_map-append}
 use Rattle.std.proofs.lemmas.List.Elements.{Contains-append_left, Contains-append_right, Contains-append_cases}
-use Rattle.law_reuse.proofs.Members.{contains_map}
 use Rattle.std.proofs.lemmas.List.Sorted.{Contains-permutation, IsPermutation-refl, IsPermutation-sym, IsPermutation-trans, IsPermutation-map, IsPermutation-append_left, IsPermutation-append_right}
+use Rattle.lemmas.proofs.Contains.{contains_map}
+use Rattle.lemmas.proofs.Lists.{map_append}
 use Rattle.tags.specs.declared.value.Value.TheVariants.{Int}
 use Rattle.tags.specs.declared.token.Port.TheVariants.{Left}
 use Rattle.tags.specs.declared.token.Word.{Word}
@@ -22,7 +23,7 @@ use Rattle.folding.proofs.Pairs.{closed_one, closed_in, closed_uses, given, want
 use Rattle.folding.proofs.Cases.{port_at, value_at}
 use Rattle.law_once.specs.Spreads.{ip_word}
 use Rattle.law_fold.specs.Folds.{fires_lit, StandsBy, StandAllBy, stand_none, stand_more, Sends, Settles, settled, fired}
-use Rattle.law_fold.proofs.FoldRules.{map_join, settles_map, sends_grow, settles_perm, settles_then, settles_after}
+use Rattle.law_fold.proofs.FoldRules.{settles_map, sends_grow, settles_perm, settles_then, settles_after}
 
 module _ (kind : Word → Type 0) (P Q : Program) (g h : ℕ → ℕ) where
   -- ---- TWO LISTS
@@ -75,13 +76,13 @@ module _ (kind : Word → Type 0) (P Q : Program) (g h : ℕ → ℕ) where
         let c = operands f closed_left in let d = operands f closed_right in let g = operands f given_left in let k = operands f given_right in
         let all = settles_join R (olds f n w ds) (olds f n w es) (c ++ (g ++ rest_left)) (d ++ (k ++ rest_right)) a b in
         let e = shuffled (c ∷ g ∷ rest_left ∷ d ∷ k ∷ rest_right ∷ []) ((Part 0 ⊕ (Part 1 ⊕ Part 2)) ⊕ (Part 3 ⊕ (Part 4 ⊕ Part 5))) ((Part 0 ⊕ Part 3) ⊕ ((Part 1 ⊕ Part 4) ⊕ (Part 2 ⊕ Part 5))) refl in
-        subst (λ (l : List Token). Settles R P (olds f n w ds ++ olds f n w es) l) (λ v. sym (map_join (operand f) closed_left closed_right) v ++ (sym (map_join (operand f) given_left given_right) v ++ (rest_left ++ rest_right)))
+        subst (λ (l : List Token). Settles R P (olds f n w ds ++ olds f n w es) l) (λ v. sym (map_append (operand f) closed_left closed_right) v ++ (sym (map_append (operand f) given_left given_right) v ++ (rest_left ++ rest_right)))
         (settles_then R P (olds f n w ds ++ olds f n w es) ((c ++ (g ++ rest_left)) ++ (d ++ (k ++ rest_right))) ((c ++ d) ++ ((g ++ k) ++ (rest_left ++ rest_right))) all e)
 
     news_join : (f n : ℕ) (w : Word) (ds es : List Dest) → news f n w (ds ++ es) ≡ news f n w ds ++ news f n w es
     news_join f n w ds es =
         ap (λ (l : List Dest). to_each record { frame = f; ip = E + place n } (ip_word h w) l) (flat_map-append (moved_dest (layout_of p c) n) ds es)
-        ∙ map_join (at_dest record { frame = f; ip = E + place n } (ip_word h w)) (moved_dests (layout_of p c) n ds) (moved_dests (layout_of p c) n es)
+        ∙ map_append (at_dest record { frame = f; ip = E + place n } (ip_word h w)) (moved_dests (layout_of p c) n ds) (moved_dests (layout_of p c) n es)
 
     abbrev Will : ℕ → ℕ → Word → List Dest → ℕ → ℕ → Type 0
     Will f n w ds = Sends P Q h (news f n w ds)
@@ -118,9 +119,9 @@ module _ (kind : Word → Type 0) (P Q : Program) (g h : ℕ → ℕ) where
           rest = A.rest ++ B.rest;
           meant = A.meant ++ B.meant;
           settles = both_made (Will f n w (d ∷ ds)) f n w (d ∷ []) ds (closed_one p c n d) (closed_in p c n ds) (closed_uses p c (n + d.ahead)) (given p c n ds) A.rest B.rest old (with_before f n w (d ∷ []) ds (olds f n w ds) _ B.settles);
-          stand = subst (λ (l : List Token). StandAllBy kind P Q g h l (A.meant ++ B.meant)) (sym (map_join (at_dest record { frame = f; ip = E + place n } (ip_word h w)) (moved_dest (layout_of p c) n d) (moved_dests (layout_of p c) n ds)))
+          stand = subst (λ (l : List Token). StandAllBy kind P Q g h l (A.meant ++ B.meant)) (sym (map_append (at_dest record { frame = f; ip = E + place n } (ip_word h w)) (moved_dest (layout_of p c) n d) (moved_dests (layout_of p c) n ds)))
               (stand_join first_new (news f n w ds) A.meant B.meant new B.stand);
-          perm = subst (λ (l : List Token). IsPermutation (A.meant ++ B.meant) ((A.rest ++ B.rest) ++ l)) (sym (map_join (operand f) (wanted_one p c n d) (wanted p c n ds))) (IsPermutation-trans _ _ _ perm_both perm_all);
+          perm = subst (λ (l : List Token). IsPermutation (A.meant ++ B.meant) ((A.rest ++ B.rest) ++ l)) (sym (map_append (operand f) (wanted_one p c n d) (wanted p c n ds))) (IsPermutation-trans _ _ _ perm_both perm_all);
         }
 
     pub all_made : (f n : ℕ) (w : Word) (ds : List Dest) → ((k : ℕ) (d : Dest) → slice_get ds k ≡ Some d → Made f n w (d ∷ [])) → Made f n w ds
@@ -156,12 +157,12 @@ module _ (kind : Word → Type 0) (P Q : Program) (g h : ℕ → ℕ) where
         let moves : moved_dests (layout_of p c) n (ds ++ es) ≡ moved_dests (layout_of p c) n ds ++ moved_dests (layout_of p c) n es = flat_map-append (moved_dest (layout_of p c) n) ds es in
         record {
           meant = A.meant ++ B.meant;
-          settles = subst (λ (l : List Token). Settles (Will f n w (ds ++ es)) P l (operands f (closed_in p c n (ds ++ es)) ++ (A.meant ++ B.meant))) (sym (map_join (at_dest record { frame = f; ip = F + n } w) ds es))
-              (subst (λ (l : List Token). Settles (Will f n w (ds ++ es)) P (olds f n w ds ++ olds f n w es) (l ++ (A.meant ++ B.meant))) (sym (ap (map (operand f)) joins ∙ map_join (operand f) (closed_in p c n ds) (closed_in p c n es)))
+          settles = subst (λ (l : List Token). Settles (Will f n w (ds ++ es)) P l (operands f (closed_in p c n (ds ++ es)) ++ (A.meant ++ B.meant))) (sym (map_append (at_dest record { frame = f; ip = F + n } w) ds es))
+              (subst (λ (l : List Token). Settles (Will f n w (ds ++ es)) P (olds f n w ds ++ olds f n w es) (l ++ (A.meant ++ B.meant))) (sym (ap (map (operand f)) joins ∙ map_append (operand f) (closed_in p c n ds) (closed_in p c n es)))
               (settles_then (Will f n w (ds ++ es)) P (olds f n w ds ++ olds f n w es) ((closed_left ++ A.meant) ++ (closed_right ++ B.meant)) ((closed_left ++ closed_right) ++ (A.meant ++ B.meant)) all e));
           stand = subst (λ (l : List Token). StandAllBy kind P Q g h l (A.meant ++ B.meant))
               (sym (ap (λ (l : List Dest). to_each record { frame = f; ip = E + place n } (ip_word h w) l) moves
-              ∙ map_join (at_dest record { frame = f; ip = E + place n } (ip_word h w)) (moved_dests (layout_of p c) n ds) (moved_dests (layout_of p c) n es)))
+              ∙ map_append (at_dest record { frame = f; ip = E + place n } (ip_word h w)) (moved_dests (layout_of p c) n ds) (moved_dests (layout_of p c) n es)))
               (stand_join (news f n w ds) (news f n w es) A.meant B.meant A.stand B.stand);
           gets = λ x inside. go x (Contains-append_cases (wanted p c n ds) (wanted p c n es) x (subst (λ (l : List ℕ). Contains l x) (flat_map-append (wanted_one p c n) ds es) inside));
         }

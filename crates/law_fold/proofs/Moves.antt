@@ -2,7 +2,7 @@
 use Rattle.std.proofs.Common.{◌≡◌, refl, sym, ap, ◌∙◌, subst, ℕ, ℤ, ◌+◌, ◌<◌, ◌≤◌, ◌⊎◌, inl, inr, Bool, true, false, true≢false, List, [], ◌∷◌, ◌++◌, length, Option, Some, None, Contains, arith}
 use Rattle.std.specs.Prelude.{slice_get, ⊤}
 use Rattle.std.specs.Option.{option_map}
-use Rattle.std.proofs.lemmas.Option.{slice_get_within, slice_get-map}
+use Rattle.std.proofs.lemmas.Option.{slice_get_within, slice_get-map, same_Some}
 use Rattle.std.proofs.lemmas.List.Concat.{flat_map-append}
 use Rattle.tags.specs.declared.value.Value.TheVariants.{Int}
 use Rattle.tags.specs.declared.token.Port.{Port}
@@ -20,17 +20,19 @@ use Rattle.semantics.specs.Machine.{results_in}
 use Rattle.semantics.specs.Plan.{Plan, HasShape}
 use Rattle.semantics.specs.Orderly.{eq_port, inputs_in}
 use Rattle.code.specs.Sound.{NamesRightly, IsSound}
-use Rattle.law_reuse.proofs.Stands.{some_same, Found, found}
-use Rattle.law_reuse.proofs.Members.{contains_head, contains_none, contains_map}
+use Rattle.law_reuse.proofs.Stands.{Found, found}
 use Rattle.std.proofs.lemmas.List.Sorted.{Contains-permutation}
+use Rattle.lemmas.proofs.Contains.{contains_head, contains_map, contains_none, get_contains}
+use Rattle.lemmas.proofs.SliceGet.{get_some}
+use Rattle.lemmas.proofs.Lists.{map_append, one_element}
+use Rattle.code.proofs.Mains.{main_block}
 use Rattle.folding.specs.Places.{layout_of, new_place}
 use Rattle.folding.specs.Moved.{moved_dests, new_dest}
 use Rattle.folding.specs.Laws.{dests_of, other_port}
 use Rattle.folding.proofs.Standing.{keeps_order}
-use Rattle.folding.proofs.Taken.{get_there, keeps_entries}
+use Rattle.folding.proofs.Taken.{keeps_entries}
 use Rattle.folding.proofs.Landing.{keeps_landings}
 use Rattle.folding.proofs.Sole.{keeps_sole}
-use Rattle.folding.proofs.SoundLists.{get_contains}
 use Rattle.folding.proofs.Pairs.{closed_in, closed_uses, uses_in, given, wanted, pairs_match}
 use Rattle.folding.proofs.Cases.{port_at, value_at, FoldedAt, FoldCase, is_kept, is_right, is_left, fold_cases}
 use Rattle.folding.proofs.Plain.{PlainAt, entry_plain, landing_plain, sole_plain}
@@ -38,7 +40,7 @@ use Rattle.law_once.specs.Spreads.{ip_word, is_answered}
 use Rattle.law_once.specs.Alike.{HasLanding}
 use Rattle.law_fold.specs.Folds.{Plain, IsValue, Sends, Settles, Clumped, Pairs, Ready, Leads, Enters, IsMoved, IsPair}
 use Rattle.law_fold.specs.Kept.{slotted, kept_block, kept_slots, KeptSlotsFolds}
-use Rattle.law_fold.proofs.FoldRules.{map_join, settles_map, settles_then}
+use Rattle.law_fold.proofs.FoldRules.{settles_map, settles_then}
 use Rattle.law_fold.proofs.Leading.{operands, Whole}
 use Rattle.law_fold.proofs.Closed.{lit_or}
 use Rattle.law_fold.proofs.Uses.{Wants, wanted_of}
@@ -51,11 +53,6 @@ use Rattle.law_fold.proofs.Spots.{stays, kept_of, plain_of, not_plain, plain_at_
 both_none : (xs ys : List ℕ) → xs ++ ys ≡ [] → (xs ≡ []) × (ys ≡ [])
 both_none [] ys e = (refl, e)
 both_none (x ∷ xs) ys e = absurd (cc)
-
-pub one_list : (xs : List Dest) → length xs ≡ 1 → (d : Dest) × (xs ≡ d ∷ [])
-one_list [] e = absurd (omega (arith, e))
-one_list (d ∷ []) e = (d, refl)
-one_list (d ∷ x ∷ xs) e = absurd (omega (arith, e))
 
 pub shape_one : (op : Op) (m n : ℕ) → is_answered op ≡ true → HasShape op m n → m ≡ 1
 shape_one (Fetch x) m n e h = h.0
@@ -176,7 +173,7 @@ module _ (p : Plan) (s : IsSound p) (b : ℕ) (c : CodeBlock) (at_b : slice_get 
                 → instr_at P a ≡ Some i2 → i2.op ≡ Lit z → ⊥
             no_lit D old f2 a w2 z i2 e at2 op =
                 let same : a ≡ F + n + N.d.ahead = (let d = ap (λ (t : Token). t.to) e in cc) in
-                let j : i2 ≡ D.i = some_same i2 D.i (sym at2 ∙ ap (instr_at P) same ∙ old) in
+                let j : i2 ≡ D.i = same_Some i2 D.i (sym at2 ∙ ap (instr_at P) same ∙ old) in
                 apart_ops D.o z (sym D.was ∙ sym (ap (λ (i : Instr). i.op) j) ∙ op)
 
         by_case : FoldCase p c (n + N.d.ahead) → Pairs P (Old t f w) w
@@ -198,8 +195,8 @@ module _ (p : Plan) (s : IsSound p) (b : ℕ) (c : CodeBlock) (at_b : slice_get 
     leads_all f w =
         let all = ready_join P Q g h w (New false f w) (New true f w) (Old false f w) (Old true f w) (ready_side false f w) (ready_side true f w) in
         subst (λ (l : List Token). Ready P Q g h w l (to_each record { frame = f; ip = F + n } w (i.firsts ++ i.seconds)))
-        (sym (map_join (at_dest record { frame = f; ip = E + place n } (ip_word h w)) (moved_dests (layout_of p c) n i.firsts) (moved_dests (layout_of p c) n i.seconds)))
-        (subst (λ (l : List Token). Ready P Q g h w (New false f w ++ New true f w) l) (sym (map_join (at_dest record { frame = f; ip = F + n } w) i.firsts i.seconds)) all)
+        (sym (map_append (at_dest record { frame = f; ip = E + place n } (ip_word h w)) (moved_dests (layout_of p c) n i.firsts) (moved_dests (layout_of p c) n i.seconds)))
+        (subst (λ (l : List Token). Ready P Q g h w (New false f w ++ New true f w) l) (sym (map_append (at_dest record { frame = f; ip = F + n } w) i.firsts i.seconds)) all)
 
   -- ---- AN INSTRUCTION THAT STANDS FOR ITSELF
   module _ (n : ℕ) (i : Instr) (at : slice_get c.instrs n ≡ Some i) (K : PlainAt p c n) where
@@ -218,7 +215,7 @@ module _ (p : Plan) (s : IsSound p) (b : ℕ) (c : CodeBlock) (at_b : slice_get 
     pub answered : is_answered i.op ≡ true → (d : Dest) × (e : Dest) × (i.firsts ≡ d ∷ []) × (j.firsts ≡ e ∷ []) × (h (F + n + d.ahead) ≡ h (F + n) + e.ahead) × (e.port ≡ d.port) × Plain P Q h (F + n + d.ahead)
     answered is =
         let shape = ((s.program.blocks b c at_b).instrs n i at).shape in
-        let o = one_list i.firsts (shape_one i.op (length i.firsts) (length i.seconds) is shape) in
+        let o = one_element i.firsts (shape_one i.op (length i.firsts) (length i.seconds) is shape) in
         let d : Dest = o.0 in
         let named : slice_get (dests_of i false) 0 ≡ Some d = ap (λ (l : List Dest). slice_get l 0) o.1 in
         let within : n + d.ahead < length c.instrs = inside p s b c at_b n 0 i false d at named in
@@ -229,7 +226,7 @@ module _ (p : Plan) (s : IsSound p) (b : ℕ) (c : CodeBlock) (at_b : slice_get 
         let z : h (F + n + d.ahead) ≡ h (F + (n + d.ahead)) = ap h (let z : F + n + d.ahead ≡ F + (n + d.ahead) = omega arith in z) in
         let up = keeps_order p c n (n + d.ahead) (omega (arith, later)) within (stays p c n i at K.unused) in
         let one = here in
-        let m = get_there c.instrs (n + d.ahead) within in
+        let m = get_some c.instrs (n + d.ahead) within in
         let z2 : F + (n + d.ahead) ≡ F + n + d.ahead = omega arith in
         (d, e, o.1, keeps_sole p c (spares p s b c at_b) n i d at o.1 (answers_no_lit i.op is), omega (arith, there, z, up, one), (kept_of p c (n + d.ahead) M.folded).port d.port, subst (Plain P Q h) z2 (plain_here p s b c at_b (n + d.ahead) m.0 m.1 M))
 
@@ -239,12 +236,12 @@ module _ (p : Plan) (s : IsSound p) (b : ℕ) (c : CodeBlock) (at_b : slice_get 
       let size = (s.program.blocks b c at_b).size in
       let within : n < length c.instrs = omega (arith, e, size) in
       let k = keeps_entries p c n e within in
-      let m = get_there c.instrs n within in
+      let m = get_some c.instrs n within in
       (plain_at_h p s b c at_b n within (entry_plain p c n e within) ∙ ap (λ (m : ℕ). E + m) k.1, plain_here p s b c at_b n m.0 m.1 (entry_plain p c n e within))
 
 enters_at : (p : Plan) (s : IsSound p) (op : Op) → NamesRightly p.program op → Enters p.program (kept_slots p).program (word_ip p) op
 enters_at p s (Link b) h =
-    let c = get_there p.program.blocks b h in
+    let c = get_some p.program.blocks b h in
     let e = entry_at p s b c.0 c.1 0 (omega arith) in
     let z : first_of p.program b + 0 ≡ first_of p.program b = omega arith in
     let y : first_of (kept_slots p).program b + 0 ≡ first_of (kept_slots p).program b = omega arith in
@@ -299,8 +296,6 @@ is_pair p s b c at_b n i j o at op there =
     unused (inr l) = absurd (apart l.0 (sym op ∙ l.1))
 
 -- ---- ALL
-pub main_block : (p : Plan) (s : IsSound p) → (c : CodeBlock) × (slice_get p.program.blocks p.program.main ≡ Some c)
-main_block p s = get_there p.program.blocks p.program.main s.program.main
 
 pub new_main : (p : Plan) (c : CodeBlock) → slice_get p.program.blocks p.program.main ≡ Some c → slice_get (kept_slots p).program.blocks p.program.main ≡ Some (kept_block p c)
 new_main p c e = slice_get-map (kept_block p) p.program.blocks p.program.main ∙ ap (option_map (kept_block p)) e
@@ -354,7 +349,7 @@ kept_slots_folds p s = record {
         let below = L.within in
         let first : slice_get L.i.firsts 0 ≡ Some L.d = ap (λ (l : List Dest). slice_get l 0) L.lands in
         let K = landing_plain p L.c L.n o L.callee L.i L.d L.instr L.links first below within in
-        let x = get_there L.c.instrs (to + o) within in
+        let x = get_some L.c.instrs (to + o) within in
         let one = plain_at_h p s L.b L.c L.block (to + o) within (landing_plain p L.c L.n o L.callee L.i L.d L.instr L.links first below within) in
         let z : to + 0 ≡ to = omega arith in
         let two = plain_at_h p s L.b L.c L.block to (omega (arith, within))
@@ -376,7 +371,7 @@ kept_slots_folds p s = record {
             no_apply o e = true≢false (sym is ∙ ap is_answered e)
 
             by_op : (j : Instr) (o : Binary) → slice_get N.stands.code.instrs N.n ≡ Some j → j.op ≡ Apply2 o → ⊥
-            by_op j o at_j e = let same : j ≡ i = some_same j i (sym at_j ∙ N.stands.instr) in no_apply o (sym (ap (λ (i : Instr). i.op) same) ∙ e)
+            by_op j o at_j e = let same : j ≡ i = same_Some j i (sym at_j ∙ N.stands.instr) in no_apply o (sym (ap (λ (i : Instr). i.op) same) ∙ e)
 
             go : (closed_uses p N.stands.code N.n ≡ []) ⊎ ((z : ℤ) × (i.op ≡ Lit z)) → FoldCase p N.stands.code N.n → PlainAt p N.stands.code N.n
             go (inr l) o = absurd (answers_no_lit i.op is l.0 l.1)

@@ -3,7 +3,7 @@ use Rattle.std.proofs.Common.{◌≡◌, refl, sym, ap, ◌∙◌, ℕ, zero, su
 use Rattle.std.specs.Prelude.{slice_get, ◌&&◌, not}
 use Rattle.semantics.specs.Program.{CodeBlock, instr_from}
 use Rattle.semantics.specs.Plan.{Plan}
-use Rattle.law_reuse.proofs.Stands.{first_in, first_next}
+use Rattle.semantics.proofs.BlockPlaces.{first_in, first_next}
 use Rattle.folding.specs.Folds.{is_folded}
 use Rattle.folding.specs.Places.{layout_of, folds_at, new_place}
 use Rattle.folding.proofs.Pairs.{closed_uses}

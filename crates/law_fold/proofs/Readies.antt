@@ -1,8 +1,10 @@
 -- What comes of two lists of destinations is what comes of each; and an operator keeps the word that it takes.
-use Rattle.std.proofs.Common.{◌≡◌, refl, sym, subst, ℕ, ℤ, ◌⊎◌, inl, inr, List, [], ◌∷◌, ◌++◌, Some, Contains, IsPermutation}
+use Rattle.std.proofs.Common.{◌≡◌, refl, sym, ℕ, ℤ, ◌⊎◌, inl, inr, List, [], ◌∷◌, ◌++◌, Some, Contains, IsPermutation}
 use Rattle.std.proofs.lemmas.List.Elements.{Contains-append_left, Contains-append_right}
 use Rattle.std.specs.Prelude.{⊤}
-use Rattle.std.proofs.lemmas.List.Sorted.{Contains-permutation, IsPermutation-refl, IsPermutation-trans, IsPermutation-cons}
+use Rattle.std.proofs.lemmas.List.Sorted.{Contains-permutation, IsPermutation-trans, IsPermutation-cons}
+use Rattle.lemmas.proofs.Permutations.{one_out}
+use Rattle.lemmas.proofs.Contains.{contains_cases}
 use Rattle.tags.specs.declared.token.Port.TheVariants.{Left}
 use Rattle.tags.specs.declared.token.Word.{Word}
 use Rattle.tags.specs.declared.token.To.{To}
@@ -11,21 +13,9 @@ use Rattle.semantics.specs.declared.program.Op.TheVariants.{Lit}
 use Rattle.semantics.specs.Program.{Instr, Program, instr_at}
 use Rattle.semantics.specs.Rule.{token}
 use Rattle.law_net.proofs.Orders.{shuffled, Part, ◌⊕◌}
-use Rattle.law_reuse.proofs.Members.{contains_cases, contains_none}
 use Rattle.law_fold.specs.Folds.{fires_lit, IsValue, Sends, Settles, settled, fired, Clumped, Pairs, Ready}
 use Rattle.law_fold.proofs.FoldRules.{settles_map, sends_grow, settles_then, settles_beside, settles_after}
 use Rattle.law_fold.proofs.Leading.{stand_join, settles_join}
-
--- what is in a list, put first
-pub one_out : {X : Type 0} (xs : List X) (x : X) → Contains xs x → (rest : List X) × IsPermutation xs (x ∷ rest)
-one_out [] x inside = absurd (contains_none x inside)
-one_out {X} (y ∷ xs) x inside = go (contains_cases y xs x inside) (one_out xs x)
-  where
-    go : (y ≡ x) ⊎ Contains xs x → (Contains xs x → (rest : List X) × IsPermutation xs (x ∷ rest)) → (rest : List X) × IsPermutation (y ∷ xs) (x ∷ rest)
-    go (inl e) more = (xs, subst (λ (z : X). IsPermutation (y ∷ xs) (z ∷ xs)) e (IsPermutation-refl _))
-    go (inr c) more =
-        let r = more c in
-        (y ∷ r.0, IsPermutation-trans _ _ _ (IsPermutation-cons y xs (x ∷ r.0) r.1) (shuffled ((y ∷ []) ∷ (x ∷ []) ∷ r.0 ∷ []) (Part 0 ⊕ (Part 1 ⊕ Part 2)) (Part 1 ⊕ (Part 0 ⊕ Part 2)) refl))
 
 pub two_out : {X : Type 0} (xs : List X) (x y : X) → Contains xs x → Contains xs y → (x ≡ y → ⊥) → (rest : List X) × IsPermutation xs (x ∷ y ∷ rest)
 two_out {X} xs x y inx iny apart =

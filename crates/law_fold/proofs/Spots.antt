@@ -3,13 +3,13 @@ use Rattle.std.proofs.Common.{◌≡◌, refl, sym, ap, ◌∙◌, subst, ℕ, �
 use Rattle.std.specs.Prelude.{slice_get, ◌&&◌, not}
 use Rattle.std.proofs.lemmas.Bool.{cases_lt}
 use Rattle.std.proofs.lemmas.List.Elements.{Contains-append_cases}
-use Rattle.std.proofs.lemmas.Option.{slice_get_within}
+use Rattle.std.proofs.lemmas.Option.{slice_get_within, same_Some}
+use Rattle.lemmas.proofs.Contains.{contains_get}
 use Rattle.semantics.specs.Program.{Instr, CodeBlock, Program, first_of, instr_at}
 use Rattle.semantics.specs.Plan.{Plan}
 use Rattle.semantics.specs.Orderly.{same_block}
 use Rattle.code.specs.Sound.{IsSound}
-use Rattle.law_net.proofs.Ports.{same_in}
-use Rattle.law_reuse.proofs.Stands.{some_same, first_in, one_block, Found, found}
+use Rattle.law_reuse.proofs.Stands.{one_block, Found, found}
 use Rattle.law_reuse.proofs.Stands as Places
 use Rattle.law_reuse.proofs.Claims.{holder_here}
 use Rattle.law_once.proofs.SpreadSteps.{slot_same}
@@ -17,13 +17,14 @@ use Rattle.semantics.specs.Holders.{holder_of, holder_at}
 use Rattle.operators.specs.declared.Binary.{Binary}
 use Rattle.semantics.specs.declared.program.Dest.{Dest}
 use Rattle.semantics.specs.declared.program.Op.TheVariants.{Apply2, Lit}
+use Rattle.semantics.proofs.BlockPlaces.{first_in, same_in}
 use Rattle.folding.specs.Folds.{is_folded}
 use Rattle.folding.specs.Places.{layout_of, folds_at, gone_at, new_place}
 use Rattle.folding.specs.Moved.{is_shut, new_dest, moved_dests}
 use Rattle.folding.specs.Laws.{dests_of}
 use Rattle.folding.proofs.Standing.{keeps_order, stands_at, comes_from}
 use Rattle.folding.proofs.Taken.{leaves_out}
-use Rattle.folding.proofs.SoundLists.{contains_get, moved_back}
+use Rattle.folding.proofs.SoundLists.{moved_back}
 use Rattle.folding.proofs.Pairs.{closed_uses}
 use Rattle.folding.proofs.Cases.{KeptAt, FoldCase, is_kept, is_right, is_left, fold_cases}
 use Rattle.folding.proofs.Plain.{PlainAt}
@@ -155,7 +156,7 @@ module _ (p : Plan) (s : IsSound p) where
       subst (λ (x : ℕ). same_block Q.blocks (first_in Q.blocks b + new_place (layout_of p c) n) x ≡ true) e
       (same_in Q.blocks b (new_place (layout_of p c) n) (new_place (layout_of p c) n) (kept_block p c) (new_block p s b c at_b) low low) in
       let eb : b ≡ b2 = one_block Q.blocks b b2 (new_place (layout_of p c) n) (new_place (layout_of p c2) n2) (kept_block p c) (kept_block p c2) (new_block p s b c at_b) (new_block p s b2 c2 at_b2) low low2 one in
-      let ec : c ≡ c2 = some_same c c2 (sym at_b ∙ ap (slice_get P.blocks) eb ∙ at_b2) in
+      let ec : c ≡ c2 = same_Some c c2 (sym at_b ∙ ap (slice_get P.blocks) eb ∙ at_b2) in
       let f = ap (first_of Q) eb in
       let l2 = ap (λ (c : CodeBlock). new_place (layout_of p c) n2) ec in
       let en : n ≡ n2 =
@@ -179,7 +180,7 @@ module _ (p : Plan) (s : IsSound p) where
       let one : same_block P.blocks (first_in P.blocks b + n) (first_in P.blocks A.b + A.n) ≡ true =
       subst (λ (x : ℕ). same_block P.blocks (first_in P.blocks b + n) x ≡ true) A.place (same_in P.blocks b n n c at_b low low) in
       let eb : b ≡ A.b = one_block P.blocks b A.b n A.n c A.c at_b A.block low low2 one in
-      let ec : c ≡ A.c = some_same c A.c (sym at_b ∙ ap (slice_get P.blocks) eb ∙ A.block) in
+      let ec : c ≡ A.c = same_Some c A.c (sym at_b ∙ ap (slice_get P.blocks) eb ∙ A.block) in
       let f = ap (first_of P) eb in let place = A.place in
       let en : n ≡ A.n = omega (arith, place, f) in
       (λ k. plain_at p (ec k) (en k)) ∙ (λ k. not (A.plain.folded k) && is_nil (A.plain.unused k))

@@ -1,7 +1,7 @@
 -- What one destination makes, in the old code and in the new one.
 use Rattle.std.proofs.Common.{◌≡◌, refl, sym, ap, ◌∙◌, subst, ℕ, ℤ, zero, suc, ◌+◌, ◌-◌, ◌<◌, ◌≤◌, ◌⊎◌, inl, inr, Bool, true, false, true≢false, ◌||◌, List, [], ◌∷◌, ◌++◌, length, Option, Some, None, Contains, IsPermutation, append-nil, if◌then◌else◌, arith}
 use Rattle.std.specs.Prelude.{slice_get, ◌&&◌, not}
-use Rattle.std.proofs.lemmas.Option.{slice_get_within}
+use Rattle.std.proofs.lemmas.Option.{slice_get_within, same_Some}
 use Rattle.std.proofs.lemmas.List.Concat.{flat_map-append}
 use Rattle.std.proofs.lemmas.List.Sorted.{IsPermutation-refl}
 use Rattle.tags.specs.declared.value.Value.TheVariants.{Int}
@@ -22,7 +22,7 @@ use Rattle.folding.specs.Places.{layout_of, folds_at, gone_at, new_place}
 use Rattle.folding.specs.Moved.{new_dest, moved_dest, moved_dests}
 use Rattle.folding.specs.Laws.{dests_of, SparesLiterals}
 use Rattle.folding.proofs.Standing.{keeps_order}
-use Rattle.folding.proofs.Taken.{leaves_out, get_there}
+use Rattle.folding.proofs.Taken.{leaves_out}
 use Rattle.folding.proofs.Pairs.{closed_one, closed_in, closed_uses, given, wanted_one, wanted, uses_in, pairs_match}
 use Rattle.folding.proofs.Cases.{value_at, KeptAt, FoldedAt, RightAt, LeftAt, FoldCase, is_kept, is_right, is_left, fold_cases, closed_by}
 use Rattle.law_once.specs.Spreads.{ip_word, ip_token}
@@ -31,14 +31,13 @@ use Rattle.law_fold.specs.Kept.{slotted}
 use Rattle.law_fold.proofs.FoldRules.{settles_map, sends_with, lit_nodes}
 use Rattle.law_fold.proofs.Spots.{plain_of, kept_of}
 use Rattle.law_fold.proofs.Spots.{stays as stands_still}
-use Rattle.law_reuse.proofs.Stands.{some_same}
-use Rattle.folding.proofs.SoundLists.{contains_get}
 use Rattle.folding.proofs.Plain.{PlainAt}
 use Rattle.std.proofs.lemmas.List.Elements.{Contains-append_left, Contains-append_right, Contains-append_cases}
+use Rattle.lemmas.proofs.Contains.{contains_get, contains_head}
+use Rattle.lemmas.proofs.SliceGet.{get_some}
 use Rattle.law_fold.proofs.Closed.{lit_or, any_shut, gone_some, gone_silent}
 use Rattle.law_fold.proofs.Uses.{given_has, moved_has, lit_some}
 use Rattle.law_fold.proofs.Numbering.{is_nil, plain_at}
-use Rattle.law_reuse.proofs.Members.{contains_head}
 use Rattle.law_fold.proofs.Leading.{stand_one, operand, operands, news, Made, all_made, Whole, whole_made, whole_both}
 
 module _ (kind : Word → Type 0) (of_value : (z : ℤ) → kind (Word.Val (Int z))) (P Q : Program) (g h : ℕ → ℕ) (p : Plan) (c : CodeBlock) (F E : ℕ) (spares : SparesLiterals c)
@@ -179,7 +178,7 @@ module _ (kind : Word → Type 0) (of_value : (z : ℤ) → kind (Word.Val (Int 
 
         -- a destination of it
         use_of : (i2 : Instr) (u : Dest) → instr_at P (F + m) ≡ Some i2 → Contains (i2.firsts ++ i2.seconds) u → (t : Bool) × (v : ℕ) × (slice_get (dests_of j t) v ≡ Some u)
-        use_of i2 u at2 k = go (Contains-append_cases j.firsts j.seconds u (subst (λ (i : Instr). Contains (i.firsts ++ i.seconds) u) (some_same i2 j (sym at2 ∙ there_old m j at_m)) k))
+        use_of i2 u at2 k = go (Contains-append_cases j.firsts j.seconds u (subst (λ (i : Instr). Contains (i.firsts ++ i.seconds) u) (same_Some i2 j (sym at2 ∙ there_old m j at_m)) k))
           where
             go : Contains j.firsts u ⊎ Contains j.seconds u → (t : Bool) × (v : ℕ) × (slice_get (dests_of j t) v ≡ Some u)
             go (inl k) = let r = contains_get j.firsts u k in (false, r.0, r.1)
@@ -204,7 +203,7 @@ module _ (kind : Word → Type 0) (of_value : (z : ℤ) → kind (Word.Val (Int 
               let M = use_plain r.0 r.1 u r.2 L in
               let low = inside m r.1 j r.0 u at_m r.2 in
               let up = ahead m r.1 j r.0 u at_m r.2 in
-              let o = get_there c.instrs (m + u.ahead) low in
+              let o = get_some c.instrs (m + u.ahead) low in
               let order = keeps_order p c m (m + u.ahead) (omega (arith, up)) low stays in
               let kept = kept_of p c (m + u.ahead) M.folded in
               let here = stands_still p c (m + u.ahead) o.0 o.1 M.unused in
@@ -347,7 +346,7 @@ module _ (kind : Word → Type 0) (of_value : (z : ℤ) → kind (Word.Val (Int 
             by_uses j at_m (x ∷ xs) e (inr l) = lit_made K j l.0 at_m l.1 x xs e
 
             at_instr : (o : Option Instr) → slice_get c.instrs m ≡ o → MadeHere f n w (d ∷ [])
-            at_instr None e = absurd (let k = m_low in let r = get_there c.instrs m k in let q : Some r.0 ≡ None = sym r.1 ∙ e in cc)
+            at_instr None e = absurd (let k = m_low in let r = get_some c.instrs m k in let q : Some r.0 ≡ None = sym r.1 ∙ e in cc)
             at_instr (Some j) e = by_uses j e (closed_uses p c m) refl (lit_or p c m j e)
 
   -- ---- WHOLE LISTS

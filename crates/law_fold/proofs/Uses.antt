@@ -4,28 +4,22 @@ use Rattle.std.specs.Prelude.{slice_get, ◌&&◌, not}
 use Rattle.std.proofs.lemmas.List.Concat.{flat_map-append}
 use Rattle.std.proofs.lemmas.List.Elements.{Contains-append_left, Contains-append_right, Contains-append_cases}
 use Rattle.std.proofs.lemmas.List.Sorted.{Contains-permutation}
+use Rattle.std.proofs.lemmas.Bool.{and_parts, not-true}
+use Rattle.lemmas.proofs.Contains.{contains_cases, contains_head, contains_none}
+use Rattle.lemmas.proofs.SliceGet.{get_some}
 use Rattle.semantics.specs.declared.program.Dest.{Dest}
 use Rattle.semantics.specs.declared.program.Op.TheVariants.{Lit}
 use Rattle.semantics.specs.Program.{Instr, CodeBlock}
 use Rattle.semantics.specs.Plan.{Plan}
-use Rattle.law_reuse.proofs.Members.{contains_head, contains_cases, contains_none}
 use Rattle.folding.specs.Folds.{is_folded, is_closed}
 use Rattle.folding.specs.Places.{layout_of, folds_at, gone_at}
 use Rattle.folding.specs.Moved.{is_shut, new_dest, moved_dest, moved_dests}
 use Rattle.folding.specs.Laws.{dests_of, SparesLiterals}
-use Rattle.folding.proofs.Taken.{get_there, leaves_out}
+use Rattle.folding.proofs.Taken.{leaves_out}
 use Rattle.folding.proofs.Pairs.{closed_one, closed_in, closed_uses, given, wanted_one, wanted, uses_in, pairs_match}
 use Rattle.folding.proofs.Cases.{FoldCase, is_kept, is_right, is_left, fold_cases}
 use Rattle.folding.proofs.Plain.{kept_open}
 use Rattle.law_fold.proofs.Closed.{gone_some, closed_or}
-
-both_true : (a b : Bool) → (a && b) ≡ true → (a ≡ true) × (b ≡ true)
-both_true true b e = (refl, e)
-both_true false b e = absurd (true≢false (sym e))
-
-not_true : (a : Bool) → not a ≡ true → a ≡ false
-not_true false e = refl
-not_true true e = absurd (true≢false (sym e))
 
 some_of : (xs : List ℕ) → (xs ≡ [] → ⊥) → (x : ℕ) × Contains xs x
 some_of [] full = absurd (full refl)
@@ -53,8 +47,8 @@ module _ (p : Plan) (c : CodeBlock) where
       here : (b : Bool) → (is_folded (folds_at (layout_of p c) (n + d.ahead)) && not (is_closed (folds_at (layout_of p c) (n + d.ahead)) d.port)) ≡ b → Contains (if b then (n + d.ahead) ∷ [] else []) x → Wants n (d ∷ ds) x
       here false e k = absurd (contains_none x k)
       here true e k =
-          let b = both_true (is_folded (folds_at (layout_of p c) (n + d.ahead))) (not (is_closed (folds_at (layout_of p c) (n + d.ahead)) d.port)) e in
-          record { k = 0; d = d; named = refl; to = same (contains_cases (n + d.ahead) [] x k); folded = b.0; still = not_true (is_closed (folds_at (layout_of p c) (n + d.ahead)) d.port) b.1 }
+          let b = and_parts (is_folded (folds_at (layout_of p c) (n + d.ahead))) (not (is_closed (folds_at (layout_of p c) (n + d.ahead)) d.port)) e in
+          record { k = 0; d = d; named = refl; to = same (contains_cases (n + d.ahead) [] x k); folded = b.0; still = not-true (is_closed (folds_at (layout_of p c) (n + d.ahead)) d.port) b.1 }
         where
           same : (n + d.ahead ≡ x) ⊎ Contains [] x → n + d.ahead ≡ x
           same (inl e) = e
@@ -102,7 +96,7 @@ module _ (p : Plan) (c : CodeBlock) where
         go : (b : Bool) → gone_at (layout_of p c) (m + d.ahead) ≡ b → (x : Dest) × Contains (moved_dests (layout_of p c) m (dests_of j s)) x
         go false e = (new_dest (layout_of p c) m (m + d.ahead) d.port, moved_has m (dests_of j s) k d named (or_false (gone_at (layout_of p c) (m + d.ahead)) (is_closed (folds_at (layout_of p c) (m + d.ahead)) d.port) e o))
         go true e =
-            let o = get_there c.instrs (m + d.ahead) (inside m k j s d at named) in
+            let o = get_some c.instrs (m + d.ahead) (inside m k j s d at named) in
             let x = some_of (closed_uses p c (m + d.ahead)) (gone_some p c (m + d.ahead) o.0 o.1 e) in
             let W : Wants m (dests_of j s) x.0 = wanted_of m (dests_of j s) x.0 (Contains-permutation _ _ x.0 (pairs_match p c spares inside m j s at) (given_has m (dests_of j s) k d x.0 named x.1)) in (
               new_dest (layout_of p c) m (m + W.d.ahead) W.d.port,

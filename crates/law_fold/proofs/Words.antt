@@ -2,6 +2,7 @@
 use Rattle.std.proofs.Common.{◌≡◌, refl, sym, ap, subst, ℕ, zero, suc, ◌+◌, ◌⊎◌, inl, inr, Bool, true, false, ℤ, List, [], ◌∷◌, ◌++◌, Option, Some, None, Contains}
 use Rattle.std.specs.Prelude.{if◌then◌else◌, nat_lt, ◌==◌, take, ⊤}
 use Rattle.std.proofs.lemmas.List.Sorted.{Contains-permutation, IsPermutation-sym}
+use Rattle.lemmas.proofs.Contains.{contains_cases, contains_none, contains_tail}
 use Rattle.tags.specs.declared.value.Value.{Value}
 use Rattle.tags.specs.declared.value.Value.TheVariants.{Int}
 use Rattle.tags.specs.declared.token.Port.{Port}
@@ -20,7 +21,6 @@ use Rattle.semantics.specs.declared.program.Op.TheVariants.{Apply1, Apply2, Appl
 use Rattle.semantics.specs.Program.{Instr, Program, first_of, instr_at}
 use Rattle.semantics.specs.Rule.{token, signal, Seat, at_dest, to_each, to_all, beyond, back_to, answer_to, landing_at, Outcome, Becomes, Excluded, fires, asks_for, puts, fire_one, fire_two, meets, opens, takes, gives, drains, alone, on_left, outcome_of, rule_at, slot_of}
 use Rattle.semantics.specs.Machine.{CellState, Vacant, Full, Deferred, Store as MStore, input_tokens, at_start, answer, answers, put_at, with_slot_in, with_cell, slot_in, slot_used, Fires, Fetches, Stores, Happens}
-use Rattle.law_reuse.proofs.Members.{contains_tail, contains_cases, contains_none}
 use Rattle.law_once.specs.Spreads.{is_answered}
 use Rattle.law_fold.specs.Folds.{Plain, Fits}
 use Rattle.law_fold.proofs.FoldRules.{FitsWord, FitsSlot}

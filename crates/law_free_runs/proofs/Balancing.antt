@@ -4,7 +4,7 @@ use Rattle.std.specs.Prelude.{IsPermutation, ◌==◌, if◌then◌else◌, map,
 use Rattle.std.proofs.lemmas.Bool.{eqb-true, eqb-false, eq-eqb, ne_eqb, ltb-true, ltb-false}
 use Rattle.std.proofs.lemmas.List.{append-nil}
 use Rattle.std.proofs.lemmas.List.Sorted.{IsPermutation-refl, IsPermutation-sym, IsPermutation-trans, IsPermutation-append, IsPermutation-append_comm}
-use Rattle.law_determinacy.proofs.Perm.{permutation_cancel}
+use Rattle.lemmas.proofs.Permutations.{permutation_cancel, permutation_exchange}
 use Rattle.tags.specs.declared.token.Token.{Token}
 use Rattle.semantics.specs.Pool.{LeavesPool}
 use Rattle.mesh.specs.declared.view.Commit.{Commit}
@@ -12,7 +12,7 @@ use Rattle.mesh.specs.declared.view.Deed.{Deed}
 use Rattle.mesh.specs.declared.view.Deed.TheVariants.{Committed, Posted, FoundFull, Took, FoundEmpty, SawLive, Stopped, SawStop}
 use Rattle.mesh.specs.Deeds.{posted, taken, commits_of, commits_by, if_by, entry}
 use Rattle.law_free_runs.specs.Laws.{made_of, spent_of, joined, all_posted, all_taken, all_of, WhatIsLeft}
-use Rattle.law_free_runs.proofs.Reordering.{swapped, behind}
+use Rattle.law_free_runs.proofs.Reordering.{behind}
 
 abbrev Tokens : Type 0
 Tokens = List Token
@@ -32,7 +32,7 @@ all_perm (suc n) f g h = IsPermutation-append (all_of n f) (all_of n g) (f n) (g
 crossed : (a b c d : Tokens) → IsPermutation ((a ++ b) ++ (c ++ d)) ((a ++ c) ++ (b ++ d))
 crossed a b c d =
     let one = same_perm ((a ++ b) ++ (c ++ d)) (a ++ (b ++ (c ++ d))) (append_assoc a b (c ++ d)) in
-    let two = behind a (b ++ (c ++ d)) (c ++ (b ++ d)) (swapped b c d) in
+    let two = behind a (b ++ (c ++ d)) (c ++ (b ++ d)) (permutation_exchange b c d) in
     let three = same_perm (a ++ (c ++ (b ++ d))) ((a ++ c) ++ (b ++ d)) (sym (append_assoc a c (b ++ d))) in
     then_perm one (then_perm two three)
 
@@ -86,9 +86,9 @@ history n start last (c ∷ log) leaves =
     let ih = history n (c.made ++ rest) last log leaves.3 in
     let one = IsPermutation-append start (c.spent ++ rest) (c.made ++ m) (c.made ++ m) leaves.1 (IsPermutation-refl (c.made ++ m)) in
     let two = same_perm ((c.spent ++ rest) ++ (c.made ++ m)) (c.spent ++ (rest ++ (c.made ++ m))) (append_assoc c.spent rest (c.made ++ m)) in
-    let three = behind c.spent (rest ++ (c.made ++ m)) (c.made ++ (rest ++ m)) (swapped rest c.made m) in
+    let three = behind c.spent (rest ++ (c.made ++ m)) (c.made ++ (rest ++ m)) (permutation_exchange rest c.made m) in
     let four = behind c.spent (c.made ++ (rest ++ m)) (last ++ s) (then_perm (same_perm (c.made ++ (rest ++ m)) ((c.made ++ rest) ++ m) (sym (append_assoc c.made rest m))) ih) in
-    then_perm one (then_perm two (then_perm three (then_perm four (swapped c.spent last s))))
+    then_perm one (then_perm two (then_perm three (then_perm four (permutation_exchange c.spent last s))))
 
 -- element by element
 by_elements : (pick : Commit → Tokens) (n : ℕ) (log : List Commit) → ((e : ℕ) → n ≤ e → commits_by e log ≡ []) → IsPermutation (over pick log) (all_of n (λ e. over pick (commits_by e log)))
@@ -177,11 +177,11 @@ settled : (b m t h s p x start last ml sl : Tokens) → IsPermutation (b ++ (m +
     → IsPermutation (start ++ ml) (last ++ sl) → IsPermutation last (h ++ x)
 settled b m t h s p x start last ml sl balance boxes begins made spent went =
     let left = then_perm (IsPermutation-append_comm t (b ++ m)) (same_perm ((b ++ m) ++ t) (b ++ (m ++ t)) (append_assoc b m t)) in
-    let inner = then_perm (behind s p (t ++ x) boxes) (swapped s t x) in
-    let right = then_perm (behind h (s ++ p) (t ++ (s ++ x)) inner) (swapped h t (s ++ x)) in
+    let inner = then_perm (behind s p (t ++ x) boxes) (permutation_exchange s t x) in
+    let right = then_perm (behind h (s ++ p) (t ++ (s ++ x)) inner) (permutation_exchange h t (s ++ x)) in
     let less = permutation_cancel t (b ++ m) (h ++ (s ++ x)) (then_perm left (then_perm balance right)) in
     let log = then_perm (IsPermutation-append b start m ml (IsPermutation-sym start b begins) (IsPermutation-sym ml m made)) (then_perm went (IsPermutation-append last last sl s (IsPermutation-refl last) spent)) in
-    let whole = then_perm (IsPermutation-append_comm s last) (then_perm (IsPermutation-sym (b ++ m) (last ++ s) log) (then_perm less (swapped h s x))) in
+    let whole = then_perm (IsPermutation-append_comm s last) (then_perm (IsPermutation-sym (b ++ m) (last ++ s) log) (then_perm less (permutation_exchange h s x))) in
     permutation_cancel s last (h ++ x) whole
 
 pub what_is_left : WhatIsLeft

@@ -9,6 +9,8 @@ use Rattle.std.proofs.lemmas.Option.{slice_get-get_or, slice_get_within, get_or_
 use mathlib.Core.Option.{some}
 use mathlib.Core.List.{IsPrefix}
 use lib.ListN.{get_elem?}
+use Rattle.lemmas.proofs.SliceGet.{get_some}
+use Rattle.lemmas.proofs.Alls.{all_right}
 use Rattle.tags.specs.declared.token.Token.{Token}
 use Rattle.semantics.specs.Machine.{Machine, Events, at_start}
 use Rattle.semantics.specs.Pool.{LeavesPool}
@@ -30,10 +32,10 @@ use Rattle.law_free_runs.specs.Laws.{Came, joined, all_of}
 use Rattle.law_free_runs.specs.Ends.{Ran, AllRan, Ended, EndsFreely}
 use Rattle.law_free_runs.proofs.Running.{run_join, leaves_same, run_of_history}
 use Rattle.law_free_runs.proofs.Balancing.{same_perm, then_perm, all_perm, all_both, what_is_left}
-use Rattle.law_free_runs.proofs.Showing.{found, at_all, made_by, count_events}
+use Rattle.law_free_runs.proofs.Showing.{at_all, made_by, count_events}
 use Rattle.law_free_runs.proofs.Weaving.{Woven, weave, same_entries, all_below}
 use Rattle.law_free_runs.proofs.Joining.{no_account, at_account, tokens_by, box, box_is}
-use Rattle.schedule.proofs.Staying.{near_in, last_all}
+use Rattle.schedule.proofs.Staying.{near_in}
 
 -- what is known of the elements and of their seats
 record Joined (g : Setting) (s : SeatView) (olds news : List Held) (kept : ℕ → List Token) (blocks : ℕ → List Block) : Type 0 where
@@ -205,7 +207,7 @@ module _ (g : Setting) (s : SeatView) (olds news : List Held) (kept : ℕ → Li
       pool_last = then_perm came.pool left
 
       near_coming : All (IsNearToken (bounds_of g)) coming_tokens
-      near_coming = last_all (IsNearToken (bounds_of g)) (tokens_in news) coming_tokens (All-permutation (IsNearToken (bounds_of g)) came.machine.pool (tokens_in news ++ coming_tokens) pool_last came.near)
+      near_coming = all_right (IsNearToken (bounds_of g)) (tokens_in news) coming_tokens (All-permutation (IsNearToken (bounds_of g)) came.machine.pool (tokens_in news ++ coming_tokens) pool_last came.near)
 
       sound_end : IsSoundState (coming g news coming_tokens)
       sound_end = delivered_sound (record { setting = g; lanes = news }) coming_tokens near_coming (record { setting = x.good; count = x.new_count; lanes = new_lanes })
@@ -264,7 +266,7 @@ module _ (g : Setting) (s : SeatView) (olds news : List Held) (kept : ℕ → Li
 pub ends_freely : EndsFreely
 ends_freely g good s count olds news kept blocks elements starts leaves has agree final seats sound new_count ran inputs before began =
     let some : 0 < g.elements = good.some in
-    let first = found news 0 (subst (λ (k : ℕ). 0 < k) (sym new_count) some) in
+    let first = get_some news 0 (subst (λ (k : ℕ). 0 < k) (sym new_count) some) in
     let joined_all : Joined g s olds news kept blocks = record {
       good = good;
       elements = elements;

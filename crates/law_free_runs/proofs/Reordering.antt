@@ -1,23 +1,16 @@
 -- Tokens are addressed, so only an element's own blocks spend them: a block whose tokens are in the pool may be taken first.
-use Rattle.std.proofs.Common.{◌≡◌, ◌≢◌, refl, sym, ◌∙◌, ap, subst, ℕ, suc, Bool, true, false, List, [], ◌∷◌, ◌++◌, length, append_assoc, ⊎_elim}
+use Rattle.std.proofs.Common.{◌≡◌, ◌≢◌, refl, sym, ◌∙◌, ap, subst, ℕ, suc, Bool, true, false, List, [], ◌∷◌, ◌++◌, length, ⊎_elim}
 use Rattle.std.specs.Prelude.{All, IsPermutation, ◌==◌, map}
 use Rattle.std.proofs.lemmas.Bool.{eqb-true, eqb-false}
 use Rattle.std.proofs.lemmas.List.Elements.{All-contains}
-use Rattle.std.proofs.lemmas.List.Sorted.{IsPermutation-refl, IsPermutation-sym, IsPermutation-trans, IsPermutation-append, IsPermutation-append_comm}
-use Rattle.law_determinacy.proofs.Perm.{within_to, Meet, permutation_cancel, permutation_meet}
+use Rattle.std.proofs.lemmas.List.Sorted.{IsPermutation-refl, IsPermutation-sym, IsPermutation-trans, IsPermutation-append}
+use Rattle.lemmas.proofs.Permutations.{within_to, Meet, permutation_cancel, permutation_meet, permutation_exchange}
+use Rattle.lemmas.proofs.Lists.{same_head, same_tail}
 use Rattle.tags.specs.declared.token.Token.{Token}
 use Rattle.tags.specs.Addresses.{element_of}
 use Rattle.law_free_runs.specs.Blocks.{Block, blocks_by, if_by, entry_of, LeavesTokens}
 use Rattle.law_free_runs.specs.Laws.{TakesFirst}
 use Rattle.law_free_runs.proofs.Running.{leaves_same, by_same, by_other}
-
--- the middle list comes to the front
-pub swapped : (as' bs cs : List Token) → IsPermutation (as' ++ (bs ++ cs)) (bs ++ (as' ++ cs))
-swapped as' bs cs =
-    let one : as' ++ (bs ++ cs) ≡ (as' ++ bs) ++ cs = sym (append_assoc as' bs cs) in
-    let two : (bs ++ as') ++ cs ≡ bs ++ (as' ++ cs) = append_assoc bs as' cs in
-    let mid = IsPermutation-append (as' ++ bs) (bs ++ as') cs cs (IsPermutation-append_comm as' bs) (IsPermutation-refl cs) in
-    subst (λ (l : List Token). IsPermutation l (bs ++ (as' ++ cs))) (sym one) (subst (λ (l : List Token). IsPermutation ((as' ++ bs) ++ cs) l) two mid)
 
 -- a list behind another one may be in another order
 pub behind : (as' bs cs : List Token) → IsPermutation bs cs → IsPermutation (as' ++ bs) (as' ++ cs)
@@ -28,12 +21,6 @@ Taken n e b later log rest last = (left : List Block) × LeavesTokens n (b.made 
 
 abbrev Mine : ℕ → ℕ → List Token → Type 0
 Mine n e ts = All (λ (t : Token). element_of n t.to ≡ e) ts
-
-head_is : (x b : Block) (xs bs : List Block) → x ∷ xs ≡ b ∷ bs → x ≡ b
-head_is x b xs bs e = cc
-
-tail_is : (x b : Block) (xs bs : List Block) → x ∷ xs ≡ b ∷ bs → xs ≡ bs
-tail_is x b xs bs e = cc
 
 -- the history's first block is of that element, or not
 first_own : (x : Block) (log : List Block) (e : ℕ) → x.element ≡ e → blocks_by e (x ∷ log) ≡ x ∷ blocks_by e log
@@ -49,7 +36,7 @@ mine_spent n e b later (x ∷ log) tokens last leaves is = by_case (x.element ==
   by_case : (t : Bool) → (x.element == e) ≡ t → (blocks_by e log ≡ b ∷ later → Mine n e b.spent) → Mine n e b.spent
   by_case true t again =
       let same = eqb-true x.element e t in
-      let one = head_is x b (blocks_by e log) later (sym (first_own x log e same) ∙ is) in
+      let one = same_head x b (blocks_by e log) later (sym (first_own x log e same) ∙ is) in
       subst (λ (y : Block). Mine n e y.spent) one (subst (λ (k : ℕ). Mine n k x.spent) same leaves.2)
   by_case false t again = again (sym (first_other x log e (eqb-false x.element e t)) ∙ is)
 
@@ -68,9 +55,9 @@ taken_other : (n e : ℕ) (x b : Block) (later log : List Block) (tokens rest la
     → (ws : List Token) → IsPermutation rest (x.spent ++ ws)
     → Taken n e b later log (x.made ++ ws) last → Taken n e b later (x ∷ log) rest last
 taken_other n e x b later log tokens rest last other leaves is ws meets ih =
-    let before = IsPermutation-trans (b.made ++ rest) (b.made ++ (x.spent ++ ws)) (x.spent ++ (b.made ++ ws)) (behind b.made rest (x.spent ++ ws) meets) (swapped b.made x.spent ws) in (
+    let before = IsPermutation-trans (b.made ++ rest) (b.made ++ (x.spent ++ ws)) (x.spent ++ (b.made ++ ws)) (behind b.made rest (x.spent ++ ws) meets) (permutation_exchange b.made x.spent ws) in (
       x ∷ ih.0,
-      (b.made ++ ws, before, leaves.2, leaves_same n (x.made ++ (b.made ++ ws)) (b.made ++ (x.made ++ ws)) (map entry_of ih.0) last (swapped x.made b.made ws) ih.1),
+      (b.made ++ ws, before, leaves.2, leaves_same n (x.made ++ (b.made ++ ws)) (b.made ++ (x.made ++ ws)) (map entry_of ih.0) last (permutation_exchange x.made b.made ws) ih.1),
       first_other x ih.0 e other ∙ ih.2,
       (λ i ne. ap (λ (l : List Block). if_by i x ++ l) (ih.3 i ne)),
       ap suc ih.4,
@@ -92,8 +79,8 @@ takes_first n e b later (x ∷ log) tokens rest last leaves is perm =
       by_case true t again =
           let same = eqb-true x.element e t in
           let cons = sym (first_own x log e same) ∙ is in
-          let one = head_is x b (blocks_by e log) later cons in
-          let all = tail_is x b (blocks_by e log) later cons in
+          let one = same_head x b (blocks_by e log) later cons in
+          let all = same_tail x b (blocks_by e log) later cons in
           let perm_x = subst (λ (y : Block). IsPermutation tokens (y.spent ++ rest)) (sym one) perm in
           let taken = taken_own n e x log tokens rest last same leaves perm_x in
           subst (λ (ls : List Block). Taken n e b ls (x ∷ log) rest last) all (subst (λ (y : Block). Taken n e y (blocks_by e log) (x ∷ log) rest last) one taken)
@@ -104,6 +91,6 @@ takes_first n e b later (x ∷ log) tokens rest last leaves is perm =
           let both = IsPermutation-trans (b.spent ++ rest) tokens (x.spent ++ leaves.0) (IsPermutation-sym tokens (b.spent ++ rest) perm) leaves.1 in
           ⊎_elim (λ (m : Meet b.spent x.spent). absurd (no_meet n e x b other mine leaves.2 m))
           (λ h.
-          let next = IsPermutation-trans (x.made ++ leaves.0) (x.made ++ (b.spent ++ h.0)) (b.spent ++ (x.made ++ h.0)) (behind x.made leaves.0 (b.spent ++ h.0) h.2) (swapped x.made b.spent h.0) in
+          let next = IsPermutation-trans (x.made ++ leaves.0) (x.made ++ (b.spent ++ h.0)) (b.spent ++ (x.made ++ h.0)) (behind x.made leaves.0 (b.spent ++ h.0) h.2) (permutation_exchange x.made b.spent h.0) in
           taken_other n e x b later log tokens rest last other leaves here h.0 h.1 (again (x.made ++ leaves.0) (x.made ++ h.0) leaves.3 here next))
           (permutation_meet b.spent x.spent rest leaves.0 both)

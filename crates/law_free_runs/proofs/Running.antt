@@ -1,9 +1,10 @@
 -- A legal history of blocks is one run of the machine.
-use Rattle.std.proofs.Common.{◌≡◌, ◌≢◌, refl, sym, ◌∙◌, ap, subst, ℕ, ◌*◌, ◌<◌, Bool, true, false, List, [], ◌∷◌, ◌++◌, append_assoc}
+use Rattle.std.proofs.Common.{◌≡◌, ◌≢◌, refl, sym, ◌∙◌, ap, subst, ℕ, ◌*◌, ◌<◌, Bool, List, [], ◌∷◌, ◌++◌, append_assoc}
 use Rattle.std.specs.Prelude.{All, IsPermutation, ◌==◌, if◌then◌else◌, map}
-use Rattle.std.proofs.lemmas.Bool.{ne_eqb, eq-eqb, eqb-true, eqb-false}
+use Rattle.std.proofs.lemmas.Bool.{ne_eqb, eq-eqb}
 use Rattle.std.proofs.lemmas.List.Elements.{All-append, All-head, All-tail}
 use Rattle.std.proofs.lemmas.List.Sorted.{IsPermutation-refl, IsPermutation-trans, IsPermutation-append_left, All-permutation}
+use Rattle.lemmas.proofs.Bools.{by_equality}
 use Rattle.tags.specs.declared.token.Token.{Token}
 use Rattle.semantics.specs.Program.{Program}
 use Rattle.semantics.specs.Machine.{Machine, Store, Size, Event, Events, Happens, Run}
@@ -48,10 +49,6 @@ by_same b later = ap (λ (t : Bool). (if t then b ∷ [] else []) ++ blocks_by b
 
 pub by_other : (b : Block) (later : List Block) (i : ℕ) → i ≢ b.element → blocks_by i (b ∷ later) ≡ blocks_by i later
 by_other b later i ne = ap (λ (t : Bool). (if t then b ∷ [] else []) ++ blocks_by i later) (ne_eqb b.element i (λ (s : b.element ≡ i). ne (sym s)))
-
-either : (P : Type 0) (i e : ℕ) → (i ≡ e → P) → (i ≢ e → P) → (t : Bool) → (i == e) ≡ t → P
-either P i e same other true is = same (eqb-true i e is)
-either P i e same other false is = other (eqb-false i e is)
 
 module _ (g : Setting) (good : IsGoodSetting g) where
   abbrev Near : Token → Type 0
@@ -131,7 +128,7 @@ module _ (g : Setting) (good : IsGoodSetting g) where
         blocks = subst (λ (bs : List Block). Blocks g i h.part bs (parts i)) (by_other b later i ne) h.blocks;
       } in
       let begun : (i : ℕ) → i < g.elements → Begins g n later (parts i) i
-      = λ i within. either (Begins g n later (parts i) i) i e (λ (same : i ≡ e). subst (λ (k : ℕ). Begins g n later (parts k) k) (sym same) here) (λ (ne : i ≢ e). elsewhere i within ne) (i == e) refl in
+      = λ i within. by_equality (Begins g n later (parts i) i) i e (λ (same : i ≡ e). subst (λ (k : ℕ). Begins g n later (parts k) k) (sym same) here) (λ (ne : i ≢ e). elsewhere i within ne) (i == e) refl in
       let came : Came g n later last parts = history later n last parts after.near after.bounded below (leaves_same g.elements n.pool (b.made ++ rest) (map entry_of later) last after.pool leaves) begun in
       record {
         machine = came.machine;

@@ -1,8 +1,10 @@
 -- From a legal history of blocks to what is known of the lanes, and to the report.
-use Rattle.std.proofs.Common.{◌≡◌, refl, sym, ◌∙◌, ap, subst, ℕ, zero, suc, ◌+◌, ◌<◌, Bool, true, false, List, [], ◌∷◌, ◌++◌, length, Option, Some, None, arith}
+use Rattle.std.proofs.Common.{◌≡◌, refl, sym, ◌∙◌, ap, subst, ℕ, suc, ◌+◌, ◌<◌, Bool, true, false, List, [], ◌∷◌, ◌++◌, length, Option, Some, None, arith}
 use Rattle.std.specs.Prelude.{slice_get, count_by, ◌==◌, if◌then◌else◌}
 use Rattle.std.proofs.lemmas.List.Sums.{sum_by-append, sum_by-cons}
 use Rattle.std.proofs.lemmas.List.Sorted.{IsPermutation-trans}
+use Rattle.std.proofs.lemmas.Option.{slice_get_within}
+use Rattle.lemmas.proofs.SliceGet.{get_some}
 use Rattle.tags.specs.declared.token.Token.{Token}
 use Rattle.semantics.specs.Machine.{Machine, Events, at_start}
 use Rattle.element.specs.Parts.{Part, IsPart}
@@ -16,10 +18,6 @@ use Rattle.law_free_runs.specs.Laws.{Came, BeganFreely, ShowsFreely, StopsFreely
 use Rattle.law_free_runs.proofs.Running.{run_of_history}
 
 -- LISTS
-pub found : {X : Type 0} (xs : List X) (i : ℕ) → i < length xs → (x : X) × (slice_get xs i ≡ Some x)
-found [] i low = absurd (let no : ⊥ = omega (arith, low) in no)
-found (y ∷ ys) zero low = (y, refl)
-found (y ∷ ys) (suc i) low = let within : i < length ys = omega (arith, low) in found ys i within
 
 points : {X : Type 0} (P : ℕ → X → Type 0) (k : ℕ) (xs : List X) → ((i : ℕ) (x : X) → slice_get xs i ≡ Some x → P (k + i) x) → AllFrom P k xs
 points P k [] all = tt
@@ -29,11 +27,6 @@ points P k (x ∷ xs) all =
 
 pub at_all : {X : Type 0} (P : ℕ → X → Type 0) (xs : List X) → ((i : ℕ) (x : X) → slice_get xs i ≡ Some x → P i x) → AllFrom P 0 xs
 at_all P xs all = points P 0 xs (λ i x e. let same : i ≡ 0 + i = omega arith in subst (λ (n : ℕ). P n x) same (all i x e))
-
-within_list : {X : Type 0} (xs : List X) (i : ℕ) (x : X) → slice_get xs i ≡ Some x → i < length xs
-within_list [] i x e = absurd (let no : ⊥ = cc in no)
-within_list (y ∷ ys) zero x e = omega arith
-within_list (y ∷ ys) (suc i) x e = let low : i < length ys = within_list ys i x e in omega (arith, low)
 
 -- COUNTS
 abbrev pub made_by : ℕ → Events → ℕ
@@ -84,11 +77,11 @@ began_freely g good inputs (first ∷ others) log last tokens count placed near 
     let start : Machine = at_start g.program inputs in
     let parts : ℕ → Part = λ e. (held_or first (slice_get (first ∷ others) e)).part in
     let begun : (e : ℕ) → e < g.elements → Begins g start log (parts e) e
-    = λ e low. let x = found (first ∷ others) e (subst (λ (n : ℕ). e < n) (sym count) low) in subst (λ (o : Option Held). Begins g start log (held_or first o).part e) (sym x.1) (begins e x.0 x.1).0 in
+    = λ e low. let x = get_some (first ∷ others) e (subst (λ (n : ℕ). e < n) (sym count) low) in subst (λ (o : Option Held). Begins g start log (held_or first o).part e) (sym x.1) (begins e x.0 x.1).0 in
     let came : Came g start log last parts = run_of_history g good log start last parts near bounded below leaves begun in
     let is : AllFrom (λ (i : ℕ) (h : Held). IsPart h.part came.machine.store) 0 (first ∷ others)
     = at_all (λ (i : ℕ) (h : Held). IsPart h.part came.machine.store) (first ∷ others)
-    (λ i h e. subst (λ (o : Option Held). IsPart (held_or first o).part came.machine.store) e (came.is i (subst (λ (n : ℕ). i < n) count (within_list (first ∷ others) i h e))).1) in
+    (λ i h e. subst (λ (o : Option Held). IsPart (held_or first o).part came.machine.store) e (came.is i (subst (λ (n : ℕ). i < n) count (slice_get_within (first ∷ others) i h e))).1) in
     let counts : AllFrom (λ (i : ℕ) (h : Held). h.made ≡ made_by i (events_in log)) 0 (first ∷ others)
     = at_all (λ (i : ℕ) (h : Held). h.made ≡ made_by i (events_in log)) (first ∷ others) (λ i h e. (begins i h e).1 ∙ sym (count_events i log)) in
     record {

@@ -2,6 +2,7 @@
 use Rattle.std.proofs.Common.{◌≡◌, refl, sym, ◌∙◌, ap, subst, ℕ, ◌<◌, ◌≤◌, Bool, true, false, List, [], ◌∷◌, ◌++◌}
 use Rattle.std.specs.Prelude.{◌==◌, if◌then◌else◌, map, nat_lt}
 use Rattle.std.proofs.lemmas.Bool.{eqb-true, eq-eqb, ltb-true, ltb-false}
+use Rattle.lemmas.proofs.Lists.{nothing_after}
 use Rattle.mesh.specs.declared.view.Commit.{Commit}
 use Rattle.mesh.specs.Deeds.{commits_by, entry}
 use Rattle.law_free_runs.specs.Blocks.{Block, blocks_by, if_by, commit_of, entry_of, AreBelow}
@@ -79,10 +80,6 @@ weave (c ∷ later) blocks same =
 pub same_entries : (log : List Block) → map entry (map commit_of log) ≡ map entry_of log
 same_entries [] = refl
 same_entries (b ∷ log) = ap (λ (l : List _). entry_of b ∷ l) (same_entries log)
-
-nothing_after : (xs ys : List Block) → xs ++ ys ≡ [] → ys ≡ []
-nothing_after [] ys h = h
-nothing_after (x ∷ xs) ys h = absurd (let no : ⊥ = cc in no)
 
 -- where no element from n on has a block, each block is of an element below n
 pub all_below : (n : ℕ) (log : List Block) → ((e : ℕ) → n ≤ e → blocks_by e log ≡ []) → AreBelow n log

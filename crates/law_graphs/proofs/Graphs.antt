@@ -5,13 +5,13 @@ use Rattle.std.proofs.lemmas.Option.{slice_get_within}
 use Rattle.semantics.specs.declared.program.Dest.{Dest}
 use Rattle.semantics.specs.declared.program.Op.TheVariants.{Link}
 use Rattle.std.specs.Prelude.{slice_get}
+use Rattle.lemmas.proofs.Alls.{all_at}
 use Rattle.semantics.specs.Graph.{Flow, Graph, flow_of}
 use Rattle.semantics.specs.Text.{HasText}
 use Rattle.semantics.specs.WellFormed.{WellFormed}
 use Rattle.semantics.specs.Program.{Instr, CodeBlock}
 use Rattle.semantics.specs.Plan.{Plan, landing}
 use Rattle.semantics.specs.Orderly.{inputs_in}
-use Rattle.law_determinacy.proofs.Resolved.{all_get}
 use Rattle.code.specs.Sound.{IsSound, IsSoundDest}
 use Rattle.law_reuse.specs.Theorem.{TakesInputs}
 use Rattle.expansion.specs.Expanded.{expanded}
@@ -33,7 +33,7 @@ pub expanded_is_sound : (g : Graph) → HasText g → WellFormed g → IsSound (
 expanded_is_sound g text well =
     let arcs = arcs_go_forward g text well in
     let p : Plan = expanded (flow_of g) in
-    is_sound g text well (λ b n c i at there. all_get IsShaped c.instrs n i (all_get AreShaped p.program.blocks b c (plans_are_shaped g well) at) there) arcs.lefts arcs.dests arcs.entries arcs.rights
+    is_sound g text well (λ b n c i at there. all_at IsShaped c.instrs n i (all_at AreShaped p.program.blocks b c (plans_are_shaped g well) at) there) arcs.lefts arcs.dests arcs.entries arcs.rights
 
 -- the last instruction of a landing stands in the block
 pub expanded_is_tidy : ExpandedIsTidy

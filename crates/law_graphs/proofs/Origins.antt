@@ -1,7 +1,8 @@
 -- No instruction of a graph of the first version has an origin.
 use Rattle.std.proofs.Common.{◌≡◌, refl, sym, ap, ◌∙◌, subst, ℕ, ◌+◌, ◌⊎◌, inl, inr, Bool, true, false, List, length, Some, nat_lt, if◌then◌else◌, arith}
 use Rattle.std.specs.Prelude.{slice_get, ⊤, All}
-use Rattle.law_composition.proofs.Lines.{all_of}
+use Rattle.lemmas.proofs.Alls.{all_from}
+use Rattle.lemmas.proofs.SliceGet.{map_get}
 use Rattle.tags.specs.declared.value.Origin.{Origin}
 use Rattle.tags.specs.declared.value.Origin.TheVariants.{Untold, At}
 use Rattle.semantics.specs.declared.graph.Region.{Region}
@@ -16,7 +17,7 @@ use Rattle.expansion.specs.Scopes.{Scope}
 use Rattle.expansion.specs.Variants.{some_block_loops, variants_of}
 use Rattle.expansion.specs.Blocks.{entries, plain_build, variant_build, variant_of}
 use Rattle.expansion.specs.Expanded.{scope_of, plain_code, variant_code, expanded}
-use Rattle.law_expansion.proofs.FactsHeads.{push_cases, get_map, head, heads, heads_connected, heads_added}
+use Rattle.law_expansion.proofs.FactsHeads.{push_cases, head, heads, heads_connected, heads_added}
 use Rattle.law_expansion.proofs.FactsSteps.{Stage, Idle, Step, Basics, AllowsKind, Allows, entries_keep, plain_keeps, variant_keeps}
 use Rattle.law_expansion.proofs.FactsCodes.{code_cases}
 use Rattle.law_composition.proofs.FoldedInstrs.{AllInstrs, IsUntold, all_untold}
@@ -83,7 +84,7 @@ module _ (fl : Flow) (first : nat_lt fl.version 2 ≡ true) where
       let a : Allows Any NoOrigin (most b) s = allows i b false in
       let begun : Told Idle (entries s) = entries_keep Told Any NoOrigin (most b) (any_basics (most b)) refl adds_told (λ s b o to q h n x g. h n x (ap (λ hs. slice_get hs n) (sym (heads_connected b.instrs o to q)) ∙ g)) (λ s b o h. h) s a (λ n x g. absurd (cc)) in
       let all : Told Idle (plain_build s) = plain_keeps Told Any NoOrigin (most b) (any_basics (most b)) refl adds_told (λ s b o to q h n x g. h n x (ap (λ hs. slice_get hs n) (sym (heads_connected b.instrs o to q)) ∙ g)) (λ s b o h. h) s a begun in
-      all n (head x) (get_map head (plain_build s).instrs n x g)
+      all n (head x) (map_get head (plain_build s).instrs n x g)
 
   variant_told : (i : ℕ) (b : Block ℕ) (n : ℕ) (x : Instr) → slice_get (variant_code fl.version fl.blocks vars i b).code.instrs n ≡ Some x → x.origin ≡ Untold
   unfolding variant_code
@@ -93,7 +94,7 @@ module _ (fl : Flow) (first : nat_lt fl.version 2 ≡ true) where
       let begun : Told Idle (entries s) = entries_keep Told Any NoOrigin (most b) (any_basics (most b)) refl adds_told (λ s b o to q h n x g. h n x (ap (λ hs. slice_get hs n) (sym (heads_connected b.instrs o to q)) ∙ g)) (λ s b o h. h) s a (λ n x g. absurd (cc)) in
       let all : Told Idle (variant_build s (variant_of vars i)) =
       variant_keeps Told Any NoOrigin (most b) (any_basics (most b)) refl adds_told (λ s b o to q h n x g. h n x (ap (λ hs. slice_get hs n) (sym (heads_connected b.instrs o to q)) ∙ g)) (λ s b o h. h) s (variant_of vars i) a (λ e l. tt) begun in
-      all n (head x) (get_map head (variant_build s (variant_of vars i)).instrs n x g)
+      all n (head x) (map_get head (variant_build s (variant_of vars i)).instrs n x g)
 
   block_told : (b : ℕ) (c : CodeBlock) → slice_get (expanded fl).program.blocks b ≡ Some c → (n : ℕ) (x : Instr) → slice_get c.instrs n ≡ Some x → x.origin ≡ Untold
   block_told b c e n x g = go (code_cases fl.version fl.blocks b c e)
@@ -104,7 +105,7 @@ module _ (fl : Flow) (first : nat_lt fl.version 2 ≡ true) where
       go (inr h) = variant_told h.0 h.1 n x (ap (λ (c : CodeBlock). slice_get c.instrs n) h.4 ∙ g)
 
   pub all_told : AllInstrs IsUntold (expanded fl).program.blocks
-  all_told = all_of (λ (c : CodeBlock). All IsUntold c.instrs) (expanded fl).program.blocks (λ b c e. all_of IsUntold c.instrs (λ n x g. block_told b c e n x g))
+  all_told = all_from (λ (c : CodeBlock). All IsUntold c.instrs) (expanded fl).program.blocks (λ b c e. all_from IsUntold c.instrs (λ n x g. block_told b c e n x g))
 
 pub plans_have_origins : PlansHaveOrigins
 plans_have_origins g One e = all_untold (expanded (flow_of g)) (all_told (flow_of g) (ap (λ (n : ℕ). nat_lt n 2) (sym e)))

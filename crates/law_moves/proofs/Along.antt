@@ -3,6 +3,8 @@ use Rattle.std.proofs.Common.{◌≡◌, ℕ, Bool, true, false, List, [], ◌�
 use Rattle.std.specs.Prelude.{IsPermutation, Contains}
 use Rattle.std.proofs.lemmas.List.{map-append}
 use Rattle.std.proofs.lemmas.List.Sorted.{IsPermutation-append}
+use Rattle.lemmas.proofs.Permutations.{permutation_same}
+use Rattle.lemmas.proofs.Contains.{contains_head, contains_none}
 use Rattle.tags.specs.declared.token.Port.{Port}
 use Rattle.tags.specs.declared.token.Port.TheVariants.{Left, Right}
 use Rattle.tags.specs.declared.token.Word.{Word}
@@ -15,8 +17,7 @@ use Rattle.semantics.specs.Program.{Instr}
 use Rattle.semantics.specs.Rule.{to_each, to_all, fires, fire_two, outcome_of, slot_of as uses_of}
 use Rattle.semantics.specs.Machine.{Store, Fires, slot_in, with_slot}
 use Rattle.law_net.proofs.NetSlots.{InSlots}
-use Rattle.law_net.proofs.Orders.{at_first, at_last, IsPermutation-same}
-use Rattle.law_net.proofs.Members.{contains_head, contains_none}
+use Rattle.law_net.proofs.Orders.{at_first, at_last}
 use Rattle.law_once.specs.Alike.{plain_dests}
 use Rattle.law_contexts.specs.Parts.{Part, Sender, Merge, CondEnd, Landing, Giver, Taker, Drainer, Held, Drained, inlet, Note, signal, Item, item, each, Firing}
 use Rattle.law_contexts.specs.Blocks.{side, waits_in, is_switch, op_of}
@@ -140,7 +141,7 @@ module _ {stage : ℕ} (s : Taking stage) (still : is_still s.i.inlet.part ≡ t
       later = net.waiting;
       waiting = refl;
       paired = λ j h. absurd (contains_none j h);
-      took = IsPermutation-same _ _ ((λ t. mine t ∷ []) ∙ sym (takes_one one s.i.word signal s.i.inlet.way));
+      took = permutation_same _ _ ((λ t. mine t ∷ []) ∙ sym (takes_one one s.i.word signal s.i.inlet.way));
       same = refl;
       note = k;
       second = false;

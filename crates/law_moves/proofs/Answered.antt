@@ -1,8 +1,12 @@
 -- A fetch or a store has one wire, to which its cell answers.
-use Rattle.std.proofs.Common.{◌≡◌, ℕ, zero, suc, ◌+◌, Bool, true, false, ◌||◌, List, [], ◌∷◌, map, length, refl, sym, ap, ◌∙◌, subst, arith, true≢false, Option, Some, None, nat_lt}
-use Rattle.std.specs.Prelude.{All, IsPermutation, Contains, slice_get}
-use Rattle.std.proofs.lemmas.List.Elements.{All-head, All-tail}
+use Rattle.std.proofs.Common.{◌≡◌, ℕ, ◌+◌, Bool, true, false, ◌||◌, List, [], ◌∷◌, map, length, refl, sym, ap, ◌∙◌, subst, arith, true≢false, Option, Some, None, nat_lt}
+use Rattle.std.specs.Prelude.{IsPermutation, Contains}
 use Rattle.std.proofs.lemmas.List.Sorted.{IsPermutation-sym, length_permutation, Contains-permutation}
+use Rattle.std.proofs.lemmas.List.{nil_from_length}
+use Rattle.lemmas.proofs.Contains.{contains_head}
+use Rattle.lemmas.proofs.Alls.{all_at}
+use Rattle.lemmas.proofs.Lists.{one_element}
+use Rattle.lemmas.proofs.Bools.{or_true}
 use Rattle.tags.specs.declared.token.Port.{Port}
 use Rattle.semantics.specs.declared.graph.Kind.{Kind}
 use Rattle.semantics.specs.declared.graph.Kind.TheVariants as Kinds
@@ -12,7 +16,6 @@ use Rattle.semantics.specs.Graph.{Node, Block, Flow, node_at}
 use Rattle.semantics.specs.Meaning.{Context}
 use Rattle.semantics.specs.Program.{Instr}
 use Rattle.semantics.specs.Plan.{Plan, HasShape, IsPlanBlock}
-use Rattle.law_net.proofs.Members.{contains_head}
 use Rattle.law_contexts.specs.Parts.{Part, Line, Landing, Inlet}
 use Rattle.law_contexts.specs.Blocks.{side, is_cell, cell_kind, plain_kind, kind_op, there_in}
 use Rattle.law_contexts.specs.Contexts.{Wires, block_in, code_in, site_in, wiring_in, IsContext}
@@ -21,21 +24,6 @@ use Rattle.law_contexts.specs.Stands.{row_of, is_instr}
 use Rattle.law_contexts.specs.Theorem.{IsGood}
 use Rattle.law_moves.proofs.Lists.{contains_one}
 use Rattle.law_moves.proofs.Sites.{coded, Seated, seated, there_instr}
-
--- an element of a list of which all are so
-got_all : {X : Type 0} (P : X → Type 0) (xs : List X) (i : ℕ) (x : X) → All P xs → slice_get xs i ≡ Some x → P x
-got_all P [] i x a e = absurd (cc)
-got_all P (y ∷ ys) zero x a e = let s : y ≡ x = cc in subst P s (All-head P y ys a)
-got_all P (y ∷ ys) (suc i) x a e = got_all P ys i x (All-tail P y ys a) e
-
-one_only : {X : Type 0} (xs : List X) → length xs ≡ 1 → (x : X) × (xs ≡ x ∷ [])
-one_only [] e = absurd (omega (arith, e))
-one_only (x ∷ []) e = (x, refl)
-one_only (x ∷ y ∷ ys) e = absurd (omega (arith, e))
-
-none_at_all : {X : Type 0} (xs : List X) → length xs ≡ 0 → xs ≡ []
-none_at_all [] e = refl
-none_at_all (x ∷ xs) e = absurd (omega (arith, e))
 
 pub one_image : {X Y : Type 0} (g : X → Y) (y : Y) (xs : List X) → IsPermutation (y ∷ []) (map g xs) → (x : X) × (xs ≡ x ∷ []) × (y ≡ g x)
 one_image g y [] p = let n = length_permutation _ _ p in absurd (omega (arith, n))
@@ -51,10 +39,6 @@ shaped : (k : Kind ℕ) (m n : ℕ) → cell_kind k ≡ true → HasShape (kind_
 shaped (Kinds.Fetch a) m n e h = h
 shaped (Kinds.Store a) m n e h = h
 shaped k m n e h = absurd (true≢false (sym e))
-
-or_true : (t : Bool) → (t || true) ≡ true
-or_true true = refl
-or_true false = refl
 
 abbrev test_of : (Kind ℕ → Bool) → Option (Node ℕ) → Bool
 test_of test x = elim x as (λ y. Bool) [ None ↦ false | Some line ↦ test line.kind ]
@@ -108,10 +92,10 @@ module _ {stage : ℕ} (fl : Flow) (p : Plan) (w : Wires) (good : IsGood stage f
       let r = line_reads fl c n cell in
       let s = seated fl p w good.wired c (Line n) h cell_there in
       let op : s.instr.op ≡ kind_op r.line.kind = s.is.op ∙ ap (λ (x : Option (Node ℕ)). elim x as (λ y. Op) [ None ↦ Op.Copy | Some line ↦ kind_op line.kind ]) r.at in
-      let block = got_all IsPlanBlock p.program.blocks (code_in fl w c) s.stands.code good.plan.plan.blocks s.stands.block in
-      let shape = got_all (λ (i : Instr). HasShape i.op (length i.firsts) (length i.seconds)) s.stands.code.instrs ((wiring_in fl w c).place (Line n)) s.instr block.shapes s.stands.instr in
+      let block = all_at IsPlanBlock p.program.blocks (code_in fl w c) s.stands.code good.plan.plan.blocks s.stands.block in
+      let shape = all_at (λ (i : Instr). HasShape i.op (length i.firsts) (length i.seconds)) s.stands.code.instrs ((wiring_in fl w c).place (Line n)) s.instr block.shapes s.stands.instr in
       let lengths = shaped r.line.kind (length s.instr.firsts) (length s.instr.seconds) r.cell (subst (λ o. HasShape o (length s.instr.firsts) (length s.instr.seconds)) op shape) in
-      let one = one_only s.instr.firsts lengths.0 in
+      let one = one_element s.instr.firsts lengths.0 in
       let perm = subst (λ l. IsPermutation (map (leads_to ((wiring_in fl w c).place (Line n))) l) (map (stands_at (wiring_in fl w c)) ((wiring_in fl w c).wire (side (Line n) false)))) one.1 s.is.firsts in
       let image = one_image (stands_at (wiring_in fl w c)) (leads_to ((wiring_in fl w c).place (Line n)) one.0) ((wiring_in fl w c).wire (side (Line n) false)) perm in
       let inside : Contains ((wiring_in fl w c).wire (side (Line n) false)) image.0 = subst (λ l. Contains l image.0) (sym image.1) (contains_head image.0 []) in
@@ -122,7 +106,7 @@ module _ {stage : ℕ} (fl : Flow) (p : Plan) (w : Wires) (good : IsGood stage f
         op_is = op;
         dest = one.0;
         firsts = one.1;
-        seconds = none_at_all s.instr.seconds lengths.1;
+        seconds = nil_from_length s.instr.seconds lengths.1;
         inlet = image.0;
         wire = image.1;
         far = ap (λ (q : ℕ × Port). q.0) image.2;

@@ -3,6 +3,7 @@ use Rattle.std.proofs.Common.{◌≡◌, ℕ, Bool, true, false, not, List, [], 
 use Rattle.std.specs.Prelude.{IsPermutation, Contains, flat_map}
 use Rattle.std.proofs.lemmas.List.Elements.{Contains-append_cases}
 use Rattle.std.proofs.lemmas.List.Sorted.{IsPermutation-refl, IsPermutation-trans, IsPermutation-append_right}
+use Rattle.lemmas.proofs.Contains.{contains_head, contains_none, contains_tail}
 use Rattle.tags.specs.declared.value.Value.{Value}
 use Rattle.tags.specs.declared.token.Cont.{Cont}
 use Rattle.tags.specs.declared.token.Word.{Word}
@@ -11,7 +12,6 @@ use Rattle.semantics.specs.Graph.{Flow}
 use Rattle.semantics.specs.Meaning.{Context, Memory}
 use Rattle.semantics.specs.Machine.{answer, answers}
 use Rattle.law_net.proofs.Orders.{shuffled, Part as Piece, ◌⊕◌, at_last}
-use Rattle.law_net.proofs.Members.{contains_head, contains_tail, contains_none}
 use Rattle.law_contexts.specs.Parts.{Part, Held, Item, Firing}
 use Rattle.law_contexts.specs.Blocks.{is_store}
 use Rattle.law_contexts.specs.Contexts.{block_in}

@@ -4,14 +4,13 @@ use Rattle.std.specs.Prelude.{Contains, flat_map}
 use Rattle.std.proofs.lemmas.Bool.{cases_eq}
 use Rattle.std.proofs.lemmas.List.Elements.{Contains-append_left, Contains-append_right, Contains-append_cases}
 use Rattle.std.proofs.lemmas.List.Sorted.{IsPermutation-sym, Contains-permutation}
+use Rattle.lemmas.proofs.Contains.{contains_cases, contains_head, contains_map, contains_none, contains_flat_mapped}
 use Rattle.tags.specs.declared.value.Value.{Value}
 use Rattle.tags.specs.declared.token.Port.{Port}
 use Rattle.tags.specs.declared.token.Port.TheVariants.{Left, Right}
 use Rattle.semantics.specs.Meaning.{Context}
 use Rattle.law_net.specs.Roles.{one}
 use Rattle.law_net.proofs.Orders.{total-append}
-use Rattle.law_net.proofs.Members.{contains_head, contains_tail, contains_cases, contains_none}
-use Rattle.law_reuse.proofs.Members.{contains_map}
 use Rattle.law_contexts.specs.Parts.{Part, Framer, Strict, Sender, Drained, Held, Drainer, Giver, Inlet, inlet, Datum, signal, Item, item, Firing, Spot, spot_of, same_spot}
 use Rattle.law_contexts.specs.Blocks.{Side, side, waits_in, source_count, there_in}
 use Rattle.law_contexts.specs.Contexts.{block_in, site_in, wiring_in, IsContext, is_strict_in}
@@ -24,7 +23,7 @@ use Rattle.law_moves.specs.Cases.{Taking, net_of}
 use Rattle.law_moves.proofs.Lists.{contains_one}
 use Rattle.law_moves.proofs.Fitted.{fits, bare, taken_here, lone_port, plain_way}
 use Rattle.law_moves.proofs.Inwards.{carried}
-use Rattle.law_arms.proofs.Sames.{hit_counted, hit_found}
+use Rattle.law_contexts.proofs.Sames.{hit_counted, hit_found}
 use Rattle.law_arms.proofs.Sends.{first_taken, takes_first, takes_right, sent_facts, sent_along, gives_by, side_by, splits}
 use Rattle.law_arms.proofs.Words.{Begins, AtEntry, AtInput, begin_cases}
 use Rattle.law_arms.proofs.Fed.{MadeAt, ByGift, ByWire, made_at, gift_unwired, Unwired, UGiven, UNot, UWay, one_feeder}
@@ -32,15 +31,6 @@ use Rattle.law_arms.proofs.Nets.{all_of, all_born, not_twice, taken_in, total_fl
 use Rattle.law_arms.proofs.Invoked.{lawful_at}
 use Rattle.law_arms.proofs.Credits.{is_begin}
 use Rattle.law_arms.proofs.Comes.{fired_fit}
-
--- what stands in one of joined lists
-flat_found : {X Y : Type 0} (g : X → List Y) (xs : List X) (y : Y) → Contains (flat_map g xs) y → (x : X) × Contains xs x × Contains (g x) y
-flat_found g [] y c = absurd (contains_none y c)
-flat_found g (x ∷ xs) y c = pick (Contains-append_cases (g x) (flat_map g xs) y c) (flat_found g xs y)
-  where
-    pick : Contains (g x) y ⊎ Contains (flat_map g xs) y → (Contains (flat_map g xs) y → (z : _) × Contains xs z × Contains (g z) y) → (z : _) × Contains (x ∷ xs) z × Contains (g z) y
-    pick (inl d) more = (x, contains_head x xs, d)
-    pick (inr d) more = let m = more d in (m.0, contains_tail x xs m.0 m.1, m.2)
 
 -- WHAT TAKES AN ARGUMENT before the call has fired: the call itself
 pub arguments_at : (c : Context) (n w i : ℕ) (vs : List Value) (j : Item) → Contains (arguments_from c n w i vs) j → (m : ℕ) × (v : Value) × (i ≤ m) × (j ≡ item c (inlet (Sender n m) Right w) (Datum v))
@@ -289,7 +279,7 @@ module _ {stage : ℕ} (s : Taking stage) where
         where
           second : Contains net.waiting j ⊎ Contains (flat_map (takes s.fl) net.fired) j → Contains (net.pending ++ net.waiting) j
           second (inl d) = Contains-append_right net.pending net.waiting j d
-          second (inr d) = let h = flat_found (takes s.fl) net.fired j d in absurd (not_taken h.0 h.1 h.2)
+          second (inr d) = let h = contains_flat_mapped (takes s.fl) net.fired j d in absurd (not_taken h.0 h.1 h.2)
 
           first : Contains net.pending j ⊎ Contains (net.waiting ++ flat_map (takes s.fl) net.fired) j → Contains (net.pending ++ net.waiting) j
           first (inl d) = Contains-append_left net.pending net.waiting j d

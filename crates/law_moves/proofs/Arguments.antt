@@ -3,6 +3,7 @@ use Rattle.std.proofs.Common.{◌≡◌, ℕ, zero, suc, ◌+◌, ◌<◌, Bool,
 use Rattle.std.specs.Prelude.{Contains, flat_map}
 use Rattle.std.proofs.lemmas.Bool.{and_parts}
 use Rattle.std.proofs.lemmas.List.Elements.{Contains-append_left, Contains-append_right, Contains-append_cases}
+use Rattle.lemmas.proofs.Contains.{contains_cases, contains_head, contains_none, contains_tail}
 use Rattle.tags.specs.declared.value.Value.{Value}
 use Rattle.tags.specs.declared.token.Port.{Port}
 use Rattle.tags.specs.declared.token.Port.TheVariants.{Left, Right}
@@ -11,14 +12,13 @@ use Rattle.semantics.specs.Meaning.{Context}
 use Rattle.law_net.specs.Roles.{one}
 use Rattle.law_net.proofs.Net.{Waits as WaitsMove, Fires as FiresMove}
 use Rattle.law_net.proofs.Orders.{total-append}
-use Rattle.law_net.proofs.Members.{contains_head, contains_tail, contains_cases, contains_none}
 use Rattle.law_contexts.specs.Parts.{Part, Framer, Sender, inlet, Datum, Item, item, Firing, Spot, spot_of, same_spot}
 use Rattle.law_contexts.specs.Blocks.{source_count, invokes}
 use Rattle.law_contexts.specs.Contexts.{Wires, block_in, is_strict_in}
 use Rattle.law_contexts.specs.Firings.{Config, Move, begin, takes, own_takes, renewed, right_way, arguments_from, ProperAt, IsProperMove, ProperMoves, Still, Then}
 use Rattle.law_contexts.specs.Laws.{sender_way, way_fits, spot_there}
 use Rattle.law_contexts.specs.Stands.{came}
-use Rattle.law_arms.proofs.Sames.{hits_at, hit_counted, spot_is, inlet_is}
+use Rattle.law_contexts.proofs.Sames.{hits_at, hit_counted, spot_is, inlet_is}
 use Rattle.law_arms.proofs.Nets.{once_all, taken_in}
 use Rattle.law_arms.proofs.Comes.{sender_one}
 use Rattle.law_arms.proofs.Opened.{framed, NSender}

@@ -2,7 +2,7 @@
 use Rattle.std.proofs.Common.{◌≡◌, ℕ, ◌+◌, Bool, true, false, List, [], ◌∷◌, ◌++◌, refl, sym, subst, inl, inr, ◌⊎◌, ℤ, if◌then◌else◌, not}
 use Rattle.std.specs.Prelude.{Contains}
 use Rattle.std.proofs.lemmas.List.Sorted.{IsPermutation-append, IsPermutation-append_left, IsPermutation-trans}
-use Rattle.law_determinacy.proofs.Perm.{Each, each_append, each_append_back, each_permutation, each_within, within_from}
+use Rattle.lemmas.proofs.Permutations.{Each, each_append, each_append_back, each_permutation, each_within, within_from}
 use Rattle.tags.specs.declared.value.Value.{Value}
 use Rattle.operators.specs.Values.{truth}
 use Rattle.semantics.specs.Graph.{Flow}

@@ -2,6 +2,7 @@
 use Rattle.std.proofs.Common.{◌≡◌, ℕ, ◌+◌, Bool, true, false, ◌&&◌, List, [], ◌∷◌, ◌++◌, map, refl, sym, ap, ◌∙◌, subst, inl, inr, ◌⊎◌, arith, Option, Some, ◌==◌, if◌then◌else◌, append-nil}
 use Rattle.std.specs.Prelude.{IsPermutation, Contains}
 use Rattle.std.proofs.lemmas.List.Sorted.{IsPermutation-refl}
+use Rattle.lemmas.proofs.Contains.{contains_cases, contains_none}
 use Rattle.tags.specs.declared.token.Port.{Port}
 use Rattle.tags.specs.declared.token.Port.TheVariants.{Left}
 use Rattle.tags.specs.declared.token.Word.{Word}
@@ -18,7 +19,6 @@ use Rattle.semantics.specs.Credits.{granted_at, granted_in, granted_by, released
 use Rattle.law_reuse.proofs.Claims.{holder_here}
 use Rattle.law_net.proofs.Orders.{at_last}
 use Rattle.law_net.proofs.Net.{Waits, Fires}
-use Rattle.law_net.proofs.Members.{contains_none, contains_cases}
 use Rattle.law_contexts.specs.Parts.{Part, Opener, Giver, Taker, Drainer, signal, Item, Firing}
 use Rattle.law_contexts.specs.Blocks.{is_loop, waits_in, bound_at, op_of}
 use Rattle.law_contexts.specs.Contexts.{block_in, code_in, site_in, wiring_in, or_zero, IsContext}

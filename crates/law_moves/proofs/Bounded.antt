@@ -4,19 +4,14 @@ use Rattle.semantics.specs.declared.graph.Region.{Region}
 use Rattle.semantics.specs.declared.graph.Kind.{Kind}
 use Rattle.semantics.specs.declared.graph.Kind.TheVariants as Kinds
 use Rattle.semantics.specs.Graph.{Node, Block, Flow, node_at}
-use Rattle.semantics.specs.Meaning.{Context, Main, Called, Turned, block_number}
+use Rattle.semantics.specs.Meaning.{Context, block_number}
 use Rattle.semantics.specs.Plan.{Plan}
+use Rattle.semantics.proofs.Lines.{block_is_there}
 use Rattle.law_contexts.specs.Blocks.{is_loop, loop_kind, bound_at, bound_in}
 use Rattle.law_contexts.specs.Contexts.{Wires, block_in, or_none, IsContext, HasBlock}
 use Rattle.law_contexts.specs.Operands.{HasOperands}
 use Rattle.law_contexts.specs.Theorem.{IsGood}
-use Rattle.law_moves.proofs.Sites.{numbered}
-
--- the block of a context is there
-has_block : (fl : Flow) (c : Context) → IsContext fl c → HasBlock fl c
-has_block fl Main h = h
-has_block fl (Called c n) h = h.2
-has_block fl (Turned c n i) h = h.2
+use Rattle.law_contexts.proofs.Blocks.{has_block}
 
 of_kind : (r : Region) (k : Kind ℕ) (m : ℕ) → HasOperands r k m → loop_kind k ≡ true → 0 < bound_in k
 of_kind r (Kinds.Loop f k) m o l = o
@@ -32,7 +27,7 @@ bound_some stage fl p w good c n h e = by_block (has_block fl c h)
             → 0 < elim x as (λ y. ℕ) [ None ↦ 0 | Some line ↦ bound_in line.kind ]
         by_node None q l = absurd (true≢false (sym l))
         by_node (Some line) q l =
-            let k = numbered fl (block_number fl c) b at in
+            let k = block_is_there fl (block_number fl c) b at in
             let same : block_in fl c ≡ b = ap or_none at in
             let o = good.operands k.0 n b line k.2 (sym (ap (λ (b : Block ℕ). node_at b n) same) ∙ q) in
             of_kind line.region line.kind (length line.sources) o l

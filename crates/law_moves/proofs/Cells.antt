@@ -1,6 +1,9 @@
 -- Fetches and stores, at their nodes and at their cells.
 use Rattle.std.proofs.Common.{◌≡◌, ℕ, ◌+◌, Bool, true, false, List, [], ◌∷◌, ◌++◌, take, refl, sym, ap, ◌∙◌, subst, inl, inr, ◌⊎◌, arith, true≢false, Option, Some, None, if◌then◌else◌, sum}
 use Rattle.std.specs.Prelude.{Contains, slice_index_or}
+use Rattle.std.proofs.lemmas.Option.{same_Some}
+use Rattle.lemmas.proofs.Permutations.{permutation_same}
+use Rattle.lemmas.proofs.Contains.{contains_head, contains_none}
 use Rattle.tags.specs.declared.value.Value.{Value}
 use Rattle.tags.specs.declared.value.Origin.{Origin}
 use Rattle.tags.specs.declared.token.Cont.{Cont}
@@ -20,9 +23,7 @@ use Rattle.semantics.specs.Program.{Instr}
 use Rattle.semantics.specs.Rule.{Seat, token, to_each, answer_to, asks_for, puts, fires, fire_one, fire_two, array_base, array_len}
 use Rattle.semantics.specs.Machine.{Store, Fires, with_slot}
 use Rattle.law_net.proofs.NetSlots.{InSlots}
-use Rattle.law_net.proofs.Orders.{at_last, IsPermutation-same}
-use Rattle.law_net.proofs.Members.{contains_head, contains_none}
-use Rattle.law_reuse.proofs.Stands.{some_same}
+use Rattle.law_net.proofs.Orders.{at_last}
 use Rattle.law_once.specs.Alike.{plain_dests}
 use Rattle.law_contexts.specs.Parts.{Line, Note, Datum, FrameOf, BackTo, ToHost, signal, Item, Firing}
 use Rattle.law_contexts.specs.Blocks.{waits_in, is_cell, is_store, cell_kind, pair_kind, store_kind, kind_op, op_of}
@@ -37,10 +38,11 @@ use Rattle.law_moves.proofs.Pairs as Pairs
 use Rattle.law_moves.proofs.Pairs.{Second, dyadic}
 use Rattle.law_moves.proofs.Sends.{firing_of, stays_same, stays_with}
 use Rattle.law_moves.proofs.Along.{does, both, mine, takes_one, takes_two, pair_follows}
-use Rattle.law_moves.proofs.Inwards.{told_as, carried, has_block, kept_node, origin_is}
+use Rattle.law_moves.proofs.Inwards.{told_as, carried, kept_node, origin_is}
 use Rattle.law_moves.proofs.Answered.{Answered}
 use Rattle.law_moves.proofs.Requests.{ans, Asks, back_is, asks_arc, sent_arc, asks_cell, answers_at_once}
 use Rattle.semantics.specs.Arcs.{UsesBy}
+use Rattle.law_contexts.proofs.Blocks.{has_block}
 
 if_true : (t : Bool) (xs ys : List Item) → t ≡ true → (if t then xs else ys) ≡ xs
 if_true true xs ys e = refl
@@ -143,7 +145,7 @@ module _ {stage : ℕ} (s : Taking stage) (n : ℕ) (e : s.i.inlet.part ≡ Line
     ins = instr l refl
 
     same_ins : ins ≡ A.seat.instr
-    same_ins = some_same ins A.seat.instr (sym (stood l refl).at ∙ A.seat.at)
+    same_ins = same_Some ins A.seat.instr (sym (stood l refl).at ∙ A.seat.at)
 
     value : (v : Value) × (s.i.word ≡ Datum v)
     value = carried l l.i (taken_here l)
@@ -172,7 +174,7 @@ module _ {stage : ℕ} (s : Taking stage) (n : ℕ) (e : s.i.inlet.part ≡ Line
       later = net.waiting;
       waiting = refl;
       paired = λ j h. absurd (contains_none j h);
-      took = IsPermutation-same _ _ ((λ t. mine l refl one refl t ∷ []) ∙ sym (takes_one l refl one s.i.word signal s.i.inlet.way));
+      took = permutation_same _ _ ((λ t. mine l refl one refl t ∷ []) ∙ sym (takes_one l refl one s.i.word signal s.i.inlet.way));
       part = refl;
       held = held;
       makes_is = if_true (is_cell b n) _ _ cell;
@@ -205,7 +207,7 @@ module _ {stage : ℕ} (s : Taking stage) (n : ℕ) (e : s.i.inlet.part ≡ Line
     pair = instr l is
 
     same_pair : pair ≡ A.seat.instr
-    same_pair = some_same pair A.seat.instr (sym (stood l is).at ∙ A.seat.at)
+    same_pair = same_Some pair A.seat.instr (sym (stood l is).at ∙ A.seat.at)
 
     module _ (sec : Second l two refl) (v u : Value) (left : sec.left ≡ Datum v) (right : sec.right ≡ Datum u)
         (did : (s.event.made ≡ puts s.p.program seat pair a u (index_in (array_len s.p.program a) v pair.origin)) × (s.new.store ≡ with_slot s.m.store frame (slot_of s.fl s.w l.i) Empty)) where

@@ -1,14 +1,10 @@
 -- What a node invokes: its code, where its values come, and the landing to which it returns.
-use Rattle.std.proofs.Common.{◌≡◌, ℕ, zero, suc, ◌+◌, ◌<◌, true, false, sym, ap, ◌∙◌, subst, arith, true≢false, le-ltb, Option, Some, None}
-use Rattle.std.specs.Prelude.{Contains}
-use Rattle.tags.specs.declared.token.Port.TheVariants.{Left}
+use Rattle.std.proofs.Common.{◌≡◌, ℕ, ◌+◌, ◌<◌, true, false, sym, ap, ◌∙◌, subst, arith, true≢false, le-ltb, Option, Some, None}
 use Rattle.semantics.specs.declared.graph.Kind.{Kind}
 use Rattle.semantics.specs.Graph.{Node, Flow}
 use Rattle.semantics.specs.Meaning.{Context, Called, Turned, callee}
 use Rattle.semantics.specs.Program.{first_of}
 use Rattle.semantics.specs.Plan.{Plan, landing, landing_in}
-use Rattle.semantics.specs.Sharing.{arc, row, inlet as port_at}
-use Rattle.law_net.proofs.Members.{contains_head, contains_tail}
 use Rattle.law_contexts.specs.Parts.{Entry, Line, Landing}
 use Rattle.law_contexts.specs.Blocks.{call_kind, code_called, callee_code, invokes, source_count}
 use Rattle.law_contexts.specs.Contexts.{Wires, or_zero, block_in, code_in, child, IsContext}
@@ -22,14 +18,6 @@ call_code : (v : ℕ → ℕ) (kind : Kind ℕ) (f : ℕ) → call_kind kind ≡
 call_code v (Kind.Call g) f h e = cc
 call_code v (Kind.StrictCall g) f h e = cc
 call_code v kind f h e = absurd (true≢false (sym h))
-
--- a landing's arcs
-pub row_has : (n from k m : ℕ) → m < k → Contains (row n from k) (arc n false (port_at (from + m) Left))
-row_has n from zero m l = absurd (omega (arith, l))
-row_has n from (suc k) zero l = let e : from ≡ from + 0 = omega arith in subst (λ (t : ℕ). Contains (row n from (suc k)) (arc n false (port_at t Left))) e (contains_head (arc n false (port_at from Left)) (row n (from + 1) k))
-row_has n from (suc k) (suc m) l =
-    let more = row_has n (from + 1) k m (omega (arith, l)) in let e : from + 1 + m ≡ from + suc m = omega arith in
-    contains_tail (arc n false (port_at from Left)) (row n (from + 1) k) (arc n false (port_at (from + suc m) Left)) (subst (λ (t : ℕ). Contains (row n (from + 1) k) (arc n false (port_at t Left))) e more)
 
 module _ (stage : ℕ) (fl : Flow) (p : Plan) (w : Wires) (good : IsGood stage fl p w) where
   called_code : (d : Context) (n : ℕ) → IsContext fl (Called d n) → callee_code w.variant (block_in fl d) n ≡ code_in fl w (Called d n)

@@ -3,12 +3,12 @@ use Rattle.std.proofs.Common.{◌≡◌, ℕ, zero, suc, ◌+◌, ◌<◌, ◌�
 use Rattle.std.specs.Prelude.{IsPermutation, Contains}
 use Rattle.std.proofs.lemmas.Bool.{cases_eq}
 use Rattle.std.proofs.lemmas.List.Sorted.{IsPermutation-refl, IsPermutation-trans, IsPermutation-sym, IsPermutation-append_right, IsPermutation-middle, Contains-permutation, length_permutation}
+use Rattle.lemmas.proofs.Contains.{contains_cases, contains_head, contains_none, contains_tail}
 use Rattle.tags.specs.declared.token.Port.TheVariants.{Left}
 use Rattle.semantics.specs.Graph.{Flow}
 use Rattle.semantics.specs.Meaning.{Context}
 use Rattle.law_net.specs.Roles.{one, total}
 use Rattle.law_net.proofs.Orders.{total-IsPermutation, shuffled, Part as Piece, ◌⊕◌}
-use Rattle.law_net.proofs.Members.{contains_head, contains_tail, contains_cases, contains_none}
 use Rattle.law_contexts.specs.Parts.{Part, Giver, inlet, signal, Item, item, Firing, Spot, spot_of, same_spot}
 use Rattle.law_contexts.specs.Blocks.{is_loop}
 use Rattle.law_contexts.specs.Contexts.{Wires, block_in}
@@ -16,7 +16,7 @@ use Rattle.law_contexts.specs.Wires.{is_given}
 use Rattle.law_contexts.specs.Firings.{begins, takes, makes, given_back}
 use Rattle.law_contexts.specs.Stands.{is_held}
 use Rattle.law_contexts.specs.Packages.{AllFit}
-use Rattle.law_arms.proofs.Sames.{hits_at, hit_found, hit_counted, same_spot-refl}
+use Rattle.law_contexts.proofs.Sames.{hits_at, hit_found, hit_counted, same_spot-refl}
 use Rattle.law_arms.proofs.Gifts.{Gift, GHeld, GAsked, GArgument, GFanned, GEntry, GInput, GShown, GLanding, GLeaves, GDrains, GFreed, GDone, GCallDone, GGiver, GTaker, GNextFramer, GNextAsked, GNextFanned, GNextEntry, GNextInput, GLoopDone}
 use Rattle.law_arms.proofs.Words.{Begins, AtEntry, AtInput, begin_cases}
 use Rattle.law_arms.proofs.Fed.{MadeAt, ByGift, ByWire, made_at, sent_there}

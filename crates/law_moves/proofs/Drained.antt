@@ -3,6 +3,7 @@ use Rattle.std.proofs.Common.{◌≡◌, ℕ, ◌+◌, ◌<◌, ◌≤◌, Bool,
 use Rattle.std.specs.Prelude.{IsPermutation, Contains}
 use Rattle.std.proofs.lemmas.List.Elements.{Contains-append_left, Contains-append_right, Contains-append_cases}
 use Rattle.std.proofs.lemmas.List.Sorted.{IsPermutation-trans, IsPermutation-append}
+use Rattle.lemmas.proofs.Contains.{contains_cases}
 use Rattle.tags.specs.declared.value.Value.TheVariants.{Int}
 use Rattle.tags.specs.declared.token.Port.TheVariants.{Left}
 use Rattle.tags.specs.declared.slot.SlotState.TheVariants.{Empty}
@@ -12,14 +13,13 @@ use Rattle.semantics.specs.Holders.{Holder, same_holder}
 use Rattle.semantics.specs.Credits.{granted_at, released_at}
 use Rattle.law_net.specs.Roles.{one}
 use Rattle.law_net.proofs.Orders.{total-append, shuffled, Part as Piece, ◌⊕◌, at_last}
-use Rattle.law_net.proofs.Members.{contains_cases}
 use Rattle.law_contexts.specs.Parts.{Opener, Giver, Taker, Drainer, Drained, DrainReturn, LoopDone, inlet, signal, Item, item, Firing, Spot, spot_of, same_spot}
 use Rattle.law_contexts.specs.Blocks.{is_loop}
 use Rattle.law_contexts.specs.Contexts.{block_in}
 use Rattle.law_contexts.specs.Credits.{Ledger}
 use Rattle.law_contexts.specs.Firings.{Config, takes, makes, times, given_back, frame_at}
 use Rattle.law_contexts.specs.Stands.{only, token_of, is_item_at, items_at, conts_of, first_cont, ledger, granted_of, KeepsCredits, is_held}
-use Rattle.law_arms.proofs.Sames.{hits_at}
+use Rattle.law_contexts.proofs.Sames.{hits_at}
 use Rattle.law_arms.proofs.Nets.{only_total, only_contains, only_has}
 use Rattle.law_arms.proofs.Pigeons.{items_total, item_here, item_there, some_item}
 use Rattle.law_arms.proofs.Turns.{left_at, opened_once}

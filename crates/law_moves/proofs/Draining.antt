@@ -2,6 +2,7 @@
 use Rattle.std.proofs.Common.{◌≡◌, ℕ, ◌-◌, ◌<◌, Bool, true, false, List, [], ◌∷◌, map, refl, sym, ap, ◌∙◌, subst, inl, inr, ◌⊎◌, arith, Some, None, ◌==◌, ◌&&◌, nat_lt, eq-eqb, ne_eqb, lt-ltb, if◌then◌else◌}
 use Rattle.std.specs.Prelude.{IsPermutation}
 use Rattle.std.proofs.lemmas.Bool.{cases_eq}
+use Rattle.lemmas.proofs.Contains.{contains_head}
 use Rattle.tags.specs.declared.token.Port.TheVariants.{Left}
 use Rattle.tags.specs.declared.slot.SlotState.{SlotState}
 use Rattle.tags.specs.declared.slot.SlotState.TheVariants.{Empty, Draining}
@@ -12,7 +13,6 @@ use Rattle.semantics.specs.Rule.{Outcome, Becomes, Excluded, drains, to_all, sig
 use Rattle.semantics.specs.Machine.{Fires as Happening}
 use Rattle.semantics.specs.Holders.{Holder, same_holder}
 use Rattle.semantics.specs.Credits.{granted_at, granted_by}
-use Rattle.law_net.proofs.Members.{contains_head}
 use Rattle.law_once.specs.Alike.{plain_dests}
 use Rattle.law_contexts.specs.Parts.{Opener, Giver, Taker, Drainer, LoopDone, Inlet, inlet, signal, Item, item}
 use Rattle.law_contexts.specs.Blocks.{side, is_loop}

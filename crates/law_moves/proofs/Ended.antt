@@ -2,6 +2,9 @@
 use Rattle.std.proofs.Common.{◌≡◌, ℕ, ◌+◌, ◌<◌, Bool, true, false, List, [], ◌∷◌, ◌++◌, map, refl, sym, ap, ◌∙◌, subst, inl, inr, ◌⊎◌, arith, true≢false, Some, eqb-true, eq-eqb, lt-ltb}
 use Rattle.std.specs.Prelude.{Contains, count_by}
 use Rattle.std.proofs.lemmas.Bool.{and_parts, and_from, or_left, or_right, cases_eq, cases_Bool, false_from_ne_true}
+use Rattle.lemmas.proofs.Permutations.{permutation_same}
+use Rattle.lemmas.proofs.Contains.{contains_cases, contains_none}
+use Rattle.lemmas.proofs.Bools.{and_false}
 use Rattle.tags.specs.declared.token.Port.TheVariants.{Left}
 use Rattle.tags.specs.declared.token.Word.{Word}
 use Rattle.tags.specs.declared.token.To.{To}
@@ -15,8 +18,6 @@ use Rattle.semantics.specs.Machine.{Fires}
 use Rattle.semantics.specs.Orderly.{is_at}
 use Rattle.semantics.specs.Credits.{released_at, released_by}
 use Rattle.law_net.specs.Roles.{one}
-use Rattle.law_net.proofs.Orders.{IsPermutation-same}
-use Rattle.law_net.proofs.Members.{contains_cases, contains_none}
 use Rattle.law_contexts.specs.Parts.{Part, End, Giver, CallDone, Landing, Freed, inlet, Note, BackTo, signal, Item, item, each, same_context}
 use Rattle.law_contexts.specs.Blocks.{side, is_call, is_loop, op_of, there_in, result_count}
 use Rattle.law_contexts.specs.Contexts.{block_in, site_in, wiring_in, or_zero, IsContext, return_of}
@@ -26,7 +27,7 @@ use Rattle.law_contexts.specs.Stands.{frame_of, ip_of, word_of, slot_of, named_b
 use Rattle.law_arms.proofs.Invoked.{call_invoked, loop_invoked, not_loop, code_at}
 use Rattle.law_arms.proofs.Nets.{count_total}
 use Rattle.law_moves.specs.Cases.{Taking, IsCaused, net_of, Followed}
-use Rattle.law_moves.proofs.Lists.{contains_one, and_no}
+use Rattle.law_moves.proofs.Lists.{contains_one}
 use Rattle.law_moves.proofs.Still.{to_instr}
 use Rattle.law_moves.proofs.Moved.{WasThere, UsedNow, is_credit}
 use Rattle.law_moves.proofs.Fitted.{code, fits, framed, among, taken_here}
@@ -139,7 +140,7 @@ module _ {stage : ℕ} (s : Taking stage) (c d : Context) (n o t : ℕ) (q : Par
           let a = released_is last is_end h b ∙ ap (λ op. released_by op h b s.event.made) ((stood last is_end).is.op ∙ g.op_is) ∙ ap (count_by (test h b)) m ∙ count_total (test h b) end_tokens in omega (arith, a)
 
       items_counted : (x : Context) (k : ℕ) → items_at x (Giver k) ending ≡ one (is_item_at x (Giver k) goes_back)
-      items_counted x k = let a = count_total (is_item_at x (Giver k)) ending in let b = ap one (and_no (same_context c x)) in omega (arith, a, b)
+      items_counted x k = let a = count_total (is_item_at x (Giver k)) ending in let b = ap one (and_false (same_context c x)) in omega (arith, a, b)
 
       released : (x : Context) (k h : ℕ) → IsContext s.fl x → is_loop (block_in s.fl x) k ≡ true → frame_at s.fl net.fired x ≡ Some h → released_at s.p.program h (ip_of s.fl s.p s.w x (Landing k 0)) s.t.to s.event.made ≡ items_at x (Giver k) ending
       released x k h a l f = counted h (ip_of s.fl s.p s.w x (Landing k 0)) ∙ ap one (g.counts has_frame.0 has_frame.1 x k h a l f) ∙ sym (items_counted x k)
@@ -164,7 +165,7 @@ module _ {stage : ℕ} (s : Taking stage) (c d : Context) (n o t : ℕ) (q : Par
       books = g.books;
       makes_is = ap (λ (l : List Item). item c (inlet Freed Left 0) signal ∷ l) g.ends ∙ ap (λ l. ending ++ each c signal l) (sym no_wire);
       dests = [];
-      leads = IsPermutation-same _ _ (ap (map (stands_at (wiring_in s.fl s.w c))) (sym no_wire));
+      leads = permutation_same _ _ (ap (map (stands_at (wiring_in s.fl s.w c))) (sym no_wire));
       plain_dest = λ x h. absurd (contains_none x h);
       did = m;
       released = released m.0;
@@ -227,7 +228,7 @@ module _ {stage : ℕ} (s : Taking stage) (d : Context) (n : ℕ) (in_call : s.i
     place = (let a = done_at in omega (arith, a));
     low = (let a = call_landing s.fl s.p s.w s.good d n called in omega (arith, a));
     books = λ x m a b. calm_books (last s (Called d n) d n outputs 0 (CallDone n) in_call e) (ending s (Called d n) d n outputs 0 (CallDone n) in_call e) (calm_ending s (Called d n) d n outputs 0 (CallDone n) in_call e refl) x m;
-    counts = λ h own x m g a l f. false_from_ne_true _ (λ k. counts h own x m g l f k) ∙ sym (and_no (same_context d x));
+    counts = λ h own x m g a l f. false_from_ne_true _ (λ k. counts h own x m g l f k) ∙ sym (and_false (same_context d x));
   })
     where
       counts : (h : ℕ) → frame_at s.fl (net_of s).fired d ≡ Some h → (x : Context) (m g : ℕ) → is_loop (block_in s.fl x) m ≡ true → frame_at s.fl (net_of s).fired x ≡ Some g

@@ -4,6 +4,8 @@ use Rattle.std.specs.Prelude.{IsPermutation, Contains, flat_map}
 use Rattle.std.proofs.lemmas.Bool.{cases_eq}
 use Rattle.std.proofs.lemmas.List.Elements.{Contains-append_cases}
 use Rattle.std.proofs.lemmas.List.Sorted.{IsPermutation-refl, IsPermutation-trans, IsPermutation-sym, IsPermutation-append_right, IsPermutation-append_comm, Contains-permutation}
+use Rattle.lemmas.proofs.Permutations.{permutation_same}
+use Rattle.lemmas.proofs.Contains.{contains_cases, contains_none, contains_tail}
 use Rattle.tags.specs.declared.value.Value.{Value}
 use Rattle.tags.specs.declared.token.Cont.{Cont}
 use Rattle.tags.specs.declared.token.Word.{Word}
@@ -13,9 +15,9 @@ use Rattle.semantics.specs.Meaning.{Context, Main, Memory}
 use Rattle.semantics.specs.Orderly.{readers_of}
 use Rattle.semantics.specs.Machine.{Store, CellState, Vacant, Full, Deferred, Happens, Fetches, value_in, answer, with_cell, put_at}
 use Rattle.semantics.specs.Credits.{granted_at, released_at}
-use Rattle.law_net.proofs.NetSlots.{InSlots, put_same, put_other}
-use Rattle.law_net.proofs.Orders.{at_first, at_last, IsPermutation-same}
-use Rattle.law_net.proofs.Members.{contains_tail, contains_cases, contains_none}
+use Rattle.semantics.proofs.Stores.{put_other}
+use Rattle.law_net.proofs.NetSlots.{InSlots, put_same}
+use Rattle.law_net.proofs.Orders.{at_first, at_last}
 use Rattle.law_contexts.specs.Parts.{Part, Held, Done, Freed, Item, Firing}
 use Rattle.law_contexts.specs.Blocks.{is_store, waits_in}
 use Rattle.law_contexts.specs.Contexts.{block_in}
@@ -138,7 +140,7 @@ module _ {stage : ℕ} (s : Taking stage) where
       makes_one = makes_is s s.i (taken_here s) n e v
 
       made_is : IsPermutation s.event.made (map tok (makes s.fl s.w f))
-      made_is = IsPermutation-same _ _ (made ∙ sym (ap (λ t. t ∷ []) (reply_token s s.i (taken_here s) n e v)) ∙ ap (map tok) (sym makes_one))
+      made_is = permutation_same _ _ (made ∙ sym (ap (λ t. t ∷ []) (reply_token s s.i (taken_here s) n e v)) ∙ ap (map tok) (sym makes_one))
 
       of_reply : (P : Item → Type 0) → P (reply s s.i (taken_here s) n e v) → (i : Item) → Contains (makes s.fl s.w f) i → P i
       of_reply P h i c = subst P (contains_one (reply s s.i (taken_here s) n e v) i (subst (λ l. Contains l i) makes_one c)) h
@@ -229,13 +231,13 @@ module _ {stage : ℕ} (s : Taking stage) where
         outputs = λ i. ap (λ (y : Store). y.outputs i) same;
         done = ap (λ (y : Store). y.done) same;
         out = λ g. ap (λ (y : Store). y.out g) same;
-        pool = pool_is s [] (IsPermutation-same _ _ made);
+        pool = pool_is s [] (permutation_same _ _ made);
         readers = λ y. readers_now y (cases_eq x y);
         seen_cells = λ y. seen_now y (cases_eq x y);
         seen_outputs = λ i. refl;
         good = λ i m c h. old.good i m (Contains-permutation _ _ i (waited_both s net (reached_here s) s.i s.others s.perm kept) c) h;
         waits = λ i c. waits_now i (contains_cases s.i net.waiting i c);
-        met = met_is s [] (came s.fl late) (IsPermutation-same _ _ (ap but_cells made)) (waited_back s net (reached_here s) s.i s.others s.perm kept (flat_map (λ (f : Firing). own_takes s.fl f f.part) net.fired));
+        met = met_is s [] (came s.fl late) (permutation_same _ _ (ap but_cells made)) (waited_back s net (reached_here s) s.i s.others s.perm kept (flat_map (λ (f : Firing). own_takes s.fl f f.part) net.fired));
         caused = λ i c h. inl (Contains-permutation _ _ i (IsPermutation-sym _ _ s.perm) (contains_tail s.i s.others i c));
         free = free_fetch x to_cell;
       })

@@ -4,12 +4,12 @@ use Rattle.std.proofs.Common.{eqb-true}
 use Rattle.std.specs.Prelude.{Contains, flat_map}
 use Rattle.std.proofs.lemmas.List.Elements.{All-contains, Contains-append_left, Contains-append_right, Contains-append_cases}
 use Rattle.std.proofs.lemmas.List.Sorted.{IsPermutation-sym, Contains-permutation}
+use Rattle.lemmas.proofs.Contains.{contains_head}
 use Rattle.tags.specs.declared.token.Port.{Port}
 use Rattle.tags.specs.declared.token.Port.TheVariants.{Left, Right}
 use Rattle.tags.specs.declared.slot.SlotState.TheVariants.{Empty}
 use Rattle.semantics.specs.Graph.{Block, Flow}
 use Rattle.semantics.specs.Meaning.{Context}
-use Rattle.law_net.proofs.Members.{contains_head}
 use Rattle.law_contexts.specs.Parts.{Part, Sender, Merge, CondEnd, Landing, Giver, Taker, Drainer, Opener, Asked, NextAsked, Held, Drained, Shown, Done, Freed, inlet, Item, item, spot_of}
 use Rattle.law_contexts.specs.Blocks.{waits_in, there_in, is_loop}
 use Rattle.law_contexts.specs.Contexts.{block_in, site_in, wiring_in, or_zero, IsContext}

@@ -2,13 +2,13 @@
 use Rattle.std.proofs.Common.{◌≡◌, ℕ, Bool, true, false, List, [], ◌∷◌, ◌++◌, map, refl, sym, ap, ◌∙◌, subst, inl, inr, ◌⊎◌, arith, true≢false, Option, Some, None, if◌then◌else◌}
 use Rattle.std.specs.Prelude.{IsPermutation, Contains, flat_map, count_by}
 use Rattle.std.proofs.lemmas.List.Elements.{Contains-append_cases}
+use Rattle.lemmas.proofs.Permutations.{permutation_same}
 use Rattle.tags.specs.declared.token.Port.TheVariants.{Left}
 use Rattle.semantics.specs.Graph.{Flow}
 use Rattle.semantics.specs.Meaning.{Context, Main, Called, Turned}
 use Rattle.semantics.specs.Machine.{Store}
 use Rattle.semantics.specs.Orderly.{readers_of}
 use Rattle.law_net.proofs.NetSlots.{InSlots}
-use Rattle.law_net.proofs.Orders.{IsPermutation-same}
 use Rattle.law_contexts.specs.Parts.{Part, Framer, NextFramer, Fanned, NextFanned, Opener, Taker, Drained, Giver, Drainer, Asked, NextAsked, Held, Inlet, inlet, BackTo, signal, Item, item, Firing, same_part}
 use Rattle.law_contexts.specs.Blocks.{source_count}
 use Rattle.law_contexts.specs.Contexts.{block_in, or_zero, is_strict_in}
@@ -75,7 +75,7 @@ module _ {stage : ℕ} (s : Taking stage) (g : Seeks s) where
   after_it = gone_alone s f g.own g.renews
 
   made_is : IsPermutation s.event.made (map (token_of s.fl s.p s.w net.fired) (makes s.fl s.w f))
-  made_is = IsPermutation-same _ _ (made_token s g.wants ∙ ap (map (token_of s.fl s.p s.w net.fired)) (sym g.makes_is))
+  made_is = permutation_same _ _ (made_token s g.wants ∙ ap (map (token_of s.fl s.p s.w net.fired)) (sym g.makes_is))
 
   of_request : (P : Item → Type 0) → P ask → (j : Item) → Contains (makes s.fl s.w f) j → P j
   of_request P h j k = subst P (contains_one ask j (subst (λ l. Contains l j) g.makes_is k)) h

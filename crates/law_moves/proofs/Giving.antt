@@ -1,6 +1,7 @@
 -- A turn gives its credit back: it is kept, it is one of all that are asked for, or it is the last of them.
 use Rattle.std.proofs.Common.{◌≡◌, ℕ, zero, suc, ◌+◌, ◌-◌, ◌<◌, ◌≤◌, Bool, true, false, List, [], ◌∷◌, map, refl, sym, ap, ◌∙◌, subst, inl, inr, arith, true≢false, Some, None, ◌==◌, ◌&&◌, nat_lt, lt-ltb, if◌then◌else◌}
 use Rattle.std.specs.Prelude.{IsPermutation, Contains}
+use Rattle.lemmas.proofs.Contains.{contains_head, contains_tail}
 use Rattle.tags.specs.declared.token.Port.TheVariants.{Left}
 use Rattle.tags.specs.declared.token.Cont.{Cont}
 use Rattle.tags.specs.declared.slot.SlotState.{SlotState}
@@ -12,8 +13,7 @@ use Rattle.semantics.specs.Rule.{Outcome, Becomes, Excluded, gives}
 use Rattle.semantics.specs.Machine.{Fires as Happening, Store, with_slot}
 use Rattle.semantics.specs.Holders.{Holder, same_holder}
 use Rattle.semantics.specs.Credits.{granted_at, granted_by, released_at}
-use Rattle.law_net.proofs.NetSlots.{slot_same}
-use Rattle.law_net.proofs.Members.{contains_head, contains_tail}
+use Rattle.semantics.proofs.Stores.{slot_filled}
 use Rattle.law_once.specs.Alike.{plain_dests}
 use Rattle.law_contexts.specs.Parts.{Opener, Giver, Taker, Drainer, LoopDone, Inlet, inlet, signal, Item, item}
 use Rattle.law_contexts.specs.Blocks.{side, is_loop}
@@ -173,7 +173,7 @@ module _ {stage : ℕ} (s : Taking stage) (n : ℕ) (e : s.i.inlet.part ≡ Give
         -- its arc is used, since the slot is empty
         empty : s.new.store.slots (Books.g s n l) (Rules.instr t refl).slot ≡ Empty
         empty = ap (λ (y : Store). y.slots (Books.g s n l) (Rules.instr t refl).slot) m.1 ∙ ap (λ q. (with_slot s.m.store (Books.g s n l) (Books.own s n l) Empty).slots (Books.g s n l) q) ((Rules.stood t refl).is.slot ∙ mine)
-            ∙ slot_same s.m.store (Books.g s n l) (Books.own s n l) Empty
+            ∙ slot_filled s.m.store (Books.g s n l) (Books.own s n l) Empty
 
         caused : IsCaused s (item c (inlet (LoopDone n) Left 0) signal)
         caused = used s (Giver n) e refl refl m.0 (ap (λ o. plain_dests (Rules.instr t refl) o) op_is) (λ x h. empty) (inlet (LoopDone n) Left 0) (contains_head (inlet (LoopDone n) Left 0) _)

@@ -3,6 +3,7 @@ use Rattle.std.proofs.Common.{◌≡◌, ℕ, zero, suc, ◌+◌, ◌-◌, ◌<�
 use Rattle.std.specs.Prelude.{IsPermutation, Contains}
 use Rattle.std.proofs.lemmas.List.Elements.{Contains-append_right}
 use Rattle.std.proofs.lemmas.List.Sorted.{IsPermutation-refl}
+use Rattle.lemmas.proofs.Permutations.{permutation_same}
 use Rattle.tags.specs.declared.token.Port.TheVariants.{Left}
 use Rattle.tags.specs.declared.token.Cont.{Cont}
 use Rattle.tags.specs.declared.token.Word.{Word}
@@ -15,7 +16,6 @@ use Rattle.semantics.specs.Rule as Rule
 use Rattle.semantics.specs.Machine.{Fires as Happening}
 use Rattle.semantics.specs.Holders.{Holder, same_holder}
 use Rattle.semantics.specs.Credits.{granted_at, granted_by}
-use Rattle.law_net.proofs.Orders.{IsPermutation-same}
 use Rattle.law_contexts.specs.Parts.{Opener, Giver, Taker, Drainer, Drained, NextFramer, inlet, signal, BackTo, Item, item, Firing}
 use Rattle.law_contexts.specs.Blocks.{is_loop}
 use Rattle.law_contexts.specs.Contexts.{block_in, wiring_in}
@@ -243,7 +243,7 @@ module _ {stage : ℕ} (s : Taking stage) (n : ℕ) (e : s.i.inlet.part ≡ Take
       signals = of_made (λ (j : Item). j.word ≡ signal) refl;
       known = of_made (λ (j : Item). (g : ℕ) × (frame_at s.fl net.fired j.context ≡ Some g)) (s.keeps.follows.stands.named s.i turn (among s s.i (taken_here s)) (ap named_by word_is));
       caused = λ j h i o. of_made (IsCaused s) (inr was_asked) j h;
-      event = IsPermutation-same _ _ m.0;
+      event = permutation_same _ _ m.0;
       state = Slot.Credits x;
       store = m.1;
       slot_now = sym slot_now;

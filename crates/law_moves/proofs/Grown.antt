@@ -5,6 +5,8 @@ use Rattle.std.proofs.lemmas.Bool.{cases_eq}
 use Rattle.std.proofs.lemmas.List.{map-append}
 use Rattle.std.proofs.lemmas.List.Elements.{Contains-append_left, Contains-append_right}
 use Rattle.std.proofs.lemmas.List.Sorted.{IsPermutation-trans, IsPermutation-append}
+use Rattle.lemmas.proofs.Permutations.{permutation_same}
+use Rattle.lemmas.proofs.Contains.{contains_head}
 use Rattle.tags.specs.declared.token.Port.TheVariants.{Left}
 use Rattle.tags.specs.declared.token.Word.{Word}
 use Rattle.tags.specs.declared.token.To.{To}
@@ -15,9 +17,9 @@ use Rattle.semantics.specs.Rule.{token}
 use Rattle.semantics.specs.Machine.{Store, answer, with_out, put_at, value_in}
 use Rattle.semantics.specs.Handed.{handed_by}
 use Rattle.semantics.specs.Orderly.{readers_of}
-use Rattle.law_net.proofs.NetSlots.{InSlots, put_same, put_other}
-use Rattle.law_net.proofs.Orders.{at_last, IsPermutation-same}
-use Rattle.law_net.proofs.Members.{contains_head}
+use Rattle.semantics.proofs.Stores.{put_other}
+use Rattle.law_net.proofs.NetSlots.{InSlots, put_same}
+use Rattle.law_net.proofs.Orders.{at_last}
 use Rattle.law_contexts.specs.Parts.{Opener, Taker, Drained, Done, Freed, Held, inlet, FrameOf, Item, item, Firing, same_context}
 use Rattle.law_contexts.specs.Blocks.{is_loop, bound_at}
 use Rattle.law_contexts.specs.Contexts.{block_in, wiring_in, or_zero, IsContext}
@@ -36,7 +38,7 @@ use Rattle.law_moves.proofs.Lasting.{Lasts, item_word, tokens_last, conts_last, 
 use Rattle.law_moves.proofs.Single.{gone_alone, alone_all, alone_here, others_there}
 use Rattle.law_moves.proofs.Unframed.{no_firing, no_times}
 use Rattle.law_moves.proofs.Managed.{Hands, hand_out, cont, to_manager, asked_opens, asked_takes, asked_drains, asked_remembers, asked_done, asked_freed}
-use Rattle.law_arms.proofs.Sames.{same_context-true, same_context-refl}
+use Rattle.law_contexts.proofs.Sames.{same_context-true, same_context-refl}
 
 -- FRAMES after one was handed to d
 frame_now : (fl : Flow) (f : Firing) (fired : List Firing) (d : Context) → is_main d ≡ false → handed_to fl f.context f.part ≡ Some d → frame_at fl (f ∷ fired) d ≡ Some f.frame
@@ -166,7 +168,7 @@ module _ {stage : ℕ} (s : Taking stage) (k : Hands s) (g : ℕ) (made : s.even
 
   pub grown_stands : Stands s.fl s.p s.w s.new grown
   grown_stands = record {
-    pool = at_last (IsPermutation-trans _ _ _ s.event.leaves (IsPermutation-append _ _ _ _ (IsPermutation-same _ _ given_token) (at_last (rest_is s) (sym (tokens_last s.fl s.p s.w net.fired grown.fired s.others (λ j h. lasts j (pending_in j h)))))))
+    pool = at_last (IsPermutation-trans _ _ _ s.event.leaves (IsPermutation-append _ _ _ _ (permutation_same _ _ given_token) (at_last (rest_is s) (sym (tokens_last s.fl s.p s.w net.fired grown.fired s.others (λ j h. lasts j (pending_in j h)))))))
         (sym (map-append (token_of s.fl s.p s.w grown.fired) (makes s.fl s.w given_by) s.others));
     known = λ j h. known j (alone_all s given_by (k.own g) (k.renews g) j h);
     apart = λ d e n a b. apart d e n (newer d n a) (newer e n b);

@@ -2,6 +2,8 @@
 use Rattle.std.proofs.Common.{◌≡◌, ℕ, true, false, List, [], ◌∷◌, ◌++◌, sym, ap, ◌∙◌, subst, inl, inr, ◌⊎◌}
 use Rattle.std.specs.Prelude.{IsPermutation, Contains, flat_map}
 use Rattle.std.proofs.lemmas.List.Sorted.{IsPermutation-sym, Contains-permutation}
+use Rattle.lemmas.proofs.Permutations.{permutation_same}
+use Rattle.lemmas.proofs.Contains.{contains_cases, contains_tail}
 use Rattle.tags.specs.declared.token.Port.{Port}
 use Rattle.tags.specs.declared.token.Port.TheVariants.{Left, Right}
 use Rattle.tags.specs.declared.token.Word.{Word}
@@ -12,8 +14,7 @@ use Rattle.semantics.specs.Machine.{Store, with_slot}
 use Rattle.semantics.specs.Cause.{SameSeen}
 use Rattle.semantics.specs.Orderly.{readers_of}
 use Rattle.law_net.proofs.NetSlots.{InSlots, slots_add}
-use Rattle.law_net.proofs.Orders.{at_last, IsPermutation-same}
-use Rattle.law_net.proofs.Members.{contains_tail, contains_cases}
+use Rattle.law_net.proofs.Orders.{at_last}
 use Rattle.law_contexts.specs.Parts.{Held, Done, Freed, Item, Firing}
 use Rattle.law_contexts.specs.Blocks.{is_store}
 use Rattle.law_contexts.specs.Contexts.{block_in}
@@ -59,7 +60,7 @@ module _ {stage : ℕ} (s : Taking stage) (g : Halts s) where
   halts_moved : Moved s waited
   halts_moved = record {
     reached = reached;
-    pool = pool_is s [] (IsPermutation-same _ _ g.none);
+    pool = pool_is s [] (permutation_same _ _ g.none);
     slots = halts_slots;
     requests = ap (λ (x : Store). x.requests) g.store;
     readers = λ x. subst (λ k. IsPermutation (readers_of k) (conts_of s.fl s.p s.w net.fired (only (λ (i : Item). reads s.fl x i i.inlet.part) waited.waiting))) (sym (ap (λ (y : Store). y.cells x) g.store))
@@ -70,7 +71,7 @@ module _ {stage : ℕ} (s : Taking stage) (g : Halts s) where
     not_out = λ f e. old.not_out f (sym (ap (λ (x : Store). x.out f) g.store) ∙ e);
     good = λ j n c e. old.good j n (Contains-permutation _ _ j (waited_both s net (reached_here s) s.i s.others s.perm (inl g.slot)) c) e;
     waits = λ j c. by_case j (contains_cases s.i net.waiting j c);
-    met = met_is s [] waited_came (IsPermutation-same _ _ (ap but_cells g.none)) (waited_back s net (reached_here s) s.i s.others s.perm (inl g.slot) (flat_map (λ (f : Firing). own_takes s.fl f f.part) net.fired));
+    met = met_is s [] waited_came (permutation_same _ _ (ap but_cells g.none)) (waited_back s net (reached_here s) s.i s.others s.perm (inl g.slot) (flat_map (λ (f : Firing). own_takes s.fl f f.part) net.fired));
     caused = λ j c i e. inl (Contains-permutation _ _ j (IsPermutation-sym _ _ s.perm) (contains_tail s.i s.others j c));
     free = g.free;
   }

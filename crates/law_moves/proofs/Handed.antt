@@ -6,6 +6,8 @@ use Rattle.std.proofs.lemmas.List.{map-append}
 use Rattle.std.proofs.lemmas.List.Concat.{flat_map-append}
 use Rattle.std.proofs.lemmas.List.Elements.{Contains-append_left, Contains-append_right, Contains-append_cases}
 use Rattle.std.proofs.lemmas.List.Sorted.{IsPermutation-trans, IsPermutation-sym, IsPermutation-map, IsPermutation-append}
+use Rattle.lemmas.proofs.Permutations.{permutation_same}
+use Rattle.lemmas.proofs.Contains.{contains_cases, contains_head, contains_tail}
 use Rattle.tags.specs.declared.token.Port.TheVariants.{Left}
 use Rattle.tags.specs.declared.token.Word.{Word}
 use Rattle.tags.specs.declared.token.Token.{Token}
@@ -13,8 +15,7 @@ use Rattle.semantics.specs.Meaning.{Context}
 use Rattle.semantics.specs.Machine.{answer, with_out, with_requests}
 use Rattle.semantics.specs.Handed.{handed_by}
 use Rattle.semantics.specs.Holders.{Holder}
-use Rattle.law_net.proofs.Orders.{shuffled, Part as Piece, ◌⊕◌, at_last, IsPermutation-same, flat_map-IsPermutation}
-use Rattle.law_net.proofs.Members.{contains_head, contains_tail, contains_cases}
+use Rattle.law_net.proofs.Orders.{shuffled, Part as Piece, ◌⊕◌, at_last, flat_map-IsPermutation}
 use Rattle.law_contexts.specs.Parts.{Opener, Giver, Taker, Landing, Inlet, inlet, BackTo, Item, Firing}
 use Rattle.law_contexts.specs.Blocks.{is_loop}
 use Rattle.law_contexts.specs.Contexts.{block_in, code_in, wiring_in, IsContext}
@@ -72,7 +73,7 @@ module _ {stage : ℕ} (s : Taking stage) (k : Hands s) (g : ℕ) (made : s.even
       let same = tokens_last s.fl s.p s.w net.fired new.fired (only (nh s) (came s.fl net)) (λ j h. lasts s k g made store j (came_all s.fl net j (kept_out (nh s) (came s.fl net) j h).0)) in
       let b = at_last s.keeps.follows.met (sym same) in
       let told = cells_out s.fl s.p s.w new.fired (makes s.fl s.w f) (λ j h. told_other s.fl s.p s.w new.fired j (of_one (λ (j : Item). is_held j.inlet.part ≡ false) (instr_held k.answered k.is) j h)) in
-      let d = IsPermutation-same _ _ (ap but_cells (given_token s k g made store) ∙ told) in
+      let d = permutation_same _ _ (ap but_cells (given_token s k g made store) ∙ told) in
       let h = at_last (flat_map-IsPermutation (λ (i : Item). if nh s i then i ∷ [] else []) _ _ came_back) (kept_append (nh s) (makes s.fl s.w f) (came s.fl net)) in
       let l = at_last (IsPermutation-map tok _ _ h) (map-append tok (only (nh s) (makes s.fl s.w f)) (only (nh s) (came s.fl net))) in
       IsPermutation-trans _ _ _ a (IsPermutation-trans _ _ _ (IsPermutation-append _ _ _ _ b d) (IsPermutation-trans _ _ _

@@ -3,6 +3,9 @@ use Rattle.std.proofs.Common.{◌≡◌, ℕ, ◌*◌, ◌<◌, Bool, true, fals
 use Rattle.std.specs.Prelude.{IsPermutation, Contains, slice_get}
 use Rattle.std.proofs.lemmas.Bool.{cases_eq}
 use Rattle.std.proofs.lemmas.List.Elements.{Contains-append_right}
+use Rattle.lemmas.proofs.Permutations.{permutation_same}
+use Rattle.lemmas.proofs.Contains.{contains_cases, contains_head, contains_none, contains_tail}
+use Rattle.lemmas.proofs.Bools.{first_of_and, second_of_and}
 use Rattle.tags.specs.declared.value.Value.{Value}
 use Rattle.tags.specs.declared.token.Port.TheVariants.{Left}
 use Rattle.tags.specs.declared.token.Cont.{Cont}
@@ -16,9 +19,8 @@ use Rattle.semantics.specs.Machine.{Store, Happens, Hosts, Releases, outputs_of,
 use Rattle.semantics.specs.Handed.{handed_by}
 use Rattle.semantics.specs.Credits.{granted_at, released_at}
 use Rattle.semantics.specs.Plan.{Plan}
-use Rattle.law_net.proofs.NetSlots.{InSlots, put_same, put_other}
-use Rattle.law_net.proofs.Orders.{IsPermutation-same}
-use Rattle.law_net.proofs.Members.{contains_head, contains_tail, contains_cases, contains_none}
+use Rattle.semantics.proofs.Stores.{put_other}
+use Rattle.law_net.proofs.NetSlots.{InSlots, put_same}
 use Rattle.law_contexts.specs.Parts.{Shown, Done, Freed, same_context, Note, Datum, FrameOf, BackTo, ToHost, signal, Item, Firing}
 use Rattle.law_contexts.specs.Contexts.{Wires, block_in, or_zero}
 use Rattle.law_contexts.specs.Firings.{Config, takes, makes, frame_at, frame_if, frames_of, frames_if, handed_to, HasFired, memory_of}
@@ -26,8 +28,8 @@ use Rattle.law_contexts.specs.Firings as Firings
 use Rattle.law_contexts.specs.Laws.{is_main}
 use Rattle.law_contexts.specs.Stands.{frame_of, word_of, token_of, on_side, in_slot, slot_of, only, Stands}
 use Rattle.law_contexts.specs.Theorem.{IsGood}
+use Rattle.law_contexts.proofs.Blocks.{is_main_true}
 use Rattle.law_moves.specs.Cases.{Taking, net_of, Followed, IsFree, Shows, is_still}
-use Rattle.law_moves.proofs.Lists.{and_left, and_right}
 use Rattle.law_moves.proofs.Sites.{coded}
 use Rattle.law_moves.proofs.Goes.{goes_follow}
 use Rattle.law_moves.proofs.Fitted.{fits, framed, bare, bare_item, taken_here, lone_port, plain_way}
@@ -39,11 +41,6 @@ pub outputs_are : {stage : ℕ} (fl : Flow) (p : Plan) (w : Wires) → IsGood st
 outputs_are fl p w good =
     let k = coded fl p w good.wired Main good.main in
     ap (λ n. results_in (slice_get p.program.blocks n)) good.wired.main ∙ ap results_in k.there ∙ k.laid.outputs
-
-pub main_is : (c : Context) → is_main c ≡ true → c ≡ Main
-main_is Main e = refl
-main_is (Called c n) e = absurd (true≢false (sym e))
-main_is (Turned c n i) e = absurd (true≢false (sym e))
 
 -- a frame of a context was handed out
 among_more : (o : Option Context) (h g : ℕ) (gs : List ℕ) → Contains gs g → Contains (frames_if o h ++ gs) g
@@ -101,10 +98,10 @@ module _ {stage : ℕ} (s : Taking stage) where
     later = net.waiting;
     waiting = refl;
     paired = λ j h. absurd (contains_none j h);
-    took = IsPermutation-same _ _ (sym takes_is);
+    took = permutation_same _ _ (sym takes_is);
     part = refl;
     still = still;
-    made = IsPermutation-same _ _ (made ∙ ap (map (token_of s.fl s.p s.w net.fired)) (sym makes_is));
+    made = permutation_same _ _ (made ∙ ap (map (token_of s.fl s.p s.w net.fired)) (sym makes_is));
     quiet = λ j h. absurd (none j h);
     known = λ j h. absurd (none j h);
     named = λ j d h e. absurd (none j h);
@@ -146,8 +143,8 @@ module _ {stage : ℕ} (s : Taking stage) (j : ℕ) (e : s.i.inlet.part ≡ Show
 
   within : j < outputs_of s.p.program
   within =
-      let m = main_is s.i.context (and_left (is_main s.i.context) (nat_lt j (block_in s.fl s.i.context).outputs) shown_there) in
-      let l = ltb-true j (block_in s.fl s.i.context).outputs (and_right (is_main s.i.context) (nat_lt j (block_in s.fl s.i.context).outputs) shown_there) in
+      let m = is_main_true s.i.context (first_of_and (is_main s.i.context) (nat_lt j (block_in s.fl s.i.context).outputs) shown_there) in
+      let l = ltb-true j (block_in s.fl s.i.context).outputs (second_of_and (is_main s.i.context) (nat_lt j (block_in s.fl s.i.context).outputs) shown_there) in
       let o = outputs_are s.fl s.p s.w s.good in
       let k = ap (λ c. (block_in s.fl c).outputs) m in omega (arith, l, o, k)
 
@@ -212,7 +209,7 @@ module _ {stage : ℕ} (s : Taking stage) (e : s.i.inlet.part ≡ Done) where
         requests = ap (λ (x : Store). x.requests) st;
         cells = λ y. ap (λ (x : Store). x.cells y) st;
         seen = record { outputs = λ y. ap (λ (x : Store). x.outputs y) st ∙ (old ending).seen.outputs y; cells = λ y. ap (λ (x : Store). value_in (x.cells y)) st ∙ (old ending).seen.cells y };
-        done = (λ o. (f ending, contains_head (f ending) (net_of s).fired, main_is s.i.context (fits ending ending.i (taken_here ending)).there, refl), λ h. ap (λ (x : Store). x.done) st);
+        done = (λ o. (f ending, contains_head (f ending) (net_of s).fired, is_main_true s.i.context (fits ending ending.i (taken_here ending)).there, refl), λ h. ap (λ (x : Store). x.done) st);
         out = λ d g x. (
           λ o. fired_now d Freed (f ending) (net_of s).fired (((old ending).out d g x).0 (sym (ap (λ (x : Store). x.out g) st) ∙ o)),
           λ h. ap (λ (x : Store). x.out g) st ∙ ((old ending).out d g x).1 (fired_before d Freed (f ending) (net_of s).fired (λ d. absurd (cc)) h),

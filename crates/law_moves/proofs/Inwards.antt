@@ -14,19 +14,20 @@ use Rattle.semantics.specs.declared.program.Dest.{Dest}
 use Rattle.semantics.specs.declared.program.Op.{Op}
 use Rattle.semantics.specs.declared.program.Op.TheVariants as Ops
 use Rattle.semantics.specs.Graph.{Node, Block, Flow, node_at}
-use Rattle.semantics.specs.Meaning.{Context, Main, Called, Turned, node_of, node_in, block_number, block_numbered, origin_at, origin_in}
+use Rattle.semantics.specs.Meaning.{Context, node_of, node_in, block_number, block_numbered, origin_at, origin_in}
 use Rattle.semantics.specs.Program.{Instr}
 use Rattle.semantics.specs.Rule.{to_all, to_each, fires, fire_one, fire_two}
 use Rattle.semantics.specs.Machine.{Fires}
 use Rattle.law_once.specs.Alike.{plain_dests}
 use Rattle.law_contexts.specs.Parts.{Part, Entry, Line, Answer, Trigger, Gate, Merge, Fanned, Landing, CallDone, LoopDone, Strict, TurnCont, TurnFlag, TurnValue, NextFanned, Join, CondEnd, Drained, Note, Datum, FrameOf, BackTo, ToHost, signal, Item, each}
 use Rattle.law_contexts.specs.Blocks.{waits_in, is_switch, op_of, is_cell, cell_kind, pair_kind, kind_op}
-use Rattle.law_contexts.specs.Contexts.{block_in, number_in, site_in, or_none, or_zero, IsContext, HasBlock}
+use Rattle.law_contexts.specs.Contexts.{block_in, number_in, site_in, or_none, or_zero, HasBlock}
 use Rattle.law_contexts.specs.Wires.{answered_at}
 use Rattle.law_contexts.specs.Firings.{takes, makes, line_value, kind_value, value_in}
 use Rattle.law_contexts.specs.Laws.{WordFits, spot_there}
 use Rattle.law_contexts.specs.Stands.{word_of, token_of, in_slot, slot_of, frame_of, is_instr}
 use Rattle.law_contexts.specs.Packages.{Inwards, OfCells, doing_of, EventsFollowBy}
+use Rattle.law_contexts.proofs.Blocks.{has_block}
 use Rattle.law_moves.specs.Cases.{Taking, net_of, Followed, is_still}
 use Rattle.law_moves.proofs.Fitted.{fits, IsHere, taken_here, among, is_plain_way}
 use Rattle.law_moves.proofs.Rules.{at, instr, stood, grants, releases}
@@ -123,11 +124,6 @@ kept_node fl c n (b, e) = subst (λ (o : Option (Block ℕ)). node_in o n ≡ no
 kept_number : (fl : Flow) (o : Option ℕ) (b : Block ℕ) → block_numbered fl o ≡ Some b → o ≡ Some (or_zero o)
 kept_number fl None b e = absurd (cc)
 kept_number fl (Some i) b e = refl
-
-pub has_block : (fl : Flow) (c : Context) → IsContext fl c → HasBlock fl c
-has_block fl Main h = h
-has_block fl (Called c n) h = h.2
-has_block fl (Turned c n i) h = h.2
 
 pub origin_is : (fl : Flow) (c : Context) (n : ℕ) → HasBlock fl c → origin_in fl.version (Some (number_in fl c)) n ≡ origin_at fl c n
 origin_is fl c n (b, e) = ap (λ o. origin_in fl.version o n) (sym (kept_number fl (block_number fl c) b e))

@@ -1,6 +1,7 @@
 -- The last turn of a loop returns its results to where the loop is, and asks that all credits come back.
 use Rattle.std.proofs.Common.{◌≡◌, ℕ, ◌+◌, ◌<◌, true, [], ◌∷◌, ◌++◌, refl, sym, ap, ◌∙◌, subst, arith, lt-ltb, ltb-true}
 use Rattle.std.proofs.lemmas.Bool.{and_from, or_right}
+use Rattle.lemmas.proofs.Bools.{and_false}
 use Rattle.tags.specs.declared.token.Port.TheVariants.{Left}
 use Rattle.semantics.specs.Meaning.{Context, Turned}
 use Rattle.law_contexts.specs.Parts.{Part, LastReturn, DrainReturn, Giver, Taker, Drainer, Landing, inlet, Note, Item, item, same_context}
@@ -9,7 +10,7 @@ use Rattle.law_contexts.specs.Contexts.{block_in, site_in, wiring_in, IsContext}
 use Rattle.law_contexts.specs.Stands.{is_instr, is_item_at, items_at, granted_of}
 use Rattle.law_arms.proofs.Invoked.{loop_invoked, code_at}
 use Rattle.law_moves.specs.Cases.{Taking, net_of, Followed}
-use Rattle.law_moves.proofs.Lists.{contains_one, and_no, count_none}
+use Rattle.law_moves.proofs.Lists.{contains_one, count_none}
 use Rattle.law_moves.proofs.Moved.{is_credit}
 use Rattle.law_moves.proofs.Fitted.{fits, there, taken_here}
 use Rattle.law_moves.proofs.Children.{turn_landing}
@@ -67,7 +68,7 @@ module _ {stage : ℕ} (s : Taking stage) (d : Context) (n i : ℕ) (in_turn : s
           let w : i ≡ j.inlet.way = ap (λ (j : Item). j.inlet.way) same in (
             ap (λ (w : ℕ). w + 1) (sym w) ∙ drains_granted s d n i in_turn e ∙ (λ t. granted_of (net_of s) (c t) (z t)),
             sym (λ t. items_at (c t) (Taker (z t)) ((net_of s).pending ++ (net_of s).waiting)) ∙ none_asked s d n i in_turn e,
-            count_none (is_item_at x (Taker m)) (item d (inlet (Drainer n) Left i) k ∷ []) (λ y u. sym (ap (is_item_at x (Taker m)) (contains_one (item d (inlet (Drainer n) Left i) k) y u)) ∙ and_no (same_context d x)),
+            count_none (is_item_at x (Taker m)) (item d (inlet (Drainer n) Left i) k ∷ []) (λ y u. sym (ap (is_item_at x (Taker m)) (contains_one (item d (inlet (Drainer n) Left i) k) y u)) ∙ and_false (same_context d x)),
           );
       gives = λ j h a g. let y : Drainer n ≡ Giver m = ap (λ (j : Item). j.inlet.part) (contains_one (item d (inlet (Drainer n) Left i) k) j h) ∙ g in absurd (cc);
     }

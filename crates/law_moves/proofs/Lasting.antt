@@ -1,6 +1,7 @@
 -- Words and tokens are the same in two states of the net in which the frames are the same.
 use Rattle.std.proofs.Common.{◌≡◌, ℕ, ◌+◌, true, List, [], ◌∷◌, ◌++◌, map, refl, sym, ap, ◌∙◌, subst, inl, inr, ◌⊎◌, arith, Some, nat_lt, if◌then◌else◌}
 use Rattle.std.specs.Prelude.{Contains}
+use Rattle.lemmas.proofs.Contains.{contains_head, contains_tail}
 use Rattle.tags.specs.declared.token.Word.{Word}
 use Rattle.tags.specs.declared.token.To.{To}
 use Rattle.tags.specs.declared.token.Cont.{Cont}
@@ -10,7 +11,6 @@ use Rattle.semantics.specs.Graph.{Flow}
 use Rattle.semantics.specs.Meaning.{Context}
 use Rattle.semantics.specs.Plan.{Plan}
 use Rattle.law_net.proofs.NetSlots.{InSlots, AtSlot}
-use Rattle.law_net.proofs.Members.{contains_head, contains_tail}
 use Rattle.law_contexts.specs.Parts.{Part, Opener, Giver, Taker, Drainer, Asked, NextAsked, Held, Drained, Shown, Done, Freed, Note, Datum, FrameOf, BackTo, ToHost, Item, Firing}
 use Rattle.law_contexts.specs.Blocks.{bound_at}
 use Rattle.law_contexts.specs.Contexts.{Wires, block_in}

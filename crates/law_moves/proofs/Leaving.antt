@@ -4,6 +4,8 @@ use Rattle.std.specs.Prelude.{IsPermutation, Contains}
 use Rattle.std.proofs.lemmas.List.{map-append}
 use Rattle.std.proofs.lemmas.List.Elements.{Contains-append_right, Contains-append_cases}
 use Rattle.std.proofs.lemmas.List.Sorted.{IsPermutation-sym, IsPermutation-append, Contains-permutation}
+use Rattle.lemmas.proofs.Permutations.{permutation_same}
+use Rattle.lemmas.proofs.Contains.{contains_map, contains_mapped, contains_none}
 use Rattle.tags.specs.declared.token.Port.{Port}
 use Rattle.tags.specs.declared.token.Word.{Word}
 use Rattle.tags.specs.declared.token.Token.{Token}
@@ -17,9 +19,7 @@ use Rattle.semantics.specs.Arcs.{UsesArc}
 use Rattle.semantics.specs.Holders.{Holder}
 use Rattle.semantics.specs.Credits.{granted_at, released_at}
 use Rattle.law_net.proofs.NetSlots.{InSlots}
-use Rattle.law_net.proofs.Orders.{at_first, at_last, IsPermutation-same}
-use Rattle.law_net.proofs.Members.{contains_none}
-use Rattle.law_reuse.proofs.Members.{contains_map, contains_mapped}
+use Rattle.law_net.proofs.Orders.{at_first, at_last}
 use Rattle.law_once.specs.Alike.{plain_dests}
 use Rattle.law_once.proofs.SpreadNewArcs.{uses_new}
 use Rattle.law_contexts.specs.Parts.{Part, Held, Giver, Taker, Drainer, Landing, Inlet, Note, BackTo, Item, item, each, Firing}
@@ -134,7 +134,7 @@ module _ {stage : ℕ} (s : Taking stage) (is : is_instr s.i.inlet.part ≡ true
       wires_are x h = (wired_to s is g.second x h).0
 
       made : IsPermutation s.event.made (map tok (makes s.fl s.w f))
-      made = at_first g.made (at_last (IsPermutation-append _ _ _ _ (IsPermutation-same _ _ g.out_is) (dests_sent s is g.note g.dests (Wire s is g.second) g.leads wires_are))
+      made = at_first g.made (at_last (IsPermutation-append _ _ _ _ (permutation_same _ _ g.out_is) (dests_sent s is g.note g.dests (Wire s is g.second) g.leads wires_are))
           (sym (map-append tok g.out (each c g.note (Wire s is g.second))) ∙ ap (map tok) (sym g.makes_is)))
 
       where_is : (j : Item) → Contains (makes s.fl s.w f) j → Contains g.out j ⊎ OnWire g.note g.second j

@@ -3,6 +3,7 @@ use Rattle.std.proofs.Common.{◌≡◌, ℕ, Bool, true, false, List, [], ◌�
 use Rattle.std.specs.Prelude.{Contains, flat_map}
 use Rattle.std.proofs.lemmas.Bool.{cases_Bool}
 use Rattle.std.proofs.lemmas.List.Elements.{Contains-append_right, Contains-append_cases}
+use Rattle.lemmas.proofs.Contains.{contains_head, contains_tail}
 use Rattle.tags.specs.declared.token.Word.{Word}
 use Rattle.tags.specs.declared.token.To.{To}
 use Rattle.tags.specs.declared.token.Cont.{Cont}
@@ -10,7 +11,6 @@ use Rattle.semantics.specs.Rule.{token}
 use Rattle.semantics.specs.Graph.{Flow}
 use Rattle.semantics.specs.Meaning.{Context, Main, Called, Turned, Memory}
 use Rattle.semantics.specs.Plan.{Plan}
-use Rattle.law_net.proofs.Members.{contains_head, contains_tail}
 use Rattle.law_contexts.specs.Parts.{Part, Opener, Giver, Taker, Drainer, Drained, Asked, NextAsked, Held, Shown, Done, Freed, Note, Datum, FrameOf, BackTo, ToHost, Item, Firing}
 use Rattle.law_contexts.specs.Contexts.{Wires, or_zero}
 use Rattle.law_contexts.specs.Firings.{handed_to, frame_if, frame_at, frames_if, frames_of, renewed, own_takes, takes, is_firing, times, remembered, memory_of, HasFired}

@@ -5,6 +5,7 @@ use Rattle.std.proofs.lemmas.Bool.{cases_eq, cases_Bool}
 use Rattle.std.proofs.lemmas.List.Concat.{flat_map-append}
 use Rattle.std.proofs.lemmas.List.Elements.{Contains-append_left, Contains-append_right, Contains-append_cases}
 use Rattle.std.proofs.lemmas.List.Sorted.{IsPermutation-trans, IsPermutation-sym, IsPermutation-append_left, IsPermutation-append_right, Contains-permutation}
+use Rattle.lemmas.proofs.Contains.{contains_cases, contains_tail}
 use Rattle.tags.specs.declared.token.Token.{Token}
 use Rattle.tags.specs.declared.slot.SlotState.{SlotState}
 use Rattle.tags.specs.declared.slot.SlotState.TheVariants.{Empty}
@@ -14,16 +15,16 @@ use Rattle.semantics.specs.Machine.{Store, with_slot}
 use Rattle.semantics.specs.Holders.{Holder, same_holder}
 use Rattle.semantics.specs.Credits.{granted_at, released_at}
 use Rattle.semantics.specs.Orderly.{readers_of}
-use Rattle.law_net.proofs.NetSlots.{InSlots, with_base, slots_turn, slot_same, slot_other}
+use Rattle.semantics.proofs.Stores.{slot_filled}
+use Rattle.law_net.proofs.NetSlots.{InSlots, with_base, slots_turn, slot_other}
 use Rattle.law_net.proofs.Orders.{shuffled, Part as Piece, ◌⊕◌, at_first, at_last}
-use Rattle.law_net.proofs.Members.{contains_tail, contains_cases}
 use Rattle.law_contexts.specs.Parts.{Part, Opener, Giver, Taker, Drainer, Drained, Done, Freed, Held, signal, Item, Firing, same_context}
 use Rattle.law_contexts.specs.Blocks.{is_loop, is_store, waits_in, bound_at}
 use Rattle.law_contexts.specs.Contexts.{block_in, code_in, wiring_in, or_zero, IsContext}
 use Rattle.law_contexts.specs.Credits.{slot_for, CreditLaw}
 use Rattle.law_contexts.specs.Firings.{Config, begin, takes, own_takes, times, frame_at, cell_of, memory_of, ProperMoves}
 use Rattle.law_contexts.specs.Stands.{frame_of, word_of, token_of, on_side, in_slot, slot_of, only, is_asked, is_held, reads, is_item_at, items_at, cont_in, conts_of, granted_of, ledger, KeepsCredits, Stands, named_by, is_instr, is_entry_part, came}
-use Rattle.law_arms.proofs.Sames.{same_context-true, same_context-refl}
+use Rattle.law_contexts.proofs.Sames.{same_context-true, same_context-refl}
 use Rattle.law_arms.proofs.Pigeons.{item_there}
 use Rattle.law_moves.specs.Cases.{Taking, IsCaused, net_of, is_quiet}
 use Rattle.law_moves.proofs.Lists.{kept_out, count_append, count_same, count_none, count_no, count_kept}
@@ -298,7 +299,7 @@ module _ {stage : ℕ} (s : Taking stage) (c : Context) (con : IsContext s.fl c)
         (subst (λ (x : List Item). InSlots F (slot_of s.fl s.w) H base x (with_slot s.m.store g slot v.state).slots) (sym (v.spared (in_slot s.fl) spares_slots)) a)
 
     base_here : base g slot ≡ v.state
-    base_here = slot_same (with_base s.m.store old.base) g slot v.state
+    base_here = slot_filled (with_base s.m.store old.base) g slot v.state
 
     base_other : (f q : ℕ) → (g ≡ f → slot ≡ q → ⊥) → base f q ≡ old.base f q
     base_other f q h = slot_other (with_base s.m.store old.base) g slot v.state f q h

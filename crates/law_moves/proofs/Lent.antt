@@ -3,8 +3,9 @@ use Rattle.std.proofs.Common.{◌≡◌, ℕ, ◌+◌, ◌<◌, Bool, true, fals
 use Rattle.std.specs.Prelude.{Contains}
 use Rattle.std.proofs.lemmas.Bool.{cases_Bool, cases_eq}
 use Rattle.std.proofs.lemmas.List.Elements.{Contains-append_left, Contains-append_right, Contains-append_cases}
+use Rattle.lemmas.proofs.Contains.{contains_head}
+use Rattle.lemmas.proofs.Bools.{first_of_and, second_of_and}
 use Rattle.law_net.proofs.Orders.{at_last}
-use Rattle.law_net.proofs.Members.{contains_head}
 use Rattle.semantics.specs.Meaning.{Context}
 use Rattle.semantics.specs.Handed.{handed_by}
 use Rattle.semantics.specs.Holders.{Holder, same_holder}
@@ -15,7 +16,7 @@ use Rattle.law_contexts.specs.Firings.{Config, frame_at}
 use Rattle.law_contexts.specs.Stands.{frame_of, ip_of, only, is_held, is_item_at, items_at, granted_of, KeepsCredits, is_instr, is_entry_part, came, row_of, after, Past, WasUsed, Stepped}
 use Rattle.law_arms.proofs.Pigeons.{item_there}
 use Rattle.law_moves.specs.Cases.{Taking, IsCaused, net_of, Followed, is_quiet}
-use Rattle.law_moves.proofs.Lists.{and_left, and_right, count_append, count_same, count_none}
+use Rattle.law_moves.proofs.Lists.{count_append, count_same, count_none}
 use Rattle.law_moves.proofs.Followed.{used_later}
 use Rattle.law_moves.proofs.Settled.{met_is, made_but, told_other, quiet_held}
 use Rattle.law_moves.proofs.Lenders.{handed_lent}
@@ -24,7 +25,7 @@ use Rattle.law_moves.proofs.Lending.{Lends, lent, slot, holder, same_loop, slots
 -- a holder that is the same
 same_holder_true : (h k : Holder) → same_holder h (Some k) ≡ true → h ≡ k
 same_holder_true h k e =
-    let a = eqb-true h.block k.block (and_left (h.block == k.block) (h.number == k.number) e) in let b = eqb-true h.number k.number (and_right (h.block == k.block) (h.number == k.number) e) in
+    let a = eqb-true h.block k.block (first_of_and (h.block == k.block) (h.number == k.number) e) in let b = eqb-true h.number k.number (second_of_and (h.block == k.block) (h.number == k.number) e) in
     λ t. record { block = a t; number = b t }
 
 module _ {stage : ℕ} (s : Taking stage) (c : Context) (con : IsContext s.fl c) (n : ℕ) (l : is_loop (block_in s.fl c) n ≡ true) (g : ℕ) (at : frame_at s.fl (net_of s).fired c ≡ Some g)
@@ -66,8 +67,8 @@ module _ {stage : ℕ} (s : Taking stage) (c : Context) (con : IsContext s.fl c)
       pick : (((g == f) && same_holder (place x m) (Some (place c n))) ≡ true) ⊎ (((g == f) && same_holder (place x m) (Some (place c n))) ≡ false) → given f (place x m) ≡ 0
       pick (inr q) = ap (λ (t : Bool). if t then v.grants else 0) q
       pick (inl q) =
-          let a = eqb-true g f (and_left (g == f) (same_holder (place x m) (Some (place c n))) q) in
-          let b = same_holder_true (place x m) (place c n) (and_right (g == f) (same_holder (place x m) (Some (place c n))) q) in
+          let a = eqb-true g f (first_of_and (g == f) (same_holder (place x m) (Some (place c n))) q) in
+          let b = same_holder_true (place x m) (place c n) (second_of_and (g == f) (same_holder (place x m) (Some (place c n))) q) in
           absurd (slots_apart s c con n l g at x m f k e differ a (sym (ap (λ (h : Holder). h.number) b)))
 
   -- what is given back is counted as it comes
@@ -138,8 +139,8 @@ module _ {stage : ℕ} (s : Taking stage) (c : Context) (con : IsContext s.fl c)
 
       this : (((g == f) && same_holder h (Some (place c n))) ≡ true) ⊎ (((g == f) && same_holder h (Some (place c n))) ≡ false) → s.q.granted f h ≡ 0 → IsKnown f h
       this (inl q) z =
-          let a = eqb-true g f (and_left (g == f) (same_holder h (Some (place c n))) q) in
-          let b = same_holder_true h (place c n) (and_right (g == f) (same_holder h (Some (place c n))) q) in
+          let a = eqb-true g f (first_of_and (g == f) (same_holder h (Some (place c n))) q) in
+          let b = same_holder_true h (place c n) (second_of_and (g == f) (same_holder h (Some (place c n))) q) in
           (c, n, con, l, frames_are c ∙ at ∙ ap (λ x. Some x) a, b)
       this (inr q) z = let a : given f h ≡ 0 = ap (λ (t : Bool). if t then v.grants else 0) q in let b = v.granted f h in absurd (omega (arith, k, z, a, b))
 

@@ -2,6 +2,8 @@
 use Rattle.std.proofs.Common.{◌≡◌, ℕ, ◌+◌, true, false, List, [], ◌∷◌, map, refl, sym, ap, ◌∙◌, subst, inl, inr, ◌⊎◌, arith, true≢false, Some, None}
 use Rattle.std.specs.Prelude.{IsPermutation, Contains, flat_map}
 use Rattle.std.proofs.lemmas.List.Elements.{Contains-append_left}
+use Rattle.lemmas.proofs.Permutations.{permutation_same}
+use Rattle.lemmas.proofs.Contains.{contains_head, contains_none}
 use Rattle.tags.specs.declared.token.Port.{Port}
 use Rattle.tags.specs.declared.token.Port.TheVariants.{Left}
 use Rattle.tags.specs.declared.token.Cont.{Cont}
@@ -20,9 +22,9 @@ use Rattle.semantics.specs.Rule as Rule
 use Rattle.semantics.specs.Machine.{Store, Fires}
 use Rattle.semantics.specs.Sharing.{arc, row, arcs_to, arcs_from, inlet as port_at}
 use Rattle.semantics.specs.Arcs.{UsesBy}
+use Rattle.semantics.proofs.ArcEnds.{row_has}
 use Rattle.law_net.proofs.NetSlots.{InSlots}
-use Rattle.law_net.proofs.Orders.{at_last, IsPermutation-same}
-use Rattle.law_net.proofs.Members.{contains_head, contains_none}
+use Rattle.law_net.proofs.Orders.{at_last}
 use Rattle.law_reuse.proofs.UsedArcs.{stands_arcs}
 use Rattle.law_once.specs.Alike.{plain_dests}
 use Rattle.law_contexts.specs.Parts.{Part, Entry, Linker, Landing, Inlet, inlet, Note, FrameOf, BackTo, signal, Item, item, each}
@@ -41,7 +43,7 @@ use Rattle.law_moves.proofs.Sends.{Wire, firing_of, stays_same}
 use Rattle.law_moves.proofs.Along.{takes_one, mine, does}
 use Rattle.law_moves.proofs.Moved.{UsedNow, WasThere, is_credit}
 use Rattle.law_moves.proofs.Inwards.{told_as, carried}
-use Rattle.law_moves.proofs.Children.{child_code, entry_at, row_has}
+use Rattle.law_moves.proofs.Children.{child_code, entry_at}
 use Rattle.law_moves.proofs.Passed.{calm_books, none_counted, none_released}
 use Rattle.law_moves.proofs.Leaving.{leaves_follow}
 
@@ -168,7 +170,7 @@ module _ {stage : ℕ} (s : Taking stage) (n : ℕ) (e : s.i.inlet.part ≡ Link
     later = net.waiting;
     waiting = refl;
     paired = λ j h. absurd (contains_none j h);
-    took = IsPermutation-same _ _ ((λ t. mine l refl refl is_link t ∷ []) ∙ sym (takes_one l refl refl s.i.word signal s.i.inlet.way));
+    took = permutation_same _ _ ((λ t. mine l refl refl is_link t ∷ []) ∙ sym (takes_one l refl refl s.i.word signal s.i.inlet.way));
     same = refl;
     out = sent ∷ [];
     out_made = sent_token ∷ [];

@@ -1,12 +1,12 @@
 -- Lists of which some elements are left out, counted, or told apart by a test.
-use Rattle.std.proofs.Common.{◌≡◌, ◌+◌, Bool, true, false, ◌&&◌, cond, List, [], ◌∷◌, ◌++◌, length, refl, sym, ap, ◌∙◌, subst, inl, inr, ◌⊎◌, arith, true≢false, if◌then◌else◌}
+use Rattle.std.proofs.Common.{◌≡◌, ◌+◌, Bool, true, false, cond, List, [], ◌∷◌, ◌++◌, length, refl, sym, ap, ◌∙◌, subst, inl, inr, ◌⊎◌, arith, if◌then◌else◌}
 use Rattle.std.specs.Prelude.{IsPermutation, Contains, flat_map, count_by}
 use Rattle.std.proofs.lemmas.List.Sums.{sum_by-cons}
 use Rattle.std.proofs.lemmas.List.Concat.{flat_map-append}
 use Rattle.std.proofs.lemmas.List.Elements.{Contains-append_right, Contains-append_cases}
 use Rattle.std.proofs.lemmas.List.Sorted.{sum_by-IsPermutation}
-use Rattle.law_net.proofs.Members.{contains_head, contains_tail, contains_cases, contains_none}
-use Rattle.law_determinacy.proofs.Perm.{permutation_cancel}
+use Rattle.lemmas.proofs.Permutations.{permutation_cancel}
+use Rattle.lemmas.proofs.Contains.{contains_cases, contains_head, contains_none, contains_tail}
 
 -- the elements that pass
 abbrev pub kept_by : {X : Type 0} → (X → Bool) → List X → List X
@@ -109,15 +109,3 @@ module _ {X : Type 0} where
       pick : (x ≡ y) ⊎ Contains [] y → x ≡ y
       pick (inl e) = e
       pick (inr d) = absurd (contains_none y d)
-
-pub and_no : (x : Bool) → (x && false) ≡ false
-and_no true = refl
-and_no false = refl
-
-pub and_left : (x y : Bool) → (x && y) ≡ true → x ≡ true
-and_left true y e = refl
-and_left false y e = e
-
-pub and_right : (x y : Bool) → (x && y) ≡ true → y ≡ true
-and_right true y e = e
-and_right false y e = absurd (true≢false (sym e))

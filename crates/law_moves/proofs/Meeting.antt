@@ -3,6 +3,8 @@ use Rattle.std.proofs.Common.{◌≡◌, ℕ, true, List, [], ◌∷◌, ◌++�
 use Rattle.std.specs.Prelude.{IsPermutation, Contains}
 use Rattle.std.proofs.lemmas.List.Elements.{Contains-append_right}
 use Rattle.std.proofs.lemmas.List.Sorted.{IsPermutation-sym, IsPermutation-middle, Contains-permutation}
+use Rattle.lemmas.proofs.Permutations.{permutation_same}
+use Rattle.lemmas.proofs.Contains.{contains_cases, contains_head, contains_tail}
 use Rattle.tags.specs.declared.token.Port.{Port}
 use Rattle.tags.specs.declared.token.Port.TheVariants.{Left, Right}
 use Rattle.tags.specs.declared.token.Word.{Word}
@@ -15,8 +17,7 @@ use Rattle.semantics.specs.Machine.{Fires, with_slot}
 use Rattle.semantics.specs.Wired.{is_dyadic}
 use Rattle.semantics.specs.Credits.{released_by}
 use Rattle.law_net.proofs.NetSlots.{InSlots, AtSlot, slots_drop}
-use Rattle.law_net.proofs.Orders.{at_first, at_last, shuffled, Part as Piece, ◌⊕◌, flat_map-IsPermutation, IsPermutation-same}
-use Rattle.law_net.proofs.Members.{contains_head, contains_tail, contains_cases}
+use Rattle.law_net.proofs.Orders.{at_first, at_last, shuffled, Part as Piece, ◌⊕◌, flat_map-IsPermutation}
 use Rattle.law_contexts.specs.Parts.{inlet, Note, Item, item}
 use Rattle.law_contexts.specs.Contexts.{block_in, site_in}
 use Rattle.law_contexts.specs.Firings.{Config}
@@ -140,7 +141,7 @@ module _ {stage : ℕ} (s : Taking stage) (two : in_slot s.fl s.i ≡ true) (rw 
             paired = paired;
             left = s.i.word;
             right = j.word;
-            took = IsPermutation-same _ _ (λ t. mine_is Left 0 a x t ∷ its_is Right rw b y t ∷ []);
+            took = permutation_same _ _ (λ t. mine_is Left 0 a x t ∷ its_is Right rw b y t ∷ []);
             left_from = (s.i, contains_head s.i (j ∷ []), refl);
             fired = m;
             slots = left_over;

@@ -1,6 +1,7 @@
 -- From what an event changes of the net to the whole of what follows.
 use Rattle.std.proofs.Common.{◌≡◌, ℕ, ◌+◌, ◌<◌, List, inl, inr, Bool, true, false, not, ◌&&◌, [], ◌∷◌, ◌++◌, map, refl, sym, ap, ◌∙◌, subst, ◌⊎◌, arith, true≢false, Some, nat_lt, if◌then◌else◌}
 use Rattle.std.specs.Prelude.{IsPermutation, Contains, flat_map, count_by}
+use Rattle.lemmas.proofs.Bools.{and_false}
 use Rattle.semantics.specs.Graph.{Block, Flow}
 use Rattle.semantics.specs.Meaning.{Context, Main}
 use Rattle.semantics.specs.Arcs.{UsesArc}
@@ -15,7 +16,7 @@ use Rattle.law_contexts.specs.Credits.{CreditLaw}
 use Rattle.law_contexts.specs.Firings.{Config, Move, begin, takes, frame_at, frames_of, times, cell_of, memory_of, HasFired, IsProperMove, ProperMoves, Still, Then}
 use Rattle.law_contexts.specs.Stands.{frame_of, ip_of, word_of, token_of, on_side, slot_of, conts_of, row_of, in_slot, only, is_asked, is_held, reads, is_item_at, items_at, first_cont, cont_in, granted_of, ledger, KeepsCredits, named_by, is_instr, is_entry_part, came, but_cells, events_taken}
 use Rattle.law_moves.specs.Cases.{Taking, IsCaused, net_of, IsFree, is_quiet}
-use Rattle.law_moves.proofs.Lists.{and_no, count_same, count_append, count_none}
+use Rattle.law_moves.proofs.Lists.{count_same, count_append, count_none}
 
 -- one move more
 pub one_more : (fl : Flow) (w : Wires) (a b c : Config) → ProperMoves fl w a b → (m : Move fl w b c) → IsProperMove fl w b.fired b c m → ProperMoves fl w a c
@@ -75,7 +76,7 @@ held_calm (Held n) e = refl
 held_calm r e = absurd (true≢false (sym e))
 
 pub calm_item : (c : Context) (q : Part) → is_credit q ≡ true → (j : Item) → is_credit j.inlet.part ≡ false → is_item_at c q j ≡ false
-calm_item c q k j e = ap (λ t. same_context j.context c && t) (credit_apart j.inlet.part q e k) ∙ and_no (same_context j.context c)
+calm_item c q k j e = ap (λ t. same_context j.context c && t) (credit_apart j.inlet.part q e k) ∙ and_false (same_context j.context c)
 
 pub held_asked : (r : Part) → is_held r ≡ true → is_asked r ≡ false
 held_asked (Held n) e = refl

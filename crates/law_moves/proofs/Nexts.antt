@@ -2,6 +2,9 @@
 use Rattle.std.proofs.Common.{◌≡◌, ℕ, zero, suc, ◌+◌, ◌<◌, true, false, List, [], ◌∷◌, ◌++◌, map, refl, sym, ap, ◌∙◌, subst, inl, inr, ◌⊎◌, arith, true≢false, Some, ltb-true, lt-ltb}
 use Rattle.std.specs.Prelude.{IsPermutation, Contains}
 use Rattle.std.proofs.lemmas.List.Elements.{Contains-append_left}
+use Rattle.lemmas.proofs.Permutations.{permutation_same}
+use Rattle.lemmas.proofs.Contains.{contains_head, contains_none}
+use Rattle.lemmas.proofs.Bools.{and_false}
 use Rattle.tags.specs.declared.token.Port.{Port}
 use Rattle.tags.specs.declared.token.Port.TheVariants.{Left, Right}
 use Rattle.tags.specs.declared.token.Cont.{Cont}
@@ -18,8 +21,6 @@ use Rattle.semantics.specs.Rule.{token, fires, fire_two, to_all, answer_to}
 use Rattle.semantics.specs.Rule as Rule
 use Rattle.semantics.specs.Machine.{Fires, with_slot}
 use Rattle.semantics.specs.Arcs.{UsesArc, UsesBy}
-use Rattle.law_net.proofs.Orders.{IsPermutation-same}
-use Rattle.law_net.proofs.Members.{contains_head, contains_none}
 use Rattle.law_once.specs.Alike.{plain_dests}
 use Rattle.law_once.proofs.SpreadNewArcs.{arc_used}
 use Rattle.law_contexts.specs.Parts.{Part, Asker, NextFramer, NextSender, Giver, Taker, Drainer, Landing, Inlet, inlet, Note, FrameOf, BackTo, signal, Item, item, each, same_context}
@@ -31,7 +32,7 @@ use Rattle.law_contexts.specs.Stands.{frame_of, ip_of, word_of, token_of, slot_o
 use Rattle.law_arms.proofs.Invoked.{loop_invoked, is_turned, code_at}
 use Rattle.law_arms.proofs.Lands.{one_dest}
 use Rattle.law_moves.specs.Cases.{Taking, IsCaused, IsFree, net_of, Followed}
-use Rattle.law_moves.proofs.Lists.{contains_one, and_no, count_none}
+use Rattle.law_moves.proofs.Lists.{contains_one, count_none}
 use Rattle.law_moves.proofs.Still.{to_instr}
 use Rattle.law_moves.proofs.Moved.{WasThere, UsedNow, is_credit}
 use Rattle.law_moves.proofs.Fitted.{code, fits, framed, there, among, taken_here}
@@ -229,7 +230,7 @@ module _ {stage : ℕ} (s : Taking stage) (d : Context) (n i : ℕ) (in_turn : s
     }
 
     no_turn : (x : Context) (m : ℕ) → items_at x (Giver m) (asked ∷ []) ≡ 0
-    no_turn x m = count_none (is_item_at x (Giver m)) (asked ∷ []) (of_asked (λ (j : Item). is_item_at x (Giver m) j ≡ false) (and_no (same_context d x)))
+    no_turn x m = count_none (is_item_at x (Giver m)) (asked ∷ []) (of_asked (λ (j : Item). is_item_at x (Giver m) j ≡ false) (and_false (same_context d x)))
 
     module _ (sec : Second a refl refl) where
       abbrev cont_item : Item
@@ -281,7 +282,7 @@ module _ {stage : ℕ} (s : Taking stage) (d : Context) (n i : ℕ) (in_turn : s
         books = λ x m b g. asker_books x m;
         makes_is = ap (λ ws. asked ∷ each c signal ws) (sym asker_wire);
         dests = [];
-        leads = IsPermutation-same _ _ (ap (map (stands_at (wiring_in s.fl s.w c))) (sym asker_wire));
+        leads = permutation_same _ _ (ap (map (stands_at (wiring_in s.fl s.w c))) (sym asker_wire));
         plain_dest = λ x h. absurd (contains_none x h);
         did = asks;
         released = λ x m g b h f. asker_free.released g (ip_of s.fl s.p s.w x (Landing m 0)) ∙ sym (no_turn x m);

@@ -10,10 +10,10 @@ use Rattle.semantics.specs.declared.program.Op.TheVariants as Ops
 use Rattle.semantics.specs.Rule.{on_left, opens}
 use Rattle.semantics.specs.Machine.{Fires as Happening}
 use Rattle.semantics.specs.Credits.{granted_by}
-use Rattle.law_reuse.proofs.Members.{contains_mapped}
 use Rattle.semantics.specs.Holders.{same_holder}
 use Rattle.law_once.specs.Alike.{plain_dests}
 use Rattle.std.proofs.lemmas.List.Elements.{Contains-append_right}
+use Rattle.lemmas.proofs.Contains.{contains_mapped}
 use Rattle.law_contexts.specs.Parts.{Opener, Giver, Taker, Drainer, Drained, Inlet, signal, Item, item, Firing}
 use Rattle.law_contexts.specs.Blocks.{side, is_loop}
 use Rattle.law_contexts.specs.Contexts.{block_in, site_in, wiring_in}

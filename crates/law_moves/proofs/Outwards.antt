@@ -1,5 +1,6 @@
 -- Each event that sends into another context follows.
 use Rattle.std.proofs.Common.{◌≡◌, ℕ, Bool, true, false, refl, sym, subst, true≢false, if◌then◌else◌}
+use Rattle.lemmas.proofs.Bools.{first_of_and}
 use Rattle.semantics.specs.Meaning.{Context, Main, Called, Turned}
 use Rattle.semantics.specs.Cause.{is_turn}
 use Rattle.law_contexts.specs.Parts.{Part, Line, Linker, Sender, Result, Asker, NextSender, LastReturn, DrainReturn, End}
@@ -8,7 +9,6 @@ use Rattle.law_contexts.specs.Contexts.{block_in}
 use Rattle.law_contexts.specs.Laws.{spot_there}
 use Rattle.law_contexts.specs.Packages.{Inwards, Outwards, OfCells, doing_of, EventsFollowBy}
 use Rattle.law_moves.specs.Cases.{Taking, Followed}
-use Rattle.law_moves.proofs.Lists.{and_left}
 use Rattle.law_moves.proofs.Fitted.{fits, taken_here}
 use Rattle.law_moves.proofs.Results.{result_follows, end_follows}
 use Rattle.law_moves.proofs.Returned.{call_returns}
@@ -50,8 +50,8 @@ module _ {stage : ℕ} (s : Taking stage) where
   outward (Sender n i) e d = sender_follows s n i e
   outward (Result j) e d = result j e s.i.context refl
   outward End e d = end e s.i.context refl
-  outward (NextSender j) e d = in_turn s.i.context refl (and_left (is_turn s.i.context) _ (there s.i.context refl (NextSender j) e)) (λ c n i a. next_sends s c n i a j e)
-  outward (LastReturn j) e d = in_turn s.i.context refl (and_left (is_turn s.i.context) _ (there s.i.context refl (LastReturn j) e)) (λ c n i a. last_returns s c n i a j e)
+  outward (NextSender j) e d = in_turn s.i.context refl (first_of_and (is_turn s.i.context) _ (there s.i.context refl (NextSender j) e)) (λ c n i a. next_sends s c n i a j e)
+  outward (LastReturn j) e d = in_turn s.i.context refl (first_of_and (is_turn s.i.context) _ (there s.i.context refl (LastReturn j) e)) (λ c n i a. last_returns s c n i a j e)
   outward DrainReturn e d = in_turn s.i.context refl (there s.i.context refl DrainReturn e) (λ c n i a. drain_returns s c n i a e)
   outward Asker e d = in_turn s.i.context refl (there s.i.context refl Asker e) (λ c n i a. asker_follows s c n i a e)
   outward (Line n) e d = absurd (not_line (is_cell (block_in s.fl s.i.context) n) d)

@@ -4,6 +4,7 @@ use Rattle.std.specs.Prelude.{IsPermutation, Contains, flat_map, count_by}
 use Rattle.std.proofs.lemmas.Bool.{cases_eq}
 use Rattle.std.proofs.lemmas.List.Elements.{Contains-append_left, Contains-append_right, Contains-append_cases}
 use Rattle.std.proofs.lemmas.List.Sorted.{IsPermutation-trans, IsPermutation-sym, IsPermutation-append, IsPermutation-append_left, IsPermutation-append_right, Contains-permutation}
+use Rattle.lemmas.proofs.Contains.{contains_cases, contains_head}
 use Rattle.tags.specs.declared.slot.SlotState.TheVariants.{Empty}
 use Rattle.semantics.specs.Meaning.{Context}
 use Rattle.semantics.specs.Orderly.{readers_of}
@@ -11,7 +12,6 @@ use Rattle.semantics.specs.Handed.{handed_by}
 use Rattle.semantics.specs.Holders.{Holder}
 use Rattle.semantics.specs.Credits.{granted_at, released_at}
 use Rattle.law_net.proofs.Orders.{shuffled, Part as Piece, ◌⊕◌, at_first, at_last}
-use Rattle.law_net.proofs.Members.{contains_head, contains_cases}
 use Rattle.law_net.proofs.Net.{Fires}
 use Rattle.law_contexts.specs.Parts.{Part, Opener, Giver, Taker, Drainer, Drained, Held, Landing, Inlet, BackTo, Item, Firing}
 use Rattle.law_contexts.specs.Blocks.{is_loop, bound_at}

@@ -3,14 +3,15 @@ use Rattle.std.proofs.Common.{◌≡◌, ℕ, ◌+◌, true, false, List, [], �
 use Rattle.std.specs.Prelude.{IsPermutation, Contains, flat_map}
 use Rattle.std.proofs.lemmas.List.Elements.{Contains-append_left}
 use Rattle.std.proofs.lemmas.List.Sorted.{IsPermutation-trans, IsPermutation-sym, IsPermutation-append_left, IsPermutation-append_right, Contains-permutation}
+use Rattle.lemmas.proofs.Permutations.{permutation_same}
+use Rattle.lemmas.proofs.Contains.{contains_cases, contains_tail}
 use Rattle.semantics.specs.Meaning.{Context, Main}
 use Rattle.semantics.specs.Machine.{Store, with_requests}
 use Rattle.semantics.specs.Cause.{SameSeen}
 use Rattle.semantics.specs.Handed.{handed_by}
 use Rattle.semantics.specs.Orderly.{readers_of}
 use Rattle.law_net.proofs.NetSlots.{InSlots}
-use Rattle.law_net.proofs.Orders.{shuffled, Part as Piece, ◌⊕◌, at_first, at_last, IsPermutation-same}
-use Rattle.law_net.proofs.Members.{contains_tail, contains_cases}
+use Rattle.law_net.proofs.Orders.{shuffled, Part as Piece, ◌⊕◌, at_first, at_last}
 use Rattle.law_net.proofs.Net.{Waits}
 use Rattle.law_contexts.specs.Parts.{Part, Opener, Giver, Taker, Drainer, Landing, Done, Freed, Held, Item, Firing}
 use Rattle.law_contexts.specs.Blocks.{bound_at, is_store}
@@ -75,7 +76,7 @@ module _ {stage : ℕ} (s : Taking stage) (k : Hands s) (none : s.event.made ≡
 
   stands : Stands s.fl s.p s.w s.new queued
   stands = record {
-    pool = pool_is s [] (IsPermutation-same _ _ none);
+    pool = pool_is s [] (permutation_same _ _ none);
     known = λ j h. old.known j (there_all j h);
     apart = old.apart;
     named = λ j d h e. old.named j d (there_all j h) e;
@@ -115,7 +116,7 @@ module _ {stage : ℕ} (s : Taking stage) (k : Hands s) (none : s.event.made ≡
     net = queued;
     moves = one_more s.fl s.w (begin s.inputs) net queued s.keeps.follows.moves (Waits s.i s.others s.perm refl) tt;
     stands = stands;
-    met = met_is s [] (came s.fl queued) (IsPermutation-same _ _ (ap but_cells none)) (queued_back (flat_map (λ (f : Firing). own_takes s.fl f f.part) net.fired));
+    met = met_is s [] (came s.fl queued) (permutation_same _ _ (ap but_cells none)) (queued_back (flat_map (λ (f : Firing). own_takes s.fl f f.part) net.fired));
     handed = λ g h. Contains-append_left s.q.handed (handed_by s.t.to s.event.made) g (s.keeps.follows.handed g h);
     caused = λ j h i e. used_later s.p s.q.steps step (frame_of s.fl net.fired j.context) (ip_of s.fl s.p s.w j.context j.inlet.part) j.inlet.port
         (s.keeps.follows.caused j (Contains-permutation _ _ j (IsPermutation-sym _ _ s.perm) (contains_tail s.i s.others j h)) i e);

@@ -3,9 +3,9 @@ use Rattle.std.proofs.Common.{◌≡◌, ℕ, Bool, true, false, List, [], ◌�
 use Rattle.std.specs.Prelude.{IsPermutation, Contains, flat_map, count_by}
 use Rattle.std.proofs.lemmas.List.Elements.{Contains-append_left, Contains-append_right, Contains-append_cases}
 use Rattle.std.proofs.lemmas.List.Sorted.{IsPermutation-refl, IsPermutation-trans, IsPermutation-sym, IsPermutation-append, IsPermutation-append_left, IsPermutation-append_right, Contains-permutation}
+use Rattle.lemmas.proofs.Contains.{contains_none}
 use Rattle.semantics.specs.Meaning.{Context}
 use Rattle.law_net.proofs.Orders.{shuffled, Part as Piece, ◌⊕◌, at_first, at_last}
-use Rattle.law_net.proofs.Members.{contains_none}
 use Rattle.law_net.proofs.Net.{Waits, Fires}
 use Rattle.law_contexts.specs.Parts.{Opener, Taker, Drained, Inlet, BackTo, Item, Firing}
 use Rattle.law_contexts.specs.Contexts.{block_in}

@@ -4,6 +4,7 @@ use Rattle.std.specs.Prelude.{IsPermutation, Contains, count_by, pos}
 use Rattle.std.proofs.lemmas.List.{map-append}
 use Rattle.std.proofs.lemmas.List.Elements.{Contains-append_left, Contains-append_right, Contains-append_cases}
 use Rattle.std.proofs.lemmas.List.Sorted.{IsPermutation-trans, IsPermutation-sym, IsPermutation-map, IsPermutation-append_left, IsPermutation-append_right, Contains-permutation}
+use Rattle.lemmas.proofs.Contains.{contains_cases, contains_map, contains_mapped, contains_none, contains_tail}
 use Rattle.tags.specs.declared.value.Value.{Value}
 use Rattle.tags.specs.declared.value.Value.TheVariants.{Int}
 use Rattle.tags.specs.declared.token.Port.TheVariants.{Left, Right}
@@ -12,9 +13,7 @@ use Rattle.semantics.specs.Meaning.{Context}
 use Rattle.semantics.specs.Plan.{Plan}
 use Rattle.semantics.specs.Rule.{token}
 use Rattle.law_net.proofs.Orders.{shuffled, Part as Piece, ◌⊕◌, at_first, at_last}
-use Rattle.law_net.proofs.Members.{contains_tail, contains_cases, contains_none}
 use Rattle.law_net.proofs.Net.{Fires}
-use Rattle.law_reuse.proofs.Members.{contains_map, contains_mapped}
 use Rattle.law_contexts.specs.Parts.{Part, Framer, Fanned, Sender, Asked, NextAsked, Held, Shown, Done, Freed, inlet, Datum, signal, Item, item, Firing}
 use Rattle.law_contexts.specs.Blocks.{source_count}
 use Rattle.law_contexts.specs.Contexts.{Wires, block_in, is_strict_in}

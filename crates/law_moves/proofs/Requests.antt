@@ -3,6 +3,8 @@ use Rattle.std.proofs.Common.{◌≡◌, ℕ, ◌+◌, Bool, true, false, List, 
 use Rattle.std.specs.Prelude.{IsPermutation, Contains}
 use Rattle.std.proofs.lemmas.List.Elements.{Contains-append_left, Contains-append_right, Contains-append_cases}
 use Rattle.std.proofs.lemmas.List.Sorted.{IsPermutation-refl, IsPermutation-trans, IsPermutation-append_right}
+use Rattle.lemmas.proofs.Permutations.{permutation_same}
+use Rattle.lemmas.proofs.Contains.{contains_head, contains_none}
 use Rattle.tags.specs.declared.value.Value.{Value}
 use Rattle.tags.specs.declared.token.Port.{Port}
 use Rattle.tags.specs.declared.token.Port.TheVariants.{Left}
@@ -20,8 +22,7 @@ use Rattle.semantics.specs.Orderly.{readers_of}
 use Rattle.semantics.specs.Sharing.{arc, inlet as port_at}
 use Rattle.semantics.specs.Arcs.{UsesArc, UsesBy}
 use Rattle.law_net.proofs.NetSlots.{InSlots}
-use Rattle.law_net.proofs.Orders.{shuffled, Part as Piece, ◌⊕◌, at_last, IsPermutation-same}
-use Rattle.law_net.proofs.Members.{contains_head, contains_none}
+use Rattle.law_net.proofs.Orders.{shuffled, Part as Piece, ◌⊕◌, at_last}
 use Rattle.law_reuse.proofs.UsedArcs.{stands_arcs}
 use Rattle.law_once.specs.Alike.{plain_dests}
 use Rattle.law_once.proofs.SpreadNewArcs.{dest_arc, uses_new}
@@ -213,7 +214,7 @@ module _ {stage : ℕ} (s : Taking stage) (n : ℕ) (e : s.i.inlet.part ≡ Line
     })
       where
         made_is : IsPermutation s.event.made (map tok (makes s.fl s.w g.f))
-        made_is = IsPermutation-same _ _ (made ∙ sym (ap (map tok) g.makes_is))
+        made_is = permutation_same _ _ (made ∙ sym (ap (map tok) g.makes_is))
 
         good_at : (i : Item) (m : ℕ) → i.inlet.part ≡ Held m → Contains (makes s.fl s.w g.f) i ⊎ Contains (net.pending ++ net.waiting) i → (y : ℕ) × (cell_of s.fl i.context m i.held ≡ Some y)
         good_at i m k (inr h) = old.good i m h k
@@ -250,7 +251,7 @@ module _ {stage : ℕ} (s : Taking stage) (n : ℕ) (e : s.i.inlet.part ≡ Line
         before = [];
         kept = [];
         later = g.before ++ g.later;
-        pending = IsPermutation-same _ _ (ap (λ l. l ++ s.others) g.makes_is);
+        pending = permutation_same _ _ (ap (λ l. l ++ s.others) g.makes_is);
         waiting = refl;
         are_kept = λ i k. absurd (contains_none i k);
         now_calm = λ i k. ap (λ (i : Item). is_credit i.inlet.part) (sym (contains_one request i k));
@@ -273,7 +274,7 @@ module _ {stage : ℕ} (s : Taking stage) (n : ℕ) (e : s.i.inlet.part ≡ Line
       reply_token = ap (λ (x : To). token x (Word.Val u)) (to_instr s.fl s.p s.w net.fired reply ans.inlet.part ans.is_instr) ∙ (λ t. token (To.Instr frame (sym far t) (sym ans.port t)) (Word.Val u))
 
       made_is : IsPermutation s.event.made (map tok (makes s.fl s.w h))
-      made_is = IsPermutation-same _ _ (made ∙ sym (ap (λ t. t ∷ []) reply_token) ∙ sym (ap (map tok) replies_is))
+      made_is = permutation_same _ _ (made ∙ sym (ap (λ t. t ∷ []) reply_token) ∙ sym (ap (map tok) replies_is))
 
       not_held : (i : Item) → Contains (makes s.fl s.w h) i → is_held i.inlet.part ≡ false
       not_held = of_reply (λ (i : Item). is_held i.inlet.part ≡ false) (instr_held ans.inlet.part ans.is_instr)

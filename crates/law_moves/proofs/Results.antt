@@ -1,6 +1,8 @@
 -- What leaves main: its results, and its end.
 use Rattle.std.proofs.Common.{◌≡◌, ℕ, ◌+◌, true, false, List, [], ◌∷◌, ◌++◌, map, refl, zero-add, sym, ap, ◌∙◌, subst, inl, inr, ◌⊎◌, true≢false, Some, None}
 use Rattle.std.specs.Prelude.{Contains}
+use Rattle.lemmas.proofs.Permutations.{permutation_same}
+use Rattle.lemmas.proofs.Contains.{contains_cases, contains_none}
 use Rattle.tags.specs.declared.value.Value.{Value}
 use Rattle.tags.specs.declared.token.Port.TheVariants.{Left}
 use Rattle.tags.specs.declared.token.Cont.{Cont}
@@ -15,8 +17,6 @@ use Rattle.semantics.specs.Rule.{token, to_each, to_all, fires, fire_two}
 use Rattle.semantics.specs.Rule as Rule
 use Rattle.semantics.specs.Machine.{Fires}
 use Rattle.semantics.specs.Credits.{released_by}
-use Rattle.law_net.proofs.Orders.{IsPermutation-same}
-use Rattle.law_net.proofs.Members.{contains_cases, contains_none}
 use Rattle.law_once.specs.Alike.{plain_dests}
 use Rattle.law_contexts.specs.Parts.{Result, End, Shown, Done, Freed, inlet, Note, Datum, FrameOf, BackTo, ToHost, signal, Item, item, each}
 use Rattle.law_contexts.specs.Blocks.{side}
@@ -138,7 +138,7 @@ module _ {stage : ℕ} (s : Taking stage) (in_main : s.i.context ≡ Main) (e : 
     books = λ d n h k. calm_books last ending (of_both (λ (x : Item). is_credit x.inlet.part ≡ false) refl refl) d n;
     makes_is = ap (λ l. ending ++ each Main signal l) (sym no_wire);
     dests = [];
-    leads = IsPermutation-same _ _ (ap (map (stands_at (wiring_in s.fl s.w Main))) (sym no_wire));
+    leads = permutation_same _ _ (ap (map (stands_at (wiring_in s.fl s.w Main))) (sym no_wire));
     plain_dest = λ d h. absurd (contains_none d h);
     did = m;
     released = λ d n g h k f. none_counted last (end_free m.0) ending (of_both (λ (x : Item). is_credit x.inlet.part ≡ false) refl refl) d n g;

@@ -13,12 +13,13 @@ use Rattle.law_contexts.specs.Blocks.{is_loop, call_kind, result_count, kind_res
 use Rattle.law_contexts.specs.Contexts.{Wires, block_in, site_in, wiring_in, or_none, IsContext, HasBlock}
 use Rattle.law_contexts.specs.Stands.{row_of}
 use Rattle.law_contexts.specs.Theorem.{IsGood}
+use Rattle.law_contexts.proofs.Blocks.{has_block}
 use Rattle.law_moves.specs.Cases.{Taking, Followed}
 use Rattle.law_moves.proofs.Lists.{contains_one}
 use Rattle.law_moves.proofs.Sites.{coded}
 use Rattle.law_moves.proofs.Fitted.{fits, there, taken_here}
 use Rattle.law_moves.proofs.Rules.{at}
-use Rattle.law_moves.proofs.Inwards.{told_at, has_block}
+use Rattle.law_moves.proofs.Inwards.{told_at}
 use Rattle.law_moves.proofs.Moved.{is_credit}
 use Rattle.law_moves.proofs.Passed.{calm_books}
 use Rattle.law_moves.proofs.Returning.{back, returns_follow}

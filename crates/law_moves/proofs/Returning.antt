@@ -1,6 +1,7 @@
 -- What was invoked returns a value to the landing of where it was made.
 use Rattle.std.proofs.Common.{◌≡◌, ℕ, ◌+◌, ◌<◌, Bool, true, false, ◌&&◌, [], ◌∷◌, ◌++◌, sym, ap, ◌∙◌, subst, inr, ◌⊎◌, Some, None}
 use Rattle.std.specs.Prelude.{Contains}
+use Rattle.lemmas.proofs.Bools.{and_false}
 use Rattle.tags.specs.declared.value.Value.{Value}
 use Rattle.tags.specs.declared.token.Port.TheVariants.{Left, Right}
 use Rattle.tags.specs.declared.token.Word.{Word}
@@ -20,7 +21,7 @@ use Rattle.law_contexts.specs.Firings.{Config, makes, frame_at}
 use Rattle.law_contexts.specs.Laws.{WordFits}
 use Rattle.law_contexts.specs.Stands.{frame_of, ip_of, word_of, slot_of, named_by, row_of, is_held, is_instr, is_entry_part, is_item_at, items_at, WasUsed}
 use Rattle.law_moves.specs.Cases.{Taking, IsCaused, IsFree, net_of, Followed, is_still}
-use Rattle.law_moves.proofs.Lists.{contains_one, and_no, count_none}
+use Rattle.law_moves.proofs.Lists.{contains_one, count_none}
 use Rattle.law_moves.proofs.Still.{to_instr}
 use Rattle.law_moves.proofs.Moved.{WasThere, UsedNow}
 use Rattle.law_moves.proofs.Fitted.{among, is_plain_way}
@@ -100,7 +101,7 @@ module _ {stage : ℕ} (s : Taking stage) (r : Part) (c d : Context) (n o t : �
     free = free_of back is_return (dyadic_grants (instr back is_return).op (dyadic back two plain)) (ap releases ((stood back is_return).is.op ∙ g.op_is))
 
     no_turn : (x : Context) (m : ℕ) → items_at x (Giver m) (sent_back sec.right ∷ []) ≡ 0
-    no_turn x m = count_none (is_item_at x (Giver m)) (sent_back sec.right ∷ []) (of_one (λ (j : Item). is_item_at x (Giver m) j ≡ false) (ap (λ (k : Bool). same_context d x && k) (g.no_giver m) ∙ and_no (same_context d x)))
+    no_turn x m = count_none (is_item_at x (Giver m)) (sent_back sec.right ∷ []) (of_one (λ (j : Item). is_item_at x (Giver m) j ≡ false) (ap (λ (k : Bool). same_context d x && k) (g.no_giver m) ∙ and_false (same_context d x)))
 
     returns_on : (v : Value) → sec.right ≡ Datum v → Comes (W (BackTo d (inlet (Landing n 0) Left 0))) (W (Datum v)) → Followed s
     returns_on v k m = crosses_follow back still two plain sec (record {

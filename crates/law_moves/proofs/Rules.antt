@@ -1,5 +1,6 @@
 -- What the machine does with an item's token at its instruction.
-use Rattle.std.proofs.Common.{◌≡◌, ℕ, ◌*◌, Bool, true, false, ◌&&◌, List, refl, sym, ap, ◌∙◌, subst, true≢false, Option, Some, None, ◌==◌, if◌then◌else◌}
+use Rattle.std.proofs.Common.{◌≡◌, ℕ, ◌*◌, Bool, true, false, ◌&&◌, List, refl, sym, ap, ◌∙◌, subst, true≢false, Option, Some, None, ◌==◌}
+use Rattle.lemmas.proofs.Bools.{zero_if}
 use Rattle.tags.specs.declared.token.Port.{Port}
 use Rattle.tags.specs.declared.token.Word.{Word}
 use Rattle.tags.specs.declared.token.To.{To}
@@ -78,10 +79,6 @@ grants_none (Ops.Take k) x e = absurd (true≢false e)
 grants_none (Ops.Give k) x e = absurd (true≢false e)
 grants_none op x e = refl
 
-either : (t : Bool) (n : ℕ) → n ≡ 0 → (if t then n else 0) ≡ 0
-either true n e = e
-either false n e = refl
-
 pub dyadic_grants : (op : Op) → is_dyadic op ≡ true → grants op ≡ false
 dyadic_grants (Ops.Open k) e = absurd (true≢false (sym e))
 dyadic_grants (Ops.Take k) e = absurd (true≢false (sym e))
@@ -140,7 +137,7 @@ module _ {stage : ℕ} (s : Taking stage) (is : is_instr s.i.inlet.part ≡ true
 
   -- it grants no credit
   pub ungranted : grants instr.op ≡ false → (g : ℕ) (h : Holder) → granted_at s.p s.p.program g h s.m.store s.t.to ≡ 0
-  ungranted a g h = subst (λ (x : To). granted_at s.p s.p.program g h s.m.store x ≡ 0) (sym goes_to) (either ((frame == g) && same_holder h (holder_at s.p place)) _ (in_granted (slot_in s.m.store frame (slot_used (instr_at s.p.program place)))))
+  ungranted a g h = subst (λ (x : To). granted_at s.p s.p.program g h s.m.store x ≡ 0) (sym goes_to) (zero_if ((frame == g) && same_holder h (holder_at s.p place)) _ (in_granted (slot_in s.m.store frame (slot_used (instr_at s.p.program place)))))
     where
       in_granted : (x : SlotState) → granted_in (instr_at s.p.program place) x ≡ 0
       in_granted x = subst (λ (o : Option Instr). granted_in o x ≡ 0) (sym stood.at) (grants_none instr.op x a)

@@ -2,6 +2,7 @@
 use Rattle.std.proofs.Common.{◌≡◌, ℕ, ◌+◌, Bool, true, false, List, [], ◌∷◌, map, refl, sym, ap, ◌∙◌, inl, inr, ◌⊎◌, arith, true≢false, pos}
 use Rattle.std.specs.Prelude.{IsPermutation, Contains}
 use Rattle.std.proofs.lemmas.List.Sorted.{IsPermutation-map}
+use Rattle.lemmas.proofs.Contains.{contains_cases, contains_head, contains_tail}
 use Rattle.tags.specs.declared.value.Value.TheVariants.{Int}
 use Rattle.tags.specs.declared.token.Port.{Port}
 use Rattle.tags.specs.declared.token.Word.{Word}
@@ -16,7 +17,6 @@ use Rattle.semantics.specs.Rule.{token, to_each}
 use Rattle.semantics.specs.Machine.{Store, with_slot, value_in}
 use Rattle.law_net.proofs.NetSlots.{InSlots}
 use Rattle.law_net.proofs.Orders.{at_first, at_last}
-use Rattle.law_net.proofs.Members.{contains_head, contains_tail, contains_cases}
 use Rattle.law_contexts.specs.Parts.{Part, Held, Shown, Done, Freed, Inlet, Note, Item, item, each, Firing}
 use Rattle.law_contexts.specs.Blocks.{side}
 use Rattle.law_contexts.specs.Contexts.{block_in, code_in, site_in, wiring_in}

@@ -3,6 +3,8 @@ use Rattle.std.proofs.Common.{◌≡◌, ℕ, ◌+◌, Bool, true, false, List, 
 use Rattle.std.specs.Prelude.{IsPermutation, Contains}
 use Rattle.std.proofs.lemmas.List.Elements.{Contains-append_left, Contains-append_right, Contains-append_cases}
 use Rattle.std.proofs.lemmas.List.Sorted.{IsPermutation-middle, IsPermutation-trans, IsPermutation-sym, IsPermutation-append_right, Contains-permutation}
+use Rattle.lemmas.proofs.Permutations.{permutation_same}
+use Rattle.lemmas.proofs.Contains.{contains_cases, contains_head, contains_tail}
 use Rattle.tags.specs.declared.value.Value.TheVariants.{Int}
 use Rattle.tags.specs.declared.token.Port.TheVariants.{Left}
 use Rattle.tags.specs.declared.token.Cont.{Cont}
@@ -10,8 +12,7 @@ use Rattle.tags.specs.declared.token.Word.{Word}
 use Rattle.tags.specs.declared.slot.SlotState.TheVariants.{Waiter}
 use Rattle.tags.specs.declared.slot.SlotState.TheVariants as Slot
 use Rattle.semantics.specs.Meaning.{Context}
-use Rattle.law_net.proofs.Orders.{IsPermutation-same, shuffled, Part as Piece, ◌⊕◌}
-use Rattle.law_net.proofs.Members.{contains_head, contains_tail, contains_cases}
+use Rattle.law_net.proofs.Orders.{shuffled, Part as Piece, ◌⊕◌}
 use Rattle.law_contexts.specs.Parts.{Part, Opener, Giver, Taker, Drainer, Drained, NextFramer, inlet, signal, BackTo, Item, item, Firing, spot_of}
 use Rattle.law_contexts.specs.Blocks.{is_loop}
 use Rattle.law_contexts.specs.Contexts.{block_in}
@@ -229,7 +230,7 @@ module _ {stage : ℕ} (s : Taking stage) (n : ℕ) (e : s.i.inlet.part ≡ Give
           signals = of_made (λ (j : Item). j.word ≡ signal) refl;
           known = of_made (λ (j : Item). (g : ℕ) × (frame_at s.fl net.fired j.context ≡ Some g)) (s.keeps.follows.stands.named j turn (among s j here) (ap named_by word_is));
           caused = λ i h a o. of_made (IsCaused s) (inr was_asked) i h;
-          event = IsPermutation-same _ _ m.0;
+          event = permutation_same _ _ m.0;
           state = Slot.Credits 0;
           store = m.1;
           slot_now = sym slot_now;

@@ -4,13 +4,13 @@ use Rattle.std.specs.Prelude.{IsPermutation, Contains}
 use Rattle.std.proofs.lemmas.List.{map-append}
 use Rattle.std.proofs.lemmas.List.Concat.{flat_map-append}
 use Rattle.std.proofs.lemmas.List.Sorted.{IsPermutation-trans, IsPermutation-sym, IsPermutation-map, IsPermutation-append, IsPermutation-append_left, IsPermutation-append_right}
+use Rattle.lemmas.proofs.Contains.{contains_head, contains_tail}
 use Rattle.tags.specs.declared.token.Word.{Word}
 use Rattle.tags.specs.declared.token.Token.{Token}
 use Rattle.tags.specs.declared.value.Value.{Value}
 use Rattle.semantics.specs.Graph.{Flow}
 use Rattle.semantics.specs.Plan.{Plan}
 use Rattle.law_net.proofs.Orders.{shuffled, Part as Piece, ◌⊕◌, at_first, at_last, flat_map-IsPermutation}
-use Rattle.law_net.proofs.Members.{contains_head, contains_tail}
 use Rattle.law_contexts.specs.Parts.{Part, Held, Item, Firing}
 use Rattle.law_contexts.specs.Contexts.{Wires, block_in}
 use Rattle.law_contexts.specs.Blocks.{is_store}

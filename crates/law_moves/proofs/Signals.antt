@@ -3,6 +3,7 @@ use Rattle.std.proofs.Common.{◌≡◌, ℕ, ◌+◌, true, false, List, [], �
 use Rattle.std.specs.Prelude.{IsPermutation, Contains}
 use Rattle.std.proofs.lemmas.List.{map-append}
 use Rattle.std.proofs.lemmas.List.Sorted.{IsPermutation-sym, IsPermutation-append, Contains-permutation}
+use Rattle.lemmas.proofs.Contains.{contains_map, contains_mapped}
 use Rattle.tags.specs.declared.token.Port.{Port}
 use Rattle.tags.specs.declared.slot.SlotState.TheVariants.{Empty}
 use Rattle.semantics.specs.declared.program.Dest.{Dest}
@@ -13,7 +14,6 @@ use Rattle.semantics.specs.Program.{Instr, first_of}
 use Rattle.semantics.specs.Rule.{at_dest, to_all, signal as word}
 use Rattle.semantics.specs.Arcs.{UsesArc}
 use Rattle.law_net.proofs.Orders.{at_first, at_last}
-use Rattle.law_reuse.proofs.Members.{contains_map, contains_mapped}
 use Rattle.law_once.specs.Alike.{plain_dests}
 use Rattle.law_once.proofs.SpreadNewArcs.{uses_new}
 use Rattle.law_contexts.specs.Parts.{Part, Giver, Taker, Drainer, Held, Inlet, signal, item, each}

@@ -3,8 +3,9 @@ use Rattle.std.proofs.Common.{◌≡◌, ℕ, List, [], ◌∷◌, ◌++◌, ref
 use Rattle.std.specs.Prelude.{IsPermutation, Contains, flat_map}
 use Rattle.std.proofs.lemmas.List.Elements.{Contains-append_left, Contains-append_right, Contains-append_cases}
 use Rattle.std.proofs.lemmas.List.Sorted.{IsPermutation-refl, IsPermutation-trans, IsPermutation-sym, IsPermutation-append_left, IsPermutation-append_right, Contains-permutation}
-use Rattle.law_net.proofs.Orders.{shuffled, Part as Piece, ◌⊕◌, at_first, IsPermutation-same}
-use Rattle.law_net.proofs.Members.{contains_tail}
+use Rattle.lemmas.proofs.Permutations.{permutation_same}
+use Rattle.lemmas.proofs.Contains.{contains_tail}
+use Rattle.law_net.proofs.Orders.{shuffled, Part as Piece, ◌⊕◌, at_first}
 use Rattle.law_net.proofs.Net.{Fires}
 use Rattle.law_contexts.specs.Parts.{Item, Firing}
 use Rattle.law_contexts.specs.Firings.{Config, begin, takes, own_takes, renewed, makes, IsProper, ProperMoves}
@@ -54,4 +55,4 @@ module _ {stage : ℕ} (s : Taking stage) (f : Firing) (own : own_takes s.fl f f
 
   -- it is a move
   pub alone_moves : IsProper s.fl net.fired f → ProperMoves s.fl s.w (begin s.inputs) gone_alone
-  alone_moves proper = one_more s.fl s.w (begin s.inputs) net gone_alone s.keeps.follows.moves (Fires f (s.i ∷ []) [] s.others net.waiting s.perm (IsPermutation-refl net.waiting) (IsPermutation-same _ _ (sym takes_is)) refl) proper
+  alone_moves proper = one_more s.fl s.w (begin s.inputs) net gone_alone s.keeps.follows.moves (Fires f (s.i ∷ []) [] s.others net.waiting s.perm (IsPermutation-refl net.waiting) (permutation_same _ _ (sym takes_is)) refl) proper

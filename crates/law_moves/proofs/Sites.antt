@@ -1,7 +1,8 @@
 -- The code of each context, and the instruction of each of its parts.
-use Rattle.std.proofs.Common.{◌≡◌, ℕ, zero, suc, ◌≤◌, ◌-◌, Bool, true, false, List, [], ◌∷◌, map, refl, sym, ap, ◌∙◌, subst, arith, true≢false, Option, Some, None, nat_lt, lt-ltb, eq-eqb, if◌then◌else◌, sum, cond}
-use Rattle.std.specs.Prelude.{slice_get, sum_by, count_by}
-use Rattle.std.proofs.lemmas.List.Sums.{sum-map, sum_by-cons}
+use Rattle.std.proofs.Common.{◌≡◌, ℕ, ◌-◌, Bool, true, false, [], map, refl, sym, ap, ◌∙◌, subst, arith, true≢false, Option, Some, None, nat_lt, lt-ltb, eq-eqb, if◌then◌else◌, sum, cond}
+use Rattle.std.specs.Prelude.{slice_get, count_by}
+use Rattle.std.proofs.lemmas.List.Sums.{sum-map}
+use Rattle.lemmas.proofs.Sums.{one_of_sum}
 use Rattle.semantics.specs.declared.graph.Kind.{Kind}
 use Rattle.semantics.specs.declared.graph.Kind.TheVariants.{Loop}
 use Rattle.semantics.specs.Graph.{Node, Block, Flow, node_at}
@@ -9,6 +10,7 @@ use Rattle.semantics.specs.Meaning.{Context, Main, Called, Turned, block_number,
 use Rattle.semantics.specs.Cause.{is_looped, loops_to}
 use Rattle.semantics.specs.Program.{Instr, instr_at}
 use Rattle.semantics.specs.Plan.{Plan}
+use Rattle.semantics.proofs.Lines.{block_is_there}
 use Rattle.law_reuse.proofs.Stands.{Stands, stands_at}
 use Rattle.law_contexts.specs.Parts.{Part, Asked, NextAsked, Held, Drained, Shown, Done, Freed}
 use Rattle.law_contexts.specs.Blocks.{Site, Wiring, there_in, is_kind, is_loop, loop_kind}
@@ -16,12 +18,6 @@ use Rattle.law_contexts.specs.Contexts.{Wires, or_zero, or_none, no_block, code_
 use Rattle.law_contexts.specs.Wires.{IsWiredCode, AreWiredBy, Runs, IsInstr}
 use Rattle.law_contexts.specs.Laws.{spot_there}
 use Rattle.law_contexts.specs.Stands.{ip_of, is_instr}
-
--- one of a sum
-one_of_sum : {X : Type 0} (f : X → ℕ) (xs : List X) (i : ℕ) (x : X) → slice_get xs i ≡ Some x → f x ≤ sum_by f xs
-one_of_sum f [] i x e = absurd (cc)
-one_of_sum f (y ∷ ys) zero x e = let s : y ≡ x = cc in let a = sum_by-cons f y ys in let b = ap f s in omega (arith, a, b)
-one_of_sum f (y ∷ ys) (suc i) x e = let k = one_of_sum f ys i x e in let a = sum_by-cons f y ys in omega (arith, k, a)
 
 -- A LOOP'S BLOCK IS LOOPED
 node_within : (b : Block ℕ) (n : ℕ) (line : Node ℕ) → node_at b n ≡ Some line → (i : ℕ) × (slice_get b.nodes i ≡ Some line)
@@ -53,10 +49,6 @@ no_kind test n = ap (λ (x : Option (Node ℕ)). elim x as (λ y. Bool) [ None �
     none true = refl
     none false = refl
 
-pub numbered : (fl : Flow) (o : Option ℕ) (b : Block ℕ) → block_numbered fl o ≡ Some b → (i : ℕ) × (o ≡ Some i) × (slice_get fl.blocks i ≡ Some b)
-numbered fl None b e = absurd (cc)
-numbered fl (Some i) b e = (i, refl, e)
-
 -- the block that a loop runs is looped
 turn_looped : (fl : Flow) (o : Option ℕ) (n : ℕ) → is_loop (or_none (block_numbered fl o)) n ≡ true → is_looped fl (or_zero (callee_in (block_numbered fl o) n)) ≡ true
 turn_looped fl o n e = by_block (block_numbered fl o) refl e
@@ -74,7 +66,7 @@ turn_looped fl o n e = by_block (block_numbered fl o) refl e
 
     by_block : (x : Option (Block ℕ)) → block_numbered fl o ≡ x → is_loop (or_none x) n ≡ true → is_looped fl (or_zero (callee_in x n)) ≡ true
     by_block None at e = absurd (true≢false (sym e ∙ no_kind loop_kind n))
-    by_block (Some b) at e = let k = numbered fl o b at in by_node k.0 b k.2 (node_at b n) refl e
+    by_block (Some b) at e = let k = block_is_there fl o b at in by_node k.0 b k.2 (node_at b n) refl e
 
 -- EACH CONTEXT'S CODE IS WIRED
 module _ (fl : Flow) (p : Plan) (w : Wires) (wired : AreWiredBy fl p w) where

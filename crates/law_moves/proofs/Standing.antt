@@ -4,15 +4,15 @@ use Rattle.std.specs.Prelude.{IsPermutation, Contains, flat_map}
 use Rattle.std.proofs.lemmas.Bool.{cases_eq}
 use Rattle.std.proofs.lemmas.List.Elements.{Contains-append_left, Contains-append_right, Contains-append_cases}
 use Rattle.std.proofs.lemmas.List.Sorted.{IsPermutation-trans, IsPermutation-sym, IsPermutation-append_left, Contains-permutation}
+use Rattle.lemmas.proofs.Contains.{contains_head, contains_tail}
 use Rattle.tags.specs.declared.token.Port.TheVariants.{Left}
 use Rattle.law_net.specs.Roles.{one}
 use Rattle.law_net.proofs.Orders.{total-append, total-IsPermutation, shuffled, Part as Piece, ◌⊕◌}
-use Rattle.law_net.proofs.Members.{contains_head, contains_tail}
 use Rattle.law_contexts.specs.Parts.{Part, Opener, Giver, Taker, Drainer, Drained, DrainReturn, End, inlet, Item, item, Spot, spot_of, same_spot}
 use Rattle.law_contexts.specs.Blocks.{is_loop, waits_in}
 use Rattle.law_contexts.specs.Contexts.{block_in}
 use Rattle.law_contexts.specs.Firings.{takes, times}
-use Rattle.law_arms.proofs.Sames.{hits_at, hit_counted, same_spot-refl}
+use Rattle.law_contexts.proofs.Sames.{hits_at, hit_counted, same_spot-refl}
 use Rattle.law_arms.proofs.Nets.{once_all, taken_in}
 use Rattle.law_arms.proofs.Sends.{first_taken, takes_first, first_context}
 use Rattle.law_arms.proofs.Turns.{spot_at, taken_all, drained_taken}

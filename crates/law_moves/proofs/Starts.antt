@@ -16,9 +16,9 @@ use Rattle.semantics.specs.Plan.{Plan}
 use Rattle.semantics.specs.Program.{first_of}
 use Rattle.semantics.specs.Rule.{token}
 use Rattle.semantics.specs.Machine.{at_start, input_tokens}
-use Rattle.law_determinacy.proofs.Perm.{Each, each_append, each_within, within_from}
-use Rattle.law_net.proofs.Orders.{at_first, first_lifted, IsPermutation-same}
-use Rattle.law_net.proofs.Members.{contains_none}
+use Rattle.lemmas.proofs.Permutations.{Each, each_append, each_within, within_from, permutation_same}
+use Rattle.lemmas.proofs.Contains.{contains_none}
+use Rattle.law_net.proofs.Orders.{at_first, first_lifted}
 use Rattle.law_contexts.specs.Parts.{Part, Entry, Line, Giver, Taker, Drainer, Item}
 use Rattle.law_contexts.specs.Contexts.{Wires, block_in, code_in, or_none}
 use Rattle.law_contexts.specs.Firings.{begin, begins, input_items, frame_at, Still}
@@ -131,7 +131,7 @@ module _ (stage : ℕ) (fl : Flow) (p : Plan) (w : Wires) (inputs : List ℤ) (g
 
   pub begin_stands : Stands fl p w (at_start p.program inputs) (begin inputs)
   begin_stands = record {
-    pool = IsPermutation-same _ _ pool_same;
+    pool = permutation_same _ _ pool_same;
     known = λ j c. in_main j.context (first_of_all j c).context;
     apart = λ c d g a b. (at_main c g a).0 ∙ sym (at_main d g b).0;
     named = λ j d c e. let n = (first_of_all j c).names in absurd (cc);
@@ -158,7 +158,7 @@ module _ (stage : ℕ) (fl : Flow) (p : Plan) (w : Wires) (inputs : List ℤ) (g
     net = begin inputs;
     moves = Still (begin inputs);
     stands = begin_stands;
-    met = at_first (ap but pool_same) (IsPermutation-same _ _ (cells_out fl p w [] (begins inputs) (λ j c. told_other fl p w [] j (no_held j (first_pending j c)))
+    met = at_first (ap but pool_same) (permutation_same _ _ (cells_out fl p w [] (begins inputs) (λ j c. told_other fl p w [] j (no_held j (first_pending j c)))
         ∙ ap (λ l. map tok (only (λ (i : Item). not (is_held i.inlet.part)) l)) (sym (append-nil (begins inputs)))));
     handed = λ g c. c;
     caused = λ j c i e. absurd (entered j e (first_pending j c));

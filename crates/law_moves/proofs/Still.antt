@@ -1,5 +1,6 @@
 -- Firings that hand out no frame and are of no loop's credits: all tokens stay as they were.
 use Rattle.std.proofs.Common.{◌≡◌, ℕ, Bool, true, false, ◌&&◌, List, [], ◌∷◌, ◌++◌, refl, sym, ap, ◌∙◌, true≢false, None}
+use Rattle.lemmas.proofs.Bools.{and_false}
 use Rattle.tags.specs.declared.token.Word.{Word}
 use Rattle.tags.specs.declared.token.To.{To}
 use Rattle.tags.specs.declared.token.Cont.{Cont}
@@ -12,7 +13,7 @@ use Rattle.law_contexts.specs.Contexts.{Wires, or_zero}
 use Rattle.law_contexts.specs.Firings.{handed_to, frame_if, frame_at, frames_if, frames_of, renewed, ProperAt, is_firing, times}
 use Rattle.law_contexts.specs.Stands.{frame_of, ip_of, word_of, to_of, token_of, is_instr}
 use Rattle.law_moves.specs.Cases.{is_still}
-use Rattle.law_moves.proofs.Lists.{and_no, count_no}
+use Rattle.law_moves.proofs.Lists.{count_no}
 
 -- a firing that hands out no frame and is of no loop's credits
 abbrev pub is_steady : Part → Bool
@@ -63,7 +64,7 @@ still_drains (Drained m) n e = absurd (true≢false (sym e))
 still_drains r n e = refl
 
 pub not_firing : (c : Context) (r : Part) (f : Firing) → same_part f.part r ≡ false → is_firing c r f ≡ false
-not_firing c r f e = ap (λ t. same_context f.context c && t) e ∙ and_no (same_context f.context c)
+not_firing c r f e = ap (λ t. same_context f.context c && t) e ∙ and_false (same_context f.context c)
 
 -- a firing that is not of the part does not count
 pub times_no : (c : Context) (r : Part) (f : Firing) (fired : List Firing) → same_part f.part r ≡ false → times c r (f ∷ fired) ≡ times c r fired

@@ -5,6 +5,8 @@ use Rattle.std.proofs.lemmas.Bool.{cases_eq}
 use Rattle.std.proofs.lemmas.List.{map-append}
 use Rattle.std.proofs.lemmas.List.Elements.{Contains-append_left, Contains-append_right, Contains-append_cases}
 use Rattle.std.proofs.lemmas.List.Sorted.{IsPermutation-refl, IsPermutation-trans, IsPermutation-sym, IsPermutation-map, IsPermutation-append, IsPermutation-append_right, Contains-permutation}
+use Rattle.lemmas.proofs.Permutations.{permutation_same}
+use Rattle.lemmas.proofs.Contains.{contains_none, contains_tail}
 use Rattle.tags.specs.declared.value.Value.{Value}
 use Rattle.tags.specs.declared.token.Cont.{Cont}
 use Rattle.tags.specs.declared.token.Word.{Word}
@@ -13,9 +15,9 @@ use Rattle.tags.specs.declared.token.Token.{Token}
 use Rattle.semantics.specs.Meaning.{Memory}
 use Rattle.semantics.specs.Orderly.{readers_of}
 use Rattle.semantics.specs.Machine.{Store, CellState, Vacant, Full, Deferred, Happens, Stores, value_in, answer, answers, with_cell, put_at}
-use Rattle.law_net.proofs.NetSlots.{put_same, put_other}
-use Rattle.law_net.proofs.Orders.{at_first, at_last, IsPermutation-same}
-use Rattle.law_net.proofs.Members.{contains_tail, contains_none}
+use Rattle.semantics.proofs.Stores.{put_other}
+use Rattle.law_net.proofs.NetSlots.{put_same}
+use Rattle.law_net.proofs.Orders.{at_first, at_last}
 use Rattle.law_contexts.specs.Parts.{Part, Held, Item, Firing}
 use Rattle.law_contexts.specs.Blocks.{is_store, waits_in}
 use Rattle.law_contexts.specs.Contexts.{block_in}
@@ -110,7 +112,7 @@ module _ {stage : ℕ} (s : Taking stage) (n : ℕ) (e : s.i.inlet.part ≡ Held
         let o : IsPermutation (readers_of before) (conts_of s.fl s.p s.w net.fired (only (test s x u) net.waiting)) = at_first (sym (ap readers_of is)) (old.readers x) in
         let a : IsPermutation (answers (readers_of before) u) (map tok replies) = at_last (IsPermutation-map (λ (c : Cont). answer c (Word.Val u)) _ _ o) (sym (along_tokens s x u net.waiting (λ j c. c))) in
         let b : answers (k ∷ []) u ≡ map tok (makes s.fl s.w f) = sym (ap (λ t. t ∷ []) (reply_token s s.i (taken_here s) n e u)) ∙ ap (map tok) (sym makes_one) in
-        at_first (made ∙ map-append (λ (c : Cont). answer c (Word.Val u)) (readers_of before) (k ∷ [])) (at_last (IsPermutation-append _ _ _ _ a (IsPermutation-same _ _ b)) (sym (map-append tok replies (makes s.fl s.w f))))
+        at_first (made ∙ map-append (λ (c : Cont). answer c (Word.Val u)) (readers_of before) (k ∷ [])) (at_last (IsPermutation-append _ _ _ _ a (permutation_same _ _ b)) (sym (map-append tok replies (makes s.fl s.w f))))
 
     -- what holds of all that is sent
     of_made : (P : Item → Type 0) → ((j : Item) (c : Contains net.waiting j) (m : ℕ) (h : j.inlet.part ≡ Held m) → P (reply s j (waiting_here s j c) m h u)) → P (reply s s.i (taken_here s) n e u) → (i : Item) → Contains all_made i → P i
@@ -178,7 +180,7 @@ module _ {stage : ℕ} (s : Taking stage) (n : ℕ) (e : s.i.inlet.part ≡ Held
     readers_now : (y : ℕ) → (x ≡ y) ⊎ (x ≡ y → ⊥) → Readers (s.new.store.cells y) d.waiting y
     readers_now y (inl q) = subst (λ y. Readers (s.new.store.cells y) d.waiting y) q
         (subst (λ c. Readers c d.waiting x) (sym (cells_now x ∙ put_same s.m.store.cells x (Full u)))
-        (IsPermutation-same _ _ (sym (ap (λ l. conts_of s.fl s.p s.w net.fired (only (test s x u) l)) waiting_now ∙ ap (conts_of s.fl s.p s.w net.fired) (kept_neither (test s x u) net.waiting)))))
+        (permutation_same _ _ (sym (ap (λ l. conts_of s.fl s.p s.w net.fired (only (test s x u) l)) waiting_now ∙ ap (conts_of s.fl s.p s.w net.fired) (kept_neither (test s x u) net.waiting)))))
     readers_now y (inr q) = subst (λ c. Readers c d.waiting y) (sym (cells_now y ∙ put_other s.m.store.cells x y (Full u) q))
         (at_last (old.readers y) (sym (ap (λ l. conts_of s.fl s.p s.w net.fired (only (λ (i : Item). reads s.fl y i i.inlet.part) l)) waiting_now
         ∙ ap (conts_of s.fl s.p s.w net.fired) (kept_apart (test s x u) (λ (i : Item). reads s.fl y i i.inlet.part) (λ i h. one_cell y q i i.inlet.part h) net.waiting))))

@@ -4,6 +4,8 @@ use Rattle.std.specs.Prelude.{IsPermutation, Contains, flat_map, count_by}
 use Rattle.std.proofs.lemmas.List.{map-append}
 use Rattle.std.proofs.lemmas.List.Elements.{Contains-append_left, Contains-append_right, Contains-append_cases}
 use Rattle.std.proofs.lemmas.List.Sorted.{IsPermutation-refl, IsPermutation-trans, IsPermutation-sym, IsPermutation-map, IsPermutation-append, IsPermutation-append_left, IsPermutation-append_right}
+use Rattle.lemmas.proofs.Permutations.{permutation_same}
+use Rattle.lemmas.proofs.Contains.{contains_cases, contains_head}
 use Rattle.tags.specs.declared.token.Port.TheVariants.{Left}
 use Rattle.tags.specs.declared.token.Token.{Token}
 use Rattle.tags.specs.declared.slot.SlotState.{SlotState}
@@ -13,8 +15,7 @@ use Rattle.semantics.specs.Machine.{Store}
 use Rattle.semantics.specs.Handed.{handed_by}
 use Rattle.semantics.specs.Orderly.{readers_of}
 use Rattle.law_net.proofs.NetSlots.{InSlots, AtSlot}
-use Rattle.law_net.proofs.Orders.{shuffled, Part as Piece, ◌⊕◌, at_first, at_last, IsPermutation-same, flat_map-IsPermutation}
-use Rattle.law_net.proofs.Members.{contains_head, contains_cases}
+use Rattle.law_net.proofs.Orders.{shuffled, Part as Piece, ◌⊕◌, at_first, at_last, flat_map-IsPermutation}
 use Rattle.law_contexts.specs.Parts.{Part, Framer, Fanned, Opener, Giver, Taker, Drainer, Drained, Landing, Held, Inlet, inlet, BackTo, Item, Firing}
 use Rattle.law_contexts.specs.Blocks.{is_loop, is_store, bound_at}
 use Rattle.law_contexts.specs.Contexts.{block_in, code_in, wiring_in, or_zero, is_strict_in, IsContext}
@@ -244,7 +245,7 @@ module _ {stage : ℕ} (s0 : Taking stage) (n : ℕ) (e : s0.i.inlet.part ≡ Fr
   came_now : IsPermutation (came s.fl new) (ask ∷ (map up args ++ ((Renewed.parted s0 n e strict).rest ++ ((Renewed.parted s0 n e strict).left ++ (s.i ∷ own net.fired)))))
   came_now =
       let P = Renewed.parted s0 n e strict in
-      let a = IsPermutation-append _ _ _ _ (Renewed.pending_now s0 n e strict) (IsPermutation-append _ _ _ _ (Renewed.waiting_now s0 n e strict) (IsPermutation-same _ _ (ap (λ l. l ++ own net.fired) (Renewed.own_is s0 n e strict)))) in
+      let a = IsPermutation-append _ _ _ _ (Renewed.pending_now s0 n e strict) (IsPermutation-append _ _ _ _ (Renewed.waiting_now s0 n e strict) (permutation_same _ _ (ap (λ l. l ++ own net.fired) (Renewed.own_is s0 n e strict)))) in
       let b = shuffled ((ask ∷ []) ∷ map up P.now ∷ P.rest ∷ map up P.kept ∷ P.left ∷ (s.i ∷ own net.fired) ∷ []) ((Piece 0 ⊕ (Piece 1 ⊕ Piece 2)) ⊕ ((Piece 3 ⊕ Piece 4) ⊕ Piece 5)) (Piece 0 ⊕ ((Piece 1 ⊕ Piece 3) ⊕ (Piece 2 ⊕ (Piece 4 ⊕ Piece 5)))) refl in
       let d = at_first (sym (map-append up P.now P.kept)) (IsPermutation-map up _ _ P.both) in
       IsPermutation-trans _ _ _ a (IsPermutation-trans _ _ _ b (IsPermutation-append_right (ask ∷ []) _ _ (IsPermutation-append_left (P.rest ++ (P.left ++ (s.i ∷ own net.fired))) _ _ d)))
@@ -270,7 +271,7 @@ module _ {stage : ℕ} (s0 : Taking stage) (n : ℕ) (e : s0.i.inlet.part ≡ Fr
   met =
       let R = (Renewed.parted s0 n e strict).rest ++ ((Renewed.parted s0 n e strict).left ++ (s.i ∷ own net.fired)) in
       let pick = λ (i : Item). if nh s i then i ∷ [] else [] in
-      let made = made_but s (ask ∷ []) (IsPermutation-same _ _ (made_token s (framer_wants s0 n e strict))) (λ j h. told_other s.fl s.p s.w net.fired j (ap (λ (i : Item). is_held i.inlet.part) (sym (contains_one ask j h)))) in
+      let made = made_but s (ask ∷ []) (permutation_same _ _ (made_token s (framer_wants s0 n e strict))) (λ j h. told_other s.fl s.p s.w net.fired j (ap (λ (i : Item). is_held i.inlet.part) (sym (contains_one ask j h)))) in
       let a = met_is s (ask ∷ []) (ask ∷ came s.fl net) made (IsPermutation-refl (ask ∷ came s.fl net)) in
       let b = IsPermutation-map tok _ _ (flat_map-IsPermutation pick _ _ (IsPermutation-append_right (ask ∷ []) _ _ came_before)) in
       let d = IsPermutation-map tok _ _ (flat_map-IsPermutation pick _ _ came_now) in

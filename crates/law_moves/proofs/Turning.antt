@@ -4,11 +4,11 @@ use Rattle.std.specs.Prelude.{Contains, flat_map}
 use Rattle.std.proofs.lemmas.Bool.{cases_eq}
 use Rattle.std.proofs.lemmas.List.Elements.{Contains-append_right}
 use Rattle.std.proofs.lemmas.List.Sorted.{IsPermutation-sym, Contains-permutation}
+use Rattle.lemmas.proofs.Contains.{contains_cases, contains_head, contains_none}
 use Rattle.tags.specs.declared.token.Port.{Port}
 use Rattle.tags.specs.declared.token.Port.TheVariants.{Left, Right}
 use Rattle.semantics.specs.Meaning.{Context, Turned}
 use Rattle.law_net.specs.Roles.{one, total}
-use Rattle.law_net.proofs.Members.{contains_head, contains_cases, contains_none}
 use Rattle.law_contexts.specs.Parts.{Part, Entry, Line, Opener, Asker, DrainReturn, Taker, Drainer, inlet, Item, item, Firing, Role, spot_of}
 use Rattle.law_contexts.specs.Blocks.{is_loop, flag, waits_in}
 use Rattle.law_contexts.specs.Contexts.{block_in, IsContext}
@@ -17,7 +17,7 @@ use Rattle.law_contexts.specs.Around.{Choice}
 use Rattle.law_contexts.specs.Firings.{Config, begins, takes, makes, right_way, times, is_firing}
 use Rattle.law_contexts.specs.Laws.{InArm, arms_of, flag_arm, way_fits}
 use Rattle.law_contexts.specs.Stands.{is_item_at, items_at, granted_of}
-use Rattle.law_arms.proofs.Sames.{spot_is, inlet_is}
+use Rattle.law_contexts.proofs.Sames.{spot_is, inlet_is}
 use Rattle.law_arms.proofs.Sends.{first_taken, takes_first, takes_right, first_context}
 use Rattle.law_arms.proofs.Invoked.{is_turned}
 use Rattle.law_arms.proofs.Words.{Begins, AtEntry, AtInput, begin_cases}

@@ -4,10 +4,11 @@ use Rattle.std.specs.Prelude.{Contains, flat_map}
 use Rattle.std.proofs.lemmas.Bool.{cases_eq, false_from_ne_true}
 use Rattle.std.proofs.lemmas.List.Elements.{Contains-append_right}
 use Rattle.std.proofs.lemmas.List.Sorted.{IsPermutation-sym, Contains-permutation}
+use Rattle.std.proofs.lemmas.Option.{same_Some}
+use Rattle.lemmas.proofs.Contains.{contains_head, contains_tail}
 use Rattle.semantics.specs.Graph.{Flow}
 use Rattle.semantics.specs.Meaning.{Context, Main, Called, Turned}
 use Rattle.semantics.specs.Cause.{is_turn}
-use Rattle.law_net.proofs.Members.{contains_head, contains_tail}
 use Rattle.law_contexts.specs.Parts.{Part, Asked, NextAsked, Drained, Item, Firing, spot_of, same_context}
 use Rattle.law_contexts.specs.Blocks.{is_loop}
 use Rattle.law_contexts.specs.Contexts.{block_in, child, next}
@@ -16,7 +17,7 @@ use Rattle.law_contexts.specs.Laws.{is_main, spot_there}
 use Rattle.law_contexts.specs.Stands.{is_item_at, items_at, came, Stands}
 use Rattle.law_moves.specs.Cases.{Taking, net_of}
 use Rattle.law_moves.proofs.Lists.{count_none}
-use Rattle.law_arms.proofs.Sames.{same_context-true}
+use Rattle.law_contexts.proofs.Sames.{same_context-true}
 use Rattle.law_arms.proofs.Sends.{first_taken, takes_first, first_context, part_there}
 use Rattle.law_arms.proofs.Nets.{not_twice, taken_in, came_all}
 use Rattle.law_arms.proofs.Comes.{fired_fit}
@@ -75,12 +76,9 @@ turn_same : (x c : Context) (m n j i : ℕ) → Turned x m (j + 1) ≡ Turned c 
 turn_same x c m n j i e =
     let a : x ≡ c = cc in let b : m ≡ n = cc in let z : j + 1 ≡ i + 1 = cc in let d : j ≡ i = omega (arith, z) in λ t. Turned (a t) (b t) (d t)
 
-some_context : (x c : Context) → Some x ≡ Some c → x ≡ c
-some_context x c e = cc
-
 pub asks_child : (fl : Flow) (c : Context) (n : ℕ) (x : Context) (r : Part) → (r ≡ NextAsked → is_turn x ≡ true) → handed_to fl x r ≡ Some (child fl c n) → (x ≡ c) × (r ≡ Asked n)
-asks_child fl c n x (Asked m) turn e = let k = child_same (is_loop (block_in fl x) m) (is_loop (block_in fl c) n) x c m n (some_context (child fl x m) (child fl c n) e) in (k.0, ap Asked k.1)
-asks_child fl c n x NextAsked turn e = absurd (go x (turn refl) (some_context (next x) (child fl c n) e))
+asks_child fl c n x (Asked m) turn e = let k = child_same (is_loop (block_in fl x) m) (is_loop (block_in fl c) n) x c m n (same_Some (child fl x m) (child fl c n) e) in (k.0, ap Asked k.1)
+asks_child fl c n x NextAsked turn e = absurd (go x (turn refl) (same_Some (next x) (child fl c n) e))
   where
     go : (x : Context) → is_turn x ≡ true → next x ≡ child fl c n → ⊥
     go Main t e = true≢false (sym t)
@@ -91,8 +89,8 @@ asks_child fl c n x r turn e = absurd (cc)
 pub asks_next : (fl : Flow) (c : Context) → is_turn c ≡ true → (x : Context) (r : Part) → (r ≡ NextAsked → is_turn x ≡ true) → handed_to fl x r ≡ Some (next c) → (x ≡ c) × (r ≡ NextAsked)
 asks_next fl Main t x r turn e = absurd (true≢false (sym t))
 asks_next fl (Called c n) t x r turn e = absurd (true≢false (sym t))
-asks_next fl (Turned c n i) t x (Asked m) turn e = absurd (child_next (is_loop (block_in fl x) m) x c m n i (some_context (child fl x m) (Turned c n (i + 1)) e))
-asks_next fl (Turned c n i) t x NextAsked turn e = go x (turn refl) (some_context (next x) (Turned c n (i + 1)) e)
+asks_next fl (Turned c n i) t x (Asked m) turn e = absurd (child_next (is_loop (block_in fl x) m) x c m n i (same_Some (child fl x m) (Turned c n (i + 1)) e))
+asks_next fl (Turned c n i) t x NextAsked turn e = go x (turn refl) (same_Some (next x) (Turned c n (i + 1)) e)
   where
     go : (x : Context) → is_turn x ≡ true → next x ≡ Turned c n (i + 1) → (x ≡ Turned c n i) × (NextAsked ≡ NextAsked)
     go Main t e = absurd (true≢false (sym t))

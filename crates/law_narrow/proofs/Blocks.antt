@@ -1,6 +1,6 @@
 -- The marks, the blocks and the landings of narrowed plans, and for what their instructions stand.
-use Rattle.std.proofs.Common.{◌≡◌, refl, sym, ap, ◌∙◌, subst, ℕ, zero, suc, ◌+◌, ◌-◌, ◌<◌, ◌⊎◌, inl, inr, Bool, true, false, true≢false, List, [], ◌∷◌, ◌++◌, length, Option, Some, None, Contains, arith, nat_lt, ltb-true, ltb-false, zero-add}
-use Rattle.std.specs.Prelude.{slice_get, if◌then◌else◌}
+use Rattle.std.proofs.Common.{◌≡◌, refl, sym, ap, ◌∙◌, subst, ℕ, zero, suc, ◌+◌, ◌-◌, ◌<◌, ◌⊎◌, inl, inr, Bool, true, false, List, [], ◌∷◌, ◌++◌, length, Option, Some, None, Contains, arith, nat_lt}
+use Rattle.std.specs.Prelude.{slice_get}
 use Rattle.std.proofs.lemmas.List.Elements.{Contains-append_cases}
 use Rattle.std.proofs.lemmas.Option.{slice_get_within, slice_get-map}
 use Rattle.tags.specs.declared.token.Port.{Port}
@@ -11,53 +11,23 @@ use Rattle.semantics.specs.Program.{Instr, CodeBlock, Program, first_of, instr_a
 use Rattle.semantics.specs.Plan.{Plan, landing, landing_in}
 use Rattle.semantics.specs.Orderly.{same_block, IsMarked}
 use Rattle.code.specs.Sound.{IsSound}
-use Rattle.law_net.proofs.Ports.{same_in}
-use Rattle.law_reuse.proofs.Members.{contains_cases, contains_none}
-use Rattle.law_reuse.proofs.Stands.{first_in, first_next, one_block, stands_within, Found, found}
+use Rattle.law_reuse.proofs.Stands.{one_block, stands_within, Found, found}
 use Rattle.fanout.specs.Places.{size, place_of}
 use Rattle.fanout.specs.Narrowed.{layout_of, narrowed, narrowed_block, narrowed_blocks}
 use Rattle.fanout.specs.Laws.{StandsClear}
 use Rattle.fanout.specs.Trees.{moved}
 use Rattle.fanout.specs.Sides.{parted}
-use Rattle.fanout.proofs.Queues.{there}
-use Rattle.fanout.proofs.Maps.{get_map}
 use Rattle.fanout.proofs.Plans.{l, IsOld, IsNew, origin_of, mark_old}
 use Rattle.fanout.proofs.Arrows.{dests_stay}
 use Rattle.fanout.proofs.SoundFlags.{sound_stands_clear}
 use Rattle.law_once.specs.Alike.{IsTidy}
 use Rattle.law_once.specs.Spreads.{Spot, StandsFor, here, fork}
 use Rattle.std.specs.Option.{option_map}
+use Rattle.lemmas.proofs.Contains.{contains_cases, contains_none}
+use Rattle.lemmas.proofs.SliceGet.{map_get_back, get_some}
+use Rattle.semantics.proofs.BlockPlaces.{block_of, first_in, same_in}
 use Rattle.law_narrow.proofs.NewPlaces.{new_ip, back_in, place_in, ip_at}
 use Rattle.law_narrow.proofs.Trees.{copy_node}
-
--- two numbers of one block
-pub record InBlock (bs : List CodeBlock) (ip jp : ℕ) : Type 0 where
-  pub b : ℕ
-  pub c : CodeBlock
-  pub j : ℕ
-  pub k : ℕ
-  pub block : slice_get bs b ≡ Some c
-  pub low : j < length c.instrs
-  pub high : k < length c.instrs
-  pub one : ip ≡ first_in bs b + j
-  pub two : jp ≡ first_in bs b + k
-
-block_of : (bs : List CodeBlock) (ip jp : ℕ) → same_block bs ip jp ≡ true → InBlock bs ip jp
-block_of [] ip jp e = absurd (true≢false (sym e))
-block_of (x ∷ bs) ip jp e = go (nat_lt ip (length x.instrs)) (nat_lt jp (length x.instrs)) refl refl e (block_of bs (ip - length x.instrs) (jp - length x.instrs))
-  where
-    go : (s t : Bool) → nat_lt ip (length x.instrs) ≡ s → nat_lt jp (length x.instrs) ≡ t
-        → (if s then t else if t then false else same_block bs (ip - length x.instrs) (jp - length x.instrs)) ≡ true
-        → (same_block bs (ip - length x.instrs) (jp - length x.instrs) ≡ true → InBlock bs (ip - length x.instrs) (jp - length x.instrs)) → InBlock (x ∷ bs) ip jp
-    go true true a b e more = record { b = 0; c = x; j = ip; k = jp; block = refl; low = ltb-true ip (length x.instrs) a; high = ltb-true jp (length x.instrs) b; one = sym (zero-add ip); two = sym (zero-add jp) }
-    go true false a b e more = absurd (true≢false (sym e))
-    go false true a b e more = absurd (true≢false (sym e))
-    go false false a b e more =
-        let m = more e in
-        let n = first_next x bs m.b in
-        let fa = ltb-false ip (length x.instrs) a in let fb = ltb-false jp (length x.instrs) b in
-        let o = m.one in let t = m.two in
-        record { b = suc m.b; c = m.c; j = m.j; k = m.k; block = m.block; low = m.low; high = m.high; one = omega (arith, n, fa, o); two = omega (arith, n, fb, t) }
 
 module _ (p : Plan) (s : IsSound p) (tidy : IsTidy p) where
   abbrev P : Program
@@ -131,11 +101,11 @@ module _ (p : Plan) (s : IsSound p) (tidy : IsTidy p) where
 
   pub keeps_marks : (a : ℕ) (m : Mark) → IsMarked (narrowed p) (H a) m → IsMarked p a m
   keeps_marks a m (b, n, c2, at2, low, place, marked, some) =
-      let o = get_map (narrowed_block p) P.blocks b c2 at2 in
+      let o = map_get_back (narrowed_block p) P.blocks b c2 at2 in
       let c : CodeBlock = o.0 in
       let len : n < length (narrowed_block p c).instrs = subst (λ (d : CodeBlock). n < length d.instrs) (sym o.2) low in
       let r = back_in p P.blocks b n a c o.1 len place in
-      let i = there c.instrs r.0 r.1 in
+      let i = get_some c.instrs r.0 r.1 in
       let is : IsOld p c n (moved (l p c) r.0 (parted i.0)) = record { v = r.0; i = i.0; there = i.1; at = r.3; op = refl; slot = refl } in
       (b, r.0, c, o.1, r.1, r.2, sym (mark_old p b c o.1 n (moved (l p c) r.0 (parted i.0)) is) ∙ marked, some)
 
@@ -151,7 +121,7 @@ module _ (p : Plan) (s : IsSound p) (tidy : IsTidy p) where
   pub stands_for_some : (ip : ℕ) (j : Instr) → instr_at Q ip ≡ Some j → (zs : List Spot) × StandsFor Q H ip Left zs
   stands_for_some ip j at =
       let F : Found Q ip j = found Q ip j at in
-      let o = get_map (narrowed_block p) P.blocks F.b F.stands.code F.stands.block in
+      let o = map_get_back (narrowed_block p) P.blocks F.b F.stands.code F.stands.block in
       go F o.0 o.1 (origin_of p o.0 F.n j (ap (λ (c : CodeBlock). slice_get c.instrs F.n) o.2 ∙ F.stands.instr))
     where
       go : (F : Found Q ip j) (c : CodeBlock) → slice_get P.blocks F.b ≡ Some c → IsOld p c F.n j ⊎ IsNew p c F.n j → (zs : List Spot) × StandsFor Q H ip Left zs
@@ -160,6 +130,6 @@ module _ (p : Plan) (s : IsSound p) (tidy : IsTidy p) where
           let a : ℕ = first_of P F.b + K.v in
           ((a, Left) ∷ [], here ip Left ((a, Left) ∷ []) a (F.place ∙ ap (λ (n : ℕ). first_of Q F.b + n) K.at ∙ sym k) refl)
       go F c e (inr K) =
-          let q = get_map parted c.instrs K.v K.i K.there in
+          let q = map_get_back parted c.instrs K.v K.i K.there in
           let x = copy_node p s tidy F.b c e K.v q.0 q.1 K.j (subst (λ (i : Instr). K.j < size i) (sym q.2) K.below) in
           (x.0, subst (λ (n : ℕ). StandsFor Q H n Left x.0) (ap (λ (n : ℕ). first_of Q F.b + n) (sym K.at) ∙ sym F.place) x.1)

@@ -1,9 +1,9 @@
 -- What narrowing keeps, and that the code of a narrowed plan is faithful.
 use Rattle.std.proofs.Common.{refl}
 use Rattle.std.specs.Prelude.{All}
+use Rattle.lemmas.proofs.Alls.{all_at}
 use Rattle.semantics.specs.Program.{CodeBlock}
 use Rattle.semantics.specs.Plan.{Plan}
-use Rattle.law_determinacy.proofs.Resolved.{all_get}
 use Rattle.fanout.specs.Laws.{HasFew}
 use Rattle.fanout.specs.Narrowed.{narrowed}
 use Rattle.fanout.proofs.Shapes.{narrowed_few}
@@ -27,7 +27,7 @@ narrowed_is_ready fl p r =
     ready_stays fl p (narrowed p) (narrowing_keeps p r.sound r.orderly r.lands r.tidy) (stays_sound p r.sound) (narrowed_is_tidy p r.sound r.tidy) refl (still_has_bounds fl p r.faithful.bounds) (narrowed_spreads p r.sound r.tidy).inputs r
 
 few_dests : (p : Plan) → HasFewDests (narrowed p).program
-few_dests p b n c i at_b at_n = all_get HasFew c.instrs n i (all_get (λ (c : CodeBlock). All HasFew c.instrs) (narrowed p).program.blocks b c (narrowed_few p) at_b) at_n
+few_dests p b n c i at_b at_n = all_at HasFew c.instrs n i (all_at (λ (c : CodeBlock). All HasFew c.instrs) (narrowed p).program.blocks b c (narrowed_few p) at_b) at_n
 
 pub narrowed_code_is_faithful : NarrowedCodeIsFaithful
 narrowed_code_is_faithful fl p slots r good = ready_code_is_faithful fl (narrowed p) slots (narrowed_is_ready fl p r) (few_dests p) good

@@ -2,17 +2,17 @@
 use Rattle.std.proofs.Common.{◌≡◌, refl, sym, ap, ◌∙◌, ℕ, zero, suc, ◌+◌, ◌-◌, ◌<◌, Bool, true, false, List, [], ◌∷◌, length, Option, Some, arith, zero-add, nat_lt, lt-ltb, le-ltb, ltb-true, ltb-false}
 use Rattle.std.specs.Prelude.{slice_get, if◌then◌else◌}
 use Rattle.std.proofs.lemmas.Option.{slice_get_within}
+use Rattle.lemmas.proofs.SliceGet.{get_some}
 use Rattle.semantics.specs.Program.{Instr, CodeBlock, instr_from}
 use Rattle.semantics.specs.Holders.{holder_of, holder_from}
 use Rattle.semantics.specs.Machine.{slot_used}
 use Rattle.semantics.specs.Plan.{Plan}
-use Rattle.law_reuse.proofs.Stands.{first_in, first_next}
+use Rattle.semantics.proofs.BlockPlaces.{first_in, first_next}
 use Rattle.fanout.specs.Sides.{parted}
 use Rattle.fanout.specs.Places.{place_of}
 use Rattle.fanout.specs.Trees.{moved}
 use Rattle.fanout.specs.Narrowed.{layout_of, narrowed_block, narrowed_blocks}
 use Rattle.fanout.proofs.Spots.{places_differ}
-use Rattle.fanout.proofs.Queues.{there}
 use Rattle.fanout.proofs.Standing.{instrs_stay}
 use Rattle.fanout.proofs.Plans.{is, ts, l, all}
 use Rattle.fanout.proofs.Arrows.{in_parts}
@@ -41,11 +41,11 @@ ip_at p (x ∷ bs) (suc b) n c e l =
 
 -- an instruction's place lies in the block
 pub place_in : (p : Plan) (c : CodeBlock) (n : ℕ) → n < length c.instrs → place_of (layout_of p c) n < length (narrowed_block p c).instrs
-place_in p c n low = let i = there c.instrs n low in slice_get_within (narrowed_block p c).instrs (place_of (layout_of p c) n) (moved (layout_of p c) n (parted i.0)) (instrs_stay p c n i.0 i.1)
+place_in p c n low = let i = get_some c.instrs n low in slice_get_within (narrowed_block p c).instrs (place_of (layout_of p c) n) (moved (layout_of p c) n (parted i.0)) (instrs_stay p c n i.0 i.1)
 
 places_one : (p : Plan) (c : CodeBlock) (m n : ℕ) → m < length c.instrs → n < length c.instrs → place_of (layout_of p c) m ≡ place_of (layout_of p c) n → m ≡ n
 places_one p c m n lm ln e =
-    let i = there c.instrs m lm in let k = there c.instrs n ln in
+    let i = get_some c.instrs m lm in let k = get_some c.instrs n ln in
     places_differ (ts p c) (is p c) (all p c) m n (parted i.0) (parted k.0) (in_parts c m i.0 i.1) (in_parts c n k.0 k.1) e
 
 -- no two instructions have one new number
@@ -71,7 +71,7 @@ holders_in p b (c ∷ cs) a = go (nat_lt a (length c.instrs)) refl (holders_in p
     go : (t : Bool) → nat_lt a (length c.instrs) ≡ t → holder_from (b + 1) (narrowed_blocks p cs) (new_ip p cs (a - length c.instrs)) ≡ holder_from (b + 1) cs (a - length c.instrs)
         → holder_from b (narrowed_blocks p (c ∷ cs)) (if t then place_of (layout_of p c) a else length (narrowed_block p c).instrs + new_ip p cs (a - length c.instrs)) ≡ (if t then holder_of b (slot_used (slice_get c.instrs a)) else holder_from (b + 1) cs (a - length c.instrs))
     go true t more =
-        let i = there c.instrs a (ltb-true a (length c.instrs) t) in
+        let i = get_some c.instrs a (ltb-true a (length c.instrs) t) in
         ap (λ (t : Bool). if t then holder_of b (slot_used (slice_get (narrowed_block p c).instrs (place_of (layout_of p c) a))) else holder_from (b + 1) (narrowed_blocks p cs) (place_of (layout_of p c) a - length (narrowed_block p c).instrs))
         (lt-ltb (place_of (layout_of p c) a) (length (narrowed_block p c).instrs) (place_in p c a (ltb-true a (length c.instrs) t)))
         ∙ ap (λ (o : Option Instr). holder_of b (slot_used o)) (instrs_stay p c a i.0 i.1)
@@ -91,7 +91,7 @@ instrs_in p (c ∷ cs) a j e = go (nat_lt a (length c.instrs)) refl e (instrs_in
   where
     go : (t : Bool) → nat_lt a (length c.instrs) ≡ t → instr_from (narrowed_blocks p (c ∷ cs)) (if t then place_of (layout_of p c) a else length (narrowed_block p c).instrs + new_ip p cs (a - length c.instrs)) ≡ Some j
         → (instr_from (narrowed_blocks p cs) (new_ip p cs (a - length c.instrs)) ≡ Some j → (i : Instr) × (instr_from cs (a - length c.instrs) ≡ Some i)) → (i : Instr) × ((if t then slice_get c.instrs a else instr_from cs (a - length c.instrs)) ≡ Some i)
-    go true t e more = there c.instrs a (ltb-true a (length c.instrs) t)
+    go true t e more = get_some c.instrs a (ltb-true a (length c.instrs) t)
     go false t e more =
         let x : ℕ = length (narrowed_block p c).instrs + new_ip p cs (a - length c.instrs) in
         let z : new_ip p cs (a - length c.instrs) ≡ x - length (narrowed_block p c).instrs = omega arith in

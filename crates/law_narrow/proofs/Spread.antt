@@ -3,6 +3,7 @@ use Rattle.std.proofs.Common.{◌≡◌, refl, sym, ap, ◌∙◌, subst, ℕ, �
 use Rattle.std.specs.Prelude.{slice_get}
 use Rattle.std.specs.Option.{option_map}
 use Rattle.std.proofs.lemmas.Option.{slice_get-map}
+use Rattle.lemmas.proofs.SliceGet.{get_some}
 use Rattle.semantics.specs.declared.program.Dest.{Dest}
 use Rattle.semantics.specs.declared.program.Op.{Op}
 use Rattle.semantics.specs.declared.program.Op.TheVariants.{Link, Send}
@@ -12,12 +13,12 @@ use Rattle.semantics.specs.Plan.{Plan, landing}
 use Rattle.semantics.specs.Wired.{StandsAt}
 use Rattle.semantics.specs.Orderly.{inputs_in}
 use Rattle.code.specs.Sound.{NamesRightly, IsSound}
+use Rattle.code.proofs.Mains.{main_block}
 use Rattle.law_reuse.proofs.Stands.{Found, found}
 use Rattle.fanout.specs.Sides.{parted, firsts_of, seconds_of, parting_of}
 use Rattle.fanout.specs.Places.{place_of}
 use Rattle.fanout.specs.Trees.{moved}
 use Rattle.fanout.specs.Narrowed.{narrowed, narrowed_block}
-use Rattle.fanout.proofs.Queues.{there}
 use Rattle.fanout.proofs.Standing.{landings_stay, instrs_stay}
 use Rattle.fanout.proofs.Plans.{l}
 use Rattle.law_once.specs.Spreads.{Leads, Enters, IsMoved}
@@ -30,7 +31,7 @@ use Rattle.law_narrow.proofs.Blocks.{same_landings, keeps_marks, keeps_blocks, s
 
 enters_at : (p : Plan) (s : IsSound p) (tidy : IsTidy p) (op : Op) → NamesRightly p.program op → Enters p.program (narrowed p).program (new_ip p p.program.blocks) op
 enters_at p s tidy (Link b) h =
-    let c = there p.program.blocks b h in
+    let c = get_some p.program.blocks b h in
     let e = entry_at p s tidy b c.0 c.1 0 (omega arith) in
     let z : first_of p.program b + 0 ≡ first_of p.program b = omega arith in
     let y : first_of (narrowed p).program b + 0 ≡ first_of (narrowed p).program b = omega arith in
@@ -69,9 +70,6 @@ is_moved p s tidy b c at_b v i at_v =
       enters = enters_at p s tidy i.op ((s.program.blocks b c at_b).instrs v i at_v).operand;
     }
 
-main_block : (p : Plan) (s : IsSound p) → (c : CodeBlock) × (slice_get p.program.blocks p.program.main ≡ Some c)
-main_block p s = there p.program.blocks p.program.main s.program.main
-
 new_main : (p : Plan) (c : CodeBlock) → slice_get p.program.blocks p.program.main ≡ Some c → slice_get (narrowed p).program.blocks p.program.main ≡ Some (narrowed_block p c)
 new_main p c e = slice_get-map (narrowed_block p) p.program.blocks p.program.main ∙ ap (option_map (narrowed_block p)) e
 
@@ -109,7 +107,7 @@ narrowed_spreads p s tidy = record {
         let place = F.place in
         let room = tidy.landings F.b F.n F.stands.code i d callee F.stands.block F.stands.instr links lands in
         let inside : to + o < length F.stands.code.instrs = omega (arith, room, low) in
-        let x = there F.stands.code.instrs (to + o) inside in
+        let x = get_some F.stands.code.instrs (to + o) inside in
         let r = landings_stay p F.n callee o F.stands.code i x.0 d F.stands.instr links (subst (λ (ds : List Dest). Contains ds d) (sym lands) (0, omega arith, refl)) low x.1 in
         let one = h_at p s tidy F.b F.stands.code F.stands.block (to + o) inside in
         let two = h_at p s tidy F.b F.stands.code F.stands.block to (omega (arith, inside)) in

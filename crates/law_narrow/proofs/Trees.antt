@@ -5,6 +5,8 @@ use Rattle.std.specs.Option.{option_map}
 use Rattle.std.proofs.lemmas.List.Elements.{Contains-append_left, Contains-append_right}
 use Rattle.std.proofs.lemmas.Option.{slice_get-get_or, slice_get_within, slice_get-map, get_or_from_slice_get}
 use Rattle.std.proofs.lemmas.List.Sorted.{Contains-permutation, IsPermutation-refl, IsPermutation-sym, IsPermutation-trans, IsPermutation-append_left, IsPermutation-append_right, IsPermutation-append_comm}
+use Rattle.lemmas.proofs.Contains.{contains_mapped}
+use Rattle.lemmas.proofs.SliceGet.{get_some}
 use Rattle.tags.specs.declared.token.Port.TheVariants.{Left}
 use Rattle.semantics.specs.declared.program.Dest.{Dest}
 use Rattle.semantics.specs.declared.program.Op.{Op}
@@ -22,13 +24,12 @@ use Rattle.fanout.specs.Trees.{child, leaf, side, copy_at, copies_of, moved}
 use Rattle.fanout.specs.Narrowed.{narrowed, narrowed_block}
 use Rattle.fanout.specs.Laws.{StandsClear}
 use Rattle.fanout.proofs.Spots.{copy_apart, first_copy, second_copy, copy_stands, before_copies}
-use Rattle.fanout.proofs.Queues.{Address, there, to, Reaches, tip, window, queue, copy_goes, queue_last, queue_first, queue_all, side_goes}
+use Rattle.fanout.proofs.Queues.{Address, to, Reaches, tip, window, queue, copy_goes, queue_last, queue_first, queue_all, side_goes}
 use Rattle.fanout.proofs.Parted.{parted_all}
 use Rattle.fanout.proofs.Standing.{instrs_stay}
 use Rattle.fanout.proofs.Plans.{is, ts, l, all}
 use Rattle.fanout.proofs.Arrows.{in_parts, past, dests_stay}
 use Rattle.fanout.proofs.SoundFlags.{sound_stands_clear}
-use Rattle.law_reuse.proofs.Members.{contains_mapped}
 use Rattle.law_once.specs.Spreads.{Spot, StandsFor, IsCopyAt, here, fork, Lead, targets, Leads, is_answered}
 use Rattle.law_once.specs.Alike.{IsTidy, plain_dests}
 use Rattle.law_narrow.proofs.NewPlaces.{new_ip, ip_at, back_in}
@@ -70,7 +71,7 @@ module _ (p : Plan) (s : IsSound p) (tidy : IsTidy p) where
     copy_not : (v j a : ℕ) (i : Instr) → slice_get (is p c) v ≡ Some i → j < size i → (k : Instr) → slice_get (narrowed_block p c).instrs (base_of (l p c) v + j) ≡ Some k → F + (base_of (l p c) v + j) ≡ H a → ⊥
     copy_not v j a i at low k e same =
         let r = back_in p P.blocks b (base_of (l p c) v + j) a c at_b (slice_get_within (narrowed_block p c).instrs (base_of (l p c) v + j) k e) (sym same) in
-        let o = there c.instrs r.0 r.1 in
+        let o = get_some c.instrs r.0 r.1 in
         copy_apart (ts p c) (is p c) (all p c) r.0 v j (parted o.0) i (in_parts c r.0 o.0 o.1) at low (sym r.3)
 
     -- what waits for a copy
@@ -239,7 +240,7 @@ module _ (p : Plan) (s : IsSound p) (tidy : IsTidy p) where
 
       lone_dest : (d : Dest) → Contains (plain_dests i i.op) d → Contains (i.firsts ++ i.seconds) d → (x : Spot) → (a + d.ahead, d.port) ≡ x → often (instr_at Q (H x.0)) ≡ false
       lone_dest d plain named x e =
-          let o = there c.instrs (v + d.ahead) (sound_dest d named).dest.inside in
+          let o = get_some c.instrs (v + d.ahead) (sound_dest d named).dest.inside in
           let y : H x.0 ≡ F + place (v + d.ahead) = ap (λ (x : Spot). H x.0) (sym e) ∙ sym (leaf_here d named) in
           let z : first_of P b + v + d.ahead ≡ first_of P b + (v + d.ahead) = omega arith in
           let was : instr_at P (first_of P b + v + d.ahead) ≡ Some o.0 = ap (instr_at P) z ∙ instr_in P.blocks b (v + d.ahead) c at_b (sound_dest d named).dest.inside ∙ o.1 in

@@ -3,8 +3,8 @@
 use Rattle.std.proofs.Common.{◌≡◌, ◌<◌, ◌≤◌, Bool, true, false, not, List, ◌∷◌, sym, ap, ◌∙◌, subst, inl, inr, ◌⊎◌, []}
 use Rattle.std.specs.Prelude.{All, Contains}
 use Rattle.std.proofs.lemmas.List.Elements.{All-contains, All-weaker, All-contains_itself}
+use Rattle.lemmas.proofs.Contains.{contains_head, contains_tail}
 use Rattle.law_net.specs.Roles.{total}
-use Rattle.law_net.proofs.Members.{contains_head, contains_tail}
 use Rattle.law_net.proofs.Net.{IsLawful, FiresOnce, hit}
 
 module _ {I X F R K : Type 0} (inlet : I → X) (same : X → X → Bool) (takes makes : F → List I) (begins : List I) (role : F → R)

@@ -1,6 +1,5 @@
 -- lists
 pub mod Orders
-pub mod Members
 pub mod Parts
 -- nets
 pub mod Net
@@ -9,5 +8,4 @@ pub mod NetSlots
 pub mod NetChains
 pub mod Arms
 -- code blocks
-pub mod Placed
 pub mod Ports

@@ -4,10 +4,11 @@ use Rattle.std.proofs.Common.{◌≡◌, ℕ, ◌+◌, ◌<◌, ◌≤◌, Bool,
 use Rattle.std.specs.Prelude.{All, IsPermutation, Contains, flat_map}
 use Rattle.std.proofs.lemmas.Bool.{cases_eq}
 use Rattle.std.proofs.lemmas.List.Sorted.{IsPermutation-trans, IsPermutation-refl, IsPermutation-append, IsPermutation-append_left, IsPermutation-append_right, All-permutation, length_permutation}
-use Rattle.std.proofs.lemmas.List.Elements.{All-cons, All-head, All-tail, All-append, All-weaker, All-nil, All-contains}
+use Rattle.std.proofs.lemmas.List.Elements.{All-cons, All-append, All-weaker, All-nil, All-contains}
+use Rattle.lemmas.proofs.Alls.{all_left, all_right}
+use Rattle.lemmas.proofs.Contains.{contains_cases, contains_head, contains_none, contains_tail}
 use Rattle.law_net.specs.Roles.{one, total}
 use Rattle.law_net.proofs.Orders.{total-append, total-IsPermutation, shuffled, Part, ◌⊕◌}
-use Rattle.law_net.proofs.Members.{contains_head, contains_tail, contains_cases, contains_none}
 
 pub record NetConfig (I F : Type 0) : Type 0 where
   pub pending : List I
@@ -29,14 +30,6 @@ taken_up (Fires f now kept rest others p q both e) = length now
 abbrev pub takes_up : {I F : Type 0} {takes makes : F → List I} {c d : NetConfig I F} → NetMove takes makes c d → List I
 takes_up (Waits i rest p e) = i ∷ []
 takes_up (Fires f now kept rest others p q both e) = now
-
-pub All-append_left : {X : Type 0} (P : X → Type 0) (xs ys : List X) → All P (xs ++ ys) → All P xs
-All-append_left P [] ys h = All-nil P
-All-append_left P (x ∷ xs) ys h = All-cons P x xs (All-head P x (xs ++ ys) h) (All-append_left P xs ys (All-tail P x (xs ++ ys) h))
-
-pub All-append_right : {X : Type 0} (P : X → Type 0) (xs ys : List X) → All P (xs ++ ys) → All P ys
-All-append_right P [] ys h = h
-All-append_right P (x ∷ xs) ys h = All-append_right P xs ys (All-tail P x (xs ++ ys) h)
 
 -- what the firings took or made, by weight
 abbrev pub weigh : {I F : Type 0} → (F → List I) → (I → ℕ) → List F → ℕ
@@ -131,11 +124,11 @@ module _ {I X F R : Type 0} (inlet : I → X) (same : X → X → Bool) (takes m
 
     -- what a firing took was allowed
     pub takes_allowed : (c : NetConfig I F) → IsNetSound Allowed c → (h : F) → Contains c.fired h → All (Allowed c.fired) (takes h)
-    takes_allowed c s h k = All-contains (λ h. All (Allowed c.fired) (takes h)) c.fired h (all c.fired (All-append_right (Allowed c.fired) c.waiting (flat_map takes c.fired) (All-append_right (Allowed c.fired) c.pending (c.waiting ++ flat_map takes c.fired) s.allowed))) k
+    takes_allowed c s h k = All-contains (λ h. All (Allowed c.fired) (takes h)) c.fired h (all c.fired (all_right (Allowed c.fired) c.waiting (flat_map takes c.fired) (all_right (Allowed c.fired) c.pending (c.waiting ++ flat_map takes c.fired) s.allowed))) k
       where
         all : (fs : List F) → All (Allowed c.fired) (flat_map takes fs) → All (λ h. All (Allowed c.fired) (takes h)) fs
         all [] a = All-nil (λ h. All (Allowed c.fired) (takes h))
-        all (f ∷ fs) a = All-cons (λ h. All (Allowed c.fired) (takes h)) f fs (All-append_left (Allowed c.fired) (takes f) (flat_map takes fs) a) (all fs (All-append_right (Allowed c.fired) (takes f) (flat_map takes fs) a))
+        all (f ∷ fs) a = All-cons (λ h. All (Allowed c.fired) (takes h)) f fs (all_left (Allowed c.fired) (takes f) (flat_map takes fs) a) (all fs (all_right (Allowed c.fired) (takes f) (flat_map takes fs) a))
 
     all_later : (f : F) (fired : List F) (is : List I) → All (Allowed fired) is → All (Allowed (f ∷ fired)) is
     all_later f fired is a = All-weaker (Allowed fired) (Allowed (f ∷ fired)) (laws.later f fired) is a
@@ -152,7 +145,7 @@ module _ {I X F R : Type 0} (inlet : I → X) (same : X → X → Bool) (takes m
     -- what a firing takes is allowed
     pub fires_allowed : (c : NetConfig I F) → IsNetSound Allowed c → (f : F) (now kept rest others : List I) → IsPermutation c.pending (now ++ rest) → IsPermutation c.waiting (kept ++ others) → IsPermutation (now ++ kept) (takes f) → All (Allowed c.fired) (takes f)
     fires_allowed c s f now kept rest others p q both =
-        All-append_left (Allowed c.fired) (takes f) (rest ++ (others ++ flat_map takes c.fired)) (All-permutation (Allowed c.fired) _ _
+        all_left (Allowed c.fired) (takes f) (rest ++ (others ++ flat_map takes c.fired)) (All-permutation (Allowed c.fired) _ _
         (IsPermutation-trans _ _ _ (IsPermutation-append _ _ _ _ p (IsPermutation-append_left (flat_map takes c.fired) _ _ q))
         (IsPermutation-trans _ _ _ (shuffled (now ∷ rest ∷ kept ∷ others ∷ flat_map takes c.fired ∷ []) ((Part 0 ⊕ Part 1) ⊕ ((Part 2 ⊕ Part 3) ⊕ Part 4)) ((Part 0 ⊕ Part 2) ⊕ (Part 1 ⊕ (Part 3 ⊕ Part 4))) refl)
         (IsPermutation-append_left (rest ++ (others ++ flat_map takes c.fired)) _ _ both))) s.allowed)
@@ -162,9 +155,9 @@ module _ {I X F R : Type 0} (inlet : I → X) (same : X → X → Bool) (takes m
     net_fires c s f now kept rest others p q both = record {
       marked = marked_moves c (record { pending = makes f ++ rest; waiting = others; fired = f ∷ c.fired }) s.marked (Fires f now kept rest others p q both refl);
       allowed = All-append (Allowed (f ∷ c.fired)) (makes f ++ rest) (others ++ (takes f ++ flat_map takes c.fired))
-          (All-append (Allowed (f ∷ c.fired)) (makes f) rest (laws.makes_allowed f c.fired mine) (all_later f c.fired rest (All-append_left (Allowed c.fired) rest (others ++ flat_map takes c.fired) left)))
-          (All-append (Allowed (f ∷ c.fired)) others (takes f ++ flat_map takes c.fired) (all_later f c.fired others (All-append_left (Allowed c.fired) others (flat_map takes c.fired) left'))
-          (All-append (Allowed (f ∷ c.fired)) (takes f) (flat_map takes c.fired) (all_later f c.fired (takes f) mine) (all_later f c.fired (flat_map takes c.fired) (All-append_right (Allowed c.fired) others (flat_map takes c.fired) left'))));
+          (All-append (Allowed (f ∷ c.fired)) (makes f) rest (laws.makes_allowed f c.fired mine) (all_later f c.fired rest (all_left (Allowed c.fired) rest (others ++ flat_map takes c.fired) left)))
+          (All-append (Allowed (f ∷ c.fired)) others (takes f ++ flat_map takes c.fired) (all_later f c.fired others (all_left (Allowed c.fired) others (flat_map takes c.fired) left'))
+          (All-append (Allowed (f ∷ c.fired)) (takes f) (flat_map takes c.fired) (all_later f c.fired (takes f) mine) (all_later f c.fired (flat_map takes c.fired) (all_right (Allowed c.fired) others (flat_map takes c.fired) left'))));
       safe = λ x. by_hit x (cases_eq (total (hit x) (makes f)) 0);
       once = λ g h a d e. one_of (contains_cases f c.fired g a) (contains_cases f c.fired h d) e;
     }
@@ -178,13 +171,13 @@ module _ {I X F R : Type 0} (inlet : I → X) (same : X → X → Bool) (takes m
         all = All-permutation (Allowed c.fired) _ _ perm s.allowed
 
         mine : All (Allowed c.fired) (takes f)
-        mine = All-append_left (Allowed c.fired) (takes f) (rest ++ (others ++ flat_map takes c.fired)) all
+        mine = all_left (Allowed c.fired) (takes f) (rest ++ (others ++ flat_map takes c.fired)) all
 
         left : All (Allowed c.fired) (rest ++ (others ++ flat_map takes c.fired))
-        left = All-append_right (Allowed c.fired) (takes f) (rest ++ (others ++ flat_map takes c.fired)) all
+        left = all_right (Allowed c.fired) (takes f) (rest ++ (others ++ flat_map takes c.fired)) all
 
         left' : All (Allowed c.fired) (others ++ flat_map takes c.fired)
-        left' = All-append_right (Allowed c.fired) rest (others ++ flat_map takes c.fired) left
+        left' = all_right (Allowed c.fired) rest (others ++ flat_map takes c.fired) left
 
         -- an inlet that it takes was not taken before
         untaken : (z : X) → 0 < total (hit z) (takes f) → weigh takes (hit z) c.fired ≡ 0

@@ -1,23 +1,17 @@
 -- Slots hold what waits: in any frames, with slots that may be shared, so long as what waits at one time lies apart. The
 -- other slots are as `base` says: empty, or as a loop's credits stand.
-use Rattle.std.proofs.Common.{◌≡◌, ℕ, List, ◌∷◌, refl, sym, ap, ◌∙◌, subst, inl, inr, ◌⊎◌, eq-eqb, ne_eqb}
+use Rattle.std.proofs.Common.{◌≡◌, ℕ, List, ◌∷◌, refl, sym, ap, ◌∙◌, subst, inl, inr, ◌⊎◌, eq-eqb}
 use Rattle.std.specs.Prelude.{IsPermutation, Contains}
 use Rattle.std.proofs.lemmas.Bool.{cases_eq}
 use Rattle.std.proofs.lemmas.List.Sorted.{IsPermutation-sym, Contains-permutation}
+use Rattle.lemmas.proofs.Contains.{contains_cases, contains_head, contains_tail}
 use Rattle.tags.specs.declared.slot.SlotState.{SlotState}
 use Rattle.tags.specs.declared.slot.SlotState.TheVariants.{Empty}
 use Rattle.semantics.specs.Machine.{put_at, Store, with_slot}
-use Rattle.law_net.proofs.Members.{contains_head, contains_tail, contains_cases}
+use Rattle.semantics.proofs.Stores.{put_other, slot_filled}
 
 pub put_same : {A : Type 0} (f : ℕ → A) (x : ℕ) (a : A) → put_at f x a x ≡ a
 put_same f x a = rw (eq-eqb x x refl)
-
-pub put_other : {A : Type 0} (f : ℕ → A) (x y : ℕ) (a : A) → (x ≡ y → ⊥) → put_at f x a y ≡ f y
-put_other f x y a h = rw (ne_eqb x y h)
-
--- a slot that is written, and any other
-pub slot_same : (s : Store) (f q : ℕ) (v : SlotState) → (with_slot s f q v).slots f q ≡ v
-slot_same s f q v = ap (λ g. g q) (put_same s.slots f (put_at (s.slots f) q v)) ∙ put_same (s.slots f) q v
 
 pub slot_other : (s : Store) (f q : ℕ) (v : SlotState) (g r : ℕ) → (f ≡ g → q ≡ r → ⊥) → (with_slot s f q v).slots g r ≡ s.slots g r
 slot_other s f q v g r h = pick (cases_eq f g)
@@ -55,7 +49,7 @@ module _ {I : Type 0} (frame slot : I → ℕ) (held : I → SlotState) (base : 
   }
     where
       by_case : (j : I) → (i ≡ j) ⊎ Contains items j → (with_slot s (frame i) (slot i) (held i)).slots (frame j) (slot j) ≡ held j
-      by_case j (inl e) = subst (λ (z : I). (with_slot s (frame i) (slot i) (held i)).slots (frame z) (slot z) ≡ held z) e (slot_same s (frame i) (slot i) (held i))
+      by_case j (inl e) = subst (λ (z : I). (with_slot s (frame i) (slot i) (held i)).slots (frame z) (slot z) ≡ held z) e (slot_filled s (frame i) (slot i) (held i))
       by_case j (inr c) = slot_other s (frame i) (slot i) (held i) (frame j) (slot j) (apart j c) ∙ k.waits j c
 
       old : (f q : ℕ) → (frame i ≡ f → slot i ≡ q → ⊥) → (s.slots f q ≡ base f q) ⊎ AtSlot items f q → ((with_slot s (frame i) (slot i) (held i)).slots f q ≡ base f q) ⊎ AtSlot (i ∷ items) f q
@@ -83,7 +77,7 @@ module _ {I : Type 0} (frame slot : I → ℕ) (held : I → SlotState) (base : 
       old f q n (inr (i, c, a, d)) = left f q n i a d (contains_cases j others i (Contains-permutation _ _ i perm c))
 
       at : (f q : ℕ) → (frame j ≡ f) ⊎ (frame j ≡ f → ⊥) → (slot j ≡ q) ⊎ (slot j ≡ q → ⊥) → ((with_slot s (frame j) (slot j) Empty).slots f q ≡ base f q) ⊎ AtSlot others f q
-      at f q (inl a) (inl d) = inl (subst (λ z. (with_slot s (frame j) (slot j) Empty).slots z q ≡ base z q) a (subst (λ z. (with_slot s (frame j) (slot j) Empty).slots (frame j) z ≡ base (frame j) z) d (slot_same s (frame j) (slot j) Empty ∙ sym none)))
+      at f q (inl a) (inl d) = inl (subst (λ z. (with_slot s (frame j) (slot j) Empty).slots z q ≡ base z q) a (subst (λ z. (with_slot s (frame j) (slot j) Empty).slots (frame j) z ≡ base (frame j) z) d (slot_filled s (frame j) (slot j) Empty ∙ sym none)))
       at f q (inr n) d = old f q (λ a d. n a) (k.empty f q)
       at f q (inl a) (inr n) = old f q (λ a d. n d) (k.empty f q)
 
@@ -100,6 +94,6 @@ slots_turn frame slot held base f q v items apart s k = record {
     other g r n (inr t) = inr t
 
     at : (g r : ℕ) → (f ≡ g) ⊎ (f ≡ g → ⊥) → (q ≡ r) ⊎ (q ≡ r → ⊥) → ((with_slot s f q v).slots g r ≡ (with_slot (with_base s base) f q v).slots g r) ⊎ AtSlot frame slot held base items g r
-    at g r (inl a) (inl d) = inl (subst (λ z. (with_slot s f q v).slots z r ≡ (with_slot (with_base s base) f q v).slots z r) a (subst (λ z. (with_slot s f q v).slots f z ≡ (with_slot (with_base s base) f q v).slots f z) d (slot_same s f q v ∙ sym (slot_same (with_base s base) f q v))))
+    at g r (inl a) (inl d) = inl (subst (λ z. (with_slot s f q v).slots z r ≡ (with_slot (with_base s base) f q v).slots z r) a (subst (λ z. (with_slot s f q v).slots f z ≡ (with_slot (with_base s base) f q v).slots f z) d (slot_filled s f q v ∙ sym (slot_filled (with_base s base) f q v))))
     at g r (inr n) d = other g r (λ a d. n a) (k.empty g r)
     at g r (inl a) (inr n) = other g r (λ a d. n d) (k.empty g r)

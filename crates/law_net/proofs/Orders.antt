@@ -1,6 +1,6 @@
 -- Lists in another order: what a function of each element makes of them, and a decision for lists that are joined.
-use Rattle.std.proofs.Common.{◌≡◌, ℕ, zero, suc, ◌+◌, ◌<◌, true, false, List, [], ◌∷◌, ◌++◌, map, length, get_or, set, refl, sym, ap, ◌∙◌, subst, arith, sum_by, append_assoc, append-nil, le_of_suc-le-suc, not-suc-le-zero, nat_lt, if◌then◌else◌}
-use Rattle.law_net.specs.Roles.{total}
+use Rattle.std.proofs.Common.{◌≡◌, ℕ, zero, suc, ◌+◌, ◌<◌, true, false, List, [], ◌∷◌, ◌++◌, map, length, get_or, set, refl, sym, ap, ◌∙◌, subst, arith, sum_by, append_assoc, append-nil, le_of_suc-le-suc, not-suc-le-zero, nat_lt, if◌then◌else◌, ◌&&◌, ◌≤◌, ◌⊎◌, Bool, Contains, inl, inr}
+use Rattle.law_net.specs.Roles.{total, one}
 use Rattle.std.specs.Prelude.{All, flat_map, IsPermutation}
 use Rattle.std.proofs.lemmas.List.Elements.{All-head, All-tail}
 use Rattle.std.specs.List.Sorted.{apply_swaps, SwapsInRange}
@@ -10,9 +10,7 @@ use Rattle.std.proofs.Math.ListN.{get_or-map}
 use Rattle.std.proofs.lemmas.List.Recursion.{is_sum_by}
 use Rattle.std.proofs.lemmas.List.Concat.{flat_map-append}
 use Rattle.std.proofs.lemmas.List.Sorted.{length_permutation, IsPermutation-refl, IsPermutation-sym, IsPermutation-trans, IsPermutation-cons, IsPermutation-append_left, IsPermutation-append_right, IsPermutation-append_comm, IsPermutation-keeps, sum_by-IsPermutation}
-
-pub IsPermutation-same : {X : Type 0} (xs ys : List X) → xs ≡ ys → IsPermutation xs ys
-IsPermutation-same xs ys e = subst (λ l. IsPermutation xs l) e (IsPermutation-refl xs)
+use Rattle.lemmas.proofs.Contains.{contains_cases, contains_none}
 
 pub at_first : {X : Type 0} {xs zs ys : List X} → xs ≡ zs → IsPermutation zs ys → IsPermutation xs ys
 at_first {ys = ys} e p = subst (λ l. IsPermutation l ys) (sym e) p
@@ -164,3 +162,17 @@ total-map g f (x ∷ xs) = ap (λ n. f (g x) + n) (total-map g f xs)
 pub total-same : {X : Type 0} (f g : X → ℕ) (xs : List X) → ((x : X) → f x ≡ g x) → total f xs ≡ total g xs
 total-same f g [] h = refl
 total-same f g (x ∷ xs) h = (λ k. h x k + total-same f g xs h k)
+
+-- one of a list counts in its total
+pub total_there : {X : Type 0} (f : X → ℕ) (xs : List X) (x : X) → Contains xs x → f x ≤ total f xs
+total_there f [] x c = absurd (contains_none x c)
+total_there f (y ∷ xs) x c = pick (contains_cases y xs x c) (total_there f xs x)
+  where
+    pick : (y ≡ x) ⊎ Contains xs x → (Contains xs x → f x ≤ total f xs) → f x ≤ total f (y ∷ xs)
+    pick (inl e) more = let k = ap f e in omega (arith, k)
+    pick (inr d) more = let o = more d in omega (arith, o)
+
+pub one_of_both : (t u : Bool) → one (t && u) ≤ one t
+one_of_both true true = omega arith
+one_of_both true false = omega arith
+one_of_both false u = omega arith

@@ -4,6 +4,8 @@ use Rattle.std.specs.Prelude.{◌==◌, ◌&&◌, All}
 use Rattle.std.proofs.lemmas.Bool.{cases_Bool}
 use Rattle.std.proofs.lemmas.List.Elements.{Contains-append_left, All-nil, All-cons}
 use Rattle.std.proofs.Math.Nat.{mul-le-mul_left, mul-le-mul_right, mul_comm}
+use Rattle.lemmas.proofs.Permutations.{Each, each_append}
+use Rattle.lemmas.proofs.Contains.{contains_cases, contains_head, contains_none, contains_tail}
 use Rattle.tags.specs.declared.value.Value.TheVariants.{Int}
 use Rattle.tags.specs.declared.token.Port.{Port}
 use Rattle.tags.specs.declared.token.Port.TheVariants.{Left, Right}
@@ -21,8 +23,6 @@ use Rattle.semantics.specs.Faithful.{largest, IsBounded}
 use Rattle.semantics.specs.Handed.{handed, UsesEachOnce}
 use Rattle.semantics.specs.Plan.{Plan}
 use Rattle.semantics.specs.Orderly.{Orderly, IsOrderlyRun, IsStart, met, eq_port, is_at, often}
-use Rattle.law_reuse.proofs.Members.{contains_head, contains_tail, contains_cases, contains_none}
-use Rattle.law_reuse.proofs.Lists.{Each, each_append}
 use Rattle.law_once.specs.Bounded.{HasFewDests, OrderlyIsBounded}
 use Rattle.law_once.proofs.Weights.{tot, tot_append, op_weight, instr_weight, weight, op_charge, instr_charge, charge, instr_few}
 use Rattle.law_once.proofs.Spending.{below, slot_below, IsBelow, run_pays}

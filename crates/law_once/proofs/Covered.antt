@@ -5,6 +5,8 @@ use Rattle.std.proofs.lemmas.Bool.{cases_eq, cases_Bool, eqb-true}
 use Rattle.std.proofs.lemmas.List.Elements.{Contains-append_left, Contains-append_right}
 use Rattle.std.proofs.lemmas.List.Sorted.{Contains-permutation, IsPermutation-refl, IsPermutation-sym, length_permutation}
 use Rattle.std.proofs.lemmas.List.Sums.{sum_by-cons}
+use Rattle.lemmas.proofs.Permutations.{Each}
+use Rattle.lemmas.proofs.Contains.{contains_cases, contains_head, contains_tail}
 use Rattle.tags.specs.declared.token.Cont.{Cont}
 use Rattle.tags.specs.declared.token.Word.{Word}
 use Rattle.tags.specs.declared.token.To.{To}
@@ -16,9 +18,7 @@ use Rattle.semantics.specs.Cause.{is_request, request_count}
 use Rattle.semantics.specs.Handed.{frame_of, handed_by, handed}
 use Rattle.semantics.specs.Plan.{Plan}
 use Rattle.semantics.specs.Orderly.{IsFreeOf, IsFreeAtRelease, Orderly, IsStart, met}
-use Rattle.law_reuse.proofs.Members.{contains_head, contains_tail, contains_cases}
 use Rattle.law_reuse.proofs.Fold.{put_same, put_other}
-use Rattle.law_reuse.proofs.Lists.{Each}
 use Rattle.law_reuse.proofs.Snoc.{run_snoc}
 use Rattle.law_reuse.proofs.Frames.{so_start, FreesOnce, fires_out, fetches_out, stores_out, hosts_out}
 use Rattle.law_reuse.proofs.AlwaysFreed.{frees_always}

@@ -1,6 +1,5 @@
 -- What equal places, words and lists have in common, and what stands at a place of a list.
-use Rattle.std.proofs.Common.{◌≡◌, refl, ℕ, zero, suc, ◌<◌, List, [], ◌∷◌, length, Some, arith}
-use Rattle.std.specs.Prelude.{slice_get}
+use Rattle.std.proofs.Common.{◌≡◌, ℕ, [], ◌∷◌}
 use Rattle.tags.specs.declared.token.Port.{Port}
 use Rattle.tags.specs.declared.token.Cont.{Cont}
 use Rattle.tags.specs.declared.token.Word.{Word}
@@ -17,8 +16,3 @@ cont_parts f a g b r t e = (cc, cc, cc)
 
 pub one_part : {X : Type 0} (x y : X) → x ∷ [] ≡ y ∷ [] → x ≡ y
 one_part x y e = cc
-
-pub there : {X : Type 0} (xs : List X) (n : ℕ) → n < length xs → (x : X) × (slice_get xs n ≡ Some x)
-there [] n l = absurd (omega (arith, l))
-there (x ∷ xs) zero l = (x, refl)
-there (x ∷ xs) (suc n) l = there xs n (omega (arith, l))

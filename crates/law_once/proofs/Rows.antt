@@ -3,10 +3,10 @@ use Rattle.std.proofs.Common.{◌≡◌, refl, sym, ap, ℕ, zero, suc, ◌+◌,
 use Rattle.std.specs.Prelude.{if◌then◌else◌, ◌==◌, count_by, cond}
 use Rattle.std.proofs.lemmas.Bool.{cases_Bool, cases_order}
 use Rattle.std.proofs.lemmas.List.Recursion.{is_sum_by}
+use Rattle.lemmas.proofs.Permutations.{Each}
 use Rattle.semantics.specs.Program.{CodeBlock}
 use Rattle.semantics.specs.Faithful.{largest}
 use Rattle.semantics.specs.Orderly.{same_block}
-use Rattle.law_reuse.proofs.Lists.{Each}
 use Rattle.law_once.proofs.Weights.{tot}
 
 abbrev pub unless : Bool → ℕ → ℕ

@@ -1,5 +1,6 @@
 -- Switches of one mark still take equal predicates in the new code.
 use Rattle.std.proofs.Common.{◌≡◌, refl, sym, ap, ◌∙◌, subst, ℕ, List, [], ◌∷◌, map, Contains}
+use Rattle.lemmas.proofs.Contains.{contains_head}
 use Rattle.tags.specs.declared.token.Port.TheVariants.{Left, Right}
 use Rattle.tags.specs.declared.token.Word.{Word}
 use Rattle.tags.specs.declared.token.To.{To}
@@ -11,7 +12,6 @@ use Rattle.semantics.specs.Machine.{Machine, Events}
 use Rattle.semantics.specs.Handed.{EachOnce}
 use Rattle.semantics.specs.Plan.{Plan}
 use Rattle.semantics.specs.Orderly.{IsMarked, met}
-use Rattle.law_reuse.proofs.Members.{contains_head}
 use Rattle.law_once.specs.Spreads.{ip_word, Spot, StandsFor, here, fork, Spreads}
 use Rattle.law_once.proofs.SpreadClumps.{spot_token, at_port}
 use Rattle.law_once.proofs.SpreadOldRun.{Setting, OldRun, Explained, is_orderly_run}

@@ -1,6 +1,8 @@
 -- The laws of arcs, event by event: a token at a copy's port comes by an arc, and where the old event used an arc, the new
 -- one uses it or sends a token on its way.
 use Rattle.std.proofs.Common.{◌≡◌, refl, sym, ap, ◌∙◌, subst, ℕ, ◌+◌, ◌⊎◌, List, [], ◌∷◌, ◌++◌, map, length, Some, Contains, append-nil}
+use Rattle.lemmas.proofs.Alls.{all_at}
+use Rattle.lemmas.proofs.Contains.{contains_mapped}
 use Rattle.tags.specs.declared.token.Port.{Port}
 use Rattle.tags.specs.declared.token.Port.TheVariants.{Left}
 use Rattle.tags.specs.declared.token.Word.{Word}
@@ -13,14 +15,12 @@ use Rattle.semantics.specs.declared.program.Op.{Op}
 use Rattle.semantics.specs.declared.program.Op.TheVariants.{Copy, Give}
 use Rattle.semantics.specs.Program.{Instr, Program, instr_at}
 use Rattle.semantics.specs.Rule.{token, at_dest, to_each, slot_of}
-use Rattle.semantics.specs.Machine.{Machine, Store as MStore, put_at, with_slot, with_slot_in}
+use Rattle.semantics.specs.Machine.{Machine, Store as MStore, with_slot_in}
 use Rattle.semantics.specs.Plan.{Plan, HasShape, IsPlanBlock}
 use Rattle.semantics.specs.Wired.{IsWired}
 use Rattle.semantics.specs.Arcs.{UsesArc}
-use Rattle.law_determinacy.proofs.Resolved.{all_get}
-use Rattle.law_reuse.proofs.Fold.{put_same}
+use Rattle.semantics.proofs.Stores.{slot_filled}
 use Rattle.law_reuse.proofs.Stands.{Found, found}
-use Rattle.law_reuse.proofs.Members.{contains_mapped}
 use Rattle.law_once.proofs.Parts.{instr_parts}
 use Rattle.law_once.specs.Alike.{plain_dests}
 use Rattle.law_once.specs.Spreads.{ip_token, ip_slot, ip_store, Spot, StandsFor, IsCopyAt, fork, Lead, IsMoved, Spreads}
@@ -34,10 +34,7 @@ use Rattle.law_once.proofs.SpreadOldArcs.{spent_by}
 shape_of : (p : Plan) → IsWired p → (a : ℕ) (i : Instr) → instr_at p.program a ≡ Some i → HasShape i.op (length i.firsts) (length i.seconds)
 shape_of p wired a i at =
     let F : Found p.program a i = found p.program a i at in
-    all_get (λ (i : Instr). HasShape i.op (length i.firsts) (length i.seconds)) F.stands.code.instrs F.n i (all_get IsPlanBlock p.program.blocks F.b F.stands.code wired.plan.blocks F.stands.block).shapes F.stands.instr
-
-slot_filled : (s : MStore) (f r : ℕ) (v : SlotState) → (with_slot s f r v).slots f r ≡ v
-slot_filled s f r v = ap (λ (g : ℕ → SlotState). g r) (put_same s.slots f (put_at (s.slots f) r v) f refl) ∙ put_same (s.slots f) r v r refl
+    all_at (λ (i : Instr). HasShape i.op (length i.firsts) (length i.seconds)) F.stands.code.instrs F.n i (all_at IsPlanBlock p.program.blocks F.b F.stands.code wired.plan.blocks F.stands.block).shapes F.stands.instr
 
 -- what a `give` leaves in its slot
 give_leaves : (i : Instr) (f k : ℕ) (s n : MStore) (v : SlotState) → i.op ≡ Give k → n ≡ with_slot_in s f (slot_of i i.op) v → n.slots f i.slot ≡ v

@@ -1,5 +1,6 @@
 -- One block still runs in a frame in the new code.
 use Rattle.std.proofs.Common.{◌≡◌, refl, sym, subst, ℕ, true, List, ◌∷◌, Contains}
+use Rattle.lemmas.proofs.Contains.{contains_map}
 use Rattle.tags.specs.declared.token.Port.{Port}
 use Rattle.tags.specs.declared.token.Word.{Word}
 use Rattle.tags.specs.declared.token.To.{To}
@@ -10,7 +11,6 @@ use Rattle.semantics.specs.Machine.{Machine, Events}
 use Rattle.semantics.specs.Handed.{EachOnce}
 use Rattle.semantics.specs.Plan.{Plan}
 use Rattle.semantics.specs.Orderly.{same_block, met}
-use Rattle.law_reuse.proofs.Members.{contains_map}
 use Rattle.law_once.specs.Spreads.{Spot, StandsFor, Spreads}
 use Rattle.law_once.proofs.SpreadClumps.{spot_token, at_port}
 use Rattle.law_once.proofs.SpreadRelease.{some_spot}

@@ -2,6 +2,8 @@
 use Rattle.std.proofs.Common.{◌≡◌, refl, sym, ap, ◌∙◌, subst, ℕ, ◌+◌, ◌-◌, ◌≤◌, ◌⊎◌, inl, inr, List, [], ◌∷◌, Contains, arith}
 use Rattle.std.proofs.lemmas.List.Elements.{Contains-append_cases}
 use Rattle.std.proofs.lemmas.List.Sorted.{Contains-permutation, IsPermutation-sym}
+use Rattle.std.proofs.lemmas.Option.{same_Some}
+use Rattle.lemmas.proofs.Contains.{contains_cases, contains_head, contains_none, contains_tail}
 use Rattle.tags.specs.declared.token.Port.TheVariants.{Left}
 use Rattle.tags.specs.declared.token.Cont.{Cont}
 use Rattle.tags.specs.declared.token.Word.{Word}
@@ -24,8 +26,6 @@ use Rattle.semantics.specs.Credits.{IsPart, IsLink, IsLoop, granted, released}
 use Rattle.semantics.specs.Orderly.{Orderly, IsStart, met}
 use Rattle.law_reuse.specs.Bounds.{OnlyAsks, PlanKeepsBound, PlanKeepsBounds}
 use Rattle.law_reuse.proofs.Tallies.{granted_is, released_is}
-use Rattle.law_reuse.proofs.Stands.{some_same}
-use Rattle.law_reuse.proofs.Members.{contains_head, contains_tail, contains_cases, contains_none}
 use Rattle.law_once.proofs.Parts.{one_part}
 use Rattle.law_once.specs.Alike.{LandsRightly}
 use Rattle.law_once.specs.Spreads.{ip_to, ip_slot, Spot, here, is_answered, Spreads}
@@ -56,7 +56,7 @@ module _ (p q : Plan) (S : Spreads p q) where
       let b = comes_back p q S ip K.instr K.is_at (λ e. other (sym K.does ∙ e)) in
       let i = S.alone b.0 K.instr (ap (instr_at Q) (sym b.1) ∙ K.is_at) in
       let M = S.instrs b.0 i.0 i.1 in
-      let j : M.j ≡ K.instr = some_same M.j K.instr (sym M.there ∙ ap (instr_at Q) (sym b.1) ∙ K.is_at) in (
+      let j : M.j ≡ K.instr = same_Some M.j K.instr (sym M.there ∙ ap (instr_at Q) (sym b.1) ∙ K.is_at) in (
         b.0,
         b.1,
         record {

@@ -13,15 +13,12 @@ use Rattle.law_once.proofs.Parts.{instr_parts}
 use Rattle.law_once.specs.Spreads.{ip_to, here, ip_word, ip_token, Spot, StandsFor, Lead, targets, Leads}
 use Rattle.std.proofs.lemmas.List.Concat.{flat_map-append}
 use Rattle.std.proofs.lemmas.List.Elements.{Contains-append_left, Contains-append_right}
-use Rattle.law_reuse.proofs.Members.{contains_cases, contains_none}
 use Rattle.std.proofs.lemmas.List.Sorted.{IsPermutation-trans, IsPermutation-append_left, IsPermutation-append_right}
+use Rattle.lemmas.proofs.Contains.{contains_cases, contains_none}
+use Rattle.lemmas.proofs.Lists.{map_append}
 
 abbrev pub spot_token : ℕ → Word → Spot → Token
 spot_token f w x = token (To.Instr f x.0 x.1) w
-
-pub map_join : {X Y : Type 0} (f : X → Y) (xs ys : List X) → map f (xs ++ ys) ≡ map f xs ++ map f ys
-map_join f [] ys = refl
-map_join f (x ∷ xs) ys = ap (λ l. f x ∷ l) (map_join f xs ys)
 
 module _ (q : Program) (h : ℕ → ℕ) where
   -- a token of the new code, and those that it stands for
@@ -72,7 +69,7 @@ module _ (q : Program) (h : ℕ → ℕ) where
   unfolding lead_clumps
   lead_meant f ip w [] zs L = ap (map (spot_token f w)) (sym L)
   lead_meant f ip w (d ∷ ds) zs L =
-      ap (λ (l : List Token). map (spot_token f w) L.0 ++ l) (lead_meant f ip w ds L.1 L.3) ∙ sym (map_join (spot_token f w) L.0 L.1) ∙ ap (map (spot_token f w)) (sym L.4)
+      ap (λ (l : List Token). map (spot_token f w) L.0 ++ l) (lead_meant f ip w ds L.1 L.3) ∙ sym (map_append (spot_token f w) L.0 L.1) ∙ ap (map (spot_token f w)) (sym L.4)
 
   each_targets : (f a : ℕ) (w : Word) (es : List Dest) → map (spot_token f w) (targets a es) ≡ to_each record { frame = f; ip = a } w es
   each_targets f a w [] = refl
@@ -94,7 +91,7 @@ module _ (q : Program) (h : ℕ → ℕ) where
   pub join_clumped : (xs us ys vs : List Token) → Clumped xs us → Clumped ys vs → Clumped (xs ++ ys) (us ++ vs)
   join_clumped xs us ys vs A B = record {
     clumps = A.clumps ++ B.clumps;
-    seen = map_join (λ (c : Clump). c.seen) A.clumps B.clumps ∙ (λ k. A.seen k ++ B.seen k);
+    seen = map_append (λ (c : Clump). c.seen) A.clumps B.clumps ∙ (λ k. A.seen k ++ B.seen k);
     meant = subst (IsPermutation (us ++ vs)) (sym (flat_map-append (λ (c : Clump). c.meant) A.clumps B.clumps))
         (IsPermutation-trans _ _ _ (IsPermutation-append_left vs us (meant_of A.clumps) A.meant) (IsPermutation-append_right (meant_of A.clumps) vs (meant_of B.clumps) B.meant));
   }

@@ -1,9 +1,11 @@
 -- A port of the new code gets no more tokens than each of those for which it stands.
-use Rattle.std.proofs.Common.{◌≡◌, refl, sym, ap, ◌∙◌, subst, ℕ, ◌+◌, ◌<◌, ◌≤◌, ◌⊎◌, inl, inr, Bool, true, false, true≢false, List, [], ◌∷◌, ◌++◌, map, IsPermutation, Contains, nat_lt, lt-ltb, le-ltb, ltb-true, ltb-false, eqb-true, eq-eqb, arith}
+use Rattle.std.proofs.Common.{◌≡◌, refl, sym, ap, ◌∙◌, subst, ℕ, ◌+◌, ◌<◌, ◌≤◌, ◌⊎◌, inl, inr, Bool, true, false, true≢false, List, [], ◌∷◌, ◌++◌, map, IsPermutation, Contains, nat_lt, lt-ltb, le-ltb, ltb-true, ltb-false, eqb-true, arith}
 use Rattle.std.specs.Prelude.{◌==◌, ◌&&◌}
-use Rattle.std.proofs.lemmas.Bool.{cases_Bool, and_from}
+use Rattle.std.proofs.lemmas.Bool.{cases_Bool, and_parts}
+use Rattle.std.proofs.lemmas.Option.{same_Some}
+use Rattle.lemmas.proofs.Contains.{contains_cases, contains_head, contains_map, contains_none, contains_tail}
 use Rattle.tags.specs.declared.token.Port.{Port}
-use Rattle.tags.specs.declared.token.Port.TheVariants.{Left, Right}
+use Rattle.tags.specs.declared.token.Port.TheVariants.{Left}
 use Rattle.tags.specs.declared.token.Word.{Word}
 use Rattle.tags.specs.declared.token.To.{To}
 use Rattle.tags.specs.declared.token.Token.{Token}
@@ -11,8 +13,7 @@ use Rattle.semantics.specs.declared.program.Dest.{Dest}
 use Rattle.semantics.specs.Program.{Instr, Program, instr_at}
 use Rattle.semantics.specs.Rule.{token}
 use Rattle.semantics.specs.Orderly.{is_at, eq_port}
-use Rattle.law_reuse.proofs.Members.{contains_head, contains_cases, contains_none, contains_map, contains_tail}
-use Rattle.law_reuse.proofs.Stands.{some_same}
+use Rattle.semantics.proofs.Ports.{is_at_itself, eq_port_true}
 use Rattle.law_once.proofs.Parts.{instr_parts, one_part}
 use Rattle.law_once.specs.Spreads.{Spot, StandsFor, here, fork}
 use Rattle.law_once.proofs.Weights.{tot, tot_append, tot_perm}
@@ -23,33 +24,16 @@ use Rattle.law_once.proofs.SpreadClumps.{spot_token, at_port, Stands as StandsTo
 abbrev pub ones : ℕ → ℕ → Port → List Token → ℕ
 ones f ip r ts = tot (λ (t : Token). unit (is_at f ip r t.to)) ts
 
-port_true : (r t : Port) → eq_port r t ≡ true → r ≡ t
-port_true Left Left e = refl
-port_true Right Right e = refl
-port_true Left Right e = absurd (true≢false (sym e))
-port_true Right Left e = absurd (true≢false (sym e))
-
-both_true : (a b : Bool) → (a && b) ≡ true → (a ≡ true) × (b ≡ true)
-both_true true b e = (refl, e)
-both_true false b e = absurd (true≢false (sym e))
-
 pub at_true : (f ip : ℕ) (r : Port) (to : To) → is_at f ip r to ≡ true → to ≡ To.Instr f ip r
 at_true f ip r (To.Instr g n t) e =
-    let a = both_true ((g == f) && (n == ip)) (eq_port r t) e in
-    let b = both_true (g == f) (n == ip) a.0 in
-    (λ k. To.Instr (eqb-true g f b.0 k) (eqb-true n ip b.1 k) (sym (port_true r t a.1) k))
+    let a = and_parts ((g == f) && (n == ip)) (eq_port r t) e in
+    let b = and_parts (g == f) (n == ip) a.0 in
+    (λ k. To.Instr (eqb-true g f b.0 k) (eqb-true n ip b.1 k) (sym (eq_port_true r t a.1) k))
 at_true f ip r (To.Fetch x) e = absurd (true≢false (sym e))
 at_true f ip r (To.Store x v) e = absurd (true≢false (sym e))
 at_true f ip r To.Manager e = absurd (true≢false (sym e))
 at_true f ip r (To.Release g) e = absurd (true≢false (sym e))
 at_true f ip r (To.Host j) e = absurd (true≢false (sym e))
-
-is_at_itself : (f ip : ℕ) (q : Port) → is_at f ip q (To.Instr f ip q) ≡ true
-is_at_itself f ip q = and_from _ _ (and_from _ _ (eq-eqb f f refl) (eq-eqb ip ip refl)) (same q)
-  where
-    same : (q : Port) → eq_port q q ≡ true
-    same Left = refl
-    same Right = refl
 
 -- what is among them is counted
 pub ones_there : (f ip : ℕ) (r : Port) (ts : List Token) (t : Token) → Contains ts t → t.to ≡ To.Instr f ip r → 1 ≤ ones f ip r ts
@@ -82,7 +66,7 @@ module _ (Q : Program) (h : ℕ → ℕ) (apart : (a b : ℕ) → h a ≡ h b �
   stands_same ip jp r t xs ys e g (here n1 r1 z1 a at one) (fork n2 r2 z2 us2 vs2 K left su sv two) = absurd (K.fresh a (sym e ∙ at))
   stands_same ip jp r t xs ys e g (fork n1 r1 z1 us vs K left su sv one) (here n2 r2 z2 b to two) = absurd (K.fresh b (e ∙ to))
   stands_same ip jp r t xs ys e g (fork n1 r1 z1 us vs K left su sv one) (fork n2 r2 z2 us2 vs2 L left2 su2 sv2 two) =
-      let same : K.i ≡ L.i = some_same K.i L.i (sym K.there ∙ ap (instr_at Q) e ∙ L.there) in
+      let same : K.i ≡ L.i = same_Some K.i L.i (sym K.there ∙ ap (instr_at Q) e ∙ L.there) in
       let sd : K.d ≡ L.d = one_part K.d L.d (sym K.first ∙ ap (λ (i : Instr). i.firsts) same ∙ L.first) in
       let se : K.e ≡ L.e = one_part K.e L.e (sym K.second ∙ ap (λ (i : Instr). i.seconds) same ∙ L.second) in
       let a = stands_same (ip + K.d.ahead) (jp + L.d.ahead) K.d.port L.d.port us us2 (λ x. e x + (sd x).ahead) (ap (λ (d : Dest). d.port) sd) su su2 in

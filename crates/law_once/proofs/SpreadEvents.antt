@@ -1,6 +1,7 @@
 -- An event of the new code, at a token that stands for one of the old, is an event of the old code.
 use Rattle.std.proofs.Common.{◌≡◌, refl, sym, ap, ◌∙◌, subst, ℕ, ◌<◌, inl, inr, Bool, true, false, List, [], ◌∷◌, ◌++◌, map, Option, Some, None}
 use Rattle.std.specs.Prelude.{if◌then◌else◌, ◌==◌, filter_map}
+use Rattle.lemmas.proofs.Lists.{map_append}
 use Rattle.tags.specs.declared.value.Value.{Value}
 use Rattle.tags.specs.declared.token.Port.{Port}
 use Rattle.tags.specs.declared.token.Cont.{Cont}
@@ -14,7 +15,7 @@ use Rattle.semantics.specs.Machine.{CellState, Vacant, Full, Deferred, Store as 
 use Rattle.semantics.specs.Handed.{frame_of, handed_by}
 use Rattle.law_once.specs.Spreads.{ip_cont, ip_word, ip_to, ip_token, ip_slot, ip_cell, ip_store, IsMoved}
 use Rattle.law_once.proofs.Lifted.{first_lifted}
-use Rattle.law_once.proofs.SpreadClumps.{map_join, Clumped, moved_clumped}
+use Rattle.law_once.proofs.SpreadClumps.{Clumped, moved_clumped}
 use Rattle.law_once.proofs.SpreadSent.{back_moved, SentBy, sent_clumped}
 
 module _ (q : Program) (h : ℕ → ℕ) where
@@ -96,7 +97,7 @@ module _ (q : Program) (h : ℕ → ℕ) where
         answered (To.Fetch x) (Word.Back c) made new [] (with_cell old x (Deferred (c ∷ []))) (subst (λ (y : CellState). Fetches old x c y [] (with_cell old x (Deferred (c ∷ [])))) (sym at) (refl, refl)) e.0 (e.1 ∙ cell_put old x (Deferred (c ∷ []))) refl
     fetch_back x c (Deferred cs) made new at e =
         answered (To.Fetch x) (Word.Back c) made new [] (with_cell old x (Deferred (cs ++ c ∷ []))) (subst (λ (y : CellState). Fetches old x c y [] (with_cell old x (Deferred (cs ++ c ∷ [])))) (sym at) (refl, refl)) e.0
-        (e.1 ∙ ap (λ (l : List Cont). with_cell (ip_store h old) x (Deferred l)) (sym (map_join (ip_cont h) cs (c ∷ []))) ∙ cell_put old x (Deferred (cs ++ c ∷ []))) refl
+        (e.1 ∙ ap (λ (l : List Cont). with_cell (ip_store h old) x (Deferred l)) (sym (map_append (ip_cont h) cs (c ∷ []))) ∙ cell_put old x (Deferred (cs ++ c ∷ []))) refl
     fetch_back x c (Full v) made new at e =
         answered (To.Fetch x) (Word.Back c) made new (answer c (Word.Val v) ∷ []) old (subst (λ (y : CellState). Fetches old x c y (answer c (Word.Val v) ∷ []) old) (sym at) (refl, refl)) (e.0 ∙ answer_moved c (Word.Val v)) e.1 refl
 
@@ -106,14 +107,14 @@ module _ (q : Program) (h : ℕ → ℕ) where
         (e.0 ∙ answer_moved c (Word.Val v)) (e.1 ∙ cell_put old x (Full v)) refl
     store_back x v c (Deferred cs) made new at e =
         answered (To.Store x v) (Word.Back c) made new (answers (cs ++ c ∷ []) v) (with_cell old x (Full v)) (subst (λ (y : CellState). Stores old x v c y (answers (cs ++ c ∷ []) v) (with_cell old x (Full v))) (sym at) (refl, refl))
-        (e.0 ∙ ap (λ (l : List Cont). answers l v) (sym (map_join (ip_cont h) cs (c ∷ []))) ∙ answers_moved (cs ++ c ∷ []) v) (e.1 ∙ cell_put old x (Full v)) refl
+        (e.0 ∙ ap (λ (l : List Cont). answers l v) (sym (map_append (ip_cont h) cs (c ∷ []))) ∙ answers_moved (cs ++ c ∷ []) v) (e.1 ∙ cell_put old x (Full v)) refl
     store_back x v c (Full w) made new at e = absurd e
 
     request_back : (c : Cont) (made : List Token) (new : MStore) → Requests total (ip_store h old) (ip_cont h c) made new → Answered To.Manager (Word.Back c) made new
     request_back c made new (inl e) =
         answered To.Manager (Word.Back c) made new (answer c (Word.Frame e.0) ∷ []) (with_out old e.0 true) (inl (e.0, e.1, e.2, refl, refl)) (e.3 ∙ answer_moved c (Word.Frame e.0)) e.4 (ap (filter_map frame_of) e.3)
     request_back c made new (inr e) =
-        answered To.Manager (Word.Back c) made new [] (with_requests old (old.requests ++ c ∷ [])) (inr (e.0, refl, refl)) e.1 (e.2 ∙ requests_put old (old.requests ++ c ∷ []) _ (sym (map_join (ip_cont h) old.requests (c ∷ [])))) (ap (filter_map frame_of) e.1)
+        answered To.Manager (Word.Back c) made new [] (with_requests old (old.requests ++ c ∷ [])) (inr (e.0, refl, refl)) e.1 (e.2 ∙ requests_put old (old.requests ++ c ∷ []) _ (sym (map_append (ip_cont h) old.requests (c ∷ [])))) (ap (filter_map frame_of) e.1)
 
     pub none_asked : (cs : List Cont) → map (ip_cont h) cs ≡ [] → cs ≡ []
     none_asked [] e = refl

@@ -1,5 +1,7 @@
 -- A word at a return still is a long enough landing's.
 use Rattle.std.proofs.Common.{◌≡◌, refl, sym, ap, ◌∙◌, subst, ℕ, List, [], ◌∷◌, map, Some, None, Contains}
+use Rattle.std.proofs.lemmas.Option.{same_Some}
+use Rattle.lemmas.proofs.Contains.{contains_head}
 use Rattle.tags.specs.declared.token.Port.TheVariants.{Left}
 use Rattle.tags.specs.declared.token.Cont.{Cont}
 use Rattle.tags.specs.declared.token.Word.{Word}
@@ -12,8 +14,6 @@ use Rattle.semantics.specs.Handed.{handed, EachOnce, UsesEachOnce}
 use Rattle.semantics.specs.Plan.{Plan}
 use Rattle.semantics.specs.Wired.{IsWired}
 use Rattle.semantics.specs.Orderly.{Orderly, IsStart, met}
-use Rattle.law_reuse.proofs.Stands.{some_same}
-use Rattle.law_reuse.proofs.Members.{contains_head}
 use Rattle.law_once.proofs.Parts.{back_parts, cont_parts}
 use Rattle.law_once.specs.Alike.{offset_of, HasLanding, LandsRightly}
 use Rattle.law_once.specs.Spreads.{ip_word, Spot, StandsFor, here, fork, Spreads}
@@ -54,7 +54,7 @@ module _ (p q : Plan) (S : Spreads p q) where
         by_word st done last run once a (Word.Back (Cont.Frame g2 b2 r2)) e d was =
             let o0 = S.alone a i (ap (instr_at Q) (sym e) ∙ at) in
             let M = S.instrs a o0.0 o0.1 in
-            let ji : M.j ≡ i = some_same M.j i (sym M.there ∙ ap (instr_at Q) (sym e) ∙ at) in
+            let ji : M.j ≡ i = same_Some M.j i (sym M.there ∙ ap (instr_at Q) (sym e) ∙ at) in
             let off : offset_of o0.0.op ≡ Some o = ap offset_of (sym M.op ∙ ap (λ (i : Instr). i.op) ji) ∙ is in
             let L : HasLanding p b2 o = lands inputs z done last st run once f a g2 b2 o r2 o0.0 o0.1 off was in
             let bs : base ≡ h b2 = (cont_parts g base g2 (h b2) r r2 (back_parts (Cont.Frame g base r) (Cont.Frame g2 (h b2) r2) d)).1 in
@@ -66,4 +66,4 @@ module _ (p q : Plan) (S : Spreads p q) where
             by_word st done last run once a w to d
             (were (token (To.Instr f a Left) w) (subst (λ (l : List Spot). Contains (map (spot_token f w) l) (token (To.Instr f a Left) w)) (sym all) (contains_head (token (To.Instr f a Left) w) [])))
         by_spot st done last run once w xs d (fork n1 t1 z1 us vs K left su sv all) were =
-            let ij : i ≡ K.i = some_same i K.i (sym at ∙ K.there) in absurd (none_some o (sym (ap offset_of (ap (λ (i : Instr). i.op) ij ∙ K.copies)) ∙ is))
+            let ij : i ≡ K.i = same_Some i K.i (sym at ∙ K.there) in absurd (none_some o (sym (ap offset_of (ap (λ (i : Instr). i.op) ij ∙ K.copies)) ∙ is))

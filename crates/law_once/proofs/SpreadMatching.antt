@@ -2,6 +2,7 @@
 use Rattle.std.proofs.Common.{◌≡◌, refl, sym, ap, ◌∙◌, subst, ℕ, List, [], ◌∷◌, map, Option, Some, None, Contains}
 use Rattle.std.specs.Prelude.{if◌then◌else◌, nat_lt, ◌==◌}
 use Rattle.std.proofs.lemmas.List.Sorted.{Contains-permutation, IsPermutation-sym}
+use Rattle.lemmas.proofs.Contains.{contains_head, contains_mapped}
 use Rattle.tags.specs.declared.token.Port.{Port}
 use Rattle.tags.specs.declared.token.Port.TheVariants.{Left}
 use Rattle.tags.specs.declared.token.Word.{Word}
@@ -17,7 +18,6 @@ use Rattle.semantics.specs.Machine.{Machine, Store as MStore, Size, Events, slot
 use Rattle.semantics.specs.Handed.{EachOnce}
 use Rattle.semantics.specs.Plan.{Plan}
 use Rattle.semantics.specs.Orderly.{IsOrderlyRun}
-use Rattle.law_reuse.proofs.Members.{contains_head, contains_mapped}
 use Rattle.law_once.specs.Spreads.{ip_word, ip_to, Spot, StandsFor, here, fork, IsMoved, Spreads}
 use Rattle.law_once.proofs.SpreadClumps.{spot_token, Stands as StandsToken, moved, spread, Clump}
 use Rattle.law_once.proofs.SpreadSteps.{slot_same, slot_there}

@@ -2,6 +2,7 @@
 use Rattle.std.proofs.Common.{◌≡◌, refl, sym, ap, ◌∙◌, subst, ℕ, ◌+◌, ◌⊎◌, inl, inr, Bool, true, false, List, [], ◌++◌, map, Some, Contains, arith}
 use Rattle.std.specs.Prelude.{flat_map, if◌then◌else◌}
 use Rattle.std.proofs.lemmas.List.Elements.{Contains-append_left, Contains-append_right, Contains-append_cases}
+use Rattle.lemmas.proofs.Contains.{contains_cases, contains_map, contains_mapped, contains_none}
 use Rattle.tags.specs.declared.token.Port.{Port}
 use Rattle.tags.specs.declared.token.Port.TheVariants.{Left}
 use Rattle.tags.specs.declared.token.Word.{Word}
@@ -20,7 +21,6 @@ use Rattle.semantics.specs.Sharing.{arc, inlet, arcs_to, row, arcs_from}
 use Rattle.semantics.specs.Arcs.{UsesBy, UsesArc}
 use Rattle.law_reuse.proofs.Stands.{Found, found, stands_at}
 use Rattle.law_reuse.proofs.UsedArcs.{stands_arcs}
-use Rattle.law_reuse.proofs.Members.{contains_cases, contains_none, contains_map, contains_mapped}
 use Rattle.law_once.specs.Alike.{plain_dests}
 use Rattle.law_once.specs.Spreads.{ip_word, ip_token, Spot, IsMoved}
 use Rattle.law_once.proofs.SpreadWays.{LeadsTo, Pending, Direct, goes_on, pending_in, not_fresh}

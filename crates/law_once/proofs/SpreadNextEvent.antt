@@ -4,6 +4,8 @@ use Rattle.std.specs.Prelude.{cond}
 use Rattle.std.proofs.lemmas.List.Concat.{flat_map-append}
 use Rattle.std.proofs.lemmas.List.Elements.{Contains-append_left, Contains-append_right, Contains-append_cases}
 use Rattle.std.proofs.lemmas.List.Sorted.{Contains-permutation, IsPermutation-refl, IsPermutation-sym, IsPermutation-trans, IsPermutation-append_left}
+use Rattle.lemmas.proofs.Contains.{contains_cases, contains_head, contains_none, contains_tail}
+use Rattle.lemmas.proofs.Lists.{map_append}
 use Rattle.tags.specs.declared.token.Port.{Port}
 use Rattle.tags.specs.declared.token.Port.TheVariants.{Left}
 use Rattle.tags.specs.declared.token.Word.{Word}
@@ -21,7 +23,6 @@ use Rattle.semantics.specs.Handed.{handed_by, EachOnce}
 use Rattle.semantics.specs.Plan.{Plan}
 use Rattle.semantics.specs.Wired.{IsWired}
 use Rattle.semantics.specs.Orderly.{IsOrderlyRun, met}
-use Rattle.law_reuse.proofs.Members.{contains_head, contains_tail, contains_cases, contains_none}
 use Rattle.law_reuse.proofs.Snoc.{run_snoc, some_snoc, handed_snoc, tally_snoc}
 use Rattle.law_reuse.proofs.Counts.{requests_more, credits_more}
 use Rattle.law_reuse.proofs.Tallies.{Grants, Releases, count_at, count_apart}
@@ -30,7 +31,7 @@ use Rattle.semantics.specs.Credits.{granted_at, released_at}
 use Rattle.law_reuse.proofs.History.{taken, kept_next}
 use Rattle.law_once.specs.Spreads.{ip_word, ip_to, ip_token, ip_store, Spot, StandsFor, IsCopyAt, here, fork, IsMoved, Spreads}
 use Rattle.law_once.proofs.Lifted.{first_lifted, flat_map-IsPermutation}
-use Rattle.law_once.proofs.SpreadClumps.{spot_token, map_join, Stands as StandsToken, moved, spread, Clump, seen_of, meant_of}
+use Rattle.law_once.proofs.SpreadClumps.{spot_token, Stands as StandsToken, moved, spread, Clump, seen_of, meant_of}
 use Rattle.law_once.proofs.SpreadCounts.{Counted, counted_perm, counted_both, counted_fork}
 use Rattle.law_once.proofs.Weights.{tot_append}
 use Rattle.law_once.proofs.SpreadSteps.{Step, step, HasStep, step_before, step_last, no_grant, no_release, same_grant, same_release}
@@ -110,7 +111,7 @@ module _ (p q : Plan) (G : Setting p q) where
 
   explained_last : (events : Events) (e : ℕ) (t : Token) (done : Events) (last : Machine) → ((x : Token) → Contains (taken events) x → Told done last x) → Told done last t
       → (x : Token) → Contains (taken (events ++ (e, t) ∷ [])) x → Told done last x
-  explained_last events e t done last all one x inside = go (Contains-append_cases (taken events) (t ∷ []) x (subst (λ (l : List Token). Contains l x) (map_join (λ (ev : ℕ × Token). ev.1) events ((e, t) ∷ [])) inside))
+  explained_last events e t done last all one x inside = go (Contains-append_cases (taken events) (t ∷ []) x (subst (λ (l : List Token). Contains l x) (map_append (λ (ev : ℕ × Token). ev.1) events ((e, t) ∷ [])) inside))
     where
       pick : (t ≡ x) ⊎ Contains [] x → Told done last x
       pick (inl d) = subst (Told done last) d one
@@ -121,11 +122,11 @@ module _ (p q : Plan) (G : Setting p q) where
       go (inr c) = pick (contains_cases t [] x c)
 
   taken_more : (events : Events) (e : ℕ) (t : Token) → taken (events ++ (e, t) ∷ []) ≡ taken events ++ t ∷ []
-  taken_more events e t = map_join (λ (ev : ℕ × Token). ev.1) events ((e, t) ∷ [])
+  taken_more events e t = map_append (λ (ev : ℕ × Token). ev.1) events ((e, t) ∷ [])
 
   met_grows : (done : Events) (e : ℕ) (u : Token) (pool made rest : List Token) → IsPermutation pool (u ∷ rest) → (x : Token) → Contains (taken done ++ pool) x → Contains (taken (done ++ (e, u) ∷ []) ++ (made ++ rest)) x
   met_grows done e u pool made rest takes x inside =
-      subst (λ (l : List Token). Contains (l ++ (made ++ rest)) x) (sym (map_join (λ (ev : ℕ × Token). ev.1) done ((e, u) ∷ []))) (go (Contains-append_cases (taken done) pool x inside))
+      subst (λ (l : List Token). Contains (l ++ (made ++ rest)) x) (sym (map_append (λ (ev : ℕ × Token). ev.1) done ((e, u) ∷ []))) (go (Contains-append_cases (taken done) pool x inside))
     where
       pick : (u ≡ x) ⊎ Contains rest x → Contains ((taken done ++ u ∷ []) ++ (made ++ rest)) x
       pick (inl d) = Contains-append_left (taken done ++ u ∷ []) (made ++ rest) x (Contains-append_right (taken done) (u ∷ []) x (subst (Contains (u ∷ [])) d (contains_head u [])))
@@ -223,7 +224,7 @@ module _ (p q : Plan) (G : Setting p q) where
             leaves = IsPermutation-refl (A.tokens ++ meant_of Q h X.others);
           } in
           let cl : List C = A.clumped.clumps in
-          let seen_both : seen_of Q h (cl ++ X.others) ≡ ev.made ++ ev.rest = map_join (λ (c : C). c.seen) cl X.others ∙ (λ k. A.clumped.seen k ++ X.rest k) in
+          let seen_both : seen_of Q h (cl ++ X.others) ≡ ev.made ++ ev.rest = map_append (λ (c : C). c.seen) cl X.others ∙ (λ k. A.clumped.seen k ++ X.rest k) in
           let meant_both : meant_of Q h (cl ++ X.others) ≡ meant_of Q h cl ++ meant_of Q h X.others = flat_map-append (λ (c : C). c.meant) cl X.others in (
             record {
               done = V.done ++ (e, u) ∷ [];
@@ -333,7 +334,7 @@ module _ (p q : Plan) (G : Setting p q) where
           let done2 = copy_fires Q f ip K.i (ip_word h w) m.store m1.store ev.made K.copies happens in
           let makes : ev.made ≡ at_dest record { frame = f; ip = ip } (ip_word h w) K.d ∷ at_dest record { frame = f; ip = ip } (ip_word h w) K.e ∷ [] =
           done2.0 ∙ (λ t. map (at_dest record { frame = f; ip = ip } (ip_word h w)) (K.first t ++ K.second t)) in
-          let split : map (spot_token f w) zs ≡ map (spot_token f w) xs ++ map (spot_token f w) ys = ap (map (spot_token f w)) all ∙ map_join (spot_token f w) xs ys in
+          let split : map (spot_token f w) zs ≡ map (spot_token f w) xs ++ map (spot_token f w) ys = ap (map (spot_token f w)) all ∙ map_append (spot_token f w) xs ys in
           let cd : C = record { seen = at_dest record { frame = f; ip = ip } (ip_word h w) K.d; meant = map (spot_token f w) xs; stands = spread _ _ f (ip + K.d.ahead) K.d.port w xs refl sx refl } in
           let ck : C = record { seen = at_dest record { frame = f; ip = ip } (ip_word h w) K.e; meant = map (spot_token f w) ys; stands = spread _ _ f (ip + K.e.ahead) K.e.port w ys refl sy refl } in (
             record {

@@ -2,6 +2,8 @@
 use Rattle.std.proofs.Common.{◌≡◌, refl, sym, ap, ◌∙◌, subst, ℕ, zero, suc, ◌+◌, ◌<◌, ◌⊎◌, inl, inr, Bool, true, false, List, [], ◌∷◌, ◌++◌, length, Option, Some, None, Contains, zero-add, arith}
 use Rattle.std.specs.Prelude.{flat_map, if◌then◌else◌, slice_get}
 use Rattle.std.proofs.lemmas.List.Elements.{Contains-append_left, Contains-append_right, Contains-append_cases}
+use Rattle.std.proofs.lemmas.Option.{same_Some}
+use Rattle.lemmas.proofs.Contains.{contains_cases, contains_head, contains_mapped, contains_none, contains_tail}
 use Rattle.tags.specs.declared.token.Port.{Port}
 use Rattle.tags.specs.declared.token.Port.TheVariants.{Left}
 use Rattle.tags.specs.declared.token.Cont.{Cont}
@@ -19,9 +21,9 @@ use Rattle.semantics.specs.Machine.{Machine}
 use Rattle.semantics.specs.Plan.{Plan, HasShape, landing}
 use Rattle.semantics.specs.Sharing.{Arc, arc, Inlet, inlet, arcs_to, row, arcs_from, arcs_of, arcs_in}
 use Rattle.semantics.specs.Arcs.{GoesTo, AsksFor, Lands, UsesBy, UsesArc}
-use Rattle.law_reuse.proofs.Stands.{some_same, stands_at, Found, found}
+use Rattle.semantics.proofs.ArcEnds.{arcs_to_dest, row_has}
+use Rattle.law_reuse.proofs.Stands.{stands_at, Found, found}
 use Rattle.law_reuse.proofs.UsedArcs.{arc_stands, stands_arcs}
-use Rattle.law_reuse.proofs.Members.{contains_head, contains_tail, contains_cases, contains_none, contains_mapped}
 use Rattle.law_once.proofs.Parts.{instr_parts, back_parts, cont_parts}
 use Rattle.law_once.specs.Alike.{plain_dests}
 use Rattle.law_once.specs.Spreads.{ip_word, ip_to, ip_token, ip_slot, Leads, is_answered, IsMoved, Spreads}
@@ -39,25 +41,13 @@ row_place n from (suc k) x c = go (contains_cases (arc n false (inlet from Left)
     go (inl e) more = (0, omega arith, sym (ap (λ (x : Arc). x.to) e) ∙ (let z : from ≡ from + 0 = omega arith in ap (λ (n : ℕ). inlet n Left) z))
     go (inr c) more = let r = more c in let l = r.1 in (suc r.0, omega (arith, l), r.2 ∙ (let z : from + 1 + r.0 ≡ from + suc r.0 = omega arith in ap (λ (n : ℕ). inlet n Left) z))
 
-in_row : (n from k o : ℕ) → o < k → Contains (row n from k) (arc n false (inlet (from + o) Left))
-in_row n from zero o l = absurd (omega (arith, l))
-in_row n from (suc k) zero l =
-    let z : from ≡ from + 0 = omega arith in subst (λ (x : ℕ). Contains (row n from (suc k)) (arc n false (inlet x Left))) z (contains_head (arc n false (inlet from Left)) (row n (from + 1) k))
-in_row n from (suc k) (suc o) l =
-    let z : from + 1 + o ≡ from + suc o = omega arith in
-    subst (λ (x : ℕ). Contains (row n from (suc k)) (arc n false (inlet x Left))) z (contains_tail (arc n false (inlet from Left)) (row n (from + 1) k) (arc n false (inlet (from + 1 + o) Left)) (in_row n (from + 1) k o (omega (arith, l))))
-
--- an arc to a destination
-arcs_dest : (n : ℕ) (s : Bool) (ds : List Dest) (x : Arc) → Contains (arcs_to n s ds) x → (d : Dest) × Contains ds d × (x.to ≡ inlet (n + d.ahead) d.port)
-arcs_dest n s ds x c = let m = contains_mapped (λ (d : Dest). arc n s (inlet (n + d.ahead) d.port)) ds x c in (m.0, m.1, sym (ap (λ (x : Arc). x.to) m.2))
-
 plain_arc : (p : Plan) (n : ℕ) (i : Instr) (op : Op) (x : Arc) → ((c : ℕ) → op ≡ Link c → ⊥) → Contains (arcs_from p n i op) x → (d : Dest) × Contains (i.firsts ++ i.seconds) d × (x.to ≡ inlet (n + d.ahead) d.port)
 plain_arc p n i (Link c) x other inside = absurd (other c refl)
 plain_arc p n i op x other inside = go (Contains-append_cases (arcs_to n false i.firsts) (arcs_to n true i.seconds) x inside)
   where
     go : Contains (arcs_to n false i.firsts) x ⊎ Contains (arcs_to n true i.seconds) x → (d : Dest) × Contains (i.firsts ++ i.seconds) d × (x.to ≡ inlet (n + d.ahead) d.port)
-    go (inl c) = let d = arcs_dest n false i.firsts x c in (d.0, Contains-append_left i.firsts i.seconds d.0 d.1, d.2)
-    go (inr c) = let d = arcs_dest n true i.seconds x c in (d.0, Contains-append_right i.firsts i.seconds d.0 d.1, d.2)
+    go (inl c) = let d = arcs_to_dest n false i.firsts x c in (d.0, Contains-append_left i.firsts i.seconds d.0 d.1, d.2)
+    go (inr c) = let d = arcs_to_dest n true i.seconds x c in (d.0, Contains-append_right i.firsts i.seconds d.0 d.1, d.2)
 
 -- an arc of a link: to a second destination, or to its landing
 link_arc : (p : Plan) (n c : ℕ) (i : Instr) (d : Dest) (x : Arc) → i.firsts ≡ d ∷ [] → Contains (arcs_from p n i (Link c)) x
@@ -71,7 +61,7 @@ link_arc p n c i d x lands inside = go (Contains-append_cases (flat_map (λ (d :
     go : Contains (flat_map (λ (d : Dest). row n (n + d.ahead) (landing p c)) i.firsts) x ⊎ Contains (arcs_to n true i.seconds) x
         → ((e : Dest) × Contains i.seconds e × (x.to ≡ inlet (n + e.ahead) e.port)) ⊎ ((o : ℕ) × (o < landing p c) × (x.to ≡ inlet (n + d.ahead + o) Left))
     go (inl k) = inr (row_place n (n + d.ahead) (landing p c) x (pick (Contains-append_cases (row n (n + d.ahead) (landing p c)) [] x (subst (λ (ds : List Dest). Contains (flat_map (λ (d : Dest). row n (n + d.ahead) (landing p c)) ds) x) lands k))))
-    go (inr k) = inl (arcs_dest n true i.seconds x k)
+    go (inr k) = inl (arcs_to_dest n true i.seconds x k)
 
 module _ (p q : Plan) (S : Spreads p q) (f a : ℕ) (i : Instr) (at : instr_at p.program a ≡ Some i) where
   abbrev P : Program
@@ -116,15 +106,15 @@ module _ (p q : Plan) (S : Spreads p q) (f a : ℕ) (i : Instr) (at : instr_at p
       same = instr_parts f a g (first_of P U.b + U.x.from) side U.side (sym from ∙ U.taken_at)
 
       is_i : U.i ≡ i
-      is_i = some_same U.i i (sym U.fired ∙ ap (instr_at P) (sym same.1) ∙ at)
+      is_i = same_Some U.i i (sym U.fired ∙ ap (instr_at P) (sym same.1) ∙ at)
 
       go : (o : Option CodeBlock) → slice_get P.blocks U.b ≡ o → Taken g b r old last
       go None e = absurd (contains_none U.x (subst (λ (o : Option CodeBlock). Contains (arcs_in p o) U.x) e U.is_arc))
       go (Some c) e =
           let inside : Contains (arcs_of p 0 c.instrs) U.x = subst (λ (o : Option CodeBlock). Contains (arcs_in p o) U.x) e U.is_arc in
           let k = arc_stands p U.b c U.x e inside in
-          let code : k.1.code ≡ c = some_same k.1.code c (sym k.1.block ∙ e) in
-          let ki : k.0 ≡ i = some_same k.0 i (sym (stands_at P U.b U.x.from k.0 k.1) ∙ ap (instr_at P) (sym same.1) ∙ at) in
+          let code : k.1.code ≡ c = same_Some k.1.code c (sym k.1.block ∙ e) in
+          let ki : k.0 ≡ i = same_Some k.0 i (sym (stands_at P U.b U.x.from k.0 k.1) ∙ ap (instr_at P) (sym same.1) ∙ at) in
           let there : slice_get c.instrs U.x.from ≡ Some i = ap (λ (c : CodeBlock). slice_get c.instrs U.x.from) (sym code) ∙ k.1.instr ∙ ap Some ki in
           let z : 0 + U.x.from ≡ U.x.from = zero-add U.x.from in
           record {
@@ -337,7 +327,7 @@ module _ (p q : Plan) (S : Spreads p q) (f a : ℕ) (i : Instr) (at : instr_at p
             let uses : UsesBy p f b r i (Link c) own last = subst (λ (y : Token). UsesBy p f b r i (Link c) y last) (sym ey) (subst (λ (op : Op). UsesBy p f b r i op T.t last) e T.uses) in
             let x : Arc = arc F.n false (inlet (F.n + A.1.ahead + o) Left) in
             let len = S.lengths c in
-            let in_first : Contains (flat_map (λ (d : Dest). row F.n (F.n + d.ahead) (landing q c)) (A.1 ∷ [])) x = Contains-append_left (row F.n (F.n + A.1.ahead) (landing q c)) [] x (in_row F.n (F.n + A.1.ahead) (landing q c) o (omega (arith, len, low))) in
+            let in_first : Contains (flat_map (λ (d : Dest). row F.n (F.n + d.ahead) (landing q c)) (A.1 ∷ [])) x = Contains-append_left (row F.n (F.n + A.1.ahead) (landing q c)) [] x (row_has F.n (F.n + A.1.ahead) (landing q c) o (omega (arith, len, low))) in
             let in_link : Contains (arcs_from q F.n j (Link c)) x =
             Contains-append_left (flat_map (λ (d : Dest). row F.n (F.n + d.ahead) (landing q c)) j.firsts) (arcs_to F.n true j.seconds) x
             (subst (λ (l : List Dest). Contains (flat_map (λ (d : Dest). row F.n (F.n + d.ahead) (landing q c)) l) x) (sym A.3) in_first) in

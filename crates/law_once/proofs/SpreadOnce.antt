@@ -2,6 +2,7 @@
 use Rattle.std.proofs.Common.{◌≡◌, sym, ap, ◌∙◌, subst, ℕ, ◌<◌, ◌≤◌, ◌⊎◌, inl, inr, false, List, [], ◌∷◌, Contains, arith}
 use Rattle.std.specs.Prelude.{count_by}
 use Rattle.std.proofs.lemmas.Bool.{cases_order}
+use Rattle.lemmas.proofs.Contains.{contains_cases, contains_none}
 use Rattle.tags.specs.declared.token.Port.{Port}
 use Rattle.tags.specs.declared.token.Token.{Token}
 use Rattle.semantics.specs.Program.{instr_at}
@@ -9,7 +10,6 @@ use Rattle.semantics.specs.Machine.{Machine, Size, Events}
 use Rattle.semantics.specs.Handed.{EachOnce}
 use Rattle.semantics.specs.Plan.{Plan}
 use Rattle.semantics.specs.Orderly.{IsOrderlyRun, met, is_at, often}
-use Rattle.law_reuse.proofs.Members.{contains_cases, contains_none}
 use Rattle.law_reuse.proofs.History.{taken}
 use Rattle.law_once.specs.Spreads.{Spot, StandsFor, here, fork, Spreads}
 use Rattle.law_once.proofs.Rows.{count_tot}

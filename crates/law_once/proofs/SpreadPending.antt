@@ -1,6 +1,7 @@
 -- No token is on its way to a port at which there is one.
 use Rattle.std.proofs.Common.{◌≡◌, refl, sym, ap, ◌∙◌, ℕ, ◌≤◌, ◌⊎◌, inl, inr, false, List, [], ◌∷◌, Contains, arith}
 use Rattle.std.proofs.lemmas.List.Sorted.{Contains-permutation}
+use Rattle.lemmas.proofs.Contains.{contains_cases, contains_head, contains_mapped, contains_none}
 use Rattle.tags.specs.declared.token.Port.{Port}
 use Rattle.tags.specs.declared.token.Port.TheVariants.{Left}
 use Rattle.tags.specs.declared.token.Word.{Word}
@@ -13,7 +14,6 @@ use Rattle.semantics.specs.Handed.{EachOnce}
 use Rattle.semantics.specs.Plan.{Plan}
 use Rattle.semantics.specs.Orderly.{met, is_at, often}
 use Rattle.law_reuse.proofs.History.{taken}
-use Rattle.law_reuse.proofs.Members.{contains_head, contains_cases, contains_none, contains_mapped}
 use Rattle.law_once.proofs.Parts.{instr_parts}
 use Rattle.law_once.specs.Spreads.{Spot, StandsFor, here, fork, Spreads}
 use Rattle.law_once.proofs.Weights.{tot, tot_append, tot_perm}

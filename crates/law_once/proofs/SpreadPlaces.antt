@@ -1,7 +1,9 @@
 -- What a plan that is another one with copies between says of single instructions and landings.
-use Rattle.std.proofs.Common.{◌≡◌, refl, sym, ap, ◌∙◌, subst, ℕ, zero, suc, ◌+◌, ◌<◌, Bool, true, List, [], ◌∷◌, length, Option, Some, None, lt-ltb, le-ltb, arith}
-use Rattle.std.specs.Prelude.{slice_get, ◌-◌, nat_lt, false, if◌then◌else◌}
-use Rattle.std.proofs.lemmas.Option.{slice_get_within}
+use Rattle.std.proofs.Common.{◌≡◌, refl, sym, ap, ◌∙◌, subst, ℕ, ◌+◌, ◌<◌, Bool, true, List, [], ◌∷◌, length, Option, Some, None, arith}
+use Rattle.std.specs.Prelude.{slice_get, ◌-◌, false}
+use Rattle.std.proofs.lemmas.Option.{slice_get_within, same_Some}
+use Rattle.lemmas.proofs.Contains.{contains_head}
+use Rattle.lemmas.proofs.SliceGet.{get_some}
 use Rattle.tags.specs.declared.token.Port.TheVariants.{Left}
 use Rattle.semantics.specs.declared.program.Dest.{Dest}
 use Rattle.semantics.specs.declared.program.Op.{Op}
@@ -9,27 +11,11 @@ use Rattle.semantics.specs.declared.program.Op.TheVariants.{Copy, Give, Take}
 use Rattle.semantics.specs.Program.{Instr, CodeBlock, Program, first_of, instr_at}
 use Rattle.semantics.specs.Plan.{Plan}
 use Rattle.semantics.specs.Orderly.{same_block, often}
-use Rattle.law_reuse.proofs.Stands.{first_in, first_next, some_same, instr_in, Stands, stands_at, stands_block, stands_within, Found, found}
-use Rattle.law_reuse.proofs.Members.{contains_head}
-use Rattle.law_once.proofs.Parts.{one_part, there}
+use Rattle.semantics.proofs.BlockPlaces.{same_in}
+use Rattle.law_reuse.proofs.Stands.{instr_in, Stands, stands_at, stands_block, stands_within, Found, found}
+use Rattle.law_once.proofs.Parts.{one_part}
 use Rattle.law_once.specs.Alike.{HasLanding}
 use Rattle.law_once.specs.Spreads.{Spot, StandsFor, here, fork, is_answered, IsMoved, Spreads}
-
--- two places of a block are of one block
-same_in : (bs : List CodeBlock) (m j k : ℕ) (c : CodeBlock) → slice_get bs m ≡ Some c → j < length c.instrs → k < length c.instrs → same_block bs (first_in bs m + j) (first_in bs m + k) ≡ true
-same_in [] m j k c e h g = absurd (cc)
-same_in (x ∷ bs) zero j k c e h g =
-    let same : x ≡ c = cc in
-    let n : length x.instrs ≡ length c.instrs = ap (λ (c : CodeBlock). length c.instrs) same in
-    ap (λ (t : Bool). if t then nat_lt (0 + k) (length x.instrs) else if nat_lt (0 + k) (length x.instrs) then false else same_block bs (0 + j - length x.instrs) (0 + k - length x.instrs)) (lt-ltb (0 + j) (length x.instrs) (omega (arith, h, n)))
-    ∙ lt-ltb (0 + k) (length x.instrs) (omega (arith, g, n))
-same_in (x ∷ bs) (suc m) j k c e h g =
-    let n = first_next x bs m in
-    let a = first_in (x ∷ bs) (suc m) + j in let d = first_in (x ∷ bs) (suc m) + k in
-    ap (λ (t : Bool). if t then nat_lt d (length x.instrs) else if nat_lt d (length x.instrs) then false else same_block bs (a - length x.instrs) (d - length x.instrs)) (le-ltb a (length x.instrs) (omega (arith, n)))
-    ∙ ap (λ (t : Bool). if t then false else same_block bs (a - length x.instrs) (d - length x.instrs)) (le-ltb d (length x.instrs) (omega (arith, n)))
-    ∙ (let aj : a - length x.instrs ≡ first_in bs m + j = omega (arith, n) in let dk : d - length x.instrs ≡ first_in bs m + k = omega (arith, n) in (λ t. same_block bs (aj t) (dk t)))
-    ∙ same_in bs m j k c e h g
 
 -- what is beyond the beginning of a landing stays so far beyond it
 pub row_stays : (p q : Plan) (S : Spreads p q) (base o : ℕ) → HasLanding p base o → S.h (base + o) ≡ S.h base + o
@@ -70,7 +56,7 @@ module _ (p q : Plan) (S : Spreads p q) where
     where
       go : (zs : List Spot) → StandsFor Q h ip Left zs → (a : ℕ) × (ip ≡ h a)
       go zs (here n r ys a e one) = (a, e)
-      go zs (fork n r ys us vs K left su sv one) = absurd (other (ap (λ (i : Instr). i.op) (some_same j K.i (sym at ∙ K.there)) ∙ K.copies))
+      go zs (fork n r ys us vs K left su sv one) = absurd (other (ap (λ (i : Instr). i.op) (same_Some j K.i (sym at ∙ K.there)) ∙ K.copies))
 
   -- the place of a landing's link
   abbrev link_of : (base o : ℕ) → HasLanding p base o → ℕ
@@ -88,9 +74,9 @@ module _ (p q : Plan) (S : Spreads p q) where
       let M : IsMoved P Q h a L.i = S.instrs a L.i (link_at base o L) in
       let A = M.answered (ap is_answered L.links) in
       let d_same : A.0 ≡ L.d = one_part A.0 L.d (sym A.2 ∙ L.lands) in
-      let j_same : M.j ≡ j = some_same M.j j (sym M.there ∙ ap (instr_at Q) at_link ∙ stands_at Q b n j stands) in
+      let j_same : M.j ≡ j = same_Some M.j j (sym M.there ∙ ap (instr_at Q) at_link ∙ stands_at Q b n j stands) in
       let e_same : A.1 ≡ e = one_part A.1 e (sym A.3 ∙ ap (λ (j : Instr). j.firsts) j_same ∙ lands) in
-      let k = there L.c.instrs (L.n + L.d.ahead + o) L.inside in
+      let k = get_some L.c.instrs (L.n + L.d.ahead + o) L.inside in
       let at_k : instr_at P to ≡ Some k.0 = instr_in P.blocks L.b (L.n + L.d.ahead + o) L.c L.block L.inside ∙ k.1 in
       let begins = L.begins in
       let place : to ≡ base + o = omega (arith, begins) in
@@ -105,7 +91,7 @@ module _ (p q : Plan) (S : Spreads p q) where
       let goes : h base ≡ h a + A.1.ahead = ap h (let ad = ap (λ (d : Dest). d.ahead) d_same in let z : base ≡ a + A.0.ahead = omega (arith, begins, ad) in z) ∙ A.4 in
       let kp = ap h place in let fk = FK.place in let ae = ap (λ (d : Dest). d.ahead) e_same in
       let fo = ap (first_of Q) eq in
-      let code : stands.code ≡ FK.stands.code = some_same stands.code FK.stands.code (sym stands.block ∙ ap (slice_get Q.blocks) eq ∙ FK.stands.block) in
+      let code : stands.code ≡ FK.stands.code = same_Some stands.code FK.stands.code (sym stands.block ∙ ap (slice_get Q.blocks) eq ∙ FK.stands.block) in
       let len = ap (λ (c : CodeBlock). length c.instrs) code in (omega (arith, goes, ae), omega (arith, ends, len, kp, at_link, fk, fo, goes, row, ae))
 
   -- so a landing is one in its new place

@@ -2,6 +2,7 @@
 use Rattle.std.proofs.Common.{◌≡◌, sym, ap, ◌∙◌, subst, ℕ, ◌+◌, List, [], ◌∷◌, ◌++◌, IsPermutation, Contains}
 use Rattle.std.proofs.lemmas.List.Elements.{Contains-append_left}
 use Rattle.std.proofs.lemmas.List.Sorted.{IsPermutation-sym, IsPermutation-trans}
+use Rattle.lemmas.proofs.Contains.{contains_head, contains_map, contains_mapped}
 use Rattle.tags.specs.declared.token.Port.{Port}
 use Rattle.tags.specs.declared.token.Cont.{Cont}
 use Rattle.tags.specs.declared.token.Word.{Word}
@@ -16,7 +17,6 @@ use Rattle.semantics.specs.Machine.{CellState, Vacant, Full, Deferred, Machine, 
 use Rattle.semantics.specs.Handed.{EachOnce}
 use Rattle.semantics.specs.Plan.{Plan}
 use Rattle.semantics.specs.Orderly.{NamesCont, NamesWord, NamesTo, NamesSlot, readers_of, IsFreeAtRelease}
-use Rattle.law_reuse.proofs.Members.{contains_head, contains_map, contains_mapped}
 use Rattle.law_once.specs.Spreads.{ip_cont, ip_word, ip_to, ip_token, ip_slot, ip_cell, Spot, StandsFor, here, fork, Spreads}
 use Rattle.law_once.proofs.Lifted.{first_lifted, flat_map-IsPermutation}
 use Rattle.law_once.proofs.SpreadClumps.{in_meant, spot_token, Stands as StandsToken, moved, spread, Clump, meant_of}

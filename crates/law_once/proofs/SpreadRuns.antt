@@ -3,6 +3,7 @@ use Rattle.std.proofs.Common.{◌≡◌, refl, sym, ap, ◌∙◌, subst, ℕ, s
 use Rattle.std.proofs.lemmas.List.{length-map}
 use Rattle.std.proofs.lemmas.List.Elements.{Contains-append_right, Contains-append_cases}
 use Rattle.std.proofs.lemmas.List.Sorted.{Contains-permutation, IsPermutation-refl, IsPermutation-sym, IsPermutation-trans}
+use Rattle.lemmas.proofs.Contains.{contains_cases, contains_head, contains_mapped, contains_none}
 use Rattle.tags.specs.declared.value.Value.{Value}
 use Rattle.tags.specs.declared.value.Value.TheVariants.{Int}
 use Rattle.tags.specs.declared.token.Port.{Port}
@@ -19,7 +20,6 @@ use Rattle.semantics.specs.Handed.{handed_by, handed, EachOnce, UsesEachOnce}
 use Rattle.semantics.specs.Plan.{Plan}
 use Rattle.semantics.specs.Wired.{IsWired}
 use Rattle.semantics.specs.Orderly.{Orderly, IsStart, met}
-use Rattle.law_reuse.proofs.Members.{contains_head, contains_cases, contains_none, contains_mapped}
 use Rattle.law_reuse.proofs.History.{taken, kept_start}
 use Rattle.law_reuse.proofs.OnceRuns.{once_before}
 use Rattle.law_reuse.proofs.Clauses.{perm_nil}

@@ -3,6 +3,9 @@ use Rattle.std.proofs.Common.{◌≡◌, refl, sym, ap, ◌∙◌, subst, ℕ, �
 use Rattle.std.specs.Prelude.{slice_get, nat_lt}
 use Rattle.std.proofs.lemmas.List.Elements.{Contains-append_left, Contains-append_right}
 use Rattle.std.proofs.lemmas.List.Sorted.{Contains-permutation, IsPermutation-sym}
+use Rattle.std.proofs.lemmas.Option.{same_Some}
+use Rattle.lemmas.proofs.Contains.{contains_cases, contains_head, contains_mapped, contains_none}
+use Rattle.lemmas.proofs.SliceGet.{get_some}
 use Rattle.tags.specs.declared.token.Port.{Port}
 use Rattle.tags.specs.declared.token.Port.TheVariants.{Left}
 use Rattle.semantics.specs.declared.program.Dest.{Dest}
@@ -12,9 +15,7 @@ use Rattle.semantics.specs.Program.{Instr, CodeBlock, Program, first_of, instr_a
 use Rattle.semantics.specs.Plan.{Plan, landing, landing_in}
 use Rattle.semantics.specs.Orderly.{often}
 use Rattle.code.specs.Sound.{NamesRightly, IsSound}
-use Rattle.law_reuse.proofs.Stands.{some_same, Stands, stands_at, Found, found}
-use Rattle.law_reuse.proofs.Members.{contains_head, contains_cases, contains_none, contains_mapped}
-use Rattle.law_once.proofs.Parts.{there}
+use Rattle.law_reuse.proofs.Stands.{Stands, stands_at, Found, found}
 use Rattle.law_once.specs.Alike.{plain_dests, HasLanding, IsTidy}
 use Rattle.law_once.specs.Spreads.{Spot, StandsFor, here, fork, Lead, targets, Leads, is_answered, IsMoved, Spreads, SpreadPlansStayTidy}
 use Rattle.law_once.proofs.SpreadPlaces.{often_kept, landing_inside}
@@ -29,7 +30,7 @@ module _ (p q : Plan) (S : Spreads p q) where
   abbrev h : ℕ → ℕ
   h = S.h
 
-  -- no `give` and no `take` stands there
+  -- no `give` and no `take` stands get_some
   abbrev Lone : ℕ → Type 0
   Lone ip = often (instr_at Q ip) ≡ false
 
@@ -83,13 +84,13 @@ module _ (p q : Plan) (S : Spreads p q) where
         go : (zs : List Spot) → StandsFor Q h ip Left zs → Lone (ip + d.ahead)
         go zs (here n t ys a e one) =
             let o = S.alone a i (ap (instr_at Q) (sym e) ∙ at) in
-            let same : i ≡ (S.instrs a o.0 o.1).j = some_same i (S.instrs a o.0 o.1).j (sym at ∙ ap (instr_at Q) e ∙ (S.instrs a o.0 o.1).there) in
+            let same : i ≡ (S.instrs a o.0 o.1).j = same_Some i (S.instrs a o.0 o.1).j (sym at ∙ ap (instr_at Q) e ∙ (S.instrs a o.0 o.1).there) in
             ap (λ (n : ℕ). often (instr_at Q (n + d.ahead))) e ∙ moved_lone a o.0 o.1 d (subst (λ (i : Instr). Contains (plain_dests i i.op) d) same inside)
         go zs (fork n t ys us vs K left su sv one) =
             side (contains_cases K.d (K.e ∷ []) d (subst (λ (l : List Dest). Contains l d) (λ x. K.first x ++ K.second x) (subst (λ (op : Op). Contains (plain_dests K.i op) d) K.copies (subst (λ (i : Instr). Contains (plain_dests i i.op) d) same inside))))
           where
             same : i ≡ K.i
-            same = some_same i K.i (sym at ∙ K.there)
+            same = same_Some i K.i (sym at ∙ K.there)
 
             last : (K.e ≡ d) ⊎ Contains [] d → Lone (ip + d.ahead)
             last (inl e) = subst (λ (d : Dest). Lone (ip + d.ahead)) e (stands_lone (ip + K.e.ahead) K.e.port vs sv (λ x c. K.lone x (subst (λ (l : List Spot). Contains l x) (sym one) (Contains-append_right us vs x c))))
@@ -113,16 +114,16 @@ module _ (p q : Plan) (S : Spreads p q) where
       where
         go : (zs : List Spot) → StandsFor Q h (first_of Q b + n) Left zs → n + d.ahead + landing q callee ≤ length st.code.instrs
         go zs (fork m t ys us vs K left su sv one) =
-            absurd (copy_link callee (sym K.copies ∙ ap (λ (i : Instr). i.op) (some_same K.i i (sym K.there ∙ stands_at Q b n i st)) ∙ links))
+            absurd (copy_link callee (sym K.copies ∙ ap (λ (i : Instr). i.op) (same_Some K.i i (sym K.there ∙ stands_at Q b n i st)) ∙ links))
         go zs (here m t ys a at one) =
             let o = S.alone a i (ap (instr_at Q) (sym at) ∙ stands_at Q b n i st) in
             let M : IsMoved P Q h a o.0 = S.instrs a o.0 o.1 in
-            let same : M.j ≡ i = some_same M.j i (sym M.there ∙ ap (instr_at Q) (sym at) ∙ stands_at Q b n i st) in
+            let same : M.j ≡ i = same_Some M.j i (sym M.there ∙ ap (instr_at Q) (sym at) ∙ stands_at Q b n i st) in
             let op : o.0.op ≡ Link callee = sym M.op ∙ ap (λ (i : Instr). i.op) same ∙ links in
             let A = M.answered (ap is_answered op) in
             let F : Found P a o.0 = found P a o.0 o.1 in
             let names : callee < length P.blocks = subst (NamesRightly P) op ((s.program.blocks F.b F.stands.code F.stands.block).instrs F.n o.0 F.stands.instr).operand in
-            let c = there P.blocks callee names in
+            let c = get_some P.blocks callee names in
             let some = long (nat_lt callee p.plain) (slice_get P.blocks callee) c.0 c.1 in
             let fits = tidy.landings F.b F.n F.stands.code o.0 A.0 callee F.stands.block F.stands.instr op A.2 in
             let last : ℕ = landing p callee - 1 in

@@ -2,6 +2,7 @@
 use Rattle.std.proofs.Common.{◌≡◌, refl, sym, ap, ◌∙◌, subst, ℕ, ◌+◌, ◌⊎◌, inl, inr, List, [], ◌∷◌, Contains}
 use Rattle.std.proofs.lemmas.List.Elements.{Contains-append_cases}
 use Rattle.std.proofs.lemmas.List.Sorted.{Contains-permutation}
+use Rattle.lemmas.proofs.Contains.{contains_cases, contains_head, contains_map, contains_none, contains_tail}
 use Rattle.tags.specs.declared.token.Port.{Port}
 use Rattle.tags.specs.declared.token.Port.TheVariants.{Left}
 use Rattle.tags.specs.declared.token.Word.{Word}
@@ -10,7 +11,6 @@ use Rattle.tags.specs.declared.token.Token.{Token}
 use Rattle.semantics.specs.declared.program.Dest.{Dest}
 use Rattle.semantics.specs.Program.{Program}
 use Rattle.semantics.specs.Rule.{at_dest, to_each}
-use Rattle.law_reuse.proofs.Members.{contains_head, contains_tail, contains_cases, contains_none, contains_map}
 use Rattle.law_once.proofs.Parts.{instr_parts}
 use Rattle.law_once.specs.Spreads.{ip_to, ip_token, Spot, StandsFor, here, fork, Lead, targets, Leads}
 

@@ -2,7 +2,8 @@
 use Rattle.std.proofs.Common.{◌≡◌, ℕ, ◌<◌, ◌-◌, ◌⊎◌, ℤ, Bool, true, false, inl, inr, List, [], ◌∷◌, ◌++◌, map, Option, Some, None, if◌then◌else◌, refl, sym, ap, ◌∙◌, subst, arith, true≢false, eqb-true, ltb-true, lt-ltb}
 use Rattle.std.specs.Prelude.{Contains, IsPermutation, flat_map}
 use Rattle.std.proofs.lemmas.List.Sorted.{IsPermutation-sym, IsPermutation-trans, Contains-permutation}
-use Rattle.std.proofs.lemmas.List.Elements.{Contains-append_left, Contains-append_right, Contains-append_cases}
+use Rattle.std.proofs.lemmas.List.Elements.{Contains-append_left, Contains-append_right}
+use Rattle.lemmas.proofs.Contains.{contains_cases, contains_head, contains_mapped, contains_none, contains_tail, contains_flat_mapped}
 use Rattle.tags.specs.declared.value.Value.{Value}
 use Rattle.tags.specs.declared.token.Port.{Port}
 use Rattle.tags.specs.declared.token.Port.TheVariants.{Left, Right}
@@ -20,7 +21,6 @@ use Rattle.semantics.specs.Machine.{Machine}
 use Rattle.semantics.specs.Orderly.{NamesCont, NamesWord, NamesTo, NamesSlot, IsFreeAtRelease}
 use Rattle.law_net.specs.Roles.{one}
 use Rattle.law_net.proofs.NetSlots.{AtSlot}
-use Rattle.law_net.proofs.Members.{contains_head, contains_tail, contains_cases, contains_none}
 use Rattle.law_net.proofs.Orders.{first_lifted, total-IsPermutation, total-append}
 use Rattle.law_contexts.specs.Parts.{Part, Opener, Drained, Taker, Asked, NextAsked, Held, Shown, Done, Freed, End, Inlet, inlet, Note, Datum, FrameOf, BackTo, ToHost, Item, Firing, Spot, spot_of, same_spot}
 use Rattle.law_contexts.specs.Blocks.{waits_in, is_store, is_loop, bound_at, entered}
@@ -31,8 +31,7 @@ use Rattle.law_contexts.specs.Laws.{Fits, way_fits, port_fits}
 use Rattle.law_contexts.specs.Stands.{Past, frame_of, to_of, token_of, word_of, cell_to, cont_in, conts_of, first_cont, only, in_slot, slot_of, on_side, is_item_at, is_asked, reads, ledger, named_by}
 use Rattle.law_contexts.specs.Theorem.{IsGood}
 use Rattle.law_contexts.specs.Packages.{OfRuns, Keeps, InputsFit, ReleasesLast}
-use Rattle.law_arms.proofs.Sames.{hits_at, hit_counted, spot_is, inlet_is}
-use Rattle.law_arms.proofs.Sends.{contains_map}
+use Rattle.law_contexts.proofs.Sames.{hits_at, hit_counted, spot_is, inlet_is}
 use Rattle.law_arms.proofs.Nets.{once_all, only_contains}
 use Rattle.law_arms.proofs.Fed.{UNot}
 use Rattle.law_arms.proofs.Credits.{some_firing, firing_of}
@@ -41,15 +40,6 @@ use Rattle.law_over.proofs.Made.{fired, Stands, left_stands, taken_stands, fits,
 use Rattle.law_over.proofs.Open.{stands_open}
 use Rattle.law_over.proofs.Left.{ends_last}
 use Rattle.law_over.proofs.Names.{nothing_names}
-
--- continuations of items
-flat_back : {X Y : Type 0} (f : X → List Y) (xs : List X) (y : Y) → Contains (flat_map f xs) y → (x : X) × Contains xs x × Contains (f x) y
-flat_back f [] y c = absurd (contains_none y c)
-flat_back f (x ∷ xs) y c = pick (Contains-append_cases (f x) (flat_map f xs) y c) (flat_back f xs y)
-  where
-    pick : Contains (f x) y ⊎ Contains (flat_map f xs) y → (Contains (flat_map f xs) y → (z : _) × Contains xs z × Contains (f z) y) → (z : _) × Contains (x ∷ xs) z × Contains (f z) y
-    pick (inl d) more = (x, contains_head x xs, d)
-    pick (inr d) more = let o = more d in (o.0, contains_tail x xs o.0 o.1, o.2)
 
 first_there : (cs : List Cont) (a : Cont) → first_cont cs ≡ Some a → Contains cs a
 first_there [] a e = absurd (cc)
@@ -183,7 +173,7 @@ module _ (stage : ℕ) (fl : Flow) (p : Plan) (w : Wires) (inputs : List ℤ) (p
     -- nor does a continuation that waits
     pub no_cont : (test : Item → Bool) (a : Cont) → Contains (conts_of fl p w done (only test kept.follows.net.waiting)) a → NamesCont f a → ⊥
     no_cont test a d h =
-        let (i, e, g) = flat_back (λ (i : Item). cont_in (word_of fl p w done i.word)) (only test kept.follows.net.waiting) a d in
+        let (i, e, g) = contains_flat_mapped (λ (i : Item). cont_in (word_of fl p w done i.word)) (only test kept.follows.net.waiting) a d in
         no_word i (waiting_left i (only_contains test kept.follows.net.waiting i e).0) (cont_names (word_of fl p w done i.word) a f g h)
 
     -- SLOTS
@@ -296,7 +286,7 @@ module _ (stage : ℕ) (fl : Flow) (p : Plan) (w : Wires) (inputs : List ℤ) (p
       last = ended first.0 mine (freed_inlet first.0 mine freed.0)
 
       from_rest : (t : Token) → Contains rest t → (j : Item) × Contains first.1 j × (token_of fl p w kept.follows.net.fired j ≡ t)
-      from_rest t d = contains_map (token_of fl p w kept.follows.net.fired) first.1 t (subst (λ (ts : List Token). Contains ts t) (sym first.4) d)
+      from_rest t d = contains_mapped (token_of fl p w kept.follows.net.fired) first.1 t (subst (λ (ts : List Token). Contains ts t) (sym first.4) d)
 
       -- it comes back once
       alone : (j : Item) → Contains first.1 j → j.inlet.part ≡ Freed → j.context ≡ first.0.context → ⊥

@@ -18,7 +18,7 @@ use Rattle.law_contexts.specs.Laws.{spot_there, way_fits, port_fits, sender_way,
 use Rattle.law_contexts.specs.Stands.{Past}
 use Rattle.law_contexts.specs.Theorem.{IsGood}
 use Rattle.law_contexts.specs.Packages.{InputsFit, Keeps}
-use Rattle.law_arms.proofs.Sames.{spot_is, inlet_is}
+use Rattle.law_contexts.proofs.Sames.{spot_is, inlet_is}
 use Rattle.law_arms.proofs.Sends.{first_taken}
 use Rattle.law_arms.proofs.Comes.{one_spot}
 use Rattle.law_arms.proofs.Invoked.{is_turned}

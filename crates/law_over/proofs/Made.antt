@@ -18,7 +18,7 @@ use Rattle.law_contexts.specs.Laws.{Fits, WordFits, Allowed, maker_of}
 use Rattle.law_contexts.specs.Stands.{Past}
 use Rattle.law_contexts.specs.Theorem.{IsGood}
 use Rattle.law_contexts.specs.Packages.{InputsFit, Keeps, AllFit}
-use Rattle.law_arms.proofs.Sames.{hits_at, hit_counted}
+use Rattle.law_contexts.proofs.Sames.{hits_at, hit_counted}
 use Rattle.law_arms.proofs.Sends.{first_taken, takes_first, first_context, IsSent}
 use Rattle.law_arms.proofs.Gifts.{Gift}
 use Rattle.law_arms.proofs.Words.{Begins, AtEntry, AtInput, begin_cases, input_below}

@@ -2,6 +2,7 @@
 use Rattle.std.proofs.Common.{◌≡◌, ℕ, zero, suc, ◌+◌, ℤ, Bool, true, false, List, [], ◌∷◌, ◌++◌, Some, None, if◌then◌else◌, refl, sym, ap, ◌∙◌, subst, arith, true≢false, ltb-true, lt-ltb, nat_lt}
 use Rattle.std.specs.Prelude.{Contains, pos}
 use Rattle.std.proofs.lemmas.Bool.{and_parts}
+use Rattle.std.proofs.lemmas.Option.{same_Some}
 use Rattle.tags.specs.declared.token.Port.{Port}
 use Rattle.tags.specs.declared.token.Port.TheVariants.{Left, Right}
 use Rattle.tags.specs.declared.value.Value.{Value}
@@ -21,7 +22,7 @@ use Rattle.law_contexts.specs.Stands.{Past, named_by}
 use Rattle.law_contexts.specs.Theorem.{IsGood}
 use Rattle.law_contexts.specs.Packages.{InputsFit, Keeps}
 use Rattle.law_contexts.proofs.Words.{carries_of}
-use Rattle.law_arms.proofs.Sames.{spot_is, inlet_is}
+use Rattle.law_contexts.proofs.Sames.{spot_is, inlet_is}
 use Rattle.law_arms.proofs.Sends.{side_by, first_taken, takes_first, sent_facts, in_context}
 use Rattle.law_arms.proofs.Invoked.{lawful_at, Child, ByCall, ByLoop, child_cases}
 use Rattle.law_arms.proofs.Nets.{taken_in}
@@ -80,8 +81,6 @@ bears (Held n) x = BReader n refl refl
 bears r x = BValue refl
 
 -- A CONTEXT THAT A WORD NAMES
-some_is : (c d : Context) → Some c ≡ Some d → c ≡ d
-some_is c d e = cc
 
 none_some : (d : Context) → None ≡ Some d → ⊥
 none_some d e = absurd (cc)
@@ -95,8 +94,8 @@ data Returns (c d : Context) : Type 0 where
 
 returns_to : (d c : Context) → named_by (return_of d) ≡ Some c → Returns c d
 returns_to Main c e = absurd (none_some c e)
-returns_to (Called d n) c e = FromCall n (ap (λ (x : Context). Called x n) (some_is d c e))
-returns_to (Turned d n t) c e = FromTurn n t (ap (λ (x : Context). Turned x n t) (some_is d c e))
+returns_to (Called d n) c e = FromCall n (ap (λ (x : Context). Called x n) (same_Some d c e))
+returns_to (Turned d n t) c e = FromTurn n t (ap (λ (x : Context). Turned x n t) (same_Some d c e))
 
 data Goes (q : Part) : Type 0 where
   GoValue : goes_from q ≡ AValue → Goes q
@@ -301,7 +300,7 @@ module _ (stage : ℕ) (fl : Flow) (p : Plan) (w : Wires) (inputs : List ℤ) (p
 
     reader_not : (i : Item) → IsLeft i → is_leaving i.inlet.part ≡ false → (xs : List Inlet) → i.word ≡ back_from i.context xs → named_by i.word ≡ Some c → ⊥
     reader_not i d v [] e names = none_some c (ap named_by (sym e) ∙ names)
-    reader_not i d v (x ∷ xs) e names = own_not i d (some_is i.context c (ap named_by (sym e) ∙ names)) v
+    reader_not i d v (x ∷ xs) e names = own_not i d (same_Some i.context c (ap named_by (sym e) ∙ names)) v
 
     -- NOTHING THAT IS LEFT names it
     pub nothing_names : (i : Item) → IsLeft i → named_by i.word ≡ Some c → ⊥
@@ -317,7 +316,7 @@ module _ (stage : ℕ) (fl : Flow) (p : Plan) (w : Wires) (inputs : List ℤ) (p
         as_kind k e = subst (λ (k : Carried). Carries fl w i.context i.inlet.way k i.word) e (carries i d)
 
         names_as : (e : Context) → named_by i.word ≡ Some e → e ≡ c
-        names_as e g = some_is e c (sym g ∙ names)
+        names_as e g = same_Some e c (sym g ∙ names)
 
         go : Bears i.inlet.part i.inlet.port → ⊥
         go (BValue e) = value_not i.word c (as_kind AValue e) names

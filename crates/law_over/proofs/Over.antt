@@ -1,5 +1,6 @@
 -- When the last part of a context has fired, all have that lie in open arms.
 use Rattle.std.proofs.Common.{◌≡◌, ℕ, zero, suc, ◌+◌, ◌<◌, ℤ, Bool, true, false, not, ◌⊎◌, inl, inr, List, refl, sym, ap, ◌∙◌, subst, arith}
+use Rattle.lemmas.proofs.Bools.{not_not}
 use Rattle.semantics.specs.declared.graph.Region.{Region}
 use Rattle.semantics.specs.declared.graph.Region.TheVariants.{Arm}
 use Rattle.semantics.specs.Graph.{Flow}
@@ -21,10 +22,6 @@ use Rattle.law_over.proofs.Paths.{Wire, next, arm_ends}
 use Rattle.law_over.proofs.Made.{fired, maker_fired}
 use Rattle.law_over.proofs.Open.{cond_of, arm_open, region_open, join_decided, through}
 use Rattle.law_over.proofs.Back.{handed_back}
-
-not_not : (t : Bool) → not (not t) ≡ t
-not_not true = refl
-not_not false = refl
 
 module _ (stage : ℕ) (fl : Flow) (p : Plan) (w : Wires) (inputs : List ℤ) (past : Past) (m : Machine) (good : IsGood stage fl p w) (fit : InputsFit fl inputs) (kept : Keeps fl p w inputs past m) (c : Context) (con : IsContext fl c) where
   abbrev Here : Part → Type 0

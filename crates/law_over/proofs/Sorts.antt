@@ -1,7 +1,7 @@
 -- The parts of any code block: switches, what joins two arms, the last part, and all others, with what hands its word on without a wire.
 use Rattle.std.proofs.Common.{◌≡◌, ℕ, ◌<◌, Bool, true, false, not, ◌⊎◌, inl, inr, [], length, Option, Some, None, nat_lt, ◌==◌, refl, sym, ap, ◌∙◌, arith, true≢false}
 use Rattle.std.specs.Prelude.{Contains}
-use Rattle.std.proofs.lemmas.Bool.{and_parts, or_right}
+use Rattle.std.proofs.lemmas.Bool.{and_parts, or_right, or_cases}
 use Rattle.std.proofs.lemmas.List.Elements.{Contains-append_left}
 use Rattle.tags.specs.declared.token.Port.TheVariants.{Left}
 use Rattle.semantics.specs.declared.graph.Region.{Region}
@@ -11,8 +11,8 @@ use Rattle.semantics.specs.Graph.{Node, Block, Flow}
 use Rattle.semantics.specs.Plan.{Plan}
 use Rattle.semantics.specs.Meaning.{Context, arm_of, block_number, block_numbered}
 use Rattle.semantics.specs.Cause.{is_turn}
-use Rattle.law_net.proofs.Members.{contains_head}
 use Rattle.std.specs.Prelude.{slice_get}
+use Rattle.lemmas.proofs.Contains.{contains_head}
 use Rattle.law_contexts.specs.Parts.{Part, Trigger, Gate, Merge, Framer, Fanned, Linker, Landing, CallDone, Giver, Taker, Drainer, LoopDone, TurnCont, TurnFlag, TurnValue, Asker, NextFramer, NextFanned, CondEnd, End, inlet, Firing, Held, Drained}
 use Rattle.law_contexts.specs.Blocks.{is_cell, is_plain, plain_kind, cell_kind, side, Wiring, there_in, waits_in, is_kind, enter_kind, is_call, is_loop, merge_cond, lies_in, outside, region_of, entered, arm_round, leaves_in, is_switch, flag}
 use Rattle.law_contexts.specs.Contexts.{Wires, block_in, site_in, wiring_in, IsContext}
@@ -22,7 +22,7 @@ use Rattle.law_contexts.specs.Laws.{way_fits}
 use Rattle.law_contexts.specs.Operands.{HasOperands}
 use Rattle.law_contexts.specs.Theorem.{IsGood}
 use Rattle.law_arms.proofs.Sends.{first_taken}
-use Rattle.law_arms.proofs.Invoked.{kind_line, or_cases, block_here, code_at, lawful_at}
+use Rattle.law_arms.proofs.Invoked.{kind_line, block_here, code_at, lawful_at}
 use Rattle.law_arms.proofs.Rounds.{IsChoice, end_choice, flag_root}
 use Rattle.law_over.specs.Over.{is_turning}
 

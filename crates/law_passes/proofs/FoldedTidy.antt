@@ -2,7 +2,9 @@
 use Rattle.std.proofs.Common.{◌≡◌, refl, sym, ap, ◌∙◌, subst, ℕ, zero, suc, ◌+◌, ◌-◌, ◌<◌, ◌≤◌, ◌⊎◌, inl, inr, Bool, true, false, ℤ, List, [], ◌∷◌, ◌++◌, length, get_or, Option, Some, None, Contains, arith}
 use Rattle.std.specs.Prelude.{slice_get, nat_lt}
 use Rattle.std.proofs.lemmas.List.Elements.{Contains-append_left, Contains-append_right, Contains-append_cases}
-use Rattle.std.proofs.lemmas.Option.{slice_get_within, slice_get_cases}
+use Rattle.std.proofs.lemmas.Option.{slice_get_within, slice_get_cases, same_Some}
+use Rattle.lemmas.proofs.Contains.{contains_head, get_contains}
+use Rattle.lemmas.proofs.Lists.{one_element}
 use Rattle.operators.specs.declared.Binary.{Binary}
 use Rattle.semantics.specs.declared.program.Dest.{Dest}
 use Rattle.semantics.specs.declared.program.Op.{Op}
@@ -19,15 +21,15 @@ use Rattle.folding.specs.Laws.{dests_of, SparesLiterals}
 use Rattle.folding.proofs.Standing.{keeps_instrs, has_no_others}
 use Rattle.folding.proofs.Sole.{keeps_sole}
 use Rattle.folding.proofs.Landing.{keeps_landings}
-use Rattle.folding.proofs.SoundLists.{contains_head, get_contains, Stood, moved_back, block_back, block_there, landing_same}
+use Rattle.folding.proofs.SoundLists.{Stood, moved_back, block_back, block_there, landing_same}
 use Rattle.folding.proofs.SoundRows.{link_before, shut_stays, place_low}
 use Rattle.folding.proofs.SoundDests.{dyadic_is}
 use Rattle.folding.proofs.Cases.{value_at, FoldCase, is_kept, is_right, is_left, fold_cases}
 use Rattle.semantics.specs.Bytes as Bytes
-use Rattle.law_reuse.proofs.Stands.{some_same, instr_in}
+use Rattle.law_reuse.proofs.Stands.{instr_in}
 use Rattle.law_once.specs.Alike.{plain_dests, IsTidy}
 use Rattle.law_passes.specs.Passes.{FoldedIsTidy}
-use Rattle.law_passes.proofs.Tidy.{some_landing, one_only, sole, often_op, all_named, PlainOr, plain_or}
+use Rattle.law_passes.proofs.Tidy.{some_landing, one_only, often_op, all_named, PlainOr, plain_or}
 
 module _ (p : Plan) (s : IsSound p) (b : ℕ) (c : CodeBlock) (at_b : slice_get p.program.blocks b ≡ Some c) where
   abbrev l : Layout
@@ -55,7 +57,7 @@ module _ (p : Plan) (s : IsSound p) (b : ℕ) (c : CodeBlock) (at_b : slice_get 
   often_same n i at = go (fold_cases p c n)
     where
       op_of : (j : Instr) → slice_get c.instrs n ≡ Some j → j.op ≡ i.op
-      op_of j there = ap (λ (x : Instr). x.op) (some_same j i (sym there ∙ at))
+      op_of j there = ap (λ (x : Instr). x.op) (same_Some j i (sym there ∙ at))
 
       no_right : (x y : Instr) (o : Binary) (z : ℤ) → x.op ≡ Apply2Right o z → y.op ≡ Apply2 o → often (Some x) ≡ often (Some y)
       no_right x y o z e f = often_op x record x { op = Apply2Right o z } e ∙ sym (often_op y record y { op = Apply2 o } f)
@@ -71,7 +73,7 @@ module _ (p : Plan) (s : IsSound p) (b : ℕ) (c : CodeBlock) (at_b : slice_get 
   module _ (tidy : IsTidy p) where
     landing_fits : (n : ℕ) (i : Instr) (x : Dest) (callee : ℕ) → slice_get c.instrs n ≡ Some i → gone_at l n ≡ false → i.op ≡ Link callee → (moved l n i).firsts ≡ x ∷ []
         → new_place l n + x.ahead + landing p callee ≤ length (folded_block p c).instrs
-    landing_fits n i x callee at stay links lands = go (sole i.firsts one)
+    landing_fits n i x callee at stay links lands = go (one_element i.firsts one)
       where
         shape : HasShape (Link callee) (length i.firsts) (length i.seconds)
         shape = subst (λ (op : Op). HasShape op (length i.firsts) (length i.seconds)) links (block.instrs n i at).shape
@@ -143,7 +145,7 @@ module _ (p : Plan) (s : IsSound p) (b : ℕ) (c : CodeBlock) (at_b : slice_get 
         link_stays callee links = pick (fold_cases p c n)
           where
             no_link : (j : Instr) (o : Binary) → slice_get c.instrs n ≡ Some j → j.op ≡ Apply2 o → ⊥
-            no_link j o there e = let f : Link callee ≡ Apply2 o = sym links ∙ ap (λ (x : Instr). x.op) (some_same i j (sym at ∙ there)) ∙ e in cc
+            no_link j o there e = let f : Link callee ≡ Apply2 o = sym links ∙ ap (λ (x : Instr). x.op) (same_Some i j (sym at ∙ there)) ∙ e in cc
 
             pick : FoldCase p c n → new_op (folds_at l n) i.op ≡ Link callee
             pick (is_kept K) = K.op i.op ∙ links

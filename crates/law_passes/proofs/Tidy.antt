@@ -1,5 +1,5 @@
 -- Destinations and landings of tidy plans.
-use Rattle.std.proofs.Common.{◌≡◌, refl, ap, ℕ, ◌<◌, ◌⊎◌, inl, inr, Bool, true, false, List, [], ◌∷◌, ◌++◌, length, Some, Contains, arith}
+use Rattle.std.proofs.Common.{◌≡◌, refl, ap, ℕ, ◌<◌, ◌⊎◌, inl, inr, Bool, true, false, List, ◌∷◌, ◌++◌, Some, Contains, arith}
 use Rattle.std.proofs.lemmas.List.Elements.{Contains-append_right}
 use Rattle.semantics.specs.declared.program.Dest.{Dest}
 use Rattle.semantics.specs.declared.program.Op.{Op}
@@ -16,12 +16,6 @@ some_landing false c = omega arith
 
 pub one_only : (d : Dest) (ds : List Dest) (x : Dest) (xs : List Dest) → d ∷ ds ≡ x ∷ xs → d ≡ x
 one_only d ds x xs e = cc
-
--- one element, where there is one
-pub sole : {X : Type 0} (xs : List X) → length xs ≡ 1 → (x : X) × (xs ≡ x ∷ [])
-sole [] e = absurd (omega (arith, e))
-sole (x ∷ []) e = (x, refl)
-sole (x ∷ y ∷ xs) e = absurd (omega (arith, e))
 
 pub often_op : (i j : Instr) → i.op ≡ j.op → often (Some i) ≡ often (Some j)
 often_op i j e = ap (λ (op : Op). often (Some record i { op = op })) e

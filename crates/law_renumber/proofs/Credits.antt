@@ -3,6 +3,7 @@ use Rattle.std.proofs.Common.{◌≡◌, refl, sym, ap, ◌∙◌, subst, ℕ, �
 use Rattle.std.specs.Prelude.{slice_get, ◌&&◌, ◌==◌}
 use Rattle.std.proofs.lemmas.Bool.{cases_eq}
 use Rattle.std.proofs.lemmas.List.Sorted.{Contains-permutation}
+use Rattle.std.proofs.lemmas.Option.{same_Some}
 use Rattle.tags.specs.declared.token.Port.{Port}
 use Rattle.tags.specs.declared.token.Port.TheVariants.{Left}
 use Rattle.tags.specs.declared.token.Cont.{Cont}
@@ -21,7 +22,6 @@ use Rattle.semantics.specs.Orderly.{met, Orderly, IsStart}
 use Rattle.semantics.specs.Holders.{Holder, holder_of, holder_at, same_holder}
 use Rattle.semantics.specs.Credits.{granted_in, granted_at, released_in, released_at, granted, released, IsPart, IsLoop}
 use Rattle.law_reuse.specs.Bounds.{OnlyAsks, PlanKeepsBound, PlanKeepsBounds}
-use Rattle.law_reuse.proofs.Stands.{some_same}
 use Rattle.law_reuse.proofs.Fillings.{at_port}
 use Rattle.law_reuse.proofs.Claims.{holder_here}
 use Rattle.law_reuse.proofs.History.{taken, ports_of}
@@ -53,11 +53,11 @@ in_block b r = record { block = b; number = r }
 
 holder_some : (b r : ℕ) (o : Option ℕ) → holder_of b o ≡ Some (in_block b r) → o ≡ Some r
 holder_some b r None e = absurd (cc)
-holder_some b r (Some k) e = let d = some_same (in_block b k) (in_block b r) e in ap (λ (x : Holder). Some x.number) d
+holder_some b r (Some k) e = let d = same_Some (in_block b k) (in_block b r) e in ap (λ (x : Holder). Some x.number) d
 
 holder_is : (b : ℕ) (o : Option ℕ) (x : Holder) → holder_of b o ≡ Some x → (r : ℕ) × (o ≡ Some r) × (in_block b r ≡ x)
 holder_is b None x e = absurd (cc)
-holder_is b (Some r) x e = (r, refl, some_same (in_block b r) x e)
+holder_is b (Some r) x e = (r, refl, same_Some (in_block b r) x e)
 
 module _ (p : Plan) (ds : List CodeBlock) (hold : ℕ → ℕ → ℕ) (R : RenumbersAll hold p.program.blocks ds) where
   abbrev P : Program
@@ -106,14 +106,14 @@ module _ (p : Plan) (ds : List CodeBlock) (hold : ℕ → ℕ → ℕ) (R : Renu
     where
       go : Located hold P.blocks ds ip → (i : Instr) × Both ip i j
       go (Nowhere x y) = absurd (let e : Some j ≡ None = sym at ∙ y in cc)
-      go (There b n c d i k at_b at_d at_n at_j B I at_p at_q place) = (i, subst (Both ip i) (some_same k j (sym at_q ∙ at)) (both ip b n c d i k at_b at_d at_n at_j B I at_p at_q place))
+      go (There b n c d i k at_b at_d at_n at_j B I at_p at_q place) = (i, subst (Both ip i) (same_Some k j (sym at_q ∙ at)) (both ip b n c d i k at_b at_d at_n at_j B I at_p at_q place))
 
   by_old : (ip : ℕ) (i : Instr) → instr_at P ip ≡ Some i → (j : Instr) × Both ip i j
   by_old ip i at = go (located hold P.blocks ds R ip)
     where
       go : Located hold P.blocks ds ip → (j : Instr) × Both ip i j
       go (Nowhere x y) = absurd (let e : Some i ≡ None = sym at ∙ x in cc)
-      go (There b n c d k j at_b at_d at_n at_j B I at_p at_q place) = (j, subst (λ (k : Instr). Both ip k j) (some_same k i (sym at_p ∙ at)) (both ip b n c d k j at_b at_d at_n at_j B I at_p at_q place))
+      go (There b n c d k j at_b at_d at_n at_j B I at_p at_q place) = (j, subst (λ (k : Instr). Both ip k j) (same_Some k i (sym at_p ∙ at)) (both ip b n c d k j at_b at_d at_n at_j B I at_p at_q place))
 
   -- a holder that the block has, in both
   record Held (loop : Holder) : Type 0 where
@@ -147,7 +147,7 @@ module _ (p : Plan) (ds : List CodeBlock) (hold : ℕ → ℕ → ℕ) (R : Renu
       go i B None e (k, f, is) = absurd (let d : None ≡ Some k = sym (ap (held (hold B.b)) e) ∙ f in cc)
       go i B (Some r) e (k, f, is) =
           let d : Some (hold B.b r) ≡ Some k = sym (ap (held (hold B.b)) e) ∙ f in
-          let same : hold B.b r ≡ k = some_same (hold B.b r) k d in
+          let same : hold B.b r ≡ k = same_Some (hold B.b r) k d in
           record {
             held = record { b = B.b; r = r; c = B.c; block = B.block; holds = record { place = B.n; instr = i; there = B.there; holds = e }; is = ap (in_block B.b) same ∙ is };
             part = record { instr = i; is_at = B.at_p; does = sym B.one.op ∙ K.does; uses = slot_number i i.op r e; holds = B.old ∙ ap (holder_of B.b) e };
@@ -220,7 +220,7 @@ module _ (p : Plan) (ds : List CodeBlock) (hold : ℕ → ℕ → ℕ) (R : Renu
       go (Some k) e (inl same) = ap (λ (t : Bool). (H.b == B.b) && t) (by_number (cases_eq H.r k))
         where
           code : B.c ≡ H.c
-          code = some_same B.c H.c (sym B.block ∙ ap (slice_get P.blocks) (sym same) ∙ H.block)
+          code = same_Some B.c H.c (sym B.block ∙ ap (slice_get P.blocks) (sym same) ∙ H.block)
 
           old_holds : HoldsIn B.c H.r
           old_holds = subst (λ (c : CodeBlock). HoldsIn c H.r) (sym code) H.holds

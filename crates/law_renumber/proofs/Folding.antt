@@ -2,7 +2,10 @@
 use Rattle.std.proofs.Common.{◌≡◌, refl, sym, ap, ◌∙◌, subst, ℕ, suc, ◌+◌, Bool, true, false, ℤ, List, [], ◌∷◌, map, length, Option, Some, None, if◌then◌else◌}
 use Rattle.std.specs.Prelude.{slice_get}
 use Rattle.std.specs.Option.{option_map}
-use Rattle.std.proofs.lemmas.Option.{slice_get-map}
+use Rattle.std.proofs.lemmas.Option.{slice_get-map, same_Some}
+use Rattle.lemmas.proofs.Alls.{all_at}
+use Rattle.lemmas.proofs.Contains.{get_contains}
+use Rattle.lemmas.proofs.SliceGet.{map_got}
 use Rattle.operators.specs.declared.Binary.{Binary}
 use Rattle.semantics.specs.declared.program.Op.TheVariants.{Apply2Right, Apply2Left}
 use Rattle.semantics.specs.Program.{Instr, CodeBlock}
@@ -15,11 +18,9 @@ use Rattle.folding.specs.Moved.{moved}
 use Rattle.folding.specs.Folded.{left_from, folded_block, folded_blocks, folded}
 use Rattle.folding.proofs.Standing.{stands_at, comes_from}
 use Rattle.folding.proofs.Held.{slot_any}
-use Rattle.folding.proofs.SoundLists.{get_contains, all_get}
 use Rattle.folding.proofs.Cases.{value_at, FoldCase, is_kept, is_right, is_left, fold_cases}
 use Rattle.law_fold.specs.Kept.{slotted, kept_block, kept_slots}
 use Rattle.law_renumber.specs.Renumbers.{IsRenumbered, HoldsIn, RenumbersBlock, Renumbers}
-use Rattle.law_reuse.proofs.Stands.{some_same}
 use Rattle.law_renumber.proofs.Holders.{Keeps, holders_apart}
 
 length_left : {X Y : Type 0} (l : Layout) (f : ℕ → Instr → X) (g : ℕ → Instr → Y) (n : ℕ) (is : List Instr) → length (left_from l f n is) ≡ length (left_from l g n is)
@@ -46,7 +47,7 @@ module _ (p : Plan) (c : CodeBlock) where
   slot_kept n i r at holds = go (fold_cases p c n)
     where
       op_of : (j : Instr) → slice_get c.instrs n ≡ Some j → j.op ≡ i.op
-      op_of j there = ap (λ (x : Instr). x.op) (some_same j i (sym there ∙ at))
+      op_of j there = ap (λ (x : Instr). x.op) (same_Some j i (sym there ∙ at))
 
       go : FoldCase p c n → (is_folded (folds_at l n) ≡ false) × (slot_of i i.op ≡ Some r) × (i.slot ≡ r)
       go (is_kept K) =
@@ -94,20 +95,13 @@ length_mapped : {X Y Z : Type 0} (f : X → Y) (g : X → Z) (xs : List X) → l
 length_mapped f g [] = refl
 length_mapped f g (x ∷ xs) = ap suc (length_mapped f g xs)
 
-mapped_back : {X Y : Type 0} (f : X → Y) (xs : List X) (n : ℕ) (y : Y) → slice_get (map f xs) n ≡ Some y → (x : X) × (slice_get xs n ≡ Some x) × (y ≡ f x)
-mapped_back {X = X} {Y = Y} f xs n y at = go (slice_get xs n) refl
-  where
-    go : (o : Option X) → slice_get xs n ≡ o → (x : X) × (slice_get xs n ≡ Some x) × (y ≡ f x)
-    go None e = absurd (let d : None ≡ Some y = sym (slice_get-map f xs n ∙ ap (option_map f) e) ∙ at in cc)
-    go (Some x) e = (x, e, some_same y (f x) (sym at ∙ slice_get-map f xs n ∙ ap (option_map f) e))
-
 pub folded_renumbers : (p : Plan) → IsSound p → Renumbers (kept_slots p) (folded p)
 folded_renumbers p s = record {
   hold = hold_of p;
   same = refl;
   blocks = record {
     count = length_mapped (folded_block p) (kept_block p) p.program.blocks;
-    blocks = λ b k at. by_block b k (mapped_back (kept_block p) p.program.blocks b k at);
+    blocks = λ b k at. by_block b k (map_got (kept_block p) p.program.blocks b k at);
   };
 }
   where
@@ -117,5 +111,5 @@ folded_renumbers p s = record {
       folded_block p c,
       slice_get-map (folded_block p) p.program.blocks b ∙ ap (option_map (folded_block p)) at,
       subst (λ (x : CodeBlock). RenumbersBlock (hold_of p b) x (folded_block p c)) (sym is)
-          (subst (λ (o : Option CodeBlock). RenumbersBlock (hold_in p o) (kept_block p c) (folded_block p c)) (sym at) (block_renumbered p c (all_get IsPlanBlock p.program.blocks b c s.wired.plan.blocks at))),
+          (subst (λ (o : Option CodeBlock). RenumbersBlock (hold_in p o) (kept_block p c) (folded_block p c)) (sym at) (block_renumbered p c (all_at IsPlanBlock p.program.blocks b c s.wired.plan.blocks at))),
     )

@@ -1,9 +1,10 @@
 -- The holders that instructions of a folded block still have are numbered apart.
-use Rattle.std.proofs.Common.{◌≡◌, refl, sym, ap, ◌∙◌, ℕ, zero, suc, ◌+◌, ◌<◌, ◌≤◌, ◌⊎◌, inl, inr, Bool, true, false, true≢false, ◌&&◌, List, [], ◌∷◌, length, replicate, Some, if◌then◌else◌, arith}
+use Rattle.std.proofs.Common.{◌≡◌, refl, sym, ap, ◌∙◌, ℕ, suc, ◌+◌, ◌<◌, ◌≤◌, ◌⊎◌, inl, inr, Bool, true, false, true≢false, ◌&&◌, List, [], ◌∷◌, length, replicate, Some, if◌then◌else◌, arith}
 use Rattle.std.specs.Prelude.{slice_get, slice_set, slice_index_or}
 use Rattle.std.proofs.lemmas.Bool.{cases_eq, cases_lt}
 use Rattle.std.proofs.lemmas.Option.{get_or_from_slice_get}
 use Rattle.std.proofs.lemmas.List.{get_or-set_other, length-replicate}
+use Rattle.lemmas.proofs.Lists.{each_of_falses}
 use Rattle.operators.specs.declared.Binary.{Binary}
 use Rattle.semantics.specs.declared.program.Op.TheVariants.{Apply2}
 use Rattle.semantics.specs.Program.{Instr, CodeBlock}
@@ -22,11 +23,6 @@ before_apart gs g h a b s t e = pick (cases_lt g h) (cases_lt h g)
     pick (inl l) o = let k = before_grows gs g h l a s in absurd (omega (arith, k, e))
     pick (inr l) (inl o) = let k = before_grows gs h g o b t in absurd (omega (arith, k, e))
     pick (inr l) (inr o) = omega (arith, l, o)
-
-none_freed : (n k : ℕ) → slice_index_or (replicate n false) k false ≡ false
-none_freed zero k = refl
-none_freed (suc n) zero = refl
-none_freed (suc n) (suc k) = none_freed n k
 
 module _ (p : Plan) (c : CodeBlock) where
   -- the holder was freed before, or that of a folded instruction
@@ -79,7 +75,7 @@ module _ (p : Plan) (c : CodeBlock) where
             by_one k j o is folded (one k K.n r j K.i there K.there holds K.holds)
 
         found : Freed (replicate c.slots false) 0 c.instrs r → ⊥
-        found (inl e) = absurd (true≢false (sym e ∙ none_freed c.slots r))
+        found (inl e) = absurd (true≢false (sym e ∙ each_of_falses c.slots r))
         found (inr (k, j, there, folded, s)) =
             let z : 0 + k ≡ k = omega arith in
             let f : is_folded (folds_at (layout_of p c) k) ≡ true = sym (ap (λ m. is_folded (fold_at (folds_of p c) m)) z) ∙ folded in

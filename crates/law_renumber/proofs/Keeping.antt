@@ -2,6 +2,8 @@
 use Rattle.std.proofs.Common.{◌≡◌, refl, sym, ap, ◌∙◌, subst, ℕ, ◌+◌, ◌<◌, ◌≤◌, inl, inr, Bool, false, ℤ, arith, List, [], ◌∷◌, ◌++◌, length, Option, Some, None, Contains}
 use Rattle.std.specs.Prelude.{slice_get, count_by}
 use Rattle.std.proofs.lemmas.List.Sorted.{Contains-permutation, IsPermutation-sym, length_permutation}
+use Rattle.std.proofs.lemmas.List.{nil_from_length}
+use Rattle.std.proofs.lemmas.Option.{same_Some}
 use Rattle.tags.specs.declared.value.Value.{Value}
 use Rattle.tags.specs.declared.token.Port.TheVariants.{Left}
 use Rattle.tags.specs.declared.token.Cont.{Cont}
@@ -19,7 +21,6 @@ use Rattle.semantics.specs.Machine.{CellState, Machine, Size, Events, Wants, rea
 use Rattle.semantics.specs.Cause.{seeks_credit, is_credit_event, credit_count}
 use Rattle.semantics.specs.Plan.{Plan, landing}
 use Rattle.semantics.specs.Orderly.{Orderly, IsStart, met, often}
-use Rattle.law_reuse.proofs.Stands.{some_same}
 use Rattle.law_reuse.proofs.History.{taken}
 use Rattle.law_once.specs.Alike.{LooksAlike, RunsAlike, offset_of, HasLanding, LandsRightly, plain_dests, IsTidy}
 use Rattle.law_renumber.specs.Renumbers.{RenumbersAll, with_blocks}
@@ -28,10 +29,6 @@ use Rattle.law_renumber.proofs.Places.{Located, Nowhere, There, located, block_b
 use Rattle.law_renumber.proofs.Runs.{Tied, Twin, twin}
 use Rattle.law_renumber.proofs.Orders.{T, slot_is, slots_empty, was_met, orderly_run}
 use Rattle.law_renumber.proofs.Credits.{bounds_kept}
-
-nil_length : {X : Type 0} (xs : List X) → length xs ≡ 0 → xs ≡ []
-nil_length [] e = refl
-nil_length (x ∷ xs) e = absurd (omega (arith, e))
 
 waiter_full : (s : SlotState) (c : Cont) → s ≡ Waiter c → s ≡ Empty → ⊥
 waiter_full s c e f = absurd (let d : Waiter c ≡ Empty = sym e ∙ f in cc)
@@ -51,7 +48,7 @@ module _ (p : Plan) (ds : List CodeBlock) (hold : ℕ → ℕ → ℕ) (R : Renu
     outputs = λ j. sym (ap (λ (o : ℕ → Option Value). o j) K.same.outputs);
     cells = λ x. sym (ap (λ (y : ℕ → CellState). value_in (y x)) K.same.cells);
     readers = λ x. sym (ap (λ (y : ℕ → CellState). reader_count (y x)) K.same.cells);
-    rests = λ rest. nil_length u.pool (sym (length_permutation u.pool m.pool K.pool) ∙ ap length rest);
+    rests = λ rest. nil_from_length u.pool (sym (length_permutation u.pool m.pool K.pool) ∙ ap length rest);
     wants = wants;
     second_store = λ x some. (some.0, some.1, some.2, Contains-permutation m.pool u.pool _ (IsPermutation-sym _ _ K.pool) some.3, ap (λ (y : ℕ → CellState). y x) K.same.cells ∙ some.4);
     clean = λ C. record {
@@ -125,7 +122,7 @@ module _ (p : Plan) (ds : List CodeBlock) (hold : ℕ → ℕ → ℕ) (R : Renu
       go : Located hold P.blocks ds ip → HasLanding q base o
       go (Nowhere x y) = absurd (let e : Some j ≡ None = sym at ∙ y in cc)
       go (There b n c d i k at_b at_d at_n at_k B I at_p at_q place) =
-          let same : k ≡ j = some_same k j (sym at_q ∙ at) in
+          let same : k ≡ j = same_Some k j (sym at_q ∙ at) in
           landing_there base o (lands inputs z events W.last (old_start z inputs start) W.run W.once f ip g base o r i at_p (ap offset_of (sym I.op ∙ ap (λ (x : Instr). x.op) same) ∙ off) was)
 
   plain_same : (i j : Instr) (op : Op) → j.firsts ≡ i.firsts → j.seconds ≡ i.seconds → plain_dests j op ≡ plain_dests i op

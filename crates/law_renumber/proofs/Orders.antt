@@ -3,6 +3,7 @@ use Rattle.std.proofs.Common.{◌≡◌, refl, sym, ap, ◌∙◌, subst, ℕ, �
 use Rattle.std.specs.Prelude.{slice_get, nat_lt, ◌==◌}
 use Rattle.std.proofs.lemmas.List.Elements.{Contains-append_right}
 use Rattle.std.proofs.lemmas.List.Sorted.{Contains-permutation, IsPermutation-sym, IsPermutation-trans, IsPermutation-append_right, sum_by-IsPermutation}
+use Rattle.std.proofs.lemmas.Option.{same_Some}
 use Rattle.tags.specs.declared.token.Port.{Port}
 use Rattle.tags.specs.declared.token.Port.TheVariants.{Right}
 use Rattle.tags.specs.declared.token.Cont.{Cont}
@@ -24,7 +25,6 @@ use Rattle.semantics.specs.Handed.{UsesEachOnce}
 use Rattle.semantics.specs.Orderly.{NamesSlot, readers_of, IsFreeAtRelease, met, is_at, IsMarked, Orderly, IsStart, IsOrderlyRun}
 use Rattle.law_reuse.proofs.PlacedCode.{empty_or}
 use Rattle.law_reuse.proofs.OtherEvents.{Same}
-use Rattle.law_reuse.proofs.Stands.{some_same}
 use Rattle.law_reuse.proofs.Fillings.{at_port}
 use Rattle.law_reuse.proofs.History.{taken, ports_of}
 use Rattle.law_renumber.specs.Renumbers.{RenumbersAll, with_blocks}
@@ -82,7 +82,7 @@ module _ (p : Plan) (ds : List CodeBlock) (hold : ℕ → ℕ → ℕ) (R : Renu
       go : Located hold P.blocks ds (first_of P U.b + U.x.from) → UsesArc q f ip r (token to w) made new
       go (Nowhere x y) = absurd (let e : Some U.i ≡ None = sym U.fired ∙ x in cc)
       go (There b n c d i j at_b at_d at_n at_j B I at_p at_q place) =
-          let same : i ≡ U.i = some_same i U.i (sym at_p ∙ U.fired) in
+          let same : i ≡ U.i = same_Some i U.i (sym at_p ∙ U.fired) in
           let op : (k : ℕ) → U.i.op ≡ Give k → new.store.slots f j.slot ≡ old.store.slots f U.i.slot = λ (k : ℕ) (e : U.i.op ≡ Give k).
           (let mine : i.op ≡ Give k = ap (λ (i : Instr). i.op) same ∙ e in
           let yours : j.op ≡ Give k = I.op ∙ mine in

@@ -1,7 +1,7 @@
 -- Where the instructions of a plan stand once its holders have other numbers: where they stood.
 use Rattle.std.proofs.Common.{◌≡◌, refl, sym, ap, ◌∙◌, subst, zero-add, ℕ, zero, suc, ◌+◌, ◌-◌, ◌<◌, ◌≤◌, ◌⊎◌, inl, inr, Bool, true, false, List, [], ◌∷◌, ◌++◌, length, get_or, Option, Some, None, ltb-true, ltb-false, if◌then◌else◌, arith, flat_map}
 use Rattle.std.specs.Prelude.{slice_get, nat_lt}
-use Rattle.std.proofs.lemmas.Option.{slice_get_within, slice_get_cases}
+use Rattle.std.proofs.lemmas.Option.{slice_get_within, slice_get_cases, same_Some}
 use Rattle.semantics.specs.declared.program.Dest.{Dest}
 use Rattle.semantics.specs.declared.program.Op.{Op}
 use Rattle.semantics.specs.declared.program.Op.TheVariants.{Link}
@@ -10,7 +10,7 @@ use Rattle.semantics.specs.Machine.{results_in, outputs_of}
 use Rattle.semantics.specs.Plan.{Plan, landing_in, landing}
 use Rattle.semantics.specs.Sharing.{Arc, row, arcs_to, arcs_from, arcs_of, arcs_in}
 use Rattle.semantics.specs.Orderly.{often, is_entry, same_block, inputs_in, inputs_of}
-use Rattle.law_reuse.proofs.Stands.{some_same, first_in, first_next}
+use Rattle.semantics.proofs.BlockPlaces.{first_in, first_next}
 use Rattle.law_renumber.specs.Renumbers.{IsRenumbered, RenumbersBlock, RenumbersAll, with_blocks}
 
 -- something is at a place of a list, or nothing
@@ -46,7 +46,7 @@ later hold c d cs ds R = record { count = (let e = R.count in omega (arith, e));
 
 -- the first one
 here : (hold : ℕ → ℕ → ℕ) (c d : CodeBlock) (cs ds : List CodeBlock) → RenumbersAll hold (c ∷ cs) (d ∷ ds) → RenumbersBlock (hold 0) c d
-here hold c d cs ds R = let r = R.blocks 0 c refl in subst (λ (x : CodeBlock). RenumbersBlock (hold 0) c x) (sym (some_same d r.0 r.1)) r.2
+here hold c d cs ds R = let r = R.blocks 0 c refl in subst (λ (x : CodeBlock). RenumbersBlock (hold 0) c x) (sym (same_Some d r.0 r.1)) r.2
 
 none_long : (hold : ℕ → ℕ → ℕ) (c : CodeBlock) (cs : List CodeBlock) → RenumbersAll hold (c ∷ cs) [] → ⊥
 none_long hold c cs R = let e = R.count in omega (arith, e)
@@ -141,13 +141,13 @@ pub block_back : (hold : ℕ → ℕ → ℕ) (cs ds : List CodeBlock) → Renum
 block_back hold cs ds R b d at =
     let c = got cs ds b d R.count at in
     let r = R.blocks b c.0 c.1 in
-    (c.0, c.1, subst (RenumbersBlock (hold b) c.0) (some_same r.0 d (sym r.1 ∙ at)) r.2)
+    (c.0, c.1, subst (RenumbersBlock (hold b) c.0) (same_Some r.0 d (sym r.1 ∙ at)) r.2)
 
 pub instr_back : (hold : ℕ → ℕ) (c d : CodeBlock) → RenumbersBlock hold c d → (n : ℕ) (j : Instr) → slice_get d.instrs n ≡ Some j → (i : Instr) × (slice_get c.instrs n ≡ Some i) × IsRenumbered hold i j
 instr_back hold c d B n j at =
     let i = got c.instrs d.instrs n j B.size at in
     let r = B.instrs n i.0 i.1 in
-    (i.0, i.1, subst (IsRenumbered hold i.0) (some_same r.0 j (sym r.1 ∙ at)) r.2)
+    (i.0, i.1, subst (IsRenumbered hold i.0) (same_Some r.0 j (sym r.1 ∙ at)) r.2)
 
 -- ---- THE SAME ARCS
 
@@ -165,7 +165,7 @@ module _ (p q : Plan) (lands : (b : ℕ) → landing q b ≡ landing p b) where
   arcs_same hold n (i ∷ is) [] l same = absurd (omega (arith, l))
   arcs_same hold n (i ∷ is) (j ∷ js) l same =
       let r = same 0 i refl in
-      let R : IsRenumbered hold i j = subst (IsRenumbered hold i) (sym (some_same j r.0 r.1)) r.2 in
+      let R : IsRenumbered hold i j = subst (IsRenumbered hold i) (sym (same_Some j r.0 r.1)) r.2 in
       let one : arcs_from q n j j.op ≡ arcs_from p n i i.op = ap (arcs_from q n j) R.op ∙ from_same n i j i.op R.firsts R.seconds in
       (λ k. one k ++ arcs_of q (n + 1) js) ∙ ap (λ (l : List Arc). arcs_from p n i i.op ++ l) (arcs_same hold (n + 1) is js (omega (arith, l)) (λ m. same (suc m)))
 

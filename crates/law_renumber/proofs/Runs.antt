@@ -5,6 +5,9 @@ use Rattle.std.specs.Prelude.{slice_get, ⊤}
 use Rattle.std.proofs.lemmas.Bool.{cases_eq}
 use Rattle.std.proofs.lemmas.List.Elements.{Contains-append_left, Contains-append_right, Contains-push}
 use Rattle.std.proofs.lemmas.List.Sorted.{Contains-permutation, IsPermutation-refl, IsPermutation-sym, IsPermutation-trans}
+use Rattle.std.proofs.lemmas.Option.{same_Some}
+use Rattle.lemmas.proofs.Contains.{contains_head}
+use Rattle.lemmas.proofs.Lists.{map_append}
 use Rattle.tags.specs.declared.token.Port.{Port}
 use Rattle.tags.specs.declared.token.Port.TheVariants.{Left}
 use Rattle.tags.specs.declared.token.Cont.{Cont}
@@ -19,15 +22,13 @@ use Rattle.semantics.specs.Machine.{Machine, Store as MStore, Size, Event, Event
 use Rattle.semantics.specs.Plan.{Plan}
 use Rattle.semantics.specs.Handed.{handed_by, handed, EachOnce, UsesEachOnce}
 use Rattle.semantics.specs.Orderly.{Orderly, IsStart, IsOrderlyRun}
-use Rattle.law_reuse.proofs.Fold.{map_append}
 use Rattle.law_reuse.proofs.Snoc.{run_snoc, handed_snoc}
 use Rattle.law_reuse.proofs.OtherEvents.{Same, Carried}
-use Rattle.law_reuse.proofs.Stands.{some_same, Stands}
+use Rattle.law_reuse.proofs.Stands.{Stands}
 use Rattle.law_reuse.proofs.Fillings.{at_port, later_on}
 use Rattle.law_reuse.proofs.UsedArcs.{Ports, one_frame}
 use Rattle.law_reuse.proofs.History.{taken, ports_of}
 use Rattle.law_reuse.proofs.OnceRuns.{once_before}
-use Rattle.law_reuse.proofs.Members.{contains_head}
 use Rattle.law_renumber.specs.Renumbers.{RenumbersAll, with_blocks}
 use Rattle.law_renumber.proofs.Places.{Located, Nowhere, There, located, first_is}
 use Rattle.law_renumber.proofs.Events.{held, slot_held, Agrees, agrees_idle, Answered, instr_answered, other_carried}
@@ -76,7 +77,7 @@ frame_agrees p hold ts pool P f b n c i r w new old at_b at_n inside (inr B) =
     let one : Stands p.program B.b B.n B.i = record { code = B.c; block = B.block; instr = B.instr } in
     let two : Stands p.program b n i = record { code = c; block = at_b; instr = at_n } in
     let same : B.b ≡ b = one_frame p ts pool P f B.b b B.n n B.i i B.r r B.w w one two (Contains-append_left ts pool (at_port p.program f B.b B.n B.r B.w) B.came) inside in
-    let code : B.c ≡ c = some_same B.c c (sym B.block ∙ ap (slice_get p.program.blocks) same ∙ at_b) in
+    let code : B.c ≡ c = same_Some B.c c (sym B.block ∙ ap (slice_get p.program.blocks) same ∙ at_b) in
     subst (λ (b : ℕ). Agrees (hold b) c new old) same (subst (λ (c : CodeBlock). Agrees (hold B.b) c new old) code B.agrees)
 
 -- ---- TWO RUNS SIDE BY SIDE

@@ -1,13 +1,14 @@
 -- Lists of contexts in which none stands twice: those of a list, each once, and that no more of them fit into another list than it has.
-use Rattle.std.proofs.Common.{◌≡◌, ℕ, zero, suc, ◌+◌, ◌<◌, ◌≤◌, Bool, true, false, ◌&&◌, ◌⊎◌, inl, inr, List, [], ◌∷◌, length, map, Some, if◌then◌else◌, refl, sym, ap, ◌∙◌, subst, arith, true≢false}
+use Rattle.std.proofs.Common.{◌≡◌, ℕ, zero, suc, ◌+◌, ◌<◌, ◌≤◌, Bool, true, false, ◌⊎◌, inl, inr, List, [], ◌∷◌, length, map, Some, if◌then◌else◌, refl, sym, ap, ◌∙◌, subst, arith, true≢false}
 use Rattle.std.specs.Prelude.{Contains, slice_get, slice_index_or, count_by}
+use Rattle.std.proofs.lemmas.Option.{same_Some}
+use Rattle.lemmas.proofs.Contains.{contains_cases, contains_head, contains_mapped, contains_none, contains_tail, get_contains}
 use Rattle.semantics.specs.Meaning.{Context, Main}
 use Rattle.law_net.specs.Roles.{one, total}
-use Rattle.law_net.proofs.Members.{contains_head, contains_tail, contains_cases, contains_none}
 use Rattle.law_contexts.specs.Parts.{Entry, inlet, Item, item, signal, Spot, spot_of, same_inlet, same_context}
 use Rattle.tags.specs.declared.token.Port.TheVariants.{Left}
-use Rattle.law_arms.proofs.Sends.{contains_map}
-use Rattle.law_arms.proofs.Sames.{hits_at, same_context-true, same_context-refl}
+use Rattle.law_net.proofs.Orders.{one_of_both}
+use Rattle.law_contexts.proofs.Sames.{hits_at, same_context-true, same_context-refl}
 use Rattle.law_arms.proofs.Nets.{count_total}
 use Rattle.law_arms.proofs.Pigeons.{few_pigeons}
 
@@ -97,28 +98,19 @@ once_apart (x ∷ xs) c = go (has x (each_once xs)) refl (once_apart xs c)
         pick true s = let n = has_not x (each_once xs) e in let same = ap (λ (d : Context). often d (each_once xs)) (same_context-true c x s) in omega (arith, n, same)
         pick false s = omega (arith, more)
 
--- so two places have two contexts
-there : (xs : List Context) (j : ℕ) (c : Context) → slice_get xs j ≡ Some c → Contains xs c
-there [] j c f = absurd (cc)
-there (y ∷ ys) zero c f = let same : y ≡ c = cc in subst (λ (z : Context). Contains (y ∷ ys) z) same (contains_head y ys)
-there (y ∷ ys) (suc j) c f = contains_tail y ys c (there ys j c f)
-
 twice : (x : Context) (xs : List Context) → Apart (x ∷ xs) → (j : ℕ) (c : Context) → x ≡ c → slice_get xs j ≡ Some c → ⊥
 twice x xs few j c same f =
     let a = few c in let b = ap (λ (d : Context). one (same_context c d)) same ∙ ap one (same_context-refl c) in
-    let d = often_some c xs (there xs j c f) in omega (arith, a, b, d)
-
-some_context : (x c : Context) → Some x ≡ Some c → x ≡ c
-some_context x c e = cc
+    let d = often_some c xs (get_contains xs j c f) in omega (arith, a, b, d)
 
 pub places_apart : (xs : List Context) → Apart xs → (i j : ℕ) (c : Context) → slice_get xs i ≡ Some c → slice_get xs j ≡ Some c → i ≡ j
 places_apart [] few i j c e f = absurd (cc)
 places_apart (x ∷ xs) few zero zero c e f = refl
 places_apart (x ∷ xs) few (suc i) (suc j) c e f = ap suc (places_apart xs (λ d. let a = few d in omega (arith, a)) i j c e f)
-places_apart (x ∷ xs) few zero (suc j) c e f = absurd (twice x xs few j c (some_context x c e) f)
-places_apart (x ∷ xs) few (suc i) zero c e f = absurd (twice x xs few i c (some_context x c f) e)
+places_apart (x ∷ xs) few zero (suc j) c e f = absurd (twice x xs few j c (same_Some x c e) f)
+places_apart (x ∷ xs) few (suc i) zero c e f = absurd (twice x xs few i c (same_Some x c f) e)
 
--- NO MORE FIT than there are
+-- NO MORE FIT than get_contains are
 abbrev passing : (Context → Bool) → List Context → List Context
 passing test [] = []
 passing test (x ∷ xs) = if test x then x ∷ passing test xs else passing test xs
@@ -149,14 +141,9 @@ spot_for c = record { context = c; inlet = inlet Entry Left 0 }
 abbrev bird : Context → Item
 bird c = item c (inlet Entry Left 0) signal
 
-less : (t u : Bool) → one (t && u) ≤ one t
-less true true = omega arith
-less true false = omega arith
-less false u = omega arith
-
 birds_apart : (x : Spot) (xs : List Context) → hits_at x (map bird xs) ≤ often x.context xs
 birds_apart x [] = omega arith
-birds_apart x (c ∷ xs) = let more = birds_apart x xs in let a = less (same_context x.context c) (same_inlet x.inlet (inlet Entry Left 0)) in omega (arith, more, a)
+birds_apart x (c ∷ xs) = let more = birds_apart x xs in let a = one_of_both (same_context x.context c) (same_inlet x.inlet (inlet Entry Left 0)) in omega (arith, more, a)
 
 birds_length : (xs : List Context) → total (λ (i : Item). one true) (map bird xs) ≡ length xs
 birds_length [] = refl
@@ -170,7 +157,7 @@ fit_in test xs zs few all =
   where
     at : (i : Item) → Contains (map bird xs) i → true ≡ true → (k : ℕ) × (k < length (passing test zs)) × (spot_of i ≡ spot_for (slice_index_or (passing test zs) k Main))
     at i h t =
-        let c = contains_map bird xs i h in
+        let c = contains_mapped bird xs i h in
         let m = all c.0 c.1 in
         let k = passing_at test zs c.0 m.0 m.1 in
         (k.0, k.1, ap spot_of (sym c.2) ∙ ap spot_for (sym k.2))

@@ -10,7 +10,9 @@ use Rattle.semantics.specs.Graph.{Node, Block, Flow, node_at}
 use Rattle.semantics.specs.Plan.{Plan}
 use Rattle.semantics.specs.Meaning.{Context, Turned, AtNode, AtTurn, Operand, Predicate, Flag, Tagged, tagged, taken, Stood, start, block_of, arm_of, HadTrueFlag}
 use Rattle.semantics.specs.Machine.{Machine}
-use Rattle.law_determinacy.proofs.Perm.{Within}
+use Rattle.lemmas.proofs.Permutations.{Within}
+use Rattle.lemmas.proofs.Contains.{contains_head}
+use Rattle.semantics.proofs.Lines.{same_arm}
 use Rattle.law_determinacy.proofs.History.{run_lawful}
 use Rattle.law_determinacy.proofs.Due.{ever_stood}
 use Rattle.law_determinacy.proofs.Laws.{Tokens, Lawful}
@@ -33,13 +35,6 @@ use Rattle.law_rest.proofs.Stores.{fits_main}
 use Rattle.law_rest.proofs.Waits.{carries}
 use Rattle.law_rest.proofs.Forward.{At, feeder, decided_comes}
 use Rattle.law_rest.proofs.Story.{story, ever_told}
-use Rattle.law_net.proofs.Members.{contains_head}
-
-some_line : (a b : Node ℕ) → Some a ≡ Some b → a ≡ b
-some_line a b e = cc
-
-same_arm : (i j : ℕ) (s t : Bool) → Arm i s ≡ Arm j t → i ≡ j
-same_arm i j s t e = cc
 
 module _ (stage : ℕ) (fl : Flow) (p : Plan) (w : Wires) (inputs : List ℤ) (past : Past) (m : Machine) (good : IsGood stage fl p w) (fit : InputsFit fl inputs) (kept : Keeps fl p w inputs past m) where
   abbrev done : List Firing

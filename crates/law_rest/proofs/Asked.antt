@@ -2,6 +2,7 @@
 use Rattle.std.proofs.Common.{◌≡◌, ℕ, ◌+◌, ◌≤◌, ℤ, Bool, true, false, not, ◌⊎◌, inl, inr, List, [], ◌∷◌, ◌++◌, length, map, Option, Some, None, if◌then◌else◌, ltb-true, eqb-true, refl, sym, ap, ◌∙◌, arith, true≢false}
 use Rattle.std.specs.Prelude.{Contains, count_by, flat_map}
 use Rattle.std.proofs.lemmas.List.Elements.{Contains-append_cases, Contains-append_left, Contains-append_right}
+use Rattle.lemmas.proofs.Contains.{contains_cases, contains_head, contains_none, contains_tail, contains_flat_mapped}
 use Rattle.tags.specs.declared.token.Port.{Port}
 use Rattle.tags.specs.declared.token.Port.TheVariants.{Left, Right}
 use Rattle.tags.specs.declared.token.To.{To}
@@ -17,7 +18,6 @@ use Rattle.semantics.specs.Machine.{Machine}
 use Rattle.semantics.specs.Cause.{is_request, seeks_credit, is_credit_event, is_turn}
 use Rattle.law_net.specs.Roles.{one, total}
 use Rattle.law_net.proofs.Orders.{total-append, total-map, total-IsPermutation}
-use Rattle.law_net.proofs.Members.{contains_head, contains_tail, contains_cases, contains_none}
 use Rattle.law_contexts.specs.Parts as Parts
 use Rattle.law_contexts.specs.Parts.{Part, Line, Opener, Taker, Asked, NextAsked, Held, Item, Spot, spot_of, same_spot, same_context}
 use Rattle.law_contexts.specs.Blocks.{Site, there_in, op_of, kind_op, line_op, is_loop}
@@ -27,7 +27,7 @@ use Rattle.law_contexts.specs.Firings.{Config}
 use Rattle.law_contexts.specs.Stands.{Past, ip_of, to_of, token_of, is_held, is_cell_token, but_cells, events_taken, only, came}
 use Rattle.law_contexts.specs.Theorem.{IsGood}
 use Rattle.law_contexts.specs.Packages.{Keeps}
-use Rattle.law_arms.proofs.Sames.{hits_at, same_context-true}
+use Rattle.law_contexts.proofs.Sames.{hits_at, same_context-true}
 use Rattle.law_arms.proofs.Nets.{all_of, count_total, came_all, came_total, cells_apart, only_contains, only_total, one_passes, once_all}
 use Rattle.law_arms.proofs.Comes.{laid, instr_here, fits_in}
 use Rattle.law_rest.specs.Counted.{frame_for, credit_for, frames, credits, IsCounted}
@@ -49,14 +49,6 @@ flat_length f (x ∷ xs) = let a = both (f x) (flat_map f xs) in let more = flat
     both : (ds es : List Context) → length (ds ++ es) ≡ length ds + length es
     both [] es = omega arith
     both (d ∷ ds) es = let more = both ds es in omega (arith, more)
-
-flat_back : (f : Item → List Context) (xs : List Item) (c : Context) → Contains (flat_map f xs) c → (i : Item) × Contains xs i × Contains (f i) c
-flat_back f [] c h = absurd (contains_none c h)
-flat_back f (x ∷ xs) c h = pick (Contains-append_cases (f x) (flat_map f xs) c h) (flat_back f xs c)
-  where
-    pick : Contains (f x) c ⊎ Contains (flat_map f xs) c → (Contains (flat_map f xs) c → (i : Item) × Contains xs i × Contains (f i) c) → (i : Item) × Contains (x ∷ xs) i × Contains (f i) c
-    pick (inl d) more = (x, contains_head x xs, d)
-    pick (inr d) more = let m = more d in (m.0, contains_tail x xs m.0 m.1, m.2)
 
 count_all : (xs : List Context) → count_by (λ (c : Context). true) xs ≡ length xs
 count_all xs = count_total (λ c. true) xs ∙ go xs
@@ -328,11 +320,11 @@ module _ (stage : ℕ) (fl : Flow) (p : Plan) (w : Wires) (inputs : List ℤ) (q
       }
     where
       turn : (c : Context) → Contains all_credits c → is_turn c ≡ true
-      turn c h = let i = flat_back credits (came fl net) c h in credits_turn c i.0.context i.0.inlet.part i.0.inlet.way i.2
+      turn c h = let i = contains_flat_mapped credits (came fl net) c h in credits_turn c i.0.context i.0.inlet.part i.0.inlet.way i.2
 
       comes : (c : Context) → Contains all_frames c ⊎ Contains all_credits c → (i : Item) × Contains (all_of fl net) i × (Contains (frames fl i) c ⊎ Contains (credits i) c)
-      comes c (inl h) = let i = flat_back (frames fl) (came fl net) c h in (i.0, came_all fl net i.0 i.1, inl i.2)
-      comes c (inr h) = let i = flat_back credits (came fl net) c h in (i.0, came_all fl net i.0 i.1, inr i.2)
+      comes c (inl h) = let i = contains_flat_mapped (frames fl) (came fl net) c h in (i.0, came_all fl net i.0 i.1, inl i.2)
+      comes c (inr h) = let i = contains_flat_mapped credits (came fl net) c h in (i.0, came_all fl net i.0 i.1, inr i.2)
 
       request_cells : (t : Token) → is_cell_token t ≡ true → is_request t.to ≡ false
       request_cells t e = go t.to e

@@ -10,7 +10,7 @@ use Rattle.semantics.specs.Graph.{Node, Block, Flow, node_at, node_count}
 use Rattle.semantics.specs.Plan.{Plan}
 use Rattle.semantics.specs.Meaning.{Context, block_of, block_number, block_numbered, arm_of, arms_round, arms_at, ArmsTaken, callee}
 use Rattle.semantics.specs.Machine.{Machine}
-use Rattle.law_determinacy.proofs.Rows.{Gate, Join, Telling, class_of, class_node, class_in, class_at, region_node, region_in}
+use Rattle.law_determinacy.proofs.Rows.{Gate, Join, Telling, class_of, class_node, class_in, class_at, region_node, region_in, region_is_arm}
 use Rattle.law_determinacy.proofs.Laws.{ArmLaw, IsLineWell, well_at}
 use Rattle.law_determinacy.proofs.Grounds.{own_arm, node_class}
 use Rattle.law_contexts.specs.Blocks.{is_kind, enter_kind, lies_in}
@@ -27,10 +27,6 @@ use Rattle.law_over.proofs.Sorts.{laws}
 use Rattle.law_over.proofs.Open.{arm_decided, arm_round}
 use Rattle.law_contexts.specs.Operands.{SourcesAreEarlier}
 use Rattle.law_rest.proofs.Arms.{Ever, Stood', stood_of, lawful, enter_stood}
-
-region_is : (o : Option (Node ℕ)) → region_node o ≡ arm_of o
-region_is None = refl
-region_is (Some line) = refl
 
 telling_cond : (k : Kind ℕ) → class_of k ≡ Telling → k ≡ Cond
 telling_cond Cond e = refl
@@ -114,8 +110,8 @@ module _ (stage : ℕ) (fl : Flow) (p : Plan) (w : Wires) (inputs : List ℤ) (p
             → ((n k : ℕ) (t : Bool) (line : Node ℕ) → n < fuel → node_at b n ≡ Some line → line.region ≡ Arm k t → EnterIn k t) → EnterIn k t
         by_sides j telling region s s_low (inr (z, x)) more = absurd (omega (arith, z))
         by_sides j telling region s s_low (inl (z, x)) more =
-            let j_low = ((laws stage fl p w good c con).arms.rounds s.node j true (sym (region_is (node_at b s.node)) ∙ x)).0 in
-            let (other, at, lies) = node_there j k t (sym (region_is (node_at b j)) ∙ region ∙ r) in
+            let j_low = ((laws stage fl p w good c con).arms.rounds s.node j true (sym (region_is_arm (node_at b s.node)) ∙ x)).0 in
+            let (other, at, lies) = node_there j k t (sym (region_is_arm (node_at b j)) ∙ region ∙ r) in
             more j k t other (omega (arith, low, s_low, j_low)) at lies
 
         by_class : Classed line.kind → ((n k : ℕ) (t : Bool) (line : Node ℕ) → n < fuel → node_at b n ≡ Some line → line.region ≡ Arm k t → EnterIn k t) → EnterIn k t
@@ -127,7 +123,7 @@ module _ (stage : ℕ) (fl : Flow) (p : Plan) (w : Wires) (inputs : List ℤ) (p
         by_class (IsOther g j) more =
             let (s, first) = first_there line.sources (sourced n line e) in
             let s_low = source_low n 0 line s e first in
-            let (other, at, lies) = node_there s.node k t (sym (region_is (node_at b s.node)) ∙ well.plain g j 0 s first ∙ r) in
+            let (other, at, lies) = node_there s.node k t (sym (region_is_arm (node_at b s.node)) ∙ well.plain g j 0 s first ∙ r) in
             more s.node k t other (omega (arith, low, s_low)) at lies
 
     -- THE ARMS round a node with a source were taken
@@ -148,7 +144,7 @@ module _ (stage : ℕ) (fl : Flow) (p : Plan) (w : Wires) (inputs : List ℤ) (p
     taken_from (suc depth) Root tells law = tt
     taken_from (suc depth) (Arm k t) tells law =
         let telling : class_at fl c k ≡ Telling = ap (λ o. class_in o k) eb ∙ node_class b k (tells k t refl) in
-        let out : ArmLaw (Ever stage fl p w inputs past m good fit kept) c (arm_of (node_at b k)) = subst (ArmLaw (Ever stage fl p w inputs past m good fit kept) c) (ap (λ o. region_in o k) eb ∙ region_is (node_at b k)) (own_arm fl good.well (Ever stage fl p w inputs past m good fit kept) (lawful stage fl p w inputs past m good fit kept) c k 0 law.0 law.1 (λ e. absurd (cc)) (λ e. absurd (cc))) in
+        let out : ArmLaw (Ever stage fl p w inputs past m good fit kept) c (arm_of (node_at b k)) = subst (ArmLaw (Ever stage fl p w inputs past m good fit kept) c) (ap (λ o. region_in o k) eb ∙ region_is_arm (node_at b k)) (own_arm fl good.well (Ever stage fl p w inputs past m good fit kept) (lawful stage fl p w inputs past m good fit kept) c k 0 law.0 law.1 (λ e. absurd (cc)) (λ e. absurd (cc))) in
         ((law.0, stood_of stage fl p w inputs past m good fit kept _ law.1, law.2), taken_from depth (arm_of (node_at b k)) (λ j s e. round k j s e) out)
       where
         round : (n j : ℕ) (s : Bool) → arm_of (node_at b n) ≡ Arm j s → class_node (node_at b j) ≡ Telling

@@ -1,6 +1,7 @@
 -- Each frame and each credit that a run asks for is for an invocation that the meaning calls for, and for each once.
 use Rattle.std.proofs.Common.{◌≡◌, ◌≢◌, ℕ, zero, suc, ◌+◌, ℤ, true, false, ◌⊎◌, inl, inr, List, [], ◌∷◌, refl, sym, ap, ◌∙◌, subst, arith, true≢false, ltb-true, eqb-true, ◌==◌}
 use Rattle.std.specs.Prelude.{Contains}
+use Rattle.lemmas.proofs.Contains.{contains_cases, contains_none}
 use Rattle.tags.specs.declared.token.Port.{Port}
 use Rattle.tags.specs.declared.token.Port.TheVariants.{Left, Right}
 use Rattle.semantics.specs.Graph.{Flow}
@@ -9,7 +10,6 @@ use Rattle.semantics.specs.Meaning as Meaning
 use Rattle.semantics.specs.Meaning.{Context, Main, Called, Turned, Due}
 use Rattle.semantics.specs.Machine.{Machine}
 use Rattle.semantics.specs.Cause.{HasCause, SameSeen, is_turn}
-use Rattle.law_net.proofs.Members.{contains_cases, contains_none}
 use Rattle.law_contexts.specs.Parts.{Part, turn_in, Framer, Opener, Taker, Asked, NextAsked, NextFramer, inlet, Item, Firing}
 use Rattle.law_contexts.specs.Blocks.{is_loop}
 use Rattle.law_contexts.specs.Contexts.{Wires, block_in, child, next}

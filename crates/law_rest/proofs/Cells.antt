@@ -1,7 +1,7 @@
 -- Cells, their readers, and the fetches and stores of nodes.
-use Rattle.std.proofs.Common.{◌≡◌, ℕ, ℤ, ◌+◌, ◌<◌, ◌≤◌, Bool, true, false, ◌⊎◌, inl, inr, List, [], ◌∷◌, map, length, Option, Some, None, nat_lt, if◌then◌else◌, refl, sym, ap, ◌∙◌, subst, arith, true≢false}
-use Rattle.std.specs.Prelude.{Contains, IsPermutation, flat_map, pos, negsuc}
-use Rattle.std.proofs.lemmas.List.Elements.{Contains-append_cases}
+use Rattle.std.proofs.Common.{◌≡◌, ℕ, ℤ, ◌+◌, ◌<◌, Bool, true, false, ◌⊎◌, inl, inr, List, [], ◌∷◌, map, length, Option, Some, None, nat_lt, if◌then◌else◌, refl, sym, ap, ◌∙◌, arith, true≢false}
+use Rattle.std.specs.Prelude.{Contains, flat_map, pos, negsuc}
+use Rattle.lemmas.proofs.Contains.{contains_cases, contains_head, contains_none, contains_tail}
 use Rattle.tags.specs.declared.value.Value.{Value}
 use Rattle.tags.specs.declared.value.Value.TheVariants.{Int, Fault}
 use Rattle.tags.specs.declared.value.FaultKind.TheVariants.{Range}
@@ -14,42 +14,13 @@ use Rattle.semantics.specs.Graph.{Flow}
 use Rattle.semantics.specs.Meaning.{Context, Main, Tagged, tagged, AtNode, Operand, entering, Memory, done, fetched, when_full, adds, sent, cell_is, cell_in}
 use Rattle.semantics.specs.Machine.{CellState, Vacant, Full, Deferred, reader_count, value_in}
 use Rattle.semantics.specs.Orderly.{readers_of}
-use Rattle.law_determinacy.proofs.Perm.{within_from, perm_add, perm_refl, perm_to, put_first}
 use Rattle.law_net.specs.Roles.{total}
-use Rattle.law_net.proofs.Members.{contains_head, contains_tail, contains_cases, contains_none}
 use Rattle.law_contexts.specs.Blocks.{cell_kind, store_kind}
 use Rattle.law_contexts.specs.Told.{told}
 use Rattle.law_contexts.specs.Firings.{place_at, input_items}
 use Rattle.law_contexts.specs.Stands.{reads_cell, cell_to}
 
 -- LISTS
-pub total_one : {X : Type 0} (f : X → ℕ) (xs : List X) (x : X) → Contains xs x → f x ≤ total f xs
-total_one f [] x c = absurd (contains_none x c)
-total_one f (y ∷ xs) x c = pick (contains_cases y xs x c) (total_one f xs x)
-  where
-    pick : (y ≡ x) ⊎ Contains xs x → (Contains xs x → f x ≤ total f xs) → f x ≤ total f (y ∷ xs)
-    pick (inl e) more = let k = ap f e in omega (arith, k)
-    pick (inr d) more = let m = more d in omega (arith, m)
-
-pub contains_to : {X Y : Type 0} (f : X → Y) (xs : List X) (x : X) → Contains xs x → Contains (map f xs) (f x)
-contains_to f [] x c = absurd (contains_none x c)
-contains_to f (y ∷ xs) x c = pick (contains_cases y xs x c) (contains_to f xs x)
-  where
-    pick : (y ≡ x) ⊎ Contains xs x → (Contains xs x → Contains (map f xs) (f x)) → Contains (f y ∷ map f xs) (f x)
-    pick (inl e) more = subst (λ (z : _). Contains (f y ∷ map f xs) z) (ap f e) (contains_head (f y) (map f xs))
-    pick (inr d) more = contains_tail (f y) (map f xs) (f x) (more d)
-
-pub flat_back : {X Y : Type 0} (f : X → List Y) (xs : List X) (y : Y) → Contains (flat_map f xs) y → (x : X) × Contains xs x × Contains (f x) y
-flat_back f [] y c = absurd (contains_none y c)
-flat_back f (x ∷ xs) y c = pick (Contains-append_cases (f x) (flat_map f xs) y c) (flat_back f xs y)
-  where
-    pick : Contains (f x) y ⊎ Contains (flat_map f xs) y → (Contains (flat_map f xs) y → (z : _) × Contains xs z × Contains (f z) y) → (z : _) × Contains (x ∷ xs) z × Contains (f z) y
-    pick (inl d) more = (x, contains_head x xs, d)
-    pick (inr d) more = let m = more d in (m.0, contains_tail x xs m.0 m.1, m.2)
-
--- one of a list, and the others
-pub one_out : {X : Type 0} (xs : List X) (x : X) → Contains xs x → (rest : List X) × IsPermutation xs (x ∷ rest)
-one_out xs x c = let (rest, put) = within_from x xs c in (rest, perm_to xs (x ∷ rest) (perm_add x xs (x ∷ rest) rest rest (perm_refl rest) put (put_first x rest)))
 
 pub one_of : {X : Type 0} (x y : X) → Contains (x ∷ []) y → y ≡ x
 one_of x y c = pick (contains_cases x [] y c)
@@ -70,12 +41,6 @@ total_agree f g (x ∷ xs) h = let a = h x (contains_head x xs) in let b = total
 pub total_nothing : {X : Type 0} (f : X → ℕ) (xs : List X) → ((x : X) → Contains xs x → f x ≡ 0) → total f xs ≡ 0
 total_nothing f [] h = refl
 total_nothing f (x ∷ xs) h = let a = h x (contains_head x xs) in let b = total_nothing f xs (λ y c. h y (contains_tail x xs y c)) in omega (arith, a, b)
-
--- VALUES that a request carries
-pub one_value : (vs : List Value) → length vs ≡ 1 → (v : Value) × (vs ≡ v ∷ [])
-one_value [] e = absurd (omega (arith, e))
-one_value (v ∷ []) e = (v, refl)
-one_value (v ∷ u ∷ vs) e = absurd (omega (arith, e))
 
 pub two_values : (vs : List Value) → length vs ≡ 2 → (v : Value) × (u : Value) × (vs ≡ v ∷ u ∷ [])
 two_values [] e = absurd (omega (arith, e))

@@ -3,13 +3,13 @@ use Rattle.std.proofs.Common.{◌≡◌, ℕ, zero, suc, ◌<◌, ℤ, true, ◌
 use Rattle.std.specs.Prelude.{Contains}
 use Rattle.std.proofs.lemmas.Bool.{cases_eq}
 use Rattle.std.proofs.lemmas.List.Elements.{Contains-append_left, Contains-append_right, Contains-append_cases}
+use Rattle.lemmas.proofs.Contains.{contains_tail}
 use Rattle.semantics.specs.declared.graph.Region.TheVariants.{Root}
 use Rattle.semantics.specs.declared.graph.Kind.{Kind}
 use Rattle.semantics.specs.Graph.{Node, Block, Flow}
 use Rattle.semantics.specs.Plan.{Plan}
 use Rattle.semantics.specs.Meaning.{Context, Called, Turned, block_of, arms_at, node_of, node_in, Due, IsCall, IsLoop, StartsWhenStrict, HadTrueFlag}
 use Rattle.semantics.specs.Machine.{Machine}
-use Rattle.law_net.proofs.Members.{contains_tail}
 use Rattle.law_contexts.specs.Parts.{Firing}
 use Rattle.law_contexts.specs.Blocks.{call_kind, loop_kind, is_call, is_loop, lies_in, flag}
 use Rattle.law_contexts.specs.Contexts.{Wires, block_in, IsContext}

@@ -3,6 +3,7 @@ use Rattle.std.proofs.Common.{◌≡◌, ℕ, ◌+◌, ◌<◌, ℤ, Bool, true,
 use Rattle.std.specs.Prelude.{Contains, flat_map}
 use Rattle.std.proofs.lemmas.Bool.{cases_Bool}
 use Rattle.std.proofs.lemmas.List.Elements.{Contains-append_left, Contains-append_right}
+use Rattle.lemmas.proofs.Contains.{contains_none, contains_map}
 use Rattle.tags.specs.declared.value.Value.{Value}
 use Rattle.tags.specs.declared.token.Port.TheVariants.{Right}
 use Rattle.operators.specs.Values.{truth}
@@ -13,9 +14,8 @@ use Rattle.semantics.specs.Plan.{Plan}
 use Rattle.semantics.specs.Meaning.{Context}
 use Rattle.semantics.specs.Machine.{Machine}
 use Rattle.law_net.specs.Roles.{one, total}
-use Rattle.law_net.proofs.Members.{contains_none}
 use Rattle.law_net.proofs.Net.{weigh}
-use Rattle.law_net.proofs.Orders.{total-append}
+use Rattle.law_net.proofs.Orders.{total-append, total_there}
 use Rattle.law_contexts.specs.Parts.{Part, Line, Trigger, Gate, Framer, Linker, Giver, Taker, Drainer, TurnCont, TurnFlag, TurnValue, Asker, NextFramer, End, Asked, NextAsked, Held, Drained, Shown, Done, Freed, Inlet, inlet, Datum, Item, item, Firing, Spot, spot_of, same_spot, Role}
 use Rattle.law_contexts.specs.Blocks.{Side, side, waits_in, is_cell, leaves_in, lies_in, arm_round, is_switch, flag}
 use Rattle.law_contexts.specs.Contexts.{Wires, block_in, wiring_in, IsContext}
@@ -25,7 +25,7 @@ use Rattle.law_contexts.specs.Laws.{maker_of, Carries}
 use Rattle.law_contexts.specs.Stands.{Past}
 use Rattle.law_contexts.specs.Theorem.{IsGood}
 use Rattle.law_contexts.specs.Packages.{Keeps, InputsFit}
-use Rattle.law_arms.proofs.Sames.{hits_at, hit_found, hit_counted, inlet_found}
+use Rattle.law_contexts.proofs.Sames.{hits_at, hit_found, hit_counted, inlet_found}
 use Rattle.law_arms.proofs.Sends.{switch_side, side_by, sent_along, gives_by, splits, takes_right}
 use Rattle.law_arms.proofs.Nets.{all_of, total_flat, taken_in}
 use Rattle.law_over.specs.Over.{is_turning, IsDecided, IsOpen}
@@ -33,7 +33,6 @@ use Rattle.law_over.proofs.Sorts.{IsHere, laws, Sort, Last, Joins, Switches, Oth
 use Rattle.law_over.proofs.Paths.{Wire, wire_of}
 use Rattle.law_over.proofs.Made.{Stands, taken_stands, allowed}
 use Rattle.law_over.proofs.Open.{one_side, arm_decided}
-use Rattle.law_rest.proofs.Cells.{total_one, contains_to}
 use Rattle.law_rest.proofs.Waits.{carries}
 
 -- a switch's second word is its conditional's
@@ -127,7 +126,7 @@ module _ (stage : ℕ) (fl : Flow) (p : Plan) (w : Wires) (inputs : List ℤ) (p
   made_stands h i c d =
       let g : Item → ℕ = λ (j : Item). one (same_spot (spot_of i) (spot_of j)) in
       let k = hit_counted (makes fl w h) i d in
-      let more = total_one (λ (f : Firing). total g (makes fl w f)) kept.follows.net.fired h c in
+      let more = total_there (λ (f : Firing). total g (makes fl w f)) kept.follows.net.fired h c in
       stands_of (spot_of i) (omega (arith, k, more))
 
   -- what was given besides
@@ -137,7 +136,7 @@ module _ (stage : ℕ) (fl : Flow) (p : Plan) (w : Wires) (inputs : List ℤ) (p
 
   pub sent_stands : (h : Firing) (s : Side) (x : Inlet) → Contains done h → Contains ((wiring_in fl w h.context).wire s) x → side_by fl h h.part ≡ Some s → (i : Item) × Stood i × (i.context ≡ h.context) × (i.inlet ≡ x)
   sent_stands h s x c goes g =
-      let made : Contains (sent_along fl w h (Some s)) (item h.context x (sent_word fl h h.part)) = contains_to (λ (y : Inlet). item h.context y (sent_word fl h h.part)) ((wiring_in fl w h.context).wire s) x goes in
+      let made : Contains (sent_along fl w h (Some s)) (item h.context x (sent_word fl h h.part)) = contains_map (λ (y : Inlet). item h.context y (sent_word fl h h.part)) ((wiring_in fl w h.context).wire s) x goes in
       let all = subst (λ (l : List Item). Contains l (item h.context x (sent_word fl h h.part))) (sym (splits fl w h))
       (Contains-append_right (gives_by fl w h h.part) (sent_along fl w h (side_by fl h h.part)) (item h.context x (sent_word fl h h.part))
       (subst (λ (o : Option Side). Contains (sent_along fl w h o) (item h.context x (sent_word fl h h.part))) (sym g) made)) in

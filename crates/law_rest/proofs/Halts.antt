@@ -13,11 +13,11 @@ use Rattle.semantics.specs.Plan.{Plan}
 use Rattle.semantics.specs.Meaning as Meaning
 use Rattle.semantics.specs.Meaning.{Context, Statement, AtNode, AtOut, AtTurn, Operand, Predicate, Flag, Carried, Tagged, tagged, Activity, Fires, Gates, Passes, Returns, Turns, Outputs, taken, Effect, done_if, effect, deed, fired, fetched, operands_from, origin_at, block_of, node_of, node_in, AtRest}
 use Rattle.semantics.specs.Machine.{Machine, Resting, Wants}
-use Rattle.law_determinacy.proofs.Perm.{Within, within_to}
+use Rattle.lemmas.proofs.Permutations.{Within, within_to}
+use Rattle.lemmas.proofs.Contains.{contains_none, contains_flat_mapped}
 use Rattle.law_determinacy.proofs.Keys.{Together, ByGate, Alone, mode_of, mode_node, mode_in, mode_at, Held, fires_mode, gates_mode, passes_mode}
 use Rattle.law_determinacy.proofs.Diamond.{deed_of, held_from}
 use Rattle.law_determinacy.proofs.Rest.{takes_some}
-use Rattle.law_net.proofs.Members.{contains_none}
 use Rattle.law_contexts.specs.Parts as Parts
 use Rattle.law_contexts.specs.Parts.{Part, Line, Gate, Sender, TurnValue, Inlet, inlet, Item}
 use Rattle.law_contexts.specs.Blocks.{is_pair, is_cell, is_store, is_strict, is_kind, pair_kind, cell_kind, store_kind, enter_kind, strict_kind, source_count}
@@ -33,7 +33,7 @@ use Rattle.law_told.proofs.Nodes.{kind_is, kind_of}
 use Rattle.law_told.proofs.Settles.{operands_in}
 use Rattle.law_arms.proofs.Invoked.{block_here}
 use Rattle.law_rest.specs.Starts.{AllStart}
-use Rattle.law_rest.proofs.Cells.{flat_back, fetch_of, fetch_none}
+use Rattle.law_rest.proofs.Cells.{fetch_of, fetch_none}
 use Rattle.law_rest.proofs.Waits.{Waiting, rests_net, apart}
 use Rattle.law_rest.proofs.Readers.{reader_empty}
 use Rattle.law_rest.proofs.Tokens.{Says, AtLeft, AtRight, GateLeft, GateRight, Reading, Argument, TurnLeft, TurnRight, says, con, not_complete}
@@ -158,7 +158,7 @@ module _ (stage : ℕ) (fl : Flow) (p : Plan) (w : Wires) (inputs : List ℤ) (p
 
   pub from_state : (t : Tagged) → Within t kept.state.tokens → Told t
   from_state t h =
-      let (i, d, e) = flat_back (told fl) (kept.follows.net.pending ++ kept.follows.net.waiting) t (Contains-permutation _ _ t kept.told.tokens (within_to t kept.state.tokens h)) in
+      let (i, d, e) = contains_flat_mapped (told fl) (kept.follows.net.pending ++ kept.follows.net.waiting) t (Contains-permutation _ _ t kept.told.tokens (within_to t kept.state.tokens h)) in
       let c = pick i (Contains-append_cases kept.follows.net.pending kept.follows.net.waiting i d) in
       (i, c, says stage fl p w inputs past m good fit kept rests wants starts i c t e)
     where

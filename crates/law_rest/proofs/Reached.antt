@@ -2,6 +2,7 @@
 use Rattle.std.proofs.Common.{◌≡◌, ℕ, zero, suc, ◌+◌, ℤ, Bool, true, false, not, ◌&&◌, ◌⊎◌, inl, inr, List, [], ◌∷◌, ◌++◌, Option, Some, None, if◌then◌else◌, refl, sym, ap, ◌∙◌, subst, arith, true≢false, lt-ltb}
 use Rattle.std.specs.Prelude.{Contains}
 use Rattle.std.proofs.lemmas.Bool.{and_parts}
+use Rattle.lemmas.proofs.Contains.{contains_head, contains_tail}
 use Rattle.tags.specs.declared.token.Port.TheVariants.{Left, Right}
 use Rattle.semantics.specs.declared.graph.Region.{Region}
 use Rattle.semantics.specs.declared.graph.Region.TheVariants.{Root, Arm}
@@ -10,7 +11,6 @@ use Rattle.semantics.specs.Plan.{Plan}
 use Rattle.semantics.specs.Meaning.{Context, Main, Called, Turned}
 use Rattle.semantics.specs.Cause.{is_turn}
 use Rattle.semantics.specs.Machine.{Machine, Resting, Wants}
-use Rattle.law_net.proofs.Members.{contains_head, contains_tail}
 use Rattle.law_contexts.specs.Parts.{Part, Entry, Trigger, Opener, Framer, Fanned, Linker, Sender, Taker, TurnCont, TurnFlag, Asker, NextFramer, NextFanned, NextSender, Result, LastReturn, Landing, Asked, NextAsked, Inlet, inlet, BackTo, FrameOf, ToHost, signal, Item, item, Firing, Spot, same_context}
 use Rattle.law_contexts.specs.Blocks.{Side, side, waits_in, invokes, is_call, is_loop, is_strict, lies_in, region_of, entered, leaves_in, flag}
 use Rattle.law_contexts.specs.Contexts.{Wires, block_in, wiring_in, IsContext, child, next}
@@ -20,7 +20,7 @@ use Rattle.law_contexts.specs.Laws.{spot_there, maker_of}
 use Rattle.law_contexts.specs.Stands.{Past, is_held}
 use Rattle.law_contexts.specs.Theorem.{IsGood}
 use Rattle.law_contexts.specs.Packages.{Keeps, InputsFit}
-use Rattle.law_arms.proofs.Sames.{same_context-true}
+use Rattle.law_contexts.proofs.Sames.{same_context-true}
 use Rattle.law_arms.proofs.Sends.{gives_by, first_taken, takes_first, first_context}
 use Rattle.law_arms.proofs.Nets.{taken_in}
 use Rattle.law_over.specs.Over.{is_turning, IsDecided, IsOpen}

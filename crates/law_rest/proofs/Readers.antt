@@ -2,13 +2,14 @@
 use Rattle.std.proofs.Common.{◌≡◌, ℕ, ◌+◌, ◌<◌, ℤ, Bool, true, false, List, [], ◌∷◌, ◌++◌, length, Some, None, if◌then◌else◌, refl, sym, ap, ◌∙◌, subst, arith, true≢false, eq-eqb, length-append}
 use Rattle.std.specs.Prelude.{Contains}
 use Rattle.std.proofs.lemmas.List.Sorted.{length_permutation}
+use Rattle.lemmas.proofs.Contains.{contains_head, contains_none, contains_tail}
 use Rattle.semantics.specs.Graph.{Flow}
 use Rattle.semantics.specs.Plan.{Plan}
 use Rattle.semantics.specs.Meaning.{Memory}
 use Rattle.semantics.specs.Machine.{Machine}
 use Rattle.semantics.specs.Orderly.{readers_of}
 use Rattle.law_net.specs.Roles.{one, total}
-use Rattle.law_net.proofs.Members.{contains_head, contains_tail, contains_none}
+use Rattle.law_net.proofs.Orders.{total_there}
 use Rattle.law_contexts.specs.Parts.{Part, Line, Held, Inlet, Note, Item}
 use Rattle.law_contexts.specs.Blocks.{side, is_cell}
 use Rattle.law_contexts.specs.Contexts.{Wires, block_in, wiring_in}
@@ -21,7 +22,7 @@ use Rattle.law_contexts.specs.Packages.{Keeps, InputsFit}
 use Rattle.law_over.proofs.Sorts.{cell_plain}
 use Rattle.law_over.proofs.Paths.{Wire, next}
 use Rattle.law_over.proofs.Made.{fits, Stands}
-use Rattle.law_rest.proofs.Cells.{total_one, no_value}
+use Rattle.law_rest.proofs.Cells.{no_value}
 use Rattle.law_rest.proofs.Waits.{stood_of, carries}
 
 module _ (stage : ℕ) (fl : Flow) (p : Plan) (w : Wires) (inputs : List ℤ) (past : Past) (m : Machine) (good : IsGood stage fl p w) (fit : InputsFit fl inputs) (kept : Keeps fl p w inputs past m) where
@@ -73,7 +74,7 @@ module _ (stage : ℕ) (fl : Flow) (p : Plan) (w : Wires) (inputs : List ℤ) (p
       let yes' : reads fl x i i.inlet.part ≡ true = ap (reads fl x i) e ∙ ap (reads_cell x) cell ∙ eq-eqb x x refl in
       let o = ap one yes' in
       let all = readers_count x in
-      let here = total_one (λ (i : Item). one (reads fl x i i.inlet.part)) kept.follows.net.waiting i c in
+      let here = total_there (λ (i : Item). one (reads fl x i i.inlet.part)) kept.follows.net.waiting i c in
       omega (arith, o, all, here)
 
   -- and is empty

@@ -3,6 +3,8 @@ use Rattle.std.proofs.Common.{◌≡◌, ℕ, ℤ, Bool, true, List, [], ◌∷�
 use Rattle.std.specs.Prelude.{Contains, IsPermutation, flat_map}
 use Rattle.std.proofs.lemmas.List.Sorted.{IsPermutation-trans, Contains-permutation}
 use Rattle.std.proofs.lemmas.List.Elements.{Contains-append_left}
+use Rattle.lemmas.proofs.Permutations.{one_out}
+use Rattle.lemmas.proofs.Contains.{contains_mapped}
 use Rattle.tags.specs.declared.value.Value.{Value}
 use Rattle.tags.specs.declared.token.To.{To}
 use Rattle.tags.specs.declared.token.Token.{Token}
@@ -27,10 +29,9 @@ use Rattle.law_contexts.specs.Theorem.{IsGood}
 use Rattle.law_contexts.specs.Packages.{OfRuns, Keeps, InputsFit, SecondStores}
 use Rattle.law_contexts.proofs.Words.{holds_of}
 use Rattle.law_told.proofs.Nodes.{kind_is}
-use Rattle.law_arms.proofs.Sends.{contains_map}
 use Rattle.law_arms.proofs.Invoked.{block_here}
 use Rattle.law_over.proofs.Made.{left_stands, fits, word}
-use Rattle.law_rest.proofs.Cells.{one_out, two_values, store_of, same_cell, cell_store}
+use Rattle.law_rest.proofs.Cells.{two_values, store_of, same_cell, cell_store}
 
 module _ (stage : ℕ) (fl : Flow) (p : Plan) (w : Wires) (inputs : List ℤ) (past : Past) (m : Machine) (good : IsGood stage fl p w) (fit : InputsFit fl inputs) (kept : Keeps fl p w inputs past m) where
   pub seen : SameSeen m.store kept.state.memory
@@ -85,7 +86,7 @@ module _ (stage : ℕ) (fl : Flow) (p : Plan) (w : Wires) (inputs : List ℤ) (p
   pub second_store : (x : ℕ) → HasStoreOfFull m x → IsSecondStore fl inputs x
   second_store x (v, u, a, c, full) =
       let t : Token = record { to = To.Store x v; word = a } in
-      let (i, d, g) = contains_map (token_of fl p w kept.follows.net.fired) kept.follows.net.pending t (Contains-permutation _ _ t kept.follows.stands.pool c) in
+      let (i, d, g) = contains_mapped (token_of fl p w kept.follows.net.fired) kept.follows.net.pending t (Contains-permutation _ _ t kept.follows.stands.pool c) in
       let (n, e, cell, store) = to_store i i.inlet.part x v (ap (λ (t : Token). t.to) g) in
       let clashes = clash_from fl good.well kept.state x (clash x u i n d e cell store full) in
       record {

@@ -9,9 +9,10 @@ use Rattle.semantics.specs.Meaning as Meaning
 use Rattle.semantics.specs.Meaning.{State, Memory, Activity, Main, Tagged, taken, start, entering, Leads}
 use Rattle.semantics.specs.Plan.{Plan}
 use Rattle.semantics.specs.Machine.{Machine}
-use Rattle.law_determinacy.proofs.Perm.{Within, within_permutation, within_append, within_left, within_right, within_from}
+use Rattle.lemmas.proofs.Permutations.{Within, within_permutation, within_append, within_left, within_right, within_from}
+use Rattle.lemmas.proofs.Alls.{all_left, all_right}
 use Rattle.law_net.proofs.Orders.{at_last, shuffled, flat_map-IsPermutation, Part, ◌⊕◌}
-use Rattle.law_net.proofs.Net.{Waits, Fires, net_sound_moves, net_sound_begins, fires_allowed, All-append_left, All-append_right}
+use Rattle.law_net.proofs.Net.{Waits, Fires, net_sound_moves, net_sound_begins, fires_allowed}
 use Rattle.law_net.proofs.NetFollows.{run_from, run_join, state_of, Simulates}
 use Rattle.law_net.proofs.Arms.{arms_lawful}
 use Rattle.law_contexts.specs.Parts.{Item, Firing, spot_of, same_spot, role_of}
@@ -92,13 +93,13 @@ module _ (stage : ℕ) (fl : Flow) (p : Plan) (w : Wires) (inputs : List ℤ) (g
       → All P (makes fl w f) → All P (c.pending ++ (c.waiting ++ flat_map (takes fl) c.fired)) → All P ((makes fl w f ++ rest) ++ (others ++ (takes fl f ++ flat_map (takes fl) c.fired)))
   fires_all P c f now kept rest others a b both made before =
       let all = split P c f now kept rest others a b both before in
-      let mine = All-append_left P (takes fl f) (rest ++ (others ++ flat_map (takes fl) c.fired)) all in
-      let left = All-append_right P (takes fl f) (rest ++ (others ++ flat_map (takes fl) c.fired)) all in
-      let more = All-append_right P rest (others ++ flat_map (takes fl) c.fired) left in
+      let mine = all_left P (takes fl f) (rest ++ (others ++ flat_map (takes fl) c.fired)) all in
+      let left = all_right P (takes fl f) (rest ++ (others ++ flat_map (takes fl) c.fired)) all in
+      let more = all_right P rest (others ++ flat_map (takes fl) c.fired) left in
       All-append P (makes fl w f ++ rest) (others ++ (takes fl f ++ flat_map (takes fl) c.fired))
-      (All-append P (makes fl w f) rest made (All-append_left P rest (others ++ flat_map (takes fl) c.fired) left))
-      (All-append P others (takes fl f ++ flat_map (takes fl) c.fired) (All-append_left P others (flat_map (takes fl) c.fired) more)
-      (All-append P (takes fl f) (flat_map (takes fl) c.fired) mine (All-append_right P others (flat_map (takes fl) c.fired) more)))
+      (All-append P (makes fl w f) rest made (all_left P rest (others ++ flat_map (takes fl) c.fired) left))
+      (All-append P others (takes fl f ++ flat_map (takes fl) c.fired) (all_left P others (flat_map (takes fl) c.fired) more)
+      (All-append P (takes fl f) (flat_map (takes fl) c.fired) mine (all_right P others (flat_map (takes fl) c.fired) more)))
 
   fits_of : (fired : List Firing) (items : List Item) → All (Allowed fl w inputs fired) items → All (λ (i : Item). Fits fl w (spot_of i)) items
   fits_of fired items all = All-weaker (Allowed fl w inputs fired) (λ (i : Item). Fits fl w (spot_of i)) (λ i k. k.fits) items all
@@ -120,7 +121,7 @@ module _ (stage : ℕ) (fl : Flow) (p : Plan) (w : Wires) (inputs : List ℤ) (g
   })
   move_told c d (Fires f now kept rest others a b both e) proper k =
       let allowed = fires_allowed spot_of same_spot (takes fl) (makes fl w) (begins inputs) role_of (Allowed fl w inputs) lawful c k.sound f now kept rest others a b both in
-      let words = All-append_left (WordFits fl w) (takes fl f) (rest ++ (others ++ flat_map (takes fl) c.fired)) (split (WordFits fl w) c f now kept rest others a b both k.fits) in
+      let words = all_left (WordFits fl w) (takes fl f) (rest ++ (others ++ flat_map (takes fl) c.fired)) (split (WordFits fl w) c f now kept rest others a b both k.fits) in
       let sim : Simulates fl inputs (takes fl) (makes fl w) (told fl) (memory_of fl) f c.fired = all_told stage (telling_of fl f.context f.part) fl p w inputs f c.fired good fit allowed words proper refl in
       let frame = flat_map (told fl) (rest ++ others) in
       let perm : IsPermutation (c.pending ++ c.waiting) (takes fl f ++ (rest ++ others)) = IsPermutation-trans _ _ _ (IsPermutation-append _ _ _ _ a b) (IsPermutation-trans _ _ _

@@ -1,6 +1,8 @@
 -- A strict call that asked for its frame has fired in the meaning: its arguments went into the context that it calls.
 use Rattle.std.proofs.Common.{◌≡◌, ℕ, ◌<◌, ℤ, Bool, true, ◌⊎◌, inl, inr, List, [], ◌∷◌, length, Option, Some, if◌then◌else◌, refl, sym, ap, ◌∙◌, subst, arith}
 use Rattle.std.specs.Prelude.{Contains}
+use Rattle.std.proofs.lemmas.Option.{same_Some}
+use Rattle.lemmas.proofs.Contains.{contains_cases, contains_head, contains_none, contains_tail}
 use Rattle.tags.specs.declared.value.Value.{Value}
 use Rattle.tags.specs.declared.token.Port.TheVariants.{Left, Right}
 use Rattle.semantics.specs.declared.graph.Kind.{Kind}
@@ -9,7 +11,6 @@ use Rattle.semantics.specs.Plan.{Plan}
 use Rattle.semantics.specs.Meaning.{Context, Called, Tagged, tagged, AtNode, Operand, node_of, node_in, StartsWhenStrict}
 use Rattle.semantics.specs.Machine.{Machine}
 use Rattle.law_determinacy.proofs.Due.{stood_due}
-use Rattle.law_net.proofs.Members.{contains_head, contains_tail, contains_cases, contains_none}
 use Rattle.law_net.proofs.Net.{Waits, Fires}
 use Rattle.law_contexts.specs.Parts.{Part, Framer, Fanned, Asked, Sender, Inlet, inlet, Datum, BackTo, Item, item, Firing, Spot}
 use Rattle.law_contexts.specs.Blocks.{strict_kind, is_strict, source_count}
@@ -53,9 +54,6 @@ first_argument : (c : Context) (n : ℕ) (vs : List Value) → 0 < length vs →
 first_argument c n [] h = absurd (omega (arith, h))
 first_argument c n (v ∷ vs) h = (v, contains_head (item c (inlet (Sender n 0) Right 1) (Datum v)) (arguments_from c n 1 1 vs))
 
-some_line : (a b : Node ℕ) → Some a ≡ Some b → a ≡ b
-some_line a b e = cc
-
 module _ (stage : ℕ) (fl : Flow) (p : Plan) (w : Wires) (inputs : List ℤ) (past : Past) (m : Machine) (good : IsGood stage fl p w) (fit : InputsFit fl inputs) (kept : Keeps fl p w inputs past m) (earlier : SourcesAreEarlier fl) where
   strict_starts : (c : Context) (n : ℕ) → HasFired c (Framer n) kept.follows.net.fired → is_strict (block_in fl c) n ≡ true → (line : Node ℕ) → node_of fl c n ≡ Some line → StartsWhenStrict (story stage fl p w inputs past m good fit kept).run c n line.kind
   strict_starts c n (h, d, a, e) strict line node =
@@ -79,7 +77,7 @@ module _ (stage : ℕ) (fl : Flow) (p : Plan) (w : Wires) (inputs : List ℤ) (p
           let s = story stage fl p w inputs past m good fit kept in
           let due = stood_due fl good.well inputs (fits_main stage fl p w inputs past m good fit kept) s.state s.run s.is_run t (stood_of stage fl p w inputs past m good fit kept t come) in
           let (other, at, call, starts) = due.1 in
-          subst (λ (l : Node ℕ). StartsWhenStrict s.run c n l.kind) (some_line other line (sym at ∙ node)) starts
+          subst (λ (l : Node ℕ). StartsWhenStrict s.run c n l.kind) (same_Some other line (sym at ∙ node)) starts
 
   pub strict_fired : StrictFired stage fl p w inputs past m good fit kept earlier
   strict_fired c n f line node = go line.kind refl

@@ -1,7 +1,9 @@
 -- Which tokens of the meaning the items stand for that wait at rest: no word waits to leave its context, or to go into another, but the arguments of a strict call.
 use Rattle.std.proofs.Common.{◌≡◌, ℕ, zero, suc, ◌+◌, ◌-◌, ◌<◌, ℤ, Bool, true, false, ◌⊎◌, inl, inr, List, [], ◌∷◌, nat_lt, if◌then◌else◌, refl, sym, ap, ◌∙◌, subst, arith, true≢false, lt-ltb, ltb-true, eqb-true, eq-eqb, ne_eqb}
 use Rattle.std.specs.Prelude.{Contains, ◌&&◌}
-use Rattle.std.proofs.lemmas.Bool.{and_parts, or_left, cases_Bool}
+use Rattle.std.proofs.lemmas.Bool.{and_parts, or_left, cases_Bool, or_cases}
+use Rattle.lemmas.proofs.Contains.{contains_none}
+use Rattle.lemmas.proofs.Lists.{one_element}
 use Rattle.tags.specs.declared.value.Value.{Value}
 use Rattle.tags.specs.declared.token.Port.{Port}
 use Rattle.tags.specs.declared.token.Port.TheVariants.{Left, Right}
@@ -10,7 +12,6 @@ use Rattle.semantics.specs.Plan.{Plan}
 use Rattle.semantics.specs.Meaning.{Context, Main, Called, Turned, AtNode, AtTurn, Operand, Predicate, Flag, Carried, Tagged, tagged, operands_from}
 use Rattle.semantics.specs.Cause.{is_turn}
 use Rattle.semantics.specs.Machine.{Machine, Resting, Wants}
-use Rattle.law_net.proofs.Members.{contains_none}
 use Rattle.law_contexts.specs.Parts.{Part, Entry, Line, Answer, Merge, Landing, Giver, Drainer, Shown, Gate, Framer, Sender, Strict, Asker, NextFramer, NextFanned, NextSender, Result, TurnValue, LastReturn, Held, Inlet, inlet, Note, Datum, Item, item, Firing, spot_of}
 use Rattle.law_contexts.specs.Blocks.{side, waits_in, is_pair, is_cell, is_store, is_strict, is_call, is_loop, is_kind, enter_kind, entered, lies_in, source_count, there_in, invokes}
 use Rattle.law_contexts.specs.Contexts.{Wires, block_in, site_in, wiring_in, IsContext}
@@ -21,10 +22,10 @@ use Rattle.law_contexts.specs.Stands.{Past, is_held}
 use Rattle.law_contexts.specs.Theorem.{IsGood}
 use Rattle.law_contexts.specs.Packages.{Keeps, InputsFit}
 use Rattle.law_contexts.proofs.Words.{holds_of}
-use Rattle.law_arms.proofs.Sames.{spot_is}
+use Rattle.law_contexts.proofs.Sames.{spot_is}
 use Rattle.law_arms.proofs.Sends.{takes_right}
 use Rattle.law_arms.proofs.Nets.{taken_in}
-use Rattle.law_arms.proofs.Invoked.{or_cases, strict_call}
+use Rattle.law_arms.proofs.Invoked.{strict_call}
 use Rattle.law_arms.proofs.Fed.{UWay}
 use Rattle.law_over.specs.Over.{IsOpen}
 use Rattle.law_over.proofs.Paths.{wire_of}
@@ -32,7 +33,7 @@ use Rattle.law_over.proofs.Made.{Stands, fits, word, given_by, twice}
 use Rattle.law_over.proofs.Open.{stands_open, renewed_too}
 use Rattle.law_over.proofs.Back.{sender_of}
 use Rattle.law_rest.specs.Starts.{AllStart, join_after, join_of}
-use Rattle.law_rest.proofs.Cells.{one_of, one_value}
+use Rattle.law_rest.proofs.Cells.{one_of}
 use Rattle.law_rest.proofs.Waits.{Waiting, stood_of, left_of, apart, is_credit, Takes, Own, OfCredits, Renewed, taken_as, waits_or_taken, Waits, InSlot, AtCell, OfLoop, waits, fires_alone, fires_both}
 use Rattle.law_rest.proofs.Forward.{along}
 use Rattle.law_rest.proofs.Reached.{At, asked, fanned, next_fanned, next_asked, granted, entered_at, result_left, last_left, sender_left, next_left, loop_framed, call_framed, goes_on}
@@ -233,7 +234,7 @@ module _ (stage : ℕ) (fl : Flow) (p : Plan) (w : Wires) (inputs : List ℤ) (p
   reader i n c e =
       let store = kept.follows.stands.no_store i n c e in
       let long = holds_of fl w i n e (word stage fl p w inputs past m good fit kept i (stood i c)) in
-      let (v, held) = one_value i.held (long ∙ ap (λ (t : Bool). if t then 2 else 1) store) in
+      let (v, held) = one_element i.held (long ∙ ap (λ (t : Bool). if t then 2 else 1) store) in
       record { cell = there i c (Held n) e; store = store; index = v; held = held; told = ap (told_by fl i) e ∙ ap (operands_from i.context (AtNode n) 0) held }
 
   pub says : (i : Item) → Waits' i → (t : Tagged) → Contains (told fl i) t → Says i t

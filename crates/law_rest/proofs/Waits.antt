@@ -4,6 +4,7 @@ use Rattle.std.specs.Prelude.{Contains, flat_map}
 use Rattle.std.proofs.lemmas.Bool.{cases_eq}
 use Rattle.std.proofs.lemmas.List.Sorted.{IsPermutation-sym}
 use Rattle.std.proofs.lemmas.List.Elements.{Contains-append_right, Contains-append_cases}
+use Rattle.lemmas.proofs.Contains.{contains_cases, contains_head, contains_none, contains_flat_mapped}
 use Rattle.tags.specs.declared.value.Value.{Value}
 use Rattle.tags.specs.declared.token.Port.{Port}
 use Rattle.tags.specs.declared.token.Port.TheVariants.{Left, Right}
@@ -15,7 +16,6 @@ use Rattle.semantics.specs.Graph.{Flow}
 use Rattle.semantics.specs.Plan.{Plan}
 use Rattle.semantics.specs.Meaning.{Context}
 use Rattle.semantics.specs.Machine.{Machine, Resting, Wants}
-use Rattle.law_net.proofs.Members.{contains_head, contains_cases, contains_none}
 use Rattle.law_net.proofs.Orders.{empty_list}
 use Rattle.law_contexts.specs.Parts.{Part, Opener, Framer, NextFramer, Sender, Taker, Giver, Drainer, Asked, NextAsked, Held, Drained, inlet, Note, Datum, BackTo, signal, Item, item, Firing}
 use Rattle.law_contexts.specs.Blocks.{waits_in, is_loop}
@@ -24,17 +24,18 @@ use Rattle.law_contexts.specs.Wires.{comes_at}
 use Rattle.law_contexts.specs.Credits.{waits_or}
 use Rattle.law_contexts.specs.Firings.{takes, own_takes, renewed, request_of, given_back, arguments_from, left_item, right_way, times, turn_before, HasFired}
 use Rattle.law_contexts.specs.Laws.{spot_there, port_fits, Carries}
-use Rattle.law_contexts.specs.Stands.{Past, cont_in, frame_of, word_of, slot_of, in_slot, on_side, is_asked, is_held, only, conts_of, first_cont, is_item_at, token_of, granted_of}
+use Rattle.law_contexts.specs.Stands.{Past, cont_in, frame_of, word_of, slot_of, in_slot, on_side, is_asked, is_held, only, conts_of, is_item_at, token_of, granted_of}
 use Rattle.law_contexts.specs.Theorem.{IsGood}
 use Rattle.law_contexts.specs.Packages.{Keeps, InputsFit}
 use Rattle.law_contexts.proofs.Words.{carries_of}
+use Rattle.law_contexts.proofs.Blocks.{first_cont_some}
 use Rattle.law_arms.proofs.Nets.{only_has, flat_contains}
 use Rattle.law_arms.proofs.Pigeons.{item_here}
 use Rattle.law_arms.proofs.Opened.{NTaker}
 use Rattle.law_arms.proofs.Turns.{no_later, turns_now}
 use Rattle.law_arms.proofs.Credits.{firing_of, near_opened, keeps, slot_is, open_form}
 use Rattle.law_over.proofs.Made.{fits, word, left_stands, Stands}
-use Rattle.law_rest.proofs.Cells.{flat_back, one_of, map_empty}
+use Rattle.law_rest.proofs.Cells.{one_of, map_empty}
 
 -- what a firing takes for another part than its own: credits, and the arguments of a strict call
 abbrev pub is_credit : Part → Bool
@@ -95,10 +96,6 @@ module _ (fl : Flow) (h : Firing) (i : Item) where
       pick : Contains (own_takes fl h h.part) i ⊎ Contains (renewed fl h h.part) i → (i.context ≡ h.context) × Takes h i
       pick (inl d) = owned h.part refl d
       pick (inr d) = anew h.part refl d
-
-first_some : (cs : List Cont) (c : Cont) → Contains cs c → (d : Cont) × (first_cont cs ≡ Some d)
-first_some [] c h = absurd (contains_none c h)
-first_some (d ∷ cs) c h = (d, refl)
 
 in_waiter : (t : Bool) (D : SlotState) (o : Option Cont) (d : Cont) (s : SlotState) → t ≡ false → o ≡ Some d → (if t then D else waits_or o s) ≡ Waiter d
 in_waiter true D o d s e f = absurd (true≢false e)
@@ -161,7 +158,7 @@ module _ (stage : ℕ) (fl : Flow) (p : Plan) (w : Wires) (inputs : List ℤ) (p
       let opened = near_opened stage fl p w inputs past m good kept i.context con n loop i (stood_of i c) (NTaker refl e) in
       let law = keeps stage fl p w inputs past m good kept i.context con n loop in
       let back : i.word ≡ BackTo (turn_before i.context n i.inlet.way) (inlet NextFramer Left 0) = subst (λ (r : Part). Carries fl w i.context i.inlet.way (comes_at r i.inlet.port) i.word) e (carries i (stood_of i c)) in
-      let (d, first) = first_some (conts_of fl p w done (only (is_item_at i.context (Taker n)) kept.follows.net.waiting)) _ (conts_has (is_item_at i.context (Taker n)) i _ c (item_here i.context (Taker n) i refl e) (ap (λ (k : Note). cont_in (word_of fl p w done k)) back)) in
+      let (d, first) = first_cont_some (conts_of fl p w done (only (is_item_at i.context (Taker n)) kept.follows.net.waiting)) _ (conts_has (is_item_at i.context (Taker n)) i _ c (item_here i.context (Taker n) i refl e) (ap (λ (k : Note). cont_in (word_of fl p w done k)) back)) in
       let way = law.takes i (left_of i c) refl e in
       let over : nat_lt 0 (times i.context (Drained n) done) ≡ false = le-ltb 0 (times i.context (Drained n) done) (none_over con loop opened way (cases_eq (times i.context (Drained n) done) 0)) in
       let draining = (law.law.waits d first).1 in
@@ -192,7 +189,7 @@ module _ (stage : ℕ) (fl : Flow) (p : Plan) (w : Wires) (inputs : List ℤ) (p
       where
         second : Waiting i ⊎ Contains (flat_map (takes fl) done) i → Waiting i ⊎ ((h : Firing) × Contains done h × Contains (takes fl h) i)
         second (inl d) = inl d
-        second (inr d) = inr (flat_back (takes fl) done i d)
+        second (inr d) = inr (contains_flat_mapped (takes fl) done i d)
 
         first : Contains kept.follows.net.pending i ⊎ Contains (kept.follows.net.waiting ++ flat_map (takes fl) done) i → Waiting i ⊎ ((h : Firing) × Contains done h × Contains (takes fl h) i)
         first (inl d) = absurd (contains_none i (subst (λ (l : List Item). Contains l i) rests_net d))

@@ -4,6 +4,7 @@ use Rattle.std.specs.Prelude.{count_by, if◌then◌else◌, nat_lt, ◌==◌}
 use Rattle.std.proofs.lemmas.List.Sorted.{Contains-permutation, IsPermutation-sym}
 use Rattle.std.proofs.lemmas.List.{length-map}
 use Rattle.std.proofs.lemmas.List.Elements.{Contains-append_left}
+use Rattle.lemmas.proofs.Contains.{contains_head, contains_map}
 use Rattle.tags.specs.declared.value.Value.{Value}
 use Rattle.tags.specs.declared.token.Cont.{Cont}
 use Rattle.tags.specs.declared.token.Word.{Word}
@@ -37,7 +38,6 @@ use Rattle.law_reuse.proofs.Served.{value_in_re, has_served}
 use Rattle.law_reuse.proofs.UnfoldedRuns.{frees_shared, release_shared}
 use Rattle.law_reuse.proofs.Clauses.{KeepsFaith, faith_kept, code_bounds, perm_nil}
 use Rattle.law_reuse.proofs.OnceFaith.{once_keeps_faith}
-use Rattle.law_reuse.proofs.Members.{contains_head, contains_map}
 
 -- ---- RULES THAT EXCLUDE, UNDER OTHER NUMBERS FOR THE FRAMES
 

@@ -1,6 +1,7 @@
 -- What holds at a release in runs that use each frame once holds in every run.
 use Rattle.std.proofs.Common.{sym, ap, ◌∙◌, subst, ℕ, ◌+◌, ◌*◌, ◌<◌, ℤ, List, ◌++◌, map, Contains, arith}
 use Rattle.std.proofs.lemmas.List.Elements.{Contains-append_left, Contains-append_right}
+use Rattle.lemmas.proofs.Contains.{contains_map}
 use Rattle.tags.specs.declared.token.Cont.{Cont}
 use Rattle.tags.specs.declared.token.Word.{Word}
 use Rattle.tags.specs.declared.token.To.{To}
@@ -17,7 +18,6 @@ use Rattle.semantics.specs.Renamed.{re_cont, re_word, re_to, re_token, re_slot, 
 use Rattle.law_reuse.proofs.Fold.{Fold}
 use Rattle.law_reuse.proofs.Freed.{empty_back}
 use Rattle.law_reuse.proofs.Frames.{asking, waits, pool_before, FreesOnce, frames_once}
-use Rattle.law_reuse.proofs.Members.{contains_map}
 
 module _ (h : ℕ → ℕ) (f : ℕ) where
   named_cont : (c : Cont) → NamesCont f c → NamesCont (h f) (re_cont h c)

@@ -3,6 +3,9 @@ use Rattle.std.proofs.Common.{◌≡◌, refl, sym, ap, ◌∙◌, subst, ℕ, z
 use Rattle.std.specs.Prelude.{slice_get, slice_index_or}
 use Rattle.std.proofs.lemmas.List.Elements.{Contains-append_left}
 use Rattle.std.proofs.lemmas.List.Sorted.{Contains-permutation, IsPermutation-trans}
+use Rattle.std.proofs.lemmas.Option.{same_Some}
+use Rattle.lemmas.proofs.Alls.{all_at}
+use Rattle.lemmas.proofs.Contains.{get_contains, contains_mapped}
 use Rattle.tags.specs.declared.token.Port.TheVariants.{Left}
 use Rattle.tags.specs.declared.token.Cont.{Cont}
 use Rattle.tags.specs.declared.token.Word.{Word}
@@ -24,10 +27,8 @@ use Rattle.semantics.specs.Unfolded.{HasSlot}
 use Rattle.semantics.specs.Wired.{IsWired}
 use Rattle.semantics.specs.Holders.{Holder, holder_of, holder_at}
 use Rattle.semantics.specs.Credits.{IsPart, IsLink, IsLoop, granted, released}
-use Rattle.law_determinacy.proofs.Resolved.{all_get}
 use Rattle.law_reuse.specs.Bounds.{OnlyAsks, PlanKeepsBound, PlanKeepsBounds, BoundsAreKept, CodeUsesAgain}
-use Rattle.law_reuse.proofs.Members.{contains_mapped}
-use Rattle.law_reuse.proofs.Stands.{some_same, Stands, stands_at}
+use Rattle.law_reuse.proofs.Stands.{Stands, stands_at}
 use Rattle.law_reuse.proofs.Turns.{is_counting}
 use Rattle.law_reuse.proofs.PlacedCode.{moved_to, Located, Nowhere, There, located}
 use Rattle.law_reuse.proofs.Neighbours.{get_index}
@@ -38,7 +39,6 @@ use Rattle.law_reuse.proofs.Frames.{asking, waits, so_start, so_after, FreesOnce
 use Rattle.law_reuse.proofs.Fillings.{at_port, EmptyOr, Opened, opened_from}
 use Rattle.law_reuse.proofs.UsedArcs.{Ports, one_frame}
 use Rattle.law_reuse.proofs.History.{taken, ports_of}
-use Rattle.law_reuse.proofs.Invocation.{contains_got}
 use Rattle.law_reuse.proofs.OnceRuns.{IdleOr, Own, own_so_after, own_counted, own_run, orderly_here}
 use Rattle.law_reuse.proofs.UnfoldedRuns.{frees_shared, release_shared}
 use Rattle.law_reuse.proofs.Tenures.{TenureRun, tenure_run}
@@ -48,7 +48,7 @@ use Rattle.law_reuse.proofs.AllRuns.{start_of, releases_are_last, holders_are_al
 
 index_of : (ss : List ℕ) (h s : ℕ) → slice_get ss h ≡ Some s → slice_index_or ss h 0 ≡ s
 index_of [] h s e = absurd (cc)
-index_of (x ∷ ss) zero s e = some_same x s e
+index_of (x ∷ ss) zero s e = same_Some x s e
 index_of (x ∷ ss) (suc h) s e = index_of ss h s e
 
 -- an instruction that has a slot
@@ -72,12 +72,12 @@ module _ (p : Plan) (slots : List (List ℕ)) (wired : IsWired p) (good : Good p
       go : Located slots p.program.blocks ip → Back p slots holder op ip s
       go (Nowhere at none) = absurd (none_at (instr_at (placed p slots) ip) P.instr none P.is_at)
       go (There b n ss c i at_slots at_block at_instr plan_at code_at place) =
-          let same : moved_to ss i ≡ P.instr = some_same (moved_to ss i) P.instr (sym code_at ∙ P.is_at) in
+          let same : moved_to ss i ≡ P.instr = same_Some (moved_to ss i) P.instr (sym code_at ∙ P.is_at) in
           let is_op : i.op ≡ op = ap (λ (i : Instr). i.op) same ∙ P.does in
           let slot : slot_of i i.op ≡ Some i.slot = ap (slot_of i) is_op ∙ has i in
           let stands : Stands p.program b n i = record { code = c; block = at_block; instr = at_instr } in
           let mine : holder_at p ip ≡ Some record { block = b; number = i.slot } = ap (holder_at p) place ∙ holder_here p b n i stands ∙ ap (holder_of b) slot in
-          let below = (all_get IsPlanBlock p.program.blocks b c wired.plan.blocks at_block).below i i.slot (contains_got c.instrs n i at_instr) slot in
+          let below = (all_at IsPlanBlock p.program.blocks b c wired.plan.blocks at_block).below i i.slot (get_contains c.instrs n i at_instr) slot in
           let long = (good.blocks b c ss at_block at_slots).all in
           let at_s : slice_index_or ss i.slot 0 ≡ s = sym (ap (placed_slot ss) slot) ∙ ap (λ (i : Instr). i.slot) same ∙ P.uses in
           let got : slice_get ss i.slot ≡ Some s = get_index ss i.slot (omega (arith, below, long)) ∙ ap Some at_s in
@@ -96,7 +96,7 @@ module _ (p : Plan) (slots : List (List ℕ)) (wired : IsWired p) (good : Good p
       go : Located slots p.program.blocks ip → IsPart p (placed p slots) holder op ip s
       go (Nowhere at none) = absurd (none_at (instr_at p.program ip) P.instr at P.is_at)
       go (There b n ss c i at_slots at_block at_instr plan_at code_at place) =
-          let same : i ≡ P.instr = some_same i P.instr (sym plan_at ∙ P.is_at) in
+          let same : i ≡ P.instr = same_Some i P.instr (sym plan_at ∙ P.is_at) in
           let is_op : i.op ≡ op = ap (λ (i : Instr). i.op) same ∙ P.does in
           let own : slot_of i i.op ≡ Some i.slot = ap (slot_of i) is_op ∙ has i in
           let at_h : i.slot ≡ h = ap (λ (i : Instr). i.slot) same ∙ P.uses in
@@ -116,7 +116,7 @@ module _ (p : Plan) (slots : List (List ℕ)) (wired : IsWired p) (good : Good p
       go : Located slots p.program.blocks ip → IsLink (placed p slots) ip callee base
       go (Nowhere at none) = absurd (none_at (instr_at p.program ip) L.instr at L.is_at)
       go (There b n ss c i at_slots at_block at_instr plan_at code_at place) =
-          let same : i ≡ L.instr = some_same i L.instr (sym plan_at ∙ L.is_at) in
+          let same : i ≡ L.instr = same_Some i L.instr (sym plan_at ∙ L.is_at) in
           record { instr = moved_to ss i; dest = L.dest; is_at = code_at; does = ap (λ (i : Instr). i.op) same ∙ L.does; lands = ap (λ (i : Instr). i.firsts) same ∙ L.lands; begins = L.begins }
 
   loop_on : (loop : Holder) (k h s base : ℕ) → HasSlot slots loop.block h s → IsLoop p p.program loop k h base → IsLoop p code loop k s base
@@ -134,9 +134,6 @@ module _ (p : Plan) (slots : List (List ℕ)) (wired : IsWired p) (good : Good p
 is_open_of : (op : Op) → is_open op ≡ true → (k : ℕ) × (op ≡ Open k)
 is_open_of (Open k) e = (k, refl)
 is_open_of op e = absurd (true≢false (sym e))
-
-slot_same : (x y : ℕ) → Some x ≡ Some y → x ≡ y
-slot_same x y e = cc
 
 empty_waits : (c : Cont) → Empty ≡ Waiter c → ⊥
 empty_waits c e = cc
@@ -248,7 +245,7 @@ module _ (p : Plan) (slots : List (List ℕ)) (wired : IsWired p) (good : Good p
                     instr = G.i;
                     is_at = stands_at p.program G.b G.n G.i G.stands;
                     does = op.1;
-                    uses = slot_same G.i.slot k (sym (ap (slot_of G.i) op.1) ∙ G.holds);
+                    uses = same_Some G.i.slot k (sym (ap (slot_of G.i) op.1) ∙ G.holds);
                     holds = holder_here p G.b G.n G.i G.stands ∙ ap (holder_of G.b) G.holds;
                   } in
                   let slot : HasSlot slots G.b k s = ap (λ (b : ℕ). slice_get (slice_index_or slots b []) k) block ∙ ap (λ (l : List ℕ). slice_get l k) (index_got slots B.b B.ss B.at_slots) ∙ at_k in

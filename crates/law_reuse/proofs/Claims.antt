@@ -3,6 +3,7 @@ use Rattle.std.proofs.Common.{◌≡◌, refl, zero-add, sym, ap, ◌∙◌, sub
 use Rattle.std.specs.Prelude.{slice_get, slice_index_or, if◌then◌else◌, nat_lt, ⊤}
 use Rattle.std.proofs.lemmas.Bool.{cases_eq}
 use Rattle.std.proofs.lemmas.List.Elements.{Contains-append_left, Contains-append_right}
+use Rattle.std.proofs.lemmas.Option.{same_Some}
 use Rattle.tags.specs.declared.token.Port.{Port}
 use Rattle.tags.specs.declared.token.Word.{Word}
 use Rattle.tags.specs.declared.token.Token.{Token}
@@ -15,15 +16,16 @@ use Rattle.semantics.specs.Plan.{Plan}
 use Rattle.semantics.specs.Sharing.{placed_slot}
 use Rattle.semantics.specs.Holders.{Holder, holder_of, holder_from, holder_at}
 use Rattle.semantics.specs.Unfolded.{HasSlot}
+use Rattle.semantics.proofs.BlockPlaces.{first_in, first_next}
 use Rattle.law_reuse.proofs.PlacedCode.{moved_to}
 use Rattle.law_reuse.proofs.PlacedEvents.{Alone, in_slot, slot_moved}
-use Rattle.law_reuse.proofs.Stands.{some_same, first_in, first_next, Stands, stands_within}
+use Rattle.law_reuse.proofs.Stands.{Stands, stands_within}
 use Rattle.law_reuse.proofs.Fillings.{at_port, later_on}
 use Rattle.law_reuse.proofs.UsedArcs.{Ports, one_frame}
 
 pub index_got : (slots : List (List ℕ)) (b : ℕ) (ss : List ℕ) → slice_get slots b ≡ Some ss → slice_index_or slots b [] ≡ ss
 index_got [] b ss e = absurd (cc)
-index_got (x ∷ slots) zero ss e = some_same x ss e
+index_got (x ∷ slots) zero ss e = same_Some x ss e
 index_got (x ∷ slots) (suc b) ss e = index_got slots b ss e
 
 holder_in : (bs : List CodeBlock) (a b n : ℕ) (c : CodeBlock) → slice_get bs b ≡ Some c → n < length c.instrs → holder_from a bs (first_in bs b + n) ≡ holder_of (a + b) (slot_used (slice_get c.instrs n))

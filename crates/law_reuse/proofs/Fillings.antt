@@ -1,10 +1,11 @@
 -- What a state of a run tells of the tokens that were taken before it: who filled a slot, which arcs were used, and that
 -- a holder whose end was reached is empty for good.
-use Rattle.std.proofs.Common.{◌≡◌, refl, sym, ap, ◌∙◌, subst, ℕ, ◌+◌, ◌≤◌, ◌⊎◌, inl, inr, Bool, true, true≢false, eq-eqb, cond, List, [], ◌∷◌, ◌++◌, Option, Some, None, Contains, arith}
+use Rattle.std.proofs.Common.{◌≡◌, refl, sym, ap, ◌∙◌, subst, ℕ, ◌+◌, ◌≤◌, ◌⊎◌, inl, inr, Bool, true, true≢false, cond, List, [], ◌∷◌, ◌++◌, Option, Some, None, Contains, arith}
 use Rattle.std.specs.Prelude.{count_by}
-use Rattle.std.proofs.lemmas.Bool.{cases_eq, and_from}
+use Rattle.std.proofs.lemmas.Bool.{cases_eq}
 use Rattle.std.proofs.lemmas.List.Sums.{sum_by-append, sum_by-cons}
 use Rattle.std.proofs.lemmas.List.Elements.{Contains-append_left, Contains-push}
+use Rattle.lemmas.proofs.Contains.{contains_cases, contains_none}
 use Rattle.tags.specs.declared.token.Port.{Port}
 use Rattle.tags.specs.declared.token.Port.TheVariants.{Left, Right}
 use Rattle.tags.specs.declared.token.Word.{Word}
@@ -17,12 +18,12 @@ use Rattle.semantics.specs.Program.{Instr, Program, first_of}
 use Rattle.semantics.specs.Rule.{token, Seat, Outcome, Becomes, Excluded, outcome_of, rule_at, slot_of}
 use Rattle.semantics.specs.Machine.{Store as MStore, put_at, slot_in, with_slot_in, slot_used, Fires, Happens}
 use Rattle.semantics.specs.Plan.{is_open}
-use Rattle.semantics.specs.Orderly.{is_at, eq_port}
+use Rattle.semantics.specs.Orderly.{is_at}
 use Rattle.semantics.specs.Wired.{is_dyadic}
+use Rattle.semantics.proofs.Ports.{is_at_itself}
 use Rattle.law_reuse.proofs.Fold.{put_same, put_other}
 use Rattle.law_reuse.proofs.Stands.{Stands, stands_at}
 use Rattle.law_reuse.proofs.Turns.{is_counting, Turn, waits_left, waits_right, meets_right, meets_left, lone, begins, counts, turn_of}
-use Rattle.law_reuse.proofs.Members.{contains_cases, contains_none}
 
 -- ---- TOKENS AT PORTS
 
@@ -36,13 +37,6 @@ Came p ts f b n q = (w : Word) × Contains ts (at_port p f b n q w)
 
 abbrev pub later_on : {X : Type 0} (ts : List X) (t x : X) → Contains ts x → Contains (ts ++ t ∷ []) x
 later_on ts t x c = Contains-append_left ts (t ∷ []) x c
-
-is_at_itself : (f ip : ℕ) (q : Port) → is_at f ip q (To.Instr f ip q) ≡ true
-is_at_itself f ip q = and_from _ _ (and_from _ _ (eq-eqb f f refl) (eq-eqb ip ip refl)) (same q)
-  where
-    same : (q : Port) → eq_port q q ≡ true
-    same Left = refl
-    same Right = refl
 
 count_some : (p : Token → Bool) (ts : List Token) (t : Token) → Contains ts t → p t ≡ true → 1 ≤ count_by p ts
 count_some p [] t c e = absurd (contains_none t c)

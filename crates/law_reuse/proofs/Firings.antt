@@ -3,6 +3,9 @@ use Rattle.std.proofs.Common.{◌≡◌, refl, sym, ap, ◌∙◌, subst, ℕ, �
 use Rattle.std.specs.Prelude.{slice_get, if◌then◌else◌}
 use Rattle.std.proofs.lemmas.Bool.{cases_Bool, and_from}
 use Rattle.std.proofs.lemmas.List.Elements.{Contains-append_left, Contains-append_right, Contains-push}
+use Rattle.std.proofs.lemmas.Option.{same_Some}
+use Rattle.lemmas.proofs.Alls.{all_at}
+use Rattle.lemmas.proofs.Contains.{contains_map, contains_mapped, contains_none}
 use Rattle.operators.specs.Values.{truth}
 use Rattle.tags.specs.declared.value.Value.{Value}
 use Rattle.tags.specs.declared.token.Port.{Port}
@@ -23,12 +26,10 @@ use Rattle.semantics.specs.Plan.{Plan, is_credit, is_open, IsPlanBlock}
 use Rattle.semantics.specs.Sharing.{Inlet, inlet, Arc, arc, arcs_to, arcs_from, arcs_in, is_port, ends_with}
 use Rattle.semantics.specs.Arcs.{UsesBy}
 use Rattle.semantics.specs.Wired.{is_dyadic, IsWired}
-use Rattle.law_determinacy.proofs.Resolved.{all_get}
-use Rattle.law_reuse.proofs.Stands.{some_same, Stands, stands_one}
+use Rattle.law_reuse.proofs.Stands.{Stands, stands_one}
 use Rattle.law_reuse.proofs.Turns.{is_counting, is_later, Turn, waits_left, waits_right, meets_right, meets_left, lone, begins, counts, drain_turn, later_not_dyadic, open_not_dyadic, dyadic_not_credit}
 use Rattle.law_reuse.proofs.Fillings.{at_port, Came, later_on, EmptyOr, opened_from, none_some, Move, turn, slot_cases, slot_new}
 use Rattle.law_reuse.proofs.UsedArcs.{stands_arcs, credit_port, later_port, open_end, dyadic_slot, Ports, one_frame, not_twice, Over, Used, came_later, same_over, used_later, no_move}
-use Rattle.law_reuse.proofs.Members.{contains_map, contains_none, contains_mapped}
 
 -- an arc of a block into the port was used in the frame
 pub record CausedBy (p : Plan) (ts : List Token) (slots : ℕ → ℕ → SlotState) (f ip : ℕ) (q : Port) : Type 0 where
@@ -43,8 +44,8 @@ pub record CausedBy (p : Plan) (ts : List Token) (slots : ℕ → ℕ → SlotSt
 pub holders_of : (p : Plan) (wired : IsWired p) (b m n h : ℕ) (i j : Instr) → Stands p.program b m i → Stands p.program b n j → slot_of i i.op ≡ Some h → slot_of j j.op ≡ Some h
     → (m ≡ n) ⊎ ((is_credit i.op ≡ true) × (is_credit j.op ≡ true) × (is_open i.op && is_open j.op ≡ false))
 holders_of p wired b m n h i j s t holds others =
-    let same : t.code ≡ s.code = some_same t.code s.code (sym t.block ∙ s.block) in
-    (all_get IsPlanBlock p.program.blocks b s.code wired.plan.blocks s.block).holders m n h i j s.instr (subst (λ (c : CodeBlock). slice_get c.instrs n ≡ Some j) same t.instr) holds others
+    let same : t.code ≡ s.code = same_Some t.code s.code (sym t.block ∙ s.block) in
+    (all_at IsPlanBlock p.program.blocks b s.code wired.plan.blocks s.block).holders m n h i j s.instr (subst (λ (c : CodeBlock). slice_get c.instrs n ≡ Some j) same t.instr) holds others
 
 module _ (p : Plan) (wired : IsWired p) (ts pool : List Token) (P : Ports p ts pool) (f b n : ℕ) (q : Port) (w : Word) (i : Instr) (made : List Token) (old new : MStore) (at : Stands p.program b n i)
     (M : Move p.program f b n q w i made old new) (inside : Contains pool (at_port p.program f b n q w)) (filled : (g h : ℕ) → EmptyOr p.program ts g h (old.slots g h)) where
@@ -237,7 +238,7 @@ module _ (p : Plan) (wired : IsWired p) (ts pool : List Token) (P : Ports p ts p
   -- what a switch made goes to the side that its predicate tells
   switch_made : (l v : Word) → fire_two p.program record { frame = f; ip = first_of p.program b + n } i Switch l v ≡ Some made
       → (z : Value) × (v ≡ Word.Val z) × (made ≡ to_each record { frame = f; ip = first_of p.program b + n } l (if truth z then i.firsts else i.seconds))
-  switch_made l (Word.Val z) e = (z, refl, sym (some_same _ made e))
+  switch_made l (Word.Val z) e = (z, refl, sym (same_Some _ made e))
   switch_made l (Word.Frame g) e = absurd (cc)
   switch_made l (Word.Back c) e = absurd (cc)
 

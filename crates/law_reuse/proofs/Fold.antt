@@ -3,6 +3,7 @@
 use Rattle.std.proofs.Common.{◌≡◌, refl, sym, ap, ◌∙◌, subst, ℕ, ◌<◌, ◌⊎◌, inl, inr, ⊎_elim, Bool, true, false, List, [], ◌∷◌, ◌++◌, map, Option, Some, None}
 use Rattle.std.specs.Prelude.{if◌then◌else◌, ◌==◌}
 use Rattle.std.proofs.lemmas.Bool.{cases_eq, eq-eqb, eqb-true}
+use Rattle.lemmas.proofs.Lists.{map_append}
 use Rattle.tags.specs.declared.value.Value.{Value}
 use Rattle.tags.specs.declared.token.Port.{Port}
 use Rattle.tags.specs.declared.token.Cont.{Cont}
@@ -164,10 +165,6 @@ instr_step p t tu h inj m u new f ip q w made F e =
 
 pub answer_re : (h : ℕ → ℕ) (c : Cont) (w : Word) → re_token h (answer c w) ≡ answer (re_cont h c) (re_word h w)
 answer_re h c w = ap (λ (t : To). token t (re_word h w)) (sym (back_to_re h c))
-
-pub map_append : {X Y : Type 0} (f : X → Y) (xs ys : List X) → map f (xs ++ ys) ≡ map f xs ++ map f ys
-map_append f [] ys = refl
-map_append f (x ∷ xs) ys = ap (λ (l : List _). f x ∷ l) (map_append f xs ys)
 
 answers_re : (h : ℕ → ℕ) (cs : List Cont) (v : Value) → map (re_token h) (answers cs v) ≡ answers (map (re_cont h) cs) v
 answers_re h [] v = refl

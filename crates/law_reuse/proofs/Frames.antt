@@ -4,6 +4,9 @@ use Rattle.std.specs.Prelude.{◌==◌, if◌then◌else◌}
 use Rattle.std.proofs.lemmas.Bool.{cases_eq, cases_lt, eqb-true, eq-eqb}
 use Rattle.std.proofs.lemmas.List.Elements.{Contains-append_left, Contains-append_right}
 use Rattle.std.proofs.lemmas.List.Sorted.{IsPermutation-refl, IsPermutation-sym, IsPermutation-trans, IsPermutation-map, IsPermutation-append_left, IsPermutation-append_right, IsPermutation-middle, IsPermutation-to_front, length_permutation}
+use Rattle.lemmas.proofs.Permutations.{Each, Spread, each_append, each_weaker, spread_append}
+use Rattle.lemmas.proofs.Contains.{contains_mapped}
+use Rattle.lemmas.proofs.Lists.{map_append}
 use Rattle.tags.specs.declared.value.Value.{Value}
 use Rattle.tags.specs.declared.value.Value.TheVariants.{Int}
 use Rattle.tags.specs.declared.token.Port.TheVariants.{Left}
@@ -26,11 +29,10 @@ use Rattle.semantics.specs.Handed.{handed_by, handed}
 use Rattle.law_reuse.specs.Generations.{is_release, release_count}
 use Rattle.law_reuse.proofs.Snoc.{run_snoc, handed_snoc, holds_snoc, tally, tally_snoc}
 use Rattle.law_reuse.proofs.Tallies.{Counter, count_at, count_request, count_release, count_re, count_off}
-use Rattle.law_reuse.proofs.Members.{contains_mapped}
 use Rattle.law_reuse.proofs.Counts.{kept_count, more_count, Counted, counted_both, counted_waits, counted_serves}
 use Rattle.law_reuse.proofs.Tracked.{held_re, holds_none}
-use Rattle.law_reuse.proofs.Lists.{Each, Spread, Differ, each_append, each_weaker, spread_append, all_differ}
-use Rattle.law_reuse.proofs.Fold.{Fold, Follows, fold_same, out_fold, instr_step, fetch_step, store_step, request_step, host_step, put_same, put_other, answer_re, map_append, eq_under, ne_eqb}
+use Rattle.law_reuse.proofs.Lists.{Differ, all_differ}
+use Rattle.law_reuse.proofs.Fold.{Fold, Follows, fold_same, out_fold, instr_step, fetch_step, store_step, request_step, host_step, put_same, put_other, answer_re, eq_under, ne_eqb}
 use Rattle.law_reuse.proofs.Freed.{place, IsNaming, place_low, place_injective, place_same, next_use, naming_later, naming_next, place_fresh, Renews, renews_next, keep_tokens, free_fold}
 
 -- a run to here in which each frame is handed out once, and these are the frames that were

@@ -3,6 +3,9 @@ use Rattle.std.proofs.Common.{◌≡◌, refl, sym, ap, ◌∙◌, subst, ℕ, �
 use Rattle.std.specs.Prelude.{slice_get}
 use Rattle.std.proofs.lemmas.List.Elements.{Contains-push_cases}
 use Rattle.std.proofs.lemmas.List.Sorted.{Contains-permutation, IsPermutation-sym}
+use Rattle.std.proofs.lemmas.Option.{same_Some}
+use Rattle.lemmas.proofs.Contains.{contains_head, contains_none}
+use Rattle.lemmas.proofs.Lists.{map_append}
 use Rattle.tags.specs.declared.token.Port.{Port}
 use Rattle.tags.specs.declared.token.Word.{Word}
 use Rattle.tags.specs.declared.token.To.{To}
@@ -16,14 +19,12 @@ use Rattle.semantics.specs.Sharing.{arcs_in}
 use Rattle.semantics.specs.Arcs.{UsesArc, SomeEvent}
 use Rattle.semantics.specs.Orderly.{is_entry, IsOrderlyRun}
 use Rattle.semantics.specs.Wired.{IsWired}
-use Rattle.law_reuse.proofs.Fold.{map_append}
 use Rattle.law_reuse.proofs.Snoc.{run_snoc, some_snoc}
 use Rattle.law_reuse.proofs.StillSlots.{slots_or}
-use Rattle.law_reuse.proofs.Stands.{some_same, Stands, stands_at, Found, found}
+use Rattle.law_reuse.proofs.Stands.{Stands, stands_at, Found, found}
 use Rattle.law_reuse.proofs.Fillings.{at_port, Filled, EmptyOr, filled_more, Move, move_of, filled_after}
 use Rattle.law_reuse.proofs.UsedArcs.{arc_stands, Ports, used_same}
 use Rattle.law_reuse.proofs.Firings.{CausedBy, caused_next, caused_by}
-use Rattle.law_reuse.proofs.Members.{contains_head, contains_none}
 
 -- the tokens that the events took
 abbrev pub taken : Events → List Token
@@ -112,7 +113,7 @@ module _ (p : Plan) (wired : IsWired p) (z : Size) (start : Machine) (events : E
       go None at = absurd (contains_none U.x (subst (λ (o : Option CodeBlock). Contains (arcs_in p o) U.x) at U.is_arc))
       go (Some code) at =
           let stands = arc_stands p U.b code U.x at (subst (λ (o : Option CodeBlock). Contains (arcs_in p o) U.x) at U.is_arc) in
-          let same : stands.0 ≡ U.i = some_same stands.0 U.i (sym (stands_at p.program U.b U.x.from stands.0 stands.1) ∙ U.fired) in
+          let same : stands.0 ≡ U.i = same_Some stands.0 U.i (sym (stands_at p.program U.b U.x.from stands.0 stands.1) ∙ U.fired) in
           let here : Stands p.program U.b U.x.from U.i = subst (Stands p.program U.b U.x.from) same stands.1 in
           subst (λ (x : Token). CausedBy p (ts ++ x ∷ []) c.store.slots f ip r) (same_token f U.b U.x.from U.side U.taken_at)
           (caused_by p wired ts u.pool (ports_of p z start events u run O) f U.b U.x.from U.side t.word U.i ev.made u.store c.store here

@@ -1,9 +1,11 @@
 -- In an orderly run, two holders that may share a slot are never both live: the facts of one frame's invocation.
-use Rattle.std.proofs.Common.{◌≡◌, refl, sym, ap, ◌∙◌, subst, ℕ, zero, suc, ◌+◌, ◌<◌, ◌⊎◌, inl, inr, Bool, true, false, not, true≢false, List, [], ◌∷◌, ◌++◌, length, Option, Some, None, Contains, arith}
+use Rattle.std.proofs.Common.{◌≡◌, refl, sym, ap, ◌∙◌, subst, ℕ, ◌+◌, ◌<◌, ◌⊎◌, inl, inr, Bool, true, false, not, true≢false, List, ◌++◌, length, Option, Some, None, Contains, arith}
 use Rattle.std.specs.Prelude.{slice_get}
 use Rattle.std.proofs.lemmas.Bool.{cases_Bool, cases_eq}
-use Rattle.std.proofs.lemmas.Option.{slice_get_within}
+use Rattle.std.proofs.lemmas.Option.{slice_get_within, same_Some}
 use Rattle.std.proofs.lemmas.List.Elements.{Contains-append_left, Contains-append_right, Contains-append_cases}
+use Rattle.lemmas.proofs.Alls.{all_at}
+use Rattle.lemmas.proofs.Contains.{get_contains}
 use Rattle.operators.specs.Values.{truth}
 use Rattle.tags.specs.declared.value.Value.{Value}
 use Rattle.tags.specs.declared.token.Port.{Port}
@@ -21,26 +23,15 @@ use Rattle.semantics.specs.Plan.{Plan, instr_in, IsPlanBlock}
 use Rattle.semantics.specs.Sharing.{Inlet, inlet, Arc, arcs_of, arcs_in, Holds, ends_with, IsEnd, IsSide, is_port, IsHolderPort, Good}
 use Rattle.semantics.specs.Orderly.{is_entry, IsOrderlyRun}
 use Rattle.semantics.specs.Wired.{is_dyadic, IsWired}
-use Rattle.law_determinacy.proofs.Resolved.{all_get}
 use Rattle.law_reuse.proofs.Neighbours.{alone_from}
 use Rattle.law_reuse.proofs.PlacedEvents.{Alone}
 use Rattle.law_reuse.proofs.Shares.{IsKept, one_live}
-use Rattle.law_reuse.proofs.Stands.{some_same, past_entries, Stands, stands_at, stands_one}
+use Rattle.law_reuse.proofs.Stands.{past_entries, Stands, stands_at, stands_one}
 use Rattle.law_reuse.proofs.Turns.{turn_of}
 use Rattle.law_reuse.proofs.Fillings.{at_port, Came, Tells, EmptyOr}
 use Rattle.law_reuse.proofs.UsedArcs.{dyadic_port, open_port, Ports, one_frame, not_twice, Over, Used, no_move}
 use Rattle.law_reuse.proofs.Firings.{CausedBy}
 use Rattle.law_reuse.proofs.History.{taken, Kept, ports_of}
-
-there : {X : Type 0} (xs : List X) (i : ℕ) → i < length xs → (x : X) × (slice_get xs i ≡ Some x)
-there [] i h = absurd (omega (arith, h))
-there (x ∷ xs) zero h = (x, refl)
-there (x ∷ xs) (suc i) h = there xs i (omega (arith, h))
-
-pub contains_got : {X : Type 0} (xs : List X) (i : ℕ) (x : X) → slice_get xs i ≡ Some x → Contains xs x
-contains_got [] i x e = absurd (cc)
-contains_got (y ∷ xs) zero x e = (0, omega arith, some_same y x e)
-contains_got (y ∷ xs) (suc i) x e = let c = contains_got xs i x e in let below = c.1 in (suc c.0, omega (arith, below), c.2)
 
 tells_port : (p : Program) (ts : List Token) (f b n : ℕ) (i : Instr) (s : SlotState) → Tells p ts f b n i s → (q : Port) × (is_port i.op q ≡ true) × Came p ts f b n q
 tells_port p ts f b n i Empty h = absurd h
@@ -90,7 +81,7 @@ module _ (p : Plan) (wired : IsWired p) (z : Size) (start : Machine) (events : E
   stands_here n i e = record { code = c; block = at; instr = e }
 
   instr_here : (n : ℕ) (i : Instr) → Stands p.program b n i → slice_get c.instrs n ≡ Some i
-  instr_here n i s = subst (λ (d : CodeBlock). slice_get d.instrs n ≡ Some i) (some_same s.code c (sym s.block ∙ at)) s.instr
+  instr_here n i s = subst (λ (d : CodeBlock). slice_get d.instrs n ≡ Some i) (same_Some s.code c (sym s.block ∙ at)) s.instr
 
   holds_here : (n h : ℕ) (i : Instr) → Stands p.program b n i → slot_of i i.op ≡ Some h → Holds (slice_get p.program.blocks b) h n i
   holds_here n h i s holds = (ap (λ (o : Option CodeBlock). instr_in o n) at ∙ instr_here n i s, holds)
@@ -222,6 +213,6 @@ module _ (p : Plan) (wired : IsWired p) (z : Size) (start : Machine) (events : E
   alone_here slots good ss at_ss n i q w s inside =
       alone_from p slots good b c ss at at_ss Met UsedHere Live is_kept (u.store.slots f) (λ k full. inl full) i
       (λ h holds. (
-        (all_get IsPlanBlock p.program.blocks b c wired.plan.blocks at).below i h (contains_got c.instrs n i (instr_here n i s)) holds,
+        (all_at IsPlanBlock p.program.blocks b c wired.plan.blocks at).below i h (get_contains c.instrs n i (instr_here n i s)) holds,
         inr record { n = n; j = i; q = q; w = w; stands = s; holds = holds; waits = inside },
       ))

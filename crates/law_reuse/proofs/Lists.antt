@@ -1,27 +1,7 @@
 -- What each element of a list has, and what each two have.
-use Rattle.std.proofs.Common.{◌≡◌, refl, ap, subst, ℕ, zero, suc, List, [], ◌∷◌, ◌++◌, Some, slice_get}
-use Rattle.std.specs.Prelude.{⊤}
+use Rattle.std.proofs.Common.{◌≡◌, refl, ap, subst, ℕ, zero, suc, List, [], ◌∷◌, Some, slice_get}
+use Rattle.lemmas.proofs.Permutations.{Each, Spread}
 use Rattle.semantics.specs.Handed.{EachOnce}
-
-abbrev pub Each : {X : Type 0} → (X → Type 0) → List X → Type 0
-Each P [] = ⊤
-Each P (x ∷ xs) = P x × Each P xs
-
-abbrev pub Spread : {X : Type 0} → (X → X → Type 0) → List X → Type 0
-Spread R [] = ⊤
-Spread R (x ∷ xs) = Each (R x) xs × Spread R xs
-
-pub each_append : {X : Type 0} (P : X → Type 0) (xs ys : List X) → Each P xs → Each P ys → Each P (xs ++ ys)
-each_append P [] ys h k = k
-each_append P (x ∷ xs) ys h k = (h.0, each_append P xs ys h.1 k)
-
-pub each_weaker : {X : Type 0} (P Q : X → Type 0) → ((x : X) → P x → Q x) → (xs : List X) → Each P xs → Each Q xs
-each_weaker P Q f [] h = tt
-each_weaker P Q f (x ∷ xs) h = (f x h.0, each_weaker P Q f xs h.1)
-
-pub spread_append : {X : Type 0} (R : X → X → Type 0) (xs ys : List X) → Spread R xs → Spread R ys → Each (λ x. Each (R x) ys) xs → Spread R (xs ++ ys)
-spread_append R [] ys h k across = k
-spread_append R (x ∷ xs) ys h k across = (each_append (R x) xs ys h.0 across.0, spread_append R xs ys h.1 k across.1)
 
 abbrev pub Differ : ℕ → ℕ → Type 0
 Differ f g = f ≡ g → ⊥

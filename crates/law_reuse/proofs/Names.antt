@@ -4,6 +4,7 @@ use Rattle.std.specs.Prelude.{◌==◌, if◌then◌else◌}
 use Rattle.std.proofs.lemmas.Bool.{cases_eq, cases_Bool, eq-eqb}
 use Rattle.std.proofs.lemmas.List.Elements.{Contains-append_cases, Contains-append_right}
 use Rattle.std.proofs.lemmas.List.Sorted.{Contains-permutation, IsPermutation-refl, IsPermutation-sym}
+use Rattle.lemmas.proofs.Contains.{contains_cases, contains_head, contains_none, contains_tail}
 use Rattle.tags.specs.declared.value.Value.{Value}
 use Rattle.tags.specs.declared.value.Value.TheVariants.{Int}
 use Rattle.tags.specs.declared.token.Port.{Port}
@@ -21,7 +22,6 @@ use Rattle.semantics.specs.Machine.{CellState, Vacant, Full, Deferred, Machine, 
 use Rattle.semantics.specs.Orderly.{NamesCont, NamesWord, NamesTo, NamesSlot, readers_of, IsFreeOf, IsFreeAtRelease}
 use Rattle.semantics.specs.Plan.{Plan}
 use Rattle.semantics.specs.Renamed.{re_cont, re_word, re_to, re_token, re_slot}
-use Rattle.law_reuse.proofs.Members.{contains_head, contains_tail, contains_cases, contains_none}
 use Rattle.law_reuse.proofs.Renames.{re_seat, re_outcome, outcome_re}
 use Rattle.law_reuse.proofs.Fold.{put_same, put_other, ne_eqb}
 use Rattle.law_reuse.proofs.Snoc.{run_snoc}

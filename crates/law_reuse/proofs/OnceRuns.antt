@@ -4,6 +4,9 @@ use Rattle.std.specs.Prelude.{slice_get, if◌then◌else◌, ◌==◌}
 use Rattle.std.proofs.lemmas.Bool.{cases_eq, and_parts, and_from, eqb-true, eq-eqb}
 use Rattle.std.proofs.lemmas.List.Elements.{Contains-append_left, Contains-append_right, Contains-push}
 use Rattle.std.proofs.lemmas.List.Sorted.{Contains-permutation, IsPermutation-refl, IsPermutation-sym, IsPermutation-trans}
+use Rattle.std.proofs.lemmas.Option.{same_Some}
+use Rattle.lemmas.proofs.Contains.{contains_head}
+use Rattle.lemmas.proofs.Lists.{map_append}
 use Rattle.tags.specs.declared.token.Port.{Port}
 use Rattle.tags.specs.declared.token.Port.TheVariants.{Left}
 use Rattle.tags.specs.declared.token.Cont.{Cont}
@@ -23,7 +26,6 @@ use Rattle.semantics.specs.Handed.{handed_by, handed, EachOnce, UsesEachOnce}
 use Rattle.semantics.specs.Orderly.{Orderly, IsStart, IsOrderlyRun}
 use Rattle.semantics.specs.Unfolded.{HasSlot}
 use Rattle.semantics.specs.Wired.{IsWired}
-use Rattle.law_reuse.proofs.Fold.{map_append}
 use Rattle.law_reuse.proofs.Snoc.{run_snoc, handed_snoc, tally, tally_snoc}
 use Rattle.law_reuse.proofs.Tallies.{Counter, Grants, Releases, count_at, count_apart}
 use Rattle.law_reuse.proofs.Frames.{So, so_start}
@@ -31,14 +33,13 @@ use Rattle.semantics.specs.Credits.{granted_in, released_in}
 use Rattle.law_reuse.proofs.PlacedCode.{moved_to, Located, Nowhere, There, located, first_same, Agrees, agrees_idle, agrees_at, empty_or}
 use Rattle.law_reuse.proofs.PlacedEvents.{Alone, slot_moved, slot_same, Unmoved, Shown, instr_placed}
 use Rattle.law_reuse.proofs.OtherEvents.{Same, Carried, fetch_carried, store_carried, request_carried, host_carried, release_carried}
-use Rattle.law_reuse.proofs.Stands.{some_same, Stands}
+use Rattle.law_reuse.proofs.Stands.{Stands}
 use Rattle.law_reuse.proofs.Fillings.{at_port, later_on, Move, move_of, slot_cases}
 use Rattle.law_reuse.proofs.UsedArcs.{Ports, one_frame}
 use Rattle.semantics.specs.Holders.{Holder, same_holder, holder_of, holder_at, held_after, uses_slot, held_by_event, holds}
 use Rattle.law_reuse.proofs.Claims.{index_got, holder_here, Claim, ClaimOr, claim_later, claim_slot, claim_same, slot_there, slot_is}
 use Rattle.law_reuse.proofs.History.{taken, Kept, ports_of, kept_next, kept_start}
 use Rattle.law_reuse.proofs.Invocation.{alone_here}
-use Rattle.law_reuse.proofs.Members.{contains_head}
 
 -- ---- THE TWO STATES
 
@@ -82,7 +83,7 @@ pub frame_agrees : (p : Plan) (slots : List (List ℕ)) (ts pool : List Token) �
 frame_agrees p slots ts pool P f b n i q w ss code plan s at inside (inl idle) = agrees_idle ss code plan idle.0 idle.1
 frame_agrees p slots ts pool P f b n i q w ss code plan s at inside (inr B) =
     let same : B.b ≡ b = one_frame p ts pool P f B.b b B.n n B.i i B.q q B.w w B.stands s (Contains-append_left ts pool (at_port p.program f B.b B.n B.q B.w) B.came) (Contains-append_right ts pool (at_port p.program f b n q w) inside) in
-    let row : B.ss ≡ ss = some_same B.ss ss (sym B.at_slots ∙ ap (slice_get slots) same ∙ at) in
+    let row : B.ss ≡ ss = same_Some B.ss ss (sym B.at_slots ∙ ap (slice_get slots) same ∙ at) in
     subst (λ (ss : List ℕ). Agrees ss code plan) row B.agrees
 
 -- ---- ONE EVENT

@@ -2,6 +2,7 @@
 use Rattle.std.proofs.Common.{◌≡◌, ◌≤◌, zero-add, ltb-false, refl, sym, ap, ◌∙◌, ℕ, zero, suc, ◌+◌, ◌-◌, ◌⊎◌, inl, inr, Bool, true, false, List, [], ◌∷◌, map, length, take, sum, Some, None, slice_get, arith}
 use Rattle.std.specs.Prelude.{if◌then◌else◌, nat_lt}
 use Rattle.std.proofs.lemmas.Bool.{cases_eq}
+use Rattle.std.proofs.lemmas.Option.{same_Some}
 use Rattle.tags.specs.declared.token.Port.{Port}
 use Rattle.tags.specs.declared.token.Port.TheVariants.{Left, Right}
 use Rattle.tags.specs.declared.token.Word.{Word}
@@ -16,8 +17,8 @@ use Rattle.semantics.specs.Rule.{token, signal, Seat, to_each, to_all, landing_a
 use Rattle.semantics.specs.Machine.{put_at}
 use Rattle.semantics.specs.Sharing.{placed_slot, placed_instrs}
 use Rattle.semantics.specs.Placed.{placed_blocks}
+use Rattle.semantics.proofs.BlockPlaces.{first_in, first_next}
 use Rattle.law_reuse.proofs.Fold.{put_same, put_other}
-use Rattle.law_reuse.proofs.Stands.{some_same, first_in, first_next}
 
 -- ---- the same rule
 
@@ -156,7 +157,7 @@ agrees_at ss code plan A h s at only = go (empty_or (plan h)) (empty_or (code s)
     go (inl e) (inl f) = f ∙ sym e
     go (inr full) d =
         let k = A.shown h full in
-        let same : k.0 ≡ s = some_same k.0 s (sym k.1 ∙ at) in
+        let same : k.0 ≡ s = same_Some k.0 s (sym k.1 ∙ at) in
         sym (k.2 ∙ ap code same)
     go (inl e) (inr full) = pick (A.held s full)
       where
@@ -176,7 +177,7 @@ agrees_put ss code plan h s v at only A = record { held = λ r full. held r (cas
     held r (inl e) full = (h, at ∙ ap Some e, put_same plan h v h refl ∙ sym (put_same code s v r e))
     held r (inr ne) full =
         let before = A.held r (λ e. full (put_other code s v r ne ∙ e)) in
-        (before.0, before.1, put_other plan h v before.0 (λ e. ne (some_same s r (sym at ∙ ap (slice_get ss) e ∙ before.1))) ∙ before.2 ∙ sym (put_other code s v r ne))
+        (before.0, before.1, put_other plan h v before.0 (λ e. ne (same_Some s r (sym at ∙ ap (slice_get ss) e ∙ before.1))) ∙ before.2 ∙ sym (put_other code s v r ne))
 
     shown : (k : ℕ) → ((h ≡ k) ⊎ (h ≡ k → ⊥)) → (put_at plan h v k ≡ Empty → ⊥) → (r : ℕ) × (slice_get ss k ≡ Some r) × (put_at plan h v k ≡ put_at code s v r)
     shown k (inl e) full = (s, ap (slice_get ss) (sym e) ∙ at, put_same plan h v k e ∙ sym (put_same code s v s refl))

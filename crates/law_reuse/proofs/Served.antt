@@ -2,6 +2,7 @@
 use Rattle.std.proofs.Common.{◌≡◌, refl, sym, ap, ◌∙◌, subst, ℕ, suc, ◌+◌, ◌*◌, ◌<◌, ◌≤◌, ◌⊎◌, inl, inr, ℤ, Bool, true, false, List, [], ◌∷◌, ◌++◌, map, length, IsPermutation, arith, mul_left_comm, mul-pos}
 use Rattle.std.specs.Prelude.{⊤}
 use Rattle.std.proofs.lemmas.List.Sorted.{IsPermutation-refl, IsPermutation-sym, IsPermutation-trans, IsPermutation-middle, IsPermutation-append_comm}
+use Rattle.lemmas.proofs.Permutations.{each_weaker}
 use Rattle.tags.specs.declared.token.Cont.{Cont}
 use Rattle.tags.specs.declared.token.Word.{Word}
 use Rattle.tags.specs.declared.token.To.{To}
@@ -14,7 +15,7 @@ use Rattle.semantics.specs.Handed.{handed, EachOnce}
 use Rattle.tags.specs.declared.slot.SlotState.TheVariants.{Empty}
 use Rattle.semantics.specs.Renamed.{re_cont, re_token, re_cell}
 use Rattle.law_reuse.proofs.Counts.{Counted, counted_serves}
-use Rattle.law_reuse.proofs.Lists.{each_weaker, all_differ}
+use Rattle.law_reuse.proofs.Lists.{all_differ}
 use Rattle.law_reuse.proofs.Fold.{put_other}
 use Rattle.law_reuse.proofs.Freed.{place, place_low, place_same, place_fresh}
 use Rattle.law_reuse.proofs.Frames.{So, so_start, so_after, Once, once_more, waits, Used, FreesOnce, Next, wide, last_state}

@@ -1,20 +1,9 @@
 -- Where an instruction stands: its block, and its place there.
-use Rattle.std.proofs.Common.{◌≡◌, refl, zero-add, sym, ap, ◌∙◌, subst, ℕ, zero, suc, ◌+◌, ◌-◌, ◌<◌, ◌≤◌, Bool, true, false, true≢false, List, [], ◌∷◌, map, length, sum, take, Some, slice_get, nat_lt, lt-ltb, le-ltb, ltb-false, arith, if◌then◌else◌}
-use Rattle.std.proofs.lemmas.List.Sums.{sum-map, sum_by-cons}
-use Rattle.std.proofs.lemmas.Option.{slice_get_within}
+use Rattle.std.proofs.Common.{◌≡◌, refl, zero-add, sym, ap, ◌∙◌, subst, ℕ, zero, suc, ◌+◌, ◌-◌, ◌<◌, ◌≤◌, Bool, true, false, true≢false, List, [], ◌∷◌, length, Some, slice_get, nat_lt, lt-ltb, le-ltb, ltb-false, arith, if◌then◌else◌}
+use Rattle.std.proofs.lemmas.Option.{slice_get_within, same_Some}
 use Rattle.semantics.specs.Program.{Instr, CodeBlock, Program, first_of, instr_from, instr_at}
 use Rattle.semantics.specs.Orderly.{is_entry, same_block}
-
-pub some_same : {X : Type 0} (x y : X) → Some x ≡ Some y → x ≡ y
-some_same x y e = cc
-
-abbrev pub first_in : List CodeBlock → ℕ → ℕ
-first_in bs m = sum (map (λ (x : CodeBlock). length x.instrs) (take m bs))
-
-pub first_next : (c : CodeBlock) (bs : List CodeBlock) (m : ℕ) → first_in (c ∷ bs) (suc m) ≡ length c.instrs + first_in bs m
-first_next c bs m =
-    let f : CodeBlock → ℕ = λ (x : CodeBlock). length x.instrs in
-    sum-map f (c ∷ take m bs) ∙ sum_by-cons f c (take m bs) ∙ ap (λ n. length c.instrs + n) (sym (sum-map f (take m bs)))
+use Rattle.semantics.proofs.BlockPlaces.{first_in, first_next}
 
 pub instr_in : (bs : List CodeBlock) (m k : ℕ) (c : CodeBlock) → slice_get bs m ≡ Some c → k < length c.instrs → instr_from bs (first_in bs m + k) ≡ slice_get c.instrs k
 instr_in [] m k c e h = absurd (cc)
@@ -96,7 +85,7 @@ pub stands_at : (p : Program) (b n : ℕ) (i : Instr) → Stands p b n i → ins
 stands_at p b n i s = instr_in p.blocks b n s.code s.block (stands_within p b n i s) ∙ s.instr
 
 pub stands_one : (p : Program) (b n : ℕ) (i j : Instr) → Stands p b n i → Stands p b n j → i ≡ j
-stands_one p b n i j s t = some_same i j (sym (stands_at p b n i s) ∙ stands_at p b n j t)
+stands_one p b n i j s t = same_Some i j (sym (stands_at p b n i s) ∙ stands_at p b n j t)
 
 pub stands_block : (p : Program) (a b m n : ℕ) (i j : Instr) → Stands p a m i → Stands p b n j → same_block p.blocks (first_of p a + m) (first_of p b + n) ≡ true → a ≡ b
 stands_block p a b m n i j s t h = one_block p.blocks a b m n s.code t.code s.block t.block (stands_within p a m i s) (stands_within p b n j t) h

@@ -3,6 +3,7 @@ use Rattle.std.proofs.Common.{◌≡◌, refl, ap, ◌∙◌, ℕ, zero, suc, �
 use Rattle.std.specs.Prelude.{if◌then◌else◌, ◌==◌, count_by}
 use Rattle.std.proofs.lemmas.Bool.{and_left}
 use Rattle.std.proofs.lemmas.List.Sums.{sum_by-cons}
+use Rattle.lemmas.proofs.Contains.{contains_head, contains_tail}
 use Rattle.tags.specs.declared.token.Port.{Port}
 use Rattle.tags.specs.declared.token.Port.TheVariants.{Left}
 use Rattle.tags.specs.declared.token.To.{To}
@@ -21,7 +22,6 @@ use Rattle.semantics.specs.Holders.{Holder, holder_at, same_holder}
 use Rattle.semantics.specs.Credits.{granted_by, granted_in, granted_at, released_by, released_in, released_at, granted, released}
 use Rattle.law_reuse.proofs.Fold.{Injective, eq_under, ne_eqb}
 use Rattle.law_reuse.proofs.Snoc.{Count, tally}
-use Rattle.law_reuse.proofs.Members.{contains_head, contains_tail}
 
 pub data Counter : Type 0 where
   -- the credits of a loop

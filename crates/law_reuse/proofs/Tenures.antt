@@ -4,6 +4,7 @@ use Rattle.std.specs.Prelude.{◌==◌, if◌then◌else◌}
 use Rattle.std.proofs.lemmas.Bool.{eq-eqb}
 use Rattle.std.proofs.lemmas.List.Elements.{All-head, All-tail}
 use Rattle.std.proofs.lemmas.List.Sorted.{IsPermutation-trans}
+use Rattle.lemmas.proofs.Contains.{contains_cases, contains_none}
 use Rattle.tags.specs.declared.token.Word.{Word}
 use Rattle.tags.specs.declared.token.To.{To}
 use Rattle.tags.specs.declared.token.Token.{Token}
@@ -13,7 +14,6 @@ use Rattle.semantics.specs.Plan.{Plan}
 use Rattle.semantics.specs.Handed.{handed_by, IsJustOut, NoRelease, Tenure}
 use Rattle.semantics.specs.Orderly.{IsFreeAtRelease}
 use Rattle.law_reuse.proofs.Fold.{ne_eqb}
-use Rattle.law_reuse.proofs.Members.{contains_none, contains_cases}
 use Rattle.law_reuse.proofs.Snoc.{tally}
 use Rattle.law_reuse.proofs.Tallies.{Counter, count_at, count_request, count_release}
 use Rattle.law_reuse.proofs.Frames.{So, so_start, so_next, so_after, counted_next}

@@ -1,6 +1,7 @@
 -- Each run over good slots, in which frames are used again, has its unfolded run over the plan.
 use Rattle.std.proofs.Common.{◌≡◌, sym, ap, ◌∙◌, subst, ℕ, ◌*◌, ◌<◌, ◌⊎◌, inl, inr, ℤ, Bool, false, List, map, Contains, IsPermutation}
 use Rattle.std.proofs.lemmas.List.Sorted.{IsPermutation-trans}
+use Rattle.lemmas.proofs.Lists.{map_append}
 use Rattle.tags.specs.declared.token.Cont.{Cont}
 use Rattle.tags.specs.declared.slot.SlotState.{SlotState}
 use Rattle.tags.specs.declared.slot.SlotState.TheVariants as Slot
@@ -16,7 +17,6 @@ use Rattle.semantics.specs.Unfolded.{use_of, request, Unfolds, HasUnfolded}
 use Rattle.semantics.specs.Wired.{IsWired}
 use Rattle.law_reuse.specs.Generations.{RunsUnfold}
 use Rattle.law_reuse.specs.OwnSlots.{HasOwnSlots, IsOwnRun}
-use Rattle.law_reuse.proofs.Fold.{map_append}
 use Rattle.law_reuse.proofs.Freed.{empty_back}
 use Rattle.law_reuse.proofs.Frames.{so_start, so_after, FreesOnce, HasOnce, frames_once}
 use Rattle.law_reuse.proofs.AlwaysFreed.{frees_always}

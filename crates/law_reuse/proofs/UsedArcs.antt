@@ -1,7 +1,8 @@
 -- Arcs that were used: what was taken at the instruction, and that a holder whose end was reached stays empty.
 use Rattle.std.proofs.Common.{◌≡◌, refl, sym, ap, ◌∙◌, subst, ℕ, zero, suc, ◌+◌, ◌≤◌, ◌⊎◌, inl, inr, Bool, true, false, not, true≢false, List, [], ◌∷◌, ◌++◌, Option, Some, Contains, arith}
-use Rattle.std.specs.Prelude.{count_by, slice_get, flat_map}
+use Rattle.std.specs.Prelude.{count_by, slice_get}
 use Rattle.std.proofs.lemmas.List.Elements.{Contains-append_left, Contains-append_right, Contains-append_cases}
+use Rattle.lemmas.proofs.Contains.{contains_none}
 use Rattle.operators.specs.Values.{truth}
 use Rattle.tags.specs.declared.value.Value.{Value}
 use Rattle.tags.specs.declared.token.Port.{Port}
@@ -11,52 +12,20 @@ use Rattle.tags.specs.declared.token.To.{To}
 use Rattle.tags.specs.declared.token.Token.{Token}
 use Rattle.tags.specs.declared.slot.SlotState.{SlotState}
 use Rattle.tags.specs.declared.slot.SlotState.TheVariants.{Empty}
-use Rattle.semantics.specs.declared.program.Dest.{Dest}
 use Rattle.semantics.specs.declared.program.Op.{Op}
-use Rattle.semantics.specs.declared.program.Op.TheVariants.{Apply2, Sync, Switch, Store, Link, Send, Return, Ask, Open, Take, Give, Drain, Release}
+use Rattle.semantics.specs.declared.program.Op.TheVariants.{Apply2, Sync, Switch, Store, Send, Return, Ask, Open, Take, Give, Drain, Release}
 use Rattle.semantics.specs.Program.{Instr, CodeBlock, Program, first_of, instr_at}
 use Rattle.semantics.specs.Rule.{token, Seat, slot_of}
-use Rattle.semantics.specs.Plan.{Plan, is_credit, is_open, landing}
-use Rattle.semantics.specs.Sharing.{inlet, Arc, arc, arcs_to, row, arcs_from, arcs_of, arcs_in, is_port, ends_with}
+use Rattle.semantics.specs.Plan.{Plan, is_credit, is_open}
+use Rattle.semantics.specs.Sharing.{Arc, arc, arcs_from, arcs_of, arcs_in, is_port, ends_with}
 use Rattle.semantics.specs.Orderly.{is_at, often, same_block}
 use Rattle.semantics.specs.Wired.{is_dyadic}
+use Rattle.semantics.proofs.ArcEnds.{arcs_from_from}
 use Rattle.law_reuse.proofs.Stands.{Stands, stands_at, stands_block}
 use Rattle.law_reuse.proofs.Turns.{is_counting, is_later, Turn, waits_left, waits_right, meets_right, meets_left, lone, begins, counts}
 use Rattle.law_reuse.proofs.Fillings.{at_port, Came, later_on, came_twice, none_some}
-use Rattle.law_reuse.proofs.Members.{contains_cases, contains_none, contains_mapped}
 
 -- ---- ARCS
-
-arcs_to_from : (n : ℕ) (s : Bool) (ds : List Dest) (x : Arc) → Contains (arcs_to n s ds) x → x.from ≡ n
-arcs_to_from n s ds x c = let d = contains_mapped (λ (d : Dest). arc n s (inlet (n + d.ahead) d.port)) ds x c in sym (ap (λ (x : Arc). x.from) d.2)
-
-row_from : (n from k : ℕ) (x : Arc) → Contains (row n from k) x → x.from ≡ n
-row_from n from zero x c = absurd (contains_none x c)
-row_from n from (suc k) x c = go (contains_cases (arc n false (inlet from Left)) (row n (from + 1) k) x c) (λ c. row_from n (from + 1) k x c)
-  where
-    go : (arc n false (inlet from Left) ≡ x) ⊎ Contains (row n (from + 1) k) x → (Contains (row n (from + 1) k) x → x.from ≡ n) → x.from ≡ n
-    go (inl e) more = sym (ap (λ (x : Arc). x.from) e)
-    go (inr c) more = more c
-
-rows_from : (n k : ℕ) (ds : List Dest) (x : Arc) → Contains (flat_map (λ (d : Dest). row n (n + d.ahead) k) ds) x → x.from ≡ n
-rows_from n k [] x c = absurd (contains_none x c)
-rows_from n k (d ∷ ds) x c = go (Contains-append_cases (row n (n + d.ahead) k) _ x c) (λ c. rows_from n k ds x c)
-  where
-    go : Contains (row n (n + d.ahead) k) x ⊎ Contains (flat_map (λ (d : Dest). row n (n + d.ahead) k) ds) x → (Contains (flat_map (λ (d : Dest). row n (n + d.ahead) k) ds) x → x.from ≡ n) → x.from ≡ n
-    go (inl c) more = row_from n (n + d.ahead) k x c
-    go (inr c) more = more c
-
-arcs_from_from : (p : Plan) (n : ℕ) (i : Instr) (op : Op) (x : Arc) → Contains (arcs_from p n i op) x → x.from ≡ n
-arcs_from_from p n i (Link b) x c = go (Contains-append_cases (flat_map (λ (d : Dest). row n (n + d.ahead) (landing p b)) i.firsts) (arcs_to n true i.seconds) x c)
-  where
-    go : Contains (flat_map (λ (d : Dest). row n (n + d.ahead) (landing p b)) i.firsts) x ⊎ Contains (arcs_to n true i.seconds) x → x.from ≡ n
-    go (inl c) = rows_from n (landing p b) i.firsts x c
-    go (inr c) = arcs_to_from n true i.seconds x c
-arcs_from_from p n i op x c = go (Contains-append_cases (arcs_to n false i.firsts) (arcs_to n true i.seconds) x c)
-  where
-    go : Contains (arcs_to n false i.firsts) x ⊎ Contains (arcs_to n true i.seconds) x → x.from ≡ n
-    go (inl c) = arcs_to_from n false i.firsts x c
-    go (inr c) = arcs_to_from n true i.seconds x c
 
 -- an arc starts at an instruction of its block
 arc_starts : (p : Plan) (m : ℕ) (is : List Instr) (x : Arc) → Contains (arcs_of p m is) x → (k : ℕ) × (i : Instr) × (slice_get is k ≡ Some i) × (x.from ≡ m + k)

@@ -1,6 +1,9 @@
 -- Results, calls, loops and strict calls: what goes into an invocation, between turns, and comes back.
 use Rattle.std.proofs.Common.{◌≡◌, ℕ, suc, ◌+◌, ◌-◌, Bool, true, false, not, ◌||◌, ◌⊎◌, inl, inr, List, [], ◌∷◌, ◌++◌, length, flat_map, Some, None, if◌then◌else◌, refl, sym, ap, ◌∙◌, subst, arith, true≢false, append-nil}
 use Rattle.std.proofs.lemmas.List.Sorted.{IsPermutation-refl}
+use Rattle.std.proofs.lemmas.Bool.{or_left}
+use Rattle.lemmas.proofs.Permutations.{permutation_same}
+use Rattle.lemmas.proofs.Bools.{first_of_and}
 use Rattle.tags.specs.declared.value.Value.{Value}
 use Rattle.tags.specs.declared.token.Port.TheVariants.{Left, Right}
 use Rattle.operators.specs.Values.{truth}
@@ -10,7 +13,7 @@ use Rattle.semantics.specs.Graph.{Node, Block, Flow, node_at}
 use Rattle.semantics.specs.Plan.{Plan}
 use Rattle.semantics.specs.Meaning.{Context, Main, Called, Turned, Tagged, tagged, Memory, AtNode, AtOut, AtTurn, Operand, Flag, Carried, Fires, Passes, Returns, Turns, Outputs, Says, Sends, Enters, deed, fired, passed, taken, entering, operands_from, with_output, block_of, node_of}
 use Rattle.semantics.specs.Cause.{is_turn}
-use Rattle.law_net.proofs.Orders.{shuffled, Part, ◌⊕◌, IsPermutation-same}
+use Rattle.law_net.proofs.Orders.{shuffled, Part, ◌⊕◌}
 use Rattle.law_contexts.specs.Parts as Parts
 use Rattle.law_contexts.specs.Parts.{Line, Answer, Framer, Sender, Landing, TurnValue, NextSender, LastReturn, Shown, Asked, Fanned, inlet, Note, Datum, BackTo, signal, Item, item, each, Firing}
 use Rattle.law_contexts.specs.Blocks.{side, Wiring, there_in, is_call, is_loop, is_strict, invokes, call_kind, loop_kind, strict_kind, source_count, exit_kind}
@@ -20,20 +23,12 @@ use Rattle.law_contexts.specs.Wires.{IsWiredCode, has_port}
 use Rattle.law_contexts.specs.Firings.{takes, makes, memory_of, arguments_from}
 use Rattle.law_contexts.specs.Laws.{is_main}
 use Rattle.law_contexts.specs.Operands.{HaveOperands}
+use Rattle.law_contexts.proofs.Blocks.{is_main_true}
 use Rattle.law_told.proofs.Acts.{Acts, same, stays, follow, acts, says_acts, fires_deed, passes_deed}
 use Rattle.law_told.proofs.Settles.{sends_settled}
 use Rattle.law_told.proofs.Words.{none_told}
 use Rattle.law_told.proofs.Nodes.{kind_is, kind_of, exit_of, goes, leaves, Sent}
-use Rattle.law_told.proofs.Control.{block_is, landed_call, landed_loop, both_left, along_none}
-
-main_is : (c : Context) → is_main c ≡ true → c ≡ Main
-main_is Main e = refl
-main_is (Called c n) e = absurd (true≢false (sym e))
-main_is (Turned c n i) e = absurd (true≢false (sym e))
-
-or_true : (t u : Bool) → t ≡ true → (t || u) ≡ true
-or_true true u e = refl
-or_true false u e = absurd (true≢false (sym e))
+use Rattle.law_told.proofs.Control.{block_is, landed_call, landed_loop, along_none}
 
 module _ (fl : Flow) (p : Plan) (w : Wires) (operands : HaveOperands fl) (f : Firing) (fired' : List Firing) (ctx : IsContext fl f.context) (Here : Context → Type 0) (here : Here f.context)
     (code : IsWiredCode fl p w.variant Here (site_in fl w f.context) (wiring_in fl w f.context)) where
@@ -62,8 +57,8 @@ module _ (fl : Flow) (p : Plan) (w : Wires) (operands : HaveOperands fl) (f : Fi
   -- RESULTS OF MAIN
   pub shown : (j : ℕ) (v : Value) (k : Note) → is_main c ≡ true → IsToldBy (Shown j) (Datum v) k
   shown j v k main =
-      let e : tagged c (AtOut j) (Operand 0) v ∷ [] ≡ taken (Outputs j v) = ap (λ (d : Context). tagged d (AtOut j) (Operand 0) v ∷ []) (main_is c main) in
-      acts fl (Outputs j v) (tagged c (AtOut j) (Operand 0) v ∷ []) [] [] mem (with_output mem j v) (IsPermutation-same _ _ e) refl (IsPermutation-refl [])
+      let e : tagged c (AtOut j) (Operand 0) v ∷ [] ≡ taken (Outputs j v) = ap (λ (d : Context). tagged d (AtOut j) (Operand 0) v ∷ []) (is_main_true c main) in
+      acts fl (Outputs j v) (tagged c (AtOut j) (Operand 0) v ∷ []) [] [] mem (with_output mem j v) (permutation_same _ _ e) refl (IsPermutation-refl [])
 
   -- WHAT LANDS
   exit_call : (n q : ℕ) (r : Region) (k : Kind ℕ) → call_kind k ≡ true → exit_kind wg n q r k ≡ side (Landing n q) false
@@ -80,10 +75,10 @@ module _ (fl : Flow) (p : Plan) (w : Wires) (operands : HaveOperands fl) (f : Fi
   either false u e = inr e
 
   pub landing : (n j : ℕ) (v : Value) (k : Note) → there_in fl (site_in fl w c) wg (Landing n j) ≡ true → IsToldBy (Landing n j) (Datum v) k
-  landing n j v k there = pick (either (is_call b n) (is_loop b n) (both_left _ _ there))
+  landing n j v k there = pick (either (is_call b n) (is_loop b n) (first_of_and _ _ there))
     where
       port : has_port fl b n j ≡ true
-      port = or_true _ _ there
+      port = or_left _ _ there
 
       pick : (is_call b n ≡ true) ⊎ (is_loop b n ≡ true) → IsToldBy (Landing n j) (Datum v) k
       pick (inl e) =
@@ -166,7 +161,7 @@ module _ (fl : Flow) (p : Plan) (w : Wires) (operands : HaveOperands fl) (f : Fi
       let new : operand (child fl c n) i 0 v ∷ [] ≡ flat_map (told fl) (makes fl w (by (Sender n i) l (Datum v))) =
       (λ k. operand (child fl c n) i 0 v ∷ sym (along_none fl p w operands f fired' ctx Here here code (Sender n i) false signal there tt (λ e. e)) k) in
       subst (λ x. Acts fl x mem (flat_map (told fl) (makes fl w (by (Sender n i) l (Datum v)))) mem) old
-      (subst (λ x. Acts fl (told_at fl c (Sender n i) Right way v) mem x mem) new (sent_in n i v (both_left _ _ there)))
+      (subst (λ x. Acts fl (told_at fl c (Sender n i) Right way v) mem x mem) new (sent_in n i v (first_of_and _ _ there)))
 
   -- STRICT CALLS: all arguments at once
   arguments_before : (n i : ℕ) (vs : List Value) → flat_map (told fl) (arguments_from c n 0 i vs) ≡ operands_from c (AtNode n) i vs
@@ -237,7 +232,7 @@ module _ (fl : Flow) (p : Plan) (w : Wires) (operands : HaveOperands fl) (f : Fi
 
   pub turn_value : (j : ℕ) (v u : Value) → there_in fl (site_in fl w c) wg (TurnValue (j + 1)) ≡ true → IsToldBy (TurnValue (j + 1)) (Datum v) (Datum u)
   turn_value j v u there =
-      let turn = both_left (is_turn c) _ there in
+      let turn = first_of_and (is_turn c) _ there in
       let k = code.uses.turn_value j there in
       subst (λ x. Acts fl (tagged c (AtTurn (j + 1)) Carried v ∷ tagged c (AtTurn (j + 1)) Flag u ∷ []) mem x mem) (turn_wires c j v (truth u) turn ∙ ap (λ l. flat_map (told fl) (each c (Datum v) l)) (wire_of (truth u) k.0 k.1)) (turn_acts c j v u turn)
     where

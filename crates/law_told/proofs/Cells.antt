@@ -2,6 +2,7 @@
 use Rattle.std.proofs.Common.{◌≡◌, ℕ, ◌+◌, ◌-◌, Bool, true, false, ◌&&◌, ◌||◌, ◌⊎◌, inl, inr, List, [], ◌∷◌, ◌++◌, length, flat_map, Some, None, nat_lt, if◌then◌else◌, refl, sym, ap, ◌∙◌, subst, arith, true≢false, append-nil}
 use Rattle.std.proofs.lemmas.Bool.{cases_Bool}
 use Rattle.std.proofs.lemmas.List.Sorted.{IsPermutation-refl}
+use Rattle.lemmas.proofs.Bools.{first_of_and, second_of_and}
 use Rattle.tags.specs.declared.value.Value.{Value}
 use Rattle.tags.specs.declared.token.Port.TheVariants.{Left, Right}
 use Rattle.operators.specs.Values.{Indexed, Place, Outside, index_in}
@@ -21,7 +22,7 @@ use Rattle.law_contexts.specs.Operands.{HaveOperands, HasOperands}
 use Rattle.law_told.proofs.Acts.{Acts, same, follow, acts, fires_deed}
 use Rattle.law_told.proofs.Settles.{settles, operands_in}
 use Rattle.law_told.proofs.Nodes.{kind_is, kind_of, exit_of, goes, Sent, node_in_block}
-use Rattle.law_told.proofs.Control.{block_is, both_left, both_right}
+use Rattle.law_told.proofs.Control.{block_is}
 
 module _ (fl : Flow) (p : Plan) (w : Wires) (operands : HaveOperands fl) (f : Firing) (fired' : List Firing) (ctx : IsContext fl f.context) (Here : Context → Type 0) (here : Here f.context)
     (code : IsWiredCode fl p w.variant Here (site_in fl w f.context) (wiring_in fl w f.context)) where
@@ -58,9 +59,9 @@ module _ (fl : Flow) (p : Plan) (w : Wires) (operands : HaveOperands fl) (f : Fi
 
   pub answer : (n : ℕ) (v : Value) (k : Note) → there_in fl (site_in fl w c) wg (Answer n) ≡ true → IsToldBy (Answer n) (Datum v) k
   answer n v k there =
-      let (line, en, kind) = kind_is b cell_kind n (both_left _ _ there) in
+      let (line, en, kind) = kind_is b cell_kind n (first_of_and _ _ there) in
       subst (λ l. Acts fl l mem (Sent fl p w operands c eb Here here code v (side (Answer n) false)) mem) (sym (append-nil (settled_sent fl c n 0 v)))
-      (goes fl p w operands c eb Here here code n 0 v (side (Answer n) false) mem (exit_of b wg n 0 line en ∙ exit_answer n 0 line.region line.kind kind true (both_right _ _ there)) there (port_zero _))
+      (goes fl p w operands c eb Here here code n 0 v (side (Answer n) false) mem (exit_of b wg n 0 line en ∙ exit_answer n 0 line.region line.kind kind true (second_of_and _ _ there)) there (port_zero _))
 
   -- THE REQUEST carries the operands
   same_pair : (k : Kind ℕ) → cell_kind k ≡ true → pair_kind k ≡ store_kind k

@@ -1,6 +1,8 @@
 -- What only controls is told nothing, or just what it sends on.
-use Rattle.std.proofs.Common.{◌≡◌, ℕ, zero, suc, ◌+◌, Bool, true, false, not, ◌&&◌, List, [], ◌∷◌, ◌++◌, flat_map, Some, refl, sym, ap, ◌∙◌, true≢false, append-nil}
+use Rattle.std.proofs.Common.{◌≡◌, ℕ, zero, suc, ◌+◌, Bool, true, false, not, List, [], ◌∷◌, ◌++◌, flat_map, Some, refl, sym, ap, ◌∙◌, true≢false, append-nil}
 use Rattle.std.proofs.lemmas.List.Concat.{flat_map-append}
+use Rattle.std.proofs.lemmas.Bool.{not-true}
+use Rattle.lemmas.proofs.Bools.{first_of_and}
 use Rattle.tags.specs.declared.value.Value.{Value}
 use Rattle.tags.specs.declared.token.Port.TheVariants.{Left, Right}
 use Rattle.operators.specs.Values.{truth}
@@ -12,20 +14,15 @@ use Rattle.semantics.specs.Meaning.{Context, Main, Called, Turned, tagged, AtOut
 use Rattle.semantics.specs.Cause.{is_turn}
 use Rattle.law_contexts.specs.Parts.{Part, Entry, Line, Trigger, Opener, Fanned, Linker, CallDone, Taker, Drainer, LoopDone, Strict, Result, TurnCont, TurnFlag, Asker, NextFramer, NextFanned, NextSender, LastReturn, DrainReturn, Join, CondEnd, End, Asked, NextAsked, Drained, Done, Freed, Inlet, inlet, Note, Datum, FrameOf, BackTo, ToHost, signal, Item, item, each, Firing}
 use Rattle.law_contexts.specs.Blocks.{side, there_in, is_kind, is_call, is_loop, call_kind, loop_kind}
-use Rattle.law_contexts.specs.Contexts.{Wires, block_in, site_in, wiring_in, or_none, HasBlock, IsContext, next}
+use Rattle.law_contexts.specs.Contexts.{Wires, block_in, site_in, wiring_in, or_none, IsContext, next}
 use Rattle.law_contexts.specs.Told.{told, told_at, settled_sent, landed, landed_kind}
 use Rattle.law_contexts.specs.Wires.{IsWiredCode, IsSilent}
 use Rattle.law_contexts.specs.Firings.{takes, makes, memory_of, switched, sent_word, given_back, result_back, drain_back, end_back, credit_asked}
 use Rattle.law_contexts.specs.Operands.{HaveOperands}
+use Rattle.law_contexts.proofs.Blocks.{has_block}
 use Rattle.law_told.proofs.Acts.{Acts, same}
 use Rattle.law_told.proofs.Words.{none_told, IsExit}
 use Rattle.law_told.proofs.Nodes.{kind_is, silent_part}
-
--- the block of a context
-pub has_block : (fl : Flow) (c : Context) → IsContext fl c → HasBlock fl c
-has_block fl Main h = h
-has_block fl (Called c n) h = h.2
-has_block fl (Turned c n i) h = h.2
 
 pub block_is : (fl : Flow) (c : Context) → IsContext fl c → block_of fl c ≡ Some (block_in fl c)
 block_is fl c h = let k = has_block fl c h in k.1 ∙ ap (λ b. Some b) (sym (ap or_none k.1))
@@ -49,19 +46,6 @@ landed_call fl c n j v h e = let k = node_is fl c h call_kind n e in ap (landed 
 
 pub landed_loop : (fl : Flow) (c : Context) (n j : ℕ) (v : Value) → IsContext fl c → is_loop (block_in fl c) n ≡ true → landed fl c n j v (node_of fl c n) ≡ settled_sent fl c n j v
 landed_loop fl c n j v h e = let k = node_is fl c h loop_kind n e in ap (landed fl c n j v) k.1 ∙ loop_landed fl c n j v k.0.kind k.2
-
--- two tests
-pub both_left : (t u : Bool) → (t && u) ≡ true → t ≡ true
-both_left true u e = refl
-both_left false u e = absurd (true≢false (sym e))
-
-pub both_right : (t u : Bool) → (t && u) ≡ true → u ≡ true
-both_right true u e = e
-both_right false u e = absurd (true≢false (sym e))
-
-pub not_true : (t : Bool) → not t ≡ true → t ≡ false
-not_true false e = refl
-not_true true e = absurd (true≢false (sym e))
 
 -- a result goes to where its context was made
 result_told : (fl : Flow) (c : Context) (j : ℕ) (k : Note) → IsContext fl c → is_turn c ≡ false → told fl (item c (inlet (Result j) Right 0) k) ++ [] ≡ flat_map (told fl) (result_back c j k)
@@ -225,14 +209,14 @@ module _ (fl : Flow) (p : Plan) (w : Wires) (operands : HaveOperands fl) (f : Fi
       ∙ sym (flat_map-append (told fl) more (each c signal ((wiring_in fl w c).wire (side r false))) ∙ (λ i. flat_map (told fl) more ++ along_none r false signal there quiet never i) ∙ append-nil _)
 
   pub result : (j : ℕ) → There (Result j) → IsTold (Result j)
-  result j there = same fl _ _ _ (sent_on (inlet (Result j) Left 0) (inlet (Result j) Right 0) (result_back c j f.right) (Result j) (λ v. refl) there tt (λ e. e) (result_told fl c j f.right ctx (not_true (is_turn c) (both_left _ _ there))))
+  result j there = same fl _ _ _ (sent_on (inlet (Result j) Left 0) (inlet (Result j) Right 0) (result_back c j f.right) (Result j) (λ v. refl) there tt (λ e. e) (result_told fl c j f.right ctx (not-true (is_turn c) (first_of_and _ _ there))))
 
   pub last_return : (j : ℕ) → There (LastReturn j) → IsTold (LastReturn j)
-  last_return j there = same fl _ _ _ (sent_on (inlet (LastReturn j) Left 0) (inlet (LastReturn j) Right 0) (result_back c j f.right) (LastReturn j) (λ v. refl) there tt (λ e. e) (last_back fl c j f.right ctx (both_left _ _ there)))
+  last_return j there = same fl _ _ _ (sent_on (inlet (LastReturn j) Left 0) (inlet (LastReturn j) Right 0) (result_back c j f.right) (LastReturn j) (λ v. refl) there tt (λ e. e) (last_back fl c j f.right ctx (first_of_and _ _ there)))
 
   pub next_sender : (j : ℕ) → There (NextSender j) → IsTold (NextSender j)
   next_sender zero there =
       same fl _ _ _ (none_two (inlet (NextSender 0) Left 0) (inlet (NextSender 0) Right 0) f.left f.right (λ v. refl) (λ v. refl)
       ∙ sym (λ i. none_told fl (next c) (inlet Entry Left 0) f.right (λ v. refl) i ++ along_none (NextSender 0) false signal there tt (λ e. e) i))
   next_sender (suc j) there =
-      same fl _ _ _ (sent_on (inlet (NextSender (suc j)) Left 0) (inlet (NextSender (suc j)) Right 0) (item (next c) (inlet (Line j) Left 0) f.right ∷ []) (NextSender (suc j)) (λ v. refl) there tt (λ e. e) (next_back fl c j f.right (both_left _ _ there)))
+      same fl _ _ _ (sent_on (inlet (NextSender (suc j)) Left 0) (inlet (NextSender (suc j)) Right 0) (item (next c) (inlet (Line j) Left 0) f.right ∷ []) (NextSender (suc j)) (λ v. refl) there tt (λ e. e) (next_back fl c j f.right (first_of_and _ _ there)))

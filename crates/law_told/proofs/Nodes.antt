@@ -3,6 +3,7 @@ use Rattle.std.proofs.Common.{◌≡◌, ◌≢◌, ℕ, ◌-◌, Bool, true, fa
 use Rattle.std.specs.Prelude.{slice_get, IsPermutation}
 use Rattle.std.proofs.lemmas.Bool.{cases_Bool}
 use Rattle.std.proofs.lemmas.List.Sorted.{IsPermutation-sym}
+use Rattle.lemmas.proofs.Bools.{or_true}
 use Rattle.tags.specs.declared.value.Value.{Value}
 use Rattle.operators.specs.Values.{truth}
 use Rattle.semantics.specs.declared.graph.Region.{Region}
@@ -39,11 +40,6 @@ exit_of b w n q line e = ap (λ o. elim o as (λ x. Side) [ None ↦ side (Line 
 
 pub input_none : (b : Block ℕ) (n : ℕ) → nat_lt n b.inputs ≡ true → node_at b n ≡ None
 input_none b n e = ap (λ (t : Bool). if t then None else slice_get b.nodes (n - b.inputs)) e
-
--- a port 0 is there
-port_zero : (t : Bool) → (t || true) ≡ true
-port_zero true = refl
-port_zero false = refl
 
 module _ (fl : Flow) (p : Plan) (w : Wires) (operands : HaveOperands fl) (c : Context) (eb : block_of fl c ≡ Some (block_in fl c)) (Here : Context → Type 0) (here : Here c)
     (code : IsWiredCode fl p w.variant Here (site_in fl w c) (wiring_in fl w c)) where
@@ -123,13 +119,13 @@ module _ (fl : Flow) (p : Plan) (w : Wires) (operands : HaveOperands fl) (c : Co
   input_acts n v u m plain e =
       let none = input_none b n e in
       let ex : exit b wg n 0 ≡ side (Line n) false = ap (λ o. elim o as (λ x. Side) [ None ↦ side (Line n) false | Some line ↦ exit_kind wg n 0 line.region line.kind ]) none in
-      subst (λ x. LineActs n (v ∷ []) x m) (sym (value_is n v u None none)) (leaves (Fires c n (v ∷ [])) n 0 v (side (Line n) false) m (input_deed fl c n v b eb e) ex plain (port_zero _))
+      subst (λ x. LineActs n (v ∷ []) x m) (sym (value_is n v u None none)) (leaves (Fires c n (v ∷ [])) n 0 v (side (Line n) false) m (input_deed fl c n v b eb e) ex plain (or_true _))
 
   line_acts : (n : ℕ) (vs : List Value) (v u : Value) (m : Memory) (line : Node ℕ) → is_plain b n ≡ true → node_at b n ≡ Some line → plain_kind line.kind ≡ true → cell_kind line.kind ≡ false → deed fl (Fires c n vs) ≡ Some (Says (Sends c n 0 (kind_value fl c n v u line.kind)))
       → LineActs n vs (line_value fl c n v u) m
   line_acts n vs v u m line plain en kind never d =
       subst (λ x. LineActs n vs x m) (sym (value_is n v u (Some line) en))
-      (leaves (Fires c n vs) n 0 (kind_value fl c n v u line.kind) (side (Line n) false) m d (exit_of b wg n 0 line en ∙ line_exit n 0 line.region line.kind kind never) plain (port_zero _))
+      (leaves (Fires c n vs) n 0 (kind_value fl c n v u line.kind) (side (Line n) false) m d (exit_of b wg n 0 line en ∙ line_exit n 0 line.region line.kind kind never) plain (or_true _))
 
   pub line_one : (n : ℕ) (v u : Value) (m : Memory) → is_plain b n ≡ true → is_cell b n ≡ false → is_pair b n ≡ false → LineActs n (v ∷ []) (line_value fl c n v u) m
   line_one n v u m plain cell pair = pick (cases_Bool (nat_lt n b.inputs))
@@ -160,7 +156,7 @@ module _ (fl : Flow) (p : Plan) (w : Wires) (operands : HaveOperands fl) (c : Co
   merge_acts n i v m there =
       let (line, en, kind) = kind_is b merge_kind n there in
       let k = merge_deed n i v line.kind kind in
-      leaves (Passes c n i v) n 0 v (side (Merge n) false) m (passes_deed fl c n i v b line eb en ∙ k.0) (exit_of b wg n 0 line en ∙ k.1 line.region) there (port_zero _)
+      leaves (Passes c n i v) n 0 v (side (Merge n) false) m (passes_deed fl c n i v b line eb en ∙ k.0) (exit_of b wg n 0 line en ∙ k.1 line.region) there (or_true _)
 
   -- ENTERS
   enter_deed : (n : ℕ) (v u : Value) (r : Region) (k : Kind ℕ) (num : ℕ) → enter_kind k ≡ true → HasOperands r k num
@@ -200,7 +196,7 @@ module _ (fl : Flow) (p : Plan) (w : Wires) (operands : HaveOperands fl) (c : Co
       pick : ((not (truth u) ≡ not t) × (same_side (truth u) t ≡ true)) ⊎ ((not (truth u) ≡ not t → ⊥) × (same_side (truth u) t ≡ false)) → Acts fl (taken (Gates c n v u)) m (Sent v (side (Gate n) (not (truth u)))) m
       pick (inl (e, y)) =
           leaves (Gates c n v u) n 0 v (side (Gate n) (not (truth u))) m (d ∙ ap (λ (t : Bool). Some (Says (if t then Sends c n 0 v else Nothing))) y)
-          (exit_of b wg n 0 line found.1 ∙ k.4 ∙ ap (side (Gate n)) (sym e)) there (port_zero _)
+          (exit_of b wg n 0 line found.1 ∙ k.4 ∙ ap (side (Gate n)) (sym e)) there (or_true _)
       pick (inr (never, y)) =
           let quiet = silent (side (Gate n) (not (truth u))) (Datum v) there tt (λ i q e. never ((exit_gate b wg i q n (not (truth u)) e).1 ∙ own)) in
           subst (λ l. Acts fl (taken (Gates c n v u)) m l m) (sym quiet) (says_acts fl (Gates c n v u) Nothing m (d ∙ ap (λ (t : Bool). Some (Says (if t then Sends c n 0 v else Nothing))) y))

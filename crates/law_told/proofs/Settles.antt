@@ -1,24 +1,16 @@
 -- Conditionals act at once: from what is sent to what is settled.
-use Rattle.std.proofs.Common.{◌≡◌, ℕ, zero, suc, ◌<◌, List, [], ◌∷◌, length, flat_map, Option, Some, None, refl, sym, ap, ◌∙◌, subst, arith}
-use Rattle.std.specs.Prelude.{slice_get}
+use Rattle.std.proofs.Common.{◌≡◌, ℕ, ◌<◌, List, [], ◌∷◌, length, flat_map, Option, Some, None, refl, sym, ap, ◌∙◌, subst, arith}
 use Rattle.tags.specs.declared.value.Value.{Value}
-use Rattle.semantics.specs.declared.graph.Source.{Source}
 use Rattle.semantics.specs.declared.graph.Kind.{Kind}
 use Rattle.semantics.specs.declared.graph.Kind.TheVariants.{Cond}
 use Rattle.semantics.specs.Graph.{Node, Block, Flow, node_at}
 use Rattle.semantics.specs.Meaning.{Context, Statement, AtNode, Operand, Fires, Tagged, tagged, Memory, Activity, Says, Sends, Tells, deed, fired, taken, block_of, block_number, block_numbered, node_of, node_in, sent}
-use Rattle.law_determinacy.proofs.Perm.{Each, each_weaker}
+use Rattle.lemmas.proofs.Permutations.{Each, each_weaker}
 use Rattle.law_determinacy.proofs.Laws.{tagged_is}
-use Rattle.law_determinacy.proofs.Uses.{IsSource, UseOf, AsOperand, AsResult, AsFlag, AsCarried, Member, tokens_member}
+use Rattle.law_determinacy.proofs.Uses.{UseOf, AsOperand, AsResult, AsFlag, AsCarried, Member, tokens_member, source_within}
 use Rattle.law_contexts.specs.Told.{settled_kind, settled_node, settled_at, settled_sent}
 use Rattle.law_contexts.specs.Operands.{HasOperands, HaveOperands}
 use Rattle.law_told.proofs.Acts.{Acts, same, follow, beside, says_acts, fires_deed}
-
--- a source that is there is one of them
-source_below : (n p : ℕ) (ss : List Source) (i : ℕ) → IsSource n p (slice_get ss i) → i < length ss
-source_below n p [] i h = absurd h
-source_below n p (s ∷ ss) zero h = omega arith
-source_below n p (s ∷ ss) (suc i) h = let k = source_below n p ss i h in omega (arith, k)
 
 module _ (fl : Flow) (operands : HaveOperands fl) where
   -- in any block of a context
@@ -58,7 +50,7 @@ module _ (fl : Flow) (operands : HaveOperands fl) where
       let eb' : block_of fl t.context ≡ Some b = ap (block_of fl) ec ∙ eb in
       let en : node_of fl t.context k ≡ Some node = ap (λ o. node_in o k) eb' ∙ line in
       subst (λ (s : Statement). Acts fl (t ∷ []) m (settled_at fl t s) m) (sym es)
-      (subst (λ (o : Option (Node ℕ)). Acts fl (t ∷ []) m (settled_node fl t k o) m) (sym en) (node_settles t k i b node es eq eb' line (source_below n p node.sources i src) node.kind refl m))
+      (subst (λ (o : Option (Node ℕ)). Acts fl (t ∷ []) m (settled_node fl t k o) m) (sym en) (node_settles t k i b node es eq eb' line (source_within n p node.sources i src) node.kind refl m))
   use_settles c n p v t ec b eb (AsResult j es eq src) m = subst (λ (s : Statement). Acts fl (t ∷ []) m (settled_at fl t s) m) (sym es) (same fl (t ∷ []) (t ∷ []) m refl)
   use_settles c n p v t ec b eb (AsFlag j es eq low high src turned) m = subst (λ (s : Statement). Acts fl (t ∷ []) m (settled_at fl t s) m) (sym es) (same fl (t ∷ []) (t ∷ []) m refl)
   use_settles c n p v t ec b eb (AsCarried j es eq low src) m = subst (λ (s : Statement). Acts fl (t ∷ []) m (settled_at fl t s) m) (sym es) (same fl (t ∷ []) (t ∷ []) m refl)

@@ -1,48 +1,20 @@
 -- The code block of a context.
-use Rattle.std.proofs.Common.{◌≡◌, ℕ, zero, suc, ◌-◌, ◌≤◌, Bool, true, false, List, [], ◌∷◌, map, Option, Some, None, nat_lt, if◌then◌else◌, refl, sym, ap, ◌∙◌, subst, arith, true≢false, eq-eqb, lt-ltb}
-use Rattle.std.specs.Prelude.{slice_get, sum, sum_by, count_by}
-use Rattle.std.proofs.lemmas.List.Sums.{sum-map, sum_by-cons}
+use Rattle.std.proofs.Common.{◌≡◌, ℕ, ◌-◌, true, false, Option, Some, None, refl, sym, ap, ◌∙◌, subst, true≢false, eq-eqb}
+use Rattle.std.specs.Prelude.{slice_get}
 use Rattle.semantics.specs.declared.graph.Kind.{Kind}
-use Rattle.semantics.specs.Graph.{Node, Block, Flow, node_at}
+use Rattle.semantics.specs.Graph.{Node, Block, Flow}
 use Rattle.semantics.specs.Plan.{Plan}
 use Rattle.semantics.specs.Meaning.{Context, Main, Called, Turned, block_number, block_numbered, callee_in, callee_of}
 use Rattle.semantics.specs.Cause.{is_looped, loops_to}
+use Rattle.semantics.proofs.Lines.{line_listed, body_is_looped}
 use Rattle.law_contexts.specs.Blocks.{loop_kind, is_loop}
 use Rattle.law_contexts.specs.Contexts.{Wires, or_zero, or_none, no_block, code_in, site_in, wiring_in, IsContext}
 use Rattle.law_contexts.specs.Wires.{IsWiredCode, Runs, AreWiredBy}
 use Rattle.law_told.proofs.Nodes.{kind_is}
 
-abbrev count_if : Bool → ℕ
-count_if t = if t then 1 else 0
-
--- one of a list counts
-sum_one : {X : Type 0} (g : X → ℕ) (xs : List X) (i : ℕ) (x : X) → slice_get xs i ≡ Some x → g x ≤ sum_by g xs
-sum_one g [] i x e = absurd (cc)
-sum_one g (y ∷ xs) zero x e = let same : y ≡ x = cc in let k = ap g same in let c = sum_by-cons g y xs in omega (arith, k, c)
-sum_one g (y ∷ xs) (suc i) x e = let k = sum_one g xs i x e in let c = sum_by-cons g y xs in omega (arith, k, c)
-
-count_one : {X : Type 0} (test : X → Bool) (xs : List X) (i : ℕ) (x : X) → slice_get xs i ≡ Some x → test x ≡ true → 1 ≤ count_by test xs
-count_one test xs i x e t = let k = sum_one (λ (x : _). count_if (test x)) xs i x e in let one = ap count_if t in omega (arith, k, one)
-
--- a node of a block, as one of its lines
-line_get : (b : Block ℕ) (n : ℕ) (line : Node ℕ) → node_at b n ≡ Some line → slice_get b.nodes (n - b.inputs) ≡ Some line
-line_get b n line e = go (nat_lt n b.inputs) e
-  where
-    go : (t : Bool) → (if t then None else slice_get b.nodes (n - b.inputs)) ≡ Some line → slice_get b.nodes (n - b.inputs) ≡ Some line
-    go true e = cc
-    go false e = e
-
 loops_there : (kind : Kind ℕ) → loop_kind kind ≡ true → (f : ℕ) × (loops_to f kind ≡ true) × ((c : Node ℕ) → c.kind ≡ kind → callee_of (Some c) ≡ Some f)
 loops_there (Kind.Loop g k) e = (g, eq-eqb g g refl, λ c q. ap (λ (k : Kind ℕ). callee_of (Some (record { region = c.region; kind = k; sources = c.sources }))) q)
 loops_there k e = absurd (true≢false (sym e))
-
-looped : (fl : Flow) (i n f : ℕ) (b : Block ℕ) (line : Node ℕ) → slice_get fl.blocks i ≡ Some b → node_at b n ≡ Some line → loops_to f line.kind ≡ true → is_looped fl f ≡ true
-looped fl i n f b line e g h =
-    let counts = λ (b : Block ℕ). count_by (λ (n : Node ℕ). loops_to f n.kind) b.nodes in
-    let one = count_one (λ (n : Node ℕ). loops_to f n.kind) b.nodes (n - b.inputs) line (line_get b n line g) h in
-    let all = sum_one counts fl.blocks i b e in
-    let same = sum-map counts fl.blocks in
-    lt-ltb 0 (sum (map counts fl.blocks)) (omega (arith, one, all, same))
 
 module _ (fl : Flow) (p : Plan) (w : Wires) (wired : AreWiredBy fl p w) where
   abbrev pub CodeAt : Context → Type 0
@@ -61,18 +33,18 @@ module _ (fl : Flow) (p : Plan) (w : Wires) (wired : AreWiredBy fl p w) where
   turn_code (Some i) b e l =
       subst (λ (x : Block ℕ). IsWiredCode fl p w.variant (Runs fl w (w.variant i)) (record { block = x; number = i; turns = true; own = w.variant i }) (w.wiring (w.variant i))) (sym (ap or_none e)) (wired.turns i b e l)
 
-  -- what a loop runs is looped
+  -- what a loop runs is body_is_looped
   is_looped_at : (o : Option ℕ) (n : ℕ) → is_loop (or_none (block_numbered fl o)) n ≡ true → is_looped fl (or_zero (callee_in (block_numbered fl o) n)) ≡ true
-  is_looped_at None n e = let k = kind_is no_block loop_kind n e in let g = line_get no_block n k.0 k.1 in absurd (cc)
+  is_looped_at None n e = let k = kind_is no_block loop_kind n e in let g = line_listed no_block n k.0 k.1 in absurd (cc)
   is_looped_at (Some i) n e = go (slice_get fl.blocks i) refl e
     where
       go : (x : Option (Block ℕ)) → slice_get fl.blocks i ≡ x → is_loop (or_none x) n ≡ true → is_looped fl (or_zero (callee_in x n)) ≡ true
-      go None f e = let k = kind_is no_block loop_kind n e in let g = line_get no_block n k.0 k.1 in absurd (cc)
+      go None f e = let k = kind_is no_block loop_kind n e in let g = line_listed no_block n k.0 k.1 in absurd (cc)
       go (Some b) f e =
           let (line, en, kind) = kind_is b loop_kind n e in
           let k = loops_there line.kind kind in
           let callee : callee_in (Some b) n ≡ Some k.0 = ap callee_of en ∙ k.2 line refl in
-          subst (λ (o : Option ℕ). is_looped fl (or_zero o) ≡ true) (sym callee) (looped fl i n k.0 b line f en k.1)
+          subst (λ (o : Option ℕ). is_looped fl (or_zero o) ≡ true) (sym callee) (body_is_looped fl i n k.0 b line f en k.1)
 
   pub code_at : (c : Context) → IsContext fl c → CodeAt c
   code_at Main h = plain_code (block_number fl Main) h.0 h.1

@@ -3,6 +3,7 @@ use Rattle.std.proofs.Common.{◌≡◌, ℕ, zero, suc, ◌+◌, ℤ, Bool, tru
 use Rattle.std.specs.Prelude.{All}
 use Rattle.std.proofs.lemmas.Bool.{cases_Bool}
 use Rattle.std.proofs.lemmas.List.Elements.{All-head, All-tail, All-weaker}
+use Rattle.lemmas.proofs.Bools.{first_of_and, second_of_and}
 use Rattle.tags.specs.declared.value.Value.{Value}
 use Rattle.tags.specs.declared.token.Port.TheVariants.{Left, Right}
 use Rattle.semantics.specs.Graph.{Block, Flow}
@@ -133,7 +134,7 @@ module _ (stage : ℕ) (fl : Flow) (p : Plan) (w : Wires) (inputs : List ℤ) (g
         (λ v. Cells.asks fl p w good.operands f fired ctx Here here code n v f.right e (λ g. line_right n words (is_pair b n) refl g))
 
     turn_from : (j : ℕ) → Spot (TurnValue j) → (h : ℕ) × (j ≡ h + 1)
-    turn_from zero e = absurd (true≢false (sym (Control.both_left false (nat_lt 0 (b.inputs + 1)) (Control.both_right (is_turn f.context) (false && nat_lt 0 (b.inputs + 1)) e))))
+    turn_from zero e = absurd (true≢false (sym (first_of_and false (nat_lt 0 (b.inputs + 1)) (second_of_and (is_turn f.context) (false && nat_lt 0 (b.inputs + 1)) e))))
     turn_from (suc h) e = (h, omega arith)
 
     turn_value_told : (j h : ℕ) → j ≡ h + 1 → Spot (TurnValue j) → IsValue f.left → IsValue f.right → FiringIsTold fl w inputs (at (TurnValue j)) fired
@@ -147,7 +148,7 @@ module _ (stage : ℕ) (fl : Flow) (p : Plan) (w : Wires) (inputs : List ℤ) (g
     by_part (Gate n) there words proper = gate_told n there (first_word (left_at (Gate n) 0) (right_at (Gate n) 0 ∷ []) words) (second_word (left_at (Gate n) 0) (right_at (Gate n) 0) [] words)
     by_part (Merge n) there words proper = merge_told n there (first_word (left_at (Merge n) f.way) [] words)
     by_part (Answer n) there words proper = with_left (Answer n) f.right (first_word (left_at (Answer n) 0) [] words) (λ v. Cells.answer fl p w good.operands f fired ctx Here here code n v f.right there)
-    by_part (Shown j) there words proper = with_left (Shown j) f.right (first_word (left_at (Shown j) 0) [] words) (λ v. Calls.shown fl p w good.operands f fired ctx Here here code j v f.right (Control.both_left _ _ there))
+    by_part (Shown j) there words proper = with_left (Shown j) f.right (first_word (left_at (Shown j) 0) [] words) (λ v. Calls.shown fl p w good.operands f fired ctx Here here code j v f.right (first_of_and _ _ there))
     by_part (Landing n j) there words proper = with_left (Landing n j) f.right (first_word (left_at (Landing n j) f.way) [] words) (λ v. Calls.landing fl p w good.operands f fired ctx Here here code n j v f.right there)
     by_part (Sender n i) there words proper =
         with_right (Sender n i) f.left (second_word (left_at (Sender n i) 0) (right_at (Sender n i) (if is_strict b n then 1 else 0)) [] words) (λ v. Calls.sender fl p w good.operands f fired ctx Here here code n i f.left v there)

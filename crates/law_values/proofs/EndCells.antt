@@ -1,21 +1,20 @@
 -- The cells at the end are those that the stores of the run filled, each once; and no node stores twice in an invocation.
 use Rattle.std.proofs.Common.{◌≡◌, ℕ, zero, suc, ◌⊎◌, Bool, true, false, List, [], ◌∷◌, ◌++◌, Option, Some, None, ◌==◌, if◌then◌else◌, flat_map, inl, inr, refl, sym, ap, ◌∙◌, subst, ⊎_elim, append_assoc, eqb-true, eq-eqb, arith, Contains}
 use Rattle.std.specs.Prelude.{slice_get}
+use Rattle.std.proofs.lemmas.Option.{same_Some}
 use Rattle.tags.specs.declared.value.Value.{Value}
 use Rattle.semantics.specs.Graph.{Flow}
 use Rattle.semantics.specs.Meaning.{Context, AtNode, Operand, Tagged, tagged, State, Memory, Effect, Activity, taken, Deed, Says, Reads, Fills, Puts, Sends, tokens_of, adds, with_cell, at_place, deed, done, Step, Run}
-use Rattle.law_determinacy.proofs.Perm.{Within, Spread, each_from, spread_append, each_within, within_append, within_right, within_flat_map, within_from, within_to, put_first, put_later}
+use Rattle.lemmas.proofs.Permutations.{Within, Spread, each_from, spread_append, each_within, within_append, within_right, within_flat_map, within_from, within_to, put_first, put_later, get_within}
 use Rattle.law_determinacy.proofs.Keys.{Unique, Differ}
-use Rattle.law_determinacy.proofs.Perm.{spread_append_back}
+use Rattle.lemmas.proofs.Permutations.{spread_append_back}
+use Rattle.lemmas.proofs.Contains.{contains_get}
 use Rattle.law_determinacy.proofs.Deeds.{full_of, empty_of}
 use Rattle.law_determinacy.proofs.Diamond.{deed_of}
-use Rattle.law_determinacy.proofs.Options.{some_same}
-use Rattle.law_determinacy.proofs.Resolved.{contains_get}
 use Rattle.law_determinacy.proofs.Runs.{run_cells, step_cells, activity_once}
 use Rattle.law_determinacy.proofs.Shapes.{storing}
 use Rattle.law_values.specs.Given.{Stored, stored_by, stores_of}
 use Rattle.law_values.proofs.RunRested.{Rested}
-use Rattle.law_values.proofs.RunTakers.{within_at}
 
 abbrev pub entry : Context → ℕ → ℕ → Value → Stored
 entry c n x v = record { context = c; node = n; cell = x; value = v }
@@ -27,25 +26,25 @@ placed_cases : (f : ℕ → Option Value) (x y : ℕ) (v w : Value) → at_place
 placed_cases f x y v w e = go (x == y) refl e
   where
     go : (t : Bool) → (x == y) ≡ t → (if t then Some v else f y) ≡ Some w → ((x ≡ y) × (v ≡ w)) ⊎ (f y ≡ Some w)
-    go true p q = inl (eqb-true x y p, some_same v w q)
+    go true p q = inl (eqb-true x y p, same_Some v w q)
     go false p q = inr q
 
 -- what a deed that fills a cell found and left
 fills_done : (fl : Flow) (m : Memory) (c : Context) (n x : ℕ) (v : Value) (E : Effect) → done fl m (Fills c n x v) ≡ Some E → (m.cells x ≡ None) × (E.memory.cells x ≡ Some v)
 fills_done fl m c n x v E e =
     let f = empty_of (m.cells x) (adds (tokens_of fl (Sends c n 0 v)) (with_cell m x v)) E e in
-    (f.0, ap (λ (E : Effect). E.memory.cells x) (sym (some_same _ E f.1)) ∙ placed_here m.cells x v)
+    (f.0, ap (λ (E : Effect). E.memory.cells x) (sym (same_Some _ E f.1)) ∙ placed_here m.cells x v)
 
 -- a cell that is full after a deed was full before it, or the deed filled it
 cell_before : (fl : Flow) (m : Memory) (d : Deed) (E : Effect) (x : ℕ) (v : Value) → done fl m d ≡ Some E → E.memory.cells x ≡ Some v → (m.cells x ≡ Some v) ⊎ ((c : Context) × (n : ℕ) × (d ≡ Fills c n x v))
-cell_before fl m (Says y) E x v e f = inl (ap (λ (E : Effect). E.memory.cells x) (some_same _ E e) ∙ f)
+cell_before fl m (Says y) E x v e f = inl (ap (λ (E : Effect). E.memory.cells x) (same_Some _ E e) ∙ f)
 cell_before fl m (Reads c n y) E x v e f =
     let g = full_of (m.cells y) (λ v. adds (tokens_of fl (Sends c n 0 v)) m) E e in
-    inl (ap (λ (E : Effect). E.memory.cells x) (some_same _ E g.2) ∙ f)
+    inl (ap (λ (E : Effect). E.memory.cells x) (same_Some _ E g.2) ∙ f)
 cell_before fl m (Fills c n y w) E x v e f =
     let g = empty_of (m.cells y) (adds (tokens_of fl (Sends c n 0 w)) (with_cell m y w)) E e in
-    ⊎_elim (λ same. inr (c, n, let a = same.0 in let b = same.1 in cc)) (λ old. inl old) (placed_cases m.cells y x w v (ap (λ (E : Effect). E.memory.cells x) (some_same _ E g.1) ∙ f))
-cell_before fl m (Puts j w) E x v e f = inl (ap (λ (E : Effect). E.memory.cells x) (some_same _ E e) ∙ f)
+    ⊎_elim (λ same. inr (c, n, let a = same.0 in let b = same.1 in cc)) (λ old. inl old) (placed_cases m.cells y x w v (ap (λ (E : Effect). E.memory.cells x) (same_Some _ E g.1) ∙ f))
+cell_before fl m (Puts j w) E x v e f = inl (ap (λ (E : Effect). E.memory.cells x) (same_Some _ E e) ∙ f)
 
 -- an entry is that of a deed
 by_deed : (d : Deed) (u : Stored) → Within u (stored_by (Some d)) → d ≡ Fills u.context u.node u.cell u.value
@@ -151,9 +150,9 @@ spread_once : (P : Stored → Stored → Type 0) → ((u w : Stored) → P u w �
 spread_once P turn [] all i j u w e f h = cc
 spread_once P turn (x ∷ us) all zero zero u w e f h = refl
 spread_once P turn (x ∷ us) all zero (suc j) u w e f h =
-    absurd (each_within (λ w. P x w → ⊥) w us (within_at us j w f) all.0 (subst (λ u. P u w) (sym (some_same x u e)) h))
+    absurd (each_within (λ w. P x w → ⊥) w us (get_within us j w f) all.0 (subst (λ u. P u w) (sym (same_Some x u e)) h))
 spread_once P turn (x ∷ us) all (suc i) zero u w e f h =
-    absurd (each_within (λ w. P x w → ⊥) u us (within_at us i u e) all.0 (subst (λ w. P w u) (sym (some_same x w f)) (turn u w h)))
+    absurd (each_within (λ w. P x w → ⊥) u us (get_within us i u e) all.0 (subst (λ w. P w u) (sym (same_Some x w f)) (turn u w h)))
 spread_once P turn (x ∷ us) all (suc i) (suc j) u w e f h = ap suc (spread_once P turn us all.1 i j u w e f h)
 
 module _ (z : Rested) where

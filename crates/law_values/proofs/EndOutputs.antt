@@ -1,26 +1,26 @@
 -- The outputs at the end are those that the run has put.
 use Rattle.std.proofs.Common.{◌≡◌, ℕ, ◌⊎◌, Bool, true, false, List, [], ◌∷◌, Option, Some, ◌==◌, if◌then◌else◌, inl, inr, refl, sym, ap, ap₂, ◌∙◌, subst, ⊎_elim, eqb-true, eq-eqb}
+use Rattle.std.proofs.lemmas.Option.{same_Some}
 use Rattle.tags.specs.declared.value.Value.{Value}
 use Rattle.semantics.specs.Graph.{Flow}
 use Rattle.semantics.specs.Meaning.{Main, AtOut, Operand, State, Memory, Effect, Activity, Outputs, Deed, Says, Reads, Fills, Puts, Sends, tokens_of, adds, with_cell, at_place, deed, done, Step, Run}
-use Rattle.law_determinacy.proofs.Perm.{Within, put_later}
+use Rattle.lemmas.proofs.Permutations.{Within, put_later}
 use Rattle.law_determinacy.proofs.Deeds.{full_of, empty_of}
 use Rattle.law_determinacy.proofs.Diamond.{deed_of}
-use Rattle.law_determinacy.proofs.Options.{some_same}
 use Rattle.law_determinacy.proofs.Shapes.{showing}
 use Rattle.law_values.proofs.RunRested.{Rested, one_at}
 use Rattle.law_values.proofs.RunOrigins.{took_all}
 
 -- what a deed does to the outputs
 outputs_after : (fl : Flow) (m : Memory) (d : Deed) (E : Effect) → done fl m d ≡ Some E → (E.memory.outputs ≡ m.outputs) ⊎ ((j : ℕ) × (v : Value) × (d ≡ Puts j v) × (E.memory.outputs ≡ at_place m.outputs j v))
-outputs_after fl m (Says y) E e = inl (ap (λ (E : Effect). E.memory.outputs) (sym (some_same _ E e)))
+outputs_after fl m (Says y) E e = inl (ap (λ (E : Effect). E.memory.outputs) (sym (same_Some _ E e)))
 outputs_after fl m (Reads c n x) E e =
     let f = full_of (m.cells x) (λ v. adds (tokens_of fl (Sends c n 0 v)) m) E e in
-    inl (ap (λ (E : Effect). E.memory.outputs) (sym (some_same _ E f.2)))
+    inl (ap (λ (E : Effect). E.memory.outputs) (sym (same_Some _ E f.2)))
 outputs_after fl m (Fills c n x v) E e =
     let f = empty_of (m.cells x) (adds (tokens_of fl (Sends c n 0 v)) (with_cell m x v)) E e in
-    inl (ap (λ (E : Effect). E.memory.outputs) (sym (some_same _ E f.1)))
-outputs_after fl m (Puts j v) E e = inr (j, v, refl, ap (λ (E : Effect). E.memory.outputs) (sym (some_same _ E e)))
+    inl (ap (λ (E : Effect). E.memory.outputs) (sym (same_Some _ E f.1)))
+outputs_after fl m (Puts j v) E e = inr (j, v, refl, ap (λ (E : Effect). E.memory.outputs) (sym (same_Some _ E e)))
 
 output_before : (fl : Flow) (s t : State) (a : Activity) → Step fl a s t → (j : ℕ) (v : Value) → t.memory.outputs j ≡ Some v → (s.memory.outputs j ≡ Some v) ⊎ (a ≡ Outputs j v)
 output_before fl s t a p j v e =
@@ -33,7 +33,7 @@ output_before fl s t a p j v e =
     (outputs_after fl s.memory d.0 p.does d.2)
   where
     go : (k : ℕ) (w : Value) → a ≡ Outputs k w → (t : Bool) → (k == j) ≡ t → (if t then Some w else s.memory.outputs j) ≡ Some v → (s.memory.outputs j ≡ Some v) ⊎ (a ≡ Outputs j v)
-    go k w is true f g = inr (is ∙ ap₂ (λ k w. Outputs k w) (eqb-true k j f) (some_same w v g))
+    go k w is true f g = inr (is ∙ ap₂ (λ k w. Outputs k w) (eqb-true k j f) (same_Some w v g))
     go k w is false f g = inl g
 
 run_shown : (fl : Flow) (s t : State) (run : List Activity) (r : Run fl s run t) (j : ℕ) (v : Value) → t.memory.outputs j ≡ Some v → (s.memory.outputs j ≡ Some v) ⊎ Within (Outputs j v) run
@@ -69,8 +69,8 @@ step_full fl s t a p j v h =
         → ((p.does.memory.outputs ≡ s.memory.outputs) × IsFull (s.memory.outputs j)) ⊎ ((k : ℕ) × (w : Value) × (d ≡ Puts k w) × (p.does.memory.outputs ≡ at_place s.memory.outputs k w))
     changed d e f (inl full) = ⊎_elim (λ same. inl (same, full)) (λ puts. inr puts) (outputs_after fl s.memory d p.does f)
     changed d e f (inr is) =
-        let puts : d ≡ Puts j v = some_same d (Puts j v) (sym e ∙ ap (deed fl) is) in
-        inr (j, v, puts, ap (λ (E : Effect). E.memory.outputs) (sym (some_same _ p.does (subst (λ d. done fl s.memory d ≡ Some p.does) puts f))))
+        let puts : d ≡ Puts j v = same_Some d (Puts j v) (sym e ∙ ap (deed fl) is) in
+        inr (j, v, puts, ap (λ (E : Effect). E.memory.outputs) (sym (same_Some _ p.does (subst (λ d. done fl s.memory d ≡ Some p.does) puts f))))
 
 stays_full : (fl : Flow) (s t : State) (run : List Activity) (r : Run fl s run t) (j : ℕ) (v : Value) → IsFull (s.memory.outputs j) ⊎ Within (Outputs j v) run → IsFull (t.memory.outputs j)
 stays_full fl s t [] r j v (inl h) = subst (λ (m : Memory). IsFull (m.outputs j)) r.1 h

@@ -1,6 +1,7 @@
 -- No token is left: each that stood is one that an activity of the run took.
 use Rattle.std.proofs.Common.{◌≡◌, ℕ, suc, ◌+◌, ◌-◌, ◌≤◌, ◌⊎◌, Bool, List, [], ◌∷◌, length, Some, flat_map, inl, inr, refl, sym, ap, ap₂, ◌∙◌, subst, subst₂, arith, ⊎_elim}
 use Rattle.std.specs.Prelude.{slice_get}
+use Rattle.std.proofs.lemmas.Option.{slice_get_within, same_Some}
 use Rattle.tags.specs.declared.value.Value.{Value}
 use Rattle.semantics.specs.declared.graph.Region.TheVariants.{Arm}
 use Rattle.semantics.specs.declared.graph.Source.{Source}
@@ -9,23 +10,22 @@ use Rattle.semantics.specs.declared.graph.Kind.TheVariants.{Lit, Apply1, Apply2,
 use Rattle.semantics.specs.Graph.{Node, Block, node_at, node_count}
 use Rattle.semantics.specs.Meaning.{Context, Main, Called, Turned, Statement, AtNode, AtOut, AtTurn, Port, Operand, Predicate, Flag, Carried, Tagged, tagged, Activity, Fires, Gates, Passes, Returns, Turns, Outputs, taken, Deed, Says, Puts, Sends, Enters, passed, block_of, callee, arm_of, IsLoop}
 use Rattle.law_determinacy.specs.Outcome.{SameTag}
-use Rattle.law_determinacy.proofs.Perm.{Within, Each, each_within, spread_append_back, within_right, within_flat_map, put_first, put_later}
+use Rattle.lemmas.proofs.Permutations.{Within, Each, each_within, spread_append_back, within_right, within_flat_map, put_first, put_later}
+use Rattle.lemmas.proofs.SliceGet.{get_some}
 use Rattle.law_determinacy.proofs.Keys.{Differ}
 use Rattle.law_determinacy.proofs.Due.{ever_stood}
-use Rattle.law_determinacy.proofs.Grounds.{get_below, class_line}
+use Rattle.law_determinacy.proofs.Grounds.{class_line}
 use Rattle.law_determinacy.proofs.Laws.{ArmLaw}
-use Rattle.law_determinacy.proofs.Options.{some_same}
-use Rattle.law_determinacy.proofs.Rows.{Telling, Gate, Join, class_of, class_in, class_at, region_node}
+use Rattle.law_determinacy.proofs.Rows.{Telling, Gate, Join, class_of, class_in, class_at, region_node, region_is_arm}
 use Rattle.law_determinacy.proofs.Uses.{UseOf, AsOperand, AsResult, AsFlag, AsCarried, IsTurned}
 use Rattle.law_values.proofs.GraphForms.{HasForm, InRegion}
 use Rattle.law_values.proofs.RunRested.{Rested, Came, IsDueIn, RegionTaken}
 use Rattle.law_values.proofs.RunUses.{Ends, operand_came, carried_came, flag_came, operand_within}
 use Rattle.law_values.proofs.GraphForms.{line_past}
 use Rattle.law_values.proofs.RunOrigins.{Used, Entering, Told, origin, source_found}
-use Rattle.law_values.proofs.RunRegions.{block_shaped, arm_region, taken_in, arm_taken, round_at}
+use Rattle.law_values.proofs.RunRegions.{block_shaped, taken_in, arm_taken, round_at}
 use Rattle.law_values.proofs.ProgressNodes.{IsTogether, operands, operands_stand, line_fired, input_fires, passes_line}
 use Rattle.law_values.proofs.ProgressInvocations.{AllGiven, result_given, all_given, predicate_came, gate_happens, invoked_block}
-use Rattle.law_values.proofs.GraphForms.{get_some}
 use Rattle.law_values.proofs.ProgressDues.{due_open, sources_given, line_in}
 use Rattle.law_values.proofs.ValuesSilent.{operand_taken}
 
@@ -49,7 +49,7 @@ module _ (z : Rested) where
       → (v : Value) × (q : Value) × Within (Gates c m v q) z.run
   gate_consumes c b m k side line eb el er kind due round =
       let o = due_open z c due in
-      let blocks = some_same o.block b (sym o.is_block ∙ eb) in
+      let blocks = same_Some o.block b (sym o.is_block ∙ eb) in
       let all = subst (λ b. AllGiven z c b) blocks (all_given z c o.block o.is_block due o.came) in
       let its = (block_shaped z c b eb).lines m line el in
       let form = subst (λ kind. HasForm z.flow b line.region kind line.sources) kind its.form in
@@ -96,13 +96,13 @@ module _ (z : Rested) where
       together is gate join lie =
           let due = z.due x h in
           let o = due_open z c due in
-          let blocks = some_same b o.block (sym eb ∙ o.is_block) in
+          let blocks = same_Some b o.block (sym eb ∙ o.is_block) in
           let eo : node_at o.block m ≡ Some line = subst (λ b. node_at b m ≡ Some line) blocks el in
           let taken_here = operand_taken z c m i x.value came (λ f. gate (sym class ∙ f)) (λ f. join (sym class ∙ f)) in
           let region = subst (λ l. RegionTaken z c o.block (arm_of l)) eo (taken_in z c o.block o.is_block m taken_here) in
           let ops = operands z c line.sources (sources_given z c due o m line eo (subst (λ b. InRegion b line.region line.sources) blocks lie) region) in
           let fired = line_fired z c b eb m line ops.values el is form ops.long (operands_stand z c b eb m line ops el) in
-          let v = get_some ops.values i (omega (arith, ops.long, get_below line.sources i s ei)) in
+          let v = get_some ops.values i (omega (arith, ops.long, slice_get_within line.sources i s ei)) in
           let at : 0 + i ≡ i = omega arith in
           consumed x c (AtNode m) (Operand i) x.value v.0 (Fires c m ops.values) refl es eq fired.in_run
           (subst (λ j. Within (tagged c (AtNode m) (Operand j) v.0) (taken (Fires c m ops.values))) at (operand_within c (AtNode m) 0 ops.values i v.0 v.1))
@@ -112,13 +112,13 @@ module _ (z : Rested) where
       gate kind f =
           let k = f.1.0 in
           let law = (z.lawful _ came).1 in
-          let first : 0 ≡ i = let low = get_below line.sources i s ei in omega (arith, low, f.0) in
-          let bs = some_same law.0 b (sym law.1 ∙ eb) in
+          let first : 0 ≡ i = let low = slice_get_within line.sources i s ei in omega (arith, low, f.0) in
+          let bs = same_Some law.0 b (sym law.1 ∙ eb) in
           ⊎_elim (λ l. let past = (line_past b m line el).0 in let low = l.0 in let same = ap (λ (b : Block ℕ). b.inputs) bs in absurd (omega (arith, low, same, past)))
           (λ l.
-          let lines = some_same l.0 line (sym l.2 ∙ ap (λ (b : Block ℕ). node_at b m) bs ∙ el) in
-          let from = some_same l.1 s (sym l.3 ∙ ap (λ (n : Node ℕ). slice_get n.sources i) lines ∙ ei) in
-          let at = ap₂ (λ (b : Block ℕ) (s : Source). region_node (node_at b s.node)) bs from ∙ arm_region (node_at b s.node) ∙ f.1.3 i s ei in
+          let lines = same_Some l.0 line (sym l.2 ∙ ap (λ (b : Block ℕ). node_at b m) bs ∙ el) in
+          let from = same_Some l.1 s (sym l.3 ∙ ap (λ (n : Node ℕ). slice_get n.sources i) lines ∙ ei) in
+          let at = ap₂ (λ (b : Block ℕ) (s : Source). region_node (node_at b s.node)) bs from ∙ region_is_arm (node_at b s.node) ∙ f.1.3 i s ei in
           let arm : ArmLaw (Came z) c (arm_of (node_at b k)) = subst (λ r. ArmLaw (Came z) c r) at l.4 in
           let round = arm_taken z c b eb (node_count b) (arm_of (node_at b k)) (λ j t e. (round_at z c b eb k j t e).1) arm in
           let ran = gate_consumes c b m k f.1.1 line eb el f.1.2 kind (z.due x h) round in
@@ -190,7 +190,7 @@ module _ (z : Rested) where
       let d : Context = Turned c n t in
       let to = loop_block c n t due in
       let o = due_open z d due in
-      let blocks = some_same o.block to.0 (sym o.is_block ∙ to.1) in
+      let blocks = same_Some o.block to.0 (sym o.is_block ∙ to.1) in
       let all = subst (λ b. AllGiven z d b) blocks (all_given z d o.block o.is_block due o.came) in
       let count = (block_shaped z d to.0 to.1).count in
       let most = high to.0 to.1 to.2 in
@@ -225,13 +225,13 @@ module _ (z : Rested) where
       operand_consumed x u.block m i line s.0 h es eq u.is_block el s.1
   used_consumed x h u (AsResult j es eq src) = out_consumed x j h es eq (subst (λ s. Ends x.context s) es u.ends)
   used_consumed x h u (AsFlag j es eq low high src turned) =
-      turn_consumed x j h es (inl eq) turned low (λ to e long. let same = ap (λ (b : Block ℕ). b.inputs) (some_same u.block to (sym u.is_block ∙ e)) in omega (arith, same, high))
+      turn_consumed x j h es (inl eq) turned low (λ to e long. let same = ap (λ (b : Block ℕ). b.inputs) (same_Some u.block to (sym u.is_block ∙ e)) in omega (arith, same, high))
   used_consumed x h u (AsCarried j es eq low src) =
       let s = source_found u.node u.port (slice_get u.block.results j) src in
-      let below = get_below u.block.results j s.0 s.1 in
+      let below = slice_get_within u.block.results j s.0 s.1 in
       let count = (block_shaped z x.context u.block u.is_block).count in
       turn_consumed x j h es (inr eq) (subst (λ s. Ends x.context s) es u.ends) low
-      (λ to e long. let same = some_same u.block to (sym u.is_block ∙ e) in let ins = ap (λ (b : Block ℕ). b.inputs) same in let outs = ap (λ (b : Block ℕ). b.outputs) same in omega (arith, ins, outs, long, below, count))
+      (λ to e long. let same = same_Some u.block to (sym u.is_block ∙ e) in let ins = ap (λ (b : Block ℕ). b.inputs) same in let outs = ap (λ (b : Block ℕ). b.outputs) same in omega (arith, ins, outs, long, below, count))
 
   pub all_consumed : (x : Tagged) → Came z x → Consumed z x
   all_consumed x h = ⊎_elim (λ u. used_consumed x h u u.using_it) (λ o. ⊎_elim (λ e. entering_consumed x h e) (λ t. told_consumed x h t) o) (origin z x h)

@@ -2,6 +2,7 @@
 use Rattle.std.proofs.Common.{◌≡◌, ℕ, zero, suc, ◌<◌, ◌⊎◌, ℤ, Bool, true, false, List, [], ◌∷◌, Some, None, inl, inr, refl, sym, ap, ◌∙◌, subst, arith, ⊎_elim, nat_lt, slice_get, if◌then◌else◌, Contains}
 use Rattle.std.specs.Prelude.{◌==◌, ⊤, slice_index_or}
 use Rattle.std.proofs.lemmas.List.Sorted.{IsPermutation-refl}
+use Rattle.std.proofs.lemmas.Option.{same_Some}
 use Rattle.tags.specs.declared.value.Value.{Value}
 use Rattle.tags.specs.declared.value.Value.TheVariants.{Int}
 use Rattle.semantics.specs.Graph.{Node, Flow}
@@ -9,7 +10,7 @@ use Rattle.semantics.specs.Meaning.{Context, Main, Called, Turned, AtOut, Operan
 use Rattle.law_values.specs.Given.{Gives, SaysIn, Stored, stores_of, ports_line, ports_at}
 use Rattle.law_values.specs.Equations.{IsDue, TakenAt, Equation, Result}
 use Rattle.law_values.specs.Settled.{Settled}
-use Rattle.law_values.proofs.ExampleValues.{from, alone, some_same}
+use Rattle.law_values.proofs.ExampleValues.{from, alone}
 
 abbrev echoing : Flow
 echoing = alone record { inputs = 1; outputs = 1; nodes = []; results = from 0 ∷ [] }
@@ -60,8 +61,8 @@ module _ (z : ℤ) where
 
   -- the only value that is given
   sent_once : (y : Message) (d : Deed) → (Some d ≡ Some (Says (Sends Main 0 0 (Int z)))) ⊎ (Some d ≡ Some (Puts 0 (Int z))) → SaysIn at_end.memory d y → Sends Main 0 0 (Int z) ≡ y
-  sent_once y d (inl e) h = subst (λ d. SaysIn at_end.memory d y) (some_same d _ e) h
-  sent_once y d (inr e) h = absurd (subst (λ d. SaysIn at_end.memory d y) (some_same d _ e) h)
+  sent_once y d (inl e) h = subst (λ d. SaysIn at_end.memory d y) (same_Some d _ e) h
+  sent_once y d (inr e) h = absurd (subst (λ d. SaysIn at_end.memory d y) (same_Some d _ e) h)
 
   only : (c : Context) (n p : ℕ) (v : Value) → Gave c n p v → Sends Main 0 0 (Int z) ≡ Sends c n p v
   only c n p v h =
@@ -126,7 +127,7 @@ module _ (z : ℤ) where
       no_store w i e = cc
 
       output : (j : ℕ) (v : Value) → at_end.memory.outputs j ≡ Some v → Result echoing (z ∷ []) run at_end echo_run Main j v
-      output zero v e = subst (λ v. Gave Main 0 0 v) (some_same (Int z) v e) gave
+      output zero v e = subst (λ v. Gave Main 0 0 v) (same_Some (Int z) v e) gave
       output (suc j) v e = absurd (go (0 == suc j) refl e)
         where
           go : (t : Bool) → (0 == suc j) ≡ t → (if t then Some (Int z) else None) ≡ Some v → ⊥

@@ -1,6 +1,7 @@
 -- Factorial of 2, from the equations alone: three invocations, and what each port has in each of them.
 use Rattle.std.proofs.Common.{◌≡◌, ℕ, Bool, true, false, List, [], ◌∷◌, Option, Some, refl, sym, ap, ◌∙◌, subst, arith, if◌then◌else◌}
 use Rattle.std.specs.Prelude.{pos}
+use Rattle.std.proofs.lemmas.Option.{same_Some}
 use Rattle.tags.specs.declared.value.Value.{Value}
 use Rattle.tags.specs.declared.value.Value.TheVariants.{Int}
 use Rattle.operators.specs.Values.{truth, apply2}
@@ -12,7 +13,7 @@ use Rattle.semantics.specs.Meaning.{Context, Main, Called, State, Activity, Run,
 use Rattle.law_values.specs.Given.{Gives, source_line, result_in}
 use Rattle.law_values.specs.Equations.{HasSome, Argument, BlockEquation}
 use Rattle.law_values.specs.Settled.{Settled}
-use Rattle.law_values.proofs.ExampleValues.{from, line, alone, some_same}
+use Rattle.law_values.proofs.ExampleValues.{from, line, alone}
 
 abbrev body : Block ℕ
 body = record {
@@ -79,7 +80,7 @@ module _ (run : List Activity) (s : State) (r : Run fact (start (pos 2 ∷ [])) 
   third = Called second 5
 
   two : Some_of Main (Int (pos 2))
-  two v k = let e = at Main refl 0 v k in e.1.2 ∙ ap Int (sym (some_same (pos 2) e.1.0 e.1.1))
+  two v k = let e = at Main refl 0 v k in e.1.2 ∙ ap Int (sym (same_Some (pos 2) e.1.0 e.1.1))
 
   one : Some_of second (Int (pos 1))
   one v k = less Main refl (Int (pos 2)) two v (call_takes Main refl refl v k)

@@ -12,7 +12,7 @@ use Rattle.semantics.specs.Graph.{Node, Block, Graph, Flow, flow_of, node_at}
 use Rattle.semantics.specs.WellFormed.{WellFormed, IsBlockWell, IsNodeWell, IsEarlier, region_of}
 use Rattle.semantics.specs.Meaning.{Main, AtNode, AtOut, Operand, Tagged, tagged, State, Memory, Activity, Fires, Outputs, taken, Deed, Reads, Fills, deed, effect, with_cell, with_output, start, Run, AtRest}
 use Rattle.law_determinacy.specs.Outcome.{AreInputsOf, NoClash}
-use Rattle.law_determinacy.proofs.Perm.{Within, Each, each_within, put_first, put_later}
+use Rattle.lemmas.proofs.Permutations.{Within, Each, each_within, put_first, put_later}
 use Rattle.law_determinacy.proofs.Keys.{Unique, Held, same_activity}
 use Rattle.law_determinacy.proofs.Diamond.{deed_of}
 use Rattle.law_determinacy.proofs.Laws.{IsFlowWell}

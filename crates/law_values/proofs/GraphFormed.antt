@@ -1,6 +1,9 @@
 -- A well-formed graph gives a flow of the shape that is needed.
 use Rattle.std.proofs.Common.{◌≡◌, ℕ, zero, suc, ◌+◌, ◌-◌, ◌<◌, ◌≤◌, ℤ, Bool, true, false, List, [], ◌∷◌, map, length, Option, Some, None, Contains, nat_lt, if◌then◌else◌, refl, sym, ap, ◌∙◌, subst, arith, ltb-false, le-ltb}
 use Rattle.std.specs.Prelude.{slice_get}
+use Rattle.lemmas.proofs.Alls.{all_at}
+use Rattle.lemmas.proofs.Contains.{contains_get}
+use Rattle.lemmas.proofs.SliceGet.{get_some, map_get_back, map_get}
 use Rattle.semantics.specs.declared.graph.Region.{Region}
 use Rattle.semantics.specs.declared.graph.Region.TheVariants.{Root, Arm}
 use Rattle.semantics.specs.declared.graph.Source.{Source}
@@ -10,19 +13,9 @@ use Rattle.semantics.specs.Graph.{Node, Block, Graph, Flow, node_at, node_count,
 use Rattle.semantics.specs.WellFormed.{IsRegion, IsCondNode, IsCond, region_in, region_of, HasShape, HasPortOf, HasPortIn, IsEarlier, AllLieIn, LiesWell, NamesWell, IsNodeWell, IsBlockWell, WellFormed}
 use Rattle.semantics.specs.Meaning.{Main, arm_of, block_of}
 use Rattle.semantics.specs.Faithful.{inputs_of, inputs_in}
-use Rattle.law_determinacy.proofs.Resolved.{all_get, contains_get, place_get, block_in, node_in, node_back, fits}
+use Rattle.law_determinacy.proofs.Resolved.{place_get, block_in, node_in, node_back, fits}
 use Rattle.law_values.specs.Given.{outputs_in, ports_of, ports_line, ports_in}
-use Rattle.law_values.proofs.GraphForms.{get_some, line_below, ports_line_at, InRegion, IsCondAt, HasForm, IsLine, IsBlock, IsShaped}
-
-read_map : {X Y : Type 0} (f : X → Y) (xs : List X) (i : ℕ) (x : X) → slice_get xs i ≡ Some x → slice_get (map f xs) i ≡ Some (f x)
-read_map f [] i x e = cc
-read_map f (y ∷ xs) zero x e = cc
-read_map f (y ∷ xs) (suc i) x e = read_map f xs i x e
-
-map_back : {X Y : Type 0} (f : X → Y) (xs : List X) (i : ℕ) (y : Y) → slice_get (map f xs) i ≡ Some y → (x : X) × (slice_get xs i ≡ Some x) × (f x ≡ y)
-map_back f [] i y e = cc
-map_back f (x ∷ xs) zero y e = (x, refl, cc)
-map_back f (x ∷ xs) (suc i) y e = map_back f xs i y e
+use Rattle.law_values.proofs.GraphForms.{line_below, ports_line_at, InRegion, IsCondAt, HasForm, IsLine, IsBlock, IsShaped}
 
 -- a node line of that number, where there are so many nodes
 some_line : {N : Type 0} (b : Block N) (n : ℕ) → b.inputs ≤ n → n < node_count b → (line : Node N) × (node_at b n ≡ Some line)
@@ -37,9 +30,9 @@ module _ (g : Graph) (well : WellFormed g) where
   named : (name : List ℕ) (b : Block (List ℕ)) → Contains g.blocks (name, b) → slice_get fl.blocks (place_of name (block_names g)) ≡ Some (block_in g b)
   named name b h =
       let k = contains_get g.blocks (name, b) h in
-      let at = read_map (λ (b : List ℕ × Block (List ℕ)). b.0) g.blocks k.0 (name, b) k.1 in
+      let at = map_get (λ (b : List ℕ × Block (List ℕ)). b.0) g.blocks k.0 (name, b) k.1 in
       let same = well.blocks_differ k.0 (place_of name (block_names g)) name at (place_get name (block_names g) k.0 at) in
-      subst (λ i. slice_get fl.blocks i ≡ Some (block_in g b)) same (read_map (λ (b : List ℕ × Block (List ℕ)). block_in g b.1) g.blocks k.0 (name, b) k.1)
+      subst (λ i. slice_get fl.blocks i ≡ Some (block_in g b)) same (map_get (λ (b : List ℕ × Block (List ℕ)). block_in g b.1) g.blocks k.0 (name, b) k.1)
 
   shaped_block : (name : List ℕ) (inputs outputs : ℕ) → HasShape g name inputs outputs
       → (b : Block ℕ) × (slice_get fl.blocks (place_of name (block_names g)) ≡ Some b) × (b.inputs ≡ inputs) × (b.outputs ≡ outputs)
@@ -51,7 +44,7 @@ module _ (g : Graph) (well : WellFormed g) where
     where
       go : (t : Bool) → (if t then None else slice_get b.nodes (n - b.inputs)) ≡ Some line → (if t then None else slice_get (map (node_in g) b.nodes) (n - b.inputs)) ≡ Some (node_in g line)
       go true f = cc
-      go false f = read_map (node_in g) b.nodes (n - b.inputs) line f
+      go false f = map_get (node_in g) b.nodes (n - b.inputs) line f
 
   arm_line : (nodes : List (Node (List ℕ))) (i : ℕ) → arm_of (slice_get (map (node_in g) nodes) i) ≡ region_in (slice_get nodes i)
   arm_line [] i = refl
@@ -105,7 +98,7 @@ module _ (g : Graph) (well : WellFormed g) where
 
   -- FORMS
   lie_in : (b : Block (List ℕ)) (r : Region) (ss : List Source) → AllLieIn b r ss → InRegion (block_in g b) r ss
-  lie_in b r ss h i s e = arm_same b s.node ∙ all_get (λ (s : Source). region_of b s.node ≡ r) ss i s h e
+  lie_in b r ss h i s e = arm_same b s.node ∙ all_at (λ (s : Source). region_of b s.node ≡ r) ss i s h e
 
   enter_outside : (b : Block (List ℕ)) (n : ℕ) (r : Region) (ss : List Source) → IsRegion b n r → LiesWell b n r Enter ss → (k : ℕ) × (side : Bool) × (r ≡ Arm k side) × InRegion (block_in g b) (arm_of (node_at (block_in g b) k)) ss
   enter_outside b n Root ss reg h = absurd (h.0 refl)
@@ -141,7 +134,7 @@ module _ (g : Graph) (well : WellFormed g) where
 
   line_to : (b : Block (List ℕ)) (n : ℕ) (line : Node (List ℕ)) → n < node_count b → IsNodeWell g b n line → IsLine fl (block_in g b) n (node_in g line)
   line_to b n line high h = record {
-    earlier = λ i s e. let early = all_get (IsEarlier g b n) line.sources i s h.earlier e in (early.0, port_to b s.node s.port (omega (arith, early.0, high)) early.1);
+    earlier = λ i s e. let early = all_at (IsEarlier g b n) line.sources i s h.earlier e in (early.0, port_to b s.node s.port (omega (arith, early.0, high)) early.1);
     round = λ k side e. round_to b n line.region k side h.region e;
     joins = λ k e. joins_to b n line.region line.kind line.sources k h.lies e;
     form = form_to b n line.region line.kind line.sources h.region h.names h.lies;
@@ -155,14 +148,14 @@ module _ (g : Graph) (well : WellFormed g) where
         subst (λ line. IsLine fl (block_in g b) n line) back.2 (line_to b n back.0 (line_below b n back.0 back.1) (h.nodes n back.0 back.1));
     count = h.result_count;
     results = λ j s e.
-        let early = all_get (IsEarlier g b (node_count b)) b.results j s h.results e in
-        (port_to b s.node s.port early.0 early.1, arm_same b s.node ∙ all_get (λ (s : Source). region_of b s.node ≡ Root) b.results j s h.in_root e);
+        let early = all_at (IsEarlier g b (node_count b)) b.results j s h.results e in
+        (port_to b s.node s.port early.0 early.1, arm_same b s.node ∙ all_at (λ (s : Source). region_of b s.node ≡ Root) b.results j s h.in_root e);
   }
 
   pub shaped : IsShaped fl
   shaped i b e =
-      let from = map_back (λ (b : List ℕ × Block (List ℕ)). block_in g b.1) g.blocks i b e in
-      subst (λ b. IsBlock fl b) from.2 (block_to from.0.1 (all_get (λ (named : List ℕ × Block (List ℕ)). IsBlockWell g named.1) g.blocks i from.0 well.blocks from.1))
+      let from = map_get_back (λ (b : List ℕ × Block (List ℕ)). block_in g b.1) g.blocks i b e in
+      subst (λ b. IsBlock fl b) from.2 (block_to from.0.1 (all_at (λ (named : List ℕ × Block (List ℕ)). IsBlockWell g named.1) g.blocks i from.0 well.blocks from.1))
 
   pub main_block : (inputs : List ℤ) → length inputs ≡ inputs_of fl → (b : Block ℕ) × (block_of fl Main ≡ Some b) × (length inputs ≡ b.inputs)
   main_block inputs e = let f = fits g well inputs e in (f.0, f.1, e ∙ ap inputs_in f.1)

@@ -1,6 +1,7 @@
 -- What a well-formed graph's flow has, by kind of node: sources are earlier and have ports, regions nest, results lie in the root.
-use Rattle.std.proofs.Common.{◌≡◌, ℕ, zero, suc, ◌+◌, ◌-◌, ◌<◌, ◌≤◌, Bool, true, false, List, [], ◌∷◌, length, Option, Some, None, nat_lt, if◌then◌else◌, refl, ap, arith, ltb-false}
+use Rattle.std.proofs.Common.{◌≡◌, ℕ, ◌+◌, ◌-◌, ◌<◌, ◌≤◌, Bool, true, false, List, [], ◌∷◌, length, Option, Some, None, nat_lt, if◌then◌else◌, refl, ap, arith, ltb-false}
 use Rattle.std.specs.Prelude.{slice_get}
+use Rattle.std.proofs.lemmas.Option.{slice_get_within}
 use Rattle.semantics.specs.declared.graph.Region.{Region}
 use Rattle.semantics.specs.declared.graph.Region.TheVariants.{Root, Arm}
 use Rattle.semantics.specs.declared.graph.Source.{Source}
@@ -8,7 +9,6 @@ use Rattle.semantics.specs.declared.graph.Kind.{Kind}
 use Rattle.semantics.specs.declared.graph.Kind.TheVariants.{Lit, Apply1, Apply2, Cond, Enter, Merge, Fetch, Store, Call, StrictCall, Loop}
 use Rattle.semantics.specs.Graph.{Node, Block, Flow, node_at, node_count}
 use Rattle.semantics.specs.Meaning.{arm_of}
-use Rattle.law_determinacy.proofs.Grounds.{get_below}
 use Rattle.law_values.specs.Given.{ports_of, ports_line, ports_in}
 
 -- these sources lie in a region
@@ -56,11 +56,6 @@ IsShaped fl = (i : ℕ) (b : Block ℕ) → slice_get fl.blocks i ≡ Some b →
 
 -- LINES
 
-pub get_some : {X : Type 0} (xs : List X) (i : ℕ) → i < length xs → (x : X) × (slice_get xs i ≡ Some x)
-get_some [] i h = absurd (omega arith)
-get_some (x ∷ xs) zero h = (x, refl)
-get_some (x ∷ xs) (suc i) h = get_some xs i (omega arith)
-
 -- a node line comes after the inputs
 pub line_past : {N : Type 0} (b : Block N) (n : ℕ) (line : Node N) → node_at b n ≡ Some line → (b.inputs ≤ n) × (slice_get b.nodes (n - b.inputs) ≡ Some line)
 line_past {N} b n line e = go (nat_lt n b.inputs) refl e
@@ -72,7 +67,7 @@ line_past {N} b n line e = go (nat_lt n b.inputs) refl e
 pub line_below : {N : Type 0} (b : Block N) (n : ℕ) (line : Node N) → node_at b n ≡ Some line → n < node_count b
 line_below b n line e =
     let past = line_past b n line e in
-    let low = get_below b.nodes (n - b.inputs) line past.1 in
+    let low = slice_get_within b.nodes (n - b.inputs) line past.1 in
     omega (arith, past.0, low)
 
 pub ports_line_at : (fl : Flow) (b : Block ℕ) (n : ℕ) (line : Node ℕ) → node_at b n ≡ Some line → ports_in fl (Some b) n ≡ ports_of fl line.kind line.sources

@@ -7,7 +7,8 @@ use Rattle.semantics.specs.declared.graph.Kind.{Kind}
 use Rattle.semantics.specs.declared.graph.Kind.TheVariants.{Call, StrictCall, Loop}
 use Rattle.semantics.specs.Graph.{Node, Block, node_at}
 use Rattle.semantics.specs.Meaning.{Context, Main, Called, Turned, AtNode, AtTurn, Operand, Flag, tagged, Fires, block_of, callee, node_in, node_of, start, HadTrueFlag, arm_of, IsCall, IsLoop}
-use Rattle.law_determinacy.proofs.Perm.{Within, within_to}
+use Rattle.lemmas.proofs.Permutations.{Within, within_to}
+use Rattle.lemmas.proofs.SliceGet.{get_some}
 use Rattle.law_values.specs.Given.{ports_in, ports_at}
 use Rattle.law_values.proofs.GraphForms.{HasForm, InRegion}
 use Rattle.law_values.proofs.RunRested.{Rested, Came, IsDueIn, RegionTaken, one_at}
@@ -16,7 +17,6 @@ use Rattle.law_values.proofs.RunUses.{entering_within}
 use Rattle.law_values.proofs.RunRegions.{TakenIn, block_shaped, taken_in}
 use Rattle.law_values.proofs.ProgressNodes.{Given, input_fires}
 use Rattle.law_values.proofs.ProgressInvocations.{InputsCame, SourcesGiven, all_given, progress, own_sources, invoked_block, call_came, strict_came, loop_came, next_inputs, turn_flag}
-use Rattle.law_values.proofs.GraphForms.{get_some}
 
 pub record Open (z : Rested) (c : Context) : Type 0 where
   pub block : Block ℕ

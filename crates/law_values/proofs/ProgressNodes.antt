@@ -9,7 +9,7 @@ use Rattle.semantics.specs.declared.graph.Kind.{Kind}
 use Rattle.semantics.specs.declared.graph.Kind.TheVariants.{Lit, Apply1, Apply2, Cond, Enter, Merge, Fetch, Store, Call, StrictCall, Loop}
 use Rattle.semantics.specs.Graph.{Node, Block, Flow, node_at, first_cell, array_len}
 use Rattle.semantics.specs.Meaning.{Context, AtNode, Operand, tagged, Memory, Activity, Fires, Gates, Passes, Outputs, taken, Deed, Says, Puts, Message, Sends, deed, fired, fired_in, fetched, stored, input_passed, gated, passed, on_node, on_block, block_of, origin_at}
-use Rattle.law_determinacy.proofs.Perm.{Within, Each, within_to}
+use Rattle.lemmas.proofs.Permutations.{Within, Each, within_to}
 use Rattle.law_determinacy.proofs.Shapes.{showing}
 use Rattle.law_values.specs.Given.{SaysIn}
 use Rattle.law_values.proofs.GraphForms.{HasForm}

@@ -5,7 +5,7 @@ use Rattle.tags.specs.declared.value.Value.{Value}
 use Rattle.tags.specs.declared.value.Value.TheVariants.{Int}
 use Rattle.semantics.specs.Graph.{Flow}
 use Rattle.semantics.specs.Meaning.{Context, Main, Called, Turned, Tagged, State, Activity, Fires, taken, Message, Enters, tokens_of, Step, Run, Stood, start}
-use Rattle.law_determinacy.proofs.Perm.{Within, Each, each_within, each_weaker, within_append, within_right, within_from, within_permutation}
+use Rattle.lemmas.proofs.Permutations.{Within, Each, each_within, each_weaker, within_append, within_right, within_from, within_permutation}
 use Rattle.law_determinacy.proofs.Diamond.{deed_of, held_from}
 use Rattle.law_determinacy.proofs.History.{spoken}
 use Rattle.law_determinacy.proofs.Uses.{Member, tokens_member, entering_member}

@@ -3,6 +3,7 @@ use Rattle.std.proofs.Common.{◌≡◌, ℕ, ◌+◌, ◌-◌, ◌<◌, ◌⊎�
 use Rattle.std.specs.Prelude.{pos, negsuc, slice_get, count_by}
 use Rattle.std.proofs.lemmas.List.Sums.{sum_by-cons}
 use Rattle.std.proofs.lemmas.List.Sorted.{IsPermutation-sym, sum_by-IsPermutation}
+use Rattle.std.proofs.lemmas.Option.{same_Some}
 use Rattle.tags.specs.declared.value.Value.{Value}
 use Rattle.tags.specs.declared.value.Value.TheVariants.{Int, Fault}
 use Rattle.tags.specs.declared.value.Origin.{Origin}
@@ -16,14 +17,13 @@ use Rattle.semantics.specs.WellFormed.{WellFormed}
 use Rattle.semantics.specs.Meaning.{Context, Statement, AtNode, Operand, Tagged, tagged, State, Effect, Activity, Fires, Gates, Passes, Returns, Turns, Outputs, taken, operands_from, Deed, Says, Reads, Fills, Puts, Sends, tokens_of, when_full, when_empty, adds, with_cell, deed, done, fired, fired_in, fetched, stored, input_passed, on_node, on_block, block_of, node_of, node_in, origin_at, cell_in, Run, Stood, AtRest, start, fetch_cell, fetches, cell_is, waits_for}
 use Rattle.semantics.specs.Faithful.{inputs_of}
 use Rattle.law_determinacy.specs.Outcome.{NoClash}
-use Rattle.law_determinacy.proofs.Perm.{Put, Perm, Within, Each, each_from, each_within, perm_refl, perm_to, put_first, within_from, within_permutation}
+use Rattle.lemmas.proofs.Permutations.{Put, Perm, Within, Each, each_from, each_within, perm_refl, perm_to, put_first, within_from, within_permutation, put_IsPermutation, get_within}
 use Rattle.law_determinacy.proofs.Keys.{Differ, Unique, Held}
 use Rattle.law_determinacy.proofs.Diamond.{effect_of}
-use Rattle.law_determinacy.proofs.Options.{some_same}
 use Rattle.law_determinacy.proofs.Shapes.{fires_deed, gates_said, passes_said, storing}
 use Rattle.law_determinacy.proofs.Runs.{step_of}
 use Rattle.law_values.specs.Settled.{NoneWaits}
-use Rattle.law_values.proofs.RunTakers.{Taker, within_at, taken_or_left, same_taker}
+use Rattle.law_values.proofs.RunTakers.{Taker, taken_or_left, same_taker}
 
 -- AN ACTIVITY'S TOKENS ARE AT DIFFERENT PLACES
 operands_later : (c : Context) (s : Statement) (v : Value) (h k : ℕ) (vs : List Value) → h < k → Each (Differ (tagged c s (Operand h) v)) (operands_from c s k vs)
@@ -43,11 +43,9 @@ taken_differ (Turns c n i j b v) = (((λ same. let p = same.2 in cc), tt), (tt, 
 taken_differ (Outputs j v) = (tt, tt)
 
 -- TOKENS AND THE REST
-put_moved : (x : Tagged) (zs ts : List Tagged) → Put x zs ts → IsPermutation (x ∷ zs) ts
-put_moved x zs ts p = perm_to (x ∷ zs) ts (zs, p, perm_refl zs)
 
 within_other : (x y : Tagged) (zs ts : List Tagged) → Put x zs ts → Within y ts → Differ x y → Within y zs
-within_other x y zs ts p h differ = go (within_permutation y ts (x ∷ zs) (IsPermutation-sym _ _ (put_moved x zs ts p)) h)
+within_other x y zs ts p h differ = go (within_permutation y ts (x ∷ zs) (IsPermutation-sym _ _ (put_IsPermutation x zs ts p)) h)
   where
     go : Within y (x ∷ zs) → Within y zs
     go (ws, inl k) = absurd (differ (ap (λ (t : Tagged). t.context) (sym k.0), ap (λ (t : Tagged). t.statement) (sym k.0), ap (λ (t : Tagged). t.port) (sym k.0)))
@@ -64,7 +62,7 @@ split ts (x ∷ us) u h =
 
 counted : (test : Tagged → Bool) (x : Tagged) (ts : List Tagged) → Within x ts → test x ≡ true → 0 < count_by test ts
 counted test x ts h e =
-    let moved = sum_by-IsPermutation (λ y. cond (test y) 1 0) (x ∷ h.0) ts (put_moved x h.0 ts h.1) in
+    let moved = sum_by-IsPermutation (λ y. cond (test y) 1 0) (x ∷ h.0) ts (put_IsPermutation x h.0 ts h.1) in
     let first : count_by test (x ∷ h.0) ≡ 1 + count_by test h.0 = sum_by-cons (λ y. cond (test y) 1 0) x h.0 ∙ ap (λ t. cond t 1 0 + count_by test h.0) e in
     let same : count_by test (x ∷ h.0) ≡ count_by test ts = sym moved in
     omega (arith, first, same)
@@ -89,11 +87,11 @@ module _ (fl : Flow) (c : Context) (n x : ℕ) where
 
   reads_kind : (kind : Kind ℕ) (vs : List Value) → fired fl c n kind vs ≡ Some (Reads c n x) → (i : Value) × (vs ≡ i ∷ []) × (fetch_cell fl i kind ≡ Some x)
   reads_kind (Fetch a) [] e = cc
-  reads_kind (Fetch a) (v ∷ []) e = (v, refl, place_read (array_len fl a) v Untold (origin_at fl c n) (first_cell fl a) (some_same _ _ e))
+  reads_kind (Fetch a) (v ∷ []) e = (v, refl, place_read (array_len fl a) v Untold (origin_at fl c n) (first_cell fl a) (same_Some _ _ e))
   reads_kind (Fetch a) (v ∷ w ∷ vs) e = cc
   reads_kind (Store a) [] e = cc
   reads_kind (Store a) (v ∷ []) e = cc
-  reads_kind (Store a) (v ∷ w ∷ []) e = absurd (no_store_reads (first_cell fl a) w (index_in (array_len fl a) v (origin_at fl c n)) (some_same _ _ e))
+  reads_kind (Store a) (v ∷ w ∷ []) e = absurd (no_store_reads (first_cell fl a) w (index_in (array_len fl a) v (origin_at fl c n)) (same_Some _ _ e))
   reads_kind (Store a) (v ∷ w ∷ z ∷ vs) e = cc
   reads_kind (Lit z) [] e = cc
   reads_kind (Lit z) (v ∷ []) e = cc
@@ -212,6 +210,6 @@ module _ (g : Graph) (well : WellFormed g) (inputs : List ℤ) (count : length i
 
   pub happens : (a : Activity) (d : Deed) → deed (flow_of g) a ≡ Some d → Each Came (taken a) → Within a run
   happens a d e h =
-      ⊎_elim (λ t. subst (λ a. Within a run) (same_taker g well inputs count run s r a d e h t.0 t.1 t.2) (within_at run t.2.place t.2.activity t.2.stands))
+      ⊎_elim (λ t. subst (λ a. Within a run) (same_taker g well inputs count run s r a d e h t.0 t.1 t.2) (get_within run t.2.place t.2.activity t.2.stands))
       (λ held. absurd (not_all (flow_of g) s quiet none rests a d e held))
       (some_taken (taken a) h)

@@ -1,6 +1,7 @@
 -- From tokens to values: a token that stood at a use of a port is the value that the port was given.
 use Rattle.std.proofs.Common.{◌≡◌, ℕ, zero, suc, ◌+◌, ◌-◌, ◌<◌, ◌≤◌, ◌⊎◌, ℤ, Bool, List, [], ◌∷◌, Option, Some, None, map, inl, inr, refl, sym, ap, ap₂, ◌∙◌, subst, subst₂, arith, ⊎_elim}
 use Rattle.std.specs.Prelude.{slice_get}
+use Rattle.std.proofs.lemmas.Option.{slice_get_within, same_Some}
 use Rattle.tags.specs.declared.value.Value.{Value}
 use Rattle.tags.specs.declared.value.Value.TheVariants.{Int}
 use Rattle.semantics.specs.declared.graph.Source.{Source}
@@ -8,11 +9,10 @@ use Rattle.semantics.specs.declared.graph.Region.TheVariants.{Arm}
 use Rattle.semantics.specs.declared.graph.Kind.TheVariants.{Enter}
 use Rattle.semantics.specs.Graph.{Node, Block, node_at}
 use Rattle.semantics.specs.Meaning.{Context, Main, Called, Turned, AtNode, AtOut, AtTurn, Operand, Predicate, Flag, Carried, Tagged, tagged, Memory, Activity, Fires, taken, Deed, Says, Reads, Fills, Puts, Message, Sends, Tells, Enters, Nothing, tokens_of, block_of, node_in, start, entering}
-use Rattle.law_determinacy.proofs.Perm.{Within, Each, each_from, each_within, within_from, within_to}
+use Rattle.lemmas.proofs.Permutations.{Within, Each, each_from, each_within, within_from, within_to}
 use Rattle.law_determinacy.proofs.Uses.{IsSource, UseOf, AsOperand, AsResult, AsFlag, AsCarried, Member, IsTurned, tokens_member}
-use Rattle.law_determinacy.proofs.Grounds.{row_grounded, found_line, get_below}
+use Rattle.law_determinacy.proofs.Grounds.{row_grounded, found_line}
 use Rattle.law_determinacy.proofs.Laws.{Grounded, IsInvoking}
-use Rattle.law_determinacy.proofs.Options.{some_same}
 use Rattle.law_determinacy.proofs.Rows.{Class, Calling, Strict, Looping, class_at, Speaks, Row, RowFires, RowTells, RowGates, RowQuiet, RowMerges, RowCalls, RowStrict, RowLoops, RowReturns, RowAgain, RowLeaves, rows}
 use Rattle.law_values.specs.Given.{SaysIn, source_line, source_at, result_in, result_at}
 use Rattle.law_values.specs.Equations.{HasSome, Argument, Result, InputEquation}
@@ -194,7 +194,7 @@ module _ (z : Rested) where
           let same = back.3 in
           let cs : x.context ≡ c = ap (λ (x : Tagged). x.context) same in
           let vs' : x.value ≡ back.1 = ap (λ (x : Tagged). x.value) same in
-          let low = get_below vs back.0 back.1 back.2 in
+          let low = slice_get_within vs back.0 back.1 back.2 in
           inr (inl record {
             input = from + back.0;
             block = g.1.0;
@@ -215,7 +215,7 @@ module _ (z : Rested) where
       let same = back.3 in
       let cs : x.context ≡ Main = ap (λ (x : Tagged). x.context) same in
       let v = int_read z.inputs back.0 back.1 back.2 in
-      let low = get_below z.inputs back.0 v.0 v.1 in
+      let low = slice_get_within z.inputs back.0 v.0 v.1 in
       let at : 0 + back.0 ≡ back.0 = omega arith in
       inr (inl record {
         input = back.0;
@@ -239,10 +239,10 @@ module _ (z : Rested) where
 
       of_use : (k : Block ℕ) (n p : ℕ) → block_of z.flow c ≡ Some k → GivesIn z c n p v → UseOf k c n p (AtNode m) (Operand i) → (s : Source) × (slice_get line.sources i ≡ Some s) × GivesIn z c s.node s.port v
       of_use k n p ek g (AsOperand m' i' node es eq low el' src) =
-          let blocks = some_same k b (sym ek ∙ eb) in
+          let blocks = same_Some k b (sym ek ∙ eb) in
           let ms : m' ≡ m = cc in
           let is : i' ≡ i = cc in
-          let lines = some_same node line (sym el' ∙ ap₂ (λ (b : Block ℕ) m. node_at b m) blocks ms ∙ el) in
+          let lines = same_Some node line (sym el' ∙ ap₂ (λ (b : Block ℕ) m. node_at b m) blocks ms ∙ el) in
           let s = source_found n p (slice_get node.sources i') src in
           (s.0, ap₂ (λ (l : Node ℕ) i. slice_get l.sources i) (sym lines) (sym is) ∙ s.1, subst₂ (λ n p. GivesIn z c n p v) (sym s.2) (sym s.3) g)
       of_use k n p ek g (AsResult j es eq src) = absurd (cc)
@@ -254,7 +254,7 @@ module _ (z : Rested) where
 
       enters : Entering z x → (s : Source) × (slice_get line.sources i ≡ Some s) × GivesIn z c s.node s.port v
       enters e =
-          let blocks = ap (λ (b : Block ℕ). b.inputs) (some_same e.block b (sym e.is_block ∙ eb)) in
+          let blocks = ap (λ (b : Block ℕ). b.inputs) (same_Some e.block b (sym e.is_block ∙ eb)) in
           let st = e.statement in
           let ms : m ≡ e.input = cc in
           let past = line_past b m line el in
@@ -324,7 +324,7 @@ module _ (z : Rested) where
     where
       no_use : (k : Block ℕ) (n p : ℕ) → block_of z.flow c ≡ Some k → UseOf k c n p (AtNode i) (Operand 0) → ⊥
       no_use k n p ek (AsOperand m i' node es eq past el src) =
-          let blocks = ap (λ (b : Block ℕ). b.inputs) (some_same k b (sym ek ∙ eb)) in
+          let blocks = ap (λ (b : Block ℕ). b.inputs) (same_Some k b (sym ek ∙ eb)) in
           let ms : i ≡ m = cc in omega (arith, blocks, ms, past, low)
       no_use k n p ek (AsResult j' es eq src) = absurd (cc)
       no_use k n p ek (AsFlag j' es eq low' high src turned) = absurd (cc)

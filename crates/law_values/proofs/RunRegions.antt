@@ -8,7 +8,7 @@ use Rattle.semantics.specs.Graph.{Node, Block, node_at, node_count}
 use Rattle.semantics.specs.Meaning.{Context, AtNode, Operand, tagged, ArmsTaken, arm_of, arms_round, arms_at, block_of, block_number, block_numbered}
 use Rattle.law_determinacy.proofs.Grounds.{own_arm, node_class}
 use Rattle.law_determinacy.proofs.Laws.{ArmLaw}
-use Rattle.law_determinacy.proofs.Rows.{Telling, class_of, class_node, class_in, class_at, region_node, region_in, region_at}
+use Rattle.law_determinacy.proofs.Rows.{Telling, class_of, class_node, class_in, class_at, region_in, region_at, region_is_arm}
 use Rattle.law_values.specs.Equations.{TakenAt}
 use Rattle.law_values.proofs.GraphForms.{IsBlock, IsCondAt}
 use Rattle.law_values.proofs.RunRested.{Rested, Came, RegionTaken}
@@ -23,10 +23,6 @@ block_shaped z c b e = go (block_number z.flow c) e
     go : (o : Option ℕ) → block_numbered z.flow o ≡ Some b → IsBlock z.flow b
     go None f = cc
     go (Some i) f = z.shaped i b f
-
-pub arm_region : (o : Option (Node ℕ)) → region_node o ≡ arm_of o
-arm_region None = refl
-arm_region (Some n) = refl
 
 module _ (z : Rested) (c : Context) (b : Block ℕ) (eb : block_of z.flow c ≡ Some b) where
   pub taken_in : (n : ℕ) → TakenIn z c n → RegionTaken z c b (arm_of (node_at b n))
@@ -75,10 +71,10 @@ module _ (z : Rested) (c : Context) (b : Block ℕ) (eb : block_of z.flow c ≡ 
   arm_taken (suc depth) (Arm k side) cond law =
       let class : class_at z.flow c k ≡ Telling = ap (λ o. class_in o k) eb ∙ node_class b k (cond_class k (cond k side refl)) in
       let own = own_arm z.flow z.well (Came z) z.lawful c k 0 law.0 law.1 (λ e. cc) (λ e. cc) in
-      let here : ArmLaw (Came z) c (arm_of (node_at b k)) = subst (λ r. ArmLaw (Came z) c r) (ap (λ o. region_in o k) eb ∙ arm_region (node_at b k)) own in
+      let here : ArmLaw (Came z) c (arm_of (node_at b k)) = subst (λ r. ArmLaw (Came z) c r) (ap (λ o. region_in o k) eb ∙ region_is_arm (node_at b k)) own in
       ((law.0, law.1, law.2), arm_taken depth (arm_of (node_at b k)) (λ j s e. (round_at k j s e).1) here)
 
   pub lawful_taken : (n : ℕ) → ArmLaw (Came z) c (region_at z.flow c n) → RegionTaken z c b (arm_of (node_at b n))
   lawful_taken n law =
       arm_taken (node_count b) (arm_of (node_at b n)) (λ k side e. (round_at n k side e).1)
-      (subst (λ r. ArmLaw (Came z) c r) (ap (λ o. region_in o n) eb ∙ arm_region (node_at b n)) law)
+      (subst (λ r. ArmLaw (Came z) c r) (ap (λ o. region_in o n) eb ∙ region_is_arm (node_at b n)) law)

@@ -1,17 +1,17 @@
 -- A whole run that came to rest, with what is known of all runs, and what follows of where its tokens came from.
 use Rattle.std.proofs.Common.{◌≡◌, ℕ, ◌⊎◌, ℤ, List, [], ◌∷◌, ◌++◌, length, Some, flat_map, inl, inr, refl, sym, ap, ◌∙◌, subst, ⊎_elim, Contains}
 use Rattle.std.proofs.lemmas.List.Sorted.{IsPermutation-sym}
+use Rattle.std.proofs.lemmas.Option.{same_Some}
 use Rattle.tags.specs.declared.value.Value.{Value}
 use Rattle.semantics.specs.Graph.{Block, Flow}
 use Rattle.semantics.specs.Meaning.{Context, Main, Tagged, tagged, Statement, Port, State, Memory, Effect, Activity, taken, Deed, Says, Reads, Fills, Puts, Message, Sends, tokens_of, adds, deed, done, Step, Run, Stood, Due, ArmsTaken, arms_round, start, block_of}
 use Rattle.semantics.specs.Graph.{node_count}
 use Rattle.semantics.specs.declared.graph.Region.{Region}
 use Rattle.law_determinacy.specs.Outcome.{SameTag}
-use Rattle.law_determinacy.proofs.Perm.{Within, Each, within_append, within_left, within_right, within_flat_map, within_from, within_to, within_permutation, put_first, put_later}
+use Rattle.lemmas.proofs.Permutations.{Within, Each, within_append, within_left, within_right, within_flat_map, within_from, within_to, within_permutation, put_first, put_later}
 use Rattle.law_determinacy.proofs.Keys.{Unique, unique_same}
 use Rattle.law_determinacy.proofs.Deeds.{CellsKept, full_of}
 use Rattle.law_determinacy.proofs.Diamond.{deed_of}
-use Rattle.law_determinacy.proofs.Options.{some_same}
 use Rattle.law_determinacy.proofs.Runs.{run_cells}
 use Rattle.law_determinacy.proofs.Laws.{IsFlowWell, Lawful}
 use Rattle.law_determinacy.proofs.History.{stood_ever}
@@ -72,7 +72,7 @@ told fl m n (Reads c k x) E keeps e =
     let says : SaysIn n (Reads c k x) (Sends c k 0 f.0) = (f.0, keeps x f.0 f.1, refl) in
     inl (Sends c k 0 f.0, says, added fl m n (Reads c k x) E (Sends c k 0 f.0) keeps e says)
 told fl m n (Fills c k x v) E keeps e = inl (Sends c k 0 v, refl, added fl m n (Fills c k x v) E (Sends c k 0 v) keeps e refl)
-told fl m n (Puts j v) E keeps e = inr (j, v, refl, ap (λ (E : Effect). E.added) (sym (some_same _ E e)))
+told fl m n (Puts j v) E keeps e = inr (j, v, refl, ap (λ (E : Effect). E.added) (sym (same_Some _ E e)))
 
 later_said : (fl : Flow) (a : Activity) (run : List Activity) (m : Memory) (x : Tagged) → Said fl run m x → Said fl (a ∷ run) m x
 later_said fl a run m x h = record {
@@ -119,7 +119,7 @@ pub run_told : (fl : Flow) (s t : State) (run : List Activity) (r : Run fl s run
 run_told fl s t [] r a h d e = absurd h.1
 run_told fl s t (b ∷ run) r a (zs, inl h) d e =
     let its = deed_of fl s.memory b r.1.does r.1.allowed in
-    let same : its.0 ≡ d = some_same its.0 d (sym its.1 ∙ ap (λ a. deed fl a) (sym h.0) ∙ e) in
+    let same : its.0 ≡ d = same_Some its.0 d (sym its.1 ∙ ap (λ a. deed fl a) (sym h.0) ∙ e) in
     ⊎_elim (λ y. inl (y.0, y.1)) (λ p. inr (p.0, p.1, p.2))
     (told fl s.memory t.memory d r.1.does (run_cells fl s t (b ∷ run) r) (subst (λ d. done fl s.memory d ≡ Some r.1.does) same its.2))
 run_told fl s t (b ∷ run) r a (zs, inr h) d e = run_told fl r.0 t run r.2 a (h.0, h.2) d e

@@ -1,5 +1,5 @@
 -- From values to tokens: a value that a port has been given stood as a token at each use of the port.
-use Rattle.std.proofs.Common.{◌≡◌, ℕ, zero, suc, ◌+◌, ◌-◌, ◌≤◌, ◌&&◌, Bool, true, false, List, [], ◌∷◌, Option, Some, None, map, flat_map, nat_lt, ◌==◌, if◌then◌else◌, inl, inr, refl, sym, ap, ap₂, ◌∙◌, subst, arith, eqb-true, eq-eqb, le-ltb}
+use Rattle.std.proofs.Common.{◌≡◌, ℕ, zero, suc, ◌+◌, ◌-◌, ◌≤◌, ◌&&◌, Bool, true, false, List, [], ◌∷◌, Option, Some, None, map, flat_map, ◌==◌, if◌then◌else◌, inl, inr, refl, sym, ap, ap₂, ◌∙◌, subst, arith, eqb-true, eq-eqb}
 use Rattle.std.specs.Prelude.{⊤, slice_get}
 use Rattle.tags.specs.declared.value.Value.{Value}
 use Rattle.semantics.specs.declared.graph.Source.{Source}
@@ -9,9 +9,10 @@ use Rattle.semantics.specs.declared.graph.Kind.{Kind}
 use Rattle.semantics.specs.declared.graph.Kind.TheVariants.{Enter}
 use Rattle.semantics.specs.Graph.{Node, Block, Flow, node_at}
 use Rattle.semantics.specs.Meaning.{Context, Main, Called, Turned, Statement, AtNode, AtOut, AtTurn, Operand, Predicate, Flag, Carried, Tagged, tagged, Activity, Deed, Message, Sends, Tells, deed, tokens_of, positions, uses_at, uses_in, result_uses, turns_from, sent_in, block_of, entering, is_enter_of, predicates_from, predicates_in, operands_from}
-use Rattle.law_determinacy.proofs.Perm.{Within, Each, put_first, put_later, within_map, within_flat_map, within_left, within_right, within_from, within_to, each_from, each_append, each_map, each_flat_map}
+use Rattle.lemmas.proofs.Permutations.{Within, Each, put_first, put_later, within_map, within_flat_map, within_left, within_right, within_from, within_to, each_from, each_append, each_map, each_flat_map}
+use Rattle.lemmas.proofs.Contains.{contains_get}
+use Rattle.semantics.proofs.Lines.{line_at}
 use Rattle.law_determinacy.proofs.Uses.{IsSource, Use, IsTurned, flags_sent}
-use Rattle.law_determinacy.proofs.Resolved.{contains_get}
 use Rattle.law_values.specs.Given.{SaysIn}
 use Rattle.law_values.proofs.RunRested.{Rested, Came, GivesIn}
 use Rattle.law_values.proofs.RunSaid.{said_stood}
@@ -193,12 +194,6 @@ told_each P c k v m (line ∷ nodes) h =
         → Each P (if t then tagged c (AtNode m) Predicate v ∷ predicates_from c k v (m + 1) nodes else predicates_from c k v (m + 1) nodes)
     go true e ih = (subst (λ y. P (tagged c (AtNode y) Predicate v)) (omega arith) (h 0 line refl e), ih)
     go false e ih = ih
-
-line_at : (b : Block ℕ) (i : ℕ) (line : Node ℕ) → slice_get b.nodes i ≡ Some line → node_at b (b.inputs + i) ≡ Some line
-line_at b i line e =
-    let past : nat_lt (b.inputs + i) b.inputs ≡ false = le-ltb (b.inputs + i) b.inputs (omega arith) in
-    let back : b.inputs + i - b.inputs ≡ i = omega arith in
-    ap₂ (λ (t : Bool) i. if t then None else slice_get b.nodes i) past back ∙ e
 
 pub predicates_told : (fl : Flow) (c : Context) (k : ℕ) (v : Value) (o : Option (Block ℕ)) → block_of fl c ≡ o → Each (IsTold fl c k v) (predicates_in o c k v)
 predicates_told fl c k v None e = tt

@@ -1,6 +1,7 @@
 -- The values satisfy the equations of the nodes.
 use Rattle.std.proofs.Common.{◌≡◌, ℕ, ◌+◌, ◌<◌, ◌≤◌, Bool, true, false, List, [], ◌∷◌, length, Option, Some, None, nat_lt, if◌then◌else◌, refl, sym, ap, ◌∙◌, subst, arith, lt-ltb, ltb-true, ltb-false}
 use Rattle.std.specs.Prelude.{slice_get}
+use Rattle.std.proofs.lemmas.Option.{same_Some}
 use Rattle.tags.specs.declared.value.Value.{Value}
 use Rattle.tags.specs.declared.value.Value.TheVariants.{Int}
 use Rattle.operators.specs.Values.{truth, apply1, apply2, Indexed, Place, Outside, index_in}
@@ -10,10 +11,10 @@ use Rattle.semantics.specs.declared.graph.Kind.{Kind}
 use Rattle.semantics.specs.declared.graph.Kind.TheVariants.{Lit, Apply1, Apply2, Cond, Enter, Merge, Fetch, Store, Call, StrictCall, Loop}
 use Rattle.semantics.specs.Graph.{Node, Block, node_at, first_cell, array_len}
 use Rattle.semantics.specs.Meaning.{Context, Called, Turned, AtNode, Operand, tagged, Activity, Fires, Gates, Passes, Returns, taken, Deed, Says, Sends, deed, fired, fetched, stored, block_of, origin_at}
-use Rattle.law_determinacy.proofs.Perm.{Within, each_within, within_to}
+use Rattle.lemmas.proofs.Permutations.{Within, each_within, within_to}
+use Rattle.lemmas.proofs.Lists.{one_element}
 use Rattle.law_determinacy.proofs.Keys.{Together, mode_of, mode_node, mode_in, fires_mode}
 use Rattle.law_determinacy.proofs.Grounds.{mode_line}
-use Rattle.law_determinacy.proofs.Options.{some_same}
 use Rattle.law_determinacy.proofs.Rows.{Plain, Gate, Join, Looping, class_of, class_node, class_in}
 use Rattle.law_values.specs.Given.{SaysIn, stores_of}
 use Rattle.law_values.specs.Equations.{Loops, Fetched, Storing, LineEquation, InputEquation, NodeEquation, BlockEquation, Equation}
@@ -30,11 +31,6 @@ use Rattle.law_values.proofs.EndCells.{entry, stored_in, stored_cells}
 abbrev LineIn : Rested → Context → ℕ → ℕ → Value → Kind ℕ → List Source → Type 0
 LineIn z c n p v kind ss = LineEquation z.flow z.inputs z.run z.state z.is_run c n p v kind ss
 
-one_of : {X : Type 0} (xs : List X) → length xs ≡ 1 → (x : X) × (xs ≡ x ∷ [])
-one_of [] e = absurd (omega (arith, e))
-one_of (x ∷ []) e = (x, refl)
-one_of (x ∷ y ∷ xs) e = absurd (omega (arith, e))
-
 two_of : {X : Type 0} (xs : List X) → length xs ≡ 2 → (x : X) × (y : X) × (xs ≡ x ∷ y ∷ [])
 two_of [] e = absurd (omega (arith, e))
 two_of (x ∷ []) e = absurd (omega (arith, e))
@@ -50,7 +46,7 @@ module _ (z : Rested) (c : Context) (n p : ℕ) (v : Value) where
   Match ss vs = (i : ℕ) (a : Value) → slice_get vs i ≡ Some a → (s : Source) × (slice_get ss i ≡ Some s) × GivesIn z c s.node s.port a
 
   at_place : (ss : List Source) (i : ℕ) (x : Source) (a : Value) → slice_get ss i ≡ Some x → ((s : Source) × (slice_get ss i ≡ Some s) × GivesIn z c s.node s.port a) → GivesIn z c x.node x.port a
-  at_place ss i x a e h = subst (λ (s : Source). GivesIn z c s.node s.port a) (some_same h.0 x (sym h.1 ∙ e)) h.2
+  at_place ss i x a e h = subst (λ (s : Source). GivesIn z c s.node s.port a) (same_Some h.0 x (sym h.1 ∙ e)) h.2
 
   fetched_is : (base : ℕ) (i : Indexed) → SaysIn z.state.memory (fetched c n base i) (Sends c n 0 v) → Fetched z.flow z.inputs z.run z.state z.is_run base i v
   fetched_is base (Outside w) h = sent_value c n w v h
@@ -64,18 +60,18 @@ module _ (z : Rested) (c : Context) (n p : ℕ) (v : Value) where
       (sent_value c n w v says, stored_cells z (entry c n (base + i) w) here, here)
 
   says_as : (d e : Deed) → Some d ≡ Some e → SaysIn z.state.memory e (Sends c n 0 v) → SaysIn z.state.memory d (Sends c n 0 v)
-  says_as d e f h = subst (λ d. SaysIn z.state.memory d (Sends c n 0 v)) (some_same e d (sym f)) h
+  says_as d e f h = subst (λ d. SaysIn z.state.memory d (Sends c n 0 v)) (same_Some e d (sym f)) h
 
   plain_equation : (b : Block ℕ) (r : Region) (kind : Kind ℕ) (ss : List Source) (vs : List Value) (d : Deed) → IsPlain kind → HasForm z.flow b r kind ss → length ss ≡ length vs → fired z.flow c n kind vs ≡ Some d
       → SaysIn z.state.memory d (Sends c n 0 v) → Within (Fires c n vs) z.run → deed z.flow (Fires c n vs) ≡ Some d → Match ss vs → LineIn z c n p v kind ss
   plain_equation b r (Lit w) ss vs d is form long fires says ran e match =
-      let x = one_of ss form.0 in
-      let a = one_of vs (omega (arith, form.0, long)) in
+      let x = one_element ss form.0 in
+      let a = one_element vs (omega (arith, form.0, long)) in
       let f : Some (Says (Sends c n 0 (Int w))) ≡ Some d = ap (λ vs. fired z.flow c n (Lit w) vs) (sym a.1) ∙ fires in
       subst (λ ss. LineIn z c n p v (Lit w) ss) (sym x.1) (sent_value c n (Int w) v (says_as _ d f says))
   plain_equation b r (Apply1 op) ss vs d is form long fires says ran e match =
-      let x = one_of ss form.0 in
-      let a = one_of vs (omega (arith, form.0, long)) in
+      let x = one_element ss form.0 in
+      let a = one_element vs (omega (arith, form.0, long)) in
       let f : Some (Says (Sends c n 0 (apply1 op a.0))) ≡ Some d = ap (λ vs. fired z.flow c n (Apply1 op) vs) (sym a.1) ∙ fires in
       let g = at_place ss 0 x.0 a.0 (ap (λ ss. slice_get ss 0) x.1) (match 0 a.0 (ap (λ vs. slice_get vs 0) a.1)) in
       subst (λ ss. LineIn z c n p v (Apply1 op) ss) (sym x.1) (a.0, g, sent_value c n (apply1 op a.0) v (says_as _ d f says))
@@ -88,8 +84,8 @@ module _ (z : Rested) (c : Context) (n p : ℕ) (v : Value) where
       let h = at_place ss 1 x.1 a.1 (ap (λ ss. slice_get ss 1) x.2) (match 1 a.1 (ap (λ vs. slice_get vs 1) a.2)) in
       subst (λ ss. LineIn z c n p v (Apply2 op) ss) (sym x.2) (a.0, a.1, g, h, sent_value c n out v (says_as _ d f says))
   plain_equation b r (Fetch k) ss vs d is form long fires says ran e match =
-      let x = one_of ss form.0 in
-      let a = one_of vs (omega (arith, form.0, long)) in
+      let x = one_element ss form.0 in
+      let a = one_element vs (omega (arith, form.0, long)) in
       let place = index_in (array_len z.flow k) a.0 (origin_at z.flow c n) in
       let f : Some (fetched c n (first_cell z.flow k) place) ≡ Some d = ap (λ vs. fired z.flow c n (Fetch k) vs) (sym a.1) ∙ fires in
       let g = at_place ss 0 x.0 a.0 (ap (λ ss. slice_get ss 0) x.1) (match 0 a.0 (ap (λ vs. slice_get vs 0) a.1)) in
@@ -141,7 +137,7 @@ module _ (z : Rested) (c : Context) (n p : ℕ) (v : Value) where
     enter_line : line.kind ≡ Enter → Gave z c n p v Gate → LineIn z c n p v Enter line.sources
     enter_line kind h =
         let form = subst (λ kind. HasForm z.flow b line.region kind line.sources) kind ((block_shaped z c b eb).lines n line el).form in
-        let x = one_of line.sources form.0 in
+        let x = one_element line.sources form.0 in
         let s = operand_from z c b n 0 line v eb el (took_all z (Gates c n v h.0) h.2).0 in
         subst (λ ss. LineIn z c n p v Enter ss) (sym x.1) (at_place line.sources 0 x.0 v (ap (λ ss. slice_get ss 0) x.1) s)
 
@@ -158,8 +154,8 @@ module _ (z : Rested) (c : Context) (n p : ℕ) (v : Value) where
         subst (λ ss. LineIn z c n p v (Merge k) ss) (sym f.2) (side.0, argument, chosen f.0 f.1 s.0 (truth side.0) (ap (λ i. slice_get (f.0 ∷ f.1 ∷ []) i) (sym side.2) ∙ es) s.2)
       where
         chosen : (x y s : Source) (on : Bool) → slice_get (x ∷ y ∷ []) (place_of_side z on) ≡ Some s → GivesIn z c s.node s.port v → HasSomeIn z c (Some (if on then x else y)) v
-        chosen x y s true e g = subst (λ (s : Source). GivesIn z c s.node s.port v) (some_same s x (sym e)) g
-        chosen x y s false e g = subst (λ (s : Source). GivesIn z c s.node s.port v) (some_same s y (sym e)) g
+        chosen x y s true e g = subst (λ (s : Source). GivesIn z c s.node s.port v) (same_Some s x (sym e)) g
+        chosen x y s false e g = subst (λ (s : Source). GivesIn z c s.node s.port v) (same_Some s y (sym e)) g
 
   called_line : Within (Returns c n p v) z.run → IsDueIn z (Called c n) × ResultIn z (Called c n) p v
   called_line h =
@@ -210,7 +206,7 @@ module _ (z : Rested) (c : Context) (n p : ℕ) (v : Value) where
   input_equation : (b : Block ℕ) → block_of z.flow c ≡ Some b → n < b.inputs → Gave z c n p v Plain → (p ≡ 0) × InputEquation z.flow z.inputs z.run z.state z.is_run c n v
   input_equation b eb low h =
       let modes : Together 1 ≡ Together (length h.0) = sym (ap (λ (t : Bool). if t then Together 1 else mode_node (node_at b n)) (lt-ltb n b.inputs low)) ∙ sym (ap (λ o. mode_in o n) eb) ∙ fires_mode z.flow c n h.0 h.1 h.3 in
-      let a = one_of h.0 (let same : 1 ≡ length h.0 = cc in sym same) in
+      let a = one_element h.0 (let same : 1 ≡ length h.0 = cc in sym same) in
       let does : Some (Says (Sends c n 0 a.0)) ≡ Some h.1 = sym (fires_input z.flow c b eb n a.0 low) ∙ ap (λ vs. deed z.flow (Fires c n vs)) (sym a.1) ∙ h.3 in
       let value = sent_value c n a.0 v (says_as _ h.1 does h.4) in
       let ran = subst (λ vs. Within (Fires c n vs) z.run) a.1 h.2 in

@@ -1,6 +1,7 @@
 -- Which activity gives a value to a port, by the kind of the node; and that a port gets one value.
 use Rattle.std.proofs.Common.{◌≡◌, ℕ, zero, suc, ◌+◌, ◌-◌, ◌<◌, ◌++◌, Bool, true, false, List, [], ◌∷◌, length, Option, Some, None, flat_map, nat_lt, if◌then◌else◌, refl, sym, ap, ap₂, ◌∙◌, subst, arith, ⊎_elim}
 use Rattle.std.specs.Prelude.{slice_get}
+use Rattle.std.proofs.lemmas.Option.{same_Some}
 use Rattle.tags.specs.declared.value.Value.{Value}
 use Rattle.operators.specs.Values.{truth}
 use Rattle.semantics.specs.declared.graph.Region.TheVariants.{Arm}
@@ -10,16 +11,15 @@ use Rattle.semantics.specs.declared.graph.Kind.TheVariants.{Merge}
 use Rattle.semantics.specs.Graph.{Node, Block, node_at}
 use Rattle.semantics.specs.Meaning.{Context, Called, Turned, AtNode, AtOut, AtTurn, Operand, Flag, Carried, Tagged, tagged, Memory, Activity, Fires, Gates, Passes, Returns, Turns, taken, Deed, Says, Reads, Fills, Puts, Message, Sends, deed, block_of, arm_of, HadTrueFlag}
 use Rattle.law_determinacy.specs.Outcome.{SameTag}
-use Rattle.law_determinacy.proofs.Perm.{Within, Each, each_from, within_left, within_flat_map, within_from, put_first}
+use Rattle.lemmas.proofs.Permutations.{Within, Each, each_from, within_left, within_flat_map, within_from, put_first}
 use Rattle.law_determinacy.proofs.Keys.{same_activity}
-use Rattle.law_determinacy.proofs.Options.{some_same}
-use Rattle.law_determinacy.proofs.Rows.{Class, Plain, Telling, Gate, Join, Calling, Strict, Looping, Absent, class_of, class_node, class_in, class_at, region_node, region_at, Row, RowFires, RowTells, RowGates, RowQuiet, RowMerges, RowCalls, RowStrict, RowLoops, RowReturns, RowAgain, RowLeaves, rows}
+use Rattle.law_determinacy.proofs.Rows.{Class, Plain, Telling, Gate, Join, Calling, Strict, Looping, Absent, class_of, class_node, class_in, class_at, region_node, region_at, Row, RowFires, RowTells, RowGates, RowQuiet, RowMerges, RowCalls, RowStrict, RowLoops, RowReturns, RowAgain, RowLeaves, rows, region_is_arm}
 use Rattle.law_values.specs.Given.{SaysIn}
 use Rattle.law_values.proofs.GraphForms.{IsCondAt, HasForm}
 use Rattle.law_values.proofs.RunRested.{Rested, Came, GivesIn, IsDueIn, took, one, one_at}
 use Rattle.law_determinacy.proofs.Laws.{ArmLaw}
 use Rattle.law_values.proofs.GraphForms.{line_past}
-use Rattle.law_values.proofs.RunRegions.{block_shaped, arm_region}
+use Rattle.law_values.proofs.RunRegions.{block_shaped}
 use Rattle.law_values.proofs.RunOrigins.{says_speaks, took_all}
 use Rattle.law_values.proofs.ProgressInvocations.{merge_form}
 
@@ -36,7 +36,7 @@ Gave z c n p v Absent = ⊥
 says_one : (m : Memory) (d : Deed) (x y : Message) → SaysIn m d x → SaysIn m d y → x ≡ y
 says_one m (Says z) x y h k = sym h ∙ k
 says_one m (Reads c n i) x y h k =
-    let same = some_same h.0 k.0 (sym h.1 ∙ k.1) in
+    let same = same_Some h.0 k.0 (sym h.1 ∙ k.1) in
     sym h.2 ∙ ap (λ v. Sends c n 0 v) same ∙ k.2
 says_one m (Fills c n i v) x y h k = sym h ∙ k
 says_one m (Puts j v) x y h k = absurd h
@@ -152,12 +152,12 @@ module _ (z : Rested) where
       let form = subst (λ kind. HasForm z.flow b line.region kind line.sources) kind ((block_shaped z c b eb).lines n line el).form in
       let f = merge_form z.flow b line.region k line.sources form in
       let law = (z.lawful _ h).1 in
-      let blocks = some_same law.0 b (sym law.1 ∙ eb) in
+      let blocks = same_Some law.0 b (sym law.1 ∙ eb) in
       ⊎_elim (λ l. (let same = ap (λ (b : Block ℕ). b.inputs) blocks in let past = line_past b n line el in let low = l.0 in absurd (omega (arith, low, same, past.0))))
       (λ l.
-      let lines = some_same l.0 line (sym l.2 ∙ ap (λ (b : Block ℕ). node_at b n) blocks ∙ el) in
+      let lines = same_Some l.0 line (sym l.2 ∙ ap (λ (b : Block ℕ). node_at b n) blocks ∙ el) in
       let es : slice_get (f.0 ∷ f.1 ∷ []) i ≡ Some l.1 = ap (λ ss. slice_get ss i) (sym f.2) ∙ ap (λ (l : Node ℕ). slice_get l.sources i) (sym lines) ∙ l.3 in
-      go f.0 f.1 f.5 f.6 i l.1 es f.3 (subst (λ r. ArmLaw (Came z) c r) (ap (λ (b : Block ℕ). region_node (node_at b l.1.node)) blocks ∙ arm_region (node_at b l.1.node)) l.4))
+      go f.0 f.1 f.5 f.6 i l.1 es f.3 (subst (λ r. ArmLaw (Came z) c r) (ap (λ (b : Block ℕ). region_node (node_at b l.1.node)) blocks ∙ region_is_arm (node_at b l.1.node)) l.4))
       law.2
     where
       side_is : (q : Value) (side : Bool) → truth q ≡ side → place_of_side side ≡ place_of_side (truth q)
@@ -180,7 +180,7 @@ module _ (z : Rested) where
   true_flag c n t j q h k =
       let mine = (z.lawful _ k).1 in
       let its = (z.lawful _ h.2).1 in
-      let blocks = ap (λ (b : Block ℕ). b.inputs) (some_same mine.0 its.0 (sym mine.1 ∙ its.1)) in
+      let blocks = ap (λ (b : Block ℕ). b.inputs) (same_Some mine.0 its.0 (sym mine.1 ∙ its.1)) in
       let there = mine.4 h.0 its.2 (omega (arith, its.3, blocks)) in
       ap truth (one_at z (Turned c n t) (AtTurn h.0) Flag q h.1 there h.2) ∙ h.3
 
@@ -200,7 +200,7 @@ module _ (z : Rested) where
   same_gave : (c : Context) (n p : ℕ) (v w : Value) (k : Class) → class_at z.flow c n ≡ k → Gave z c n p v k → Gave z c n p w k → v ≡ w
   same_gave c n p v w Plain e h g =
       let same = one_firing c n h.0 g.0 h.1 g.1 h.2 g.2 h.3 g.3 h.6 g.6 in
-      let deeds = some_same h.1 g.1 (sym h.3 ∙ ap (deed z.flow) same ∙ g.3) in
+      let deeds = same_Some h.1 g.1 (sym h.3 ∙ ap (deed z.flow) same ∙ g.3) in
       let said = says_one z.state.memory g.1 (Sends c n 0 v) (Sends c n 0 w) (subst (λ d. SaysIn z.state.memory d (Sends c n 0 v)) deeds h.4) g.4 in
       cc
   same_gave c n p v w Gate e h g = one_at z c (AtNode n) (Operand 0) v w (took_all z (Gates c n v h.0) h.2).0 (took_all z (Gates c n w g.0) g.2).0

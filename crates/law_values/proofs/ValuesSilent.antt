@@ -1,16 +1,17 @@
 -- Nothing is given in an invocation that is not due, at a node that is not taken, or on a port that a node has not; and what a conditional took.
 use Rattle.std.proofs.Common.{◌≡◌, ℕ, ◌+◌, ◌<◌, ◌≤◌, Bool, true, false, List, [], ◌∷◌, length, Option, Some, None, nat_lt, if◌then◌else◌, refl, sym, ap, ◌∙◌, subst, arith, inl, inr, ◌⊎◌, ⊎_elim}
 use Rattle.std.specs.Prelude.{slice_get}
+use Rattle.std.proofs.lemmas.Option.{slice_get_within, same_Some}
 use Rattle.tags.specs.declared.value.Value.{Value}
 use Rattle.semantics.specs.declared.graph.Source.{Source}
 use Rattle.semantics.specs.declared.graph.Kind.{Kind}
 use Rattle.semantics.specs.declared.graph.Kind.TheVariants.{Lit, Apply1, Apply2, Cond, Enter, Merge, Fetch, Store, Call, StrictCall, Loop}
 use Rattle.semantics.specs.Graph.{Node, Block, Flow, node_at}
 use Rattle.semantics.specs.Meaning.{Context, Called, Turned, AtNode, Operand, tagged, Fires, Gates, Passes, Returns, taken, block_of, node_of, arm_of, callee}
-use Rattle.law_determinacy.proofs.Perm.{Within}
-use Rattle.law_determinacy.proofs.Grounds.{own_arm, get_below, node_class}
+use Rattle.lemmas.proofs.Permutations.{Within}
+use Rattle.lemmas.proofs.SliceGet.{get_some}
+use Rattle.law_determinacy.proofs.Grounds.{own_arm, node_class}
 use Rattle.law_determinacy.proofs.Laws.{ArmLaw}
-use Rattle.law_determinacy.proofs.Options.{some_same}
 use Rattle.law_determinacy.proofs.Rows.{Class, Plain, Telling, Gate, Join, Calling, Strict, Looping, Absent, class_of, class_node, class_in, class_at, region_node, region_in, region_at}
 use Rattle.law_values.specs.Given.{result_in, ports_of, ports_line, ports_in, ports_at, outputs_in}
 use Rattle.law_values.specs.Settled.{Decides}
@@ -20,7 +21,6 @@ use Rattle.law_values.proofs.RunUses.{operand_came}
 use Rattle.law_values.proofs.RunOrigins.{HasSomeIn, ResultIn, took_all, result_from, has_some, argument_is}
 use Rattle.law_values.proofs.RunRegions.{TakenIn, block_shaped, taken_in, in_taken, lawful_taken}
 use Rattle.law_values.proofs.ProgressInvocations.{invoked_block, merge_form}
-use Rattle.law_values.proofs.GraphForms.{get_some}
 use Rattle.law_values.proofs.ProgressDues.{due_open, sources_given, line_in}
 use Rattle.law_values.proofs.ValuesGivers.{Gave, gave, in_turns, merge_side, class_found, joined_line}
 
@@ -119,7 +119,7 @@ module _ (z : Rested) where
     where
       go : (o : Option Source) → slice_get to.results p ≡ o → HasSomeIn z (Called c n) o v → p < length to.results
       go None e h = absurd h
-      go (Some s) e h = get_below to.results p s e
+      go (Some s) e h = slice_get_within to.results p s e
 
   called_port : (c : Context) (n p : ℕ) (v : Value) (k : Class) → class_at z.flow c n ≡ k → (k ≡ Calling) ⊎ (k ≡ Strict) → Within (Returns c n p v) z.run → p < ports_at z.flow c n
   called_port c n p v k e which h =
@@ -143,7 +143,7 @@ module _ (z : Rested) where
       go : (b : Block ℕ) (line : Node ℕ) → block_of z.flow c ≡ Some b → node_at b n ≡ Some line → (k : Block ℕ) → block_of z.flow (Turned c n h.0) ≡ Some k → p + 1 ≤ k.inputs → (kind : Kind ℕ) → line.kind ≡ kind → class_of kind ≡ Looping
           → HasForm z.flow b line.region kind line.sources → p < ports_of z.flow kind line.sources
       go b line eb el k ed low (Loop f m) ek w form =
-          let same = ap (λ (b : Block ℕ). b.inputs) (some_same k form.0.0 (sym ed ∙ invoked_block z.flow c b n f line form.0.0 eb el (ap callee ek) form.0.1)) in
+          let same = ap (λ (b : Block ℕ). b.inputs) (same_Some k form.0.0 (sym ed ∙ invoked_block z.flow c b n f line form.0.0 eb el (ap callee ek) form.0.1)) in
           omega (arith, low, same, form.0.2)
       go b line eb el k ed low kind ek w form = absurd (cc)
 

@@ -1,9 +1,11 @@
 -- Of a plan that is wired as a graph: nothing but a link's landing leads to a `give` or a `take`, since no wire feeds these.
-use Rattle.std.proofs.Common.{◌≡◌, ℕ, ◌+◌, ◌<◌, Bool, true, false, ◌⊎◌, inl, inr, List, [], ◌∷◌, ◌++◌, length, map, Option, Some, None, refl, sym, ap, ◌∙◌, subst, arith, true≢false}
+use Rattle.std.proofs.Common.{◌≡◌, ℕ, ◌+◌, ◌<◌, Bool, true, false, ◌⊎◌, inl, inr, [], ◌∷◌, ◌++◌, length, Option, Some, None, refl, sym, ap, ◌∙◌, subst, arith, true≢false}
 use Rattle.std.specs.Prelude.{Contains, IsPermutation, slice_get}
 use Rattle.std.proofs.lemmas.Option.{slice_get_within}
 use Rattle.std.proofs.lemmas.List.Elements.{Contains-append_cases}
 use Rattle.std.proofs.lemmas.List.Sorted.{Contains-permutation}
+use Rattle.lemmas.proofs.Contains.{contains_mapped, contains_cases, contains_none, contains_map}
+use Rattle.lemmas.proofs.SliceGet.{get_some}
 use Rattle.semantics.specs.declared.graph.Kind.{Kind}
 use Rattle.semantics.specs.declared.program.Dest.{Dest}
 use Rattle.semantics.specs.declared.program.Op.{Op}
@@ -15,7 +17,6 @@ use Rattle.semantics.specs.Plan.{Plan}
 use Rattle.semantics.specs.Cause.{is_looped}
 use Rattle.semantics.specs.Orderly.{often}
 use Rattle.law_reuse.proofs.Stands.{stands_at}
-use Rattle.law_net.proofs.Members.{contains_none, contains_cases, contains_head, contains_tail}
 use Rattle.law_once.specs.Alike.{plain_dests}
 use Rattle.law_contexts.specs.Parts.{Part, Line, Giver, Taker, Drainer, LoopDone, Framer, Fanned, Linker, Asker, NextFramer, NextFanned, Inlet, inlet}
 use Rattle.law_contexts.specs.Blocks.{Site, Wiring, side, there_in, op_of, kind_op, line_op}
@@ -24,7 +25,6 @@ use Rattle.law_contexts.specs.Wires as Wires
 use Rattle.law_contexts.specs.Wires.{IsWiredCode, answered_at, is_given, leads_to}
 use Rattle.law_contexts.specs.Theorem.{IsGood}
 use Rattle.law_arms.proofs.Coded.{all_coded}
-use Rattle.law_arms.proofs.Invoked.{there_get}
 use Rattle.law_graphs.specs.Graphs.{LeadsToNoneOften}
 
 -- which operations are a `give` or a `take`
@@ -52,22 +52,6 @@ calm variant s (Line n) e = line_calm s.block n
 calm variant s (Giver n) e = absurd (true≢false e)
 calm variant s (Taker n) e = absurd (true≢false e)
 calm variant s q e = refl
-
-contains_to : {X Y : Type 0} (f : X → Y) (xs : List X) (x : X) → Contains xs x → Contains (map f xs) (f x)
-contains_to f [] x c = absurd (contains_none x c)
-contains_to f (y ∷ xs) x c = pick (contains_cases y xs x c) (contains_to f xs x)
-  where
-    pick : (y ≡ x) ⊎ Contains xs x → (Contains xs x → Contains (map f xs) (f x)) → Contains (f y ∷ map f xs) (f x)
-    pick (inl e) more = subst (λ (z : _). Contains (f y ∷ map f xs) z) (ap f e) (contains_head (f y) (map f xs))
-    pick (inr d) more = contains_tail (f y) (map f xs) (f x) (more d)
-
-contains_back : {X Y : Type 0} (f : X → Y) (xs : List X) (y : Y) → Contains (map f xs) y → (x : X) × Contains xs x × (f x ≡ y)
-contains_back f [] y c = absurd (contains_none y c)
-contains_back f (x ∷ xs) y c = pick (contains_cases (f x) (map f xs) y c) (contains_back f xs y)
-  where
-    pick : (f x ≡ y) ⊎ Contains (map f xs) y → (Contains (map f xs) y → (x : _) × Contains xs x × (f x ≡ y)) → (z : _) × Contains (x ∷ xs) z × (f z ≡ y)
-    pick (inl e) more = (x, contains_head x xs, e)
-    pick (inr d) more = let m = more d in (m.0, contains_tail x xs m.0 m.1, m.2)
 
 -- a destination that is no link's landing
 dest_cases : (i : Instr) (op : Op) (d : Dest) → Contains (plain_dests i op) d → Contains i.seconds d ⊎ (Contains i.firsts d × ((b : ℕ) → op ≡ Link b → ⊥))
@@ -129,10 +113,10 @@ module _ (fl : Flow) (p : Plan) (variant : ℕ → ℕ) (Here : Context → Type
 
       by_dest : Contains i.seconds d ⊎ (Contains i.firsts d × ((b : ℕ) → i.op ≡ Link b → ⊥)) → (j : Instr) × (slice_get k.code.instrs (n + d.ahead) ≡ Some j) × (often_op j.op ≡ false)
       by_dest (inl a) =
-          let x = contains_back (Wires.stands_at w) (w.wire (side r true)) (leads_to (w.place r) d) (Contains-permutation _ _ _ instr.seconds (contains_to (leads_to (w.place r)) i.seconds d a)) in
+          let x = contains_mapped (Wires.stands_at w) (w.wire (side r true)) (leads_to (w.place r) d) (Contains-permutation _ _ _ instr.seconds (contains_map (leads_to (w.place r)) i.seconds d a)) in
           leads x.0 (wired true x.0 x.1) x.2
       by_dest (inr a) =
-          let x = contains_back (Wires.stands_at w) (answered_at r ++ w.wire (side r false)) (leads_to (w.place r) d) (Contains-permutation _ _ _ instr.firsts (contains_to (leads_to (w.place r)) i.firsts d a.0)) in
+          let x = contains_mapped (Wires.stands_at w) (answered_at r ++ w.wire (side r false)) (leads_to (w.place r) d) (Contains-permutation _ _ _ instr.firsts (contains_map (leads_to (w.place r)) i.firsts d a.0)) in
           leads x.0 (by_inlet x.0 (Contains-append_cases (answered_at r) (w.wire (side r false)) x.0 x.1)) x.2
         where
           by_inlet : (x : Inlet) → Contains (answered_at r) x ⊎ Contains (w.wire (side r false)) x → IsCalm fl variant s w x.part
@@ -160,5 +144,5 @@ wired_leads stage fl p w good b n c i d at e has = by_code (all_coded stage fl p
         (calm_at fl p w.variant Here s wg k n i d (ap (λ (c : CodeBlock). slice_get c.instrs n) (sym same) ∙ e) has)
 
     by_code : (b < length fl.blocks) ⊎ ((j : ℕ) × (j < length fl.blocks) × (is_looped fl j ≡ true) × (b ≡ w.variant j)) → often (instr_at p.program (first_of p.program b + n + d.ahead)) ≡ false
-    by_code (inl h) = let x = there_get fl.blocks b h in by_site (Wires.Runs fl w b) (Wires.plain_site x.0 b) (w.wiring b) (good.wired.plain b x.0 x.1) refl
-    by_code (inr (j, h, l, g)) = let x = there_get fl.blocks j h in by_site (Wires.Runs fl w (w.variant j)) (Wires.turn_site x.0 j (w.variant j)) (w.wiring (w.variant j)) (good.wired.turns j x.0 x.1 l) (sym g)
+    by_code (inl h) = let x = get_some fl.blocks b h in by_site (Wires.Runs fl w b) (Wires.plain_site x.0 b) (w.wiring b) (good.wired.plain b x.0 x.1) refl
+    by_code (inr (j, h, l, g)) = let x = get_some fl.blocks j h in by_site (Wires.Runs fl w (w.variant j)) (Wires.turn_site x.0 j (w.variant j)) (w.wiring (w.variant j)) (good.wired.turns j x.0 x.1 l) (sym g)

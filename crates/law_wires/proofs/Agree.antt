@@ -15,11 +15,11 @@ use Rattle.law_contexts.specs.Parts.{Part, Entry, Line, Join, CondEnd, same_part
 use Rattle.law_contexts.specs.Blocks.{Side, Site, leaves_in}
 use Rattle.law_contexts.specs.Expanded as Expanded
 use Rattle.law_contexts.specs.Expanded.{row, body_parts, first_ending, Ending, ending, end_node, end_parts, join_parts, ends_in, has_end, closing_parts, regions_of, regions_by, place_from}
+use Rattle.law_contexts.proofs.Sames.{same_part-true}
 use Rattle.law_wires.specs.Types.{End}
 use Rattle.law_wires.specs.Written as Written
 use Rattle.law_wires.specs.Written.{is_shared, is_triggered, tail_parts, close_flag, answer_parts, trigger_parts, kind_parts, node_parts, inner_parts, in_region, joined_parts, cond_parts, cond_sides, Ended, arm_ends, close, close_kind, close_nodes, inner, first_ends, root_ends, parts_in}
 use Rattle.law_wires.specs.Fit.{IsFit}
-use Rattle.law_wires.proofs.Same.{same_is}
 use Rattle.law_wires.proofs.Laid.{Env}
 use Rattle.law_wires.proofs.Standing.{Stand, stand_left}
 use Rattle.law_wires.proofs.LaidNodes.{env, scope}
@@ -156,7 +156,7 @@ module _ (fl : Flow) (S : Site) (fit : IsFit fl S.block) (turned : HasTurns S) w
   place r = place_from r 0 (parts_in fl S)
 
   pub apart : (r q : Part) → same_part r q ≡ true → place r ≡ place q
-  apart r q h = ap place (same_is r q h)
+  apart r q h = ap place (same_part-true r q h)
 
   abbrev first_ending_of : Bool → List Region → Ending
   first_ending_of false rs = record { parts = []; regions = rs }

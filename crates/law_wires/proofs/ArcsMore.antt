@@ -3,6 +3,7 @@ use Rattle.std.proofs.Common.{◌≡◌, ℕ, zero, suc, ◌+◌, ◌-◌, ◌<�
 use Rattle.std.specs.Prelude.{slice_get}
 use Rattle.std.proofs.lemmas.Bool.{le-ltb, lt-ltb, cases_lt}
 use Rattle.std.proofs.lemmas.List.Elements.{Contains-append_left, Contains-append_right, Contains-append_cases}
+use Rattle.lemmas.proofs.Contains.{contains_cases, contains_head, contains_tail, contains_none}
 use Rattle.tags.specs.declared.token.Port.TheVariants.{Left}
 use Rattle.semantics.specs.declared.graph.Region.{Region}
 use Rattle.semantics.specs.declared.graph.Source.{Source}
@@ -12,10 +13,10 @@ use Rattle.semantics.specs.Graph.{Node, Block, Flow, node_at}
 use Rattle.law_net.specs.Roles.{one}
 use Rattle.law_contexts.specs.Parts.{Opener, Framer, Fanned, Linker, Landing, Giver, Drainer, LoopDone, Asker, NextFramer, NextFanned, TurnCont, TurnFlag, Entry, NextSender, DrainReturn}
 use Rattle.law_contexts.specs.Blocks.{Side, side, Site, is_kind, call_kind, loop_kind}
+use Rattle.law_contexts.proofs.Sames.{same_part-refl}
 use Rattle.law_wires.specs.Written.{Wire, wire, same_side, same_bool, along, inlet_of, leaves, trigger_side, meet_wires, sender_wires, strict_wires, strict_end, strict_call_wires, invoke_wires, kind_wires, node_wires, value_wires, next_wires, last_wires, turn_wires, tail_wires, inner_wires, wires_in}
 use Rattle.law_wires.specs.Fit.{Takes, IsFit}
-use Rattle.law_wires.proofs.Laid.{Env, goes, dest, same_part_self}
-use Rattle.law_wires.proofs.Places.{contains_first, contains_later, contains_none, contains_cases}
+use Rattle.law_wires.proofs.Laid.{Env, goes, dest}
 use Rattle.law_wires.proofs.Arcs.{invoke_arcs, strict_call_arcs, credit_arcs, kind_arcs, node_arcs, turn_arcs, tail_arcs, inner_arcs, wires_with, arcs_in}
 use Rattle.law_wires.proofs.ArcsSame.{wires_split}
 
@@ -45,7 +46,7 @@ no_size b t (w ∷ ws) h = go (same_side t w.from) h (no_size b t ws)
     go false h more = more (omega (arith, h))
 
 side_self : (t : Side) → same_side t t ≡ true
-side_self t = ap (λ x. x && same_bool t.second t.second) (same_part_self t.part) ∙ both t.second
+side_self t = ap (λ x. x && same_bool t.second t.second) (same_part-refl t.part) ∙ both t.second
   where
     both : (s : Bool) → same_bool s s ≡ true
     both true = refl
@@ -64,9 +65,9 @@ goes_there e w [] h = absurd (contains_none w h)
 goes_there e w (x ∷ ws) h = go (same_side w.from x.from) refl (contains_cases x ws w h) (goes_there e w ws)
   where
     go : (s : Bool) → same_side w.from x.from ≡ s → (x ≡ w) ⊎ Contains ws w → (Contains ws w → Contains (goes e w.from ws) (dest e w)) → Contains (if s then dest e x ∷ goes e w.from ws else goes e w.from ws) (dest e w)
-    go true f (inl q) more = subst (λ (y : Wire). Contains (dest e y ∷ goes e w.from ws) (dest e w)) (sym q) (contains_first (dest e w) (goes e w.from ws))
+    go true f (inl q) more = subst (λ (y : Wire). Contains (dest e y ∷ goes e w.from ws) (dest e w)) (sym q) (contains_head (dest e w) (goes e w.from ws))
     go false f (inl q) more = let yes : same_side w.from x.from ≡ true = ap (λ (y : Wire). same_side w.from y.from) q ∙ side_self w.from in absurd (cc)
-    go true f (inr c) more = contains_later (dest e x) (goes e w.from ws) (dest e w) (more c)
+    go true f (inr c) more = contains_tail (dest e x) (goes e w.from ws) (dest e w) (more c)
     go false f (inr c) more = more c
 
 -- ARCS are wires and more
@@ -78,14 +79,14 @@ mixed_self : (ws : List Wire) → AreMixed ws ws []
 mixed_self ws = record { counts = λ t. omega arith; has = λ w h. absurd (contains_none w h) }
 
 mixed_more : (w : Wire) (vs ws xs : List Wire) → AreMixed vs ws xs → AreMixed (w ∷ vs) (w ∷ ws) xs
-mixed_more w vs ws xs h = record { counts = λ t. let c = h.counts t in omega (arith, c); has = λ x k. contains_later w vs x (h.has x k) }
+mixed_more w vs ws xs h = record { counts = λ t. let c = h.counts t in omega (arith, c); has = λ x k. contains_tail w vs x (h.has x k) }
 
 mixed_extra : (w : Wire) (vs ws xs : List Wire) → AreMixed vs ws xs → AreMixed (w ∷ vs) ws (w ∷ xs)
 mixed_extra w vs ws xs h = record { counts = λ t. let c = h.counts t in omega (arith, c); has = λ x k. go x (contains_cases w xs x k) }
   where
     go : (x : Wire) → (w ≡ x) ⊎ Contains xs x → Contains (w ∷ vs) x
-    go x (inl e) = subst (λ y. Contains (y ∷ vs) x) (sym e) (contains_first x vs)
-    go x (inr c) = contains_later w vs x (h.has x c)
+    go x (inl e) = subst (λ y. Contains (y ∷ vs) x) (sym e) (contains_head x vs)
+    go x (inr c) = contains_tail w vs x (h.has x c)
 
 mixed_both : (vs ws xs us ts ys : List Wire) → AreMixed vs ws xs → AreMixed us ts ys → AreMixed (vs ++ us) (ws ++ ts) (xs ++ ys)
 mixed_both vs ws xs us ts ys h k = record {

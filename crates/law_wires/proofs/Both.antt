@@ -2,6 +2,7 @@
 use Rattle.std.proofs.Common.{◌≡◌, ◌≢◌, ℕ, zero, suc, ◌+◌, ◌<◌, ◌≤◌, ◌⊎◌, inl, inr, Bool, true, false, not, List, [], ◌∷◌, ◌++◌, length, refl, sym, ap, ◌∙◌, subst, arith, Some, None, Option, All}
 use Rattle.std.proofs.lemmas.Bool.{cases_lt}
 use Rattle.std.proofs.lemmas.List.Elements.{All-head, All-tail}
+use Rattle.std.proofs.lemmas.Option.{same_Some}
 use Rattle.tags.specs.declared.token.Port.TheVariants.{Left, Right}
 use Rattle.semantics.specs.declared.graph.Region.{Region}
 use Rattle.semantics.specs.declared.graph.Region.TheVariants.{Root, Arm}
@@ -19,7 +20,7 @@ use Rattle.law_contexts.specs.Blocks.{Side, side, Site, lies_in, outside, arm_ro
 use Rattle.law_contexts.specs.Expanded.{row}
 use Rattle.law_wires.specs.Written.{Wire, wire, is_shared, is_triggered, answer_side, exit_of, leaves_at, leaves, trigger_side, operand_wires, merge_wires, meet_wires, trigger_wires, gate_wires, answer_wires, sender_wires, invoke_wires, strict_wires, strict_end, strict_call_wires, kind_wires, node_wires, result_wires, value_wires, next_wires, last_wires, turn_wires, tail_wires, inner_wires, kind_parts, node_parts, tail_parts, inner_parts, sides, is_open, first_ends}
 use Rattle.law_wires.specs.Fit.{Takes, ComesBefore, LiesIn, Lies, Merges, IsFit}
-use Rattle.law_wires.proofs.Counts.{Follow, follow_more, follow_here, same_some}
+use Rattle.law_wires.proofs.Counts.{Follow, follow_more, follow_here}
 use Rattle.law_wires.proofs.Members.{AllW, all_both, In, sides_left, sides_right, open_in, open_none, all_weaker, region}
 use Rattle.law_wires.proofs.Parts.{follow, node_within}
 use Rattle.law_wires.proofs.Nodes.{node_some, kind_at, its_region, is_value, leaves_region, leaves_own, leaves_some, leaves_none, first_lies, predicate_before, arms_round}
@@ -316,7 +317,7 @@ module _ (fl : Flow) (s : Site) (fit : IsFit fl s.block) where
       go (inl a) more = sides_right t (kind_parts fl s n (length y.sources) y.kind) (node_parts fl s (n + 1) xs) (more (omega (arith, a)) (omega (arith, u)))
       go (inr a) more =
           let same : m ≡ n = omega (arith, l, a) in
-          let it : x ≡ y = same_some x y (sym e ∙ ap (node_at s.block) same ∙ follow_here s.block n y xs f) in
+          let it : x ≡ y = same_Some x y (sym e ∙ ap (node_at s.block) same ∙ follow_here s.block n y xs f) in
           sides_left t (kind_parts fl s n (length y.sources) y.kind) (node_parts fl s (n + 1) xs)
           (subst (λ (z : Node ℕ). In t (sides (kind_parts fl s n (length z.sources) z.kind))) it (subst (λ j. In t (sides (kind_parts fl s j (length x.sources) x.kind))) same h))
 

@@ -1,8 +1,10 @@
 -- What is known of the code of a block: its build, its marks, and how its wiring is read.
-use Rattle.std.proofs.Common.{◌≡◌, ℕ, zero, suc, ◌+◌, ◌<◌, ◌≤◌, Bool, true, false, ◌&&◌, List, [], ◌∷◌, ◌++◌, length, refl, sym, ap, ◌∙◌, subst, arith, if◌then◌else◌, Some, None, Contains, ◌==◌}
+use Rattle.std.proofs.Common.{◌≡◌, ℕ, zero, suc, ◌+◌, ◌<◌, Bool, true, false, ◌&&◌, List, [], ◌∷◌, ◌++◌, length, refl, sym, ap, ◌∙◌, subst, arith, if◌then◌else◌, Some, None, Contains, ◌==◌}
 use Rattle.std.specs.Prelude.{slice_get}
 use Rattle.std.proofs.lemmas.Bool.{eqb-true}
-use Rattle.std.proofs.lemmas.Option.{slice_get_within}
+use Rattle.std.proofs.lemmas.Option.{slice_get_within, slice_get_past, same_Some}
+use Rattle.lemmas.proofs.Alls.{all_at}
+use Rattle.lemmas.proofs.Bools.{equal_itself}
 use Rattle.semantics.specs.declared.program.Dest.{Dest}
 use Rattle.semantics.specs.declared.program.Mark.{Mark}
 use Rattle.semantics.specs.Graph.{Block, Flow, Graph, flow_of}
@@ -11,7 +13,6 @@ use Rattle.semantics.specs.WellFormed.{WellFormed}
 use Rattle.semantics.specs.Cause.{is_looped}
 use Rattle.semantics.specs.Program.{Instr, CodeBlock}
 use Rattle.semantics.specs.Plan.{OneHolder}
-use Rattle.law_determinacy.proofs.Resolved.{all_get}
 use Rattle.code.specs.Sound.{DestsAreSound}
 use Rattle.expansion.specs.Variants.{variants_of, next_variant, some_block_loops}
 use Rattle.expansion.specs.Blocks.{Coded, plain_build, variant_build, finished}
@@ -30,7 +31,6 @@ use Rattle.law_wires.proofs.LaidWhole.{site_build}
 use Rattle.law_wires.proofs.LaidUsual.{HasTurns}
 use Rattle.law_wires.proofs.Agree.{read_parts}
 use Rattle.law_wires.proofs.Credits.{AreLast, plain_lasts, variant_lasts}
-use Rattle.law_wires.proofs.Counts.{same_number}
 use Rattle.law_wires.proofs.Compose.{same_looped, number_is, codes_are_there}
 
 -- MARKS of the plain code of a block
@@ -152,9 +152,6 @@ pub record IsCodeOf (fl : Flow) (s : Site) (c : CodeBlock) (fit : IsFit fl s.blo
   pub lasts : AreLast 0 c.instrs last
   pub wiring : wiring_of s.block (read_parts fl s fit turned s.turns) c.instrs ≡ (wires_of fl).wiring s.own
 
-some_same : {X : Type 0} (x y : X) → Some x ≡ Some y → x ≡ y
-some_same x y h = cc
-
 module _ (g : Graph) (text : HasText g) (well : WellFormed g) (own : ℕ) (c : CodeBlock) (coded : slice_get (expanded (flow_of g)).program.blocks own ≡ Some c) where
   code_dests : (n : ℕ) (i : Instr) (d : Dest) → slice_get c.instrs n ≡ Some i → Contains (i.firsts ++ i.seconds) d → (0 < d.ahead) × (n + d.ahead < length c.instrs)
   code_dests n i d e h =
@@ -163,7 +160,7 @@ module _ (g : Graph) (text : HasText g) (well : WellFormed g) (own : ℕ) (c : C
       (x.later, x.inside)
 
   code_exact : AreExact c
-  code_exact = all_get AreExact (expanded (flow_of g)).program.blocks own c (plans_are_exact g well) coded
+  code_exact = all_at AreExact (expanded (flow_of g)).program.blocks own c (plans_are_exact g well) coded
 
   code_holds : OneHolder c
   code_holds = (plans_hold_rightly (flow_of g) own c coded).holders
@@ -177,7 +174,7 @@ unfolding plain_code plain_build finished
 plain_facts g text well i b c there coded fit =
     let fl : Flow = flow_of g in
     let code : Coded = plain_code fl.version fl.blocks (variants_of fl.blocks) i b in
-    let same : code.code ≡ c = some_same code.code c (sym (plain_at fl.version fl.blocks i b there) ∙ coded) in
+    let same : code.code ≡ c = same_Some code.code c (sym (plain_at fl.version fl.blocks i b there) ∙ coded) in
     record {
       inputs = ap (λ (x : CodeBlock). x.inputs) (sym same);
       outputs = ap (λ (x : CodeBlock). x.outputs) (sym same);
@@ -191,11 +188,6 @@ plain_facts g text well i b c there coded fit =
       wiring = ap (λ o. wiring_of b (plain_parts (plain_scope fl i b)) (instrs_in o)) (sym coded) ∙ ap (wiring_from fl i) (sym there);
     }
 
-get_past : {X : Type 0} (xs : List X) (n : ℕ) → length xs ≤ n → slice_get xs n ≡ None
-get_past [] n l = refl
-get_past (x ∷ xs) zero l = absurd (omega (arith, l))
-get_past (x ∷ xs) (suc n) l = get_past xs n (omega (arith, l))
-
 module _ (fl : Flow) (i : ℕ) (b : Block ℕ) (looped : some_block_loops i fl.blocks ≡ true) (differ : (j : ℕ) → some_block_loops j fl.blocks ≡ true → variant_in fl j ≡ variant_in fl i → j ≡ i) where
   abbrev its : ℕ
   its = variant_in fl i
@@ -205,7 +197,7 @@ module _ (fl : Flow) (i : ℕ) (b : Block ℕ) (looped : some_block_loops i fl.b
   found n zero (x ∷ xs) e at =
       let same : x ≡ b = cc in
       let here : n ≡ i = omega (arith, at) in
-      let self : (its == its) ≡ true = same_number its in
+      let self : (its == its) ≡ true = equal_itself its in
       let yes : (some_block_loops n fl.blocks && (variant_in fl n == its)) ≡ true = ap (λ m. some_block_loops m fl.blocks && (variant_in fl m == its)) here ∙ ap (λ t. t && (its == its)) looped ∙ self in
       ap (λ t. if t then wiring_of x (variant_parts (turn_scope fl n x) its) (instrs_at fl its) else turn_wiring fl its (n + 1) xs) yes ∙ (λ j. wiring_of (same j) (variant_parts (turn_scope fl (here j) (same j)) its) (instrs_at fl its))
   found n (suc k) (x ∷ xs) e at =
@@ -226,9 +218,9 @@ turn_facts g text well i b c there looped coded fit turned =
     let own : ℕ = variant_in fl i in
     let loops : some_block_loops i fl.blocks ≡ true = same_looped fl i ∙ looped in
     let code : Coded = variant_code fl.version fl.blocks (variants_of fl.blocks) i b in
-    let same : code.code ≡ c = some_same code.code c (sym (variant_at fl.version fl.blocks i b there loops) ∙ coded) in
+    let same : code.code ≡ c = same_Some code.code c (sym (variant_at fl.version fl.blocks i b there loops) ∙ coded) in
     let codes = codes_are_there g text well in
-    let past : slice_get fl.blocks own ≡ None = get_past fl.blocks own (codes.others i b there looped) in
+    let past : slice_get fl.blocks own ≡ None = slice_get_past fl.blocks own (codes.others i b there looped) in
     let zeroless : 0 + i ≡ i = omega arith in
     record {
       inputs = ap (λ (x : CodeBlock). x.inputs) (sym same);

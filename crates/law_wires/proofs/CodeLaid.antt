@@ -1,6 +1,10 @@
 -- The laws of a plain block's layout, put together.
 use Rattle.std.proofs.Common.{◌≡◌, ℕ, zero, suc, ◌+◌, ◌-◌, ◌<◌, ◌≤◌, ◌⊎◌, inl, inr, Bool, true, false, not, ◌&&◌, ◌||◌, List, [], ◌∷◌, ◌++◌, map, length, refl, sym, ap, ◌∙◌, subst, arith, append_assoc, if◌then◌else◌, Some, None, Option, Contains, nat_lt}
 use Rattle.std.specs.Prelude.{slice_get, count_by}
+use Rattle.std.proofs.lemmas.Option.{slice_get_within}
+use Rattle.lemmas.proofs.Permutations.{permutation_same}
+use Rattle.lemmas.proofs.Contains.{contains_cases, contains_none}
+use Rattle.lemmas.proofs.SliceGet.{get_some}
 use Rattle.semantics.specs.declared.graph.Region.TheVariants.{Root}
 use Rattle.semantics.specs.declared.program.Mark.{Mark}
 use Rattle.semantics.specs.declared.graph.Kind.{Kind}
@@ -10,10 +14,9 @@ use Rattle.semantics.specs.Program.{Instr, CodeBlock}
 use Rattle.semantics.specs.Plan.{mark_at, mark_in, is_credit, is_open}
 use Rattle.semantics.specs.Rule.{slot_of}
 use Rattle.law_net.specs.Roles.{one}
-use Rattle.law_net.proofs.Orders.{IsPermutation-same}
 use Rattle.expansion.specs.Builds.{mark_of}
 use Rattle.expansion.specs.Expanded.{expanded}
-use Rattle.law_expansion.proofs.ArcsLists.{get_within, get_some, length_push}
+use Rattle.law_expansion.proofs.ArcsLists.{length_push}
 use Rattle.law_contexts.specs.Parts as Parts
 use Rattle.law_contexts.specs.Parts.{Part, Entry, Line, Answer, Trigger, Opener, Sender, Landing, CallDone, Giver, Taker, Drainer, LoopDone, Strict, Result, CondEnd, Inlet, same_part}
 use Rattle.law_contexts.specs.Blocks as Blocks
@@ -34,17 +37,12 @@ use Rattle.law_wires.proofs.Credits.{slots_meet, no_open, behind_opener}
 use Rattle.law_expansion.proofs.FactsHolders.{is_later}
 use Rattle.law_wires.proofs.Once.{answer_tally, trigger_tally, once, there_is}
 use Rattle.law_wires.proofs.Agree.{parts_agree}
-use Rattle.law_wires.proofs.Places.{at_place, stand_get, dests_forward, dests_land, contains_none, contains_cases}
+use Rattle.law_wires.proofs.Places.{at_place, stand_get, dests_forward, dests_land}
 use Rattle.law_wires.proofs.CodeFacts.{IsCodeOf, plain_no_turns, plain_facts, turn_facts}
 use Rattle.law_wires.proofs.Fits.{blocks_fit}
 use Rattle.law_wires.proofs.Turns.{turns_well}
 use Rattle.law_wires.proofs.CodeWritten.{own_answers, no_answers, answer_forward, firsts_are, seconds_are, read_none, own_slot, own_open, placed, laid, size, place_of, is_there, instr_of, same_place, wire_is, read_is, dests_inside, dests_of, at, w, it}
 use Rattle.law_wires.proofs.CodeRows.{entry_at, line_at, node_stands, landing_row, done_row, credit_row, sends}
-
-both_true : (s t : Bool) → (s && t) ≡ true → (s ≡ true) × (t ≡ true)
-both_true true true h = (refl, refl)
-both_true true false h = absurd (cc)
-both_true false t h = absurd (cc)
 
 module _ (fl : Flow) (S : Site) (c : CodeBlock) (fit : IsFit fl S.block) (turned : HasTurns S) (facts : IsCodeOf fl S c fit turned) where
   abbrev b : Block ℕ
@@ -82,8 +80,8 @@ module _ (fl : Flow) (S : Site) (c : CodeBlock) (fit : IsFit fl S.block) (turned
           origin = x.2.origin;
           mark = mark_is r h;
           slot = sym (ap slot_at x.1);
-          firsts = IsPermutation-same (map (leads_to (place r)) i.firsts) (map (stands_at W) (answered_at r ++ W.wire (side r false))) (firsts_are fl S c fit turned facts r i h x.1 x.2);
-          seconds = IsPermutation-same (map (leads_to (place r)) i.seconds) (map (stands_at W) (W.wire (side r true))) (seconds_are fl S c fit turned facts r i h x.1 x.2);
+          firsts = permutation_same (map (leads_to (place r)) i.firsts) (map (stands_at W) (answered_at r ++ W.wire (side r false))) (firsts_are fl S c fit turned facts r i h x.1 x.2);
+          seconds = permutation_same (map (leads_to (place r)) i.seconds) (map (stands_at W) (W.wire (side r true))) (seconds_are fl S c fit turned facts r i h x.1 x.2);
         },
       )
 
@@ -196,7 +194,7 @@ module _ (fl : Flow) (S : Site) (c : CodeBlock) (fit : IsFit fl S.block) (turned
   end_last r h =
       let front : List Part = (Written.closed fl S).parts ++ Written.joined_parts Root (Written.root_ends fl S) in
       let p = place_of fl S c fit turned facts r h in
-      let l = get_within (parts_in fl S) (place r) r p in
+      let l = slice_get_within (parts_in fl S) (place r) r p in
       let assoc : front ++ Parts.End ∷ [] ≡ parts_in fl S = append_assoc (Written.closed fl S).parts (Written.joined_parts Root (Written.root_ends fl S)) (Parts.End ∷ []) in
       let at_end = stand_right place 0 (length front) front (Parts.End ∷ []) (subst (Stand place 0) (sym assoc) (placed fl S c fit turned facts)) (omega arith) in
       let long : length (parts_in fl S) ≡ suc (length front) = ap (λ (xs : List Part). length xs) (sym assoc) ∙ length_push front Parts.End in
@@ -242,11 +240,11 @@ module _ (fl : Flow) (S : Site) (c : CodeBlock) (fit : IsFit fl S.block) (turned
           between j z a d w =
               let first = at.0 in
               let here = stand_get place k (suc i) (kind_parts fl S n m (Loop 0 0)) r at e in
-              let long = get_within (kind_parts fl S n m (Loop 0 0)) (suc i) r e in
+              let long = slice_get_within (kind_parts fl S n m (Loop 0 0)) (suc i) r e in
               let at_j : k + suc (j - suc k) ≡ j = omega (arith, a, first) in
               let q = get_some (kind_parts fl S n m (Loop 0 0)) (suc (j - suc k)) (omega (arith, long, d, here, at_j)) in
               let stands = stand_get place k (suc (j - suc k)) (kind_parts fl S n m (Loop 0 0)) q.0 at q.1 in
-              let within = get_within c.instrs j z w in
+              let within = slice_get_within c.instrs j z w in
               let s = size fl S c fit turned facts in
               let part = at_place q.0 0 j (parts_in fl S) (omega (arith, stands, at_j)) (omega (arith, within, s)) in
               let its = (laid fl S c fit turned facts).instrs j q.0 z part (ap (λ (is : List Instr). slice_get is j) (sym facts.instrs) ∙ w) in

@@ -1,7 +1,8 @@
 -- Rows of a block's code: its entries, and the landing of each invocation with what stands behind it and before it.
-use Rattle.std.proofs.Common.{◌≡◌, ℕ, suc, ◌+◌, ◌-◌, ◌<◌, ◌≤◌, ◌⊎◌, inl, inr, Bool, true, false, ◌&&◌, ◌||◌, List, [], ◌∷◌, ◌++◌, length, refl, sym, ap, ◌∙◌, subst, arith, Some, None, Option, nat_lt}
+use Rattle.std.proofs.Common.{◌≡◌, ℕ, suc, ◌+◌, ◌-◌, ◌<◌, ◌≤◌, ◌⊎◌, inl, inr, Bool, true, false, ◌&&◌, ◌||◌, List, [], ◌∷◌, ◌++◌, length, refl, sym, ap, ◌∙◌, subst, arith, Some, None, Option, nat_lt, length-append}
 use Rattle.std.specs.Prelude.{slice_get}
-use Rattle.std.proofs.lemmas.Bool.{ltb-true, cases_lt}
+use Rattle.std.proofs.lemmas.Bool.{ltb-true, cases_lt, and_parts}
+use Rattle.std.proofs.lemmas.Option.{same_Some}
 use Rattle.semantics.specs.declared.graph.Region.TheVariants.{Root}
 use Rattle.semantics.specs.declared.graph.Kind.{Kind}
 use Rattle.semantics.specs.declared.graph.Kind.TheVariants.{Call, StrictCall, Loop}
@@ -14,19 +15,14 @@ use Rattle.law_contexts.specs.Expanded.{row, invoked}
 use Rattle.law_wires.specs.Written as Written
 use Rattle.law_wires.specs.Written.{is_shared, is_triggered, parts_in, kind_parts, node_parts}
 use Rattle.law_wires.specs.Fit.{Takes, IsCallee, IsFit}
-use Rattle.law_wires.proofs.Standing.{Stand, stand_left, stand_right, stand_row, length_both, row_length}
+use Rattle.law_wires.proofs.Standing.{Stand, stand_left, stand_right, stand_row, row_length}
 use Rattle.law_wires.proofs.LaidWhole.{closed_stands}
 use Rattle.law_wires.proofs.LaidUsual.{HasTurns}
-use Rattle.law_wires.proofs.Counts.{Follow, follow_here, follow_more, same_some}
+use Rattle.law_wires.proofs.Counts.{Follow, follow_here, follow_more}
 use Rattle.law_wires.proofs.Parts.{follow, node_within}
 use Rattle.law_wires.proofs.Agree.{apart}
 use Rattle.law_wires.proofs.CodeFacts.{IsCodeOf}
 use Rattle.law_wires.proofs.CodeWritten.{placed, at, w}
-
-both_true : (s t : Bool) → (s && t) ≡ true → (s ≡ true) × (t ≡ true)
-both_true true true h = (refl, refl)
-both_true true false h = absurd (cc)
-both_true false t h = absurd (cc)
 
 module _ (fl : Flow) (S : Site) (c : CodeBlock) (fit : IsFit fl S.block) (turned : HasTurns S) (facts : IsCodeOf fl S c fit turned) where
   abbrev b : Block ℕ
@@ -82,7 +78,7 @@ module _ (fl : Flow) (S : Site) (c : CodeBlock) (fit : IsFit fl S.block) (turned
           go more (inl a) = more (omega (arith, a)) (omega (arith, u))
           go more (inr a) =
               let same : k ≡ n = omega (arith, a, l) in
-              let its : y ≡ x = same_some y x (sym (follow_here b k y xs f) ∙ ap (node_at b) same ∙ e) in
+              let its : y ≡ x = same_Some y x (sym (follow_here b k y xs f) ∙ ap (node_at b) same ∙ e) in
               let here = stand_left place m (kind_parts fl S k (length y.sources) y.kind) (node_parts fl S (k + 1) xs) h in
               (m, subst (λ i. Stand place m (kind_parts fl S i (length x.sources) x.kind)) same (subst (λ (z : Node ℕ). Stand place m (kind_parts fl S k (length z.sources) z.kind)) its here))
 
@@ -102,7 +98,7 @@ module _ (fl : Flow) (S : Site) (c : CodeBlock) (fit : IsFit fl S.block) (turned
       behind m = let long = row_length (Sender n) 0 m in omega (arith, long)
 
   invoked_length : (n m q : ℕ) → length (invoked n m q) ≡ 3 + (m + q)
-  invoked_length n m q = let a = length_both (row (Sender n) 0 m) (row (Landing n) 0 q) in let c = row_length (Sender n) 0 m in let d = row_length (Landing n) 0 q in omega (arith, a, c, d)
+  invoked_length n m q = let a = length-append (row (Sender n) 0 m) (row (Landing n) 0 q) in let c = row_length (Sender n) 0 m in let d = row_length (Landing n) 0 q in omega (arith, a, c, d)
 
   -- what stands behind an invocation
   record Invoked (n q : ℕ) (rest : List Part) : Type 0 where
@@ -159,7 +155,7 @@ module _ (fl : Flow) (S : Site) (c : CodeBlock) (fit : IsFit fl S.block) (turned
           && nat_lt j (elim o as (λ x. ℕ) [ None ↦ 0 | Some line ↦ kind_results fl (length line.sources) line.kind ])) ≡ true → place (Landing n j) ≡ place (Landing n 0) + j
       go None e t = absurd (cc)
       go (Some x) e t =
-          let both = both_true (call_kind x.kind || loop_kind x.kind) (nat_lt j (kind_results fl (length x.sources) x.kind)) t in
+          let both = and_parts (call_kind x.kind || loop_kind x.kind) (nat_lt j (kind_results fl (length x.sources) x.kind)) t in
           let l = (node_invoked n x e both.0).lands in
           let less = ltb-true j (kind_results fl (length x.sources) x.kind) both.1 in
           let here = l.each_result j less in

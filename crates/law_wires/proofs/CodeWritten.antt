@@ -3,6 +3,11 @@ use Rattle.std.proofs.Common.{◌≡◌, ℕ, ◌+◌, ◌-◌, ◌<◌, ◌⊎�
 use Rattle.std.specs.Prelude.{slice_get, count_by}
 use Rattle.std.proofs.lemmas.List.Elements.{Contains-append_left, Contains-append_right}
 use Rattle.std.proofs.lemmas.Bool.{lt-ltb, ltb-true}
+use Rattle.std.proofs.lemmas.List.{nil_from_length}
+use Rattle.std.proofs.lemmas.Option.{slice_get_within}
+use Rattle.lemmas.proofs.Alls.{all_at}
+use Rattle.lemmas.proofs.Contains.{contains_cases, contains_head, contains_tail, contains_none}
+use Rattle.lemmas.proofs.SliceGet.{get_some}
 use Rattle.tags.specs.declared.token.Port.TheVariants.{Left}
 use Rattle.semantics.specs.declared.graph.Kind.{Kind}
 use Rattle.semantics.specs.declared.program.Dest.{Dest}
@@ -11,9 +16,7 @@ use Rattle.semantics.specs.Graph.{Node, Block, Flow, node_at}
 use Rattle.semantics.specs.Program.{Instr, CodeBlock}
 use Rattle.semantics.specs.Plan.{is_credit, is_open}
 use Rattle.semantics.specs.Rule.{slot_of}
-use Rattle.law_determinacy.proofs.Resolved.{all_get}
 use Rattle.law_expansion.specs.Shapes.{HasExactShape}
-use Rattle.law_expansion.proofs.ArcsLists.{get_within, get_some}
 use Rattle.law_contexts.specs.Parts as Parts
 use Rattle.law_contexts.specs.Parts.{Part, Entry, Line, Trigger, Gate, Opener, Framer, Fanned, Linker, Landing, Giver, Taker, Drainer, LoopDone, Result, Join, CondEnd, Inlet, inlet, same_part}
 use Rattle.law_contexts.specs.Blocks as Blocks
@@ -35,11 +38,7 @@ use Rattle.law_wires.proofs.Arcs.{arcs_in}
 use Rattle.law_wires.proofs.ArcsSame.{arcs_agree}
 use Rattle.law_wires.proofs.ArcsMore as More
 use Rattle.law_wires.proofs.ArcsMore.{size_goes, no_size, some_size, goes_there, answer_arcs, frame_arc, link_arc, give_arc, drain_arc, ask_arc, fan_arc, arcs_mixed, invoke_there, loop_there, turn_there}
-use Rattle.law_wires.proofs.Places.{at_place, place_bounded, tally_there, contains_first, contains_later, contains_none, contains_cases, AllDests, all_dests, dests_stand, dests_along}
-
-empty : {X : Type 0} (xs : List X) → length xs ≡ 0 → xs ≡ []
-empty [] h = refl
-empty (x ∷ xs) h = absurd (omega (arith, h))
+use Rattle.law_wires.proofs.Places.{at_place, place_bounded, tally_there, AllDests, all_dests, dests_stand, dests_along}
 
 -- PARTS OF SUCH A BLOCK
 -- the machine answers only where no wire leaves
@@ -158,7 +157,7 @@ module _ (fl : Flow) (S : Site) (c : CodeBlock) (fit : IsFit fl S.block) (turned
   pub instr_of : (r : Part) → IsThere r → (i : Instr) × (slice_get c.instrs (at r) ≡ Some i) × IsAt it (arcs_in fl S) r i
   instr_of r h =
       let p = place_of r h in
-      let l = get_within P (at r) r p in
+      let l = slice_get_within P (at r) r p in
       let s = size in
       let i = get_some c.instrs (at r) (omega (arith, l, s)) in
       (i.0, i.1, laid.instrs (at r) r i.0 p (ap (λ is. slice_get is (at r)) (sym facts.instrs) ∙ i.1))
@@ -193,7 +192,7 @@ module _ (fl : Flow) (S : Site) (c : CodeBlock) (fit : IsFit fl S.block) (turned
 
   exact_is : (r : Part) (i : Instr) → IsThere r → has_no_wire r ≡ true → slice_get c.instrs (at r) ≡ Some i → i.op ≡ op_of (variant_in fl) S r → (length i.firsts ≡ length (answered_at r)) × (length i.seconds ≡ 0)
   exact_is r i t h e op =
-      let here = all_get (λ (j : Instr). HasExactShape j.op (length j.firsts) (length j.seconds)) c.instrs (at r) i facts.exact e in
+      let here = all_at (λ (j : Instr). HasExactShape j.op (length j.firsts) (length j.seconds)) c.instrs (at r) i facts.exact e in
       exact_at r t h (length i.firsts) (length i.seconds) (subst (λ o. HasExactShape o (length i.firsts) (length i.seconds)) op here)
 
   abbrev pub dests_of : Instr → Bool → List Dest
@@ -231,16 +230,16 @@ module _ (fl : Flow) (S : Site) (c : CodeBlock) (fit : IsFit fl S.block) (turned
   answer_arc r x = wire (side r false) x.part x.port
 
   answers_there : (r : Part) (x : Inlet) → IsThere r → answered_at r ≡ x ∷ [] → Contains (answer_arcs S) (answer_arc r x)
-  answers_there (Framer n) x h e = let same : inlet (Fanned n) Left 0 ≡ x = cc in subst (λ y. Contains (answer_arcs S) (answer_arc (Framer n) y)) same (invoke_there fl S fit n (frame_arc n) (contains_first (frame_arc n) (link_arc n ∷ [])) h)
+  answers_there (Framer n) x h e = let same : inlet (Fanned n) Left 0 ≡ x = cc in subst (λ y. Contains (answer_arcs S) (answer_arc (Framer n) y)) same (invoke_there fl S fit n (frame_arc n) (contains_head (frame_arc n) (link_arc n ∷ [])) h)
   answers_there (Linker n) x h e =
       let same : inlet (Landing n 0) Left 0 ≡ x = cc in
-      subst (λ y. Contains (answer_arcs S) (answer_arc (Linker n) y)) same (invoke_there fl S fit n (link_arc n) (contains_later (frame_arc n) (link_arc n ∷ []) (link_arc n) (contains_first (link_arc n) [])) h)
-  answers_there (Giver n) x h e = let same : inlet (LoopDone n) Left 0 ≡ x = cc in subst (λ y. Contains (answer_arcs S) (answer_arc (Giver n) y)) same (loop_there fl S fit n (give_arc n) (contains_first (give_arc n) (drain_arc n ∷ [])) h)
+      subst (λ y. Contains (answer_arcs S) (answer_arc (Linker n) y)) same (invoke_there fl S fit n (link_arc n) (contains_tail (frame_arc n) (link_arc n ∷ []) (link_arc n) (contains_head (link_arc n) [])) h)
+  answers_there (Giver n) x h e = let same : inlet (LoopDone n) Left 0 ≡ x = cc in subst (λ y. Contains (answer_arcs S) (answer_arc (Giver n) y)) same (loop_there fl S fit n (give_arc n) (contains_head (give_arc n) (drain_arc n ∷ [])) h)
   answers_there (Drainer n) x h e =
       let same : inlet (LoopDone n) Left 0 ≡ x = cc in
-      subst (λ y. Contains (answer_arcs S) (answer_arc (Drainer n) y)) same (loop_there fl S fit n (drain_arc n) (contains_later (give_arc n) (drain_arc n ∷ []) (drain_arc n) (contains_first (drain_arc n) [])) h)
-  answers_there Parts.NextFramer x h e = let same : inlet Parts.NextFanned Left 0 ≡ x = cc in subst (λ y. Contains (answer_arcs S) (answer_arc Parts.NextFramer y)) same (turn_there fl S fit (turned h) fan_arc (contains_later ask_arc (fan_arc ∷ []) fan_arc (contains_first fan_arc [])) h)
-  answers_there Parts.Asker x h e = let same : inlet Parts.NextFramer Left 0 ≡ x = cc in subst (λ y. Contains (answer_arcs S) (answer_arc Parts.Asker y)) same (turn_there fl S fit (turned h) ask_arc (contains_first ask_arc (fan_arc ∷ [])) h)
+      subst (λ y. Contains (answer_arcs S) (answer_arc (Drainer n) y)) same (loop_there fl S fit n (drain_arc n) (contains_tail (give_arc n) (drain_arc n ∷ []) (drain_arc n) (contains_head (drain_arc n) [])) h)
+  answers_there Parts.NextFramer x h e = let same : inlet Parts.NextFanned Left 0 ≡ x = cc in subst (λ y. Contains (answer_arcs S) (answer_arc Parts.NextFramer y)) same (turn_there fl S fit (turned h) fan_arc (contains_tail ask_arc (fan_arc ∷ []) fan_arc (contains_head fan_arc [])) h)
+  answers_there Parts.Asker x h e = let same : inlet Parts.NextFramer Left 0 ≡ x = cc in subst (λ y. Contains (answer_arcs S) (answer_arc Parts.Asker y)) same (turn_there fl S fit (turned h) ask_arc (contains_head ask_arc (fan_arc ∷ [])) h)
   answers_there r x h e = absurd (cc)
 
   pub no_answers : (r : Part) → has_no_wire r ≡ true → (answered_at r ≡ []) ⊎ ((x : Inlet) × (answered_at r ≡ x ∷ []))
@@ -319,7 +318,7 @@ module _ (fl : Flow) (S : Site) (c : CodeBlock) (fit : IsFit fl S.block) (turned
           by_answer : (answered_at r ≡ []) ⊎ ((y : Inlet) × (answered_at r ≡ y ∷ [])) → map (leads_to (at r)) i.firsts ≡ map (stands_at w) (answered_at r ++ w.wire (side r false))
           by_answer (inl none) =
               let l = (exact_is r i h n e x.op).0 ∙ ap (λ (xs : List Inlet). length xs) none in
-              ap (map (leads_to (at r))) (empty i.firsts l) ∙ sym (ap (λ xs. map (stands_at w) (xs ++ w.wire (side r false))) none ∙ ap (map (stands_at w)) (read_none r false n))
+              ap (map (leads_to (at r))) (nil_from_length i.firsts l) ∙ sym (ap (λ xs. map (stands_at w) (xs ++ w.wire (side r false))) none ∙ ap (map (stands_at w)) (read_none r false n))
           by_answer (inr y) =
               let one = answer_dest r i y.0 h n e x y.1 in
               let less = answer_forward r y.0 h n y.1 in
@@ -331,4 +330,4 @@ module _ (fl : Flow) (S : Site) (c : CodeBlock) (fit : IsFit fl S.block) (turned
     where
       go : (t : Bool) → has_no_wire r ≡ t → map (leads_to (at r)) i.seconds ≡ map (stands_at w) (w.wire (side r true))
       go false n = dests_are_wires r true i h n e x
-      go true n = ap (map (leads_to (at r))) (empty i.seconds (exact_is r i h n e x.op).1) ∙ sym (ap (map (stands_at w)) (read_none r true n))
+      go true n = ap (map (leads_to (at r))) (nil_from_length i.seconds (exact_is r i h n e x.op).1) ∙ sym (ap (map (stands_at w)) (read_none r true n))

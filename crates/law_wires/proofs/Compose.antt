@@ -1,10 +1,11 @@
 -- Each code block of a plan is there: that of each block, and that of its turns where a loop names it.
-use Rattle.std.proofs.Common.{◌≡◌, ℕ, zero, suc, ◌+◌, ◌-◌, ◌<◌, ◌≤◌, ◌⊎◌, inl, inr, Bool, true, false, List, [], ◌∷◌, ◌++◌, length, refl, sym, ap, ◌∙◌, arith, if◌then◌else◌, None, nat_lt, lt-ltb, sum_by}
+use Rattle.std.proofs.Common.{◌≡◌, ℕ, zero, suc, ◌+◌, ◌-◌, ◌<◌, ◌≤◌, ◌⊎◌, inl, inr, Bool, true, false, List, [], ◌∷◌, ◌++◌, length, refl, sym, ap, ◌∙◌, arith, if◌then◌else◌, None, nat_lt, sum_by}
 use Rattle.std.specs.Prelude.{slice_get, slice_index_or, count_by}
 use Rattle.std.proofs.lemmas.Bool.{cases_lt, le-ltb}
 use Rattle.std.proofs.lemmas.List.Sums.{sum-map, sum_by-cons}
 use Rattle.std.proofs.lemmas.List.{length_push, get_or_append_left, get_or_push}
 use Rattle.std.proofs.lemmas.Option.{slice_get_within}
+use Rattle.lemmas.proofs.Bools.{sum_is_positive}
 use Rattle.semantics.specs.declared.graph.Kind.{Kind}
 use Rattle.semantics.specs.declared.graph.Kind.TheVariants.{Loop}
 use Rattle.semantics.specs.Graph.{Node, Block, Flow, Graph, flow_of, node_at}
@@ -19,11 +20,6 @@ use Rattle.law_expansion.proofs.FactsCodes.{some_loop, plain_at, variant_at}
 use Rattle.law_contexts.specs.Expanded.{CodesAreThere, variant_in}
 
 -- WHICH BLOCKS ARE LOOPED, said in two ways
-some_of : (m n : ℕ) (s t : Bool) → s ≡ nat_lt 0 m → t ≡ nat_lt 0 n → (if s then true else t) ≡ nat_lt 0 (m + n)
-some_of zero n true t p q = absurd (cc)
-some_of zero n false t p q = let same : n ≡ 0 + n = omega arith in q ∙ ap (nat_lt 0) same
-some_of (suc m) n true t p q = sym (lt-ltb 0 (suc m + n) (omega arith))
-some_of (suc m) n false t p q = let e = lt-ltb 0 (suc m) (omega arith) in absurd (cc)
 
 abbrev weight : ℕ → Node ℕ → ℕ
 weight f n = if Cause.loops_to f n.kind then 1 else 0
@@ -39,7 +35,7 @@ one_test false = refl
 nodes_counted : (f : ℕ) (ns : List (Node ℕ)) → some_node_loops f ns ≡ nat_lt 0 (sum_by (weight f) ns)
 nodes_counted f [] = refl
 nodes_counted f (n ∷ ns) =
-    some_of (weight f n) (sum_by (weight f) ns) (loops_to f n.kind) (some_node_loops f ns) (same_test f n.kind ∙ one_test (Cause.loops_to f n.kind)) (nodes_counted f ns)
+    sum_is_positive (weight f n) (sum_by (weight f) ns) (loops_to f n.kind) (some_node_loops f ns) (same_test f n.kind ∙ one_test (Cause.loops_to f n.kind)) (nodes_counted f ns)
     ∙ ap (nat_lt 0) (sym (sum_by-cons (weight f) n ns))
 
 abbrev loops_in : ℕ → Block ℕ → ℕ
@@ -48,7 +44,7 @@ loops_in f b = count_by (λ (n : Node ℕ). Cause.loops_to f n.kind) b.nodes
 blocks_counted : (f : ℕ) (bs : List (Block ℕ)) → some_block_loops f bs ≡ nat_lt 0 (sum_by (loops_in f) bs)
 blocks_counted f [] = refl
 blocks_counted f (b ∷ bs) =
-    some_of (loops_in f b) (sum_by (loops_in f) bs) (some_node_loops f b.nodes) (some_block_loops f bs) (nodes_counted f b.nodes) (blocks_counted f bs)
+    sum_is_positive (loops_in f b) (sum_by (loops_in f) bs) (some_node_loops f b.nodes) (some_block_loops f bs) (nodes_counted f b.nodes) (blocks_counted f bs)
     ∙ ap (nat_lt 0) (sym (sum_by-cons (loops_in f) b bs))
 
 pub same_looped : (fl : Flow) (f : ℕ) → some_block_loops f fl.blocks ≡ is_looped fl f

@@ -1,6 +1,7 @@
 -- From a fetch or a store whose answer is used often one wire leaves, to the copy of its answer.
 use Rattle.std.proofs.Common.{◌≡◌, ◌≢◌, ℕ, zero, suc, ◌+◌, ◌<◌, ◌≤◌, ◌⊎◌, inl, inr, Bool, true, false, List, [], ◌∷◌, ◌++◌, length, refl, sym, ap, ◌∙◌, arith, if◌then◌else◌, Some}
 use Rattle.std.proofs.lemmas.Bool.{cases_lt}
+use Rattle.std.proofs.lemmas.Option.{same_Some}
 use Rattle.tags.specs.declared.token.Port.TheVariants.{Left}
 use Rattle.semantics.specs.declared.graph.Region.{Region}
 use Rattle.semantics.specs.declared.graph.Source.{Source}
@@ -11,7 +12,7 @@ use Rattle.law_contexts.specs.Parts as Parts
 use Rattle.law_contexts.specs.Parts.{Part, Entry, Line, Answer, Opener, Fanned, Strict, Trigger, TurnCont, TurnFlag, TurnValue, NextFanned, Join, CondEnd, Inlet, inlet}
 use Rattle.law_contexts.specs.Blocks.{Side, side, Site, is_kind, cell_kind}
 use Rattle.law_wires.specs.Written.{Wire, wire, is_shared, answer_wires, along, inlet_of, leaves, operand_wires, meet_wires, kind_wires, node_wires, value_wires, next_wires, last_wires, turn_wires, tail_wires, inner_wires, wires_in}
-use Rattle.law_wires.proofs.Counts.{Follow, follow_more, follow_here, same_some}
+use Rattle.law_wires.proofs.Counts.{Follow, follow_more, follow_here}
 use Rattle.law_wires.proofs.Parts.{follow, node_within}
 use Rattle.law_wires.proofs.Members.{all_both, side_self}
 use Rattle.law_wires.proofs.Nodes.{node_some}
@@ -77,7 +78,7 @@ module _ (fl : Flow) (s : Site) (n : ℕ) (cell : is_kind cell_kind s.block n �
           ∙ more (omega (arith, a)) (omega (arith, u))
       go (inr a) more =
           let same : n ≡ m = omega (arith, l, a) in
-          let it : x ≡ y = same_some x y (sym e ∙ ap (node_at s.block) same ∙ follow_here s.block m y xs f) in
+          let it : x ≡ y = same_Some x y (sym e ∙ ap (node_at s.block) same ∙ follow_here s.block m y xs f) in
           let here : along s.block t (kind_wires s m y.region y.kind y.sources) ≡ Its
           = (λ i. along s.block t (kind_wires s (sym same i) (sym it i).region (sym it i).kind (sym it i).sources)) ∙ kind_here x.region x.kind x.sources c in
           let rest = nodes_after (m + 1) xs (omega (arith, same)) in

@@ -3,6 +3,8 @@ use Rattle.std.proofs.Common.{◌≡◌, ◌≢◌, ℕ, zero, suc, ◌+◌, ◌
 use Rattle.std.specs.Prelude.{slice_get, count_by}
 use Rattle.std.proofs.lemmas.Bool.{lt-ltb, le-ltb, eqb-true, cases_lt}
 use Rattle.std.proofs.lemmas.List.Sums.{sum_by-cons}
+use Rattle.std.proofs.lemmas.Option.{same_Some}
+use Rattle.lemmas.proofs.Bools.{equal_itself}
 use Rattle.semantics.specs.declared.graph.Region.TheVariants.{Root, Arm}
 use Rattle.semantics.specs.declared.graph.Kind.{Kind}
 use Rattle.semantics.specs.declared.graph.Kind.TheVariants.{Lit, Apply1, Apply2, Cond, Enter, Merge, Fetch, Store, Call, StrictCall, Loop}
@@ -31,12 +33,6 @@ pub tally_both : {X : Type 0} (p : X → Bool) (xs ys : List X) → tally p (xs 
 tally_both p [] ys = omega arith
 tally_both p (x ∷ xs) ys = let h = tally_both p xs ys in omega (arith, h)
 
-pub same_number : (n : ℕ) → (n == n) ≡ true
-same_number n = grind (arith)
-
-pub same_some : {X : Type 0} (x y : X) → Some x ≡ Some y → x ≡ y
-same_some x y h = cc
-
 -- ROWS
 pub row_none : (p : Part → Bool) (f : ℕ → Part) (from n : ℕ) → ((j : ℕ) → from ≤ j → j < from + n → p (f j) ≡ false) → tally p (row f from n) ≡ 0
 row_none p f from zero h = refl
@@ -56,7 +52,7 @@ row_one p f from (suc n) k l m h o = go (λ a c. row_one p f (from + 1) n k a c 
         let rest = row_none p f (from + 1) n (λ j a b. o j (λ q. omega (arith, q, same, a))) in
         omega (arith, here, rest)
     go later false e =
-        let ne : from ≢ k = λ q. let t = ap (λ x. x == k) q in let self = same_number k in absurd (cc) in
+        let ne : from ≢ k = λ q. let t = ap (λ x. x == k) q in let self = equal_itself k in absurd (cc) in
         let here = ap one (o from ne) in
         let less : from < k = omega (arith, l, ne) in
         let rest = later (omega (arith, less)) (omega (arith, m)) in
@@ -147,7 +143,7 @@ module _ (b : Block ℕ) where
           = ap (λ j. if cond_kind y.kind then tally p (closing_parts j rest) else 0) same ∙ ap (λ t. if t then tally p (closing_parts k rest) else 0) (sym kind) in
           omega (arith, none, here, at)
       go later false e =
-          let ne : n ≢ k = λ q. let t = ap (λ z. z == k) q in let self = same_number k in absurd (cc) in
+          let ne : n ≢ k = λ q. let t = ap (λ z. z == k) q in let self = equal_itself k in absurd (cc) in
           let less : n + 1 ≤ k = omega (arith, l, ne) in
           let more = later less (omega (arith, m)) in
           let here = cond_count p n rest y.kind in
@@ -188,7 +184,7 @@ module _ (fl : Flow) (s : Site) where
       go later (inr a) =
           let same : n ≡ k = omega (arith, l, a) in
           let there = follow_here b n y xs f in
-          let its : y ≡ x = same_some y x (sym there ∙ ap (node_at b) same ∙ e) in
+          let its : y ≡ x = same_Some y x (sym there ∙ ap (node_at b) same ∙ e) in
           let here : tally p (kind_parts fl s n (length y.sources) y.kind) ≡ tally p (kind_parts fl s k (length x.sources) x.kind) = ap (λ (z : Node ℕ). tally p (kind_parts fl s n (length z.sources) z.kind)) its ∙ ap (λ j. tally p (kind_parts fl s j (length x.sources) x.kind)) same in
           let rest = nodes_none p (n + 1) xs (follow_more b n y xs f) (λ j z c g. h j z (λ q. omega (arith, q, c, same)) g) in
           let c = both in

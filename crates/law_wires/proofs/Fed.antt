@@ -17,12 +17,12 @@ use Rattle.law_contexts.specs.Parts.{Part, Entry, Line, Opener, Strict, TurnCont
 use Rattle.law_contexts.specs.Blocks.{Side, side, Site, Wiring, there_in, leaves_in, pair_kind}
 use Rattle.law_contexts.specs.Wires.{plain_site, AreFed, IsFed, wired_way, wired_port, is_given, is_side, has_no_wire, hits}
 use Rattle.law_contexts.specs.Expanded.{way_in}
+use Rattle.law_contexts.proofs.Sames.{same_part-refl}
 use Rattle.law_wires.specs.Written as Written
 use Rattle.law_wires.specs.Written.{Wire, wire, is_shared, is_triggered, leaves, trigger_side, answer_wires, along, inlet_of, same_side, sides_of, sides, parts_in, wires_in, operand_wires, merge_wires, meet_wires, trigger_wires, gate_wires, sender_wires, invoke_wires, strict_wires, strict_end, strict_call_wires, kind_wires, node_wires, result_wires, value_wires, next_wires, last_wires, turn_wires, tail_wires, inner_wires, chain_wires, joined_wires, signal_wires, Ended, arm_ends, close, close_kind, close_nodes, close_flag, inner, root_ends}
 use Rattle.law_wires.specs.Fit.{Takes, IsFit}
 use Rattle.law_wires.specs.Halves.{IsWritten, WrittenIsFed}
 use Rattle.law_wires.proofs.Same.{side_is}
-use Rattle.law_wires.proofs.Laid.{same_part_self}
 use Rattle.law_wires.proofs.Counts.{tally, count_is, Follow, follow_more, follow_here}
 use Rattle.law_wires.proofs.Members.{AllW, all_both, along_all, In, in_cases, side_self, part_of}
 use Rattle.law_wires.proofs.Parts.{follow, node_within}
@@ -74,7 +74,7 @@ side_there t (x ∷ xs) h = go (in_cases t (sides_of x) (sides xs) h) (side_ther
     go : In t (sides_of x) ⊎ In t (sides xs) → (In t (sides xs) → (0 < tally (same_part t.part) xs) × (is_side t ≡ true) × (has_no_wire t.part ≡ false)) → (0 < tally (same_part t.part) (x ∷ xs)) × (is_side t ≡ true) × (has_no_wire t.part ≡ false)
     go (inl k) more =
         let s = part_of t x k in
-        let o : one (same_part t.part x) ≡ 1 = ap (λ r. one (same_part t.part r)) (sym s.0) ∙ ap one (same_part_self t.part) in
+        let o : one (same_part t.part x) ≡ 1 = ap (λ r. one (same_part t.part r)) (sym s.0) ∙ ap one (same_part-refl t.part) in
         (omega (arith, o), s.1, s.2)
     go (inr k) more = let m = more k in let l = m.0 in (omega (arith, l), m.1, m.2)
 

@@ -3,6 +3,7 @@ use Rattle.std.proofs.Common.{◌≡◌, ℕ, zero, suc, ◌+◌, ◌-◌, ◌<�
 use Rattle.std.specs.Prelude.{slice_get}
 use Rattle.std.proofs.lemmas.Bool.{cases_lt}
 use Rattle.std.proofs.lemmas.List.Elements.{All-head, All-tail}
+use Rattle.lemmas.proofs.SliceGet.{get_some}
 use Rattle.tags.specs.declared.token.Port.{Port}
 use Rattle.tags.specs.declared.token.Port.TheVariants.{Left, Right}
 use Rattle.semantics.specs.declared.graph.Region.{Region}
@@ -15,7 +16,6 @@ use Rattle.expansion.specs.Builds.{first_source}
 use Rattle.expansion.specs.Triggers as Triggers
 use Rattle.expansion.specs.Ends.{same_region}
 use Rattle.expansion.specs.Scopes.{predicate_of}
-use Rattle.law_expansion.proofs.ArcsLists.{get_some}
 use Rattle.law_contexts.specs.Parts as Parts
 use Rattle.law_contexts.specs.Parts.{Part, Entry, Line, Trigger, Gate, Opener, Framer, Fanned, Linker, Sender, CallDone, Giver, Taker, Drainer, LoopDone, Strict, Result, TurnCont, TurnFlag, TurnValue, Asker, NextFramer, NextFanned, NextSender, LastReturn, DrainReturn, Join, CondEnd}
 use Rattle.law_contexts.specs.Blocks.{Side, side, Site, leaves_in, lies_in, is_kind, cond_kind, outputs_in}

@@ -18,9 +18,9 @@ use Rattle.law_contexts.specs.Parts.{Part, Entry, Line, Answer, Trigger, Gate, O
 use Rattle.law_contexts.specs.Blocks.{Side, side, Site, leaves_in, pair_kind, outputs_in}
 use Rattle.law_contexts.specs.Wires.{wired_port, wired_way, is_given}
 use Rattle.law_contexts.specs.Expanded.{row, way_in, invoked}
+use Rattle.law_contexts.proofs.Sames.{same_part-true}
 use Rattle.law_wires.specs.Written.{Wire, wire, inlet_of, is_shared, is_triggered, leaves, trigger_side, operand_wires, merge_wires, trigger_wires, gate_wires, answer_wires, sender_wires, invoke_wires, strict_wires, strict_end, strict_call_wires, kind_wires, node_wires, result_wires, answer_parts, trigger_parts, kind_parts, node_parts}
 use Rattle.law_wires.specs.Fit.{Takes, Lies, Merges, IsFit}
-use Rattle.law_wires.proofs.Same.{same_is}
 use Rattle.law_wires.proofs.Counts.{tally, tally_both, Follow, follow_more, follow_here}
 use Rattle.law_wires.proofs.Nodes.{kind_at, leaves_region}
 
@@ -62,7 +62,7 @@ module _ (b : Block ℕ) (r : Part) (q : Port) (y : ℕ) (h : IsWired b y q r) w
       omega (arith, a, c, e, f)
 
   at : (p : Part) → same_part r p ≡ true → IsWired b y q p
-  at p e = subst (IsWired b y q) (same_is r p e) h
+  at p e = subst (IsWired b y q) (same_part-true r p e) h
 
   -- a part with one port
   pub single : (p : Part) (f : Side) → wired_port b p Right ≡ false → (wired_way p y ≡ true → (y == way_in p (leaves_in b f.part f.second)) ≡ true) → one (test b r q y (wire f p Left)) ≡ one (same_part r p)

@@ -4,6 +4,10 @@ use Rattle.std.specs.Prelude.{slice_get, slice_set, slice_index_or, replicate}
 use Rattle.std.proofs.lemmas.Bool.{cases_lt}
 use Rattle.std.proofs.lemmas.List.{get_or-set_same, get_or-set_other, length-set}
 use Rattle.std.proofs.lemmas.List.Elements.{All-weaker, All-contains}
+use Rattle.lemmas.proofs.Alls.{all_at}
+use Rattle.lemmas.proofs.Contains.{contains_get}
+use Rattle.lemmas.proofs.SliceGet.{map_get, map_get_back}
+use Rattle.lemmas.proofs.Lists.{length_of_falses}
 use Rattle.semantics.specs.declared.graph.Region.{Region}
 use Rattle.semantics.specs.declared.graph.Region.TheVariants.{Root, Arm}
 use Rattle.semantics.specs.declared.graph.Source.{Source}
@@ -12,22 +16,12 @@ use Rattle.semantics.specs.declared.graph.Kind.TheVariants.{Lit, Apply1, Apply2,
 use Rattle.semantics.specs.Graph.{Graph, Flow, Block, Node, node_at, node_count, place_of, resolved_kind, array_names, block_names, flow_of}
 use Rattle.semantics.specs.WellFormed.{WellFormed, IsBlockWell, IsNodeWell, NamesWell, HasShape, LiesWell, IsRegion, IsCond, IsCondNode, IsEarlier, HasPortOf, HasPortIn, region_in, region_of, arm_outside, AllLieIn}
 use Rattle.semantics.specs.Meaning.{arm_of}
-use Rattle.law_determinacy.proofs.Resolved.{all_get, contains_get, place_get, block_in, node_in, node_back}
+use Rattle.law_determinacy.proofs.Resolved.{place_get, block_in, node_in, node_back}
 use Rattle.expansion.specs.Triggers as Triggers
 use Rattle.expansion.specs.Triggers.{takes_trigger}
 use Rattle.law_contexts.specs.Blocks.{is_kind, cond_kind, call_kind, loop_kind, lies_in, outside, outputs_in}
 use Rattle.law_wires.specs.Written.{is_triggered}
 use Rattle.law_wires.specs.Fit.{IsCallee, Takes, kind_ports, ComesBefore, LiesIn, Merges, Lies, IsLineFit, IsFit, BlocksFit}
-
-get_map_back : {X Y : Type 0} (f : X → Y) (xs : List X) (i : ℕ) (y : Y) → slice_get (map f xs) i ≡ Some y → (x : X) × (slice_get xs i ≡ Some x) × (f x ≡ y)
-get_map_back f [] i y e = absurd (cc)
-get_map_back f (x ∷ xs) zero y e = (x, refl, cc)
-get_map_back f (x ∷ xs) (suc i) y e = get_map_back f xs i y e
-
-get_map : {X Y : Type 0} (f : X → Y) (xs : List X) (i : ℕ) (x : X) → slice_get xs i ≡ Some x → slice_get (map f xs) i ≡ Some (f x)
-get_map f [] i x e = absurd (cc)
-get_map f (y ∷ xs) zero x e = cc
-get_map f (y ∷ xs) (suc i) x e = get_map f xs i x e
 
 -- TRIGGERS are set once and for all
 region_length : (ts : List Bool) (r : Region) → length (Triggers.with_region ts r) ≡ length ts
@@ -71,10 +65,6 @@ trigger_set ts (y ∷ xs) zero k t x l e takes r =
     nodes_keep (Triggers.with_node ts y) xs k (omega (arith, l, long)) (ap (λ us. slice_index_or us k false) here ∙ get_or-set_same ts k true false l)
 trigger_set ts (y ∷ xs) (suc j) k t x l e takes r = let long = node_length ts y in trigger_set (Triggers.with_node ts y) xs j k t x (omega (arith, l, long)) e takes r
 
-replicate_length : (n : ℕ) → length (replicate n false) ≡ n
-replicate_length zero = refl
-replicate_length (suc n) = ap suc (replicate_length n)
-
 module _ (g : Graph) (well : WellFormed g) where
   abbrev kind_in : Kind (List ℕ) → Kind ℕ
   kind_in k = resolved_kind (array_names g) (block_names g) k
@@ -112,9 +102,9 @@ module _ (g : Graph) (well : WellFormed g) where
   named_block : (name : List ℕ) (c : Block (List ℕ)) → Contains g.blocks (name, c) → slice_get (flow_of g).blocks (place_of name (block_names g)) ≡ Some (block_in g c)
   named_block name c h =
       let k = contains_get g.blocks (name, c) h in
-      let at = get_map (λ (x : List ℕ × Block (List ℕ)). x.0) g.blocks k.0 (name, c) k.1 in
+      let at = map_get (λ (x : List ℕ × Block (List ℕ)). x.0) g.blocks k.0 (name, c) k.1 in
       let same = well.blocks_differ k.0 (place_of name (block_names g)) name at (place_get name (block_names g) k.0 at) in
-      subst (λ i. slice_get (flow_of g).blocks i ≡ Some (block_in g c)) same (get_map (λ (x : List ℕ × Block (List ℕ)). block_in g x.1) g.blocks k.0 (name, c) k.1)
+      subst (λ i. slice_get (flow_of g).blocks i ≡ Some (block_in g c)) same (map_get (λ (x : List ℕ × Block (List ℕ)). block_in g x.1) g.blocks k.0 (name, c) k.1)
 
   named_outputs : (name : List ℕ) (c : Block (List ℕ)) → Contains g.blocks (name, c) → outputs_in (slice_get (flow_of g).blocks (place_of name (block_names g))) ≡ c.outputs
   named_outputs name c h = ap outputs_in (named_block name c h)
@@ -247,7 +237,7 @@ module _ (g : Graph) (well : WellFormed g) where
     triggered n x k t e l r takes =
         let s = node_slot n x e in
         let low = s.1 in
-        let long = replicate_length (b.inputs + length (block_in g b).nodes) in
+        let long = length_of_falses (b.inputs + length (block_in g b).nodes) in
         trigger_set (replicate (b.inputs + length (block_in g b).nodes) false) (block_in g b).nodes (n - b.inputs) k t x (omega (arith, low, long, l)) s.0 takes r
 
     line_fit : (n : ℕ) (line : Node (List ℕ)) → node_at (block_in g b) n ≡ Some (node_in g line) → IsNodeWell g b n line → IsLineFit fl (block_in g b) n (node_in g line)
@@ -271,6 +261,6 @@ module _ (g : Graph) (well : WellFormed g) where
 
 pub blocks_fit : BlocksFit
 blocks_fit g well i b e =
-    let named = get_map_back (λ (x : List ℕ × Block (List ℕ)). block_in g x.1) g.blocks i b e in
-    let good : IsBlockWell g named.0.1 = all_get (λ (x : List ℕ × Block (List ℕ)). IsBlockWell g x.1) g.blocks i named.0 well.blocks named.1 in
+    let named = map_get_back (λ (x : List ℕ × Block (List ℕ)). block_in g x.1) g.blocks i b e in
+    let good : IsBlockWell g named.0.1 = all_at (λ (x : List ℕ × Block (List ℕ)). IsBlockWell g x.1) g.blocks i named.0 well.blocks named.1 in
     subst (IsFit (flow_of g)) named.2 (block_fit g well named.0.1 good)

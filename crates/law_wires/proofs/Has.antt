@@ -1,6 +1,7 @@
 -- Which parts the nodes, the results and a turn have, as it is said which parts are there.
 use Rattle.std.proofs.Common.{◌≡◌, ◌≢◌, ℕ, ◌+◌, ◌<◌, ◌≤◌, ◌⊎◌, inl, inr, Bool, true, false, not, ◌&&◌, ◌||◌, length, refl, sym, ap, ◌∙◌, arith, Some, None, Option, nat_lt, ◌==◌}
 use Rattle.std.proofs.lemmas.Bool.{lt-ltb, le-ltb, cases_lt}
+use Rattle.lemmas.proofs.Bools.{equal_itself}
 use Rattle.semantics.specs.declared.graph.Kind.{Kind}
 use Rattle.semantics.specs.declared.graph.Kind.TheVariants.{Cond}
 use Rattle.semantics.specs.Graph.{Node, Block, Flow, node_at}
@@ -10,7 +11,7 @@ use Rattle.law_contexts.specs.Parts.{Part, Entry, Line, Answer, Trigger, Gate, O
 use Rattle.law_contexts.specs.Blocks.{Site, is_kind, cond_kind, loop_kind, call_kind, strict_kind, cell_kind, plain_kind, enter_kind, merge_kind, source_count, result_count, kind_results}
 use Rattle.law_contexts.specs.Expanded.{row, turn_parts}
 use Rattle.law_wires.specs.Written.{is_shared, is_triggered, tail_parts}
-use Rattle.law_wires.proofs.Counts.{tally, same_number, row_none, row_one, row_below}
+use Rattle.law_wires.proofs.Counts.{tally, row_none, row_one, row_below}
 use Rattle.law_wires.proofs.Parts.{other_number, kind_has, has_node}
 use Rattle.law_wires.proofs.There.{turn_tally}
 
@@ -29,7 +30,7 @@ tail_has b t Parts.DrainReturn = t
 tail_has b t r = false
 
 same_of : (j : ℕ) → ((j == j) && true) ≡ true
-same_of j = ap (λ t. t && true) (same_number j)
+same_of j = ap (λ t. t && true) (equal_itself j)
 
 other_of : (k j : ℕ) → j ≢ k → ((k == j) && true) ≡ false
 other_of k j h = ap (λ t. t && true) (other_number k j h)

@@ -1,6 +1,8 @@
 -- A builder's instructions stand as the parts of a list, with destinations as the wires of a list: how each step adds to both.
-use Rattle.std.proofs.Common.{◌≡◌, ◌≢◌, ℕ, suc, ◌+◌, ◌-◌, ◌<◌, ◌≤◌, ◌⊎◌, inl, inr, Bool, true, false, ◌&&◌, List, [], ◌∷◌, ◌++◌, length, refl, sym, ap, ◌∙◌, subst, arith, append-nil, append_assoc, if◌then◌else◌, Some, ◌==◌}
+use Rattle.std.proofs.Common.{◌≡◌, ◌≢◌, ℕ, suc, ◌+◌, ◌-◌, ◌<◌, ◌≤◌, ◌⊎◌, inl, inr, Bool, true, false, ◌&&◌, List, [], ◌∷◌, ◌++◌, length, refl, sym, ap, ◌∙◌, subst, arith, append-nil, append_assoc, if◌then◌else◌, Some}
 use Rattle.std.specs.Prelude.{slice_get, slice_index_or, ⊤}
+use Rattle.std.proofs.lemmas.Bool.{and_parts}
+use Rattle.std.proofs.lemmas.Option.{slice_get_within, same_Some}
 use Rattle.tags.specs.declared.value.Origin.{Origin}
 use Rattle.tags.specs.declared.value.Origin.TheVariants.{Untold}
 use Rattle.tags.specs.declared.token.Port.TheVariants.{Left, Right}
@@ -16,12 +18,13 @@ use Rattle.semantics.specs.Program.{Instr}
 use Rattle.law_wires.specs.Types.{Outlet}
 use Rattle.expansion.specs.Builds as Builds
 use Rattle.expansion.specs.Builds.{Build, bare, slot_in, added, quieted, connected, with_dest, dest_of, nowhere, exit_at, outlet_of, trigger_of, exited, behind, meeting, mark_of}
-use Rattle.law_expansion.proofs.ArcsLists.{get_push, get_within, length_push, length_linked, get_linked, index_old, index_new}
+use Rattle.law_expansion.proofs.ArcsLists.{get_push, length_push, length_linked, get_linked, index_old, index_new}
 use Rattle.law_expansion.proofs.ArcsKept.{split}
 use Rattle.law_expansion.proofs.FactsCodes.{get_left}
-use Rattle.law_contexts.specs.Parts.{Part, Trigger, Gate, TurnCont, TurnFlag, TurnValue, Asker, NextFramer, NextFanned, same_part, part_key}
+use Rattle.law_contexts.specs.Parts.{Part, Trigger, Gate, TurnCont, TurnFlag, TurnValue, Asker, NextFramer, NextFanned, same_part}
 use Rattle.law_contexts.specs.Blocks as Blocks
 use Rattle.law_contexts.specs.Blocks.{Side, side, Site, op_of, origin_of, is_kind, cond_kind}
+use Rattle.law_contexts.proofs.Sames.{same_part-refl}
 use Rattle.law_wires.specs.Written.{Wire, wire, same_side, same_bool, leaves, leaves_at, is_triggered, trigger_side}
 use Rattle.law_wires.specs.Fit.{ComesBefore, port_count}
 
@@ -69,28 +72,12 @@ other_side e t ws w h = one_more e t ws w ∙ ap (λ s. goes e t ws ++ (if s the
 this_side : (e : Env) (t : Side) (ws : List Wire) (w : Wire) → same_side t w.from ≡ true → goes e t (ws ++ w ∷ []) ≡ goes e t ws ++ dest e w ∷ []
 this_side e t ws w h = one_more e t ws w ∙ ap (λ s. goes e t ws ++ (if s then dest e w ∷ [] else [])) h
 
-both_true : (s t : Bool) → (s && t) ≡ true → (s ≡ true) × (t ≡ true)
-both_true true true h = (refl, refl)
-both_true true false h = absurd (cc)
-both_true false t h = absurd (cc)
-
 pub other_part : (e : Env) (r : Part) (s : Bool) (u : Side) → e.place r ≢ e.place u.part → same_side (side r s) u ≡ false
 other_part e r s u ne = go (same_side (side r s) u) refl
   where
     go : (x : Bool) → same_side (side r s) u ≡ x → x ≡ false
-    go true h = absurd (ne (e.apart r u.part (both_true (same_part r u.part) (same_bool s u.second) h).0))
+    go true h = absurd (ne (e.apart r u.part (and_parts (same_part r u.part) (same_bool s u.second) h).0))
     go false h = refl
-
-same_number : (n : ℕ) → (n == n) ≡ true
-same_number n = grind (arith)
-
-pub same_part_self : (r : Part) → same_part r r ≡ true
-same_part_self r =
-    let k = part_key r in
-    let a = same_number k.kind in
-    let b = same_number k.first in
-    let c = same_number k.second in
-    ap (λ x. x && ((k.first == k.first) && (k.second == k.second))) a ∙ ap (λ x. x && (k.second == k.second)) b ∙ c
 
 -- all wires leave below a place
 abbrev pub Below : Env → ℕ → List Wire → Type 0
@@ -168,16 +155,16 @@ laid_added e b rs ws op o m g r l p q k f at = record {
 
     instr : (n : ℕ) (x : Part) (i : Instr) → (slice_get rs n ≡ Some x) ⊎ ((n ≡ length rs) × (r ≡ x)) → (slice_get b.instrs n ≡ Some i) ⊎ ((n ≡ length b.instrs) × (new ≡ i)) → IsAt e ws x i
     instr n x i (inl y) (inl z) = l.instrs n x i y z
-    instr n x i (inl y) (inr z) = let a = get_within rs n x y in let s = l.size in let t = z.0 in absurd (omega (arith, a, s, t))
-    instr n x i (inr y) (inl z) = let a = get_within b.instrs n i z in let s = l.size in let t = y.0 in absurd (omega (arith, a, s, t))
+    instr n x i (inl y) (inr z) = let a = slice_get_within rs n x y in let s = l.size in let t = z.0 in absurd (omega (arith, a, s, t))
+    instr n x i (inr y) (inl z) = let a = slice_get_within b.instrs n i z in let s = l.size in let t = y.0 in absurd (omega (arith, a, s, t))
     instr n x i (inr y) (inr z) = subst (λ u. IsAt e ws u i) y.1 (subst (λ u. IsAt e ws r u) z.1 here)
 
     mark : (n : ℕ) (x : Part) → (slice_get rs n ≡ Some x) ⊎ ((n ≡ length rs) × (r ≡ x)) → mark_of (b.marks ++ m ∷ []) n ≡ Blocks.mark_of e.site.block x
-    mark n x (inl y) = let a = get_within rs n x y in let s = l.mark_count in index_old b.marks m Unmarked n (omega (arith, a, s)) ∙ l.marks n x y
+    mark n x (inl y) = let a = slice_get_within rs n x y in let s = l.mark_count in index_old b.marks m Unmarked n (omega (arith, a, s)) ∙ l.marks n x y
     mark n x (inr y) = push_index b.marks m Unmarked n (y.0 ∙ sym l.mark_count) ∙ k ∙ ap (Blocks.mark_of e.site.block) y.1
 
     region : (n : ℕ) (x : Part) → has_region x ≡ true → (slice_get rs n ≡ Some x) ⊎ ((n ≡ length rs) × (r ≡ x)) → Builds.region_of (b.regions ++ g ∷ []) n ≡ Blocks.region_of e.site.block x
-    region n x z (inl y) = let a = get_within rs n x y in let s = l.region_count in index_old b.regions g Root n (omega (arith, a, s)) ∙ l.regions n x y z
+    region n x z (inl y) = let a = slice_get_within rs n x y in let s = l.region_count in index_old b.regions g Root n (omega (arith, a, s)) ∙ l.regions n x y z
     region n x z (inr y) = push_index b.regions g Root n (y.0 ∙ sym l.region_count) ∙ f (ap has_region y.1 ∙ z) ∙ ap (Blocks.region_of e.site.block) y.1
 
     place : (n : ℕ) (x : Part) → (slice_get rs n ≡ Some x) ⊎ ((n ≡ length rs) × (r ≡ x)) → e.place x ≡ n
@@ -185,8 +172,6 @@ laid_added e b rs ws op o m g r l p q k f at = record {
     place n x (inr y) = ap e.place (sym y.1) ∙ at ∙ sym y.0
 
 -- ONE WIRE MORE
-same_some : {X : Type 0} (x y : X) → Some x ≡ Some y → x ≡ y
-same_some x y h = cc
 
 with_it : (e : Env) (ws : List Wire) (w : Wire) (j : Instr) (s : Bool) (d : Dest) → d ≡ dest e w → s ≡ w.from.second → IsAt e ws w.from.part j → IsAt e (ws ++ w ∷ []) w.from.part (with_dest j s d)
 with_it e ws w j s d p q h = go s d p q
@@ -195,7 +180,7 @@ with_it e ws w j s d p q h = go s d p q
     r = w.from.part
 
     self : (t : Bool) → same_side (side r t) w.from ≡ same_bool t w.from.second
-    self t = ap (λ x. x && same_bool t w.from.second) (same_part_self r)
+    self t = ap (λ x. x && same_bool t w.from.second) (same_part-refl r)
 
     here : (t : Bool) → same_bool t w.from.second ≡ true → goes e (side r t) (ws ++ w ∷ []) ≡ goes e (side r t) ws ++ dest e w ∷ []
     here t f = this_side e (side r t) ws w (self t ∙ f)
@@ -227,7 +212,7 @@ laid_connected e b rs ws o to w l out t = record {
   marks = l.marks;
   regions = l.regions;
   placed = l.placed;
-  below = let a = get_within rs at w.from.part out.part in let p = from_at in below_push e (length rs) ws w l.below (omega (arith, a, p));
+  below = let a = slice_get_within rs at w.from.part out.part in let p = from_at in below_push e (length rs) ws w l.below (omega (arith, a, p));
 }
   where
     at : ℕ
@@ -256,7 +241,7 @@ laid_connected e b rs ws o to w l out t = record {
           seconds = old.seconds ∙ sym (other_side e (side x true) ws w (other_part e x true w.from ne));
         }
     instr n x i y (inr z) =
-        let part : w.from.part ≡ x = same_some w.from.part x (sym out.part ∙ ap (slice_get rs) (sym z.0) ∙ y) in
+        let part : w.from.part ≡ x = same_Some w.from.part x (sym out.part ∙ ap (slice_get rs) (sym z.0) ∙ y) in
         let old = l.instrs at w.from.part z.1 out.part z.2 in
         subst (λ u. IsAt e (ws ++ w ∷ []) u i) part (subst (λ u. IsAt e (ws ++ w ∷ []) w.from.part u) z.3 (with_it e ws w z.1 o.second d same out.second old))
 

@@ -1,5 +1,5 @@
 -- The entries, the nodes and the results of a block stand as they are written down.
-use Rattle.std.proofs.Common.{◌≡◌, ℕ, zero, suc, ◌+◌, ◌-◌, ◌<◌, ◌≤◌, Bool, true, false, List, [], ◌∷◌, ◌++◌, length, refl, sym, ap, ◌∙◌, subst, arith, append-nil, append_assoc, if◌then◌else◌, Some, None, Option, All}
+use Rattle.std.proofs.Common.{◌≡◌, ℕ, zero, suc, ◌+◌, ◌-◌, ◌<◌, ◌≤◌, Bool, true, false, List, [], ◌∷◌, ◌++◌, length, refl, sym, ap, ◌∙◌, subst, arith, append-nil, append_assoc, if◌then◌else◌, Some, None, Option, All, length-append}
 use Rattle.std.specs.Prelude.{slice_get}
 use Rattle.std.proofs.lemmas.List.Elements.{All-head, All-tail}
 use Rattle.std.proofs.lemmas.Bool.{lt-ltb}
@@ -27,7 +27,7 @@ use Rattle.law_contexts.specs.Expanded.{row, variant_in}
 use Rattle.law_wires.specs.Written.{Wire, wire, is_shared, is_triggered, exit_of, leaves, trigger_side, result_wires, kind_parts, node_parts}
 use Rattle.law_wires.specs.Fit.{IsCallee, kind_ports, ComesBefore, IsLineFit, IsFit}
 use Rattle.law_wires.proofs.Laid.{IsLaid, laid_added, source_out}
-use Rattle.law_wires.proofs.Standing.{Stand, stand_left, stand_right, stand_row, length_both, row_length, row_push}
+use Rattle.law_wires.proofs.Standing.{Stand, stand_left, stand_right, stand_row, row_length, row_push}
 use Rattle.law_wires.proofs.Arcs.{kind_arcs, node_arcs}
 use Rattle.law_wires.proofs.LaidNodes.{env, scope, Grown, grown_same, grown_added, grown_meeting, leaves_by, leaves_there, its_region, its_exit, its_cond, its_ports, operator_laid, answered_laid, merge_laid, cond_laid, enter_laid}
 use Rattle.law_wires.proofs.LaidCalls.{signal_out, called_laid, strict_laid, loop_laid}
@@ -107,7 +107,7 @@ module _ (fl : Flow) (s : Site) (place : Part → ℕ) (apart : (r q : Part) →
       let parts : List Part = kind_parts fl s n (length x.sources) x.kind in
       let arcs : List Wire = kind_arcs s n x.region x.kind x.sources in
       let d : Build = with_kind c Sc n x.kind x.region x.sources in
-      let both = length_both rs parts in
+      let both = length-append rs parts in
       let one : G d (rs ++ parts) (ws ++ arcs) (n + 1) = kind_laid c rs ws n x.region x.kind x.sources h e (fit.nodes n x e) (stand_left place (length rs) parts (node_parts fl s (n + 1) xs) at) in
       let rest = nodes_laid d (rs ++ parts) (ws ++ arcs) (n + 1) xs one (λ j y g. let k : (n + 1) + j ≡ n + suc j = omega arith in ap (node_at b) k ∙ there (suc j) y g)
       (stand_right place (length rs) (length (rs ++ parts)) parts (node_parts fl s (n + 1) xs) at both) in
@@ -182,7 +182,7 @@ module _ (fl : Flow) (s : Site) (place : Part → ℕ) (apart : (r q : Part) →
   returns_laid c rs ws n from (x ∷ ss) h all at =
       let d : Build = meeting c (Op.Return from) Unmarked Root (first_of 0) (outlet_of c x) in
       let two : List Wire = wire (side Entry false) (Result from) Left ∷ wire (leaves s x) (Result from) Right ∷ [] in
-      let size = length_both rs (Result from ∷ []) in
+      let size = length-append rs (Result from ∷ []) in
       let met = grown_meeting fl s place apart c rs ws n (Op.Return from) Unmarked Root (first_of 0) (outlet_of c x) (side Entry false) (leaves s x) (Result from) h h.entry
       (source_out (env fl s place apart) c rs n x h.exits (All-head (ComesBefore fl b n) x ss all)) refl refl refl (λ f. refl) at.0 in
       let rest = returns_laid d (rs ++ Result from ∷ []) (ws ++ two) n (from + 1) ss met (All-tail (ComesBefore fl b n) x ss all)

@@ -1,5 +1,5 @@
 -- The code of calls, strict calls and loops stands as it is written down.
-use Rattle.std.proofs.Common.{◌≡◌, ℕ, zero, suc, ◌+◌, ◌-◌, ◌<◌, ◌≤◌, true, false, List, [], ◌∷◌, ◌++◌, length, refl, sym, ap, ◌∙◌, subst, arith, append-nil, append_assoc, Some, All}
+use Rattle.std.proofs.Common.{◌≡◌, ℕ, zero, suc, ◌+◌, ◌-◌, ◌<◌, ◌≤◌, true, false, List, [], ◌∷◌, ◌++◌, length, refl, sym, ap, ◌∙◌, subst, arith, append-nil, append_assoc, Some, All, length-append}
 use Rattle.std.specs.Prelude.{slice_get}
 use Rattle.std.proofs.lemmas.List.Elements.{All-head, All-tail}
 use Rattle.tags.specs.declared.value.Origin.TheVariants.{Untold}
@@ -21,7 +21,7 @@ use Rattle.law_contexts.specs.Expanded.{row, variant_in, invoked}
 use Rattle.law_wires.specs.Written.{Wire, wire, leaves, leaves_at, trigger_side, meet_wires, sender_wires, strict_wires, strict_end}
 use Rattle.law_wires.specs.Fit.{port_count, ComesBefore, IsLineFit}
 use Rattle.law_wires.proofs.Laid.{OutAt, source_out, trigger_out, out_more}
-use Rattle.law_wires.proofs.Standing.{Stand, stand_left, stand_right, stand_row, length_both, row_length, row_push}
+use Rattle.law_wires.proofs.Standing.{Stand, stand_left, stand_right, stand_row, row_length, row_push}
 use Rattle.law_wires.proofs.Arcs.{invoke_arcs, strict_call_arcs, credit_arcs}
 use Rattle.law_wires.proofs.LaidNodes.{env, Grown, grown_same, grown_added, grown_connected, grown_behind, grown_meeting, grown_exited, out_here}
 
@@ -79,7 +79,7 @@ module _ (fl : Flow) (s : Site) (place : Part → ℕ) (apart : (r q : Part) →
       let qs : List Part = rs ++ row (Landing n) 0 k in
       let d : Build = copies c g k in
       let zeroless : 0 + k ≡ k = omega arith in
-      let long = length_both rs (row (Landing n) 0 k) in
+      let long = length-append rs (row (Landing n) 0 k) in
       let count = row_length (Landing n) 0 k in
       let here = stand_row place (Landing n) (length rs) 0 q k at (omega (arith, l)) in
       let new = grown_added fl s place apart d qs ws n Op.Copy Untold Unmarked g (Landing n (0 + k)) rest refl refl refl (λ e. region) (here ∙ omega (arith, long, count)) in
@@ -121,7 +121,7 @@ module _ (fl : Flow) (s : Site) (place : Part → ℕ) (apart : (r q : Part) →
       let long3 = length_push p2 (Linker n) in
       let rows_at : Stand place (length p3) (senders ++ landings) = subst (λ k. Stand place k (senders ++ landings)) (omega (arith, long1, long2, long3)) at.1.1.1 in
       let g4 : G c4 p4 ((((ws ++ w1) ++ w2) ++ w3) ++ w4) n = senders_laid c3 p3 (((ws ++ w1) ++ w2) ++ w3) n f 0 g (first_of (length c1.instrs)) ss g3 all (out_more p2 (Linker n ∷ []) (first_of (length c1.instrs)) (side (Fanned n) false) o2) code region (stand_left place (length p3) senders landings rows_at) in
-      let landings_at : Stand place (length p4) landings = stand_right place (length p3) (length p4) senders landings rows_at (length_both p3 senders) in
+      let landings_at : Stand place (length p4) landings = stand_right place (length p3) (length p4) senders landings rows_at (length-append p3 senders) in
       let g5 : G c5 p5 ((((ws ++ w1) ++ w2) ++ w3) ++ w4) n = copies_laid c4 p4 ((((ws ++ w1) ++ w2) ++ w3) ++ w4) n q q g g4 region (omega arith) landings_at in
       let first_at = stand_row place (Landing n) (length p4) 0 q 0 landings_at some in
       let size = g4.laid.size in
@@ -147,7 +147,7 @@ module _ (fl : Flow) (s : Site) (place : Part → ℕ) (apart : (r q : Part) →
       let parts : List Part = invoked n (length ss) q in
       let d : Build = Rows.invoke (behind c o Op.Frame g) (length c.instrs) f q g ss in
       let first : G d (rs ++ parts) (ws ++ invoke_arcs s n t ss) (n + 1) = invoked_laid c rs ws n f q g o t ss h all out code region some no_cond ports leave (stand_left place (length rs) parts (CallDone n ∷ []) at) in
-      let last = stand_right place (length rs) (length (rs ++ parts)) parts (CallDone n ∷ []) at (length_both rs parts) in
+      let last = stand_right place (length rs) (length (rs ++ parts)) parts (CallDone n ∷ []) at (length-append rs parts) in
       let done = grown_added fl s place apart d (rs ++ parts) (ws ++ invoke_arcs s n t ss) (n + 1) Op.Copy Untold Unmarked g (CallDone n) first refl refl refl (λ x. region) last.0 in
       subst (λ xs. G (quieted d Op.Copy g) xs (ws ++ invoke_arcs s n t ss) (n + 1)) (append_assoc rs parts (CallDone n ∷ [])) done
 
@@ -194,7 +194,7 @@ module _ (fl : Flow) (s : Site) (place : Part → ℕ) (apart : (r q : Part) →
       let j : Rows.Joined = Rows.join_sources c o g ss in
       let last : Side = strict_end n 1 (leaves s x) ss in
       let done = called_laid j.build (rs ++ joins) (ws ++ strict_wires s n 1 (leaves s x) ss) n f q g j.signal last (x ∷ ss) joined.laid all joined.out code region some no_cond ports leave
-      (stand_right place (length rs) (length (rs ++ joins)) joins rest at2 (length_both rs joins)) in
+      (stand_right place (length rs) (length (rs ++ joins)) joins rest at2 (length-append rs joins)) in
       let end : Build = Rows.strict_call c f q g (x ∷ ss) in
       grown_same fl s place apart end ((rs ++ joins) ++ rest) (rs ++ strict_parts n (length (x ∷ ss)) q) ((ws ++ strict_wires s n 1 (leaves s x) ss) ++ invoke_arcs s n last (x ∷ ss)) (ws ++ strict_call_arcs s n (x ∷ ss)) (n + 1)
       (append_assoc rs joins rest ∙ ap (λ k. rs ++ (row (Strict n) 1 k ++ rest)) same) (append_assoc ws (strict_wires s n 1 (leaves s x) ss) (invoke_arcs s n last (x ∷ ss))) done
@@ -257,7 +257,7 @@ module _ (fl : Flow) (s : Site) (place : Part → ℕ) (apart : (r q : Part) →
       let rest_at = next rs (Opener n) (invoked n m m ++ credit_parts n) at.1 in
       let g2 : G c2 (p1 ++ invoked n m m) ((ws ++ w1) ++ arcs) (n + 1) = invoked_laid c1 p1 (ws ++ w1) n f m g (first_of (length c.instrs)) (side (Opener n) false) ss g1 all open_out code region some no_cond ports leave
       (stand_left place (length p1) (invoked n m m) (credit_parts n) rest_at) in
-      let done = credits_laid c2 (p1 ++ invoked n m m) ((ws ++ w1) ++ arcs) n k (n + 1) g g2 bound region (stand_right place (length p1) (length (p1 ++ invoked n m m)) (invoked n m m) (credit_parts n) rest_at (length_both p1 (invoked n m m))) in
+      let done = credits_laid c2 (p1 ++ invoked n m m) ((ws ++ w1) ++ arcs) n k (n + 1) g g2 bound region (stand_right place (length p1) (length (p1 ++ invoked n m m)) (invoked n m m) (credit_parts n) rest_at (length-append p1 (invoked n m m))) in
       grown_same fl s place apart (Rows.repeat c f k g ss) ((p1 ++ invoked n m m) ++ credit_parts n) (rs ++ loop_parts n m) (((ws ++ w1) ++ arcs) ++ credit_arcs n) (ws ++ loop_arcs n t ss) (n + 1)
       (three rs (Opener n ∷ []) (invoked n m m) (credit_parts n)) (three ws w1 arcs (credit_arcs n)) done
     where

@@ -1,5 +1,5 @@
 -- The chains that join the ends of a region, and the ends of conditionals, stand as they are written down.
-use Rattle.std.proofs.Common.{◌≡◌, ℕ, ◌+◌, Bool, true, false, List, [], ◌∷◌, ◌++◌, length, refl, sym, ap, ◌∙◌, subst, arith, append-nil, append_assoc, if◌then◌else◌, Some, None, Option, ◌⊎◌, inl, inr}
+use Rattle.std.proofs.Common.{◌≡◌, ℕ, ◌+◌, Bool, true, false, List, [], ◌∷◌, ◌++◌, length, refl, sym, ap, ◌∙◌, subst, arith, append-nil, append_assoc, if◌then◌else◌, Some, None, Option, ◌⊎◌, inl, inr, length-append}
 use Rattle.std.specs.Prelude.{slice_get}
 use Rattle.tags.specs.declared.value.Origin.TheVariants.{Untold}
 use Rattle.tags.specs.declared.token.Port.{Port}
@@ -20,7 +20,7 @@ use Rattle.law_contexts.specs.Blocks.{Side, side, leaves_in, lies_in}
 use Rattle.law_contexts.specs.Expanded.{row}
 use Rattle.law_wires.specs.Written.{Wire, wire, in_region, chain_wires, chain_end, joined_parts, joined_wires, signal_wires, cond_parts, cond_sides, Ended, arm_ends, close}
 use Rattle.law_wires.proofs.Laid.{Env, IsLaid, OutAt, out_more, laid_added, laid_connected, laid_meeting}
-use Rattle.law_wires.proofs.Standing.{Stand, stand_left, stand_right, length_both}
+use Rattle.law_wires.proofs.Standing.{Stand, stand_left, stand_right}
 use Rattle.law_wires.proofs.LaidEnds.{AreEnds, ends_more, ends_push}
 
 module _ (e : Env) where
@@ -77,7 +77,7 @@ module _ (e : Env) where
           let new = laid_meeting e c rs ws Op.Sync Unmarked r o x.outlet t u (Join r n) l out h.1 refl refl refl (λ f. refl) at.0 in
           let size = l.size in
           let zeroless : length c.instrs + 0 ≡ length rs = omega (arith, size) in
-          let long = length_both rs (Join r n ∷ []) in
+          let long = length-append rs (Join r n ∷ []) in
           let last : OutAt (rs ++ Join r n ∷ []) (first_of (length c.instrs)) (side (Join r n) false) = record { part = ap (slice_get (rs ++ Join r n ∷ [])) zeroless ∙ get_new rs (Join r n); second = refl } in
           let rest = more d (rs ++ Join r n ∷ []) (ws ++ two) (n + 1) (first_of (length c.instrs)) (side (Join r n) false) new (ends_more e rs (Join r n ∷ []) es ts h.2) last
           (subst (λ k. Stand e.place k (row (Join r) (n + 1) (length (in_region b r ts)))) (omega (arith, long)) at.1) in
@@ -205,12 +205,12 @@ module _ (e : Env) where
       let last : List Part = cond_parts k (ts ++ vs) in
       let one = region_joined c.build x.parts x.wires c.ends x.ends (Arm k true) h.laid h.ends (stand_left e.place (length x.parts) first (second ++ last) at) in
       let s : Signalled = join_ends c.build Ends.no_signal (Arm k true) c.ends in
-      let long = length_both x.parts first in
+      let long = length-append x.parts first in
       let at2 = stand_right e.place (length x.parts) (length (x.parts ++ first)) first (second ++ last) at long in
       let ends2 = ends_more e x.parts first c.ends x.ends h.ends in
       let two = region_joined s.build (x.parts ++ first) (x.wires ++ joined_wires (Arm k true) ts) c.ends x.ends (Arm k false) one.laid ends2 (stand_left e.place (length (x.parts ++ first)) second last at2) in
       let u : Signalled = join_ends s.build Ends.no_signal (Arm k false) c.ends in
-      let long2 = length_both (x.parts ++ first) second in
+      let long2 = length-append (x.parts ++ first) second in
       let parts : List Part = (x.parts ++ first) ++ second in
       let wires : List Wire = (x.wires ++ joined_wires (Arm k true) ts) ++ joined_wires (Arm k false) vs in
       let all = both_laid u.build parts wires c.ends x.ends k r s.signal u.signal ts vs two.laid (ends_more e (x.parts ++ first) second c.ends x.ends ends2)

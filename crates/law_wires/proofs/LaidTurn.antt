@@ -1,5 +1,5 @@
 -- The code of a loop's turn stands as it is written down.
-use Rattle.std.proofs.Common.{◌≡◌, ℕ, zero, suc, ◌+◌, ◌<◌, ◌≤◌, Bool, true, false, List, [], ◌∷◌, ◌++◌, length, refl, sym, ap, ◌∙◌, subst, arith, append-nil, append_assoc, All}
+use Rattle.std.proofs.Common.{◌≡◌, ℕ, zero, suc, ◌+◌, ◌<◌, ◌≤◌, Bool, true, false, List, [], ◌∷◌, ◌++◌, length, refl, sym, ap, ◌∙◌, subst, arith, append-nil, append_assoc, All, length-append}
 use Rattle.std.specs.Prelude.{slice_get}
 use Rattle.std.proofs.lemmas.List.Elements.{All-head, All-tail}
 use Rattle.tags.specs.declared.token.Port.TheVariants.{Left}
@@ -19,7 +19,7 @@ use Rattle.law_contexts.specs.Expanded.{row, turn_parts}
 use Rattle.law_wires.specs.Written.{Wire, wire, leaves, meet_wires, value_wires, next_wires, last_wires}
 use Rattle.law_wires.specs.Fit.{ComesBefore}
 use Rattle.law_wires.proofs.Laid.{OutAt, source_out, out_more}
-use Rattle.law_wires.proofs.Standing.{Stand, stand_left, stand_right, stand_row, length_both, row_length, row_push}
+use Rattle.law_wires.proofs.Standing.{Stand, stand_left, stand_right, stand_row, row_length, row_push}
 use Rattle.law_wires.proofs.Arcs.{turn_arcs}
 use Rattle.law_wires.proofs.LaidNodes.{env, Grown, grown_same, grown_behind, grown_meeting, out_here}
 use Rattle.law_wires.proofs.LaidCalls.{get_row}
@@ -76,7 +76,7 @@ module _ (fl : Flow) (s : Site) (place : Part → ℕ) (apart : (r q : Part) →
       let rest = next_laid c rs ws n k m values o h (omega (arith, l)) out vs at in
       let qs : List Part = rs ++ row NextSender 1 k in
       let d : Build = next_values c s.own (Arm (node_count b) true) o values k in
-      let long = length_both rs (row NextSender 1 k) in
+      let long = length-append rs (row NextSender 1 k) in
       let count = row_length NextSender 1 k in
       let here = stand_row place NextSender (length rs) 1 m k at (omega (arith, l)) in
       let more = row NextSender 1 k in
@@ -95,7 +95,7 @@ module _ (fl : Flow) (s : Site) (place : Part → ℕ) (apart : (r q : Part) →
       let rest = last_laid c rs ws n k m values o h (omega (arith, l)) out vs at in
       let qs : List Part = rs ++ row LastReturn 0 k in
       let d : Build = last_values c (Arm (node_count b) false) o values k in
-      let long = length_both rs (row LastReturn 0 k) in
+      let long = length-append rs (row LastReturn 0 k) in
       let count = row_length LastReturn 0 k in
       let here = stand_row place LastReturn (length rs) 0 m k at (omega (arith, l)) in
       let more = row LastReturn 0 k in
@@ -171,7 +171,7 @@ module _ (fl : Flow) (s : Site) (place : Part → ℕ) (apart : (r q : Part) →
       let c9 : Build = last_values c8 no (second_of cont) at_values m in
       let long1 = length_push rs TurnCont in
       let long2 = length_push p1 TurnFlag in
-      let long3 = length_both p2 values in
+      let long3 = length-append p2 values in
       let from = source_out e c rs n x h.exits first in
       let g1 : G c1 p1 v1 n = grown_meeting fl s place apart c rs ws n Op.Switch OfFlag Root (first_of 0) f (side Entry false) t TurnCont h h.entry from refl refl refl (λ q. absurd (cc)) at.0 in
       let cont1 : (u : Bool) → OutAt p1 (outlet cont 0 u) (side TurnCont u) = λ u. out_here fl s place apart c rs TurnCont u h.laid.size in
@@ -206,12 +206,12 @@ module _ (fl : Flow) (s : Site) (place : Part → ℕ) (apart : (r q : Part) →
       let values7 : ValuesAt p7 at_values m = λ j u l. more (outlet at_values j u) (side (TurnValue (1 + j)) u) (values3 j u l) in
       let at7 : Stand place (length p7) (nexts ++ (lasts ++ DrainReturn ∷ [])) = subst (λ k. Stand place k (nexts ++ (lasts ++ DrainReturn ∷ []))) (omega (arith, long4, long5, long6, long7)) at3.1.1.1.1 in
       let g8 : G c8 p8 v8 n = next_laid c7 p7 v7 n m m at_values copy g7 (omega arith) (out_more p6 (NextSender 0 ∷ []) copy (side NextFanned false) copy6) values7 (stand_left place (length p7) nexts (lasts ++ DrainReturn ∷ []) at7) in
-      let at8 : Stand place (length p8) (lasts ++ DrainReturn ∷ []) = stand_right place (length p7) (length p8) nexts (lasts ++ DrainReturn ∷ []) at7 (length_both p7 nexts) in
+      let at8 : Stand place (length p8) (lasts ++ DrainReturn ∷ []) = stand_right place (length p7) (length p8) nexts (lasts ++ DrainReturn ∷ []) at7 (length-append p7 nexts) in
       let values8 : ValuesAt p8 at_values m = λ j u l. out_more p7 nexts (outlet at_values j u) (side (TurnValue (1 + j)) u) (values7 j u l) in
       let cont8 : OutAt p8 (second_of cont) (side TurnCont true) = out_more p7 nexts (second_of cont) (side TurnCont true) (more (second_of cont) (side TurnCont true) (cont3 true)) in
       let flag8 : OutAt p8 (second_of flag) (side TurnFlag true) = out_more p7 nexts (second_of flag) (side TurnFlag true) (more (second_of flag) (side TurnFlag true) (flag3 true)) in
       let g9 : G c9 p9 v9 n = last_laid c8 p8 v8 n m m at_values (second_of cont) g8 (omega arith) cont8 values8 (stand_left place (length p8) lasts (DrainReturn ∷ []) at8) in
-      let at9 : Stand place (length p9) (DrainReturn ∷ []) = stand_right place (length p8) (length p9) lasts (DrainReturn ∷ []) at8 (length_both p8 lasts) in
+      let at9 : Stand place (length p9) (DrainReturn ∷ []) = stand_right place (length p8) (length p9) lasts (DrainReturn ∷ []) at8 (length-append p8 lasts) in
       let g10 = grown_meeting fl s place apart c9 p9 v9 n (Op.Return (m + 2)) Unmarked no (second_of cont) (second_of flag) (side TurnCont true) (side TurnFlag true) DrainReturn g9
       (out_more p8 lasts (second_of cont) (side TurnCont true) cont8) (out_more p8 lasts (second_of flag) (side TurnFlag true) flag8) (ap (λ k. Op.Return (k + 2)) count) refl refl (λ q. refl) at9.0 in
       grown_same fl s place apart (iterate c s.own (node_count b) (x ∷ ss)) (p9 ++ DrainReturn ∷ []) (rs ++ turned_parts m) (v9 ++ w10) (ws ++ turn_arcs s (x ∷ ss)) n

@@ -1,6 +1,7 @@
 -- What is known of the parts of a block: a gate lies in an arm, and where the machine answers, and at a turn, arcs leave.
 use Rattle.std.proofs.Common.{◌≡◌, ◌≢◌, ℕ, zero, suc, ◌+◌, ◌-◌, ◌<◌, ◌==◌, ◌&&◌, Bool, true, false, List, [], ◌∷◌, ◌++◌, length, refl, ap, ◌∙◌, subst, arith, if◌then◌else◌, Some}
 use Rattle.std.specs.Prelude.{slice_get}
+use Rattle.lemmas.proofs.Bools.{equal_itself}
 use Rattle.tags.specs.declared.token.Port.TheVariants.{Left, Right}
 use Rattle.semantics.specs.declared.graph.Region.{Region}
 use Rattle.semantics.specs.declared.graph.Region.TheVariants.{Root, Arm}
@@ -14,11 +15,11 @@ use Rattle.law_contexts.specs.Parts.{Part, Entry, Line, Gate, Opener, Framer, Fa
 use Rattle.law_contexts.specs.Blocks.{Side, side, Site, lies_in, outputs_in}
 use Rattle.law_contexts.specs.Expanded as Expanded
 use Rattle.law_contexts.specs.Expanded.{row, invoked}
+use Rattle.law_contexts.proofs.Sames.{same_part-refl}
 use Rattle.law_wires.specs.Written.{Wire, wire, same_side, is_open, is_shared, is_triggered, answer_parts, trigger_parts, trigger_side, kind_parts, node_parts, inner_parts, inner_wires, sender_wires, strict_wires, strict_end, leaves, first_ends, joined_parts, joined_wires, signal_wires, Ended, close, close_kind, close_nodes, parts_in}
 use Rattle.law_wires.specs.Written as Written
 use Rattle.law_wires.specs.Fit.{IsFit}
-use Rattle.law_wires.proofs.Laid.{Env, same_part_self}
-use Rattle.law_wires.proofs.Counts.{same_number}
+use Rattle.law_wires.proofs.Laid.{Env}
 use Rattle.law_wires.proofs.Parts.{follow}
 use Rattle.law_wires.proofs.Arcs.{invoke_arcs, strict_call_arcs, credit_arcs, kind_arcs, node_arcs, turn_arcs, tail_arcs, inner_arcs}
 use Rattle.law_wires.proofs.LaidNodes.{env}
@@ -26,7 +27,7 @@ use Rattle.law_wires.proofs.LaidEnds.{AllUsual, IsUsual}
 
 -- OPEN SIDES
 side_self : (t : Side) → same_side t t ≡ true
-side_self t = ap (λ x. x && Written.same_bool t.second t.second) (same_part_self t.part) ∙ both t.second
+side_self t = ap (λ x. x && Written.same_bool t.second t.second) (same_part-refl t.part) ∙ both t.second
   where
     both : (s : Bool) → Written.same_bool s s ≡ true
     both true = refl
@@ -128,10 +129,10 @@ module _ (fl : Flow) (S : Site) (place : Part → ℕ) (apart : (r q : Part) →
 
   -- where the machine answers, an arc leaves
   self : (n : ℕ) → ((n == n) && true) ≡ true
-  self n = ap (λ t. t && true) (same_number n)
+  self n = ap (λ t. t && true) (equal_itself n)
 
   twice : (n : ℕ) → (((n == n) && true) && true) ≡ true
-  twice n = ap (λ t. (t && true) && true) (same_number n)
+  twice n = ap (λ t. (t && true) && true) (equal_itself n)
 
   invoked_usual : (n m q : ℕ) (t : Side) (xs : List Source) → Usual (invoke_arcs S n t xs) (invoked n m q)
   invoked_usual n m q t xs =

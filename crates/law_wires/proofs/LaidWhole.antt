@@ -1,5 +1,5 @@
 -- The whole code of a block stands as it is written down.
-use Rattle.std.proofs.Common.{◌≡◌, ℕ, suc, ◌+◌, Bool, true, false, List, [], ◌∷◌, ◌++◌, length, refl, sym, ap, ◌∙◌, subst, arith, append_assoc, if◌then◌else◌, Some, None}
+use Rattle.std.proofs.Common.{◌≡◌, ℕ, suc, ◌+◌, Bool, true, false, List, [], ◌∷◌, ◌++◌, length, refl, sym, ap, ◌∙◌, subst, arith, append_assoc, if◌then◌else◌, Some, None, length-append}
 use Rattle.std.specs.Prelude.{slice_get}
 use Rattle.tags.specs.declared.token.Port.TheVariants.{Left, Right}
 use Rattle.semantics.specs.declared.graph.Region.{Region}
@@ -22,7 +22,7 @@ use Rattle.law_wires.specs.Written.{Wire, wire, same_side, is_open, is_shared, i
 use Rattle.law_wires.specs.Written as Written
 use Rattle.law_wires.specs.Fit.{IsFit}
 use Rattle.law_wires.proofs.Laid.{Env, IsLaid, OutAt, out_more, laid_behind}
-use Rattle.law_wires.proofs.Standing.{Stand, stand_left, stand_right, length_both}
+use Rattle.law_wires.proofs.Standing.{Stand, stand_left, stand_right}
 use Rattle.law_wires.proofs.Parts.{follow, node_within}
 use Rattle.law_wires.proofs.Arcs.{node_arcs, tail_arcs, inner_arcs, inner_with, closed_with, root_with, arcs_in}
 use Rattle.law_wires.proofs.ArcsSame.{inners_agree, ends_agree, parts_with, parts_same}
@@ -89,7 +89,7 @@ module _ (e : Env) where
       let tail = stand_right e.place 0 (length x.parts) x.parts (joins ++ Parts.End ∷ []) at (omega arith) in
       let one = region_joined e c.build x.parts x.wires c.ends x.ends Root h.laid h.ends (stand_left e.place (length x.parts) joins (Parts.End ∷ []) tail) in
       let s : Signalled = join_ends c.build Ends.no_signal Root c.ends in
-      let long = length_both x.parts joins in
+      let long = length-append x.parts joins in
       let here = (stand_right e.place (length x.parts) (length parts) joins (Parts.End ∷ []) tail long).0 in
       let size = one.laid.size in
       let two = laid_behind e s.build parts wires (first_of 0) (side Entry false) (Op.Release offset) Root Parts.End one.laid (out_more x.parts joins (first_of 0) (side Entry false) a) op refl refl (λ f. refl) here in

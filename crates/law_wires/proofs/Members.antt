@@ -2,6 +2,8 @@
 use Rattle.std.proofs.Common.{◌≡◌, ◌≢◌, ℕ, ◌+◌, ◌<◌, ◌⊎◌, inl, inr, Bool, true, false, ◌&&◌, List, [], ◌∷◌, ◌++◌, refl, sym, ap, ◌∙◌, subst, arith, if◌then◌else◌, ◌==◌, Contains}
 use Rattle.std.specs.Prelude.{⊤}
 use Rattle.std.proofs.lemmas.Bool.{eqb-true}
+use Rattle.lemmas.proofs.Contains.{contains_cases, contains_head, contains_tail, contains_none}
+use Rattle.lemmas.proofs.Bools.{first_of_and}
 use Rattle.tags.specs.declared.token.Port.{Port}
 use Rattle.semantics.specs.declared.graph.Region.{Region}
 use Rattle.semantics.specs.declared.graph.Region.TheVariants.{Root, Arm}
@@ -11,12 +13,11 @@ use Rattle.law_net.specs.Roles.{one}
 use Rattle.law_contexts.specs.Parts.{Part, Inlet, same_part}
 use Rattle.law_contexts.specs.Blocks.{Side, side, leaves_in, is_switch}
 use Rattle.law_contexts.specs.Wires.{is_side, has_no_wire}
+use Rattle.law_contexts.proofs.Sames.{same_part-true, same_part-refl}
 use Rattle.law_wires.specs.Written.{Wire, wire, along, inlet_of, same_side, same_bool, sides_of, sides, open_of, is_open, in_region}
-use Rattle.law_wires.proofs.Same.{same_is, side_is}
+use Rattle.law_wires.proofs.Same.{side_is}
 use Rattle.law_wires.proofs.Counts.{tally}
-use Rattle.law_wires.proofs.Laid.{same_part_self}
 use Rattle.law_wires.proofs.There.{region_self}
-use Rattle.law_wires.proofs.Places.{contains_first, contains_later, contains_none, contains_cases}
 
 -- SAMENESS
 bool_self : (s : Bool) → same_bool s s ≡ true
@@ -24,11 +25,7 @@ bool_self true = refl
 bool_self false = refl
 
 pub side_self : (t : Side) → same_side t t ≡ true
-side_self t = ap (λ x. x && same_bool t.second t.second) (same_part_self t.part) ∙ bool_self t.second
-
-first_true : (s t : Bool) → (s && t) ≡ true → s ≡ true
-first_true true t h = refl
-first_true false t h = absurd (cc)
+side_self t = ap (λ x. x && same_bool t.second t.second) (same_part-refl t.part) ∙ bool_self t.second
 
 no_false : (s : Bool) → (s && false) ≡ true → ⊥
 no_false true h = cc
@@ -38,8 +35,8 @@ pub region_is : (q r : Region) → same_region q r ≡ true → q ≡ r
 region_is Root Root h = refl
 region_is Root (Arm k t) h = absurd (cc)
 region_is (Arm k t) Root h = absurd (cc)
-region_is (Arm k true) (Arm l true) h = let same : k ≡ l = eqb-true k l (first_true (k == l) true h) in ap (λ n. Arm n true) same
-region_is (Arm k false) (Arm l false) h = let same : k ≡ l = eqb-true k l (first_true (k == l) true h) in ap (λ n. Arm n false) same
+region_is (Arm k true) (Arm l true) h = let same : k ≡ l = eqb-true k l (first_of_and (k == l) true h) in ap (λ n. Arm n true) same
+region_is (Arm k false) (Arm l false) h = let same : k ≡ l = eqb-true k l (first_of_and (k == l) true h) in ap (λ n. Arm n false) same
 region_is (Arm k true) (Arm l false) h = absurd (no_false (k == l) h)
 region_is (Arm k false) (Arm l true) h = absurd (no_false (k == l) h)
 
@@ -161,7 +158,7 @@ side_in t [] l h o = absurd (omega (arith, l))
 side_in t (x ∷ xs) l h o = go (same_part t.part x) refl l (λ m. side_in t xs m h o)
   where
     go : (q : Bool) → same_part t.part x ≡ q → 0 < one q + tally (same_part t.part) xs → (0 < tally (same_part t.part) xs → In t (sides xs)) → In t (sides (x ∷ xs))
-    go true e l more = in_left t (sides_of x) (sides xs) (subst (λ r. In t (sides_of r)) (same_is t.part x e) (sides_self t h o))
+    go true e l more = in_left t (sides_of x) (sides xs) (subst (λ r. In t (sides_of r)) (same_part-true t.part x e) (sides_self t h o))
     go false e l more = in_right t (sides_of x) (sides xs) (more (omega (arith, l)))
 
 -- a side of a list of parts is a side of one of them, which sends along wires
@@ -314,11 +311,11 @@ contains_along b v [] h = absurd h
 contains_along b v (w ∷ ws) (inl e) =
     let same : same_side v.from w.from ≡ true = ap (λ (u : Wire). same_side v.from u.from) e ∙ side_self v.from in
     subst (λ q. Contains (if q then inlet_of b w ∷ along b v.from ws else along b v.from ws) (inlet_of b v)) (sym same)
-    (subst (λ x. Contains (inlet_of b w ∷ along b v.from ws) x) (ap (inlet_of b) e) (contains_first (inlet_of b w) (along b v.from ws)))
+    (subst (λ x. Contains (inlet_of b w ∷ along b v.from ws) x) (ap (inlet_of b) e) (contains_head (inlet_of b w) (along b v.from ws)))
 contains_along b v (w ∷ ws) (inr h) = go (same_side v.from w.from) (contains_along b v ws h)
   where
     go : (q : Bool) → Contains (along b v.from ws) (inlet_of b v) → Contains (if q then inlet_of b w ∷ along b v.from ws else along b v.from ws) (inlet_of b v)
-    go true c = contains_later (inlet_of b w) (along b v.from ws) (inlet_of b v) c
+    go true c = contains_tail (inlet_of b w) (along b v.from ws) (inlet_of b v) c
     go false c = c
 
 -- who is used sends along some wire
@@ -327,5 +324,5 @@ used_along b t [] h = absurd (cc)
 used_along b t (w ∷ ws) h = go (same_side t w.from) h (used_along b t ws)
   where
     go : (s : Bool) → (if s then false else is_open t ws) ≡ false → (Used t ws → (x : Inlet) × Contains (along b t ws) x) → (x : Inlet) × Contains (if s then inlet_of b w ∷ along b t ws else along b t ws) x
-    go true h more = (inlet_of b w, contains_first (inlet_of b w) (along b t ws))
+    go true h more = (inlet_of b w, contains_head (inlet_of b w) (along b t ws))
     go false h more = more h

@@ -1,6 +1,7 @@
 -- The wires of a node are among the wires of its block.
 use Rattle.std.proofs.Common.{◌≡◌, ℕ, ◌+◌, ◌<◌, ◌≤◌, ◌⊎◌, inl, inr, Bool, true, false, List, [], ◌∷◌, ◌++◌, length, sym, ap, ◌∙◌, subst, arith, Some}
 use Rattle.std.proofs.lemmas.Bool.{cases_lt}
+use Rattle.std.proofs.lemmas.Option.{same_Some}
 use Rattle.tags.specs.declared.token.Port.TheVariants.{Left, Right}
 use Rattle.semantics.specs.declared.graph.Region.TheVariants.{Root, Arm}
 use Rattle.semantics.specs.declared.graph.Kind.{Kind}
@@ -11,7 +12,7 @@ use Rattle.law_contexts.specs.Parts.{CondEnd}
 use Rattle.law_contexts.specs.Blocks.{side, Site}
 use Rattle.law_wires.specs.Written as Written
 use Rattle.law_wires.specs.Written.{Wire, wire, kind_wires, node_wires, tail_wires, joined_wires, signal_wires, Ended, arm_ends, close, close_kind, close_nodes, close_flag, inner, root_ends, wires_in}
-use Rattle.law_wires.proofs.Counts.{same_some, Follow, follow_more, follow_here}
+use Rattle.law_wires.proofs.Counts.{Follow, follow_more, follow_here}
 use Rattle.law_wires.proofs.Members.{InW, wire_left, wire_right}
 use Rattle.law_wires.proofs.Parts.{follow, node_within}
 
@@ -27,7 +28,7 @@ module _ (fl : Flow) (s : Site) where
       go (inl a) more = wire_right v (kind_wires s n y.region y.kind y.sources) (node_wires s (n + 1) xs) (more (omega (arith, a)) (omega (arith, u)))
       go (inr a) more =
           let same : m ≡ n = omega (arith, l, a) in
-          let it : x ≡ y = same_some x y (sym e ∙ ap (node_at b) same ∙ follow_here b n y xs f) in
+          let it : x ≡ y = same_Some x y (sym e ∙ ap (node_at b) same ∙ follow_here b n y xs f) in
           wire_left v (kind_wires s n y.region y.kind y.sources) (node_wires s (n + 1) xs)
           (subst (λ (z : Node ℕ). InW v (kind_wires s n z.region z.kind z.sources)) it (subst (λ j. InW v (kind_wires s j x.region x.kind x.sources)) same h))
 

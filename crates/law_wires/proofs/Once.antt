@@ -2,6 +2,7 @@
 use Rattle.std.proofs.Common.{◌≡◌, ◌≢◌, ℕ, suc, ◌+◌, ◌-◌, ◌<◌, ◌≤◌, ◌⊎◌, inl, inr, Bool, true, false, not, ◌&&◌, ◌||◌, List, [], ◌∷◌, ◌++◌, length, refl, sym, ap, ◌∙◌, subst, arith, append_assoc, if◌then◌else◌, Some, None, nat_lt, ◌==◌}
 use Rattle.std.specs.Prelude.{slice_get, count_by}
 use Rattle.std.proofs.lemmas.Bool.{lt-ltb, le-ltb, cases_lt}
+use Rattle.lemmas.proofs.Bools.{equal_itself}
 use Rattle.semantics.specs.Graph.{Block, Flow}
 use Rattle.semantics.specs.Program.{Instr}
 use Rattle.law_net.specs.Roles.{one}
@@ -10,11 +11,11 @@ use Rattle.law_contexts.specs.Parts as Parts
 use Rattle.law_contexts.specs.Parts.{Part, Entry, Line, Answer, Trigger, Gate, Opener, Framer, Fanned, Linker, Sender, Landing, CallDone, Giver, Taker, Drainer, LoopDone, Strict, Result, Join, CondEnd, same_part}
 use Rattle.law_contexts.specs.Blocks.{Site, Wiring, there_in, is_kind, cond_kind, cell_kind, plain_kind}
 use Rattle.law_contexts.specs.Expanded.{has_part, place_from}
+use Rattle.law_contexts.proofs.Sames.{same_part-refl}
 use Rattle.law_wires.specs.Written.{is_shared, is_triggered, parts_in}
 use Rattle.law_wires.specs.Fit.{IsFit}
-use Rattle.law_wires.proofs.Laid.{same_part_self}
 use Rattle.law_wires.proofs.Standing.{Stand}
-use Rattle.law_wires.proofs.Counts.{tally, count_is, tally_both, same_number, row_none, row_below}
+use Rattle.law_wires.proofs.Counts.{tally, count_is, tally_both, row_none, row_below}
 use Rattle.law_wires.proofs.Parts.{other_number, number_of, of_node, kind_has, has_node, node_count_is, no_nodes}
 use Rattle.law_wires.proofs.There.{w, Counted, is_tail, misses_nodes, misses_tail, tail_none, missing, inner_is, never_there, inner_none, join_counted, cond_counted}
 use Rattle.law_wires.proofs.Has.{tail_has, tail_count, line_is, answer_is, trigger_is, gate_is, merge_is, done_is, framer_is, fanned_is, linker_is, opener_is, giver_is, taker_is, drainer_is, loop_done_is, sender_is, landing_is, strict_is}
@@ -30,7 +31,7 @@ module _ (fl : Flow) (T : Site) (is : List Instr) (fit : IsFit fl T.block) where
   W = w fl T is
 
   same_if : (k : ℕ) → ((k == k) && true) ≡ true
-  same_if k = ap (λ t. t && true) (same_number k)
+  same_if k = ap (λ t. t && true) (equal_itself k)
 
   other_if : (k j : ℕ) → j ≢ k → ((k == j) && true) ≡ false
   other_if k j h = ap (λ t. t && true) (other_number k j h)
@@ -53,7 +54,7 @@ module _ (fl : Flow) (T : Site) (is : List Instr) (fit : IsFit fl T.block) where
       let p : Part → Bool = same_part (Line k) in
       let a = inner_is fl T is p (λ q i. refl, λ j. refl) refl in
       let d = row_below p Line b.inputs k (same_if k) (λ j h. other_if k j h) in
-      let n = node_count_is fl T (Line k) k (same_number k) ∙ ap one (line_is fl T k) in
+      let n = node_count_is fl T (Line k) k (equal_itself k) ∙ ap one (line_is fl T k) in
       let l = tail_none p b T.turns (misses_tail (Line k) refl) in
       let sum : tally p (parts_in fl T) ≡ one (nat_lt k b.inputs) + one (is_kind plain_kind b k) = omega (arith, a, d, n, l) in
       sum ∙ go (cases_lt k b.inputs) (is_kind plain_kind b k) refl
@@ -79,10 +80,10 @@ module _ (fl : Flow) (T : Site) (is : List Instr) (fit : IsFit fl T.block) where
       omega (arith, a, d, m, o, z)
 
   pub answer_tally : (k : ℕ) → tally (same_part (Answer k)) (parts_in fl T) ≡ one (is_kind cell_kind b k && is_shared T k)
-  answer_tally k = node_counted (Answer k) k (is_kind cell_kind b k && is_shared T k) (same_number k) refl refl (λ q i. refl) (λ j. refl) (λ j. refl) refl (answer_is fl T k)
+  answer_tally k = node_counted (Answer k) k (is_kind cell_kind b k && is_shared T k) (equal_itself k) refl refl (λ q i. refl) (λ j. refl) (λ j. refl) refl (answer_is fl T k)
 
   pub trigger_tally : (k : ℕ) → tally (same_part (Trigger k)) (parts_in fl T) ≡ one (is_kind cond_kind b k && is_triggered b k)
-  trigger_tally k = node_counted (Trigger k) k (is_kind cond_kind b k && is_triggered b k) (same_number k) refl refl (λ q i. refl) (λ j. refl) (λ j. refl) refl (trigger_is fl T k)
+  trigger_tally k = node_counted (Trigger k) k (is_kind cond_kind b k && is_triggered b k) (equal_itself k) refl refl (λ q i. refl) (λ j. refl) (λ j. refl) refl (trigger_is fl T k)
 
   -- the parts of which the wiring says itself whether they are there
   read : (t u : Bool) (m c : ℕ) → m ≡ one (t && u) → c ≡ m → m ≡ one (t && nat_lt 0 c)
@@ -132,20 +133,20 @@ module _ (fl : Flow) (T : Site) (is : List Instr) (fit : IsFit fl T.block) where
   counted (Join r i) = join_counted fl T is r i
   counted (CondEnd k) = cond_counted fl T is k
   counted Parts.End = end_counted
-  counted (Gate n) = node_counted (Gate n) n (there_in fl T W (Gate n)) (same_number n) refl refl (λ q i. refl) (λ j. refl) (λ j. refl) refl (gate_is fl T n)
-  counted (Parts.Merge n) = node_counted (Parts.Merge n) n (there_in fl T W (Parts.Merge n)) (same_number n) refl refl (λ q i. refl) (λ j. refl) (λ j. refl) refl (merge_is fl T n)
-  counted (Opener n) = node_counted (Opener n) n (there_in fl T W (Opener n)) (same_number n) refl refl (λ q i. refl) (λ j. refl) (λ j. refl) refl (opener_is fl T n)
-  counted (Framer n) = node_counted (Framer n) n (there_in fl T W (Framer n)) (same_number n) refl refl (λ q i. refl) (λ j. refl) (λ j. refl) refl (framer_is fl T n)
-  counted (Fanned n) = node_counted (Fanned n) n (there_in fl T W (Fanned n)) (same_number n) refl refl (λ q i. refl) (λ j. refl) (λ j. refl) refl (fanned_is fl T n)
-  counted (Linker n) = node_counted (Linker n) n (there_in fl T W (Linker n)) (same_number n) refl refl (λ q i. refl) (λ j. refl) (λ j. refl) refl (linker_is fl T n)
-  counted (Sender n i) = node_counted (Sender n i) n (there_in fl T W (Sender n i)) (same_number n) refl refl (λ q i. refl) (λ j. refl) (λ j. refl) refl (sender_is fl T n i)
-  counted (Landing n i) = node_counted (Landing n i) n (there_in fl T W (Landing n i)) (same_number n) refl refl (λ q i. refl) (λ j. refl) (λ j. refl) refl (landing_is fl T n i)
-  counted (CallDone n) = node_counted (CallDone n) n (there_in fl T W (CallDone n)) (same_number n) refl refl (λ q i. refl) (λ j. refl) (λ j. refl) refl (done_is fl T n)
-  counted (Giver n) = node_counted (Giver n) n (there_in fl T W (Giver n)) (same_number n) refl refl (λ q i. refl) (λ j. refl) (λ j. refl) refl (giver_is fl T n)
-  counted (Taker n) = node_counted (Taker n) n (there_in fl T W (Taker n)) (same_number n) refl refl (λ q i. refl) (λ j. refl) (λ j. refl) refl (taker_is fl T n)
-  counted (Drainer n) = node_counted (Drainer n) n (there_in fl T W (Drainer n)) (same_number n) refl refl (λ q i. refl) (λ j. refl) (λ j. refl) refl (drainer_is fl T n)
-  counted (LoopDone n) = node_counted (LoopDone n) n (there_in fl T W (LoopDone n)) (same_number n) refl refl (λ q i. refl) (λ j. refl) (λ j. refl) refl (loop_done_is fl T n)
-  counted (Strict n i) = node_counted (Strict n i) n (there_in fl T W (Strict n i)) (same_number n) refl refl (λ q i. refl) (λ j. refl) (λ j. refl) refl (strict_is fl T n i)
+  counted (Gate n) = node_counted (Gate n) n (there_in fl T W (Gate n)) (equal_itself n) refl refl (λ q i. refl) (λ j. refl) (λ j. refl) refl (gate_is fl T n)
+  counted (Parts.Merge n) = node_counted (Parts.Merge n) n (there_in fl T W (Parts.Merge n)) (equal_itself n) refl refl (λ q i. refl) (λ j. refl) (λ j. refl) refl (merge_is fl T n)
+  counted (Opener n) = node_counted (Opener n) n (there_in fl T W (Opener n)) (equal_itself n) refl refl (λ q i. refl) (λ j. refl) (λ j. refl) refl (opener_is fl T n)
+  counted (Framer n) = node_counted (Framer n) n (there_in fl T W (Framer n)) (equal_itself n) refl refl (λ q i. refl) (λ j. refl) (λ j. refl) refl (framer_is fl T n)
+  counted (Fanned n) = node_counted (Fanned n) n (there_in fl T W (Fanned n)) (equal_itself n) refl refl (λ q i. refl) (λ j. refl) (λ j. refl) refl (fanned_is fl T n)
+  counted (Linker n) = node_counted (Linker n) n (there_in fl T W (Linker n)) (equal_itself n) refl refl (λ q i. refl) (λ j. refl) (λ j. refl) refl (linker_is fl T n)
+  counted (Sender n i) = node_counted (Sender n i) n (there_in fl T W (Sender n i)) (equal_itself n) refl refl (λ q i. refl) (λ j. refl) (λ j. refl) refl (sender_is fl T n i)
+  counted (Landing n i) = node_counted (Landing n i) n (there_in fl T W (Landing n i)) (equal_itself n) refl refl (λ q i. refl) (λ j. refl) (λ j. refl) refl (landing_is fl T n i)
+  counted (CallDone n) = node_counted (CallDone n) n (there_in fl T W (CallDone n)) (equal_itself n) refl refl (λ q i. refl) (λ j. refl) (λ j. refl) refl (done_is fl T n)
+  counted (Giver n) = node_counted (Giver n) n (there_in fl T W (Giver n)) (equal_itself n) refl refl (λ q i. refl) (λ j. refl) (λ j. refl) refl (giver_is fl T n)
+  counted (Taker n) = node_counted (Taker n) n (there_in fl T W (Taker n)) (equal_itself n) refl refl (λ q i. refl) (λ j. refl) (λ j. refl) refl (taker_is fl T n)
+  counted (Drainer n) = node_counted (Drainer n) n (there_in fl T W (Drainer n)) (equal_itself n) refl refl (λ q i. refl) (λ j. refl) (λ j. refl) refl (drainer_is fl T n)
+  counted (LoopDone n) = node_counted (LoopDone n) n (there_in fl T W (LoopDone n)) (equal_itself n) refl refl (λ q i. refl) (λ j. refl) (λ j. refl) refl (loop_done_is fl T n)
+  counted (Strict n i) = node_counted (Strict n i) n (there_in fl T W (Strict n i)) (equal_itself n) refl refl (λ q i. refl) (λ j. refl) (λ j. refl) refl (strict_is fl T n i)
   counted (Result k) = tail_counted (Result k) refl refl refl refl (λ q i. refl) (λ j. refl) (λ j. refl) (there_in fl T W (Result k)) (result_is k)
   counted (Parts.TurnCont) = tail_counted (Parts.TurnCont) refl refl refl refl (λ q i. refl) (λ j. refl) (λ j. refl) (there_in fl T W (Parts.TurnCont)) (refl)
   counted (Parts.TurnFlag) = tail_counted (Parts.TurnFlag) refl refl refl refl (λ q i. refl) (λ j. refl) (λ j. refl) (there_in fl T W (Parts.TurnFlag)) (refl)
@@ -175,7 +176,7 @@ module _ (fl : Flow) (T : Site) (is : List Instr) (fit : IsFit fl T.block) where
 
   -- IN ITS PLACE
   found : (r : Part) (n : ℕ) (xs ys : List Part) → tally (same_part r) xs ≡ 0 → place_from r n (xs ++ r ∷ ys) ≡ n + length xs
-  found r n [] ys h = ap (λ t. if t then n else place_from r (n + 1) ys) (same_part_self r) ∙ omega arith
+  found r n [] ys h = ap (λ t. if t then n else place_from r (n + 1) ys) (same_part-refl r) ∙ omega arith
   found r n (x ∷ xs) ys h = go (same_part r x) refl (λ k. found r (n + 1) xs ys k)
     where
       go : (t : Bool) → same_part r x ≡ t → (tally (same_part r) xs ≡ 0 → place_from r (n + 1) (xs ++ r ∷ ys) ≡ (n + 1) + length xs) → (if t then n else place_from r (n + 1) (xs ++ r ∷ ys)) ≡ n + suc (length xs)
@@ -187,7 +188,7 @@ module _ (fl : Flow) (T : Site) (is : List Instr) (fit : IsFit fl T.block) where
   stands_from xs (y ∷ ys) h =
       let a = h y in
       let c = tally_both (same_part y) xs (y ∷ ys) in
-      let d = ap one (same_part_self y) in
+      let d = ap one (same_part-refl y) in
       let here = found y 0 xs ys (omega (arith, a, c, d)) in
       let assoc : (xs ++ y ∷ []) ++ ys ≡ xs ++ y ∷ ys = append_assoc xs (y ∷ []) ys in
       let long : length (xs ++ y ∷ []) ≡ suc (length xs) = length_push xs y in

@@ -2,6 +2,7 @@
 use Rattle.std.proofs.Common.{◌≡◌, ◌≢◌, ℕ, zero, suc, ◌+◌, ◌-◌, ◌<◌, ◌≤◌, ◌⊎◌, inl, inr, Bool, true, false, ◌&&◌, List, [], ◌∷◌, ◌++◌, length, refl, sym, ap, ◌∙◌, arith, if◌then◌else◌, Some, None, Option, nat_lt, ◌==◌}
 use Rattle.std.specs.Prelude.{slice_get}
 use Rattle.std.proofs.lemmas.Bool.{lt-ltb, le-ltb, ne_eqb, eqb-true, cases_lt}
+use Rattle.lemmas.proofs.Bools.{and_false, and_true, equal_itself}
 use Rattle.semantics.specs.declared.graph.Region.{Region}
 use Rattle.semantics.specs.declared.graph.Region.TheVariants.{Arm}
 use Rattle.semantics.specs.declared.graph.Kind.{Kind}
@@ -14,19 +15,11 @@ use Rattle.law_contexts.specs.Blocks.{Side, Site, is_kind, loop_kind, outputs_in
 use Rattle.law_contexts.specs.Theorem.{HasOnly, stage_of}
 use Rattle.law_contexts.specs.Expanded.{row, invoked}
 use Rattle.law_wires.specs.Written.{is_shared, is_triggered, answer_parts, trigger_parts, kind_parts, node_parts, joined_parts, cond_parts, Ended, arm_ends}
-use Rattle.law_wires.proofs.Counts.{tally, tally_both, same_number, row_none, row_one, row_below, nodes_none, nodes_one, closing_parts, Follow}
+use Rattle.law_wires.proofs.Counts.{tally, tally_both, row_none, row_one, row_below, nodes_none, nodes_one, closing_parts, Follow}
 
 -- TESTS of parts
 abbrev pub Misses : (Part → Bool) → Type 0
 Misses p = ((q : Region) (i : ℕ) → p (Join q i) ≡ false) × ((k : ℕ) → p (CondEnd k) ≡ false)
-
-pub and_true : (t : Bool) → (t && true) ≡ t
-and_true true = refl
-and_true false = refl
-
-pub and_false : (t : Bool) → (t && false) ≡ false
-and_false true = refl
-and_false false = refl
 
 pub other_number : (k j : ℕ) → j ≢ k → (k == j) ≡ false
 other_number k j h = ne_eqb k j (λ e. h (sym e))
@@ -168,7 +161,7 @@ row_of : (p : Part → Bool) (f : ℕ → Part) (m n k i : ℕ) → ((j : ℕ) �
 row_of p f m n k i h = go (n == k) refl
   where
     go : (t : Bool) → (n == k) ≡ t → tally p (row f 0 m) ≡ one (nat_lt i m && t)
-    go true e = row_below p f m i (h i ∙ ap (λ t. t && (i == i)) e ∙ same_number i) (λ j ne. h j ∙ ap (λ t. t && (i == j)) e ∙ other_number i j ne) ∙ ap one (sym (and_true (nat_lt i m)))
+    go true e = row_below p f m i (h i ∙ ap (λ t. t && (i == i)) e ∙ equal_itself i) (λ j ne. h j ∙ ap (λ t. t && (i == j)) e ∙ other_number i j ne) ∙ ap one (sym (and_true (nat_lt i m)))
     go false e = row_none p f 0 m (λ j a b. h j ∙ ap (λ t. t && (i == j)) e) ∙ ap one (sym (and_false (nat_lt i m)))
 
 abbrev sender_has : ℕ → Part → Bool
@@ -200,7 +193,7 @@ stricts (Strict n i) k m = go (n == k) refl (cases_lt 0 i) (cases_lt i m)
     go : (t : Bool) → (n == k) ≡ t → (0 < i) ⊎ (i ≤ 0) → (i < m) ⊎ (m ≤ i) → tally p (row (Strict k) 1 (m - 1)) ≡ one ((nat_lt 0 i && nat_lt i m) && t)
     go false e a c = row_none p (Strict k) 1 (m - 1) (λ j x y. ap (λ t. t && (i == j)) e) ∙ ap one (sym (and_false (nat_lt 0 i && nat_lt i m)))
     go true e (inl a) (inl c) =
-        row_one p (Strict k) 1 (m - 1) i (omega (arith, a)) (omega (arith, c, a)) (ap (λ t. t && (i == i)) e ∙ same_number i) (λ j ne. ap (λ t. t && (i == j)) e ∙ other_number i j ne)
+        row_one p (Strict k) 1 (m - 1) i (omega (arith, a)) (omega (arith, c, a)) (ap (λ t. t && (i == i)) e ∙ equal_itself i) (λ j ne. ap (λ t. t && (i == j)) e ∙ other_number i j ne)
         ∙ sym (ap (λ t. one ((t && nat_lt i m) && true)) (lt-ltb 0 i a) ∙ ap (λ t. one (t && true)) (lt-ltb i m c))
     go true e (inr a) c = row_none p (Strict k) 1 (m - 1) (λ j x y. ap (λ t. t && (i == j)) e ∙ other_number i j (λ q. omega (arith, q, a, x))) ∙ sym (ap (λ t. one ((t && nat_lt i m) && true)) (le-ltb 0 i a))
     go true e (inl a) (inr c) =
@@ -244,15 +237,15 @@ loop_count r k m = let a = tally_both (same_part r) (invoked k m m) (credit_part
 invoked_none : (p : Part → Bool) (j m q : ℕ) → ((r : Part) → of_node j r ≡ true → p r ≡ false) → tally p (invoked j m q) ≡ 0
 invoked_none p j m q h =
     let a = invoked_tally p j m q in
-    let f = ap one (h (Framer j) (same_number j)) in
-    let n = ap one (h (Fanned j) (same_number j)) in
-    let l = ap one (h (Linker j) (same_number j)) in
-    let s = row_none p (Sender j) 0 m (λ i x y. h (Sender j i) (same_number j)) in
-    let g = row_none p (Landing j) 0 q (λ i x y. h (Landing j i) (same_number j)) in
+    let f = ap one (h (Framer j) (equal_itself j)) in
+    let n = ap one (h (Fanned j) (equal_itself j)) in
+    let l = ap one (h (Linker j) (equal_itself j)) in
+    let s = row_none p (Sender j) 0 m (λ i x y. h (Sender j i) (equal_itself j)) in
+    let g = row_none p (Landing j) 0 q (λ i x y. h (Landing j i) (equal_itself j)) in
     omega (arith, a, f, n, l, s, g)
 
 call_none : (p : Part → Bool) (j m q : ℕ) → ((r : Part) → of_node j r ≡ true → p r ≡ false) → tally p (invoked j m q ++ CallDone j ∷ []) ≡ 0
-call_none p j m q h = let a = tally_both p (invoked j m q) (CallDone j ∷ []) in let i = invoked_none p j m q h in let d = ap one (h (CallDone j) (same_number j)) in omega (arith, a, i, d)
+call_none p j m q h = let a = tally_both p (invoked j m q) (CallDone j ∷ []) in let i = invoked_none p j m q h in let d = ap one (h (CallDone j) (equal_itself j)) in omega (arith, a, i, d)
 
 answers_none : (p : Part → Bool) (j : ℕ) (t : Bool) → p (Answer j) ≡ false → tally p (answer_parts j t) ≡ 0
 answers_none p j true f = let e = ap one f in omega (arith, e)
@@ -267,28 +260,28 @@ module _ (fl : Flow) (s : Site) where
   b = s.block
 
   pub kinds_none : (p : Part → Bool) (j m : ℕ) (x : Kind ℕ) → ((r : Part) → of_node j r ≡ true → p r ≡ false) → tally p (kind_parts fl s j m x) ≡ 0
-  kinds_none p j m Cond h = triggers_none p j (is_triggered b j) (h (Trigger j) (same_number j))
-  kinds_none p j m Enter h = let e = ap one (h (Gate j) (same_number j)) in omega (arith, e)
-  kinds_none p j m (Merge k) h = let e = ap one (h (Parts.Merge j) (same_number j)) in omega (arith, e)
-  kinds_none p j m (Lit z) h = let e = ap one (h (Line j) (same_number j)) in omega (arith, e)
-  kinds_none p j m (Apply1 op) h = let e = ap one (h (Line j) (same_number j)) in omega (arith, e)
-  kinds_none p j m (Apply2 op) h = let e = ap one (h (Line j) (same_number j)) in omega (arith, e)
-  kinds_none p j m (Fetch x) h = let e = ap one (h (Line j) (same_number j)) in let g = answers_none p j (is_shared s j) (h (Answer j) (same_number j)) in omega (arith, e, g)
-  kinds_none p j m (Store x) h = let e = ap one (h (Line j) (same_number j)) in let g = answers_none p j (is_shared s j) (h (Answer j) (same_number j)) in omega (arith, e, g)
+  kinds_none p j m Cond h = triggers_none p j (is_triggered b j) (h (Trigger j) (equal_itself j))
+  kinds_none p j m Enter h = let e = ap one (h (Gate j) (equal_itself j)) in omega (arith, e)
+  kinds_none p j m (Merge k) h = let e = ap one (h (Parts.Merge j) (equal_itself j)) in omega (arith, e)
+  kinds_none p j m (Lit z) h = let e = ap one (h (Line j) (equal_itself j)) in omega (arith, e)
+  kinds_none p j m (Apply1 op) h = let e = ap one (h (Line j) (equal_itself j)) in omega (arith, e)
+  kinds_none p j m (Apply2 op) h = let e = ap one (h (Line j) (equal_itself j)) in omega (arith, e)
+  kinds_none p j m (Fetch x) h = let e = ap one (h (Line j) (equal_itself j)) in let g = answers_none p j (is_shared s j) (h (Answer j) (equal_itself j)) in omega (arith, e, g)
+  kinds_none p j m (Store x) h = let e = ap one (h (Line j) (equal_itself j)) in let g = answers_none p j (is_shared s j) (h (Answer j) (equal_itself j)) in omega (arith, e, g)
   kinds_none p j m (Call f) h = call_none p j m (outputs_in (slice_get fl.blocks f)) h
   kinds_none p j m (StrictCall f) h =
       let a = tally_both p (row (Strict j) 1 (m - 1)) (invoked j m (outputs_in (slice_get fl.blocks f)) ++ CallDone j ∷ []) in
       let c = call_none p j m (outputs_in (slice_get fl.blocks f)) h in
-      let r = row_none p (Strict j) 1 (m - 1) (λ i x y. h (Strict j i) (same_number j)) in
+      let r = row_none p (Strict j) 1 (m - 1) (λ i x y. h (Strict j i) (equal_itself j)) in
       omega (arith, a, c, r)
   kinds_none p j m (Loop f k) h =
       let a = tally_both p (invoked j m m) (credit_parts j) in
       let i = invoked_none p j m m h in
-      let o = ap one (h (Opener j) (same_number j)) in
-      let g = ap one (h (Giver j) (same_number j)) in
-      let t = ap one (h (Taker j) (same_number j)) in
-      let d = ap one (h (Drainer j) (same_number j)) in
-      let l = ap one (h (LoopDone j) (same_number j)) in
+      let o = ap one (h (Opener j) (equal_itself j)) in
+      let g = ap one (h (Giver j) (equal_itself j)) in
+      let t = ap one (h (Taker j) (equal_itself j)) in
+      let d = ap one (h (Drainer j) (equal_itself j)) in
+      let l = ap one (h (LoopDone j) (equal_itself j)) in
       omega (arith, a, i, o, g, t, d, l)
 
   -- how often a part stands among those of a node

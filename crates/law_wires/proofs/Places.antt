@@ -1,7 +1,7 @@
 -- Where the parts of a list stand, and the wires of a side read off its destinations.
 use Rattle.std.proofs.Common.{◌≡◌, ℕ, zero, suc, ◌+◌, ◌-◌, ◌<◌, ◌≤◌, ◌⊎◌, inl, inr, Bool, true, false, List, [], ◌∷◌, map, length, refl, sym, ap, ◌∙◌, arith, if◌then◌else◌, Some, Contains}
 use Rattle.std.specs.Prelude.{slice_get, slice_index_or, ⊤}
-use Rattle.std.proofs.lemmas.List.Elements.{Contains-append_left, Contains-append_right, Contains-push, Contains-push_cases, Contains-append_cases}
+use Rattle.lemmas.proofs.Contains.{contains_cases, contains_head, contains_tail, contains_none}
 use Rattle.semantics.specs.declared.graph.Region.{Region}
 use Rattle.semantics.specs.declared.program.Dest.{Dest}
 use Rattle.semantics.specs.Graph.{Block}
@@ -10,9 +10,10 @@ use Rattle.law_contexts.specs.Parts.{Part, Entry, Inlet, inlet, same_part}
 use Rattle.law_contexts.specs.Blocks.{Side, Wiring, leaves_in}
 use Rattle.law_contexts.specs.Wires.{leads_to, stands_at}
 use Rattle.law_contexts.specs.Expanded.{place_from, inlet_by, way_in}
+use Rattle.law_contexts.proofs.Sames.{same_part-true, same_part-refl}
 use Rattle.law_wires.specs.Written.{Wire, along, inlet_of, same_side}
-use Rattle.law_wires.proofs.Same.{same_is, side_is}
-use Rattle.law_wires.proofs.Laid.{Env, goes, dest, same_part_self}
+use Rattle.law_wires.proofs.Same.{side_is}
+use Rattle.law_wires.proofs.Laid.{Env, goes, dest}
 use Rattle.law_wires.proofs.Standing.{Stand}
 use Rattle.law_wires.proofs.Counts.{tally}
 
@@ -30,7 +31,7 @@ at_place r n k [] e l = absurd (omega (arith, l))
 at_place r n zero (x ∷ xs) e l = go (same_part r x) refl e
   where
     go : (t : Bool) → same_part r x ≡ t → (if t then n else place_from r (n + 1) xs) ≡ n + 0 → Some x ≡ Some r
-    go true f e = ap (λ y. Some y) (sym (same_is r x f))
+    go true f e = ap (λ y. Some y) (sym (same_part-true r x f))
     go false f e = let h = place_least r (n + 1) xs in absurd (omega (arith, h, e))
 at_place r n (suc k) (x ∷ xs) e l = go (same_part r x) e (λ f. at_place r (n + 1) k xs f (omega (arith, l)))
   where
@@ -48,7 +49,7 @@ place_bounded r n (x ∷ xs) h = go (same_part r x) h (place_bounded r (n + 1) x
 
 pub tally_there : (r : Part) (n : ℕ) (xs : List Part) → slice_get xs n ≡ Some r → 0 < tally (same_part r) xs
 tally_there r n [] e = absurd (cc)
-tally_there r zero (x ∷ xs) e = let same : x ≡ r = cc in let o : one (same_part r x) ≡ 1 = ap (λ y. one (same_part r y)) same ∙ ap one (same_part_self r) in omega (arith, o)
+tally_there r zero (x ∷ xs) e = let same : x ≡ r = cc in let o : one (same_part r x) ≡ 1 = ap (λ y. one (same_part r y)) same ∙ ap one (same_part-refl r) in omega (arith, o)
 tally_there r (suc n) (x ∷ xs) e = let h = tally_there r n xs e in omega (arith, h)
 
 pub index_is : {X : Type 0} (xs : List X) (n : ℕ) (x d : X) → slice_get xs n ≡ Some x → slice_index_or xs n d ≡ x
@@ -66,29 +67,9 @@ abbrev pub AllDests : ℕ → ℕ → List Dest → Type 0
 AllDests size n [] = ⊤
 AllDests size n (d ∷ ds) = (0 < d.ahead) × (n + d.ahead < size) × AllDests size n ds
 
-pub contains_first : {X : Type 0} (x : X) (xs : List X) → Contains (x ∷ xs) x
-contains_first x xs = Contains-append_left (x ∷ []) xs x (Contains-push [] x)
-
-pub contains_later : {X : Type 0} (y : X) (xs : List X) (x : X) → Contains xs x → Contains (y ∷ xs) x
-contains_later y xs x h = Contains-append_right (y ∷ []) xs x h
-
-pub contains_none : {X : Type 0} (x : X) → Contains [] x → ⊥
-contains_none x h = let l = h.1 in omega (arith, l)
-
-pub contains_cases : {X : Type 0} (y : X) (xs : List X) (x : X) → Contains (y ∷ xs) x → (y ≡ x) ⊎ Contains xs x
-contains_cases {X} y xs x h = go (Contains-append_cases (y ∷ []) xs x h)
-  where
-    single : Contains [] x ⊎ (y ≡ x) → (y ≡ x) ⊎ Contains xs x
-    single (inl c) = absurd (contains_none x c)
-    single (inr e) = inl e
-
-    go : Contains (y ∷ []) x ⊎ Contains xs x → (y ≡ x) ⊎ Contains xs x
-    go (inl c) = single (Contains-push_cases [] y x c)
-    go (inr c) = inr c
-
 pub all_dests : (size n : ℕ) (ds : List Dest) → ((d : Dest) → Contains ds d → (0 < d.ahead) × (n + d.ahead < size)) → AllDests size n ds
 all_dests size n [] h = tt
-all_dests size n (d ∷ ds) h = let x = h d (contains_first d ds) in (x.0, x.1, all_dests size n ds (λ y c. h y (contains_later d ds y c)))
+all_dests size n (d ∷ ds) h = let x = h d (contains_head d ds) in (x.0, x.1, all_dests size n ds (λ y c. h y (contains_tail d ds y c)))
 
 module _ (P : List Part) (placed : Stand (λ r. place_from r 0 P) 0 P) where
   abbrev place : Part → ℕ

@@ -17,10 +17,6 @@ pub stand_right : (place : Part → ℕ) (m k : ℕ) (rs qs : List Part) → Sta
 stand_right place m k [] qs h e = let same : m ≡ k = omega (arith, e) in subst (λ j. Stand place j qs) same h
 stand_right place m k (r ∷ rs) qs h e = stand_right place (suc m) k rs qs h.1 (omega (arith, e))
 
-pub length_both : {X : Type 0} (xs ys : List X) → length (xs ++ ys) ≡ length xs + length ys
-length_both [] ys = omega arith
-length_both (x ∷ xs) ys = let h = length_both xs ys in omega (arith, h)
-
 pub row_length : (f : ℕ → Part) (from n : ℕ) → length (row f from n) ≡ n
 row_length f from zero = refl
 row_length f from (suc n) = ap suc (row_length f (from + 1) n)

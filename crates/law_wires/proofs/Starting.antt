@@ -1,7 +1,7 @@
 -- What starts a call, a loop or the next turn: a call that is not strict, and a loop, wait for nothing but the entry or the trigger of their
 -- arm, and a turn asks for a credit behind its flag. All arguments are sent before a result comes.
-use Rattle.std.proofs.Common.{◌≡◌, ◌≢◌, ℕ, ◌+◌, ◌<◌, ◌⊎◌, inl, inr, Bool, true, false, ◌&&◌, List, [], ◌∷◌, ◌++◌, length, refl, sym, ap, ◌∙◌, subst, arith, Contains, ◌==◌}
-use Rattle.tags.specs.declared.token.Port.{Port}
+use Rattle.std.proofs.Common.{◌≡◌, ◌≢◌, ℕ, ◌+◌, ◌<◌, ◌⊎◌, inl, inr, Bool, true, false, List, [], ◌∷◌, ◌++◌, length, refl, sym, ap, ◌∙◌, subst, arith, Contains}
+use Rattle.lemmas.proofs.Contains.{contains_cases, contains_none}
 use Rattle.tags.specs.declared.token.Port.TheVariants.{Left, Right}
 use Rattle.semantics.specs.declared.graph.Region.{Region}
 use Rattle.semantics.specs.declared.graph.Region.TheVariants.{Root, Arm}
@@ -10,37 +10,27 @@ use Rattle.semantics.specs.declared.graph.Kind.{Kind}
 use Rattle.semantics.specs.declared.graph.Kind.TheVariants.{Call, StrictCall, Loop}
 use Rattle.semantics.specs.Graph.{Node, Flow}
 use Rattle.law_net.specs.Roles.{one}
-use Rattle.law_contexts.specs.Parts.{Part, Framer, Opener, Asker, TurnFlag, DrainReturn, TurnCont, NextSender, NextFanned, Inlet, inlet, same_port, same_inlet}
+use Rattle.law_contexts.specs.Parts.{Part, Framer, Opener, Asker, TurnFlag, DrainReturn, TurnCont, NextSender, NextFanned, Inlet, inlet, same_inlet}
 use Rattle.law_contexts.specs.Blocks.{Side, side, Site, Wiring, there_in, is_call, is_strict, is_loop, call_kind, strict_kind, loop_kind}
 use Rattle.law_contexts.specs.Wires.{hits, is_start, IsFed, StartsRightly}
+use Rattle.law_contexts.proofs.Sames.{same_inlet-refl}
 use Rattle.law_wires.specs.Written.{Wire, wire, same_side, leaves, trigger_side, meet_wires, value_wires, next_wires, last_wires, kind_wires, turn_wires, tail_wires, wires_in}
 use Rattle.law_wires.specs.Fit.{IsFit}
 use Rattle.law_wires.specs.Halves.{IsWritten}
 use Rattle.law_wires.proofs.Same.{side_is}
-use Rattle.law_wires.proofs.Counts.{same_number}
-use Rattle.law_wires.proofs.Laid.{same_part_self}
 use Rattle.law_wires.proofs.Members.{InW, wire_right, side_self}
 use Rattle.law_wires.proofs.Nodes.{node_some, kind_at}
 use Rattle.law_wires.proofs.NodeWires.{node_in_block, tail_in_block}
-use Rattle.law_wires.proofs.Places.{contains_none, contains_cases}
 use Rattle.law_wires.proofs.FedEnds.{TurnsWell}
 use Rattle.law_wires.proofs.Fed.{are_fed}
 use Rattle.law_wires.proofs.Waits.{wire_there, wire_leads}
-
--- what is among some inlets is counted there
-inlet_self : (x : Inlet) → same_inlet x x ≡ true
-inlet_self x = ap (λ t. t && (same_port x.port x.port && (x.way == x.way))) (same_part_self x.part) ∙ ap (λ t. t && (x.way == x.way)) (port_self x.port) ∙ same_number x.way
-  where
-    port_self : (q : Port) → same_port q q ≡ true
-    port_self Left = refl
-    port_self Right = refl
 
 some_hit : (x : Inlet) (xs : List Inlet) → Contains xs x → 0 < hits x xs
 some_hit x [] c = absurd (contains_none x c)
 some_hit x (y ∷ xs) c = go (contains_cases y xs x c) (some_hit x xs)
   where
     go : (y ≡ x) ⊎ Contains xs x → (Contains xs x → 0 < hits x xs) → 0 < hits x (y ∷ xs)
-    go (inl e) more = let o : one (same_inlet x y) ≡ 1 = ap (λ z. one (same_inlet x z)) e ∙ ap one (inlet_self x) in omega (arith, o)
+    go (inl e) more = let o : one (same_inlet x y) ≡ 1 = ap (λ z. one (same_inlet x z)) e ∙ ap one (same_inlet-refl x) in omega (arith, o)
     go (inr k) more = let m = more k in omega (arith, m)
 
 -- the wire that asks for a credit in a turn

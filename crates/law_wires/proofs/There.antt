@@ -2,23 +2,24 @@
 use Rattle.std.proofs.Common.{◌≡◌, ◌≢◌, ℕ, ◌+◌, ◌-◌, ◌<◌, ◌≤◌, Bool, true, false, ◌&&◌, ◌||◌, List, [], ◌∷◌, ◌++◌, length, refl, sym, ap, ◌∙◌, arith, if◌then◌else◌, Some, None, Option, nat_lt, ◌==◌}
 use Rattle.std.specs.Prelude.{count_by}
 use Rattle.std.proofs.lemmas.Bool.{le-ltb, ne_eqb, eqb-true}
+use Rattle.lemmas.proofs.SliceGet.{get_some}
+use Rattle.lemmas.proofs.Bools.{and_false, equal_itself, zero_if}
 use Rattle.semantics.specs.declared.graph.Region.{Region}
 use Rattle.semantics.specs.declared.graph.Region.TheVariants.{Root, Arm}
 use Rattle.semantics.specs.Graph.{Node, Block, Flow, node_at, node_count}
 use Rattle.semantics.specs.Program.{Instr}
 use Rattle.law_net.specs.Roles.{one}
 use Rattle.expansion.specs.Ends.{same_region}
-use Rattle.law_expansion.proofs.ArcsLists.{get_some}
 use Rattle.law_contexts.specs.Parts as Parts
 use Rattle.law_contexts.specs.Parts.{Part, Entry, Line, Answer, Trigger, Gate, Opener, Framer, Fanned, Linker, Sender, Landing, CallDone, Giver, Taker, Drainer, LoopDone, Strict, Result, TurnCont, TurnFlag, TurnValue, Asker, NextFramer, NextFanned, NextSender, LastReturn, DrainReturn, Join, CondEnd, same_part, region_key}
 use Rattle.law_contexts.specs.Blocks.{Side, Site, Wiring, there_in, is_kind, cond_kind}
 use Rattle.law_contexts.specs.Expanded.{row, turn_parts, is_join_of, wiring_of}
+use Rattle.law_contexts.proofs.Sames.{same_part-true}
 use Rattle.law_wires.specs.Written as Written
 use Rattle.law_wires.specs.Written.{node_parts, tail_parts, inner_parts, close_flag, joined_parts, cond_parts, Ended, arm_ends, inner, root_ends, parts_in}
 use Rattle.law_wires.proofs.Standing.{row_length}
-use Rattle.law_wires.proofs.Counts.{tally, tally_both, count_is, same_number, row_none, row_all, row_below, closing_parts, before_close, closes_none, closes_one, all_parts, inner_counts}
-use Rattle.law_wires.proofs.Same.{same_is}
-use Rattle.law_wires.proofs.Parts.{Misses, and_false, other_number, joins_none, conds_none, number_of, of_node, closing_counts, closing_none, no_nodes, follow, node_within}
+use Rattle.law_wires.proofs.Counts.{tally, tally_both, count_is, row_none, row_all, row_below, closing_parts, before_close, closes_none, closes_one, all_parts, inner_counts}
+use Rattle.law_wires.proofs.Parts.{Misses, other_number, joins_none, conds_none, number_of, of_node, closing_counts, closing_none, no_nodes, follow, node_within}
 
 -- REGIONS by their keys
 keys_differ : (r q : Region) → r ≢ q → region_key r ≢ region_key q
@@ -36,12 +37,12 @@ pub join_other : (r q : Region) (i j : ℕ) → r ≢ q → same_part (Join r i)
 join_other r q i j h = ap (λ t. t && (i == j)) (ne_eqb (region_key r) (region_key q) (keys_differ r q h))
 
 pub join_same : (r : Region) (i j : ℕ) → same_part (Join r i) (Join r j) ≡ (i == j)
-join_same r i j = ap (λ t. t && (i == j)) (same_number (region_key r))
+join_same r i j = ap (λ t. t && (i == j)) (equal_itself (region_key r))
 
 pub region_self : (r : Region) → same_region r r ≡ true
 region_self Root = refl
-region_self (Arm k true) = ap (λ t. t && true) (same_number k)
-region_self (Arm k false) = ap (λ t. t && true) (same_number k)
+region_self (Arm k true) = ap (λ t. t && true) (equal_itself k)
+region_self (Arm k false) = ap (λ t. t && true) (equal_itself k)
 
 pub region_other : (q r : Region) → q ≢ r → same_region q r ≡ false
 region_other Root Root h = absurd (h refl)
@@ -59,7 +60,7 @@ arm_other k j s t h e = let same : k ≡ j = cc in h (sym same)
 chain_below : (r : Region) (i : ℕ) (ts : List Side) → tally (same_part (Join r i)) (joined_parts r ts) ≡ one (nat_lt i (length (joined_parts r ts)))
 chain_below r i [] = sym (ap one (le-ltb i 0 (omega arith)))
 chain_below r i (t ∷ ts) =
-    row_below (same_part (Join r i)) (Join r) (length ts) i (join_same r i i ∙ same_number i) (λ j h. join_same r i j ∙ other_number i j h)
+    row_below (same_part (Join r i)) (Join r) (length ts) i (join_same r i i ∙ equal_itself i) (λ j h. join_same r i j ∙ other_number i j h)
     ∙ ap (λ n. one (nat_lt i n)) (sym (row_length (Join r) 0 (length ts)))
 
 pub chain_all : (r : Region) (ts : List Side) → tally (is_join_of r) (joined_parts r ts) ≡ length (joined_parts r ts)
@@ -76,7 +77,7 @@ misses_nodes x none j r h = go (same_part x r) refl
     go : (t : Bool) → same_part x r ≡ t → t ≡ false
     go false e = refl
     go true e =
-        let same : r ≡ x = sym (same_is x r e) in
+        let same : r ≡ x = sym (same_part-true x r e) in
         let no : of_node j r ≡ false = ap (of_node j) same ∙ ap (λ o. elim o as (λ y. Bool) [ None ↦ false | Some n ↦ n == j ]) none in
         absurd (cc)
 
@@ -106,7 +107,7 @@ misses_tail x none r h = go (same_part x r) refl
   where
     go : (t : Bool) → same_part x r ≡ t → t ≡ false
     go false e = refl
-    go true e = let same : is_tail x ≡ is_tail r = ap is_tail (same_is x r e) in absurd (cc)
+    go true e = let same : is_tail x ≡ is_tail r = ap is_tail (same_part-true x r e) in absurd (cc)
 
 pub join_misses_tail : (q : Region) → MissesTail (is_join_of q)
 join_misses_tail q (Join r i) h = absurd (cc)
@@ -135,10 +136,6 @@ tail_none p b true h =
     let c8 = row_none p LastReturn 0 b.inputs (λ j x y. h (LastReturn j) refl) in
     let c9 = ap one (h DrainReturn refl) in
     omega (arith, a, c1, c2, c3, c4, c5, c6, c7, c8, c9)
-
-zero_if : (t : Bool) (n : ℕ) → n ≡ 0 → (if t then n else 0) ≡ 0
-zero_if true n h = h
-zero_if false n h = refl
 
 module _ (fl : Flow) (S : Site) (is : List Instr) where
   abbrev b : Block ℕ
@@ -179,7 +176,7 @@ module _ (fl : Flow) (S : Site) (is : List Instr) where
   inner_none p n f r =
       let a = inner_counts fl S p in
       let c = ap one n in
-      let d = row_none p Line 0 b.inputs (λ j x y. f j (Line j) (same_number j)) in
+      let d = row_none p Line 0 b.inputs (λ j x y. f j (Line j) (equal_itself j)) in
       let k = no_nodes fl S p f in
       let l = tail_none p b S.turns r in
       omega (arith, a, c, d, k, l)
@@ -229,7 +226,7 @@ module _ (fl : Flow) (S : Site) (is : List Instr) where
   closes_at p k h =
       let n = nodes_close p k h in
       let f = flag_tally p S.turns (inner fl S) in
-      let both = combine S.turns (k == node_count b) (is_kind cond_kind b k) (λ e. h (node_count b) (inner fl S) (λ q. let self = same_number k in let other : (k == node_count b) ≡ true = ap (λ j. k == j) q ∙ self in absurd (cc)))
+      let both = combine S.turns (k == node_count b) (is_kind cond_kind b k) (λ e. h (node_count b) (inner fl S) (λ q. let self = equal_itself k in let other : (k == node_count b) ≡ true = ap (λ j. k == j) q ∙ self in absurd (cc)))
       (λ e. let same = eqb-true k (node_count b) e in ap (λ j. tally p (closing_parts b j (inner fl S))) (sym same)) (λ e. let same = eqb-true k (node_count b) e in ap (is_kind cond_kind b) same ∙ flag_no_node) in
       omega (arith, n, f, both)
     where
@@ -347,7 +344,7 @@ module _ (fl : Flow) (S : Site) (is : List Instr) where
       go (arm_ends b k true (at_close k) ++ arm_ends b k false (at_close k)) (closes k) (tally p (parts_in fl S)) (count_by p (parts_in fl S)) all (count_is p (parts_in fl S))
     where
       self : (same_part (CondEnd k) (CondEnd k)) ≡ true
-      self = ap (λ t. t && true) (same_number k)
+      self = ap (λ t. t && true) (equal_itself k)
 
       go : (ts : List Side) (u : Bool) (m c : ℕ) → m ≡ (if u then tally (same_part (CondEnd k)) (cond_parts k ts) else 0) → c ≡ m → m ≡ one (nat_lt 0 c && u)
       go ts false m c e f = e ∙ sym (ap (λ x. one (nat_lt 0 x && false)) (f ∙ e))

@@ -3,12 +3,13 @@ use Rattle.std.proofs.Common.{◌≡◌, ◌≢◌, ℕ, zero, suc, ◌+◌, ◌
 use Rattle.std.specs.Prelude.{flat_map, IsPermutation}
 use Rattle.std.proofs.lemmas.List.Elements.{All-head, All-tail}
 use Rattle.std.proofs.lemmas.List.Sorted.{IsPermutation-trans, IsPermutation-append_right}
+use Rattle.lemmas.proofs.Permutations.{permutation_same}
 use Rattle.tags.specs.declared.value.Value.{Value}
 use Rattle.tags.specs.declared.token.Port.TheVariants.{Left, Right}
 use Rattle.semantics.specs.declared.graph.Source.{Source}
 use Rattle.semantics.specs.Graph.{Flow}
 use Rattle.semantics.specs.Meaning.{Context, AtTurn, Flag, Carried, Tagged, tagged, block_of, positions, turns_from, result_uses}
-use Rattle.law_net.proofs.Orders.{IsPermutation-same, shuffled, Part, ◌⊕◌}
+use Rattle.law_net.proofs.Orders.{shuffled, Part, ◌⊕◌}
 use Rattle.law_contexts.specs.Parts.{Entry, TurnCont, TurnFlag, TurnValue, Asker, NextFanned, NextSender, DrainReturn}
 use Rattle.law_contexts.specs.Blocks.{Side, side, Site}
 use Rattle.law_contexts.specs.Told.{settled_sent}
@@ -102,7 +103,7 @@ module _ (fl : Flow) (s : Site) (fit : IsFit fl s.block) (c : Context) (v : Valu
 
     values_heard : (x : Source) (m : ℕ) → ComesBefore fl s.block m x → (from : ℕ) → 0 < from → (xs : List Source) → All (ComesBefore fl s.block m) xs
         → IsPermutation (H (value_wires s (leaves s x) from xs)) (flags_if (is_used x) from (length xs) ++ A from xs)
-    values_heard x m h from l [] all = IsPermutation-same [] (flags_if (is_used x) from 0 ++ A from []) (none (is_used x))
+    values_heard x m h from l [] all = permutation_same [] (flags_if (is_used x) from 0 ++ A from []) (none (is_used x))
       where
         none : (t : Bool) → [] ≡ flags_if t from 0 ++ A from []
         none true = refl

@@ -4,6 +4,7 @@ use Rattle.std.proofs.Common.{◌≡◌, ℕ, zero, suc, ◌+◌, ◌<◌, Bool,
 use Rattle.std.specs.Prelude.{slice_get, count_by, sum, sum_by}
 use Rattle.std.proofs.lemmas.Bool.{ltb-true, eqb-true}
 use Rattle.std.proofs.lemmas.List.Sums.{sum_by-cons, sum-map}
+use Rattle.std.proofs.lemmas.Option.{same_Some}
 use Rattle.semantics.specs.declared.graph.Kind.{Kind}
 use Rattle.semantics.specs.declared.graph.Kind.TheVariants.{Loop}
 use Rattle.semantics.specs.Graph.{Node, Block, Flow}
@@ -13,7 +14,7 @@ use Rattle.law_contexts.specs.Blocks.{Wiring}
 use Rattle.law_contexts.specs.Wires.{turn_site, AreFed, LeadOn}
 use Rattle.law_wires.specs.Fit.{Takes, IsTurned, IsFit}
 use Rattle.law_wires.specs.Halves.{IsWritten}
-use Rattle.law_wires.proofs.Counts.{tally, count_is, same_some}
+use Rattle.law_wires.proofs.Counts.{tally, count_is}
 use Rattle.law_wires.proofs.Parts.{follow}
 use Rattle.law_wires.proofs.FedEnds.{TurnsWell}
 use Rattle.law_wires.proofs.Fed.{are_fed}
@@ -59,7 +60,7 @@ module _ (fl : Flow) (fits : (i : ℕ) (b : Block ℕ) → slice_get fl.blocks i
       its : (n : ℕ) → IsTurned fl i n → b.outputs ≡ b.inputs + 1
       its n t =
           let callee = t.0 in
-          let same : callee.block ≡ b = same_some callee.block b (sym callee.there ∙ there) in
+          let same : callee.block ≡ b = same_Some callee.block b (sym callee.there ∙ there) in
           let outputs : callee.block.outputs ≡ n + 1 = t.1 in
           let more : callee.block.outputs ≡ callee.block.inputs + 1 = let takes = callee.takes in omega (arith, outputs, takes) in
           subst (λ (x : Block ℕ). x.outputs ≡ x.inputs + 1) same more

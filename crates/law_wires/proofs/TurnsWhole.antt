@@ -1,46 +1,37 @@
 -- In every context that runs a loop's turn what leaves goes to its uses, and the wires stay in their arms. The code of a turn is another
 -- one than that of a call, and that of another loop's turn.
-use Rattle.std.proofs.Common.{◌≡◌, ℕ, zero, suc, ◌-◌, ◌<◌, ◌≤◌, Bool, true, false, List, [], ◌∷◌, map, length, refl, sym, ap, ◌∙◌, arith, if◌then◌else◌, Some, None, nat_lt, lt-ltb, sum_by}
+use Rattle.std.proofs.Common.{◌≡◌, ℕ, zero, suc, ◌-◌, ◌<◌, ◌≤◌, Bool, true, List, [], ◌∷◌, map, length, refl, sym, ap, ◌∙◌, arith, Some, lt-ltb}
 use Rattle.std.specs.Prelude.{slice_get, count_by, sum}
-use Rattle.std.proofs.lemmas.List.Sums.{sum_by-cons, sum-map}
+use Rattle.std.proofs.lemmas.List.Sums.{sum-map}
 use Rattle.std.proofs.lemmas.Option.{slice_get_within}
+use Rattle.lemmas.proofs.Bools.{equal_itself}
+use Rattle.lemmas.proofs.Sums.{one_of_sum}
 use Rattle.semantics.specs.declared.graph.Kind.{Kind}
 use Rattle.semantics.specs.declared.graph.Kind.TheVariants.{Loop}
-use Rattle.semantics.specs.Graph.{Node, Block, Flow, node_at}
+use Rattle.semantics.specs.Graph.{Node, Block, Flow}
 use Rattle.semantics.specs.Meaning.{Context, Main, Called, Turned, AtTurn, Carried, callee_of, callee_in, block_of, block_number, result_uses}
 use Rattle.semantics.specs.Cause.{loops_to, is_looped}
+use Rattle.semantics.proofs.Lines.{block_is_there, line_listed}
 use Rattle.law_net.specs.Roles.{one}
 use Rattle.law_contexts.specs.Blocks.{Wiring, is_loop, loop_kind}
 use Rattle.law_contexts.specs.Contexts.{Wires, IsContext, number_in, or_none, or_zero}
 use Rattle.law_contexts.specs.Wires.{plain_site, turn_site, FollowArms, GoesToUses, Runs}
 use Rattle.law_contexts.specs.Expanded.{CodesAreThere, wires_of}
+use Rattle.law_contexts.proofs.Blocks.{has_block}
 use Rattle.law_wires.specs.Fit.{IsFit}
 use Rattle.law_wires.specs.Halves.{IsWritten}
-use Rattle.law_wires.proofs.Counts.{tally, count_is, same_number}
+use Rattle.law_wires.proofs.Counts.{tally, count_is}
 use Rattle.law_wires.proofs.Nodes.{node_some}
 use Rattle.law_wires.proofs.Turns.{turns_well}
 use Rattle.law_wires.proofs.Arms.{follows}
-use Rattle.law_wires.proofs.UsesWhole.{has_block, numbered, number_is, RunsNoTurn, goes_to_uses, GoesOn, site_goes_to_uses}
+use Rattle.law_wires.proofs.UsesWhole.{number_is, RunsNoTurn, goes_to_uses, GoesOn, site_goes_to_uses}
 use Rattle.law_wires.proofs.TurnValues.{turns_on}
 use Rattle.law_wires.proofs.TurnUses.{turn_told}
-
--- A BLOCK THAT A LOOP NAMES is looped
-some_weight : {X : Type 0} (f : X → ℕ) (xs : List X) (i : ℕ) (x : X) → slice_get xs i ≡ Some x → f x ≤ sum_by f xs
-some_weight f [] i x e = absurd (cc)
-some_weight f (y ∷ ys) zero x e = let same : y ≡ x = cc in let c = sum_by-cons f y ys in let h = ap f same in omega (arith, c, h)
-some_weight f (y ∷ ys) (suc i) x e = let h = some_weight f ys i x e in let c = sum_by-cons f y ys in omega (arith, c, h)
 
 some_tally : {X : Type 0} (p : X → Bool) (xs : List X) (i : ℕ) (x : X) → slice_get xs i ≡ Some x → p x ≡ true → 0 < tally p xs
 some_tally p [] i x e h = absurd (cc)
 some_tally p (y ∷ ys) zero x e h = let same : y ≡ x = cc in let o = ap one (ap p same ∙ h) in omega (arith, o)
 some_tally p (y ∷ ys) (suc i) x e h = let m = some_tally p ys i x e h in omega (arith, m)
-
-within : (b : Block ℕ) (n : ℕ) (x : Node ℕ) → node_at b n ≡ Some x → slice_get b.nodes (n - b.inputs) ≡ Some x
-within b n x e = go (nat_lt n b.inputs) e
-  where
-    go : (t : Bool) → (if t then None else slice_get b.nodes (n - b.inputs)) ≡ Some x → slice_get b.nodes (n - b.inputs) ≡ Some x
-    go true f = absurd (cc)
-    go false f = f
 
 loop_of : (k : Kind ℕ) → loop_kind k ≡ true → (f : ℕ) × (bound : ℕ) × (k ≡ Loop f bound)
 loop_of (Loop f bound) h = (f, bound, refl)
@@ -49,7 +40,7 @@ loop_of k h = absurd (cc)
 module _ (fl : Flow) where
   -- the block of a context, by its number
   its_block : (c : Context) → IsContext fl c → (b : Block ℕ) × (i : ℕ) × (block_of fl c ≡ Some b) × (block_number fl c ≡ Some i) × (slice_get fl.blocks i ≡ Some b)
-  its_block c h = let x = has_block fl c h in let m = numbered fl (block_number fl c) x.0 x.1 in (x.0, m.0, x.1, m.1, m.2)
+  its_block c h = let x = has_block fl c h in let m = block_is_there fl (block_number fl c) x.0 x.1 in (x.0, m.0, x.1, m.1, m.2)
 
   turn_looped : (c : Context) (n j : ℕ) → IsContext fl (Turned c n j) → is_looped fl (number_in fl (Turned c n j)) ≡ true
   turn_looped c n j h =
@@ -58,15 +49,15 @@ module _ (fl : Flow) where
       let node = node_some x.0 loop_kind n loop in
       let kind = loop_of node.0.kind node.2 in
       let number : number_in fl (Turned c n j) ≡ kind.0 = ap or_zero (ap (λ o. callee_in o n) x.2 ∙ ap callee_of node.1 ∙ ap (λ k. callee_of (Some (record { kind = k; region = node.0.region; sources = node.0.sources }))) kind.2) in
-      ap (is_looped fl) number ∙ its x.1 x.0 (n - x.0.inputs) node.0 kind.0 kind.1 x.4 (within x.0 n node.0 node.1) kind.2
+      ap (is_looped fl) number ∙ its x.1 x.0 (n - x.0.inputs) node.0 kind.0 kind.1 x.4 (line_listed x.0 n node.0 node.1) kind.2
     where
       its : (i : ℕ) (b : Block ℕ) (k : ℕ) (y : Node ℕ) (f bound : ℕ) → slice_get fl.blocks i ≡ Some b → slice_get b.nodes k ≡ Some y → y.kind ≡ Loop f bound → is_looped fl f ≡ true
       its i b k y f bound e g q =
-          let passes : loops_to f y.kind ≡ true = ap (loops_to f) q ∙ same_number f in
+          let passes : loops_to f y.kind ≡ true = ap (loops_to f) q ∙ equal_itself f in
           let some = some_tally (λ (z : Node ℕ). loops_to f z.kind) b.nodes k y g passes in
           let count = count_is (λ (z : Node ℕ). loops_to f z.kind) b.nodes in
           let loops : Block ℕ → ℕ = λ (d : Block ℕ). count_by (λ (z : Node ℕ). loops_to f z.kind) d.nodes in
-          let weight = some_weight loops fl.blocks i b e in
+          let weight = one_of_sum loops fl.blocks i b e in
           let all = sum-map loops fl.blocks in
           lt-ltb 0 (sum (map loops fl.blocks)) (omega (arith, some, count, weight, all))
 

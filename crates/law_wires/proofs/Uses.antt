@@ -5,6 +5,7 @@ use Rattle.std.proofs.lemmas.Bool.{eqb-true}
 use Rattle.std.proofs.lemmas.List.{map-append}
 use Rattle.std.proofs.lemmas.List.Concat.{flat_map-append}
 use Rattle.std.proofs.lemmas.List.Elements.{All-head, All-tail}
+use Rattle.lemmas.proofs.Bools.{equal_itself}
 use Rattle.tags.specs.declared.value.Value.{Value}
 use Rattle.tags.specs.declared.token.Port.TheVariants.{Left, Right}
 use Rattle.semantics.specs.declared.graph.Region.{Region}
@@ -27,7 +28,6 @@ use Rattle.law_contexts.specs.Wires.{told_along}
 use Rattle.law_wires.specs.Written.{Wire, wire, is_shared, is_triggered, answer_wires, along, inlet_of, same_side, exit_of, leaves_at, leaves, trigger_side, operand_wires, merge_wires, trigger_wires, gate_wires, sender_wires, invoke_wires, strict_wires, strict_end, strict_call_wires, kind_wires, result_wires}
 use Rattle.law_wires.specs.Fit.{Takes, ComesBefore, Lies, Merges, IsFit}
 use Rattle.law_wires.proofs.Same.{side_is}
-use Rattle.law_wires.proofs.Counts.{same_number}
 use Rattle.law_wires.proofs.Members.{AllW, side_self}
 use Rattle.law_wires.proofs.Nodes.{kind_at, leaves_region, leaves_some}
 use Rattle.law_wires.proofs.BothArms.{same_node, copy_apart}
@@ -88,7 +88,7 @@ module _ (s : Site) where
               let same : leaves_at s n q ≡ leaves_at s x.node x.port = side_is (leaves_at s n q) (leaves s x) r in
               let node : n ≡ x.node = same_node s n q x.node x.port same in
               let port : q ≡ x.port = port_same n q x.port h (λ i. k (sym (ap (invokes s.block) node) ∙ i)) (same ∙ ap (λ m. leaves_at s m x.port) (sym node)) in
-              let yes : ((x.node == n) && (x.port == q)) ≡ true = (λ i. (sym node i == n) && (sym port i == q)) ∙ (λ i. same_number n i && same_number q i) in
+              let yes : ((x.node == n) && (x.port == q)) ≡ true = (λ i. (sym node i == n) && (sym port i == q)) ∙ (λ i. equal_itself n i && equal_itself q i) in
               absurd (cc)
 
 module _ (fl : Flow) (s : Site) (fit : IsFit fl s.block) (c : Context) (v : Value) where

@@ -3,6 +3,7 @@ use Rattle.std.proofs.Common.{◌≡◌, ◌≢◌, ℕ, ◌+◌, ◌<◌, ◌�
 use Rattle.std.specs.Prelude.{flat_map, IsPermutation}
 use Rattle.std.proofs.lemmas.Bool.{cases_lt, ne_eqb}
 use Rattle.std.proofs.lemmas.List.Sorted.{IsPermutation-refl, IsPermutation-sym, IsPermutation-trans, IsPermutation-append_comm, IsPermutation-append_left, IsPermutation-append_right}
+use Rattle.std.proofs.lemmas.Option.{same_Some}
 use Rattle.tags.specs.declared.value.Value.{Value}
 use Rattle.semantics.specs.declared.graph.Region.{Region}
 use Rattle.semantics.specs.declared.graph.Region.TheVariants.{Root, Arm}
@@ -11,8 +12,8 @@ use Rattle.semantics.specs.declared.graph.Kind.{Kind}
 use Rattle.semantics.specs.declared.graph.Kind.TheVariants.{Lit, Apply1, Apply2, Cond, Enter, Merge, Fetch, Store, Call, StrictCall, Loop}
 use Rattle.semantics.specs.Graph.{Node, Flow, node_at}
 use Rattle.semantics.specs.Meaning.{Context, AtNode, AtOut, Operand, Predicate, Tagged, tagged, block_of, positions, uses_at, result_uses, sent_in, is_enter_of, predicates_from}
-use Rattle.law_net.proofs.Orders.{IsPermutation-same, shuffled, Part, ◌⊕◌}
-use Rattle.law_determinacy.proofs.Perm.{permutation_cancel}
+use Rattle.lemmas.proofs.Permutations.{permutation_cancel, permutation_same, permutation_crossed}
+use Rattle.lemmas.proofs.Bools.{equal_itself}
 use Rattle.expansion.specs.Builds.{first_source}
 use Rattle.expansion.specs.Scopes.{predicate_of, predicate_in}
 use Rattle.law_contexts.specs.Blocks.{Site, cond_kind}
@@ -20,15 +21,11 @@ use Rattle.law_contexts.specs.Told.{settled_sent}
 use Rattle.law_contexts.specs.Wires.{told_along}
 use Rattle.law_wires.specs.Written.{Wire, along, same_side, leaves_at, leaves, kind_wires, node_wires, tail_wires, wires_in}
 use Rattle.law_wires.specs.Fit.{Takes, ComesBefore, IsFit}
-use Rattle.law_wires.proofs.Counts.{Follow, follow_more, follow_here, same_number, same_some}
+use Rattle.law_wires.proofs.Counts.{Follow, follow_more, follow_here}
 use Rattle.law_wires.proofs.Parts.{follow, node_within}
 use Rattle.law_wires.proofs.Nodes.{node_some, cond_is, first_before}
 use Rattle.law_wires.proofs.Uses.{IsPort, heard, heard_both, side_test, settle, made, settle_both, results_heard, used, gated, test, decides, kind_row}
 use Rattle.law_wires.proofs.Quiet.{all_heard}
-
--- four lists, the two in the middle exchanged
-middle : {X : Type 0} (a b c d : List X) → IsPermutation ((a ++ b) ++ (c ++ d)) ((a ++ c) ++ (b ++ d))
-middle a b c d = shuffled (a ∷ b ∷ c ∷ d ∷ []) ((Part 0 ⊕ Part 1) ⊕ (Part 2 ⊕ Part 3)) ((Part 0 ⊕ Part 2) ⊕ (Part 1 ⊕ Part 3)) refl
 
 module _ (fl : Flow) (s : Site) (fit : IsFit fl s.block) (c : Context) (v : Value) (there : block_of fl c ≡ Some s.block) (n q : ℕ) (port : IsPort s n q) where
   abbrev H : List Wire → List Tagged
@@ -70,9 +67,9 @@ module _ (fl : Flow) (s : Site) (fit : IsFit fl s.block) (c : Context) (v : Valu
       let row : a ++ d ≡ u ++ g = kind_row fl s fit c v there n q port m x (follow_here s.block m x xs f) in
       let split : H (node_wires s m (x ∷ xs)) ≡ a ++ r = heard_both fl s fit c v (leaves_at s n q) (kind_wires s m x.region x.kind x.sources) (node_wires s (m + 1) xs) in
       subst (λ zs. IsPermutation (zs ++ (d ++ e)) ((u ++ us) ++ (g ++ gs))) (sym split)
-      (IsPermutation-trans ((a ++ r) ++ (d ++ e)) ((a ++ d) ++ (r ++ e)) ((u ++ us) ++ (g ++ gs)) (middle a r d e)
+      (IsPermutation-trans ((a ++ r) ++ (d ++ e)) ((a ++ d) ++ (r ++ e)) ((u ++ us) ++ (g ++ gs)) (permutation_crossed a r d e)
       (subst (λ zs. IsPermutation (zs ++ (r ++ e)) ((u ++ us) ++ (g ++ gs))) (sym row)
-      (IsPermutation-trans ((u ++ g) ++ (r ++ e)) ((u ++ g) ++ (us ++ gs)) ((u ++ us) ++ (g ++ gs)) (IsPermutation-append_right (u ++ g) (r ++ e) (us ++ gs) (rows (m + 1) xs (follow_more s.block m x xs f))) (middle u g us gs))))
+      (IsPermutation-trans ((u ++ g) ++ (r ++ e)) ((u ++ g) ++ (us ++ gs)) ((u ++ us) ++ (g ++ gs)) (IsPermutation-append_right (u ++ g) (r ++ e) (us ++ gs) (rows (m + 1) xs (follow_more s.block m x xs f))) (permutation_crossed u g us gs))))
 
   -- EXCHANGE of the sums over conditionals and over gates
   no_conds : (m : ℕ) (xs : List (Node ℕ)) (g : ℕ) → conds m xs g [] ≡ []
@@ -108,7 +105,7 @@ module _ (fl : Flow) (s : Site) (fit : IsFit fl s.block) (c : Context) (v : Valu
       let ps = conds (m + 1) xs (g + 1) gs in
       subst (λ zs. IsPermutation (zs ++ conds (m + 1) xs g (y ∷ gs)) ((h ++ hs) ++ (p ++ ps))) (sym (go (D x)))
       (IsPermutation-trans ((h ++ p) ++ conds (m + 1) xs g (y ∷ gs)) ((h ++ p) ++ (hs ++ ps)) ((h ++ hs) ++ (p ++ ps))
-      (IsPermutation-append_right (h ++ p) (conds (m + 1) xs g (y ∷ gs)) (hs ++ ps) (conds_split (m + 1) xs g y gs)) (middle h p hs ps))
+      (IsPermutation-append_right (h ++ p) (conds (m + 1) xs g (y ∷ gs)) (hs ++ ps) (conds_split (m + 1) xs g y gs)) (permutation_crossed h p hs ps))
     where
       go : (t : Bool) → (if t then predicates_from c m v g (y ∷ gs) else []) ≡ (if t then from_cond m g y else []) ++ (if t then predicates_from c m v (g + 1) gs else [])
       go true = predicates_split m g y gs
@@ -131,7 +128,7 @@ module _ (fl : Flow) (s : Site) (fit : IsFit fl s.block) (c : Context) (v : Valu
       go (inl a) more = ap (λ zs. zs ++ from_conds (m + 1) xs g y) (none_if (D x) (from_cond m g y) (h m (λ q. omega (arith, q, a)))) ∙ more (omega (arith, a)) (omega (arith, u))
       go (inr a) more =
           let same : m ≡ k = omega (arith, l, a) in
-          let its : x ≡ z = same_some x z (sym (follow_here s.block m x xs f) ∙ ap (node_at s.block) same ∙ e) in
+          let its : x ≡ z = same_Some x z (sym (follow_here s.block m x xs f) ∙ ap (node_at s.block) same ∙ e) in
           ap (λ zs. (if D x then from_cond m g y else []) ++ zs) (none_from (m + 1) xs g y (λ j d. h j (λ q. omega (arith, q, d, same))))
           ∙ append-nil (if D x then from_cond m g y else []) ∙ (λ i. if D (its i) then from_cond (same i) g y else [])
 
@@ -143,7 +140,7 @@ module _ (fl : Flow) (s : Site) (fit : IsFit fl s.block) (c : Context) (v : Valu
       let cond = cond_is z.0.kind z.2 in
       let enters : (j : ℕ) → from_cond j g y ≡ (if k == j then tagged c (AtNode g) Predicate v ∷ [] else []) = λ j. (λ i. if is_enter_of j (r i) (f i) then tagged c (AtNode g) Predicate v ∷ [] else []) in
       let other : (j : ℕ) → j ≢ k → from_cond j g y ≡ [] = λ j ne. enters j ∙ ap (λ x. if x then tagged c (AtNode g) Predicate v ∷ [] else []) (ne_eqb k j (λ i. ne (sym i))) in
-      let its : from_cond k g y ≡ tagged c (AtNode g) Predicate v ∷ [] = enters k ∙ ap (λ x. if x then tagged c (AtNode g) Predicate v ∷ [] else []) (same_number k) in
+      let its : from_cond k g y ≡ tagged c (AtNode g) Predicate v ∷ [] = enters k ∙ ap (λ x. if x then tagged c (AtNode g) Predicate v ∷ [] else []) (equal_itself k) in
       let x : Source = first_source z.0.sources in
       let takes : length z.0.sources ≡ 1 = subst (λ i. Takes fl i (length z.0.sources)) cond (fit.nodes k z.0 z.1).takes in
       let before : ComesBefore fl s.block k x = first_before fl s.block k z.0.sources (omega (arith, takes)) (fit.nodes k z.0 z.1).earlier in
@@ -181,7 +178,7 @@ module _ (fl : Flow) (s : Site) (fit : IsFit fl s.block) (c : Context) (v : Valu
       go (Loop a x) f u r = no_enter (Loop a x) f (λ j. refl) (λ j i t. refl)
 
   exchange : (g : ℕ) (gs : List (Node ℕ)) → Follow s.block g gs → IsPermutation (conds s.block.inputs s.block.nodes g gs) (gates g gs)
-  exchange g [] f = IsPermutation-same (conds s.block.inputs s.block.nodes g []) [] (no_conds s.block.inputs s.block.nodes g)
+  exchange g [] f = permutation_same (conds s.block.inputs s.block.nodes g []) [] (no_conds s.block.inputs s.block.nodes g)
   exchange g (y ∷ gs) f =
       let first = from_conds s.block.inputs s.block.nodes g y in
       let rest = conds s.block.inputs s.block.nodes (g + 1) gs in
@@ -229,5 +226,5 @@ module _ (fl : Flow) (s : Site) (fit : IsFit fl s.block) (c : Context) (v : Valu
   -- in a context that runs the code of a call
   pub call_told : s.turns ≡ false → ((j : ℕ) → result_uses c s.block.inputs j ≡ (AtOut j, Operand 0) ∷ []) → IsPermutation (told_along fl c v (along s.block (leaves_at s n q) (wires_in fl s))) (settled_sent fl c n q v)
   call_told plain_code plain =
-      all_told (IsPermutation-same (H (tail_wires s s.turns)) (after 0 s.block.results)
+      all_told (permutation_same (H (tail_wires s s.turns)) (after 0 s.block.results)
       (ap (λ t. H (tail_wires s t)) plain_code ∙ results_heard fl s fit c v there n q port plain 0 s.block.results (s.block.inputs + length s.block.nodes) fit.results))

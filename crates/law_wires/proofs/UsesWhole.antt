@@ -7,13 +7,15 @@ use Rattle.tags.specs.declared.token.Port.TheVariants.{Left, Right}
 use Rattle.semantics.specs.declared.graph.Kind.{Kind}
 use Rattle.semantics.specs.declared.graph.Kind.TheVariants.{Fetch, Store}
 use Rattle.semantics.specs.Graph.{Node, Block, Flow, node_at}
-use Rattle.semantics.specs.Meaning.{Context, Main, Called, Turned, AtOut, Operand, block_of, block_number, block_numbered, result_uses}
+use Rattle.semantics.specs.Meaning.{Context, Main, Called, Turned, AtOut, Operand, block_of, block_number, result_uses}
+use Rattle.semantics.proofs.Lines.{block_is_there}
 use Rattle.law_contexts.specs.Parts.{Line, Answer, TurnValue, NextSender, LastReturn, inlet}
 use Rattle.law_contexts.specs.Blocks.{side, Site, Wiring, there_in, is_kind, cell_kind, plain_kind, is_loop, exit, invokes, result_count}
-use Rattle.law_contexts.specs.Contexts.{Wires, IsContext, HasBlock, number_in, or_none, or_zero}
+use Rattle.law_contexts.specs.Contexts.{Wires, IsContext, number_in, or_none, or_zero}
 use Rattle.law_contexts.specs.Told.{settled_sent}
 use Rattle.law_contexts.specs.Wires.{plain_site, GoesToUses, Runs, told_along, has_port}
 use Rattle.law_contexts.specs.Theorem.{HasOnly}
+use Rattle.law_contexts.proofs.Blocks.{has_block}
 use Rattle.law_wires.specs.Written.{is_shared, along, leaves_at, wires_in}
 use Rattle.law_wires.specs.Fit.{IsFit}
 use Rattle.law_wires.specs.Halves.{IsWritten, WrittenGoesToUses}
@@ -82,19 +84,11 @@ module _ (fl : Flow) (s : Site) (fit : IsFit fl s.block) (w : Wiring) (h : IsWri
   }
 
 -- CONTEXTS. Each has a block, and none is a turn where there is no loop.
-pub has_block : (fl : Flow) (c : Context) → IsContext fl c → HasBlock fl c
-has_block fl Main h = h
-has_block fl (Called c n) h = h.2
-has_block fl (Turned c n i) h = h.2
-
-pub numbered : (fl : Flow) (o : Option ℕ) (b : Block ℕ) → block_numbered fl o ≡ Some b → (i : ℕ) × (o ≡ Some i) × (slice_get fl.blocks i ≡ Some b)
-numbered fl None b e = absurd (cc)
-numbered fl (Some i) b e = (i, refl, e)
 
 pub no_turn : (fl : Flow) → HasOnly 3 fl → (c : Context) (n i : ℕ) → IsContext fl (Turned c n i) → ⊥
 no_turn fl only c n i h =
     let x = has_block fl c h.0 in
-    let m = numbered fl (block_number fl c) x.0 x.1 in
+    let m = block_is_there fl (block_number fl c) x.0 x.1 in
     let loop : is_loop x.0 n ≡ true = sym (ap (λ o. is_loop (or_none o) n) x.1) ∙ h.1 in
     let none : is_loop x.0 n ≡ false = loops_never fl only m.0 x.0 m.2 n in
     cc
@@ -103,7 +97,7 @@ module _ (fl : Flow) (i : ℕ) (b : Block ℕ) (there : slice_get fl.blocks i �
   pub number_is : (c : Context) → IsContext fl c → number_in fl c ≡ i → block_of fl c ≡ Some b
   number_is c h e =
       let x = has_block fl c h in
-      let m = numbered fl (block_number fl c) x.0 x.1 in
+      let m = block_is_there fl (block_number fl c) x.0 x.1 in
       let same : m.0 ≡ i = sym (ap or_zero m.1) ∙ e in
       x.1 ∙ sym m.2 ∙ ap (slice_get fl.blocks) same ∙ there
 

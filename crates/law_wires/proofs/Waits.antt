@@ -3,20 +3,20 @@
 use Rattle.std.proofs.Common.{◌≡◌, ◌≢◌, ℕ, zero, suc, ◌+◌, ◌<◌, ◌≤◌, ◌⊎◌, inl, inr, Bool, true, false, ◌==◌, List, [], ◌∷◌, ◌++◌, length, refl, sym, ap, ◌∙◌, subst, arith, if◌then◌else◌, Some, None, Contains}
 use Rattle.std.specs.Prelude.{slice_get}
 use Rattle.std.proofs.lemmas.Bool.{eqb-true, cases_lt}
+use Rattle.lemmas.proofs.SliceGet.{get_some}
+use Rattle.lemmas.proofs.Bools.{equal_itself}
 use Rattle.tags.specs.declared.token.Port.TheVariants.{Left, Right}
 use Rattle.semantics.specs.declared.graph.Region.{Region}
 use Rattle.semantics.specs.declared.graph.Source.{Source}
 use Rattle.semantics.specs.declared.graph.Kind.{Kind}
 use Rattle.semantics.specs.declared.graph.Kind.TheVariants.{StrictCall}
 use Rattle.semantics.specs.Graph.{Node, Flow, node_at}
-use Rattle.law_expansion.proofs.ArcsLists.{get_some}
 use Rattle.law_contexts.specs.Parts.{Framer, Sender, Strict, Inlet, inlet}
 use Rattle.law_contexts.specs.Blocks.{Side, side, Site, Wiring, there_in, is_strict, strict_kind, source_count}
 use Rattle.law_contexts.specs.Wires.{wait_after, wait_for, WaitsForAll}
 use Rattle.law_wires.specs.Written.{Wire, wire, inlet_of, leaves, sender_wires, invoke_wires, strict_wires, strict_end, strict_call_wires, kind_wires, sides, parts_in, wires_in}
 use Rattle.law_wires.specs.Fit.{IsFit}
 use Rattle.law_wires.specs.Halves.{IsWritten}
-use Rattle.law_wires.proofs.Counts.{same_number}
 use Rattle.law_wires.proofs.Members.{AllW, In, InW, wire_left, wire_right, contains_along}
 use Rattle.law_wires.proofs.Nodes.{node_some}
 use Rattle.law_wires.proofs.NodeWires.{node_in_block}
@@ -39,7 +39,7 @@ not_same i j ne = go (i == j) refl
 
 -- behind the place i
 after_last : (n count i : ℕ) → i + 1 ≡ count → wait_after n count i ≡ inlet (Framer n) Left 0
-after_last n count i e = ap (λ t. if t then inlet (Framer n) Left 0 else inlet (Strict n (i + 1)) Left 0) (ap (λ k. k == count) e ∙ same_number count)
+after_last n count i e = ap (λ t. if t then inlet (Framer n) Left 0 else inlet (Strict n (i + 1)) Left 0) (ap (λ k. k == count) e ∙ equal_itself count)
 
 after_other : (n count i : ℕ) → i + 1 < count → wait_after n count i ≡ inlet (Strict n (i + 1)) Left 0
 after_other n count i l = ap (λ t. if t then inlet (Framer n) Left 0 else inlet (Strict n (i + 1)) Left 0) (not_same (i + 1) count (λ q. omega (arith, q, l)))

@@ -1,5 +1,5 @@
 -- The tables by their numbers.
-use Rattle.std.proofs.Common.{◌≡◌, ℕ, zero, suc, ◌+◌, ◌<◌, ◌≤◌, List, [], ◌∷◌, ◌++◌, length, map, take, sum, Option, Some, None, refl, sym, ap, subst, ◌∙◌, arith, max}
+use Rattle.std.proofs.Common.{◌≡◌, ℕ, zero, suc, ◌+◌, ◌<◌, ◌≤◌, List, [], ◌∷◌, length, map, take, sum, Option, Some, None, refl, sym, ap, subst, ◌∙◌, arith, max}
 use Rattle.std.specs.Prelude.{slice_get, slice_index_or, sum_by}
 use Rattle.std.specs.Option.{option_map}
 use Rattle.std.proofs.lemmas.List.{take_all, get_or_past}
@@ -11,18 +11,6 @@ use Rattle.object_view.specs.declared.object.BlockView.{BlockView}
 use Rattle.object_view.specs.Reading.{block_shown}
 use Rattle.element.specs.declared.instructions.Array.{Array}
 use Rattle.loaded.specs.Ready.{entries_in, arrays_in, widest}
-
--- A LIST THAT IS MADE OF ITS ELEMENTS, one after the other
-take_next : {X : Type 0} (n : ℕ) (xs : List X) (x : X) → slice_get xs n ≡ Some x → take (suc n) xs ≡ take n xs ++ x ∷ []
-take_next zero [] x e = absurd cc
-take_next (suc n) [] x e = absurd cc
-take_next zero (y ∷ ys) x e = let same : y ≡ x = cc in ap (λ z. z ∷ []) same
-take_next (suc n) (y ∷ ys) x e = ap (λ zs. y ∷ zs) (take_next n ys x e)
-
-pub one_more : {X : Type 0} (n : ℕ) (xs done next : List X) (x : X) → slice_get xs n ≡ Some x → done ≡ take n xs → next ≡ done ++ x ∷ [] → next ≡ take (n + 1) xs
-one_more n xs done next x e so made =
-    let up : suc n ≡ n + 1 = omega arith in
-    made ∙ ap (λ zs. zs ++ x ∷ []) so ∙ sym (take_next n xs x e) ∙ ap (λ k. take k xs) up
 
 -- ENTRIES
 abbrev size : CodeBlock → ℕ

@@ -3,6 +3,7 @@ use Rattle.std.proofs.Common.{◌≡◌, sym, ◌∙◌, ap, subst, ℕ, ◌+◌
 use Rattle.std.specs.Prelude.{IsPermutation, flat_map, min, Vec, if◌then◌else◌}
 use Rattle.std.proofs.lemmas.Bool.{cases_lt}
 use Rattle.std.proofs.lemmas.List.{length-append, length-map, append-nil, take-append-drop}
+use Rattle.lemmas.proofs.Permutations.{permutation_same}
 use Rattle.tags.specs.declared.token.Token.{Token}
 use Rattle.semantics.specs.Program.{Program}
 use Rattle.element.specs.Held.{LaneView, Held, held_of, IsSoundLane, Fixed, fixed_of}
@@ -21,7 +22,7 @@ use Rattle.ordering.specs.declared.log.Counts.{Counts}
 use Rattle.ordering.specs.Noted.{Noted, noted_in, with_block}
 use Rattle.ordering.specs.Logs.{taken_in, made_in, counts_of, SpendsOldest, Notes, Logs}
 use Rattle.ordering.proofs.Logging.{ends_block}
-use Rattle.law_net.proofs.Orders.{at_first, IsPermutation-same}
+use Rattle.law_net.proofs.Orders.{at_first}
 use Rattle.machine.specs.Runners.{Ran, IsRunning, IsClear, HasNoReason, HasMade, NotesBlock, left_last, still_first, away, tokens_of, behind_all}
 use Rattle.machine.proofs.Tokens.{minus}
 use Rattle.machine.proofs.Flowing.{counts, acts_take}
@@ -128,7 +129,7 @@ module _ {C A : Type 0} (g : Setting) (mesh : MeshId) (start old : Held) (before
       gone_is = by_listed r.listed refl
         where
           by_listed : (b : Bool) → r.listed ≡ b → IsPermutation gone parts.spent
-          by_listed true on = IsPermutation-same _ _ (gone_listed on ∙ first_gone g mesh start r.seat.own.element old r.seat.own.deeds r.seat.own.held beside h.ran h.taken new r.sent.items h.turns spent made spent_is count_is)
+          by_listed true on = permutation_same _ _ (gone_listed on ∙ first_gone g mesh start r.seat.own.element old r.seat.own.deeds r.seat.own.held beside h.ran h.taken new r.sent.items h.turns spent made spent_is count_is)
           by_listed false off = at_first (ap (λ (b : Bool). if b then take spent (tokens_of r.log.items) else minus r.seat.own.held (still_first r made)) off) (minus_gone g mesh start r.seat.own.element old r.seat.own.deeds r.seat.own.held beside h.ran h.taken new r.sent.items h.turns spent made spent_is count_is)
 
       pub asked : (length gone ≡ spent) × (length left ≡ made)

@@ -1,6 +1,7 @@
 -- What a block of events is made of the turn of a lane.
 use Rattle.std.proofs.Common.{◌≡◌, refl, sym, ◌∙◌, ap, subst, ℕ, suc, ◌+◌, ◌%◌, ◌<◌, ◌≤◌, List, [], ◌∷◌, ◌++◌, length, map, get_or, Some, arith, append_assoc}
 use Rattle.std.specs.Prelude.{All, IsPermutation, slice_get, remove}
+use Rattle.lemmas.proofs.Lists.{same_head, same_tail}
 use Rattle.law_net.proofs.Orders.{at_first, at_last}
 use Rattle.tags.specs.declared.token.Token.{Token}
 use Rattle.tags.specs.Addresses.{element_of}
@@ -63,12 +64,6 @@ flows_whole p steps old before (t ∷ ts) new after (mid, sent, does, is, few, s
     = at_last (placed z made f.0 before extra) (ap (λ (l : List Token). l ++ ((before ++ elsewhere z made) ++ extra)) (sym f.2) ∙ ap (λ (l : List Token). mid.queue ++ (l ++ extra)) (sym does.sent)) in
     (others, takes, flows_whole p steps mid sent ts new after rest extra (made ++ others) next)
 
-cons_head : (x y : Token) (xs ys : List Token) → x ∷ xs ≡ y ∷ ys → x ≡ y
-cons_head x y xs ys e = cc
-
-cons_tail : (x y : Token) (xs ys : List Token) → x ∷ xs ≡ y ∷ ys → xs ≡ ys
-cons_tail x y xs ys e = cc
-
 -- Where only tokens that were there are taken: `mine` are those, `tail` stays as it is, and what came behind it is `got`.
 pub flows_first : (p : Program) (steps : ℕ) (old : Held) (before ts : List Token) (new : Held) (after : List Token) (turns : Turns p steps old before ts new after) (mine tail got extra first : List Token)
     → old.queue ≡ mine ++ (tail ++ got) → length ts ≡ length mine → IsPermutation first (mine ++ (got ++ (before ++ extra)))
@@ -82,8 +77,8 @@ flows_first p steps old before (t ∷ ts) new after (mid, sent, does, is, few, s
     let made = does.made in
     let z = old.part.shape in
     let same : does.token ∷ f.0 ≡ m ∷ (mine ++ (tail ++ got)) = sym f.1 ∙ queue in
-    let token : m ≡ does.token = sym (cons_head does.token m f.0 (mine ++ (tail ++ got)) same) in
-    let left : f.0 ≡ mine ++ (tail ++ got) = cons_tail does.token m f.0 (mine ++ (tail ++ got)) same in
+    let token : m ≡ does.token = sym (same_head does.token m f.0 (mine ++ (tail ++ got)) same) in
+    let left : f.0 ≡ mine ++ (tail ++ got) = same_tail does.token m f.0 (mine ++ (tail ++ got)) same in
     let others : List Token = mine ++ (got ++ (before ++ extra)) in
     let takes : IsPermutation first (does.token ∷ others) = at_last perm (ap (λ (x : Token). x ∷ others) token) in
     let g = here z made in
@@ -104,8 +99,8 @@ oldest_taken p steps old before [] new after turns (m ∷ mine) tail queue few =
 oldest_taken p steps old before (t ∷ ts) new after (mid, sent, does, is, low, sound, rest) (m ∷ mine) tail queue few =
     let f = fifo p old before mid sent does in
     let same : does.token ∷ f.0 ≡ m ∷ (mine ++ tail) = sym f.1 ∙ queue in
-    let token : t ≡ m = sym is ∙ cons_head does.token m f.0 (mine ++ tail) same in
-    let left : f.0 ≡ mine ++ tail = cons_tail does.token m f.0 (mine ++ tail) same in
+    let token : t ≡ m = sym is ∙ same_head does.token m f.0 (mine ++ tail) same in
+    let left : f.0 ≡ mine ++ tail = same_tail does.token m f.0 (mine ++ tail) same in
     let g = here old.part.shape does.made in
     let on = oldest_taken p steps mid sent ts new after rest mine (tail ++ g) (f.2 ∙ ap (λ (l : List Token). l ++ g) left ∙ append_assoc mine tail g) (omega (arith, few)) in
     (on.0, ap (λ (x : Token). x ∷ ts) token ∙ ap (λ (l : List Token). m ∷ l) on.1)

@@ -6,8 +6,8 @@ use Rattle.std.proofs.lemmas.List.Elements.{All-nil, All-cons, All-append}
 use Rattle.std.proofs.lemmas.List.Sorted.{IsPermutation-sym, IsPermutation-trans, IsPermutation-append_left, IsPermutation-append_right}
 use mathlib.Core.Logic.{dite}
 use native.Mathlib.Decide.{ℕ_discrete}
-use Rattle.law_determinacy.proofs.Perm.{permutation_cancel}
-use Rattle.law_net.proofs.Orders.{shuffled, Part as Piece, ◌⊕◌, at_first, at_last, IsPermutation-same}
+use Rattle.lemmas.proofs.Permutations.{permutation_cancel, permutation_same}
+use Rattle.law_net.proofs.Orders.{shuffled, Part as Piece, ◌⊕◌, at_first, at_last}
 use Rattle.tags.specs.declared.token.Token.{Token}
 use Rattle.tags.specs.Addresses.{element_of}
 use Rattle.element.specs.Held.{LaneView, Held, Fixed, held_of, fixed_of, with_queue}
@@ -20,7 +20,7 @@ use Rattle.mesh.specs.declared.view.Deed.{Deed}
 use Rattle.mesh.specs.declared.view.Deed.TheVariants.{Posted, FoundFull, Took, SawLive}
 use Rattle.mesh.specs.Deeds.{Bundle, created, made_in}
 use Rattle.mesh.specs.Seats.{MeshId, SeatView, AllTo, Has, Posts, Counts, Leaves, noting, having_taken}
-use Rattle.mesh.proofs.Deeds.{created_more}
+use Rattle.mesh.proofs.Deeds.{created_same}
 use Rattle.machine.specs.declared.runner.Left.{Left}
 use Rattle.machine.specs.declared.runner.Runner.{Runner}
 use Rattle.rounds.specs.Turns.{HaltsLane}
@@ -29,9 +29,6 @@ use Rattle.ordering.specs.Logs.{Logs}
 use Rattle.machine.specs.Runners.{Ended, IsLeft, StaysAt, Runs, Keeps, IsClear, Receives, KeepsTokens, away, HasNoReason}
 use Rattle.machine.proofs.Accounts.{IsQuiet, found_full, saw_live}
 use Rattle.machine.proofs.Steps.{ran_as, ran_quiet, ran_beside, ran_received, ran_in_hand, ran_posted}
-
-same_created : (ds es : List Deed) (d : Deed) (n : ℕ) → es ≡ ds ++ d ∷ [] → made_in d ≡ 0 → created ds ≡ n → created es ≡ n
-same_created ds es d n is none was = let more = created_more ds d in let same : created es ≡ created (ds ++ d ∷ []) = ap created is in omega arith
 
 pub on_err : {X Y : Type 0} (r : Result X Y) (P : Type 0) → P → OnErr r P
 on_err (Result.Ok x) P p = tt
@@ -109,7 +106,7 @@ module _ {C A : Type 0} (g : Setting) (mesh : MeshId) where
         tidy = record {
           count = r.tidy.count;
           addressed = r.tidy.addressed;
-          created = same_created own.deeds s.own.deeds d old.created (ap (λ (z : SeatView). z.own.deeds) is) none r.tidy.created;
+          created = created_same own.deeds s.own.deeds d old.created (ap (λ (z : SeatView). z.own.deeds) is) none r.tidy.created;
           few = r.tidy.few;
         };
       }
@@ -133,7 +130,7 @@ module _ {C A : Type 0} (g : Setting) (mesh : MeshId) where
         tidy = record {
           count = r.tidy.count;
           addressed = r.tidy.addressed;
-          created = same_created own.deeds s.own.deeds d old.created (ap (λ (z : SeatView). z.own.deeds) is) refl r.tidy.created;
+          created = created_same own.deeds s.own.deeds d old.created (ap (λ (z : SeatView). z.own.deeds) is) refl r.tidy.created;
           few = r.tidy.few;
         };
       }
@@ -158,7 +155,7 @@ module _ {C A : Type 0} (g : Setting) (mesh : MeshId) where
         tidy = record {
           count = ap (λ (z : Runner C A). length z.kept.items) received.others ∙ r.tidy.count;
           addressed = λ i d within. subst (λ (z : Runner C A). AllTo g.elements i (get_or z.kept.items i d).items) (sym received.others) (r.tidy.addressed i d within);
-          created = same_created own.deeds new.seat.own.deeds (Took from x) new.created (ap (λ (z : SeatView). z.own.deeds) whole) refl (r.tidy.created ∙ ap (λ (z : Runner C A). z.created) (sym received.others));
+          created = created_same own.deeds new.seat.own.deeds (Took from x) new.created (ap (λ (z : SeatView). z.own.deeds) whole) refl (r.tidy.created ∙ ap (λ (z : Runner C A). z.created) (sym received.others));
           few = subst (λ (z : Runner C A). z.created ≤ 2 ^ 40) (sym received.others) r.tidy.few;
         };
       }
@@ -181,7 +178,7 @@ module _ {C A : Type 0} (g : Setting) (mesh : MeshId) where
         tidy = record {
           count = r.tidy.count;
           addressed = r.tidy.addressed;
-          created = same_created own.deeds s.own.deeds (Took from x.items) old.created (ap (λ (z : SeatView). z.own.deeds) is) refl r.tidy.created;
+          created = created_same own.deeds s.own.deeds (Took from x.items) old.created (ap (λ (z : SeatView). z.own.deeds) is) refl r.tidy.created;
           few = r.tidy.few;
         };
       }
@@ -250,7 +247,7 @@ module _ {C A : Type 0} (g : Setting) (mesh : MeshId) where
         noted = r.noted;
         unlogged = r.unlogged;
         ran = ran_beside g mesh start old.seat.own.element (held_of old.lane) old.seat.own.deeds old.seat.own.held (away old) r.ran (old.hand.items ++ (bundles old.kept.items ++ sent.items))
-            (IsPermutation-same _ _ (ap (λ (l : List Token). old.hand.items ++ (bundles old.kept.items ++ l)) same));
+            (permutation_same _ _ (ap (λ (l : List Token). old.hand.items ++ (bundles old.kept.items ++ l)) same));
         tidy = record { count = r.tidy.count; addressed = r.tidy.addressed; created = r.tidy.created; few = r.tidy.few };
       }
 
@@ -357,7 +354,7 @@ module _ {A : Type 0} where
                 (λ hit. subst (λ (j : ℕ). AllTo g.elements j (get_or (slice_set old.kept.items i empty) j d).items) (sym hit)
                 (subst (λ (v : Vec Token A). AllTo g.elements i v.items) (sym (get_same old.kept.items i d empty low)) (subst (λ (l : List Token). AllTo g.elements i l) (sym none) (All-nil (λ (t : Token). element_of g.elements t.to ≡ i)))))
                 (λ miss. subst (λ (v : Vec Token A). AllTo g.elements k v.items) (sym (get_other old.kept.items i k d empty miss)) (r.tidy.addressed k d below)));
-            created = same_created own.deeds s.own.deeds (Posted i x.items) old.created (ap (λ (z : SeatView). z.own.deeds) whole) refl r.tidy.created;
+            created = created_same own.deeds s.own.deeds (Posted i x.items) old.created (ap (λ (z : SeatView). z.own.deeds) whole) refl r.tidy.created;
             few = r.tidy.few;
           };
         }

@@ -5,7 +5,7 @@ use Rattle.std.specs.Cmp.Rules.{signed_items}
 use lib.Pointwise.{pointwise}
 use Rattle.std.specs.Ordering.{int_eq}
 use Rattle.std.proofs.lemmas.List.Sorted.{IsPermutation-refl, IsPermutation-sym, IsPermutation-trans, IsPermutation-cons}
-use Rattle.law_determinacy.proofs.Perm.{Put, Within, put_first, within_permutation, permutation_cancel}
+use Rattle.lemmas.proofs.Permutations.{Put, Within, put_first, within_permutation, permutation_cancel}
 use Rattle.law_net.proofs.Orders.{shuffled, Part as Piece, ◌⊕◌}
 use Rattle.tags.specs.declared.value.FaultKind.{FaultKind}
 use Rattle.tags.specs.declared.value.Origin.{Origin}

@@ -89,3 +89,7 @@ says_less word (d ∷ ds) more s = (s.0, says_less word ds more s.1)
 
 pub never_zero : (word : ℕ) (ds ds' more : List Deed) → ds ≡ ds' → Says word (ds ++ more) → IsTrue (knows_reason ds') → word ≢ 0
 never_zero word ds ds' more same s known = knows_some word ds (says_less word ds more s) (ap knows_reason same ∙ known)
+
+-- a deed that makes nothing
+pub created_same : (ds es : List Deed) (d : Deed) (n : ℕ) → es ≡ ds ++ d ∷ [] → made_in d ≡ 0 → created ds ≡ n → created es ≡ n
+created_same ds es d n is none was = let more = created_more ds d in let same : created es ≡ created (ds ++ d ∷ []) = ap created is in omega arith

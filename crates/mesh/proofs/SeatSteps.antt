@@ -1,5 +1,5 @@
 -- The opening, and seats that are split off, joined and settled.
-use Rattle.std.proofs.Common.{◌≡◌, ◌≢◌, ℕ, zero, suc, ◌+◌, ◌*◌, ◌%◌, ◌^◌, ◌<◌, ◌≤◌, Bool, true, false, List, [], ◌∷◌, ◌++◌, map, length, replicate, get_or, set, refl, ap, sym, ◌∙◌, subst, ⊎_elim, inl, inr, ◌⊎◌, arith, Option, Some, None, length-append, length-set, get_or-set_other, get_or-set_same, eq-eqb, ne_eqb, ◌==◌, if◌then◌else◌, nat_lt, filter}
+use Rattle.std.proofs.Common.{◌≡◌, ◌≢◌, ℕ, zero, suc, ◌+◌, ◌*◌, ◌^◌, ◌<◌, ◌≤◌, Bool, true, false, List, [], ◌∷◌, ◌++◌, map, length, replicate, get_or, set, refl, ap, sym, ◌∙◌, subst, ⊎_elim, inl, inr, ◌⊎◌, arith, Option, Some, None, length-append, length-set, get_or-set_other, get_or-set_same, eq-eqb, ne_eqb, ◌==◌, if◌then◌else◌, nat_lt, filter}
 use Rattle.std.proofs.lemmas.List.{append-nil}
 use Rattle.std.specs.List.Sorted.{IsPermutation}
 use Rattle.std.proofs.lemmas.List.Sorted.{IsPermutation-refl, IsPermutation-sym, IsPermutation-trans, IsPermutation-cons}
@@ -14,9 +14,10 @@ use native.Mathlib.Decide.{ℕ_discrete}
 use lib.ListN.{get_elem?, length-map, length-replicate}
 use Rattle.atomic_table.specs.Table.{Step, keeps, Allows, Splits, Joins, opening}
 use Rattle.atomic_table.proofs.Lists.{at_set}
+use Rattle.lemmas.proofs.Lists.{nothing_before}
 use Rattle.tags.specs.declared.token.Token.{Token}
-use Rattle.tags.specs.declared.token.To.{To}
 use Rattle.tags.specs.Addresses.{element_of}
+use Rattle.tags.proofs.Elements.{element_below}
 use Rattle.mesh.specs.declared.view.Commit.{Commit}
 use Rattle.mesh.specs.declared.view.Part.{Part}
 use Rattle.mesh.specs.declared.view.View.{View}
@@ -95,10 +96,6 @@ all_zero zero i = refl
 all_zero (suc n) zero = refl
 all_zero (suc n) (suc i) = all_zero n i
 
-nothing_left : {A : Type 0} (xs ys : List A) → xs ++ ys ≡ [] → xs ≡ []
-nothing_left [] ys e = refl
-nothing_left (x ∷ xs) ys e = absurd (cc)
-
 total_zero : (m : ℕ) (f : ℕ → ℕ) → ((j : ℕ) → f j ≡ 0) → total m f ≡ 0
 unfolding total
 total_zero zero f h = refl
@@ -125,17 +122,6 @@ gather_none : (m : ℕ) (f : ℕ → Ts) → ((j : ℕ) → f j ≡ []) → gath
 unfolding gather
 gather_none zero f h = refl
 gather_none (suc m) f h = let r = gather_none m f h in let t = h m in cc
-
-below_mod : (x n : ℕ) → 0 < n → x % n < n
-below_mod x n h = omega arith
-
-element_below : (n : ℕ) (to : To) → 0 < n → element_of n to < n
-element_below n (To.Instr f ip p) h = below_mod f n h
-element_below n (To.Fetch x) h = below_mod x n h
-element_below n (To.Store x v) h = below_mod x n h
-element_below n To.Manager h = h
-element_below n (To.Release f) h = h
-element_below n (To.Host p) h = h
 
 abbrev theirs : ℕ → Ts → ℕ → Ts
 theirs n start e = filter (λ (t : Token). element_of n t.to == e) start
@@ -272,7 +258,7 @@ module _ {B : Type 0} (items : B → Ts) (n : ℕ) (start : Ts) where
           none_yet zero q is =
               let all : commits_by v.spare r.log ≡ [] = r.past.own v.spare below ∙ ap (λ (z : Part). commits_of v.spare z.deeds) its.1 in
               let pre = by_prefix v.spare v.seen r.log ok.seen in
-              subst (λ (z : Part). commits_by z.element v.seen ≡ commits_by z.element r.log) (some-injective f q is) (nothing_left (commits_by v.spare v.seen) pre.0 (pre.1 ∙ all) ∙ sym all)
+              subst (λ (z : Part). commits_by z.element v.seen ≡ commits_by z.element r.log) (some-injective f q is) (nothing_before (commits_by v.spare v.seen) pre.0 (pre.1 ∙ all) ∙ sym all)
           none_yet (suc k) q is = absurd (some-ne-none q (sym is))
 
       old : (j : ℕ) (u : View) → j < length vs' → get_elem? vs' j ≡ some u → Fits n start r.part owner' r.log j u

@@ -5,25 +5,27 @@ use Rattle.std.specs.Int.{w64, cast_signed}
 use Rattle.std.proofs.lemmas.Bool.{lt-ltb}
 use Rattle.std.proofs.lemmas.Int.{to_z-of_z}
 use Rattle.std.proofs.lemmas.Option.{slice_get-get_or}
+use Rattle.lemmas.proofs.Alls.{all_at}
+use Rattle.lemmas.proofs.Integers.{int_lt_itself}
 use Rattle.semantics.specs.Program.{Instr, CodeBlock, Code}
 use Rattle.semantics.specs.Bytes.{number_from, words_of, bytes_of, IsCode}
-use Rattle.object_view.specs.declared.opcode.Opcode.{Opcode}
-use Rattle.object_view.specs.declared.opcode.Opcode.TheVariants.{Copy}
+use Rattle.semantics.specs.declared.opcode.Opcode.{Opcode}
+use Rattle.semantics.specs.declared.opcode.Opcode.TheVariants.{Copy}
 use Rattle.semantics.specs.Versions.{version_number}
 use Rattle.object_view.specs.Fields.{word_at, count_in, inputs_in, outputs_in, slots_in, opcode_in}
 use Rattle.object_view.specs.Reading.{opened, listed, shown, version_in, instrs_below, instr_place, literal_in, literal_or_zero, array_in, instr_as, instr_in, block_in, code_in}
 use Rattle.object_view.specs.Checks.{MAGIC}
 use Rattle.object_view.specs.Sending.{IsAscending}
 use Rattle.object_view.proofs.Numbers.{number_stops, number_goes}
-use Rattle.object_view.proofs.Sound.{not_below, version_told}
+use Rattle.object_view.proofs.Sound.{version_told}
 use Rattle.object_view.proofs.BackWords.{object_back}
 use Rattle.object_view.proofs.BackInstr.{HasPlace, IsLooked, word_one, word_two, opcode_told, instr_back}
-use Rattle.object_view.proofs.BackLists.{listed_same, all_at, IsRead, is_read, all_words_fit, block_there, place_there, entry_back}
+use Rattle.object_view.proofs.BackLists.{listed_same, IsRead, is_read, all_words_fit, block_there, place_there, entry_back}
 
 -- LITERALS
 pub number_there : (z : ℤ) (ls : List ℤ) (k : ℕ) → IsAscending ls → k < length ls → get_or ls k z ≡ z → number_from 0 z ls ≡ k
 number_there z ls k up lt at =
-    let stop = number_stops 0 z ls k z lt (ap (λ (a : ℤ). int_lt a z) at ∙ not_below z) in
+    let stop = number_stops 0 z ls k z lt (ap (λ (a : ℤ). int_lt a z) at ∙ int_lt_itself z) in
     omega (arith, stop, least k lt at)
   where
     least : (k : ℕ) → k < length ls → get_or ls k z ≡ z → k ≤ number_from 0 z ls

@@ -14,56 +14,21 @@ use Rattle.semantics.specs.declared.program.Op.{Op}
 use Rattle.semantics.specs.declared.program.Op.TheVariants.{Apply1, Apply2, Apply2Right, Apply2Left, Lit, Copy, Sync, Switch, Fetch, Store, Frame, Link, Send, Return, Ask, Open, Take, Give, Drain, Release}
 use Rattle.semantics.specs.Program.{Instr, CodeBlock, Code}
 use Rattle.semantics.specs.Bytes as Bytes
-use Rattle.semantics.specs.Bytes.{binary_code, number_from, Head, head, head_of, dest_word, port_bit, origin_code, instr_words, HasOperand, HasDests, IsOrigin, IsSlot, IsDest, IsInstr, IsCodeBlock, IsCode}
+use Rattle.semantics.specs.Bytes.{number_from, Head, head, head_of, dest_word, port_bit, origin_code, instr_words, HasOperand, HasDests, IsOrigin, IsSlot, IsDest, IsInstr, IsCodeBlock, IsCode}
 use Rattle.semantics.specs.declared.version.Version.{Version}
 use Rattle.semantics.specs.declared.version.Version.TheVariants.{One, Two}
-use Rattle.object_view.specs.declared.opcode.Opcode.{Opcode}
-use Rattle.object_view.specs.declared.opcode.Opcode.TheVariants as Named
-use Rattle.object_view.specs.Fields.{binary_of, opcode_from, opcode_of, opcode_in, slot_in, first_half, second_half, with, may_fault, dest_of, port_of, operand_in, origin_number, origin_of}
+use Rattle.semantics.specs.declared.opcode.Opcode.{Opcode}
+use Rattle.semantics.specs.declared.opcode.Opcode.TheVariants as Named
+use Rattle.semantics.proofs.OperatorWords.{binary_back, binary_few}
+use Rattle.semantics.specs.Opcodes as Opcodes
+use Rattle.semantics.specs.Opcodes.{binary_code, opcode_for}
+use Rattle.object_view.specs.Fields.{opcode_in, slot_in, first_half, second_half, dest_of, port_of, operand_in, origin_number, origin_of}
+use Rattle.semantics.specs.Opcodes.{binary_of, opcode_from, opcode_of, with, makes_faults}
 use Rattle.object_view.specs.Reading.{shown, version_in, instr_as, literal_or_zero}
 use Rattle.object_view.proofs.Lawful.{same_fault}
 use Rattle.object_view.proofs.Numbers.{number_most}
 
--- THE OPCODE of an operation
-abbrev pub opcode_named : Op → Opcode
-opcode_named (Apply1 op) = Named.Apply1 op
-opcode_named (Apply2 op) = Named.Apply2 op
-opcode_named (Apply2Right op z) = Named.Apply2Right op
-opcode_named (Apply2Left op z) = Named.Apply2Left op
-opcode_named (Lit z) = Named.Lit
-opcode_named Copy = Named.Copy
-opcode_named Sync = Named.Sync
-opcode_named Switch = Named.Switch
-opcode_named (Fetch a) = Named.Fetch
-opcode_named (Store a) = Named.Store
-opcode_named Frame = Named.Frame
-opcode_named (Link b) = Named.Link
-opcode_named (Send b e) = Named.Send
-opcode_named (Return o) = Named.Return
-opcode_named (Ask o) = Named.Ask
-opcode_named (Open k) = Named.Open
-opcode_named (Take k) = Named.Take
-opcode_named (Give k) = Named.Give
-opcode_named (Drain k) = Named.Drain
-opcode_named (Release o) = Named.Release
-
-binary_back : (op : Binary) → binary_of (binary_code op) ≡ Some op
-binary_back Add = refl
-binary_back Sub = refl
-binary_back Mul = refl
-binary_back Div = refl
-binary_back Rem = refl
-binary_back And = refl
-binary_back Or = refl
-binary_back Xor = refl
-binary_back Shl = refl
-binary_back Shr = refl
-binary_back Eq = refl
-binary_back Ne = refl
-binary_back Lt = refl
-binary_back Le = refl
-
-pub opcode_back : (ls : List ℤ) (op : Op) → opcode_of (head_of ls op).opcode (head_of ls op).flag ≡ Some (opcode_named op)
+pub opcode_back : (ls : List ℤ) (op : Op) → opcode_of (head_of ls op).opcode (head_of ls op).flag ≡ Some (opcode_for op)
 unfolding opcode_of
 opcode_back ls (Apply1 Neg) = refl
 opcode_back ls (Apply1 Not) = refl
@@ -86,22 +51,6 @@ opcode_back ls (Take k) = refl
 opcode_back ls (Give k) = refl
 opcode_back ls (Drain k) = refl
 opcode_back ls (Release o) = refl
-
-binary_few : (op : Binary) → binary_code op < 2 ^ 8
-binary_few Add = omega arith
-binary_few Sub = omega arith
-binary_few Mul = omega arith
-binary_few Div = omega arith
-binary_few Rem = omega arith
-binary_few And = omega arith
-binary_few Or = omega arith
-binary_few Xor = omega arith
-binary_few Shl = omega arith
-binary_few Shr = omega arith
-binary_few Eq = omega arith
-binary_few Ne = omega arith
-binary_few Lt = omega arith
-binary_few Le = omega arith
 
 pub opcode_few : (ls : List ℤ) (op : Op) → (head_of ls op).opcode < 2 ^ 8
 opcode_few ls (Apply1 Neg) = omega arith
@@ -222,7 +171,7 @@ abbrev pub IsLooked : (ℕ → ℕ) → List ℤ → Type 0
 IsLooked w ls = (z : ℤ) → Contains ls z → literal_or_zero w (number_from 0 z ls) ≡ z
 
 pub with_back : (w : ℕ → ℕ) (c : Code) (op : Op) → IsLooked w c.literals → HasOperand c op → OpRoom op
-    → with (opcode_named op) (head_of c.literals op).operand (literal_or_zero w (head_of c.literals op).operand) ≡ op
+    → with (opcode_for op) (head_of c.literals op).operand (literal_or_zero w (head_of c.literals op).operand) ≡ op
 with_back w c (Apply1 Neg) look h r = refl
 with_back w c (Apply1 Not) look h r = refl
 with_back w c (Apply2 op) look h r = refl
@@ -267,7 +216,7 @@ origin_back (At b n) h =
         go false e = refl
 
 -- the second word: the operand and the origin
-pub second_back : (v : ℕ) (version : Version) (k : ℕ) (op : Op) (o : Opcode) (origin : Origin) → version_in v ≡ version → k < 2 ^ 32 → Bytes.may_fault op ≡ may_fault o → IsOrigin v op origin
+pub second_back : (v : ℕ) (version : Version) (k : ℕ) (op : Op) (o : Opcode) (origin : Origin) → version_in v ≡ version → k < 2 ^ 32 → Opcodes.may_fault op ≡ makes_faults o → IsOrigin v op origin
     → (operand_in version o (k + 2 ^ 32 * origin_code origin) ≡ k) × (origin_of (origin_number version o (k + 2 ^ 32 * origin_code origin)) ≡ origin)
 second_back v One k op o Untold e few same is = (omega arith, refl)
 second_back v One k op o (At b n) e few same is =
@@ -276,14 +225,14 @@ second_back v One k op o (At b n) e few same is =
   where
     differ : One ≡ Two → ⊥
     differ q = cc
-second_back v Two k op o Untold e few same is = go (may_fault o)
+second_back v Two k op o Untold e few same is = go (makes_faults o)
   where
     go : (t : Bool) → ((if t then (k + 2 ^ 32 * 0) % 2 ^ 32 else k + 2 ^ 32 * 0) ≡ k) × (origin_of (if t then (k + 2 ^ 32 * 0) / 2 ^ 32 else 0) ≡ Untold)
     go true =
         let z : (k + 2 ^ 32 * 0) / 2 ^ 32 ≡ 0 = omega (arith, few) in
         (omega (arith, few), ap origin_of z)
     go false = (omega arith, refl)
-second_back v Two k op o (At b n) e few same is = go (may_fault o) (sym same ∙ is.1)
+second_back v Two k op o (At b n) e few same is = go (makes_faults o) (sym same ∙ is.1)
   where
     y : ℕ
     y = k + 2 ^ 32 * origin_code (At b n)
@@ -361,7 +310,7 @@ word_one c i = first_word_of (head_of c.literals i.op).opcode (head_of c.literal
 abbrev pub word_two : Code → Instr → ℕ
 word_two c i = (head_of c.literals i.op).operand + 2 ^ 32 * origin_code i.origin
 
-pub opcode_told : (v : ℕ) (c : Code) (i : Instr) → HasPlace v c i → opcode_in (word_one c i) ≡ Some (opcode_named i.op)
+pub opcode_told : (v : ℕ) (c : Code) (i : Instr) → HasPlace v c i → opcode_in (word_one c i) ≡ Some (opcode_for i.op)
 opcode_told v c i p =
     let ls = c.literals in
     let parts = first_parts (head_of ls i.op).opcode (head_of ls i.op).flag i.slot (dest_word i.firsts) (dest_word i.seconds) (opcode_few ls i.op) (flag_few ls i.op) p.slot (half_few i.firsts p.firsts) (half_few i.seconds p.seconds) in
@@ -370,21 +319,21 @@ opcode_told v c i p =
 abbrev made : Op → Origin → ℕ → List Dest → List Dest → Instr
 made op origin slot firsts seconds = record { op = op; origin = origin; slot = slot; firsts = firsts; seconds = seconds }
 
-fault_named : (w : ℕ → ℕ) (c : Code) (op : Op) → IsLooked w c.literals → HasOperand c op → OpRoom op → Bytes.may_fault op ≡ may_fault (opcode_named op)
+fault_named : (w : ℕ → ℕ) (c : Code) (op : Op) → IsLooked w c.literals → HasOperand c op → OpRoom op → Opcodes.may_fault op ≡ makes_faults (opcode_for op)
 fault_named w c op look h r =
     let k = (head_of c.literals op).operand in
-    ap Bytes.may_fault (sym (with_back w c op look h r)) ∙ same_fault (opcode_named op) k (literal_or_zero w k)
+    ap Opcodes.may_fault (sym (with_back w c op look h r)) ∙ same_fault (opcode_for op) k (literal_or_zero w k)
 
 pub second_told : (w : ℕ → ℕ) (v : ℕ) (c : Code) (i : Instr) → w 1 ≡ v → length c.literals ≤ 65536 → IsLooked w c.literals → HasPlace v c i
-    → (operand_in (version_in (w 1)) (opcode_named i.op) (word_two c i) ≡ (head_of c.literals i.op).operand) × (origin_of (origin_number (version_in (w 1)) (opcode_named i.op) (word_two c i)) ≡ i.origin)
+    → (operand_in (version_in (w 1)) (opcode_for i.op) (word_two c i) ≡ (head_of c.literals i.op).operand) × (origin_of (origin_number (version_in (w 1)) (opcode_for i.op) (word_two c i)) ≡ i.origin)
 second_told w v c i e few look p =
-    second_back v (version_in (w 1)) (head_of c.literals i.op).operand i.op (opcode_named i.op) i.origin (ap version_in (sym e)) (operand_few c.literals i.op few p.room) (fault_named w c i.op look p.operand p.room) p.origin
+    second_back v (version_in (w 1)) (head_of c.literals i.op).operand i.op (opcode_for i.op) i.origin (ap version_in (sym e)) (operand_few c.literals i.op few p.room) (fault_named w c i.op look p.operand p.room) p.origin
 
 pub instr_back : (w : ℕ → ℕ) (v : ℕ) (c : Code) (i : Instr) → w 1 ≡ v → length c.literals ≤ 65536 → IsLooked w c.literals → HasPlace v c i
-    → shown (instr_as w (opcode_named i.op) (word_one c i) (word_two c i)) ≡ i
+    → shown (instr_as w (opcode_for i.op) (word_one c i) (word_two c i)) ≡ i
 instr_back w v c i e few look p =
     let ls = c.literals in
-    let o = opcode_named i.op in
+    let o = opcode_for i.op in
     let x = word_one c i in
     let y = word_two c i in
     let second = second_told w v c i e few look p in

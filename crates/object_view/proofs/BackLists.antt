@@ -2,8 +2,8 @@
 use Rattle.std.proofs.Common.{◌≡◌, ℕ, zero, suc, ◌+◌, ◌*◌, ◌^◌, ◌<◌, ◌≤◌, List, [], ◌∷◌, ◌++◌, length, map, Some, ℤ, refl, sym, ap, subst, ◌∙◌, append_assoc, arith, ◌⊎◌, inl, inr}
 use Rattle.std.specs.Prelude.{flat_map, slice_get, All, FitsSigned}
 use Rattle.std.specs.Int.{w64, cast_unsigned}
-use Rattle.std.proofs.lemmas.Option.{slice_get_within, get_or_from_slice_get}
 use mir.ValLaws as laws
+use Rattle.lemmas.proofs.Alls.{all_at}
 use Rattle.semantics.specs.declared.program.Dest.{Dest}
 use Rattle.semantics.specs.Program.{Instr, CodeBlock, Code}
 use Rattle.semantics.specs.Bytes as Bytes
@@ -28,9 +28,6 @@ listed_same f i (x ∷ xs) h =
     let here : f i ≡ x = ap f z ∙ h 0 x refl in
     let ih = listed_same f (i + 1) xs (λ k y p. let e : i + 1 + k ≡ i + suc k = omega arith in ap f e ∙ h (suc k) y p) in
     ap (λ y. y ∷ listed f (i + 1) (length xs)) here ∙ ap (λ l. x ∷ l) ih
-
-pub all_at : {X : Type 0} (P : X → Type 0) (xs : List X) (k : ℕ) (x : X) → All P xs → slice_get xs k ≡ Some x → P x
-all_at P xs k x all at = subst P (get_or_from_slice_get xs k x x at) (all k x (slice_get_within xs k x at))
 
 pub reads_past : (w : ℕ → ℕ) (i : ℕ) (xs rest : List ℕ) (j : ℕ) → ReadsTo w i (xs ++ rest) j → ReadsTo w (i + length xs) rest j
 reads_past w i [] rest j r =

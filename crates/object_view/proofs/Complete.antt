@@ -4,6 +4,8 @@ use Rattle.std.specs.Prelude.{slice_get, All, Contains, int_lt, sum_by, is_some,
 use Rattle.std.proofs.lemmas.Bool.{and_from, or_right, or_left, lt-ltb, le-leb, le-ltb, eq-eqb}
 use Rattle.std.proofs.lemmas.Option.{slice_get_within}
 use Rattle.std.proofs.lemmas.List.Sums.{sum-map}
+use Rattle.lemmas.proofs.Alls.{all_at}
+use Rattle.lemmas.proofs.SliceGet.{get_some}
 use Rattle.tags.specs.declared.token.Port.{Port}
 use Rattle.tags.specs.declared.token.Port.TheVariants.{Left, Right}
 use Rattle.operators.specs.declared.Unary.TheVariants.{Neg, Not}
@@ -15,20 +17,23 @@ use Rattle.semantics.specs.Rule.{slot_of}
 use Rattle.semantics.specs.Bytes as Bytes
 use Rattle.semantics.specs.Plan as Plan
 use Rattle.object_view.specs.Fields as Fields
+use Rattle.semantics.specs.Opcodes as Opcodes
 use Rattle.semantics.specs.Bytes.{number_from, head_of, dest_word, port_bit, origin_code, block_word, words_of, bytes_of, HasOperand, HasDests, IsOrigin, IsSlot, IsDest, IsInstr, IsCodeBlock, IsCode, IsObject}
 use Rattle.object_view.specs.declared.fault.ObjectFault.{ObjectFault}
 use Rattle.object_view.specs.declared.fault.ObjectFault.TheVariants.{Truncated, Trailing, BadMagic, BadVersion, BadTable, BadOpcode, BadDestination, BadSlot, BadLiteral}
 use Rattle.semantics.specs.declared.version.Version.{Version}
 use Rattle.semantics.specs.declared.version.Version.TheVariants.{One, Two}
-use Rattle.object_view.specs.Fields.{word_at, count_in, inputs_in, outputs_in, slots_in, opcode_in, slot_in, dest_of, first_half, second_half, operand_in, origin_number, may_fault, may_have, may_go_to, is_dyadic}
+use Rattle.object_view.specs.Fields.{word_at, count_in, inputs_in, outputs_in, slots_in, opcode_in, slot_in, dest_of, first_half, second_half, operand_in, origin_number}
+use Rattle.semantics.specs.Opcodes.{makes_faults, may_have, may_go_to, takes_two}
 use Rattle.object_view.specs.Reading.{listed, version_in, instrs_below, instr_place, literal_in, array_in, word_count}
 use Rattle.object_view.specs.Checks.{Checked, first_then, unless, each, MAGIC, counts_fit, header_checked, entry_fits, entry_checked, length_checked, tables_checked, cells_below, array_checked, arrays_checked, literal_checked, literals_checked, operand_fits, slot_fits, may_take_right, dest_fits, dests_fit, target_fits, number_checked, opcode_checked, instr_checked_as, instr_checked, block_checked, opening_checked, content_checked, first_refusal}
 use Rattle.object_view.proofs.Each.{passed_first}
 use Rattle.object_view.proofs.Facts.{checked_all, none_refused}
 use Rattle.object_view.proofs.Lawful.{cells_taken, map_same}
 use Rattle.object_view.proofs.BackWords.{length_words}
-use Rattle.object_view.proofs.BackInstr.{opcode_named, HasHalf, word_one, word_two, opcode_told, second_told, operand_few, half_few, opcode_few, flag_few, first_parts, dest_back, not_zero}
-use Rattle.object_view.proofs.BackLists.{IsRead, all_at, origin_few, block_there, place_there, entry_back}
+use Rattle.semantics.specs.Opcodes.{opcode_for}
+use Rattle.object_view.proofs.BackInstr.{HasHalf, word_one, word_two, opcode_told, second_told, operand_few, half_few, opcode_few, flag_few, first_parts, dest_back, not_zero}
+use Rattle.object_view.proofs.BackLists.{IsRead, origin_few, block_there, place_there, entry_back}
 use Rattle.object_view.proofs.Back.{number_there, literal_back, looked, object_read, all_listed_back}
 
 -- CHECKS
@@ -47,13 +52,8 @@ each_passes check i (suc n) h =
 from_zero : (check : ℕ → Checked) (n : ℕ) → ((k : ℕ) → k < n → check k ≡ Ok tt) → each check 0 n ≡ Ok tt
 from_zero check n h = each_passes check 0 n (λ k lt. let z : 0 + k ≡ k = omega arith in ap check z ∙ h k lt)
 
-element : {X : Type 0} (xs : List X) (k : ℕ) → k < length xs → (x : X) × (slice_get xs k ≡ Some x)
-element [] k lt = absurd (omega arith)
-element (x ∷ xs) zero lt = (x, refl)
-element (x ∷ xs) (suc k) lt = element xs k (omega arith)
-
 -- OPERANDS
-has_passes : (c : Code) (op : Op) → HasOperand c op → may_have (opcode_named op) (head_of c.literals op).operand ≡ true
+has_passes : (c : Code) (op : Op) → HasOperand c op → may_have (opcode_for op) (head_of c.literals op).operand ≡ true
 has_passes c (Apply1 Neg) h = refl
 has_passes c (Apply1 Not) h = refl
 has_passes c (Apply2 op) h = refl
@@ -76,12 +76,12 @@ has_passes c (Give k) h = and_from (nat_le 2 k) (nat_le k 64) (le-leb 2 k h.0) (
 has_passes c (Drain k) h = and_from (nat_le 2 k) (nat_le k 64) (le-leb 2 k h.0) (le-leb k 64 h.1)
 has_passes c (Release o) h = refl
 
-operand_passes : (version : Version) (op : Op) (k n : ℕ) → k < 2 ^ 32 → n ≤ 262144 → may_have (opcode_named op) k ≡ true → operand_in version (opcode_named op) (k + 2 ^ 32 * n) ≡ k → operand_fits version (opcode_named op) (k + 2 ^ 32 * n) ≡ true
-operand_passes One op k n few small h e = ap (may_have (opcode_named op)) e ∙ h
+operand_passes : (version : Version) (op : Op) (k n : ℕ) → k < 2 ^ 32 → n ≤ 262144 → may_have (opcode_for op) k ≡ true → operand_in version (opcode_for op) (k + 2 ^ 32 * n) ≡ k → operand_fits version (opcode_for op) (k + 2 ^ 32 * n) ≡ true
+operand_passes One op k n few small h e = ap (may_have (opcode_for op)) e ∙ h
 operand_passes Two op k n few small h e =
-    let o = opcode_named op in
+    let o = opcode_for op in
     let y = k + 2 ^ 32 * n in
-    let number : origin_number Two o y ≤ 262144 = go (may_fault o) in
+    let number : origin_number Two o y ≤ 262144 = go (makes_faults o) in
     and_from (nat_le (origin_number Two o y) 262144 && nat_lt (operand_in Two o y) (2 ^ 32)) (may_have o (operand_in Two o y))
     (and_from (nat_le (origin_number Two o y) 262144) (nat_lt (operand_in Two o y) (2 ^ 32)) (le-leb _ _ number) (lt-ltb _ _ (omega (arith, e, few))))
     (ap (may_have o) e ∙ h)
@@ -90,7 +90,7 @@ operand_passes Two op k n few small h e =
     go true = omega (arith, few, small)
     go false = omega arith
 
-target_passes : (w : ℕ → ℕ) (v : ℕ) (c : Code) (j : ℕ) → IsCode v c → IsRead v c w j → (op : Op) → HasOperand c op → target_fits w (opcode_named op) (head_of c.literals op).operand ≡ true
+target_passes : (w : ℕ → ℕ) (v : ℕ) (c : Code) (j : ℕ) → IsCode v c → IsRead v c w j → (op : Op) → HasOperand c op → target_fits w (opcode_for op) (head_of c.literals op).operand ≡ true
 target_passes w v c j is r (Apply1 Neg) h = refl
 target_passes w v c j is r (Apply1 Not) h = refl
 target_passes w v c j is r (Apply2 op) h = refl
@@ -128,7 +128,7 @@ literal_passes w v c j is r z h =
     let num = number_there z c.literals h.0 (record { steps = is.ascend }) h.1 h.2 in
     passes (nat_lt (number_from 0 z c.literals) (w 3)) BadLiteral (lt-ltb _ _ (omega (arith, num, h.1, r.literals)))
 
-number_passes : (w : ℕ → ℕ) (v : ℕ) (c : Code) (j : ℕ) → IsCode v c → IsRead v c w j → (op : Op) → HasOperand c op → number_checked w (opcode_named op) (head_of c.literals op).operand ≡ Ok tt
+number_passes : (w : ℕ → ℕ) (v : ℕ) (c : Code) (j : ℕ) → IsCode v c → IsRead v c w j → (op : Op) → HasOperand c op → number_checked w (opcode_for op) (head_of c.literals op).operand ≡ Ok tt
 number_passes w v c j is r (Apply1 Neg) h = refl
 number_passes w v c j is r (Apply1 Not) h = refl
 number_passes w v c j is r (Apply2 op) h = refl
@@ -152,7 +152,7 @@ number_passes w v c j is r (Drain k) h = refl
 number_passes w v c j is r (Release o) h = refl
 
 -- SLOTS
-slot_passes : (x : CodeBlock) (i : Instr) (op : Op) → IsSlot x i (slot_of i op) → slot_fits (opcode_named op) i.slot x.slots ≡ true
+slot_passes : (x : CodeBlock) (i : Instr) (op : Op) → IsSlot x i (slot_of i op) → slot_fits (opcode_for op) i.slot x.slots ≡ true
 slot_passes x i (Apply1 op) h = eq-eqb i.slot 0 h
 slot_passes x i (Apply2 op) h = lt-ltb i.slot x.slots h
 slot_passes x i (Apply2Right op z) h = eq-eqb i.slot 0 h
@@ -202,13 +202,13 @@ in_turn [] [] p = refl
 in_turn [] (e ∷ es) p = absurd (omega (arith, p))
 in_turn (d ∷ ds) es p = refl
 
-landing : (ds es : List Dest) → length ds ≡ 1 → All (λ (d : Dest). d.port ≡ Left) ds → Fields.goes_left (lead ds) ≡ true
+landing : (ds es : List Dest) → length ds ≡ 1 → All (λ (d : Dest). d.port ≡ Left) ds → Opcodes.goes_left (lead ds) ≡ true
 landing [] es p all = absurd (omega (arith, p))
 landing (d ∷ ds) es p all =
     let left : d.port ≡ Left = all 0 d (omega arith) in
-    ap Fields.is_left left
+    ap Opcodes.is_left left
 
-go_passes : (op : Op) (ds es : List Dest) → HasDests op ds es → may_go_to (opcode_named op) (lead ds) (lead es) ≡ true
+go_passes : (op : Op) (ds es : List Dest) → HasDests op ds es → may_go_to (opcode_for op) (lead ds) (lead es) ≡ true
 go_passes (Apply1 op) ds es h = in_turn ds es h.1
 go_passes (Apply2 op) ds es h = in_turn ds es h.1
 go_passes (Apply2Right op z) ds es h = in_turn ds es h.1
@@ -230,7 +230,7 @@ go_passes (Give k) ds es h = no_second es h.1
 go_passes (Drain k) ds es h = no_second es h.1
 go_passes (Release o) ds es h = none_there ds es h.0 h.1
 
-dyadic_named : (i : Instr) (op : Op) → (elim (slot_of i op) as (λ x. Bool) [ None ↦ false | Some r ↦ if Plan.is_credit op then false else true ]) ≡ true → is_dyadic (opcode_named op) ≡ true
+dyadic_named : (i : Instr) (op : Op) → (elim (slot_of i op) as (λ x. Bool) [ None ↦ false | Some r ↦ if Plan.is_credit op then false else true ]) ≡ true → takes_two (opcode_for op) ≡ true
 dyadic_named i (Apply1 op) h = absurd cc
 dyadic_named i (Apply2 op) h = refl
 dyadic_named i (Apply2Right op z) h = absurd cc
@@ -255,7 +255,7 @@ dyadic_named i (Release o) h = refl
 right_passes : (w : ℕ → ℕ) (v : ℕ) (c : Code) (j k : ℕ) (b : CodeBlock) → IsCode v c → IsRead v c w j → slice_get c.program.blocks k ≡ Some b → (m : ℕ) → m < length b.instrs → Bytes.is_dyadic (slice_get b.instrs m) ≡ true → may_take_right (opcode_in (w (instr_place w (instrs_below w k + m)))) ≡ true
 right_passes w v c j k b is r at m lt dyadic =
     let ok = block_there v c k b is at in
-    let e = element b.instrs m lt in
+    let e = get_some b.instrs m lt in
     let i = e.0 in
     let told = ap opcode_in (r.instr k b at m i e.1).0 ∙ opcode_told v c i (place_there v c b m i is ok e.1) in
     ap may_take_right told ∙ dyadic_named i i.op (ap Bytes.is_dyadic (sym e.1) ∙ dyadic)
@@ -296,13 +296,13 @@ dest_passes w v c j k b n (d ∷ ds) is r at half all =
 
 -- AN INSTRUCTION
 instr_passes : (w : ℕ → ℕ) (v : ℕ) (c : Code) (j k : ℕ) (b : CodeBlock) (n : ℕ) (i : Instr) → IsCode v c → IsRead v c w j → slice_get c.program.blocks k ≡ Some b → slice_get b.instrs n ≡ Some i
-    → opcode_checked w b.slots (instrs_below w k + length b.instrs) (instrs_below w k + n) (opcode_named i.op) (word_one c i) (word_two c i) ≡ Ok tt
+    → opcode_checked w b.slots (instrs_below w k + length b.instrs) (instrs_below w k + n) (opcode_for i.op) (word_one c i) (word_two c i) ≡ Ok tt
 instr_passes w v c j k b n i is r at there =
     let ok = block_there v c k b is at in
     let it : IsInstr v c b n i = ok.instrs n i there in
     let p = place_there v c b n i is ok there in
     let ls = c.literals in
-    let o = opcode_named i.op in
+    let o = opcode_for i.op in
     let x = word_one c i in
     let y = word_two c i in
     let version = version_in (w 1) in
@@ -334,7 +334,7 @@ unfolding instr_checked
 instr_checks w v c j k b n i is r at there =
     let ok = block_there v c k b is at in
     let p = place_there v c b n i is ok there in
-    let o = opcode_named i.op in
+    let o = opcode_for i.op in
     let end = instrs_below w k + length b.instrs in
     let ip = instrs_below w k + n in
     let read = r.instr k b at n i there in
@@ -354,7 +354,7 @@ block_passes w v c j k b is r at =
     ap (λ (s : ℕ). each (instr_checked w s (first + count_in (w (6 + k)))) first (count_in (w (6 + k)))) slots
     ∙ ap (λ (m : ℕ). each (instr_checked w b.slots (first + m)) first m) count
     ∙ each_passes (instr_checked w b.slots (first + length b.instrs)) first (length b.instrs) (λ n lt.
-    let i = element b.instrs n lt in
+    let i = get_some b.instrs n lt in
     instr_checks w v c j k b n i.0 is r at i.1)
 
 entry_passes : (w : ℕ → ℕ) (v : ℕ) (c : Code) (j k : ℕ) (b : CodeBlock) → IsCode v c → IsRead v c w j → slice_get c.program.blocks k ≡ Some b → entry_checked w k ≡ Ok tt
@@ -388,7 +388,7 @@ arrays_pass w v c j is r =
     let cells : cells_below w (w 4) ≡ sum c.program.arrays = cells_all w (w 4) ∙ ap sum all in
     both_pass (each (array_checked w) 0 (w 4)) (unless (nat_le (cells_below w (w 4)) 65536) BadTable)
     (from_zero (array_checked w) (w 4) (λ k lt.
-    let e = element c.program.arrays k (omega (arith, lt, r.arrays)) in
+    let e = get_some c.program.arrays k (omega (arith, lt, r.arrays)) in
     let few = all_at (λ (m : ℕ). (1 ≤ m) × (m ≤ 65536)) c.program.arrays k e.0 is.arrays e.1 in
     let same : array_in w k ≡ e.0 = r.array k e.0 e.1 in
     passes (nat_le 1 (array_in w k) && nat_le (array_in w k) 65536) BadTable (and_from _ _ (le-leb 1 (array_in w k) (omega (arith, same, few.0))) (le-leb (array_in w k) 65536 (omega (arith, same, few.1))))))
@@ -396,8 +396,8 @@ arrays_pass w v c j is r =
 
 literals_pass : (w : ℕ → ℕ) (v : ℕ) (c : Code) (j : ℕ) → IsCode v c → IsRead v c w j → literals_checked w ≡ Ok tt
 literals_pass w v c j is r = from_zero (literal_checked w) (w 3 - 1) (λ k lt.
-    let y = element c.literals k (omega (arith, lt, r.literals)) in
-    let z = element c.literals (k + 1) (omega (arith, lt, r.literals)) in
+    let y = get_some c.literals k (omega (arith, lt, r.literals)) in
+    let z = get_some c.literals (k + 1) (omega (arith, lt, r.literals)) in
     passes (int_lt (literal_in w k) (literal_in w (k + 1))) BadLiteral
     (ap (λ (a : ℤ). int_lt a (literal_in w (k + 1))) (literal_back v c w j is r k y.0 y.1) ∙ ap (λ (a : ℤ). int_lt y.0 a) (literal_back v c w j is r (k + 1) z.0 z.1) ∙ is.ascend k y.0 z.0 y.1 z.1))
 
@@ -431,7 +431,7 @@ tables_pass : (n : ℕ) (w : ℕ → ℕ) (v : ℕ) (c : Code) (j : ℕ) → IsC
 tables_pass n w v c j is r e =
     ap (λ (t : Bool). if t then Err Truncated else first_then (each (entry_checked w) 0 (w 2)) (length_checked n w)) (le-ltb n (8 * (6 + w 2)) (omega (arith, e)))
     ∙ both_pass (each (entry_checked w) 0 (w 2)) (length_checked n w)
-    (from_zero (entry_checked w) (w 2) (λ k lt. let b = element c.program.blocks k (omega (arith, lt, r.blocks)) in entry_passes w v c j k b.0 is r b.1))
+    (from_zero (entry_checked w) (w 2) (λ k lt. let b = get_some c.program.blocks k (omega (arith, lt, r.blocks)) in entry_passes w v c j k b.0 is r b.1))
     (length_passes n w e)
 
 opening_passes : (n : ℕ) (w : ℕ → ℕ) (v : ℕ) (c : Code) (j : ℕ) → IsCode v c → IsRead v c w j → n ≡ 8 * word_count w → opening_checked n w ≡ Ok tt
@@ -443,7 +443,7 @@ content_passes : (w : ℕ → ℕ) (v : ℕ) (c : Code) (j : ℕ) → IsCode v c
 content_passes w v c j is r =
     both_pass (arrays_checked w) (first_then (literals_checked w) (each (block_checked w) 0 (w 2))) (arrays_pass w v c j is r)
     (both_pass (literals_checked w) (each (block_checked w) 0 (w 2)) (literals_pass w v c j is r)
-    (from_zero (block_checked w) (w 2) (λ k lt. let b = element c.program.blocks k (omega (arith, lt, r.blocks)) in block_passes w v c j k b.0 is r b.1)))
+    (from_zero (block_checked w) (w 2) (λ k lt. let b = get_some c.program.blocks k (omega (arith, lt, r.blocks)) in block_passes w v c j k b.0 is r b.1)))
 
 pub lawful_opens : (v : ℕ) (c : Code) → IsCode v c → first_refusal (bytes_of v c) ≡ None
 lawful_opens v c is =

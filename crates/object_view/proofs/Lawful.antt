@@ -9,19 +9,20 @@ use Rattle.std.proofs.lemmas.List.Sums.{sum-map, sum_by-cons}
 use Rattle.tags.specs.declared.token.Port.{Port}
 use Rattle.tags.specs.declared.token.Port.TheVariants.{Left, Right}
 use Rattle.tags.specs.declared.value.Origin.TheVariants.{Untold, At}
-use Rattle.operators.specs.declared.Binary.TheVariants.{Add, Sub, Mul, Div, Rem, And, Or, Xor, Shl, Shr, Eq, Ne, Lt, Le}
 use Rattle.semantics.specs.declared.program.Dest.{Dest}
 use Rattle.semantics.specs.Program.{Instr, CodeBlock}
 use Rattle.semantics.specs.Rule.{slot_of}
 use Rattle.semantics.specs.Bytes as Bytes
+use Rattle.semantics.specs.Opcodes as Opcodes
 use Rattle.semantics.specs.Bytes.{IsDest, HasOperand, HasDests, IsOrigin, IsSlot, IsInstr, IsCodeBlock, IsCode}
 use Rattle.object_view.specs.declared.fault.ObjectFault.TheVariants.{BadTable, BadLiteral}
 use Rattle.semantics.specs.declared.version.Version.{Version}
 use Rattle.semantics.specs.declared.version.Version.TheVariants.{One, Two}
-use Rattle.object_view.specs.declared.opcode.Opcode.{Opcode}
-use Rattle.object_view.specs.declared.opcode.Opcode.TheVariants.{Apply1, Apply2, Apply2Right, Apply2Left, Lit, Copy, Sync, Switch, Fetch, Store, Frame, Link, Send, Return, Ask, Open, Take, Give, Drain, Release}
+use Rattle.semantics.specs.declared.opcode.Opcode.{Opcode}
+use Rattle.semantics.specs.declared.opcode.Opcode.TheVariants.{Apply1, Apply2, Apply2Right, Apply2Left, Lit, Copy, Sync, Switch, Fetch, Store, Frame, Link, Send, Return, Ask, Open, Take, Give, Drain, Release}
 use Rattle.semantics.specs.Versions.{version_number}
-use Rattle.object_view.specs.Fields.{word_at, count_in, inputs_in, slots_in, opcode_in, first_half, second_half, dest_of, port_of, with, may_fault, may_have, may_go_to, goes_left, is_left, is_dyadic, operand_in, origin_number, origin_of}
+use Rattle.object_view.specs.Fields.{word_at, count_in, inputs_in, slots_in, opcode_in, first_half, second_half, dest_of, port_of, operand_in, origin_number, origin_of}
+use Rattle.semantics.specs.Opcodes.{with, makes_faults, may_have, may_go_to, goes_left, is_left, takes_two}
 use Rattle.object_view.specs.Reading.{Opened, opened, literal_place, listed, shown, version_in, instrs_below, instr_place, literal_in, literal_or_zero, array_in, instr_as, instr_in, block_in, code_in}
 use Rattle.object_view.specs.Checks.{unless, each, entry_fits, entry_checked, array_checked, arrays_checked, cells_below, slot_fits, may_take_right, dest_fits, target_fits, number_checked, instr_checked_as, instr_checked, block_checked, checked}
 use Rattle.object_view.proofs.Each.{cells_next}
@@ -123,49 +124,10 @@ operand_there w Give k c m t n = bound_there k m
 operand_there w Drain k c m t n = bound_there k m
 operand_there w Release k c m t n = omega (arith, leb-true k 255 t)
 
-pub same_fault : (o : Opcode) (k : ℕ) (z : ℤ) → Bytes.may_fault (with o k z) ≡ may_fault o
-same_fault (Apply2 Add) k z = refl
-same_fault (Apply2 Sub) k z = refl
-same_fault (Apply2 Mul) k z = refl
-same_fault (Apply2 Div) k z = refl
-same_fault (Apply2 Rem) k z = refl
-same_fault (Apply2 And) k z = refl
-same_fault (Apply2 Or) k z = refl
-same_fault (Apply2 Xor) k z = refl
-same_fault (Apply2 Shl) k z = refl
-same_fault (Apply2 Shr) k z = refl
-same_fault (Apply2 Eq) k z = refl
-same_fault (Apply2 Ne) k z = refl
-same_fault (Apply2 Lt) k z = refl
-same_fault (Apply2 Le) k z = refl
-same_fault (Apply2Right Add) k z = refl
-same_fault (Apply2Right Sub) k z = refl
-same_fault (Apply2Right Mul) k z = refl
-same_fault (Apply2Right Div) k z = refl
-same_fault (Apply2Right Rem) k z = refl
-same_fault (Apply2Right And) k z = refl
-same_fault (Apply2Right Or) k z = refl
-same_fault (Apply2Right Xor) k z = refl
-same_fault (Apply2Right Shl) k z = refl
-same_fault (Apply2Right Shr) k z = refl
-same_fault (Apply2Right Eq) k z = refl
-same_fault (Apply2Right Ne) k z = refl
-same_fault (Apply2Right Lt) k z = refl
-same_fault (Apply2Right Le) k z = refl
-same_fault (Apply2Left Add) k z = refl
-same_fault (Apply2Left Sub) k z = refl
-same_fault (Apply2Left Mul) k z = refl
-same_fault (Apply2Left Div) k z = refl
-same_fault (Apply2Left Rem) k z = refl
-same_fault (Apply2Left And) k z = refl
-same_fault (Apply2Left Or) k z = refl
-same_fault (Apply2Left Xor) k z = refl
-same_fault (Apply2Left Shl) k z = refl
-same_fault (Apply2Left Shr) k z = refl
-same_fault (Apply2Left Eq) k z = refl
-same_fault (Apply2Left Ne) k z = refl
-same_fault (Apply2Left Lt) k z = refl
-same_fault (Apply2Left Le) k z = refl
+pub same_fault : (o : Opcode) (k : ℕ) (z : ℤ) → Opcodes.may_fault (with o k z) ≡ makes_faults o
+same_fault (Apply2 op) k z = refl
+same_fault (Apply2Right op) k z = refl
+same_fault (Apply2Left op) k z = refl
 same_fault (Apply1 op) k z = refl
 same_fault Lit k z = refl
 same_fault Copy k z = refl
@@ -186,13 +148,13 @@ same_fault Release k z = refl
 
 origin_there : (v : Version) (o : Opcode) (k : ℕ) (z : ℤ) (y : ℕ) → IsOrigin (version_number v) (with o k z) (origin_of (origin_number v o y))
 origin_there One o k z y = tt
-origin_there Two o k z y = go (may_fault o) refl
+origin_there Two o k z y = go (makes_faults o) refl
   where
-    told : (n : ℕ) → may_fault o ≡ true → (t : Bool) → IsOrigin 2 (with o k z) (if t then Untold else At ((n - 1) / 1024 % 256) ((n - 1) % 1024))
+    told : (n : ℕ) → makes_faults o ≡ true → (t : Bool) → IsOrigin 2 (with o k z) (if t then Untold else At ((n - 1) / 1024 % 256) ((n - 1) % 1024))
     told n e true = tt
     told n e false = (refl, same_fault o k z ∙ e, omega arith, omega arith)
 
-    go : (t : Bool) → may_fault o ≡ t → IsOrigin 2 (with o k z) (origin_of (if t then y / 2 ^ 32 else 0))
+    go : (t : Bool) → makes_faults o ≡ t → IsOrigin 2 (with o k z) (origin_of (if t then y / 2 ^ 32 else 0))
     go true e = told (y / 2 ^ 32) e (y / 2 ^ 32 == 0)
     go false e = tt
 
@@ -270,7 +232,7 @@ dests_there Drain k z d e h = (at_most d, none e h)
 dests_there Release k z d e h = (none d (and_parts _ _ h).0, none e (and_parts _ _ h).1)
 
 -- DESTINATIONS
-dyadic_same : (w : ℕ → ℕ) (o : Opcode) (x y : ℕ) → is_dyadic o ≡ true → Bytes.is_dyadic (Some (shown (instr_as w o x y))) ≡ true
+dyadic_same : (w : ℕ → ℕ) (o : Opcode) (x y : ℕ) → takes_two o ≡ true → Bytes.is_dyadic (Some (shown (instr_as w o x y))) ≡ true
 dyadic_same w (Apply1 op) x y h = absurd cc
 dyadic_same w (Apply2 op) x y h = refl
 dyadic_same w (Apply2Right op) x y h = absurd cc

@@ -1,18 +1,9 @@
 -- The number of a literal in a table that ascends.
-use Rattle.std.proofs.Common.{◌≡◌, ℕ, zero, suc, ◌+◌, ◌<◌, ◌≤◌, Bool, true, false, List, [], ◌∷◌, length, get_or, Some, ℤ, pos, negsuc, if◌then◌else◌, refl, ap, ◌∙◌, arith}
+use Rattle.std.proofs.Common.{◌≡◌, ℕ, zero, suc, ◌+◌, ◌<◌, ◌≤◌, Bool, true, false, List, [], ◌∷◌, length, get_or, Some, ℤ, if◌then◌else◌, refl, ap, ◌∙◌, arith}
 use Rattle.std.specs.Prelude.{slice_get, int_lt}
-use Rattle.std.proofs.lemmas.Bool.{ltb-true, lt-ltb}
+use Rattle.lemmas.proofs.Integers.{int_lt_trans}
 use Rattle.semantics.specs.Bytes.{number_from}
 use Rattle.object_view.specs.Sending.{IsAscending}
-
-pub int_lt_trans : (a b c : ℤ) → int_lt a b ≡ true → int_lt b c ≡ true → int_lt a c ≡ true
-int_lt_trans (pos a) (pos b) (pos c) p q = lt-ltb a c (omega (arith, ltb-true a b p, ltb-true b c q))
-int_lt_trans (pos a) (pos b) (negsuc c) p q = absurd cc
-int_lt_trans (pos a) (negsuc b) c p q = absurd cc
-int_lt_trans (negsuc a) (pos b) (pos c) p q = refl
-int_lt_trans (negsuc a) (pos b) (negsuc c) p q = absurd cc
-int_lt_trans (negsuc a) (negsuc b) (pos c) p q = refl
-int_lt_trans (negsuc a) (negsuc b) (negsuc c) p q = lt-ltb c a (omega (arith, ltb-true b a p, ltb-true c b q))
 
 number_least : (n : ℕ) (z : ℤ) (ls : List ℤ) → n ≤ number_from n z ls
 number_least n z [] = omega arith

@@ -1,21 +1,23 @@
 -- Bytes that no check refuses are an object: they are spelt as the code that they tell.
-use Rattle.std.proofs.Common.{◌≡◌, ℕ, zero, suc, ◌+◌, ◌-◌, ◌*◌, ◌/◌, ◌%◌, ◌^◌, ◌<◌, ◌≤◌, Bool, true, false, ◌&&◌, ◌||◌, ◌==◌, nat_lt, nat_le, if◌then◌else◌, List, [], ◌∷◌, ◌++◌, length, get_or, map, take, drop, Option, Some, None, Ok, Err, ℤ, pos, negsuc, ◌⊎◌, inl, inr, refl, sym, ap, subst, ◌∙◌, arith, eqb-true}
+use Rattle.std.proofs.Common.{◌≡◌, ℕ, zero, suc, ◌+◌, ◌-◌, ◌*◌, ◌/◌, ◌%◌, ◌^◌, ◌<◌, ◌≤◌, Bool, true, false, ◌&&◌, ◌||◌, ◌==◌, nat_lt, nat_le, if◌then◌else◌, List, [], ◌∷◌, ◌++◌, length, get_or, map, take, drop, Option, Some, None, Ok, Err, ℤ, pos, ◌⊎◌, inl, inr, refl, sym, ap, subst, ◌∙◌, arith, eqb-true}
 use Rattle.std.specs.Prelude.{unwrap_or, option_to_list, flat_map, slice_get, int_lt}
 use Rattle.std.specs.Int.{w64, cast_unsigned, to_le_bytes}
-use Rattle.std.proofs.lemmas.Bool.{and_parts, leb-true, ltb-true, ltb-false, eqb-false}
+use Rattle.std.proofs.lemmas.Bool.{and_parts, leb-true, ltb-true, ltb-false, eqb-false, or_cases}
 use Rattle.std.proofs.lemmas.Int.{of_z-to_z}
 use Rattle.std.proofs.lemmas.List.{drop-drop}
 use Rattle.byteorder.specs.Endian.{little_number}
 use Rattle.std.proofs.lemmas.Option.{slice_get_within, get_or_from_slice_get}
+use Rattle.lemmas.proofs.Integers.{int_lt_itself}
 use Rattle.semantics.specs.Program.{CodeBlock}
 use Rattle.semantics.specs.Bytes.{number_from, Head, head_of, dest_word, origin_code, instr_words, block_word, words_of, bytes_of}
 use Rattle.object_view.specs.declared.fault.ObjectFault.TheVariants.{Truncated, BadMagic, BadVersion, BadTable, BadOpcode, BadDestination, BadSlot, BadLiteral}
 use Rattle.semantics.specs.declared.version.Version.{Version}
 use Rattle.semantics.specs.declared.version.Version.TheVariants.{One, Two}
-use Rattle.object_view.specs.declared.opcode.Opcode.{Opcode}
-use Rattle.object_view.specs.declared.opcode.Opcode.TheVariants.{Apply1, Apply2, Apply2Right, Apply2Left, Lit, Copy, Sync, Switch, Fetch, Store, Frame, Link, Send, Return, Ask, Open, Take, Give, Drain, Release}
+use Rattle.semantics.specs.declared.opcode.Opcode.{Opcode}
+use Rattle.semantics.specs.declared.opcode.Opcode.TheVariants.{Apply1, Apply2, Apply2Right, Apply2Left, Lit, Copy, Sync, Switch, Fetch, Store, Frame, Link, Send, Return, Ask, Open, Take, Give, Drain, Release}
 use Rattle.semantics.specs.Versions.{version_number}
-use Rattle.object_view.specs.Fields.{word_at, count_in, slots_in, opcode_in, slot_in, first_half, second_half, dest_of, with, may_have, may_go_to, operand_in, origin_number, origin_of}
+use Rattle.object_view.specs.Fields.{word_at, count_in, slots_in, opcode_in, slot_in, first_half, second_half, dest_of, operand_in, origin_number, origin_of}
+use Rattle.semantics.specs.Opcodes.{with, may_have, may_go_to}
 use Rattle.object_view.specs.Reading.{Opened, opened, instr_bytes, listed, shown, version_in, instrs_below, instr_count, instr_place, literal_place, array_place, word_count, literal_in, literal_or_zero, array_in, instr_as, instr_in, block_in, code_in}
 use Rattle.object_view.specs.Sending.{IsAscending}
 use Rattle.object_view.specs.Checks.{Checked, first_then, unless, each, MAGIC, counts_fit, header_checked, entry_checked, length_checked, tables_checked, arrays_checked, literal_checked, literals_checked, operand_fits, slot_fits, may_take_right, dest_fits, dests_fit, target_fits, number_checked, opcode_checked, instr_checked_as, instr_checked, block_checked, opening_checked, content_checked, checked}
@@ -37,15 +39,11 @@ pub record Passed (n : ℕ) (w : ℕ → ℕ) : Type 0 where
   pub literals : literals_checked w ≡ Ok tt
   pub blocks : each (block_checked w) 0 (w 2) ≡ Ok tt
 
-either : (a b : Bool) → (a || b) ≡ true → (a ≡ true) ⊎ (b ≡ true)
-either true b h = inl refl
-either false b h = inr h
-
 header_passed : (w : ℕ → ℕ) → header_checked w ≡ Ok tt → (w 0 ≡ MAGIC) × ((w 1 ≡ 1) ⊎ (w 1 ≡ 2)) × CountsFit w
 header_passed w h = go (w 0 == MAGIC) (w 1 == 1 || w 1 == 2) refl refl h
   where
     version : (w 1 == 1 || w 1 == 2) ≡ true → (w 1 ≡ 1) ⊎ (w 1 ≡ 2)
-    version q = elim (either (w 1 == 1) (w 1 == 2) q) [ inl a ↦ inl (eqb-true _ _ a) | inr b ↦ inr (eqb-true _ _ b) ]
+    version q = elim (or_cases (w 1 == 1) (w 1 == 2) q) [ inl a ↦ inl (eqb-true _ _ a) | inr b ↦ inr (eqb-true _ _ b) ]
 
     go : (a b : Bool) → (w 0 == MAGIC) ≡ a → (w 1 == 1 || w 1 == 2) ≡ b → (if a then (if b then unless (counts_fit w) BadTable else Err BadVersion) else Err BadMagic) ≡ Ok tt → (w 0 ≡ MAGIC) × ((w 1 ≡ 1) ⊎ (w 1 ≡ 2)) × CountsFit w
     go false b p q k = absurd cc
@@ -109,18 +107,6 @@ ascending w h = record { steps = step }
         let ok = unless_ok (int_lt (literal_in w k) (literal_in w (k + 1))) BadLiteral (ap (literal_checked w) (sym at) ∙ each_at (literal_checked w) 0 (w 3 - 1) k h (omega (arith, lt))) in
         ap (λ a. int_lt a z) (sym first) ∙ ap (λ a. int_lt (literal_in w k) a) (sym second) ∙ ok
 
-pub not_below : (z : ℤ) → int_lt z z ≡ false
-not_below (pos n) = go (nat_lt n n) refl
-  where
-    go : (t : Bool) → nat_lt n n ≡ t → t ≡ false
-    go true e = absurd (omega (arith, ltb-true n n e))
-    go false e = refl
-not_below (negsuc n) = go (nat_lt n n) refl
-  where
-    go : (t : Bool) → nat_lt n n ≡ t → t ≡ false
-    go true e = absurd (omega (arith, ltb-true n n e))
-    go false e = refl
-
 least_after : (w : ℕ → ℕ) (k : ℕ) → literals_checked w ≡ Ok tt → k < w 3 → k ≤ number_from 0 (literal_in w k) (literals_in w)
 least_after w zero h lt = omega arith
 least_after w (suc k) h lt =
@@ -136,7 +122,7 @@ pub literal_numbered : (w : ℕ → ℕ) (k : ℕ) → literals_checked w ≡ Ok
 literal_numbered w k h lt =
     let len = length_listed (literal_in w) 0 (w 3) in
     let here = get_or_from_slice_get (literals_in w) k (literal_in w k) (pos 0) (get_listed (literal_in w) 0 (w 3) k k lt (omega arith)) in
-    let stop = number_stops 0 (literal_in w k) (literals_in w) k (pos 0) (omega (arith, len, lt)) (ap (λ a. int_lt a (literal_in w k)) here ∙ not_below (literal_in w k)) in
+    let stop = number_stops 0 (literal_in w k) (literals_in w) k (pos 0) (omega (arith, len, lt)) (ap (λ a. int_lt a (literal_in w k)) here ∙ int_lt_itself (literal_in w k)) in
     omega (arith, stop, least_after w k h lt)
 
 -- AN INSTRUCTION

@@ -6,12 +6,14 @@ use Rattle.tags.specs.declared.token.Port.TheVariants.{Left, Right}
 use Rattle.tags.specs.declared.value.Origin.TheVariants.{Untold, At}
 use Rattle.operators.specs.declared.Unary.TheVariants.{Neg, Not}
 use Rattle.operators.specs.declared.Binary.{Binary}
-use Rattle.operators.specs.declared.Binary.TheVariants.{Add, Sub, Mul, Div, Rem, And, Or, Xor, Shl, Shr, Eq, Ne, Lt, Le}
-use Rattle.semantics.specs.Bytes.{binary_code, number_from, head, head_of, dest_word, port_bit, origin_code}
+use Rattle.semantics.specs.Bytes.{number_from, head, head_of, dest_word, port_bit, origin_code}
 use Rattle.semantics.specs.declared.version.Version.{Version}
-use Rattle.object_view.specs.declared.opcode.Opcode.{Opcode}
-use Rattle.object_view.specs.declared.opcode.Opcode.TheVariants.{Apply1, Apply2, Apply2Right, Apply2Left, Lit, Copy, Sync, Switch, Fetch, Store, Frame, Link, Send, Return, Ask, Open, Take, Give, Drain, Release}
-use Rattle.object_view.specs.Fields.{binary_of, flagged, unflagged, opcode_from, opcode_of, with, dest_of, port_of, has_origin, operand_in, origin_number, origin_of}
+use Rattle.semantics.specs.declared.opcode.Opcode.{Opcode}
+use Rattle.semantics.specs.declared.opcode.Opcode.TheVariants.{Apply1, Apply2, Apply2Right, Apply2Left, Lit, Copy, Sync, Switch, Fetch, Store, Frame, Link, Send, Return, Ask, Open, Take, Give, Drain, Release}
+use Rattle.semantics.proofs.OperatorWords.{binary_numbered}
+use Rattle.semantics.specs.Opcodes.{binary_code, code_number, flag_number}
+use Rattle.object_view.specs.Fields.{dest_of, port_of, has_origin, operand_in, origin_number, origin_of}
+use Rattle.semantics.specs.Opcodes.{binary_of, flagged, unflagged, opcode_from, opcode_of, with}
 
 -- OPCODES BY THEIR NUMBERS
 lookup : {X : Type 0} → ℕ → List (ℕ × X) → Option X
@@ -33,41 +35,6 @@ lookup_holds {X} P c x (p ∷ ps) k h = go (lookup_holds P c x ps k.1) (c == p.0
         let key : p.0 ≡ c = sym (eqb-true c p.0 e) in
         subst (λ (n : ℕ). P n x) key (subst (λ (y : X). P p.0 y) same k.0)
     go later false e q = later q
-
-abbrev binaries : List (ℕ × Binary)
-binaries = (1, Add) ∷ (2, Sub) ∷ (3, Mul) ∷ (4, Div) ∷ (5, Rem) ∷ (6, And) ∷ (7, Or) ∷ (8, Xor) ∷ (9, Shl) ∷ (10, Shr) ∷ (11, Eq) ∷ (12, Ne) ∷ (13, Lt) ∷ (14, Le) ∷ []
-
-binary_numbered : (c : ℕ) (op : Binary) → binary_of c ≡ Some op → binary_code op ≡ c
-unfolding lookup Holds
-binary_numbered c op h = lookup_holds (λ (n : ℕ) (b : Binary). binary_code b ≡ n) c op binaries (refl, (refl, (refl, (refl, (refl, (refl, (refl, (refl, (refl, (refl, (refl, (refl, (refl, (refl, tt)))))))))))))) h
-
-abbrev pub code_number : Opcode → ℕ
-code_number (Apply1 Neg) = 15
-code_number (Apply1 Not) = 16
-code_number (Apply2 op) = binary_code op
-code_number (Apply2Right op) = binary_code op
-code_number (Apply2Left op) = binary_code op
-code_number Lit = 17
-code_number Copy = 18
-code_number Sync = 19
-code_number Switch = 20
-code_number Fetch = 21
-code_number Store = 22
-code_number Frame = 23
-code_number Link = 24
-code_number Send = 25
-code_number Return = 26
-code_number Ask = 27
-code_number Open = 28
-code_number Take = 29
-code_number Give = 30
-code_number Drain = 31
-code_number Release = 32
-
-abbrev pub flag_number : Opcode → ℕ
-flag_number (Apply2Right op) = 1
-flag_number (Apply2Left op) = 2
-flag_number o = 0
 
 abbrev plain : List (ℕ × Opcode)
 plain = (15, Apply1 Neg) ∷ (16, Apply1 Not) ∷ (17, Lit) ∷ (18, Copy) ∷ (19, Sync) ∷ (20, Switch) ∷ (21, Fetch) ∷ (22, Store) ∷ (23, Frame) ∷ (24, Link) ∷ (25, Send) ∷ (26, Return) ∷ (27, Ask) ∷ (28, Open) ∷ (29, Take) ∷ (30, Give) ∷ (31, Drain) ∷ (32, Release) ∷ []

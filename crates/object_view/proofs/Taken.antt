@@ -1,38 +1,13 @@
 -- A list that is built from its elements by their numbers.
-use Rattle.std.proofs.Common.{arith, ◌≡◌, ℕ, zero, suc, ◌+◌, ◌≤◌, List, [], ◌∷◌, ◌++◌, length, take, Some, None, sym, ap, ◌∙◌, subst, All}
+use Rattle.std.proofs.Common.{◌≡◌, ℕ, ◌≤◌, List, length, take, None, ◌∙◌}
 use Rattle.std.specs.Prelude.{slice_get}
 use Rattle.std.proofs.lemmas.List.{take_all}
-use Rattle.std.proofs.lemmas.Option.{slice_get_within, get_or_from_slice_get}
-
-take_next : {X : Type 0} (i : ℕ) (xs : List X) (x : X) → slice_get xs i ≡ Some x → take (suc i) xs ≡ take i xs ++ x ∷ []
-take_next zero [] x e = absurd cc
-take_next (suc i) [] x e = absurd cc
-take_next zero (y ∷ ys) x e =
-    let same : y ≡ x = cc (e) in
-    ap (λ z. z ∷ []) same
-take_next (suc i) (y ∷ ys) x e = ap (λ zs. y ∷ zs) (take_next i ys x e)
-
--- one more of them
-pub more : {X : Type 0} (i : ℕ) (xs done next : List X) (x : X) → slice_get xs i ≡ Some x → done ≡ take i xs → next ≡ done ++ x ∷ [] → next ≡ take (i + 1) xs
-more i xs done next x e so made =
-    let up : suc i ≡ i + 1 = omega (arith) in
-    made ∙ ap (λ zs. zs ++ x ∷ []) so ∙ sym (take_next i xs x e) ∙ ap (λ k. take k xs) up
+use Rattle.lemmas.proofs.SliceGet.{get_none}
 
 -- all of them
 pub all : {X : Type 0} (n : ℕ) (xs done : List X) → length xs ≤ n → done ≡ take n xs → done ≡ xs
 all n xs done le so = so ∙ take_all n xs le
 
-past : {X : Type 0} (xs : List X) (n : ℕ) → slice_get xs n ≡ None → length xs ≤ n
-past [] n e = omega (arith)
-past (x ∷ xs) zero e = absurd cc
-past (x ∷ xs) (suc n) e =
-    let below = past xs n e in
-    omega (arith, below)
-
 -- where there is no further one, it has all
 pub outside : {X : Type 0} (n : ℕ) (xs done : List X) → slice_get xs n ≡ None → done ≡ take n xs → done ≡ xs
-outside n xs done none so = all n xs done (past xs n none) so
-
--- what all of them are, each is
-pub each_is : {X : Type 0} (P : X → Type 0) (xs : List X) → All P xs → (i : ℕ) (x : X) → slice_get xs i ≡ Some x → P x
-each_is P xs h i x e = subst P (get_or_from_slice_get xs i x x e) (h i x (slice_get_within xs i x e))
+outside n xs done none so = all n xs done (get_none xs n none) so

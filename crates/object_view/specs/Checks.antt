@@ -2,11 +2,12 @@
 use Rattle.std.specs.Prelude.{ℕ, zero, suc, ◌+◌, ◌-◌, ◌*◌, ◌/◌, ◌%◌, ◌^◌, Bool, true, ◌&&◌, ◌||◌, ◌==◌, nat_lt, nat_le, if◌then◌else◌, int_lt, Option, Some, None, Result, Ok, Err, ⊤, List, length}
 use Rattle.object_view.specs.declared.fault.ObjectFault.{ObjectFault}
 use Rattle.object_view.specs.declared.fault.ObjectFault.TheVariants.{Truncated, BadMagic, BadVersion, BadTable, BadOpcode, BadDestination, BadSlot, BadLiteral, Trailing}
-use Rattle.object_view.specs.declared.opcode.Opcode.{Opcode}
-use Rattle.object_view.specs.declared.opcode.Opcode.TheVariants.{Apply2Right, Apply2Left, Lit, Fetch, Store, Link, Send, Return, Ask, Release}
+use Rattle.semantics.specs.declared.opcode.Opcode.{Opcode}
+use Rattle.semantics.specs.declared.opcode.Opcode.TheVariants.{Apply2Right, Apply2Left, Lit, Fetch, Store, Link, Send, Return, Ask, Release}
 use Rattle.semantics.specs.declared.version.Version.{Version}
 use Rattle.semantics.specs.declared.version.Version.TheVariants.{One, Two}
-use Rattle.object_view.specs.Fields.{word_at, count_in, inputs_in, outputs_in, slots_in, opcode_in, slot_in, dest_of, first_half, second_half, operand_in, origin_number, may_have, may_go_to, is_dyadic, uses_slot}
+use Rattle.object_view.specs.Fields.{word_at, count_in, inputs_in, outputs_in, slots_in, opcode_in, slot_in, dest_of, first_half, second_half, operand_in, origin_number}
+use Rattle.semantics.specs.Opcodes.{may_have, may_go_to, takes_two, takes_slot}
 use Rattle.object_view.specs.Reading.{version_in, instrs_below, instr_place, literal_in, array_in, word_count}
 
 abbrev pub Checked : Type 0
@@ -74,12 +75,12 @@ operand_fits One o y = may_have o y
 operand_fits Two o y = nat_le (origin_number Two o y) 262144 && nat_lt (operand_in Two o y) (2 ^ 32) && may_have o (operand_in Two o y)
 
 abbrev pub slot_fits : Opcode → ℕ → ℕ → Bool
-slot_fits o slot slots = if uses_slot o then nat_lt slot slots else slot == 0
+slot_fits o slot slots = if takes_slot o then nat_lt slot slots else slot == 0
 
 -- A right port is for an instruction that takes two tokens. One whose opcode or flag does not exist is refused itself.
 abbrev pub may_take_right : Option Opcode → Bool
 may_take_right None = true
-may_take_right (Some o) = is_dyadic o
+may_take_right (Some o) = takes_two o
 
 -- half a word: no destination, or one in the block
 abbrev pub dest_fits : (ℕ → ℕ) → ℕ → ℕ → ℕ → Bool

@@ -6,12 +6,13 @@ use Rattle.semantics.specs.Bytes.{instr_words}
 use Rattle.object_view.specs.declared.object.BlockView.{BlockView}
 use Rattle.semantics.specs.declared.version.Version.{Version}
 use Rattle.semantics.specs.declared.version.Version.TheVariants.{One, Two}
-use Rattle.object_view.specs.declared.opcode.Opcode.{Opcode}
-use Rattle.object_view.specs.declared.opcode.Opcode.TheVariants.{Copy}
+use Rattle.semantics.specs.declared.opcode.Opcode.{Opcode}
+use Rattle.semantics.specs.declared.opcode.Opcode.TheVariants.{Copy}
 use Rattle.object_view.specs.declared.instr.CodeInstr.{CodeInstr}
 use Rattle.object_view.specs.declared.instr.PackedInstr.{PackedInstr}
 use Rattle.semantics.specs.Versions.{version_number}
-use Rattle.object_view.specs.Fields.{word_at, count_in, inputs_in, outputs_in, slots_in, opcode_in, slot_in, dest_of, first_half, second_half, operand_in, origin_number, origin_of, with}
+use Rattle.object_view.specs.Fields.{word_at, count_in, inputs_in, outputs_in, slots_in, opcode_in, slot_in, dest_of, first_half, second_half, operand_in, origin_number, origin_of}
+use Rattle.semantics.specs.Opcodes.{with}
 
 -- what a function gives for numbers in a row, from i on
 abbrev pub listed : {X : Type 0} → (ℕ → X) → ℕ → ℕ → List X

@@ -6,9 +6,9 @@ ghost use Rattle.object_view.specs.Reading as Reading;
 ghost use Rattle.object_view.specs.Checks as Checks;
 
 use crate::fault::ObjectFault;
-use crate::opcode::Opcode;
 use crate::tables::{HEADER, Tables};
 use crate::words::{self, Entry, Head};
+use semantics::opcode::Opcode;
 use semantics::version::Version;
 
 /// The bytes `ETSOBJCT` as a word.
@@ -224,7 +224,7 @@ impl<'a> Tables<'a> {
         ensures { result ≡ Checks.may_take_right (Fields.opcode_in (Fields.word_at self.now.bytes.now (Reading.instr_place (Fields.word_at self.now.bytes.now) ip))) }
     {
         match self.head(ip).opcode() {
-            Some(opcode) => opcode.is_dyadic(),
+            Some(opcode) => opcode.takes_two(),
             None => true,
         }
     }

@@ -5,7 +5,6 @@ mod checks;
 mod fault;
 mod instr;
 mod object;
-mod opcode;
 mod tables;
 mod taking;
 mod words;

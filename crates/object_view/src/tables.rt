@@ -2,11 +2,12 @@
 
 ghost use Rattle.std.specs.Prelude.{◌≡◌, ◌+◌, ◌*◌, ◌<◌, ◌≤◌, ◌^◌, length, take, drop, Ok, Err, IfOk, IfErr};
 ghost use Rattle.object_view.specs.Fields as Fields;
+ghost use Rattle.semantics.specs.Opcodes as Opcodes;
 ghost use Rattle.object_view.specs.Reading as Reading;
 
 use crate::instr::{CodeInstr, PackedInstr};
-use crate::opcode::Opcode;
 use crate::words::{self, Entry, Head};
+use semantics::opcode::Opcode;
 use semantics::program::Op;
 use semantics::version::Version;
 
@@ -148,7 +149,7 @@ impl<'a> Tables<'a> {
     /// second choice is made.
     #[inline(always)]
     fn read_op(&self, opcode: Opcode, word: u64) -> (Op, u64)
-        ensures op { result.0 ≡ Fields.with opcode (Fields.operand_in self.now.version opcode word) (Reading.literal_or_zero (Fields.word_at self.now.bytes.now) (Fields.operand_in self.now.version opcode word)) }
+        ensures op { result.0 ≡ Opcodes.with opcode (Fields.operand_in self.now.version opcode word) (Reading.literal_or_zero (Fields.word_at self.now.bytes.now) (Fields.operand_in self.now.version opcode word)) }
         ensures origin { result.1 ≡ Fields.origin_number self.now.version opcode word }
     {
         match opcode {

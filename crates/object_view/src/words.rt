@@ -3,8 +3,8 @@
 ghost use Rattle.std.specs.Prelude.{◌≡◌, ◌+◌, ◌*◌, ◌≤◌, length, option_map};
 ghost use Rattle.object_view.specs.Fields as Fields;
 
-use crate::opcode::{self, Opcode};
 use byteorder::{ByteOrder, LittleEndian};
+use semantics::opcode::Opcode;
 use semantics::program::Dest;
 use tags::token::Port;
 use tags::value::{NodeNumber, Origin};
@@ -64,7 +64,7 @@ impl Head {
     pub fn opcode(self) -> Option<Opcode>
         ensures { result ≡ Fields.opcode_in self.word }
     {
-        opcode::opcode_of((self.word % 256) as u8, (self.word / 256 % 256) as u8)
+        Opcode::of_code((self.word % 256) as u8, (self.word / 256 % 256) as u8)
     }
 
     #[inline(always)]

@@ -9,34 +9,12 @@ ghost use Rattle.sink.specs.Sends.{Sends};
 
 use crate::object::Object;
 use code::{Code, CodeBlock, Instr};
-use operators::{Binary, Unary};
 use semantics::program::{Dest, Op};
 use semantics::version::Version;
 use sink::send;
 use std::alloc::Allocator;
 use std::io::{self, Write};
 use tags::token::Port;
-
-fn binary_code(op: Binary) -> u8
-    ensures { result ≡ Bytes.binary_code op }
-{
-    match op {
-        Binary::Add => 1,
-        Binary::Sub => 2,
-        Binary::Mul => 3,
-        Binary::Div => 4,
-        Binary::Rem => 5,
-        Binary::And => 6,
-        Binary::Or => 7,
-        Binary::Xor => 8,
-        Binary::Shl => 9,
-        Binary::Shr => 10,
-        Binary::Eq => 11,
-        Binary::Ne => 12,
-        Binary::Lt => 13,
-        Binary::Le => 14,
-    }
-}
 
 /// Whether the literal at a place of the table is below another one.
 fn is_below(literals: &[i64], place: usize, literal: i64) -> bool
@@ -73,15 +51,24 @@ struct Spelling {
     operand: u32,
 }
 
-fn spelt(opcode: u8, flag: u8, operand: u32) -> Spelling
-    ensures opcode { result.opcode ≡ opcode }
-    ensures flag { result.flag ≡ flag }
-    ensures operand { result.operand ≡ operand }
+/// The operand: the number of a literal in the table, or what the operation names.
+fn operand_of(op: Op, literals: &[i64]) -> u32
+    requires ascend { IsAscending literals.now }
+    requires few { length literals.now ≤ 65536 }
+    ensures { result ≡ Bytes.operand_number literals.now op }
 {
-    Spelling {
-        opcode,
-        flag,
-        operand,
+    match op {
+        Op::Apply2Right { literal, .. } => number_of(literals, literal),
+        Op::Apply2Left { literal, .. } => number_of(literals, literal),
+        Op::Lit { literal } => number_of(literals, literal),
+        Op::Fetch { array } | Op::Store { array } => u32::from(array),
+        Op::Link { block } => u32::from(block),
+        Op::Send { block, entry } => u32::from(entry) + 65_536 * u32::from(block),
+        Op::Return { offset } | Op::Ask { offset } | Op::Release { offset } => u32::from(offset),
+        Op::Open { bound } | Op::Take { bound } | Op::Give { bound } | Op::Drain { bound } => {
+            u32::from(bound)
+        }
+        Op::Apply1 { .. } | Op::Apply2 { .. } | Op::Copy | Op::Sync | Op::Switch | Op::Frame => 0,
     }
 }
 
@@ -93,28 +80,11 @@ fn spelling_of(op: Op, literals: &[i64]) -> Spelling
     ensures flag { result.flag ≡ (Bytes.head_of literals.now op).flag }
     ensures operand { result.operand ≡ (Bytes.head_of literals.now op).operand }
 {
-    match op {
-        Op::Apply1 { op: Unary::Neg } => spelt(15, 0, 0),
-        Op::Apply1 { op: Unary::Not } => spelt(16, 0, 0),
-        Op::Apply2 { op } => spelt(binary_code(op), 0, 0),
-        Op::Apply2Right { op, literal } => spelt(binary_code(op), 1, number_of(literals, literal)),
-        Op::Apply2Left { op, literal } => spelt(binary_code(op), 2, number_of(literals, literal)),
-        Op::Lit { literal } => spelt(17, 0, number_of(literals, literal)),
-        Op::Copy => spelt(18, 0, 0),
-        Op::Sync => spelt(19, 0, 0),
-        Op::Switch => spelt(20, 0, 0),
-        Op::Fetch { array } => spelt(21, 0, u32::from(array)),
-        Op::Store { array } => spelt(22, 0, u32::from(array)),
-        Op::Frame => spelt(23, 0, 0),
-        Op::Link { block } => spelt(24, 0, u32::from(block)),
-        Op::Send { block, entry } => spelt(25, 0, u32::from(entry) + 65_536 * u32::from(block)),
-        Op::Return { offset } => spelt(26, 0, u32::from(offset)),
-        Op::Ask { offset } => spelt(27, 0, u32::from(offset)),
-        Op::Open { bound } => spelt(28, 0, u32::from(bound)),
-        Op::Take { bound } => spelt(29, 0, u32::from(bound)),
-        Op::Give { bound } => spelt(30, 0, u32::from(bound)),
-        Op::Drain { bound } => spelt(31, 0, u32::from(bound)),
-        Op::Release { offset } => spelt(32, 0, u32::from(offset)),
+    let opcode = op.opcode();
+    Spelling {
+        opcode: opcode.code(),
+        flag: opcode.flag(),
+        operand: operand_of(op, literals),
     }
 }
 

@@ -1,5 +1,5 @@
 -- What the operators do with values, which value is true, and what an index names.
-use Rattle.std.specs.Prelude.{ℕ, ◌-◌, ◌%◌, ◌^◌, Bool, true, false, not, ◌&&◌, ◌||◌, ℤ, pos, negsuc, nat_lt, int_lt, int_le, int_rem, bit_and, bit_or, bit_xor, if◌then◌else◌}
+use Rattle.std.specs.Prelude.{List, [], ◌∷◌, ℕ, ◌-◌, ◌%◌, ◌^◌, Bool, true, false, not, ◌&&◌, ◌||◌, ℤ, pos, negsuc, nat_lt, int_lt, int_le, int_rem, bit_and, bit_or, bit_xor, if◌then◌else◌}
 use Rattle.std.specs.Int.{w64, cast_signed, cast_unsigned, int_wrapping_add, int_wrapping_sub, int_wrapping_mul, int_wrapping_div, int_wrapping_neg, int_shl, int_shr}
 use Rattle.tags.specs.declared.value.Value.{Value}
 use Rattle.tags.specs.declared.value.Value.TheVariants.{Int, Fault}
@@ -49,6 +49,16 @@ on_ints Eq x y o = flag_of (not (int_lt x y) && not (int_lt y x))
 on_ints Ne x y o = flag_of (int_lt x y || int_lt y x)
 on_ints Lt x y o = flag_of (int_lt x y)
 on_ints Le x y o = flag_of (int_le x y)
+
+-- all operators on two values
+abbrev pub binaries : List Binary
+binaries = Add ∷ Sub ∷ Mul ∷ Div ∷ Rem ∷ And ∷ Or ∷ Xor ∷ Shl ∷ Shr ∷ Eq ∷ Ne ∷ Lt ∷ Le ∷ []
+
+-- the operators that make a fault where the divisor is 0
+abbrev pub is_division : Binary → Bool
+is_division Div = true
+is_division Rem = true
+is_division op = false
 
 -- a faulty operand is the result, the left one first
 abbrev pub apply1 : Unary → Value → Value

@@ -38,6 +38,16 @@ pub enum Binary {
     Le,
 }
 
+impl Binary {
+    /// Whether it divides, and so makes a fault where its right operand is 0. No other operator makes one.
+    #[inline(always)]
+    pub fn is_division(self) -> bool
+        ensures { result ≡ Values.is_division self }
+    {
+        matches!(self, Binary::Div | Binary::Rem)
+    }
+}
+
 /// Whether the value is an integer other than 0. A fault is false.
 pub fn truth(value: Value) -> bool
     ensures { result ≡ Values.truth value }

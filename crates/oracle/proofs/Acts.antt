@@ -1,6 +1,8 @@
 -- An activity by numbers of invocations is an activity of the meaning.
 use Rattle.std.proofs.Common.{◌≡◌, ℕ, ◌+◌, ◌-◌, ◌^◌, ◌&&◌, Bool, true, false, List, [], ◌∷◌, length, Option, Some, None, nat_lt, ◌==◌, slice_get, if◌then◌else◌, refl, sym, ap, ◌∙◌, arith, lt-ltb}
 use Rattle.std.specs.Prelude.{option_map}
+use Rattle.std.proofs.lemmas.Option.{slice_get_within}
+use Rattle.lemmas.proofs.Alls.{all_at}
 use Rattle.tags.specs.declared.value.Value.{Value}
 use Rattle.tags.specs.declared.value.Origin.TheVariants.{Untold, At}
 use Rattle.operators.specs.Values.{truth}
@@ -12,8 +14,6 @@ use Rattle.semantics.specs.Graph.{Node as Row, Block, Graph, flow_of, node_at}
 use Rattle.semantics.specs.Text.{HasText, HasBlockText}
 use Rattle.semantics.specs.Meaning.{Context, origin_at, same_side, block_number, block_numbered, block_of, on_block, on_node, fired_in, Activity, deed}
 use Rattle.semantics.specs.Meaning as Meaning
-use Rattle.law_determinacy.proofs.Grounds.{get_below}
-use Rattle.law_determinacy.proofs.Resolved.{all_get}
 use Rattle.oracle.specs.declared.invocations.Made.TheVariants.{Main, Called, Turned}
 use Rattle.oracle.specs.declared.invocations.Invocation.{Invocation}
 use Rattle.oracle.specs.declared.lines.Line.{Line}
@@ -37,10 +37,10 @@ module _ (g : Graph) (text : HasText g) (cs : List Context) (c block : ℕ) (is 
   origin_same : (b : List ℕ × Block (List ℕ)) (n : ℕ) (row : Row (List ℕ)) → slice_get g.blocks block ≡ Some b → nat_lt n b.1.inputs ≡ false → slice_get b.1.nodes (n - b.1.inputs) ≡ Some row
       → origin_of g.version block n ≡ origin_at (flow_of g) (name_in cs c) n
   origin_same b n row eb eh er =
-      let few = get_below g.blocks block b eb in
-      let here : HasBlockText g.version b = all_get (HasBlockText g.version) g.blocks block b text.blocks eb in
+      let few = slice_get_within g.blocks block b eb in
+      let here : HasBlockText g.version b = all_at (HasBlockText g.version) g.blocks block b text.blocks eb in
       let size = here.size in
-      let low = get_below b.1.nodes (n - b.1.inputs) row er in
+      let low = slice_get_within b.1.nodes (n - b.1.inputs) row er in
       let count = text.few_blocks in
       let one : nat_lt block 256 ≡ true = lt-ltb block 256 (omega (arith, few, count)) in
       let two : nat_lt n 1024 ≡ true = lt-ltb n 1024 (omega (arith, low, size)) in

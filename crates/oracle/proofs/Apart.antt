@@ -1,5 +1,6 @@
 -- Different invocations have different names, and different spots different places.
-use Rattle.std.proofs.Common.{◌≡◌, ℕ, zero, suc, ◌+◌, ◌<◌, inl, inr, Bool, true, false, ◌&&◌, ◌==◌, List, [], ◌∷◌, ◌++◌, length, Option, Some, None, slice_get, if◌then◌else◌, refl, sym, ap, ◌∙◌, subst, arith, eq-eqb}
+use Rattle.std.proofs.Common.{◌≡◌, ℕ, zero, suc, ◌+◌, ◌<◌, inl, inr, Bool, true, false, ◌&&◌, ◌==◌, List, [], ◌∷◌, ◌++◌, length, Option, Some, None, slice_get, if◌then◌else◌, refl, sym, ap, ◌∙◌, subst, eq-eqb}
+use Rattle.lemmas.proofs.SliceGet.{get_some}
 use Rattle.semantics.specs.Graph.{Graph}
 use Rattle.semantics.specs.Meaning.{Context}
 use Rattle.semantics.specs.Meaning as Meaning
@@ -24,11 +25,6 @@ key_same s r e f = cc
 -- no two invocations were made at one place
 abbrev pub MadesDiffer : List Invocation → Type 0
 MadesDiffer xs = (i j : ℕ) (x y : Invocation) → slice_get xs i ≡ Some x → slice_get xs j ≡ Some y → x.made ≡ y.made → i ≡ j
-
-pub get_there : (xs : List Invocation) (i : ℕ) → i < length xs → (x : Invocation) × (slice_get xs i ≡ Some x)
-get_there [] i h = absurd (omega (arith, h))
-get_there (x ∷ xs) zero h = (x, refl)
-get_there (x ∷ xs) (suc i) h = get_there xs i (omega (arith, h))
 
 abbrev OneName : ℕ → List Context → Context → Type 0
 OneName m cs c = (i j : ℕ) → i < m → j < m → name_in cs i ≡ c → name_in cs j ≡ c → i ≡ j
@@ -58,8 +54,8 @@ turned_made m cs d n i one a b h l e f = cc
 module _ (g : Graph) (xs : List Invocation) (cs : List Context) (named : Named g xs cs) (differ : MadesDiffer xs) where
   from_made : (c : Context) → OneMade (length xs) cs c → OneName (length xs) cs c
   from_made c one i j h k e f =
-      let x = get_there xs i h in
-      let y = get_there xs j k in
+      let x = get_some xs i h in
+      let y = get_some xs j k in
       differ i j x.0 y.0 x.1 y.1 (one x.0.made y.0.made (named.below i x.0 x.1) (named.below j y.0 y.1) (named.made i x.0 x.1 ∙ e) (named.made j y.0 y.1 ∙ f))
 
   one_name : (c : Context) → OneName (length xs) cs c

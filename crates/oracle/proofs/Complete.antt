@@ -9,7 +9,7 @@ use Rattle.semantics.specs.declared.graph.Kind.TheVariants.{Lit, Apply1, Apply2,
 use Rattle.semantics.specs.Graph.{Node as Row, Block, Graph, flow_of, node_at}
 use Rattle.semantics.specs.Meaning.{Context, Statement, AtNode, AtOut, AtTurn, Port, Tagged, tagged, Activity, taken, operands_from, deed, on_block, on_node, fired, fired_in, input_passed, gated, passed, block_number, block_numbered, block_of}
 use Rattle.semantics.specs.Meaning as Meaning
-use Rattle.law_determinacy.proofs.Perm.{Within, Each, put_first}
+use Rattle.lemmas.proofs.Permutations.{Within, Each, put_first}
 use Rattle.oracle.specs.declared.invocations.Made.{Made}
 use Rattle.oracle.specs.declared.invocations.Made.TheVariants.{Main, Called, Turned}
 use Rattle.oracle.specs.declared.invocations.Invocation.{Invocation}

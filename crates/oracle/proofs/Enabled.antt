@@ -2,6 +2,7 @@
 use Rattle.std.proofs.Common.{◌≡◌, ℕ, ◌<◌, ◌⊎◌, ℤ, List, [], ◌∷◌, ◌++◌, map, flat_map, length, Option, Some, None, slice_get, IsPermutation, Contains, inl, inr, refl, sym, ap, ap₂, ◌∙◌, subst, arith, ⊎_elim, append_assoc}
 use Rattle.std.proofs.lemmas.List.{map-append}
 use Rattle.std.proofs.lemmas.List.Sorted.{IsPermutation-refl, IsPermutation-trans, IsPermutation-append_left}
+use Rattle.std.proofs.lemmas.Option.{same_Some}
 use Rattle.tags.specs.declared.value.Value.{Value}
 use Rattle.semantics.specs.Graph.{Graph, flow_of}
 use Rattle.semantics.specs.WellFormed.{WellFormed}
@@ -13,8 +14,7 @@ use Rattle.law_determinacy.proofs.Deeds.{full_of}
 use Rattle.law_determinacy.proofs.Diamond.{deed_of, held_from, effect_of}
 use Rattle.law_determinacy.proofs.Determinacy.{same_sym}
 use Rattle.law_determinacy.proofs.Keys.{Unique, Held, same_activity}
-use Rattle.law_determinacy.proofs.Options.{some_same}
-use Rattle.law_determinacy.proofs.Perm.{Within, Each, put_first, each_from, each_within, within_append, within_left, within_right, within_to}
+use Rattle.lemmas.proofs.Permutations.{Within, Each, put_first, each_from, each_within, within_append, within_left, within_right, within_to, each_weaker, get_within}
 use Rattle.law_determinacy.proofs.Resolved.{flow_well}
 use Rattle.law_determinacy.proofs.Rest.{takes_some}
 use Rattle.law_determinacy.proofs.Runs.{activity_once, step_of}
@@ -32,8 +32,8 @@ use Rattle.oracle.proofs.Finding.{Gathers}
 use Rattle.oracle.proofs.Following.{meant}
 use Rattle.oracle.proofs.Performing.{does}
 use Rattle.oracle.proofs.SameStates.{rest_same, quiet_same, enabled_same}
-use Rattle.oracle.proofs.Taking.{all_taken, taking_at, get_within, flat_within, one_taken}
-use Rattle.oracle.proofs.Waiting.{each_either, each_to, IsDeferred, at_rest, no_clash}
+use Rattle.oracle.proofs.Taking.{all_taken, taking_at, flat_within, one_taken}
+use Rattle.oracle.proofs.Waiting.{each_either, IsDeferred, at_rest, no_clash}
 
 some_taken : (ts : List Tagged) → 0 < length ts → (t : Tagged) × Within t ts
 some_taken [] l = absurd (omega (arith, l))
@@ -105,7 +105,7 @@ module _ (g : Graph) (well : WellFormed g) (inputs : List ℤ) (fit : length inp
       let z = tagged f.context (AtNode f.node) (Meaning.Operand 0) f.value in
       let mine : Within z ts = subst (λ u. Within u ts) f.is (each_within (λ u. Within u ts) y (taken a) ya held) in
       let same = same_activity (flow_of g) ts unique a b e (Meaning.Reads f.context f.node f.cell) is f.fetch held (mine, tt) y ya (subst (λ u. Within u (z ∷ [])) (sym f.is) ([], put_first z [])) in
-      let deeds : e ≡ Meaning.Reads f.context f.node f.cell = some_same _ _ (sym is ∙ ap (λ x. deed (flow_of g) x) same ∙ f.fetch) in
+      let deeds : e ≡ Meaning.Reads f.context f.node f.cell = same_Some _ _ (sym is ∙ ap (λ x. deed (flow_of g) x) same ∙ f.fetch) in
       let done_it = subst (λ e. done (flow_of g) m e ≡ Some E) deeds did in
       let v = full_of (held_in cells f.cell) (λ v. adds (tokens_of (flow_of g) (Meaning.Sends f.context f.node 0 v)) m) E done_it in
       let no : None ≡ Some v.0 = sym f.empty ∙ v.1 in
@@ -119,7 +119,7 @@ module _ (g : Graph) (well : WellFormed g) (inputs : List ℤ) (fit : length inp
       let D = map (tagged_of cs) d in
       let F = flat_map taken h.activities in
       let sides : Each (λ y. Within y W ⊎ (Within y F ⊎ Within y D)) (taken a) =
-      each_to (λ y. Within y ts) (λ y. Within y W ⊎ (Within y F ⊎ Within y D))
+      each_weaker (λ y. Within y ts) (λ y. Within y W ⊎ (Within y F ⊎ Within y D))
       (λ y q. ⊎_elim (λ r. inr (inl r)) (λ r. ⊎_elim (λ z. inl z) (λ z. inr (inr z)) (within_append y W D r)) (within_append y F (W ++ D) (subst (λ l. Within y l) parts q))) (taken a) held in
       ⊎_elim (λ q. absurd (h.follows.sound.stuck a e.0 e.1 q))
       (λ one. ⊎_elim (λ q. of_held a e.0 e.1 held one.0 one.1 q) (λ q. absurd (of_deferred a e.0 e.1 held one.0 one.1 q p.does e.2)) one.2)

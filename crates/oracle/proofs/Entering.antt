@@ -1,12 +1,12 @@
 -- An invocation is entered.
 use Rattle.std.proofs.Common.{◌≡◌, ℕ, zero, suc, ◌+◌, ◌<◌, ◌≤◌, ◌⊎◌, inl, inr, Bool, true, false, ◌&&◌, ◌==◌, List, [], ◌∷◌, ◌++◌, map, length, Option, Some, None, slice_get, if◌then◌else◌, refl, sym, ap, ◌∙◌, subst, arith, eqb-true}
 use Rattle.std.proofs.lemmas.List.{length-append}
+use Rattle.std.proofs.lemmas.Bool.{and_parts}
+use Rattle.std.proofs.lemmas.Option.{slice_get_within, same_Some}
 use Rattle.semantics.specs.Graph.{Graph, flow_of}
 use Rattle.semantics.specs.Meaning.{Context, Tagged, block_number}
 use Rattle.semantics.specs.Meaning as Meaning
-use Rattle.law_determinacy.proofs.Options.{some_same}
-use Rattle.law_determinacy.proofs.Perm.{Each}
-use Rattle.law_determinacy.proofs.Grounds.{get_below}
+use Rattle.lemmas.proofs.Permutations.{Each}
 use Rattle.oracle.specs.declared.invocations.Made.{Made}
 use Rattle.oracle.specs.declared.invocations.Made.TheVariants.{Main, Called, Turned}
 use Rattle.oracle.specs.declared.invocations.Invocation.{Invocation}
@@ -15,16 +15,12 @@ use Rattle.oracle.specs.Running.{same_made, made_from, number_or, more_if}
 use Rattle.oracle.specs.Meant.{name_in, made_of, tagged_of, statement_of, port_of}
 use Rattle.oracle.specs.Naming.{IsBelow, CanEnter, Named, IsEntered}
 
-both : (a b : Bool) → (a && b) ≡ true → (a ≡ true) × (b ≡ true)
-both true b h = (refl, h)
-both false b h = cc
-
 pub made_same : (a b : Made) → same_made a b ≡ true → a ≡ b
 made_same Main Main h = refl
-made_same (Called c n) (Called d m) h = let p = both (c == d) (n == m) h in ap (λ k. Called k n) (eqb-true c d p.0) ∙ ap (λ k. Called d k) (eqb-true n m p.1)
+made_same (Called c n) (Called d m) h = let p = and_parts (c == d) (n == m) h in ap (λ k. Called k n) (eqb-true c d p.0) ∙ ap (λ k. Called d k) (eqb-true n m p.1)
 made_same (Turned c n i) (Turned d m j) h =
-    let p = both ((c == d) && (n == m)) (i == j) h in
-    let q = both (c == d) (n == m) p.0 in
+    let p = and_parts ((c == d) && (n == m)) (i == j) h in
+    let q = and_parts (c == d) (n == m) p.0 in
     ap (λ k. Turned k n i) (eqb-true c d q.0) ∙ ap (λ k. Turned d k i) (eqb-true n m q.1) ∙ ap (λ k. Turned d m k) (eqb-true i j p.1)
 made_same a b h = cc
 
@@ -34,7 +30,7 @@ made_found made i k (x ∷ xs) h =
     let Goal : Type 0 = (j : ℕ) × (y : Invocation) × (k ≡ i + j) × (slice_get (x ∷ xs) j ≡ Some y) × (y.made ≡ made) in
     let cases : (b : Bool) → same_made x.made made ≡ b → (if b then Some i else made_from made (i + 1) xs) ≡ Some k → Goal
     = λ b. elim b as (λ b. same_made x.made made ≡ b → (if b then Some i else made_from made (i + 1) xs) ≡ Some k → Goal) [
-      | true ↦ λ e q. let is = some_same i k q in (0, x, omega (arith, is), refl, made_same x.made made e)
+      | true ↦ λ e q. let is = same_Some i k q in (0, x, omega (arith, is), refl, made_same x.made made e)
       | false ↦ λ e q. let r = made_found made (i + 1) k xs q in let is = r.2 in (suc r.0, r.1, omega (arith, is), r.3, r.4)
     ] in
     cases (same_made x.made made) refl h
@@ -50,7 +46,7 @@ name_last [] d = refl
 name_last (c ∷ cs) d = name_last cs d
 
 pub get_last : (xs : List Invocation) (y : Invocation) (i : ℕ) (x : Invocation) → slice_get (xs ++ y ∷ []) i ≡ Some x → (slice_get xs i ≡ Some x) ⊎ ((i ≡ length xs) × (y ≡ x))
-get_last [] y zero x h = inr (refl, some_same y x h)
+get_last [] y zero x h = inr (refl, same_Some y x h)
 get_last [] y (suc i) x h = cc
 get_last (z ∷ xs) y zero x h = inl h
 get_last (z ∷ xs) y (suc i) x h =
@@ -81,9 +77,9 @@ entered_law g xs cs made block named can =
           let long_cs = length-append cs (d ∷ []) in
           let long_xs = length-append xs (y ∷ []) in
           let old_made : (i : ℕ) (x : Invocation) → slice_get xs i ≡ Some x → made_of (cs ++ d ∷ []) x.made ≡ name_in (cs ++ d ∷ []) i
-          = λ i x h. let low = get_below xs i x h in made_kept cs d x.made (subst (λ n. IsBelow n x.made) (sym count) (named.below i x h)) ∙ named.made i x h ∙ sym (name_kept cs d i (omega (arith, low, count))) in
+          = λ i x h. let low = slice_get_within xs i x h in made_kept cs d x.made (subst (λ n. IsBelow n x.made) (sym count) (named.below i x h)) ∙ named.made i x h ∙ sym (name_kept cs d i (omega (arith, low, count))) in
           let old_block : (i : ℕ) (x : Invocation) → slice_get xs i ≡ Some x → block_number (flow_of g) (name_in (cs ++ d ∷ []) i) ≡ Some x.block
-          = λ i x h. let low = get_below xs i x h in ap (block_number (flow_of g)) (name_kept cs d i (omega (arith, low, count))) ∙ named.block i x h in
+          = λ i x h. let low = slice_get_within xs i x h in ap (block_number (flow_of g)) (name_kept cs d i (omega (arith, low, count))) ∙ named.block i x h in
           let at_end : name_in (cs ++ d ∷ []) (length xs) ≡ d = ap (name_in (cs ++ d ∷ [])) (sym count) ∙ name_last cs d in
           let all : Named g (xs ++ y ∷ []) (cs ++ d ∷ []) = record {
             count = omega (arith, count, long_cs, long_xs);
@@ -104,7 +100,7 @@ entered_law g xs cs made block named can =
       | Some k ↦ λ e.
           let r = made_found made 0 k xs e in
           let at_k : k ≡ r.0 = let is = r.2 in omega (arith, is) in
-          let low = get_below xs r.0 r.1 r.3 in
+          let low = slice_get_within xs r.0 r.1 r.3 in
           let count = named.count in
           (cs, named, (λ i h. refl), omega arith, omega (arith, at_k, low, count), ap (name_in cs) at_k ∙ sym (named.made r.0 r.1 r.3) ∙ ap (made_of cs) r.4)
     ] in

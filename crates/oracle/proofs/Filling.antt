@@ -2,9 +2,9 @@
 use Rattle.std.proofs.Common.{◌≡◌, ℕ, zero, suc, ◌+◌, ◌<◌, Bool, true, false, ◌==◌, List, [], ◌∷◌, ◌++◌, length, Option, Some, None, slice_get, if◌then◌else◌, refl, sym, ap, ◌∙◌, subst, arith, lt-ltb, eq-eqb, eqb-true}
 use Rattle.std.specs.Prelude.{slice_set}
 use Rattle.std.proofs.lemmas.List.{length-append}
+use Rattle.std.proofs.lemmas.Option.{slice_get_within}
 use Rattle.tags.specs.declared.value.Value.{Value}
 use Rattle.semantics.specs.Meaning.{Memory, at_place}
-use Rattle.law_determinacy.proofs.Grounds.{get_below}
 use Rattle.oracle.specs.Lines.{first_of, len_of, total_of}
 use Rattle.oracle.specs.Acting.{held_of, held_in, filled_in}
 use Rattle.oracle.specs.Running.{nones, no_cells}
@@ -55,7 +55,7 @@ held_some (Some None) v h = cc
 held_some (Some (Some w)) v h = ap Some h
 
 pub held_low : (places : List (Option Value)) (x : ℕ) (v : Value) → held_in places x ≡ Some v → x < length places
-held_low places x v h = get_below places x (Some v) (held_some (slice_get places x) v h)
+held_low places x v h = slice_get_within places x (Some v) (held_some (slice_get places x) v h)
 
 -- nothing is held at first
 nones_held : (n x : ℕ) → held_in (nones n) x ≡ None

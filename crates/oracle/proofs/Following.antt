@@ -5,8 +5,7 @@ use Rattle.std.proofs.lemmas.List.Sorted.{IsPermutation-trans, IsPermutation-app
 use Rattle.tags.specs.declared.value.Value.{Value}
 use Rattle.semantics.specs.Graph.{Graph, flow_of}
 use Rattle.semantics.specs.Meaning.{Context, State, Activity, taken, deed, Run, start}
-use Rattle.law_determinacy.proofs.Perm.{Each}
-use Rattle.law_determinacy.proofs.Diamond.{permutation_exchange}
+use Rattle.lemmas.proofs.Permutations.{Each, permutation_exchange}
 use Rattle.oracle.specs.declared.report.MeanEnd.{MeanEnd}
 use Rattle.oracle.specs.declared.report.MeanEnd.TheVariants.{Rest, Clash, Steps}
 use Rattle.oracle.specs.declared.deeds.Deed.{Deed}

@@ -1,10 +1,10 @@
 -- The list of full cells has just the full cells, each once.
 use Rattle.std.proofs.Common.{◌≡◌, ℕ, zero, suc, ◌+◌, ◌<◌, ◌≤◌, ◌⊎◌, inl, inr, Bool, true, false, List, [], ◌∷◌, length, Option, Some, None, nat_lt, slice_get, refl, sym, ap, ◌∙◌, subst, arith, ⊎_elim, ltb-true, ltb-false}
 use Rattle.std.proofs.lemmas.Bool.{cases_eq}
+use Rattle.std.proofs.lemmas.Option.{same_Some}
 use Rattle.tags.specs.declared.value.Value.{Value}
 use Rattle.semantics.specs.Graph.{Graph}
-use Rattle.law_determinacy.proofs.Options.{some_same}
-use Rattle.law_determinacy.proofs.Perm.{Within, Each, Spread, put_first, put_later, each_within, each_append, each_weaker, spread_append, within_left, within_right}
+use Rattle.lemmas.proofs.Permutations.{Within, Each, Spread, put_first, put_later, each_within, each_append, each_weaker, spread_append, within_left, within_right}
 use Rattle.oracle.specs.declared.report.Full.{Full}
 use Rattle.oracle.specs.Lines.{first_of, len_of, total_of}
 use Rattle.oracle.specs.Acting.{held_in}
@@ -20,7 +20,7 @@ full a i v = record { array = a; index = i; value = v }
 
 within_slot : (f : Full) (fs : List Full) (k : ℕ) → slice_get fs k ≡ Some f → Within f fs
 within_slot f [] k e = cc
-within_slot f (h ∷ fs) zero e = (fs, inl (sym (some_same h f e), refl))
+within_slot f (h ∷ fs) zero e = (fs, inl (sym (same_Some h f e), refl))
 within_slot f (h ∷ fs) (suc k) e = let r = within_slot f fs k e in (h ∷ r.0, put_later f h r.0 fs r.1)
 
 slot_of : (f : Full) (fs : List Full) → Within f fs → (k : ℕ) × (slice_get fs k ≡ Some f)
@@ -31,7 +31,7 @@ slot_of f (h ∷ fs) (zs, inr p) = let r = slot_of f fs (p.0, p.2) in (suc r.0, 
 spread_slots : (R : Full → Full → Type 0) (fs : List Full) → Spread R fs → (j k : ℕ) (f h : Full) → slice_get fs j ≡ Some f → slice_get fs k ≡ Some h → j < k → R f h
 spread_slots R [] s j k f h e g low = cc
 spread_slots R (x ∷ fs) s j zero f h e g low = absurd (omega (arith, low))
-spread_slots R (x ∷ fs) s zero (suc k) f h e g low = subst (λ x. R x h) (some_same x f e) (each_within (R x) h fs (within_slot h fs k g) s.0)
+spread_slots R (x ∷ fs) s zero (suc k) f h e g low = subst (λ x. R x h) (same_Some x f e) (each_within (R x) h fs (within_slot h fs k g) s.0)
 spread_slots R (x ∷ fs) s (suc j) (suc k) f h e g low = spread_slots R fs s.1 j k f h e g (omega (arith, low))
 
 -- ONE ARRAY, from a first index on: cell x is its index i

@@ -3,8 +3,10 @@ use Rattle.std.proofs.Common.{◌≡◌, ℕ, zero, suc, ◌+◌, ◌<◌, ◌�
 use Rattle.std.specs.Prelude.{remove, is_some}
 use Rattle.std.proofs.lemmas.List.{length-append}
 use Rattle.std.proofs.lemmas.List.Sorted.{IsPermutation-sym}
+use Rattle.std.proofs.lemmas.Bool.{or_cases, or_left, or_right}
 use Rattle.tags.specs.declared.value.Value.{Value}
-use Rattle.law_determinacy.proofs.Perm.{Within, Each, Spread, put_first, within_permutation}
+use Rattle.lemmas.proofs.Permutations.{Within, Each, Spread, put_first, within_permutation}
+use Rattle.lemmas.proofs.Bools.{if_parts}
 use Rattle.oracle.specs.declared.shapes.Shape.{Shape}
 use Rattle.oracle.specs.declared.shapes.Shape.TheVariants.{Fires, Gates, Passes, Returns, Turns, Outputs}
 use Rattle.oracle.specs.declared.tokens.Spot.{Spot}
@@ -79,38 +81,22 @@ has_left t s r ts other h =
     ] in
     cases (within_permutation u ts (token_of t.context s v ∷ rest) p h.1))
 
-either : (a b : Bool) → (a || b) ≡ true → (a ≡ true) ⊎ (b ≡ true)
-either true b h = inl refl
-either false b h = inr h
-
-first_there : (a b : Bool) → a ≡ true → (a || b) ≡ true
-first_there true b h = refl
-first_there false b h = cc
-
-second_there : (a b : Bool) → b ≡ true → (a || b) ≡ true
-second_there true b h = refl
-second_there false b h = h
-
 pub own_there : (t : Token) (s : Spot) (ts : List Token) → s ≡ t.spot → is_there t s ts ≡ true
-own_there t s ts e = first_there (same_spot s t.spot) (is_some (find_from t.context s 0 ts)) (subst (λ r. same_spot s r ≡ true) e (spot_refl s))
+own_there t s ts e = or_left (same_spot s t.spot) (is_some (find_from t.context s 0 ts)) (subst (λ r. same_spot s r ≡ true) e (spot_refl s))
 
 pub other_there : (t : Token) (s : Spot) (ts : List Token) → HasAt t.context s ts → is_there t s ts ≡ true
-other_there t s ts h = second_there (same_spot s t.spot) (is_some (find_from t.context s 0 ts)) (find_some t.context s h.0 0 ts h.1)
+other_there t s ts h = or_right (same_spot s t.spot) (is_some (find_from t.context s 0 ts)) (find_some t.context s h.0 0 ts h.1)
 
 there_left : (t : Token) (s r : Spot) (ts : List Token) → SpotsDiffer s r → is_there t r ts ≡ true → is_there t r (left_after t s ts) ≡ true
 there_left t s r ts other h =
-    ⊎_elim (λ e. first_there (same_spot r t.spot) (is_some (find_from t.context r 0 (left_after t s ts))) e)
+    ⊎_elim (λ e. or_left (same_spot r t.spot) (is_some (find_from t.context r 0 (left_after t s ts))) e)
     (λ e. other_there t r (left_after t s ts) (has_left t s r ts other (found_at t.context r ts e)))
-    (either (same_spot r t.spot) (is_some (find_from t.context r 0 ts)) h)
-
-both_there : (a b : Bool) → (if a then b else false) ≡ true → (a ≡ true) × (b ≡ true)
-both_there true b h = (refl, h)
-both_there false b h = cc
+    (or_cases (same_spot r t.spot) (is_some (find_from t.context r 0 ts)) h)
 
 all_left : (t : Token) (s : Spot) (ss : List Spot) (ts : List Token) → Each (SpotsDiffer s) ss → all_there t ss ts ≡ true → all_there t ss (left_after t s ts) ≡ true
 all_left t s [] ts other h = refl
 all_left t s (r ∷ ss) ts other h =
-    let p = both_there (is_there t r ts) (all_there t ss ts) h in
+    let p = if_parts (is_there t r ts) (all_there t ss ts) h in
     ap (λ b. if b then all_there t ss (left_after t s ts) else false) (there_left t s r ts other.0 p.0) ∙ all_left t s ss ts other.1 p.1
 
 here_one : (t : Token) (s : Spot) (ts : List Token) → is_there t s ts ≡ true → length (value_here t s ts) ≡ 1
@@ -131,7 +117,7 @@ here_one t s ts h =
 pub values_full : (t : Token) (ss : List Spot) (ts : List Token) → Spread SpotsDiffer ss → all_there t ss ts ≡ true → length (values_of t ss ts) ≡ length ss
 values_full t [] ts apart h = refl
 values_full t (s ∷ ss) ts apart h =
-    let p = both_there (is_there t s ts) (all_there t ss ts) h in
+    let p = if_parts (is_there t s ts) (all_there t ss ts) h in
     let a = length-append (value_here t s ts) (values_of t ss (left_after t s ts)) in
     let b = here_one t s ts p.0 in
     let c = values_full t ss (left_after t s ts) apart.1 (all_left t s ss ts apart.0 p.1) in

@@ -9,7 +9,8 @@ use Rattle.semantics.specs.WellFormed.{WellFormed}
 use Rattle.semantics.specs.Faithful.{inputs_of}
 use Rattle.semantics.specs.Meaning.{Context, Statement, AtNode, AtOut, Tagged, tagged, State, Activity, taken, operands_from, deed, Run, Same, start, Clashes}
 use Rattle.semantics.specs.Meaning as Meaning
-use Rattle.law_determinacy.proofs.Perm.{Within, Each, put_first, each_from, each_within, each_permutation, each_append, each_append_back, within_permutation, within_left}
+use Rattle.lemmas.proofs.Permutations.{Within, Each, put_first, each_from, each_within, each_permutation, each_append, each_append_back, within_permutation, within_left}
+use Rattle.lemmas.proofs.SliceGet.{get_some}
 use Rattle.law_determinacy.proofs.Shapes.{storing, showing}
 use Rattle.law_determinacy.proofs.Runs.{run_to_same}
 use Rattle.law_determinacy.proofs.Theorems.{reached_unique}
@@ -28,7 +29,6 @@ use Rattle.oracle.specs.Meant.{name_in, made_of, tagged_of, deed_of}
 use Rattle.oracle.specs.Naming.{IsKnown}
 use Rattle.oracle.specs.Agreeing.{IsJoin}
 use Rattle.oracle.specs.Reporting.{cell_at}
-use Rattle.oracle.proofs.Apart.{get_there}
 use Rattle.oracle.proofs.Entering.{AreKnown}
 use Rattle.oracle.proofs.Filling.{memory_of}
 use Rattle.oracle.proofs.Following.{all_tokens, meant, Sound, Follows, PutLow, Ready, Ended, Outcome, to_waiting, to_deferred, to_taken}
@@ -90,7 +90,7 @@ module _ (g : Graph) (text : HasText g) (well : WellFormed g) (inputs : List ℤ
     here = s.known.0
 
     pub x : (x : Invocation) × (slice_get xs t.context ≡ Some x)
-    x = get_there xs t.context here
+    x = get_some xs t.context here
 
     pub made : made_of cs x.0.made ≡ name_in cs t.context
     made = s.named.made t.context x.0 x.1

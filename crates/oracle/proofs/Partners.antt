@@ -1,12 +1,12 @@
 -- What is taken out, and what stays: together they are all tokens.
-use Rattle.std.proofs.Common.{◌≡◌, ℕ, zero, suc, ◌+◌, ◌≤◌, Bool, true, false, ◌&&◌, ◌==◌, List, [], ◌∷◌, ◌++◌, length, Option, Some, None, slice_get, get_or, if◌then◌else◌, IsPermutation, refl, sym, ap, ◌∙◌, subst, arith, eqb-true}
+use Rattle.std.proofs.Common.{◌≡◌, ℕ, zero, suc, ◌+◌, ◌≤◌, Bool, true, false, ◌==◌, List, [], ◌∷◌, ◌++◌, length, Option, Some, None, slice_get, get_or, if◌then◌else◌, IsPermutation, refl, sym, ap, ◌∙◌, subst, arith, eqb-true}
 use Rattle.std.specs.Prelude.{remove}
 use Rattle.std.proofs.lemmas.List.{length-append}
 use Rattle.std.proofs.lemmas.List.Sorted.{IsPermutation-refl, IsPermutation-trans, IsPermutation-append_right, IsPermutation-remove}
+use Rattle.std.proofs.lemmas.Bool.{and_parts}
+use Rattle.std.proofs.lemmas.Option.{slice_get_within, same_Some}
+use Rattle.lemmas.proofs.Permutations.{permutation_exchange}
 use Rattle.tags.specs.declared.value.Value.{Value}
-use Rattle.law_determinacy.proofs.Options.{some_same}
-use Rattle.law_determinacy.proofs.Diamond.{permutation_exchange}
-use Rattle.law_determinacy.proofs.Grounds.{get_below}
 use Rattle.oracle.specs.declared.tokens.Spot.{Spot}
 use Rattle.oracle.specs.declared.tokens.Spot.TheVariants.{Operand, Predicate, Out, Flag, Carried}
 use Rattle.oracle.specs.declared.tokens.Token.{Token}
@@ -14,12 +14,8 @@ use Rattle.oracle.specs.Lines.{same_spot}
 use Rattle.oracle.specs.Agreeing.{token_of, zipped, own}
 use Rattle.oracle.specs.Acting.{is_at, find_from, without, value_of, value_at, left_after, value_here, left_of, values_of}
 
-both : (a b : Bool) → (a && b) ≡ true → (a ≡ true) × (b ≡ true)
-both true b h = (refl, h)
-both false b h = cc
-
 pub spot_same : (s t : Spot) → same_spot s t ≡ true → s ≡ t
-spot_same (Operand n i) (Operand m j) h = let p = both (n == m) (i == j) h in ap (λ k. Operand k i) (eqb-true n m p.0) ∙ ap (λ k. Operand m k) (eqb-true i j p.1)
+spot_same (Operand n i) (Operand m j) h = let p = and_parts (n == m) (i == j) h in ap (λ k. Operand k i) (eqb-true n m p.0) ∙ ap (λ k. Operand m k) (eqb-true i j p.1)
 spot_same (Predicate n) (Predicate m) h = ap Predicate (eqb-true n m h)
 spot_same (Out i) (Out j) h = ap Out (eqb-true i j h)
 spot_same (Flag i) (Flag j) h = ap Flag (eqb-true i j h)
@@ -28,7 +24,7 @@ spot_same s t h = cc
 
 at_same : (c : ℕ) (s : Spot) (t : Token) → is_at c s t ≡ true → t ≡ token_of c s t.value
 at_same c s t h =
-    let p = both (t.context == c) (same_spot t.spot s) h in
+    let p = and_parts (t.context == c) (same_spot t.spot s) h in
     ap (λ k. token_of k t.spot t.value) (eqb-true t.context c p.0) ∙ ap (λ k. token_of c k t.value) (spot_same t.spot s p.1)
 
 -- a token that is found
@@ -40,14 +36,14 @@ find_law c s i k [] h = cc
 find_law c s i k (t ∷ ts) h =
     let cases : (b : Bool) → is_at c s t ≡ b → (if b then Some i else find_from c s (i + 1) ts) ≡ Some k → Found c s (t ∷ ts) i k
     = λ b. elim b as (λ b. is_at c s t ≡ b → (if b then Some i else find_from c s (i + 1) ts) ≡ Some k → Found c s (t ∷ ts) i k) [
-      | true ↦ λ e q. let is = some_same i k q in (0, t, omega (arith, is), refl, at_same c s t e)
+      | true ↦ λ e q. let is = same_Some i k q in (0, t, omega (arith, is), refl, at_same c s t e)
       | false ↦ λ e q. let r = find_law c s (i + 1) k ts q in let is = r.2 in (suc r.0, r.1, omega (arith, is), r.3, r.4)
     ] in
     cases (is_at c s t) refl h
 
 get_of : (ts : List Token) (i : ℕ) (u d : Token) → slice_get ts i ≡ Some u → u ≡ get_or ts i d
 get_of [] i u d h = cc
-get_of (t ∷ ts) zero u d h = sym (some_same t u h)
+get_of (t ∷ ts) zero u d h = sym (same_Some t u h)
 get_of (t ∷ ts) (suc i) u d h = get_of ts i u d h
 
 pub removed : (c : ℕ) (s : Spot) (k : ℕ) (ts : List Token) → find_from c s 0 ts ≡ Some k → (v : Value) × (slice_get ts k ≡ Some (token_of c s v)) × IsPermutation ts (token_of c s v ∷ remove ts k)
@@ -56,7 +52,7 @@ removed c s k ts h =
     let same : f.0 ≡ k = let is = f.2 in omega (arith, is) in
     let u = f.1 in
     let here : slice_get ts k ≡ Some u = subst (λ j. slice_get ts j ≡ Some u) same f.3 in
-    let perm : IsPermutation ts (u ∷ remove ts k) = IsPermutation-remove ts k u (get_below ts k u here) (get_of ts k u u here) in
+    let perm : IsPermutation ts (u ∷ remove ts k) = IsPermutation-remove ts k u (slice_get_within ts k u here) (get_of ts k u u here) in
     (u.value, here ∙ ap Some f.4, subst (λ w. IsPermutation ts (w ∷ remove ts k)) f.4 perm)
 
 value_of_few : (o : Option Token) → length (value_of o) ≤ 1

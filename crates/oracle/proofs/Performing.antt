@@ -7,7 +7,7 @@ use Rattle.tags.specs.declared.value.Value.{Value}
 use Rattle.semantics.specs.Graph.{Graph, flow_of}
 use Rattle.semantics.specs.Meaning.{Context, Tagged, Memory, Effect, State, Activity, taken, effect, done, adds, tokens_of, with_cell, with_output, when_full, when_empty, Step, Run, start}
 use Rattle.semantics.specs.Meaning as Meaning
-use Rattle.law_determinacy.proofs.Perm.{Each, each_append, each_append_back, each_weaker}
+use Rattle.lemmas.proofs.Permutations.{Each, each_append, each_append_back, each_weaker}
 use Rattle.law_determinacy.proofs.Diamond.{effect_of}
 use Rattle.law_determinacy.proofs.Determinacy.{same_refl}
 use Rattle.law_determinacy.proofs.Runs.{run_append, step_of}

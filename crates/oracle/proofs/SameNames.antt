@@ -1,11 +1,12 @@
 -- Where invocations were added, all others keep their names: so what is known keeps its tokens, and a deed stays the same.
 use Rattle.std.proofs.Common.{◌≡◌, ℕ, ◌<◌, ◌≤◌, List, [], ◌∷◌, map, length, Some, slice_get, IsPermutation, refl, sym, ap, ◌∙◌, subst, arith}
 use Rattle.std.proofs.lemmas.List.Sorted.{IsPermutation-map}
+use Rattle.std.proofs.lemmas.Option.{slice_get_within}
+use Rattle.lemmas.proofs.SliceGet.{get_some}
 use Rattle.tags.specs.declared.value.Value.{Value}
 use Rattle.semantics.specs.Graph.{Graph, flow_of}
 use Rattle.semantics.specs.Meaning.{Context, block_number, Same}
 use Rattle.semantics.specs.Meaning as Meaning
-use Rattle.law_determinacy.proofs.Grounds.{get_below}
 use Rattle.oracle.specs.declared.invocations.Made.{Made}
 use Rattle.oracle.specs.declared.invocations.Made.TheVariants.{Main, Called, Turned}
 use Rattle.oracle.specs.declared.invocations.Invocation.{Invocation}
@@ -15,7 +16,6 @@ use Rattle.oracle.specs.declared.tokens.Token.{Token}
 use Rattle.oracle.specs.Meant.{name_in, made_of, tagged_of, deed_of}
 use Rattle.oracle.specs.Naming.{IsBelow, CanEnter, IsKnown, Named}
 use Rattle.oracle.specs.Running.{Plain}
-use Rattle.oracle.proofs.Apart.{get_there}
 use Rattle.oracle.proofs.Entering.{AreKnown, tokens_kept}
 use Rattle.oracle.proofs.Filling.{memory_of}
 use Rattle.oracle.proofs.Following.{all_tokens, meant}
@@ -27,8 +27,8 @@ StartsWith ys xs = (i : ℕ) (x : Invocation) → slice_get xs i ≡ Some x → 
 pub as_long : (xs ys : List Invocation) → StartsWith ys xs → length xs ≤ length ys
 as_long [] ys more = omega arith
 as_long (x ∷ xs) ys more =
-    let last = get_there (x ∷ xs) (length xs) (omega arith) in
-    let low = get_below ys (length xs) last.0 (more (length xs) last.0 last.1) in
+    let last = get_some (x ∷ xs) (length xs) (omega arith) in
+    let low = slice_get_within ys (length xs) last.0 (more (length xs) last.0 last.1) in
     omega (arith, low)
 
 module _ (g : Graph) (xs ys : List Invocation) (cs ds : List Context) (old : Named g xs cs) (new : Named g ys ds) (more : StartsWith ys xs) where
@@ -59,7 +59,7 @@ module _ (g : Graph) (xs ys : List Invocation) (cs ds : List Context) (old : Nam
 
   from_made : (c : Context) → MadesAgree c → Agrees c
   from_made c mades i h e =
-      let x = get_there xs i h in
+      let x = get_some xs i h in
       sym (new.made i x.0 (more i x.0 x.1)) ∙ mades x.0.made (old.below i x.0 x.1) (old.made i x.0 x.1 ∙ e)
 
   all_agree : (c : Context) → Agrees c

@@ -1,12 +1,12 @@
 -- The tokens that an activity takes.
 use Rattle.std.proofs.Common.{◌≡◌, ℕ, zero, suc, ◌+◌, ◌<◌, ◌≤◌, Bool, true, false, ◌&&◌, ◌==◌, List, [], ◌∷◌, length, map, Some, None, nat_lt, if◌then◌else◌, refl, sym, ap, ◌∙◌, subst, arith, eqb-true, ltb-true, eq-eqb, ne_eqb}
+use Rattle.std.proofs.lemmas.Option.{same_Some}
 use Rattle.tags.specs.declared.value.Value.{Value}
 use Rattle.semantics.specs.declared.graph.Kind.{Kind}
 use Rattle.semantics.specs.declared.graph.Kind.TheVariants.{Lit, Apply1, Apply2, Cond, Enter, Merge, Fetch, Store, Call, StrictCall, Loop}
 use Rattle.semantics.specs.Graph.{Graph}
 use Rattle.semantics.specs.Meaning.{Context, tagged, taken, operands_from}
 use Rattle.semantics.specs.Meaning as Meaning
-use Rattle.law_determinacy.proofs.Options.{some_same}
 use Rattle.oracle.specs.declared.invocations.Made.{Made}
 use Rattle.oracle.specs.declared.invocations.Made.TheVariants.{Main, Called, Turned}
 use Rattle.oracle.specs.declared.invocations.Invocation.{Invocation}
@@ -63,12 +63,12 @@ operands_own n i from (suc k) low high =
     cases (from == i) refl
 
 pub if_both : (a b : Bool) (x y : Shape) → (if a && b then Some x else None) ≡ Some y → (b ≡ true) × (x ≡ y)
-if_both true true x y h = (refl, some_same x y h)
+if_both true true x y h = (refl, same_Some x y h)
 if_both true false x y h = cc
 if_both false b x y h = cc
 
 pub if_one : (a : Bool) (x y : Shape) → (if a then Some x else None) ≡ Some y → (a ≡ true) × (x ≡ y)
-if_one true x y h = (refl, some_same x y h)
+if_one true x y h = (refl, same_Some x y h)
 if_one false x y h = cc
 
 fires_own : (kind : Kind ℕ) (arity n i : ℕ) (shape : Shape) → fires_shape kind arity n i ≡ Some shape → own (Operand n i) (spots_in shape) ≡ 1
@@ -81,7 +81,7 @@ first_own : (n i : ℕ) (ss : List Spot) → (i == 0) ≡ true → own (Operand 
 first_own n i ss h none = subst (λ k. own (Operand n k) (Operand n 0 ∷ ss) ≡ 1) (sym (eqb-true i 0 h)) (own_first (Operand n 0) ss none)
 
 passes_own : (n i : ℕ) (shape : Shape) → Some (Passes n i) ≡ Some shape → own (Operand n i) (spots_in shape) ≡ 1
-passes_own n i shape h = subst (λ s. own (Operand n i) (spots_in s) ≡ 1) (some_same _ _ h) (own_first (Operand n i) [] refl)
+passes_own n i shape h = subst (λ s. own (Operand n i) (spots_in s) ≡ 1) (same_Some _ _ h) (own_first (Operand n i) [] refl)
 
 gates_own : (n i : ℕ) (shape : Shape) → (if i == 0 then Some (Gates n) else None) ≡ Some shape → own (Operand n i) (spots_in shape) ≡ 1
 gates_own n i shape h =
@@ -111,7 +111,7 @@ operand_own (Node r kind arity) n i shape h = node_own kind arity n i shape h
 operand_own Nothing n i shape h = cc
 
 enter_own : (kind : Kind ℕ) (n : ℕ) (shape : Shape) → enter_shape kind n ≡ Some shape → own (Predicate n) (spots_in shape) ≡ 1
-enter_own Enter n shape h = subst (λ s. own (Predicate n) (spots_in s) ≡ 1) (some_same _ _ h) (own_first (Predicate n) [] refl)
+enter_own Enter n shape h = subst (λ s. own (Predicate n) (spots_in s) ≡ 1) (same_Some _ _ h) (own_first (Predicate n) [] refl)
 enter_own kind n shape h = cc
 
 predicate_own : (l : Line) (n : ℕ) (shape : Shape) → predicate_shape l n ≡ Some shape → own (Predicate n) (spots_in shape) ≡ 1
@@ -120,19 +120,19 @@ predicate_own (Node r kind arity) n shape h = enter_own kind n shape h
 predicate_own Nothing n shape h = cc
 
 out_own : (made : Made) (j : ℕ) (shape : Shape) → out_shape made j ≡ Some shape → own (Out j) (spots_in shape) ≡ 1
-out_own Main j shape h = subst (λ s. own (Out j) (spots_in s) ≡ 1) (some_same _ _ h) (own_first (Out j) [] refl)
-out_own (Called c n) j shape h = subst (λ s. own (Out j) (spots_in s) ≡ 1) (some_same _ _ h) (own_first (Out j) [] refl)
+out_own Main j shape h = subst (λ s. own (Out j) (spots_in s) ≡ 1) (same_Some _ _ h) (own_first (Out j) [] refl)
+out_own (Called c n) j shape h = subst (λ s. own (Out j) (spots_in s) ≡ 1) (same_Some _ _ h) (own_first (Out j) [] refl)
 out_own (Turned c n i) j shape h = cc
 
 flag_own : (made : Made) (j : ℕ) (shape : Shape) → turn_shape made j ≡ Some shape → own (Flag j) (spots_in shape) ≡ 1
 flag_own Main j shape h = cc
 flag_own (Called c n) j shape h = cc
-flag_own (Turned c n i) j shape h = subst (λ s. own (Flag j) (spots_in s) ≡ 1) (some_same _ _ h) (own_first (Flag j) (Carried j ∷ []) refl)
+flag_own (Turned c n i) j shape h = subst (λ s. own (Flag j) (spots_in s) ≡ 1) (same_Some _ _ h) (own_first (Flag j) (Carried j ∷ []) refl)
 
 carried_own : (made : Made) (j : ℕ) (shape : Shape) → turn_shape made j ≡ Some shape → own (Carried j) (spots_in shape) ≡ 1
 carried_own Main j shape h = cc
 carried_own (Called c n) j shape h = cc
-carried_own (Turned c n i) j shape h = subst (λ s. own (Carried j) (spots_in s) ≡ 1) (some_same _ _ h) (own_first (Carried j) [] refl)
+carried_own (Turned c n i) j shape h = subst (λ s. own (Carried j) (spots_in s) ≡ 1) (same_Some _ _ h) (own_first (Carried j) [] refl)
 
 -- A token's own spot is once among those of its activity.
 pub own_law : (g : Graph) (made : Made) (block : ℕ) (q : Spot) (shape : Shape) → shape_in g made block q ≡ Some shape → own q (spots_in shape) ≡ 1

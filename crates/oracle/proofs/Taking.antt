@@ -6,8 +6,7 @@ use Rattle.std.proofs.lemmas.List.Sorted.{IsPermutation-refl, IsPermutation-tran
 use Rattle.tags.specs.declared.value.Value.{Value}
 use Rattle.semantics.specs.Graph.{Graph, flow_of}
 use Rattle.semantics.specs.Meaning.{Context, Tagged, Activity, taken, deed}
-use Rattle.law_determinacy.proofs.Diamond.{permutation_exchange}
-use Rattle.law_determinacy.proofs.Perm.{Within, put_first, put_later, within_append}
+use Rattle.lemmas.proofs.Permutations.{Within, put_first, put_later, within_append, permutation_exchange}
 use Rattle.oracle.specs.declared.deeds.Deed.{Deed}
 use Rattle.oracle.specs.declared.deeds.Deed.TheVariants.{Sends, Tells, Enters, EntersAll, Stops, Reads, Fills, Puts}
 use Rattle.oracle.specs.declared.invocations.Invocation.{Invocation}
@@ -110,10 +109,6 @@ taking_at g k cs m P held (b ∷ acts) (c ∷ as') h a (zs, inl p) = (h.0, b, su
 taking_at g k cs m P held (b ∷ acts) (c ∷ as') h a (zs, inr p) = taking_at g k cs m P h.1 acts as' h.5 a (p.0, p.2)
 
 -- LISTS
-pub get_within : {X : Type 0} (xs : List X) (i : ℕ) (x : X) → slice_get xs i ≡ Some x → Within x xs
-get_within [] i x e = cc
-get_within {X} (y ∷ xs) zero x e = let same : y ≡ x = cc in (xs, inl (sym same, refl))
-get_within (y ∷ xs) (suc i) x e = let h = get_within xs i x e in (y ∷ h.0, put_later x y h.0 xs h.1)
 
 pub flat_within : (u : Tagged) (as' : List Activity) → Within u (flat_map taken as') → (a : Activity) × Within a as' × Within u (taken a)
 flat_within u [] w = absurd w.1

@@ -10,7 +10,8 @@ use Rattle.semantics.specs.declared.graph.Kind.TheVariants.{Lit, Apply1, Apply2,
 use Rattle.semantics.specs.Graph.{Node, Block, Graph, flow_of}
 use Rattle.semantics.specs.Meaning.{Context, Tagged, tagged, sent, entering, predicates_from, predicates_in, is_enter_of, block_numbered, block_of}
 use Rattle.semantics.specs.Meaning as Meaning
-use Rattle.law_determinacy.proofs.Perm.{Each, each_append}
+use Rattle.lemmas.proofs.Permutations.{Each, each_append}
+use Rattle.lemmas.proofs.SliceGet.{get_some}
 use Rattle.oracle.specs.declared.invocations.Made.{Made}
 use Rattle.oracle.specs.declared.invocations.Made.TheVariants.{Main, Called, Turned}
 use Rattle.oracle.specs.declared.invocations.Invocation.{Invocation}
@@ -23,7 +24,6 @@ use Rattle.oracle.specs.Running.{sent_of, sent_by, sent_if, sent_in, told_by, to
 use Rattle.oracle.specs.Meant.{name_in, tagged_of}
 use Rattle.oracle.specs.Naming.{Named}
 use Rattle.oracle.specs.Agreeing.{block_in, row_in}
-use Rattle.oracle.proofs.Apart.{get_there}
 use Rattle.oracle.proofs.Resolved.{block_same}
 use Rattle.oracle.proofs.Sends.{all_sent}
 
@@ -126,7 +126,7 @@ entering_of c i (v ∷ vs) = (refl, entering_of c (i + 1) vs)
 
 module _ (g : Graph) (xs : List Invocation) (cs : List Context) (named : Named g xs cs) (c : ℕ) (low : c < length xs) (v : Value) where
   x : (y : Invocation) × (slice_get xs c ≡ Some y)
-  x = get_there xs c low
+  x = get_some xs c low
 
   block : block_of (flow_of g) (name_in cs c) ≡ option_map (block_in g) (slice_get g.blocks x.0.block)
   block = ap (block_numbered (flow_of g)) (named.block c x.0 x.1) ∙ block_same g x.0.block

@@ -1,13 +1,13 @@
 -- What a deed may name besides: the turn of an iteration, which no run brings above its length, and an output, which main
 -- has.
-use Rattle.std.proofs.Common.{◌≡◌, ℕ, zero, suc, ◌+◌, ◌-◌, ◌<◌, ◌^◌, ℤ, true, false, ◌==◌, List, [], ◌∷◌, length, Option, Some, None, nat_lt, slice_get, if◌then◌else◌, refl, sym, ap, ◌∙◌, subst, arith, ⊎_elim}
+use Rattle.std.proofs.Common.{◌≡◌, ℕ, suc, ◌+◌, ◌-◌, ◌<◌, ◌^◌, ℤ, true, false, ◌==◌, List, [], ◌∷◌, length, Option, Some, None, nat_lt, slice_get, if◌then◌else◌, refl, sym, ap, ◌∙◌, subst, arith, ⊎_elim}
 use Rattle.std.specs.Prelude.{⊤, option_map}
+use Rattle.std.proofs.lemmas.Option.{same_Some}
 use Rattle.tags.specs.declared.value.Value.{Value}
 use Rattle.tags.specs.declared.value.Origin.{Origin}
 use Rattle.operators.specs.Values.{truth, Indexed, Place, Outside, index_in}
 use Rattle.semantics.specs.declared.graph.Region.{Region}
 use Rattle.semantics.specs.declared.graph.Region.TheVariants.{Root, Arm}
-use Rattle.semantics.specs.declared.graph.Source.{Source}
 use Rattle.semantics.specs.declared.graph.Kind.{Kind}
 use Rattle.semantics.specs.declared.graph.Kind.TheVariants.{Lit, Apply1, Apply2, Cond, Enter, Merge, Fetch, Store, Call, StrictCall, Loop}
 use Rattle.semantics.specs.Graph.{Block, Graph, flow_of}
@@ -15,11 +15,11 @@ use Rattle.semantics.specs.WellFormed.{WellFormed, IsBlockWell}
 use Rattle.semantics.specs.Faithful.{inputs_of, inputs_in}
 use Rattle.semantics.specs.Meaning.{Context, Statement, AtNode, AtOut, Port, Tagged, tagged, State, Activity, Run, start, same_side, block_of, Message}
 use Rattle.semantics.specs.Meaning as Meaning
-use Rattle.law_determinacy.proofs.Options.{some_same}
-use Rattle.law_determinacy.proofs.Perm.{Within, within_right}
-use Rattle.law_determinacy.proofs.Uses.{IsSource, UseOf, AsOperand, AsResult, AsFlag, AsCarried, Member}
+use Rattle.lemmas.proofs.Permutations.{Within, within_right}
+use Rattle.lemmas.proofs.Alls.{all_at}
+use Rattle.law_determinacy.proofs.Uses.{UseOf, AsOperand, AsResult, AsFlag, AsCarried, Member, source_within}
 use Rattle.law_determinacy.proofs.History.{at_start, run_history}
-use Rattle.law_determinacy.proofs.Resolved.{all_get, flow_well, fits}
+use Rattle.law_determinacy.proofs.Resolved.{flow_well, fits}
 use Rattle.oracle.specs.declared.invocations.Made.{Made}
 use Rattle.oracle.specs.declared.invocations.Made.TheVariants.{Main, Called, Turned}
 use Rattle.oracle.specs.declared.invocations.Invocation.{Invocation}
@@ -164,14 +164,9 @@ inputs_same g =
     ] in
     cases (slice_get g.blocks (main_place g)) refl ∙ ap inputs_in (sym (block_same g (main_place g)))
 
-source_low : (n p : ℕ) (ss : List Source) (j : ℕ) → IsSource n p (slice_get ss j) → j < length ss
-source_low n p [] j h = absurd h
-source_low n p (s ∷ ss) zero h = omega arith
-source_low n p (s ∷ ss) (suc j) h = let ih = source_low n p ss j h in omega (arith, ih)
-
 use_low : (b : Block ℕ) (c : Context) (n p j : ℕ) (q : Port) → UseOf b c n p (AtOut j) q → j < length b.results
 use_low b c n p j q (AsOperand m i node es eq low line src) = cc
-use_low b c n p j q (AsResult i es eq src) = let same : i ≡ j = cc in subst (λ i. i < length b.results) same (source_low n p b.results i src)
+use_low b c n p j q (AsResult i es eq src) = let same : i ≡ j = cc in subst (λ i. i < length b.results) same (source_within n p b.results i src)
 use_low b c n p j q (AsFlag i es eq low high src t) = cc
 use_low b c n p j q (AsCarried i es eq low src) = cc
 
@@ -182,8 +177,8 @@ module _ (g : Graph) (well : WellFormed g) where
       = λ o. elim o as (λ o. slice_get g.blocks (main_place g) ≡ o → option_map (block_in g) o ≡ Some b → length b.results ≡ outputs_at g (main_place g)) [
         | None ↦ λ q h. cc
         | Some named ↦ λ q h.
-            let same : block_in g named ≡ b = some_same (block_in g named) b h in
-            let here : IsBlockWell g named.1 = all_get (λ (named : List ℕ × Block (List ℕ)). IsBlockWell g named.1) g.blocks (main_place g) named well.blocks q in
+            let same : block_in g named ≡ b = same_Some (block_in g named) b h in
+            let here : IsBlockWell g named.1 = all_at (λ (named : List ℕ × Block (List ℕ)). IsBlockWell g named.1) g.blocks (main_place g) named well.blocks q in
             ap (λ (b : Block ℕ). length b.results) (sym same) ∙ here.result_count ∙ ap outputs_in (sym q)
       ] in
       cases (slice_get g.blocks (main_place g)) refl (sym (block_same g (main_place g)) ∙ e)

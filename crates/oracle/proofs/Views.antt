@@ -2,6 +2,8 @@
 -- well-formed graph.
 use Rattle.std.proofs.Common.{◌≡◌, ℕ, zero, suc, ◌+◌, ◌-◌, ◌<◌, ◌^◌, Bool, true, false, ◌&&◌, ◌==◌, List, [], ◌∷◌, length, Option, Some, None, nat_lt, slice_get, if◌then◌else◌, refl, sym, ap, ◌∙◌, subst, arith, eqb-true, eq-eqb, lt-ltb}
 use Rattle.std.specs.Prelude.{⊤}
+use Rattle.std.proofs.lemmas.Option.{same_Some}
+use Rattle.lemmas.proofs.Alls.{all_at}
 use Rattle.tags.specs.declared.value.Value.{Value}
 use Rattle.tags.specs.declared.value.Origin.{Origin}
 use Rattle.operators.specs.Values.{truth}
@@ -11,8 +13,6 @@ use Rattle.semantics.specs.declared.graph.Kind.{Kind}
 use Rattle.semantics.specs.declared.graph.Kind.TheVariants.{Lit, Apply1, Apply2, Cond, Enter, Merge, Fetch, Store, Call, StrictCall, Loop}
 use Rattle.semantics.specs.Graph.{Node as Row, Block, Graph, node_at}
 use Rattle.semantics.specs.WellFormed.{WellFormed, IsBlockWell, LiesWell}
-use Rattle.law_determinacy.proofs.Options.{some_same}
-use Rattle.law_determinacy.proofs.Resolved.{all_get}
 use Rattle.oracle.specs.declared.invocations.Made.{Made}
 use Rattle.oracle.specs.declared.invocations.Made.TheVariants.{Main, Called, Turned}
 use Rattle.oracle.specs.declared.invocations.Invocation.{Invocation}
@@ -151,7 +151,7 @@ module _ (g : Graph) (well : WellFormed g) (c : ℕ) (x : Invocation) where
   gate_row n arity b eb false et None eo h = cc
   gate_row n arity b eb false et (Some row) eo h =
       let at : node_at b.1 n ≡ Some row = ap (λ (t : Bool). if t then None else slice_get b.1.nodes (n - b.1.inputs)) et ∙ eo in
-      let line = (all_get (λ (named : List ℕ × Block (List ℕ)). IsBlockWell g named.1) g.blocks x.block b well.blocks eb).nodes n row at in
+      let line = (all_at (λ (named : List ℕ × Block (List ℕ)). IsBlockWell g named.1) g.blocks x.block b well.blocks eb).nodes n row at in
       let region : row.region ≡ Root = cc in
       let resolved : resolved_in g row.kind ≡ Enter = cc in
       let lies : LiesWell b.1 n row.region Enter row.sources = subst (λ kind. LiesWell b.1 n row.region kind row.sources) (enter_row row.kind resolved) line.lies in
@@ -189,14 +189,14 @@ module _ (g : Graph) (well : WellFormed g) (c : ℕ) (x : Invocation) where
       (fired.0, ap (λ l. line_deed g c n l vs o) e ∙ ap (λ b. if b then fired_deed g c n kind vs o else None) counted ∙ fired.1)
     where
       if_all : (a b : Bool) (x y : Shape) → (if a && b then Some x else None) ≡ Some y → (a ≡ true) × (x ≡ y)
-      if_all true true x y h = (refl, some_same x y h)
+      if_all true true x y h = (refl, same_Some x y h)
       if_all true false x y h = cc
       if_all false b x y h = cc
 
   passing_some : (n i arity : ℕ) (r : Region) (kind : Kind ℕ) (shape : Shape) (vs : List Value) → line_of g x.block n ≡ Node r kind arity → ((v : Value) → IsSome (passed_deed c n i (Node r kind arity) v)) → Some (Passes n i) ≡ Some shape
       → length vs ≡ length (spots_in shape) → IsSome (deed_in g c x shape vs)
   passing_some n i arity r kind shape vs e f h l =
-      let same = some_same (Passes n i) shape h in
+      let same = same_Some (Passes n i) shape h in
       subst (λ s. IsSome (deed_in g c x s vs)) same (passes_some n i (Node r kind arity) vs e f (subst (λ s. length vs ≡ length (spots_in s)) (sym same) l))
 
   gating_some : (n arity : ℕ) (r : Region) (shape : Shape) (vs : List Value) → line_of g x.block n ≡ Node r Enter arity → Gates n ≡ shape → length vs ≡ length (spots_in shape) → IsSome (deed_in g c x shape vs)
@@ -226,7 +226,7 @@ module _ (g : Graph) (well : WellFormed g) (c : ℕ) (x : Invocation) where
   operand_some n i Nothing shape vs e h l = cc
 
   entered_some : (n arity : ℕ) (r : Region) (kind : Kind ℕ) (shape : Shape) (vs : List Value) → line_of g x.block n ≡ Node r kind arity → enter_shape kind n ≡ Some shape → length vs ≡ length (spots_in shape) → IsSome (deed_in g c x shape vs)
-  entered_some n arity r Enter shape vs e h l = gating_some n arity r shape vs e (some_same (Gates n) shape h) l
+  entered_some n arity r Enter shape vs e h l = gating_some n arity r shape vs e (same_Some (Gates n) shape h) l
   entered_some n arity r kind shape vs e h l = cc
 
   predicate_some : (n : ℕ) (line : Line) (shape : Shape) (vs : List Value) → line_of g x.block n ≡ line → predicate_shape line n ≡ Some shape → length vs ≡ length (spots_in shape) → IsSome (deed_in g c x shape vs)
@@ -241,10 +241,10 @@ module _ (g : Graph) (well : WellFormed g) (c : ℕ) (x : Invocation) where
 
   out_some : (made : Made) (j : ℕ) (shape : Shape) (vs : List Value) → x.made ≡ made → out_shape made j ≡ Some shape → length vs ≡ length (spots_in shape) → IsSome (deed_in g c x shape vs)
   out_some Main j shape vs e h l =
-      let same = some_same (Outputs j) shape h in
+      let same = same_Some (Outputs j) shape h in
       subst (λ s. IsSome (deed_in g c x s vs)) same (one_deeds (λ v. shown_deed Main j v) (Outputs j) vs (λ v. ap (λ m. shown_deed m j v) e) (λ v. (_, refl)) (subst (λ s. length vs ≡ length (spots_in s)) (sym same) l))
   out_some (Called by n) j shape vs e h l =
-      let same = some_same (Returns j) shape h in
+      let same = same_Some (Returns j) shape h in
       subst (λ s. IsSome (deed_in g c x s vs)) same (one_deeds (λ v. returned_deed (Called by n) j v) (Returns j) vs (λ v. ap (λ m. returned_deed m j v) e) (λ v. (_, refl)) (subst (λ s. length vs ≡ length (spots_in s)) (sym same) l))
   out_some (Turned by n i) j shape vs e h l = cc
 
@@ -265,7 +265,7 @@ module _ (g : Graph) (well : WellFormed g) (c : ℕ) (x : Invocation) where
   turn_some k low Main by j shape vs e h l = cc
   turn_some k low (Called by' n) by j shape vs e h l = cc
   turn_some k low (Turned by' n i) by j shape vs e h l =
-      let same = some_same (Turns j) shape h in
+      let same = same_Some (Turns j) shape h in
       subst (λ s. IsSome (deed_in g c x s vs)) same (two_turns by' n i j vs e (omega (arith, low, by)) (subst (λ s. length vs ≡ length (spots_in s)) (sym same) l))
 
   pub deed_some : (k : ℕ) → k < 2 ^ 64 → TurnBelow k x.made → (s : Spot) (shape : Shape) (vs : List Value) → shape_in g x.made x.block s ≡ Some shape → length vs ≡ length (spots_in shape) → IsSome (deed_in g c x shape vs)

@@ -2,13 +2,13 @@
 -- activity is enabled and no store clashes.
 use Rattle.std.proofs.Common.{◌≡◌, ℕ, ◌<◌, ◌⊎◌, inl, inr, true, false, List, [], ◌∷◌, ◌++◌, map, length, Option, Some, None, slice_get, if◌then◌else◌, refl, sym, ap, ◌∙◌, subst, arith, ⊎_elim}
 use Rattle.std.proofs.lemmas.List.{map-append}
+use Rattle.std.proofs.lemmas.Option.{same_Some}
 use Rattle.tags.specs.declared.value.Value.{Value}
 use Rattle.semantics.specs.Graph.{Graph, Flow, flow_of}
 use Rattle.semantics.specs.Meaning.{Context, Statement, AtNode, Port, Tagged, tagged, Memory, State, Effect, Activity, taken, deed, done, adds, tokens_of, block_number, Step, AtRest, Clashes}
 use Rattle.semantics.specs.Meaning as Meaning
 use Rattle.law_determinacy.specs.Outcome.{NoClash}
-use Rattle.law_determinacy.proofs.Options.{some_same}
-use Rattle.law_determinacy.proofs.Perm.{Within, Each, put_first, put_later, each_within, within_append, within_right}
+use Rattle.lemmas.proofs.Permutations.{Within, Each, put_first, put_later, each_within, within_append, within_right, each_weaker, within_map}
 use Rattle.law_determinacy.proofs.Keys.{Unique, Held, same_activity}
 use Rattle.law_determinacy.proofs.Deeds.{full_of}
 use Rattle.law_determinacy.proofs.Diamond.{deed_of, held_from}
@@ -36,21 +36,12 @@ within_back f y [] h = absurd h.1
 within_back f y (x ∷ xs) (zs, inl p) = (x, (xs, put_first x xs), sym p.0)
 within_back f y (x ∷ xs) (zs, inr p) = let r = within_back f y xs (p.0, p.2) in (r.0, (x ∷ r.1.0, put_later r.0 x r.1.0 xs r.1.1), r.2)
 
-within_map : {X Y : Type 0} (f : X → Y) (x : X) (xs : List X) → Within x xs → Within (f x) (map f xs)
-within_map f x [] h = absurd h.1
-within_map f x (y ∷ xs) (zs, inl h) = (map f xs, inl (ap f h.0, refl))
-within_map f x (y ∷ xs) (zs, inr h) = let ih = within_map f x xs (h.0, h.2) in (f y ∷ ih.0, put_later (f x) (f y) ih.0 (map f xs) ih.1)
-
 -- either all are of one kind, or one is of the other
 pub each_either : {X : Type 0} (P Q : X → Type 0) (xs : List X) → Each (λ x. P x ⊎ Q x) xs → Each P xs ⊎ ((x : X) × Within x xs × Q x)
 each_either P Q [] h = inl tt
 each_either P Q (x ∷ xs) (inl p, h) =
     ⊎_elim (λ r. inl (p, r)) (λ r. inr (r.0, (x ∷ r.1.0, put_later r.0 x r.1.0 xs r.1.1), r.2)) (each_either P Q xs h)
 each_either P Q (x ∷ xs) (inr q, h) = inr (x, (xs, put_first x xs), q)
-
-pub each_to : {X : Type 0} (P Q : X → Type 0) → ((x : X) → P x → Q x) → (xs : List X) → Each P xs → Each Q xs
-each_to P Q f [] h = tt
-each_to P Q f (x ∷ xs) h = (f x h.0, each_to P Q f xs h.1)
 
 -- TOKENS THAT WAIT
 
@@ -67,7 +58,7 @@ stuck_none fl w a d e h = held_none (taken a) (takes_some fl w a d e) h
 pub stuck_left : (fl : Flow) (f : Token → Tagged) (t : Token) (ss : List Spot) (w : List Token) → Stuck fl (map f w) → Stuck fl (map f (left_of t ss w))
 stuck_left fl f t ss w stuck a d e h =
     stuck a d e
-    (each_to (λ y. Within y (map f (left_of t ss w))) (λ y. Within y (map f w))
+    (each_weaker (λ y. Within y (map f (left_of t ss w))) (λ y. Within y (map f w))
     (λ y k.
     let b = within_back f y (left_of t ss w) k in
     subst (λ y. Within y (map f w)) b.2 (within_map f b.0 w (left_within t ss w b.0 b.1)))
@@ -112,7 +103,7 @@ module _ (g : Graph) (xs : List Invocation) (cs : List Context) (named : Named g
   stuck_more alone stuck a d e held =
       let f = tagged_of cs in
       let sides : Each (λ y. Within y (map f w) ⊎ (y ≡ f t)) (taken a) =
-      each_to (λ y. Within y (map f (w ++ t ∷ []))) (λ y. Within y (map f w) ⊎ (y ≡ f t))
+      each_weaker (λ y. Within y (map f (w ++ t ∷ []))) (λ y. Within y (map f w) ⊎ (y ≡ f t))
       (λ y k. ⊎_elim (λ p. inl p) (λ p. inr (last y p)) (within_append y (map f w) (f t ∷ []) (subst (λ l. Within y l) (map-append f w (t ∷ [])) k))) (taken a) held in
       ⊎_elim (λ all. stuck a d e all)
       (λ one.
@@ -144,7 +135,7 @@ module _ (fl : Flow) (cells : ℕ → Option Value) (ts waiting deferred : List 
   reads_empty : (a : Activity) (d : Meaning.Deed) → deed fl a ≡ Some d → Held ts (taken a) → ReadsEmpty cells d
   reads_empty a d e held =
       let sides : Each (λ y. Within y waiting ⊎ Within y deferred) (taken a) =
-      each_to (λ y. Within y ts) (λ y. Within y waiting ⊎ Within y deferred) (λ y k. within_append y waiting deferred (subst (λ l. Within y l) here k)) (taken a) held in
+      each_weaker (λ y. Within y ts) (λ y. Within y waiting ⊎ Within y deferred) (λ y k. within_append y waiting deferred (subst (λ l. Within y l) here k)) (taken a) held in
       ⊎_elim (λ k. absurd (stuck a d e k))
       (λ one.
       let f = each_within (IsDeferred fl cells) one.0 deferred one.2 defers in
@@ -152,7 +143,7 @@ module _ (fl : Flow) (cells : ℕ → Option Value) (ts waiting deferred : List 
       let y = tagged f.context (AtNode f.node) (Meaning.Operand 0) f.value in
       let mine : Within y ts = subst (λ z. Within z ts) f.is (subst (λ l. Within one.0 l) (sym here) (within_right one.0 waiting deferred one.2)) in
       let same = same_activity fl ts all a b d (Meaning.Reads f.context f.node f.cell) e f.fetch held (mine, tt) one.0 one.1 (subst (λ z. Within z (y ∷ [])) (sym f.is) ([], put_first y [])) in
-      let deeds : d ≡ Meaning.Reads f.context f.node f.cell = some_same _ _ (sym e ∙ ap (λ k. deed fl k) same ∙ f.fetch) in
+      let deeds : d ≡ Meaning.Reads f.context f.node f.cell = same_Some _ _ (sym e ∙ ap (λ k. deed fl k) same ∙ f.fetch) in
       (f.context, f.node, f.cell, deeds, f.empty))
       (each_either (λ y. Within y waiting) (λ y. Within y deferred) (taken a) sides)
 

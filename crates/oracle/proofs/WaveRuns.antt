@@ -2,6 +2,7 @@
 use Rattle.std.proofs.Common.{◌≡◌, ℕ, zero, suc, ◌+◌, ◌-◌, ◌<◌, ◌≤◌, ◌^◌, ℤ, Bool, true, false, List, [], ◌∷◌, ◌++◌, length, Option, Some, None, nat_lt, if◌then◌else◌, IsPermutation, refl, sym, ap, ◌∙◌, subst, arith, append-nil, ltb-true, ltb-false}
 use Rattle.std.proofs.lemmas.List.{length-append}
 use Rattle.std.proofs.lemmas.List.Sorted.{IsPermutation-refl}
+use Rattle.std.proofs.lemmas.Option.{same_Some}
 use Rattle.tags.specs.declared.value.Value.{Value}
 use Rattle.semantics.specs.Graph.{Graph, Flow, flow_of, array_len}
 use Rattle.semantics.specs.Text.{HasText}
@@ -10,7 +11,6 @@ use Rattle.semantics.specs.Faithful.{inputs_of}
 use Rattle.semantics.specs.Meaning.{Context, State, Activity, Same, Run, Reached, Leads, AtRest, Clashes, start}
 use Rattle.law_determinacy.specs.Outcome.{NoClash}
 use Rattle.law_determinacy.proofs.Determinacy.{same_refl, same_sym, same_trans, run_same}
-use Rattle.law_determinacy.proofs.Options.{some_same}
 use Rattle.law_determinacy.proofs.Runs.{run_append, reached_leads, run_to_same}
 use Rattle.law_determinacy.proofs.Theorems.{determinacy, second_store_from}
 use Rattle.oracle.specs.declared.deeds.Deed.{Deed}
@@ -258,7 +258,7 @@ module _ (g : Graph) (text : HasText g) (well : WellFormed g) (inputs : List ℤ
 
   true_told : (end : MeanEnd) (counts : List ℕ) (o : Option (MeanEnd × List ℕ)) → AreTold o → o ≡ Some (end, counts) → AreWavesOf g inputs steps end counts
   true_told end counts None h e = absurd h
-  true_told end counts (Some r) h e = let same = some_same r (end, counts) e in subst (λ (q : MeanEnd × List ℕ). AreWavesOf g inputs steps q.0 q.1) same h
+  true_told end counts (Some r) h e = let same = same_Some r (end, counts) e in subst (λ (q : MeanEnd × List ℕ). AreWavesOf g inputs steps q.0 q.1) same h
 
 pub waves_end : (g : Graph) (inputs : List ℤ) (steps : ℕ) → HasText g → WellFormed g → length inputs ≡ inputs_at g (main_place g) → steps < 2 ^ 64 → (r : MeanEnd × List ℕ) × (waves_told g inputs steps ≡ Some r)
 waves_end g inputs steps text well fit low =

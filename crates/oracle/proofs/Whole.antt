@@ -1,6 +1,7 @@
 -- A whole run of numbered invocations is a run of the meaning, and what it tells is true.
 use Rattle.std.proofs.Common.{◌≡◌, ℕ, zero, suc, ◌+◌, ◌<◌, ◌≤◌, ◌^◌, ℤ, List, [], ◌∷◌, ◌++◌, map, length, Option, Some, None, slice_get, IsPermutation, refl, sym, ap, ◌∙◌, subst, arith, append-nil}
 use Rattle.std.proofs.lemmas.List.Sorted.{IsPermutation-refl}
+use Rattle.std.proofs.lemmas.Option.{same_Some}
 use Rattle.tags.specs.declared.value.Value.{Value}
 use Rattle.tags.specs.declared.value.Value.TheVariants.{Int}
 use Rattle.semantics.specs.Graph.{Graph, flow_of}
@@ -9,8 +10,7 @@ use Rattle.semantics.specs.WellFormed.{WellFormed}
 use Rattle.semantics.specs.Faithful.{inputs_of}
 use Rattle.semantics.specs.Meaning.{Context, Tagged, Memory, State, Activity, Step, Run, Reached, start, entering}
 use Rattle.semantics.specs.Meaning as Meaning
-use Rattle.law_determinacy.proofs.Options.{some_same}
-use Rattle.law_determinacy.proofs.Perm.{each_append, each_weaker}
+use Rattle.lemmas.proofs.Permutations.{each_append, each_weaker}
 use Rattle.law_determinacy.proofs.Resolved.{flow_well}
 use Rattle.law_determinacy.proofs.Theorems.{determinacy, second_store_from}
 use Rattle.oracle.specs.declared.invocations.Made.TheVariants.{Main}
@@ -40,7 +40,7 @@ use Rattle.oracle.proofs.Waiting.{stuck_none}
 
 -- main is the only invocation
 only : (x y : Invocation) (i : ℕ) → slice_get (x ∷ []) i ≡ Some y → (i ≡ 0) × (x ≡ y)
-only x y zero e = (refl, some_same x y e)
+only x y zero e = (refl, same_Some x y e)
 only x y (suc i) e = cc
 
 module _ (g : Graph) (well : WellFormed g) (inputs : List ℤ) where
@@ -168,7 +168,7 @@ module _ (g : Graph) (text : HasText g) (well : WellFormed g) (inputs : List ℤ
   true_told : (steps : ℕ) (end : MeanEnd) (outputs : List (Option Value)) (listed : List Full) (o : Option (MeanEnd × Plain)) → RunOut g inputs steps o → told_of g o ≡ Some (end, outputs, listed) → IsMeant g inputs steps end outputs listed
   true_told steps end outputs listed None h e = absurd h
   true_told steps end outputs listed (Some r) h e =
-      let same = some_same (r.0, r.1.outputs, full_in r.1.cells 0 0 g.arrays) (end, outputs, listed) e in
+      let same = same_Some (r.0, r.1.outputs, full_in r.1.cells 0 0 g.arrays) (end, outputs, listed) e in
       subst (λ (q : MeanEnd × List (Option Value) × List Full). IsMeant g inputs steps q.0 q.1 q.2) same (true_in steps r h)
 
 pub runs_end : RunsEnd

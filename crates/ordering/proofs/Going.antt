@@ -1,6 +1,7 @@
 -- How an element goes on.
 use Rattle.std.proofs.Common.{◌≡◌, refl, sym, ◌∙◌, ap, subst, ℕ, ◌+◌, ◌<◌, true, ◌==◌, List, [], ◌∷◌, ◌++◌, length, take, drop, append_assoc, append-nil, arith}
 use Rattle.std.proofs.lemmas.Bool.{eqb-true}
+use Rattle.lemmas.proofs.Lists.{same_head, same_tail}
 use Rattle.tags.specs.declared.token.Token.{Token}
 use Rattle.semantics.specs.Machine.{Events}
 use Rattle.rounds.specs.Turns.{by}
@@ -73,12 +74,6 @@ pub no_tokens : (ts : Tokens) → (length ts == 0) ≡ true → ts ≡ []
 no_tokens [] is = refl
 no_tokens (t ∷ ts) is = absurd (let some : length (t ∷ ts) ≡ 0 = eqb-true (length (t ∷ ts)) 0 is in let no : ⊥ = omega (arith, some) in no)
 
-first_counts : (c d : Counts) (cs ds : List Counts) → c ∷ cs ≡ d ∷ ds → c ≡ d
-first_counts c d cs ds e = cc
-
-later_counts : (c d : Counts) (cs ds : List Counts) → c ∷ cs ≡ d ∷ ds → cs ≡ ds
-later_counts c d cs ds e = cc
-
 no_counts : (c : Counts) (cs : List Counts) → [] ≡ c ∷ cs → ⊥
 no_counts c cs e = cc
 
@@ -90,8 +85,8 @@ pub goes_block : (n e : ℕ) (tokens : Tokens) (blocks : List Block) (one two : 
 goes_block n e tokens [] one two before after old new c cs counts none holds stands whole noted amounts = absurd (no_counts c cs (sym stands.1 ∙ counts))
 goes_block n e tokens (b ∷ later) one two before after old new c cs counts none holds stands whole noted amounts =
     let all = sym stands.3 ∙ counts in
-    let c_is : stands.1 ≡ c = first_counts stands.1 c stands.2 cs all in
-    let cs_is : stands.2 ≡ cs = later_counts stands.1 c stands.2 cs all in
+    let c_is : stands.1 ≡ c = same_head stands.1 c stands.2 cs all in
+    let cs_is : stands.2 ≡ cs = same_tail stands.1 c stands.2 cs all in
     let taken_is : take c.events old.taken.now ≡ taken_in b = subst (λ (d : Counts). take d.events old.taken.now ≡ taken_in b) c_is stands.4 in
     let made_is : take c.made old.made.now ≡ b.made = subst (λ (d : Counts). take d.made old.made.now ≡ b.made) c_is stands.5 in
     let rest : Stands (first_spent (drop c.events old.taken.now) cs) (drop c.events old.taken.now) (drop c.made old.made.now) cs later

@@ -4,13 +4,14 @@ use Rattle.std.specs.Prelude.{All, IsPermutation, ◌==◌}
 use Rattle.std.proofs.lemmas.Bool.{eqb-true, eqb-false}
 use Rattle.std.proofs.lemmas.List.Elements.{All-contains, All-append, All-nil, All-cons, All-head, All-tail}
 use Rattle.std.proofs.lemmas.List.Sorted.{IsPermutation-refl, IsPermutation-sym, IsPermutation-trans}
-use Rattle.law_determinacy.proofs.Perm.{within_to, Meet, permutation_cancel, permutation_meet}
+use Rattle.lemmas.proofs.Permutations.{within_to, Meet, permutation_cancel, permutation_meet, permutation_exchange}
+use Rattle.lemmas.proofs.Lists.{same_head, same_tail}
 use Rattle.tags.specs.declared.token.Token.{Token}
 use Rattle.tags.specs.Addresses.{element_of}
 use Rattle.semantics.specs.Machine.{Events}
 use Rattle.law_free_runs.specs.Blocks.{Block, by_element, events_in, blocks_by, if_by, LeavesTokens}
 use Rattle.law_free_runs.proofs.Running.{by_same, by_other}
-use Rattle.law_free_runs.proofs.Reordering.{swapped, behind, takes_first}
+use Rattle.law_free_runs.proofs.Reordering.{behind, takes_first}
 use Rattle.ordering.specs.Rests.{with_spent, AreOwn, SameOthers, Leads}
 
 abbrev Tokens : Type 0
@@ -28,11 +29,6 @@ behind_mine n e [] us all = all
 behind_mine n e (t ∷ ts) us all = behind_mine n e ts us (All-tail (λ (t : Token). element_of n t.to ≡ e) t (ts ++ us) all)
 
 -- LISTS OF BLOCKS
-head_is : (x b : Block) (xs bs : List Block) → x ∷ xs ≡ b ∷ bs → x ≡ b
-head_is x b xs bs e = cc
-
-tail_is : (x b : Block) (xs bs : List Block) → x ∷ xs ≡ b ∷ bs → xs ≡ bs
-tail_is x b xs bs e = cc
 
 pub first_own : (x : Block) (log : List Block) (e : ℕ) → x.element ≡ e → blocks_by e (x ∷ log) ≡ x ∷ blocks_by e log
 first_own x log e same = subst (λ (k : ℕ). blocks_by k (x ∷ log) ≡ x ∷ blocks_by k log) same (by_same x log)
@@ -95,8 +91,8 @@ sets_aside n e b later (x ∷ log) tokens rest last ts need leaves is spent mine
       by_case true t again =
           let same = eqb-true x.element e t in
           let cons = sym (first_own x log e same) ∙ is in
-          let one = head_is x b (blocks_by e log) later cons in
-          let all = tail_is x b (blocks_by e log) later cons in
+          let one = same_head x b (blocks_by e log) later cons in
+          let all = same_tail x b (blocks_by e log) later cons in
           let here = aside_own n e x log tokens rest last ts need same leaves (ap (λ (y : Block). y.spent) one ∙ spent) perm in
           subst (λ (ls : List Block). Aside n e b ls need (x ∷ log) rest last) all (subst (λ (y : Block). Aside n e y (blocks_by e log) need (x ∷ log) rest last) one here)
       by_case false t again =
@@ -105,7 +101,7 @@ sets_aside n e b later (x ∷ log) tokens rest last ts need leaves is spent mine
           let both = IsPermutation-trans (ts ++ rest) tokens (x.spent ++ leaves.0) (IsPermutation-sym tokens (ts ++ rest) perm) leaves.1 in
           ⊎_elim (λ (m : Meet ts x.spent). absurd (no_meet n e x ts other mine leaves.2 m))
           (λ h.
-          let next = IsPermutation-trans (x.made ++ leaves.0) (x.made ++ (ts ++ h.0)) (ts ++ (x.made ++ h.0)) (behind x.made leaves.0 (ts ++ h.0) h.2) (swapped x.made ts h.0) in
+          let next = IsPermutation-trans (x.made ++ leaves.0) (x.made ++ (ts ++ h.0)) (ts ++ (x.made ++ h.0)) (behind x.made leaves.0 (ts ++ h.0) h.2) (permutation_exchange x.made ts h.0) in
           aside_other n e x b later log tokens rest last need other leaves h.0 h.1 (again (x.made ++ leaves.0) (x.made ++ h.0) leaves.3 here next))
           (permutation_meet ts x.spent rest leaves.0 both)
 
@@ -141,15 +137,15 @@ puts_back n e b later (x ∷ next) tokens rest last ts need leaves is same spent
           → PutBack n e b later (x ∷ next) tokens last
       by_case true t again =
           let cons = sym (first_own x next e (eqb-true x.element e t)) ∙ is in
-          let one = head_is x (with_spent need b) (blocks_by e next) later cons in
-          let all = tail_is x (with_spent need b) (blocks_by e next) later cons in
+          let one = same_head x (with_spent need b) (blocks_by e next) later cons in
+          let all = same_tail x (with_spent need b) (blocks_by e next) later cons in
           subst (λ (ls : List Block). PutBack n e b ls (x ∷ next) tokens last) all (back_own n e x b next tokens rest last ts need one same leaves spent mine perm)
       by_case false t again =
           let other = eqb-false x.element e t in
           let here = sym (first_other x next e other) ∙ is in
           let ws : Tokens = ts ++ leaves.0 in
-          let takes : IsPermutation tokens (x.spent ++ ws) = IsPermutation-trans tokens (ts ++ (x.spent ++ leaves.0)) (x.spent ++ (ts ++ leaves.0)) (IsPermutation-trans tokens (ts ++ rest) (ts ++ (x.spent ++ leaves.0)) perm (behind ts rest (x.spent ++ leaves.0) leaves.1)) (swapped ts x.spent leaves.0) in
-          let ih = again (x.made ++ ws) (x.made ++ leaves.0) leaves.3 here (swapped x.made ts leaves.0) in (
+          let takes : IsPermutation tokens (x.spent ++ ws) = IsPermutation-trans tokens (ts ++ (x.spent ++ leaves.0)) (x.spent ++ (ts ++ leaves.0)) (IsPermutation-trans tokens (ts ++ rest) (ts ++ (x.spent ++ leaves.0)) perm (behind ts rest (x.spent ++ leaves.0) leaves.1)) (permutation_exchange ts x.spent leaves.0) in
+          let ih = again (x.made ++ ws) (x.made ++ leaves.0) leaves.3 here (permutation_exchange x.made ts leaves.0) in (
             x ∷ ih.0,
             (ws, takes, leaves.2, ih.1),
             first_other x ih.0 e other ∙ ih.2,

@@ -3,11 +3,12 @@ use Rattle.std.proofs.Common.{◌≡◌, ◌≢◌, refl, sym, ◌∙◌, ap, su
 use Rattle.std.specs.Prelude.{slice_get, slice_set, ◌==◌, nat_lt, if◌then◌else◌}
 use Rattle.std.proofs.lemmas.Bool.{ltb-true, ltb-false}
 use Rattle.std.proofs.lemmas.List.Sums.{sum_by-set}
+use Rattle.lemmas.proofs.Bools.{by_equality}
 use Rattle.tags.specs.declared.token.Token.{Token}
 use Rattle.ordering.specs.declared.rest.Rest.{Rest}
 use Rattle.ordering.specs.Rests.{IsStuck}
 use Rattle.ordering.specs.Orders.{blocks_left}
-use Rattle.ordering.proofs.Placing.{set_same, set_apart, either}
+use Rattle.ordering.proofs.Placing.{set_same, set_apart}
 
 abbrev Amounts : Type 0
 Amounts = Token → ℕ
@@ -32,7 +33,7 @@ stuck_stays before after r less stuck some =
 pub stuck_more : (rests : List Rest) (at : ℕ) (new : Rest) (before after : Amounts) → ((q : Token) → after q ≤ before q) → IsStuck after new
     → ((e : ℕ) (r : Rest) → e < at → slice_get rests e ≡ Some r → IsStuck before r) → (e : ℕ) (r : Rest) → e < at + 1 → slice_get (slice_set rests at new) e ≡ Some r → IsStuck after r
 stuck_more rests at new before after less here others e r low get =
-    either (IsStuck after r) e at
+    by_equality (IsStuck after r) e at
     (λ (is : e ≡ at). subst (IsStuck after) (sym (set_same rests at r new (subst (λ (k : ℕ). slice_get (slice_set rests at new) k ≡ Some r) is get))) here)
     (λ (ne : e ≢ at). stuck_stays before after r less (others e r (omega (arith, low, ne)) (sym (set_apart rests at e new (λ (is : at ≡ e). ne (sym is))) ∙ get)))
     (e == at) refl

@@ -1,8 +1,11 @@
 -- All elements in turn, from the opening pool to the last block.
 use Rattle.std.proofs.Common.{◌≡◌, ◌≢◌, refl, sym, ◌∙◌, ap, subst, ℕ, zero, suc, ◌<◌, ◌≤◌, Bool, true, false, List, [], ◌∷◌, ◌++◌, length, drop, get_or, map, ◌⊎◌, inl, inr, ⊎_elim, append_assoc, append-nil, Some, arith}
 use Rattle.std.specs.Prelude.{IsPermutation, slice_get, slice_set, ◌==◌, nat_lt}
-use Rattle.std.proofs.lemmas.Bool.{eqb-true, eqb-false, ltb-true, ltb-false}
+use Rattle.std.proofs.lemmas.Bool.{ltb-true, ltb-false}
 use Rattle.std.proofs.lemmas.List.Sorted.{IsPermutation-sym}
+use Rattle.lemmas.proofs.SliceGet.{get_some}
+use Rattle.lemmas.proofs.Bools.{by_equality}
+use Rattle.lemmas.proofs.Lists.{nothing_after}
 use Rattle.tags.specs.declared.token.Token.{Token}
 use Rattle.semantics.specs.Machine.{Events}
 use Rattle.law_free_runs.specs.Blocks.{Block, events_in, blocks_by, entry_of, LeavesTokens, AreBelow}
@@ -37,11 +40,6 @@ set_apart (x ∷ xs) zero (suc j) y ne = refl
 set_apart (x ∷ xs) (suc i) zero y ne = refl
 set_apart (x ∷ xs) (suc i) (suc j) y ne = set_apart xs i j y (λ (s : i ≡ j). ne (ap suc s))
 
-pub found : {X : Type 0} (xs : List X) (i : ℕ) → i < length xs → (x : X) × (slice_get xs i ≡ Some x)
-found [] i low = absurd (let no : ⊥ = omega (arith, low) in no)
-found (y ∷ ys) zero low = (y, refl)
-found (y ∷ ys) (suc i) low = let within : i < length ys = omega (arith, low) in found ys i within
-
 pub first_of_dropped : {X : Type 0} (n : ℕ) (xs : List X) → slice_get (drop n xs) 0 ≡ slice_get xs n
 first_of_dropped zero xs = refl
 first_of_dropped (suc n) [] = refl
@@ -58,10 +56,6 @@ get_pushed [] y (suc e) r is = absurd (let no : ⊥ = cc in no)
 get_pushed (x ∷ xs) y zero r is = inl is
 get_pushed (x ∷ xs) y (suc e) r is = ⊎_elim (λ h. inl h) (λ h. inr (ap suc h.0, h.1)) (get_pushed xs y e r is)
 
-pub either : (P : Type 0) (i e : ℕ) → (i ≡ e → P) → (i ≢ e → P) → (t : Bool) → (i == e) ≡ t → P
-either P i e same other true is = same (eqb-true i e is)
-either P i e same other false is = other (eqb-false i e is)
-
 -- WHICH ELEMENTS HAVE BLOCKS
 none_above : (n : ℕ) (log : List Block) (e : ℕ) → AreBelow n log → n ≤ e → blocks_by e log ≡ []
 none_above n [] e below high = refl
@@ -71,10 +65,6 @@ none_above n (b ∷ later) e below high =
 
 nothing_first : (b : Block) (xs : List Block) → b ∷ xs ≡ [] → ⊥
 nothing_first b xs e = cc
-
-nothing_after : (xs ys : List Block) → xs ++ ys ≡ [] → ys ≡ []
-nothing_after [] ys e = e
-nothing_after (x ∷ xs) ys e = absurd (nothing_first x (xs ++ ys) e)
 
 all_below : (n : ℕ) (log : List Block) → ((e : ℕ) → n ≤ e → blocks_by e log ≡ []) → AreBelow n log
 all_below n [] none = tt
@@ -117,7 +107,7 @@ goes_further n log start last before after rests one two at old new low get goes
       holds = go.holds;
       leaves = next.1;
       below = λ e high. next.3 e (λ (is : e ≡ at). let same : e ≡ at = is in let no : ⊥ = omega (arith, low, high, same) in no) ∙ s.below e high;
-      stands = λ e r there. either (StandsFor r (blocks_by e next.0)) e at
+      stands = λ e r there. by_equality (StandsFor r (blocks_by e next.0)) e at
           (λ (is : e ≡ at).
           let here : r ≡ new = set_same rests at r new (subst (λ (k : ℕ). slice_get (slice_set rests at new) k ≡ Some r) is there) in
           subst (λ (k : ℕ). StandsFor r (blocks_by k next.0)) (sym is) (subst (λ (q : Rest). StandsFor q (blocks_by at next.0)) (sym here) (subst (StandsFor new) (sym next.2) go.stands)))
@@ -126,7 +116,7 @@ goes_further n log start last before after rests one two at old new low get goes
       back = λ later leaves same.
           let own = all_own n at s.left s.tokens last s.leaves in
           let b = go.leads.back own later last leaves (same at ∙ next.2) in
-          let w = s.back b.0 b.1 (λ e. either (blocks_by e b.0 ≡ blocks_by e s.left) e at
+          let w = s.back b.0 b.1 (λ e. by_equality (blocks_by e b.0 ≡ blocks_by e s.left) e at
           (λ (is : e ≡ at). subst (λ (k : ℕ). blocks_by k b.0 ≡ blocks_by k s.left) (sym is) b.2)
           (λ (ne : e ≢ at). b.3 e ne ∙ same e ∙ next.3 e ne) (e == at) refl) in
           (w.0, w.1, w.2, w.3 ∙ ap (λ (l : Events). one ++ l) b.4 ∙ sym (append_assoc one go.made (events_in later)) ∙ ap (λ (l : Events). l ++ events_in later) (sym go.noted));
@@ -160,7 +150,7 @@ none_left : (n : ℕ) (left : List Block) (tokens last : Tokens) (amounts : Amou
 none_left n [] tokens last amounts rests count leaves holds below stands stuck = refl
 none_left n (b ∷ later) tokens last amounts rests count leaves holds below stands stuck =
     let low : b.element < n = (all_below n (b ∷ later) below).0 in
-    let here = found rests b.element (omega (arith, low, count)) in
+    let here = get_some rests b.element (omega (arith, low, count)) in
     absurd (stuck_first n b later tokens last amounts here.0 leaves holds (subst (StandsFor here.0) (by_same b later) (stands b.element here.0 here.1)) (stuck b.element here.0 here.1))
 
 pub ends : {A : Type 0} (logs : List (Log A)) (log : List Block) (start last : Tokens) (amounts : Amounts) (rests : List Rest) (events : Events)

@@ -1,25 +1,20 @@
 -- Numbered things of a list, sent one after the other.
-use Rattle.std.proofs.Common.{◌≡◌, ℕ, zero, suc, ◌+◌, ◌<◌, List, [], ◌∷◌, length, get_or, take, Option, Some, Err, refl, subst, arith}
-use Rattle.std.specs.Prelude.{slice_get}
+use Rattle.std.proofs.Common.{ℕ, ◌+◌, ◌<◌, List, length, get_or, take, Option, Err, subst}
 use Rattle.std.specs.Io.KnownBytes.{Appends}
 use Rattle.std.proofs.lemmas.Option.{get_or_from_slice_get}
+use Rattle.lemmas.proofs.SliceGet.{get_some}
 use Rattle.sink.specs.Numbered.{numbered}
 use Rattle.sink.specs.Sends.{Sends}
 use Rattle.sink.proofs.Numbered.{more, stop}
 
-there : {X : Type 0} (xs : List X) (i : ℕ) → i < length xs → (x : X) × (slice_get xs i ≡ Some x)
-there [] i low = absurd (omega (arith, low))
-there (x ∷ xs) zero low = (x, refl)
-there (x ∷ xs) (suc i) low = there xs i (omega (arith, low))
-
 pub more_at : {X : Type 0} (text : ℕ → X → List ℕ) (i : ℕ) (xs : List X) (d : X) (a b c : Option (List ℕ)) → i < length xs → Appends a b (numbered text 0 (take i xs)) → Appends b c (text i (get_or xs i d))
     → Appends a c (numbered text 0 (take (i + 1) xs))
 more_at text i xs d a b c low p q =
-    let x = there xs i low in
+    let x = get_some xs i low in
     more text i xs x.0 a b c x.1 p (subst (λ y. Appends b c (text i y)) (get_or_from_slice_get xs i x.0 d x.1) q)
 
 pub stop_at : {X E : Type 0} (text : ℕ → X → List ℕ) (i : ℕ) (xs : List X) (d : X) (e : E) (a b c : Option (List ℕ)) → i < length xs → Appends a b (numbered text 0 (take i xs)) → Sends (Err e) b c (text i (get_or xs i d))
     → Sends (Err e) a c (numbered text 0 xs)
 stop_at text i xs d e a b c low p q =
-    let x = there xs i low in
+    let x = get_some xs i low in
     stop text i xs x.0 e a b c x.1 p (subst (λ y. Sends (Err e) b c (text i y)) (get_or_from_slice_get xs i x.0 d x.1) q)

@@ -4,6 +4,7 @@ use Rattle.std.specs.Prelude.{sum, IfSome, take, slice_index_or, option_to_list}
 use Rattle.std.proofs.lemmas.List.{get_or_past}
 use Rattle.std.proofs.lemmas.List.Sums.{sum_by-take-drop, sum_by-drop_more}
 use Rattle.std.proofs.lemmas.Grind.{common_steps}
+use Rattle.std.proofs.lemmas.Bool.{cases_lt}
 use Rattle.tags.specs.declared.token.Port.{Port}
 use Rattle.tags.specs.declared.token.Port.TheVariants.{Left, Right}
 use Rattle.tags.specs.declared.token.Word.{Word}
@@ -17,11 +18,10 @@ use Rattle.semantics.specs.declared.program.Op.TheVariants.{Apply2, Sync, Switch
 use Rattle.semantics.specs.Program.{Instr, Program, instr_at}
 use Rattle.semantics.specs.Rule.{Seat, Outcome, Becomes, alone, fires, fire_one, outcome_of, rule_at, slot_of, answer_to, landing_at}
 use Rattle.semantics.specs.Machine.{Store, Happens, Fires, slot_in, slot_used, with_slot_in, put_at}
+use Rattle.semantics.proofs.Stores.{put_same}
 use Rattle.element.specs.declared.instructions.Instruction.{Instruction}
 use Rattle.element.specs.Decoded.{instr_of, dest_in, IsShort}
 use Rattle.element.specs.Near.{Bounds, IsNearCont, IsNearWord, IsNearSlot}
-use Rattle.frame_store.proofs.Apart.{either}
-use Rattle.element.proofs.Places.{put_same}
 use Rattle.element.proofs.Nearness.{IsNearSeat, NearOutcome, outcome_near}
 use Rattle.element.proofs.Instructing.{low_slot}
 use Rattle.replay.specs.declared.slots.Slots.{Slots}
@@ -49,7 +49,7 @@ cell_there : (arrays : List ℕ) (a x : ℕ) → x < slice_index_or arrays a 0 �
 cell_there arrays a x l = ⊎_elim
     (λ (low : a < length arrays). let whole = sum_by-take-drop (λ (n : ℕ). n) arrays a in let rest = sum_by-drop_more (λ (n : ℕ). n) arrays a 0 low in grind (arith, common_steps, whole, rest, l))
     (λ (past : length arrays ≤ a). absurd (let none = get_or_past arrays a 0 past in omega arith))
-    (either a (length arrays))
+    (cases_lt a (length arrays))
 
 fired_empty : (v : SlotState) (ts : List Token) (o : Option (List Token)) → Becomes v ts ≡ fires Empty o → v ≡ Empty
 fired_empty v ts None e = absurd (let bad : ⊥ = cc in bad)

@@ -6,8 +6,8 @@ use Rattle.tags.specs.declared.token.Cont.{Cont}
 use Rattle.tags.specs.declared.slot.SlotState.{SlotState}
 use Rattle.semantics.specs.Machine.{Store, CellState, put_at, with_slot_in, with_cell, with_out, with_requests, slot_in}
 use Rattle.semantics.specs.Report.{one_if}
+use Rattle.semantics.proofs.Stores.{put_other, put_same}
 use Rattle.element.specs.Near.{Bounds, IsNearCont, IsNearSlot, IsNearCell}
-use Rattle.element.proofs.Places.{put_same, put_other}
 use Rattle.element.proofs.Changing.{IsLow}
 use Rattle.replay.specs.declared.cells.Cells.{Cells}
 use Rattle.replay.specs.declared.slots.Slots.{Slots}

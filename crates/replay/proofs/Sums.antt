@@ -4,15 +4,9 @@ use Rattle.std.proofs.lemmas.Bool.{cases_eq}
 use Rattle.tags.specs.declared.slot.SlotState.{SlotState}
 use Rattle.semantics.specs.Report.{sum_below, one_if}
 use Rattle.semantics.specs.Machine.{put_at}
-use Rattle.element.proofs.Places.{put_same, put_other}
+use Rattle.semantics.proofs.Sums.{one_if_le, sum_same}
+use Rattle.semantics.proofs.Stores.{put_other, put_same}
 use Rattle.replay.specs.Moments.{fullness}
-
-pub sum_same : (n : ℕ) (g h : ℕ → ℕ) → ((k : ℕ) → k < n → g k ≡ h k) → sum_below n g ≡ sum_below n h
-sum_same zero g h e = refl
-sum_same (suc n) g h e =
-    let before = sum_same n g h (λ k lt. e k (omega arith)) in
-    let here : g n ≡ h n = e n (omega arith) in
-    omega (arith, before, here)
 
 pub sum_changed : (n f : ℕ) (g h : ℕ → ℕ) → f < n → ((k : ℕ) → k ≢ f → g k ≡ h k) → sum_below n g + h f ≡ sum_below n h + g f
 sum_changed zero f g h lt others = absurd (let no : ⊥ = omega (arith, lt) in no)
@@ -27,10 +21,6 @@ sum_changed (suc n) f g h lt others = ⊎_elim
     let here : g n ≡ h n = others n ne in
     omega (arith, before, here))
     (cases_eq n f)
-
-one_if_le : (b : Bool) → one_if b ≤ 1
-one_if_le true = omega arith
-one_if_le false = omega arith
 
 sum_le : (n : ℕ) (out : ℕ → Bool) → sum_below n (λ f. one_if (out f)) ≤ n
 sum_le zero out = omega arith

@@ -23,23 +23,6 @@ use tags::slot::SlotState;
 use tags::token::{Cont, FrameId, Port, To, Token, Word};
 use tags::value::Value;
 
-// The slot that an instruction uses, if it uses one.
-fn slot_used(instr: &Instruction) -> Option<u32>
-    ensures { result ≡ Rule.slot_of (instr_of instr.now) instr.now.op }
-{
-    match instr.op {
-        Op::Apply1 { .. }
-        | Op::Apply2Right { .. }
-        | Op::Apply2Left { .. }
-        | Op::Lit { .. }
-        | Op::Copy
-        | Op::Fetch { .. }
-        | Op::Frame
-        | Op::Link { .. } => None,
-        _ => Some(instr.slot),
-    }
-}
-
 // Whether an offset can be added to what the word carries.
 fn has_room(word: &Word) -> bool
     ensures { Tells (HasRoomInWord word.now) result }
@@ -146,7 +129,7 @@ impl<A: Allocator> State<A> {
         let Some(instr) = code.instr(seat.ip) else {
             return Err(ReplayFault::NotARun);
         };
-        let slot = slot_used(&instr);
+        let slot = instr.op.slot_in(instr.slot);
         let state = self.slots.state_in(seat.frame, slot);
         if !has_room(&word) || !has_room_in_slot(&state) {
             return Err(ReplayFault::NotARun);

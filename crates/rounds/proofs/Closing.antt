@@ -1,7 +1,8 @@
 -- What a round leaves once its tokens are handed over.
-use Rattle.std.proofs.Common.{◌≡◌, refl, sym, ◌∙◌, ap, subst, ℕ, zero, suc, get_or, ◌+◌, ◌<◌, ◌≤◌, ◌⊎◌, inl, inr, ℤ, List, [], ◌∷◌, ◌++◌, length, map, take, drop, append_assoc, Option, Some, None, Bool, true, false, arith}
+use Rattle.std.proofs.Common.{◌≡◌, refl, sym, ◌∙◌, ap, subst, ℕ, ◌+◌, ◌<◌, ◌≤◌, ◌⊎◌, inl, inr, ℤ, List, [], ◌∷◌, ◌++◌, length, map, take, drop, append_assoc, Option, Some, None, Bool, true, false, arith}
 use Rattle.std.specs.Prelude.{All, slice_get}
-use Rattle.std.proofs.lemmas.List.{append-nil, length-append, drop_all, take_all, length-map}
+use Rattle.std.proofs.lemmas.List.{append-nil, drop_all, take_all, length-map}
+use Rattle.lemmas.proofs.Alls.{all_left}
 use Rattle.tags.specs.declared.token.Token.{Token}
 use Rattle.semantics.specs.Machine.{Events, outputs_of, Machine, Size}
 use Rattle.semantics.specs.Program.{Program}
@@ -141,15 +142,6 @@ map_same [] = refl
 map_same (x ∷ xs) = ap (λ (l : List _). x ∷ l) (map_same xs)
 
 -- LANES WITHOUT THE TOKENS THAT ARE ON THEIR WAY
-get_front : {X : Type 0} (xs ys : List X) (k : ℕ) (d : X) → k < length xs → get_or (xs ++ ys) k d ≡ get_or xs k d
-get_front [] ys k d low = absurd (omega (arith, low))
-get_front (x ∷ xs) ys zero d low = refl
-get_front (x ∷ xs) ys (suc k) d low = get_front xs ys k d (omega arith)
-
-front_all : {X : Type 0} (P : X → Type 0) (xs ys : List X) → All P (xs ++ ys) → All P xs
-front_all P xs ys all = λ k d low.
-    let more : k < length (xs ++ ys) = (let l = length-append xs ys in omega (arith, low, l)) in
-    subst P (get_front xs ys k d low) (all k d more)
 
 unqueued_placed : (g : Setting) (ts : List Token) (i : ℕ) (h : Held) → IsPlaced g i (queued h ts) → IsPlaced g i h
 unqueued_placed g ts i h p = record {
@@ -160,8 +152,8 @@ unqueued_placed g ts i h p = record {
   made = p.made;
   sound = record {
     part = p.sound.part;
-    near = front_all (IsNearToken (bounds g.program h.part.shape)) h.queue (here h.part.shape ts) p.sound.near;
-    addressed = front_all (λ (t : Token). element_of h.part.shape.elements t.to ≡ h.part.shape.element) h.queue (here h.part.shape ts) p.sound.addressed;
+    near = all_left (IsNearToken (bounds g.program h.part.shape)) h.queue (here h.part.shape ts) p.sound.near;
+    addressed = all_left (λ (t : Token). element_of h.part.shape.elements t.to ≡ h.part.shape.element) h.queue (here h.part.shape ts) p.sound.addressed;
     answered = p.sound.answered;
   };
 }

@@ -22,18 +22,11 @@ use Rattle.schedule.proofs.Tokens.{delivered_none, delivered_twice, delivered_on
 use Rattle.schedule.proofs.Stepping.{bounds_in, delivered_sound}
 use Rattle.schedule.proofs.Playing.{tokens_none}
 use Rattle.std.proofs.lemmas.Bool.{cases_lt}
+use Rattle.lemmas.proofs.Lists.{nothing_before, nothing_after}
 use Rattle.rounds.specs.declared.turn.Turner.{Turner}
 use Rattle.rounds.specs.Turns.{by, logged, Turns, Turned, turned_of, TakesTurn, HaltsLane, TookTurn, Round, made_in, helds, all_sent, all_noted, coming}
 use Rattle.rounds.specs.Rounds.{lane_held, lanes_held, lane_fixed, lanes_fixed, tokens_sent, events_noted, halts_in, IsBetween, IsHalted, Leads, MadeRound}
 use Rattle.rounds.proofs.Turning.{Standing, stands_round, began_round, noted_round, logged_from}
-
-nil_left : {X : Type 0} (xs ys : List X) → xs ++ ys ≡ [] → xs ≡ []
-nil_left [] ys e = refl
-nil_left (x ∷ xs) ys e = absurd (let no : ⊥ = cc in no)
-
-nil_right : {X : Type 0} (xs ys : List X) → xs ++ ys ≡ [] → ys ≡ []
-nil_right [] ys e = e
-nil_right (x ∷ xs) ys e = absurd (let no : ⊥ = cc in no)
 
 pub not_none : (n m : ℕ) → n ≡ m → m ≢ 0 → 0 < n
 not_none zero m same some = absurd (some (sym same))
@@ -104,8 +97,8 @@ module _ {C A : Type 0} where
   to_round g listed may_stop [] (y ∷ ys) count sent noted each = absurd (omega (arith, count))
   to_round g listed may_stop (x ∷ xs) [] count sent noted each = absurd (omega (arith, count))
   to_round g listed may_stop (x ∷ xs) (y ∷ ys) count sent noted each = (
-    fresh_turn g.program g.steps g.turn listed may_stop x (turned_of y) (nil_left x.sent.items (tokens_sent xs) sent) (nil_left x.log.items (events_noted xs) noted) (each 0 x (omega arith)),
-    to_round g listed may_stop xs ys (omega arith) (nil_right x.sent.items (tokens_sent xs) sent) (nil_right x.log.items (events_noted xs) noted) (λ i d low. each (suc i) d (omega arith)),
+    fresh_turn g.program g.steps g.turn listed may_stop x (turned_of y) (nothing_before x.sent.items (tokens_sent xs) sent) (nothing_before x.log.items (events_noted xs) noted) (each 0 x (omega arith)),
+    to_round g listed may_stop xs ys (omega arith) (nothing_after x.sent.items (tokens_sent xs) sent) (nothing_after x.log.items (events_noted xs) noted) (λ i d low. each (suc i) d (omega arith)),
   )
 
   -- the lanes run the code of the machine

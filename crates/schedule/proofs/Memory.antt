@@ -1,5 +1,5 @@
 -- Lanes in memory, and what they hold.
-use Rattle.std.proofs.Common.{◌≡◌, refl, sym, ◌∙◌, ap, subst, ℕ, zero, suc, ◌+◌, ◌<◌, Bool, true, false, ◌||◌, cond, List, [], ◌∷◌, ◌++◌, length, map, drop, get_or, Option, Some, Result, arith}
+use Rattle.std.proofs.Common.{◌≡◌, refl, sym, ◌∙◌, ap, subst, ℕ, ◌+◌, ◌<◌, Bool, true, false, ◌||◌, cond, List, [], ◌∷◌, ◌++◌, length, map, drop, get_or, Option, Some, Result, arith}
 use Rattle.std.specs.Prelude.{slice_get, slice_set, OnOk, OnErr, ◌==◌}
 use Rattle.std.specs.List.{filter, list_any}
 use Rattle.std.specs.Option.{option_map}
@@ -33,11 +33,6 @@ ok_or_err (Result.Err e) P Q R f k p q = k q
 pub when_ok : {X Y : Type 0} (r : Result X Y) (P : Type 0) → is_err r ≡ false → OnOk r P → P
 when_ok (Result.Ok x) P good p = p
 when_ok (Result.Err e) P good p = absurd (let no : ⊥ = cc in no)
-
-pub get_there : {X : Type 0} (xs : List X) (i : ℕ) → i < length xs → (x : X) × (slice_get xs i ≡ Some x)
-get_there [] i low = absurd (omega arith)
-get_there (x ∷ xs) zero low = (x, refl)
-get_there (x ∷ xs) (suc i) low = get_there xs i (omega arith)
 
 some_is : {X : Type 0} (o : Option X) (x y : X) → o ≡ Some x → o ≡ Some y → x ≡ y
 some_is o x y e f = cc

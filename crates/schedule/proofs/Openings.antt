@@ -16,10 +16,6 @@ use Rattle.element.specs.Held.{Held, IsSoundLane}
 use Rattle.element.specs.Openings.{opened, IsOpening, StartsAs}
 use Rattle.schedule.specs.Starts.{IsFresh, sized}
 
-pub ok_then : {X Y : Type 0} (r : Result X Y) (P R : X → Type 0) → ((x : X) → P x → R x) → IfOk r P → IfOk r R
-ok_then (Result.Ok x) P R f p = f x p
-ok_then (Result.Err e) P R f p = tt
-
 pub three_ok : {X Y : Type 0} (r : Result X Y) (P Q S R : X → Type 0) → ((x : X) → P x → Q x → S x → R x) → IfOk r P → IfOk r Q → IfOk r S → IfOk r R
 three_ok (Result.Ok x) P Q S R f p q s = f x p q s
 three_ok (Result.Err e) P Q S R f p q s = tt

@@ -6,6 +6,7 @@ use Rattle.std.proofs.lemmas.Bool.{eq-eqb, lt-ltb, cases_lt}
 use Rattle.std.proofs.lemmas.List.{take_all, append-nil}
 use Rattle.std.proofs.lemmas.List.Elements.{Contains-append_left, Contains-append_right, Contains-append_cases}
 use Rattle.std.proofs.lemmas.Option.{slice_get_within, get_or_from_slice_get}
+use Rattle.lemmas.proofs.SliceGet.{get_some}
 use Rattle.tags.specs.declared.value.Value.{Value}
 use Rattle.tags.specs.declared.slot.SlotState.{SlotState}
 use Rattle.semantics.specs.Rule.{array_base}
@@ -16,6 +17,7 @@ use Rattle.istructure.proofs.Places.{cell_at-place}
 use Rattle.frame_manager.specs.Managed.{Managed}
 use Rattle.frame_manager.specs.Flags.{flag_at}
 use Rattle.tags.specs.declared.token.Token.{Token}
+use Rattle.semantics.proofs.Sums.{sum_same}
 use Rattle.element.specs.Parts.{IsPart, IsSound, IsSoundManager, Manages, bounds}
 use Rattle.element.specs.Near.{Bounds}
 use Rattle.element.specs.Held.{Held}
@@ -23,14 +25,6 @@ use Rattle.schedule.specs.Setting.{Setting, size, total, IsGoodSetting}
 use Rattle.schedule.specs.State.{State, AllFrom, IsPlaced, IsSoundState, IsBounded, Stands}
 use Rattle.schedule.specs.Told.{value_of, readers_of, cell_value, cell_readers, entry, full_below, slot_of_lane, slot_at, credits_below, requests_in, out_in, Tells}
 use Rattle.schedule.proofs.Places.{first_get, from_both}
-use Rattle.schedule.proofs.Memory.{get_there}
-
-sum_same : (n : ℕ) (g h : ℕ → ℕ) → ((k : ℕ) → k < n → g k ≡ h k) → sum_below n g ≡ sum_below n h
-sum_same zero g h e = refl
-sum_same (suc n) g h e =
-    let before = sum_same n g h (λ k lt. e k (omega arith)) in
-    let here : g n ≡ h n = e n (omega arith) in
-    omega arith
 
 -- nothing from k on
 sum_stops : (n k : ℕ) (g : ℕ → ℕ) → k ≤ n → ((x : ℕ) → k ≤ x → g x ≡ 0) → sum_below n g ≡ sum_below k g
@@ -55,7 +49,7 @@ own_state : (own : OwnCells) (x : ℕ) → x % own.elements ≡ own.element → 
 own_state own x ours low =
     let k : ℕ = x / own.elements in
     let place : place_of own x ≡ Some k = ap (λ (b : Bool). if b then (if nat_lt k (length own.states) then Some k else None) else None) (eq-eqb (x % own.elements) own.element ours) ∙ ap (λ (b : Bool). if b then Some k else None) (lt-ltb k (length own.states) low) in
-    let state = get_there own.states k low in
+    let state = get_some own.states k low in
     (state.0, cell_at-place own x k place ∙ state.1)
 
 readers_same : (own : OwnCells) (x : ℕ) (state : CellState) → cell_at own x ≡ Some state → readers_in (cell_at own x) ≡ reader_count state
@@ -159,7 +153,7 @@ module _ (g : Setting) (m : Store) (lanes : List Held) (good : IsGoodSetting g) 
   lane_for x =
       let below = mod-lt x good.some in
       let low : x % n < length lanes = omega arith in
-      let l = get_there lanes (x % n) low in
+      let l = get_some lanes (x % n) low in
       (l.0, l.1, first_get (IsKnown g m) lanes (x % n) l.0 known l.1)
 
   cell_known : (x : ℕ) → x < all_cells → (h : Held) × (slice_get lanes (x % n) ≡ Some h) × ((state : CellState) × (cell_at h.part.cells x ≡ Some state) × (m.cells x ≡ state))

@@ -15,6 +15,7 @@ use Rattle.semantics.specs.Rule.{array_base}
 use Rattle.semantics.specs.Machine.{Machine, CellState, Vacant, Full, Size, Events, at_start, outputs_of, reader_count}
 use Rattle.semantics.specs.declared.report.End.{End}
 use Rattle.semantics.specs.Report.{Report, IsPicture, Shows, HasEnd, sum_below, waiters, one_if}
+use Rattle.semantics.proofs.Sums.{sum_of_zeros}
 use Rattle.element.specs.Near.{IsNearTo, IsNearToken}
 use Rattle.element.specs.Parts.{bounds}
 use Rattle.element.specs.Held.{Held, held_of, queued}
@@ -28,10 +29,6 @@ use Rattle.schedule.specs.Unlisted.{with_events, ShowsQuietly, Quietly, ReportsK
 use Rattle.schedule.proofs.Places.{first_get, to_map}
 use Rattle.schedule.proofs.Pictures.{IsKnown, known_lanes, pictured}
 use Rattle.schedule.proofs.Showing.{picked, shows_here}
-
-nothing : (n : ℕ) (f : ℕ → ℕ) → ((x : ℕ) → f x ≡ 0) → sum_below n f ≡ 0
-nothing zero f none = refl
-nothing (suc n) f none = let a : sum_below n f ≡ 0 = nothing n f none in let b : f n ≡ 0 = none n in omega arith
 
 only_first : (n : ℕ) (f : ℕ → ℕ) → ((x : ℕ) → f (suc x) ≡ 0) → sum_below (suc n) f ≡ f 0
 only_first zero f none = omega arith
@@ -50,9 +47,9 @@ opening_pictured p z inputs some = record {
   outputs = λ j v got. sym (get_or_from_slice_get (replicate (outputs_of p) None) j v None got) ∙ All-replicate (λ (o : Option Value). o ≡ None) (outputs_of p) None refl j None (slice_get_within (replicate (outputs_of p) None) j v got);
   ascend = λ i j a b low got. absurd (let no : ⊥ = cc in no);
   cells = λ x v. ((λ there. absurd (omega (arith, there.1))), (λ full. absurd (vacant_not_full v full)));
-  deferred = sym (nothing (array_base p (length p.arrays)) (λ x. reader_count ((at_start p inputs).store.cells x)) (λ x. refl));
+  deferred = sym (sum_of_zeros (array_base p (length p.arrays)) (λ x. reader_count ((at_start p inputs).store.cells x)) (λ x. refl));
   waiting_frames = refl;
-  waiting_credits = sym (nothing (z.elements * z.frames) (λ f. sum_below 512 (λ r. waiters ((at_start p inputs).store.slots f r))) (λ f. nothing 512 (λ r. waiters ((at_start p inputs).store.slots f r)) (λ r. refl)));
+  waiting_credits = sym (sum_of_zeros (z.elements * z.frames) (λ f. sum_below 512 (λ r. waiters ((at_start p inputs).store.slots f r))) (λ f. sum_of_zeros 512 (λ r. waiters ((at_start p inputs).store.slots f r)) (λ r. refl)));
   frames_out = sym (first_of_some (z.elements * z.frames) (λ f. one_if (f == 0)) some (λ f. ap (λ (b : Bool). one_if b) (eqb-suc-zero f)));
 }
 
@@ -109,7 +106,7 @@ pub opening_is : (n : ℕ) (outputs : List (Option Value)) (cells : List (ℕ ×
     → (let r : Report = record { end = End.Memory; outputs = outputs; cells = cells; deferred = 0; waiting_frames = 0; waiting_credits = 0; frames_out = 1; events = evs } in r) ≡ opening_picture n
 opening_is n outputs cells evs o c e = λ i. record { end = End.Memory; outputs = o i; cells = c i; deferred = 0; waiting_frames = 0; waiting_credits = 0; frames_out = 1; events = e i }
 
--- tokens that are on their way change nothing of what is told of a lane
+-- tokens that are on their way change sum_of_zeros of what is told of a lane
 told_alike : {X : Type 0} (F : Option Held → X) (ts : List Token) → ((h : Held) → F (Some (queued h ts)) ≡ F (Some h)) → (lanes : List Held) (i : ℕ) → F (slice_get (delivered ts lanes) i) ≡ F (slice_get lanes i)
 told_alike F ts same [] i = refl
 told_alike F ts same (h ∷ hs) zero = same h

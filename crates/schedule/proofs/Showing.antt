@@ -17,6 +17,7 @@ use Rattle.semantics.specs.declared.report.End.{End}
 use Rattle.semantics.specs.Machine.{Machine, Store, Events, Wants, stuck_rule}
 use Rattle.semantics.specs.Report.{Report, IsPicture, Shows, HasEnd, HasTokenFor, sum_below, waiters}
 use Rattle.semantics.specs.Faithful.{HasStoreOfFull}
+use Rattle.semantics.proofs.Sums.{sum_zero}
 use Rattle.element.specs.Parts.{IsPart}
 use Rattle.element.specs.Held.{Held}
 use Rattle.element.specs.Steps as one
@@ -64,13 +65,6 @@ pool_empty s m stands none =
     stands_length = length_permutation m.pool (tokens_in s.lanes) stands.tokens
 
 -- WAITING REQUESTS
-sum_none : (n : ℕ) (f : ℕ → ℕ) → sum_below n f ≡ 0 → (x : ℕ) → x < n → f x ≡ 0
-sum_none zero f e x low = absurd (omega arith)
-sum_none (suc n) f e x low = by_place (cases_lt x n) (λ (l : x < n). sum_none n f (omega arith) x l)
-  where
-    by_place : (x < n) ⊎ (n ≤ x) → (x < n → f x ≡ 0) → f x ≡ 0
-    by_place (inl l) rest = rest l
-    by_place (inr l) rest = let same : x ≡ n = omega arith in let z : f n ≡ 0 = omega arith in ap f same ∙ z
 
 sum_some : (n : ℕ) (f : ℕ → ℕ) → 0 < sum_below n f → (x : ℕ) × (x < n) × (0 < f x)
 sum_some zero f some = absurd (omega arith)
@@ -97,8 +91,8 @@ module _ (s : State) (m : Machine) (r : Report) (sound : IsSoundState s) (stands
   none_wait frames credits (inr (f, k, c, waits)) = ⊎_elim
       (λ (low : f < total g). ⊎_elim
       (λ (within : k < 512).
-      let outer = sum_none (total g) (λ x. sum_below 512 (λ y. waiters (m.store.slots x y))) (sym picture.waiting_credits ∙ credits) f low in
-      let inner : waiters (m.store.slots f k) ≡ 0 = sum_none 512 (λ y. waiters (m.store.slots f y)) outer k within in
+      let outer = sum_zero (total g) (λ x. sum_below 512 (λ y. waiters (m.store.slots x y))) (sym picture.waiting_credits ∙ credits) f low in
+      let inner : waiters (m.store.slots f k) ≡ 0 = sum_zero 512 (λ y. waiters (m.store.slots f y)) outer k within in
       let one_waits : waiters (m.store.slots f k) ≡ 1 = ap (λ (v : SlotState). waiters v) waits in
       absurd (omega arith))
       (λ (past : 512 ≤ k). beyond (λ l w. let few = sound.setting.few_slots in absurd (omega arith)))

@@ -3,9 +3,10 @@ use Rattle.std.proofs.Common.{◌≡◌, refl, sym, ◌∙◌, ap, subst, ℕ, s
 use Rattle.std.specs.Prelude.{All, sum, slice_get, slice_set}
 use Rattle.std.specs.Option.{option_map}
 use Rattle.std.proofs.lemmas.List.{map-set, get_or-map, length-map}
-use Rattle.std.proofs.lemmas.List.Elements.{All-nil, All-tail, All-append, All-weaker, All-get_or}
+use Rattle.std.proofs.lemmas.List.Elements.{All-nil, All-append, All-weaker, All-get_or}
 use Rattle.std.proofs.lemmas.List.Sorted.{All-permutation}
 use Rattle.std.proofs.lemmas.Option.{slice_get-map, slice_get_read}
+use Rattle.lemmas.proofs.Alls.{all_right}
 use Rattle.tags.specs.declared.token.Token.{Token}
 use Rattle.semantics.specs.Program.{Program}
 use Rattle.element.specs.Near.{Bounds, IsNearToken}
@@ -48,17 +49,13 @@ near_in g k (h ∷ hs) placed =
     let own : All (IsNearToken (bounds_in g)) h.queue = subst (λ (b : Bounds). All (IsNearToken b) h.queue) (bounds_are g k h placed.0) placed.0.sound.near in
     All-append (IsNearToken (bounds_in g)) h.queue (tokens_in hs) own (near_in g (suc k) hs placed.1)
 
-pub last_all : (P : Token → Type 0) (xs ys : List Token) → All P (xs ++ ys) → All P ys
-last_all P [] ys all = all
-last_all P (x ∷ xs) ys all = last_all P xs ys (All-tail P x (xs ++ ys) all)
-
 -- so do tokens that are on their way
 pub near_coming : (g : Setting) (raw : List Held) (ts : List Token) → IsSoundState (record { setting = g; lanes = delivered ts raw }) → All (IsNearToken (bounds_in g)) ts
 near_coming g raw ts sound =
     let count : length raw ≡ g.elements = sym (length-map raw (λ (h : Held). queued h ts)) ∙ sound.count in
     let at = to_map (IsAt g.elements) (IsPlaced g) (λ (h : Held). queued h ts) (λ (i : ℕ) (h : Held) (p : IsPlaced g i (queued h ts)). (p.element, p.elements)) 0 raw sound.lanes in
     let all = near_in g 0 (delivered ts raw) sound.lanes in
-    last_all (IsNearToken (bounds_in g)) (tokens_in raw) ts (All-permutation (IsNearToken (bounds_in g)) (tokens_in (delivered ts raw)) (tokens_in raw ++ ts) (tokens_delivered g.elements raw ts sound.setting.some count at) all)
+    all_right (IsNearToken (bounds_in g)) (tokens_in raw) ts (All-permutation (IsNearToken (bounds_in g)) (tokens_in (delivered ts raw)) (tokens_in raw ++ ts) (tokens_delivered g.elements raw ts sound.setting.some count at) all)
 
 -- A step that did nothing
 pub stays_so : (g : Setting) (items : List LaneView) (sent after : List Token) (come e : ℕ) (x new : LaneView) → sent ≡ [] → come ≡ 0 → slice_get (lanes_of items (drop come sent)) e ≡ Some (held_of x) → held_of new ≡ held_of x → after ≡ sent

@@ -2,31 +2,18 @@
 use Rattle.std.proofs.Common.{◌≡◌, refl, sym, ◌∙◌, ap, subst, ℕ, zero, suc, ◌+◌, ◌<◌, ◌≤◌, Bool, true, false, ◌&&◌, cond, List, [], ◌∷◌, ◌++◌, length, Some, arith, append_assoc, ◌⊎◌, inl, inr}
 use Rattle.std.specs.Prelude.{slice_get, slice_set, remove, IsPermutation, nat_lt, nat_le, ◌==◌}
 use Rattle.std.specs.List.{filter}
-use Rattle.std.proofs.Math.Nat.{mod-lt}
 use Rattle.std.proofs.lemmas.Bool.{cases_order, cases_lt, eq-eqb, ne_eqb, lt-ltb, le-ltb, le-leb, lt-leb, and_left, and_right, and_from}
 use Rattle.std.proofs.lemmas.List.{append-nil}
 use Rattle.std.proofs.lemmas.List.Elements.{filter-append, filter_agree}
-use Rattle.std.proofs.lemmas.List.Sorted.{IsPermutation-refl, IsPermutation-sym, IsPermutation-trans, IsPermutation-cons, IsPermutation-middle, IsPermutation-append_left, IsPermutation-append_right, IsPermutation-append_comm}
+use Rattle.std.proofs.lemmas.List.Sorted.{IsPermutation-refl, IsPermutation-sym, IsPermutation-trans, IsPermutation-cons, IsPermutation-middle, IsPermutation-append_right, IsPermutation-append_comm}
+use Rattle.lemmas.proofs.Permutations.{permutation_exchange}
 use Rattle.tags.specs.declared.token.Token.{Token}
-use Rattle.tags.specs.declared.token.To.{To}
 use Rattle.tags.specs.Addresses.{element_of}
+use Rattle.tags.proofs.Elements.{element_below}
 use Rattle.element.specs.Held.{Held, is_here, here, with_queue, queued}
 use Rattle.schedule.specs.State.{AllFrom, IsAt, delivered, tokens_in}
 
-pub element_below : (n : ℕ) (to : To) → 0 < n → element_of n to < n
-element_below n (To.Instr f ip p) some = mod-lt f some
-element_below n (To.Fetch x) some = mod-lt x some
-element_below n (To.Store x v) some = mod-lt x some
-element_below n To.Manager some = some
-element_below n (To.Release f) some = some
-element_below n (To.Host p) some = some
-
 -- LISTS IN ANOTHER ORDER
-pub swapped : {X : Type 0} (xs ys zs : List X) → IsPermutation (xs ++ (ys ++ zs)) (ys ++ (xs ++ zs))
-swapped xs ys zs =
-    subst (λ (l : List _). IsPermutation l (ys ++ (xs ++ zs))) (append_assoc xs ys zs)
-    (subst (λ (l : List _). IsPermutation ((xs ++ ys) ++ zs) l) (append_assoc ys xs zs)
-    (IsPermutation-append_left zs (xs ++ ys) (ys ++ xs) (IsPermutation-append_comm xs ys)))
 
 -- an element that passes c passes just one of a and b
 abbrev Splits : Bool → Bool → Bool → Type 0
@@ -112,7 +99,7 @@ tokens_from n k (h ∷ hs) ts all =
     let mine_is : mine ≡ filter (λ (t : Token). element_of n t.to == k) ts = filter_agree (is_here h.part.shape) (λ (t : Token). element_of n t.to == k) (λ (t : Token). ap (λ (m : ℕ). element_of m t.to == h.part.shape.element) all.0.1 ∙ ap (λ (m : ℕ). element_of n t.to == m) all.0.0) ts in
     let three : IsPermutation both (mine ++ others) = subst (λ (l : List Token). IsPermutation both (l ++ others)) (sym mine_is) (split_three (λ (t : Token). element_of n t.to == k) (among n (suc k) (length hs)) (among n k (suc (length hs))) (λ (t : Token). splits_at k (length hs) (element_of n t.to)) ts) in
     let first : IsPermutation ((q ++ mine) ++ tokens_in (delivered ts hs)) ((q ++ mine) ++ (rest ++ others)) = IsPermutation-append_right (q ++ mine) _ _ (tokens_from n (suc k) hs ts all.1) in
-    let second : IsPermutation ((q ++ mine) ++ (rest ++ others)) (q ++ (rest ++ (mine ++ others))) = subst (λ (l : List Token). IsPermutation l (q ++ (rest ++ (mine ++ others)))) (sym (append_assoc q mine (rest ++ others))) (IsPermutation-append_right q _ _ (swapped mine rest others)) in
+    let second : IsPermutation ((q ++ mine) ++ (rest ++ others)) (q ++ (rest ++ (mine ++ others))) = subst (λ (l : List Token). IsPermutation l (q ++ (rest ++ (mine ++ others)))) (sym (append_assoc q mine (rest ++ others))) (IsPermutation-append_right q _ _ (permutation_exchange mine rest others)) in
     let third : IsPermutation (q ++ (rest ++ (mine ++ others))) ((q ++ rest) ++ both) = subst (λ (l : List Token). IsPermutation l ((q ++ rest) ++ both)) (append_assoc q rest (mine ++ others)) (IsPermutation-append_right (q ++ rest) _ _ (IsPermutation-sym both (mine ++ others) three)) in
     IsPermutation-trans _ _ _ first (IsPermutation-trans _ _ _ second third)
 
@@ -131,7 +118,7 @@ tokens_set [] i h new e = absurd (let no : ⊥ = cc in no)
 tokens_set (x ∷ xs) zero h new e = IsPermutation-refl (new.queue ++ tokens_in xs)
 tokens_set (x ∷ xs) (suc i) h new e =
     IsPermutation-trans (x.queue ++ tokens_in (slice_set xs i new)) (x.queue ++ (new.queue ++ tokens_in (remove xs i))) (new.queue ++ (x.queue ++ tokens_in (remove xs i)))
-    (IsPermutation-append_right x.queue _ _ (tokens_set xs i h new e)) (swapped x.queue new.queue (tokens_in (remove xs i)))
+    (IsPermutation-append_right x.queue _ _ (tokens_set xs i h new e)) (permutation_exchange x.queue new.queue (tokens_in (remove xs i)))
 
 pub set_same : {X : Type 0} (lanes : List X) (i : ℕ) (h : X) → slice_get lanes i ≡ Some h → slice_set lanes i h ≡ lanes
 set_same [] i h e = absurd (let no : ⊥ = cc in no)

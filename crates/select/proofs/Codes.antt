@@ -1,30 +1,19 @@
 -- Where a plan with slots can be emitted and nothing goes too far, its code has a spelling.
-use Rattle.std.proofs.Common.{◌≡◌, ℕ, zero, suc, ◌≤◌, ℤ, Some, None, List, [], ◌∷◌, ◌++◌, length, refl, ap, sym, subst, All, Contains, arith, ◌⊎◌}
+use Rattle.std.proofs.Common.{◌≡◌, ℕ, zero, suc, ◌≤◌, ℤ, Some, None, List, [], ◌∷◌, length, refl, ap, sym, subst, All, Contains, arith, ◌⊎◌}
 use Rattle.std.specs.Prelude.{slice_get, FitsSigned}
 use Rattle.std.specs.Int.{w64}
-use Rattle.std.proofs.lemmas.List.Elements.{All-nil, All-cons, All-head, All-tail}
+use Rattle.lemmas.proofs.Alls.{all_at, all_left, all_right}
 use Rattle.semantics.specs.Program.{Instr, CodeBlock, Code}
 use Rattle.semantics.specs.Plan.{Plan}
 use Rattle.semantics.specs.Placed.{placed}
-use Rattle.semantics.specs.Bytes.{IsDest, IsInstr, IsCodeBlock, IsCode, may_fault}
-use Rattle.select.specs.Emitted.{has_sides, emitted_program}
+use Rattle.semantics.specs.Bytes.{IsDest, IsInstr, IsCodeBlock, IsCode}
+use Rattle.semantics.specs.Opcodes.{may_fault}
+use Rattle.select.specs.Emitted.{emitted_program}
+use Rattle.semantics.specs.Opcodes.{has_sides}
 use Rattle.select.specs.Literals.{literal_of, listed, used_by, used_in, table_of, too_far, IsAscending}
 use Rattle.select.specs.Emittable.{IsEmittableInstr, IsEmittableBlock, IsEmittable, with_table}
 use Rattle.select.proofs.Tables.{near, table_has}
 use Rattle.select.proofs.Spelling.{coded, put, each_block, block_count, block_there, needed_low, instr_there, instr_count, dest_there, firsts_all, seconds_all, origin_kept, slot_there, operand_there}
-
-all_at : {X : Type 0} (P : X → Type 0) (xs : List X) (n : ℕ) (x : X) → All P xs → slice_get xs n ≡ Some x → P x
-all_at P [] n x a h = cc
-all_at P (y ∷ xs) zero x a h = let same : y ≡ x = cc in subst P same (All-head P y xs a)
-all_at P (y ∷ xs) (suc n) x a h = all_at P xs n x (All-tail P y xs a) h
-
-all_left : {X : Type 0} (P : X → Type 0) (xs ys : List X) → All P (xs ++ ys) → All P xs
-all_left P [] ys h = All-nil P
-all_left P (x ∷ xs) ys h = All-cons P x xs (All-head P x (xs ++ ys) h) (all_left P xs ys (All-tail P x (xs ++ ys) h))
-
-all_right : {X : Type 0} (P : X → Type 0) (xs ys : List X) → All P (xs ++ ys) → All P ys
-all_right P [] ys h = h
-all_right P (x ∷ xs) ys h = all_right P xs ys (All-tail P x (xs ++ ys) h)
 
 used_at : (P : ℤ → Type 0) (is : List Instr) (n : ℕ) (i : Instr) → All P (used_by is) → slice_get is n ≡ Some i → All P (listed (literal_of i.op))
 used_at P [] n i a h = cc

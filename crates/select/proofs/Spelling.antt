@@ -12,7 +12,8 @@ use Rattle.semantics.specs.Rule.{slot_of}
 use Rattle.semantics.specs.Plan.{is_credit}
 use Rattle.semantics.specs.Sharing.{placed_slot, placed_instrs}
 use Rattle.semantics.specs.Placed.{needed, placed_blocks}
-use Rattle.semantics.specs.Bytes.{HasOperand, IsDest, IsOrigin, IsSlot, may_fault, is_dyadic}
+use Rattle.semantics.specs.Bytes.{HasOperand, IsDest, IsOrigin, IsSlot, is_dyadic}
+use Rattle.semantics.specs.Opcodes.{may_fault}
 use Rattle.select.specs.Emitted.{told, firsts_of, seconds_of, emitted, emitted_instrs, emitted_block, emitted_blocks}
 use Rattle.select.specs.Literals.{literal_of, listed}
 use Rattle.code.specs.Sound.{IsPlace}

@@ -9,15 +9,13 @@ use Rattle.std.proofs.lemmas.List.Elements.{All-nil, All-cons, All-head, All-tai
 use Rattle.std.proofs.lemmas.Map.Lookups.{exact_signed}
 use Rattle.std.proofs.lemmas.Map.Keys.{sorted_tail}
 use Rattle.std.proofs.lemmas.Map.Views.{All-insert_key, All-after_first}
+use Rattle.lemmas.proofs.Contains.{contains_head}
 use Rattle.semantics.specs.Program.{CodeBlock}
 use Rattle.select.specs.Literals.{used_by, used_in, entered, table_of, first_too_far, IsAscending}
 use Rattle.select.proofs.Steps.{entered_append}
 
 all_with : {X : Type 0} {P Q : X → Type 0} (xs : List X) → ((x : X) → P x → Q x) → All P xs → All Q xs
 all_with xs f h k d lt = f _ (h k d lt)
-
-stands_first : {X : Type 0} (x : X) (xs : List X) → Contains (x ∷ xs) x
-stands_first x xs = (0, omega arith, refl)
 
 stands_later : {X : Type 0} (y x : X) (xs : List X) → Contains xs x → Contains (y ∷ xs) x
 stands_later y x xs h = Contains-append_right (y ∷ []) xs x h
@@ -29,15 +27,15 @@ has_old k (x ∷ xs) = by (int_cmp k x) (has_old k xs)
     by : (r : Ordering) → All (Contains (insert_key int_cmp xs k)) xs → All (Contains (match_ordering r (k ∷ x ∷ xs) (x ∷ xs) (x ∷ insert_key int_cmp xs k))) (x ∷ xs)
     by Less h = all_with (x ∷ xs) (λ z. stands_later k z (x ∷ xs)) (All-contains_itself (x ∷ xs))
     by Equal h = All-contains_itself (x ∷ xs)
-    by Greater h = All-cons (Contains (x ∷ insert_key int_cmp xs k)) x xs (stands_first x (insert_key int_cmp xs k)) (all_with xs (λ z. stands_later x z (insert_key int_cmp xs k)) h)
+    by Greater h = All-cons (Contains (x ∷ insert_key int_cmp xs k)) x xs (contains_head x (insert_key int_cmp xs k)) (all_with xs (λ z. stands_later x z (insert_key int_cmp xs k)) h)
 
 has_new : (k : ℤ) (xs : List ℤ) → Contains (insert_key int_cmp xs k) k
-has_new k [] = stands_first k []
+has_new k [] = contains_head k []
 has_new k (x ∷ xs) = by (int_cmp k x) refl (has_new k xs)
   where
     by : (r : Ordering) → int_cmp k x ≡ r → Contains (insert_key int_cmp xs k) k → Contains (match_ordering r (k ∷ x ∷ xs) (x ∷ xs) (x ∷ insert_key int_cmp xs k)) k
-    by Less e h = stands_first k (x ∷ xs)
-    by Equal e h = let same : k ≡ x = exact_signed k x e in subst (λ (z : ℤ). Contains (z ∷ xs) k) same (stands_first k xs)
+    by Less e h = contains_head k (x ∷ xs)
+    by Equal e h = let same : k ≡ x = exact_signed k x e in subst (λ (z : ℤ). Contains (z ∷ xs) k) same (contains_head k xs)
     by Greater e h = stands_later x k (insert_key int_cmp xs k) h
 
 kept : (zs table : List ℤ) (z : ℤ) → Contains table z → Contains (entered table zs) z

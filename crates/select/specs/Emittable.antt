@@ -5,7 +5,8 @@ use Rattle.semantics.specs.Plan.{Plan}
 use Rattle.semantics.specs.Rule.{slot_of}
 use Rattle.semantics.specs.Bytes.{HasOperand, HasDests, IsDest}
 use Rattle.code.specs.Sound.{IsPlace}
-use Rattle.select.specs.Emitted.{has_sides, firsts_of, seconds_of}
+use Rattle.select.specs.Emitted.{firsts_of, seconds_of}
+use Rattle.semantics.specs.Opcodes.{has_sides}
 use Rattle.select.specs.Literals.{literal_of, listed}
 
 abbrev pub with_table : Program → List ℤ → Code

@@ -3,12 +3,10 @@ use Rattle.std.specs.Prelude.{ℕ, ◌==◌, Bool, true, false, List, ◌++◌, 
 use Rattle.tags.specs.declared.value.Origin.{Origin}
 use Rattle.tags.specs.declared.value.Origin.TheVariants.{Untold}
 use Rattle.semantics.specs.declared.program.Dest.{Dest}
-use Rattle.semantics.specs.declared.program.Op.{Op}
-use Rattle.semantics.specs.declared.program.Op.TheVariants.{Switch, Link}
 use Rattle.semantics.specs.Program.{Instr, CodeBlock, Program}
 use Rattle.semantics.specs.Plan.{Plan}
 use Rattle.semantics.specs.Placed.{placed}
-use Rattle.semantics.specs.Bytes.{may_fault}
+use Rattle.semantics.specs.Opcodes.{may_fault, has_sides}
 use Rattle.semantics.specs.declared.version.Version.{Version}
 use Rattle.semantics.specs.Versions.{version_number}
 
@@ -17,13 +15,7 @@ abbrev pub told : ℕ → Bool → Origin → Origin
 told version false o = Untold
 told version true o = if version == 2 then o else Untold
 
--- where first and second destinations differ
-abbrev pub has_sides : Op → Bool
-has_sides Switch = true
-has_sides (Link b) = true
-has_sides op = false
-
--- Where they do not differ, one is the first and the others are the second ones.
+-- Where first and second destinations do not differ, one is the first and the others are the second ones.
 abbrev pub firsts_of : Bool → List Dest → List Dest → List Dest
 firsts_of true ds es = ds
 firsts_of false ds es = take 1 (ds ++ es)

@@ -2,35 +2,23 @@
 
 ghost use Rattle.std.specs.Prelude.{◌≡◌, ◌<◌, ℕ, IfOk, Some, Contains, All, map, length, slice_get};
 ghost use Rattle.semantics.specs.Rule as Rule;
-ghost use Rattle.semantics.specs.Bytes as Bytes;
+ghost use Rattle.semantics.specs.Opcodes as Opcodes;
 ghost use Rattle.semantics.specs.Sharing as Sharing;
 ghost use Rattle.semantics.specs.Placed as Placed;
 ghost use Rattle.select.specs.Emitted as Emitted;
 ghost use Rattle.semantics.specs.Versions.{version_number};
 
 use code::{CodeBlock, Instr, Slots};
-use operators::Binary;
-use semantics::program::{Dest, Op};
+use semantics::program::Dest;
 use semantics::version::Version;
 use std::alloc::{AllocError, Allocator};
 use tags::value::Origin;
-
-/// The holder of an instruction, if it uses a slot.
-fn holder_of<A: Allocator>(instr: &Instr<A>) -> Option<u32>
-    ensures { result ≡ Rule.slot_of instr.now instr.now.op }
-{
-    if instr.op.uses_slot() {
-        Some(instr.slot)
-    } else {
-        None
-    }
-}
 
 /// The slot of an instruction in a block whose holders have these slots; 0 where it uses none.
 fn slot_of<A: Allocator>(instr: &Instr<A>, slots: &[u16]) -> u32
     ensures { result ≡ Sharing.placed_slot slots.now (Rule.slot_of instr.now instr.now.op) }
 {
-    let Some(holder) = holder_of(instr) else {
+    let Some(holder) = instr.op.slot_in(instr.slot) else {
         return 0;
     };
     match slots.get(holder as usize) {
@@ -39,41 +27,21 @@ fn slot_of<A: Allocator>(instr: &Instr<A>, slots: &[u16]) -> u32
     }
 }
 
-/// Whether the operation can make a fault.
-fn may_fault(op: Op) -> bool
-    ensures { result ≡ Bytes.may_fault op }
-{
-    match op {
-        Op::Apply2 { op } | Op::Apply2Right { op, .. } | Op::Apply2Left { op, .. } => {
-            matches!(op, Binary::Div | Binary::Rem)
-        }
-        Op::Fetch { .. } | Op::Store { .. } => true,
-        _ => false,
-    }
-}
-
 /// The origin that is told of an instruction.
 fn origin_of<A: Allocator>(instr: &Instr<A>, version: Version) -> Origin
-    ensures { result ≡ Emitted.told (version_number version) (Bytes.may_fault instr.now.op) instr.now.origin }
+    ensures { result ≡ Emitted.told (version_number version) (Opcodes.may_fault instr.now.op) instr.now.origin }
 {
     match version {
-        Version::Two if may_fault(instr.op) => instr.origin,
+        Version::Two if instr.op.may_fault() => instr.origin,
         _ => Origin::Untold,
     }
 }
 
-/// Whether first and second destinations differ.
-fn has_sides(op: Op) -> bool
-    ensures { result ≡ Emitted.has_sides op }
-{
-    matches!(op, Op::Switch | Op::Link { .. })
-}
-
 /// The first destinations in an object.
 fn firsts_of<A: Allocator>(alloc: A, instr: &Instr<A>) -> Result<Vec<Dest, A>, AllocError>
-    ensures { IfOk result (λ v. v.items ≡ Emitted.firsts_of (Emitted.has_sides instr.now.op) instr.now.firsts instr.now.seconds) }
+    ensures { IfOk result (λ v. v.items ≡ Emitted.firsts_of (Opcodes.has_sides instr.now.op) instr.now.firsts instr.now.seconds) }
 {
-    if has_sides(instr.op) {
+    if instr.op.has_sides() {
         return Vec::from_slice(alloc, &instr.firsts);
     }
     let mut firsts = Vec::new(alloc);
@@ -85,9 +53,9 @@ fn firsts_of<A: Allocator>(alloc: A, instr: &Instr<A>) -> Result<Vec<Dest, A>, A
 
 /// The second destinations in an object.
 fn seconds_of<A: Allocator>(alloc: A, instr: &Instr<A>) -> Result<Vec<Dest, A>, AllocError>
-    ensures { IfOk result (λ v. v.items ≡ Emitted.seconds_of (Emitted.has_sides instr.now.op) instr.now.firsts instr.now.seconds) }
+    ensures { IfOk result (λ v. v.items ≡ Emitted.seconds_of (Opcodes.has_sides instr.now.op) instr.now.firsts instr.now.seconds) }
 {
-    if has_sides(instr.op) {
+    if instr.op.has_sides() {
         return Vec::from_slice(alloc, &instr.seconds);
     }
     match instr.firsts.split_first() {

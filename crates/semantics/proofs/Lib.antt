@@ -20,3 +20,9 @@ pub mod Reused
 pub mod LoopCode
 pub mod SharedSlots
 pub mod OperatorWords
+pub mod ArcEnds
+pub mod BlockPlaces
+pub mod Lines
+pub mod Ports
+pub mod Stores
+pub mod Sums

@@ -2,6 +2,7 @@
 use Rattle.std.proofs.Common.{◌≡◌, refl, ℕ, zero, suc, ◌+◌, subst, true, false, List, [], ◌∷◌, Some, None, arith}
 use Rattle.std.proofs.lemmas.List.Elements.{All-nil, All-cons, All-head}
 use Rattle.std.specs.Prelude.{All, Bool, ◌-◌, nat_lt, slice_get, if◌then◌else◌}
+use Rattle.std.proofs.lemmas.Option.{same_Some}
 use Rattle.operators.specs.declared.Unary.TheVariants as U
 use Rattle.operators.specs.declared.Binary.TheVariants as B
 use Rattle.semantics.specs.declared.graph.Region.{Region}
@@ -68,22 +69,18 @@ one_in r m e = All-cons (λ (s : Source). region_of chooses s.node ≡ r) (src m
 two_in : (r : Region) (m k : ℕ) → region_of chooses m ≡ r → region_of chooses k ≡ r → AllLieIn chooses r (two m k)
 two_in r m k e f = All-cons (λ (s : Source). region_of chooses s.node ≡ r) (src m 0) (one k) e (one_in r k f)
 
--- what two equal options hold
-some_node : (x y : Node (List ℕ)) → Some x ≡ Some y → x ≡ y
-some_node x y e = cc
-
 -- each line, by its number
 each_line : (m : ℕ) (node : Node (List ℕ)) → slice_get chooses.nodes m ≡ Some node → IsNodeWell graph chooses (m + 2) node
-each_line zero node e = subst (λ (x : Node (List ℕ)). IsNodeWell graph chooses 2 x) (some_node _ node e)
+each_line zero node e = subst (λ (x : Node (List ℕ)). IsNodeWell graph chooses 2 x) (same_Some _ node e)
     record { region = tt; names = refl; earlier = two_earlier 2 0 1 (omega arith, refl) (omega arith, refl); lies = two_in Root 0 1 refl refl }
-each_line (suc zero) node e = subst (λ (x : Node (List ℕ)). IsNodeWell graph chooses 3 x) (some_node _ node e)
+each_line (suc zero) node e = subst (λ (x : Node (List ℕ)). IsNodeWell graph chooses 3 x) (same_Some _ node e)
     record { region = tt; names = refl; earlier = one_earlier 3 2 (omega arith, refl); lies = one_in Root 2 refl }
-each_line (suc (suc zero)) node e = subst (λ (x : Node (List ℕ)). IsNodeWell graph chooses 4 x) (some_node _ node e)
+each_line (suc (suc zero)) node e = subst (λ (x : Node (List ℕ)). IsNodeWell graph chooses 4 x) (same_Some _ node e)
     record { region = (omega arith, refl); names = refl; earlier = one_earlier 4 0 (omega arith, refl); lies = (λ f. cc, one_in Root 0 refl) }
-each_line (suc (suc (suc zero))) node e = subst (λ (x : Node (List ℕ)). IsNodeWell graph chooses 5 x) (some_node _ node e) enter_is_well
-each_line (suc (suc (suc (suc zero)))) node e = subst (λ (x : Node (List ℕ)). IsNodeWell graph chooses 6 x) (some_node _ node e)
+each_line (suc (suc (suc zero))) node e = subst (λ (x : Node (List ℕ)). IsNodeWell graph chooses 5 x) (same_Some _ node e) enter_is_well
+each_line (suc (suc (suc (suc zero)))) node e = subst (λ (x : Node (List ℕ)). IsNodeWell graph chooses 6 x) (same_Some _ node e)
     record { region = (omega arith, refl); names = refl; earlier = one_earlier 6 5 (omega arith, refl); lies = one_in (Arm 3 false) 5 refl }
-each_line (suc (suc (suc (suc (suc zero))))) node e = subst (λ (x : Node (List ℕ)). IsNodeWell graph chooses 7 x) (some_node _ node e) merge_is_well
+each_line (suc (suc (suc (suc (suc zero))))) node e = subst (λ (x : Node (List ℕ)). IsNodeWell graph chooses 7 x) (same_Some _ node e) merge_is_well
 each_line (suc (suc (suc (suc (suc (suc m)))))) node e = cc
 
 -- and so each node that is a line

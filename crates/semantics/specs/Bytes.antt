@@ -5,31 +5,13 @@ use Rattle.tags.specs.declared.token.Port.{Port}
 use Rattle.tags.specs.declared.token.Port.TheVariants.{Left, Right}
 use Rattle.tags.specs.declared.value.Origin.{Origin}
 use Rattle.tags.specs.declared.value.Origin.TheVariants.{Untold, At}
-use Rattle.operators.specs.declared.Unary.TheVariants.{Neg, Not}
-use Rattle.operators.specs.declared.Binary.{Binary}
-use Rattle.operators.specs.declared.Binary.TheVariants.{Add, Sub, Mul, Div, Rem, And, Or, Xor, Shl, Shr, Eq, Ne, Lt, Le}
 use Rattle.semantics.specs.declared.program.Dest.{Dest}
 use Rattle.semantics.specs.declared.program.Op.{Op}
 use Rattle.semantics.specs.declared.program.Op.TheVariants.{Apply1, Apply2, Apply2Right, Apply2Left, Lit, Copy, Sync, Switch, Fetch, Store, Frame, Link, Send, Return, Ask, Open, Take, Give, Drain, Release}
 use Rattle.semantics.specs.Program.{Instr, CodeBlock, Code}
 use Rattle.semantics.specs.Rule.{slot_of}
 use Rattle.semantics.specs.Plan.{is_credit}
-
-abbrev pub binary_code : Binary → ℕ
-binary_code Add = 1
-binary_code Sub = 2
-binary_code Mul = 3
-binary_code Div = 4
-binary_code Rem = 5
-binary_code And = 6
-binary_code Or = 7
-binary_code Xor = 8
-binary_code Shl = 9
-binary_code Shr = 10
-binary_code Eq = 11
-binary_code Ne = 12
-binary_code Lt = 13
-binary_code Le = 14
+use Rattle.semantics.specs.Opcodes.{opcode_for, code_number, flag_number, may_fault}
 
 -- where a literal stands: the first place from n on
 abbrev pub number_from : ℕ → ℤ → List ℤ → ℕ
@@ -45,28 +27,26 @@ pub record Head : Type 0 where
 abbrev pub head : ℕ → ℕ → ℕ → Head
 head c f o = record { opcode = c; flag = f; operand = o }
 
+-- a literal's number, or what the operation names
+abbrev pub operand_number : List ℤ → Op → ℕ
+operand_number ls (Apply2Right op z) = number_from 0 z ls
+operand_number ls (Apply2Left op z) = number_from 0 z ls
+operand_number ls (Lit z) = number_from 0 z ls
+operand_number ls (Fetch a) = a
+operand_number ls (Store a) = a
+operand_number ls (Link b) = b
+operand_number ls (Send b e) = e + 2 ^ 16 * b
+operand_number ls (Return o) = o
+operand_number ls (Ask o) = o
+operand_number ls (Open k) = k
+operand_number ls (Take k) = k
+operand_number ls (Give k) = k
+operand_number ls (Drain k) = k
+operand_number ls (Release o) = o
+operand_number ls op = 0
+
 abbrev pub head_of : List ℤ → Op → Head
-head_of ls (Apply1 Neg) = head 15 0 0
-head_of ls (Apply1 Not) = head 16 0 0
-head_of ls (Apply2 op) = head (binary_code op) 0 0
-head_of ls (Apply2Right op z) = head (binary_code op) 1 (number_from 0 z ls)
-head_of ls (Apply2Left op z) = head (binary_code op) 2 (number_from 0 z ls)
-head_of ls (Lit z) = head 17 0 (number_from 0 z ls)
-head_of ls Copy = head 18 0 0
-head_of ls Sync = head 19 0 0
-head_of ls Switch = head 20 0 0
-head_of ls (Fetch a) = head 21 0 a
-head_of ls (Store a) = head 22 0 a
-head_of ls Frame = head 23 0 0
-head_of ls (Link b) = head 24 0 b
-head_of ls (Send b e) = head 25 0 (e + 2 ^ 16 * b)
-head_of ls (Return o) = head 26 0 o
-head_of ls (Ask o) = head 27 0 o
-head_of ls (Open k) = head 28 0 k
-head_of ls (Take k) = head 29 0 k
-head_of ls (Give k) = head 30 0 k
-head_of ls (Drain k) = head 31 0 k
-head_of ls (Release o) = head 32 0 o
+head_of ls op = head (code_number (opcode_for op)) (flag_number (opcode_for op)) (operand_number ls op)
 
 abbrev pub port_bit : Port → ℕ
 port_bit Left = 0
@@ -137,17 +117,6 @@ HasDests Switch ds es = (length ds ≤ 1) × (length es ≤ 1)
 HasDests op ds es = (length ds ≤ 1) × (length es ≤ length ds)
 
 -- where an origin may stand
-abbrev pub may_fault : Op → Bool
-may_fault (Apply2 Div) = true
-may_fault (Apply2 Rem) = true
-may_fault (Apply2Right Div z) = true
-may_fault (Apply2Right Rem z) = true
-may_fault (Apply2Left Div z) = true
-may_fault (Apply2Left Rem z) = true
-may_fault (Fetch a) = true
-may_fault (Store a) = true
-may_fault op = false
-
 abbrev pub IsOrigin : ℕ → Op → Origin → Type 0
 IsOrigin version op Untold = ⊤
 IsOrigin version op (At b n) = (version ≡ 2) × (may_fault op ≡ true) × (b < 256) × (n < 1024)

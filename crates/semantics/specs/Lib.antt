@@ -20,6 +20,7 @@ pub mod Holders
 pub mod Credits
 pub mod Reuse
 pub mod Report
+pub mod Opcodes
 pub mod Bytes
 pub mod Text
 pub mod Words

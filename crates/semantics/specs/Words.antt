@@ -1,8 +1,8 @@
 -- Which operator has a word.
-use Rattle.std.specs.Prelude.{ℕ, List, [], ◌∷◌, Option, None, Some, if◌then◌else◌}
+use Rattle.std.specs.Prelude.{ℕ, List, [], ◌∷◌, map, Option, None, Some, if◌then◌else◌}
 use Rattle.std.specs.Str.{bytes_eq}
 use Rattle.operators.specs.declared.Unary.TheVariants.{Neg, Not}
-use Rattle.operators.specs.declared.Binary.TheVariants.{Add, Sub, Mul, Div, Rem, And, Or, Xor, Shl, Shr, Eq, Ne, Lt, Le}
+use Rattle.operators.specs.Values.{binaries}
 use Rattle.semantics.specs.declared.words.Operator.{Operator}
 use Rattle.semantics.specs.declared.words.Operator.TheVariants.{One, Two}
 use Rattle.semantics.specs.Text.{unary_word, binary_word}
@@ -12,8 +12,7 @@ operator_word (One op) = unary_word op
 operator_word (Two op) = binary_word op
 
 abbrev pub operators : List Operator
-operators = One Neg ∷ One Not ∷ Two Add ∷ Two Sub ∷ Two Mul ∷ Two Div ∷ Two Rem ∷ Two And ∷ Two Or ∷ Two Xor ∷ Two Shl ∷ Two Shr
-    ∷ Two Eq ∷ Two Ne ∷ Two Lt ∷ Two Le ∷ []
+operators = One Neg ∷ One Not ∷ map Two binaries
 
 abbrev pub operator_in : List Operator → List ℕ → Option Operator
 operator_in [] bytes = None

@@ -2,6 +2,7 @@
 #![tactic(auto)]
 
 pub mod graph;
+pub mod opcode;
 pub mod program;
 pub mod report;
 pub mod version;

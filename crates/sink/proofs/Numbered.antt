@@ -3,6 +3,7 @@ use Rattle.std.proofs.Common.{arith, add-zero, ◌≡◌, ℕ, zero, suc, ◌+�
 use Rattle.std.specs.Prelude.{⊤, slice_get}
 use Rattle.std.specs.Io.KnownBytes.{Appends}
 use Rattle.std.proofs.lemmas.List.{append-nil, take_all}
+use Rattle.lemmas.proofs.SliceGet.{get_none}
 use Rattle.sink.specs.Numbered.{numbered}
 use Rattle.sink.specs.Sends.{Sends}
 use Rattle.sink.proofs.Sent.{appends_then, sends_more, sends_less, sends_whole, sends_same}
@@ -46,13 +47,6 @@ stop text i xs x e a b c is p q =
 pub done : {X E : Type 0} (text : ℕ → X → List ℕ) (n : ℕ) (xs : List X) (r : Result ⊤ E) (x : ⊤) (a b : Option (List ℕ)) → r ≡ Ok x → length xs ≤ n → Appends a b (numbered text 0 (take n xs)) → Sends r a b (numbered text 0 xs)
 done text n xs r x a b e le p = sends_whole r x a b (numbered text 0 xs) e (subst (λ ys. Appends a b (numbered text 0 ys)) (take_all n xs le) p)
 
-past : {X : Type 0} (xs : List X) (n : ℕ) → slice_get xs n ≡ None → length xs ≤ n
-past [] n e = omega (arith)
-past (x ∷ xs) zero e = absurd cc
-past (x ∷ xs) (suc n) e =
-    let below = past xs n e in
-    omega (arith, below)
-
 -- where there is no further one, all are sent
 pub outside : {X E : Type 0} (text : ℕ → X → List ℕ) (n : ℕ) (xs : List X) (r : Result ⊤ E) (x : ⊤) (a b : Option (List ℕ)) → r ≡ Ok x → slice_get xs n ≡ None → Appends a b (numbered text 0 (take n xs)) → Sends r a b (numbered text 0 xs)
-outside text n xs r x a b e none p = done text n xs r x a b e (past xs n none) p
+outside text n xs r x a b e none p = done text n xs r x a b e (get_none xs n none) p

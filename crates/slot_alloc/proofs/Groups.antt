@@ -10,6 +10,7 @@ use Rattle.std.proofs.lemmas.List.{length_push, get_or_push, get_or_append_left,
 use Rattle.std.proofs.lemmas.List.Elements.{All-set, All-replicate}
 use Rattle.std.proofs.lemmas.List.Folds.{list_any-append}
 use Rattle.std.proofs.lemmas.Option.{unwrap_or-slice_get}
+use Rattle.lemmas.proofs.Bools.{and_false, and_true}
 use Rattle.semantics.specs.declared.program.Mark.{Mark}
 use Rattle.semantics.specs.declared.program.Mark.TheVariants.{Unmarked, OfCond, OfFlag}
 use Rattle.semantics.specs.Program.{Instr, CodeBlock}
@@ -25,7 +26,7 @@ use Rattle.slot_alloc.specs.Words as words
 use Rattle.slot_alloc.specs.Tables.{groups, after_rows, split_of, splits_of, comes_after, is_apart}
 use Rattle.slot_alloc.proofs.Chosen.{same_mark_exact}
 use Rattle.slot_alloc.proofs.Passed.{bit}
-use Rattle.slot_alloc.proofs.Lanes.{lane_bit, lane_and, lane_or, lane_zero, lane_one, and_on, and_off, bit_at_row}
+use Rattle.slot_alloc.proofs.Lanes.{lane_bit, lane_and, lane_or, lane_zero, lane_one, bit_at_row}
 
 -- THE LANE OF A HOLDER
 number_at : (k first n : ℕ) → k < 64 → lane_bit k (words.number_lane first n) ≡ (n == first + k)
@@ -57,8 +58,8 @@ ends_at : (k first : ℕ) (known : List Mark) → k < 64 → (i : Instr) (m : Ma
 ends_at k first known few i m second = go (ends_with i.op)
   where
     go : (t : Bool) → lane_bit k (cond t (words.holder_lane first (slot_of i i.op)) 0) ≡ (is_holder (slot_of i i.op) (first + k) && t)
-    go true = holder_at k first (slot_of i i.op) few ∙ sym (and_on (is_holder (slot_of i i.op) (first + k)))
-    go false = lane_zero k ∙ sym (and_off (is_holder (slot_of i i.op) (first + k)))
+    go true = holder_at k first (slot_of i i.op) few ∙ sym (and_true (is_holder (slot_of i i.op) (first + k)))
+    go false = lane_zero k ∙ sym (and_false (is_holder (slot_of i i.op) (first + k)))
 
 -- THE LANES OF A MARK
 or_none : (b : Bool) → (b || false) ≡ b
@@ -109,12 +110,12 @@ unmarked OfFlag (OfCond d) e = refl
 unmarked OfFlag OfFlag e = absurd (both_ways true e refl)
 
 marks_at : (k : ℕ) (known : List Mark) (m : Mark) → k < 64 → (t : Bool) → lane_bit k (cond (t && is_marked m) (words.mark_lanes known m 64) 0) ≡ (same_mark (mark_of known k) m && t)
-marks_at k known m few true = go (is_marked m) refl ∙ sym (and_on (same_mark (mark_of known k) m))
+marks_at k known m few true = go (is_marked m) refl ∙ sym (and_true (same_mark (mark_of known k) m))
   where
     go : (t : Bool) → is_marked m ≡ t → lane_bit k (cond t (words.mark_lanes known m 64) 0) ≡ same_mark (mark_of known k) m
     go true e = mark_at k known m 64 few (omega arith)
     go false e = lane_zero k ∙ sym (unmarked (mark_of known k) m e)
-marks_at k known m few false = lane_zero k ∙ sym (and_off (same_mark (mark_of known k) m))
+marks_at k known m few false = lane_zero k ∙ sym (and_false (same_mark (mark_of known k) m))
 
 sides_at : (k : ℕ) (side : Bool) (known : List Mark) → k < 64 → (i : Instr) (m : Mark) (second : Bool) → lane_bit k (words.lanes (choice.Sides side) known i m second) ≡ is_chosen (Side side (mark_of known k)) i m second
 sides_at k true known few i m second = marks_at k known m few (not second)

@@ -6,6 +6,7 @@ use Rattle.std.proofs.lemmas.Nat.{one_shl}
 use Rattle.std.proofs.lemmas.Nat.Bits.{bit_at-lt, bit_at_and, bit_at_or, bit_at-zero, bit_at_ones, bit_at-pow_same, bit_at-pow_other}
 use Rattle.std.proofs.lemmas.List.{map-set, set-get_or}
 use Rattle.std.proofs.Math.ListN.{get_or-map}
+use Rattle.lemmas.proofs.Bools.{and_false, and_true}
 use Rattle.tags.specs.declared.token.Port.{Port}
 use Rattle.tags.specs.declared.token.Port.TheVariants.{Left, Right}
 use Rattle.semantics.specs.declared.program.Dest.{Dest}
@@ -63,14 +64,6 @@ lane_one k j lt =
     (λ (e : k ≡ j). ap (λ i. lane_bit i (2 ^ j)) e ∙ ap (λ n. n == 1) (bit_at-pow_same j) ∙ sym (eq-eqb j k (sym e)))
     (λ (ne : k ≡ j → ⊥). ap (λ n. n == 1) (bit_at-pow_other j k ne) ∙ sym (ne_eqb j k (λ e. ne (sym e))))
     (cases_eq k j)
-
-pub and_on : (b : Bool) → (b && true) ≡ b
-and_on true = refl
-and_on false = refl
-
-pub and_off : (b : Bool) → (b && false) ≡ false
-and_off true = refl
-and_off false = refl
 
 -- ONE LANE
 module _ (k : ℕ) where
@@ -227,8 +220,8 @@ module _ (k : ℕ) where
     ports_at op x = lane_and k (words.led x.left) (words.led x.right) ∙ ap (λ b. b && lane_bit k (words.led x.right)) (led_at x.left) ∙ ap (λ b. all_lead (flow_at x.left) && b) (led_at x.right)
 
     set_at : (row : List Bool) (h : ℕ) (b : Bool) → set row h (get_or row h false && b) ≡ cond b row (set row h false)
-    set_at row h true = ap (set row h) (and_on (get_or row h false)) ∙ set-get_or row h false
-    set_at row h false = ap (set row h) (and_off (get_or row h false))
+    set_at row h true = ap (set row h) (and_true (get_or row h false)) ∙ set-get_or row h false
+    set_at row h false = ap (set row h) (and_false (get_or row h false))
 
     kept_at : (row : List ℕ) (o : Option ℕ) (w : ℕ) → row_bits (words.kept row o w) ≡ cond (lane_bit k w) (row_bits row) (crossed (row_bits row) o)
     kept_at row None w = go (lane_bit k w)

@@ -5,6 +5,7 @@ use Rattle.std.specs.Bool.{Decides}
 use Rattle.std.proofs.lemmas.Bool.{ne_eqb, lt-ltb, cases_eq, both_ways}
 use Rattle.std.proofs.lemmas.List.{append_assoc, append-nil, get_or-set_same, get_or-set_other, length-set}
 use Rattle.std.proofs.lemmas.List.Elements.{Contains-append_left, Contains-append_right, Contains-append_cases, Contains-push, Contains-push_cases, All-contains, All-nil, All-cons, All-append}
+use Rattle.lemmas.proofs.Contains.{contains_none}
 use Rattle.tags.specs.declared.token.Port.{Port}
 use Rattle.tags.specs.declared.token.Port.TheVariants.{Left, Right}
 use Rattle.semantics.specs.declared.program.Dest.{Dest}
@@ -96,12 +97,9 @@ from_here p n i y there = ⊎_elim
     (λ a. let w = is_second n i.seconds y a in (w.0, w.2))
     (Contains-append_cases (firsts_arcs p n i.firsts i.op) (arcs_to n true i.seconds) y (subst (λ ys. Contains ys y) (from_firsts p n i i.op) there))
 
-none_there : {A : Type 0} (y : A) → Contains [] y → ⊥
-none_there y h = omega (arith, h.1)
-
 -- no arc goes back
 pub from_later : (p : Plan) (n : ℕ) (is : List Instr) (y : Arc) → Contains (arcs_of p n is) y → (n ≤ y.from) × (y.from ≤ y.to.place)
-from_later p n [] y there = absurd (none_there y there)
+from_later p n [] y there = absurd (contains_none y there)
 from_later p n (i ∷ is) y there = ⊎_elim
     (λ a. let w = from_here p n i y a in let e = w.0 in let le = w.1 in (omega (arith, e), omega (arith, e, le)))
     (λ a. let w = from_later p (n + 1) is y a in let le = w.0 in (omega (arith, le), w.1))

@@ -3,7 +3,7 @@ use Rattle.std.proofs.Common.{◌≡◌, ℕ, ◌+◌, List, [], ◌∷◌, ◌+
 use Rattle.std.proofs.lemmas.List.{append-nil}
 use Rattle.std.specs.List.Sorted.{IsPermutation}
 use Rattle.std.proofs.lemmas.List.Sorted.{IsPermutation-refl, IsPermutation-sym, IsPermutation-trans, IsPermutation-append_comm, IsPermutation-append_left, IsPermutation-append_right}
-use Rattle.law_determinacy.proofs.Perm.{permutation_cancel}
+use Rattle.lemmas.proofs.Permutations.{permutation_cancel}
 use Rattle.std.proofs.lemmas.List.Elements.{All-cons, All-nil}
 use Rattle.tags.specs.Addresses.{element_of}
 use Rattle.tags.specs.declared.token.Token.{Token}
@@ -14,9 +14,6 @@ use Rattle.mesh.proofs.Deeds.{created_more}
 
 abbrev Ts : Type 0
 Ts = List Token
-
-pub same_created : (ds ds' : List Deed) (d : Deed) (n : ℕ) → ds' ≡ ds ++ d ∷ [] → made_in d ≡ 0 → created ds ≡ n → created ds' ≡ n
-same_created ds ds' d n is none was = let more = created_more ds d in let same : created ds' ≡ created (ds ++ d ∷ []) = ap created is in omega arith
 
 pub more_created : (ds ds' : List Deed) (d : Deed) (n : ℕ) → ds' ≡ ds ++ d ∷ [] → created ds ≡ n → created ds' ≡ n + made_in d
 more_created ds ds' d n is was = let more = created_more ds d in let same : created ds' ≡ created (ds ++ d ∷ []) = ap created is in omega arith

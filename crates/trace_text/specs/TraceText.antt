@@ -15,7 +15,8 @@ use Rattle.tags.specs.declared.token.To.TheVariants as to
 use Rattle.tags.specs.declared.token.Token.{Token}
 use Rattle.semantics.specs.Program.{Instr, CodeBlock, Program, instr_at}
 use Rattle.semantics.specs.Text.{field, line, literal}
-use Rattle.disassembler.specs.Listing.{name_of, port_letter}
+use Rattle.disassembler.specs.Listing.{port_letter}
+use Rattle.semantics.specs.Opcodes.{op_word}
 use Rattle.replay.specs.declared.moment.Deed.{Deed}
 use Rattle.replay.specs.declared.moment.Deed.TheVariants.{Waited, Fired, Answered, Deferred, Stored, Served, Given, Queued, Freed, HandedOn, Arrived}
 use Rattle.replay.specs.declared.moment.Moment.{Moment}
@@ -46,7 +47,7 @@ frame_text address = codes "-"
 -- WHAT IS DONE THERE
 abbrev pub instr_name : Option Instr → List ℕ
 instr_name None = codes "-"
-instr_name (Some i) = name_of i.op
+instr_name (Some i) = op_word i.op
 
 abbrev pub name_text : Program → To → List ℕ
 name_text p (to.Instr f ip port) = instr_name (instr_at p ip)

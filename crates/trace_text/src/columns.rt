@@ -4,7 +4,7 @@ ghost use Rattle.std.specs.Prelude.{◌≡◌, ◌++◌};
 ghost use Rattle.trace_text.specs.TraceText.{place_from, place_text, at_text, frame_text, name_text, port_text, deed_text};
 ghost use Rattle.sink.specs.Sends.{Sends};
 
-use disassembler::{name_of, port_letter};
+use disassembler::port_letter;
 use itoa::Buffer;
 use object_view::Object;
 use replay::Deed;
@@ -84,7 +84,7 @@ pub(crate) fn name_at(object: &Object<'_>, to: &To) -> &'static [u8]
 {
     match *to {
         To::Instr { ip, .. } => match object.instr(ip) {
-            Some(instr) => name_of(instr.op),
+            Some(instr) => instr.op.word(),
             None => b"-",
         },
         To::Fetch { .. } => b"read",

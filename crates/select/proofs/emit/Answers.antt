@@ -1,16 +1,11 @@
-use Rattle.std.proofs.Common.{◌≡◌, ℤ, List, refl, sym, subst, All, Contains, rules, ◌⊎◌, inl, inr}
+use Rattle.std.proofs.Common.{◌≡◌, ℤ, List, sym, subst, All, Contains, rules}
 use Rattle.std.specs.Prelude.{None}
-use Rattle.semantics.specs.declared.version.Version.{Version}
-use Rattle.semantics.specs.declared.version.Version.TheVariants.{One, Two}
 use Rattle.semantics.specs.Versions.{version_number}
+use Rattle.semantics.proofs.Lines.{version_is}
 use Rattle.select.specs.Literals.{used_in, table_of, too_far}
 use Rattle.select.proofs.Tables.{table_has, table_only}
 use Rattle.select.proofs.Codes.{is_code}
 use Rattle.select.proofs.emit.Goals as goal
-
-known : (v : Version) → (version_number v ≡ 1) ⊎ (version_number v ≡ 2)
-known One = inl refl
-known Two = inr refl
 
 pub returns-clause-all_used : goal.returns-clause-all_used
 returns-clause-all_used g c =
@@ -29,4 +24,4 @@ returns-clause-spelling g c =
     let bs = c.args.plan.now.program.blocks in
     let table : c.in_ok-literals.literals.items ≡ table_of bs = search rules in
     let far : too_far bs ≡ None = search rules in
-    λ e. is_code (version_number c.args.version) c.args.plan.now c.args.slots.now _ (known c.args.version) (search rules) table far c.in_ok-literals.ensures.ascending c.in_ok-literals.ensures.fit e
+    λ e. is_code (version_number c.args.version) c.args.plan.now c.args.slots.now _ (version_is c.args.version) (search rules) table far c.in_ok-literals.ensures.ascending c.in_ok-literals.ensures.fit e

@@ -4,7 +4,8 @@ use Rattle.std.proofs.lemmas.Result.{err_from_is_err_and}
 use Rattle.semantics.specs.Text.{field}
 use Rattle.semantics.specs.Rule.{slot_of}
 use Rattle.object_view.specs.Reading.{shown}
-use Rattle.disassembler.specs.Listing.{name_of, right_in, left_in, slot_text, dest_text, operand_text, origin_text}
+use Rattle.disassembler.specs.Listing.{right_in, left_in, slot_text, dest_text, operand_text, origin_text}
+use Rattle.semantics.specs.Opcodes.{op_word}
 use Rattle.sink.proofs.Sent.{appends_then, sends_from, sends_more, sends_less, sends_other}
 use Rattle.disassembler.proofs.line.list_instr.Goals as goal
 
@@ -12,7 +13,7 @@ pub returns-in_err-list_number : goal.returns-in_err-list_number
 returns-in_err-list_number g c =
     let p = err_from_is_err_and c.from_residual.result c.from_residual.ensures.1 in
     let t1 : List ℕ = right_in 5 (decimal c.args.number) in
-    let t2 : List ℕ = field (left_in 8 (name_of c.args.instr.now.op)) in
+    let t2 : List ℕ = field (left_in 8 (op_word c.args.instr.now.op)) in
     let t3 : List ℕ = field (right_in 4 (slot_text (slot_of (shown c.args.instr.now) c.args.instr.now.op))) in
     let t4 : List ℕ = field (right_in 7 (dest_text (option_to_list c.args.instr.now.first))) in
     let t5 : List ℕ = field (right_in 7 (dest_text (option_to_list c.args.instr.now.second))) in
@@ -27,7 +28,7 @@ pub returns-in_err-list_name : goal.returns-in_err-list_name
 returns-in_err-list_name g c =
     let p = err_from_is_err_and c.from_residual-in_err-list_name.result c.from_residual-in_err-list_name.ensures.1 in
     let t1 : List ℕ = right_in 5 (decimal c.args.number) in
-    let t2 : List ℕ = field (left_in 8 (name_of c.args.instr.now.op)) in
+    let t2 : List ℕ = field (left_in 8 (op_word c.args.instr.now.op)) in
     let t3 : List ℕ = field (right_in 4 (slot_text (slot_of (shown c.args.instr.now) c.args.instr.now.op))) in
     let t4 : List ℕ = field (right_in 7 (dest_text (option_to_list c.args.instr.now.first))) in
     let t5 : List ℕ = field (right_in 7 (dest_text (option_to_list c.args.instr.now.second))) in
@@ -43,7 +44,7 @@ pub returns-in_err-list_slot : goal.returns-in_err-list_slot
 returns-in_err-list_slot g c =
     let p = err_from_is_err_and c.from_residual-in_err-list_slot.result c.from_residual-in_err-list_slot.ensures.1 in
     let t1 : List ℕ = right_in 5 (decimal c.args.number) in
-    let t2 : List ℕ = field (left_in 8 (name_of c.args.instr.now.op)) in
+    let t2 : List ℕ = field (left_in 8 (op_word c.args.instr.now.op)) in
     let t3 : List ℕ = field (right_in 4 (slot_text (slot_of (shown c.args.instr.now) c.args.instr.now.op))) in
     let t4 : List ℕ = field (right_in 7 (dest_text (option_to_list c.args.instr.now.first))) in
     let t5 : List ℕ = field (right_in 7 (dest_text (option_to_list c.args.instr.now.second))) in
@@ -60,7 +61,7 @@ pub returns-in_err-list_dest : goal.returns-in_err-list_dest
 returns-in_err-list_dest g c =
     let p = err_from_is_err_and c.from_residual-in_err-list_dest.result c.from_residual-in_err-list_dest.ensures.1 in
     let t1 : List ℕ = right_in 5 (decimal c.args.number) in
-    let t2 : List ℕ = field (left_in 8 (name_of c.args.instr.now.op)) in
+    let t2 : List ℕ = field (left_in 8 (op_word c.args.instr.now.op)) in
     let t3 : List ℕ = field (right_in 4 (slot_text (slot_of (shown c.args.instr.now) c.args.instr.now.op))) in
     let t4 : List ℕ = field (right_in 7 (dest_text (option_to_list c.args.instr.now.first))) in
     let t5 : List ℕ = field (right_in 7 (dest_text (option_to_list c.args.instr.now.second))) in
@@ -78,7 +79,7 @@ pub returns-in_err-list_dest-2 : goal.returns-in_err-list_dest-2
 returns-in_err-list_dest-2 g c =
     let p = err_from_is_err_and c.from_residual-in_err-list_dest-2.result c.from_residual-in_err-list_dest-2.ensures.1 in
     let t1 : List ℕ = right_in 5 (decimal c.args.number) in
-    let t2 : List ℕ = field (left_in 8 (name_of c.args.instr.now.op)) in
+    let t2 : List ℕ = field (left_in 8 (op_word c.args.instr.now.op)) in
     let t3 : List ℕ = field (right_in 4 (slot_text (slot_of (shown c.args.instr.now) c.args.instr.now.op))) in
     let t4 : List ℕ = field (right_in 7 (dest_text (option_to_list c.args.instr.now.first))) in
     let t5 : List ℕ = field (right_in 7 (dest_text (option_to_list c.args.instr.now.second))) in
@@ -97,7 +98,7 @@ pub returns-in_err-list_operand : goal.returns-in_err-list_operand
 returns-in_err-list_operand g c =
     let p = err_from_is_err_and c.from_residual-in_err-list_operand.result c.from_residual-in_err-list_operand.ensures.1 in
     let t1 : List ℕ = right_in 5 (decimal c.args.number) in
-    let t2 : List ℕ = field (left_in 8 (name_of c.args.instr.now.op)) in
+    let t2 : List ℕ = field (left_in 8 (op_word c.args.instr.now.op)) in
     let t3 : List ℕ = field (right_in 4 (slot_text (slot_of (shown c.args.instr.now) c.args.instr.now.op))) in
     let t4 : List ℕ = field (right_in 7 (dest_text (option_to_list c.args.instr.now.first))) in
     let t5 : List ℕ = field (right_in 7 (dest_text (option_to_list c.args.instr.now.second))) in
@@ -117,7 +118,7 @@ pub returns-in_err-list_origin : goal.returns-in_err-list_origin
 returns-in_err-list_origin g c =
     let p = err_from_is_err_and c.from_residual-in_err-list_origin.result c.from_residual-in_err-list_origin.ensures.1 in
     let t1 : List ℕ = right_in 5 (decimal c.args.number) in
-    let t2 : List ℕ = field (left_in 8 (name_of c.args.instr.now.op)) in
+    let t2 : List ℕ = field (left_in 8 (op_word c.args.instr.now.op)) in
     let t3 : List ℕ = field (right_in 4 (slot_text (slot_of (shown c.args.instr.now) c.args.instr.now.op))) in
     let t4 : List ℕ = field (right_in 7 (dest_text (option_to_list c.args.instr.now.first))) in
     let t5 : List ℕ = field (right_in 7 (dest_text (option_to_list c.args.instr.now.second))) in
@@ -137,7 +138,7 @@ returns-in_err-list_origin g c =
 pub returns : goal.returns
 returns g c =
     let t1 : List ℕ = right_in 5 (decimal c.args.number) in
-    let t2 : List ℕ = field (left_in 8 (name_of c.args.instr.now.op)) in
+    let t2 : List ℕ = field (left_in 8 (op_word c.args.instr.now.op)) in
     let t3 : List ℕ = field (right_in 4 (slot_text (slot_of (shown c.args.instr.now) c.args.instr.now.op))) in
     let t4 : List ℕ = field (right_in 7 (dest_text (option_to_list c.args.instr.now.first))) in
     let t5 : List ℕ = field (right_in 7 (dest_text (option_to_list c.args.instr.now.second))) in

@@ -1,18 +1,18 @@
 use Rattle.std.proofs.Common.{◌≡◌, arith, refl, sym, ◌∙◌}
 use Rattle.std.specs.Prelude.{None, slice_get}
 use Rattle.std.proofs.lemmas.Result.{err_from_is_err_and}
+use Rattle.lemmas.proofs.Options.{option_map_none, option_map_some}
 use Rattle.semantics.specs.Program.{first_of}
 use Rattle.object_view.specs.Reading.{block_shown}
 use Rattle.disassembler.specs.Listing.{block_lines}
 use Rattle.sink.proofs.Sent.{sends_from, sends_other}
 use Rattle.sink.proofs.Numbered.{more, stop, done, outside}
-use Rattle.disassembler.proofs.Places.{none_shown, some_shown}
 use Rattle.disassembler.proofs.listing.list_blocks.Goals as goal
 
 pub returns-in_default : goal.returns-in_default
 returns-in_default g c =
     let p = c.args.object.now.code.program in
-    let is : slice_get p.blocks c.loop-number.number ≡ None = none_shown (block_shown (first_of p c.loop-number.number)) (slice_get p.blocks c.loop-number.number) (sym c.block.ensures ∙ c.in_default.is) in
+    let is : slice_get p.blocks c.loop-number.number ≡ None = option_map_none (block_shown (first_of p c.loop-number.number)) (slice_get p.blocks c.loop-number.number) (sym c.block.ensures ∙ c.in_default.is) in
     outside block_lines c.loop-number.number p.blocks _ tt _ _ refl is c.loop-number.invariant
 
 pub returns-in_err-list_block : goal.returns-in_err-list_block
@@ -20,14 +20,14 @@ returns-in_err-list_block g c =
     let p = err_from_is_err_and c.from_residual.result c.from_residual.ensures.1 in
     let q = c.args.object.now.code.program in
     let n = c.loop-number.number in
-    let b = some_shown (block_shown (first_of q n)) (slice_get q.blocks n) c.in-Some.block (sym c.block.ensures ∙ c.in-Some.is) in
+    let b = option_map_some (block_shown (first_of q n)) (slice_get q.blocks n) c.in-Some.block (sym c.block.ensures ∙ c.in-Some.is) in
     rw p.1 (stop block_lines n q.blocks b.0 p.0 _ _ _ b.1 c.loop-number.invariant (sends_other c.in_err-list_block.field-0.0 p.0 _ _ _ (c.in_err-list_block.ensures b.0 (b.1, b.2))))
 
 pub loop-number-preserved : goal.loop-number-preserved
 loop-number-preserved g c =
     let q = c.args.object.now.code.program in
     let n = c.loop-number.number in
-    let b = some_shown (block_shown (first_of q n)) (slice_get q.blocks n) c.in-Some.block (sym c.block.ensures ∙ c.in-Some.is) in
+    let b = option_map_some (block_shown (first_of q n)) (slice_get q.blocks n) c.in-Some.block (sym c.block.ensures ∙ c.in-Some.is) in
     more block_lines n q.blocks b.0 _ _ _ b.1 c.loop-number.invariant (sends_from _ _ _ _ c.in_ok-list_block.was (c.list_block.ensures b.0 (b.1, b.2)))
 
 pub returns : goal.returns

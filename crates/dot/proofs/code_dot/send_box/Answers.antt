@@ -11,12 +11,13 @@ use Rattle.sink.proofs.Numbered.{more, stop, done, outside}
 use Rattle.dot.specs.GraphDot.{region_of, side_letter, side_sign, arm_opens, opens, closes, node_box, style_of, edge, node_place, node_dot, input_box, inputs_dot, result_dot, block_head, block_dot, graph_head, graph_dot}
 use Rattle.dot.specs.CodeDot as C
 use Rattle.disassembler.specs.Listing as L
+use Rattle.semantics.specs.Opcodes.{op_word}
 use Rattle.dot.proofs.code_dot.send_box.Goals as goal
 
 pub returns-in_err-open_box : goal.returns-in_err-open_box
 returns-in_err-open_box g c =
     let p = err_from_is_err_and c.from_residual.result c.from_residual.ensures.1 in
-    let t1 : List ℕ = codes "b" ++ decimal c.args.place ++ codes "i" ++ decimal c.args.number ++ codes " [label=\"" ++ decimal c.args.number ++ field (L.name_of c.args.op) in
+    let t1 : List ℕ = codes "b" ++ decimal c.args.place ++ codes "i" ++ decimal c.args.number ++ codes " [label=\"" ++ decimal c.args.number ++ field (op_word c.args.op) in
     let t2 : List ℕ = field (L.operand_text c.args.op) in
     let t3 : List ℕ = codes "\"]\n" in
     let w0 : Option (List ℕ) = g.W.Write.contents c.args.writer.now in
@@ -26,7 +27,7 @@ returns-in_err-open_box g c =
 pub returns-in_err-list_operand : goal.returns-in_err-list_operand
 returns-in_err-list_operand g c =
     let p = err_from_is_err_and c.from_residual-in_err-list_operand.result c.from_residual-in_err-list_operand.ensures.1 in
-    let t1 : List ℕ = codes "b" ++ decimal c.args.place ++ codes "i" ++ decimal c.args.number ++ codes " [label=\"" ++ decimal c.args.number ++ field (L.name_of c.args.op) in
+    let t1 : List ℕ = codes "b" ++ decimal c.args.place ++ codes "i" ++ decimal c.args.number ++ codes " [label=\"" ++ decimal c.args.number ++ field (op_word c.args.op) in
     let t2 : List ℕ = field (L.operand_text c.args.op) in
     let t3 : List ℕ = codes "\"]\n" in
     let w0 : Option (List ℕ) = g.W.Write.contents c.args.writer.now in
@@ -36,7 +37,7 @@ returns-in_err-list_operand g c =
 
 pub returns : goal.returns
 returns g c =
-    let t1 : List ℕ = codes "b" ++ decimal c.args.place ++ codes "i" ++ decimal c.args.number ++ codes " [label=\"" ++ decimal c.args.number ++ field (L.name_of c.args.op) in
+    let t1 : List ℕ = codes "b" ++ decimal c.args.place ++ codes "i" ++ decimal c.args.number ++ codes " [label=\"" ++ decimal c.args.number ++ field (op_word c.args.op) in
     let t2 : List ℕ = field (L.operand_text c.args.op) in
     let t3 : List ℕ = codes "\"]\n" in
     let w0 : Option (List ℕ) = g.W.Write.contents c.args.writer.now in

@@ -1,7 +1,8 @@
 use Rattle.std.proofs.Common.{◌≡◌, ◌+◌, sym, ◌∙◌, arith}
 use Rattle.std.specs.Prelude.{Some, slice_get}
+use Rattle.lemmas.proofs.Lists.{taken_next}
 use Rattle.loaded.specs.Ready.{arrays_in}
-use Rattle.loaded.proofs.Tables.{told_array, one_more, all_arrays, sum_next}
+use Rattle.loaded.proofs.Tables.{told_array, all_arrays, sum_next}
 use Rattle.loaded.proofs.Short.{few_so_far}
 use Rattle.loaded.proofs.making.arrays_of.Goals as goal
 
@@ -19,7 +20,7 @@ loop-number-preserved g c =
     let is : slice_get p.arrays c.loop-number.number ≡ Some c.in-Some.len = sym c.array.ensures ∙ c.in-Some.is in
     let next = sum_next p.arrays c.loop-number.number c.in-Some.len is in
     let base = c.loop-number.invariant.1 in (
-      one_more c.loop-number.number (arrays_in 0 p.arrays) c.loop-number.arrays.items c.push.new.self.items (record { base = c.loop-number.base; len = c.in-Some.len })
+      taken_next c.loop-number.number (arrays_in 0 p.arrays) c.loop-number.arrays.items c.push.new.self.items (record { base = c.loop-number.base; len = c.in-Some.len })
           (told_array p c.loop-number.base c.loop-number.number c.in-Some.len is base) c.loop-number.invariant.0 c.in_ok-push.ensures.items,
       omega arith,
     )

@@ -1,5 +1,5 @@
 use Rattle.std.proofs.Common.{sym, ◌<◌, length, arith}
-use Rattle.schedule.proofs.Tokens.{element_below}
+use Rattle.tags.proofs.Elements.{element_below}
 use Rattle.machine.proofs.Keeping.{on_err, keeps_more, keeps_as_many}
 use Rattle.machine.proofs.dealing.keep.Goals as goal
 

@@ -1,10 +1,11 @@
 use Rattle.std.proofs.Common.{◌≡◌, ◌<◌, [], ◌∷◌, ◌++◌, length, Option, arith, sym, ap, ◌∙◌}
 use Rattle.std.specs.Prelude.{Some, None, slice_get, option_map}
+use Rattle.lemmas.proofs.Lists.{taken_next}
 use Rattle.semantics.specs.Program.{Instr}
 use Rattle.object_view.specs.declared.object.BlockView.{BlockView}
 use Rattle.object_view.specs.declared.instr.CodeInstr.{CodeInstr}
 use Rattle.object_view.specs.Reading.{shown}
-use Rattle.object_view.proofs.Taken.{more, all, outside}
+use Rattle.object_view.proofs.Taken.{all, outside}
 use Rattle.object_view.proofs.taking.instrs_of.Goals as goal
 
 pub returns-in_default : goal.returns-in_default
@@ -20,7 +21,7 @@ loop-number-preserved g c = λ k b at.
     let less : c.loop-number.number < length b.instrs = omega (arith, count, c.loop-number-test.true) in
     let is : slice_get b.instrs c.loop-number.number ≡ Some (shown c.in-Some.instr) = sym (c.instr_in.ensures k b at less) ∙ ap (λ (o : Option CodeInstr). option_map shown o) c.in-Some.is in
     let made = c.in_ok-push.ensures.items ∙ ap (λ (i : Instr). c.loop-number.instrs.items ++ i ∷ []) c.in_ok-instr_of.ensures in
-    more c.loop-number.number b.instrs c.loop-number.instrs.items c.push.new.self.items (shown c.in-Some.instr) is (c.loop-number.invariant k b at) made
+    taken_next c.loop-number.number b.instrs c.loop-number.instrs.items c.push.new.self.items (shown c.in-Some.instr) is (c.loop-number.invariant k b at) made
 
 pub returns : goal.returns
 returns g c = λ k b at.

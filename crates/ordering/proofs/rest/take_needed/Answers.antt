@@ -1,6 +1,7 @@
 use Rattle.std.proofs.Common.{refl, sym, ◌∙◌, ap, List, ◌++◌, take, take-append-drop, slice_get}
+use Rattle.lemmas.proofs.SliceGet.{get_some}
 use Rattle.tags.specs.declared.token.Token.{Token}
-use Rattle.ordering.proofs.Placing.{found, first_of_dropped}
+use Rattle.ordering.proofs.Placing.{first_of_dropped}
 use Rattle.ordering.proofs.rest.take_needed.Goals as goal
 
 pub returns-clause-taken : goal.returns-clause-taken
@@ -17,5 +18,5 @@ returns-clause-taken g c =
 
 pub returns-clause-stuck : goal.returns-clause-stuck
 returns-clause-stuck g c some blocks =
-    let first = found c.split.result.1.now 0 some in
+    let first = get_some c.split.result.1.now 0 some in
     (first.0, first.1, c.take_first-count.ensures.missing first.0 (sym (first_of_dropped c.take_first-count.result c.args.rest.needed.now) ∙ ap (λ (l : List Token). slice_get l 0) (sym c.split.ensures.back) ∙ first.1))

@@ -3,11 +3,11 @@ use Rattle.std.specs.Prelude.{slice_set}
 use Rattle.std.proofs.lemmas.List.{get_or-map, length-map}
 use Rattle.std.proofs.lemmas.List.Elements.{All-get_or}
 use Rattle.tags.specs.Addresses.{element_of}
+use Rattle.tags.proofs.Elements.{element_below}
 use Rattle.element.specs.Near.{IsNearToken}
 use Rattle.element.specs.Held.{LaneView, Fixed, held_of, fixed_of, bounds_at, with_more}
 use Rattle.schedule.specs.State.{IsAt, delivered}
 use Rattle.schedule.proofs.Places.{first_get}
-use Rattle.schedule.proofs.Tokens.{element_below}
 use Rattle.schedule.proofs.Memory.{ok_then, err_then, ok_or_err}
 use Rattle.rounds.specs.Rounds.{lane_held, lanes_held, lane_fixed, lanes_fixed, halt_in}
 use Rattle.rounds.proofs.Changes.{map_kept, flat_kept}

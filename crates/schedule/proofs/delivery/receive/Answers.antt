@@ -1,12 +1,12 @@
 use Rattle.std.proofs.Common.{◌≡◌, sym, ◌∙◌, ap, ℕ, ◌<◌, ◌∷◌, [], length, map, arith}
 use Rattle.std.specs.Prelude.{slice_set}
 use Rattle.tags.specs.Addresses.{element_of}
+use Rattle.tags.proofs.Elements.{element_below}
 use Rattle.element.specs.Near.{IsNearToken}
 use Rattle.element.specs.Held.{LaneView, Fixed, held_of, fixed_of, bounds_at, with_more}
 use Rattle.schedule.specs.State.{IsAt, delivered}
 use Rattle.schedule.proofs.Places.{first_get}
 use Rattle.schedule.proofs.Staying.{runs_at, fixed_set}
-use Rattle.schedule.proofs.Tokens.{element_below}
 use Rattle.schedule.proofs.Memory.{ok_then, err_then, ok_or_err, held_at, received, unreceived}
 use Rattle.schedule.proofs.delivery.receive.Goals as goal
 

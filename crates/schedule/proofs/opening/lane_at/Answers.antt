@@ -1,4 +1,5 @@
 use Rattle.std.proofs.Common.{◌≡◌, refl, ◌∙◌, ap, subst, ℕ, ◌*◌, Some}
+use Rattle.std.proofs.lemmas.Result.{IfOk-weaker}
 use Rattle.semantics.specs.Program.{Program}
 use Rattle.element.specs.Held.{LaneView, fixed_of, IsSoundLane}
 use Rattle.element.specs.Openings.{opened, shape_at, StartsAs}
@@ -7,7 +8,7 @@ use Rattle.istructure.specs.OwnCells.{all_vacant}
 use Rattle.frame_manager.specs.Managed.{at_first}
 use Rattle.schedule.specs.State.{RunsAs}
 use Rattle.schedule.specs.Starts.{IsFresh, sized}
-use Rattle.schedule.proofs.Openings.{opening, fresh, ok_then, three_ok}
+use Rattle.schedule.proofs.Openings.{opening, fresh, three_ok}
 use Rattle.schedule.proofs.opening.lane_at.Goals as goal
 
 pub new-requires-2-clause-opening : goal.new-requires-2-clause-opening
@@ -42,7 +43,7 @@ returns-clause-runs g c =
     let b = c.args.bank in
     let z = shape_at c.args.element c.args.elements b in
     let view : LaneView = record { program = p; steps = c.args.steps; held = opened z (bank_states b) c.in_ok-cells.cells c.in_ok-manager.manager c.outputs.result } in
-    ok_then c.new-2.result (λ lane. lane ≡ view) (λ lane. RunsAs (sized p c.args.elements b.frames b.width c.args.steps) (fixed_of lane))
+    IfOk-weaker c.new-2.result (λ lane. lane ≡ view) (λ lane. RunsAs (sized p c.args.elements b.frames b.width c.args.steps) (fixed_of lane))
     (λ lane is. record {
       program = ap (λ (l : LaneView). l.program) is;
       steps = ap (λ (l : LaneView). l.steps) is;

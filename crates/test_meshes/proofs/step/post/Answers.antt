@@ -2,7 +2,8 @@ use Rattle.std.proofs.Common.{◌++◌, List, ap, sym, ◌∙◌, subst, refl}
 use Rattle.tags.specs.declared.token.Token.{Token}
 use Rattle.mesh.specs.Deeds.{created}
 use Rattle.mesh.specs.Seats.{SeatView, Has}
-use Rattle.test_meshes.proofs.Held.{same_created, has_first, has_rest}
+use Rattle.mesh.proofs.Deeds.{created_same}
+use Rattle.test_meshes.proofs.Held.{has_first, has_rest}
 use Rattle.test_meshes.proofs.step.post.Goals as goal
 
 pub post-requires-clause-held : goal.post-requires-clause-held
@@ -10,7 +11,7 @@ post-requires-clause-held g c = has_first _ _ _ c.requires.holds.2
 
 pub returns-in-Ok : goal.returns-in-Ok
 returns-in-Ok g c = let h = c.requires.holds in let e = c.in-Ok.ensures.ok in record {
-  element = (ap (λ (s : SeatView). s.own.element) e.2, same_created _ _ _ (created c.args.seat.now.own.deeds) (ap (λ (s : SeatView). s.own.deeds) e.2) refl refl);
+  element = (ap (λ (s : SeatView). s.own.element) e.2, created_same _ _ _ (created c.args.seat.now.own.deeds) (ap (λ (s : SeatView). s.own.deeds) e.2) refl refl);
   ok = (
     ap (λ (s : SeatView). s.mesh) e.2 ∙ h.0,
     ap (λ (s : SeatView). s.joined) e.2 ∙ h.1,
@@ -21,7 +22,7 @@ returns-in-Ok g c = let h = c.requires.holds in let e = c.in-Ok.ensures.ok in re
 
 pub returns-in-Err : goal.returns-in-Err
 returns-in-Err g c = let h = c.requires.holds in let e = c.in-Err.ensures.err in record {
-  element = (ap (λ (s : SeatView). s.own.element) e.1, same_created _ _ _ (created c.args.seat.now.own.deeds) (ap (λ (s : SeatView). s.own.deeds) e.1) refl refl);
+  element = (ap (λ (s : SeatView). s.own.element) e.1, created_same _ _ _ (created c.args.seat.now.own.deeds) (ap (λ (s : SeatView). s.own.deeds) e.1) refl refl);
   ok = tt;
   err = (
     e.0,

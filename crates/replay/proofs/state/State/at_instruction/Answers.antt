@@ -1,4 +1,5 @@
-use Rattle.std.proofs.Common.{◌∙◌, subst, ap, ℕ, Option, List}
+use Rattle.std.proofs.Common.{◌∙◌, refl, subst, ap, ℕ, Option, List}
+use Rattle.element.specs.Decoded.{instr_of}
 use Rattle.tags.specs.declared.token.Token.{Token}
 use Rattle.element.specs.Fired.{tokens_of, seat_of}
 use Rattle.replay.specs.Follows.{held_in, Sets}
@@ -12,7 +13,7 @@ returns-in_ok-set_in-in-Becomes-clause-follows g c s n made holds near token hap
     let slots = c.args.self.now.slots in
     let f = c.args.seat.frame in
     let ts : List Token = tokens_of (seat_of c.args.seat) c.fire.new.made in
-    let used = c.slot_used-slot.ensures in
+    let used = c.slot_in-slot.ensures (instr_of i) refl in
     let count = c.count_made-made.ensures (seat_of c.args.seat) in
     fired p c.args.self.now s holds near (g.C.Instructions.width c.args.code.now) f c.args.seat.ip c.args.port c.args.word i c.state_in-state.result c.in-Becomes.after
     ts c.set_in.new.self record { deed = c.deed_at.result; made = c.count_made-made.result } made n c.requires.narrow token.to token.word c.in-Some.ensures.short c.in-Some.ensures.exact

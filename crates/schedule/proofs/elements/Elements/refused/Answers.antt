@@ -1,7 +1,8 @@
 use Rattle.std.proofs.Common.{◌∙◌, refl, ◌<◌, length, drop, arith}
+use Rattle.lemmas.proofs.SliceGet.{get_some}
 use Rattle.element.specs.Held.{held_of, queued}
 use Rattle.schedule.specs.State.{state_of}
-use Rattle.schedule.proofs.Memory.{get_there, lane_count, seen_at}
+use Rattle.schedule.proofs.Memory.{lane_count, seen_at}
 use Rattle.schedule.proofs.Staying.{runs_at}
 use Rattle.schedule.specs.State.{RunsAs}
 use Rattle.schedule.proofs.Stepping.{is_idle, is_used_up, is_refused}
@@ -11,7 +12,7 @@ pub returns-then-not-has_token : goal.returns-then-not-has_token
 returns-then-not-has_token g c = λ pick.
     let s = state_of g.C.Instructions.program g.C.Instructions.width c.args.self.now in
     let low : c.args.element < length s.lanes = (let l = c.requires.element in let n = c.requires.well.sound.count in omega arith) in
-    let lane = get_there s.lanes c.args.element low in
+    let lane = get_some s.lanes c.args.element low in
     is_idle s s c.args.element pick lane.0 refl lane.1 (c.has_token.ensures.no c.if-not-has_token.true lane.0 lane.1)
 
 pub returns-then-is_spent : goal.returns-then-is_spent

@@ -1,11 +1,11 @@
 -- Lists in another order, by recursion on the list: for cancelling and for taking common parts out, which
 -- `IsPermutation` does not offer.
-use Rattle.std.proofs.Common.{◌≡◌, ℕ, zero, suc, ◌<◌, ◌⊎◌, List, [], ◌∷◌, ◌++◌, length, get_or, set, swap, IsPermutation, inl, inr, refl, sym, ap, ◌∙◌, subst, arith}
+use Rattle.std.proofs.Common.{◌≡◌, ℕ, zero, suc, ◌<◌, ◌⊎◌, List, [], ◌∷◌, ◌++◌, length, get_or, set, swap, IsPermutation, inl, inr, refl, sym, ap, ◌∙◌, subst, arith, Some, append_assoc, slice_get, subst₂}
 use Rattle.std.specs.Prelude.{⊤}
 use Rattle.std.proofs.lemmas.List.Elements.{Contains-append_left, Contains-append_right}
 use Rattle.std.proofs.Common.{⊎_elim, map, flat_map, length-set, get_or-set_same, get_or-set_other, Contains}
 use Rattle.std.proofs.lemmas.Bool.{cases_eq}
-use Rattle.std.proofs.lemmas.List.Sorted.{Contains-permutation, IsPermutation-refl, IsPermutation-cons, IsPermutation-trans, IsPermutation-sym, IsPermutation-middle, IsPermutation-keeps}
+use Rattle.std.proofs.lemmas.List.Sorted.{Contains-permutation, IsPermutation-refl, IsPermutation-cons, IsPermutation-trans, IsPermutation-sym, IsPermutation-middle, IsPermutation-keeps, IsPermutation-append_comm, IsPermutation-append_left, IsPermutation-append_right}
 
 -- ys is zs with x put in somewhere
 abbrev pub Put : {X : Type 0} → X → List X → List X → Type 0
@@ -102,7 +102,7 @@ perm_cancel_append (a ∷ as') xs ys p =
 
 -- TO AND FROM STD'S WORD
 
-put_IsPermutation : {X : Type 0} (x : X) (zs ys : List X) → Put x zs ys → IsPermutation (x ∷ zs) ys
+pub put_IsPermutation : {X : Type 0} (x : X) (zs ys : List X) → Put x zs ys → IsPermutation (x ∷ zs) ys
 put_IsPermutation x zs [] p = absurd p
 put_IsPermutation x zs (y ∷ ys) (inl p) = subst (λ l. IsPermutation (x ∷ l) (y ∷ ys)) (sym p.1) (subst (λ v. IsPermutation (v ∷ ys) (y ∷ ys)) (sym p.0) (IsPermutation-refl (y ∷ ys)))
 put_IsPermutation x zs (y ∷ ys) (inr p) =
@@ -303,3 +303,26 @@ pub within_flat_map : {X Y : Type 0} (f : X → List Y) (x : X) (u : Y) (xs : Li
 within_flat_map f x u [] h k = absurd h.1
 within_flat_map f x u (y ∷ xs) (zs, inl h) k = within_left u (f y) (flat_map f xs) (subst (λ y. Within u (f y)) h.0 k)
 within_flat_map f x u (y ∷ xs) (zs, inr h) k = within_right u (f y) (flat_map f xs) (within_flat_map f x u xs (h.0, h.2) k)
+
+-- PARTS THAT CHANGE PLACES
+pub permutation_same : {X : Type 0} (xs ys : List X) → xs ≡ ys → IsPermutation xs ys
+permutation_same xs ys e = subst (λ l. IsPermutation xs l) e (IsPermutation-refl xs)
+
+pub permutation_exchange : {X : Type 0} (xs ys zs : List X) → IsPermutation (xs ++ (ys ++ zs)) (ys ++ (xs ++ zs))
+permutation_exchange xs ys zs =
+    subst₂ (λ l r. IsPermutation l r) (append_assoc xs ys zs) (append_assoc ys xs zs) (IsPermutation-append_left zs (xs ++ ys) (ys ++ xs) (IsPermutation-append_comm xs ys))
+
+-- (xs ys) (zs ws) is (xs zs) (ys ws)
+pub permutation_crossed : {X : Type 0} (xs ys zs ws : List X) → IsPermutation ((xs ++ ys) ++ (zs ++ ws)) ((xs ++ zs) ++ (ys ++ ws))
+permutation_crossed xs ys zs ws =
+    subst₂ (λ l r. IsPermutation l r) (sym (append_assoc xs ys (zs ++ ws))) (sym (append_assoc xs zs (ys ++ ws))) (IsPermutation-append_right xs (ys ++ (zs ++ ws)) (zs ++ (ys ++ ws)) (permutation_exchange ys zs ws))
+
+-- one of a list, and the others
+pub one_out : {X : Type 0} (xs : List X) (x : X) → Contains xs x → (rest : List X) × IsPermutation xs (x ∷ rest)
+one_out xs x c = let (rest, put) = within_from x xs c in (rest, perm_to xs (x ∷ rest) (perm_add x xs (x ∷ rest) rest rest (perm_refl rest) put (put_first x rest)))
+
+-- what stands at a place is within
+pub get_within : {X : Type 0} (xs : List X) (i : ℕ) (x : X) → slice_get xs i ≡ Some x → Within x xs
+get_within [] i x e = cc
+get_within {X} (y ∷ xs) zero x e = let same : y ≡ x = cc in (xs, inl (sym same, refl))
+get_within (y ∷ xs) (suc i) x e = let h = get_within xs i x e in (y ∷ h.0, put_later x y h.0 xs h.1)

@@ -2,6 +2,7 @@
 use Rattle.std.proofs.Common.{◌≡◌, ℕ, ◌<◌, ◌≤◌, Bool, true, false, ◌&&◌, List, [], ◌∷◌, refl, sym, ap, ◌∙◌, inl, inr, ◌⊎◌, arith, true≢false, eqb-true, eq-eqb, ◌==◌, if◌then◌else◌}
 use Rattle.std.specs.Prelude.{Contains}
 use Rattle.std.proofs.lemmas.Bool.{and_parts, and_from}
+use Rattle.lemmas.proofs.Contains.{contains_cases, contains_head, contains_none, contains_tail}
 use Rattle.tags.specs.declared.token.Port.{Port}
 use Rattle.tags.specs.declared.token.Port.TheVariants.{Left, Right}
 use Rattle.semantics.specs.declared.graph.Region.{Region}
@@ -9,11 +10,10 @@ use Rattle.semantics.specs.declared.graph.Region.TheVariants.{Root, Arm}
 use Rattle.semantics.specs.Meaning.{Context, Main, Called, Turned}
 use Rattle.law_net.specs.Roles.{one, total}
 use Rattle.law_net.proofs.Parts.{one-cases}
-use Rattle.law_net.proofs.Members.{contains_head, contains_tail, contains_cases, contains_none}
 use Rattle.law_contexts.specs.Parts.{Part, Entry, Line, Answer, Trigger, Gate, Merge, Opener, Framer, Fanned, Linker, Sender, Landing, CallDone, Giver, Taker, Drainer, LoopDone, Strict, Result, TurnCont, TurnFlag, TurnValue, Asker, NextFramer, NextFanned, NextSender, LastReturn, DrainReturn, Join, CondEnd, End, Asked, NextAsked, Held, Drained, Shown, Done, Freed, Inlet, Item, Key, region_key, part_key, same_key, same_part, same_port, same_inlet, same_context, Spot, spot_of, same_spot}
 
 -- PARTS, by their keys: the numbers tell all but a join's region
-region_apart : (r s : Region) → region_key r ≡ region_key s → r ≡ s
+pub region_apart : (r s : Region) → region_key r ≡ region_key s → r ≡ s
 region_apart Root Root e = refl
 region_apart Root (Arm m true) e = absurd (omega (arith, e))
 region_apart Root (Arm m false) e = absurd (omega (arith, e))

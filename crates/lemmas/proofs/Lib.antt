@@ -1,0 +1,9 @@
+pub mod Permutations
+pub mod Alls
+pub mod Contains
+pub mod SliceGet
+pub mod Bools
+pub mod Integers
+pub mod Lists
+pub mod Options
+pub mod Sums
