@@ -1,8 +1,7 @@
 //! One case: command lines with one input.
 
-use commands::serving::serve;
-use hints::{KeepingReader, KeepingWriter, explain};
-use rounds::Open;
+use hints::explain;
+use process::run_process;
 use std::alloc::{AllocError, Global};
 use std::io::{self, Write};
 use std::str;
@@ -86,42 +85,42 @@ impl Case {
         Ok(())
     }
 
-    /// Runs a command line, and writes what was told of it.
+    /// Writes the line of the output that tells what happened, and what explains it.
+    fn show<W: Write>(&self, output: &[u8], hint: &[u8], out: &mut W) -> io::Result<()> {
+        out.write_all(telling_line(output))?;
+        out.write_all(b"\n")?;
+        out.write_all(if hint.is_empty() { b"no hint\n" } else { hint })
+    }
+
+    /// Explains the output that the table gives, and writes what was told of it.
+    fn explain_given<W: Write>(&self, words: &[&str], out: &mut W) -> io::Result<()> {
+        let input = Some(self.input.as_slice());
+        let output = self.output.as_slice();
+        let mut hint = Vec::new(self.alloc);
+        if let Some(lines) = explain(self.alloc, words, input, output)? {
+            lines.write(&mut hint)?;
+        }
+        self.show(output, &hint, out)
+    }
+
+    /// Runs a command line, and writes what was told of it. Gives the exit status, if it was run.
     fn tell<R: Threads + Wait + Sync, W: Write>(
         &self,
         rt: &R,
         line: &[u8],
         out: &mut W,
-    ) -> io::Result<()> {
+    ) -> io::Result<Option<u8>> {
         let words = words_of(self.alloc, line)?;
-        let words = words.as_slice();
-        let mut reader = KeepingReader::new(self.alloc, self.input.as_slice());
-        let mut writer = KeepingWriter::new(self.alloc, Vec::new(self.alloc));
-        if self.output.is_empty() {
-            serve(
-                words,
-                &mut reader,
-                &mut writer,
-                self.alloc,
-                self.alloc,
-                rt,
-                &Open,
-            );
-        } else {
-            writer.write_all(&self.output)?;
+        if !self.output.is_empty() {
+            self.explain_given(&words, out)?;
+            return Ok(None);
         }
-        let output = writer.kept().unwrap_or(b"");
-        out.write_all(telling_line(output))?;
-        out.write_all(b"\n")?;
-        let hint = if self.output.is_empty() {
-            explain(self.alloc, words, reader.kept(), output)?
-        } else {
-            explain(self.alloc, words, Some(self.input.as_slice()), output)?
-        };
-        match hint {
-            Some(hint) => hint.write(out),
-            None => out.write_all(b"no hint\n"),
-        }
+        let mut errors = Vec::new(self.alloc);
+        let output = Vec::new(self.alloc);
+        let input = self.input.as_slice();
+        let ended = run_process(&words, input, output, &mut errors, self.alloc, rt)?;
+        self.show(&ended.writer, &errors, out)?;
+        Ok(Some(ended.status))
     }
 
     /// Runs each command line of the case, and writes what was told: once for all that follow one another and are told the
@@ -138,7 +137,7 @@ impl Case {
         };
         for line in lines.split(|byte| *byte == b'\n') {
             let mut text = Vec::new(self.alloc);
-            self.tell(rt, line, &mut text)?;
+            let status = self.tell(rt, line, &mut text)?;
             if told.is_empty() {
                 out.write_all(b"$ ")?;
             } else if told == text {
@@ -148,6 +147,9 @@ impl Case {
                 out.write_all(b"\n$ ")?;
             }
             out.write_all(line)?;
+            if let Some(status) = status {
+                write!(out, ": {status}")?;
+            }
             out.write_all(b"\n")?;
             told = text;
         }

@@ -1,0 +1,24 @@
+use Rattle.std.proofs.Common.{◌≡◌, ℕ, List, [], map, drop, ap, sym, ◌∙◌}
+use Rattle.std.specs.Prelude.{Option}
+use Rattle.std.specs.Io.KnownBytes.{append_known}
+use Rattle.process.proofs.Explained.{answers_of, reads_of, writes_of, explained_run}
+use Rattle.process.proofs.Flushed.{nothing_more}
+use Rattle.process.proofs.run_from.Goals as goal
+
+-- the bytes of a new buffered writer are those of the writer inside
+begins : (known held : Option (List ℕ)) (buffer : List ℕ) → known ≡ held → buffer ≡ [] → append_known known buffer ≡ held
+begins known held buffer same empty = ap (λ b. append_known known b) empty ∙ (nothing_more known ∙ same)
+
+pub returns : goal.returns
+returns g c =
+    let read = ap g.I.Read.remaining c.new-reader.ensures in
+    let left = ap g.I.Read.remaining (sym c.into_inner.ensures) in
+    let before = begins _ _ _ (ap (λ w. g.W.Write.contents w.inner) c.in_ok-writer.ensures.inner ∙ ap g.W.Write.contents c.new-writer.ensures) c.in_ok-writer.ensures.empty in
+    let after = ap g.W.Write.contents (sym c.into_inner-2.ensures) in
+    let answered = ap (λ w. g.W.Write.contents w.inner) (sym c.into_parts-writer.ensures.inner) ∙ after in
+    record {
+      answers = answers_of _ _ _ _ _ _ _ _ read before answered c.answer-status.ensures;
+      explains =
+          explained_run g.X.Explain.tells (map g.S.AsStr.text (drop 1 c.args.words.now)) _ _ _ _ _ (reads_of (λ i. i.now) _ _ _ _ _ c.requires.remaining left c.kept-input.ensures)
+          _ (g.E.Write.contents c.args.errors.now) (g.E.Write.contents c.tell-told.new.errors) _ (writes_of (λ o. o.now) _ _ _ _ _ c.requires.contents after c.kept-output.ensures) c.tell-told.ensures;
+    }

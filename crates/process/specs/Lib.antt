@@ -1,0 +1,3 @@
+pub mod Hinted
+pub mod Told
+pub mod Process

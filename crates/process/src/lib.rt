@@ -1,0 +1,122 @@
+//! The process: what the program does with its words and with its three streams. It serves the words, hands on what the buffer of
+//! standard output holds, and then tells on standard error what explains the run, if anything does.
+#![tactic(auto)]
+
+mod answering;
+mod explaining;
+mod telling;
+
+ghost use Rattle.std.specs.Prelude.{◌≡◌, IfErr, MatchResult, drop, map};
+ghost use Rattle.std.specs.Io.KnownBytes.{Keeps};
+ghost use Rattle.std.specs.IoError.{error_kind};
+ghost use Rattle.std.specs.declared.io.ErrorKind.{ErrorKind};
+ghost use Rattle.process.specs.Process.{Ends};
+ghost use Rattle.process.specs.Hinted.{tells_hint};
+
+use answering::answer;
+pub use explaining::{Explain, Hints};
+use keeping::{KeepingReader, KeepingWriter, Start};
+use std::alloc::Global;
+use std::convert::AsStr;
+use std::io::{self, BufWriter, Read, Write};
+use std::marker::Brand;
+use std::sync::Wait;
+use std::thread::Threads;
+pub use telling::Told;
+use telling::tell;
+
+/// What a process leaves.
+#[derive(Drop)]
+pub struct Ended<I, W> {
+    /// The exit status.
+    pub status: u8,
+    /// What was told on standard error.
+    pub told: Told,
+    /// Standard input, with what was not read.
+    pub reader: I,
+    /// Standard output, with all that was written.
+    pub writer: W,
+}
+
+/// Runs the process. Keeping begins with this reader and this writer.
+fn run_from<
+    B: Start,
+    X: Explain,
+    S: AsStr,
+    I: Read + Drop,
+    W: Write + Drop,
+    E: Write,
+    R: Threads + Wait + Sync,
+>(
+    words: &[S],
+    reader: I,
+    writer: W,
+    errors: &mut E,
+    explainer: &X,
+    alloc: Global,
+    rt: &R,
+) -> io::Result<Ended<I, W>>
+    requires remaining { B.remaining ≡ I.remaining reader }
+    requires contents { B.contents ≡ W.contents writer }
+    ensures { MatchResult result
+        (λ e. Ends X.tells (map S.text (drop 1 words.now)) (I.remaining reader) (I.remaining e.reader) (W.contents writer) (W.contents e.writer) (E.contents errors.old) (E.contents errors.new) e.status e.told)
+        (λ e. (error_kind e ≡ ErrorKind.OutOfMemory) × Keeps (E.contents errors.old) (E.contents errors.new)) }
+{
+    let mut reader: KeepingReader<I, Global, B> = KeepingReader::new(alloc, reader);
+    let writer: KeepingWriter<W, Global, B> = KeepingWriter::new(alloc, writer);
+    let mut writer = BufWriter::new(alloc, writer)?;
+    let status = answer(words, &mut reader, &mut writer, alloc, rt);
+    let (writer, _unwritten) = writer.into_parts();
+    let input = reader.kept();
+    let output = writer.kept();
+    let told = tell(explainer, alloc, words, input, output, errors);
+    Ok(Ended {
+        status,
+        told,
+        reader: reader.into_inner(),
+        writer: writer.into_inner(),
+    })
+}
+
+/// Runs the process, and lets `explainer` explain the run. `words` are the words of the command line, the program's name first.
+/// An `Err` says that memory for the buffer of standard output was refused: nothing was read, written or told.
+pub fn run_explained<
+    X: Explain,
+    S: AsStr,
+    I: Read + Drop,
+    W: Write + Drop,
+    E: Write,
+    R: Threads + Wait + Sync,
+>(
+    words: &[S],
+    reader: I,
+    writer: W,
+    errors: &mut E,
+    explainer: &X,
+    alloc: Global,
+    rt: &R,
+) -> io::Result<Ended<I, W>>
+    ensures { MatchResult result
+        (λ e. Ends X.tells (map S.text (drop 1 words.now)) (I.remaining reader) (I.remaining e.reader) (W.contents writer) (W.contents e.writer) (E.contents errors.old) (E.contents errors.new) e.status e.told)
+        (λ e. (error_kind e ≡ ErrorKind.OutOfMemory) × Keeps (E.contents errors.old) (E.contents errors.new)) }
+{
+    run_from::<Brand, X, S, I, W, E, R>(words, reader, writer, errors, explainer, alloc, rt)
+}
+
+/// Runs the process: `words` are the words of the command line, the program's name first, and the others are standard input,
+/// standard output and standard error. A hint that cannot be made or written changes neither the status nor standard output. An
+/// `Err` says that memory for the buffer of standard output was refused: nothing was read, written or told.
+pub fn run_process<S: AsStr, I: Read + Drop, W: Write + Drop, E: Write, R: Threads + Wait + Sync>(
+    words: &[S],
+    reader: I,
+    writer: W,
+    errors: &mut E,
+    alloc: Global,
+    rt: &R,
+) -> io::Result<Ended<I, W>>
+    ensures { MatchResult result
+        (λ e. Ends tells_hint (map S.text (drop 1 words.now)) (I.remaining reader) (I.remaining e.reader) (W.contents writer) (W.contents e.writer) (E.contents errors.old) (E.contents errors.new) e.status e.told)
+        (λ e. (error_kind e ≡ ErrorKind.OutOfMemory) × Keeps (E.contents errors.old) (E.contents errors.new)) }
+{
+    run_explained(words, reader, writer, errors, &Hints, alloc, rt)
+}
