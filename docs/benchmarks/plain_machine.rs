@@ -5,7 +5,7 @@
 //! of crates/bench_events, where none is given. An object is taken to be sound. With LOOK each element runs in a thread of its own, and looks
 //! at its boxes each time it has made that number of events.
 
-#[path = "../../crates/test_objects/src/objects.rt"]
+#[path = "../../crates/test_inputs/src/objects.rt"]
 #[allow(dead_code)]
 mod objects;
 

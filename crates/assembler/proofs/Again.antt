@@ -14,7 +14,6 @@ use Rattle.tags.specs.declared.value.Origin.TheVariants.{Untold, At}
 use Rattle.operators.specs.declared.Unary.{Unary}
 use Rattle.operators.specs.declared.Unary.TheVariants.{Neg, Not}
 use Rattle.operators.specs.declared.Binary.{Binary}
-use Rattle.operators.specs.declared.Binary.TheVariants.{Add, Sub, Mul, Div, Rem, And, Or, Xor, Shl, Shr, Eq, Ne, Lt, Le}
 use Rattle.semantics.specs.declared.program.Dest.{Dest}
 use Rattle.semantics.specs.declared.program.Op.{Op}
 use Rattle.semantics.specs.declared.program.Op.TheVariants as ops
@@ -182,7 +181,6 @@ slot_again b i (ops.Drain k) few h = used_again i.slot (omega arith)
 slot_again b i (ops.Release o) few h = used_again i.slot (omega arith)
 
 -- ---- destinations
-
 abbrev made_dest : ℕ → Port → Dest
 made_dest n port = record { ahead = n; port = port }
 

@@ -126,7 +126,7 @@ abbrev Fits : Bool → Code → Type 0
 Fits true c = 0 < length c.literals
 Fits false c = c.literals ≡ table_of c.program.blocks
 
-version_few : (v : ℕ) → (v ≡ 1) ⊎ (v ≡ 2) → v < 2 ^ 32
+pub version_few : (v : ℕ) → (v ≡ 1) ⊎ (v ≡ 2) → v < 2 ^ 32
 version_few v (inl e) = omega (arith, e)
 version_few v (inr e) = omega (arith, e)
 

@@ -1,6 +1,6 @@
 -- What is written of a code that has an object falls into the lines of this code.
-use Rattle.std.proofs.Common.{◌≡◌, ℕ, ◌+◌, ◌^◌, ◌<◌, ◌≤◌, not, eqb, leb, Bool, true, false, List, [], ◌∷◌, ◌++◌, length, All, Option, Some, None, ℤ, pos, negsuc, refl, sym, ap, subst, ◌∙◌, append_assoc, arith, inl, inr}
-use Rattle.std.specs.Prelude.{codes, ◌⊎◌, nat_lt}
+use Rattle.std.proofs.Common.{◌≡◌, ℕ, ◌+◌, ◌^◌, ◌<◌, ◌≤◌, not, eqb, leb, Bool, true, false, List, [], ◌∷◌, ◌++◌, length, All, Option, Some, None, ℤ, pos, negsuc, refl, sym, ap, subst, ◌∙◌, append_assoc, arith}
+use Rattle.std.specs.Prelude.{codes, nat_lt}
 use Rattle.std.specs.Int.{w64}
 use Rattle.std.specs.Int.RustNames.{FitsSigned}
 use Rattle.std.specs.Fmt.{decimal}
@@ -40,6 +40,7 @@ use Rattle.assembler.proofs.LinesAgain.{HasLine}
 use Rattle.assembler.proofs.StepsAgain.{HasNumbers, HasLines}
 use Rattle.assembler.proofs.Room.{all_lines, all_lengths}
 use Rattle.assembler.proofs.Told.{is_word_byte, IsWord, Says, says_word, says_field, says_right, says_left, says_pair, Tells, tells_none, tells_line, tells_both, told}
+use Rattle.assembler.proofs.CodeAgain.{version_few}
 
 -- ---- which bytes are words
 digit_word : (b : ℕ) → is_ascii_digit b ≡ true → is_word_byte b ≡ true
@@ -221,10 +222,6 @@ tells_blocks n (b ∷ bs) few all =
 
 tells_table : (v : ℕ) (c : Code) → IsCode v c → Tells (numbered literal_line 0 c.literals) (table_lines true c.literals)
 tells_table v c is = tells_all (λ (z : ℤ). FitsSigned w64 z) literal_line literal_words 0 c.literals tells_literal (let few = is.few_literals in omega arith) is.literals
-
-version_few : (v : ℕ) → (v ≡ 1) ⊎ (v ≡ 2) → v < 2 ^ 32
-version_few v (inl e) = omega (arith, e)
-version_few v (inr e) = omega (arith, e)
 
 abbrev head_and_blocks : ℕ → Code → Lines
 head_and_blocks v c = head_words v c.program.main ∷ block_lines 0 c.program.blocks

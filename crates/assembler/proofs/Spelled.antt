@@ -33,7 +33,6 @@ use Rattle.semantics.specs.Opcodes as Opcodes
 use Rattle.assembler.specs.Fields.{then_some, tagged, below, small_of, wide_of, small_behind, wide_behind, literal_behind, side_behind, no_operand, sided, binary_from, pair_of, entry_parts, entry_of, entry_behind, op_of, slot_from, dest_to, dest_parts, dest_behind, dest_of, node_of, place_of, place_parts, place_in, origin_of}
 
 -- ---- small parts
-
 pub then_is : {A B : Type 0} (o : Option A) (f : A → Option B) (y : B) → then_some o f ≡ Some y → (x : A) × (o ≡ Some x) × (f x ≡ Some y)
 then_is None f y e = absurd cc
 then_is (Some x) f y e = (x, refl, e)
@@ -228,7 +227,6 @@ pub slot_is : (i : Instr) (w : List ℕ) → slot_from (uses_slot i.op) w ≡ So
 slot_is i w e = slot_at i.op i w e
 
 -- ---- destinations
-
 abbrev tail_text : List Dest → List ℕ
 tail_text [] = []
 tail_text (d ∷ ds) = decimal d.ahead ++ port_letter d.port

@@ -10,7 +10,7 @@ use schedule::machine::Machine;
 use schedule::report::Report;
 use std::alloc::Allocator;
 use std::io;
-use test_objects::LOOP;
+use test_inputs::objects::LOOP;
 
 const ONE_ELEMENT: Config = Config {
     elements: 1,

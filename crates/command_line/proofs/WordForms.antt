@@ -77,7 +77,6 @@ pub parts_at-without : (c : ℕ) (text : List ℕ) → Lacks c text → parts_at
 parts_at-without c text h = rw (before_first-Lacks c text h, list_any-Lacks c text h)
 
 -- NUMBERS
-
 digits_from : (ds : List ℕ) → list_all (λ d. nat_lt (digit_value d) 10) ds ≡ true → AllDigits 10 ds
 digits_from [] e = tt
 digits_from (d ∷ ds) e = let parts = and_parts _ _ e in (ltb-true _ _ parts.0, digits_from ds parts.1)

@@ -1,23 +1,21 @@
 -- The code of a graph has as many outputs as its main.
 use Rattle.std.proofs.Common.{◌≡◌, ℕ, zero, suc, ◌+◌, ◌<◌, Bool, true, false, List, [], ◌∷◌, ◌++◌, length, map, refl, sym, subst, ◌∙◌, arith, append_assoc, append-nil, if◌then◌else◌, length-append}
 use Rattle.std.specs.Prelude.{slice_get, ⊤}
-use Rattle.std.proofs.lemmas.List.{length-map}
-use Rattle.std.proofs.lemmas.Option.{slice_get_within}
-use Rattle.lemmas.proofs.Contains.{contains_get}
-use Rattle.semantics.specs.Graph.{Graph, Block, Flow, flow_of, place_of, block_names, array_names, resolved_block}
+use Rattle.semantics.specs.Graph.{Graph, Block, Flow, flow_of}
 use Rattle.semantics.specs.WellFormed.{WellFormed}
 use Rattle.semantics.specs.Program.{CodeBlock}
 use Rattle.semantics.specs.Plan.{Plan}
 use Rattle.semantics.specs.Placed.{placed_blocks}
 use Rattle.semantics.specs.Machine.{results_in, outputs_of}
-use Rattle.law_determinacy.proofs.Resolved.{place_get}
 use Rattle.expansion.specs.Variants.{some_block_loops, variants_of}
 use Rattle.expansion.specs.Blocks.{Coded}
 use Rattle.expansion.specs.Expanded.{Codes, with_code, no_codes, plain_code, variant_code, plain_codes, variant_codes, expanded}
 use Rattle.folding.specs.Folded.{folded, folded_block}
 use Rattle.fanout.specs.Narrowed.{narrowed_block}
 use Rattle.select.specs.Emitted.{emitted_block}
+use Rattle.law_expansion.proofs.ArcsCodes.{plain_outputs}
 use Rattle.law_composition.specs.Graphs.{plan_of}
+use Rattle.law_composition.proofs.AnyGraph.{main_there}
 use Rattle.driver.specs.Compiled.{outputs_in, flow_outputs}
 
 -- the first code blocks have the outputs of these blocks
@@ -38,10 +36,6 @@ behind cs [] c h = tt
 behind [] (g ∷ gs) c h = absurd h
 behind (x ∷ cs) (g ∷ gs) c h = (h.0, behind cs gs c h.1)
 
-same_plain : (v : ℕ) (bs : List (Block ℕ)) (vars : List ℕ) (n : ℕ) (b : Block ℕ) → (plain_code v bs vars n b).code.outputs ≡ b.outputs
-unfolding plain_code
-same_plain v bs vars n b = refl
-
 plains : (cs : Codes) (gs : List (Block ℕ)) (v : ℕ) (bs : List (Block ℕ)) (vars : List ℕ) (n : ℕ) (rest : List (Block ℕ)) → length cs.blocks ≡ length gs
     → SameOutputs cs.blocks gs → SameOutputs (plain_codes cs v bs vars n rest).blocks (gs ++ rest)
 plains cs gs v bs vars n [] e h = subst (SameOutputs cs.blocks) (sym (append-nil gs)) h
@@ -50,7 +44,7 @@ plains cs gs v bs vars n (b ∷ rest) e h =
     let l = length-append cs.blocks (x.code ∷ []) in
     let m = length-append gs (b ∷ []) in
     subst (SameOutputs (plain_codes (with_code cs x) v bs vars (n + 1) rest).blocks) (append_assoc gs (b ∷ []) rest)
-    (plains (with_code cs x) (gs ++ b ∷ []) v bs vars (n + 1) rest (omega (arith, e, l, m)) (push cs.blocks gs x.code b e h (same_plain v bs vars n b)))
+    (plains (with_code cs x) (gs ++ b ∷ []) v bs vars (n + 1) rest (omega (arith, e, l, m)) (push cs.blocks gs x.code b e h (plain_outputs v bs vars n b)))
 
 variants : (cs : Codes) (gs : List (Block ℕ)) (v : ℕ) (bs : List (Block ℕ)) (vars : List ℕ) (n : ℕ) (rest : List (Block ℕ))
     → SameOutputs cs.blocks gs → SameOutputs (variant_codes cs v bs vars n rest).blocks gs
@@ -80,14 +74,6 @@ kept : (f : CodeBlock → CodeBlock) → ((c : CodeBlock) → (f c).outputs ≡ 
 kept f same [] k = refl
 kept f same (c ∷ cs) zero = same c
 kept f same (c ∷ cs) (suc k) = kept f same cs k
-
-main_there : (g : Graph) → WellFormed g → (flow_of g).main < length (flow_of g).blocks
-main_there g well =
-    let k = contains_get (block_names g) g.main well.main in
-    let l = slice_get_within (block_names g) (place_of g.main (block_names g)) g.main (place_get g.main (block_names g) k.0 k.1) in
-    let m = length-map g.blocks (λ (b : List ℕ × Block (List ℕ)). b.0) in
-    let n = length-map g.blocks (λ (b : List ℕ × Block (List ℕ)). resolved_block (array_names g) (block_names g) b.1) in
-    omega (arith, l, m, n)
 
 pub plan_outputs : (g : Graph) → WellFormed g → outputs_of (plan_of g).program ≡ flow_outputs (flow_of g)
 plan_outputs g well =

@@ -1,10 +1,8 @@
 -- Events in any machine of which the part is the element's.
-use Rattle.std.proofs.Common.{◌≡◌, refl, sym, ◌∙◌, ap, subst, ℕ, ◌+◌, ◌*◌, ◌/◌, ◌%◌, ◌<◌, ◌≤◌, Bool, true, false, List, [], ◌∷◌, ◌++◌, length, get_or, set, Option, Some, None, Ok, inl, inr, arith, length-set, ⊎_elim}
+use Rattle.std.proofs.Common.{◌≡◌, refl, sym, ◌∙◌, ap, subst, ℕ, ◌+◌, ◌*◌, ◌/◌, ◌%◌, ◌<◌, ◌≤◌, Bool, true, false, List, [], ◌∷◌, ◌++◌, length, get_or, set, Option, Some, None, Ok, inl, inr, arith, length-set}
 use Rattle.std.specs.Prelude.{All, slice_get, option_and_then}
-use Rattle.std.proofs.lemmas.List.{get_or_past}
 use Rattle.std.proofs.lemmas.Option.{same_Some, get_or_from_slice_get, slice_get_within}
 use Rattle.std.proofs.lemmas.List.Elements.{All-nil, All-map, All-set, All-push, All-head, All-tail}
-use Rattle.std.proofs.lemmas.Bool.{cases_lt}
 use Rattle.tags.specs.declared.value.Value.{Value}
 use Rattle.tags.specs.declared.token.Port.{Port}
 use Rattle.tags.specs.declared.token.Cont.{Cont}
@@ -21,7 +19,6 @@ use Rattle.istructure.specs.declared.StoreAnswer.{StoreAnswer}
 use Rattle.istructure.specs.OwnCells.{OwnCells, place_of, with_cell_at, waiting_in, waiting_at}
 use Rattle.istructure.specs.Answered.{FetchedAt, StoredAt}
 use Rattle.istructure.specs.Holds.{fetch_tokens, IsFetchAnswer, FetchIsEvent, StoreIsEvent}
-use Rattle.frame_manager.specs.Flags.{flag_at}
 use Rattle.frame_manager.specs.Answered.{Requested, Released, HoldsFrames, RequestIsEvent, ReleaseIsEvent, request_tokens, release_tokens}
 use Rattle.element.specs.declared.contents.host.HostChange.{HostChange}
 use Rattle.element.specs.declared.contents.host.HostChange.TheVariants.{Output, Done}
@@ -30,6 +27,7 @@ use Rattle.element.specs.Parts.{Part, Manages, IsPart, IsSoundManager, SameElsew
 use Rattle.element.specs.Changed.{state_in, with_state_in, with_cells, with_manager, IsRequested, IsReleased, IsHostChange, filled, with_output as part_output, with_done as part_done}
 use Rattle.element.specs.Acts.{Changes, ServesFirst}
 use Rattle.frame_manager.specs.Managed.{Managed}
+use Rattle.frame_manager.proofs.Counts.{flag_inside}
 use Rattle.element.proofs.Only.{fetch_only, store_only, request_only, release_only, manages_as, part_with_cells, cells_elsewhere, part_with_manager, frames_elsewhere}
 use Rattle.element.proofs.Nearness.{back_near, one_near}
 use Rattle.element.proofs.Places.{set_at, slot_then, agree}
@@ -262,14 +260,11 @@ request_changes p h t c m n given sound to_is word_is near zero has r event = re
     after : (length n.out ≡ b.frames) × All (IsNearCont b) n.requests × All (IsNearToken b) (request_tokens c given)
     after = requested_sound b m n c given manager.0 manager.1 (word_near b t c near word_is) r
 
-out_there : (flags : List Bool) (f : ℕ) → flag_at flags f ≡ true → f < length flags
-out_there flags f e = ⊎_elim (λ (l : f < length flags). l) (λ (l : length flags ≤ f). absurd (let past : flag_at flags f ≡ false = get_or_past flags f false l in let bad : ⊥ = cc in bad)) (cases_lt f (length flags))
-
 released_sound : (b : Bounds) (m n : Managed) (f : ℕ) (given : Option (Cont × ℕ)) → length m.out ≡ b.frames → All (IsNearCont b) m.requests → Released m f (Ok given) n
     → (length n.out ≡ b.frames) × All (IsNearCont b) n.requests × All (IsNearToken b) (release_tokens given)
 released_sound b m n f (Some g) len all r =
     let whole : All (IsNearCont b) (g.0 ∷ n.requests) = subst (λ (cs : List Cont). All (IsNearCont b) cs) r.2 all in
-    let there : f < b.frames = subst (λ (k : ℕ). f < k) len (out_there m.out f r.0) in (
+    let there : f < b.frames = subst (λ (k : ℕ). f < k) len (flag_inside m.out f r.0) in (
       ap (λ (k : List Bool). length k) r.3 ∙ len,
       All-tail (IsNearCont b) g.0 n.requests whole,
       one_near b (back_to g.0) (Word.Frame g.1) (back_near b g.0 (All-head (IsNearCont b) g.0 n.requests whole)) (subst (λ (k : ℕ). k < b.frames) (sym r.1) there),

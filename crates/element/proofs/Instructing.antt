@@ -77,7 +77,7 @@ landing_near b f ip None l m n = (l, omega arith)
 landing_near b f ip (Some d) l m n = (l, omega arith)
 
 -- a place in an array is a cell
-cell_there : (arrays : List ℕ) (a x : ℕ) → x < slice_index_or arrays a 0 → sum (take a arrays) + x < sum arrays
+pub cell_there : (arrays : List ℕ) (a x : ℕ) → x < slice_index_or arrays a 0 → sum (take a arrays) + x < sum arrays
 cell_there arrays a x l = ⊎_elim
     (λ (low : a < length arrays). let whole = sum_by-take-drop (λ (n : ℕ). n) arrays a in let rest = sum_by-drop_more (λ (n : ℕ). n) arrays a 0 low in grind (arith, common_steps, whole, rest, l))
     (λ (past : length arrays ≤ a). absurd (let none = get_or_past arrays a 0 past in omega arith))

@@ -18,8 +18,9 @@ use Rattle.folding.specs.Places.{layout_of, folds_at}
 use Rattle.folding.specs.Laws.{dests_of, TakesLiteral}
 use Rattle.folding.proofs.Naming.{knows_namers}
 use Rattle.folding.proofs.Taken.{folds_on_right, folds_on_left}
-use Rattle.folding.proofs.Sole.{this_one, number_of}
+use Rattle.folding.proofs.Sole.{this_one}
 use Rattle.std.proofs.lemmas.Option.{slice_get_within}
+use Rattle.folding.proofs.Named.{same_number}
 
 -- the port of the operand that is in the code, and the operand
 abbrev port_in : Fold → Port
@@ -124,7 +125,7 @@ module _ (p : Plan) (c : CodeBlock) where
       by q z e T =
           let l = slice_get_within c.instrs (k + d.ahead) T.operator.0 T.operator.2 in
           let named = knows_namers p c k x i s d at there l in
-          let same : k ≡ T.lit = number_of k T.lit s T.lit_side (this_one k T.lit s T.lit_side (namer_of (namers_of p c) (k + d.ahead) d.port) named (ap (namer_of (namers_of p c) (k + d.ahead)) e ∙ T.alone)) in
+          let same : k ≡ T.lit = same_number k T.lit s T.lit_side (this_one k T.lit s T.lit_side (namer_of (namers_of p c) (k + d.ahead) d.port) named (ap (namer_of (namers_of p c) (k + d.ahead)) e ∙ T.alone)) in
           some_op i T.literal.0 (sym at ∙ ap (slice_get c.instrs) same ∙ T.literal.1) ∙ T.literal.2
 
       go : (f : Fold) (q : Port) → folds_at (layout_of p c) (k + d.ahead) ≡ f → d.port ≡ q → is_closed f q ≡ true → (i.op ≡ Lit (value_at (k + d.ahead))) × (d.port ≡ port_at (k + d.ahead))

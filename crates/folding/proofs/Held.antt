@@ -73,7 +73,7 @@ left_is (false ∷ gs) = let e = left_is gs in omega (arith, e)
 before_within : (gs : List Bool) (h : ℕ) → h < length gs → slice_index_or gs h false ≡ false → before gs h < left_of gs
 before_within gs h l stay = let e = left_is gs in let k = before_grows gs h (length gs) l l stay in omega (arith, e, k)
 
-before_apart : (gs : List Bool) (g h : ℕ) → g < length gs → h < length gs → slice_index_or gs g false ≡ false → slice_index_or gs h false ≡ false → before gs g ≡ before gs h → g ≡ h
+pub before_apart : (gs : List Bool) (g h : ℕ) → g < length gs → h < length gs → slice_index_or gs g false ≡ false → slice_index_or gs h false ≡ false → before gs g ≡ before gs h → g ≡ h
 before_apart gs g h a b s t e = pick (cases_lt g h) (cases_lt h g)
   where
     pick : (g < h) ⊎ (h ≤ g) → (h < g) ⊎ (g ≤ h) → g ≡ h

@@ -78,10 +78,10 @@ link_back p ns n i (Link b) m Left a t e = landings_back ns.lefts n (landing p b
 link_back p ns n i (Link b) m Right a t e = e
 link_back p ns n i op m q a t e = e
 
-same_number : (n a : ℕ) (s t : Bool) → One n s ≡ One a t → n ≡ a
+pub same_number : (n a : ℕ) (s t : Bool) → One n s ≡ One a t → n ≡ a
 same_number n a s t e = cc
 
-same_list : (n a : ℕ) (s t : Bool) → One n s ≡ One a t → s ≡ t
+pub same_list : (n a : ℕ) (s t : Bool) → One n s ≡ One a t → s ≡ t
 same_list n a s t e = cc
 
 -- the n-th instruction names a port by the first or by the second destinations

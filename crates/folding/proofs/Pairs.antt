@@ -20,9 +20,10 @@ use Rattle.folding.specs.Places.{layout_of, folds_at}
 use Rattle.folding.specs.Laws.{dests_of, NamedBy, other_port, TakesLiteral, SparesLiterals}
 use Rattle.folding.proofs.Naming.{knows_namers}
 use Rattle.folding.proofs.Taken.{folds_on_right, folds_on_left}
-use Rattle.folding.proofs.Sole.{this_one, number_of, list_of}
+use Rattle.folding.proofs.Sole.{this_one}
 use Rattle.folding.proofs.Perms.{one, is_one, cnt, cnt_join, by_counts}
 use Rattle.folding.proofs.NamedOnce.{names, named, named_by, named_once}
+use Rattle.folding.proofs.Named.{same_list, same_number}
 
 abbrev same_bool : Bool → Bool → Bool
 same_bool true t = t
@@ -141,8 +142,8 @@ module _ (p : Plan) (c : CodeBlock) where
           go o false false e f = ap (λ (t : Bool). named T.lit x qc (dests_of j t)) (e ∙ sym f) ∙ alone
           go (inl none) true false e f = none
           go (inl none) false true e f = none
-          go (inr some) true false e f = absurd (true≢false (sym e ∙ list_of T.lit T.lit s T.lit_side (its_list x qc T.lit T.lit T.lit_side s j at T.alone some) ∙ f))
-          go (inr some) false true e f = absurd (true≢false (sym f ∙ sym (list_of T.lit T.lit s T.lit_side (its_list x qc T.lit T.lit T.lit_side s j at T.alone some)) ∙ e))
+          go (inr some) true false e f = absurd (true≢false (sym e ∙ same_list T.lit T.lit s T.lit_side (its_list x qc T.lit T.lit T.lit_side s j at T.alone some) ∙ f))
+          go (inr some) false true e f = absurd (true≢false (sym f ∙ sym (same_list T.lit T.lit s T.lit_side (its_list x qc T.lit T.lit T.lit_side s j at T.alone some)) ∙ e))
 
       both_sides : (s : Bool) → (if same_bool false s then 1 else 0) + (if same_bool true s then 1 else 0) ≡ 1
       both_sides true = refl
@@ -168,7 +169,7 @@ module _ (p : Plan) (c : CodeBlock) where
             where
               pick : (named m x qc (dests_of j s) ≡ 0) ⊎ (1 ≤ named m x qc (dests_of j s)) → named m x qc (dests_of j s) ≡ 0
               pick (inl e) = e
-              pick (inr some) = absurd (apart (number_of m T.lit s T.lit_side (its_list x qc T.lit m T.lit_side s j at T.alone some)))
+              pick (inr some) = absurd (apart (same_number m T.lit s T.lit_side (its_list x qc T.lit m T.lit_side s j at T.alone some)))
 
           go : (o : Option Instr) → slice_get c.instrs m ≡ o → cnt x (closed_uses m) ≡ 0
           go None at = ap (λ (o : Option Instr). cnt x (closed_in m (uses_in o))) at

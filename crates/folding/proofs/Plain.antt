@@ -21,10 +21,10 @@ use Rattle.folding.specs.Folds.{folds_of, is_folded, is_closed, closed_to, all_c
 use Rattle.folding.specs.Places.{layout_of, folds_at, gone_at}
 use Rattle.folding.specs.Laws.{dests_of, NamedBy, other_port, TakesLiteral, SparesLiterals}
 use Rattle.folding.proofs.Naming.{knows_namers, entries_sized}
-use Rattle.folding.proofs.Named.{namers_name}
+use Rattle.folding.proofs.Named.{namers_name, same_number}
 use Rattle.folding.proofs.Taken.{folds_on_right, folds_on_left, closed_takes, entry_many, gone_is}
 use Rattle.folding.proofs.Landing.{all_many}
-use Rattle.folding.proofs.Sole.{this_one, number_of}
+use Rattle.folding.proofs.Sole.{this_one}
 use Rattle.folding.proofs.Pairs.{closed_one, closed_in, closed_uses, uses_in}
 
 module _ (p : Plan) (c : CodeBlock) where
@@ -61,7 +61,7 @@ module _ (p : Plan) (c : CodeBlock) where
       go : (z : ℤ) × TakesLiteral p c (m + d.ahead) d.port z → Paired m
       go (z, T) =
           let l = slice_get_within c.instrs (m + d.ahead) T.operator.0 T.operator.2 in
-          let same : m ≡ T.lit = number_of m T.lit s T.lit_side (this_one m T.lit s T.lit_side (namer_of (namers_of p c) (m + d.ahead) d.port) (knows_namers p c m k j s d at there l) T.alone) in
+          let same : m ≡ T.lit = same_number m T.lit s T.lit_side (this_one m T.lit s T.lit_side (namer_of (namers_of p c) (m + d.ahead) d.port) (knows_namers p c m k j s d at there l) T.alone) in
           record { x = m + d.ahead; q = d.port; z = z; takes = T; which = inr same }
 
   pub plain_or : (m : ℕ) (j : Instr) → slice_get c.instrs m ≡ Some j → PlainAt m ⊎ Paired m
@@ -155,14 +155,14 @@ module _ (p : Plan) (c : CodeBlock) where
           where
             by_lit : namer_of (namers_of p c) (n + d.ahead) d.port ≡ namer_of (namers_of p c) R.x Left → namer_of (namers_of p c) R.x Left ≡ One R.takes.lit R.takes.lit_side → ⊥
             by_lit u v =
-                let same = number_of n R.takes.lit false R.takes.lit_side (this_one n R.takes.lit false R.takes.lit_side (namer_of (namers_of p c) (n + d.ahead) d.port) mine (u ∙ v)) in
+                let same = same_number n R.takes.lit false R.takes.lit_side (this_one n R.takes.lit false R.takes.lit_side (namer_of (namers_of p c) (n + d.ahead) d.port) mine (u ∙ v)) in
                 let j : R.takes.literal.0 ≡ i = same_instr R.takes.literal.0 i (sym R.takes.literal.1 ∙ ap (slice_get c.instrs) (sym same) ∙ at) in
                 other R.z (sym (ap (λ (x : Instr). x.op) j) ∙ R.takes.literal.2)
         at_operator e Right Right a b = by_lit (λ k. namer_of (namers_of p c) (e k) (b k)) (ap (namer_of (namers_of p c) R.x) (sym a) ∙ R.takes.alone)
           where
             by_lit : namer_of (namers_of p c) (n + d.ahead) d.port ≡ namer_of (namers_of p c) R.x Right → namer_of (namers_of p c) R.x Right ≡ One R.takes.lit R.takes.lit_side → ⊥
             by_lit u v =
-                let same = number_of n R.takes.lit false R.takes.lit_side (this_one n R.takes.lit false R.takes.lit_side (namer_of (namers_of p c) (n + d.ahead) d.port) mine (u ∙ v)) in
+                let same = same_number n R.takes.lit false R.takes.lit_side (this_one n R.takes.lit false R.takes.lit_side (namer_of (namers_of p c) (n + d.ahead) d.port) mine (u ∙ v)) in
                 let j : R.takes.literal.0 ≡ i = same_instr R.takes.literal.0 i (sym R.takes.literal.1 ∙ ap (slice_get c.instrs) (sym same) ∙ at) in
                 other R.z (sym (ap (λ (x : Instr). x.op) j) ∙ R.takes.literal.2)
         at_operator e Left Right a b =

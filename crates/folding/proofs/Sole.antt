@@ -22,18 +22,12 @@ use Rattle.folding.specs.Moved.{is_shut, moved_dests, new_dest}
 use Rattle.folding.specs.Laws.{dests_of, NamedBy, other_port, TakesLiteral, IsLeftOut, SparesLiterals, KeepsSole}
 use Rattle.folding.proofs.Standing.{all}
 use Rattle.folding.proofs.Naming.{knows_namers}
-use Rattle.folding.proofs.Named.{namers_name}
+use Rattle.folding.proofs.Named.{namers_name, same_number}
 use Rattle.folding.proofs.Taken.{closed_takes, leaves_out}
 
 pub this_one : (a b : ℕ) (s t : Bool) (x : Namer) → NamedBy a s x → x ≡ One b t → One a s ≡ One b t
 this_one a b s t x (inl e) f = sym e ∙ f
 this_one a b s t x (inr e) f = absurd (cc)
-
-pub number_of : (a b : ℕ) (s t : Bool) → One a s ≡ One b t → a ≡ b
-number_of a b s t e = cc
-
-pub list_of : (a b : ℕ) (s t : Bool) → One a s ≡ One b t → s ≡ t
-list_of a b s t e = cc
 
 one_only : (d x : Dest) (k : ℕ) → slice_get (d ∷ []) k ≡ Some x → x ≡ d
 one_only d x zero e = cc
@@ -51,7 +45,7 @@ module _ (p : Plan) (c : CodeBlock) (spares : SparesLiterals c) (n : ℕ) (i : I
   not_closed (z, t) = by_literal t.literal
     where
       same : n ≡ t.lit
-      same = number_of n t.lit false t.lit_side (this_one n t.lit false t.lit_side (namer_of (namers_of p c) to d.port) (knows_namers p c n 0 i false d at there (slice_get_within c.instrs to t.operator.0 t.operator.2)) t.alone)
+      same = same_number n t.lit false t.lit_side (this_one n t.lit false t.lit_side (namer_of (namers_of p c) to d.port) (knows_namers p c n 0 i false d at there (slice_get_within c.instrs to t.operator.0 t.operator.2)) t.alone)
 
       by_literal : (j : Instr) × (slice_get c.instrs t.lit ≡ Some j) × (j.op ≡ Lit z) → ⊥
       by_literal (j, stands, op) = let e : slice_get c.instrs n ≡ Some j = ap (slice_get c.instrs) same ∙ stands in let f : j ≡ i = cc in other z (sym (ap (λ (x : Instr). x.op) f) ∙ op)
@@ -76,7 +70,7 @@ module _ (p : Plan) (c : CodeBlock) (spares : SparesLiterals c) (n : ℕ) (i : I
 
       by_take : (s : Bool) (u : Dest) (z : ℤ) → slice_get (dests_of j s) 0 ≡ Some u → d.port ≡ Left → TakesLiteral p c (to + u.ahead) u.port z → ⊥
       by_take s u z e q t =
-          let lit_here = number_of to t.lit s t.lit_side (this_one to t.lit s t.lit_side (namer_of (namers_of p c) (to + u.ahead) u.port) (knows_namers p c to 0 j s u stands e (slice_get_within c.instrs (to + u.ahead) t.operator.0 t.operator.2)) t.alone) in
+          let lit_here = same_number to t.lit s t.lit_side (this_one to t.lit s t.lit_side (namer_of (namers_of p c) (to + u.ahead) u.port) (knows_namers p c to 0 j s u stands e (slice_get_within c.instrs (to + u.ahead) t.operator.0 t.operator.2)) t.alone) in
           let named = ap (λ m. namer_of (namers_of p c) m Left) lit_here ∙ t.to_lit in
           let mine = subst (λ q. NamedBy n false (namer_of (namers_of p c) to q)) q (knows_namers p c n 0 i false d at there (slice_get_within c.instrs to j stands)) in
           let same = this_one n t.source false t.source_side (namer_of (namers_of p c) to Left) mine named in

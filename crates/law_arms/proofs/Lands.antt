@@ -76,7 +76,7 @@ module _ (fl : Flow) (w : Wires) (c : Context) (o : ℕ) where
   returns r (OfAsker e g) t k h = subst (λ (r : Part). Carries fl w c t (comes_at r Left) k) e h
   returns r (OfEnd e g) t k h = subst (λ (r : Part). Carries fl w c t (comes_at r Left) k) e h
 
-call_code : (v : ℕ → ℕ) (kind : Kind ℕ) (f : ℕ) → call_kind kind ≡ true → callee kind ≡ Some f → code_called v kind ≡ f
+pub call_code : (v : ℕ → ℕ) (kind : Kind ℕ) (f : ℕ) → call_kind kind ≡ true → callee kind ≡ Some f → code_called v kind ≡ f
 call_code v (Kind.Call g) f h e = cc
 call_code v (Kind.StrictCall g) f h e = cc
 call_code v kind f h e = absurd (true≢false (sym h))

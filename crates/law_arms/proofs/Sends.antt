@@ -187,7 +187,7 @@ each_hits x c k [] = omega arith
 each_hits x c k (y ∷ ys) = let m = each_hits x c k ys in let o = one_and (same_context x.context c) (same_inlet x.inlet y) in omega (arith, m, o)
 
 -- WHERE the side is: it is there, and the part that sends along it is its maker
-cell_plain : (b : Block ℕ) (n : ℕ) → is_cell b n ≡ true → is_plain b n ≡ true
+pub cell_plain : (b : Block ℕ) (n : ℕ) → is_cell b n ≡ true → is_plain b n ≡ true
 cell_plain b n e = or_right (nat_lt n b.inputs) (is_kind plain_kind b n) (go (node_at b n) e)
   where
     or_right : (x y : Bool) → y ≡ true → (x || y) ≡ true

@@ -24,10 +24,10 @@ use Rattle.law_contexts.specs.Laws.{Fits, Carries, spot_there, port_fits}
 use Rattle.law_contexts.specs.Stands.{frame_of, ip_of, word_of, cont_in, conts_of, only, in_slot, slot_of, on_side, is_asked, is_held, reads, reads_cell, token_of}
 use Rattle.law_contexts.proofs.Words.{carries_of}
 use Rattle.law_arms.proofs.Nets.{only_has, flat_contains}
+use Rattle.law_arms.proofs.Sends.{cell_plain}
 use Rattle.law_over.specs.Over.{is_turning}
 use Rattle.law_over.proofs.Made.{fits, word, left_stands}
 use Rattle.law_over.proofs.Paths.{Wire, next}
-use Rattle.law_over.proofs.Sorts.{cell_plain}
 use Rattle.law_clean.proofs.Still.{AtRest, Stood, Comes, Fired}
 
 none_left : {X : Type 0} (xs : List X) → length xs ≡ 0 → (x : X) → Contains xs x → ⊥

@@ -30,7 +30,7 @@ use Rattle.law_emitted.proofs.LoopsStay.{emitted_bounds}
 use Rattle.law_expansion.proofs.Wholes.{has_bounds}
 use Rattle.law_composition.proofs.SoundObjects.{sound_have_objects}
 
-expanded_is_sound : (g : Graph) → HasText g → WellFormed g → IsSound (expanded (flow_of g))
+pub expanded_is_sound : (g : Graph) → HasText g → WellFormed g → IsSound (expanded (flow_of g))
 expanded_is_sound g text well =
     let arcs = arcs_go_forward g text well in
     let p : Plan = expanded (flow_of g) in
@@ -52,7 +52,7 @@ kept f same [] k = refl
 kept f same (c ∷ cs) zero = same c
 kept f same (c ∷ cs) (suc k) = kept f same cs k
 
-main_there : (g : Graph) → WellFormed g → (flow_of g).main < length (flow_of g).blocks
+pub main_there : (g : Graph) → WellFormed g → (flow_of g).main < length (flow_of g).blocks
 main_there g well =
     let k = contains_get (block_names g) g.main well.main in
     let l = slice_get_within (block_names g) (place_of g.main (block_names g)) g.main (place_get g.main (block_names g) k.0 k.1) in

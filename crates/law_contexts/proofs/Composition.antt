@@ -46,7 +46,7 @@ use Rattle.law_contexts.specs.Theorem.{IsGood, KeepsFaith, WiredKeepsFaith, Wire
 use Rattle.law_contexts.specs.Packages.{AllPackages, InputsFit, Keeps, BoundIsKept, telling_of, doing_of}
 
 -- what the host gives is told
-told_inputs : (fl : Flow) (n : ℕ) (zs : List ℤ) → flat_map (told fl) (input_items n zs) ≡ entering Main n (map (λ (z : ℤ). Int z) zs)
+pub told_inputs : (fl : Flow) (n : ℕ) (zs : List ℤ) → flat_map (told fl) (input_items n zs) ≡ entering Main n (map (λ (z : ℤ). Int z) zs)
 told_inputs fl n [] = refl
 told_inputs fl n (z ∷ zs) = ap (λ (l : List Tagged). tagged Main (AtNode n) (Operand 0) (Int z) ∷ l) (told_inputs fl (n + 1) zs)
 

@@ -51,7 +51,7 @@ pub data Diamond (fl : Flow) (a b : Activity) (t u : State) : Type 0 where
   Joined : (end : State) → Step fl b t end → Step fl a u end → Diamond fl a b t u
   Clash : (cell : ℕ) → StoresTo fl a cell → StoresTo fl b cell → Clashes fl t cell → Diamond fl a b t u
 
-at_filled : (f : ℕ → Option Value) (x : ℕ) (v : Value) → at_place f x v x ≡ Some v
+pub at_filled : (f : ℕ → Option Value) (x : ℕ) (v : Value) → at_place f x v x ≡ Some v
 at_filled f x v = ap (λ (b : Bool). if b then Some v else f x) (eq-eqb x x refl)
 
 filled : (fl : Flow) (m : Memory) (c : Context) (n x : ℕ) (v : Value) (E : Effect) → done fl m (Fills c n x v) ≡ Some E → E.memory.cells x ≡ Some v

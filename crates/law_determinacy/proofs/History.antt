@@ -44,7 +44,7 @@ History fl inputs s = (spent : List Tagged) × HistoryOf fl inputs spent s
 abbrev pub Fits : Flow → List ℤ → Type 0
 Fits fl inputs = (b : Block ℕ) × (block_of fl Main ≡ Some b) × (length inputs ≤ b.inputs)
 
-length_ints : (inputs : List ℤ) → length (map (λ (z : ℤ). Int z) inputs) ≡ length inputs
+pub length_ints : (inputs : List ℤ) → length (map (λ (z : ℤ). Int z) inputs) ≡ length inputs
 length_ints [] = refl
 length_ints (z ∷ zs) = ap suc (length_ints zs)
 
@@ -208,7 +208,7 @@ module _ (fl : Flow) (w : IsFlowWell fl) (inputs : List ℤ) (fits : Fits fl inp
 
 -- THE TOKENS THAT STOOD IN A RUN
 
-stood_at : (fl : Flow) (s t : State) (r : List Activity) (p : Run fl s r t) (x : Tagged) → Contains s.tokens x → Stood fl s r t p x
+pub stood_at : (fl : Flow) (s t : State) (r : List Activity) (p : Run fl s r t) (x : Tagged) → Contains s.tokens x → Stood fl s r t p x
 stood_at fl s t [] p x h = Contains-permutation s.tokens t.tokens x p.0 h
 stood_at fl s t (a ∷ r) p x h = inl h
 

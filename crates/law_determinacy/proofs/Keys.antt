@@ -187,7 +187,7 @@ value_same : (ts : List Tagged) → Unique ts → (c c' : Context) (s s' : State
 value_same ts all c c' s s' p p' v w h k e f g =
     ap (λ (t : Tagged). t.value) (unique_same ts all (tagged c s p v) (tagged c' s' p' w) h k (e, f, g))
 
-within_one : (t u : Tagged) → Within t (u ∷ []) → t ≡ u
+pub within_one : (t u : Tagged) → Within t (u ∷ []) → t ≡ u
 within_one t u (zs, inl h) = h.0
 within_one t u (zs, inr h) = absurd h.2
 

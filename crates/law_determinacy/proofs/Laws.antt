@@ -106,7 +106,7 @@ Grounded fl E Nothing = ⊤
 pub tagged_is : (t : Tagged) (c : Context) (s : Statement) (q : Port) (v : Value) → c ≡ t.context → s ≡ t.statement → q ≡ t.port → v ≡ t.value → tagged c s q v ≡ t
 tagged_is t c s q v e f g h = λ i. tagged (e i) (f i) (g i) (h i)
 
-source_of : (n p : ℕ) (o : Option Source) → IsSource n p o → (s : Source) × (o ≡ Some s) × (s.node ≡ n) × (s.port ≡ p)
+pub source_of : (n p : ℕ) (o : Option Source) → IsSource n p o → (s : Source) × (o ≡ Some s) × (s.node ≡ n) × (s.port ≡ p)
 source_of n p None h = absurd h
 source_of n p (Some s) h = (s, refl, h.0, h.1)
 

@@ -55,7 +55,7 @@ rest_without_tokens fl w s e a t p =
 abbrev pub Blocked : Flow → State → Tagged → Type 0
 Blocked fl s t = (a : Activity) (E : Effect) → Within t (taken a) → Held s.tokens (taken a) → effect fl s.memory a ≡ Some E → ⊥
 
-some_taken : (ts : List Tagged) → 0 < length ts → (t : Tagged) × Within t ts
+pub some_taken : (ts : List Tagged) → 0 < length ts → (t : Tagged) × Within t ts
 some_taken [] h = absurd (omega arith)
 some_taken (t ∷ ts) h = (t, (ts, put_first t ts))
 

@@ -66,7 +66,7 @@ outputs_of fl m (Puts j v) E e = inr (j, v, refl, ap (λ (E : Effect). E.memory.
 abbrev pub FilledFrom : List Tagged → Memory → Type 0
 FilledFrom spent m = (j : ℕ) (v : Value) → m.outputs j ≡ Some v → Within (tagged Main (AtOut j) (Operand 0) v) spent
 
-placed_cases : (f : ℕ → Option Value) (j k : ℕ) (v w : Value) → at_place f j v k ≡ Some w → ((j ≡ k) × (v ≡ w)) ⊎ (f k ≡ Some w)
+pub placed_cases : (f : ℕ → Option Value) (j k : ℕ) (v w : Value) → at_place f j v k ≡ Some w → ((j ≡ k) × (v ≡ w)) ⊎ (f k ≡ Some w)
 placed_cases f j k v w e = go (j == k) refl e
   where
     go : (t : Bool) → (j == k) ≡ t → (if t then Some v else f k) ≡ Some w → ((j ≡ k) × (v ≡ w)) ⊎ (f k ≡ Some w)

@@ -165,7 +165,7 @@ enter_of k (Arm c side) Enter e = let same = eqb-true c k e in (side, cc)
 enter_of k Root kind e = cc
 enter_of k r kind e = cc
 
-predicates_each : (P : Tagged → Type 0) (c : Context) (k : ℕ) (v : Value) (m : ℕ) (nodes : List (Node ℕ))
+pub predicates_each : (P : Tagged → Type 0) (c : Context) (k : ℕ) (v : Value) (m : ℕ) (nodes : List (Node ℕ))
     → ((i : ℕ) (node : Node ℕ) → slice_get nodes i ≡ Some node → is_enter_of k node.region node.kind ≡ true → P (tagged c (AtNode (m + i)) Predicate v)) → Each P (predicates_from c k v m nodes)
 predicates_each P c k v m [] h = tt
 predicates_each P c k v m (node ∷ nodes) h =

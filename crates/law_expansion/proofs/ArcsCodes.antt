@@ -1,29 +1,25 @@
 -- The code blocks of a plan at their numbers, and how long its landings are.
-use Rattle.std.proofs.Common.{◌≡◌, ℕ, zero, suc, ◌+◌, ◌≤◌, ◌<◌, ◌⊎◌, Bool, true, false, inl, inr, List, [], ◌∷◌, ◌++◌, length, refl, sym, ap, ◌∙◌, subst, arith, append_assoc, append-nil, if◌then◌else◌, Some, nat_lt, lt-ltb, le-ltb}
-use Rattle.std.specs.Prelude.{slice_get, slice_index_or, ⊤}
+use Rattle.std.proofs.Common.{◌≡◌, ℕ, zero, suc, ◌+◌, ◌≤◌, Bool, true, false, List, [], ◌∷◌, ◌++◌, length, refl, sym, ap, ◌∙◌, subst, arith, append_assoc, append-nil, if◌then◌else◌, Some, nat_lt, lt-ltb, le-ltb}
+use Rattle.std.specs.Prelude.{slice_get, ⊤}
 use Rattle.std.proofs.lemmas.Option.{slice_get_within}
 use Rattle.semantics.specs.Graph.{Block, Flow, Graph, flow_of}
 use Rattle.semantics.specs.WellFormed.{WellFormed}
 use Rattle.semantics.specs.Program.{CodeBlock}
 use Rattle.semantics.specs.Plan.{landing, landing_in}
 use Rattle.expansion.specs.Scopes.{Scope}
-use Rattle.expansion.specs.Variants.{some_block_loops, next_variant, variants_from, variants_of}
+use Rattle.expansion.specs.Variants.{some_block_loops, next_variant, variants_of}
 use Rattle.expansion.specs.Builds.{Build}
 use Rattle.expansion.specs.Blocks.{plain_build, variant_build, code_of, Coded, variant_of}
 use Rattle.expansion.specs.Expanded.{Codes, with_code, no_codes, scope_of, plain_code, variant_code, plain_codes, variant_codes, codes_of, expanded}
-use Rattle.law_expansion.proofs.ArcsLists.{index_old, index_new, length_push}
-use Rattle.law_expansion.proofs.ArcsKept.{Env, Kept, split}
+use Rattle.law_expansion.proofs.ArcsKept.{Env, Kept}
 use Rattle.law_expansion.proofs.ArcsSettled.{Settled}
 use Rattle.law_expansion.proofs.ArcsFlows.{env_of, SizesFit, block_fits}
 use Rattle.law_expansion.proofs.ArcsEnds.{plain_settled, variant_settled}
 use Rattle.semantics.specs.Graph.{node_count}
+use Rattle.law_expansion.proofs.FactsCodes.{variant_number}
+use Rattle.law_expansion.proofs.ShapesStates.{get_left}
 
 -- LISTS
-get_left : {X : Type 0} (xs ys : List X) (k : ℕ) (y : X) → slice_get xs k ≡ Some y → slice_get (xs ++ ys) k ≡ Some y
-get_left [] ys k y e = absurd (cc)
-get_left (x ∷ xs) ys zero y e = e
-get_left (x ∷ xs) ys (suc k) y e = get_left xs ys k y e
-
 get_right : {X : Type 0} (xs ys : List X) (k : ℕ) (y : X) → slice_get ys k ≡ Some y → slice_get (xs ++ ys) (length xs + k) ≡ Some y
 get_right [] ys k y e = subst (λ m. slice_get ys m ≡ Some y) (let is_so : k ≡ 0 + k = omega arith in is_so) e
 get_right (x ∷ xs) ys k y e = subst (λ m. slice_get (x ∷ (xs ++ ys)) m ≡ Some y) (let is_so : suc (length xs + k) ≡ length (x ∷ xs) + k = omega arith in is_so) (get_right xs ys k y e)
@@ -113,22 +109,8 @@ next_add bs n (suc k) =
     moved true x c = omega arith
     moved false x c = refl
 
-variant_count : (bs : List (Block ℕ)) (k : ℕ) → length (variants_from bs k) ≡ k
-variant_count bs zero = refl
-variant_count bs (suc k) = length_push (variants_from bs k) (next_variant bs k) ∙ ap suc (variant_count bs k)
-
-variant_is : (bs : List (Block ℕ)) (k m : ℕ) → m < k → slice_index_or (variants_from bs k) m 0 ≡ next_variant bs m
-variant_is bs zero m l = absurd (omega (arith, l))
-variant_is bs (suc k) m l = go (split m k l) (λ h. variant_is bs k m h)
-  where
-    go : (m < k) ⊎ (m ≡ k) → (m < k → slice_index_or (variants_from bs k) m 0 ≡ next_variant bs m) → slice_index_or (variants_from bs k ++ next_variant bs k ∷ []) m 0 ≡ next_variant bs m
-    go (inl h) ih = let c = variant_count bs k in index_old (variants_from bs k) (next_variant bs k) 0 m (omega (arith, h, c)) ∙ ih h
-    go (inr h) ih =
-        ap (λ i. slice_index_or (variants_from bs k ++ next_variant bs k ∷ []) i 0) (h ∙ sym (variant_count bs k))
-        ∙ index_new (variants_from bs k) (next_variant bs k) 0 ∙ ap (next_variant bs) (sym h)
-
 -- LANDINGS
-plain_outputs : (v : ℕ) (bs : List (Block ℕ)) (vars : List ℕ) (n : ℕ) (b : Block ℕ) → (plain_code v bs vars n b).code.outputs ≡ b.outputs
+pub plain_outputs : (v : ℕ) (bs : List (Block ℕ)) (vars : List ℕ) (n : ℕ) (b : Block ℕ) → (plain_code v bs vars n b).code.outputs ≡ b.outputs
 unfolding plain_code
 plain_outputs v bs vars n b = refl
 
@@ -156,7 +138,7 @@ turn_landing fl f b e t =
     let c : CodeBlock = (variant_code fl.version bs vars (0 + f) b).code in
     let count : length first ≡ length bs = plain_count fl.version bs vars 0 bs in
     let zeros : 0 + f ≡ f = omega arith in
-    let number : place ≡ next_variant bs f = variant_is bs (length bs) f (slice_get_within bs f b e) in
+    let number : place ≡ next_variant bs f = variant_number bs (length bs) f (slice_get_within bs f b e) in
     let added : next_variant bs (0 + f) ≡ length bs + looped_below bs 0 f = next_add bs 0 f in
     let same : next_variant bs (0 + f) ≡ next_variant bs f = ap (next_variant bs) zeros in
     let at : length first + looped_below bs 0 f ≡ place = omega (arith, count, number, added, same) in

@@ -44,7 +44,6 @@ pub record SizesFit (bs : List (Block ℕ)) (size : ℕ → ℕ) : Type 0 where
   pub looped : (f : ℕ) (b : Block ℕ) → slice_get bs f ≡ Some b → some_block_loops f bs ≡ true → size (variant_of (variants_of bs) f) ≡ b.inputs + 3
 
 -- LISTS
-
 node_line : {N : Type 0} (b : Block N) (i : ℕ) → node_at b (b.inputs + i) ≡ slice_get b.nodes i
 node_line b i =
     let past : nat_lt (b.inputs + i) b.inputs ≡ false = le-ltb (b.inputs + i) b.inputs (omega arith) in

@@ -21,7 +21,6 @@ use Rattle.law_expansion.proofs.ArcsSettled.{Settled, Joining, Grown, Outlets, f
 use Rattle.law_expansion.proofs.ArcsKept.{Env, is_link, Leaves, grows_on, grows_push, grows_linked, leaves_on, op_on, Leads, adds, links, frees_last}
 
 -- JOINING
-
 pub joins_begin : (e : Env) (waiting n : ℕ) (a : Build) (op : Op) (o : Origin) (m : Mark) (r : Region)
     → (is_link op ≡ true → length a.instrs ≡ waiting) → Settled e waiting n a → Joining e waiting a op (added a op o m r)
 joins_begin e waiting n a op o m r l h = record {

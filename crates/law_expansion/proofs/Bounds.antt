@@ -13,6 +13,7 @@ use Rattle.expansion.specs.Builds.{Build, with_dest, no_instr, bare, slot_in, ta
 use Rattle.expansion.specs.Scopes.{Scope}
 use Rattle.expansion.specs.Blocks.{plain_build, variant_build}
 use Rattle.law_expansion.proofs.Keeping.{plain_keeps, variant_keeps}
+use Rattle.law_expansion.proofs.ArcsLists.{same_op}
 
 abbrev pub opens : List Instr → List ℕ
 opens is = flat_map (λ (i : Instr). opened_by i.op) is
@@ -20,10 +21,6 @@ opens is = flat_map (λ (i : Instr). opened_by i.op) is
 opens-push : (is : List Instr) (i : Instr) → opens (is ++ i ∷ []) ≡ opens is ++ opened_by i.op
 opens-push [] i = append-nil (opened_by i.op)
 opens-push (j ∷ is) i = ap (λ ys. opened_by j.op ++ ys) (opens-push is i) ∙ sym (append_assoc (opened_by j.op) (opens is) (opened_by i.op))
-
-same_op : (i : Instr) (s : Bool) (d : Dest) → (with_dest i s d).op ≡ i.op
-same_op i true d = refl
-same_op i false d = refl
 
 opens-set : (is : List Instr) (n : ℕ) (s : Bool) (d : Dest) → opens (slice_set is n (with_dest (slice_index_or is n no_instr) s d)) ≡ opens is
 opens-set [] n s d = refl

@@ -1,5 +1,5 @@
 -- Which code blocks a plan has, and where.
-use Rattle.std.proofs.Common.{◌≡◌, ℕ, zero, suc, ◌+◌, ◌<◌, ◌≤◌, ◌⊎◌, Bool, true, false, List, [], ◌∷◌, ◌++◌, length, refl, sym, ap, ◌∙◌, subst, arith, append_assoc, append-nil, if◌then◌else◌, inl, inr, Some, ◌==◌}
+use Rattle.std.proofs.Common.{◌≡◌, ℕ, zero, suc, ◌+◌, ◌<◌, ◌≤◌, ◌⊎◌, Bool, true, false, List, [], ◌∷◌, ◌++◌, length, refl, sym, ap, ◌∙◌, arith, append_assoc, append-nil, if◌then◌else◌, inl, inr, Some, ◌==◌}
 use Rattle.std.specs.Prelude.{slice_get, slice_index_or}
 use Rattle.std.proofs.lemmas.Bool.{cases_lt, eqb-true, eq-eqb}
 use Rattle.std.proofs.lemmas.List.{length-append, length_push, get_or_append_left, get_or_push}
@@ -12,19 +12,9 @@ use Rattle.semantics.specs.Program.{CodeBlock}
 use Rattle.expansion.specs.Blocks.{Coded, variant_of}
 use Rattle.expansion.specs.Variants.{loops_to, some_node_loops, some_block_loops, next_variant, variants_from, variants_of}
 use Rattle.expansion.specs.Expanded.{Codes, with_code, no_codes, plain_code, variant_code, plain_codes, variant_codes, codes_of}
+use Rattle.law_expansion.proofs.ShapesStates.{get_left, get_right}
 
 -- LISTS
-
-pub get_left : {X : Type 0} (xs ys : List X) (k : ℕ) (y : X) → slice_get xs k ≡ Some y → slice_get (xs ++ ys) k ≡ Some y
-get_left [] ys k y e = absurd (cc)
-get_left (x ∷ xs) ys zero y e = e
-get_left (x ∷ xs) ys (suc k) y e = get_left xs ys k y e
-
-pub get_right : {X : Type 0} (xs ys : List X) (m k : ℕ) (y : X) → m ≡ length xs + k → slice_get ys k ≡ Some y → slice_get (xs ++ ys) m ≡ Some y
-get_right [] ys m k y s e = let at : k ≡ m = omega (arith, s) in subst (λ n. slice_get ys n ≡ Some y) at e
-get_right (x ∷ xs) ys zero k y s e = absurd (omega (arith, s))
-get_right (x ∷ xs) ys (suc m) k y s e = get_right xs ys m k y (omega (arith, s)) e
-
 -- WHICH LOOPS
 module _ (f : ℕ) where
   self : (f == f) ≡ true
@@ -205,11 +195,11 @@ module _ (v : ℕ) (bs : List (Block ℕ)) (vars : List ℕ) where
       go false s d f more = looped_more n x rest c (more d f)
 
 -- VARIANT NUMBERS
-variants_length : (bs : List (Block ℕ)) (n : ℕ) → length (variants_from bs n) ≡ n
+pub variants_length : (bs : List (Block ℕ)) (n : ℕ) → length (variants_from bs n) ≡ n
 variants_length bs zero = refl
 variants_length bs (suc n) = let l = length_push (variants_from bs n) (next_variant bs n) in let m = variants_length bs n in omega (arith, l, m)
 
-variant_number : (bs : List (Block ℕ)) (n f : ℕ) → f < n → slice_index_or (variants_from bs n) f 0 ≡ next_variant bs f
+pub variant_number : (bs : List (Block ℕ)) (n f : ℕ) → f < n → slice_index_or (variants_from bs n) f 0 ≡ next_variant bs f
 variant_number bs zero f l = absurd (omega (arith, l))
 variant_number bs (suc n) f l = go (cases_lt f n) (variant_number bs n f)
   where

@@ -26,10 +26,6 @@ push_old [] x y n e = absurd (cc)
 push_old (z ∷ xs) x y zero e = e
 push_old (z ∷ xs) x y (suc n) e = push_old xs x y n e
 
-pub push_new : {X : Type 0} (xs : List X) (x : X) → slice_get (xs ++ x ∷ []) (length xs) ≡ Some x
-push_new [] x = refl
-push_new (z ∷ xs) x = push_new xs x
-
 -- one place has one element
 pub same_at : {X : Type 0} (xs : List X) (m n : ℕ) (x y : X) → m ≡ n → slice_get xs m ≡ Some x → slice_get xs n ≡ Some y → x ≡ y
 same_at xs m n x y s e f = let at : slice_get xs m ≡ slice_get xs n = ap (slice_get xs) s in cc

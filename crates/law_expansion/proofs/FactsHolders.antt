@@ -13,8 +13,9 @@ use Rattle.semantics.specs.Plan.{is_open, is_credit}
 use Rattle.semantics.specs.Wired.{LoopPart, Takes, Gives, Drains, NoPart, part_of, bound_of}
 use Rattle.expansion.specs.declared.builder.Outlet.{Outlet}
 use Rattle.expansion.specs.Builds.{Build, nothing, takes_holder, bare, slot_in, added, connected}
-use Rattle.law_expansion.proofs.FactsHeads.{push_cases, push_old, push_new, heads, heads_connected, heads_added}
+use Rattle.law_expansion.proofs.FactsHeads.{push_cases, push_old, heads, heads_connected, heads_added}
 use Rattle.law_expansion.proofs.FactsSteps.{Stage, Idle, Opening, Giving, Taking, Step, Plain, Opened, Given, Taken, Drained}
+use Rattle.law_expansion.proofs.ArcsLists.{get_new}
 
 -- OPERATIONS. `take`, `give` and `drain` have the holder of their loop.
 abbrev pub is_later_part : LoopPart → Bool
@@ -203,7 +204,7 @@ holder_push s t hs x holders opened now h has slot at = record {
       where
         go : (k < holders) ⊎ (holders ≤ k) → (n : ℕ) × (i : Instr) × (slice_get (hs ++ x ∷ []) n ≡ Some i) × (takes_holder i.op ≡ true) × (i.slot ≡ k)
         go (inl a) = let u = h.used k a in (u.0, u.1, push_old hs x u.1 u.0 u.2, u.3, u.4)
-        go (inr a) = (length hs, x, push_new hs x, has, omega (arith, l, a, slot))
+        go (inr a) = (length hs, x, get_new hs x, has, omega (arith, l, a, slot))
 
 -- THE STEPS
 abbrev pub Holds : Stage → Build → Type 0
@@ -224,7 +225,7 @@ adds_open : (hs : List Instr) (holders opened k : ℕ) (o : Origin) → Held Idl
 adds_open hs holders opened k o h =
     let x : Instr = bare (Open k) o holders in
     holder_push Idle (Opening k) hs x holders opened holders h refl refl (
-      (length hs, x, push_new hs x, refl, refl),
+      (length hs, x, get_new hs x, refl, refl),
       fresh_push hs x holders (Gives k) (no_such (Gives k) refl) (λ f. cc),
       fresh_push hs x holders (Takes k) (no_such (Takes k) refl) (λ f. cc),
       fresh_push hs x holders (Drains k) (no_such (Drains k) refl) (λ f. cc),

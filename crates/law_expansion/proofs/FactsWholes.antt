@@ -38,7 +38,7 @@ Any op = ⊤
 abbrev Anywhere : Origin → Type 0
 Anywhere o = ⊤
 
-any : (most : ℕ) → Basics Any most
+pub any : (most : ℕ) → Basics Any most
 any most = record {
   copy = tt;
   sync = tt;
@@ -52,7 +52,7 @@ any most = record {
   release = λ o l. tt;
 }
 
-any_kind : (vars : List ℕ) (k : Kind ℕ) (n : ℕ) → AllowsKind Any vars k n
+pub any_kind : (vars : List ℕ) (k : Kind ℕ) (n : ℕ) → AllowsKind Any vars k n
 any_kind vars (Lit z) n = tt
 any_kind vars (Apply1 op) n = tt
 any_kind vars (Apply2 op) n = tt

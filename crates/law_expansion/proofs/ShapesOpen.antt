@@ -22,8 +22,9 @@ use Rattle.expansion.specs.declared.ends.End.{End}
 use Rattle.law_expansion.specs.Shapes.{HasExactShape, IsExact, is_release}
 use Rattle.expansion.specs.Builds.{Build, first_of, added, quieted, connected, with_dest, no_instr, bare, slot_in, behind, meeting}
 use Rattle.expansion.specs.Ends.{end_at, same_region, Signalled, join_with, join_end, join_ends, signalled, Closing, closing, copied, ended, closed, closed_kind, closed_nodes, released}
-use Rattle.law_expansion.proofs.ShapesStates.{Wants, is_free, get_right, get_push}
+use Rattle.law_expansion.proofs.ShapesStates.{Wants, is_free, get_right}
 use Rattle.law_expansion.proofs.ShapesCounts.{start, hit_at, hit_other, held, FairSignal, At, connect_at, signalled_at}
+use Rattle.law_expansion.proofs.ArcsLists.{get_push}
 
 -- SHAPES
 pub free_shape : (op : Op) (m n : ℕ) → is_free op ≡ true → HasExactShape op m n

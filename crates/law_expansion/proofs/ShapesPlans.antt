@@ -14,10 +14,10 @@ use Rattle.law_expansion.specs.Shapes.{AreShaped, PlansAreShaped, HasExactShape,
 use Rattle.expansion.specs.Variants.{some_block_loops, variants_of}
 use Rattle.expansion.specs.Blocks.{variant_of, plain_build, variant_build}
 use Rattle.expansion.specs.Expanded.{Codes, with_code, no_codes, scope_of, plain_code, variant_code, plain_codes, variant_codes, expanded}
-use Rattle.law_expansion.proofs.ShapesStates.{get_push}
 use Rattle.law_expansion.proofs.ShapesOpen.{IsDone}
 use Rattle.law_expansion.proofs.ShapesBlocks.{plain_shaped, variant_shaped}
 use Rattle.law_expansion.proofs.ShapesWell.{nodes_fit, results_valid, uses_noted, predicates_valid}
+use Rattle.law_expansion.proofs.ArcsLists.{get_push}
 
 abbrev AllDone : List Instr → Type 0
 AllDone is = (p : ℕ) (i : Instr) → slice_get is p ≡ Some i → IsDone (length is) p i

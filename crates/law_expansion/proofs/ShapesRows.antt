@@ -18,14 +18,11 @@ use Rattle.expansion.specs.Builds.{Build, first_of, added, quieted, connected, o
 use Rattle.expansion.specs.Rows.{sends, invoke, Joined, join_sources}
 use Rattle.law_expansion.proofs.ShapesStates.{State, Free, Shut, Waits, Owned, Wants, is_free, get_left, get_right, set_right}
 use Rattle.law_expansion.proofs.ShapesStates as States
-use Rattle.law_expansion.proofs.ShapesTrack.{FreeAt, Track, ports_at, track_length, track_push, track_free, track_shut, track_exit, often_free, track_source}
+use Rattle.law_expansion.proofs.ShapesTrack.{FreeAt, Track, ports_at, track_length, track_push, track_free, track_shut, track_exit, often_free, track_source, waits_owned}
 
 -- PUSHES
 free_owned : (k : ℕ) → Free ≢ Owned k
 free_owned k e = cc
-
-waits_owned : (k : ℕ) → Waits ≢ Owned k
-waits_owned k e = cc
 
 shut_owned : (k : ℕ) → Shut ≢ Owned k
 shut_owned k e = cc

@@ -29,12 +29,6 @@ get_right [] ys n k x q e = let same : k ≡ n = omega (arith, q) in subst (λ m
 get_right (y ∷ xs) ys zero k x q e = absurd (omega (arith, q))
 get_right (y ∷ xs) ys (suc n) k x q e = get_right xs ys n k x (omega (arith, q)) e
 
-pub get_push : {X : Type 0} (xs : List X) (y : X) (n : ℕ) (x : X) → slice_get (xs ++ y ∷ []) n ≡ Some x → (slice_get xs n ≡ Some x) ⊎ ((n ≡ length xs) × (y ≡ x))
-get_push [] y zero x e = inr (refl, cc)
-get_push [] y (suc n) x e = absurd (cc)
-get_push (z ∷ xs) y zero x e = inl e
-get_push (z ∷ xs) y (suc n) x e = elim (get_push xs y n x e) as (λ h. (slice_get (z ∷ xs) (suc n) ≡ Some x) ⊎ ((suc n ≡ length (z ∷ xs)) × (y ≡ x))) [ inl f ↦ inl f | inr p ↦ inr (ap suc p.0, p.1) ]
-
 pub get_set : {X : Type 0} (xs : List X) (k : ℕ) (y : X) (n : ℕ) (x : X) → slice_get (slice_set xs k y) n ≡ Some x → ((n ≢ k) × (slice_get xs n ≡ Some x)) ⊎ ((n ≡ k) × (y ≡ x))
 get_set [] k y n x e = absurd (cc)
 get_set (z ∷ xs) zero y zero x e = inr (refl, cc)

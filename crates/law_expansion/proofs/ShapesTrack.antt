@@ -18,17 +18,14 @@ use Rattle.expansion.specs.Scopes.{Scope}
 use Rattle.expansion.specs.UseCounts.{is_often, uses_at, more, noted}
 use Rattle.expansion.specs.Builds.{Build, nowhere, first_of, bare, slot_in, added, connected, dest_of, with_dest, no_instr, outlet, outlet_of, trigger_of, exited}
 use Rattle.expansion.specs.Blocks.{outputs_of}
-use Rattle.law_expansion.proofs.ShapesStates.{State, Free, Shut, Waits, Owned, Fits, AreFit, amount, is_cond_kind, is_cond_in, Joined, get_left, get_push, get_set, set_other, set_here, fit_length, fit_push, fit_free, fit_shut, fit_used, fit_owned, fit_leaves}
+use Rattle.law_expansion.proofs.ShapesStates.{State, Free, Shut, Waits, Owned, Fits, AreFit, amount, is_cond_kind, is_cond_in, Joined, get_left, get_set, set_other, set_here, fit_length, fit_push, fit_free, fit_shut, fit_used, fit_owned, fit_leaves}
+use Rattle.law_expansion.proofs.ArcsLists.{get_push, index_new}
 
 -- LISTS WITH A DEFAULT
 pub index_left : {X : Type 0} (xs ys : List X) (n : ℕ) (d : X) → n < length xs → slice_index_or (xs ++ ys) n d ≡ slice_index_or xs n d
 index_left [] ys n d l = absurd (omega (arith, l))
 index_left (x ∷ xs) ys zero d l = refl
 index_left (x ∷ xs) ys (suc n) d l = index_left xs ys n d (omega (arith, l))
-
-pub index_last : {X : Type 0} (xs : List X) (x d : X) → slice_index_or (xs ++ x ∷ []) (length xs) d ≡ x
-index_last [] x d = refl
-index_last (y ∷ xs) x d = index_last xs x d
 
 pub below_push : {X : Type 0} (xs : List X) (x : X) (n : ℕ) → n < length (xs ++ x ∷ []) → (n < length xs) ⊎ (n ≡ length xs)
 below_push [] x zero l = inr refl
@@ -137,7 +134,7 @@ pub record Track (s : Scope) (us : List Uses) (n : ℕ) (b : Build) (ts : List S
 waits_free : Waits ≢ Free
 waits_free e = cc
 
-waits_owned : (n : ℕ) → Waits ≢ Owned n
+pub waits_owned : (n : ℕ) → Waits ≢ Owned n
 waits_owned n e = cc
 
 abbrev Grows : List State → List State → Type 0
@@ -221,7 +218,7 @@ exit_leads s es o vs old new m l = let count = exit_count es o in by_place (belo
   where
     by_place : (m < length es) ⊎ (m ≡ length es) → Leads s vs m (exit_in (es ++ o ∷ []) m)
     by_place (inl a) = subst (λ x. Leads s vs m x) (sym (index_left es (o ∷ []) m nowhere a)) (old m a)
-    by_place (inr e) = subst (λ k. Leads s vs k (exit_in (es ++ o ∷ []) k)) (sym e) (subst (λ x. Leads s vs (length es) x) (sym (index_last es o nowhere)) new)
+    by_place (inr e) = subst (λ k. Leads s vs k (exit_in (es ++ o ∷ []) k)) (sym e) (subst (λ x. Leads s vs (length es) x) (sym (index_new es o nowhere)) new)
 
 exit_known : (s : Scope) (es : List Outlet) (o : Outlet) (p m : ℕ) → IsOwner s (length es) es p m → IsOwner s (length es + 1) (es ++ o ∷ []) p m
 exit_known s es o p m x = let below = x.0 in (omega (arith, below), index_left es (o ∷ []) m nowhere below ∙ x.1, x.2, x.3)
@@ -263,7 +260,7 @@ owned_last s us b ts p h e often owns l = record {
     by_place q m (inr x) =
         let owners = x.1 in
         let same : new ≡ m = cc in
-        subst (λ k. IsOwner s (new + 1) (b.exits ++ first_of p ∷ []) q k) same (omega arith, index_last b.exits (first_of p) nowhere ∙ ap first_of (sym x.0), often, owns)
+        subst (λ k. IsOwner s (new + 1) (b.exits ++ first_of p ∷ []) q k) same (omega arith, index_new b.exits (first_of p) nowhere ∙ ap first_of (sym x.0), often, owns)
 
 pub track_exit : (s : Scope) (us : List Uses) (n : ℕ) (b : Build) (ts : List State) (o : Outlet) → Track s us n b ts
     → ((q : ℕ) → q < ports_at s n → slice_get ts (o.place + q) ≡ Some Free) → n + 1 ≤ length us → Track s us (n + 1) (exited b o) ts

@@ -73,8 +73,7 @@ variants_good cs gs v bs vars n (b ∷ rest) h =
     by_test v bs vars n rest cs ds gs b false p q = q
 
 -- WHICH BLOCKS ARE LOOPED
-
-same_test : (f : ℕ) (k : Kind ℕ) → loops_to f k ≡ Cause.loops_to f k
+pub same_test : (f : ℕ) (k : Kind ℕ) → loops_to f k ≡ Cause.loops_to f k
 same_test f (Lit z) = refl
 same_test f (Apply1 op) = refl
 same_test f (Apply2 op) = refl
@@ -91,25 +90,25 @@ one_test : (t : Bool) → t ≡ nat_lt 0 (cond t 1 0)
 one_test true = refl
 one_test false = refl
 
-abbrev weight : ℕ → Node ℕ → ℕ
+abbrev pub weight : ℕ → Node ℕ → ℕ
 weight f n = cond (Cause.loops_to f n.kind) 1 0
 
-nodes_counted : (f : ℕ) (ns : List (Node ℕ)) → some_node_loops f ns ≡ nat_lt 0 (sum_by (weight f) ns)
+pub nodes_counted : (f : ℕ) (ns : List (Node ℕ)) → some_node_loops f ns ≡ nat_lt 0 (sum_by (weight f) ns)
 nodes_counted f [] = refl
 nodes_counted f (n ∷ ns) =
     sum_is_positive (weight f n) (sum_by (weight f) ns) (loops_to f n.kind) (some_node_loops f ns) (same_test f n.kind ∙ one_test (Cause.loops_to f n.kind)) (nodes_counted f ns)
     ∙ ap (nat_lt 0) (sym (sum_by-cons (weight f) n ns))
 
-abbrev loops_in : ℕ → Block ℕ → ℕ
+abbrev pub loops_in : ℕ → Block ℕ → ℕ
 loops_in f b = count_by (λ (n : Node ℕ). Cause.loops_to f n.kind) b.nodes
 
-blocks_counted : (f : ℕ) (bs : List (Block ℕ)) → some_block_loops f bs ≡ nat_lt 0 (sum_by (loops_in f) bs)
+pub blocks_counted : (f : ℕ) (bs : List (Block ℕ)) → some_block_loops f bs ≡ nat_lt 0 (sum_by (loops_in f) bs)
 blocks_counted f [] = refl
 blocks_counted f (b ∷ bs) =
     sum_is_positive (loops_in f b) (sum_by (loops_in f) bs) (some_node_loops f b.nodes) (some_block_loops f bs) (nodes_counted f b.nodes) (blocks_counted f bs)
     ∙ ap (nat_lt 0) (sym (sum_by-cons (loops_in f) b bs))
 
-same_looped : (fl : Flow) (f : ℕ) → some_block_loops f fl.blocks ≡ is_looped fl f
+pub same_looped : (fl : Flow) (f : ℕ) → some_block_loops f fl.blocks ≡ is_looped fl f
 same_looped fl f = blocks_counted f fl.blocks ∙ ap (nat_lt 0) (sym (sum-map (loops_in f) fl.blocks))
 
 same_from : (fl : Flow) (f : ℕ) (bs : List (Block ℕ)) → looped_by fl.blocks f bs ≡ looped_from fl f bs

@@ -26,7 +26,6 @@ use Rattle.law_fold.specs.Folds.{fires_lit, Plain, Fresh, top, Pend, Sends, Stan
 use Rattle.law_fold.proofs.FoldRules.{node_grows, pend_with, lit_nodes}
 
 -- ---- WHERE AN ARC STARTS
-
 record Starts (p : Plan) (m : ℕ) (is : List Instr) (x : Arc) : Type 0 where
   pub k : ℕ
   pub i : Instr
@@ -93,7 +92,7 @@ use_at p f a r taken made new U = go (slice_get p.program.blocks U.b) refl
           uses = subst (λ (i : Instr). UsesBy p f a r i i.op U.t new) same U.uses;
         }
 
-same_to : {a b x y : ℕ} {r s : Port} → To.Instr a x r ≡ To.Instr b y s → (a ≡ b) × (x ≡ y) × (r ≡ s)
+pub same_to : {a b x y : ℕ} {r s : Port} → To.Instr a x r ≡ To.Instr b y s → (a ≡ b) × (x ≡ y) × (r ≡ s)
 same_to e = (cc, cc, cc)
 
 module _ (p q : Plan) (g h : ℕ → ℕ) where

@@ -18,20 +18,15 @@ use Rattle.semantics.specs.Rule.{Seat, back_to, Outcome, Becomes, Excluded, outc
 use Rattle.semantics.specs.Machine.{Machine, CellState, Vacant, Full, Deferred, Store as MStore, answer, answers, with_slot_in, slot_in, slot_used, outputs_of, Fires, Fetches, Stores, Requests, Releases, Hosts, Happens}
 use Rattle.semantics.specs.Plan.{Plan}
 use Rattle.semantics.specs.Arcs.{UsesArc}
-use Rattle.semantics.proofs.Stores.{slot_filled}
 use Rattle.law_once.specs.Spreads.{ip_cont, ip_word, ip_to, ip_slot, ip_cell, ip_store}
 use Rattle.law_once.proofs.SpreadNewArcs.{uses_new}
 use Rattle.law_once.proofs.SpreadSteps.{slot_same}
+use Rattle.law_once.proofs.SpreadArcEvents.{give_leaves}
 use Rattle.law_fold.specs.Folds.{Fits, Fresh, IsMoved}
 use Rattle.law_fold.proofs.FoldRules.{Arrives, FitsWord, FitsSlot}
 use Rattle.law_fold.proofs.FoldEvents.{FitsAll, FitsCell, slot_there}
 use Rattle.law_fold.proofs.FoldFrom.{Stale, fits_stale, Direct, OutFrom, out_from}
-
-give_leaves : (i : Instr) (f k : ℕ) (s n : MStore) (v : SlotState) → i.op ≡ Give k → n ≡ with_slot_in s f (slot_of i i.op) v → n.slots f i.slot ≡ v
-give_leaves i f k s n v e is = ap (λ (n : MStore). n.slots f i.slot) (is ∙ ap (λ (op : Op). with_slot_in s f (slot_of i op) v) e) ∙ slot_filled s f i.slot v
-
-same_to : {a b x y : ℕ} {r s : Port} → To.Instr a x r ≡ To.Instr b y s → (a ≡ b) × (x ≡ y) × (r ≡ s)
-same_to e = (cc, cc, cc)
+use Rattle.law_fold.proofs.FoldArcs.{same_to}
 
 module _ (p q : Plan) (g h : ℕ → ℕ) where
   abbrev P : Program

@@ -32,9 +32,7 @@ use Rattle.law_fold.proofs.FoldUses.{ArcFacts}
 use Rattle.law_fold.proofs.FoldSim.{Sim, O}
 use Rattle.law_fold.proofs.FoldAgree.{Lone}
 use Rattle.law_fold.proofs.Readies.{two_out}
-
-same_to : {a b x y : ℕ} {r s : Port} → To.Instr a x r ≡ To.Instr b y s → (a ≡ b) × (x ≡ y) × (r ≡ s)
-same_to e = (cc, cc, cc)
+use Rattle.law_fold.proofs.FoldArcs.{same_to}
 
 -- the entries are entries
 abbrev pub KeepsEntries : (p q : Plan) → Folds p q → Type 0

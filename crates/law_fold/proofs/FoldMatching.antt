@@ -1,5 +1,5 @@
 -- No token of the new code's run is excluded by a rule.
-use Rattle.std.proofs.Common.{◌≡◌, refl, sym, ap, ◌∙◌, subst, ℕ, ◌⊎◌, inl, inr, ℤ, List, [], ◌∷◌, ◌++◌, Option, Some, None, IsPermutation, Contains}
+use Rattle.std.proofs.Common.{◌≡◌, sym, ap, ◌∙◌, subst, ℕ, ◌⊎◌, inl, inr, ℤ, List, [], ◌∷◌, ◌++◌, Option, Some, None, IsPermutation, Contains}
 use Rattle.std.specs.Prelude.{if◌then◌else◌, ◌==◌}
 use Rattle.std.proofs.lemmas.List.Sorted.{Contains-permutation, IsPermutation-sym}
 use Rattle.tags.specs.declared.value.Value.{Value}
@@ -33,22 +33,13 @@ use Rattle.law_fold.proofs.FoldPast.{again}
 use Rattle.std.specs.Prelude.{nat_lt}
 use Rattle.lemmas.proofs.Permutations.{one_out}
 use Rattle.lemmas.proofs.Contains.{contains_head, contains_mapped}
-use Rattle.semantics.specs.Machine.{unless_back, unless_value, filled, host_rule, outputs_of}
+use Rattle.semantics.specs.Machine.{filled, host_rule, outputs_of}
 use Rattle.law_once.proofs.SpreadSteps.{slot_same}
+use Rattle.law_once.proofs.SpreadMatching.{back_same, value_same}
 use Rattle.law_fold.proofs.FoldRules.{Matches, rule_match}
 use Rattle.law_fold.proofs.FoldEvents.{slot_there}
 use Rattle.law_fold.proofs.FoldPast.{same_sums, value_of}
 use Rattle.law_fold.proofs.FoldSim.{Sim, O, arrives}
-
-back_same : (h : ℕ → ℕ) (w : Word) → unless_back (ip_word h w) ≡ unless_back w
-back_same h (Word.Val v) = refl
-back_same h (Word.Frame f) = refl
-back_same h (Word.Back c) = refl
-
-value_same : (h : ℕ → ℕ) (w : Word) → unless_value (ip_word h w) ≡ unless_value w
-value_same h (Word.Val v) = refl
-value_same h (Word.Frame f) = refl
-value_same h (Word.Back c) = refl
 
 -- a literal takes any word
 lit_takes : (q : Program) (s : MStore) (f ip : ℕ) (j : Instr) (z : ℤ) (w : Word) → j.op ≡ Lit z → excluded_by (outcome_of q record { frame = f; ip = ip } j j.op (slot_in s f (slot_of j j.op)) Left w) ≡ None

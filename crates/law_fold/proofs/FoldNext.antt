@@ -36,6 +36,7 @@ use Rattle.law_once.proofs.Weights.{tot_append}
 use Rattle.law_once.proofs.SpreadCounts.{ones}
 use Rattle.semantics.specs.Credits.{granted_at, released_at}
 use Rattle.law_once.proofs.SpreadSteps.{Step, step}
+use Rattle.law_once.proofs.SpreadNextEvent.{same_request, seeks_op}
 use Rattle.law_fold.specs.Folds.{fires_lit, Plain, Pend, Sends, Fits, Fresh, IsValue, Stands, moved, lit, right, left, StandAll, Clumped, IsMoved, IsPair, Folds}
 use Rattle.law_fold.proofs.FoldRules.{Arrives, FitsWord, FitsSlot}
 use Rattle.law_fold.proofs.FoldEvents.{Answered, FitsAll, FitsCell, other_back, instr_back}
@@ -49,7 +50,7 @@ use Rattle.law_fold.proofs.FoldCame.{moved_came, other_stale}
 use Rattle.law_fold.proofs.FoldUses.{ArcFacts, event_arc}
 use Rattle.law_fold.proofs.FoldHas.{pair_arc, sent_arc}
 use Rattle.law_fold.proofs.FoldTold.{Told, came_next, told_now, told_lit, told_next, told_after_lit, moved_apart, pair_apart}
-use Rattle.law_fold.proofs.FoldSim.{same_request, same_credit, not_instr, seeks_op, new_counter, counted_of, Sim, Explained, explained_later, explained_last, taken_more, past_of, arrives_old, slot_fits}
+use Rattle.law_fold.proofs.FoldSim.{same_credit, not_instr, new_counter, counted_of, Sim, Explained, explained_later, explained_last, taken_more, past_of, arrives_old, slot_fits}
 
 module _ (p q : Plan) (S : Folds p q) (wired : IsWired p) (orderly : Orderly p) (lands : LandsRightly p) (inputs : List ℤ) (z : Size) (start : IsStart p z inputs) where
   abbrev P : Program

@@ -1,5 +1,5 @@
 -- A state of the new run and one of the old: the relation, and what it says of the words that come.
-use Rattle.std.proofs.Common.{◌≡◌, refl, sym, ap, ◌∙◌, subst, ℕ, ◌+◌, ◌*◌, ◌⊎◌, inl, inr, Bool, true, false, true≢false, ℤ, List, [], ◌∷◌, ◌++◌, Option, Some, None, IsPermutation, Contains, arith}
+use Rattle.std.proofs.Common.{◌≡◌, refl, sym, ap, ◌∙◌, subst, ℕ, ◌+◌, ◌*◌, ◌⊎◌, inl, inr, true, false, true≢false, ℤ, List, [], ◌∷◌, ◌++◌, Option, Some, None, IsPermutation, Contains, arith}
 use Rattle.std.proofs.lemmas.List.Elements.{Contains-append_left, Contains-append_right, Contains-append_cases}
 use Rattle.lemmas.proofs.Contains.{contains_cases, contains_none}
 use Rattle.lemmas.proofs.Lists.{map_append}
@@ -13,11 +13,11 @@ use Rattle.tags.specs.declared.slot.SlotState.{SlotState}
 use Rattle.tags.specs.declared.slot.SlotState.TheVariants as Slot
 use Rattle.tags.specs.declared.slot.SlotState.TheVariants.{Empty, Credits, Waiter, Draining}
 use Rattle.semantics.specs.declared.program.Op.{Op}
-use Rattle.semantics.specs.declared.program.Op.TheVariants.{Return, Ask, Release, Open, Take}
+use Rattle.semantics.specs.declared.program.Op.TheVariants.{Return, Ask, Release}
 use Rattle.semantics.specs.Program.{Instr, Program, first_of, instr_at}
 use Rattle.semantics.specs.Rule.{token, slot_of}
 use Rattle.semantics.specs.Machine.{Machine, Store as MStore, Size, Events, at_start, slot_in}
-use Rattle.semantics.specs.Cause.{is_request, request_count, seeks_credit, credit_count, is_credit_event}
+use Rattle.semantics.specs.Cause.{request_count, credit_count, is_credit_event}
 use Rattle.semantics.specs.Handed.{EachOnce, UsesEachOnce}
 use Rattle.semantics.specs.Plan.{Plan, is_credit}
 use Rattle.semantics.specs.Wired.{IsWired}
@@ -41,14 +41,6 @@ use Rattle.law_fold.proofs.FoldPast.{Reached, order_of}
 use Rattle.law_fold.proofs.FoldCounts.{Counted}
 use Rattle.law_fold.proofs.FoldTold.{Told, Came}
 
-pub same_request : (h : ℕ → ℕ) (to : To) → is_request (ip_to h to) ≡ is_request to
-same_request h (To.Instr f ip r) = refl
-same_request h (To.Fetch x) = refl
-same_request h (To.Store x v) = refl
-same_request h To.Manager = refl
-same_request h (To.Release f) = refl
-same_request h (To.Host j) = refl
-
 -- of what is at no instruction
 pub same_credit : (p q : Program) (h : ℕ → ℕ) (to : To) → ((f a : ℕ) (r : Port) → to ≡ To.Instr f a r → ⊥) → is_credit_event q (ip_to h to) ≡ is_credit_event p to
 same_credit p q h (To.Instr f a r) apart = absurd (apart f a r refl)
@@ -65,9 +57,6 @@ not_instr h (To.Store x v) apart f a r e = cc
 not_instr h To.Manager apart f a r e = cc
 not_instr h (To.Release k) apart f a r e = cc
 not_instr h (To.Host j) apart f a r e = cc
-
-pub seeks_op : (i j : Instr) → j.op ≡ i.op → seeks_credit (Some j) ≡ seeks_credit (Some i)
-seeks_op i j e = ap (λ (op : Op). elim op as (λ x. Bool) [ Open k ↦ true | Take k ↦ true | _ ↦ false ]) e
 
 -- the counter of what is counted in the new code
 abbrev pub new_counter : (ℕ → ℕ) → Counter → Counter

@@ -1,5 +1,5 @@
 -- What an event grants and releases in the new code and in the old one.
-use Rattle.std.proofs.Common.{◌≡◌, refl, sym, ap, ◌∙◌, subst, ℕ, zero, suc, ◌+◌, ◌⊎◌, inl, inr, Bool, true, List, [], ◌∷◌, Option, Some, eq-eqb, ne_eqb, arith}
+use Rattle.std.proofs.Common.{◌≡◌, refl, sym, ap, ◌∙◌, subst, ℕ, ◌+◌, ◌⊎◌, inl, inr, Bool, true, List, [], ◌∷◌, Option, Some, eq-eqb, ne_eqb, arith}
 use Rattle.std.specs.Prelude.{count_by, ◌==◌, ◌&&◌, if◌then◌else◌}
 use Rattle.std.proofs.lemmas.Bool.{cases_eq}
 use Rattle.tags.specs.declared.token.Port.{Port}
@@ -12,7 +12,7 @@ use Rattle.tags.specs.declared.slot.SlotState.{SlotState}
 use Rattle.tags.specs.declared.slot.SlotState.TheVariants as Slot
 use Rattle.tags.specs.declared.slot.SlotState.TheVariants.{Empty, Credits, Waiter, Draining}
 use Rattle.semantics.specs.declared.program.Op.{Op}
-use Rattle.semantics.specs.declared.program.Op.TheVariants.{Open, Take, Give, Release}
+use Rattle.semantics.specs.declared.program.Op.TheVariants.{Release}
 use Rattle.semantics.specs.Program.{Instr, Program, instr_at}
 use Rattle.semantics.specs.Rule.{token, signal, Seat, back_to, beyond, fires, fire_two, meets, outcome_of, rule_at, slot_of}
 use Rattle.semantics.specs.Machine.{Store as MStore, slot_in, slot_used, Fires, Happens}
@@ -23,32 +23,10 @@ use Rattle.semantics.specs.Credits.{granted_by, granted_in, granted_at, released
 use Rattle.law_once.specs.Spreads.{ip_cont, ip_word, ip_slot, ip_store}
 use Rattle.law_once.proofs.Weights.{tot}
 use Rattle.law_once.proofs.Rows.{unit, count_tot}
-use Rattle.law_once.proofs.SpreadSteps.{slot_same}
+use Rattle.law_once.proofs.SpreadSteps.{slot_same, granted_slot}
 use Rattle.law_fold.specs.Folds.{Plain, Fits, IsMoved}
 use Rattle.law_fold.proofs.FoldRules.{FitsWord, FitsSlot}
 use Rattle.law_fold.proofs.FoldEvents.{slot_there}
-
-granted_slot : (h : ℕ → ℕ) (op : Op) (s : SlotState) → granted_by op (ip_slot h s) ≡ granted_by op s
-granted_slot h (Open k) Empty = refl
-granted_slot h (Open k) (Slot.Left w) = refl
-granted_slot h (Open k) (Slot.Right w) = refl
-granted_slot h (Open k) (Credits n) = refl
-granted_slot h (Open k) (Waiter c) = refl
-granted_slot h (Open k) (Draining n) = refl
-granted_slot h (Take k) Empty = refl
-granted_slot h (Take k) (Slot.Left w) = refl
-granted_slot h (Take k) (Slot.Right w) = refl
-granted_slot h (Take k) (Credits zero) = refl
-granted_slot h (Take k) (Credits (suc n)) = refl
-granted_slot h (Take k) (Waiter c) = refl
-granted_slot h (Take k) (Draining n) = refl
-granted_slot h (Give k) Empty = refl
-granted_slot h (Give k) (Slot.Left w) = refl
-granted_slot h (Give k) (Slot.Right w) = refl
-granted_slot h (Give k) (Credits n) = refl
-granted_slot h (Give k) (Waiter c) = refl
-granted_slot h (Give k) (Draining n) = refl
-granted_slot h op s = refl
 
 module _ (p q : Plan) (g h : ℕ → ℕ) (apart : (a b : ℕ) → Plain p.program q.program h a → Plain p.program q.program h b → h a ≡ h b → a ≡ b)
     (holders : (a : ℕ) → Plain p.program q.program h a → holder_at q (h a) ≡ holder_at p a) where

@@ -37,7 +37,7 @@ use Rattle.law_once.proofs.SpreadNewArcs.{uses_goes}
 use Rattle.law_fold.specs.Folds.{Sends, Pend}
 use Rattle.law_fold.proofs.Readies.{settles_keeps}
 use Rattle.law_fold.proofs.FoldBacks.{Backs, OutBacks, out_back, link_word}
-use Rattle.law_fold.proofs.FoldArcs.{UseAt, use_at, Seen, token_in}
+use Rattle.law_fold.proofs.FoldArcs.{UseAt, use_at, Seen, token_in, same_to}
 
 -- an arc of the old code in the new one
 pub record NewArc (p q : Plan) (S : Folds p q) (b n : ℕ) (x : Arc) : Type 0 where
@@ -55,9 +55,6 @@ pub record ArcFacts (p q : Plan) (S : Folds p q) : Type 0 where
   pub tidy : IsTidy p
   pub arcs : (b n : ℕ) (c : CodeBlock) (i : Instr) (x : Arc) → slice_get p.program.blocks b ≡ Some c → slice_get c.instrs n ≡ Some i → Contains (arcs_from p n i i.op) x → Plain p.program q.program S.h (first_of p.program b + x.to.place)
       → ((z : ℤ) → i.op ≡ Lit z → Plain p.program q.program S.h (first_of p.program b + n)) → NewArc p q S b n x
-
-same_to : {a b x y : ℕ} {r s : Port} → To.Instr a x r ≡ To.Instr b y s → (a ≡ b) × (x ≡ y) × (r ≡ s)
-same_to e = (cc, cc, cc)
 
 module _ (p q : Plan) (S : Folds p q) (F : ArcFacts p q S) where
   abbrev P : Program

@@ -174,7 +174,6 @@ module _ (p : Plan) (s : IsSound p) (tidy : IsTidy p) (b : ℕ) (c : CodeBlock) 
       omega (arith, low, to)
 
 -- ---- ENTRIES
-
 -- the entries are entries
 pub entries_kept : (p : Plan) (s : IsSound p) (a : ℕ) → is_entry p.program.blocks a ≡ true → is_entry (kept_slots p).program.blocks (word_ip p a) ≡ true
 entries_kept p s a e =

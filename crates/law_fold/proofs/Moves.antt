@@ -296,7 +296,6 @@ is_pair p s b c at_b n i j o at op there =
     unused (inr l) = absurd (apart l.0 (sym op ∙ l.1))
 
 -- ---- ALL
-
 pub new_main : (p : Plan) (c : CodeBlock) → slice_get p.program.blocks p.program.main ≡ Some c → slice_get (kept_slots p).program.blocks p.program.main ≡ Some (kept_block p c)
 new_main p c e = slice_get-map (kept_block p) p.program.blocks p.program.main ∙ ap (option_map (kept_block p)) e
 

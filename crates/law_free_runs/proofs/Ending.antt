@@ -50,7 +50,7 @@ record Joined (g : Setting) (s : SeatView) (olds news : List Held) (kept : ℕ �
   new_count : length news ≡ g.elements
   ran : AllRan g olds (accounts s) news kept blocks
 
-own_part : (g : Setting) (e : ℕ) (h : Held) → IsPlaced g e h → IsOwn g e h.part
+pub own_part : (g : Setting) (e : ℕ) (h : Held) → IsPlaced g e h → IsOwn g e h.part
 own_part g e h p = record { element = p.element; elements = p.elements; frames = p.frames; own_element = p.sound.part.own_element; own_elements = p.sound.part.own_elements }
 
 module _ (g : Setting) (s : SeatView) (olds news : List Held) (kept : ℕ → List Token) (blocks : ℕ → List Block) (x : Joined g s olds news kept blocks) (d : Held) where

@@ -36,7 +36,7 @@ tokens_by d (h ∷ hs) = ap (λ (l : List Token). h.queue ++ l) (tokens_by d hs)
 abbrev pub box : List Bundle → List Bundle → List Token
 box took sent = joined (drop (length took) sent)
 
-joined_append : (xs ys : List Bundle) → joined (xs ++ ys) ≡ joined xs ++ joined ys
+pub joined_append : (xs ys : List Bundle) → joined (xs ++ ys) ≡ joined xs ++ joined ys
 joined_append [] ys = refl
 joined_append (x ∷ xs) ys = ap (λ (l : List Token). x ++ l) (joined_append xs ys) ∙ sym (append_assoc x (joined xs) (joined ys))
 

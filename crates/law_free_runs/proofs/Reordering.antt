@@ -23,10 +23,10 @@ abbrev Mine : ℕ → ℕ → List Token → Type 0
 Mine n e ts = All (λ (t : Token). element_of n t.to ≡ e) ts
 
 -- the history's first block is of that element, or not
-first_own : (x : Block) (log : List Block) (e : ℕ) → x.element ≡ e → blocks_by e (x ∷ log) ≡ x ∷ blocks_by e log
+pub first_own : (x : Block) (log : List Block) (e : ℕ) → x.element ≡ e → blocks_by e (x ∷ log) ≡ x ∷ blocks_by e log
 first_own x log e same = subst (λ (k : ℕ). blocks_by k (x ∷ log) ≡ x ∷ blocks_by k log) same (by_same x log)
 
-first_other : (x : Block) (log : List Block) (e : ℕ) → (x.element ≡ e → ⊥) → blocks_by e (x ∷ log) ≡ blocks_by e log
+pub first_other : (x : Block) (log : List Block) (e : ℕ) → (x.element ≡ e → ⊥) → blocks_by e (x ∷ log) ≡ blocks_by e log
 first_other x log e other = by_other x log e (λ (s : e ≡ x.element). other (sym s))
 
 -- what a block of the element spends is addressed to it

@@ -18,8 +18,7 @@ use Rattle.law_free_runs.specs.Laws.{Came, BeganFreely, ShowsFreely, StopsFreely
 use Rattle.law_free_runs.proofs.Running.{run_of_history}
 
 -- LISTS
-
-points : {X : Type 0} (P : ℕ → X → Type 0) (k : ℕ) (xs : List X) → ((i : ℕ) (x : X) → slice_get xs i ≡ Some x → P (k + i) x) → AllFrom P k xs
+pub points : {X : Type 0} (P : ℕ → X → Type 0) (k : ℕ) (xs : List X) → ((i : ℕ) (x : X) → slice_get xs i ≡ Some x → P (k + i) x) → AllFrom P k xs
 points P k [] all = tt
 points P k (x ∷ xs) all =
     let here : k + 0 ≡ k = omega arith in

@@ -1,39 +1,28 @@
 -- The code of every graph is faithful, if its plan is so before the passes.
-use Rattle.std.proofs.Common.{◌≡◌, refl, sym, ◌∙◌, subst, ℕ, zero, suc, ◌+◌, ◌≤◌, List, [], ◌∷◌, map, length, Some, Contains, arith}
+use Rattle.std.proofs.Common.{◌≡◌, refl, sym, ◌∙◌, subst, ℕ, zero, suc, ◌+◌, ◌≤◌, List, [], ◌∷◌, length, Some, Contains, arith}
 use Rattle.std.proofs.lemmas.List.Elements.{Contains-append_left}
 use Rattle.std.proofs.lemmas.Option.{slice_get_within}
 use Rattle.semantics.specs.declared.program.Dest.{Dest}
 use Rattle.semantics.specs.declared.program.Op.TheVariants.{Link}
 use Rattle.std.specs.Prelude.{slice_get}
-use Rattle.lemmas.proofs.Alls.{all_at}
 use Rattle.semantics.specs.Graph.{Flow, Graph, flow_of}
 use Rattle.semantics.specs.Text.{HasText}
 use Rattle.semantics.specs.WellFormed.{WellFormed}
 use Rattle.semantics.specs.Program.{Instr, CodeBlock}
 use Rattle.semantics.specs.Plan.{Plan, landing}
-use Rattle.semantics.specs.Orderly.{inputs_in}
-use Rattle.code.specs.Sound.{IsSound, IsSoundDest}
+use Rattle.code.specs.Sound.{IsSoundDest}
 use Rattle.law_reuse.specs.Theorem.{TakesInputs}
 use Rattle.expansion.specs.Expanded.{expanded}
-use Rattle.law_expansion.specs.Shapes.{IsShaped, AreShaped}
 use Rattle.law_expansion.proofs.ArcsLaws.{arcs_go_forward}
-use Rattle.law_expansion.proofs.FactsSound.{is_sound}
-use Rattle.law_expansion.proofs.ShapesPlans.{plans_are_shaped}
 use Rattle.folding.specs.Folded.{folded, folded_block}
 use Rattle.fanout.specs.Narrowed.{narrowed_block}
 use Rattle.law_emitted.proofs.Laws.{emitted_faithful, emitted_releases, emitted_credits, emitted_holders}
 use Rattle.law_composition.specs.Graphs.{plan_of}
-use Rattle.law_composition.proofs.AnyGraph.{plans_are_sound, plans_take_inputs}
+use Rattle.law_composition.proofs.AnyGraph.{plans_are_sound, plans_take_inputs, expanded_is_sound}
 use Rattle.law_once.specs.Ready.{IsReady}
-use Rattle.law_passes.proofs.Passes.{passes_suffice}
+use Rattle.law_passes.proofs.Passes.{passes_suffice, inputs_kept}
 use Rattle.law_graphs.specs.Graphs.{ExpandedIsTidy, IsExpandedFor, GraphsFollow}
 use Rattle.law_graphs.proofs.Origins.{plans_have_origins}
-
-pub expanded_is_sound : (g : Graph) → HasText g → WellFormed g → IsSound (expanded (flow_of g))
-expanded_is_sound g text well =
-    let arcs = arcs_go_forward g text well in
-    let p : Plan = expanded (flow_of g) in
-    is_sound g text well (λ b n c i at there. all_at IsShaped c.instrs n i (all_at AreShaped p.program.blocks b c (plans_are_shaped g well) at) there) arcs.lefts arcs.dests arcs.entries arcs.rights
 
 -- the last instruction of a landing stands in the block
 pub expanded_is_tidy : ExpandedIsTidy
@@ -55,12 +44,6 @@ expanded_is_tidy g text well once = record { landings = landings; once = once }
             let last = (arcs_go_forward g text well).landings b n (n + d.ahead + k) callee c i d at_b at_n links named (omega arith) (omega (arith, e)) in
             let within = slice_get_within c.instrs (n + d.ahead + k) last.0 last.1 in
             omega (arith, e, within)
-
--- a block with as many inputs
-inputs_kept : (f : CodeBlock → CodeBlock) → ((c : CodeBlock) → (f c).inputs ≡ c.inputs) → (cs : List CodeBlock) (b : ℕ) → inputs_in (slice_get (map f cs) b) ≡ inputs_in (slice_get cs b)
-inputs_kept f same [] b = refl
-inputs_kept f same (c ∷ cs) zero = same c
-inputs_kept f same (c ∷ cs) (suc b) = inputs_kept f same cs b
 
 pub expanded_takes : (g : Graph) → HasText g → WellFormed g → TakesInputs (flow_of g) (expanded (flow_of g))
 expanded_takes g text well =

@@ -6,8 +6,6 @@ use Rattle.lemmas.proofs.SliceGet.{map_get}
 use Rattle.tags.specs.declared.value.Origin.{Origin}
 use Rattle.tags.specs.declared.value.Origin.TheVariants.{Untold, At}
 use Rattle.semantics.specs.declared.graph.Region.{Region}
-use Rattle.semantics.specs.declared.graph.Kind.{Kind}
-use Rattle.semantics.specs.declared.graph.Kind.TheVariants.{Lit, Apply1, Apply2, Cond, Enter, Merge, Fetch, Store, Call, StrictCall, Loop}
 use Rattle.semantics.specs.declared.program.Mark.{Mark}
 use Rattle.semantics.specs.declared.program.Op.{Op}
 use Rattle.semantics.specs.Graph.{Block, Flow, flow_of}
@@ -18,31 +16,16 @@ use Rattle.expansion.specs.Variants.{some_block_loops, variants_of}
 use Rattle.expansion.specs.Blocks.{entries, plain_build, variant_build, variant_of}
 use Rattle.expansion.specs.Expanded.{scope_of, plain_code, variant_code, expanded}
 use Rattle.law_expansion.proofs.FactsHeads.{push_cases, head, heads, heads_connected, heads_added}
-use Rattle.law_expansion.proofs.FactsSteps.{Stage, Idle, Step, Basics, AllowsKind, Allows, entries_keep, plain_keeps, variant_keeps}
+use Rattle.law_expansion.proofs.FactsSteps.{Stage, Idle, Step, Allows, entries_keep, plain_keeps, variant_keeps}
 use Rattle.law_expansion.proofs.FactsCodes.{code_cases}
 use Rattle.law_composition.proofs.FoldedInstrs.{AllInstrs, IsUntold, all_untold}
 use Rattle.semantics.specs.declared.version.Version.TheVariants.{One, Two}
+use Rattle.law_expansion.proofs.FactsWholes.{any, any_kind}
 use Rattle.law_graphs.specs.Graphs.{PlansHaveOrigins}
 
 -- any operation may stand
 abbrev Any : Op → Type 0
 Any op = ⊤
-
-any_basics : (most : ℕ) → Basics Any most
-any_basics most = record { copy = tt; sync = tt; switch = tt; frame = tt; literal = λ z. tt; one = λ op. tt; two = λ op. tt; return = λ o l. tt; ask = λ o l. tt; release = λ o l. tt }
-
-any_kind : (vars : List ℕ) (kind : Kind ℕ) (n : ℕ) → AllowsKind Any vars kind n
-any_kind vars (Lit z) n = tt
-any_kind vars (Apply1 op) n = tt
-any_kind vars (Apply2 op) n = tt
-any_kind vars Cond n = tt
-any_kind vars Enter n = tt
-any_kind vars (Merge x) n = tt
-any_kind vars (Fetch a) n = tt
-any_kind vars (Store a) n = tt
-any_kind vars (Call f) n = (tt, λ e l. tt)
-any_kind vars (StrictCall f) n = (tt, λ e l. tt)
-any_kind vars (Loop f k) n = ((tt, λ e l. tt), tt, tt, tt, tt)
 
 abbrev NoOrigin : Origin → Type 0
 NoOrigin o = o ≡ Untold
@@ -82,8 +65,8 @@ module _ (fl : Flow) (first : nat_lt fl.version 2 ≡ true) where
   plain_told i b n x g =
       let s : Scope = scope_of fl.version fl.blocks vars i b false in
       let a : Allows Any NoOrigin (most b) s = allows i b false in
-      let begun : Told Idle (entries s) = entries_keep Told Any NoOrigin (most b) (any_basics (most b)) refl adds_told (λ s b o to q h n x g. h n x (ap (λ hs. slice_get hs n) (sym (heads_connected b.instrs o to q)) ∙ g)) (λ s b o h. h) s a (λ n x g. absurd (cc)) in
-      let all : Told Idle (plain_build s) = plain_keeps Told Any NoOrigin (most b) (any_basics (most b)) refl adds_told (λ s b o to q h n x g. h n x (ap (λ hs. slice_get hs n) (sym (heads_connected b.instrs o to q)) ∙ g)) (λ s b o h. h) s a begun in
+      let begun : Told Idle (entries s) = entries_keep Told Any NoOrigin (most b) (any (most b)) refl adds_told (λ s b o to q h n x g. h n x (ap (λ hs. slice_get hs n) (sym (heads_connected b.instrs o to q)) ∙ g)) (λ s b o h. h) s a (λ n x g. absurd (cc)) in
+      let all : Told Idle (plain_build s) = plain_keeps Told Any NoOrigin (most b) (any (most b)) refl adds_told (λ s b o to q h n x g. h n x (ap (λ hs. slice_get hs n) (sym (heads_connected b.instrs o to q)) ∙ g)) (λ s b o h. h) s a begun in
       all n (head x) (map_get head (plain_build s).instrs n x g)
 
   variant_told : (i : ℕ) (b : Block ℕ) (n : ℕ) (x : Instr) → slice_get (variant_code fl.version fl.blocks vars i b).code.instrs n ≡ Some x → x.origin ≡ Untold
@@ -91,9 +74,9 @@ module _ (fl : Flow) (first : nat_lt fl.version 2 ≡ true) where
   variant_told i b n x g =
       let s : Scope = scope_of fl.version fl.blocks vars i b true in
       let a : Allows Any NoOrigin (most b) s = allows i b true in
-      let begun : Told Idle (entries s) = entries_keep Told Any NoOrigin (most b) (any_basics (most b)) refl adds_told (λ s b o to q h n x g. h n x (ap (λ hs. slice_get hs n) (sym (heads_connected b.instrs o to q)) ∙ g)) (λ s b o h. h) s a (λ n x g. absurd (cc)) in
+      let begun : Told Idle (entries s) = entries_keep Told Any NoOrigin (most b) (any (most b)) refl adds_told (λ s b o to q h n x g. h n x (ap (λ hs. slice_get hs n) (sym (heads_connected b.instrs o to q)) ∙ g)) (λ s b o h. h) s a (λ n x g. absurd (cc)) in
       let all : Told Idle (variant_build s (variant_of vars i)) =
-      variant_keeps Told Any NoOrigin (most b) (any_basics (most b)) refl adds_told (λ s b o to q h n x g. h n x (ap (λ hs. slice_get hs n) (sym (heads_connected b.instrs o to q)) ∙ g)) (λ s b o h. h) s (variant_of vars i) a (λ e l. tt) begun in
+      variant_keeps Told Any NoOrigin (most b) (any (most b)) refl adds_told (λ s b o to q h n x g. h n x (ap (λ hs. slice_get hs n) (sym (heads_connected b.instrs o to q)) ∙ g)) (λ s b o h. h) s (variant_of vars i) a (λ e l. tt) begun in
       all n (head x) (map_get head (variant_build s (variant_of vars i)).instrs n x g)
 
   block_told : (b : ℕ) (c : CodeBlock) → slice_get (expanded fl).program.blocks b ≡ Some c → (n : ℕ) (x : Instr) → slice_get c.instrs n ≡ Some x → x.origin ≡ Untold

@@ -1,8 +1,7 @@
 -- What a node invokes: its code, where its values come, and the landing to which it returns.
-use Rattle.std.proofs.Common.{◌≡◌, ℕ, ◌+◌, ◌<◌, true, false, sym, ap, ◌∙◌, subst, arith, true≢false, le-ltb, Option, Some, None}
-use Rattle.semantics.specs.declared.graph.Kind.{Kind}
+use Rattle.std.proofs.Common.{◌≡◌, ℕ, ◌+◌, ◌<◌, true, sym, ap, ◌∙◌, subst, arith, le-ltb, Option, Some, None}
 use Rattle.semantics.specs.Graph.{Node, Flow}
-use Rattle.semantics.specs.Meaning.{Context, Called, Turned, callee}
+use Rattle.semantics.specs.Meaning.{Context, Called, Turned}
 use Rattle.semantics.specs.Program.{first_of}
 use Rattle.semantics.specs.Plan.{Plan, landing, landing_in}
 use Rattle.law_contexts.specs.Parts.{Entry, Line, Landing}
@@ -11,13 +10,8 @@ use Rattle.law_contexts.specs.Contexts.{Wires, or_zero, block_in, code_in, child
 use Rattle.law_contexts.specs.Stands.{ip_of, row_of}
 use Rattle.law_contexts.specs.Theorem.{IsGood}
 use Rattle.law_arms.proofs.Invoked.{kind_line, call_invoked, loop_invoked, looped_at, code_at, Child, ByCall, ByLoop, child_cases, child_here}
-use Rattle.law_arms.proofs.Lands.{loop_code}
+use Rattle.law_arms.proofs.Lands.{loop_code, call_code}
 use Rattle.law_contexts.specs.Blocks as Blocks
-
-call_code : (v : ℕ → ℕ) (kind : Kind ℕ) (f : ℕ) → call_kind kind ≡ true → callee kind ≡ Some f → code_called v kind ≡ f
-call_code v (Kind.Call g) f h e = cc
-call_code v (Kind.StrictCall g) f h e = cc
-call_code v kind f h e = absurd (true≢false (sym h))
 
 module _ (stage : ℕ) (fl : Flow) (p : Plan) (w : Wires) (good : IsGood stage fl p w) where
   called_code : (d : Context) (n : ℕ) → IsContext fl (Called d n) → callee_code w.variant (block_in fl d) n ≡ code_in fl w (Called d n)

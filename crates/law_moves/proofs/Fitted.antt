@@ -13,10 +13,10 @@ use Rattle.semantics.specs.Meaning.{Context}
 use Rattle.law_contexts.specs.Parts.{Part, Sender, Merge, CondEnd, Landing, Giver, Taker, Drainer, Opener, Asked, NextAsked, Held, Drained, Shown, Done, Freed, inlet, Item, item, spot_of}
 use Rattle.law_contexts.specs.Blocks.{waits_in, there_in, is_loop}
 use Rattle.law_contexts.specs.Contexts.{block_in, site_in, wiring_in, or_zero, IsContext}
-use Rattle.law_contexts.specs.Wires.{holds_own}
 use Rattle.law_contexts.specs.Firings.{Config, takes, frame_at}
 use Rattle.law_contexts.specs.Laws.{Fits, Allowed, way_fits, port_fits}
 use Rattle.law_contexts.specs.Stands.{frame_of, in_slot, slot_of, is_instr, is_held, Stands}
+use Rattle.law_arms.proofs.Matching.{wait_holds}
 use Rattle.law_moves.specs.Cases.{Taking, net_of}
 use Rattle.law_moves.proofs.Sites.{Coded, coded, Seated, seated, spot_instr}
 use Rattle.law_moves.proofs.Bare.{IsBare, all_bare}
@@ -31,10 +31,6 @@ pair_instr b (Shown n) e = absurd (true≢false (sym e))
 pair_instr b Done e = absurd (true≢false (sym e))
 pair_instr b Freed e = absurd (true≢false (sym e))
 pair_instr b r e = refl
-
-pub pair_holds : (b : Block ℕ) (r : Part) → waits_in b r ≡ true → holds_own b r ≡ true
-pair_holds b (Opener n) e = refl
-pair_holds b r e = e
 
 pub instr_held : (r : Part) → is_instr r ≡ true → is_held r ≡ false
 instr_held (Held n) e = absurd (true≢false (sym e))
@@ -138,7 +134,7 @@ module _ {stage : ℕ} (s : Taking stage) where
       by_context c e two d =
           let h : IsTwo i.context j.inlet.part = subst (λ c. IsTwo c j.inlet.part) (sym e) two in
           let d' : slot_of s.fl s.w i ≡ (wiring_in s.fl s.w i.context).slot j.inlet.part = d ∙ ap (λ c. (wiring_in s.fl s.w c).slot j.inlet.part) (sym e) in
-          (code i a).laid.holders i.inlet.part j.inlet.part (there i a (pair_instr (block_in s.fl i.context) i.inlet.part x)) h.0 (pair_holds (block_in s.fl i.context) i.inlet.part x) (pair_holds (block_in s.fl i.context) j.inlet.part h.1) d'
+          (code i a).laid.holders i.inlet.part j.inlet.part (there i a (pair_instr (block_in s.fl i.context) i.inlet.part x)) h.0 (wait_holds (block_in s.fl i.context) i.inlet.part x) (wait_holds (block_in s.fl i.context) j.inlet.part h.1) d'
 
   abbrev IsLoop : Item → ℕ → Context → Type 0
   IsLoop i n c = (is_loop (block_in s.fl c) n ≡ true) × ((wiring_in s.fl s.w c).slot (Opener n) ≡ slot_of s.fl s.w i)
@@ -150,7 +146,7 @@ module _ {stage : ℕ} (s : Taking stage) where
       no_loop : (n : ℕ) → IsLoop i n i.context → ⊥
       no_loop n (l, e) =
           let r = i.inlet.part in
-          let same = (code i a).laid.holders (Opener n) r l (there i a (pair_instr (block_in s.fl i.context) r x)) refl (pair_holds (block_in s.fl i.context) r x) e in
+          let same = (code i a).laid.holders (Opener n) r l (there i a (pair_instr (block_in s.fl i.context) r x)) refl (wait_holds (block_in s.fl i.context) r x) e in
           true≢false (sym x ∙ ap (waits_in (block_in s.fl i.context)) (sym same))
 
       by_case : (old.base (frame_of s.fl net.fired i.context) (slot_of s.fl s.w i) ≡ Empty)

@@ -22,7 +22,7 @@ use Rattle.law_net.proofs.NetSlots.{InSlots}
 use Rattle.law_net.proofs.Orders.{at_first, at_last}
 use Rattle.law_once.specs.Alike.{plain_dests}
 use Rattle.law_once.proofs.SpreadNewArcs.{uses_new}
-use Rattle.law_contexts.specs.Parts.{Part, Held, Giver, Taker, Drainer, Landing, Inlet, Note, BackTo, Item, item, each, Firing}
+use Rattle.law_contexts.specs.Parts.{Part, Giver, Taker, Drainer, Landing, Inlet, Note, BackTo, Item, item, each, Firing}
 use Rattle.law_contexts.specs.Blocks.{is_loop}
 use Rattle.law_contexts.specs.Contexts.{block_in, code_in, wiring_in, IsContext}
 use Rattle.law_contexts.specs.Wires.{leads_to, stands_at, is_given}
@@ -30,7 +30,7 @@ use Rattle.law_contexts.specs.Firings.{Config, takes, makes, frame_at}
 use Rattle.law_contexts.specs.Stands.{frame_of, ip_of, word_of, token_of, on_side, in_slot, slot_of, only, is_held, is_item_at, items_at, named_by, is_instr, is_entry_part, Stands}
 use Rattle.law_moves.specs.Cases.{Taking, IsCaused, IsFree, net_of, Followed, is_still}
 use Rattle.law_moves.proofs.Lists.{count_append, count_none}
-use Rattle.law_moves.proofs.Fitted.{framed, among, taken_here}
+use Rattle.law_moves.proofs.Fitted.{framed, among, taken_here, instr_held}
 use Rattle.law_moves.proofs.Moved.{WasThere, UsedNow, is_credit, calm_item}
 use Rattle.law_moves.proofs.Rules.{at, instr, stood, goes_to}
 use Rattle.law_moves.proofs.Sends.{Stays, Wire, shows_stay, dests_sent, wired_to}
@@ -42,10 +42,6 @@ wired_calm b (Giver n) e = absurd (true≢false e)
 wired_calm b (Taker n) e = absurd (true≢false e)
 wired_calm b (Drainer n) e = absurd (true≢false e)
 wired_calm b r e = refl
-
-wired_held : (r : Part) → is_instr r ≡ true → is_held r ≡ false
-wired_held (Held n) e = absurd (true≢false (sym e))
-wired_held r e = refl
 
 module _ {stage : ℕ} (s : Taking stage) (is : is_instr s.i.inlet.part ≡ true) where
   abbrev net : Config
@@ -146,7 +142,7 @@ module _ {stage : ℕ} (s : Taking stage) (is : is_instr s.i.inlet.part ≡ true
 
       held : (j : Item) → Contains g.out j ⊎ OnWire g.note g.second j → is_held j.inlet.part ≡ false
       held j (inl h) = g.out_held j h
-      held j (inr (x, h, e)) = ap (λ (j : Item). is_held j.inlet.part) (sym e) ∙ wired_held x.part (wires_are x h)
+      held j (inr (x, h, e)) = ap (λ (j : Item). is_held j.inlet.part) (sym e) ∙ instr_held x.part (wires_are x h)
 
       calm : (j : Item) → OnWire g.note g.second j → is_credit j.inlet.part ≡ false
       calm j (x, h, e) = ap (λ (j : Item). is_credit j.inlet.part) (sym e) ∙ wired_calm (block_in s.fl c) x.part (wired_to s is g.second x h).1

@@ -26,13 +26,14 @@ use Rattle.law_contexts.specs.Firings.{Config, begin, takes, own_takes, times, f
 use Rattle.law_contexts.specs.Stands.{frame_of, word_of, token_of, on_side, in_slot, slot_of, only, is_asked, is_held, reads, is_item_at, items_at, cont_in, conts_of, granted_of, ledger, KeepsCredits, Stands, named_by, is_instr, is_entry_part, came}
 use Rattle.law_contexts.proofs.Sames.{same_context-true, same_context-refl}
 use Rattle.law_arms.proofs.Pigeons.{item_there}
+use Rattle.law_arms.proofs.Matching.{wait_holds}
 use Rattle.law_moves.specs.Cases.{Taking, IsCaused, net_of, is_quiet}
 use Rattle.law_moves.proofs.Lists.{kept_out, count_append, count_same, count_none, count_no, count_kept}
 use Rattle.law_moves.proofs.Moved.{same_ledger}
 use Rattle.law_moves.proofs.Followed.{same_slots}
 use Rattle.law_moves.proofs.Settled.{pool_is}
 use Rattle.law_moves.proofs.Sites.{Coded, coded}
-use Rattle.law_moves.proofs.Fitted.{code, there, framed, taken_here, waiting_here, pair_instr, pair_holds}
+use Rattle.law_moves.proofs.Fitted.{code, there, framed, taken_here, waiting_here, pair_instr}
 use Rattle.law_moves.proofs.Lenders.{AreLenders, word_by, token_by, frames_lent, own_lent, memory_lent, times_lent, last_lent, IsLoops, LOpener, LGiver, LTaker, LDrainer, loops_asked}
 
 module _ {stage : ℕ} (s : Taking stage) (c : Context) (con : IsContext s.fl c) (n : ℕ) (l : is_loop (block_in s.fl c) n ≡ true) (g : ℕ) (at : frame_at s.fl (net_of s).fired c ≡ Some g) where
@@ -112,7 +113,7 @@ module _ {stage : ℕ} (s : Taking stage) (c : Context) (con : IsContext s.fl c)
       let k : is_loop (block_in s.fl j.context) n ≡ true = subst (λ (d : Context). is_loop (block_in s.fl d) n ≡ true) one l in
       let q' : (wiring_in s.fl s.w j.context).slot (Opener n) ≡ slot_of s.fl s.w j = subst (λ (d : Context). (wiring_in s.fl s.w d).slot (Opener n) ≡ slot_of s.fl s.w j) one q in
       let r = j.inlet.part in
-      let same = (code s j a).laid.holders (Opener n) r k (there s j a (pair_instr (block_in s.fl j.context) r o.1)) refl (pair_holds (block_in s.fl j.context) r o.1) q' in
+      let same = (code s j a).laid.holders (Opener n) r k (there s j a (pair_instr (block_in s.fl j.context) r o.1)) refl (wait_holds (block_in s.fl j.context) r o.1) q' in
       true≢false (sym o.1 ∙ ap (waits_in (block_in s.fl j.context)) (sym same))
 
   module _ (new : List Firing) (made left : List Item) (v : Lends new made left) where

@@ -37,7 +37,7 @@ shape_of p wired a i at =
     all_at (λ (i : Instr). HasShape i.op (length i.firsts) (length i.seconds)) F.stands.code.instrs F.n i (all_at IsPlanBlock p.program.blocks F.b F.stands.code wired.plan.blocks F.stands.block).shapes F.stands.instr
 
 -- what a `give` leaves in its slot
-give_leaves : (i : Instr) (f k : ℕ) (s n : MStore) (v : SlotState) → i.op ≡ Give k → n ≡ with_slot_in s f (slot_of i i.op) v → n.slots f i.slot ≡ v
+pub give_leaves : (i : Instr) (f k : ℕ) (s n : MStore) (v : SlotState) → i.op ≡ Give k → n ≡ with_slot_in s f (slot_of i i.op) v → n.slots f i.slot ≡ v
 give_leaves i f k s n v e is = ap (λ (n : MStore). n.slots f i.slot) (is ∙ ap (λ (op : Op). with_slot_in s f (slot_of i op) v) e) ∙ slot_filled s f i.slot v
 
 module _ (p q : Plan) (S : Spreads p q) where

@@ -25,12 +25,12 @@ use Rattle.law_once.proofs.SpreadSent.{Tells, rule_tells}
 use Rattle.law_once.proofs.SpreadClumps.{in_meant}
 use Rattle.law_once.proofs.SpreadOldRun.{Setting, OldRun, is_orderly_run, arrives}
 
-back_same : (h : ℕ → ℕ) (w : Word) → unless_back (ip_word h w) ≡ unless_back w
+pub back_same : (h : ℕ → ℕ) (w : Word) → unless_back (ip_word h w) ≡ unless_back w
 back_same h (Word.Val v) = refl
 back_same h (Word.Frame f) = refl
 back_same h (Word.Back c) = refl
 
-value_same : (h : ℕ → ℕ) (w : Word) → unless_value (ip_word h w) ≡ unless_value w
+pub value_same : (h : ℕ → ℕ) (w : Word) → unless_value (ip_word h w) ≡ unless_value w
 value_same h (Word.Val v) = refl
 value_same h (Word.Frame f) = refl
 value_same h (Word.Back c) = refl

@@ -58,7 +58,7 @@ same_element h n To.Manager = refl
 same_element h n (To.Release f) = refl
 same_element h n (To.Host j) = refl
 
-same_request : (h : ℕ → ℕ) (to : To) → is_request (ip_to h to) ≡ is_request to
+pub same_request : (h : ℕ → ℕ) (to : To) → is_request (ip_to h to) ≡ is_request to
 same_request h (To.Instr f ip r) = refl
 same_request h (To.Fetch x) = refl
 same_request h (To.Store x v) = refl
@@ -66,7 +66,7 @@ same_request h To.Manager = refl
 same_request h (To.Release f) = refl
 same_request h (To.Host j) = refl
 
-seeks_op : (i j : Instr) → j.op ≡ i.op → seeks_credit (Some j) ≡ seeks_credit (Some i)
+pub seeks_op : (i j : Instr) → j.op ≡ i.op → seeks_credit (Some j) ≡ seeks_credit (Some i)
 seeks_op i j e = ap (λ (op : Op). elim op as (λ x. Bool) [ Open k ↦ true | Take k ↦ true | _ ↦ false ]) e
 
 abbrev unit_of : Bool → ℕ

@@ -74,7 +74,7 @@ pub releases_are : (p : Program) (f base : ℕ) (z : Size) (old : Machine) (even
 releases_are p f base z old [] new r = refl
 releases_are p f base z old (x ∷ events) new r = ap (λ (n : ℕ). released_at p f base x.1.to r.1.made + n) (releases_are p f base z r.0 events new r.2)
 
-granted_slot : (h : ℕ → ℕ) (op : Op) (s : SlotState) → granted_by op (ip_slot h s) ≡ granted_by op s
+pub granted_slot : (h : ℕ → ℕ) (op : Op) (s : SlotState) → granted_by op (ip_slot h s) ≡ granted_by op s
 granted_slot h (Open k) Empty = refl
 granted_slot h (Open k) (Slot.Left w) = refl
 granted_slot h (Open k) (Slot.Right w) = refl

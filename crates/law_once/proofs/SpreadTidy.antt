@@ -30,7 +30,7 @@ module _ (p q : Plan) (S : Spreads p q) where
   abbrev h : ℕ → ℕ
   h = S.h
 
-  -- no `give` and no `take` stands get_some
+  -- no `give` and no `take` stands there
   abbrev Lone : ℕ → Type 0
   Lone ip = often (instr_at Q ip) ≡ false
 

@@ -26,7 +26,7 @@ use Rattle.law_over.proofs.Made.{fired, Stands, taken_stands, fit_of, sent_by, g
 use Rattle.law_over.proofs.Open.{first_of}
 
 -- the parts from which continuations and frames go
-return_from : (q : Part) → ItsReturn ≡ goes_from q → (q ≡ Entry) ⊎ (q ≡ TurnCont)
+pub return_from : (q : Part) → ItsReturn ≡ goes_from q → (q ≡ Entry) ⊎ (q ≡ TurnCont)
 return_from Entry e = inl refl
 return_from TurnCont e = inr refl
 return_from (Fanned n) e = absurd (cc)

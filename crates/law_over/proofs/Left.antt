@@ -19,14 +19,14 @@ use Rattle.law_contexts.specs.Stands.{Past}
 use Rattle.law_contexts.specs.Theorem.{IsGood}
 use Rattle.law_contexts.specs.Packages.{InputsFit, Keeps}
 use Rattle.law_contexts.proofs.Sames.{spot_is, inlet_is}
-use Rattle.law_arms.proofs.Sends.{first_taken}
+use Rattle.law_arms.proofs.Sends.{first_taken, cell_plain}
 use Rattle.law_arms.proofs.Comes.{one_spot}
 use Rattle.law_arms.proofs.Invoked.{is_turned}
 use Rattle.law_arms.proofs.Rounds.{earlier_flag, under}
 use Rattle.law_arms.proofs.Rivals.{flag_at, turn_last, Order, Same, Before, After, order}
 use Rattle.law_arms.proofs.Turns.{credit_taken, drained_taken, no_later, taker_way, left_at, spot_at}
 use Rattle.law_over.specs.Over.{IsDecided, IsOpen, is_turning, is_leaving, EndIsLast, EndsAreLast, CallsAreOver, LoopsAreOver, OfNets}
-use Rattle.law_over.proofs.Sorts.{IsHere, cell_plain}
+use Rattle.law_over.proofs.Sorts.{IsHere}
 use Rattle.law_over.proofs.Made.{fired, taken, Stands, taken_stands, left_stands, fits, allowed, twice, first_in, asked_by, next_asked_by, credit_gone, call_by, drained_by}
 use Rattle.law_over.proofs.Open.{one_side, first_of, right_first, renewed_too, stands_open, root_open, region_open}
 use Rattle.law_over.proofs.Back.{context_of, turn_ended, turn_asked}

@@ -81,7 +81,6 @@ bears (Held n) x = BReader n refl refl
 bears r x = BValue refl
 
 -- A CONTEXT THAT A WORD NAMES
-
 none_some : (d : Context) → None ≡ Some d → ⊥
 none_some d e = absurd (cc)
 

@@ -1,20 +1,20 @@
 -- The parts of any code block: switches, what joins two arms, the last part, and all others, with what hands its word on without a wire.
 use Rattle.std.proofs.Common.{◌≡◌, ℕ, ◌<◌, Bool, true, false, not, ◌⊎◌, inl, inr, [], length, Option, Some, None, nat_lt, ◌==◌, refl, sym, ap, ◌∙◌, arith, true≢false}
 use Rattle.std.specs.Prelude.{Contains}
-use Rattle.std.proofs.lemmas.Bool.{and_parts, or_right, or_cases}
+use Rattle.std.proofs.lemmas.Bool.{and_parts, or_cases}
 use Rattle.std.proofs.lemmas.List.Elements.{Contains-append_left}
 use Rattle.tags.specs.declared.token.Port.TheVariants.{Left}
 use Rattle.semantics.specs.declared.graph.Region.{Region}
 use Rattle.semantics.specs.declared.graph.Region.TheVariants.{Root, Arm}
 use Rattle.semantics.specs.declared.graph.Kind.{Kind}
-use Rattle.semantics.specs.Graph.{Node, Block, Flow}
+use Rattle.semantics.specs.Graph.{Block, Flow}
 use Rattle.semantics.specs.Plan.{Plan}
 use Rattle.semantics.specs.Meaning.{Context, arm_of, block_number, block_numbered}
 use Rattle.semantics.specs.Cause.{is_turn}
 use Rattle.std.specs.Prelude.{slice_get}
 use Rattle.lemmas.proofs.Contains.{contains_head}
 use Rattle.law_contexts.specs.Parts.{Part, Trigger, Gate, Merge, Framer, Fanned, Linker, Landing, CallDone, Giver, Taker, Drainer, LoopDone, TurnCont, TurnFlag, TurnValue, Asker, NextFramer, NextFanned, CondEnd, End, inlet, Firing, Held, Drained}
-use Rattle.law_contexts.specs.Blocks.{is_cell, is_plain, plain_kind, cell_kind, side, Wiring, there_in, waits_in, is_kind, enter_kind, is_call, is_loop, merge_cond, lies_in, outside, region_of, entered, arm_round, leaves_in, is_switch, flag}
+use Rattle.law_contexts.specs.Blocks.{side, Wiring, there_in, waits_in, enter_kind, is_call, is_loop, merge_cond, lies_in, outside, region_of, entered, arm_round, leaves_in, is_switch, flag}
 use Rattle.law_contexts.specs.Contexts.{Wires, block_in, site_in, wiring_in, IsContext}
 use Rattle.law_contexts.specs.Wires.{AreLawful, IsLaidOut, answered_at, has_no_wire, is_given, wired_way}
 use Rattle.law_contexts.specs.Firings.{left_way, left_item}
@@ -25,15 +25,6 @@ use Rattle.law_arms.proofs.Sends.{first_taken}
 use Rattle.law_arms.proofs.Invoked.{kind_line, block_here, code_at, lawful_at}
 use Rattle.law_arms.proofs.Rounds.{IsChoice, end_choice, flag_root}
 use Rattle.law_over.specs.Over.{is_turning}
-
--- a fetch or a store is a plain node
-pub cell_plain : (b : Block ℕ) (n : ℕ) → is_cell b n ≡ true → is_plain b n ≡ true
-cell_plain b n e = let k = kind_line cell_kind b n e in or_right (nat_lt n b.inputs) (is_kind plain_kind b n) (ap (λ (o : Option (Node ℕ)). elim o as (λ x. Bool) [ None ↦ false | Some line ↦ plain_kind line.kind ]) k.1 ∙ by_kind k.0.kind k.2)
-  where
-    by_kind : (kind : Kind ℕ) → cell_kind kind ≡ true → plain_kind kind ≡ true
-    by_kind (Kind.Fetch a) e = refl
-    by_kind (Kind.Store a) e = refl
-    by_kind kind e = absurd (true≢false (sym e))
 
 enter_lies : (r : Region) (k : Kind ℕ) (num : ℕ) → enter_kind k ≡ true → HasOperands r k num → r ≡ Root → ⊥
 enter_lies r Kind.Enter num e h f = h.1 f

@@ -13,7 +13,7 @@ use Rattle.law_passes.specs.Passes.{FoldedIsReady, PassesSuffice}
 use Rattle.law_passes.proofs.FoldedTidy.{folded_is_tidy}
 
 -- a block with as many inputs
-inputs_kept : (f : CodeBlock → CodeBlock) → ((c : CodeBlock) → (f c).inputs ≡ c.inputs) → (cs : List CodeBlock) (b : ℕ) → inputs_in (slice_get (map f cs) b) ≡ inputs_in (slice_get cs b)
+pub inputs_kept : (f : CodeBlock → CodeBlock) → ((c : CodeBlock) → (f c).inputs ≡ c.inputs) → (cs : List CodeBlock) (b : ℕ) → inputs_in (slice_get (map f cs) b) ≡ inputs_in (slice_get cs b)
 inputs_kept f same [] b = refl
 inputs_kept f same (c ∷ cs) zero = same c
 inputs_kept f same (c ∷ cs) (suc b) = inputs_kept f same cs b

@@ -15,7 +15,7 @@ use Rattle.semantics.specs.Machine.{Store as MStore, put_at, with_slot, with_out
 use Rattle.semantics.specs.Plan.{Plan}
 use Rattle.law_reuse.proofs.Fold.{put_same, put_other}
 use Rattle.law_reuse.proofs.PlacedCode.{outcome_same}
-use Rattle.law_reuse.proofs.PlacedEvents.{Unmoved, in_slot, slot_moved}
+use Rattle.law_reuse.proofs.PlacedEvents.{Unmoved, in_slot, slot_moved, unmoved_put, unmoved_refl}
 use Rattle.law_reuse.proofs.OtherEvents.{Same, Carried, fetch_carried, store_carried, request_carried, release_carried}
 use Rattle.law_renumber.specs.Renumbers.{IsRenumbered, HoldsIn, RenumbersBlock, RenumbersAll, with_blocks}
 use Rattle.law_renumber.proofs.Places.{first_is, outputs_is}
@@ -64,12 +64,6 @@ agrees_put hold c new old r v apart h A = record { same = λ k u. same k u (case
     shown : (k : ℕ) → (r ≡ k) ⊎ (r ≡ k → ⊥) → (put_at old r v k ≡ Empty → ⊥) → HoldsIn c k
     shown k (inl e) full = subst (HoldsIn c) e h
     shown k (inr ne) full = A.shown k (λ e. full (put_other old r v k ne ∙ e))
-
-unmoved_put : (f r : ℕ) (v : SlotState) (m : MStore) → Unmoved f m (with_slot m f r v)
-unmoved_put f r v m = record { slots = λ g ne. put_other m.slots f (put_at (m.slots f) r v) g ne; cells = refl; out = refl; requests = refl; outputs = refl; done = refl }
-
-unmoved_refl : (f : ℕ) (m : MStore) → Unmoved f m m
-unmoved_refl f m = record { slots = λ g ne. refl; cells = refl; out = refl; requests = refl; outputs = refl; done = refl }
 
 -- What the event is to the plan, whose state is u
 pub record Answered (hold : ℕ → ℕ) (c : CodeBlock) (f : ℕ) (o : Option ℕ) (m u new : MStore) (Does : MStore → Type 0) : Type 0 where

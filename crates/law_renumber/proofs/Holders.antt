@@ -1,7 +1,7 @@
 -- The holders that instructions of a folded block still have are numbered apart.
-use Rattle.std.proofs.Common.{◌≡◌, refl, sym, ap, ◌∙◌, ℕ, suc, ◌+◌, ◌<◌, ◌≤◌, ◌⊎◌, inl, inr, Bool, true, false, true≢false, ◌&&◌, List, [], ◌∷◌, length, replicate, Some, if◌then◌else◌, arith}
+use Rattle.std.proofs.Common.{◌≡◌, refl, sym, ap, ◌∙◌, ℕ, suc, ◌+◌, ◌<◌, ◌⊎◌, inl, inr, Bool, true, false, true≢false, ◌&&◌, List, [], ◌∷◌, length, replicate, Some, if◌then◌else◌, arith}
 use Rattle.std.specs.Prelude.{slice_get, slice_set, slice_index_or}
-use Rattle.std.proofs.lemmas.Bool.{cases_eq, cases_lt}
+use Rattle.std.proofs.lemmas.Bool.{cases_eq}
 use Rattle.std.proofs.lemmas.Option.{get_or_from_slice_get}
 use Rattle.std.proofs.lemmas.List.{get_or-set_other, length-replicate}
 use Rattle.lemmas.proofs.Lists.{each_of_falses}
@@ -13,16 +13,8 @@ use Rattle.semantics.specs.Plan.{Plan, OneHolder, is_credit, is_open}
 use Rattle.folding.specs.Folds.{folds_of, fold_at, is_folded}
 use Rattle.folding.specs.Places.{freed_from, layout_of, new_holder, folds_at}
 use Rattle.folding.specs.Laws.{IsBelow}
-use Rattle.folding.proofs.Standing.{before, number_is, before_grows}
-use Rattle.folding.proofs.Held.{freed_length, folded_is}
-
-before_apart : (gs : List Bool) (g h : ℕ) → g < length gs → h < length gs → slice_index_or gs g false ≡ false → slice_index_or gs h false ≡ false → before gs g ≡ before gs h → g ≡ h
-before_apart gs g h a b s t e = pick (cases_lt g h) (cases_lt h g)
-  where
-    pick : (g < h) ⊎ (h ≤ g) → (h < g) ⊎ (g ≤ h) → g ≡ h
-    pick (inl l) o = let k = before_grows gs g h l a s in absurd (omega (arith, k, e))
-    pick (inr l) (inl o) = let k = before_grows gs h g o b t in absurd (omega (arith, k, e))
-    pick (inr l) (inr o) = omega (arith, l, o)
+use Rattle.folding.proofs.Standing.{before, number_is}
+use Rattle.folding.proofs.Held.{freed_length, folded_is, before_apart}
 
 module _ (p : Plan) (c : CodeBlock) where
   -- the holder was freed before, or that of a folded instruction

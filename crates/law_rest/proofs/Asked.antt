@@ -2,7 +2,7 @@
 use Rattle.std.proofs.Common.{◌≡◌, ℕ, ◌+◌, ◌≤◌, ℤ, Bool, true, false, not, ◌⊎◌, inl, inr, List, [], ◌∷◌, ◌++◌, length, map, Option, Some, None, if◌then◌else◌, ltb-true, eqb-true, refl, sym, ap, ◌∙◌, arith, true≢false}
 use Rattle.std.specs.Prelude.{Contains, count_by, flat_map}
 use Rattle.std.proofs.lemmas.List.Elements.{Contains-append_cases, Contains-append_left, Contains-append_right}
-use Rattle.lemmas.proofs.Contains.{contains_cases, contains_head, contains_none, contains_tail, contains_flat_mapped}
+use Rattle.lemmas.proofs.Contains.{contains_cases, contains_none, contains_flat_mapped}
 use Rattle.tags.specs.declared.token.Port.{Port}
 use Rattle.tags.specs.declared.token.Port.TheVariants.{Left, Right}
 use Rattle.tags.specs.declared.token.To.{To}
@@ -28,16 +28,12 @@ use Rattle.law_contexts.specs.Stands.{Past, ip_of, to_of, token_of, is_held, is_
 use Rattle.law_contexts.specs.Theorem.{IsGood}
 use Rattle.law_contexts.specs.Packages.{Keeps}
 use Rattle.law_contexts.proofs.Sames.{hits_at, same_context-true}
-use Rattle.law_arms.proofs.Nets.{all_of, count_total, came_all, came_total, cells_apart, only_contains, only_total, one_passes, once_all}
+use Rattle.law_arms.proofs.Nets.{all_of, count_total, came_all, came_total, cells_apart, only_contains, only_total, one_passes, once_all, total_below}
 use Rattle.law_arms.proofs.Comes.{laid, instr_here, fits_in}
 use Rattle.law_rest.specs.Counted.{frame_for, credit_for, frames, credits, IsCounted}
 use Rattle.law_rest.proofs.Apart.{often, Apart, has, each_once, once_contains, once_back, once_apart, places_apart, fit_in}
 
 -- LISTS
-total_less : {X : Type 0} (f g : X → ℕ) (xs : List X) → ((x : X) → Contains xs x → f x ≤ g x) → total f xs ≤ total g xs
-total_less f g [] h = omega arith
-total_less f g (x ∷ xs) h = let a = h x (contains_head x xs) in let more = total_less f g xs (λ y c. h y (contains_tail x xs y c)) in omega (arith, a, more)
-
 flat_often : (c : Context) (f : Item → List Context) (xs : List Item) → often c (flat_map f xs) ≡ total (λ (i : Item). often c (f i)) xs
 flat_often c f [] = refl
 flat_often c f (x ∷ xs) = let a = total-append (λ (d : Context). one (same_context c d)) (f x) (flat_map f xs) in let more = flat_often c f xs in omega (arith, a, more)
@@ -196,7 +192,7 @@ module _ (stage : ℕ) (fl : Flow) (p : Plan) (w : Wires) (inputs : List ℤ) (q
   frames_apart : Apart all_frames
   frames_apart c =
       let a = flat_often c (frames fl) (came fl net) in
-      let b = total_less (λ (i : Item). often c (frames fl i)) (λ (i : Item). one (has c (frames fl i))) (came fl net) (λ i h. let o = often_frames c i.context i.inlet.part in omega (arith, o)) in
+      let b = total_below (λ (i : Item). often c (frames fl i)) (λ (i : Item). one (has c (frames fl i))) (came fl net) (λ i h. let o = often_frames c i.context i.inlet.part in omega (arith, o)) in
       let d = one_passes (λ (i : Item). has c (frames fl i)) (came fl net) few (λ i j x y s t. frames_meet c i j x y (frame_for_by i c x i.inlet.part refl s) (frame_for_by j c y j.inlet.part refl t)) in
       omega (arith, a, b, d)
 
@@ -226,7 +222,7 @@ module _ (stage : ℕ) (fl : Flow) (p : Plan) (w : Wires) (inputs : List ℤ) (q
   credits_apart : Apart all_credits
   credits_apart c =
       let a = flat_often c credits (came fl net) in
-      let b = total_less (λ (i : Item). often c (credits i)) (λ (i : Item). one (has c (credits i))) (came fl net) (λ i h. let o = often_credits c i.context i.inlet.part i.inlet.way in omega (arith, o)) in
+      let b = total_below (λ (i : Item). often c (credits i)) (λ (i : Item). one (has c (credits i))) (came fl net) (λ i h. let o = often_credits c i.context i.inlet.part i.inlet.way in omega (arith, o)) in
       let d = one_passes (λ (i : Item). has c (credits i)) (came fl net) few (λ i j x y s t. credits_meet c i j x y (credit_for_by i c i.inlet.part refl s) (credit_for_by j c j.inlet.part refl t)) in
       omega (arith, a, b, d)
 
@@ -258,7 +254,7 @@ module _ (stage : ℕ) (fl : Flow) (p : Plan) (w : Wires) (inputs : List ℤ) (q
       let d = cells_apart (λ (t : Token). test t.to) cells ts in
       let e = total-IsPermutation on (but_cells ts) (map (token_of fl p w net.fired) kept) k.follows.met in
       let f = total-map (token_of fl p w net.fired) on kept in
-      let h = total_less (λ (i : Item). one (test (to_of fl p w net.fired i i.inlet.part))) g kept less in
+      let h = total_below (λ (i : Item). one (test (to_of fl p w net.fired i i.inlet.part))) g kept less in
       let o = only_total (λ (i : Item). not (is_held i.inlet.part)) g (came fl net) in
       omega (arith, a, b, c, d, e, f, h, o)
 

@@ -27,6 +27,7 @@ use Rattle.law_over.proofs.Sorts.{laws}
 use Rattle.law_over.proofs.Open.{arm_decided, arm_round}
 use Rattle.law_contexts.specs.Operands.{SourcesAreEarlier}
 use Rattle.law_rest.proofs.Arms.{Ever, Stood', stood_of, lawful, enter_stood}
+use Rattle.law_rest.proofs.Reached.{root_arm}
 
 telling_cond : (k : Kind ℕ) → class_of k ≡ Telling → k ≡ Cond
 telling_cond Cond e = refl
@@ -50,9 +51,6 @@ first_there : {X : Type 0} (xs : List X) → 0 < length xs → (x : X) × (slice
 first_there [] h = absurd (omega (arith, h))
 first_there (x ∷ xs) h = (x, refl)
 
-in_arm : (k : ℕ) (t : Bool) → Root ≡ Arm k t → ⊥
-in_arm k t e = absurd (cc)
-
 module _ (stage : ℕ) (fl : Flow) (p : Plan) (w : Wires) (inputs : List ℤ) (past : Past) (m : Machine) (good : IsGood stage fl p w) (fit : InputsFit fl inputs) (kept : Keeps fl p w inputs past m) (earlier : SourcesAreEarlier fl) where
   module _ (c : Context) (con : IsContext fl c) where
     abbrev b : Block ℕ
@@ -72,7 +70,7 @@ module _ (stage : ℕ) (fl : Flow) (p : Plan) (w : Wires) (inputs : List ℤ) (p
     node_there n k t e = go (node_at b n) refl e
       where
         go : (o : Option (Node ℕ)) → node_at b n ≡ o → arm_of o ≡ Arm k t → (line : Node ℕ) × (node_at b n ≡ Some line) × (line.region ≡ Arm k t)
-        go None f g = absurd (in_arm k t g)
+        go None f g = absurd (root_arm k t g)
         go (Some line) f g = (line, f, g)
 
     abbrev EnterIn : ℕ → Bool → Type 0

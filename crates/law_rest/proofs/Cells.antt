@@ -1,6 +1,6 @@
 -- Cells, their readers, and the fetches and stores of nodes.
-use Rattle.std.proofs.Common.{◌≡◌, ℕ, ℤ, ◌+◌, ◌<◌, Bool, true, false, ◌⊎◌, inl, inr, List, [], ◌∷◌, map, length, Option, Some, None, nat_lt, if◌then◌else◌, refl, sym, ap, ◌∙◌, arith, true≢false}
-use Rattle.std.specs.Prelude.{Contains, flat_map, pos, negsuc}
+use Rattle.std.proofs.Common.{◌≡◌, ℕ, ◌+◌, ◌<◌, Bool, true, false, ◌⊎◌, inl, inr, List, [], ◌∷◌, map, length, Option, Some, None, nat_lt, if◌then◌else◌, refl, sym, ap, ◌∙◌, arith, true≢false}
+use Rattle.std.specs.Prelude.{Contains, pos, negsuc}
 use Rattle.lemmas.proofs.Contains.{contains_cases, contains_head, contains_none, contains_tail}
 use Rattle.tags.specs.declared.value.Value.{Value}
 use Rattle.tags.specs.declared.value.Value.TheVariants.{Int, Fault}
@@ -11,17 +11,15 @@ use Rattle.tags.specs.declared.token.To.{To}
 use Rattle.operators.specs.Values.{Indexed, Place, Outside, index_in}
 use Rattle.semantics.specs.declared.graph.Kind.{Kind}
 use Rattle.semantics.specs.Graph.{Flow}
-use Rattle.semantics.specs.Meaning.{Context, Main, Tagged, tagged, AtNode, Operand, entering, Memory, done, fetched, when_full, adds, sent, cell_is, cell_in}
+use Rattle.semantics.specs.Meaning.{Context, Memory, done, fetched, when_full, adds, sent, cell_is, cell_in}
 use Rattle.semantics.specs.Machine.{CellState, Vacant, Full, Deferred, reader_count, value_in}
 use Rattle.semantics.specs.Orderly.{readers_of}
 use Rattle.law_net.specs.Roles.{total}
 use Rattle.law_contexts.specs.Blocks.{cell_kind, store_kind}
-use Rattle.law_contexts.specs.Told.{told}
-use Rattle.law_contexts.specs.Firings.{place_at, input_items}
+use Rattle.law_contexts.specs.Firings.{place_at}
 use Rattle.law_contexts.specs.Stands.{reads_cell, cell_to}
 
 -- LISTS
-
 pub one_of : {X : Type 0} (x y : X) → Contains (x ∷ []) y → y ≡ x
 one_of x y c = pick (contains_cases x [] y c)
   where
@@ -96,8 +94,3 @@ pub cell_store : (o : Option ℕ) (s : Bool) (z : Value) (x : ℕ) (v : Value) �
 cell_store None s z x v e = absurd (cc)
 cell_store (Some y) false z x v e = absurd (cc)
 cell_store (Some y) true z x v e = let a : y ≡ x = cc in let b : z ≡ v = cc in (ap Some a, refl, b)
-
--- the tokens with which the meaning starts
-pub told_inputs : (fl : Flow) (n : ℕ) (zs : List ℤ) → flat_map (told fl) (input_items n zs) ≡ entering Main n (map (λ (z : ℤ). Int z) zs)
-told_inputs fl n [] = refl
-told_inputs fl n (z ∷ zs) = ap (λ (l : List Tagged). tagged Main (AtNode n) (Operand 0) (Int z) ∷ l) (told_inputs fl (n + 1) zs)

@@ -28,19 +28,12 @@ use Rattle.law_over.proofs.Sorts.{IsHere, laws}
 use Rattle.law_over.proofs.Paths.{Wire, wire_of}
 use Rattle.law_over.proofs.Made.{Stands, taken_stands, fits}
 use Rattle.law_over.proofs.Open.{arm_decided, arm_round, region_open, stands_open, first_of}
-use Rattle.law_over.proofs.Back.{frame_from, next_frame_from}
+use Rattle.law_over.proofs.Back.{frame_from, next_frame_from, return_from}
 use Rattle.law_rest.specs.Starts.{AllStart}
 use Rattle.law_contexts.specs.Wires.{is_start}
 use Rattle.law_rest.proofs.Cells.{one_of}
 use Rattle.law_rest.proofs.Waits.{Waiting, is_credit, taken_as, Takes, Own, OfCredits, Renewed, fires_alone, fires_both, waits_or_taken, taker_wants, is_sender}
 use Rattle.law_rest.proofs.Forward.{begin_stands, gift_stands, feeder, along, decided_comes}
-
-return_from : (q : Part) → ItsReturn ≡ goes_from q → (q ≡ Entry) ⊎ (q ≡ TurnCont)
-return_from Entry e = inl refl
-return_from TurnCont e = inr refl
-return_from (Fanned n) e = absurd (cc)
-return_from NextFanned e = absurd (cc)
-return_from q e = absurd (cc)
 
 -- WHO HANDED a frame out
 by_frame : (fl : Flow) (f : Firing) (rest : List Firing) (c : Context) (g : ℕ) (o : Option Context) → handed_to fl f.context f.part ≡ o → frame_if o c f.frame (frame_at fl rest c) ≡ Some g
@@ -89,7 +82,7 @@ taker_way fl h n i e c = ap (λ (i : Item). i.inlet.way) (one_of (left_item h.co
     takes_at : Part → List Item
     takes_at r = own_takes fl h r ++ renewed fl h r
 
-root_arm : (k : ℕ) (t : Bool) → Root ≡ Arm k t → ⊥
+pub root_arm : (k : ℕ) (t : Bool) → Root ≡ Arm k t → ⊥
 root_arm k t e = absurd (cc)
 
 module _ (stage : ℕ) (fl : Flow) (p : Plan) (w : Wires) (inputs : List ℤ) (past : Past) (m : Machine) (good : IsGood stage fl p w) (fit : InputsFit fl inputs) (kept : Keeps fl p w inputs past m) (rests : Resting m) (wants : Wants m → ⊥) where

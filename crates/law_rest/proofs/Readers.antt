@@ -19,7 +19,7 @@ use Rattle.law_contexts.specs.Laws.{spot_there, Carries}
 use Rattle.law_contexts.specs.Stands.{Past, cont_in, word_of, reads, reads_cell, only, conts_of}
 use Rattle.law_contexts.specs.Theorem.{IsGood}
 use Rattle.law_contexts.specs.Packages.{Keeps, InputsFit}
-use Rattle.law_over.proofs.Sorts.{cell_plain}
+use Rattle.law_arms.proofs.Sends.{cell_plain}
 use Rattle.law_over.proofs.Paths.{Wire, next}
 use Rattle.law_over.proofs.Made.{fits, Stands}
 use Rattle.law_rest.proofs.Cells.{no_value}

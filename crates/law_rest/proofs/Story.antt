@@ -23,13 +23,13 @@ use Rattle.law_contexts.specs.Laws.{Fits, WordFits, IsPredicate, is_true, InArm,
 use Rattle.law_contexts.specs.Stands.{Past}
 use Rattle.law_contexts.specs.Theorem.{IsGood}
 use Rattle.law_contexts.specs.Packages.{InputsFit, Keeps, telling_of}
+use Rattle.law_contexts.proofs.Composition.{told_inputs}
 use Rattle.law_told.proofs.Told.{all_told}
 use Rattle.law_arms.proofs.Words.{words_are_fit}
 use Rattle.law_arms.proofs.Fed.{inlets_are_fed}
 use Rattle.law_arms.proofs.Entered.{arms_are_entered}
 use Rattle.law_arms.proofs.Rivals.{rivals_are_apart}
 use Rattle.law_arms.proofs.Nets.{all_of, flat_contains}
-use Rattle.law_rest.proofs.Cells.{told_inputs}
 
 -- what stood before a run is spent in it or still stands
 pub stays_in : (fl : Flow) (r : List Activity) (s t : State) → Meaning.Run fl s r t → (x : Tagged) → Within x s.tokens → Within x (flat_map taken r ++ t.tokens)

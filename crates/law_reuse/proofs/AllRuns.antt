@@ -81,7 +81,7 @@ waiter_back h (Credits n) c e = absurd (cc)
 waiter_back h (Draining n) c e = absurd (cc)
 waiter_back h (Waiter d) c e = (d, refl)
 
-empty_waits : (c : Cont) → Empty ≡ Waiter c → ⊥
+pub empty_waits : (c : Cont) → Empty ≡ Waiter c → ⊥
 empty_waits c e = cc
 
 nil_or : {X : Type 0} (xs : List X) → (xs ≡ []) ⊎ (xs ≡ [] → ⊥)

@@ -11,7 +11,7 @@ use Rattle.tags.specs.declared.token.Cont.{Cont}
 use Rattle.tags.specs.declared.token.Word.{Word}
 use Rattle.tags.specs.declared.token.To.{To}
 use Rattle.tags.specs.declared.token.Token.{Token}
-use Rattle.tags.specs.declared.slot.SlotState.TheVariants.{Empty, Waiter}
+use Rattle.tags.specs.declared.slot.SlotState.TheVariants.{Waiter}
 use Rattle.semantics.specs.declared.program.Op.{Op}
 use Rattle.semantics.specs.declared.program.Op.TheVariants.{Open, Take}
 use Rattle.semantics.specs.Program.{Instr, Program, first_of, instr_at}
@@ -42,7 +42,7 @@ use Rattle.law_reuse.proofs.History.{taken, ports_of}
 use Rattle.law_reuse.proofs.OnceRuns.{IdleOr, Own, own_so_after, own_counted, own_run, orderly_here}
 use Rattle.law_reuse.proofs.UnfoldedRuns.{frees_shared, release_shared}
 use Rattle.law_reuse.proofs.Tenures.{TenureRun, tenure_run}
-use Rattle.law_reuse.proofs.AllRuns.{start_of, releases_are_last, holders_are_alone}
+use Rattle.law_reuse.proofs.AllRuns.{start_of, releases_are_last, holders_are_alone, empty_waits}
 
 -- ---- THE PARTS OF A LOOP, IN THE CODE AND IN THE PLAN
 
@@ -134,9 +134,6 @@ module _ (p : Plan) (slots : List (List ℕ)) (wired : IsWired p) (good : Good p
 is_open_of : (op : Op) → is_open op ≡ true → (k : ℕ) × (op ≡ Open k)
 is_open_of (Open k) e = (k, refl)
 is_open_of op e = absurd (true≢false (sym e))
-
-empty_waits : (c : Cont) → Empty ≡ Waiter c → ⊥
-empty_waits c e = cc
 
 module _ (p : Plan) (slots : List (List ℕ)) (wired : IsWired p) (good : Good p slots) (orderly : Orderly p) (law : PlanKeepsBounds p) (inputs : List ℤ) (z : Size) (start : IsStart p z inputs) (f : ℕ) (m : Machine)
     (t : Tenure (placed p slots) z inputs f m) where

@@ -46,10 +46,10 @@ pub record Unmoved (f : ℕ) (old new : MStore) : Type 0 where
   pub outputs : new.outputs ≡ old.outputs
   pub done : new.done ≡ old.done
 
-unmoved_put : (f r : ℕ) (v : SlotState) (m : MStore) → Unmoved f m (with_slot m f r v)
+pub unmoved_put : (f r : ℕ) (v : SlotState) (m : MStore) → Unmoved f m (with_slot m f r v)
 unmoved_put f r v m = record { slots = λ g ne. put_other m.slots f (put_at (m.slots f) r v) g ne; cells = refl; out = refl; requests = refl; outputs = refl; done = refl }
 
-unmoved_refl : (f : ℕ) (m : MStore) → Unmoved f m m
+pub unmoved_refl : (f : ℕ) (m : MStore) → Unmoved f m m
 unmoved_refl f m = record { slots = λ g ne. refl; cells = refl; out = refl; requests = refl; outputs = refl; done = refl }
 
 -- the holder, if there is one, has a slot, and all others of that slot are empty

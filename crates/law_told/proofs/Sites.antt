@@ -33,7 +33,7 @@ module _ (fl : Flow) (p : Plan) (w : Wires) (wired : AreWiredBy fl p w) where
   turn_code (Some i) b e l =
       subst (λ (x : Block ℕ). IsWiredCode fl p w.variant (Runs fl w (w.variant i)) (record { block = x; number = i; turns = true; own = w.variant i }) (w.wiring (w.variant i))) (sym (ap or_none e)) (wired.turns i b e l)
 
-  -- what a loop runs is body_is_looped
+  -- what a loop runs is looped
   is_looped_at : (o : Option ℕ) (n : ℕ) → is_loop (or_none (block_numbered fl o)) n ≡ true → is_looped fl (or_zero (callee_in (block_numbered fl o) n)) ≡ true
   is_looped_at None n e = let k = kind_is no_block loop_kind n e in let g = line_listed no_block n k.0 k.1 in absurd (cc)
   is_looped_at (Some i) n e = go (slice_get fl.blocks i) refl e

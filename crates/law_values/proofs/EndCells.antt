@@ -1,17 +1,17 @@
 -- The cells at the end are those that the stores of the run filled, each once; and no node stores twice in an invocation.
-use Rattle.std.proofs.Common.{◌≡◌, ℕ, zero, suc, ◌⊎◌, Bool, true, false, List, [], ◌∷◌, ◌++◌, Option, Some, None, ◌==◌, if◌then◌else◌, flat_map, inl, inr, refl, sym, ap, ◌∙◌, subst, ⊎_elim, append_assoc, eqb-true, eq-eqb, arith, Contains}
+use Rattle.std.proofs.Common.{◌≡◌, ℕ, zero, suc, ◌⊎◌, List, [], ◌∷◌, ◌++◌, Option, Some, None, flat_map, inl, inr, refl, sym, ap, ◌∙◌, subst, ⊎_elim, append_assoc, arith, Contains}
 use Rattle.std.specs.Prelude.{slice_get}
 use Rattle.std.proofs.lemmas.Option.{same_Some}
 use Rattle.tags.specs.declared.value.Value.{Value}
 use Rattle.semantics.specs.Graph.{Flow}
-use Rattle.semantics.specs.Meaning.{Context, AtNode, Operand, Tagged, tagged, State, Memory, Effect, Activity, taken, Deed, Says, Reads, Fills, Puts, Sends, tokens_of, adds, with_cell, at_place, deed, done, Step, Run}
+use Rattle.semantics.specs.Meaning.{Context, AtNode, Operand, Tagged, tagged, State, Memory, Effect, Activity, taken, Deed, Says, Reads, Fills, Puts, Sends, tokens_of, adds, with_cell, deed, done, Step, Run}
 use Rattle.lemmas.proofs.Permutations.{Within, Spread, each_from, spread_append, each_within, within_append, within_right, within_flat_map, within_from, within_to, put_first, put_later, get_within}
 use Rattle.law_determinacy.proofs.Keys.{Unique, Differ}
 use Rattle.lemmas.proofs.Permutations.{spread_append_back}
 use Rattle.lemmas.proofs.Contains.{contains_get}
 use Rattle.law_determinacy.proofs.Deeds.{full_of, empty_of}
-use Rattle.law_determinacy.proofs.Diamond.{deed_of}
-use Rattle.law_determinacy.proofs.Runs.{run_cells, step_cells, activity_once}
+use Rattle.law_determinacy.proofs.Diamond.{deed_of, at_filled}
+use Rattle.law_determinacy.proofs.Runs.{run_cells, step_cells, activity_once, placed_cases}
 use Rattle.law_determinacy.proofs.Shapes.{storing}
 use Rattle.law_values.specs.Given.{Stored, stored_by, stores_of}
 use Rattle.law_values.proofs.RunRested.{Rested}
@@ -19,21 +19,11 @@ use Rattle.law_values.proofs.RunRested.{Rested}
 abbrev pub entry : Context → ℕ → ℕ → Value → Stored
 entry c n x v = record { context = c; node = n; cell = x; value = v }
 
-placed_here : (f : ℕ → Option Value) (x : ℕ) (v : Value) → at_place f x v x ≡ Some v
-placed_here f x v = ap (λ (t : Bool). if t then Some v else f x) (eq-eqb x x refl)
-
-placed_cases : (f : ℕ → Option Value) (x y : ℕ) (v w : Value) → at_place f x v y ≡ Some w → ((x ≡ y) × (v ≡ w)) ⊎ (f y ≡ Some w)
-placed_cases f x y v w e = go (x == y) refl e
-  where
-    go : (t : Bool) → (x == y) ≡ t → (if t then Some v else f y) ≡ Some w → ((x ≡ y) × (v ≡ w)) ⊎ (f y ≡ Some w)
-    go true p q = inl (eqb-true x y p, same_Some v w q)
-    go false p q = inr q
-
 -- what a deed that fills a cell found and left
 fills_done : (fl : Flow) (m : Memory) (c : Context) (n x : ℕ) (v : Value) (E : Effect) → done fl m (Fills c n x v) ≡ Some E → (m.cells x ≡ None) × (E.memory.cells x ≡ Some v)
 fills_done fl m c n x v E e =
     let f = empty_of (m.cells x) (adds (tokens_of fl (Sends c n 0 v)) (with_cell m x v)) E e in
-    (f.0, ap (λ (E : Effect). E.memory.cells x) (sym (same_Some _ E f.1)) ∙ placed_here m.cells x v)
+    (f.0, ap (λ (E : Effect). E.memory.cells x) (sym (same_Some _ E f.1)) ∙ at_filled m.cells x v)
 
 -- a cell that is full after a deed was full before it, or the deed filled it
 cell_before : (fl : Flow) (m : Memory) (d : Deed) (E : Effect) (x : ℕ) (v : Value) → done fl m d ≡ Some E → E.memory.cells x ≡ Some v → (m.cells x ≡ Some v) ⊎ ((c : Context) × (n : ℕ) × (d ≡ Fills c n x v))

@@ -15,14 +15,14 @@ use Rattle.lemmas.proofs.SliceGet.{get_some}
 use Rattle.law_determinacy.proofs.Keys.{Differ}
 use Rattle.law_determinacy.proofs.Due.{ever_stood}
 use Rattle.law_determinacy.proofs.Grounds.{class_line}
-use Rattle.law_determinacy.proofs.Laws.{ArmLaw}
+use Rattle.law_determinacy.proofs.Laws.{ArmLaw, source_of}
 use Rattle.law_determinacy.proofs.Rows.{Telling, Gate, Join, class_of, class_in, class_at, region_node, region_is_arm}
 use Rattle.law_determinacy.proofs.Uses.{UseOf, AsOperand, AsResult, AsFlag, AsCarried, IsTurned}
 use Rattle.law_values.proofs.GraphForms.{HasForm, InRegion}
 use Rattle.law_values.proofs.RunRested.{Rested, Came, IsDueIn, RegionTaken}
 use Rattle.law_values.proofs.RunUses.{Ends, operand_came, carried_came, flag_came, operand_within}
 use Rattle.law_values.proofs.GraphForms.{line_past}
-use Rattle.law_values.proofs.RunOrigins.{Used, Entering, Told, origin, source_found}
+use Rattle.law_values.proofs.RunOrigins.{Used, Entering, Told, origin}
 use Rattle.law_values.proofs.RunRegions.{block_shaped, taken_in, arm_taken, round_at}
 use Rattle.law_values.proofs.ProgressNodes.{IsTogether, operands, operands_stand, line_fired, input_fires, passes_line}
 use Rattle.law_values.proofs.ProgressInvocations.{AllGiven, result_given, all_given, predicate_came, gate_happens, invoked_block}
@@ -221,13 +221,13 @@ module _ (z : Rested) where
 
   used_consumed : (x : Tagged) → Came z x → (u : Used z x) → UseOf u.block x.context u.node u.port x.statement x.port → Consumed z x
   used_consumed x h u (AsOperand m i line es eq low el src) =
-      let s = source_found u.node u.port (slice_get line.sources i) src in
+      let s = source_of u.node u.port (slice_get line.sources i) src in
       operand_consumed x u.block m i line s.0 h es eq u.is_block el s.1
   used_consumed x h u (AsResult j es eq src) = out_consumed x j h es eq (subst (λ s. Ends x.context s) es u.ends)
   used_consumed x h u (AsFlag j es eq low high src turned) =
       turn_consumed x j h es (inl eq) turned low (λ to e long. let same = ap (λ (b : Block ℕ). b.inputs) (same_Some u.block to (sym u.is_block ∙ e)) in omega (arith, same, high))
   used_consumed x h u (AsCarried j es eq low src) =
-      let s = source_found u.node u.port (slice_get u.block.results j) src in
+      let s = source_of u.node u.port (slice_get u.block.results j) src in
       let below = slice_get_within u.block.results j s.0 s.1 in
       let count = (block_shaped z x.context u.block u.is_block).count in
       turn_consumed x j h es (inr eq) (subst (λ s. Ends x.context s) es u.ends) low

@@ -1,5 +1,5 @@
 -- The inputs of each invocation that is due have come: so each port of each node that is taken in it has a value.
-use Rattle.std.proofs.Common.{◌≡◌, ℕ, ℤ, zero, suc, ◌+◌, ◌<◌, List, [], ◌∷◌, length, Some, map, refl, sym, ap, ◌∙◌, subst, arith, Contains}
+use Rattle.std.proofs.Common.{◌≡◌, ℕ, ℤ, zero, suc, ◌+◌, ◌<◌, [], ◌∷◌, length, Some, map, refl, sym, ap, ◌∙◌, subst, arith, Contains}
 use Rattle.tags.specs.declared.value.Value.{Value}
 use Rattle.tags.specs.declared.value.Value.TheVariants.{Int}
 use Rattle.operators.specs.Values.{truth}
@@ -9,10 +9,10 @@ use Rattle.semantics.specs.Graph.{Node, Block, node_at}
 use Rattle.semantics.specs.Meaning.{Context, Main, Called, Turned, AtNode, AtTurn, Operand, Flag, tagged, Fires, block_of, callee, node_in, node_of, start, HadTrueFlag, arm_of, IsCall, IsLoop}
 use Rattle.lemmas.proofs.Permutations.{Within, within_to}
 use Rattle.lemmas.proofs.SliceGet.{get_some}
+use Rattle.law_determinacy.proofs.History.{length_ints, stood_at}
 use Rattle.law_values.specs.Given.{ports_in, ports_at}
 use Rattle.law_values.proofs.GraphForms.{HasForm, InRegion}
 use Rattle.law_values.proofs.RunRested.{Rested, Came, IsDueIn, RegionTaken, one_at}
-use Rattle.law_values.proofs.RunSaid.{stands}
 use Rattle.law_values.proofs.RunUses.{entering_within}
 use Rattle.law_values.proofs.RunRegions.{TakenIn, block_shaped, taken_in}
 use Rattle.law_values.proofs.ProgressNodes.{Given, input_fires}
@@ -22,10 +22,6 @@ pub record Open (z : Rested) (c : Context) : Type 0 where
   pub block : Block ℕ
   pub is_block : block_of z.flow c ≡ Some block
   pub came : InputsCame z c block
-
-int_length : (zs : List ℤ) → length (map (λ (w : ℤ). Int w) zs) ≡ length zs
-int_length [] = refl
-int_length (w ∷ zs) = ap suc (int_length zs)
 
 -- the sources of a node in its own region have values
 pub sources_given : (z : Rested) (c : Context) → IsDueIn z c → (o : Open z c) (n : ℕ) (line : Node ℕ) → node_at o.block n ≡ Some line → InRegion o.block line.region line.sources → RegionTaken z c o.block line.region → SourcesGiven z c line
@@ -97,9 +93,9 @@ due_open z Main due = record {
   block = z.main;
   is_block = z.is_main;
   came = λ i low.
-      let v = get_some (map (λ (w : ℤ). Int w) z.inputs) i (omega (arith, low, z.count, int_length z.inputs)) in
+      let v = get_some (map (λ (w : ℤ). Int w) z.inputs) i (omega (arith, low, z.count, length_ints z.inputs)) in
       let at : 0 + i ≡ i = omega arith in
-      (v.0, stands z.flow (start z.inputs) z.state z.run z.is_run _ (within_to _ _ (subst (λ j. Within (tagged Main (AtNode j) (Operand 0) v.0) (start z.inputs).tokens) at (entering_within Main 0 (map (λ (w : ℤ). Int w) z.inputs) i v.0 v.1))));
+      (v.0, stood_at z.flow (start z.inputs) z.state z.run z.is_run _ (within_to _ _ (subst (λ j. Within (tagged Main (AtNode j) (Operand 0) v.0) (start z.inputs).tokens) at (entering_within Main 0 (map (λ (w : ℤ). Int w) z.inputs) i v.0 v.1))));
 }
 due_open z (Called c n) due =
     let o = due_open z c due.0 in

@@ -43,7 +43,6 @@ taken_differ (Turns c n i j b v) = (((λ same. let p = same.2 in cc), tt), (tt, 
 taken_differ (Outputs j v) = (tt, tt)
 
 -- TOKENS AND THE REST
-
 within_other : (x y : Tagged) (zs ts : List Tagged) → Put x zs ts → Within y ts → Differ x y → Within y zs
 within_other x y zs ts p h differ = go (within_permutation y ts (x ∷ zs) (IsPermutation-sym _ _ (put_IsPermutation x zs ts p)) h)
   where
@@ -190,10 +189,6 @@ module _ (fl : Flow) (s : State) (quiet : NoClash fl s) (none : NoneWaits fl s) 
       let moved = IsPermutation-sym _ _ (perm_to (taken a ++ parts.0) s.tokens parts.1) in
       let E = allowed a d e held parts.0 moved in
       rests a _ (step_of fl a s E.0 parts.0 (effect_of fl s.memory a d E.0 e E.1) moved)
-
-some_of : (ts : List Tagged) → 0 < length ts → (t : Tagged) × Within t ts
-some_of [] h = absurd (omega arith)
-some_of (t ∷ ts) h = (t, (ts, put_first t ts))
 
 module _ (g : Graph) (well : WellFormed g) (inputs : List ℤ) (count : length inputs ≡ inputs_of (flow_of g)) (run : List Activity) (s : State) (r : Run (flow_of g) (start inputs) run s)
     (rests : AtRest (flow_of g) s) (quiet : NoClash (flow_of g) s) (none : NoneWaits (flow_of g) s) where

@@ -1,5 +1,5 @@
 -- From tokens to values: a token that stood at a use of a port is the value that the port was given.
-use Rattle.std.proofs.Common.{◌≡◌, ℕ, zero, suc, ◌+◌, ◌-◌, ◌<◌, ◌≤◌, ◌⊎◌, ℤ, Bool, List, [], ◌∷◌, Option, Some, None, map, inl, inr, refl, sym, ap, ap₂, ◌∙◌, subst, subst₂, arith, ⊎_elim}
+use Rattle.std.proofs.Common.{◌≡◌, ℕ, zero, suc, ◌+◌, ◌-◌, ◌<◌, ◌≤◌, ◌⊎◌, ℤ, Bool, List, [], ◌∷◌, Option, Some, map, inl, inr, refl, sym, ap, ap₂, ◌∙◌, subst, subst₂, arith, ⊎_elim}
 use Rattle.std.specs.Prelude.{slice_get}
 use Rattle.std.proofs.lemmas.Option.{slice_get_within, same_Some}
 use Rattle.tags.specs.declared.value.Value.{Value}
@@ -10,9 +10,9 @@ use Rattle.semantics.specs.declared.graph.Kind.TheVariants.{Enter}
 use Rattle.semantics.specs.Graph.{Node, Block, node_at}
 use Rattle.semantics.specs.Meaning.{Context, Main, Called, Turned, AtNode, AtOut, AtTurn, Operand, Predicate, Flag, Carried, Tagged, tagged, Memory, Activity, Fires, taken, Deed, Says, Reads, Fills, Puts, Message, Sends, Tells, Enters, Nothing, tokens_of, block_of, node_in, start, entering}
 use Rattle.lemmas.proofs.Permutations.{Within, Each, each_from, each_within, within_from, within_to}
-use Rattle.law_determinacy.proofs.Uses.{IsSource, UseOf, AsOperand, AsResult, AsFlag, AsCarried, Member, IsTurned, tokens_member}
+use Rattle.law_determinacy.proofs.Uses.{UseOf, AsOperand, AsResult, AsFlag, AsCarried, Member, IsTurned, tokens_member}
 use Rattle.law_determinacy.proofs.Grounds.{row_grounded, found_line}
-use Rattle.law_determinacy.proofs.Laws.{Grounded, IsInvoking}
+use Rattle.law_determinacy.proofs.Laws.{Grounded, IsInvoking, source_of}
 use Rattle.law_determinacy.proofs.Rows.{Class, Calling, Strict, Looping, class_at, Speaks, Row, RowFires, RowTells, RowGates, RowQuiet, RowMerges, RowCalls, RowStrict, RowLoops, RowReturns, RowAgain, RowLeaves, rows}
 use Rattle.law_values.specs.Given.{SaysIn, source_line, source_at, result_in, result_at}
 use Rattle.law_values.specs.Equations.{HasSome, Argument, Result, InputEquation}
@@ -46,10 +46,6 @@ says_speaks m (Says x) y h = sym h
 says_speaks m (Reads c n x) y h = (h.0, sym h.2)
 says_speaks m (Fills c n x v) y h = sym h
 says_speaks m (Puts j v) y h = absurd h
-
-pub source_found : (n p : ℕ) (o : Option Source) → IsSource n p o → (s : Source) × (o ≡ Some s) × (s.node ≡ n) × (s.port ≡ p)
-source_found n p None h = absurd h
-source_found n p (Some s) h = (s, refl, h.0, h.1)
 
 -- a token at this use, and the value that the port was given
 pub record Used (z : Rested) (x : Tagged) : Type 0 where
@@ -243,7 +239,7 @@ module _ (z : Rested) where
           let ms : m' ≡ m = cc in
           let is : i' ≡ i = cc in
           let lines = same_Some node line (sym el' ∙ ap₂ (λ (b : Block ℕ) m. node_at b m) blocks ms ∙ el) in
-          let s = source_found n p (slice_get node.sources i') src in
+          let s = source_of n p (slice_get node.sources i') src in
           (s.0, ap₂ (λ (l : Node ℕ) i. slice_get l.sources i) (sym lines) (sym is) ∙ s.1, subst₂ (λ n p. GivesIn z c n p v) (sym s.2) (sym s.3) g)
       of_use k n p ek g (AsResult j es eq src) = absurd (cc)
       of_use k n p ek g (AsFlag j es eq low high src turned) = absurd (cc)
@@ -276,7 +272,7 @@ module _ (z : Rested) where
       of_use : (k : Block ℕ) (n p : ℕ) → block_of z.flow c ≡ Some k → GivesIn z c n p v → UseOf k c n p (AtOut j) (Operand 0) → ResultIn z c j v
       of_use k n p ek g (AsResult j' es eq src) =
           let js : j' ≡ j = cc in
-          let s = source_found n p (slice_get k.results j') src in
+          let s = source_of n p (slice_get k.results j') src in
           has_some z c _ s.0 v (result_is z c k j s.0 ek (ap (λ j. slice_get k.results j) (sym js) ∙ s.1)) (subst₂ (λ n p. GivesIn z c n p v) (sym s.2) (sym s.3) g)
       of_use k n p ek g (AsOperand m i node es eq low el src) = absurd (cc)
       of_use k n p ek g (AsFlag j' es eq low high src turned) = absurd (cc)
@@ -289,7 +285,7 @@ module _ (z : Rested) where
     where
       of_use : (k : Block ℕ) (n p : ℕ) → block_of z.flow c ≡ Some k → GivesIn z c n p v → UseOf k c n p (AtTurn j) Flag → ResultIn z c 0 v
       of_use k n p ek g (AsFlag j' es eq low high src turned) =
-          let s = source_found n p (slice_get k.results 0) src in
+          let s = source_of n p (slice_get k.results 0) src in
           has_some z c _ s.0 v (result_is z c k 0 s.0 ek s.1) (subst₂ (λ n p. GivesIn z c n p v) (sym s.2) (sym s.3) g)
       of_use k n p ek g (AsResult j' es eq src) = absurd (cc)
       of_use k n p ek g (AsOperand m i node es eq low el src) = absurd (cc)
@@ -303,7 +299,7 @@ module _ (z : Rested) where
       of_use : (k : Block ℕ) (n p : ℕ) → block_of z.flow c ≡ Some k → GivesIn z c n p v → UseOf k c n p (AtTurn j) Carried → ResultIn z c j v × (1 ≤ j)
       of_use k n p ek g (AsCarried j' es eq low src) =
           let js : j' ≡ j = cc in
-          let s = source_found n p (slice_get k.results j') src in
+          let s = source_of n p (slice_get k.results j') src in
           (has_some z c _ s.0 v (result_is z c k j s.0 ek (ap (λ j. slice_get k.results j) (sym js) ∙ s.1)) (subst₂ (λ n p. GivesIn z c n p v) (sym s.2) (sym s.3) g), omega (arith, low, js))
       of_use k n p ek g (AsResult j' es eq src) = absurd (cc)
       of_use k n p ek g (AsOperand m i node es eq low el src) = absurd (cc)

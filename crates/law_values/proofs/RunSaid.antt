@@ -1,7 +1,7 @@
 -- What an activity of a run says, as the memory at the end tells it, stood as tokens.
-use Rattle.std.proofs.Common.{◌≡◌, ℕ, zero, suc, List, [], ◌∷◌, ◌++◌, Some, inl, inr, sym, ap, ◌∙◌, subst, Contains}
+use Rattle.std.proofs.Common.{◌≡◌, ℕ, zero, suc, List, [], ◌∷◌, ◌++◌, Some, inr, sym, ap, ◌∙◌, subst}
 use Rattle.std.specs.Prelude.{slice_get}
-use Rattle.std.proofs.lemmas.List.Sorted.{IsPermutation-sym, Contains-permutation}
+use Rattle.std.proofs.lemmas.List.Sorted.{IsPermutation-sym}
 use Rattle.std.proofs.lemmas.Option.{same_Some}
 use Rattle.semantics.specs.Graph.{Flow}
 use Rattle.semantics.specs.Meaning.{Tagged, State, Memory, Effect, Activity, Deed, Says, Reads, Fills, Puts, Message, Sends, tokens_of, adds, with_cell, deed, done, Run, Stood}
@@ -9,11 +9,8 @@ use Rattle.lemmas.proofs.Permutations.{Within, within_left, within_permutation, 
 use Rattle.law_determinacy.proofs.Deeds.{CellsKept, full_of, empty_of}
 use Rattle.law_determinacy.proofs.Diamond.{deed_of}
 use Rattle.law_determinacy.proofs.Runs.{run_cells}
+use Rattle.law_determinacy.proofs.History.{stood_at}
 use Rattle.law_values.specs.Given.{SaysIn}
-
-pub stands : (fl : Flow) (s t : State) (run : List Activity) (r : Run fl s run t) (x : Tagged) → Contains s.tokens x → Stood fl s run t r x
-stands fl s t [] r x h = Contains-permutation s.tokens t.tokens x r.0 h
-stands fl s t (a ∷ run) r x h = inl h
 
 -- what is added is what is said at the end, where the cells that were full stayed as they were
 pub added : (fl : Flow) (m n : Memory) (d : Deed) (E : Effect) (y : Message) → CellsKept m n → done fl m d ≡ Some E → SaysIn n d y → E.added ≡ tokens_of fl y
@@ -35,5 +32,5 @@ said_stood fl s t (b ∷ run) r zero a d y f e h x k =
     let same : its.0 ≡ d = same_Some its.0 d (sym its.1 ∙ ap (λ a. deed fl a) (same_Some b a f) ∙ e) in
     let tells = added fl s.memory t.memory d r.1.does y (λ x v g. run_cells fl s t (b ∷ run) r x v g) (subst (λ d. done fl s.memory d ≡ Some r.1.does) same its.2) h in
     let here = within_left x r.1.does.added r.1.rest (subst (λ l. Within x l) (sym tells) k) in
-    inr (stands fl r.0 t run r.2 x (within_to x r.0.tokens (within_permutation x (r.1.does.added ++ r.1.rest) r.0.tokens (IsPermutation-sym _ _ r.1.leaves) here)))
+    inr (stood_at fl r.0 t run r.2 x (within_to x r.0.tokens (within_permutation x (r.1.does.added ++ r.1.rest) r.0.tokens (IsPermutation-sym _ _ r.1.leaves) here)))
 said_stood fl s t (b ∷ run) r (suc i) a d y f e h x k = inr (said_stood fl r.0 t run r.2 i a d y f e h x k)

@@ -12,7 +12,7 @@ use Rattle.semantics.specs.Meaning.{Context, Main, Called, Turned, Statement, At
 use Rattle.lemmas.proofs.Permutations.{Within, Each, put_first, put_later, within_map, within_flat_map, within_left, within_right, within_from, within_to, each_from, each_append, each_map, each_flat_map}
 use Rattle.lemmas.proofs.Contains.{contains_get}
 use Rattle.semantics.proofs.Lines.{line_at}
-use Rattle.law_determinacy.proofs.Uses.{IsSource, Use, IsTurned, flags_sent}
+use Rattle.law_determinacy.proofs.Uses.{IsSource, Use, IsTurned, flags_sent, predicates_each}
 use Rattle.law_values.specs.Given.{SaysIn}
 use Rattle.law_values.proofs.RunRested.{Rested, Came, GivesIn}
 use Rattle.law_values.proofs.RunSaid.{said_stood}
@@ -184,21 +184,10 @@ enter_is k (Arm c side) Enter e = let same = eqb-true c k e in (side, cc, refl)
 enter_is k Root kind e = cc
 enter_is k r kind e = cc
 
-told_each : (P : Tagged → Type 0) (c : Context) (k : ℕ) (v : Value) (m : ℕ) (nodes : List (Node ℕ))
-    → ((i : ℕ) (line : Node ℕ) → slice_get nodes i ≡ Some line → is_enter_of k line.region line.kind ≡ true → P (tagged c (AtNode (m + i)) Predicate v)) → Each P (predicates_from c k v m nodes)
-told_each P c k v m [] h = tt
-told_each P c k v m (line ∷ nodes) h =
-    go (is_enter_of k line.region line.kind) refl (told_each P c k v (m + 1) nodes (λ i x e f. subst (λ y. P (tagged c (AtNode y) Predicate v)) (omega arith) (h (suc i) x e f)))
-  where
-    go : (t : Bool) → is_enter_of k line.region line.kind ≡ t → Each P (predicates_from c k v (m + 1) nodes)
-        → Each P (if t then tagged c (AtNode m) Predicate v ∷ predicates_from c k v (m + 1) nodes else predicates_from c k v (m + 1) nodes)
-    go true e ih = (subst (λ y. P (tagged c (AtNode y) Predicate v)) (omega arith) (h 0 line refl e), ih)
-    go false e ih = ih
-
 pub predicates_told : (fl : Flow) (c : Context) (k : ℕ) (v : Value) (o : Option (Block ℕ)) → block_of fl c ≡ o → Each (IsTold fl c k v) (predicates_in o c k v)
 predicates_told fl c k v None e = tt
 predicates_told fl c k v (Some b) e =
-    told_each (IsTold fl c k v) c k v b.inputs b.nodes
+    predicates_each (IsTold fl c k v) c k v b.inputs b.nodes
     (λ i line f g. let t = enter_is k line.region line.kind g in (b, b.inputs + i, line, t.0, e, refl, line_at b i line f, t.1, t.2))
 
 -- INPUTS OF AN INVOCATION

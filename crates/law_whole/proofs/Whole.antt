@@ -20,8 +20,9 @@ use Rattle.law_contexts.proofs.Composition.{wired_keeps_faith}
 use Rattle.law_contexts.proofs.Static.{expanded_is_wired}
 use Rattle.semantics.specs.Plan.{Plan}
 use Rattle.law_once.specs.Ready.{IsReady}
+use Rattle.law_composition.proofs.AnyGraph.{expanded_is_sound}
 use Rattle.law_graphs.specs.Graphs.{IsExpandedFor}
-use Rattle.law_graphs.proofs.Graphs.{graphs_follow, expanded_is_sound, expanded_takes, expanded_is_for}
+use Rattle.law_graphs.proofs.Graphs.{graphs_follow, expanded_takes, expanded_is_for}
 use Rattle.law_whole.specs.Whole.{PartsSuffice}
 use Rattle.law_whole.proofs.Tidy.{wired_leads}
 

@@ -1,5 +1,5 @@
 -- The arcs that are no wires: one where the machine answers, and no other leaves there.
-use Rattle.std.proofs.Common.{◌≡◌, ℕ, zero, suc, ◌+◌, ◌-◌, ◌<◌, ◌≤◌, ◌⊎◌, inl, inr, Bool, true, false, ◌&&◌, ◌||◌, List, [], ◌∷◌, ◌++◌, length, refl, sym, ap, ◌∙◌, subst, arith, append-nil, Some, None, Option, Contains, if◌then◌else◌}
+use Rattle.std.proofs.Common.{◌≡◌, ℕ, zero, suc, ◌+◌, ◌-◌, ◌<◌, ◌≤◌, ◌⊎◌, inl, inr, Bool, true, false, ◌||◌, List, [], ◌∷◌, ◌++◌, length, refl, sym, ap, ◌∙◌, subst, arith, append-nil, Some, None, Option, Contains, if◌then◌else◌}
 use Rattle.std.specs.Prelude.{slice_get}
 use Rattle.std.proofs.lemmas.Bool.{le-ltb, lt-ltb, cases_lt}
 use Rattle.std.proofs.lemmas.List.Elements.{Contains-append_left, Contains-append_right, Contains-append_cases}
@@ -13,12 +13,12 @@ use Rattle.semantics.specs.Graph.{Node, Block, Flow, node_at}
 use Rattle.law_net.specs.Roles.{one}
 use Rattle.law_contexts.specs.Parts.{Opener, Framer, Fanned, Linker, Landing, Giver, Drainer, LoopDone, Asker, NextFramer, NextFanned, TurnCont, TurnFlag, Entry, NextSender, DrainReturn}
 use Rattle.law_contexts.specs.Blocks.{Side, side, Site, is_kind, call_kind, loop_kind}
-use Rattle.law_contexts.proofs.Sames.{same_part-refl}
-use Rattle.law_wires.specs.Written.{Wire, wire, same_side, same_bool, along, inlet_of, leaves, trigger_side, meet_wires, sender_wires, strict_wires, strict_end, strict_call_wires, invoke_wires, kind_wires, node_wires, value_wires, next_wires, last_wires, turn_wires, tail_wires, inner_wires, wires_in}
+use Rattle.law_wires.specs.Written.{Wire, wire, same_side, along, inlet_of, leaves, trigger_side, meet_wires, sender_wires, strict_wires, strict_end, strict_call_wires, invoke_wires, kind_wires, node_wires, value_wires, next_wires, last_wires, turn_wires, tail_wires, inner_wires, wires_in}
 use Rattle.law_wires.specs.Fit.{Takes, IsFit}
 use Rattle.law_wires.proofs.Laid.{Env, goes, dest}
 use Rattle.law_wires.proofs.Arcs.{invoke_arcs, strict_call_arcs, credit_arcs, kind_arcs, node_arcs, turn_arcs, tail_arcs, inner_arcs, wires_with, arcs_in}
 use Rattle.law_wires.proofs.ArcsSame.{wires_split}
+use Rattle.law_wires.proofs.Members.{side_self}
 
 -- how many leave a side
 abbrev pub size : Side → List Wire → ℕ
@@ -44,13 +44,6 @@ no_size b t (w ∷ ws) h = go (same_side t w.from) h (no_size b t ws)
     go : (x : Bool) → one x + size t ws ≡ 0 → (size t ws ≡ 0 → along b t ws ≡ []) → (if x then inlet_of b w ∷ along b t ws else along b t ws) ≡ []
     go true h more = absurd (omega (arith, h))
     go false h more = more (omega (arith, h))
-
-side_self : (t : Side) → same_side t t ≡ true
-side_self t = ap (λ x. x && same_bool t.second t.second) (same_part-refl t.part) ∙ both t.second
-  where
-    both : (s : Bool) → same_bool s s ≡ true
-    both true = refl
-    both false = refl
 
 pub some_size : (w : Wire) (ws : List Wire) → Contains ws w → 0 < size w.from ws
 some_size w [] h = absurd (contains_none w h)

@@ -23,6 +23,7 @@ use Rattle.law_expansion.proofs.ArcsLaws.{arcs_go_forward}
 use Rattle.law_expansion.proofs.ShapesPlans.{plans_are_exact}
 use Rattle.law_expansion.proofs.FactsCodes.{plain_at, variant_at}
 use Rattle.law_expansion.proofs.FactsWholes.{plans_hold_rightly}
+use Rattle.law_expansion.proofs.Wholes.{same_looped}
 use Rattle.law_contexts.specs.Blocks.{Site}
 use Rattle.law_contexts.specs.Wires.{plain_site, turn_site}
 use Rattle.law_contexts.specs.Expanded.{plain_scope, turn_scope, plain_parts, variant_parts, wiring_of, wiring_from, turn_wiring, wires_of, instrs_in, instrs_at, variant_in}
@@ -31,7 +32,8 @@ use Rattle.law_wires.proofs.LaidWhole.{site_build}
 use Rattle.law_wires.proofs.LaidUsual.{HasTurns}
 use Rattle.law_wires.proofs.Agree.{read_parts}
 use Rattle.law_wires.proofs.Credits.{AreLast, plain_lasts, variant_lasts}
-use Rattle.law_wires.proofs.Compose.{same_looped, number_is, codes_are_there}
+use Rattle.law_wires.proofs.Compose.{number_is, codes_are_there}
+use Rattle.law_wires.proofs.Fed.{plain_well}
 
 -- MARKS of the plain code of a block
 variant_marks : (v : ℕ) (bs : List (Block ℕ)) (vars : List ℕ) (cs : Codes) (n : ℕ) (rest : List (Block ℕ)) (i : ℕ) (m : List Mark) → slice_get cs.marks i ≡ Some m → slice_get (variant_codes cs v bs vars n rest).marks i ≡ Some m
@@ -165,11 +167,8 @@ module _ (g : Graph) (text : HasText g) (well : WellFormed g) (own : ℕ) (c : C
   code_holds : OneHolder c
   code_holds = (plans_hold_rightly (flow_of g) own c coded).holders
 
-pub plain_no_turns : (b : Block ℕ) (i : ℕ) → HasTurns (plain_site b i)
-plain_no_turns b i e = absurd (cc)
-
 pub plain_facts : (g : Graph) (text : HasText g) (well : WellFormed g) (i : ℕ) (b : Block ℕ) (c : CodeBlock) → slice_get (flow_of g).blocks i ≡ Some b → slice_get (expanded (flow_of g)).program.blocks i ≡ Some c
-    → (fit : IsFit (flow_of g) b) → IsCodeOf (flow_of g) (plain_site b i) c fit (plain_no_turns b i)
+    → (fit : IsFit (flow_of g) b) → IsCodeOf (flow_of g) (plain_site b i) c fit (plain_well b i)
 unfolding plain_code plain_build finished
 plain_facts g text well i b c there coded fit =
     let fl : Flow = flow_of g in

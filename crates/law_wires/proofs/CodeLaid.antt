@@ -38,11 +38,12 @@ use Rattle.law_expansion.proofs.FactsHolders.{is_later}
 use Rattle.law_wires.proofs.Once.{answer_tally, trigger_tally, once, there_is}
 use Rattle.law_wires.proofs.Agree.{parts_agree}
 use Rattle.law_wires.proofs.Places.{at_place, stand_get, dests_forward, dests_land}
-use Rattle.law_wires.proofs.CodeFacts.{IsCodeOf, plain_no_turns, plain_facts, turn_facts}
+use Rattle.law_wires.proofs.CodeFacts.{IsCodeOf, plain_facts, turn_facts}
 use Rattle.law_wires.proofs.Fits.{blocks_fit}
 use Rattle.law_wires.proofs.Turns.{turns_well}
 use Rattle.law_wires.proofs.CodeWritten.{own_answers, no_answers, answer_forward, firsts_are, seconds_are, read_none, own_slot, own_open, placed, laid, size, place_of, is_there, instr_of, same_place, wire_is, read_is, dests_inside, dests_of, at, w, it}
 use Rattle.law_wires.proofs.CodeRows.{entry_at, line_at, node_stands, landing_row, done_row, credit_row, sends}
+use Rattle.law_wires.proofs.Fed.{plain_well}
 
 module _ (fl : Flow) (S : Site) (c : CodeBlock) (fit : IsFit fl S.block) (turned : HasTurns S) (facts : IsCodeOf fl S c fit turned) where
   abbrev b : Block ℕ
@@ -278,7 +279,7 @@ module _ (fl : Flow) (S : Site) (c : CodeBlock) (fit : IsFit fl S.block) (turned
 
 pub plain_code_is_written : (stage : ℕ) → PlainCodeIsWritten stage
 plain_code_is_written stage g text well only i b c there coded fit =
-    let turned = plain_no_turns b i in
+    let turned = plain_well b i in
     let facts = plain_facts g text well i b c there coded fit in
     record { written = site_is_written (flow_of g) (plain_site b i) c fit turned facts; laid = site_is_laid (flow_of g) (plain_site b i) c fit turned facts }
 

@@ -1,73 +1,21 @@
 -- Each code block of a plan is there: that of each block, and that of its turns where a loop names it.
-use Rattle.std.proofs.Common.{◌≡◌, ℕ, zero, suc, ◌+◌, ◌-◌, ◌<◌, ◌≤◌, ◌⊎◌, inl, inr, Bool, true, false, List, [], ◌∷◌, ◌++◌, length, refl, sym, ap, ◌∙◌, arith, if◌then◌else◌, None, nat_lt, sum_by}
-use Rattle.std.specs.Prelude.{slice_get, slice_index_or, count_by}
+use Rattle.std.proofs.Common.{◌≡◌, ℕ, zero, suc, ◌+◌, ◌-◌, ◌<◌, ◌≤◌, ◌⊎◌, inl, inr, Bool, true, false, List, length, ap, ◌∙◌, arith, if◌then◌else◌, None, nat_lt}
+use Rattle.std.specs.Prelude.{slice_get}
 use Rattle.std.proofs.lemmas.Bool.{cases_lt, le-ltb}
-use Rattle.std.proofs.lemmas.List.Sums.{sum-map, sum_by-cons}
-use Rattle.std.proofs.lemmas.List.{length_push, get_or_append_left, get_or_push}
 use Rattle.std.proofs.lemmas.Option.{slice_get_within}
-use Rattle.lemmas.proofs.Bools.{sum_is_positive}
-use Rattle.semantics.specs.declared.graph.Kind.{Kind}
-use Rattle.semantics.specs.declared.graph.Kind.TheVariants.{Loop}
-use Rattle.semantics.specs.Graph.{Node, Block, Flow, Graph, flow_of, node_at}
+use Rattle.semantics.specs.Graph.{Block, Flow, Graph, flow_of, node_at}
 use Rattle.semantics.specs.Text.{HasText}
 use Rattle.semantics.specs.WellFormed.{WellFormed}
 use Rattle.semantics.specs.Meaning as Meaning
 use Rattle.semantics.specs.Cause as Cause
 use Rattle.semantics.specs.Cause.{is_looped}
 use Rattle.law_determinacy.proofs.Resolved.{flow_well}
-use Rattle.expansion.specs.Variants.{loops_to, some_node_loops, some_block_loops, next_variant, variants_from}
-use Rattle.law_expansion.proofs.FactsCodes.{some_loop, plain_at, variant_at}
+use Rattle.expansion.specs.Variants.{some_block_loops, next_variant}
+use Rattle.law_expansion.proofs.FactsCodes.{some_loop, plain_at, variant_at, variant_number}
+use Rattle.law_expansion.proofs.Wholes.{same_looped}
 use Rattle.law_contexts.specs.Expanded.{CodesAreThere, variant_in}
 
--- WHICH BLOCKS ARE LOOPED, said in two ways
-
-abbrev weight : ℕ → Node ℕ → ℕ
-weight f n = if Cause.loops_to f n.kind then 1 else 0
-
-same_test : (f : ℕ) (k : Kind ℕ) → loops_to f k ≡ Cause.loops_to f k
-same_test f (Loop g k) = refl
-same_test f k = refl
-
-one_test : (t : Bool) → t ≡ nat_lt 0 (if t then 1 else 0)
-one_test true = refl
-one_test false = refl
-
-nodes_counted : (f : ℕ) (ns : List (Node ℕ)) → some_node_loops f ns ≡ nat_lt 0 (sum_by (weight f) ns)
-nodes_counted f [] = refl
-nodes_counted f (n ∷ ns) =
-    sum_is_positive (weight f n) (sum_by (weight f) ns) (loops_to f n.kind) (some_node_loops f ns) (same_test f n.kind ∙ one_test (Cause.loops_to f n.kind)) (nodes_counted f ns)
-    ∙ ap (nat_lt 0) (sym (sum_by-cons (weight f) n ns))
-
-abbrev loops_in : ℕ → Block ℕ → ℕ
-loops_in f b = count_by (λ (n : Node ℕ). Cause.loops_to f n.kind) b.nodes
-
-blocks_counted : (f : ℕ) (bs : List (Block ℕ)) → some_block_loops f bs ≡ nat_lt 0 (sum_by (loops_in f) bs)
-blocks_counted f [] = refl
-blocks_counted f (b ∷ bs) =
-    sum_is_positive (loops_in f b) (sum_by (loops_in f) bs) (some_node_loops f b.nodes) (some_block_loops f bs) (nodes_counted f b.nodes) (blocks_counted f bs)
-    ∙ ap (nat_lt 0) (sym (sum_by-cons (loops_in f) b bs))
-
-pub same_looped : (fl : Flow) (f : ℕ) → some_block_loops f fl.blocks ≡ is_looped fl f
-same_looped fl f = blocks_counted f fl.blocks ∙ ap (nat_lt 0) (sym (sum-map (loops_in f) fl.blocks))
-
 -- NUMBERS OF VARIANTS
-variants_length : (bs : List (Block ℕ)) (n : ℕ) → length (variants_from bs n) ≡ n
-variants_length bs zero = refl
-variants_length bs (suc n) = let l = length_push (variants_from bs n) (next_variant bs n) in let m = variants_length bs n in omega (arith, l, m)
-
-variant_number : (bs : List (Block ℕ)) (n f : ℕ) → f < n → slice_index_or (variants_from bs n) f 0 ≡ next_variant bs f
-variant_number bs zero f l = absurd (omega (arith, l))
-variant_number bs (suc n) f l = go (cases_lt f n) (variant_number bs n f)
-  where
-    go : (f < n) ⊎ (n ≤ f) → (f < n → slice_index_or (variants_from bs n) f 0 ≡ next_variant bs f) → slice_index_or (variants_from bs n ++ next_variant bs n ∷ []) f 0 ≡ next_variant bs f
-    go (inl a) earlier =
-        let long = variants_length bs n in
-        get_or_append_left (variants_from bs n) (next_variant bs n ∷ []) 0 f (omega (arith, long, a)) ∙ earlier a
-    go (inr a) earlier =
-        let long = variants_length bs n in
-        let same : n ≡ f = omega (arith, a, l) in
-        get_or_push (variants_from bs n) (next_variant bs n) 0 f (omega (arith, long, same)) ∙ ap (next_variant bs) same
-
 variants_past : (bs : List (Block ℕ)) (f : ℕ) → length bs ≤ next_variant bs f
 variants_past bs zero = omega arith
 variants_past bs (suc f) = go (some_block_loops f bs) (variants_past bs f)

@@ -20,7 +20,7 @@ use Rattle.expansion.specs.Builds as Builds
 use Rattle.expansion.specs.Builds.{Build, bare, slot_in, added, quieted, connected, with_dest, dest_of, nowhere, exit_at, outlet_of, trigger_of, exited, behind, meeting, mark_of}
 use Rattle.law_expansion.proofs.ArcsLists.{get_push, length_push, length_linked, get_linked, index_old, index_new}
 use Rattle.law_expansion.proofs.ArcsKept.{split}
-use Rattle.law_expansion.proofs.FactsCodes.{get_left}
+use Rattle.law_expansion.proofs.ShapesStates.{get_left}
 use Rattle.law_contexts.specs.Parts.{Part, Trigger, Gate, TurnCont, TurnFlag, TurnValue, Asker, NextFramer, NextFanned, same_part}
 use Rattle.law_contexts.specs.Blocks as Blocks
 use Rattle.law_contexts.specs.Blocks.{Side, side, Site, op_of, origin_of, is_kind, cond_kind}
@@ -172,7 +172,6 @@ laid_added e b rs ws op o m g r l p q k f at = record {
     place n x (inr y) = ap e.place (sym y.1) ∙ at ∙ sym y.0
 
 -- ONE WIRE MORE
-
 with_it : (e : Env) (ws : List Wire) (w : Wire) (j : Instr) (s : Bool) (d : Dest) → d ≡ dest e w → s ≡ w.from.second → IsAt e ws w.from.part j → IsAt e (ws ++ w ∷ []) w.from.part (with_dest j s d)
 with_it e ws w j s d p q h = go s d p q
   where

@@ -15,7 +15,6 @@ use Rattle.law_contexts.specs.Parts.{Part, Entry, Line, Gate, Opener, Framer, Fa
 use Rattle.law_contexts.specs.Blocks.{Side, side, Site, lies_in, outputs_in}
 use Rattle.law_contexts.specs.Expanded as Expanded
 use Rattle.law_contexts.specs.Expanded.{row, invoked}
-use Rattle.law_contexts.proofs.Sames.{same_part-refl}
 use Rattle.law_wires.specs.Written.{Wire, wire, same_side, is_open, is_shared, is_triggered, answer_parts, trigger_parts, trigger_side, kind_parts, node_parts, inner_parts, inner_wires, sender_wires, strict_wires, strict_end, leaves, first_ends, joined_parts, joined_wires, signal_wires, Ended, close, close_kind, close_nodes, parts_in}
 use Rattle.law_wires.specs.Written as Written
 use Rattle.law_wires.specs.Fit.{IsFit}
@@ -24,15 +23,9 @@ use Rattle.law_wires.proofs.Parts.{follow}
 use Rattle.law_wires.proofs.Arcs.{invoke_arcs, strict_call_arcs, credit_arcs, kind_arcs, node_arcs, turn_arcs, tail_arcs, inner_arcs}
 use Rattle.law_wires.proofs.LaidNodes.{env}
 use Rattle.law_wires.proofs.LaidEnds.{AllUsual, IsUsual}
+use Rattle.law_wires.proofs.Members.{side_self}
 
 -- OPEN SIDES
-side_self : (t : Side) → same_side t t ≡ true
-side_self t = ap (λ x. x && Written.same_bool t.second t.second) (same_part-refl t.part) ∙ both t.second
-  where
-    both : (s : Bool) → Written.same_bool s s ≡ true
-    both true = refl
-    both false = refl
-
 open_here : (t : Side) (w : Wire) (ws : List Wire) → same_side t w.from ≡ true → is_open t (w ∷ ws) ≡ false
 open_here t w ws h = ap (λ x. if x then false else is_open t ws) h
 

@@ -84,7 +84,6 @@ module _ (fl : Flow) (s : Site) (fit : IsFit fl s.block) (w : Wiring) (h : IsWri
   }
 
 -- CONTEXTS. Each has a block, and none is a turn where there is no loop.
-
 pub no_turn : (fl : Flow) → HasOnly 3 fl → (c : Context) (n i : ℕ) → IsContext fl (Turned c n i) → ⊥
 no_turn fl only c n i h =
     let x = has_block fl c h.0 in

@@ -12,6 +12,7 @@ use Rattle.mesh.specs.declared.view.Deed.TheVariants.{Committed, Posted, FoundFu
 use Rattle.mesh.specs.Deeds.{Bundle, posts, posted, takes_from, taken, commits_in}
 use Rattle.mesh.proofs.Deeds.{posted_more, taken_more, posted_same, taken_same, posts_here, posts_else, takes_here, takes_else}
 use Rattle.law_free_runs.specs.Laws.{made_of, spent_of, joined, all_posted, all_taken}
+use Rattle.law_free_runs.proofs.Joining.{joined_append}
 
 abbrev Ts : Type 0
 Ts = List Token
@@ -60,10 +61,6 @@ spent_more (FoundEmpty from ∷ ds) d = spent_more ds d
 spent_more (SawLive count ∷ ds) d = spent_more ds d
 spent_more (Stopped reason found ∷ ds) d = spent_more ds d
 spent_more (SawStop found ∷ ds) d = spent_more ds d
-
-joined_append : (xs ys : List Bundle) → joined (xs ++ ys) ≡ joined xs ++ joined ys
-joined_append [] ys = refl
-joined_append (x ∷ xs) ys = ap (λ (l : Ts). x ++ l) (joined_append xs ys) ∙ sym (append_assoc x (joined xs) (joined ys))
 
 -- a deed that takes nothing from the first n
 taken_still : (n : ℕ) (ds : List Deed) (d : Deed) → ((a : ℕ) → a < n → takes_from a d ≡ []) → all_taken n (ds ++ d ∷ []) ≡ all_taken n ds

@@ -23,9 +23,10 @@ use Rattle.ordering.specs.Noted.{Noted, noted_in, with_block}
 use Rattle.ordering.specs.Logs.{taken_in, made_in, counts_of, SpendsOldest, Notes, Logs}
 use Rattle.ordering.proofs.Logging.{ends_block}
 use Rattle.law_net.proofs.Orders.{at_first}
+use Rattle.rounds.proofs.Counting.{grown}
 use Rattle.machine.specs.Runners.{Ran, IsRunning, IsClear, HasNoReason, HasMade, NotesBlock, left_last, still_first, away, tokens_of, behind_all}
 use Rattle.machine.proofs.Tokens.{minus}
-use Rattle.machine.proofs.Flowing.{counts, acts_take}
+use Rattle.machine.proofs.Flowing.{acts_take}
 use Rattle.machine.proofs.Steps.{Parted, acts, cut, ran_as, first_gone, minus_gone, gone_count, left_count, gone_has, gone_mine, block, ran_committed, ran_still}
 
 pub by_min : (m a b : ℕ) → m ≡ min a b → (m ≤ a) × (m ≤ b) × ((m ≡ a) ⊎ (m ≡ b))
@@ -229,7 +230,7 @@ module _ {C A : Type 0} (g : Setting) (mesh : MeshId) (start : Held) (r : Runner
       let turns = turned lane sent taken as_turns in
       let sound : IsSoundLane g.program (held_of lane) = subst (λ (p : Program). IsSoundLane p (held_of lane)) (ap (λ (f : Fixed). f.program) fixed ∙ run.runs.program) (as_sound (subst (λ (p : Program). IsSoundLane p (held_of r.lane)) (sym run.runs.program) run.ran.placed.sound)) in
       let fresh : Turns g.program g.steps old [] taken (held_of lane) sent.items = subst (λ (l : List Token). Turns g.program g.steps old l taken (held_of lane) sent.items) clear.1 turns in
-      let count : lane.held.made ≡ r.lane.held.made + length taken = counts g.program g.steps old [] taken (held_of lane) sent.items fresh in
+      let count : lane.held.made ≡ r.lane.held.made + length taken = grown g.program g.steps old [] taken (held_of lane) sent.items fresh in
       let all : List Token = flat_map (λ v. v.items) r.kept.items in
       let less : away r ≡ r.hand.items ++ all = ap (λ (n : ℕ). r.hand.items ++ (all ++ drop n r.sent.items)) clear.2 ∙ ap (λ (l : List Token). r.hand.items ++ (all ++ l)) clear.1 ∙ ap (λ (l : List Token). r.hand.items ++ l) (append-nil all) in
       record {
@@ -250,4 +251,4 @@ module _ {C A : Type 0} (g : Setting) (mesh : MeshId) (start : Held) (r : Runner
       }
 
   pub more_made : (lane : LaneView) (sent : Vec Token A) (taken : List Token) → Turns r.lane.program r.lane.steps r.lane.held r.sent.items taken lane.held sent.items → r.lane.held.made ≤ lane.held.made
-  more_made lane sent taken as_turns = let turns = turned lane sent taken as_turns in let count : lane.held.made ≡ r.lane.held.made + length taken = counts g.program g.steps (held_of r.lane) r.sent.items taken (held_of lane) sent.items turns in omega (arith, count)
+  more_made lane sent taken as_turns = let turns = turned lane sent taken as_turns in let count : lane.held.made ≡ r.lane.held.made + length taken = grown g.program g.steps (held_of r.lane) r.sent.items taken (held_of lane) sent.items turns in omega (arith, count)

@@ -17,8 +17,9 @@ use Rattle.schedule.specs.Setting.{Setting}
 use Rattle.schedule.specs.State.{IsPlaced}
 use Rattle.schedule.proofs.Stepping.{bounds_are}
 use Rattle.rounds.specs.Turns.{Turns}
-use Rattle.law_free_runs.specs.Blocks.{Act, bounds_of, IsOwn, Chain, Flows}
+use Rattle.law_free_runs.specs.Blocks.{Act, bounds_of, Chain, Flows}
 use Rattle.law_free_runs.proofs.Acting.{steps_act}
+use Rattle.law_free_runs.proofs.Ending.{own_part}
 
 -- the events of a turn
 abbrev pub acts_of : (p : Program) (steps : ℕ) (old : Held) (before ts : List Token) (new : Held) (after : List Token) → Turns p steps old before ts new after → List Act
@@ -28,11 +29,6 @@ acts_of p steps old before (t ∷ ts) new after (mid, sent, does, is, few, sound
 pub acts_are : (p : Program) (steps : ℕ) (old : Held) (before ts : List Token) (new : Held) (after : List Token) (turns : Turns p steps old before ts new after) → length (acts_of p steps old before ts new after turns) ≡ length ts
 acts_are p steps old before [] new after turns = refl
 acts_are p steps old before (t ∷ ts) new after (mid, sent, does, is, few, sound, rest) = ap (λ (n : ℕ). suc n) (acts_are p steps mid sent ts new after rest)
-
--- it counts them
-pub counts : (p : Program) (steps : ℕ) (old : Held) (before ts : List Token) (new : Held) (after : List Token) → Turns p steps old before ts new after → new.made ≡ old.made + length ts
-counts p steps old before [] new after turns = ap (λ (h : Held). h.made) turns.0 ∙ omega arith
-counts p steps old before (t ∷ ts) new after (mid, sent, does, is, few, sound, rest) = let c = counts p steps mid sent ts new after rest in let d = does.count in omega arith
 
 -- THE ORDER OF THE QUEUE
 first_out : (q : List Token) (t : Token) → 0 < length q → slice_get q (0 % length q) ≡ Some t → (tl : List Token) × (q ≡ t ∷ tl) × (remove q (0 % length q) ≡ tl)
@@ -121,15 +117,6 @@ next_placed g e lane next before sent old step next_sound few = record {
   sound = next_sound;
 }
 
-pub is_own : (g : Setting) (e : ℕ) (h : Held) → IsPlaced g e h → IsOwn g e h.part
-is_own g e h p = record {
-  element = p.element;
-  elements = p.elements;
-  frames = p.frames;
-  own_element = p.sound.part.own_element;
-  own_elements = p.sound.part.own_elements;
-}
-
 pub turn_placed : (g : Setting) (e : ℕ) (old : Held) (before ts : List Token) (new : Held) (after : List Token) → IsPlaced g e old → Turns g.program g.steps old before ts new after → IsPlaced g e new
 turn_placed g e old before [] new after start turns = subst (λ (h : Held). IsPlaced g e h) (sym turns.0) start
 turn_placed g e old before (t ∷ ts) new after start (mid, sent, does, is, few, sound, rest) =
@@ -147,4 +134,4 @@ turn_chain g e old before (t ∷ ts) new after start (mid, sent, does, is, few, 
     let head : element_of old.part.shape.elements does.token.to ≡ old.part.shape.element = subst (λ (x : Token). element_of old.part.shape.elements x.to ≡ old.part.shape.element) (ap (λ (l : List Token). get_or l 0 does.token) f.1) (addressed_all 0 does.token some) in
     let addressed : element_of g.elements does.token.to ≡ e = subst (λ (n : ℕ). element_of n does.token.to ≡ e) start.elements (head ∙ start.element) in
     let near : All (IsNearToken (bounds_of g)) does.made = subst (λ (b : Bounds). All (IsNearToken b) does.made) (bounds_are g e old start) does.near in
-    (mid.part, is_own g e mid next, addressed, near, steps_act g.program old mid 0 before sent does, turn_chain g e mid sent ts new after next rest)
+    (mid.part, own_part g e mid next, addressed, near, steps_act g.program old mid 0 before sent does, turn_chain g e mid sent ts new after next rest)

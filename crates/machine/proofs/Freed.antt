@@ -17,7 +17,7 @@ use Rattle.semantics.specs.Report.{Report, Shows}
 use Rattle.element.specs.Held.{Held, Fixed, held_of}
 use Rattle.schedule.specs.declared.halt.Halt.{Halt}
 use Rattle.schedule.specs.Setting.{Setting, size}
-use Rattle.schedule.specs.State.{State, AllFrom, IsPlaced, IsSoundState, RunsAs, tokens_in}
+use Rattle.schedule.specs.State.{State, IsPlaced, IsSoundState, RunsAs, tokens_in}
 use Rattle.schedule.specs.Runs.{Kept, Began, HaltsAs, NamesCell}
 use Rattle.schedule.specs.Told.{IsReportOf}
 use Rattle.schedule.specs.Unlisted.{with_events, ShowsBut}
@@ -34,6 +34,7 @@ use Rattle.ordering.specs.Noted.{noted_in}
 use Rattle.ordering.specs.Logs.{Logs}
 use Rattle.ordering.specs.Orders.{IsHistory}
 use Rattle.law_free_runs.proofs.Ending.{ends_freely}
+use Rattle.law_free_runs.proofs.Showing.{points}
 use Rattle.machine.specs.declared.runner.Left.{Left}
 use Rattle.machine.specs.declared.runner.Runner.{Runner}
 use Rattle.machine.specs.Runners.{Ran, IsRunning, Runs, IsClear, IsLeft, away}
@@ -71,13 +72,6 @@ there_is (x ∷ xs) (suc i) low = let within : i < length xs = omega (arith, low
 
 same_some : {X : Type 0} (x y : X) → some x ≡ some y → x ≡ y
 same_some x y e = cc
-
-each_from : {X : Type 0} (P : ℕ → X → Type 0) (k : ℕ) (xs : List X) → ((i : ℕ) (x : X) → slice_get xs i ≡ Some x → P (k + i) x) → AllFrom P k xs
-each_from P k [] each = tt
-each_from P k (x ∷ xs) each = (
-  subst (λ (n : ℕ). P n x) (omega arith) (each 0 x refl),
-  each_from P (suc k) xs (λ i y is. subst (λ (n : ℕ). P n y) (omega arith) (each (suc i) y is)),
-)
 
 -- what is told of lanes is told with other events, too
 told_with : (s : State) (after all : Events) (halt : Halt) (r : Report) → r.end ≢ End.Memory → IsReportOf (record { state = s; events = after }) halt r
@@ -200,7 +194,7 @@ module _ {C A : Type 0} where
       sound_last = record {
         setting = ready.sound.setting;
         count = length-map news lane_in ∙ count ∙ ready.count;
-        lanes = each_from (IsPlaced g) 0 (lanes_in news) (λ i h is.
+        lanes = points (IsPlaced g) 0 (lanes_in news) (λ i h is.
             let f = slice_found lane_in news i h is in
             let at : IsPlaced g i h = subst (λ (x : Held). IsPlaced g i x) (sym f.2) (placed_at i f.0 f.1 f.3) in
             subst (λ (n : ℕ). IsPlaced g n h) (omega arith) at);

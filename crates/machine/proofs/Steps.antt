@@ -22,10 +22,12 @@ use Rattle.mesh.specs.Deeds.{Bundle}
 use Rattle.mesh.specs.Seats.{MeshId, AllTo}
 use Rattle.mesh.proofs.Deeds.{commits_more, commits_same}
 use Rattle.rounds.specs.Turns.{Turns}
+use Rattle.rounds.proofs.Counting.{grown}
 use Rattle.law_free_runs.specs.Blocks.{Act, Block, bounds_of, commit_of, count_acts, IsOwn, Chain, Flows, Blocks}
+use Rattle.law_free_runs.proofs.Ending.{own_part}
 use Rattle.machine.specs.Runners.{Ran}
 use Rattle.machine.proofs.Tokens.{minus, minus_is}
-use Rattle.machine.proofs.Flowing.{acts_of, acts_are, counts, flows_whole, flows_first, oldest_taken, is_own, turn_placed, turn_chain}
+use Rattle.machine.proofs.Flowing.{acts_of, acts_are, flows_whole, flows_first, oldest_taken, turn_placed, turn_chain}
 use Rattle.machine.proofs.Accounts.{IsQuiet, still_balanced, taken_balanced, posted_balanced, committed_balanced}
 
 abbrev Ts : Type 0
@@ -263,11 +265,11 @@ module _ (g : Setting) (mesh : MeshId) (start : Held) (e : ℕ) (old : Held) (ds
           let flows : Flows gone acts left = subst (λ (l : Ts). Flows gone acts l) (sym left_is) (flows_from gone cut.spent acts (cut.more ++ sent) gone_is cut.flows) in
           let new_placed = turn_placed g e old [] taken new sent r.placed turns in
           let count : new.made ≡ start.made + count_acts (blocks ++ block ∷ [])
-          = (let c = counts g.program g.steps old [] taken new sent turns in let a = acts_are g.program g.steps old [] taken new sent turns in let m = more_acts blocks block in let b = r.count in omega (arith, c, a, m, b)) in
+          = (let c = grown g.program g.steps old [] taken new sent turns in let a = acts_are g.program g.steps old [] taken new sent turns in let m = more_acts blocks block in let b = r.count in omega (arith, c, a, m, b)) in
           record {
             elements = r.elements;
             placed = new_placed;
-            leads = more_blocks g e start.part old.part new.part blocks block r.leads (is_own g e new new_placed) flows (turn_chain g e old [] taken new sent r.placed turns);
+            leads = more_blocks g e start.part old.part new.part blocks block r.leads (own_part g e new new_placed) flows (turn_chain g e old [] taken new sent r.placed turns);
             count = count;
             commits = map-append commit_of blocks (block ∷ []) ∙ ap (λ (l : List Commit). l ++ commit_of block ∷ []) r.commits ∙ sym (commits_more e ds (Committed gone left));
             balanced = committed_balanced g.elements start.queue ts kept gone left ds out r.balanced;

@@ -9,7 +9,7 @@ mod Facts
 mod Lawful
 mod Listed
 mod Numbers
-mod Places
+pub mod Places
 mod Sound
 mod Spelling
 mod Taken

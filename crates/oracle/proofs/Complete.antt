@@ -10,6 +10,7 @@ use Rattle.semantics.specs.Graph.{Node as Row, Block, Graph, flow_of, node_at}
 use Rattle.semantics.specs.Meaning.{Context, Statement, AtNode, AtOut, AtTurn, Port, Tagged, tagged, Activity, taken, operands_from, deed, on_block, on_node, fired, fired_in, input_passed, gated, passed, block_number, block_numbered, block_of}
 use Rattle.semantics.specs.Meaning as Meaning
 use Rattle.lemmas.proofs.Permutations.{Within, Each, put_first}
+use Rattle.law_determinacy.proofs.Keys.{within_one}
 use Rattle.oracle.specs.declared.invocations.Made.{Made}
 use Rattle.oracle.specs.declared.invocations.Made.TheVariants.{Main, Called, Turned}
 use Rattle.oracle.specs.declared.invocations.Invocation.{Invocation}
@@ -24,7 +25,7 @@ use Rattle.oracle.specs.Meant.{name_in, made_of, tagged_of, statement_of, port_o
 use Rattle.oracle.specs.Agreeing.{block_in, row_in}
 use Rattle.oracle.proofs.Resolved.{block_same, rows_same}
 use Rattle.oracle.proofs.Apart.{key_same}
-use Rattle.oracle.proofs.Taken.{operand_at, operands_each, within_one, within_two, no_more}
+use Rattle.oracle.proofs.Taken.{operand_at, operands_each, within_two, no_more}
 
 abbrev pub TakesAt : Activity → Context → Spot → Type 0
 TakesAt a c s = (v : Value) × Within (tagged c (statement_of s) (port_of s) v) (taken a)

@@ -11,7 +11,7 @@ use Rattle.oracle.specs.declared.sending.Sent.{Sent}
 use Rattle.oracle.specs.Lines.{operand_spots}
 use Rattle.oracle.specs.Sending.{flag_tokens, token_at}
 
-less_one : (i n : ℕ) → i < n → n - i ≡ suc (n - (i + 1))
+pub less_one : (i n : ℕ) → i < n → n - i ≡ suc (n - (i + 1))
 less_one i n h = omega (arith, h)
 
 pub spots_more : (n i count : ℕ) (all so_far : List Spot) → i < count → all ≡ so_far ++ operand_spots n i (count - i) → all ≡ (so_far ++ Operand n i ∷ []) ++ operand_spots n (i + 1) (count - (i + 1))

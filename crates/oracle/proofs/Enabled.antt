@@ -1,5 +1,5 @@
 -- The activities that were found are just those that are enabled at the beginning of the wave.
-use Rattle.std.proofs.Common.{◌≡◌, ℕ, ◌<◌, ◌⊎◌, ℤ, List, [], ◌∷◌, ◌++◌, map, flat_map, length, Option, Some, None, slice_get, IsPermutation, Contains, inl, inr, refl, sym, ap, ap₂, ◌∙◌, subst, arith, ⊎_elim, append_assoc}
+use Rattle.std.proofs.Common.{◌≡◌, ℕ, ◌⊎◌, ℤ, List, [], ◌∷◌, ◌++◌, map, flat_map, length, Option, Some, None, slice_get, IsPermutation, Contains, inl, inr, refl, sym, ap, ap₂, ◌∙◌, subst, ⊎_elim, append_assoc}
 use Rattle.std.proofs.lemmas.List.{map-append}
 use Rattle.std.proofs.lemmas.List.Sorted.{IsPermutation-refl, IsPermutation-trans, IsPermutation-append_left}
 use Rattle.std.proofs.lemmas.Option.{same_Some}
@@ -16,7 +16,7 @@ use Rattle.law_determinacy.proofs.Determinacy.{same_sym}
 use Rattle.law_determinacy.proofs.Keys.{Unique, Held, same_activity}
 use Rattle.lemmas.proofs.Permutations.{Within, Each, put_first, each_from, each_within, within_append, within_left, within_right, within_to, each_weaker, get_within}
 use Rattle.law_determinacy.proofs.Resolved.{flow_well}
-use Rattle.law_determinacy.proofs.Rest.{takes_some}
+use Rattle.law_determinacy.proofs.Rest.{takes_some, some_taken}
 use Rattle.law_determinacy.proofs.Runs.{activity_once, step_of}
 use Rattle.law_determinacy.proofs.Theorems.{reached_unique}
 use Rattle.oracle.specs.declared.invocations.Invocation.{Invocation}
@@ -34,10 +34,6 @@ use Rattle.oracle.proofs.Performing.{does}
 use Rattle.oracle.proofs.SameStates.{rest_same, quiet_same, enabled_same}
 use Rattle.oracle.proofs.Taking.{all_taken, taking_at, flat_within, one_taken}
 use Rattle.oracle.proofs.Waiting.{each_either, IsDeferred, at_rest, no_clash}
-
-some_taken : (ts : List Tagged) → 0 < length ts → (t : Tagged) × Within t ts
-some_taken [] l = absurd (omega (arith, l))
-some_taken (t ∷ ts) l = (t, (ts, put_first t ts))
 
 module _ (g : Graph) (well : WellFormed g) (inputs : List ℤ) (fit : length inputs ≡ inputs_of (flow_of g)) (k : ℕ) (old : State)
     (xs : List Invocation) (cells outputs : List (Option Value)) (w d : List Token) (acts : List (List Value × Deed)) (h : Gathers g inputs k old xs cells outputs [] w d acts) where

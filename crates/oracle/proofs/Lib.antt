@@ -2,7 +2,7 @@ mod Acts
 mod Apart
 mod Clashing
 mod Complete
-mod Counting
+pub mod Counting
 mod DeedLaws
 mod Doing
 mod Enabled

@@ -1,5 +1,5 @@
 -- A run over rows tells what the run over one list tells.
-use Rattle.std.proofs.Common.{◌≡◌, ℕ, zero, suc, ◌+◌, ◌-◌, ◌<◌, Bool, true, false, ◌==◌, ℤ, List, [], ◌∷◌, ◌++◌, map, length, Option, Some, None, Result, Ok, Err, slice_get, slice_set, slice_index_or, if◌then◌else◌, refl, sym, ap, ◌∙◌, subst, arith, eqb-true, eq-eqb}
+use Rattle.std.proofs.Common.{◌≡◌, ℕ, zero, suc, ◌+◌, ◌-◌, ◌<◌, Bool, true, false, ◌==◌, ℤ, List, [], ◌∷◌, ◌++◌, map, length, Option, Some, None, Result, Ok, Err, slice_get, slice_set, slice_index_or, if◌then◌else◌, refl, sym, ap, ◌∙◌, subst, eqb-true, eq-eqb}
 use Rattle.tags.specs.declared.value.Value.{Value}
 use Rattle.semantics.specs.Graph.{Graph}
 use Rattle.oracle.specs.declared.invocations.Invocation.{Invocation}
@@ -20,6 +20,7 @@ use Rattle.oracle.proofs.RowLists.{row_here, row_set, set_here}
 use Rattle.oracle.specs.Rows.{rows_of, with_row, no_rows, Next, Goes, Stays, Breaks, row_next, next_among, run_among}
 use Rattle.oracle.proofs.Views.{joined_view}
 use Rattle.oracle.proofs.Rows.{keep, mine, there_mine, left_mine, left_other, values_mine}
+use Rattle.oracle.proofs.Counting.{less_one}
 
 -- JOINING
 
@@ -224,14 +225,11 @@ told_among g inputs steps = go (run_of g steps (start_of g inputs)) ∙ sym (ap 
     go None = refl
     go (Some r) = refl
 
-less : (i n : ℕ) → i < n → n - i ≡ suc (n - (i + 1))
-less i n h = omega (arith, h)
-
 -- a step of a run
 pub run_goes : (g : Graph) (s t : Plain) (rows rows' : ℕ → List Token) (vs : List Value) (d : Deed) (i n : ℕ) (all : Option (MeanEnd × Plain)) → i < n → all ≡ run_among g (n - i) s rows
     → next_among g s rows ≡ Goes t rows' vs d → all ≡ run_among g (n - (i + 1)) (performed g t vs d) rows'
 run_goes g s t rows rows' vs d i n all h e is =
-    e ∙ ap (λ k. run_among g k s rows) (less i n h) ∙ ap (went g (n - (i + 1))) is
+    e ∙ ap (λ k. run_among g k s rows) (less_one i n h) ∙ ap (went g (n - (i + 1))) is
 
 -- the same run, by equal states and equal rows
 pub run_kept : {V : Type 0} (g : Graph) (k : ℕ) (q r : Plain) (w v : List V) (f : V → List Token) → q ≡ r → v ≡ w → run_among g k q (rows_of (map f w)) ≡ run_among g k r (rows_of (map f v))

@@ -4,6 +4,7 @@ use Rattle.tags.specs.declared.value.Value.{Value}
 use Rattle.semantics.specs.Meaning.{Context, Statement, AtNode, AtOut, AtTurn, Port, Tagged, tagged, Activity, taken, operands_from, deed, on_block, on_node, fired, fired_in, input_passed, gated, passed, block_number, block_numbered, block_of}
 use Rattle.semantics.specs.Meaning as Meaning
 use Rattle.lemmas.proofs.Permutations.{Within, Each, put_first, each_weaker}
+use Rattle.law_determinacy.proofs.Keys.{within_one}
 use Rattle.oracle.specs.Lines.{operand_spots}
 use Rattle.oracle.specs.Meant.{statement_of, port_of}
 
@@ -29,10 +30,6 @@ operands_each c n from (v ∷ vs) =
       (v, (_, put_first first (operands_from c (AtNode n) (from + 1) vs))),
       each_weaker _ _ (λ s h. (h.0, (first ∷ h.1.0, inr (h.1.0, refl, h.1.1)))) (operand_spots n (from + 1) (length vs)) (operands_each c n (from + 1) vs),
     )
-
-pub within_one : (t u : Tagged) → Within t (u ∷ []) → t ≡ u
-within_one t u (zs, inl h) = h.0
-within_one t u (zs, inr h) = absurd h.2
 
 pub within_two : (t u w : Tagged) → Within t (u ∷ w ∷ []) → (t ≡ u) ⊎ (t ≡ w)
 within_two t u w (zs, inl h) = inl h.0

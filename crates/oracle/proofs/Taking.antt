@@ -109,7 +109,6 @@ taking_at g k cs m P held (b ∷ acts) (c ∷ as') h a (zs, inl p) = (h.0, b, su
 taking_at g k cs m P held (b ∷ acts) (c ∷ as') h a (zs, inr p) = taking_at g k cs m P h.1 acts as' h.5 a (p.0, p.2)
 
 -- LISTS
-
 pub flat_within : (u : Tagged) (as' : List Activity) → Within u (flat_map taken as') → (a : Activity) × Within a as' × Within u (taken a)
 flat_within u [] w = absurd w.1
 flat_within u (a ∷ as') w =

@@ -10,8 +10,7 @@ use Rattle.tags.specs.declared.token.Token.{Token}
 use Rattle.tags.specs.Addresses.{element_of}
 use Rattle.semantics.specs.Machine.{Events}
 use Rattle.law_free_runs.specs.Blocks.{Block, by_element, events_in, blocks_by, if_by, LeavesTokens}
-use Rattle.law_free_runs.proofs.Running.{by_same, by_other}
-use Rattle.law_free_runs.proofs.Reordering.{behind, takes_first}
+use Rattle.law_free_runs.proofs.Reordering.{behind, takes_first, first_other, first_own}
 use Rattle.ordering.specs.Rests.{with_spent, AreOwn, SameOthers, Leads}
 
 abbrev Tokens : Type 0
@@ -29,13 +28,6 @@ behind_mine n e [] us all = all
 behind_mine n e (t ∷ ts) us all = behind_mine n e ts us (All-tail (λ (t : Token). element_of n t.to ≡ e) t (ts ++ us) all)
 
 -- LISTS OF BLOCKS
-
-pub first_own : (x : Block) (log : List Block) (e : ℕ) → x.element ≡ e → blocks_by e (x ∷ log) ≡ x ∷ blocks_by e log
-first_own x log e same = subst (λ (k : ℕ). blocks_by k (x ∷ log) ≡ x ∷ blocks_by k log) same (by_same x log)
-
-pub first_other : (x : Block) (log : List Block) (e : ℕ) → (x.element ≡ e → ⊥) → blocks_by e (x ∷ log) ≡ blocks_by e log
-first_other x log e other = by_other x log e (λ (s : e ≡ x.element). other (sym s))
-
 -- the blocks of an element in a legal history are its own
 pub all_own : (n e : ℕ) (log : List Block) (tokens last : Tokens) → LeavesTokens n tokens log last → AreOwn n e (blocks_by e log)
 all_own n e [] tokens last leaves = tt

@@ -1,15 +1,15 @@
 -- All elements in turn, from the opening pool to the last block.
-use Rattle.std.proofs.Common.{◌≡◌, ◌≢◌, refl, sym, ◌∙◌, ap, subst, ℕ, zero, suc, ◌<◌, ◌≤◌, Bool, true, false, List, [], ◌∷◌, ◌++◌, length, drop, get_or, map, ◌⊎◌, inl, inr, ⊎_elim, append_assoc, append-nil, Some, arith}
-use Rattle.std.specs.Prelude.{IsPermutation, slice_get, slice_set, ◌==◌, nat_lt}
-use Rattle.std.proofs.lemmas.Bool.{ltb-true, ltb-false}
+use Rattle.std.proofs.Common.{◌≡◌, ◌≢◌, refl, sym, ◌∙◌, ap, subst, ℕ, zero, suc, ◌<◌, ◌≤◌, List, [], ◌∷◌, ◌++◌, length, drop, get_or, map, ◌⊎◌, inl, inr, ⊎_elim, append_assoc, append-nil, Some, arith}
+use Rattle.std.specs.Prelude.{IsPermutation, slice_get, slice_set, ◌==◌}
 use Rattle.std.proofs.lemmas.List.Sorted.{IsPermutation-sym}
 use Rattle.lemmas.proofs.SliceGet.{get_some}
 use Rattle.lemmas.proofs.Bools.{by_equality}
-use Rattle.lemmas.proofs.Lists.{nothing_after}
 use Rattle.tags.specs.declared.token.Token.{Token}
 use Rattle.semantics.specs.Machine.{Events}
 use Rattle.law_free_runs.specs.Blocks.{Block, events_in, blocks_by, entry_of, LeavesTokens, AreBelow}
 use Rattle.law_free_runs.proofs.Running.{leaves_same, by_same}
+use Rattle.law_free_runs.proofs.Weaving.{all_below}
+use Rattle.law_free_runs.proofs.Reordering.{first_other}
 use Rattle.ordering.specs.declared.log.Counts.{Counts}
 use Rattle.ordering.specs.declared.log.Log.{Log}
 use Rattle.ordering.specs.declared.rest.Rest.{Rest}
@@ -18,7 +18,7 @@ use Rattle.ordering.specs.Pools.{all_copies}
 use Rattle.ordering.specs.Rests.{IsWhole, StandsFor, Holds, GoesOn, IsStuck}
 use Rattle.ordering.specs.Orders.{IsHistory, IsOrdered, OrderedSoFar, AreWholeSoFar, AreWhole}
 use Rattle.ordering.proofs.Copies.{in_front}
-use Rattle.ordering.proofs.Moving.{all_own, first_other}
+use Rattle.ordering.proofs.Moving.{all_own}
 use Rattle.ordering.proofs.Standing.{log_stands}
 
 abbrev Tokens : Type 0
@@ -62,16 +62,6 @@ none_above n [] e below high = refl
 none_above n (b ∷ later) e below high =
     let low : b.element < n = below.0 in
     first_other b later e (λ (s : b.element ≡ e). let at : b.element ≡ e = s in let no : ⊥ = omega (arith, low, high, at) in no) ∙ none_above n later e below.1 high
-
-nothing_first : (b : Block) (xs : List Block) → b ∷ xs ≡ [] → ⊥
-nothing_first b xs e = cc
-
-all_below : (n : ℕ) (log : List Block) → ((e : ℕ) → n ≤ e → blocks_by e log ≡ []) → AreBelow n log
-all_below n [] none = tt
-all_below n (b ∷ later) none = (low (nat_lt b.element n) refl, all_below n later (λ e high. nothing_after _ (blocks_by e later) (none e high))) where
-  low : (t : Bool) → nat_lt b.element n ≡ t → b.element < n
-  low true t = ltb-true b.element n t
-  low false t = absurd (nothing_first b (blocks_by b.element later) (sym (by_same b later) ∙ none b.element (ltb-false b.element n t)))
 
 -- AT THE START
 pub starts : {A : Type 0} (logs : List (Log A)) (log : List Block) (start last opening : Tokens) (amounts : Amounts) (rests : List Rest)

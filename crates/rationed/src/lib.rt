@@ -1,5 +1,9 @@
-//! An allocator for tests: it gives out what another does, counts the growths, and refuses one.
+//! An allocator, a reader and a writer for tests, each with a ration. The allocator gives out what another does, counts the growths, and
+//! refuses one; the reader fails at one of its calls, and the writer at one of its bytes.
 #![tactic(auto)]
+
+pub mod reader;
+pub mod writer;
 
 use std::alloc::{AllocError, Allocator};
 use std::sync::atomic::{AtomicU64, Ordering};

@@ -1,10 +1,6 @@
 -- What instructions do.
-use Rattle.std.proofs.Common.{◌≡◌, refl, sym, ◌∙◌, ap, subst, ℕ, ◌+◌, ◌<◌, ◌≤◌, ◌^◌, List, length, Option, Some, None, arith, ⊎_elim}
-use Rattle.std.specs.Prelude.{sum, IfSome, take, slice_index_or, option_to_list}
-use Rattle.std.proofs.lemmas.List.{get_or_past}
-use Rattle.std.proofs.lemmas.List.Sums.{sum_by-take-drop, sum_by-drop_more}
-use Rattle.std.proofs.lemmas.Grind.{common_steps}
-use Rattle.std.proofs.lemmas.Bool.{cases_lt}
+use Rattle.std.proofs.Common.{◌≡◌, refl, sym, ◌∙◌, ap, subst, ℕ, ◌<◌, ◌≤◌, ◌^◌, List, length, Option, Some, None, arith}
+use Rattle.std.specs.Prelude.{IfSome, option_to_list}
 use Rattle.tags.specs.declared.token.Port.{Port}
 use Rattle.tags.specs.declared.token.Port.TheVariants.{Left, Right}
 use Rattle.tags.specs.declared.token.Word.{Word}
@@ -23,7 +19,7 @@ use Rattle.element.specs.declared.instructions.Instruction.{Instruction}
 use Rattle.element.specs.Decoded.{instr_of, dest_in, IsShort}
 use Rattle.element.specs.Near.{Bounds, IsNearCont, IsNearWord, IsNearSlot}
 use Rattle.element.proofs.Nearness.{IsNearSeat, NearOutcome, outcome_near}
-use Rattle.element.proofs.Instructing.{low_slot}
+use Rattle.element.proofs.Instructing.{low_slot, cell_there}
 use Rattle.replay.specs.declared.slots.Slots.{Slots}
 use Rattle.replay.specs.declared.state.State.{State}
 use Rattle.replay.specs.declared.state.Did.{Did}
@@ -43,13 +39,6 @@ answer_near b f ip (Some d) l m n = (l, omega arith)
 landing_near : (b : Bounds) (f ip : ℕ) (first : Option Dest) → f < b.frames → ip < 2 ^ 30 → IfSome first (λ (d : Dest). d.ahead < 2 ^ 30) → IsNearCont b (landing_at (seat f ip) (option_to_list first))
 landing_near b f ip None l m n = (l, omega arith)
 landing_near b f ip (Some d) l m n = (l, omega arith)
-
--- a place in an array is a cell
-cell_there : (arrays : List ℕ) (a x : ℕ) → x < slice_index_or arrays a 0 → sum (take a arrays) + x < sum arrays
-cell_there arrays a x l = ⊎_elim
-    (λ (low : a < length arrays). let whole = sum_by-take-drop (λ (n : ℕ). n) arrays a in let rest = sum_by-drop_more (λ (n : ℕ). n) arrays a 0 low in grind (arith, common_steps, whole, rest, l))
-    (λ (past : length arrays ≤ a). absurd (let none = get_or_past arrays a 0 past in omega arith))
-    (cases_lt a (length arrays))
 
 fired_empty : (v : SlotState) (ts : List Token) (o : Option (List Token)) → Becomes v ts ≡ fires Empty o → v ≡ Empty
 fired_empty v ts None e = absurd (let bad : ⊥ = cc in bad)

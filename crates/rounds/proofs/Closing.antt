@@ -142,7 +142,6 @@ map_same [] = refl
 map_same (x ∷ xs) = ap (λ (l : List _). x ∷ l) (map_same xs)
 
 -- LANES WITHOUT THE TOKENS THAT ARE ON THEIR WAY
-
 unqueued_placed : (g : Setting) (ts : List Token) (i : ℕ) (h : Held) → IsPlaced g i (queued h ts) → IsPlaced g i h
 unqueued_placed g ts i h p = record {
   element = p.element;

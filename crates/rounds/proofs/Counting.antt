@@ -26,7 +26,7 @@ total_delivered : (ts : List Token) (hs : List Held) → total (delivered ts hs)
 total_delivered ts [] = refl
 total_delivered ts (h ∷ hs) = ap (λ (n : ℕ). h.made + n) (total_delivered ts hs)
 
-grown : (p : Program) (steps : ℕ) (old : Held) (before ts : List Token) (new : Held) (after : List Token) → Turns p steps old before ts new after → new.made ≡ old.made + length ts
+pub grown : (p : Program) (steps : ℕ) (old : Held) (before ts : List Token) (new : Held) (after : List Token) → Turns p steps old before ts new after → new.made ≡ old.made + length ts
 grown p steps old before [] new after turns = let e = ap (λ (h : Held). h.made) turns.0 in omega (arith, e)
 grown p steps old before (t ∷ ts) new after (mid, sent, does, is, few, sound, rest) =
     let e = grown p steps mid sent ts new after rest in

@@ -20,7 +20,7 @@ use Rattle.schedule.proofs.Places.{first_get, from_map}
 use Rattle.schedule.proofs.Stepping.{set_others}
 
 -- one more event at the end of a run
-run_more : (p : Program) (z : Size) (start : Machine) (events : Events) (e : ℕ) (t : Token) (mid last : Machine)
+pub run_more : (p : Program) (z : Size) (start : Machine) (events : Events) (e : ℕ) (t : Token) (mid last : Machine)
     → Run p z start events mid → Event p z e t mid last → Run p z start (events ++ (e, t) ∷ []) last
 run_more p z start [] e t mid last run ev = (
   last,
@@ -39,17 +39,17 @@ run_more p z start (x ∷ later) e t mid last run ev = (run.0, run.1, run_more p
 abbrev made_by : ℕ → Events → ℕ
 made_by i evs = count_by (λ (ev : ℕ × Token). ev.0 == i) evs
 
-made_more : (i e : ℕ) (t : Token) (evs : Events) → made_by i (evs ++ (e, t) ∷ []) ≡ made_by i evs + (if e == i then 1 else 0)
+pub made_more : (i e : ℕ) (t : Token) (evs : Events) → made_by i (evs ++ (e, t) ∷ []) ≡ made_by i evs + (if e == i then 1 else 0)
 made_more i e t evs =
     let f : ℕ × Token → ℕ = λ ev. if ev.0 == i then 1 else 0 in
     let a : made_by i (evs ++ (e, t) ∷ []) ≡ made_by i evs + made_by i ((e, t) ∷ []) = sum_by-append f evs ((e, t) ∷ []) in
     let b : made_by i ((e, t) ∷ []) ≡ f (e, t) + 0 = sum_by-cons f (e, t) [] in
     omega (arith, a, b)
 
-made_same : (e : ℕ) (t : Token) (evs : Events) → made_by e (evs ++ (e, t) ∷ []) ≡ made_by e evs + 1
+pub made_same : (e : ℕ) (t : Token) (evs : Events) → made_by e (evs ++ (e, t) ∷ []) ≡ made_by e evs + 1
 made_same e t evs = made_more e e t evs ∙ ap (λ (b : Bool). made_by e evs + (if b then 1 else 0)) (eq-eqb e e refl)
 
-made_other : (i e : ℕ) (t : Token) (evs : Events) → i ≢ e → made_by i (evs ++ (e, t) ∷ []) ≡ made_by i evs
+pub made_other : (i e : ℕ) (t : Token) (evs : Events) → i ≢ e → made_by i (evs ++ (e, t) ∷ []) ≡ made_by i evs
 made_other i e t evs ne =
     let a : made_by i (evs ++ (e, t) ∷ []) ≡ made_by i evs + 0 = made_more i e t evs ∙ ap (λ (b : Bool). made_by i evs + (if b then 1 else 0)) (ne_eqb e i (λ (s : e ≡ i). ne (sym s))) in
     omega (arith, a)

@@ -65,7 +65,6 @@ pool_empty s m stands none =
     stands_length = length_permutation m.pool (tokens_in s.lanes) stands.tokens
 
 -- WAITING REQUESTS
-
 sum_some : (n : ℕ) (f : ℕ → ℕ) → 0 < sum_below n f → (x : ℕ) × (x < n) × (0 < f x)
 sum_some zero f some = absurd (omega arith)
 sum_some (suc n) f some = by_last (cases_lt 0 (f n)) (λ (l : 0 < sum_below n f). sum_some n f l)

@@ -14,7 +14,6 @@ use Rattle.element.specs.Held.{Held, is_here, here, with_queue, queued}
 use Rattle.schedule.specs.State.{AllFrom, IsAt, delivered, tokens_in}
 
 -- LISTS IN ANOTHER ORDER
-
 -- an element that passes c passes just one of a and b
 abbrev Splits : Bool → Bool → Bool → Type 0
 Splits true false true = Unit {0}

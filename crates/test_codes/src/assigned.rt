@@ -8,7 +8,7 @@ use slot_alloc::{AssignFault, assign, check_slots};
 use std::alloc::{AllocError, Allocator};
 use std::test::Fail;
 use tags::value::Origin;
-use test_plans::{ADD, Dests, L, NONE, R, instr_of, mark_of, plan_of};
+use test_inputs::plans::{ADD, Dests, L, NONE, R, instr_of, mark_of, plan_of};
 
 /// The operation of an instruction, its holder, and its first and its second destinations.
 type Line = (Op, u32, Dests, Dests);

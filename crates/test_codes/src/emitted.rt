@@ -10,7 +10,7 @@ use std::alloc::{AllocError, Allocator};
 use std::test::Fail;
 use tags::token::Port;
 use tags::value::{NodeNumber, Origin};
-use test_plans::{L, NONE, R, instr_of, plan_of};
+use test_inputs::plans::{L, NONE, R, instr_of, plan_of};
 
 const fn left(ahead: u32) -> Dest {
     Dest {

@@ -2,8 +2,8 @@
 
 use object_view::{Object, ObjectFault, upgrade, write};
 use rationed::Rationed;
+use rationed::writer::{Failure, Taker};
 use std::alloc::Global;
-use test_failing_streams::writer::{Failure, Taker};
 
 /// Adds two inputs.
 fn adds() -> [u8; 152] {

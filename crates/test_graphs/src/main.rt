@@ -18,8 +18,8 @@ use std::process::ExitCode;
 use std::sync::Wait;
 use std::thread::Threads;
 use tally::Tally;
-use test_random_graphs::dice::Dice;
-use test_random_graphs::graphs::{Graph, Part};
+use test_inputs::random_graphs::dice::Dice;
+use test_inputs::random_graphs::graphs::{Graph, Part};
 use trials::Trials;
 
 /// The most activities of a meaning.

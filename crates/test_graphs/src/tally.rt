@@ -3,8 +3,8 @@
 use crate::verdict::Verdict;
 use oracle::MeanEnd;
 use std::io::{self, Write};
-use test_random_graphs::graphs::Graph;
-use test_random_graphs::kind::{KINDS, NAMES};
+use test_inputs::random_graphs::graphs::Graph;
+use test_inputs::random_graphs::kind::{KINDS, NAMES};
 
 /// How many runs there were of each outcome.
 #[derive(Clone, Copy)]

@@ -16,9 +16,9 @@ use std::alloc::{AllocError, Global};
 use std::io::{self, Write};
 use std::sync::Wait;
 use std::thread::Threads;
-use test_random_graphs::dice::Dice;
-use test_random_graphs::graphs::{Graph, Part};
-use test_random_graphs::orders::picks;
+use test_inputs::random_graphs::dice::Dice;
+use test_inputs::random_graphs::graphs::{Graph, Part};
+use test_inputs::random_graphs::orders::picks;
 
 /// Random orders of each graph.
 const ORDERS: u64 = 4;

@@ -6,7 +6,7 @@ use schedule::report::Report;
 use semantics::report::End;
 use std::alloc::Global;
 use tags::value::Value;
-use test_random_graphs::graphs::Graph;
+use test_inputs::random_graphs::graphs::Graph;
 
 /// The outcome of comparing a run with the meaning.
 #[derive(Clone, Copy, PartialEq, Eq)]

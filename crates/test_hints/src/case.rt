@@ -7,7 +7,7 @@ use std::io::{self, Write};
 use std::str;
 use std::sync::Wait;
 use std::thread::Threads;
-use test_pieces::{append, append_repeated, append_word};
+use test_inputs::pieces::{append, append_repeated, append_word};
 
 /// A case, as far as its lines have been read.
 #[derive(Drop)]

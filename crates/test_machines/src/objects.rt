@@ -1,6 +1,6 @@
 //! The objects that scripts name.
 
-use test_objects::{ADD, CALL, FETCHES, LOOP, READERS, STORES, STUCK};
+use test_inputs::objects::{ADD, CALL, FETCHES, LOOP, READERS, STORES, STUCK};
 
 /// The object of this name.
 pub fn object_named(name: &str) -> Option<&'static [u8]> {

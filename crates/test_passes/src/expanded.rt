@@ -9,7 +9,7 @@ use semantics::program::{Mark, Op};
 use std::alloc::{AllocError, Allocator, Global};
 use std::process::Abort;
 use std::test::Fail;
-use test_plans::{ADD, Dests, L, NONE, R, is_instr};
+use test_inputs::plans::{ADD, Dests, L, NONE, R, is_instr};
 
 /// The graph of the block `m`, which gives the sum of its two inputs, and of the block `g`, which gives its first input and does
 /// not use its second one.
@@ -65,7 +65,7 @@ fn expect_adder<R: Abort, A: Allocator>(rt: &R, block: &CodeBlock<A>) {
 /// In the second graph, the unused input goes to the left port of the join, and the signal of the `return` to its right port.
 #[test]
 fn plans_of_small_graphs(rt: HostRuntime) -> Result<(), Fail> {
-    let plan = whole_plan(&rt, rt.alloc(), test_graph_texts::ADD)?;
+    let plan = whole_plan(&rt, rt.alloc(), test_inputs::graph_texts::ADD)?;
     assert_eq!(rt; plan.program.main, 0);
     assert_eq!(rt; plan.plain, 1);
     assert_eq!(rt; plan.program.blocks.len(), 1);

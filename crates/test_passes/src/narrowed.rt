@@ -7,7 +7,7 @@ use semantics::program::{Mark, Op};
 use std::alloc::{AllocError, Allocator};
 use std::test::Fail;
 use tags::value::Origin;
-use test_plans::{ADD, Dests, L, NONE, R, has_op, instr_of, is_instr, mark_of};
+use test_inputs::plans::{ADD, Dests, L, NONE, R, has_op, instr_of, is_instr, mark_of};
 
 /// The operation of an instruction, and its first and its second destinations.
 type Line = (Op, Dests, Dests);

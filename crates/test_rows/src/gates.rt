@@ -15,7 +15,7 @@ use std::sync::atomic::{AtomicBool, AtomicU64, Ordering};
 use std::test::Fail;
 use std::thread::Threads;
 use tags::value::Value;
-use test_graph_texts::{ADD, SUM_LOOP};
+use test_inputs::graph_texts::{ADD, SUM_LOOP};
 
 const CLASHES: &[u8] =
     b"etsgraph 1\narray A 2\nblock m 2 4\n- lit 0 0.0\n- lit 1 0.0\n- store A 2.0 0.0\n- store A 2.0 1.0\n- store A 3.0 0.0\n- store A 3.0 1.0\nout 4.0 5.0 6.0 7.0\nend\nmain m\n";

@@ -4,7 +4,7 @@ use commands::serving::serve;
 use rationed::{Rationed, is_next_refused};
 use rounds::Open;
 use std::test::Fail;
-use test_graph_texts::{ADD, with_inputs};
+use test_inputs::graph_texts::{ADD, with_inputs};
 
 const REST: &[u8] = b"output 0 5\ndeferred 0\nwaiting 0 0\nframes 0\nend Rest\n";
 

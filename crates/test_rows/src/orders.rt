@@ -14,7 +14,7 @@ use std::alloc::{AllocError, Global};
 use std::process::Abort;
 use std::test::Fail;
 use tags::value::Value;
-use test_graph_texts::{ADD, FACTORIAL, FIVE_RESULTS, with_change};
+use test_inputs::graph_texts::{ADD, FACTORIAL, FIVE_RESULTS, with_change};
 
 /// Two calls that ask for their frames at once. The second one takes the first one's result.
 const TWO_CALLS: &[u8] =

@@ -5,7 +5,7 @@ use std::alloc::{AllocError, Global};
 use std::io::{self, Write};
 use std::sync::Wait;
 use std::thread::Threads;
-use test_pieces::{append, append_repeated, changed};
+use test_inputs::pieces::{append, append_repeated, changed};
 use test_served::answer;
 
 /// A session, as far as its lines have been read.

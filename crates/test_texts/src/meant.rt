@@ -5,7 +5,7 @@ use rationed::{Rationed, is_next_refused};
 use std::alloc::Allocator;
 use std::process::Abort;
 use std::test::Fail;
-use test_graph_texts::{EARLY_RESULT, READERS, SUM_LOOP};
+use test_inputs::graph_texts::{EARLY_RESULT, READERS, SUM_LOOP};
 
 /// More activities than any run here takes.
 const ENOUGH: u64 = 1_000_000;

@@ -14,7 +14,7 @@ use semantics::version::Version;
 use std::alloc::{AllocError, Global};
 use std::test::Fail;
 use tags::value::{FaultKind, NodeNumber, Origin, Value};
-use test_objects::STORES;
+use test_inputs::objects::STORES;
 
 /// Memory that counts how often it is asked.
 type Heap<'h> = &'h Rationed<Global>;

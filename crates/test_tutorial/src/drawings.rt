@@ -2,7 +2,7 @@
 
 use std::alloc::Global;
 use std::str;
-use test_dot_reader::read;
+use test_inputs::dot_reader::read;
 
 /// The text, with those signs replaced that SVG writes in another way.
 fn escape(alloc: Global, text: &str) -> anyhow::Result<String> {

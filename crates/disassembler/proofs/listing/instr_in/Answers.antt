@@ -1,7 +1,7 @@
 use Rattle.std.proofs.Common.{◌≡◌, ℕ, ◌+◌, arith, ap, ◌∙◌}
 use Rattle.semantics.specs.Program.{first_of, instr_at}
 use Rattle.object_view.specs.declared.object.BlockView.{BlockView}
-use Rattle.disassembler.proofs.Places.{here, within}
+use Rattle.object_view.proofs.Places.{here, within}
 use Rattle.disassembler.proofs.listing.instr_in.Goals as goal
 
 pub returns-in_default : goal.returns-in_default

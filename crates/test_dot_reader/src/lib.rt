@@ -1,7 +1,0 @@
-//! Reads pictures in Graphviz's language DOT, in any layout: as much of the language as `ets dot` writes.
-#![tactic(auto)]
-
-mod pictures;
-mod tokens;
-
-pub use pictures::{Edge, Node, Picture, read};

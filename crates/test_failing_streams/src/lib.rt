@@ -1,5 +1,0 @@
-//! A reader and a writer that fail, for tests.
-#![tactic(auto)]
-
-pub mod reader;
-pub mod writer;

@@ -1,0 +1,64 @@
+//! Runs programs of all kinds, and looks at what is said of them. The words of the command line name the parts, each with words of its
+//! own behind it: `examples`, behind which the names of their files stand; `workbench` and `dots`, over random graphs; and
+//! `hostile_objects`. Behind these three a number of graphs or objects may stand, and their seed. Prints what each part found; where one
+//! finds something that differs, that, with status 1.
+#![tactic(auto)]
+
+mod dots;
+mod examples;
+mod hostile_objects;
+mod sizes;
+mod workbench;
+
+use sizes::sizes_in;
+use std::env;
+use std::io::{self, Write};
+use std::process::ExitCode;
+use std::sync::Wait;
+use std::thread::Threads;
+use test_inputs::parts::{Named, named_parts};
+
+/// The names of the parts.
+const PARTS: [&str; 4] = ["examples", "workbench", "dots", "hostile_objects"];
+
+/// Whether all that a part looks at agrees. Prints what was found.
+fn part_agrees<R: Threads + Wait + Sync, W: Write>(
+    rt: &R,
+    files: &HostRuntime,
+    out: &mut W,
+    part: Named<'_>,
+) -> anyhow::Result<bool> {
+    let alloc = files.alloc();
+    if part.name == "examples" {
+        examples::tell_all(rt, files, out, part.words)?;
+        return Ok(true);
+    }
+    let Some(sizes) = sizes_in(part.words) else {
+        writeln!(out, "words: {} COUNT SEED", part.name)?;
+        return Ok(false);
+    };
+    if part.name == "workbench" {
+        workbench::agrees(rt, alloc, out, sizes)
+    } else if part.name == "dots" {
+        dots::agree(rt, alloc, out, sizes)
+    } else {
+        Ok(hostile_objects::agree(rt, alloc, out, sizes)?)
+    }
+}
+
+fn main(rt: HostRuntime) -> anyhow::Result<ExitCode> {
+    let alloc = rt.alloc();
+    let words: Vec<String> = env::args(&rt)?.collect(alloc)?;
+    let mut out = io::writer(&rt);
+    let parts = named_parts(alloc, &words, &PARTS)?;
+    if parts.is_empty() {
+        writeln!(out, "words: examples, workbench, dots or hostile_objects")?;
+        return Ok(ExitCode::FAILURE);
+    }
+    for part in &parts {
+        if !part_agrees(&rt, &rt, &mut out, *part)? {
+            return Ok(ExitCode::FAILURE);
+        }
+    }
+    Ok(ExitCode::SUCCESS)
+}
