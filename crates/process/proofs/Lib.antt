@@ -1,3 +1,4 @@
 pub mod Sent
 pub mod Explained
 pub mod Flushed
+pub mod Wanted

@@ -1,7 +1,9 @@
 -- What a process writes, and its exit status.
-use Rattle.std.specs.Prelude.{◌≡◌, ℕ, ◌⊎◌, List, Option, IfSome}
+use Rattle.std.specs.Prelude.{◌≡◌, ℕ, ◌⊎◌, Bool, true, false, List, length, drop, Option, IfSome, ⊤}
 use Rattle.std.specs.Io.KnownBytes.{Keeps, append_known}
+use Rattle.command_line.specs.Words.{asked}
 use Rattle.commands.specs.Answered.{Serves}
+use Rattle.hints.specs.Hints.{wants_hint}
 use Rattle.keeping.specs.Kept.{HasRead, HasWritten}
 use Rattle.process.specs.declared.telling.Told.{Told}
 use Rattle.process.specs.Told.{Telling, Speaks}
@@ -27,3 +29,13 @@ Explains tells words remaining left old new text =
 pub record Ends (tells : Telling) (words : List (List ℕ)) (remaining left old new silent spoken : Option (List ℕ)) (status : ℕ) (told : Told) : Type 0 where
   pub answers : Answers words remaining old new status
   pub explains : Speaks (Explains tells words remaining left old new) silent spoken told
+
+-- THE HINTS OF ETS: a hint is wanted of all that was written, where that is known, or none is
+abbrev pub IsWanted : Bool → Told → Type 0
+IsWanted wanted Told.Nothing = wanted ≡ false
+IsWanted wanted Told.Hint = wanted ≡ true
+IsWanted wanted Told.Beginning = wanted ≡ true
+IsWanted wanted Told.Unknown = ⊤
+
+abbrev pub Wants : List (List ℕ) → Option (List ℕ) → Option (List ℕ) → Told → Type 0
+Wants words old new told = IfSome old (λ xs. IfSome new (λ ys. IsWanted (wants_hint (asked words) (drop (length xs) ys)) told))

@@ -6,11 +6,11 @@ mod answering;
 mod explaining;
 mod telling;
 
-ghost use Rattle.std.specs.Prelude.{◌≡◌, IfErr, MatchResult, drop, map};
+ghost use Rattle.std.specs.Prelude.{◌≡◌, IfOk, MatchResult, drop, map};
 ghost use Rattle.std.specs.Io.KnownBytes.{Keeps};
 ghost use Rattle.std.specs.IoError.{error_kind};
 ghost use Rattle.std.specs.declared.io.ErrorKind.{ErrorKind};
-ghost use Rattle.process.specs.Process.{Ends};
+ghost use Rattle.process.specs.Process.{Ends, Wants};
 ghost use Rattle.process.specs.Hinted.{tells_hint};
 
 use answering::answer;
@@ -114,9 +114,10 @@ pub fn run_process<S: AsStr, I: Read + Drop, W: Write + Drop, E: Write, R: Threa
     alloc: Global,
     rt: &R,
 ) -> io::Result<Ended<I, W>>
-    ensures { MatchResult result
+    ensures ends { MatchResult result
         (λ e. Ends tells_hint (map S.text (drop 1 words.now)) (I.remaining reader) (I.remaining e.reader) (W.contents writer) (W.contents e.writer) (E.contents errors.old) (E.contents errors.new) e.status e.told)
         (λ e. (error_kind e ≡ ErrorKind.OutOfMemory) × Keeps (E.contents errors.old) (E.contents errors.new)) }
+    ensures wants { IfOk result (λ e. Wants (map S.text (drop 1 words.now)) (W.contents writer) (W.contents e.writer) e.told) }
 {
     run_explained(words, reader, writer, errors, &Hints, alloc, rt)
 }

@@ -1,0 +1,18 @@
+use Rattle.std.proofs.Common.{map, drop}
+use Rattle.process.specs.Hinted.{tells_hint}
+use Rattle.process.specs.Process.{Ends, Wants}
+use Rattle.process.proofs.Wanted.{ends_wanted, ok_of}
+use Rattle.process.proofs.run_process.Goals as goal
+
+pub returns-clause-wants : goal.returns-clause-wants
+returns-clause-wants g c =
+    let words = map g.S.AsStr.text (drop 1 c.args.words.now) in
+    let remaining = g.I.Read.remaining in
+    let contents = g.W.Write.contents in
+    let silent = g.E.Write.contents c.args.errors.now in
+    let spoken = g.E.Write.contents c.run_explained.new.errors in
+    ok_of c.run_explained.result
+    (λ e. Ends tells_hint words (remaining c.args.reader) (remaining e.reader) (contents c.args.writer) (contents e.writer) silent spoken e.status e.told) _
+    (λ e. Wants words (contents c.args.writer) (contents e.writer) e.told)
+    (λ e ends. ends_wanted words (remaining c.args.reader) (remaining e.reader) (contents c.args.writer) (contents e.writer) silent spoken e.status e.told ends)
+    c.run_explained.ensures
