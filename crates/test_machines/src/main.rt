@@ -15,7 +15,7 @@
 //!   run. In `packing` and `instructions` each line stands for itself, and `threads` is alone. What the other lines may be stands in the
 //!   module of the part, at `act`.
 //! - `refuse FIRST LAST` before the first line has the section played once for each number from FIRST to LAST, on memory that refuses the
-//!   growth of this number.
+//!   growth of this number. FIRST is not above LAST.
 //! - `quietly` before an operation, but the first, has `, and took memory` behind the answer if the part asked for a growth.
 //! - A value is a number, or `zero` or `range` with the origin of the fault: `untold`, or a block and a node. A continuation is `host PORT`,
 //!   or a frame, an instruction and a port. A word is a value, `frame N`, or `back` and a continuation.

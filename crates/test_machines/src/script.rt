@@ -134,6 +134,9 @@ fn play_on<R: Threads + AllocGlobal + Sync>(
         return Ok(());
     };
     let (least, greatest) = numbers;
+    if least > greatest {
+        return tally.take(first, "not understood");
+    }
     for number in least..=greatest {
         let heap = Rationed::new(rt.alloc(), number);
         if play_part(rt, &heap, first, rest, tally).is_none() {

@@ -120,10 +120,12 @@ fn is_whole(row: &Row<'_>, answer: &Outcome) -> bool {
     answer.status == row.status && answer.text.as_slice() == row.wanted
 }
 
-/// Whether a growth that is refused in a run may leave the answer whole. A growth that is refused in the turn of an element that
-/// has no token is asked for again in the next turn.
+/// Whether a growth that is refused in a run may leave the answer whole. Where several elements take turns on one thread, a growth
+/// that is refused in the turn of an element that has no token is asked for again in the next turn.
 fn may_be_made_good(row: &Row<'_>) -> bool {
-    row.words.contains(&"--elements") && !matches!(row.answer, Answer::Text)
+    row.words.contains(&"--elements")
+        && !row.words.contains(&"--mode")
+        && !matches!(row.answer, Answer::Text)
 }
 
 /// How often a growth is refused before none is, if each refusal is told or made good and the last answer is the whole one. Else
