@@ -1,5 +1,13 @@
+use Rattle.std.specs.Io.Buffered.{writer_buffer, writer_contents, writer_inner}
 use Rattle.process.proofs.Flushed.{flushes}
 use Rattle.process.proofs.answering.answer.Goals as goal
 
 pub returns : goal.returns
-returns g c = (_, _, c.serve-status.ensures, flushes _ _ _ _ _ c.flushed.ensures.kept c.flushed.ensures.status)
+returns g c =
+    let all = writer_contents g.W.Write.contents c.serve-status.new.writer in
+    let new = c.flushed.new.writer in (
+      all,
+      c.serve-status.result,
+      c.serve-status.ensures,
+      flushes all (g.W.Write.contents (writer_inner new)) (writer_buffer new) c.serve-status.result c.flushed.result c.flushed.ensures.kept c.flushed.ensures.status,
+    )
