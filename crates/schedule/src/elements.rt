@@ -15,6 +15,7 @@ use crate::delivery::{deliver, has_token_for};
 use crate::halt::Halt;
 use crate::log::{Log, note};
 use crate::main_code::MainCode;
+use crate::shape::Shape;
 use arrayvec::ArrayVec;
 use element::lane::{Lane, Stepped};
 use std::alloc::{AllocError, Allocator};
@@ -24,13 +25,7 @@ use tags::value::Value;
 /// The lanes of all elements, and the tokens that are on their way.
 #[derive(Drop)]
 pub struct Elements<'m, C: MainCode, A: Allocator> {
-    pub code: &'m C,
-    pub elements: u32,
-    pub frames: u32,
-    /// How many events each element may make.
-    pub steps: u64,
-    /// How many events a turn has.
-    pub turn: u64,
+    pub shape: Shape<'m, C>,
     pub lanes: Vec<Lane<'m, C, A>, A>,
     /// The tokens that the last event made for other elements.
     pub sent: Vec<Token, A>,
@@ -50,7 +45,7 @@ impl<'m, C: MainCode, A: Allocator> Elements<'m, C, A> {
     {
         deliver(
             &mut self.lanes,
-            self.elements,
+            self.shape.elements,
             &mut self.sent,
             &mut self.come,
         )
@@ -60,12 +55,12 @@ impl<'m, C: MainCode, A: Allocator> Elements<'m, C, A> {
     #[inline(always)]
     fn has_token(&self, element: u32) -> bool
         requires well { IsWell C.program C.width self.now }
-        requires element { element < self.now.elements }
+        requires element { element < self.now.shape.elements }
         ensures yes { result ≡ true → (h : Held) → slice_get (state_of C.program C.width self.now).lanes element ≡ Some h → 0 < length h.queue }
         ensures no { result ≡ false → (h : Held) → slice_get (state_of C.program C.width self.now).lanes element ≡ Some h → h.queue ≡ [] }
     {
         let waiting = self.lanes[element as usize].queue().len();
-        waiting != 0 || has_token_for(&self.sent, self.come, self.elements, element)
+        waiting != 0 || has_token_for(&self.sent, self.come, self.shape.elements, element)
     }
 
     // What a step answers that is refused memory.
@@ -73,7 +68,7 @@ impl<'m, C: MainCode, A: Allocator> Elements<'m, C, A> {
     #[inline(never)]
     fn refused(&self, element: u32) -> Option<Stepped>
         requires well { IsWell C.program C.width self.now }
-        requires element { element < self.now.elements }
+        requires element { element < self.now.shape.elements }
         ensures { (pick : ℕ) → Steps (state_of C.program C.width self.now) element pick result (state_of C.program C.width self.now) [] }
     {
         if !self.has_token(element) {
@@ -91,7 +86,7 @@ impl<'m, C: MainCode, A: Allocator> Elements<'m, C, A> {
     where
         A: Clone,
         requires well { IsWell C.program C.width self.old }
-        requires element { element < self.old.elements }
+        requires element { element < self.old.shape.elements }
         requires sent { self.old.sent.items ≡ [] }
         requires come { self.old.come ≡ 0 }
         requires room { L.has_room log.old }
@@ -114,7 +109,7 @@ impl<'m, C: MainCode, A: Allocator> Elements<'m, C, A> {
     where
         A: Clone,
         requires well { IsWell C.program C.width self.old }
-        requires element { element < self.old.elements }
+        requires element { element < self.old.shape.elements }
         ensures well { IsWell C.program C.width self.new }
         ensures exact { (events : Events) × Steps (state_of C.program C.width self.old) element pick result (state_of C.program C.width self.new) events × ((before : Events) → L.noted log.old before → L.noted log.new (before ++ events)) }
     {
@@ -130,7 +125,7 @@ impl<'m, C: MainCode, A: Allocator> Elements<'m, C, A> {
         ensures yes { result ≡ true → HasToken (state_of C.program C.width self.now) }
         ensures no { result ≡ false → tokens_in (state_of C.program C.width self.now).lanes ≡ [] }
     {
-        for element in 0..self.elements {
+        for element in 0..self.shape.elements {
             if self.has_token(element) {
                 return true;
             }
@@ -151,7 +146,7 @@ impl<'m, C: MainCode, A: Allocator> Elements<'m, C, A> {
     where
         A: Clone,
         requires well { IsWell C.program C.width self.old }
-        requires element { element < self.old.elements }
+        requires element { element < self.old.shape.elements }
         ensures well { IsWell C.program C.width self.new }
         ensures exact { (events : Events) × Advances listed (state_of C.program C.width self.old) element pick (state_of C.program C.width self.new) events result × ((before : Events) → L.noted log.old before → L.noted log.new (before ++ events)) }
     {
@@ -183,7 +178,7 @@ impl<'m, C: MainCode, A: Allocator> Elements<'m, C, A> {
     where
         A: Clone,
         requires well { IsWell C.program C.width self.old }
-        requires elements { All (λ pick. pick.0 < self.old.elements) picks.now }
+        requires elements { All (λ pick. pick.0 < self.old.shape.elements) picks.now }
         ensures well { IsWell C.program C.width self.new }
         ensures exact { (events : Events) × Plays true picks.now (state_of C.program C.width self.old) (state_of C.program C.width self.new) result events × ((before : Events) → L.noted log.old before → L.noted log.new (before ++ events)) }
     {
@@ -206,9 +201,9 @@ impl<'m, C: MainCode, A: Allocator> Elements<'m, C, A> {
     where
         A: Clone,
         requires well { IsWell C.program C.width self.old }
-        requires one { self.old.elements ≡ 1 }
+        requires one { self.old.shape.elements ≡ 1 }
         ensures well { IsWell C.program C.width self.new }
-        ensures exact { (rounds : ℕ) × (events : Events) × Plays false (rounds_of rounds self.old.elements) (state_of C.program C.width self.old) (state_of C.program C.width self.new) result events × ((before : Events) → L.noted log.old before → L.noted log.new (before ++ events)) }
+        ensures exact { (rounds : ℕ) × (events : Events) × Plays false (rounds_of rounds self.old.shape.elements) (state_of C.program C.width self.old) (state_of C.program C.width self.new) result events × ((before : Events) → L.noted log.old before → L.noted log.new (before ++ events)) }
     {
         'events: loop {
             match self.advance(false, 0, 0, log) {
@@ -225,13 +220,13 @@ impl<'m, C: MainCode, A: Allocator> Elements<'m, C, A> {
         A: Clone,
         requires { IsWell C.program C.width self.old }
         ensures well { IsWell C.program C.width self.new }
-        ensures exact { (rounds : ℕ) × (events : Events) × Plays false (rounds_of rounds self.old.elements) (state_of C.program C.width self.old) (state_of C.program C.width self.new) result events × ((before : Events) → L.noted log.old before → L.noted log.new (before ++ events)) }
+        ensures exact { (rounds : ℕ) × (events : Events) × Plays false (rounds_of rounds self.old.shape.elements) (state_of C.program C.width self.old) (state_of C.program C.width self.new) result events × ((before : Events) → L.noted log.old before → L.noted log.new (before ++ events)) }
     {
-        if self.elements == 1 {
+        if self.shape.elements == 1 {
             return self.play_alone(log);
         }
         'passes: loop {
-            for element in 0..self.elements {
+            for element in 0..self.shape.elements {
                 match self.advance(false, element, 0, log) {
                     None => {}
                     Some(halt) => return halt,
@@ -243,12 +238,12 @@ impl<'m, C: MainCode, A: Allocator> Elements<'m, C, A> {
     // How many requests for credits wait.
     fn credits(&self) -> u64
         requires { IsSoundState (state_of C.program C.width self.now) }
-        ensures { result ≡ sum_below (total (state_of C.program C.width self.now).setting) (λ f. credits_below self.now.elements (map held_of self.now.lanes.items) (C.width self.now.code.now) f) }
+        ensures { result ≡ sum_below (total (state_of C.program C.width self.now).setting) (λ f. credits_below self.now.shape.elements (map held_of self.now.lanes.items) (C.width self.now.shape.code.now) f) }
     {
-        let width = self.code.slots();
+        let width = self.shape.code.slots();
         let mut count: u64 = 0;
-        for frame in 0..self.elements * self.frames {
-            let lane = &self.lanes[(frame % self.elements) as usize];
+        for frame in 0..self.shape.elements * self.shape.frames {
+            let lane = &self.lanes[(frame % self.shape.elements) as usize];
             count += credits_in(lane, frame, width);
         }
         count
@@ -259,9 +254,9 @@ impl<'m, C: MainCode, A: Allocator> Elements<'m, C, A> {
         requires { IsSoundState (state_of C.program C.width self) }
         ensures { IfOk result (λ told. TellsLanes (state_of C.program C.width self.entry).setting (map held_of self.entry.lanes.items) told.outputs.items told.cells.items told.deferred told.requests told.credits told.out) }
     {
-        let number = self.code.cells();
-        let cells = full_cells(alloc, &self.lanes, self.elements, number)?;
-        let deferred = deferred(&self.lanes, self.elements, number)?;
+        let number = self.shape.code.cells();
+        let cells = full_cells(alloc, &self.lanes, self.shape.elements, number)?;
+        let deferred = deferred(&self.lanes, self.shape.elements, number)?;
         let credits = self.credits();
         let Elements { mut lanes, .. } = self;
         let first = lanes.swap_remove(0);

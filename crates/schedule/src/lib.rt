@@ -16,3 +16,4 @@ pub mod quiet;
 pub mod report;
 mod reporting;
 pub mod setup;
+pub mod shape;

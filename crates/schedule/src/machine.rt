@@ -14,8 +14,8 @@ ghost use Rattle.semantics.specs.Report.{Shows};
 ghost use Rattle.schedule.specs.Setting.{size};
 ghost use Rattle.schedule.specs.State.{State};
 ghost use Rattle.schedule.specs.Unlisted.{Quietly, RunsInTurn};
-ghost use Rattle.schedule.specs.State.{IsSoundState, RunsAs};
-ghost use Rattle.schedule.specs.Apart.{kept_of, setting_in, state_in};
+ghost use Rattle.schedule.specs.State.{IsSoundState, RunsAs, setting_in};
+ghost use Rattle.schedule.specs.Apart.{kept_of, state_in};
 
 use crate::config::{Config, StartFault};
 use crate::delivery::receive;
@@ -27,6 +27,7 @@ use crate::quiet::Quiet;
 use crate::report::Report;
 use crate::reporting::report_of;
 use crate::setup::{Apart, Setup};
+use crate::shape::Shape;
 use element::instructions::Instructions;
 use element::lane::{Lane, Stepped};
 use frame_store::store::Store;
@@ -138,11 +139,13 @@ where
     let mut lanes = fresh_lanes(alloc.clone()?, store, code, config.steps)?;
     give_inputs(&mut lanes, elements, code.main_entry(), inputs)?;
     let elements = Elements {
-        code,
-        elements,
-        frames,
-        steps: config.steps,
-        turn: config.turn,
+        shape: Shape {
+            code,
+            elements,
+            frames,
+            steps: config.steps,
+            turn: config.turn,
+        },
         lanes,
         sent: Vec::new(alloc.clone()?),
         come: 0,
@@ -277,7 +280,7 @@ impl<'m, C: MainCode, A: Allocator> Machine<'m, C, A> {
     pub fn into_lanes(self) -> Result<Apart<'m, C, A>, Machine<'m, C, A>>
     where
         ensures apart { MatchResult result (λ apart. (kept_of C.program C.width apart.0 apart.1.items ≡ self.entry) × IsSoundState (state_in C.program C.width apart.0 apart.1.items)) (λ machine. machine ≡ self.entry) }
-        ensures runs { IfOk result (λ apart. All (RunsAs (setting_in C.program C.width apart.0)) (map fixed_of apart.1.items)) }
+        ensures runs { IfOk result (λ apart. All (RunsAs (setting_in C.program C.width apart.0.shape)) (map fixed_of apart.1.items)) }
     {
         let Machine {
             mut elements,
@@ -292,21 +295,10 @@ impl<'m, C: MainCode, A: Allocator> Machine<'m, C, A> {
             });
         }
         let Elements {
-            code,
-            elements,
-            frames,
-            steps,
-            turn,
-            lanes,
-            sent,
-            ..
+            shape, lanes, sent, ..
         } = elements;
         let setup = Setup {
-            code,
-            elements,
-            frames,
-            steps,
-            turn,
+            shape,
             events,
             sent,
             alloc,

@@ -6,16 +6,17 @@ ghost use Rattle.semantics.specs.Machine.{Events, outputs_of};
 ghost use Rattle.schedule.specs.declared.halt.Halt.{Halt};
 ghost use Rattle.schedule.specs.Unlisted.{ShowsBut};
 ghost use Rattle.schedule.specs.Setting.{size};
-ghost use Rattle.schedule.specs.State.{IsSoundState};
+ghost use Rattle.schedule.specs.State.{IsSoundState, setting_in};
 ghost use Rattle.schedule.specs.Runs.{Began, HaltsAs, NamesCell};
 ghost use Rattle.schedule.specs.Told.{IsReportOf, opening_picture};
-ghost use Rattle.schedule.specs.Apart.{setting_in, state_in, kept_of, with_coming};
+ghost use Rattle.schedule.specs.Apart.{state_in, kept_of, with_coming};
 
 use crate::elements::Elements;
 use crate::halt::Halt;
 use crate::main_code::MainCode;
 use crate::report::Report;
 use crate::reporting::{opening_report, report_of};
+use crate::shape::Shape;
 use element::lane::Lane;
 use std::alloc::Allocator;
 use tags::token::Token;
@@ -23,15 +24,7 @@ use tags::token::Token;
 /// What a machine has beside its lanes.
 #[derive(Drop)]
 pub struct Setup<'m, C: MainCode, A: Allocator> {
-    pub code: &'m C,
-    /// How many lanes there are.
-    pub elements: u32,
-    /// How many frames each element has.
-    pub frames: u32,
-    /// How many events each element may make.
-    pub steps: u64,
-    /// How many events a turn has.
-    pub turn: u64,
+    pub shape: Shape<'m, C>,
     /// Each event so far.
     pub events: Vec<(u32, Token), A>,
     // The list in which tokens were on their way.
@@ -49,29 +42,21 @@ impl<'m, C: MainCode, A: Allocator> Setup<'m, C, A> {
     where
         A: Clone,
         requires sound { IsSoundState (state_in C.program C.width self lanes.items) }
-        requires cell { NamesCell (C.program self.code.now) halt }
+        requires cell { NamesCell (C.program self.shape.code.now) halt }
         ensures told { IsReportOf (kept_of C.program C.width self.entry lanes.entry.items) halt result }
         ensures unlisted { self.entry.events.items ≡ [] → result.events ≡ [] }
-        ensures shows { (inputs : List ℤ) (listed : Bool) (coming : List Token) (events : Events) → IsSoundState (with_coming (state_in C.program C.width self.entry lanes.entry.items) coming) → Began inputs (with_coming (state_in C.program C.width self.entry lanes.entry.items) coming) events → HaltsAs (with_coming (state_in C.program C.width self.entry lanes.entry.items) coming) listed halt → ShowsBut (C.program self.entry.code.now) (size (setting_in C.program C.width self.entry)) inputs self.entry.steps listed false self.entry.events.items events result }
-        ensures stopped { halt ≡ Halt.Stop → (inputs : List ℤ) (listed : Bool) (coming : List Token) (events : Events) → IsSoundState (with_coming (state_in C.program C.width self.entry lanes.entry.items) coming) → Began inputs (with_coming (state_in C.program C.width self.entry lanes.entry.items) coming) events → ShowsBut (C.program self.entry.code.now) (size (setting_in C.program C.width self.entry)) inputs self.entry.steps listed true self.entry.events.items events result }
+        ensures shows { (inputs : List ℤ) (listed : Bool) (coming : List Token) (events : Events) → IsSoundState (with_coming (state_in C.program C.width self.entry lanes.entry.items) coming) → Began inputs (with_coming (state_in C.program C.width self.entry lanes.entry.items) coming) events → HaltsAs (with_coming (state_in C.program C.width self.entry lanes.entry.items) coming) listed halt → ShowsBut (C.program self.entry.shape.code.now) (size (setting_in C.program C.width self.entry.shape)) inputs self.entry.shape.steps listed false self.entry.events.items events result }
+        ensures stopped { halt ≡ Halt.Stop → (inputs : List ℤ) (listed : Bool) (coming : List Token) (events : Events) → IsSoundState (with_coming (state_in C.program C.width self.entry lanes.entry.items) coming) → Began inputs (with_coming (state_in C.program C.width self.entry lanes.entry.items) coming) events → ShowsBut (C.program self.entry.shape.code.now) (size (setting_in C.program C.width self.entry.shape)) inputs self.entry.shape.steps listed true self.entry.events.items events result }
     {
         let Setup {
-            code,
-            elements,
-            frames,
-            steps,
-            turn,
+            shape,
             events,
             mut sent,
             alloc,
         } = self;
         sent.clear();
         let elements = Elements {
-            code,
-            elements,
-            frames,
-            steps,
-            turn,
+            shape,
             lanes,
             sent,
             come: 0,
@@ -81,14 +66,14 @@ impl<'m, C: MainCode, A: Allocator> Setup<'m, C, A> {
 
     /// The report of the machine before its first event, with the end `Memory`.
     pub fn refused(self) -> Report<A>
-        ensures { result ≡ opening_picture (outputs_of (C.program self.entry.code.now)) }
+        ensures { result ≡ opening_picture (outputs_of (C.program self.entry.shape.code.now)) }
     {
         let Setup {
-            code,
+            shape,
             events,
             alloc,
             ..
         } = self;
-        opening_report(alloc, code.outputs(), events)
+        opening_report(alloc, shape.code.outputs(), events)
     }
 }

@@ -9,7 +9,7 @@ use Rattle.schedule.proofs.elements.Elements.play.Given as goal
 abbrev pub invariant-loop-element : goal.invariant-loop-element
 invariant-loop-element g l = record {
   well : IsWell g.C.Instructions.program g.C.Instructions.width l.self;
-  elements : l.self.elements ≡ l.fn.self.elements;
+  elements : l.self.shape.elements ≡ l.fn.self.shape.elements;
   played : (made : Events)
       × ((last : State) (halt : Halt) (later : Events) → Plays true (drop l.element-index l.picks) (state_of g.C.Instructions.program g.C.Instructions.width l.self) last halt later → Plays true l.picks (state_of g.C.Instructions.program g.C.Instructions.width l.fn.self) last halt (made ++ later))
       × ((before : Events) → g.L.Log.noted l.fn.log before → g.L.Log.noted l.log (before ++ made));

@@ -29,7 +29,7 @@ events-smaller g c =
 pub returns-in-Some-clause-exact : goal.returns-in-Some-clause-exact
 returns-in-Some-clause-exact g c =
     let played = c.events.invariant.played in
-    let n = c.args.self.now.elements in
+    let n = c.args.self.now.shape.elements in
     let s = state_of g.C.Instructions.program g.C.Instructions.width c.events.self in
     let next = state_of g.C.Instructions.program g.C.Instructions.width c.advance.new.self in
     let x = c.in-Some.ensures.exact in
@@ -42,7 +42,7 @@ returns-in-Some-clause-exact g c =
 pub events-preserved : goal.events-preserved
 events-preserved g c =
     let played = c.events.invariant.played in
-    let n = c.args.self.now.elements in
+    let n = c.args.self.now.shape.elements in
     let s0 = state_of g.C.Instructions.program g.C.Instructions.width c.args.self.now in
     let s = state_of g.C.Instructions.program g.C.Instructions.width c.events.self in
     let next = state_of g.C.Instructions.program g.C.Instructions.width c.advance.new.self in

@@ -8,10 +8,10 @@ use Rattle.schedule.proofs.elements.Elements.play_alone.Given as goal
 abbrev pub invariant-events : goal.invariant-events
 invariant-events g l = record {
   well : IsWell g.C.Instructions.program g.C.Instructions.width l.self;
-  elements : l.self.elements ≡ l.fn.self.elements;
+  elements : l.self.shape.elements ≡ l.fn.self.shape.elements;
   played : (made : Events)
-      × ((rounds : ℕ) (last : State) (halt : Halt) (later : Events) → Plays false (rounds_of rounds l.fn.self.elements) (state_of g.C.Instructions.program g.C.Instructions.width l.self) last halt later
-      → (all : ℕ) × Plays false (rounds_of all l.fn.self.elements) (state_of g.C.Instructions.program g.C.Instructions.width l.fn.self) last halt (made ++ later))
+      × ((rounds : ℕ) (last : State) (halt : Halt) (later : Events) → Plays false (rounds_of rounds l.fn.self.shape.elements) (state_of g.C.Instructions.program g.C.Instructions.width l.self) last halt later
+      → (all : ℕ) × Plays false (rounds_of all l.fn.self.shape.elements) (state_of g.C.Instructions.program g.C.Instructions.width l.fn.self) last halt (made ++ later))
       × ((before : Events) → g.L.Log.noted l.fn.log before → g.L.Log.noted l.log (before ++ made));
 }
 

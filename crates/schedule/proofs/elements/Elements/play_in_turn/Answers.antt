@@ -17,7 +17,7 @@ passes-init g c = record {
 pub loop-element-init : goal.loop-element-init
 loop-element-init g c =
     let played = c.passes.invariant.played in
-    let n = c.args.self.now.elements in
+    let n = c.args.self.now.shape.elements in
     let s = state_of g.C.Instructions.program g.C.Instructions.width c.passes.self in
     let whole : n - 0 ≡ n = omega arith in
     record {
@@ -43,7 +43,7 @@ passes-smaller g c =
 pub passes-preserved : goal.passes-preserved
 passes-preserved g c =
     let played = c.loop-element.invariant.played in
-    let n = c.args.self.now.elements in
+    let n = c.args.self.now.shape.elements in
     let s = state_of g.C.Instructions.program g.C.Instructions.width c.loop-element.self in
     let past = c.loop-element-test.false in
     let within = c.loop-element.auto.element-end in
@@ -58,7 +58,7 @@ passes-preserved g c =
 pub returns-in-Some-clause-exact : goal.returns-in-Some-clause-exact
 returns-in-Some-clause-exact g c =
     let played = c.loop-element.invariant.played in
-    let n = c.args.self.now.elements in
+    let n = c.args.self.now.shape.elements in
     let k = c.loop-element.element in
     let s = state_of g.C.Instructions.program g.C.Instructions.width c.loop-element.self in
     let next = state_of g.C.Instructions.program g.C.Instructions.width c.advance.new.self in
@@ -70,7 +70,7 @@ returns-in-Some-clause-exact g c =
 pub loop-element-preserved : goal.loop-element-preserved
 loop-element-preserved g c =
     let played = c.loop-element.invariant.played in
-    let n = c.args.self.now.elements in
+    let n = c.args.self.now.shape.elements in
     let k = c.loop-element.element in
     let s0 = state_of g.C.Instructions.program g.C.Instructions.width c.args.self.now in
     let first = state_of g.C.Instructions.program g.C.Instructions.width c.passes.self in

@@ -31,7 +31,7 @@ returns-in_err-stepped-clause-well g c =
     let there = lane_there g.C.Instructions.program g.C.Instructions.width m c.args.element x c.requires.well c.requires.element c.requires.sent c.requires.come c.index_mut-lane.ensures.value in
     let stays = c.in_err-stepped.ensures.spent.2 in
     let same = stays_so s.setting m.lanes.items m.sent.items c.step.new.sent.items m.come c.args.element x c.step.new.self c.requires.sent c.requires.come there stays.held stays.sent in
-    let count = lane_count m.lanes.items _ m.elements c.requires.well.sound.count in
+    let count = lane_count m.lanes.items _ m.shape.elements c.requires.well.sound.count in
     let low : c.args.element < length m.lanes.items = (let l = c.requires.element in omega arith) in
     let first = c.requires.come in
     record {
@@ -49,7 +49,7 @@ returns-in_err-stepped-clause-exact g c =
     let there = lane_there g.C.Instructions.program g.C.Instructions.width m e x c.requires.well c.requires.element c.requires.sent c.requires.come c.index_mut-lane.ensures.value in
     let spent = c.in_err-stepped.ensures.spent in
     let same = stays_so s.setting m.lanes.items m.sent.items c.step.new.sent.items m.come e x c.step.new.self c.requires.sent c.requires.come there spent.2.held spent.2.sent in
-    let count = lane_count m.lanes.items _ m.elements c.requires.well.sound.count in
+    let count = lane_count m.lanes.items _ m.shape.elements c.requires.well.sound.count in
     let low : e < length m.lanes.items = (let l = c.requires.element in omega arith) in
     let runs = runs_at (RunsAs s.setting) m.lanes.items e x c.requires.well.runs low c.index_mut-lane.ensures.value in
     let next : State = record { setting = s.setting; lanes = lanes_of (slice_set m.lanes.items e c.step.new.self) (drop m.come c.step.new.sent.items) } in (
@@ -66,7 +66,7 @@ returns-clause-well g c =
     let new = c.step.new.self in
     let s = state_of g.C.Instructions.program g.C.Instructions.width m in
     let there = lane_there g.C.Instructions.program g.C.Instructions.width m e x c.requires.well c.requires.element c.requires.sent c.requires.come c.index_mut-lane.ensures.value in
-    let count = lane_count m.lanes.items _ m.elements c.requires.well.sound.count in
+    let count = lane_count m.lanes.items _ m.shape.elements c.requires.well.sound.count in
     let low : e < length m.lanes.items = (let l = c.requires.element in omega arith) in
     let runs = runs_at (RunsAs s.setting) m.lanes.items e x c.requires.well.runs low c.index_mut-lane.ensures.value in
     let program = ap (λ (f : Fixed). f.program) c.step.ensures.fixed ∙ runs.program in
@@ -74,9 +74,9 @@ returns-clause-well g c =
     let some = c.in-Some.ensures.some.some in
     let allowed = c.in_ok-stepped.ensures.allowed some in
     let is = runs.steps in
-    let few : x.held.made < m.steps = omega arith in
+    let few : x.held.made < m.shape.steps = omega arith in
     let within = c.step.ensures.most in
-    let most : new.held.made ≤ m.steps = omega arith in
+    let most : new.held.made ≤ m.shape.steps = omega arith in
     let exact = subst (λ (p : Program). one.Steps p x.held c.args.pick m.sent.items c.in_ok-stepped.stepped new.held c.step.new.sent.items) runs.program c.in_ok-stepped.ensures.exact in
     let both = answered s e c.args.pick (held_of x) (held_of new) c.in-Some.token c.step.new.sent.items c.in_ok-stepped.stepped c.requires.well.sound there some few c.in-Some.ensures.some
     (subst (λ (ts : List Token). one.Steps s.setting.program x.held c.args.pick ts c.in_ok-stepped.stepped new.held c.step.new.sent.items) c.requires.sent exact) (subst (λ (p : Program). IsSoundLane p new.held) program c.step.ensures.sound) most in
@@ -95,7 +95,7 @@ returns-clause-exact g c =
     let new = c.step.new.self in
     let s = state_of g.C.Instructions.program g.C.Instructions.width m in
     let there = lane_there g.C.Instructions.program g.C.Instructions.width m e x c.requires.well c.requires.element c.requires.sent c.requires.come c.index_mut-lane.ensures.value in
-    let count = lane_count m.lanes.items _ m.elements c.requires.well.sound.count in
+    let count = lane_count m.lanes.items _ m.shape.elements c.requires.well.sound.count in
     let low : e < length m.lanes.items = (let l = c.requires.element in omega arith) in
     let runs = runs_at (RunsAs s.setting) m.lanes.items e x c.requires.well.runs low c.index_mut-lane.ensures.value in
     let program = ap (λ (f : Fixed). f.program) c.step.ensures.fixed ∙ runs.program in
@@ -103,9 +103,9 @@ returns-clause-exact g c =
     let some = c.in-Some.ensures.some.some in
     let allowed = c.in_ok-stepped.ensures.allowed some in
     let is = runs.steps in
-    let few : x.held.made < m.steps = omega arith in
+    let few : x.held.made < m.shape.steps = omega arith in
     let within = c.step.ensures.most in
-    let most : new.held.made ≤ m.steps = omega arith in
+    let most : new.held.made ≤ m.shape.steps = omega arith in
     let exact = subst (λ (p : Program). one.Steps p x.held c.args.pick m.sent.items c.in_ok-stepped.stepped new.held c.step.new.sent.items) runs.program c.in_ok-stepped.ensures.exact in
     let events = events_of c.in_ok-stepped.stepped e c.in-Some.token in
     let both = answered s e c.args.pick (held_of x) (held_of new) c.in-Some.token c.step.new.sent.items c.in_ok-stepped.stepped c.requires.well.sound there some few c.in-Some.ensures.some

@@ -15,12 +15,12 @@ returns-clause-began g c = λ inputs began.
     let before = c.self.inside.events.items in
     let e = c.play_in_turn.ensures.exact in
     let inside = subst (λ (k : Kept). Began inputs k.state k.events) (sym c.self.view_is) began in
-    subst (λ (l : Events). Began inputs new l) (sym (e.3 before refl)) (began_plays inputs false (rounds_of e.0 c.self.inside.elements.elements) old new c.play_in_turn.result before e.1 e.2 inside)
+    subst (λ (l : Events). Began inputs new l) (sym (e.3 before refl)) (began_plays inputs false (rounds_of e.0 c.self.inside.elements.shape.elements) old new c.play_in_turn.result before e.1 e.2 inside)
 
 pub returns-clause-halts : goal.returns-clause-halts
 returns-clause-halts g c =
     let e = c.play_in_turn.ensures.exact in
-    halts_as false (rounds_of e.0 c.self.inside.elements.elements) (state_of g.C.Instructions.program g.C.Instructions.width c.self.inside.elements) (state_of g.C.Instructions.program g.C.Instructions.width c.play_in_turn.new.self) c.play_in_turn.result e.1 e.2
+    halts_as false (rounds_of e.0 c.self.inside.elements.shape.elements) (state_of g.C.Instructions.program g.C.Instructions.width c.self.inside.elements) (state_of g.C.Instructions.program g.C.Instructions.width c.play_in_turn.new.self) c.play_in_turn.result e.1 e.2
 
 pub returns-clause-setting : goal.returns-clause-setting
 returns-clause-setting g c =
@@ -28,11 +28,11 @@ returns-clause-setting g c =
     let new = state_of g.C.Instructions.program g.C.Instructions.width c.play_in_turn.new.self in
     let e = c.play_in_turn.ensures.exact in
     let z : Setting = new.setting in
-    subst (λ (k : Kept). z ≡ k.state.setting) c.self.view_is (setting_plays false (rounds_of e.0 c.self.inside.elements.elements) old new c.play_in_turn.result e.1 e.2)
+    subst (λ (k : Kept). z ≡ k.state.setting) c.self.view_is (setting_plays false (rounds_of e.0 c.self.inside.elements.shape.elements) old new c.play_in_turn.result e.1 e.2)
 
 pub returns-clause-cell : goal.returns-clause-cell
 returns-clause-cell g c =
     let old = state_of g.C.Instructions.program g.C.Instructions.width c.self.inside.elements in
     let new = state_of g.C.Instructions.program g.C.Instructions.width c.play_in_turn.new.self in
     let e = c.play_in_turn.ensures.exact in
-    clash_cell new false c.play_in_turn.result c.play_in_turn.ensures.well.sound (halts_as false (rounds_of e.0 c.self.inside.elements.elements) old new c.play_in_turn.result e.1 e.2)
+    clash_cell new false c.play_in_turn.result c.play_in_turn.ensures.well.sound (halts_as false (rounds_of e.0 c.self.inside.elements.shape.elements) old new c.play_in_turn.result e.1 e.2)
