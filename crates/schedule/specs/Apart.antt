@@ -8,11 +8,11 @@ use Rattle.schedule.specs.State.{State, setting_in, delivered}
 use Rattle.schedule.specs.Runs.{Kept}
 
 -- the lanes as they stand, with no token on its way
-abbrev pub state_in : {C A : Type 0} → (C → Program) → (C → ℕ) → Setup C A → List LaneView → State
+abbrev pub state_in : {C A L : Type 0} → (C → Program) → (C → ℕ) → Setup C A L → List LaneView → State
 state_in program width s lanes = record { setting = setting_in program width s.shape; lanes = map held_of lanes }
 
-abbrev pub kept_of : {C A : Type 0} → (C → Program) → (C → ℕ) → Setup C A → List LaneView → Kept
-kept_of program width s lanes = record { state = state_in program width s lanes; events = s.events.items }
+abbrev pub kept_of : {C A L : Type 0} → (C → Program) → (C → ℕ) → Setup C A L → List LaneView → Kept
+kept_of program width s lanes = record { state = state_in program width s lanes; events = s.log.events.items }
 
 -- tokens that are on their way are seen where they are addressed to
 abbrev pub with_coming : State → List Token → State

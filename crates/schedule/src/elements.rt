@@ -1,19 +1,20 @@
 //! The elements of the machine: their lanes, and the tokens that are on their way from one to another.
 
-ghost use Rattle.std.specs.Prelude.{◌≡◌, ℕ, ◌<◌, [], ◌++◌, length, map, All, IfOk, OnOk, Some, true, false, slice_get};
+ghost use Rattle.std.specs.Prelude.{◌≡◌, ℕ, ◌<◌, [], length, map, All, IfOk, OnOk, Some, true, false, slice_get, vec_len};
+ghost use Rattle.std.specs.Vec.{vec_capacity};
 ghost use Rattle.semantics.specs.Machine.{Events};
 ghost use Rattle.semantics.specs.Report.{sum_below};
 ghost use Rattle.element.specs.Held.{Held, held_of};
 ghost use Rattle.schedule.specs.Setting.{total};
 ghost use Rattle.schedule.specs.Told.{credits_below, TellsLanes};
 ghost use Rattle.schedule.specs.State.{state_of, IsWell, IsSoundState, tokens_in};
-ghost use Rattle.schedule.specs.Steps.{Steps};
+ghost use Rattle.schedule.specs.Steps.{Steps, logged};
 ghost use Rattle.schedule.specs.Runs.{HasToken, IsHalt, Advances, Plays, rounds_of};
 
 use crate::counting::{credits_in, deferred, frames_out, full_cells, requests};
 use crate::delivery::{deliver, has_token_for};
 use crate::halt::Halt;
-use crate::log::{Log, note};
+use crate::log::{EventLog, Log};
 use crate::main_code::MainCode;
 use crate::shape::Shape;
 use arrayvec::ArrayVec;
@@ -82,36 +83,46 @@ impl<'m, C: MainCode, A: Allocator> Elements<'m, C, A> {
 
     // A step with no token on its way, where there is room to note an event.
     #[inline(always)]
-    fn step_lane<L: Log>(&mut self, element: u32, pick: u64, log: &mut L) -> Option<Stepped>
+    fn step_lane<L: Log>(
+        &mut self,
+        element: u32,
+        pick: u64,
+        log: &mut EventLog<A, L>,
+    ) -> Option<Stepped>
     where
         A: Clone,
         requires well { IsWell C.program C.width self.old }
         requires element { element < self.old.shape.elements }
         requires sent { self.old.sent.items ≡ [] }
         requires come { self.old.come ≡ 0 }
-        requires room { L.has_room log.old }
+        requires room { L.LISTS ≡ true → vec_len log.old.events < vec_capacity log.old.events }
         ensures well { IsWell C.program C.width self.new }
-        ensures exact { (events : Events) × Steps (state_of C.program C.width self.old) element pick result (state_of C.program C.width self.new) events × ((before : Events) → L.noted log.old before → L.noted log.new (before ++ events)) }
+        ensures exact { (events : Events) × Steps (state_of C.program C.width self.old) element pick result (state_of C.program C.width self.new) events × (log.new.events.items ≡ logged L.LISTS log.old.events.items events) }
     {
         let lane = &mut self.lanes[element as usize];
         let Some(token) = lane.token(pick) else {
             return Some(Stepped::Idle);
         };
         let stepped = lane.step(pick, &mut self.sent)?;
-        note(log, element, token, stepped);
+        log.note_step(element, token, stepped);
         Some(stepped)
     }
 
     /// The element takes the token that `pick`, modulo the number of its tokens, names from the oldest on; `None` where it
     /// has a token and has made all its events.
     #[inline(always)]
-    pub fn step<L: Log>(&mut self, element: u32, pick: u64, log: &mut L) -> Option<Stepped>
+    pub fn step<L: Log>(
+        &mut self,
+        element: u32,
+        pick: u64,
+        log: &mut EventLog<A, L>,
+    ) -> Option<Stepped>
     where
         A: Clone,
         requires well { IsWell C.program C.width self.old }
         requires element { element < self.old.shape.elements }
         ensures well { IsWell C.program C.width self.new }
-        ensures exact { (events : Events) × Steps (state_of C.program C.width self.old) element pick result (state_of C.program C.width self.new) events × ((before : Events) → L.noted log.old before → L.noted log.new (before ++ events)) }
+        ensures exact { (events : Events) × Steps (state_of C.program C.width self.old) element pick result (state_of C.program C.width self.new) events × (log.new.events.items ≡ logged L.LISTS log.old.events.items events) }
     {
         if self.settle().is_err() || log.make_room().is_err() {
             return self.refused(element);
@@ -141,14 +152,14 @@ impl<'m, C: MainCode, A: Allocator> Elements<'m, C, A> {
         listed: bool,
         element: u32,
         pick: u64,
-        log: &mut L,
+        log: &mut EventLog<A, L>,
     ) -> Option<Halt>
     where
         A: Clone,
         requires well { IsWell C.program C.width self.old }
         requires element { element < self.old.shape.elements }
         ensures well { IsWell C.program C.width self.new }
-        ensures exact { (events : Events) × Advances listed (state_of C.program C.width self.old) element pick (state_of C.program C.width self.new) events result × ((before : Events) → L.noted log.old before → L.noted log.new (before ++ events)) }
+        ensures exact { (events : Events) × Advances listed (state_of C.program C.width self.old) element pick (state_of C.program C.width self.new) events result × (log.new.events.items ≡ logged L.LISTS log.old.events.items events) }
     {
         match self.step(element, pick, log) {
             Some(Stepped::Did) => None,
@@ -174,13 +185,13 @@ impl<'m, C: MainCode, A: Allocator> Elements<'m, C, A> {
     }
 
     /// Makes one step for each element and pick of the list, in order, and answers why it makes no more.
-    pub fn play<L: Log>(&mut self, picks: &[(u32, u64)], log: &mut L) -> Halt
+    pub fn play<L: Log>(&mut self, picks: &[(u32, u64)], log: &mut EventLog<A, L>) -> Halt
     where
         A: Clone,
         requires well { IsWell C.program C.width self.old }
         requires elements { All (λ pick. pick.0 < self.old.shape.elements) picks.now }
         ensures well { IsWell C.program C.width self.new }
-        ensures exact { (events : Events) × Plays true picks.now (state_of C.program C.width self.old) (state_of C.program C.width self.new) result events × ((before : Events) → L.noted log.old before → L.noted log.new (before ++ events)) }
+        ensures exact { (events : Events) × Plays true picks.now (state_of C.program C.width self.old) (state_of C.program C.width self.new) result events × (log.new.events.items ≡ logged L.LISTS log.old.events.items events) }
     {
         for (element, pick) in picks {
             match self.advance(true, *element, *pick, log) {
@@ -197,13 +208,13 @@ impl<'m, C: MainCode, A: Allocator> Elements<'m, C, A> {
 
     // The same as `play_in_turn`, of one element, which is always in turn.
     #[inline(never)]
-    fn play_alone<L: Log>(&mut self, log: &mut L) -> Halt
+    fn play_alone<L: Log>(&mut self, log: &mut EventLog<A, L>) -> Halt
     where
         A: Clone,
         requires well { IsWell C.program C.width self.old }
         requires one { self.old.shape.elements ≡ 1 }
         ensures well { IsWell C.program C.width self.new }
-        ensures exact { (rounds : ℕ) × (events : Events) × Plays false (rounds_of rounds self.old.shape.elements) (state_of C.program C.width self.old) (state_of C.program C.width self.new) result events × ((before : Events) → L.noted log.old before → L.noted log.new (before ++ events)) }
+        ensures exact { (rounds : ℕ) × (events : Events) × Plays false (rounds_of rounds self.old.shape.elements) (state_of C.program C.width self.old) (state_of C.program C.width self.new) result events × (log.new.events.items ≡ logged L.LISTS log.old.events.items events) }
     {
         'events: loop {
             match self.advance(false, 0, 0, log) {
@@ -215,12 +226,12 @@ impl<'m, C: MainCode, A: Allocator> Elements<'m, C, A> {
 
     /// Makes one step after another, each with the oldest token of an element, the elements in turn, and answers why it
     /// makes no more.
-    pub fn play_in_turn<L: Log>(&mut self, log: &mut L) -> Halt
+    pub fn play_in_turn<L: Log>(&mut self, log: &mut EventLog<A, L>) -> Halt
     where
         A: Clone,
         requires { IsWell C.program C.width self.old }
         ensures well { IsWell C.program C.width self.new }
-        ensures exact { (rounds : ℕ) × (events : Events) × Plays false (rounds_of rounds self.old.shape.elements) (state_of C.program C.width self.old) (state_of C.program C.width self.new) result events × ((before : Events) → L.noted log.old before → L.noted log.new (before ++ events)) }
+        ensures exact { (rounds : ℕ) × (events : Events) × Plays false (rounds_of rounds self.old.shape.elements) (state_of C.program C.width self.old) (state_of C.program C.width self.new) result events × (log.new.events.items ≡ logged L.LISTS log.old.events.items events) }
     {
         if self.shape.elements == 1 {
             return self.play_alone(log);
