@@ -3,7 +3,7 @@
 use crate::part::{Heap, Part};
 use crate::shown::push_token;
 use crate::words::Words;
-use ordering::log::{Counts, BlockLog};
+use ordering::log::{BlockLog, Counts};
 use ordering::order;
 use std::alloc::{AllocError, Allocator, Global};
 use tags::token::{Port, To, Token, Word};
