@@ -83,56 +83,6 @@ impl<'a, A: Allocator> Loaded<'a, A> {
             slots,
         })
     }
-
-    /// The number of the first instruction of the block that is run.
-    pub fn main_entry(&self) -> u32
-        ensures { result ≡ first_of self.now.code.program self.now.code.program.main }
-    {
-        match self.entries.get(self.object.main() as usize) {
-            Some(entry) => *entry,
-            None => self.instrs,
-        }
-    }
-
-    /// How many inputs the block that is run has.
-    pub fn main_inputs(&self) -> u32
-        ensures exact { result ≡ inputs_of self.now.code.program }
-        ensures few { result ≤ 16 }
-    {
-        match self.object.block(self.object.main()) {
-            Some(block) => block.inputs,
-            None => 0,
-        }
-    }
-
-    /// How many outputs the block that is run has.
-    pub fn main_outputs(&self) -> u32
-        ensures exact { result ≡ outputs_of self.now.code.program }
-        ensures few { result ≤ 16 }
-    {
-        match self.object.block(self.object.main()) {
-            Some(block) => block.outputs,
-            None => 0,
-        }
-    }
-
-    /// How many cells all arrays have together.
-    pub fn cell_count(&self) -> u32
-        ensures cells { result ≡ sum self.now.code.program.arrays }
-        ensures few { result ≤ 65536 }
-    {
-        self.cells
-    }
-
-    /// The most slots of any block, and at least 1.
-    pub fn slot_count(&self) -> u32
-        ensures exact { result ≡ widest self.now.code.program.blocks }
-        ensures some { 0 < result }
-        ensures few { result ≤ 512 }
-        ensures fits { FitsSlots self.now.code.program result }
-    {
-        self.slots
-    }
 }
 
 impl<'a, A: Allocator> Instructions for Loaded<'a, A> {
@@ -168,11 +118,17 @@ impl<'a, A: Allocator> Instructions for Loaded<'a, A> {
 
 impl<'a, A: Allocator> MainCode for Loaded<'a, A> {
     fn inputs(&self) -> u32 {
-        self.main_inputs()
+        match self.object.block(self.object.main()) {
+            Some(block) => block.inputs,
+            None => 0,
+        }
     }
 
     fn outputs(&self) -> u32 {
-        self.main_outputs()
+        match self.object.block(self.object.main()) {
+            Some(block) => block.outputs,
+            None => 0,
+        }
     }
 
     fn main_entry(&self) -> u32 {
@@ -183,11 +139,14 @@ impl<'a, A: Allocator> MainCode for Loaded<'a, A> {
         self.object.array_count() as u8
     }
 
-    fn cells(&self) -> u32 {
-        self.cell_count()
+    fn cells(&self) -> u32
+        ensures cells { result ≡ sum self.now.code.program.arrays }
+        ensures few { result ≤ 65536 }
+    {
+        self.cells
     }
 
     fn slots(&self) -> u32 {
-        self.slot_count()
+        self.slots
     }
 }

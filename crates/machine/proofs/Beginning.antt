@@ -75,17 +75,17 @@ module _ {A : Type 0} where
   no_tokens (v ∷ vs) all =
       ap (λ (l : List Token). l ++ flat_map (λ (v : Vec Token A). v.items) vs) (All-head (λ (v : Vec Token A). v.items ≡ []) v vs all) ∙ no_tokens vs (All-tail (λ (v : Vec Token A). v.items ≡ []) v vs all)
 
-module _ {C A : Type 0} where
-  nothing_beside : (r : Runner C A) → IsClear r → All (λ (v : Vec Token A). v.items ≡ []) r.kept.items → away r ≡ []
+module _ {C A L : Type 0} where
+  nothing_beside : (r : Runner C A L) → IsClear r → All (λ (v : Vec Token A). v.items ≡ []) r.kept.items → away r ≡ []
   nothing_beside r (hand, sent, dealt) empty =
       ap (λ (l : List Token). l ++ (flat_map (λ (v : Vec Token A). v.items) r.kept.items ++ drop r.dealt r.sent.items)) hand
       ∙ ap (λ (l : List Token). l ++ drop r.dealt r.sent.items) (no_tokens r.kept.items empty)
       ∙ ap (λ (n : ℕ). drop n r.sent.items) dealt ∙ sent
 
   -- a lane with its fresh seat
-  pub new_running : (g : Setting) (mesh : MeshId) (e : ℕ) (lanes : List Held) (r : Runner C A) → mesh.elements ≡ g.elements → mesh.start ≡ tokens_in lanes → AllFrom (IsPlaced g) 0 lanes → slice_get lanes e ≡ Some (held_of r.lane) → RunsAs g (fixed_of r.lane)
-      → r.seat ≡ fresh_seat mesh e → IsNew g.elements r → IsRunning g mesh (held_of r.lane) r
-  new_running g mesh e lanes r elements start placed there runs seat new =
+  pub new_running : (listed : Bool) (g : Setting) (mesh : MeshId) (e : ℕ) (lanes : List Held) (r : Runner C A L) → mesh.elements ≡ g.elements → mesh.start ≡ tokens_in lanes → AllFrom (IsPlaced g) 0 lanes → slice_get lanes e ≡ Some (held_of r.lane) → RunsAs g (fixed_of r.lane)
+      → r.seat ≡ fresh_seat mesh e → IsNew g.elements r → IsRunning listed g mesh (held_of r.lane) r
+  new_running listed g mesh e lanes r elements start placed there runs seat new =
       let h : Held = held_of r.lane in
       let element : r.seat.own.element ≡ e = ap (λ (s : SeatView). s.own.element) seat in
       let deeds : r.seat.own.deeds ≡ [] = ap (λ (s : SeatView). s.own.deeds) seat in

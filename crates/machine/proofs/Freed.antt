@@ -29,7 +29,7 @@ use Rattle.rounds.proofs.Closing.{raw_sound, none_sound, shows_any}
 use Rattle.rounds.proofs.Rounding.{halts_as}
 use Rattle.law_free_runs.specs.Blocks.{Block, events_in, LeavesTokens, AreBelow}
 use Rattle.law_free_runs.specs.Ends as ends
-use Rattle.ordering.specs.declared.log.Log.{Log}
+use Rattle.ordering.specs.declared.log.BlockLog.{BlockLog}
 use Rattle.ordering.specs.Noted.{noted_in}
 use Rattle.ordering.specs.Logs.{Logs}
 use Rattle.ordering.specs.Orders.{IsHistory}
@@ -38,8 +38,9 @@ use Rattle.law_free_runs.proofs.Showing.{points}
 use Rattle.machine.specs.declared.runner.Left.{Left}
 use Rattle.machine.specs.declared.runner.Runner.{Runner}
 use Rattle.machine.specs.Runners.{Ran, IsRunning, Runs, IsClear, IsLeft, away}
-use Rattle.machine.specs.Ends.{reason_of, reasons_of, IsLeast, NoneHalts, IsOwn, EndsFreely, EndsOn}
-use Rattle.machine.specs.Starts.{lane_in, seat_of, left_of, notes_of, listed_of, lane_fixed, lanes_in, lanes_fixed, seats_in, lefts_in, logs_in, AreListed, IsNew, Tells, AllEnded, Lists}
+use Rattle.machine.specs.Ends.{reason_of, reasons_of, IsOwn, EndsFreely, EndsOn}
+use Rattle.rounds.specs.Counted.{IsFirst, NoneHalts}
+use Rattle.machine.specs.Starts.{lane_in, seat_of, left_of, notes_of, lane_fixed, lanes_in, lanes_fixed, seats_in, lefts_in, logs_in, IsNew, Tells, AllEnded, Lists}
 use Rattle.machine.proofs.Beginning.{new_running}
 use Rattle.machine.proofs.Chosen.{chosen}
 use Rattle.machine.proofs.Freeing.{left_at, halted_at, reason_at}
@@ -86,31 +87,30 @@ pub ends_in_memory : (k : Kept) (r : Report) → IsReportOf k Halt.Memory r → 
 ends_in_memory k r (inl is) = ap (λ (x : Report). x.end) is
 ends_in_memory k r (inr (has, ends, told)) = ends
 
-module _ {C A : Type 0} where
-  abbrev own_of : CachePadded (Runner C A) → Account
+module _ {C A L : Type 0} where
+  abbrev own_of : CachePadded (Runner C A L) → Account
   own_of p = (seat_of p).own
 
-  abbrev owns : List (CachePadded (Runner C A)) → List Account
+  abbrev owns : List (CachePadded (Runner C A L)) → List Account
   owns ps = map own_of ps
 
-  owns_are : (ps : List (CachePadded (Runner C A))) → map (λ (s : SeatView). s.own) (seats_in ps) ≡ owns ps
+  owns_are : (ps : List (CachePadded (Runner C A L))) → map (λ (s : SeatView). s.own) (seats_in ps) ≡ owns ps
   owns_are [] = refl
   owns_are (p ∷ ps) = ap (λ (l : List Account). own_of p ∷ l) (owns_are ps)
 
   -- RUNNERS BEFORE THE FIRST EVENT
-  pub record AreReady (g : Setting) (mesh : MeshId) (listed : Bool) (ps : List (CachePadded (Runner C A))) : Type 0 where
+  pub record AreReady (g : Setting) (mesh : MeshId) (ps : List (CachePadded (Runner C A L))) : Type 0 where
     pub sound : IsSoundState (coming g (lanes_in ps) [])
     pub runs : All (RunsAs g) (lanes_fixed ps)
     pub elements : mesh.elements ≡ g.elements
     pub start : mesh.start ≡ tokens_in (lanes_in ps)
     pub count : length ps ≡ g.elements
     pub fresh : AreFresh mesh (seats_in ps)
-    pub new : All (λ (p : CachePadded (Runner C A)). IsNew g.elements (padded_value p)) ps
-    pub all_listed : AreListed listed ps
+    pub new : All (λ (p : CachePadded (Runner C A L)). IsNew g.elements (padded_value p)) ps
 
-  pub are_ready : (g : Setting) (mesh : MeshId) (on : Bool) (ps : List (CachePadded (Runner C A))) (raw : List Held) (fixed : List Fixed) → IsSoundState (coming g raw []) → All (RunsAs g) fixed → lanes_fixed ps ≡ fixed → (mesh.elements ≡ g.elements) × (mesh.start ≡ tokens_in raw) → (lanes_in ps ≡ raw) × (length ps ≡ g.elements)
-      → AreFresh mesh (seats_in ps) → All (λ (p : CachePadded (Runner C A)). IsNew g.elements (padded_value p)) ps → AreListed on ps → AreReady g mesh on ps
-  are_ready g mesh on ps raw fixed sound runs same is lanes fresh new listed = record {
+  pub are_ready : (g : Setting) (mesh : MeshId) (ps : List (CachePadded (Runner C A L))) (raw : List Held) (fixed : List Fixed) → IsSoundState (coming g raw []) → All (RunsAs g) fixed → lanes_fixed ps ≡ fixed → (mesh.elements ≡ g.elements) × (mesh.start ≡ tokens_in raw) → (lanes_in ps ≡ raw) × (length ps ≡ g.elements)
+      → AreFresh mesh (seats_in ps) → All (λ (p : CachePadded (Runner C A L)). IsNew g.elements (padded_value p)) ps → AreReady g mesh ps
+  are_ready g mesh ps raw fixed sound runs same is lanes fresh new = record {
     runs = subst (λ (l : List Fixed). All (RunsAs g) l) (sym same) runs;
     sound = subst (λ (l : List Held). IsSoundState (coming g l [])) (sym lanes.0) sound;
     elements = is.0;
@@ -118,48 +118,44 @@ module _ {C A : Type 0} where
     count = lanes.1;
     fresh = fresh;
     new = new;
-    all_listed = listed;
   }
 
-  module _ (g : Setting) (mesh : MeshId) (listed : Bool) (olds : List (CachePadded (Runner C A))) (ready : AreReady g mesh listed olds) where
-    fresh_at : (i : ℕ) (d : CachePadded (Runner C A)) → i < length olds → seat_of (get_or olds i d) ≡ fresh_seat mesh i
+  module _ (g : Setting) (mesh : MeshId) (listed : Bool) (olds : List (CachePadded (Runner C A L))) (ready : AreReady g mesh olds) where
+    fresh_at : (i : ℕ) (d : CachePadded (Runner C A L)) → i < length olds → seat_of (get_or olds i d) ≡ fresh_seat mesh i
     fresh_at i d low = ready.fresh i (seat_of (get_or olds i d)) (get_map seat_of olds i d low)
 
-    running : (i : ℕ) (d : CachePadded (Runner C A)) → i < length olds → IsRunning g mesh (lane_in (get_or olds i d)) (padded_value (get_or olds i d))
+    running : (i : ℕ) (d : CachePadded (Runner C A L)) → i < length olds → IsRunning listed g mesh (lane_in (get_or olds i d)) (padded_value (get_or olds i d))
     running i d low =
-        new_running g mesh i (lanes_in olds) (padded_value (get_or olds i d)) ready.elements ready.start (raw_sound g (lanes_in olds) [] ready.sound).lanes (slice_map lane_in olds i d low)
+        new_running listed g mesh i (lanes_in olds) (padded_value (get_or olds i d)) ready.elements ready.start (raw_sound g (lanes_in olds) [] ready.sound).lanes (slice_map lane_in olds i d low)
         (subst (λ (f : Fixed). RunsAs g f) (get_or-map lane_fixed olds i d (lane_fixed d) low) (All-get_or (RunsAs g) (lanes_fixed olds) i (lane_fixed d) (let count = length-map olds lane_fixed in omega (arith, low, count)) ready.runs)) (fresh_at i d low) (ready.new i d low)
 
-    pub all_run : All (λ (p : CachePadded (Runner C A)). Runs g mesh (padded_value p) × IsClear (padded_value p)) olds
+    pub all_run : All (λ (p : CachePadded (Runner C A L)). Runs listed g mesh (padded_value p) × IsClear (padded_value p)) olds
     all_run = λ i d low. ((lane_in (get_or olds i d), running i d low), (ready.new i d low).clear)
 
     -- RUNNERS THAT HAVE LEFT
-    module _ (may_stop : Bool) (news : List (CachePadded (Runner C A))) (ended : AllEnded g mesh may_stop olds news) (count : length news ≡ length olds) (none_lost : (i : ℕ) → slice_get (lefts_in news) i ≡ Some Left.Lost → ⊥) where
+    module _ (may_stop : Bool) (news : List (CachePadded (Runner C A L))) (ended : AllEnded listed g mesh may_stop olds news) (count : length news ≡ length olds) (none_lost : (i : ℕ) → slice_get (lefts_in news) i ≡ Some Left.Lost → ⊥) where
       within : (i : ℕ) → i < length olds → i < length news
       within i low = omega (arith, low, count)
 
-      ran : (i : ℕ) (d : CachePadded (Runner C A)) → i < length olds → IsRunning g mesh (lane_in (get_or olds i d)) (padded_value (get_or news i d))
+      ran : (i : ℕ) (d : CachePadded (Runner C A L)) → i < length olds → IsRunning listed g mesh (lane_in (get_or olds i d)) (padded_value (get_or news i d))
       ran i d low = (ended i d low).keeps (λ (is : left_of (get_or news i d) ≡ Left.Lost). none_lost i (left_at news i d Left.Lost (within i low) is)) (lane_in (get_or olds i d)) (running i d low)
 
-      element : (i : ℕ) (d : CachePadded (Runner C A)) → i < length olds → (own_of (get_or news i d)).element ≡ i
+      element : (i : ℕ) (d : CachePadded (Runner C A L)) → i < length olds → (own_of (get_or news i d)).element ≡ i
       element i d low = (ended i d low).stays.2 ∙ ap (λ (s : SeatView). s.own.element) (fresh_at i d low)
 
       -- the same, of what was found at its place
-      module _ (i : ℕ) (p : CachePadded (Runner C A)) (low : i < length news) (is : get_or news i p ≡ p) where
+      module _ (i : ℕ) (p : CachePadded (Runner C A L)) (low : i < length news) (is : get_or news i p ≡ p) where
         low_old : i < length olds
         low_old = omega (arith, low, count)
 
-        ran_at : IsRunning g mesh (lane_in (get_or olds i p)) (padded_value p)
-        ran_at = subst (λ (q : CachePadded (Runner C A)). IsRunning g mesh (lane_in (get_or olds i p)) (padded_value q)) is (ran i p low_old)
+        ran_at : IsRunning listed g mesh (lane_in (get_or olds i p)) (padded_value p)
+        ran_at = subst (λ (q : CachePadded (Runner C A L)). IsRunning listed g mesh (lane_in (get_or olds i p)) (padded_value q)) is (ran i p low_old)
 
         element_at : (own_of p).element ≡ i
-        element_at = ap (λ (q : CachePadded (Runner C A)). (own_of q).element) (sym is) ∙ element i p low_old
-
-        listed_at : listed_of p ≡ listed
-        listed_at = ap (λ (q : CachePadded (Runner C A)). listed_of q) (sym is) ∙ (ended i p low_old).stays.3 ∙ ready.all_listed i p low_old
+        element_at = ap (λ (q : CachePadded (Runner C A L)). (own_of q).element) (sym is) ∙ element i p low_old
 
         left_is : IsLeft g may_stop (padded_value p) (left_of p)
-        left_is = subst (λ (q : CachePadded (Runner C A)). IsLeft g may_stop (padded_value q) (left_of q)) is (ended i p low_old).left
+        left_is = subst (λ (q : CachePadded (Runner C A L)). IsLeft g may_stop (padded_value q) (left_of q)) is (ended i p low_old).left
 
         placed_at : IsPlaced g i (lane_in p)
         placed_at = subst (λ (n : ℕ). IsPlaced g n (lane_in p)) element_at ran_at.ran.placed
@@ -205,22 +201,22 @@ module _ {C A : Type 0} where
       RanAs i x = (old new : Held) (a : Account) → slice_get (lanes_in olds) i ≡ Some old → get_elem? (owns news) i ≡ some a → slice_get (lanes_in news) i ≡ Some new → ends.Ran g i old a new x.0 x.1
 
       abbrev HasNoted : ℕ → List Block → Type 0
-      HasNoted i blocks = (l : Log A) → listed ≡ true → slice_get (logs_in news) i ≡ Some l → Logs (noted_in l) blocks
+      HasNoted i blocks = (l : BlockLog A) → listed ≡ true → slice_get (logs_in news) i ≡ Some l → Logs (noted_in l) blocks
 
       abbrev Did : ℕ → List Token × List Block → Type 0
       Did i x = RanAs i x × HasNoted i x.1
 
-      noted_at : (i : ℕ) (p : CachePadded (Runner C A)) (low : i < length news) (is : get_or news i p ≡ p) → HasNoted i (ran_at i p low is).blocks
+      noted_at : (i : ℕ) (p : CachePadded (Runner C A L)) (low : i < length news) (is : get_or news i p ≡ p) → HasNoted i (ran_at i p low is).blocks
       noted_at i p low is = λ l on w.
-          let notes : notes_of p ≡ l = ap (λ (q : CachePadded (Runner C A)). notes_of q) (sym is) ∙ same_Some (notes_of (get_or news i p)) l (sym (slice_map notes_of news i p low) ∙ w) in
-          subst (λ (z : Log A). Logs (noted_in z) (ran_at i p low is).blocks) notes ((ran_at i p low is).noted (listed_at i p low is ∙ on))
+          let notes : notes_of p ≡ l = ap (λ (q : CachePadded (Runner C A L)). notes_of q) (sym is) ∙ same_Some (notes_of (get_or news i p)) l (sym (slice_map notes_of news i p low) ∙ w) in
+          subst (λ (z : BlockLog A). Logs (noted_in z) (ran_at i p low is).blocks) notes ((ran_at i p low is).noted on)
 
-      did_at : (i : ℕ) (p : CachePadded (Runner C A)) (low : i < length news) (is : get_or news i p ≡ p) → RanAs i (away (padded_value p), (ran_at i p low is).blocks)
+      did_at : (i : ℕ) (p : CachePadded (Runner C A L)) (low : i < length news) (is : get_or news i p ≡ p) → RanAs i (away (padded_value p), (ran_at i p low is).blocks)
       did_at i p low is = λ old new a o n w.
           let d = did i p low is in
           let first : lane_in (get_or olds i p) ≡ old = same_Some (lane_in (get_or olds i p)) old (sym (slice_map lane_in olds i p (low_old i p low is)) ∙ o) in
-          let last : lane_in p ≡ new = ap (λ (q : CachePadded (Runner C A)). lane_in q) (sym is) ∙ same_Some (lane_in (get_or news i p)) new (sym (slice_map lane_in news i p low) ∙ w) in
-          let own : own_of p ≡ a = ap (λ (q : CachePadded (Runner C A)). own_of q) (sym is) ∙ same_some (own_of (get_or news i p)) a (sym (get_map own_of news i p low) ∙ n) in
+          let last : lane_in p ≡ new = ap (λ (q : CachePadded (Runner C A L)). lane_in q) (sym is) ∙ same_Some (lane_in (get_or news i p)) new (sym (slice_map lane_in news i p low) ∙ w) in
+          let own : own_of p ≡ a = ap (λ (q : CachePadded (Runner C A L)). own_of q) (sym is) ∙ same_some (own_of (get_or news i p)) a (sym (get_map own_of news i p low) ∙ n) in
           let kept : List Token = away (padded_value p) in
           let blocks : List Block = (ran_at i p low is).blocks in
           subst (λ (x : Held). ends.Ran g i x a new kept blocks) first (subst (λ (x : Account). ends.Ran g i (lane_in (get_or olds i p)) x new kept blocks) own (subst (λ (x : Held). ends.Ran g i (lane_in (get_or olds i p)) (own_of p) x kept blocks) last d))
@@ -242,10 +238,10 @@ module _ {C A : Type 0} where
       lane_halts halt tokens e is =
           let f = slice_found left_of news e (Left.Halted halt) is in
           let why : HaltsLane g.program g.steps may_stop (lane_in f.0) (Some halt) = subst (λ (l : Left). IsLeft g may_stop (padded_value f.0) l) (sym f.2) (left_is e f.0 f.1 f.3) in
-          halts_as g may_stop (lanes_in news) tokens e (lane_in f.0) halt (slice_map lane_in news e f.0 f.1 ∙ ap (λ (q : CachePadded (Runner C A)). Some (lane_in q)) f.3) why
+          halts_as g may_stop (lanes_in news) tokens e (lane_in f.0) halt (slice_map lane_in news e f.0 f.1 ∙ ap (λ (q : CachePadded (Runner C A L)). Some (lane_in q)) f.3) why
 
       -- what each says of itself is so
-      own_said : (r : Runner C A) (left : Left) → (left ≡ Left.Lost → ⊥) → IsLeft g may_stop r left → IsOwn g may_stop (held_of r.lane) (reason_of left)
+      own_said : (r : Runner C A L) (left : Left) → (left ≡ Left.Lost → ⊥) → IsLeft g may_stop r left → IsOwn g may_stop (held_of r.lane) (reason_of left)
       own_said r Left.Lost none is = absurd (none refl)
       own_said r (Left.Halted halt) none is = is
       own_said r Left.Rested none is = is.1
@@ -254,8 +250,8 @@ module _ {C A : Type 0} where
       own_reason : (e : ℕ) (h : Held) (reason : Option Halt) → slice_get (lanes_in news) e ≡ Some h → slice_get (reasons_of (lefts_in news)) e ≡ Some reason → IsOwn g may_stop h reason
       own_reason e h reason lane said =
           let f = slice_found lane_in news e h lane in
-          let p : CachePadded (Runner C A) = f.0 in
-          let there : slice_get (lefts_in news) e ≡ Some (left_of p) = left_at news e p (left_of p) f.1 (ap (λ (q : CachePadded (Runner C A)). left_of q) f.3) in
+          let p : CachePadded (Runner C A L) = f.0 in
+          let there : slice_get (lefts_in news) e ≡ Some (left_of p) = left_at news e p (left_of p) f.1 (ap (λ (q : CachePadded (Runner C A L)). left_of q) f.3) in
           let same : reason ≡ reason_of (left_of p) = same_Some reason (reason_of (left_of p)) (sym said ∙ reason_at (lefts_in news) e (left_of p) there) in
           let own = own_said (padded_value p) (left_of p) (λ (is : left_of p ≡ Left.Lost). none_lost e (there ∙ ap (λ (l : Left). Some l) is)) (left_is e p f.1 f.3) in
           subst (λ (o : Option Halt). IsOwn g may_stop h o) (sym same) (subst (λ (x : Held). IsOwn g may_stop x (reason_of (left_of p))) (sym f.2) own)
@@ -267,8 +263,8 @@ module _ {C A : Type 0} where
           by_halt (inl halts) = clash_cell (coming g (lanes_in news) []) false halt (none_sound g (lanes_in news) sound_last) halts
           by_halt (inr (stop, may)) = subst (λ (h : Halt). NamesCell g.program h) (sym stop) tt
 
-          by_left : IsLeast (reasons_of (lefts_in news)) halt ⊎ (((e : ℕ) × (slice_get (lefts_in news) e ≡ Some Left.Rested)) × NoneHalts (reasons_of (lefts_in news)) × (halt ≡ Halt.NoToken)) → NamesCell g.program halt
-          by_left (inl least) = by_halt (lane_halts halt [] least.element (halted_at (lefts_in news) least.element halt least.there))
+          by_left : IsFirst (reasons_of (lefts_in news)) halt ⊎ (((e : ℕ) × (slice_get (lefts_in news) e ≡ Some Left.Rested)) × NoneHalts (reasons_of (lefts_in news)) × (halt ≡ Halt.NoToken)) → NamesCell g.program halt
+          by_left (inl least) = by_halt (lane_halts halt [] least.0 (halted_at (lefts_in news) least.0 halt least.1))
           by_left (inr (at, silent, none)) = subst (λ (h : Halt). NamesCell g.program h) (sym none) tt
 
       module _ (s : SeatView) (mesh_is : s.mesh ≡ mesh) (seats : accounts s ≡ map (λ (x : SeatView). x.own) (seats_in news)) (history : (n : ℕ) × Leaves s.mesh s.seen n) (commits : HasCommits s) (agree : Agree s) (final : IsFinal s) where
@@ -294,15 +290,15 @@ module _ {C A : Type 0} where
         rests inputs before x e is =
             let f = slice_found left_of news e Left.Rested is in
             let seen : Leaves (seat_of f.0).mesh (own_of f.0).last 0 = (subst (λ (l : Left). IsLeft g may_stop (padded_value f.0) l) (sym f.2) (left_is e f.0 f.1 f.3)).0 in
-            let there : get_elem? (owns news) e ≡ some (own_of f.0) = get_map own_of news e f.0 f.1 ∙ ap (λ (q : CachePadded (Runner C A)). some (own_of q)) f.3 in
+            let there : get_elem? (owns news) e ≡ some (own_of f.0) = get_map own_of news e f.0 f.1 ∙ ap (λ (q : CachePadded (Runner C A L)). some (own_of q)) f.3 in
             x.rest e (own_of f.0) (subst (λ (l : List Account). get_elem? l e ≡ some (own_of f.0)) (sym accounts_are) there)
             (subst (λ (m : MeshId). Leaves m (own_of f.0).last 0) ((ran_at e f.0 f.1 f.3).at ∙ sym mesh_is) seen)
 
         halted : (halt : Halt) → Tells (lefts_in news) halt → (inputs : List ℤ) (before : Events) (x : ends.Ended g s inputs before (lanes_in news) blocks_of) → IsHalted (coming g (lanes_in news) x.tokens) may_stop halt
         halted halt tells inputs before x = by_left tells.1
           where
-            by_left : IsLeast (reasons_of (lefts_in news)) halt ⊎ (((e : ℕ) × (slice_get (lefts_in news) e ≡ Some Left.Rested)) × NoneHalts (reasons_of (lefts_in news)) × (halt ≡ Halt.NoToken)) → IsHalted (coming g (lanes_in news) x.tokens) may_stop halt
-            by_left (inl least) = lane_halts halt x.tokens least.element (halted_at (lefts_in news) least.element halt least.there)
+            by_left : IsFirst (reasons_of (lefts_in news)) halt ⊎ (((e : ℕ) × (slice_get (lefts_in news) e ≡ Some Left.Rested)) × NoneHalts (reasons_of (lefts_in news)) × (halt ≡ Halt.NoToken)) → IsHalted (coming g (lanes_in news) x.tokens) may_stop halt
+            by_left (inl least) = lane_halts halt x.tokens least.0 (halted_at (lefts_in news) least.0 halt least.1)
             by_left (inr (at, silent, none)) = inl (subst (λ (h : Halt). HaltsAs (coming g (lanes_in news) x.tokens) false h) (sym none) (rests inputs before x at.0 at.1))
 
         logs_count : length (logs_in news) ≡ g.elements
@@ -330,7 +326,7 @@ module _ {C A : Type 0} where
             (l.0, subst (λ (evs : Events). Began inputs (coming g (lanes_in news) x.tokens) (before ++ evs)) (sym o.events) (x.any o.history leaves below o.blocks), l.2)
 
         -- the report of these lanes
-        pub shows_last : (halt : Halt) → Tells (lefts_in news) halt → (now : Setting) → now ≡ g → (raw : List Held) → raw ≡ lanes_in news → (logs : List (Log A)) → logs ≡ logs_in news → (opening : List Token) → opening ≡ tokens_in (lanes_in olds)
+        pub shows_last : (halt : Halt) → Tells (lefts_in news) halt → (now : Setting) → now ≡ g → (raw : List Held) → raw ≡ lanes_in news → (logs : List (BlockLog A)) → logs ≡ logs_in news → (opening : List Token) → opening ≡ tokens_in (lanes_in olds)
             → (kept after : Events) (r : Report) → (listed ≡ true → Lists logs opening kept after)
             → ((inputs : List ℤ) (in_list : Bool) (ts : List Token) (evs : Events) → IsSoundState (coming now raw ts) → Began inputs (coming now raw ts) evs → HaltsAs (coming now raw ts) in_list halt → ShowsBut now.program (size now) inputs now.steps in_list false after evs r)
             → (halt ≡ Halt.Stop → (inputs : List ℤ) (in_list : Bool) (ts : List Token) (evs : Events) → IsSoundState (coming now raw ts) → Began inputs (coming now raw ts) evs → ShowsBut now.program (size now) inputs now.steps in_list true after evs r)
@@ -363,12 +359,12 @@ module _ {C A : Type 0} where
                     let t = told (before ++ events_in x.log) x.began in
                     (t.0, t.1, λ on same. absurd (let no : ⊥ = cc in no))
                 by_listed true on =
-                    let o = ordered on kept after opening opens (subst (λ (l : List (Log A)). Lists l opening kept after) logs_are (lists on)) inputs before x in
+                    let o = ordered on kept after opening opens (subst (λ (l : List (BlockLog A)). Lists l opening kept after) logs_are (lists on)) inputs before x in
                     let t = told (before ++ o.0) o.1 in
                     (t.0, t.1, λ yes at. t.2 (o.2 ∙ ap (λ (l : Events). l ++ o.0) at))
 
         -- and how the run ended
-        pub ends_last : (halt : Halt) → Tells (lefts_in news) halt → (now : Setting) → now ≡ g → (raw : List Held) → raw ≡ lanes_in news → (logs : List (Log A)) → logs ≡ logs_in news → (opening : List Token) → opening ≡ tokens_in (lanes_in olds)
+        pub ends_last : (halt : Halt) → Tells (lefts_in news) halt → (now : Setting) → now ≡ g → (raw : List Held) → raw ≡ lanes_in news → (logs : List (BlockLog A)) → logs ≡ logs_in news → (opening : List Token) → opening ≡ tokens_in (lanes_in olds)
             → (kept after : Events) (r : Report) → (listed ≡ true → Lists logs opening kept after)
             → (let w : State = record { setting = now; lanes = raw } in let k : Kept = record { state = w; events = after } in IsReportOf k halt r)
             → (inputs : List ℤ) (before : Events) → Began inputs (coming g (lanes_in olds) []) before → r.end ≢ End.Memory → EndsOn listed g inputs may_stop kept before r
@@ -384,8 +380,8 @@ module _ {C A : Type 0} where
             by_end : ends.Ended g s inputs before (lanes_in news) blocks_of → EndsOn listed g inputs may_stop kept before r
             by_end x = by_listed listed refl
               where
-                by_why : IsLeast (reasons_of (lefts_in news)) halt ⊎ (((e : ℕ) × (slice_get (lefts_in news) e ≡ Some Left.Rested)) × NoneHalts (reasons_of (lefts_in news)) × (halt ≡ Halt.NoToken))
-                    → IsLeast (reasons_of (lefts_in news)) halt ⊎ (NoneHalts (reasons_of (lefts_in news)) × (tokens_in (coming g (lanes_in news) x.tokens).lanes ≡ []) × (halt ≡ Halt.NoToken))
+                by_why : IsFirst (reasons_of (lefts_in news)) halt ⊎ (((e : ℕ) × (slice_get (lefts_in news) e ≡ Some Left.Rested)) × NoneHalts (reasons_of (lefts_in news)) × (halt ≡ Halt.NoToken))
+                    → IsFirst (reasons_of (lefts_in news)) halt ⊎ (NoneHalts (reasons_of (lefts_in news)) × (tokens_in (coming g (lanes_in news) x.tokens).lanes ≡ []) × (halt ≡ Halt.NoToken))
                 by_why (inl least) = inl least
                 by_why (inr (at, silent, none)) = inr (silent, rests inputs before x at.0 at.1, none)
 
@@ -405,5 +401,5 @@ module _ {C A : Type 0} where
                 by_listed : (b : Bool) → listed ≡ b → EndsOn listed g inputs may_stop kept before r
                 by_listed false off = (before ++ events_in x.log, ending (before ++ events_in x.log) x.began, λ on same. absurd (let no : ⊥ = cc in no))
                 by_listed true on =
-                    let o = ordered on kept after opening opens (subst (λ (l : List (Log A)). Lists l opening kept after) logs_are (lists on)) inputs before x in
+                    let o = ordered on kept after opening opens (subst (λ (l : List (BlockLog A)). Lists l opening kept after) logs_are (lists on)) inputs before x in
                     (before ++ o.0, ending (before ++ o.0) o.1, λ yes at. (told_with last_state after after halt r ne told_here).0 ∙ o.2 ∙ ap (λ (l : Events). l ++ o.0) at)

@@ -6,7 +6,8 @@ use Rattle.crossbeam_utils.specs.declared.cache_padded.CachePadded.{CachePadded}
 use Rattle.crossbeam_utils.specs.Padded.{padded_value}
 use Rattle.machine.specs.declared.runner.Left.{Left}
 use Rattle.machine.specs.declared.runner.Runner.{Runner}
-use Rattle.machine.specs.Ends.{reason_of, reasons_of, NoneHalts}
+use Rattle.rounds.specs.Counted.{NoneHalts}
+use Rattle.machine.specs.Ends.{reason_of, reasons_of}
 use Rattle.machine.specs.Starts.{left_of, lefts_in}
 use Rattle.schedule.specs.declared.halt.Halt.{Halt}
 use Rattle.std.proofs.lemmas.List.{length-map}
@@ -35,19 +36,19 @@ unhalted (Left.Halted h) none = absurd (none h refl)
 unhalted Left.Rested none = refl
 unhalted Left.Stopped none = refl
 
-module _ {C A : Type 0} where
+module _ {C A L : Type 0} where
   -- why the runner at this place left
-  pub left_at : (ps : List (CachePadded (Runner C A))) (i : ℕ) (d : CachePadded (Runner C A)) (left : Left) → i < length ps → (padded_value (get_or ps i d)).left ≡ left → slice_get (lefts_in ps) i ≡ Some left
+  pub left_at : (ps : List (CachePadded (Runner C A L))) (i : ℕ) (d : CachePadded (Runner C A L)) (left : Left) → i < length ps → (padded_value (get_or ps i d)).left ≡ left → slice_get (lefts_in ps) i ≡ Some left
   left_at [] i d left low is = absurd (let no : ⊥ = omega (arith, low) in no)
   left_at (p ∷ ps) zero d left low is = ap (λ (l : Left). Some l) is
   left_at (p ∷ ps) (suc i) d left low is = left_at ps i d left (omega (arith, low)) is
 
   -- the same, as it is read there
-  pub left_is : (ps : List (CachePadded (Runner C A))) (i : ℕ) (p : CachePadded (Runner C A)) (r : Runner C A) (left : Left) → i < length ps → p ≡ get_or ps i p → r ≡ padded_value p → r.left ≡ left → slice_get (lefts_in ps) i ≡ Some left
-  left_is ps i p r left low at read is = left_at ps i p left low (ap (λ (q : CachePadded (Runner C A)). (padded_value q).left) (sym at) ∙ ap (λ (x : Runner C A). x.left) (sym read) ∙ is)
+  pub left_is : (ps : List (CachePadded (Runner C A L))) (i : ℕ) (p : CachePadded (Runner C A L)) (r : Runner C A L) (left : Left) → i < length ps → p ≡ get_or ps i p → r ≡ padded_value p → r.left ≡ left → slice_get (lefts_in ps) i ≡ Some left
+  left_is ps i p r left low at read is = left_at ps i p left low (ap (λ (q : CachePadded (Runner C A L)). (padded_value q).left) (sym at) ∙ ap (λ (x : Runner C A L). x.left) (sym read) ∙ is)
 
   -- none of the first k + 1 is lost
-  pub found_more : (ps : List (CachePadded (Runner C A))) (k : ℕ) (p : CachePadded (Runner C A)) (r : Runner C A) → k < length ps → p ≡ get_or ps k p → r ≡ padded_value p → (r.left ≡ Left.Lost → ⊥)
+  pub found_more : (ps : List (CachePadded (Runner C A L))) (k : ℕ) (p : CachePadded (Runner C A L)) (r : Runner C A L) → k < length ps → p ≡ get_or ps k p → r ≡ padded_value p → (r.left ≡ Left.Lost → ⊥)
       → ((i : ℕ) → i < k → slice_get (lefts_in ps) i ≡ Some Left.Lost → ⊥) → (i : ℕ) → i < k + 1 → slice_get (lefts_in ps) i ≡ Some Left.Lost → ⊥
   found_more ps k p r low at read here before i within is = by_place (cases_lt i k)
     where
@@ -58,16 +59,16 @@ module _ {C A : Type 0} where
           let there : Some r.left ≡ Some Left.Lost = sym (left_is ps k p r r.left low at read refl) ∙ subst (λ (n : ℕ). slice_get (lefts_in ps) n ≡ Some Left.Lost) same is in
           here cc
 
-  past : (ps : List (CachePadded (Runner C A))) (i : ℕ) (left : Left) → slice_get (lefts_in ps) i ≡ Some left → i < length ps
+  past : (ps : List (CachePadded (Runner C A L))) (i : ℕ) (left : Left) → slice_get (lefts_in ps) i ≡ Some left → i < length ps
   past [] i left is = absurd (let no : ⊥ = cc in no)
   past (p ∷ ps) zero left is = omega arith
   past (p ∷ ps) (suc i) left is = let low = past ps i left is in omega (arith, low)
 
-  pub none_lost : (ps : List (CachePadded (Runner C A))) (k : ℕ) → length ps ≤ k → ((i : ℕ) → i < k → slice_get (lefts_in ps) i ≡ Some Left.Lost → ⊥) → (i : ℕ) → slice_get (lefts_in ps) i ≡ Some Left.Lost → ⊥
+  pub none_lost : (ps : List (CachePadded (Runner C A L))) (k : ℕ) → length ps ≤ k → ((i : ℕ) → i < k → slice_get (lefts_in ps) i ≡ Some Left.Lost → ⊥) → (i : ℕ) → slice_get (lefts_in ps) i ≡ Some Left.Lost → ⊥
   none_lost ps k all none i is = none i (let low = past ps i Left.Lost is in omega (arith, low, all)) is
 
   -- none of the first k + 1 has a reason
-  pub silent_more : (ps : List (CachePadded (Runner C A))) (k : ℕ) (p : CachePadded (Runner C A)) (r : Runner C A) → k < length ps → p ≡ get_or ps k p → r ≡ padded_value p → ((halt : Halt) → r.left ≡ Left.Halted halt → ⊥)
+  pub silent_more : (ps : List (CachePadded (Runner C A L))) (k : ℕ) (p : CachePadded (Runner C A L)) (r : Runner C A L) → k < length ps → p ≡ get_or ps k p → r ≡ padded_value p → ((halt : Halt) → r.left ≡ Left.Halted halt → ⊥)
       → ((i : ℕ) → i < k → slice_get (reasons_of (lefts_in ps)) i ≡ Some None) → (i : ℕ) → i < k + 1 → slice_get (reasons_of (lefts_in ps)) i ≡ Some None
   silent_more ps k p r low at read here before i within = by_place (cases_lt i k)
     where
@@ -78,5 +79,5 @@ module _ {C A : Type 0} where
           let there = reason_at (lefts_in ps) k r.left (left_is ps k p r r.left low at read refl) in
           subst (λ (n : ℕ). slice_get (reasons_of (lefts_in ps)) n ≡ Some None) same (there ∙ ap (λ (o : Option Halt). Some o) (unhalted r.left here))
 
-  pub none_halts : (ps : List (CachePadded (Runner C A))) (k : ℕ) → length ps ≤ k → ((i : ℕ) → i < k → slice_get (reasons_of (lefts_in ps)) i ≡ Some None) → NoneHalts (reasons_of (lefts_in ps))
+  pub none_halts : (ps : List (CachePadded (Runner C A L))) (k : ℕ) → length ps ≤ k → ((i : ℕ) → i < k → slice_get (reasons_of (lefts_in ps)) i ≡ Some None) → NoneHalts (reasons_of (lefts_in ps))
   none_halts ps k all none = λ e low. none e (let one = length-map (lefts_in ps) reason_of in let two = length-map ps (left_of {C = C} {A = A}) in omega (arith, low, all, one, two))

@@ -37,21 +37,21 @@ on_err (Result.Err y) P p = p
 abbrev bundles : {A : Type 0} → List (Vec Token A) → List Token
 bundles vs = flat_map (λ v. v.items) vs
 
-module _ {C A : Type 0} (g : Setting) (mesh : MeshId) where
-  pub runs_on : (old new : Runner C A) → Runs g mesh old → Keeps g mesh old new → Runs g mesh new
+module _ {C A L : Type 0} (listed : Bool) (g : Setting) (mesh : MeshId) where
+  pub runs_on : (old new : Runner C A L) → Runs listed g mesh old → Keeps listed g mesh old new → Runs listed g mesh new
   runs_on old new runs keeps = (runs.0, keeps runs.0 runs.1)
 
-  pub keeps_same : (old : Runner C A) → Keeps g mesh old old
+  pub keeps_same : (old : Runner C A L) → Keeps listed g mesh old old
   keeps_same old = λ start r. r
 
-  pub keeps_twice : (old mid new : Runner C A) → Keeps g mesh old mid → Keeps g mesh mid new → Keeps g mesh old new
+  pub keeps_twice : (old mid new : Runner C A L) → Keeps listed g mesh old mid → Keeps listed g mesh mid new → Keeps listed g mesh old new
   keeps_twice old mid new one two = λ start r. two start (one start r)
 
-  pub keeps_on : {X Y : Type 0} (r : Result X Y) (old mid new : Runner C A) → Keeps g mesh old mid → OnOk r (Keeps g mesh mid new) → OnOk r (Keeps g mesh old new)
-  keeps_on r old mid new one two = ok_then r (Keeps g mesh mid new) (Keeps g mesh old new) (λ k. keeps_twice old mid new one k) two
+  pub keeps_on : {X Y : Type 0} (r : Result X Y) (old mid new : Runner C A L) → Keeps listed g mesh old mid → OnOk r (Keeps listed g mesh mid new) → OnOk r (Keeps listed g mesh old new)
+  keeps_on r old mid new one two = ok_then r (Keeps listed g mesh mid new) (Keeps listed g mesh old new) (λ k. keeps_twice old mid new one k) two
 
   -- how many blocks it asked for plays no role
-  pub keeps_counting : (old : Runner C A) (blocks : ℕ) → Keeps g mesh old (record old { blocks = blocks })
+  pub keeps_counting : (old : Runner C A L) (blocks : ℕ) → Keeps listed g mesh old (record old { blocks = blocks })
   keeps_counting old blocks = λ start r. record {
     at = r.at;
     alone = r.alone;
@@ -64,7 +64,7 @@ module _ {C A : Type 0} (g : Setting) (mesh : MeshId) where
   }
 
   -- nor what memory it has for bundles to come
-  pub keeps_sparing : (old : Runner C A) (spare : Vec (Vec Token A) A) → Keeps g mesh old (record old { spare = spare })
+  pub keeps_sparing : (old : Runner C A L) (spare : Vec (Vec Token A) A) → Keeps listed g mesh old (record old { spare = spare })
   keeps_sparing old spare = λ start r. record {
     at = r.at;
     alone = r.alone;
@@ -77,7 +77,7 @@ module _ {C A : Type 0} (g : Setting) (mesh : MeshId) where
   }
 
   -- nor why it left
-  pub keeps_leaving : (old : Runner C A) (left : Left) → Keeps g mesh old (record old { left = left })
+  pub keeps_leaving : (old : Runner C A L) (left : Left) → Keeps listed g mesh old (record old { left = left })
   keeps_leaving old left = λ start r. record {
     at = r.at;
     alone = r.alone;
@@ -90,7 +90,7 @@ module _ {C A : Type 0} (g : Setting) (mesh : MeshId) where
   }
 
   -- one more deed that moves no token
-  pub keeps_noting : (old : Runner C A) (s : SeatView) (d : Deed) → IsQuiet d → made_in d ≡ 0 → s ≡ noting old.seat d → Keeps g mesh old (record old { seat = s })
+  pub keeps_noting : (old : Runner C A L) (s : SeatView) (d : Deed) → IsQuiet d → made_in d ≡ 0 → s ≡ noting old.seat d → Keeps listed g mesh old (record old { seat = s })
   keeps_noting old s d quiet none is = λ start r.
       let own = old.seat.own in
       record {
@@ -112,7 +112,7 @@ module _ {C A : Type 0} (g : Setting) (mesh : MeshId) where
       }
 
   -- a look at the live word
-  pub keeps_counted : (old : Runner C A) (s : SeatView) (count : ℕ) → Counts count old.seat s → Keeps g mesh old (record old { seat = s })
+  pub keeps_counted : (old : Runner C A L) (s : SeatView) (count : ℕ) → Counts count old.seat s → Keeps listed g mesh old (record old { seat = s })
   keeps_counted old s count counts = λ start r.
       let own = old.seat.own in
       let is = counts.1 in
@@ -136,10 +136,10 @@ module _ {C A : Type 0} (g : Setting) (mesh : MeshId) where
       }
 
   -- a bundle was taken, and lies in the queue
-  pub keeps_received : (old new : Runner C A) (s : SeatView) (from : ℕ) (x : Bundle) → from < g.elements → s ≡ having_taken old.seat from x → AllTo mesh.elements old.seat.own.element x → Receives g (record old { seat = s }) x new → Keeps g mesh old new
+  pub keeps_received : (old new : Runner C A L) (s : SeatView) (from : ℕ) (x : Bundle) → from < g.elements → s ≡ having_taken old.seat from x → AllTo mesh.elements old.seat.own.element x → Receives g (record old { seat = s }) x new → Keeps listed g mesh old new
   keeps_received old new s from x low is to received = λ start r.
       let own = old.seat.own in
-      let seat : new.seat ≡ s = ap (λ (z : Runner C A). z.seat) received.others in
+      let seat : new.seat ≡ s = ap (λ (z : Runner C A L). z.seat) received.others in
       let whole : new.seat ≡ having_taken old.seat from x = seat ∙ is in
       let mine : AllTo g.elements own.element x = subst (λ (n : ℕ). AllTo n own.element x) r.ran.elements to in
       record {
@@ -147,21 +147,21 @@ module _ {C A : Type 0} (g : Setting) (mesh : MeshId) where
         alone = ap (λ (z : SeatView). z.joined) whole ∙ r.alone;
         runs = subst (λ (f : Fixed). RunsAs g f) (sym received.fixed) r.runs;
         blocks = r.blocks;
-        noted = subst (λ (z : Runner C A). z.listed ≡ true → Logs (noted_in z.notes) r.blocks) (sym received.others) r.noted;
-        unlogged = ap (λ (z : Runner C A). z.log.items) received.others ∙ r.unlogged;
+        noted = subst (λ (z : Runner C A L). listed ≡ true → Logs (noted_in z.notes) r.blocks) (sym received.others) r.noted;
+        unlogged = ap (λ (z : Runner C A L). z.log.events.items) received.others ∙ r.unlogged;
         ran = ran_as g mesh start own.element new.seat.own.element (with_queue (held_of old.lane) ((held_of old.lane).queue ++ x)) (held_of new.lane) (own.deeds ++ Took from x ∷ []) new.seat.own.deeds (x ++ own.held) new.seat.own.held (away old) (away new)
-            (ap (λ (z : SeatView). z.own.element) whole) received.lane (ap (λ (z : SeatView). z.own.deeds) whole) (ap (λ (z : SeatView). z.own.held) whole) (ap (λ (z : Runner C A). away z) received.others)
+            (ap (λ (z : SeatView). z.own.element) whole) received.lane (ap (λ (z : SeatView). z.own.deeds) whole) (ap (λ (z : SeatView). z.own.held) whole) (ap (λ (z : Runner C A L). away z) received.others)
             (ran_received g mesh start own.element (held_of old.lane) own.deeds own.held (away old) r.ran from x low received.near mine);
         tidy = record {
-          count = ap (λ (z : Runner C A). length z.kept.items) received.others ∙ r.tidy.count;
-          addressed = λ i d within. subst (λ (z : Runner C A). AllTo g.elements i (get_or z.kept.items i d).items) (sym received.others) (r.tidy.addressed i d within);
-          created = created_same own.deeds new.seat.own.deeds (Took from x) new.created (ap (λ (z : SeatView). z.own.deeds) whole) refl (r.tidy.created ∙ ap (λ (z : Runner C A). z.created) (sym received.others));
-          few = subst (λ (z : Runner C A). z.created ≤ 2 ^ 40) (sym received.others) r.tidy.few;
+          count = ap (λ (z : Runner C A L). length z.kept.items) received.others ∙ r.tidy.count;
+          addressed = λ i d within. subst (λ (z : Runner C A L). AllTo g.elements i (get_or z.kept.items i d).items) (sym received.others) (r.tidy.addressed i d within);
+          created = created_same own.deeds new.seat.own.deeds (Took from x) new.created (ap (λ (z : SeatView). z.own.deeds) whole) refl (r.tidy.created ∙ ap (λ (z : Runner C A L). z.created) (sym received.others));
+          few = subst (λ (z : Runner C A L). z.created ≤ 2 ^ 40) (sym received.others) r.tidy.few;
         };
       }
 
   -- a bundle was taken, and is in hand
-  pub keeps_in_hand : (old : Runner C A) (s : SeatView) (from : ℕ) (x : Vec Token A) (lane : LaneView) → from < g.elements → IsClear old → s ≡ having_taken old.seat from x.items → lane ≡ old.lane → Keeps g mesh old (record old { seat = s; lane = lane; hand = x })
+  pub keeps_in_hand : (old : Runner C A L) (s : SeatView) (from : ℕ) (x : Vec Token A) (lane : LaneView) → from < g.elements → IsClear old → s ≡ having_taken old.seat from x.items → lane ≡ old.lane → Keeps listed g mesh old (record old { seat = s; lane = lane; hand = x })
   keeps_in_hand old s from x lane low clear is same = λ start r.
       let own = old.seat.own in
       let beside : x.items ++ (bundles old.kept.items ++ drop old.dealt old.sent.items) ≡ x.items ++ away old = ap (λ (l : List Token). x.items ++ (l ++ (bundles old.kept.items ++ drop old.dealt old.sent.items))) (sym clear.0) in
@@ -183,14 +183,14 @@ module _ {C A : Type 0} (g : Setting) (mesh : MeshId) where
         };
       }
 
-  pub keeps_taken : (old new : Runner C A) (s : SeatView) (from : ℕ) (x : Vec Token A) (o : Option Halt) → from < g.elements → IsClear old → s ≡ having_taken old.seat from x.items → AllTo mesh.elements old.seat.own.element x.items
-      → IfNone o (Receives g (record old { seat = s }) x.items new) → IfSome o (λ halt. (halt ≡ Halt.Memory) × (new.lane ≡ old.lane) × (new ≡ record old { seat = s; lane = new.lane; hand = x })) → Keeps g mesh old new
+  pub keeps_taken : (old new : Runner C A L) (s : SeatView) (from : ℕ) (x : Vec Token A) (o : Option Halt) → from < g.elements → IsClear old → s ≡ having_taken old.seat from x.items → AllTo mesh.elements old.seat.own.element x.items
+      → IfNone o (Receives g (record old { seat = s }) x.items new) → IfSome o (λ halt. (halt ≡ Halt.Memory) × (new.lane ≡ old.lane) × (new ≡ record old { seat = s; lane = new.lane; hand = x })) → Keeps listed g mesh old new
   keeps_taken old new s from x None low clear is to none some_one = keeps_received old new s from x.items low is to none
-  keeps_taken old new s from x (Some halt) low clear is to none some_one = subst (λ (z : Runner C A). Keeps g mesh old z) (sym some_one.2) (keeps_in_hand old s from x new.lane low clear is some_one.1)
+  keeps_taken old new s from x (Some halt) low clear is to none some_one = subst (λ (z : Runner C A L). Keeps listed g mesh old z) (sym some_one.2) (keeps_in_hand old s from x new.lane low clear is some_one.1)
 
   -- DEALING
-  pub keeps_dealt : (old : Runner C A) (kept : Vec (Vec Token A) A) (t : Token) → KeepsTokens g.elements old.kept.items kept.items (t ∷ []) → old.dealt < length old.sent.items → t ≡ get_or old.sent.items old.dealt t
-      → Keeps g mesh old (record old { kept = kept; dealt = old.dealt + 1 })
+  pub keeps_dealt : (old : Runner C A L) (kept : Vec (Vec Token A) A) (t : Token) → KeepsTokens g.elements old.kept.items kept.items (t ∷ []) → old.dealt < length old.sent.items → t ≡ get_or old.sent.items old.dealt t
+      → Keeps listed g mesh old (record old { kept = kept; dealt = old.dealt + 1 })
   keeps_dealt old kept t keeps low is = λ start r.
       let first : drop old.dealt old.sent.items ≡ t ∷ drop (old.dealt + 1) old.sent.items = drop_more old.sent.items old.dealt t low ∙ ap (λ (u : Token). u ∷ drop (old.dealt + 1) old.sent.items) (sym is) in
       let rest = drop (old.dealt + 1) old.sent.items in
@@ -209,17 +209,17 @@ module _ {C A : Type 0} (g : Setting) (mesh : MeshId) where
         tidy = record { count = keeps.count ∙ r.tidy.count; addressed = keeps.addressed r.tidy.addressed; created = r.tidy.created; few = r.tidy.few };
       }
 
-  pub keeps_dealt_at : (old : Runner C A) (kept : Vec (Vec Token A) A) (t : Token) (at : ℕ) → old.dealt ≡ at → KeepsTokens g.elements old.kept.items kept.items (t ∷ []) → at < length old.sent.items → t ≡ get_or old.sent.items at t
-      → Keeps g mesh old (record old { kept = kept; dealt = at + 1 })
+  pub keeps_dealt_at : (old : Runner C A L) (kept : Vec (Vec Token A) A) (t : Token) (at : ℕ) → old.dealt ≡ at → KeepsTokens g.elements old.kept.items kept.items (t ∷ []) → at < length old.sent.items → t ≡ get_or old.sent.items at t
+      → Keeps listed g mesh old (record old { kept = kept; dealt = at + 1 })
   keeps_dealt_at old kept t at there keeps low is =
-      subst (λ (n : ℕ). Keeps g mesh old (record old { kept = kept; dealt = n + 1 })) there
+      subst (λ (n : ℕ). Keeps listed g mesh old (record old { kept = kept; dealt = n + 1 })) there
       (keeps_dealt old kept t keeps (subst (λ (n : ℕ). n < length old.sent.items) (sym there) low) (subst (λ (n : ℕ). t ≡ get_or old.sent.items n t) (sym there) is))
 
-  pub kept_count : (old : Runner C A) → Runs g mesh old → length old.kept.items ≡ g.elements
+  pub kept_count : (old : Runner C A L) → Runs listed g mesh old → length old.kept.items ≡ g.elements
   kept_count old runs = runs.1.tidy.count
 
   -- the bundles have the same tokens
-  pub keeps_bundles : (old : Runner C A) (kept : Vec (Vec Token A) A) → KeepsTokens g.elements old.kept.items kept.items [] → Keeps g mesh old (record old { kept = kept })
+  pub keeps_bundles : (old : Runner C A L) (kept : Vec (Vec Token A) A) → KeepsTokens g.elements old.kept.items kept.items [] → Keeps listed g mesh old (record old { kept = kept })
   keeps_bundles old kept keeps = λ start r.
       let rest = drop old.dealt old.sent.items in
       let same : IsPermutation (bundles old.kept.items) (bundles kept.items) = IsPermutation-sym _ _ (at_last keeps.tokens (append-nil (bundles old.kept.items))) in
@@ -236,7 +236,7 @@ module _ {C A : Type 0} (g : Setting) (mesh : MeshId) where
       }
 
   -- all are dealt
-  pub keeps_cleared : (old : Runner C A) (sent : Vec Token A) → length old.sent.items ≤ old.dealt → sent.items ≡ [] → Keeps g mesh old (record old { sent = sent; dealt = 0 })
+  pub keeps_cleared : (old : Runner C A L) (sent : Vec Token A) → length old.sent.items ≤ old.dealt → sent.items ≡ [] → Keeps listed g mesh old (record old { sent = sent; dealt = 0 })
   keeps_cleared old sent past none = λ start r.
       let same : drop old.dealt old.sent.items ≡ sent.items = drop_all old.dealt old.sent.items past ∙ sym none in
       record {
@@ -313,7 +313,7 @@ module _ {A : Type 0} where
   set_again (x ∷ xs) zero a b = refl
   set_again (x ∷ xs) (suc i) a b = ap (λ (l : List (Vec Token A)). x ∷ l) (set_again xs i a b)
 
-  module _ {C : Type 0} (g : Setting) (mesh : MeshId) (old : Runner C A) (i : ℕ) (x empty : Vec Token A) (low : i < length old.kept.items) (is : x ≡ get_or old.kept.items i x) (none : empty.items ≡ []) where
+  module _ {C L : Type 0} (listed : Bool) (g : Setting) (mesh : MeshId) (old : Runner C A L) (i : ℕ) (x empty : Vec Token A) (low : i < length old.kept.items) (is : x ≡ get_or old.kept.items i x) (none : empty.items ≡ []) where
     abbrev others : List Token
     others = in_all (slice_set old.kept.items i empty) ++ drop old.dealt old.sent.items
 
@@ -324,7 +324,7 @@ module _ {A : Type 0} where
         IsPermutation-trans _ _ _ (IsPermutation-append_right old.hand.items _ _ (IsPermutation-append_left rest _ _ (out_of old.kept.items i x empty low is none)))
         (shuffled (old.hand.items ∷ x.items ∷ in_all set ∷ rest ∷ []) (Piece 0 ⊕ ((Piece 1 ⊕ Piece 2) ⊕ Piece 3)) (Piece 1 ⊕ (Piece 0 ⊕ (Piece 2 ⊕ Piece 3))) refl)
 
-    pub may_post : Runs g mesh old → Has old.seat.own.held x.items
+    pub may_post : Runs listed g mesh old → Has old.seat.own.held x.items
     may_post (start, r) =
         let q = old.lane.held.queue in (
           q ++ (old.hand.items ++ others),
@@ -332,7 +332,7 @@ module _ {A : Type 0} where
               (shuffled (q ∷ x.items ∷ (old.hand.items ++ others) ∷ []) (Piece 0 ⊕ (Piece 1 ⊕ Piece 2)) (Piece 1 ⊕ (Piece 0 ⊕ Piece 2)) refl)),
         )
 
-    pub keeps_posted : (kept : Vec (Vec Token A) A) (s : SeatView) → kept.items ≡ slice_set old.kept.items i empty → i < g.elements → Posts i x.items old.seat s → Keeps g mesh old (record old { kept = kept; seat = s })
+    pub keeps_posted : (kept : Vec (Vec Token A) A) (s : SeatView) → kept.items ≡ slice_set old.kept.items i empty → i < g.elements → Posts i x.items old.seat s → Keeps listed g mesh old (record old { kept = kept; seat = s })
     keeps_posted kept s kept_is within posts = λ start r.
         let own = old.seat.own in
         let whole = posts.2 in
@@ -359,15 +359,15 @@ module _ {A : Type 0} where
           };
         }
 
-    pub keeps_refused : (kept : Vec (Vec Token A) A) (back : Vec Token A) (s : SeatView) → length old.kept.items ≡ g.elements → kept.items ≡ slice_set (slice_set old.kept.items i empty) i back → back ≡ x → s ≡ noting old.seat (FoundFull i x.items) → Keeps g mesh old (record old { kept = kept; seat = s })
+    pub keeps_refused : (kept : Vec (Vec Token A) A) (back : Vec Token A) (s : SeatView) → length old.kept.items ≡ g.elements → kept.items ≡ slice_set (slice_set old.kept.items i empty) i back → back ≡ x → s ≡ noting old.seat (FoundFull i x.items) → Keeps listed g mesh old (record old { kept = kept; seat = s })
     keeps_refused kept back s count kept_is same found =
         let all : kept.items ≡ slice_set old.kept.items i back = kept_is ∙ set_again old.kept.items i empty back in
         let keeps : KeepsTokens g.elements old.kept.items kept.items [] = subst (λ (l : List (Vec Token A)). KeepsTokens g.elements old.kept.items l []) (sym all) (keeps_as_many g.elements old.kept.items i x back count low is (ap (λ (v : Vec Token A). v.items) same)) in
-        keeps_twice g mesh old (record old { kept = kept }) (record old { kept = kept; seat = s }) (keeps_bundles g mesh old kept keeps) (keeps_noting g mesh (record old { kept = kept }) s (FoundFull i x.items) (found_full i x.items) refl found)
+        keeps_twice listed g mesh old (record old { kept = kept }) (record old { kept = kept; seat = s }) (keeps_bundles listed g mesh old kept keeps) (keeps_noting listed g mesh (record old { kept = kept }) s (FoundFull i x.items) (found_full i x.items) refl found)
 
 -- THE END
-module _ {C A : Type 0} (g : Setting) (mesh : MeshId) (may_stop : Bool) where
-  left_as : (old new : Runner C A) (left : Left) → held_of new.lane ≡ held_of old.lane → new.seat.mesh ≡ old.seat.mesh → new.seat.own.last ≡ old.seat.own.last → IsLeft g may_stop old left → IsLeft g may_stop new left
+module _ {C A L : Type 0} (listed : Bool) (g : Setting) (mesh : MeshId) (may_stop : Bool) where
+  left_as : (old new : Runner C A L) (left : Left) → held_of new.lane ≡ held_of old.lane → new.seat.mesh ≡ old.seat.mesh → new.seat.own.last ≡ old.seat.own.last → IsLeft g may_stop old left → IsLeft g may_stop new left
   left_as old new Left.Lost lane at last is = tt
   left_as old new (Left.Halted halt) lane at last is = subst (λ (h : Held). HaltsLane g.program g.steps may_stop h (Some halt)) (sym lane) is
   left_as old new Left.Rested lane at last is = (
@@ -377,10 +377,10 @@ module _ {C A : Type 0} (g : Setting) (mesh : MeshId) (may_stop : Bool) where
   left_as old new Left.Stopped lane at last is = subst (λ (h : Held). HasNoReason g h) (sym lane) is
 
   -- it left, and then called for a stop if it had to
-  pub ended : (old mid new : Runner C A) (left : Left) → StaysAt old mid → (left ≢ Left.Lost → Keeps g mesh old mid) → IsLeft g may_stop mid left
-      → StaysAt (record mid { left = left }) new → Keeps g mesh (record mid { left = left }) new → held_of new.lane ≡ held_of mid.lane → new.seat.own.last ≡ mid.seat.own.last → new.left ≡ left → Ended g mesh may_stop old new
+  pub ended : (old mid new : Runner C A L) (left : Left) → StaysAt old mid → (left ≢ Left.Lost → Keeps listed g mesh old mid) → IsLeft g may_stop mid left
+      → StaysAt (record mid { left = left }) new → Keeps listed g mesh (record mid { left = left }) new → held_of new.lane ≡ held_of mid.lane → new.seat.own.last ≡ mid.seat.own.last → new.left ≡ left → Ended listed g mesh may_stop old new
   ended old mid new left first keeps is second again lane last same = record {
-    stays = (second.0 ∙ first.0, second.1 ∙ first.1, second.2 ∙ first.2, second.3 ∙ first.3);
-    keeps = λ ne. keeps_twice g mesh old mid new (keeps (λ (e : left ≡ Left.Lost). ne (same ∙ e))) (keeps_twice g mesh mid (record mid { left = left }) new (keeps_leaving g mesh mid left) again);
+    stays = (second.0 ∙ first.0, second.1 ∙ first.1, second.2 ∙ first.2);
+    keeps = λ ne. keeps_twice listed g mesh old mid new (keeps (λ (e : left ≡ Left.Lost). ne (same ∙ e))) (keeps_twice listed g mesh mid (record mid { left = left }) new (keeps_leaving listed g mesh mid left) again);
     left = subst (λ (l : Left). IsLeft g may_stop new l) (sym same) (left_as mid new left lane second.0 last is);
   }

@@ -40,19 +40,19 @@ queues_more lanes k lane now new low at is more =
     let all : tokens_in (map held_of (take (k + 1) lanes)) ≡ tokens_in before ++ (lane.held.queue ++ []) = ap (λ (l : List Held). tokens_in l) held ∙ flat_map-append (λ (h : Held). h.queue) before (held_of lane ∷ []) in
     more ∙ ap (λ (l : List Token). l ++ lane.held.queue) is ∙ ap (λ (l : List Token). tokens_in before ++ l) (sym (append-nil lane.held.queue)) ∙ sym all
 
-module _ {C A : Type 0} where
+module _ {C A L : Type 0} where
   -- one more runner, with the next lane
-  pub lanes_more : (ps : List (CachePadded (Runner C A))) (p : CachePadded (Runner C A)) (lanes : List LaneView) (lane : LaneView) → lanes_in ps ≡ map held_of lanes → lane_in p ≡ held_of lane → lanes_in (ps ++ p ∷ []) ≡ map held_of (lanes ++ lane ∷ [])
+  pub lanes_more : (ps : List (CachePadded (Runner C A L))) (p : CachePadded (Runner C A L)) (lanes : List LaneView) (lane : LaneView) → lanes_in ps ≡ map held_of lanes → lane_in p ≡ held_of lane → lanes_in (ps ++ p ∷ []) ≡ map held_of (lanes ++ lane ∷ [])
   lanes_more ps p lanes lane is same =
       map-append lane_in ps (p ∷ []) ∙ ap (λ (l : List Held). l ++ lane_in p ∷ []) is ∙ ap (λ (h : Held). map held_of lanes ++ h ∷ []) same ∙ sym (map-append held_of lanes (lane ∷ []))
 
   -- one more runner, with the next seat
-  pub seats_more : (ps : List (CachePadded (Runner C A))) (p : CachePadded (Runner C A)) (seats : List SeatView) (seat : SeatView) (all : List SeatView) → 0 < length seats → seat ≡ get_or seats 0 seat → seat_of p ≡ seat → seats_in ps ++ seats ≡ all
+  pub seats_more : (ps : List (CachePadded (Runner C A L))) (p : CachePadded (Runner C A L)) (seats : List SeatView) (seat : SeatView) (all : List SeatView) → 0 < length seats → seat ≡ get_or seats 0 seat → seat_of p ≡ seat → seats_in ps ++ seats ≡ all
       → seats_in (ps ++ p ∷ []) ++ remove seats 0 ≡ all
   seats_more ps p [] seat all some at same is = absurd (omega (arith, some))
   seats_more ps p (s ∷ seats) seat all some at same is =
       ap (λ (l : List SeatView). l ++ seats) (map-append seat_of ps (p ∷ [])) ∙ append_assoc (seats_in ps) (seat_of p ∷ []) seats
       ∙ ap (λ (x : SeatView). seats_in ps ++ x ∷ seats) (same ∙ at) ∙ is
 
-  pub no_seats : (ps : List (CachePadded (Runner C A))) (seats all : List SeatView) → length seats ≡ 0 → seats_in ps ++ seats ≡ all → seats_in ps ≡ all
+  pub no_seats : (ps : List (CachePadded (Runner C A L))) (seats all : List SeatView) → length seats ≡ 0 → seats_in ps ++ seats ≡ all → seats_in ps ≡ all
   no_seats ps seats all none is = sym (append-nil (seats_in ps)) ∙ ap (λ (l : List SeatView). seats_in ps ++ l) (sym (nil_from_length seats none)) ∙ is

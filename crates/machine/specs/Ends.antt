@@ -11,6 +11,7 @@ use Rattle.schedule.specs.Runs.{Began}
 use Rattle.schedule.specs.Told.{IsReportOf}
 use Rattle.schedule.specs.Unlisted.{with_events}
 use Rattle.rounds.specs.Turns.{HaltsLane, coming}
+use Rattle.rounds.specs.Counted.{IsFirst, NoneHalts}
 use Rattle.machine.specs.declared.runner.Left.{Left}
 use Rattle.machine.specs.Runners.{HasNoReason}
 
@@ -23,16 +24,6 @@ reason_of Left.Stopped = None
 
 abbrev pub reasons_of : List Left → List (Option Halt)
 reasons_of lefts = map reason_of lefts
-
--- this is the reason of the element of least number that has one
-pub record IsLeast (reasons : List (Option Halt)) (halt : Halt) : Type 0 where
-  pub element : ℕ
-  pub there : slice_get reasons element ≡ Some (Some halt)
-  pub none_below : (e : ℕ) → e < element → slice_get reasons e ≡ Some None
-
--- no element has one
-abbrev pub NoneHalts : List (Option Halt) → Type 0
-NoneHalts reasons = (e : ℕ) → e < length reasons → slice_get reasons e ≡ Some None
 
 -- The reason is true of what the element held when it left. An element without one had no token left, or has made as many events as a
 -- turn has: so one that has tokens, and has made fewer, has a reason.
@@ -54,7 +45,7 @@ pub record EndsFreely (g : Setting) (inputs : List ℤ) (may_stop : Bool) (r : R
   pub own : (e : ℕ) (h : Held) (reason : Option Halt) → slice_get lanes e ≡ Some h → slice_get reasons e ≡ Some reason → IsOwn g may_stop h reason
   -- why the run ends
   pub halt : Halt
-  pub least : IsLeast reasons halt ⊎ (NoneHalts reasons × (tokens_in (coming g lanes on_way).lanes ≡ []) × (halt ≡ Halt.NoToken))
+  pub least : IsFirst reasons halt ⊎ (NoneHalts reasons × (tokens_in (coming g lanes on_way).lanes ≡ []) × (halt ≡ Halt.NoToken))
   -- and the report has that end, and tells what the elements held
   pub told : IsReportOf (record { state = record { setting = g; lanes = lanes }; events = r.events }) halt r
 

@@ -9,54 +9,48 @@ use Rattle.schedule.specs.Setting.{Setting}
 use Rattle.mesh.specs.Seats.{MeshId, SeatView}
 use Rattle.semantics.specs.Machine.{Events}
 use Rattle.law_free_runs.specs.Blocks.{Block}
-use Rattle.ordering.specs.declared.log.Log.{Log}
+use Rattle.ordering.specs.declared.log.BlockLog.{BlockLog}
 use Rattle.ordering.specs.Noted.{noted_in, nothing}
 use Rattle.ordering.specs.Orders.{IsHistory, IsOrdered}
 use Rattle.machine.specs.declared.belongings.Belongings.{Belongings}
 use Rattle.machine.specs.declared.runner.Left.{Left}
 use Rattle.machine.specs.declared.runner.Runner.{Runner}
 use Rattle.machine.specs.Runners.{IsClear, Ended}
-use Rattle.machine.specs.Ends.{reasons_of, IsLeast, NoneHalts}
+use Rattle.rounds.specs.Counted.{IsFirst, NoneHalts}
+use Rattle.machine.specs.Ends.{reasons_of}
 
-abbrev pub lane_in : {C A : Type 0} → CachePadded (Runner C A) → Held
+abbrev pub lane_in : {C A L : Type 0} → CachePadded (Runner C A L) → Held
 lane_in p = held_of (padded_value p).lane
 
-abbrev pub seat_of : {C A : Type 0} → CachePadded (Runner C A) → SeatView
+abbrev pub seat_of : {C A L : Type 0} → CachePadded (Runner C A L) → SeatView
 seat_of p = (padded_value p).seat
 
-abbrev pub left_of : {C A : Type 0} → CachePadded (Runner C A) → Left
+abbrev pub left_of : {C A L : Type 0} → CachePadded (Runner C A L) → Left
 left_of p = (padded_value p).left
 
-abbrev pub notes_of : {C A : Type 0} → CachePadded (Runner C A) → Log A
+abbrev pub notes_of : {C A L : Type 0} → CachePadded (Runner C A L) → BlockLog A
 notes_of p = (padded_value p).notes
 
-abbrev pub listed_of : {C A : Type 0} → CachePadded (Runner C A) → Bool
-listed_of p = (padded_value p).listed
-
-abbrev pub lanes_in : {C A : Type 0} → List (CachePadded (Runner C A)) → List Held
+abbrev pub lanes_in : {C A L : Type 0} → List (CachePadded (Runner C A L)) → List Held
 lanes_in ps = map lane_in ps
 
-abbrev pub lane_fixed : {C A : Type 0} → CachePadded (Runner C A) → Fixed
+abbrev pub lane_fixed : {C A L : Type 0} → CachePadded (Runner C A L) → Fixed
 lane_fixed p = fixed_of (padded_value p).lane
 
-abbrev pub lanes_fixed : {C A : Type 0} → List (CachePadded (Runner C A)) → List Fixed
+abbrev pub lanes_fixed : {C A L : Type 0} → List (CachePadded (Runner C A L)) → List Fixed
 lanes_fixed ps = map lane_fixed ps
 
-abbrev pub seats_in : {C A : Type 0} → List (CachePadded (Runner C A)) → List SeatView
+abbrev pub seats_in : {C A L : Type 0} → List (CachePadded (Runner C A L)) → List SeatView
 seats_in ps = map seat_of ps
 
-abbrev pub lefts_in : {C A : Type 0} → List (CachePadded (Runner C A)) → List Left
+abbrev pub lefts_in : {C A L : Type 0} → List (CachePadded (Runner C A L)) → List Left
 lefts_in ps = map left_of ps
 
-abbrev pub logs_in : {C A : Type 0} → List (CachePadded (Runner C A)) → List (Log A)
+abbrev pub logs_in : {C A L : Type 0} → List (CachePadded (Runner C A L)) → List (BlockLog A)
 logs_in ps = map notes_of ps
 
--- each notes its blocks, or none does
-abbrev pub AreListed : {C A : Type 0} → Bool → List (CachePadded (Runner C A)) → Type 0
-AreListed listed ps = All (λ p. listed_of p ≡ listed) ps
-
 -- Of each history that has these logs the list has the events behind those that it had, in some legal order of the same blocks.
-abbrev pub Lists : {A : Type 0} → List (Log A) → List Token → Events → Events → Type 0
+abbrev pub Lists : {A : Type 0} → List (BlockLog A) → List Token → Events → Events → Type 0
 Lists logs opening old new =
     (log : List Block) (start last : List Token) → IsHistory logs log start last → IsPermutation opening start → (made : Events) × IsOrdered (length logs) log start last made × (new ≡ old ++ made)
 
@@ -65,27 +59,27 @@ abbrev pub AreEmpty : {A : Type 0} → ℕ → List (Vec Token A) → Type 0
 AreEmpty n kept = (length kept ≡ n) × All (λ v. v.items ≡ []) kept
 
 -- lists with nothing
-pub record AreBlank {A : Type 0} (n : ℕ) (l : Belongings A) : Type 0 where
+pub record AreBlank {A L : Type 0} (n : ℕ) (l : Belongings A L) : Type 0 where
   pub hand : l.hand.items ≡ []
   pub sent : l.sent.items ≡ []
   pub kept : AreEmpty n l.kept.items
   pub notes : noted_in l.notes ≡ nothing
-  pub log : l.log.items ≡ []
+  pub log : l.log.events.items ≡ []
 
 -- it holds no token beside its queue, and has made none
-pub record IsNew {C A : Type 0} (n : ℕ) (r : Runner C A) : Type 0 where
+pub record IsNew {C A L : Type 0} (n : ℕ) (r : Runner C A L) : Type 0 where
   pub clear : IsClear r
   pub kept : AreEmpty n r.kept.items
   pub created : r.created ≡ 0
   pub notes : noted_in r.notes ≡ nothing
-  pub log : r.log.items ≡ []
+  pub log : r.log.events.items ≡ []
 
 -- no element is lost; of those that halted the one of least number has this reason, or none halted and one saw that no token is live
 abbrev pub Tells : List Left → Halt → Type 0
 Tells lefts halt =
     ((i : ℕ) → slice_get lefts i ≡ Some Left.Lost → ⊥)
-    × (IsLeast (reasons_of lefts) halt ⊎ (((e : ℕ) × (slice_get lefts e ≡ Some Left.Rested)) × NoneHalts (reasons_of lefts) × (halt ≡ Halt.NoToken)))
+    × (IsFirst (reasons_of lefts) halt ⊎ (((e : ℕ) × (slice_get lefts e ≡ Some Left.Rested)) × NoneHalts (reasons_of lefts) × (halt ≡ Halt.NoToken)))
 
 -- all have run
-abbrev pub AllEnded : {C A : Type 0} → Setting → MeshId → Bool → List (CachePadded (Runner C A)) → List (CachePadded (Runner C A)) → Type 0
-AllEnded g mesh may_stop olds news = (i : ℕ) (d : _) → i < length olds → Ended g mesh may_stop (padded_value (slice_index_or olds i d)) (padded_value (slice_index_or news i d))
+abbrev pub AllEnded : {C A L : Type 0} → Bool → Setting → MeshId → Bool → List (CachePadded (Runner C A L)) → List (CachePadded (Runner C A L)) → Type 0
+AllEnded listed g mesh may_stop olds news = (i : ℕ) (d : _) → i < length olds → Ended listed g mesh may_stop (padded_value (slice_index_or olds i d)) (padded_value (slice_index_or news i d))

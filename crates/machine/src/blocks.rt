@@ -2,7 +2,7 @@
 
 ghost use Rattle.std.specs.Prelude.{◌≡◌, ◌<◌, ◌≤◌, ◌+◌, ◌^◌, ◌++◌, ◌-◌, [], drop, length, None, false, OnOk, IfOk};
 ghost use Rattle.element.specs.Held.{Held, held_of};
-ghost use Rattle.schedule.specs.Apart.{setting_in};
+ghost use Rattle.schedule.specs.State.{setting_in};
 ghost use Rattle.schedule.specs.Setting.{IsGoodSetting};
 ghost use Rattle.mesh.specs.Deeds.{created};
 ghost use Rattle.mesh.specs.Seats.{AllTo, Has, Commits};
@@ -13,11 +13,12 @@ ghost use Rattle.machine.specs.Runners.{IsRunning, Runs, Keeps, IsClear, StaysAt
 use crate::runner::{Lost, Runner};
 use element::instructions::Instructions;
 use mesh::{Ask, Mesh};
-use ordering::log::{Counts, Log};
+use ordering::log::{BlockLog, Counts};
 use rounds::{Gate, take_turn};
 use schedule::halt::Halt;
+use schedule::log::Log;
 use schedule::main_code::MainCode;
-use schedule::setup::Setup;
+use schedule::shape::Shape;
 use std::alloc::{AllocError, Allocator};
 use std::marker::Brand;
 use tags::token::Token;
@@ -27,8 +28,8 @@ use token_queue::queue::TokenQueue;
 const MOST: u64 = 1 << 40;
 
 // The commit of a block, by the numbers of tokens that it spent and made.
-fn commit_counts<J: Ask, C: Instructions, A: Allocator>(
-    runner: &mut Runner<'_, C, A>,
+fn commit_counts<J: Ask, C: Instructions, A: Allocator, L: Log>(
+    runner: &mut Runner<'_, C, A, L>,
     mesh: &Mesh<A>,
     spent: u64,
     made: u64,
@@ -46,7 +47,7 @@ fn commit_counts<J: Ask, C: Instructions, A: Allocator>(
 }
 
 // Notes the tokens that events took.
-fn note_taken<A: Allocator>(notes: &mut Log<A>, log: &[(u32, Token)]) -> Result<(), AllocError>
+fn note_taken<A: Allocator>(notes: &mut BlockLog<A>, log: &[(u32, Token)]) -> Result<(), AllocError>
     ensures { OnOk result (noted_in notes.new ≡ record { taken = (noted_in notes.old).taken ++ tokens_of log.now; made = (noted_in notes.old).made; blocks = (noted_in notes.old).blocks }) }
 {
     for entry in log {
@@ -58,7 +59,7 @@ fn note_taken<A: Allocator>(notes: &mut Log<A>, log: &[(u32, Token)]) -> Result<
 
 // Notes that these tokens of the queue, from a place on, were made.
 fn note_queue<A: Allocator>(
-    notes: &mut Log<A>,
+    notes: &mut BlockLog<A>,
     queue: &TokenQueue<A>,
     from: usize,
 ) -> Result<(), AllocError>
@@ -73,7 +74,7 @@ fn note_queue<A: Allocator>(
 }
 
 // Notes that these tokens were made.
-fn note_sent<A: Allocator>(notes: &mut Log<A>, sent: &[Token]) -> Result<(), AllocError>
+fn note_sent<A: Allocator>(notes: &mut BlockLog<A>, sent: &[Token]) -> Result<(), AllocError>
     ensures { OnOk result (noted_in notes.new ≡ record { taken = (noted_in notes.old).taken; made = (noted_in notes.old).made ++ sent.now; blocks = (noted_in notes.old).blocks }) }
 {
     for token in sent {
@@ -84,7 +85,7 @@ fn note_sent<A: Allocator>(notes: &mut Log<A>, sent: &[Token]) -> Result<(), All
 }
 
 // Notes the counts of a block.
-fn note_counts<A: Allocator>(notes: &mut Log<A>, counts: Counts) -> Result<(), AllocError>
+fn note_counts<A: Allocator>(notes: &mut BlockLog<A>, counts: Counts) -> Result<(), AllocError>
     ensures { OnOk result (noted_in notes.new ≡ with_block (noted_in notes.old) counts) }
 {
     notes.reserve(0, 0, 1)?;
@@ -93,48 +94,48 @@ fn note_counts<A: Allocator>(notes: &mut Log<A>, counts: Counts) -> Result<(), A
 }
 
 // Notes the block that stands in the log of the turn, where events are listed.
-fn note_block<C: Instructions, A: Allocator>(
-    runner: &mut Runner<'_, C, A>,
+fn note_block<C: Instructions, A: Allocator, L: Log>(
+    runner: &mut Runner<'_, C, A, L>,
     spent: u64,
     made: u64,
 ) -> Result<(), AllocError>
     requires { (length runner.old.sent.items ≤ made) × (made ≤ length runner.old.lane.held.queue + length runner.old.sent.items) }
-    ensures notes { OnOk result (NotesBlock spent made runner.old runner.new) }
+    ensures notes { OnOk result (NotesBlock L.LISTS spent made runner.old runner.new) }
     ensures others { runner.new ≡ record runner.old { log = runner.new.log; notes = runner.new.notes } }
 {
-    if !runner.listed {
+    if !L::LISTS {
         return Ok(());
     }
     let counts = Counts {
-        events: runner.log.len(),
+        events: runner.log.events.len(),
         spent: spent as usize,
         made: made as usize,
     };
     let from = runner.lane.queue().len() - (counts.made - runner.sent.len());
-    note_taken(&mut runner.notes, &runner.log)?;
+    note_taken(&mut runner.notes, &runner.log.events)?;
     note_queue(&mut runner.notes, runner.lane.queue(), from)?;
     note_sent(&mut runner.notes, &runner.sent)?;
     note_counts(&mut runner.notes, counts)?;
-    runner.log.clear();
+    runner.log.events.clear();
     Ok(())
 }
 
 // Commits a block of `events` events, before which the queue had `before` tokens. The oldest of these were taken, and what
 // the block left stands last in the queue, or was sent. It needs no memory, so nothing stands between events and their commit.
-fn commit<C: MainCode, A: Allocator>(
-    runner: &mut Runner<'_, C, A>,
+fn commit<C: MainCode, A: Allocator, L: Log>(
+    runner: &mut Runner<'_, C, A, L>,
     mesh: &Mesh<A>,
-    setup: &Setup<'_, C, A>,
+    shape: &Shape<'_, C>,
     before: u64,
     events: u64,
 ) -> Result<(), Lost>
-    requires made { (start : Held) × (old : Held) × HasMade (setting_in C.program C.width setup.now) mesh.now start old before events runner.old }
+    requires made { (start : Held) × (old : Held) × HasMade L.LISTS (setting_in C.program C.width shape.now) mesh.now start old before events runner.old }
     ensures stays { StaysAt runner.old runner.new }
-    ensures keeps { OnOk result ((start : Held) (old : Held) → HasMade (setting_in C.program C.width setup.now) mesh.now start old before events runner.old → IsRunning (setting_in C.program C.width setup.now) mesh.now start runner.new) }
+    ensures keeps { OnOk result ((start : Held) (old : Held) → HasMade L.LISTS (setting_in C.program C.width shape.now) mesh.now start old before events runner.old → IsRunning L.LISTS (setting_in C.program C.width shape.now) mesh.now start runner.new) }
     ensures lane { held_of runner.new.lane ≡ held_of runner.old.lane }
     ensures others { (runner.new.hand.items ≡ runner.old.hand.items) × (runner.new.dealt ≡ runner.old.dealt) }
 {
-    let _ = setup;
+    let _ = shape;
     if events == 0 {
         return Ok(());
     }
@@ -145,7 +146,7 @@ fn commit<C: MainCode, A: Allocator>(
     if sent > room || left > room - sent {
         return Err(Lost);
     }
-    commit_counts::<Brand, C, A>(runner, mesh, spent, left + sent);
+    commit_counts::<Brand, C, A, L>(runner, mesh, spent, left + sent);
     runner.created += left + sent;
     match note_block(runner, spent, left + sent) {
         Ok(()) => Ok(()),
@@ -154,49 +155,48 @@ fn commit<C: MainCode, A: Allocator>(
 }
 
 // Makes up to `turn` events, oldest token first, and commits them.
-fn make_events<C: MainCode, A: Allocator + Clone>(
-    runner: &mut Runner<'_, C, A>,
+fn make_events<C: MainCode, A: Allocator + Clone, L: Log>(
+    runner: &mut Runner<'_, C, A, L>,
     mesh: &Mesh<A>,
-    setup: &Setup<'_, C, A>,
+    shape: &Shape<'_, C>,
 ) -> Result<Option<Halt>, Lost>
-    requires good { IsGoodSetting (setting_in C.program C.width setup.now) }
-    requires runs { Runs (setting_in C.program C.width setup.now) mesh.now runner.old }
+    requires good { IsGoodSetting (setting_in C.program C.width shape.now) }
+    requires runs { Runs L.LISTS (setting_in C.program C.width shape.now) mesh.now runner.old }
     requires clear { IsClear runner.old }
     ensures stays { StaysAt runner.old runner.new }
-    ensures keeps { OnOk result (Keeps (setting_in C.program C.width setup.now) mesh.now runner.old runner.new) }
-    ensures halts { IfOk result (λ halt. HaltsLane (C.program setup.now.code.now) setup.now.steps false (held_of runner.new.lane) halt) }
-    ensures whole { IfOk result (λ halt. halt ≡ None → HasNoReason (setting_in C.program C.width setup.now) (held_of runner.new.lane)) }
+    ensures keeps { OnOk result (Keeps L.LISTS (setting_in C.program C.width shape.now) mesh.now runner.old runner.new) }
+    ensures halts { IfOk result (λ halt. HaltsLane (C.program shape.now.code.now) shape.now.steps false (held_of runner.new.lane) halt) }
+    ensures whole { IfOk result (λ halt. halt ≡ None → HasNoReason (setting_in C.program C.width shape.now) (held_of runner.new.lane)) }
     ensures undealt { (runner.new.hand.items ≡ []) × (runner.new.dealt ≡ 0) }
 {
     let before = runner.lane.queue().len() as u64;
     let first = runner.lane.made();
-    let listed = runner.listed;
     let Runner {
         lane,
         sent,
         log,
         ..
     } = runner;
-    let halt = take_turn(lane, sent, log, setup.turn, listed);
+    let halt = take_turn(lane, sent, log, shape.turn);
     let events = runner.lane.made() - first;
-    commit(runner, mesh, setup, before, events)?;
+    commit(runner, mesh, shape, before, events)?;
     Ok(halt)
 }
 
 /// Makes a block of events, if the element has a token and the gate lets it.
-pub fn make_block<C: MainCode, A: Allocator + Clone, G: Gate>(
-    runner: &mut Runner<'_, C, A>,
+pub fn make_block<C: MainCode, A: Allocator + Clone, L: Log, G: Gate>(
+    runner: &mut Runner<'_, C, A, L>,
     mesh: &Mesh<A>,
-    setup: &Setup<'_, C, A>,
+    shape: &Shape<'_, C>,
     gate: &G,
 ) -> Result<Option<Halt>, Lost>
-    requires good { IsGoodSetting (setting_in C.program C.width setup.now) }
-    requires runs { Runs (setting_in C.program C.width setup.now) mesh.now runner.old }
+    requires good { IsGoodSetting (setting_in C.program C.width shape.now) }
+    requires runs { Runs L.LISTS (setting_in C.program C.width shape.now) mesh.now runner.old }
     requires clear { IsClear runner.old }
     ensures stays { StaysAt runner.old runner.new }
-    ensures keeps { OnOk result (Keeps (setting_in C.program C.width setup.now) mesh.now runner.old runner.new) }
-    ensures halts { IfOk result (λ halt. HaltsLane (C.program setup.now.code.now) setup.now.steps G.may_stop (held_of runner.new.lane) halt) }
-    ensures whole { IfOk result (λ halt. halt ≡ None → HasNoReason (setting_in C.program C.width setup.now) (held_of runner.new.lane)) }
+    ensures keeps { OnOk result (Keeps L.LISTS (setting_in C.program C.width shape.now) mesh.now runner.old runner.new) }
+    ensures halts { IfOk result (λ halt. HaltsLane (C.program shape.now.code.now) shape.now.steps G.may_stop (held_of runner.new.lane) halt) }
+    ensures whole { IfOk result (λ halt. halt ≡ None → HasNoReason (setting_in C.program C.width shape.now) (held_of runner.new.lane)) }
     ensures undealt { (runner.new.hand.items ≡ []) × (runner.new.dealt ≡ 0) }
 {
     if runner.lane.queue().len() == 0 {
@@ -206,5 +206,5 @@ pub fn make_block<C: MainCode, A: Allocator + Clone, G: Gate>(
         return Ok(Some(Halt::Stop));
     }
     runner.blocks = runner.blocks.wrapping_add(1);
-    make_events(runner, mesh, setup)
+    make_events(runner, mesh, shape)
 }

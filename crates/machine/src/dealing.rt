@@ -4,15 +4,16 @@ ghost use Rattle.std.specs.Prelude.{◌≡◌, ◌<◌, ◌++◌, ◌∷◌, [],
 ghost use Rattle.std.specs.List.{flat_map};
 ghost use Rattle.tags.specs.Addresses.{element_of};
 ghost use Rattle.element.specs.Held.{held_of};
-ghost use Rattle.schedule.specs.Apart.{setting_in};
+ghost use Rattle.schedule.specs.State.{setting_in};
 ghost use Rattle.schedule.specs.Setting.{IsGoodSetting};
 ghost use Rattle.machine.specs.Runners.{Runs, Keeps, IsClear, StaysAt, KeepsTokens};
 
 use crate::runner::Runner;
 use element::dealt::element_for;
 use mesh::Mesh;
+use schedule::log::Log;
 use schedule::main_code::MainCode;
-use schedule::setup::Setup;
+use schedule::shape::Shape;
 use std::alloc::{AllocError, Allocator};
 use std::mem;
 use tags::token::Token;
@@ -34,23 +35,23 @@ fn keep<A: Allocator>(
 }
 
 /// Puts what the last block made for other elements into the bundles. After an error the others are not dealt.
-pub fn deal<C: MainCode, A: Allocator>(
-    runner: &mut Runner<'_, C, A>,
+pub fn deal<C: MainCode, A: Allocator, L: Log>(
+    runner: &mut Runner<'_, C, A, L>,
     mesh: &Mesh<A>,
-    setup: &Setup<'_, C, A>,
+    shape: &Shape<'_, C>,
 ) -> Result<(), AllocError>
-    requires good { IsGoodSetting (setting_in C.program C.width setup.now) }
-    requires runs { Runs (setting_in C.program C.width setup.now) mesh.now runner.old }
+    requires good { IsGoodSetting (setting_in C.program C.width shape.now) }
+    requires runs { Runs L.LISTS (setting_in C.program C.width shape.now) mesh.now runner.old }
     requires undealt { runner.old.dealt ≡ 0 }
     ensures stays { StaysAt runner.old runner.new }
-    ensures keeps { Keeps (setting_in C.program C.width setup.now) mesh.now runner.old runner.new }
+    ensures keeps { Keeps L.LISTS (setting_in C.program C.width shape.now) mesh.now runner.old runner.new }
     ensures dealt { OnOk result ((runner.new.sent.items ≡ []) × (runner.new.dealt ≡ 0) × (runner.new.hand.items ≡ runner.old.hand.items)) }
     ensures lane { held_of runner.new.lane ≡ held_of runner.old.lane }
 {
     let _ = mesh;
     for at in 0..runner.sent.len() {
         let token = runner.sent[at];
-        keep(&mut runner.kept, setup.elements, token)?;
+        keep(&mut runner.kept, shape.elements, token)?;
         runner.dealt = at + 1;
     }
     runner.sent.clear();
@@ -59,24 +60,24 @@ pub fn deal<C: MainCode, A: Allocator>(
 }
 
 // Posts the bundle for an element. Where the box is full the bundle is kept.
-fn post_bundle<C: MainCode, A: Allocator>(
-    runner: &mut Runner<'_, C, A>,
+fn post_bundle<C: MainCode, A: Allocator, L: Log>(
+    runner: &mut Runner<'_, C, A, L>,
     mesh: &Mesh<A>,
-    setup: &Setup<'_, C, A>,
+    shape: &Shape<'_, C>,
     empty: Vec<Token, A>,
     to: u32,
 )
-    requires good { IsGoodSetting (setting_in C.program C.width setup.now) }
-    requires runs { Runs (setting_in C.program C.width setup.now) mesh.now runner.old }
+    requires good { IsGoodSetting (setting_in C.program C.width shape.now) }
+    requires runs { Runs L.LISTS (setting_in C.program C.width shape.now) mesh.now runner.old }
     requires clear { IsClear runner.old }
     requires empty { empty.items ≡ [] }
-    requires to { to < setup.now.elements }
+    requires to { to < shape.now.elements }
     ensures stays { StaysAt runner.old runner.new }
-    ensures keeps { Keeps (setting_in C.program C.width setup.now) mesh.now runner.old runner.new }
+    ensures keeps { Keeps L.LISTS (setting_in C.program C.width shape.now) mesh.now runner.old runner.new }
     ensures clear { IsClear runner.new }
     ensures lane { held_of runner.new.lane ≡ held_of runner.old.lane }
 {
-    let _ = setup;
+    let _ = shape;
     let at = to as usize;
     let bundle = mem::replace(&mut runner.kept[at], empty);
     if let Err(back) = mesh.post(&mut runner.seat, to, bundle) {
@@ -101,45 +102,45 @@ fn empty_bundle<A: Allocator + Clone>(
 }
 
 // Offers the bundle for an element, if it has a token.
-fn offer_to<C: MainCode, A: Allocator + Clone>(
-    runner: &mut Runner<'_, C, A>,
+fn offer_to<C: MainCode, A: Allocator + Clone, L: Log>(
+    runner: &mut Runner<'_, C, A, L>,
     mesh: &Mesh<A>,
-    setup: &Setup<'_, C, A>,
+    shape: &Shape<'_, C>,
     to: u32,
 ) -> Result<(), AllocError>
-    requires good { IsGoodSetting (setting_in C.program C.width setup.now) }
-    requires runs { Runs (setting_in C.program C.width setup.now) mesh.now runner.old }
+    requires good { IsGoodSetting (setting_in C.program C.width shape.now) }
+    requires runs { Runs L.LISTS (setting_in C.program C.width shape.now) mesh.now runner.old }
     requires clear { IsClear runner.old }
-    requires to { to < setup.now.elements }
+    requires to { to < shape.now.elements }
     ensures stays { StaysAt runner.old runner.new }
-    ensures keeps { Keeps (setting_in C.program C.width setup.now) mesh.now runner.old runner.new }
+    ensures keeps { Keeps L.LISTS (setting_in C.program C.width shape.now) mesh.now runner.old runner.new }
     ensures clear { IsClear runner.new }
     ensures lane { held_of runner.new.lane ≡ held_of runner.old.lane }
 {
     if runner.kept[to as usize].is_empty() {
         return Ok(());
     }
-    let empty = empty_bundle(&mut runner.spare, &setup.alloc)?;
-    post_bundle(runner, mesh, setup, empty, to);
+    let empty = empty_bundle(&mut runner.spare, &runner.alloc)?;
+    post_bundle(runner, mesh, shape, empty, to);
     Ok(())
 }
 
 /// Offers all bundles that have a token.
-pub fn offer_all<C: MainCode, A: Allocator + Clone>(
-    runner: &mut Runner<'_, C, A>,
+pub fn offer_all<C: MainCode, A: Allocator + Clone, L: Log>(
+    runner: &mut Runner<'_, C, A, L>,
     mesh: &Mesh<A>,
-    setup: &Setup<'_, C, A>,
+    shape: &Shape<'_, C>,
 ) -> Result<(), AllocError>
-    requires good { IsGoodSetting (setting_in C.program C.width setup.now) }
-    requires runs { Runs (setting_in C.program C.width setup.now) mesh.now runner.old }
+    requires good { IsGoodSetting (setting_in C.program C.width shape.now) }
+    requires runs { Runs L.LISTS (setting_in C.program C.width shape.now) mesh.now runner.old }
     requires clear { IsClear runner.old }
     ensures stays { StaysAt runner.old runner.new }
-    ensures keeps { Keeps (setting_in C.program C.width setup.now) mesh.now runner.old runner.new }
+    ensures keeps { Keeps L.LISTS (setting_in C.program C.width shape.now) mesh.now runner.old runner.new }
     ensures clear { IsClear runner.new }
     ensures lane { held_of runner.new.lane ≡ held_of runner.old.lane }
 {
-    for to in 0..setup.elements {
-        offer_to(runner, mesh, setup, to)?;
+    for to in 0..shape.elements {
+        offer_to(runner, mesh, shape, to)?;
     }
     Ok(())
 }

@@ -7,17 +7,17 @@ ghost use Rattle.semantics.specs.declared.report.End.{End};
 ghost use Rattle.semantics.specs.Report.{Shows};
 ghost use Rattle.element.specs.Held.{held_of, fixed_of};
 ghost use Rattle.schedule.specs.Setting.{size, IsGoodSetting};
-ghost use Rattle.schedule.specs.State.{IsSoundState, RunsAs, tokens_in};
+ghost use Rattle.schedule.specs.State.{IsSoundState, RunsAs, setting_in, tokens_in};
 ghost use Rattle.schedule.specs.Runs.{Began};
-ghost use Rattle.schedule.specs.Apart.{setting_in};
 ghost use Rattle.schedule.specs.Unlisted.{ShowsQuietly, with_events};
 ghost use Rattle.mesh.specs.Seats.{AreFresh};
 ghost use Rattle.rounds.specs.Turns.{coming};
+ghost use Rattle.rounds.specs.Counted.{IsFirst, NoneHalts};
 ghost use Rattle.rounds.specs.Rounds.{ShowsOn};
 ghost use Rattle.machine.specs.declared.runner.Left.{Left};
 ghost use Rattle.machine.specs.Runners.{Runs, IsClear, Ended};
-ghost use Rattle.machine.specs.Ends.{reasons_of, IsLeast, NoneHalts, EndsFreely, EndsOn};
-ghost use Rattle.machine.specs.Starts.{AreListed, IsNew, Lists, lanes_in, lanes_fixed, seats_in, lefts_in, Tells, AllEnded};
+ghost use Rattle.machine.specs.Ends.{reasons_of, EndsFreely, EndsOn};
+ghost use Rattle.machine.specs.Starts.{IsNew, Lists, lanes_in, lanes_fixed, seats_in, lefts_in, Tells, AllEnded};
 
 use crate::runner::{Left, Runner};
 use crate::starting::{parts_in, runners_of, tokens_of};
@@ -26,14 +26,16 @@ use crossbeam_utils::CachePadded;
 use element::instructions::Instructions;
 use element::lane::Lane;
 use mesh::{Mesh, Seat};
-use ordering::log::Log;
+use ordering::log::BlockLog;
 use ordering::order;
 use rounds::Gate;
 use schedule::halt::Halt;
+use schedule::log::Log;
 use schedule::machine::Machine;
 use schedule::main_code::MainCode;
 use schedule::report::Report;
 use schedule::setup::Setup;
+use schedule::shape::Shape;
 use std::alloc::{AllocError, Allocator};
 use std::sync::Wait;
 use std::thread;
@@ -45,18 +47,19 @@ fn run_each<
     R: Threads + Wait + Sync,
     C: MainCode + Sync,
     A: Allocator + Clone + Send + Sync,
+    L: Log + Send,
     G: Gate + Sync,
 >(
     rt: &R,
-    runners: &mut [CachePadded<Runner<'_, C, A>>],
+    runners: &mut [CachePadded<Runner<'_, C, A, L>>],
     mesh: &Mesh<A>,
-    setup: &Setup<'_, C, A>,
+    shape: &Shape<'_, C>,
     gate: &G,
 )
     requires some { 0 < length runners.old }
-    requires good { IsGoodSetting (setting_in C.program C.width setup.now) }
-    requires ready { All (λ p. Runs (setting_in C.program C.width setup.now) mesh.now (padded_value p) × IsClear (padded_value p)) runners.old }
-    ensures each { AllEnded (setting_in C.program C.width setup.now) mesh.now G.may_stop runners.old runners.new }
+    requires good { IsGoodSetting (setting_in C.program C.width shape.now) }
+    requires ready { All (λ p. Runs L.LISTS (setting_in C.program C.width shape.now) mesh.now (padded_value p) × IsClear (padded_value p)) runners.old }
+    ensures each { AllEnded L.LISTS (setting_in C.program C.width shape.now) mesh.now G.may_stop runners.old runners.new }
     ensures count { length runners.new ≡ length runners.old }
 {
     let threads = runners.len();
@@ -64,12 +67,12 @@ fn run_each<
         rt,
         runners,
         threads,
-        &|_: usize, padded: &mut CachePadded<Runner<'_, C, A>>| -> ()
-            requires { IsGoodSetting (setting_in C.program C.width setup.now) × Runs (setting_in C.program C.width setup.now) mesh.now (padded_value padded.old) × IsClear (padded_value padded.old) }
-            ensures { Ended (setting_in C.program C.width setup.entry.now) mesh.entry.now G.may_stop (padded_value padded.old) (padded_value padded.new) }
+        &|_: usize, padded: &mut CachePadded<Runner<'_, C, A, L>>| -> ()
+            requires { IsGoodSetting (setting_in C.program C.width shape.now) × Runs L.LISTS (setting_in C.program C.width shape.now) mesh.now (padded_value padded.old) × IsClear (padded_value padded.old) }
+            ensures { Ended L.LISTS (setting_in C.program C.width shape.entry.now) mesh.entry.now G.may_stop (padded_value padded.old) (padded_value padded.new) }
         {
-            let runner: &mut Runner<'_, C, A> = padded;
-            turns::run(rt, runner, mesh, setup, gate);
+            let runner: &mut Runner<'_, C, A, L> = padded;
+            turns::run(rt, runner, mesh, shape, gate);
         },
     );
 }
@@ -79,29 +82,32 @@ fn run_all<
     R: Threads + Wait + Sync,
     C: MainCode + Sync,
     A: Allocator + Clone + Send + Sync,
+    L: Log + Send,
     G: Gate + Sync,
 >(
     rt: &R,
-    runners: &mut Vec<CachePadded<Runner<'_, C, A>>, A>,
+    runners: &mut Vec<CachePadded<Runner<'_, C, A, L>>, A>,
     mesh: &Mesh<A>,
-    setup: &Setup<'_, C, A>,
+    shape: &Shape<'_, C>,
     gate: &G,
 )
     requires some { 0 < length runners.old.items }
-    requires good { IsGoodSetting (setting_in C.program C.width setup.now) }
-    requires ready { All (λ p. Runs (setting_in C.program C.width setup.now) mesh.now (padded_value p) × IsClear (padded_value p)) runners.old.items }
-    ensures each { AllEnded (setting_in C.program C.width setup.now) mesh.now G.may_stop runners.old.items runners.new.items }
+    requires good { IsGoodSetting (setting_in C.program C.width shape.now) }
+    requires ready { All (λ p. Runs L.LISTS (setting_in C.program C.width shape.now) mesh.now (padded_value p) × IsClear (padded_value p)) runners.old.items }
+    ensures each { AllEnded L.LISTS (setting_in C.program C.width shape.now) mesh.now G.may_stop runners.old.items runners.new.items }
     ensures count { length runners.new.items ≡ length runners.old.items }
 {
-    run_each(rt, runners, mesh, setup, gate);
+    run_each(rt, runners, mesh, shape, gate);
 }
 
 // Whether an element is lost.
-fn is_lost<C: Instructions, A: Allocator>(runners: &[CachePadded<Runner<'_, C, A>>]) -> bool
+fn is_lost<C: Instructions, A: Allocator, L: Log>(
+    runners: &[CachePadded<Runner<'_, C, A, L>>],
+) -> bool
     ensures { result ≡ false → (i : ℕ) → slice_get (lefts_in runners.now) i ≡ Some Left.Lost → ⊥ }
 {
     for at in 0..runners.len() {
-        let runner: &Runner<'_, C, A> = &runners[at];
+        let runner: &Runner<'_, C, A, L> = &runners[at];
         if let Left::Lost = runner.left {
             return true;
         }
@@ -110,14 +116,14 @@ fn is_lost<C: Instructions, A: Allocator>(runners: &[CachePadded<Runner<'_, C, A
 }
 
 // The reason of the element of least number that halted for one of its own.
-fn first_halt<C: Instructions, A: Allocator>(
-    runners: &[CachePadded<Runner<'_, C, A>>],
+fn first_halt<C: Instructions, A: Allocator, L: Log>(
+    runners: &[CachePadded<Runner<'_, C, A, L>>],
 ) -> Option<Halt>
-    ensures least { IfSome result (IsLeast (reasons_of (lefts_in runners.now))) }
+    ensures least { IfSome result (IsFirst (reasons_of (lefts_in runners.now))) }
     ensures none { IfNone result (NoneHalts (reasons_of (lefts_in runners.now))) }
 {
     for at in 0..runners.len() {
-        let runner: &Runner<'_, C, A> = &runners[at];
+        let runner: &Runner<'_, C, A, L> = &runners[at];
         if let Left::Halted(halt) = runner.left {
             return Some(halt);
         }
@@ -126,11 +132,13 @@ fn first_halt<C: Instructions, A: Allocator>(
 }
 
 // Whether an element saw that no token is live.
-fn is_rested<C: Instructions, A: Allocator>(runners: &[CachePadded<Runner<'_, C, A>>]) -> bool
+fn is_rested<C: Instructions, A: Allocator, L: Log>(
+    runners: &[CachePadded<Runner<'_, C, A, L>>],
+) -> bool
     ensures { result ≡ true → (e : ℕ) × (slice_get (lefts_in runners.now) e ≡ Some Left.Rested) }
 {
     for at in 0..runners.len() {
-        let runner: &Runner<'_, C, A> = &runners[at];
+        let runner: &Runner<'_, C, A, L> = &runners[at];
         if let Left::Rested = runner.left {
             return true;
         }
@@ -139,7 +147,9 @@ fn is_rested<C: Instructions, A: Allocator>(runners: &[CachePadded<Runner<'_, C,
 }
 
 // Why the run halted, if that can be told.
-fn why<C: Instructions, A: Allocator>(runners: &[CachePadded<Runner<'_, C, A>>]) -> Option<Halt>
+fn why<C: Instructions, A: Allocator, L: Log>(
+    runners: &[CachePadded<Runner<'_, C, A, L>>],
+) -> Option<Halt>
     ensures { IfSome result (Tells (lefts_in runners.now)) }
 {
     if is_lost(runners) {
@@ -160,21 +170,20 @@ fn why<C: Instructions, A: Allocator>(runners: &[CachePadded<Runner<'_, C, A>>])
 // What a run is made of: the mesh and the runners, room for the lanes, the seats and the logs on the way back, and the tokens that
 // the lanes have.
 #[derive(Drop)]
-struct Ready<'m, C: Instructions, A: Allocator> {
+struct Ready<'m, C: Instructions, A: Allocator, L: Log> {
     mesh: Mesh<A>,
-    runners: Vec<CachePadded<Runner<'m, C, A>>, A>,
+    runners: Vec<CachePadded<Runner<'m, C, A, L>>, A>,
     lanes: Vec<Lane<'m, C, A>, A>,
     seats: Vec<Seat<A>, A>,
-    logs: Vec<Log<A>, A>,
+    logs: Vec<BlockLog<A>, A>,
     tokens: Vec<Token, A>,
 }
 
-fn make_ready<'m, C: Instructions, A: Allocator + Clone>(
+fn make_ready<'m, C: Instructions, A: Allocator + Clone, L: Log>(
     alloc: &A,
     lanes: Vec<Lane<'m, C, A>, A>,
     elements: u32,
-    listed: bool,
-) -> Result<Ready<'m, C, A>, AllocError>
+) -> Result<Ready<'m, C, A, L>, AllocError>
     requires elements { (0 < elements) × (elements ≤ 16) }
     requires count { length lanes.items ≡ elements }
     ensures mesh { IfOk result (λ r. (r.mesh.elements ≡ elements) × (r.mesh.start ≡ tokens_in (map held_of lanes.entry.items))) }
@@ -182,7 +191,6 @@ fn make_ready<'m, C: Instructions, A: Allocator + Clone>(
     ensures fixed { IfOk result (λ r. lanes_fixed r.runners.items ≡ map fixed_of lanes.entry.items) }
     ensures seats { IfOk result (λ r. AreFresh r.mesh (seats_in r.runners.items)) }
     ensures new { IfOk result (λ r. All (λ p. IsNew elements (padded_value p)) r.runners.items) }
-    ensures listed { IfOk result (λ r. AreListed listed r.runners.items) }
     ensures room { IfOk result (λ r. (r.lanes.items ≡ []) × (r.seats.items ≡ []) × (r.logs.items ≡ [])) }
     ensures tokens { IfOk result (λ r. r.tokens.items ≡ tokens_in (map held_of lanes.entry.items)) }
 {
@@ -196,7 +204,7 @@ fn make_ready<'m, C: Instructions, A: Allocator + Clone>(
     let Ok((mesh, seats)) = Mesh::new(alloc.clone()?, elements, &tokens) else {
         return Err(AllocError);
     };
-    let runners = runners_of(alloc, lanes, seats, elements, listed)?;
+    let runners = runners_of(alloc, lanes, seats, elements)?;
     Ok(Ready {
         mesh,
         runners,
@@ -208,22 +216,21 @@ fn make_ready<'m, C: Instructions, A: Allocator + Clone>(
 }
 
 // Lists the events of all blocks, where events are listed, behind those that are listed already.
-fn list_events<C: MainCode, A: Allocator + Clone>(
-    setup: &mut Setup<'_, C, A>,
-    logs: &[Log<A>],
+fn list_events<C: MainCode, A: Allocator + Clone, L: Log>(
+    setup: &mut Setup<'_, C, A, L>,
+    logs: &[BlockLog<A>],
     opening: &[Token],
-    listed: bool,
 ) -> Result<(), AllocError>
     requires few { length logs.now < 2 ^ 32 }
-    ensures setting { setting_in C.program C.width setup.new ≡ setting_in C.program C.width setup.old }
-    ensures unlisted { listed ≡ false → setup.new.events.items ≡ setup.old.events.items }
-    ensures listed { OnOk result (listed ≡ true → Lists logs.now opening.now setup.old.events.items setup.new.events.items) }
+    ensures setting { setting_in C.program C.width setup.new.shape ≡ setting_in C.program C.width setup.old.shape }
+    ensures unlisted { L.LISTS ≡ false → setup.new.log.events.items ≡ setup.old.log.events.items }
+    ensures listed { OnOk result (L.LISTS ≡ true → Lists logs.now opening.now setup.old.log.events.items setup.new.log.events.items) }
 {
-    if !listed {
+    if !L::LISTS {
         return Ok(());
     }
     let mut events = order(logs, opening, setup.alloc.clone()?)?;
-    setup.events.append(&mut events)?;
+    setup.log.events.append(&mut events)?;
     Ok(())
 }
 
@@ -231,21 +238,16 @@ fn run_apart<
     R: Threads + Wait + Sync,
     C: MainCode + Sync,
     A: Allocator + Clone + Send + Sync,
+    L: Log + Send,
     G: Gate + Sync,
->(
-    mut setup: Setup<'_, C, A>,
-    lanes: Vec<Lane<'_, C, A>, A>,
-    rt: &R,
-    gate: &G,
-    listed: bool,
-) -> Report<A>
-    requires sound { IsSoundState (coming (setting_in C.program C.width setup) (map held_of lanes.items) []) }
-    requires runs { All (RunsAs (setting_in C.program C.width setup)) (map fixed_of lanes.items) }
-    ensures unlisted { listed ≡ false → setup.entry.events.items ≡ [] → result.events ≡ [] }
-    ensures ends { (inputs : List ℤ) (events : Events) → Began inputs (coming (setting_in C.program C.width setup.entry) (map held_of lanes.entry.items) []) events → result.end ≢ End.Memory → EndsOn listed (setting_in C.program C.width setup.entry) inputs G.may_stop setup.entry.events.items events result }
-    ensures shows { (inputs : List ℤ) (events : Events) → Began inputs (coming (setting_in C.program C.width setup.entry) (map held_of lanes.entry.items) []) events → ShowsOn listed (C.program setup.entry.code.now) (size (setting_in C.program C.width setup.entry)) inputs setup.entry.steps G.may_stop setup.entry.events.items events result }
+>(mut setup: Setup<'_, C, A, L>, lanes: Vec<Lane<'_, C, A>, A>, rt: &R, gate: &G) -> Report<A>
+    requires sound { IsSoundState (coming (setting_in C.program C.width setup.shape) (map held_of lanes.items) []) }
+    requires runs { All (RunsAs (setting_in C.program C.width setup.shape)) (map fixed_of lanes.items) }
+    ensures unlisted { L.LISTS ≡ false → setup.entry.log.events.items ≡ [] → result.events ≡ [] }
+    ensures ends { (inputs : List ℤ) (events : Events) → Began inputs (coming (setting_in C.program C.width setup.entry.shape) (map held_of lanes.entry.items) []) events → result.end ≢ End.Memory → EndsOn L.LISTS (setting_in C.program C.width setup.entry.shape) inputs G.may_stop setup.entry.log.events.items events result }
+    ensures shows { (inputs : List ℤ) (events : Events) → Began inputs (coming (setting_in C.program C.width setup.entry.shape) (map held_of lanes.entry.items) []) events → ShowsOn L.LISTS (C.program setup.entry.shape.code.now) (size (setting_in C.program C.width setup.entry.shape)) inputs setup.entry.shape.steps G.may_stop setup.entry.log.events.items events result }
 {
-    let Ok(ready) = make_ready(&setup.alloc, lanes, setup.elements, listed) else {
+    let Ok(ready) = make_ready::<C, A, L>(&setup.alloc, lanes, setup.shape.elements) else {
         return setup.refused();
     };
     let Ready {
@@ -256,7 +258,7 @@ fn run_apart<
         mut logs,
         tokens,
     } = ready;
-    run_all(rt, &mut runners, &mesh, &setup, gate);
+    run_all(rt, &mut runners, &mesh, &setup.shape, gate);
     let Some(halt) = why(&runners) else {
         return setup.refused();
     };
@@ -264,9 +266,27 @@ fn run_apart<
         return setup.refused();
     };
     let _joined = mesh.join_seats(seats);
-    match list_events(&mut setup, &logs, &tokens, listed) {
+    match list_events(&mut setup, &logs, &tokens) {
         Ok(()) => setup.report(lanes, halt),
         Err(_) => setup.refused(),
+    }
+}
+
+// Lets all elements run freely, with what is told of the run.
+fn run_machine<
+    R: Threads + Wait + Sync,
+    C: MainCode + Sync,
+    A: Allocator + Clone + Send + Sync,
+    L: Log + Send,
+    G: Gate + Sync,
+>(machine: Machine<'_, C, A, L>, rt: &R, gate: &G) -> Report<A>
+    ensures unlisted { L.LISTS ≡ false → machine.entry.events ≡ [] → result.events ≡ [] }
+    ensures ends { (inputs : List ℤ) (events : Events) → Began inputs machine.entry.state events → result.end ≢ End.Memory → EndsOn L.LISTS machine.entry.state.setting inputs G.may_stop machine.entry.events events result }
+    ensures shows { (inputs : List ℤ) (events : Events) → Began inputs machine.entry.state events → ShowsOn L.LISTS machine.entry.state.setting.program (size machine.entry.state.setting) inputs machine.entry.state.setting.steps G.may_stop machine.entry.events events result }
+{
+    match machine.into_lanes() {
+        Ok((setup, lanes)) => run_apart(setup, lanes, rt, gate),
+        Err(machine) => machine.report(Halt::Memory),
     }
 }
 
@@ -283,10 +303,7 @@ pub fn run<
     ensures shows { (inputs : List ℤ) → Began inputs machine.entry.state machine.entry.events → Shows machine.entry.state.setting.program (size machine.entry.state.setting) inputs machine.entry.state.setting.steps false G.may_stop result }
     ensures ends { (inputs : List ℤ) → Began inputs machine.entry.state machine.entry.events → result.end ≢ End.Memory → EndsFreely machine.entry.state.setting inputs G.may_stop result }
 {
-    match machine.into_lanes() {
-        Ok((setup, lanes)) => run_apart(setup, lanes, rt, gate, true),
-        Err(machine) => machine.report(Halt::Memory),
-    }
+    run_machine(machine, rt, gate)
 }
 
 /// As `run`, but the report lists no events: there is a run that it shows. A long run takes no more memory than a short one.
@@ -299,11 +316,5 @@ pub fn run_quietly<
     ensures shows { (inputs : List ℤ) → Began inputs machine.entry.state machine.entry.events → ShowsQuietly machine.entry.state.setting.program (size machine.entry.state.setting) inputs machine.entry.state.setting.steps false G.may_stop result }
     ensures ends { (inputs : List ℤ) → Began inputs machine.entry.state machine.entry.events → result.end ≢ End.Memory → (events : Events) × EndsFreely machine.entry.state.setting inputs G.may_stop (with_events result events) }
 {
-    match machine.into_lanes() {
-        Ok((mut setup, lanes)) => {
-            setup.events.clear();
-            run_apart(setup, lanes, rt, gate, false)
-        }
-        Err(machine) => machine.without_events().report(Halt::Memory),
-    }
+    run_machine(machine.without_events(), rt, gate)
 }

@@ -3,8 +3,9 @@
 use element::instructions::Instructions;
 use element::lane::Lane;
 use mesh::Seat;
-use ordering::log::Log;
+use ordering::log::BlockLog;
 use schedule::halt::Halt;
+use schedule::log::{EventLog, Log};
 use std::alloc::Allocator;
 use tags::token::Token;
 
@@ -28,7 +29,7 @@ pub enum Left {
 
 /// A lane with its seat, and the tokens that it holds beside its queue.
 #[derive(Drop)]
-pub struct Runner<'m, C: Instructions, A: Allocator> {
+pub struct Runner<'m, C: Instructions, A: Allocator, L: Log> {
     pub lane: Lane<'m, C, A>,
     pub seat: Seat<A>,
     /// What its last block made for other elements.
@@ -41,15 +42,14 @@ pub struct Runner<'m, C: Instructions, A: Allocator> {
     pub hand: Vec<Token, A>,
     /// Emptied bundles, whose memory is used again.
     pub spare: Vec<Vec<Token, A>, A>,
-    /// Whether events are listed.
-    pub listed: bool,
-    /// The events of its turn, where events are listed.
-    pub log: Vec<(u32, Token), A>,
+    /// The events of its turn.
+    pub log: EventLog<A, L>,
     /// Its blocks, where events are listed.
-    pub notes: Log<A>,
+    pub notes: BlockLog<A>,
     /// How many tokens its commits made.
     pub created: u64,
     /// How many blocks it asked for.
     pub blocks: u64,
     pub left: Left,
+    pub alloc: A,
 }

@@ -4,7 +4,7 @@ ghost use Rattle.std.specs.Prelude.{◌≡◌, ℕ, [], ◌++◌, length, map, A
 ghost use Rattle.crossbeam_utils.specs.Padded.{padded_value};
 ghost use Rattle.element.specs.Held.{held_of, fixed_of};
 ghost use Rattle.schedule.specs.State.{tokens_in};
-ghost use Rattle.machine.specs.Starts.{AreBlank, AreEmpty, AreListed, IsNew, lanes_in, lanes_fixed, seats_in, logs_in};
+ghost use Rattle.machine.specs.Starts.{AreBlank, AreEmpty, IsNew, lanes_in, lanes_fixed, seats_in, logs_in};
 
 use crate::belongings::Belongings;
 use crate::runner::{Left, Runner};
@@ -12,7 +12,8 @@ use crossbeam_utils::CachePadded;
 use element::instructions::Instructions;
 use element::lane::Lane;
 use mesh::Seat;
-use ordering::log::Log;
+use ordering::log::BlockLog;
+use schedule::log::{EventLog, Log};
 use std::alloc::{AllocError, Allocator};
 use tags::token::Token;
 
@@ -58,15 +59,18 @@ fn bundles<A: Allocator + Clone>(
     Ok(all)
 }
 
-fn belongings<A: Allocator + Clone>(alloc: &A, elements: u32) -> Result<Belongings<A>, AllocError>
+fn belongings<A: Allocator + Clone, L: Log>(
+    alloc: &A,
+    elements: u32,
+) -> Result<Belongings<A, L>, AllocError>
     ensures { IfOk result (AreBlank elements) }
 {
     let kept = bundles(alloc, elements)?;
     let sent = Vec::new(alloc.clone()?);
     let hand = Vec::new(alloc.clone()?);
     let spare = Vec::with_capacity(alloc.clone()?, elements as usize)?;
-    let log = Vec::new(alloc.clone()?);
-    let notes = Log::new(alloc.clone()?)?;
+    let log = EventLog::new(alloc.clone()?);
+    let notes = BlockLog::new(alloc.clone()?)?;
     Ok(Belongings {
         sent,
         kept,
@@ -74,17 +78,17 @@ fn belongings<A: Allocator + Clone>(alloc: &A, elements: u32) -> Result<Belongin
         spare,
         log,
         notes,
+        alloc: alloc.clone()?,
     })
 }
 
-fn runner<'m, C: Instructions, A: Allocator>(
+fn runner<'m, C: Instructions, A: Allocator, L: Log>(
     lane: Lane<'m, C, A>,
     seat: Seat<A>,
-    belongings: Belongings<A>,
-    listed: bool,
-) -> Runner<'m, C, A>
+    belongings: Belongings<A, L>,
+) -> Runner<'m, C, A, L>
     ensures new { (n : ℕ) → AreBlank n belongings → IsNew n result }
-    ensures parts { (result.lane ≡ lane.entry) × (result.seat ≡ seat) × (result.listed ≡ listed) }
+    ensures parts { (result.lane ≡ lane.entry) × (result.seat ≡ seat) }
 {
     let Belongings {
         sent,
@@ -93,6 +97,7 @@ fn runner<'m, C: Instructions, A: Allocator>(
         spare,
         log,
         notes,
+        alloc,
     } = belongings;
     Runner {
         lane,
@@ -102,47 +107,45 @@ fn runner<'m, C: Instructions, A: Allocator>(
         kept,
         hand,
         spare,
-        listed,
         log,
         notes,
         created: 0,
         blocks: 0,
         left: Left::Lost,
+        alloc,
     }
 }
 
-/// A runner for each lane, with the seat of its element, in order; `listed`: whether it notes its blocks.
-pub fn runners_of<'m, C: Instructions, A: Allocator + Clone>(
+/// A runner for each lane, with the seat of its element, in order.
+pub fn runners_of<'m, C: Instructions, A: Allocator + Clone, L: Log>(
     alloc: &A,
     mut lanes: Vec<Lane<'m, C, A>, A>,
     mut seats: Vec<Seat<A>, A>,
     elements: u32,
-    listed: bool,
-) -> Result<Vec<CachePadded<Runner<'m, C, A>>, A>, AllocError>
+) -> Result<Vec<CachePadded<Runner<'m, C, A, L>>, A>, AllocError>
     requires { length seats.items ≡ length lanes.items }
     ensures lanes { IfOk result (λ ps. lanes_in ps.items ≡ map held_of lanes.entry.items) }
     ensures fixed { IfOk result (λ ps. lanes_fixed ps.items ≡ map fixed_of lanes.entry.items) }
     ensures seats { IfOk result (λ ps. seats_in ps.items ≡ seats.items) }
     ensures new { IfOk result (λ ps. All (λ p. IsNew elements (padded_value p)) ps.items) }
-    ensures listed { IfOk result (λ ps. AreListed listed ps.items) }
 {
     let mut runners = Vec::with_capacity(alloc.clone()?, lanes.len())?;
     'each: for _at in 0..lanes.len() {
         let belongings = belongings(alloc, elements)?;
         let lane = lanes.remove(0);
         let seat = seats.remove(0);
-        let one = runner(lane, seat, belongings, listed);
+        let one = runner(lane, seat, belongings);
         runners.push(CachePadded::new(one))?;
     }
     Ok(runners)
 }
 
 /// Takes the runners apart into lanes, seats and notes, in order.
-pub fn parts_in<'m, C: Instructions, A: Allocator>(
-    runners: Vec<CachePadded<Runner<'m, C, A>>, A>,
+pub fn parts_in<'m, C: Instructions, A: Allocator, L: Log>(
+    runners: Vec<CachePadded<Runner<'m, C, A, L>>, A>,
     lanes: &mut Vec<Lane<'m, C, A>, A>,
     seats: &mut Vec<Seat<A>, A>,
-    logs: &mut Vec<Log<A>, A>,
+    logs: &mut Vec<BlockLog<A>, A>,
 ) -> Result<(), AllocError>
     requires { (lanes.old.items ≡ []) × (seats.old.items ≡ []) × (logs.old.items ≡ []) }
     ensures lanes { OnOk result (map held_of lanes.new.items ≡ lanes_in runners.entry.items) }

@@ -3,8 +3,7 @@
 ghost use Rattle.std.specs.Prelude.{◌≡◌, ◌<◌, All, IfSome, IfNone};
 ghost use Rattle.tags.specs.Addresses.{element_of};
 ghost use Rattle.element.specs.Held.{fixed_of};
-ghost use Rattle.schedule.specs.State.{RunsAs};
-ghost use Rattle.schedule.specs.Apart.{setting_in};
+ghost use Rattle.schedule.specs.State.{RunsAs, setting_in};
 ghost use Rattle.schedule.specs.Setting.{IsGoodSetting};
 ghost use Rattle.schedule.specs.declared.halt.Halt.{Halt};
 ghost use Rattle.law_free_runs.specs.Blocks.{bounds_of};
@@ -14,19 +13,20 @@ use crate::nearness::{Reach, are_near};
 use crate::runner::Runner;
 use mesh::Mesh;
 use schedule::halt::Halt;
+use schedule::log::Log;
 use schedule::main_code::MainCode;
-use schedule::setup::Setup;
+use schedule::shape::Shape;
 use std::alloc::{AllocError, Allocator};
 use tags::token::Token;
 
 // How much the machine has.
-fn reach_of<C: MainCode, A: Allocator>(setup: &Setup<'_, C, A>) -> Reach
-    requires { IsGoodSetting (setting_in C.program C.width setup.now) }
-    ensures { bounds_within result ≡ bounds_of (setting_in C.program C.width setup.now) }
+fn reach_of<C: MainCode>(shape: &Shape<'_, C>) -> Reach
+    requires { IsGoodSetting (setting_in C.program C.width shape.now) }
+    ensures { bounds_within result ≡ bounds_of (setting_in C.program C.width shape.now) }
 {
     Reach {
-        frames: setup.elements * setup.frames,
-        cells: setup.code.cells(),
+        frames: shape.elements * shape.frames,
+        cells: shape.code.cells(),
     }
 }
 
@@ -40,18 +40,18 @@ fn keep_spare<A: Allocator>(spare: &mut Vec<Vec<Token, A>, A>, mut bundle: Vec<T
 
 // Puts a bundle into the queue. Where there is no room for it, or where it has a token that names what is not there, it stays in
 // hand; the latter comes of no run.
-fn receive_or_hold<C: MainCode, A: Allocator>(
-    runner: &mut Runner<'_, C, A>,
-    setup: &Setup<'_, C, A>,
+fn receive_or_hold<C: MainCode, A: Allocator, L: Log>(
+    runner: &mut Runner<'_, C, A, L>,
+    shape: &Shape<'_, C>,
     bundle: Vec<Token, A>,
 ) -> Option<Halt>
-    requires good { IsGoodSetting (setting_in C.program C.width setup.now) }
-    requires runs { RunsAs (setting_in C.program C.width setup.now) (fixed_of runner.old.lane) }
+    requires good { IsGoodSetting (setting_in C.program C.width shape.now) }
+    requires runs { RunsAs (setting_in C.program C.width shape.now) (fixed_of runner.old.lane) }
     requires addressed { All (λ t. element_of runner.old.lane.held.part.shape.elements t.to ≡ runner.old.lane.held.part.shape.element) bundle.items }
-    ensures none { IfNone result (Receives (setting_in C.program C.width setup.now) runner.old bundle.items runner.new) }
+    ensures none { IfNone result (Receives (setting_in C.program C.width shape.now) runner.old bundle.items runner.new) }
     ensures some { IfSome result (λ halt. (halt ≡ Halt.Memory) × (runner.new.lane ≡ runner.old.lane) × (runner.new ≡ record runner.old { lane = runner.new.lane; hand = bundle })) }
 {
-    let near = are_near(&bundle, reach_of(setup));
+    let near = are_near(&bundle, reach_of(shape));
     if near && runner.lane.receive_all(&bundle).is_ok() {
         keep_spare(&mut runner.spare, bundle);
         return None;
@@ -61,43 +61,43 @@ fn receive_or_hold<C: MainCode, A: Allocator>(
 }
 
 // Takes a bundle of the element `from`, if there is one.
-fn take_from<C: MainCode, A: Allocator>(
-    runner: &mut Runner<'_, C, A>,
+fn take_from<C: MainCode, A: Allocator, L: Log>(
+    runner: &mut Runner<'_, C, A, L>,
     mesh: &Mesh<A>,
-    setup: &Setup<'_, C, A>,
+    shape: &Shape<'_, C>,
     from: u32,
 ) -> Option<Halt>
-    requires good { IsGoodSetting (setting_in C.program C.width setup.now) }
-    requires runs { Runs (setting_in C.program C.width setup.now) mesh.now runner.old }
+    requires good { IsGoodSetting (setting_in C.program C.width shape.now) }
+    requires runs { Runs L.LISTS (setting_in C.program C.width shape.now) mesh.now runner.old }
     requires clear { IsClear runner.old }
-    requires from { from < setup.now.elements }
+    requires from { from < shape.now.elements }
     ensures stays { StaysAt runner.old runner.new }
-    ensures keeps { Keeps (setting_in C.program C.width setup.now) mesh.now runner.old runner.new }
+    ensures keeps { Keeps L.LISTS (setting_in C.program C.width shape.now) mesh.now runner.old runner.new }
     ensures clear { IfNone result (IsClear runner.new) }
     ensures halts { IfSome result (λ halt. halt ≡ Halt.Memory) }
 {
     match mesh.take(&mut runner.seat, from) {
-        Some(bundle) => receive_or_hold(runner, setup, bundle),
+        Some(bundle) => receive_or_hold(runner, shape, bundle),
         None => None,
     }
 }
 
 /// Takes what lies in the boxes to this element.
-pub fn take_all<C: MainCode, A: Allocator>(
-    runner: &mut Runner<'_, C, A>,
+pub fn take_all<C: MainCode, A: Allocator, L: Log>(
+    runner: &mut Runner<'_, C, A, L>,
     mesh: &Mesh<A>,
-    setup: &Setup<'_, C, A>,
+    shape: &Shape<'_, C>,
 ) -> Option<Halt>
-    requires good { IsGoodSetting (setting_in C.program C.width setup.now) }
-    requires runs { Runs (setting_in C.program C.width setup.now) mesh.now runner.old }
+    requires good { IsGoodSetting (setting_in C.program C.width shape.now) }
+    requires runs { Runs L.LISTS (setting_in C.program C.width shape.now) mesh.now runner.old }
     requires clear { IsClear runner.old }
     ensures stays { StaysAt runner.old runner.new }
-    ensures keeps { Keeps (setting_in C.program C.width setup.now) mesh.now runner.old runner.new }
+    ensures keeps { Keeps L.LISTS (setting_in C.program C.width shape.now) mesh.now runner.old runner.new }
     ensures clear { IfNone result (IsClear runner.new) }
     ensures halts { IfSome result (λ halt. halt ≡ Halt.Memory) }
 {
-    for from in 0..setup.elements {
-        if let Some(halt) = take_from(runner, mesh, setup, from) {
+    for from in 0..shape.elements {
+        if let Some(halt) = take_from(runner, mesh, shape, from) {
             return Some(halt);
         }
     }

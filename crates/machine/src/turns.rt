@@ -2,7 +2,7 @@
 
 ghost use Rattle.std.specs.Prelude.{◌≡◌, ◌≢◌, [], Bool, None, OnOk, IfOk, IfSome, IfNone};
 ghost use Rattle.element.specs.Held.{held_of};
-ghost use Rattle.schedule.specs.Apart.{setting_in};
+ghost use Rattle.schedule.specs.State.{setting_in};
 ghost use Rattle.schedule.specs.Setting.{IsGoodSetting};
 ghost use Rattle.rounds.specs.Turns.{HaltsLane};
 ghost use Rattle.schedule.specs.declared.halt.Halt.{Halt};
@@ -16,8 +16,9 @@ use crate::taking::take_all;
 use mesh::Mesh;
 use rounds::Gate;
 use schedule::halt::Halt;
+use schedule::log::Log;
 use schedule::main_code::MainCode;
-use schedule::setup::Setup;
+use schedule::shape::Shape;
 use std::alloc::{AllocError, Allocator};
 use std::sync::Wait;
 use std::thread;
@@ -27,91 +28,94 @@ use std::thread;
 const LOOK: u64 = 128;
 
 // Whether the element has tokens for a whole turn, and looked at the mailboxes a short while ago.
-fn is_busy<C: MainCode, A: Allocator>(runner: &Runner<'_, C, A>, setup: &Setup<'_, C, A>) -> bool
-    requires { IsGoodSetting (setting_in C.program C.width setup.now) }
+fn is_busy<C: MainCode, A: Allocator, L: Log>(
+    runner: &Runner<'_, C, A, L>,
+    shape: &Shape<'_, C>,
+) -> bool
+    requires { IsGoodSetting (setting_in C.program C.width shape.now) }
 {
-    let every = LOOK / setup.turn;
-    every > 1 && runner.blocks % every != 0 && runner.lane.queue().len() as u64 >= setup.turn
+    let every = LOOK / shape.turn;
+    every > 1 && runner.blocks % every != 0 && runner.lane.queue().len() as u64 >= shape.turn
 }
 
 // Takes what others posted, if it is time to look.
-fn take<C: MainCode, A: Allocator>(
-    runner: &mut Runner<'_, C, A>,
+fn take<C: MainCode, A: Allocator, L: Log>(
+    runner: &mut Runner<'_, C, A, L>,
     mesh: &Mesh<A>,
-    setup: &Setup<'_, C, A>,
+    shape: &Shape<'_, C>,
 ) -> Option<Halt>
-    requires good { IsGoodSetting (setting_in C.program C.width setup.now) }
-    requires runs { Runs (setting_in C.program C.width setup.now) mesh.now runner.old }
+    requires good { IsGoodSetting (setting_in C.program C.width shape.now) }
+    requires runs { Runs L.LISTS (setting_in C.program C.width shape.now) mesh.now runner.old }
     requires clear { IsClear runner.old }
     ensures stays { StaysAt runner.old runner.new }
-    ensures keeps { Keeps (setting_in C.program C.width setup.now) mesh.now runner.old runner.new }
+    ensures keeps { Keeps L.LISTS (setting_in C.program C.width shape.now) mesh.now runner.old runner.new }
     ensures clear { IfNone result (IsClear runner.new) }
     ensures halts { IfSome result (λ halt. halt ≡ Halt.Memory) }
 {
-    if is_busy(runner, setup) {
+    if is_busy(runner, shape) {
         return None;
     }
-    take_all(runner, mesh, setup)
+    take_all(runner, mesh, shape)
 }
 
 // Takes what others posted, and makes a block of events.
-fn work<C: MainCode, A: Allocator + Clone, G: Gate>(
-    runner: &mut Runner<'_, C, A>,
+fn work<C: MainCode, A: Allocator + Clone, L: Log, G: Gate>(
+    runner: &mut Runner<'_, C, A, L>,
     mesh: &Mesh<A>,
-    setup: &Setup<'_, C, A>,
+    shape: &Shape<'_, C>,
     gate: &G,
 ) -> Result<Option<Halt>, Lost>
-    requires good { IsGoodSetting (setting_in C.program C.width setup.now) }
-    requires runs { Runs (setting_in C.program C.width setup.now) mesh.now runner.old }
+    requires good { IsGoodSetting (setting_in C.program C.width shape.now) }
+    requires runs { Runs L.LISTS (setting_in C.program C.width shape.now) mesh.now runner.old }
     requires clear { IsClear runner.old }
     ensures stays { StaysAt runner.old runner.new }
-    ensures keeps { OnOk result (Keeps (setting_in C.program C.width setup.now) mesh.now runner.old runner.new) }
-    ensures halts { IfOk result (λ halt. HaltsLane (C.program setup.now.code.now) setup.now.steps G.may_stop (held_of runner.new.lane) halt) }
-    ensures whole { IfOk result (λ halt. halt ≡ None → HasNoReason (setting_in C.program C.width setup.now) (held_of runner.new.lane)) }
+    ensures keeps { OnOk result (Keeps L.LISTS (setting_in C.program C.width shape.now) mesh.now runner.old runner.new) }
+    ensures halts { IfOk result (λ halt. HaltsLane (C.program shape.now.code.now) shape.now.steps G.may_stop (held_of runner.new.lane) halt) }
+    ensures whole { IfOk result (λ halt. halt ≡ None → HasNoReason (setting_in C.program C.width shape.now) (held_of runner.new.lane)) }
     ensures undealt { IfOk result (λ halt. halt ≡ None → (runner.new.hand.items ≡ []) × (runner.new.dealt ≡ 0)) }
 {
-    match take(runner, mesh, setup) {
+    match take(runner, mesh, shape) {
         Some(halt) => Ok(Some(halt)),
-        None => make_block(runner, mesh, setup, gate),
+        None => make_block(runner, mesh, shape, gate),
     }
 }
 
 // Deals out what the block made for others, and offers it, if it is time to.
-fn hand_on<C: MainCode, A: Allocator + Clone>(
-    runner: &mut Runner<'_, C, A>,
+fn hand_on<C: MainCode, A: Allocator + Clone, L: Log>(
+    runner: &mut Runner<'_, C, A, L>,
     mesh: &Mesh<A>,
-    setup: &Setup<'_, C, A>,
+    shape: &Shape<'_, C>,
 ) -> Result<(), AllocError>
-    requires good { IsGoodSetting (setting_in C.program C.width setup.now) }
-    requires runs { Runs (setting_in C.program C.width setup.now) mesh.now runner.old }
+    requires good { IsGoodSetting (setting_in C.program C.width shape.now) }
+    requires runs { Runs L.LISTS (setting_in C.program C.width shape.now) mesh.now runner.old }
     requires undealt { (runner.old.hand.items ≡ []) × (runner.old.dealt ≡ 0) }
     ensures stays { StaysAt runner.old runner.new }
-    ensures keeps { Keeps (setting_in C.program C.width setup.now) mesh.now runner.old runner.new }
+    ensures keeps { Keeps L.LISTS (setting_in C.program C.width shape.now) mesh.now runner.old runner.new }
     ensures clear { OnOk result (IsClear runner.new) }
     ensures lane { held_of runner.new.lane ≡ held_of runner.old.lane }
 {
-    deal(runner, mesh, setup)?;
-    if is_busy(runner, setup) {
+    deal(runner, mesh, shape)?;
+    if is_busy(runner, shape) {
         return Ok(());
     }
-    offer_all(runner, mesh, setup)
+    offer_all(runner, mesh, shape)
 }
 
 // Whether the element leaves between two turns.
-fn look<C: MainCode, A: Allocator>(
-    runner: &mut Runner<'_, C, A>,
+fn look<C: MainCode, A: Allocator, L: Log>(
+    runner: &mut Runner<'_, C, A, L>,
     mesh: &Mesh<A>,
-    setup: &Setup<'_, C, A>,
+    shape: &Shape<'_, C>,
 ) -> Option<Left>
-    requires runs { Runs (setting_in C.program C.width setup.now) mesh.now runner.old }
+    requires runs { Runs L.LISTS (setting_in C.program C.width shape.now) mesh.now runner.old }
     requires clear { IsClear runner.old }
-    requires whole { HasNoReason (setting_in C.program C.width setup.now) (held_of runner.old.lane) }
+    requires whole { HasNoReason (setting_in C.program C.width shape.now) (held_of runner.old.lane) }
     ensures stays { StaysAt runner.old runner.new }
-    ensures keeps { Keeps (setting_in C.program C.width setup.now) mesh.now runner.old runner.new }
-    ensures left { IfSome result (λ left. (may_stop : Bool) → IsLeft (setting_in C.program C.width setup.now) may_stop runner.new left) }
+    ensures keeps { Keeps L.LISTS (setting_in C.program C.width shape.now) mesh.now runner.old runner.new }
+    ensures left { IfSome result (λ left. (may_stop : Bool) → IsLeft (setting_in C.program C.width shape.now) may_stop runner.new left) }
     ensures clear { IsClear runner.new }
 {
-    let _ = setup;
+    let _ = shape;
     if mesh.stopped(&mut runner.seat) != 0 {
         return Some(Left::Stopped);
     }
@@ -125,46 +129,46 @@ fn look<C: MainCode, A: Allocator>(
 }
 
 // One turn: why the element leaves after it, if it does.
-fn turn<C: MainCode, A: Allocator + Clone, G: Gate>(
-    runner: &mut Runner<'_, C, A>,
+fn turn<C: MainCode, A: Allocator + Clone, L: Log, G: Gate>(
+    runner: &mut Runner<'_, C, A, L>,
     mesh: &Mesh<A>,
-    setup: &Setup<'_, C, A>,
+    shape: &Shape<'_, C>,
     gate: &G,
 ) -> Result<Option<Left>, Lost>
-    requires good { IsGoodSetting (setting_in C.program C.width setup.now) }
-    requires runs { Runs (setting_in C.program C.width setup.now) mesh.now runner.old }
+    requires good { IsGoodSetting (setting_in C.program C.width shape.now) }
+    requires runs { Runs L.LISTS (setting_in C.program C.width shape.now) mesh.now runner.old }
     requires clear { IsClear runner.old }
     ensures stays { StaysAt runner.old runner.new }
-    ensures keeps { OnOk result (Keeps (setting_in C.program C.width setup.now) mesh.now runner.old runner.new) }
-    ensures left { IfOk result (λ left. IfSome left (IsLeft (setting_in C.program C.width setup.now) G.may_stop runner.new)) }
+    ensures keeps { OnOk result (Keeps L.LISTS (setting_in C.program C.width shape.now) mesh.now runner.old runner.new) }
+    ensures left { IfOk result (λ left. IfSome left (IsLeft (setting_in C.program C.width shape.now) G.may_stop runner.new)) }
     ensures clear { IfOk result (λ left. left ≡ None → IsClear runner.new) }
 {
-    if let Some(halt) = work(runner, mesh, setup, gate)? {
+    if let Some(halt) = work(runner, mesh, shape, gate)? {
         return Ok(Some(Left::Halted(halt)));
     }
-    match hand_on(runner, mesh, setup) {
-        Ok(()) => Ok(look(runner, mesh, setup)),
+    match hand_on(runner, mesh, shape) {
+        Ok(()) => Ok(look(runner, mesh, shape)),
         Err(_) => Ok(Some(Left::Halted(Halt::Memory))),
     }
 }
 
 // Turns until the element leaves.
-fn go<R: Wait, C: MainCode, A: Allocator + Clone, G: Gate>(
+fn go<R: Wait, C: MainCode, A: Allocator + Clone, L: Log, G: Gate>(
     rt: &R,
-    runner: &mut Runner<'_, C, A>,
+    runner: &mut Runner<'_, C, A, L>,
     mesh: &Mesh<A>,
-    setup: &Setup<'_, C, A>,
+    shape: &Shape<'_, C>,
     gate: &G,
 ) -> Result<Left, Lost>
-    requires good { IsGoodSetting (setting_in C.program C.width setup.now) }
-    requires runs { Runs (setting_in C.program C.width setup.now) mesh.now runner.old }
+    requires good { IsGoodSetting (setting_in C.program C.width shape.now) }
+    requires runs { Runs L.LISTS (setting_in C.program C.width shape.now) mesh.now runner.old }
     requires clear { IsClear runner.old }
     ensures stays { StaysAt runner.old runner.new }
-    ensures keeps { OnOk result (Keeps (setting_in C.program C.width setup.now) mesh.now runner.old runner.new) }
-    ensures left { IfOk result (IsLeft (setting_in C.program C.width setup.now) G.may_stop runner.new) }
+    ensures keeps { OnOk result (Keeps L.LISTS (setting_in C.program C.width shape.now) mesh.now runner.old runner.new) }
+    ensures left { IfOk result (IsLeft (setting_in C.program C.width shape.now) G.may_stop runner.new) }
 {
     'turns: for _ in rt.forever() {
-        if let Some(left) = turn(runner, mesh, setup, gate)? {
+        if let Some(left) = turn(runner, mesh, shape, gate)? {
             return Ok(left);
         }
     }
@@ -172,18 +176,18 @@ fn go<R: Wait, C: MainCode, A: Allocator + Clone, G: Gate>(
 }
 
 // Calls for a stop, where the element leaves for a reason of its own.
-fn call_stop<C: MainCode, A: Allocator>(
-    runner: &mut Runner<'_, C, A>,
+fn call_stop<C: MainCode, A: Allocator, L: Log>(
+    runner: &mut Runner<'_, C, A, L>,
     mesh: &Mesh<A>,
-    setup: &Setup<'_, C, A>,
+    shape: &Shape<'_, C>,
 )
     requires at { (runner.old.seat.mesh ≡ mesh.now) × (runner.old.seat.joined ≡ []) }
     ensures stays { StaysAt runner.old runner.new }
-    ensures keeps { Keeps (setting_in C.program C.width setup.now) mesh.now runner.old runner.new }
+    ensures keeps { Keeps L.LISTS (setting_in C.program C.width shape.now) mesh.now runner.old runner.new }
     ensures lane { held_of runner.new.lane ≡ held_of runner.old.lane }
     ensures last { (runner.new.seat.own.last ≡ runner.old.seat.own.last) × (runner.new.left ≡ runner.old.left) }
 {
-    let _ = setup;
+    let _ = shape;
     match runner.left {
         Left::Lost | Left::Halted(_) => {
             let _set = mesh.stop(&mut runner.seat, 1);
@@ -193,21 +197,21 @@ fn call_stop<C: MainCode, A: Allocator>(
 }
 
 // Runs the element until it leaves: why it does.
-fn leave<R: Wait, C: MainCode, A: Allocator + Clone, G: Gate>(
+fn leave<R: Wait, C: MainCode, A: Allocator + Clone, L: Log, G: Gate>(
     rt: &R,
-    runner: &mut Runner<'_, C, A>,
+    runner: &mut Runner<'_, C, A, L>,
     mesh: &Mesh<A>,
-    setup: &Setup<'_, C, A>,
+    shape: &Shape<'_, C>,
     gate: &G,
 ) -> Left
-    requires good { IsGoodSetting (setting_in C.program C.width setup.now) }
-    requires runs { Runs (setting_in C.program C.width setup.now) mesh.now runner.old }
+    requires good { IsGoodSetting (setting_in C.program C.width shape.now) }
+    requires runs { Runs L.LISTS (setting_in C.program C.width shape.now) mesh.now runner.old }
     requires clear { IsClear runner.old }
     ensures stays { StaysAt runner.old runner.new }
-    ensures keeps { result ≢ Left.Lost → Keeps (setting_in C.program C.width setup.now) mesh.now runner.old runner.new }
-    ensures left { IsLeft (setting_in C.program C.width setup.now) G.may_stop runner.new result }
+    ensures keeps { result ≢ Left.Lost → Keeps L.LISTS (setting_in C.program C.width shape.now) mesh.now runner.old runner.new }
+    ensures left { IsLeft (setting_in C.program C.width shape.now) G.may_stop runner.new result }
 {
-    match go(rt, runner, mesh, setup, gate) {
+    match go(rt, runner, mesh, shape, gate) {
         Ok(left) => left,
         Err(Lost) => Left::Lost,
     }
@@ -215,19 +219,19 @@ fn leave<R: Wait, C: MainCode, A: Allocator + Clone, G: Gate>(
 
 /// Runs the element until no token is live, until another calls for a stop, or until it has a reason of its own to halt, and
 /// calls for a stop then.
-pub fn run<R: Wait, C: MainCode, A: Allocator + Clone, G: Gate>(
+pub fn run<R: Wait, C: MainCode, A: Allocator + Clone, L: Log, G: Gate>(
     rt: &R,
-    runner: &mut Runner<'_, C, A>,
+    runner: &mut Runner<'_, C, A, L>,
     mesh: &Mesh<A>,
-    setup: &Setup<'_, C, A>,
+    shape: &Shape<'_, C>,
     gate: &G,
 )
-    requires good { IsGoodSetting (setting_in C.program C.width setup.now) }
-    requires runs { Runs (setting_in C.program C.width setup.now) mesh.now runner.old }
+    requires good { IsGoodSetting (setting_in C.program C.width shape.now) }
+    requires runs { Runs L.LISTS (setting_in C.program C.width shape.now) mesh.now runner.old }
     requires clear { IsClear runner.old }
-    ensures { Ended (setting_in C.program C.width setup.now) mesh.now G.may_stop runner.old runner.new }
+    ensures { Ended L.LISTS (setting_in C.program C.width shape.now) mesh.now G.may_stop runner.old runner.new }
 {
     gate.enter(runner.lane.element());
-    runner.left = leave(rt, runner, mesh, setup, gate);
-    call_stop(runner, mesh, setup);
+    runner.left = leave(rt, runner, mesh, shape, gate);
+    call_stop(runner, mesh, shape);
 }

@@ -11,7 +11,7 @@ use Rattle.law_free_runs.proofs.Running.{leaves_same, by_same}
 use Rattle.law_free_runs.proofs.Weaving.{all_below}
 use Rattle.law_free_runs.proofs.Reordering.{first_other}
 use Rattle.ordering.specs.declared.log.Counts.{Counts}
-use Rattle.ordering.specs.declared.log.Log.{Log}
+use Rattle.ordering.specs.declared.log.BlockLog.{BlockLog}
 use Rattle.ordering.specs.declared.rest.Rest.{Rest}
 use Rattle.ordering.specs.Noted.{noted_in}
 use Rattle.ordering.specs.Pools.{all_copies}
@@ -64,7 +64,7 @@ none_above n (b ∷ later) e below high =
     first_other b later e (λ (s : b.element ≡ e). let at : b.element ≡ e = s in let no : ⊥ = omega (arith, low, high, at) in no) ∙ none_above n later e below.1 high
 
 -- AT THE START
-pub starts : {A : Type 0} (logs : List (Log A)) (log : List Block) (start last opening : Tokens) (amounts : Amounts) (rests : List Rest)
+pub starts : {A : Type 0} (logs : List (BlockLog A)) (log : List Block) (start last opening : Tokens) (amounts : Amounts) (rests : List Rest)
     → IsHistory logs log start last → IsPermutation opening start → AreWhole logs rests → Holds amounts opening → OrderedSoFar (length logs) log start last amounts rests []
 starts logs log start last opening amounts rests history perm whole holds = record {
   tokens = opening;
@@ -76,7 +76,7 @@ starts logs log start last opening amounts rests history perm whole holds = reco
   back = λ next leaves same. (next, leaves_same (length logs) start opening (map entry_of next) last (IsPermutation-sym opening start perm) leaves, same, refl);
 }
 
-pub whole_pushed : {A : Type 0} (logs : List (Log A)) (rests : List Rest) (l : Log A) (r : Rest) → length rests < length logs → l ≡ get_or logs (length rests) l → IsWhole l.taken.items l.made.items l.blocks.items r
+pub whole_pushed : {A : Type 0} (logs : List (BlockLog A)) (rests : List Rest) (l : BlockLog A) (r : Rest) → length rests < length logs → l ≡ get_or logs (length rests) l → IsWhole l.taken.items l.made.items l.blocks.items r
     → AreWholeSoFar logs rests → AreWholeSoFar logs (rests ++ r ∷ [])
 whole_pushed {A} logs rests l r low is whole so_far e q get =
     ⊎_elim (λ old. so_far e q old)
@@ -143,7 +143,7 @@ none_left n (b ∷ later) tokens last amounts rests count leaves holds below sta
     let here = get_some rests b.element (omega (arith, low, count)) in
     absurd (stuck_first n b later tokens last amounts here.0 leaves holds (subst (StandsFor here.0) (by_same b later) (stands b.element here.0 here.1)) (stuck b.element here.0 here.1))
 
-pub ends : {A : Type 0} (logs : List (Log A)) (log : List Block) (start last : Tokens) (amounts : Amounts) (rests : List Rest) (events : Events)
+pub ends : {A : Type 0} (logs : List (BlockLog A)) (log : List Block) (start last : Tokens) (amounts : Amounts) (rests : List Rest) (events : Events)
     → IsHistory logs log start last → length rests ≡ length logs → OrderedSoFar (length logs) log start last amounts rests events → ((e : ℕ) (r : Rest) → slice_get rests e ≡ Some r → IsStuck amounts r) → IsOrdered (length logs) log start last events
 ends logs log start last amounts rests events history count s stuck =
     let n : ℕ = length logs in

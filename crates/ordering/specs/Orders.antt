@@ -3,17 +3,17 @@ use Rattle.std.specs.Prelude.{◌≡◌, ℕ, ◌≤◌, List, [], ◌++◌, len
 use Rattle.tags.specs.declared.token.Token.{Token}
 use Rattle.semantics.specs.Machine.{Events}
 use Rattle.law_free_runs.specs.Blocks.{Block, events_in, blocks_by, LeavesTokens, AreBelow}
-use Rattle.ordering.specs.declared.log.Log.{Log}
+use Rattle.ordering.specs.declared.log.BlockLog.{BlockLog}
 use Rattle.ordering.specs.declared.rest.Rest.{Rest}
 use Rattle.ordering.specs.Noted.{noted_in}
 use Rattle.ordering.specs.Logs.{Logs}
 use Rattle.ordering.specs.Rests.{IsWhole, StandsFor, Holds}
 
 -- The log is a legal history of elements that have these logs.
-pub record IsHistory {A : Type 0} (logs : List (Log A)) (log : List Block) (start last : List Token) : Type 0 where
+pub record IsHistory {A : Type 0} (logs : List (BlockLog A)) (log : List Block) (start last : List Token) : Type 0 where
   pub leaves : LeavesTokens (length logs) start log last
   pub below : AreBelow (length logs) log
-  pub noted : (e : ℕ) (l : Log A) → slice_get logs e ≡ Some l → Logs (noted_in l) (blocks_by e log)
+  pub noted : (e : ℕ) (l : BlockLog A) → slice_get logs e ≡ Some l → Logs (noted_in l) (blocks_by e log)
 
 -- The events are those of a legal history that has the same blocks of each element, in their order, and leaves the same tokens.
 pub record IsOrdered (n : ℕ) (log : List Block) (start last : List Token) (listed : Events) : Type 0 where
@@ -35,11 +35,11 @@ pub record OrderedSoFar (n : ℕ) (log : List Block) (start last : List Token) (
       → (whole : List Block) × LeavesTokens n start whole last × ((e : ℕ) → blocks_by e whole ≡ blocks_by e log) × (events_in whole ≡ events ++ events_in next)
 
 -- of each of the first logs all is left
-abbrev pub AreWholeSoFar : {A : Type 0} → List (Log A) → List Rest → Type 0
-AreWholeSoFar {A} logs rests = (e : ℕ) (r : Rest) → slice_get rests e ≡ Some r → (l : Log A) × (slice_get logs e ≡ Some l) × IsWhole l.taken.items l.made.items l.blocks.items r
+abbrev pub AreWholeSoFar : {A : Type 0} → List (BlockLog A) → List Rest → Type 0
+AreWholeSoFar {A} logs rests = (e : ℕ) (r : Rest) → slice_get rests e ≡ Some r → (l : BlockLog A) × (slice_get logs e ≡ Some l) × IsWhole l.taken.items l.made.items l.blocks.items r
 
 -- the same of all logs
-abbrev pub AreWhole : {A : Type 0} → List (Log A) → List Rest → Type 0
+abbrev pub AreWhole : {A : Type 0} → List (BlockLog A) → List Rest → Type 0
 AreWhole logs rests = (length rests ≡ length logs) × AreWholeSoFar logs rests
 
 -- how many blocks have no place yet

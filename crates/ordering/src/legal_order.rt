@@ -8,14 +8,17 @@ ghost use Rattle.ordering.specs.Pools.{amount};
 ghost use Rattle.ordering.specs.Rests.{IsStuck};
 ghost use Rattle.ordering.specs.Orders.{IsHistory, IsOrdered, OrderedSoFar, AreWhole, blocks_left};
 
-use crate::log::Log;
+use crate::log::BlockLog;
 use crate::pool::Pool;
 use crate::rest::{Rest, go_on};
 use std::alloc::{AllocError, Allocator};
 use tags::token::Token;
 
 // All blocks of the logs.
-fn rests_of<'l, A: Allocator>(logs: &'l [Log<A>], alloc: A) -> Result<Vec<Rest<'l>, A>, AllocError>
+fn rests_of<'l, A: Allocator>(
+    logs: &'l [BlockLog<A>],
+    alloc: A,
+) -> Result<Vec<Rest<'l>, A>, AllocError>
     ensures { IfOk result (λ rests. AreWhole logs.now rests.items) }
 {
     let mut rests = Vec::with_capacity(alloc, logs.len())?;
@@ -52,7 +55,7 @@ fn pass<A: Allocator + Clone>(
 /// took. `logs[e]` is the log of element `e`. If there is a legal history of these blocks, all have a place. An error is that memory was
 /// refused.
 pub fn order<A: Allocator + Clone>(
-    logs: &[Log<A>],
+    logs: &[BlockLog<A>],
     opening: &[Token],
     alloc: A,
 ) -> Result<Vec<(u32, Token), A>, AllocError>

@@ -17,7 +17,7 @@ pub struct Counts {
 /// The blocks of one element, in their order. Each spent the oldest tokens that its element had, so the tokens that it spent are the
 /// first ones that its events took.
 #[derive(Drop)]
-pub struct Log<A: Allocator> {
+pub struct BlockLog<A: Allocator> {
     /// The token that each event took, block after block.
     pub taken: Vec<Token, A>,
     /// The tokens that the blocks made, block after block.
@@ -26,14 +26,14 @@ pub struct Log<A: Allocator> {
     pub blocks: Vec<Counts, A>,
 }
 
-impl<A: Allocator> Log<A> {
+impl<A: Allocator> BlockLog<A> {
     /// A log of no events. It takes no memory.
-    pub fn new(alloc: A) -> Result<Log<A>, AllocError>
+    pub fn new(alloc: A) -> Result<BlockLog<A>, AllocError>
     where
         A: Clone,
         ensures { IfOk result (λ log. noted_in log ≡ nothing) }
     {
-        Ok(Log {
+        Ok(BlockLog {
             taken: Vec::new(alloc.clone()?),
             made: Vec::new(alloc.clone()?),
             blocks: Vec::new(alloc),

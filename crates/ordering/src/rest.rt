@@ -7,7 +7,7 @@ ghost use Rattle.law_free_runs.specs.Blocks.{Block};
 ghost use Rattle.ordering.specs.Pools.{amount, all_copies};
 ghost use Rattle.ordering.specs.Rests.{first_spent, IsWhole, StandsFor, Holds, TakesNeeded, GoesOn, IsStuck};
 
-use crate::log::{Counts, Log};
+use crate::log::{BlockLog, Counts};
 use crate::pool::Pool;
 use std::alloc::{AllocError, Allocator};
 use tags::token::Token;
@@ -53,7 +53,7 @@ impl<'l> Rest<'l> {
     }
 
     /// All blocks of the log.
-    pub fn of<A: Allocator>(log: &'l Log<A>) -> Rest<'l>
+    pub fn of<A: Allocator>(log: &'l BlockLog<A>) -> Rest<'l>
         ensures { IsWhole log.now.taken.items log.now.made.items log.now.blocks.items result }
     {
         Rest::new(&log.taken, &log.made, &log.blocks)

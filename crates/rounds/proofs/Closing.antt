@@ -22,10 +22,11 @@ use Rattle.schedule.proofs.Reports.{shows_opening, clash_cell}
 use Rattle.schedule.proofs.Tokens.{delivered_none}
 use Rattle.schedule.proofs.Places.{to_map}
 use Rattle.rounds.specs.declared.turn.Turner.{Turner}
-use Rattle.rounds.specs.Turns.{all_sent, coming, logged}
+use Rattle.schedule.specs.Steps.{logged}
+use Rattle.rounds.specs.Turns.{all_sent, coming}
 use Rattle.rounds.specs.Rounds.{lanes_held, lanes_fixed, tokens_sent, events_noted, halts_in, IsBetween, IsHalted, GoesOn, Rounds, Leads, MadeRound, ShowsOn}
 use Rattle.rounds.specs.Counted.{answers, IsWhy, MakesRounds, TellsRounds}
-use Rattle.rounds.proofs.Turning.{logged_twice}
+use Rattle.schedule.proofs.Playing.{logged_twice}
 use Rattle.rounds.proofs.Counting.{one_round, makes_more, tells_rounds}
 
 -- what a slice of a whole vector writes back
@@ -35,28 +36,28 @@ same_slice n new old whole same =
     let all : length new ≤ n = omega (arith, same, whole) in
     ap (λ (l : List _). take n (new ++ l)) (drop_all (length new) old past) ∙ ap (λ (l : List _). take n l) (append-nil new) ∙ take_all n new all
 
-module _ {C A : Type 0} where
-  pub some_turner : (g : Setting) (ts : List (Turner C A)) → IsBetween g ts → 0 < length ts
+module _ {C A L : Type 0} where
+  pub some_turner : (g : Setting) (ts : List (Turner C A L)) → IsBetween g ts → 0 < length ts
   some_turner g ts between =
       let count : length (delivered [] (lanes_held ts)) ≡ g.elements = between.sound.count in
       let one = length-map (lanes_held ts) (λ (h : Held). queued h []) in
-      let two = length-map ts (λ (t : Turner C A). held_of t.lane) in
+      let two = length-map ts (λ (t : Turner C A L). held_of t.lane) in
       let some : 0 < g.elements = between.sound.setting.some in
       omega (arith, count, one, two, some)
 
-  module _ (g : Setting) (listed may_stop : Bool) (olds news : List (Turner C A)) (before after : Events) (tokens : List Token) (made : MadeRound g listed may_stop olds before news after tokens) where
+  module _ (g : Setting) (listed may_stop : Bool) (olds news : List (Turner C A L)) (before after : Events) (tokens : List Token) (made : MadeRound g listed may_stop olds before news after tokens) where
     pub count_all : length news ≡ g.elements
     count_all =
         let count : length (delivered tokens (lanes_held news)) ≡ g.elements = made.sound.count in
         let one = length-map (lanes_held news) (λ (h : Held). queued h tokens) in
-        let two = length-map news (λ (t : Turner C A). held_of t.lane) in
+        let two = length-map news (λ (t : Turner C A L). held_of t.lane) in
         omega (arith, count, one, two)
 
     pub at_all : AllFrom (IsAt g.elements) 0 (lanes_held news)
     at_all = to_map (λ (i : ℕ) (h : Held). IsAt g.elements i h) (IsPlaced g) (λ (h : Held). queued h tokens) (λ (i : ℕ) (h : Held) p. (p.element, p.elements)) 0 (lanes_held news) made.sound.lanes
 
     -- it is a round, whatever tokens were handed over
-    makes_one : (last : List (Turner C A)) (rest : List Token) (halt : Option Halt) → delivered rest (lanes_held last) ≡ delivered tokens (lanes_held news)
+    makes_one : (last : List (Turner C A L)) (rest : List Token) (halt : Option Halt) → delivered rest (lanes_held last) ≡ delivered tokens (lanes_held news)
         → IsWhy (delivered rest (lanes_held last)) (answers made.turned) halt ⊎ (halt ≡ Some Halt.Memory) → MakesRounds g may_stop 1 (lanes_held olds) (delivered rest (lanes_held last)) made.made halt
     makes_one last rest halt handed halts = one_round g may_stop (lanes_held olds) (delivered rest (lanes_held last)) made.made halt (record {
       listed = listed;
@@ -71,7 +72,7 @@ module _ {C A : Type 0} where
     pub refused_round : Rounds g listed may_stop 1 olds before news after (Some Halt.Memory)
     refused_round = record { rest = tokens; made = made.made; goes = (made.sound, inl tt); noted = made.noted; leads = made.leads; makes = makes_one news tokens (Some Halt.Memory) refl (inr refl) }
 
-    module _ (last : List (Turner C A)) (rest : List Token) (handed : delivered rest (lanes_held last) ≡ delivered tokens (lanes_held news)) where
+    module _ (last : List (Turner C A L)) (rest : List Token) (handed : delivered rest (lanes_held last) ≡ delivered tokens (lanes_held news)) where
       same : coming g (lanes_held news) tokens ≡ coming g (lanes_held last) rest
       same = ap (λ (l : List Held). let s : State = record { setting = g; lanes = l } in s) (sym handed)
 
@@ -111,12 +112,12 @@ module _ {C A : Type 0} where
           )
 
 -- MANY ROUNDS
-module _ {C A : Type 0} where
-  pub leads_none : (g : Setting) (ts : List (Turner C A)) → Leads g ts ts [] []
+module _ {C A L : Type 0} where
+  pub leads_none : (g : Setting) (ts : List (Turner C A L)) → Leads g ts ts [] []
   leads_none g ts = λ inputs evs b. subst (λ (l : Events). Began inputs (coming g (lanes_held ts) []) l) (sym (append-nil evs)) b
 
   -- one more round behind others
-  pub rounds_twice : (g now : Setting) (setting : now ≡ g) (listed may_stop : Bool) (n : ℕ) (olds mids news : List (Turner C A)) (before mid after made : Events) (halt : Option Halt)
+  pub rounds_twice : (g now : Setting) (setting : now ≡ g) (listed may_stop : Bool) (n : ℕ) (olds mids news : List (Turner C A L)) (before mid after made : Events) (halt : Option Halt)
       → mid ≡ logged listed before made → Leads g olds mids [] made → MakesRounds g may_stop n (lanes_held olds) (lanes_held mids) made None → Rounds now listed may_stop 1 mids mid news after halt
       → Rounds g listed may_stop (n + 1) olds before news after halt
   rounds_twice g now setting listed may_stop n olds mids news before mid after made halt noted leads makes next = subst (λ (x : Setting). Rounds x listed may_stop (n + 1) olds before news after halt) setting (record {
@@ -129,10 +130,10 @@ module _ {C A : Type 0} where
   })
 
   -- what holds between rounds, after those in which nothing halted
-  pub leads_on : (g : Setting) (listed may_stop : Bool) (n : ℕ) (olds news : List (Turner C A)) (before after : Events) (rounds : Rounds g listed may_stop n olds before news after None) → Leads g olds news [] rounds.made
+  pub leads_on : (g : Setting) (listed may_stop : Bool) (n : ℕ) (olds news : List (Turner C A L)) (before after : Events) (rounds : Rounds g listed may_stop n olds before news after None) → Leads g olds news [] rounds.made
   leads_on g listed may_stop n olds news before after rounds = subst (λ (l : List Token). Leads g olds news l rounds.made) rounds.goes.1 rounds.leads
 
-  pub makes_on : (g : Setting) (listed may_stop : Bool) (n : ℕ) (olds news : List (Turner C A)) (before after : Events) (rounds : Rounds g listed may_stop n olds before news after None)
+  pub makes_on : (g : Setting) (listed may_stop : Bool) (n : ℕ) (olds news : List (Turner C A L)) (before after : Events) (rounds : Rounds g listed may_stop n olds before news after None)
       → MakesRounds g may_stop n (lanes_held olds) (lanes_held news) rounds.made None
   makes_on g listed may_stop n olds news before after rounds = subst (λ (l : List Held). MakesRounds g may_stop n (lanes_held olds) l rounds.made None)
       (ap (λ (l : List Token). delivered l (lanes_held news)) rounds.goes.1 ∙ delivered_none (lanes_held news)) rounds.makes
@@ -201,11 +202,11 @@ told_run p z inputs steps may_stop evs r (shown, shows, lists) = subst (λ (l : 
 pub told_quietly : (p : Program) (z : Size) (inputs : List ℤ) (steps : ℕ) (may_stop : Bool) (kept evs : Events) (r : Report) → r.events ≡ [] → ShowsOn false p z inputs steps may_stop kept evs r → ShowsQuietly p z inputs steps false may_stop r
 told_quietly p z inputs steps may_stop kept evs r none (shown, shows, lists) = record { unlisted = none; events = shown; shows = shows }
 
-module _ {C A : Type 0} where
-  pub between_start : (g : Setting) (ts : List (Turner C A)) (raw : List Held) → lanes_held ts ≡ raw → tokens_sent ts ≡ [] → events_noted ts ≡ [] → IsSoundState (coming g raw []) → All (RunsAs g) (lanes_fixed ts) → IsBetween g ts
+module _ {C A L : Type 0} where
+  pub between_start : (g : Setting) (ts : List (Turner C A L)) (raw : List Held) → lanes_held ts ≡ raw → tokens_sent ts ≡ [] → events_noted ts ≡ [] → IsSoundState (coming g raw []) → All (RunsAs g) (lanes_fixed ts) → IsBetween g ts
   between_start g ts raw is sent noted sound runs = record { runs = runs; sound = subst (λ (l : List Held). IsSoundState (coming g l [])) (sym is) sound; sent = sent; noted = noted }
 
-  module _ (g now : Setting) (setting : now ≡ g) (listed may_stop : Bool) (n : ℕ) (olds news : List (Turner C A)) (before after : Events) (halt : Halt) (rounds : Rounds g listed may_stop n olds before news after (Some halt)) (raw : List Held) (lanes : raw ≡ lanes_held news) where
+  module _ (g now : Setting) (setting : now ≡ g) (listed may_stop : Bool) (n : ℕ) (olds news : List (Turner C A L)) (before after : Events) (halt : Halt) (rounds : Rounds g listed may_stop n olds before news after (Some halt)) (raw : List Held) (lanes : raw ≡ lanes_held news) where
     same_state : coming g (lanes_held news) rounds.rest ≡ coming now raw rounds.rest
     same_state = ap (λ (x : Setting). coming x (lanes_held news) rounds.rest) (sym setting) ∙ ap (λ (l : List Held). coming now l rounds.rest) (sym lanes)
 

@@ -14,7 +14,8 @@ use Rattle.schedule.specs.Runs.{Kept}
 use Rattle.schedule.specs.Told.{IsReportOf, opening_picture}
 use Rattle.schedule.proofs.Tokens.{delivered_none}
 use Rattle.schedule.proofs.Reports.{told_coming}
-use Rattle.rounds.specs.Turns.{Turns, IsWhole, Turned, Round, helds, all_sent, logged, coming}
+use Rattle.schedule.specs.Steps.{logged}
+use Rattle.rounds.specs.Turns.{Turns, IsWhole, Turned, Round, helds, all_sent, coming}
 use Rattle.rounds.specs.Counted.{answers, NoneHalts, IsWhy, MakesRound, MakesRounds, TellsRounds}
 
 -- how many events lanes have made

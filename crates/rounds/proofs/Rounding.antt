@@ -24,7 +24,8 @@ use Rattle.schedule.proofs.Playing.{tokens_none}
 use Rattle.std.proofs.lemmas.Bool.{cases_lt}
 use Rattle.lemmas.proofs.Lists.{nothing_before, nothing_after}
 use Rattle.rounds.specs.declared.turn.Turner.{Turner}
-use Rattle.rounds.specs.Turns.{by, logged, Turns, Turned, turned_of, TakesTurn, HaltsLane, TookTurn, Round, made_in, helds, all_sent, all_noted, coming}
+use Rattle.schedule.specs.Steps.{logged}
+use Rattle.rounds.specs.Turns.{by, Turns, Turned, turned_of, TakesTurn, HaltsLane, TookTurn, Round, made_in, helds, all_sent, all_noted, coming}
 use Rattle.rounds.specs.Rounds.{lane_held, lanes_held, lane_fixed, lanes_fixed, tokens_sent, events_noted, halts_in, IsBetween, IsHalted, Leads, MadeRound}
 use Rattle.rounds.proofs.Turning.{Standing, stands_round, began_round, noted_round, logged_from}
 
@@ -80,8 +81,8 @@ halts_round g listed may_stop (o ∷ os) (t ∷ ts) zero halt round is = (t.held
 halts_round g listed may_stop (o ∷ os) (t ∷ ts) (suc e) halt round is = halts_round g listed may_stop os ts e halt round.1 is
 
 -- THE ROUND IN MEMORY
-module _ {C A : Type 0} where
-  fresh_turn : (p : Program) (steps turns : ℕ) (listed may_stop : Bool) (x : Turner C A) (t : Turned) → x.sent.items ≡ [] → x.log.items ≡ [] → TakesTurn p steps turns listed may_stop (turned_of x) t → TakesTurn p steps turns listed may_stop (record { held = lane_held x; sent = []; log = []; halt = None }) t
+module _ {C A L : Type 0} where
+  fresh_turn : (p : Program) (steps turns : ℕ) (listed may_stop : Bool) (x : Turner C A L) (t : Turned) → x.sent.items ≡ [] → x.log.events.items ≡ [] → TakesTurn p steps turns listed may_stop (turned_of x) t → TakesTurn p steps turns listed may_stop (record { held = lane_held x; sent = []; log = []; halt = None }) t
   fresh_turn p steps turns listed may_stop x t sent log turn = record {
     taken = turn.taken;
     turns = subst (λ (l : List Token). Turns p steps (lane_held x) l turn.taken t.held t.sent) sent turn.turns;
@@ -91,29 +92,29 @@ module _ {C A : Type 0} where
     halts = turn.halts;
   }
 
-  to_round : (g : Setting) (listed may_stop : Bool) (olds news : List (Turner C A)) → length news ≡ length olds → tokens_sent olds ≡ [] → events_noted olds ≡ []
-      → ((i : ℕ) (d : Turner C A) → i < length olds → TakesTurn g.program g.steps g.turn listed may_stop (turned_of (get_or olds i d)) (turned_of (get_or news i d))) → Round g listed may_stop (lanes_held olds) (map turned_of news)
+  to_round : (g : Setting) (listed may_stop : Bool) (olds news : List (Turner C A L)) → length news ≡ length olds → tokens_sent olds ≡ [] → events_noted olds ≡ []
+      → ((i : ℕ) (d : Turner C A L) → i < length olds → TakesTurn g.program g.steps g.turn listed may_stop (turned_of (get_or olds i d)) (turned_of (get_or news i d))) → Round g listed may_stop (lanes_held olds) (map turned_of news)
   to_round g listed may_stop [] [] count sent noted each = tt
   to_round g listed may_stop [] (y ∷ ys) count sent noted each = absurd (omega (arith, count))
   to_round g listed may_stop (x ∷ xs) [] count sent noted each = absurd (omega (arith, count))
   to_round g listed may_stop (x ∷ xs) (y ∷ ys) count sent noted each = (
-    fresh_turn g.program g.steps g.turn listed may_stop x (turned_of y) (nothing_before x.sent.items (tokens_sent xs) sent) (nothing_before x.log.items (events_noted xs) noted) (each 0 x (omega arith)),
-    to_round g listed may_stop xs ys (omega arith) (nothing_after x.sent.items (tokens_sent xs) sent) (nothing_after x.log.items (events_noted xs) noted) (λ i d low. each (suc i) d (omega arith)),
+    fresh_turn g.program g.steps g.turn listed may_stop x (turned_of y) (nothing_before x.sent.items (tokens_sent xs) sent) (nothing_before x.log.events.items (events_noted xs) noted) (each 0 x (omega arith)),
+    to_round g listed may_stop xs ys (omega arith) (nothing_after x.sent.items (tokens_sent xs) sent) (nothing_after x.log.events.items (events_noted xs) noted) (λ i d low. each (suc i) d (omega arith)),
   )
 
   -- the lanes run the code of the machine
-  took : (g : Setting) (listed may_stop : Bool) (olds news : List (Turner C A)) → All (RunsAs g) (lanes_fixed olds) → ((i : ℕ) (d : Turner C A) → i < length olds → TookTurn g.turn listed may_stop (get_or olds i d) (get_or news i d))
-      → (i : ℕ) (d : Turner C A) → i < length olds → TakesTurn g.program g.steps g.turn listed may_stop (turned_of (get_or olds i d)) (turned_of (get_or news i d))
+  took : (g : Setting) (listed may_stop : Bool) (olds news : List (Turner C A L)) → All (RunsAs g) (lanes_fixed olds) → ((i : ℕ) (d : Turner C A L) → i < length olds → TookTurn g.turn listed may_stop (get_or olds i d) (get_or news i d))
+      → (i : ℕ) (d : Turner C A L) → i < length olds → TakesTurn g.program g.steps g.turn listed may_stop (turned_of (get_or olds i d)) (turned_of (get_or news i d))
   took g listed may_stop olds news runs each i d low =
-      let x : Turner C A = get_or olds i d in
-      let y : Turner C A = get_or news i d in
+      let x : Turner C A L = get_or olds i d in
+      let y : Turner C A L = get_or news i d in
       let count = length-map olds lane_fixed in
       let within : i < length (lanes_fixed olds) = omega arith in
       let run : RunsAs g (fixed_of x.lane) = subst (λ (f : Fixed). RunsAs g f) (get_or-map lane_fixed olds i d (lane_fixed d) low) (All-get_or (RunsAs g) (lanes_fixed olds) i (lane_fixed d) within runs) in
       subst (λ (p : Program). TakesTurn p g.steps g.turn listed may_stop (turned_of x) (turned_of y)) run.program
       (subst (λ (n : ℕ). TakesTurn x.lane.program n g.turn listed may_stop (turned_of x) (turned_of y)) run.steps (each i d low).takes)
 
-  same_fixed : (turn : ℕ) (listed may_stop : Bool) (olds news : List (Turner C A)) → length news ≡ length olds → ((i : ℕ) (d : Turner C A) → i < length olds → TookTurn turn listed may_stop (get_or olds i d) (get_or news i d)) → lanes_fixed news ≡ lanes_fixed olds
+  same_fixed : (turn : ℕ) (listed may_stop : Bool) (olds news : List (Turner C A L)) → length news ≡ length olds → ((i : ℕ) (d : Turner C A L) → i < length olds → TookTurn turn listed may_stop (get_or olds i d) (get_or news i d)) → lanes_fixed news ≡ lanes_fixed olds
   same_fixed turn listed may_stop [] [] count each = refl
   same_fixed turn listed may_stop [] (y ∷ ys) count each = absurd (omega (arith, count))
   same_fixed turn listed may_stop (x ∷ xs) [] count each = absurd (omega (arith, count))
@@ -121,23 +122,23 @@ module _ {C A : Type 0} where
       ap (λ (f : Fixed). f ∷ lanes_fixed ys) (each 0 x (omega arith)).fixed
       ∙ ap (λ (l : List Fixed). lane_fixed x ∷ l) (same_fixed turn listed may_stop xs ys (omega arith) (λ i d low. each (suc i) d (omega arith)))
 
-  helds_are : (ts : List (Turner C A)) → helds (map turned_of ts) ≡ lanes_held ts
+  helds_are : (ts : List (Turner C A L)) → helds (map turned_of ts) ≡ lanes_held ts
   helds_are [] = refl
   helds_are (t ∷ ts) = ap (λ (l : List Held). lane_held t ∷ l) (helds_are ts)
 
-  sent_are : (ts : List (Turner C A)) → all_sent (map turned_of ts) ≡ tokens_sent ts
+  sent_are : (ts : List (Turner C A L)) → all_sent (map turned_of ts) ≡ tokens_sent ts
   sent_are [] = refl
   sent_are (t ∷ ts) = ap (λ (l : List Token). t.sent.items ++ l) (sent_are ts)
 
-  noted_are : (ts : List (Turner C A)) → all_noted (map turned_of ts) ≡ events_noted ts
+  noted_are : (ts : List (Turner C A L)) → all_noted (map turned_of ts) ≡ events_noted ts
   noted_are [] = refl
-  noted_are (t ∷ ts) = ap (λ (l : Events). t.log.items ++ l) (noted_are ts)
+  noted_are (t ∷ ts) = ap (λ (l : Events). t.log.events.items ++ l) (noted_are ts)
 
-  halts_are : (ts : List (Turner C A)) → map (λ (t : Turned). t.halt) (map turned_of ts) ≡ halts_in ts
+  halts_are : (ts : List (Turner C A L)) → map (λ (t : Turned). t.halt) (map turned_of ts) ≡ halts_in ts
   halts_are [] = refl
   halts_are (t ∷ ts) = ap (λ (l : List (Option Halt)). t.halt ∷ l) (halts_are ts)
 
-  module _ (g : Setting) (listed may_stop : Bool) (olds news : List (Turner C A)) (between : IsBetween g olds) (count : length news ≡ length olds) (each : (i : ℕ) (d : Turner C A) → i < length olds → TakesTurn g.program g.steps g.turn listed may_stop (turned_of (get_or olds i d)) (turned_of (get_or news i d))) where
+  module _ (g : Setting) (listed may_stop : Bool) (olds news : List (Turner C A L)) (between : IsBetween g olds) (count : length news ≡ length olds) (each : (i : ℕ) (d : Turner C A L) → i < length olds → TakesTurn g.program g.steps g.turn listed may_stop (turned_of (get_or olds i d)) (turned_of (get_or news i d))) where
     pub round : Round g listed may_stop (lanes_held olds) (map turned_of news)
     round = to_round g listed may_stop olds news count between.sent between.noted each
 
@@ -172,32 +173,32 @@ module _ {C A : Type 0} where
         let found = halts_round g listed may_stop (lanes_held olds) (map turned_of news) e halt round (subst (λ (l : List (Option Halt)). slice_get l e ≡ Some (Some halt)) (sym (halts_are news)) is) in
         halts_as g may_stop (lanes_held news) (tokens_sent news) e found.0 halt (subst (λ (l : List Held). slice_get l e ≡ Some found.0) (helds_are news) found.1) found.2
 
-  pub held_at : (ts : List (Turner C A)) (i : ℕ) (x : Turner C A) → i < length ts → x ≡ get_or ts i x → slice_get (lanes_held ts) i ≡ Some (lane_held x)
-  held_at ts i x low is = slice_get-map lane_held ts i ∙ ap (λ (o : Option (Turner C A)). option_map lane_held o) (slice_get_read ts (length ts) i x refl low is)
+  pub held_at : (ts : List (Turner C A L)) (i : ℕ) (x : Turner C A L) → i < length ts → x ≡ get_or ts i x → slice_get (lanes_held ts) i ≡ Some (lane_held x)
+  held_at ts i x low is = slice_get-map lane_held ts i ∙ ap (λ (o : Option (Turner C A L)). option_map lane_held o) (slice_get_read ts (length ts) i x refl low is)
 
-  pub received : (ts : List (Turner C A)) (n i : ℕ) (x new : Turner C A) (t : Token) → AllFrom (IsAt n) 0 (lanes_held ts) → element_of n t.to ≡ i → i < length ts → x ≡ get_or ts i x
+  pub received : (ts : List (Turner C A L)) (n i : ℕ) (x new : Turner C A L) (t : Token) → AllFrom (IsAt n) 0 (lanes_held ts) → element_of n t.to ≡ i → i < length ts → x ≡ get_or ts i x
       → lane_held new ≡ with_queue (lane_held x) (x.lane.held.queue ++ t ∷ []) → lanes_held (slice_set ts i new) ≡ delivered (t ∷ []) (lanes_held ts)
   received ts n i x new t all at low is e =
       let place : element_of n t.to ≡ 0 + i = omega arith in
       map-set lane_held ts i new ∙ ap (λ (h : Held). slice_set (lanes_held ts) i h) e ∙ sym (delivered_one n 0 (lanes_held ts) i t (lane_held x) all place (held_at ts i x low is))
 
   -- one more token has come
-  pub come_more : (items new : List (Turner C A)) (sent : List Token) (k : ℕ) (t : Token) → k < length sent → t ≡ get_or sent k t → lanes_held new ≡ delivered (t ∷ []) (lanes_held items)
+  pub come_more : (items new : List (Turner C A L)) (sent : List Token) (k : ℕ) (t : Token) → k < length sent → t ≡ get_or sent k t → lanes_held new ≡ delivered (t ∷ []) (lanes_held items)
       → delivered (drop (k + 1) sent) (lanes_held new) ≡ delivered (drop k sent) (lanes_held items)
   come_more items new sent k t low is e =
       ap (λ (l : List Held). delivered (drop (k + 1) sent) l) e ∙ delivered_twice (t ∷ []) (drop (k + 1) sent) (lanes_held items)
       ∙ ap (λ (l : List Token). delivered l (lanes_held items)) (ap (λ (u : Token). u ∷ drop (k + 1) sent) is ∙ sym (drop_more sent k t low))
 
-  pub halt_at : (ts : List (Turner C A)) (i : ℕ) (d : Turner C A) (halt : Halt) → i < length ts → (get_or ts i d).halt ≡ Some halt → slice_get (halts_in ts) i ≡ Some (Some halt)
+  pub halt_at : (ts : List (Turner C A L)) (i : ℕ) (d : Turner C A L) (halt : Halt) → i < length ts → (get_or ts i d).halt ≡ Some halt → slice_get (halts_in ts) i ≡ Some (Some halt)
   halt_at [] i d halt low is = absurd (omega (arith, low))
   halt_at (t ∷ ts) zero d halt low is = ap (λ (o : Option Halt). Some o) is
   halt_at (t ∷ ts) (suc i) d halt low is = halt_at ts i d halt (omega arith) is
 
   -- none of the first k + 1 halts
-  pub none_more : (ts : List (Turner C A)) (k : ℕ) (d : Turner C A) → k < length ts → (get_or ts k d).halt ≡ None → ((i : ℕ) → i < k → slice_get (halts_in ts) i ≡ Some None) → (i : ℕ) → i < k + 1 → slice_get (halts_in ts) i ≡ Some None
+  pub none_more : (ts : List (Turner C A L)) (k : ℕ) (d : Turner C A L) → k < length ts → (get_or ts k d).halt ≡ None → ((i : ℕ) → i < k → slice_get (halts_in ts) i ≡ Some None) → (i : ℕ) → i < k + 1 → slice_get (halts_in ts) i ≡ Some None
   none_more ts k d low none before i within = by_place (cases_lt i k)
     where
-      none_at : (ts : List (Turner C A)) (k : ℕ) → k < length ts → (get_or ts k d).halt ≡ None → slice_get (halts_in ts) k ≡ Some None
+      none_at : (ts : List (Turner C A L)) (k : ℕ) → k < length ts → (get_or ts k d).halt ≡ None → slice_get (halts_in ts) k ≡ Some None
       none_at [] k low is = absurd (omega (arith, low))
       none_at (t ∷ ts) zero low is = ap (λ (o : Option Halt). Some o) is
       none_at (t ∷ ts) (suc k) low is = none_at ts k (omega arith) is
@@ -206,12 +207,12 @@ module _ {C A : Type 0} where
       by_place (inl l) = before i l
       by_place (inr l) = let here : i ≡ k = omega arith in subst (λ (n : ℕ). slice_get (halts_in ts) n ≡ Some None) (sym here) (none_at ts k low none)
 
-  queue_at : (ts : List (Turner C A)) (i : ℕ) (d : Turner C A) (h : Held) → slice_get (lanes_held ts) i ≡ Some h → h.queue ≡ (get_or ts i d).lane.held.queue
+  queue_at : (ts : List (Turner C A L)) (i : ℕ) (d : Turner C A L) (h : Held) → slice_get (lanes_held ts) i ≡ Some h → h.queue ≡ (get_or ts i d).lane.held.queue
   queue_at [] i d h is = absurd (let no : ⊥ = cc in no)
   queue_at (t ∷ ts) zero d h is = let same : lane_held t ≡ h = cc in sym (ap (λ (x : Held). x.queue) same)
   queue_at (t ∷ ts) (suc i) d h is = queue_at ts i d h is
 
-  pub idle_more : (ts : List (Turner C A)) (k : ℕ) (d : Turner C A) → length (get_or ts k d).lane.held.queue ≡ 0 → ((i : ℕ) (h : Held) → i < k → slice_get (lanes_held ts) i ≡ Some h → h.queue ≡ [])
+  pub idle_more : (ts : List (Turner C A L)) (k : ℕ) (d : Turner C A L) → length (get_or ts k d).lane.held.queue ≡ 0 → ((i : ℕ) (h : Held) → i < k → slice_get (lanes_held ts) i ≡ Some h → h.queue ≡ [])
       → (i : ℕ) (h : Held) → i < k + 1 → slice_get (lanes_held ts) i ≡ Some h → h.queue ≡ []
   idle_more ts k d none before i h low is = by_place (cases_lt i k)
     where
@@ -223,7 +224,7 @@ module _ {C A : Type 0} where
           q ∙ nil_from_length (get_or ts k d).lane.held.queue none
 
   -- where a lane has a token there is one
-  pub some_token : (ts : List (Turner C A)) (k : ℕ) (d : Turner C A) → k < length ts → 0 < length (get_or ts k d).lane.held.queue → 0 < length (tokens_in (lanes_held ts))
+  pub some_token : (ts : List (Turner C A L)) (k : ℕ) (d : Turner C A L) → k < length ts → 0 < length (get_or ts k d).lane.held.queue → 0 < length (tokens_in (lanes_held ts))
   some_token [] k d low some = absurd (omega (arith, low))
   some_token (t ∷ ts) zero d low some = let l = length-append t.lane.held.queue (tokens_in (lanes_held ts)) in omega (arith, l, some)
   some_token (t ∷ ts) (suc k) d low some =
@@ -231,12 +232,12 @@ module _ {C A : Type 0} where
       let m = some_token ts k d (omega arith) some in
       omega (arith, l, m)
 
-  pub idle_all : (ts : List (Turner C A)) (k : ℕ) → length ts ≤ k → ((i : ℕ) (h : Held) → i < k → slice_get (lanes_held ts) i ≡ Some h → h.queue ≡ []) → tokens_in (lanes_held ts) ≡ []
+  pub idle_all : (ts : List (Turner C A L)) (k : ℕ) → length ts ≤ k → ((i : ℕ) (h : Held) → i < k → slice_get (lanes_held ts) i ≡ Some h → h.queue ≡ []) → tokens_in (lanes_held ts) ≡ []
   idle_all ts k past none = tokens_none (lanes_held ts) (λ i h low is. none i h (let l = length-map ts lane_held in omega arith) is)
 
   -- the turns, and what was gathered of them
-  pub made_round : (g : Setting) (listed may_stop : Bool) (olds news last : List (Turner C A)) (before after : Events) (tokens : List Token) → IsBetween g olds → length news ≡ length olds
-      → ((i : ℕ) (d : Turner C A) → i < length olds → TookTurn g.turn listed may_stop (get_or olds i d) (get_or news i d))
+  pub made_round : (g : Setting) (listed may_stop : Bool) (olds news last : List (Turner C A L)) (before after : Events) (tokens : List Token) → IsBetween g olds → length news ≡ length olds
+      → ((i : ℕ) (d : Turner C A L) → i < length olds → TookTurn g.turn listed may_stop (get_or olds i d) (get_or news i d))
       → lanes_held last ≡ lanes_held news → lanes_fixed last ≡ lanes_fixed news → halts_in last ≡ halts_in news → tokens ≡ tokens_sent news → after ≡ before ++ events_noted news → events_noted last ≡ [] → length last ≡ length olds
       → MadeRound g listed may_stop olds before last after tokens
   made_round g listed may_stop olds news last before after tokens between count took_turn lanes fixed halts sent events none length_is =

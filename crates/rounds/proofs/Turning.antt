@@ -15,7 +15,8 @@ use Rattle.schedule.specs.Runs.{Began}
 use Rattle.schedule.proofs.Places.{first_get, first_set}
 use Rattle.schedule.proofs.Tokens.{set_same}
 use Rattle.schedule.proofs.Stepping.{bounds_in}
-use Rattle.rounds.specs.Turns.{by, logged, Turns, Turned, Round, made_in, helds, all_sent, all_noted, coming}
+use Rattle.schedule.specs.Steps.{logged}
+use Rattle.rounds.specs.Turns.{by, Turns, Turned, Round, made_in, helds, all_sent, all_noted, coming}
 use Rattle.rounds.proofs.Going.{began_one, near_sent, next_placed}
 
 -- one event more at the end of a turn
@@ -175,11 +176,3 @@ noted_round g listed may_stop (h ∷ hs) (t ∷ ts) (turn, rest) =
 pub logged_from : (listed : Bool) (before made : Events) → before ++ logged listed [] made ≡ logged listed before made
 logged_from true before made = refl
 logged_from false before made = append-nil before
-
-pub logged_twice : (listed : Bool) (before a b : Events) → logged listed (logged listed before a) b ≡ logged listed before (a ++ b)
-logged_twice true before a b = append_assoc before a b
-logged_twice false before a b = refl
-
-pub logged_none : (listed : Bool) (before : Events) → before ≡ logged listed before []
-logged_none true before = sym (append-nil before)
-logged_none false before = refl

@@ -6,9 +6,10 @@ use Rattle.element.specs.Held.{Held}
 use Rattle.schedule.specs.declared.halt.Halt.{Halt}
 use Rattle.schedule.specs.Setting.{Setting}
 use Rattle.schedule.specs.State.{delivered, tokens_in}
+use Rattle.schedule.specs.Steps.{logged}
 use Rattle.schedule.specs.Runs.{Kept}
 use Rattle.schedule.specs.Told.{IsReportOf}
-use Rattle.rounds.specs.Turns.{Turned, Round, made_in, helds, all_sent, logged}
+use Rattle.rounds.specs.Turns.{Turned, Round, made_in, helds, all_sent}
 
 -- why the elements halt, by their numbers
 abbrev pub answers : List Turned → List (Option Halt)

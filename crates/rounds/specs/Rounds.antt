@@ -10,41 +10,42 @@ use Rattle.element.specs.Held.{Held, Fixed, held_of, fixed_of}
 use Rattle.schedule.specs.declared.halt.Halt.{Halt}
 use Rattle.schedule.specs.Setting.{Setting}
 use Rattle.schedule.specs.State.{State, IsSoundState, RunsAs, delivered}
+use Rattle.schedule.specs.Steps.{logged}
 use Rattle.schedule.specs.Runs.{Began, HaltsAs}
 use Rattle.rounds.specs.declared.turn.Turner.{Turner}
-use Rattle.rounds.specs.Turns.{Turned, Round, made_in, helds, all_sent, coming, logged}
+use Rattle.rounds.specs.Turns.{Turned, Round, made_in, helds, all_sent, coming}
 use Rattle.rounds.specs.Counted.{answers, MakesRounds}
 
-abbrev pub lane_held : {C A : Type 0} → Turner C A → Held
+abbrev pub lane_held : {C A L : Type 0} → Turner C A L → Held
 lane_held t = held_of t.lane
 
-abbrev pub lanes_held : {C A : Type 0} → List (Turner C A) → List Held
+abbrev pub lanes_held : {C A L : Type 0} → List (Turner C A L) → List Held
 lanes_held ts = map lane_held ts
 
-abbrev pub lane_fixed : {C A : Type 0} → Turner C A → Fixed
+abbrev pub lane_fixed : {C A L : Type 0} → Turner C A L → Fixed
 lane_fixed t = fixed_of t.lane
 
-abbrev pub lanes_fixed : {C A : Type 0} → List (Turner C A) → List Fixed
+abbrev pub lanes_fixed : {C A L : Type 0} → List (Turner C A L) → List Fixed
 lanes_fixed ts = map lane_fixed ts
 
-abbrev pub tokens_sent : {C A : Type 0} → List (Turner C A) → List Token
+abbrev pub tokens_sent : {C A L : Type 0} → List (Turner C A L) → List Token
 tokens_sent ts = flat_map (λ t. t.sent.items) ts
 
-abbrev pub events_noted : {C A : Type 0} → List (Turner C A) → Events
-events_noted ts = flat_map (λ t. t.log.items) ts
+abbrev pub events_noted : {C A L : Type 0} → List (Turner C A L) → Events
+events_noted ts = flat_map (λ t. t.log.events.items) ts
 
-abbrev pub halt_in : {C A : Type 0} → Turner C A → Option Halt
+abbrev pub halt_in : {C A L : Type 0} → Turner C A L → Option Halt
 halt_in t = t.halt
 
-abbrev pub halts_in : {C A : Type 0} → List (Turner C A) → List (Option Halt)
+abbrev pub halts_in : {C A L : Type 0} → List (Turner C A L) → List (Option Halt)
 halts_in ts = map halt_in ts
 
 -- nothing is on its way
-abbrev pub IsCleared : {C A : Type 0} → List (Turner C A) → Type 0
+abbrev pub IsCleared : {C A L : Type 0} → List (Turner C A L) → Type 0
 IsCleared ts = (tokens_sent ts ≡ []) × (events_noted ts ≡ [])
 
 -- what holds between rounds
-pub record IsBetween {C A : Type 0} (g : Setting) (ts : List (Turner C A)) : Type 0 where
+pub record IsBetween {C A L : Type 0} (g : Setting) (ts : List (Turner C A L)) : Type 0 where
   pub sound : IsSoundState (coming g (lanes_held ts) [])
   -- each lane runs the code of the machine
   pub runs : All (RunsAs g) (lanes_fixed ts)
@@ -56,16 +57,16 @@ abbrev pub IsHalted : State → Bool → Halt → Type 0
 IsHalted s may_stop halt = HaltsAs s false halt ⊎ ((halt ≡ Halt.Stop) × (may_stop ≡ true))
 
 -- Where nothing halts it is as between rounds; and else the tokens that are on their way are these.
-abbrev pub GoesOn : {C A : Type 0} → Setting → Bool → List (Turner C A) → List Token → Option Halt → Type 0
+abbrev pub GoesOn : {C A L : Type 0} → Setting → Bool → List (Turner C A L) → List Token → Option Halt → Type 0
 GoesOn g may_stop ts rest None = IsBetween g ts × (rest ≡ [])
 GoesOn g may_stop ts rest (Some halt) = IsSoundState (coming g (lanes_held ts) rest) × IsHalted (coming g (lanes_held ts) rest) may_stop halt
 
 -- what is known of the machine with these tokens on their way, if it was known with none
-abbrev pub Leads : {C A : Type 0} → Setting → List (Turner C A) → List (Turner C A) → List Token → Events → Type 0
+abbrev pub Leads : {C A L : Type 0} → Setting → List (Turner C A L) → List (Turner C A L) → List Token → Events → Type 0
 Leads g old new rest made = (inputs : List ℤ) (before : Events) → Began inputs (coming g (lanes_held old) []) before → Began inputs (coming g (lanes_held new) rest) (before ++ made)
 
 -- what this number of rounds does, with the events that they made
-pub record Rounds {C A : Type 0} (g : Setting) (listed may_stop : Bool) (rounds : ℕ) (old : List (Turner C A)) (before : Events) (new : List (Turner C A)) (after : Events) (halt : Option Halt) : Type 0 where
+pub record Rounds {C A L : Type 0} (g : Setting) (listed may_stop : Bool) (rounds : ℕ) (old : List (Turner C A L)) (before : Events) (new : List (Turner C A L)) (after : Events) (halt : Option Halt) : Type 0 where
   pub rest : List Token
   pub made : Events
   pub goes : GoesOn g may_stop new rest halt
@@ -74,7 +75,7 @@ pub record Rounds {C A : Type 0} (g : Setting) (listed may_stop : Bool) (rounds 
   pub makes : MakesRounds g may_stop rounds (lanes_held old) (delivered rest (lanes_held new)) made halt
 
 -- what the turns of a round leave, with all tokens that are on their way
-pub record MadeRound {C A : Type 0} (g : Setting) (listed may_stop : Bool) (old : List (Turner C A)) (before : Events) (new : List (Turner C A)) (after : Events) (tokens : List Token) : Type 0 where
+pub record MadeRound {C A L : Type 0} (g : Setting) (listed may_stop : Bool) (old : List (Turner C A L)) (before : Events) (new : List (Turner C A L)) (after : Events) (tokens : List Token) : Type 0 where
   pub sound : IsSoundState (coming g (lanes_held new) tokens)
   pub runs : All (RunsAs g) (lanes_fixed new)
   pub made : Events

@@ -9,16 +9,12 @@ use Rattle.element.specs.Steps.{Does, Clashes, Excludes}
 use Rattle.schedule.specs.declared.halt.Halt.{Halt}
 use Rattle.schedule.specs.Setting.{Setting}
 use Rattle.schedule.specs.State.{State, delivered}
+use Rattle.schedule.specs.Steps.{logged}
 use Rattle.rounds.specs.declared.turn.Turner.{Turner}
 
 -- the events of an element that took these tokens
 abbrev pub by : ℕ → List Token → Events
 by e ts = map (λ (t : Token). (e, t)) ts
-
--- what a list is after these events, where events are listed and where they are not
-abbrev pub logged : Bool → Events → Events → Events
-logged true log events = log ++ events
-logged false log events = log
 
 -- The lane took these tokens, its oldest first, an event each. Those that it made for others came behind `before`.
 abbrev pub Turns : Program → ℕ → Held → List Token → List Token → Held → List Token → Type 0
@@ -55,8 +51,8 @@ pub record Turned : Type 0 where
   pub log : Events
   pub halt : Option Halt
 
-abbrev pub turned_of : {C A : Type 0} → Turner C A → Turned
-turned_of t = record { held = held_of t.lane; sent = t.sent.items; log = t.log.items; halt = t.halt }
+abbrev pub turned_of : {C A L : Type 0} → Turner C A L → Turned
+turned_of t = record { held = held_of t.lane; sent = t.sent.items; log = t.log.events.items; halt = t.halt }
 
 -- it took its turn
 pub record TakesTurn (p : Program) (steps turn : ℕ) (listed may_stop : Bool) (old new : Turned) : Type 0 where
@@ -68,7 +64,7 @@ pub record TakesTurn (p : Program) (steps turn : ℕ) (listed may_stop : Bool) (
   pub halts : HaltsLane p steps may_stop new.held new.halt
 
 -- The lane of a turner took its turn, and runs the same code.
-pub record TookTurn {C A : Type 0} (turn : ℕ) (listed may_stop : Bool) (old new : Turner C A) : Type 0 where
+pub record TookTurn {C A L : Type 0} (turn : ℕ) (listed may_stop : Bool) (old new : Turner C A L) : Type 0 where
   pub takes : TakesTurn old.lane.program old.lane.steps turn listed may_stop (turned_of old) (turned_of new)
   pub fixed : fixed_of new.lane ≡ fixed_of old.lane
 

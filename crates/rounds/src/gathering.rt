@@ -5,31 +5,32 @@ ghost use Rattle.rounds.specs.Rounds.{lane_held, lanes_held, lane_fixed, lanes_f
 
 use crate::turn::Turner;
 use element::instructions::Instructions;
+use schedule::log::{EventLog, Log};
 use std::alloc::{AllocError, Allocator};
 use tags::token::Token;
 
-fn take_events<C: Instructions, A: Allocator>(
-    turner: &mut Turner<'_, C, A>,
-    events: &mut Vec<(u32, Token), A>,
+fn take_events<C: Instructions, A: Allocator, L: Log>(
+    turner: &mut Turner<'_, C, A, L>,
+    all: &mut EventLog<A, L>,
 ) -> Result<(), AllocError>
     ensures held { lane_held turner.new ≡ lane_held turner.old }
     ensures fixed { lane_fixed turner.new ≡ lane_fixed turner.old }
     ensures sent { turner.new.sent.items ≡ turner.old.sent.items }
     ensures halt { turner.new.halt ≡ turner.old.halt }
-    ensures events { events.new.items ++ turner.new.log.items ≡ events.old.items ++ turner.old.log.items }
-    ensures cleared { OnOk result (turner.new.log.items ≡ []) }
+    ensures events { all.new.events.items ++ turner.new.log.events.items ≡ all.old.events.items ++ turner.old.log.events.items }
+    ensures cleared { OnOk result (turner.new.log.events.items ≡ []) }
 {
     let Turner { log, .. } = turner;
-    events.append(log)
+    all.append(log)
 }
 
-fn take_tokens<C: Instructions, A: Allocator>(
-    turner: &mut Turner<'_, C, A>,
+fn take_tokens<C: Instructions, A: Allocator, L: Log>(
+    turner: &mut Turner<'_, C, A, L>,
     tokens: &mut Vec<Token, A>,
 ) -> Result<(), AllocError>
     ensures held { lane_held turner.new ≡ lane_held turner.old }
     ensures fixed { lane_fixed turner.new ≡ lane_fixed turner.old }
-    ensures events { turner.new.log.items ≡ turner.old.log.items }
+    ensures events { turner.new.log.events.items ≡ turner.old.log.events.items }
     ensures halt { turner.new.halt ≡ turner.old.halt }
     ensures tokens { tokens.new.items ++ turner.new.sent.items ≡ tokens.old.items ++ turner.old.sent.items }
     ensures cleared { OnOk result (turner.new.sent.items ≡ []) }
@@ -39,28 +40,28 @@ fn take_tokens<C: Instructions, A: Allocator>(
 }
 
 /// Takes the events of all elements, in order.
-pub fn gather_events<C: Instructions, A: Allocator>(
-    turners: &mut [Turner<'_, C, A>],
-    events: &mut Vec<(u32, Token), A>,
+pub fn gather_events<C: Instructions, A: Allocator, L: Log>(
+    turners: &mut [Turner<'_, C, A, L>],
+    all: &mut EventLog<A, L>,
 ) -> Result<(), AllocError>
     ensures lanes { lanes_held turners.new ≡ lanes_held turners.old }
     ensures fixed { lanes_fixed turners.new ≡ lanes_fixed turners.old }
     ensures sent { tokens_sent turners.new ≡ tokens_sent turners.old }
     ensures halts { halts_in turners.new ≡ halts_in turners.old }
-    ensures events { events.new.items ++ events_noted turners.new ≡ events.old.items ++ events_noted turners.old }
+    ensures events { all.new.events.items ++ events_noted turners.new ≡ all.old.events.items ++ events_noted turners.old }
     ensures cleared { OnOk result (events_noted turners.new ≡ []) }
     ensures count { length turners.new ≡ length turners.old }
 {
     for at in 0..turners.len() {
         let turner = &mut turners[at];
-        take_events(turner, events)?;
+        take_events(turner, all)?;
     }
     Ok(())
 }
 
 /// Takes the tokens that all elements made for others, in order.
-pub fn gather_tokens<C: Instructions, A: Allocator>(
-    turners: &mut [Turner<'_, C, A>],
+pub fn gather_tokens<C: Instructions, A: Allocator, L: Log>(
+    turners: &mut [Turner<'_, C, A, L>],
     tokens: &mut Vec<Token, A>,
 ) -> Result<(), AllocError>
     ensures lanes { lanes_held turners.new ≡ lanes_held turners.old }

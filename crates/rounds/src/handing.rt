@@ -9,18 +9,19 @@ ghost use Rattle.rounds.specs.Rounds.{lanes_held, lanes_fixed, tokens_sent, even
 use crate::turn::Turner;
 use element::dealt::element_for;
 use element::instructions::Instructions;
+use schedule::log::Log;
 use std::alloc::{AllocError, Allocator};
 use tags::token::Token;
 
-fn receive_one<C: Instructions, A: Allocator>(
-    turner: &mut Turner<'_, C, A>,
+fn receive_one<C: Instructions, A: Allocator, L: Log>(
+    turner: &mut Turner<'_, C, A, L>,
     token: Token,
 ) -> Result<(), AllocError>
     requires { IsFor (fixed_of turner.old.lane) token }
     ensures ok { OnOk result (turner.new.lane ≡ with_more turner.old.lane (token ∷ [])) }
     ensures err { OnErr result (turner.new.lane ≡ turner.old.lane) }
     ensures sent { turner.new.sent.items ≡ turner.old.sent.items }
-    ensures events { turner.new.log.items ≡ turner.old.log.items }
+    ensures events { turner.new.log.events.items ≡ turner.old.log.events.items }
     ensures halt { turner.new.halt ≡ turner.old.halt }
 {
     let Turner { lane, .. } = turner;
@@ -28,8 +29,8 @@ fn receive_one<C: Instructions, A: Allocator>(
 }
 
 // Puts a token into the lane of its element. After an error all stands as before.
-fn receive<C: Instructions, A: Allocator>(
-    turners: &mut Vec<Turner<'_, C, A>, A>,
+fn receive<C: Instructions, A: Allocator, L: Log>(
+    turners: &mut Vec<Turner<'_, C, A, L>, A>,
     elements: u32,
     token: Token,
 ) -> Result<(), AllocError>
@@ -51,8 +52,8 @@ fn receive<C: Instructions, A: Allocator>(
 }
 
 /// Hands the tokens over. After an error the others are still on their way.
-pub fn hand_over<C: Instructions, A: Allocator>(
-    turners: &mut Vec<Turner<'_, C, A>, A>,
+pub fn hand_over<C: Instructions, A: Allocator, L: Log>(
+    turners: &mut Vec<Turner<'_, C, A, L>, A>,
     elements: u32,
     tokens: &mut Vec<Token, A>,
 ) -> Result<(), AllocError>

@@ -6,9 +6,9 @@ ghost use Rattle.semantics.specs.Machine.{Events};
 ghost use Rattle.semantics.specs.Report.{Shows};
 ghost use Rattle.element.specs.Held.{held_of, fixed_of};
 ghost use Rattle.schedule.specs.Setting.{size};
-ghost use Rattle.schedule.specs.State.{IsSoundState, RunsAs, tokens_in};
+ghost use Rattle.schedule.specs.State.{IsSoundState, RunsAs, setting_in, tokens_in};
 ghost use Rattle.schedule.specs.Runs.{Began};
-ghost use Rattle.schedule.specs.Apart.{setting_in, kept_of};
+ghost use Rattle.schedule.specs.Apart.{kept_of};
 ghost use Rattle.schedule.specs.Unlisted.{ShowsQuietly, without_events};
 ghost use Rattle.rounds.specs.Counted.{IsFirst, NoneHalts, IsWhy, TellsRounds};
 ghost use Rattle.rounds.specs.Turns.{TookTurn, coming};
@@ -21,6 +21,7 @@ use crate::turn::{Turner, make_turn};
 use element::instructions::Instructions;
 use element::lane::Lane;
 use schedule::halt::Halt;
+use schedule::log::{EventLog, Log};
 use schedule::machine::Machine;
 use schedule::main_code::MainCode;
 use schedule::report::Report;
@@ -36,10 +37,11 @@ fn make_turns<
     R: Threads + Sync,
     C: Instructions + Sync,
     A: Allocator + Clone + Send,
+    L: Log + Send,
     G: Gate + Sync,
->(rt: &R, turners: &mut [Turner<'_, C, A>], gate: &G, turn: u64, listed: bool)
+>(rt: &R, turners: &mut [Turner<'_, C, A, L>], gate: &G, turn: u64)
     requires { 0 < length turners.old }
-    ensures each { (i : ℕ) (d : _) → i < length turners.old → TookTurn turn listed G.may_stop (slice_index_or turners.old i d) (slice_index_or turners.new i d) }
+    ensures each { (i : ℕ) (d : _) → i < length turners.old → TookTurn turn L.LISTS G.may_stop (slice_index_or turners.old i d) (slice_index_or turners.new i d) }
     ensures count { length turners.new ≡ length turners.old }
 {
     let threads = turners.len();
@@ -47,14 +49,16 @@ fn make_turns<
         rt,
         turners,
         threads,
-        &|_: usize, turner: &mut Turner<'_, C, A>| -> ()
-            ensures { TookTurn turn listed G.may_stop turner.old turner.new }
-        { make_turn(turner, gate, turn, listed) },
+        &|_: usize, turner: &mut Turner<'_, C, A, L>| -> ()
+            ensures { TookTurn turn L.LISTS G.may_stop turner.old turner.new }
+        { make_turn(turner, gate, turn) },
     );
 }
 
 // The first reason of an element to halt.
-fn first_halt<C: Instructions, A: Allocator>(turners: &[Turner<'_, C, A>]) -> Option<Halt>
+fn first_halt<C: Instructions, A: Allocator, L: Log>(
+    turners: &[Turner<'_, C, A, L>],
+) -> Option<Halt>
     ensures first { IfSome result (λ halt. IsFirst (halts_in turners.now) halt) }
     ensures none { IfNone result (NoneHalts (halts_in turners.now)) }
 {
@@ -67,7 +71,7 @@ fn first_halt<C: Instructions, A: Allocator>(turners: &[Turner<'_, C, A>]) -> Op
 }
 
 // Whether no element has a token.
-fn is_idle<C: Instructions, A: Allocator>(turners: &[Turner<'_, C, A>]) -> bool
+fn is_idle<C: Instructions, A: Allocator, L: Log>(turners: &[Turner<'_, C, A, L>]) -> bool
     ensures yes { result ≡ true → tokens_in (lanes_held turners.now) ≡ [] }
     ensures no { result ≡ false → 0 < length (tokens_in (lanes_held turners.now)) }
 {
@@ -80,7 +84,7 @@ fn is_idle<C: Instructions, A: Allocator>(turners: &[Turner<'_, C, A>]) -> bool
 }
 
 // Why the run halts after a round, in which no token is on its way.
-fn why<C: Instructions, A: Allocator>(turners: &[Turner<'_, C, A>]) -> Option<Halt>
+fn why<C: Instructions, A: Allocator, L: Log>(turners: &[Turner<'_, C, A, L>]) -> Option<Halt>
     ensures { IsWhy (lanes_held turners.now) (halts_in turners.now) result }
 {
     match first_halt(turners) {
@@ -96,24 +100,29 @@ fn why<C: Instructions, A: Allocator>(turners: &[Turner<'_, C, A>]) -> Option<Ha
 }
 
 // Each element makes its turn, and what they made is gathered; false where the list of tokens could not grow.
-fn make_round<R: Threads + Sync, C: MainCode + Sync, A: Allocator + Clone + Send, G: Gate + Sync>(
+fn make_round<
+    R: Threads + Sync,
+    C: MainCode + Sync,
+    A: Allocator + Clone + Send,
+    L: Log + Send,
+    G: Gate + Sync,
+>(
     rt: &R,
-    setup: &mut Setup<'_, C, A>,
-    turners: &mut [Turner<'_, C, A>],
+    setup: &mut Setup<'_, C, A, L>,
+    turners: &mut [Turner<'_, C, A, L>],
     tokens: &mut Vec<Token, A>,
     gate: &G,
-    listed: bool,
 ) -> Result<bool, AllocError>
     requires some { 0 < length turners.old }
-    requires between { IsBetween (setting_in C.program C.width setup.old) turners.old }
+    requires between { IsBetween (setting_in C.program C.width setup.old.shape) turners.old }
     requires tokens { tokens.old.items ≡ [] }
-    ensures setting { setting_in C.program C.width setup.new ≡ setting_in C.program C.width setup.old }
-    ensures made { OnOk result (MadeRound (setting_in C.program C.width setup.old) listed G.may_stop turners.old setup.old.events.items turners.new setup.new.events.items (tokens.new.items ++ tokens_sent turners.new)) }
+    ensures setting { setting_in C.program C.width setup.new.shape ≡ setting_in C.program C.width setup.old.shape }
+    ensures made { OnOk result (MadeRound (setting_in C.program C.width setup.old.shape) L.LISTS G.may_stop turners.old setup.old.log.events.items turners.new setup.new.log.events.items (tokens.new.items ++ tokens_sent turners.new)) }
     ensures all { IfOk result (λ all. all ≡ true → tokens_sent turners.new ≡ []) }
     ensures count { length turners.new ≡ length turners.old }
 {
-    make_turns(rt, turners, gate, setup.turn, listed);
-    gather_events(turners, &mut setup.events)?;
+    make_turns(rt, turners, gate, setup.shape.turn);
+    gather_events(turners, &mut setup.log)?;
     match gather_tokens(turners, tokens) {
         Ok(()) => Ok(true),
         Err(_) => Ok(false),
@@ -125,46 +134,51 @@ fn make_whole_round<
     R: Threads + Sync,
     C: MainCode + Sync,
     A: Allocator + Clone + Send,
+    L: Log + Send,
     G: Gate + Sync,
 >(
     rt: &R,
-    setup: &mut Setup<'_, C, A>,
-    turners: &mut Vec<Turner<'_, C, A>, A>,
+    setup: &mut Setup<'_, C, A, L>,
+    turners: &mut Vec<Turner<'_, C, A, L>, A>,
     tokens: &mut Vec<Token, A>,
     gate: &G,
-    listed: bool,
 ) -> Result<bool, AllocError>
     requires some { 0 < length turners.old.items }
-    requires between { IsBetween (setting_in C.program C.width setup.old) turners.old.items }
+    requires between { IsBetween (setting_in C.program C.width setup.old.shape) turners.old.items }
     requires tokens { tokens.old.items ≡ [] }
-    ensures setting { setting_in C.program C.width setup.new ≡ setting_in C.program C.width setup.old }
-    ensures made { OnOk result (MadeRound (setting_in C.program C.width setup.old) listed G.may_stop turners.old.items setup.old.events.items turners.new.items setup.new.events.items (tokens.new.items ++ tokens_sent turners.new.items)) }
+    ensures setting { setting_in C.program C.width setup.new.shape ≡ setting_in C.program C.width setup.old.shape }
+    ensures made { OnOk result (MadeRound (setting_in C.program C.width setup.old.shape) L.LISTS G.may_stop turners.old.items setup.old.log.events.items turners.new.items setup.new.log.events.items (tokens.new.items ++ tokens_sent turners.new.items)) }
     ensures all { IfOk result (λ all. all ≡ true → tokens_sent turners.new.items ≡ []) }
     ensures count { length turners.new.items ≡ length turners.old.items }
 {
-    make_round(rt, setup, turners, tokens, gate, listed)
+    make_round(rt, setup, turners, tokens, gate)
 }
 
 // One round: why the run halts after it, if it does. An error is that the list of events could not grow.
-fn round<R: Threads + Sync, C: MainCode + Sync, A: Allocator + Clone + Send, G: Gate + Sync>(
+fn round<
+    R: Threads + Sync,
+    C: MainCode + Sync,
+    A: Allocator + Clone + Send,
+    L: Log + Send,
+    G: Gate + Sync,
+>(
     rt: &R,
-    setup: &mut Setup<'_, C, A>,
-    turners: &mut Vec<Turner<'_, C, A>, A>,
+    setup: &mut Setup<'_, C, A, L>,
+    turners: &mut Vec<Turner<'_, C, A, L>, A>,
     tokens: &mut Vec<Token, A>,
     gate: &G,
-    listed: bool,
 ) -> Result<Option<Halt>, AllocError>
-    requires between { IsBetween (setting_in C.program C.width setup.old) turners.old.items }
+    requires between { IsBetween (setting_in C.program C.width setup.old.shape) turners.old.items }
     requires tokens { tokens.old.items ≡ [] }
-    ensures setting { setting_in C.program C.width setup.new ≡ setting_in C.program C.width setup.old }
-    ensures rounds { IfOk result (λ halt. Rounds (setting_in C.program C.width setup.old) listed G.may_stop 1 turners.old.items setup.old.events.items turners.new.items setup.new.events.items halt) }
+    ensures setting { setting_in C.program C.width setup.new.shape ≡ setting_in C.program C.width setup.old.shape }
+    ensures rounds { IfOk result (λ halt. Rounds (setting_in C.program C.width setup.old.shape) L.LISTS G.may_stop 1 turners.old.items setup.old.log.events.items turners.new.items setup.new.log.events.items halt) }
     ensures tokens { IfOk result (λ halt. halt ≡ None → tokens.new.items ≡ []) }
 {
-    let all = make_whole_round(rt, setup, turners, tokens, gate, listed)?;
+    let all = make_whole_round(rt, setup, turners, tokens, gate)?;
     if !all {
         return Ok(Some(Halt::Memory));
     }
-    match hand_over(turners, setup.elements, tokens) {
+    match hand_over(turners, setup.shape.elements, tokens) {
         Ok(()) => Ok(why(turners)),
         Err(_) => Ok(Some(Halt::Memory)),
     }
@@ -178,23 +192,28 @@ struct Played {
 }
 
 // Rounds until the run halts. An error is that the list of events could not grow.
-fn play<R: Threads + Wait + Sync, C: MainCode + Sync, A: Allocator + Clone + Send, G: Gate + Sync>(
+fn play<
+    R: Threads + Wait + Sync,
+    C: MainCode + Sync,
+    A: Allocator + Clone + Send,
+    L: Log + Send,
+    G: Gate + Sync,
+>(
     rt: &R,
-    setup: &mut Setup<'_, C, A>,
-    turners: &mut Vec<Turner<'_, C, A>, A>,
+    setup: &mut Setup<'_, C, A, L>,
+    turners: &mut Vec<Turner<'_, C, A, L>, A>,
     tokens: &mut Vec<Token, A>,
     gate: &G,
-    listed: bool,
 ) -> Result<Played, AllocError>
-    requires between { IsBetween (setting_in C.program C.width setup.old) turners.old.items }
+    requires between { IsBetween (setting_in C.program C.width setup.old.shape) turners.old.items }
     requires tokens { tokens.old.items ≡ [] }
-    ensures setting { setting_in C.program C.width setup.new ≡ setting_in C.program C.width setup.old }
-    ensures rounds { IfOk result (λ p. Rounds (setting_in C.program C.width setup.old) listed G.may_stop p.rounds turners.old.items setup.old.events.items turners.new.items setup.new.events.items (Some p.halt)) }
+    ensures setting { setting_in C.program C.width setup.new.shape ≡ setting_in C.program C.width setup.old.shape }
+    ensures rounds { IfOk result (λ p. Rounds (setting_in C.program C.width setup.old.shape) L.LISTS G.may_stop p.rounds turners.old.items setup.old.log.events.items turners.new.items setup.new.log.events.items (Some p.halt)) }
 {
     let mut rounds = 0;
     'rounds: for _ in rt.forever() {
         rounds += 1;
-        if let Some(halt) = round(rt, setup, turners, tokens, gate, listed)? {
+        if let Some(halt) = round(rt, setup, turners, tokens, gate)? {
             return Ok(Played { halt, rounds });
         }
     }
@@ -202,13 +221,13 @@ fn play<R: Threads + Wait + Sync, C: MainCode + Sync, A: Allocator + Clone + Sen
 }
 
 // A lane before its first turn, with lists that are empty.
-fn turner<'m, C: Instructions, A: Allocator>(
+fn turner<'m, C: Instructions, A: Allocator, L: Log>(
     lane: Lane<'m, C, A>,
     sent: Vec<Token, A>,
-    log: Vec<(u32, Token), A>,
-) -> Turner<'m, C, A>
+    log: EventLog<A, L>,
+) -> Turner<'m, C, A, L>
     ensures lane { result.lane ≡ lane.entry }
-    ensures lists { (result.sent.items ≡ sent.items) × (result.log.items ≡ log.items) }
+    ensures lists { (result.sent.items ≡ sent.items) × (result.log.events.items ≡ log.events.items) }
 {
     Turner {
         lane,
@@ -219,10 +238,10 @@ fn turner<'m, C: Instructions, A: Allocator>(
     }
 }
 
-fn turners_of<'m, C: Instructions, A: Allocator>(
+fn turners_of<'m, C: Instructions, A: Allocator, L: Log>(
     alloc: &A,
     mut lanes: Vec<Lane<'m, C, A>, A>,
-) -> Result<Vec<Turner<'m, C, A>, A>, AllocError>
+) -> Result<Vec<Turner<'m, C, A, L>, A>, AllocError>
 where
     A: Clone,
     ensures lanes { IfOk result (λ ts. lanes_held ts.items ≡ map held_of lanes.entry.items) }
@@ -232,15 +251,15 @@ where
     let mut turners = Vec::with_capacity(alloc.clone()?, lanes.len())?;
     'each: for _at in 0..lanes.len() {
         let sent = Vec::new(alloc.clone()?);
-        let log = Vec::new(alloc.clone()?);
+        let log = EventLog::new(alloc.clone()?);
         turners.push(turner(lanes.remove(0), sent, log))?;
     }
     Ok(turners)
 }
 
 // The lanes, in their order.
-fn lanes_in<'m, C: Instructions, A: Allocator>(
-    turners: Vec<Turner<'m, C, A>, A>,
+fn lanes_in<'m, C: Instructions, A: Allocator, L: Log>(
+    turners: Vec<Turner<'m, C, A, L>, A>,
     lanes: &mut Vec<Lane<'m, C, A>, A>,
 ) -> Result<(), AllocError>
     requires { lanes.old.items ≡ [] }
@@ -253,16 +272,16 @@ fn lanes_in<'m, C: Instructions, A: Allocator>(
     Ok(())
 }
 
-type Ready<'m, C, A> = (
-    Vec<Turner<'m, C, A>, A>,
+type Ready<'m, C, A, L> = (
+    Vec<Turner<'m, C, A, L>, A>,
     Vec<Token, A>,
     Vec<Lane<'m, C, A>, A>,
 );
 
-fn ready<'m, C: Instructions, A: Allocator>(
+fn ready<'m, C: Instructions, A: Allocator, L: Log>(
     alloc: &A,
     lanes: Vec<Lane<'m, C, A>, A>,
-) -> Result<Ready<'m, C, A>, AllocError>
+) -> Result<Ready<'m, C, A, L>, AllocError>
 where
     A: Clone,
     ensures lanes { IfOk result (λ r. lanes_held r.0.items ≡ map held_of lanes.entry.items) }
@@ -288,24 +307,19 @@ fn run_apart<
     R: Threads + Wait + Sync,
     C: MainCode + Sync,
     A: Allocator + Clone + Send,
+    L: Log + Send,
     G: Gate + Sync,
->(
-    mut setup: Setup<'_, C, A>,
-    lanes: Vec<Lane<'_, C, A>, A>,
-    rt: &R,
-    gate: &G,
-    listed: bool,
-) -> Counted<A>
-    requires sound { IsSoundState (coming (setting_in C.program C.width setup) (map held_of lanes.items) []) }
-    requires runs { All (RunsAs (setting_in C.program C.width setup)) (map fixed_of lanes.items) }
-    ensures unlisted { listed ≡ false → setup.entry.events.items ≡ [] → result.report.events ≡ [] }
-    ensures shows { (inputs : List ℤ) (events : Events) → Began inputs (coming (setting_in C.program C.width setup.entry) (map held_of lanes.entry.items) []) events → ShowsOn listed (C.program setup.entry.code.now) (size (setting_in C.program C.width setup.entry)) inputs setup.entry.steps G.may_stop setup.entry.events.items events result.report }
-    ensures tells { TellsRounds listed G.may_stop (kept_of C.program C.width setup.entry lanes.entry.items) result.rounds result.report }
+>(mut setup: Setup<'_, C, A, L>, lanes: Vec<Lane<'_, C, A>, A>, rt: &R, gate: &G) -> Counted<A>
+    requires sound { IsSoundState (coming (setting_in C.program C.width setup.shape) (map held_of lanes.items) []) }
+    requires runs { All (RunsAs (setting_in C.program C.width setup.shape)) (map fixed_of lanes.items) }
+    ensures unlisted { L.LISTS ≡ false → setup.entry.log.events.items ≡ [] → result.report.events ≡ [] }
+    ensures shows { (inputs : List ℤ) (events : Events) → Began inputs (coming (setting_in C.program C.width setup.entry.shape) (map held_of lanes.entry.items) []) events → ShowsOn L.LISTS (C.program setup.entry.shape.code.now) (size (setting_in C.program C.width setup.entry.shape)) inputs setup.entry.shape.steps G.may_stop setup.entry.log.events.items events result.report }
+    ensures tells { TellsRounds L.LISTS G.may_stop (kept_of C.program C.width setup.entry lanes.entry.items) result.rounds result.report }
 {
     let Ok((mut turners, mut tokens, mut spare)) = ready(&setup.alloc, lanes) else {
         return unmade(setup.refused());
     };
-    let Ok(played) = play(rt, &mut setup, &mut turners, &mut tokens, gate, listed) else {
+    let Ok(played) = play(rt, &mut setup, &mut turners, &mut tokens, gate) else {
         return unmade(setup.refused());
     };
     match lanes_in(turners, &mut spare) {
@@ -323,6 +337,24 @@ fn unmade<A: Allocator>(report: Report<A>) -> Counted<A>
     ensures rounds { result.rounds ≡ 0 }
 {
     Counted { report, rounds: 0 }
+}
+
+// Rounds until the run halts, with what is told of it.
+fn run_machine<
+    R: Threads + Wait + Sync,
+    C: MainCode + Sync,
+    A: Allocator + Clone + Send,
+    L: Log + Send,
+    G: Gate + Sync,
+>(machine: Machine<'_, C, A, L>, rt: &R, gate: &G) -> Counted<A>
+    ensures unlisted { L.LISTS ≡ false → machine.entry.events ≡ [] → result.report.events ≡ [] }
+    ensures shows { (inputs : List ℤ) (events : Events) → Began inputs machine.entry.state events → ShowsOn L.LISTS machine.entry.state.setting.program (size machine.entry.state.setting) inputs machine.entry.state.setting.steps G.may_stop machine.entry.events events result.report }
+    ensures tells { TellsRounds L.LISTS G.may_stop machine.entry result.rounds result.report }
+{
+    match machine.into_lanes() {
+        Ok((setup, lanes)) => run_apart(setup, lanes, rt, gate),
+        Err(machine) => unmade(machine.report(Halt::Memory)),
+    }
 }
 
 /// Makes rounds until the run halts, and reports. In each round every element asks the gate, and makes up to `turn` events
@@ -350,10 +382,7 @@ pub fn run_counted<
     ensures shows { (inputs : List ℤ) → Began inputs machine.entry.state machine.entry.events → Shows machine.entry.state.setting.program (size machine.entry.state.setting) inputs machine.entry.state.setting.steps false G.may_stop result.report }
     ensures tells { TellsRounds true G.may_stop machine.entry result.rounds result.report }
 {
-    match machine.into_lanes() {
-        Ok((setup, lanes)) => run_apart(setup, lanes, rt, gate, true),
-        Err(machine) => unmade(machine.report(Halt::Memory)),
-    }
+    run_machine(machine, rt, gate)
 }
 
 /// As `run`, but the report lists no events: there is a run that it shows. A long run takes no more memory than a short one.
@@ -366,11 +395,5 @@ pub fn run_quietly<
     ensures shows { (inputs : List ℤ) → Began inputs machine.entry.state machine.entry.events → ShowsQuietly machine.entry.state.setting.program (size machine.entry.state.setting) inputs machine.entry.state.setting.steps false G.may_stop result }
     ensures tells { (rounds : ℕ) × TellsRounds false G.may_stop (without_events machine.entry.state) rounds result }
 {
-    match machine.into_lanes() {
-        Ok((mut setup, lanes)) => {
-            setup.events.clear();
-            run_apart(setup, lanes, rt, gate, false).report
-        }
-        Err(machine) => machine.without_events().report(Halt::Memory),
-    }
+    run_machine(machine.without_events(), rt, gate).report
 }

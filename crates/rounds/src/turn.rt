@@ -1,60 +1,42 @@
 //! The turn of one element.
 
-ghost use Rattle.std.specs.Prelude.{◌≡◌, ◌<◌, ◌≤◌, ◌^◌, ◌∷◌, [], List, length, OnOk, true, false, vec_len};
-ghost use Rattle.std.specs.Vec.{vec_capacity};
+ghost use Rattle.std.specs.Prelude.{◌≡◌, ◌<◌, ◌≤◌, ◌^◌, List, length, true, false};
 ghost use Rattle.tags.specs.declared.token.Token.{Token};
 ghost use Rattle.element.specs.Held.{fixed_of, IsSoundLane};
-ghost use Rattle.rounds.specs.Turns.{by, logged, Turns, IsWhole, HaltsLane, TookTurn};
+ghost use Rattle.schedule.specs.Steps.{logged};
+ghost use Rattle.rounds.specs.Turns.{by, Turns, IsWhole, HaltsLane, TookTurn};
 
 use crate::gate::Gate;
 use element::instructions::Instructions;
 use element::lane::{Lane, Stepped};
 use schedule::halt::Halt;
-use std::alloc::{AllocError, Allocator};
+use schedule::log::{EventLog, Log};
+use std::alloc::Allocator;
 use tags::token::Token;
 
 /// A lane with what it made in its turn.
 #[derive(Drop)]
-pub struct Turner<'m, C: Instructions, A: Allocator> {
+pub struct Turner<'m, C: Instructions, A: Allocator, L: Log> {
     pub lane: Lane<'m, C, A>,
     /// The tokens for other elements.
     pub sent: Vec<Token, A>,
-    /// The events that it made, where events are listed.
-    pub log: Vec<(u32, Token), A>,
+    /// The events that it made.
+    pub log: EventLog<A, L>,
     /// Why it makes no more events.
     pub halt: Option<Halt>,
     /// How many turns it began with a token.
     pub blocks: u64,
 }
 
-// Makes room for an event, where events are listed.
-fn make_room<A: Allocator>(log: &mut Vec<(u32, Token), A>, listed: bool) -> Result<(), AllocError>
-    ensures same { log.new.items ≡ log.old.items }
-    ensures room { OnOk result (listed ≡ true → vec_len log.new < vec_capacity log.new) }
-{
-    if listed { log.reserve(1) } else { Ok(()) }
-}
-
-// Notes an event, where events are listed.
-fn note<A: Allocator>(log: &mut Vec<(u32, Token), A>, listed: bool, element: u32, token: Token)
-    requires { listed ≡ true → vec_len log.old < vec_capacity log.old }
-    ensures { log.new.items ≡ logged listed log.old.items ((element, token) ∷ []) }
-{
-    if listed {
-        log.push_reserved((element, token));
-    }
-}
-
 /// The lane takes its oldest tokens, up to `turn` of them.
-pub fn take_turn<C: Instructions, A: Allocator + Clone>(
+pub fn take_turn<C: Instructions, A: Allocator + Clone, L: Log>(
     lane: &mut Lane<'_, C, A>,
     sent: &mut Vec<Token, A>,
-    log: &mut Vec<(u32, Token), A>,
+    log: &mut EventLog<A, L>,
     turn: u64,
-    listed: bool,
 ) -> Option<Halt>
     ensures sound { IsSoundLane lane.old.program lane.old.held → IsSoundLane lane.new.program lane.new.held }
-    ensures turns { (taken : List Token) × Turns lane.old.program lane.old.steps lane.old.held sent.old.items taken lane.new.held sent.new.items × (log.new.items ≡ logged listed log.old.items (by lane.old.held.part.shape.element taken)) × (length taken ≤ turn) }
+    ensures turns { (taken : List Token) × Turns lane.old.program lane.old.steps lane.old.held sent.old.items taken lane.new.held sent.new.items × (log.new.events.items ≡ logged L.LISTS log.old.events.items (by lane.old.held.part.shape.element taken)) × (length taken ≤ turn) }
     ensures whole { IsWhole turn lane.old.held lane.new.held result }
     ensures halts { HaltsLane lane.old.program lane.old.steps false lane.new.held result }
     ensures fixed { fixed_of lane.new ≡ fixed_of lane.old }
@@ -63,14 +45,14 @@ pub fn take_turn<C: Instructions, A: Allocator + Clone>(
         let Some(token) = lane.token(0) else {
             return None;
         };
-        if make_room(log, listed).is_err() {
+        if log.make_room().is_err() {
             return Some(Halt::Memory);
         }
         let Some(stepped) = lane.step(0, sent) else {
             return Some(Halt::Steps);
         };
         match stepped {
-            Stepped::Did => note(log, listed, lane.element(), token),
+            Stepped::Did => log.note(lane.element(), token),
             Stepped::Idle => return None,
             Stepped::Clash { cell } => return Some(Halt::Clash { cell }),
             Stepped::Stuck { rule } => return Some(Halt::Stuck { rule }),
@@ -93,13 +75,12 @@ fn may_go_on<C: Instructions, A: Allocator, G: Gate>(
 }
 
 /// The element asks the gate, and takes its turn.
-pub fn make_turn<C: Instructions, A: Allocator + Clone, G: Gate>(
-    turner: &mut Turner<'_, C, A>,
+pub fn make_turn<C: Instructions, A: Allocator + Clone, L: Log, G: Gate>(
+    turner: &mut Turner<'_, C, A, L>,
     gate: &G,
     turn: u64,
-    listed: bool,
 )
-    ensures { TookTurn turn listed G.may_stop turner.old turner.new }
+    ensures { TookTurn turn L.LISTS G.may_stop turner.old turner.new }
 {
     gate.enter(turner.lane.element());
     let Turner {
@@ -114,5 +95,5 @@ pub fn make_turn<C: Instructions, A: Allocator + Clone, G: Gate>(
         return;
     }
     *blocks = blocks.wrapping_add(u64::from(lane.queue().len() != 0));
-    *halt = take_turn(lane, sent, log, turn, listed);
+    *halt = take_turn(lane, sent, log, turn);
 }

@@ -14,8 +14,9 @@ use Rattle.element.specs.Held.{Held, queued}
 use Rattle.schedule.specs.declared.halt.Halt.{Halt}
 use Rattle.schedule.specs.Setting.{Setting, size}
 use Rattle.schedule.specs.State.{State, AllFrom}
-use Rattle.schedule.specs.Steps.{Steps, Does, IsClash, IsUsedUp, IsStuckAt}
-use Rattle.schedule.specs.Runs.{Began, IsHalt, Then, Plays, EndsLeft, HaltsAs}
+use Rattle.schedule.specs.Steps.{Steps, Does, IsClash, IsUsedUp, IsStuckAt, logged}
+use Rattle.schedule.specs.Runs.{Began, BeganListed, IsHalt, Then, Plays, EndsLeft, HaltsAs}
+use Rattle.schedule.specs.Unlisted.{kept_with}
 use Rattle.schedule.proofs.Places.{first_get, from_map}
 use Rattle.schedule.proofs.Stepping.{set_others}
 
@@ -128,3 +129,9 @@ halts_as listed (p ∷ picks) s last halt evs (next, now, later, None, advances,
 halts_as listed (p ∷ picks) s last halt evs (next, now, later, Some why, advances, is, rest) =
     let here = halts_by listed s next p.0 p.1 advances.answer now why advances.step advances.halts in
     subst (λ (x : State). HaltsAs x listed halt) (sym rest.0) (subst (λ (h : Halt). HaltsAs next listed h) (sym rest.1) here)
+
+-- what is known of a machine that lists its events
+pub began_listed : (listed : Bool) (inputs : List ℤ) (old new : State) (before after made : Events) → after ≡ logged listed before made → (Began inputs old before → Began inputs new (before ++ made))
+    → BeganListed listed inputs (kept_with old before) → BeganListed listed inputs (kept_with new after)
+began_listed true inputs old new before after made is on began = subst (λ (l : Events). Began inputs new l) (sym is) (on began)
+began_listed false inputs old new before after made is on began = tt

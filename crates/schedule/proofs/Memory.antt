@@ -124,17 +124,17 @@ state_next items sent after come e new none first =
     ∙ ap (λ (n : ℕ). delivered (drop n after) (map held_of (slice_set items e new))) (sym first)
 
 -- where no token is on its way
-pub lane_there : {C A : Type 0} (program : C → Program) (width : C → ℕ) (m : Elements C A) (e : ℕ) (x : LaneView) → IsWell program width m → e < m.elements → m.sent.items ≡ [] → m.come ≡ 0 → x ≡ get_or m.lanes.items e x
+pub lane_there : {C A : Type 0} (program : C → Program) (width : C → ℕ) (m : Elements C A) (e : ℕ) (x : LaneView) → IsWell program width m → e < m.shape.elements → m.sent.items ≡ [] → m.come ≡ 0 → x ≡ get_or m.lanes.items e x
     → slice_get (state_of program width m).lanes e ≡ Some (held_of x)
 lane_there program width m e x well low none first is =
-    let count = lane_count m.lanes.items (drop m.come m.sent.items) m.elements well.sound.count in
+    let count = lane_count m.lanes.items (drop m.come m.sent.items) m.shape.elements well.sound.count in
     let within : e < length m.lanes.items = omega arith in
     subst (λ (l : List Held). slice_get l e ≡ Some (held_of x)) (sym (none_coming m.lanes.items m.sent.items m.come none first)) (held_at m.lanes.items e x within is)
 
 -- what is so of a lane, with the tokens that are on their way
-pub raw_placed : {C A : Type 0} (program : C → Program) (width : C → ℕ) (m : Elements C A) (i : ℕ) (x : LaneView) → IsSoundState (state_of program width m) → i < m.elements → x ≡ get_or m.lanes.items i x
+pub raw_placed : {C A : Type 0} (program : C → Program) (width : C → ℕ) (m : Elements C A) (i : ℕ) (x : LaneView) → IsSoundState (state_of program width m) → i < m.shape.elements → x ≡ get_or m.lanes.items i x
     → IsPlaced (state_of program width m).setting i (queued (held_of x) (drop m.come m.sent.items))
 raw_placed program width m i x sound low is =
-    let count = lane_count m.lanes.items (drop m.come m.sent.items) m.elements sound.count in
+    let count = lane_count m.lanes.items (drop m.come m.sent.items) m.shape.elements sound.count in
     let within : i < length m.lanes.items = omega arith in
     first_get (IsPlaced (state_of program width m).setting) (state_of program width m).lanes i (queued (held_of x) (drop m.come m.sent.items)) sound.lanes (seen_at m.lanes.items (drop m.come m.sent.items) i x within is)

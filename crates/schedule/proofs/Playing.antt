@@ -11,7 +11,7 @@ use Rattle.element.specs.Held.{Held}
 use Rattle.schedule.specs.declared.halt.Halt.{Halt}
 use Rattle.schedule.specs.Setting.{Setting}
 use Rattle.schedule.specs.State.{State, tokens_in, delivered}
-use Rattle.schedule.specs.Steps.{Steps, Does, IsIdle}
+use Rattle.schedule.specs.Steps.{Steps, Does, IsIdle, logged}
 use Rattle.schedule.specs.Runs.{HasToken, IsHalt, Advances, Then, Plays, EndsLeft, in_turn, rounds_of, left_in, left_over}
 
 pub tokens_some : (lanes : List Held) (i : ℕ) (h : Held) → slice_get lanes i ≡ Some h → 0 < length h.queue → 0 < length (tokens_in lanes)
@@ -133,9 +133,17 @@ passes_all first s some (inr (same, none, has)) =
 pub play_rest : (picks : List (ℕ × ℕ)) (k : ℕ) (s : State) (halt : Halt) → length picks ≤ k → EndsLeft s halt → Plays true (drop k picks) s s halt []
 play_rest picks k s halt past ends = subst (λ (ps : List (ℕ × ℕ)). Plays true ps s s halt []) (sym (drop_all k picks past)) (refl, refl, refl, ends)
 
--- the same events, listed otherwise
-pub noted_more : {L : Type 0} (noted : L → Events → Type 0) (first old new : L) (made now : Events) → ((before : Events) → noted first before → noted old (before ++ made)) → ((before : Events) → noted old before → noted new (before ++ now)) → (before : Events) → noted first before → noted new (before ++ (made ++ now))
-noted_more noted first old new made now one two before n = subst (λ (l : Events). noted new l) (append_assoc before made now) (two (before ++ made) (one before n))
+-- WHAT A LIST IS AFTER EVENTS
+pub logged_none : (listed : Bool) (before : Events) → before ≡ logged listed before []
+logged_none true before = sym (append-nil before)
+logged_none false before = refl
+
+pub logged_twice : (listed : Bool) (before a b : Events) → logged listed (logged listed before a) b ≡ logged listed before (a ++ b)
+logged_twice true before a b = append_assoc before a b
+logged_twice false before a b = refl
+
+pub logged_more : (listed : Bool) (first old new made now : Events) → old ≡ logged listed first made → new ≡ logged listed old now → new ≡ logged listed first (made ++ now)
+logged_more listed first old new made now one two = two ∙ ap (λ (l : Events). logged listed l now) one ∙ logged_twice listed first made now
 
 pub turn_last : (s next : State) (k n : ℕ) (now : Events) (halt : Halt) → k < n → Advances false s k 0 next now (Some halt) → Plays false (in_turn k (n - k) ++ rounds_of 0 n) s next halt now
 turn_last s next k n now halt low advances = subst (λ (ps : List (ℕ × ℕ)). Plays false (ps ++ rounds_of 0 n) s next halt now) (sym (turn_more k n low)) (play_last false (k, 0) (in_turn (k + 1) (n - (k + 1)) ++ rounds_of 0 n) s next now halt advances)

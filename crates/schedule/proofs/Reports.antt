@@ -23,9 +23,9 @@ use Rattle.schedule.specs.declared.elements.Elements.{Elements}
 use Rattle.schedule.specs.declared.halt.Halt.{Halt}
 use Rattle.schedule.specs.Setting.{Setting, size, total}
 use Rattle.schedule.specs.State.{State, IsPlaced, IsSoundState, Stands, IsWell, state_of, delivered}
-use Rattle.schedule.specs.Runs.{Kept, Began, HaltsAs, NamesCell}
+use Rattle.schedule.specs.Runs.{Began, HaltsAs, NamesCell}
 use Rattle.schedule.specs.Told.{TellsLanes, Tells, opening_picture, IsReportOf, ReportsLanes, Reports, value_of, readers_of, slot_of_lane, cell_readers, slot_at, entry, full_below}
-use Rattle.schedule.specs.Unlisted.{with_events, ShowsQuietly, Quietly, ReportsKept, kept_with}
+use Rattle.schedule.specs.Unlisted.{with_events, Quietly, ReportsKept, kept_with}
 use Rattle.schedule.proofs.Places.{first_get, to_map}
 use Rattle.schedule.proofs.Pictures.{IsKnown, known_lanes, pictured}
 use Rattle.schedule.proofs.Showing.{picked, shows_here}
@@ -199,22 +199,7 @@ pub shows_reported : {C A : Type 0} (program : C → Program) (width : C → ℕ
 shows_reported {C} {A} program width m list halt r well reported inputs listed evs began halts =
     shows_lanes (state_of program width m).setting (map held_of m.lanes.items) (drop m.come m.sent.items) list halt r well.sound reported inputs listed evs began halts
 
-unlisted : {C A : Type 0} (program : C → Program) (width : C → ℕ) (m : Elements C A) (list : Events) (halt : Halt) (r : Report) → Reports program width m list halt r → list ≡ [] → r.events ≡ []
-unlisted {C} {A} program width m list halt r reported none = unlisted_lanes (state_of program width m).setting (map held_of m.lanes.items) list halt r reported none
-
--- with no events listed there is a run that it shows
-pub shows_quietly : {C A : Type 0} (program : C → Program) (width : C → ℕ) (m : Elements C A) (list : Events) (halt : Halt) (r : Report) → IsWell program width m → Reports program width m list halt r → list ≡ []
-    → (inputs : List ℤ) (listed : Bool) (evs : Events) → Began inputs (state_of program width m) evs → HaltsAs (state_of program width m) listed halt
-    → ShowsQuietly (state_of program width m).setting.program (size (state_of program width m).setting) inputs (state_of program width m).setting.steps listed false r
-shows_quietly program width m list halt r well reported none inputs listed evs began halts =
-    let found = shows_reported program width m list halt r well reported inputs listed evs began halts in
-    record {
-      unlisted = unlisted program width m list halt r reported none;
-      events = found.0;
-      shows = found.1;
-    }
-
--- and with the events that led to the machine it is the report of that machine
+-- with no events listed it is, with the events that led to the machine, the report of that machine
 pub reports_quietly : {C A : Type 0} (program : C → Program) (width : C → ℕ) (m : Elements C A) (list : Events) (halt : Halt) (r : Report) → IsWell program width m → Reports program width m list halt r → list ≡ []
     → (evs : Events) → Quietly (ReportsKept (kept_with (state_of program width m) evs) halt) r
 reports_quietly program width m list halt r well (inl is) none evs =

@@ -4,19 +4,15 @@ use Rattle.tags.specs.declared.token.Token.{Token}
 use Rattle.semantics.specs.Program.{Program}
 use Rattle.element.specs.Held.{LaneView, held_of}
 use Rattle.schedule.specs.declared.setup.Setup.{Setup}
-use Rattle.schedule.specs.Setting.{Setting}
-use Rattle.schedule.specs.State.{State, delivered}
+use Rattle.schedule.specs.State.{State, setting_in, delivered}
 use Rattle.schedule.specs.Runs.{Kept}
 
-abbrev pub setting_in : {C A : Type 0} → (C → Program) → (C → ℕ) → Setup C A → Setting
-setting_in program width s = record { program = program s.code.now; elements = s.elements; frames = s.frames; width = width s.code.now; steps = s.steps; turn = s.turn }
-
 -- the lanes as they stand, with no token on its way
-abbrev pub state_in : {C A : Type 0} → (C → Program) → (C → ℕ) → Setup C A → List LaneView → State
-state_in program width s lanes = record { setting = setting_in program width s; lanes = map held_of lanes }
+abbrev pub state_in : {C A L : Type 0} → (C → Program) → (C → ℕ) → Setup C A L → List LaneView → State
+state_in program width s lanes = record { setting = setting_in program width s.shape; lanes = map held_of lanes }
 
-abbrev pub kept_of : {C A : Type 0} → (C → Program) → (C → ℕ) → Setup C A → List LaneView → Kept
-kept_of program width s lanes = record { state = state_in program width s lanes; events = s.events.items }
+abbrev pub kept_of : {C A L : Type 0} → (C → Program) → (C → ℕ) → Setup C A L → List LaneView → Kept
+kept_of program width s lanes = record { state = state_in program width s lanes; events = s.log.events.items }
 
 -- tokens that are on their way are seen where they are addressed to
 abbrev pub with_coming : State → List Token → State

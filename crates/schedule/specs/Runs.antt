@@ -27,6 +27,11 @@ pub record Began (inputs : List ℤ) (s : State) (evs : Events) : Type 0 where
   pub stands : Stands s machine
   pub counts : AllFrom (λ (i : ℕ) (h : Held). h.made ≡ count_by (λ (ev : ℕ × Token). ev.0 == i) evs) 0 s.lanes
 
+-- The same of a machine whose events are listed; of one whose events are not, nothing is known.
+abbrev pub BeganListed : Bool → List ℤ → Kept → Type 0
+BeganListed true inputs k = Began inputs k.state k.events
+BeganListed false inputs k = Unit {0}
+
 abbrev pub HasToken : State → Type 0
 HasToken s = 0 < length (tokens_in s.lanes)
 

@@ -9,6 +9,7 @@ use Rattle.element.specs.Parts.{IsPart}
 use Rattle.element.specs.Near.{IsNearToken}
 use Rattle.element.specs.Held.{Held, LaneView, Fixed, held_of, fixed_of, bounds_at, queued, IsSoundLane}
 use Rattle.schedule.specs.declared.elements.Elements.{Elements}
+use Rattle.schedule.specs.declared.shape.Shape.{Shape}
 use Rattle.schedule.specs.Setting.{Setting, total, IsGoodSetting}
 
 pub record State : Type 0 where
@@ -73,10 +74,14 @@ pub record Stands (s : State) (m : Machine) : Type 0 where
   pub tokens : IsPermutation m.pool (tokens_in s.lanes)
   pub bounded : IsBounded s.setting m.store
 
--- THE MACHINE IN MEMORY. Tokens that are on their way are seen where they are addressed to.
+-- THE MACHINE IN MEMORY
+abbrev pub setting_in : {C : Type 0} → (C → Program) → (C → ℕ) → Shape C → Setting
+setting_in program width s = record { program = program s.code.now; elements = s.elements; frames = s.frames; width = width s.code.now; steps = s.steps; turn = s.turn }
+
+-- Tokens that are on their way are seen where they are addressed to.
 abbrev pub state_of : {C A : Type 0} → (C → Program) → (C → ℕ) → Elements C A → State
 state_of program width m = record {
-  setting = record { program = program m.code.now; elements = m.elements; frames = m.frames; width = width m.code.now; steps = m.steps; turn = m.turn };
+  setting = setting_in program width m.shape;
   lanes = lanes_of m.lanes.items (drop m.come m.sent.items);
 }
 

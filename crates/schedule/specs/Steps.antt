@@ -1,5 +1,5 @@
 -- What a step does.
-use Rattle.std.specs.Prelude.{◌≡◌, ℕ, ◌<◌, List, [], ◌∷◌, length, Option, Some, None, slice_get, slice_set}
+use Rattle.std.specs.Prelude.{◌≡◌, ℕ, ◌<◌, List, [], ◌∷◌, ◌++◌, length, Bool, true, false, Option, Some, None, slice_get, slice_set}
 use Rattle.tags.specs.declared.token.Token.{Token}
 use Rattle.semantics.specs.Machine.{Machine, Event, Events}
 use Rattle.element.specs.declared.lane.Stepped.{Stepped}
@@ -29,6 +29,11 @@ pub record Does (old : State) (e pick : ℕ) (new : State) (evs : Events) : Type
 abbrev pub events_of : Stepped → ℕ → Token → Events
 events_of Did e t = (e, t) ∷ []
 events_of answer e t = []
+
+-- what a list is after these events, where events are listed and where they are not
+abbrev pub logged : Bool → Events → Events → Events
+logged true list events = list ++ events
+logged false list events = list
 
 -- the lane of the element
 pub record IsLane (s : State) (e : ℕ) (h : Held) : Type 0 where

@@ -1,20 +1,22 @@
 //! The elements of the machine: their lanes, and the tokens that are on their way from one to another.
 
-ghost use Rattle.std.specs.Prelude.{◌≡◌, ℕ, ◌<◌, [], ◌++◌, length, map, All, IfOk, OnOk, Some, true, false, slice_get};
+ghost use Rattle.std.specs.Prelude.{◌≡◌, ℕ, ◌<◌, [], length, map, All, IfOk, OnOk, Some, true, false, slice_get, vec_len};
+ghost use Rattle.std.specs.Vec.{vec_capacity};
 ghost use Rattle.semantics.specs.Machine.{Events};
 ghost use Rattle.semantics.specs.Report.{sum_below};
 ghost use Rattle.element.specs.Held.{Held, held_of};
 ghost use Rattle.schedule.specs.Setting.{total};
 ghost use Rattle.schedule.specs.Told.{credits_below, TellsLanes};
 ghost use Rattle.schedule.specs.State.{state_of, IsWell, IsSoundState, tokens_in};
-ghost use Rattle.schedule.specs.Steps.{Steps};
+ghost use Rattle.schedule.specs.Steps.{Steps, logged};
 ghost use Rattle.schedule.specs.Runs.{HasToken, IsHalt, Advances, Plays, rounds_of};
 
 use crate::counting::{credits_in, deferred, frames_out, full_cells, requests};
 use crate::delivery::{deliver, has_token_for};
 use crate::halt::Halt;
-use crate::log::{Log, note};
+use crate::log::{EventLog, Log};
 use crate::main_code::MainCode;
+use crate::shape::Shape;
 use arrayvec::ArrayVec;
 use element::lane::{Lane, Stepped};
 use std::alloc::{AllocError, Allocator};
@@ -24,13 +26,7 @@ use tags::value::Value;
 /// The lanes of all elements, and the tokens that are on their way.
 #[derive(Drop)]
 pub struct Elements<'m, C: MainCode, A: Allocator> {
-    pub code: &'m C,
-    pub elements: u32,
-    pub frames: u32,
-    /// How many events each element may make.
-    pub steps: u64,
-    /// How many events a turn has.
-    pub turn: u64,
+    pub shape: Shape<'m, C>,
     pub lanes: Vec<Lane<'m, C, A>, A>,
     /// The tokens that the last event made for other elements.
     pub sent: Vec<Token, A>,
@@ -50,7 +46,7 @@ impl<'m, C: MainCode, A: Allocator> Elements<'m, C, A> {
     {
         deliver(
             &mut self.lanes,
-            self.elements,
+            self.shape.elements,
             &mut self.sent,
             &mut self.come,
         )
@@ -60,12 +56,12 @@ impl<'m, C: MainCode, A: Allocator> Elements<'m, C, A> {
     #[inline(always)]
     fn has_token(&self, element: u32) -> bool
         requires well { IsWell C.program C.width self.now }
-        requires element { element < self.now.elements }
+        requires element { element < self.now.shape.elements }
         ensures yes { result ≡ true → (h : Held) → slice_get (state_of C.program C.width self.now).lanes element ≡ Some h → 0 < length h.queue }
         ensures no { result ≡ false → (h : Held) → slice_get (state_of C.program C.width self.now).lanes element ≡ Some h → h.queue ≡ [] }
     {
         let waiting = self.lanes[element as usize].queue().len();
-        waiting != 0 || has_token_for(&self.sent, self.come, self.elements, element)
+        waiting != 0 || has_token_for(&self.sent, self.come, self.shape.elements, element)
     }
 
     // What a step answers that is refused memory.
@@ -73,7 +69,7 @@ impl<'m, C: MainCode, A: Allocator> Elements<'m, C, A> {
     #[inline(never)]
     fn refused(&self, element: u32) -> Option<Stepped>
         requires well { IsWell C.program C.width self.now }
-        requires element { element < self.now.elements }
+        requires element { element < self.now.shape.elements }
         ensures { (pick : ℕ) → Steps (state_of C.program C.width self.now) element pick result (state_of C.program C.width self.now) [] }
     {
         if !self.has_token(element) {
@@ -87,36 +83,46 @@ impl<'m, C: MainCode, A: Allocator> Elements<'m, C, A> {
 
     // A step with no token on its way, where there is room to note an event.
     #[inline(always)]
-    fn step_lane<L: Log>(&mut self, element: u32, pick: u64, log: &mut L) -> Option<Stepped>
+    fn step_lane<L: Log>(
+        &mut self,
+        element: u32,
+        pick: u64,
+        log: &mut EventLog<A, L>,
+    ) -> Option<Stepped>
     where
         A: Clone,
         requires well { IsWell C.program C.width self.old }
-        requires element { element < self.old.elements }
+        requires element { element < self.old.shape.elements }
         requires sent { self.old.sent.items ≡ [] }
         requires come { self.old.come ≡ 0 }
-        requires room { L.has_room log.old }
+        requires room { L.LISTS ≡ true → vec_len log.old.events < vec_capacity log.old.events }
         ensures well { IsWell C.program C.width self.new }
-        ensures exact { (events : Events) × Steps (state_of C.program C.width self.old) element pick result (state_of C.program C.width self.new) events × ((before : Events) → L.noted log.old before → L.noted log.new (before ++ events)) }
+        ensures exact { (events : Events) × Steps (state_of C.program C.width self.old) element pick result (state_of C.program C.width self.new) events × (log.new.events.items ≡ logged L.LISTS log.old.events.items events) }
     {
         let lane = &mut self.lanes[element as usize];
         let Some(token) = lane.token(pick) else {
             return Some(Stepped::Idle);
         };
         let stepped = lane.step(pick, &mut self.sent)?;
-        note(log, element, token, stepped);
+        log.note_step(element, token, stepped);
         Some(stepped)
     }
 
     /// The element takes the token that `pick`, modulo the number of its tokens, names from the oldest on; `None` where it
     /// has a token and has made all its events.
     #[inline(always)]
-    pub fn step<L: Log>(&mut self, element: u32, pick: u64, log: &mut L) -> Option<Stepped>
+    pub fn step<L: Log>(
+        &mut self,
+        element: u32,
+        pick: u64,
+        log: &mut EventLog<A, L>,
+    ) -> Option<Stepped>
     where
         A: Clone,
         requires well { IsWell C.program C.width self.old }
-        requires element { element < self.old.elements }
+        requires element { element < self.old.shape.elements }
         ensures well { IsWell C.program C.width self.new }
-        ensures exact { (events : Events) × Steps (state_of C.program C.width self.old) element pick result (state_of C.program C.width self.new) events × ((before : Events) → L.noted log.old before → L.noted log.new (before ++ events)) }
+        ensures exact { (events : Events) × Steps (state_of C.program C.width self.old) element pick result (state_of C.program C.width self.new) events × (log.new.events.items ≡ logged L.LISTS log.old.events.items events) }
     {
         if self.settle().is_err() || log.make_room().is_err() {
             return self.refused(element);
@@ -130,7 +136,7 @@ impl<'m, C: MainCode, A: Allocator> Elements<'m, C, A> {
         ensures yes { result ≡ true → HasToken (state_of C.program C.width self.now) }
         ensures no { result ≡ false → tokens_in (state_of C.program C.width self.now).lanes ≡ [] }
     {
-        for element in 0..self.elements {
+        for element in 0..self.shape.elements {
             if self.has_token(element) {
                 return true;
             }
@@ -146,14 +152,14 @@ impl<'m, C: MainCode, A: Allocator> Elements<'m, C, A> {
         listed: bool,
         element: u32,
         pick: u64,
-        log: &mut L,
+        log: &mut EventLog<A, L>,
     ) -> Option<Halt>
     where
         A: Clone,
         requires well { IsWell C.program C.width self.old }
-        requires element { element < self.old.elements }
+        requires element { element < self.old.shape.elements }
         ensures well { IsWell C.program C.width self.new }
-        ensures exact { (events : Events) × Advances listed (state_of C.program C.width self.old) element pick (state_of C.program C.width self.new) events result × ((before : Events) → L.noted log.old before → L.noted log.new (before ++ events)) }
+        ensures exact { (events : Events) × Advances listed (state_of C.program C.width self.old) element pick (state_of C.program C.width self.new) events result × (log.new.events.items ≡ logged L.LISTS log.old.events.items events) }
     {
         match self.step(element, pick, log) {
             Some(Stepped::Did) => None,
@@ -179,13 +185,13 @@ impl<'m, C: MainCode, A: Allocator> Elements<'m, C, A> {
     }
 
     /// Makes one step for each element and pick of the list, in order, and answers why it makes no more.
-    pub fn play<L: Log>(&mut self, picks: &[(u32, u64)], log: &mut L) -> Halt
+    pub fn play<L: Log>(&mut self, picks: &[(u32, u64)], log: &mut EventLog<A, L>) -> Halt
     where
         A: Clone,
         requires well { IsWell C.program C.width self.old }
-        requires elements { All (λ pick. pick.0 < self.old.elements) picks.now }
+        requires elements { All (λ pick. pick.0 < self.old.shape.elements) picks.now }
         ensures well { IsWell C.program C.width self.new }
-        ensures exact { (events : Events) × Plays true picks.now (state_of C.program C.width self.old) (state_of C.program C.width self.new) result events × ((before : Events) → L.noted log.old before → L.noted log.new (before ++ events)) }
+        ensures exact { (events : Events) × Plays true picks.now (state_of C.program C.width self.old) (state_of C.program C.width self.new) result events × (log.new.events.items ≡ logged L.LISTS log.old.events.items events) }
     {
         for (element, pick) in picks {
             match self.advance(true, *element, *pick, log) {
@@ -202,13 +208,13 @@ impl<'m, C: MainCode, A: Allocator> Elements<'m, C, A> {
 
     // The same as `play_in_turn`, of one element, which is always in turn.
     #[inline(never)]
-    fn play_alone<L: Log>(&mut self, log: &mut L) -> Halt
+    fn play_alone<L: Log>(&mut self, log: &mut EventLog<A, L>) -> Halt
     where
         A: Clone,
         requires well { IsWell C.program C.width self.old }
-        requires one { self.old.elements ≡ 1 }
+        requires one { self.old.shape.elements ≡ 1 }
         ensures well { IsWell C.program C.width self.new }
-        ensures exact { (rounds : ℕ) × (events : Events) × Plays false (rounds_of rounds self.old.elements) (state_of C.program C.width self.old) (state_of C.program C.width self.new) result events × ((before : Events) → L.noted log.old before → L.noted log.new (before ++ events)) }
+        ensures exact { (rounds : ℕ) × (events : Events) × Plays false (rounds_of rounds self.old.shape.elements) (state_of C.program C.width self.old) (state_of C.program C.width self.new) result events × (log.new.events.items ≡ logged L.LISTS log.old.events.items events) }
     {
         'events: loop {
             match self.advance(false, 0, 0, log) {
@@ -220,18 +226,18 @@ impl<'m, C: MainCode, A: Allocator> Elements<'m, C, A> {
 
     /// Makes one step after another, each with the oldest token of an element, the elements in turn, and answers why it
     /// makes no more.
-    pub fn play_in_turn<L: Log>(&mut self, log: &mut L) -> Halt
+    pub fn play_in_turn<L: Log>(&mut self, log: &mut EventLog<A, L>) -> Halt
     where
         A: Clone,
         requires { IsWell C.program C.width self.old }
         ensures well { IsWell C.program C.width self.new }
-        ensures exact { (rounds : ℕ) × (events : Events) × Plays false (rounds_of rounds self.old.elements) (state_of C.program C.width self.old) (state_of C.program C.width self.new) result events × ((before : Events) → L.noted log.old before → L.noted log.new (before ++ events)) }
+        ensures exact { (rounds : ℕ) × (events : Events) × Plays false (rounds_of rounds self.old.shape.elements) (state_of C.program C.width self.old) (state_of C.program C.width self.new) result events × (log.new.events.items ≡ logged L.LISTS log.old.events.items events) }
     {
-        if self.elements == 1 {
+        if self.shape.elements == 1 {
             return self.play_alone(log);
         }
         'passes: loop {
-            for element in 0..self.elements {
+            for element in 0..self.shape.elements {
                 match self.advance(false, element, 0, log) {
                     None => {}
                     Some(halt) => return halt,
@@ -243,12 +249,12 @@ impl<'m, C: MainCode, A: Allocator> Elements<'m, C, A> {
     // How many requests for credits wait.
     fn credits(&self) -> u64
         requires { IsSoundState (state_of C.program C.width self.now) }
-        ensures { result ≡ sum_below (total (state_of C.program C.width self.now).setting) (λ f. credits_below self.now.elements (map held_of self.now.lanes.items) (C.width self.now.code.now) f) }
+        ensures { result ≡ sum_below (total (state_of C.program C.width self.now).setting) (λ f. credits_below self.now.shape.elements (map held_of self.now.lanes.items) (C.width self.now.shape.code.now) f) }
     {
-        let width = self.code.slots();
+        let width = self.shape.code.slots();
         let mut count: u64 = 0;
-        for frame in 0..self.elements * self.frames {
-            let lane = &self.lanes[(frame % self.elements) as usize];
+        for frame in 0..self.shape.elements * self.shape.frames {
+            let lane = &self.lanes[(frame % self.shape.elements) as usize];
             count += credits_in(lane, frame, width);
         }
         count
@@ -259,9 +265,9 @@ impl<'m, C: MainCode, A: Allocator> Elements<'m, C, A> {
         requires { IsSoundState (state_of C.program C.width self) }
         ensures { IfOk result (λ told. TellsLanes (state_of C.program C.width self.entry).setting (map held_of self.entry.lanes.items) told.outputs.items told.cells.items told.deferred told.requests told.credits told.out) }
     {
-        let number = self.code.cells();
-        let cells = full_cells(alloc, &self.lanes, self.elements, number)?;
-        let deferred = deferred(&self.lanes, self.elements, number)?;
+        let number = self.shape.code.cells();
+        let cells = full_cells(alloc, &self.lanes, self.shape.elements, number)?;
+        let deferred = deferred(&self.lanes, self.shape.elements, number)?;
         let credits = self.credits();
         let Elements { mut lanes, .. } = self;
         let first = lanes.swap_remove(0);

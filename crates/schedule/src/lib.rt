@@ -12,7 +12,7 @@ pub mod log;
 pub mod machine;
 pub mod main_code;
 mod opening;
-pub mod quiet;
 pub mod report;
 mod reporting;
 pub mod setup;
+pub mod shape;

@@ -1,74 +1,118 @@
 //! Where the events of a run are noted, if they are.
 
-ghost use Rattle.std.specs.Prelude.{◌≡◌, [], ◌∷◌, ◌++◌, OnOk};
-ghost use Rattle.semantics.specs.Machine.{Events};
-ghost use Rattle.schedule.specs.Steps.{events_of};
+ghost use Rattle.std.specs.Prelude.{◌≡◌, ◌<◌, [], ◌∷◌, ◌++◌, OnOk, true, vec_len};
+ghost use Rattle.std.specs.Vec.{vec_capacity};
+ghost use Rattle.schedule.specs.Steps.{events_of, logged};
 
 use element::lane::Stepped;
 use std::alloc::{AllocError, Allocator};
+use std::marker::PhantomData;
 use tags::token::Token;
 
-/// Takes note of events.
+/// Whether the events of a run are listed.
 pub trait Log {
-    /// These are the events that happened so far.
-    ghost noted: { Self → Events → Type 0 };
+    ghost use Rattle.std.specs.Prelude.{Bool};
 
-    /// There is room for one more.
-    ghost has_room: { Self → Type 0 };
+    ghost LISTS: { Bool };
 
-    /// Makes room for one event.
-    fn make_room(&mut self) -> Result<(), AllocError>
-        ensures same { (events : Events) → noted self.old events → noted self.new events }
-        ensures room { OnOk result (has_room self.new) };
-
-    /// Notes that the element took the token.
-    fn note(&mut self, element: u32, token: Token)
-        requires { has_room self.old }
-        ensures { (events : Events) → noted self.old events → noted self.new (events ++ (element, token) ∷ []) };
+    /// Whether they are.
+    const LISTS: bool;
 }
 
-impl<A: Allocator> Log for Vec<(u32, Token), A> {
-    ghost use Rattle.std.specs.Prelude.{◌≡◌, ◌<◌, vec_len};
-    ghost use Rattle.std.specs.Vec.{vec_capacity};
+/// Each event is listed.
+pub struct Listed;
 
-    ghost noted = { λ log events. log.items ≡ events };
+impl Log for Listed {
+    ghost use Rattle.std.specs.Prelude.{true};
 
-    ghost has_room = { λ log. vec_len log < vec_capacity log };
+    ghost LISTS = { true };
 
-    fn make_room(&mut self) -> Result<(), AllocError> {
-        self.reserve(1)
-    }
-
-    fn note(&mut self, element: u32, token: Token) {
-        self.push_reserved((element, token));
-    }
+    const LISTS: bool = true;
 }
 
-/// Keeps nothing.
-#[derive(Drop)]
+/// No event is listed, so a long run takes no more memory than a short one.
 pub struct NoLog;
 
 impl Log for NoLog {
-    ghost use Rattle.std.specs.Prelude.{⊤};
+    ghost use Rattle.std.specs.Prelude.{false};
 
-    ghost noted = { λ log events. ⊤ };
+    ghost LISTS = { false };
 
-    ghost has_room = { λ log. ⊤ };
-
-    fn make_room(&mut self) -> Result<(), AllocError> {
-        Ok(())
-    }
-
-    fn note(&mut self, _element: u32, _token: Token) {}
+    const LISTS: bool = false;
 }
 
-/// Notes what a step did.
-pub fn note<L: Log>(log: &mut L, element: u32, token: Token, stepped: Stepped)
-    requires { L.has_room log.old }
-    ensures { (events : Events) → L.noted log.old events → L.noted log.new (events ++ events_of stepped element token) }
-{
-    match stepped {
-        Stepped::Did => log.note(element, token),
-        _ => {}
+/// The events of a run in order, where they are listed.
+#[derive(Drop)]
+pub struct EventLog<A: Allocator, L: Log> {
+    /// Each event so far: the element, and the token that it took.
+    pub events: Vec<(u32, Token), A>,
+    log: PhantomData<L>,
+}
+
+impl<A: Allocator, L: Log> EventLog<A, L> {
+    /// A log with no events. It takes no memory.
+    pub fn new(alloc: A) -> EventLog<A, L>
+        ensures { result.events.items ≡ [] }
+    {
+        EventLog {
+            events: Vec::new(alloc),
+            log: PhantomData,
+        }
+    }
+
+    /// Makes room for an event.
+    #[inline(always)]
+    pub fn make_room(&mut self) -> Result<(), AllocError>
+        ensures same { self.new.events.items ≡ self.old.events.items }
+        ensures room { OnOk result (L.LISTS ≡ true → vec_len self.new.events < vec_capacity self.new.events) }
+    {
+        if L::LISTS {
+            self.events.reserve(1)
+        } else {
+            Ok(())
+        }
+    }
+
+    /// Notes that the element took the token.
+    #[inline(always)]
+    pub fn note(&mut self, element: u32, token: Token)
+        requires { L.LISTS ≡ true → vec_len self.old.events < vec_capacity self.old.events }
+        ensures { self.new.events.items ≡ logged L.LISTS self.old.events.items ((element, token) ∷ []) }
+    {
+        if L::LISTS {
+            self.events.push_reserved((element, token));
+        }
+    }
+
+    /// Notes what a step did.
+    #[inline(always)]
+    pub fn note_step(&mut self, element: u32, token: Token, stepped: Stepped)
+        requires { L.LISTS ≡ true → vec_len self.old.events < vec_capacity self.old.events }
+        ensures { self.new.events.items ≡ logged L.LISTS self.old.events.items (events_of stepped element token) }
+    {
+        match stepped {
+            Stepped::Did => self.note(element, token),
+            _ => {}
+        }
+    }
+
+    /// Takes the events of another log, and puts them last.
+    pub fn append(&mut self, other: &mut EventLog<A, L>) -> Result<(), AllocError>
+        ensures events { self.new.events.items ++ other.new.events.items ≡ self.old.events.items ++ other.old.events.items }
+        ensures cleared { OnOk result (other.new.events.items ≡ []) }
+    {
+        self.events.append(&mut other.events)
+    }
+
+    /// A log of no events, in which none will be listed.
+    pub fn forget(self) -> EventLog<A, NoLog>
+        ensures { result.events.items ≡ [] }
+    {
+        let EventLog { mut events, .. } = self;
+        events.clear();
+        EventLog {
+            events,
+            log: PhantomData,
+        }
     }
 }

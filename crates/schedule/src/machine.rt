@@ -6,27 +6,28 @@ ghost use Rattle.element.specs.Held.{held_of, fixed_of, bounds_at};
 ghost use Rattle.schedule.specs.Setting.{inputs_of};
 ghost use Rattle.schedule.specs.State.{AllFrom, IsAt, delivered};
 ghost use Rattle.schedule.specs.Starts.{IsGood, IsCause, Opens, setting_of, start_tokens};
-ghost use Rattle.schedule.specs.Steps.{Steps};
-ghost use Rattle.schedule.specs.Runs.{Kept, Began, Plays, HaltsAs, NamesCell, rounds_of};
+ghost use Rattle.schedule.specs.Steps.{Steps, logged};
+ghost use Rattle.schedule.specs.Runs.{Kept, Began, BeganListed, Plays, HaltsAs, NamesCell, rounds_of};
 ghost use Rattle.schedule.specs.declared.halt.Halt.{Halt};
 ghost use Rattle.schedule.specs.Told.{IsReportOf};
 ghost use Rattle.semantics.specs.Report.{Shows};
 ghost use Rattle.schedule.specs.Setting.{size};
 ghost use Rattle.schedule.specs.State.{State};
-ghost use Rattle.schedule.specs.Unlisted.{Quietly, RunsInTurn};
-ghost use Rattle.schedule.specs.State.{IsSoundState, RunsAs};
-ghost use Rattle.schedule.specs.Apart.{kept_of, setting_in, state_in};
+ghost use Rattle.schedule.specs.Unlisted.{Quietly, RunsInTurn, ReportsKept, ShowsBut, kept_with, without_events};
+ghost use Rattle.schedule.specs.State.{IsSoundState, RunsAs, setting_in};
+ghost use Rattle.schedule.specs.Apart.{kept_of, state_in};
 
 use crate::config::{Config, StartFault};
 use crate::delivery::receive;
 use crate::elements::Elements;
 use crate::halt::Halt;
+use crate::log::{EventLog, Listed, Log, NoLog};
 use crate::main_code::MainCode;
 use crate::opening::fresh_lanes;
-use crate::quiet::Quiet;
 use crate::report::Report;
 use crate::reporting::report_of;
 use crate::setup::{Apart, Setup};
+use crate::shape::Shape;
 use element::instructions::Instructions;
 use element::lane::{Lane, Stepped};
 use frame_store::store::Store;
@@ -35,21 +36,21 @@ use std::marker::Model;
 use tags::token::{Cont, Port, To, Token, Word};
 use tags::value::Value;
 
-/// A machine that runs code. Contracts see what its lanes hold, each token where it is addressed to, and its events.
+/// A machine that runs code. Contracts see what its lanes hold, each token where it is addressed to, and the events that it lists.
 #[derive(Drop)]
-pub struct Machine<'m, C: MainCode, A: Allocator> {
+pub struct Machine<'m, C: MainCode, A: Allocator, L: Log = Listed> {
     elements: Elements<'m, C, A>,
-    events: Vec<(u32, Token), A>,
+    log: EventLog<A, L>,
     alloc: A,
 }
 
-impl<'m, C: MainCode, A: Allocator> Model for Machine<'m, C, A> {
+impl<'m, C: MainCode, A: Allocator, L: Log> Model for Machine<'m, C, A, L> {
     ghost use Rattle.schedule.specs.State.{state_of, IsWell};
     ghost use Rattle.schedule.specs.Runs.{Kept};
 
     ghost Value = { Kept };
 
-    ghost view = { λ m. record { state = state_of C.program C.width m.elements; events = m.events.items } };
+    ghost view = { λ m. record { state = state_of C.program C.width m.elements; events = m.log.events.items } };
 
     ghost invariant = { λ m. IsWell C.program C.width m.elements };
 }
@@ -138,18 +139,20 @@ where
     let mut lanes = fresh_lanes(alloc.clone()?, store, code, config.steps)?;
     give_inputs(&mut lanes, elements, code.main_entry(), inputs)?;
     let elements = Elements {
-        code,
-        elements,
-        frames,
-        steps: config.steps,
-        turn: config.turn,
+        shape: Shape {
+            code,
+            elements,
+            frames,
+            steps: config.steps,
+            turn: config.turn,
+        },
         lanes,
         sent: Vec::new(alloc.clone()?),
         come: 0,
     };
     Ok(Machine {
         elements,
-        events: Vec::new(alloc.clone()?),
+        log: EventLog::new(alloc.clone()?),
         alloc,
     })
 }
@@ -183,68 +186,6 @@ impl<'m, C: MainCode, A: Allocator> Machine<'m, C, A> {
         }
     }
 
-    /// The element takes the token that `pick`, modulo the number of its tokens, names from the oldest on; `None` where it
-    /// has a token and has made all its events. The token is taken out, the others close up, and those that the event
-    /// makes go last, each where it is addressed to. After `Clash`, `Stuck` and `Memory` all stands as before.
-    pub fn step(&mut self, element: u32, pick: u64) -> Option<Stepped>
-    where
-        A: Clone,
-        requires { element < self.old.state.setting.elements }
-        ensures steps { (made : Events) × Steps self.old.state element pick result self.new.state made × (self.new.events ≡ self.old.events ++ made) }
-        ensures began { (inputs : List ℤ) → Began inputs self.old.state self.old.events → Began inputs self.new.state self.new.events }
-        ensures setting { self.new.state.setting ≡ self.old.state.setting }
-    {
-        self.elements.step(element, pick, &mut self.events)
-    }
-
-    /// Makes one step for each element and pick of the list, in order, and answers why it makes no more. It stops early
-    /// where no token is left, where a token stores in a full cell or is excluded, and for want of memory; an element that
-    /// has made all its events is passed over. The answer is `Steps` where the list ends with a token left.
-    pub fn play(&mut self, picks: &[(u32, u64)]) -> Halt
-    where
-        A: Clone,
-        requires { All (λ pick. pick.0 < self.old.state.setting.elements) picks.now }
-        ensures plays { (made : Events) × Plays true picks.now self.old.state self.new.state result made × (self.new.events ≡ self.old.events ++ made) }
-        ensures began { (inputs : List ℤ) → Began inputs self.old.state self.old.events → Began inputs self.new.state self.new.events }
-        ensures halts { HaltsAs self.new.state true result }
-        ensures setting { self.new.state.setting ≡ self.old.state.setting }
-        ensures cell { NamesCell self.new.state.setting.program result }
-    {
-        self.elements.play(picks, &mut self.events)
-    }
-
-    /// Makes one step after another, each with the oldest token of an element, the elements in turn, and answers why it
-    /// makes no more. It stops where no token is left, where a token stores in a full cell or is excluded, for want of
-    /// memory, and at the first element that has a token and has made all its events.
-    pub fn play_in_turn(&mut self) -> Halt
-    where
-        A: Clone,
-        ensures plays { (rounds : ℕ) × (made : Events) × Plays false (rounds_of rounds self.old.state.setting.elements) self.old.state self.new.state result made × (self.new.events ≡ self.old.events ++ made) }
-        ensures began { (inputs : List ℤ) → Began inputs self.old.state self.old.events → Began inputs self.new.state self.new.events }
-        ensures halts { HaltsAs self.new.state false result }
-        ensures setting { self.new.state.setting ≡ self.old.state.setting }
-        ensures cell { NamesCell self.new.state.setting.program result }
-    {
-        self.elements.play_in_turn(&mut self.events)
-    }
-
-    /// What the machine holds and what happened, with the end of a run that halted so. Where its own lists are refused it is
-    /// the report of the machine before its first event, with the end `Memory`.
-    pub fn report(self, halt: Halt) -> Report<A>
-    where
-        A: Clone,
-        requires { NamesCell self.state.setting.program halt }
-        ensures told { IsReportOf self.entry halt result }
-        ensures shows { (inputs : List ℤ) (listed : Bool) → Began inputs self.entry.state self.entry.events → HaltsAs self.entry.state listed halt → Shows self.entry.state.setting.program (size self.entry.state.setting) inputs self.entry.state.setting.steps listed false result }
-    {
-        let Machine {
-            elements,
-            events,
-            alloc,
-        } = self;
-        report_of(elements, events, alloc, halt)
-    }
-
     /// Makes one step for each element and pick of the list, in order, and reports. It stops early where no token is left,
     /// where a token stores in a full cell or is excluded, and for want of memory; an element that has made all its events
     /// is passed over. The end is `Steps` where the list ends with a token left.
@@ -272,60 +213,18 @@ impl<'m, C: MainCode, A: Allocator> Machine<'m, C, A> {
         self.report(halt)
     }
 
-    /// The machine taken apart, with each token in the queue of the lane that it is addressed to. Each lane runs its code.
-    /// After an error it is as before.
-    pub fn into_lanes(self) -> Result<Apart<'m, C, A>, Machine<'m, C, A>>
-    where
-        ensures apart { MatchResult result (λ apart. (kept_of C.program C.width apart.0 apart.1.items ≡ self.entry) × IsSoundState (state_in C.program C.width apart.0 apart.1.items)) (λ machine. machine ≡ self.entry) }
-        ensures runs { IfOk result (λ apart. All (RunsAs (setting_in C.program C.width apart.0)) (map fixed_of apart.1.items)) }
-    {
-        let Machine {
-            mut elements,
-            events,
-            alloc,
-        } = self;
-        if elements.settle().is_err() {
-            return Err(Machine {
-                elements,
-                events,
-                alloc,
-            });
-        }
-        let Elements {
-            code,
-            elements,
-            frames,
-            steps,
-            turn,
-            lanes,
-            sent,
-            ..
-        } = elements;
-        let setup = Setup {
-            code,
-            elements,
-            frames,
-            steps,
-            turn,
-            events,
-            sent,
-            alloc,
-        };
-        Ok((setup, lanes))
-    }
-
     /// The same machine without the list of its events.
-    pub fn without_events(self) -> Quiet<'m, C, A>
-        ensures { result ≡ self.entry.state }
+    pub fn without_events(self) -> Machine<'m, C, A, NoLog>
+        ensures { result ≡ without_events self.entry.state }
     {
         let Machine {
             elements,
-            events,
+            log,
             alloc,
         } = self;
-        Quiet {
+        Machine {
             elements,
-            events,
+            log: log.forget(),
             alloc,
         }
     }
@@ -340,5 +239,106 @@ impl<'m, C: MainCode, A: Allocator> Machine<'m, C, A> {
         let mut quiet = self.without_events();
         let halt = quiet.play_in_turn();
         quiet.report(halt)
+    }
+}
+
+impl<'m, C: MainCode, A: Allocator, L: Log> Machine<'m, C, A, L> {
+    /// The element takes the token that `pick`, modulo the number of its tokens, names from the oldest on; `None` where it
+    /// has a token and has made all its events. The token is taken out, the others close up, and those that the event
+    /// makes go last, each where it is addressed to. After `Clash`, `Stuck` and `Memory` all stands as before.
+    pub fn step(&mut self, element: u32, pick: u64) -> Option<Stepped>
+    where
+        A: Clone,
+        requires { element < self.old.state.setting.elements }
+        ensures steps { (made : Events) × Steps self.old.state element pick result self.new.state made × (self.new.events ≡ logged L.LISTS self.old.events made) × ((inputs : List ℤ) (before : Events) → Began inputs self.old.state before → Began inputs self.new.state (before ++ made)) }
+        ensures began { (inputs : List ℤ) → BeganListed L.LISTS inputs self.old → BeganListed L.LISTS inputs self.new }
+        ensures setting { self.new.state.setting ≡ self.old.state.setting }
+    {
+        self.elements.step(element, pick, &mut self.log)
+    }
+
+    /// Makes one step for each element and pick of the list, in order, and answers why it makes no more. It stops early
+    /// where no token is left, where a token stores in a full cell or is excluded, and for want of memory; an element that
+    /// has made all its events is passed over. The answer is `Steps` where the list ends with a token left.
+    pub fn play(&mut self, picks: &[(u32, u64)]) -> Halt
+    where
+        A: Clone,
+        requires { All (λ pick. pick.0 < self.old.state.setting.elements) picks.now }
+        ensures plays { (made : Events) × Plays true picks.now self.old.state self.new.state result made × (self.new.events ≡ logged L.LISTS self.old.events made) × ((inputs : List ℤ) (before : Events) → Began inputs self.old.state before → Began inputs self.new.state (before ++ made)) }
+        ensures began { (inputs : List ℤ) → BeganListed L.LISTS inputs self.old → BeganListed L.LISTS inputs self.new }
+        ensures halts { HaltsAs self.new.state true result }
+        ensures setting { self.new.state.setting ≡ self.old.state.setting }
+        ensures cell { NamesCell self.new.state.setting.program result }
+    {
+        self.elements.play(picks, &mut self.log)
+    }
+
+    /// Makes one step after another, each with the oldest token of an element, the elements in turn, and answers why it
+    /// makes no more. It stops where no token is left, where a token stores in a full cell or is excluded, for want of
+    /// memory, and at the first element that has a token and has made all its events.
+    pub fn play_in_turn(&mut self) -> Halt
+    where
+        A: Clone,
+        ensures plays { (rounds : ℕ) × (made : Events) × Plays false (rounds_of rounds self.old.state.setting.elements) self.old.state self.new.state result made × (self.new.events ≡ logged L.LISTS self.old.events made) × ((inputs : List ℤ) (before : Events) → Began inputs self.old.state before → Began inputs self.new.state (before ++ made)) }
+        ensures began { (inputs : List ℤ) → BeganListed L.LISTS inputs self.old → BeganListed L.LISTS inputs self.new }
+        ensures halts { HaltsAs self.new.state false result }
+        ensures setting { self.new.state.setting ≡ self.old.state.setting }
+        ensures cell { NamesCell self.new.state.setting.program result }
+    {
+        self.elements.play_in_turn(&mut self.log)
+    }
+
+    /// What the machine holds and what happened, with the end of a run that halted so; of a machine that lists no events all but
+    /// these. Where its own lists are refused it is the report of the machine before its first event, with the end `Memory`.
+    pub fn report(self, halt: Halt) -> Report<A>
+    where
+        A: Clone,
+        requires { NamesCell self.state.setting.program halt }
+        ensures told { IsReportOf self.entry halt result }
+        ensures quietly { self.entry.events ≡ [] → (events : Events) → Quietly (ReportsKept (kept_with self.entry.state events) halt) result }
+        ensures any { (inputs : List ℤ) (listed : Bool) (events : Events) → Began inputs self.entry.state events → HaltsAs self.entry.state listed halt → ShowsBut self.entry.state.setting.program (size self.entry.state.setting) inputs self.entry.state.setting.steps listed false self.entry.events events result }
+        ensures shows { (inputs : List ℤ) (listed : Bool) → Began inputs self.entry.state self.entry.events → HaltsAs self.entry.state listed halt → Shows self.entry.state.setting.program (size self.entry.state.setting) inputs self.entry.state.setting.steps listed false result }
+    {
+        let Machine {
+            elements,
+            log,
+            alloc,
+        } = self;
+        let EventLog { events, .. } = log;
+        report_of(elements, events, alloc, halt)
+    }
+
+    /// The machine taken apart, with each token in the queue of the lane that it is addressed to. Each lane runs its code.
+    /// After an error it is as before.
+    pub fn into_lanes(self) -> Result<Apart<'m, C, A, L>, Machine<'m, C, A, L>>
+    where
+        ensures apart { MatchResult result (λ apart. (kept_of C.program C.width apart.0 apart.1.items ≡ self.entry) × IsSoundState (state_in C.program C.width apart.0 apart.1.items)) (λ machine. machine ≡ self.entry) }
+        ensures runs { IfOk result (λ apart. All (RunsAs (setting_in C.program C.width apart.0.shape)) (map fixed_of apart.1.items)) }
+    {
+        let Machine {
+            mut elements,
+            log,
+            alloc,
+        } = self;
+        if elements.settle().is_err() {
+            return Err(Machine {
+                elements,
+                log,
+                alloc,
+            });
+        }
+        let Elements {
+            shape,
+            lanes,
+            sent,
+            ..
+        } = elements;
+        let setup = Setup {
+            shape,
+            log,
+            sent,
+            alloc,
+        };
+        Ok((setup, lanes))
     }
 }

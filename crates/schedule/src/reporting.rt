@@ -90,10 +90,10 @@ pub fn report_of<C: MainCode, A: Allocator>(
 where
     A: Clone,
     requires sound { IsSoundState (state_of C.program C.width elements) }
-    requires cell { NamesCell (C.program elements.code.now) halt }
+    requires cell { NamesCell (C.program elements.shape.code.now) halt }
     ensures { Reports C.program C.width elements.entry events.items halt result }
 {
-    let code = elements.code;
+    let code = elements.shape.code;
     match tell(elements, &alloc) {
         Ok(told) => Report {
             end: end_of(code, halt, told.requests, told.credits),

@@ -6,72 +6,58 @@ ghost use Rattle.semantics.specs.Machine.{Events, outputs_of};
 ghost use Rattle.schedule.specs.declared.halt.Halt.{Halt};
 ghost use Rattle.schedule.specs.Unlisted.{ShowsBut};
 ghost use Rattle.schedule.specs.Setting.{size};
-ghost use Rattle.schedule.specs.State.{IsSoundState};
+ghost use Rattle.schedule.specs.State.{IsSoundState, setting_in};
 ghost use Rattle.schedule.specs.Runs.{Began, HaltsAs, NamesCell};
 ghost use Rattle.schedule.specs.Told.{IsReportOf, opening_picture};
-ghost use Rattle.schedule.specs.Apart.{setting_in, state_in, kept_of, with_coming};
+ghost use Rattle.schedule.specs.Apart.{state_in, kept_of, with_coming};
 
 use crate::elements::Elements;
 use crate::halt::Halt;
+use crate::log::{EventLog, Log};
 use crate::main_code::MainCode;
 use crate::report::Report;
 use crate::reporting::{opening_report, report_of};
+use crate::shape::Shape;
 use element::lane::Lane;
 use std::alloc::Allocator;
 use tags::token::Token;
 
 /// What a machine has beside its lanes.
 #[derive(Drop)]
-pub struct Setup<'m, C: MainCode, A: Allocator> {
-    pub code: &'m C,
-    /// How many lanes there are.
-    pub elements: u32,
-    /// How many frames each element has.
-    pub frames: u32,
-    /// How many events each element may make.
-    pub steps: u64,
-    /// How many events a turn has.
-    pub turn: u64,
-    /// Each event so far.
-    pub events: Vec<(u32, Token), A>,
+pub struct Setup<'m, C: MainCode, A: Allocator, L: Log> {
+    pub shape: Shape<'m, C>,
+    pub log: EventLog<A, L>,
     // The list in which tokens were on their way.
     pub(crate) sent: Vec<Token, A>,
     pub alloc: A,
 }
 
 /// A machine taken apart: its lanes in order, and the rest.
-pub type Apart<'m, C, A> = (Setup<'m, C, A>, Vec<Lane<'m, C, A>, A>);
+pub type Apart<'m, C, A, L> = (Setup<'m, C, A, L>, Vec<Lane<'m, C, A>, A>);
 
-impl<'m, C: MainCode, A: Allocator> Setup<'m, C, A> {
+impl<'m, C: MainCode, A: Allocator, L: Log> Setup<'m, C, A, L> {
     /// What all lanes hold as they stand, with the events and the end of a run that halted so, whatever tokens are on their
     /// way; of a run whose events were not kept it shows all but these. Where its own lists are refused it is the report of the machine before its first event, with the end `Memory`.
     pub fn report(self, lanes: Vec<Lane<'m, C, A>, A>, halt: Halt) -> Report<A>
     where
         A: Clone,
         requires sound { IsSoundState (state_in C.program C.width self lanes.items) }
-        requires cell { NamesCell (C.program self.code.now) halt }
+        requires cell { NamesCell (C.program self.shape.code.now) halt }
         ensures told { IsReportOf (kept_of C.program C.width self.entry lanes.entry.items) halt result }
-        ensures unlisted { self.entry.events.items ≡ [] → result.events ≡ [] }
-        ensures shows { (inputs : List ℤ) (listed : Bool) (coming : List Token) (events : Events) → IsSoundState (with_coming (state_in C.program C.width self.entry lanes.entry.items) coming) → Began inputs (with_coming (state_in C.program C.width self.entry lanes.entry.items) coming) events → HaltsAs (with_coming (state_in C.program C.width self.entry lanes.entry.items) coming) listed halt → ShowsBut (C.program self.entry.code.now) (size (setting_in C.program C.width self.entry)) inputs self.entry.steps listed false self.entry.events.items events result }
-        ensures stopped { halt ≡ Halt.Stop → (inputs : List ℤ) (listed : Bool) (coming : List Token) (events : Events) → IsSoundState (with_coming (state_in C.program C.width self.entry lanes.entry.items) coming) → Began inputs (with_coming (state_in C.program C.width self.entry lanes.entry.items) coming) events → ShowsBut (C.program self.entry.code.now) (size (setting_in C.program C.width self.entry)) inputs self.entry.steps listed true self.entry.events.items events result }
+        ensures unlisted { self.entry.log.events.items ≡ [] → result.events ≡ [] }
+        ensures shows { (inputs : List ℤ) (listed : Bool) (coming : List Token) (events : Events) → IsSoundState (with_coming (state_in C.program C.width self.entry lanes.entry.items) coming) → Began inputs (with_coming (state_in C.program C.width self.entry lanes.entry.items) coming) events → HaltsAs (with_coming (state_in C.program C.width self.entry lanes.entry.items) coming) listed halt → ShowsBut (C.program self.entry.shape.code.now) (size (setting_in C.program C.width self.entry.shape)) inputs self.entry.shape.steps listed false self.entry.log.events.items events result }
+        ensures stopped { halt ≡ Halt.Stop → (inputs : List ℤ) (listed : Bool) (coming : List Token) (events : Events) → IsSoundState (with_coming (state_in C.program C.width self.entry lanes.entry.items) coming) → Began inputs (with_coming (state_in C.program C.width self.entry lanes.entry.items) coming) events → ShowsBut (C.program self.entry.shape.code.now) (size (setting_in C.program C.width self.entry.shape)) inputs self.entry.shape.steps listed true self.entry.log.events.items events result }
     {
         let Setup {
-            code,
-            elements,
-            frames,
-            steps,
-            turn,
-            events,
+            shape,
+            log,
             mut sent,
             alloc,
         } = self;
+        let EventLog { events, .. } = log;
         sent.clear();
         let elements = Elements {
-            code,
-            elements,
-            frames,
-            steps,
-            turn,
+            shape,
             lanes,
             sent,
             come: 0,
@@ -81,14 +67,15 @@ impl<'m, C: MainCode, A: Allocator> Setup<'m, C, A> {
 
     /// The report of the machine before its first event, with the end `Memory`.
     pub fn refused(self) -> Report<A>
-        ensures { result ≡ opening_picture (outputs_of (C.program self.entry.code.now)) }
+        ensures { result ≡ opening_picture (outputs_of (C.program self.entry.shape.code.now)) }
     {
         let Setup {
-            code,
-            events,
+            shape,
+            log,
             alloc,
             ..
         } = self;
-        opening_report(alloc, code.outputs(), events)
+        let EventLog { events, .. } = log;
+        opening_report(alloc, shape.code.outputs(), events)
     }
 }

@@ -8,6 +8,7 @@ use crate::words::Words;
 use element::instructions::{Instruction, Instructions};
 use loaded::Loaded;
 use object_view::Object;
+use schedule::main_code::MainCode;
 use semantics::program::Op;
 use std::alloc::AllocError;
 
@@ -90,10 +91,10 @@ impl Part for LoadedPart<'_> {
         let operation = words.word();
         let number = match operation {
             "main-entry" => loaded.main_entry(),
-            "inputs" => loaded.main_inputs(),
-            "outputs" => loaded.main_outputs(),
-            "cells" => loaded.cell_count(),
-            "slots" => loaded.slot_count(),
+            "inputs" => loaded.inputs(),
+            "outputs" => loaded.outputs(),
+            "cells" => loaded.cells(),
+            "slots" => loaded.slots(),
             _ => return on_number(loaded, operation, words, answer),
         };
         write!(answer, "{number}").ok()

@@ -3,7 +3,7 @@
 use crate::part::{Heap, Part};
 use crate::shown::push_token;
 use crate::words::Words;
-use ordering::log::{Counts, Log};
+use ordering::log::{BlockLog, Counts};
 use ordering::order;
 use std::alloc::{AllocError, Allocator, Global};
 use tags::token::{Port, To, Token, Word};
@@ -82,7 +82,7 @@ fn block_of(alloc: Global, words: &mut Words<'_>) -> Option<Block> {
 }
 
 /// Notes a block.
-fn note(log: &mut Log<Heap<'_>>, block: &Block) -> Result<(), AllocError> {
+fn note(log: &mut BlockLog<Heap<'_>>, block: &Block) -> Result<(), AllocError> {
     for token in block.taken.as_slice() {
         log.reserve(1, 0, 0)?;
         log.note_event(*token);
@@ -105,8 +105,8 @@ fn log_of<'h>(
     heap: Heap<'h>,
     blocks: &[Block],
     element: usize,
-) -> Result<Log<Heap<'h>>, AllocError> {
-    let mut log = Log::new(heap)?;
+) -> Result<BlockLog<Heap<'h>>, AllocError> {
+    let mut log = BlockLog::new(heap)?;
     for block in blocks {
         if block.element == element {
             note(&mut log, block)?;

@@ -182,8 +182,8 @@ fn take_apart(running: Running<'_, '_>, halt: &str, answer: &mut String) -> Opti
         tokens = tokens.wrapping_add(lane.queue().len());
     }
     let count = lanes.len();
-    let steps = setup.steps;
-    let turn = setup.turn;
+    let steps = setup.shape.steps;
+    let turn = setup.shape.turn;
     write!(
         answer,
         "{count} lanes, {tokens} tokens, steps {steps}, turn {turn}: "

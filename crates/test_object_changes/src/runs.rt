@@ -4,6 +4,7 @@ use loaded::Loaded;
 use object_view::Object;
 use schedule::config::{Config, StartFault};
 use schedule::machine::Machine;
+use schedule::main_code::MainCode;
 use semantics::report::End;
 use std::alloc::{AllocError, Allocator};
 
@@ -85,7 +86,7 @@ const CONFIG: Config = Config {
 pub fn ending_of<A: Allocator + Clone>(alloc: A, object: Object<'_>) -> Result<Ending, AllocError> {
     let code = Loaded::new(alloc.clone()?, object)?;
     let mut inputs = Vec::from_slice(alloc.clone()?, &[2, 3])?;
-    inputs.resize(code.main_inputs() as usize, 0)?;
+    inputs.resize(code.inputs() as usize, 0)?;
     let mut store = None;
     let started = Machine::start(alloc, &mut store, &code, &inputs, CONFIG);
     match started {

@@ -1,16 +1,16 @@
 use Rattle.std.proofs.Common.{ap, refl, ◌<◌, ◌≤◌, length, arith}
-use Rattle.schedule.specs.Apart.{setting_in}
+use Rattle.schedule.specs.State.{setting_in}
 use Rattle.machine.proofs.Keeping.{runs_on, keeps_twice, kept_count, keeps_dealt_at, keeps_bundles, keeps_cleared}
 use Rattle.machine.proofs.dealing.deal.Goals as goal
 
 pub keep-requires-clause-count : goal.keep-requires-clause-count
 keep-requires-clause-count g c =
-    kept_count {C = g.row.C.Denot} {A = g.row.A.Denot} (setting_in g.C.Instructions.program g.C.Instructions.width c.args.setup.now) c.args.mesh.now c.loop-at.runner (runs_on {C = g.row.C.Denot} {A = g.row.A.Denot} (setting_in g.C.Instructions.program g.C.Instructions.width c.args.setup.now) c.args.mesh.now c.args.runner.now c.loop-at.runner c.requires.runs c.loop-at.invariant.keeps)
+    kept_count {C = g.row.C.Denot} {A = g.row.A.Denot} {L = g.row.L.Denot} g.L.Log.LISTS (setting_in g.C.Instructions.program g.C.Instructions.width c.args.shape.now) c.args.mesh.now c.loop-at.runner (runs_on {C = g.row.C.Denot} {A = g.row.A.Denot} {L = g.row.L.Denot} g.L.Log.LISTS (setting_in g.C.Instructions.program g.C.Instructions.width c.args.shape.now) c.args.mesh.now c.args.runner.now c.loop-at.runner c.requires.runs c.loop-at.invariant.keeps)
 
 pub returns-in_err-keep-clause-keeps : goal.returns-in_err-keep-clause-keeps
 returns-in_err-keep-clause-keeps g c =
-    keeps_twice {C = g.row.C.Denot} {A = g.row.A.Denot} (setting_in g.C.Instructions.program g.C.Instructions.width c.args.setup.now) c.args.mesh.now c.args.runner.now c.loop-at.runner _ c.loop-at.invariant.keeps
-    (keeps_bundles {C = g.row.C.Denot} {A = g.row.A.Denot} (setting_in g.C.Instructions.program g.C.Instructions.width c.args.setup.now) c.args.mesh.now c.loop-at.runner c.keep.new.kept c.in_err-keep.ensures.err)
+    keeps_twice {C = g.row.C.Denot} {A = g.row.A.Denot} {L = g.row.L.Denot} g.L.Log.LISTS (setting_in g.C.Instructions.program g.C.Instructions.width c.args.shape.now) c.args.mesh.now c.args.runner.now c.loop-at.runner _ c.loop-at.invariant.keeps
+    (keeps_bundles {C = g.row.C.Denot} {A = g.row.A.Denot} {L = g.row.L.Denot} g.L.Log.LISTS (setting_in g.C.Instructions.program g.C.Instructions.width c.args.shape.now) c.args.mesh.now c.loop-at.runner c.keep.new.kept c.in_err-keep.ensures.err)
 
 pub loop-at-preserved : goal.loop-at-preserved
 loop-at-preserved g c =
@@ -19,8 +19,8 @@ loop-at-preserved g c =
     let low : c.loop-at.at < length c.loop-at.runner.sent.items = (let t = c.loop-at-test.true in let s = ap (λ l. length l) i.sent in omega (arith, end, t, s)) in
     record {
       stays = i.stays;
-      keeps = keeps_twice {C = g.row.C.Denot} {A = g.row.A.Denot} (setting_in g.C.Instructions.program g.C.Instructions.width c.args.setup.now) c.args.mesh.now c.args.runner.now c.loop-at.runner _ i.keeps
-          (keeps_dealt_at {C = g.row.C.Denot} {A = g.row.A.Denot} (setting_in g.C.Instructions.program g.C.Instructions.width c.args.setup.now) c.args.mesh.now c.loop-at.runner c.keep.new.kept c.index-token.result.now c.loop-at.at i.dealt c.in_ok-keep.ensures.ok low c.index-token.ensures);
+      keeps = keeps_twice {C = g.row.C.Denot} {A = g.row.A.Denot} {L = g.row.L.Denot} g.L.Log.LISTS (setting_in g.C.Instructions.program g.C.Instructions.width c.args.shape.now) c.args.mesh.now c.args.runner.now c.loop-at.runner _ i.keeps
+          (keeps_dealt_at {C = g.row.C.Denot} {A = g.row.A.Denot} {L = g.row.L.Denot} g.L.Log.LISTS (setting_in g.C.Instructions.program g.C.Instructions.width c.args.shape.now) c.args.mesh.now c.loop-at.runner c.keep.new.kept c.index-token.result.now c.loop-at.at i.dealt c.in_ok-keep.ensures.ok low c.index-token.ensures);
       dealt = refl;
       sent = i.sent;
       hand = i.hand;
@@ -32,5 +32,5 @@ returns-clause-keeps g c =
     let i = c.loop-at.invariant in
     let end = c.len-at-end.ensures in
     let past : length c.loop-at.runner.sent.items ≤ c.loop-at.runner.dealt = (let t = c.loop-at-test.false in let s = ap (λ l. length l) i.sent in let d = i.dealt in omega (arith, end, t, s, d)) in
-    keeps_twice {C = g.row.C.Denot} {A = g.row.A.Denot} (setting_in g.C.Instructions.program g.C.Instructions.width c.args.setup.now) c.args.mesh.now c.args.runner.now c.loop-at.runner _ i.keeps
-    (keeps_cleared {C = g.row.C.Denot} {A = g.row.A.Denot} (setting_in g.C.Instructions.program g.C.Instructions.width c.args.setup.now) c.args.mesh.now c.loop-at.runner c.clear.new.self past c.clear.ensures.items)
+    keeps_twice {C = g.row.C.Denot} {A = g.row.A.Denot} {L = g.row.L.Denot} g.L.Log.LISTS (setting_in g.C.Instructions.program g.C.Instructions.width c.args.shape.now) c.args.mesh.now c.args.runner.now c.loop-at.runner _ i.keeps
+    (keeps_cleared {C = g.row.C.Denot} {A = g.row.A.Denot} {L = g.row.L.Denot} g.L.Log.LISTS (setting_in g.C.Instructions.program g.C.Instructions.width c.args.shape.now) c.args.mesh.now c.loop-at.runner c.clear.new.self past c.clear.ensures.items)

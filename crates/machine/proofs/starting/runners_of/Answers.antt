@@ -7,7 +7,7 @@ use Rattle.element.specs.Held.{LaneView, held_of, fixed_of}
 use Rattle.mesh.specs.Seats.{SeatView}
 use Rattle.rounds.proofs.Changes.{moved_first}
 use Rattle.machine.specs.declared.runner.Runner.{Runner}
-use Rattle.machine.specs.Starts.{AreListed, IsNew, lane_in, lane_fixed, lanes_in, lanes_fixed, seats_in}
+use Rattle.machine.specs.Starts.{IsNew, lane_in, lane_fixed, lanes_in, lanes_fixed, seats_in}
 use Rattle.machine.proofs.Lists.{seats_more, no_seats}
 use Rattle.machine.proofs.starting.runners_of.Goals as goal
 
@@ -16,11 +16,10 @@ each-init g c =
     let none = c.in_ok-runners.ensures.items in
     let n = c.args.elements in
     record {
-      held = ap (λ (l : List (CachePadded (Runner g.row.C.Denot g.row.A.Denot))). lanes_in l ++ map held_of c.args.lanes.items) none;
-      fixed = ap (λ (l : List (CachePadded (Runner g.row.C.Denot g.row.A.Denot))). lanes_fixed l ++ map fixed_of c.args.lanes.items) none;
-      seats = ap (λ (l : List (CachePadded (Runner g.row.C.Denot g.row.A.Denot))). seats_in l ++ c.args.seats.items) none;
-      new = subst (λ (l : List (CachePadded (Runner g.row.C.Denot g.row.A.Denot))). All (λ (p : CachePadded (Runner g.row.C.Denot g.row.A.Denot)). IsNew n (padded_value p)) l) (sym none) (All-nil (λ (p : CachePadded (Runner g.row.C.Denot g.row.A.Denot)). IsNew n (padded_value p)));
-      listed = subst (λ (l : List (CachePadded (Runner g.row.C.Denot g.row.A.Denot))). AreListed c.args.listed l) (sym none) (All-nil (λ (p : CachePadded (Runner g.row.C.Denot g.row.A.Denot)). (padded_value p).listed ≡ c.args.listed));
+      held = ap (λ (l : List (CachePadded (Runner g.row.C.Denot g.row.A.Denot g.row.L.Denot))). lanes_in l ++ map held_of c.args.lanes.items) none;
+      fixed = ap (λ (l : List (CachePadded (Runner g.row.C.Denot g.row.A.Denot g.row.L.Denot))). lanes_fixed l ++ map fixed_of c.args.lanes.items) none;
+      seats = ap (λ (l : List (CachePadded (Runner g.row.C.Denot g.row.A.Denot g.row.L.Denot))). seats_in l ++ c.args.seats.items) none;
+      new = subst (λ (l : List (CachePadded (Runner g.row.C.Denot g.row.A.Denot g.row.L.Denot))). All (λ (p : CachePadded (Runner g.row.C.Denot g.row.A.Denot g.row.L.Denot)). IsNew n (padded_value p)) l) (sym none) (All-nil (λ (p : CachePadded (Runner g.row.C.Denot g.row.A.Denot g.row.L.Denot)). IsNew n (padded_value p)));
       count = omega arith;
       seat_count = c.requires;
     }
@@ -29,8 +28,8 @@ pub each-preserved : goal.each-preserved
 each-preserved g c =
     let n = c.args.elements in
     let inv = c.each.invariant in
-    let ps : List (CachePadded (Runner g.row.C.Denot g.row.A.Denot)) = c.each.runners.items in
-    let p : CachePadded (Runner g.row.C.Denot g.row.A.Denot) = c.new.result in
+    let ps : List (CachePadded (Runner g.row.C.Denot g.row.A.Denot g.row.L.Denot)) = c.each.runners.items in
+    let p : CachePadded (Runner g.row.C.Denot g.row.A.Denot g.row.L.Denot) = c.new.result in
     let xs = c.each.lanes.items in
     let seats = c.each.seats.items in
     let end = c.len-at-end.ensures in
@@ -41,23 +40,21 @@ each-preserved g c =
     let some_seat : 0 < length seats = omega arith in
     let made = c.runner-one.ensures in
     let value : padded_value p ≡ c.runner-one.result = c.new.ensures in
-    let lane = ap (λ (r : Runner g.row.C.Denot g.row.A.Denot). r.lane) value ∙ made.parts.0 in
+    let lane = ap (λ (r : Runner g.row.C.Denot g.row.A.Denot g.row.L.Denot). r.lane) value ∙ made.parts.0 in
     let all = c.in_ok-push.ensures.items in
     let fewer = c.remove-lane.ensures.items in
     let fewer_seats = c.remove-seat.ensures.items in
     let k = c.remove-lane.ensures.len in
     let m = c.remove-seat.ensures.len in
     record {
-      held = ap (λ (l : List (CachePadded (Runner g.row.C.Denot g.row.A.Denot))). lanes_in l ++ map held_of c.remove-lane.new.self.items) all ∙ ap (λ (l : List LaneView). lanes_in (ps ++ p ∷ []) ++ map held_of l) fewer
+      held = ap (λ (l : List (CachePadded (Runner g.row.C.Denot g.row.A.Denot g.row.L.Denot))). lanes_in l ++ map held_of c.remove-lane.new.self.items) all ∙ ap (λ (l : List LaneView). lanes_in (ps ++ p ∷ []) ++ map held_of l) fewer
           ∙ moved_first lane_in held_of ps p xs c.remove-lane.result some c.remove-lane.ensures.value (ap (λ (l : LaneView). held_of l) lane) ∙ inv.held;
-      fixed = ap (λ (l : List (CachePadded (Runner g.row.C.Denot g.row.A.Denot))). lanes_fixed l ++ map fixed_of c.remove-lane.new.self.items) all ∙ ap (λ (l : List LaneView). lanes_fixed (ps ++ p ∷ []) ++ map fixed_of l) fewer
+      fixed = ap (λ (l : List (CachePadded (Runner g.row.C.Denot g.row.A.Denot g.row.L.Denot))). lanes_fixed l ++ map fixed_of c.remove-lane.new.self.items) all ∙ ap (λ (l : List LaneView). lanes_fixed (ps ++ p ∷ []) ++ map fixed_of l) fewer
           ∙ moved_first lane_fixed fixed_of ps p xs c.remove-lane.result some c.remove-lane.ensures.value (ap (λ (l : LaneView). fixed_of l) lane) ∙ inv.fixed;
-      seats = ap (λ (l : List (CachePadded (Runner g.row.C.Denot g.row.A.Denot))). seats_in l ++ c.remove-seat.new.self.items) all ∙ ap (λ (l : List SeatView). seats_in (ps ++ p ∷ []) ++ l) fewer_seats
-          ∙ seats_more ps p seats c.remove-seat.result c.args.seats.items some_seat c.remove-seat.ensures.value (ap (λ (r : Runner g.row.C.Denot g.row.A.Denot). r.seat) value ∙ made.parts.1) inv.seats;
-      new = subst (λ (l : List (CachePadded (Runner g.row.C.Denot g.row.A.Denot))). All (λ (q : CachePadded (Runner g.row.C.Denot g.row.A.Denot)). IsNew n (padded_value q)) l) (sym all)
-          (All-push (λ (q : CachePadded (Runner g.row.C.Denot g.row.A.Denot)). IsNew n (padded_value q)) ps p inv.new (subst (λ (r : Runner g.row.C.Denot g.row.A.Denot). IsNew n r) (sym value) (made.new n c.in_ok-belongings.ensures)));
-      listed = subst (λ (l : List (CachePadded (Runner g.row.C.Denot g.row.A.Denot))). AreListed c.args.listed l) (sym all)
-          (All-push (λ (q : CachePadded (Runner g.row.C.Denot g.row.A.Denot)). (padded_value q).listed ≡ c.args.listed) ps p inv.listed (ap (λ (r : Runner g.row.C.Denot g.row.A.Denot). r.listed) value ∙ made.parts.2));
+      seats = ap (λ (l : List (CachePadded (Runner g.row.C.Denot g.row.A.Denot g.row.L.Denot))). seats_in l ++ c.remove-seat.new.self.items) all ∙ ap (λ (l : List SeatView). seats_in (ps ++ p ∷ []) ++ l) fewer_seats
+          ∙ seats_more ps p seats c.remove-seat.result c.args.seats.items some_seat c.remove-seat.ensures.value (ap (λ (r : Runner g.row.C.Denot g.row.A.Denot g.row.L.Denot). r.seat) value ∙ made.parts.1) inv.seats;
+      new = subst (λ (l : List (CachePadded (Runner g.row.C.Denot g.row.A.Denot g.row.L.Denot))). All (λ (q : CachePadded (Runner g.row.C.Denot g.row.A.Denot g.row.L.Denot)). IsNew n (padded_value q)) l) (sym all)
+          (All-push (λ (q : CachePadded (Runner g.row.C.Denot g.row.A.Denot g.row.L.Denot)). IsNew n (padded_value q)) ps p inv.new (subst (λ (r : Runner g.row.C.Denot g.row.A.Denot g.row.L.Denot). IsNew n r) (sym value) (made.new n c.in_ok-belongings.ensures)));
       count = omega arith;
       seat_count = omega arith;
     }

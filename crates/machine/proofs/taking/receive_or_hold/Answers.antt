@@ -3,7 +3,7 @@ use Rattle.std.specs.Prelude.{All}
 use Rattle.tags.specs.declared.token.Token.{Token}
 use Rattle.element.specs.Near.{Bounds, IsNearToken}
 use Rattle.element.specs.Held.{Fixed, fixed_of, IsFor}
-use Rattle.schedule.specs.Apart.{setting_in}
+use Rattle.schedule.specs.State.{setting_in}
 use Rattle.schedule.specs.Setting.{Setting}
 use Rattle.schedule.proofs.Staying.{bounds_as}
 use Rattle.machine.specs.Runners.{bounds_within}
@@ -11,7 +11,7 @@ use Rattle.machine.proofs.taking.receive_or_hold.Goals as goal
 
 pub receive_all-requires : goal.receive_all-requires
 receive_all-requires g c =
-    let s : Setting = setting_in g.C.Instructions.program g.C.Instructions.width c.args.setup.now in
+    let s : Setting = setting_in g.C.Instructions.program g.C.Instructions.width c.args.shape.now in
     let f : Fixed = fixed_of c.args.runner.now.lane in
     let tokens : List Token = c.args.bundle.items in
     let near = subst (λ (b : Bounds). All (IsNearToken b) tokens) c.reach_of.ensures (subst (λ (l : List Token). All (IsNearToken (bounds_within c.reach_of.result)) l) c.deref.ensures.value (c.are_near-near.ensures c.if-near.true)) in

@@ -1,10 +1,10 @@
-use Rattle.schedule.specs.Apart.{setting_in}
+use Rattle.schedule.specs.State.{setting_in}
 use Rattle.machine.specs.Runners.{Keeps, IsClear, StaysAt}
 use Rattle.machine.proofs.turns.go.Given as goal
 
 abbrev pub invariant-turns : goal.invariant-turns
 invariant-turns g l = record {
   stays : StaysAt l.fn.runner l.runner;
-  keeps : Keeps (setting_in g.C.Instructions.program g.C.Instructions.width l.setup) l.mesh l.fn.runner l.runner;
+  keeps : Keeps g.L.Log.LISTS (setting_in g.C.Instructions.program g.C.Instructions.width l.shape) l.mesh l.fn.runner l.runner;
   clear : IsClear l.runner;
 }

@@ -8,7 +8,7 @@ invariant-loop-at g l = record {
   lanes : lanes_held l.turners ≡ lanes_held l.fn.turners;
   sent : tokens_sent l.turners ≡ tokens_sent l.fn.turners;
   halts : halts_in l.turners ≡ halts_in l.fn.turners;
-  events : l.events.items ++ events_noted l.turners ≡ l.fn.events.items ++ events_noted l.fn.turners;
+  events : l.all.events.items ++ events_noted l.turners ≡ l.fn.all.events.items ++ events_noted l.fn.turners;
   cleared : events_noted (take l.at l.turners) ≡ [];
   count : length l.turners ≡ length l.fn.turners;
 }

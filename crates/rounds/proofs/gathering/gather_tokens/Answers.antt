@@ -35,7 +35,7 @@ returns-in_err-take_tokens-clause-events g c =
     let e = c.take_tokens.ensures in
     let inv = c.loop-at.invariant in
     let low : at < length ts = (let t = c.loop-at-test.true in let a = c.loop-at.auto.at-end in let n = inv.count in omega arith) in
-    flat_kept (λ t. t.log.items) ts at old new low e.events ∙ inv.noted
+    flat_kept (λ t. t.log.events.items) ts at old new low e.events ∙ inv.noted
 
 pub returns-in_err-take_tokens-clause-halts : goal.returns-in_err-take_tokens-clause-halts
 returns-in_err-take_tokens-clause-halts g c =
@@ -71,7 +71,7 @@ loop-at-preserved g c =
     record {
       fixed = map_kept (λ t. lane_fixed t) ts at old new low e.fixed ∙ inv.fixed;
       lanes = map_kept (λ t. lane_held t) ts at old new low e.held ∙ inv.lanes;
-      noted = flat_kept (λ t. t.log.items) ts at old new low e.events ∙ inv.noted;
+      noted = flat_kept (λ t. t.log.events.items) ts at old new low e.events ∙ inv.noted;
       halts = map_kept (λ t. halt_in t) ts at old new low e.halt ∙ inv.halts;
       tokens = flat_moved (λ t. t.sent.items) ts at old new c.loop-at.tokens.items c.take_tokens.new.tokens.items low inv.cleared e.tokens ∙ inv.tokens;
       cleared = flat_taken (λ t. t.sent.items) ts at new low inv.cleared e.cleared;

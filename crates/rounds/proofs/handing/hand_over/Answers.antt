@@ -31,7 +31,7 @@ loop-place-preserved g c =
     record {
       fixed = c.receive.ensures.fixed ∙ inv.fixed;
       near = All-tail (IsNearIn fs) t (drop (k + 1) tokens) (subst (λ (l : List Token). All (IsNearIn fs) l) first inv.near);
-      same = come_more {C = g.row.C.Denot} {A = g.row.A.Denot} old new tokens c.loop-place.place t low c.index-token.ensures got ∙ inv.same;
+      same = come_more {C = g.row.C.Denot} {A = g.row.A.Denot} {L = g.row.L.Denot} old new tokens c.loop-place.place t low c.index-token.ensures got ∙ inv.same;
       at = subst (λ (l : List Held). AllFrom (IsAt c.args.elements) 0 l) (sym got) (delivered_at c.args.elements 0 (t ∷ []) (lanes_held old) inv.at);
       sent = c.receive.ensures.sent ∙ inv.sent;
       noted = c.receive.ensures.events ∙ inv.noted;

@@ -93,7 +93,7 @@ returns-clause-events g c =
     let e = c.element_for-element.ensures in
     let count = c.requires.count in
     let low : c.element_for-element.result < length ts = omega arith in
-    flat_kept (λ t. t.log.items) ts c.element_for-element.result x c.receive_one.new.turner low (c.receive_one.ensures.events ∙ ap (λ t. t.log.items) c.index_mut-turner.ensures.value)
+    flat_kept (λ t. t.log.events.items) ts c.element_for-element.result x c.receive_one.new.turner low (c.receive_one.ensures.events ∙ ap (λ t. t.log.events.items) c.index_mut-turner.ensures.value)
 
 pub returns-clause-halts : goal.returns-clause-halts
 returns-clause-halts g c =

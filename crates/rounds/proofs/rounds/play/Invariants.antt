@@ -1,18 +1,18 @@
 use Rattle.std.proofs.Common.{◌≡◌, [], None}
 use Rattle.semantics.specs.Machine.{Events}
-use Rattle.schedule.specs.Apart.{setting_in}
-use Rattle.rounds.specs.Turns.{logged}
+use Rattle.schedule.specs.State.{setting_in}
+use Rattle.schedule.specs.Steps.{logged}
 use Rattle.rounds.specs.Rounds.{lanes_held, IsBetween, Leads}
 use Rattle.rounds.specs.Counted.{MakesRounds}
 use Rattle.rounds.proofs.rounds.play.Given as goal
 
 abbrev pub invariant-rounds : goal.invariant-rounds
 invariant-rounds g l = record {
-  setting : setting_in g.C.Instructions.program g.C.Instructions.width l.setup ≡ setting_in g.C.Instructions.program g.C.Instructions.width l.fn.setup;
-  between : IsBetween (setting_in g.C.Instructions.program g.C.Instructions.width l.fn.setup) l.turners.items;
+  setting : setting_in g.C.Instructions.program g.C.Instructions.width l.setup.shape ≡ setting_in g.C.Instructions.program g.C.Instructions.width l.fn.setup.shape;
+  between : IsBetween (setting_in g.C.Instructions.program g.C.Instructions.width l.fn.setup.shape) l.turners.items;
   tokens : l.tokens.items ≡ [];
   made : Events;
-  noted : l.setup.events.items ≡ logged l.listed l.fn.setup.events.items made;
-  leads : Leads (setting_in g.C.Instructions.program g.C.Instructions.width l.fn.setup) l.fn.turners.items l.turners.items [] made;
-  makes : MakesRounds (setting_in g.C.Instructions.program g.C.Instructions.width l.fn.setup) g.G.Gate.may_stop l.rounds (lanes_held l.fn.turners.items) (lanes_held l.turners.items) made None;
+  noted : l.setup.log.events.items ≡ logged g.L.Log.LISTS l.fn.setup.log.events.items made;
+  leads : Leads (setting_in g.C.Instructions.program g.C.Instructions.width l.fn.setup.shape) l.fn.turners.items l.turners.items [] made;
+  makes : MakesRounds (setting_in g.C.Instructions.program g.C.Instructions.width l.fn.setup.shape) g.G.Gate.may_stop l.rounds (lanes_held l.fn.turners.items) (lanes_held l.turners.items) made None;
 }

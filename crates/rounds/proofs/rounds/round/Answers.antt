@@ -1,7 +1,7 @@
 use Rattle.std.proofs.Common.{◌≡◌, sym, ◌∙◌, ap, subst, ℕ, ◌++◌, [], List}
 use Rattle.std.proofs.lemmas.List.{append-nil}
 use Rattle.tags.specs.declared.token.Token.{Token}
-use Rattle.schedule.specs.Apart.{setting_in}
+use Rattle.schedule.specs.State.{setting_in}
 use Rattle.schedule.specs.Setting.{Setting}
 use Rattle.schedule.specs.State.{AllFrom, IsAt, RunsAs, delivered}
 use Rattle.schedule.proofs.Staying.{near_for, near_coming}
@@ -17,15 +17,15 @@ use Rattle.rounds.proofs.rounds.round.Goals as goal
 
 pub hand_over-requires-clause-at : goal.hand_over-requires-clause-at
 hand_over-requires-clause-at g c =
-    let s : Setting = setting_in g.C.Instructions.program g.C.Instructions.width c.args.setup.now in
+    let s : Setting = setting_in g.C.Instructions.program g.C.Instructions.width c.args.setup.now.shape in
     let made = c.in_ok-all.ensures.made in
     let new = c.make_whole_round.new.turners.items in
     subst (λ (n : ℕ). AllFrom (IsAt n) 0 (lanes_held new)) (sym (ap (λ (x : Setting). x.elements) c.make_whole_round.ensures.setting))
-    (at_all {C = g.row.C.Denot} {A = g.row.A.Denot} s c.args.listed g.G.Gate.may_stop c.args.turners.now.items new c.args.setup.now.events.items c.make_whole_round.new.setup.events.items (c.make_whole_round.new.tokens.items ++ tokens_sent new) made)
+    (at_all {C = g.row.C.Denot} {A = g.row.A.Denot} {L = g.row.L.Denot} s g.L.Log.LISTS g.G.Gate.may_stop c.args.turners.now.items new c.args.setup.now.log.events.items c.make_whole_round.new.setup.log.events.items (c.make_whole_round.new.tokens.items ++ tokens_sent new) made)
 
 pub returns-in-Ok-clause-rounds : goal.returns-in-Ok-clause-rounds
 returns-in-Ok-clause-rounds g c =
-    let s : Setting = setting_in g.C.Instructions.program g.C.Instructions.width c.args.setup.now in
+    let s : Setting = setting_in g.C.Instructions.program g.C.Instructions.width c.args.setup.now.shape in
     let made = c.in_ok-all.ensures.made in
     let old = c.args.turners.now.items in
     let new = c.make_whole_round.new.turners.items in
@@ -36,13 +36,13 @@ returns-in-Ok-clause-rounds g c =
     let none : tokens_sent new ≡ [] = c.in_ok-all.ensures.all (let t = c.if-not-all.false in cc) in
     let all : tokens ++ tokens_sent new ≡ tokens = ap (λ (l : List Token). tokens ++ l) none ∙ append-nil tokens in
     let value = c.deref.ensures.value in
-    let why : IsWhy (lanes_held last) (halts_in last) c.why.result = subst (λ (l : List (Turner g.row.C.Denot g.row.A.Denot)). IsWhy (lanes_held l) (halts_in l) c.why.result) value c.why.ensures in
-    closed_round {C = g.row.C.Denot} {A = g.row.A.Denot} s c.args.listed g.G.Gate.may_stop old new c.args.setup.now.events.items c.make_whole_round.new.setup.events.items (tokens ++ tokens_sent new) made last got.same.0
+    let why : IsWhy (lanes_held last) (halts_in last) c.why.result = subst (λ (l : List (Turner g.row.C.Denot g.row.A.Denot g.row.L.Denot)). IsWhy (lanes_held l) (halts_in l) c.why.result) value c.why.ensures in
+    closed_round {C = g.row.C.Denot} {A = g.row.A.Denot} {L = g.row.L.Denot} s g.L.Log.LISTS g.G.Gate.may_stop old new c.args.setup.now.log.events.items c.make_whole_round.new.setup.log.events.items (tokens ++ tokens_sent new) made last got.same.0
     (got.same.1 ∙ ap (λ (l : List Token). delivered l (lanes_held new)) (sym all)) (subst (λ (l : List Fixed). All (RunsAs s) l) (sym h.fixed) made.runs) got.same.2 (h.sent ∙ none) (h.events ∙ made.cleared) h.halts c.why.result why
 
 pub hand_over-requires-clause-near : goal.hand_over-requires-clause-near
 hand_over-requires-clause-near g c =
-    let s : Setting = setting_in g.C.Instructions.program g.C.Instructions.width c.args.setup.now in
+    let s : Setting = setting_in g.C.Instructions.program g.C.Instructions.width c.args.setup.now.shape in
     let made = c.in_ok-all.ensures.made in
     let new = c.make_whole_round.new.turners.items in
     let tokens = c.make_whole_round.new.tokens.items in
@@ -52,11 +52,11 @@ hand_over-requires-clause-near g c =
 
 pub returns-in-Err-clause-rounds : goal.returns-in-Err-clause-rounds
 returns-in-Err-clause-rounds g c =
-    let s : Setting = setting_in g.C.Instructions.program g.C.Instructions.width c.args.setup.now in
+    let s : Setting = setting_in g.C.Instructions.program g.C.Instructions.width c.args.setup.now.shape in
     let new = c.make_whole_round.new.turners.items in
     let tokens = c.make_whole_round.new.tokens.items in
     let h = c.hand_over.ensures in
     let none : tokens_sent new ≡ [] = c.in_ok-all.ensures.all (let t = c.if-not-all.false in cc) in
     let all : tokens ++ tokens_sent new ≡ tokens = ap (λ (l : List Token). tokens ++ l) none ∙ append-nil tokens in
-    refused_handing {C = g.row.C.Denot} {A = g.row.A.Denot} s c.args.listed g.G.Gate.may_stop c.args.turners.now.items new c.args.setup.now.events.items c.make_whole_round.new.setup.events.items (tokens ++ tokens_sent new) c.in_ok-all.ensures.made c.hand_over.new.turners.items h.same.0
+    refused_handing {C = g.row.C.Denot} {A = g.row.A.Denot} {L = g.row.L.Denot} s g.L.Log.LISTS g.G.Gate.may_stop c.args.turners.now.items new c.args.setup.now.log.events.items c.make_whole_round.new.setup.log.events.items (tokens ++ tokens_sent new) c.in_ok-all.ensures.made c.hand_over.new.turners.items h.same.0
     (h.same.1 ∙ ap (λ (l : List Token). delivered l (lanes_held new)) (sym all))

@@ -77,8 +77,8 @@ returns g c =
       good = c.requires.good;
       setting = refl;
       sound = subst (λ (l : List Held). IsSoundState (record { setting = setting_of p w k; lanes = l })) are (opens_sound (setting_of p w k) c.args.inputs.now lanes good count fresh);
-      began = subst (λ (l : List Held). Began c.args.inputs.now (record { setting = setting_of p w k; lanes = l }) c.new-3.result.items) are
-          (subst (λ (evs : Events). Began c.args.inputs.now (record { setting = setting_of p w k; lanes = delivered (start_tokens (first_of p p.main) c.args.inputs.now) lanes }) evs) (sym c.new-3.ensures.items) (opens_began (setting_of p w k) c.args.inputs.now lanes good count fresh));
+      began = subst (λ (l : List Held). Began c.args.inputs.now (record { setting = setting_of p w k; lanes = l }) c.new-3.result.events.items) are
+          (subst (λ (evs : Events). Began c.args.inputs.now (record { setting = setting_of p w k; lanes = delivered (start_tokens (first_of p p.main) c.args.inputs.now) lanes }) evs) (sym c.new-3.ensures) (opens_began (setting_of p w k) c.args.inputs.now lanes good count fresh));
       lanes = (lanes, fresh, sym are);
-      events = c.new-3.ensures.items;
+      events = c.new-3.ensures;
     }

@@ -11,7 +11,7 @@ pub returns-then-waiting-ne0-clause-yes : goal.returns-then-waiting-ne0-clause-y
 returns-then-waiting-ne0-clause-yes g c = λ yes h there.
     let items = c.args.self.now.lanes.items in
     let x = c.index.result.now in
-    let count = lane_count items (drop c.args.self.now.come c.args.self.now.sent.items) c.args.self.now.elements c.requires.well.sound.count in
+    let count = lane_count items (drop c.args.self.now.come c.args.self.now.sent.items) c.args.self.now.shape.elements c.requires.well.sound.count in
     let low : c.args.element < length items = (let l = c.requires.element in omega arith) in
     let some : 0 < length x.held.queue = grind (arith, common_steps) in
     has_waiting items (drop c.args.self.now.come c.args.self.now.sent.items) c.args.element x h low c.index.ensures there some
@@ -22,11 +22,11 @@ returns-else-waiting-ne0-clause-yes g c = λ yes h there.
     let items = m.lanes.items in
     let ts = drop m.come m.sent.items in
     let x = c.index.result.now in
-    let count = lane_count items ts m.elements c.requires.well.sound.count in
+    let count = lane_count items ts m.shape.elements c.requires.well.sound.count in
     let low : c.args.element < length items = (let l = c.requires.element in omega arith) in
-    let at = first_get (IsAt m.elements) (map held_of items) c.args.element (held_of x) (raw_at (state_of g.C.Instructions.program g.C.Instructions.width m).setting items ts c.requires.well.sound.lanes) (held_at items c.args.element x low c.index.ensures) in
+    let at = first_get (IsAt m.shape.elements) (map held_of items) c.args.element (held_of x) (raw_at (state_of g.C.Instructions.program g.C.Instructions.width m).setting items ts c.requires.well.sound.lanes) (held_at items c.args.element x low c.index.ensures) in
     let e = rw c.deref.ensures.value at c.has_token_for.ensures in
-    has_coming items ts m.elements c.args.element x h low c.index.ensures at there (sym e ∙ yes)
+    has_coming items ts m.shape.elements c.args.element x h low c.index.ensures at there (sym e ∙ yes)
 
 pub returns-else-waiting-ne0-clause-no : goal.returns-else-waiting-ne0-clause-no
 returns-else-waiting-ne0-clause-no g c = λ no h there.
@@ -34,9 +34,9 @@ returns-else-waiting-ne0-clause-no g c = λ no h there.
     let items = m.lanes.items in
     let ts = drop m.come m.sent.items in
     let x = c.index.result.now in
-    let count = lane_count items ts m.elements c.requires.well.sound.count in
+    let count = lane_count items ts m.shape.elements c.requires.well.sound.count in
     let low : c.args.element < length items = (let l = c.requires.element in omega arith) in
-    let at = first_get (IsAt m.elements) (map held_of items) c.args.element (held_of x) (raw_at (state_of g.C.Instructions.program g.C.Instructions.width m).setting items ts c.requires.well.sound.lanes) (held_at items c.args.element x low c.index.ensures) in
+    let at = first_get (IsAt m.shape.elements) (map held_of items) c.args.element (held_of x) (raw_at (state_of g.C.Instructions.program g.C.Instructions.width m).setting items ts c.requires.well.sound.lanes) (held_at items c.args.element x low c.index.ensures) in
     let e = rw c.deref.ensures.value at c.has_token_for.ensures in
     let none : length x.held.queue ≡ 0 = grind (arith, common_steps) in
-    has_none items ts m.elements c.args.element x h low c.index.ensures at there (nil_from_length x.held.queue none) (sym e ∙ no)
+    has_none items ts m.shape.elements c.args.element x h low c.index.ensures at there (nil_from_length x.held.queue none) (sym e ∙ no)

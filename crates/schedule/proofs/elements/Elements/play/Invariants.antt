@@ -2,6 +2,7 @@ use Rattle.std.proofs.Common.{◌≡◌, true, ◌++◌, drop}
 use Rattle.semantics.specs.Machine.{Events}
 use Rattle.schedule.specs.declared.halt.Halt.{Halt}
 use Rattle.schedule.specs.State.{State, state_of, IsWell}
+use Rattle.schedule.specs.Steps.{logged}
 use Rattle.schedule.specs.Runs.{Plays}
 use Rattle.schedule.proofs.elements.Elements.play.Given as goal
 
@@ -9,8 +10,8 @@ use Rattle.schedule.proofs.elements.Elements.play.Given as goal
 abbrev pub invariant-loop-element : goal.invariant-loop-element
 invariant-loop-element g l = record {
   well : IsWell g.C.Instructions.program g.C.Instructions.width l.self;
-  elements : l.self.elements ≡ l.fn.self.elements;
+  elements : l.self.shape.elements ≡ l.fn.self.shape.elements;
   played : (made : Events)
       × ((last : State) (halt : Halt) (later : Events) → Plays true (drop l.element-index l.picks) (state_of g.C.Instructions.program g.C.Instructions.width l.self) last halt later → Plays true l.picks (state_of g.C.Instructions.program g.C.Instructions.width l.fn.self) last halt (made ++ later))
-      × ((before : Events) → g.L.Log.noted l.fn.log before → g.L.Log.noted l.log (before ++ made));
+      × (l.log.events.items ≡ logged g.L.Log.LISTS l.fn.log.events.items made);
 }

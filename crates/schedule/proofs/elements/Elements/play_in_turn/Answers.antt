@@ -1,23 +1,22 @@
 use Rattle.std.proofs.Common.{◌≡◌, refl, ◌∙◌, sym, ap, subst, false, ℕ, suc, ◌-◌, ◌<◌, [], ◌++◌, length, inr, arith, append_assoc}
-use Rattle.std.proofs.lemmas.List.{append-nil}
 use Rattle.semantics.specs.Machine.{Events}
 use Rattle.schedule.specs.Setting.{Setting}
 use Rattle.schedule.specs.State.{state_of}
 use Rattle.schedule.specs.Runs.{Plays, in_turn, rounds_of}
-use Rattle.schedule.proofs.Playing.{Passes, noted_more, setting_stays, turn_last, turn_on, turn_done, passes_more, passes_all}
+use Rattle.schedule.proofs.Playing.{Passes, logged_more, logged_none, setting_stays, turn_last, turn_on, turn_done, passes_more, passes_all}
 use Rattle.schedule.proofs.elements.Elements.play_in_turn.Goals as goal
 
 pub passes-init : goal.passes-init
 passes-init g c = record {
   well = c.requires;
   elements = refl;
-  played = ([], (λ rounds last halt later p. (rounds, p)), (λ before n. subst (λ (l : Events). g.L.Log.noted c.args.log.now l) (sym (append-nil before)) n));
+  played = ([], (λ rounds last halt later p. (rounds, p)), logged_none g.L.Log.LISTS c.args.log.now.events.items);
 }
 
 pub loop-element-init : goal.loop-element-init
 loop-element-init g c =
     let played = c.passes.invariant.played in
-    let n = c.args.self.now.elements in
+    let n = c.args.self.now.shape.elements in
     let s = state_of g.C.Instructions.program g.C.Instructions.width c.passes.self in
     let whole : n - 0 ≡ n = omega arith in
     record {
@@ -43,7 +42,7 @@ passes-smaller g c =
 pub passes-preserved : goal.passes-preserved
 passes-preserved g c =
     let played = c.loop-element.invariant.played in
-    let n = c.args.self.now.elements in
+    let n = c.args.self.now.shape.elements in
     let s = state_of g.C.Instructions.program g.C.Instructions.width c.loop-element.self in
     let past = c.loop-element-test.false in
     let within = c.loop-element.auto.element-end in
@@ -58,19 +57,19 @@ passes-preserved g c =
 pub returns-in-Some-clause-exact : goal.returns-in-Some-clause-exact
 returns-in-Some-clause-exact g c =
     let played = c.loop-element.invariant.played in
-    let n = c.args.self.now.elements in
+    let n = c.args.self.now.shape.elements in
     let k = c.loop-element.element in
     let s = state_of g.C.Instructions.program g.C.Instructions.width c.loop-element.self in
     let next = state_of g.C.Instructions.program g.C.Instructions.width c.advance.new.self in
     let x = c.in-Some.ensures.exact in
     let low : k < n = (let l = c.loop-element-test.true in let b = c.passes.invariant.elements in omega arith) in
     let all = played.1 0 next c.in-Some.halt x.0 (turn_last s next k n x.0 c.in-Some.halt low x.1) in
-    (all.0, played.0 ++ x.0, all.1, noted_more g.L.Log.noted c.args.log.now c.loop-element.log c.advance.new.log played.0 x.0 played.2 x.2)
+    (all.0, played.0 ++ x.0, all.1, logged_more g.L.Log.LISTS c.args.log.now.events.items c.loop-element.log.events.items c.advance.new.log.events.items played.0 x.0 played.2 x.2)
 
 pub loop-element-preserved : goal.loop-element-preserved
 loop-element-preserved g c =
     let played = c.loop-element.invariant.played in
-    let n = c.args.self.now.elements in
+    let n = c.args.self.now.shape.elements in
     let k = c.loop-element.element in
     let s0 = state_of g.C.Instructions.program g.C.Instructions.width c.args.self.now in
     let first = state_of g.C.Instructions.program g.C.Instructions.width c.passes.self in
@@ -86,7 +85,7 @@ loop-element-preserved g c =
         (λ rounds last halt later rest.
             let all = played.1 rounds last halt (x.0 ++ later) (turn_on s next last k n rounds x.0 later halt low x.1 rest) in
             (all.0, subst (λ (l : Events). Plays false (rounds_of all.0 n) s0 last halt l) (sym (append_assoc played.0 x.0 later)) all.1)),
-        noted_more g.L.Log.noted c.args.log.now c.loop-element.log c.advance.new.log played.0 x.0 played.2 x.2,
+        logged_more g.L.Log.LISTS c.args.log.now.events.items c.loop-element.log.events.items c.advance.new.log.events.items played.0 x.0 played.2 x.2,
       );
       passes = passes_more first s next k x.0 c.loop-element.invariant.passes x.1;
     }

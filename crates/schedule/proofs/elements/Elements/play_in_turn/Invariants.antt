@@ -2,6 +2,7 @@ use Rattle.std.proofs.Common.{◌≡◌, ◌++◌, ◌-◌, ℕ, false}
 use Rattle.semantics.specs.Machine.{Events}
 use Rattle.schedule.specs.declared.halt.Halt.{Halt}
 use Rattle.schedule.specs.State.{State, state_of, IsWell}
+use Rattle.schedule.specs.Steps.{logged}
 use Rattle.schedule.specs.Runs.{Plays, in_turn, rounds_of, left_over}
 use Rattle.schedule.proofs.Playing.{Passes}
 use Rattle.schedule.proofs.elements.Elements.play_in_turn.Given as goal
@@ -9,11 +10,11 @@ use Rattle.schedule.proofs.elements.Elements.play_in_turn.Given as goal
 abbrev pub invariant-passes : goal.invariant-passes
 invariant-passes g l = record {
   well : IsWell g.C.Instructions.program g.C.Instructions.width l.self;
-  elements : l.self.elements ≡ l.fn.self.elements;
+  elements : l.self.shape.elements ≡ l.fn.self.shape.elements;
   played : (made : Events)
-      × ((rounds : ℕ) (last : State) (halt : Halt) (later : Events) → Plays false (rounds_of rounds l.fn.self.elements) (state_of g.C.Instructions.program g.C.Instructions.width l.self) last halt later
-      → (all : ℕ) × Plays false (rounds_of all l.fn.self.elements) (state_of g.C.Instructions.program g.C.Instructions.width l.fn.self) last halt (made ++ later))
-      × ((before : Events) → g.L.Log.noted l.fn.log before → g.L.Log.noted l.log (before ++ made));
+      × ((rounds : ℕ) (last : State) (halt : Halt) (later : Events) → Plays false (rounds_of rounds l.fn.self.shape.elements) (state_of g.C.Instructions.program g.C.Instructions.width l.self) last halt later
+      → (all : ℕ) × Plays false (rounds_of all l.fn.self.shape.elements) (state_of g.C.Instructions.program g.C.Instructions.width l.fn.self) last halt (made ++ later))
+      × (l.log.events.items ≡ logged g.L.Log.LISTS l.fn.log.events.items made);
 }
 
 abbrev pub decreases-passes : goal.decreases-passes
@@ -22,10 +23,10 @@ decreases-passes g l = left_over (state_of g.C.Instructions.program g.C.Instruct
 abbrev pub invariant-loop-element : goal.invariant-loop-element
 invariant-loop-element g l = record {
   well : IsWell g.C.Instructions.program g.C.Instructions.width l.self;
-  elements : l.self.elements ≡ l.fn.self.elements;
+  elements : l.self.shape.elements ≡ l.fn.self.shape.elements;
   played : (made : Events)
-      × ((rounds : ℕ) (last : State) (halt : Halt) (later : Events) → Plays false (in_turn l.element (l.fn.self.elements - l.element) ++ rounds_of rounds l.fn.self.elements) (state_of g.C.Instructions.program g.C.Instructions.width l.self) last halt later
-      → (all : ℕ) × Plays false (rounds_of all l.fn.self.elements) (state_of g.C.Instructions.program g.C.Instructions.width l.fn.self) last halt (made ++ later))
-      × ((before : Events) → g.L.Log.noted l.fn.log before → g.L.Log.noted l.log (before ++ made));
+      × ((rounds : ℕ) (last : State) (halt : Halt) (later : Events) → Plays false (in_turn l.element (l.fn.self.shape.elements - l.element) ++ rounds_of rounds l.fn.self.shape.elements) (state_of g.C.Instructions.program g.C.Instructions.width l.self) last halt later
+      → (all : ℕ) × Plays false (rounds_of all l.fn.self.shape.elements) (state_of g.C.Instructions.program g.C.Instructions.width l.fn.self) last halt (made ++ later))
+      × (l.log.events.items ≡ logged g.L.Log.LISTS l.fn.log.events.items made);
   passes : Passes (state_of g.C.Instructions.program g.C.Instructions.width l.initial.self) l.element (state_of g.C.Instructions.program g.C.Instructions.width l.self);
 }

@@ -22,7 +22,7 @@ returns-then-is_spent g c = λ pick.
     let e = c.args.element in
     let ts = drop m.come m.sent.items in
     let x = c.index.result.now in
-    let count = lane_count m.lanes.items ts m.elements c.requires.well.sound.count in
+    let count = lane_count m.lanes.items ts m.shape.elements c.requires.well.sound.count in
     let low : e < length m.lanes.items = (let l = c.requires.element in omega arith) in
     let there = seen_at m.lanes.items ts e x low c.index.ensures in
     let some = c.has_token.ensures.yes c.if-not-has_token.false (queued (held_of x) ts) there in
@@ -36,11 +36,11 @@ returns g c = λ pick.
     let e = c.args.element in
     let ts = drop m.come m.sent.items in
     let x = c.index.result.now in
-    let count = lane_count m.lanes.items ts m.elements c.requires.well.sound.count in
+    let count = lane_count m.lanes.items ts m.shape.elements c.requires.well.sound.count in
     let low : e < length m.lanes.items = (let l = c.requires.element in omega arith) in
     let there = seen_at m.lanes.items ts e x low c.index.ensures in
     let some = c.has_token.ensures.yes c.if-not-has_token.false (queued (held_of x) ts) there in
     let steps = (runs_at (RunsAs s.setting) m.lanes.items e x c.requires.well.runs low c.index.ensures).steps in
     let left = c.is_spent.ensures.no c.if-is_spent.false in
-    let few : x.held.made < m.steps = omega arith in
+    let few : x.held.made < m.shape.steps = omega arith in
     is_refused s s e pick (queued (held_of x) ts) refl there some few

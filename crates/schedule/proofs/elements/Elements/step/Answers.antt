@@ -1,8 +1,7 @@
-use Rattle.std.proofs.Common.{sym, subst, []}
-use Rattle.std.proofs.lemmas.List.{append-nil}
-use Rattle.semantics.specs.Machine.{Events}
+use Rattle.std.proofs.Common.{◌≡◌, ◌∙◌, ap, subst, []}
 use Rattle.schedule.specs.State.{State, state_of}
 use Rattle.schedule.specs.Steps.{Steps}
+use Rattle.schedule.proofs.Playing.{logged_none}
 use Rattle.schedule.proofs.elements.Elements.step.Goals as goal
 use Rattle.schedule.proofs.elements.Elements.step.Goals.{then-is_err-via-then-is_err, then-is_err-via-else-is_err+then-is_err-2}
 
@@ -10,12 +9,12 @@ pub returns-then-is_err-clause-exact : goal.returns-then-is_err-clause-exact
 returns-then-is_err-clause-exact g c =
     let same = c.settle.ensures.same in
     let settled = state_of g.C.Instructions.program g.C.Instructions.width c.settle.new.self in
-    let stays : (before : Events) → g.L.Log.noted c.args.log.now before → g.L.Log.noted c.then-is_err.log before
+    let stays : c.then-is_err.log.events.items ≡ c.args.log.now.events.items
     = elim c.then-is_err.branch [
-      | then-is_err-via-then-is_err w ↦ λ before noted. subst (λ log. g.L.Log.noted log before) (sym w.log-is) noted
-      | then-is_err-via-else-is_err+then-is_err-2 w ↦ λ before noted. subst (λ log. g.L.Log.noted log before) (sym w.log-is) (w.make_room.ensures.same before noted)
+      | then-is_err-via-then-is_err w ↦ ap (λ log. log.events.items) w.log-is
+      | then-is_err-via-else-is_err+then-is_err-2 w ↦ ap (λ log. log.events.items) w.log-is ∙ w.make_room.ensures.same
     ] in (
       [],
       subst (λ (s : State). Steps s c.args.element c.args.pick c.refused.result settled []) same (c.refused.ensures c.args.pick),
-      λ before noted. subst (λ (l : Events). g.L.Log.noted c.then-is_err.log l) (sym (append-nil before)) (stays before noted),
+      stays ∙ logged_none g.L.Log.LISTS c.args.log.now.events.items,
     )

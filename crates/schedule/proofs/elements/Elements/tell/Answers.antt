@@ -7,22 +7,22 @@ use Rattle.schedule.proofs.Memory.{lane_count, held_at}
 use Rattle.schedule.proofs.elements.Elements.tell.Goals as goal
 
 pub full_cells-requires-clause-count : goal.full_cells-requires-clause-count
-full_cells-requires-clause-count g c = let m = c.args.self in ap (λ (l : List _). length l) c.deref.ensures.value ∙ lane_count m.lanes.items (drop m.come m.sent.items) m.elements c.requires.count
+full_cells-requires-clause-count g c = let m = c.args.self in ap (λ (l : List _). length l) c.deref.ensures.value ∙ lane_count m.lanes.items (drop m.come m.sent.items) m.shape.elements c.requires.count
 
 pub deferred-requires-clause-count : goal.deferred-requires-clause-count
-deferred-requires-clause-count g c = let m = c.args.self in ap (λ (l : List _). length l) c.deref-2.ensures.value ∙ lane_count m.lanes.items (drop m.come m.sent.items) m.elements c.requires.count
+deferred-requires-clause-count g c = let m = c.args.self in ap (λ (l : List _). length l) c.deref-2.ensures.value ∙ lane_count m.lanes.items (drop m.come m.sent.items) m.shape.elements c.requires.count
 
 pub swap_remove-first-requires : goal.swap_remove-first-requires
 swap_remove-first-requires g c =
     let m = c.args.self in
-    let count = lane_count m.lanes.items (drop m.come m.sent.items) m.elements c.requires.count in
+    let count = lane_count m.lanes.items (drop m.come m.sent.items) m.shape.elements c.requires.count in
     let some : 0 < length m.lanes.items = (let l = c.requires.setting.some in omega arith) in
     grind (arith, common_steps)
 
 pub returns : goal.returns
 returns g c =
     let m = c.args.self in
-    let n = m.elements in
+    let n = m.shape.elements in
     let lanes = map held_of m.lanes.items in
     let number = c.cells-number.result in
     let count = lane_count m.lanes.items (drop m.come m.sent.items) n c.requires.count in

@@ -15,5 +15,5 @@ returns-clause-apart g c =
     let lanes = none_coming m.lanes.items m.sent.items m.come none first in
     let z : Setting = (state_of g.C.Instructions.program g.C.Instructions.width m).setting in
     let at = ap (λ (l : List Held). let s : State = record { setting = z; lanes = l } in s) (sym lanes) in
-    let same = ap (λ (s : State). let k : Kept = record { state = s; events = c.self.inside.events.items } in k) (at ∙ c.settle.ensures.same) in
+    let same = ap (λ (s : State). let k : Kept = record { state = s; events = c.self.inside.log.events.items } in k) (at ∙ c.settle.ensures.same) in
     (same ∙ c.self.view_is, subst (λ (s : State). IsSoundState s) (sym at) c.settle.ensures.well.sound)

@@ -1,8 +1,7 @@
 use Rattle.std.proofs.Common.{◌≤◌, ◌<◌, ℕ, sym, subst}
-use Rattle.schedule.specs.Setting.{FitsSlots}
 use Rattle.loaded.proofs.Seen.{ready}
 use Rattle.loaded.proofs.Sizes.{few_slots, some_slots, slots_fit}
-use Rattle.loaded.proofs.Loaded.slot_count.Goals as goal
+use Rattle.loaded.proofs.LoadedMainCode.slots.Goals as goal
 
 pub returns-clause-some : goal.returns-clause-some
 returns-clause-some g c =
@@ -17,4 +16,4 @@ returns-clause-few g c =
 pub returns-clause-fits : goal.returns-clause-fits
 returns-clause-fits g c =
     let r = ready _ _ _ _ _ _ _ c.self.view_is c.self.invariant in
-    subst (λ (n : ℕ). FitsSlots c.args.self.now.code.program n) (sym r.slots_told) (slots_fit c.args.self.now.version c.args.self.now.code r.lawful)
+    slots_fit c.args.self.now.version c.args.self.now.code r.lawful

@@ -1,7 +1,7 @@
 use Rattle.std.proofs.Common.{subst, true, false}
 use Rattle.semantics.specs.Report.{Shows}
 use Rattle.schedule.specs.Setting.{Setting, size}
-use Rattle.schedule.proofs.machine.Machine.run.Goals as goal
+use Rattle.schedule.proofs.machine.Machine+C+A.run.Goals as goal
 
 pub returns-clause-shows : goal.returns-clause-shows
 returns-clause-shows g c = λ inputs began.

@@ -1,19 +1,20 @@
-use Rattle.std.proofs.Common.{refl, sym, ◌∙◌, ap, subst, ◌++◌, false}
+use Rattle.std.proofs.Common.{◌≡◌, refl, ◌∙◌, ap, sym, subst, [], ◌++◌, false}
 use Rattle.semantics.specs.Report.{Shows}
 use Rattle.schedule.specs.Setting.{Setting, size}
 use Rattle.schedule.specs.State.{State}
-use Rattle.schedule.specs.Runs.{Began, Plays, rounds_of}
+use Rattle.schedule.specs.Runs.{Kept, Began, Plays, rounds_of}
 use Rattle.schedule.specs.Unlisted.{with_events, kept_with}
-use Rattle.schedule.proofs.machine.Machine.run_quietly.Goals as goal
+use Rattle.schedule.proofs.machine.Machine+C+A.run_quietly.Goals as goal
 
 pub returns : goal.returns
 returns g c =
     let e = c.play_in_turn-halt.ensures.plays in
-    let last : State = c.play_in_turn-halt.new.self in
+    let last : State = c.play_in_turn-halt.new.self.state in
     let halt = c.play_in_turn-halt.result in
     let before = c.args.self.events in
-    let same = c.without_events-quiet.ensures in
-    let q = c.report.ensures.quietly (before ++ e.1) in (
+    let same = ap (λ (k : Kept). k.state) c.without_events-quiet.ensures in
+    let none : c.play_in_turn-halt.new.self.events ≡ [] = e.3 ∙ ap (λ (k : Kept). k.events) c.without_events-quiet.ensures in
+    let q = c.report.ensures.quietly none (before ++ e.1) in (
       q.0,
       q.1,
       record {
@@ -26,7 +27,7 @@ returns g c =
         told = (q.2).told;
         shows = λ inputs began.
             let at_first = subst (λ (s : State). Began inputs s before) (sym same) began in
-            let shown = (q.2).shows inputs false (e.3 inputs before at_first) c.play_in_turn-halt.ensures.halts in
+            let shown = (q.2).shows inputs false (e.4 inputs before at_first) c.play_in_turn-halt.ensures.halts in
             subst (λ (z : Setting). Shows z.program (size z) inputs z.steps false false (with_events c.report.result q.1)) (c.play_in_turn-halt.ensures.setting ∙ ap (λ (s : State). s.setting) same) shown;
       },
     )
