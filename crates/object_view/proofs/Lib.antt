@@ -9,6 +9,7 @@ mod Facts
 mod Lawful
 mod Listed
 mod Numbers
+mod Owned
 pub mod Places
 mod Sound
 mod Spelling

@@ -44,7 +44,7 @@ impl<'a> Model for Object<'a> {
 impl<'a> Object<'a> {
     ghost use Rattle.semantics.specs.Versions.{version_number};
     ghost use Rattle.object_view.specs.Reading.{opened, shown, unpacked, block_shown, instr_bytes};
-    ghost use Rattle.object_view.specs.Checks.{first_refusal};
+    ghost use Rattle.object_view.specs.Checks.{checked, first_refusal};
 
     /// Opens the bytes where they lie, or says what is wrong with them first. Every object is opened, as the version and the
     /// code that it is. Takes time in proportion to their number.
@@ -68,11 +68,25 @@ impl<'a> Object<'a> {
         Ok(Object { tables })
     }
 
+    /// The object that these bytes are, which were checked before. Takes time in proportion to the number of blocks.
+    pub(crate) fn of_checked(bytes: &'a [u8]) -> Object<'a>
+        requires { checked bytes.now ≡ Ok tt }
+        ensures { result ≡ opened bytes.now }
+    {
+        match Tables::read(bytes) {
+            Ok(tables) => Object { tables },
+            Err(_) => unreachable!(),
+        }
+    }
+
     /// The bytes that it lies in.
     pub fn bytes(&self) -> &'a [u8]
         ensures same { result.now ≡ self.now.bytes }
+        ensures opened { self.now ≡ opened result.now }
+        ensures unrefused { first_refusal result.now ≡ None }
         ensures header { 48 ≤ length result.now }
         ensures object { IsObject result.now self.now.version self.now.code }
+        ensures only { (version : ℕ) (c : Code) → IsObject result.now version c → (self.now.version ≡ version) × (self.now.code ≡ c) }
     {
         self.tables.bytes
     }
