@@ -83,6 +83,13 @@ impl<'a, A: Allocator> Loaded<'a, A> {
             slots,
         })
     }
+
+    /// The object that was made ready.
+    pub fn object(&self) -> &Object<'a>
+        ensures { result.now ≡ self.now }
+    {
+        &self.object
+    }
 }
 
 impl<'a, A: Allocator> Instructions for Loaded<'a, A> {

@@ -12,12 +12,10 @@ use Rattle.semantics.specs.declared.program.Dest.{Dest}
 use Rattle.semantics.specs.declared.program.Op.{Op}
 use Rattle.semantics.specs.declared.program.Op.TheVariants.{Apply1, Apply2, Apply2Right, Apply2Left, Lit, Copy, Sync, Switch, Fetch, Store, Frame, Link, Send, Return, Ask, Open, Take, Give, Drain, Release}
 use Rattle.semantics.specs.Program.{Instr, CodeBlock, Code}
-use Rattle.semantics.specs.Bytes as Bytes
-use Rattle.semantics.specs.Bytes.{number_from, Head, head, head_of, dest_word, port_bit, origin_code, instr_words, HasOperand, HasDests, IsOrigin, IsSlot, IsDest, IsInstr, IsCodeBlock, IsCode}
+use Rattle.semantics.specs.Bytes.{number_from, head_of, dest_word, port_bit, origin_code, HasOperand, IsOrigin, IsCodeBlock, IsCode}
 use Rattle.semantics.specs.declared.version.Version.{Version}
 use Rattle.semantics.specs.declared.version.Version.TheVariants.{One, Two}
 use Rattle.semantics.specs.declared.opcode.Opcode.{Opcode}
-use Rattle.semantics.specs.declared.opcode.Opcode.TheVariants as Named
 use Rattle.semantics.proofs.OperatorWords.{binary_back, binary_few}
 use Rattle.semantics.specs.Opcodes as Opcodes
 use Rattle.semantics.specs.Opcodes.{binary_code, opcode_for}

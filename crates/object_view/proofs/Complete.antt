@@ -16,7 +16,6 @@ use Rattle.semantics.specs.Program.{Instr, CodeBlock, Code}
 use Rattle.semantics.specs.Rule.{slot_of}
 use Rattle.semantics.specs.Bytes as Bytes
 use Rattle.semantics.specs.Plan as Plan
-use Rattle.object_view.specs.Fields as Fields
 use Rattle.semantics.specs.Opcodes as Opcodes
 use Rattle.semantics.specs.Bytes.{number_from, head_of, dest_word, port_bit, origin_code, block_word, words_of, bytes_of, HasOperand, HasDests, IsOrigin, IsSlot, IsDest, IsInstr, IsCodeBlock, IsCode, IsObject}
 use Rattle.object_view.specs.declared.fault.ObjectFault.{ObjectFault}

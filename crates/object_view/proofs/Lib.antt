@@ -9,7 +9,7 @@ mod Facts
 mod Lawful
 mod Listed
 mod Numbers
-mod Owned
+mod Passed
 pub mod Places
 mod Sound
 mod Spelling

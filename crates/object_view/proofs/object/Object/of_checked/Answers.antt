@@ -1,7 +1,7 @@
 use Rattle.std.proofs.Common.{List, ℕ, sym, ap, subst, ◌∙◌, rules}
 use Rattle.object_view.specs.Reading.{AreBytes}
 use Rattle.object_view.specs.Checks.{checked}
-use Rattle.object_view.proofs.Owned.{never_early}
+use Rattle.object_view.proofs.Passed.{never_early}
 use Rattle.object_view.proofs.object.Object.of_checked.Goals as goal
 
 pub unreachable-requires : goal.unreachable-requires

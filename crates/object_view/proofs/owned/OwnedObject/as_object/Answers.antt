@@ -1,4 +1,4 @@
-use Rattle.std.proofs.Common.{Ok, ap, ◌∙◌}
+use Rattle.std.proofs.Common.{ap, ◌∙◌}
 use Rattle.object_view.specs.Reading.{opened}
 use Rattle.object_view.specs.Checks.{checked}
 use Rattle.object_view.proofs.owned.OwnedObject.as_object.Goals as goal

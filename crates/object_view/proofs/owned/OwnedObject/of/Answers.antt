@@ -1,7 +1,6 @@
-use Rattle.std.proofs.Common.{refl, sym, ap, ◌∙◌, List, ℕ}
+use Rattle.std.proofs.Common.{refl, ◌∙◌}
 use Rattle.semantics.specs.Versions.{version_number}
-use Rattle.object_view.specs.Reading.{Opened, opened}
-use Rattle.object_view.proofs.Owned.{into_room, passed}
+use Rattle.object_view.proofs.Passed.{into_room, passed}
 use Rattle.object_view.proofs.Unique.{opened_as}
 use Rattle.object_view.proofs.Views.{bytes_seen}
 use Rattle.object_view.proofs.owned.OwnedObject.of.Goals as goal

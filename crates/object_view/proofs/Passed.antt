@@ -1,12 +1,12 @@
 -- An object that owns its bytes: what was written passes each check, and what passed them is not refused.
-use Rattle.std.proofs.Common.{◌≡◌, ℕ, List, [], ◌++◌, Option, Some, None, Ok, Err, length, refl, sym, ap, ◌∙◌}
+use Rattle.std.proofs.Common.{◌≡◌, ℕ, List, [], ◌++◌, Some, None, Ok, Err, length, refl, sym, ap, ◌∙◌}
 use Rattle.std.specs.Prelude.{⊤}
 use Rattle.semantics.specs.Program.{Code}
 use Rattle.semantics.specs.Bytes.{bytes_of, IsCode}
 use Rattle.sink.specs.Sends.{Sends}
 use Rattle.object_view.specs.declared.fault.ObjectFault.{ObjectFault}
 use Rattle.object_view.specs.Fields.{word_at}
-use Rattle.object_view.specs.Checks.{Checked, checked, refusal, first_refusal, opening_checked}
+use Rattle.object_view.specs.Checks.{Checked, checked, refusal, opening_checked}
 use Rattle.object_view.proofs.Complete.{complete}
 use Rattle.object_view.proofs.Facts.{refused_early, none_refused}
 
