@@ -1,5 +1,5 @@
 -- What opening tells of the bytes.
-use Rattle.std.proofs.Common.{◌≡◌, ℕ, List, None, subst}
+use Rattle.std.proofs.Common.{◌≡◌, ℕ, List, None, refl, subst}
 use Rattle.semantics.specs.Program.{Code}
 use Rattle.semantics.specs.Bytes.{IsObject}
 use Rattle.object_view.specs.Reading.{Opened, opened}
@@ -12,3 +12,7 @@ is_opened bytes o e unrefused object only =
     let O : Opened → Type 0 = λ x. IsObject bytes x.version x.code in
     let N : Opened → Type 0 = λ x. (v : ℕ) (c : Code) → IsObject bytes v c → (x.version ≡ v) × (x.code ≡ c) in
     record { unrefused = unrefused; object = subst O e object; only = subst N e only }
+
+pub same_bytes : (bytes : List ℕ) → (opened bytes).bytes ≡ bytes
+unfolding opened
+same_bytes bytes = refl

@@ -17,6 +17,8 @@ use Rattle.schedule.specs.declared.config.Config.{Config}
 use Rattle.schedule.specs.Setting.{inputs_of as inputs_of_program}
 use Rattle.schedule.specs.Unlisted.{with_events, Quietly}
 use Rattle.driver.specs.Headline.{ShowsMemory, IsBoundedByMeaning, TellsMeaning, TellsOf, TellsTruth, TellsTruthListed, TellsTruthIn, stops_in, TellsQuietly}
+use Rattle.replay.specs.declared.moment.Moment.{Moment}
+use Rattle.driver.specs.Listed.{AreMoments, IsWatched}
 use Rattle.driver.specs.Orders.{FollowsTurns, FollowsList, size_of}
 use Rattle.driver.specs.Objects.{ShowsObject, ShowsObjectIn, RunsObject}
 use Rattle.driver.proofs.Waiting.{deferred_are, no_frame_is_out}
@@ -156,3 +158,12 @@ tells_quietly Mode.Rounds text g bytes inputs c may_stop r compiled (none, event
     (shown.good, shown.some_frame, (none, events, tells_truth text g bytes inputs c false may_stop (with_events r events) compiled shown))
 tells_quietly Mode.Free text g bytes inputs c may_stop r compiled (none, events, shown) =
     (shown.good, shown.some_frame, (none, events, tells_truth text g bytes inputs c false may_stop (with_events r events) compiled shown))
+
+-- and a run of the graph's object with the moments of its events
+pub is_watched : (mode : Mode) (text : List ℕ) (g : Graph) (bytes : List ℕ) (inputs : List ℤ) (c : Config) (may_stop : Bool) (r : Report) (moments : List Moment)
+    → IsCompiled text g bytes → ShowsObject bytes inputs c false (stops_in mode may_stop) r → (mode ≡ Mode.One → RunsObject bytes inputs c FollowsTurns r)
+    → AreMoments bytes inputs c r moments → IsWatched mode text g bytes inputs c may_stop r moments
+is_watched mode text g bytes inputs c may_stop r moments compiled shown runs seen = record {
+  listed = record { compiled = compiled; tells = tells_in mode text g bytes inputs c may_stop r compiled shown runs; shows = shown };
+  seen = seen;
+}

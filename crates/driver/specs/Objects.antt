@@ -5,9 +5,20 @@ use Rattle.semantics.specs.Bytes.{IsObject}
 use Rattle.semantics.specs.Report.{Report, Shows}
 use Rattle.schedule.specs.declared.config.Config.{Config}
 use Rattle.schedule.specs.Setting.{inputs_of as inputs_in_code}
-use Rattle.schedule.specs.Starts.{IsGood}
+use Rattle.schedule.specs.Runs.{Kept}
+use Rattle.schedule.specs.Starts.{IsGood, Opens}
 use Rattle.command_line.specs.declared.Mode.{Mode}
 use Rattle.driver.specs.Orders.{size_of, FollowsTurns}
+
+-- The bytes are an object, and the machine is at its start on the code of it.
+pub record StartsObject (bytes : List ℕ) (inputs : List ℤ) (c : Config) (m : Kept) : Type 0 where
+  pub version : ℕ
+  pub code : Code
+  pub object : IsObject bytes version code
+  -- the bytes are an object of no other code
+  pub only : (v : ℕ) (d : Code) → IsObject bytes v d → code ≡ d
+  pub width : ℕ
+  pub opens : Opens code.program width c inputs m
 
 -- The bytes are an object, and the report is of a run of its code.
 pub record ShowsObject (bytes : List ℕ) (inputs : List ℤ) (c : Config) (listed may_stop : Bool) (r : Report) : Type 0 where

@@ -43,6 +43,8 @@ pub record IsReadyObject (bytes : List ℕ) (inputs : List ℤ) (config : Config
   pub version : ℕ
   pub code : Code
   pub object : IsObject bytes version code
+  -- the bytes are an object of no other code
+  pub only : (v : ℕ) (c : Code) → IsObject bytes v c → code ≡ c
   pub inputs_fit : length inputs ≡ inputs_of code.program
   pub some_frame : 0 < config.frames
   pub good : IsGood config
@@ -78,10 +80,14 @@ abbrev pub IsRefused : List ℕ → List ℤ → Config → Fault → Type 0
 IsRefused text inputs config (Fault.Start f) = (g : Graph) × (bytes : List ℕ) × (c : IsCompiled text g bytes) × IsCause c.object.code.program config inputs f × (f ≢ StartFault.Memory)
 IsRefused text inputs config fault = IsRefusedText text fault
 
+-- why bytes are not opened: they are an object of no code, and this is their first fault
+abbrev pub IsNoObject : List ℕ → Fault → Type 0
+IsNoObject bytes (Fault.Object f) = (first_refusal bytes ≡ Some f) × ((v : ℕ) (c : Code) → IsObject bytes v c → ⊥)
+IsNoObject bytes Fault.Memory = ⊤
+IsNoObject bytes fault = ⊥
+
 -- why a run of an object cannot start
 abbrev pub IsRefusedObject : List ℕ → List ℤ → Config → Fault → Type 0
-IsRefusedObject bytes inputs config (Fault.Object f) = (first_refusal bytes ≡ Some f) × ((v : ℕ) (c : Code) → IsObject bytes v c → ⊥)
 IsRefusedObject bytes inputs config (Fault.Start f) =
     (version : ℕ) × (c : Code) × IsObject bytes version c × ((v : ℕ) (d : Code) → IsObject bytes v d → c ≡ d) × IsCause c.program config inputs f × (f ≢ StartFault.Memory)
-IsRefusedObject bytes inputs config Fault.Memory = ⊤
-IsRefusedObject bytes inputs config fault = ⊥
+IsRefusedObject bytes inputs config fault = IsNoObject bytes fault

@@ -4,7 +4,7 @@
 ghost use Rattle.std.specs.Prelude.{◌≡◌, IfOk, MatchResult};
 ghost use Rattle.semantics.specs.Versions.{version_number};
 ghost use Rattle.law_composition.specs.Graphs.{plan_of};
-ghost use Rattle.driver.specs.Compiled.{IsCodeFor, IsTooLarge};
+ghost use Rattle.driver.specs.Compiled.{IsCodeFor, IsObjectOf, IsTooLarge};
 ghost use Rattle.driver.specs.Refused.{IsGoodText, IsCompiled, IsBadText, IsRefusedText};
 ghost use Rattle.driver.specs.Written.{WritesObject};
 
@@ -16,7 +16,7 @@ use folding::fold;
 use graph::Graph;
 use graph_check::{Checked, check};
 use graph_file::read;
-use object_view::write;
+use object_view::{OwnedObject, write};
 use select::emit;
 use semantics::version::Version;
 use slot_alloc::assign;
@@ -27,8 +27,7 @@ use std::io::{self, Write};
 #[derive(Drop)]
 pub struct Compiled<'a, A: Allocator> {
     pub checked: Checked<'a, A>,
-    /// The bytes of the object.
-    pub object: Vec<u8, A>,
+    pub object: OwnedObject<A>,
 }
 
 /// Reads the graph of the text, and checks that it is well formed.
@@ -71,17 +70,25 @@ fn code_of<'a, A: Allocator + Clone>(alloc: A, checked: &Checked<'a, A>) -> Resu
     Ok(emit(alloc, &plan, &slots, version_of(checked.graph()))?)
 }
 
+/// Compiles a graph: the object of its code.
+pub fn compile_graph<'a, A: Allocator + Clone>(
+    alloc: A,
+    checked: &Checked<'a, A>,
+) -> Result<OwnedObject<A>, Fault>
+    ensures { MatchResult result (λ o. IsObjectOf checked.now o.bytes) (IsTooLarge checked.now) }
+{
+    let code = code_of(alloc.clone()?, checked)?;
+    let object = OwnedObject::of(alloc, &code, version_of(checked.graph()))?;
+    Ok(object)
+}
+
 /// Compiles the text: its graph, and the object of the graph's code.
 pub fn compile<'a, A: Allocator + Clone>(alloc: A, text: &'a [u8]) -> Result<Compiled<'a, A>, Fault>
-    ensures { MatchResult result (λ c. IsCompiled text.now c.checked c.object.items) (IsRefusedText text.now) }
+    ensures { MatchResult result (λ c. IsCompiled text.now c.checked c.object.bytes) (IsRefusedText text.now) }
 {
     let checked = check_text(alloc.clone()?, text)?;
-    let code = code_of(alloc.clone()?, &checked)?;
-    let mut object = Vec::new(alloc);
-    match write(&code, version_of(checked.graph()), &mut object) {
-        Ok(()) => Ok(Compiled { checked, object }),
-        Err(_) => Err(Fault::Memory),
-    }
+    let object = compile_graph(alloc, &checked)?;
+    Ok(Compiled { checked, object })
 }
 
 /// Why no object, or only a beginning of one, was written.

@@ -3,11 +3,11 @@
 #![tactic(auto)]
 
 pub mod compiling;
-pub mod counting;
 pub mod emulation;
 pub mod fault;
 pub mod meaning;
 pub mod modes;
 pub mod objects;
+pub mod running;
 pub mod values;
 pub mod watching;

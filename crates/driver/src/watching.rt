@@ -1,17 +1,19 @@
-//! Runs that also tell what each of their events did.
+//! Runs of an object that also tell what each of their events did.
 
-ghost use Rattle.std.specs.Prelude.{◌≡◌, ◌<◌, ◌≤◌, Bool, false, IfOk, MatchResult, length};
-ghost use Rattle.driver.specs.Objects.{ShowsObject};
-ghost use Rattle.driver.specs.Refused.{IsRefused};
-ghost use Rattle.driver.specs.Listed.{AreMoments, IsWatched};
+ghost use Rattle.std.specs.Prelude.{◌≡◌, Bool, false, IfOk, MatchResult};
+ghost use Rattle.command_line.specs.declared.Mode.{Mode};
+ghost use Rattle.driver.specs.Headline.{stops_in};
+ghost use Rattle.driver.specs.Listed.{AreMoments};
+ghost use Rattle.driver.specs.Objects.{ShowsObject, RunsObject};
+ghost use Rattle.driver.specs.Orders.{FollowsTurns, FollowsRounds};
+ghost use Rattle.driver.specs.Refused.{IsRefusedObject};
 
-use crate::emulation::{Listed, run_listed};
 use crate::fault::Fault;
+use crate::running::{run_code, run_code_counted};
 use command_line::Mode;
 use loaded::Loaded;
-use object_view::Object;
 use replay::{Moment, ReplayFault, replay};
-use rounds::Gate;
+use rounds::{Counted, Gate};
 use schedule::config::Config;
 use schedule::main_code::MainCode;
 use schedule::report::Report;
@@ -19,60 +21,87 @@ use std::alloc::{AllocError, Allocator};
 use std::sync::Wait;
 use std::thread::Threads;
 
-/// A run of a text's graph, with the moment of each of its events.
+/// A run of an object, with the moment of each of its events.
 #[derive(Drop)]
-pub struct Watched<'a, A: Allocator> {
-    pub run: Listed<'a, A>,
+pub struct Watched<A: Allocator> {
+    pub report: Report<A>,
     /// What each event did, and what the machine held after it.
     pub moments: Vec<Moment, A>,
 }
 
-/// The moments of the events that the report lists. The report is of a run of the object with these bytes.
-pub(crate) fn moments_of<A: Allocator + Clone>(
+/// The moments of the events that the report lists. The report is of a run of the object.
+fn moments_of<A: Allocator + Clone>(
     alloc: A,
-    bytes: &[u8],
+    code: &Loaded<'_, A>,
     inputs: &[i64],
     config: Config,
     report: &Report<A>,
 ) -> Result<Vec<Moment, A>, AllocError>
-    requires { (may_stop : Bool) × ShowsObject bytes.now inputs.now config false may_stop report.now }
-    ensures { IfOk result (λ v. AreMoments bytes.now inputs.now config report.now v.items) }
+    requires { (may_stop : Bool) × ShowsObject code.now.bytes inputs.now config false may_stop report.now }
+    ensures { IfOk result (λ v. AreMoments code.now.bytes inputs.now config report.now v.items) }
 {
-    let object = match Object::open(bytes) {
-        Ok(object) => object,
-        Err(_) => unreachable!(),
-    };
-    let code = Loaded::new(alloc.clone()?, object)?;
+    // What the bytes promise: they are the object of this code.
+    let _bytes = code.object().bytes();
     let _width = code.slots();
     let count = code.inputs();
     let frames = (config.elements * config.frames) as u32;
-    match replay(alloc, &code, frames, count, &report.events) {
+    match replay(alloc, code, frames, count, &report.events) {
         Ok(moments) => Ok(moments),
         Err(ReplayFault::Memory) => Err(AllocError),
         Err(ReplayFault::NotARun) => unreachable!(),
     }
 }
 
-/// Runs the text's graph in the given mode, lists the events, and says what each of them did.
-pub fn run_watched<
-    'a,
-    R: Threads + Wait + Sync,
-    A: Allocator + Clone + Send + Sync,
-    G: Gate + Sync,
->(
+/// Runs the object in the given mode, lists the events, and says what each of them did. In the mode `One` the elements take turns,
+/// and each takes its oldest token.
+pub fn watch_code<R: Threads + Wait + Sync, A: Allocator + Clone + Send + Sync, G: Gate + Sync>(
     alloc: A,
-    text: &'a [u8],
+    code: &Loaded<'_, A>,
     inputs: &[i64],
     config: Config,
     mode: Mode,
     rt: &R,
     gate: &G,
-) -> Result<Watched<'a, A>, Fault>
-    ensures { MatchResult result
-        (λ w. IsWatched mode text.now w.run.compiled.checked w.run.compiled.object.items inputs.now config G.may_stop w.run.report w.moments.items)
-        (IsRefused text.now inputs.now config) }
+) -> Result<Watched<A>, Fault>
+    ensures shows { MatchResult result (λ w. ShowsObject code.now.bytes inputs.now config false (stops_in mode G.may_stop) w.report) (IsRefusedObject code.now.bytes inputs.now config) }
+    ensures turns { mode ≡ Mode.One → IfOk result (λ w. RunsObject code.now.bytes inputs.now config FollowsTurns w.report) }
+    ensures moments { IfOk result (λ w. AreMoments code.now.bytes inputs.now config w.report w.moments.items) }
 {
-    let run = run_listed(alloc.clone()?, text, inputs, config, mode, rt, gate)?;
-    let moments = moments_of(alloc, &run.compiled.object, inputs, config, &run.report)?;
-    Ok(Watched { run, moments })
+    let report = run_code(alloc.clone()?, code, inputs, config, mode, rt, gate)?;
+    let moments = moments_of(alloc, code, inputs, config, &report)?;
+    Ok(Watched { report, moments })
+}
+
+/// A run of an object in rounds, with the moment of each of its events.
+#[derive(Drop)]
+pub struct WatchedRounds<A: Allocator> {
+    pub watched: Watched<A>,
+    /// How many rounds the run made.
+    pub rounds: u64,
+}
+
+/// Runs the object in rounds, lists the events, and says what each of them did, and how many rounds there were.
+pub fn watch_rounds<
+    R: Threads + Wait + Sync,
+    A: Allocator + Clone + Send + Sync,
+    G: Gate + Sync,
+>(
+    alloc: A,
+    code: &Loaded<'_, A>,
+    inputs: &[i64],
+    config: Config,
+    rt: &R,
+    gate: &G,
+) -> Result<WatchedRounds<A>, Fault>
+    ensures shows { MatchResult result (λ w. ShowsObject code.now.bytes inputs.now config false G.may_stop w.watched.report) (IsRefusedObject code.now.bytes inputs.now config) }
+    ensures rounds { IfOk result (λ w. RunsObject code.now.bytes inputs.now config (FollowsRounds G.may_stop w.rounds) w.watched.report) }
+    ensures moments { IfOk result (λ w. AreMoments code.now.bytes inputs.now config w.watched.report w.watched.moments.items) }
+{
+    let counted = run_code_counted(alloc.clone()?, code, inputs, config, rt, gate)?;
+    let Counted { report, rounds } = counted;
+    let moments = moments_of(alloc, code, inputs, config, &report)?;
+    Ok(WatchedRounds {
+        watched: Watched { report, moments },
+        rounds,
+    })
 }

@@ -1,15 +1,22 @@
+use Rattle.std.proofs.Common.{List, ℕ, ap, ◌∙◌, subst}
 use Rattle.std.proofs.lemmas.Result.{err_from_is_err_and}
-use Rattle.driver.proofs.TextObjects.{is_ready, text_refused, opened_all}
+use Rattle.object_view.specs.Reading.{Opened}
+use Rattle.driver.specs.Refused.{IsReadyObject, IsRefusedObject}
+use Rattle.driver.proofs.TextObjects.{ready_as_text, refused_as_text}
 use Rattle.driver.proofs.emulation.start_text.Goals as goal
 
 pub returns : goal.returns
 returns g c =
-    is_ready c.args.text.now c.in_ok-compiled.compiled.checked _ c.args.inputs.now c.args.config c.in_ok-compiled.ensures c.in-Ok.object c.in_ok-code.code c.in_ok-code.ensures
-    (opened_all _ _ c.deref.ensures.value c.in-Ok.object c.in-Ok.ensures.complete) _ c.in_ok-_machine._machine c.in_ok-_machine.ensures
+    let k = c.in_ok-compiled.compiled in
+    let same = ap (λ (x : Opened). x.bytes) (c.in_ok-code.ensures ∙ c.as_object.ensures) in
+    ready_as_text c.args.text.now k.checked k.object.bytes c.args.inputs.now c.args.config c.in_ok-compiled.ensures
+    (subst (λ (bs : List ℕ). IsReadyObject bs c.args.inputs.now c.args.config) same c.in_ok-check_start.ensures)
 
-pub returns-in_err-_machine : goal.returns-in_err-_machine
-returns-in_err-_machine g c =
-    let p = err_from_is_err_and c.from_residual-in_err-_machine.result c.from_residual-in_err-_machine.ensures.1 in
+pub returns-in_err-check_start : goal.returns-in_err-check_start
+returns-in_err-check_start g c =
+    let p = err_from_is_err_and c.from_residual-in_err-check_start.result c.from_residual-in_err-check_start.ensures.1 in
+    let k = c.in_ok-compiled.compiled in
+    let same = ap (λ (x : Opened). x.bytes) (c.in_ok-code.ensures ∙ c.as_object.ensures) in
     rw (p.1, p.2)
-    (text_refused c.args.text.now c.in_ok-compiled.compiled.checked _ c.args.inputs.now c.args.config c.in_ok-compiled.ensures c.in-Ok.object c.in_ok-code.code c.in_ok-code.ensures
-    (opened_all _ _ c.deref.ensures.value c.in-Ok.object c.in-Ok.ensures.complete) c.in_err-_machine.field-0.0 c.in_err-_machine.ensures)
+    (refused_as_text c.args.text.now k.checked k.object.bytes c.args.inputs.now c.args.config c.in_ok-compiled.ensures c.in_err-check_start.field-0.0
+    (subst (λ (bs : List ℕ). IsRefusedObject bs c.args.inputs.now c.args.config c.in_err-check_start.field-0.0) same c.in_err-check_start.ensures))

@@ -1,0 +1,11 @@
+use Rattle.std.proofs.Common.{false}
+use Rattle.driver.proofs.ObjectRuns.{shows_object, follows_rounds}
+use Rattle.driver.proofs.running.run_code_counted.Goals as goal
+
+pub returns-clause-shows : goal.returns-clause-shows
+returns-clause-shows g c =
+    shows_object c.args.code.now.bytes c.args.inputs.now c.args.config c.in_ok-machine.machine c.in_ok-machine.ensures false g.G.Gate.may_stop c.run_counted.result.report c.run_counted.ensures.shows
+
+pub returns-clause-rounds : goal.returns-clause-rounds
+returns-clause-rounds g c =
+    follows_rounds c.args.code.now.bytes c.args.inputs.now c.args.config c.in_ok-machine.machine c.in_ok-machine.ensures g.G.Gate.may_stop c.run_counted.result.rounds c.run_counted.result.report c.run_counted.ensures.tells
