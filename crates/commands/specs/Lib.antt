@@ -4,6 +4,7 @@ pub mod Refusals
 pub mod Served
 pub mod Given
 pub mod Ordered
+pub mod Played
 pub mod Agreed
 pub mod Traced
 pub mod Profiled

@@ -16,3 +16,8 @@ pick_of elements x = (next_number x / 2 ^ 32 % elements, next_number (next_numbe
 unfoldable pub picks_from : ℕ → ℕ → ℕ → List (ℕ × ℕ)
 picks_from elements zero x = []
 picks_from elements (suc n) x = pick_of elements x ∷ picks_from elements n (next_number (next_number x))
+
+-- the number before the next pick, after that many
+unfoldable pub number_after : ℕ → ℕ → ℕ
+number_after zero x = x
+number_after (suc n) x = number_after n (next_number (next_number x))

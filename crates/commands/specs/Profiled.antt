@@ -64,6 +64,10 @@ unfoldable pub sizes_below : Sizes → ℕ → List ℕ
 sizes_below z zero = []
 sizes_below z (suc n) = sizes_below z n ++ (if has_size z n then n ∷ [] else [])
 
+-- some number is in the set
+abbrev pub IsChosen : Sizes → Type 0
+IsChosen z = (n : ℕ) × (n < 64) × (has_size z n ≡ true) × (sizes_below z n ≡ [])
+
 -- the first number of elements in the set with which the machine does not start, where each smaller one has a row
 pub record IsNoRow (text : List ℕ) (inputs : List ℤ) (o : RunOptions) (z : Sizes) (f : Refusal) : Type 0 where
   pub elements : ℕ

@@ -1,112 +1,136 @@
 //! Runs of a graph in random orders.
 
-ghost use Rattle.std.specs.Prelude.{◌<◌, IfErr, IfOk, IfSome, IsNone, MatchResult};
-ghost use Rattle.driver.specs.Headline.{TellsTruthListed};
-ghost use Rattle.driver.specs.Refused.{IsRefused};
+ghost use Rattle.std.specs.Prelude.{◌≡◌, ◌<◌, ℕ, List, IfErr, IfOk, IfSome, IsNone, MatchResult};
+ghost use Rattle.semantics.specs.Graph as Graphs;
+ghost use Rattle.driver.specs.Refused.{IsCompiled, IsRefused};
 ghost use Rattle.sink.specs.Sends.{Sends};
 ghost use Rattle.commands.specs.Agreed.{Agree, AllAgree, Differ, IsFirstOther, IsNoOrderOf, IsOrder, PrintsOrders, differing_text, order_text, same_line, same_text};
-ghost use Rattle.commands.specs.Ordered.{first_number, picks_from};
+ghost use Rattle.commands.specs.Played.{PlaysDrawn};
 
 use crate::comparing::are_same;
-use crate::drawing::draw;
+use crate::drawing::{draw, first_number};
 use crate::given::{option_refusal, read_given};
 use crate::refusal::Refusal;
 use crate::refusal_text::write_numbered;
 use crate::serving::{REFUSED, config_of, refuse};
 use crate::status::status_of;
 use command_line::RunOptions;
-use driver::emulation::{Emulated, run_picks};
+use driver::compiling::{Compiled, compile};
 use driver::fault::Fault;
+use driver::running::start_code;
+use graph::Graph;
+use graph_check::Checked;
 use itoa::Buffer;
+use loaded::Loaded;
 use report_text::write_report;
 use schedule::config::Config;
-use semantics::report::End;
+use schedule::halt::Halt;
+use schedule::machine::Machine;
+use schedule::main_code::MainCode;
+use schedule::report::Report;
 use sink::{send, send_all};
-use std::alloc::Allocator;
+use std::alloc::{AllocError, Allocator};
 use std::io::{self, Write};
 
-/// How many picks are drawn at first. A run that needs more is made again with twice as many.
+/// How many picks are drawn at a time.
 const PICKS: u32 = 4096;
 
-/// How often that number is doubled.
-const DOUBLINGS: u32 = 10;
+/// How often a run is played on by as many picks, if it takes them.
+const TIMES: u32 = 1024;
 
-/// The most picks that are drawn.
-const MOST_PICKS: u32 = 4_194_304;
-
-/// A run in another order than the first.
+/// A report of another order that is not the first one's.
 #[derive(Drop)]
-pub struct Other<'a, A: Allocator> {
+pub struct Other<A: Allocator> {
     /// The number of the order, counted from 0.
     pub number: u64,
-    pub run: Emulated<'a, A>,
+    pub report: Report<A>,
 }
 
-/// The runs in all orders.
+/// The reports of all orders.
+#[derive(Drop)]
+pub struct Reports<A: Allocator> {
+    pub first: Report<A>,
+    /// The first report that is another one.
+    pub other: Option<Other<A>>,
+}
+
+/// The runs of a graph in all orders.
 #[derive(Drop)]
 pub struct Orders<'a, A: Allocator> {
-    pub first: Emulated<'a, A>,
-    /// The first run that has another report.
-    pub other: Option<Other<'a, A>>,
+    pub checked: Checked<'a, A>,
+    pub reports: Reports<A>,
 }
 
-/// Runs the graph in one order, by its first `count` picks.
-fn run_drawn<'a, A: Allocator + Clone>(
-    alloc: A,
-    text: &'a [u8],
-    inputs: &[i64],
-    config: Config,
-    count: u32,
-    seed: u64,
-    order: u64,
-) -> Result<Emulated<'a, A>, Fault>
-    requires { 0 < config.elements }
-    ensures { MatchResult result
-        (λ e. TellsTruthListed text.now e.checked inputs.now config (picks_from config.elements count (first_number seed order)) e.report)
-        (IsRefused text.now inputs.now config) }
+/// Plays the machine in one order, by as many picks as the run takes, up to the greatest number that is drawn: what was played is
+/// played on.
+fn play_drawn<C: MainCode, A: Allocator + Clone>(
+    alloc: &A,
+    machine: &mut Machine<'_, C, A>,
+    elements: u64,
+    first: u64,
+) -> Result<Halt, AllocError>
+    requires some { 0 < elements }
+    requires elements { machine.old.state.setting.elements ≡ elements }
+    ensures { IfOk result (PlaysDrawn elements first machine.old machine.new) }
 {
-    let Ok(room) = alloc.clone() else {
-        return Err(Fault::Memory);
-    };
-    match draw(room, config.elements, count, seed, order) {
-        Ok(picks) => run_picks(alloc, text, inputs, config, &picks),
-        Err(_refused) => Err(Fault::Memory),
-    }
-}
-
-/// Runs the graph in one order, by as many picks as the run takes, up to the greatest number that is drawn.
-fn run_order<'a, A: Allocator + Clone>(
-    alloc: A,
-    text: &'a [u8],
-    inputs: &[i64],
-    config: Config,
-    seed: u64,
-    order: u64,
-) -> Result<Emulated<'a, A>, Fault>
-    requires { 0 < config.elements }
-    ensures { MatchResult result (λ e. IsOrder text.now inputs.now config seed order e.checked e.report) (IsRefused text.now inputs.now config) }
-{
-    let mut count = PICKS;
-    for _doubled in 0..DOUBLINGS {
-        let Ok(room) = alloc.clone() else {
-            return Err(Fault::Memory);
-        };
-        let run = match run_drawn(room, text, inputs, config, count, seed, order) {
-            Ok(run) => run,
-            Err(fault) => return Err(fault),
-        };
-        if run.report.end != End::Steps {
-            return Ok(run);
+    let mut number = first;
+    for _time in 0..TIMES {
+        let drawn = draw(alloc.clone()?, elements, PICKS, number)?;
+        let halt = machine.play(&drawn.picks);
+        if halt != Halt::Steps {
+            return Ok(halt);
         }
-        count = count.wrapping_mul(2);
+        number = drawn.next;
     }
-    match run_drawn(alloc, text, inputs, config, MOST_PICKS, seed, order) {
-        Ok(run) => Ok(run),
-        Err(fault) => Err(fault),
-    }
+    // No further pick is drawn.
+    Ok(machine.play(&[]))
 }
 
-/// Runs the graph in `count` orders, or until one has another report than the first.
+/// The report of the object's run in one order.
+fn run_order<A: Allocator + Clone>(
+    alloc: &A,
+    code: &Loaded<'_, A>,
+    inputs: &[i64],
+    config: Config,
+    seed: u64,
+    order: u64,
+) -> Result<Report<A>, Fault>
+    requires { 0 < config.elements }
+    ensures { (text : List ℕ) (g : Graphs.Graph) → IsCompiled text g code.now.bytes → MatchResult result (IsOrder text inputs.now config seed order g) (IsRefused text inputs.now config) }
+{
+    let mut store = None;
+    let mut machine = start_code(alloc.clone()?, &mut store, code, inputs, config)?;
+    let halt = play_drawn(alloc, &mut machine, config.elements, first_number(seed, order))?;
+    Ok(machine.report(halt))
+}
+
+/// The reports of the object's runs in `count` orders, or until one has another report than the first.
+fn run_code_orders<A: Allocator + Clone>(
+    alloc: &A,
+    code: &Loaded<'_, A>,
+    inputs: &[i64],
+    config: Config,
+    count: u64,
+    seed: u64,
+) -> Result<Reports<A>, Fault>
+    requires elements { 0 < config.elements }
+    requires some { 0 < count }
+    ensures same { (text : List ℕ) (g : Graphs.Graph) → IsCompiled text g code.now.bytes → IfOk result (λ o. IsNone o.other → AllAgree text inputs.now config seed count g o.first) }
+    ensures other { (text : List ℕ) (g : Graphs.Graph) → IsCompiled text g code.now.bytes → IfOk result (λ o. IfSome o.other (λ x. IsFirstOther text inputs.now config seed count g o.first x.number g x.report)) }
+    ensures refused { (text : List ℕ) (g : Graphs.Graph) → IsCompiled text g code.now.bytes → IfErr result (IsRefused text inputs.now config) }
+{
+    let first = run_order(alloc, code, inputs, config, seed, 0)?;
+    for number in 1..count {
+        let report = run_order(alloc, code, inputs, config, seed, number)?;
+        if !are_same(&first, &report) {
+            let other = Some(Other { number, report });
+            return Ok(Reports { first, other });
+        }
+    }
+    Ok(Reports { first, other: None })
+}
+
+/// Compiles the graph of the text, and runs it in `count` orders, or until one has another report than the first.
 fn run_orders<'a, A: Allocator + Clone>(
     alloc: A,
     text: &'a [u8],
@@ -117,31 +141,14 @@ fn run_orders<'a, A: Allocator + Clone>(
 ) -> Result<Orders<'a, A>, Fault>
     requires elements { 0 < config.elements }
     requires some { 0 < count }
-    ensures same { IfOk result (λ o. IsNone o.other → AllAgree text.now inputs.now config seed count o.first.checked o.first.report) }
-    ensures other { IfOk result (λ o. IfSome o.other (λ x. IsFirstOther text.now inputs.now config seed count o.first.checked o.first.report x.number x.run.checked x.run.report)) }
+    ensures same { IfOk result (λ o. IsNone o.reports.other → AllAgree text.now inputs.now config seed count o.checked o.reports.first) }
+    ensures other { IfOk result (λ o. IfSome o.reports.other (λ x. IsFirstOther text.now inputs.now config seed count o.checked o.reports.first x.number o.checked x.report)) }
     ensures refused { IfErr result (IsRefused text.now inputs.now config) }
 {
-    let Ok(room) = alloc.clone() else {
-        return Err(Fault::Memory);
-    };
-    let first = match run_order(room, text, inputs, config, seed, 0) {
-        Ok(run) => run,
-        Err(fault) => return Err(fault),
-    };
-    for number in 1..count {
-        let Ok(room) = alloc.clone() else {
-            return Err(Fault::Memory);
-        };
-        let run = match run_order(room, text, inputs, config, seed, number) {
-            Ok(run) => run,
-            Err(fault) => return Err(fault),
-        };
-        if !are_same(&first.report, &run.report) {
-            let other = Some(Other { number, run });
-            return Ok(Orders { first, other });
-        }
-    }
-    Ok(Orders { first, other: None })
+    let Compiled { checked, object } = compile(alloc.clone()?, text)?;
+    let code = Loaded::new(alloc.clone()?, object.as_object())?;
+    let reports = run_code_orders(&alloc, &code, inputs, config, count, seed)?;
+    Ok(Orders { checked, reports })
 }
 
 /// Runs the graph of the input, on the integers after it, in `count` orders. Refusals come in the order of the work; whether any order was
@@ -153,8 +160,8 @@ fn make_orders<'a, A: Allocator + Clone>(
     count: u64,
     seed: u64,
 ) -> Result<Orders<'a, A>, Refusal>
-    ensures same { IfOk result (λ o. IsNone o.other → Agree input.now options.now count seed o.first.checked o.first.report) }
-    ensures other { IfOk result (λ o. IfSome o.other (λ x. Differ input.now options.now count seed o.first.checked o.first.report x.number x.run.checked x.run.report)) }
+    ensures same { IfOk result (λ o. IsNone o.reports.other → Agree input.now options.now count seed o.checked o.reports.first) }
+    ensures other { IfOk result (λ o. IfSome o.reports.other (λ x. Differ input.now options.now count seed o.checked o.reports.first x.number o.checked x.report)) }
     ensures refused { IfErr result (IsNoOrderOf input.now options.now count) }
 {
     let given = match read_given(&alloc, input) {
@@ -183,43 +190,46 @@ fn send_same<W: Write>(writer: &mut W, count: u64) -> io::Result<()>
 }
 
 /// Writes that all orders have one report, and that report.
-fn write_same<A: Allocator, W: Write>(
+fn write_same<'a, A: Allocator, W: Write>(
     writer: &mut W,
     count: u64,
-    run: &Emulated<'_, A>,
+    graph: &Graph<'a, A>,
+    report: &Report<A>,
 ) -> io::Result<()>
-    ensures { Sends result (W.contents writer.old) (W.contents writer.new) (same_text count run.now.checked run.now.report) }
+    ensures { Sends result (W.contents writer.old) (W.contents writer.new) (same_text count graph.now report.now) }
 {
     send_same(writer, count)?;
-    write_report(writer, run.checked.graph(), &run.report)
+    write_report(writer, graph, report)
 }
 
 /// Writes the report of one order.
-fn write_order<A: Allocator, W: Write>(
+fn write_order<'a, A: Allocator, W: Write>(
     writer: &mut W,
     number: u64,
-    run: &Emulated<'_, A>,
+    graph: &Graph<'a, A>,
+    report: &Report<A>,
 ) -> io::Result<()>
     requires { number < 18446744073709551615 }
-    ensures { Sends result (W.contents writer.old) (W.contents writer.new) (order_text number run.now.checked run.now.report) }
+    ensures { Sends result (W.contents writer.old) (W.contents writer.new) (order_text number graph.now report.now) }
 {
     write_numbered(writer, b"order ", number + 1)?;
-    write_report(writer, run.checked.graph(), &run.report)
+    write_report(writer, graph, report)
 }
 
 /// Writes that two orders have different reports, and both reports.
-fn write_differing<A: Allocator, W: Write>(
+fn write_differing<'a, A: Allocator, W: Write>(
     writer: &mut W,
-    first: &Emulated<'_, A>,
+    graph: &Graph<'a, A>,
+    first: &Report<A>,
     number: u64,
-    other: &Emulated<'_, A>,
+    other: &Report<A>,
 ) -> io::Result<()>
     requires { number < 18446744073709551615 }
-    ensures { Sends result (W.contents writer.old) (W.contents writer.new) (differing_text first.now.checked first.now.report number other.now.checked other.now.report) }
+    ensures { Sends result (W.contents writer.old) (W.contents writer.new) (differing_text graph.now first.now number graph.now other.now) }
 {
     send(writer, b"orders differ\n")?;
-    write_order(writer, 0, first)?;
-    write_order(writer, number, other)
+    write_order(writer, 0, graph, first)?;
+    write_order(writer, number, graph, other)
 }
 
 /// Runs the graph of the input in `count` orders, which a seed chooses. Prints that all have one report, and that report; or
@@ -235,18 +245,21 @@ pub fn print_orders<A: Allocator + Clone, W: Write>(
 ) -> io::Result<u8>
     ensures { PrintsOrders result (W.contents writer.old) (W.contents writer.new) input.now options.now count seed }
 {
-    let Orders { first, other } = match make_orders(alloc, input, options, count, seed) {
+    let Orders { checked, reports } = match make_orders(alloc, input, options, count, seed) {
         Ok(orders) => orders,
         Err(refusal) => return refuse(writer, &refusal),
     };
+    let Reports { first, other } = reports;
     match other {
-        None => match write_same(writer, count, &first) {
-            Ok(()) => Ok(status_of(first.report.end)),
+        None => match write_same(writer, count, checked.graph(), &first) {
+            Ok(()) => Ok(status_of(first.end)),
             Err(fault) => Err(fault),
         },
-        Some(other) => match write_differing(writer, &first, other.number, &other.run) {
-            Ok(()) => Ok(REFUSED),
-            Err(fault) => Err(fault),
-        },
+        Some(other) => {
+            match write_differing(writer, checked.graph(), &first, other.number, &other.report) {
+                Ok(()) => Ok(REFUSED),
+                Err(fault) => Err(fault),
+            }
+        }
     }
 }

@@ -1,21 +1,25 @@
 //! How much parallelism a graph has.
 
-ghost use Rattle.std.specs.Prelude.{◌≡◌, ◌≢◌, ◌+◌, ◌⊎◌, false, length, map, IfErr, IfOk, MatchResult};
+ghost use Rattle.std.specs.Prelude.{◌≡◌, ◌≢◌, ◌+◌, ◌⊎◌, ℕ, List, [], false, length, map, if◌then◌else◌, IfErr, IfOk, MatchResult};
+ghost use Rattle.semantics.specs.Graph.{Graph};
 ghost use Rattle.profile_text.specs.Picture.{greatest_from};
 ghost use Rattle.semantics.specs.declared.report.End.{End};
 ghost use Rattle.sink.specs.Sends.{Sends};
 ghost use Rattle.commands.specs.declared.refusal.Refusal.{Refusal as Told};
-ghost use Rattle.driver.specs.Refused.{IsRefused};
+ghost use Rattle.driver.specs.Refused.{IsCompiled, IsGoodText, IsRefused};
 ghost use Rattle.commands.specs.Served.{IsTold};
-ghost use Rattle.commands.specs.Profiled.{AreRows, IsNoProfileOf, IsNoRow, IsProfileOf, IsRow, PrintsProfile, config_with, held_in, sizes_below, text_of};
+ghost use Rattle.commands.specs.Profiled.{AreRows, IsChosen, IsNoProfileOf, IsNoRow, IsProfileOf, IsRow, PrintsProfile, config_with, held_in, sizes_below, text_of};
 
 use crate::given::read_given;
 use crate::refusal::Refusal;
 use crate::serving::refuse;
 use crate::status::status_of_meaning;
 use command_line::{RunOptions, Sizes};
-use driver::counting::{WatchedRounds, watch_rounds};
+use driver::compiling::compile_graph;
 use driver::meaning::{Waved, waves_text};
+use driver::watching::{WatchedRounds, watch_rounds};
+use graph_check::Checked;
+use loaded::Loaded;
 use profile_text::{MachineRow, write_profile, write_svg};
 use replay::Moment;
 use rounds::Open;
@@ -99,42 +103,42 @@ fn wants_memory<A: Allocator>(report: &Report<A>) -> bool
     matches!(report.end, End::Memory)
 }
 
-/// The row of a run in rounds on this number of elements. A run that was refused memory has none.
+/// The row of the object's run in rounds on this number of elements. A run that was refused memory has none.
 fn measure<R: Threads + Wait + Sync, A: Allocator + Clone + Send + Sync>(
     alloc: A,
-    text: &[u8],
+    code: &Loaded<'_, A>,
     inputs: &[i64],
     options: &RunOptions,
     elements: u64,
     rt: &R,
 ) -> Result<MachineRow, Refusal>
-    ensures { MatchResult result (IsRow text.now inputs.now options.now elements) (IsTold (IsRefused text.now inputs.now (config_with options.now elements))) }
+    ensures { (text : List ℕ) (g : Graph) → IsCompiled text g code.now.bytes → MatchResult result (IsRow text inputs.now options.now elements) (IsTold (IsRefused text inputs.now (config_with options.now elements))) }
 {
     let config = config_with(options, elements);
     let WatchedRounds { watched, rounds } = match watch_rounds(
-        alloc, text, inputs, config, rt, &Open,
+        alloc, code, inputs, config, rt, &Open,
     ) {
         Ok(counted) => counted,
         Err(fault) => return Err(Refusal::from(fault)),
     };
-    if wants_memory(&watched.run.report) {
+    if wants_memory(&watched.report) {
         return Err(Refusal::Memory);
     }
     Ok(row_of(elements, inputs, rounds, &watched.moments))
 }
 
-/// A row for each number of elements, in order.
+/// A row of the object for each number of elements, in order.
 fn rows_of<R: Threads + Wait + Sync, A: Allocator + Clone + Send + Sync>(
     alloc: A,
-    text: &[u8],
+    code: &Loaded<'_, A>,
     inputs: &[i64],
     options: &RunOptions,
     sizes: Sizes,
     rt: &R,
 ) -> Result<Vec<MachineRow, A>, Refusal>
-    ensures { MatchResult result
-        (λ v. AreRows text.now inputs.now options.now (sizes_below sizes 64) v.items)
-        (λ f. (f ≡ Told.Memory) ⊎ IsNoRow text.now inputs.now options.now sizes f) }
+    ensures { (text : List ℕ) (g : Graph) → IsCompiled text g code.now.bytes → MatchResult result
+        (λ v. AreRows text inputs.now options.now (sizes_below sizes 64) v.items)
+        (λ f. (f ≡ Told.Memory) ⊎ IsNoRow text inputs.now options.now sizes f) }
 {
     let Ok(room) = alloc.clone() else {
         return Err(Refusal::Memory);
@@ -145,7 +149,7 @@ fn rows_of<R: Threads + Wait + Sync, A: Allocator + Clone + Send + Sync>(
             let Ok(room) = alloc.clone() else {
                 return Err(Refusal::Memory);
             };
-            let row = match measure(room, text, inputs, options, elements, rt) {
+            let row = match measure(room, code, inputs, options, elements, rt) {
                 Ok(row) => row,
                 Err(refusal) => return Err(refusal),
             };
@@ -157,24 +161,68 @@ fn rows_of<R: Threads + Wait + Sync, A: Allocator + Clone + Send + Sync>(
     Ok(rows)
 }
 
-/// The rows that are printed: none beside a picture.
-fn rows_beside<R: Threads + Wait + Sync, A: Allocator + Clone + Send + Sync>(
+/// Whether there is a number in the set.
+fn has_some(sizes: Sizes) -> bool
+    ensures { if result then IsChosen sizes else (sizes_below sizes 64 ≡ []) }
+{
+    for elements in 0..SIZES {
+        if sizes.has(elements) {
+            return true;
+        }
+    }
+    false
+}
+
+/// Compiles the graph, and makes a row for each number of elements, in order. Where there is no number, nothing is compiled.
+fn rows_of_graph<'a, R: Threads + Wait + Sync, A: Allocator + Clone + Send + Sync>(
     alloc: A,
-    text: &[u8],
+    checked: &Checked<'a, A>,
+    inputs: &[i64],
+    options: &RunOptions,
+    sizes: Sizes,
+    rt: &R,
+) -> Result<Vec<MachineRow, A>, Refusal>
+    ensures { (text : List ℕ) → IsGoodText text checked.now → MatchResult result
+        (λ v. AreRows text inputs.now options.now (sizes_below sizes 64) v.items)
+        (λ f. (f ≡ Told.Memory) ⊎ IsNoRow text inputs.now options.now sizes f) }
+{
+    if !has_some(sizes) {
+        return Ok(Vec::new(alloc));
+    }
+    let Ok(room) = alloc.clone() else {
+        return Err(Refusal::Memory);
+    };
+    let object = match compile_graph(room, checked) {
+        Ok(object) => object,
+        Err(fault) => return Err(Refusal::from(fault)),
+    };
+    let Ok(room) = alloc.clone() else {
+        return Err(Refusal::Memory);
+    };
+    let Ok(code) = Loaded::new(room, object.as_object()) else {
+        return Err(Refusal::Memory);
+    };
+    rows_of(alloc, &code, inputs, options, sizes, rt)
+}
+
+/// The rows that are printed: none beside a picture.
+fn rows_beside<'a, R: Threads + Wait + Sync, A: Allocator + Clone + Send + Sync>(
+    alloc: A,
+    checked: &Checked<'a, A>,
     inputs: &[i64],
     options: &RunOptions,
     sizes: Sizes,
     svg: bool,
     rt: &R,
 ) -> Result<Vec<MachineRow, A>, Refusal>
-    ensures { MatchResult result
-        (λ v. svg ≡ false → AreRows text.now inputs.now options.now (sizes_below sizes 64) v.items)
-        (λ f. (f ≡ Told.Memory) ⊎ ((svg ≡ false) × IsNoRow text.now inputs.now options.now sizes f)) }
+    ensures { (text : List ℕ) → IsGoodText text checked.now → MatchResult result
+        (λ v. svg ≡ false → AreRows text inputs.now options.now (sizes_below sizes 64) v.items)
+        (λ f. (f ≡ Told.Memory) ⊎ ((svg ≡ false) × IsNoRow text inputs.now options.now sizes f)) }
 {
     if svg {
         return Ok(Vec::new(alloc));
     }
-    match rows_of(alloc, text, inputs, options, sizes, rt) {
+    match rows_of_graph(alloc, checked, inputs, options, sizes, rt) {
         Ok(rows) => Ok(rows),
         Err(refusal) => Err(refusal),
     }
@@ -211,7 +259,8 @@ fn make_profile<'a, R: Threads + Wait + Sync, A: Allocator + Clone + Send + Sync
         Ok(waves) => waves,
         Err(fault) => return Err(Refusal::from(fault)),
     };
-    match rows_beside(alloc, given.text, &given.integers, options, sizes, svg, rt) {
+    let inputs = &given.integers;
+    match rows_beside(alloc, &waves.checked, inputs, options, sizes, svg, rt) {
         Ok(rows) => Ok(Profile { waves, rows }),
         Err(refusal) => Err(refusal),
     }

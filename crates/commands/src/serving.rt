@@ -19,12 +19,13 @@ use command_line::{Asked, Inputs, Literals, Request, RunOptions, read_words, ver
 use command_texts::{help_text, mistake_text};
 use dot::write_graph_dot;
 use driver::compiling::{CompileRefusal, check_text, write_object};
-use driver::emulation::{Emulated, emulate_object_quietly, run_text, start_object};
+use driver::emulation::{Emulated, run_text};
 use driver::meaning::{Meant, mean_text};
 use driver::objects::{
     ObjectRefusal, disassemble, disassemble_with_literals, draw_object, upgrade_object,
 };
-use object_view::Object;
+use driver::running::{check_start, open_code, run_code_quietly};
+use loaded::Loaded;
 use report_text::{write_meaning, write_object_report, write_report};
 use rounds::Gate;
 use schedule::config::{Config, StartFault};
@@ -253,7 +254,7 @@ pub fn print_code_picture<W: Write>(bytes: &[u8], writer: &mut W) -> io::Result<
 /// Runs the object on these inputs. Whether the mode exists is checked last.
 fn exec_object<R: Threads + Wait + Sync, A: Allocator + Clone + Send + Sync, G: Gate + Sync>(
     alloc: A,
-    bytes: &[u8],
+    code: &Loaded<'_, A>,
     options: &RunOptions,
     inputs: &[i64],
     rt: &R,
@@ -261,38 +262,38 @@ fn exec_object<R: Threads + Wait + Sync, A: Allocator + Clone + Send + Sync, G: 
 ) -> Result<Report<A>, Refusal>
     requires { G.may_stop ≡ false }
     ensures { MatchResult result
-        (λ r. IsExecOf bytes.now options.now (Inputs.Integers (record { items = inputs.now })) r)
-        (IsNoExecOf bytes.now options.now (Inputs.Integers (record { items = inputs.now }))) }
+        (λ r. IsExecOf code.now.bytes options.now (Inputs.Integers (record { items = inputs.now })) r)
+        (IsNoExecOf code.now.bytes options.now (Inputs.Integers (record { items = inputs.now }))) }
 {
     let config = config_of(options);
     match options.mode {
-        Some(mode) => match emulate_object_quietly(alloc, bytes, inputs, config, mode, rt, gate) {
+        Some(mode) => match run_code_quietly(alloc, code, inputs, config, mode, rt, gate) {
             Ok(report) => Ok(report),
             Err(fault) => Err(Refusal::from(fault)),
         },
-        None => match start_object(alloc, bytes, inputs, config) {
+        None => match check_start(alloc, code, inputs, config) {
             Ok(_ready) => Err(Refusal::Start(StartFault::BadConfig)),
             Err(fault) => Err(Refusal::from(fault)),
         },
     }
 }
 
-/// Runs the object on the inputs of the command line, if these are good. The caller knows that the bytes are an object.
+/// Runs the object on the inputs of the command line, if these are good.
 fn exec_inputs<R: Threads + Wait + Sync, A: Allocator + Clone + Send + Sync, G: Gate + Sync>(
     alloc: A,
-    bytes: &[u8],
+    code: &Loaded<'_, A>,
     options: &RunOptions,
     inputs: &Inputs,
     rt: &R,
     gate: &G,
 ) -> Result<Report<A>, Refusal>
     requires may_stop { G.may_stop ≡ false }
-    requires object { first_refusal bytes.now ≡ None }
-    ensures { MatchResult result (λ r. IsExecOf bytes.now options.now inputs.now r) (IsNoExecOf bytes.now options.now inputs.now) }
+    requires object { first_refusal code.now.bytes ≡ None }
+    ensures { MatchResult result (λ r. IsExecOf code.now.bytes options.now inputs.now r) (IsNoExecOf code.now.bytes options.now inputs.now) }
 {
     match inputs {
         Inputs::Integers(integers) => {
-            exec_object(alloc, bytes, options, integers.as_slice(), rt, gate)
+            exec_object(alloc, code, options, integers.as_slice(), rt, gate)
         }
         Inputs::NoInteger(number) => Err(Refusal::InputLine(*number)),
         Inputs::TooMany => Err(Refusal::Start(StartFault::WrongInputs)),
@@ -318,12 +319,12 @@ pub fn print_exec<
     requires { G.may_stop ≡ false }
     ensures { PrintsExec result (W.contents writer.old) (W.contents writer.new) bytes.now options.now inputs.now }
 {
-    let object = match Object::open(bytes) {
-        Ok(object) => object,
-        Err(fault) => return refuse(writer, &Refusal::Object(fault)),
+    let code = match open_code(&alloc, bytes) {
+        Ok(code) => code,
+        Err(fault) => return refuse(writer, &Refusal::from(fault)),
     };
-    match exec_inputs(alloc, bytes, options, inputs, rt, gate) {
-        Ok(report) => match write_object_report(writer, &object, &report) {
+    match exec_inputs(alloc, &code, options, inputs, rt, gate) {
+        Ok(report) => match write_object_report(writer, code.object(), &report) {
             Ok(()) => Ok(status_of(report.end)),
             Err(fault) => Err(fault),
         },

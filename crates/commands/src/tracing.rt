@@ -1,8 +1,8 @@
 //! The events of a run.
 
-ghost use Rattle.std.specs.Prelude.{◌≡◌, ◌≤◌, ◌++◌, ℕ, drop, false, length, MatchResult};
-ghost use Rattle.semantics.specs.Bytes.{IsObject};
-ghost use Rattle.semantics.specs.Program as Programs;
+ghost use Rattle.std.specs.Prelude.{◌≡◌, ◌≤◌, ◌++◌, drop, false, length, MatchResult};
+ghost use Rattle.driver.specs.Listed.{IsWatched};
+ghost use Rattle.driver.specs.Refused.{IsRefused};
 ghost use Rattle.sink.specs.Sends.{Sends};
 ghost use Rattle.trace_text.specs.TraceText.{trace_text};
 ghost use Rattle.report_text.specs.ReportText.{report_text};
@@ -13,13 +13,16 @@ use crate::given::{option_refusal, read_given};
 use crate::refusal::Refusal;
 use crate::serving::{config_of, refuse};
 use crate::status::status_of;
-use command_line::{Format, RunOptions};
-use driver::watching::{Watched, run_watched};
+use command_line::{Format, Mode, RunOptions};
+use driver::compiling::{Compiled, compile};
+use driver::fault::Fault;
+use driver::watching::{Watched, watch_object};
 use graph::Graph;
 use object_view::Object;
 use replay::Moment;
 use report_text::write_report;
 use rounds::Gate;
+use schedule::config::Config;
 use schedule::report::Report;
 use std::alloc::Allocator;
 use std::io::{self, Write};
@@ -79,7 +82,7 @@ fn write_lines<'a, A: Allocator, W: Write>(
 /// Writes the events from number `first` on in the format, and behind lines the report.
 fn write_trace<'a, A: Allocator, W: Write>(
     writer: &mut W,
-    bytes: &[u8],
+    object: &Object<'_>,
     graph: &Graph<'a, A>,
     report: &Report<A>,
     moments: &[Moment],
@@ -87,21 +90,18 @@ fn write_trace<'a, A: Allocator, W: Write>(
     last: Option<u64>,
     format: Format,
 ) -> io::Result<()>
-    requires object { (version : ℕ) × (code : Programs.Code) × IsObject bytes.now version code }
-    requires few { elements ≤ 16 }
-    ensures { Sends result (W.contents writer.old) (W.contents writer.new) (events_text format (first_of (length report.now.events) last) elements graph.now bytes.now report.now moments.now) }
+    requires { elements ≤ 16 }
+    ensures { Sends result (W.contents writer.old) (W.contents writer.new) (events_text format (first_of (length report.now.events) last) elements graph.now object.now.bytes report.now moments.now) }
 {
-    let object = match Object::open(bytes) {
-        Ok(object) => object,
-        Err(_) => unreachable!(),
-    };
+    // What the bytes promise: they are the object.
+    let _bytes = object.bytes();
     let first = first_of_last(report.events.len(), last);
     let events = events_from(&report.events, first);
     let moments = moments_from(moments, first);
     match format {
         Format::Lines => write_lines(
             writer,
-            &object,
+            object,
             first as u64,
             events,
             moments,
@@ -110,13 +110,39 @@ fn write_trace<'a, A: Allocator, W: Write>(
         ),
         Format::Chrome => write_chrome(
             writer,
-            &object,
+            object,
             elements as u32,
             first as u64,
             events,
             moments,
         ),
     }
+}
+
+/// A run of the graph of an input, with what each of its events did.
+#[derive(Drop)]
+struct Traced<'a, A: Allocator> {
+    compiled: Compiled<'a, A>,
+    watched: Watched<A>,
+}
+
+/// Compiles the graph of the text, runs it in the given mode, and says what each event did.
+fn watch_text<'a, R: Threads + Wait + Sync, A: Allocator + Clone + Send + Sync, G: Gate + Sync>(
+    alloc: A,
+    text: &'a [u8],
+    inputs: &[i64],
+    config: Config,
+    mode: Mode,
+    rt: &R,
+    gate: &G,
+) -> Result<Traced<'a, A>, Fault>
+    ensures { MatchResult result
+        (λ t. IsWatched mode text.now t.compiled.checked t.compiled.object.bytes inputs.now config G.may_stop t.watched.report t.watched.moments.items)
+        (IsRefused text.now inputs.now config) }
+{
+    let compiled = compile(alloc.clone()?, text)?;
+    let watched = watch_object(alloc, &compiled.object, inputs, config, mode, rt, gate)?;
+    Ok(Traced { compiled, watched })
 }
 
 /// Runs the graph of the input on the integers after it, and says what each event did. Refusals come in the order of the work; whether
@@ -127,10 +153,10 @@ fn watch_input<'a, R: Threads + Wait + Sync, A: Allocator + Clone + Send + Sync,
     options: &RunOptions,
     rt: &R,
     gate: &G,
-) -> Result<Watched<'a, A>, Refusal>
+) -> Result<Traced<'a, A>, Refusal>
     requires { G.may_stop ≡ false }
     ensures { MatchResult result
-        (λ w. IsTraceOf input.now options.now w.run.compiled.checked w.run.compiled.object.items w.run.report w.moments.items)
+        (λ t. IsTraceOf input.now options.now t.compiled.checked t.compiled.object.bytes t.watched.report t.watched.moments.items)
         (IsNoRunOf input.now options.now) }
 {
     let given = match read_given(&alloc, input) {
@@ -141,8 +167,8 @@ fn watch_input<'a, R: Threads + Wait + Sync, A: Allocator + Clone + Send + Sync,
     let Some(mode) = options.mode else {
         return Err(option_refusal(alloc, given.text, &given.integers, config));
     };
-    match run_watched(alloc, given.text, &given.integers, config, mode, rt, gate) {
-        Ok(watched) => Ok(watched),
+    match watch_text(alloc, given.text, &given.integers, config, mode, rt, gate) {
+        Ok(traced) => Ok(traced),
         Err(fault) => Err(Refusal::from(fault)),
     }
 }
@@ -167,22 +193,22 @@ pub fn print_trace<
     requires { G.may_stop ≡ false }
     ensures { PrintsTrace result (W.contents writer.old) (W.contents writer.new) input.now options.now last format }
 {
-    let Watched { run, moments } = match watch_input(alloc, input, options, rt, gate) {
-        Ok(watched) => watched,
+    let Traced { compiled, watched } = match watch_input(alloc, input, options, rt, gate) {
+        Ok(traced) => traced,
         Err(refusal) => return refuse(writer, &refusal),
     };
-    let compiled = &run.compiled;
+    let Watched { report, moments } = watched;
     match write_trace(
         writer,
-        &compiled.object,
+        &compiled.object.as_object(),
         compiled.checked.graph(),
-        &run.report,
+        &report,
         &moments,
         options.elements,
         last,
         format,
     ) {
-        Ok(()) => Ok(status_of(run.report.end)),
+        Ok(()) => Ok(status_of(report.end)),
         Err(fault) => Err(fault),
     }
 }

@@ -12,6 +12,7 @@ use crate::fault::Fault;
 use crate::running::{run_code, run_code_counted};
 use command_line::Mode;
 use loaded::Loaded;
+use object_view::OwnedObject;
 use replay::{Moment, ReplayFault, replay};
 use rounds::{Counted, Gate};
 use schedule::config::Config;
@@ -70,6 +71,24 @@ pub fn watch_code<R: Threads + Wait + Sync, A: Allocator + Clone + Send + Sync, 
     let report = run_code(alloc.clone()?, code, inputs, config, mode, rt, gate)?;
     let moments = moments_of(alloc, code, inputs, config, &report)?;
     Ok(Watched { report, moments })
+}
+
+/// Like `watch_code`, of an object that is not ready yet.
+pub fn watch_object<R: Threads + Wait + Sync, A: Allocator + Clone + Send + Sync, G: Gate + Sync>(
+    alloc: A,
+    object: &OwnedObject<A>,
+    inputs: &[i64],
+    config: Config,
+    mode: Mode,
+    rt: &R,
+    gate: &G,
+) -> Result<Watched<A>, Fault>
+    ensures shows { MatchResult result (λ w. ShowsObject object.now.bytes inputs.now config false (stops_in mode G.may_stop) w.report) (IsRefusedObject object.now.bytes inputs.now config) }
+    ensures turns { mode ≡ Mode.One → IfOk result (λ w. RunsObject object.now.bytes inputs.now config FollowsTurns w.report) }
+    ensures moments { IfOk result (λ w. AreMoments object.now.bytes inputs.now config w.report w.moments.items) }
+{
+    let code = Loaded::new(alloc.clone()?, object.as_object())?;
+    watch_code(alloc, &code, inputs, config, mode, rt, gate)
 }
 
 /// A run of an object in rounds, with the moment of each of its events.
