@@ -1,10 +1,21 @@
-use Rattle.std.proofs.Common.{◌≡◌, ◌+◌, sym, ◌∙◌, arith}
+use Rattle.std.proofs.Common.{◌≡◌, ◌+◌, sym, ◌∙◌, arith, ◌≤◌}
 use Rattle.std.specs.Prelude.{Some, slice_get}
+use Rattle.lemmas.proofs.Alls.{at_all}
 use Rattle.lemmas.proofs.Lists.{taken_next}
 use Rattle.loaded.specs.Ready.{arrays_in}
 use Rattle.loaded.proofs.Tables.{told_array, all_arrays, sum_next}
 use Rattle.loaded.proofs.Short.{few_so_far}
 use Rattle.loaded.proofs.making.arrays_of.Goals as goal
+
+pub overflow_cast-len : goal.overflow_cast-len
+overflow_cast-len g c =
+    let few = at_all (λ n. (1 ≤ n) × (n ≤ 65536)) c.args.object.now.code.program.arrays c.bytes-bytes.ensures.object.1.arrays c.loop-number.number c.in-Some.len (sym c.array.ensures ∙ c.in-Some.is) in
+    omega (arith, few.1)
+
+pub overflow_cast-base : goal.overflow_cast-base
+overflow_cast-base g c =
+    let few = at_all (λ n. (1 ≤ n) × (n ≤ 65536)) c.args.object.now.code.program.arrays c.bytes-bytes.ensures.object.1.arrays c.loop-number.number c.in-Some.len (sym c.array.ensures ∙ c.in-Some.is) in
+    omega (arith, few.1)
 
 pub overflow_add-base : goal.overflow_add-base
 overflow_add-base g c =
