@@ -79,6 +79,10 @@ module _ (elements first : ℕ) (old : Kept) where
       enough = λ e. absurd (other e);
     }
 
+  pub begin_at : first ≡ number_after (4096 * 0) first
+  unfolding number_after
+  begin_at = refl
+
   pub next_at : (time number : ℕ) → number ≡ number_after (4096 * time) first → (next : ℕ) → next ≡ number_after 4096 number → next ≡ number_after (4096 * (time + 1)) first
   next_at time number at next is =
       let more : 4096 * time + 4096 ≡ 4096 * (time + 1) = omega arith in

@@ -1,11 +1,18 @@
 -- Rows, one after the other.
-use Rattle.std.proofs.Common.{◌≡◌, ℕ, suc, ◌+◌, ◌∷◌, [], ◌++◌, ℤ, Bool, true, false, List, sym, ap, ◌∙◌, subst, append-nil, add-one}
+use Rattle.std.proofs.Common.{◌≡◌, ℕ, suc, ◌+◌, ◌∷◌, [], ◌++◌, ℤ, Bool, true, false, List, refl, sym, ap, ◌∙◌, subst, append-nil, add-one}
 use Rattle.std.specs.Prelude.{if◌then◌else◌}
 use Rattle.profile_text.specs.declared.lines.MachineRow.{MachineRow}
 use Rattle.command_line.specs.declared.RunOptions.{RunOptions}
 use Rattle.command_line.specs.declared.sizes.Sizes.{Sizes}
 use Rattle.command_line.specs.Words.{has_size}
-use Rattle.commands.specs.Profiled.{AreRows, IsRow, sizes_below}
+use Rattle.semantics.specs.Graph.{Graph}
+use Rattle.driver.specs.declared.fault.Fault.{Fault}
+use Rattle.driver.specs.Compiled.{IsTooLarge}
+use Rattle.driver.specs.Refused.{IsGoodText}
+use Rattle.driver.proofs.TextObjects.{too_large_to_run}
+use Rattle.commands.specs.declared.refusal.Refusal.{Refusal}
+use Rattle.commands.specs.Profiled.{AreRows, IsChosen, IsNoRow, IsRow, config_with, sizes_below}
+use Rattle.commands.specs.Refusals.{told_as}
 
 with_row : (text : List ℕ) (inputs : List ℤ) (o : RunOptions) (ns : List ℕ) (rows : List MachineRow) (n : ℕ) (row : MachineRow) → AreRows text inputs o ns rows → IsRow text inputs o n row
     → AreRows text inputs o (ns ++ n ∷ []) (rows ++ row ∷ [])
@@ -38,3 +45,27 @@ module _ (text : List ℕ) (inputs : List ℤ) (o : RunOptions) (z : Sizes) wher
   no_row_more n rows all has tells has_none so_far same =
       subst (λ (l : List MachineRow). AreRows text inputs o (sizes_below z (n + 1)) l) (sym same)
       (subst (λ (ns : List ℕ). AreRows text inputs o ns rows) (sym (ap (λ (m : ℕ). sizes_below z m) (add-one n) ∙ absent z n has tells has_none)) so_far)
+
+-- NO ROW
+pub none_below : (z : Sizes) → sizes_below z 0 ≡ []
+unfolding sizes_below
+none_below z = refl
+
+pub none_more : (z : Sizes) (n : ℕ) (has : Bool) → has ≡ has_size z n → has ≡ false → sizes_below z n ≡ [] → sizes_below z (n + 1) ≡ []
+none_more z n has tells has_none none = ap (λ (m : ℕ). sizes_below z m) (add-one n) ∙ absent z n has tells has_none ∙ none
+
+-- a row for each number of a set that has none
+pub rows_of_none : (text : List ℕ) (inputs : List ℤ) (o : RunOptions) (z : Sizes) (rows : List MachineRow) → sizes_below z 64 ≡ [] → rows ≡ [] → AreRows text inputs o (sizes_below z 64) rows
+rows_of_none text inputs o z rows none no =
+    subst (λ (ns : List ℕ). AreRows text inputs o ns rows) (sym none) (subst (λ (l : List MachineRow). AreRows text inputs o [] l) (sym no) tt)
+
+-- a graph that has no object has no row of the first number
+pub no_row_of : (text : List ℕ) (inputs : List ℤ) (o : RunOptions) (z : Sizes) (g : Graph) → IsGoodText text g → IsChosen z → (fault : Fault) → IsTooLarge g fault → (f : Refusal) → f ≡ told_as fault → IsNoRow text inputs o z f
+no_row_of text inputs o z g good chosen fault large f told = record {
+  elements = chosen.0;
+  low = chosen.1;
+  chosen = chosen.2;
+  refused = (fault, too_large_to_run text g good inputs (config_with o chosen.0) fault large, told);
+  rows = [];
+  earlier = subst (λ (ns : List ℕ). AreRows text inputs o ns []) (sym chosen.3) tt;
+}

@@ -20,7 +20,7 @@ use Rattle.commands.specs.declared.input.LinesFault.{LinesFault}
 use Rattle.commands.specs.declared.refusal.Refusal.{Refusal}
 use Rattle.commands.specs.Input.{graph_length, integers_of, IsBadInput}
 use Rattle.driver.specs.Objects.{ShowsObjectIn}
-use Rattle.driver.specs.Refused.{IsGoodText, IsReady, IsReadyObject, IsBadText, IsRefused, IsRefusedMeaning, IsRefusedObject}
+use Rattle.driver.specs.Refused.{IsGoodText, IsReady, IsReadyObject, IsBadText, IsNoObject, IsRefused, IsRefusedMeaning, IsRefusedObject}
 use Rattle.commands.specs.Refusals.{told_as}
 use Rattle.commands.specs.Served.{Prints, Parts, config_of, IsRefusedLine, IsNoRunOf, WhyNoRun, IsMeaningOf, IsNoMeaningOf, WhyNoMeaning, IsExecOf, IsNoExecOf}
 
@@ -55,6 +55,15 @@ refused_exec bytes o inputs c same fault refused f told = inr (inr (inl (fault, 
 pub no_mode_to_exec : (bytes : List ℕ) (o : RunOptions) (inputs : List ℤ) (c : Config) → c ≡ config_of o → IsReadyObject bytes inputs c → o.mode ≡ None
     → IsNoExecOf bytes o (Inputs.Integers (record { items = inputs })) (Refusal.Start StartFault.BadConfig)
 no_mode_to_exec bytes o inputs c same ready mode = inr (inr (inr (subst (λ (d : Config). IsReadyObject bytes inputs d) same ready, mode, refl)))
+
+pub unopened_exec : (bytes : List ℕ) (o : RunOptions) (ins : Inputs) (fault : Fault) → IsNoObject bytes fault → (f : Refusal) → f ≡ told_as fault → IsNoExecOf bytes o ins f
+unopened_exec bytes o ins (Fault.Read x) none f told = absurd none
+unopened_exec bytes o ins (Fault.Check x) none f told = absurd none
+unopened_exec bytes o ins (Fault.TooManySlots b) none f told = absurd none
+unopened_exec bytes o ins (Fault.TooFar b) none f told = absurd none
+unopened_exec bytes o ins (Fault.Object x) none f told = inr (inl (x, none.0, told))
+unopened_exec bytes o ins (Fault.Start x) none f told = absurd none
+unopened_exec bytes o ins Fault.Memory none f told = inl told
 
 module _ (input text lines : List ℕ) (whole : text ++ lines ≡ input) (end : length text ≡ graph_length input) where
   abbrev parts : Parts input

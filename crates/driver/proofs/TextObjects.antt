@@ -46,6 +46,16 @@ too_large text g good (Fault.Object f) x = absurd x
 too_large text g good (Fault.Start f) x = absurd x
 too_large text g good Fault.Memory x = tt
 
+-- and then no run of it starts
+pub too_large_to_run : (text : List ℕ) (g : Graph) → IsGoodText text g → (inputs : List ℤ) (c : Config) (f : Fault) → IsTooLarge g f → IsRefused text inputs c f
+too_large_to_run text g good inputs c (Fault.Read f) x = absurd x
+too_large_to_run text g good inputs c (Fault.Check f) x = absurd x
+too_large_to_run text g good inputs c (Fault.TooManySlots b) x = (g, good, x)
+too_large_to_run text g good inputs c (Fault.TooFar b) x = (g, good, x)
+too_large_to_run text g good inputs c (Fault.Object f) x = absurd x
+too_large_to_run text g good inputs c (Fault.Start f) x = absurd x
+too_large_to_run text g good inputs c Fault.Memory x = tt
+
 -- RUNNING
 -- a run of the object that can start is a run of the text that can
 pub ready_as_text : (text : List ℕ) (g : Graph) (bytes : List ℕ) (inputs : List ℤ) (c : Config) → IsCompiled text g bytes → IsReadyObject bytes inputs c → IsReady text inputs c

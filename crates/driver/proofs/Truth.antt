@@ -167,3 +167,8 @@ is_watched mode text g bytes inputs c may_stop r moments compiled shown runs see
   listed = record { compiled = compiled; tells = tells_in mode text g bytes inputs c may_stop r compiled shown runs; shows = shown };
   seen = seen;
 }
+
+pub is_watched_in_rounds : (text : List ℕ) (g : Graph) (bytes : List ℕ) (inputs : List ℤ) (c : Config) (may_stop : Bool) (r : Report) (moments : List Moment)
+    → IsCompiled text g bytes → ShowsObject bytes inputs c false may_stop r → AreMoments bytes inputs c r moments → IsWatched Mode.Rounds text g bytes inputs c may_stop r moments
+is_watched_in_rounds text g bytes inputs c may_stop r moments compiled shown seen =
+    is_watched Mode.Rounds text g bytes inputs c may_stop r moments compiled shown (λ one. absurd (let no : ⊥ = cc in no)) seen

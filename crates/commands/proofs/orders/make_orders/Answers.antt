@@ -19,14 +19,14 @@ returns-then-count-eq0-clause-refused g c =
 
 pub returns-in-Ok-run_orders-clause-other : goal.returns-in-Ok-run_orders-clause-other
 returns-in-Ok-run_orders-clause-other g c =
-    let a = c.in-Ok-run_orders.orders.first in
-    if_some _ _ c.in-Ok-run_orders.orders.other
+    let o = c.in-Ok-run_orders.orders in
+    if_some _ _ o.reports.other
     (λ x h. record {
       text = c.in-Ok.given.text.now;
       inputs = c.in-Ok.given.integers.items;
       given = c.in-Ok.ensures;
-      first_other = subst (λ (d : Config). IsFirstOther c.in-Ok.given.text.now c.in-Ok.given.integers.items d c.args.seed c.args.count a.checked a.report x.number x.run.checked x.run.report) c.config_of-config.ensures
-          (subst (λ (zs : List ℤ). IsFirstOther c.in-Ok.given.text.now zs c.config_of-config.result c.args.seed c.args.count a.checked a.report x.number x.run.checked x.run.report) c.deref-2.ensures.value h);
+      first_other = subst (λ (d : Config). IsFirstOther c.in-Ok.given.text.now c.in-Ok.given.integers.items d c.args.seed c.args.count o.checked o.reports.first x.number o.checked x.report) c.config_of-config.ensures
+          (subst (λ (zs : List ℤ). IsFirstOther c.in-Ok.given.text.now zs c.config_of-config.result c.args.seed c.args.count o.checked o.reports.first x.number o.checked x.report) c.deref-2.ensures.value h);
     })
     c.in-Ok-run_orders.ensures.other
 

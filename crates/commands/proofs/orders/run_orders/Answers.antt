@@ -1,14 +1,25 @@
-use Rattle.std.proofs.Common.{rules}
-use Rattle.commands.proofs.Agreeing.{begin, go_on, all}
+use Rattle.std.proofs.Common.{List, ℕ, sym, ap, ◌∙◌, subst}
+use Rattle.std.proofs.lemmas.Result.{err_from_is_err_and}
+use Rattle.object_view.specs.Reading.{Opened}
+use Rattle.driver.specs.Refused.{IsCompiled}
+use Rattle.driver.proofs.TextObjects.{refused_as_text}
 use Rattle.commands.proofs.orders.run_orders.Goals as goal
 
-pub loop-number-init : goal.loop-number-init
-loop-number-init g c = begin _ _ _ _ _ _ c.in-Ok-run_order.ensures
-
-pub loop-number-preserved : goal.loop-number-preserved
-loop-number-preserved g c =
-    let h = c.are_same.ensures in
-    go_on _ _ _ _ _ _ c.loop-number.number c.loop-number.invariant _ _ c.in-Ok-run_order-2.ensures (h.0 (search rules))
-
 pub returns-clause-same : goal.returns-clause-same
-returns-clause-same g c = λ none. all _ _ _ _ _ _ c.loop-number.number c.args.count c.loop-number-test.false c.loop-number.invariant
+returns-clause-same g c =
+    let k = c.in_ok-checked.field-0 in
+    let same = ap (λ (x : Opened). x.bytes) (c.in_ok-code.ensures ∙ c.as_object.ensures) in
+    c.in_ok-reports.ensures.same c.args.text.now k.checked (subst (λ (bs : List ℕ). IsCompiled c.args.text.now k.checked bs) (sym same) c.in_ok-checked.ensures)
+
+pub returns-clause-other : goal.returns-clause-other
+returns-clause-other g c =
+    let k = c.in_ok-checked.field-0 in
+    let same = ap (λ (x : Opened). x.bytes) (c.in_ok-code.ensures ∙ c.as_object.ensures) in
+    c.in_ok-reports.ensures.other c.args.text.now k.checked (subst (λ (bs : List ℕ). IsCompiled c.args.text.now k.checked bs) (sym same) c.in_ok-checked.ensures)
+
+pub returns-in_err-reports-clause-refused : goal.returns-in_err-reports-clause-refused
+returns-in_err-reports-clause-refused g c =
+    let p = err_from_is_err_and c.from_residual-in_err-reports.result c.from_residual-in_err-reports.ensures.1 in
+    let k = c.in_ok-checked.field-0 in
+    let same = ap (λ (x : Opened). x.bytes) (c.in_ok-code.ensures ∙ c.as_object.ensures) in
+    rw (p.1, p.2) (c.in_err-reports.ensures.refused c.args.text.now k.checked (subst (λ (bs : List ℕ). IsCompiled c.args.text.now k.checked bs) (sym same) c.in_ok-checked.ensures))

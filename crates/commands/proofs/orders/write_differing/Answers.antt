@@ -10,8 +10,8 @@ pub returns-in_err-send : goal.returns-in_err-send
 returns-in_err-send g c =
     let p = err_from_is_err_and c.from_residual.result c.from_residual.ensures.1 in
     let t1 : List ℕ = line (codes "orders differ") in
-    let t2 : List ℕ = order_text 0 c.args.first.now.checked c.args.first.now.report in
-    let t3 : List ℕ = order_text c.args.number c.args.other.now.checked c.args.other.now.report in
+    let t2 : List ℕ = order_text 0 c.args.graph.now c.args.first.now in
+    let t3 : List ℕ = order_text c.args.number c.args.graph.now c.args.other.now in
     let w0 : Option (List ℕ) = g.W.Write.contents c.args.writer.now in
     let w1 : Option (List ℕ) = g.W.Write.contents c.send.new.writer in
     rw p.1 (sends_less p.0 w0 w1 (t1 ++ t2) t3 (sends_less p.0 w0 w1 t1 t2 (sends_other c.in_err-send.field-0.0 p.0 w0 w1 t1 c.in_err-send.ensures)))
@@ -20,8 +20,8 @@ pub returns-in_err-write_order : goal.returns-in_err-write_order
 returns-in_err-write_order g c =
     let p = err_from_is_err_and c.from_residual-in_err-write_order.result c.from_residual-in_err-write_order.ensures.1 in
     let t1 : List ℕ = line (codes "orders differ") in
-    let t2 : List ℕ = order_text 0 c.args.first.now.checked c.args.first.now.report in
-    let t3 : List ℕ = order_text c.args.number c.args.other.now.checked c.args.other.now.report in
+    let t2 : List ℕ = order_text 0 c.args.graph.now c.args.first.now in
+    let t3 : List ℕ = order_text c.args.number c.args.graph.now c.args.other.now in
     let w0 : Option (List ℕ) = g.W.Write.contents c.args.writer.now in
     let w1 : Option (List ℕ) = g.W.Write.contents c.send.new.writer in
     let w2 : Option (List ℕ) = g.W.Write.contents c.write_order.new.writer in
@@ -30,8 +30,8 @@ returns-in_err-write_order g c =
 pub returns : goal.returns
 returns g c =
     let t1 : List ℕ = line (codes "orders differ") in
-    let t2 : List ℕ = order_text 0 c.args.first.now.checked c.args.first.now.report in
-    let t3 : List ℕ = order_text c.args.number c.args.other.now.checked c.args.other.now.report in
+    let t2 : List ℕ = order_text 0 c.args.graph.now c.args.first.now in
+    let t3 : List ℕ = order_text c.args.number c.args.graph.now c.args.other.now in
     let w0 : Option (List ℕ) = g.W.Write.contents c.args.writer.now in
     let w1 : Option (List ℕ) = g.W.Write.contents c.send.new.writer in
     let w2 : Option (List ℕ) = g.W.Write.contents c.write_order.new.writer in

@@ -10,7 +10,7 @@ pub returns-in_err-send_same : goal.returns-in_err-send_same
 returns-in_err-send_same g c =
     let p = err_from_is_err_and c.from_residual.result c.from_residual.ensures.1 in
     let t1 : List ℕ = same_line c.args.count in
-    let t2 : List ℕ = report_text c.args.run.now.checked.arrays c.args.run.now.report in
+    let t2 : List ℕ = report_text c.args.graph.now.arrays c.args.report.now in
     let w0 : Option (List ℕ) = g.W.Write.contents c.args.writer.now in
     let w1 : Option (List ℕ) = g.W.Write.contents c.send_same.new.writer in
     rw p.1 (sends_less p.0 w0 w1 t1 t2 (sends_other c.in_err-send_same.field-0.0 p.0 w0 w1 t1 c.in_err-send_same.ensures))
@@ -18,9 +18,9 @@ returns-in_err-send_same g c =
 pub returns : goal.returns
 returns g c =
     let t1 : List ℕ = same_line c.args.count in
-    let t2 : List ℕ = report_text c.args.run.now.checked.arrays c.args.run.now.report in
+    let t2 : List ℕ = report_text c.args.graph.now.arrays c.args.report.now in
     let w0 : Option (List ℕ) = g.W.Write.contents c.args.writer.now in
     let w1 : Option (List ℕ) = g.W.Write.contents c.send_same.new.writer in
     let w2 : Option (List ℕ) = g.W.Write.contents c.write_report.new.writer in
     sends_more c.write_report.result w0 w1 w2 t1 t2 (sends_from c.send_same.result w0 w1 t1 c.in_ok-send_same.was c.send_same.ensures)
-    (sends_same c.write_report.result w1 w2 _ t2 (ap (λ (h : Graph). report_text h.arrays c.args.run.now.report) c.graph.ensures.same) c.write_report.ensures)
+    c.write_report.ensures

@@ -1,9 +1,11 @@
 use Rattle.std.proofs.Common.{◌≡◌, ◌⊎◌, false, ℤ, List, subst}
+use Rattle.std.specs.Prelude.{Some}
+use Rattle.oracle.specs.Gathering.{waves_told}
 use Rattle.oracle.specs.Waves.{AreWavesOf}
 use Rattle.driver.specs.Refused.{IsRefusedMeaning}
 use Rattle.commands.specs.declared.refusal.Refusal.{Refusal}
-use Rattle.commands.specs.Profiled.{IsNoRow}
-use Rattle.commands.proofs.Givens.{not_profiled, waves_refused, rows_refused}
+use Rattle.commands.specs.Profiled.{AreRows, IsNoRow, sizes_below}
+use Rattle.commands.proofs.Givens.{not_profiled, profile_of, rows_refused, waves_refused}
 use Rattle.commands.proofs.profiling.make_profile.Goals as goal
 
 pub returns-in-Err : goal.returns-in-Err
@@ -20,4 +22,13 @@ returns g c =
     let f = c.in-Err-rows_beside.refusal in
     rows_refused c.args.input.now _ _ c.in-Ok.ensures c.args.options.now c.args.sizes c.args.svg w.checked w.report.end w.report.counts.items c.in-Ok-waves_text.ensures.good
     (subst (λ (zs : List ℤ). AreWavesOf w.checked zs c.args.options.now.steps w.report.end w.report.counts.items) c.deref.ensures.value c.in-Ok-waves_text.ensures.waves) f
-    (subst (λ (zs : List ℤ). (f ≡ Refusal.Memory) ⊎ ((c.args.svg ≡ false) × IsNoRow c.in-Ok.given.text.now zs c.args.options.now c.args.sizes f)) c.deref-2.ensures.value c.in-Err-rows_beside.ensures)
+    (subst (λ (zs : List ℤ). (f ≡ Refusal.Memory) ⊎ ((c.args.svg ≡ false) × IsNoRow c.in-Ok.given.text.now zs c.args.options.now c.args.sizes f)) c.deref-2.ensures.value (c.in-Err-rows_beside.ensures c.in-Ok.given.text.now c.in-Ok-waves_text.ensures.good))
+
+pub returns-in-Ok-rows_beside : goal.returns-in-Ok-rows_beside
+returns-in-Ok-rows_beside g c =
+    let w = c.in-Ok-waves_text.waves in
+    let rows = c.in-Ok-rows_beside.rows.items in
+    profile_of c.args.input.now _ _ c.in-Ok.ensures c.args.options.now c.args.sizes c.args.svg w.checked w.report.end w.report.counts.items rows c.in-Ok-waves_text.ensures.good
+    (subst (λ (zs : List ℤ). AreWavesOf w.checked zs c.args.options.now.steps w.report.end w.report.counts.items) c.deref.ensures.value c.in-Ok-waves_text.ensures.waves)
+    (subst (λ (zs : List ℤ). waves_told w.checked zs c.args.options.now.steps ≡ Some (w.report.end, w.report.counts.items)) c.deref.ensures.value c.in-Ok-waves_text.ensures.told)
+    (subst (λ (zs : List ℤ). c.args.svg ≡ false → AreRows c.in-Ok.given.text.now zs c.args.options.now (sizes_below c.args.sizes 64) rows) c.deref-2.ensures.value (c.in-Ok-rows_beside.ensures c.in-Ok.given.text.now c.in-Ok-waves_text.ensures.good))

@@ -4,33 +4,47 @@ use Rattle.replay.specs.declared.moment.Moment.{Moment}
 use Rattle.command_line.specs.declared.Mode.{Mode}
 use Rattle.profile_text.specs.Picture.{greatest_from}
 use Rattle.driver.specs.declared.fault.Fault.{Fault}
-use Rattle.driver.specs.Listed.{IsWatched}
-use Rattle.driver.specs.Objects.{RunsObject}
+use Rattle.driver.specs.Listed.{AreMoments}
+use Rattle.driver.specs.Objects.{ShowsObject, RunsObject}
 use Rattle.driver.specs.Orders.{FollowsRounds}
+use Rattle.driver.specs.Refused.{IsRefused}
+use Rattle.driver.proofs.TextObjects.{refused_as_text}
+use Rattle.driver.proofs.Truth.{is_watched_in_rounds}
 use Rattle.commands.specs.declared.profiling.Held.{Held}
 use Rattle.commands.specs.Profiled.{config_with, held_in}
 use Rattle.commands.proofs.profiling.measure.Goals as goal
 
 pub returns : goal.returns
-returns g c =
-    let run = c.in-Ok.counted.watched.run in
+returns g c = λ text gr compiled.
+    let report = c.in-Ok.counted.watched.report in
     let moments = c.in-Ok.counted.watched.moments.items in
-    let bytes = run.compiled.object.items in
+    let bytes = c.args.code.now.bytes in
     let rounds = c.in-Ok.counted.rounds in
+    let config = config_with c.args.options.now c.args.elements in
     record {
-      graph = run.compiled.checked;
-      bytes = run.compiled.object.items;
-      report = run.report;
+      graph = gr;
+      bytes = bytes;
+      report = report;
       moments = moments;
-      watched = subst (λ (d : Config). IsWatched Mode.Rounds c.args.text.now run.compiled.checked run.compiled.object.items c.args.inputs.now d _ run.report moments) c.config_with-config.ensures c.in-Ok.ensures.watched;
+      watched = is_watched_in_rounds text gr bytes c.args.inputs.now config _ report moments compiled
+          (subst (λ (d : Config). ShowsObject bytes c.args.inputs.now d false _ report) c.config_with-config.ensures c.in-Ok.ensures.shows)
+          (subst (λ (d : Config). AreMoments bytes c.args.inputs.now d report moments) c.config_with-config.ensures c.in-Ok.ensures.moments);
       kept = c.wants_memory.ensures c.if-wants_memory.false;
       number = c.row_of.ensures.number;
-      rounds = subst (λ (n : ℕ). RunsObject bytes c.args.inputs.now (config_with c.args.options.now c.args.elements) (FollowsRounds false n) run.report) (sym c.row_of.ensures.rounds)
-          (subst (λ (d : Config). RunsObject bytes c.args.inputs.now d (FollowsRounds false rounds) run.report) c.config_with-config.ensures c.in-Ok.ensures.rounds);
+      rounds = subst (λ (n : ℕ). RunsObject bytes c.args.inputs.now config (FollowsRounds false n) report) (sym c.row_of.ensures.rounds)
+          (subst (λ (d : Config). RunsObject bytes c.args.inputs.now d (FollowsRounds false rounds) report) c.config_with-config.ensures c.in-Ok.ensures.rounds);
       tokens = subst (λ (l : List Moment). c.row_of.result.tokens ≡ greatest_from (length c.args.inputs.now + 1) (map (held_in Held.Tokens) l)) c.deref.ensures.value c.row_of.ensures.tokens;
       slots = subst (λ (l : List Moment). c.row_of.result.slots ≡ greatest_from 0 (map (held_in Held.Slots) l)) c.deref.ensures.value c.row_of.ensures.slots;
       frames = subst (λ (l : List Moment). c.row_of.result.frames ≡ greatest_from 1 (map (held_in Held.Frames) l)) c.deref.ensures.value c.row_of.ensures.frames;
     }
 
 pub returns-then-wants_memory : goal.returns-then-wants_memory
-returns-then-wants_memory g c = (Fault.Memory, tt, refl)
+returns-then-wants_memory g c = λ text gr compiled. (Fault.Memory, tt, refl)
+
+pub returns-in-Err : goal.returns-in-Err
+returns-in-Err g c = λ text gr compiled. (
+  c.in-Err.fault,
+  subst (λ (d : Config). IsRefused text c.args.inputs.now d c.in-Err.fault) c.config_with-config.ensures
+      (refused_as_text text gr c.args.code.now.bytes c.args.inputs.now c.config_with-config.result compiled c.in-Err.fault c.in-Err.ensures.shows),
+  c.from.ensures,
+)

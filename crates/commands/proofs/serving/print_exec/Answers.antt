@@ -1,20 +1,31 @@
-use Rattle.std.proofs.Common.{inl, inr, ap, refl, ◌∙◌}
+use Rattle.std.proofs.Common.{◌≡◌, inl, inr, ap, sym, subst, refl, ◌∙◌, None, ℕ, List}
+use Rattle.object_view.specs.Checks.{first_refusal}
 use Rattle.object_view.specs.Reading.{Opened}
 use Rattle.report_text.specs.ReportText.{object_report_text}
-use Rattle.commands.specs.declared.refusal.Refusal.{Refusal}
+use Rattle.commands.specs.Served.{IsExecOf, IsNoExecOf}
 use Rattle.commands.specs.Status.{exit_status}
-use Rattle.commands.proofs.Served.{printed, stopped}
+use Rattle.commands.proofs.Served.{printed, stopped, unopened_exec}
 use Rattle.commands.proofs.serving.print_exec.Goals as goal
+
+pub exec_inputs-requires-clause-object : goal.exec_inputs-requires-clause-object
+exec_inputs-requires-clause-object g c = ap first_refusal c.in-Ok.ensures.bytes ∙ c.in-Ok.ensures.opened.1.unrefused
 
 pub returns-in-Ok-write_object_report : goal.returns-in-Ok-write_object_report
 returns-in-Ok-write_object_report g c =
     let r = c.in-Ok-exec_inputs.report in
-    inl (r, c.in-Ok-exec_inputs.ensures, printed _ _ _ _ _ _ _ (exit_status r.end) (ap (λ (o : Opened). object_report_text o.code.program.arrays r) c.in-Ok.ensures.opened) (c.status_of.ensures ∙ ap (λ x. exit_status x.end) c.report.view_is) c.in-Ok-write_object_report.ensures)
+    let is = subst (λ (bs : List ℕ). IsExecOf bs c.args.options.now c.args.inputs.now r) c.in-Ok.ensures.bytes c.in-Ok-exec_inputs.ensures in
+    inl (r, is, printed _ _ _ _ _ _ _ (exit_status r.end) (ap (λ (o : Opened). object_report_text o.code.program.arrays r) (c.object.ensures ∙ c.in-Ok.ensures.opened.0)) (c.status_of.ensures ∙ ap (λ x. exit_status x.end) c.report.view_is) c.in-Ok-write_object_report.ensures)
 
 pub returns-in-Ok-exec_inputs : goal.returns-in-Ok-exec_inputs
 returns-in-Ok-exec_inputs g c =
     let r = c.in-Ok-exec_inputs.report in
-    inl (r, c.in-Ok-exec_inputs.ensures, stopped _ _ _ _ _ _ (exit_status r.end) (ap (λ (o : Opened). object_report_text o.code.program.arrays r) c.in-Ok.ensures.opened) c.in-Err-write_object_report.ensures)
+    let is = subst (λ (bs : List ℕ). IsExecOf bs c.args.options.now c.args.inputs.now r) c.in-Ok.ensures.bytes c.in-Ok-exec_inputs.ensures in
+    inl (r, is, stopped _ _ _ _ _ _ (exit_status r.end) (ap (λ (o : Opened). object_report_text o.code.program.arrays r) (c.object.ensures ∙ c.in-Ok.ensures.opened.0)) c.in-Err-write_object_report.ensures)
+
+pub returns-in-Err-exec_inputs : goal.returns-in-Err-exec_inputs
+returns-in-Err-exec_inputs g c =
+    let f = c.in-Err-exec_inputs.refusal in
+    inr (f, subst (λ (bs : List ℕ). IsNoExecOf bs c.args.options.now c.args.inputs.now f) c.in-Ok.ensures.bytes c.in-Err-exec_inputs.ensures, c.refuse-in-Err-exec_inputs.ensures)
 
 pub returns-in-Err : goal.returns-in-Err
-returns-in-Err g c = inr (Refusal.Object c.in-Err.fault, inr (inl (c.in-Err.fault, c.in-Err.ensures.refused, refl)), c.refuse.ensures)
+returns-in-Err g c = inr (c.from.result, unopened_exec c.args.bytes.now c.args.options.now c.args.inputs.now c.in-Err.fault c.in-Err.ensures.opened c.from.result c.from.ensures, c.refuse.ensures)

@@ -12,13 +12,13 @@ returns-in_default g c =
     mode_refused c.args.input.now _ _ c.in-Ok.ensures c.args.options.now c.config_of-config.result c.config_of-config.ensures c.in_default.is c.option_refusal.result
     (subst (λ (zs : List ℤ). IsRefusedOption c.in-Ok.given.text.now zs c.config_of-config.result c.option_refusal.result) c.deref.ensures.value c.option_refusal.ensures)
 
-pub returns-in-Ok-run_watched : goal.returns-in-Ok-run_watched
-returns-in-Ok-run_watched g c =
-    let w = c.in-Ok-run_watched.watched in
-    trace_of c.args.input.now _ _ c.in-Ok.ensures c.args.options.now w.run.compiled.checked w.run.compiled.object.items w.run.report w.moments.items c.in-Some.mode c.in-Some.is c.config_of-config.result c.config_of-config.ensures g.G.Gate.may_stop c.requires
-    (subst (λ (zs : List ℤ). IsWatched c.in-Some.mode c.in-Ok.given.text.now w.run.compiled.checked w.run.compiled.object.items zs c.config_of-config.result g.G.Gate.may_stop w.run.report w.moments.items) c.deref-2.ensures.value c.in-Ok-run_watched.ensures)
+pub returns-in-Ok-watch_text : goal.returns-in-Ok-watch_text
+returns-in-Ok-watch_text g c =
+    let w = c.in-Ok-watch_text.traced in
+    trace_of c.args.input.now _ _ c.in-Ok.ensures c.args.options.now w.compiled.checked w.compiled.object.bytes w.watched.report w.watched.moments.items c.in-Some.mode c.in-Some.is c.config_of-config.result c.config_of-config.ensures g.G.Gate.may_stop c.requires
+    (subst (λ (zs : List ℤ). IsWatched c.in-Some.mode c.in-Ok.given.text.now w.compiled.checked w.compiled.object.bytes zs c.config_of-config.result g.G.Gate.may_stop w.watched.report w.watched.moments.items) c.deref-2.ensures.value c.in-Ok-watch_text.ensures)
 
 pub returns : goal.returns
 returns g c =
-    run_refused c.args.input.now _ _ c.in-Ok.ensures c.args.options.now c.config_of-config.result c.config_of-config.ensures c.in-Err-run_watched.fault
-    (subst (λ (zs : List ℤ). IsRefused c.in-Ok.given.text.now zs c.config_of-config.result c.in-Err-run_watched.fault) c.deref-2.ensures.value c.in-Err-run_watched.ensures) c.from.result c.from.ensures
+    run_refused c.args.input.now _ _ c.in-Ok.ensures c.args.options.now c.config_of-config.result c.config_of-config.ensures c.in-Err-watch_text.fault
+    (subst (λ (zs : List ℤ). IsRefused c.in-Ok.given.text.now zs c.config_of-config.result c.in-Err-watch_text.fault) c.deref-2.ensures.value c.in-Err-watch_text.ensures) c.from.result c.from.ensures
