@@ -399,7 +399,7 @@ fn follows_the_list(rt: HostRuntime) -> Result<(), Fail> {
         let picks = picks(rt.alloc(), 1, 0, 1, seed, 1)?;
         let report = emulate_object_picks(
             rt.alloc(),
-            &compiled.object,
+            compiled.object.bytes(),
             [2, 3].as_slice(),
             config(1, 256),
             &picks,

@@ -25,7 +25,7 @@ pub fn bases(alloc: Global) -> Result<Vec<Vec<u64>>, AllocError> {
     let mut bases = Vec::new(alloc);
     for text in TEXTS {
         let words = match compile(alloc, text) {
-            Ok(compiled) => words_of(alloc, &compiled.object)?,
+            Ok(compiled) => words_of(alloc, compiled.object.bytes())?,
             Err(_fault) => Vec::new(alloc),
         };
         bases.push(words)?;
