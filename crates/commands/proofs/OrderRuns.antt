@@ -42,10 +42,10 @@ pub order_of : (text : List ℕ) (g : Graph) (bytes : List ℕ) (inputs : List �
 order_of text g bytes inputs c seed order first old new halt r compiled starts is drawn told shows =
     let picks : List (ℕ × ℕ) = picks_from c.elements drawn.count first in
     let began = λ (ins : List ℤ) (b : Began ins old.state old.events).
-        subst (λ (l : Events). Began ins new.state l) (sym drawn.events) (began_plays ins true picks old.state new.state halt old.events drawn.made drawn.plays b) in
+    subst (λ (l : Events). Began ins new.state l) (sym drawn.events) (began_plays ins true picks old.state new.state halt old.events drawn.made drawn.plays b) in
     let halts = halts_as true picks old.state new.state halt drawn.made drawn.plays in
     let shown = shows_object bytes inputs c old starts true false r
-        (λ ins b. subst (λ (z : Setting). Shows z.program (size z) ins z.steps true false r) (setting_plays true picks old.state new.state halt drawn.made drawn.plays) (shows ins (began ins b) halts)) in
+    (λ ins b. subst (λ (z : Setting). Shows z.program (size z) ins z.steps true false r) (setting_plays true picks old.state new.state halt drawn.made drawn.plays) (shows ins (began ins b) halts)) in
     let list = follows_list bytes inputs c old starts picks r (new, halt, drawn.made, drawn.plays, drawn.events, told) in
     record {
       count = drawn.count;

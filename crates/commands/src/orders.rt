@@ -100,7 +100,12 @@ fn run_order<A: Allocator + Clone>(
 {
     let mut store = None;
     let mut machine = start_code(alloc.clone()?, &mut store, code, inputs, config)?;
-    let halt = play_drawn(alloc, &mut machine, config.elements, first_number(seed, order))?;
+    let halt = play_drawn(
+        alloc,
+        &mut machine,
+        config.elements,
+        first_number(seed, order),
+    )?;
     Ok(machine.report(halt))
 }
 

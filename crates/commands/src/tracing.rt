@@ -99,15 +99,7 @@ fn write_trace<'a, A: Allocator, W: Write>(
     let events = events_from(&report.events, first);
     let moments = moments_from(moments, first);
     match format {
-        Format::Lines => write_lines(
-            writer,
-            object,
-            first as u64,
-            events,
-            moments,
-            graph,
-            report,
-        ),
+        Format::Lines => write_lines(writer, object, first as u64, events, moments, graph, report),
         Format::Chrome => write_chrome(
             writer,
             object,

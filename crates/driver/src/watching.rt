@@ -100,11 +100,7 @@ pub struct WatchedRounds<A: Allocator> {
 }
 
 /// Runs the object in rounds, lists the events, and says what each of them did, and how many rounds there were.
-pub fn watch_rounds<
-    R: Threads + Wait + Sync,
-    A: Allocator + Clone + Send + Sync,
-    G: Gate + Sync,
->(
+pub fn watch_rounds<R: Threads + Wait + Sync, A: Allocator + Clone + Send + Sync, G: Gate + Sync>(
     alloc: A,
     code: &Loaded<'_, A>,
     inputs: &[i64],

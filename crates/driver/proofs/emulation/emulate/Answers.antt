@@ -11,12 +11,11 @@ use Rattle.driver.proofs.emulation.emulate.Goals as goal
 pub returns : goal.returns
 returns g c =
     let k = c.in_ok-compiled.compiled in
-    let same = c.bytes-bytes.ensures in
-    (
+    let same = c.bytes-bytes.ensures in (
       k.checked,
       tells_in c.args.mode c.args.text.now k.checked k.object.bytes c.args.inputs.now c.args.config g.G.Gate.may_stop c.in_ok-report.report c.in_ok-compiled.ensures
-      (subst (λ (bs : List ℕ). ShowsObject bs c.args.inputs.now c.args.config false (stops_in c.args.mode g.G.Gate.may_stop) c.in_ok-report.report) same c.in_ok-report.ensures.shows)
-      (λ one. subst (λ (bs : List ℕ). RunsObject bs c.args.inputs.now c.args.config FollowsTurns c.in_ok-report.report) same (c.in_ok-report.ensures.turns one)),
+          (subst (λ (bs : List ℕ). ShowsObject bs c.args.inputs.now c.args.config false (stops_in c.args.mode g.G.Gate.may_stop) c.in_ok-report.report) same c.in_ok-report.ensures.shows)
+          (λ one. subst (λ (bs : List ℕ). RunsObject bs c.args.inputs.now c.args.config FollowsTurns c.in_ok-report.report) same (c.in_ok-report.ensures.turns one)),
     )
 
 pub returns-in_err-report : goal.returns-in_err-report

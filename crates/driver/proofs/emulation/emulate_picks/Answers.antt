@@ -10,12 +10,11 @@ use Rattle.driver.proofs.emulation.emulate_picks.Goals as goal
 pub returns : goal.returns
 returns g c =
     let k = c.in_ok-compiled.compiled in
-    let same = c.bytes-bytes.ensures in
-    (
+    let same = c.bytes-bytes.ensures in (
       k.checked,
       tells_listed c.args.text.now k.checked k.object.bytes c.args.inputs.now c.args.config c.args.picks.now c.in_ok-report.report c.in_ok-compiled.ensures
-      (subst (λ (bs : List ℕ). ShowsObject bs c.args.inputs.now c.args.config true false c.in_ok-report.report) same c.in_ok-report.ensures.shows)
-      (subst (λ (bs : List ℕ). RunsObject bs c.args.inputs.now c.args.config (FollowsList c.args.picks.now) c.in_ok-report.report) same c.in_ok-report.ensures.list),
+          (subst (λ (bs : List ℕ). ShowsObject bs c.args.inputs.now c.args.config true false c.in_ok-report.report) same c.in_ok-report.ensures.shows)
+          (subst (λ (bs : List ℕ). RunsObject bs c.args.inputs.now c.args.config (FollowsList c.args.picks.now) c.in_ok-report.report) same c.in_ok-report.ensures.list),
     )
 
 pub returns-in_err-report : goal.returns-in_err-report
