@@ -3,11 +3,6 @@ use Rattle.semantics.specs.Graph.{Graph}
 use Rattle.driver.proofs.TextObjects.{object_bytes, lawful_as}
 use Rattle.driver.proofs.compiling.compile_graph.Goals as goal
 
-pub of-object-requires : goal.of-object-requires
-of-object-requires g c =
-    let number = c.version_of.ensures ∙ ap (λ (x : Graph). x.version) c.graph.ensures.same in
-    lawful_as c.args.checked.now c.in_ok-code.code c.in_ok-code.ensures _ number
-
 pub returns : goal.returns
 returns g c =
     let number = c.version_of.ensures ∙ ap (λ (x : Graph). x.version) c.graph.ensures.same in
