@@ -8,3 +8,4 @@ pub mod Stepping
 pub mod Opening
 pub mod Quotients
 pub mod Classes
+pub mod Meetings

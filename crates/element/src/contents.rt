@@ -15,6 +15,7 @@ use arrayvec::ArrayVec;
 use frame_manager::Manager;
 use frame_store::bank::BankMut;
 use istructure::Cells;
+use packed::token::{Input, PackedToken};
 use std::alloc::{AllocError, Allocator};
 use tags::token::{Cont, To, Token};
 use tags::value::Value;
@@ -146,7 +147,7 @@ impl<'m, A: Allocator> Contents<'m, A> {
         &mut self,
         code: &C,
         at: usize,
-        token: &Token,
+        token: &PackedToken,
         sent: &mut Vec<Token, A>,
     ) -> Stepped
     where
@@ -154,11 +155,11 @@ impl<'m, A: Allocator> Contents<'m, A> {
         requires { CanAct (C.program code.now) (C.width code.now) (held_in self.old) at token.now }
         ensures { ActsAs (C.program code.now) (held_in self.old) at token.now sent.old.items result (held_in self.new) sent.new.items }
     {
-        match token.to {
-            To::Instr { frame, ip, port } => {
+        match token.input() {
+            Some(Input { frame, ip, port }) => {
                 self.at_instruction(code, at, token, Seat { frame, ip }, port, sent)
             }
-            _ => self.act_anywhere(code, at, token, sent),
+            None => self.act_anywhere(code, at, token, sent),
         }
     }
 
@@ -168,7 +169,7 @@ impl<'m, A: Allocator> Contents<'m, A> {
         &mut self,
         code: &C,
         at: usize,
-        token: &Token,
+        token: &PackedToken,
         sent: &mut Vec<Token, A>,
     ) -> Stepped
     where
@@ -176,16 +177,17 @@ impl<'m, A: Allocator> Contents<'m, A> {
         requires { CanAct (C.program code.now) (C.width code.now) (held_in self.old) at token.now }
         ensures { ActsAs (C.program code.now) (held_in self.old) at token.now sent.old.items result (held_in self.new) sent.new.items }
     {
-        let to = token.to;
+        let unpacked = token.unpack();
+        let to = unpacked.to;
         match to {
             To::Instr { frame, ip, port } => {
                 self.read_again(code, at, token, Seat { frame, ip }, port, sent)
             }
-            To::Fetch { cell } => self.at_fetch(at, *token, cell, sent),
-            To::Store { cell, value } => self.at_store(at, *token, cell, &value, sent),
-            To::Manager => self.at_manager(at, *token, sent),
-            To::Release { frame } => self.at_release(at, *token, frame, sent),
-            To::Host { port } => self.at_host(at, *token, port),
+            To::Fetch { cell } => self.at_fetch(at, unpacked, cell, sent),
+            To::Store { cell, value } => self.at_store(at, unpacked, cell, &value, sent),
+            To::Manager => self.at_manager(at, unpacked, sent),
+            To::Release { frame } => self.at_release(at, unpacked, frame, sent),
+            To::Host { port } => self.at_host(at, unpacked, port),
         }
     }
 
@@ -216,7 +218,7 @@ impl<'m, A: Allocator> Contents<'m, A> {
             return Stepped::Idle;
         }
         let at = among(pick, waiting);
-        let token = self.queue.get(at);
+        let token = self.queue.packed(at);
         self.act(code, at, &token, sent)
     }
 }

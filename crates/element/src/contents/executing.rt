@@ -20,11 +20,13 @@ use super::Contents;
 use crate::firing::{Meeting, NONE, Outcome, Seat, fire, fire_two, meet, pass_one, pass_two};
 use crate::instructions::{Instruction, Instructions};
 use crate::lane::Stepped;
+use frame_store::slot::Slot;
+use packed::token::PackedToken;
+use packed::word::PackedWord;
 use semantics::program::Op;
 use std::alloc::Allocator;
 use tags::slot::SlotState;
-use tags::token::{FrameId, Port, Token, Word};
-use tags::value::Value;
+use tags::token::{FrameId, Port, Token};
 
 impl<'m, A: Allocator> Contents<'m, A> {
     #[inline(always)]
@@ -32,7 +34,7 @@ impl<'m, A: Allocator> Contents<'m, A> {
         &mut self,
         code: &C,
         at: usize,
-        token: &Token,
+        token: &PackedToken,
         seat: Seat,
         port: Port,
         sent: &mut Vec<Token, A>,
@@ -67,7 +69,7 @@ impl<'m, A: Allocator> Contents<'m, A> {
         &mut self,
         code: &C,
         at: usize,
-        token: &Token,
+        token: &PackedToken,
         seat: Seat,
         port: Port,
         sent: &mut Vec<Token, A>,
@@ -87,7 +89,7 @@ impl<'m, A: Allocator> Contents<'m, A> {
         &mut self,
         code: &C,
         at: usize,
-        token: &Token,
+        token: &PackedToken,
         seat: Seat,
         instr: Instruction,
         port: Port,
@@ -101,7 +103,8 @@ impl<'m, A: Allocator> Contents<'m, A> {
     {
         let slot = self.slot_of(seat.frame, &instr);
         let mut made = NONE;
-        match fire(code, seat, &instr, slot, port, token.word, &mut made) {
+        let word = token.word().unpack();
+        match fire(code, seat, &instr, slot, port, word, &mut made) {
             Outcome::Excluded { rule } => Stepped::Stuck { rule },
             Outcome::Becomes { slot } => {
                 if self.make_room(4, sent).is_err() {
@@ -115,15 +118,14 @@ impl<'m, A: Allocator> Contents<'m, A> {
         }
     }
 
-    // An instruction with two inputs: the first token waits in the slot for the second. Two arms do the same where what was
-    // asked lets each be compiled shorter: an integer is packed without a look at the other words, and on either port it is
-    // known which of the words is the token's.
+    // An instruction with two inputs: the first token waits in the slot for the second, as it lies. Two arms do the same where
+    // what was asked lets each be compiled shorter: on either port it is known which of the words is the token's.
     #[inline(always)]
     fn at_pair<C: Instructions>(
         &mut self,
         code: &C,
         at: usize,
-        token: &Token,
+        token: &PackedToken,
         seat: Seat,
         instr: &Instruction,
         port: Port,
@@ -136,12 +138,9 @@ impl<'m, A: Allocator> Contents<'m, A> {
         requires pair { IsPair instr.now.op }
         ensures { ActsAs (C.program code.now) (held_in self.old) at token.now sent.old.items result (held_in self.new) sent.new.items }
     {
-        let held = self.slot_state(seat.frame, instr.slot);
-        match meet(held, port, token.word) {
-            Meeting::Waits { state } => match token.word {
-                Word::Val(Value::Int(_)) => self.wait(at, seat.frame, instr.slot, state),
-                _ => self.wait(at, seat.frame, instr.slot, state),
-            },
+        let held = self.held_slot(seat.frame, instr.slot);
+        match meet(&held, seat, port, token) {
+            Meeting::Waits { slot } => self.wait(at, seat.frame, instr.slot, slot),
             Meeting::Apart => Stepped::Stuck { rule: 3 },
             Meeting::Both { left, right } => match port {
                 Port::Left => self.both(code, at, seat, instr, left, right, sent),
@@ -157,7 +156,7 @@ impl<'m, A: Allocator> Contents<'m, A> {
         &mut self,
         code: &C,
         at: usize,
-        token: &Token,
+        token: &PackedToken,
         seat: Seat,
         instr: &Instruction,
         port: Port,
@@ -170,7 +169,7 @@ impl<'m, A: Allocator> Contents<'m, A> {
         requires lone { IsLone instr.now.op }
         ensures { ActsAs (C.program code.now) (held_in self.old) at token.now sent.old.items result (held_in self.new) sent.new.items }
     {
-        match pass_one(instr, token.word) {
+        match pass_one(instr, &token.word()) {
             Some(passed) => match port {
                 Port::Right => Stepped::Stuck { rule: 2 },
                 Port::Left => {
@@ -187,7 +186,7 @@ impl<'m, A: Allocator> Contents<'m, A> {
         &mut self,
         code: &C,
         at: usize,
-        token: &Token,
+        token: &PackedToken,
         seat: Seat,
         instr: &Instruction,
         port: Port,
@@ -202,23 +201,23 @@ impl<'m, A: Allocator> Contents<'m, A> {
     {
         match port {
             Port::Right => Stepped::Stuck { rule: 2 },
-            Port::Left => self.pass(at, seat, None, &token.word, instr.first, instr.second),
+            Port::Left => self.pass(at, seat, None, &token.word(), instr.first, instr.second),
         }
     }
 
     // The slot changes, the token is taken out, and nothing is made.
     #[inline(always)]
-    fn wait(&mut self, at: usize, frame: FrameId, slot: u32, state: SlotState) -> Stepped
+    fn wait(&mut self, at: usize, frame: FrameId, slot: u32, held: Slot) -> Stepped
         requires some { 0 < self.old.elements }
         requires bank { IsBank self.old.bank }
         requires frame { frame < self.old.elements * self.old.bank.frames }
         requires slot { slot < self.old.bank.width }
         requires there { at < length self.old.queue.items }
         requires few { self.old.made < 2 ^ 63 }
-        ensures held { held_in self.new ≡ taken (with_part (held_in self.old) (with_state (part_of self.old) (slot_place (shape_of self.old) frame slot) state)) at }
+        ensures held { held_in self.new ≡ taken (with_part (held_in self.old) (with_state (part_of self.old) (slot_place (shape_of self.old) frame slot) held)) at }
         ensures did { result ≡ Did }
     {
-        self.set_slot(frame, slot, state);
+        self.put_slot(frame, slot, held);
         self.take(at);
         Stepped::Did
     }
@@ -231,7 +230,7 @@ impl<'m, A: Allocator> Contents<'m, A> {
         at: usize,
         seat: Seat,
         cleared: Option<u32>,
-        word: &Word,
+        word: &PackedWord,
         first: u32,
         second: u32,
     ) -> Stepped
@@ -249,7 +248,7 @@ impl<'m, A: Allocator> Contents<'m, A> {
             return Stepped::Memory;
         }
         if let Some(slot) = cleared {
-            self.set_slot(seat.frame, slot, SlotState::Empty);
+            self.put_slot(seat.frame, slot, Slot::empty());
         }
         self.take(at);
         self.send_near(seat, word, first);
@@ -265,8 +264,8 @@ impl<'m, A: Allocator> Contents<'m, A> {
         at: usize,
         seat: Seat,
         instr: &Instruction,
-        left: Word,
-        right: Word,
+        left: PackedWord,
+        right: PackedWord,
         sent: &mut Vec<Token, A>,
     ) -> Stepped
         requires some { 0 < self.old.elements }
@@ -302,8 +301,8 @@ impl<'m, A: Allocator> Contents<'m, A> {
         at: usize,
         seat: Seat,
         instr: Instruction,
-        left: Word,
-        right: Word,
+        left: PackedWord,
+        right: PackedWord,
         sent: &mut Vec<Token, A>,
     ) -> Stepped
         requires some { 0 < self.old.elements }
@@ -317,7 +316,7 @@ impl<'m, A: Allocator> Contents<'m, A> {
         ensures { FiresAs (fire_two (C.program code.now) (seat_of seat) (instr_of instr) instr.op left right) (with_state (part_of self.old) (slot_place (shape_of self.old) seat.frame instr.slot) Empty) (held_in self.old) at sent.old.items result (held_in self.new) sent.new.items }
     {
         let mut made = NONE;
-        if !fire_two(code, seat, &instr, left, right, &mut made) {
+        if !fire_two(code, seat, &instr, left.unpack(), right.unpack(), &mut made) {
             return Stepped::Stuck { rule: 4 };
         }
         if self.make_room(4, sent).is_err() {

@@ -10,6 +10,8 @@ use super::Contents;
 use crate::dealt::element_for;
 use crate::firing::{Made, SIGNAL, Seat};
 use crate::instructions::dest_in;
+use packed::token::PackedToken;
+use packed::word::PackedWord;
 use std::alloc::{AllocError, Allocator};
 use tags::token::{To, Token, Word};
 
@@ -111,7 +113,7 @@ impl<'m, A: Allocator> Contents<'m, A> {
 
     // The same, where the frame lies on this element: so does the destination, and no token goes elsewhere.
     #[inline(always)]
-    pub(super) fn send_near(&mut self, seat: Seat, word: &Word, half: u32)
+    pub(super) fn send_near(&mut self, seat: Seat, word: &PackedWord, half: u32)
         requires near { seat.ip < 2 ^ 30 }
         requires own { seat.frame % self.old.elements ≡ self.old.element }
         requires room { length self.old.queue.items < self.old.queue.room }
@@ -121,12 +123,9 @@ impl<'m, A: Allocator> Contents<'m, A> {
         ensures capacity { self.new.queue.room ≡ self.old.queue.room }
     {
         if let Some(dest) = dest_in(half) {
-            let to = To::Instr {
-                frame: seat.frame,
-                ip: seat.ip + dest.ahead,
-                port: dest.port,
-            };
-            self.queue.push_back_reserved(Token { to, word: *word });
+            let ip = seat.ip + dest.ahead;
+            let token = PackedToken::to_instr(seat.frame, ip, dest.port, word);
+            self.queue.push_packed(token);
         }
     }
 

@@ -12,6 +12,7 @@ ghost use Rattle.element.specs.Changed.{with_state, with_state_in, state_in};
 use super::Contents;
 use crate::dealt::place_of;
 use crate::instructions::Instruction;
+use frame_store::slot::Slot;
 use std::alloc::Allocator;
 use tags::slot::SlotState;
 use tags::token::FrameId;
@@ -36,6 +37,32 @@ impl<'m, A: Allocator> Contents<'m, A> {
         ensures { result ≡ slice_index_or (part_of self.now).states (slot_place (shape_of self.now) frame slot) Empty }
     {
         self.bank.state(self.own_frame(frame), slot as usize)
+    }
+
+    // The same slot, as it lies there.
+    #[inline(always)]
+    pub(super) fn held_slot(&self, frame: FrameId, slot: u32) -> Slot
+        requires some { 0 < self.now.elements }
+        requires bank { IsBank self.now.bank }
+        requires frame { frame < self.now.elements * self.now.bank.frames }
+        requires slot { slot < self.now.bank.width }
+        ensures { result ≡ slice_index_or (part_of self.now).states (slot_place (shape_of self.now) frame slot) Empty }
+    {
+        self.bank.slot(self.own_frame(frame), slot as usize)
+    }
+
+    // Puts a slot in the place of one.
+    #[inline(always)]
+    pub(super) fn put_slot(&mut self, frame: FrameId, slot: u32, held: Slot)
+        requires some { 0 < self.old.elements }
+        requires bank { IsBank self.old.bank }
+        requires frame { frame < self.old.elements * self.old.bank.frames }
+        requires slot { slot < self.old.bank.width }
+        ensures held { held_in self.new ≡ with_part (held_in self.old) (with_state (part_of self.old) (slot_place (shape_of self.old) frame slot) held) }
+        ensures queue { self.new.queue ≡ self.old.queue }
+    {
+        let own = self.own_frame(frame);
+        self.bank.put(own, slot as usize, held);
     }
 
     #[inline(always)]
