@@ -8,4 +8,3 @@ pub mod Stepping
 pub mod Opening
 pub mod Quotients
 pub mod Classes
-pub mod Meetings

@@ -15,7 +15,7 @@ use arrayvec::ArrayVec;
 use frame_manager::Manager;
 use frame_store::bank::BankMut;
 use istructure::Cells;
-use packed::token::{Input, PackedToken};
+use packed::token::PackedToken;
 use std::alloc::{AllocError, Allocator};
 use tags::token::{Cont, To, Token};
 use tags::value::Value;
@@ -147,29 +147,44 @@ impl<'m, A: Allocator> Contents<'m, A> {
         &mut self,
         code: &C,
         at: usize,
-        token: &PackedToken,
+        token: PackedToken,
         sent: &mut Vec<Token, A>,
     ) -> Stepped
     where
         A: Clone,
-        requires { CanAct (C.program code.now) (C.width code.now) (held_in self.old) at token.now }
-        ensures { ActsAs (C.program code.now) (held_in self.old) at token.now sent.old.items result (held_in self.new) sent.new.items }
+        requires { CanAct (C.program code.now) (C.width code.now) (held_in self.old) at token }
+        ensures { ActsAs (C.program code.now) (held_in self.old) at token sent.old.items result (held_in self.new) sent.new.items }
     {
-        match token.input() {
-            Some(Input { frame, ip, port }) => {
-                self.at_instruction(code, at, token, Seat { frame, ip }, port, sent)
-            }
-            None => self.act_anywhere(code, at, token, sent),
+        if self.acts_at_once(code, at, token) {
+            return Stepped::Did;
         }
+        self.act_unpacked(code, at, token, sent)
     }
 
-    // The same, apart from the short way to an instruction.
+    // The same, of the token unpacked.
     #[inline(never)]
+    fn act_unpacked<C: Instructions>(
+        &mut self,
+        code: &C,
+        at: usize,
+        token: PackedToken,
+        sent: &mut Vec<Token, A>,
+    ) -> Stepped
+    where
+        A: Clone,
+        requires { CanAct (C.program code.now) (C.width code.now) (held_in self.old) at token }
+        ensures { ActsAs (C.program code.now) (held_in self.old) at token sent.old.items result (held_in self.new) sent.new.items }
+    {
+        let token = token.unpack();
+        self.act_anywhere(code, at, &token, sent)
+    }
+
+    // What any token does.
     fn act_anywhere<C: Instructions>(
         &mut self,
         code: &C,
         at: usize,
-        token: &PackedToken,
+        token: &Token,
         sent: &mut Vec<Token, A>,
     ) -> Stepped
     where
@@ -177,17 +192,16 @@ impl<'m, A: Allocator> Contents<'m, A> {
         requires { CanAct (C.program code.now) (C.width code.now) (held_in self.old) at token.now }
         ensures { ActsAs (C.program code.now) (held_in self.old) at token.now sent.old.items result (held_in self.new) sent.new.items }
     {
-        let unpacked = token.unpack();
-        let to = unpacked.to;
+        let to = token.to;
         match to {
             To::Instr { frame, ip, port } => {
                 self.read_again(code, at, token, Seat { frame, ip }, port, sent)
             }
-            To::Fetch { cell } => self.at_fetch(at, unpacked, cell, sent),
-            To::Store { cell, value } => self.at_store(at, unpacked, cell, &value, sent),
-            To::Manager => self.at_manager(at, unpacked, sent),
-            To::Release { frame } => self.at_release(at, unpacked, frame, sent),
-            To::Host { port } => self.at_host(at, unpacked, port),
+            To::Fetch { cell } => self.at_fetch(at, *token, cell, sent),
+            To::Store { cell, value } => self.at_store(at, *token, cell, &value, sent),
+            To::Manager => self.at_manager(at, *token, sent),
+            To::Release { frame } => self.at_release(at, *token, frame, sent),
+            To::Host { port } => self.at_host(at, *token, port),
         }
     }
 
@@ -219,6 +233,6 @@ impl<'m, A: Allocator> Contents<'m, A> {
         }
         let at = among(pick, waiting);
         let token = self.queue.packed(at);
-        self.act(code, at, &token, sent)
+        self.act(code, at, token, sent)
     }
 }

@@ -1,9 +1,9 @@
 //! The slots of the frames that lie on an element.
 
-ghost use Rattle.std.specs.Prelude.{◌≡◌, ◌*◌, ◌<◌, ◌/◌, slice_index_or};
+ghost use Rattle.std.specs.Prelude.{◌≡◌, ◌*◌, ◌<◌, ◌/◌, length, slice_index_or};
 ghost use Rattle.element.specs.Held.{held_in, part_of, shape_of, with_part};
 ghost use Rattle.tags.specs.declared.slot.SlotState.TheVariants.{Empty};
-ghost use Rattle.frame_store.specs.BankViews.{IsBank};
+ghost use Rattle.frame_store.specs.BankViews.{bank_states, IsBank};
 ghost use Rattle.element.specs.Parts.{slot_place};
 ghost use Rattle.semantics.specs.Rule.{slot_of};
 ghost use Rattle.element.specs.Decoded.{instr_of};
@@ -39,30 +39,39 @@ impl<'m, A: Allocator> Contents<'m, A> {
         self.bank.state(self.own_frame(frame), slot as usize)
     }
 
-    // The same slot, as it lies there.
+    // Where the slot of an instruction stands, in a frame that lies here.
     #[inline(always)]
-    pub(super) fn held_slot(&self, frame: FrameId, slot: u32) -> Slot
+    pub(super) fn place_of_slot(&self, frame: FrameId, slot: u32) -> usize
         requires some { 0 < self.now.elements }
         requires bank { IsBank self.now.bank }
         requires frame { frame < self.now.elements * self.now.bank.frames }
         requires slot { slot < self.now.bank.width }
-        ensures { result ≡ slice_index_or (part_of self.now).states (slot_place (shape_of self.now) frame slot) Empty }
+        ensures exact { result ≡ slot_place (shape_of self.now) frame slot }
+        ensures within { result < length (bank_states self.now.bank) }
     {
-        self.bank.slot(self.own_frame(frame), slot as usize)
+        self.bank.place(self.own_frame(frame), slot as usize)
     }
 
-    // Puts a slot in the place of one.
+    // The slot at a place, as it lies there.
     #[inline(always)]
-    pub(super) fn put_slot(&mut self, frame: FrameId, slot: u32, held: Slot)
-        requires some { 0 < self.old.elements }
-        requires bank { IsBank self.old.bank }
-        requires frame { frame < self.old.elements * self.old.bank.frames }
-        requires slot { slot < self.old.bank.width }
-        ensures held { held_in self.new ≡ with_part (held_in self.old) (with_state (part_of self.old) (slot_place (shape_of self.old) frame slot) held) }
-        ensures queue { self.new.queue ≡ self.old.queue }
+    pub(super) fn slot_at(&self, place: usize) -> Slot
+        requires { place < length (bank_states self.now.bank) }
+        ensures { result ≡ slice_index_or (part_of self.now).states place Empty }
     {
-        let own = self.own_frame(frame);
-        self.bank.put(own, slot as usize, held);
+        let slots = &*self.bank.slots;
+        slots[place]
+    }
+
+    // Puts a slot at a place.
+    #[inline(always)]
+    pub(super) fn put_at(&mut self, place: usize, held: Slot)
+        requires { place < length (bank_states self.old.bank) }
+        ensures held { held_in self.new ≡ with_part (held_in self.old) (with_state (part_of self.old) place held) }
+        ensures queue { self.new.queue ≡ self.old.queue }
+        ensures elements { self.new.elements ≡ self.old.elements }
+        ensures element { self.new.element ≡ self.old.element }
+    {
+        self.bank.slots[place] = held;
     }
 
     #[inline(always)]
