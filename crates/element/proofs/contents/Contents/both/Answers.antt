@@ -1,0 +1,15 @@
+use Rattle.std.proofs.Common.{sym, subst, Option, Some, List}
+use Rattle.tags.specs.declared.token.Token.{Token}
+use Rattle.tags.specs.declared.slot.SlotState.TheVariants.{Empty}
+use Rattle.element.specs.Fired.{seat_of}
+use Rattle.element.specs.Held.{Held, held_in}
+use Rattle.element.specs.Changed.{with_state}
+use Rattle.element.specs.Acts.{FiresAs}
+use Rattle.element.specs.declared.lane.Stepped.TheVariants.{Did}
+use Rattle.element.proofs.contents.Contents.both.Goals as goal
+
+pub returns-in-Some-clause-did : goal.returns-in-Some-clause-did
+returns-in-Some-clause-did g c = λ yes p before.
+    let old : Held = held_in c.args.self.now in
+    let made : Option (List Token) → Type 0 = λ m. FiresAs m (with_state old.part c.args.place Empty) old c.args.at before Did (held_in c.pass.new.self) before in
+    subst made (sym (c.in-Some.ensures p (seat_of c.args.seat))) (c.pass.ensures.did yes before)
