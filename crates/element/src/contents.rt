@@ -158,7 +158,9 @@ impl<'m, A: Allocator> Contents<'m, A> {
         if self.acts_at_once(code, at, token) {
             return Stepped::Did;
         }
-        self.act_unpacked(code, at, token, sent)
+        // A copy, so that the token stays in registers.
+        let again = token;
+        self.act_unpacked(code, at, again, sent)
     }
 
     // The same, of the token unpacked.

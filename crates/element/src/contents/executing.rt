@@ -10,12 +10,14 @@ ghost use Rattle.semantics.specs.Rule.{fire_two};
 ghost use Rattle.element.specs.Decoded.{instr_of, IsShort, IsPair, IsLone};
 ghost use Rattle.element.specs.Acts.{CanAct, ActsAs, FiresAs};
 ghost use Rattle.element.specs.Changed.{with_state, with_place};
-ghost use Rattle.element.specs.Fired.{seat_of, passed_on};
+ghost use Rattle.element.specs.Fired.{seat_of, passed_on, left_on, HasRoomInWord};
 ghost use Rattle.element.specs.declared.lane.Stepped.TheVariants.{Did};
 ghost use Rattle.tags.specs.declared.token.Token.{Token};
 
 use super::Contents;
-use crate::firing::{Meeting, NONE, Outcome, Passed, Seat, fire, meet, pass_one, pass_two};
+use crate::firing::{
+    Leaving, Meeting, NONE, Outcome, Passed, Seat, fire, leave, meet, pass_one, pass_two,
+};
 use crate::instructions::{Instruction, Instructions};
 use crate::lane::Stepped;
 use frame_store::slot::Slot;
@@ -26,8 +28,8 @@ use std::alloc::Allocator;
 use tags::token::{Port, Token};
 
 impl<'m, A: Allocator> Contents<'m, A> {
-    // What a token does at once, and whether it does: most that need no more than the words as they lie, a slot and room for two
-    // tokens here. Else all stands as before.
+    // What a token does at once, and whether it does: most that need no more than the words as they lie, a slot and room for a
+    // few tokens here. Else all stands as before. Arms that say the same let each operation go straight on to its end.
     #[inline(always)]
     pub(super) fn acts_at_once<C: Instructions>(
         &mut self,
@@ -50,19 +52,18 @@ impl<'m, A: Allocator> Contents<'m, A> {
             ip: input.ip,
         };
         match instr.op {
-            Op::Apply2 { .. }
-            | Op::Sync
-            | Op::Switch
-            | Op::Store { .. }
-            | Op::Send { .. }
-            | Op::Return { .. }
-            | Op::Ask { .. }
-            | Op::Release { .. } => self.at_pair(code, at, token, seat, &instr, input.port),
-            Op::Apply1 { .. }
-            | Op::Apply2Right { .. }
-            | Op::Apply2Left { .. }
-            | Op::Lit { .. }
-            | Op::Copy => self.at_lone(code, at, token, seat, &instr, input.port),
+            Op::Apply2 { .. } => self.at_pair(code, at, token, seat, &instr, input.port),
+            Op::Sync => self.at_pair(code, at, token, seat, &instr, input.port),
+            Op::Switch => self.at_pair(code, at, token, seat, &instr, input.port),
+            Op::Send { .. } => self.at_pair(code, at, token, seat, &instr, input.port),
+            Op::Return { .. } => self.at_pair(code, at, token, seat, &instr, input.port),
+            Op::Ask { .. } => self.at_pair(code, at, token, seat, &instr, input.port),
+            Op::Store { .. } | Op::Release { .. } => self.at_pair(code, at, token, seat, &instr, input.port),
+            Op::Apply1 { .. } => self.at_lone(code, at, token, seat, &instr, input.port),
+            Op::Apply2Right { .. } => self.at_lone(code, at, token, seat, &instr, input.port),
+            Op::Apply2Left { .. } => self.at_lone(code, at, token, seat, &instr, input.port),
+            Op::Lit { .. } => self.at_lone(code, at, token, seat, &instr, input.port),
+            Op::Copy => self.at_lone(code, at, token, seat, &instr, input.port),
             _ => false,
         }
     }
@@ -93,8 +94,8 @@ impl<'m, A: Allocator> Contents<'m, A> {
             Meeting::Waits { slot } => self.wait(at, place, slot),
             Meeting::Apart => false,
             Meeting::Both { left, right } => match port {
-                Port::Left => self.both(at, place, seat, instr, &left, &right),
-                Port::Right => self.both(at, place, seat, instr, &left, &right),
+                Port::Left => self.both(code, at, place, seat, instr, &left, &right),
+                Port::Right => self.both(code, at, place, seat, instr, &left, &right),
             },
         }
     }
@@ -144,8 +145,9 @@ impl<'m, A: Allocator> Contents<'m, A> {
 
     // Both words are there. What comes of them is the same on both ports; whoever calls keeps the ports apart.
     #[inline(always)]
-    fn both(
+    fn both<C: Instructions>(
         &mut self,
+        code: &C,
         at: usize,
         place: usize,
         seat: Seat,
@@ -153,17 +155,22 @@ impl<'m, A: Allocator> Contents<'m, A> {
         left: &PackedWord,
         right: &PackedWord,
     ) -> bool
+        requires some { 0 < self.old.elements }
         requires place { place < length (bank_states self.old.bank) }
-        requires near { seat.ip < 2 ^ 30 }
+        requires short { IsShort (C.width code.now) seat.ip instr.now }
         requires own { seat.frame % self.old.elements ≡ self.old.element }
         requires there { at < length self.old.queue.items }
         requires few { self.old.made < 2 ^ 63 }
-        ensures did { result ≡ true → (p : Program) (before : List Token) → FiresAs (fire_two p (seat_of seat) (instr_of instr.now) instr.now.op left.now right.now) (with_state (part_of self.old) place Empty) (held_in self.old) at before Did (held_in self.new) before }
+        requires room { HasRoomInWord left.now }
+        ensures did { result ≡ true → (before : List Token) → FiresAs (fire_two (C.program code.now) (seat_of seat) (instr_of instr.now) instr.now.op left.now right.now) (with_state (part_of self.old) place Empty) (held_in self.old) at before Did (held_in self.new) before }
         ensures not { result ≡ false → held_in self.new ≡ held_in self.old }
     {
         match pass_two(instr, left, right) {
             Some(passed) => self.pass(at, seat, Some(place), &passed),
-            None => false,
+            None => match leave(code, seat, instr, left, right) {
+                Some(leaving) => self.pass_out(at, seat, place, leaving),
+                None => false,
+            },
         }
     }
 
@@ -188,6 +195,31 @@ impl<'m, A: Allocator> Contents<'m, A> {
         self.take(at);
         self.send_near(seat, &passed.word, passed.first);
         self.send_near(seat, &passed.word, passed.second);
+        true
+    }
+
+    // The slot at the place is empty then, the token is taken out, a token goes into a frame, and signals to two destinations
+    // of the own frame; but nothing is done where the token is for another element, or there is no room.
+    #[inline(always)]
+    fn pass_out(&mut self, at: usize, seat: Seat, place: usize, leaving: Leaving) -> bool
+        requires some { 0 < self.old.elements }
+        requires near { seat.ip < 2 ^ 30 }
+        requires own { seat.frame % self.old.elements ≡ self.old.element }
+        requires place { place < length (bank_states self.old.bank) }
+        requires there { at < length self.old.queue.items }
+        requires few { self.old.made < 2 ^ 63 }
+        ensures did { result ≡ true → (before : List Token) → FiresAs (Some (left_on (seat_of seat) leaving)) (with_state (part_of self.old) place Empty) (held_in self.old) at before Did (held_in self.new) before }
+        ensures not { result ≡ false → held_in self.new ≡ held_in self.old }
+    {
+        if !self.keeps(&leaving.token) || self.make_own_room(3).is_err() {
+            return false;
+        }
+        self.put_at(place, Slot::empty());
+        self.take(at);
+        self.send_here(leaving.token);
+        let signal = PackedWord::int(0);
+        self.send_near(seat, &signal, leaving.first);
+        self.send_near(seat, &signal, leaving.second);
         true
     }
 

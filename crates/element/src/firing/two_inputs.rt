@@ -191,7 +191,7 @@ fn left_of(frame: FrameId, ip: u32) -> To
 }
 
 // An entry of the block that begins there.
-fn entry_at(first: u32, entry: u16) -> u32
+pub(super) fn entry_at(first: u32, entry: u16) -> u32
     requires { first < 2 ^ 30 }
     ensures { result ≡ first + entry }
 {

@@ -43,7 +43,7 @@ returns-in-Left-clause-did g c = λ yes before.
     fired_as p width old t s.frame s.ip c.args.port i (Some i.slot) held c.requires.can.sound.part c.requires.can.width c.requires.address c.requires.can.near c.requires.can.addressed c.requires.short
     c.requires.found (pair_slot (instr_of i) i.op c.requires.pair) there Empty fired c.args.at before Did new before
     (pair_meets p (seat_of s) (instr_of i) i.op held c.args.port t.word c.requires.pair ∙ c.in-Both.ensures.meets p (seat_of s) (instr_of i))
-    (subst (λ (n : ℕ). FiresAs fired (with_state old.part n Empty) old c.args.at before Did new before) c.place_of_slot-place.ensures.exact (c.both.ensures.did yes p before))
+    (subst (λ (n : ℕ). FiresAs fired (with_state old.part n Empty) old c.args.at before Did new before) c.place_of_slot-place.ensures.exact (c.both.ensures.did yes before))
 
 pub returns-in-Right-clause-did : goal.returns-in-Right-clause-did
 returns-in-Right-clause-did g c = λ yes before.
@@ -61,4 +61,4 @@ returns-in-Right-clause-did g c = λ yes before.
     fired_as p width old t s.frame s.ip c.args.port i (Some i.slot) held c.requires.can.sound.part c.requires.can.width c.requires.address c.requires.can.near c.requires.can.addressed c.requires.short
     c.requires.found (pair_slot (instr_of i) i.op c.requires.pair) there Empty fired c.args.at before Did new before
     (pair_meets p (seat_of s) (instr_of i) i.op held c.args.port t.word c.requires.pair ∙ c.in-Both.ensures.meets p (seat_of s) (instr_of i))
-    (subst (λ (n : ℕ). FiresAs fired (with_state old.part n Empty) old c.args.at before Did new before) c.place_of_slot-place.ensures.exact (c.both-in-Right.ensures.did yes p before))
+    (subst (λ (n : ℕ). FiresAs fired (with_state old.part n Empty) old c.args.at before Did new before) c.place_of_slot-place.ensures.exact (c.both-in-Right.ensures.did yes before))

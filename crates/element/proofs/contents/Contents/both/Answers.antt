@@ -9,7 +9,13 @@ use Rattle.element.specs.declared.lane.Stepped.TheVariants.{Did}
 use Rattle.element.proofs.contents.Contents.both.Goals as goal
 
 pub returns-in-Some-clause-did : goal.returns-in-Some-clause-did
-returns-in-Some-clause-did g c = λ yes p before.
+returns-in-Some-clause-did g c = λ yes before.
     let old : Held = held_in c.args.self.now in
     let made : Option (List Token) → Type 0 = λ m. FiresAs m (with_state old.part c.args.place Empty) old c.args.at before Did (held_in c.pass.new.self) before in
-    subst made (sym (c.in-Some.ensures p (seat_of c.args.seat))) (c.pass.ensures.did yes before)
+    subst made (sym (c.in-Some.ensures (g.C.Instructions.program c.args.code.now) (seat_of c.args.seat))) (c.pass.ensures.did yes before)
+
+pub returns-in-Some-leave-clause-did : goal.returns-in-Some-leave-clause-did
+returns-in-Some-leave-clause-did g c = λ yes before.
+    let old : Held = held_in c.args.self.now in
+    let made : Option (List Token) → Type 0 = λ m. FiresAs m (with_state old.part c.args.place Empty) old c.args.at before Did (held_in c.pass_out.new.self) before in
+    subst made (sym c.in-Some-leave.ensures) (c.pass_out.ensures.did yes before)
