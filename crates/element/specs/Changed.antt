@@ -48,6 +48,11 @@ abbrev pub with_state_in : Part → ℕ → Option ℕ → SlotState → Part
 with_state_in h f None v = h
 with_state_in h f (Some r) v = with_state h (slot_place h.shape f r) v
 
+-- with a state at a place, if there is one
+abbrev pub with_place : Part → Option ℕ → SlotState → Part
+with_place h None v = h
+with_place h (Some place) v = with_state h place v
+
 -- the cell lies here
 abbrev pub OwnsCell : Part → ℕ → Type 0
 OwnsCell h x = IsSome (cell_at h.cells x)

@@ -14,6 +14,7 @@ use Rattle.element.specs.Decoded.{dest_in}
 use Rattle.element.specs.declared.firing.made.Seat.{Seat}
 use Rattle.element.specs.declared.firing.made.Made.{Made}
 use Rattle.element.specs.declared.firing.passing.Passed.{Passed}
+use Rattle.element.specs.declared.firing.leaving.Leaving.{Leaving}
 use Rattle.element.specs.declared.firing.arrays.Indexed.{Indexed}
 use Rattle.element.specs.declared.firing.arrays.Indexed.TheVariants.{Place, Outside}
 use Rattle.element.specs.declared.firing.outcomes.Outcome.{Outcome}
@@ -42,6 +43,10 @@ tokens_of s m = outside_of m ++ (to_half s m.word m.first ++ to_half s m.word m.
 -- and those that pass a word on
 abbrev pub passed_on : rule.Seat → Passed → List Token
 passed_on s x = to_half s x.word x.first ++ to_half s x.word x.second
+
+-- and those of which the first one leaves the frame
+abbrev pub left_on : rule.Seat → Leaving → List Token
+left_on s x = x.token ∷ (to_half s rule.signal x.first ++ to_half s rule.signal x.second)
 
 abbrev pub indexed_of : Indexed → values.Indexed
 indexed_of (Place x) = values.Place x

@@ -15,6 +15,7 @@ use arrayvec::ArrayVec;
 use frame_manager::Manager;
 use frame_store::bank::BankMut;
 use istructure::Cells;
+use packed::token::PackedToken;
 use std::alloc::{AllocError, Allocator};
 use tags::token::{Cont, To, Token};
 use tags::value::Value;
@@ -146,24 +147,41 @@ impl<'m, A: Allocator> Contents<'m, A> {
         &mut self,
         code: &C,
         at: usize,
-        token: &Token,
+        token: PackedToken,
         sent: &mut Vec<Token, A>,
     ) -> Stepped
     where
         A: Clone,
-        requires { CanAct (C.program code.now) (C.width code.now) (held_in self.old) at token.now }
-        ensures { ActsAs (C.program code.now) (held_in self.old) at token.now sent.old.items result (held_in self.new) sent.new.items }
+        requires { CanAct (C.program code.now) (C.width code.now) (held_in self.old) at token }
+        ensures { ActsAs (C.program code.now) (held_in self.old) at token sent.old.items result (held_in self.new) sent.new.items }
     {
-        match token.to {
-            To::Instr { frame, ip, port } => {
-                self.at_instruction(code, at, token, Seat { frame, ip }, port, sent)
-            }
-            _ => self.act_anywhere(code, at, token, sent),
+        if self.acts_at_once(code, at, token) {
+            return Stepped::Did;
         }
+        // A copy, so that the token stays in registers.
+        let again = token;
+        self.act_unpacked(code, at, again, sent)
     }
 
-    // The same, apart from the short way to an instruction.
+    // The same, of the token unpacked.
     #[inline(never)]
+    fn act_unpacked<C: Instructions>(
+        &mut self,
+        code: &C,
+        at: usize,
+        token: PackedToken,
+        sent: &mut Vec<Token, A>,
+    ) -> Stepped
+    where
+        A: Clone,
+        requires { CanAct (C.program code.now) (C.width code.now) (held_in self.old) at token }
+        ensures { ActsAs (C.program code.now) (held_in self.old) at token sent.old.items result (held_in self.new) sent.new.items }
+    {
+        let token = token.unpack();
+        self.act_anywhere(code, at, &token, sent)
+    }
+
+    // What any token does.
     fn act_anywhere<C: Instructions>(
         &mut self,
         code: &C,
@@ -216,7 +234,7 @@ impl<'m, A: Allocator> Contents<'m, A> {
             return Stepped::Idle;
         }
         let at = among(pick, waiting);
-        let token = self.queue.get(at);
-        self.act(code, at, &token, sent)
+        let token = self.queue.packed(at);
+        self.act(code, at, token, sent)
     }
 }

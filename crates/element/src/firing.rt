@@ -10,6 +10,7 @@ ghost use Rattle.element.specs.Fired.{seat_of, tokens_of, outcome_by, HasRoomInW
 mod arrays;
 mod continuations;
 mod credits;
+mod leaving;
 mod made;
 mod one_input;
 mod outcomes;
@@ -19,6 +20,7 @@ mod two_inputs;
 use crate::instructions::{Instruction, Instructions};
 pub use continuations::answer;
 use credits::{drains, gives, opens, takes};
+pub use leaving::{Leaving, leave};
 pub use made::{Made, NONE, SIGNAL, Seat};
 use one_input::fire_one;
 pub use outcomes::Outcome;

@@ -1,5 +1,4 @@
-pub mod Packing
-pub mod FieldsOf
+pub mod Sides
 pub mod Slots
 pub mod BankViews
 pub mod Lends

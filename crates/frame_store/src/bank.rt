@@ -91,6 +91,32 @@ impl<'a> BankMut<'a> {
         slots[place].state()
     }
 
+    /// A slot of a frame, as it lies there.
+    #[inline(always)]
+    pub fn slot(&self, frame: usize, slot: usize) -> Slot
+        requires bank { IsBank self.now }
+        requires frame { frame < self.now.frames }
+        requires slot { slot < self.now.width }
+        ensures { result ≡ slice_index_or (bank_states self.now) (place_in self.now frame slot) result }
+    {
+        let place = self.place(frame, slot);
+        let slots = &*self.slots;
+        slots[place]
+    }
+
+    /// Puts a slot in place of one, and of no other.
+    #[inline(always)]
+    pub fn put(&mut self, frame: usize, slot: usize, held: Slot)
+        requires bank { IsBank self.old }
+        requires frame { frame < self.old.frames }
+        requires slot { slot < self.old.width }
+        ensures after { bank_states self.new ≡ slice_set (bank_states self.old) (place_in self.old frame slot) held }
+        ensures same { SameBank self.old self.new }
+    {
+        let place = self.place(frame, slot);
+        self.slots[place] = held;
+    }
+
     /// Changes the state of one slot, and of no other.
     #[inline(always)]
     pub fn set(&mut self, frame: usize, slot: usize, state: SlotState)

@@ -4,7 +4,6 @@
 pub mod bank;
 pub mod frame;
 pub mod lent;
-pub mod packing;
 pub mod slot;
 pub mod store;
 pub mod store_bank;

@@ -1,38 +1,91 @@
 //! A slot in two words.
 
-use crate::packing::{pack, unpack};
+use packed::packing::{pack, unpack};
+use packed::token::PackedToken;
+use packed::word::PackedWord;
 use std::marker::Model;
 use tags::slot::SlotState;
+use tags::token::Port;
 
 /// A slot. Contracts see its state. Its two words are always those of a state.
-#[derive(Drop)]
+#[derive(Clone, Copy)]
 pub struct Slot {
     head: u64,
     body: u64,
 }
 
 impl Model for Slot {
-    ghost use Rattle.std.specs.Prelude.{◌≡◌, [], ◌∷◌};
+    ghost use Rattle.std.specs.Prelude.{◌≡◌, ℕ, List, [], ◌∷◌, slice_index};
+    ghost use Rattle.std.proofs.Common.{ap};
     ghost use Rattle.tags.specs.declared.slot.SlotState.{SlotState};
-    ghost use Rattle.frame_store.specs.Packing.{slot_from, slot_words};
+    ghost use Rattle.packed.specs.Packing.{slot_from, slot_words};
 
     ghost Value = { SlotState };
 
     ghost view = { λ s. slot_from s.head s.body };
 
     ghost invariant = { λ s. slot_words (slot_from s.head s.body) ≡ s.head ∷ s.body ∷ [] };
+
+    ghost inverse = { λ s. record { head = slice_index (slot_words s) 0; body = slice_index (slot_words s) 1 } };
+
+    ghost inverse_ok = { λ s h i. record { head = slice_index (h i) 0; body = slice_index (h i) 1 } };
 }
 
 impl Slot {
-    ghost use Rattle.std.specs.Prelude.{◌≡◌};
+    ghost use Rattle.std.specs.Prelude.{◌≡◌, ◌↔◌, true, IsSome, slice_index};
     ghost use Rattle.tags.specs.declared.slot.SlotState.TheVariants.{Empty};
-    ghost use Rattle.frame_store.specs.Packing.{slot_words};
+    ghost use Rattle.packed.specs.Packing.{slot_words};
+    ghost use Rattle.packed.specs.PackedTokens.{waits_as, IsForInstr};
+    ghost use Rattle.frame_store.specs.Sides.{side_of, word_of};
 
     /// A slot that is empty.
+    #[inline(always)]
     pub fn empty() -> Slot
         ensures { result ≡ Empty }
     {
         Slot { head: 0, body: 0 }
+    }
+
+    /// A slot in which the word of a token waits that goes to an instruction: the token's own words.
+    #[inline(always)]
+    pub fn waiting(token: &PackedToken) -> Slot
+        requires { IsForInstr token.now.to }
+        ensures { result ≡ waits_as token.now.to token.now.word }
+    {
+        let words = token.waiting();
+        Slot {
+            head: words[0],
+            body: words[1],
+        }
+    }
+
+    /// Whether it is empty.
+    #[inline(always)]
+    pub fn is_empty(&self) -> bool
+        ensures { (result ≡ true) ↔ (self.now ≡ Empty) }
+    {
+        self.head % 256 == 0
+    }
+
+    /// The port whose word waits, if one does.
+    #[inline(always)]
+    pub fn side(&self) -> Option<Port>
+        ensures { result ≡ side_of self.now }
+    {
+        match self.head % 256 {
+            1 => Some(Port::Left),
+            2 => Some(Port::Right),
+            _ => None,
+        }
+    }
+
+    /// The word that waits.
+    #[inline(always)]
+    pub fn word(&self) -> PackedWord
+        requires { IsSome (side_of self.now) }
+        ensures { result ≡ word_of self.now }
+    {
+        PackedWord::from_words(self.head, self.body)
     }
 
     /// What the slot holds.

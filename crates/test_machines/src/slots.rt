@@ -7,9 +7,9 @@ use crate::banks::on_last_bank;
 use crate::part::{Heap, Part};
 use crate::shown::push_state;
 use crate::words::Words;
-use frame_store::packing::{pack, unpack};
 use frame_store::slot::Slot;
 use frame_store::store::Store;
+use packed::packing::{pack, unpack};
 use std::alloc::{AllocError, Allocator};
 use tags::slot::SlotState;
 

@@ -1,8 +1,9 @@
-//! Tokens in a ring of places.
+//! Packed tokens in a ring of places.
 
 ghost use Rattle.std.specs.Prelude.{◌≡◌, ◌+◌, ◌*◌, ◌%◌, ◌^◌, ◌<◌, ◌≤◌, ◌⊎◌, [], ◌∷◌, ◌++◌, length, OnOk, OnErr, slice_index_or, remove};
 ghost use Rattle.token_queue.specs.Ring.{IsPower};
 
+use packed::token::PackedToken;
 use std::alloc::{AllocError, Allocator};
 use std::marker::Model;
 use tags::token::{To, Token, Word};
@@ -21,7 +22,7 @@ const FEWEST: usize = 4;
 /// the first place.
 #[derive(Drop)]
 pub struct TokenQueue<A: Allocator> {
-    places: Vec<Token, A>,
+    places: Vec<PackedToken, A>,
     head: usize,
     count: usize,
 }
@@ -105,12 +106,23 @@ impl<A: Allocator> TokenQueue<A> {
             .ok_or(AllocError)?;
         self.places.rotate_left(self.head);
         self.head = 0;
-        self.places.resize(places, FILLER)
+        self.places.resize(places, PackedToken::pack(FILLER))
     }
 
     /// Puts a token last, where there is room.
     #[inline(always)]
     pub fn push_back_reserved(&mut self, token: Token)
+        requires { length self.old.items < self.old.room }
+        ensures items { self.new.items ≡ self.old.items ++ token ∷ [] }
+        ensures len { length self.new.items ≡ length self.old.items + 1 }
+        ensures room { self.new.room ≡ self.old.room }
+    {
+        self.push_packed(PackedToken::pack(token));
+    }
+
+    /// Puts a packed token last, where there is room.
+    #[inline(always)]
+    pub fn push_packed(&mut self, token: PackedToken)
         requires { length self.old.items < self.old.room }
         ensures items { self.new.items ≡ self.old.items ++ token ∷ [] }
         ensures len { length self.new.items ≡ length self.old.items + 1 }
@@ -124,6 +136,15 @@ impl<A: Allocator> TokenQueue<A> {
     /// The token of this number, the oldest being 0.
     #[inline(always)]
     pub fn get(&self, at: usize) -> Token
+        requires { at < length self.now.items }
+        ensures { result ≡ slice_index_or self.now.items at result }
+    {
+        self.packed(at).unpack()
+    }
+
+    /// The token of this number as it lies there, the oldest being 0.
+    #[inline(always)]
+    pub fn packed(&self, at: usize) -> PackedToken
         requires { at < length self.now.items }
         ensures { result ≡ slice_index_or self.now.items at result }
     {

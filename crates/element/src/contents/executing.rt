@@ -1,68 +1,229 @@
 //! What an element does with a token for an instruction.
 
-ghost use Rattle.std.specs.Prelude.{◌≡◌, ◌*◌, ◌%◌, ◌<◌, ◌^◌, ◌++◌, List, length, IfSome, Some};
+ghost use Rattle.std.specs.Prelude.{◌≡◌, ◌%◌, ◌<◌, ◌^◌, true, false, List, length, IfSome, Some};
 ghost use Rattle.tags.specs.declared.token.To.{To};
-ghost use Rattle.element.specs.Held.{held_in, part_of, shape_of, taken, cleared, with_part};
+ghost use Rattle.element.specs.Held.{held_in, part_of, taken, with_part};
 ghost use Rattle.tags.specs.declared.slot.SlotState.TheVariants.{Empty};
-ghost use Rattle.frame_store.specs.BankViews.{IsBank};
-ghost use Rattle.element.specs.Parts.{slot_place};
-ghost use Rattle.semantics.specs.Program.{instr_at};
+ghost use Rattle.frame_store.specs.BankViews.{bank_states};
+ghost use Rattle.semantics.specs.Program.{Program, instr_at};
 ghost use Rattle.semantics.specs.Rule.{fire_two};
 ghost use Rattle.element.specs.Decoded.{instr_of, IsShort, IsPair, IsLone};
 ghost use Rattle.element.specs.Acts.{CanAct, ActsAs, FiresAs};
-ghost use Rattle.element.specs.Changed.{with_state, with_state_in};
-ghost use Rattle.element.specs.Fired.{seat_of, to_half, HasRoomInWord};
+ghost use Rattle.element.specs.Changed.{with_state, with_place};
+ghost use Rattle.element.specs.Fired.{seat_of, passed_on, left_on, HasRoomInWord};
 ghost use Rattle.element.specs.declared.lane.Stepped.TheVariants.{Did};
-ghost use Rattle.semantics.specs.declared.program.Op.TheVariants.{Copy};
 ghost use Rattle.tags.specs.declared.token.Token.{Token};
 
 use super::Contents;
-use crate::firing::{Meeting, NONE, Outcome, Seat, fire, fire_two, meet, pass_one, pass_two};
+use crate::firing::{
+    Leaving, Meeting, NONE, Outcome, Passed, Seat, fire, leave, meet, pass_one, pass_two,
+};
 use crate::instructions::{Instruction, Instructions};
 use crate::lane::Stepped;
+use frame_store::slot::Slot;
+use packed::token::PackedToken;
+use packed::word::PackedWord;
 use semantics::program::Op;
 use std::alloc::Allocator;
-use tags::slot::SlotState;
-use tags::token::{FrameId, Port, Token, Word};
-use tags::value::Value;
+use tags::token::{Port, Token};
 
 impl<'m, A: Allocator> Contents<'m, A> {
+    // What a token does at once, and whether it does: most that need no more than the words as they lie, a slot and room for a
+    // few tokens here. Else all stands as before. Arms that say the same let each operation go straight on to its end.
     #[inline(always)]
-    pub(super) fn at_instruction<C: Instructions>(
+    pub(super) fn acts_at_once<C: Instructions>(
         &mut self,
         code: &C,
         at: usize,
-        token: &Token,
-        seat: Seat,
-        port: Port,
-        sent: &mut Vec<Token, A>,
-    ) -> Stepped
-        requires can { CanAct (C.program code.now) (C.width code.now) (held_in self.old) at token.now }
-        requires address { token.now.to ≡ To.Instr seat.frame seat.ip port }
-        ensures { ActsAs (C.program code.now) (held_in self.old) at token.now sent.old.items result (held_in self.new) sent.new.items }
+        token: PackedToken,
+    ) -> bool
+        requires { CanAct (C.program code.now) (C.width code.now) (held_in self.old) at token }
+        ensures did { result ≡ true → (before : List Token) → ActsAs (C.program code.now) (held_in self.old) at token before Did (held_in self.new) before }
+        ensures not { result ≡ false → held_in self.new ≡ held_in self.old }
     {
-        let Some(instr) = code.instr(seat.ip) else {
-            return Stepped::Stuck { rule: 1 };
+        let Some(input) = token.input() else {
+            return false;
+        };
+        let Some(instr) = code.instr(input.ip) else {
+            return false;
+        };
+        let seat = Seat {
+            frame: input.frame,
+            ip: input.ip,
         };
         match instr.op {
-            Op::Apply2 { .. }
-            | Op::Sync
-            | Op::Switch
-            | Op::Store { .. }
-            | Op::Send { .. }
-            | Op::Return { .. }
-            | Op::Ask { .. }
-            | Op::Release { .. } => self.at_pair(code, at, token, seat, &instr, port, sent),
-            Op::Apply1 { .. } | Op::Apply2Right { .. } | Op::Apply2Left { .. } | Op::Lit { .. } =>
-                self.at_lone(code, at, token, seat, &instr, port, sent),
-            Op::Copy => self.at_copy(code, at, token, seat, &instr, port, sent),
-            _ => self.read_again(code, at, token, seat, port, sent),
+            Op::Apply2 { .. } => self.at_pair(code, at, token, seat, &instr, input.port),
+            Op::Sync => self.at_pair(code, at, token, seat, &instr, input.port),
+            Op::Switch => self.at_pair(code, at, token, seat, &instr, input.port),
+            Op::Send { .. } => self.at_pair(code, at, token, seat, &instr, input.port),
+            Op::Return { .. } => self.at_pair(code, at, token, seat, &instr, input.port),
+            Op::Ask { .. } => self.at_pair(code, at, token, seat, &instr, input.port),
+            Op::Store { .. } | Op::Release { .. } => self.at_pair(code, at, token, seat, &instr, input.port),
+            Op::Apply1 { .. } => self.at_lone(code, at, token, seat, &instr, input.port),
+            Op::Apply2Right { .. } => self.at_lone(code, at, token, seat, &instr, input.port),
+            Op::Apply2Left { .. } => self.at_lone(code, at, token, seat, &instr, input.port),
+            Op::Lit { .. } => self.at_lone(code, at, token, seat, &instr, input.port),
+            Op::Copy => self.at_lone(code, at, token, seat, &instr, input.port),
+            _ => false,
         }
     }
 
-    // Any instruction: those with one input and with two have shorter ways. It is read again, so that on those it stays in
-    // registers.
-    #[inline(never)]
+    // An instruction with two inputs: the first token waits in the slot for the second, as it lies. Two arms do the same where
+    // what was asked lets each be compiled shorter: on either port it is known which of the words is the token's.
+    #[inline(always)]
+    fn at_pair<C: Instructions>(
+        &mut self,
+        code: &C,
+        at: usize,
+        token: PackedToken,
+        seat: Seat,
+        instr: &Instruction,
+        port: Port,
+    ) -> bool
+        requires can { CanAct (C.program code.now) (C.width code.now) (held_in self.old) at token }
+        requires address { token.to ≡ To.Instr seat.frame seat.ip port }
+        requires found { instr_at (C.program code.now) seat.ip ≡ Some (instr_of instr.now) }
+        requires short { IsShort (C.width code.now) seat.ip instr.now }
+        requires pair { IsPair instr.now.op }
+        ensures did { result ≡ true → (before : List Token) → ActsAs (C.program code.now) (held_in self.old) at token before Did (held_in self.new) before }
+        ensures not { result ≡ false → held_in self.new ≡ held_in self.old }
+    {
+        let place = self.place_of_slot(seat.frame, instr.slot);
+        let held = self.slot_at(place);
+        match meet(&held, seat, port, &token) {
+            Meeting::Waits { slot } => self.wait(at, place, slot),
+            Meeting::Apart => false,
+            Meeting::Both { left, right } => match port {
+                Port::Left => self.both(code, at, place, seat, instr, &left, &right),
+                Port::Right => self.both(code, at, place, seat, instr, &left, &right),
+            },
+        }
+    }
+
+    // An instruction with one input, whose word goes to its own destinations. The port is looked at last, so that the choice
+    // of the instruction goes straight on into what it does.
+    #[inline(always)]
+    fn at_lone<C: Instructions>(
+        &mut self,
+        code: &C,
+        at: usize,
+        token: PackedToken,
+        seat: Seat,
+        instr: &Instruction,
+        port: Port,
+    ) -> bool
+        requires can { CanAct (C.program code.now) (C.width code.now) (held_in self.old) at token }
+        requires address { token.to ≡ To.Instr seat.frame seat.ip port }
+        requires found { instr_at (C.program code.now) seat.ip ≡ Some (instr_of instr.now) }
+        requires short { IsShort (C.width code.now) seat.ip instr.now }
+        requires lone { IsLone instr.now.op }
+        ensures did { result ≡ true → (before : List Token) → ActsAs (C.program code.now) (held_in self.old) at token before Did (held_in self.new) before }
+        ensures not { result ≡ false → held_in self.new ≡ held_in self.old }
+    {
+        match pass_one(instr, &token.word()) {
+            Some(passed) => match port {
+                Port::Right => false,
+                Port::Left => self.pass(at, seat, None, &passed),
+            },
+            None => false,
+        }
+    }
+
+    // The slot at the place changes, the token is taken out, and nothing is made.
+    #[inline(always)]
+    fn wait(&mut self, at: usize, place: usize, held: Slot) -> bool
+        requires place { place < length (bank_states self.old.bank) }
+        requires there { at < length self.old.queue.items }
+        requires few { self.old.made < 2 ^ 63 }
+        ensures held { held_in self.new ≡ taken (with_part (held_in self.old) (with_state (part_of self.old) place held)) at }
+        ensures did { result ≡ true }
+    {
+        self.put_at(place, held);
+        self.take(at);
+        true
+    }
+
+    // Both words are there. What comes of them is the same on both ports; whoever calls keeps the ports apart.
+    #[inline(always)]
+    fn both<C: Instructions>(
+        &mut self,
+        code: &C,
+        at: usize,
+        place: usize,
+        seat: Seat,
+        instr: &Instruction,
+        left: &PackedWord,
+        right: &PackedWord,
+    ) -> bool
+        requires some { 0 < self.old.elements }
+        requires place { place < length (bank_states self.old.bank) }
+        requires short { IsShort (C.width code.now) seat.ip instr.now }
+        requires own { seat.frame % self.old.elements ≡ self.old.element }
+        requires there { at < length self.old.queue.items }
+        requires few { self.old.made < 2 ^ 63 }
+        requires room { HasRoomInWord left.now }
+        ensures did { result ≡ true → (before : List Token) → FiresAs (fire_two (C.program code.now) (seat_of seat) (instr_of instr.now) instr.now.op left.now right.now) (with_state (part_of self.old) place Empty) (held_in self.old) at before Did (held_in self.new) before }
+        ensures not { result ≡ false → held_in self.new ≡ held_in self.old }
+    {
+        match pass_two(instr, left, right) {
+            Some(passed) => self.pass(at, seat, Some(place), &passed),
+            None => match leave(code, seat, instr, left, right) {
+                Some(leaving) => self.pass_out(at, seat, place, leaving),
+                None => false,
+            },
+        }
+    }
+
+    // The slot at the place, if there is one, is empty then, the token is taken out, and a word goes to two destinations of
+    // its frame; but nothing is done where there is no room for them.
+    #[inline(always)]
+    fn pass(&mut self, at: usize, seat: Seat, cleared: Option<usize>, passed: &Passed) -> bool
+        requires near { seat.ip < 2 ^ 30 }
+        requires own { seat.frame % self.old.elements ≡ self.old.element }
+        requires place { IfSome cleared (λ place. place < length (bank_states self.old.bank)) }
+        requires there { at < length self.old.queue.items }
+        requires few { self.old.made < 2 ^ 63 }
+        ensures did { result ≡ true → (before : List Token) → FiresAs (Some (passed_on (seat_of seat) passed.now)) (with_place (part_of self.old) cleared Empty) (held_in self.old) at before Did (held_in self.new) before }
+        ensures not { result ≡ false → held_in self.new ≡ held_in self.old }
+    {
+        if self.make_own_room(2).is_err() {
+            return false;
+        }
+        if let Some(place) = cleared {
+            self.put_at(place, Slot::empty());
+        }
+        self.take(at);
+        self.send_near(seat, &passed.word, passed.first);
+        self.send_near(seat, &passed.word, passed.second);
+        true
+    }
+
+    // The slot at the place is empty then, the token is taken out, a token goes into a frame, and signals to two destinations
+    // of the own frame; but nothing is done where the token is for another element, or there is no room.
+    #[inline(always)]
+    fn pass_out(&mut self, at: usize, seat: Seat, place: usize, leaving: Leaving) -> bool
+        requires some { 0 < self.old.elements }
+        requires near { seat.ip < 2 ^ 30 }
+        requires own { seat.frame % self.old.elements ≡ self.old.element }
+        requires place { place < length (bank_states self.old.bank) }
+        requires there { at < length self.old.queue.items }
+        requires few { self.old.made < 2 ^ 63 }
+        ensures did { result ≡ true → (before : List Token) → FiresAs (Some (left_on (seat_of seat) leaving)) (with_state (part_of self.old) place Empty) (held_in self.old) at before Did (held_in self.new) before }
+        ensures not { result ≡ false → held_in self.new ≡ held_in self.old }
+    {
+        if !self.keeps(&leaving.token) || self.make_own_room(3).is_err() {
+            return false;
+        }
+        self.put_at(place, Slot::empty());
+        self.take(at);
+        self.send_here(leaving.token);
+        let signal = PackedWord::int(0);
+        self.send_near(seat, &signal, leaving.first);
+        self.send_near(seat, &signal, leaving.second);
+        true
+    }
+
+    // Any instruction. It is read again, so that what is done at once keeps it in registers.
     pub(super) fn read_again<C: Instructions>(
         &mut self,
         code: &C,
@@ -113,219 +274,5 @@ impl<'m, A: Allocator> Contents<'m, A> {
                 Stepped::Did
             }
         }
-    }
-
-    // An instruction with two inputs: the first token waits in the slot for the second. Two arms do the same where what was
-    // asked lets each be compiled shorter: an integer is packed without a look at the other words, and on either port it is
-    // known which of the words is the token's.
-    #[inline(always)]
-    fn at_pair<C: Instructions>(
-        &mut self,
-        code: &C,
-        at: usize,
-        token: &Token,
-        seat: Seat,
-        instr: &Instruction,
-        port: Port,
-        sent: &mut Vec<Token, A>,
-    ) -> Stepped
-        requires can { CanAct (C.program code.now) (C.width code.now) (held_in self.old) at token.now }
-        requires address { token.now.to ≡ To.Instr seat.frame seat.ip port }
-        requires found { instr_at (C.program code.now) seat.ip ≡ Some (instr_of instr.now) }
-        requires short { IsShort (C.width code.now) seat.ip instr.now }
-        requires pair { IsPair instr.now.op }
-        ensures { ActsAs (C.program code.now) (held_in self.old) at token.now sent.old.items result (held_in self.new) sent.new.items }
-    {
-        let held = self.slot_state(seat.frame, instr.slot);
-        match meet(held, port, token.word) {
-            Meeting::Waits { state } => match token.word {
-                Word::Val(Value::Int(_)) => self.wait(at, seat.frame, instr.slot, state),
-                _ => self.wait(at, seat.frame, instr.slot, state),
-            },
-            Meeting::Apart => Stepped::Stuck { rule: 3 },
-            Meeting::Both { left, right } => match port {
-                Port::Left => self.both(code, at, seat, instr, left, right, sent),
-                Port::Right => self.both(code, at, seat, instr, left, right, sent),
-            },
-        }
-    }
-
-    // An instruction with one input, whose word goes to its own destinations. The port is looked at last, so that the choice
-    // of the instruction goes straight on into what it does.
-    #[inline(always)]
-    fn at_lone<C: Instructions>(
-        &mut self,
-        code: &C,
-        at: usize,
-        token: &Token,
-        seat: Seat,
-        instr: &Instruction,
-        port: Port,
-        sent: &mut Vec<Token, A>,
-    ) -> Stepped
-        requires can { CanAct (C.program code.now) (C.width code.now) (held_in self.old) at token.now }
-        requires address { token.now.to ≡ To.Instr seat.frame seat.ip port }
-        requires found { instr_at (C.program code.now) seat.ip ≡ Some (instr_of instr.now) }
-        requires short { IsShort (C.width code.now) seat.ip instr.now }
-        requires lone { IsLone instr.now.op }
-        ensures { ActsAs (C.program code.now) (held_in self.old) at token.now sent.old.items result (held_in self.new) sent.new.items }
-    {
-        match pass_one(instr, token.word) {
-            Some(passed) => match port {
-                Port::Right => Stepped::Stuck { rule: 2 },
-                Port::Left => {
-                    self.pass(at, seat, None, &passed.word, passed.first, passed.second)
-                }
-            },
-            None => self.read_again(code, at, token, seat, port, sent),
-        }
-    }
-
-    // A copy passes the token's own word on.
-    #[inline(always)]
-    fn at_copy<C: Instructions>(
-        &mut self,
-        code: &C,
-        at: usize,
-        token: &Token,
-        seat: Seat,
-        instr: &Instruction,
-        port: Port,
-        sent: &mut Vec<Token, A>,
-    ) -> Stepped
-        requires can { CanAct (C.program code.now) (C.width code.now) (held_in self.old) at token.now }
-        requires address { token.now.to ≡ To.Instr seat.frame seat.ip port }
-        requires found { instr_at (C.program code.now) seat.ip ≡ Some (instr_of instr.now) }
-        requires short { IsShort (C.width code.now) seat.ip instr.now }
-        requires copy { instr.now.op ≡ Copy }
-        ensures { ActsAs (C.program code.now) (held_in self.old) at token.now sent.old.items result (held_in self.new) sent.new.items }
-    {
-        match port {
-            Port::Right => Stepped::Stuck { rule: 2 },
-            Port::Left => self.pass(at, seat, None, &token.word, instr.first, instr.second),
-        }
-    }
-
-    // The slot changes, the token is taken out, and nothing is made.
-    #[inline(always)]
-    fn wait(&mut self, at: usize, frame: FrameId, slot: u32, state: SlotState) -> Stepped
-        requires some { 0 < self.old.elements }
-        requires bank { IsBank self.old.bank }
-        requires frame { frame < self.old.elements * self.old.bank.frames }
-        requires slot { slot < self.old.bank.width }
-        requires there { at < length self.old.queue.items }
-        requires few { self.old.made < 2 ^ 63 }
-        ensures held { held_in self.new ≡ taken (with_part (held_in self.old) (with_state (part_of self.old) (slot_place (shape_of self.old) frame slot) state)) at }
-        ensures did { result ≡ Did }
-    {
-        self.set_slot(frame, slot, state);
-        self.take(at);
-        Stepped::Did
-    }
-
-    // The slot that is cleared is empty then, the token is taken out, and a word goes to two destinations of its frame, which
-    // are half words of the instruction, or 0.
-    #[inline(always)]
-    fn pass(
-        &mut self,
-        at: usize,
-        seat: Seat,
-        cleared: Option<u32>,
-        word: &Word,
-        first: u32,
-        second: u32,
-    ) -> Stepped
-        requires some { 0 < self.old.elements }
-        requires bank { IsBank self.old.bank }
-        requires near { seat.ip < 2 ^ 30 }
-        requires frame { seat.frame < self.old.elements * self.old.bank.frames }
-        requires own { seat.frame % self.old.elements ≡ self.old.element }
-        requires slot { IfSome cleared (λ slot. slot < self.old.bank.width) }
-        requires there { at < length self.old.queue.items }
-        requires few { self.old.made < 2 ^ 63 }
-        ensures { (before : List Token) → FiresAs (Some (to_half (seat_of seat) word.now first ++ to_half (seat_of seat) word.now second)) (with_state_in (part_of self.old) seat.frame cleared Empty) (held_in self.old) at before result (held_in self.new) before }
-    {
-        if self.make_own_room(2).is_err() {
-            return Stepped::Memory;
-        }
-        if let Some(slot) = cleared {
-            self.set_slot(seat.frame, slot, SlotState::Empty);
-        }
-        self.take(at);
-        self.send_near(seat, word, first);
-        self.send_near(seat, word, second);
-        Stepped::Did
-    }
-
-    // Both words are there. What comes of them is the same on both ports; whoever calls keeps the ports apart.
-    #[inline(always)]
-    fn both<C: Instructions>(
-        &mut self,
-        code: &C,
-        at: usize,
-        seat: Seat,
-        instr: &Instruction,
-        left: Word,
-        right: Word,
-        sent: &mut Vec<Token, A>,
-    ) -> Stepped
-        requires some { 0 < self.old.elements }
-        requires bank { IsBank self.old.bank }
-        requires frame { seat.frame < self.old.elements * self.old.bank.frames }
-        requires own { seat.frame % self.old.elements ≡ self.old.element }
-        requires slot { instr.now.slot < self.old.bank.width }
-        requires there { at < length self.old.queue.items }
-        requires few { self.old.made < 2 ^ 63 }
-        requires short { IsShort (C.width code.now) seat.ip instr.now }
-        requires room { HasRoomInWord left }
-        ensures { FiresAs (fire_two (C.program code.now) (seat_of seat) (instr_of instr.now) instr.now.op left right) (with_state (part_of self.old) (slot_place (shape_of self.old) seat.frame instr.now.slot) Empty) (held_in self.old) at sent.old.items result (held_in self.new) sent.new.items }
-    {
-        match pass_two(instr, &left, &right) {
-            Some(passed) => self.pass(
-                at,
-                seat,
-                Some(instr.slot),
-                &passed.word,
-                passed.first,
-                passed.second,
-            ),
-            None => self.fire_pair(code, at, seat, *instr, left, right, sent),
-        }
-    }
-
-    // Both words are there, of any instruction with two inputs: the slot is empty then. The words are copies, so that those of
-    // whoever calls stay in registers.
-    #[inline(never)]
-    fn fire_pair<C: Instructions>(
-        &mut self,
-        code: &C,
-        at: usize,
-        seat: Seat,
-        instr: Instruction,
-        left: Word,
-        right: Word,
-        sent: &mut Vec<Token, A>,
-    ) -> Stepped
-        requires some { 0 < self.old.elements }
-        requires bank { IsBank self.old.bank }
-        requires frame { seat.frame < self.old.elements * self.old.bank.frames }
-        requires slot { instr.slot < self.old.bank.width }
-        requires there { at < length self.old.queue.items }
-        requires few { self.old.made < 2 ^ 63 }
-        requires short { IsShort (C.width code.now) seat.ip instr }
-        requires room { HasRoomInWord left }
-        ensures { FiresAs (fire_two (C.program code.now) (seat_of seat) (instr_of instr) instr.op left right) (with_state (part_of self.old) (slot_place (shape_of self.old) seat.frame instr.slot) Empty) (held_in self.old) at sent.old.items result (held_in self.new) sent.new.items }
-    {
-        let mut made = NONE;
-        if !fire_two(code, seat, &instr, left, right, &mut made) {
-            return Stepped::Stuck { rule: 4 };
-        }
-        if self.make_room(4, sent).is_err() {
-            return Stepped::Memory;
-        }
-        self.set_slot(seat.frame, instr.slot, SlotState::Empty);
-        self.take(at);
-        self.send_all(seat, &made, sent);
-        Stepped::Did
     }
 }

@@ -1,15 +1,17 @@
 //! Tokens are taken out of the queue, and sent: into the queue, or to other elements.
 
-ghost use Rattle.std.specs.Prelude.{◌≡◌, ◌+◌, ◌<◌, ◌≤◌, ◌^◌, ◌%◌, [], ◌∷◌, ◌++◌, ◌==◌, length, OnOk, vec_len};
+ghost use Rattle.std.specs.Prelude.{◌≡◌, ◌+◌, ◌<◌, ◌≤◌, ◌^◌, ◌%◌, [], ◌∷◌, ◌++◌, ◌==◌, true, length, OnOk, vec_len};
 ghost use Rattle.std.specs.Vec.{vec_capacity};
 ghost use Rattle.element.specs.Held.{held_in, shape_of, elsewhere, queued, taken};
 ghost use Rattle.tags.specs.Addresses.{element_of};
 ghost use Rattle.element.specs.Fired.{seat_of, tokens_of, outside_of, to_half};
 
 use super::Contents;
-use crate::dealt::element_for;
+use crate::dealt::{element_for, owner_of};
 use crate::firing::{Made, SIGNAL, Seat};
 use crate::instructions::dest_in;
+use packed::token::PackedToken;
+use packed::word::PackedWord;
 use std::alloc::{AllocError, Allocator};
 use tags::token::{To, Token, Word};
 
@@ -111,7 +113,7 @@ impl<'m, A: Allocator> Contents<'m, A> {
 
     // The same, where the frame lies on this element: so does the destination, and no token goes elsewhere.
     #[inline(always)]
-    pub(super) fn send_near(&mut self, seat: Seat, word: &Word, half: u32)
+    pub(super) fn send_near(&mut self, seat: Seat, word: &PackedWord, half: u32)
         requires near { seat.ip < 2 ^ 30 }
         requires own { seat.frame % self.old.elements ≡ self.old.element }
         requires room { length self.old.queue.items < self.old.queue.room }
@@ -121,13 +123,35 @@ impl<'m, A: Allocator> Contents<'m, A> {
         ensures capacity { self.new.queue.room ≡ self.old.queue.room }
     {
         if let Some(dest) = dest_in(half) {
-            let to = To::Instr {
-                frame: seat.frame,
-                ip: seat.ip + dest.ahead,
-                port: dest.port,
-            };
-            self.queue.push_back_reserved(Token { to, word: *word });
+            let ip = seat.ip + dest.ahead;
+            let token = PackedToken::to_instr(seat.frame, ip, dest.port, word);
+            self.queue.push_packed(token);
         }
+    }
+
+    // Whether a packed token goes to an instruction of a frame that lies here.
+    #[inline(always)]
+    pub(super) fn keeps(&self, token: &PackedToken) -> bool
+        requires some { 0 < self.now.elements }
+        ensures { result ≡ true → element_of self.now.elements token.now.to ≡ self.now.element }
+    {
+        match token.input() {
+            Some(input) => owner_of(input.frame, self.elements) == self.element,
+            None => false,
+        }
+    }
+
+    // Puts a token for this element last into the queue.
+    #[inline(always)]
+    pub(super) fn send_here(&mut self, token: PackedToken)
+        requires own { element_of self.old.elements token.to ≡ self.old.element }
+        requires room { length self.old.queue.items < self.old.queue.room }
+        ensures held { held_in self.new ≡ queued (held_in self.old) (token ∷ []) }
+        ensures none { elsewhere (shape_of self.old) (token ∷ []) ≡ [] }
+        ensures len { length self.new.queue.items ≤ length self.old.queue.items + 1 }
+        ensures capacity { self.new.queue.room ≡ self.old.queue.room }
+    {
+        self.queue.push_packed(token);
     }
 
     // Sends what leaves the frame, in order.

@@ -1,9 +1,9 @@
 //! The slots of the frames that lie on an element.
 
-ghost use Rattle.std.specs.Prelude.{◌≡◌, ◌*◌, ◌<◌, ◌/◌, slice_index_or};
+ghost use Rattle.std.specs.Prelude.{◌≡◌, ◌*◌, ◌<◌, ◌/◌, length, slice_index_or};
 ghost use Rattle.element.specs.Held.{held_in, part_of, shape_of, with_part};
 ghost use Rattle.tags.specs.declared.slot.SlotState.TheVariants.{Empty};
-ghost use Rattle.frame_store.specs.BankViews.{IsBank};
+ghost use Rattle.frame_store.specs.BankViews.{bank_states, IsBank};
 ghost use Rattle.element.specs.Parts.{slot_place};
 ghost use Rattle.semantics.specs.Rule.{slot_of};
 ghost use Rattle.element.specs.Decoded.{instr_of};
@@ -12,6 +12,7 @@ ghost use Rattle.element.specs.Changed.{with_state, with_state_in, state_in};
 use super::Contents;
 use crate::dealt::place_of;
 use crate::instructions::Instruction;
+use frame_store::slot::Slot;
 use std::alloc::Allocator;
 use tags::slot::SlotState;
 use tags::token::FrameId;
@@ -36,6 +37,41 @@ impl<'m, A: Allocator> Contents<'m, A> {
         ensures { result ≡ slice_index_or (part_of self.now).states (slot_place (shape_of self.now) frame slot) Empty }
     {
         self.bank.state(self.own_frame(frame), slot as usize)
+    }
+
+    // Where the slot of an instruction stands, in a frame that lies here.
+    #[inline(always)]
+    pub(super) fn place_of_slot(&self, frame: FrameId, slot: u32) -> usize
+        requires some { 0 < self.now.elements }
+        requires bank { IsBank self.now.bank }
+        requires frame { frame < self.now.elements * self.now.bank.frames }
+        requires slot { slot < self.now.bank.width }
+        ensures exact { result ≡ slot_place (shape_of self.now) frame slot }
+        ensures within { result < length (bank_states self.now.bank) }
+    {
+        self.bank.place(self.own_frame(frame), slot as usize)
+    }
+
+    // The slot at a place, as it lies there.
+    #[inline(always)]
+    pub(super) fn slot_at(&self, place: usize) -> Slot
+        requires { place < length (bank_states self.now.bank) }
+        ensures { result ≡ slice_index_or (part_of self.now).states place Empty }
+    {
+        let slots = &*self.bank.slots;
+        slots[place]
+    }
+
+    // Puts a slot at a place.
+    #[inline(always)]
+    pub(super) fn put_at(&mut self, place: usize, held: Slot)
+        requires { place < length (bank_states self.old.bank) }
+        ensures held { held_in self.new ≡ with_part (held_in self.old) (with_state (part_of self.old) place held) }
+        ensures queue { self.new.queue ≡ self.old.queue }
+        ensures elements { self.new.elements ≡ self.old.elements }
+        ensures element { self.new.element ≡ self.old.element }
+    {
+        self.bank.slots[place] = held;
     }
 
     #[inline(always)]

@@ -6,68 +6,75 @@ ghost use Rattle.element.specs.Decoded.{instr_of};
 ghost use Rattle.element.specs.Fired.{passed_on};
 ghost use Rattle.semantics.specs.Program.{Program};
 
-use super::made::SIGNAL;
 use crate::instructions::Instruction;
 use operators::{apply1, apply2_at, truth};
+use packed::word::PackedWord;
 use semantics::program::Op;
 use tags::token::Word;
 use tags::value::Value;
 
 /// A word that goes to destinations of its own frame, which are half words of the instruction, or 0.
-#[derive(Clone, Copy, Debug, PartialEq, Eq)]
+#[derive(Clone, Copy)]
 pub struct Passed {
-    pub word: Word,
+    pub word: PackedWord,
     pub first: u32,
     pub second: u32,
 }
 
-/// What an instruction with one input passes on to its destinations, where it is one that does and the word is of its kind.
+/// What an instruction with one input passes on to its destinations, where it is one that does and has no use of its word, or
+/// the word is an integer.
 #[inline(always)]
-pub fn pass_one(instr: &Instruction, word: Word) -> Option<Passed>
-    ensures { IfSome result (λ x. (p : Program) (s : Rule.Seat) → Rule.fire_one p s (instr_of instr.now) instr.now.op word ≡ Some (passed_on s x)) }
+pub fn pass_one(instr: &Instruction, word: &PackedWord) -> Option<Passed>
+    ensures { IfSome result (λ x. (p : Program) (s : Rule.Seat) → Rule.fire_one p s (instr_of instr.now) instr.now.op word.now ≡ Some (passed_on s x)) }
 {
-    match (instr.op, word) {
-        (Op::Apply1 { op }, Word::Val(value)) => Some(to_both(instr, Word::Val(apply1(op, value)))),
-        (Op::Apply2Right { op, literal }, Word::Val(value)) => {
-            let value = apply2_at(op, value, Value::Int(literal), instr.origin());
-            Some(to_both(instr, Word::Val(value)))
+    match (instr.op, word.as_int()) {
+        (Op::Apply1 { op }, Some(number)) => {
+            let value = apply1(op, Value::Int(number));
+            Some(to_both(instr, PackedWord::pack(Word::Val(value))))
         }
-        (Op::Apply2Left { op, literal }, Word::Val(value)) => {
-            let value = apply2_at(op, Value::Int(literal), value, instr.origin());
-            Some(to_both(instr, Word::Val(value)))
+        (Op::Apply2Right { op, literal }, Some(number)) => {
+            let value = apply2_at(op, Value::Int(number), Value::Int(literal), instr.origin());
+            Some(to_both(instr, PackedWord::pack(Word::Val(value))))
         }
-        (Op::Lit { literal }, _) => Some(to_both(instr, Word::Val(Value::Int(literal)))),
-        (Op::Copy, _) => Some(to_both(instr, word)),
+        (Op::Apply2Left { op, literal }, Some(number)) => {
+            let value = apply2_at(op, Value::Int(literal), Value::Int(number), instr.origin());
+            Some(to_both(instr, PackedWord::pack(Word::Val(value))))
+        }
+        (Op::Lit { literal }, _) => Some(to_both(instr, PackedWord::int(literal))),
+        (Op::Copy, _) => Some(to_both(instr, *word)),
         _ => None,
     }
 }
 
-/// The same for an instruction with two inputs.
+/// The same for an instruction with two inputs, where the words that it looks at are integers.
 #[inline(always)]
-pub fn pass_two(instr: &Instruction, left: &Word, right: &Word) -> Option<Passed>
+pub fn pass_two(instr: &Instruction, left: &PackedWord, right: &PackedWord) -> Option<Passed>
     ensures { IfSome result (λ x. (p : Program) (s : Rule.Seat) → Rule.fire_two p s (instr_of instr.now) instr.now.op left.now right.now ≡ Some (passed_on s x)) }
 {
-    match (instr.op, *left, *right) {
-        (Op::Apply2 { op }, Word::Val(x), Word::Val(y)) => {
-            let value = apply2_at(op, x, y, instr.origin());
-            Some(to_both(instr, Word::Val(value)))
+    match (instr.op, left.as_int(), right.as_int()) {
+        (Op::Apply2 { op }, Some(x), Some(y)) => {
+            let value = apply2_at(op, Value::Int(x), Value::Int(y), instr.origin());
+            Some(to_both(instr, PackedWord::pack(Word::Val(value))))
         }
-        (Op::Sync, _, _) => Some(to_both(instr, SIGNAL)),
-        (Op::Switch, _, Word::Val(value)) => Some(Passed {
-            word: *left,
-            first: if truth(value) {
-                instr.first
-            } else {
-                instr.second
-            },
-            second: 0,
-        }),
+        (Op::Sync, _, _) => Some(to_both(instr, PackedWord::int(0))),
+        (Op::Switch, _, Some(number)) => {
+            let value = Value::Int(number);
+            Some(Passed {
+                word: *left,
+                first: if truth(value) {
+                    instr.first
+                } else {
+                    instr.second
+                },
+                second: 0,
+            })
+        }
         _ => None,
     }
 }
 
 #[inline(always)]
-fn to_both(instr: &Instruction, word: Word) -> Passed
+fn to_both(instr: &Instruction, word: PackedWord) -> Passed
     ensures { (s : Rule.Seat) → passed_on s result ≡ Rule.to_all s word (instr_of instr.now) }
 {
     Passed {

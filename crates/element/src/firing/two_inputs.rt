@@ -14,40 +14,57 @@ use super::continuations::{answer_to, beyond};
 use super::made::{Made, SIGNAL, Seat, and_signals, one, to_all};
 use super::outcomes::{Outcome, becomes, excluded, fires};
 use crate::instructions::{Instruction, Instructions};
+use frame_store::slot::Slot;
 use operators::{apply2_at, truth};
+use packed::token::PackedToken;
+use packed::word::PackedWord;
 use semantics::program::Op;
 use tags::slot::SlotState;
 use tags::token::{FrameId, Port, To, Token, Word};
 
 /// What a token meets at an instruction with two inputs.
-#[derive(Clone, Copy, Debug, PartialEq, Eq)]
+#[derive(Clone, Copy)]
 pub enum Meeting {
     /// The other one: both words.
-    Both { left: Word, right: Word },
-    /// None: it waits in the slot, which has this state then.
-    Waits { state: SlotState },
+    Both {
+        left: PackedWord,
+        right: PackedWord,
+    },
+    /// None: it waits in the slot, which is this one then.
+    Waits { slot: Slot },
     /// What it can't meet.
     Apart,
 }
 
 /// What a token meets in its slot.
 #[inline(always)]
-pub fn meet(held: SlotState, port: Port, word: Word) -> Meeting
-    requires slot_room { HasRoomInSlot held }
-    requires word_room { HasRoomInWord word }
-    ensures meets { (p : Program) (s : Rule.Seat) (i : Instr) → MeetingIs p s i (Rule.meets p s i held port word) result }
+pub fn meet(held: &Slot, seat: Seat, port: Port, token: &PackedToken) -> Meeting
+    requires address { token.now.to ≡ To.Instr seat.frame seat.ip port }
+    requires slot_room { HasRoomInSlot held.now }
+    requires word_room { HasRoomInWord token.now.word }
+    ensures meets { (p : Program) (s : Rule.Seat) (i : Instr) → MeetingIs p s i (Rule.meets p s i held.now port token.now.word) result }
     ensures room { LeftHasRoom result }
 {
-    match (held, port) {
-        (SlotState::Empty, Port::Left) => Meeting::Waits {
-            state: SlotState::Left(word),
+    if held.is_empty() {
+        return Meeting::Waits {
+            slot: Slot::waiting(token),
+        };
+    }
+    match port {
+        Port::Left => match held.side() {
+            Some(Port::Right) => Meeting::Both {
+                left: token.word(),
+                right: held.word(),
+            },
+            _ => Meeting::Apart,
         },
-        (SlotState::Empty, Port::Right) => Meeting::Waits {
-            state: SlotState::Right(word),
+        Port::Right => match held.side() {
+            Some(Port::Left) => Meeting::Both {
+                left: held.word(),
+                right: token.word(),
+            },
+            _ => Meeting::Apart,
         },
-        (SlotState::Left(left), Port::Right) => Meeting::Both { left, right: word },
-        (SlotState::Right(right), Port::Left) => Meeting::Both { left: word, right },
-        _ => Meeting::Apart,
     }
 }
 
@@ -174,7 +191,7 @@ fn left_of(frame: FrameId, ip: u32) -> To
 }
 
 // An entry of the block that begins there.
-fn entry_at(first: u32, entry: u16) -> u32
+pub(super) fn entry_at(first: u32, entry: u16) -> u32
     requires { first < 2 ^ 30 }
     ensures { result ≡ first + entry }
 {

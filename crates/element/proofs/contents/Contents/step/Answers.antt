@@ -11,41 +11,41 @@ returns-clause-exact g c =
     let p = g.C.Instructions.program c.args.code.now in
     let old : Held = held_in c.args.self.now in
     let some : 0 < length old.queue = grind (arith, common_steps) in
-    let is : c.get-token.result ≡ get_or old.queue (place_of old c.args.pick) c.get-token.result = grind (arith, common_steps) in
+    let is : c.packed-token.result ≡ get_or old.queue (place_of old c.args.pick) c.packed-token.result = grind (arith, common_steps) in
     let count : c.len-waiting.result ≡ length old.queue = grind (arith, common_steps) in
-    let acts : ActsAs p old (place_of old c.args.pick) c.get-token.result c.args.sent.now.items c.act.result (held_in c.act.new.self) c.act.new.sent.items
-    = subst (λ (n : ℕ). ActsAs p old n c.get-token.result c.args.sent.now.items c.act.result (held_in c.act.new.self) c.act.new.sent.items) (c.among-at.ensures.exact ∙ ap (λ (n : ℕ). c.args.pick % n) count) c.act.ensures in
-    steps_as p old c.args.pick c.get-token.result c.args.sent.now.items c.requires.sound some is c.act.result (held_in c.act.new.self) c.act.new.sent.items acts
+    let acts : ActsAs p old (place_of old c.args.pick) c.packed-token.result c.args.sent.now.items c.act.result (held_in c.act.new.self) c.act.new.sent.items
+    = subst (λ (n : ℕ). ActsAs p old n c.packed-token.result c.args.sent.now.items c.act.result (held_in c.act.new.self) c.act.new.sent.items) (c.among-at.ensures.exact ∙ ap (λ (n : ℕ). c.args.pick % n) count) c.act.ensures in
+    steps_as p old c.args.pick c.packed-token.result c.args.sent.now.items c.requires.sound some is c.act.result (held_in c.act.new.self) c.act.new.sent.items acts
 
 pub returns-clause-sound : goal.returns-clause-sound
 returns-clause-sound g c =
     let p = g.C.Instructions.program c.args.code.now in
     let old : Held = held_in c.args.self.now in
     let some : 0 < length old.queue = grind (arith, common_steps) in
-    let is : c.get-token.result ≡ get_or old.queue (place_of old c.args.pick) c.get-token.result = grind (arith, common_steps) in
+    let is : c.packed-token.result ≡ get_or old.queue (place_of old c.args.pick) c.packed-token.result = grind (arith, common_steps) in
     let count : c.len-waiting.result ≡ length old.queue = grind (arith, common_steps) in
-    let acts : ActsAs p old (place_of old c.args.pick) c.get-token.result c.args.sent.now.items c.act.result (held_in c.act.new.self) c.act.new.sent.items
-    = subst (λ (n : ℕ). ActsAs p old n c.get-token.result c.args.sent.now.items c.act.result (held_in c.act.new.self) c.act.new.sent.items) (c.among-at.ensures.exact ∙ ap (λ (n : ℕ). c.args.pick % n) count) c.act.ensures in
-    sound_as p old c.args.pick c.get-token.result c.args.sent.now.items c.requires.sound some is c.act.result (held_in c.act.new.self) c.act.new.sent.items acts
+    let acts : ActsAs p old (place_of old c.args.pick) c.packed-token.result c.args.sent.now.items c.act.result (held_in c.act.new.self) c.act.new.sent.items
+    = subst (λ (n : ℕ). ActsAs p old n c.packed-token.result c.args.sent.now.items c.act.result (held_in c.act.new.self) c.act.new.sent.items) (c.among-at.ensures.exact ∙ ap (λ (n : ℕ). c.args.pick % n) count) c.act.ensures in
+    sound_as p old c.args.pick c.packed-token.result c.args.sent.now.items c.requires.sound some is c.act.result (held_in c.act.new.self) c.act.new.sent.items acts
 
 pub returns-clause-shape : goal.returns-clause-shape
 returns-clause-shape g c =
     let p = g.C.Instructions.program c.args.code.now in
     let old : Held = held_in c.args.self.now in
     let some : 0 < length old.queue = grind (arith, common_steps) in
-    let is : c.get-token.result ≡ get_or old.queue (place_of old c.args.pick) c.get-token.result = grind (arith, common_steps) in
+    let is : c.packed-token.result ≡ get_or old.queue (place_of old c.args.pick) c.packed-token.result = grind (arith, common_steps) in
     let count : c.len-waiting.result ≡ length old.queue = grind (arith, common_steps) in
-    let acts : ActsAs p old (place_of old c.args.pick) c.get-token.result c.args.sent.now.items c.act.result (held_in c.act.new.self) c.act.new.sent.items
-    = subst (λ (n : ℕ). ActsAs p old n c.get-token.result c.args.sent.now.items c.act.result (held_in c.act.new.self) c.act.new.sent.items) (c.among-at.ensures.exact ∙ ap (λ (n : ℕ). c.args.pick % n) count) c.act.ensures in
-    shape_as p old c.args.pick c.get-token.result c.args.sent.now.items c.requires.sound some is c.act.result (held_in c.act.new.self) c.act.new.sent.items acts
+    let acts : ActsAs p old (place_of old c.args.pick) c.packed-token.result c.args.sent.now.items c.act.result (held_in c.act.new.self) c.act.new.sent.items
+    = subst (λ (n : ℕ). ActsAs p old n c.packed-token.result c.args.sent.now.items c.act.result (held_in c.act.new.self) c.act.new.sent.items) (c.among-at.ensures.exact ∙ ap (λ (n : ℕ). c.args.pick % n) count) c.act.ensures in
+    shape_as p old c.args.pick c.packed-token.result c.args.sent.now.items c.requires.sound some is c.act.result (held_in c.act.new.self) c.act.new.sent.items acts
 
 pub returns-clause-made : goal.returns-clause-made
 returns-clause-made g c =
     let p = g.C.Instructions.program c.args.code.now in
     let old : Held = held_in c.args.self.now in
     let some : 0 < length old.queue = grind (arith, common_steps) in
-    let is : c.get-token.result ≡ get_or old.queue (place_of old c.args.pick) c.get-token.result = grind (arith, common_steps) in
+    let is : c.packed-token.result ≡ get_or old.queue (place_of old c.args.pick) c.packed-token.result = grind (arith, common_steps) in
     let count : c.len-waiting.result ≡ length old.queue = grind (arith, common_steps) in
-    let acts : ActsAs p old (place_of old c.args.pick) c.get-token.result c.args.sent.now.items c.act.result (held_in c.act.new.self) c.act.new.sent.items
-    = subst (λ (n : ℕ). ActsAs p old n c.get-token.result c.args.sent.now.items c.act.result (held_in c.act.new.self) c.act.new.sent.items) (c.among-at.ensures.exact ∙ ap (λ (n : ℕ). c.args.pick % n) count) c.act.ensures in
-    made_as p old c.args.pick c.get-token.result c.args.sent.now.items c.requires.sound some is c.act.result (held_in c.act.new.self) c.act.new.sent.items acts
+    let acts : ActsAs p old (place_of old c.args.pick) c.packed-token.result c.args.sent.now.items c.act.result (held_in c.act.new.self) c.act.new.sent.items
+    = subst (λ (n : ℕ). ActsAs p old n c.packed-token.result c.args.sent.now.items c.act.result (held_in c.act.new.self) c.act.new.sent.items) (c.among-at.ensures.exact ∙ ap (λ (n : ℕ). c.args.pick % n) count) c.act.ensures in
+    made_as p old c.args.pick c.packed-token.result c.args.sent.now.items c.requires.sound some is c.act.result (held_in c.act.new.self) c.act.new.sent.items acts

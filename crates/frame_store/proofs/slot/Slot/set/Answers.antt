@@ -1,4 +1,4 @@
-use Rattle.frame_store.proofs.Unpacked.{set_state, set_words}
+use Rattle.packed.proofs.Unpacked.{set_state, set_words}
 use Rattle.frame_store.proofs.slot.Slot.set.Goals as goal
 
 pub invariant_of-self : goal.invariant_of-self

@@ -1,5 +1,5 @@
 use Rattle.std.proofs.Common.{sym, ap, ◌∙◌}
-use Rattle.frame_store.specs.Packing.{slot_words}
+use Rattle.packed.specs.Packing.{slot_words}
 use Rattle.frame_store.proofs.slot.Slot.words.Goals as goal
 
 pub returns : goal.returns

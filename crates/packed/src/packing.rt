@@ -1,8 +1,9 @@
 //! The states of a slot as two words of 64 bits.
 
 ghost use Rattle.std.specs.Prelude.{◌≡◌, ◌<◌, ◌+◌, ◌*◌};
-ghost use Rattle.tags.specs.Packed.{origin_code, IsOrigin};
-ghost use Rattle.frame_store.specs.Packing.{Parts, port_bit, cont_parts, word_parts, words_of, slot_words, port_from, origin_from, cont_from, word_from, parts_from, slot_from, IsCont, IsWord, IsSlotState, SlotPackingIsExact};
+ghost use Rattle.tags.specs.Packed.{origin_code, IsOrigin, IsValue};
+ghost use Rattle.tags.specs.declared.token.Word.{Word};
+ghost use Rattle.packed.specs.Packing.{Parts, port_bit, cont_parts, word_parts, words_of, slot_words, port_from, origin_from, cont_from, word_from, parts_from, slot_from, IsCont, IsWord, IsSlotState, SlotPackingIsExact};
 
 use tags::slot::SlotState;
 use tags::token::{Cont, Port, Word};
@@ -18,7 +19,7 @@ pub struct Fields {
 }
 
 impl Fields {
-    ghost use Rattle.frame_store.specs.FieldsOf.{parts_of};
+    ghost use Rattle.packed.specs.FieldsOf.{parts_of};
 
     /// The two words, with `state` as the kind of the state.
     #[inline(always)]
@@ -82,32 +83,43 @@ impl Fields {
     }
 
     #[inline(always)]
-    fn of_word(word: Word) -> Fields
-        ensures fields { parts_of result ≡ word_parts word }
-        ensures there { IsWord word }
+    pub(crate) fn of_value(value: Value) -> Fields
+        ensures fields { parts_of result ≡ word_parts (Word.Val value) }
+        ensures there { IsValue value }
     {
-        let (kind, body) = match word {
-            Word::Val(Value::Int(number)) => (1, number.cast_unsigned()),
-            Word::Val(
-                Value::Fault {
-                    kind: FaultKind::Zero,
-                    origin,
-                },
-            ) => (2, u64::from(code_of(origin))),
-            Word::Val(
-                Value::Fault {
-                    kind: FaultKind::Range,
-                    origin,
-                },
-            ) => (3, u64::from(code_of(origin))),
-            Word::Frame(frame) => (4, u64::from(frame)),
-            Word::Back(cont) => return Fields::of_cont(cont),
+        let (kind, body) = match value {
+            Value::Int(number) => (1, number.cast_unsigned()),
+            Value::Fault {
+                kind: FaultKind::Zero,
+                origin,
+            } => (2, u64::from(code_of(origin))),
+            Value::Fault {
+                kind: FaultKind::Range,
+                origin,
+            } => (3, u64::from(code_of(origin))),
         };
         Fields {
             kind,
             port: 0,
             high: 0,
             body,
+        }
+    }
+
+    #[inline(always)]
+    pub(crate) fn of_word(word: Word) -> Fields
+        ensures fields { parts_of result ≡ word_parts word }
+        ensures there { IsWord word }
+    {
+        match word {
+            Word::Val(value) => Fields::of_value(value),
+            Word::Frame(frame) => Fields {
+                kind: 4,
+                port: 0,
+                high: 0,
+                body: u64::from(frame),
+            },
+            Word::Back(cont) => Fields::of_cont(cont),
         }
     }
 
@@ -131,7 +143,7 @@ impl Fields {
     }
 
     #[inline(always)]
-    fn word(self) -> Word
+    pub(crate) fn word(self) -> Word
         ensures { result ≡ word_from (parts_of self) }
     {
         match self.kind {
@@ -161,7 +173,7 @@ fn code_of(origin: Origin) -> u32
 }
 
 #[inline(always)]
-fn origin_in(code: u64) -> Origin
+pub(crate) fn origin_in(code: u64) -> Origin
     ensures { result ≡ origin_from code }
 {
     if code == 0 {

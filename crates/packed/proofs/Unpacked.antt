@@ -14,13 +14,13 @@ use Rattle.tags.specs.declared.token.Word.{Word}
 use Rattle.tags.specs.declared.slot.SlotState.{SlotState}
 use Rattle.tags.specs.declared.slot.SlotState.TheVariants.{Empty, Left, Right, Credits, Waiter, Draining}
 use Rattle.tags.specs.Packed.{origin_code, IsOrigin}
-use Rattle.frame_store.specs.Packing.{Parts, port_bit, cont_parts, word_parts, count_parts, slot_words, port_from, origin_from, cont_from, word_from, parts_from, state_from, slot_from, IsCont, IsWord, IsSlotState}
+use Rattle.packed.specs.Packing.{Parts, port_bit, cont_parts, word_parts, count_parts, slot_words, port_from, origin_from, cont_from, word_from, parts_from, state_from, slot_from, IsCont, IsWord, IsSlotState}
 
 port_back : (p : Port) → port_from (port_bit p) ≡ p
 port_back port.Left = refl
 port_back port.Right = refl
 
-origin_back : (o : Origin) → IsOrigin o → origin_from (origin_code o) ≡ o
+pub origin_back : (o : Origin) → IsOrigin o → origin_from (origin_code o) ≡ o
 origin_back Untold h = refl
 origin_back (At b n) h =
     let test : eqb (1 + 1024 * b + n) 0 ≡ false = ne_eqb (1 + 1024 * b + n) 0 (λ e. absurd (omega arith)) in
@@ -34,7 +34,7 @@ cont_back (Cont.Frame f ip p) h =
     ap (λ x. Cont.Frame x ip (port_from (port_bit p))) e ∙ ap (λ x. Cont.Frame f ip x) (port_back p)
 cont_back (Cont.Host p) h = refl
 
-word_back : (w : Word) → IsWord w → word_from (word_parts w) ≡ w
+pub word_back : (w : Word) → IsWord w → word_from (word_parts w) ≡ w
 word_back (Word.Val (Int z)) h = ap (λ x. Word.Val (Int x)) (to_z-of_z w64 z h)
 word_back (Word.Val (Fault Zero o)) h = ap (λ x. Word.Val (Fault Zero x)) (origin_back o h)
 word_back (Word.Val (Fault Range o)) h = ap (λ x. Word.Val (Fault Range x)) (origin_back o h)
@@ -43,9 +43,9 @@ word_back (Word.Back (Cont.Frame f ip p)) h = ap Word.Back (cont_back (Cont.Fram
 word_back (Word.Back (Cont.Host p)) h = refl
 
 -- the fields of word 0
-record IsSmall (p : Parts) : Type 0 where
-  kind : p.kind < 256
-  port : p.port < 2
+pub record IsSmall (p : Parts) : Type 0 where
+  pub kind : p.kind < 256
+  pub port : p.port < 2
 
 abbrev make : ℕ → ℕ → ℕ → ℕ → Parts
 make body k q h = record { kind = k; port = q; high = h; body = body }
@@ -69,7 +69,7 @@ small_cont (Cont.Frame f ip port.Left) = record { kind = omega arith; port = ome
 small_cont (Cont.Frame f ip port.Right) = record { kind = omega arith; port = omega arith }
 small_cont (Cont.Host p) = record { kind = omega arith; port = omega arith }
 
-small_word : (w : Word) → IsSmall (word_parts w)
+pub small_word : (w : Word) → IsSmall (word_parts w)
 small_word (Word.Val (Int z)) = record { kind = omega arith; port = omega arith }
 small_word (Word.Val (Fault Zero o)) = record { kind = omega arith; port = omega arith }
 small_word (Word.Val (Fault Range o)) = record { kind = omega arith; port = omega arith }

@@ -2,7 +2,7 @@ use Rattle.std.proofs.Common.{◌≡◌, ◌+◌, length, set, [], ◌∷◌, �
 use Rattle.token_queue.specs.Ring.{ring}
 use Rattle.token_queue.specs.Tokens.{Tokens}
 use Rattle.token_queue.proofs.Rings.{ring_long, ring_pushed}
-use Rattle.token_queue.proofs.queue.TokenQueue.push_back_reserved.Goals as goal
+use Rattle.token_queue.proofs.queue.TokenQueue.push_packed.Goals as goal
 
 pub returns-clause-items : goal.returns-clause-items
 returns-clause-items g c =

@@ -37,8 +37,11 @@ word_parts (Word.Val (Fault Range o)) = record { kind = 3; port = 0; high = 0; b
 word_parts (Word.Frame f) = record { kind = 4; port = 0; high = 0; body = f }
 word_parts (Word.Back c) = cont_parts c
 
+abbrev pub head_of : ℕ → Parts → ℕ
+head_of state p = state + 256 * p.kind + 65536 * p.port + 4294967296 * p.high
+
 abbrev pub words_of : ℕ → Parts → List ℕ
-words_of state p = (state + 256 * p.kind + 65536 * p.port + 4294967296 * p.high) ∷ p.body ∷ []
+words_of state p = head_of state p ∷ p.body ∷ []
 
 abbrev pub count_parts : ℕ → Parts
 count_parts n = record { kind = 0; port = 0; high = 0; body = n }

@@ -1,7 +1,7 @@
 use Rattle.std.proofs.Common.{◌≡◌, length, get_or, sym, ap, ◌∙◌, arith}
 use Rattle.token_queue.specs.Tokens.{Tokens}
 use Rattle.token_queue.proofs.Rings.{ring_long, get_or-ring}
-use Rattle.token_queue.proofs.queue.TokenQueue.get.Goals as goal
+use Rattle.token_queue.proofs.queue.TokenQueue.packed.Goals as goal
 
 pub returns : goal.returns
 returns g c =

@@ -1,0 +1,4 @@
+pub mod Packing
+pub mod FieldsOf
+pub mod PackedTokens
+pub mod AddressOf

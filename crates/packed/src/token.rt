@@ -1,0 +1,229 @@
+//! Tokens, packed.
+
+ghost use Rattle.std.specs.Prelude.{◌≡◌, ◌≢◌, ℕ, ◌+◌, ◌*◌, ◌/◌, ◌%◌, IfSome, IfNone, slice_index};
+ghost use Rattle.tags.specs.declared.token.Port.{Port};
+ghost use Rattle.tags.specs.declared.token.To.{To};
+ghost use Rattle.tags.specs.declared.value.Value.{Value};
+ghost use Rattle.packed.specs.Packing.{slot_from, slot_words};
+ghost use Rattle.packed.specs.PackedTokens.{port_state, to_from, value_from, waits_as, AreWords, IsForInstr, TokenPackingIsExact};
+ghost use Rattle.packed.specs.AddressOf.{IsAddressOf};
+
+use crate::packing::{Fields, origin_in};
+use crate::word::PackedWord;
+use std::marker::Model;
+use tags::token::{FrameId, Port, To, Token};
+use tags::value::{FaultKind, Value};
+
+/// A token in four words of 64 bits. One for an instruction has the words of the slot in which it waits.
+#[derive(Clone, Copy)]
+pub struct PackedToken {
+    head: u64,
+    body: u64,
+    place: u64,
+    value: u64,
+}
+
+impl Model for PackedToken {
+    ghost use Rattle.std.proofs.Common.{sym};
+    ghost use Rattle.tags.specs.declared.token.Token.{Token};
+    ghost use Rattle.packed.specs.Packing.{head_of, word_parts};
+    ghost use Rattle.packed.specs.PackedTokens.{token_from, to_state, to_place, to_value, AreTokenWordsOf};
+
+    ghost Value = { Token };
+
+    ghost view = { λ t. token_from t.head t.body t.place t.value };
+
+    ghost invariant = { λ t. AreTokenWordsOf (token_from t.head t.body t.place t.value) t.head t.body t.place t.value };
+
+    ghost inverse = { λ t. record { head = head_of (to_state t.to) (word_parts t.word); body = (word_parts t.word).body; place = to_place t.to; value = to_value t.to } };
+
+    ghost inverse_ok = { λ a h i. record { head = sym h.head i; body = sym h.body i; place = sym h.place i; value = sym h.value i } };
+}
+
+/// An input of an instruction in a frame.
+#[derive(Clone, Copy, Debug, PartialEq, Eq)]
+pub struct Input {
+    pub frame: FrameId,
+    pub ip: u32,
+    pub port: Port,
+}
+
+/// Where a token goes, as it is packed: what stands in bits 0 to 7 of word 0, and words 2 and 3.
+#[derive(Clone, Copy, Debug, PartialEq, Eq)]
+struct Address {
+    state: u8,
+    place: u64,
+    value: u64,
+}
+
+// What stands in bits 0 to 7 where a word waits on the port.
+#[inline(always)]
+fn state_of(port: Port) -> u8
+    ensures { result ≡ port_state port }
+{
+    match port {
+        Port::Left => 1,
+        Port::Right => 2,
+    }
+}
+
+impl Address {
+    #[inline(always)]
+    fn of(to: To) -> Address
+        ensures { IsAddressOf to result }
+    {
+        let (state, place, value) = match to {
+            To::Instr { frame, ip, port } => (
+                state_of(port),
+                u64::from(ip) + 4_294_967_296 * u64::from(frame),
+                0,
+            ),
+            To::Fetch { cell } => (3, u64::from(cell), 0),
+            To::Store { cell, value } => {
+                let fields = Fields::of_value(value);
+                (
+                    4,
+                    u64::from(cell) + 4_294_967_296 * u64::from(fields.kind),
+                    fields.body,
+                )
+            }
+            To::Manager => (5, 0, 0),
+            To::Release { frame } => (6, u64::from(frame), 0),
+            To::Host { port } => (7, u64::from(port), 0),
+        };
+        Address {
+            state,
+            place,
+            value,
+        }
+    }
+}
+
+// The value of which the kind and word 1 are these.
+fn value_of(kind: u64, body: u64) -> Value
+    ensures { result ≡ value_from kind body }
+{
+    match kind {
+        1 => Value::Int(body.cast_signed()),
+        2 => Value::Fault {
+            kind: FaultKind::Zero,
+            origin: origin_in(body),
+        },
+        _ => Value::Fault {
+            kind: FaultKind::Range,
+            origin: origin_in(body),
+        },
+    }
+}
+
+// Where a token goes.
+#[inline(always)]
+fn to_of(state: u64, place: u64, value: u64) -> To
+    ensures { result ≡ to_from state place value }
+{
+    let low = (place % 4_294_967_296) as u32;
+    let high = (place / 4_294_967_296) as u32;
+    match state {
+        1 => To::Instr {
+            frame: high,
+            ip: low,
+            port: Port::Left,
+        },
+        2 => To::Instr {
+            frame: high,
+            ip: low,
+            port: Port::Right,
+        },
+        3 => To::Fetch { cell: low },
+        4 => To::Store {
+            cell: low,
+            value: value_of(u64::from(high), value),
+        },
+        5 => To::Manager,
+        6 => To::Release { frame: low },
+        _ => To::Host { port: low },
+    }
+}
+
+impl PackedToken {
+    /// The token, packed.
+    #[inline(always)]
+    pub fn pack(token: Token) -> PackedToken
+        ensures { result ≡ token }
+    {
+        let address = Address::of(token.to);
+        let words = Fields::of_word(token.word).words(address.state);
+        PackedToken {
+            head: words[0],
+            body: words[1],
+            place: address.place,
+            value: address.value,
+        }
+    }
+
+    /// The token that brings a word to an instruction.
+    #[inline(always)]
+    pub fn to_instr(frame: FrameId, ip: u32, port: Port, word: &PackedWord) -> PackedToken
+        ensures { result ≡ record { to = To.Instr frame ip port; word = word.now } }
+    {
+        let words = word.words(state_of(port));
+        PackedToken {
+            head: words[0],
+            body: words[1],
+            place: u64::from(ip) + 4_294_967_296 * u64::from(frame),
+            value: 0,
+        }
+    }
+
+    /// The token.
+    #[inline(always)]
+    pub fn unpack(&self) -> Token
+        ensures { result ≡ self.now }
+    {
+        Token {
+            to: to_of(self.head % 256, self.place, self.value),
+            word: Fields::from_words(self.head, self.body).word(),
+        }
+    }
+
+    /// The input of an instruction that it goes to, if it goes to one.
+    #[inline(always)]
+    pub fn input(&self) -> Option<Input>
+        ensures some { IfSome result (λ i. self.now.to ≡ To.Instr i.frame i.ip i.port) }
+        ensures none { IfNone result ((f ip : ℕ) (p : Port) → self.now.to ≢ To.Instr f ip p) }
+    {
+        let port = match self.head % 256 {
+            1 => Port::Left,
+            2 => Port::Right,
+            _ => return None,
+        };
+        Some(Input {
+            frame: (self.place / 4_294_967_296) as u32,
+            ip: (self.place % 4_294_967_296) as u32,
+            port,
+        })
+    }
+
+    /// Its word.
+    #[inline(always)]
+    pub fn word(&self) -> PackedWord
+        ensures { result ≡ self.now.word }
+    {
+        PackedWord::from_words(self.head, self.body)
+    }
+
+    /// The two words of the slot in which it waits, if it goes to an instruction.
+    #[inline(always)]
+    pub fn waiting(&self) -> [u64; 2]
+        requires { IsForInstr self.now.to }
+        ensures state { slot_from (slice_index result 0) (slice_index result 1) ≡ waits_as self.now.to self.now.word }
+        ensures words { slot_words (waits_as self.now.to self.now.word) ≡ result }
+    {
+        [self.head, self.body]
+    }
+}
+
+/// No two tokens have the same words.
+pub fn token_packing_is_exact()
+    ensures { TokenPackingIsExact }
+{}
