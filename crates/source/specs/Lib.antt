@@ -1,3 +1,6 @@
 pub mod Tokens
 pub mod Tree
 pub mod Spelled
+pub mod Fits
+pub mod Words
+pub mod Parses

@@ -13,7 +13,7 @@ use Rattle.source.specs.declared.token.Sign.TheVariants as sign
 use Rattle.source.specs.declared.token.TokenKind.{TokenKind}
 use Rattle.source.specs.declared.token.TokenKind.TheVariants as token
 use Rattle.source.specs.declared.token.Token.{Token}
-use Rattle.source.specs.Tree.{Name, NameAt, NumberAt, Target, Bind, Drop, Expr, Number, Named, Bracket, Prefix, Infix, Fetch, Store, Call, If, Loop, Exprs, One, More, Body, Let, Do, Give, Chain, Turn, Before, After, Function, Item, Cells, Defines, Program}
+use Rattle.source.specs.Tree.{Name, NameAt, NumberAt, Target, Bind, Drop, Expr, Number, Named, Bracket, Prefix, Infix, Fetch, Store, Call, If, Loop, Exprs, One, More, Body, Let, Do, Give, Chain, Turn, Before, After, Function, Item, Cells, Defines, Program, names_of}
 
 -- what a token says
 pub data Lexeme : Type 0 where
@@ -107,10 +107,6 @@ abbrev pub others : List NameAt → List NameAt
 others [] = []
 others (x ∷ xs) = xs
 
-abbrev pub turn_names : Turn → List NameAt
-turn_names (Before xs p body) = xs
-turn_names (After xs body p) = xs
-
 abbrev pub is_chain : Body → Bool
 is_chain (Let at targets es rest) = false
 is_chain (Do es rest) = false
@@ -135,7 +131,7 @@ abbrev mutual
   tokens (Call at strict f es) = strict_tokens strict ++ name_at at f ∷ the_sign sign.OpenParen ∷ list_tokens es ++ the_sign sign.CloseParen ∷ []
   tokens (If at p l r) = word_at at word.If ∷ tokens p ++ the_sign sign.OpenBrace ∷ body_tokens l ++ the_word word.Else ∷ braced (is_chain r) (body_tokens r)
   tokens (Loop at bound firsts turn) = word_at at word.Loop ∷ number_at bound.at bound.number ∷ the_sign sign.OpenParen
-      ∷ first_tokens (turn_names turn) firsts ++ the_sign sign.CloseParen ∷ turn_tokens turn
+      ∷ first_tokens (names_of turn) firsts ++ the_sign sign.CloseParen ∷ turn_tokens turn
 
   pub list_tokens : Exprs → List Spelling
   list_tokens (One e) = tokens e

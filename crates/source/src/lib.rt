@@ -2,5 +2,6 @@
 #![tactic(auto)]
 
 pub mod fault;
+pub mod program;
 pub mod token;
 pub mod word;

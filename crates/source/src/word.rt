@@ -50,9 +50,9 @@ pub enum Word<N> {
     Callee { at: usize, function: N },
     Call { at: usize, strict: bool, function: N },
     /// The predicate ends, and the first arm begins.
-    Then { at: usize },
+    Then,
     /// The second arm begins.
-    Else { at: usize },
+    Else,
     EndIf { at: usize },
     /// A loop begins.
     Loop { at: usize },
