@@ -1,1 +1,2 @@
 mod ReadTokens
+mod OneAnswer
