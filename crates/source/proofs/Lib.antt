@@ -1,2 +1,4 @@
 mod ReadTokens
 mod OneAnswer
+mod ReadSamples
+mod LowerSamples

@@ -11,3 +11,4 @@ pub mod Evaluates
 pub mod Once
 pub mod Theorem
 pub mod Lowered
+pub mod Samples
