@@ -2,3 +2,5 @@ mod ReadTokens
 mod OneAnswer
 mod ReadSamples
 mod LowerSamples
+mod RefusedSamples
+mod Worked

@@ -12,3 +12,4 @@ pub mod Once
 pub mod Theorem
 pub mod Lowered
 pub mod Samples
+pub mod Examples
