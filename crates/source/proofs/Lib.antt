@@ -1,4 +1,7 @@
 mod ReadTokens
+pub mod Steps
+pub mod Kept
+mod Counted
 mod OneAnswer
 mod ReadSamples
 mod LowerSamples

@@ -13,3 +13,4 @@ pub mod Theorem
 pub mod Lowered
 pub mod Samples
 pub mod Examples
+pub mod Counts
