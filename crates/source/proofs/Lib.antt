@@ -7,3 +7,4 @@ mod ReadSamples
 mod LowerSamples
 mod RefusedSamples
 mod Worked
+mod SampleWords
