@@ -1,12 +1,11 @@
 -- As many values as the rules count: by induction on the evaluation.
-use Rattle.std.specs.Prelude.{◌≡◌, ℕ, ◌+◌, ◌==◌, Bool, true, false, List, [], ◌∷◌, ◌++◌, length, is_some, Option, Some, None, Result, Ok, Err, ⊤, if◌then◌else◌}
-use Rattle.std.proofs.Common.{refl, sym, ◌∙◌, ap, subst, arith}
+use Rattle.std.specs.Prelude.{◌≡◌, ℕ, ◌+◌, ◌==◌, Bool, true, false, List, [], ◌∷◌, ◌++◌, length, is_some, Option, Some, Ok, if◌then◌else◌}
+use Rattle.std.proofs.Common.{sym, ◌∙◌, ap, subst, arith}
 use Rattle.std.proofs.lemmas.List.{length-append}
 use Rattle.tags.specs.declared.value.Value.{Value}
 use Rattle.semantics.specs.Graph.{same_name}
-use Rattle.source.specs.declared.fault.Fault.{Fault}
 use Rattle.source.specs.declared.fault.FaultKind.TheVariants.{Arity, NoMain}
-use Rattle.source.specs.Tree.{Name, NameAt, Target, Expr, Exprs, One, More, Body, Turn, Function, Item, Cells, Defines, Program, names_of}
+use Rattle.source.specs.Tree.{Name, NameAt, Expr, Exprs, Body, Turn, Function, Item, Cells, Defines, Program, names_of}
 use Rattle.source.specs.Spelled.{others}
 use Rattle.source.specs.Fits.{Fits, FitsAll, FitsBody, FitsTurn, FitsProgram, count}
 use Rattle.source.specs.Outside.{bare, bound_by}
@@ -15,7 +14,7 @@ use Rattle.source.specs.Rules.{function_in, written_or_one, main_name, values, l
 use Rattle.source.specs.Evaluates.{World, Env, Stores, Evaluates, EvaluatesAll, Runs, Turns, number, named, bracket, prefix, infix_, fetch, store, call, if_true, if_false, loop, one, more, lets, does, gives, chain, leaves, goes, ends, again}
 use Rattle.source.specs.Counts.{IsGood, CountsHold, MainCounts}
 use Rattle.source.proofs.Steps.{then_ok, ok_same, ok_as}
-use Rattle.source.proofs.Kept.{test_ok, has_one, known_name, in_prefix, in_infix, in_fetch, in_store, IsCalled, in_call, in_if, IsTurned, in_loop, in_more, in_first, in_firsts, in_let, in_do, in_before, in_after}
+use Rattle.source.proofs.Kept.{test_ok, known_name, in_prefix, in_infix, in_fetch, in_store, IsCalled, in_call, in_if, IsTurned, in_loop, in_more, in_first, in_firsts, in_let, in_do, in_before, in_after}
 
 -- the body of each function that a name stands for fits, and has its results
 abbrev EachGood : Program → Type 0

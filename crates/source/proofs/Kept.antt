@@ -1,6 +1,6 @@
 -- What the rules say of the parts of a part that keeps them.
-use Rattle.std.specs.Prelude.{◌≡◌, ℕ, ◌+◌, ◌==◌, ◌&&◌, nat_le, Bool, true, false, List, [], ◌∷◌, ◌++◌, length, is_some, Option, Some, None, Result, Ok, Err, ⊤}
-use Rattle.std.proofs.Common.{refl, sym, ◌∙◌, eqb-true}
+use Rattle.std.specs.Prelude.{◌≡◌, ℕ, ◌+◌, ◌==◌, ◌&&◌, nat_le, Bool, true, List, [], ◌++◌, length, is_some, Option, Some, None, Result, Ok, ⊤}
+use Rattle.std.proofs.Common.{sym, ◌∙◌, eqb-true}
 use Rattle.operators.specs.declared.Unary.{Unary}
 use Rattle.source.specs.declared.word.InfixSign.{InfixSign}
 use Rattle.source.specs.declared.fault.Fault.{Fault}

@@ -1,7 +1,7 @@
 -- The samples, lowered.
-use Rattle.std.specs.Prelude.{◌≡◌, ℕ, true, false, pos, negsuc, List, [], ◌∷◌, codes, Result, Ok, Err, refl}
+use Rattle.std.specs.Prelude.{◌≡◌, true, false, pos, negsuc, List, [], ◌∷◌, codes, Ok, refl}
 use Rattle.operators.specs.declared.Unary.TheVariants.{Neg, Not}
-use Rattle.operators.specs.declared.Binary.TheVariants.{Add, Sub, Mul, Div, Rem, And, Or, Xor, Shl, Shr, Eq, Ne, Lt, Le}
+use Rattle.operators.specs.declared.Binary.TheVariants.{Add, Sub, Mul, Div, Rem, And, Or, Xor, Shl, Lt, Le}
 use Rattle.semantics.specs.declared.graph.Region.{Region}
 use Rattle.semantics.specs.declared.graph.Region.TheVariants.{Root, Arm}
 use Rattle.semantics.specs.declared.graph.Source.{Source}
@@ -9,7 +9,7 @@ use Rattle.semantics.specs.declared.graph.Kind.{Kind}
 use Rattle.semantics.specs.declared.graph.Kind.TheVariants as node
 use Rattle.semantics.specs.Graph.{Node, Graph}
 use Rattle.std.specs.Fmt.{digits}
-use Rattle.source.specs.Tree.{Name, Program}
+use Rattle.source.specs.Tree.{Name}
 use Rattle.source.specs.Lowered.{port, lowered}
 use Rattle.source.specs.Samples.{literals, least, signs, arithmetic, swapped, cells, stored_twice, pairs, strict_call, factorial, else_if, two_arms, sum_up, count_up, nested, hidden, shared, misses, two_faults}
 
@@ -21,16 +21,19 @@ abbrev literals_graph : Graph
 literals_graph = record {
   version = 2;
   arrays = [];
-  blocks = (codes "main", record {
-    inputs = 1;
-    outputs = 1;
-    nodes =
-        line Root (node.Lit (pos 5)) (port 0 0 ∷ []) ∷
-        line Root (node.Lit (negsuc 4)) (port 0 0 ∷ []) ∷
-        line Root (node.Apply2 Sub) (port 1 0 ∷ port 2 0 ∷ []) ∷
-        [];
-    results = port 3 0 ∷ [];
-  }) ∷ [];
+  blocks = (
+    codes "main",
+    record {
+      inputs = 1;
+      outputs = 1;
+      nodes =
+          line Root (node.Lit (pos 5)) (port 0 0 ∷ []) ∷
+          line Root (node.Lit (negsuc 4)) (port 0 0 ∷ []) ∷
+          line Root (node.Apply2 Sub) (port 1 0 ∷ port 2 0 ∷ []) ∷
+          [];
+      results = port 3 0 ∷ [];
+    },
+  ) ∷ [];
   main = codes "main";
 }
 
@@ -43,14 +46,17 @@ abbrev least_graph : Graph
 least_graph = record {
   version = 2;
   arrays = [];
-  blocks = (codes "main", record {
-    inputs = 1;
-    outputs = 1;
-    nodes =
-        line Root (node.Lit (negsuc 9223372036854775807)) (port 0 0 ∷ []) ∷
-        [];
-    results = port 1 0 ∷ [];
-  }) ∷ [];
+  blocks = (
+    codes "main",
+    record {
+      inputs = 1;
+      outputs = 1;
+      nodes =
+          line Root (node.Lit (negsuc 9223372036854775807)) (port 0 0 ∷ []) ∷
+          [];
+      results = port 1 0 ∷ [];
+    },
+  ) ∷ [];
   main = codes "main";
 }
 
@@ -63,20 +69,23 @@ abbrev signs_graph : Graph
 signs_graph = record {
   version = 2;
   arrays = [];
-  blocks = (codes "main", record {
-    inputs = 1;
-    outputs = 1;
-    nodes =
-        line Root (node.Apply1 Neg) (port 0 0 ∷ []) ∷
-        line Root (node.Apply1 Neg) (port 0 0 ∷ []) ∷
-        line Root (node.Apply1 Not) (port 2 0 ∷ []) ∷
-        line Root (node.Apply2 Add) (port 1 0 ∷ port 3 0 ∷ []) ∷
-        line Root (node.Lit (pos 5)) (port 0 0 ∷ []) ∷
-        line Root (node.Apply1 Neg) (port 5 0 ∷ []) ∷
-        line Root (node.Apply2 Sub) (port 4 0 ∷ port 6 0 ∷ []) ∷
-        [];
-    results = port 7 0 ∷ [];
-  }) ∷ [];
+  blocks = (
+    codes "main",
+    record {
+      inputs = 1;
+      outputs = 1;
+      nodes =
+          line Root (node.Apply1 Neg) (port 0 0 ∷ []) ∷
+          line Root (node.Apply1 Neg) (port 0 0 ∷ []) ∷
+          line Root (node.Apply1 Not) (port 2 0 ∷ []) ∷
+          line Root (node.Apply2 Add) (port 1 0 ∷ port 3 0 ∷ []) ∷
+          line Root (node.Lit (pos 5)) (port 0 0 ∷ []) ∷
+          line Root (node.Apply1 Neg) (port 5 0 ∷ []) ∷
+          line Root (node.Apply2 Sub) (port 4 0 ∷ port 6 0 ∷ []) ∷
+          [];
+      results = port 7 0 ∷ [];
+    },
+  ) ∷ [];
   main = codes "main";
 }
 
@@ -89,22 +98,25 @@ abbrev arithmetic_graph : Graph
 arithmetic_graph = record {
   version = 2;
   arrays = [];
-  blocks = (codes "main", record {
-    inputs = 1;
-    outputs = 1;
-    nodes =
-        line Root (node.Lit (pos 2)) (port 0 0 ∷ []) ∷
-        line Root (node.Apply2 Mul) (port 1 0 ∷ port 0 0 ∷ []) ∷
-        line Root (node.Apply2 Sub) (port 0 0 ∷ port 2 0 ∷ []) ∷
-        line Root (node.Apply2 Sub) (port 3 0 ∷ port 0 0 ∷ []) ∷
-        line Root (node.Lit (pos 1)) (port 0 0 ∷ []) ∷
-        line Root (node.Apply2 Shl) (port 4 0 ∷ port 5 0 ∷ []) ∷
-        line Root (node.Apply2 And) (port 6 0 ∷ port 0 0 ∷ []) ∷
-        line Root (node.Apply2 Xor) (port 7 0 ∷ port 0 0 ∷ []) ∷
-        line Root (node.Apply2 Or) (port 8 0 ∷ port 0 0 ∷ []) ∷
-        [];
-    results = port 9 0 ∷ [];
-  }) ∷ [];
+  blocks = (
+    codes "main",
+    record {
+      inputs = 1;
+      outputs = 1;
+      nodes =
+          line Root (node.Lit (pos 2)) (port 0 0 ∷ []) ∷
+          line Root (node.Apply2 Mul) (port 1 0 ∷ port 0 0 ∷ []) ∷
+          line Root (node.Apply2 Sub) (port 0 0 ∷ port 2 0 ∷ []) ∷
+          line Root (node.Apply2 Sub) (port 3 0 ∷ port 0 0 ∷ []) ∷
+          line Root (node.Lit (pos 1)) (port 0 0 ∷ []) ∷
+          line Root (node.Apply2 Shl) (port 4 0 ∷ port 5 0 ∷ []) ∷
+          line Root (node.Apply2 And) (port 6 0 ∷ port 0 0 ∷ []) ∷
+          line Root (node.Apply2 Xor) (port 7 0 ∷ port 0 0 ∷ []) ∷
+          line Root (node.Apply2 Or) (port 8 0 ∷ port 0 0 ∷ []) ∷
+          [];
+      results = port 9 0 ∷ [];
+    },
+  ) ∷ [];
   main = codes "main";
 }
 
@@ -117,20 +129,23 @@ abbrev swapped_graph : Graph
 swapped_graph = record {
   version = 2;
   arrays = [];
-  blocks = (codes "main", record {
-    inputs = 2;
-    outputs = 1;
-    nodes =
-        line Root (node.Apply2 Lt) (port 1 0 ∷ port 0 0 ∷ []) ∷
-        line Root (node.Apply2 Le) (port 1 0 ∷ port 0 0 ∷ []) ∷
-        line Root (node.Apply2 Add) (port 2 0 ∷ port 3 0 ∷ []) ∷
-        line Root (node.Apply2 Lt) (port 0 0 ∷ port 1 0 ∷ []) ∷
-        line Root (node.Apply2 Add) (port 4 0 ∷ port 5 0 ∷ []) ∷
-        line Root (node.Apply2 Le) (port 0 0 ∷ port 1 0 ∷ []) ∷
-        line Root (node.Apply2 Add) (port 6 0 ∷ port 7 0 ∷ []) ∷
-        [];
-    results = port 8 0 ∷ [];
-  }) ∷ [];
+  blocks = (
+    codes "main",
+    record {
+      inputs = 2;
+      outputs = 1;
+      nodes =
+          line Root (node.Apply2 Lt) (port 1 0 ∷ port 0 0 ∷ []) ∷
+          line Root (node.Apply2 Le) (port 1 0 ∷ port 0 0 ∷ []) ∷
+          line Root (node.Apply2 Add) (port 2 0 ∷ port 3 0 ∷ []) ∷
+          line Root (node.Apply2 Lt) (port 0 0 ∷ port 1 0 ∷ []) ∷
+          line Root (node.Apply2 Add) (port 4 0 ∷ port 5 0 ∷ []) ∷
+          line Root (node.Apply2 Le) (port 0 0 ∷ port 1 0 ∷ []) ∷
+          line Root (node.Apply2 Add) (port 6 0 ∷ port 7 0 ∷ []) ∷
+          [];
+      results = port 8 0 ∷ [];
+    },
+  ) ∷ [];
   main = codes "main";
 }
 
@@ -143,19 +158,22 @@ abbrev cells_graph : Graph
 cells_graph = record {
   version = 2;
   arrays = (codes "A", 2) ∷ [];
-  blocks = (codes "main", record {
-    inputs = 1;
-    outputs = 1;
-    nodes =
-        line Root (node.Lit (pos 1)) (port 0 0 ∷ []) ∷
-        line Root (node.Lit (pos 3)) (port 0 0 ∷ []) ∷
-        line Root (node.Apply2 Add) (port 0 0 ∷ port 2 0 ∷ []) ∷
-        line Root (node.Store (codes "A")) (port 1 0 ∷ port 3 0 ∷ []) ∷
-        line Root (node.Lit (pos 1)) (port 0 0 ∷ []) ∷
-        line Root (node.Fetch (codes "A")) (port 5 0 ∷ []) ∷
-        [];
-    results = port 6 0 ∷ [];
-  }) ∷ [];
+  blocks = (
+    codes "main",
+    record {
+      inputs = 1;
+      outputs = 1;
+      nodes =
+          line Root (node.Lit (pos 1)) (port 0 0 ∷ []) ∷
+          line Root (node.Lit (pos 3)) (port 0 0 ∷ []) ∷
+          line Root (node.Apply2 Add) (port 0 0 ∷ port 2 0 ∷ []) ∷
+          line Root (node.Store (codes "A")) (port 1 0 ∷ port 3 0 ∷ []) ∷
+          line Root (node.Lit (pos 1)) (port 0 0 ∷ []) ∷
+          line Root (node.Fetch (codes "A")) (port 5 0 ∷ []) ∷
+          [];
+      results = port 6 0 ∷ [];
+    },
+  ) ∷ [];
   main = codes "main";
 }
 
@@ -168,17 +186,20 @@ abbrev stored_twice_graph : Graph
 stored_twice_graph = record {
   version = 2;
   arrays = (codes "A", 2) ∷ (codes "B", 3) ∷ [];
-  blocks = (codes "main", record {
-    inputs = 1;
-    outputs = 1;
-    nodes =
-        line Root (node.Lit (pos 0)) (port 0 0 ∷ []) ∷
-        line Root (node.Lit (pos 7)) (port 0 0 ∷ []) ∷
-        line Root (node.Store (codes "B")) (port 0 0 ∷ port 2 0 ∷ []) ∷
-        line Root (node.Store (codes "A")) (port 1 0 ∷ port 3 0 ∷ []) ∷
-        [];
-    results = port 4 0 ∷ [];
-  }) ∷ [];
+  blocks = (
+    codes "main",
+    record {
+      inputs = 1;
+      outputs = 1;
+      nodes =
+          line Root (node.Lit (pos 0)) (port 0 0 ∷ []) ∷
+          line Root (node.Lit (pos 7)) (port 0 0 ∷ []) ∷
+          line Root (node.Store (codes "B")) (port 0 0 ∷ port 2 0 ∷ []) ∷
+          line Root (node.Store (codes "A")) (port 1 0 ∷ port 3 0 ∷ []) ∷
+          [];
+      results = port 4 0 ∷ [];
+    },
+  ) ∷ [];
   main = codes "main";
 }
 
@@ -191,22 +212,28 @@ abbrev pairs_graph : Graph
 pairs_graph = record {
   version = 2;
   arrays = [];
-  blocks = (codes "pair", record {
-    inputs = 2;
-    outputs = 2;
-    nodes =
-        [];
-    results = port 1 0 ∷ port 0 0 ∷ [];
-  }) ∷ (codes "main", record {
-    inputs = 1;
-    outputs = 1;
-    nodes =
-        line Root (node.Lit (pos 1)) (port 0 0 ∷ []) ∷
-        line Root (node.Call (codes "pair")) (port 0 0 ∷ port 1 0 ∷ []) ∷
-        line Root (node.Call (codes "pair")) (port 2 0 ∷ port 2 1 ∷ []) ∷
-        [];
-    results = port 3 0 ∷ [];
-  }) ∷ [];
+  blocks = (
+    codes "pair",
+    record {
+      inputs = 2;
+      outputs = 2;
+      nodes =
+          [];
+      results = port 1 0 ∷ port 0 0 ∷ [];
+    },
+  ) ∷ (
+    codes "main",
+    record {
+      inputs = 1;
+      outputs = 1;
+      nodes =
+          line Root (node.Lit (pos 1)) (port 0 0 ∷ []) ∷
+          line Root (node.Call (codes "pair")) (port 0 0 ∷ port 1 0 ∷ []) ∷
+          line Root (node.Call (codes "pair")) (port 2 0 ∷ port 2 1 ∷ []) ∷
+          [];
+      results = port 3 0 ∷ [];
+    },
+  ) ∷ [];
   main = codes "main";
 }
 
@@ -219,22 +246,28 @@ abbrev strict_call_graph : Graph
 strict_call_graph = record {
   version = 2;
   arrays = (codes "A", 1) ∷ [];
-  blocks = (codes "f", record {
-    inputs = 2;
-    outputs = 1;
-    nodes =
-        [];
-    results = port 1 0 ∷ [];
-  }) ∷ (codes "main", record {
-    inputs = 1;
-    outputs = 1;
-    nodes =
-        line Root (node.Lit (pos 0)) (port 0 0 ∷ []) ∷
-        line Root (node.Fetch (codes "A")) (port 1 0 ∷ []) ∷
-        line Root (node.StrictCall (codes "f")) (port 2 0 ∷ port 0 0 ∷ []) ∷
-        [];
-    results = port 3 0 ∷ [];
-  }) ∷ [];
+  blocks = (
+    codes "f",
+    record {
+      inputs = 2;
+      outputs = 1;
+      nodes =
+          [];
+      results = port 1 0 ∷ [];
+    },
+  ) ∷ (
+    codes "main",
+    record {
+      inputs = 1;
+      outputs = 1;
+      nodes =
+          line Root (node.Lit (pos 0)) (port 0 0 ∷ []) ∷
+          line Root (node.Fetch (codes "A")) (port 1 0 ∷ []) ∷
+          line Root (node.StrictCall (codes "f")) (port 2 0 ∷ port 0 0 ∷ []) ∷
+          [];
+      results = port 3 0 ∷ [];
+    },
+  ) ∷ [];
   main = codes "main";
 }
 
@@ -247,24 +280,27 @@ abbrev factorial_graph : Graph
 factorial_graph = record {
   version = 2;
   arrays = [];
-  blocks = (codes "main", record {
-    inputs = 1;
-    outputs = 1;
-    nodes =
-        line Root (node.Lit (pos 1)) (port 0 0 ∷ []) ∷
-        line Root (node.Apply2 Le) (port 0 0 ∷ port 1 0 ∷ []) ∷
-        line Root node.Cond (port 2 0 ∷ []) ∷
-        line (Arm 3 true) node.Enter (port 2 0 ∷ []) ∷
-        line (Arm 3 true) (node.Lit (pos 1)) (port 4 0 ∷ []) ∷
-        line (Arm 3 false) node.Enter (port 0 0 ∷ []) ∷
-        line (Arm 3 false) (node.Lit (pos 1)) (port 6 0 ∷ []) ∷
-        line (Arm 3 false) (node.Apply2 Sub) (port 6 0 ∷ port 7 0 ∷ []) ∷
-        line (Arm 3 false) (node.Call (codes "main")) (port 8 0 ∷ []) ∷
-        line (Arm 3 false) (node.Apply2 Mul) (port 6 0 ∷ port 9 0 ∷ []) ∷
-        line Root (node.Merge 3) (port 5 0 ∷ port 10 0 ∷ []) ∷
-        [];
-    results = port 11 0 ∷ [];
-  }) ∷ [];
+  blocks = (
+    codes "main",
+    record {
+      inputs = 1;
+      outputs = 1;
+      nodes =
+          line Root (node.Lit (pos 1)) (port 0 0 ∷ []) ∷
+          line Root (node.Apply2 Le) (port 0 0 ∷ port 1 0 ∷ []) ∷
+          line Root node.Cond (port 2 0 ∷ []) ∷
+          line (Arm 3 true) node.Enter (port 2 0 ∷ []) ∷
+          line (Arm 3 true) (node.Lit (pos 1)) (port 4 0 ∷ []) ∷
+          line (Arm 3 false) node.Enter (port 0 0 ∷ []) ∷
+          line (Arm 3 false) (node.Lit (pos 1)) (port 6 0 ∷ []) ∷
+          line (Arm 3 false) (node.Apply2 Sub) (port 6 0 ∷ port 7 0 ∷ []) ∷
+          line (Arm 3 false) (node.Call (codes "main")) (port 8 0 ∷ []) ∷
+          line (Arm 3 false) (node.Apply2 Mul) (port 6 0 ∷ port 9 0 ∷ []) ∷
+          line Root (node.Merge 3) (port 5 0 ∷ port 10 0 ∷ []) ∷
+          [];
+      results = port 11 0 ∷ [];
+    },
+  ) ∷ [];
   main = codes "main";
 }
 
@@ -277,26 +313,29 @@ abbrev else_if_graph : Graph
 else_if_graph = record {
   version = 2;
   arrays = [];
-  blocks = (codes "main", record {
-    inputs = 1;
-    outputs = 1;
-    nodes =
-        line Root node.Cond (port 0 0 ∷ []) ∷
-        line (Arm 1 true) node.Enter (port 0 0 ∷ []) ∷
-        line (Arm 1 false) node.Enter (port 0 0 ∷ []) ∷
-        line (Arm 1 false) (node.Lit (pos 1)) (port 3 0 ∷ []) ∷
-        line (Arm 1 false) (node.Apply2 Add) (port 3 0 ∷ port 4 0 ∷ []) ∷
-        line (Arm 1 false) node.Cond (port 5 0 ∷ []) ∷
-        line (Arm 6 true) node.Enter (port 5 0 ∷ []) ∷
-        line (Arm 6 true) (node.Lit (pos 2)) (port 7 0 ∷ []) ∷
-        line (Arm 6 false) node.Enter (port 3 0 ∷ []) ∷
-        line (Arm 6 false) (node.Lit (pos 3)) (port 9 0 ∷ []) ∷
-        line (Arm 6 false) (node.Lit (pos 4)) (port 9 0 ∷ []) ∷
-        line (Arm 1 false) (node.Merge 6) (port 8 0 ∷ port 11 0 ∷ []) ∷
-        line Root (node.Merge 1) (port 2 0 ∷ port 12 0 ∷ []) ∷
-        [];
-    results = port 13 0 ∷ [];
-  }) ∷ [];
+  blocks = (
+    codes "main",
+    record {
+      inputs = 1;
+      outputs = 1;
+      nodes =
+          line Root node.Cond (port 0 0 ∷ []) ∷
+          line (Arm 1 true) node.Enter (port 0 0 ∷ []) ∷
+          line (Arm 1 false) node.Enter (port 0 0 ∷ []) ∷
+          line (Arm 1 false) (node.Lit (pos 1)) (port 3 0 ∷ []) ∷
+          line (Arm 1 false) (node.Apply2 Add) (port 3 0 ∷ port 4 0 ∷ []) ∷
+          line (Arm 1 false) node.Cond (port 5 0 ∷ []) ∷
+          line (Arm 6 true) node.Enter (port 5 0 ∷ []) ∷
+          line (Arm 6 true) (node.Lit (pos 2)) (port 7 0 ∷ []) ∷
+          line (Arm 6 false) node.Enter (port 3 0 ∷ []) ∷
+          line (Arm 6 false) (node.Lit (pos 3)) (port 9 0 ∷ []) ∷
+          line (Arm 6 false) (node.Lit (pos 4)) (port 9 0 ∷ []) ∷
+          line (Arm 1 false) (node.Merge 6) (port 8 0 ∷ port 11 0 ∷ []) ∷
+          line Root (node.Merge 1) (port 2 0 ∷ port 12 0 ∷ []) ∷
+          [];
+      results = port 13 0 ∷ [];
+    },
+  ) ∷ [];
   main = codes "main";
 }
 
@@ -309,21 +348,24 @@ abbrev two_arms_graph : Graph
 two_arms_graph = record {
   version = 2;
   arrays = [];
-  blocks = (codes "main", record {
-    inputs = 2;
-    outputs = 2;
-    nodes =
-        line Root node.Cond (port 0 0 ∷ []) ∷
-        line (Arm 2 true) node.Enter (port 1 0 ∷ []) ∷
-        line (Arm 2 true) node.Enter (port 0 0 ∷ []) ∷
-        line (Arm 2 true) node.Enter (port 0 0 ∷ []) ∷
-        line (Arm 2 true) (node.Apply2 Add) (port 4 0 ∷ port 5 0 ∷ []) ∷
-        line (Arm 2 false) node.Enter (port 0 0 ∷ []) ∷
-        line Root (node.Merge 2) (port 3 0 ∷ port 7 0 ∷ []) ∷
-        line Root (node.Merge 2) (port 6 0 ∷ port 7 0 ∷ []) ∷
-        [];
-    results = port 8 0 ∷ port 9 0 ∷ [];
-  }) ∷ [];
+  blocks = (
+    codes "main",
+    record {
+      inputs = 2;
+      outputs = 2;
+      nodes =
+          line Root node.Cond (port 0 0 ∷ []) ∷
+          line (Arm 2 true) node.Enter (port 1 0 ∷ []) ∷
+          line (Arm 2 true) node.Enter (port 0 0 ∷ []) ∷
+          line (Arm 2 true) node.Enter (port 0 0 ∷ []) ∷
+          line (Arm 2 true) (node.Apply2 Add) (port 4 0 ∷ port 5 0 ∷ []) ∷
+          line (Arm 2 false) node.Enter (port 0 0 ∷ []) ∷
+          line Root (node.Merge 2) (port 3 0 ∷ port 7 0 ∷ []) ∷
+          line Root (node.Merge 2) (port 6 0 ∷ port 7 0 ∷ []) ∷
+          [];
+      results = port 8 0 ∷ port 9 0 ∷ [];
+    },
+  ) ∷ [];
   main = codes "main";
 }
 
@@ -336,33 +378,39 @@ abbrev sum_up_graph : Graph
 sum_up_graph = record {
   version = 2;
   arrays = [];
-  blocks = (codes "main", record {
-    inputs = 1;
-    outputs = 1;
-    nodes =
-        line Root (node.Lit (pos 0)) (port 0 0 ∷ []) ∷
-        line Root (node.Lit (pos 0)) (port 0 0 ∷ []) ∷
-        line Root (node.Loop (codes "main__1") 2) (port 1 0 ∷ port 2 0 ∷ port 0 0 ∷ []) ∷
-        [];
-    results = port 3 1 ∷ [];
-  }) ∷ (codes "main__1", record {
-    inputs = 3;
-    outputs = 4;
-    nodes =
-        line Root (node.Apply2 Lt) (port 0 0 ∷ port 2 0 ∷ []) ∷
-        line Root node.Cond (port 3 0 ∷ []) ∷
-        line (Arm 4 true) node.Enter (port 0 0 ∷ []) ∷
-        line (Arm 4 true) node.Enter (port 1 0 ∷ []) ∷
-        line (Arm 4 true) (node.Lit (pos 1)) (port 5 0 ∷ []) ∷
-        line (Arm 4 true) (node.Apply2 Add) (port 5 0 ∷ port 7 0 ∷ []) ∷
-        line (Arm 4 true) (node.Apply2 Add) (port 6 0 ∷ port 5 0 ∷ []) ∷
-        line (Arm 4 false) node.Enter (port 0 0 ∷ []) ∷
-        line (Arm 4 false) node.Enter (port 1 0 ∷ []) ∷
-        line Root (node.Merge 4) (port 8 0 ∷ port 10 0 ∷ []) ∷
-        line Root (node.Merge 4) (port 9 0 ∷ port 11 0 ∷ []) ∷
-        [];
-    results = port 3 0 ∷ port 12 0 ∷ port 13 0 ∷ port 2 0 ∷ [];
-  }) ∷ [];
+  blocks = (
+    codes "main",
+    record {
+      inputs = 1;
+      outputs = 1;
+      nodes =
+          line Root (node.Lit (pos 0)) (port 0 0 ∷ []) ∷
+          line Root (node.Lit (pos 0)) (port 0 0 ∷ []) ∷
+          line Root (node.Loop (codes "main__1") 2) (port 1 0 ∷ port 2 0 ∷ port 0 0 ∷ []) ∷
+          [];
+      results = port 3 1 ∷ [];
+    },
+  ) ∷ (
+    codes "main__1",
+    record {
+      inputs = 3;
+      outputs = 4;
+      nodes =
+          line Root (node.Apply2 Lt) (port 0 0 ∷ port 2 0 ∷ []) ∷
+          line Root node.Cond (port 3 0 ∷ []) ∷
+          line (Arm 4 true) node.Enter (port 0 0 ∷ []) ∷
+          line (Arm 4 true) node.Enter (port 1 0 ∷ []) ∷
+          line (Arm 4 true) (node.Lit (pos 1)) (port 5 0 ∷ []) ∷
+          line (Arm 4 true) (node.Apply2 Add) (port 5 0 ∷ port 7 0 ∷ []) ∷
+          line (Arm 4 true) (node.Apply2 Add) (port 6 0 ∷ port 5 0 ∷ []) ∷
+          line (Arm 4 false) node.Enter (port 0 0 ∷ []) ∷
+          line (Arm 4 false) node.Enter (port 1 0 ∷ []) ∷
+          line Root (node.Merge 4) (port 8 0 ∷ port 10 0 ∷ []) ∷
+          line Root (node.Merge 4) (port 9 0 ∷ port 11 0 ∷ []) ∷
+          [];
+      results = port 3 0 ∷ port 12 0 ∷ port 13 0 ∷ port 2 0 ∷ [];
+    },
+  ) ∷ [];
   main = codes "main";
 }
 
@@ -375,24 +423,30 @@ abbrev count_up_graph : Graph
 count_up_graph = record {
   version = 2;
   arrays = [];
-  blocks = (codes "main", record {
-    inputs = 1;
-    outputs = 1;
-    nodes =
-        line Root (node.Lit (pos 0)) (port 0 0 ∷ []) ∷
-        line Root (node.Loop (codes "main__1") 2) (port 1 0 ∷ port 0 0 ∷ []) ∷
-        [];
-    results = port 2 0 ∷ [];
-  }) ∷ (codes "main__1", record {
-    inputs = 2;
-    outputs = 3;
-    nodes =
-        line Root (node.Lit (pos 1)) (port 0 0 ∷ []) ∷
-        line Root (node.Apply2 Add) (port 0 0 ∷ port 2 0 ∷ []) ∷
-        line Root (node.Apply2 Lt) (port 3 0 ∷ port 1 0 ∷ []) ∷
-        [];
-    results = port 4 0 ∷ port 3 0 ∷ port 1 0 ∷ [];
-  }) ∷ [];
+  blocks = (
+    codes "main",
+    record {
+      inputs = 1;
+      outputs = 1;
+      nodes =
+          line Root (node.Lit (pos 0)) (port 0 0 ∷ []) ∷
+          line Root (node.Loop (codes "main__1") 2) (port 1 0 ∷ port 0 0 ∷ []) ∷
+          [];
+      results = port 2 0 ∷ [];
+    },
+  ) ∷ (
+    codes "main__1",
+    record {
+      inputs = 2;
+      outputs = 3;
+      nodes =
+          line Root (node.Lit (pos 1)) (port 0 0 ∷ []) ∷
+          line Root (node.Apply2 Add) (port 0 0 ∷ port 2 0 ∷ []) ∷
+          line Root (node.Apply2 Lt) (port 3 0 ∷ port 1 0 ∷ []) ∷
+          [];
+      results = port 4 0 ∷ port 3 0 ∷ port 1 0 ∷ [];
+    },
+  ) ∷ [];
   main = codes "main";
 }
 
@@ -405,74 +459,95 @@ abbrev nested_graph : Graph
 nested_graph = record {
   version = 2;
   arrays = [];
-  blocks = (codes "f", record {
-    inputs = 2;
-    outputs = 1;
-    nodes =
-        line Root (node.Loop (codes "f__1") 2) (port 0 0 ∷ []) ∷
-        line Root (node.Loop (codes "f__2") 3) (port 2 0 ∷ port 1 0 ∷ port 0 0 ∷ []) ∷
-        [];
-    results = port 3 0 ∷ [];
-  }) ∷ (codes "f__1", record {
-    inputs = 1;
-    outputs = 2;
-    nodes =
-        line Root (node.Lit (pos 1)) (port 0 0 ∷ []) ∷
-        line Root (node.Apply2 Sub) (port 0 0 ∷ port 1 0 ∷ []) ∷
-        [];
-    results = port 2 0 ∷ port 2 0 ∷ [];
-  }) ∷ (codes "f__2", record {
-    inputs = 3;
-    outputs = 4;
-    nodes =
-        line Root (node.Loop (codes "f__3") 4) (port 0 0 ∷ port 1 0 ∷ []) ∷
-        line Root node.Cond (port 3 0 ∷ []) ∷
-        line (Arm 4 true) node.Enter (port 0 0 ∷ []) ∷
-        line (Arm 4 true) node.Enter (port 2 0 ∷ []) ∷
-        line (Arm 4 true) (node.Loop (codes "f__4") 64) (port 5 0 ∷ port 6 0 ∷ []) ∷
-        line (Arm 4 false) node.Enter (port 0 0 ∷ []) ∷
-        line Root (node.Merge 4) (port 7 0 ∷ port 8 0 ∷ []) ∷
-        [];
-    results = port 3 0 ∷ port 9 0 ∷ port 1 0 ∷ port 2 0 ∷ [];
-  }) ∷ (codes "f__3", record {
-    inputs = 2;
-    outputs = 3;
-    nodes =
-        line Root node.Cond (port 0 0 ∷ []) ∷
-        line (Arm 2 true) node.Enter (port 1 0 ∷ []) ∷
-        line (Arm 2 false) node.Enter (port 0 0 ∷ []) ∷
-        line Root (node.Merge 2) (port 3 0 ∷ port 4 0 ∷ []) ∷
-        [];
-    results = port 0 0 ∷ port 5 0 ∷ port 1 0 ∷ [];
-  }) ∷ (codes "f__4", record {
-    inputs = 2;
-    outputs = 3;
-    nodes =
-        line Root (node.Lit (pos 0)) (port 0 0 ∷ []) ∷
-        [];
-    results = port 2 0 ∷ port 1 0 ∷ port 1 0 ∷ [];
-  }) ∷ (codes "main", record {
-    inputs = 1;
-    outputs = 1;
-    nodes =
-        line Root (node.Lit (pos 2)) (port 0 0 ∷ []) ∷
-        line Root (node.Call (codes "f")) (port 0 0 ∷ port 1 0 ∷ []) ∷
-        line Root (node.Loop (codes "main__1") 2) (port 0 0 ∷ []) ∷
-        [];
-    results = port 3 0 ∷ [];
-  }) ∷ (codes "main__1", record {
-    inputs = 1;
-    outputs = 2;
-    nodes =
-        line Root node.Cond (port 0 0 ∷ []) ∷
-        line (Arm 1 true) node.Enter (port 0 0 ∷ []) ∷
-        line (Arm 1 true) (node.Lit (pos 1)) (port 2 0 ∷ []) ∷
-        line (Arm 1 true) (node.Apply2 Sub) (port 2 0 ∷ port 3 0 ∷ []) ∷
-        line (Arm 1 false) node.Enter (port 0 0 ∷ []) ∷
-        line Root (node.Merge 1) (port 4 0 ∷ port 5 0 ∷ []) ∷
-        [];
-    results = port 0 0 ∷ port 6 0 ∷ [];
-  }) ∷ [];
+  blocks = (
+    codes "f",
+    record {
+      inputs = 2;
+      outputs = 1;
+      nodes =
+          line Root (node.Loop (codes "f__1") 2) (port 0 0 ∷ []) ∷
+          line Root (node.Loop (codes "f__2") 3) (port 2 0 ∷ port 1 0 ∷ port 0 0 ∷ []) ∷
+          [];
+      results = port 3 0 ∷ [];
+    },
+  ) ∷ (
+    codes "f__1",
+    record {
+      inputs = 1;
+      outputs = 2;
+      nodes =
+          line Root (node.Lit (pos 1)) (port 0 0 ∷ []) ∷
+          line Root (node.Apply2 Sub) (port 0 0 ∷ port 1 0 ∷ []) ∷
+          [];
+      results = port 2 0 ∷ port 2 0 ∷ [];
+    },
+  ) ∷ (
+    codes "f__2",
+    record {
+      inputs = 3;
+      outputs = 4;
+      nodes =
+          line Root (node.Loop (codes "f__3") 4) (port 0 0 ∷ port 1 0 ∷ []) ∷
+          line Root node.Cond (port 3 0 ∷ []) ∷
+          line (Arm 4 true) node.Enter (port 0 0 ∷ []) ∷
+          line (Arm 4 true) node.Enter (port 2 0 ∷ []) ∷
+          line (Arm 4 true) (node.Loop (codes "f__4") 64) (port 5 0 ∷ port 6 0 ∷ []) ∷
+          line (Arm 4 false) node.Enter (port 0 0 ∷ []) ∷
+          line Root (node.Merge 4) (port 7 0 ∷ port 8 0 ∷ []) ∷
+          [];
+      results = port 3 0 ∷ port 9 0 ∷ port 1 0 ∷ port 2 0 ∷ [];
+    },
+  ) ∷ (
+    codes "f__3",
+    record {
+      inputs = 2;
+      outputs = 3;
+      nodes =
+          line Root node.Cond (port 0 0 ∷ []) ∷
+          line (Arm 2 true) node.Enter (port 1 0 ∷ []) ∷
+          line (Arm 2 false) node.Enter (port 0 0 ∷ []) ∷
+          line Root (node.Merge 2) (port 3 0 ∷ port 4 0 ∷ []) ∷
+          [];
+      results = port 0 0 ∷ port 5 0 ∷ port 1 0 ∷ [];
+    },
+  ) ∷ (
+    codes "f__4",
+    record {
+      inputs = 2;
+      outputs = 3;
+      nodes =
+          line Root (node.Lit (pos 0)) (port 0 0 ∷ []) ∷
+          [];
+      results = port 2 0 ∷ port 1 0 ∷ port 1 0 ∷ [];
+    },
+  ) ∷ (
+    codes "main",
+    record {
+      inputs = 1;
+      outputs = 1;
+      nodes =
+          line Root (node.Lit (pos 2)) (port 0 0 ∷ []) ∷
+          line Root (node.Call (codes "f")) (port 0 0 ∷ port 1 0 ∷ []) ∷
+          line Root (node.Loop (codes "main__1") 2) (port 0 0 ∷ []) ∷
+          [];
+      results = port 3 0 ∷ [];
+    },
+  ) ∷ (
+    codes "main__1",
+    record {
+      inputs = 1;
+      outputs = 2;
+      nodes =
+          line Root node.Cond (port 0 0 ∷ []) ∷
+          line (Arm 1 true) node.Enter (port 0 0 ∷ []) ∷
+          line (Arm 1 true) (node.Lit (pos 1)) (port 2 0 ∷ []) ∷
+          line (Arm 1 true) (node.Apply2 Sub) (port 2 0 ∷ port 3 0 ∷ []) ∷
+          line (Arm 1 false) node.Enter (port 0 0 ∷ []) ∷
+          line Root (node.Merge 1) (port 4 0 ∷ port 5 0 ∷ []) ∷
+          [];
+      results = port 0 0 ∷ port 6 0 ∷ [];
+    },
+  ) ∷ [];
   main = codes "main";
 }
 
@@ -485,17 +560,20 @@ abbrev hidden_graph : Graph
 hidden_graph = record {
   version = 2;
   arrays = [];
-  blocks = (codes "main", record {
-    inputs = 1;
-    outputs = 1;
-    nodes =
-        line Root (node.Lit (pos 1)) (port 0 0 ∷ []) ∷
-        line Root (node.Apply2 Add) (port 0 0 ∷ port 1 0 ∷ []) ∷
-        line Root (node.Lit (pos 1)) (port 0 0 ∷ []) ∷
-        line Root (node.Lit (pos 2)) (port 0 0 ∷ []) ∷
-        [];
-    results = port 2 0 ∷ [];
-  }) ∷ [];
+  blocks = (
+    codes "main",
+    record {
+      inputs = 1;
+      outputs = 1;
+      nodes =
+          line Root (node.Lit (pos 1)) (port 0 0 ∷ []) ∷
+          line Root (node.Apply2 Add) (port 0 0 ∷ port 1 0 ∷ []) ∷
+          line Root (node.Lit (pos 1)) (port 0 0 ∷ []) ∷
+          line Root (node.Lit (pos 2)) (port 0 0 ∷ []) ∷
+          [];
+      results = port 2 0 ∷ [];
+    },
+  ) ∷ [];
   main = codes "main";
 }
 
@@ -508,13 +586,16 @@ abbrev shared_graph : Graph
 shared_graph = record {
   version = 2;
   arrays = [];
-  blocks = (codes "main", record {
-    inputs = 1;
-    outputs = 3;
-    nodes =
-        [];
-    results = port 0 0 ∷ port 0 0 ∷ port 0 0 ∷ [];
-  }) ∷ [];
+  blocks = (
+    codes "main",
+    record {
+      inputs = 1;
+      outputs = 3;
+      nodes =
+          [];
+      results = port 0 0 ∷ port 0 0 ∷ port 0 0 ∷ [];
+    },
+  ) ∷ [];
   main = codes "main";
 }
 
@@ -527,15 +608,18 @@ abbrev misses_graph : Graph
 misses_graph = record {
   version = 2;
   arrays = (codes "A", 2) ∷ [];
-  blocks = (codes "main", record {
-    inputs = 1;
-    outputs = 1;
-    nodes =
-        line Root (node.Lit (pos 1)) (port 0 0 ∷ []) ∷
-        line Root (node.Store (codes "A")) (port 0 0 ∷ port 1 0 ∷ []) ∷
-        [];
-    results = port 2 0 ∷ [];
-  }) ∷ [];
+  blocks = (
+    codes "main",
+    record {
+      inputs = 1;
+      outputs = 1;
+      nodes =
+          line Root (node.Lit (pos 1)) (port 0 0 ∷ []) ∷
+          line Root (node.Store (codes "A")) (port 0 0 ∷ port 1 0 ∷ []) ∷
+          [];
+      results = port 2 0 ∷ [];
+    },
+  ) ∷ [];
   main = codes "main";
 }
 
@@ -548,18 +632,21 @@ abbrev two_faults_graph : Graph
 two_faults_graph = record {
   version = 2;
   arrays = [];
-  blocks = (codes "main", record {
-    inputs = 1;
-    outputs = 1;
-    nodes =
-        line Root (node.Lit (pos 0)) (port 0 0 ∷ []) ∷
-        line Root (node.Apply2 Div) (port 0 0 ∷ port 1 0 ∷ []) ∷
-        line Root (node.Lit (pos 0)) (port 0 0 ∷ []) ∷
-        line Root (node.Apply2 Rem) (port 0 0 ∷ port 3 0 ∷ []) ∷
-        line Root (node.Apply2 Lt) (port 4 0 ∷ port 2 0 ∷ []) ∷
-        [];
-    results = port 5 0 ∷ [];
-  }) ∷ [];
+  blocks = (
+    codes "main",
+    record {
+      inputs = 1;
+      outputs = 1;
+      nodes =
+          line Root (node.Lit (pos 0)) (port 0 0 ∷ []) ∷
+          line Root (node.Apply2 Div) (port 0 0 ∷ port 1 0 ∷ []) ∷
+          line Root (node.Lit (pos 0)) (port 0 0 ∷ []) ∷
+          line Root (node.Apply2 Rem) (port 0 0 ∷ port 3 0 ∷ []) ∷
+          line Root (node.Apply2 Lt) (port 4 0 ∷ port 2 0 ∷ []) ∷
+          [];
+      results = port 5 0 ∷ [];
+    },
+  ) ∷ [];
   main = codes "main";
 }
 

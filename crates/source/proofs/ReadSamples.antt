@@ -1,9 +1,7 @@
 -- The texts of the samples have the tokens of their trees, which fit, and keep the rules.
-use Rattle.std.specs.Prelude.{◌≡◌, ℕ, List, [], length, Result, Ok, Err, ⊤, refl}
+use Rattle.std.specs.Prelude.{◌≡◌, ℕ, List, [], length, Ok, Err, refl}
 use Rattle.std.proofs.Common.{arith, inl, inr}
-use Rattle.source.specs.declared.fault.Fault.{Fault}
 use Rattle.source.specs.declared.token.Token.{Token}
-use Rattle.source.specs.Tree.{Program}
 use Rattle.source.specs.Tokens.{lexed}
 use Rattle.source.specs.Parses.{Parses}
 use Rattle.source.specs.Rules.{checked}

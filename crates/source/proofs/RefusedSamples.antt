@@ -1,9 +1,8 @@
 -- Programs that break a rule, each with its fault.
-use Rattle.std.specs.Prelude.{◌≡◌, ℕ, true, false, List, [], ◌∷◌, codes, None, Some, length, Result, Ok, Err, ⊤, refl}
-use Rattle.operators.specs.declared.Unary.TheVariants.{Neg, Not}
-use Rattle.operators.specs.declared.Binary.TheVariants.{Add, Sub, Mul, Div, Rem, And, Or, Xor, Shl, Shr, Eq, Ne, Lt, Le}
-use Rattle.source.specs.declared.word.InfixSign.TheVariants.{Direct, Greater, AtLeast}
-use Rattle.source.specs.Tree.{Name, NameAt, NumberAt, Bind, Drop, Number, Named, Bracket, Prefix, Infix, Fetch, Store, Call, If, Loop, One, More, Let, Do, Give, Chain, Before, After, Cells, Defines, Program}
+use Rattle.std.specs.Prelude.{◌≡◌, ℕ, false, [], ◌∷◌, codes, None, Some, refl}
+use Rattle.operators.specs.declared.Binary.TheVariants.{Add, Sub}
+use Rattle.source.specs.declared.word.InfixSign.TheVariants.{Direct}
+use Rattle.source.specs.Tree.{Name, NameAt, NumberAt, Bind, Number, Named, Infix, Fetch, Call, If, Loop, One, More, Let, Give, Before, After, Cells, Defines, Program}
 use Rattle.source.specs.declared.fault.FaultKind.TheVariants.{SameName, NoSuchName, Arity, BadBound, BadCount, TooMany, TooWide, NoMain}
 use Rattle.source.specs.First.{refused}
 use Rattle.source.specs.Rules.{checked}

@@ -1,5 +1,5 @@
 -- How many values an expression gives: as many as the rules count.
-use Rattle.std.specs.Prelude.{◌≡◌, ℕ, List, length, Option, Some, Result, Ok}
+use Rattle.std.specs.Prelude.{◌≡◌, ℕ, List, length, Ok}
 use Rattle.tags.specs.declared.value.Value.{Value}
 use Rattle.source.specs.Tree.{Name, Expr, Program}
 use Rattle.source.specs.Fits.{Fits, FitsProgram}

@@ -1,7 +1,7 @@
 -- Small programs: their texts, and their trees.
 use Rattle.std.specs.Prelude.{ℕ, true, false, List, [], ◌∷◌, codes, None, Some}
 use Rattle.operators.specs.declared.Unary.TheVariants.{Neg, Not}
-use Rattle.operators.specs.declared.Binary.TheVariants.{Add, Sub, Mul, Div, Rem, And, Or, Xor, Shl, Shr, Eq, Ne, Lt, Le}
+use Rattle.operators.specs.declared.Binary.TheVariants.{Add, Sub, Mul, Div, Rem, And, Or, Xor, Shl, Lt, Le}
 use Rattle.source.specs.declared.word.InfixSign.TheVariants.{Direct, Greater, AtLeast}
 use Rattle.source.specs.Tree.{Name, NameAt, NumberAt, Bind, Drop, Number, Named, Bracket, Prefix, Infix, Fetch, Store, Call, If, Loop, One, More, Let, Do, Give, Chain, Before, After, Cells, Defines, Program}
 

@@ -1,5 +1,5 @@
 -- THE TEXT OF A PROGRAM, AND ITS TOKENS. A text is its bytes, and a place in it is the number of bytes before.
-use Rattle.std.specs.Prelude.{◌≡◌, ℕ, zero, suc, ◌+◌, ◌-◌, ◌^◌, ◌==◌, ◌&&◌, ◌||◌, not, nat_le, Bool, true, false, List, [], ◌∷◌, ◌++◌, length, take, drop, fold, find, take_while, bytes_eq, codes, Option, None, Some, Result, Ok, Err, if◌then◌else◌}
+use Rattle.std.specs.Prelude.{ℕ, zero, suc, ◌+◌, ◌-◌, ◌^◌, ◌==◌, ◌&&◌, ◌||◌, not, nat_le, Bool, true, false, List, [], ◌∷◌, length, take, drop, fold, find, take_while, bytes_eq, codes, Option, None, Some, Result, Ok, Err, if◌then◌else◌}
 use Rattle.std.specs.List.{list_all, list_any}
 use Rattle.std.specs.Char.{is_ascii_digit, is_ascii_alphanumeric}
 use Rattle.std.specs.Str.Parse.{digits_value}
