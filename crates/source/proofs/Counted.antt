@@ -18,7 +18,8 @@ use Rattle.source.proofs.Kept.{test_ok, known_name, in_prefix, in_infix, in_fetc
 
 -- the body of each function that a name stands for fits, and has its results
 abbrev EachGood : Program → Type 0
-EachGood p = (f : Name) (g : Function) → function_in p f ≡ Some g → FitsBody false g.body × (body_values p (bare g.params) g.body ≡ Ok (written_or_one g.results))
+EachGood p = (f : Name) (g : Function) → function_in p f ≡ Some g → FitsBody false g.body × (body_values p (bare g.params) g.body ≡ Ok (written_or_one
+    g.results))
 
 joined : (vs us : List Value) (n m k : ℕ) → length vs ≡ n → length us ≡ m → n + m ≡ k → length (vs ++ us) ≡ k
 joined vs us n m k h l e = omega (arith, length-append vs us, h, l, e)
@@ -28,7 +29,8 @@ same_results : (o : Option Function) (g h : Function) (n k : ℕ) → o ≡ Some
 same_results o g h n k p q e f = let s : g ≡ h = cc in e ∙ ap (λ (x : Function). written_or_one x.results) s ∙ f
 
 mutual
-  counted : {w : World} {env : Env} {e : Expr} {vs : List Value} {ss : Stores} → (scope : List Name) (n : ℕ) → EachGood w.program → Fits e → Evaluates w env e vs ss
+  counted : {w : World} {env : Env} {e : Expr} {vs : List Value} {ss : Stores} → (scope : List Name) (n : ℕ) → EachGood w.program → Fits e → Evaluates w env
+      e vs ss
       → values w.program scope e ≡ Ok n → length vs ≡ n
   counted scope n all fits number c = ok_same 1 n c
   counted {w = w} scope n all fits (named {t = t} {x = x} p) c = (known_name w.program scope t x n c).1
@@ -41,26 +43,33 @@ mutual
       let s : IsCalled w.program scope f es n = in_call w.program scope t strict f es n c in
       let h = all f g p in
       same_results (function_in w.program f) g s.function _ n p s.found (run_counted (bare g.params) _ false all h.0 r h.1) s.results
-  counted {w = w} scope n all fits (if_true {t = t} {p = q} {l = l} {r = r} d p x) c = run_counted scope n false all fits.1 x (in_if w.program scope t q l r n c).1
-  counted {w = w} scope n all fits (if_false {t = t} {p = q} {l = l} {r = r} d p x) c = run_counted scope n true all fits.2 x (in_if w.program scope t q l r n c).2
+  counted {w = w} scope n all fits (if_true {t = t} {p = q} {l = l} {r = r} d p x) c = run_counted scope n false all fits.1 x (in_if w.program scope t q l r
+      n c).1
+  counted {w = w} scope n all fits (if_false {t = t} {p = q} {l = l} {r = r} d p x) c = run_counted scope n true all fits.2 x (in_if w.program scope t q l r
+      n c).2
   counted {w = w} scope n all fits (loop {t = t} {k = k} {firsts = es} {turn = turn} d r) c =
       let s : IsTurned w.program scope k es turn n = in_loop w.program scope t k es turn n c in
-      turns_counted (bare (names_of turn) ++ scope) n all fits.3 r s.turns s.names (firsts_counted scope [] (names_of turn) all fits.1 d s.begun ∙ fits.2) ∙ sym s.names
+      turns_counted (bare (names_of turn) ++ scope) n all fits.3 r s.turns s.names (firsts_counted scope [] (names_of turn) all fits.1 d s.begun ∙ fits.2) ∙
+      sym s.names
 
-  all_counted : {w : World} {env : Env} {e : Exprs} {vs : List Value} {ss : Stores} → (scope : List Name) (n : ℕ) → EachGood w.program → FitsAll e → EvaluatesAll w env e vs ss
+  all_counted : {w : World} {env : Env} {e : Exprs} {vs : List Value} {ss : Stores} → (scope : List Name) (n : ℕ) → EachGood w.program → FitsAll e →
+      EvaluatesAll w env e vs ss
       → list_values w.program scope e ≡ Ok n → length vs ≡ n
   all_counted scope n all fits (one d) c = counted scope n all fits d c
   all_counted {w = w} scope n all fits (more {e = e} {es = es} d ds) c =
       let s = in_more w.program scope e es n c in joined _ _ s.0 s.1 n (counted scope s.0 all fits.0 d s.2) (all_counted scope s.1 all fits.1 ds s.3) s.4
 
-  firsts_counted : {w : World} {env : Env} {e : Exprs} {vs : List Value} {ss : Stores} → (scope before : List Name) (xs : List NameAt) → EachGood w.program → FitsAll e
+  firsts_counted : {w : World} {env : Env} {e : Exprs} {vs : List Value} {ss : Stores} → (scope before : List Name) (xs : List NameAt) → EachGood w.program
+      → FitsAll e
       → EvaluatesAll w env e vs ss → first_values w.program scope before xs e ≡ Ok tt → length vs ≡ count e
   firsts_counted {w = w} scope before xs all fits (one {e = e} d) c = counted scope 1 all fits d (in_first w.program scope before xs e c).values
   firsts_counted {w = w} scope before xs all fits (more {e = e} {es = es} d ds) c =
       let s = in_firsts w.program scope before xs e es c in
-      joined _ _ 1 (count es) _ (counted scope 1 all fits.0 d s.0.values) (firsts_counted scope (and_first before xs) (others xs) all fits.1 ds s.1) (omega arith)
+      joined _ _ 1 (count es) _ (counted scope 1 all fits.0 d s.0.values) (firsts_counted scope (and_first before xs) (others xs) all fits.1 ds s.1) (omega
+      arith)
 
-  run_counted : {w : World} {env : Env} {e : Body} {vs : List Value} {ss : Stores} → (scope : List Name) (n : ℕ) (behind_else : Bool) → EachGood w.program → FitsBody behind_else e
+  run_counted : {w : World} {env : Env} {e : Body} {vs : List Value} {ss : Stores} → (scope : List Name) (n : ℕ) (behind_else : Bool) → EachGood w.program →
+      FitsBody behind_else e
       → Runs w env e vs ss → body_values w.program scope e ≡ Ok n → length vs ≡ n
   run_counted {w = w} scope n b all fits (lets {t = t} {targets = targets} {es = es} {rest = rest} d r) c =
       run_counted (bound_by targets ++ scope) n false all fits.2 r (in_let w.program scope t targets es rest n c).2
@@ -68,12 +77,14 @@ mutual
   run_counted scope n b all fits (gives d) c = all_counted scope n all fits d c
   run_counted scope n b all fits (chain d) c = counted scope n all fits.2 d c
 
-  turns_counted : {w : World} {env : Env} {e : Turn} {vs rs : List Value} {ss : Stores} → (scope : List Name) (n : ℕ) → EachGood w.program → FitsTurn e → Turns w env e vs rs ss
+  turns_counted : {w : World} {env : Env} {e : Turn} {vs rs : List Value} {ss : Stores} → (scope : List Name) (n : ℕ) → EachGood w.program → FitsTurn e →
+      Turns w env e vs rs ss
       → turn_values w.program scope e ≡ Ok n → n ≡ length (names_of e) → length vs ≡ length (names_of e) → length rs ≡ length (names_of e)
   turns_counted scope n all fits (leaves d p) c e h = h
   turns_counted {w = w} scope n all fits (goes {xs = xs} {p = q} {body = body} d p r t) c e h =
       turns_counted scope n all fits t c e (run_counted scope n false all fits.1 r (in_before w.program scope xs q body n c).1 ∙ e)
-  turns_counted {w = w} scope n all fits (ends {xs = xs} {p = q} {body = body} r d p) c e h = run_counted scope n false all fits.0 r (in_after w.program scope xs body q n c).0 ∙ e
+  turns_counted {w = w} scope n all fits (ends {xs = xs} {p = q} {body = body} r d p) c e h = run_counted scope n false all fits.0 r (in_after w.program
+      scope xs body q n c).0 ∙ e
   turns_counted {w = w} scope n all fits (again {xs = xs} {p = q} {body = body} r d p t) c e h =
       turns_counted scope n all fits t c e (run_counted scope n false all fits.0 r (in_after w.program scope xs body q n c).0 ∙ e)
 
@@ -83,15 +94,18 @@ IsGoodIn p g = FitsBody false g.body × (body_values p (bare g.params) g.body �
 
 function_good : (p : Program) (g : Function) → FitsBody false g.body → function_checked p g ≡ Ok tt → IsGoodIn p g
 function_good p g fits h =
-    let s = then_ok (new_names p [] g.params) (λ new. body_values p (bare g.params) g.body >>= (λ n. must (n == written_or_one g.results) Arity g.body_at)) tt h in
+    let s = then_ok (new_names p [] g.params) (λ new. body_values p (bare g.params) g.body >>= (λ n. must (n == written_or_one g.results) Arity g.body_at))
+    tt h in
     let t = then_ok (body_values p (bare g.params) g.body) (λ n. must (n == written_or_one g.results) Arity g.body_at) tt s.2 in
     (fits, ok_as (body_values p (bare g.params) g.body) t.0 (written_or_one g.results) t.1 (test_ok t.0 (written_or_one g.results) Arity g.body_at tt t.2))
 
-chosen_good : (p : Program) (b : Bool) (f g : Function) (o : Option Function) → IsGoodIn p f → (o ≡ Some g → IsGoodIn p g) → (if b then Some f else o) ≡ Some g → IsGoodIn p g
+chosen_good : (p : Program) (b : Bool) (f g : Function) (o : Option Function) → IsGoodIn p f → (o ≡ Some g → IsGoodIn p g) → (if b then Some f else o) ≡
+    Some g → IsGoodIn p g
 chosen_good p true f g o good rest h = let e : f ≡ g = cc in subst (IsGoodIn p) e good
 chosen_good p false f g o good rest h = rest h
 
-functions_good : (p : Program) (items : List Item) → FitsProgram items → functions_checked p items ≡ Ok tt → (f : Name) (g : Function) → function_in items f ≡ Some g → IsGoodIn p g
+functions_good : (p : Program) (items : List Item) → FitsProgram items → functions_checked p items ≡ Ok tt → (f : Name) (g : Function) → function_in items f
+    ≡ Some g → IsGoodIn p g
 functions_good p [] fits c f g h = cc
 functions_good p (Cells x len ∷ items) fits c f g h = functions_good p items fits.1 c f g h
 functions_good p (Defines k ∷ items) fits c f g h =
@@ -109,4 +123,5 @@ counts_hold w env scope e n vs ss good fits c d = counted scope n (each_good w.p
 
 pub main_counts : MainCounts
 main_counts w arguments vs ss good r =
-    let all = each_good w.program good in let h = all main_name r.main r.named in run_counted (bare r.main.params) (written_or_one r.main.results) false all h.0 r.runs h.1
+    let all = each_good w.program good in let h = all main_name r.main r.named in run_counted (bare r.main.params) (written_or_one r.main.results) false all
+    h.0 r.runs h.1

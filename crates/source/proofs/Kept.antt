@@ -25,7 +25,12 @@ pub record HasOne (p : Program) (scope : List Name) (e : Expr) : Type 0 where
 
 pub has_one : (p : Program) (scope : List Name) (e : Expr) (n : ℕ) → (values p scope e >>= (λ m. one_value e m)) ≡ Ok n → HasOne p scope e × (1 ≡ n)
 has_one p scope e n h =
-    let s = then_ok (values p scope e) (λ m. one_value e m) n h in let o = one_is e s.0 n s.2 in (record { values = ok_as (values p scope e) s.0 1 s.1 o.0 }, o.1)
+    let s = then_ok (values p scope e) (λ m. one_value e m) n h in let o = one_is e s.0 n s.2 in (
+      record {
+        values = ok_as (values p scope e) s.0 1 s.1 o.0;
+      },
+      o.1,
+    )
 
 pub known_name : (p : Program) (scope : List Name) (at : ℕ) (x : Name) (n : ℕ) → values p scope (Named at x) ≡ Ok n → (is_in x scope ≡ true) × (1 ≡ n)
 known_name p scope at x n h =
@@ -71,9 +76,11 @@ found_is : (at : ℕ) (o : Option Function) (g : Function) → known_function at
 found_is at None g h = cc
 found_is at (Some k) g h = cc
 
-pub in_call : (p : Program) (scope : List Name) (at : ℕ) (strict : Bool) (f : Name) (es : Exprs) (n : ℕ) → values p scope (Call at strict f es) ≡ Ok n → IsCalled p scope f es n
+pub in_call : (p : Program) (scope : List Name) (at : ℕ) (strict : Bool) (f : Name) (es : Exprs) (n : ℕ) → values p scope (Call at strict f es) ≡ Ok n →
+    IsCalled p scope f es n
 in_call p scope at strict f es n h =
-    let s = then_ok (known_function at (function_in p f)) (λ g. list_values p scope es >>= (λ m. must (m == length g.params) Arity at >>= (λ all. Ok (written_or_one g.results)))) n h in
+    let s = then_ok (known_function at (function_in p f)) (λ g. list_values p scope es >>= (λ m. must (m == length g.params) Arity at >>= (λ all. Ok
+    (written_or_one g.results)))) n h in
     let t = then_ok (list_values p scope es) (λ m. must (m == length s.0.params) Arity at >>= (λ all. Ok (written_or_one s.0.results))) n s.2 in
     let u = then_ok (must (t.0 == length s.0.params) Arity at) (λ all. Ok (written_or_one s.0.results)) n t.2 in
     record {
@@ -86,8 +93,10 @@ in_call p scope at strict f es n h =
 pub in_if : (p : Program) (scope : List Name) (at : ℕ) (q : Expr) (l r : Body) (n : ℕ) → values p scope (If at q l r) ≡ Ok n
     → HasOne p scope q × (body_values p scope l ≡ Ok n) × (body_values p scope r ≡ Ok n)
 in_if p scope at q l r n h =
-    let s = then_ok (values p scope q) (λ m. one_value q m >>= (λ one. body_values p scope l >>= (λ left. body_values p scope r >>= (λ right. must (left == right) Arity at >>= (λ same. Ok left))))) n h in
-    let t = then_ok (one_value q s.0) (λ one. body_values p scope l >>= (λ left. body_values p scope r >>= (λ right. must (left == right) Arity at >>= (λ same. Ok left)))) n s.2 in
+    let s = then_ok (values p scope q) (λ m. one_value q m >>= (λ one. body_values p scope l >>= (λ left. body_values p scope r >>= (λ right. must (left ==
+    right) Arity at >>= (λ same. Ok left))))) n h in
+    let t = then_ok (one_value q s.0) (λ one. body_values p scope l >>= (λ left. body_values p scope r >>= (λ right. must (left == right) Arity at >>= (λ
+    same. Ok left)))) n s.2 in
     let u = then_ok (body_values p scope l) (λ left. body_values p scope r >>= (λ right. must (left == right) Arity at >>= (λ same. Ok left))) n t.2 in
     let v = then_ok (body_values p scope r) (λ right. must (u.0 == right) Arity at >>= (λ same. Ok u.0)) n u.2 in
     let x = then_ok (must (u.0 == v.0) Arity at) (λ same. Ok u.0) n v.2 in
@@ -101,14 +110,18 @@ pub record IsTurned (p : Program) (scope : List Name) (bound : NumberAt) (firsts
   pub names : n ≡ length (names_of turn)
   pub carried : nat_le (length (names_of turn) + length (outside_turn turn)) 15 ≡ true
 
-pub in_loop : (p : Program) (scope : List Name) (at : ℕ) (bound : NumberAt) (firsts : Exprs) (turn : Turn) (n : ℕ) → values p scope (Loop at bound firsts turn) ≡ Ok n
+pub in_loop : (p : Program) (scope : List Name) (at : ℕ) (bound : NumberAt) (firsts : Exprs) (turn : Turn) (n : ℕ) → values p scope (Loop at bound firsts
+    turn) ≡ Ok n
     → IsTurned p scope bound firsts turn n
 in_loop p scope at bound firsts turn n h =
     let few : Bool = nat_le (length (names_of turn) + length (outside_turn turn)) 15 in
     let fits : Bool = nat_le 2 bound.number && nat_le bound.number 64 in
-    let s = then_ok (must fits BadBound bound.at) (λ fits. first_values p scope [] (names_of turn) firsts >>= (λ begun. turn_values p (bare (names_of turn) ++ scope) turn >>= (λ m. must (m == length (names_of turn)) Arity at >>= (λ all. must few TooWide at >>= (λ narrow. Ok m))))) n h in
-    let t = then_ok (first_values p scope [] (names_of turn) firsts) (λ begun. turn_values p (bare (names_of turn) ++ scope) turn >>= (λ m. must (m == length (names_of turn)) Arity at >>= (λ all. must few TooWide at >>= (λ narrow. Ok m)))) n s.2 in
-    let u = then_ok (turn_values p (bare (names_of turn) ++ scope) turn) (λ m. must (m == length (names_of turn)) Arity at >>= (λ all. must few TooWide at >>= (λ narrow. Ok m))) n t.2 in
+    let s = then_ok (must fits BadBound bound.at) (λ fits. first_values p scope [] (names_of turn) firsts >>= (λ begun. turn_values p (bare (names_of turn)
+    ++ scope) turn >>= (λ m. must (m == length (names_of turn)) Arity at >>= (λ all. must few TooWide at >>= (λ narrow. Ok m))))) n h in
+    let t = then_ok (first_values p scope [] (names_of turn) firsts) (λ begun. turn_values p (bare (names_of turn) ++ scope) turn >>= (λ m. must (m ==
+    length (names_of turn)) Arity at >>= (λ all. must few TooWide at >>= (λ narrow. Ok m)))) n s.2 in
+    let u = then_ok (turn_values p (bare (names_of turn) ++ scope) turn) (λ m. must (m == length (names_of turn)) Arity at >>= (λ all. must few TooWide at
+    >>= (λ narrow. Ok m))) n t.2 in
     let v = then_ok (must (u.0 == length (names_of turn)) Arity at) (λ all. must few TooWide at >>= (λ narrow. Ok u.0)) n u.2 in
     let x = then_ok (must few TooWide at) (λ narrow. Ok u.0) n v.2 in
     let e = ok_same u.0 n x.2 in let d = test_ok u.0 (length (names_of turn)) Arity at v.0 v.1 in
@@ -127,26 +140,31 @@ in_more p scope e es n h =
     let t = then_ok (list_values p scope es) (λ k. Ok (s.0 + k)) n s.2 in
     (s.0, t.0, s.1, t.1, ok_same (s.0 + t.0) n t.2)
 
-first_is_one : (p : Program) (scope : List Name) (e : Expr) → Path (Result ⊤ Fault) (values p scope e >>= (λ m. one_value e m >>= (λ one. Ok tt))) (Ok tt) → HasOne p scope e
+first_is_one : (p : Program) (scope : List Name) (e : Expr) → Path (Result ⊤ Fault) (values p scope e >>= (λ m. one_value e m >>= (λ one. Ok tt))) (Ok tt) →
+    HasOne p scope e
 first_is_one p scope e h =
     let s = then_ok (values p scope e) (λ m. one_value e m >>= (λ one. Ok tt)) tt h in let t = then_ok (one_value e s.0) (λ one. Ok tt) tt s.2 in
     record { values = ok_as (values p scope e) s.0 1 s.1 (one_is e s.0 t.0 t.1).0 }
 
 pub in_first : (p : Program) (scope before : List Name) (xs : List NameAt) (e : Expr) → first_values p scope before xs (One e) ≡ Ok tt → HasOne p scope e
-in_first p scope before xs e h = first_is_one p scope e (then_ok (new_first p before xs) (λ new. values p scope e >>= (λ m. one_value e m >>= (λ one. Ok tt))) tt h).2
+in_first p scope before xs e h = first_is_one p scope e (then_ok (new_first p before xs) (λ new. values p scope e >>= (λ m. one_value e m >>= (λ one. Ok
+    tt))) tt h).2
 
 pub in_firsts : (p : Program) (scope before : List Name) (xs : List NameAt) (e : Expr) (es : Exprs) → first_values p scope before xs (More e es) ≡ Ok tt
     → HasOne p scope e × (first_values p scope (and_first before xs) (others xs) es ≡ Ok tt)
 in_firsts p scope before xs e es h =
-    let s = then_ok (new_first p before xs) (λ new. values p scope e >>= (λ m. one_value e m >>= (λ one. first_values p scope (and_first before xs) (others xs) es))) tt h in
+    let s = then_ok (new_first p before xs) (λ new. values p scope e >>= (λ m. one_value e m >>= (λ one. first_values p scope (and_first before xs) (others
+    xs) es))) tt h in
     let t = then_ok (values p scope e) (λ m. one_value e m >>= (λ one. first_values p scope (and_first before xs) (others xs) es)) tt s.2 in
     let u = then_ok (one_value e t.0) (λ one. first_values p scope (and_first before xs) (others xs) es) tt t.2 in
     (record { values = ok_as (values p scope e) t.0 1 t.1 (one_is e t.0 u.0 u.1).0 }, u.2)
 
-pub in_let : (p : Program) (scope : List Name) (at : ℕ) (targets : List Target) (es : Exprs) (rest : Body) (n : ℕ) → body_values p scope (Let at targets es rest) ≡ Ok n
+pub in_let : (p : Program) (scope : List Name) (at : ℕ) (targets : List Target) (es : Exprs) (rest : Body) (n : ℕ) → body_values p scope (Let at targets es
+    rest) ≡ Ok n
     → (new_targets p [] targets ≡ Ok tt) × (list_values p scope es ≡ Ok (length targets)) × (body_values p (bound_by targets ++ scope) rest ≡ Ok n)
 in_let p scope at targets es rest n h =
-    let s = then_ok (new_targets p [] targets) (λ new. list_values p scope es >>= (λ m. must (m == length targets) Arity at >>= (λ all. body_values p (bound_by targets ++ scope) rest))) n h in
+    let s = then_ok (new_targets p [] targets) (λ new. list_values p scope es >>= (λ m. must (m == length targets) Arity at >>= (λ all. body_values p
+    (bound_by targets ++ scope) rest))) n h in
     let t = then_ok (list_values p scope es) (λ m. must (m == length targets) Arity at >>= (λ all. body_values p (bound_by targets ++ scope) rest)) n s.2 in
     let u = then_ok (must (t.0 == length targets) Arity at) (λ all. body_values p (bound_by targets ++ scope) rest) n t.2 in
     (s.1, ok_as (list_values p scope es) t.0 (length targets) t.1 (test_ok t.0 (length targets) Arity at u.0 u.1), u.2)

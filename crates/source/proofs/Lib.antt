@@ -1,4 +1,5 @@
 mod ReadTokens
+pub mod Spelling
 pub mod Steps
 pub mod Kept
 mod Counted

@@ -454,7 +454,8 @@ count_up_lowered : lowered count_up ≡ Ok count_up_graph
 unfolding digits
 count_up_lowered = refl
 
--- fn f(n, m) { loop 3 (i = loop 2 (j = n) { j - 1 } while (j)) while loop 4 (k = i) while k { m } { loop 64 (i = i) { n } while (0) } } fn main(n) { f(n, 2); loop 2 (i = n) while i { i - 1 } }
+-- fn f(n, m) { loop 3 (i = loop 2 (j = n) { j - 1 } while (j)) while loop 4 (k = i) while k { m } { loop 64 (i = i) { n } while (0) } } fn main(n) { f(n,
+-- 2); loop 2 (i = n) while i { i - 1 } }
 abbrev nested_graph : Graph
 nested_graph = record {
   version = 2;

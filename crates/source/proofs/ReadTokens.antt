@@ -22,13 +22,15 @@ newline = 10 ∷ []
 
 -- a whole function
 function : lexed (codes "fn f(n)->2{n}") ≡ Ok (
-    token (Word word.Fn) 0 ∷ token (Name 1) 3 ∷ token (Mark OpenParen) 4 ∷ token (Name 1) 5 ∷ token (Mark CloseParen) 6 ∷ token (Mark Arrow) 7 ∷ token (Number 2) 9
+    token (Word word.Fn) 0 ∷ token (Name 1) 3 ∷ token (Mark OpenParen) 4 ∷ token (Name 1) 5 ∷ token (Mark CloseParen) 6 ∷ token (Mark Arrow) 7 ∷ token
+    (Number 2) 9
     ∷ token (Mark OpenBrace) 10 ∷ token (Name 1) 11 ∷ token (Mark CloseBrace) 12 ∷ [])
 function = refl
 
 -- the longest sign is read, from left to right
 munched : lexed (codes "<<<=:=/--~_") ≡ Ok (
-    token (Mark ShiftLeft) 0 ∷ token (Mark AtMost) 2 ∷ token (Mark Becomes) 4 ∷ token (Mark Slash) 6 ∷ token (Mark Minus) 7 ∷ token (Mark Minus) 8 ∷ token (Mark Tilde) 9
+    token (Mark ShiftLeft) 0 ∷ token (Mark AtMost) 2 ∷ token (Mark Becomes) 4 ∷ token (Mark Slash) 6 ∷ token (Mark Minus) 7 ∷ token (Mark Minus) 8 ∷ token
+    (Mark Tilde) 9
     ∷ token (Mark Underscore) 10 ∷ [])
 munched = refl
 

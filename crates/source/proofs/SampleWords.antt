@@ -126,7 +126,8 @@ count_up_words : program_words count_up ≡
     word.Name 49 (codes "i") ∷ word.Infix 47 Greater ∷ word.EndLoop 13 2 ∷ word.Part ∷ word.Give ∷ word.EndFunction ∷ []
 count_up_words = refl
 
--- fn f(n, m) { loop 3 (i = loop 2 (j = n) { j - 1 } while (j)) while loop 4 (k = i) while k { m } { loop 64 (i = i) { n } while (0) } } fn main(n) { f(n, 2); loop 2 (i = n) while i { i - 1 } }
+-- fn f(n, m) { loop 3 (i = loop 2 (j = n) { j - 1 } while (j)) while loop 4 (k = i) while k { m } { loop 64 (i = i) { n } while (0) } } fn main(n) { f(n,
+-- 2); loop 2 (i = n) while i { i - 1 } }
 nested_words : program_words nested ≡
     word.Function 3 (codes "f") ∷ word.Parameter 5 (codes "n") ∷ word.Parameter 8 (codes "m") ∷ word.Body 11 ∷ word.List ∷ word.Loop 13 ∷
     word.Bound 18 3 ∷ word.Start 21 (codes "i") ∷ word.Loop 25 ∷ word.Bound 30 2 ∷ word.Start 33 (codes "j") ∷ word.Name 37 (codes "n") ∷

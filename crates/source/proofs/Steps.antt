@@ -11,7 +11,8 @@ then_ok (Ok a) f b h = (a, refl, h)
 then_ok (Err fault) f b h = cc
 
 -- what is so wherever the second part goes well
-pub then_all : {A B : Type 0} (r : Result A Fault) (f : A → Result B Fault) (P : B → Type 0) → ((a : A) (b : B) → f a ≡ Ok b → P b) → (b : B) → (r >>= f) ≡ Ok b → P b
+pub then_all : {A B : Type 0} (r : Result A Fault) (f : A → Result B Fault) (P : B → Type 0) → ((a : A) (b : B) → f a ≡ Ok b → P b) → (b : B) → (r >>= f) ≡
+    Ok b → P b
 then_all (Ok a) f P all b h = all a b h
 then_all (Err fault) f P all b h = cc
 

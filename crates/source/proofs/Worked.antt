@@ -42,7 +42,8 @@ pairs_give = record {
   main = _;
   named = refl;
   runs =
-      lets (one (call (one (call (more (named refl) (one number)) refl (gives (more (named refl) (one (named refl)))))) refl (gives (more (named refl) (one (named refl)))))) (gives (one (named refl)));
+      lets (one (call (one (call (more (named refl) (one number)) refl (gives (more (named refl) (one (named refl)))))) refl (gives (more (named refl) (one
+      (named refl)))))) (gives (one (named refl)));
 }
 
 pub cells_give : CellsGive

@@ -19,4 +19,5 @@ CountsHold = (w : World) (env : Env) (scope : List Name) (e : Expr) (n : ℕ) (v
 
 -- and its outputs are as many as `main` says
 abbrev pub MainCounts : Type 0
-MainCounts = (w : World) (arguments vs : List Value) (ss : Stores) → IsGood w.program → (r : RunsMain w arguments vs ss) → length vs ≡ written_or_one r.main.results
+MainCounts = (w : World) (arguments vs : List Value) (ss : Stores) → IsGood w.program → (r : RunsMain w arguments vs ss) → length vs ≡ written_or_one
+    r.main.results

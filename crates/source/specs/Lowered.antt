@@ -239,8 +239,10 @@ abbrev mutual
       let l : Lowered = lower_list p site spot scope es in ended site spot l at (call_kind strict f) l.sources (results_of (function_in p f))
   lower p site spot scope (If at q l r) =
       let c : Lowered = lower p site spot scope q in let k : Spot = spot_after spot c in
-      let a : Lowered = arm site k.next true (next_spot k) at scope (first_of c.sources) (outside_body l) (λ here inner names. lower_body p here inner names l) in
-      let b : Lowered = arm site k.next false (spot_after (next_spot k) a) at scope (first_of c.sources) (outside_body r) (λ here inner names. lower_body p here inner names r) in
+      let a : Lowered = arm site k.next true (next_spot k) at scope (first_of c.sources) (outside_body l) (λ here inner names. lower_body p here inner names
+      l) in
+      let b : Lowered = arm site k.next false (spot_after (next_spot k) a) at scope (first_of c.sources) (outside_body r) (λ here inner names. lower_body p
+      here inner names r) in
       followed c (chosen site k at c.sources a b)
   lower p site spot scope (Loop at bound firsts turn) =
       let f : Lowered = lower_list p site spot scope firsts in let xs : List Name = bare (names_of turn) in let outs : List Name = outside_turn turn in
@@ -264,7 +266,8 @@ abbrev mutual
   -- the test, and a conditional whose right arm gives the values as they came
   lower_turn p f spot at scope (Before xs q body) =
       let c : Lowered = lower p (turn_site f) spot scope q in let k : Spot = spot_after spot c in
-      let a : Lowered = arm (turn_site f) k.next true (next_spot k) at scope (first_of c.sources) (outside_body body) (λ here inner names. lower_body p here inner names body) in
+      let a : Lowered = arm (turn_site f) k.next true (next_spot k) at scope (first_of c.sources) (outside_body body) (λ here inner names. lower_body p here
+      inner names body) in
       let s : Spot = spot_after (next_spot k) a in
       let b : Lowered = entered_names (arm_site (turn_site f) k.next false s) s at scope (first_of c.sources) (bare xs) in
       joined c (chosen (turn_site f) k at c.sources a b)

@@ -75,8 +75,10 @@ keywords = word.Array ∷ word.Fn ∷ word.Let ∷ word.If ∷ word.Else ∷ wor
 -- words that nothing uses, and that are no names either
 abbrev pub kept : List (List ℕ)
 kept =
-    codes "and" ∷ codes "as" ∷ codes "break" ∷ codes "case" ∷ codes "const" ∷ codes "do" ∷ codes "end" ∷ codes "false" ∷ codes "for" ∷ codes "in" ∷ codes "match"
-    ∷ codes "mod" ∷ codes "not" ∷ codes "or" ∷ codes "return" ∷ codes "then" ∷ codes "true" ∷ codes "type" ∷ codes "use" ∷ codes "where" ∷ codes "with" ∷ codes "xor" ∷ []
+    codes "and" ∷ codes "as" ∷ codes "break" ∷ codes "case" ∷ codes "const" ∷ codes "do" ∷ codes "end" ∷ codes "false" ∷ codes "for" ∷ codes "in" ∷ codes
+    "match"
+    ∷ codes "mod" ∷ codes "not" ∷ codes "or" ∷ codes "return" ∷ codes "then" ∷ codes "true" ∷ codes "type" ∷ codes "use" ∷ codes "where" ∷ codes "with" ∷
+    codes "xor" ∷ []
 
 abbrev pub sign_text : Sign → List ℕ
 sign_text Arrow = codes "->"
