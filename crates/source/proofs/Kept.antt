@@ -11,7 +11,7 @@ use Rattle.source.specs.Spelled.{others}
 use Rattle.source.specs.Outside.{is_in, bare, bound_by, outside_turn}
 use Rattle.source.specs.First.{◌>>=◌, must}
 use Rattle.source.specs.Rules.{function_in, array_in, written_or_one, one_value, place_of, known_array, known_function, new_targets, new_first, and_first, values, list_values, first_values, body_values, turn_values}
-use Rattle.source.proofs.Steps.{then_ok, must_ok, ok_same, ok_as}
+use Rattle.source.proofs.Steps.{then_ok, must_ok, ok_same, ok_as, ok_through}
 
 pub test_ok : (m k : ℕ) (kind : FaultKind) (at : ℕ) (t : ⊤) → must (m == k) kind at ≡ Ok t → m ≡ k
 test_ok m k kind at t h = eqb-true m k (must_ok (m == k) kind at t h)
@@ -101,7 +101,7 @@ in_if p scope at q l r n h =
     let v = then_ok (body_values p scope r) (λ right. must (u.0 == right) Arity at >>= (λ same. Ok u.0)) n u.2 in
     let x = then_ok (must (u.0 == v.0) Arity at) (λ same. Ok u.0) n v.2 in
     let o = one_is q s.0 t.0 t.1 in let e = ok_same u.0 n x.2 in let d = test_ok u.0 v.0 Arity at x.0 x.1 in
-    (record { values = ok_as (values p scope q) s.0 1 s.1 o.0 }, ok_as (body_values p scope l) u.0 n u.1 e, ok_as (body_values p scope r) v.0 n v.1 (sym d ∙ e))
+    (record { values = ok_as (values p scope q) s.0 1 s.1 o.0 }, ok_as (body_values p scope l) u.0 n u.1 e, ok_through (body_values p scope r) u.0 v.0 n v.1 d e)
 
 pub record IsTurned (p : Program) (scope : List Name) (bound : NumberAt) (firsts : Exprs) (turn : Turn) (n : ℕ) : Type 0 where
   pub small : (nat_le 2 bound.number && nat_le bound.number 64) ≡ true

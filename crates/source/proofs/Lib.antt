@@ -7,5 +7,6 @@ mod OneAnswer
 mod ReadSamples
 mod LowerSamples
 mod RefusedSamples
+mod SizesOfBlocks
 mod Worked
 mod SampleWords

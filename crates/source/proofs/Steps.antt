@@ -1,6 +1,6 @@
 -- Checks one after another, taken apart.
 use Rattle.std.specs.Prelude.{◌≡◌, ℕ, Bool, true, false, Result, Ok, Err, ⊤, refl}
-use Rattle.std.proofs.Common.{◌∙◌, ap}
+use Rattle.std.proofs.Common.{◌∙◌, ap, sym}
 use Rattle.source.specs.declared.fault.Fault.{Fault}
 use Rattle.source.specs.declared.fault.FaultKind.{FaultKind}
 use Rattle.source.specs.First.{◌>>=◌, must}
@@ -25,3 +25,7 @@ ok_same a b h = cc
 
 pub ok_as : {A : Type 0} (r : Result A Fault) (a b : A) → r ≡ Ok a → a ≡ b → r ≡ Ok b
 ok_as r a b h e = h ∙ ap (λ x. Ok x) e
+
+-- two numbers that were told to be the same, of which the first is n
+pub ok_through : {A : Type 0} (r : Result A Fault) (a b n : A) → r ≡ Ok b → a ≡ b → a ≡ n → r ≡ Ok n
+ok_through r a b n h e d = h ∙ ap (λ x. Ok x) (sym e ∙ d)
