@@ -1,4 +1,4 @@
-use Rattle.std.proofs.Common.{rules, ◌≡◌, ◌≤◌, ◌+◌, refl, ap, arith}
+use Rattle.std.proofs.Common.{rules, ◌≡◌, refl, ap, arith}
 use Rattle.std.specs.Prelude.{take}
 use Rattle.source.specs.declared.fault.ProgramFault.{ProgramFault}
 use Rattle.source.specs.Tokens.{Position, position}
