@@ -1,0 +1,103 @@
+//! Why a program is refused, and where.
+
+use thiserror::Error;
+
+/// What is wrong with a program.
+#[derive(Clone, Copy, Debug, PartialEq, Eq, Error)]
+pub enum FaultKind {
+    /// A byte that begins no token.
+    #[error("a byte that begins no token")]
+    BadByte,
+    /// A number that is not well written, or above 9223372036854775807 where no `-` stands directly before it.
+    #[error("a bad number")]
+    BadNumber,
+    /// A name of more than 24 bytes, with `__` in it, from `_` on, or kept for later.
+    #[error("a bad name")]
+    BadName,
+    /// A token with which nothing goes on that began before it.
+    #[error("something else should stand here")]
+    Unexpected,
+    /// The program ends where something should stand.
+    #[error("the program ends too early")]
+    Unended,
+    /// More than 200 expressions, signs before an operand and conditionals are open at once.
+    #[error("nested too deeply")]
+    TooDeep,
+    /// A `:=` behind what is no cell of an array.
+    #[error("what is stored to is no cell of an array")]
+    NotACell,
+    /// A name of an array, of a function or of a value that stands for something else already.
+    #[error("this name stands for something else already")]
+    SameName,
+    /// A name that stands for nothing.
+    #[error("no value, array or function has this name")]
+    NoSuchName,
+    /// A number of values that is not that for which they stand.
+    #[error("a wrong number of values")]
+    Arity,
+    /// A loop's bound that is not 2 to 64.
+    #[error("a bound is not 2 to 64")]
+    BadBound,
+    /// An array's length that is not 1 to 65,536, or a number of results that is not 1 to 16.
+    #[error("a length is not 1 to 65536, or a number of results is not 1 to 16")]
+    BadCount,
+    /// More than 64 arrays, 65,536 cells or 16 parameters.
+    #[error("too many arrays, cells or parameters")]
+    TooMany,
+    /// A loop's names and the outside names that a turn uses are more than 15.
+    #[error("a turn carries more than 15 values")]
+    TooWide,
+    /// A block with more than 1,024 nodes, or more than 256 blocks.
+    #[error("a block has more than 1024 nodes, or there are more than 256 blocks")]
+    TooBig,
+    /// No function is called `main`.
+    #[error("no function main")]
+    NoMain,
+    /// A growth was refused.
+    #[error("out of memory")]
+    Memory,
+}
+
+/// A fault, and its place: how many bytes of the program's text stand before it.
+#[derive(Clone, Copy, Debug, PartialEq, Eq, Error)]
+#[error("{kind}")]
+pub struct Fault {
+    pub kind: FaultKind,
+    pub at: usize,
+}
+
+/// A fault as it is told: its line, and its column in bytes, both from 1.
+#[derive(Clone, Copy, Debug, PartialEq, Eq, Error)]
+#[error("line {line}, column {column}: {kind}")]
+pub struct ProgramFault {
+    pub kind: FaultKind,
+    pub line: usize,
+    pub column: usize,
+}
+
+impl Fault {
+    ghost use Rattle.std.specs.Prelude.{◌≡◌, ◌≤◌, length};
+    ghost use Rattle.source.specs.Tokens.{position};
+
+    /// The fault with its line and its column in the program's text.
+    pub fn in_text(self, text: &[u8]) -> ProgramFault
+        requires { self.at ≤ length text.now }
+        ensures { result ≡ record { kind = self.kind; line = (position text.now self.at).line; column = (position text.now self.at).column } }
+    {
+        let mut line = 1;
+        let mut column = 1;
+        for byte in &text[..self.at] {
+            if *byte == b'\n' {
+                line += 1;
+                column = 1;
+            } else {
+                column += 1;
+            }
+        }
+        ProgramFault {
+            kind: self.kind,
+            line,
+            column,
+        }
+    }
+}
