@@ -1,0 +1,77 @@
+# Completion of ets for bash. share/check holds it to the table of `ets help`.
+
+# The options of a command that take a value, and then those that take none.
+_ets_options() {
+    case $1 in
+        run | exec) echo --elements --frames --steps --mode ;;
+        trace) echo --elements --frames --steps --mode --last --format ;;
+        profile) echo --elements --frames --steps --svg ;;
+        orders) echo --elements --frames --steps --count --seed ;;
+        mean) echo --steps ;;
+        dis) echo --literals ;;
+        dot) echo --code ;;
+    esac
+}
+
+# The words that may be the value of an option.
+_ets_values() {
+    case $1 in
+        --mode) echo one rounds free ;;
+        --format) echo text chrome ;;
+    esac
+}
+
+# Whether the option wants a value.
+_ets_wants_value() {
+    case $1 in
+        --elements | --frames | --steps | --mode | --last | --format | --count | --seed) return 0 ;;
+    esac
+    return 1
+}
+
+_ets() {
+    local commands="run mean check compile dis asm upgrade dot exec trace profile orders help"
+    local cur=${COMP_WORDS[COMP_CWORD]} prev=${COMP_WORDS[COMP_CWORD - 1]} command=${COMP_WORDS[1]}
+    local -a words=("${COMP_WORDS[@]:0:COMP_CWORD}")
+    COMPREPLY=()
+
+    # Behind a redirection stands a file.
+    case $cur in
+        '<' | '>' | '>>' | '>|') cur= prev=\< ;;
+    esac
+    case $prev in
+        '<' | '>' | '>>' | '>|')
+            compopt -o filenames 2>/dev/null
+            mapfile -t COMPREPLY < <(compgen -f -- "$cur")
+            return
+            ;;
+    esac
+
+    if ((COMP_CWORD == 1)); then
+        mapfile -t COMPREPLY < <(compgen -W "$commands -h --help -V --version" -- "$cur")
+        return
+    fi
+    if [[ $command == help ]]; then
+        ((COMP_CWORD == 2)) && mapfile -t COMPREPLY < <(compgen -W "$commands" -- "$cur")
+        return
+    fi
+    [[ " $commands " == *" $command "* ]] || return
+
+    # bash takes --NAME=VALUE for three words.
+    [[ $prev == = ]] && prev=${COMP_WORDS[COMP_CWORD - 2]}
+    [[ $cur == = ]] && cur=
+    if _ets_wants_value "$prev"; then
+        mapfile -t COMPREPLY < <(compgen -W "$(_ets_values "$prev")" -- "$cur")
+        return
+    fi
+
+    # The options that were not given yet. Behind `--` stand inputs alone.
+    [[ " ${words[*]} " == *" -- "* ]] && return
+    local option options=
+    for option in $(_ets_options "$command"); do
+        [[ " ${words[*]} " == *" $option "* ]] || options+=" $option"
+    done
+    mapfile -t COMPREPLY < <(compgen -W "$options -h --help" -- "$cur")
+}
+
+complete -F _ets ets

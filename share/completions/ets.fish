@@ -1,0 +1,66 @@
+# Completion of ets for fish. share/check holds it to the table of `ets help`.
+
+# Whether the command is one of these.
+function __ets_is
+    set -l words (commandline -opc)
+    test (count $words) -ge 2; and contains -- $words[2] $argv
+end
+
+# Whether the command is one of these, behind the name of an option that was not given yet: each may be given once.
+function __ets_takes
+    set -l words (commandline -opc)
+    __ets_is $argv[2..]; or return 1
+    for i in (seq 3 (count $words))
+        string match -q -- "--$argv[1]=*" $words[$i]; and return 1
+        # The last word may be an option that waits for its value.
+        test $words[$i] = --$argv[1]; and contains -- $argv[1] literals code svg; and return 1
+        test $words[$i] = --$argv[1] -a $i -lt (count $words); and return 1
+    end
+    return 0
+end
+
+# Whether no command stands there yet.
+function __ets_begins
+    test (count (commandline -opc)) -eq 1
+end
+
+# Whether `help` waits for the name of a command.
+function __ets_helps
+    set -l words (commandline -opc)
+    test (count $words) -eq 2; and test $words[2] = help
+end
+
+# Nothing names a file: standard input and output are redirected, and there fish has its own files.
+complete -c ets -f
+
+set -l begins '__ets_begins; or __ets_helps'
+complete -c ets -n $begins -a run -d 'compiles and runs a graph'
+complete -c ets -n $begins -a mean -d 'runs the meaning of a graph, without code'
+complete -c ets -n $begins -a check -d 'says whether a graph is well formed'
+complete -c ets -n $begins -a compile -d 'writes the object of a graph'
+complete -c ets -n $begins -a dis -d 'lists the code of an object'
+complete -c ets -n $begins -a asm -d 'writes the object of a listing'
+complete -c ets -n $begins -a upgrade -d 'writes an object as version 2'
+complete -c ets -n $begins -a dot -d 'draws a graph, as text for Graphviz'
+complete -c ets -n $begins -a exec -d 'runs an object on the inputs that follow'
+complete -c ets -n $begins -a trace -d 'runs a graph and prints its events'
+complete -c ets -n $begins -a profile -d 'measures the parallelism of a graph'
+complete -c ets -n $begins -a orders -d 'runs a graph in random orders'
+complete -c ets -n $begins -a help -d 'prints help'
+
+complete -c ets -n 'not __ets_is help' -s h -l help -d 'print help'
+complete -c ets -n __ets_begins -s V -l version -d 'print the version'
+
+complete -c ets -n '__ets_takes elements run exec trace orders' -l elements -x -d 'processing elements, 1 to 16'
+complete -c ets -n '__ets_takes elements profile' -l elements -x -d 'numbers of processing elements, each 1 to 16'
+complete -c ets -n '__ets_takes frames run exec trace profile orders' -l frames -x -d 'frames for each element, 1 to 1024'
+complete -c ets -n '__ets_takes steps run exec trace profile orders' -l steps -x -d 'steps that each element may make'
+complete -c ets -n '__ets_takes steps mean' -l steps -x -d 'activities at most'
+complete -c ets -n '__ets_takes mode run exec trace' -l mode -x -d 'how the elements take turns' -a 'one\t"in turn, in one thread" rounds\t"in rounds, a thread each" free\t"free, a thread each"'
+complete -c ets -n '__ets_takes last trace' -l last -x -d 'only the last events'
+complete -c ets -n '__ets_takes format trace' -l format -x -d 'how the trace is written' -a 'text\t"a line for each event" chrome\t"Trace Event JSON"'
+complete -c ets -n '__ets_takes svg profile' -l svg -d 'a picture in place of lines'
+complete -c ets -n '__ets_takes count orders' -l count -x -d 'how many orders'
+complete -c ets -n '__ets_takes seed orders' -l seed -x -d 'which orders'
+complete -c ets -n '__ets_takes literals dis' -l literals -d "the object's table of literals, too"
+complete -c ets -n '__ets_takes code dot' -l code -d 'the code of the object on standard input'
