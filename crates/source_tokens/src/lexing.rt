@@ -1,0 +1,42 @@
+//! The tokens of a program.
+
+ghost use Rattle.std.specs.Prelude.{◌≡◌, take, drop, Ok, MatchResult};
+ghost use Rattle.source.specs.Tokens.{lexed};
+ghost use Rattle.source_tokens.specs.Lexing.{IsFirstFault};
+
+use crate::beginning::Beginning;
+use source::fault::{Fault, FaultKind};
+use source::token::Token;
+use std::alloc::Allocator;
+
+/// The tokens of a program, or its first fault. `Memory` comes only where a growth was refused.
+pub fn lex<A: Allocator>(alloc: A, program: &[u8]) -> Result<Vec<Token, A>, Fault>
+    ensures { MatchResult result (λ v. lexed program.now ≡ Ok v.items) (λ e. IsFirstFault e (lexed program.now)) }
+{
+    let mut tokens = Vec::new(alloc);
+    let mut at = 0;
+    while let Some(beginning) = Beginning::of(&program[at..]) {
+        match beginning {
+            Beginning::Skipped { len } => at += len,
+            Beginning::Read { kind, len } => {
+                if tokens.push(Token { kind, at }).is_err() {
+                    return Err(Fault {
+                        kind: FaultKind::Memory,
+                        at,
+                    });
+                }
+                at += len;
+            }
+            Beginning::Refused { kind } => return Err(Fault { kind, at }),
+        }
+    }
+    Ok(tokens)
+}
+
+/// The bytes of a name, whose token has its place and its length.
+pub fn name_at(program: &[u8], at: usize, len: usize) -> &[u8]
+    ensures { result.now ≡ take len (drop at program.now) }
+{
+    let from = program.get(at..).unwrap_or(&[]);
+    from.get(..len).unwrap_or(from)
+}
