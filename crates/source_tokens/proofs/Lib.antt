@@ -1,0 +1,4 @@
+pub mod Lexed
+pub mod Numerals
+pub mod Parts
+pub mod Within

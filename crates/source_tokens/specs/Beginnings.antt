@@ -1,5 +1,5 @@
 -- What a text begins with, as the code says it.
-use Rattle.std.specs.Prelude.{ℕ, ◌∷◌, [], ◌^◌, ◌&&◌, nat_le, List, find, Option, Some, None, if◌then◌else◌}
+use Rattle.std.specs.Prelude.{ℕ, ◌∷◌, [], ◌^◌, ◌&&◌, nat_le, nat_lt, List, find, Option, Some, None, if◌then◌else◌}
 use Rattle.std.specs.Str.Parse.{digits_value}
 use Rattle.source.specs.Tokens as defined
 use Rattle.source.specs.Tokens.{beginning, begins, is_numeral, sign_read, sign_text, signs}
@@ -15,6 +15,10 @@ said (Refused kind) = defined.Refused kind
 abbrev pub opening : List ℕ → Option defined.Beginning
 opening [] = None
 opening (b ∷ bytes) = Some (beginning b bytes)
+
+-- the value of some digits, where 64 bits have it
+abbrev pub value_of : List ℕ → Option ℕ
+value_of run = if nat_lt (digits_value 10 run) (2 ^ 64) then Some (digits_value 10 run) else None
 
 -- the number that a run is
 abbrev pub number_of : List ℕ → Option ℕ

@@ -1,7 +1,8 @@
 //! What a text begins with.
 
-ghost use Rattle.std.specs.Prelude.{◌≡◌, ◌∷◌, length, option_map, take_while, not};
-ghost use Rattle.source.specs.Tokens.{is_blank, line_from, beginning, sign_read};
+ghost use Rattle.std.specs.Prelude.{◌≡◌, ◌∷◌, length, option_map, codes};
+ghost use Rattle.source.specs.Tokens.{Read, is_blank, begins, line_from, beginning};
+ghost use Rattle.source.specs.declared.token.TokenKind.TheVariants.{Mark};
 ghost use Rattle.source_tokens.specs.Beginnings.{said, opening, sign_beginning};
 
 use crate::runs::{is_run_byte, read_run, run_len};
@@ -36,7 +37,7 @@ impl Beginning {
     {
         if is_blank(first) {
             Beginning::Skipped { len: 1 }
-        } else if first == b'/' && matches!(after, [b'/', ..]) {
+        } else if begins_comment(text) {
             Beginning::Skipped {
                 len: line_len(text),
             }
@@ -53,6 +54,13 @@ fn is_blank(b: u8) -> bool
     ensures { result ≡ is_blank b }
 {
     matches!(b, b' ' | b'\t' | b'\r' | b'\n')
+}
+
+/// Whether the text begins with a comment.
+fn begins_comment(text: &[u8]) -> bool
+    ensures { result ≡ begins (codes "//") text.now }
+{
+    matches!(text, [b'/', b'/', ..])
 }
 
 /// How many bytes stand before the end of the line.
@@ -80,7 +88,7 @@ fn read_sign(first: u8, after: &[u8]) -> Beginning
 }
 
 fn marked(sign: Sign, len: usize) -> Beginning
-    ensures { result ≡ Read (Mark sign) len }
+    ensures { said result ≡ Read (Mark sign) len }
 {
     Beginning::Read {
         kind: TokenKind::Mark { sign },

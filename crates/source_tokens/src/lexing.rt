@@ -15,16 +15,16 @@ pub fn lex<A: Allocator>(alloc: A, program: &[u8]) -> Result<Vec<Token, A>, Faul
 {
     let mut tokens = Vec::new(alloc);
     let mut at = 0;
-    while let Some(beginning) = Beginning::of(&program[at..]) {
+    while let Some(beginning) = Beginning::of(from(program, at)) {
         match beginning {
             Beginning::Skipped { len } => at += len,
             Beginning::Read { kind, len } => {
-                if tokens.push(Token { kind, at }).is_err() {
+                let Ok(()) = tokens.push(Token { kind, at }) else {
                     return Err(Fault {
                         kind: FaultKind::Memory,
                         at,
                     });
-                }
+                };
                 at += len;
             }
             Beginning::Refused { kind } => return Err(Fault { kind, at }),
@@ -37,6 +37,13 @@ pub fn lex<A: Allocator>(alloc: A, program: &[u8]) -> Result<Vec<Token, A>, Faul
 pub fn name_at(program: &[u8], at: usize, len: usize) -> &[u8]
     ensures { result.now ≡ take len (drop at program.now) }
 {
-    let from = program.get(at..).unwrap_or(&[]);
-    from.get(..len).unwrap_or(from)
+    let rest = from(program, at);
+    rest.get(..len).unwrap_or(rest)
+}
+
+/// The bytes from a place on.
+fn from(program: &[u8], at: usize) -> &[u8]
+    ensures { result.now ≡ drop at program.now }
+{
+    program.get(at..).unwrap_or(&[])
 }

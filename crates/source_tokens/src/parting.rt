@@ -1,6 +1,6 @@
 //! A text as a program and its inputs.
 
-ghost use Rattle.std.specs.Prelude.{◌≡◌, length, codes, bytes_eq};
+ghost use Rattle.std.specs.Prelude.{◌≡◌, ◌≤◌, length, codes, bytes_eq};
 ghost use Rattle.source.specs.Tokens.{line_from, program_of, inputs_of};
 
 /// The line that ends a program.
@@ -29,7 +29,8 @@ pub fn split(text: &[u8]) -> Parted<'_>
 
 /// How many bytes the program has.
 fn program_len(text: &[u8]) -> usize
-    ensures { result ≡ length (program_of text.now) }
+    ensures exact { result ≡ length (program_of text.now) }
+    ensures within { result ≤ length text.now }
 {
     let mut fresh = true;
     for (at, b) in text.iter().enumerate() {

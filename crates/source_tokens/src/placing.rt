@@ -1,6 +1,6 @@
 //! Lines and columns.
 
-ghost use Rattle.std.specs.Prelude.{◌≡◌};
+ghost use Rattle.std.specs.Prelude.{◌≡◌, take};
 ghost use Rattle.source.specs.Tokens.{position};
 
 /// A line, and a column in bytes, both from 1.
@@ -15,7 +15,7 @@ pub fn position(program: &[u8], at: usize) -> LineColumn
     ensures line { result.line ≡ (position program.now at).line }
     ensures column { result.column ≡ (position program.now at).column }
 {
-    let before = program.get(..at).unwrap_or(program);
+    let before = until(program, at);
     let mut line = 1;
     let mut column = 1;
     for b in before {
@@ -27,4 +27,11 @@ pub fn position(program: &[u8], at: usize) -> LineColumn
         }
     }
     LineColumn { line, column }
+}
+
+/// The bytes before a place.
+fn until(program: &[u8], at: usize) -> &[u8]
+    ensures { result.now ≡ take at program.now }
+{
+    program.get(..at).unwrap_or(program)
 }

@@ -1,10 +1,10 @@
 //! Runs of letters, digits and `_`: numbers, words and names.
 
-ghost use Rattle.std.specs.Prelude.{◌≡◌, ◌<◌, ◌^◌, ◌||◌, ◌==◌, length, take_while, bytes_eq, find};
+ghost use Rattle.std.specs.Prelude.{◌≡◌, ◌<◌, length, take_while, bytes_eq, find, true};
 ghost use Rattle.std.specs.List.{list_all, list_any};
 ghost use Rattle.std.specs.Char.{is_ascii_digit};
 ghost use Rattle.source.specs.Tokens.{is_run_byte, is_numeral, numeral_run, has_double, is_name, keyword_text, keywords, kept, word_run, run_read};
-ghost use Rattle.source_tokens.specs.Beginnings.{number_of, said};
+ghost use Rattle.source_tokens.specs.Beginnings.{value_of, number_of, said};
 
 use crate::beginning::Beginning;
 use source::fault::FaultKind;
@@ -69,8 +69,22 @@ fn number_of(run: &[u8]) -> Option<u64>
     if !is_numeral(run) {
         return None;
     }
-    let number = str::from_utf8(run).ok()?.parse().ok()?;
-    if number <= LARGEST { Some(number) } else { None }
+    match value_of(run) {
+        Some(number) if number <= LARGEST => Some(number),
+        _ => None,
+    }
+}
+
+/// The value of the digits, where it fits.
+fn value_of(digits: &[u8]) -> Option<u64>
+    requires all_digits { list_all is_ascii_digit digits.now ≡ true }
+    requires some { 0 < length digits.now }
+    ensures { result ≡ value_of digits.now }
+{
+    match str::from_utf8(digits) {
+        Ok(text) => text.parse().ok(),
+        Err(_) => None,
+    }
 }
 
 /// Whether the run is digits, with no leading zero.
@@ -168,5 +182,11 @@ fn has_double(run: &[u8]) -> bool
 fn is_kept(run: &[u8]) -> bool
     ensures { result ≡ list_any (bytes_eq run.now) kept }
 {
-    KEPT.iter().any(|word| run == word.as_bytes())
+    is_one_of(run, &KEPT)
+}
+
+fn is_one_of(run: &[u8], words: &[&str]) -> bool
+    ensures { result ≡ list_any (λ w. bytes_eq run.now w.now) words.now }
+{
+    words.iter().any(|word| run == word.as_bytes())
 }
