@@ -1,5 +1,5 @@
 -- What a text begins with is some bytes, and they lie in it.
-use Rattle.std.proofs.Common.{◌≡◌, ℕ, ◌+◌, ◌^◌, ◌≤◌, ◌==◌, ◌&&◌, not, nat_le, Bool, true, false, List, [], ◌∷◌, length, Option, Some, None, cond, if◌then◌else◌, codes, refl, subst, arith, eqb-true, find, bytes_eq, take_while, tt}
+use Rattle.std.proofs.Common.{◌≡◌, ℕ, ◌+◌, ◌^◌, ◌≤◌, ◌==◌, ◌&&◌, not, nat_le, Bool, true, false, List, [], ◌∷◌, length, Option, Some, None, cond, if◌then◌else◌, codes, refl, subst, arith, eqb-true, find, bytes_eq, take_while}
 use Rattle.std.specs.List.{list_all, prefix_len}
 use Rattle.std.specs.Char.{is_ascii_digit}
 use Rattle.std.specs.Str.Parse.{digits_value}
@@ -19,8 +19,8 @@ IsWithin n (Read kind len) = (1 ≤ len) × (len ≤ n)
 IsWithin n (Refused kind) = Unit {0}
 
 by_test : (n : ℕ) (t : Bool) (x y : Beginning) → (t ≡ true → IsWithin n x) → (t ≡ false → IsWithin n y) → IsWithin n (if t then x else y)
-by_test n true x y yes no = yes refl
-by_test n false x y yes no = no refl
+by_test n true x y holds fails = holds refl
+by_test n false x y holds fails = fails refl
 
 -- RUNS
 of_numeral : (n : ℕ) (run : List ℕ) → 1 ≤ length run → length run ≤ n → IsWithin n (numeral_run run)
