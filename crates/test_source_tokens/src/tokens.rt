@@ -49,11 +49,11 @@ fn a_function(rt: HostRuntime) -> Result<(), Fail> {
         name(1, 19),
         mark(Sign::Comma, 20),
         name(1, 21),
-        mark(Sign::CloseBrace, 33),
+        mark(Sign::CloseBrace, 32),
     ];
     assert_eq!(rt; tokens.as_slice(), expected.as_slice());
     assert_eq!(rt; name_at(program, 3, 3), b"fib".as_slice());
-    assert_eq!(rt; name_at(program, 33, 3), b"}\n".as_slice());
+    assert_eq!(rt; name_at(program, 32, 3), b"}\n".as_slice());
     assert_eq!(rt; name_at(program, 99, 3), b"".as_slice());
     Ok(())
 }
