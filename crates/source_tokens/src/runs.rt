@@ -12,8 +12,8 @@ use source::token::{Keyword, Sign, TokenKind};
 
 /// The words that nothing uses, and that are no names either.
 const KEPT: [&str; 22] = [
-    "and", "as", "break", "case", "const", "do", "end", "false", "for", "in", "match", "mod", "not",
-    "or", "return", "then", "true", "type", "use", "where", "with", "xor",
+    "and", "as", "break", "case", "const", "do", "end", "false", "for", "in", "match", "mod",
+    "not", "or", "return", "then", "true", "type", "use", "where", "with", "xor",
 ];
 /// The longest name.
 const NAME_LEN: usize = 24;
