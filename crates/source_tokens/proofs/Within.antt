@@ -12,6 +12,7 @@ use Rattle.source.specs.declared.token.Sign.{Sign}
 use Rattle.source.specs.declared.token.Sign.TheVariants.{Underscore}
 use Rattle.source.specs.declared.token.TokenKind.TheVariants.{Mark, Number, Name}
 use Rattle.source.specs.Tokens.{Beginning, Skipped, Read, Refused, begins, line_from, is_blank, is_run_byte, is_numeral, numeral_run, is_name, name_run, keyword_text, keywords, keyword_or_name, word_run, run_read, sign_text, signs, sign_read, beginning}
+use Rattle.source_tokens.specs.Beginnings.{sign_beginning}
 
 abbrev pub IsWithin : ℕ → Beginning → Type 0
 IsWithin n (Skipped len) = (1 ≤ len) × (len ≤ n)
@@ -24,7 +25,9 @@ by_test n false x y holds fails = fails refl
 
 -- RUNS
 of_numeral : (n : ℕ) (run : List ℕ) → 1 ≤ length run → length run ≤ n → IsWithin n (numeral_run run)
-of_numeral n run some few = by_test n (is_numeral run && nat_le (digits_value 10 run) (2 ^ 63)) (Read (Number (digits_value 10 run)) (length run)) (Refused BadNumber) (λ e. (some, few)) (λ e. tt)
+of_numeral n run some few =
+    by_test n (is_numeral run && nat_le (digits_value 10 run) (2 ^ 63)) (Read (Number (digits_value 10 run)) (length run)) (Refused BadNumber)
+    (λ e. (some, few)) (λ e. tt)
 
 of_name : (n : ℕ) (run : List ℕ) → 1 ≤ length run → length run ≤ n → IsWithin n (name_run run)
 of_name n run some few = by_test n (is_name run) (Read (Name (length run)) (length run)) (Refused BadName) (λ e. (some, few)) (λ e. tt)
@@ -42,7 +45,8 @@ of_run : (n b : ℕ) (run : List ℕ) → 1 ≤ length run → length run ≤ n 
 of_run n b run some few = by_test n (is_ascii_digit b) (numeral_run run) (word_run run) (λ e. of_numeral n run some few) (λ e. of_word n run some few)
 
 -- the bytes from one on that passes
-passing : (p : ℕ → Bool) (b : ℕ) (bytes : List ℕ) → p b ≡ true → (1 ≤ length (take_while p (b ∷ bytes))) × (length (take_while p (b ∷ bytes)) ≤ length (b ∷ bytes))
+passing : (p : ℕ → Bool) (b : ℕ) (bytes : List ℕ) → p b ≡ true
+    → (1 ≤ length (take_while p (b ∷ bytes))) × (length (take_while p (b ∷ bytes)) ≤ length (b ∷ bytes))
 passing p b bytes e =
     let n = length-prefix_len p (b ∷ bytes) in
     let some : prefix_len p (b ∷ bytes) ≡ 1 + prefix_len p bytes = rw e refl in
@@ -88,26 +92,38 @@ of_found : (bytes : List ℕ) (o : Option Sign) → find (λ s. begins (sign_tex
 of_found bytes None e = tt
 of_found bytes (Some s) e =
     let test = λ (z : Sign). begins (sign_text z) bytes in
-    (some_bytes (sign_text s) (find_in_all test (λ z. is_some (sign_text z)) signs s signs_are_some e), begins_within (sign_text s) bytes (find_passes test signs s e))
+    let some = find_in_all test (λ z. is_some (sign_text z)) signs s signs_are_some e in
+    (some_bytes (sign_text s) some, begins_within (sign_text s) bytes (find_passes test signs s e))
 
 -- ALL OF THEM
-of_token : (b : ℕ) (bytes : List ℕ) → IsWithin (length (b ∷ bytes)) (if is_run_byte b then run_read b (take_while is_run_byte (b ∷ bytes)) else sign_read (find (λ s. begins (sign_text s) (b ∷ bytes)) signs))
+abbrev run_from : ℕ → List ℕ → List ℕ
+run_from b bytes = take_while is_run_byte (b ∷ bytes)
+
+abbrev token_from : ℕ → List ℕ → Beginning
+token_from b bytes = if is_run_byte b then run_read b (run_from b bytes) else sign_beginning b bytes
+
+of_token : (b : ℕ) (bytes : List ℕ) → IsWithin (length (b ∷ bytes)) (token_from b bytes)
 of_token b bytes =
-    by_test (length (b ∷ bytes)) (is_run_byte b) (run_read b (take_while is_run_byte (b ∷ bytes))) (sign_read (find (λ s. begins (sign_text s) (b ∷ bytes)) signs))
-    (λ e. let r = passing is_run_byte b bytes e in of_run (length (b ∷ bytes)) b (take_while is_run_byte (b ∷ bytes)) r.0 r.1)
+    let n : ℕ = length (b ∷ bytes) in
+    by_test n (is_run_byte b) (run_read b (run_from b bytes)) (sign_beginning b bytes)
+    (λ e. let r = passing is_run_byte b bytes e in of_run n b (run_from b bytes) r.0 r.1)
     (λ e. of_found (b ∷ bytes) (find (λ s. begins (sign_text s) (b ∷ bytes)) signs) refl)
 
 abbrev in_line : ℕ → Bool
 in_line b = not (b == 10)
 
-of_comment : (b : ℕ) (bytes : List ℕ) → begins (codes "//") (b ∷ bytes) ≡ true → (1 ≤ length (line_from (b ∷ bytes))) × (length (line_from (b ∷ bytes)) ≤ length (b ∷ bytes))
+of_comment : (b : ℕ) (bytes : List ℕ) → begins (codes "//") (b ∷ bytes) ≡ true
+    → (1 ≤ length (line_from (b ∷ bytes))) × (length (line_from (b ∷ bytes)) ≤ length (b ∷ bytes))
 of_comment b bytes e =
     let slash : 47 ≡ b = eqb-true 47 b (first_of_and (47 == b) (begins (codes "/") bytes) e) in
     passing in_line b bytes (subst (λ (x : ℕ). in_line x ≡ true) slash refl)
 
+abbrev comment_or_token : ℕ → List ℕ → Beginning
+comment_or_token b bytes = if begins (codes "//") (b ∷ bytes) then Skipped (length (line_from (b ∷ bytes))) else token_from b bytes
+
 pub beginning_is_within : (b : ℕ) (bytes : List ℕ) → IsWithin (length (b ∷ bytes)) (beginning b bytes)
 beginning_is_within b bytes =
     let n : ℕ = length (b ∷ bytes) in
-    let token : Beginning = if is_run_byte b then run_read b (take_while is_run_byte (b ∷ bytes)) else sign_read (find (λ s. begins (sign_text s) (b ∷ bytes)) signs) in
-    by_test n (is_blank b) (Skipped 1) (if begins (codes "//") (b ∷ bytes) then Skipped (length (line_from (b ∷ bytes))) else token) (λ e. (omega arith, omega arith))
-    (λ e. by_test n (begins (codes "//") (b ∷ bytes)) (Skipped (length (line_from (b ∷ bytes)))) token (λ e. of_comment b bytes e) (λ e. of_token b bytes))
+    let comment : Beginning = Skipped (length (line_from (b ∷ bytes))) in
+    by_test n (is_blank b) (Skipped 1) (comment_or_token b bytes) (λ e. (omega arith, omega arith))
+    (λ e. by_test n (begins (codes "//") (b ∷ bytes)) comment (token_from b bytes) (λ e. of_comment b bytes e) (λ e. of_token b bytes))
