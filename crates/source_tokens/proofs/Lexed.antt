@@ -1,13 +1,13 @@
 -- Tokens, one after the other.
-use Rattle.std.proofs.Common.{◌≡◌, ℕ, ◌+◌, ◌-◌, ◌≤◌, zero, suc, List, [], ◌∷◌, ◌++◌, length, drop, Option, Some, option_map, Result, Ok, Err, refl, sym, ap, subst, ◌∙◌, append_assoc, arith}
-use Rattle.std.proofs.lemmas.List.{drop-drop, length-drop}
+use Rattle.std.proofs.Common.{◌≡◌, ℕ, ◌+◌, ◌-◌, ◌≤◌, zero, suc, List, [], ◌∷◌, ◌++◌, length, drop, Option, Some, None, option_map, Result, Ok, Err, refl, sym, ap, subst, ◌∙◌, append_assoc, arith}
+use Rattle.std.proofs.lemmas.List.{append-nil, drop-drop, length-drop}
 use Rattle.source.specs.declared.fault.Fault.{Fault}
 use Rattle.source.specs.declared.token.Token.{Token}
 use Rattle.source.specs.declared.token.TokenKind.{TokenKind}
 use Rattle.source.specs.Tokens.{Beginning, Skipped, Read, beginning, preceded, lexed_then, lexed_from}
 use Rattle.source_tokens.specs.declared.beginning.Beginning as code
 use Rattle.source_tokens.specs.Beginnings.{said, opening}
-use Rattle.source_tokens.proofs.Within.{IsWithin, beginning_is_within}
+use Rattle.source_tokens.proofs.Sound.{IsSound, beginning_is_sound}
 
 -- what was read before, and what is still read
 abbrev pub with_front : List Token → Result (List Token) Fault → Result (List Token) Fault
@@ -46,10 +46,10 @@ first_step b bytes at o is =
     let same : beginning b bytes ≡ o = cc in
     ap (λ (v : Beginning). lexed_then at v (λ n. lexed_from bytes (at + 1) n)) same
 
-its_len : (b : ℕ) (bytes : List ℕ) (o : Beginning) → opening (b ∷ bytes) ≡ Some o → IsWithin (length (b ∷ bytes)) o
-its_len b bytes o is =
+its_bytes : (b : ℕ) (bytes : List ℕ) (o : Beginning) → opening (b ∷ bytes) ≡ Some o → IsSound (b ∷ bytes) o
+its_bytes b bytes o is =
     let same : beginning b bytes ≡ o = cc in
-    subst (λ (v : Beginning). IsWithin (length (b ∷ bytes)) v) same (beginning_is_within b bytes)
+    subst (λ (v : Beginning). IsSound (b ∷ bytes) v) same (beginning_is_sound b bytes)
 
 stays_within : (text rest : List ℕ) (at len : ℕ) → at ≤ length text → rest ≡ drop at text → len ≤ length rest → at + len ≤ length text
 stays_within text rest at len low e few =
@@ -74,7 +74,7 @@ pub behind_blank : (text rest : List ℕ) (at len : ℕ) (tokens : List Token) (
     → with_front tokens (lexed_from (drop at text) at 0) ≡ total → IsNext text at len tokens total
 behind_blank text [] at len tokens total low e is so_far = absurd cc
 behind_blank text (b ∷ bytes) at len tokens total low e is so_far =
-    let w = its_len b bytes (Skipped len) is in
+    let w = its_bytes b bytes (Skipped len) is in
     let same : lexed_from (drop at text) at 0 ≡ lexed_from (drop (at + len) text) (at + len) 0 =
     ap (λ (xs : List ℕ). lexed_from xs at 0) (sym e) ∙ first_step b bytes at (Skipped len) is ∙ further text b bytes at len w.0 e in
     record {
@@ -88,7 +88,7 @@ pub behind_token : (text rest : List ℕ) (at len : ℕ) (kind : TokenKind) (tok
     → with_front tokens (lexed_from (drop at text) at 0) ≡ total → IsNext text at len more total
 behind_token text [] at len kind tokens more total low e is pushed so_far = absurd cc
 behind_token text (b ∷ bytes) at len kind tokens more total low e is pushed so_far =
-    let w = its_len b bytes (Read kind len) is in
+    let w = its_bytes b bytes (Read kind len) is in
     let token : Token = record { kind = kind; at = at } in
     let rest : Result (List Token) Fault = lexed_from (drop (at + len) text) (at + len) 0 in
     let same : lexed_from (drop at text) at 0 ≡ preceded token rest =
@@ -101,3 +101,10 @@ behind_token text (b ∷ bytes) at len kind tokens more total low e is pushed so
       within = stays_within text (b ∷ bytes) at len low e w.1;
       so_far = ap (λ (ts : List Token). with_front ts rest) pushed ∙ sym one_more ∙ so_far;
     }
+
+pub ends : (text rest : List ℕ) (at : ℕ) (tokens : List Token) (total : Result (List Token) Fault)
+    → rest ≡ drop at text → opening rest ≡ None → with_front tokens (lexed_from (drop at text) at 0) ≡ total → total ≡ Ok tokens
+ends text [] at tokens total e is so_far =
+    let nothing : with_front tokens (Ok []) ≡ Ok tokens = ap (λ (xs : List Token). Ok xs) (append-nil tokens) in
+    sym so_far ∙ ap (λ (xs : List ℕ). with_front tokens (lexed_from xs at 0)) (sym e) ∙ nothing
+ends text (b ∷ bytes) at tokens total e is so_far = absurd cc

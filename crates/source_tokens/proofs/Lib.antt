@@ -1,4 +1,5 @@
 pub mod Lexed
 pub mod Numerals
 pub mod Parts
-pub mod Within
+pub mod Sound
+pub mod Standing

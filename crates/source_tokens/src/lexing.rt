@@ -1,8 +1,9 @@
 //! The tokens of a program.
 
-ghost use Rattle.std.specs.Prelude.{◌≡◌, take, drop, Ok, MatchResult};
+ghost use Rattle.std.specs.Prelude.{◌≡◌, take, drop, All, Ok, IfOk, MatchResult};
 ghost use Rattle.source.specs.Tokens.{lexed};
 ghost use Rattle.source_tokens.specs.Lexing.{IsFirstFault};
+ghost use Rattle.source_tokens.specs.Stands.{Stands};
 
 use crate::beginning::Beginning;
 use source::fault::{Fault, FaultKind};
@@ -11,7 +12,9 @@ use std::alloc::Allocator;
 
 /// The tokens of a program, or its first fault. `Memory` comes only where a growth was refused.
 pub fn lex<A: Allocator>(alloc: A, program: &[u8]) -> Result<Vec<Token, A>, Fault>
-    ensures { MatchResult result (λ v. lexed program.now ≡ Ok v.items) (λ e. IsFirstFault e (lexed program.now)) }
+    ensures exact { MatchResult result (λ v. lexed program.now ≡ Ok v.items) (λ e. IsFirstFault e (lexed program.now)) }
+    // What is read stands in the text.
+    ensures stand { IfOk result (λ v. All (Stands program.now) v.items) }
 {
     let mut tokens = Vec::new(alloc);
     let mut at = 0;

@@ -1,7 +1,8 @@
-use Rattle.std.proofs.Common.{arith}
+use Rattle.std.proofs.Common.{sym, arith}
 use Rattle.source.specs.Tokens.{lexed}
 use Rattle.source_tokens.specs.declared.beginning.Beginning.TheVariants.{Skipped, Read}
-use Rattle.source_tokens.proofs.Lexed.{seen, behind_blank, behind_token}
+use Rattle.source_tokens.proofs.Lexed.{seen, behind_blank, behind_token, ends}
+use Rattle.source_tokens.proofs.Standing.{all_stand}
 use Rattle.source_tokens.proofs.lexing.lex.Goals as goal
 
 pub overflow_add-at : goal.overflow_add-at
@@ -60,3 +61,9 @@ loop-beginning-preserved g c =
     let s = behind_token program rest l.at c.in-Read.len c.in-Read.kind l.tokens.items c.push.new.self.items (lexed program)
     l.invariant.within c.from.ensures is c.in-Ok.ensures.items l.invariant.so_far in
     record { within = s.within; so_far = s.so_far }
+
+pub returns-clause-stand : goal.returns-clause-stand
+returns-clause-stand g c =
+    let l = c.loop-beginning in
+    let program = c.args.program.now in
+    all_stand program l.tokens.items (ends program c.from.result.now l.at l.tokens.items (lexed program) c.from.ensures (sym c.in_default.ensures) l.invariant.so_far)
