@@ -18,7 +18,8 @@ from_here text b bytes at (Skipped len) ts sound e is more = more (len - 1) ts i
 from_here text b bytes at (Refused kind) ts sound e is more = absurd cc
 from_here text b bytes at (Read kind len) ts sound e is more = with_it (lexed_from bytes (at + 1) (len - 1)) refl is
   where
-    with_it : (r : Result (List Token) Fault) → lexed_from bytes (at + 1) (len - 1) ≡ r → preceded (record { kind = kind; at = at }) r ≡ Ok ts → All (Stands text) ts
+    with_it : (r : Result (List Token) Fault) → lexed_from bytes (at + 1) (len - 1) ≡ r
+        → preceded (record { kind = kind; at = at }) r ≡ Ok ts → All (Stands text) ts
     with_it (Err fault) s is = absurd cc
     with_it (Ok us) s is =
         let same : record { kind = kind; at = at } ∷ us ≡ ts = cc in
@@ -29,7 +30,8 @@ from : (text bytes : List ℕ) (at past : ℕ) (ts : List Token) → bytes ≡ d
 from text [] at past ts e is = let none : [] ≡ ts = cc in subst (λ (xs : List Token). All (Stands text) xs) none (All-nil (Stands text))
 from text (b ∷ bytes) at (suc past) ts e is = from text bytes (at + 1) past ts (next_drop text b bytes at e) is
 from text (b ∷ bytes) at zero ts e is =
-    from_here text b bytes at (beginning b bytes) ts (beginning_is_sound b bytes) e is (λ past us so. from text bytes (at + 1) past us (next_drop text b bytes at e) so)
+    from_here text b bytes at (beginning b bytes) ts (beginning_is_sound b bytes) e is
+    (λ past us so. from text bytes (at + 1) past us (next_drop text b bytes at e) so)
 
 pub all_stand : (text : List ℕ) (ts : List Token) → lexed text ≡ Ok ts → All (Stands text) ts
 all_stand text ts is = from text text 0 0 ts refl is

@@ -66,4 +66,5 @@ pub returns-clause-stand : goal.returns-clause-stand
 returns-clause-stand g c =
     let l = c.loop-beginning in
     let program = c.args.program.now in
-    all_stand program l.tokens.items (ends program c.from.result.now l.at l.tokens.items (lexed program) c.from.ensures (sym c.in_default.ensures) l.invariant.so_far)
+    let rest = c.from.result.now in
+    all_stand program l.tokens.items (ends program rest l.at l.tokens.items (lexed program) c.from.ensures (sym c.in_default.ensures) l.invariant.so_far)
