@@ -13,7 +13,7 @@ use Rattle.source.specs.declared.token.Sign.TheVariants as sign
 use Rattle.source.specs.declared.token.TokenKind.{TokenKind}
 use Rattle.source.specs.declared.token.TokenKind.TheVariants as token
 use Rattle.source.specs.declared.token.Token.{Token}
-use Rattle.source.specs.Tree.{Name, NameAt, NumberAt, Target, Bind, Drop, Expr, Number, Named, Bracket, Prefix, Infix, Fetch, Store, Call, If, Loop, Exprs, One, More, Body, Let, Do, Give, Chain, Turn, Before, After, Function, Item, Cells, Defines, Program}
+use Rattle.source.specs.Tree.{Name, NameAt, NumberAt, Target, Bind, Drop, Expr, Number, Named, Bracket, Prefix, Infix, Fetch, Store, Call, If, Loop, Exprs, One, More, Body, Let, Do, Give, Chain, Turn, Before, After, Item, Cells, Defines, Program, names_of}
 
 -- what a token says
 pub data Lexeme : Type 0 where
@@ -107,10 +107,6 @@ abbrev pub others : List NameAt → List NameAt
 others [] = []
 others (x ∷ xs) = xs
 
-abbrev pub turn_names : Turn → List NameAt
-turn_names (Before xs p body) = xs
-turn_names (After xs body p) = xs
-
 abbrev pub is_chain : Body → Bool
 is_chain (Let at targets es rest) = false
 is_chain (Do es rest) = false
@@ -135,7 +131,7 @@ abbrev mutual
   tokens (Call at strict f es) = strict_tokens strict ++ name_at at f ∷ the_sign sign.OpenParen ∷ list_tokens es ++ the_sign sign.CloseParen ∷ []
   tokens (If at p l r) = word_at at word.If ∷ tokens p ++ the_sign sign.OpenBrace ∷ body_tokens l ++ the_word word.Else ∷ braced (is_chain r) (body_tokens r)
   tokens (Loop at bound firsts turn) = word_at at word.Loop ∷ number_at bound.at bound.number ∷ the_sign sign.OpenParen
-      ∷ first_tokens (turn_names turn) firsts ++ the_sign sign.CloseParen ∷ turn_tokens turn
+      ∷ first_tokens (names_of turn) firsts ++ the_sign sign.CloseParen ∷ turn_tokens turn
 
   pub list_tokens : Exprs → List Spelling
   list_tokens (One e) = tokens e
@@ -148,22 +144,26 @@ abbrev mutual
 
   -- what follows a body's brace, up to the brace that closes it
   pub body_tokens : Body → List Spelling
-  body_tokens (Let at targets es rest) = word_at at word.Let ∷ listed (map target_token targets) ++ the_sign sign.Equals ∷ list_tokens es ++ the_sign sign.Semicolon ∷ body_tokens rest
+  body_tokens (Let at targets es rest) = word_at at word.Let ∷ listed (map target_token targets) ++ the_sign sign.Equals ∷ list_tokens es ++ the_sign
+      sign.Semicolon ∷ body_tokens rest
   body_tokens (Do es rest) = list_tokens es ++ the_sign sign.Semicolon ∷ body_tokens rest
   body_tokens (Give es) = list_tokens es ++ the_sign sign.CloseBrace ∷ []
   body_tokens (Chain e) = tokens e
 
   pub turn_tokens : Turn → List Spelling
   turn_tokens (Before xs p body) = the_word word.While ∷ tokens p ++ the_sign sign.OpenBrace ∷ body_tokens body
-  turn_tokens (After xs body p) = the_sign sign.OpenBrace ∷ body_tokens body ++ the_word word.While ∷ the_sign sign.OpenParen ∷ tokens p ++ the_sign sign.CloseParen ∷ []
+  turn_tokens (After xs body p) = the_sign sign.OpenBrace ∷ body_tokens body ++ the_word word.While ∷ the_sign sign.OpenParen ∷ tokens p ++ the_sign
+      sign.CloseParen ∷ []
 
 abbrev pub result_tokens : Option NumberAt → List Spelling
 result_tokens None = []
 result_tokens (Some n) = the_sign sign.Arrow ∷ number_at n.at n.number ∷ []
 
 abbrev pub item_tokens : Item → List Spelling
-item_tokens (Cells x len) = the_word word.Array ∷ name_token x ∷ the_sign sign.OpenBracket ∷ number_at len.at len.number ∷ the_sign sign.CloseBracket ∷ the_sign sign.Semicolon ∷ []
-item_tokens (Defines f) = the_word word.Fn ∷ name_token f.name ∷ the_sign sign.OpenParen ∷ listed (map name_token f.params) ++ the_sign sign.CloseParen ∷ result_tokens f.results
+item_tokens (Cells x len) = the_word word.Array ∷ name_token x ∷ the_sign sign.OpenBracket ∷ number_at len.at len.number ∷ the_sign sign.CloseBracket ∷
+    the_sign sign.Semicolon ∷ []
+item_tokens (Defines f) = the_word word.Fn ∷ name_token f.name ∷ the_sign sign.OpenParen ∷ listed (map name_token f.params) ++ the_sign sign.CloseParen ∷
+    result_tokens f.results
     ++ sign_at f.body_at sign.OpenBrace ∷ body_tokens f.body
 
 abbrev pub program_tokens : Program → List Spelling
