@@ -16,7 +16,7 @@ use Rattle.source.specs.declared.token.Sign.TheVariants.{Underscore}
 use Rattle.source.specs.declared.token.TokenKind.TheVariants.{Mark, Number, Name}
 use Rattle.source.specs.Tokens.{Beginning, Skipped, Read, Refused, begins, line_from, is_blank, is_run_byte, is_numeral, numeral_run, is_name, name_run, keyword_text, keywords, keyword_or_name, word_run, run_read, sign_text, signs, sign_read, beginning}
 use Rattle.source_tokens.specs.Beginnings.{sign_beginning}
-use Rattle.source_tokens.specs.Stands.{run_of, BeginsWith, BeginsWithNumber, BeginsWithName}
+use Rattle.source_tokens.specs.Stands.{run_of, BeginsWith}
 
 abbrev pub IsSound : List ℕ → Beginning → Type 0
 IsSound rest (Skipped len) = (1 ≤ len) × (len ≤ length rest)
@@ -70,11 +70,15 @@ of_numeral : (rest : List ℕ) → IsSome rest → IsSound rest (numeral_run (ru
 of_numeral rest h =
     let v : ℕ = digits_value 10 (run_of rest) in
     by_test rest (is_numeral (run_of rest) && nat_le v (2 ^ 63)) (Read (Number v) (length (run_of rest))) (Refused BadNumber)
-    (λ e. (h.some, h.few, record {
-      numeral = first_of_and (is_numeral (run_of rest)) (nat_le v (2 ^ 63)) e;
-      value = refl;
-      small = leb-true v (2 ^ 63) (second_of_and (is_numeral (run_of rest)) (nat_le v (2 ^ 63)) e);
-    }))
+    (λ e. (
+      h.some,
+      h.few,
+      record {
+        numeral = first_of_and (is_numeral (run_of rest)) (nat_le v (2 ^ 63)) e;
+        value = refl;
+        small = leb-true v (2 ^ 63) (second_of_and (is_numeral (run_of rest)) (nat_le v (2 ^ 63)) e);
+      },
+    ))
     (λ e. tt)
 
 of_name : (rest : List ℕ) → IsSome rest → IsSound rest (name_run (run_of rest))
