@@ -1,4 +1,5 @@
 mod ReadTokens
+mod Positions
 pub mod Spelling
 pub mod Steps
 pub mod Kept

@@ -1,10 +1,10 @@
 -- What is too big, and what just is not.
-use Rattle.std.specs.Prelude.{◌≡◌, ℕ, List, [], ◌∷◌, codes, replicate, Ok, refl}
+use Rattle.std.specs.Prelude.{◌≡◌, ℕ, [], ◌∷◌, replicate, Ok, refl}
 use Rattle.semantics.specs.declared.graph.Region.TheVariants.{Root}
 use Rattle.semantics.specs.declared.graph.Kind.TheVariants.{Enter}
 use Rattle.source.specs.declared.fault.FaultKind.TheVariants.{TooBig}
 use Rattle.source.specs.First.{refused}
-use Rattle.source.specs.Lowered.{Made, MadeBlock, sizes}
+use Rattle.source.specs.Lowered.{MadeBlock, sizes}
 
 -- a block at place 7 with two inputs and so many node lines
 abbrev with_nodes : ℕ → MadeBlock

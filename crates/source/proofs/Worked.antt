@@ -3,8 +3,29 @@ use Rattle.std.specs.Prelude.{◌≡◌, ◌↔◌, ℕ, zero, suc, ◌<◌, pos
 use Rattle.std.proofs.Common.{refl, arith, ap, subst}
 use Rattle.tags.specs.declared.value.Value.{Value}
 use Rattle.tags.specs.declared.value.Value.TheVariants.{Int}
-use Rattle.source.specs.Evaluates.{Stores, number, named, infix_, fetch, store, call, if_true, if_false, loop, one, more, lets, does, gives, leaves, goes, ends, again}
-use Rattle.source.specs.Examples.{FactorialGives, SumGives, CountGives, PairsGive, CellsGive, OutsideGives, FaultsGive, eight_at_one, eight_at_both, MemoryIsComputed}
+use Rattle.source.specs.Evaluates.{Stores, number, named, bracket, prefix, chain, infix_, fetch, store, call, if_true, if_false, loop, one, more, lets, does, gives, leaves, goes, ends, again}
+use Rattle.source.specs.Examples.{SignsGive, ElseIfGives, StrictCallGives, FactorialGives, SumGives, CountGives, PairsGive, CellsGive, OutsideGives, FaultsGive, eight_at_one, eight_at_both, MemoryIsComputed}
+
+pub signs_give : SignsGive
+signs_give = record {
+  main = _;
+  named = refl;
+  runs = gives (one (infix_ (infix_ (prefix (named refl)) (prefix (prefix (bracket (named refl))))) (prefix (bracket number))));
+}
+
+pub else_if_gives : ElseIfGives
+else_if_gives = record {
+  main = _;
+  named = refl;
+  runs = gives (one (if_false (named refl) refl (chain (if_true (infix_ (named refl) number) refl (gives (one number))))));
+}
+
+pub strict_call_gives : StrictCallGives
+strict_call_gives = record {
+  main = _;
+  named = refl;
+  runs = gives (one (call (more (fetch number refl) (one (named refl))) refl (gives (one (named refl)))));
+}
 
 pub factorial_gives : FactorialGives
 factorial_gives = record {

@@ -9,7 +9,7 @@ use Rattle.source.specs.Tree.{Program}
 use Rattle.source.specs.Evaluates.{World, RunsMain}
 use Rattle.source.specs.Theorem.{world, Computes}
 use Rattle.source.specs.Lowered.{origin_of}
-use Rattle.source.specs.Samples.{factorial, sum_up, count_up, cells, misses, two_faults, pairs}
+use Rattle.source.specs.Samples.{signs, factorial, else_if, sum_up, count_up, cells, misses, two_faults, pairs, strict_call}
 
 -- faults have the origins that lowering gives them
 abbrev pub over : Program → (ℕ → Option Value) → World
@@ -17,6 +17,14 @@ over p memory = world p (origin_of p) memory
 
 abbrev pub empty : ℕ → Option Value
 empty x = None
+
+-- -7 + ~-(7) - -(5)
+abbrev pub SignsGive : Type 0
+SignsGive = RunsMain (over signs empty) (Int (pos 7) ∷ []) (Int (pos 4) ∷ []) []
+
+-- the second arm of the `if` behind `else` is not done
+abbrev pub ElseIfGives : Type 0
+ElseIfGives = RunsMain (over else_if empty) (Int (pos 0) ∷ []) (Int (pos 2) ∷ []) []
 
 abbrev pub FactorialGives : Type 0
 FactorialGives = RunsMain (over factorial empty) (Int (pos 2) ∷ []) (Int (pos 2) ∷ []) []
@@ -38,6 +46,14 @@ eight_at_one (suc (suc x)) = None
 
 abbrev pub CellsGive : Type 0
 CellsGive = RunsMain (over cells eight_at_one) (Int (pos 5) ∷ []) (Int (pos 8) ∷ []) ((1, Int (pos 8)) ∷ [])
+
+-- a strict call has the values of a call
+abbrev pub eight_at_zero : ℕ → Option Value
+eight_at_zero zero = Some (Int (pos 8))
+eight_at_zero (suc x) = None
+
+abbrev pub StrictCallGives : Type 0
+StrictCallGives = RunsMain (over strict_call eight_at_zero) (Int (pos 5) ∷ []) (Int (pos 5) ∷ []) []
 
 -- the whole of a memory that the program computes, with its only output
 abbrev pub eight_first : ℕ → Option Value

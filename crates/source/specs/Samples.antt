@@ -135,7 +135,7 @@ pairs = Defines (record {
       (One (Call 57 false (codes "pair") (More (Named 62 (codes "n")) (One (Number 65 1))))))) (Give (One (Named 70 (codes "x")))));
 }) ∷ []
 
--- a strict call, and an array of the same length of name
+-- a strict call
 abbrev pub strict_call_text : List ℕ
 strict_call_text = codes "array A[1]; fn f(x, y) { y } fn main(n) { strict f(A[0], n) }"
 

@@ -2,7 +2,7 @@
 #![tactic(auto)]
 
 ghost use Rattle.source.specs.Counts.{CountsHold, MainCounts};
-ghost use Rattle.source.specs.Examples.{FactorialGives, SumGives, CountGives, PairsGive, CellsGive, OutsideGives, FaultsGive, MemoryIsComputed};
+ghost use Rattle.source.specs.Examples.{SignsGive, FactorialGives, ElseIfGives, SumGives, CountGives, PairsGive, StrictCallGives, CellsGive, OutsideGives, FaultsGive, MemoryIsComputed};
 ghost use Rattle.source.specs.Once.{OneAnswer, OneOutput};
 
 pub mod fault;
@@ -10,14 +10,17 @@ pub mod program;
 pub mod token;
 pub mod word;
 
-/// Seven small programs, evaluated by hand: a function that calls itself, both forms of a loop, a call with two values, a
-/// store with a fetch of it, a store outside of its array, and a comparison of two faults. One of them with the whole of a
-/// memory that it computes.
+/// Small programs, evaluated by hand: signs and brackets, a function that calls itself, a chain of conditionals, both forms
+/// of a loop, a call with two values, a strict call, a store with a fetch of it, a store outside of its array, and a
+/// comparison of two faults. One of them with the whole of a memory that it computes.
 pub fn examples()
+    ensures signs { SignsGive }
     ensures factorial { FactorialGives }
+    ensures else_if { ElseIfGives }
     ensures sum { SumGives }
     ensures count { CountGives }
     ensures pairs { PairsGive }
+    ensures strict_call { StrictCallGives }
     ensures cells { CellsGive }
     ensures outside { OutsideGives }
     ensures faults { FaultsGive }

@@ -1,4 +1,4 @@
-use Rattle.source.proofs.Worked.{factorial_gives, sum_gives, count_gives, pairs_give, cells_give, outside_gives, faults_give, memory_is_computed}
+use Rattle.source.proofs.Worked.{signs_give, else_if_gives, strict_call_gives, factorial_gives, sum_gives, count_gives, pairs_give, cells_give, outside_gives, faults_give, memory_is_computed}
 use Rattle.source.proofs.examples.Goals as goal
 
 pub returns-clause-factorial : goal.returns-clause-factorial
@@ -24,3 +24,12 @@ returns-clause-faults c = faults_give
 
 pub returns-clause-memory : goal.returns-clause-memory
 returns-clause-memory c = memory_is_computed
+
+pub returns-clause-signs : goal.returns-clause-signs
+returns-clause-signs c = signs_give
+
+pub returns-clause-else_if : goal.returns-clause-else_if
+returns-clause-else_if c = else_if_gives
+
+pub returns-clause-strict_call : goal.returns-clause-strict_call
+returns-clause-strict_call c = strict_call_gives
