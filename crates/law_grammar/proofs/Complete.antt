@@ -195,3 +195,15 @@ run_complete limit end p ps fits deep spelled =
 -- COMPLETE
 pub parsed_complete : (text : List ℕ) (ts : List Token) (p : Program) → Parses text ts p → parsed text ts ≡ Ok (program_words p)
 parsed_complete text ts p h = run_complete 200 (length text) p (map (placed text) ts) h.fits h.depth (spells text (program_tokens p) ts h.spelled)
+
+-- the same, of what is done with the tokens
+pub record Advances (limit : ℕ) (ps : List Placed) : Type 0 where
+  pub moved : Moved
+  pub last : Words
+  pub is : advance_all limit (Items ∷ []) ps ≡ Ok moved
+  pub ends : finish moved.stack ≡ Some last
+
+pub program_advances : (limit : ℕ) (p : Program) (ps : List Placed) → FitsProgram p → program_depth p ≤ limit → Spells (program_tokens p) ps → Advances limit ps
+program_advances limit p ps fits deep spelled =
+    let r = program_reads limit p fits deep in
+    record { moved = record { appended = r.reads.early; stack = r.reads.reached }; last = r.reads.late; is = r.reads.leads.by ps spelled; ends = r.ends }

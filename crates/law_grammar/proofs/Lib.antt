@@ -15,3 +15,4 @@ pub mod ReadBodies
 pub mod Complete
 pub mod Alike
 pub mod Paired
+pub mod Faults
