@@ -35,7 +35,7 @@ ready_kept limit S at l m r e = from (subst (λ x. Advanced limit (λ ts vs. ⊤
     from (moved place is ready given) = ready
 
 -- TWO RUNS
-data LikeMoved (limit most : ℕ) (l : Lexeme) : Result Moved FaultKind → Result Moved FaultKind → Type 0 where
+pub data LikeMoved (limit most : ℕ) (l : Lexeme) : Result Moved FaultKind → Result Moved FaultKind → Type 0 where
   ok_alike : {m n : Moved} → AlikeStacks m.stack n.stack → LikeMoved limit most l (Ok m) (Ok n)
   err_alike : (kind : FaultKind) → Blame l kind → LikeMoved limit most l (Err kind) (Err kind)
   both_deep : most ≡ limit → LikeMoved limit most l (Err fault.TooDeep) (Err fault.TooDeep)
@@ -55,15 +55,15 @@ module _ (limit most : ℕ) (wide : (most ≡ limit) ⊎ (limit + 3 ≤ most)) w
   like_by l S T _ _ r q a (both_too_deep e) h = both_deep e
   like_by l S T _ _ r q a (one_too_deep g) h = one_deep g
 
-  like_advance : (S T : Stack) → AlikeStacks S T → AllReady limit S → (at to : ℕ) (l : Lexeme) → LikeMoved limit most l (advance limit S at l) (advance most T to l)
+  pub like_advance : (S T : Stack) → AlikeStacks S T → AllReady limit S → (at to : ℕ) (l : Lexeme) → LikeMoved limit most l (advance limit S at l) (advance most T to l)
   like_advance _ _ both_empty r at to l = err_alike fault.Unexpected tt
   like_advance _ _ (on_top {s = s} {t = t} {S = S} {T = T} a h) r at to l = like_by l S T _ _ _ _ h (like_step limit most wide s t a at to l r.0) (like_advance S T h r.1 at to l)
 
   -- the same tokens, wherever they stand
-  record AlikeRun (m : Moved) (T : Stack) (qs : List Placed) : Type 0 where
-    moved : Moved
-    is : advance_all most T qs ≡ Ok moved
-    alike : AlikeStacks m.stack moved.stack
+  pub record AlikeRun (m : Moved) (T : Stack) (qs : List Placed) : Type 0 where
+    pub moved : Moved
+    pub is : advance_all most T qs ≡ Ok moved
+    pub alike : AlikeStacks m.stack moved.stack
 
   run_on : (p q : Placed) (ps qs : List Placed) (S T : Stack) (m : Moved) → p.lexeme ≡ q.lexeme
       → ((n : Moved) (k : Moved) → AlikeStacks n.stack k.stack → AllReady limit n.stack → (u : Moved) → advance_all limit n.stack ps ≡ Ok u → AlikeRun u k.stack qs)
@@ -83,7 +83,7 @@ module _ (limit most : ℕ) (wide : (most ≡ limit) ⊎ (limit + 3 ≤ most)) w
   run_on p q ps qs S T m head further ready _ e _ f (both_deep h) g = absurd cc
   run_on p q ps qs S T m head further ready _ e _ f (one_deep h) g = absurd cc
 
-  alike_run : (ps qs : List Placed) (S T : Stack) (m : Moved) → said ps ≡ said qs → AlikeStacks S T → AllReady limit S → advance_all limit S ps ≡ Ok m → AlikeRun m T qs
+  pub alike_run : (ps qs : List Placed) (S T : Stack) (m : Moved) → said ps ≡ said qs → AlikeStacks S T → AllReady limit S → advance_all limit S ps ≡ Ok m → AlikeRun m T qs
   alike_run [] [] S T m s a r e = let stacks : S ≡ m.stack = let i : Ok (record { appended = []; stack = S }) ≡ Ok m = e in cc in
       record { moved = record { appended = []; stack = T }; is = refl; alike = subst (λ U. AlikeStacks U T) stacks a }
   alike_run [] (q ∷ qs) S T m s a r e = absurd cc

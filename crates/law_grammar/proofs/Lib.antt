@@ -16,3 +16,4 @@ pub mod Complete
 pub mod Alike
 pub mod Paired
 pub mod Faults
+pub mod Refused
