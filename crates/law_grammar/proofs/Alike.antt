@@ -1,8 +1,7 @@
 -- WHAT THE AUTOMATON DOES does not depend on places, and on the limit only where something is too deep.
-use Rattle.std.proofs.Common.{◌≡◌, ℕ, zero, suc, ◌+◌, ◌<◌, ◌≤◌, Bool, true, false, List, [], ◌∷◌, ◌++◌, map, Option, None, Some, Result, Ok, Err, refl, sym, ap, ◌∙◌, subst, arith, inl, inr, if◌then◌else◌}
+use Rattle.std.proofs.Common.{◌≡◌, ℕ, zero, ◌+◌, ◌<◌, ◌≤◌, Bool, true, false, [], ◌∷◌, ◌++◌, Option, None, Some, refl, sym, ap, subst, arith, inl, inr, if◌then◌else◌}
 use Rattle.std.specs.Prelude.{◌^◌, ◌==◌, ◌⊎◌, nat_le, nat_lt, ⊤}
-use Rattle.std.proofs.lemmas.Bool.{eqb-true, leb-true, leb-false}
-use Rattle.operators.specs.declared.Unary.TheVariants.{Neg, Not}
+use Rattle.std.proofs.lemmas.Bool.{eqb-true}
 use Rattle.source.specs.declared.fault.FaultKind.{FaultKind}
 use Rattle.source.specs.declared.fault.FaultKind.TheVariants.{Unexpected, TooDeep, NotACell, BadNumber}
 use Rattle.source.specs.declared.token.Keyword.{Keyword}
@@ -17,7 +16,7 @@ use Rattle.source.specs.Spelled.{Lexeme, TheWord, TheSign, TheNumber, TheName}
 use Rattle.source.specs.Words.{Words}
 use Rattle.law_grammar.specs.declared.symbol.Symbol.{Symbol}
 use Rattle.law_grammar.specs.declared.symbol.Symbol.TheVariants.{Sign as OneSign, Keyword as OneWord, Emit, Items, ArrayName, ArrayLength, FunctionName, Parameter, Parameters, Results, ResultCount, FunctionBody, Steps, Target as OneTarget, Targets, LetEnd, StepEnd, Operand, Negated, After, AfterName, AfterIndex, Callee, CallEnd, Otherwise, Bound, Start, Starts, Turn as OneTurn}
-use Rattle.law_grammar.specs.Automaton.{Stack, Outcome, Takes, Passes, Refuses, appending, above, within, small, is_sign, is_word, infix_of, goes_on, after_infix, after_sign, after_cell, after, after_name, after_index, conditional, operand_word, operand_sign, operand, negated, callee, call_end, otherwise, bound, start, starts, turn, steps, target, targets, let_end, step_end, items, array_name, array_length, function_name, parameter, parameters, function_body, results, result_count, step}
+use Rattle.law_grammar.specs.Automaton.{Stack, Outcome, Takes, Passes, Refuses, appending, above, within, small, is_sign, is_word, infix_of, goes_on, after_infix, after_sign, after, after_name, after_index, conditional, operand_word, operand_sign, operand, negated, callee, call_end, otherwise, bound, start, starts, turn, steps, target, targets, let_end, step_end, items, array_name, array_length, function_name, parameter, parameters, function_body, results, result_count, step}
 use Rattle.law_grammar.proofs.Meaning.{Ready}
 use Rattle.law_grammar.proofs.Leads.{within_is}
 
@@ -77,9 +76,11 @@ module _ (limit most : ℕ) (wide : (most ≡ limit) ⊎ (limit + 3 ≤ most)) w
         narrow : (b : Bool) → nat_le d limit ≡ b → limit + 3 ≤ most → Like limit most l (if b then Takes ws P else Refuses TooDeep) (Takes vs Q)
         narrow true e w = take_alike a
         narrow false e w = one_too_deep (omega arith)
+
         equal : most ≡ limit → (b : Bool) → Like limit most l (if b then Takes ws P else Refuses TooDeep) (if b then Takes vs Q else Refuses TooDeep)
         equal e true = take_alike a
         equal e false = both_too_deep e
+
         go : (most ≡ limit) ⊎ (limit + 3 ≤ most) → Like limit most l (within limit d (Takes ws P)) (within most d (Takes vs Q))
         go (inl e) = subst (λ n. Like limit most l (within limit d (Takes ws P)) (within n d (Takes vs Q))) (sym e) (equal e (nat_le d limit))
         go (inr w) = subst (λ o. Like limit most l (within limit d (Takes ws P)) o) (sym (within_is most d (Takes vs Q) (omega arith))) (narrow (nat_le d limit) refl w)

@@ -1,24 +1,22 @@
 -- What the symbols of items do with a token is right; and so what every symbol does.
-use Rattle.std.proofs.Common.{◌≡◌, ℕ, zero, suc, ◌+◌, ◌<◌, ◌≤◌, max, Bool, true, false, List, [], ◌∷◌, ◌++◌, map, length, All, Option, None, Some, refl, sym, ap, ◌∙◌, append_assoc, append-nil, arith, if◌then◌else◌}
-use Rattle.std.specs.Prelude.{◌==◌, flat_map}
+use Rattle.std.proofs.Common.{◌≡◌, ℕ, ◌≤◌, List, [], ◌∷◌, ◌++◌, map, None, Some, refl, sym, ap, ◌∙◌, append_assoc, append-nil, arith, if◌then◌else◌}
 use Rattle.std.proofs.Math.Nat.{max-le}
 use Rattle.std.proofs.lemmas.List.Concat.{flat_map-cons}
 use Rattle.std.proofs.lemmas.List.Elements.{All-cons}
-use Rattle.std.proofs.lemmas.Bool.{eqb-true}
 use Rattle.source.specs.declared.fault.FaultKind.TheVariants.{Unexpected}
 use Rattle.source.specs.declared.token.Keyword.{Keyword}
 use Rattle.source.specs.declared.token.Keyword.TheVariants as keyword
 use Rattle.source.specs.declared.token.Sign.{Sign}
 use Rattle.source.specs.declared.token.Sign.TheVariants as sign
 use Rattle.source.specs.declared.word.Word.TheVariants as word
-use Rattle.source.specs.Tree.{Name, NameAt, NumberAt, Item, Cells, Defines, Function, Program}
-use Rattle.source.specs.Spelled.{Lexeme, TheWord, TheSign, TheNumber, TheName, Spelling, the_word, the_sign, number_at, name_token, listed, result_tokens, sign_at, body_tokens, item_tokens, program_tokens}
-use Rattle.source.specs.Fits.{FitsItem, FitsProgram, item_depth, program_depth}
+use Rattle.source.specs.Tree.{Name, Item, Cells, Defines, Function}
+use Rattle.source.specs.Spelled.{Lexeme, TheWord, TheSign, TheNumber, TheName, Spelling, the_word, the_sign, number_at, name_token, sign_at, item_tokens, program_tokens}
+use Rattle.source.specs.Fits.{FitsItem, item_depth}
 use Rattle.source.specs.Words.{Words, item_words, program_words}
 use Rattle.law_grammar.specs.declared.symbol.Symbol.{Symbol}
 use Rattle.law_grammar.specs.declared.symbol.Symbol.TheVariants.{Sign as OneSign, Keyword as OneWord, Emit, Items, ArrayName, ArrayLength, FunctionName, Parameter, Parameters, Results, ResultCount, FunctionBody, Steps, Target as OneTarget, Targets, LetEnd, StepEnd, Operand, Negated, After, AfterName, AfterIndex, Callee, CallEnd, Otherwise, Bound, Start, Starts, Turn as OneTurn}
-use Rattle.law_grammar.specs.Automaton.{Stack, Outcome, Takes, Passes, Refuses, is_sign, is_word, items, array_name, array_length, function_name, parameter, parameters, results, result_count, function_body, step}
-use Rattle.law_grammar.proofs.Meaning.{further, Programs, Yields, Ready, Explains, takes, passes, refuses}
+use Rattle.law_grammar.specs.Automaton.{Takes, Refuses, is_sign, is_word, items, array_name, array_length, function_name, parameter, parameters, results, result_count, function_body, step}
+use Rattle.law_grammar.proofs.Meaning.{Programs, Ready, Explains, takes, passes, refuses}
 use Rattle.law_grammar.proofs.Givens.{explains_if, explains_small}
 use Rattle.law_grammar.proofs.Terminals.{that_sign, that_word}
 use Rattle.law_grammar.proofs.ExplainOperands.{explains_operand, explains_negated, explains_after, explains_after_name, explains_after_index, explains_otherwise}
@@ -34,28 +32,29 @@ module _ (limit : ℕ) where
   pub with_item : (i : Item) (ss ts : List Spelling) (ws vs : Words) → FitsItem i → item_depth i ≤ limit → item_tokens i ≡ ss → item_words i ≡ ws → Programs limit ts vs
       → Programs limit (ss ++ ts) (ws ++ vs)
   with_item i ss ts ws vs fits deep p q y = record {
-      p = i ∷ y.p;
-      fits = All-cons FitsItem i y.p fits y.fits;
-      deep = max-le deep y.deep;
-      spelled = flat_map-cons item_tokens i y.p ∙ ap (λ t. t ++ program_tokens y.p) p ∙ ap (λ t. ss ++ t) y.spelled;
-      says = flat_map-cons item_words i y.p ∙ ap (λ t. t ++ program_words y.p) q ∙ ap (λ t. ws ++ t) y.says }
+    p = i ∷ y.p;
+    fits = All-cons FitsItem i y.p fits y.fits;
+    deep = max-le deep y.deep;
+    spelled = flat_map-cons item_tokens i y.p ∙ ap (λ t. t ++ program_tokens y.p) p ∙ ap (λ t. ss ++ t) y.spelled;
+    says = flat_map-cons item_words i y.p ∙ ap (λ t. t ++ program_words y.p) q ∙ ap (λ t. ws ++ t) y.says;
+  }
 
   explains_items : (at : ℕ) (l : Lexeme) → Ready limit Items → Explains limit Items at l (items l)
   explains_items at (TheWord keyword.Array) r = takes None tt (tt, (refl, (tt, (refl, (refl, (r, tt))))))
       (λ ss₁ ws₁ y₁ ss₂ ws₂ y₂ ss₃ ws₃ y₃ ss₄ ws₄ y₄ ss₅ ws₅ y₅ ss₆ ws₆ y₆.
-        let i = Cells y₁.x y₃.n in
-        with_item i (the_word keyword.Array ∷ ((((ss₁ ++ ss₂) ++ ss₃) ++ ss₄) ++ ss₅)) ss₆ ((((ws₁ ++ ws₂) ++ ws₃) ++ ws₄) ++ ws₅) ws₆ y₃.small (omega arith)
-        (rw (y₁.spelled, y₂.spelled, y₃.spelled, y₄.spelled, y₅.spelled) refl) (rw (y₁.says, y₂.says, y₃.says, y₄.says, y₅.says) refl) y₆)
+      let i = Cells y₁.x y₃.n in
+      with_item i (the_word keyword.Array ∷ ((((ss₁ ++ ss₂) ++ ss₃) ++ ss₄) ++ ss₅)) ss₆ ((((ws₁ ++ ws₂) ++ ws₃) ++ ws₄) ++ ws₅) ws₆ y₃.small (omega arith)
+      (rw (y₁.spelled, y₂.spelled, y₃.spelled, y₄.spelled, y₅.spelled) refl) (rw (y₁.says, y₂.says, y₃.says, y₄.says, y₅.says) refl) y₆)
   explains_items at (TheWord keyword.Fn) r = takes None tt (tt, (refl, (tt, (tt, (r, (tt, (r, tt)))))))
       (λ ss₁ ws₁ y₁ ss₂ ws₂ y₂ ss₃ ws₃ y₃ ss₄ ws₄ y₄ ss₅ ws₅ y₅ ss₆ ws₆ y₆ ss₇ ws₇ y₇.
-        let f : Function = record { name = y₁.x; params = y₃.x ∷ y₄.xs; results = y₅.results; body_at = y₅.at; body = y₅.b } in
-        with_item (Defines f) (the_word keyword.Fn ∷ (((((ss₁ ++ ss₂) ++ ss₃) ++ ss₄) ++ ss₅) ++ ss₆)) ss₇ (((((ws₁ ++ ws₂) ++ ws₃) ++ ws₄) ++ ws₅) ++ ws₆) ws₇
-        (omega arith, y₅.small, y₅.ok.fits) (let g = y₅.ok.deep in omega arith)
-        (rw (y₁.spelled, y₂.spelled, y₃.spelled, y₆.spelled, listed_is (name_token y₃.x) (map name_token y₄.xs))
-          (ap (λ t. the_word keyword.Fn ∷ name_token y₁.x ∷ the_sign sign.OpenParen ∷ name_token y₃.x ∷ t) (function_tokens _ _ _ ss₄ ss₅ _ y₄.spelled y₅.spelled)))
-        (rw (y₁.says, y₂.says, y₃.says, y₆.says)
-          (ap (λ t. word.Function y₁.x.at y₁.x.name ∷ word.Parameter y₃.x.at y₃.x.name ∷ t) (function_words _ _ _ _ ws₄ ws₅ y₄.says y₅.says)))
-        y₇)
+      let f : Function = record { name = y₁.x; params = y₃.x ∷ y₄.xs; results = y₅.results; body_at = y₅.at; body = y₅.b } in
+      with_item (Defines f) (the_word keyword.Fn ∷ (((((ss₁ ++ ss₂) ++ ss₃) ++ ss₄) ++ ss₅) ++ ss₆)) ss₇ (((((ws₁ ++ ws₂) ++ ws₃) ++ ws₄) ++ ws₅) ++ ws₆) ws₇
+      (omega arith, y₅.small, y₅.ok.fits) (let g = y₅.ok.deep in omega arith)
+      (rw (y₁.spelled, y₂.spelled, y₃.spelled, y₆.spelled, listed_is (name_token y₃.x) (map name_token y₄.xs))
+      (ap (λ t. the_word keyword.Fn ∷ name_token y₁.x ∷ the_sign sign.OpenParen ∷ name_token y₃.x ∷ t) (function_tokens _ _ _ ss₄ ss₅ _ y₄.spelled y₅.spelled)))
+      (rw (y₁.says, y₂.says, y₃.says, y₆.says)
+      (ap (λ t. word.Function y₁.x.at y₁.x.name ∷ word.Parameter y₃.x.at y₃.x.name ∷ t) (function_words _ _ _ _ ws₄ ws₅ y₄.says y₅.says)))
+      y₇)
   explains_items at l r = refuses
 
   explains_array_name : (at : ℕ) (l : Lexeme) → Explains limit ArrayName at l (array_name at l)
@@ -76,14 +75,21 @@ module _ (limit : ℕ) where
 
   explains_parameters : (at : ℕ) (l : Lexeme) → Explains limit Parameters at l (parameters l)
   explains_parameters at (TheSign sign.Comma) = takes None tt (tt, (tt, tt)) (λ ss₁ ws₁ y₁ ss₂ ws₂ y₂. record {
-      xs = y₁.x ∷ y₂.xs; spelled = rw y₁.spelled (ap (λ t. the_sign sign.Comma ∷ name_token y₁.x ∷ t) y₂.spelled);
-      says = rw y₁.says (ap (λ t. word.Parameter y₁.x.at y₁.x.name ∷ t) y₂.says) })
+    xs = y₁.x ∷ y₂.xs;
+    spelled = rw y₁.spelled (ap (λ t. the_sign sign.Comma ∷ name_token y₁.x ∷ t) y₂.spelled);
+    says = rw y₁.says (ap (λ t. word.Parameter y₁.x.at y₁.x.name ∷ t) y₂.says);
+  })
   explains_parameters at (TheSign sign.CloseParen) = takes None tt tt (record { xs = []; spelled = refl; says = refl })
   explains_parameters at l = refuses
 
   explains_function_body : (at : ℕ) (l : Lexeme) → Ready limit FunctionBody → Explains limit FunctionBody at l (function_body at l)
   explains_function_body at (TheSign sign.OpenBrace) r = takes (Some at) refl (r, tt) (λ ss ws y. record {
-      at = at; b = y.b; ok = y.ok; spelled = ap (λ t. sign_at at sign.OpenBrace ∷ t) y.spelled; says = ap (λ t. word.Body at ∷ t) y.says })
+    at = at;
+    b = y.b;
+    ok = y.ok;
+    spelled = ap (λ t. sign_at at sign.OpenBrace ∷ t) y.spelled;
+    says = ap (λ t. word.Body at ∷ t) y.says;
+  })
   explains_function_body at l r = refuses
 
   explains_result_count : (at : ℕ) (l : Lexeme) → Explains limit ResultCount at l (result_count at l)
@@ -92,11 +98,23 @@ module _ (limit : ℕ) where
 
   explains_results : (at : ℕ) (l : Lexeme) → Ready limit Results → Explains limit Results at l (results at l)
   explains_results at (TheSign sign.Arrow) r = takes None tt (tt, (r, tt)) (λ ss₁ ws₁ y₁ ss₂ ws₂ y₂. record {
-      results = Some y₁.n; at = y₂.at; b = y₂.b; small = y₁.small; ok = y₂.ok;
-      spelled = rw y₁.spelled (ap (λ t. the_sign sign.Arrow ∷ number_at y₁.n.at y₁.n.number ∷ t) y₂.spelled);
-      says = rw y₁.says (ap (λ t. word.Results y₁.n.at y₁.n.number ∷ t) y₂.says) })
+    results = Some y₁.n;
+    at = y₂.at;
+    b = y₂.b;
+    small = y₁.small;
+    ok = y₂.ok;
+    spelled = rw y₁.spelled (ap (λ t. the_sign sign.Arrow ∷ number_at y₁.n.at y₁.n.number ∷ t) y₂.spelled);
+    says = rw y₁.says (ap (λ t. word.Results y₁.n.at y₁.n.number ∷ t) y₂.says);
+  })
   explains_results at (TheSign sign.OpenBrace) r = takes (Some at) refl (r, tt) (λ ss ws y. record {
-      results = None; at = at; b = y.b; small = tt; ok = y.ok; spelled = ap (λ t. sign_at at sign.OpenBrace ∷ t) y.spelled; says = ap (λ t. word.Body at ∷ t) y.says })
+    results = None;
+    at = at;
+    b = y.b;
+    small = tt;
+    ok = y.ok;
+    spelled = ap (λ t. sign_at at sign.OpenBrace ∷ t) y.spelled;
+    says = ap (λ t. word.Body at ∷ t) y.says;
+  })
   explains_results at l r = refuses
 
   -- EVERY SYMBOL

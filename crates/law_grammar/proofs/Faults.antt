@@ -1,27 +1,15 @@
 -- FAULTS: a token that the automaton refuses is the first one at which no fitting program goes on, and its kind is right.
-use Rattle.std.proofs.Common.{◌≡◌, ℕ, zero, suc, ◌+◌, ◌<◌, ◌≤◌, max, Bool, true, false, List, [], ◌∷◌, ◌++◌, map, length, Option, None, Some, Result, Ok, Err, refl, sym, ap, ◌∙◌, subst, append_assoc, append-nil, arith, inl, inr}
-use Rattle.std.specs.Prelude.{◌^◌, ◌⊎◌, ⊤}
-use Rattle.lemmas.proofs.Lists.{map_append}
-use Rattle.source.specs.declared.fault.Fault.{Fault}
+use Rattle.std.proofs.Common.{◌≡◌, ℕ, ◌+◌, ◌<◌, ◌≤◌, List, [], ◌∷◌, ◌++◌, Result, Ok, Err, refl, subst}
+use Rattle.std.specs.Prelude.{◌⊎◌, ⊤}
 use Rattle.source.specs.declared.fault.FaultKind.{FaultKind}
 use Rattle.source.specs.declared.fault.FaultKind.TheVariants as fault
-use Rattle.source.specs.declared.token.Sign.TheVariants as sign
-use Rattle.source.specs.declared.token.Token.{Token}
-use Rattle.source.specs.Tree.{Name, Program}
-use Rattle.source.specs.Spelled.{Lexeme, TheSign, TheNumber, lexeme, Spelling, IsPlace, program_tokens}
-use Rattle.source.specs.Fits.{FitsProgram, program_depth}
+use Rattle.source.specs.Spelled.{Lexeme, Spelling}
 use Rattle.source.specs.Words.{Words}
-use Rattle.source.specs.Parses.{GoesOn, GoesOnDeeply, IsWhole, IsNoCell, IsTooLarge, IsKindAt, IsRefusedAt, IsUnended, Refuses, at_token, at_end, lexemes, says}
-use Rattle.law_grammar.specs.declared.symbol.Symbol.{Symbol}
-use Rattle.law_grammar.specs.declared.symbol.Symbol.TheVariants.{Emit, Items}
-use Rattle.law_grammar.specs.Automaton.{Stack, Outcome, Takes, Passes, Refuses as RefusesToken, step, Placed, placed, Moved, moved_after, advance_by, advance, ended, ended_then, finish, run, parsed}
+use Rattle.law_grammar.specs.Automaton.{Stack, Outcome, Placed, Moved, moved_after, advance_by, advance}
 use Rattle.law_grammar.proofs.Meaning.{Given, AllReady}
-use Rattle.law_grammar.proofs.Runs.{Spells, moved_by, advance_all, Ran, whole, unended, stopped, ran, Advanced, moved, refused, advanced}
-use Rattle.law_grammar.proofs.Sound.{Goes, said, said_lexemes, goes, ready_so_far}
-use Rattle.law_grammar.proofs.Leads.{advance_append, moved_nothing}
-use Rattle.law_grammar.proofs.Complete.{Advances, program_advances}
-use Rattle.law_grammar.proofs.Alike.{AlikeSymbol, same, emits, targets_alike, let_ends, names, indexes, call_ends, bounds, AlikeStacks, both_empty, on_top, alike_self, alike_append, Blame, Like, take_alike, pass_alike, refuse_alike, both_too_deep, one_too_deep, like_step}
-use Rattle.law_grammar.proofs.Paired.{PairedMoved, moved_fault, moved_neither, moved_itself, paired_cell, paired_number, paired_advance}
+use Rattle.law_grammar.proofs.Runs.{moved_by, advance_all, Advanced, moved, advanced}
+use Rattle.law_grammar.proofs.Sound.{said}
+use Rattle.law_grammar.proofs.Alike.{AlikeStacks, both_empty, on_top, alike_append, Blame, Like, take_alike, pass_alike, refuse_alike, both_too_deep, one_too_deep, like_step}
 
 -- STACKS ARE KEPT READY
 given_always : (limit : ℕ) (S : Stack) (ss : List Spelling) (ws : Words) → Given limit S (λ ts vs. ⊤) ss ws
@@ -73,6 +61,7 @@ module _ (limit most : ℕ) (wide : (most ≡ limit) ⊎ (limit + 3 ≤ most)) w
     where
       there : advance most T q.at q.lexeme ≡ Ok k
       there = subst (λ l. advance most T q.at l ≡ Ok k) head f
+
       go : (r : Result Moved FaultKind) → advance_all limit n.stack ps ≡ r → moved_after n.appended r ≡ Ok m → AlikeRun m T (q ∷ qs)
       go (Ok u) h i =
           let d = further n k a (ready_kept limit S p.at p.lexeme n ready e) u h in

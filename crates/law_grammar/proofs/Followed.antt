@@ -1,5 +1,5 @@
 -- WHAT MAY FOLLOW AN EXPRESSION, and how what stands on the stack then passes it.
-use Rattle.std.proofs.Common.{◌≡◌, ℕ, zero, suc, ◌+◌, ◌<◌, ◌≤◌, max, Bool, true, false, List, [], ◌∷◌, Result, Ok, Err, refl, sym, ap, ◌∙◌, arith, if◌then◌else◌}
+use Rattle.std.proofs.Common.{◌≡◌, ℕ, zero, suc, ◌+◌, ◌<◌, ◌≤◌, false, [], ◌∷◌, refl, ap, ◌∙◌, arith, if◌then◌else◌}
 use Rattle.std.specs.Prelude.{◌&&◌, nat_le}
 use Rattle.std.proofs.lemmas.Bool.{le-leb, lt-leb}
 use Rattle.std.proofs.Math.Nat.{le-max_right}
@@ -12,10 +12,9 @@ use Rattle.source.specs.declared.word.Word.TheVariants as word
 use Rattle.source.specs.Tree.{Name}
 use Rattle.source.specs.Spelled.{Lexeme, TheSign, infix_sign}
 use Rattle.source.specs.Fits.{sign_level, left_level}
-use Rattle.source.specs.Words.{Words}
 use Rattle.law_grammar.specs.declared.symbol.Symbol.TheVariants.{Emit, Operand, After, AfterName, AfterIndex}
-use Rattle.law_grammar.specs.Automaton.{Stack, Takes, Passes, appending, goes_on, after_infix, after, after_name, after_index, moved_after, advance_by, advance}
-use Rattle.law_grammar.proofs.Leads.{appending_is, moved_nothing}
+use Rattle.law_grammar.specs.Automaton.{Stack, Takes, Passes, appending, after_infix, after, after_name, after_index, moved_after, advance_by, advance}
+use Rattle.law_grammar.proofs.Leads.{appending_is}
 
 pub data Closes : Sign → Type 0 where
   close_paren : Closes sign.CloseParen

@@ -1,11 +1,8 @@
 -- What holds whatever a stack reads: how stacks are joined, and how a symbol that acts as another one is right.
-use Rattle.std.proofs.Common.{◌≡◌, ℕ, suc, ◌+◌, ◌-◌, ◌<◌, ◌≤◌, max, Bool, true, false, List, [], ◌∷◌, ◌++◌, Option, None, Some, refl, sym, ap, ◌∙◌, append_assoc, append-nil, arith, if◌then◌else◌}
-use Rattle.std.specs.Prelude.{◌^◌, ◌==◌, nat_le, nat_lt, ⊤}
+use Rattle.std.proofs.Common.{◌≡◌, ℕ, ◌+◌, ◌-◌, ◌<◌, ◌≤◌, max, Bool, true, false, List, [], ◌∷◌, ◌++◌, refl, ◌∙◌, append_assoc, append-nil, arith, if◌then◌else◌}
+use Rattle.std.specs.Prelude.{◌^◌, ◌==◌, nat_le, nat_lt}
 use Rattle.std.proofs.lemmas.Bool.{leb-true, ltb-true}
 use Rattle.std.proofs.Math.Nat.{max-le}
-use Rattle.source.specs.declared.fault.FaultKind.TheVariants.{Unexpected, BadNumber, TooDeep}
-use Rattle.source.specs.declared.word.Word.TheVariants as word
-use Rattle.source.specs.declared.word.Word.{Word}
 use Rattle.source.specs.Tree.{Name}
 use Rattle.source.specs.Spelled.{Lexeme, Spelling}
 use Rattle.source.specs.Words.{Words}

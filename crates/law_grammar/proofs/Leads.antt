@@ -1,18 +1,17 @@
 -- HOW TOKENS LEAD FROM ONE STACK TO ANOTHER. Behind an expression words may be pending, and symbols that the next token passes:
 -- the stack is then as good as another one for each token that may follow.
-use Rattle.std.proofs.Common.{◌≡◌, ℕ, suc, ◌<◌, ◌≤◌, Bool, true, false, List, [], ◌∷◌, ◌++◌, Option, None, Some, Result, Ok, Err, refl, sym, ap, ◌∙◌, subst, append_assoc, append-nil, if◌then◌else◌}
-use Rattle.std.specs.Prelude.{◌^◌, nat_le, nat_lt, ⊤}
+use Rattle.std.proofs.Common.{◌≡◌, ℕ, ◌<◌, ◌≤◌, List, [], ◌∷◌, ◌++◌, Result, Ok, Err, refl, sym, ap, ◌∙◌, subst, append_assoc, append-nil, if◌then◌else◌}
+use Rattle.std.specs.Prelude.{◌^◌}
 use Rattle.std.proofs.lemmas.Bool.{le-leb, lt-ltb}
 use Rattle.source.specs.declared.fault.FaultKind.{FaultKind}
 use Rattle.source.specs.declared.fault.FaultKind.TheVariants.{Unexpected}
 use Rattle.source.specs.declared.token.Keyword.{Keyword}
 use Rattle.source.specs.declared.token.Sign.{Sign}
-use Rattle.source.specs.declared.word.Word.{Word}
-use Rattle.source.specs.Spelled.{Lexeme, TheWord, TheSign, TheNumber, TheName, Spelling, IsPlace}
+use Rattle.source.specs.Spelled.{Lexeme, TheWord, TheSign, Spelling, IsPlace}
 use Rattle.source.specs.Tree.{Name}
 use Rattle.source.specs.Words.{Words}
 use Rattle.law_grammar.specs.declared.symbol.Symbol.{Symbol}
-use Rattle.law_grammar.specs.declared.symbol.Symbol.TheVariants.{Sign as OneSign, Keyword as OneWord, Emit}
+use Rattle.law_grammar.specs.declared.symbol.Symbol.TheVariants.{Sign as OneSign, Keyword as OneWord}
 use Rattle.law_grammar.specs.Automaton.{Stack, Outcome, Takes, Passes, Refuses, appending, within, small, step, Placed, Moved, moved_after, advance_by, advance}
 use Rattle.law_grammar.proofs.Terminals.{is_that_sign, is_that_word}
 use Rattle.law_grammar.proofs.Runs.{Spells, moved_by, advance_all}
@@ -106,9 +105,11 @@ module _ (limit : ℕ) where
 
   -- joined
   pub leads_append : {S T U : Stack} {ss ts : List Spelling} {ws vs : Words} → Leads limit S ss ws T → Leads limit T ts vs U → Leads limit S (ss ++ ts) (ws ++ vs) U
-  leads_append {S = S} {T = T} {U = U} {ss = ss} {ts = ts} {ws = ws} {vs = vs} l m = record { by = λ ps h. let c = split ss ts ps h in
-      ap (advance_all limit S) c.is ∙ advance_append limit S c.left c.right ∙ ap (λ r. moved_by r (λ stack. advance_all limit stack c.right)) (l.by c.left c.on_left)
-        ∙ ap (moved_after ws) (m.by c.right c.on_right) }
+  leads_append {S = S} {T = T} {U = U} {ss = ss} {ts = ts} {ws = ws} {vs = vs} l m = record {
+    by = λ ps h. let c = split ss ts ps h in
+        ap (advance_all limit S) c.is ∙ advance_append limit S c.left c.right ∙ ap (λ r. moved_by r (λ stack. advance_all limit stack c.right)) (l.by c.left c.on_left)
+        ∙ ap (moved_after ws) (m.by c.right c.on_right);
+  }
 
 -- SYMBOLS ON TOP
 module _ (limit : ℕ) (s : Symbol Name) (at : ℕ) (l : Lexeme) where
@@ -148,15 +149,26 @@ module _ (limit : ℕ) where
       (sym (append_assoc r.early r.late vs) ∙ ap (λ t. t ++ vs) r.joined)
 
   pub leads_reads : {S T U : Stack} {ss ts : List Spelling} {ws vs : Words} {May : Lexeme → Type 0} → Leads limit S ss ws T → Reads limit T ts vs May U → Reads limit S (ss ++ ts) (ws ++ vs) May U
-  leads_reads {ws = ws} l r = record { reached = r.reached; early = ws ++ r.early; late = r.late; joined = append_assoc ws r.early r.late ∙ ap (λ t. ws ++ t) r.joined;
-      leads = leads_append limit l r.leads; settles = r.settles }
+  leads_reads {ws = ws} l r = record {
+    reached = r.reached;
+    early = ws ++ r.early;
+    late = r.late;
+    joined = append_assoc ws r.early r.late ∙ ap (λ t. ws ++ t) r.joined;
+    leads = leads_append limit l r.leads;
+    settles = r.settles;
+  }
 
   -- What stands on top passes these tokens.
   pub reads_pass : {S T U : Stack} {ss : List Spelling} {ws : Words} {May : Lexeme → Type 0} (Might : Lexeme → Type 0) (vs : Words) → ((l : Lexeme) → Might l → May l)
       → ((at : ℕ) (l : Lexeme) → Might l → advance limit T at l ≡ moved_after vs (advance limit U at l)) → Reads limit S ss ws May T → Reads limit S ss (ws ++ vs) Might U
-  reads_pass {U = U} Might vs f same r = record { reached = r.reached; early = r.early; late = r.late ++ vs; joined = sym (append_assoc r.early r.late vs) ∙ ap (λ t. t ++ vs) r.joined;
-      leads = r.leads;
-      settles = λ at l h. r.settles at l (f l h) ∙ ap (moved_after r.late) (same at l h) ∙ sym (moved_twice r.late vs (advance limit U at l)) }
+  reads_pass {U = U} Might vs f same r = record {
+    reached = r.reached;
+    early = r.early;
+    late = r.late ++ vs;
+    joined = sym (append_assoc r.early r.late vs) ∙ ap (λ t. t ++ vs) r.joined;
+    leads = r.leads;
+    settles = λ at l h. r.settles at l (f l h) ∙ ap (moved_after r.late) (same at l h) ∙ sym (moved_twice r.late vs (advance limit U at l));
+  }
 
   pub leads_pass : {S T U : Stack} {ss : List Spelling} {ws : Words} (Might : Lexeme → Type 0) (vs : Words)
       → ((at : ℕ) (l : Lexeme) → Might l → advance limit T at l ≡ moved_after vs (advance limit U at l)) → Leads limit S ss ws T → Reads limit S ss (ws ++ vs) Might U

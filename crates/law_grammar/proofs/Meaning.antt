@@ -1,14 +1,13 @@
 -- WHAT A SYMBOL READS: for each symbol, the tokens that it stands for and the words that come of them. What has begun before
 -- the symbol is a hypothesis there: an operand before `After`, the first expression of a list before its end.
-use Rattle.std.specs.Prelude.{◌≡◌, ℕ, ◌+◌, ◌≤◌, ◌⊎◌, Bool, true, false, List, [], ◌∷◌, ◌++◌, map, length, Option, None, Some, ⊤}
+use Rattle.std.specs.Prelude.{◌≡◌, ℕ, ◌+◌, ◌≤◌, ◌⊎◌, Bool, true, false, List, [], ◌∷◌, ◌++◌, map, length, Option, None, ⊤}
 use Rattle.operators.specs.declared.Unary.TheVariants.{Neg}
 use Rattle.source.specs.declared.fault.FaultKind.{FaultKind}
-use Rattle.source.specs.declared.token.Keyword.TheVariants as keyword
 use Rattle.source.specs.declared.token.Sign.TheVariants as sign
 use Rattle.source.specs.declared.word.Word.{Word}
 use Rattle.source.specs.declared.word.Word.TheVariants as word
 use Rattle.source.specs.Tree.{Name, NameAt, NumberAt, Target, Expr, Exprs, Body, Do, Give, Turn, Program, names_of}
-use Rattle.source.specs.Spelled.{Lexeme, TheWord, TheSign, Spelling, the_word, the_sign, sign_at, number_at, name_at, name_token, target_token, comma_and, is_chain, braced, tokens, list_tokens, first_tokens, body_tokens, turn_tokens, result_tokens, program_tokens, IsPlace}
+use Rattle.source.specs.Spelled.{Lexeme, Spelling, the_word, the_sign, sign_at, number_at, name_at, name_token, target_token, is_chain, braced, tokens, list_tokens, first_tokens, body_tokens, turn_tokens, result_tokens, program_tokens, IsPlace}
 use Rattle.source.specs.Fits.{level, Small, IsLeast, count, Fits, FitsAll, FitsBody, FitsTurn, IsSmall, FitsProgram, prefix_depth, depth, list_depth, body_depth, turn_depth, program_depth}
 use Rattle.source.specs.Words.{Words, target_word, words, part_words, first_words, body_words, turn_words, result_words, program_words}
 use Rattle.law_grammar.specs.declared.symbol.Symbol.{Symbol}

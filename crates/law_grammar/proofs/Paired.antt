@@ -1,5 +1,5 @@
 -- WHERE A FAULT HAS A KIND OF ITS OWN: at a `:=` where `+` would be taken, and at 2 ^ 63 where 0 would be.
-use Rattle.std.proofs.Common.{◌≡◌, ℕ, zero, suc, ◌+◌, ◌≤◌, Bool, true, false, List, [], ◌∷◌, ◌++◌, Option, None, Some, Result, Ok, Err, refl, sym, ap, ◌∙◌, subst, arith, if◌then◌else◌}
+use Rattle.std.proofs.Common.{◌≡◌, ℕ, zero, suc, ◌+◌, Bool, true, false, [], ◌∷◌, None, Result, Ok, Err, refl, sym, subst, if◌then◌else◌}
 use Rattle.std.specs.Prelude.{◌^◌}
 use Rattle.operators.specs.declared.Binary.TheVariants.{Add}
 use Rattle.source.specs.declared.fault.FaultKind.{FaultKind}
@@ -12,8 +12,8 @@ use Rattle.source.specs.Tree.{Name}
 use Rattle.source.specs.Spelled.{Lexeme, TheSign, TheNumber}
 use Rattle.source.specs.Words.{Words}
 use Rattle.law_grammar.specs.declared.symbol.Symbol.{Symbol}
-use Rattle.law_grammar.specs.declared.symbol.Symbol.TheVariants.{Sign as OneSign, Keyword as OneWord, Emit, Items, ArrayName, ArrayLength, FunctionName, Parameter, Parameters, Results, ResultCount, FunctionBody, Steps, Target as OneTarget, Targets, LetEnd, StepEnd, Operand, Negated, After, AfterName, AfterIndex, Callee, CallEnd, Otherwise, Bound, Start, Starts, Turn as OneTurn}
-use Rattle.law_grammar.specs.Automaton.{Stack, Outcome, Takes, Passes, Refuses, appending, above, within, is_sign, infix_of, goes_on, after, step, Moved, moved_after, advance_by, advance}
+use Rattle.law_grammar.specs.declared.symbol.Symbol.TheVariants.{Sign as OneSign, Emit, ArrayLength, ResultCount, Steps, StepEnd, Operand, Negated, After, AfterName, AfterIndex, Bound}
+use Rattle.law_grammar.specs.Automaton.{Stack, Outcome, Takes, Passes, Refuses, appending, above, is_sign, infix_of, goes_on, after, step, Moved, moved_after, advance_by, advance}
 use Rattle.law_grammar.proofs.Meaning.{Ready, AllReady}
 use Rattle.law_grammar.proofs.Terminals.{that_sign}
 use Rattle.law_grammar.proofs.Leads.{within_is}
@@ -44,6 +44,7 @@ paired_sign s r = go (is_sign s (TheSign sign.Plus)) refl (is_sign s (TheSign si
   where
     never : is_sign s (TheSign sign.Plus) ≡ true → ⊥
     never e = let p = that_sign s (TheSign sign.Plus) e in let q : sign.Plus ≡ s = cc in let n : infix_of sign.Plus ≡ None = subst (λ t. infix_of t ≡ None) (sym q) r in cc
+
     go : (b : Bool) → is_sign s (TheSign sign.Plus) ≡ b → (c : Bool) → Paired NotACell (if b then Takes [] [] else Refuses Unexpected) (if c then Takes [] [] else Refuses Unexpected)
     go true e c = absurd (never e)
     go false e true = itself

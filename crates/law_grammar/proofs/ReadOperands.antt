@@ -1,29 +1,25 @@
 -- COMPLETE, operands: the automaton reads the tokens of a fitting expression, and appends its words. The parts of the expression
 -- are hypotheses here.
-use Rattle.std.proofs.Common.{◌≡◌, ℕ, zero, suc, ◌+◌, ◌<◌, ◌≤◌, max, Bool, true, false, List, [], ◌∷◌, ◌++◌, map, length, Option, None, Some, Result, Ok, Err, refl, sym, ap, ◌∙◌, subst, append_assoc, append-nil, arith, inl, inr}
-use Rattle.std.specs.Prelude.{◌^◌, ◌⊎◌, nat_le, ⊤, if◌then◌else◌}
+use Rattle.std.proofs.Common.{◌≡◌, ℕ, suc, ◌+◌, ◌≤◌, true, false, List, [], ◌∷◌, ◌++◌, None, Some, Ok, refl, sym, ap, ◌∙◌, subst, append-nil, arith, inl, inr}
+use Rattle.std.specs.Prelude.{◌^◌, ◌⊎◌, if◌then◌else◌}
 use Rattle.std.proofs.lemmas.Bool.{le-leb}
-use Rattle.std.proofs.Math.Nat.{le-max_left, le-max_right}
 use Rattle.operators.specs.declared.Unary.{Unary}
 use Rattle.operators.specs.declared.Unary.TheVariants.{Neg, Not}
 use Rattle.source.specs.declared.fault.FaultKind.TheVariants.{Unexpected}
-use Rattle.source.specs.declared.token.Keyword.TheVariants as keyword
 use Rattle.source.specs.declared.token.Sign.{Sign}
 use Rattle.source.specs.declared.token.Sign.TheVariants as sign
-use Rattle.source.specs.declared.word.InfixSign.{InfixSign}
-use Rattle.source.specs.declared.word.Word.{Word}
 use Rattle.source.specs.declared.word.Word.TheVariants as word
 use Rattle.source.specs.Tree.{Name, Expr, Number, Named, Bracket, Prefix, Infix, Fetch, Store, Call, If, Loop}
-use Rattle.source.specs.Spelled.{Lexeme, TheWord, TheSign, TheNumber, TheName, Spelling, IsPlace, the_word, the_sign, sign_at, number_at, name_at, word_at, prefix_sign, infix_sign, tokens}
-use Rattle.source.specs.Fits.{sign_level, left_level, level, Fits, IsLeast, depth, prefix_depth}
+use Rattle.source.specs.Spelled.{Lexeme, TheSign, TheNumber, TheName, Spelling, the_sign, sign_at, number_at, name_at, prefix_sign, tokens}
+use Rattle.source.specs.Fits.{sign_level, level, Fits, IsLeast, depth, prefix_depth}
 use Rattle.source.specs.Words.{Words, words}
 use Rattle.law_grammar.specs.declared.symbol.Symbol.{Symbol}
-use Rattle.law_grammar.specs.declared.symbol.Symbol.TheVariants.{Sign as OneSign, Emit, Operand, Negated, After, AfterName, AfterIndex}
-use Rattle.law_grammar.specs.Automaton.{Stack, Outcome, Takes, Passes, Refuses, within, small, step, operand, negated, moved_after, advance_by, advance}
+use Rattle.law_grammar.specs.declared.symbol.Symbol.TheVariants.{Sign as OneSign, Emit, Operand, Negated, After, AfterName}
+use Rattle.law_grammar.specs.Automaton.{Stack, Takes, Refuses, step, operand, negated, advance_by, advance}
 use Rattle.law_grammar.proofs.Meaning.{IsOperand}
 use Rattle.law_grammar.proofs.ExplainOperands.{sign_level_most}
 use Rattle.law_grammar.proofs.Leads.{within_is, small_is, moved_nothing, Leads, Moves, leads_as, leads_none, leads_cons, leads_settled, leads_append, advance_takes, advance_sign, Reads, reads_exactly, reads_as, reads_leads, leads_reads, reads_pass, leads_pass}
-use Rattle.law_grammar.proofs.Followed.{Closes, close_paren, close_bracket, Stops, closes, operates, stops_more, stops_seven, after_takes, pass_after, pass_end, pass_name, pass_index}
+use Rattle.law_grammar.proofs.Followed.{close_paren, Stops, closes, stops_more, stops_seven, pass_after, pass_end, pass_name}
 
 -- what stands on the stack behind an expression
 abbrev pub rest_of : Expr → ℕ → ℕ → Stack → Stack
@@ -115,11 +111,11 @@ module _ (limit : ℕ) where
       let Z : Stack = Emit word.Bracket ∷ After m 9 d ∷ S in
       let deeper : d + 1 ≤ limit = (let g = ok.deep in omega arith) in
       let inside : Reads limit (Operand 0 (d + 1) ∷ OneSign sign.CloseParen ∷ Z) (tokens e) (words e) (Stops 0) (OneSign sign.CloseParen ∷ Z) =
-          expr_reads e (d + 1) (OneSign sign.CloseParen ∷ Z) f (record { fits = ok.fits; at_least = omega arith; deep = (let g = ok.deep in omega arith) }) in
+      expr_reads e (d + 1) (OneSign sign.CloseParen ∷ Z) f (record { fits = ok.fits; at_least = omega arith; deep = (let g = ok.deep in omega arith) }) in
       let closed : Leads limit (Operand 0 (d + 1) ∷ OneSign sign.CloseParen ∷ Z) (tokens e ++ the_sign sign.CloseParen ∷ []) (words e ++ []) Z =
-          reads_leads limit (the_sign sign.CloseParen) (closes close_paren) inside (leads_sign sign.CloseParen Z) in
+      reads_leads limit (the_sign sign.CloseParen) (closes close_paren) inside (leads_sign sign.CloseParen Z) in
       let all : Leads limit (Operand m d ∷ S) (tokens (Bracket e)) (words e ++ []) Z =
-          leads_append limit (leads_any (Operand m d) S (TheSign sign.OpenParen) _ _ (λ at. within_is limit (d + 1) _ deeper)) closed in
+      leads_append limit (leads_any (Operand m d) S (TheSign sign.OpenParen) _ _ (λ at. within_is limit (d + 1) _ deeper)) closed in
       reads_as limit (leads_pass limit (Stops 9) (word.Bracket ∷ []) (λ at l h. refl) all) refl (ap (λ t. t ++ word.Bracket ∷ []) (append-nil (words e)))
 
   -- PREFIXES
@@ -137,8 +133,8 @@ module _ (limit : ℕ) where
   reads_not at e f m d S ok =
       let fits : Fits e = not_least (ok.fits.1) in
       with_prefix at Not e m d S (Operand 8 (d + 1) ∷ Emit (word.Prefix at Not) ∷ After m 8 d ∷ S)
-        (moves_step (Operand m d) S at (TheSign sign.Tilde) _ _ (within_is limit (d + 1) _ (let g = ok.deep in omega arith)))
-        (prefixed at Not e m d (level e) S _ [] ok.fits.0 (operand_reads e 8 (d + 1) _ f (record { fits = fits; at_least = ok.fits.0; deep = (let g = ok.deep in omega arith) }) (let g = ok.fits.0 in omega arith)))
+      (moves_step (Operand m d) S at (TheSign sign.Tilde) _ _ (within_is limit (d + 1) _ (let g = ok.deep in omega arith)))
+      (prefixed at Not e m d (level e) S _ [] ok.fits.0 (operand_reads e 8 (d + 1) _ f (record { fits = fits; at_least = ok.fits.0; deep = (let g = ok.deep in omega arith) }) (let g = ok.fits.0 in omega arith)))
     where
       not_least : Fits e ⊎ IsLeast Not e → Fits e
       not_least (inl h) = h
@@ -171,16 +167,16 @@ module _ (limit : ℕ) where
   negated_reads at e m d S f fits h deep k =
       let Z : Stack = Emit (word.Prefix at Neg) ∷ After m 8 d ∷ S in
       let r : Reads limit (Operand 8 (d + 1) ∷ Z) (tokens e) (words e) (Stops (level e)) (After 8 (level e) (d + 1) ∷ Z) =
-          operand_reads e 8 (d + 1) Z f (record { fits = fits; at_least = h; deep = omega arith }) (omega arith) in
+      operand_reads e 8 (d + 1) Z f (record { fits = fits; at_least = h; deep = omega arith }) (omega arith) in
       let n : Reads limit (Negated d ∷ Z) (tokens e) (words e) (Stops (level e)) (After 8 (level e) (d + 1) ∷ Z) =
-          record { reached = r.reached; early = r.early; late = r.late; joined = r.joined; leads = negated_expr e d Z r.reached r.early h k r.leads; settles = r.settles } in
+      record { reached = r.reached; early = r.early; late = r.late; joined = r.joined; leads = negated_expr e d Z r.reached r.early h k r.leads; settles = r.settles } in
       with_prefix at Neg e m d S (Negated d ∷ Z) (minus_moves at m d S (omega arith)) (prefixed at Neg e m d (level e) S _ [] h n)
 
   reads_least : (at there n : ℕ) → ExprReads (Prefix at Neg (Number there n))
   reads_least at there n m d S ok =
       let Z : Stack = Emit (word.Prefix at Neg) ∷ After m 8 d ∷ S in
       let number : Leads limit (Negated d ∷ Z) (number_at there n ∷ []) (word.Number there n ∷ []) Z =
-          leads_step (Negated d) Z there (TheNumber n) _ _ (ap (λ b. if b then Takes (word.Number there n ∷ []) [] else Refuses Unexpected) (le-leb n (2 ^ 63) (at_most ok.fits.1))) in
+      leads_step (Negated d) Z there (TheNumber n) _ _ (ap (λ b. if b then Takes (word.Number there n ∷ []) [] else Refuses Unexpected) (le-leb n (2 ^ 63) (at_most ok.fits.1))) in
       with_prefix at Neg (Number there n) m d S (Negated d ∷ Z) (minus_moves at m d S (let g = ok.deep in omega arith)) (leads_pass limit (Stops 8) (word.Prefix at Neg ∷ []) (λ x l h. refl) number)
     where
       at_most : Fits (Number there n) ⊎ IsLeast Neg (Number there n) → n ≤ 2 ^ 63

@@ -1,14 +1,14 @@
 -- Small texts with their programs, and the first fault of others.
-use Rattle.std.specs.Prelude.{◌≡◌, ℕ, ◌^◌, Bool, true, false, List, [], ◌∷◌, ◌++◌, codes, length, replicate, Option, None, Some, Result, Ok, Err, is_ok, refl}
+use Rattle.std.specs.Prelude.{◌≡◌, ℕ, ◌^◌, true, false, List, [], ◌∷◌, ◌++◌, codes, replicate, None, Some, Result, Ok, Err, is_ok, refl}
 use Rattle.operators.specs.declared.Unary.TheVariants.{Neg, Not}
-use Rattle.operators.specs.declared.Binary.TheVariants.{Add, Sub, Mul, Or, And, Shl, Lt, Eq}
+use Rattle.operators.specs.declared.Binary.TheVariants.{Add, Sub, Mul, Or, And, Lt}
 use Rattle.source.specs.declared.fault.Fault.{Fault}
 use Rattle.source.specs.declared.fault.FaultKind.{FaultKind}
 use Rattle.source.specs.declared.fault.FaultKind.TheVariants.{Unexpected, Unended, TooDeep, NotACell, BadNumber}
 use Rattle.source.specs.declared.token.Token.{Token}
 use Rattle.source.specs.declared.word.InfixSign.TheVariants.{Direct, Greater}
 use Rattle.source.specs.Tokens.{lexed}
-use Rattle.source.specs.Tree.{Name, NameAt, NumberAt, Target, Bind, Drop, Expr, Number, Named, Bracket, Prefix, Infix, Fetch, Store, Call, If, Loop, Exprs, One, More, Body, Let, Do, Give, Chain, Before, After, Item, Cells, Defines, Program}
+use Rattle.source.specs.Tree.{Name, NameAt, Bind, Drop, Expr, Number, Named, Bracket, Prefix, Infix, Fetch, Store, Call, If, Loop, One, More, Body, Let, Do, Give, Chain, Before, After, Cells, Defines}
 use Rattle.source.specs.Words.{Words, program_words}
 use Rattle.law_grammar.specs.Automaton.{parsed}
 
@@ -46,8 +46,13 @@ array : read (codes "array W[100];") ≡ Ok (program_words (Cells (named 6 (code
 array = refl
 
 two_items : read (codes "array W[1]; fn f(a, b) -> 2 { a, b }") ≡ Ok (program_words (Cells (named 6 (codes "W")) (record { at = 8; number = 1 })
-    ∷ Defines (record { name = named 15 (codes "f"); params = named 17 (codes "a") ∷ named 20 (codes "b") ∷ []; results = Some (record { at = 26; number = 2 }); body_at = 28;
-        body = Give (More (Named 30 (codes "a")) (One (Named 33 (codes "b")))) }) ∷ []))
+    ∷ Defines (record {
+      name = named 15 (codes "f");
+      params = named 17 (codes "a") ∷ named 20 (codes "b") ∷ [];
+      results = Some (record { at = 26; number = 2 });
+      body_at = 28;
+      body = Give (More (Named 30 (codes "a")) (One (Named 33 (codes "b"))));
+    }) ∷ []))
 two_items = refl
 
 -- EXPRESSIONS

@@ -1,6 +1,6 @@
 -- FAULTS: the first fault of a run is the fault of the text.
-use Rattle.std.proofs.Common.{◌≡◌, ℕ, zero, suc, ◌+◌, ◌<◌, ◌≤◌, List, [], ◌∷◌, ◌++◌, map, length, Option, None, Some, Result, Ok, Err, refl, sym, ap, ◌∙◌, subst, append_assoc, append-nil, arith, inl, inr}
-use Rattle.std.specs.Prelude.{◌^◌, ◌⊎◌, ⊤}
+use Rattle.std.proofs.Common.{◌≡◌, ℕ, ◌+◌, ◌≤◌, List, [], ◌∷◌, ◌++◌, map, length, Option, None, Some, Result, Ok, Err, refl, sym, ap, ◌∙◌, subst, append_assoc, arith, inl, inr}
+use Rattle.std.specs.Prelude.{◌^◌, ◌⊎◌}
 use Rattle.lemmas.proofs.Lists.{map_append}
 use Rattle.source.specs.declared.fault.Fault.{Fault}
 use Rattle.source.specs.declared.fault.FaultKind.{FaultKind}
@@ -11,18 +11,18 @@ use Rattle.source.specs.Tree.{Name, Program}
 use Rattle.source.specs.Spelled.{Lexeme, TheSign, TheNumber, lexeme, Spelling, IsPlace, program_tokens}
 use Rattle.source.specs.Fits.{FitsProgram, program_depth}
 use Rattle.source.specs.Words.{Words}
-use Rattle.source.specs.Parses.{GoesOn, GoesOnDeeply, IsWhole, IsNoCell, IsTooLarge, IsKindAt, IsRefusedAt, IsUnended, Refuses, at_token, at_end, lexemes, says}
+use Rattle.source.specs.Parses.{GoesOn, GoesOnDeeply, IsNoCell, IsTooLarge, IsKindAt, IsRefusedAt, IsUnended, Refuses, at_token, at_end, lexemes, says}
 use Rattle.law_grammar.specs.declared.symbol.Symbol.{Symbol}
-use Rattle.law_grammar.specs.declared.symbol.Symbol.TheVariants.{Emit, Items}
-use Rattle.law_grammar.specs.Automaton.{Stack, Placed, placed, Moved, moved_after, advance, ended, ended_then, finish, run, parsed}
+use Rattle.law_grammar.specs.declared.symbol.Symbol.TheVariants.{Items}
+use Rattle.law_grammar.specs.Automaton.{Stack, Placed, placed, Moved, moved_after, advance, ended, ended_then, finish, parsed}
 use Rattle.law_grammar.proofs.Meaning.{AllReady}
 use Rattle.law_grammar.proofs.Runs.{Spells, moved_by, advance_all, Ran, whole, unended, stopped, ran}
-use Rattle.law_grammar.proofs.Sound.{Goes, said, said_lexemes, goes, ready_so_far}
+use Rattle.law_grammar.proofs.Sound.{said, said_lexemes, goes, ready_so_far}
 use Rattle.law_grammar.proofs.Leads.{advance_append}
-use Rattle.law_grammar.proofs.Complete.{Advances, program_advances}
+use Rattle.law_grammar.proofs.Complete.{program_advances}
 use Rattle.law_grammar.proofs.Alike.{AlikeSymbol, same, emits, targets_alike, let_ends, names, indexes, call_ends, bounds, AlikeStacks, both_empty, on_top, alike_self, Blame}
 use Rattle.law_grammar.proofs.Paired.{PairedMoved, moved_fault, moved_neither, moved_itself, paired_cell, paired_number, paired_advance}
-use Rattle.law_grammar.proofs.Faults.{LikeMoved, ok_alike, err_alike, both_deep, one_deep, like_advance, AlikeRun, alike_run}
+use Rattle.law_grammar.proofs.Faults.{LikeMoved, ok_alike, err_alike, both_deep, one_deep, like_advance, alike_run}
 
 -- AT THE END
 data AlikeOption : Option Words → Option Words → Type 0 where
@@ -142,8 +142,13 @@ module _ (limit most : ℕ) (wide : (most ≡ limit) ⊎ (limit + 3 ≤ most)) (
       let c = advance_split most (Items ∷ []) s.left s.token s.right all.moved (ap (advance_all most (Items ∷ [])) (sym s.is) ∙ all.is) in
       let r = alike_run limit most wide before s.left (Items ∷ []) (Items ∷ []) m (sym s.before) (alike_self (Items ∷ [])) (some, tt) read in
       let one : r.moved ≡ c.early = let p = r.is in let q = c.begun in cc in
-      record { stack = c.early.stack; to = s.token.at; next = c.next; alike = subst (λ (x : Moved). AlikeStacks m.stack x.stack) one r.alike;
-        is = subst (λ x. advance most c.early.stack s.token.at x ≡ Ok c.next) s.says c.taken }
+      record {
+        stack = c.early.stack;
+        to = s.token.at;
+        next = c.next;
+        alike = subst (λ (x : Moved). AlikeStacks m.stack x.stack) one r.alike;
+        is = subst (λ x. advance most c.early.stack s.token.at x ≡ Ok c.next) s.says c.taken;
+      }
 
   like_further : (l : Lexeme) (at : ℕ) (f : Further l) → LikeMoved limit most l (advance limit m.stack at l) (Ok f.next)
   like_further l at f = subst (λ r. LikeMoved limit most l (advance limit m.stack at l) r) f.is
@@ -226,24 +231,24 @@ module _ (before : List Placed) (m : Moved) (read : advance_all 200 (Items ∷ [
     no_cell err h =
         let t = takes_with (TheSign sign.Plus) h.1 in
         bad_too fault.NotACell _ _ t.0 (paired_advance 200 at fault.NotACell (TheSign sign.Plus) (TheSign sign.Becomes) (paired_cell 200 at) m.stack ready) t.1
-          (subst (λ k. advance 200 m.stack at k ≡ Err fault.Unexpected) h.0 err) (λ e. cc)
+        (subst (λ k. advance 200 m.stack at k ≡ Err fault.Unexpected) h.0 err) (λ e. cc)
 
     not_large : advance 200 m.stack at l ≡ Err fault.Unexpected → IsTooLarge (said before) l → ⊥
     not_large err h =
         let t = takes_with (TheNumber 0) h.1 in
         bad_too fault.BadNumber _ _ t.0 (paired_advance 200 at fault.BadNumber (TheNumber 0) (TheNumber (2 ^ 63)) (paired_number 200 at) m.stack ready) t.1
-          (subst (λ k. advance 200 m.stack at k ≡ Err fault.Unexpected) h.0 err) (λ e. cc)
+        (subst (λ k. advance 200 m.stack at k ≡ Err fault.Unexpected) h.0 err) (λ e. cc)
 
     is_no_cell : l ≡ TheSign sign.Becomes → advance 200 m.stack at l ≡ Err fault.NotACell → IsNoCell (said before) l
     is_no_cell is err =
         let t = good_too fault.NotACell _ _ (paired_advance 200 at fault.NotACell (TheSign sign.Plus) (TheSign sign.Becomes) (paired_cell 200 at) m.stack ready)
-              (subst (λ k. advance 200 m.stack at k ≡ Err fault.NotACell) is err) (λ e. cc) in
+        (subst (λ k. advance 200 m.stack at k ≡ Err fault.NotACell) is err) (λ e. cc) in
         (is, goes_with (TheSign sign.Plus) t.0 t.1)
 
     is_too_large : l ≡ TheNumber (2 ^ 63) → advance 200 m.stack at l ≡ Err fault.BadNumber → IsTooLarge (said before) l
     is_too_large is err =
         let t = good_too fault.BadNumber _ _ (paired_advance 200 at fault.BadNumber (TheNumber 0) (TheNumber (2 ^ 63)) (paired_number 200 at) m.stack ready)
-              (subst (λ k. advance 200 m.stack at k ≡ Err fault.BadNumber) is err) (λ e. cc) in
+        (subst (λ k. advance 200 m.stack at k ≡ Err fault.BadNumber) is err) (λ e. cc) in
         (is, goes_with (TheNumber 0) t.0 t.1)
 
     of_kind : (kind : FaultKind) → advance 200 m.stack at l ≡ Err kind → Blame l kind → IsKindAt (said before) l kind
@@ -303,19 +308,24 @@ refused_at text ts before p after m kind is read err =
     let ls : said before ≡ lexemes text r.before = sym (ap said r.are) ∙ said_lexemes text r.before in
     let l : p.lexeme ≡ lexeme text r.token = ap (λ (p : Placed). p.lexeme) (sym r.is) in
     record {
-      before = r.before; token = r.token; after = r.after; tokens = r.tokens;
+      before = r.before;
+      token = r.token;
+      after = r.after;
+      tokens = r.tokens;
       went_on = subst GoesOn ls (went_on before m read p.at);
       goes_on = λ g. no_program before m read p.at p.lexeme kind err (subst GoesOn (sym (λ i. ls i ++ l i ∷ [])) g);
       kind = subst (λ k. IsKindAt (lexemes text r.before) k kind) l (subst (λ k. IsKindAt k p.lexeme kind) ls (is_kind before m read p.at p.lexeme kind err));
-      place = ap (λ (p : Placed). p.at) (sym r.is) }
+      place = ap (λ (p : Placed). p.at) (sym r.is);
+    }
 
 unended_at : (text : List ℕ) (ts : List Token) (m : Moved) → advance_all 200 (Items ∷ []) (map (placed text) ts) ≡ Ok m → finish m.stack ≡ None
     → IsUnended text ts (record { kind = fault.Unended; at = length text })
 unended_at text ts m read none = record {
-    went_on = subst GoesOn (said_lexemes text ts) (went_on (map (placed text) ts) m read 0);
-    not_whole = λ w. not_whole (map (placed text) ts) m read none w.program w.fits w.depth (w.says_so ∙ sym (said_lexemes text ts));
-    kind = refl;
-    place = refl }
+  went_on = subst GoesOn (said_lexemes text ts) (went_on (map (placed text) ts) m read 0);
+  not_whole = λ w. not_whole (map (placed text) ts) m read none w.program w.fits w.depth (w.says_so ∙ sym (said_lexemes text ts));
+  kind = refl;
+  place = refl;
+}
 
 fault_of : (text : List ℕ) (ts : List Token) (r : Result Words Fault) → Ran 200 (length text) (Items ∷ []) (map (placed text) ts) r → (fault : Fault) → r ≡ Err fault → Refuses text ts fault
 fault_of text ts _ (whole m ws e f) x is = absurd cc

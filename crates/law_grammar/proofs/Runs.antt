@@ -1,5 +1,5 @@
 -- RUNS OF THE AUTOMATON: what was read, and what a run ends with.
-use Rattle.std.proofs.Common.{◌≡◌, ℕ, suc, List, [], ◌∷◌, ◌++◌, map, Option, None, Some, Result, Ok, Err, refl, sym, ap, ◌∙◌, subst, append_assoc, append-nil}
+use Rattle.std.proofs.Common.{◌≡◌, ℕ, List, [], ◌∷◌, ◌++◌, map, Option, None, Some, Result, Ok, Err, refl, ap, subst, append_assoc, append-nil}
 use Rattle.std.specs.Prelude.{⊤}
 use Rattle.source.specs.declared.fault.Fault.{Fault}
 use Rattle.source.specs.declared.fault.FaultKind.{FaultKind}
@@ -9,8 +9,8 @@ use Rattle.source.specs.Spelled.{Lexeme, Spelling, IsPlace, AreSpelled}
 use Rattle.source.specs.Tree.{Name}
 use Rattle.source.specs.Words.{Words}
 use Rattle.law_grammar.specs.declared.symbol.Symbol.{Symbol}
-use Rattle.law_grammar.specs.Automaton.{Stack, Outcome, Takes, Passes, Refuses, step, Placed, placed, Moved, moved_after, advance_by, advance, finish, words_after, finished, run_on, run}
-use Rattle.law_grammar.proofs.Meaning.{Yields, Given, Ready, AllReady, Explains, takes, passes, refuses}
+use Rattle.law_grammar.specs.Automaton.{Stack, Outcome, Takes, Passes, Refuses, Placed, placed, Moved, moved_after, advance_by, advance, finish, words_after, finished, run_on, run}
+use Rattle.law_grammar.proofs.Meaning.{Given, AllReady, Explains, takes, passes}
 use Rattle.law_grammar.proofs.Givens.{given_then, ready_append}
 use Rattle.law_grammar.proofs.ExplainItems.{explained}
 

@@ -1,26 +1,25 @@
 -- SOUND: what the automaton reads are the tokens of a fitting program, and what it appends are that program's words. What
 -- it has read at any time goes on to such a program.
-use Rattle.std.proofs.Common.{◌≡◌, ℕ, zero, suc, ◌+◌, ◌<◌, ◌≤◌, Bool, true, false, List, [], ◌∷◌, ◌++◌, map, length, All, Option, None, Some, Result, Ok, Err, refl, sym, ap, ◌∙◌, subst, append_assoc, append-nil, arith, inl}
+use Rattle.std.proofs.Common.{◌≡◌, ℕ, ◌+◌, ◌≤◌, Bool, true, List, [], ◌∷◌, ◌++◌, map, length, Option, None, Some, Result, Ok, Err, refl, sym, ap, ◌∙◌, subst, append_assoc, append-nil, arith}
 use Rattle.std.specs.Prelude.{⊤}
 use Rattle.std.proofs.lemmas.List.Elements.{All-nil}
 use Rattle.lemmas.proofs.Lists.{map_append}
 use Rattle.source.specs.declared.fault.Fault.{Fault}
-use Rattle.source.specs.declared.fault.FaultKind.{FaultKind}
 use Rattle.source.specs.declared.token.Sign.TheVariants as sign
 use Rattle.source.specs.declared.token.Keyword.TheVariants as keyword
 use Rattle.source.specs.declared.token.Token.{Token}
-use Rattle.source.specs.Tree.{Name, NameAt, NumberAt, Drop, Expr, Number, One, Give, Program}
+use Rattle.source.specs.Tree.{Name, Number, One, Give, Program}
 use Rattle.source.specs.Spelled.{Lexeme, TheWord, TheSign, TheNumber, TheName, lexeme, Spelling, program_tokens}
 use Rattle.source.specs.Fits.{FitsItem, FitsProgram, program_depth}
 use Rattle.source.specs.Words.{Words, program_words}
-use Rattle.source.specs.Parses.{Parses, GoesOn, GoesOnDeeply, lexemes, says}
+use Rattle.source.specs.Parses.{Parses, lexemes, says}
 use Rattle.law_grammar.specs.declared.symbol.Symbol.{Symbol}
 use Rattle.law_grammar.specs.declared.symbol.Symbol.TheVariants.{Sign as OneSign, Keyword as OneWord, Emit, Items, ArrayName, ArrayLength, FunctionName, Parameter, Parameters, Results, ResultCount, FunctionBody, Steps, Target as OneTarget, Targets, LetEnd, StepEnd, Operand, Negated, After, AfterName, AfterIndex, Callee, CallEnd, Otherwise, Bound, Start, Starts, Turn as OneTurn}
-use Rattle.law_grammar.specs.Automaton.{Stack, Outcome, Takes, Passes, Refuses, step, Placed, placed, Moved, ended, ended_then, finish, run, parsed}
-use Rattle.law_grammar.proofs.Meaning.{Programs, Yields, Given, Ready, AllReady, Explains, takes, passes, refuses}
+use Rattle.law_grammar.specs.Automaton.{Stack, Takes, Passes, Placed, placed, Moved, ended_then, finish, parsed}
+use Rattle.law_grammar.proofs.Meaning.{Programs, Yields, Given, Ready, AllReady, Explains, takes, passes}
 use Rattle.law_grammar.proofs.ExplainOperands.{explains_fetch}
 use Rattle.law_grammar.proofs.ExplainItems.{explained}
-use Rattle.law_grammar.proofs.Runs.{Spells, are_spelled, advance_all, Ran, whole, unended, stopped, ran, AdvancedAll, moved_all, refused_all, advanced_all}
+use Rattle.law_grammar.proofs.Runs.{Spells, are_spelled, advance_all, Ran, whole, ran, AdvancedAll, moved_all, advanced_all}
 
 -- THE END
 abbrev FinishesWith : (List Spelling → Words → Type 0) → List Spelling → Words → Option Words → Type 0
@@ -172,8 +171,13 @@ module _ (limit : ℕ) (some : 1 ≤ limit) where
   goes_from : (ps : List Placed) (m : Moved) → AdvancedAll limit (Programs limit) [] [] ps (Ok m) → Goes limit (said ps)
   goes_from ps m (moved_all ts spelled ready given) =
       let c = complete_all limit m.stack (Programs limit) ts m.appended given (all_complete limit m.stack ready) in
-      record { program = c.holds.p; rest = map (λ (s : Spelling). s.lexeme) c.ts; fits = c.holds.fits; deep = c.holds.deep;
-        says_so = ap (map (λ (s : Spelling). s.lexeme)) c.holds.spelled ∙ map_append (λ (s : Spelling). s.lexeme) ts c.ts ∙ ap (λ ls. ls ++ map (λ (s : Spelling). s.lexeme) c.ts) (says_of ts ps spelled) }
+      record {
+        program = c.holds.p;
+        rest = map (λ (s : Spelling). s.lexeme) c.ts;
+        fits = c.holds.fits;
+        deep = c.holds.deep;
+        says_so = ap (map (λ (s : Spelling). s.lexeme)) c.holds.spelled ∙ map_append (λ (s : Spelling). s.lexeme) ts c.ts ∙ ap (λ ls. ls ++ map (λ (s : Spelling). s.lexeme) c.ts) (says_of ts ps spelled);
+      }
 
   -- what was read goes on
   pub goes : (ps : List Placed) (m : Moved) → advance_all limit (Items ∷ []) ps ≡ Ok m → Goes limit (said ps)
@@ -195,8 +199,11 @@ finished_right : (text : List ℕ) (ts : List Token) (m : Moved) (ws : Words) �
     → Read text ts (m.appended ++ ws)
 finished_right text ts m ws e (moved_all ss spelled ready given) =
     let y : Programs 200 ss (m.appended ++ ws) = subst (λ r. FinishesWith (Programs 200) ss m.appended r) e (finish_right 200 (Programs 200) m.stack ss m.appended given) in
-    record { program = y.p; parses = record { fits = y.fits; depth = y.deep; spelled = are_spelled text (program_tokens y.p) ts (subst (λ ss. Spells ss (map (placed text) ts)) (sym y.spelled) spelled) };
-      are = sym y.says }
+    record {
+      program = y.p;
+      parses = record { fits = y.fits; depth = y.deep; spelled = are_spelled text (program_tokens y.p) ts (subst (λ ss. Spells ss (map (placed text) ts)) (sym y.spelled) spelled) };
+      are = sym y.says;
+    }
 
 from_run : (text : List ℕ) (ts : List Token) (r : Result Words Fault) → Ran 200 (length text) (Items ∷ []) (map (placed text) ts) r → (ws : Words) → r ≡ Ok ws → Read text ts ws
 from_run text ts (Ok us) (whole m vs e f) ws q = let same : m.appended ++ vs ≡ ws = cc in subst (Read text ts) same (finished_right text ts m vs f (right_so_far 200 (omega arith) _ m e))
