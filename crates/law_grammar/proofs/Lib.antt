@@ -17,3 +17,4 @@ pub mod Alike
 pub mod Paired
 pub mod Faults
 pub mod Refused
+pub mod Rebuilt

@@ -1,0 +1,269 @@
+-- THE WORDS DETERMINE THE TREE: a stack machine reads it back. So no two fitting programs have the same tokens at the same places.
+use Rattle.std.proofs.Common.{◌≡◌, ℕ, suc, ◌+◌, ◌≤◌, Bool, List, [], ◌∷◌, ◌++◌, map, length, Option, None, Some, Ok, refl, sym, ap, ◌∙◌, subst, append_assoc, append-nil, arith, inl, inr, true, false}
+use Rattle.std.specs.Prelude.{◌⊎◌}
+use Rattle.operators.specs.declared.Unary.{Unary}
+use Rattle.operators.specs.declared.Unary.TheVariants.{Neg}
+use Rattle.std.proofs.lemmas.List.Concat.{flat_map-cons}
+use Rattle.std.proofs.lemmas.List.Elements.{All-head, All-tail}
+use Rattle.source.specs.declared.word.Word.{Word}
+use Rattle.source.specs.declared.word.Word.TheVariants as word
+use Rattle.source.specs.declared.token.Token.{Token}
+use Rattle.source.specs.Tree.{Name, NameAt, NumberAt, Target, Bind, Drop, Expr, Number, Named, Bracket, Prefix, Infix, Fetch, Store, Call, If, Loop, Exprs, One, More, Body, Let, Do, Give, Chain, Turn, Before, After, Function, Item, Cells, Defines, Program, names_of}
+use Rattle.source.specs.Fits.{count, Fits, FitsAll, FitsBody, FitsTurn, FitsItem, FitsProgram, IsLeast}
+use Rattle.source.specs.Words.{Words, target_word, words, part_words, first_words, body_words, turn_words, result_words, item_words, program_words}
+use Rattle.source.specs.Parses.{Parses}
+use Rattle.law_grammar.specs.Automaton.{parsed}
+use Rattle.law_grammar.proofs.Complete.{parsed_complete}
+
+-- what the machine holds, with what began and has not ended
+data Held : Type 0 where
+  AnExpr : (e : Expr) → Held
+  Parts : (es : List Expr) → Held
+  ABody : (b : Body) → Held
+  LetStart : (at : ℕ) (ts : List Target) → Held
+  LetStep : (at : ℕ) (ts : List Target) (es : Exprs) → Held
+  DoStep : (es : Exprs) → Held
+  Test : (p : Expr) → Held
+  Arm : (p : Expr) (l : Body) → Held
+  Names : (bound : NumberAt) (xs : List NameAt) (es : List Expr) → Held
+  LoopTest : (bound : NumberAt) (xs : List NameAt) (es : List Expr) (p : Expr) → Held
+  LoopBody : (bound : NumberAt) (xs : List NameAt) (es : List Expr) (b : Body) → Held
+  ArrayOf : (x : NameAt) → Held
+  Head : (x : NameAt) (ps : List NameAt) (r : Option NumberAt) → Held
+  HeadAt : (x : NameAt) (ps : List NameAt) (r : Option NumberAt) (at : ℕ) → Held
+  AnItem : (i : Item) → Held
+
+abbrev Machine : Type 0
+Machine = List Held
+
+-- LISTS
+abbrev to_list : Exprs → List Expr
+to_list (One e) = e ∷ []
+to_list (More e es) = e ∷ to_list es
+
+abbrev of_more : Expr → List Expr → Exprs
+of_more e [] = One e
+of_more e (f ∷ es) = More e (of_more f es)
+
+abbrev of_list : List Expr → Exprs
+of_list [] = One (Number 0 0)
+of_list (e ∷ es) = of_more e es
+
+list_again : (es : Exprs) → of_list (to_list es) ≡ es
+list_again (One e) = refl
+list_again (More e (One f)) = refl
+list_again (More e (More f es)) = ap (More e) (list_again (More f es))
+
+-- ONE WORD
+-- a body ends: its steps stand on top
+abbrev unwind : Machine → Body → Machine
+unwind [] b = ABody b ∷ []
+unwind (LetStep at ts es ∷ st) b = unwind st (Let at ts es b)
+unwind (DoStep es ∷ st) b = unwind st (Do es b)
+unwind (h ∷ st) b = ABody b ∷ h ∷ st
+
+abbrev on_expr : (Expr → Machine → Machine) → Machine → Machine
+on_expr f (AnExpr e ∷ st) = f e st
+on_expr f st = []
+
+abbrev on_parts : (List Expr → Machine → Machine) → Machine → Machine
+on_parts f (Parts es ∷ st) = f es st
+on_parts f st = []
+
+abbrev on_body : (Body → Machine → Machine) → Machine → Machine
+on_body f (ABody b ∷ st) = f b st
+on_body f st = []
+
+abbrev on_names : (NumberAt → List NameAt → List Expr → Machine → Machine) → Machine → Machine
+on_names f (Names bound xs es ∷ st) = f bound xs es st
+on_names f st = []
+
+abbrev on_let : (ℕ → List Target → Machine → Machine) → Machine → Machine
+on_let f (LetStart at ts ∷ st) = f at ts st
+on_let f st = []
+
+abbrev on_test : (Expr → Machine → Machine) → Machine → Machine
+on_test f (Test p ∷ st) = f p st
+on_test f st = []
+
+abbrev on_arm : (Expr → Body → Machine → Machine) → Machine → Machine
+on_arm f (Arm p l ∷ st) = f p l st
+on_arm f st = []
+
+abbrev on_array : (NameAt → Machine → Machine) → Machine → Machine
+on_array f (ArrayOf x ∷ st) = f x st
+on_array f st = []
+
+abbrev on_head : (NameAt → List NameAt → Option NumberAt → Machine → Machine) → Machine → Machine
+on_head f (Head x ps r ∷ st) = f x ps r st
+on_head f st = []
+
+abbrev on_head_at : (NameAt → List NameAt → Option NumberAt → ℕ → Machine → Machine) → Machine → Machine
+on_head_at f (HeadAt x ps r at ∷ st) = f x ps r at st
+on_head_at f st = []
+
+abbrev end_loop : ℕ → Machine → Machine
+end_loop at (ABody b ∷ LoopTest bound xs es p ∷ st) = AnExpr (Loop at bound (of_list es) (Before xs p b)) ∷ st
+end_loop at (AnExpr p ∷ LoopBody bound xs es b ∷ st) = AnExpr (Loop at bound (of_list es) (After xs b p)) ∷ st
+end_loop at st = []
+
+abbrev rebuilt : Word Name → Machine → Machine
+rebuilt (word.Number at n) st = AnExpr (Number at n) ∷ st
+rebuilt (word.Name at x) st = AnExpr (Named at x) ∷ st
+rebuilt word.Bracket st = on_expr (λ e st. AnExpr (Bracket e) ∷ st) st
+rebuilt (word.Prefix at op) st = on_expr (λ e st. AnExpr (Prefix at op e) ∷ st) st
+rebuilt (word.Infix at s) st = on_expr (λ r. on_expr (λ l st. AnExpr (Infix at s l r) ∷ st)) st
+rebuilt (word.Fetch at a) st = on_expr (λ e st. AnExpr (Fetch at a e) ∷ st) st
+rebuilt (word.Store at a) st = on_expr (λ d. on_expr (λ e st. AnExpr (Store at a e d) ∷ st)) st
+rebuilt word.List st = Parts [] ∷ st
+rebuilt word.Part st = on_expr (λ e. on_parts (λ es st. Parts (es ++ e ∷ []) ∷ st)) st
+rebuilt (word.Call at strict f) st = on_parts (λ es st. AnExpr (Call at strict f (of_list es)) ∷ st) st
+rebuilt word.Then st = on_expr (λ p st. Test p ∷ st) st
+rebuilt word.Else st = on_body (λ l. on_test (λ p st. Arm p l ∷ st)) st
+rebuilt (word.EndIf at) st = on_body (λ r. on_arm (λ p l st. AnExpr (If at p l r) ∷ st)) st
+rebuilt word.Give st = on_parts (λ es st. unwind st (Give (of_list es))) st
+rebuilt word.Chain st = on_expr (λ e st. unwind st (Chain e)) st
+rebuilt word.Do st = on_parts (λ es st. DoStep (of_list es) ∷ st) st
+rebuilt (word.Let at) st = LetStart at [] ∷ st
+rebuilt (word.Bind at x) st = on_let (λ let_at ts st. LetStart let_at (ts ++ Bind (record { at = at; name = x }) ∷ []) ∷ st) st
+rebuilt word.Drop st = on_let (λ let_at ts st. LetStart let_at (ts ++ Drop ∷ []) ∷ st) st
+rebuilt (word.EndLet at) st = on_parts (λ es. on_let (λ let_at ts st. LetStep at ts (of_list es) ∷ st)) st
+rebuilt (word.Bound at n) st = Names (record { at = at; number = n }) [] [] ∷ st
+rebuilt (word.Start at x) st = on_names (λ bound xs es st. Names bound (xs ++ record { at = at; name = x } ∷ []) es ∷ st) st
+rebuilt word.First st = on_expr (λ e. on_names (λ bound xs es st. Names bound xs (es ++ e ∷ []) ∷ st)) st
+rebuilt word.While st = on_expr (λ p. on_names (λ bound xs es st. LoopTest bound xs es p ∷ st)) st
+rebuilt word.Until st = on_body (λ b. on_names (λ bound xs es st. LoopBody bound xs es b ∷ st)) st
+rebuilt (word.EndLoop at n) st = end_loop at st
+rebuilt (word.Array at x) st = ArrayOf (record { at = at; name = x }) ∷ st
+rebuilt (word.Length at n) st = on_array (λ x st. AnItem (Cells x (record { at = at; number = n })) ∷ st) st
+rebuilt (word.Function at x) st = Head (record { at = at; name = x }) [] None ∷ st
+rebuilt (word.Parameter at x) st = on_head (λ f ps r st. Head f (ps ++ record { at = at; name = x } ∷ []) r ∷ st) st
+rebuilt (word.Results at n) st = on_head (λ f ps r st. Head f ps (Some (record { at = at; number = n })) ∷ st) st
+rebuilt (word.Body at) st = on_head (λ f ps r st. HeadAt f ps r at ∷ st) st
+rebuilt word.EndFunction st = on_body (λ b. on_head_at (λ f ps r at st. AnItem (Defines (record { name = f; params = ps; results = r; body_at = at; body = b })) ∷ st)) st
+rebuilt w st = st
+
+abbrev rebuild : Words → Machine → Machine
+rebuild [] st = st
+rebuild (w ∷ ws) st = rebuild ws (rebuilt w st)
+
+rebuild_append : (ws vs : Words) (st : Machine) → rebuild (ws ++ vs) st ≡ rebuild vs (rebuild ws st)
+rebuild_append [] vs st = refl
+rebuild_append (w ∷ ws) vs st = rebuild_append ws vs (rebuilt w st)
+
+rebuild_both : (ws vs : Words) (st tu : Machine) → rebuild ws st ≡ tu → (last : Machine) → rebuild vs tu ≡ last → rebuild (ws ++ vs) st ≡ last
+rebuild_both ws vs st tu p last q = rebuild_append ws vs st ∙ ap (rebuild vs) p ∙ q
+
+-- TREES
+targets_again : (ts us : List Target) (at : ℕ) (st : Machine) → rebuild (map target_word ts) (LetStart at us ∷ st) ≡ LetStart at (us ++ ts) ∷ st
+targets_again [] us at st = ap (λ l. LetStart at l ∷ st) (sym (append-nil us))
+targets_again (Bind x ∷ ts) us at st = targets_again ts (us ++ Bind x ∷ []) at st ∙ ap (λ l. LetStart at l ∷ st) (append_assoc us (Bind x ∷ []) ts)
+targets_again (Drop ∷ ts) us at st = targets_again ts (us ++ Drop ∷ []) at st ∙ ap (λ l. LetStart at l ∷ st) (append_assoc us (Drop ∷ []) ts)
+
+-- under a sign, where a number may be the least
+operand_again : (op : Unary) (e : Expr) → (Fits e → (st : Machine) → rebuild (words e) st ≡ AnExpr e ∷ st) → Fits e ⊎ IsLeast op e → (st : Machine) → rebuild (words e) st ≡ AnExpr e ∷ st
+operand_again op e f (inl h) st = f h st
+operand_again Neg (Number at n) f (inr h) st = refl
+operand_again op e f (inr h) st = absurd h
+
+mutual
+  expr_again : (e : Expr) → Fits e → (st : Machine) → rebuild (words e) st ≡ AnExpr e ∷ st
+  expr_again (Number at n) h st = refl
+  expr_again (Named at x) h st = refl
+  expr_again (Bracket e) h st = rebuild_both (words e) _ st _ (expr_again e h st) _ refl
+  expr_again (Prefix at op e) h st = rebuild_both (words e) _ st _ (operand_again op e (λ g tu. expr_again e g tu) h.1 st) _ refl
+  expr_again (Infix at s l r) h st = rebuild_both (words l ++ word.Left ∷ words r) _ st _
+      (rebuild_both (words l) (word.Left ∷ words r) st _ (expr_again l h.0 st) _ (expr_again r h.2 (AnExpr l ∷ st))) _ refl
+  expr_again (Fetch at a e) h st = rebuild_both (word.Cell at a ∷ words e) _ st _ (expr_again e h st) _ refl
+  expr_again (Store at a e d) h st = rebuild_both (word.Cell at a ∷ words e ++ word.Index ∷ words d) _ st _
+      (rebuild_both (word.Cell at a ∷ words e) (word.Index ∷ words d) st _ (expr_again e h.0 st) _ (expr_again d h.1 (AnExpr e ∷ st))) _ refl
+  expr_again (Call at strict f es) h st = rebuild_both (word.Callee at f ∷ word.List ∷ part_words es) _ st _ (parts_again es h [] st) _
+      (ap (λ l. AnExpr (Call at strict f l) ∷ st) (list_again es))
+  expr_again (If at p l r) h st = rebuild_both ((words p ++ word.Then ∷ body_words l) ++ word.Else ∷ body_words r) _ st _
+      (rebuild_both (words p ++ word.Then ∷ body_words l) _ st _
+        (rebuild_both (words p) _ st _ (expr_again p h.0 st) _ (body_again l false h.1 (Test p ∷ st))) _ (body_again r true h.2 (Arm p l ∷ st))) _ refl
+  expr_again (Loop at bound es t) h st =
+      ap (λ ws. rebuild ws st) (append_assoc (word.Loop at ∷ word.Bound bound.at bound.number ∷ first_words (names_of t) es) (turn_words t) (word.EndLoop at bound.number ∷ []))
+      ∙ rebuild_both (word.Loop at ∷ word.Bound bound.at bound.number ∷ first_words (names_of t) es) (turn_words t ++ word.EndLoop at bound.number ∷ []) st _
+        (firsts_again es h.1 (names_of t) h.2 bound [] [] st) _ (turn_again t h.3 bound (to_list es) at bound.number st)
+      ∙ ap (λ l. AnExpr (Loop at bound l t) ∷ st) (list_again es)
+
+  parts_again : (es : Exprs) → FitsAll es → (xs : List Expr) (st : Machine) → rebuild (part_words es) (Parts xs ∷ st) ≡ Parts (xs ++ to_list es) ∷ st
+  parts_again (One e) h xs st = rebuild_both (words e) _ _ _ (expr_again e h (Parts xs ∷ st)) _ refl
+  parts_again (More e es) h xs st = rebuild_both (words e) _ _ _ (expr_again e h.0 (Parts xs ∷ st)) _
+      (parts_again es h.1 (xs ++ e ∷ []) st ∙ ap (λ l. Parts l ∷ st) (append_assoc xs (e ∷ []) (to_list es)))
+
+  firsts_again : (es : Exprs) → FitsAll es → (ys : List NameAt) → count es ≡ length ys → (bound : NumberAt) (xs : List NameAt) (fs : List Expr) (st : Machine)
+      → rebuild (first_words ys es) (Names bound xs fs ∷ st) ≡ Names bound (xs ++ ys) (fs ++ to_list es) ∷ st
+  firsts_again (One e) h [] many bound xs fs st = absurd (omega arith)
+  firsts_again (One e) h (y ∷ []) many bound xs fs st =
+      rebuild_both (word.Start y.at y.name ∷ words e) _ (Names bound xs fs ∷ st) _ (expr_again e h (Names bound (xs ++ y ∷ []) fs ∷ st)) _ refl
+  firsts_again (One e) h (y ∷ z ∷ ys) many bound xs fs st = absurd (omega arith)
+  firsts_again (More e es) h [] many bound xs fs st = absurd (omega arith)
+  firsts_again (More e es) h (y ∷ ys) many bound xs fs st =
+      rebuild_both (word.Start y.at y.name ∷ words e) _ (Names bound xs fs ∷ st) _ (expr_again e h.0 (Names bound (xs ++ y ∷ []) fs ∷ st)) _
+      (firsts_again es h.1 ys (omega arith) bound (xs ++ y ∷ []) (fs ++ e ∷ []) st
+        ∙ ap (λ l. Names bound l ((fs ++ e ∷ []) ++ to_list es) ∷ st) (append_assoc xs (y ∷ []) ys) ∙ ap (λ l. Names bound (xs ++ y ∷ ys) l ∷ st) (append_assoc fs (e ∷ []) (to_list es)))
+
+  body_again : (b : Body) (c : Bool) → FitsBody c b → (st : Machine) → rebuild (body_words b) st ≡ unwind st b
+  body_again (Let at ts es rest) c h st = rebuild_both ((word.Let at ∷ map target_word ts) ++ word.List ∷ part_words es) _ st _
+      (rebuild_both (word.Let at ∷ map target_word ts) _ st _ (targets_again ts [] at st) _ (parts_again es h.1 [] (LetStart at ts ∷ st))) _
+      (body_again rest false h.2 (LetStep at ts (of_list (to_list es)) ∷ st) ∙ ap (λ l. unwind st (Let at ts l rest)) (list_again es))
+  body_again (Do es rest) c h st = rebuild_both (word.List ∷ part_words es) _ st _ (parts_again es h.0 [] st) _
+      (body_again rest false h.1 (DoStep (of_list (to_list es)) ∷ st) ∙ ap (λ l. unwind st (Do l rest)) (list_again es))
+  body_again (Give es) c h st = rebuild_both (word.List ∷ part_words es) _ st _ (parts_again es h [] st) _ (ap (λ l. unwind st (Give l)) (list_again es))
+  body_again (Chain e) c h st = rebuild_both (words e) _ st _ (expr_again e h.2 st) _ refl
+
+  turn_again : (t : Turn) → FitsTurn t → (bound : NumberAt) (es : List Expr) (at n : ℕ) (st : Machine)
+      → rebuild (turn_words t ++ word.EndLoop at n ∷ []) (Names bound (names_of t) es ∷ st) ≡ AnExpr (Loop at bound (of_list es) t) ∷ st
+  turn_again (Before xs p b) h bound es at n st = rebuild_both (word.TestFirst ∷ words p ++ word.While ∷ body_words b) _ (Names bound xs es ∷ st) _
+      (rebuild_both (word.TestFirst ∷ words p) _ (Names bound xs es ∷ st) _ (expr_again p h.0 (Names bound xs es ∷ st)) _ (body_again b false h.1 (LoopTest bound xs es p ∷ st))) _ refl
+  turn_again (After xs b p) h bound es at n st = rebuild_both (word.BodyFirst ∷ body_words b ++ word.Until ∷ words p) _ (Names bound xs es ∷ st) _
+      (rebuild_both (word.BodyFirst ∷ body_words b) _ (Names bound xs es ∷ st) _ (body_again b false h.0 (Names bound xs es ∷ st)) _ (expr_again p h.1 (LoopBody bound xs es b ∷ st))) _ refl
+
+-- PROGRAMS
+parameters_again : (xs us : List NameAt) (f : NameAt) (r : Option NumberAt) (st : Machine)
+    → rebuild (map (λ (x : NameAt). word.Parameter x.at x.name) xs) (Head f us r ∷ st) ≡ Head f (us ++ xs) r ∷ st
+parameters_again [] us f r st = ap (λ l. Head f l r ∷ st) (sym (append-nil us))
+parameters_again (x ∷ xs) us f r st = parameters_again xs (us ++ x ∷ []) f r st ∙ ap (λ l. Head f l r ∷ st) (append_assoc us (x ∷ []) xs)
+
+results_again : (r : Option NumberAt) (f : NameAt) (ps : List NameAt) (st : Machine) → rebuild (result_words r) (Head f ps None ∷ st) ≡ Head f ps r ∷ st
+results_again None f ps st = refl
+results_again (Some n) f ps st = refl
+
+item_again : (i : Item) → FitsItem i → (st : Machine) → rebuild (item_words i) st ≡ AnItem i ∷ st
+item_again (Cells x len) h st = refl
+item_again (Defines f) h st =
+    let M : Words = map (λ (x : NameAt). word.Parameter x.at x.name) f.params in
+    rebuild_both (((word.Function f.name.at f.name.name ∷ M) ++ result_words f.results) ++ word.Body f.body_at ∷ body_words f.body) _ st _
+      (rebuild_both ((word.Function f.name.at f.name.name ∷ M) ++ result_words f.results) _ st _
+        (rebuild_both (word.Function f.name.at f.name.name ∷ M) _ st _ (parameters_again f.params [] f.name None st) _ (results_again f.results f.name f.params st)) _
+        (body_again f.body false h.2 (HeadAt f.name f.params f.results f.body_at ∷ st))) _ refl
+
+abbrev pushed : Program → Machine → Machine
+pushed [] st = st
+pushed (i ∷ p) st = pushed p (AnItem i ∷ st)
+
+program_again : (p : Program) → FitsProgram p → (st : Machine) → rebuild (program_words p) st ≡ pushed p st
+program_again [] h st = refl
+program_again (i ∷ p) h st = ap (λ ws. rebuild ws st) (flat_map-cons item_words i p)
+    ∙ rebuild_both (item_words i) (program_words p) st _ (item_again i (All-head FitsItem i p h) st) _ (program_again p (All-tail FitsItem i p h) (AnItem i ∷ st))
+
+abbrev items_of : Machine → Program → Program
+items_of (AnItem i ∷ st) p = items_of st (i ∷ p)
+items_of st p = p
+
+items_again : (p : Program) (st : Machine) (q : Program) → items_of (pushed p st) q ≡ items_of st (p ++ q)
+items_again [] st q = refl
+items_again (i ∷ p) st q = items_again p (AnItem i ∷ st) q
+
+read_back : (p : Program) → FitsProgram p → items_of (rebuild (program_words p) []) [] ≡ p
+read_back p h = ap (λ st. items_of st []) (program_again p h []) ∙ items_again p [] [] ∙ append-nil p
+
+-- Fitting programs with the same words are the same.
+pub words_determine : (p q : Program) → FitsProgram p → FitsProgram q → program_words p ≡ program_words q → p ≡ q
+words_determine p q f g e = sym (read_back p f) ∙ ap (λ ws. items_of (rebuild ws []) []) e ∙ read_back q g
+
+-- No two fitting programs have a text's tokens.
+pub parses_once : (text : List ℕ) (ts : List Token) (p q : Program) → Parses text ts p → Parses text ts q → p ≡ q
+parses_once text ts p q f g = words_determine p q f.fits g.fits (let e = parsed_complete text ts p f in let h = parsed_complete text ts q g in cc)
