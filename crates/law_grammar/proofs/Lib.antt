@@ -18,3 +18,4 @@ pub mod Paired
 pub mod Faults
 pub mod Refused
 pub mod Rebuilt
+pub mod Theorem

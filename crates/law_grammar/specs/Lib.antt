@@ -1,1 +1,3 @@
 pub mod Automaton
+pub mod Named
+pub mod Theorem
