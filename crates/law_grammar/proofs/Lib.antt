@@ -15,7 +15,8 @@ pub mod ReadBodies
 pub mod Complete
 pub mod Alike
 pub mod Paired
-pub mod Faults
-pub mod Refused
+pub mod TwoRuns
+pub mod GoingOn
+pub mod FirstFault
 pub mod Rebuilt
 pub mod Theorem

@@ -1,5 +1,5 @@
 -- THE WORDS DETERMINE THE TREE: a stack machine reads it back. So no two fitting programs have the same tokens at the same places.
-use Rattle.std.proofs.Common.{◌≡◌, ℕ, suc, ◌+◌, ◌≤◌, Bool, List, [], ◌∷◌, ◌++◌, map, length, Option, None, Some, Ok, refl, sym, ap, ◌∙◌, subst, append_assoc, append-nil, arith, inl, inr, true, false}
+use Rattle.std.proofs.Common.{◌≡◌, ℕ, Bool, List, [], ◌∷◌, ◌++◌, map, length, Option, None, Some, refl, sym, ap, ◌∙◌, append_assoc, append-nil, arith, inl, inr, true, false}
 use Rattle.std.specs.Prelude.{◌⊎◌}
 use Rattle.operators.specs.declared.Unary.{Unary}
 use Rattle.operators.specs.declared.Unary.TheVariants.{Neg}
@@ -8,11 +8,10 @@ use Rattle.std.proofs.lemmas.List.Elements.{All-head, All-tail}
 use Rattle.source.specs.declared.word.Word.{Word}
 use Rattle.source.specs.declared.word.Word.TheVariants as word
 use Rattle.source.specs.declared.token.Token.{Token}
-use Rattle.source.specs.Tree.{Name, NameAt, NumberAt, Target, Bind, Drop, Expr, Number, Named, Bracket, Prefix, Infix, Fetch, Store, Call, If, Loop, Exprs, One, More, Body, Let, Do, Give, Chain, Turn, Before, After, Function, Item, Cells, Defines, Program, names_of}
+use Rattle.source.specs.Tree.{Name, NameAt, NumberAt, Target, Bind, Drop, Expr, Number, Named, Bracket, Prefix, Infix, Fetch, Store, Call, If, Loop, Exprs, One, More, Body, Let, Do, Give, Chain, Turn, Before, After, Item, Cells, Defines, Program, names_of}
 use Rattle.source.specs.Fits.{count, Fits, FitsAll, FitsBody, FitsTurn, FitsItem, FitsProgram, IsLeast}
 use Rattle.source.specs.Words.{Words, target_word, words, part_words, first_words, body_words, turn_words, result_words, item_words, program_words}
 use Rattle.source.specs.Parses.{Parses}
-use Rattle.law_grammar.specs.Automaton.{parsed}
 use Rattle.law_grammar.proofs.Complete.{parsed_complete}
 
 -- what the machine holds, with what began and has not ended

@@ -1,4 +1,4 @@
--- FAULTS: a token that the automaton refuses is the first one at which no fitting program goes on, and its kind is right.
+-- TWO RUNS over the same tokens, wherever they stand and however much may be open.
 use Rattle.std.proofs.Common.{◌≡◌, ℕ, ◌+◌, ◌<◌, ◌≤◌, List, [], ◌∷◌, ◌++◌, Result, Ok, Err, refl, subst}
 use Rattle.std.specs.Prelude.{◌⊎◌, ⊤}
 use Rattle.source.specs.declared.fault.FaultKind.{FaultKind}
