@@ -16,8 +16,8 @@ use Rattle.source.specs.Words.{Words, result_words, body_words, item_words, prog
 use Rattle.source.specs.Parses.{Parses}
 use Rattle.law_grammar.specs.declared.symbol.Symbol.TheVariants.{Sign as OneSign, Emit, Items, ArrayName, ArrayLength, FunctionName, Parameter, Parameters, Results, ResultCount, FunctionBody, Steps}
 use Rattle.law_grammar.specs.Automaton.{Stack, Placed, placed, Moved, advance, finish, run, parsed}
-use Rattle.law_grammar.proofs.Meaning.{further}
-use Rattle.law_grammar.proofs.ExplainBodies.{listed_is}
+use Rattle.law_grammar.proofs.Yielded.{further}
+use Rattle.law_grammar.proofs.ExplainLists.{listed_is}
 use Rattle.law_grammar.proofs.Runs.{Spells, spells, moved_by, advance_all, Ran, whole, unended, stopped, ran}
 use Rattle.law_grammar.proofs.Leads.{moved_nothing, small_is, advance_append, Leads, leads_as, leads_none, leads_settled, leads_append, Reads}
 use Rattle.law_grammar.proofs.ReadOperands.{ExprReads, leads_step, leads_any, leads_sign, reads_number, reads_named, reads_bracket, reads_neg, reads_not}

@@ -16,11 +16,14 @@ use Rattle.source.specs.Words.{Words, item_words, program_words}
 use Rattle.law_grammar.specs.declared.symbol.Symbol.{Symbol}
 use Rattle.law_grammar.specs.declared.symbol.Symbol.TheVariants.{Sign as OneSign, Keyword as OneWord, Emit, Items, ArrayName, ArrayLength, FunctionName, Parameter, Parameters, Results, ResultCount, FunctionBody, Steps, Target as OneTarget, Targets, LetEnd, StepEnd, Operand, Negated, After, AfterName, AfterIndex, Callee, CallEnd, Otherwise, Bound, Start, Starts, Turn as OneTurn}
 use Rattle.law_grammar.specs.Automaton.{Takes, Refuses, is_sign, is_word, items, array_name, array_length, function_name, parameter, parameters, results, result_count, function_body, step}
-use Rattle.law_grammar.proofs.Meaning.{Programs, Ready, Explains, takes, passes, refuses}
+use Rattle.law_grammar.proofs.Yielded.{Programs}
+use Rattle.law_grammar.proofs.Meaning.{Ready, Explains, takes, passes, refuses}
 use Rattle.law_grammar.proofs.Givens.{explains_if, explains_small}
 use Rattle.law_grammar.proofs.Terminals.{that_sign, that_word}
-use Rattle.law_grammar.proofs.ExplainOperands.{explains_operand, explains_negated, explains_after, explains_after_name, explains_after_index, explains_otherwise}
-use Rattle.law_grammar.proofs.ExplainBodies.{listed_is, explains_call_end, explains_let_end, explains_step_end, explains_callee, explains_start, explains_starts, explains_turn, explains_bound, explains_target, explains_targets, explains_steps}
+use Rattle.law_grammar.proofs.ExplainFollowing.{explains_after, explains_after_name, explains_after_index}
+use Rattle.law_grammar.proofs.ExplainOperands.{explains_operand, explains_negated, explains_otherwise}
+use Rattle.law_grammar.proofs.ExplainLists.{listed_is, explains_call_end, explains_let_end, explains_step_end, explains_callee, explains_start, explains_starts, explains_turn, explains_bound}
+use Rattle.law_grammar.proofs.ExplainBodies.{explains_target, explains_targets, explains_steps}
 
 function_tokens : {A : Type 0} (F R B s₄ s₅ : List A) (c : A) → F ++ c ∷ [] ≡ s₄ → R ++ B ≡ s₅ → (F ++ c ∷ R) ++ B ≡ (s₄ ++ s₅) ++ []
 function_tokens F R B s₄ s₅ c p q = append_assoc F (c ∷ R) B ∙ sym (append_assoc F (c ∷ []) (R ++ B)) ∙ ap (λ t. t ++ (R ++ B)) p ∙ ap (λ t. s₄ ++ t) q ∙ sym (append-nil (s₄ ++ s₅))

@@ -46,6 +46,12 @@ bad_too kind _ _ n moved_fault e f other = other cc
 bad_too kind _ _ n moved_neither e f other = cc
 bad_too kind r _ n moved_itself e f other = cc
 
+goes_deeply : (before : List Placed) (p : Placed) (m n : Moved) → advance_all 203 (Items ∷ []) before ≡ Ok m → advance 203 m.stack p.at p.lexeme ≡ Ok n
+    → GoesOnDeeply (said before ++ p.lexeme ∷ [])
+goes_deeply before p m n read e =
+    let g = goes 203 (omega arith) (before ++ p ∷ []) _ (advance_more 203 (Items ∷ []) before p m n read e) in
+    record { program = g.program; rest = g.rest; fits = g.fits; says_so = g.says_so ∙ ap (λ ls. ls ++ g.rest) (said_more before p) }
+
 module _ (before : List Placed) (m : Moved) (read : advance_all 200 (Items ∷ []) before ≡ Ok m) (at : ℕ) where
   ready : AllReady 200 m.stack
   ready = ready_so_far 200 (omega arith) before m read
@@ -87,9 +93,7 @@ module _ (before : List Placed) (m : Moved) (read : advance_all 200 (Items ∷ [
         let like = like_advance 200 203 (inr (omega arith)) m.stack r.moved.stack r.alike ready at at l in
         let here : advance 200 m.stack at l ≡ Err fault.TooDeep = err ∙ ap (λ k. Err k) deep in
         let d = deeper (advance 203 r.moved.stack at l) (subst (λ x. LikeMoved 200 203 l x (advance 203 r.moved.stack at l)) here like) in
-        let p : Placed = record { at = at; lexeme = l } in
-        let g = goes 203 (omega arith) (before ++ p ∷ []) _ (advance_more 203 (Items ∷ []) before p r.moved d.0 r.is d.1) in
-        record { program = g.program; rest = g.rest; fits = g.fits; says_so = g.says_so ∙ ap (λ ls. ls ++ g.rest) (said_more before p) }
+        goes_deeply before (record { at = at; lexeme = l }) r.moved d.0 r.is d.1
 
   module _ (l : Lexeme) where
     not_deep : (kind : FaultKind) → advance 200 m.stack at l ≡ Err kind → (kind ≡ fault.TooDeep → ⊥) → GoesOnDeeply (said before ++ l ∷ []) → ⊥

@@ -1,8 +1,11 @@
 mod ReadPrograms
+pub mod Yielded
 pub mod Meaning
 pub mod Givens
 pub mod Terminals
+pub mod ExplainFollowing
 pub mod ExplainOperands
+pub mod ExplainLists
 pub mod ExplainBodies
 pub mod ExplainItems
 pub mod Runs
@@ -18,5 +21,6 @@ pub mod Paired
 pub mod TwoRuns
 pub mod GoingOn
 pub mod FirstFault
+pub mod Rebuilding
 pub mod Rebuilt
 pub mod Theorem

@@ -13,8 +13,9 @@ use Rattle.source.specs.Fits.{depth, list_depth, body_depth, turn_depth, Fits}
 use Rattle.source.specs.Words.{Words, target_word, words, part_words, body_words, turn_words}
 use Rattle.law_grammar.specs.declared.symbol.Symbol.TheVariants.{Sign as OneSign, Keyword as OneWord, Emit, Steps, Target as OneTarget, Targets, LetEnd, StepEnd, Operand, After, Otherwise, Bound, Start, Starts, Turn as OneTurn}
 use Rattle.law_grammar.specs.Automaton.{Stack, Outcome, Takes, Passes, Refuses, appending, above, operand, steps, conditional, moved_after, advance_by, advance}
-use Rattle.law_grammar.proofs.Meaning.{AreAll, IsBody, IsTurn, further}
-use Rattle.law_grammar.proofs.ExplainBodies.{listed_is, operand_never_passes}
+use Rattle.law_grammar.proofs.Yielded.{AreAll, IsBody, IsTurn, further}
+use Rattle.law_grammar.proofs.ExplainLists.{listed_is}
+use Rattle.law_grammar.proofs.ExplainBodies.{operand_never_passes}
 use Rattle.law_grammar.proofs.Leads.{within_is, small_is, Leads, leads_as, leads_none, leads_settled, leads_append, advance_sign, advance_word, Reads, reads_exactly, reads_as, reads_leads, leads_reads, reads_pass, leads_pass}
 use Rattle.law_grammar.proofs.Followed.{close_paren, semicolon, close_brace, open_brace, Stops, closes}
 use Rattle.law_grammar.proofs.ReadOperands.{ExprReads, one_token, leads_step, leads_any, leads_sign, expr_reads}

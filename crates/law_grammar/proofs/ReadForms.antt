@@ -13,7 +13,7 @@ use Rattle.source.specs.Words.{Words, words, part_words, first_words}
 use Rattle.law_grammar.specs.declared.symbol.Symbol.{Symbol}
 use Rattle.law_grammar.specs.declared.symbol.Symbol.TheVariants.{Sign as OneSign, Emit, Operand, After, AfterName, AfterIndex, Callee, CallEnd, Start, Starts}
 use Rattle.law_grammar.specs.Automaton.{Stack, advance}
-use Rattle.law_grammar.proofs.Meaning.{IsOperand, AreAll}
+use Rattle.law_grammar.proofs.Yielded.{IsOperand, AreAll}
 use Rattle.law_grammar.proofs.Leads.{within_is, Leads, leads_as, leads_append, Reads, reads_exactly, reads_as, reads_leads, leads_reads, reads_pass, leads_pass}
 use Rattle.law_grammar.proofs.Followed.{close_paren, close_bracket, comma, Stops, closes, operates, stops_more, least_left, after_takes, pass_after, pass_index}
 use Rattle.law_grammar.proofs.ReadOperands.{ExprReads, one_token, leads_step, leads_any, leads_sign, expr_reads, operand_reads, name_leads}

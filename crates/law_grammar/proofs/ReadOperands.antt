@@ -16,8 +16,8 @@ use Rattle.source.specs.Words.{Words, words}
 use Rattle.law_grammar.specs.declared.symbol.Symbol.{Symbol}
 use Rattle.law_grammar.specs.declared.symbol.Symbol.TheVariants.{Sign as OneSign, Emit, Operand, Negated, After, AfterName}
 use Rattle.law_grammar.specs.Automaton.{Stack, Takes, Refuses, step, operand, negated, advance_by, advance}
-use Rattle.law_grammar.proofs.Meaning.{IsOperand}
-use Rattle.law_grammar.proofs.ExplainOperands.{sign_level_most}
+use Rattle.law_grammar.proofs.Yielded.{IsOperand}
+use Rattle.law_grammar.proofs.ExplainFollowing.{sign_level_most}
 use Rattle.law_grammar.proofs.Leads.{within_is, small_is, moved_nothing, Leads, Moves, leads_as, leads_none, leads_cons, leads_settled, leads_append, advance_takes, advance_sign, Reads, reads_exactly, reads_as, reads_leads, leads_reads, reads_pass, leads_pass}
 use Rattle.law_grammar.proofs.Followed.{close_paren, Stops, closes, stops_more, stops_seven, pass_after, pass_end, pass_name}
 

@@ -9,7 +9,8 @@ use Rattle.law_grammar.specs.Automaton.{Stack, Outcome, Placed, Moved, moved_aft
 use Rattle.law_grammar.proofs.Meaning.{Given, AllReady}
 use Rattle.law_grammar.proofs.Runs.{moved_by, advance_all, Advanced, moved, advanced}
 use Rattle.law_grammar.proofs.Sound.{said}
-use Rattle.law_grammar.proofs.Alike.{AlikeStacks, both_empty, on_top, alike_append, Blame, Like, take_alike, pass_alike, refuse_alike, both_too_deep, one_too_deep, like_step}
+use Rattle.law_grammar.proofs.Alike.{AlikeStacks, both_empty, on_top, alike_append, Blame, Like, take_alike, pass_alike, refuse_alike, both_too_deep, one_too_deep}
+use Rattle.law_grammar.proofs.Alike.{like_step}
 
 -- STACKS ARE KEPT READY
 given_always : (limit : ℕ) (S : Stack) (ss : List Spelling) (ws : Words) → Given limit S (λ ts vs. ⊤) ss ws
