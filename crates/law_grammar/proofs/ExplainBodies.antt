@@ -67,7 +67,8 @@ module _ (limit : ℕ) where
   }
 
   -- No operand lets a token pass.
-  never_if : {o p : Outcome} (b : Bool) → ((ws : Words) → o ≡ Passes ws → ⊥) → ((ws : Words) → p ≡ Passes ws → ⊥) → (ws : Words) → (if b then o else p) ≡ Passes ws → ⊥
+  never_if : {o p : Outcome} (b : Bool) → ((ws : Words) → o ≡ Passes ws → ⊥) → ((ws : Words) → p ≡ Passes ws → ⊥) → (ws : Words)
+      → (if b then o else p) ≡ Passes ws → ⊥
   never_if true f g = f
   never_if false f g = g
 
@@ -89,7 +90,8 @@ module _ (limit : ℕ) where
   operand_never_passes m d at (TheWord keyword.Loop) = never_if _ (never_takes _ _) (never_refuses _)
   operand_never_passes m d at (TheWord k) = never_refuses _
 
-  explains_step : (d at : ℕ) (l : Lexeme) → Ready limit (Steps d) → Explains limit (Steps d) at l (appending (word.List ∷ []) (above (StepEnd d ∷ []) (operand limit 0 (d + 1) at l)))
+  explains_step : (d at : ℕ) (l : Lexeme) → Ready limit (Steps d)
+      → Explains limit (Steps d) at l (appending (word.List ∷ []) (above (StepEnd d ∷ []) (operand limit 0 (d + 1) at l)))
   explains_step d at l r = explains_above limit (Operand 0 (d + 1)) (Steps d) at l (word.List ∷ []) (StepEnd d) r (step_body d) _
       (explains_operand limit 0 (d + 1) at l (omega arith)) (operand_never_passes 0 (d + 1) at l)
 

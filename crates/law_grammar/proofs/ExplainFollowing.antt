@@ -46,7 +46,8 @@ module _ (limit : ℕ) where
     says = sym (append-nil (words e));
   }
 
-  pub explains_infix : (m k d at : ℕ) (s : InfixSign) → Ready limit (After m k d) → Explains limit (After m k d) at (TheSign (infix_sign s)) (after_infix m k d at s)
+  pub explains_infix : (m k d at : ℕ) (s : InfixSign) → Ready limit (After m k d)
+      → Explains limit (After m k d) at (TheSign (infix_sign s)) (after_infix m k d at s)
   explains_infix m k d at s r = explains_if (goes_on m k s) (λ h.
       let low : m ≤ sign_level s = leb-true m (sign_level s) (first_of_and _ _ h) in
       let high : left_level s ≤ k = leb-true (left_level s) k (second_of_and (nat_le m (sign_level s)) _ h) in
@@ -101,7 +102,8 @@ module _ (limit : ℕ) where
   pub explains_named : (named : ℕ) (x : Name) (m d at : ℕ) (l : Lexeme) → Ready limit (AfterName named x m d)
       → Explains limit (AfterName named x m d) at l (appending (word.Name named x ∷ []) (after m 9 d at l))
   explains_named named x m d at l r = explains_as limit (After m 9 d) (AfterName named x m d) at l (word.Name named x ∷ [])
-      (λ ss ws y. y (Named named x) (record { fits = tt; at_least = omega arith; deep = (let g = r.1 in omega arith) })) _ (explains_after m 9 d at l ((let g = r.0 in omega arith), r.1))
+      (λ ss ws y. y (Named named x) (record { fits = tt; at_least = omega arith; deep = (let g = r.1 in omega arith) })) _
+      (explains_after m 9 d at l ((let g = r.0 in omega arith), r.1))
 
   pub explains_call : (named : ℕ) (x : Name) (m d at : ℕ) → Ready limit (AfterName named x m d)
       → Explains limit (AfterName named x m d) at (TheSign sign.OpenParen) (after_name limit named x m d at (TheSign sign.OpenParen))

@@ -26,13 +26,15 @@ use Rattle.law_grammar.proofs.ExplainLists.{listed_is, explains_call_end, explai
 use Rattle.law_grammar.proofs.ExplainBodies.{explains_target, explains_targets, explains_steps}
 
 function_tokens : {A : Type 0} (F R B s₄ s₅ : List A) (c : A) → F ++ c ∷ [] ≡ s₄ → R ++ B ≡ s₅ → (F ++ c ∷ R) ++ B ≡ (s₄ ++ s₅) ++ []
-function_tokens F R B s₄ s₅ c p q = append_assoc F (c ∷ R) B ∙ sym (append_assoc F (c ∷ []) (R ++ B)) ∙ ap (λ t. t ++ (R ++ B)) p ∙ ap (λ t. s₄ ++ t) q ∙ sym (append-nil (s₄ ++ s₅))
+function_tokens F R B s₄ s₅ c p q = append_assoc F (c ∷ R) B ∙ sym (append_assoc F (c ∷ []) (R ++ B)) ∙ ap (λ t. t ++ (R ++ B)) p ∙ ap (λ t. s₄ ++ t) q
+    ∙ sym (append-nil (s₄ ++ s₅))
 
 function_words : {A : Type 0} (M R B E w₄ w₅ : List A) → M ≡ w₄ → R ++ B ≡ w₅ → ((M ++ R) ++ B) ++ E ≡ (w₄ ++ w₅) ++ E
 function_words M R B E w₄ w₅ p q = ap (λ t. t ++ E) (append_assoc M R B ∙ ap (λ t. M ++ t) q ∙ ap (λ t. t ++ w₅) p)
 
 module _ (limit : ℕ) where
-  pub with_item : (i : Item) (ss ts : List Spelling) (ws vs : Words) → FitsItem i → item_depth i ≤ limit → item_tokens i ≡ ss → item_words i ≡ ws → Programs limit ts vs
+  pub with_item : (i : Item) (ss ts : List Spelling) (ws vs : Words) → FitsItem i → item_depth i ≤ limit → item_tokens i ≡ ss → item_words i ≡ ws
+      → Programs limit ts vs
       → Programs limit (ss ++ ts) (ws ++ vs)
   with_item i ss ts ws vs fits deep p q y = record {
     p = i ∷ y.p;
@@ -65,7 +67,8 @@ module _ (limit : ℕ) where
   explains_array_name at l = refuses
 
   explains_array_length : (at : ℕ) (l : Lexeme) → Explains limit ArrayLength at l (array_length at l)
-  explains_array_length at (TheNumber n) = explains_small n (λ small. takes (Some at) refl tt (record { n = record { at = at; number = n }; small = small; spelled = refl; says = refl }))
+  explains_array_length at (TheNumber n) =
+      explains_small n (λ small. takes (Some at) refl tt (record { n = record { at = at; number = n }; small = small; spelled = refl; says = refl }))
   explains_array_length at l = refuses
 
   explains_function_name : (at : ℕ) (l : Lexeme) → Explains limit FunctionName at l (function_name at l)
@@ -96,7 +99,8 @@ module _ (limit : ℕ) where
   explains_function_body at l r = refuses
 
   explains_result_count : (at : ℕ) (l : Lexeme) → Explains limit ResultCount at l (result_count at l)
-  explains_result_count at (TheNumber n) = explains_small n (λ small. takes (Some at) refl tt (record { n = record { at = at; number = n }; small = small; spelled = refl; says = refl }))
+  explains_result_count at (TheNumber n) =
+      explains_small n (λ small. takes (Some at) refl tt (record { n = record { at = at; number = n }; small = small; spelled = refl; says = refl }))
   explains_result_count at l = refuses
 
   explains_results : (at : ℕ) (l : Lexeme) → Ready limit Results → Explains limit Results at l (results at l)
@@ -122,10 +126,14 @@ module _ (limit : ℕ) where
 
   -- EVERY SYMBOL
   explains_sign : (s : Sign) (at : ℕ) (l : Lexeme) → Explains limit (OneSign s) at l (if is_sign s l then Takes [] [] else Refuses Unexpected)
-  explains_sign s at l = explains_if (is_sign s l) (λ h. takes None tt tt (record { spelled = ap (λ l. record { place = None; lexeme = l } ∷ []) (that_sign s l h); says = refl })) (λ h. refuses)
+  explains_sign s at l =
+      explains_if (is_sign s l)
+      (λ h. takes None tt tt (record { spelled = ap (λ l. record { place = None; lexeme = l } ∷ []) (that_sign s l h); says = refl })) (λ h. refuses)
 
   explains_word : (k : Keyword) (at : ℕ) (l : Lexeme) → Explains limit (OneWord k) at l (if is_word k l then Takes [] [] else Refuses Unexpected)
-  explains_word k at l = explains_if (is_word k l) (λ h. takes None tt tt (record { spelled = ap (λ l. record { place = None; lexeme = l } ∷ []) (that_word k l h); says = refl })) (λ h. refuses)
+  explains_word k at l =
+      explains_if (is_word k l)
+      (λ h. takes None tt tt (record { spelled = ap (λ l. record { place = None; lexeme = l } ∷ []) (that_word k l h); says = refl })) (λ h. refuses)
 
   pub explained : (s : Symbol Name) (at : ℕ) (l : Lexeme) → Ready limit s → Explains limit s at l (step limit s at l)
   explained (OneSign s) at l r = explains_sign s at l

@@ -21,7 +21,8 @@ all_more limit d e es ok all = record { fits = (ok.fits, all.fits); deep = deep_
 
 pub more_tokens : (e f : Expr) (es : Exprs) (end ss₁ ss₂ : List Spelling) → list_tokens es ++ end ≡ tokens f ++ ss₂ → tokens f ≡ ss₁
     → list_tokens (More e es) ++ end ≡ tokens e ++ the_sign sign.Comma ∷ (ss₁ ++ ss₂)
-more_tokens e f es end ss₁ ss₂ p q = append_assoc (tokens e) (the_sign sign.Comma ∷ list_tokens es) end ∙ ap (λ t. tokens e ++ the_sign sign.Comma ∷ t) (p ∙ ap (λ t. t ++ ss₂) q)
+more_tokens e f es end ss₁ ss₂ p q = append_assoc (tokens e) (the_sign sign.Comma ∷ list_tokens es) end
+    ∙ ap (λ t. tokens e ++ the_sign sign.Comma ∷ t) (p ∙ ap (λ t. t ++ ss₂) q)
 
 pub more_words : (e f : Expr) (es : Exprs) (end ws₁ ws₂ : Words) → part_words es ++ end ≡ words f ++ ws₂ → words f ≡ ws₁
     → part_words (More e es) ++ end ≡ words e ++ word.Part ∷ (ws₁ ++ ws₂)
@@ -137,7 +138,8 @@ module _ (limit : ℕ) where
         es = More e a.es;
         ok = all_more limit d e a.es ok a.ok;
         many = ap suc a.many;
-        spelled = append_assoc (name_token x ∷ the_sign sign.Equals ∷ tokens e) (the_sign sign.Comma ∷ first_tokens (a.x ∷ a.xs) a.es) (the_sign sign.CloseParen ∷ [])
+        spelled = append_assoc (name_token x ∷ the_sign sign.Equals ∷ tokens e) (the_sign sign.Comma ∷ first_tokens (a.x ∷ a.xs) a.es)
+            (the_sign sign.CloseParen ∷ [])
             ∙ ap (λ t. (name_token x ∷ the_sign sign.Equals ∷ tokens e) ++ the_sign sign.Comma ∷ t) (a.spelled ∙ ap (λ t. t ++ ss₂) y₁.spelled);
         says = ap (λ t. (word.Start x.at x.name ∷ words e) ++ word.First ∷ t) (a.says ∙ ap (λ t. t ++ ws₂) y₁.says);
       })
@@ -153,21 +155,23 @@ module _ (limit : ℕ) where
   explains_starts d at l r = refuses
 
   pub explains_turn : (d at : ℕ) (l : Lexeme) → Ready limit (OneTurn d) → Explains limit (OneTurn d) at l (turn d l)
-  explains_turn d at (TheWord keyword.While) r = takes None tt ((omega arith, r), (tt, (refl, (r, tt)))) (λ ss₁ ws₁ y₁ ss₂ ws₂ y₂ ss₃ ws₃ y₃ ss₄ ws₄ y₄ xs. record {
-    t = Before xs y₁.e y₄.b;
-    ok = record { fits = (y₁.ok.fits, y₄.ok.fits); deep = deep_max d _ _ limit (let g = y₁.ok.deep in omega arith) y₄.ok.deep };
-    names = refl;
-    spelled = rw (y₁.spelled, y₂.spelled, y₃.spelled, y₄.spelled) (ap (λ t. the_word keyword.While ∷ t) (test_first_tokens ss₁ ss₄ (the_sign sign.OpenBrace)));
-    says = rw (y₁.says, y₂.says, y₃.says, y₄.says) (ap (λ t. word.TestFirst ∷ t) (test_first_words ws₁ ws₄ word.While));
-  })
-  explains_turn d at (TheSign sign.OpenBrace) r = takes None tt (r, (tt, (tt, (refl, ((omega arith, r), (refl, tt)))))) (λ ss₁ ws₁ y₁ ss₂ ws₂ y₂ ss₃ ws₃ y₃ ss₄ ws₄ y₄ ss₅ ws₅ y₅ ss₆ ws₆ y₆ xs. record {
-    t = TestLast xs y₁.b y₅.e;
-    ok = record { fits = (y₁.ok.fits, y₅.ok.fits); deep = deep_max d _ _ limit y₁.ok.deep (let g = y₅.ok.deep in omega arith) };
-    names = refl;
-    spelled = rw (y₁.spelled, y₂.spelled, y₃.spelled, y₄.spelled, y₅.spelled, y₆.spelled)
-        (ap (λ t. the_sign sign.OpenBrace ∷ t) (body_first_tokens ss₁ ss₅ (the_word keyword.While) (the_sign sign.OpenParen) (the_sign sign.CloseParen)));
-    says = rw (y₁.says, y₂.says, y₃.says, y₄.says, y₅.says, y₆.says) (ap (λ t. word.BodyFirst ∷ t) (body_first_words ws₁ ws₅ word.Until));
-  })
+  explains_turn d at (TheWord keyword.While) r =
+      takes None tt ((omega arith, r), (tt, (refl, (r, tt)))) (λ ss₁ ws₁ y₁ ss₂ ws₂ y₂ ss₃ ws₃ y₃ ss₄ ws₄ y₄ xs. record {
+        t = Before xs y₁.e y₄.b;
+        ok = record { fits = (y₁.ok.fits, y₄.ok.fits); deep = deep_max d _ _ limit (let g = y₁.ok.deep in omega arith) y₄.ok.deep };
+        names = refl;
+        spelled = rw (y₁.spelled, y₂.spelled, y₃.spelled, y₄.spelled) (ap (λ t. the_word keyword.While ∷ t) (test_first_tokens ss₁ ss₄ (the_sign sign.OpenBrace)));
+        says = rw (y₁.says, y₂.says, y₃.says, y₄.says) (ap (λ t. word.TestFirst ∷ t) (test_first_words ws₁ ws₄ word.While));
+      })
+  explains_turn d at (TheSign sign.OpenBrace) r =
+      takes None tt (r, (tt, (tt, (refl, ((omega arith, r), (refl, tt)))))) (λ ss₁ ws₁ y₁ ss₂ ws₂ y₂ ss₃ ws₃ y₃ ss₄ ws₄ y₄ ss₅ ws₅ y₅ ss₆ ws₆ y₆ xs. record {
+        t = TestLast xs y₁.b y₅.e;
+        ok = record { fits = (y₁.ok.fits, y₅.ok.fits); deep = deep_max d _ _ limit y₁.ok.deep (let g = y₅.ok.deep in omega arith) };
+        names = refl;
+        spelled = rw (y₁.spelled, y₂.spelled, y₃.spelled, y₄.spelled, y₅.spelled, y₆.spelled)
+            (ap (λ t. the_sign sign.OpenBrace ∷ t) (body_first_tokens ss₁ ss₅ (the_word keyword.While) (the_sign sign.OpenParen) (the_sign sign.CloseParen)));
+        says = rw (y₁.says, y₂.says, y₃.says, y₄.says, y₅.says, y₆.says) (ap (λ t. word.BodyFirst ∷ t) (body_first_words ws₁ ws₅ word.Until));
+      })
   explains_turn d at l r = refuses
 
   pub explains_bound : (loop d at : ℕ) (l : Lexeme) → Ready limit (Bound loop d) → Explains limit (Bound loop d) at l (bound loop d at l)
@@ -183,8 +187,10 @@ module _ (limit : ℕ) where
         many = a.many ∙ sym (ap length u.names);
         turn_ok = u.ok;
         spelled = ap (λ xs. number_at at n ∷ the_sign sign.OpenParen ∷ first_tokens xs a.es ++ the_sign sign.CloseParen ∷ turn_tokens u.t) u.names
-            ∙ ap (λ t. number_at at n ∷ the_sign sign.OpenParen ∷ t) (sym (append_assoc (first_tokens (a.x ∷ a.xs) a.es) (the_sign sign.CloseParen ∷ []) (turn_tokens u.t))
-            ∙ ap (λ t. t ++ turn_tokens u.t) (a.spelled ∙ ap (λ t. t ++ ss₃) y₂.spelled) ∙ ap (λ t. (ss₂ ++ ss₃) ++ t) u.spelled ∙ sym (append-nil ((ss₂ ++ ss₃) ++ ss₄)))
+            ∙ ap (λ t. number_at at n ∷ the_sign sign.OpenParen ∷ t)
+            (sym (append_assoc (first_tokens (a.x ∷ a.xs) a.es) (the_sign sign.CloseParen ∷ []) (turn_tokens u.t))
+            ∙ ap (λ t. t ++ turn_tokens u.t) (a.spelled ∙ ap (λ t. t ++ ss₃) y₂.spelled) ∙ ap (λ t. (ss₂ ++ ss₃) ++ t) u.spelled
+            ∙ sym (append-nil ((ss₂ ++ ss₃) ++ ss₄)))
             ∙ sym (rw (y₁.spelled, y₅.spelled) refl);
         says = ap (λ xs. word.Bound at n ∷ first_words xs a.es ++ turn_words u.t ++ word.EndLoop loop n ∷ []) u.names
             ∙ ap (λ t. word.Bound at n ∷ t ++ turn_words u.t ++ word.EndLoop loop n ∷ []) (a.says ∙ ap (λ t. t ++ ws₃) y₂.says)

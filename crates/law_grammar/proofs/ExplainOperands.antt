@@ -48,7 +48,8 @@ module _ (limit : ℕ) where
   explains_tilde m d at r = explains_within (d + 1) (λ h.
       takes (Some at) refl ((omega arith, h), (tt, ((r, omega arith), tt)))
       (λ ss₁ ws₁ y₁ ss₂ ws₂ y₂ ss₃ ws₃ y₃.
-      as_operand (y₃ (Prefix at Not y₁.e) (record { fits = (y₁.ok.at_least, inl y₁.ok.fits); at_least = omega arith; deep = (let g = y₁.ok.deep in omega arith) }))
+      as_operand (y₃ (Prefix at Not y₁.e)
+      (record { fits = (y₁.ok.at_least, inl y₁.ok.fits); at_least = omega arith; deep = (let g = y₁.ok.deep in omega arith) }))
       (rw (y₁.spelled, y₂.spelled) (ap (λ t. sign_at at sign.Tilde ∷ t) (none_between ss₁ ss₃))) (rw (y₁.says, y₂.says) refl)))
 
   explains_strict : (m d at : ℕ) → m ≤ 8 → Explains limit (Operand m d) at (TheWord keyword.Strict) (operand_word limit m d at keyword.Strict)
@@ -107,8 +108,10 @@ module _ (limit : ℕ) where
   braced_branch d ss ws y = go y.b y.ok y.spelled y.says
     where
       go : (b : Body) → IsBody limit false d b → body_tokens b ≡ ss → body_words b ≡ ws → Branches limit d (the_sign sign.OpenBrace ∷ ss) ws
-      go (Let at ts es rest) ok p q = record { b = Let at ts es rest; ok = record { fits = ok.fits; deep = ok.deep }; spelled = ap (λ t. the_sign sign.OpenBrace ∷ t) p; says = q }
-      go (Do es rest) ok p q = record { b = Do es rest; ok = record { fits = ok.fits; deep = ok.deep }; spelled = ap (λ t. the_sign sign.OpenBrace ∷ t) p; says = q }
+      go (Let at ts es rest) ok p q =
+          record { b = Let at ts es rest; ok = record { fits = ok.fits; deep = ok.deep }; spelled = ap (λ t. the_sign sign.OpenBrace ∷ t) p; says = q }
+      go (Do es rest) ok p q =
+          record { b = Do es rest; ok = record { fits = ok.fits; deep = ok.deep }; spelled = ap (λ t. the_sign sign.OpenBrace ∷ t) p; says = q }
       go (Give es) ok p q = record { b = Give es; ok = record { fits = ok.fits; deep = ok.deep }; spelled = ap (λ t. the_sign sign.OpenBrace ∷ t) p; says = q }
       go (Chain e) ok p q = absurd (let g = ok.fits.0 in cc)
 
@@ -170,11 +173,19 @@ module _ (limit : ℕ) where
   least_or_less at n (inr h) = inl h
 
   explains_negated_operand : (d at : ℕ) (l : Lexeme) → Ready limit (Negated d) → Explains limit (Negated d) at l (operand limit 8 (d + 1) at l)
-  explains_negated_operand d at l r = explains_for limit (Operand 8 (d + 1)) (Negated d) at l (negated_operand d) _ (explains_operand 8 (d + 1) at l (omega arith))
+  explains_negated_operand d at l r =
+      explains_for limit (Operand 8 (d + 1)) (Negated d) at l (negated_operand d) _ (explains_operand 8 (d + 1) at l (omega arith))
 
   pub explains_negated : (d at : ℕ) (l : Lexeme) → Ready limit (Negated d) → Explains limit (Negated d) at l (negated limit d at l)
-  explains_negated d at (TheNumber n) r = explains_if (nat_le n (2 ^ 63)) (λ h. takes (Some at) refl tt (least_number at n (leb-true n (2 ^ 63) h))) (λ h. refuses)
+  explains_negated d at (TheNumber n) r =
+      explains_if (nat_le n (2 ^ 63)) (λ h. takes (Some at) refl tt (least_number at n (leb-true n (2 ^ 63) h))) (λ h. refuses)
     where
       least_number : (at n : ℕ) → n ≤ 2 ^ 63 → Negateds limit d (number_at at n ∷ []) (word.Number at n ∷ [])
-      least_number at n h = record { e = Number at n; ok = record { fits = least_or_less at n (eq-or-lt_of_le h); at_least = omega arith; deep = omega arith }; spelled = refl; says = refl }
+      least_number at n h =
+          record {
+            e = Number at n;
+            ok = record { fits = least_or_less at n (eq-or-lt_of_le h); at_least = omega arith; deep = omega arith };
+            spelled = refl;
+            says = refl;
+          }
   explains_negated d at l r = explains_negated_operand d at l r

@@ -32,7 +32,8 @@ taken_too : (limit : ℕ) (l : Lexeme) (r : Result Moved FaultKind) (n : Moved) 
 taken_too limit l _ n (ok_alike {m = k} a) = (k, refl)
 taken_too limit l _ n (one_deep h) = absurd (omega arith)
 
-too_deep_only : (limit most : ℕ) (l : Lexeme) (kind : FaultKind) (r : Result Moved FaultKind) (n : Moved) → LikeMoved limit most l r (Ok n) → r ≡ Err kind → kind ≡ fault.TooDeep
+too_deep_only : (limit most : ℕ) (l : Lexeme) (kind : FaultKind) (r : Result Moved FaultKind) (n : Moved) → LikeMoved limit most l r (Ok n) → r ≡ Err kind
+    → kind ≡ fault.TooDeep
 too_deep_only limit most l kind _ n (ok_alike a) e = absurd cc
 too_deep_only limit most l kind _ n (one_deep h) e = cc
 
@@ -41,7 +42,8 @@ good_too kind _ _ (moved_fault {m = n}) e other = (n, refl)
 good_too kind _ _ moved_neither e other = absurd (other cc)
 good_too kind r _ moved_itself e other = absurd cc
 
-bad_too : (kind : FaultKind) (r q : Result Moved FaultKind) (n : Moved) → PairedMoved kind r q → r ≡ Ok n → q ≡ Err fault.Unexpected → (kind ≡ fault.Unexpected → ⊥) → ⊥
+bad_too : (kind : FaultKind) (r q : Result Moved FaultKind) (n : Moved) → PairedMoved kind r q → r ≡ Ok n → q ≡ Err fault.Unexpected
+    → (kind ≡ fault.Unexpected → ⊥) → ⊥
 bad_too kind _ _ n moved_fault e f other = other cc
 bad_too kind _ _ n moved_neither e f other = cc
 bad_too kind r _ n moved_itself e f other = cc
@@ -67,7 +69,8 @@ module _ (before : List Placed) (m : Moved) (read : advance_all 200 (Items ∷ [
 
   takes_with : (l : Lexeme) → GoesOn (said before ++ l ∷ []) → (n : Moved) × (advance 200 m.stack at l ≡ Ok n)
   takes_with l g =
-      let f = further 200 200 (inl refl) (omega arith) before m read g.program g.fits g.depth l g.rest (g.says_so ∙ append_assoc (said before) (l ∷ []) g.rest) in
+      let f = further 200 200 (inl refl) (omega arith) before m read g.program g.fits g.depth l g.rest
+      (g.says_so ∙ append_assoc (said before) (l ∷ []) g.rest) in
       taken_too 200 l (advance 200 m.stack at l) f.next (like_further 200 200 (inl refl) (omega arith) before m read l at f)
 
   module _ (l : Lexeme) (kind : FaultKind) (err : advance 200 m.stack at l ≡ Err kind) where
@@ -78,7 +81,8 @@ module _ (before : List Placed) (m : Moved) (read : advance_all 200 (Items ∷ [
     only_deep g =
         let most : ℕ = program_depth g.program + 203 in
         let wide : (most ≡ 200) ⊎ (200 + 3 ≤ most) = inr (omega arith) in
-        let f = further 200 most wide (omega arith) before m read g.program g.fits (omega arith) l g.rest (g.says_so ∙ append_assoc (said before) (l ∷ []) g.rest) in
+        let f = further 200 most wide (omega arith) before m read g.program g.fits (omega arith) l g.rest
+        (g.says_so ∙ append_assoc (said before) (l ∷ []) g.rest) in
         too_deep_only 200 most l kind (advance 200 m.stack at l) f.next (like_further 200 most wide (omega arith) before m read l at f) err
 
     -- where more may be open
@@ -143,11 +147,13 @@ module _ (before : List Placed) (m : Moved) (read : advance_all 200 (Items ∷ [
     is_kind kind err = by_blame kind err (blamed kind _ _ (like_advance 200 203 (inr (omega arith)) m.stack m.stack (alike_self m.stack) ready at at l) err)
 
 -- AT THE END OF A TEXT
-not_whole : (ps : List Placed) (m : Moved) → advance_all 200 (Items ∷ []) ps ≡ Ok m → finish m.stack ≡ None → (q : Program) → FitsProgram q → program_depth q ≤ 200 → says q ≡ said ps → ⊥
+not_whole : (ps : List Placed) (m : Moved) → advance_all 200 (Items ∷ []) ps ≡ Ok m → finish m.stack ≡ None → (q : Program) → FitsProgram q
+    → program_depth q ≤ 200 → says q ≡ said ps → ⊥
 not_whole ps m read none q fits deep e =
     let qs = placed_of (program_tokens q) in
     let all = program_advances 200 q qs fits deep (spells_itself (program_tokens q)) in
-    let r = alike_run 200 200 (inl refl) ps qs (Items ∷ []) (Items ∷ []) m (sym e ∙ said_of (program_tokens q)) (alike_self (Items ∷ [])) (omega arith, tt) read in
+    let r = alike_run 200 200 (inl refl) ps qs (Items ∷ []) (Items ∷ []) m (sym e ∙ said_of (program_tokens q)) (alike_self (Items ∷ []))
+    (omega arith, tt) read in
     let one : r.moved ≡ all.moved = let p = r.is in let q = all.is in cc in
     let ends : finish r.moved.stack ≡ Some all.last = subst (λ (x : Moved). finish x.stack ≡ Some all.last) (sym one) all.ends in
     not_both (finish r.moved.stack) all.last (subst (λ o. AlikeOption o (finish r.moved.stack)) none (alike_finish m.stack r.moved.stack r.alike)) ends
@@ -170,10 +176,13 @@ tokens_of text (t ∷ ts) (o ∷ ps) p qs e =
     let head : placed text t ≡ o = cc in
     one_token_more text t ts o ps p head (tokens_of text ts ps p qs tail)
   where
-    one_token_more : (text : List ℕ) (t : Token) (ts : List Token) (o : Placed) (ps : List Placed) (p : Placed) → placed text t ≡ o → Tokens text ts ps p → Tokens text (t ∷ ts) (o ∷ ps) p
-    one_token_more text t ts o ps p head r = record { before = t ∷ r.before; token = r.token; after = r.after; tokens = ap (λ l. t ∷ l) r.tokens; are = (λ i. head i ∷ r.are i); is = r.is }
+    one_token_more : (text : List ℕ) (t : Token) (ts : List Token) (o : Placed) (ps : List Placed) (p : Placed) → placed text t ≡ o → Tokens text ts ps p
+        → Tokens text (t ∷ ts) (o ∷ ps) p
+    one_token_more text t ts o ps p head r =
+        record { before = t ∷ r.before; token = r.token; after = r.after; tokens = ap (λ l. t ∷ l) r.tokens; are = (λ i. head i ∷ r.are i); is = r.is }
 
-refused_at : (text : List ℕ) (ts : List Token) (before : List Placed) (p : Placed) (after : List Placed) (m : Moved) (kind : FaultKind) → map (placed text) ts ≡ before ++ p ∷ after
+refused_at : (text : List ℕ) (ts : List Token) (before : List Placed) (p : Placed) (after : List Placed) (m : Moved) (kind : FaultKind)
+    → map (placed text) ts ≡ before ++ p ∷ after
     → advance_all 200 (Items ∷ []) before ≡ Ok m → advance 200 m.stack p.at p.lexeme ≡ Err kind → IsRefusedAt text ts (record { kind = kind; at = p.at })
 refused_at text ts before p after m kind is read err =
     let r = tokens_of text ts before p after is in
@@ -199,10 +208,13 @@ unended_at text ts m read none = record {
   place = refl;
 }
 
-fault_of : (text : List ℕ) (ts : List Token) (r : Result Words Fault) → Ran 200 (length text) (Items ∷ []) (map (placed text) ts) r → (fault : Fault) → r ≡ Err fault → Refuses text ts fault
+fault_of : (text : List ℕ) (ts : List Token) (r : Result Words Fault) → Ran 200 (length text) (Items ∷ []) (map (placed text) ts) r → (fault : Fault)
+    → r ≡ Err fault → Refuses text ts fault
 fault_of text ts _ (whole m ws e f) x is = absurd cc
-fault_of text ts _ (unended m e f) x is = let one : record { kind = fault.Unended; at = length text } ≡ x = cc in subst (Refuses text ts) one (at_end (unended_at text ts m e f))
-fault_of text ts _ (stopped before p after m kind e f g) x is = let one : record { kind = kind; at = p.at } ≡ x = cc in subst (Refuses text ts) one (at_token (refused_at text ts before p after m kind e f g))
+fault_of text ts _ (unended m e f) x is = let one : record { kind = fault.Unended; at = length text } ≡ x = cc in
+    subst (Refuses text ts) one (at_end (unended_at text ts m e f))
+fault_of text ts _ (stopped before p after m kind e f g) x is = let one : record { kind = kind; at = p.at } ≡ x = cc in
+    subst (Refuses text ts) one (at_token (refused_at text ts before p after m kind e f g))
 
 -- FAULT
 pub parsed_fault : (text : List ℕ) (ts : List Token) (fault : Fault) → parsed text ts ≡ Err fault → Refuses text ts fault

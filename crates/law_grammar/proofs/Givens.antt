@@ -55,7 +55,8 @@ given_then limit (s ∷ P) Q K J u v f a w h =
 
 -- TESTS
 module _ {limit : ℕ} {s : Symbol Name} {at : ℕ} {l : Lexeme} where
-  pub explains_if : {o p : Outcome} (b : Bool) → (b ≡ true → Explains limit s at l o) → (b ≡ false → Explains limit s at l p) → Explains limit s at l (if b then o else p)
+  pub explains_if : {o p : Outcome} (b : Bool) → (b ≡ true → Explains limit s at l o) → (b ≡ false → Explains limit s at l p)
+      → Explains limit s at l (if b then o else p)
   explains_if true f g = f refl
   explains_if false f g = g refl
 
@@ -69,19 +70,23 @@ module _ {limit : ℕ} {s : Symbol Name} {at : ℕ} {l : Lexeme} where
 module _ (limit : ℕ) (s t : Symbol Name) (at : ℕ) (l : Lexeme) where
   pub explains_as : (v : Words) → ((ss : List Spelling) (ws : Words) → Yields limit s ss ws → Yields limit t ss (v ++ ws))
       → (o : Outcome) → Explains limit s at l o → Explains limit t at l (appending v o)
-  explains_as v f (Takes ws P) (takes place is ready given) = takes place is ready (given_map limit P _ _ v (λ ss vs y. f (record { place = place; lexeme = l } ∷ ss) vs y) [] ws given)
+  explains_as v f (Takes ws P) (takes place is ready given) =
+      takes place is ready (given_map limit P _ _ v (λ ss vs y. f (record { place = place; lexeme = l } ∷ ss) vs y) [] ws given)
   explains_as v f (Passes ws) (passes y) = passes (f [] ws y)
   explains_as v f (Refuses kind) h = refuses
 
   -- with the same words
-  pub explains_for : ((ss : List Spelling) (ws : Words) → Yields limit s ss ws → Yields limit t ss ws) → (o : Outcome) → Explains limit s at l o → Explains limit t at l o
-  explains_for f (Takes ws P) (takes place is ready given) = takes place is ready (given_map limit P _ _ [] (λ ss vs y. f (record { place = place; lexeme = l } ∷ ss) vs y) [] ws given)
+  pub explains_for : ((ss : List Spelling) (ws : Words) → Yields limit s ss ws → Yields limit t ss ws) → (o : Outcome) → Explains limit s at l o
+      → Explains limit t at l o
+  explains_for f (Takes ws P) (takes place is ready given) =
+      takes place is ready (given_map limit P _ _ [] (λ ss vs y. f (record { place = place; lexeme = l } ∷ ss) vs y) [] ws given)
   explains_for f (Passes ws) (passes y) = passes (f [] ws y)
   explains_for f (Refuses kind) h = refuses
 
   -- with one more symbol below
   pub explains_above : (v : Words) (q : Symbol Name) → Ready limit q
-      → ((ss : List Spelling) (ws : Words) → Yields limit s ss ws → (ts : List Spelling) (vs : Words) → Yields limit q ts vs → Yields limit t (ss ++ ts) ((v ++ ws) ++ vs))
+      → ((ss : List Spelling) (ws : Words) → Yields limit s ss ws → (ts : List Spelling) (vs : Words) → Yields limit q ts vs
+      → Yields limit t (ss ++ ts) ((v ++ ws) ++ vs))
       → (o : Outcome) → Explains limit s at l o → ((ws : Words) → o ≡ Passes ws → ⊥) → Explains limit t at l (appending v (above (q ∷ []) o))
   explains_above v q r f (Takes ws P) (takes place is ready given) never = takes place is (ready_append limit P (q ∷ []) ready (r, tt))
       (given_then limit P (q ∷ []) _ _ [] v (λ ss vs y ts us z. f (record { place = place; lexeme = l } ∷ ss) vs y ts us z) [] ws given)

@@ -83,7 +83,8 @@ pub record SaidSplit (ps : List Placed) (ls : List Lexeme) (l : Lexeme) : Type 0
   pub says : token.lexeme ≡ l
 
 pub one_more : (p : Placed) (ps : List Placed) (k : Lexeme) (ls : List Lexeme) (l : Lexeme) → p.lexeme ≡ k → SaidSplit ps ls l → SaidSplit (p ∷ ps) (k ∷ ls) l
-one_more p ps k ls l head s = record { left = p ∷ s.left; token = s.token; right = s.right; is = ap (λ qs. p ∷ qs) s.is; before = (λ i. head i ∷ s.before i); says = s.says }
+one_more p ps k ls l head s =
+    record { left = p ∷ s.left; token = s.token; right = s.right; is = ap (λ qs. p ∷ qs) s.is; before = (λ i. head i ∷ s.before i); says = s.says }
 
 pub said_split : (ps : List Placed) (ls : List Lexeme) (l : Lexeme) (rest : List Lexeme) → said ps ≡ ls ++ l ∷ rest → SaidSplit ps ls l
 said_split [] [] l rest e = absurd cc
@@ -100,14 +101,16 @@ pub record AdvanceSplit (limit : ℕ) (S : Stack) (ps : List Placed) (p : Placed
   pub begun : advance_all limit S ps ≡ Ok early
   pub taken : advance limit early.stack p.at p.lexeme ≡ Ok next
 
-pub advance_split : (limit : ℕ) (S : Stack) (ps : List Placed) (p : Placed) (qs : List Placed) (m : Moved) → advance_all limit S (ps ++ p ∷ qs) ≡ Ok m → AdvanceSplit limit S ps p
+pub advance_split : (limit : ℕ) (S : Stack) (ps : List Placed) (p : Placed) (qs : List Placed) (m : Moved) → advance_all limit S (ps ++ p ∷ qs) ≡ Ok m
+    → AdvanceSplit limit S ps p
 advance_split limit S ps p qs m e = go (advance_all limit S ps) refl (sym (advance_append limit S ps (p ∷ qs)) ∙ e)
   where
     go : (r : Result Moved FaultKind) → advance_all limit S ps ≡ r → moved_by r (λ stack. advance_all limit stack (p ∷ qs)) ≡ Ok m → AdvanceSplit limit S ps p
     go (Err kind) f g = absurd cc
     go (Ok n) f g = later (advance limit n.stack p.at p.lexeme) refl g
       where
-        later : (r : Result Moved FaultKind) → advance limit n.stack p.at p.lexeme ≡ r → moved_after n.appended (moved_by r (λ stack. advance_all limit stack qs)) ≡ Ok m → AdvanceSplit limit S ps p
+        later : (r : Result Moved FaultKind) → advance limit n.stack p.at p.lexeme ≡ r
+            → moved_after n.appended (moved_by r (λ stack. advance_all limit stack qs)) ≡ Ok m → AdvanceSplit limit S ps p
         later (Err kind) h i = absurd cc
         later (Ok k) h i = record { early = n; next = k; begun = f; taken = h }
 
@@ -115,11 +118,13 @@ advance_split limit S ps p qs m e = go (advance_all limit S ps) refl (sym (advan
 pub said_more : (ps : List Placed) (p : Placed) → said (ps ++ p ∷ []) ≡ said ps ++ p.lexeme ∷ []
 said_more ps p = map_append (λ (p : Placed). p.lexeme) ps (p ∷ [])
 
-pub advance_more : (limit : ℕ) (S : Stack) (ps : List Placed) (p : Placed) (m n : Moved) → advance_all limit S ps ≡ Ok m → advance limit m.stack p.at p.lexeme ≡ Ok n
+pub advance_more : (limit : ℕ) (S : Stack) (ps : List Placed) (p : Placed) (m n : Moved) → advance_all limit S ps ≡ Ok m
+    → advance limit m.stack p.at p.lexeme ≡ Ok n
     → advance_all limit S (ps ++ p ∷ []) ≡ Ok (record { appended = m.appended ++ (n.appended ++ []); stack = n.stack })
 advance_more limit S ps p m n e f = advance_append limit S ps (p ∷ []) ∙ rw (e, f) refl
 
-module _ (limit most : ℕ) (wide : (most ≡ limit) ⊎ (limit + 3 ≤ most)) (some : 1 ≤ limit) (before : List Placed) (m : Moved) (read : advance_all limit (Items ∷ []) before ≡ Ok m) where
+module _ (limit most : ℕ) (wide : (most ≡ limit) ⊎ (limit + 3 ≤ most)) (some : 1 ≤ limit) (before : List Placed) (m : Moved)
+    (read : advance_all limit (Items ∷ []) before ≡ Ok m) where
   -- A fitting program goes on with this token: so does the automaton, where enough may be open.
   pub record Further (l : Lexeme) : Type 0 where
     pub stack : Stack

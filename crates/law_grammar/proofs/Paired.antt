@@ -35,17 +35,22 @@ paired_appending kind ws o _ itself = itself
 paired_after : (m k d at : ℕ) → Paired NotACell (after m k d at (TheSign sign.Plus)) (after m k d at (TheSign sign.Becomes))
 paired_after m k d at = go (goes_on m k (Direct Add))
   where
-    go : (b : Bool) → Paired NotACell (if b then Takes (word.Left ∷ []) (Operand 7 d ∷ Emit (word.Infix at (Direct Add)) ∷ After m 6 d ∷ []) else Passes []) (if b then Refuses NotACell else Passes [])
+    go : (b : Bool) → Paired NotACell (if b then Takes (word.Left ∷ []) (Operand 7 d ∷ Emit (word.Infix at (Direct Add)) ∷ After m 6 d ∷ []) else Passes [])
+        (if b then Refuses NotACell else Passes [])
     go true = fault
     go false = pass_both
 
-paired_sign : (s : Sign) → infix_of s ≡ None → Paired NotACell (if is_sign s (TheSign sign.Plus) then Takes [] [] else Refuses Unexpected) (if is_sign s (TheSign sign.Becomes) then Takes [] [] else Refuses Unexpected)
+paired_sign : (s : Sign) → infix_of s ≡ None
+    → Paired NotACell (if is_sign s (TheSign sign.Plus) then Takes [] [] else Refuses Unexpected)
+    (if is_sign s (TheSign sign.Becomes) then Takes [] [] else Refuses Unexpected)
 paired_sign s r = go (is_sign s (TheSign sign.Plus)) refl (is_sign s (TheSign sign.Becomes))
   where
     never : is_sign s (TheSign sign.Plus) ≡ true → ⊥
-    never e = let p = that_sign s (TheSign sign.Plus) e in let q : sign.Plus ≡ s = cc in let n : infix_of sign.Plus ≡ None = subst (λ t. infix_of t ≡ None) (sym q) r in cc
+    never e = let p = that_sign s (TheSign sign.Plus) e in let q : sign.Plus ≡ s = cc in
+        let n : infix_of sign.Plus ≡ None = subst (λ t. infix_of t ≡ None) (sym q) r in cc
 
-    go : (b : Bool) → is_sign s (TheSign sign.Plus) ≡ b → (c : Bool) → Paired NotACell (if b then Takes [] [] else Refuses Unexpected) (if c then Takes [] [] else Refuses Unexpected)
+    go : (b : Bool) → is_sign s (TheSign sign.Plus) ≡ b → (c : Bool)
+        → Paired NotACell (if b then Takes [] [] else Refuses Unexpected) (if c then Takes [] [] else Refuses Unexpected)
     go true e c = absurd (never e)
     go false e true = itself
     go false e false = neither
@@ -67,7 +72,8 @@ module _ (limit at : ℕ) where
   paired_number (AfterName named x m d) r = pass_both
   paired_number (AfterIndex cell a zero d) r = pass_both
   paired_number (AfterIndex cell a (suc m) d) r = pass_both
-  paired_number (Operand m d) r = subst (λ o. Paired BadNumber o (Refuses BadNumber)) (sym (within_is limit d (Takes (word.Number at 0 ∷ []) (After m 9 d ∷ [])) r.1)) fault
+  paired_number (Operand m d) r =
+      subst (λ o. Paired BadNumber o (Refuses BadNumber)) (sym (within_is limit d (Takes (word.Number at 0 ∷ []) (After m 9 d ∷ [])) r.1)) fault
   paired_number (Steps d) r = subst (λ o. Paired BadNumber (appending (word.List ∷ []) (above (StepEnd d ∷ []) o)) (Refuses BadNumber))
       (sym (within_is limit (d + 1) (Takes (word.Number at 0 ∷ []) (After 0 9 (d + 1) ∷ [])) r)) fault
   paired_number (Negated d) r = itself
@@ -82,7 +88,8 @@ pub data PairedMoved (kind : FaultKind) : Result Moved FaultKind → Result Move
   moved_neither : {k : FaultKind} → PairedMoved kind (Err k) (Err Unexpected)
   moved_itself : {r : Result Moved FaultKind} {m : Moved} → PairedMoved kind r (Ok m)
 
-module _ (limit at : ℕ) (kind : FaultKind) (good bad : Lexeme) (each : (s : Symbol Name) → Ready limit s → Paired kind (step limit s at good) (step limit s at bad)) where
+module _ (limit at : ℕ) (kind : FaultKind) (good bad : Lexeme)
+    (each : (s : Symbol Name) → Ready limit s → Paired kind (step limit s at good) (step limit s at bad)) where
   paired_later : (ws : Words) (r q : Result Moved FaultKind) → PairedMoved kind r q → PairedMoved kind (moved_after ws r) (moved_after ws q)
   paired_later ws _ _ moved_fault = moved_fault
   paired_later ws _ _ moved_neither = moved_neither

@@ -59,13 +59,16 @@ two_items = refl
 to_the_left : read (around (codes "n-1-2")) ≡ expression (Infix 11 (Direct Sub) (Infix 9 (Direct Sub) (Named 8 n) (Number 10 1)) (Number 12 2))
 to_the_left = refl
 
-binds_tighter : read (around (codes "n+1*2<n")) ≡ expression (Infix 13 (Direct Lt) (Infix 9 (Direct Add) (Named 8 n) (Infix 11 (Direct Mul) (Number 10 1) (Number 12 2))) (Named 14 n))
+binds_tighter : read (around (codes "n+1*2<n"))
+    ≡ expression (Infix 13 (Direct Lt) (Infix 9 (Direct Add) (Named 8 n) (Infix 11 (Direct Mul) (Number 10 1) (Number 12 2))) (Named 14 n))
 binds_tighter = refl
 
-binds_less : read (around (codes "n*1|n&2")) ≡ expression (Infix 11 (Direct Or) (Infix 9 (Direct Mul) (Named 8 n) (Number 10 1)) (Infix 13 (Direct And) (Named 12 n) (Number 14 2)))
+binds_less : read (around (codes "n*1|n&2"))
+    ≡ expression (Infix 11 (Direct Or) (Infix 9 (Direct Mul) (Named 8 n) (Number 10 1)) (Infix 13 (Direct And) (Named 12 n) (Number 14 2)))
 binds_less = refl
 
-prefixes : read (around (codes "--n*~-1")) ≡ expression (Infix 11 (Direct Mul) (Prefix 8 Neg (Prefix 9 Neg (Named 10 n))) (Prefix 12 Not (Prefix 13 Neg (Number 14 1))))
+prefixes : read (around (codes "--n*~-1"))
+    ≡ expression (Infix 11 (Direct Mul) (Prefix 8 Neg (Prefix 9 Neg (Named 10 n))) (Prefix 12 Not (Prefix 13 Neg (Number 14 1))))
 prefixes = refl
 
 least : read (around (codes "n--9223372036854775808")) ≡ expression (Infix 9 (Direct Sub) (Named 8 n) (Prefix 10 Neg (Number 11 (2 ^ 63))))
@@ -74,25 +77,32 @@ least = refl
 brackets : read (around (codes "(n)-(1>n)")) ≡ expression (Infix 11 (Direct Sub) (Bracket (Named 9 n)) (Bracket (Infix 14 Greater (Number 13 1) (Named 15 n))))
 brackets = refl
 
-fetches : read (around (codes "-A[n]+A[A[1]]")) ≡ expression (Infix 13 (Direct Add) (Prefix 8 Neg (Fetch 9 (codes "A") (Named 11 n))) (Fetch 14 (codes "A") (Fetch 16 (codes "A") (Number 18 1))))
+fetches : read (around (codes "-A[n]+A[A[1]]"))
+    ≡ expression (Infix 13 (Direct Add) (Prefix 8 Neg (Fetch 9 (codes "A") (Named 11 n))) (Fetch 14 (codes "A") (Fetch 16 (codes "A") (Number 18 1))))
 fetches = refl
 
-stores : read (around (codes "A[n]:=B[1]:=n+1")) ≡ expression (Store 8 (codes "A") (Named 10 n) (Store 14 (codes "B") (Number 16 1) (Infix 21 (Direct Add) (Named 20 n) (Number 22 1))))
+stores : read (around (codes "A[n]:=B[1]:=n+1"))
+    ≡ expression (Store 8 (codes "A") (Named 10 n) (Store 14 (codes "B") (Number 16 1) (Infix 21 (Direct Add) (Named 20 n) (Number 22 1))))
 stores = refl
 
-store_in_brackets : read (around (codes "1+(A[0]:=n)")) ≡ expression (Infix 9 (Direct Add) (Number 8 1) (Bracket (Store 11 (codes "A") (Number 13 0) (Named 17 n))))
+store_in_brackets : read (around (codes "1+(A[0]:=n)"))
+    ≡ expression (Infix 9 (Direct Add) (Number 8 1) (Bracket (Store 11 (codes "A") (Number 13 0) (Named 17 n))))
 store_in_brackets = refl
 
-calls : read (around (codes "f(n,1)+strict g(n)")) ≡ expression (Infix 14 (Direct Add) (Call 8 false (codes "f") (More (Named 10 n) (One (Number 12 1)))) (Call 22 true (codes "g") (One (Named 24 n))))
+calls : read (around (codes "f(n,1)+strict g(n)"))
+    ≡ expression (Infix 14 (Direct Add) (Call 8 false (codes "f") (More (Named 10 n) (One (Number 12 1)))) (Call 22 true (codes "g") (One (Named 24 n))))
 calls = refl
 
-conditional : read (around (codes "if n{1}else{2}-1")) ≡ expression (Infix 22 (Direct Sub) (If 8 (Named 11 n) (Give (One (Number 13 1))) (Give (One (Number 20 2)))) (Number 23 1))
+conditional : read (around (codes "if n{1}else{2}-1"))
+    ≡ expression (Infix 22 (Direct Sub) (If 8 (Named 11 n) (Give (One (Number 13 1))) (Give (One (Number 20 2)))) (Number 23 1))
 conditional = refl
 
-chain : read (around (codes "if n{1}else if 2{3}else{4}")) ≡ expression (If 8 (Named 11 n) (Give (One (Number 13 1))) (Chain (If 20 (Number 23 2) (Give (One (Number 25 3))) (Give (One (Number 32 4))))))
+chain : read (around (codes "if n{1}else if 2{3}else{4}"))
+    ≡ expression (If 8 (Named 11 n) (Give (One (Number 13 1))) (Chain (If 20 (Number 23 2) (Give (One (Number 25 3))) (Give (One (Number 32 4))))))
 chain = refl
 
-loop_with_test_first : read (around (codes "loop 4(i=n,j=1)while i{i,j}")) ≡ expression (Loop 8 (record { at = 13; number = 4 }) (More (Named 17 n) (One (Number 21 1)))
+loop_with_test_first : read (around (codes "loop 4(i=n,j=1)while i{i,j}"))
+    ≡ expression (Loop 8 (record { at = 13; number = 4 }) (More (Named 17 n) (One (Number 21 1)))
     (Before (named 15 (codes "i") ∷ named 19 (codes "j") ∷ []) (Named 29 (codes "i")) (Give (More (Named 31 (codes "i")) (One (Named 33 (codes "j")))))))
 loop_with_test_first = refl
 

@@ -130,7 +130,8 @@ rebuilt (word.Function at x) st = Head (record { at = at; name = x }) [] None �
 rebuilt (word.Parameter at x) st = on_head (λ f ps r st. Head f (ps ++ record { at = at; name = x } ∷ []) r ∷ st) st
 rebuilt (word.Results at n) st = on_head (λ f ps r st. Head f ps (Some (record { at = at; number = n })) ∷ st) st
 rebuilt (word.Body at) st = on_head (λ f ps r st. HeadAt f ps r at ∷ st) st
-rebuilt word.EndFunction st = on_body (λ b. on_head_at (λ f ps r at st. AnItem (Defines (record { name = f; params = ps; results = r; body_at = at; body = b })) ∷ st)) st
+rebuilt word.EndFunction st =
+    on_body (λ b. on_head_at (λ f ps r at st. AnItem (Defines (record { name = f; params = ps; results = r; body_at = at; body = b })) ∷ st)) st
 rebuilt w st = st
 
 abbrev pub rebuild : Words → Machine → Machine

@@ -21,7 +21,8 @@ targets_again (Bind x ∷ ts) us at st = targets_again ts (us ++ Bind x ∷ []) 
 targets_again (Drop ∷ ts) us at st = targets_again ts (us ++ Drop ∷ []) at st ∙ ap (λ l. LetStart at l ∷ st) (append_assoc us (Drop ∷ []) ts)
 
 -- under a sign, where a number may be the least
-operand_again : (op : Unary) (e : Expr) → (Fits e → (st : Machine) → rebuild (words e) st ≡ AnExpr e ∷ st) → Fits e ⊎ IsLeast op e → (st : Machine) → rebuild (words e) st ≡ AnExpr e ∷ st
+operand_again : (op : Unary) (e : Expr) → (Fits e → (st : Machine) → rebuild (words e) st ≡ AnExpr e ∷ st) → Fits e ⊎ IsLeast op e → (st : Machine)
+    → rebuild (words e) st ≡ AnExpr e ∷ st
 operand_again op e f (inl h) st = f h st
 operand_again Neg (Number at n) f (inr h) st = refl
 operand_again op e f (inr h) st = absurd h
@@ -41,11 +42,12 @@ mutual
       (ap (λ l. AnExpr (Call at strict f l) ∷ st) (list_again es))
   expr_again (If at p l r) h st = rebuild_both ((words p ++ word.Then ∷ body_words l) ++ word.Else ∷ body_words r) _ st _
       (rebuild_both (words p ++ word.Then ∷ body_words l) _ st _
-        (rebuild_both (words p) _ st _ (expr_again p h.0 st) _ (body_again l false h.1 (Test p ∷ st))) _ (body_again r true h.2 (Arm p l ∷ st))) _ refl
+      (rebuild_both (words p) _ st _ (expr_again p h.0 st) _ (body_again l false h.1 (Test p ∷ st))) _ (body_again r true h.2 (Arm p l ∷ st))) _ refl
   expr_again (Loop at bound es t) h st =
-      ap (λ ws. rebuild ws st) (append_assoc (word.Loop at ∷ word.Bound bound.at bound.number ∷ first_words (names_of t) es) (turn_words t) (word.EndLoop at bound.number ∷ []))
+      ap (λ ws. rebuild ws st)
+      (append_assoc (word.Loop at ∷ word.Bound bound.at bound.number ∷ first_words (names_of t) es) (turn_words t) (word.EndLoop at bound.number ∷ []))
       ∙ rebuild_both (word.Loop at ∷ word.Bound bound.at bound.number ∷ first_words (names_of t) es) (turn_words t ++ word.EndLoop at bound.number ∷ []) st _
-        (firsts_again es h.1 (names_of t) h.2 bound [] [] st) _ (turn_again t h.3 bound (to_list es) at bound.number st)
+      (firsts_again es h.1 (names_of t) h.2 bound [] [] st) _ (turn_again t h.3 bound (to_list es) at bound.number st)
       ∙ ap (λ l. AnExpr (Loop at bound l t) ∷ st) (list_again es)
 
   parts_again : (es : Exprs) → FitsAll es → (xs : List Expr) (st : Machine) → rebuild (part_words es) (Parts xs ∷ st) ≡ Parts (xs ++ to_list es) ∷ st
@@ -63,7 +65,8 @@ mutual
   firsts_again (More e es) h (y ∷ ys) many bound xs fs st =
       rebuild_both (word.Start y.at y.name ∷ words e) _ (Names bound xs fs ∷ st) _ (expr_again e h.0 (Names bound (xs ++ y ∷ []) fs ∷ st)) _
       (firsts_again es h.1 ys (omega arith) bound (xs ++ y ∷ []) (fs ++ e ∷ []) st
-        ∙ ap (λ l. Names bound l ((fs ++ e ∷ []) ++ to_list es) ∷ st) (append_assoc xs (y ∷ []) ys) ∙ ap (λ l. Names bound (xs ++ y ∷ ys) l ∷ st) (append_assoc fs (e ∷ []) (to_list es)))
+      ∙ ap (λ l. Names bound l ((fs ++ e ∷ []) ++ to_list es) ∷ st) (append_assoc xs (y ∷ []) ys)
+      ∙ ap (λ l. Names bound (xs ++ y ∷ ys) l ∷ st) (append_assoc fs (e ∷ []) (to_list es)))
 
   body_again : (b : Body) (c : Bool) → FitsBody c b → (st : Machine) → rebuild (body_words b) st ≡ unwind st b
   body_again (Let at ts es rest) c h st = rebuild_both ((word.Let at ∷ map target_word ts) ++ word.List ∷ part_words es) _ st _
@@ -77,9 +80,11 @@ mutual
   turn_again : (t : Turn) → FitsTurn t → (bound : NumberAt) (es : List Expr) (at n : ℕ) (st : Machine)
       → rebuild (turn_words t ++ word.EndLoop at n ∷ []) (Names bound (names_of t) es ∷ st) ≡ AnExpr (Loop at bound (of_list es) t) ∷ st
   turn_again (Before xs p b) h bound es at n st = rebuild_both (word.TestFirst ∷ words p ++ word.While ∷ body_words b) _ (Names bound xs es ∷ st) _
-      (rebuild_both (word.TestFirst ∷ words p) _ (Names bound xs es ∷ st) _ (expr_again p h.0 (Names bound xs es ∷ st)) _ (body_again b false h.1 (LoopTest bound xs es p ∷ st))) _ refl
+      (rebuild_both (word.TestFirst ∷ words p) _ (Names bound xs es ∷ st) _ (expr_again p h.0 (Names bound xs es ∷ st)) _
+      (body_again b false h.1 (LoopTest bound xs es p ∷ st))) _ refl
   turn_again (After xs b p) h bound es at n st = rebuild_both (word.BodyFirst ∷ body_words b ++ word.Until ∷ words p) _ (Names bound xs es ∷ st) _
-      (rebuild_both (word.BodyFirst ∷ body_words b) _ (Names bound xs es ∷ st) _ (body_again b false h.0 (Names bound xs es ∷ st)) _ (expr_again p h.1 (LoopBody bound xs es b ∷ st))) _ refl
+      (rebuild_both (word.BodyFirst ∷ body_words b) _ (Names bound xs es ∷ st) _ (body_again b false h.0 (Names bound xs es ∷ st)) _
+      (expr_again p h.1 (LoopBody bound xs es b ∷ st))) _ refl
 
 -- PROGRAMS
 parameters_again : (xs us : List NameAt) (f : NameAt) (r : Option NumberAt) (st : Machine)
@@ -96,9 +101,10 @@ item_again (Cells x len) h st = refl
 item_again (Defines f) h st =
     let M : Words = map (λ (x : NameAt). word.Parameter x.at x.name) f.params in
     rebuild_both (((word.Function f.name.at f.name.name ∷ M) ++ result_words f.results) ++ word.Body f.body_at ∷ body_words f.body) _ st _
-      (rebuild_both ((word.Function f.name.at f.name.name ∷ M) ++ result_words f.results) _ st _
-        (rebuild_both (word.Function f.name.at f.name.name ∷ M) _ st _ (parameters_again f.params [] f.name None st) _ (results_again f.results f.name f.params st)) _
-        (body_again f.body false h.2 (HeadAt f.name f.params f.results f.body_at ∷ st))) _ refl
+    (rebuild_both ((word.Function f.name.at f.name.name ∷ M) ++ result_words f.results) _ st _
+    (rebuild_both (word.Function f.name.at f.name.name ∷ M) _ st _ (parameters_again f.params [] f.name None st) _
+    (results_again f.results f.name f.params st)) _
+    (body_again f.body false h.2 (HeadAt f.name f.params f.results f.body_at ∷ st))) _ refl
 
 abbrev pushed : Program → Machine → Machine
 pushed [] st = st
@@ -107,7 +113,8 @@ pushed (i ∷ p) st = pushed p (AnItem i ∷ st)
 program_again : (p : Program) → FitsProgram p → (st : Machine) → rebuild (program_words p) st ≡ pushed p st
 program_again [] h st = refl
 program_again (i ∷ p) h st = ap (λ ws. rebuild ws st) (flat_map-cons item_words i p)
-    ∙ rebuild_both (item_words i) (program_words p) st _ (item_again i (All-head FitsItem i p h) st) _ (program_again p (All-tail FitsItem i p h) (AnItem i ∷ st))
+    ∙ rebuild_both (item_words i) (program_words p) st _ (item_again i (All-head FitsItem i p h) st) _
+    (program_again p (All-tail FitsItem i p h) (AnItem i ∷ st))
 
 abbrev items_of : Machine → Program → Program
 items_of (AnItem i ∷ st) p = items_of st (i ∷ p)
