@@ -2,7 +2,6 @@
 use Rattle.std.proofs.Common.{◌≡◌, ℕ, ◌<◌, ◌≤◌, List, [], ◌∷◌, ◌++◌, map, length, Option, None, Some, Result, Ok, Err, refl, sym, ap, ◌∙◌, append_assoc, append-nil, arith}
 use Rattle.std.proofs.Math.Nat.{le-max_left, le-max_right}
 use Rattle.std.proofs.lemmas.List.Concat.{flat_map-cons}
-use Rattle.std.proofs.lemmas.List.Elements.{All-head, All-tail}
 use Rattle.operators.specs.declared.Unary.TheVariants.{Neg, Not}
 use Rattle.source.specs.declared.fault.Fault.{Fault}
 use Rattle.source.specs.declared.token.Keyword.TheVariants as keyword
@@ -191,10 +190,10 @@ module _ (limit : ℕ) where
     };
     ends = refl;
   }
-  program_reads (i ∷ p) fits deep = go p (program_reads p (All-tail FitsItem i p fits) (let h = le-max_right (item_depth i) (program_depth p) in omega arith))
+  program_reads (i ∷ p) fits deep = go p (program_reads p (fits.1) (let h = le-max_right (item_depth i) (program_depth p) in omega arith))
     where
       one : ItemReads i
-      one = item_reads i (All-head FitsItem i p fits) (let h = le-max_left (item_depth i) (program_depth p) in omega arith)
+      one = item_reads i (fits.0) (let h = le-max_left (item_depth i) (program_depth p) in omega arith)
 
       tokens_are : (q : Program) → item_tokens i ++ program_tokens q ≡ program_tokens (i ∷ q)
       tokens_are q = sym (flat_map-cons item_tokens i q)

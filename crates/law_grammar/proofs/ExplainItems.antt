@@ -2,7 +2,6 @@
 use Rattle.std.proofs.Common.{◌≡◌, ℕ, ◌≤◌, List, [], ◌∷◌, ◌++◌, map, None, Some, refl, sym, ap, ◌∙◌, append_assoc, append-nil, arith, if◌then◌else◌}
 use Rattle.std.proofs.Math.Nat.{max-le}
 use Rattle.std.proofs.lemmas.List.Concat.{flat_map-cons}
-use Rattle.std.proofs.lemmas.List.Elements.{All-cons}
 use Rattle.source.specs.declared.fault.FaultKind.TheVariants.{Unexpected}
 use Rattle.source.specs.declared.token.Keyword.{Keyword}
 use Rattle.source.specs.declared.token.Keyword.TheVariants as keyword
@@ -38,7 +37,7 @@ module _ (limit : ℕ) where
       → Programs limit (ss ++ ts) (ws ++ vs)
   with_item i ss ts ws vs fits deep p q y = record {
     p = i ∷ y.p;
-    fits = All-cons FitsItem i y.p fits y.fits;
+    fits = (fits, y.fits);
     deep = max-le deep y.deep;
     spelled = flat_map-cons item_tokens i y.p ∙ ap (λ t. t ++ program_tokens y.p) p ∙ ap (λ t. ss ++ t) y.spelled;
     says = flat_map-cons item_words i y.p ∙ ap (λ t. t ++ program_words y.p) q ∙ ap (λ t. ws ++ t) y.says;

@@ -4,7 +4,6 @@ use Rattle.std.specs.Prelude.{◌⊎◌}
 use Rattle.operators.specs.declared.Unary.{Unary}
 use Rattle.operators.specs.declared.Unary.TheVariants.{Neg}
 use Rattle.std.proofs.lemmas.List.Concat.{flat_map-cons}
-use Rattle.std.proofs.lemmas.List.Elements.{All-head, All-tail}
 use Rattle.source.specs.declared.word.Word.TheVariants as word
 use Rattle.source.specs.declared.token.Token.{Token}
 use Rattle.source.specs.Tree.{NameAt, NumberAt, Target, Bind, Drop, Expr, Number, Named, Bracket, Prefix, Infix, Fetch, Store, Call, If, Loop, Exprs, One, More, Body, Let, Do, Give, Chain, Turn, Before, After, Item, Cells, Defines, Program, names_of}
@@ -113,8 +112,8 @@ pushed (i ∷ p) st = pushed p (AnItem i ∷ st)
 program_again : (p : Program) → FitsProgram p → (st : Machine) → rebuild (program_words p) st ≡ pushed p st
 program_again [] h st = refl
 program_again (i ∷ p) h st = ap (λ ws. rebuild ws st) (flat_map-cons item_words i p)
-    ∙ rebuild_both (item_words i) (program_words p) st _ (item_again i (All-head FitsItem i p h) st) _
-    (program_again p (All-tail FitsItem i p h) (AnItem i ∷ st))
+    ∙ rebuild_both (item_words i) (program_words p) st _ (item_again i (h.0) st) _
+    (program_again p (h.1) (AnItem i ∷ st))
 
 abbrev items_of : Machine → Program → Program
 items_of (AnItem i ∷ st) p = items_of st (i ∷ p)

@@ -2,7 +2,6 @@
 -- it has read at any time goes on to such a program.
 use Rattle.std.proofs.Common.{◌≡◌, ℕ, ◌+◌, ◌≤◌, Bool, true, List, [], ◌∷◌, ◌++◌, map, length, Option, None, Some, Result, Ok, Err, refl, sym, ap, ◌∙◌, subst, append_assoc, append-nil, arith}
 use Rattle.std.specs.Prelude.{⊤}
-use Rattle.std.proofs.lemmas.List.Elements.{All-nil}
 use Rattle.lemmas.proofs.Lists.{map_append}
 use Rattle.source.specs.declared.fault.Fault.{Fault}
 use Rattle.source.specs.declared.token.Sign.TheVariants as sign
@@ -10,7 +9,7 @@ use Rattle.source.specs.declared.token.Keyword.TheVariants as keyword
 use Rattle.source.specs.declared.token.Token.{Token}
 use Rattle.source.specs.Tree.{Name, Number, One, Give, Program}
 use Rattle.source.specs.Spelled.{Lexeme, TheWord, TheSign, TheNumber, TheName, lexeme, Spelling, program_tokens}
-use Rattle.source.specs.Fits.{FitsItem, FitsProgram, program_depth}
+use Rattle.source.specs.Fits.{FitsProgram, program_depth}
 use Rattle.source.specs.Words.{Words, program_words}
 use Rattle.source.specs.Parses.{Parses, lexemes, says}
 use Rattle.law_grammar.specs.declared.symbol.Symbol.{Symbol}
@@ -34,7 +33,7 @@ module _ (limit : ℕ) (K : List Spelling → Words → Type 0) where
   finish_later ss ws us (Some vs) h = subst (λ ts. K ts (ws ++ (us ++ vs))) (append-nil ss) (rw (← append_assoc ws us vs) h)
 
   no_program : Programs limit [] []
-  no_program = record { p = []; fits = All-nil FitsItem; deep = omega arith; spelled = refl; says = refl }
+  no_program = record { p = []; fits = tt; deep = omega arith; spelled = refl; says = refl }
 
   pub finish_right : (S : Stack) (ss : List Spelling) (ws : Words) → Given limit S K ss ws → FinishesWith K ss ws (finish S)
   finish_right [] ss ws given = rw (append-nil ws) given
