@@ -17,7 +17,7 @@ use Rattle.source.specs.Words.{Words}
 use Rattle.law_grammar.specs.declared.symbol.Symbol.{Symbol}
 use Rattle.law_grammar.specs.declared.symbol.Symbol.TheVariants.{Sign as OneSign, Keyword as OneWord, Emit, Items, ArrayName, ArrayLength, FunctionName, Parameter, Parameters, Results, ResultCount, FunctionBody, Steps, Target as OneTarget, Targets, LetEnd, StepEnd, Operand, Negated, After, AfterName, AfterIndex, Callee, CallEnd, Otherwise, Bound, Start, Starts, Turn as OneTurn}
 use Rattle.law_grammar.specs.Automaton.{Stack, Outcome, Takes, Passes, Refuses, appending, above, within, small, is_sign, is_word, infix_of, goes_on, after_infix, after_sign, after, after_name, after_index, conditional, operand_word, operand_sign, operand, negated, callee, call_end, otherwise, bound, start, starts, turn, steps, target, targets, let_end, step_end, items, array_name, array_length, function_name, parameter, parameters, function_body, results, result_count, step}
-use Rattle.law_grammar.proofs.Meaning.{Ready}
+use Rattle.law_grammar.specs.Ready.{Ready}
 use Rattle.law_grammar.proofs.Leads.{within_is}
 
 -- the same up to places

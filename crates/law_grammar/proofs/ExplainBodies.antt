@@ -10,7 +10,8 @@ use Rattle.source.specs.Words.{Words, target_word, part_words, body_words}
 use Rattle.law_grammar.specs.declared.symbol.Symbol.TheVariants.{Steps, Target as OneTarget, Targets, StepEnd, Operand}
 use Rattle.law_grammar.specs.Automaton.{Stack, Outcome, Takes, Passes, Refuses, appending, above, operand, steps, target, targets}
 use Rattle.law_grammar.proofs.Yielded.{AreAll, IsBody, Operands, Ending, Further, Last, ending_tokens, ending_words, body_of, Bodies}
-use Rattle.law_grammar.proofs.Meaning.{Yields, Ready, Explains, takes, refuses}
+use Rattle.law_grammar.specs.Ready.{Ready}
+use Rattle.law_grammar.proofs.Meaning.{Yields, Explains, takes, refuses}
 use Rattle.law_grammar.proofs.Givens.{deep_max, explains_above}
 use Rattle.law_grammar.proofs.ExplainOperands.{explains_operand}
 use Rattle.law_grammar.proofs.ExplainLists.{listed_is}

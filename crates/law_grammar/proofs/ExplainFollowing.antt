@@ -15,7 +15,8 @@ use Rattle.source.specs.Words.{words}
 use Rattle.law_grammar.specs.declared.symbol.Symbol.TheVariants.{After, AfterName, AfterIndex}
 use Rattle.law_grammar.specs.Automaton.{appending, goes_on, after_infix, after_cell, after, after_name, after_index}
 use Rattle.law_grammar.proofs.Yielded.{IsOperand, Operands}
-use Rattle.law_grammar.proofs.Meaning.{Ready, Explains, takes, passes, refuses}
+use Rattle.law_grammar.specs.Ready.{Ready}
+use Rattle.law_grammar.proofs.Meaning.{Explains, takes, passes, refuses}
 use Rattle.law_grammar.proofs.Givens.{deep_max, regroup, none_between, explains_if, explains_within, explains_as, as_operand}
 
 -- BEHIND AN OPERAND

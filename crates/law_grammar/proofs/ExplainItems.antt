@@ -16,7 +16,8 @@ use Rattle.law_grammar.specs.declared.symbol.Symbol.{Symbol}
 use Rattle.law_grammar.specs.declared.symbol.Symbol.TheVariants.{Sign as OneSign, Keyword as OneWord, Emit, Items, ArrayName, ArrayLength, FunctionName, Parameter, Parameters, Results, ResultCount, FunctionBody, Steps, Target as OneTarget, Targets, LetEnd, StepEnd, Operand, Negated, After, AfterName, AfterIndex, Callee, CallEnd, Otherwise, Bound, Start, Starts, Turn as OneTurn}
 use Rattle.law_grammar.specs.Automaton.{Takes, Refuses, is_sign, is_word, items, array_name, array_length, function_name, parameter, parameters, results, result_count, function_body, step}
 use Rattle.law_grammar.proofs.Yielded.{Programs}
-use Rattle.law_grammar.proofs.Meaning.{Ready, Explains, takes, passes, refuses}
+use Rattle.law_grammar.specs.Ready.{Ready}
+use Rattle.law_grammar.proofs.Meaning.{Explains, takes, passes, refuses}
 use Rattle.law_grammar.proofs.Givens.{explains_if, explains_small}
 use Rattle.law_grammar.proofs.Terminals.{that_sign, that_word}
 use Rattle.law_grammar.proofs.ExplainFollowing.{explains_after, explains_after_name, explains_after_index}

@@ -9,7 +9,8 @@ use Rattle.source.specs.Words.{Words, words, part_words, first_words, body_words
 use Rattle.law_grammar.specs.declared.symbol.Symbol.TheVariants.{LetEnd, StepEnd, Callee, CallEnd, Bound, Start, Starts, Turn as OneTurn}
 use Rattle.law_grammar.specs.Automaton.{callee, call_end, bound, start, starts, turn, let_end, step_end}
 use Rattle.law_grammar.proofs.Yielded.{IsOperand, AreAll, Further, Last, further}
-use Rattle.law_grammar.proofs.Meaning.{Ready, Explains, takes, refuses}
+use Rattle.law_grammar.specs.Ready.{Ready}
+use Rattle.law_grammar.proofs.Meaning.{Explains, takes, refuses}
 use Rattle.law_grammar.proofs.Givens.{deep_max, explains_small}
 
 -- LISTS

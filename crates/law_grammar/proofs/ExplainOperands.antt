@@ -16,7 +16,8 @@ use Rattle.source.specs.Words.{Words, words, body_words}
 use Rattle.law_grammar.specs.declared.symbol.Symbol.TheVariants.{Operand, Negated, After, Otherwise, Emit}
 use Rattle.law_grammar.specs.Automaton.{conditional, operand_word, operand_sign, operand, negated, otherwise}
 use Rattle.law_grammar.proofs.Yielded.{IsOperand, IsBody, Operands, Negateds, Bodies, Branches}
-use Rattle.law_grammar.proofs.Meaning.{Given, Ready, AllReady, Explains, takes, refuses}
+use Rattle.law_grammar.specs.Ready.{Ready, AllReady}
+use Rattle.law_grammar.proofs.Meaning.{Given, Explains, takes, refuses}
 use Rattle.law_grammar.proofs.Givens.{deep_max, none_between, none_after, none_between₂, regroup_tokens, regroup_words, given_then, explains_if, explains_within, explains_small, explains_for, as_operand, ready_append}
 
 module _ (limit : ℕ) where

@@ -13,7 +13,7 @@ use Rattle.source.specs.Words.{Words}
 use Rattle.source.specs.Parses.{GoesOn, GoesOnDeeply, IsNoCell, IsTooLarge, IsKindAt, IsRefusedAt, IsUnended, Refuses, at_token, at_end, lexemes, says}
 use Rattle.law_grammar.specs.declared.symbol.Symbol.TheVariants.{Items}
 use Rattle.law_grammar.specs.Automaton.{Placed, placed, Moved, advance, finish, parsed}
-use Rattle.law_grammar.proofs.Meaning.{AllReady}
+use Rattle.law_grammar.specs.Ready.{AllReady}
 use Rattle.law_grammar.proofs.Runs.{advance_all, Ran, whole, unended, stopped, ran}
 use Rattle.law_grammar.proofs.Sound.{said, said_lexemes, goes, ready_so_far}
 use Rattle.law_grammar.proofs.Complete.{program_advances}

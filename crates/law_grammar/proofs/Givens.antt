@@ -9,7 +9,8 @@ use Rattle.source.specs.Words.{Words}
 use Rattle.law_grammar.specs.declared.symbol.Symbol.{Symbol}
 use Rattle.law_grammar.specs.Automaton.{Stack, Outcome, Takes, Passes, Refuses, appending, above, within, small}
 use Rattle.law_grammar.proofs.Yielded.{Operands}
-use Rattle.law_grammar.proofs.Meaning.{Yields, Given, Ready, AllReady, Explains, takes, passes, refuses}
+use Rattle.law_grammar.specs.Ready.{Ready, AllReady}
+use Rattle.law_grammar.proofs.Meaning.{Yields, Given, Explains, takes, passes, refuses}
 
 -- DEPTHS
 pub deep_max : (d a b limit : ℕ) → d + a ≤ limit → d + b ≤ limit → d + max a b ≤ limit

@@ -1,5 +1,5 @@
 -- WHAT A SYMBOL READS: for each symbol, the tokens that it stands for and the words that come of them.
-use Rattle.std.specs.Prelude.{◌≡◌, ℕ, ◌+◌, ◌≤◌, List, [], ◌∷◌, ◌++◌, Option, None, ⊤}
+use Rattle.std.specs.Prelude.{ℕ, ◌+◌, List, [], ◌∷◌, ◌++◌, Option}
 use Rattle.source.specs.declared.fault.FaultKind.{FaultKind}
 use Rattle.source.specs.declared.token.Sign.TheVariants as sign
 use Rattle.source.specs.declared.word.Word.TheVariants as word
@@ -8,8 +8,9 @@ use Rattle.source.specs.Spelled.{Lexeme, Spelling, the_word, the_sign, name_at, 
 use Rattle.source.specs.Words.{Words, words}
 use Rattle.law_grammar.specs.declared.symbol.Symbol.{Symbol}
 use Rattle.law_grammar.specs.declared.symbol.Symbol.TheVariants.{Sign as OneSign, Keyword as OneWord, Emit, Items, ArrayName, ArrayLength, FunctionName, Parameter, Parameters, Results, ResultCount, FunctionBody, Steps, Target as OneTarget, Targets, LetEnd, StepEnd, Operand, Negated, After, AfterName, AfterIndex, Callee, CallEnd, Otherwise, Bound, Start, Starts, Turn as OneTurn}
-use Rattle.law_grammar.specs.Automaton.{Stack, Outcome, Takes, Passes, Refuses, infix_of}
+use Rattle.law_grammar.specs.Automaton.{Stack, Outcome, Takes, Passes, Refuses}
 use Rattle.law_grammar.proofs.Yielded.{IsOperand, Only, Operands, Negateds, Arguments, Callees, Values, StepTails, Bodies, Branches, OneOfTargets, TargetTails, OneStart, Firsts, Turns, Bounds, Programs, OneName, OneNumber, ParameterTails, FunctionBodies, ResultsAndBodies}
+use Rattle.law_grammar.specs.Ready.{AllReady}
 
 -- EACH SYMBOL
 abbrev pub Yields : ℕ → Symbol Name → List Spelling → Words → Type 0
@@ -49,42 +50,6 @@ Yields limit (OneTurn d) ss ws = (xs : List NameAt) → Turns limit d xs ss ws
 abbrev pub Given : ℕ → Stack → (List Spelling → Words → Type 0) → List Spelling → Words → Type 0
 Given limit [] K ss ws = K ss ws
 Given limit (s ∷ S) K ss ws = (ts : List Spelling) (vs : Words) → Yields limit s ts vs → Given limit S K (ss ++ ts) (ws ++ vs)
-
--- WHAT STANDS ON A STACK can be read to its end within the limit.
-abbrev pub Ready : ℕ → Symbol Name → Type 0
-Ready limit (OneSign s) = infix_of s ≡ None
-Ready limit (OneWord k) = ⊤
-Ready limit (Emit w) = ⊤
-Ready limit Items = 1 ≤ limit
-Ready limit ArrayName = ⊤
-Ready limit ArrayLength = ⊤
-Ready limit FunctionName = ⊤
-Ready limit Parameter = ⊤
-Ready limit Parameters = ⊤
-Ready limit Results = 1 ≤ limit
-Ready limit ResultCount = ⊤
-Ready limit FunctionBody = 1 ≤ limit
-Ready limit (Steps d) = d + 1 ≤ limit
-Ready limit OneTarget = ⊤
-Ready limit (Targets bound d) = d + 1 ≤ limit
-Ready limit (LetEnd bound d) = d + 1 ≤ limit
-Ready limit (StepEnd d) = d + 1 ≤ limit
-Ready limit (Operand m d) = (m ≤ 8) × (d ≤ limit)
-Ready limit (Negated d) = d ≤ limit
-Ready limit (After m k d) = (m ≤ k) × (d ≤ limit)
-Ready limit (AfterName named x m d) = (m ≤ 8) × (d ≤ limit)
-Ready limit (AfterIndex cell a m d) = (m ≤ 8) × (d + 1 ≤ limit)
-Ready limit (Callee d) = d + 1 ≤ limit
-Ready limit (CallEnd called strict f d) = d + 1 ≤ limit
-Ready limit (Otherwise d) = d + 1 ≤ limit
-Ready limit (Bound loop d) = d + 1 ≤ limit
-Ready limit (Start d) = d + 1 ≤ limit
-Ready limit (Starts d) = d + 1 ≤ limit
-Ready limit (OneTurn d) = d + 1 ≤ limit
-
-abbrev pub AllReady : ℕ → Stack → Type 0
-AllReady limit [] = ⊤
-AllReady limit (s ∷ S) = Ready limit s × AllReady limit S
 
 -- WHAT A SYMBOL DOES WITH A TOKEN IS RIGHT: what comes in its place, with the token before, is what it reads.
 pub data Explains (limit : ℕ) (s : Symbol Name) (at : ℕ) (l : Lexeme) : Outcome → Type 0 where

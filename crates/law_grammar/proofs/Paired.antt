@@ -14,7 +14,7 @@ use Rattle.source.specs.Words.{Words}
 use Rattle.law_grammar.specs.declared.symbol.Symbol.{Symbol}
 use Rattle.law_grammar.specs.declared.symbol.Symbol.TheVariants.{Sign as OneSign, Emit, ArrayLength, ResultCount, Steps, StepEnd, Operand, Negated, After, AfterName, AfterIndex, Bound}
 use Rattle.law_grammar.specs.Automaton.{Stack, Outcome, Takes, Passes, Refuses, appending, above, is_sign, infix_of, goes_on, after, step, Moved, moved_after, advance_by, advance}
-use Rattle.law_grammar.proofs.Meaning.{Ready, AllReady}
+use Rattle.law_grammar.specs.Ready.{Ready, AllReady}
 use Rattle.law_grammar.proofs.Terminals.{that_sign}
 use Rattle.law_grammar.proofs.Leads.{within_is}
 

@@ -38,6 +38,10 @@ expression e = function (Give (One e))
 abbrev refused : FaultKind → ℕ → Result Words Fault
 refused kind at = Err (record { kind = kind; at = at })
 
+-- all of it on one line, with the least spacing
+least_spacing : is_ok (read (codes "fn main(n)->1{let a=1;a--n*-3+~-n&1|n^2<<1>>n}")) ≡ true
+least_spacing = refl
+
 -- ITEMS
 no_items : read [] ≡ Ok []
 no_items = refl
@@ -118,6 +122,12 @@ steps = refl
 -- FAULTS
 numeral : read (around (codes "n-9223372036854775808")) ≡ refused BadNumber 10
 numeral = refl
+
+numeral_alone : read (codes "fn main(n) { 9223372036854775808 }") ≡ refused BadNumber 13
+numeral_alone = refl
+
+two_least : is_ok (read (codes "fn main(n) { -9223372036854775808 - -9223372036854775808 }")) ≡ true
+two_least = refl
 
 large_length : read (codes "array A[9223372036854775808];") ≡ refused BadNumber 8
 large_length = refl

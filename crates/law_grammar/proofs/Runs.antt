@@ -10,7 +10,8 @@ use Rattle.source.specs.Tree.{Name}
 use Rattle.source.specs.Words.{Words}
 use Rattle.law_grammar.specs.declared.symbol.Symbol.{Symbol}
 use Rattle.law_grammar.specs.Automaton.{Stack, Outcome, Takes, Passes, Refuses, Placed, placed, Moved, moved_after, advance_by, advance, finish, words_after, finished, run_on, run}
-use Rattle.law_grammar.proofs.Meaning.{Given, AllReady, Explains, takes, passes}
+use Rattle.law_grammar.specs.Ready.{AllReady}
+use Rattle.law_grammar.proofs.Meaning.{Given, Explains, takes, passes}
 use Rattle.law_grammar.proofs.Givens.{given_then, ready_append}
 use Rattle.law_grammar.proofs.ExplainItems.{explained}
 
@@ -103,6 +104,18 @@ module _ (limit : ℕ) (K : List Spelling → Words → Type 0) (at : ℕ) (l : 
   advanced [] ss ws r given = refused
   advanced (s ∷ below) ss ws r given =
       advanced_by s below ss ws r.1 given (λ vs further. advanced below ss (ws ++ vs) r.1 further) _ (explained limit s at l r.0)
+
+-- STACKS ARE KEPT READY
+given_always : (limit : ℕ) (S : Stack) (ss : List Spelling) (ws : Words) → Given limit S (λ ts vs. ⊤) ss ws
+given_always limit [] ss ws = tt
+given_always limit (s ∷ S) ss ws = λ ts vs y. given_always limit S (ss ++ ts) (ws ++ vs)
+
+pub ready_kept : (limit : ℕ) (S : Stack) (at : ℕ) (l : Lexeme) (m : Moved) → AllReady limit S → advance limit S at l ≡ Ok m → AllReady limit m.stack
+ready_kept limit S at l m r e =
+    from (subst (λ x. Advanced limit (λ ts vs. ⊤) [] [] at l x) e (advanced limit (λ ts vs. ⊤) at l S [] [] r (given_always limit S [] [])))
+  where
+    from : Advanced limit (λ ts vs. ⊤) [] [] at l (Ok m) → AllReady limit m.stack
+    from (moved place is ready given) = ready
 
 pub data AdvancedAll (limit : ℕ) (K : List Spelling → Words → Type 0) (ss : List Spelling) (ws : Words) (ps : List Placed) : Result Moved FaultKind
     → Type 0 where

@@ -16,7 +16,8 @@ use Rattle.law_grammar.specs.declared.symbol.Symbol.{Symbol}
 use Rattle.law_grammar.specs.declared.symbol.Symbol.TheVariants.{Sign as OneSign, Keyword as OneWord, Emit, Items, ArrayName, ArrayLength, FunctionName, Parameter, Parameters, Results, ResultCount, FunctionBody, Steps, Target as OneTarget, Targets, LetEnd, StepEnd, Operand, Negated, After, AfterName, AfterIndex, Callee, CallEnd, Otherwise, Bound, Start, Starts, Turn as OneTurn}
 use Rattle.law_grammar.specs.Automaton.{Stack, Takes, Passes, Placed, placed, Moved, ended_then, finish, parsed}
 use Rattle.law_grammar.proofs.Yielded.{Programs}
-use Rattle.law_grammar.proofs.Meaning.{Yields, Given, Ready, AllReady, Explains, takes, passes}
+use Rattle.law_grammar.specs.Ready.{Ready, AllReady}
+use Rattle.law_grammar.proofs.Meaning.{Yields, Given, Explains, takes, passes}
 use Rattle.law_grammar.proofs.ExplainFollowing.{explains_fetch}
 use Rattle.law_grammar.proofs.ExplainItems.{explained}
 use Rattle.law_grammar.proofs.Runs.{Spells, are_spelled, advance_all, Ran, whole, ran, AdvancedAll, moved_all, advanced_all}

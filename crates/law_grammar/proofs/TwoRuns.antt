@@ -1,28 +1,17 @@
 -- TWO RUNS over the same tokens, wherever they stand and however much may be open.
 use Rattle.std.proofs.Common.{◌≡◌, ℕ, ◌+◌, ◌<◌, ◌≤◌, List, [], ◌∷◌, ◌++◌, Result, Ok, Err, refl, subst}
-use Rattle.std.specs.Prelude.{◌⊎◌, ⊤}
+use Rattle.std.specs.Prelude.{◌⊎◌}
 use Rattle.source.specs.declared.fault.FaultKind.{FaultKind}
 use Rattle.source.specs.declared.fault.FaultKind.TheVariants as fault
-use Rattle.source.specs.Spelled.{Lexeme, Spelling}
+use Rattle.source.specs.Spelled.{Lexeme}
 use Rattle.source.specs.Words.{Words}
 use Rattle.law_grammar.specs.Automaton.{Stack, Outcome, Placed, Moved, moved_after, advance_by, advance}
-use Rattle.law_grammar.proofs.Meaning.{Given, AllReady}
-use Rattle.law_grammar.proofs.Runs.{moved_by, advance_all, Advanced, moved, advanced}
+use Rattle.law_grammar.specs.Ready.{AllReady}
+use Rattle.law_grammar.proofs.Runs.{moved_by, advance_all}
 use Rattle.law_grammar.proofs.Sound.{said}
 use Rattle.law_grammar.proofs.Alike.{AlikeStacks, both_empty, on_top, alike_append, Blame, Like, take_alike, pass_alike, refuse_alike, both_too_deep, one_too_deep}
 use Rattle.law_grammar.proofs.Alike.{like_step}
-
--- STACKS ARE KEPT READY
-given_always : (limit : ℕ) (S : Stack) (ss : List Spelling) (ws : Words) → Given limit S (λ ts vs. ⊤) ss ws
-given_always limit [] ss ws = tt
-given_always limit (s ∷ S) ss ws = λ ts vs y. given_always limit S (ss ++ ts) (ws ++ vs)
-
-ready_kept : (limit : ℕ) (S : Stack) (at : ℕ) (l : Lexeme) (m : Moved) → AllReady limit S → advance limit S at l ≡ Ok m → AllReady limit m.stack
-ready_kept limit S at l m r e =
-    from (subst (λ x. Advanced limit (λ ts vs. ⊤) [] [] at l x) e (advanced limit (λ ts vs. ⊤) at l S [] [] r (given_always limit S [] [])))
-  where
-    from : Advanced limit (λ ts vs. ⊤) [] [] at l (Ok m) → AllReady limit m.stack
-    from (moved place is ready given) = ready
+use Rattle.law_grammar.proofs.Runs.{ready_kept}
 
 -- TWO RUNS
 pub data LikeMoved (limit most : ℕ) (l : Lexeme) : Result Moved FaultKind → Result Moved FaultKind → Type 0 where
