@@ -161,7 +161,8 @@ module _ (limit : ℕ) where
         t = Before xs y₁.e y₄.b;
         ok = record { fits = (y₁.ok.fits, y₄.ok.fits); deep = deep_max d _ _ limit (let g = y₁.ok.deep in omega arith) y₄.ok.deep };
         names = refl;
-        spelled = rw (y₁.spelled, y₂.spelled, y₃.spelled, y₄.spelled) (ap (λ t. the_word keyword.While ∷ t) (test_first_tokens ss₁ ss₄ (the_sign sign.OpenBrace)));
+        spelled = rw (y₁.spelled, y₂.spelled, y₃.spelled, y₄.spelled)
+            (ap (λ t. the_word keyword.While ∷ t) (test_first_tokens ss₁ ss₄ (the_sign sign.OpenBrace)));
         says = rw (y₁.says, y₂.says, y₃.says, y₄.says) (ap (λ t. word.TestFirst ∷ t) (test_first_words ws₁ ws₄ word.While));
       })
   explains_turn d at (TheSign sign.OpenBrace) r =
