@@ -1,0 +1,26 @@
+mod ReadPrograms
+pub mod Yielded
+pub mod Meaning
+pub mod Givens
+pub mod Terminals
+pub mod ExplainFollowing
+pub mod ExplainOperands
+pub mod ExplainLists
+pub mod ExplainBodies
+pub mod ExplainItems
+pub mod Runs
+pub mod Sound
+pub mod Leads
+pub mod Followed
+pub mod ReadOperands
+pub mod ReadForms
+pub mod ReadBodies
+pub mod Complete
+pub mod Alike
+pub mod Paired
+pub mod TwoRuns
+pub mod GoingOn
+pub mod FirstFault
+pub mod Rebuilding
+pub mod Rebuilt
+pub mod Theorem
