@@ -1,6 +1,6 @@
 //! How much parallelism a graph has.
 
-ghost use Rattle.std.specs.Prelude.{◌≡◌, ◌≢◌, ◌+◌, ◌⊎◌, ℕ, List, [], false, length, map, if◌then◌else◌, IfErr, IfOk, MatchResult};
+ghost use Rattle.std.specs.Prelude.{◌≡◌, ◌≢◌, ◌+◌, ◌⊎◌, ℕ, List, [], false, true, length, map, IfErr, IfOk, MatchResult};
 ghost use Rattle.semantics.specs.Graph.{Graph};
 ghost use Rattle.profile_text.specs.Picture.{greatest_from};
 ghost use Rattle.semantics.specs.declared.report.End.{End};
@@ -163,7 +163,8 @@ fn rows_of<R: Threads + Wait + Sync, A: Allocator + Clone + Send + Sync>(
 
 /// Whether there is a number in the set.
 fn has_some(sizes: Sizes) -> bool
-    ensures { if result then IsChosen sizes else (sizes_below sizes 64 ≡ []) }
+    ensures some { result ≡ true → IsChosen sizes }
+    ensures none { result ≡ false → sizes_below sizes 64 ≡ [] }
 {
     for elements in 0..SIZES {
         if sizes.has(elements) {

@@ -5,10 +5,10 @@ use Rattle.commands.proofs.Rowed.{no_row_of, rows_of_none}
 use Rattle.commands.proofs.profiling.rows_of_graph.Goals as goal
 
 pub returns-then-has_some : goal.returns-then-has_some
-returns-then-has_some g c = λ text good. rows_of_none text c.args.inputs.now c.args.options.now c.args.sizes _ (rw c.if-has_some.false at c.has_some.ensures) c.new.ensures.items
+returns-then-has_some g c = λ text good. rows_of_none text c.args.inputs.now c.args.options.now c.args.sizes _ (c.has_some.ensures.none c.if-has_some.false) c.new.ensures.items
 
 pub returns-in-Err : goal.returns-in-Err
-returns-in-Err g c = λ text good. inr (no_row_of text c.args.inputs.now c.args.options.now c.args.sizes c.args.checked.now good (rw c.if-has_some.true at c.has_some.ensures) c.in-Err.fault c.in-Err.ensures c.from.result c.from.ensures)
+returns-in-Err g c = λ text good. inr (no_row_of text c.args.inputs.now c.args.options.now c.args.sizes c.args.checked.now good (c.has_some.ensures.some c.if-has_some.true) c.in-Err.fault c.in-Err.ensures c.from.result c.from.ensures)
 
 pub returns : goal.returns
 returns g c = λ text good.
