@@ -59,8 +59,8 @@ none_in_all z n enough few none = let e : 64 ≡ n = omega (arith, enough, few) 
 
 -- a row for each number of a set that has none
 pub rows_of_none : (text : List ℕ) (inputs : List ℤ) (o : RunOptions) (z : Sizes) (rows : List MachineRow) → sizes_below z 64 ≡ [] → rows ≡ [] → AreRows text inputs o (sizes_below z 64) rows
-rows_of_none text inputs o z rows none no =
-    subst (λ (ns : List ℕ). AreRows text inputs o ns rows) (sym none) (subst (λ (l : List MachineRow). AreRows text inputs o [] l) (sym no) tt)
+rows_of_none text inputs o z rows none empty =
+    subst (λ (ns : List ℕ). AreRows text inputs o ns rows) (sym none) (subst (λ (l : List MachineRow). AreRows text inputs o [] l) (sym empty) tt)
 
 -- a graph that has no object has no row of the first number
 pub no_row_of : (text : List ℕ) (inputs : List ℤ) (o : RunOptions) (z : Sizes) (g : Graph) → IsGoodText text g → IsChosen z → (fault : Fault) → IsTooLarge g fault → (f : Refusal) → f ≡ told_as fault → IsNoRow text inputs o z f

@@ -26,8 +26,8 @@ returns g c = λ text gr compiled.
       bytes = bytes;
       report = report;
       moments = moments;
-      watched = is_watched_in_rounds text gr bytes c.args.inputs.now config _ report moments compiled
-          (subst (λ (d : Config). ShowsObject bytes c.args.inputs.now d false _ report) c.config_with-config.ensures c.in-Ok.ensures.shows)
+      watched = is_watched_in_rounds text gr bytes c.args.inputs.now config false report moments compiled
+          (subst (λ (d : Config). ShowsObject bytes c.args.inputs.now d false false report) c.config_with-config.ensures c.in-Ok.ensures.shows)
           (subst (λ (d : Config). AreMoments bytes c.args.inputs.now d report moments) c.config_with-config.ensures c.in-Ok.ensures.moments);
       kept = c.wants_memory.ensures c.if-wants_memory.false;
       number = c.row_of.ensures.number;

@@ -1,6 +1,6 @@
 use Rattle.std.proofs.Common.{sym, ◌∙◌, arith}
 use Rattle.commands.proofs.Rowed.{none_below, none_more, none_in_all}
-use Rattle.commands.proofs.profiling.has_some.Goals as goal
+use Rattle.commands.proofs.profiling.has_none.Goals as goal
 
 pub loop-elements-init : goal.loop-elements-init
 loop-elements-init c = record { few = omega arith; none = none_below c.args.sizes }

@@ -1,6 +1,6 @@
 use Rattle.std.proofs.Common.{◌≡◌, ◌≤◌, []}
 use Rattle.commands.specs.Profiled.{sizes_below}
-use Rattle.commands.proofs.profiling.has_some.Given as goal
+use Rattle.commands.proofs.profiling.has_none.Given as goal
 
 abbrev pub invariant-loop-elements : goal.invariant-loop-elements
 invariant-loop-elements l = record {
