@@ -1,4 +1,4 @@
-use Rattle.std.proofs.Common.{◌≡◌, inl, inr, ap, sym, subst, refl, ◌∙◌, None, ℕ, List}
+use Rattle.std.proofs.Common.{◌≡◌, inl, inr, ap, sym, subst, rules, ◌∙◌, None, ℕ, List}
 use Rattle.object_view.specs.Checks.{first_refusal}
 use Rattle.object_view.specs.Reading.{Opened}
 use Rattle.report_text.specs.ReportText.{object_report_text}
@@ -8,7 +8,9 @@ use Rattle.commands.proofs.Served.{printed, stopped, unopened_exec}
 use Rattle.commands.proofs.serving.print_exec.Goals as goal
 
 pub exec_inputs-requires-clause-object : goal.exec_inputs-requires-clause-object
-exec_inputs-requires-clause-object g c = λ κs. ap first_refusal c.in-Ok.ensures.bytes ∙ c.in-Ok.ensures.opened.1.unrefused
+exec_inputs-requires-clause-object g c =
+    let unrefused : first_refusal c.in-Ok.code.bytes ≡ None = ap first_refusal c.in-Ok.ensures.bytes ∙ c.in-Ok.ensures.opened.1.unrefused in
+    search (rules, unrefused)
 
 pub returns-in-Ok-write_object_report : goal.returns-in-Ok-write_object_report
 returns-in-Ok-write_object_report g c =
