@@ -1,7 +1,6 @@
 use Rattle.std.proofs.Common.{ℕ, List, sym, subst, ◌≡◌, ◌+◌, length, map, refl, false}
 use Rattle.schedule.specs.declared.config.Config.{Config}
 use Rattle.replay.specs.declared.moment.Moment.{Moment}
-use Rattle.command_line.specs.declared.Mode.{Mode}
 use Rattle.profile_text.specs.Picture.{greatest_from}
 use Rattle.driver.specs.declared.fault.Fault.{Fault}
 use Rattle.driver.specs.Listed.{AreMoments}

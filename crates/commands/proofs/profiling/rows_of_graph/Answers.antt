@@ -1,4 +1,4 @@
-use Rattle.std.proofs.Common.{List, ℕ, inl, inr, refl, sym, ap, ◌∙◌, subst}
+use Rattle.std.proofs.Common.{List, ℕ, inr, sym, ap, ◌∙◌, subst}
 use Rattle.object_view.specs.Reading.{Opened}
 use Rattle.driver.specs.Refused.{IsCompiled}
 use Rattle.commands.proofs.Rowed.{no_row_of, rows_of_none}

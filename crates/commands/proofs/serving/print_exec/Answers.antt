@@ -1,4 +1,4 @@
-use Rattle.std.proofs.Common.{◌≡◌, inl, inr, ap, sym, subst, rules, ◌∙◌, None, ℕ, List}
+use Rattle.std.proofs.Common.{◌≡◌, inl, inr, ap, subst, rules, ◌∙◌, None, ℕ, List}
 use Rattle.object_view.specs.Checks.{first_refusal}
 use Rattle.object_view.specs.Reading.{Opened}
 use Rattle.report_text.specs.ReportText.{object_report_text}

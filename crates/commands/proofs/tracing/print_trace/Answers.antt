@@ -1,4 +1,4 @@
-use Rattle.std.proofs.Common.{inl, ap, ◌∙◌, ℕ, List, length}
+use Rattle.std.proofs.Common.{inl, ap, ◌∙◌, List, length}
 use Rattle.semantics.specs.Graph.{Graph}
 use Rattle.object_view.specs.Reading.{Opened}
 use Rattle.replay.specs.declared.moment.Moment.{Moment}
