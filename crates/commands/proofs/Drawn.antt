@@ -1,5 +1,5 @@
 -- Picks, drawn one after the other.
-use Rattle.std.proofs.Common.{◌≡◌, ◌<◌, ◌≤◌, ◌-◌, ◌+◌, ◌++◌, ◌∷◌, [], List, ℕ, zero, suc, refl, ap, sym, ◌∙◌, arith, append_assoc, append-nil}
+use Rattle.std.proofs.Common.{◌≡◌, ◌<◌, ◌≤◌, ◌-◌, ◌+◌, ◌++◌, ◌∷◌, [], List, ℕ, zero, suc, ap, sym, ◌∙◌, arith, append_assoc, append-nil}
 use Rattle.commands.specs.Ordered.{next_number, number_after, pick_of, picks_from}
 
 one_pick : (e n i x : ℕ) → i < n → picks_from e (n - i) x ≡ pick_of e x ∷ picks_from e (n - (i + 1)) (next_number (next_number x))
@@ -42,10 +42,14 @@ after_all n i x le =
 -- picks, and picks after them
 pub picks_joined : (e m n x : ℕ) → picks_from e (m + n) x ≡ picks_from e m x ++ picks_from e n (number_after m x)
 unfolding picks_from number_after
-picks_joined e zero n x = refl
-picks_joined e (suc m) n x = ap (λ (l : List (ℕ × ℕ)). pick_of e x ∷ l) (picks_joined e m n (next_number (next_number x)))
+picks_joined e zero n x = let z : 0 + n ≡ n = omega arith in ap (λ k. picks_from e k x) z
+picks_joined e (suc m) n x =
+    let s : suc m + n ≡ suc (m + n) = omega arith in
+    ap (λ k. picks_from e k x) s ∙ ap (λ (l : List (ℕ × ℕ)). pick_of e x ∷ l) (picks_joined e m n (next_number (next_number x)))
 
 pub after_joined : (m n x : ℕ) → number_after (m + n) x ≡ number_after n (number_after m x)
 unfolding number_after
-after_joined zero n x = refl
-after_joined (suc m) n x = after_joined m n (next_number (next_number x))
+after_joined zero n x = let z : 0 + n ≡ n = omega arith in ap (λ k. number_after k x) z
+after_joined (suc m) n x =
+    let s : suc m + n ≡ suc (m + n) = omega arith in
+    ap (λ k. number_after k x) s ∙ after_joined m n (next_number (next_number x))

@@ -1,5 +1,5 @@
 -- A machine that was played by the picks of an order makes the report of that order.
-use Rattle.std.proofs.Common.{◌≡◌, ℕ, ℤ, List, ◌++◌, ◌⊎◌, inl, inr, true, false, sym, ap, ◌∙◌, subst}
+use Rattle.std.proofs.Common.{◌≡◌, ℕ, ℤ, List, inl, inr, true, false, sym, ap, subst}
 use Rattle.semantics.specs.Graph.{Graph}
 use Rattle.semantics.specs.Machine.{Events}
 use Rattle.semantics.specs.Program.{Program}

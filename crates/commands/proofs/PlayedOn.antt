@@ -1,12 +1,11 @@
 -- A machine that is played on: what it plays by a list and then by another one, it plays by both.
-use Rattle.std.proofs.Common.{◌≡◌, ◌≢◌, ℕ, ◌+◌, ◌*◌, ◌≤◌, ◌⊎◌, inl, inr, true, List, [], ◌∷◌, ◌++◌, Option, Some, None, refl, sym, ap, ◌∙◌, subst, arith, append_assoc, append-nil}
+use Rattle.std.proofs.Common.{◌≡◌, ℕ, ◌+◌, ◌*◌, inl, inr, true, List, [], ◌∷◌, ◌++◌, Option, Some, None, refl, sym, ap, ◌∙◌, subst, arith, append_assoc, append-nil}
 use Rattle.semantics.specs.Machine.{Events}
 use Rattle.element.specs.declared.lane.Stepped.{Stepped}
 use Rattle.element.specs.declared.lane.Stepped.TheVariants.{Idle, Did, Clash, Stuck, Memory}
 use Rattle.schedule.specs.declared.halt.Halt.{Halt}
-use Rattle.schedule.specs.Setting.{Setting}
 use Rattle.schedule.specs.State.{State}
-use Rattle.schedule.specs.Runs.{Kept, Advances, EndsLeft, IsHalt, NamesCell, Plays, Then}
+use Rattle.schedule.specs.Runs.{Kept, Advances, IsHalt, NamesCell, Plays, Then}
 use Rattle.commands.specs.Agreed.{most_picks}
 use Rattle.commands.specs.Ordered.{number_after, picks_from}
 use Rattle.commands.specs.Played.{PlaysDrawn}

@@ -1,5 +1,5 @@
 -- Rows, one after the other.
-use Rattle.std.proofs.Common.{◌≡◌, ℕ, suc, ◌+◌, ◌∷◌, [], ◌++◌, ℤ, Bool, true, false, List, refl, sym, ap, ◌∙◌, subst, append-nil, add-one}
+use Rattle.std.proofs.Common.{◌≡◌, ℕ, suc, ◌+◌, ◌∷◌, [], ◌++◌, ℤ, Bool, true, false, List, refl, sym, ap, ◌∙◌, subst, append-nil, add-one, arith, ◌≤◌}
 use Rattle.std.specs.Prelude.{if◌then◌else◌}
 use Rattle.profile_text.specs.declared.lines.MachineRow.{MachineRow}
 use Rattle.command_line.specs.declared.RunOptions.{RunOptions}
@@ -54,10 +54,13 @@ none_below z = refl
 pub none_more : (z : Sizes) (n : ℕ) (has : Bool) → has ≡ has_size z n → has ≡ false → sizes_below z n ≡ [] → sizes_below z (n + 1) ≡ []
 none_more z n has tells has_none none = ap (λ (m : ℕ). sizes_below z m) (add-one n) ∙ absent z n has tells has_none ∙ none
 
+pub none_in_all : (z : Sizes) (n : ℕ) → 64 ≤ n → n ≤ 64 → sizes_below z n ≡ [] → sizes_below z 64 ≡ []
+none_in_all z n enough few none = let e : 64 ≡ n = omega (arith, enough, few) in ap (λ (m : ℕ). sizes_below z m) e ∙ none
+
 -- a row for each number of a set that has none
 pub rows_of_none : (text : List ℕ) (inputs : List ℤ) (o : RunOptions) (z : Sizes) (rows : List MachineRow) → sizes_below z 64 ≡ [] → rows ≡ [] → AreRows text inputs o (sizes_below z 64) rows
-rows_of_none text inputs o z rows none no =
-    subst (λ (ns : List ℕ). AreRows text inputs o ns rows) (sym none) (subst (λ (l : List MachineRow). AreRows text inputs o [] l) (sym no) tt)
+rows_of_none text inputs o z rows none empty =
+    subst (λ (ns : List ℕ). AreRows text inputs o ns rows) (sym none) (subst (λ (l : List MachineRow). AreRows text inputs o [] l) (sym empty) tt)
 
 -- a graph that has no object has no row of the first number
 pub no_row_of : (text : List ℕ) (inputs : List ℤ) (o : RunOptions) (z : Sizes) (g : Graph) → IsGoodText text g → IsChosen z → (fault : Fault) → IsTooLarge g fault → (f : Refusal) → f ≡ told_as fault → IsNoRow text inputs o z f

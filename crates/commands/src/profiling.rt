@@ -1,6 +1,6 @@
 //! How much parallelism a graph has.
 
-ghost use Rattle.std.specs.Prelude.{◌≡◌, ◌≢◌, ◌+◌, ◌⊎◌, ℕ, List, [], false, length, map, if◌then◌else◌, IfErr, IfOk, MatchResult};
+ghost use Rattle.std.specs.Prelude.{◌≡◌, ◌≢◌, ◌+◌, ◌⊎◌, ℕ, List, [], false, true, length, map, IfErr, IfOk, MatchResult};
 ghost use Rattle.semantics.specs.Graph.{Graph};
 ghost use Rattle.profile_text.specs.Picture.{greatest_from};
 ghost use Rattle.semantics.specs.declared.report.End.{End};
@@ -161,16 +161,17 @@ fn rows_of<R: Threads + Wait + Sync, A: Allocator + Clone + Send + Sync>(
     Ok(rows)
 }
 
-/// Whether there is a number in the set.
-fn has_some(sizes: Sizes) -> bool
-    ensures { if result then IsChosen sizes else (sizes_below sizes 64 ≡ []) }
+/// Whether no number is in the set.
+fn has_none(sizes: Sizes) -> bool
+    ensures some { result ≡ false → IsChosen sizes }
+    ensures none { result ≡ true → sizes_below sizes 64 ≡ [] }
 {
     for elements in 0..SIZES {
         if sizes.has(elements) {
-            return true;
+            return false;
         }
     }
-    false
+    true
 }
 
 /// Compiles the graph, and makes a row for each number of elements, in order. Where there is no number, nothing is compiled.
@@ -186,7 +187,7 @@ fn rows_of_graph<'a, R: Threads + Wait + Sync, A: Allocator + Clone + Send + Syn
         (λ v. AreRows text inputs.now options.now (sizes_below sizes 64) v.items)
         (λ f. (f ≡ Told.Memory) ⊎ IsNoRow text inputs.now options.now sizes f) }
 {
-    if !has_some(sizes) {
+    if has_none(sizes) {
         return Ok(Vec::new(alloc));
     }
     let Ok(room) = alloc.clone() else {

@@ -7,7 +7,6 @@ use Rattle.semantics.specs.Report.{Report, Shows}
 use Rattle.object_view.specs.Reading.{Opened, opened}
 use Rattle.schedule.specs.declared.config.Config.{Config}
 use Rattle.schedule.specs.Setting.{Setting, size}
-use Rattle.schedule.specs.Starts.{Opens}
 use Rattle.schedule.specs.declared.halt.Halt.{Halt}
 use Rattle.schedule.specs.Runs.{Kept, Began, Plays, rounds_of}
 use Rattle.schedule.specs.Told.{IsReportOf}

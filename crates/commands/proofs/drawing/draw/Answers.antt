@@ -7,7 +7,7 @@ use Rattle.commands.proofs.drawing.draw.Goals as goal
 pub loop-drawn-preserved : goal.loop-drawn-preserved
 loop-drawn-preserved g c =
     let so = c.loop-drawn.invariant in
-    let low = omega (arith, c.loop-drawn-test.true) in
+    let low : c.loop-drawn._drawn < c.args.count = omega (arith, c.loop-drawn-test.true) in
     let next = c.next_number-number.ensures ∙ ap next_number c.next_number.ensures in
     record {
       drawn = subst (λ (l : List (ℕ × ℕ)). l ++ picks_from c.args.elements (c.args.count - (c.loop-drawn._drawn + 1)) c.next_number-number.result ≡ picks_from c.args.elements c.args.count c.args.first)

@@ -13,7 +13,7 @@ returns-in-Ok-write_same g c =
       o.checked,
       o.reports.first,
       c.in-Ok.ensures.same (search rules),
-      printed _ _ _ _ _ _ _ (exit_status o.reports.first.end) (ap (λ (h : Graph). same_text c.args.count h o.reports.first) c.graph.ensures.same) c.status_of.ensures c.in-Ok-write_same.ensures,
+      printed _ _ _ _ _ _ _ (exit_status o.reports.first.end) (ap (λ (h : Graph). same_text c.args.count h o.reports.first) c.graph.ensures.same) (c.status_of.ensures ∙ ap (λ x. exit_status x.end) c.first.view_is) c.in-Ok-write_same.ensures,
     )
 
 pub returns-in-None : goal.returns-in-None

@@ -2,7 +2,6 @@ use Rattle.std.proofs.Common.{List, ℕ, sym, ap, ◌∙◌, subst}
 use Rattle.std.proofs.lemmas.Result.{err_from_is_err_and}
 use Rattle.object_view.specs.Reading.{Opened}
 use Rattle.driver.specs.Refused.{IsCompiled}
-use Rattle.driver.proofs.TextObjects.{refused_as_text}
 use Rattle.commands.proofs.orders.run_orders.Goals as goal
 
 pub returns-clause-same : goal.returns-clause-same

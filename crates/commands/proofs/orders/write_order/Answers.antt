@@ -1,8 +1,7 @@
-use Rattle.std.proofs.Common.{ℕ, List, Option, ap}
+use Rattle.std.proofs.Common.{ℕ, List, Option}
 use Rattle.std.proofs.lemmas.Result.{err_from_is_err_and}
-use Rattle.semantics.specs.Graph.{Graph}
 use Rattle.report_text.specs.ReportText.{report_text}
-use Rattle.sink.proofs.Sent.{sends_from, sends_more, sends_less, sends_other, sends_same}
+use Rattle.sink.proofs.Sent.{sends_from, sends_more, sends_less, sends_other}
 use Rattle.commands.specs.Agreed.{order_line}
 use Rattle.commands.proofs.orders.write_order.Goals as goal
 

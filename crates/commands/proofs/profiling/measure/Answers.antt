@@ -1,7 +1,6 @@
 use Rattle.std.proofs.Common.{ℕ, List, sym, subst, ◌≡◌, ◌+◌, length, map, refl, false}
 use Rattle.schedule.specs.declared.config.Config.{Config}
 use Rattle.replay.specs.declared.moment.Moment.{Moment}
-use Rattle.command_line.specs.declared.Mode.{Mode}
 use Rattle.profile_text.specs.Picture.{greatest_from}
 use Rattle.driver.specs.declared.fault.Fault.{Fault}
 use Rattle.driver.specs.Listed.{AreMoments}
@@ -26,8 +25,8 @@ returns g c = λ text gr compiled.
       bytes = bytes;
       report = report;
       moments = moments;
-      watched = is_watched_in_rounds text gr bytes c.args.inputs.now config _ report moments compiled
-          (subst (λ (d : Config). ShowsObject bytes c.args.inputs.now d false _ report) c.config_with-config.ensures c.in-Ok.ensures.shows)
+      watched = is_watched_in_rounds text gr bytes c.args.inputs.now config false report moments compiled
+          (subst (λ (d : Config). ShowsObject bytes c.args.inputs.now d false false report) c.config_with-config.ensures c.in-Ok.ensures.shows)
           (subst (λ (d : Config). AreMoments bytes c.args.inputs.now d report moments) c.config_with-config.ensures c.in-Ok.ensures.moments);
       kept = c.wants_memory.ensures c.if-wants_memory.false;
       number = c.row_of.ensures.number;

@@ -1,14 +1,14 @@
-use Rattle.std.proofs.Common.{List, ℕ, inl, inr, refl, sym, ap, ◌∙◌, subst}
+use Rattle.std.proofs.Common.{List, ℕ, inr, sym, ap, ◌∙◌, subst}
 use Rattle.object_view.specs.Reading.{Opened}
 use Rattle.driver.specs.Refused.{IsCompiled}
 use Rattle.commands.proofs.Rowed.{no_row_of, rows_of_none}
 use Rattle.commands.proofs.profiling.rows_of_graph.Goals as goal
 
-pub returns-then-has_some : goal.returns-then-has_some
-returns-then-has_some g c = λ text good. rows_of_none text c.args.inputs.now c.args.options.now c.args.sizes _ (rw c.if-has_some.false at c.has_some.ensures) c.new.ensures.items
+pub returns-then-has_none : goal.returns-then-has_none
+returns-then-has_none g c = λ text good. rows_of_none text c.args.inputs.now c.args.options.now c.args.sizes _ (c.has_none.ensures.none c.if-has_none.true) c.new.ensures.items
 
 pub returns-in-Err : goal.returns-in-Err
-returns-in-Err g c = λ text good. inr (no_row_of text c.args.inputs.now c.args.options.now c.args.sizes c.args.checked.now good (rw c.if-has_some.true at c.has_some.ensures) c.in-Err.fault c.in-Err.ensures c.from.result c.from.ensures)
+returns-in-Err g c = λ text good. inr (no_row_of text c.args.inputs.now c.args.options.now c.args.sizes c.args.checked.now good (c.has_none.ensures.some c.if-has_none.false) c.in-Err.fault c.in-Err.ensures c.from.result c.from.ensures)
 
 pub returns : goal.returns
 returns g c = λ text good.

@@ -1,4 +1,4 @@
-use Rattle.std.proofs.Common.{◌≡◌, inl, inr, ap, sym, subst, refl, ◌∙◌, None, ℕ, List}
+use Rattle.std.proofs.Common.{◌≡◌, inl, inr, ap, subst, rules, ◌∙◌, None, ℕ, List}
 use Rattle.object_view.specs.Checks.{first_refusal}
 use Rattle.object_view.specs.Reading.{Opened}
 use Rattle.report_text.specs.ReportText.{object_report_text}
@@ -8,7 +8,9 @@ use Rattle.commands.proofs.Served.{printed, stopped, unopened_exec}
 use Rattle.commands.proofs.serving.print_exec.Goals as goal
 
 pub exec_inputs-requires-clause-object : goal.exec_inputs-requires-clause-object
-exec_inputs-requires-clause-object g c = ap first_refusal c.in-Ok.ensures.bytes ∙ c.in-Ok.ensures.opened.1.unrefused
+exec_inputs-requires-clause-object g c =
+    let unrefused : first_refusal c.in-Ok.code.bytes ≡ None = ap first_refusal c.in-Ok.ensures.bytes ∙ c.in-Ok.ensures.opened.1.unrefused in
+    search (rules, unrefused)
 
 pub returns-in-Ok-write_object_report : goal.returns-in-Ok-write_object_report
 returns-in-Ok-write_object_report g c =
@@ -22,8 +24,8 @@ returns-in-Ok-exec_inputs g c =
     let is = subst (λ (bs : List ℕ). IsExecOf bs c.args.options.now c.args.inputs.now r) c.in-Ok.ensures.bytes c.in-Ok-exec_inputs.ensures in
     inl (r, is, stopped _ _ _ _ _ _ (exit_status r.end) (ap (λ (o : Opened). object_report_text o.code.program.arrays r) (c.object.ensures ∙ c.in-Ok.ensures.opened.0)) c.in-Err-write_object_report.ensures)
 
-pub returns-in-Err-exec_inputs : goal.returns-in-Err-exec_inputs
-returns-in-Err-exec_inputs g c =
+pub returns : goal.returns
+returns g c =
     let f = c.in-Err-exec_inputs.refusal in
     inr (f, subst (λ (bs : List ℕ). IsNoExecOf bs c.args.options.now c.args.inputs.now f) c.in-Ok.ensures.bytes c.in-Err-exec_inputs.ensures, c.refuse-in-Err-exec_inputs.ensures)
 

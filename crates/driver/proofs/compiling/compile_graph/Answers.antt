@@ -1,6 +1,6 @@
 use Rattle.std.proofs.Common.{ap, ◌∙◌}
 use Rattle.semantics.specs.Graph.{Graph}
-use Rattle.driver.proofs.TextObjects.{object_bytes, lawful_as}
+use Rattle.driver.proofs.TextObjects.{object_bytes}
 use Rattle.driver.proofs.compiling.compile_graph.Goals as goal
 
 pub returns : goal.returns

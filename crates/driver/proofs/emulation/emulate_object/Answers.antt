@@ -1,4 +1,4 @@
-use Rattle.std.proofs.Common.{List, ℕ, false, subst, sym}
+use Rattle.std.proofs.Common.{List, ℕ, false, subst}
 use Rattle.std.specs.Prelude.{MatchResult, IfOk}
 use Rattle.std.proofs.lemmas.Result.{err_from_is_err_and}
 use Rattle.driver.specs.Headline.{stops_in}

@@ -1,4 +1,4 @@
-use Rattle.std.proofs.Common.{◌∙◌, ap, sym}
+use Rattle.std.proofs.Common.{◌∙◌, ap}
 use Rattle.object_view.specs.Reading.{Opened}
 use Rattle.driver.proofs.OpenedObjects.{is_opened, same_bytes}
 use Rattle.driver.proofs.running.open_code.Goals as goal

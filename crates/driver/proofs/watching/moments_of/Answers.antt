@@ -1,6 +1,5 @@
-use Rattle.std.proofs.Common.{◌≡◌, ◌*◌, ◌∙◌, Ok, Err, sym, ap, refl, rules, subst}
+use Rattle.std.proofs.Common.{◌≡◌, ◌*◌, Ok, Err, sym, refl, rules, subst}
 use Rattle.semantics.specs.Machine.{Events}
-use Rattle.object_view.specs.Reading.{Opened, opened}
 use Rattle.replay.specs.Follows.{IsReplay}
 use Rattle.driver.proofs.ObjectRuns.{object_of, opened_of}
 use Rattle.driver.proofs.Watched.{is_a_run, seen}

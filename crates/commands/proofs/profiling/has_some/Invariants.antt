@@ -1,6 +1,0 @@
-use Rattle.std.proofs.Common.{◌≡◌, []}
-use Rattle.commands.specs.Profiled.{sizes_below}
-use Rattle.commands.proofs.profiling.has_some.Given as goal
-
-abbrev pub invariant-loop-elements : goal.invariant-loop-elements
-invariant-loop-elements l = sizes_below l.sizes l.elements ≡ []
