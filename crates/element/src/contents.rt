@@ -155,7 +155,7 @@ impl<'m, A: Allocator> Contents<'m, A> {
         requires { CanAct (C.program code.now) (C.width code.now) (held_in self.old) at token }
         ensures { ActsAs (C.program code.now) (held_in self.old) at token sent.old.items result (held_in self.new) sent.new.items }
     {
-        if self.acts_at_once(code, at, token) {
+        if self.acts_at_once(code, at, &token) {
             return Stepped::Did;
         }
         self.act_otherwise(code, at, token, sent)
