@@ -193,7 +193,7 @@ impl<'m, A: Allocator> Contents<'m, A> {
         ensures did { result ≡ true → (before : List Token) → FiresAs (Some (passed_on (seat_of seat) passed.now)) (with_place (part_of self.old) cleared Empty) (held_in self.old) at before Did (held_in self.new) before }
         ensures not { result ≡ false → held_in self.new ≡ held_in self.old }
     {
-        if self.make_own_room(2).is_err() {
+        if !self.queue.has_room(2) {
             return false;
         }
         if let Some(place) = cleared {
@@ -218,7 +218,7 @@ impl<'m, A: Allocator> Contents<'m, A> {
         ensures did { result ≡ true → (before : List Token) → FiresAs (Some (left_on (seat_of seat) leaving)) (with_state (part_of self.old) place Empty) (held_in self.old) at before Did (held_in self.new) before }
         ensures not { result ≡ false → held_in self.new ≡ held_in self.old }
     {
-        if !self.keeps(&leaving.token) || self.make_own_room(3).is_err() {
+        if !self.keeps(&leaving.token) || !self.queue.has_room(3) {
             return false;
         }
         self.put_at(place, Slot::empty());
