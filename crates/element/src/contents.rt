@@ -155,10 +155,26 @@ impl<'m, A: Allocator> Contents<'m, A> {
         requires { CanAct (C.program code.now) (C.width code.now) (held_in self.old) at token }
         ensures { ActsAs (C.program code.now) (held_in self.old) at token sent.old.items result (held_in self.new) sent.new.items }
     {
-        if self.acts_at_once(code, at, token) {
+        if self.acts_at_once(code, at, &token) {
             return Stepped::Did;
         }
-        // A copy, so that the token stays in registers.
+        self.act_otherwise(code, at, token, sent)
+    }
+
+    // The same, out of line. What has to lie in memory for that, a copy of the token first of all, is made here.
+    #[inline(always)]
+    fn act_otherwise<C: Instructions>(
+        &mut self,
+        code: &C,
+        at: usize,
+        token: PackedToken,
+        sent: &mut Vec<Token, A>,
+    ) -> Stepped
+    where
+        A: Clone,
+        requires { CanAct (C.program code.now) (C.width code.now) (held_in self.old) at token }
+        ensures { ActsAs (C.program code.now) (held_in self.old) at token sent.old.items result (held_in self.new) sent.new.items }
+    {
         let again = token;
         self.act_unpacked(code, at, again, sent)
     }

@@ -163,8 +163,18 @@ impl<'m, C: MainCode, A: Allocator> Elements<'m, C, A> {
     {
         match self.step(element, pick, log) {
             Some(Stepped::Did) => None,
-            other => self.halted(listed, other),
+            other => self.halts(listed, other),
         }
+    }
+
+    // The same as `halted`. What has to lie in memory to go out of line is made here, and not at each event.
+    #[inline(always)]
+    fn halts(&self, listed: bool, stepped: Option<Stepped>) -> Option<Halt>
+        requires well { IsWell C.program C.width self.now }
+        ensures { IsHalt listed stepped (state_of C.program C.width self.now) result }
+    {
+        let other = stepped;
+        self.halted(listed, other)
     }
 
     // Whether a run halts at a step that made no event.

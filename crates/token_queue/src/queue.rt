@@ -1,6 +1,6 @@
 //! Packed tokens in a ring of places.
 
-ghost use Rattle.std.specs.Prelude.{◌≡◌, ◌+◌, ◌*◌, ◌%◌, ◌^◌, ◌<◌, ◌≤◌, ◌⊎◌, [], ◌∷◌, ◌++◌, length, OnOk, OnErr, slice_index_or, remove};
+ghost use Rattle.std.specs.Prelude.{◌≡◌, ◌+◌, ◌*◌, ◌%◌, ◌^◌, ◌<◌, ◌≤◌, ◌⊎◌, true, false, [], ◌∷◌, ◌++◌, length, OnOk, OnErr, slice_index_or, remove};
 ghost use Rattle.token_queue.specs.Ring.{IsPower};
 
 use packed::token::PackedToken;
@@ -73,6 +73,15 @@ impl<A: Allocator> TokenQueue<A> {
         self.count
     }
 
+    /// Whether there is room for `tokens` more tokens.
+    #[inline(always)]
+    pub fn has_room(&self, tokens: usize) -> bool
+        ensures yes { result ≡ true → length self.now.items + tokens ≤ self.now.room }
+        ensures no { result ≡ false → self.now.room < length self.now.items + tokens }
+    {
+        tokens <= self.places.len() - self.count
+    }
+
     /// Makes room for `tokens` more tokens; room that is there already stays as it is. After an error all stands as before.
     #[inline(always)]
     pub fn reserve(&mut self, tokens: usize) -> Result<(), AllocError>
@@ -83,7 +92,7 @@ impl<A: Allocator> TokenQueue<A> {
         ensures err { OnErr result (self.new ≡ self.old) }
         ensures full { OnErr result (self.old.room < length self.old.items + tokens) }
     {
-        if tokens <= self.places.len() - self.count {
+        if self.has_room(tokens) {
             return Ok(());
         }
         self.grow(tokens)

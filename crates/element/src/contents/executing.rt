@@ -16,7 +16,8 @@ ghost use Rattle.tags.specs.declared.token.Token.{Token};
 
 use super::Contents;
 use crate::firing::{
-    Leaving, Meeting, NONE, Outcome, Passed, Seat, fire, leave, meet, pass_one, pass_two,
+    Asks, Leaving, Meeting, NONE, Operates, Others, Outcome, Pair, Passed, Returns, Seat, Sends,
+    Switches, Syncs, fire, meet, pass_one,
 };
 use crate::instructions::{Instruction, Instructions};
 use crate::lane::Stepped;
@@ -35,10 +36,10 @@ impl<'m, A: Allocator> Contents<'m, A> {
         &mut self,
         code: &C,
         at: usize,
-        token: PackedToken,
+        token: &PackedToken,
     ) -> bool
-        requires { CanAct (C.program code.now) (C.width code.now) (held_in self.old) at token }
-        ensures did { result ≡ true → (before : List Token) → ActsAs (C.program code.now) (held_in self.old) at token before Did (held_in self.new) before }
+        requires { CanAct (C.program code.now) (C.width code.now) (held_in self.old) at token.now }
+        ensures did { result ≡ true → (before : List Token) → ActsAs (C.program code.now) (held_in self.old) at token.now before Did (held_in self.new) before }
         ensures not { result ≡ false → held_in self.new ≡ held_in self.old }
     {
         let Some(input) = token.input() else {
@@ -52,13 +53,19 @@ impl<'m, A: Allocator> Contents<'m, A> {
             ip: input.ip,
         };
         match instr.op {
-            Op::Apply2 { .. } => self.at_pair(code, at, token, seat, &instr, input.port),
-            Op::Sync => self.at_pair(code, at, token, seat, &instr, input.port),
-            Op::Switch => self.at_pair(code, at, token, seat, &instr, input.port),
-            Op::Send { .. } => self.at_pair(code, at, token, seat, &instr, input.port),
-            Op::Return { .. } => self.at_pair(code, at, token, seat, &instr, input.port),
-            Op::Ask { .. } => self.at_pair(code, at, token, seat, &instr, input.port),
-            Op::Store { .. } | Op::Release { .. } => self.at_pair(code, at, token, seat, &instr, input.port),
+            Op::Apply2 { .. } => self.at_pair::<C, Operates>(
+                code, at, token, seat, &instr, input.port,
+            ),
+            Op::Sync => self.at_pair::<C, Syncs>(code, at, token, seat, &instr, input.port),
+            Op::Switch => self.at_pair::<C, Switches>(code, at, token, seat, &instr, input.port),
+            Op::Send { .. } => self.at_pair::<C, Sends>(code, at, token, seat, &instr, input.port),
+            Op::Return { .. } => self.at_pair::<C, Returns>(
+                code, at, token, seat, &instr, input.port,
+            ),
+            Op::Ask { .. } => self.at_pair::<C, Asks>(code, at, token, seat, &instr, input.port),
+            Op::Store { .. } | Op::Release { .. } => self.at_pair::<C, Others>(
+                code, at, token, seat, &instr, input.port,
+            ),
             Op::Apply1 { .. } => self.at_lone(code, at, token, seat, &instr, input.port),
             Op::Apply2Right { .. } => self.at_lone(code, at, token, seat, &instr, input.port),
             Op::Apply2Left { .. } => self.at_lone(code, at, token, seat, &instr, input.port),
@@ -71,31 +78,31 @@ impl<'m, A: Allocator> Contents<'m, A> {
     // An instruction with two inputs: the first token waits in the slot for the second, as it lies. Two arms do the same where
     // what was asked lets each be compiled shorter: on either port it is known which of the words is the token's.
     #[inline(always)]
-    fn at_pair<C: Instructions>(
+    fn at_pair<C: Instructions, K: Pair>(
         &mut self,
         code: &C,
         at: usize,
-        token: PackedToken,
+        token: &PackedToken,
         seat: Seat,
         instr: &Instruction,
         port: Port,
     ) -> bool
-        requires can { CanAct (C.program code.now) (C.width code.now) (held_in self.old) at token }
-        requires address { token.to ≡ To.Instr seat.frame seat.ip port }
+        requires can { CanAct (C.program code.now) (C.width code.now) (held_in self.old) at token.now }
+        requires address { token.now.to ≡ To.Instr seat.frame seat.ip port }
         requires found { instr_at (C.program code.now) seat.ip ≡ Some (instr_of instr.now) }
         requires short { IsShort (C.width code.now) seat.ip instr.now }
         requires pair { IsPair instr.now.op }
-        ensures did { result ≡ true → (before : List Token) → ActsAs (C.program code.now) (held_in self.old) at token before Did (held_in self.new) before }
+        ensures did { result ≡ true → (before : List Token) → ActsAs (C.program code.now) (held_in self.old) at token.now before Did (held_in self.new) before }
         ensures not { result ≡ false → held_in self.new ≡ held_in self.old }
     {
         let place = self.place_of_slot(seat.frame, instr.slot);
         let held = self.slot_at(place);
-        match meet(&held, seat, port, &token) {
+        match meet(&held, seat, port, token) {
             Meeting::Waits { slot } => self.wait(at, place, slot),
             Meeting::Apart => false,
             Meeting::Both { left, right } => match port {
-                Port::Left => self.both(code, at, place, seat, instr, &left, &right),
-                Port::Right => self.both(code, at, place, seat, instr, &left, &right),
+                Port::Left => self.both::<C, K>(code, at, place, seat, instr, &left, &right),
+                Port::Right => self.both::<C, K>(code, at, place, seat, instr, &left, &right),
             },
         }
     }
@@ -107,17 +114,17 @@ impl<'m, A: Allocator> Contents<'m, A> {
         &mut self,
         code: &C,
         at: usize,
-        token: PackedToken,
+        token: &PackedToken,
         seat: Seat,
         instr: &Instruction,
         port: Port,
     ) -> bool
-        requires can { CanAct (C.program code.now) (C.width code.now) (held_in self.old) at token }
-        requires address { token.to ≡ To.Instr seat.frame seat.ip port }
+        requires can { CanAct (C.program code.now) (C.width code.now) (held_in self.old) at token.now }
+        requires address { token.now.to ≡ To.Instr seat.frame seat.ip port }
         requires found { instr_at (C.program code.now) seat.ip ≡ Some (instr_of instr.now) }
         requires short { IsShort (C.width code.now) seat.ip instr.now }
         requires lone { IsLone instr.now.op }
-        ensures did { result ≡ true → (before : List Token) → ActsAs (C.program code.now) (held_in self.old) at token before Did (held_in self.new) before }
+        ensures did { result ≡ true → (before : List Token) → ActsAs (C.program code.now) (held_in self.old) at token.now before Did (held_in self.new) before }
         ensures not { result ≡ false → held_in self.new ≡ held_in self.old }
     {
         match pass_one(instr, &token.word()) {
@@ -145,7 +152,7 @@ impl<'m, A: Allocator> Contents<'m, A> {
 
     // Both words are there. What comes of them is the same on both ports; whoever calls keeps the ports apart.
     #[inline(always)]
-    fn both<C: Instructions>(
+    fn both<C: Instructions, K: Pair>(
         &mut self,
         code: &C,
         at: usize,
@@ -165,9 +172,9 @@ impl<'m, A: Allocator> Contents<'m, A> {
         ensures did { result ≡ true → (before : List Token) → FiresAs (fire_two (C.program code.now) (seat_of seat) (instr_of instr.now) instr.now.op left.now right.now) (with_state (part_of self.old) place Empty) (held_in self.old) at before Did (held_in self.new) before }
         ensures not { result ≡ false → held_in self.new ≡ held_in self.old }
     {
-        match pass_two(instr, left, right) {
+        match K::passes(instr, left, right) {
             Some(passed) => self.pass(at, seat, Some(place), &passed),
-            None => match leave(code, seat, instr, left, right) {
+            None => match K::leave(code, seat, instr, left, right) {
                 Some(leaving) => self.pass_out(at, seat, place, leaving),
                 None => false,
             },
@@ -186,7 +193,7 @@ impl<'m, A: Allocator> Contents<'m, A> {
         ensures did { result ≡ true → (before : List Token) → FiresAs (Some (passed_on (seat_of seat) passed.now)) (with_place (part_of self.old) cleared Empty) (held_in self.old) at before Did (held_in self.new) before }
         ensures not { result ≡ false → held_in self.new ≡ held_in self.old }
     {
-        if self.make_own_room(2).is_err() {
+        if !self.queue.has_room(2) {
             return false;
         }
         if let Some(place) = cleared {
@@ -211,7 +218,7 @@ impl<'m, A: Allocator> Contents<'m, A> {
         ensures did { result ≡ true → (before : List Token) → FiresAs (Some (left_on (seat_of seat) leaving)) (with_state (part_of self.old) place Empty) (held_in self.old) at before Did (held_in self.new) before }
         ensures not { result ≡ false → held_in self.new ≡ held_in self.old }
     {
-        if !self.keeps(&leaving.token) || self.make_own_room(3).is_err() {
+        if !self.keeps(&leaving.token) || !self.queue.has_room(3) {
             return false;
         }
         self.put_at(place, Slot::empty());

@@ -32,15 +32,6 @@ impl<'m, A: Allocator> Contents<'m, A> {
         sent.reserve(tokens)
     }
 
-    // Makes room for `tokens` more tokens of this element. After an error all stands as before.
-    #[inline(always)]
-    pub(super) fn make_own_room(&mut self, tokens: usize) -> Result<(), AllocError>
-        ensures held { held_in self.new ≡ held_in self.old }
-        ensures room { OnOk result (length self.new.queue.items + tokens ≤ self.new.queue.room) }
-    {
-        self.queue.reserve(tokens)
-    }
-
     // Takes the token at `at` out of the queue.
     #[inline(always)]
     pub(super) fn take(&mut self, at: usize)

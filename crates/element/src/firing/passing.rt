@@ -7,7 +7,7 @@ ghost use Rattle.element.specs.Fired.{passed_on};
 ghost use Rattle.semantics.specs.Program.{Program};
 
 use crate::instructions::Instruction;
-use operators::{apply1, apply2_at, truth};
+use operators::{apply1, apply2_at};
 use packed::word::PackedWord;
 use semantics::program::Op;
 use tags::token::Word;
@@ -46,35 +46,9 @@ pub fn pass_one(instr: &Instruction, word: &PackedWord) -> Option<Passed>
     }
 }
 
-/// The same for an instruction with two inputs, where the words that it looks at are integers.
+/// A word to both destinations.
 #[inline(always)]
-pub fn pass_two(instr: &Instruction, left: &PackedWord, right: &PackedWord) -> Option<Passed>
-    ensures { IfSome result (λ x. (p : Program) (s : Rule.Seat) → Rule.fire_two p s (instr_of instr.now) instr.now.op left.now right.now ≡ Some (passed_on s x)) }
-{
-    match (instr.op, left.as_int(), right.as_int()) {
-        (Op::Apply2 { op }, Some(x), Some(y)) => {
-            let value = apply2_at(op, Value::Int(x), Value::Int(y), instr.origin());
-            Some(to_both(instr, PackedWord::pack(Word::Val(value))))
-        }
-        (Op::Sync, _, _) => Some(to_both(instr, PackedWord::int(0))),
-        (Op::Switch, _, Some(number)) => {
-            let value = Value::Int(number);
-            Some(Passed {
-                word: *left,
-                first: if truth(value) {
-                    instr.first
-                } else {
-                    instr.second
-                },
-                second: 0,
-            })
-        }
-        _ => None,
-    }
-}
-
-#[inline(always)]
-fn to_both(instr: &Instruction, word: PackedWord) -> Passed
+pub(super) fn to_both(instr: &Instruction, word: PackedWord) -> Passed
     ensures { (s : Rule.Seat) → passed_on s result ≡ Rule.to_all s word (instr_of instr.now) }
 {
     Passed {

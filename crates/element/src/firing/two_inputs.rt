@@ -26,10 +26,7 @@ use tags::token::{FrameId, Port, To, Token, Word};
 #[derive(Clone, Copy)]
 pub enum Meeting {
     /// The other one: both words.
-    Both {
-        left: PackedWord,
-        right: PackedWord,
-    },
+    Both { left: PackedWord, right: PackedWord },
     /// None: it waits in the slot, which is this one then.
     Waits { slot: Slot },
     /// What it can't meet.

@@ -18,7 +18,7 @@ returns-in-Waits-clause-did g c = λ yes before.
     let old : Held = held_in c.args.self.now in
     let s = c.args.seat in
     let i = c.args.instr.now in
-    let t = c.args.token in
+    let t = c.args.token.now in
     let held = c.slot_at-held.result in
     let there : held ≡ slice_index_or old.part.states (slot_place old.part.shape s.frame i.slot) Empty
     = subst (λ (n : ℕ). held ≡ slice_index_or old.part.states n Empty) c.place_of_slot-place.ensures.exact c.slot_at-held.ensures in
@@ -34,7 +34,7 @@ returns-in-Left-clause-did g c = λ yes before.
     let old : Held = held_in c.args.self.now in
     let s = c.args.seat in
     let i = c.args.instr.now in
-    let t = c.args.token in
+    let t = c.args.token.now in
     let held = c.slot_at-held.result in
     let there : held ≡ slice_index_or old.part.states (slot_place old.part.shape s.frame i.slot) Empty
     = subst (λ (n : ℕ). held ≡ slice_index_or old.part.states n Empty) c.place_of_slot-place.ensures.exact c.slot_at-held.ensures in
@@ -52,7 +52,7 @@ returns-in-Right-clause-did g c = λ yes before.
     let old : Held = held_in c.args.self.now in
     let s = c.args.seat in
     let i = c.args.instr.now in
-    let t = c.args.token in
+    let t = c.args.token.now in
     let held = c.slot_at-held.result in
     let there : held ≡ slice_index_or old.part.states (slot_place old.part.shape s.frame i.slot) Empty
     = subst (λ (n : ℕ). held ≡ slice_index_or old.part.states n Empty) c.place_of_slot-place.ensures.exact c.slot_at-held.ensures in
