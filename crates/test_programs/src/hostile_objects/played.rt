@@ -56,7 +56,7 @@ fn runs_of<R: Threads + Wait + Sync>(
         } else {
             scene.among
         };
-        for mode in [Mode::One, Mode::Rounds] {
+        for mode in [Mode::One, Mode::Rounds, Mode::Free] {
             let run = object.run(rt, alloc, config(elements, frames, STEPS), mode);
             if !is_wanted(&run, wanted) {
                 return Ok(None);
