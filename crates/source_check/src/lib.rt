@@ -6,6 +6,8 @@ ghost use Rattle.source_check.specs.Checked.{IsChecked};
 use source::program::Program;
 use std::alloc::Allocator;
 
+mod frame;
+
 /// A program that keeps the static rules.
 #[derive(Drop)]
 pub struct Checked<'a, A: Allocator> {

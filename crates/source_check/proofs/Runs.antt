@@ -1,0 +1,34 @@
+-- Going over words that stand one after another.
+use Rattle.std.specs.Prelude.{◌≡◌, refl, ℕ, Bool, true, false, List, [], ◌∷◌, ◌++◌, Result, Ok, Err, ⊤}
+use Rattle.std.proofs.Common.{◌∙◌, ap}
+use Rattle.source.specs.declared.fault.Fault.{Fault}
+use Rattle.source.specs.declared.fault.FaultKind.{FaultKind}
+use Rattle.source.specs.declared.word.Word.{Word}
+use Rattle.source.specs.First.{◌>>=◌, must}
+use Rattle.source_check.specs.Steps.{Names, State, step, steps}
+
+-- what follows from an answer
+abbrev pub mapped : {A B : Type 0} → (A → B) → Result A Fault → Result B Fault
+mapped f (Ok x) = Ok (f x)
+mapped f (Err e) = Err e
+
+first_step : {N : Type 0} (t : Names N) (ws vs : List (Word N)) → ((s : State N) → steps t s (ws ++ vs) ≡ (steps t s ws >>= λ u. steps t u vs))
+    → (r : Result (State N) Fault) → (r >>= λ u. steps t u (ws ++ vs)) ≡ ((r >>= λ u. steps t u ws) >>= λ u. steps t u vs)
+first_step t ws vs h (Ok s) = h s
+first_step t ws vs h (Err e) = refl
+
+pub steps_append : {N : Type 0} (t : Names N) (ws vs : List (Word N)) (s : State N) → steps t s (ws ++ vs) ≡ (steps t s ws >>= λ u. steps t u vs)
+steps_append t [] vs s = refl
+steps_append t (w ∷ ws) vs s = first_step t ws vs (steps_append t ws vs) (step t s w)
+
+-- The words of a part leave a state for each answer about it, or its fault; then those of the next part do.
+pub in_turn : {N A B : Type 0} (t : Names N) (s : State N) (ws vs : List (Word N)) (r : Result A Fault) (q : A → Result B Fault) (f : A → State N) (g : B → State N)
+    → steps t s ws ≡ mapped f r → ((x : A) → steps t (f x) vs ≡ mapped g (q x)) → steps t s (ws ++ vs) ≡ mapped g (r >>= q)
+in_turn t s ws vs (Ok x) q f g e h = steps_append t ws vs s ∙ ap (λ u. u >>= λ v. steps t v vs) e ∙ h x
+in_turn t s ws vs (Err x) q f g e h = steps_append t ws vs s ∙ ap (λ u. u >>= λ v. steps t v vs) e
+
+-- the same where the next part is one word with a test
+pub tested : {N A : Type 0} (t : Names N) (vs : List (Word N)) (b : Bool) (kind : FaultKind) (at : ℕ) (q : Result A Fault) (s : State N) (g : A → State N)
+    → steps t s vs ≡ mapped g q → ((must b kind at >>= λ x. Ok s) >>= λ u. steps t u vs) ≡ mapped g (must b kind at >>= λ x. q)
+tested t vs true kind at q s g h = h
+tested t vs false kind at q s g h = refl
