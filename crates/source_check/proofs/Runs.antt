@@ -32,3 +32,23 @@ pub tested : {N A : Type 0} (t : Names N) (vs : List (Word N)) (b : Bool) (kind 
     → steps t s vs ≡ mapped g q → ((must b kind at >>= λ x. Ok s) >>= λ u. steps t u vs) ≡ mapped g (must b kind at >>= λ x. q)
 tested t vs true kind at q s g h = h
 tested t vs false kind at q s g h = refl
+
+-- where a test for one value comes before
+pub one_tested : {N A B : Type 0} (t : Names N) (vs : List (Word N)) (b : Bool) (kind : FaultKind) (at : ℕ) (a : A) (q : A → Result B Fault) (s : State N) (g : B → State N)
+    → steps t s vs ≡ mapped g (q a) → ((must b kind at >>= λ x. Ok s) >>= λ u. steps t u vs) ≡ mapped g ((must b kind at >>= λ x. Ok a) >>= q)
+one_tested t vs true kind at a q s g h = h
+one_tested t vs false kind at a q s g h = refl
+
+-- and where the next part always goes well
+pub and_then : {N A : Type 0} (t : Names N) (s : State N) (ws vs : List (Word N)) (r : Result A Fault) (f : A → State N) (g : A → State N)
+    → steps t s ws ≡ mapped f r → ((x : A) → steps t (f x) vs ≡ Ok (g x)) → steps t s (ws ++ vs) ≡ mapped g r
+and_then t s ws vs (Ok x) f g e h = steps_append t ws vs s ∙ ap (λ u. u >>= λ v. steps t v vs) e ∙ h x
+and_then t s ws vs (Err x) f g e h = steps_append t ws vs s ∙ ap (λ u. u >>= λ v. steps t v vs) e
+
+pub bind-assoc : {A B C : Type 0} (r : Result A Fault) (q : A → Result B Fault) (k : B → Result C Fault) → ((r >>= q) >>= k) ≡ (r >>= λ x. q x >>= k)
+bind-assoc (Ok x) q k = refl
+bind-assoc (Err e) q k = refl
+
+pub mapped_after : {A B C : Type 0} (r : Result A Fault) (f : A → C) (h : A → B) (g : B → C) → ((x : A) → f x ≡ g (h x)) → mapped f r ≡ mapped g (r >>= λ x. Ok (h x))
+mapped_after (Ok x) f h g e = ap Ok (e x)
+mapped_after (Err x) f h g e = refl
