@@ -82,7 +82,7 @@ pub all_back : (b : Body) (scope : List Name) → back (length scope) (left_scop
 all_back b scope = back_left b (length scope) scope (omega arith) ∙ back-itself scope
 
 -- a frame more
-frame_deep : (s : State Name) (f : Frame) → IsDeep s → IsDeep (pushed s f)
+pub frame_deep : (s : State Name) (f : Frame) → IsDeep s → IsDeep (pushed s f)
 frame_deep s f d = record { scope = d.scope; used = d.used }
 
 end_word : (item : Name → Option Entry) (s : State Name) (r : Body) (at n m : ℕ)

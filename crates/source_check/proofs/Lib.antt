@@ -4,3 +4,5 @@ pub mod Noted
 pub mod Over
 pub mod Listed
 pub mod Bodies
+pub mod Loops
+pub mod Trees

@@ -229,7 +229,7 @@ body s at other = Ok s
 abbrev pub end_function : {N : Type 0} → State N → Option Frame → Result (State N) Fault
 end_function s (Some (frame.Body results at)) = do
   all ← must (s.last.count == results) Arity at
-  Ok (record s { scope = [] })
+  Ok (taken (record s { scope = []; used = [] }))
 end_function s other = Ok s
 
 -- ONE WORD
