@@ -6,3 +6,7 @@ pub mod Listed
 pub mod Bodies
 pub mod Loops
 pub mod Trees
+pub mod Still
+pub mod HeadsRead
+pub mod Known
+pub mod Exact

@@ -16,7 +16,7 @@ use Rattle.source.specs.Rules.{item_names, array_in, function_in, written_or_one
 use Rattle.source_check.specs.declared.frame.Entry.{Entry}
 use Rattle.source_check.specs.declared.frame.Frame.{Frame}
 use Rattle.source_check.specs.declared.frame.Frame.TheVariants as frame
-use Rattle.source_check.specs.Steps.{Names, State, Shape, since, back, onto, pushed, popped, taken, ended, all_noted, bound, is_array, shape_at, steps}
+use Rattle.source_check.specs.Steps.{Names, State, Shape, since, back, onto, pushed, popped, taken, ended, all_noted, bound, is_array, shape_at, steps, step}
 use Rattle.source_check.proofs.Runs.{mapped, in_turn, tested, one_tested, and_then, mapped_after}
 use Rattle.source_check.proofs.Stacks.{since-append, back-append, onto-onto}
 use Rattle.source_check.proofs.Noted.{by_bytes, all_noted-append, all_noted_grows}
@@ -36,25 +36,25 @@ nothing_less n = omega arith
 
 -- LISTS
 pub over_one : (item : Name → Option Entry) (p : Program) (e : Expr) → Over item p e → OverList item p (One e)
-over_one item p e h s k d = and_then (by_bytes item) (pushed s (frame.List k)) (words e) (word.Part ∷ []) (values p s.scope e) _ _ (h (pushed s (frame.List k)) (record { scope = d.scope; used = d.used })) (λ n. refl)
+over_one item p e h s k d = and_then (step (by_bytes item)) (pushed s (frame.List k)) (words e) (word.Part ∷ []) (values p s.scope e) _ _ (h (pushed s (frame.List k)) (record { scope = d.scope; used = d.used })) (λ n. refl)
 
 pub over_more : (item : Name → Option Entry) (p : Program) (e : Expr) (es : Exprs) → Over item p e → OverList item p es → OverList item p (More e es)
 over_more item p e es h j s k d =
     let s1 : State Name = having s (notes item s (uses e)) 0 0 in
     rw (all_noted-append (by_bytes item) (since s.turn.base s.scope) s.turn.start (uses e) (list_uses es) s.used)
-    (in_turn (by_bytes item) (pushed s (frame.List k)) (words e) (word.Part ∷ part_words es) (values p s.scope e) _ _ _ (h (pushed s (frame.List k)) (record { scope = d.scope; used = d.used }))
+    (in_turn (step (by_bytes item)) (pushed s (frame.List k)) (words e) (word.Part ∷ part_words es) (values p s.scope e) _ _ _ (h (pushed s (frame.List k)) (record { scope = d.scope; used = d.used }))
       (λ n. j s1 (k + n) (still_deep item s (uses e) 0 0 d)
         ∙ mapped_after (list_values p s.scope es) _ (λ m. n + m) (λ m. pushed (having s1 (notes item s1 (list_uses es)) 0 0) (frame.List (k + m))) (λ m. ap (λ i. pushed (having s1 (notes item s1 (list_uses es)) 0 0) (frame.List i)) (add_assoc k n m))))
 
 -- CALLS
 called : (item : Name → Option Entry) (at : ℕ) (strict : Bool) (f : Name) (g : Function) (s : State Name) (n : ℕ) → shape_at at (item f) ≡ Ok (shape_of g)
     → steps (by_bytes item) (pushed s (frame.List (0 + n))) (word.Call at strict f ∷ []) ≡ mapped (λ m. ended s m at) (must (n == length g.params) Arity at >>= λ all. Ok (written_or_one g.results))
-called item at strict f g s n q = rw (q, nothing_less n) (tested (by_bytes item) [] (n == length g.params) Arity at (Ok (written_or_one g.results)) (ended s (written_or_one g.results) at) _ refl)
+called item at strict f g s n q = rw (q, nothing_less n) (tested (step (by_bytes item)) [] (n == length g.params) Arity at (Ok (written_or_one g.results)) (ended s (written_or_one g.results) at) _ refl)
 
 call_from : (item : Name → Option Entry) (p : Program) (at : ℕ) (strict : Bool) (f : Name) (es : Exprs) (s : State Name) (r : Result Function Fault) → OverList item p es → IsDeep s
     → shape_at at (item f) ≡ mapped shape_of r → steps (by_bytes item) s (words (Call at strict f es))
       ≡ mapped (λ n. having s (notes item s (list_uses es)) n at) (r >>= λ g. list_values p s.scope es >>= λ n. must (n == length g.params) Arity at >>= λ all. Ok (written_or_one g.results))
-call_from item p at strict f es s (Ok g) h d q = rw q (in_turn (by_bytes item) (pushed s (frame.List 0)) (part_words es) (word.Call at strict f ∷ []) (list_values p s.scope es) _ _ _ (h s 0 d)
+call_from item p at strict f es s (Ok g) h d q = rw q (in_turn (step (by_bytes item)) (pushed s (frame.List 0)) (part_words es) (word.Call at strict f ∷ []) (list_values p s.scope es) _ _ _ (h s 0 d)
     (λ n. called item at strict f g (having s (notes item s (list_uses es)) 0 0) n q))
 call_from item p at strict f es s (Err e) h d q = rw q refl
 
@@ -67,7 +67,7 @@ pub new_word : (item : Name → Option Entry) (p : Program) → Knows item p →
     → steps (by_bytes item) (naming s (x.name ∷ before) (k + 1)) ws ≡ mapped g r
     → (bound (by_bytes item) (record s { pending = before ++ s.pending }) x.at x.name (Some (frame.Names (length s.pending) k)) >>= λ u. steps (by_bytes item) u ws) ≡ mapped g (new_name p before x >>= λ new. r)
 new_word item p know s before k x ws r g h = rw (since-append before s.pending, know.taken x.name)
-    (tested (by_bytes item) ws (not (is_in x.name (item_names p)) && not (is_in x.name before)) SameName x.at r (naming s (x.name ∷ before) (k + 1)) g h)
+    (tested (step (by_bytes item)) ws (not (is_in x.name (item_names p)) && not (is_in x.name before)) SameName x.at r (naming s (x.name ∷ before) (k + 1)) g h)
 
 pub over_targets : (item : Name → Option Entry) (p : Program) → Knows item p → (targets : List Target) (s : State Name) (before : List Name) (k : ℕ)
     → steps (by_bytes item) (naming s before k) (map target_word targets) ≡ mapped (λ (u : ⊤). naming s (onto (bound_by targets) before) (k + length targets)) (new_targets p before targets)
@@ -93,8 +93,8 @@ pub over_first_one : (item : Name → Option Entry) (p : Program) → Knows item
 over_first_one item p know e h s before k [] d c = absurd (omega (arith, c))
 over_first_one item p know e h s before k (x ∷ []) d c =
     new_word item p know s before k x (words e ++ (word.First ∷ [])) _ _
-    (in_turn (by_bytes item) (naming s (x.name ∷ before) (k + 1)) (words e) (word.First ∷ []) (values p s.scope e) _ _ _ (h (naming s (x.name ∷ before) (k + 1)) (naming_deep s (x.name ∷ before) (k + 1) d))
-      (λ n. one_tested (by_bytes item) [] (n == 1) Arity (place_of e) 1 _ (naming (having s (notes item s (uses e)) 0 0) (x.name ∷ before) (k + 1)) _ refl))
+    (in_turn (step (by_bytes item)) (naming s (x.name ∷ before) (k + 1)) (words e) (word.First ∷ []) (values p s.scope e) _ _ _ (h (naming s (x.name ∷ before) (k + 1)) (naming_deep s (x.name ∷ before) (k + 1) d))
+      (λ n. one_tested (step (by_bytes item)) [] (n == 1) Arity (place_of e) 1 _ (naming (having s (notes item s (uses e)) 0 0) (x.name ∷ before) (k + 1)) _ refl))
 over_first_one item p know e h s before k (x ∷ y ∷ xs) d c = absurd (omega (arith, c))
 
 pub over_first_more : (item : Name → Option Entry) (p : Program) → Knows item p → (e : Expr) (es : Exprs) → Over item p e → OverFirsts item p es → OverFirsts item p (More e es)
@@ -103,7 +103,7 @@ over_first_more item p know e es h j s before k (x ∷ xs) d c =
     let s1 : State Name = having s (notes item s (uses e)) 0 0 in
     rw (all_noted-append (by_bytes item) (since s.turn.base s.scope) s.turn.start (uses e) (list_uses es) s.used)
     (new_word item p know s before k x (words e ++ (word.First ∷ first_words xs es)) _ _
-    (in_turn (by_bytes item) (naming s (x.name ∷ before) (k + 1)) (words e) (word.First ∷ first_words xs es) (values p s.scope e) _ _ _ (h (naming s (x.name ∷ before) (k + 1)) (naming_deep s (x.name ∷ before) (k + 1) d))
-      (λ n. one_tested (by_bytes item) (first_words xs es) (n == 1) Arity (place_of e) 1 _ (naming s1 (x.name ∷ before) (k + 1)) _
+    (in_turn (step (by_bytes item)) (naming s (x.name ∷ before) (k + 1)) (words e) (word.First ∷ first_words xs es) (values p s.scope e) _ _ _ (h (naming s (x.name ∷ before) (k + 1)) (naming_deep s (x.name ∷ before) (k + 1) d))
+      (λ n. one_tested (step (by_bytes item)) (first_words xs es) (n == 1) Arity (place_of e) 1 _ (naming s1 (x.name ∷ before) (k + 1)) _
         (j s1 (x.name ∷ before) (k + 1) xs (still_deep item s (uses e) 0 0 d) (omega (arith, c))
           ∙ ap (λ i. mapped (λ (u : ⊤). naming (having s1 (notes item s1 (list_uses es)) 0 0) (onto (bare xs) (x.name ∷ before)) i) (first_values p s.scope (x.name ∷ before) xs es)) (one_more k (length xs))))))

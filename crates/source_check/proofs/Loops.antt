@@ -19,7 +19,7 @@ use Rattle.source_check.specs.declared.frame.Frame.{Frame}
 use Rattle.source_check.specs.declared.frame.Frame.TheVariants as frame
 use Rattle.source_check.specs.declared.frame.Turn.{Turn as TurnAt}
 use Rattle.source_check.specs.declared.frame.Values.{Values}
-use Rattle.source_check.specs.Steps.{Names, State, Shape, since, back, onto, pushed, popped, taken, ended, all_noted, turned, closed, end_loop, is_array, shape_at, steps}
+use Rattle.source_check.specs.Steps.{Names, State, Shape, since, back, onto, pushed, popped, taken, ended, all_noted, turned, closed, end_loop, is_array, shape_at, steps, step}
 use Rattle.source_check.proofs.Runs.{mapped, in_turn, tested, one_tested, and_then, mapped_after, bind-assoc}
 use Rattle.source_check.proofs.Stacks.{since-append, back-append, since-deeper, back-deeper, back-itself, onto-onto}
 use Rattle.source_check.proofs.Noted.{by_bytes, all_noted-append, all_noted-without, gathered, gathered_once, noted_above, noted_again}
@@ -86,10 +86,10 @@ over_before item p at bound xs q body h j s m d =
     let close : ℕ → Result ℕ Fault = λ n. must (n == m) Arity at >>= λ all. must (nat_le (m + length (outside_turn (Before xs q body))) 15) TooWide at >>= λ narrow. Ok n in
     rw (append_assoc (words q) (word.While ∷ body_words body) ending, bind-assoc (values p (bare xs ++ s.scope) q) (λ n. one_value q n >>= λ one. body_values p (bare xs ++ s.scope) body) close)
     (opened item s xs m (words q ++ (word.While ∷ (body_words body ++ ending)))
-    ∙ in_turn (by_bytes item) i0 (words q) (word.While ∷ (body_words body ++ ending)) (values p i0.scope q) _ _ _ (h i0 d0)
+    ∙ in_turn (step (by_bytes item)) i0 (words q) (word.While ∷ (body_words body ++ ending)) (values p i0.scope q) _ _ _ (h i0 d0)
       (λ k. rw (bind-assoc (one_value q k) (λ one. body_values p (bare xs ++ s.scope) body) close)
-        (one_tested (by_bytes item) (body_words body ++ ending) (k == 1) Arity (place_of q) 1 _ i1 _
-          (in_turn (by_bytes item) i1 (body_words body) ending (body_values p i1.scope body) close _ _ (j i1 (still_deep item i0 (uses q) 0 0 d0))
+        (one_tested (step (by_bytes item)) (body_words body ++ ending) (k == 1) Arity (place_of q) 1 _ i1 _
+          (in_turn (step (by_bytes item)) i1 (body_words body) ending (body_values p i1.scope body) close _ _ (j i1 (still_deep item i0 (uses q) 0 0 d0))
             (λ n. shut item s xs m at n (uses q ++ body_uses body) (notes item i1 (body_uses body)) (left_scope body (bare xs ++ s.scope)) (record { count = n; at = 0 }) d
               (body_gone s xs body) (together item s xs (uses q) (body_uses body)))))))
 
@@ -109,10 +109,10 @@ over_after item p at bound xs body q h j s m d =
     rw (append_assoc (body_words body) (word.Until ∷ words q) ending,
         bind-assoc (body_values p (bare xs ++ s.scope) body) (λ n. values p (bare xs ++ s.scope) q >>= λ k. one_value q k >>= λ one. Ok n) close)
     (opened item s xs m (body_words body ++ (word.Until ∷ (words q ++ ending)))
-    ∙ in_turn (by_bytes item) i0 (body_words body) (word.Until ∷ (words q ++ ending)) (body_values p i0.scope body) _ _ _ (h i0 d0)
+    ∙ in_turn (step (by_bytes item)) i0 (body_words body) (word.Until ∷ (words q ++ ending)) (body_values p i0.scope body) _ _ _ (h i0 d0)
       (λ n. let i2 : State Name = record i1 { frames = frame.Tested s.turn m n ∷ s.frames } in
         rw (all_back body i0.scope, bind-assoc (values p (bare xs ++ s.scope) q) (λ k. one_value q k >>= λ one. Ok n) close)
-        (in_turn (by_bytes item) i2 (words q) ending (values p i2.scope q) _ _ _ (j i2 (record { scope = d1.scope; used = d1.used }))
+        (in_turn (step (by_bytes item)) i2 (words q) ending (values p i2.scope q) _ _ _ (j i2 (record { scope = d1.scope; used = d1.used }))
           (λ k. rw (bind-assoc (one_value q k) (λ one. Ok n) close)
             (single_first (k == 1) (place_of q) 1 _ (close n) _
               (shut item s xs m at n (body_uses body ++ uses q) (notes item i2 (uses q)) (bare xs ++ s.scope) (record { count = k; at = place_of q }) d
@@ -126,6 +126,6 @@ over_loop item p at bound firsts turn h c j s d =
     let xs : List NameAt = names_of turn in
     let ending : List (Word Name) = word.EndLoop at bound.number ∷ [] in
     rw (append_assoc (first_words xs firsts) (turn_words turn) ending, all_noted-append (by_bytes item) (since s.turn.base s.scope) s.turn.start (list_uses firsts) (turn_uses turn) s.used)
-    (tested (by_bytes item) (first_words xs firsts ++ (turn_words turn ++ ending)) (nat_le 2 bound.number && nat_le bound.number 64) BadBound bound.at _ (naming s [] 0) _
-      (in_turn (by_bytes item) (naming s [] 0) (first_words xs firsts) (turn_words turn ++ ending) (first_values p s.scope [] xs firsts) _ _ _ (h s [] 0 xs d c)
+    (tested (step (by_bytes item)) (first_words xs firsts ++ (turn_words turn ++ ending)) (nat_le 2 bound.number && nat_le bound.number 64) BadBound bound.at _ (naming s [] 0) _
+      (in_turn (step (by_bytes item)) (naming s [] 0) (first_words xs firsts) (turn_words turn ++ ending) (first_values p s.scope [] xs firsts) _ _ _ (h s [] 0 xs d c)
         (λ u. rw (nothing_less (length xs)) (j s1 (length xs) (still_deep item s (list_uses firsts) 0 0 d)))))

@@ -2,6 +2,7 @@
 use Rattle.std.specs.Prelude.{◌≡◌, refl, ℕ, ◌+◌, ◌==◌, ◌⊎◌, Bool, true, false, All, List, [], ◌∷◌, ◌++◌, length, map, Option, None, Some, Result, Ok, Err, ⊤}
 use Rattle.std.proofs.Common.{◌∙◌, ap, sym, arith, append_assoc, inl, inr}
 use Rattle.std.proofs.lemmas.List.{append-nil}
+use Rattle.std.proofs.lemmas.List.Elements.{All-head, All-tail}
 use Rattle.source.specs.declared.fault.Fault.{Fault}
 use Rattle.source.specs.declared.fault.FaultKind.TheVariants.{Arity}
 use Rattle.source.specs.declared.word.Word.{Word}
@@ -16,7 +17,7 @@ use Rattle.source.specs.First.{◌>>=◌, must}
 use Rattle.source.specs.Rules.{written_or_one, new_names, body_values, function_checked, functions_checked}
 use Rattle.source_check.specs.declared.frame.Entry.{Entry}
 use Rattle.source_check.specs.declared.frame.Frame.TheVariants as frame
-use Rattle.source_check.specs.Steps.{State, begun, since, back, onto, pushed, ended, body, end_function, steps}
+use Rattle.source_check.specs.Steps.{State, begun, since, back, onto, pushed, ended, body, end_function, steps, step}
 use Rattle.source_check.proofs.Runs.{mapped, in_turn, tested}
 use Rattle.source_check.proofs.Stacks.{since-append, back-append, onto-onto}
 use Rattle.source_check.proofs.Noted.{by_bytes}
@@ -101,14 +102,14 @@ over_function item p k f fits =
     let results : ℕ = written_or_one f.results in
     let i0 : State Name = in_body (bare f.params) results f.body_at (result_at at f.results) in
     rw (append_assoc (params ++ result_words f.results) (word.Body f.body_at ∷ body_words f.body) ending, append_assoc params (result_words f.results) rest)
-    (in_turn (by_bytes item) (naming (ended begun 1 at) [] 0) params (result_words f.results ++ rest) (new_names p [] f.params) _ _ _ (over_params item p k f.params (ended begun 1 at) [] 0)
+    (in_turn (step (by_bytes item)) (naming (ended begun 1 at) [] 0) params (result_words f.results ++ rest) (new_names p [] f.params) _ _ _ (over_params item p k f.params (ended begun 1 at) [] 0)
       (λ u. over_results item (naming begun (onto (bare f.params) []) (0 + length f.params)) at f.results rest
         ∙ over_entry item f.params results (0 + length f.params) f.body_at (result_at at f.results) (body_words f.body ++ ending)
-        ∙ in_turn (by_bytes item) i0 (body_words f.body) ending (body_values p (bare f.params) f.body) _ _ _ (over_body item p k f.body false fits i0 (record { scope = omega arith; used = omega arith }))
+        ∙ in_turn (step (by_bytes item)) i0 (body_words f.body) ending (body_values p (bare f.params) f.body) _ _ _ (over_body item p k f.body false fits i0 (record { scope = omega arith; used = omega arith }))
           (λ n. last_test (n == results) f.body_at begun)))
 
 pub over_functions : (item : Name → Option Entry) (p : Program) → Knows item p → (items : List Item) → All FitsItem items
     → steps (by_bytes item) begun (program_words items) ≡ mapped (λ (u : ⊤). begun) (functions_checked p items)
 over_functions item p k [] fits = refl
-over_functions item p k (Cells x len ∷ items) fits = over_functions item p k items (fits.1)
-over_functions item p k (Defines f ∷ items) fits = in_turn (by_bytes item) begun (item_words (Defines f)) (program_words items) (function_checked p f) _ _ _ (over_function item p k f (fits.0.2)) (λ u. over_functions item p k items (fits.1))
+over_functions item p k (Cells x len ∷ items) fits = over_functions item p k items (All-tail FitsItem (Cells x len) items fits)
+over_functions item p k (Defines f ∷ items) fits = in_turn (step (by_bytes item)) begun (item_words (Defines f)) (program_words items) (function_checked p f) _ _ _ (over_function item p k f ((All-head FitsItem (Defines f) items fits).2)) (λ u. over_functions item p k items (All-tail FitsItem (Defines f) items fits))

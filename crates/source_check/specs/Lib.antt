@@ -1,2 +1,4 @@
 pub mod Checked
+pub mod Heads
 pub mod Steps
+pub mod Checks

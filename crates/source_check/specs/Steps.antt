@@ -7,6 +7,7 @@ use Rattle.source.specs.declared.fault.FaultKind.TheVariants.{SameName, NoSuchNa
 use Rattle.source.specs.declared.word.Word.{Word}
 use Rattle.source.specs.declared.word.Word.TheVariants as word
 use Rattle.source.specs.First.{◌>>=◌, refused, must}
+use Rattle.source_check.specs.Heads.{through}
 use Rattle.source_check.specs.declared.frame.Entry.{Entry}
 use Rattle.source_check.specs.declared.frame.Entry.TheVariants as entry
 use Rattle.source_check.specs.declared.frame.Values.{Values}
@@ -277,7 +278,4 @@ step t s word.Chain = Ok (ended s s.last.count 0)
 
 -- ALL WORDS
 abbrev pub steps : {N : Type 0} → Names N → State N → List (Word N) → Result (State N) Fault
-steps t s [] = Ok s
-steps t s (w ∷ ws) = do
-  next ← step t s w
-  steps t next ws
+steps t s ws = through (step t) s ws
