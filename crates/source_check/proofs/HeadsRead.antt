@@ -1,7 +1,7 @@
 -- The heads that the steps read are those of the rules.
 use Rattle.std.specs.Prelude.{◌≡◌, refl, ℕ, zero, suc, ◌+◌, ◌-◌, ◌≤◌, ◌&&◌, ◌||◌, not, nat_le, nat_lt, Bool, true, false, List, [], ◌∷◌, ◌++◌, length, map, drop, is_some, Option, None, Some, Result, Ok, Err, ⊤, if◌then◌else◌}
 use Rattle.std.proofs.Common.{◌∙◌, ap, sym, subst, arith, append_assoc}
-use Rattle.std.proofs.lemmas.Bool.{lt-ltb}
+use Rattle.std.proofs.lemmas.Bool.{lt-ltb, le-ltb}
 use Rattle.source.specs.declared.fault.Fault.{Fault}
 use Rattle.source.specs.declared.fault.FaultKind.{FaultKind}
 use Rattle.source.specs.declared.fault.FaultKind.TheVariants.{SameName, BadCount, TooMany}
@@ -54,15 +54,11 @@ nothing_more k = omega arith
 nothing_less : (k : ℕ) → 0 + k ≡ k
 nothing_less k = omega arith
 
--- the seventeenth is too many
-not_below : (k : ℕ) → k ≡ 16 → nat_lt k 16 ≡ false
-not_below k e = rw e refl
-
 params_read : (h : Heads Name) (k n : ℕ) (xs : List NameAt) → n + k ≡ 16
     → through (head_step same_name) (counting h k) (map (λ (x : NameAt). word.Parameter x.at x.name) xs) ≡ mapped (λ (u : ⊤). counting h (k + length xs)) (few_params (drop n xs))
 params_read h k zero [] d = ap (λ i. Ok (counting h i)) (nothing_more k)
 params_read h k (suc n) [] d = ap (λ i. Ok (counting h i)) (nothing_more k)
-params_read h k zero (x ∷ xs) d = let e : nat_lt k 16 ≡ false = not_below k (omega (arith, d)) in rw e refl
+params_read h k zero (x ∷ xs) d = let e : nat_lt k 16 ≡ false = le-ltb k 16 (omega (arith, d)) in rw e refl
 params_read h k (suc n) (x ∷ xs) d = let e : nat_lt k 16 ≡ true = lt-ltb k 16 (omega (arith, d)) in
     rw e (params_read h (k + 1) n xs (omega (arith, d)) ∙ ap (λ i. mapped (λ (u : ⊤). counting h i) (few_params (drop n xs))) (one_more k (length xs)))
 
