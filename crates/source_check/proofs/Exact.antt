@@ -43,5 +43,5 @@ after_heads end p fits (Ok b) h = rw (items_headed p no_heads)
     (with_main (is_function (with_items (λ x. None) p main_name)) (is_some (function_in p main_name)) end _ (functions_checked p p) (function_is_known p b h main_name)
       (ap (λ r. r >>= λ (s : State Name). Ok tt) (over_functions (with_items (λ x. None) p) p (all_known p b h) p fits) ∙ no_answer (functions_checked p p)))
 
-pub words_are_checked : (end : ℕ) (p : Program) → FitsProgram p → words_checked same_name (Some main_name) end (program_words p) ≡ checked end p
+pub words_are_checked : (end : ℕ) (p : Program) → FitsProgram p → words_checked same_name main_name end (program_words p) ≡ checked end p
 words_are_checked end p fits = rw (items_read p no_heads [] (λ x. refl)) (after_heads end p fits (heads no_items p) refl)

@@ -10,3 +10,6 @@ pub mod Still
 pub mod HeadsRead
 pub mod Known
 pub mod Exact
+pub mod Renamed
+pub mod RenamedHeads
+pub mod Numbers

@@ -14,14 +14,10 @@ is_function (Some (entry.Function params results)) = true
 is_function (Some entry.Array) = false
 is_function None = false
 
--- the item of that name, if the name is one at all
-abbrev pub item_at : {N : Type 0} → (N → Option Entry) → Option N → Option Entry
-item_at item None = None
-item_at item (Some x) = item x
-
-abbrev pub words_checked : {N : Type 0} → (N → N → Bool) → Option N → ℕ → List (Word N) → Result ⊤ Fault
+-- `main` is the name that a function must have.
+abbrev pub words_checked : {N : Type 0} → (N → N → Bool) → N → ℕ → List (Word N) → Result ⊤ Fault
 words_checked same main end ws = do
   heads ← through (head_step same) no_heads ws
-  there ← must (is_function (item_at heads.item main)) NoMain end
+  there ← must (is_function (heads.item main)) NoMain end
   last ← steps (record { same = same; item = heads.item }) begun ws
   Ok tt

@@ -2,3 +2,5 @@ pub mod Checked
 pub mod Heads
 pub mod Steps
 pub mod Checks
+pub mod Renamed
+pub mod Numbers
