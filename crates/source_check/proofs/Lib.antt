@@ -13,3 +13,4 @@ pub mod Exact
 pub mod Renamed
 pub mod RenamedHeads
 pub mod Numbers
+pub mod Places

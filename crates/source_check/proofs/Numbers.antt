@@ -3,6 +3,8 @@ use Rattle.std.specs.Prelude.{◌≡◌, refl, ℕ, zero, suc, ◌+◌, ◌<◌,
 use Rattle.std.proofs.Common.{◌∙◌, ap, sym, subst, arith, inl, inr}
 use Rattle.std.proofs.lemmas.Bool.{lt-ltb, le-ltb, ltb-true, ltb-false, eqb-true, eqb-false, eq-eqb}
 use Rattle.std.proofs.lemmas.List.{length-append}
+use Rattle.std.proofs.Math.ListN.{get_or-append}
+use Rattle.std.proofs.Math.Seq.{get_or-append_seam}
 use Rattle.std.proofs.lemmas.List.Elements.{All-head, All-tail}
 use Rattle.std.proofs.lemmas.List.Sums.{get_or-le-sum_by}
 use Rattle.source.specs.declared.word.Word.{Word}
@@ -32,7 +34,7 @@ within names n h = rw (lt-ltb n (length names) h) refl
 beyond : (names : List Name) (n : ℕ) → length names ≤ n → named_by names n ≡ new_name names n
 beyond names n h = rw (le-ltb n (length names) h) refl
 
-length-zeros : (n : ℕ) → length (replicate n 0) ≡ n
+length-zeros : (n : ℕ) → length {A = ℕ} (replicate n 0) ≡ n
 length-zeros zero = refl
 length-zeros (suc n) = ap suc (length-zeros n)
 
@@ -127,3 +129,48 @@ with_main names ws main end p fits d w m =
     sym (check_renamed (named_by names) (λ i j. i == j) same_name (same_numbers names d) main end ws)
     ∙ ap (λ (x : Name). words_checked same_name x end (map (renamed (named_by names)) ws)) m
     ∙ ap (words_checked same_name main_name end) w ∙ words_are_checked end p fits
+
+-- the table with `main`
+abbrev more : List Name → List Name
+more names = names ++ main_name ∷ []
+
+same_place : (names : List Name) (n : ℕ) → n < length names → name_of (more names) n ≡ name_of names n
+same_place names n h = get_or-append names (main_name ∷ []) [] n h
+
+main_place : (names : List Name) → name_of (more names) (length names) ≡ main_name
+main_place names = get_or-append_seam names main_name [] []
+
+longer : (names : List Name) → length (more names) ≡ length names + 1
+longer names = length-append names (main_name ∷ [])
+
+abbrev HasNoMain : List Name → Type 0
+HasNoMain names = (n : ℕ) → n < length names → name_of names n ≡ main_name → ⊥
+
+more_distinct : (names : List Name) → Distinct names → HasNoMain names → Distinct (more names)
+more_distinct names d none i j x y e = go (nat_lt i (length names)) (nat_lt j (length names)) refl refl
+  where
+    last : (k : ℕ) → k < length (more names) → nat_lt k (length names) ≡ false → k ≡ length names
+    last k h f = omega (arith, h, longer names, ltb-false k (length names) f)
+    go : (b c : Bool) → nat_lt i (length names) ≡ b → nat_lt j (length names) ≡ c → i ≡ j
+    go true true p q =
+        let u : i < length names = ltb-true i (length names) p in let v : j < length names = ltb-true j (length names) q in
+        d i j u v (sym (same_place names i u) ∙ e ∙ same_place names j v)
+    go true false p q =
+        let u : i < length names = ltb-true i (length names) p in
+        absurd (none i u (sym (same_place names i u) ∙ e ∙ ap (name_of (more names)) (last j y q) ∙ main_place names))
+    go false true p q =
+        let v : j < length names = ltb-true j (length names) q in
+        absurd (none j v (sym (same_place names j v) ∙ sym e ∙ ap (name_of (more names)) (last i x p) ∙ main_place names))
+    go false false p q = last i x p ∙ sym (last j y q)
+
+-- WHAT A CHECK OF WORDS ANSWERS is what the rules say of the program.
+pub numbers_are_checked : (names : List Name) (ws : List (Word ℕ)) (main end : ℕ) (p : Program) → FitsProgram p → AreWords names ws p → IsMain names main
+    → words_checked (λ i j. i == j) main end ws ≡ checked end p
+numbers_are_checked names ws main end p fits a (inl (h, e)) =
+    with_main names ws main end p fits a.distinct (sym (all_renamed names (named_by names) (λ n l. sym (within names n l)) ws a.known) ∙ a.words) (within names main h ∙ e)
+numbers_are_checked names ws main end p fits a (inr (e, none)) =
+    let inside : (n : ℕ) → n < length names → n < length (more names) = λ n l. omega (arith, l, longer names) in
+    let there : length names < length (more names) = omega (arith, longer names) in
+    with_main (more names) ws main end p fits (more_distinct names a.distinct none)
+      (sym (all_renamed names (named_by (more names)) (λ n l. sym (within (more names) n (inside n l) ∙ same_place names n l)) ws a.known) ∙ a.words)
+      (ap (named_by (more names)) e ∙ within (more names) (length names) there ∙ main_place names)

@@ -4,3 +4,4 @@ pub mod Steps
 pub mod Checks
 pub mod Renamed
 pub mod Numbers
+pub mod Stack

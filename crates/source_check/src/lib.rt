@@ -6,6 +6,7 @@ ghost use Rattle.source_check.specs.Checked.{IsChecked};
 use source::program::Program;
 use std::alloc::Allocator;
 
+mod bindings;
 mod frame;
 
 /// A program that keeps the static rules.

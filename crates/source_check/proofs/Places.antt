@@ -1,0 +1,120 @@
+-- Stacks of names in code.
+use Rattle.std.specs.Prelude.{◌≡◌, refl, ℕ, zero, suc, ◌+◌, ◌-◌, ◌≤◌, ◌<◌, ◌==◌, ◌||◌, nat_lt, Bool, true, false, List, [], ◌∷◌, ◌++◌, length, map, take, drop, slice_index_or, slice_set, if◌then◌else◌}
+use Rattle.std.specs.List.{list_any}
+use Rattle.std.proofs.Common.{◌∙◌, ap, sym, arith}
+use Rattle.std.proofs.lemmas.Bool.{lt-ltb, le-ltb, ltb-true, ltb-false, eqb-true, eqb-false, eq-eqb}
+use Rattle.std.proofs.lemmas.List.{length-append, get_or-set_same, get_or-set_other}
+use Rattle.std.proofs.Math.ListN.{get_or-append}
+use Rattle.std.proofs.Math.Seq.{take-length}
+use Rattle.source_check.specs.declared.bindings.Binding.{Binding}
+use Rattle.source_check.specs.Steps.{since, onto}
+use Rattle.source_check.specs.Stack.{place, names_in, turned_round, AreShadowed, IsStack}
+use Rattle.source_check.proofs.Stacks.{since-deeper}
+
+pub onto-snoc : {X : Type 0} (xs : List X) (x : X) (ys : List X) → onto (xs ++ x ∷ []) ys ≡ x ∷ onto xs ys
+onto-snoc [] x ys = refl
+onto-snoc (z ∷ xs) x ys = onto-snoc xs x (z ∷ ys)
+
+pub length-round : {X : Type 0} (xs ys : List X) → length (onto xs ys) ≡ length xs + length ys
+length-round [] ys = omega arith
+length-round (x ∷ xs) ys = omega (arith, length-round xs (x ∷ ys))
+
+pub length-names : (bs : List Binding) → length (names_in bs) ≡ length bs
+length-names [] = refl
+length-names (b ∷ bs) = ap suc (length-names bs)
+
+place_within : (n : ℕ) (xs : List ℕ) → place n xs ≤ length xs
+place_within n [] = omega arith
+place_within n (x ∷ xs) = go (n == x) (place_within n xs)
+  where
+    go : (b : Bool) → place n xs ≤ length xs → (if b then suc (length xs) else place n xs) ≤ suc (length xs)
+    go true h = omega arith
+    go false h = omega (arith, h)
+
+take_none : {X : Type 0} (n : ℕ) → take {A = X} n [] ≡ []
+take_none zero = refl
+take_none (suc n) = refl
+
+nothing_since : (k x : ℕ) (xs : List ℕ) → length xs < k → since k (x ∷ xs) ≡ []
+nothing_since k x xs h = let e : suc (length xs) - k ≡ 0 = omega (arith, h) in rw e refl
+
+pub place_since : (n k : ℕ) (xs : List ℕ) → nat_lt k (place n xs) ≡ list_any (λ x. n == x) (since k xs)
+place_since n k [] = rw (take_none {X = ℕ} (0 - k)) (le-ltb k 0 (omega arith))
+place_since n k (x ∷ xs) = go (nat_lt (length xs) k) refl (place_since n k xs)
+  where
+    higher : k ≤ length xs → (b : Bool) → nat_lt k (place n xs) ≡ list_any (λ y. n == y) (since k xs)
+        → nat_lt k (if b then suc (length xs) else place n xs) ≡ (b || list_any (λ y. n == y) (since k xs))
+    higher d true h = lt-ltb k (suc (length xs)) (omega (arith, d))
+    higher d false h = h
+    go : (c : Bool) → nat_lt (length xs) k ≡ c → nat_lt k (place n xs) ≡ list_any (λ y. n == y) (since k xs)
+        → nat_lt k (place n (x ∷ xs)) ≡ list_any (λ y. n == y) (since k (x ∷ xs))
+    go true e h = let d : length xs < k = ltb-true (length xs) k e in let w : place n (x ∷ xs) ≤ suc (length xs) = place_within n (x ∷ xs) in
+        rw (nothing_since k x xs d) (le-ltb k (place n (x ∷ xs)) (omega (arith, d, w)))
+    go false e h = let d : k ≤ length xs = ltb-false (length xs) k e in rw (since-deeper k (x ∷ []) xs d) (higher d (n == x) h)
+
+all_since : (xs : List ℕ) → since 0 xs ≡ xs
+all_since xs = let e : length xs - 0 ≡ length xs = omega arith in rw e (take-length xs)
+
+pub place_there : (n : ℕ) (xs : List ℕ) → nat_lt 0 (place n xs) ≡ list_any (λ x. n == x) xs
+place_there n xs = place_since n 0 xs ∙ ap (list_any (λ x. n == x)) (all_since xs)
+
+-- CHANGES
+pub empty_stack : IsStack [] []
+empty_stack = record { placed = λ n. refl; shadowed = tt }
+
+last_zero : (places : List ℕ) (n : ℕ) → slice_index_or (places ++ 0 ∷ []) n 0 ≡ slice_index_or places n 0
+last_zero [] zero = refl
+last_zero [] (suc n) = refl
+last_zero (x ∷ places) zero = refl
+last_zero (x ∷ places) (suc n) = last_zero places n
+
+outside : (places : List ℕ) (n : ℕ) → length places ≤ n → slice_index_or places n 0 ≡ 0
+outside [] n h = refl
+outside (x ∷ places) zero h = absurd (omega (arith, h))
+outside (x ∷ places) (suc n) h = outside places n (omega (arith, h))
+
+pub roomier : (entries : List Binding) (places : List ℕ) → IsStack entries places → IsStack entries (places ++ 0 ∷ [])
+roomier entries places s = record { placed = λ n. last_zero places n ∙ s.placed n; shadowed = s.shadowed }
+
+pub pushed_names : (entries : List Binding) (b : Binding) → names_in (turned_round (entries ++ b ∷ [])) ≡ b.name ∷ names_in (turned_round entries)
+pushed_names entries b = ap names_in (onto-snoc entries b [])
+
+height : (entries : List Binding) → length (names_in (turned_round entries)) ≡ length entries
+height entries = let e : length (names_in (turned_round entries)) ≡ length (turned_round entries) = length-names (turned_round entries) in omega (arith, e, length-round entries [])
+
+pub pushed_stack : (entries : List Binding) (places : List ℕ) (b : Binding) (n : ℕ) → IsStack entries places → b.before ≡ place b.name (names_in (turned_round entries)) → b.name < length places → n ≡ length (entries ++ b ∷ [])
+    → IsStack (entries ++ b ∷ []) (slice_set places b.name n)
+pushed_stack entries places b n s e h l = record {
+    placed = λ k. rw (onto-snoc entries b []) (go k (k == b.name) refl);
+    shadowed = rw (onto-snoc entries b []) (e, s.shadowed) }
+  where
+    go : (k : ℕ) (c : Bool) → (k == b.name) ≡ c → slice_index_or (slice_set places b.name n) k 0 ≡ (if c then suc (length (names_in (turned_round entries))) else place k (names_in (turned_round entries)))
+    go k true d = let f : k ≡ b.name = eqb-true k b.name d in
+        let g : n ≡ suc (length (names_in (turned_round entries))) = omega (arith, l, height entries, length-append entries (b ∷ [])) in
+        rw f (get_or-set_same places b.name n 0 h ∙ g)
+    go k false d = get_or-set_other places b.name k n 0 (eqb-false k b.name d) ∙ s.placed k
+
+pub popped_within : (front : List Binding) (b : Binding) (places : List ℕ) → IsStack (front ++ b ∷ []) places → b.name < length places
+popped_within front b places s = go (nat_lt b.name (length places)) refl
+  where
+    go : (c : Bool) → nat_lt b.name (length places) ≡ c → b.name < length places
+    go true e = ltb-true b.name (length places) e
+    go false e =
+        let none : slice_index_or places b.name 0 ≡ 0 = outside places b.name (ltb-false b.name (length places) e) in
+        let first : place b.name (b.name ∷ names_in (turned_round front)) ≡ suc (length (names_in (turned_round front))) =
+            ap (λ (c : Bool). if c then suc (length (names_in (turned_round front))) else place b.name (names_in (turned_round front))) (eq-eqb b.name b.name refl) in
+        let there : slice_index_or places b.name 0 ≡ place b.name (b.name ∷ names_in (turned_round front)) = s.placed b.name ∙ ap (place b.name) (pushed_names front b) in
+        absurd (omega (arith, none, first, there))
+
+pub popped_stack : (front : List Binding) (b : Binding) (places : List ℕ) → IsStack (front ++ b ∷ []) places → IsStack front (slice_set places b.name b.before)
+popped_stack front b places s = record {
+    placed = λ k. go k (k == b.name) refl;
+    shadowed = shadows.1 }
+  where
+    shadows : AreShadowed (b ∷ turned_round front)
+    shadows = rw onto-snoc at s.shadowed
+    other : (k : ℕ) → slice_index_or places k 0 ≡ place k (b.name ∷ names_in (turned_round front))
+    other k = s.placed k ∙ ap (place k) (pushed_names front b)
+    go : (k : ℕ) (c : Bool) → (k == b.name) ≡ c → slice_index_or (slice_set places b.name b.before) k 0 ≡ place k (names_in (turned_round front))
+    go k true d = let f : k ≡ b.name = eqb-true k b.name d in rw f (get_or-set_same places b.name b.before 0 (popped_within front b places s) ∙ shadows.0)
+    go k false d = get_or-set_other places b.name k b.before 0 (eqb-false k b.name d) ∙ other k ∙ ap (λ (c : Bool). if c then suc (length (names_in (turned_round front))) else place k (names_in (turned_round front))) d
