@@ -62,7 +62,7 @@ place_there n xs = place_since n 0 xs ∙ ap (list_any (λ x. n == x)) (all_sinc
 pub empty_stack : IsStack [] []
 empty_stack = record { placed = λ n. refl; shadowed = tt }
 
-last_zero : (places : List ℕ) (n : ℕ) → slice_index_or (places ++ 0 ∷ []) n 0 ≡ slice_index_or places n 0
+pub last_zero : (places : List ℕ) (n : ℕ) → slice_index_or (places ++ 0 ∷ []) n 0 ≡ slice_index_or places n 0
 last_zero [] zero = refl
 last_zero [] (suc n) = refl
 last_zero (x ∷ places) zero = refl
@@ -73,8 +73,8 @@ outside [] n h = refl
 outside (x ∷ places) zero h = absurd (omega (arith, h))
 outside (x ∷ places) (suc n) h = outside places n (omega (arith, h))
 
-pub roomier : (entries : List Binding) (places : List ℕ) → IsStack entries places → IsStack entries (places ++ 0 ∷ [])
-roomier entries places s = record { placed = λ n. last_zero places n ∙ s.placed n; shadowed = s.shadowed }
+pub roomier : (entries : List Binding) (places more : List ℕ) → IsStack entries places → ((n : ℕ) → slice_index_or more n 0 ≡ slice_index_or places n 0) → IsStack entries more
+roomier entries places more s e = record { placed = λ n. e n ∙ s.placed n; shadowed = s.shadowed }
 
 pub pushed_names : (entries : List Binding) (b : Binding) → names_in (turned_round (entries ++ b ∷ [])) ≡ b.name ∷ names_in (turned_round entries)
 pushed_names entries b = ap names_in (onto-snoc entries b [])

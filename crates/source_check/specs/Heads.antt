@@ -61,11 +61,14 @@ abbrev pub head_read : {N : Type 0} → (N → N → Bool) → Heads N → Optio
 head_read same h None = h
 head_read same h (Some x) = record h { item = with_item same h.item x (entry.Function h.params h.results) }
 
+abbrev pub head_done : {N : Type 0} → (N → N → Bool) → Heads N → Result (Heads N) Fault
+head_done same h = Ok (head_read same h h.current)
+
 abbrev pub head_step : {N : Type 0} → (N → N → Bool) → Heads N → Word N → Result (Heads N) Fault
 head_step same h (word.Array at x) = array same h at x
 head_step same h (word.Length at n) = array_length h at n
 head_step same h (word.Function at x) = function_name h at x
 head_step same h (word.Parameter at x) = parameter h at
 head_step same h (word.Results at n) = results_number h at n
-head_step same h (word.Body at) = Ok (head_read same h h.current)
+head_step same h (word.Body at) = head_done same h
 head_step same h w = Ok h

@@ -1,5 +1,5 @@
 -- STACKS IN CODE. A stack of names has the last one first, and each name's last place is looked up in one step.
-use Rattle.std.specs.Prelude.{◌≡◌, ℕ, suc, ◌==◌, ◌⊎◌, List, [], ◌∷◌, length, map, slice_index_or, Result, MatchResult, Ok, Err, ⊤, if◌then◌else◌}
+use Rattle.std.specs.Prelude.{◌≡◌, ℕ, suc, ◌==◌, ◌⊎◌, Bool, List, [], ◌∷◌, length, map, slice_index_or, Result, MatchResult, Ok, Err, ⊤, if◌then◌else◌}
 use Rattle.source.specs.declared.fault.Fault.{Fault}
 use Rattle.source.specs.declared.fault.FaultKind.TheVariants.{Memory}
 use Rattle.source_check.specs.declared.bindings.Binding.{Binding}
@@ -25,6 +25,10 @@ AreShadowed (b ∷ bs) = (b.before ≡ place b.name (names_in bs)) × AreShadowe
 pub record IsStack (entries : List Binding) (places : List ℕ) : Type 0 where
   pub placed : (n : ℕ) → slice_index_or places n 0 ≡ place n (names_in (turned_round entries))
   pub shadowed : AreShadowed (turned_round entries)
+
+-- names by their numbers
+abbrev pub by_number : ℕ → ℕ → Bool
+by_number i j = i == j
 
 -- REFUSALS
 abbrev pub out_of_memory : Fault

@@ -1,6 +1,6 @@
 //! Stacks: of names, in which a name is looked up in one step, and of frames.
 
-ghost use Rattle.std.specs.Prelude.{◌≡◌, ◌==◌, ◌∷◌, [], OnOk, OnErr, length, drop, slice_get};
+ghost use Rattle.std.specs.Prelude.{◌≡◌, ◌==◌, ◌∷◌, [], ◌<◌, ℕ, OnOk, OnErr, length, drop, slice_get, slice_index_or};
 ghost use Rattle.std.specs.List.{list_any};
 ghost use Rattle.source_check.specs.Steps.{since, top};
 ghost use Rattle.source_check.specs.Stack as stack;
@@ -14,6 +14,17 @@ use std::marker::Model;
 pub struct Binding {
     pub name: usize,
     pub before: usize,
+}
+
+/// Makes room for the place of a name.
+fn reserve<A: Allocator>(places: &mut Vec<usize, A>, name: usize) -> Result<(), AllocError>
+    ensures same { (n : ℕ) → slice_index_or places.new.items n 0 ≡ slice_index_or places.old.items n 0 }
+    ensures room { OnOk result (name < length places.new.items) }
+{
+    while places.len() <= name {
+        places.push(0)?;
+    }
+    Ok(())
 }
 
 /// A stack of names. Contracts see the names, the last one first.
@@ -71,26 +82,14 @@ impl<A: Allocator> Bindings<A> {
         self.place(name) > start
     }
 
-    /// Makes room for the place of a name.
-    fn reserve(&mut self, name: usize) -> Result<(), AllocError>
-        ensures same { self.new ≡ self.old }
-    {
-        while self.places.len() <= name {
-            self.places.push(0)?;
-        }
-        Ok(())
-    }
-
     pub(crate) fn push(&mut self, name: usize) -> Result<(), AllocError>
         ensures pushed { OnOk result (self.new ≡ name ∷ self.old) }
         ensures refused { OnErr result (self.new ≡ self.old) }
     {
-        self.reserve(name)?;
         let before = self.place(name);
+        reserve(&mut self.places, name)?;
         self.entries.push(Binding { name, before })?;
-        if name < self.places.len() {
-            self.places[name] = self.entries.len();
-        }
+        self.places[name] = self.entries.len();
         Ok(())
     }
 
