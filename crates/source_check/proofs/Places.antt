@@ -1,5 +1,5 @@
 -- Stacks of names in code.
-use Rattle.std.specs.Prelude.{◌≡◌, refl, ℕ, zero, suc, ◌+◌, ◌-◌, ◌≤◌, ◌<◌, ◌==◌, ◌||◌, nat_lt, Bool, true, false, List, [], ◌∷◌, ◌++◌, length, map, take, drop, slice_index_or, slice_set, if◌then◌else◌}
+use Rattle.std.specs.Prelude.{◌≡◌, refl, ℕ, zero, suc, ◌+◌, ◌-◌, ◌≤◌, ◌<◌, ◌==◌, ◌||◌, nat_lt, Bool, true, false, List, [], ◌∷◌, ◌++◌, length, map, take, drop, slice_index_or, slice_set, Option, None, Some, if◌then◌else◌}
 use Rattle.std.specs.List.{list_any}
 use Rattle.std.proofs.Common.{◌∙◌, ap, sym, arith}
 use Rattle.std.proofs.lemmas.Bool.{lt-ltb, le-ltb, ltb-true, ltb-false, eqb-true, eqb-false, eq-eqb}
@@ -7,8 +7,10 @@ use Rattle.std.proofs.lemmas.List.{length-append, get_or-set_same, get_or-set_ot
 use Rattle.std.proofs.Math.ListN.{get_or-append}
 use Rattle.std.proofs.Math.Seq.{take-length}
 use Rattle.source_check.specs.declared.bindings.Binding.{Binding}
+use Rattle.source_check.specs.declared.frame.Entry.{Entry}
+use Rattle.source_check.specs.Heads.{with_item}
 use Rattle.source_check.specs.Steps.{since, onto}
-use Rattle.source_check.specs.Stack.{place, names_in, turned_round, AreShadowed, IsStack}
+use Rattle.source_check.specs.Stack.{item_in, by_number, place, names_in, turned_round, AreShadowed, IsStack}
 use Rattle.source_check.proofs.Stacks.{since-deeper}
 
 pub onto-snoc : {X : Type 0} (xs : List X) (x : X) (ys : List X) → onto (xs ++ x ∷ []) ys ≡ x ∷ onto xs ys
@@ -57,6 +59,15 @@ all_since xs = let e : length xs - 0 ≡ length xs = omega arith in rw e (take-l
 
 pub place_there : (n : ℕ) (xs : List ℕ) → nat_lt 0 (place n xs) ≡ list_any (λ x. n == x) xs
 place_there n xs = place_since n 0 xs ∙ ap (list_any (λ x. n == x)) (all_since xs)
+
+-- a table with one more item
+pub set_item : (entries grown : List (Option Entry)) (name : ℕ) (e : Entry) → ((n : ℕ) → slice_index_or grown n None ≡ slice_index_or entries n None) → name < length grown
+    → item_in (slice_set grown name (Some e)) ≡ with_item by_number (item_in entries) name e
+set_item entries grown name e same room = λ i n. go n (n == name) refl i
+  where
+    go : (n : ℕ) (b : Bool) → (n == name) ≡ b → slice_index_or (slice_set grown name (Some e)) n None ≡ (if b then Some e else slice_index_or entries n None)
+    go n true d = rw (eqb-true n name d) (get_or-set_same grown name (Some e) None room)
+    go n false d = get_or-set_other grown name n (Some e) None (eqb-false n name d) ∙ same n
 
 -- CHANGES
 pub empty_stack : IsStack [] []

@@ -1,8 +1,8 @@
 //! The heads of items: what each name's item is.
 
-ghost use Rattle.std.specs.Prelude.{◌≡◌, ◌==◌, ◌<◌, ◌≤◌, ℕ, None, OnOk, length, slice_index_or};
+ghost use Rattle.std.specs.Prelude.{◌≡◌, ◌⊎◌, [], Err, MatchResult, ◌==◌, ◌<◌, ◌≤◌, ℕ, None, OnOk, length, slice_index_or};
 ghost use Rattle.source_check.specs.Heads as heads;
-ghost use Rattle.source_check.specs.Stack.{Follows, by_number};
+ghost use Rattle.source_check.specs.Stack.{Follows, HeadsGive, out_of_memory, by_number, item_in, heads_in};
 ghost use Rattle.source.specs.First as first;
 
 use crate::frame::Entry;
@@ -24,19 +24,19 @@ pub(crate) fn must(holds: bool, kind: FaultKind, at: usize) -> Result<(), Fault>
     if holds { Ok(()) } else { Err(Fault { kind, at }) }
 }
 
-/// What each name's item is, by the name's number. Contracts see the function.
+/// What each name's item is, by the name's number. Contracts see the list.
 #[derive(Drop)]
 pub(crate) struct Table<A: Allocator> {
     entries: Vec<Option<Entry>, A>,
 }
 
 impl<A: Allocator> Model for Table<A> {
-    ghost use Rattle.std.specs.Prelude.{ℕ, Option, None, slice_index_or};
+    ghost use Rattle.std.specs.Prelude.{List, Option};
     ghost use Rattle.source_check.specs.declared.frame.Entry.{Entry};
 
-    ghost Value = { ℕ → Option Entry };
+    ghost Value = { List (Option Entry) };
 
-    ghost view = { λ t. λ n. slice_index_or t.entries.items n None };
+    ghost view = { λ t. t.entries.items };
 }
 
 /// Makes room for the item of a name.
@@ -55,7 +55,7 @@ fn reserve<A: Allocator>(
 
 impl<A: Allocator> Table<A> {
     pub(crate) fn new(alloc: A) -> Table<A>
-        ensures { result ≡ (λ n. None) }
+        ensures { result ≡ [] }
     {
         Table {
             entries: Vec::new(alloc),
@@ -63,7 +63,7 @@ impl<A: Allocator> Table<A> {
     }
 
     pub(crate) fn get(&self, name: usize) -> Option<Entry>
-        ensures { result ≡ self.now name }
+        ensures { result ≡ item_in self.now name }
     {
         if name < self.entries.len() {
             self.entries[name]
@@ -73,7 +73,7 @@ impl<A: Allocator> Table<A> {
     }
 
     pub(crate) fn set(&mut self, name: usize, entry: Entry) -> Result<(), AllocError>
-        ensures { OnOk result (self.new ≡ heads.with_item by_number self.old name entry) }
+        ensures { OnOk result (item_in self.new ≡ heads.with_item by_number (item_in self.old) name entry) }
     {
         reserve(&mut self.entries, name)?;
         self.entries[name] = Some(entry);
@@ -95,18 +95,18 @@ pub(crate) struct Heads<A: Allocator> {
 
 impl<A: Allocator> Model for Heads<A> {
     ghost use Rattle.std.specs.Prelude.{ℕ, ◌≤◌};
-    ghost use Rattle.source_check.specs.Heads.{Heads};
+    ghost use Rattle.source_check.specs.Stack.{Kept};
 
-    ghost Value = { Heads ℕ };
+    ghost Value = { Kept };
 
-    ghost view = { λ h. record { item = h.table; arrays = h.arrays; cells = h.cells; current = h.current; params = h.params; results = h.results } };
+    ghost view = { λ h. record { entries = h.table; arrays = h.arrays; cells = h.cells; current = h.current; params = h.params; results = h.results } };
 
     ghost invariant = { λ h. h.cells ≤ 65536 };
 }
 
 impl<A: Allocator> Heads<A> {
     fn new(alloc: A) -> Heads<A>
-        ensures { result ≡ heads.no_heads }
+        ensures { heads_in result ≡ heads.no_heads }
     {
         Heads {
             table: Table::new(alloc),
@@ -119,7 +119,7 @@ impl<A: Allocator> Heads<A> {
     }
 
     fn array(&mut self, at: usize, name: usize) -> Result<(), Fault>
-        ensures { Follows result self.new (heads.array by_number self.old at name) }
+        ensures { Follows result (heads_in self.new) (heads.array by_number (heads_in self.old) at name) }
     {
         must(self.table.get(name).is_none(), FaultKind::SameName, at)?;
         must(self.arrays < 64, FaultKind::TooMany, at)?;
@@ -131,7 +131,7 @@ impl<A: Allocator> Heads<A> {
     }
 
     fn array_length(&mut self, at: usize, len: u64) -> Result<(), Fault>
-        ensures { Follows result self.new (heads.array_length self.old at len) }
+        ensures { Follows result (heads_in self.new) (heads.array_length (heads_in self.old) at len) }
     {
         must(1 <= len && len <= 65536, FaultKind::BadCount, at)?;
         must(self.cells + len <= 65536, FaultKind::TooMany, at)?;
@@ -140,7 +140,7 @@ impl<A: Allocator> Heads<A> {
     }
 
     fn function_name(&mut self, at: usize, name: usize) -> Result<(), Fault>
-        ensures { Follows result self.new (heads.function_name self.old at name) }
+        ensures { Follows result (heads_in self.new) (heads.function_name (heads_in self.old) at name) }
     {
         must(self.table.get(name).is_none(), FaultKind::SameName, at)?;
         self.current = Some(name);
@@ -150,7 +150,7 @@ impl<A: Allocator> Heads<A> {
     }
 
     fn parameter(&mut self, at: usize) -> Result<(), Fault>
-        ensures { Follows result self.new (heads.parameter self.old at) }
+        ensures { Follows result (heads_in self.new) (heads.parameter (heads_in self.old) at) }
     {
         must(self.params < 16, FaultKind::TooMany, at)?;
         self.params += 1;
@@ -158,7 +158,7 @@ impl<A: Allocator> Heads<A> {
     }
 
     fn results_number(&mut self, at: usize, number: u64) -> Result<(), Fault>
-        ensures { Follows result self.new (heads.results_number self.old at number) }
+        ensures { Follows result (heads_in self.new) (heads.results_number (heads_in self.old) at number) }
     {
         must(1 <= number && number <= 16, FaultKind::BadCount, at)?;
         self.results = number;
@@ -166,7 +166,7 @@ impl<A: Allocator> Heads<A> {
     }
 
     fn head_read(&mut self) -> Result<(), Fault>
-        ensures { Follows result self.new (heads.head_done by_number self.old) }
+        ensures { Follows result (heads_in self.new) (heads.head_done by_number (heads_in self.old)) }
     {
         let Some(name) = self.current else {
             return Ok(());
@@ -182,7 +182,7 @@ impl<A: Allocator> Heads<A> {
     }
 
     fn step(&mut self, word: Word<usize>) -> Result<(), Fault>
-        ensures { Follows result self.new (heads.head_step by_number self.old word) }
+        ensures { Follows result (heads_in self.new) (heads.head_step by_number (heads_in self.old) word) }
     {
         match word {
             Word::Array { at, name } => self.array(at, name),
@@ -194,4 +194,18 @@ impl<A: Allocator> Heads<A> {
             _ => Ok(()),
         }
     }
+}
+
+/// Reads the heads of all items.
+pub(crate) fn read_heads<A: Allocator>(
+    alloc: A,
+    words: &[Word<usize>],
+) -> Result<Table<A>, Fault>
+    ensures { MatchResult result (λ table. HeadsGive table (heads.through (heads.head_step by_number) heads.no_heads words.now)) (λ f. (f ≡ out_of_memory) ⊎ (heads.through (heads.head_step by_number) heads.no_heads words.now ≡ Err f)) }
+{
+    let mut heads = Heads::new(alloc);
+    for &word in words {
+        heads.step(word)?;
+    }
+    Ok(heads.table)
 }
