@@ -2,7 +2,7 @@
 
 ghost use Rattle.std.specs.Prelude.{◌≡◌, ◌==◌, ◌∷◌, [], ◌<◌, ℕ, OnOk, OnErr, length, drop, slice_get, slice_index_or};
 ghost use Rattle.std.specs.List.{list_any};
-ghost use Rattle.source_check.specs.Steps.{since, top};
+ghost use Rattle.source_check.specs.Steps.{since, back, onto, top};
 ghost use Rattle.source_check.specs.Stack as stack;
 
 use crate::frame::Frame;
@@ -102,6 +102,28 @@ impl<A: Allocator> Bindings<A> {
             self.places[binding.name] = binding.before;
         }
         Some(binding.name)
+    }
+
+    /// Keeps the first `len` names.
+    pub(crate) fn truncate(&mut self, len: usize)
+        ensures { self.new ≡ back len self.old }
+    {
+        while self.len() > len {
+            self.pop();
+        }
+    }
+
+    /// Moves the names after the first `start` to another stack, the last one first.
+    pub(crate) fn moves(&mut self, to: &mut Bindings<A>, start: usize) -> Result<(), AllocError>
+        ensures moved { OnOk result (to.new ≡ onto (since start self.old) to.old) }
+        ensures rest { OnOk result (self.new ≡ back start self.old) }
+    {
+        while self.len() > start {
+            if let Some(name) = self.pop() {
+                to.push(name)?;
+            }
+        }
+        Ok(())
     }
 }
 

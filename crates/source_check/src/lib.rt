@@ -8,6 +8,7 @@ use std::alloc::Allocator;
 
 mod bindings;
 mod frame;
+mod machine;
 mod table;
 
 /// A program that keeps the static rules.
