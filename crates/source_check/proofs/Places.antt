@@ -1,17 +1,19 @@
 -- Stacks of names in code.
-use Rattle.std.specs.Prelude.{◌≡◌, refl, ℕ, zero, suc, ◌+◌, ◌-◌, ◌≤◌, ◌<◌, ◌==◌, ◌||◌, nat_lt, Bool, true, false, List, [], ◌∷◌, ◌++◌, length, map, take, drop, slice_index_or, slice_set, Option, None, Some, if◌then◌else◌}
+use Rattle.std.specs.Prelude.{◌≡◌, refl, ℕ, zero, suc, ◌+◌, ◌-◌, ◌≤◌, ◌<◌, ◌==◌, ◌||◌, nat_lt, Bool, true, false, List, [], ◌∷◌, ◌++◌, length, map, take, drop, slice_index_or, slice_set, slice_get, Option, None, Some, if◌then◌else◌}
 use Rattle.std.specs.List.{list_any}
 use Rattle.std.proofs.Common.{◌∙◌, ap, sym, arith}
 use Rattle.std.proofs.lemmas.Bool.{lt-ltb, le-ltb, ltb-true, ltb-false, eqb-true, eqb-false, eq-eqb}
 use Rattle.std.proofs.lemmas.List.{length-append, get_or-set_same, get_or-set_other}
 use Rattle.std.proofs.Math.ListN.{get_or-append}
-use Rattle.std.proofs.Math.Seq.{take-length}
+use Rattle.std.proofs.Math.Seq.{take-length, drop-length}
 use Rattle.source_check.specs.declared.bindings.Binding.{Binding}
 use Rattle.source_check.specs.declared.frame.Entry.{Entry}
 use Rattle.source_check.specs.Heads.{with_item}
-use Rattle.source_check.specs.Steps.{since, onto}
-use Rattle.source_check.specs.Stack.{item_in, by_number, place, names_in, turned_round, AreShadowed, IsStack}
-use Rattle.source_check.proofs.Stacks.{since-deeper}
+use Rattle.source_check.specs.declared.frame.Frame.{Frame}
+use Rattle.source_check.specs.declared.frame.Frame.TheVariants as frame
+use Rattle.source_check.specs.Steps.{Names, State, since, back, onto, noted, all_noted, end_loop}
+use Rattle.source_check.specs.Stack.{item_in, by_number, numbers, place, names_in, turned_round, AreShadowed, IsStack}
+use Rattle.source_check.proofs.Stacks.{since-deeper, back-deeper}
 
 pub onto-snoc : {X : Type 0} (xs : List X) (x : X) (ys : List X) → onto (xs ++ x ∷ []) ys ≡ x ∷ onto xs ys
 onto-snoc [] x ys = refl
@@ -68,6 +70,51 @@ set_item entries grown name e same room = λ i n. go n (n == name) refl i
     go : (n : ℕ) (b : Bool) → (n == name) ≡ b → slice_index_or (slice_set grown name (Some e)) n None ≡ (if b then Some e else slice_index_or entries n None)
     go n true d = rw (eqb-true n name d) (get_or-set_same grown name (Some e) None room)
     go n false d = get_or-set_other grown name n (Some e) None (eqb-false n name d) ∙ same n
+
+pub back_none : (xs : List ℕ) → back 0 xs ≡ []
+back_none xs = let e : length xs - 0 ≡ length xs = omega arith in rw e (drop-length xs)
+
+pub length_since : (n : ℕ) (xs : List ℕ) → length (since n xs) ≡ length xs - n
+length_since n xs = length-take-le (length xs - n) xs (omega arith)
+
+-- one more name is moved
+pub moves_on : (start x : ℕ) (old rest to new orig onto_orig : List ℕ) → start < length old → slice_get old 0 ≡ Some x → rest ≡ drop 1 old → new ≡ x ∷ to
+    → (back start old ≡ back start orig) × (onto (since start old) to ≡ onto (since start orig) onto_orig)
+    → (back start rest ≡ back start orig) × (onto (since start rest) new ≡ onto (since start orig) onto_orig)
+moves_on start x [] rest to new orig onto_orig l g r n h = absurd (omega (arith, l))
+moves_on start x (y ∷ ys) rest to new orig onto_orig l g r n h =
+    let d : start ≤ length ys = omega (arith, l) in
+    let e : y ≡ x = cc in
+    let f : rest ≡ ys = r in
+    let k : new ≡ y ∷ to = n ∙ ap (λ z. z ∷ to) (sym e) in
+    let b : back start (y ∷ ys) ≡ back start ys = back-deeper start (y ∷ []) ys d in
+    let s : since start (y ∷ ys) ≡ y ∷ since start ys = since-deeper start (y ∷ []) ys d in
+    (ap (back start) f ∙ sym b ∙ h.0, ap (λ z. onto (since start z) new) f ∙ ap (onto (since start ys)) k ∙ sym (ap (λ z. onto z to) s) ∙ h.1)
+
+-- one more name is noted
+pub notes_on : (t : Names ℕ) (inner : List ℕ) (k x : ℕ) (old rest used new orig first : List ℕ) → 0 < length old → slice_get old 0 ≡ Some x → rest ≡ drop 1 old → new ≡ noted t inner k used x
+    → all_noted t inner k used old ≡ all_noted t inner k first orig → all_noted t inner k new rest ≡ all_noted t inner k first orig
+notes_on t inner k x [] rest used new orig first l g r n h = absurd (omega (arith, l))
+notes_on t inner k x (y ∷ ys) rest used new orig first l g r n h =
+    let e : x ≡ y = cc in
+    let f : new ≡ noted t inner k used y = n ∙ ap (noted t inner k used) e in
+    ap (all_noted t inner k new) r ∙ ap (λ z. all_noted t inner k z ys) f ∙ h
+
+pub nothing_to_note : (t : Names ℕ) (inner : List ℕ) (k : ℕ) (used xs : List ℕ) → length xs ≤ 0 → all_noted t inner k used xs ≡ used
+nothing_to_note t inner k used [] h = refl
+nothing_to_note t inner k used (x ∷ xs) h = absurd (omega (arith, h))
+
+-- What items are does not matter where names are noted.
+pub noted_alike : (entries : List (Option Entry)) (inner : List ℕ) (k : ℕ) (xs used : List ℕ) → all_noted (numbers entries) inner k used xs ≡ all_noted (numbers []) inner k used xs
+noted_alike entries inner k [] used = refl
+noted_alike entries inner k (x ∷ xs) used = noted_alike entries inner k xs (noted (numbers []) inner k used x)
+
+pub end_loop_alike : (entries : List (Option Entry)) (s : State ℕ) (at : ℕ) (o : Option Frame) → end_loop (numbers entries) s at o ≡ end_loop (numbers []) s at o
+end_loop_alike entries s at (Some (frame.Open outer names mark)) =
+    rw (noted_alike entries (since outer.base (back s.turn.base s.scope)) outer.start (onto (since s.turn.start s.used) []) (back s.turn.start s.used)) refl
+end_loop_alike entries s at (Some (frame.Tested outer names given)) =
+    rw (noted_alike entries (since outer.base (back s.turn.base s.scope)) outer.start (onto (since s.turn.start s.used) []) (back s.turn.start s.used)) refl
+end_loop_alike entries s at o = refl
 
 -- CHANGES
 pub empty_stack : IsStack [] []

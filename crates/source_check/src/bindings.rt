@@ -113,6 +113,20 @@ impl<A: Allocator> Bindings<A> {
         }
     }
 
+    #[tactic(auto, using(crate::proofs::Places::back_none))]
+    pub(crate) fn clear(&mut self)
+        ensures { self.new ≡ [] }
+    {
+        self.truncate(0);
+    }
+
+    /// How many names stand after the first `start`.
+    pub(crate) fn len_since(&self, start: usize) -> usize
+        ensures { result ≡ length (since start self.now) }
+    {
+        self.len().saturating_sub(start)
+    }
+
     /// Moves the names after the first `start` to another stack, the last one first.
     pub(crate) fn moves(&mut self, to: &mut Bindings<A>, start: usize) -> Result<(), AllocError>
         ensures moved { OnOk result (to.new ≡ onto (since start self.old) to.old) }

@@ -1,7 +1,8 @@
 //! The steps over the words of functions.
 
-ghost use Rattle.std.specs.Prelude.{◌≡◌, ◌∷◌, [], ◌⊎◌, ℕ, List, Option, Ok, Err, length, drop};
+ghost use Rattle.std.specs.Prelude.{◌≡◌, ◌∷◌, [], ◌+◌, ◌⊎◌, ℕ, nat_le, List, Option, Ok, Err, OnOk, length, drop};
 ghost use Rattle.source_check.specs.declared.frame.Entry.{Entry};
+ghost use Rattle.source_check.specs.declared.frame.Frame.TheVariants as frame;
 ghost use Rattle.source_check.specs.Steps as steps;
 ghost use Rattle.source_check.specs.Stack.{Follows, by_number, numbers, item_in};
 
@@ -10,7 +11,7 @@ use crate::frame::{Entry, Frame, Turn, Values};
 use crate::table::{must, Table, OUT_OF_MEMORY};
 use source::fault::{Fault, FaultKind};
 use source::word::Word;
-use std::alloc::Allocator;
+use std::alloc::{AllocError, Allocator};
 use std::marker::Model;
 
 /// What is open at a word.
@@ -33,6 +34,45 @@ impl<A: Allocator> Model for Machine<A> {
     ghost Value = { State ℕ };
 
     ghost view = { λ m. record { scope = m.scope; pending = m.pending; used = m.used; turn = m.turn; frames = m.frames; last = m.last } };
+}
+
+/// A name is used: it is one of the outside names of the innermost turn, unless the turn binds it.
+fn note<A: Allocator>(
+    scope: &Bindings<A>,
+    used: &mut Bindings<A>,
+    turn: Turn,
+    name: usize,
+) -> Result<(), AllocError>
+    ensures { OnOk result (used.new ≡ steps.noted (numbers []) (steps.since turn.base scope.now) turn.start used.old name) }
+{
+    if scope.contains_since(name, turn.base) || used.contains_since(name, turn.start) {
+        return Ok(());
+    }
+    used.push(name)
+}
+
+/// All of the names are used.
+fn note_all<A: Allocator>(
+    scope: &Bindings<A>,
+    used: &mut Bindings<A>,
+    turn: Turn,
+    names: &mut Bindings<A>,
+) -> Result<(), AllocError>
+    ensures { OnOk result (used.new ≡ steps.all_noted (numbers []) (steps.since turn.base scope.now) turn.start used.old names.old) }
+{
+    while names.len() > 0 {
+        if let Some(name) = names.pop() {
+            note(scope, used, turn, name)?;
+        }
+    }
+    Ok(())
+}
+
+/// A loop's names and the outside names of its turns are at most 15.
+fn is_narrow(names: u64, outside: usize) -> bool
+    ensures { result ≡ nat_le (names + outside) 15 }
+{
+    names <= 15 && outside as u64 <= 15 - names
 }
 
 impl<A: Allocator> Machine<A> {
@@ -82,26 +122,13 @@ impl<A: Allocator> Machine<A> {
         Ok(())
     }
 
-    /// A name is used: it is one of the outside names of the innermost turn, unless the turn binds it.
-    fn noted(&mut self, name: usize) -> Result<(), Fault>
-        ensures { (item : ℕ → Option Entry) → Follows result self.new (Ok (steps.using (record { same = by_number; item = item }) self.old (name ∷ []))) }
-    {
-        if self.scope.contains_since(name, self.turn.base)
-            || self.used.contains_since(name, self.turn.start)
-        {
-            return Ok(());
-        }
-        let Ok(()) = self.used.push(name) else {
-            return Err(OUT_OF_MEMORY);
-        };
-        Ok(())
-    }
-
     fn named(&mut self, table: &Table<A>, at: usize, name: usize) -> Result<(), Fault>
         ensures { Follows result self.new (steps.named (numbers table.now) self.old at name) }
     {
         must(self.scope.contains(name), FaultKind::NoSuchName, at)?;
-        self.noted(name)?;
+        let Ok(()) = note(&self.scope, &mut self.used, self.turn, name) else {
+            return Err(OUT_OF_MEMORY);
+        };
         self.ended(1, at);
         Ok(())
     }
@@ -323,6 +350,166 @@ impl<A: Allocator> Machine<A> {
                 })
             }
             _ => Ok(()),
+        }
+    }
+
+    /// The turn is left: what it takes from outside is used in the turn around it.
+    fn left_turn(&mut self, outer: Turn) -> Result<(), Fault>
+        ensures { Follows result self.new (Ok (steps.left_turn (numbers []) self.old outer)) }
+    {
+        self.carried.clear();
+        let Ok(()) = self.used.moves(&mut self.carried, self.turn.start) else {
+            return Err(OUT_OF_MEMORY);
+        };
+        self.scope.truncate(self.turn.base);
+        self.turn = outer;
+        let Ok(()) = note_all(&self.scope, &mut self.used, self.turn, &mut self.carried) else {
+            return Err(OUT_OF_MEMORY);
+        };
+        Ok(())
+    }
+
+    fn closed(&mut self, at: usize, outer: Turn, names: u64, given: u64) -> Result<(), Fault>
+        ensures { Follows result self.new (steps.closed (numbers []) self.old at outer names given) }
+    {
+        must(given == names, FaultKind::Arity, at)?;
+        let outside = self.used.len_since(self.turn.start);
+        must(is_narrow(names, outside), FaultKind::TooWide, at)?;
+        self.left_turn(outer)?;
+        self.ended(given, at);
+        Ok(())
+    }
+
+    fn end_loop(&mut self, at: usize) -> Result<(), Fault>
+        ensures { Follows result self.new (steps.end_loop (numbers []) (steps.popped self.old) at (steps.top self.old.frames)) }
+    {
+        match self.popped() {
+            Some(Frame::Open { outer, names, .. }) => {
+                let given = self.last.count;
+                self.closed(at, outer, names, given)
+            }
+            Some(Frame::Tested {
+                outer,
+                names,
+                given,
+            }) => {
+                self.single()?;
+                self.closed(at, outer, names, given)
+            }
+            _ => Ok(()),
+        }
+    }
+
+    fn function(&mut self, at: usize) -> Result<(), Fault>
+        ensures { Follows result self.new (Ok (steps.function self.old at)) }
+    {
+        let start = self.pending.len();
+        self.pushed(Frame::Names { start, targets: 0 })?;
+        self.ended(1, at);
+        Ok(())
+    }
+
+    fn names(&mut self) -> Result<(), Fault>
+        ensures { Follows result self.new (Ok (steps.pushed self.old (frame.Names (length self.old.pending) 0))) }
+    {
+        let start = self.pending.len();
+        self.pushed(Frame::Names { start, targets: 0 })
+    }
+
+    fn body(&mut self, at: usize) -> Result<(), Fault>
+        ensures { Follows result self.new (steps.body (steps.popped self.old) at (steps.top self.old.frames)) }
+    {
+        match self.popped() {
+            Some(Frame::Names { start, .. }) => {
+                self.entered(start)?;
+                let results = self.last.count;
+                self.pushed(Frame::Body { results, at })
+            }
+            _ => Ok(()),
+        }
+    }
+
+    fn end_function(&mut self) -> Result<(), Fault>
+        ensures { Follows result self.new (steps.end_function (steps.popped self.old) (steps.top self.old.frames)) }
+    {
+        match self.popped() {
+            Some(Frame::Body { results, at }) => {
+                must(self.last.count == results, FaultKind::Arity, at)?;
+                self.scope.clear();
+                self.used.clear();
+                self.ended(0, 0);
+                Ok(())
+            }
+            _ => Ok(()),
+        }
+    }
+
+    fn chained(&mut self) -> Result<(), Fault>
+        ensures { Follows result self.new (Ok (steps.ended self.old self.old.last.count 0)) }
+    {
+        let count = self.last.count;
+        self.ended(count, 0);
+        Ok(())
+    }
+
+    fn done(&mut self) -> Result<(), Fault>
+        ensures { Follows result self.new (Ok (steps.popped self.old)) }
+    {
+        self.popped();
+        Ok(())
+    }
+
+    fn valued(&mut self, count: u64, at: usize) -> Result<(), Fault>
+        ensures { Follows result self.new (Ok (steps.ended self.old count at)) }
+    {
+        self.ended(count, at);
+        Ok(())
+    }
+
+    /// One word.
+    pub(crate) fn step(&mut self, table: &Table<A>, word: Word<usize>) -> Result<(), Fault>
+        ensures { Follows result self.new (steps.step (numbers table.now) self.old word) }
+    {
+        match word {
+            Word::Array { .. } | Word::Length { .. } => Ok(()),
+            Word::Function { at, .. } => self.function(at),
+            Word::Parameter { at, name } => self.bound(table, at, name),
+            Word::Results { at, number } => self.valued(number, at),
+            Word::Body { at } => self.body(at),
+            Word::EndFunction => self.end_function(),
+            Word::Number { at, .. } => self.valued(1, at),
+            Word::Name { at, name } => self.named(table, at, name),
+            Word::Bracket => Ok(()),
+            Word::Prefix { at, .. } => self.operated(at),
+            Word::Left => self.one_taken(),
+            Word::Infix { at, .. } => self.operated(at),
+            Word::Cell { at, array } => self.cell(table, at, array),
+            Word::Fetch { at, .. } => self.operated(at),
+            Word::Index => self.one_taken(),
+            Word::Store { at, .. } => self.operated(at),
+            Word::Callee { at, function } => self.callee(table, at, function),
+            Word::Call { at, function, .. } => self.call(table, at, function),
+            Word::Then => self.first_arm(),
+            Word::Else => self.second_arm(),
+            Word::EndIf { at } => self.end_if(at),
+            Word::Loop { .. } => Ok(()),
+            Word::Bound { at, bound } => self.bounded(at, bound),
+            Word::Start { at, name } => self.bound(table, at, name),
+            Word::First => self.one_taken(),
+            Word::TestFirst => self.turned(),
+            Word::While => self.one_taken(),
+            Word::BodyFirst => self.turned(),
+            Word::Until => self.until(),
+            Word::EndLoop { at, .. } => self.end_loop(at),
+            Word::List => self.pushed(Frame::List { sum: 0 }),
+            Word::Part => self.part(),
+            Word::Let { .. } => self.names(),
+            Word::Bind { at, name } => self.bound(table, at, name),
+            Word::Drop => self.dropped(),
+            Word::EndLet { at } => self.end_let(at),
+            Word::Do => self.done(),
+            Word::Give => self.give(),
+            Word::Chain => self.chained(),
         }
     }
 }
