@@ -1,6 +1,6 @@
 //! Stacks: of names, in which a name is looked up in one step, and of frames.
 
-ghost use Rattle.std.specs.Prelude.{◌≡◌, ◌==◌, ◌∷◌, [], ◌<◌, ℕ, OnOk, OnErr, length, drop, slice_get, slice_index_or};
+ghost use Rattle.std.specs.Prelude.{◌≡◌, ◌==◌, ◌∷◌, [], ◌<◌, ℕ, IfOk, OnOk, OnErr, length, drop, slice_get, slice_index_or};
 ghost use Rattle.std.specs.List.{list_any};
 ghost use Rattle.source_check.specs.Steps.{since, back, onto, top};
 ghost use Rattle.source_check.specs.Stack as stack;
@@ -47,13 +47,15 @@ impl<A: Allocator> Model for Bindings<A> {
 }
 
 impl<A: Allocator> Bindings<A> {
-    pub(crate) fn new(alloc: A, other: A) -> Bindings<A>
-        ensures { result ≡ [] }
+    pub(crate) fn new(alloc: &A) -> Result<Bindings<A>, AllocError>
+    where
+        A: Clone,
+        ensures { IfOk result (λ b. b ≡ []) }
     {
-        Bindings {
-            entries: Vec::new(alloc),
-            places: Vec::new(other),
-        }
+        Ok(Bindings {
+            entries: Vec::new(alloc.clone()?),
+            places: Vec::new(alloc.clone()?),
+        })
     }
 
     pub(crate) fn len(&self) -> usize

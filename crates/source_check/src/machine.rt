@@ -1,10 +1,10 @@
 //! The steps over the words of functions.
 
-ghost use Rattle.std.specs.Prelude.{◌≡◌, ◌∷◌, [], ◌+◌, ◌⊎◌, ℕ, nat_le, List, Option, Ok, Err, OnOk, length, drop};
+ghost use Rattle.std.specs.Prelude.{◌≡◌, ◌∷◌, [], ◌+◌, ◌⊎◌, ℕ, nat_le, List, Option, Ok, Err, IfOk, OnOk, MatchResult, IsOk, length, drop};
 ghost use Rattle.source_check.specs.declared.frame.Entry.{Entry};
 ghost use Rattle.source_check.specs.declared.frame.Frame.TheVariants as frame;
 ghost use Rattle.source_check.specs.Steps as steps;
-ghost use Rattle.source_check.specs.Stack.{Follows, by_number, numbers, item_in};
+ghost use Rattle.source_check.specs.Stack.{Follows, out_of_memory, numbers};
 
 use crate::bindings::{Bindings, Frames};
 use crate::frame::{Entry, Frame, Turn, Values};
@@ -76,6 +76,22 @@ fn is_narrow(names: u64, outside: usize) -> bool
 }
 
 impl<A: Allocator> Machine<A> {
+    pub(crate) fn new(alloc: &A) -> Result<Machine<A>, AllocError>
+    where
+        A: Clone,
+        ensures { IfOk result (λ m. m ≡ steps.begun) }
+    {
+        Ok(Machine {
+            scope: Bindings::new(alloc)?,
+            pending: Bindings::new(alloc)?,
+            used: Bindings::new(alloc)?,
+            carried: Bindings::new(alloc)?,
+            turn: Turn { base: 0, start: 0 },
+            frames: Frames::new(alloc.clone()?),
+            last: Values { count: 0, at: 0 },
+        })
+    }
+
     /// The last part has so many values, and stands there.
     fn ended(&mut self, count: u64, at: usize)
         ensures { self.new ≡ steps.ended self.old count at }
@@ -467,6 +483,7 @@ impl<A: Allocator> Machine<A> {
     }
 
     /// One word.
+    #[tactic(auto, using(crate::proofs::Places::end_loop_alike))]
     pub(crate) fn step(&mut self, table: &Table<A>, word: Word<usize>) -> Result<(), Fault>
         ensures { Follows result self.new (steps.step (numbers table.now) self.old word) }
     {
@@ -512,4 +529,21 @@ impl<A: Allocator> Machine<A> {
             Word::Chain => self.chained(),
         }
     }
+}
+
+/// Goes over the words of all functions.
+pub(crate) fn check_functions<A: Allocator + Clone>(
+    alloc: &A,
+    table: &Table<A>,
+    words: &[Word<usize>],
+) -> Result<(), Fault>
+    ensures { MatchResult result (λ u. IsOk (steps.steps (numbers table.now) steps.begun words.now)) (λ f. (f ≡ out_of_memory) ⊎ (steps.steps (numbers table.now) steps.begun words.now ≡ Err f)) }
+{
+    let Ok(mut machine) = Machine::new(alloc) else {
+        return Err(OUT_OF_MEMORY);
+    };
+    for &word in words {
+        machine.step(table, word)?;
+    }
+    Ok(())
 }
