@@ -14,3 +14,4 @@ pub mod Renamed
 pub mod RenamedHeads
 pub mod Numbers
 pub mod Places
+pub mod Whole

@@ -197,13 +197,16 @@ impl<A: Allocator> Heads<A> {
 }
 
 /// Reads the heads of all items.
-pub(crate) fn read_heads<A: Allocator>(
-    alloc: A,
+pub(crate) fn read_heads<A: Allocator + Clone>(
+    alloc: &A,
     words: &[Word<usize>],
 ) -> Result<Table<A>, Fault>
     ensures { MatchResult result (λ table. HeadsGive table (heads.through (heads.head_step by_number) heads.no_heads words.now)) (λ f. (f ≡ out_of_memory) ⊎ (heads.through (heads.head_step by_number) heads.no_heads words.now ≡ Err f)) }
 {
-    let mut heads = Heads::new(alloc);
+    let Ok(own) = alloc.clone() else {
+        return Err(OUT_OF_MEMORY);
+    };
+    let mut heads = Heads::new(own);
     for &word in words {
         heads.step(word)?;
     }
