@@ -1,5 +1,5 @@
 -- THE WORDS OF A PROGRAM are checked as the rules check the program.
-use Rattle.std.specs.Prelude.{◌≡◌, refl, ℕ, Bool, true, false, List, [], ◌∷◌, is_some, Option, None, Some, Result, Ok, Err, ⊤}
+use Rattle.std.specs.Prelude.{◌≡◌, refl, ℕ, Bool, true, false, List, [], ◌∷◌, is_some, None, Result, Ok, Err, ⊤}
 use Rattle.std.proofs.Common.{◌∙◌, ap}
 use Rattle.source.specs.declared.fault.Fault.{Fault}
 use Rattle.source.specs.declared.fault.FaultKind.TheVariants.{NoMain}
@@ -10,7 +10,6 @@ use Rattle.source.specs.Fits.{FitsProgram}
 use Rattle.source.specs.Words.{program_words}
 use Rattle.source.specs.Rules as rules
 use Rattle.source.specs.Rules.{main_name, no_items, heads, function_in, functions_checked, checked}
-use Rattle.source_check.specs.declared.frame.Entry.{Entry}
 use Rattle.source_check.specs.Heads.{Heads, no_heads}
 use Rattle.source_check.specs.Steps.{State, begun, steps}
 use Rattle.source_check.specs.Checks.{is_function, words_checked}
@@ -37,11 +36,11 @@ with_main false true end r q e h = absurd (cc)
 
 after_heads : (end : ℕ) (p : Program) → FitsProgram p → (r : Result rules.Heads Fault) → heads no_items p ≡ r
     → (mapped (λ (b : rules.Heads). all_headed no_heads p) r >>= λ (h : Heads Name). must (is_function (h.item main_name)) NoMain end >>= λ there. steps (by_bytes h.item) begun (program_words p) >>= λ last. Ok tt)
-      ≡ (r >>= λ all. must (is_some (function_in p main_name)) NoMain end >>= λ main. functions_checked p p)
+    ≡ (r >>= λ all. must (is_some (function_in p main_name)) NoMain end >>= λ main. functions_checked p p)
 after_heads end p fits (Err e) h = refl
 after_heads end p fits (Ok b) h = rw (items_headed p no_heads)
     (with_main (is_function (with_items (λ x. None) p main_name)) (is_some (function_in p main_name)) end _ (functions_checked p p) (function_is_known p b h main_name)
-      (ap (λ r. r >>= λ (s : State Name). Ok tt) (over_functions (with_items (λ x. None) p) p (all_known p b h) p fits) ∙ no_answer (functions_checked p p)))
+    (ap (λ r. r >>= λ (s : State Name). Ok tt) (over_functions (with_items (λ x. None) p) p (all_known p b h) p fits) ∙ no_answer (functions_checked p p)))
 
 pub words_are_checked : (end : ℕ) (p : Program) → FitsProgram p → words_checked same_name main_name end (program_words p) ≡ checked end p
 words_are_checked end p fits = rw (items_read p no_heads [] (λ x. refl)) (after_heads end p fits (heads no_items p) refl)

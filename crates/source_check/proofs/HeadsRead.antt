@@ -1,22 +1,21 @@
 -- The heads that the steps read are those of the rules.
-use Rattle.std.specs.Prelude.{◌≡◌, refl, ℕ, zero, suc, ◌+◌, ◌-◌, ◌≤◌, ◌&&◌, ◌||◌, not, nat_le, nat_lt, Bool, true, false, List, [], ◌∷◌, ◌++◌, length, map, drop, is_some, Option, None, Some, Result, Ok, Err, ⊤, if◌then◌else◌}
-use Rattle.std.proofs.Common.{◌∙◌, ap, sym, subst, arith, append_assoc}
+use Rattle.std.specs.Prelude.{◌≡◌, refl, ℕ, zero, suc, ◌+◌, ◌&&◌, ◌||◌, not, nat_le, nat_lt, Bool, true, false, List, [], ◌∷◌, ◌++◌, length, map, drop, is_some, Option, None, Some, Result, Ok, ⊤, if◌then◌else◌}
+use Rattle.std.proofs.Common.{◌∙◌, ap, arith, append_assoc}
 use Rattle.std.proofs.lemmas.Bool.{lt-ltb, le-ltb}
 use Rattle.source.specs.declared.fault.Fault.{Fault}
 use Rattle.source.specs.declared.fault.FaultKind.{FaultKind}
 use Rattle.source.specs.declared.fault.FaultKind.TheVariants.{SameName, BadCount, TooMany}
-use Rattle.source.specs.declared.word.Word.{Word}
 use Rattle.source.specs.declared.word.Word.TheVariants as word
 use Rattle.semantics.specs.Graph.{same_name}
-use Rattle.source.specs.First.{◌>>=◌, must, refused}
-use Rattle.source.specs.Tree.{Name, NameAt, NumberAt, Function, Item, Cells, Defines, Program}
-use Rattle.source.specs.Words.{Words, result_words, body_words, item_words, program_words}
+use Rattle.source.specs.First.{◌>>=◌, must}
+use Rattle.source.specs.Tree.{Name, NameAt, NumberAt, Function, Item, Cells, Defines}
+use Rattle.source.specs.Words.{Words, result_words, body_words, program_words}
 use Rattle.source.specs.Outside.{is_in}
 use Rattle.source.specs.Rules as rules
 use Rattle.source.specs.Rules.{few_params, good_results, head, heads, written_or_one, item_name}
 use Rattle.source_check.specs.declared.frame.Entry.{Entry}
 use Rattle.source_check.specs.declared.frame.Entry.TheVariants as entry
-use Rattle.source_check.specs.Heads.{Heads, no_heads, with_item, head_read, through, head_step}
+use Rattle.source_check.specs.Heads.{Heads, with_item, through, head_step}
 use Rattle.source_check.proofs.Runs.{mapped, in_turn, bind-assoc, steps_append}
 use Rattle.source_check.proofs.Still.{body_still}
 
@@ -71,8 +70,12 @@ results_read s (Some n) ws q K g h = after_one (nat_le 1 n.number && nat_le n.nu
 -- ITEMS
 abbrev pub headed : Heads Name → Item → Heads Name
 headed h (Cells x len) = record h { item = with_item same_name h.item x.name entry.Array; arrays = h.arrays + 1; cells = h.cells + len.number }
-headed h (Defines f) = record h { item = with_item same_name h.item f.name.name (entry.Function (length f.params) (written_or_one f.results)); current = Some f.name.name;
-    params = length f.params; results = written_or_one f.results }
+headed h (Defines f) = record h {
+  item = with_item same_name h.item f.name.name (entry.Function (length f.params) (written_or_one f.results));
+  current = Some f.name.name;
+  params = length f.params;
+  results = written_or_one f.results;
+}
 
 abbrev pub all_headed : Heads Name → List Item → Heads Name
 all_headed h [] = h
@@ -96,11 +99,11 @@ items_read (Cells x len ∷ items) h names a =
     let next : Result rules.Heads Fault = Ok (record { names = x.name ∷ names; arrays = h.arrays + 1; cells = h.cells + len.number }) in
     rw (a x.name)
     (after_two (not (is_in x.name names)) (nat_lt h.arrays 64) SameName TooMany x.at h1
-        (must (nat_le 1 len.number && nat_le len.number 65536) BadCount len.at >>= λ fits. must (nat_le (h.cells + len.number) 65536) TooMany len.at >>= λ room. next) (λ b. heads b items)
-        (λ u. through (head_step same_name) u (word.Length len.at len.number ∷ program_words items)) _
-      (after_two (nat_le 1 len.number && nat_le len.number 65536) (nat_le (h.cells + len.number) 65536) BadCount TooMany len.at (headed h (Cells x len)) next (λ b. heads b items)
-        (λ u. through (head_step same_name) u (program_words items)) _
-        (items_read items (headed h (Cells x len)) (x.name ∷ names) (agrees h.item x.name entry.Array names a))))
+    (must (nat_le 1 len.number && nat_le len.number 65536) BadCount len.at >>= λ fits. must (nat_le (h.cells + len.number) 65536) TooMany len.at >>= λ room. next) (λ b. heads b items)
+    (λ u. through (head_step same_name) u (word.Length len.at len.number ∷ program_words items)) _
+    (after_two (nat_le 1 len.number && nat_le len.number 65536) (nat_le (h.cells + len.number) 65536) BadCount TooMany len.at (headed h (Cells x len)) next (λ b. heads b items)
+    (λ u. through (head_step same_name) u (program_words items)) _
+    (items_read items (headed h (Cells x len)) (x.name ∷ names) (agrees h.item x.name entry.Array names a))))
 items_read (Defines f ∷ items) h names a =
     let x : Name = f.name.name in
     let m : ℕ = length f.params in
@@ -110,13 +113,17 @@ items_read (Defines f ∷ items) h names a =
     let params : Words = map (λ (y : NameAt). word.Parameter y.at y.name) f.params in
     let ending : Words = word.EndFunction ∷ [] in
     let rest : Words = word.Body f.body_at ∷ (body_words f.body ++ (word.EndFunction ∷ program_words items)) in
-    rw (a x, append_assoc ((params ++ result_words f.results) ++ (word.Body f.body_at ∷ body_words f.body)) ending (program_words items),
-        append_assoc (params ++ result_words f.results) (word.Body f.body_at ∷ body_words f.body) (word.EndFunction ∷ program_words items), append_assoc params (result_words f.results) rest)
+    rw (
+      a x,
+      append_assoc ((params ++ result_words f.results) ++ (word.Body f.body_at ∷ body_words f.body)) ending (program_words items),
+      append_assoc (params ++ result_words f.results) (word.Body f.body_at ∷ body_words f.body) (word.EndFunction ∷ program_words items),
+      append_assoc params (result_words f.results) rest,
+    )
     (after_one (not (is_in x names)) SameName f.name.at h1 (few_params (drop 16 f.params) >>= λ few. good_results f.results >>= λ fits. next) later
-        (λ u. through (head_step same_name) u (params ++ (result_words f.results ++ rest))) _
-      (rw (bind-assoc (few_params (drop 16 f.params)) (λ few. good_results f.results >>= λ fits. next) later)
-        (in_turn (head_step same_name) h1 params (result_words f.results ++ rest) (few_params (drop 16 f.params)) (λ few. (good_results f.results >>= λ fits. next) >>= later) (λ u. counting h1 (0 + m)) _
-          (params_read h1 0 16 f.params refl)
-          (λ u. rw (nothing_less m) (results_read (counting h1 m) f.results rest next later _
-            (body_read (headed h (Defines f)) f (program_words items)
-              ∙ items_read items (headed h (Defines f)) (x ∷ names) (agrees h.item x (entry.Function m (written_or_one f.results)) names a)))))))
+    (λ u. through (head_step same_name) u (params ++ (result_words f.results ++ rest))) _
+    (rw (bind-assoc (few_params (drop 16 f.params)) (λ few. good_results f.results >>= λ fits. next) later)
+    (in_turn (head_step same_name) h1 params (result_words f.results ++ rest) (few_params (drop 16 f.params)) (λ few. (good_results f.results >>= λ fits. next) >>= later) (λ u. counting h1 (0 + m)) _
+    (params_read h1 0 16 f.params refl)
+    (λ u. rw (nothing_less m) (results_read (counting h1 m) f.results rest next later _
+    (body_read (headed h (Defines f)) f (program_words items)
+    ∙ items_read items (headed h (Defines f)) (x ∷ names) (agrees h.item x (entry.Function m (written_or_one f.results)) names a)))))))

@@ -1,13 +1,13 @@
 -- The items that heads have are those of the program, since no two have one name.
-use Rattle.std.specs.Prelude.{◌≡◌, refl, ℕ, ◌+◌, ◌||◌, ◌&&◌, not, nat_le, nat_lt, drop, ⊤, Bool, true, false, List, [], ◌∷◌, length, is_some, Option, None, Some, Result, Ok, Err, if◌then◌else◌}
+use Rattle.std.specs.Prelude.{◌≡◌, refl, ℕ, ◌+◌, ◌||◌, ◌&&◌, not, nat_le, nat_lt, drop, ⊤, Bool, true, false, List, [], ◌∷◌, is_some, Option, None, Some, Result, Ok, Err, if◌then◌else◌}
 use Rattle.std.proofs.Common.{◌∙◌, ap, sym, subst}
 use Rattle.std.proofs.lemmas.Bool.{or_right}
 use Rattle.source.specs.declared.fault.Fault.{Fault}
 use Rattle.semantics.specs.Graph.{same_name}
-use Rattle.semantics.proofs.Lines.{same_name_is, same_name_itself}
+use Rattle.semantics.proofs.Lines.{same_name_is}
 use Rattle.source.specs.declared.fault.FaultKind.TheVariants.{SameName, BadCount, TooMany}
 use Rattle.source.specs.First.{◌>>=◌, must}
-use Rattle.source.specs.Tree.{Name, Function, Item, Cells, Defines, Program}
+use Rattle.source.specs.Tree.{Name, Item, Cells, Defines, Program}
 use Rattle.source.specs.Outside.{is_in}
 use Rattle.source.specs.Rules as rules
 use Rattle.source.specs.Rules.{item_name, item_names, array_in, function_in, few_params, good_results, no_items, heads, known_function, written_or_one}
@@ -52,11 +52,11 @@ heads_apart : (items : List Item) (b r : rules.Heads) → heads b items ≡ Ok r
 heads_apart [] b r h = tt
 heads_apart (Cells x len ∷ items) b r h =
     let k = cells_apart (is_in x.name b.names) (nat_lt b.arrays 64) (nat_le 1 len.number && nat_le len.number 65536) (nat_le (b.cells + len.number) 65536) x.at len.at
-        (record { names = x.name ∷ b.names; arrays = b.arrays + 1; cells = b.cells + len.number }) r (λ next. heads next items) h in
+    (record { names = x.name ∷ b.names; arrays = b.arrays + 1; cells = b.cells + len.number }) r (λ next. heads next items) h in
     (k.0, heads_apart items (record { names = x.name ∷ b.names; arrays = b.arrays + 1; cells = b.cells + len.number }) r k.1)
 heads_apart (Defines f ∷ items) b r h =
     let k = function_apart (is_in f.name.name b.names) (few_params (drop 16 f.params)) (good_results f.results) f.name.at
-        (record { names = f.name.name ∷ b.names; arrays = b.arrays; cells = b.cells }) r (λ next. heads next items) h in
+    (record { names = f.name.name ∷ b.names; arrays = b.arrays; cells = b.cells }) r (λ next. heads next items) h in
     (k.0, heads_apart items (record { names = f.name.name ∷ b.names; arrays = b.arrays; cells = b.cells }) r k.1)
 
 -- A name that stands before is none of these.
@@ -164,7 +164,8 @@ all_known p r h =
     record {
       array = λ x. ap is_array (items_are p r h x) ∙ array_known p [] x a;
       function = λ at x. ap (shape_at at) (items_are p r h x) ∙ function_known p [] at x a;
-      taken = λ x. ap (λ (o : Option Entry). is_some o) (items_are p r h x) ∙ item_known p x }
+      taken = λ x. ap (λ (o : Option Entry). is_some o) (items_are p r h x) ∙ item_known p x;
+    }
 
 pub function_is_known : (p : Program) (r : rules.Heads) → heads no_items p ≡ Ok r → (x : Name) → is_function (with_items (λ y. None) p x) ≡ is_some (function_in p x)
 function_is_known p r h x = ap is_function (items_are p r h x) ∙ is_function_known p [] x (heads_apart p no_items r h)

@@ -1,9 +1,8 @@
 -- THE OUTSIDE NAMES OF TURNS: those that the steps note are those of the definition.
 use Rattle.std.specs.Prelude.{◌≡◌, refl, ℕ, ◌+◌, ◌≤◌, ◌||◌, not, Bool, true, false, Option, List, [], ◌∷◌, ◌++◌, length, filter, if◌then◌else◌}
 use Rattle.std.specs.List.{list_any}
-use Rattle.std.proofs.Common.{◌∙◌, ap, sym, subst, arith, inl, inr}
+use Rattle.std.proofs.Common.{◌∙◌, ap, sym, subst, arith}
 use Rattle.std.proofs.lemmas.Bool.{or_left, or_right}
-use Rattle.std.proofs.lemmas.List.{length-append}
 use Rattle.semantics.specs.Graph.{same_name}
 use Rattle.semantics.proofs.Lines.{same_name_is, same_name_itself}
 use Rattle.source.specs.Tree.{Name}
@@ -55,7 +54,7 @@ all_noted-without item inner more k (x ∷ xs) used = rw (any-append (same_name 
   where
     go : (b : Bool) → ((u : List Name) → all_noted (by_bytes item) (more ++ inner) k u xs ≡ all_noted (by_bytes item) inner k u (without more xs))
         → all_noted (by_bytes item) (more ++ inner) k (if (b || is_in x inner) || is_in x (since k used) then used else x ∷ used) xs
-          ≡ all_noted (by_bytes item) inner k used (if not b then x ∷ without more xs else without more xs)
+        ≡ all_noted (by_bytes item) inner k used (if not b then x ∷ without more xs else without more xs)
     go true h = h used
     go false h = h (noted (by_bytes item) inner k used x)
 
@@ -69,9 +68,10 @@ noted_above item inner used (x ∷ xs) have = rw (since-append have used) (go (i
         → all_noted (by_bytes item) inner (length used) (if c then have ++ used else x ∷ (have ++ used)) xs ≡ gathered (if c then have else x ∷ have) (without inner xs) ++ used
     fresh true h = h have
     fresh false h = h (x ∷ have)
+
     go : (b : Bool) → ((h : List Name) → all_noted (by_bytes item) inner (length used) (h ++ used) xs ≡ gathered h (without inner xs) ++ used)
         → all_noted (by_bytes item) inner (length used) (if b || is_in x have then have ++ used else x ∷ (have ++ used)) xs
-          ≡ gathered have (if not b then x ∷ without inner xs else without inner xs) ++ used
+        ≡ gathered have (if not b then x ∷ without inner xs else without inner xs) ++ used
     go true h = h have
     go false h = fresh (is_in x have) h
 
@@ -140,7 +140,7 @@ gathered_once have (x ∷ xs) = go (is_in x have) (gathered_once have xs) (gathe
     go true h k = h
     go false h k =
         let e : once (without (x ∷ have) xs) ≡ filter (λ y. not (same_name x y)) (once (without have xs)) =
-            ap once (without_one_more x have xs) ∙ once_filtered (λ y. not (same_name x y)) (without have xs) in
+        ap once (without_one_more x have xs) ∙ once_filtered (λ y. not (same_name x y)) (without have xs) in
         let d : length (once (without (x ∷ have) xs)) ≡ length (filter (λ y. not (same_name x y)) (once (without have xs))) = ap length e in
         omega (arith, k, d)
 
@@ -183,12 +183,13 @@ all_are_settled item inner k (y ∷ ys) used x h e = go (same_name x y) refl e (
   where
     longer : k ≤ length (noted (by_bytes item) inner k used y)
     longer = omega (arith, h, noted_grows (by_bytes item) inner k used y)
+
     go : (b : Bool) → same_name x y ≡ b → (b || is_in x ys) ≡ true → (is_in x ys ≡ true → settled inner k (all_noted (by_bytes item) inner k (noted (by_bytes item) inner k used y) ys) x ≡ true)
         → settled inner k (all_noted (by_bytes item) inner k (noted (by_bytes item) inner k used y) ys) x ≡ true
     go true d q later =
         let same : x ≡ y = same_name_is x y d in
         settled_ever item inner k ys (noted (by_bytes item) inner k used y) x longer
-            (subst (λ z. settled inner k (noted (by_bytes item) inner k used y) z ≡ true) (sym same) (noted_is_settled item inner k used y h))
+        (subst (λ z. settled inner k (noted (by_bytes item) inner k used y) z ≡ true) (sym same) (noted_is_settled item inner k used y h))
     go false d q later = later q
 
 in_onto : (x : Name) (xs ys : List Name) → (is_in x xs || is_in x ys) ≡ true → is_in x (onto xs ys) ≡ true
@@ -211,6 +212,6 @@ noted_again item inner k used (x ∷ xs) have h =
     go : (b : Bool) → is_in x have ≡ b → all_noted (by_bytes item) inner k used (onto (if b then have else x ∷ have) []) ≡ noted (by_bytes item) inner k (all_noted (by_bytes item) inner k used (onto have [])) x
     go true e =
         let there : settled inner k (all_noted (by_bytes item) inner k used (onto have [])) x ≡ true =
-            all_are_settled item inner k (onto have []) used x h (in_onto x have [] (or_left (is_in x have) false e)) in
+        all_are_settled item inner k (onto have []) used x h (in_onto x have [] (or_left (is_in x have) false e)) in
         sym (ap (λ c. if c then all_noted (by_bytes item) inner k used (onto have []) else x ∷ all_noted (by_bytes item) inner k used (onto have [])) there)
     go false e = ap (all_noted (by_bytes item) inner k used) (onto-append have [] (x ∷ [])) ∙ all_noted-append (by_bytes item) inner k (onto have []) (x ∷ []) used

@@ -1,7 +1,7 @@
 -- THE WORDS OF CODE are checked as the rules check the program whose words they are.
-use Rattle.std.specs.Prelude.{◌≡◌, refl, ℕ, zero, suc, ◌+◌, ◌<◌, ◌≤◌, ◌==◌, ◌⊎◌, nat_lt, Bool, true, false, List, [], ◌∷◌, ◌++◌, length, map, replicate, sum_by, All, slice_index_or, Result, ⊤, if◌then◌else◌}
+use Rattle.std.specs.Prelude.{◌≡◌, refl, ℕ, zero, suc, ◌+◌, ◌<◌, ◌≤◌, ◌==◌, nat_lt, Bool, true, false, List, [], ◌∷◌, ◌++◌, length, map, replicate, sum_by, All, if◌then◌else◌}
 use Rattle.std.proofs.Common.{◌∙◌, ap, sym, subst, arith, inl, inr}
-use Rattle.std.proofs.lemmas.Bool.{lt-ltb, le-ltb, ltb-true, ltb-false, eqb-true, eqb-false, eq-eqb}
+use Rattle.std.proofs.lemmas.Bool.{lt-ltb, le-ltb, ltb-true, ltb-false, eqb-true, eqb-false}
 use Rattle.std.proofs.lemmas.List.{length-append}
 use Rattle.std.proofs.Math.ListN.{get_or-append}
 use Rattle.std.proofs.Math.Seq.{get_or-append_seam}
@@ -151,6 +151,7 @@ more_distinct names d none i j x y e = go (nat_lt i (length names)) (nat_lt j (l
   where
     last : (k : ℕ) → k < length (more names) → nat_lt k (length names) ≡ false → k ≡ length names
     last k h f = omega (arith, h, longer names, ltb-false k (length names) f)
+
     go : (b c : Bool) → nat_lt i (length names) ≡ b → nat_lt j (length names) ≡ c → i ≡ j
     go true true p q =
         let u : i < length names = ltb-true i (length names) p in let v : j < length names = ltb-true j (length names) q in
@@ -172,5 +173,5 @@ numbers_are_checked names ws main end p fits a (inr (e, none)) =
     let inside : (n : ℕ) → n < length names → n < length (more names) = λ n l. omega (arith, l, longer names) in
     let there : length names < length (more names) = omega (arith, longer names) in
     with_main (more names) ws main end p fits (more_distinct names a.distinct none)
-      (sym (all_renamed names (named_by (more names)) (λ n l. sym (within (more names) n (inside n l) ∙ same_place names n l)) ws a.known) ∙ a.words)
-      (ap (named_by (more names)) e ∙ within (more names) (length names) there ∙ main_place names)
+    (sym (all_renamed names (named_by (more names)) (λ n l. sym (within (more names) n (inside n l) ∙ same_place names n l)) ws a.known) ∙ a.words)
+    (ap (named_by (more names)) e ∙ within (more names) (length names) there ∙ main_place names)

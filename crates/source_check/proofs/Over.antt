@@ -1,23 +1,22 @@
 -- What the steps leave of the words of a part.
-use Rattle.std.specs.Prelude.{◌≡◌, refl, ℕ, ◌+◌, ◌==◌, ◌≤◌, nat_le, Bool, List, [], ◌∷◌, ◌++◌, length, map, is_some, Option, Result, Ok, Err, ⊤}
-use Rattle.std.proofs.Common.{◌∙◌, ap, sym, arith, append_assoc}
-use Rattle.source.specs.declared.fault.FaultKind.TheVariants.{SameName, NoSuchName, Arity, BadBound, TooWide}
+use Rattle.std.specs.Prelude.{◌≡◌, refl, ℕ, ◌+◌, ◌==◌, ◌≤◌, List, [], ◌∷◌, ◌++◌, length, is_some, Option, Result, Ok, ⊤}
+use Rattle.std.proofs.Common.{arith, append_assoc}
+use Rattle.source.specs.declared.fault.FaultKind.TheVariants.{NoSuchName, Arity}
 use Rattle.source.specs.declared.fault.Fault.{Fault}
 use Rattle.source.specs.declared.word.Word.{Word}
 use Rattle.source.specs.declared.word.Word.TheVariants as word
 use Rattle.source.specs.declared.word.InfixSign.{InfixSign}
 use Rattle.operators.specs.declared.Unary.{Unary}
-use Rattle.source.specs.Tree.{Name, NameAt, NumberAt, Target, Expr, Number, Named, Bracket, Prefix, Infix, Fetch, Store, Call, If, Loop, Exprs, One, More, Body, Let, Do, Give, Chain, Turn, Before, After, Function, Program, names_of}
+use Rattle.source.specs.Tree.{Name, NameAt, Expr, Named, Bracket, Prefix, Infix, Fetch, Store, Exprs, Body, Let, Do, Give, Chain, Function, Program}
 use Rattle.source.specs.Fits.{count}
-use Rattle.source.specs.Words.{words, part_words, first_words, body_words, turn_words}
+use Rattle.source.specs.Words.{words, part_words, first_words, body_words}
 use Rattle.source.specs.Outside.{is_in, bare, bound_by, uses, list_uses, body_uses}
-use Rattle.source.specs.First.{◌>>=◌, must}
+use Rattle.source.specs.First.{◌>>=◌}
 use Rattle.source.specs.Rules.{item_names, array_in, function_in, written_or_one, place_of, one_value, known_array, known_function, values, list_values, first_values, body_values}
 use Rattle.source_check.specs.declared.frame.Entry.{Entry}
-use Rattle.source_check.specs.declared.frame.Frame.{Frame}
 use Rattle.source_check.specs.declared.frame.Frame.TheVariants as frame
-use Rattle.source_check.specs.Steps.{Names, State, Shape, since, back, onto, pushed, popped, taken, ended, all_noted, is_array, shape_at, steps, step}
-use Rattle.source_check.proofs.Runs.{mapped, in_turn, tested, one_tested, and_then, mapped_after}
+use Rattle.source_check.specs.Steps.{State, Shape, since, onto, pushed, all_noted, is_array, shape_at, steps, step}
+use Rattle.source_check.proofs.Runs.{mapped, in_turn, tested, one_tested, and_then}
 use Rattle.source_check.proofs.Noted.{by_bytes, all_noted-append, all_noted_grows}
 
 abbrev pub shape_of : Function → Shape
@@ -92,9 +91,9 @@ over_infix item p at sign l r h k s d =
     let s1 : State Name = having s (notes item s (uses l)) 0 0 in
     rw (append_assoc (words l) (word.Left ∷ words r) (word.Infix at sign ∷ []), all_noted-append (by_bytes item) (since s.turn.base s.scope) s.turn.start (uses l) (uses r) s.used)
     (in_turn (step (by_bytes item)) s (words l) (word.Left ∷ (words r ++ (word.Infix at sign ∷ []))) (values p s.scope l) _ _ _ (h s d)
-      (λ n. one_tested (step (by_bytes item)) (words r ++ (word.Infix at sign ∷ [])) (n == 1) Arity (place_of l) 1 _ s1 _
-        (in_turn (step (by_bytes item)) s1 (words r) (word.Infix at sign ∷ []) (values p s.scope r) (one_value r) _ _ (k s1 (still_deep item s (uses l) 0 0 d))
-          (λ m. tested (step (by_bytes item)) [] (m == 1) Arity (place_of r) (Ok 1) (having s1 (notes item s1 (uses r)) 1 at) _ refl))))
+    (λ n. one_tested (step (by_bytes item)) (words r ++ (word.Infix at sign ∷ [])) (n == 1) Arity (place_of l) 1 _ s1 _
+    (in_turn (step (by_bytes item)) s1 (words r) (word.Infix at sign ∷ []) (values p s.scope r) (one_value r) _ _ (k s1 (still_deep item s (uses l) 0 0 d))
+    (λ m. tested (step (by_bytes item)) [] (m == 1) Arity (place_of r) (Ok 1) (having s1 (notes item s1 (uses r)) 1 at) _ refl))))
 
 -- an array must be known
 known_cell : (item : Name → Option Entry) (p : Program) (k : Knows item p) (at : ℕ) (a : Name) (ws : List (Word Name)) (s : State Name) (r : Result ℕ Fault) (g : ℕ → State Name)
@@ -104,7 +103,7 @@ known_cell item p k at a ws s r g h = rw (k.array a) (tested (step (by_bytes ite
 pub over_fetch : (item : Name → Option Entry) (p : Program) → Knows item p → (at : ℕ) (a : Name) (e : Expr) → Over item p e → Over item p (Fetch at a e)
 over_fetch item p k at a e h s d = known_cell item p k at a (words e ++ word.Fetch at a ∷ []) s _ _
     (in_turn (step (by_bytes item)) s (words e) (word.Fetch at a ∷ []) (values p s.scope e) (one_value e) _ (λ n. having s (notes item s (uses e)) n at)
-      (h s d) (λ n. tested (step (by_bytes item)) [] (n == 1) Arity (place_of e) (Ok 1) (having s (notes item s (uses e)) 1 at) (λ n. having s (notes item s (uses e)) n at) refl))
+    (h s d) (λ n. tested (step (by_bytes item)) [] (n == 1) Arity (place_of e) (Ok 1) (having s (notes item s (uses e)) 1 at) (λ n. having s (notes item s (uses e)) n at) refl))
 
 pub over_store : (item : Name → Option Entry) (p : Program) → Knows item p → (at : ℕ) (a : Name) (e v : Expr) → Over item p e → Over item p v → Over item p (Store at a e v)
 over_store item p k at a e v h j s d =
@@ -112,7 +111,6 @@ over_store item p k at a e v h j s d =
     rw (append_assoc (words e) (word.Index ∷ words v) (word.Store at a ∷ []), all_noted-append (by_bytes item) (since s.turn.base s.scope) s.turn.start (uses e) (uses v) s.used)
     (known_cell item p k at a (words e ++ (word.Index ∷ (words v ++ (word.Store at a ∷ [])))) s _ _
     (in_turn (step (by_bytes item)) s (words e) (word.Index ∷ (words v ++ (word.Store at a ∷ []))) (values p s.scope e) _ _ _ (h s d)
-      (λ n. one_tested (step (by_bytes item)) (words v ++ (word.Store at a ∷ [])) (n == 1) Arity (place_of e) 1 _ s1 _
-        (in_turn (step (by_bytes item)) s1 (words v) (word.Store at a ∷ []) (values p s.scope v) (one_value v) _ _ (j s1 (still_deep item s (uses e) 0 0 d))
-          (λ m. tested (step (by_bytes item)) [] (m == 1) Arity (place_of v) (Ok 1) (having s1 (notes item s1 (uses v)) 1 at) _ refl)))))
-
+    (λ n. one_tested (step (by_bytes item)) (words v ++ (word.Store at a ∷ [])) (n == 1) Arity (place_of e) 1 _ s1 _
+    (in_turn (step (by_bytes item)) s1 (words v) (word.Store at a ∷ []) (values p s.scope v) (one_value v) _ _ (j s1 (still_deep item s (uses e) 0 0 d))
+    (λ m. tested (step (by_bytes item)) [] (m == 1) Arity (place_of v) (Ok 1) (having s1 (notes item s1 (uses v)) 1 at) _ refl)))))

@@ -1,10 +1,9 @@
 -- Stacks of names in code.
-use Rattle.std.specs.Prelude.{◌≡◌, refl, ℕ, zero, suc, ◌+◌, ◌-◌, ◌≤◌, ◌<◌, ◌==◌, ◌||◌, nat_lt, Bool, true, false, List, [], ◌∷◌, ◌++◌, length, map, take, drop, slice_index_or, slice_set, slice_get, Option, None, Some, if◌then◌else◌}
+use Rattle.std.specs.Prelude.{◌≡◌, refl, ℕ, zero, suc, ◌+◌, ◌-◌, ◌≤◌, ◌<◌, ◌==◌, ◌||◌, nat_lt, Bool, true, false, List, [], ◌∷◌, ◌++◌, length, take, drop, slice_index_or, slice_set, slice_get, Option, None, Some, if◌then◌else◌}
 use Rattle.std.specs.List.{list_any}
 use Rattle.std.proofs.Common.{◌∙◌, ap, sym, arith}
 use Rattle.std.proofs.lemmas.Bool.{lt-ltb, le-ltb, ltb-true, ltb-false, eqb-true, eqb-false, eq-eqb}
 use Rattle.std.proofs.lemmas.List.{length-append, length-take-le, get_or-set_same, get_or-set_other}
-use Rattle.std.proofs.Math.ListN.{get_or-append}
 use Rattle.std.proofs.Math.Seq.{take-length, drop-length}
 use Rattle.source_check.specs.declared.bindings.Binding.{Binding}
 use Rattle.source_check.specs.declared.frame.Entry.{Entry}
@@ -50,6 +49,7 @@ place_since n k (x ∷ xs) = go (nat_lt (length xs) k) refl (place_since n k xs)
         → nat_lt k (if b then suc (length xs) else place n xs) ≡ (b || list_any (λ y. n == y) (since k xs))
     higher d true h = lt-ltb k (suc (length xs)) (omega (arith, d))
     higher d false h = h
+
     go : (c : Bool) → nat_lt (length xs) k ≡ c → nat_lt k (place n xs) ≡ list_any (λ y. n == y) (since k xs)
         → nat_lt k (place n (x ∷ xs)) ≡ list_any (λ y. n == y) (since k (x ∷ xs))
     go true e h = let d : length xs < k = ltb-true (length xs) k e in let w : place n (x ∷ xs) ≤ suc (length xs) = place_within n (x ∷ xs) in
@@ -143,8 +143,9 @@ height entries = let e : length (names_in (turned_round entries)) ≡ length (tu
 pub pushed_stack : (entries : List Binding) (places : List ℕ) (b : Binding) (n : ℕ) → IsStack entries places → b.before ≡ place b.name (names_in (turned_round entries)) → b.name < length places → n ≡ length (entries ++ b ∷ [])
     → IsStack (entries ++ b ∷ []) (slice_set places b.name n)
 pushed_stack entries places b n s e h l = record {
-    placed = λ k. rw (onto-snoc entries b []) (go k (k == b.name) refl);
-    shadowed = rw (onto-snoc entries b []) (e, s.shadowed) }
+  placed = λ k. rw (onto-snoc entries b []) (go k (k == b.name) refl);
+  shadowed = rw (onto-snoc entries b []) (e, s.shadowed);
+}
   where
     go : (k : ℕ) (c : Bool) → (k == b.name) ≡ c → slice_index_or (slice_set places b.name n) k 0 ≡ (if c then suc (length (names_in (turned_round entries))) else place k (names_in (turned_round entries)))
     go k true d = let f : k ≡ b.name = eqb-true k b.name d in
@@ -160,19 +161,22 @@ popped_within front b places s = go (nat_lt b.name (length places)) refl
     go false e =
         let none : slice_index_or places b.name 0 ≡ 0 = outside places b.name (ltb-false b.name (length places) e) in
         let first : place b.name (b.name ∷ names_in (turned_round front)) ≡ suc (length (names_in (turned_round front))) =
-            ap (λ (c : Bool). if c then suc (length (names_in (turned_round front))) else place b.name (names_in (turned_round front))) (eq-eqb b.name b.name refl) in
+        ap (λ (c : Bool). if c then suc (length (names_in (turned_round front))) else place b.name (names_in (turned_round front))) (eq-eqb b.name b.name refl) in
         let there : slice_index_or places b.name 0 ≡ place b.name (b.name ∷ names_in (turned_round front)) = s.placed b.name ∙ ap (place b.name) (pushed_names front b) in
         absurd (omega (arith, none, first, there))
 
 pub popped_stack : (front : List Binding) (b : Binding) (places : List ℕ) → IsStack (front ++ b ∷ []) places → IsStack front (slice_set places b.name b.before)
 popped_stack front b places s = record {
-    placed = λ k. go k (k == b.name) refl;
-    shadowed = shadows.1 }
+  placed = λ k. go k (k == b.name) refl;
+  shadowed = shadows.1;
+}
   where
     shadows : AreShadowed (b ∷ turned_round front)
     shadows = rw onto-snoc at s.shadowed
+
     other : (k : ℕ) → slice_index_or places k 0 ≡ place k (b.name ∷ names_in (turned_round front))
     other k = s.placed k ∙ ap (place k) (pushed_names front b)
+
     go : (k : ℕ) (c : Bool) → (k == b.name) ≡ c → slice_index_or (slice_set places b.name b.before) k 0 ≡ place k (names_in (turned_round front))
     go k true d = let f : k ≡ b.name = eqb-true k b.name d in rw f (get_or-set_same places b.name b.before 0 (popped_within front b places s) ∙ shadows.0)
     go k false d = get_or-set_other places b.name k b.before 0 (eqb-false k b.name d) ∙ other k ∙ ap (λ (c : Bool). if c then suc (length (names_in (turned_round front))) else place k (names_in (turned_round front))) d

@@ -1,6 +1,5 @@
 -- STEPS DO NOT DEPEND ON WHAT NAMES ARE, but on which are the same.
-use Rattle.std.specs.Prelude.{◌≡◌, refl, ℕ, ◌+◌, ◌-◌, ◌==◌, ◌||◌, ◌&&◌, not, nat_le, Bool, true, false, List, [], ◌∷◌, length, map, take, drop, is_some, Option, None, Some, Result, Ok, Err, if◌then◌else◌}
-use Rattle.std.specs.List.{list_any}
+use Rattle.std.specs.Prelude.{◌≡◌, refl, ℕ, ◌+◌, ◌-◌, ◌==◌, ◌||◌, ◌&&◌, nat_le, Bool, true, false, List, [], ◌∷◌, length, map, Option, Some, Result, Ok, Err, if◌then◌else◌}
 use Rattle.std.proofs.Common.{◌∙◌, ap}
 use Rattle.std.proofs.lemmas.List.{length-map, take-map, drop-map}
 use Rattle.source.specs.declared.fault.Fault.{Fault}
@@ -9,11 +8,9 @@ use Rattle.source.specs.declared.word.Word.TheVariants as word
 use Rattle.source.specs.declared.fault.FaultKind.{FaultKind}
 use Rattle.source.specs.declared.fault.FaultKind.TheVariants.{SameName, NoSuchName, Arity, BadBound, TooWide}
 use Rattle.source.specs.First.{◌>>=◌, must}
-use Rattle.source_check.specs.declared.frame.Entry.{Entry}
 use Rattle.source_check.specs.declared.frame.Frame.{Frame}
 use Rattle.source_check.specs.declared.frame.Frame.TheVariants as frame
 use Rattle.source_check.specs.declared.frame.Turn.{Turn}
-use Rattle.source_check.specs.Heads.{through}
 use Rattle.source_check.specs.Steps.{Names, State, since, back, onto, stands, top, popped, pushed, ended, taken, noted, all_noted, using, entered, named, operated, one_taken, cell, callee, part, call, give, bound, dropped, let_ends, end_let, first_arm, second_arm, end_if, bounded, turned, until, left_turn, closed, end_loop, body, end_function, is_array, shape_at, is_new, step, steps}
 use Rattle.source_check.specs.Renamed.{renamed, moved}
 use Rattle.source_check.proofs.Runs.{mapped}
@@ -146,8 +143,8 @@ length_since f n xs = ap length (since_renamed f n xs) ∙ length-map (since n x
 closed_renamed : {N M : Type 0} (f : N → M) (t : Names N) (r : Names M) → Alike f t r → (s : State N) (at : ℕ) (outer : Turn) (names given : ℕ) → closed r (moved f s) at outer names given ≡ mapped (moved f) (closed t s at outer names given)
 closed_renamed f t r a s at outer names given = rw (length_since f s.turn.start s.used)
     (must_first (moved f) (given == names) Arity at (must (nat_le (names + length (since s.turn.start s.used)) 15) TooWide at >>= λ narrow. Ok (ended (left_turn t s outer) given at)) _
-      (must_mapped (moved f) (nat_le (names + length (since s.turn.start s.used)) 15) TooWide at (ended (left_turn t s outer) given at) _
-        (ap (λ z. ended z given at) (left_turn_renamed f t r a s outer))))
+    (must_mapped (moved f) (nat_le (names + length (since s.turn.start s.used)) 15) TooWide at (ended (left_turn t s outer) given at) _
+    (ap (λ z. ended z given at) (left_turn_renamed f t r a s outer))))
 
 end_loop_renamed : {N M : Type 0} (f : N → M) (t : Names N) (r : Names M) → Alike f t r → (s : State N) (at : ℕ) (o : Option Frame) → end_loop r (moved f s) at o ≡ mapped (moved f) (end_loop t s at o)
 end_loop_renamed f t r a s at (Some (frame.Open outer names mark)) = closed_renamed f t r a s at outer names s.last.count

@@ -1,8 +1,6 @@
 -- The words of bodies do nothing to heads.
-use Rattle.std.specs.Prelude.{◌≡◌, refl, List, [], ◌∷◌, ◌++◌, map, Result, Ok, Err}
+use Rattle.std.specs.Prelude.{◌≡◌, refl, List, [], ◌∷◌, ◌++◌, map, Ok}
 use Rattle.std.proofs.Common.{◌∙◌, ap}
-use Rattle.source.specs.declared.fault.Fault.{Fault}
-use Rattle.source.specs.declared.word.Word.{Word}
 use Rattle.source.specs.declared.word.Word.TheVariants as word
 use Rattle.semantics.specs.Graph.{same_name}
 use Rattle.source.specs.First.{◌>>=◌}

@@ -1,28 +1,27 @@
 -- WHAT STEPS LEAVE OF A PROGRAM: by induction on trees.
-use Rattle.std.specs.Prelude.{◌≡◌, refl, ℕ, ◌+◌, ◌==◌, ◌⊎◌, Bool, true, false, All, List, [], ◌∷◌, ◌++◌, length, map, Option, None, Some, Result, Ok, Err, ⊤}
-use Rattle.std.proofs.Common.{◌∙◌, ap, sym, arith, append_assoc, inl, inr}
+use Rattle.std.specs.Prelude.{◌≡◌, refl, ℕ, ◌+◌, ◌==◌, ◌⊎◌, Bool, true, false, All, List, [], ◌∷◌, ◌++◌, length, map, Option, None, Some, Ok, ⊤}
+use Rattle.std.proofs.Common.{◌∙◌, arith, append_assoc, inl, inr}
 use Rattle.std.proofs.lemmas.List.{append-nil}
 use Rattle.std.proofs.lemmas.List.Elements.{All-head, All-tail}
-use Rattle.source.specs.declared.fault.Fault.{Fault}
 use Rattle.source.specs.declared.fault.FaultKind.TheVariants.{Arity}
 use Rattle.source.specs.declared.word.Word.{Word}
 use Rattle.source.specs.declared.word.Word.TheVariants as word
 use Rattle.operators.specs.declared.Unary.{Unary}
-use Rattle.operators.specs.declared.Unary.TheVariants.{Neg, Not}
+use Rattle.operators.specs.declared.Unary.TheVariants.{Neg}
 use Rattle.source.specs.Tree.{Name, NameAt, NumberAt, Expr, Number, Named, Bracket, Prefix, Infix, Fetch, Store, Call, If, Loop, Exprs, One, More, Body, Let, Do, Give, Chain, Turn, Before, After, Function, Item, Cells, Defines, Program}
 use Rattle.source.specs.Fits.{Fits, FitsAll, FitsBody, FitsTurn, FitsItem, IsLeast}
 use Rattle.source.specs.Words.{body_words, result_words, item_words, program_words}
-use Rattle.source.specs.Outside.{bare, body_uses}
+use Rattle.source.specs.Outside.{bare}
 use Rattle.source.specs.First.{◌>>=◌, must}
 use Rattle.source.specs.Rules.{written_or_one, new_names, body_values, function_checked, functions_checked}
 use Rattle.source_check.specs.declared.frame.Entry.{Entry}
 use Rattle.source_check.specs.declared.frame.Frame.TheVariants as frame
-use Rattle.source_check.specs.Steps.{State, begun, since, back, onto, pushed, ended, body, end_function, steps, step}
-use Rattle.source_check.proofs.Runs.{mapped, in_turn, tested}
+use Rattle.source_check.specs.Steps.{State, begun, onto, ended, body, steps, step}
+use Rattle.source_check.proofs.Runs.{mapped, in_turn}
 use Rattle.source_check.proofs.Stacks.{since-append, back-append, onto-onto}
 use Rattle.source_check.proofs.Noted.{by_bytes}
-use Rattle.source_check.proofs.Over.{Knows, IsDeep, notes, having, naming, left_scope, Over, OverList, OverFirsts, OverBody, over_name, over_bracket, over_prefix, over_infix, over_fetch, over_store}
-use Rattle.source_check.proofs.Listed.{nothing_less, over_one, over_more, over_call, over_params, over_first_one, over_first_more}
+use Rattle.source_check.proofs.Over.{Knows, naming, Over, OverList, OverFirsts, OverBody, over_name, over_bracket, over_prefix, over_infix, over_fetch, over_store}
+use Rattle.source_check.proofs.Listed.{over_one, over_more, over_call, over_params, over_first_one, over_first_more}
 use Rattle.source_check.proofs.Bodies.{over_give, over_chain, over_do, over_let, over_if}
 use Rattle.source_check.proofs.Loops.{OverTurn, over_before, over_after, over_loop}
 
@@ -85,7 +84,7 @@ in_body scope results at where_results = record begun { scope = scope; frames = 
 
 over_entry : (item : Name → Option Entry) (xs : List NameAt) (results m at from : ℕ) (ws : List (Word Name))
     → (body (record begun { pending = onto (bare xs) [] ++ []; last = record { count = results; at = from } }) at (Some (frame.Names 0 m)) >>= λ u. steps (by_bytes item) u ws)
-      ≡ steps (by_bytes item) (in_body (bare xs) results at from) ws
+    ≡ steps (by_bytes item) (in_body (bare xs) results at from) ws
 over_entry item xs results m at from ws = rw (since-append (onto (bare xs) []) [], back-append (onto (bare xs) []) [], onto-onto (bare xs) [] [], append-nil (bare xs)) refl
 
 last_test : (b : Bool) (at : ℕ) (s : State Name) → ((must b Arity at >>= λ all. Ok s) >>= λ u. Ok u) ≡ mapped (λ (u : ⊤). s) (must b Arity at)
@@ -103,10 +102,10 @@ over_function item p k f fits =
     let i0 : State Name = in_body (bare f.params) results f.body_at (result_at at f.results) in
     rw (append_assoc (params ++ result_words f.results) (word.Body f.body_at ∷ body_words f.body) ending, append_assoc params (result_words f.results) rest)
     (in_turn (step (by_bytes item)) (naming (ended begun 1 at) [] 0) params (result_words f.results ++ rest) (new_names p [] f.params) _ _ _ (over_params item p k f.params (ended begun 1 at) [] 0)
-      (λ u. over_results item (naming begun (onto (bare f.params) []) (0 + length f.params)) at f.results rest
-        ∙ over_entry item f.params results (0 + length f.params) f.body_at (result_at at f.results) (body_words f.body ++ ending)
-        ∙ in_turn (step (by_bytes item)) i0 (body_words f.body) ending (body_values p (bare f.params) f.body) _ _ _ (over_body item p k f.body false fits i0 (record { scope = omega arith; used = omega arith }))
-          (λ n. last_test (n == results) f.body_at begun)))
+    (λ u. over_results item (naming begun (onto (bare f.params) []) (0 + length f.params)) at f.results rest
+    ∙ over_entry item f.params results (0 + length f.params) f.body_at (result_at at f.results) (body_words f.body ++ ending)
+    ∙ in_turn (step (by_bytes item)) i0 (body_words f.body) ending (body_values p (bare f.params) f.body) _ _ _ (over_body item p k f.body false fits i0 (record { scope = omega arith; used = omega arith }))
+    (λ n. last_test (n == results) f.body_at begun)))
 
 pub over_functions : (item : Name → Option Entry) (p : Program) → Knows item p → (items : List Item) → All FitsItem items
     → steps (by_bytes item) begun (program_words items) ≡ mapped (λ (u : ⊤). begun) (functions_checked p items)

@@ -1,7 +1,6 @@
 -- WHAT WAS CHECKED.
-use Rattle.std.specs.Prelude.{◌≡◌, ℕ, List, Ok, Err, Result, ⊤}
+use Rattle.std.specs.Prelude.{◌≡◌, ℕ, List, Ok}
 use Rattle.source.specs.declared.word.Word.{Word}
-use Rattle.source.specs.declared.fault.Fault.{Fault}
 use Rattle.source.specs.Tree.{Name, Program}
 use Rattle.source.specs.Fits.{FitsProgram}
 use Rattle.source.specs.Words.{AreWords}

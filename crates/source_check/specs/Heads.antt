@@ -1,5 +1,5 @@
 -- THE HEADS OF ITEMS, WORD BY WORD: all words are gone over, and those of bodies do nothing.
-use Rattle.std.specs.Prelude.{ℕ, ◌+◌, ◌&&◌, not, nat_le, nat_lt, Bool, true, false, List, [], ◌∷◌, is_some, Option, None, Some, Result, Ok, Err, ⊤, if◌then◌else◌}
+use Rattle.std.specs.Prelude.{ℕ, ◌+◌, ◌&&◌, not, nat_le, nat_lt, Bool, List, [], ◌∷◌, is_some, Option, None, Some, Result, Ok, if◌then◌else◌}
 use Rattle.source.specs.declared.fault.Fault.{Fault}
 use Rattle.source.specs.declared.fault.FaultKind.TheVariants.{SameName, BadCount, TooMany}
 use Rattle.source.specs.declared.word.Word.{Word}

@@ -1,5 +1,5 @@
 -- WORDS IN CODE tell names by numbers.
-use Rattle.std.specs.Prelude.{◌≡◌, ℕ, ◌==◌, ◌<◌, ◌⊎◌, List, length}
+use Rattle.std.specs.Prelude.{◌≡◌, ℕ, ◌<◌, ◌⊎◌, List, length}
 use Rattle.source.specs.Tree.{Name}
 use Rattle.source.specs.Words.{name_of}
 use Rattle.source.specs.Rules.{main_name}

@@ -1,11 +1,11 @@
 -- STACKS IN CODE. A stack of names has the last one first, and each name's last place is looked up in one step.
-use Rattle.std.specs.Prelude.{◌≡◌, ℕ, suc, ◌==◌, ◌⊎◌, Bool, List, [], ◌∷◌, length, map, slice_index_or, Option, None, Some, Result, MatchResult, Ok, Err, ⊤, if◌then◌else◌}
+use Rattle.std.specs.Prelude.{◌≡◌, ℕ, suc, ◌==◌, ◌⊎◌, Bool, List, [], ◌∷◌, length, map, slice_index_or, Option, None, Result, MatchResult, Ok, Err, ⊤, if◌then◌else◌}
 use Rattle.source.specs.declared.fault.Fault.{Fault}
 use Rattle.source.specs.declared.fault.FaultKind.TheVariants.{Memory}
 use Rattle.source_check.specs.declared.bindings.Binding.{Binding}
 use Rattle.source_check.specs.declared.frame.Entry.{Entry}
 use Rattle.source_check.specs.Heads.{Heads}
-use Rattle.source_check.specs.Steps.{Names, State, onto}
+use Rattle.source_check.specs.Steps.{Names, onto}
 
 -- the place behind the last entry of that name, counted from the bottom, or 0
 abbrev pub place : ℕ → List ℕ → ℕ

@@ -22,7 +22,7 @@ mod table;
 
 use frame::Entry;
 use machine::check_functions;
-use table::{must, read_heads, Table};
+use table::{Table, must, read_heads};
 
 /// A program that keeps the static rules.
 #[derive(Drop)]

@@ -8,7 +8,7 @@ ghost use Rattle.source_check.specs.Stack.{Follows, out_of_memory, numbers};
 
 use crate::bindings::{Bindings, Frames};
 use crate::frame::{Entry, Frame, Turn, Values};
-use crate::table::{must, Table, OUT_OF_MEMORY};
+use crate::table::{OUT_OF_MEMORY, Table, must};
 use source::fault::{Fault, FaultKind};
 use source::word::Word;
 use std::alloc::{AllocError, Allocator};
@@ -404,11 +404,13 @@ impl<A: Allocator> Machine<A> {
                 let given = self.last.count;
                 self.closed(at, outer, names, given)
             }
-            Some(Frame::Tested {
-                outer,
-                names,
-                given,
-            }) => {
+            Some(
+                Frame::Tested {
+                    outer,
+                    names,
+                    given,
+                },
+            ) => {
                 self.single()?;
                 self.closed(at, outer, names, given)
             }

@@ -21,7 +21,11 @@ pub(crate) const OUT_OF_MEMORY: Fault = Fault {
 pub(crate) fn must(holds: bool, kind: FaultKind, at: usize) -> Result<(), Fault>
     ensures { result ≡ first.must holds kind at }
 {
-    if holds { Ok(()) } else { Err(Fault { kind, at }) }
+    if holds {
+        Ok(())
+    } else {
+        Err(Fault { kind, at })
+    }
 }
 
 /// What each name's item is, by the name's number. Contracts see the list.
@@ -40,10 +44,7 @@ impl<A: Allocator> Model for Table<A> {
 }
 
 /// Makes room for the item of a name.
-fn reserve<A: Allocator>(
-    entries: &mut Vec<Option<Entry>, A>,
-    name: usize,
-) -> Result<(), AllocError>
+fn reserve<A: Allocator>(entries: &mut Vec<Option<Entry>, A>, name: usize) -> Result<(), AllocError>
     ensures same { (n : ℕ) → slice_index_or entries.new.items n None ≡ slice_index_or entries.old.items n None }
     ensures room { OnOk result (name < length entries.new.items) }
 {

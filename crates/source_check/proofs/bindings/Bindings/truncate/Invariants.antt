@@ -1,5 +1,5 @@
 use Rattle.std.proofs.Common.{◌≡◌, length}
-use Rattle.source_check.specs.Steps.{since, back, onto}
+use Rattle.source_check.specs.Steps.{back}
 use Rattle.source_check.proofs.bindings.Bindings.truncate.Given as goal
 
 abbrev pub invariant-loop-self : goal.invariant-loop-self
