@@ -29,7 +29,8 @@ reads_same : (w : World) (i : Indexed) (v u : Value) → Reads w i v → Reads w
 reads_same w (Place x) v u p q = cc
 reads_same w (Outside f) v u p q = cc
 
-fetch_same : (w : World) (t : ℕ) (a : Name) (i j v u : Value) (ss qs : Stores) → Same (i ∷ []) (j ∷ []) ss qs → Reads w (place_in w t a i) v → Reads w (place_in w t a j) u
+fetch_same : (w : World) (t : ℕ) (a : Name) (i j v u : Value) (ss qs : Stores) → Same (i ∷ []) (j ∷ []) ss qs → Reads w (place_in w t a i) v → Reads w
+    (place_in w t a j) u
     → Same (v ∷ []) (u ∷ []) ss qs
 fetch_same w t a i j v u ss qs h r s =
     let p : j ≡ i = cc in
@@ -37,11 +38,14 @@ fetch_same w t a i j v u ss qs h r s =
     (cc, h.1)
 
 store_same : (w : World) (t : ℕ) (a : Name) (i j v u : Value) (ss qs us ts : Stores) → Same (i ∷ []) (j ∷ []) ss qs → Same (v ∷ []) (u ∷ []) us ts
-    → Same (answer (place_in w t a i) v ∷ []) (answer (place_in w t a j) u ∷ []) (ss ++ us ++ filled (place_in w t a i) v) (qs ++ ts ++ filled (place_in w t a j) u)
+    → Same (answer (place_in w t a i) v ∷ []) (answer (place_in w t a j) u ∷ []) (ss ++ us ++ filled (place_in w t a i) v) (qs ++ ts ++ filled (place_in w t
+    a j) u)
 store_same w t a i j v u ss qs us ts h k =
     let p : i ≡ j = cc in let q : v ≡ u = cc in
-    subst (λ x. Same (answer (place_in w t a i) v ∷ []) (answer (place_in w t a x) u ∷ []) (ss ++ us ++ filled (place_in w t a i) v) (qs ++ ts ++ filled (place_in w t a x) u)) p
-    (subst (λ y. Same (answer (place_in w t a i) v ∷ []) (answer (place_in w t a i) y ∷ []) (ss ++ us ++ filled (place_in w t a i) v) (qs ++ ts ++ filled (place_in w t a i) y)) q (refl, cc))
+    subst (λ x. Same (answer (place_in w t a i) v ∷ []) (answer (place_in w t a x) u ∷ []) (ss ++ us ++ filled (place_in w t a i) v) (qs ++ ts ++ filled
+    (place_in w t a x) u)) p
+    (subst (λ y. Same (answer (place_in w t a i) v ∷ []) (answer (place_in w t a i) y ∷ []) (ss ++ us ++ filled (place_in w t a i) v) (qs ++ ts ++ filled
+    (place_in w t a i) y)) q (refl, cc))
 
 -- two parts, of which the second has the values
 then_same : (vs us : List Value) (ss qs ks bs : Stores) → ss ≡ qs → Same vs us ks bs → Same vs us (ss ++ ks) (qs ++ bs)
@@ -71,17 +75,20 @@ entered_at : (w : World) (f : Name) (g k : Function) (vs us rs : List Value) (ss
 entered_at w f g k vs us rs ss p q h r = let e : k ≡ g = cc in let d : us ≡ vs = cc in
     subst (λ x. Runs w (entered x.params vs []) x.body rs ss) e (subst (λ x. Runs w (entered k.params x []) k.body rs ss) d r)
 
-let_at : (w : World) (targets : List Target) (env : Env) (b : Body) (vs us rs : List Value) (ss : Stores) → vs ≡ us → Runs w (let_in targets us env) b rs ss → Runs w (let_in targets vs env) b rs ss
+let_at : (w : World) (targets : List Target) (env : Env) (b : Body) (vs us rs : List Value) (ss : Stores) → vs ≡ us → Runs w (let_in targets us env) b rs ss
+    → Runs w (let_in targets vs env) b rs ss
 let_at w targets env b vs us rs ss h r = let d : us ≡ vs = cc in subst (λ x. Runs w (let_in targets x env) b rs ss) d r
 
 turns_at : (w : World) (env : Env) (l : Turn) (vs us rs : List Value) (ss : Stores) → vs ≡ us → Turns w env l us rs ss → Turns w env l vs rs ss
 turns_at w env l vs us rs ss h r = let d : us ≡ vs = cc in subst (λ x. Turns w env l x rs ss) d r
 
-test_at : (w : World) (xs : List NameAt) (env : Env) (p : Expr) (vs us rs : List Value) (ss : Stores) → vs ≡ us → Evaluates w (entered xs us env) p rs ss → Evaluates w (entered xs vs env) p rs ss
+test_at : (w : World) (xs : List NameAt) (env : Env) (p : Expr) (vs us rs : List Value) (ss : Stores) → vs ≡ us → Evaluates w (entered xs us env) p rs ss →
+    Evaluates w (entered xs vs env) p rs ss
 test_at w xs env p vs us rs ss h r = let d : us ≡ vs = cc in subst (λ x. Evaluates w (entered xs x env) p rs ss) d r
 
 mutual
-  evaluates_once : {w : World} {env : Env} {e : Expr} {vs us : List Value} {ss qs : Stores} → Evaluates w env e vs ss → Evaluates w env e us qs → Same vs us ss qs
+  evaluates_once : {w : World} {env : Env} {e : Expr} {vs us : List Value} {ss qs : Stores} → Evaluates w env e vs ss → Evaluates w env e us qs → Same vs us
+      ss qs
   evaluates_once number number = (refl, refl)
   evaluates_once (named p) (named q) = named_same _ _ _ p q
   evaluates_once (bracket d) (bracket c) = evaluates_once d c
@@ -96,12 +103,14 @@ mutual
   evaluates_once (if_false d p r) (if_false c q s) = then_same _ _ _ _ _ _ ((evaluates_once d c).1) (runs_once r s)
   evaluates_once (loop d r) (loop c s) = let h = all_once d c in then_same _ _ _ _ _ _ h.1 (turns_once r (turns_at _ _ _ _ _ _ _ h.0 s))
 
-  all_once : {w : World} {env : Env} {e : Exprs} {vs us : List Value} {ss qs : Stores} → EvaluatesAll w env e vs ss → EvaluatesAll w env e us qs → Same vs us ss qs
+  all_once : {w : World} {env : Env} {e : Exprs} {vs us : List Value} {ss qs : Stores} → EvaluatesAll w env e vs ss → EvaluatesAll w env e us qs → Same vs
+      us ss qs
   all_once (one d) (one c) = evaluates_once d c
   all_once (more d e) (more c b) = let h = evaluates_once d c in let k = all_once e b in (cc, cc)
 
   runs_once : {w : World} {env : Env} {e : Body} {vs us : List Value} {ss qs : Stores} → Runs w env e vs ss → Runs w env e us qs → Same vs us ss qs
-  runs_once {env = env} (lets {targets = targets} d r) (lets c s) = let h = all_once d c in then_same _ _ _ _ _ _ h.1 (runs_once r (let_at _ targets env _ _ _ _ _ h.0 s))
+  runs_once {env = env} (lets {targets = targets} d r) (lets c s) = let h = all_once d c in then_same _ _ _ _ _ _ h.1 (runs_once r (let_at _ targets env _ _
+      _ _ _ h.0 s))
   runs_once (does d r) (does c s) = then_same _ _ _ _ _ _ ((all_once d c).1) (runs_once r s)
   runs_once (gives d) (gives c) = all_once d c
   runs_once (chain d) (chain c) = evaluates_once d c
@@ -110,10 +119,14 @@ mutual
   turns_once (leaves d p) (leaves c q) = (refl, (evaluates_once d c).1)
   turns_once (leaves d p) (goes c q s t) = other_truth _ _ _ _ (evaluates_once d c) p q
   turns_once (goes d p r t) (leaves c q) = one_truth _ _ _ _ (evaluates_once d c) p q
-  turns_once (goes d p r t) (goes c q s u) = let h = runs_once r s in last_same _ _ _ _ _ _ _ _ ((evaluates_once d c).1) h.1 (turns_once t (turns_at _ _ _ _ _ _ _ h.0 u))
-  turns_once {env = env} (ends {xs = xs} r d p) (ends s c q) = let h = runs_once r s in first_same _ _ _ _ _ _ _ _ h (evaluates_once d (test_at _ xs env _ _ _ _ _ h.0 c))
-  turns_once {env = env} (ends {xs = xs} r d p) (again s c q t) = let h = runs_once r s in other_truth _ _ _ _ (evaluates_once d (test_at _ xs env _ _ _ _ _ h.0 c)) p q
-  turns_once {env = env} (again {xs = xs} r d p t) (ends s c q) = let h = runs_once r s in one_truth _ _ _ _ (evaluates_once d (test_at _ xs env _ _ _ _ _ h.0 c)) p q
+  turns_once (goes d p r t) (goes c q s u) = let h = runs_once r s in last_same _ _ _ _ _ _ _ _ ((evaluates_once d c).1) h.1 (turns_once t (turns_at _ _ _ _
+      _ _ _ h.0 u))
+  turns_once {env = env} (ends {xs = xs} r d p) (ends s c q) = let h = runs_once r s in first_same _ _ _ _ _ _ _ _ h (evaluates_once d (test_at _ xs env _ _
+      _ _ _ h.0 c))
+  turns_once {env = env} (ends {xs = xs} r d p) (again s c q t) = let h = runs_once r s in other_truth _ _ _ _ (evaluates_once d (test_at _ xs env _ _ _ _ _
+      h.0 c)) p q
+  turns_once {env = env} (again {xs = xs} r d p t) (ends s c q) = let h = runs_once r s in one_truth _ _ _ _ (evaluates_once d (test_at _ xs env _ _ _ _ _
+      h.0 c)) p q
   turns_once {env = env} (again {xs = xs} r d p t) (again s c q u) = let h = runs_once r s in let k = evaluates_once d (test_at _ xs env _ _ _ _ _ h.0 c) in
       last_same _ _ _ _ _ _ _ _ h.1 k.1 (turns_once t (turns_at _ _ _ _ _ _ _ h.0 u))
 

@@ -60,7 +60,8 @@ counted_from base (Outside fault) = Outside fault
 -- each index of an array that is not there is outside
 abbrev pub place_from : ℕ → List Item → Name → Value → Origin → Indexed
 place_from base [] a i origin = index_in 0 i origin
-place_from base (Cells x len ∷ items) a i origin = if same_name a x.name then counted_from base (index_in len.number i origin) else place_from (base + len.number) items a i origin
+place_from base (Cells x len ∷ items) a i origin = if same_name a x.name then counted_from base (index_in len.number i origin) else place_from (base +
+    len.number) items a i origin
 place_from base (Defines g ∷ items) a i origin = place_from base items a i origin
 
 -- the cell that an index names in the array, or the fault that stands for it, made at the token
@@ -90,7 +91,8 @@ mutual
     number : {env : Env} {t n : ℕ} → Evaluates w env (Number t n) (Int (signed n) ∷ []) []
     named : {env : Env} {t : ℕ} {x : Name} {v : Value} → bound env x ≡ Some v → Evaluates w env (Named t x) (v ∷ []) []
     bracket : {env : Env} {e : Expr} {vs : List Value} {ss : Stores} → Evaluates w env e vs ss → Evaluates w env (Bracket e) vs ss
-    prefix : {env : Env} {t : ℕ} {op : Unary} {e : Expr} {v : Value} {ss : Stores} → Evaluates w env e (v ∷ []) ss → Evaluates w env (Prefix t op e) (apply1 op v ∷ []) ss
+    prefix : {env : Env} {t : ℕ} {op : Unary} {e : Expr} {v : Value} {ss : Stores} → Evaluates w env e (v ∷ []) ss → Evaluates w env (Prefix t op e) (apply1
+        op v ∷ []) ss
     infix_ : {env : Env} {t : ℕ} {sign : InfixSign} {l r : Expr} {x y : Value} {ss us : Stores} → Evaluates w env l (x ∷ []) ss → Evaluates w env r (y ∷ []) us
         → Evaluates w env (Infix t sign l r) (operated sign x y (w.origin t) ∷ []) (ss ++ us)
     fetch : {env : Env} {t : ℕ} {a : Name} {e : Expr} {i v : Value} {ss : Stores} → Evaluates w env e (i ∷ []) ss → Reads w (place_in w t a i) v
@@ -98,7 +100,8 @@ mutual
     store : {env : Env} {t : ℕ} {a : Name} {e d : Expr} {i v : Value} {ss us : Stores} → Evaluates w env e (i ∷ []) ss → Evaluates w env d (v ∷ []) us
         → Evaluates w env (Store t a e d) (answer (place_in w t a i) v ∷ []) (ss ++ us ++ filled (place_in w t a i) v)
     call : {env : Env} {t : ℕ} {strict : Bool} {f : Name} {es : Exprs} {g : Function} {vs rs : List Value} {ss us : Stores}
-        → EvaluatesAll w env es vs ss → function w f ≡ Some g → Runs w (entered g.params vs []) g.body rs us → Evaluates w env (Call t strict f es) rs (ss ++ us)
+        → EvaluatesAll w env es vs ss → function w f ≡ Some g → Runs w (entered g.params vs []) g.body rs us → Evaluates w env (Call t strict f es) rs (ss
+        ++ us)
     if_true : {env : Env} {t : ℕ} {p : Expr} {l r : Body} {b : Value} {vs : List Value} {ss us : Stores}
         → Evaluates w env p (b ∷ []) ss → truth b ≡ true → Runs w env l vs us → Evaluates w env (If t p l r) vs (ss ++ us)
     if_false : {env : Env} {t : ℕ} {p : Expr} {l r : Body} {b : Value} {vs : List Value} {ss us : Stores}
@@ -129,7 +132,8 @@ mutual
         → Turns w env (Before xs p body) us rs qs → Turns w env (Before xs p body) vs rs (ss ++ ts ++ qs)
     -- the test is on the values that the turn gives, and there is always a first turn
     ends : {env : Env} {xs : List NameAt} {p : Expr} {body : Body} {b : Value} {vs us : List Value} {ts ss : Stores}
-        → Runs w (entered xs vs env) body us ts → Evaluates w (entered xs us env) p (b ∷ []) ss → truth b ≡ false → Turns w env (After xs body p) vs us (ts ++ ss)
+        → Runs w (entered xs vs env) body us ts → Evaluates w (entered xs us env) p (b ∷ []) ss → truth b ≡ false → Turns w env (After xs body p) vs us (ts
+        ++ ss)
     again : {env : Env} {xs : List NameAt} {p : Expr} {body : Body} {b : Value} {vs us rs : List Value} {ts ss qs : Stores}
         → Runs w (entered xs vs env) body us ts → Evaluates w (entered xs us env) p (b ∷ []) ss → truth b ≡ true
         → Turns w env (After xs body p) us rs qs → Turns w env (After xs body p) vs rs (ts ++ ss ++ qs)

@@ -11,3 +11,6 @@ pub mod Evaluates
 pub mod Once
 pub mod Theorem
 pub mod Lowered
+pub mod Samples
+pub mod Examples
+pub mod Counts

@@ -1,9 +1,9 @@
 -- THE GRAPH THAT A PROGRAM IS LOWERED TO. Each token is lowered once.
-use Rattle.std.specs.Prelude.{ℕ, zero, suc, ⊤, ◌+◌, nat_le, nat_lt, nat_eq, ◌&&◌, Bool, true, false, List, [], ◌∷◌, ◌++◌, length, map, reverse, decimal, codes, Option, None, Some, Result, Ok, Err, if◌then◌else◌}
+use Rattle.std.specs.Prelude.{ℕ, zero, suc, ⊤, ◌+◌, nat_le, nat_lt, nat_eq, ◌&&◌, Bool, true, false, List, [], ◌∷◌, ◌++◌, length, map, reverse, decimal, codes, Option, None, Some, Result, Ok, if◌then◌else◌}
 use Rattle.tags.specs.declared.value.Origin.{Origin}
 use Rattle.tags.specs.declared.value.Origin.TheVariants.{At, Untold}
 use Rattle.operators.specs.declared.Unary.{Unary}
-use Rattle.operators.specs.declared.Unary.TheVariants.{Neg, Not}
+use Rattle.operators.specs.declared.Unary.TheVariants.{Neg}
 use Rattle.operators.specs.declared.Binary.{Binary}
 use Rattle.operators.specs.declared.Binary.TheVariants.{Lt, Le}
 use Rattle.operators.specs.Values.{on_int}
@@ -17,11 +17,11 @@ use Rattle.source.specs.declared.word.InfixSign.{InfixSign}
 use Rattle.source.specs.declared.word.InfixSign.TheVariants.{Direct, Greater, AtLeast}
 use Rattle.source.specs.declared.fault.Fault.{Fault}
 use Rattle.source.specs.declared.fault.FaultKind.TheVariants.{TooBig}
-use Rattle.source.specs.Tree.{Name, NameAt, NumberAt, Target, Bind, Drop, Expr, Number, Named, Bracket, Prefix, Infix, Fetch, Store, Call, If, Loop, Exprs, One, More, Body, Let, Do, Give, Chain, Turn, Before, After, Function, Item, Cells, Defines, Program, names_of}
+use Rattle.source.specs.Tree.{Name, Target, Bind, Drop, Expr, Number, Named, Bracket, Prefix, Infix, Fetch, Store, Call, If, Loop, Exprs, One, More, Body, Let, Do, Give, Chain, Turn, Before, After, Function, Item, Cells, Defines, Program, names_of}
 use Rattle.source.specs.Rules.{function_in, main_name, written_or_one}
 use Rattle.source.specs.Outside.{bare, outside_body, outside_turn}
 use Rattle.source.specs.Evaluates.{signed}
-use Rattle.source.specs.First.{◌>>=◌, refused, must}
+use Rattle.source.specs.First.{◌>>=◌, must}
 
 -- A node line, and the place of the token that it is made for.
 pub record Made : Type 0 where
@@ -174,10 +174,10 @@ merges site at cond ss ts = []
 abbrev pub chosen : Site → Spot → ℕ → List Source → Lowered → Lowered → Lowered
 chosen site spot at predicate l r =
     let ms : List Made = merges site at spot.next l.sources r.sources in record {
-  nodes = made site at node.Cond predicate ∷ (l.nodes ++ r.nodes ++ ms);
-  sources = inputs_from (spot.next + 1 + length l.nodes + length r.nodes) (length ms);
-  blocks = l.blocks ++ r.blocks;
-}
+      nodes = made site at node.Cond predicate ∷ (l.nodes ++ r.nodes ++ ms);
+      sources = inputs_from (spot.next + 1 + length l.nodes + length r.nodes) (length ms);
+      blocks = l.blocks ++ r.blocks;
+    }
 
 abbrev pub next_spot : Spot → Spot
 next_spot spot = record { next = spot.next + 1; loops = spot.loops }
@@ -239,8 +239,10 @@ abbrev mutual
       let l : Lowered = lower_list p site spot scope es in ended site spot l at (call_kind strict f) l.sources (results_of (function_in p f))
   lower p site spot scope (If at q l r) =
       let c : Lowered = lower p site spot scope q in let k : Spot = spot_after spot c in
-      let a : Lowered = arm site k.next true (next_spot k) at scope (first_of c.sources) (outside_body l) (λ here inner names. lower_body p here inner names l) in
-      let b : Lowered = arm site k.next false (spot_after (next_spot k) a) at scope (first_of c.sources) (outside_body r) (λ here inner names. lower_body p here inner names r) in
+      let a : Lowered = arm site k.next true (next_spot k) at scope (first_of c.sources) (outside_body l) (λ here inner names. lower_body p here inner names
+      l) in
+      let b : Lowered = arm site k.next false (spot_after (next_spot k) a) at scope (first_of c.sources) (outside_body r) (λ here inner names. lower_body p
+      here inner names r) in
       followed c (chosen site k at c.sources a b)
   lower p site spot scope (Loop at bound firsts turn) =
       let f : Lowered = lower_list p site spot scope firsts in let xs : List Name = bare (names_of turn) in let outs : List Name = outside_turn turn in
@@ -264,7 +266,8 @@ abbrev mutual
   -- the test, and a conditional whose right arm gives the values as they came
   lower_turn p f spot at scope (Before xs q body) =
       let c : Lowered = lower p (turn_site f) spot scope q in let k : Spot = spot_after spot c in
-      let a : Lowered = arm (turn_site f) k.next true (next_spot k) at scope (first_of c.sources) (outside_body body) (λ here inner names. lower_body p here inner names body) in
+      let a : Lowered = arm (turn_site f) k.next true (next_spot k) at scope (first_of c.sources) (outside_body body) (λ here inner names. lower_body p here
+      inner names body) in
       let s : Spot = spot_after (next_spot k) a in
       let b : Lowered = entered_names (arm_site (turn_site f) k.next false s) s at scope (first_of c.sources) (bare xs) in
       joined c (chosen (turn_site f) k at c.sources a b)

@@ -1,6 +1,6 @@
 -- THE STATIC RULES, and the first fault of a program that breaks one. First the heads of the items, in order; then whether
 -- there is a function `main`; then the functions, in order. Sizes come with the lowering.
-use Rattle.std.specs.Prelude.{ℕ, ◌+◌, ◌==◌, ◌&&◌, not, nat_le, nat_lt, Bool, true, false, List, [], ◌∷◌, ◌++◌, length, drop, is_some, Option, None, Some, Result, Ok, Err, ⊤, if◌then◌else◌}
+use Rattle.std.specs.Prelude.{ℕ, ◌+◌, ◌==◌, ◌&&◌, not, nat_le, nat_lt, List, [], ◌∷◌, ◌++◌, length, drop, is_some, Option, None, Some, Result, Ok, ⊤, if◌then◌else◌}
 use Rattle.semantics.specs.Graph.{same_name}
 use Rattle.source.specs.declared.fault.Fault.{Fault}
 use Rattle.source.specs.declared.fault.FaultKind.TheVariants.{SameName, NoSuchName, Arity, BadBound, BadCount, TooMany, TooWide, NoMain}
@@ -101,7 +101,6 @@ new_first p before (x ∷ xs) = new_name p before x
 abbrev pub and_first : List Name → List NameAt → List Name
 and_first before [] = before
 and_first before (x ∷ xs) = x.name ∷ before
-
 
 -- VALUES
 -- where the fault stands if an expression has not one value
