@@ -1,15 +1,14 @@
 -- WHAT STEPS LEAVE OF A PROGRAM: by induction on trees.
-use Rattle.std.specs.Prelude.{◌≡◌, refl, ℕ, ◌+◌, ◌==◌, ◌⊎◌, Bool, true, false, All, List, [], ◌∷◌, ◌++◌, length, map, Option, None, Some, Ok, ⊤}
+use Rattle.std.specs.Prelude.{◌≡◌, refl, ℕ, ◌+◌, ◌==◌, ◌⊎◌, Bool, true, false, List, [], ◌∷◌, ◌++◌, length, map, Option, None, Some, Ok, ⊤}
 use Rattle.std.proofs.Common.{◌∙◌, arith, append_assoc, inl, inr}
 use Rattle.std.proofs.lemmas.List.{append-nil}
-use Rattle.std.proofs.lemmas.List.Elements.{All-head, All-tail}
 use Rattle.source.specs.declared.fault.FaultKind.TheVariants.{Arity}
 use Rattle.source.specs.declared.word.Word.{Word}
 use Rattle.source.specs.declared.word.Word.TheVariants as word
 use Rattle.operators.specs.declared.Unary.{Unary}
 use Rattle.operators.specs.declared.Unary.TheVariants.{Neg}
 use Rattle.source.specs.Tree.{Name, NameAt, NumberAt, Expr, Number, Named, Bracket, Prefix, Infix, Fetch, Store, Call, If, Loop, Exprs, One, More, Body, Let, Do, Give, Chain, Turn, Before, After, Function, Item, Cells, Defines, Program}
-use Rattle.source.specs.Fits.{Fits, FitsAll, FitsBody, FitsTurn, FitsItem, IsLeast}
+use Rattle.source.specs.Fits.{Fits, FitsAll, FitsBody, FitsTurn, FitsProgram, IsLeast}
 use Rattle.source.specs.Words.{body_words, result_words, item_words, program_words}
 use Rattle.source.specs.Outside.{bare}
 use Rattle.source.specs.First.{◌>>=◌, must}
@@ -107,8 +106,8 @@ over_function item p k f fits =
     ∙ in_turn (step (by_bytes item)) i0 (body_words f.body) ending (body_values p (bare f.params) f.body) _ _ _ (over_body item p k f.body false fits i0 (record { scope = omega arith; used = omega arith }))
     (λ n. last_test (n == results) f.body_at begun)))
 
-pub over_functions : (item : Name → Option Entry) (p : Program) → Knows item p → (items : List Item) → All FitsItem items
+pub over_functions : (item : Name → Option Entry) (p : Program) → Knows item p → (items : List Item) → FitsProgram items
     → steps (by_bytes item) begun (program_words items) ≡ mapped (λ (u : ⊤). begun) (functions_checked p items)
 over_functions item p k [] fits = refl
-over_functions item p k (Cells x len ∷ items) fits = over_functions item p k items (All-tail FitsItem (Cells x len) items fits)
-over_functions item p k (Defines f ∷ items) fits = in_turn (step (by_bytes item)) begun (item_words (Defines f)) (program_words items) (function_checked p f) _ _ _ (over_function item p k f ((All-head FitsItem (Defines f) items fits).2)) (λ u. over_functions item p k items (All-tail FitsItem (Defines f) items fits))
+over_functions item p k (Cells x len ∷ items) fits = over_functions item p k items fits.1
+over_functions item p k (Defines f ∷ items) fits = in_turn (step (by_bytes item)) begun (item_words (Defines f)) (program_words items) (function_checked p f) _ _ _ (over_function item p k f fits.0.2) (λ u. over_functions item p k items fits.1)
