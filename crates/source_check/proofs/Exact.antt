@@ -35,11 +35,13 @@ with_main true false end r q e h = absurd (cc)
 with_main false true end r q e h = absurd (cc)
 
 after_heads : (end : ℕ) (p : Program) → FitsProgram p → (r : Result rules.Heads Fault) → heads no_items p ≡ r
-    → (mapped (λ (b : rules.Heads). all_headed no_heads p) r >>= λ (h : Heads Name). must (is_function (h.item main_name)) NoMain end >>= λ there. steps (by_bytes h.item) begun (program_words p) >>= λ last. Ok tt)
+    → (mapped (λ (b : rules.Heads). all_headed no_heads p) r >>= λ (h : Heads Name). must (is_function (h.item main_name)) NoMain end >>= λ there. steps
+    (by_bytes h.item) begun (program_words p) >>= λ last. Ok tt)
     ≡ (r >>= λ all. must (is_some (function_in p main_name)) NoMain end >>= λ main. functions_checked p p)
 after_heads end p fits (Err e) h = refl
 after_heads end p fits (Ok b) h = rw (items_headed p no_heads)
-    (with_main (is_function (with_items (λ x. None) p main_name)) (is_some (function_in p main_name)) end _ (functions_checked p p) (function_is_known p b h main_name)
+    (with_main (is_function (with_items (λ x. None) p main_name)) (is_some (function_in p main_name)) end _ (functions_checked p p)
+    (function_is_known p b h main_name)
     (ap (λ r. r >>= λ (s : State Name). Ok tt) (over_functions (with_items (λ x. None) p) p (all_known p b h) p fits) ∙ no_answer (functions_checked p p)))
 
 pub words_are_checked : (end : ℕ) (p : Program) → FitsProgram p → words_checked same_name main_name end (program_words p) ≡ checked end p

@@ -34,7 +34,8 @@ err_is_no_ok : {A B : Type 0} (e : Fault) (x : A) → Err e ≡ Ok x → B
 err_is_no_ok e x h = absurd (cc)
 
 cells_apart : {A B : Type 0} (b c d f : Bool) (at from : ℕ) (n : A) (r : B) (K : A → Result B Fault)
-    → ((must (not b) SameName at >>= λ new. must c TooMany at >>= λ few. must d BadCount from >>= λ fits. must f TooMany from >>= λ room. Ok n) >>= K) ≡ Ok r → (b ≡ false) × (K n ≡ Ok r)
+    → ((must (not b) SameName at >>= λ new. must c TooMany at >>= λ few. must d BadCount from >>= λ fits. must f TooMany from >>= λ room. Ok n) >>= K) ≡ Ok
+    r → (b ≡ false) × (K n ≡ Ok r)
 cells_apart false true true true at from n r K h = (refl, h)
 cells_apart true c d f at from n r K h = err_is_no_ok _ _ h
 cells_apart false false d f at from n r K h = err_is_no_ok _ _ h
@@ -51,7 +52,8 @@ function_apart false (Ok x) (Err e) at n r K h = err_is_no_ok _ _ h
 heads_apart : (items : List Item) (b r : rules.Heads) → heads b items ≡ Ok r → Apart b.names items
 heads_apart [] b r h = tt
 heads_apart (Cells x len ∷ items) b r h =
-    let k = cells_apart (is_in x.name b.names) (nat_lt b.arrays 64) (nat_le 1 len.number && nat_le len.number 65536) (nat_le (b.cells + len.number) 65536) x.at len.at
+    let k = cells_apart (is_in x.name b.names) (nat_lt b.arrays 64) (nat_le 1 len.number && nat_le len.number 65536) (nat_le
+    (b.cells + len.number) 65536) x.at len.at
     (record { names = x.name ∷ b.names; arrays = b.arrays + 1; cells = b.cells + len.number }) r (λ next. heads next items) h in
     (k.0, heads_apart items (record { names = x.name ∷ b.names; arrays = b.arrays + 1; cells = b.cells + len.number }) r k.1)
 heads_apart (Defines f ∷ items) b r h =
@@ -90,11 +92,14 @@ abbrev or_else : Option Entry → Option Entry → Option Entry
 or_else None y = y
 or_else (Some x) y = Some x
 
-with_all : (items : List Item) (names : List Name) (item : Name → Option Entry) (x : Name) → Apart names items → with_items item items x ≡ or_else (entry_in items x) (item x)
+with_all : (items : List Item) (names : List Name) (item : Name → Option Entry) (x : Name) → Apart names items
+    → with_items item items x ≡ or_else (entry_in items x) (item x)
 with_all [] names item x a = refl
-with_all (i ∷ items) names item x a = with_all items ((item_name i).name ∷ names) (with_item same_name item (item_name i).name (entry_of i)) x a.1 ∙ go (same_name x (item_name i).name) refl
+with_all (i ∷ items) names item x a = with_all items ((item_name i).name ∷ names) (with_item same_name item (item_name i).name (entry_of i)) x a.1
+    ∙ go (same_name x (item_name i).name) refl
   where
-    go : (b : Bool) → same_name x (item_name i).name ≡ b → or_else (entry_in items x) (if b then Some (entry_of i) else item x) ≡ or_else (if b then Some (entry_of i) else entry_in items x) (item x)
+    go : (b : Bool) → same_name x (item_name i).name ≡ b → or_else (entry_in items x) (if b then Some (entry_of i) else item x) ≡ or_else (if b then Some
+        (entry_of i) else entry_in items x) (item x)
     go false e = refl
     go true e = let k : IsNone items x = none_later items ((item_name i).name ∷ names) x a.1 (stands_first x (item_name i).name names e) in rw k.entry refl
 
@@ -106,7 +111,8 @@ array_known : (items : List Item) (names : List Name) (x : Name) → Apart names
 array_known [] names x a = refl
 array_known (Cells y len ∷ items) names x a = go (same_name x y.name) (array_known items (y.name ∷ names) x a.1)
   where
-    go : (b : Bool) → is_array (entry_in items x) ≡ is_some (array_in items x) → is_array (if b then Some entry.Array else entry_in items x) ≡ is_some (if b then Some len.number else array_in items x)
+    go : (b : Bool) → is_array (entry_in items x) ≡ is_some (array_in items x) → is_array (if b then Some entry.Array else entry_in items x) ≡ is_some
+        (if b then Some len.number else array_in items x)
     go true h = refl
     go false h = h
 array_known (Defines f ∷ items) names x a = go (same_name x f.name.name) refl (array_known items (f.name.name ∷ names) x a.1)
@@ -116,7 +122,8 @@ array_known (Defines f ∷ items) names x a = go (same_name x f.name.name) refl 
     go true e h = let k : IsNone items x = none_later items (f.name.name ∷ names) x a.1 (stands_first x f.name.name names e) in rw k.array refl
     go false e h = h
 
-function_known : (items : List Item) (names : List Name) (at : ℕ) (x : Name) → Apart names items → shape_at at (entry_in items x) ≡ mapped shape_of (known_function at (function_in items x))
+function_known : (items : List Item) (names : List Name) (at : ℕ) (x : Name) → Apart names items
+    → shape_at at (entry_in items x) ≡ mapped shape_of (known_function at (function_in items x))
 function_known [] names at x a = refl
 function_known (Cells y len ∷ items) names at x a = go (same_name x y.name) refl (function_known items (y.name ∷ names) at x a.1)
   where
@@ -127,7 +134,8 @@ function_known (Cells y len ∷ items) names at x a = go (same_name x y.name) re
 function_known (Defines f ∷ items) names at x a = go (same_name x f.name.name) (function_known items (f.name.name ∷ names) at x a.1)
   where
     go : (b : Bool) → shape_at at (entry_in items x) ≡ mapped shape_of (known_function at (function_in items x))
-        → shape_at at (if b then Some (entry_of (Defines f)) else entry_in items x) ≡ mapped shape_of (known_function at (if b then Some f else function_in items x))
+        → shape_at at (if b then Some (entry_of (Defines f)) else entry_in items x) ≡ mapped shape_of (known_function at
+        (if b then Some f else function_in items x))
     go true h = refl
     go false h = h
 
@@ -150,7 +158,8 @@ item_known : (items : List Item) (x : Name) → is_some (entry_in items x) ≡ i
 item_known [] x = refl
 item_known (i ∷ items) x = go (same_name x (item_name i).name) (item_known items x)
   where
-    go : (b : Bool) → is_some (entry_in items x) ≡ is_in x (item_names items) → is_some (if b then Some (entry_of i) else entry_in items x) ≡ (b || is_in x (item_names items))
+    go : (b : Bool) → is_some (entry_in items x) ≡ is_in x (item_names items) → is_some (if b then Some (entry_of i) else entry_in items x) ≡
+        (b || is_in x (item_names items))
     go true h = refl
     go false h = h
 
@@ -167,5 +176,6 @@ all_known p r h =
       taken = λ x. ap (λ (o : Option Entry). is_some o) (items_are p r h x) ∙ item_known p x;
     }
 
-pub function_is_known : (p : Program) (r : rules.Heads) → heads no_items p ≡ Ok r → (x : Name) → is_function (with_items (λ y. None) p x) ≡ is_some (function_in p x)
+pub function_is_known : (p : Program) (r : rules.Heads) → heads no_items p ≡ Ok r → (x : Name)
+    → is_function (with_items (λ y. None) p x) ≡ is_some (function_in p x)
 function_is_known p r h x = ap is_function (items_are p r h x) ∙ is_function_known p [] x (heads_apart p no_items r h)

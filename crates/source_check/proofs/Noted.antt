@@ -23,7 +23,8 @@ abbrev pub gathered : List Name → List Name → List Name
 gathered have [] = have
 gathered have (x ∷ xs) = gathered (gathers have x) xs
 
-pub all_noted-append : {N : Type 0} (t : Names N) (inner : List N) (k : ℕ) (xs ys used : List N) → all_noted t inner k used (xs ++ ys) ≡ all_noted t inner k (all_noted t inner k used xs) ys
+pub all_noted-append : {N : Type 0} (t : Names N) (inner : List N) (k : ℕ) (xs ys used : List N)
+    → all_noted t inner k used (xs ++ ys) ≡ all_noted t inner k (all_noted t inner k used xs) ys
 all_noted-append t inner k [] ys used = refl
 all_noted-append t inner k (x ∷ xs) ys used = all_noted-append t inner k xs ys (noted t inner k used x)
 
@@ -65,7 +66,8 @@ noted_above item inner used [] have = refl
 noted_above item inner used (x ∷ xs) have = rw (since-append have used) (go (is_in x inner) (noted_above item inner used xs))
   where
     fresh : (c : Bool) → ((h : List Name) → all_noted (by_bytes item) inner (length used) (h ++ used) xs ≡ gathered h (without inner xs) ++ used)
-        → all_noted (by_bytes item) inner (length used) (if c then have ++ used else x ∷ (have ++ used)) xs ≡ gathered (if c then have else x ∷ have) (without inner xs) ++ used
+        → all_noted (by_bytes item) inner (length used) (if c then have ++ used else x ∷ (have ++ used)) xs ≡ gathered (if c then have else x ∷ have)
+        (without inner xs) ++ used
     fresh true h = h have
     fresh false h = h (x ∷ have)
 
@@ -94,7 +96,8 @@ needless p x [] h = refl
 needless p x (y ∷ ys) h = go (same_name x y) refl (p y) refl (needless p x ys h)
   where
     go : (b : Bool) → same_name x y ≡ b → (c : Bool) → p y ≡ c → filter p (filter (λ z. not (same_name x z)) ys) ≡ filter p ys
-        → filter p (if not b then y ∷ filter (λ z. not (same_name x z)) ys else filter (λ z. not (same_name x z)) ys) ≡ (if c then y ∷ filter p ys else filter p ys)
+        → filter p (if not b then y ∷ filter (λ z. not (same_name x z)) ys else filter (λ z. not (same_name x z)) ys) ≡
+        (if c then y ∷ filter p ys else filter p ys)
     go true e false q k = k
     go true e true q k = let d : x ≡ y = same_name_is x y e in absurd (true_is_not_false (sym q ∙ subst (λ z. p z ≡ false) d h))
     go false e false q k = rw q k
@@ -116,7 +119,8 @@ once_filtered p [] = refl
 once_filtered p (x ∷ xs) = go (p x) refl (once_filtered p xs)
   where
     go : (b : Bool) → p x ≡ b → once (filter p xs) ≡ filter p (once xs)
-        → once (if b then x ∷ filter p xs else filter p xs) ≡ (if b then x ∷ filter p (filter (λ y. not (same_name x y)) (once xs)) else filter p (filter (λ y. not (same_name x y)) (once xs)))
+        → once (if b then x ∷ filter p xs else filter p xs) ≡ (if b then x ∷ filter p (filter (λ y. not (same_name x y)) (once xs)) else filter p (filter
+        (λ y. not (same_name x y)) (once xs)))
     go true e k = rw k (ap (λ zs. x ∷ zs) (filters (λ y. not (same_name x y)) p (once xs)))
     go false e k = k ∙ sym (needless p x (once xs) e)
 
@@ -125,7 +129,8 @@ without_one_more x have [] = refl
 without_one_more x have (y ∷ ys) = rw (same_sym y x) (go (same_name x y) refl (is_in y have) (without_one_more x have ys))
   where
     go : (b : Bool) → same_name x y ≡ b → (c : Bool) → without (x ∷ have) ys ≡ filter (λ z. not (same_name x z)) (without have ys)
-        → (if not (b || c) then y ∷ without (x ∷ have) ys else without (x ∷ have) ys) ≡ filter (λ z. not (same_name x z)) (if not c then y ∷ without have ys else without have ys)
+        → (if not (b || c) then y ∷ without (x ∷ have) ys else without (x ∷ have) ys) ≡ filter (λ z. not (same_name x z))
+        (if not c then y ∷ without have ys else without have ys)
     go true e true k = k
     go true e false k = rw e k
     go false e true k = k
@@ -135,7 +140,8 @@ pub gathered_once : (have xs : List Name) → length (gathered have xs) ≡ leng
 gathered_once have [] = omega arith
 gathered_once have (x ∷ xs) = go (is_in x have) (gathered_once have xs) (gathered_once (x ∷ have) xs)
   where
-    go : (b : Bool) → length (gathered have xs) ≡ length (once (without have xs)) + length have → length (gathered (x ∷ have) xs) ≡ length (once (without (x ∷ have) xs)) + length (x ∷ have)
+    go : (b : Bool) → length (gathered have xs) ≡ length (once (without have xs)) + length have
+        → length (gathered (x ∷ have) xs) ≡ length (once (without (x ∷ have) xs)) + length (x ∷ have)
         → length (gathered (if b then have else x ∷ have) xs) ≡ length (once (if not b then x ∷ without have xs else without have xs)) + length have
     go true h k = h
     go false h k =
@@ -166,7 +172,8 @@ settled_ever : (item : Name → Option Entry) (inner : List Name) (k : ℕ) (ys 
     → settled inner k (all_noted (by_bytes item) inner k used ys) x ≡ true
 settled_ever item inner k [] used x h e = e
 settled_ever item inner k (y ∷ ys) used x h e =
-    settled_ever item inner k ys (noted (by_bytes item) inner k used y) x (omega (arith, h, noted_grows (by_bytes item) inner k used y)) (settled_stays item inner k used x y h e)
+    settled_ever item inner k ys (noted (by_bytes item) inner k used y) x (omega (arith, h, noted_grows (by_bytes item) inner k used y))
+    (settled_stays item inner k used x y h e)
 
 noted_is_settled : (item : Name → Option Entry) (inner : List Name) (k : ℕ) (used : List Name) (x : Name) → k ≤ length used
     → settled inner k (noted (by_bytes item) inner k used x) x ≡ true
@@ -184,7 +191,8 @@ all_are_settled item inner k (y ∷ ys) used x h e = go (same_name x y) refl e (
     longer : k ≤ length (noted (by_bytes item) inner k used y)
     longer = omega (arith, h, noted_grows (by_bytes item) inner k used y)
 
-    go : (b : Bool) → same_name x y ≡ b → (b || is_in x ys) ≡ true → (is_in x ys ≡ true → settled inner k (all_noted (by_bytes item) inner k (noted (by_bytes item) inner k used y) ys) x ≡ true)
+    go : (b : Bool) → same_name x y ≡ b → (b || is_in x ys) ≡ true → (is_in x ys ≡ true
+        → settled inner k (all_noted (by_bytes item) inner k (noted (by_bytes item) inner k used y) ys) x ≡ true)
         → settled inner k (all_noted (by_bytes item) inner k (noted (by_bytes item) inner k used y) ys) x ≡ true
     go true d q later =
         let same : x ≡ y = same_name_is x y d in
@@ -204,14 +212,17 @@ in_onto x (y ∷ xs) ys h = in_onto x xs (y ∷ ys) (or_swap (same_name x y) (is
 
 -- what a turn has gathered, noted in the turn around it, is what it uses
 pub noted_again : (item : Name → Option Entry) (inner : List Name) (k : ℕ) (used : List Name) (xs have : List Name) → k ≤ length used
-    → all_noted (by_bytes item) inner k used (onto (gathered have xs) []) ≡ all_noted (by_bytes item) inner k (all_noted (by_bytes item) inner k used (onto have [])) xs
+    → all_noted (by_bytes item) inner k used (onto (gathered have xs) []) ≡ all_noted (by_bytes item) inner k (all_noted (by_bytes item) inner k used
+    (onto have [])) xs
 noted_again item inner k used [] have h = refl
 noted_again item inner k used (x ∷ xs) have h =
     noted_again item inner k used xs (gathers have x) h ∙ ap (λ v. all_noted (by_bytes item) inner k v xs) (go (is_in x have) refl)
   where
-    go : (b : Bool) → is_in x have ≡ b → all_noted (by_bytes item) inner k used (onto (if b then have else x ∷ have) []) ≡ noted (by_bytes item) inner k (all_noted (by_bytes item) inner k used (onto have [])) x
+    go : (b : Bool) → is_in x have ≡ b → all_noted (by_bytes item) inner k used (onto (if b then have else x ∷ have) []) ≡ noted (by_bytes item) inner k
+        (all_noted (by_bytes item) inner k used (onto have [])) x
     go true e =
         let there : settled inner k (all_noted (by_bytes item) inner k used (onto have [])) x ≡ true =
         all_are_settled item inner k (onto have []) used x h (in_onto x have [] (or_left (is_in x have) false e)) in
         sym (ap (λ c. if c then all_noted (by_bytes item) inner k used (onto have []) else x ∷ all_noted (by_bytes item) inner k used (onto have [])) there)
-    go false e = ap (all_noted (by_bytes item) inner k used) (onto-append have [] (x ∷ [])) ∙ all_noted-append (by_bytes item) inner k (onto have []) (x ∷ []) used
+    go false e = ap (all_noted (by_bytes item) inner k used) (onto-append have [] (x ∷ []))
+        ∙ all_noted-append (by_bytes item) inner k (onto have []) (x ∷ []) used

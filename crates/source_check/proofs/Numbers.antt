@@ -70,11 +70,13 @@ same_numbers names d i j = go (i == j) refl (same_name (named_by names i) (named
     go : (b : Bool) → (i == j) ≡ b → (c : Bool) → same_name (named_by names i) (named_by names j) ≡ c → c ≡ b
     go true e true h = refl
     go false e false h = refl
-    go true e false h = let p : i ≡ j = eqb-true i j e in sym h ∙ subst (λ k. same_name (named_by names i) (named_by names k) ≡ true) p (same_name_itself (named_by names i))
+    go true e false h = let p : i ≡ j = eqb-true i j e in sym h ∙ subst (λ k. same_name (named_by names i) (named_by names k) ≡ true) p (same_name_itself
+        (named_by names i))
     go false e true h = absurd (eqb-false i j e (injective names d i j (same_name_is (named_by names i) (named_by names j) h)))
 
 -- each word with its names
-renamed_as : (names : List Name) (nm : ℕ → Name) → ((n : ℕ) → n < length names → name_of names n ≡ nm n) → (w : Word ℕ) → All (λ n. n < length names) (numbers_of w) → named names w ≡ renamed nm w
+renamed_as : (names : List Name) (nm : ℕ → Name) → ((n : ℕ) → n < length names → name_of names n ≡ nm n) → (w : Word ℕ)
+    → All (λ n. n < length names) (numbers_of w) → named names w ≡ renamed nm w
 renamed_as names nm k (word.Array at x) a = ap (λ n. word.Array at n) (k x (All-head (λ n. n < length names) x [] a))
 renamed_as names nm k (word.Length at n) a = refl
 renamed_as names nm k (word.Function at x) a = ap (λ n. word.Function at n) (k x (All-head (λ n. n < length names) x [] a))
@@ -116,14 +118,17 @@ renamed_as names nm k word.Do a = refl
 renamed_as names nm k word.Give a = refl
 renamed_as names nm k word.Chain a = refl
 
-all_renamed : (names : List Name) (nm : ℕ → Name) → ((n : ℕ) → n < length names → name_of names n ≡ nm n) → (ws : List (Word ℕ)) → All (λ w. All (λ n. n < length names) (numbers_of w)) ws
+all_renamed : (names : List Name) (nm : ℕ → Name) → ((n : ℕ) → n < length names → name_of names n ≡ nm n) → (ws : List (Word ℕ))
+    → All (λ w. All (λ n. n < length names) (numbers_of w)) ws
     → map (named names) ws ≡ map (renamed nm) ws
 all_renamed names nm k [] a = refl
-all_renamed names nm k (w ∷ ws) a = ap (λ v. v ∷ map (named names) ws) (renamed_as names nm k w (All-head (λ v. All (λ n. n < length names) (numbers_of v)) w ws a))
+all_renamed names nm k (w ∷ ws) a = ap (λ v. v ∷ map (named names) ws) (renamed_as names nm k w (All-head (λ v. All (λ n. n < length names)
+    (numbers_of v)) w ws a))
     ∙ ap (λ vs. renamed nm w ∷ vs) (all_renamed names nm k ws (All-tail (λ v. All (λ n. n < length names) (numbers_of v)) w ws a))
 
 -- where `main` is a name of the table
-with_main : (names : List Name) (ws : List (Word ℕ)) (main end : ℕ) (p : Program) → FitsProgram p → Distinct names → map (renamed (named_by names)) ws ≡ program_words p → named_by names main ≡ main_name
+with_main : (names : List Name) (ws : List (Word ℕ)) (main end : ℕ) (p : Program) → FitsProgram p → Distinct names
+    → map (renamed (named_by names)) ws ≡ program_words p → named_by names main ≡ main_name
     → words_checked (λ i j. i == j) main end ws ≡ checked end p
 with_main names ws main end p fits d w m =
     sym (check_renamed (named_by names) (λ i j. i == j) same_name (same_numbers names d) main end ws)
@@ -168,7 +173,8 @@ more_distinct names d none i j x y e = go (nat_lt i (length names)) (nat_lt j (l
 pub numbers_are_checked : (names : List Name) (ws : List (Word ℕ)) (main end : ℕ) (p : Program) → FitsProgram p → AreWords names ws p → IsMain names main
     → words_checked (λ i j. i == j) main end ws ≡ checked end p
 numbers_are_checked names ws main end p fits a (inl (h, e)) =
-    with_main names ws main end p fits a.distinct (sym (all_renamed names (named_by names) (λ n l. sym (within names n l)) ws a.known) ∙ a.words) (within names main h ∙ e)
+    with_main names ws main end p fits a.distinct (sym (all_renamed names (named_by names) (λ n l. sym (within names n l)) ws a.known)
+    ∙ a.words) (within names main h ∙ e)
 numbers_are_checked names ws main end p fits a (inr (e, none)) =
     let inside : (n : ℕ) → n < length names → n < length (more names) = λ n l. omega (arith, l, longer names) in
     let there : length names < length (more names) = omega (arith, longer names) in

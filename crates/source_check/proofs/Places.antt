@@ -63,7 +63,8 @@ pub place_there : (n : ℕ) (xs : List ℕ) → nat_lt 0 (place n xs) ≡ list_a
 place_there n xs = place_since n 0 xs ∙ ap (list_any (λ x. n == x)) (all_since xs)
 
 -- a table with one more item
-pub set_item : (entries grown : List (Option Entry)) (name : ℕ) (e : Entry) → ((n : ℕ) → slice_index_or grown n None ≡ slice_index_or entries n None) → name < length grown
+pub set_item : (entries grown : List (Option Entry)) (name : ℕ) (e : Entry) → ((n : ℕ) → slice_index_or grown n None ≡ slice_index_or entries n None)
+    → name < length grown
     → item_in (slice_set grown name (Some e)) ≡ with_item by_number (item_in entries) name e
 set_item entries grown name e same room = λ i n. go n (n == name) refl i
   where
@@ -92,7 +93,8 @@ moves_on start x (y ∷ ys) rest to new orig onto_orig l g r n h =
     (ap (back start) f ∙ sym b ∙ h.0, ap (λ z. onto (since start z) new) f ∙ ap (onto (since start ys)) k ∙ sym (ap (λ z. onto z to) s) ∙ h.1)
 
 -- one more name is noted
-pub notes_on : (t : Names ℕ) (inner : List ℕ) (k x : ℕ) (old rest used new orig first : List ℕ) → 0 < length old → slice_get old 0 ≡ Some x → rest ≡ drop 1 old → new ≡ noted t inner k used x
+pub notes_on : (t : Names ℕ) (inner : List ℕ) (k x : ℕ) (old rest used new orig first : List ℕ) → 0 < length old → slice_get old 0 ≡ Some x
+    → rest ≡ drop 1 old → new ≡ noted t inner k used x
     → all_noted t inner k used old ≡ all_noted t inner k first orig → all_noted t inner k new rest ≡ all_noted t inner k first orig
 notes_on t inner k x [] rest used new orig first l g r n h = absurd (omega (arith, l))
 notes_on t inner k x (y ∷ ys) rest used new orig first l g r n h =
@@ -105,11 +107,13 @@ nothing_to_note t inner k used [] h = refl
 nothing_to_note t inner k used (x ∷ xs) h = absurd (omega (arith, h))
 
 -- What items are does not matter where names are noted.
-pub noted_alike : (entries : List (Option Entry)) (inner : List ℕ) (k : ℕ) (xs used : List ℕ) → all_noted (numbers entries) inner k used xs ≡ all_noted (numbers []) inner k used xs
+pub noted_alike : (entries : List (Option Entry)) (inner : List ℕ) (k : ℕ) (xs used : List ℕ)
+    → all_noted (numbers entries) inner k used xs ≡ all_noted (numbers []) inner k used xs
 noted_alike entries inner k [] used = refl
 noted_alike entries inner k (x ∷ xs) used = noted_alike entries inner k xs (noted (numbers []) inner k used x)
 
-pub end_loop_alike : (entries : List (Option Entry)) (s : State ℕ) (at : ℕ) (o : Option Frame) → end_loop (numbers entries) s at o ≡ end_loop (numbers []) s at o
+pub end_loop_alike : (entries : List (Option Entry)) (s : State ℕ) (at : ℕ) (o : Option Frame)
+    → end_loop (numbers entries) s at o ≡ end_loop (numbers []) s at o
 end_loop_alike entries s at (Some (frame.Open outer names mark)) =
     rw (noted_alike entries (since outer.base (back s.turn.base s.scope)) outer.start (onto (since s.turn.start s.used) []) (back s.turn.start s.used)) refl
 end_loop_alike entries s at (Some (frame.Tested outer names given)) =
@@ -131,23 +135,27 @@ outside [] n h = refl
 outside (x ∷ places) zero h = absurd (omega (arith, h))
 outside (x ∷ places) (suc n) h = outside places n (omega (arith, h))
 
-pub roomier : (entries : List Binding) (places more : List ℕ) → IsStack entries places → ((n : ℕ) → slice_index_or more n 0 ≡ slice_index_or places n 0) → IsStack entries more
+pub roomier : (entries : List Binding) (places more : List ℕ) → IsStack entries places → ((n : ℕ) → slice_index_or more n 0 ≡ slice_index_or places n 0)
+    → IsStack entries more
 roomier entries places more s e = record { placed = λ n. e n ∙ s.placed n; shadowed = s.shadowed }
 
 pub pushed_names : (entries : List Binding) (b : Binding) → names_in (turned_round (entries ++ b ∷ [])) ≡ b.name ∷ names_in (turned_round entries)
 pushed_names entries b = ap names_in (onto-snoc entries b [])
 
 height : (entries : List Binding) → length (names_in (turned_round entries)) ≡ length entries
-height entries = let e : length (names_in (turned_round entries)) ≡ length (turned_round entries) = length-names (turned_round entries) in omega (arith, e, length-round entries [])
+height entries = let e : length (names_in (turned_round entries)) ≡ length (turned_round entries) = length-names (turned_round entries) in omega
+    (arith, e, length-round entries [])
 
-pub pushed_stack : (entries : List Binding) (places : List ℕ) (b : Binding) (n : ℕ) → IsStack entries places → b.before ≡ place b.name (names_in (turned_round entries)) → b.name < length places → n ≡ length (entries ++ b ∷ [])
+pub pushed_stack : (entries : List Binding) (places : List ℕ) (b : Binding) (n : ℕ) → IsStack entries places
+    → b.before ≡ place b.name (names_in (turned_round entries)) → b.name < length places → n ≡ length (entries ++ b ∷ [])
     → IsStack (entries ++ b ∷ []) (slice_set places b.name n)
 pushed_stack entries places b n s e h l = record {
   placed = λ k. rw (onto-snoc entries b []) (go k (k == b.name) refl);
   shadowed = rw (onto-snoc entries b []) (e, s.shadowed);
 }
   where
-    go : (k : ℕ) (c : Bool) → (k == b.name) ≡ c → slice_index_or (slice_set places b.name n) k 0 ≡ (if c then suc (length (names_in (turned_round entries))) else place k (names_in (turned_round entries)))
+    go : (k : ℕ) (c : Bool) → (k == b.name) ≡ c → slice_index_or (slice_set places b.name n) k 0 ≡ (if c then suc (length (names_in
+        (turned_round entries))) else place k (names_in (turned_round entries)))
     go k true d = let f : k ≡ b.name = eqb-true k b.name d in
         let g : n ≡ suc (length (names_in (turned_round entries))) = omega (arith, l, height entries, length-append entries (b ∷ [])) in
         rw f (get_or-set_same places b.name n 0 h ∙ g)
@@ -161,8 +169,10 @@ popped_within front b places s = go (nat_lt b.name (length places)) refl
     go false e =
         let none : slice_index_or places b.name 0 ≡ 0 = outside places b.name (ltb-false b.name (length places) e) in
         let first : place b.name (b.name ∷ names_in (turned_round front)) ≡ suc (length (names_in (turned_round front))) =
-        ap (λ (c : Bool). if c then suc (length (names_in (turned_round front))) else place b.name (names_in (turned_round front))) (eq-eqb b.name b.name refl) in
-        let there : slice_index_or places b.name 0 ≡ place b.name (b.name ∷ names_in (turned_round front)) = s.placed b.name ∙ ap (place b.name) (pushed_names front b) in
+        ap (λ (c : Bool). if c then suc (length (names_in (turned_round front))) else place b.name (names_in (turned_round front)))
+        (eq-eqb b.name b.name refl) in
+        let there : slice_index_or places b.name 0 ≡ place b.name (b.name ∷ names_in (turned_round front)) = s.placed b.name
+        ∙ ap (place b.name) (pushed_names front b) in
         absurd (omega (arith, none, first, there))
 
 pub popped_stack : (front : List Binding) (b : Binding) (places : List ℕ) → IsStack (front ++ b ∷ []) places → IsStack front (slice_set places b.name b.before)
@@ -179,4 +189,5 @@ popped_stack front b places s = record {
 
     go : (k : ℕ) (c : Bool) → (k == b.name) ≡ c → slice_index_or (slice_set places b.name b.before) k 0 ≡ place k (names_in (turned_round front))
     go k true d = let f : k ≡ b.name = eqb-true k b.name d in rw f (get_or-set_same places b.name b.before 0 (popped_within front b places s) ∙ shadows.0)
-    go k false d = get_or-set_other places b.name k b.before 0 (eqb-false k b.name d) ∙ other k ∙ ap (λ (c : Bool). if c then suc (length (names_in (turned_round front))) else place k (names_in (turned_round front))) d
+    go k false d = get_or-set_other places b.name k b.before 0 (eqb-false k b.name d) ∙ other k
+        ∙ ap (λ (c : Bool). if c then suc (length (names_in (turned_round front))) else place k (names_in (turned_round front))) d

@@ -33,7 +33,8 @@ tested t vs true kind at q s g h = h
 tested t vs false kind at q s g h = refl
 
 -- where a test for one value comes before
-pub one_tested : {S W A B : Type 0} (t : S → W → Result S Fault) (vs : List W) (b : Bool) (kind : FaultKind) (at : ℕ) (a : A) (q : A → Result B Fault) (s : S) (g : B → S)
+pub one_tested : {S W A B : Type 0} (t : S → W → Result S Fault) (vs : List W) (b : Bool) (kind : FaultKind) (at : ℕ) (a : A) (q : A
+    → Result B Fault) (s : S) (g : B → S)
     → through t s vs ≡ mapped g (q a) → ((must b kind at >>= λ x. Ok s) >>= λ u. through t u vs) ≡ mapped g ((must b kind at >>= λ x. Ok a) >>= q)
 one_tested t vs true kind at a q s g h = h
 one_tested t vs false kind at a q s g h = refl
@@ -48,6 +49,7 @@ pub bind-assoc : {A B C : Type 0} (r : Result A Fault) (q : A → Result B Fault
 bind-assoc (Ok x) q k = refl
 bind-assoc (Err e) q k = refl
 
-pub mapped_after : {A B C : Type 0} (r : Result A Fault) (f : A → C) (h : A → B) (g : B → C) → ((x : A) → f x ≡ g (h x)) → mapped f r ≡ mapped g (r >>= λ x. Ok (h x))
+pub mapped_after : {A B C : Type 0} (r : Result A Fault) (f : A → C) (h : A → B) (g : B → C) → ((x : A) → f x ≡ g (h x))
+    → mapped f r ≡ mapped g (r >>= λ x. Ok (h x))
 mapped_after (Ok x) f h g e = ap Ok (e x)
 mapped_after (Err x) f h g e = refl

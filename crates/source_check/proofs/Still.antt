@@ -31,12 +31,15 @@ mutual
   still h (Named at x) = refl
   still h (Bracket e) = both h (words e) (word.Bracket ∷ []) (still h e) refl
   still h (Prefix at op e) = both h (words e) (word.Prefix at op ∷ []) (still h e) refl
-  still h (Infix at sign l r) = both h (words l ++ (word.Left ∷ words r)) (word.Infix at sign ∷ []) (both h (words l) (word.Left ∷ words r) (still h l) (still h r)) refl
+  still h (Infix at sign l r) = both h (words l ++ (word.Left ∷ words r)) (word.Infix at sign ∷ []) (both h (words l) (word.Left ∷ words r) (still h l)
+      (still h r)) refl
   still h (Fetch at a e) = both h (words e) (word.Fetch at a ∷ []) (still h e) refl
-  still h (Store at a e v) = both h (words e ++ (word.Index ∷ words v)) (word.Store at a ∷ []) (both h (words e) (word.Index ∷ words v) (still h e) (still h v)) refl
+  still h (Store at a e v) = both h (words e ++ (word.Index ∷ words v)) (word.Store at a ∷ []) (both h (words e) (word.Index ∷ words v) (still h e)
+      (still h v)) refl
   still h (Call at strict f es) = both h (part_words es) (word.Call at strict f ∷ []) (list_still h es) refl
   still h (If at q l r) = both h ((words q ++ (word.Then ∷ body_words l)) ++ (word.Else ∷ body_words r)) (word.EndIf at ∷ [])
-      (both h (words q ++ (word.Then ∷ body_words l)) (word.Else ∷ body_words r) (both h (words q) (word.Then ∷ body_words l) (still h q) (body_still h l)) (body_still h r)) refl
+      (both h (words q ++ (word.Then ∷ body_words l)) (word.Else ∷ body_words r) (both h (words q) (word.Then ∷ body_words l) (still h q)
+      (body_still h l)) (body_still h r)) refl
   still h (Loop at bound firsts turn) = both h (first_words (names_of turn) firsts ++ turn_words turn) (word.EndLoop at bound.number ∷ [])
       (both h (first_words (names_of turn) firsts) (turn_words turn) (firsts_still h (names_of turn) firsts) (turn_still h turn)) refl
 
@@ -46,7 +49,8 @@ mutual
 
   firsts_still : (h : Heads Name) (xs : List NameAt) (es : Exprs) → IsStill h (first_words xs es)
   firsts_still h xs (One e) = both h (start_words xs ++ words e) (word.First ∷ []) (both h (start_words xs) (words e) (start_still h xs) (still h e)) refl
-  firsts_still h xs (More e es) = both h (start_words xs ++ words e) (word.First ∷ first_words (others xs) es) (both h (start_words xs) (words e) (start_still h xs) (still h e)) (firsts_still h (others xs) es)
+  firsts_still h xs (More e es) = both h (start_words xs ++ words e) (word.First ∷ first_words (others xs) es) (both h (start_words xs) (words e)
+      (start_still h xs) (still h e)) (firsts_still h (others xs) es)
 
   pub body_still : (h : Heads Name) (b : Body) → IsStill h (body_words b)
   body_still h (Let at targets es rest) = both h ((map target_word targets) ++ (word.List ∷ part_words es)) (word.EndLet at ∷ body_words rest)

@@ -47,7 +47,8 @@ mutual
   over item p k (Store at a e v) f = over_store item p k at a e v (over item p k e f.0) (over item p k v f.1)
   over item p k (Call at strict g es) f = over_call item p k at strict g es (over_list item p k es f)
   over item p k (If at q l r) f = over_if item p at q l r (over item p k q f.0) (over_body item p k l _ f.1) (over_body item p k r _ f.2)
-  over item p k (Loop at bound firsts turn) f = over_loop item p at bound firsts turn (over_firsts item p k firsts f.1) f.2 (over_turn item p k at bound.number turn f.3)
+  over item p k (Loop at bound firsts turn) f = over_loop item p at bound firsts turn (over_firsts item p k firsts f.1) f.2
+      (over_turn item p k at bound.number turn f.3)
 
   over_list : (item : Name → Option Entry) (p : Program) → Knows item p → (es : Exprs) → FitsAll es → OverList item p es
   over_list item p k (One e) f = over_one item p e (over item p k e f)
@@ -79,12 +80,27 @@ over_results item s at (Some n) ws = refl
 
 -- a function's body, with so many results
 abbrev in_body : List Name → ℕ → ℕ → ℕ → State Name
-in_body scope results at where_results = record begun { scope = scope; frames = frame.Body results at ∷ []; last = record { count = results; at = where_results } }
+in_body scope results at where_results = record begun {
+  scope = scope;
+  frames = frame.Body results at ∷ [];
+  last = record {
+    count = results;
+    at =
+        where_results;
+  };
+}
 
 over_entry : (item : Name → Option Entry) (xs : List NameAt) (results m at from : ℕ) (ws : List (Word Name))
-    → (body (record begun { pending = onto (bare xs) [] ++ []; last = record { count = results; at = from } }) at (Some (frame.Names 0 m)) >>= λ u. steps (by_bytes item) u ws)
+    → (body (record begun { pending = onto (bare xs) [] ++ []; last = record { count = results; at = from } }) at (Some (frame.Names 0 m)) >>= λ u. steps
+    (by_bytes item) u ws)
     ≡ steps (by_bytes item) (in_body (bare xs) results at from) ws
-over_entry item xs results m at from ws = rw (since-append (onto (bare xs) []) [], back-append (onto (bare xs) []) [], onto-onto (bare xs) [] [], append-nil (bare xs)) refl
+over_entry item xs results m at from ws = rw (
+  since-append (onto (bare xs) []) [],
+  back-append (onto (bare xs) []) [],
+  onto-onto
+      (bare xs) [] [],
+  append-nil (bare xs),
+) refl
 
 last_test : (b : Bool) (at : ℕ) (s : State Name) → ((must b Arity at >>= λ all. Ok s) >>= λ u. Ok u) ≡ mapped (λ (u : ⊤). s) (must b Arity at)
 last_test true at s = refl
@@ -100,14 +116,17 @@ over_function item p k f fits =
     let results : ℕ = written_or_one f.results in
     let i0 : State Name = in_body (bare f.params) results f.body_at (result_at at f.results) in
     rw (append_assoc (params ++ result_words f.results) (word.Body f.body_at ∷ body_words f.body) ending, append_assoc params (result_words f.results) rest)
-    (in_turn (step (by_bytes item)) (naming (ended begun 1 at) [] 0) params (result_words f.results ++ rest) (new_names p [] f.params) _ _ _ (over_params item p k f.params (ended begun 1 at) [] 0)
+    (in_turn (step (by_bytes item)) (naming (ended begun 1 at) [] 0) params (result_words f.results ++ rest) (new_names p [] f.params) _ _ _
+    (over_params item p k f.params (ended begun 1 at) [] 0)
     (λ u. over_results item (naming begun (onto (bare f.params) []) (0 + length f.params)) at f.results rest
     ∙ over_entry item f.params results (0 + length f.params) f.body_at (result_at at f.results) (body_words f.body ++ ending)
-    ∙ in_turn (step (by_bytes item)) i0 (body_words f.body) ending (body_values p (bare f.params) f.body) _ _ _ (over_body item p k f.body false fits i0 (record { scope = omega arith; used = omega arith }))
+    ∙ in_turn (step (by_bytes item)) i0 (body_words f.body) ending (body_values p (bare f.params) f.body) _ _ _ (over_body item p k f.body false fits i0
+    (record { scope = omega arith; used = omega arith }))
     (λ n. last_test (n == results) f.body_at begun)))
 
 pub over_functions : (item : Name → Option Entry) (p : Program) → Knows item p → (items : List Item) → FitsProgram items
     → steps (by_bytes item) begun (program_words items) ≡ mapped (λ (u : ⊤). begun) (functions_checked p items)
 over_functions item p k [] fits = refl
 over_functions item p k (Cells x len ∷ items) fits = over_functions item p k items fits.1
-over_functions item p k (Defines f ∷ items) fits = in_turn (step (by_bytes item)) begun (item_words (Defines f)) (program_words items) (function_checked p f) _ _ _ (over_function item p k f fits.0.2) (λ u. over_functions item p k items fits.1)
+over_functions item p k (Defines f ∷ items) fits = in_turn (step (by_bytes item)) begun (item_words (Defines f)) (program_words items)
+    (function_checked p f) _ _ _ (over_function item p k f fits.0.2) (λ u. over_functions item p k items fits.1)

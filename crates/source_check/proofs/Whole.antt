@@ -22,7 +22,8 @@ abbrev rest_checked : List (Option Entry) → ℕ → ℕ → List (Word ℕ) �
 rest_checked entries main end ws = must (is_function (item_in entries main)) NoMain end >>= λ there. steps (numbers entries) begun ws >>= λ last. Ok tt
 
 heads_give : (entries : List (Option Entry)) (main end : ℕ) (ws : List (Word ℕ)) (r : Result (Heads ℕ) Fault) → HeadsGive entries r
-    → (r >>= λ h. must (is_function (h.item main)) NoMain end >>= λ there. steps (record { same = by_number; item = h.item }) begun ws >>= λ last. Ok tt) ≡ rest_checked entries main end ws
+    → (r >>= λ h. must (is_function (h.item main)) NoMain end >>= λ there. steps (record { same = by_number; item = h.item }) begun ws >>= λ last. Ok tt) ≡
+    rest_checked entries main end ws
 heads_give entries main end ws (Ok h) e = rw e refl
 heads_give entries main end ws (Err f) e = absurd e
 
@@ -33,10 +34,12 @@ read_then entries main end ws e = heads_give entries main end ws (through (head_
 pub unread : (main end : ℕ) (ws : List (Word ℕ)) (f : Fault) → through (head_step by_number) no_heads ws ≡ Err f → words_checked by_number main end ws ≡ Err f
 unread main end ws f e = rw e refl
 
-pub no_main : (entries : List (Option Entry)) (main end : ℕ) (ws : List (Word ℕ)) (f : Fault) → must (is_function (item_in entries main)) NoMain end ≡ Err f → rest_checked entries main end ws ≡ Err f
+pub no_main : (entries : List (Option Entry)) (main end : ℕ) (ws : List (Word ℕ)) (f : Fault)
+    → must (is_function (item_in entries main)) NoMain end ≡ Err f → rest_checked entries main end ws ≡ Err f
 no_main entries main end ws f e = rw e refl
 
-pub no_function : (entries : List (Option Entry)) (main end : ℕ) (ws : List (Word ℕ)) (u : ⊤) (f : Fault) → must (is_function (item_in entries main)) NoMain end ≡ Ok u
+pub no_function : (entries : List (Option Entry)) (main end : ℕ) (ws : List (Word ℕ)) (u : ⊤) (f : Fault)
+    → must (is_function (item_in entries main)) NoMain end ≡ Ok u
     → steps (numbers entries) begun ws ≡ Err f → rest_checked entries main end ws ≡ Err f
 no_function entries main end ws u f m e = rw (m, e) refl
 
@@ -56,7 +59,8 @@ main_there : (b : Bool) (end other : ℕ) (q : Result ⊤ Fault) → (must b NoM
 main_there true end other q h = h
 main_there false end other q h = absurd (cc)
 
-heads_there : (p : Program) (end other : ℕ) (r : Result rules.Heads Fault) → (r >>= λ all. must (is_some (function_in p main_name)) NoMain end >>= λ main. functions_checked p p) ≡ Ok tt
+heads_there : (p : Program) (end other : ℕ) (r : Result rules.Heads Fault) → (r >>= λ all. must (is_some
+    (function_in p main_name)) NoMain end >>= λ main. functions_checked p p) ≡ Ok tt
     → (r >>= λ all. must (is_some (function_in p main_name)) NoMain other >>= λ main. functions_checked p p) ≡ Ok tt
 heads_there p end other (Ok h) e = main_there (is_some (function_in p main_name)) end other (functions_checked p p) e
 heads_there p end other (Err f) e = absurd (cc)
@@ -67,15 +71,18 @@ any_end end other p h = heads_there p end other (heads no_items p) h
 pub is_checked : (names : List Name) (ws : List (Word ℕ)) (main end : ℕ) → IsMain names main → words_checked by_number main end ws ≡ Ok tt → IsChecked names ws
 is_checked names ws main end m h = record { checked = λ p other i. any_end end other p (sym (numbers_are_checked names ws main end p i.fits i.words m) ∙ h) }
 
-pub is_refused : (names : List Name) (ws : List (Word ℕ)) (main end : ℕ) (p : Program) (f : Fault) → IsMain names main → IsProgram names ws p → words_checked by_number main end ws ≡ Err f → checked end p ≡ Err f
+pub is_refused : (names : List Name) (ws : List (Word ℕ)) (main end : ℕ) (p : Program) (f : Fault) → IsMain names main → IsProgram names ws p
+    → words_checked by_number main end ws ≡ Err f → checked end p ≡ Err f
 is_refused names ws main end p f m i h = sym (numbers_are_checked names ws main end p i.fits i.words m) ∙ h
 
 pub all_is_well : (names seen : List Name) (ws gone : List (Word ℕ)) (main end : ℕ) (r : Result ⊤ Fault) (u : ⊤) → seen ≡ names → gone ≡ ws → IsMain seen main
     → Follows r tt (words_checked by_number main end gone) → r ≡ Ok u → IsChecked names ws
-all_is_well names seen ws gone main end (Ok x) u e d m h q = is_checked names ws main end (subst (λ z. IsMain z main) e m) (ap (words_checked by_number main end) (sym d) ∙ h)
+all_is_well names seen ws gone main end (Ok x) u e d m h q = is_checked names ws main end (subst (λ z. IsMain z main) e m) (ap
+    (words_checked by_number main end) (sym d) ∙ h)
 all_is_well names seen ws gone main end (Err x) u e d m h q = absurd (cc)
 
-pub first_fault : (names seen : List Name) (ws gone : List (Word ℕ)) (main end : ℕ) (r : Result ⊤ Fault) (f : Fault) (p : Program) → seen ≡ names → gone ≡ ws → IsMain seen main
+pub first_fault : (names seen : List Name) (ws gone : List (Word ℕ)) (main end : ℕ) (r : Result ⊤ Fault) (f : Fault) (p : Program) → seen ≡ names
+    → gone ≡ ws → IsMain seen main
     → Follows r tt (words_checked by_number main end gone) → r ≡ Err f → IsProgram names ws p → (f ≡ out_of_memory) ⊎ (checked end p ≡ Err f)
 first_fault names seen ws gone main end (Ok x) f p e d m h q i = absurd (cc)
 first_fault names seen ws gone main end (Err x) f p e d m (inl h) q i = let k : f ≡ x = cc in inl (k ∙ h)

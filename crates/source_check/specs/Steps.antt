@@ -204,7 +204,8 @@ until s other = Ok s
 
 -- The turn is left, and what it takes from outside is used in the turn around it.
 abbrev pub left_turn : {N : Type 0} → Names N → State N → Turn → State N
-left_turn t s outer = using t (record s { scope = back s.turn.base s.scope; used = back s.turn.start s.used; turn = outer }) (onto (since s.turn.start s.used) [])
+left_turn t s outer = using t (record s { scope = back s.turn.base s.scope; used = back s.turn.start s.used; turn = outer }) (onto
+    (since s.turn.start s.used) [])
 
 abbrev pub closed : {N : Type 0} → Names N → State N → ℕ → Turn → ℕ → ℕ → Result (State N) Fault
 closed t s at outer names given = do
