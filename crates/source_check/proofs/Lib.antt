@@ -1,0 +1,17 @@
+pub mod Runs
+pub mod Stacks
+pub mod Noted
+pub mod Over
+pub mod Listed
+pub mod Bodies
+pub mod Loops
+pub mod Trees
+pub mod Still
+pub mod HeadsRead
+pub mod Known
+pub mod Exact
+pub mod Renamed
+pub mod RenamedHeads
+pub mod Numbers
+pub mod Places
+pub mod Whole

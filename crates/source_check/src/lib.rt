@@ -1,0 +1,92 @@
+//! The static rules of the source language: a program is checked once, and its first fault is answered where it breaks one.
+#![tactic(auto)]
+
+ghost use Rattle.std.specs.Prelude.{◌≡◌, ◌⊎◌, ◌≤◌, ℕ, List, [], Err, IfOk, IfErr, OnOk, IsTrue, ◌↔◌, length, slice_index_or};
+ghost use Rattle.source.specs.Tree as tree;
+ghost use Rattle.source.specs.Rules.{checked, main_name};
+ghost use Rattle.source_check.specs.Checked.{IsProgram, IsChecked};
+ghost use Rattle.source_check.specs.Checks as checks;
+ghost use Rattle.source_check.specs.Numbers.{IsMain};
+ghost use Rattle.source_check.specs.Stack.{Follows, out_of_memory, by_number, item_in};
+
+use graph::Name;
+use source::fault::{Fault, FaultKind};
+use source::program::Program;
+use source::word::Word;
+use std::alloc::Allocator;
+
+mod bindings;
+mod frame;
+mod machine;
+mod table;
+
+use frame::Entry;
+use machine::check_functions;
+use table::{Table, must, read_heads};
+
+/// A program that keeps the static rules.
+#[derive(Drop)]
+pub struct Checked<'a, A: Allocator> {
+    pub program: Program<'a, A>,
+    ghost checked: { IsChecked program.names.items program.words.items },
+}
+
+fn is_main<'a>(name: &Name<'a>) -> bool
+    ensures { IsTrue result ↔ (name.now ≡ main_name) }
+{
+    name.bytes == b"main".as_slice()
+}
+
+/// The number of the name `main`, or that of no name.
+fn main_number<'a>(names: &[Name<'a>]) -> usize
+    ensures { IsMain names.now result }
+{
+    for i in 0..names.len() {
+        if is_main(&names[i]) {
+            return i;
+        }
+    }
+    names.len()
+}
+
+fn is_function<A: Allocator>(table: &Table<A>, name: usize) -> bool
+    ensures { result ≡ checks.is_function (item_in table.now name) }
+{
+    match table.get(name) {
+        Some(Entry::Function { .. }) => true,
+        Some(Entry::Array) | None => false,
+    }
+}
+
+/// First the heads of all items, then `main`, then the functions.
+fn check_words<A: Allocator + Clone>(
+    alloc: &A,
+    main: usize,
+    end: usize,
+    words: &[Word<usize>],
+) -> Result<(), Fault>
+    ensures { Follows result tt (checks.words_checked by_number main end words.now) }
+{
+    let table = read_heads(alloc, words)?;
+    must(is_function(&table, main), FaultKind::NoMain, end)?;
+    check_functions(alloc, &table, words)
+}
+
+/// Gives a program that keeps the static rules back as checked, and refuses any other with its first fault. `end` is the
+/// place behind the last byte of the program's text, where `main` is missed.
+///
+/// The words are gone over twice: for the heads of the items, and for the functions. Each takes a few steps, and a turn
+/// that ends as many as it has outside names, of which there are at most 15. Memory is answered where a growth was
+/// refused.
+pub fn check<'a, A: Allocator + Clone>(
+    alloc: &A,
+    end: usize,
+    program: Program<'a, A>,
+) -> Result<Checked<'a, A>, Fault>
+    ensures same { IfOk result (λ c. c.program ≡ program.entry) }
+    ensures refused { (p : tree.Program) → IsProgram program.entry.names.items program.entry.words.items p → IfErr result (λ f. (f ≡ out_of_memory) ⊎ (checked end p ≡ Err f)) }
+{
+    let main = main_number(&program.names);
+    check_words(alloc, main, end, &program.words)?;
+    Ok(Checked { program })
+}
