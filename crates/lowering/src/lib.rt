@@ -1,0 +1,2 @@
+//! The lowering of programs to graphs.
+#![tactic(auto)]
