@@ -1,1 +1,5 @@
 pub mod Algebra
+pub mod HowMany
+pub mod Says
+pub mod Operators
+pub mod Lists
