@@ -221,7 +221,7 @@ turning s b = record {
 abbrev pub turn_begun : State → List Frame → State
 turn_begun s (Firsts b ∷ fs) = record s {
   site = turn_site s.site.function;
-  spot = record { next = length b.names + length b.outs; loops = s.spot.loops + 1 };
+  spot = record { next = length (bare b.names) + length b.outs; loops = s.spot.loops + 1 };
   scope = turn_scope (bare b.names) b.outs;
   sources = [];
   nodes = [];
@@ -245,7 +245,7 @@ turn_ended s at bound t fs = record s {
   site = t.site;
   spot = record { next = t.spot.next + 1; loops = s.spot.loops };
   scope = t.scope;
-  sources = t.outer ++ ports_from t.spot.next 0 (length t.names);
+  sources = t.outer ++ ports_from t.spot.next 0 (length (bare t.names));
   nodes = t.nodes ++ made t.site at (node.Loop (loop_name t.site.function (t.spot.loops + 1)) bound) (t.firsts ++ map (source_in t.scope) t.outs) ∷ [];
   blocks = t.blocks ++ turn_block t.at (t.spot.loops + 1) (bare t.names) t.outs (record { nodes = s.nodes; sources = s.sources; blocks = [] }) ∷ s.blocks;
   frames = fs;
