@@ -5,3 +5,5 @@ pub mod Operators
 pub mod Lists
 pub mod Arms
 pub mod Turns
+pub mod Whole
+pub mod Scanned
