@@ -7,3 +7,4 @@ pub mod Arms
 pub mod Turns
 pub mod Whole
 pub mod Scanned
+pub mod Checked
