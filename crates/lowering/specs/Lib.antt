@@ -3,3 +3,5 @@ pub mod Counts
 pub mod Machine
 pub mod Blocks
 pub mod Scan
+pub mod Targets
+pub mod Opened

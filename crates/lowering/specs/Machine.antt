@@ -81,6 +81,11 @@ pub record State : Type 0 where
   -- the blocks of the functions before, each with its function's name
   pub done : List (Name × MadeBlock)
 
+-- without the innermost frame: where a word closes what is not open, which is in no program
+abbrev pub popped : State → List Frame → State
+popped s [] = record s { frames = [] }
+popped s (f ∷ fs) = record s { frames = fs }
+
 -- with what a part is lowered to
 abbrev pub after : State → Lowered → State
 after s l = record s { spot = spot_after s.spot l; sources = s.sources ++ l.sources; nodes = s.nodes ++ l.nodes; blocks = s.blocks ++ l.blocks }
@@ -134,26 +139,30 @@ list_begun s = record s { frames = Listed s.sources ∷ s.frames; sources = [] }
 abbrev pub called : Program → State → ℕ → Bool → Name → List Frame → State
 called p s at strict f (Listed outer ∷ fs) =
     after (record s { sources = outer; frames = fs }) (one_node s.site s.spot at (call_kind strict f) s.sources (results_of (function_in p f)))
-called p s at strict f fs = s
+called p s at strict f fs = popped s fs
 
 abbrev pub dropped : State → List Frame → State
 dropped s (Listed outer ∷ fs) = record s { sources = outer; frames = fs }
-dropped s fs = s
+dropped s fs = popped s fs
 
 abbrev pub given : State → List Frame → State
 given s (Listed outer ∷ fs) = record s { sources = outer ++ s.sources; frames = fs }
-given s fs = s
+given s fs = popped s fs
 
 abbrev pub let_begun : State → State
 let_begun s = record s { frames = Targets [] ∷ s.frames }
 
 abbrev pub targeted : State → Target → List Frame → State
 targeted s t (Targets ts ∷ fs) = record s { frames = Targets (ts ++ t ∷ []) ∷ fs }
-targeted s t fs = s
+targeted s t fs = popped s fs
+
+abbrev pub let_bound : State → List Source → List Frame → State
+let_bound s outer (Targets ts ∷ fs) = record s { scope = let_scoped ts s.sources s.scope; sources = outer; frames = fs }
+let_bound s outer fs = popped s fs
 
 abbrev pub let_ended : State → List Frame → State
-let_ended s (Listed outer ∷ Targets ts ∷ fs) = record s { scope = let_scoped ts s.sources s.scope; sources = outer; frames = fs }
-let_ended s fs = s
+let_ended s (Listed outer ∷ fs) = let_bound s outer fs
+let_ended s fs = popped s fs
 
 -- CONDITIONALS
 -- an arm begins, with its enters
@@ -178,7 +187,7 @@ first_arm s frame (q ∷ ps) =
 
 abbrev pub second_arm : State → List Plan → List Frame → State
 second_arm s (q ∷ ps) (Left arms ∷ fs) = record (entered s arms false q.at q.names) { plans = ps; frames = Right arms s.sources ∷ fs }
-second_arm s ps fs = s
+second_arm s ps fs = popped s fs
 
 -- the merges of the values of both arms
 abbrev pub merged : State → Arms → ℕ → List Source → List Source → State
@@ -197,7 +206,7 @@ with_outer outer s = record s { sources = outer ++ s.sources }
 
 abbrev pub if_ended : State → ℕ → List Frame → State
 if_ended s at (Right arms left ∷ fs) = record (with_outer arms.outer (merged s arms at left s.sources)) { frames = fs }
-if_ended s at fs = s
+if_ended s at fs = popped s fs
 
 -- LOOPS
 abbrev pub loop_begun : State → ℕ → List Plan → State
@@ -210,7 +219,7 @@ with_name b x = record { at = b.at; outer = b.outer; names = b.names ++ x ∷ []
 
 abbrev pub named_first : State → NameAt → List Frame → State
 named_first s x (Firsts b ∷ fs) = record s { frames = Firsts (with_name b x) ∷ fs }
-named_first s x fs = s
+named_first s x fs = popped s fs
 
 abbrev pub turning : State → Begun → Turning
 turning s b = record {
@@ -228,7 +237,7 @@ turn_begun s (Firsts b ∷ fs) = record s {
   blocks = [];
   frames = Turned (turning s b) ∷ fs;
 }
-turn_begun s fs = s
+turn_begun s fs = popped s fs
 
 -- the body ends, and its values stand for the loop's names in the test
 abbrev pub tested : State → List Frame → State
@@ -237,7 +246,7 @@ tested s (Turned t ∷ fs) = record s {
   sources = [];
   frames = Ending s.sources ∷ Turned t ∷ fs;
 }
-tested s fs = s
+tested s fs = popped s fs
 
 -- the turn ends: its block, and the node of the loop
 abbrev pub turn_ended : State → ℕ → ℕ → Turning → List Frame → State
@@ -258,10 +267,18 @@ came_back s arms at names =
     let l : Lowered = entered_names here s.spot at arms.scope (first_of arms.predicate) (bare names) in
     with_outer arms.predicate (merged (record s { spot = spot_after s.spot l; nodes = s.nodes ++ l.nodes }) arms at s.sources l.sources)
 
+abbrev pub arm_closed : State → ℕ → ℕ → Arms → List Frame → State
+arm_closed s at bound arms (Turned t ∷ fs) = turn_ended (came_back s arms t.at t.names) at bound t fs
+arm_closed s at bound arms fs = popped s fs
+
+abbrev pub turn_closed : State → ℕ → ℕ → List Frame → State
+turn_closed s at bound (Turned t ∷ fs) = turn_ended s at bound t fs
+turn_closed s at bound fs = popped s fs
+
 abbrev pub loop_ended : State → ℕ → ℕ → List Frame → State
-loop_ended s at bound (Looping arms ∷ Turned t ∷ fs) = turn_ended (came_back s arms t.at t.names) at bound t fs
-loop_ended s at bound (Ending values ∷ Turned t ∷ fs) = turn_ended (record s { sources = s.sources ++ values }) at bound t fs
-loop_ended s at bound fs = s
+loop_ended s at bound (Looping arms ∷ fs) = arm_closed s at bound arms fs
+loop_ended s at bound (Ending values ∷ fs) = turn_closed (record s { sources = s.sources ++ values }) at bound fs
+loop_ended s at bound fs = popped s fs
 
 -- FUNCTIONS
 -- nothing is open
@@ -273,15 +290,16 @@ between ps done = record {
 
 abbrev pub with_parameter : State → NameAt → List Frame → State
 with_parameter s x (Header f params ∷ fs) = record s { frames = Header f (params ++ x ∷ []) ∷ fs }
-with_parameter s x fs = s
+with_parameter s x fs = popped s fs
 
 abbrev pub body_begun : State → List Frame → State
 body_begun s (Header f params ∷ fs) = record s {
   site = turn_site f.name;
   spot = record { next = length params; loops = 0 };
   scope = scoped (bare params) (inputs_from 0 (length params)) [];
+  frames = Header f params ∷ fs;
 }
-body_begun s fs = s
+body_begun s fs = popped s fs
 
 abbrev pub of_function : Name → List MadeBlock → List (Name × MadeBlock)
 of_function f blocks = map (λ (b : MadeBlock). (f, b)) blocks
@@ -289,7 +307,7 @@ of_function f blocks = map (λ (b : MadeBlock). (f, b)) blocks
 abbrev pub function_ended : State → List Frame → State
 function_ended s (Header f params ∷ fs) = between s.plans
     (s.done ++ of_function f.name (record { at = f.at; loop = 0; inputs = length params; nodes = s.nodes; results = s.sources } ∷ s.blocks))
-function_ended s fs = s
+function_ended s fs = popped s fs
 
 abbrev pub name_at : ℕ → Name → NameAt
 name_at at x = record { at = at; name = x }
