@@ -8,3 +8,6 @@ pub mod Turns
 pub mod Whole
 pub mod Scanned
 pub mod Checked
+pub mod Lowers
+pub mod Same
+pub mod Nodes

@@ -108,6 +108,13 @@ last_of n ss = drop (length ss - n) ss
 abbrev pub one_node : Site → Spot → ℕ → Kind Name → List Source → ℕ → Lowered
 one_node site spot at kind ss values = record { nodes = made site at kind ss ∷ []; sources = ports_from spot.next 0 values; blocks = [] }
 
+-- a node, without its values; and values
+abbrev pub with_node : State → ℕ → Kind Name → List Source → State
+with_node s at kind ss = record s { spot = record { next = s.spot.next + 1; loops = s.spot.loops }; nodes = s.nodes ++ made s.site at kind ss ∷ [] }
+
+abbrev pub with_sources : State → List Source → State
+with_sources s ss = record s { sources = s.sources ++ ss }
+
 abbrev pub operated : State → ℕ → Kind Name → ℕ → (List Source → List Source) → State
 operated s at kind n order =
     after (record s { sources = before_last n s.sources }) (one_node s.site s.spot at kind (order (last_of n s.sources)) 1)
@@ -136,10 +143,10 @@ prefix s at op b = operated s at (node.Apply1 op) 1 as_they_are
 abbrev pub list_begun : State → State
 list_begun s = record s { frames = Listed s.sources ∷ s.frames; sources = [] }
 
-abbrev pub called : Program → State → ℕ → Bool → Name → List Frame → State
-called p s at strict f (Listed outer ∷ fs) =
-    after (record s { sources = outer; frames = fs }) (one_node s.site s.spot at (call_kind strict f) s.sources (results_of (function_in p f)))
-called p s at strict f fs = popped s fs
+abbrev pub called : State → ℕ → Bool → Name → ℕ → List Frame → State
+called s at strict f results (Listed outer ∷ fs) =
+    after (record s { sources = outer; frames = fs }) (one_node s.site s.spot at (call_kind strict f) s.sources results)
+called s at strict f results fs = popped s fs
 
 abbrev pub dropped : State → List Frame → State
 dropped s (Listed outer ∷ fs) = record s { sources = outer; frames = fs }
@@ -158,7 +165,7 @@ targeted s t fs = popped s fs
 
 abbrev pub let_bound : State → List Source → List Frame → State
 let_bound s outer (Targets ts ∷ fs) = record s { scope = let_scoped ts s.sources s.scope; sources = outer; frames = fs }
-let_bound s outer fs = popped s fs
+let_bound s outer fs = popped (record s { sources = outer }) fs
 
 abbrev pub let_ended : State → List Frame → State
 let_ended s (Listed outer ∷ fs) = let_bound s outer fs
@@ -332,7 +339,7 @@ act p (word.Fetch at a) s = operated s at (node.Fetch a) 1 as_they_are
 act p word.Index s = s
 act p (word.Store at a) s = operated s at (node.Store a) 2 as_they_are
 act p (word.Callee at f) s = s
-act p (word.Call at strict f) s = called p s at strict f s.frames
+act p (word.Call at strict f) s = called s at strict f (results_of (function_in p f)) s.frames
 act p word.Then s = first_arm s Left s.plans
 act p word.Else s = second_arm s s.plans s.frames
 act p (word.EndIf at) s = if_ended s at s.frames

@@ -1,10 +1,10 @@
 //! What is open while words are gone over.
 
 use crate::made::{Made, MadeBlock};
-use crate::names::{Entry, NameAt, Target};
+use crate::names::{NameAt, Target};
+use crate::scope::Scope;
 use semantics::graph::{Region, Source};
 use std::alloc::Allocator;
-use std::collections::VecDeque;
 use std::marker::Model;
 
 /// Where a part stands: its function, its region, and the first input of the region, for which literals wait.
@@ -26,7 +26,7 @@ pub struct Spot {
 #[derive(Drop)]
 pub struct Arms<'a, A: Allocator> {
     pub site: Site<'a>,
-    pub scope: VecDeque<Entry<'a>, A>,
+    pub scope: Scope<'a, A>,
     pub outer: Vec<Source, A>,
     pub predicate: Vec<Source, A>,
     pub cond: u32,
@@ -40,7 +40,7 @@ impl<'a, A: Allocator> Model for Arms<'a, A> {
     ghost view = {
         λ a. record {
             site = record { function = a.site.function.now; region = a.site.region; trigger = a.site.trigger };
-            scope = a.scope.items;
+            scope = a.scope;
             outer = a.outer.items;
             predicate = a.predicate.items;
             cond = a.cond
@@ -72,7 +72,7 @@ pub struct Turning<'a, A: Allocator> {
     pub firsts: Vec<Source, A>,
     pub site: Site<'a>,
     pub spot: Spot,
-    pub scope: VecDeque<Entry<'a>, A>,
+    pub scope: Scope<'a, A>,
     pub nodes: Vec<Made<'a, A>, A>,
     pub blocks: Vec<MadeBlock<'a, A>, A>,
 }
@@ -91,7 +91,7 @@ impl<'a, A: Allocator> Model for Turning<'a, A> {
             firsts = t.firsts.items;
             site = record { function = t.site.function.now; region = t.site.region; trigger = t.site.trigger };
             spot = record { next = t.spot.next; loops = t.spot.loops };
-            scope = t.scope.items;
+            scope = t.scope;
             nodes = t.nodes.items;
             blocks = t.blocks.items
         }
