@@ -2,9 +2,9 @@ pub mod Algebra
 pub mod HowMany
 pub mod Says
 pub mod Operators
-pub mod Lists
-pub mod Arms
-pub mod Turns
+pub mod ListsSaid
+pub mod ArmsSaid
+pub mod TurnsSaid
 pub mod Whole
 pub mod Scanned
 pub mod Checked

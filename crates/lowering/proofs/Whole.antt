@@ -12,9 +12,9 @@ use Rattle.lowering.specs.Blocks.{named_blocks}
 use Rattle.lowering.proofs.Algebra.{and_then, both_plans}
 use Rattle.lowering.proofs.Says.{Says, SaysAll, SaysBody, SaysFirsts}
 use Rattle.lowering.proofs.Operators.{number_says, name_says, bracket_says, prefix_says, fetch_says, infix_says, store_says}
-use Rattle.lowering.proofs.Lists.{one_says, more_says, call_says, do_says, give_says, chain_says, let_says, one_first_says, more_first_says}
-use Rattle.lowering.proofs.Arms.{if_says}
-use Rattle.lowering.proofs.Turns.{SaysTurn, before_says, after_says, loop_says}
+use Rattle.lowering.proofs.ListsSaid.{one_says, more_says, call_says, do_says, give_says, chain_says, let_says, one_first_says, more_first_says}
+use Rattle.lowering.proofs.ArmsSaid.{if_says}
+use Rattle.lowering.proofs.TurnsSaid.{SaysTurn, before_says, after_says, loop_says}
 
 mutual
   pub says : (p : Program) (e : Expr) → Counted p e → Says p e

@@ -5,11 +5,13 @@
 ghost use Rattle.lowering.specs.Lowers.{MachineLowers, BlocksAreMade, BlocksOfGraph};
 
 mod frame;
+mod lists;
 mod machine;
 mod made;
 mod names;
 mod plan;
 mod scope;
+mod values;
 
 /// Going over the words of a program that keeps the rules makes just the blocks that the definition of lowering says of its tree.
 pub fn words_are_lowered()

@@ -51,7 +51,7 @@ impl<'a, A: Allocator> Model for Machine<'a, A> {
 }
 
 /// The next number of a node. A block whose nodes 32 bits cannot count is beyond all memory.
-fn next_number(number: u32) -> Result<u32, AllocError>
+pub fn next_number(number: u32) -> Result<u32, AllocError>
     ensures { IfOk result (λ n. n ≡ number + 1) }
 {
     match number.checked_add(1) {

@@ -1,9 +1,10 @@
 //! What names stand for.
 
 ghost use Rattle.std.specs.Prelude.{◌≡◌, ◌∷◌, [], OnOk};
-ghost use Rattle.source.specs.Lowered.{source_in};
+ghost use Rattle.source.specs.Lowered.{source_in, scoped, let_scoped};
 
-use crate::names::{Entry, same};
+use crate::names::{Entry, Target, same};
+use graph::Name;
 use semantics::graph::Source;
 use std::alloc::{AllocError, Allocator};
 use std::collections::VecDeque;
@@ -51,6 +52,30 @@ impl<'a, A: Allocator> Scope<'a, A> {
         ensures { OnOk result (self.new ≡ (name.now, source) ∷ self.old) }
     {
         self.entries.push_front(Entry { name, source })?;
+        Ok(())
+    }
+
+    /// From now on each name of a list stands for its source.
+    pub fn bind_all(&mut self, names: &[Name<'a>], sources: &[Source]) -> Result<(), AllocError>
+        ensures { OnOk result (self.new ≡ scoped names.now sources.now self.old) }
+    {
+        let count = names.len().min(sources.len());
+        for i in (0..count).rev() {
+            self.bind(names[i].bytes, sources[i])?;
+        }
+        Ok(())
+    }
+
+    /// From now on each target of a `let` stands for its value.
+    pub fn bind_targets(&mut self, targets: &[Target<'a>], sources: &[Source]) -> Result<(), AllocError>
+        ensures { OnOk result (self.new ≡ let_scoped targets.now sources.now self.old) }
+    {
+        let count = targets.len().min(sources.len());
+        for i in (0..count).rev() {
+            if let Some(x) = &targets[i].to {
+                self.bind(x.name, sources[i])?;
+            }
+        }
         Ok(())
     }
 }

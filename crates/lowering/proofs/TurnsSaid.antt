@@ -13,7 +13,7 @@ use Rattle.lowering.specs.Machine.{State, Begun, Turning, Arms, Frame, Firsts, T
 use Rattle.lowering.proofs.Algebra.{and_then, both_plans, alike, built}
 use Rattle.lowering.proofs.HowMany.{so_many}
 use Rattle.lowering.proofs.Says.{Says, SaysAll, SaysBody, SaysFirsts, is_numeral, with_names}
-use Rattle.lowering.proofs.Arms.{first_arm_says, first_arm_of, in_first_arm, the_arms}
+use Rattle.lowering.proofs.ArmsSaid.{first_arm_says, first_arm_of, in_first_arm, the_arms}
 
 -- behind a loop whose turn had so many loops, nodes, results and blocks
 abbrev pub shut : State → Begun → ℕ → ℕ → List Frame → List Plan → ℕ → List Made → List Source → List MadeBlock → State
