@@ -172,6 +172,13 @@ let_ended s (Listed outer ∷ fs) = let_bound s outer fs
 let_ended s fs = popped s fs
 
 -- CONDITIONALS
+-- with the nodes of a part, and with nodes
+abbrev pub with_all : State → Lowered → State
+with_all s l = record s { spot = spot_after s.spot l; nodes = s.nodes ++ l.nodes }
+
+abbrev pub with_merges : State → List Made → State
+with_merges s ms = record s { spot = record { next = s.spot.next + length ms; loops = s.spot.loops }; nodes = s.nodes ++ ms }
+
 -- an arm begins, with its enters
 abbrev pub entered : State → Arms → Bool → ℕ → List Name → State
 entered s arms side at names =

@@ -4,6 +4,7 @@
 
 ghost use Rattle.lowering.specs.Lowers.{MachineLowers, BlocksAreMade, BlocksOfGraph};
 
+mod arms;
 mod frame;
 mod lists;
 mod machine;

@@ -59,9 +59,11 @@ impl<'a, A: Allocator> Scope<'a, A> {
     pub fn bind_all(&mut self, names: &[Name<'a>], sources: &[Source]) -> Result<(), AllocError>
         ensures { OnOk result (self.new ≡ scoped names.now sources.now self.old) }
     {
-        let count = names.len().min(sources.len());
-        for i in (0..count).rev() {
-            self.bind(names[i].bytes, sources[i])?;
+        let mut i = names.len().min(sources.len());
+        while i > 0 {
+            i -= 1;
+            let name = &names[i];
+            self.bind(name.bytes, sources[i])?;
         }
         Ok(())
     }
@@ -70,11 +72,20 @@ impl<'a, A: Allocator> Scope<'a, A> {
     pub fn bind_targets(&mut self, targets: &[Target<'a>], sources: &[Source]) -> Result<(), AllocError>
         ensures { OnOk result (self.new ≡ let_scoped targets.now sources.now self.old) }
     {
-        let count = targets.len().min(sources.len());
-        for i in (0..count).rev() {
-            if let Some(x) = &targets[i].to {
-                self.bind(x.name, sources[i])?;
-            }
+        let mut i = targets.len().min(sources.len());
+        while i > 0 {
+            i -= 1;
+            self.bind_target(&targets[i], sources[i])?;
+        }
+        Ok(())
+    }
+
+    /// From now on a target of a `let` stands for its value.
+    fn bind_target(&mut self, target: &Target<'a>, source: Source) -> Result<(), AllocError>
+        ensures { OnOk result (self.new ≡ let_scoped (target.now ∷ []) (source ∷ []) self.old) }
+    {
+        if let Some(x) = &target.to {
+            self.bind(x.name, source)?;
         }
         Ok(())
     }

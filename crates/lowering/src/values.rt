@@ -4,7 +4,7 @@ ghost use Rattle.std.specs.Prelude.{◌≡◌, ◌+◌, ◌∷◌, ◌++◌, [],
 ghost use Rattle.source.specs.Lowered.{ports_from, inputs_from, literal, operands, operator_of};
 ghost use Rattle.source.specs.Evaluates.{signed};
 ghost use Rattle.semantics.specs.declared.graph.Kind.TheVariants as node;
-ghost use Rattle.lowering.specs.Machine.{after, one_node, operated, as_they_are, prefix, with_sources, last_negated, negated};
+ghost use Rattle.lowering.specs.Machine.{after, one_node, operated, as_they_are, prefix, with_sources, last_negated, negated, minus};
 
 use crate::machine::{Machine, next_number};
 use crate::made::Made;
@@ -15,6 +15,7 @@ use source::word::InfixSign;
 use std::alloc::{AllocError, Allocator};
 
 /// The first ports of a node.
+#[tactic(auto, using(crate::proofs::Nodes::ports_more))]
 pub fn ports<A: Allocator>(alloc: A, node: u32, count: u64) -> Result<Vec<Source, A>, AllocError>
     ensures { IfOk result (λ v. v.items ≡ ports_from node 0 count) }
 {
@@ -28,6 +29,7 @@ pub fn ports<A: Allocator>(alloc: A, node: u32, count: u64) -> Result<Vec<Source
 }
 
 /// The first ports of so many nodes, one after another.
+#[tactic(auto, using(crate::proofs::Nodes::inputs_more))]
 pub fn inputs<A: Allocator>(alloc: A, first: u32, count: usize) -> Result<Vec<Source, A>, AllocError>
     ensures { IfOk result (λ v. v.items ≡ inputs_from first count) }
 {
@@ -49,23 +51,32 @@ pub fn single<A: Allocator>(alloc: A, source: Source) -> Result<Vec<Source, A>, 
     Ok(sources)
 }
 
+/// A literal with its sign.
+fn with_minus<'a>(kind: Kind<Name<'a>>) -> Kind<Name<'a>>
+    ensures { result ≡ minus kind.entry }
+{
+    match kind {
+        Kind::Lit { value } => Kind::Lit {
+            value: value.wrapping_neg(),
+        },
+        other => other,
+    }
+}
+
 /// The literal of a number, as one with its sign.
 fn with_sign<'a, A: Allocator>(at: usize, made: Made<'a, A>) -> Made<'a, A>
     ensures { result ≡ negated at made.entry }
 {
     let node = made.node;
-    let kind = match node.kind {
-        Kind::Lit { value } => Kind::Lit {
-            value: value.wrapping_neg(),
-        },
-        kind => kind,
-    };
+    let region = node.region;
+    let kind = with_minus(node.kind);
+    let sources = node.sources;
     Made {
         at,
         node: Node {
-            region: node.region,
+            region,
             kind,
-            sources: node.sources,
+            sources,
         },
     }
 }
