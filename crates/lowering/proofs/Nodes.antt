@@ -1,12 +1,13 @@
 -- One node more.
-use Rattle.std.proofs.Common.{◌≡◌, ℕ, zero, suc, ◌+◌, ◌<◌, ◌≤◌, ◌⊎◌, inl, inr, Option, None, Some, get_or, drop, take, map, add-one, List, [], ◌∷◌, ◌++◌, length, refl, sym, ◌∙◌, ap, arith, append-nil, add-zero}
+use Rattle.std.proofs.Common.{min, ◌≡◌, ℕ, zero, suc, ◌+◌, ◌<◌, ◌≤◌, ◌⊎◌, inl, inr, Option, None, Some, get_or, drop, take, map, add-one, List, [], ◌∷◌, ◌++◌, length, refl, sym, ◌∙◌, ap, arith, append-nil, append_assoc, add-zero}
 use Rattle.std.proofs.Math.Seq.{drop-cons}
 use Rattle.std.proofs.lemmas.List.{drop_all}
 use Rattle.semantics.specs.declared.graph.Source.{Source}
 use Rattle.semantics.specs.declared.graph.Kind.{Kind}
+use Rattle.semantics.specs.declared.graph.Kind.TheVariants as node
 use Rattle.source.specs.Tree.{Name, NameAt, Target, Bind, Drop}
-use Rattle.source.specs.Lowered.{Made, Site, Spot, made, ports_from, inputs_from, port, literal, only, Scope, scoped, let_scoped}
-use Rattle.lowering.specs.Machine.{State, after, one_node, with_node, with_sources}
+use Rattle.source.specs.Lowered.{Made, Site, Spot, made, ports_from, inputs_from, port, literal, only, Scope, scoped, let_scoped, merges, enters, entered_names, or_predicate, source_in}
+use Rattle.lowering.specs.Machine.{State, after, one_node, with_node, with_sources, with_all, with_merges, entered_nodes}
 use Rattle.lowering.proofs.Algebra.{alike}
 
 pub one_more : (s : State) (at : ℕ) (kind : Kind Name) (ss : List Source) (n : ℕ)
@@ -74,3 +75,77 @@ pub let_drop_step : (xs : List Target) (ss : List Source) (scope : Scope) (i : �
     → get_or xs i d ≡ Drop → let_scoped (drop i xs) (drop i ss) scope ≡ let_scoped (drop (suc i) xs) (drop (suc i) ss) scope
 let_drop_step xs ss scope i d s h k e = let_step xs ss scope i d s h k
     ∙ ap (λ (t : Target). let_scoped (t ∷ drop (suc i) xs) (get_or ss i s ∷ drop (suc i) ss) scope) e
+
+either_way : (a b : ℕ) → (a ≤ b) ⊎ (b ≤ a)
+either_way zero b = inl (omega arith)
+either_way (suc a) zero = inr (omega arith)
+either_way (suc a) (suc b) = elim (either_way a b) [ inl h ↦ inl (omega arith) | inr h ↦ inr (omega arith) ]
+
+-- as many as the shorter list has
+shorter : (m a b : ℕ) → m ≡ min a b → (a ≤ m) ⊎ (b ≤ m)
+shorter m a b e = by (either_way a b)
+  where
+    by : (a ≤ b) ⊎ (b ≤ a) → (a ≤ m) ⊎ (b ≤ m)
+    by (inl h) = inl (omega arith)
+    by (inr h) = inr (omega arith)
+
+pub scoped_min : (xs : List Name) (ss : List Source) (scope : Scope) (m : ℕ) → m ≡ min (length xs) (length ss) → scope ≡ scoped (drop m xs) (drop m ss) scope
+scoped_min xs ss scope m e = sym (scoped_end xs ss scope m (shorter m (length xs) (length ss) e))
+
+pub let_scoped_min : (xs : List Target) (ss : List Source) (scope : Scope) (m : ℕ) → m ≡ min (length xs) (length ss)
+    → scope ≡ let_scoped (drop m xs) (drop m ss) scope
+let_scoped_min xs ss scope m e = sym (let_scoped_end xs ss scope m (shorter m (length xs) (length ss) e))
+
+-- nodes one after another
+pub no_merges : (s : State) → with_merges s [] ≡ s
+no_merges s = alike s _ _ _ _ _ _ _ _ _ _ (add-zero s.spot.next) refl refl (append-nil s.nodes) refl
+
+pub one_merge : (s : State) (at : ℕ) (kind : Kind Name) (ss : List Source) (ms : List Made)
+    → with_merges (with_node s at kind ss) ms ≡ with_merges s (made s.site at kind ss ∷ ms)
+one_merge s at kind ss ms = alike s _ _ _ _ _ _ _ _ _ _ (omega arith) refl refl (append_assoc s.nodes (made s.site at kind ss ∷ []) ms) refl
+
+pub merge_step : (s : State) (at cond : ℕ) (ls rs : List Source) (i : ℕ) (a b : Source) → i < length ls → i < length rs
+    → with_merges (with_node s at (node.Merge cond) (get_or ls i a ∷ get_or rs i b ∷ [])) (merges s.site at cond (drop (i + 1) ls) (drop (i + 1) rs))
+        ≡ with_merges s (merges s.site at cond (drop i ls) (drop i rs))
+merge_step s at cond ls rs i a b h k =
+    ap (λ (j : ℕ). with_merges (with_node s at (node.Merge cond) (get_or ls i a ∷ get_or rs i b ∷ [])) (merges s.site at cond (drop j ls) (drop j rs))) (add-one i)
+    ∙ one_merge s at (node.Merge cond) (get_or ls i a ∷ get_or rs i b ∷ []) (merges s.site at cond (drop (suc i) ls) (drop (suc i) rs))
+    ∙ sym (ap (λ (xs : List Source). with_merges s (merges s.site at cond xs (drop i rs))) (drop-cons ls i a h)
+        ∙ ap (λ (ys : List Source). with_merges s (merges s.site at cond (get_or ls i a ∷ drop (suc i) ls) ys)) (drop-cons rs i b k))
+
+merges_none : (site : Site) (at cond : ℕ) (ls : List Source) → merges site at cond ls [] ≡ []
+merges_none site at cond [] = refl
+merges_none site at cond (s ∷ ls) = refl
+
+pub merges_end : (site : Site) (at cond : ℕ) (ls rs : List Source) (i : ℕ) → i ≡ min (length ls) (length rs) → merges site at cond (drop i ls) (drop i rs) ≡ []
+merges_end site at cond ls rs i e = by (shorter i (length ls) (length rs) e)
+  where
+    by : (length ls ≤ i) ⊎ (length rs ≤ i) → merges site at cond (drop i ls) (drop i rs) ≡ []
+    by (inl h) = ap (λ (xs : List Source). merges site at cond xs (drop i rs)) (drop_all i ls h)
+    by (inr h) = ap (λ (ys : List Source). merges site at cond (drop i ls) ys) (drop_all i rs h) ∙ merges_none site at cond (drop i ls)
+
+pub merges_length : (site : Site) (at cond : ℕ) (ls rs : List Source) → length (merges site at cond ls rs) ≡ min (length ls) (length rs)
+merges_length site at cond [] rs = omega arith
+merges_length site at cond (s ∷ ls) [] = omega arith
+merges_length site at cond (s ∷ ls) (r ∷ rs) = omega (arith, merges_length site at cond ls rs)
+
+-- enters one after another
+pub enter_step : (s : State) (at : ℕ) (ss : List Source) (i : ℕ) (a : Source) → i < length ss
+    → with_merges (with_node s at node.Enter (get_or ss i a ∷ [])) (entered_nodes s.site at (drop (i + 1) ss)) ≡ with_merges s (entered_nodes s.site at (drop i ss))
+enter_step s at ss i a h =
+    ap (λ (j : ℕ). with_merges (with_node s at node.Enter (get_or ss i a ∷ [])) (entered_nodes s.site at (drop j ss))) (add-one i)
+    ∙ one_merge s at node.Enter (get_or ss i a ∷ []) (entered_nodes s.site at (drop (suc i) ss))
+    ∙ sym (ap (λ (xs : List Source). with_merges s (entered_nodes s.site at xs)) (drop-cons ss i a h))
+
+pub all_enters : (s : State) (at : ℕ) (scope : Scope) (predicate : Source) (xs : List Name)
+    → with_merges s (entered_nodes s.site at (or_predicate predicate (map (source_in scope) xs))) ≡ with_all s (entered_names s.site s.spot at scope predicate xs)
+all_enters s at scope predicate xs = alike s _ _ _ _ _ _ _ _ _ _ refl (sym (add-zero s.spot.loops)) refl refl refl
+
+pub entered_scope : (n : ℕ) (f : Name → Source) (predicate : Source) (xs : List Name)
+    → scoped xs (inputs_from n (length xs)) [] ≡ scoped xs (inputs_from n (length (or_predicate predicate (map f xs)))) []
+entered_scope n f predicate [] = refl
+entered_scope n f predicate (x ∷ xs) = ap (λ (k : ℕ). scoped (x ∷ xs) (inputs_from n k) []) (ap suc (sym (mapped f xs)))
+  where
+    mapped : (f : Name → Source) (xs : List Name) → length (map f xs) ≡ length xs
+    mapped f [] = refl
+    mapped f (x ∷ xs) = ap suc (mapped f xs)

@@ -104,6 +104,10 @@ before_last n ss = take (length ss - n) ss
 abbrev pub last_of : ℕ → List Source → List Source
 last_of n ss = drop (length ss - n) ss
 
+-- an `enter` of each source
+abbrev pub entered_nodes : Site → ℕ → List Source → List Made
+entered_nodes site at ss = map (λ (s : Source). made site at node.Enter (s ∷ [])) ss
+
 -- OPERATORS take the last so many values, and are one node.
 abbrev pub one_node : Site → Spot → ℕ → Kind Name → List Source → ℕ → Lowered
 one_node site spot at kind ss values = record { nodes = made site at kind ss ∷ []; sources = ports_from spot.next 0 values; blocks = [] }

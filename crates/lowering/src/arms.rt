@@ -1,8 +1,8 @@
 //! Conditionals.
 
 ghost use Rattle.std.specs.Prelude.{◌≡◌, ◌+◌, ◌∷◌, ◌++◌, [], OnOk, IfOk, length, map};
-ghost use Rattle.source.specs.Lowered.{first_of, entered_names, merges, inputs_from, spot_after, Lowered};
-ghost use Rattle.lowering.specs.Machine.{entered, chosen_by, arms_of, first_arm, second_arm, if_ended, with_node, with_all, with_merges};
+ghost use Rattle.source.specs.Lowered.{first_of, merges, inputs_from, or_predicate, source_in};
+ghost use Rattle.lowering.specs.Machine.{entered, chosen_by, arms_of, first_arm, second_arm, if_ended, with_node, with_merges, entered_nodes};
 ghost use Rattle.lowering.specs.Machine.{Left, Looping};
 ghost use Rattle.semantics.specs.declared.graph.Kind.TheVariants as node;
 
@@ -56,21 +56,33 @@ impl<'a, A: Allocator + Clone> Machine<'a, A> {
         self.put(at, Kind::Enter, sources)
     }
 
-    /// An `enter` of each name, or of the predicate where there is none.
-    fn put_enters(&mut self, arms: &Arms<'a, A>, at: usize, names: &[Name<'a>]) -> Result<(), AllocError>
-        ensures { OnOk result (self.new ≡ with_all self.old (entered_names self.old.site self.old.spot at arms.now.scope (first_of arms.now.predicate) names.now)) }
+    /// An `enter` of each source.
+    #[tactic(auto, using(crate::proofs::Nodes::enter_step, crate::proofs::Nodes::no_merges))]
+    fn put_enters(&mut self, at: usize, sources: &[Source]) -> Result<(), AllocError>
+        ensures { OnOk result (self.new ≡ with_merges self.old (entered_nodes self.old.site at sources.now)) }
     {
-        if names.is_empty() {
-            return self.put_enter(at, first(&arms.predicate));
-        }
-        for name in names {
-            let source = arms.scope.source(name.bytes);
-            self.put_enter(at, source)?;
+        for i in 0..sources.len() {
+            self.put_enter(at, sources[i])?;
         }
         Ok(())
     }
 
+    /// What an arm takes from outside: what each name stands for, or the predicate where there is no name.
+    fn taken(&self, arms: &Arms<'a, A>, names: &[Name<'a>]) -> Result<Vec<Source, A>, AllocError>
+        ensures { IfOk result (λ v. v.items ≡ or_predicate (first_of arms.now.predicate) (map (source_in arms.now.scope) names.now)) }
+    {
+        if names.is_empty() {
+            return single(self.alloc.clone()?, first(&arms.predicate));
+        }
+        let mut sources = Vec::new(self.alloc.clone()?);
+        for name in names {
+            sources.push(arms.scope.source(name.bytes))?;
+        }
+        Ok(sources)
+    }
+
     /// An arm begins.
+    #[tactic(auto, using(crate::proofs::Nodes::all_enters, crate::proofs::Nodes::entered_scope))]
     fn enter(&mut self, arms: &Arms<'a, A>, side: bool, at: usize, names: &[Name<'a>]) -> Result<(), AllocError>
         ensures { OnOk result (self.new ≡ entered self.old arms.now side at names.now) }
     {
@@ -85,11 +97,12 @@ impl<'a, A: Allocator + Clone> Machine<'a, A> {
             region,
             trigger,
         };
-        self.put_enters(arms, at, names)?;
+        let taken = self.taken(arms, names)?;
+        self.put_enters(at, &taken)?;
         let enters = inputs(self.alloc.clone()?, node, names.len())?;
         let mut scope = Scope::new(self.alloc.clone()?);
         scope.bind_all(names, &enters)?;
-        self.scope = scope;
+        let _outer = mem::replace(&mut self.scope, scope);
         self.sources = Vec::new(self.alloc.clone()?);
         Ok(())
     }
@@ -134,6 +147,7 @@ impl<'a, A: Allocator + Clone> Machine<'a, A> {
     }
 
     /// A merge of each two values.
+    #[tactic(auto, using(crate::proofs::Nodes::merge_step, crate::proofs::Nodes::no_merges, crate::proofs::Nodes::merges_end, crate::proofs::Nodes::merges_length))]
     pub fn merge(&mut self, cond: u32, at: usize, left: &[Source], right: &[Source]) -> Result<Vec<Source, A>, AllocError>
         ensures merged { OnOk result (self.new ≡ with_merges self.old (merges self.old.site at cond left.now right.now)) }
         ensures values { IfOk result (λ v. v.items ≡ inputs_from self.old.spot.next (length (merges self.old.site at cond left.now right.now))) }
@@ -157,7 +171,7 @@ impl<'a, A: Allocator + Clone> Machine<'a, A> {
             let right = mem::replace(&mut self.sources, none);
             self.site = arms.site;
             let values = self.merge(arms.cond, at, &left, &right)?;
-            self.scope = arms.scope;
+            let _inner = mem::replace(&mut self.scope, arms.scope);
             self.sources = arms.outer;
             self.give_all(values)?;
         }
