@@ -20,15 +20,15 @@ pub more_says : (p : Program) (e : Expr) (es : Exprs) → Says p e → SaysAll p
 more_says p e es ih jh s ps =
     let l : Lowered = lower p s.site s.spot s.scope e in
     both_plans p s _ (plans e) (list_plans es) ps (part_words (More e es))
-        (and_then p _ _ _ (words e) (word.Part ∷ part_words es) (ih s (list_plans es ++ ps)) (jh (noted false (after s l)) ps)
-            ∙ ap (λ (t : State). noted false (planned t ps)) (after_joined s l (lower_list p s.site (spot_after s.spot l) s.scope es)))
+    (and_then p _ _ _ (words e) (word.Part ∷ part_words es) (ih s (list_plans es ++ ps)) (jh (noted false (after s l)) ps)
+    ∙ ap (λ (t : State). noted false (planned t ps)) (after_joined s l (lower_list p s.site (spot_after s.spot l) s.scope es)))
 
 pub call_says : (p : Program) (at : ℕ) (strict : Bool) (f : Name) (es : Exprs) → SaysAll p es → Says p (Call at strict f es)
 call_says p at strict f es ih s ps =
     let l : Lowered = lower_list p s.site s.spot s.scope es in
     and_then p _ _ _ (part_words es) (word.Call at strict f ∷ [])
-        (ih (record s { number = false; frames = Listed s.sources ∷ s.frames; sources = [] }) ps)
-        (ap (λ (t : State). noted false (planned t ps)) (after_ended s l at (call_kind strict f) l.sources (results_of (function_in p f))))
+    (ih (record s { number = false; frames = Listed s.sources ∷ s.frames; sources = [] }) ps)
+    (ap (λ (t : State). noted false (planned t ps)) (after_ended s l at (call_kind strict f) l.sources (results_of (function_in p f))))
 
 -- a list within a body, whose values are dropped
 abbrev pub listed : State → State
@@ -37,11 +37,13 @@ listed s = record s { number = false; frames = Listed s.sources ∷ s.frames; so
 pub do_says : (p : Program) (es : Exprs) (b : Body) → SaysAll p es → SaysBody p b → SaysBody p (Do es b)
 do_says p es b ih jh s ps =
     let l : Lowered = lower_list p s.site s.spot s.scope es in
-    let rest = jh (noted false (quiet s l)) ps in
-    (rest.0, both_plans p s _ (list_plans es) (body_plans b) ps (body_words (Do es b))
-        (and_then p _ _ _ (part_words es) (word.Do ∷ body_words b) (ih (listed s) (body_plans b ++ ps)) rest.1
-            ∙ ap (λ (t : State). record t { scope = rest.0; plans = ps; number = false })
-                (after_followed s l (lower_body p s.site (spot_after s.spot l) s.scope b))))
+    let rest = jh (noted false (quiet s l)) ps in (
+      rest.0,
+      both_plans p s _ (list_plans es) (body_plans b) ps (body_words (Do es b))
+          (and_then p _ _ _ (part_words es) (word.Do ∷ body_words b) (ih (listed s) (body_plans b ++ ps)) rest.1
+          ∙ ap (λ (t : State). record t { scope = rest.0; plans = ps; number = false })
+          (after_followed s l (lower_body p s.site (spot_after s.spot l) s.scope b))),
+    )
 
 pub give_says : (p : Program) (es : Exprs) → SaysAll p es → SaysBody p (Give es)
 give_says p es ih s ps = (s.scope, and_then p _ _ _ (part_words es) (word.Give ∷ []) (ih (listed s) ps) refl)
@@ -63,15 +65,17 @@ let_says p at targets es b ih jh s ps =
     let l : Lowered = lower_list p s.site s.spot s.scope es in
     let bound : State = record s { frames = Targets targets ∷ s.frames } in
     let rest = jh (record (quiet s l) { scope = let_scoped targets l.sources s.scope; number = false }) ps in
-    let begun : State = planned s (list_plans es ++ (body_plans b ++ ps)) in
-    (rest.0, both_plans p s _ (list_plans es) (body_plans b) ps (body_words (Let at targets es b))
-        (and_then p begun _ _ (word.Let at ∷ map target_word targets ++ word.List ∷ part_words es) (word.EndLet at ∷ body_words b)
-            (and_then p begun _ _ (word.Let at ∷ map target_word targets) (word.List ∷ part_words es)
-                (targets_say p begun [] targets s.frames)
-                (ih (listed bound) (body_plans b ++ ps)))
-            rest.1
-            ∙ ap (λ (t : State). record t { scope = rest.0; plans = ps; number = false })
-                (after_followed s l (lower_body p s.site (spot_after s.spot l) (let_scoped targets l.sources s.scope) b))))
+    let begun : State = planned s (list_plans es ++ (body_plans b ++ ps)) in (
+      rest.0,
+      both_plans p s _ (list_plans es) (body_plans b) ps (body_words (Let at targets es b))
+          (and_then p begun _ _ (word.Let at ∷ map target_word targets ++ word.List ∷ part_words es) (word.EndLet at ∷ body_words b)
+          (and_then p begun _ _ (word.Let at ∷ map target_word targets) (word.List ∷ part_words es)
+          (targets_say p begun [] targets s.frames)
+          (ih (listed bound) (body_plans b ++ ps)))
+          rest.1
+          ∙ ap (λ (t : State). record t { scope = rest.0; plans = ps; number = false })
+          (after_followed s l (lower_body p s.site (spot_after s.spot l) (let_scoped targets l.sources s.scope) b))),
+    )
 
 -- the first values of a loop's names
 pub one_first_says : (p : Program) (x : NameAt) (e : Expr) → Says p e → SaysFirsts p (x ∷ []) (One e)
@@ -84,11 +88,14 @@ more_first_says p x xs e es ih jh s b fs ps =
     let named : Begun = with_names b (x ∷ []) in
     let t : State = record s { number = false; frames = Firsts named ∷ fs } in
     subst (λ (q : List Plan). run p (record s { plans = q; frames = Firsts b ∷ fs }) (first_words (x ∷ xs) (More e es))
-            ≡ record (after s (lower_list p s.site s.spot s.scope (More e es))) { plans = ps; frames = Firsts (with_names b (x ∷ xs)) ∷ fs; number = false })
-        (sym (append_assoc (plans e) (list_plans es) ps))
-        (and_then p _ _ _ (words e) (word.First ∷ first_words xs es) (ih t (list_plans es ++ ps)) (jh (noted false (after s l)) named fs ps)
-            ∙ ap (λ (u : State). record u { plans = ps; frames = Firsts (with_names named xs) ∷ fs; number = false })
-                (after_joined s l (lower_list p s.site (spot_after s.spot l) s.scope es))
-            ∙ ap (λ (ys : List NameAt). record (after s (lower_list p s.site s.spot s.scope (More e es))) {
-                  plans = ps; frames = Firsts (record { at = b.at; outer = b.outer; names = ys; outs = b.outs }) ∷ fs; number = false })
-                (append_assoc b.names (x ∷ []) xs))
+    ≡ record (after s (lower_list p s.site s.spot s.scope (More e es))) { plans = ps; frames = Firsts (with_names b (x ∷ xs)) ∷ fs; number = false })
+    (sym (append_assoc (plans e) (list_plans es) ps))
+    (and_then p _ _ _ (words e) (word.First ∷ first_words xs es) (ih t (list_plans es ++ ps)) (jh (noted false (after s l)) named fs ps)
+    ∙ ap (λ (u : State). record u { plans = ps; frames = Firsts (with_names named xs) ∷ fs; number = false })
+    (after_joined s l (lower_list p s.site (spot_after s.spot l) s.scope es))
+    ∙ ap (λ (ys : List NameAt). record (after s (lower_list p s.site s.spot s.scope (More e es))) {
+      plans = ps;
+      frames = Firsts (record { at = b.at; outer = b.outer; names = ys; outs = b.outs }) ∷ fs;
+      number = false;
+    })
+    (append_assoc b.names (x ∷ []) xs))

@@ -106,12 +106,12 @@ one_merge s at kind ss ms = alike s _ _ _ _ _ _ _ _ _ _ (omega arith) refl refl 
 
 pub merge_step : (s : State) (at cond : ℕ) (ls rs : List Source) (i : ℕ) (a b : Source) → i < length ls → i < length rs
     → with_merges (with_node s at (node.Merge cond) (get_or ls i a ∷ get_or rs i b ∷ [])) (merges s.site at cond (drop (i + 1) ls) (drop (i + 1) rs))
-        ≡ with_merges s (merges s.site at cond (drop i ls) (drop i rs))
+    ≡ with_merges s (merges s.site at cond (drop i ls) (drop i rs))
 merge_step s at cond ls rs i a b h k =
     ap (λ (j : ℕ). with_merges (with_node s at (node.Merge cond) (get_or ls i a ∷ get_or rs i b ∷ [])) (merges s.site at cond (drop j ls) (drop j rs))) (add-one i)
     ∙ one_merge s at (node.Merge cond) (get_or ls i a ∷ get_or rs i b ∷ []) (merges s.site at cond (drop (suc i) ls) (drop (suc i) rs))
     ∙ sym (ap (λ (xs : List Source). with_merges s (merges s.site at cond xs (drop i rs))) (drop-cons ls i a h)
-        ∙ ap (λ (ys : List Source). with_merges s (merges s.site at cond (get_or ls i a ∷ drop (suc i) ls) ys)) (drop-cons rs i b k))
+    ∙ ap (λ (ys : List Source). with_merges s (merges s.site at cond (get_or ls i a ∷ drop (suc i) ls) ys)) (drop-cons rs i b k))
 
 merges_none : (site : Site) (at cond : ℕ) (ls : List Source) → merges site at cond ls [] ≡ []
 merges_none site at cond [] = refl

@@ -30,11 +30,11 @@ bracket_says p e ih s ps = and_then p _ _ _ (words e) (word.Bracket ∷ []) (ih 
 -- a sign before an operand
 prefix_step : (p : Program) (s : State) (at : ℕ) (op : Unary) (e : Expr) → length (lower p s.site s.spot s.scope e).sources ≡ 1
     → prefix (noted (is_numeral e) (after s (lower p s.site s.spot s.scope e))) at op (is_numeral e)
-        ≡ noted (is_numeral e) (after s (prefixed s.site s.spot at op e (lower p s.site s.spot s.scope e)))
+    ≡ noted (is_numeral e) (after s (prefixed s.site s.spot at op e (lower p s.site s.spot s.scope e)))
 prefix_step p s at Not e one = after_operated (noted (is_numeral e) s) (lower p s.site s.spot s.scope e) at (node.Apply1 Not) 1 as_they_are one
 prefix_step p s at Neg (Number u n) one =
     ap (λ (ms : List Made). record (noted true (after s (lower p s.site s.spot s.scope (Number u n)))) { nodes = ms })
-        (last_of_nodes at s.nodes (made s.site u (node.Lit (signed n)) (s.site.trigger ∷ [])))
+    (last_of_nodes at s.nodes (made s.site u (node.Lit (signed n)) (s.site.trigger ∷ [])))
 prefix_step p s at Neg (Named u x) one = after_operated (noted false s) (lower p s.site s.spot s.scope (Named u x)) at (node.Apply1 Neg) 1 as_they_are one
 prefix_step p s at Neg (Bracket e) one = after_operated (noted false s) (lower p s.site s.spot s.scope (Bracket e)) at (node.Apply1 Neg) 1 as_they_are one
 prefix_step p s at Neg (Prefix u op e) one = after_operated (noted false s) (lower p s.site s.spot s.scope (Prefix u op e)) at (node.Apply1 Neg) 1 as_they_are one
@@ -53,8 +53,8 @@ prefix_says p at op e ih c one s ps = and_then p _ _ _ (words e) (word.Prefix at
 pub fetch_says : (p : Program) (at : ℕ) (a : Name) (e : Expr) → Says p e → Counted p e → many p e ≡ 1 → Says p (Fetch at a e)
 fetch_says p at a e ih c one s ps =
     and_then p _ _ _ (words e) (word.Fetch at a ∷ []) (ih (noted false s) ps)
-        (ap (noted false) (after_operated (planned s ps) (lower p s.site s.spot s.scope e) at (node.Fetch a) 1 as_they_are
-            (so_many p s.site s.spot s.scope e c ∙ one)))
+    (ap (noted false) (after_operated (planned s ps) (lower p s.site s.spot s.scope e) at (node.Fetch a) 1 as_they_are
+    (so_many p s.site s.spot s.scope e c ∙ one)))
 
 -- two operands
 two : (s : State) (l r : Lowered) (at : ℕ) (kind : Kind Name) (order : List Source → List Source) → length l.sources ≡ 1 → length r.sources ≡ 1
@@ -67,17 +67,17 @@ pub infix_says : (p : Program) (at : ℕ) (sign : InfixSign) (l r : Expr) → Sa
 infix_says p at sign l r ih c one jh d only s ps =
     let a : Lowered = lower p s.site s.spot s.scope l in
     both_plans p s _ (plans l) (plans r) ps (words (Infix at sign l r))
-        (and_then p _ _ _ (words l ++ word.Left ∷ words r) (word.Infix at sign ∷ [])
-            (and_then p _ _ _ (words l) (word.Left ∷ words r) (ih s (plans r ++ ps)) (jh (noted false (after s a)) ps))
-            (ap (noted false) (two (planned s ps) a (lower p s.site (spot_after s.spot a) s.scope r) at (node.Apply2 (operator_of sign)) (operands sign)
-                (so_many p s.site s.spot s.scope l c ∙ one) (so_many p s.site (spot_after s.spot a) s.scope r d ∙ only))))
+    (and_then p _ _ _ (words l ++ word.Left ∷ words r) (word.Infix at sign ∷ [])
+    (and_then p _ _ _ (words l) (word.Left ∷ words r) (ih s (plans r ++ ps)) (jh (noted false (after s a)) ps))
+    (ap (noted false) (two (planned s ps) a (lower p s.site (spot_after s.spot a) s.scope r) at (node.Apply2 (operator_of sign)) (operands sign)
+    (so_many p s.site s.spot s.scope l c ∙ one) (so_many p s.site (spot_after s.spot a) s.scope r d ∙ only))))
 
 pub store_says : (p : Program) (at : ℕ) (x : Name) (l r : Expr) → Says p l → Counted p l → many p l ≡ 1 → Says p r → Counted p r → many p r ≡ 1
     → Says p (Store at x l r)
 store_says p at x l r ih c one jh d only s ps =
     let a : Lowered = lower p s.site s.spot s.scope l in
     both_plans p s _ (plans l) (plans r) ps (words (Store at x l r))
-        (and_then p _ _ _ (words l ++ word.Index ∷ words r) (word.Store at x ∷ [])
-            (and_then p _ _ _ (words l) (word.Index ∷ words r) (ih (noted false s) (plans r ++ ps)) (jh (noted false (after s a)) ps))
-            (ap (noted false) (two (planned s ps) a (lower p s.site (spot_after s.spot a) s.scope r) at (node.Store x) as_they_are
-                (so_many p s.site s.spot s.scope l c ∙ one) (so_many p s.site (spot_after s.spot a) s.scope r d ∙ only))))
+    (and_then p _ _ _ (words l ++ word.Index ∷ words r) (word.Store at x ∷ [])
+    (and_then p _ _ _ (words l) (word.Index ∷ words r) (ih (noted false s) (plans r ++ ps)) (jh (noted false (after s a)) ps))
+    (ap (noted false) (two (planned s ps) a (lower p s.site (spot_after s.spot a) s.scope r) at (node.Store x) as_they_are
+    (so_many p s.site s.spot s.scope l c ∙ one) (so_many p s.site (spot_after s.spot a) s.scope r d ∙ only))))

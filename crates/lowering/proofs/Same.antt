@@ -10,6 +10,7 @@ same_bytes x y = by (bytes_eq x y) refl (same_name x y) refl
   where
     sides : (bytes_eq x y ≡ true → x ≡ y) × (x ≡ y → bytes_eq x y ≡ true)
     sides = bytes_eq-Decides x y
+
     by : (b : Bool) → bytes_eq x y ≡ b → (c : Bool) → same_name x y ≡ c → bytes_eq x y ≡ same_name x y
     by true e true f = e ∙ sym f
     by false e false f = e ∙ sym f

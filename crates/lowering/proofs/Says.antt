@@ -22,7 +22,7 @@ SaysAll p es = (s : State) (ps : List Plan)
 abbrev pub SaysBody : Program → Body → Type 0
 SaysBody p b = (s : State) (ps : List Plan)
     → (scope : Scope) × (run p (planned s (body_plans b ++ ps)) (body_words b)
-        ≡ record (after s (lower_body p s.site s.spot s.scope b)) { scope = scope; plans = ps; number = false })
+    ≡ record (after s (lower_body p s.site s.spot s.scope b)) { scope = scope; plans = ps; number = false })
 
 abbrev pub with_names : Begun → List NameAt → Begun
 with_names b xs = record { at = b.at; outer = b.outer; names = b.names ++ xs; outs = b.outs }
@@ -30,4 +30,4 @@ with_names b xs = record { at = b.at; outer = b.outer; names = b.names ++ xs; ou
 abbrev pub SaysFirsts : Program → List NameAt → Exprs → Type 0
 SaysFirsts p xs es = (s : State) (b : Begun) (fs : List Frame) (ps : List Plan)
     → run p (record s { plans = list_plans es ++ ps; frames = Firsts b ∷ fs }) (first_words xs es)
-        ≡ record (after s (lower_list p s.site s.spot s.scope es)) { plans = ps; frames = Firsts (with_names b xs) ∷ fs; number = false }
+    ≡ record (after s (lower_list p s.site s.spot s.scope es)) { plans = ps; frames = Firsts (with_names b xs) ∷ fs; number = false }

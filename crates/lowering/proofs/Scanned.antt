@@ -83,10 +83,10 @@ if_scans at q l r f g h qs vs rest places =
     let begun : Scan = scan_of qs ([] ∷ vs ∷ rest) (at ∷ places) in
     let both_arms : List Name = (body_uses l ++ body_uses r) ++ vs in
     back z begun _ (words q ++ word.Then ∷ body_words l ++ word.Else ∷ body_words r) (word.EndIf at ∷ []) refl
-        (back begun _ _ (words q ++ word.Then ∷ body_words l) (word.Else ∷ body_words r) (ap (read word.Else) (h qs (vs ∷ rest) (at ∷ places)))
-            (back _ (scan_of first (both_arms ∷ rest) places) _ (words q) (word.Then ∷ body_words l)
-                (ap (read word.Then) (g second (body_uses r ∷ vs ∷ rest) (at ∷ places)))
-                (f first both_arms rest places ∙ alike _ _ _ _ rest places (simp append_assoc) (simp append_assoc))))
+    (back begun _ _ (words q ++ word.Then ∷ body_words l) (word.Else ∷ body_words r) (ap (read word.Else) (h qs (vs ∷ rest) (at ∷ places)))
+    (back _ (scan_of first (both_arms ∷ rest) places) _ (words q) (word.Then ∷ body_words l)
+    (ap (read word.Then) (g second (body_uses r ∷ vs ∷ rest) (at ∷ places)))
+    (f first both_arms rest places ∙ alike _ _ _ _ rest places (simp append_assoc) (simp append_assoc))))
 
 targets_scan : (targets : List Target) (qs : List Plan) (us vs : List Name) (rest : List (List Name)) (at : List ℕ)
     → scanned (scan_of qs (us ∷ vs ∷ rest) at) (map target_word targets) ≡ scan_of qs (us ∷ without (bound_by targets) vs ∷ rest) at
@@ -100,17 +100,17 @@ let_scans : (at : ℕ) (targets : List Target) (es : Exprs) (b : Body) → Scans
 let_scans at targets es b f g qs rest places =
     let later : List Plan = body_plans b ++ qs in
     back _ (scan_of later ([] ∷ body_uses b ∷ rest) places) _ (word.Let at ∷ map target_word targets ++ word.List ∷ part_words es) (word.EndLet at ∷ body_words b)
-        (ap (read (word.EndLet at)) (g qs rest places))
-        (back _ (scan_of (list_plans es ++ later) (list_uses es ∷ body_uses b ∷ rest) places) _ (word.Let at ∷ map target_word targets) (word.List ∷ part_words es)
-            (of_all (part_words es) (list_plans es) (list_uses es) f later (body_uses b ∷ rest) places)
-            (ap (read (word.Let at)) (targets_scan targets (list_plans es ++ later) (list_uses es) (body_uses b) rest places)
-                ∙ ap (λ (ps : List Plan). scan_of ps (body_uses (Let at targets es b) ∷ rest) places) (sym (append_assoc (list_plans es) (body_plans b) qs))))
+    (ap (read (word.EndLet at)) (g qs rest places))
+    (back _ (scan_of (list_plans es ++ later) (list_uses es ∷ body_uses b ∷ rest) places) _ (word.Let at ∷ map target_word targets) (word.List ∷ part_words es)
+    (of_all (part_words es) (list_plans es) (list_uses es) f later (body_uses b ∷ rest) places)
+    (ap (read (word.Let at)) (targets_scan targets (list_plans es ++ later) (list_uses es) (body_uses b) rest places)
+    ∙ ap (λ (ps : List Plan). scan_of ps (body_uses (Let at targets es b) ∷ rest) places) (sym (append_assoc (list_plans es) (body_plans b) qs))))
 
 do_scans : (es : Exprs) (b : Body) → Scans (part_words es) (list_plans es) (list_uses es) → ScansBody b → ScansBody (Do es b)
 do_scans es b f g qs rest places =
     back _ (scan_of (body_plans b ++ qs) (body_uses b ∷ rest) places) _ (part_words es) (word.Do ∷ body_words b) (g qs rest places)
-        (f (body_plans b ++ qs) (body_uses b) rest places
-            ∙ ap (λ (ps : List Plan). scan_of ps (body_uses (Do es b) ∷ rest) places) (sym (append_assoc (list_plans es) (body_plans b) qs)))
+    (f (body_plans b ++ qs) (body_uses b) rest places
+    ∙ ap (λ (ps : List Plan). scan_of ps (body_uses (Do es b) ∷ rest) places) (sym (append_assoc (list_plans es) (body_plans b) qs)))
 
 -- what a turn uses, its loop's names among them
 abbrev inner_uses : Turn → List Name
@@ -125,18 +125,18 @@ before_scans : (xs : List NameAt) (q : Expr) (body : Body) → Scans (words q) (
 before_scans xs q body f g at qs rest places =
     let later : List Plan = plan at (outside_body body) ∷ (body_plans body ++ qs) in
     back _ (scan_of later (body_uses body ∷ rest) (at ∷ places)) _ (word.TestFirst ∷ words q) (word.While ∷ body_words body)
-        (ap (read word.While) (g qs rest (at ∷ places)))
-        (ap (read word.TestFirst) (f later (body_uses body) rest (at ∷ places))
-            ∙ ap (λ (ps : List Plan). scan_of ps ([] ∷ (uses q ++ body_uses body) ∷ rest) (at ∷ places))
-                (sym (append_assoc (plans q) (plan at (outside_body body) ∷ body_plans body) qs)))
+    (ap (read word.While) (g qs rest (at ∷ places)))
+    (ap (read word.TestFirst) (f later (body_uses body) rest (at ∷ places))
+    ∙ ap (λ (ps : List Plan). scan_of ps ([] ∷ (uses q ++ body_uses body) ∷ rest) (at ∷ places))
+    (sym (append_assoc (plans q) (plan at (outside_body body) ∷ body_plans body) qs)))
 
 after_scans : (xs : List NameAt) (q : Expr) (body : Body) → Scans (words q) (plans q) (uses q) → ScansBody body → ScansTurn (After xs body q)
 after_scans xs q body f g at qs rest places =
     let later : List Plan = plans q ++ qs in
     back _ (scan_of later ([] ∷ uses q ∷ rest) (at ∷ places)) _ (word.BodyFirst ∷ body_words body) (word.Until ∷ words q)
-        (ap (read word.Until) (of_all (words q) (plans q) (uses q) f qs rest (at ∷ places)))
-        (ap (read word.BodyFirst) (g later (uses q ∷ rest) (at ∷ places))
-            ∙ ap (λ (ps : List Plan). scan_of ps ([] ∷ (body_uses body ++ uses q) ∷ rest) (at ∷ places)) (sym (append_assoc (body_plans body) (plans q) qs)))
+    (ap (read word.Until) (of_all (words q) (plans q) (uses q) f qs rest (at ∷ places)))
+    (ap (read word.BodyFirst) (g later (uses q ∷ rest) (at ∷ places))
+    ∙ ap (λ (ps : List Plan). scan_of ps ([] ∷ (body_uses body ++ uses q) ∷ rest) (at ∷ places)) (sym (append_assoc (body_plans body) (plans q) qs)))
 
 abbrev ScansFirsts : List NameAt → Exprs → Type 0
 ScansFirsts xs es = (qs : List Plan) (us vs : List Name) (rest : List (List Name)) (at : List ℕ)
@@ -150,7 +150,7 @@ more_first_scans : (x : NameAt) (xs : List NameAt) (e : Expr) (es : Exprs) → S
     → ScansFirsts (x ∷ xs) (More e es)
 more_first_scans x xs e es f g qs us vs rest at =
     ap (read (word.Start x.at x.name)) (back _ _ _ (words e) (word.First ∷ first_words xs es) (g qs us vs rest at)
-        (f (list_plans es ++ qs) (list_uses es ++ us) (without (bare xs) vs ∷ rest) at))
+    (f (list_plans es ++ qs) (list_uses es ++ us) (without (bare xs) vs ∷ rest) at))
     ∙ ap (λ (ys : List Name). scan_of (plans e ++ (list_plans es ++ qs)) ((uses e ++ (list_uses es ++ us)) ∷ ys ∷ rest) at) (without_one_more x.name (bare xs) vs)
     ∙ alike _ _ _ _ (without (bare (x ∷ xs)) vs ∷ rest) at (sym (append_assoc (plans e) (list_plans es) qs)) (sym (append_assoc (uses e) (list_uses es) us))
 
@@ -163,12 +163,12 @@ loop_scans at bound firsts turn f g same qs vs rest places =
     let later : List Plan = turn_plans at turn ++ qs in
     let xs : List NameAt = names_of turn in
     back z begun _ (word.Loop at ∷ word.Bound bound.at bound.number ∷ first_words xs firsts ++ turn_words turn) (word.EndLoop at bound.number ∷ []) refl
-        (back begun _ _ (word.Loop at ∷ word.Bound bound.at bound.number ∷ first_words xs firsts) (turn_words turn) (g at qs (vs ∷ rest) places)
-            (ap (read (word.Loop at)) (f later [] (inner_uses turn) (vs ∷ rest) (at ∷ places)
-                ∙ ap (λ (ys : List Name). scan_of (list_plans firsts ++ later) (ys ∷ without (bare xs) (inner_uses turn) ∷ vs ∷ rest) (at ∷ places)) (append-nil (list_uses firsts))
-                ∙ ap (λ (ys : List Name). scan_of (list_plans firsts ++ later) (list_uses firsts ∷ ys ∷ vs ∷ rest) (at ∷ places)) (sym same))
-            ∙ ap (λ (ps : List Plan). scan_of (plan at (outside_turn turn) ∷ ps) (((list_uses firsts ++ turn_uses turn) ++ vs) ∷ rest) places)
-                (sym (append_assoc (list_plans firsts) (turn_plans at turn) qs))))
+    (back begun _ _ (word.Loop at ∷ word.Bound bound.at bound.number ∷ first_words xs firsts) (turn_words turn) (g at qs (vs ∷ rest) places)
+    (ap (read (word.Loop at)) (f later [] (inner_uses turn) (vs ∷ rest) (at ∷ places)
+    ∙ ap (λ (ys : List Name). scan_of (list_plans firsts ++ later) (ys ∷ without (bare xs) (inner_uses turn) ∷ vs ∷ rest) (at ∷ places)) (append-nil (list_uses firsts))
+    ∙ ap (λ (ys : List Name). scan_of (list_plans firsts ++ later) (list_uses firsts ∷ ys ∷ vs ∷ rest) (at ∷ places)) (sym same))
+    ∙ ap (λ (ps : List Plan). scan_of (plan at (outside_turn turn) ∷ ps) (((list_uses firsts ++ turn_uses turn) ++ vs) ∷ rest) places)
+    (sym (append_assoc (list_plans firsts) (turn_plans at turn) qs))))
 
 turn_without : (turn : Turn) → turn_uses turn ≡ without (bare (names_of turn)) (inner_uses turn)
 turn_without (Before xs q body) = refl
@@ -231,8 +231,8 @@ function_scans p f qs c =
     let head : Words = word.Function f.name.at f.name.name ∷ map (λ (x : NameAt). word.Parameter x.at x.name) f.params in
     let z : Scan = scan_of (body_plans f.body ++ qs) [] [] in
     back (scan_of qs [] []) (scan_of qs ([] ∷ []) []) z (head ++ result_words f.results ++ word.Body f.body_at ∷ body_words f.body) (word.EndFunction ∷ []) refl
-        (back _ z z (head ++ result_words f.results) (word.Body f.body_at ∷ body_words f.body) (ap (read (word.Body f.body_at)) (scans_body p f.body c qs [] []))
-            (back z z z head (result_words f.results) (results_scan z f.results) (ap (read (word.Function f.name.at f.name.name)) (params_scan z f.params))))
+    (back _ z z (head ++ result_words f.results) (word.Body f.body_at ∷ body_words f.body) (ap (read (word.Body f.body_at)) (scans_body p f.body c qs [] []))
+    (back z z z head (result_words f.results) (results_scan z f.results) (ap (read (word.Function f.name.at f.name.name)) (params_scan z f.params))))
 
 pub program_scans : (p : Program) (items : List Item) → ItemsCounted p items → scanned (scan_of [] [] []) (program_words items) ≡ scan_of (program_plans items) [] []
 program_scans p [] c = refl

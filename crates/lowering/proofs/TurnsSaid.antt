@@ -43,8 +43,8 @@ turn_of p s b turn =
 abbrev pub SaysTurn : Program → Turn → Type 0
 SaysTurn p turn = (s : State) (at : ℕ) (outer : List Source) (outs : List Name) (fs : List Frame) (ps : List Plan)
     → let b : Begun = record { at = at; outer = outer; names = names_of turn; outs = outs } in
-      (t : State) × (run p (record s { plans = turn_plans at turn ++ ps; frames = Firsts b ∷ fs }) (turn_words turn) ≡ t)
-        × ((place bound : ℕ) → noted false (loop_ended t place bound t.frames) ≡ behind s b place bound fs ps (turn_of p s b turn))
+    (t : State) × (run p (record s { plans = turn_plans at turn ++ ps; frames = Firsts b ∷ fs }) (turn_words turn) ≡ t)
+    × ((place bound : ℕ) → noted false (loop_ended t place bound t.frames) ≡ behind s b place bound fs ps (turn_of p s b turn))
 
 -- within a turn
 abbrev pub inside : State → Begun → List Frame → State
@@ -73,13 +73,15 @@ before_says p xs q body ih counted one jh s at outer outs fs ps =
     let e : Lowered = entered_names (arm_site t.site k.next false u.spot) u.spot at t.scope (first_of c.sources) (bare xs) in
     let ms : List Made = merges t.site at k.next a.sources e.sources in
     let cond : Made = made t.site at node.Cond c.sources in
-    let all : Lowered = joined c (chosen t.site k at c.sources a e) in
-    (u, both_plans p (record s { frames = Firsts b ∷ fs }) _ (plans q) (plan at (outside_body body) ∷ body_plans body) ps (turn_words (Before xs q body))
-        (and_then p (record s { plans = plans q ++ (plan at (outside_body body) ∷ (body_plans body ++ ps)); frames = Firsts b ∷ fs }) _ _ (word.TestFirst ∷ words q) (word.While ∷ body_words body)
-            (ih t (plan at (outside_body body) ∷ (body_plans body ++ ps))) first.1),
-     λ place bound. shut_alike s b place bound fs ps _ _ (((((c.nodes) ++ cond ∷ []) ++ a.nodes) ++ e.nodes) ++ ms) all.nodes _ all.sources _ all.blocks
-        (omega (arith, length-append c.blocks (a.blocks ++ []), length-append a.blocks []))
-        (simp append_assoc) refl (simp (append_assoc, append-nil)))
+    let all : Lowered = joined c (chosen t.site k at c.sources a e) in (
+      u,
+      both_plans p (record s { frames = Firsts b ∷ fs }) _ (plans q) (plan at (outside_body body) ∷ body_plans body) ps (turn_words (Before xs q body))
+          (and_then p (record s { plans = plans q ++ (plan at (outside_body body) ∷ (body_plans body ++ ps)); frames = Firsts b ∷ fs }) _ _ (word.TestFirst ∷ words q) (word.While ∷ body_words body)
+          (ih t (plan at (outside_body body) ∷ (body_plans body ++ ps))) first.1),
+      λ place bound. shut_alike s b place bound fs ps _ _ (((((c.nodes) ++ cond ∷ []) ++ a.nodes) ++ e.nodes) ++ ms) all.nodes _ all.sources _ all.blocks
+          (omega (arith, length-append c.blocks (a.blocks ++ []), length-append a.blocks []))
+          (simp append_assoc) refl (simp (append_assoc, append-nil)),
+    )
 
 pub after_says : (p : Program) (xs : List NameAt) (q : Expr) (body : Body) → Says p q → SaysBody p body → SaysTurn p (After xs body q)
 after_says p xs q body ih jh s at outer outs fs ps =
@@ -88,12 +90,17 @@ after_says p xs q body ih jh s at outer outs fs ps =
     let l : Lowered = lower_body p t.site t.spot t.scope body in
     let first = jh t (plans q ++ ps) in
     let u : State = record (after t l) {
-      scope = scoped (bare xs) l.sources (turn_scope (bare xs) outs); sources = []; number = false; frames = Ending l.sources ∷ Turned (turning s b) ∷ fs } in
-    let c : Lowered = lower p u.site u.spot u.scope q in
-    (noted (is_numeral q) (planned (after u c) ps),
-     both_plans p (record s { frames = Firsts b ∷ fs }) _ (body_plans body) (plans q) ps (turn_words (After xs body q))
-        (and_then p (record s { plans = body_plans body ++ (plans q ++ ps); frames = Firsts b ∷ fs }) _ _ (word.BodyFirst ∷ body_words body) (word.Until ∷ words q) first.1 (ih u ps)),
-     λ place bound. shut_alike s b place bound fs ps _ _ _ _ _ _ _ _ (omega (arith, length-append l.blocks c.blocks)) refl refl refl)
+      scope = scoped (bare xs) l.sources (turn_scope (bare xs) outs);
+      sources = [];
+      number = false;
+      frames = Ending l.sources ∷ Turned (turning s b) ∷ fs;
+    } in
+    let c : Lowered = lower p u.site u.spot u.scope q in (
+      noted (is_numeral q) (planned (after u c) ps),
+      both_plans p (record s { frames = Firsts b ∷ fs }) _ (body_plans body) (plans q) ps (turn_words (After xs body q))
+          (and_then p (record s { plans = body_plans body ++ (plans q ++ ps); frames = Firsts b ∷ fs }) _ _ (word.BodyFirst ∷ body_words body) (word.Until ∷ words q) first.1 (ih u ps)),
+      λ place bound. shut_alike s b place bound fs ps _ _ _ _ _ _ _ _ (omega (arith, length-append l.blocks c.blocks)) refl refl refl,
+    )
 
 pub loop_says : (p : Program) (at : ℕ) (bound : NumberAt) (firsts : Exprs) (turn : Turn) → SaysFirsts p (names_of turn) firsts → SaysTurn p turn
     → Says p (Loop at bound firsts turn)
@@ -111,10 +118,10 @@ loop_says p at bound firsts turn ih jh s ps =
     let w : MadeBlock = turn_block at (t.spot.loops + 1) xs outs v in
     let start : State = planned s (plan at outs ∷ (list_plans firsts ++ (turn_plans at turn ++ ps))) in
     both_plans p s _ (plan at outs ∷ list_plans firsts) (turn_plans at turn) ps (words (Loop at bound firsts turn))
-        (and_then p start rest.0 _ (word.Loop at ∷ word.Bound bound.at bound.number ∷ first_words (names_of turn) firsts ++ turn_words turn) (word.EndLoop at bound.number ∷ [])
-            (and_then p start (planned t (turn_plans at turn ++ ps)) _ (word.Loop at ∷ word.Bound bound.at bound.number ∷ first_words (names_of turn) firsts) (turn_words turn)
-                (ih (record s { sources = []; number = false }) begun s.frames (turn_plans at turn ++ ps)) rest.1)
-            (rest.2 at bound.number ∙ alike (record s { plans = ps; number = false }) _ _ _ _ _ _ ((s.nodes ++ f.nodes) ++ m ∷ []) (s.nodes ++ all.nodes)
-                ((s.blocks ++ f.blocks) ++ w ∷ v.blocks) (s.blocks ++ all.blocks)
-                (omega (arith, length-append f.nodes (m ∷ []))) (omega (arith, length-append f.blocks (w ∷ v.blocks)))
-                refl (append_assoc s.nodes f.nodes (m ∷ [])) (append_assoc s.blocks f.blocks (w ∷ v.blocks))))
+    (and_then p start rest.0 _ (word.Loop at ∷ word.Bound bound.at bound.number ∷ first_words (names_of turn) firsts ++ turn_words turn) (word.EndLoop at bound.number ∷ [])
+    (and_then p start (planned t (turn_plans at turn ++ ps)) _ (word.Loop at ∷ word.Bound bound.at bound.number ∷ first_words (names_of turn) firsts) (turn_words turn)
+    (ih (record s { sources = []; number = false }) begun s.frames (turn_plans at turn ++ ps)) rest.1)
+    (rest.2 at bound.number ∙ alike (record s { plans = ps; number = false }) _ _ _ _ _ _ ((s.nodes ++ f.nodes) ++ m ∷ []) (s.nodes ++ all.nodes)
+    ((s.blocks ++ f.blocks) ++ w ∷ v.blocks) (s.blocks ++ all.blocks)
+    (omega (arith, length-append f.nodes (m ∷ []))) (omega (arith, length-append f.blocks (w ∷ v.blocks)))
+    refl (append_assoc s.nodes f.nodes (m ∷ [])) (append_assoc s.blocks f.blocks (w ∷ v.blocks))))

@@ -53,7 +53,7 @@ mutual
 -- the parameters of a function
 params_say : (p : Program) (s : State) (f : NameAt) (params xs : List NameAt) (fs : List Frame)
     → run p (record s { frames = Header f params ∷ fs; number = false }) (map (λ (x : NameAt). word.Parameter x.at x.name) xs)
-        ≡ record s { frames = Header f (params ++ xs) ∷ fs; number = false }
+    ≡ record s { frames = Header f (params ++ xs) ∷ fs; number = false }
 params_say p s f params [] fs = ap (λ (ys : List NameAt). record s { frames = Header f ys ∷ fs; number = false }) (sym (append-nil params))
 params_say p s f params (x ∷ xs) fs = params_say p s f (params ++ x ∷ []) xs fs
     ∙ ap (λ (ys : List NameAt). record s { frames = Header f ys ∷ fs; number = false }) (append_assoc params (x ∷ []) xs)
@@ -68,14 +68,17 @@ function_says p f ps done c =
     let start : State = between (body_plans f.body ++ ps) done in
     let s : State = record start { frames = Header f.name f.params ∷ [] } in
     let t : State = record s {
-      site = turn_site f.name.name; spot = record { next = length f.params; loops = 0 }; scope = function_scope f } in
+      site = turn_site f.name.name;
+      spot = record { next = length f.params; loops = 0 };
+      scope = function_scope f;
+    } in
     let body = says_body p f.body c t ps in
     let head : Words = word.Function f.name.at f.name.name ∷ map (λ (x : NameAt). word.Parameter x.at x.name) f.params in
     and_then p start _ _ (head ++ result_words f.results ++ word.Body f.body_at ∷ body_words f.body) (word.EndFunction ∷ [])
-        (and_then p start s _ (head ++ result_words f.results) (word.Body f.body_at ∷ body_words f.body)
-            (and_then p start s s head (result_words f.results) (params_say p start f.name [] f.params []) (results_say p s f.results))
-            body.1)
-        refl
+    (and_then p start s _ (head ++ result_words f.results) (word.Body f.body_at ∷ body_words f.body)
+    (and_then p start s s head (result_words f.results) (params_say p start f.name [] f.params []) (results_say p s f.results))
+    body.1)
+    refl
 
 pub items_say : (p : Program) (items : List Item) (ps : List Plan) (done : List (Name × MadeBlock)) → ItemsCounted p items
     → run p (between (program_plans items ++ ps) done) (program_words items) ≡ between ps (done ++ named_blocks p items)
@@ -83,6 +86,6 @@ items_say p [] ps done c = ap (between ps) (sym (append-nil done))
 items_say p (Cells x len ∷ items) ps done c = items_say p items ps done c
 items_say p (Defines f ∷ items) ps done c =
     both_plans p (between [] done) _ (body_plans f.body) (program_plans items) ps (program_words (Defines f ∷ items))
-        (and_then p (between (body_plans f.body ++ (program_plans items ++ ps)) done) _ _ (item_words (Defines f)) (program_words items) (function_says p f (program_plans items ++ ps) done c.0)
-            (items_say p items ps (done ++ of_function f.name.name (function_blocks p f)) c.1)
-            ∙ ap (between ps) (append_assoc done (of_function f.name.name (function_blocks p f)) (named_blocks p items)))
+    (and_then p (between (body_plans f.body ++ (program_plans items ++ ps)) done) _ _ (item_words (Defines f)) (program_words items) (function_says p f (program_plans items ++ ps) done c.0)
+    (items_say p items ps (done ++ of_function f.name.name (function_blocks p f)) c.1)
+    ∙ ap (between ps) (append_assoc done (of_function f.name.name (function_blocks p f)) (named_blocks p items)))

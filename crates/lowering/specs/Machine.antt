@@ -203,8 +203,12 @@ first_arm s frame (q ∷ ps) =
     let arms : Arms = arms_of s 1 in
     record (entered (chosen_by s arms q.at) arms true q.at q.names) { plans = ps; frames = frame arms ∷ s.frames }
 
+abbrev pub second_arm_of : State → Arms → List Frame → List Plan → State
+second_arm_of s arms fs [] = record s { frames = fs }
+second_arm_of s arms fs (q ∷ ps) = record (entered s arms false q.at q.names) { plans = ps; frames = Right arms s.sources ∷ fs }
+
 abbrev pub second_arm : State → List Plan → List Frame → State
-second_arm s (q ∷ ps) (Left arms ∷ fs) = record (entered s arms false q.at q.names) { plans = ps; frames = Right arms s.sources ∷ fs }
+second_arm s ps (Left arms ∷ fs) = second_arm_of s arms fs ps
 second_arm s ps fs = popped s fs
 
 -- the merges of the values of both arms
@@ -241,8 +245,16 @@ named_first s x fs = popped s fs
 
 abbrev pub turning : State → Begun → Turning
 turning s b = record {
-  at = b.at; outer = b.outer; names = b.names; outs = b.outs; firsts = s.sources;
-  site = s.site; spot = s.spot; scope = s.scope; nodes = s.nodes; blocks = s.blocks;
+  at = b.at;
+  outer = b.outer;
+  names = b.names;
+  outs = b.outs;
+  firsts = s.sources;
+  site = s.site;
+  spot = s.spot;
+  scope = s.scope;
+  nodes = s.nodes;
+  blocks = s.blocks;
 }
 
 abbrev pub turn_begun : State → List Frame → State
@@ -302,8 +314,16 @@ loop_ended s at bound fs = popped s fs
 -- nothing is open
 abbrev pub between : List Plan → List (Name × MadeBlock) → State
 between ps done = record {
-  site = turn_site []; spot = record { next = 0; loops = 0 }; scope = []; sources = []; number = false;
-  nodes = []; blocks = []; plans = ps; frames = []; done = done;
+  site = turn_site [];
+  spot = record { next = 0; loops = 0 };
+  scope = [];
+  sources = [];
+  number = false;
+  nodes = [];
+  blocks = [];
+  plans = ps;
+  frames = [];
+  done = done;
 }
 
 abbrev pub with_parameter : State → NameAt → List Frame → State

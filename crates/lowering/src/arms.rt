@@ -83,7 +83,13 @@ impl<'a, A: Allocator + Clone> Machine<'a, A> {
 
     /// An arm begins.
     #[tactic(auto, using(crate::proofs::Nodes::all_enters, crate::proofs::Nodes::entered_scope))]
-    fn enter(&mut self, arms: &Arms<'a, A>, side: bool, at: usize, names: &[Name<'a>]) -> Result<(), AllocError>
+    fn enter(
+        &mut self,
+        arms: &Arms<'a, A>,
+        side: bool,
+        at: usize,
+        names: &[Name<'a>],
+    ) -> Result<(), AllocError>
         ensures { OnOk result (self.new ≡ entered self.old arms.now side at names.now) }
     {
         let node = self.spot.next;
@@ -135,7 +141,12 @@ impl<'a, A: Allocator + Clone> Machine<'a, A> {
     pub fn begin_else(&mut self) -> Result<(), AllocError>
         ensures { OnOk result (self.new ≡ second_arm self.old self.old.plans self.old.frames) }
     {
-        if let Some(Frame { open: Open::Left { arms } }) = self.frames.pop_front() {
+        if let Some(
+            Frame {
+                open: Open::Left { arms },
+            },
+        ) = self.frames.pop_front()
+        {
             if let Some(plan) = self.plans.pop_front() {
                 let none = Vec::new(self.alloc.clone()?);
                 let left = mem::replace(&mut self.sources, none);
@@ -148,7 +159,13 @@ impl<'a, A: Allocator + Clone> Machine<'a, A> {
 
     /// A merge of each two values.
     #[tactic(auto, using(crate::proofs::Nodes::merge_step, crate::proofs::Nodes::no_merges, crate::proofs::Nodes::merges_end, crate::proofs::Nodes::merges_length))]
-    pub fn merge(&mut self, cond: u32, at: usize, left: &[Source], right: &[Source]) -> Result<Vec<Source, A>, AllocError>
+    pub fn merge(
+        &mut self,
+        cond: u32,
+        at: usize,
+        left: &[Source],
+        right: &[Source],
+    ) -> Result<Vec<Source, A>, AllocError>
         ensures merged { OnOk result (self.new ≡ with_merges self.old (merges self.old.site at cond left.now right.now)) }
         ensures values { IfOk result (λ v. v.items ≡ inputs_from self.old.spot.next (length (merges self.old.site at cond left.now right.now))) }
     {
@@ -166,7 +183,12 @@ impl<'a, A: Allocator + Clone> Machine<'a, A> {
     pub fn end_if(&mut self, at: usize) -> Result<(), AllocError>
         ensures { OnOk result (self.new ≡ if_ended self.old at self.old.frames) }
     {
-        if let Some(Frame { open: Open::Right { arms, left } }) = self.frames.pop_front() {
+        if let Some(
+            Frame {
+                open: Open::Right { arms, left },
+            },
+        ) = self.frames.pop_front()
+        {
             let none = Vec::new(self.alloc.clone()?);
             let right = mem::replace(&mut self.sources, none);
             self.site = arms.site;

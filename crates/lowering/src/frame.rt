@@ -37,15 +37,13 @@ impl<'a, A: Allocator> Model for Arms<'a, A> {
 
     ghost Value = { Arms };
 
-    ghost view = {
-        λ a. record {
-            site = record { function = a.site.function.now; region = a.site.region; trigger = a.site.trigger };
-            scope = a.scope;
-            outer = a.outer.items;
-            predicate = a.predicate.items;
-            cond = a.cond
-        }
-    };
+    ghost view = { λ a. record {
+      site = record { function = a.site.function.now; region = a.site.region; trigger = a.site.trigger };
+      scope = a.scope;
+      outer = a.outer.items;
+      predicate = a.predicate.items;
+      cond = a.cond;
+    } };
 }
 
 /// A loop whose first values are open: the sources before it, its names so far, and the outside names of its turn.
@@ -82,43 +80,61 @@ impl<'a, A: Allocator> Model for Turning<'a, A> {
 
     ghost Value = { Turning };
 
-    ghost view = {
-        λ t. record {
-            at = t.begun.at;
-            outer = t.begun.outer;
-            names = t.begun.names;
-            outs = t.begun.outs;
-            firsts = t.firsts.items;
-            site = record { function = t.site.function.now; region = t.site.region; trigger = t.site.trigger };
-            spot = record { next = t.spot.next; loops = t.spot.loops };
-            scope = t.scope;
-            nodes = t.nodes.items;
-            blocks = t.blocks.items
-        }
-    };
+    ghost view = { λ t. record {
+      at = t.begun.at;
+      outer = t.begun.outer;
+      names = t.begun.names;
+      outs = t.begun.outs;
+      firsts = t.firsts.items;
+      site = record { function = t.site.function.now; region = t.site.region; trigger = t.site.trigger };
+      spot = record { next = t.spot.next; loops = t.spot.loops };
+      scope = t.scope;
+      nodes = t.nodes.items;
+      blocks = t.blocks.items;
+    } };
 }
 
 /// What is open.
 #[derive(Drop)]
 pub enum Open<'a, A: Allocator> {
     /// A function: its name, and its parameters so far.
-    Header { function: NameAt<'a>, params: Vec<NameAt<'a>, A> },
+    Header {
+        function: NameAt<'a>,
+        params: Vec<NameAt<'a>, A>,
+    },
     /// A list: the sources before it.
-    Listed { outer: Vec<Source, A> },
+    Listed {
+        outer: Vec<Source, A>,
+    },
     /// A `let`: its targets so far.
-    Targets { targets: Vec<Target<'a>, A> },
+    Targets {
+        targets: Vec<Target<'a>, A>,
+    },
     /// The first arm of a conditional.
-    Left { arms: Arms<'a, A> },
+    Left {
+        arms: Arms<'a, A>,
+    },
     /// The second arm, with the values of the first.
-    Right { arms: Arms<'a, A>, left: Vec<Source, A> },
+    Right {
+        arms: Arms<'a, A>,
+        left: Vec<Source, A>,
+    },
     /// The first values of a loop.
-    Firsts { begun: Begun<'a, A> },
+    Firsts {
+        begun: Begun<'a, A>,
+    },
     /// The turn of a loop.
-    Turned { turn: Turning<'a, A> },
+    Turned {
+        turn: Turning<'a, A>,
+    },
     /// Within a turn: the arm behind a test.
-    Looping { arms: Arms<'a, A> },
+    Looping {
+        arms: Arms<'a, A>,
+    },
     /// Within a turn: the test behind a body, with the body's values.
-    Ending { values: Vec<Source, A> },
+    Ending {
+        values: Vec<Source, A>,
+    },
 }
 
 /// A part that is open.

@@ -6,12 +6,14 @@ ghost use Rattle.lowering.specs.Lowers.{MachineLowers, BlocksAreMade, BlocksOfGr
 
 mod arms;
 mod frame;
+mod functions;
 mod lists;
 mod machine;
 mod made;
 mod names;
 mod plan;
 mod scope;
+mod turns;
 mod values;
 
 /// Going over the words of a program that keeps the rules makes just the blocks that the definition of lowering says of its tree.

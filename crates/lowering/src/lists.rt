@@ -30,10 +30,21 @@ impl<'a, A: Allocator + Clone> Machine<'a, A> {
     }
 
     /// A call of a block with so many results.
-    pub fn call(&mut self, at: usize, strict: bool, block: Name<'a>, results: u64) -> Result<(), AllocError>
+    pub fn call(
+        &mut self,
+        at: usize,
+        strict: bool,
+        block: Name<'a>,
+        results: u64,
+    ) -> Result<(), AllocError>
         ensures { OnOk result (self.new ≡ called self.old at strict block.entry results self.old.frames) }
     {
-        if let Some(Frame { open: Open::Listed { outer } }) = self.frames.pop_front() {
+        if let Some(
+            Frame {
+                open: Open::Listed { outer },
+            },
+        ) = self.frames.pop_front()
+        {
             let arguments = mem::replace(&mut self.sources, outer);
             let kind = if strict {
                 Kind::StrictCall { block }
@@ -49,7 +60,12 @@ impl<'a, A: Allocator + Clone> Machine<'a, A> {
     pub fn drop_list(&mut self)
         ensures { self.new ≡ dropped self.old self.old.frames }
     {
-        if let Some(Frame { open: Open::Listed { outer } }) = self.frames.pop_front() {
+        if let Some(
+            Frame {
+                open: Open::Listed { outer },
+            },
+        ) = self.frames.pop_front()
+        {
             self.sources = outer;
         }
     }
@@ -58,7 +74,12 @@ impl<'a, A: Allocator + Clone> Machine<'a, A> {
     pub fn give_list(&mut self) -> Result<(), AllocError>
         ensures { OnOk result (self.new ≡ given self.old self.old.frames) }
     {
-        if let Some(Frame { open: Open::Listed { mut outer } }) = self.frames.pop_front() {
+        if let Some(
+            Frame {
+                open: Open::Listed { mut outer },
+            },
+        ) = self.frames.pop_front()
+        {
             outer.append(&mut self.sources)?;
             self.sources = outer;
         }
@@ -75,7 +96,12 @@ impl<'a, A: Allocator + Clone> Machine<'a, A> {
     pub fn add_target(&mut self, target: Target<'a>) -> Result<(), AllocError>
         ensures { OnOk result (self.new ≡ targeted self.old target.entry self.old.frames) }
     {
-        if let Some(Frame { open: Open::Targets { mut targets } }) = self.frames.pop_front() {
+        if let Some(
+            Frame {
+                open: Open::Targets { mut targets },
+            },
+        ) = self.frames.pop_front()
+        {
             targets.push(target)?;
             self.begin(Open::Targets { targets })?;
         }
@@ -85,9 +111,19 @@ impl<'a, A: Allocator + Clone> Machine<'a, A> {
     pub fn end_let(&mut self) -> Result<(), AllocError>
         ensures { OnOk result (self.new ≡ let_ended self.old self.old.frames) }
     {
-        if let Some(Frame { open: Open::Listed { outer } }) = self.frames.pop_front() {
+        if let Some(
+            Frame {
+                open: Open::Listed { outer },
+            },
+        ) = self.frames.pop_front()
+        {
             let values = mem::replace(&mut self.sources, outer);
-            if let Some(Frame { open: Open::Targets { targets } }) = self.frames.pop_front() {
+            if let Some(
+                Frame {
+                    open: Open::Targets { targets },
+                },
+            ) = self.frames.pop_front()
+            {
                 self.scope.bind_targets(&targets, &values)?;
             }
         }

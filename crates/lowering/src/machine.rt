@@ -34,20 +34,18 @@ impl<'a, A: Allocator> Model for Machine<'a, A> {
 
     ghost Value = { State };
 
-    ghost view = {
-        λ m. record {
-            site = record { function = m.site.function.now; region = m.site.region; trigger = m.site.trigger };
-            spot = record { next = m.spot.next; loops = m.spot.loops };
-            scope = m.scope;
-            sources = m.sources.items;
-            number = m.number;
-            nodes = m.nodes.items;
-            blocks = m.blocks.items;
-            plans = m.plans.items;
-            frames = m.frames.items;
-            done = m.done.items
-        }
-    };
+    ghost view = { λ m. record {
+      site = record { function = m.site.function.now; region = m.site.region; trigger = m.site.trigger };
+      spot = record { next = m.spot.next; loops = m.spot.loops };
+      scope = m.scope;
+      sources = m.sources.items;
+      number = m.number;
+      nodes = m.nodes.items;
+      blocks = m.blocks.items;
+      plans = m.plans.items;
+      frames = m.frames.items;
+      done = m.done.items;
+    } };
 }
 
 /// The next number of a node. A block whose nodes 32 bits cannot count is beyond all memory.
@@ -62,7 +60,12 @@ pub fn next_number(number: u32) -> Result<u32, AllocError>
 
 impl<'a, A: Allocator + Clone> Machine<'a, A> {
     /// One node more, without its values.
-    pub fn put(&mut self, at: usize, kind: Kind<Name<'a>>, sources: Vec<Source, A>) -> Result<(), AllocError>
+    pub fn put(
+        &mut self,
+        at: usize,
+        kind: Kind<Name<'a>>,
+        sources: Vec<Source, A>,
+    ) -> Result<(), AllocError>
         ensures { OnOk result (self.new ≡ with_node self.old at kind.entry sources.items) }
     {
         let next = next_number(self.spot.next)?;
@@ -89,7 +92,12 @@ impl<'a, A: Allocator + Clone> Machine<'a, A> {
 
     /// One node more that has one value.
     #[tactic(auto, using(crate::proofs::Nodes::one_more))]
-    pub fn put_one(&mut self, at: usize, kind: Kind<Name<'a>>, sources: Vec<Source, A>) -> Result<(), AllocError>
+    pub fn put_one(
+        &mut self,
+        at: usize,
+        kind: Kind<Name<'a>>,
+        sources: Vec<Source, A>,
+    ) -> Result<(), AllocError>
         ensures { OnOk result (self.new ≡ after self.old (one_node self.old.site self.old.spot at kind.entry sources.items 1)) }
     {
         let node = self.spot.next;

@@ -69,7 +69,11 @@ impl<'a, A: Allocator> Scope<'a, A> {
     }
 
     /// From now on each target of a `let` stands for its value.
-    pub fn bind_targets(&mut self, targets: &[Target<'a>], sources: &[Source]) -> Result<(), AllocError>
+    pub fn bind_targets(
+        &mut self,
+        targets: &[Target<'a>],
+        sources: &[Source],
+    ) -> Result<(), AllocError>
         ensures { OnOk result (self.new ≡ let_scoped targets.now sources.now self.old) }
     {
         let mut i = targets.len().min(sources.len());

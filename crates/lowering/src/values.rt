@@ -30,7 +30,11 @@ pub fn ports<A: Allocator>(alloc: A, node: u32, count: u64) -> Result<Vec<Source
 
 /// The first ports of so many nodes, one after another.
 #[tactic(auto, using(crate::proofs::Nodes::inputs_more))]
-pub fn inputs<A: Allocator>(alloc: A, first: u32, count: usize) -> Result<Vec<Source, A>, AllocError>
+pub fn inputs<A: Allocator>(
+    alloc: A,
+    first: u32,
+    count: usize,
+) -> Result<Vec<Source, A>, AllocError>
     ensures { IfOk result (λ v. v.items ≡ inputs_from first count) }
 {
     let mut sources = Vec::new(alloc);
@@ -142,7 +146,13 @@ impl<'a, A: Allocator + Clone> Machine<'a, A> {
 
     /// One node more, which has so many values.
     #[tactic(auto, using(crate::proofs::Nodes::one_more))]
-    pub fn put_all(&mut self, at: usize, kind: Kind<Name<'a>>, sources: Vec<Source, A>, count: u64) -> Result<(), AllocError>
+    pub fn put_all(
+        &mut self,
+        at: usize,
+        kind: Kind<Name<'a>>,
+        sources: Vec<Source, A>,
+        count: u64,
+    ) -> Result<(), AllocError>
         ensures { OnOk result (self.new ≡ after self.old (one_node self.old.site self.old.spot at kind.entry sources.items count)) }
     {
         let values = ports(self.alloc.clone()?, self.spot.next, count)?;
