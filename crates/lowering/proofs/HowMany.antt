@@ -34,7 +34,7 @@ one_prefixed site spot at Neg (Call u strict f es) l = refl
 one_prefixed site spot at Neg (If u p a b) l = refl
 one_prefixed site spot at Neg (Loop u bound firsts turn) l = refl
 
-so_many_bare : (xs : List NameAt) → length (bare xs) ≡ length xs
+pub so_many_bare : (xs : List NameAt) → length (bare xs) ≡ length xs
 so_many_bare [] = refl
 so_many_bare (x ∷ xs) = ap suc (so_many_bare xs)
 

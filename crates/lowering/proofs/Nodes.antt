@@ -1,12 +1,12 @@
 -- One node more.
-use Rattle.std.proofs.Common.{min, ◌≡◌, ℕ, zero, suc, ◌+◌, ◌<◌, ◌≤◌, ◌⊎◌, inl, inr, Option, None, Some, get_or, drop, take, map, add-one, List, [], ◌∷◌, ◌++◌, length, refl, sym, ◌∙◌, ap, arith, append-nil, append_assoc, add-zero}
+use Rattle.std.proofs.Common.{min, ◌≡◌, ℕ, zero, suc, ◌+◌, ◌<◌, ◌≤◌, ◌⊎◌, inl, inr, Option, None, Some, get_or, drop, take, map, add-one, List, [], ◌∷◌, ◌++◌, length, refl, sym, ◌∙◌, ap, arith, length-append, append-nil, append_assoc, add-zero}
 use Rattle.std.proofs.Math.Seq.{drop-cons}
 use Rattle.std.proofs.lemmas.List.{drop_all}
 use Rattle.semantics.specs.declared.graph.Source.{Source}
 use Rattle.semantics.specs.declared.graph.Kind.{Kind}
 use Rattle.semantics.specs.declared.graph.Kind.TheVariants as node
 use Rattle.source.specs.Tree.{Name, NameAt, Target, Bind, Drop}
-use Rattle.source.specs.Lowered.{Made, Site, Spot, made, ports_from, inputs_from, port, literal, only, Scope, scoped, let_scoped, merges, enters, entered_names, or_predicate, source_in}
+use Rattle.source.specs.Lowered.{Made, Site, Spot, made, ports_from, inputs_from, port, literal, only, Scope, scoped, let_scoped, merges, enters, entered_names, or_predicate, source_in, turn_scope}
 use Rattle.lowering.specs.Machine.{State, after, one_node, with_node, with_sources, with_all, with_merges, entered_nodes}
 use Rattle.lowering.proofs.Algebra.{alike}
 
@@ -149,3 +149,7 @@ entered_scope n f predicate (x ∷ xs) = ap (λ (k : ℕ). scoped (x ∷ xs) (in
     mapped : (f : Name → Source) (xs : List Name) → length (map f xs) ≡ length xs
     mapped f [] = refl
     mapped f (x ∷ xs) = ap suc (mapped f xs)
+
+-- the inputs of a turn's block
+pub turn_inputs : (xs outs : List Name) → scoped (xs ++ outs) (inputs_from 0 (length (xs ++ outs))) [] ≡ turn_scope xs outs
+turn_inputs xs outs = ap (λ (n : ℕ). scoped (xs ++ outs) (inputs_from 0 n) []) (length-append xs outs)

@@ -58,7 +58,7 @@ impl<'a, A: Allocator + Clone> Machine<'a, A> {
 
     /// An `enter` of each source.
     #[tactic(auto, using(crate::proofs::Nodes::enter_step, crate::proofs::Nodes::no_merges))]
-    fn put_enters(&mut self, at: usize, sources: &[Source]) -> Result<(), AllocError>
+    pub fn put_enters(&mut self, at: usize, sources: &[Source]) -> Result<(), AllocError>
         ensures { OnOk result (self.new ≡ with_merges self.old (entered_nodes self.old.site at sources.now)) }
     {
         for i in 0..sources.len() {
@@ -68,7 +68,7 @@ impl<'a, A: Allocator + Clone> Machine<'a, A> {
     }
 
     /// What an arm takes from outside: what each name stands for, or the predicate where there is no name.
-    fn taken(&self, arms: &Arms<'a, A>, names: &[Name<'a>]) -> Result<Vec<Source, A>, AllocError>
+    pub fn taken(&self, arms: &Arms<'a, A>, names: &[Name<'a>]) -> Result<Vec<Source, A>, AllocError>
         ensures { IfOk result (λ v. v.items ≡ or_predicate (first_of arms.now.predicate) (map (source_in arms.now.scope) names.now)) }
     {
         if names.is_empty() {
