@@ -3,6 +3,7 @@ pub mod Counts
 pub mod Machine
 pub mod Blocks
 pub mod Scan
+pub mod Results
 pub mod Lowers
 pub mod Targets
 pub mod Opened

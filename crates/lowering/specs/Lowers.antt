@@ -3,9 +3,10 @@ use Rattle.std.specs.Prelude.{◌≡◌, ℕ, List, [], map, Ok}
 use Rattle.source.specs.Tree.{Name, Program}
 use Rattle.source.specs.Words.{program_words}
 use Rattle.source.specs.Fits.{FitsProgram}
-use Rattle.source.specs.Rules.{checked}
-use Rattle.source.specs.Lowered.{MadeBlock, made_blocks, blocks_of, graph_block}
+use Rattle.source.specs.Rules.{checked, function_in}
+use Rattle.source.specs.Lowered.{MadeBlock, results_of, made_blocks, blocks_of, graph_block}
 use Rattle.lowering.specs.Machine.{run, between}
+use Rattle.lowering.specs.Results.{told_results}
 use Rattle.lowering.specs.Blocks.{named_blocks}
 use Rattle.lowering.specs.Scan.{told_plans}
 
@@ -19,3 +20,7 @@ BlocksAreMade = (p : Program) → map (λ (b : Name × MadeBlock). b.1) (named_b
 
 abbrev pub BlocksOfGraph : Type 0
 BlocksOfGraph = (p : Program) → map (λ (b : Name × MadeBlock). graph_block b.0 b.1) (named_blocks p p) ≡ blocks_of p p
+
+-- what the words tell of a function is how many results it has
+abbrev pub ResultsAreTold : Type 0
+ResultsAreTold = (p : Program) (f : Name) → told_results (program_words p) f ≡ results_of (function_in p f)

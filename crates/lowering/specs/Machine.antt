@@ -291,10 +291,15 @@ turn_ended s at bound t fs = record s {
 }
 
 -- the arm of a turn that goes on ends; the other one gives the values as they came
+abbrev pub passing : State → Arms → Site
+passing s arms = arm_site arms.site arms.cond false s.spot
+
+abbrev pub passed : State → Arms → ℕ → List NameAt → Lowered
+passed s arms at names = entered_names (passing s arms) s.spot at arms.scope (first_of arms.predicate) (bare names)
+
 abbrev pub came_back : State → Arms → ℕ → List NameAt → State
 came_back s arms at names =
-    let here : Site = arm_site arms.site arms.cond false s.spot in
-    let l : Lowered = entered_names here s.spot at arms.scope (first_of arms.predicate) (bare names) in
+    let l : Lowered = passed s arms at names in
     with_outer arms.predicate (merged (record s { spot = spot_after s.spot l; nodes = s.nodes ++ l.nodes }) arms at s.sources l.sources)
 
 abbrev pub arm_closed : State → ℕ → ℕ → Arms → List Frame → State

@@ -68,7 +68,11 @@ impl<'a, A: Allocator + Clone> Machine<'a, A> {
     }
 
     /// What an arm takes from outside: what each name stands for, or the predicate where there is no name.
-    pub fn taken(&self, arms: &Arms<'a, A>, names: &[Name<'a>]) -> Result<Vec<Source, A>, AllocError>
+    pub fn taken(
+        &self,
+        arms: &Arms<'a, A>,
+        names: &[Name<'a>],
+    ) -> Result<Vec<Source, A>, AllocError>
         ensures { IfOk result (λ v. v.items ≡ or_predicate (first_of arms.now.predicate) (map (source_in arms.now.scope) names.now)) }
     {
         if names.is_empty() {

@@ -2,7 +2,7 @@
 //! from outside, and once from its beginning, to make the blocks.
 #![tactic(auto)]
 
-ghost use Rattle.lowering.specs.Lowers.{MachineLowers, BlocksAreMade, BlocksOfGraph};
+ghost use Rattle.lowering.specs.Lowers.{MachineLowers, BlocksAreMade, BlocksOfGraph, ResultsAreTold};
 
 mod arms;
 mod frame;
@@ -21,4 +21,5 @@ pub fn words_are_lowered()
     ensures machine { MachineLowers }
     ensures made { BlocksAreMade }
     ensures graph { BlocksOfGraph }
+    ensures results { ResultsAreTold }
 {}

@@ -3,7 +3,7 @@
 ghost use Rattle.std.specs.Prelude.{◌≡◌, ◌+◌, ◌∷◌, ◌++◌, [], OnOk, IfOk, length, map};
 ghost use Rattle.source.specs.Lowered.{scoped, turn_scope};
 ghost use Rattle.source.specs.Outside.{bare};
-ghost use Rattle.lowering.specs.Machine.{loop_begun, named_first, turning, turn_begun, tested, came_back};
+ghost use Rattle.lowering.specs.Machine.{loop_begun, named_first, turning, turn_begun, tested, came_back, passing, passed, with_all};
 
 use crate::frame::{Arms, Begun, Frame, Open, Site, Spot, Turning};
 use crate::machine::Machine;
@@ -16,7 +16,10 @@ use std::alloc::{AllocError, Allocator};
 use std::mem;
 
 /// Names without their places.
-fn bare_names<'a, A: Allocator>(alloc: A, names: &[NameAt<'a>]) -> Result<Vec<Name<'a>, A>, AllocError>
+pub fn bare_names<'a, A: Allocator>(
+    alloc: A,
+    names: &[NameAt<'a>],
+) -> Result<Vec<Name<'a>, A>, AllocError>
     ensures { IfOk result (λ v. v.items ≡ bare names.now) }
 {
     let mut all = Vec::new(alloc);
@@ -27,7 +30,11 @@ fn bare_names<'a, A: Allocator>(alloc: A, names: &[NameAt<'a>]) -> Result<Vec<Na
 }
 
 /// The names that a loop carries: its own, and then the outside names of its turn.
-fn carried<'a, A: Allocator>(alloc: A, names: &[NameAt<'a>], outs: &[Name<'a>]) -> Result<Vec<Name<'a>, A>, AllocError>
+fn carried<'a, A: Allocator>(
+    alloc: A,
+    names: &[NameAt<'a>],
+    outs: &[Name<'a>],
+) -> Result<Vec<Name<'a>, A>, AllocError>
     ensures { IfOk result (λ v. v.items ≡ bare names.now ++ outs.now) }
 {
     let mut all = bare_names(alloc, names)?;
@@ -38,7 +45,7 @@ fn carried<'a, A: Allocator>(alloc: A, names: &[NameAt<'a>], outs: &[Name<'a>]) 
 }
 
 /// A number of nodes. What 32 bits cannot count is beyond all memory.
-fn number_of(count: usize) -> Result<u32, AllocError>
+pub fn number_of(count: usize) -> Result<u32, AllocError>
     ensures { IfOk result (λ n. n ≡ count) }
 {
     match u32::try_from(count) {
@@ -70,7 +77,10 @@ fn width<'a, A: Allocator>(begun: &Begun<'a, A>) -> Result<u32, AllocError>
 
 /// What names stand for when a turn begins: inputs of its block.
 #[tactic(auto, using(crate::proofs::Nodes::turn_inputs))]
-fn first_scope<'a, A: Allocator + Clone>(alloc: A, begun: &Begun<'a, A>) -> Result<Scope<'a, A>, AllocError>
+fn first_scope<'a, A: Allocator + Clone>(
+    alloc: A,
+    begun: &Begun<'a, A>,
+) -> Result<Scope<'a, A>, AllocError>
     ensures { IfOk result (λ s. s ≡ turn_scope (bare begun.now.names) begun.now.outs) }
 {
     let names = carried(alloc.clone()?, &begun.names, &begun.outs)?;
@@ -81,7 +91,11 @@ fn first_scope<'a, A: Allocator + Clone>(alloc: A, begun: &Begun<'a, A>) -> Resu
 }
 
 /// What names stand for in a test behind a body with these values.
-fn test_scope<'a, A: Allocator + Clone>(alloc: A, begun: &Begun<'a, A>, values: &[Source]) -> Result<Scope<'a, A>, AllocError>
+fn test_scope<'a, A: Allocator + Clone>(
+    alloc: A,
+    begun: &Begun<'a, A>,
+    values: &[Source],
+) -> Result<Scope<'a, A>, AllocError>
     ensures { IfOk result (λ s. s ≡ scoped (bare begun.now.names) values.now (turn_scope (bare begun.now.names) begun.now.outs)) }
 {
     let names = bare_names(alloc.clone()?, &begun.names)?;
@@ -134,7 +148,11 @@ impl<'a, A: Allocator + Clone> Machine<'a, A> {
     }
 
     /// What stands around a turn is kept, and nothing is made of the turn yet.
-    fn park(&mut self, begun: Begun<'a, A>, scope: Scope<'a, A>) -> Result<Turning<'a, A>, AllocError>
+    fn park(
+        &mut self,
+        begun: Begun<'a, A>,
+        scope: Scope<'a, A>,
+    ) -> Result<Turning<'a, A>, AllocError>
         ensures parked { OnOk result (self.new ≡ record self.old { scope = scope.entry; sources = []; nodes = []; blocks = [] }) }
         ensures kept { IfOk result (λ t. t ≡ turning self.old begun.entry) }
     {
@@ -156,7 +174,12 @@ impl<'a, A: Allocator + Clone> Machine<'a, A> {
     pub fn begin_turn(&mut self) -> Result<(), AllocError>
         ensures { OnOk result (self.new ≡ turn_begun self.old self.old.frames) }
     {
-        if let Some(Frame { open: Open::Firsts { begun } }) = self.frames.pop_front() {
+        if let Some(
+            Frame {
+                open: Open::Firsts { begun },
+            },
+        ) = self.frames.pop_front()
+        {
             let next = width(&begun)?;
             let loops = next_loop(self.spot.loops)?;
             let scope = first_scope(self.alloc.clone()?, &begun)?;
@@ -176,7 +199,12 @@ impl<'a, A: Allocator + Clone> Machine<'a, A> {
     pub fn begin_test(&mut self) -> Result<(), AllocError>
         ensures { OnOk result (self.new ≡ tested self.old self.old.frames) }
     {
-        if let Some(Frame { open: Open::Turned { turn } }) = self.frames.pop_front() {
+        if let Some(
+            Frame {
+                open: Open::Turned { turn },
+            },
+        ) = self.frames.pop_front()
+        {
             let none = Vec::new(self.alloc.clone()?);
             let values = mem::replace(&mut self.sources, none);
             let scope = test_scope(self.alloc.clone()?, &turn.begun, &values)?;
@@ -187,13 +215,17 @@ impl<'a, A: Allocator + Clone> Machine<'a, A> {
         Ok(())
     }
 
-    /// The arm of a turn that goes on ends. The other arm gives the loop's names as they came.
+    /// The other arm of a test: an `enter` of each name of the loop.
     #[tactic(auto, using(crate::proofs::Nodes::all_enters))]
-    fn come_back(&mut self, arms: Arms<'a, A>, at: usize, names: &[NameAt<'a>]) -> Result<(), AllocError>
-        ensures { OnOk result (self.new ≡ came_back self.old arms.entry at names.now) }
+    fn pass(
+        &mut self,
+        arms: &Arms<'a, A>,
+        at: usize,
+        names: &[NameAt<'a>],
+    ) -> Result<Vec<Source, A>, AllocError>
+        ensures entered { OnOk result (self.new ≡ with_all (record self.old { site = passing self.old arms.now }) (passed self.old arms.now at names.now)) }
+        ensures values { IfOk result (λ v. v.items ≡ (passed self.old arms.now at names.now).sources) }
     {
-        let none = Vec::new(self.alloc.clone()?);
-        let left = mem::replace(&mut self.sources, none);
         let node = self.spot.next;
         self.site = Site {
             function: arms.site.function,
@@ -204,9 +236,23 @@ impl<'a, A: Allocator + Clone> Machine<'a, A> {
             trigger: Source { node, port: 0 },
         };
         let own = bare_names(self.alloc.clone()?, names)?;
-        let taken = self.taken(&arms, &own)?;
+        let taken = self.taken(arms, &own)?;
         self.put_enters(at, &taken)?;
-        let right = inputs(self.alloc.clone()?, node, taken.len())?;
+        inputs(self.alloc.clone()?, node, taken.len())
+    }
+
+    /// The arm of a turn that goes on ends. The other arm gives the loop's names as they came.
+    pub fn come_back(
+        &mut self,
+        arms: Arms<'a, A>,
+        at: usize,
+        names: &[NameAt<'a>],
+    ) -> Result<(), AllocError>
+        ensures { OnOk result (self.new ≡ came_back self.old arms.entry at names.now) }
+    {
+        let right = self.pass(&arms, at, names)?;
+        let none = Vec::new(self.alloc.clone()?);
+        let left = mem::replace(&mut self.sources, none);
         self.site = arms.site;
         let values = self.merge(arms.cond, at, &left, &right)?;
         let _inner = mem::replace(&mut self.scope, arms.scope);
