@@ -8,6 +8,7 @@ mod arms;
 mod frame;
 mod functions;
 mod lists;
+mod loops;
 mod machine;
 mod made;
 mod names;

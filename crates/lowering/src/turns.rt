@@ -55,7 +55,7 @@ pub fn number_of(count: usize) -> Result<u32, AllocError>
 }
 
 /// One loop more.
-fn next_loop(loops: usize) -> Result<usize, AllocError>
+pub fn next_loop(loops: usize) -> Result<usize, AllocError>
     ensures { IfOk result (λ n. n ≡ loops + 1) }
 {
     match loops.checked_add(1) {
@@ -66,7 +66,7 @@ fn next_loop(loops: usize) -> Result<usize, AllocError>
 
 /// How many values a loop carries.
 #[tactic(auto, using(crate::proofs::HowMany::so_many_bare))]
-fn width<'a, A: Allocator>(begun: &Begun<'a, A>) -> Result<u32, AllocError>
+pub fn width<'a, A: Allocator>(begun: &Begun<'a, A>) -> Result<u32, AllocError>
     ensures { IfOk result (λ n. n ≡ length (bare begun.now.names) + length begun.now.outs) }
 {
     match begun.names.len().checked_add(begun.outs.len()) {
