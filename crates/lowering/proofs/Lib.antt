@@ -1,0 +1,14 @@
+pub mod Algebra
+pub mod HowMany
+pub mod Says
+pub mod Operators
+pub mod ListsSaid
+pub mod ArmsSaid
+pub mod TurnsSaid
+pub mod Whole
+pub mod Scanned
+pub mod Checked
+pub mod ResultsTold
+pub mod Lowers
+pub mod Same
+pub mod Nodes

@@ -1,0 +1,9 @@
+pub mod Plans
+pub mod Counts
+pub mod Machine
+pub mod Blocks
+pub mod Scan
+pub mod Results
+pub mod Lowers
+pub mod Targets
+pub mod Opened

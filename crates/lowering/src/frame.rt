@@ -1,0 +1,153 @@
+//! What is open while words are gone over.
+
+use crate::made::{Made, MadeBlock};
+use crate::names::{NameAt, Target};
+use crate::scope::Scope;
+use semantics::graph::{Region, Source};
+use std::alloc::Allocator;
+use std::marker::Model;
+
+/// Where a part stands: its function, its region, and the first input of the region, for which literals wait.
+#[derive(Clone, Copy)]
+pub struct Site<'a> {
+    pub function: &'a [u8],
+    pub region: Region,
+    pub trigger: Source,
+}
+
+/// The number of the next node of the block, and how many loops of the function were met.
+#[derive(Clone, Copy)]
+pub struct Spot {
+    pub next: u32,
+    pub loops: usize,
+}
+
+/// An open conditional: where it stands, the sources before its predicate, the predicate's, and its node.
+#[derive(Drop)]
+pub struct Arms<'a, A: Allocator> {
+    pub site: Site<'a>,
+    pub scope: Scope<'a, A>,
+    pub outer: Vec<Source, A>,
+    pub predicate: Vec<Source, A>,
+    pub cond: u32,
+}
+
+impl<'a, A: Allocator> Model for Arms<'a, A> {
+    ghost use Rattle.lowering.specs.Machine.{Arms};
+
+    ghost Value = { Arms };
+
+    ghost view = { λ a. record {
+      site = record { function = a.site.function.now; region = a.site.region; trigger = a.site.trigger };
+      scope = a.scope;
+      outer = a.outer.items;
+      predicate = a.predicate.items;
+      cond = a.cond;
+    } };
+}
+
+/// A loop whose first values are open: the sources before it, its names so far, and the outside names of its turn.
+#[derive(Drop)]
+pub struct Begun<'a, A: Allocator> {
+    pub at: usize,
+    pub outer: Vec<Source, A>,
+    pub names: Vec<NameAt<'a>, A>,
+    pub outs: Vec<graph::Name<'a>, A>,
+}
+
+impl<'a, A: Allocator> Model for Begun<'a, A> {
+    ghost use Rattle.lowering.specs.Machine.{Begun};
+
+    ghost Value = { Begun };
+
+    ghost view = { λ b. record { at = b.at; outer = b.outer.items; names = b.names.items; outs = b.outs.items } };
+}
+
+/// A loop whose turn is open: besides, its first values, where it stands, and what its block and the loops before it have.
+#[derive(Drop)]
+pub struct Turning<'a, A: Allocator> {
+    pub begun: Begun<'a, A>,
+    pub firsts: Vec<Source, A>,
+    pub site: Site<'a>,
+    pub spot: Spot,
+    pub scope: Scope<'a, A>,
+    pub nodes: Vec<Made<'a, A>, A>,
+    pub blocks: Vec<MadeBlock<'a, A>, A>,
+}
+
+impl<'a, A: Allocator> Model for Turning<'a, A> {
+    ghost use Rattle.lowering.specs.Machine.{Turning};
+
+    ghost Value = { Turning };
+
+    ghost view = { λ t. record {
+      at = t.begun.at;
+      outer = t.begun.outer;
+      names = t.begun.names;
+      outs = t.begun.outs;
+      firsts = t.firsts.items;
+      site = record { function = t.site.function.now; region = t.site.region; trigger = t.site.trigger };
+      spot = record { next = t.spot.next; loops = t.spot.loops };
+      scope = t.scope;
+      nodes = t.nodes.items;
+      blocks = t.blocks.items;
+    } };
+}
+
+/// What is open.
+#[derive(Drop)]
+pub enum Open<'a, A: Allocator> {
+    /// A function: its name, and its parameters so far.
+    Header {
+        function: NameAt<'a>,
+        params: Vec<NameAt<'a>, A>,
+    },
+    /// A list: the sources before it.
+    Listed {
+        outer: Vec<Source, A>,
+    },
+    /// A `let`: its targets so far.
+    Targets {
+        targets: Vec<Target<'a>, A>,
+    },
+    /// The first arm of a conditional.
+    Left {
+        arms: Arms<'a, A>,
+    },
+    /// The second arm, with the values of the first.
+    Right {
+        arms: Arms<'a, A>,
+        left: Vec<Source, A>,
+    },
+    /// The first values of a loop.
+    Firsts {
+        begun: Begun<'a, A>,
+    },
+    /// The turn of a loop.
+    Turned {
+        turn: Turning<'a, A>,
+    },
+    /// Within a turn: the arm behind a test.
+    Looping {
+        arms: Arms<'a, A>,
+    },
+    /// Within a turn: the test behind a body, with the body's values.
+    Ending {
+        values: Vec<Source, A>,
+    },
+}
+
+/// A part that is open.
+#[derive(Drop)]
+pub struct Frame<'a, A: Allocator> {
+    pub open: Open<'a, A>,
+}
+
+impl<'a, A: Allocator> Model for Frame<'a, A> {
+    ghost use Rattle.lowering.specs.Machine.{Frame};
+    ghost use Rattle.lowering.specs.Opened.{frame_of};
+
+    ghost Value = { Frame };
+
+    ghost view = { λ f. frame_of f.open };
+}

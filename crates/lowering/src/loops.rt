@@ -1,0 +1,112 @@
+//! Ends of loops.
+
+ghost use Rattle.std.specs.Prelude.{◌≡◌, ◌+◌, ◌∷◌, ◌++◌, [], OnOk, IfOk, length, map};
+ghost use Rattle.source.specs.Lowered.{source_in, loop_name, turn_block};
+ghost use Rattle.source.specs.Outside.{bare};
+ghost use Rattle.lowering.specs.Machine.{turn_ended};
+
+use crate::frame::{Begun, Turning};
+use crate::machine::Machine;
+use crate::made::MadeBlock;
+use crate::scope::Scope;
+use crate::turns::{next_loop, number_of, width};
+use crate::values::{inputs, ports};
+use graph::Name;
+use semantics::graph::{Kind, Source};
+use std::alloc::{AllocError, Allocator};
+use std::mem;
+
+/// What names stand for, behind other sources.
+fn add_sources<'a, A: Allocator>(
+    scope: &Scope<'a, A>,
+    names: &[Name<'a>],
+    sources: &mut Vec<Source, A>,
+) -> Result<(), AllocError>
+    ensures { OnOk result (sources.new.items ≡ sources.old.items ++ map (source_in scope.now) names.now) }
+{
+    for name in names {
+        sources.push(scope.source(name.bytes))?;
+    }
+    Ok(())
+}
+
+/// How many names a loop has.
+#[tactic(auto, using(crate::proofs::HowMany::so_many_bare))]
+fn own<'a, A: Allocator>(begun: &Begun<'a, A>) -> Result<u32, AllocError>
+    ensures { IfOk result (λ n. n ≡ length (bare begun.now.names)) }
+{
+    number_of(begun.names.len())
+}
+
+impl<'a, A: Allocator + Clone> Machine<'a, A> {
+    /// The block of a turn: its results are the flag, the next values, and the outside names as they came.
+    fn take_block(
+        &mut self,
+        begun: &Begun<'a, A>,
+        number: usize,
+    ) -> Result<MadeBlock<'a, A>, AllocError>
+        ensures taken { OnOk result (self.new ≡ record self.old { nodes = []; sources = [] }) }
+        ensures block { IfOk result (λ b. b ≡ turn_block begun.now.at number (bare begun.now.names) begun.now.outs (record {
+          nodes = self.old.nodes;
+          sources = self.old.sources;
+          blocks = [];
+        })) }
+    {
+        let first = own(begun)?;
+        let inputs_of_block = width(begun)?;
+        let mut through = inputs(self.alloc.clone()?, first, begun.outs.len())?;
+        let no_nodes = Vec::new(self.alloc.clone()?);
+        let no_sources = Vec::new(self.alloc.clone()?);
+        let mut results = mem::replace(&mut self.sources, no_sources);
+        results.append(&mut through)?;
+        Ok(MadeBlock {
+            at: begun.at,
+            number,
+            inputs: inputs_of_block as usize,
+            nodes: mem::replace(&mut self.nodes, no_nodes),
+            results,
+        })
+    }
+
+    /// The blocks before a loop, then that of its turn, and then those of the loops in it.
+    fn add_block(
+        &mut self,
+        before: Vec<MadeBlock<'a, A>, A>,
+        block: MadeBlock<'a, A>,
+    ) -> Result<(), AllocError>
+        ensures { OnOk result (self.new ≡ record self.old { blocks = before.entry.items ++ block.entry ∷ self.old.blocks }) }
+    {
+        let mut inner = mem::replace(&mut self.blocks, before);
+        self.blocks.push(block)?;
+        self.blocks.append(&mut inner)?;
+        Ok(())
+    }
+
+    /// A turn ends: its block, and the node of the loop.
+    pub fn end_turn(
+        &mut self,
+        at: usize,
+        bound: u32,
+        block: Name<'a>,
+        turn: Turning<'a, A>,
+    ) -> Result<(), AllocError>
+        requires { block ≡ loop_name turn.site.function (turn.spot.loops + 1) }
+        ensures { OnOk result (self.new ≡ turn_ended self.old at bound turn.entry self.old.frames) }
+    {
+        let begun = turn.begun;
+        let names = own(&begun)?;
+        let number = next_loop(turn.spot.loops)?;
+        let made = self.take_block(&begun, number)?;
+        self.add_block(turn.blocks, made)?;
+        let mut sources = turn.firsts;
+        add_sources(&turn.scope, &begun.outs, &mut sources)?;
+        let values = ports(self.alloc.clone()?, turn.spot.next, u64::from(names))?;
+        let _inner = mem::replace(&mut self.scope, turn.scope);
+        self.site = turn.site;
+        self.spot.next = turn.spot.next;
+        self.nodes = turn.nodes;
+        self.sources = begun.outer;
+        self.put(at, Kind::Loop { block, bound }, sources)?;
+        self.give_all(values)
+    }
+}

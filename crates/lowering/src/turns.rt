@@ -1,0 +1,262 @@
+//! Loops.
+
+ghost use Rattle.std.specs.Prelude.{◌≡◌, ◌+◌, ◌∷◌, ◌++◌, [], OnOk, IfOk, length, map};
+ghost use Rattle.source.specs.Lowered.{scoped, turn_scope};
+ghost use Rattle.source.specs.Outside.{bare};
+ghost use Rattle.lowering.specs.Machine.{loop_begun, named_first, turning, turn_begun, tested, came_back, passing, passed, with_all};
+
+use crate::frame::{Arms, Begun, Frame, Open, Site, Spot, Turning};
+use crate::machine::Machine;
+use crate::names::NameAt;
+use crate::scope::Scope;
+use crate::values::inputs;
+use graph::Name;
+use semantics::graph::{Region, Source};
+use std::alloc::{AllocError, Allocator};
+use std::mem;
+
+/// Names without their places.
+pub fn bare_names<'a, A: Allocator>(
+    alloc: A,
+    names: &[NameAt<'a>],
+) -> Result<Vec<Name<'a>, A>, AllocError>
+    ensures { IfOk result (λ v. v.items ≡ bare names.now) }
+{
+    let mut all = Vec::new(alloc);
+    for x in names {
+        all.push(Name { bytes: x.name })?;
+    }
+    Ok(all)
+}
+
+/// The names that a loop carries: its own, and then the outside names of its turn.
+fn carried<'a, A: Allocator>(
+    alloc: A,
+    names: &[NameAt<'a>],
+    outs: &[Name<'a>],
+) -> Result<Vec<Name<'a>, A>, AllocError>
+    ensures { IfOk result (λ v. v.items ≡ bare names.now ++ outs.now) }
+{
+    let mut all = bare_names(alloc, names)?;
+    for name in outs {
+        all.push(Name { bytes: name.bytes })?;
+    }
+    Ok(all)
+}
+
+/// A number of nodes. What 32 bits cannot count is beyond all memory.
+pub fn number_of(count: usize) -> Result<u32, AllocError>
+    ensures { IfOk result (λ n. n ≡ count) }
+{
+    match u32::try_from(count) {
+        Ok(number) => Ok(number),
+        Err(_) => Err(AllocError),
+    }
+}
+
+/// One loop more.
+pub fn next_loop(loops: usize) -> Result<usize, AllocError>
+    ensures { IfOk result (λ n. n ≡ loops + 1) }
+{
+    match loops.checked_add(1) {
+        Some(next) => Ok(next),
+        None => Err(AllocError),
+    }
+}
+
+/// How many values a loop carries.
+#[tactic(auto, using(crate::proofs::HowMany::so_many_bare))]
+pub fn width<'a, A: Allocator>(begun: &Begun<'a, A>) -> Result<u32, AllocError>
+    ensures { IfOk result (λ n. n ≡ length (bare begun.now.names) + length begun.now.outs) }
+{
+    match begun.names.len().checked_add(begun.outs.len()) {
+        Some(count) => number_of(count),
+        None => Err(AllocError),
+    }
+}
+
+/// What names stand for when a turn begins: inputs of its block.
+#[tactic(auto, using(crate::proofs::Nodes::turn_inputs))]
+fn first_scope<'a, A: Allocator + Clone>(
+    alloc: A,
+    begun: &Begun<'a, A>,
+) -> Result<Scope<'a, A>, AllocError>
+    ensures { IfOk result (λ s. s ≡ turn_scope (bare begun.now.names) begun.now.outs) }
+{
+    let names = carried(alloc.clone()?, &begun.names, &begun.outs)?;
+    let values = inputs(alloc.clone()?, 0, names.len())?;
+    let mut scope = Scope::new(alloc);
+    scope.bind_all(&names, &values)?;
+    Ok(scope)
+}
+
+/// What names stand for in a test behind a body with these values.
+fn test_scope<'a, A: Allocator + Clone>(
+    alloc: A,
+    begun: &Begun<'a, A>,
+    values: &[Source],
+) -> Result<Scope<'a, A>, AllocError>
+    ensures { IfOk result (λ s. s ≡ scoped (bare begun.now.names) values.now (turn_scope (bare begun.now.names) begun.now.outs)) }
+{
+    let names = bare_names(alloc.clone()?, &begun.names)?;
+    let mut scope = first_scope(alloc, begun)?;
+    scope.bind_all(&names, values)?;
+    Ok(scope)
+}
+
+impl<'a, A: Allocator + Clone> Machine<'a, A> {
+    /// A loop begins, with its first values.
+    pub fn begin_loop(&mut self, at: usize) -> Result<(), AllocError>
+        ensures { OnOk result (self.new ≡ loop_begun self.old at self.old.plans) }
+    {
+        if let Some(plan) = self.plans.pop_front() {
+            let none = Vec::new(self.alloc.clone()?);
+            let outer = mem::replace(&mut self.sources, none);
+            let names = Vec::new(self.alloc.clone()?);
+            let begun = Begun {
+                at,
+                outer,
+                names,
+                outs: plan.names,
+            };
+            self.begin(Open::Firsts { begun })?;
+        }
+        Ok(())
+    }
+
+    /// A name of a loop, whose first value begins.
+    pub fn add_name(&mut self, x: NameAt<'a>) -> Result<(), AllocError>
+        ensures { OnOk result (self.new ≡ named_first self.old x.entry self.old.frames) }
+    {
+        if let Some(
+            Frame {
+                open: Open::Firsts { begun },
+            },
+        ) = self.frames.pop_front()
+        {
+            let mut names = begun.names;
+            names.push(x)?;
+            let begun = Begun {
+                at: begun.at,
+                outer: begun.outer,
+                names,
+                outs: begun.outs,
+            };
+            self.begin(Open::Firsts { begun })?;
+        }
+        Ok(())
+    }
+
+    /// What stands around a turn is kept, and nothing is made of the turn yet.
+    fn park(
+        &mut self,
+        begun: Begun<'a, A>,
+        scope: Scope<'a, A>,
+    ) -> Result<Turning<'a, A>, AllocError>
+        ensures parked { OnOk result (self.new ≡ record self.old { scope = scope.entry; sources = []; nodes = []; blocks = [] }) }
+        ensures kept { IfOk result (λ t. t ≡ turning self.old begun.entry) }
+    {
+        let no_sources = Vec::new(self.alloc.clone()?);
+        let no_nodes = Vec::new(self.alloc.clone()?);
+        let no_blocks = Vec::new(self.alloc.clone()?);
+        Ok(Turning {
+            begun,
+            firsts: mem::replace(&mut self.sources, no_sources),
+            site: self.site,
+            spot: self.spot,
+            scope: mem::replace(&mut self.scope, scope),
+            nodes: mem::replace(&mut self.nodes, no_nodes),
+            blocks: mem::replace(&mut self.blocks, no_blocks),
+        })
+    }
+
+    /// The first values of a loop end, and its turn begins: a block of its own.
+    pub fn begin_turn(&mut self) -> Result<(), AllocError>
+        ensures { OnOk result (self.new ≡ turn_begun self.old self.old.frames) }
+    {
+        if let Some(
+            Frame {
+                open: Open::Firsts { begun },
+            },
+        ) = self.frames.pop_front()
+        {
+            let next = width(&begun)?;
+            let loops = next_loop(self.spot.loops)?;
+            let scope = first_scope(self.alloc.clone()?, &begun)?;
+            let turn = self.park(begun, scope)?;
+            self.site = Site {
+                function: self.site.function,
+                region: Region::Root,
+                trigger: Source { node: 0, port: 0 },
+            };
+            self.spot = Spot { next, loops };
+            self.begin(Open::Turned { turn })?;
+        }
+        Ok(())
+    }
+
+    /// The body of a turn ends, and its test begins: the values of the body stand for the loop's names.
+    pub fn begin_test(&mut self) -> Result<(), AllocError>
+        ensures { OnOk result (self.new ≡ tested self.old self.old.frames) }
+    {
+        if let Some(
+            Frame {
+                open: Open::Turned { turn },
+            },
+        ) = self.frames.pop_front()
+        {
+            let none = Vec::new(self.alloc.clone()?);
+            let values = mem::replace(&mut self.sources, none);
+            let scope = test_scope(self.alloc.clone()?, &turn.begun, &values)?;
+            let _body = mem::replace(&mut self.scope, scope);
+            self.begin(Open::Turned { turn })?;
+            self.begin(Open::Ending { values })?;
+        }
+        Ok(())
+    }
+
+    /// The other arm of a test: an `enter` of each name of the loop.
+    #[tactic(auto, using(crate::proofs::Nodes::all_enters))]
+    fn pass(
+        &mut self,
+        arms: &Arms<'a, A>,
+        at: usize,
+        names: &[NameAt<'a>],
+    ) -> Result<Vec<Source, A>, AllocError>
+        ensures entered { OnOk result (self.new ≡ with_all (record self.old { site = passing self.old arms.now }) (passed self.old arms.now at names.now)) }
+        ensures values { IfOk result (λ v. v.items ≡ (passed self.old arms.now at names.now).sources) }
+    {
+        let node = self.spot.next;
+        self.site = Site {
+            function: arms.site.function,
+            region: Region::Arm {
+                cond: arms.cond,
+                side: false,
+            },
+            trigger: Source { node, port: 0 },
+        };
+        let own = bare_names(self.alloc.clone()?, names)?;
+        let taken = self.taken(arms, &own)?;
+        self.put_enters(at, &taken)?;
+        inputs(self.alloc.clone()?, node, taken.len())
+    }
+
+    /// The arm of a turn that goes on ends. The other arm gives the loop's names as they came.
+    pub fn come_back(
+        &mut self,
+        arms: Arms<'a, A>,
+        at: usize,
+        names: &[NameAt<'a>],
+    ) -> Result<(), AllocError>
+        ensures { OnOk result (self.new ≡ came_back self.old arms.entry at names.now) }
+    {
+        let right = self.pass(&arms, at, names)?;
+        let none = Vec::new(self.alloc.clone()?);
+        let left = mem::replace(&mut self.sources, none);
+        self.site = arms.site;
+        let values = self.merge(arms.cond, at, &left, &right)?;
+        let _inner = mem::replace(&mut self.scope, arms.scope);
+        self.sources = arms.predicate;
+        self.give_all(values)
+    }
+}
