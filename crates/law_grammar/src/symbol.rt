@@ -1,0 +1,66 @@
+//! The symbols of the parser's stack.
+
+use source::token::{Keyword, Sign};
+use source::word::Word;
+
+/// What stands on the parser's stack: what has to come, what may come, or a word that is appended then. `depth` is how
+/// many are open around it of what a tree's depth counts. `level` is the level of the grammar that the whole must have
+/// at least, and `left` that of the operand before.
+#[derive(Clone, Copy)]
+pub enum Symbol<N> {
+    // As they stand.
+    Sign { sign: Sign },
+    Keyword { keyword: Keyword },
+    /// A word is appended, and nothing is read.
+    Emit { word: Word<N> },
+
+    // Items.
+    Items,
+    ArrayName,
+    ArrayLength,
+    FunctionName,
+    Parameter,
+    /// Further parameters, and the bracket behind them.
+    Parameters,
+    /// The number of results, where it is written, and the body.
+    Results,
+    ResultCount,
+    FunctionBody,
+
+    // Bodies.
+    /// What follows a body's brace, or a step's semicolon.
+    Steps { depth: u8 },
+    Target,
+    /// Further targets, and what follows them of the `let` and of the body.
+    Targets { at: usize, depth: u8 },
+    /// Further values of the `let`, and what follows it of the body.
+    LetEnd { at: usize, depth: u8 },
+    /// Further values of the step, and what follows it of the body.
+    StepEnd { depth: u8 },
+
+    // Expressions.
+    /// An expression of this level or a higher one: at level 0 any.
+    Operand { level: u8, depth: u8 },
+    /// The operand of a `-`.
+    Negated { depth: u8 },
+    /// What may follow an operand: operators with theirs.
+    After { level: u8, left: u8, depth: u8 },
+    /// What may follow a name.
+    AfterName { at: usize, name: N, level: u8, depth: u8 },
+    /// What may follow the index of an array.
+    AfterIndex { at: usize, array: N, level: u8, depth: u8 },
+    /// The function behind `strict`, with its arguments.
+    Callee { depth: u8 },
+    /// Further arguments, and the bracket behind them.
+    CallEnd { at: usize, strict: bool, function: N, depth: u8 },
+    /// What follows `else`.
+    Otherwise { depth: u8 },
+    /// The bound of a loop, and all that follows it.
+    Bound { at: usize, depth: u8 },
+    /// A name of a loop, with its first value, further ones, and what follows them.
+    Start { depth: u8 },
+    /// Further names of a loop, and what follows them.
+    Starts { depth: u8 },
+    /// The test and the body of a loop.
+    Turn { depth: u8 },
+}
