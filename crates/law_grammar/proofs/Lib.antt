@@ -1,1 +1,2 @@
 mod ReadPrograms
+pub mod Meaning
