@@ -1,2 +1,3 @@
 mod ReadPrograms
 pub mod Meaning
+pub mod Givens
