@@ -18,6 +18,26 @@ pub deep_max : (d a b limit : ℕ) → d + a ≤ limit → d + b ≤ limit → d
 deep_max d a b limit p q =
     let h : max a b ≤ limit - d = max-le (omega arith) (omega arith) in omega arith
 
+-- LISTS
+pub regroup : {A : Type 0} (a b c d : List A) → ((a ++ b) ++ c) ++ d ≡ a ++ ((b ++ c) ++ d)
+regroup a b c d = simp append_assoc
+
+pub none_between : {A : Type 0} (a b : List A) → a ++ b ≡ (a ++ []) ++ b
+none_between a b = simp append-nil
+
+pub none_after : {A : Type 0} (a b c : List A) → (a ++ b) ++ c ≡ ((a ++ b) ++ []) ++ c
+none_after a b c = simp append-nil
+
+pub none_between₂ : {A : Type 0} (a b c : List A) → (a ++ b) ++ c ≡ ((a ++ []) ++ b) ++ c
+none_between₂ a b c = simp append-nil
+
+pub regroup_tokens : {A : Type 0} (a b c : List A) (x y : A) → (a ++ x ∷ b) ++ y ∷ c ≡ ((((((a ++ []) ++ x ∷ []) ++ b) ++ []) ++ y ∷ []) ++ c) ++ []
+regroup_tokens a b c x y = simp (append_assoc, append-nil)
+
+pub regroup_words : {A : Type 0} (a b c : List A) (x y z : A)
+    → ((a ++ x ∷ b) ++ y ∷ c) ++ z ∷ [] ≡ ((((((a ++ x ∷ []) ++ []) ++ b) ++ y ∷ []) ++ []) ++ c) ++ z ∷ []
+regroup_words a b c x y z = simp (append_assoc, append-nil)
+
 -- STACKS
 pub ready_append : (limit : ℕ) (P Q : Stack) → AllReady limit P → AllReady limit Q → AllReady limit (P ++ Q)
 ready_append limit [] Q p q = q
@@ -54,6 +74,12 @@ module _ (limit : ℕ) (s t : Symbol Name) (at : ℕ) (l : Lexeme) where
   explains_as v f (Takes ws P) (takes place is ready given) = takes place is ready (given_map limit P _ _ v (λ ss vs y. f (record { place = place; lexeme = l } ∷ ss) vs y) [] ws given)
   explains_as v f (Passes ws) (passes y) = passes (f [] ws y)
   explains_as v f (Refuses kind) h = refuses
+
+  -- with the same words
+  pub explains_for : ((ss : List Spelling) (ws : Words) → Yields limit s ss ws → Yields limit t ss ws) → (o : Outcome) → Explains limit s at l o → Explains limit t at l o
+  explains_for f (Takes ws P) (takes place is ready given) = takes place is ready (given_map limit P _ _ [] (λ ss vs y. f (record { place = place; lexeme = l } ∷ ss) vs y) [] ws given)
+  explains_for f (Passes ws) (passes y) = passes (f [] ws y)
+  explains_for f (Refuses kind) h = refuses
 
   -- with one more symbol below
   pub explains_above : (v : Words) (q : Symbol Name) → Ready limit q

@@ -1,3 +1,4 @@
 mod ReadPrograms
 pub mod Meaning
 pub mod Givens
+pub mod ExplainOperands
