@@ -221,7 +221,7 @@ module _ (limit : ℕ) where
       go (Give es) ok p q = record { b = Give es; ok = record { fits = ok.fits; deep = ok.deep }; spelled = ap (λ t. the_sign sign.OpenBrace ∷ t) p; says = q }
       go (Chain e) ok p q = absurd (let g = ok.fits.0 in cc)
 
-  explains_otherwise : (d at : ℕ) (l : Lexeme) → Ready limit (Otherwise d) → Explains limit (Otherwise d) at l (otherwise limit d at l)
+  pub explains_otherwise : (d at : ℕ) (l : Lexeme) → Ready limit (Otherwise d) → Explains limit (Otherwise d) at l (otherwise limit d at l)
   explains_otherwise d at (TheSign sign.OpenBrace) r = takes None tt (r, tt) (λ ss ws y. braced_branch d ss ws y)
   explains_otherwise d at (TheWord keyword.If) r = explains_within (d + 2) (λ h.
       takes (Some at) refl (ready_append limit (conditional at d) (Emit word.Chain ∷ []) (ready_conditional at d h) (tt, tt))
