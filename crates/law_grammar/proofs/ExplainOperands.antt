@@ -136,6 +136,17 @@ module _ (limit : ℕ) where
       (λ ss ws y e ok. as_operand (y (Fetch cell a e) (record { fits = ok.fits; at_least = omega arith; deep = (let g = ok.deep in omega arith) }))
         (simp append_assoc) (simp append_assoc)) _ (explains_after m 9 d at l ((let g = r.0 in omega arith), (let g = r.1 in omega arith)))
 
+  pub explains_after_name : (named : ℕ) (x : Name) (m d at : ℕ) (l : Lexeme) → Ready limit (AfterName named x m d)
+      → Explains limit (AfterName named x m d) at l (after_name limit named x m d at l)
+  explains_after_name named x m d at (TheSign sign.OpenParen) r = explains_call named x m d at r
+  explains_after_name named x m d at (TheSign sign.OpenBracket) r = explains_cell named x m d at r
+  explains_after_name named x m d at l r = explains_named named x m d at l r
+
+  pub explains_after_index : (cell : ℕ) (a : Name) (m d at : ℕ) (l : Lexeme) → Ready limit (AfterIndex cell a m d)
+      → Explains limit (AfterIndex cell a m d) at l (after_index cell a m d at l)
+  explains_after_index cell a zero d at (TheSign sign.Becomes) r = explains_store cell a d at r
+  explains_after_index cell a m d at l r = explains_fetch cell a m d at l r
+
   -- AN OPERAND
   explains_number : (m d at n : ℕ) → m ≤ 8 → Explains limit (Operand m d) at (TheNumber n) (operand limit m d at (TheNumber n))
   explains_number m d at n r = explains_small n (λ small. explains_within d (λ h.

@@ -1,5 +1,7 @@
 mod ReadPrograms
 pub mod Meaning
 pub mod Givens
+pub mod Terminals
 pub mod ExplainOperands
 pub mod ExplainBodies
+pub mod ExplainItems
