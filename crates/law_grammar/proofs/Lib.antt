@@ -5,3 +5,4 @@ pub mod Terminals
 pub mod ExplainOperands
 pub mod ExplainBodies
 pub mod ExplainItems
+pub mod Runs
