@@ -130,7 +130,7 @@ module _ (limit : ℕ) where
         spelled = rw (y₁.spelled, y₂.spelled) (simp (append_assoc, append-nil));
         says = rw (y₁.says, y₂.says) (append_assoc (word.Cell cell a ∷ words e) (word.Index ∷ ws₁) (word.Store cell a ∷ [])) })
 
-  explains_fetch : (cell : ℕ) (a : Name) (m d at : ℕ) (l : Lexeme) → Ready limit (AfterIndex cell a m d)
+  pub explains_fetch : (cell : ℕ) (a : Name) (m d at : ℕ) (l : Lexeme) → Ready limit (AfterIndex cell a m d)
       → Explains limit (AfterIndex cell a m d) at l (appending (word.Fetch cell a ∷ []) (after m 9 d at l))
   explains_fetch cell a m d at l r = explains_as limit (After m 9 d) (AfterIndex cell a m d) at l (word.Fetch cell a ∷ [])
       (λ ss ws y e ok. as_operand (y (Fetch cell a e) (record { fits = ok.fits; at_least = omega arith; deep = (let g = ok.deep in omega arith) }))

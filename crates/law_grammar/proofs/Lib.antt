@@ -6,3 +6,4 @@ pub mod ExplainOperands
 pub mod ExplainBodies
 pub mod ExplainItems
 pub mod Runs
+pub mod Sound
