@@ -7,3 +7,5 @@ pub mod ExplainBodies
 pub mod ExplainItems
 pub mod Runs
 pub mod Sound
+pub mod Leads
+pub mod Followed
