@@ -24,7 +24,7 @@ use Rattle.law_grammar.proofs.Meaning.{IsOperand, IsNegated, IsBody, Operands, N
 use Rattle.law_grammar.proofs.Givens.{deep_max, regroup, none_between, none_after, none_between₂, regroup_tokens, regroup_words, given_map, given_then, explains_if, explains_within, explains_small, explains_as, explains_for, as_operand, ready_append}
 
 -- BEHIND AN OPERAND
-sign_level_most : (s : InfixSign) → sign_level s ≤ 7
+pub sign_level_most : (s : InfixSign) → sign_level s ≤ 7
 sign_level_most (Direct Add) = omega arith
 sign_level_most (Direct Sub) = omega arith
 sign_level_most (Direct Mul) = omega arith

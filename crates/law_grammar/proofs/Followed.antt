@@ -52,6 +52,28 @@ least_left (Direct Le) = omega arith
 least_left Greater = omega arith
 least_left AtLeast = omega arith
 
+most_left : (s : InfixSign) → left_level s ≤ 7
+most_left (Direct Add) = omega arith
+most_left (Direct Sub) = omega arith
+most_left (Direct Mul) = omega arith
+most_left (Direct Div) = omega arith
+most_left (Direct Rem) = omega arith
+most_left (Direct And) = omega arith
+most_left (Direct Or) = omega arith
+most_left (Direct Xor) = omega arith
+most_left (Direct Shl) = omega arith
+most_left (Direct Shr) = omega arith
+most_left (Direct Eq) = omega arith
+most_left (Direct Ne) = omega arith
+most_left (Direct Lt) = omega arith
+most_left (Direct Le) = omega arith
+most_left Greater = omega arith
+most_left AtLeast = omega arith
+
+pub stops_seven : (k : ℕ) (l : Lexeme) → Stops k l → Stops 7 l
+stops_seven k _ (closes c) = closes c
+stops_seven k _ (operates s h) = operates s (most_left s)
+
 -- BEHIND AN OPERAND
 after_at_infix : (m k d at : ℕ) (s : InfixSign) → after m k d at (TheSign (infix_sign s)) ≡ after_infix m k d at s
 after_at_infix m k d at (Direct Add) = refl

@@ -9,3 +9,4 @@ pub mod Runs
 pub mod Sound
 pub mod Leads
 pub mod Followed
+pub mod ReadOperands
