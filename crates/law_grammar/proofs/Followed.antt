@@ -34,7 +34,7 @@ pub stops_more : (j k : ℕ) (l : Lexeme) → j ≤ k → Stops j l → Stops k 
 stops_more j k _ h (closes c) = closes c
 stops_more j k _ h (operates s g) = operates s (omega arith)
 
-least_left : (s : InfixSign) → 2 ≤ left_level s
+pub least_left : (s : InfixSign) → 2 ≤ left_level s
 least_left (Direct Add) = omega arith
 least_left (Direct Sub) = omega arith
 least_left (Direct Mul) = omega arith

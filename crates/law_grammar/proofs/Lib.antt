@@ -10,3 +10,4 @@ pub mod Sound
 pub mod Leads
 pub mod Followed
 pub mod ReadOperands
+pub mod ReadForms

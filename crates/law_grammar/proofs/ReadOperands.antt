@@ -95,7 +95,7 @@ module _ (limit : ℕ) where
   expr_reads (Loop at b es t) d S f ok = end_of _ S _ _ 9 d (f 0 d S ok)
 
   -- an operand of level 1 or more
-  operand_reads : (e : Expr) (m d : ℕ) (S : Stack) → ExprReads e → IsOperand limit m d e → 1 ≤ level e → Reads limit (Operand m d ∷ S) (tokens e) (words e) (Stops (level e)) (After m (level e) d ∷ S)
+  pub operand_reads : (e : Expr) (m d : ℕ) (S : Stack) → ExprReads e → IsOperand limit m d e → 1 ≤ level e → Reads limit (Operand m d ∷ S) (tokens e) (words e) (Stops (level e)) (After m (level e) d ∷ S)
   operand_reads e m d S f ok h = subst (λ T. Reads limit (Operand m d ∷ S) (tokens e) (words e) (Stops (level e)) T) (rest_is e m d S h) (f m d S ok)
 
   -- LEAVES
@@ -103,7 +103,7 @@ module _ (limit : ℕ) where
   reads_number at n m d S ok = reads_exactly limit _ (leads_step (Operand m d) S at (TheNumber n) _ _
       (small_is n _ ok.fits ∙ within_is limit d _ (let g = ok.deep in omega arith)))
 
-  name_leads : (at : ℕ) (x : Name) (m d : ℕ) (S : Stack) → d ≤ limit → Leads limit (Operand m d ∷ S) (name_at at x ∷ []) [] (AfterName at x m d ∷ S)
+  pub name_leads : (at : ℕ) (x : Name) (m d : ℕ) (S : Stack) → d ≤ limit → Leads limit (Operand m d ∷ S) (name_at at x ∷ []) [] (AfterName at x m d ∷ S)
   name_leads at x m d S h = leads_step (Operand m d) S at (TheName x) _ _ (within_is limit d _ h)
 
   pub reads_named : (at : ℕ) (x : Name) → ExprReads (Named at x)
