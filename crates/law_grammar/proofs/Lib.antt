@@ -11,3 +11,4 @@ pub mod Leads
 pub mod Followed
 pub mod ReadOperands
 pub mod ReadForms
+pub mod ReadBodies

@@ -31,7 +31,7 @@ store_words : {A : Type 0} (a b c : List A) (x : A) → (a ++ x ∷ []) ++ (b ++
 store_words a b c x = simp append_assoc
 
 -- what is shallow enough where an operand of it is
-shallow : (d a b limit : ℕ) → d + max a b ≤ limit → (d + a ≤ limit) × (d + b ≤ limit)
+pub shallow : (d a b limit : ℕ) → d + max a b ≤ limit → (d + a ≤ limit) × (d + b ≤ limit)
 shallow d a b limit h = let f = le-max_left a b in let g = le-max_right a b in (omega arith, omega arith)
 
 module _ (limit : ℕ) where
