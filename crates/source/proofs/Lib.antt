@@ -1,1 +1,13 @@
 mod ReadTokens
+mod Positions
+pub mod Spelling
+pub mod Steps
+pub mod Kept
+mod Counted
+mod OneAnswer
+mod ReadSamples
+mod LowerSamples
+mod RefusedSamples
+mod SizesOfBlocks
+mod Worked
+mod SampleWords

@@ -4,7 +4,7 @@ use Rattle.source.specs.declared.fault.Fault.{Fault}
 use Rattle.source.specs.declared.fault.FaultKind.{FaultKind}
 use Rattle.source.specs.declared.fault.FaultKind.TheVariants.{BadByte, BadNumber, BadName}
 use Rattle.source.specs.declared.token.Keyword.TheVariants as word
-use Rattle.source.specs.declared.token.Sign.TheVariants.{Arrow, Becomes, ShiftLeft, Less, Equals, AtMost, Minus, Tilde, OpenParen, CloseParen, OpenBrace, CloseBrace, Slash, Underscore}
+use Rattle.source.specs.declared.token.Sign.TheVariants.{Arrow, Becomes, ShiftLeft, AtMost, Minus, Tilde, OpenParen, CloseParen, OpenBrace, CloseBrace, Slash, Underscore}
 use Rattle.source.specs.declared.token.TokenKind.{TokenKind}
 use Rattle.source.specs.declared.token.TokenKind.TheVariants.{Word, Mark, Number, Name}
 use Rattle.source.specs.declared.token.Token.{Token}
@@ -22,13 +22,15 @@ newline = 10 ∷ []
 
 -- a whole function
 function : lexed (codes "fn f(n)->2{n}") ≡ Ok (
-    token (Word word.Fn) 0 ∷ token (Name 1) 3 ∷ token (Mark OpenParen) 4 ∷ token (Name 1) 5 ∷ token (Mark CloseParen) 6 ∷ token (Mark Arrow) 7 ∷ token (Number 2) 9
+    token (Word word.Fn) 0 ∷ token (Name 1) 3 ∷ token (Mark OpenParen) 4 ∷ token (Name 1) 5 ∷ token (Mark CloseParen) 6 ∷ token (Mark Arrow) 7 ∷ token
+    (Number 2) 9
     ∷ token (Mark OpenBrace) 10 ∷ token (Name 1) 11 ∷ token (Mark CloseBrace) 12 ∷ [])
 function = refl
 
 -- the longest sign is read, from left to right
 munched : lexed (codes "<<<=:=/--~_") ≡ Ok (
-    token (Mark ShiftLeft) 0 ∷ token (Mark AtMost) 2 ∷ token (Mark Becomes) 4 ∷ token (Mark Slash) 6 ∷ token (Mark Minus) 7 ∷ token (Mark Minus) 8 ∷ token (Mark Tilde) 9
+    token (Mark ShiftLeft) 0 ∷ token (Mark AtMost) 2 ∷ token (Mark Becomes) 4 ∷ token (Mark Slash) 6 ∷ token (Mark Minus) 7 ∷ token (Mark Minus) 8 ∷ token
+    (Mark Tilde) 9
     ∷ token (Mark Underscore) 10 ∷ [])
 munched = refl
 

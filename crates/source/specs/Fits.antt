@@ -16,13 +16,13 @@
 --     primary := NUMBER | NAME | NAME "(" exprs ")" | "strict" NAME "(" exprs ")" | NAME "[" expr "]" | "(" expr ")" | if | loop
 --     if      := "if" expr block "else" ( block | if )
 --     loop    := "loop" NUMBER "(" NAME "=" expr { "," NAME "=" expr } ")" ( "while" expr block | block "while" "(" expr ")" )
-use Rattle.std.specs.Prelude.{◌≡◌, ℕ, zero, suc, ◌^◌, ◌<◌, ◌≤◌, ◌⊎◌, max, Bool, true, false, IsTrue, List, [], ◌∷◌, length, map, All, Option, None, Some, ⊤}
+use Rattle.std.specs.Prelude.{◌≡◌, ℕ, suc, ◌^◌, ◌<◌, ◌≤◌, ◌⊎◌, max, Bool, true, false, IsTrue, [], ◌∷◌, length, Option, None, Some, ⊤}
 use Rattle.operators.specs.declared.Unary.{Unary}
-use Rattle.operators.specs.declared.Unary.TheVariants.{Neg, Not}
+use Rattle.operators.specs.declared.Unary.TheVariants.{Neg}
 use Rattle.operators.specs.declared.Binary.TheVariants.{Add, Sub, Mul, Div, Rem, And, Or, Xor, Shl, Shr, Eq, Ne, Lt, Le}
 use Rattle.source.specs.declared.word.InfixSign.{InfixSign}
 use Rattle.source.specs.declared.word.InfixSign.TheVariants.{Direct, Greater, AtLeast}
-use Rattle.source.specs.Tree.{NameAt, NumberAt, Target, Expr, Number, Named, Bracket, Prefix, Infix, Fetch, Store, Call, If, Loop, Exprs, One, More, Body, Let, Do, Give, Chain, Turn, Before, After, Function, Item, Cells, Defines, Program, names_of}
+use Rattle.source.specs.Tree.{NumberAt, Expr, Number, Named, Bracket, Prefix, Infix, Fetch, Store, Call, If, Loop, Exprs, One, More, Body, Let, Do, Give, Chain, Turn, Before, After, Item, Cells, Defines, Program, names_of}
 
 -- LEVELS. The level of a rule of the grammar: what binds tighter has a higher one.
 --     expr 0   flag 1   or 2   xor 3   and 4   shift 5   sum 6   term 7   unary 8   primary 9
@@ -114,7 +114,8 @@ FitsItem (Cells x len) = Small len.number
 FitsItem (Defines f) = (0 < length f.params) × IsSmall f.results × FitsBody false f.body
 
 abbrev pub FitsProgram : Program → Type 0
-FitsProgram items = All FitsItem items
+FitsProgram [] = ⊤
+FitsProgram (i ∷ items) = FitsItem i × FitsProgram items
 
 -- DEPTH: how many are open at once of these: each `expr` of the grammar, from its first token to its last; the operand of
 -- each `-` and `~`, but of no `-` directly before a number; each `if`. `depth` leaves out the `expr` that the expression is.

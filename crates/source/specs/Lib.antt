@@ -4,3 +4,13 @@ pub mod Spelled
 pub mod Fits
 pub mod Words
 pub mod Parses
+pub mod First
+pub mod Outside
+pub mod Rules
+pub mod Evaluates
+pub mod Once
+pub mod Theorem
+pub mod Lowered
+pub mod Samples
+pub mod Examples
+pub mod Counts

@@ -13,7 +13,7 @@ use Rattle.source.specs.declared.token.Sign.TheVariants as sign
 use Rattle.source.specs.declared.token.TokenKind.{TokenKind}
 use Rattle.source.specs.declared.token.TokenKind.TheVariants as token
 use Rattle.source.specs.declared.token.Token.{Token}
-use Rattle.source.specs.Tree.{Name, NameAt, NumberAt, Target, Bind, Drop, Expr, Number, Named, Bracket, Prefix, Infix, Fetch, Store, Call, If, Loop, Exprs, One, More, Body, Let, Do, Give, Chain, Turn, Before, After, Function, Item, Cells, Defines, Program, names_of}
+use Rattle.source.specs.Tree.{Name, NameAt, NumberAt, Target, Bind, Drop, Expr, Number, Named, Bracket, Prefix, Infix, Fetch, Store, Call, If, Loop, Exprs, One, More, Body, Let, Do, Give, Chain, Turn, Before, After, Item, Cells, Defines, Program, names_of}
 
 -- what a token says
 pub data Lexeme : Type 0 where
@@ -144,22 +144,26 @@ abbrev mutual
 
   -- what follows a body's brace, up to the brace that closes it
   pub body_tokens : Body → List Spelling
-  body_tokens (Let at targets es rest) = word_at at word.Let ∷ listed (map target_token targets) ++ the_sign sign.Equals ∷ list_tokens es ++ the_sign sign.Semicolon ∷ body_tokens rest
+  body_tokens (Let at targets es rest) = word_at at word.Let ∷ listed (map target_token targets) ++ the_sign sign.Equals ∷ list_tokens es ++ the_sign
+      sign.Semicolon ∷ body_tokens rest
   body_tokens (Do es rest) = list_tokens es ++ the_sign sign.Semicolon ∷ body_tokens rest
   body_tokens (Give es) = list_tokens es ++ the_sign sign.CloseBrace ∷ []
   body_tokens (Chain e) = tokens e
 
   pub turn_tokens : Turn → List Spelling
   turn_tokens (Before xs p body) = the_word word.While ∷ tokens p ++ the_sign sign.OpenBrace ∷ body_tokens body
-  turn_tokens (After xs body p) = the_sign sign.OpenBrace ∷ body_tokens body ++ the_word word.While ∷ the_sign sign.OpenParen ∷ tokens p ++ the_sign sign.CloseParen ∷ []
+  turn_tokens (After xs body p) = the_sign sign.OpenBrace ∷ body_tokens body ++ the_word word.While ∷ the_sign sign.OpenParen ∷ tokens p ++ the_sign
+      sign.CloseParen ∷ []
 
 abbrev pub result_tokens : Option NumberAt → List Spelling
 result_tokens None = []
 result_tokens (Some n) = the_sign sign.Arrow ∷ number_at n.at n.number ∷ []
 
 abbrev pub item_tokens : Item → List Spelling
-item_tokens (Cells x len) = the_word word.Array ∷ name_token x ∷ the_sign sign.OpenBracket ∷ number_at len.at len.number ∷ the_sign sign.CloseBracket ∷ the_sign sign.Semicolon ∷ []
-item_tokens (Defines f) = the_word word.Fn ∷ name_token f.name ∷ the_sign sign.OpenParen ∷ listed (map name_token f.params) ++ the_sign sign.CloseParen ∷ result_tokens f.results
+item_tokens (Cells x len) = the_word word.Array ∷ name_token x ∷ the_sign sign.OpenBracket ∷ number_at len.at len.number ∷ the_sign sign.CloseBracket ∷
+    the_sign sign.Semicolon ∷ []
+item_tokens (Defines f) = the_word word.Fn ∷ name_token f.name ∷ the_sign sign.OpenParen ∷ listed (map name_token f.params) ++ the_sign sign.CloseParen ∷
+    result_tokens f.results
     ++ sign_at f.body_at sign.OpenBrace ∷ body_tokens f.body
 
 abbrev pub program_tokens : Program → List Spelling

@@ -1,5 +1,5 @@
 -- THE TEXT OF A PROGRAM, AND ITS TOKENS. A text is its bytes, and a place in it is the number of bytes before.
-use Rattle.std.specs.Prelude.{◌≡◌, ℕ, zero, suc, ◌+◌, ◌-◌, ◌^◌, ◌==◌, ◌&&◌, ◌||◌, not, nat_le, Bool, true, false, List, [], ◌∷◌, ◌++◌, length, take, drop, fold, find, take_while, bytes_eq, codes, Option, None, Some, Result, Ok, Err, if◌then◌else◌}
+use Rattle.std.specs.Prelude.{ℕ, zero, suc, ◌+◌, ◌-◌, ◌^◌, ◌==◌, ◌&&◌, ◌||◌, not, nat_le, Bool, true, false, List, [], ◌∷◌, length, take, drop, fold, find, take_while, bytes_eq, codes, Option, None, Some, Result, Ok, Err, if◌then◌else◌}
 use Rattle.std.specs.List.{list_all, list_any}
 use Rattle.std.specs.Char.{is_ascii_digit, is_ascii_alphanumeric}
 use Rattle.std.specs.Str.Parse.{digits_value}
@@ -75,8 +75,10 @@ keywords = word.Array ∷ word.Fn ∷ word.Let ∷ word.If ∷ word.Else ∷ wor
 -- words that nothing uses, and that are no names either
 abbrev pub kept : List (List ℕ)
 kept =
-    codes "and" ∷ codes "as" ∷ codes "break" ∷ codes "case" ∷ codes "const" ∷ codes "do" ∷ codes "end" ∷ codes "false" ∷ codes "for" ∷ codes "in" ∷ codes "match"
-    ∷ codes "mod" ∷ codes "not" ∷ codes "or" ∷ codes "return" ∷ codes "then" ∷ codes "true" ∷ codes "type" ∷ codes "use" ∷ codes "where" ∷ codes "with" ∷ codes "xor" ∷ []
+    codes "and" ∷ codes "as" ∷ codes "break" ∷ codes "case" ∷ codes "const" ∷ codes "do" ∷ codes "end" ∷ codes "false" ∷ codes "for" ∷ codes "in" ∷ codes
+    "match"
+    ∷ codes "mod" ∷ codes "not" ∷ codes "or" ∷ codes "return" ∷ codes "then" ∷ codes "true" ∷ codes "type" ∷ codes "use" ∷ codes "where" ∷ codes "with" ∷
+    codes "xor" ∷ []
 
 abbrev pub sign_text : Sign → List ℕ
 sign_text Arrow = codes "->"

@@ -1,6 +1,6 @@
 -- A PROGRAM AS A TREE. Where a token may be faulty, or be the origin of a fault, the tree has its place in the text: the
 -- number of bytes before it. A name is its bytes.
-use Rattle.std.specs.Prelude.{ℕ, suc, Bool, List, Option}
+use Rattle.std.specs.Prelude.{ℕ, Bool, List, Option}
 use Rattle.operators.specs.declared.Unary.{Unary}
 use Rattle.source.specs.declared.word.InfixSign.{InfixSign}
 

@@ -1,9 +1,9 @@
 -- THE WORDS OF A TREE: the tree in postfix order. Where a rule is broken before what follows is looked at, a word says
 -- that a part begins or ends there.
-use Rattle.std.specs.Prelude.{◌≡◌, ℕ, ◌<◌, ◌++◌, List, [], ◌∷◌, map, flat_map, slice_index_or, length, All, Option, None, Some, ⊤}
+use Rattle.std.specs.Prelude.{◌≡◌, ℕ, ◌<◌, ◌++◌, List, [], ◌∷◌, map, flat_map, slice_index_or, length, All, Option, None, Some}
 use Rattle.source.specs.declared.word.Word.{Word}
 use Rattle.source.specs.declared.word.Word.TheVariants as word
-use Rattle.source.specs.Tree.{Name, NameAt, NumberAt, Target, Bind, Drop, Expr, Number, Named, Bracket, Prefix, Infix, Fetch, Store, Call, If, Loop, Exprs, One, More, Body, Let, Do, Give, Chain, Turn, Before, After, Function, Item, Cells, Defines, Program, names_of}
+use Rattle.source.specs.Tree.{Name, NameAt, NumberAt, Target, Bind, Drop, Expr, Number, Named, Bracket, Prefix, Infix, Fetch, Store, Call, If, Loop, Exprs, One, More, Body, Let, Do, Give, Chain, Turn, Before, After, Item, Cells, Defines, Program, names_of}
 use Rattle.source.specs.Spelled.{others}
 
 abbrev pub Words : Type 0

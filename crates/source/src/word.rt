@@ -17,48 +17,103 @@ pub enum InfixSign {
 pub enum Word<N> {
     // Items.
     /// An array begins: its name.
-    Array { at: usize, name: N },
+    Array {
+        at: usize,
+        name: N,
+    },
     /// The array's length.
-    Length { at: usize, len: u64 },
+    Length {
+        at: usize,
+        len: u64,
+    },
     /// A function begins: its name.
-    Function { at: usize, name: N },
+    Function {
+        at: usize,
+        name: N,
+    },
     /// A parameter of it.
-    Parameter { at: usize, name: N },
+    Parameter {
+        at: usize,
+        name: N,
+    },
     /// The number of its results, where it is written.
-    Results { at: usize, number: u64 },
+    Results {
+        at: usize,
+        number: u64,
+    },
     /// Its body begins.
-    Body { at: usize },
+    Body {
+        at: usize,
+    },
     /// It ends.
     EndFunction,
 
     // Expressions.
-    Number { at: usize, number: u64 },
-    Name { at: usize, name: N },
+    Number {
+        at: usize,
+        number: u64,
+    },
+    Name {
+        at: usize,
+        name: N,
+    },
     /// The expression before stands in brackets.
     Bracket,
-    Prefix { at: usize, op: Unary },
+    Prefix {
+        at: usize,
+        op: Unary,
+    },
     /// The left operand ends, and the right one begins.
     Left,
-    Infix { at: usize, sign: InfixSign },
+    Infix {
+        at: usize,
+        sign: InfixSign,
+    },
     /// An array, whose index begins.
-    Cell { at: usize, array: N },
-    Fetch { at: usize, array: N },
+    Cell {
+        at: usize,
+        array: N,
+    },
+    Fetch {
+        at: usize,
+        array: N,
+    },
     /// The index ends, and what is stored begins.
     Index,
-    Store { at: usize, array: N },
+    Store {
+        at: usize,
+        array: N,
+    },
     /// A function, whose arguments begin.
-    Callee { at: usize, function: N },
-    Call { at: usize, strict: bool, function: N },
+    Callee {
+        at: usize,
+        function: N,
+    },
+    Call {
+        at: usize,
+        strict: bool,
+        function: N,
+    },
     /// The predicate ends, and the first arm begins.
     Then,
     /// The second arm begins.
     Else,
-    EndIf { at: usize },
+    EndIf {
+        at: usize,
+    },
     /// A loop begins.
-    Loop { at: usize },
-    Bound { at: usize, bound: u64 },
+    Loop {
+        at: usize,
+    },
+    Bound {
+        at: usize,
+        bound: u64,
+    },
     /// A name of it, whose first value begins.
-    Start { at: usize, name: N },
+    Start {
+        at: usize,
+        name: N,
+    },
     /// The first value ends.
     First,
     /// A turn begins, with its test.
@@ -69,17 +124,27 @@ pub enum Word<N> {
     BodyFirst,
     /// The body ends, and the test begins.
     Until,
-    EndLoop { at: usize, bound: u64 },
+    EndLoop {
+        at: usize,
+        bound: u64,
+    },
 
     // Lists, and the steps of a body.
     /// A list begins.
     List,
     /// An expression of it ends.
     Part,
-    Let { at: usize },
-    Bind { at: usize, name: N },
+    Let {
+        at: usize,
+    },
+    Bind {
+        at: usize,
+        name: N,
+    },
     Drop,
-    EndLet { at: usize },
+    EndLet {
+        at: usize,
+    },
     Do,
     /// The list before has the values of the body, which ends.
     Give,
