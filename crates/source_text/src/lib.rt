@@ -1,0 +1,2 @@
+//! The programs of a text.
+#![tactic(auto)]

@@ -1,0 +1,4 @@
+pub mod Beginnings
+pub mod Lexing
+pub mod Signs
+pub mod Stands

@@ -1,0 +1,13 @@
+//! The text of a program: its tokens, exactly, the program and the inputs that it holds, and lines and columns.
+#![tactic(auto)]
+
+mod beginning;
+mod lexing;
+mod parting;
+mod placing;
+mod runs;
+mod signs;
+
+pub use lexing::{lex, name_at};
+pub use parting::{Parted, split};
+pub use placing::{LineColumn, position};
