@@ -12,3 +12,4 @@ pub mod Followed
 pub mod ReadOperands
 pub mod ReadForms
 pub mod ReadBodies
+pub mod Complete
