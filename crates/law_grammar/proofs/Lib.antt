@@ -13,3 +13,4 @@ pub mod ReadOperands
 pub mod ReadForms
 pub mod ReadBodies
 pub mod Complete
+pub mod Alike
