@@ -14,3 +14,4 @@ pub mod ReadForms
 pub mod ReadBodies
 pub mod Complete
 pub mod Alike
+pub mod Paired
