@@ -12,3 +12,6 @@ pub mod Followed
 pub mod ReadOperands
 pub mod ReadForms
 pub mod ReadBodies
+pub mod Complete
+pub mod Alike
+pub mod Paired
