@@ -1,2 +1,12 @@
-//! The programs of a text.
+//! The programs of texts: what a text's tokens say is read by the parser's automaton, exactly.
 #![tactic(auto)]
+
+mod after;
+mod bodies;
+mod items;
+mod lexeme;
+mod numbers;
+mod operands;
+mod outcome;
+mod reaction;
+mod signs;
