@@ -8,5 +8,6 @@ mod lexeme;
 mod numbers;
 mod operands;
 mod outcome;
+mod parser;
 mod reaction;
 mod signs;

@@ -15,6 +15,14 @@ pub(crate) struct Few<T, const N: usize> {
     pub len: usize,
 }
 
+impl<T, const N: usize> Few<T, N> {
+    pub(crate) fn as_slice(&self) -> &[T]
+        ensures { result.now ≡ few self.now }
+    {
+        self.items.get(..self.len).unwrap_or(&self.items)
+    }
+}
+
 /// What a symbol does with a token.
 #[derive(Clone, Copy)]
 pub(crate) enum Outcome {

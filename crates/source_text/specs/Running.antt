@@ -1,0 +1,42 @@
+-- A PARSER'S STATE, with numbers for names: its stack, the top last, and the words so far.
+use Rattle.std.specs.Prelude.{◌≡◌, ◌⊎◌, ℕ, ◌<◌, Bool, List, [], ◌∷◌, ◌++◌, map, reverse, length, slice_index_or, Result, Ok, Err, if◌then◌else◌}
+use Rattle.source.specs.declared.fault.Fault.{Fault}
+use Rattle.source.specs.declared.fault.FaultKind.{FaultKind}
+use Rattle.source.specs.declared.fault.FaultKind.TheVariants.{Memory}
+use Rattle.source.specs.declared.token.Token.{Token}
+use Rattle.source.specs.declared.word.Word.{Word}
+use Rattle.source.specs.Tree.{Name}
+use Rattle.source.specs.Spelled.{Lexeme}
+use Rattle.source.specs.Words.{Words, name_of, named}
+use Rattle.law_grammar.specs.declared.symbol.Symbol.{Symbol}
+use Rattle.law_grammar.specs.Automaton.{Stack, Outcome, Moved, moved_after, advance_by, advance, finish, finished, words_after, parsed}
+use Rattle.source_text.specs.Outcomes.{symbol_named}
+
+abbrev pub stack_named : List Name → List (Symbol ℕ) → Stack
+stack_named names stack = map (symbol_named names) (reverse stack)
+
+abbrev pub words_named : List Name → List (Word ℕ) → Words
+words_named names words = map (named names) words
+
+abbrev pub state : List Name → List (Symbol ℕ) → List (Word ℕ) → Moved
+state names stack words = record { appended = words_named names words; stack = stack_named names stack }
+
+-- what a token comes to in a state
+abbrev pub onward : ℕ → Lexeme → Moved → Result Moved FaultKind
+onward at l m = moved_after m.appended (advance 200 m.stack at l)
+
+-- what it comes to where a symbol, which stood above that state's stack, does this with it
+abbrev pub reacted : ℕ → Lexeme → Moved → Outcome → Result Moved FaultKind
+reacted at l m outcome = moved_after m.appended (advance_by outcome m.stack (advance 200 m.stack at l))
+
+-- the words, where no token is left
+abbrev pub ending : ℕ → Moved → Result Words Fault
+ending end m = words_after m.appended (finished end (finish m.stack))
+
+-- the kind of the fault that something comes to, or a refused growth
+abbrev pub IsKind : {T : Type 0} → FaultKind → Result T FaultKind → Type 0
+IsKind kind r = (kind ≡ Memory) ⊎ (r ≡ Err kind)
+
+-- the fault that something comes to, or a refused growth
+abbrev pub IsFault : {T : Type 0} → Fault → Result T Fault → Type 0
+IsFault fault r = (fault.kind ≡ Memory) ⊎ (r ≡ Err fault)
