@@ -1,5 +1,5 @@
 -- WHAT A SYMBOL DOES to a parser's state, with numbers for names.
-use Rattle.std.proofs.Common.{◌≡◌, ℕ, Bool, true, false, List, [], ◌∷◌, ◌++◌, map, reverse, Option, None, Some, Result, Ok, Err, MatchResult, if◌then◌else◌, inl, inr, refl, sym, ap, ap₂, ◌∙◌, subst, append_assoc, append-nil}
+use Rattle.std.proofs.Common.{◌≡◌, ℕ, length, arith, Bool, true, false, List, [], ◌∷◌, ◌++◌, map, reverse, Option, None, Some, Result, Ok, Err, MatchResult, if◌then◌else◌, inl, inr, refl, sym, ap, ap₂, ◌∙◌, subst, append_assoc, append-nil}
 use Rattle.std.proofs.lemmas.List.{map-append, reverse-append, reverse-reverse}
 use Rattle.std.specs.Prelude.{option_to_list}
 use Rattle.source.specs.declared.fault.Fault.{Fault}
@@ -130,5 +130,6 @@ module _ (names : List Name) where
       ap (λ stack. words_after (words_named names w) (finished end (finish stack))) (ap (stack_named names) e ∙ stack_more t x)
       ∙ ap (λ o. words_after (words_named names w) (finished end (ended_then o (finish (stack_named names t))))) none
 
-  pub ends : (end : ℕ) (s : List (Symbol ℕ)) (w : List (Word ℕ)) → s ≡ [] → ending end (state names s w) ≡ Ok (words_named names w)
-  ends end s w e = ap (λ s. ending end (state names s w)) e ∙ ap Ok (append-nil (words_named names w))
+  pub ends : (end : ℕ) (s : List (Symbol ℕ)) (w : List (Word ℕ)) → length s ≡ 0 → ending end (state names s w) ≡ Ok (words_named names w)
+  ends end [] w e = ap Ok (append-nil (words_named names w))
+  ends end (x ∷ s) w e = absurd (omega (arith, e))

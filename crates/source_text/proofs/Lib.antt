@@ -1,1 +1,4 @@
 pub mod Acting
+pub mod Known
+pub mod Named
+pub mod Tokens

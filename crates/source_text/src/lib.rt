@@ -5,9 +5,13 @@ mod after;
 mod bodies;
 mod items;
 mod lexeme;
+mod names;
 mod numbers;
 mod operands;
 mod outcome;
 mod parser;
 mod reaction;
+mod reading;
 mod signs;
+
+pub use reading::parse;

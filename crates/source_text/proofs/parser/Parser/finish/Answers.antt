@@ -1,4 +1,4 @@
-use Rattle.std.proofs.Common.{◌∙◌}
+use Rattle.std.proofs.Common.{◌∙◌, arith}
 use Rattle.source_text.proofs.Acting.{ends, same_fault}
 use Rattle.source_text.proofs.parser.Parser.finish.Goals as goal
 
@@ -11,4 +11,4 @@ loop-symbol-preserved g c = λ names.
     c.loop-symbol.invariant names ∙ c.in_default-end.ensures.ends names c.args.end c.loop-symbol.self.stack.items c.in-Some.ensures.items
 
 pub returns : goal.returns
-returns g c = λ names. c.loop-symbol.invariant names ∙ ends names c.args.end c.loop-symbol.self.stack.items c.loop-symbol.self.words.items c.in_default.ensures.items
+returns g c = λ names. c.loop-symbol.invariant names ∙ ends names c.args.end c.loop-symbol.self.stack.items c.loop-symbol.self.words.items (omega (arith, c.in_default.ensures.cases.0))
