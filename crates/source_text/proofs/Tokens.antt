@@ -1,26 +1,35 @@
 -- READING, token by token.
-use Rattle.std.proofs.Common.{◌≡◌, ℕ, ◌+◌, ◌<◌, ◌≤◌, List, [], ◌∷◌, ◌++◌, map, drop, length, get_or, All, Result, Ok, Err, inl, inr, refl, sym, ap, ap₂, ◌∙◌, subst, append_assoc, arith}
+use Rattle.std.proofs.Common.{◌≡◌, ℕ, zero, suc, ◌+◌, ◌<◌, ◌≤◌, List, [], ◌∷◌, ◌++◌, map, drop, length, get_or, All, Result, Ok, Err, MatchResult, inl, inr, refl, sym, ap, ap₂, ◌∙◌, subst, append_assoc, arith}
 use Rattle.std.proofs.lemmas.List.{at_drop_all}
 use Rattle.std.proofs.lemmas.List.Elements.{All-nil, All-cons}
 use Rattle.std.specs.BTreeMap.{BTreeMap}
+use Rattle.std.specs.Prelude.{OnOk}
 use Rattle.lemmas.proofs.Lists.{drop_opens}
 use Rattle.source.specs.declared.fault.Fault.{Fault}
 use Rattle.source.specs.declared.fault.FaultKind.{FaultKind}
 use Rattle.source.specs.declared.token.Token.{Token}
 use Rattle.source.specs.declared.word.Word.{Word}
 use Rattle.source.specs.Tree.{Name}
+use Rattle.source.specs.Spelled as spelled
 use Rattle.source.specs.Spelled.{lexeme}
 use Rattle.source.specs.Words.{Words, named}
 use Rattle.law_grammar.specs.declared.symbol.Symbol.{Symbol}
 use Rattle.law_grammar.specs.declared.symbol.Symbol.TheVariants.{Items}
 use Rattle.law_grammar.specs.Automaton.{Stack, Moved, moved_after, advance, words_after, run_on, run, placed, parsed}
-use Rattle.source_text.specs.Outcomes.{IsShallow}
-use Rattle.source_text.specs.Naming.{IsTable, Extends}
+use Rattle.source_text.specs.declared.lexeme.Lexeme.{Lexeme}
+use Rattle.source_text.specs.Outcomes.{lexeme_named, IsShallow}
+use Rattle.source_text.specs.Naming.{IsTable, Extends, IsSaid}
 use Rattle.source_text.specs.Running.{stack_named, words_named, state, onward, ending, IsKind, IsFault}
 use Rattle.source_text.specs.Reading.{IsStart, IsAdvanced, IsStopped, IsReading, AreParsed}
 use Rattle.source_text.proofs.Named.{extends_itself, extends_twice}
 use Rattle.source_text.proofs.Known.{known_words}
 use denote.Ref.{Bor}
+
+abbrev the_words : Words → Result Words Fault
+the_words ws = Ok ws
+
+pub same_words : (a b : Words) → the_words a ≡ the_words b → a ≡ b
+same_words a b e = cc
 
 words_twice : (a b : Words) (r : Result Words Fault) → words_after a (words_after b r) ≡ words_after (a ++ b) r
 words_twice a b (Ok vs) = ap Ok (sym (append_assoc a b vs))
@@ -89,21 +98,51 @@ module _ (text : List ℕ) (ts : List Token) (n : ℕ) (numbers : BTreeMap (Bor 
       reading.so_far names e
       ∙ at_drop_all (λ l. words_after (words_named names words) (run 200 (length text) (stack_named names stack) (map (placed text) l))) ts n h
 
+  says : (read : List (Word ℕ)) → length ts ≤ n → IsReading text ts n numbers table stack words
+      → ((names : List Name) → ending (length text) (state names stack words) ≡ Ok (words_named names read)) → (names : List Name) → Extends table names
+      → parsed text ts ≡ Ok (words_named names read)
+  says read h reading end names e = ended_so names h reading e ∙ end names
+
   pub ends_well : (read : List (Word ℕ)) → length ts ≤ n → IsReading text ts n numbers table stack words
       → ((names : List Name) → ending (length text) (state names stack words) ≡ Ok (words_named names read)) → AreParsed text ts table read
   ends_well read h reading end = record {
-    said = says table (extends_itself table);
-    known = known_words table read (λ names e. same_words _ _ (sym (says table (extends_itself table)) ∙ says names e));
+    said = says read h reading end table (extends_itself table);
+    known = known_words table read (λ names e. same_words _ _ (sym (says read h reading end table (extends_itself table)) ∙ says read h reading end names e));
     distinct = reading.indexed.distinct;
   }
-    where
-      says : (names : List Name) → Extends table names → parsed text ts ≡ Ok (words_named names read)
-      says names e = ended_so names h reading e ∙ end names
-
-      same_words : (a b : Words) → Ok a ≡ Ok b → a ≡ b
-      same_words a b e = cc
 
   pub ends_badly : (fault : Fault) → length ts ≤ n → IsReading text ts n numbers table stack words
       → IsFault fault (ending (length text) (state table stack words)) → IsFault fault (parsed text ts)
   ends_badly fault h reading (inl memory) = inl memory
   ends_badly fault h reading (inr is) = inr (ended_so table h reading (extends_itself table) ∙ is)
+
+  pub finishes : {P : Type 0} (names_of : P → List Name) (words_of : P → List (Word ℕ)) (r : Result P Fault) → length ts ≤ n → IsReading text ts n numbers table stack words
+      → MatchResult r (λ p. (names_of p ≡ table) × ((names : List Name) → ending (length text) (state names stack words) ≡ Ok (words_named names (words_of p))))
+          (λ fault. IsFault fault (ending (length text) (state table stack words)))
+      → MatchResult r (λ p. AreParsed text ts (names_of p) (words_of p)) (λ fault. IsFault fault (parsed text ts))
+  finishes names_of words_of (Ok p) h reading end = subst (λ names. AreParsed text ts names (words_of p)) (sym end.0) (ends_well (words_of p) h reading end.1)
+  finishes names_of words_of (Err fault) h reading end = ends_badly fault h reading end
+
+-- ONE TOKEN
+pub advances : {U : Type 0} (at : ℕ) (l : Lexeme) (meant : spelled.Lexeme) (numbers : BTreeMap (Bor (List ℕ)) ℕ) (old table : List Name)
+    (s : List (Symbol ℕ)) (w : List (Word ℕ)) (s' : List (Symbol ℕ)) (w' : List (Word ℕ)) (r : Result U FaultKind) → IsSaid old numbers table meant l
+    → ((names : List Name) → MatchResult r (λ _. onward at (lexeme_named names l) (state names s w) ≡ Ok (state names s' w'))
+        (λ kind. IsKind kind (onward at (lexeme_named names l) (state names s w))))
+    → OnOk r (All IsShallow s')
+    → MatchResult r (λ _. IsAdvanced at meant old s w numbers table s' w') (λ kind. IsStopped at meant old s w kind)
+advances at l meant numbers old table s w s' w' (Ok u) said took shallow = record {
+  indexed = said.table;
+  extends = said.extends;
+  shallow = shallow;
+  moved = λ names e. ap (λ l. onward at l (state names s w)) (sym (said.says names e)) ∙ took names;
+}
+advances at l meant numbers old table s w s' w' (Err kind) said took shallow = record {
+  names = table;
+  extends = said.extends;
+  cause = subst (λ l. IsKind kind (onward at l (state table s w))) (said.says table (extends_itself table)) (took table);
+}
+
+pub same_read : {X : Type 0} (xs : List X) (i : ℕ) (d e : X) → i < length xs → get_or xs i d ≡ get_or xs i e
+same_read [] i d e h = absurd (omega arith)
+same_read (x ∷ xs) zero d e h = refl
+same_read (x ∷ xs) (suc i) d e h = same_read xs i d e (omega arith)

@@ -57,7 +57,7 @@ impl<'a, A: Allocator + Clone> Reader<'a, A> {
     /// The program, where no token is left.
     fn finish(self, end: usize) -> Result<Program<'a, A>, Fault>
         ensures { MatchResult result
-            (λ p. (p.names ≡ self.entry.names.table) × ((names : List Name) → ending end (state names self.entry.parser.stack.items self.entry.parser.words.items) ≡ Ok (words_named names p.words.items)))
+            (λ p. (p.names.items ≡ self.entry.names.table.items) × ((names : List Name) → ending end (state names self.entry.parser.stack.items self.entry.parser.words.items) ≡ Ok (words_named names p.words.items)))
             (λ fault. IsFault fault (ending end (state self.entry.names.table.items self.entry.parser.stack.items self.entry.parser.words.items))) }
     {
         let words = self.parser.finish(end)?;
