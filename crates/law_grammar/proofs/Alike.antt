@@ -1,8 +1,7 @@
 -- WHAT THE AUTOMATON DOES does not depend on places, and on the limit only where something is too deep.
-use Rattle.std.proofs.Common.{◌≡◌, ℕ, zero, suc, ◌+◌, ◌<◌, ◌≤◌, Bool, true, false, List, [], ◌∷◌, ◌++◌, map, Option, None, Some, Result, Ok, Err, refl, sym, ap, ◌∙◌, subst, arith, inl, inr, if◌then◌else◌}
+use Rattle.std.proofs.Common.{◌≡◌, ℕ, zero, ◌+◌, ◌<◌, ◌≤◌, Bool, true, false, [], ◌∷◌, ◌++◌, Option, None, Some, refl, sym, ap, subst, arith, inl, inr, if◌then◌else◌}
 use Rattle.std.specs.Prelude.{◌^◌, ◌==◌, ◌⊎◌, nat_le, nat_lt, ⊤}
-use Rattle.std.proofs.lemmas.Bool.{eqb-true, leb-true, leb-false}
-use Rattle.operators.specs.declared.Unary.TheVariants.{Neg, Not}
+use Rattle.std.proofs.lemmas.Bool.{eqb-true}
 use Rattle.source.specs.declared.fault.FaultKind.{FaultKind}
 use Rattle.source.specs.declared.fault.FaultKind.TheVariants.{Unexpected, TooDeep, NotACell, BadNumber}
 use Rattle.source.specs.declared.token.Keyword.{Keyword}
@@ -17,8 +16,8 @@ use Rattle.source.specs.Spelled.{Lexeme, TheWord, TheSign, TheNumber, TheName}
 use Rattle.source.specs.Words.{Words}
 use Rattle.law_grammar.specs.declared.symbol.Symbol.{Symbol}
 use Rattle.law_grammar.specs.declared.symbol.Symbol.TheVariants.{Sign as OneSign, Keyword as OneWord, Emit, Items, ArrayName, ArrayLength, FunctionName, Parameter, Parameters, Results, ResultCount, FunctionBody, Steps, Target as OneTarget, Targets, LetEnd, StepEnd, Operand, Negated, After, AfterName, AfterIndex, Callee, CallEnd, Otherwise, Bound, Start, Starts, Turn as OneTurn}
-use Rattle.law_grammar.specs.Automaton.{Stack, Outcome, Takes, Passes, Refuses, appending, above, within, small, is_sign, is_word, infix_of, goes_on, after_infix, after_sign, after_cell, after, after_name, after_index, conditional, operand_word, operand_sign, operand, negated, callee, call_end, otherwise, bound, start, starts, turn, steps, target, targets, let_end, step_end, items, array_name, array_length, function_name, parameter, parameters, function_body, results, result_count, step}
-use Rattle.law_grammar.proofs.Meaning.{Ready}
+use Rattle.law_grammar.specs.Automaton.{Stack, Outcome, Takes, Passes, Refuses, appending, above, within, small, is_sign, is_word, infix_of, goes_on, after_infix, after_sign, after, after_name, after_index, conditional, operand_word, operand_sign, operand, negated, callee, call_end, otherwise, bound, start, starts, turn, steps, target, targets, let_end, step_end, items, array_name, array_length, function_name, parameter, parameters, function_body, results, result_count, step}
+use Rattle.law_grammar.specs.Ready.{Ready}
 use Rattle.law_grammar.proofs.Leads.{within_is}
 
 -- the same up to places
@@ -67,7 +66,8 @@ module _ (limit most : ℕ) (wide : (most ≡ limit) ⊎ (limit + 3 ≤ most)) w
   unexpected = refuse_alike Unexpected tt
 
   module _ (l : Lexeme) where
-    like_if : {o p q r : Outcome} (b : Bool) → (b ≡ true → Like limit most l o q) → (b ≡ false → Like limit most l p r) → Like limit most l (if b then o else p) (if b then q else r)
+    like_if : {o p q r : Outcome} (b : Bool) → (b ≡ true → Like limit most l o q) → (b ≡ false → Like limit most l p r)
+        → Like limit most l (if b then o else p) (if b then q else r)
     like_if true f g = f refl
     like_if false f g = g refl
 
@@ -77,12 +77,15 @@ module _ (limit most : ℕ) (wide : (most ≡ limit) ⊎ (limit + 3 ≤ most)) w
         narrow : (b : Bool) → nat_le d limit ≡ b → limit + 3 ≤ most → Like limit most l (if b then Takes ws P else Refuses TooDeep) (Takes vs Q)
         narrow true e w = take_alike a
         narrow false e w = one_too_deep (omega arith)
+
         equal : most ≡ limit → (b : Bool) → Like limit most l (if b then Takes ws P else Refuses TooDeep) (if b then Takes vs Q else Refuses TooDeep)
         equal e true = take_alike a
         equal e false = both_too_deep e
+
         go : (most ≡ limit) ⊎ (limit + 3 ≤ most) → Like limit most l (within limit d (Takes ws P)) (within most d (Takes vs Q))
         go (inl e) = subst (λ n. Like limit most l (within limit d (Takes ws P)) (within n d (Takes vs Q))) (sym e) (equal e (nat_le d limit))
-        go (inr w) = subst (λ o. Like limit most l (within limit d (Takes ws P)) o) (sym (within_is most d (Takes vs Q) (omega arith))) (narrow (nat_le d limit) refl w)
+        go (inr w) = subst (λ o. Like limit most l (within limit d (Takes ws P)) o) (sym (within_is most d (Takes vs Q) (omega arith)))
+            (narrow (nat_le d limit) refl w)
 
     like_appending : (ws vs : Words) {o p : Outcome} → Like limit most l o p → Like limit most l (appending ws o) (appending vs p)
     like_appending ws vs (take_alike a) = take_alike a
@@ -99,7 +102,8 @@ module _ (limit most : ℕ) (wide : (most ≡ limit) ⊎ (limit + 3 ≤ most)) w
     like_above S (one_too_deep h) = one_too_deep h
 
   like_small : (n : ℕ) {o p : Outcome} → Like limit most (TheNumber n) o p → Like limit most (TheNumber n) (small n o) (small n p)
-  like_small n h = like_if (TheNumber n) (nat_lt n (2 ^ 63)) (λ e. h) (λ e. like_if (TheNumber n) (n == 2 ^ 63) (λ f. refuse_alike BadNumber (ap (λ m. TheNumber m) (eqb-true n (2 ^ 63) f))) (λ f. unexpected))
+  like_small n h = like_if (TheNumber n) (nat_lt n (2 ^ 63)) (λ e. h)
+      (λ e. like_if (TheNumber n) (n == 2 ^ 63) (λ f. refuse_alike BadNumber (ap (λ m. TheNumber m) (eqb-true n (2 ^ 63) f))) (λ f. unexpected))
 
   -- BEHIND AN OPERAND
   like_infix : (m k d at to : ℕ) (s : InfixSign) (l : Lexeme) → Like limit most l (after_infix m k d at s) (after_infix m k d to s)
@@ -117,8 +121,10 @@ module _ (limit most : ℕ) (wide : (most ≡ limit) ⊎ (limit + 3 ≤ most)) w
   like_after m k d at to (TheName x) = pass_alike
 
   like_name : (a b : ℕ) (x : Name) (m d at to : ℕ) (l : Lexeme) → d ≤ limit → Like limit most l (after_name limit a x m d at l) (after_name most b x m d to l)
-  like_name a b x m d at to (TheSign sign.OpenParen) h = like_within (TheSign sign.OpenParen) (d + 1) (omega arith) (taken (on_top (same _) (on_top (call_ends a b false x d) (on_top (same _) both_empty))))
-  like_name a b x m d at to (TheSign sign.OpenBracket) h = like_within (TheSign sign.OpenBracket) (d + 1) (omega arith) (taken (on_top (same _) (on_top (same _) (on_top (indexes a b x m d) both_empty))))
+  like_name a b x m d at to (TheSign sign.OpenParen) h =
+      like_within (TheSign sign.OpenParen) (d + 1) (omega arith) (taken (on_top (same _) (on_top (call_ends a b false x d) (on_top (same _) both_empty))))
+  like_name a b x m d at to (TheSign sign.OpenBracket) h =
+      like_within (TheSign sign.OpenBracket) (d + 1) (omega arith) (taken (on_top (same _) (on_top (same _) (on_top (indexes a b x m d) both_empty))))
   like_name a b x m d at to l h = like_appending l (word.Name a x ∷ []) (word.Name b x ∷ []) (like_after m 9 d at to l)
 
   like_index : (a b : ℕ) (x : Name) (m d at to : ℕ) (l : Lexeme) → Like limit most l (after_index a x m d at l) (after_index b x m d to l)
@@ -127,16 +133,21 @@ module _ (limit most : ℕ) (wide : (most ≡ limit) ⊎ (limit + 3 ≤ most)) w
 
   -- AN OPERAND
   alike_conditional : (at to d : ℕ) → AlikeStacks (conditional at d) (conditional to d)
-  alike_conditional at to d = on_top (same _) (on_top (same _) (on_top (same _) (on_top (same _) (on_top (same _) (on_top (same _) (on_top (same _) (on_top (emits _ _) both_empty)))))))
+  alike_conditional at to d =
+      on_top (same _) (on_top (same _)
+      (on_top (same _) (on_top (same _) (on_top (same _) (on_top (same _) (on_top (same _) (on_top (emits _ _) both_empty)))))))
 
   like_operand_word : (m d at to : ℕ) (k : Keyword) → d ≤ limit + 1 → Like limit most (TheWord k) (operand_word limit m d at k) (operand_word most m d to k)
   like_operand_word m d at to keyword.Strict h = like_within _ (d + 1) (omega arith) (taken (on_top (same _) (on_top (same _) both_empty)))
-  like_operand_word m d at to keyword.If h = like_within _ (d + 2) (omega arith) (taken (alike_append (conditional at d) (conditional to d) _ _ (alike_conditional at to d) (on_top (same _) both_empty)))
+  like_operand_word m d at to keyword.If h =
+      like_within _ (d + 2) (omega arith)
+      (taken (alike_append (conditional at d) (conditional to d) _ _ (alike_conditional at to d) (on_top (same _) both_empty)))
   like_operand_word m d at to keyword.Loop h = like_within _ (d + 1) (omega arith) (taken (on_top (bounds at to d) (on_top (same _) both_empty)))
   like_operand_word m d at to k h = unexpected
 
   like_operand_sign : (m d at to : ℕ) (s : Sign) → d ≤ limit + 1 → Like limit most (TheSign s) (operand_sign limit m d at s) (operand_sign most m d to s)
-  like_operand_sign m d at to sign.OpenParen h = like_within _ (d + 1) (omega arith) (taken (on_top (same _) (on_top (same _) (on_top (same _) (on_top (same _) both_empty)))))
+  like_operand_sign m d at to sign.OpenParen h =
+      like_within _ (d + 1) (omega arith) (taken (on_top (same _) (on_top (same _) (on_top (same _) (on_top (same _) both_empty)))))
   like_operand_sign m d at to sign.Minus h = like_within _ d (omega arith) (taken (on_top (same _) (on_top (emits _ _) (on_top (same _) both_empty))))
   like_operand_sign m d at to sign.Tilde h = like_within _ (d + 1) (omega arith) (taken (on_top (same _) (on_top (emits _ _) (on_top (same _) both_empty))))
   like_operand_sign m d at to s h = unexpected
@@ -162,12 +173,15 @@ module _ (limit most : ℕ) (wide : (most ≡ limit) ⊎ (limit + 3 ≤ most)) w
 
   like_otherwise : (d at to : ℕ) (l : Lexeme) → d ≤ limit → Like limit most l (otherwise limit d at l) (otherwise most d to l)
   like_otherwise d at to (TheSign sign.OpenBrace) h = take_alike (on_top (same _) both_empty)
-  like_otherwise d at to (TheWord keyword.If) h = like_within _ (d + 2) (omega arith) (taken (alike_append (conditional at d) (conditional to d) _ _ (alike_conditional at to d) (on_top (same _) both_empty)))
+  like_otherwise d at to (TheWord keyword.If) h =
+      like_within _ (d + 2) (omega arith)
+      (taken (alike_append (conditional at d) (conditional to d) _ _ (alike_conditional at to d) (on_top (same _) both_empty)))
   like_otherwise d at to l h = unexpected
 
   -- LOOPS
   like_bound : (a b d at to : ℕ) (l : Lexeme) → Like limit most l (bound a d at l) (bound b d to l)
-  like_bound a b d at to (TheNumber n) = like_small n (take_alike (on_top (same _) (on_top (same _) (on_top (same _) (on_top (same _) (on_top (emits _ _) both_empty))))))
+  like_bound a b d at to (TheNumber n) =
+      like_small n (take_alike (on_top (same _) (on_top (same _) (on_top (same _) (on_top (same _) (on_top (emits _ _) both_empty))))))
   like_bound a b d at to l = unexpected
 
   like_start : (d at to : ℕ) (l : Lexeme) → Like limit most l (start d at l) (start d to l)

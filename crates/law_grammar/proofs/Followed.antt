@@ -1,5 +1,5 @@
 -- WHAT MAY FOLLOW AN EXPRESSION, and how what stands on the stack then passes it.
-use Rattle.std.proofs.Common.{◌≡◌, ℕ, zero, suc, ◌+◌, ◌<◌, ◌≤◌, max, Bool, true, false, List, [], ◌∷◌, Result, Ok, Err, refl, sym, ap, ◌∙◌, arith, if◌then◌else◌}
+use Rattle.std.proofs.Common.{◌≡◌, ℕ, zero, suc, ◌+◌, ◌<◌, ◌≤◌, false, [], ◌∷◌, refl, ap, ◌∙◌, arith, if◌then◌else◌}
 use Rattle.std.specs.Prelude.{◌&&◌, nat_le}
 use Rattle.std.proofs.lemmas.Bool.{le-leb, lt-leb}
 use Rattle.std.proofs.Math.Nat.{le-max_right}
@@ -12,10 +12,9 @@ use Rattle.source.specs.declared.word.Word.TheVariants as word
 use Rattle.source.specs.Tree.{Name}
 use Rattle.source.specs.Spelled.{Lexeme, TheSign, infix_sign}
 use Rattle.source.specs.Fits.{sign_level, left_level}
-use Rattle.source.specs.Words.{Words}
 use Rattle.law_grammar.specs.declared.symbol.Symbol.TheVariants.{Emit, Operand, After, AfterName, AfterIndex}
-use Rattle.law_grammar.specs.Automaton.{Stack, Takes, Passes, appending, goes_on, after_infix, after, after_name, after_index, moved_after, advance_by, advance}
-use Rattle.law_grammar.proofs.Leads.{appending_is, moved_nothing}
+use Rattle.law_grammar.specs.Automaton.{Stack, Takes, Passes, appending, after_infix, after, after_name, after_index, moved_after, advance_by, advance}
+use Rattle.law_grammar.proofs.Leads.{appending_is}
 
 pub data Closes : Sign → Type 0 where
   close_paren : Closes sign.CloseParen
@@ -107,7 +106,9 @@ after_passes m k d at j _ (closes c) h = after_closes m k d at c
 after_passes m k d at j _ (operates s g) h =
     let low : sign_level s < m = (let f = le-max_right 2 (sign_level s) in omega arith) in
     let never : nat_le m (sign_level s) ≡ false = lt-leb m (sign_level s) low in
-    after_at_infix m k d at s ∙ ap (λ b. if b && nat_le (left_level s) k then Takes (word.Left ∷ []) (Operand (sign_level s + 1) d ∷ Emit (word.Infix at s) ∷ After m (sign_level s) d ∷ []) else Passes []) never
+    after_at_infix m k d at s
+    ∙ ap (λ b. if b && nat_le (left_level s) k then Takes (word.Left ∷ [])
+    (Operand (sign_level s + 1) d ∷ Emit (word.Infix at s) ∷ After m (sign_level s) d ∷ []) else Passes []) never
 
 pub after_ends : (m k d at : ℕ) (l : Lexeme) → Stops 0 l → after m k d at l ≡ Passes []
 after_ends m k d at _ (closes c) = after_closes m k d at c
@@ -119,7 +120,8 @@ pub after_takes : (m k d at : ℕ) (s : InfixSign) → m ≤ sign_level s → le
 after_takes m k d at s low high = after_at_infix m k d at s ∙ rw (le-leb m (sign_level s) low, le-leb (left_level s) k high) refl
 
 -- BEHIND A NAME, AND BEHIND AN INDEX
-pub after_name_is : (limit named : ℕ) (x : Name) (m d at k : ℕ) (l : Lexeme) → Stops k l → after_name limit named x m d at l ≡ appending (word.Name named x ∷ []) (after m 9 d at l)
+pub after_name_is : (limit named : ℕ) (x : Name) (m d at k : ℕ) (l : Lexeme) → Stops k l
+    → after_name limit named x m d at l ≡ appending (word.Name named x ∷ []) (after m 9 d at l)
 after_name_is limit named x m d at k _ (closes close_paren) = refl
 after_name_is limit named x m d at k _ (closes close_bracket) = refl
 after_name_is limit named x m d at k _ (closes comma) = refl
@@ -143,7 +145,8 @@ after_name_is limit named x m d at k _ (operates (Direct Le) h) = refl
 after_name_is limit named x m d at k _ (operates Greater h) = refl
 after_name_is limit named x m d at k _ (operates AtLeast h) = refl
 
-pub after_index_is : (cell : ℕ) (a : Name) (m d at k : ℕ) (l : Lexeme) → Stops k l → after_index cell a m d at l ≡ appending (word.Fetch cell a ∷ []) (after m 9 d at l)
+pub after_index_is : (cell : ℕ) (a : Name) (m d at k : ℕ) (l : Lexeme) → Stops k l
+    → after_index cell a m d at l ≡ appending (word.Fetch cell a ∷ []) (after m 9 d at l)
 after_index_is cell a zero d at k _ (closes close_paren) = refl
 after_index_is cell a zero d at k _ (closes close_bracket) = refl
 after_index_is cell a zero d at k _ (closes comma) = refl

@@ -1,17 +1,16 @@
 -- What holds whatever a stack reads: how stacks are joined, and how a symbol that acts as another one is right.
-use Rattle.std.proofs.Common.{◌≡◌, ℕ, suc, ◌+◌, ◌-◌, ◌<◌, ◌≤◌, max, Bool, true, false, List, [], ◌∷◌, ◌++◌, Option, None, Some, refl, sym, ap, ◌∙◌, append_assoc, append-nil, arith, if◌then◌else◌}
-use Rattle.std.specs.Prelude.{◌^◌, ◌==◌, nat_le, nat_lt, ⊤}
+use Rattle.std.proofs.Common.{◌≡◌, ℕ, ◌+◌, ◌-◌, ◌<◌, ◌≤◌, max, Bool, true, false, List, [], ◌∷◌, ◌++◌, refl, ◌∙◌, append_assoc, append-nil, arith, if◌then◌else◌}
+use Rattle.std.specs.Prelude.{◌^◌, ◌==◌, nat_le, nat_lt}
 use Rattle.std.proofs.lemmas.Bool.{leb-true, ltb-true}
 use Rattle.std.proofs.Math.Nat.{max-le}
-use Rattle.source.specs.declared.fault.FaultKind.TheVariants.{Unexpected, BadNumber, TooDeep}
-use Rattle.source.specs.declared.word.Word.TheVariants as word
-use Rattle.source.specs.declared.word.Word.{Word}
 use Rattle.source.specs.Tree.{Name}
 use Rattle.source.specs.Spelled.{Lexeme, Spelling}
 use Rattle.source.specs.Words.{Words}
 use Rattle.law_grammar.specs.declared.symbol.Symbol.{Symbol}
 use Rattle.law_grammar.specs.Automaton.{Stack, Outcome, Takes, Passes, Refuses, appending, above, within, small}
-use Rattle.law_grammar.proofs.Meaning.{Operands, Yields, Given, Ready, AllReady, Explains, takes, passes, refuses}
+use Rattle.law_grammar.proofs.Yielded.{Operands}
+use Rattle.law_grammar.specs.Ready.{Ready, AllReady}
+use Rattle.law_grammar.proofs.Meaning.{Yields, Given, Explains, takes, passes, refuses}
 
 -- DEPTHS
 pub deep_max : (d a b limit : ℕ) → d + a ≤ limit → d + b ≤ limit → d + max a b ≤ limit
@@ -57,7 +56,8 @@ given_then limit (s ∷ P) Q K J u v f a w h =
 
 -- TESTS
 module _ {limit : ℕ} {s : Symbol Name} {at : ℕ} {l : Lexeme} where
-  pub explains_if : {o p : Outcome} (b : Bool) → (b ≡ true → Explains limit s at l o) → (b ≡ false → Explains limit s at l p) → Explains limit s at l (if b then o else p)
+  pub explains_if : {o p : Outcome} (b : Bool) → (b ≡ true → Explains limit s at l o) → (b ≡ false → Explains limit s at l p)
+      → Explains limit s at l (if b then o else p)
   explains_if true f g = f refl
   explains_if false f g = g refl
 
@@ -71,19 +71,23 @@ module _ {limit : ℕ} {s : Symbol Name} {at : ℕ} {l : Lexeme} where
 module _ (limit : ℕ) (s t : Symbol Name) (at : ℕ) (l : Lexeme) where
   pub explains_as : (v : Words) → ((ss : List Spelling) (ws : Words) → Yields limit s ss ws → Yields limit t ss (v ++ ws))
       → (o : Outcome) → Explains limit s at l o → Explains limit t at l (appending v o)
-  explains_as v f (Takes ws P) (takes place is ready given) = takes place is ready (given_map limit P _ _ v (λ ss vs y. f (record { place = place; lexeme = l } ∷ ss) vs y) [] ws given)
+  explains_as v f (Takes ws P) (takes place is ready given) =
+      takes place is ready (given_map limit P _ _ v (λ ss vs y. f (record { place = place; lexeme = l } ∷ ss) vs y) [] ws given)
   explains_as v f (Passes ws) (passes y) = passes (f [] ws y)
   explains_as v f (Refuses kind) h = refuses
 
   -- with the same words
-  pub explains_for : ((ss : List Spelling) (ws : Words) → Yields limit s ss ws → Yields limit t ss ws) → (o : Outcome) → Explains limit s at l o → Explains limit t at l o
-  explains_for f (Takes ws P) (takes place is ready given) = takes place is ready (given_map limit P _ _ [] (λ ss vs y. f (record { place = place; lexeme = l } ∷ ss) vs y) [] ws given)
+  pub explains_for : ((ss : List Spelling) (ws : Words) → Yields limit s ss ws → Yields limit t ss ws) → (o : Outcome) → Explains limit s at l o
+      → Explains limit t at l o
+  explains_for f (Takes ws P) (takes place is ready given) =
+      takes place is ready (given_map limit P _ _ [] (λ ss vs y. f (record { place = place; lexeme = l } ∷ ss) vs y) [] ws given)
   explains_for f (Passes ws) (passes y) = passes (f [] ws y)
   explains_for f (Refuses kind) h = refuses
 
   -- with one more symbol below
   pub explains_above : (v : Words) (q : Symbol Name) → Ready limit q
-      → ((ss : List Spelling) (ws : Words) → Yields limit s ss ws → (ts : List Spelling) (vs : Words) → Yields limit q ts vs → Yields limit t (ss ++ ts) ((v ++ ws) ++ vs))
+      → ((ss : List Spelling) (ws : Words) → Yields limit s ss ws → (ts : List Spelling) (vs : Words) → Yields limit q ts vs
+      → Yields limit t (ss ++ ts) ((v ++ ws) ++ vs))
       → (o : Outcome) → Explains limit s at l o → ((ws : Words) → o ≡ Passes ws → ⊥) → Explains limit t at l (appending v (above (q ∷ []) o))
   explains_above v q r f (Takes ws P) (takes place is ready given) never = takes place is (ready_append limit P (q ∷ []) ready (r, tt))
       (given_then limit P (q ∷ []) _ _ [] v (λ ss vs y ts us z. f (record { place = place; lexeme = l } ∷ ss) vs y ts us z) [] ws given)

@@ -1,8 +1,11 @@
 mod ReadPrograms
+pub mod Yielded
 pub mod Meaning
 pub mod Givens
 pub mod Terminals
+pub mod ExplainFollowing
 pub mod ExplainOperands
+pub mod ExplainLists
 pub mod ExplainBodies
 pub mod ExplainItems
 pub mod Runs
@@ -15,3 +18,9 @@ pub mod ReadBodies
 pub mod Complete
 pub mod Alike
 pub mod Paired
+pub mod TwoRuns
+pub mod GoingOn
+pub mod FirstFault
+pub mod Rebuilding
+pub mod Rebuilt
+pub mod Theorem

@@ -1,5 +1,5 @@
 -- WHERE A FAULT HAS A KIND OF ITS OWN: at a `:=` where `+` would be taken, and at 2 ^ 63 where 0 would be.
-use Rattle.std.proofs.Common.{◌≡◌, ℕ, zero, suc, ◌+◌, ◌≤◌, Bool, true, false, List, [], ◌∷◌, ◌++◌, Option, None, Some, Result, Ok, Err, refl, sym, ap, ◌∙◌, subst, arith, if◌then◌else◌}
+use Rattle.std.proofs.Common.{◌≡◌, ℕ, zero, suc, ◌+◌, Bool, true, false, [], ◌∷◌, None, Result, Ok, Err, refl, sym, subst, if◌then◌else◌}
 use Rattle.std.specs.Prelude.{◌^◌}
 use Rattle.operators.specs.declared.Binary.TheVariants.{Add}
 use Rattle.source.specs.declared.fault.FaultKind.{FaultKind}
@@ -12,9 +12,9 @@ use Rattle.source.specs.Tree.{Name}
 use Rattle.source.specs.Spelled.{Lexeme, TheSign, TheNumber}
 use Rattle.source.specs.Words.{Words}
 use Rattle.law_grammar.specs.declared.symbol.Symbol.{Symbol}
-use Rattle.law_grammar.specs.declared.symbol.Symbol.TheVariants.{Sign as OneSign, Keyword as OneWord, Emit, Items, ArrayName, ArrayLength, FunctionName, Parameter, Parameters, Results, ResultCount, FunctionBody, Steps, Target as OneTarget, Targets, LetEnd, StepEnd, Operand, Negated, After, AfterName, AfterIndex, Callee, CallEnd, Otherwise, Bound, Start, Starts, Turn as OneTurn}
-use Rattle.law_grammar.specs.Automaton.{Stack, Outcome, Takes, Passes, Refuses, appending, above, within, is_sign, infix_of, goes_on, after, step, Moved, moved_after, advance_by, advance}
-use Rattle.law_grammar.proofs.Meaning.{Ready, AllReady}
+use Rattle.law_grammar.specs.declared.symbol.Symbol.TheVariants.{Sign as OneSign, Emit, ArrayLength, ResultCount, Steps, StepEnd, Operand, Negated, After, AfterName, AfterIndex, Bound}
+use Rattle.law_grammar.specs.Automaton.{Stack, Outcome, Takes, Passes, Refuses, appending, above, is_sign, infix_of, goes_on, after, step, Moved, moved_after, advance_by, advance}
+use Rattle.law_grammar.specs.Ready.{Ready, AllReady}
 use Rattle.law_grammar.proofs.Terminals.{that_sign}
 use Rattle.law_grammar.proofs.Leads.{within_is}
 
@@ -35,16 +35,22 @@ paired_appending kind ws o _ itself = itself
 paired_after : (m k d at : ℕ) → Paired NotACell (after m k d at (TheSign sign.Plus)) (after m k d at (TheSign sign.Becomes))
 paired_after m k d at = go (goes_on m k (Direct Add))
   where
-    go : (b : Bool) → Paired NotACell (if b then Takes (word.Left ∷ []) (Operand 7 d ∷ Emit (word.Infix at (Direct Add)) ∷ After m 6 d ∷ []) else Passes []) (if b then Refuses NotACell else Passes [])
+    go : (b : Bool) → Paired NotACell (if b then Takes (word.Left ∷ []) (Operand 7 d ∷ Emit (word.Infix at (Direct Add)) ∷ After m 6 d ∷ []) else Passes [])
+        (if b then Refuses NotACell else Passes [])
     go true = fault
     go false = pass_both
 
-paired_sign : (s : Sign) → infix_of s ≡ None → Paired NotACell (if is_sign s (TheSign sign.Plus) then Takes [] [] else Refuses Unexpected) (if is_sign s (TheSign sign.Becomes) then Takes [] [] else Refuses Unexpected)
+paired_sign : (s : Sign) → infix_of s ≡ None
+    → Paired NotACell (if is_sign s (TheSign sign.Plus) then Takes [] [] else Refuses Unexpected)
+    (if is_sign s (TheSign sign.Becomes) then Takes [] [] else Refuses Unexpected)
 paired_sign s r = go (is_sign s (TheSign sign.Plus)) refl (is_sign s (TheSign sign.Becomes))
   where
     never : is_sign s (TheSign sign.Plus) ≡ true → ⊥
-    never e = let p = that_sign s (TheSign sign.Plus) e in let q : sign.Plus ≡ s = cc in let n : infix_of sign.Plus ≡ None = subst (λ t. infix_of t ≡ None) (sym q) r in cc
-    go : (b : Bool) → is_sign s (TheSign sign.Plus) ≡ b → (c : Bool) → Paired NotACell (if b then Takes [] [] else Refuses Unexpected) (if c then Takes [] [] else Refuses Unexpected)
+    never e = let p = that_sign s (TheSign sign.Plus) e in let q : sign.Plus ≡ s = cc in
+        let n : infix_of sign.Plus ≡ None = subst (λ t. infix_of t ≡ None) (sym q) r in cc
+
+    go : (b : Bool) → is_sign s (TheSign sign.Plus) ≡ b → (c : Bool)
+        → Paired NotACell (if b then Takes [] [] else Refuses Unexpected) (if c then Takes [] [] else Refuses Unexpected)
     go true e c = absurd (never e)
     go false e true = itself
     go false e false = neither
@@ -66,7 +72,8 @@ module _ (limit at : ℕ) where
   paired_number (AfterName named x m d) r = pass_both
   paired_number (AfterIndex cell a zero d) r = pass_both
   paired_number (AfterIndex cell a (suc m) d) r = pass_both
-  paired_number (Operand m d) r = subst (λ o. Paired BadNumber o (Refuses BadNumber)) (sym (within_is limit d (Takes (word.Number at 0 ∷ []) (After m 9 d ∷ [])) r.1)) fault
+  paired_number (Operand m d) r =
+      subst (λ o. Paired BadNumber o (Refuses BadNumber)) (sym (within_is limit d (Takes (word.Number at 0 ∷ []) (After m 9 d ∷ [])) r.1)) fault
   paired_number (Steps d) r = subst (λ o. Paired BadNumber (appending (word.List ∷ []) (above (StepEnd d ∷ []) o)) (Refuses BadNumber))
       (sym (within_is limit (d + 1) (Takes (word.Number at 0 ∷ []) (After 0 9 (d + 1) ∷ [])) r)) fault
   paired_number (Negated d) r = itself
@@ -81,7 +88,8 @@ pub data PairedMoved (kind : FaultKind) : Result Moved FaultKind → Result Move
   moved_neither : {k : FaultKind} → PairedMoved kind (Err k) (Err Unexpected)
   moved_itself : {r : Result Moved FaultKind} {m : Moved} → PairedMoved kind r (Ok m)
 
-module _ (limit at : ℕ) (kind : FaultKind) (good bad : Lexeme) (each : (s : Symbol Name) → Ready limit s → Paired kind (step limit s at good) (step limit s at bad)) where
+module _ (limit at : ℕ) (kind : FaultKind) (good bad : Lexeme)
+    (each : (s : Symbol Name) → Ready limit s → Paired kind (step limit s at good) (step limit s at bad)) where
   paired_later : (ws : Words) (r q : Result Moved FaultKind) → PairedMoved kind r q → PairedMoved kind (moved_after ws r) (moved_after ws q)
   paired_later ws _ _ moved_fault = moved_fault
   paired_later ws _ _ moved_neither = moved_neither

@@ -1,29 +1,25 @@
 -- COMPLETE, operands: the automaton reads the tokens of a fitting expression, and appends its words. The parts of the expression
 -- are hypotheses here.
-use Rattle.std.proofs.Common.{◌≡◌, ℕ, zero, suc, ◌+◌, ◌<◌, ◌≤◌, max, Bool, true, false, List, [], ◌∷◌, ◌++◌, map, length, Option, None, Some, Result, Ok, Err, refl, sym, ap, ◌∙◌, subst, append_assoc, append-nil, arith, inl, inr}
-use Rattle.std.specs.Prelude.{◌^◌, ◌⊎◌, nat_le, ⊤, if◌then◌else◌}
+use Rattle.std.proofs.Common.{◌≡◌, ℕ, suc, ◌+◌, ◌≤◌, true, false, List, [], ◌∷◌, ◌++◌, None, Some, Ok, refl, sym, ap, ◌∙◌, subst, append-nil, arith, inl, inr}
+use Rattle.std.specs.Prelude.{◌^◌, ◌⊎◌, if◌then◌else◌}
 use Rattle.std.proofs.lemmas.Bool.{le-leb}
-use Rattle.std.proofs.Math.Nat.{le-max_left, le-max_right}
 use Rattle.operators.specs.declared.Unary.{Unary}
 use Rattle.operators.specs.declared.Unary.TheVariants.{Neg, Not}
 use Rattle.source.specs.declared.fault.FaultKind.TheVariants.{Unexpected}
-use Rattle.source.specs.declared.token.Keyword.TheVariants as keyword
 use Rattle.source.specs.declared.token.Sign.{Sign}
 use Rattle.source.specs.declared.token.Sign.TheVariants as sign
-use Rattle.source.specs.declared.word.InfixSign.{InfixSign}
-use Rattle.source.specs.declared.word.Word.{Word}
 use Rattle.source.specs.declared.word.Word.TheVariants as word
 use Rattle.source.specs.Tree.{Name, Expr, Number, Named, Bracket, Prefix, Infix, Fetch, Store, Call, If, Loop}
-use Rattle.source.specs.Spelled.{Lexeme, TheWord, TheSign, TheNumber, TheName, Spelling, IsPlace, the_word, the_sign, sign_at, number_at, name_at, word_at, prefix_sign, infix_sign, tokens}
-use Rattle.source.specs.Fits.{sign_level, left_level, level, Fits, IsLeast, depth, prefix_depth}
+use Rattle.source.specs.Spelled.{Lexeme, TheSign, TheNumber, TheName, Spelling, the_sign, sign_at, number_at, name_at, prefix_sign, tokens}
+use Rattle.source.specs.Fits.{sign_level, level, Fits, IsLeast, depth, prefix_depth}
 use Rattle.source.specs.Words.{Words, words}
 use Rattle.law_grammar.specs.declared.symbol.Symbol.{Symbol}
-use Rattle.law_grammar.specs.declared.symbol.Symbol.TheVariants.{Sign as OneSign, Emit, Operand, Negated, After, AfterName, AfterIndex}
-use Rattle.law_grammar.specs.Automaton.{Stack, Outcome, Takes, Passes, Refuses, within, small, step, operand, negated, moved_after, advance_by, advance}
-use Rattle.law_grammar.proofs.Meaning.{IsOperand}
-use Rattle.law_grammar.proofs.ExplainOperands.{sign_level_most}
+use Rattle.law_grammar.specs.declared.symbol.Symbol.TheVariants.{Sign as OneSign, Emit, Operand, Negated, After, AfterName}
+use Rattle.law_grammar.specs.Automaton.{Stack, Takes, Refuses, step, operand, negated, advance_by, advance}
+use Rattle.law_grammar.proofs.Yielded.{IsOperand}
+use Rattle.law_grammar.proofs.ExplainFollowing.{sign_level_most}
 use Rattle.law_grammar.proofs.Leads.{within_is, small_is, moved_nothing, Leads, Moves, leads_as, leads_none, leads_cons, leads_settled, leads_append, advance_takes, advance_sign, Reads, reads_exactly, reads_as, reads_leads, leads_reads, reads_pass, leads_pass}
-use Rattle.law_grammar.proofs.Followed.{Closes, close_paren, close_bracket, Stops, closes, operates, stops_more, stops_seven, after_takes, pass_after, pass_end, pass_name, pass_index}
+use Rattle.law_grammar.proofs.Followed.{close_paren, Stops, closes, stops_more, stops_seven, pass_after, pass_end, pass_name}
 
 -- what stands on the stack behind an expression
 abbrev pub rest_of : Expr → ℕ → ℕ → Stack → Stack
@@ -55,7 +51,8 @@ module _ (limit : ℕ) where
   ExprReads e = (m d : ℕ) (S : Stack) → IsOperand limit m d e → Reads limit (Operand m d ∷ S) (tokens e) (words e) (Stops (level e)) (rest_of e m d S)
 
   -- ONE TOKEN
-  pub moves_at : (S T : Stack) (at : ℕ) (l : Lexeme) (ws : Words) → advance limit S at l ≡ Ok (record { appended = ws; stack = T }) → Moves limit S (record { place = Some at; lexeme = l }) ws T
+  pub moves_at : (S T : Stack) (at : ℕ) (l : Lexeme) (ws : Words) → advance limit S at l ≡ Ok (record { appended = ws; stack = T })
+      → Moves limit S (record { place = Some at; lexeme = l }) ws T
   moves_at S T at l ws e = λ there p. subst (λ x. advance limit S x l ≡ Ok (record { appended = ws; stack = T })) p e
 
   pub one_token : (S T : Stack) (s : Spelling) (ws : Words) → Moves limit S s ws T → Leads limit S (s ∷ []) ws T
@@ -80,7 +77,8 @@ module _ (limit : ℕ) where
 
   -- AN EXPRESSION ALONE
   end_of : (S T : Stack) (ss : List Spelling) (ws : Words) (k d : ℕ) → Reads limit S ss ws (Stops k) (After 0 k d ∷ T) → Reads limit S ss ws (Stops 0) T
-  end_of S T ss ws k d r = reads_as limit (reads_pass limit (Stops 0) [] (λ l h. stops_more 0 k l (omega arith) h) (λ at l h. pass_end limit T 0 k d at l h) r) refl (append-nil ws)
+  end_of S T ss ws k d r =
+      reads_as limit (reads_pass limit (Stops 0) [] (λ l h. stops_more 0 k l (omega arith) h) (λ at l h. pass_end limit T 0 k d at l h) r) refl (append-nil ws)
 
   pub expr_reads : (e : Expr) (d : ℕ) (S : Stack) → ExprReads e → IsOperand limit 0 d e → Reads limit (Operand 0 d ∷ S) (tokens e) (words e) (Stops 0) S
   expr_reads (Number at n) d S f ok = end_of _ S _ _ 9 d (f 0 d S ok)
@@ -95,7 +93,8 @@ module _ (limit : ℕ) where
   expr_reads (Loop at b es t) d S f ok = end_of _ S _ _ 9 d (f 0 d S ok)
 
   -- an operand of level 1 or more
-  pub operand_reads : (e : Expr) (m d : ℕ) (S : Stack) → ExprReads e → IsOperand limit m d e → 1 ≤ level e → Reads limit (Operand m d ∷ S) (tokens e) (words e) (Stops (level e)) (After m (level e) d ∷ S)
+  pub operand_reads : (e : Expr) (m d : ℕ) (S : Stack) → ExprReads e → IsOperand limit m d e → 1 ≤ level e
+      → Reads limit (Operand m d ∷ S) (tokens e) (words e) (Stops (level e)) (After m (level e) d ∷ S)
   operand_reads e m d S f ok h = subst (λ T. Reads limit (Operand m d ∷ S) (tokens e) (words e) (Stops (level e)) T) (rest_is e m d S h) (f m d S ok)
 
   -- LEAVES
@@ -107,7 +106,9 @@ module _ (limit : ℕ) where
   name_leads at x m d S h = leads_step (Operand m d) S at (TheName x) _ _ (within_is limit d _ h)
 
   pub reads_named : (at : ℕ) (x : Name) → ExprReads (Named at x)
-  reads_named at x m d S ok = leads_pass limit (Stops 9) (word.Name at x ∷ []) (λ there l h. pass_name limit S at x m d 9 there l h) (name_leads at x m d S (let g = ok.deep in omega arith))
+  reads_named at x m d S ok =
+      leads_pass limit (Stops 9) (word.Name at x ∷ []) (λ there l h. pass_name limit S at x m d 9 there l h)
+      (name_leads at x m d S (let g = ok.deep in omega arith))
 
   -- BRACKETS
   pub reads_bracket : (e : Expr) → ExprReads e → ExprReads (Bracket e)
@@ -115,39 +116,48 @@ module _ (limit : ℕ) where
       let Z : Stack = Emit word.Bracket ∷ After m 9 d ∷ S in
       let deeper : d + 1 ≤ limit = (let g = ok.deep in omega arith) in
       let inside : Reads limit (Operand 0 (d + 1) ∷ OneSign sign.CloseParen ∷ Z) (tokens e) (words e) (Stops 0) (OneSign sign.CloseParen ∷ Z) =
-          expr_reads e (d + 1) (OneSign sign.CloseParen ∷ Z) f (record { fits = ok.fits; at_least = omega arith; deep = (let g = ok.deep in omega arith) }) in
+      expr_reads e (d + 1) (OneSign sign.CloseParen ∷ Z) f (record { fits = ok.fits; at_least = omega arith; deep = (let g = ok.deep in omega arith) }) in
       let closed : Leads limit (Operand 0 (d + 1) ∷ OneSign sign.CloseParen ∷ Z) (tokens e ++ the_sign sign.CloseParen ∷ []) (words e ++ []) Z =
-          reads_leads limit (the_sign sign.CloseParen) (closes close_paren) inside (leads_sign sign.CloseParen Z) in
+      reads_leads limit (the_sign sign.CloseParen) (closes close_paren) inside (leads_sign sign.CloseParen Z) in
       let all : Leads limit (Operand m d ∷ S) (tokens (Bracket e)) (words e ++ []) Z =
-          leads_append limit (leads_any (Operand m d) S (TheSign sign.OpenParen) _ _ (λ at. within_is limit (d + 1) _ deeper)) closed in
+      leads_append limit (leads_any (Operand m d) S (TheSign sign.OpenParen) _ _ (λ at. within_is limit (d + 1) _ deeper)) closed in
       reads_as limit (leads_pass limit (Stops 9) (word.Bracket ∷ []) (λ at l h. refl) all) refl (ap (λ t. t ++ word.Bracket ∷ []) (append-nil (words e)))
 
   -- PREFIXES
   -- what is behind the sign
   prefixed : (at : ℕ) (op : Unary) (e : Expr) (m d k : ℕ) (S X : Stack) (ws : Words) → 8 ≤ k
-      → Reads limit X (tokens e) (words e) (Stops k) (After 8 k (d + 1) ∷ Emit (word.Prefix at op) ∷ After m 8 d ∷ S) → Reads limit X (tokens e) (words e ++ word.Prefix at op ∷ []) (Stops 8) (After m 8 d ∷ S)
-  prefixed at op e m d k S X ws h r = reads_pass limit {T = Emit (word.Prefix at op) ∷ After m 8 d ∷ S} (Stops 8) (word.Prefix at op ∷ []) (λ l g. g) (λ there l g. refl)
-      (reads_as limit (reads_pass limit (Stops 8) [] (λ l g. stops_more 8 k l h g) (λ there l g. pass_after limit _ 8 k (d + 1) 7 (omega arith) there l (stops_seven 8 l g)) r) refl (append-nil (words e)))
+      → Reads limit X (tokens e) (words e) (Stops k) (After 8 k (d + 1) ∷ Emit (word.Prefix at op) ∷ After m 8 d ∷ S)
+      → Reads limit X (tokens e) (words e ++ word.Prefix at op ∷ []) (Stops 8) (After m 8 d ∷ S)
+  prefixed at op e m d k S X ws h r =
+      reads_pass limit {T = Emit (word.Prefix at op) ∷ After m 8 d ∷ S} (Stops 8) (word.Prefix at op ∷ []) (λ l g. g) (λ there l g. refl)
+      (reads_as limit (reads_pass limit (Stops 8) [] (λ l g. stops_more 8 k l h g)
+      (λ there l g. pass_after limit _ 8 k (d + 1) 7 (omega arith) there l (stops_seven 8 l g)) r) refl (append-nil (words e)))
 
   with_prefix : (at : ℕ) (op : Unary) (e : Expr) (m d : ℕ) (S X : Stack) → Moves limit (Operand m d ∷ S) (sign_at at (prefix_sign op)) [] X
-      → Reads limit X (tokens e) (words e ++ word.Prefix at op ∷ []) (Stops 8) (After m 8 d ∷ S) → Reads limit (Operand m d ∷ S) (tokens (Prefix at op e)) (words (Prefix at op e)) (Stops 8) (After m 8 d ∷ S)
+      → Reads limit X (tokens e) (words e ++ word.Prefix at op ∷ []) (Stops 8) (After m 8 d ∷ S)
+      → Reads limit (Operand m d ∷ S) (tokens (Prefix at op e)) (words (Prefix at op e)) (Stops 8) (After m 8 d ∷ S)
   with_prefix at op e m d S X moves r = leads_reads limit (one_token _ _ _ _ moves) r
 
   pub reads_not : (at : ℕ) (e : Expr) → ExprReads e → ExprReads (Prefix at Not e)
   reads_not at e f m d S ok =
       let fits : Fits e = not_least (ok.fits.1) in
       with_prefix at Not e m d S (Operand 8 (d + 1) ∷ Emit (word.Prefix at Not) ∷ After m 8 d ∷ S)
-        (moves_step (Operand m d) S at (TheSign sign.Tilde) _ _ (within_is limit (d + 1) _ (let g = ok.deep in omega arith)))
-        (prefixed at Not e m d (level e) S _ [] ok.fits.0 (operand_reads e 8 (d + 1) _ f (record { fits = fits; at_least = ok.fits.0; deep = (let g = ok.deep in omega arith) }) (let g = ok.fits.0 in omega arith)))
+      (moves_step (Operand m d) S at (TheSign sign.Tilde) _ _ (within_is limit (d + 1) _ (let g = ok.deep in omega arith)))
+      (prefixed at Not e m d (level e) S _ [] ok.fits.0
+      (operand_reads e 8 (d + 1) _ f (record { fits = fits; at_least = ok.fits.0; deep = (let g = ok.deep in omega arith) })
+      (let g = ok.fits.0 in omega arith)))
     where
       not_least : Fits e ⊎ IsLeast Not e → Fits e
       not_least (inl h) = h
       not_least (inr h) = absurd h
 
   -- behind a `-` that is no number
-  negated_leads : (d : ℕ) (Z T : Stack) (s : Spelling) (ss : List Spelling) (ws : Words) → ((at : ℕ) → negated limit d at s.lexeme ≡ operand limit 8 (d + 1) at s.lexeme)
+  negated_leads : (d : ℕ) (Z T : Stack) (s : Spelling) (ss : List Spelling) (ws : Words)
+      → ((at : ℕ) → negated limit d at s.lexeme ≡ operand limit 8 (d + 1) at s.lexeme)
       → Leads limit (Operand 8 (d + 1) ∷ Z) (s ∷ ss) ws T → Leads limit (Negated d ∷ Z) (s ∷ ss) ws T
-  negated_leads d Z T s ss ws same l = leads_settled limit s ss [] (λ at p. ap (λ o. advance_by o Z (advance limit Z at s.lexeme)) (same at) ∙ sym (moved_nothing (advance limit (Operand 8 (d + 1) ∷ Z) at s.lexeme))) l
+  negated_leads d Z T s ss ws same l =
+      leads_settled limit s ss []
+      (λ at p. ap (λ o. advance_by o Z (advance limit Z at s.lexeme)) (same at) ∙ sym (moved_nothing (advance limit (Operand 8 (d + 1) ∷ Z) at s.lexeme))) l
 
   negated_expr : (e : Expr) (d : ℕ) (Z T : Stack) (ws : Words) → 8 ≤ level e → prefix_depth Neg e (depth e) ≡ suc (depth e)
       → Leads limit (Operand 8 (d + 1) ∷ Z) (tokens e) ws T → Leads limit (Negated d ∷ Z) (tokens e) ws T
@@ -163,31 +173,43 @@ module _ (limit : ℕ) where
   negated_expr (If at p e f) d Z T ws h k l = negated_leads d Z T _ _ ws (λ at. refl) l
   negated_expr (Loop at b es t) d Z T ws h k l = negated_leads d Z T _ _ ws (λ at. refl) l
 
-  minus_moves : (at m d : ℕ) (S : Stack) → d ≤ limit → Moves limit (Operand m d ∷ S) (sign_at at sign.Minus) [] (Negated d ∷ Emit (word.Prefix at Neg) ∷ After m 8 d ∷ S)
+  minus_moves : (at m d : ℕ) (S : Stack) → d ≤ limit
+      → Moves limit (Operand m d ∷ S) (sign_at at sign.Minus) [] (Negated d ∷ Emit (word.Prefix at Neg) ∷ After m 8 d ∷ S)
   minus_moves at m d S h = moves_step (Operand m d) S at (TheSign sign.Minus) _ _ (within_is limit d _ h)
 
-  negated_reads : (at : ℕ) (e : Expr) (m d : ℕ) (S : Stack) → ExprReads e → Fits e → 8 ≤ level e → d + suc (depth e) ≤ limit → prefix_depth Neg e (depth e) ≡ suc (depth e)
+  negated_reads : (at : ℕ) (e : Expr) (m d : ℕ) (S : Stack) → ExprReads e → Fits e → 8 ≤ level e → d + suc (depth e) ≤ limit
+      → prefix_depth Neg e (depth e) ≡ suc (depth e)
       → Reads limit (Operand m d ∷ S) (tokens (Prefix at Neg e)) (words (Prefix at Neg e)) (Stops 8) (After m 8 d ∷ S)
   negated_reads at e m d S f fits h deep k =
       let Z : Stack = Emit (word.Prefix at Neg) ∷ After m 8 d ∷ S in
       let r : Reads limit (Operand 8 (d + 1) ∷ Z) (tokens e) (words e) (Stops (level e)) (After 8 (level e) (d + 1) ∷ Z) =
-          operand_reads e 8 (d + 1) Z f (record { fits = fits; at_least = h; deep = omega arith }) (omega arith) in
+      operand_reads e 8 (d + 1) Z f (record { fits = fits; at_least = h; deep = omega arith }) (omega arith) in
       let n : Reads limit (Negated d ∷ Z) (tokens e) (words e) (Stops (level e)) (After 8 (level e) (d + 1) ∷ Z) =
-          record { reached = r.reached; early = r.early; late = r.late; joined = r.joined; leads = negated_expr e d Z r.reached r.early h k r.leads; settles = r.settles } in
+      record {
+        reached = r.reached;
+        early = r.early;
+        late = r.late;
+        joined = r.joined;
+        leads = negated_expr e d Z r.reached r.early h k r.leads;
+        settles = r.settles;
+      } in
       with_prefix at Neg e m d S (Negated d ∷ Z) (minus_moves at m d S (omega arith)) (prefixed at Neg e m d (level e) S _ [] h n)
 
   reads_least : (at there n : ℕ) → ExprReads (Prefix at Neg (Number there n))
   reads_least at there n m d S ok =
       let Z : Stack = Emit (word.Prefix at Neg) ∷ After m 8 d ∷ S in
       let number : Leads limit (Negated d ∷ Z) (number_at there n ∷ []) (word.Number there n ∷ []) Z =
-          leads_step (Negated d) Z there (TheNumber n) _ _ (ap (λ b. if b then Takes (word.Number there n ∷ []) [] else Refuses Unexpected) (le-leb n (2 ^ 63) (at_most ok.fits.1))) in
-      with_prefix at Neg (Number there n) m d S (Negated d ∷ Z) (minus_moves at m d S (let g = ok.deep in omega arith)) (leads_pass limit (Stops 8) (word.Prefix at Neg ∷ []) (λ x l h. refl) number)
+      leads_step (Negated d) Z there (TheNumber n) _ _
+      (ap (λ b. if b then Takes (word.Number there n ∷ []) [] else Refuses Unexpected) (le-leb n (2 ^ 63) (at_most ok.fits.1))) in
+      with_prefix at Neg (Number there n) m d S (Negated d ∷ Z) (minus_moves at m d S (let g = ok.deep in omega arith))
+      (leads_pass limit (Stops 8) (word.Prefix at Neg ∷ []) (λ x l h. refl) number)
     where
       at_most : Fits (Number there n) ⊎ IsLeast Neg (Number there n) → n ≤ 2 ^ 63
       at_most (inl h) = omega arith
       at_most (inr h) = omega arith
 
-  deeper : (at : ℕ) (e : Expr) (m d : ℕ) (S : Stack) → ExprReads e → IsOperand limit m d (Prefix at Neg e) → (Fits e ⊎ IsLeast Neg e → Fits e) → prefix_depth Neg e (depth e) ≡ suc (depth e)
+  deeper : (at : ℕ) (e : Expr) (m d : ℕ) (S : Stack) → ExprReads e → IsOperand limit m d (Prefix at Neg e) → (Fits e ⊎ IsLeast Neg e → Fits e)
+      → prefix_depth Neg e (depth e) ≡ suc (depth e)
       → Reads limit (Operand m d ∷ S) (tokens (Prefix at Neg e)) (words (Prefix at Neg e)) (Stops 8) (After m 8 d ∷ S)
   deeper at e m d S f ok g k = negated_reads at e m d S f (g ok.fits.1) ok.fits.0 (let h = ok.deep in omega arith) k
 

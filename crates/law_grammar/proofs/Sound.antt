@@ -1,26 +1,26 @@
 -- SOUND: what the automaton reads are the tokens of a fitting program, and what it appends are that program's words. What
 -- it has read at any time goes on to such a program.
-use Rattle.std.proofs.Common.{◌≡◌, ℕ, zero, suc, ◌+◌, ◌<◌, ◌≤◌, Bool, true, false, List, [], ◌∷◌, ◌++◌, map, length, All, Option, None, Some, Result, Ok, Err, refl, sym, ap, ◌∙◌, subst, append_assoc, append-nil, arith, inl}
+use Rattle.std.proofs.Common.{◌≡◌, ℕ, ◌+◌, ◌≤◌, Bool, true, List, [], ◌∷◌, ◌++◌, map, length, Option, None, Some, Result, Ok, Err, refl, sym, ap, ◌∙◌, subst, append_assoc, append-nil, arith}
 use Rattle.std.specs.Prelude.{⊤}
-use Rattle.std.proofs.lemmas.List.Elements.{All-nil}
 use Rattle.lemmas.proofs.Lists.{map_append}
 use Rattle.source.specs.declared.fault.Fault.{Fault}
-use Rattle.source.specs.declared.fault.FaultKind.{FaultKind}
 use Rattle.source.specs.declared.token.Sign.TheVariants as sign
 use Rattle.source.specs.declared.token.Keyword.TheVariants as keyword
 use Rattle.source.specs.declared.token.Token.{Token}
-use Rattle.source.specs.Tree.{Name, NameAt, NumberAt, Drop, Expr, Number, One, Give, Program}
+use Rattle.source.specs.Tree.{Name, Number, One, Give, Program}
 use Rattle.source.specs.Spelled.{Lexeme, TheWord, TheSign, TheNumber, TheName, lexeme, Spelling, program_tokens}
-use Rattle.source.specs.Fits.{FitsItem, FitsProgram, program_depth}
+use Rattle.source.specs.Fits.{FitsProgram, program_depth}
 use Rattle.source.specs.Words.{Words, program_words}
-use Rattle.source.specs.Parses.{Parses, GoesOn, GoesOnDeeply, lexemes, says}
+use Rattle.source.specs.Parses.{Parses, lexemes, says}
 use Rattle.law_grammar.specs.declared.symbol.Symbol.{Symbol}
 use Rattle.law_grammar.specs.declared.symbol.Symbol.TheVariants.{Sign as OneSign, Keyword as OneWord, Emit, Items, ArrayName, ArrayLength, FunctionName, Parameter, Parameters, Results, ResultCount, FunctionBody, Steps, Target as OneTarget, Targets, LetEnd, StepEnd, Operand, Negated, After, AfterName, AfterIndex, Callee, CallEnd, Otherwise, Bound, Start, Starts, Turn as OneTurn}
-use Rattle.law_grammar.specs.Automaton.{Stack, Outcome, Takes, Passes, Refuses, step, Placed, placed, Moved, ended, ended_then, finish, run, parsed}
-use Rattle.law_grammar.proofs.Meaning.{Programs, Yields, Given, Ready, AllReady, Explains, takes, passes, refuses}
-use Rattle.law_grammar.proofs.ExplainOperands.{explains_fetch}
+use Rattle.law_grammar.specs.Automaton.{Stack, Takes, Passes, Placed, placed, Moved, ended_then, finish, parsed}
+use Rattle.law_grammar.proofs.Yielded.{Programs}
+use Rattle.law_grammar.specs.Ready.{Ready, AllReady}
+use Rattle.law_grammar.proofs.Meaning.{Yields, Given, Explains, takes, passes}
+use Rattle.law_grammar.proofs.ExplainFollowing.{explains_fetch}
 use Rattle.law_grammar.proofs.ExplainItems.{explained}
-use Rattle.law_grammar.proofs.Runs.{Spells, are_spelled, advance_all, Ran, whole, unended, stopped, ran, AdvancedAll, moved_all, refused_all, advanced_all}
+use Rattle.law_grammar.proofs.Runs.{Spells, are_spelled, advance_all, Ran, whole, ran, AdvancedAll, moved_all, advanced_all}
 
 -- THE END
 abbrev FinishesWith : (List Spelling → Words → Type 0) → List Spelling → Words → Option Words → Type 0
@@ -28,16 +28,18 @@ FinishesWith K ss ws None = ⊤
 FinishesWith K ss ws (Some vs) = K ss (ws ++ vs)
 
 module _ (limit : ℕ) (K : List Spelling → Words → Type 0) where
-  finish_later : (ss : List Spelling) (ws us : Words) (r : Option Words) → FinishesWith K (ss ++ []) (ws ++ us) r → FinishesWith K ss ws (ended_then (Some us) r)
+  finish_later : (ss : List Spelling) (ws us : Words) (r : Option Words) → FinishesWith K (ss ++ []) (ws ++ us) r
+      → FinishesWith K ss ws (ended_then (Some us) r)
   finish_later ss ws us None h = tt
   finish_later ss ws us (Some vs) h = subst (λ ts. K ts (ws ++ (us ++ vs))) (append-nil ss) (rw (← append_assoc ws us vs) h)
 
   no_program : Programs limit [] []
-  no_program = record { p = []; fits = All-nil FitsItem; deep = omega arith; spelled = refl; says = refl }
+  no_program = record { p = []; fits = tt; deep = omega arith; spelled = refl; says = refl }
 
   pub finish_right : (S : Stack) (ss : List Spelling) (ws : Words) → Given limit S K ss ws → FinishesWith K ss ws (finish S)
   finish_right [] ss ws given = rw (append-nil ws) given
-  finish_right (Emit w ∷ S) ss ws given = finish_later ss ws (w ∷ []) (finish S) (finish_right S (ss ++ []) (ws ++ w ∷ []) (given [] (w ∷ []) (record { spelled = refl; says = refl })))
+  finish_right (Emit w ∷ S) ss ws given =
+      finish_later ss ws (w ∷ []) (finish S) (finish_right S (ss ++ []) (ws ++ w ∷ []) (given [] (w ∷ []) (record { spelled = refl; says = refl })))
   finish_right (Items ∷ S) ss ws given = finish_later ss ws [] (finish S) (finish_right S (ss ++ []) (ws ++ []) (given [] [] no_program))
   finish_right (s ∷ S) ss ws given = tt
 
@@ -56,7 +58,8 @@ pub record Completed (K : List Spelling → Words → Type 0) (ss : List Spellin
   pub vs : Words
   pub holds : K (ss ++ ts) (ws ++ vs)
 
-complete_all : (limit : ℕ) (P : Stack) (K : List Spelling → Words → Type 0) (ss : List Spelling) (ws : Words) → Given limit P K ss ws → AllComplete limit P → Completed K ss ws
+complete_all : (limit : ℕ) (P : Stack) (K : List Spelling → Words → Type 0) (ss : List Spelling) (ws : Words) → Given limit P K ss ws → AllComplete limit P
+    → Completed K ss ws
 complete_all limit [] K ss ws given cs = record { ts = []; vs = []; holds = rw (append-nil ss, append-nil ws) given }
 complete_all limit (s ∷ P) K ss ws given cs =
     let c = cs.0 in
@@ -81,14 +84,23 @@ module _ (limit : ℕ) where
   emit w = record { ss = _; ws = _; holds = record { spelled = refl; says = refl } }
 
   zero_operand : (m d : ℕ) → m ≤ 9 → d ≤ limit → Complete limit (Operand m d)
-  zero_operand m d h k = record { ss = _; ws = _; holds = record { e = Number 0 0; ok = record { fits = omega arith; at_least = h; deep = omega arith }; spelled = refl; says = refl } }
+  zero_operand m d h k =
+      record {
+        ss = _;
+        ws = _;
+        holds = record { e = Number 0 0; ok = record { fits = omega arith; at_least = h; deep = omega arith }; spelled = refl; says = refl };
+      }
 
   abbrev semicolon : Lexeme
   semicolon = TheSign sign.Semicolon
 
   -- a number as the only value
   steps_end : (d : ℕ) → d + 1 ≤ limit → Complete limit (Steps d)
-  steps_end d r = record { ss = _; ws = _; holds = record { b = Give (One (Number 0 0)); ok = record { fits = omega arith; deep = omega arith }; spelled = refl; says = refl } }
+  steps_end d r = record {
+    ss = _;
+    ws = _;
+    holds = record { b = Give (One (Number 0 0)); ok = record { fits = omega arith; deep = omega arith }; spelled = refl; says = refl };
+  }
 
   let_end : (given d : ℕ) → d + 1 ≤ limit → Complete limit (LetEnd given d)
   let_end given d r = by_token (explained limit (LetEnd given d) 0 semicolon r) (steps_end d r, tt)
@@ -103,7 +115,8 @@ module _ (limit : ℕ) where
   starts d r = by_token (explained limit (Starts d) 0 (TheSign sign.CloseParen) r) tt
 
   turn : (d : ℕ) → d + 1 ≤ limit → Complete limit (OneTurn d)
-  turn d r = by_token (explained limit (OneTurn d) 0 (TheWord keyword.While) r) (zero_operand 0 (d + 1) (omega arith) r, (emit _, (one_sign _, (steps_end d r, tt))))
+  turn d r = by_token (explained limit (OneTurn d) 0 (TheWord keyword.While) r)
+      (zero_operand 0 (d + 1) (omega arith) r, (emit _, (one_sign _, (steps_end d r, tt))))
 
   pub complete : (s : Symbol Name) → Ready limit s → Complete limit s
   complete (OneSign s) r = one_sign s
@@ -120,7 +133,8 @@ module _ (limit : ℕ) where
   complete FunctionBody r = by_token (explained limit FunctionBody 0 (TheSign sign.OpenBrace) r) (steps_end 0 (omega arith), tt)
   complete (Steps d) r = steps_end d r
   complete OneTarget r = by_token (explained limit OneTarget 0 (TheSign sign.Underscore) r) tt
-  complete (Targets given d) r = by_token (explained limit (Targets given d) 0 (TheSign sign.Equals) r) (zero_operand 0 (d + 1) (omega arith) r, (let_end given d r, tt))
+  complete (Targets given d) r =
+      by_token (explained limit (Targets given d) 0 (TheSign sign.Equals) r) (zero_operand 0 (d + 1) (omega arith) r, (let_end given d r, tt))
   complete (LetEnd given d) r = let_end given d r
   complete (StepEnd d) r = by_token (explained limit (StepEnd d) 0 (TheSign sign.CloseBrace) r) tt
   complete (Operand m d) r = zero_operand m d (let g = r.0 in omega arith) r.1
@@ -128,7 +142,8 @@ module _ (limit : ℕ) where
   complete (After m k d) r = by_none (explained limit (After m k d) 0 semicolon r)
   complete (AfterName named x m d) r = by_none (explained limit (AfterName named x m d) 0 semicolon r)
   complete (AfterIndex cell a m d) r = by_none (explains_fetch limit cell a m d 0 semicolon r)
-  complete (Callee d) r = by_token (explained limit (Callee d) 0 (TheName []) r) (one_sign _, (zero_operand 0 (d + 1) (omega arith) r, (call_end 0 true [] d r, tt)))
+  complete (Callee d) r =
+      by_token (explained limit (Callee d) 0 (TheName []) r) (one_sign _, (zero_operand 0 (d + 1) (omega arith) r, (call_end 0 true [] d r, tt)))
   complete (CallEnd called strict f d) r = call_end called strict f d r
   complete (Otherwise d) r = by_token (explained limit (Otherwise d) 0 (TheSign sign.OpenBrace) r) (steps_end d r, tt)
   complete (Bound loop d) r = by_token (explained limit (Bound loop d) 0 (TheNumber 0) r) (one_sign _, (start d r, (starts d r, (turn d r, (emit _, tt)))))
@@ -167,13 +182,20 @@ module _ (limit : ℕ) (some : 1 ≤ limit) where
   start_right ss ws y = y
 
   pub right_so_far : (ps : List Placed) (m : Moved) → advance_all limit (Items ∷ []) ps ≡ Ok m → AdvancedAll limit (Programs limit) [] [] ps (Ok m)
-  right_so_far ps m e = subst (λ r. AdvancedAll limit (Programs limit) [] [] ps r) e (advanced_all limit (Programs limit) (Items ∷ []) ps [] [] (some, tt) start_right)
+  right_so_far ps m e =
+      subst (λ r. AdvancedAll limit (Programs limit) [] [] ps r) e (advanced_all limit (Programs limit) (Items ∷ []) ps [] [] (some, tt) start_right)
 
   goes_from : (ps : List Placed) (m : Moved) → AdvancedAll limit (Programs limit) [] [] ps (Ok m) → Goes limit (said ps)
   goes_from ps m (moved_all ts spelled ready given) =
       let c = complete_all limit m.stack (Programs limit) ts m.appended given (all_complete limit m.stack ready) in
-      record { program = c.holds.p; rest = map (λ (s : Spelling). s.lexeme) c.ts; fits = c.holds.fits; deep = c.holds.deep;
-        says_so = ap (map (λ (s : Spelling). s.lexeme)) c.holds.spelled ∙ map_append (λ (s : Spelling). s.lexeme) ts c.ts ∙ ap (λ ls. ls ++ map (λ (s : Spelling). s.lexeme) c.ts) (says_of ts ps spelled) }
+      record {
+        program = c.holds.p;
+        rest = map (λ (s : Spelling). s.lexeme) c.ts;
+        fits = c.holds.fits;
+        deep = c.holds.deep;
+        says_so = ap (map (λ (s : Spelling). s.lexeme)) c.holds.spelled ∙ map_append (λ (s : Spelling). s.lexeme) ts c.ts
+            ∙ ap (λ ls. ls ++ map (λ (s : Spelling). s.lexeme) c.ts) (says_of ts ps spelled);
+      }
 
   -- what was read goes on
   pub goes : (ps : List Placed) (m : Moved) → advance_all limit (Items ∷ []) ps ≡ Ok m → Goes limit (said ps)
@@ -191,15 +213,26 @@ pub record Read (text : List ℕ) (ts : List Token) (ws : Words) : Type 0 where
   pub parses : Parses text ts program
   pub are : ws ≡ program_words program
 
-finished_right : (text : List ℕ) (ts : List Token) (m : Moved) (ws : Words) → finish m.stack ≡ Some ws → AdvancedAll 200 (Programs 200) [] [] (map (placed text) ts) (Ok m)
+finished_right : (text : List ℕ) (ts : List Token) (m : Moved) (ws : Words) → finish m.stack ≡ Some ws
+    → AdvancedAll 200 (Programs 200) [] [] (map (placed text) ts) (Ok m)
     → Read text ts (m.appended ++ ws)
 finished_right text ts m ws e (moved_all ss spelled ready given) =
-    let y : Programs 200 ss (m.appended ++ ws) = subst (λ r. FinishesWith (Programs 200) ss m.appended r) e (finish_right 200 (Programs 200) m.stack ss m.appended given) in
-    record { program = y.p; parses = record { fits = y.fits; depth = y.deep; spelled = are_spelled text (program_tokens y.p) ts (subst (λ ss. Spells ss (map (placed text) ts)) (sym y.spelled) spelled) };
-      are = sym y.says }
+    let y : Programs 200 ss (m.appended ++ ws) =
+    subst (λ r. FinishesWith (Programs 200) ss m.appended r) e (finish_right 200 (Programs 200) m.stack ss m.appended given) in
+    record {
+      program = y.p;
+      parses = record {
+        fits = y.fits;
+        depth = y.deep;
+        spelled = are_spelled text (program_tokens y.p) ts (subst (λ ss. Spells ss (map (placed text) ts)) (sym y.spelled) spelled);
+      };
+      are = sym y.says;
+    }
 
-from_run : (text : List ℕ) (ts : List Token) (r : Result Words Fault) → Ran 200 (length text) (Items ∷ []) (map (placed text) ts) r → (ws : Words) → r ≡ Ok ws → Read text ts ws
-from_run text ts (Ok us) (whole m vs e f) ws q = let same : m.appended ++ vs ≡ ws = cc in subst (Read text ts) same (finished_right text ts m vs f (right_so_far 200 (omega arith) _ m e))
+from_run : (text : List ℕ) (ts : List Token) (r : Result Words Fault) → Ran 200 (length text) (Items ∷ []) (map (placed text) ts) r → (ws : Words)
+    → r ≡ Ok ws → Read text ts ws
+from_run text ts (Ok us) (whole m vs e f) ws q = let same : m.appended ++ vs ≡ ws = cc in
+    subst (Read text ts) same (finished_right text ts m vs f (right_so_far 200 (omega arith) _ m e))
 from_run text ts (Err fault) h ws q = absurd cc
 
 -- SOUND

@@ -1,5 +1,5 @@
 -- A token that has to come as it is: the test says that it is this one.
-use Rattle.std.proofs.Common.{◌≡◌, ℕ, eqb, Bool, true, false, List, [], ◌∷◌, get_or, refl, sym, ap, ◌∙◌}
+use Rattle.std.proofs.Common.{◌≡◌, true, List, [], ◌∷◌, get_or, refl, sym, ap, ◌∙◌}
 use Rattle.std.proofs.lemmas.Bool.{eqb-true, eq-eqb}
 use Rattle.source.specs.declared.token.Keyword.{Keyword}
 use Rattle.source.specs.declared.token.Keyword.TheVariants as keyword
@@ -10,7 +10,8 @@ use Rattle.law_grammar.specs.Automaton.{sign_number, keyword_number, is_sign, is
 
 abbrev all_signs : List Sign
 all_signs =
-    sign.Arrow ∷ sign.Becomes ∷ sign.ShiftLeft ∷ sign.ShiftRight ∷ sign.EqualTo ∷ sign.NotEqualTo ∷ sign.AtMost ∷ sign.AtLeast ∷ sign.Less ∷ sign.Greater ∷ sign.Equals
+    sign.Arrow ∷ sign.Becomes ∷ sign.ShiftLeft ∷ sign.ShiftRight ∷ sign.EqualTo ∷ sign.NotEqualTo ∷ sign.AtMost ∷ sign.AtLeast ∷ sign.Less ∷ sign.Greater
+    ∷ sign.Equals
     ∷ sign.Plus ∷ sign.Minus ∷ sign.Star ∷ sign.Slash ∷ sign.Percent ∷ sign.Ampersand ∷ sign.Caret ∷ sign.Bar ∷ sign.Tilde ∷ sign.OpenParen ∷ sign.CloseParen
     ∷ sign.OpenBracket ∷ sign.CloseBracket ∷ sign.OpenBrace ∷ sign.CloseBrace ∷ sign.Comma ∷ sign.Semicolon ∷ sign.Underscore ∷ []
 
@@ -60,13 +61,15 @@ word_again keyword.Strict = refl
 word_again keyword.Inputs = refl
 
 pub that_sign : (s : Sign) (l : Lexeme) → is_sign s l ≡ true → l ≡ TheSign s
-that_sign s (TheSign t) h = ap (λ x. TheSign x) (sym (sign_again t) ∙ ap (λ n. get_or all_signs n sign.Arrow) (eqb-true (sign_number t) (sign_number s) h) ∙ sign_again s)
+that_sign s (TheSign t) h =
+    ap (λ x. TheSign x) (sym (sign_again t) ∙ ap (λ n. get_or all_signs n sign.Arrow) (eqb-true (sign_number t) (sign_number s) h) ∙ sign_again s)
 that_sign s (TheWord k) h = absurd cc
 that_sign s (TheNumber n) h = absurd cc
 that_sign s (TheName x) h = absurd cc
 
 pub that_word : (k : Keyword) (l : Lexeme) → is_word k l ≡ true → l ≡ TheWord k
-that_word k (TheWord j) h = ap (λ x. TheWord x) (sym (word_again j) ∙ ap (λ n. get_or all_words n keyword.Array) (eqb-true (keyword_number j) (keyword_number k) h) ∙ word_again k)
+that_word k (TheWord j) h =
+    ap (λ x. TheWord x) (sym (word_again j) ∙ ap (λ n. get_or all_words n keyword.Array) (eqb-true (keyword_number j) (keyword_number k) h) ∙ word_again k)
 that_word k (TheSign s) h = absurd cc
 that_word k (TheNumber n) h = absurd cc
 that_word k (TheName x) h = absurd cc

@@ -13,7 +13,6 @@ use Rattle.source.specs.declared.token.Sign.TheVariants as sign
 use Rattle.source.specs.declared.token.Token.{Token}
 use Rattle.source.specs.declared.word.InfixSign.{InfixSign}
 use Rattle.source.specs.declared.word.InfixSign.TheVariants.{Direct, Greater, AtLeast}
-use Rattle.source.specs.declared.word.Word.{Word}
 use Rattle.source.specs.declared.word.Word.TheVariants as word
 use Rattle.source.specs.Tree.{Name}
 use Rattle.source.specs.Spelled.{Lexeme, TheWord, TheSign, TheNumber, TheName, lexeme}
@@ -177,7 +176,8 @@ abbrev pub operand_sign : ℕ → ℕ → ℕ → ℕ → Sign → Outcome
 operand_sign limit level depth at sign.OpenParen = within limit (depth + 1) (Takes []
     (Operand 0 (depth + 1) ∷ OneSign sign.CloseParen ∷ Emit word.Bracket ∷ After level 9 depth ∷ []))
 operand_sign limit level depth at sign.Minus = within limit depth (Takes [] (Negated depth ∷ Emit (word.Prefix at Neg) ∷ After level 8 depth ∷ []))
-operand_sign limit level depth at sign.Tilde = within limit (depth + 1) (Takes [] (Operand 8 (depth + 1) ∷ Emit (word.Prefix at Not) ∷ After level 8 depth ∷ []))
+operand_sign limit level depth at sign.Tilde =
+    within limit (depth + 1) (Takes [] (Operand 8 (depth + 1) ∷ Emit (word.Prefix at Not) ∷ After level 8 depth ∷ []))
 operand_sign limit level depth at s = Refuses Unexpected
 
 abbrev pub operand : ℕ → ℕ → ℕ → ℕ → Lexeme → Outcome
@@ -207,7 +207,8 @@ otherwise limit depth at (TheWord keyword.If) = within limit (depth + 2) (Takes 
 otherwise limit depth at l = Refuses Unexpected
 
 abbrev pub bound : ℕ → ℕ → ℕ → Lexeme → Outcome
-bound loop depth at (TheNumber n) = small n (Takes (word.Bound at n ∷ []) (OneSign sign.OpenParen ∷ Start depth ∷ Starts depth ∷ Turn depth ∷ Emit (word.EndLoop loop n) ∷ []))
+bound loop depth at (TheNumber n) =
+    small n (Takes (word.Bound at n ∷ []) (OneSign sign.OpenParen ∷ Start depth ∷ Starts depth ∷ Turn depth ∷ Emit (word.EndLoop loop n) ∷ []))
 bound loop depth at l = Refuses Unexpected
 
 abbrev pub start : ℕ → ℕ → Lexeme → Outcome

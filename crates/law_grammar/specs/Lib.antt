@@ -1,1 +1,4 @@
 pub mod Automaton
+pub mod Named
+pub mod Ready
+pub mod Theorem

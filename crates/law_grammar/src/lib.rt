@@ -3,4 +3,16 @@
 //! it, so what a symbol does with a token depends on the two of them alone.
 #![tactic(auto)]
 
+ghost use Rattle.law_grammar.specs.Theorem.{Sound, Complete, Once, FirstFault};
+
 pub mod symbol;
+
+/// The automaton reads the tokens of a text exactly if a program has them that fits the grammar and is at most 200 deep; then
+/// it is the only one, and the words that are appended are its words. Else the fault is at the first token at which no such
+/// program goes on, or at the end, and its kind says why.
+pub fn automaton_reads_the_grammar()
+    ensures sound { Sound }
+    ensures complete { Complete }
+    ensures once { Once }
+    ensures first_fault { FirstFault }
+{}

@@ -9,10 +9,16 @@ use source::word::Word;
 #[derive(Clone, Copy)]
 pub enum Symbol<N> {
     // As they stand.
-    Sign { sign: Sign },
-    Keyword { keyword: Keyword },
+    Sign {
+        sign: Sign,
+    },
+    Keyword {
+        keyword: Keyword,
+    },
     /// A word is appended, and nothing is read.
-    Emit { word: Word<N> },
+    Emit {
+        word: Word<N>,
+    },
 
     // Items.
     Items,
@@ -29,38 +35,85 @@ pub enum Symbol<N> {
 
     // Bodies.
     /// What follows a body's brace, or a step's semicolon.
-    Steps { depth: u8 },
+    Steps {
+        depth: u8,
+    },
     Target,
     /// Further targets, and what follows them of the `let` and of the body.
-    Targets { at: usize, depth: u8 },
+    Targets {
+        at: usize,
+        depth: u8,
+    },
     /// Further values of the `let`, and what follows it of the body.
-    LetEnd { at: usize, depth: u8 },
+    LetEnd {
+        at: usize,
+        depth: u8,
+    },
     /// Further values of the step, and what follows it of the body.
-    StepEnd { depth: u8 },
+    StepEnd {
+        depth: u8,
+    },
 
     // Expressions.
     /// An expression of this level or a higher one: at level 0 any.
-    Operand { level: u8, depth: u8 },
+    Operand {
+        level: u8,
+        depth: u8,
+    },
     /// The operand of a `-`.
-    Negated { depth: u8 },
+    Negated {
+        depth: u8,
+    },
     /// What may follow an operand: operators with theirs.
-    After { level: u8, left: u8, depth: u8 },
+    After {
+        level: u8,
+        left: u8,
+        depth: u8,
+    },
     /// What may follow a name.
-    AfterName { at: usize, name: N, level: u8, depth: u8 },
+    AfterName {
+        at: usize,
+        name: N,
+        level: u8,
+        depth: u8,
+    },
     /// What may follow the index of an array.
-    AfterIndex { at: usize, array: N, level: u8, depth: u8 },
+    AfterIndex {
+        at: usize,
+        array: N,
+        level: u8,
+        depth: u8,
+    },
     /// The function behind `strict`, with its arguments.
-    Callee { depth: u8 },
+    Callee {
+        depth: u8,
+    },
     /// Further arguments, and the bracket behind them.
-    CallEnd { at: usize, strict: bool, function: N, depth: u8 },
+    CallEnd {
+        at: usize,
+        strict: bool,
+        function: N,
+        depth: u8,
+    },
     /// What follows `else`.
-    Otherwise { depth: u8 },
+    Otherwise {
+        depth: u8,
+    },
     /// The bound of a loop, and all that follows it.
-    Bound { at: usize, depth: u8 },
+    Bound {
+        at: usize,
+        depth: u8,
+    },
     /// A name of a loop, with its first value, further ones, and what follows them.
-    Start { depth: u8 },
+    Start {
+        depth: u8,
+    },
     /// Further names of a loop, and what follows them.
-    Starts { depth: u8 },
+    Starts {
+        depth: u8,
+    },
     /// The test and the body of a loop.
-    Turn { depth: u8 },
+    Turn {
+        depth: u8,
+    },
 }
