@@ -12,7 +12,8 @@ use Rattle.source.specs.Words.{Words, named}
 use Rattle.law_grammar.specs.declared.symbol.Symbol.{Symbol}
 use Rattle.law_grammar.specs.declared.symbol.Symbol.TheVariants.{Emit, Items}
 use Rattle.law_grammar.specs.Automaton.{Outcome, Takes, Passes, Refuses, Moved, moved_after, advance, advance_by, step, ended, ended_then, finish, finished, words_after}
-use Rattle.source_text.specs.Outcomes.{symbol_named, behind, atop}
+use Rattle.law_grammar.specs.Named.{named_symbol}
+use Rattle.source_text.specs.Outcomes.{behind, atop}
 use Rattle.source_text.specs.Running.{stack_named, words_named, state, onward, reacted, ending, IsKind, IsFault}
 
 abbrev the_moved : Words → List (Symbol Name) → Result Moved FaultKind
@@ -39,13 +40,13 @@ pub errs : {T E : Type 0} (r : Result T E) (e : E) (P : T → Type 0) (Q : E →
 errs r e P Q is q = subst (λ r. MatchResult r P Q) (sym is) q
 
 module _ (names : List Name) where
-  pub stack_more : (s : List (Symbol ℕ)) (x : Symbol ℕ) → stack_named names (s ++ x ∷ []) ≡ symbol_named names x ∷ stack_named names s
-  stack_more s x = ap (map (symbol_named names)) (reverse-append s (x ∷ []))
+  pub stack_more : (s : List (Symbol ℕ)) (x : Symbol ℕ) → stack_named names (s ++ x ∷ []) ≡ named_symbol names x ∷ stack_named names s
+  stack_more s x = ap (map (named_symbol names)) (reverse-append s (x ∷ []))
 
-  pub stack_pushed : (s xs : List (Symbol ℕ)) → stack_named names (s ++ reverse xs) ≡ map (symbol_named names) xs ++ stack_named names s
+  pub stack_pushed : (s xs : List (Symbol ℕ)) → stack_named names (s ++ reverse xs) ≡ map (named_symbol names) xs ++ stack_named names s
   stack_pushed s xs =
-      ap (map (symbol_named names)) (reverse-append s (reverse xs) ∙ ap (λ ys. ys ++ reverse s) (reverse-reverse xs))
-      ∙ map-append (symbol_named names) xs (reverse s)
+      ap (map (named_symbol names)) (reverse-append s (reverse xs) ∙ ap (λ ys. ys ++ reverse s) (reverse-reverse xs))
+      ∙ map-append (named_symbol names) xs (reverse s)
 
   pub words_pushed : (w v : List (Word ℕ)) → words_named names (w ++ v) ≡ words_named names w ++ words_named names v
   words_pushed w v = map-append (named names) w v
@@ -59,13 +60,13 @@ module _ (names : List Name) where
   same_moved a b s t e f = ap₂ the_moved e f
 
   stack_below : (s : List (Symbol ℕ)) (y : Symbol ℕ) (symbols : List (Symbol ℕ))
-      → map (symbol_named names) symbols ++ symbol_named names y ∷ [] ++ stack_named names s ≡ stack_named names (s ++ y ∷ [] ++ reverse symbols)
+      → map (named_symbol names) symbols ++ named_symbol names y ∷ [] ++ stack_named names s ≡ stack_named names (s ++ y ∷ [] ++ reverse symbols)
   stack_below s y symbols =
-      append_assoc (map (symbol_named names) symbols) (symbol_named names y ∷ []) (stack_named names s)
-      ∙ sym (stack_pushed (s ++ y ∷ []) symbols ∙ ap (λ t. map (symbol_named names) symbols ++ t) (stack_more s y))
+      append_assoc (map (named_symbol names) symbols) (named_symbol names y ∷ []) (stack_named names s)
+      ∙ sym (stack_pushed (s ++ y ∷ []) symbols ∙ ap (λ t. map (named_symbol names) symbols ++ t) (stack_more s y))
 
   pub acted_takes : (at : ℕ) (l : Lexeme) (s : List (Symbol ℕ)) (w : List (Word ℕ)) (before : Option (Word ℕ)) (below : Option (Symbol ℕ)) (words : List (Word ℕ)) (symbols : List (Symbol ℕ))
-      → reacted at l (state names s w) (behind names before (atop names below (Takes (words_named names words) (map (symbol_named names) symbols))))
+      → reacted at l (state names s w) (behind names before (atop names below (Takes (words_named names words) (map (named_symbol names) symbols))))
       ≡ Ok (state names (s ++ option_to_list below ++ reverse symbols) (w ++ option_to_list before ++ words))
   acted_takes at l s w None None words symbols =
       same_moved _ _ _ _ (words_acted w [] words) (sym (ap (λ t. stack_named names (t ++ reverse symbols)) (append-nil s) ∙ stack_pushed s symbols))
@@ -98,10 +99,10 @@ module _ (names : List Name) where
 
   -- the symbol on top meets the token
   pub popped : (at : ℕ) (l : Lexeme) (s t : List (Symbol ℕ)) (x : Symbol ℕ) (w : List (Word ℕ)) → s ≡ t ++ x ∷ []
-      → onward at l (state names s w) ≡ reacted at l (state names t w) (step 200 (symbol_named names x) at l)
+      → onward at l (state names s w) ≡ reacted at l (state names t w) (step 200 (named_symbol names x) at l)
   popped at l s t x w e = ap (λ stack. moved_after (words_named names w) (advance 200 stack at l)) (ap (stack_named names) e ∙ stack_more t x)
 
-  pub met : (at : ℕ) (l : Lexeme) (s t : List (Symbol ℕ)) (x : Symbol ℕ) (w : List (Word ℕ)) (o : Outcome) → s ≡ t ++ x ∷ [] → o ≡ step 200 (symbol_named names x) at l
+  pub met : (at : ℕ) (l : Lexeme) (s t : List (Symbol ℕ)) (x : Symbol ℕ) (w : List (Word ℕ)) (o : Outcome) → s ≡ t ++ x ∷ [] → o ≡ step 200 (named_symbol names x) at l
       → onward at l (state names s w) ≡ reacted at l (state names t w) o
   met at l s t x w o e is = popped at l s t x w e ∙ ap (reacted at l (state names t w)) (sym is)
 
@@ -124,7 +125,7 @@ module _ (names : List Name) where
       ∙ ends_after end (words_named names w) [] (finish (stack_named names t))
       ∙ ap (λ u. words_after u (finished end (finish (stack_named names t)))) (append-nil (words_named names w))
 
-  pub ends_early : (end : ℕ) (s t : List (Symbol ℕ)) (x : Symbol ℕ) (w : List (Word ℕ)) → s ≡ t ++ x ∷ [] → ended (symbol_named names x) ≡ None
+  pub ends_early : (end : ℕ) (s t : List (Symbol ℕ)) (x : Symbol ℕ) (w : List (Word ℕ)) → s ≡ t ++ x ∷ [] → ended (named_symbol names x) ≡ None
       → ending end (state names s w) ≡ Err (record { kind = Unended; at = end })
   ends_early end s t x w e none =
       ap (λ stack. words_after (words_named names w) (finished end (finish stack))) (ap (stack_named names) e ∙ stack_more t x)

@@ -6,8 +6,9 @@ use Rattle.source.specs.Tree.{Name}
 use Rattle.source.specs.Spelled as spelled
 use Rattle.source.specs.Words.{name_of, named}
 use Rattle.law_grammar.specs.declared.symbol.Symbol.{Symbol}
-use Rattle.law_grammar.specs.declared.symbol.Symbol.TheVariants.{Sign as OneSign, Keyword as OneWord, Emit, Items, ArrayName, ArrayLength, FunctionName, Parameter, Parameters, Results, ResultCount, FunctionBody, Steps, Target, Targets, LetEnd, StepEnd, Operand, Negated, After, AfterName, AfterIndex, Callee, CallEnd, Otherwise, Bound, Start, Starts, Turn}
+use Rattle.law_grammar.specs.declared.symbol.Symbol.TheVariants.{Steps, Targets, LetEnd, StepEnd, Operand, Negated, After, AfterName, AfterIndex, Callee, CallEnd, Otherwise, Bound, Start, Starts, Turn}
 use Rattle.law_grammar.specs.Automaton as automaton
+use Rattle.law_grammar.specs.Named.{named_symbol}
 use Rattle.source_text.specs.declared.lexeme.Lexeme.{Lexeme}
 use Rattle.source_text.specs.declared.lexeme.Lexeme.TheVariants as code
 use Rattle.source_text.specs.declared.outcome.Few.{Few}
@@ -20,37 +21,6 @@ lexeme_named names (code.Word keyword) = spelled.TheWord keyword
 lexeme_named names (code.Mark sign) = spelled.TheSign sign
 lexeme_named names (code.Number number) = spelled.TheNumber number
 lexeme_named names (code.Name name) = spelled.TheName (name_of names name)
-
-abbrev pub symbol_named : List Name → Symbol ℕ → Symbol Name
-symbol_named names (OneSign sign) = OneSign sign
-symbol_named names (OneWord keyword) = OneWord keyword
-symbol_named names (Emit word) = Emit (named names word)
-symbol_named names Items = Items
-symbol_named names ArrayName = ArrayName
-symbol_named names ArrayLength = ArrayLength
-symbol_named names FunctionName = FunctionName
-symbol_named names Parameter = Parameter
-symbol_named names Parameters = Parameters
-symbol_named names Results = Results
-symbol_named names ResultCount = ResultCount
-symbol_named names FunctionBody = FunctionBody
-symbol_named names (Steps depth) = Steps depth
-symbol_named names Target = Target
-symbol_named names (Targets at depth) = Targets at depth
-symbol_named names (LetEnd at depth) = LetEnd at depth
-symbol_named names (StepEnd depth) = StepEnd depth
-symbol_named names (Operand level depth) = Operand level depth
-symbol_named names (Negated depth) = Negated depth
-symbol_named names (After level left depth) = After level left depth
-symbol_named names (AfterName at name level depth) = AfterName at (name_of names name) level depth
-symbol_named names (AfterIndex at array level depth) = AfterIndex at (name_of names array) level depth
-symbol_named names (Callee depth) = Callee depth
-symbol_named names (CallEnd at strict function depth) = CallEnd at strict (name_of names function) depth
-symbol_named names (Otherwise depth) = Otherwise depth
-symbol_named names (Bound at depth) = Bound at depth
-symbol_named names (Start depth) = Start depth
-symbol_named names (Starts depth) = Starts depth
-symbol_named names (Turn depth) = Turn depth
 
 -- WHAT A SYMBOL DOES, with numbers for names
 pub data Doing : Type 0 where
@@ -67,7 +37,7 @@ shown done.Passes = Passes
 shown (done.Refuses kind) = Refuses kind
 
 abbrev pub doing_named : List Name → Doing → automaton.Outcome
-doing_named names (Takes words symbols) = automaton.Takes (map (named names) words) (map (symbol_named names) symbols)
+doing_named names (Takes words symbols) = automaton.Takes (map (named names) words) (map (named_symbol names) symbols)
 doing_named names Passes = automaton.Passes []
 doing_named names (Refuses kind) = automaton.Refuses kind
 
@@ -107,7 +77,7 @@ behind names (Some word) outcome = automaton.appending (named names word ∷ [])
 
 abbrev pub atop : List Name → Option (Symbol ℕ) → automaton.Outcome → automaton.Outcome
 atop names None outcome = outcome
-atop names (Some symbol) outcome = automaton.above (symbol_named names symbol ∷ []) outcome
+atop names (Some symbol) outcome = automaton.above (named_symbol names symbol ∷ []) outcome
 
 abbrev pub reaction_named : List Name → Reaction → automaton.Outcome
 reaction_named names reaction = behind names reaction.before (atop names reaction.below (doing_named names (shown reaction.outcome)))

@@ -5,8 +5,10 @@ use Rattle.std.specs.BTreeMap.{BTreeMap}
 use Rattle.source.specs.declared.fault.Fault.{Fault}
 use Rattle.source.specs.declared.fault.FaultKind.{FaultKind}
 use Rattle.source.specs.declared.fault.FaultKind.TheVariants.{Memory}
+use Rattle.source.specs.declared.fault.ProgramFault.{ProgramFault}
 use Rattle.source.specs.declared.token.Token.{Token}
 use Rattle.source.specs.declared.word.Word.{Word}
+use Rattle.source.specs.Tokens.{program_of, inputs_of, position, lexed}
 use Rattle.source.specs.Tree.{Name, Program}
 use Rattle.source.specs.Spelled.{Lexeme}
 use Rattle.source.specs.Words.{named, numbers_of, AreWords}
@@ -56,3 +58,34 @@ pub record AreParsed (text : List ℕ) (ts : List Token) (names : List Name) (wo
 pub record AreRead (text : List ℕ) (ts : List Token) (names : List Name) (words : List (Word ℕ)) : Type 0 where
   pub program : (p : Program) × Parses text ts p
   pub only : (p : Program) → Parses text ts p → AreWords names words p
+
+-- the first token at which no program goes on, or a refused growth
+abbrev pub IsParseFault : List ℕ → List Token → Fault → Type 0
+IsParseFault text ts fault = (fault.kind ≡ Memory) ⊎ Refuses text ts fault
+
+-- A TEXT, with its tokens. Names and words are those of the one program that it has.
+pub record HasProgram (text : List ℕ) (names : List Name) (words : List (Word ℕ)) : Type 0 where
+  pub tokens : List Token
+  pub lexed : lexed text ≡ Ok tokens
+  pub are : AreRead text tokens names words
+
+-- its first fault: where its bytes are no tokens, else where its tokens are no program
+pub data IsFirst (text : List ℕ) (fault : Fault) : Type 0 where
+  of_bytes : lexed text ≡ Err fault → IsFirst text fault
+  of_tokens : (ts : List Token) → lexed text ≡ Ok ts → Refuses text ts fault → IsFirst text fault
+
+-- or a refused growth
+abbrev pub HasFault : List ℕ → Fault → Type 0
+HasFault text fault = (fault.kind ≡ Memory) ⊎ IsFirst text fault
+
+-- A WHOLE TEXT: the program's text, its program, and the inputs.
+pub record IsRead (text program : List ℕ) (names : List Name) (words : List (Word ℕ)) (inputs : List ℕ) : Type 0 where
+  pub text_is : program ≡ program_of text
+  pub inputs_are : inputs ≡ inputs_of text
+  pub has : HasProgram (program_of text) names words
+
+-- a fault of the program, with its line and its column in the text
+pub record IsTold (text : List ℕ) (told : ProgramFault) : Type 0 where
+  pub fault : Fault
+  pub has : HasFault (program_of text) fault
+  pub is : told ≡ record { kind = fault.kind; line = (position (program_of text) fault.at).line; column = (position (program_of text) fault.at).column }

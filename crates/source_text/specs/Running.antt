@@ -10,10 +10,10 @@ use Rattle.source.specs.Spelled.{Lexeme}
 use Rattle.source.specs.Words.{Words, name_of, named}
 use Rattle.law_grammar.specs.declared.symbol.Symbol.{Symbol}
 use Rattle.law_grammar.specs.Automaton.{Stack, Outcome, Moved, moved_after, advance_by, advance, finish, finished, words_after, parsed}
-use Rattle.source_text.specs.Outcomes.{symbol_named}
+use Rattle.law_grammar.specs.Named.{named_symbol}
 
 abbrev pub stack_named : List Name → List (Symbol ℕ) → Stack
-stack_named names stack = map (symbol_named names) (reverse stack)
+stack_named names stack = map (named_symbol names) (reverse stack)
 
 abbrev pub words_named : List Name → List (Word ℕ) → Words
 words_named names words = map (named names) words

@@ -4,7 +4,8 @@ ghost use Rattle.std.specs.Prelude.{◌≤◌, ◌<◌, ◌+◌, ◌++◌, ◌�
 ghost use Rattle.law_grammar.specs.Automaton as automaton;
 ghost use Rattle.source.specs.Words.{name_of};
 ghost use Rattle.source_text.specs.declared.lexeme.Lexeme.TheVariants.{Number};
-ghost use Rattle.source_text.specs.Outcomes.{lexeme_named, symbol_named, Does, IsShallow, AreShallow};
+ghost use Rattle.law_grammar.specs.Named.{named_symbol};
+ghost use Rattle.source_text.specs.Outcomes.{lexeme_named, Does, IsShallow, AreShallow};
 
 use crate::lexeme::Lexeme;
 use crate::numbers::{LARGEST, is_small, too_large};
@@ -22,7 +23,7 @@ pub(crate) const LIMIT: u8 = 200;
 fn conditional(at: usize, depth: u8, last: Symbol<usize>) -> Outcome
     requires deep { depth + 2 ≤ 200 }
     requires shallow { IsShallow last }
-    ensures does { Does result (λ names. automaton.Takes [] (automaton.conditional at depth ++ symbol_named names last ∷ [])) }
+    ensures does { Does result (λ names. automaton.Takes [] (automaton.conditional at depth ++ named_symbol names last ∷ [])) }
     ensures shallow { AreShallow result }
 {
     takes(

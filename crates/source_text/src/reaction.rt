@@ -6,7 +6,8 @@ ghost use Rattle.source.specs.Spelled.{TheSign};
 ghost use Rattle.law_grammar.specs.declared.symbol.Symbol.TheVariants.{Sign as OneSign, Keyword as OneWord};
 ghost use Rattle.law_grammar.specs.Automaton as automaton;
 ghost use Rattle.source.specs.Words.{name_of};
-ghost use Rattle.source_text.specs.Outcomes.{lexeme_named, symbol_named, Does, Reacts, IsShallow, AreShallow, AreAllShallow};
+ghost use Rattle.law_grammar.specs.Named.{named_symbol};
+ghost use Rattle.source_text.specs.Outcomes.{lexeme_named, Does, Reacts, IsShallow, AreShallow, AreAllShallow};
 
 use crate::after::after;
 use crate::bodies::{bound, let_end, start, starts, step_end, target, targets, turn};
@@ -195,7 +196,7 @@ fn one_word(keyword: Keyword, lexeme: Lexeme) -> Outcome
 /// What the symbol does with a token that says this.
 pub(crate) fn react(symbol: Symbol<usize>, at: usize, lexeme: Lexeme) -> Reaction
     requires { IsShallow symbol }
-    ensures does { Reacts result (λ names. automaton.step 200 (symbol_named names symbol) at (lexeme_named names lexeme)) }
+    ensures does { Reacts result (λ names. automaton.step 200 (named_symbol names symbol) at (lexeme_named names lexeme)) }
     ensures shallow { AreAllShallow result }
 {
     match symbol {

@@ -3,11 +3,10 @@
 ghost use Rattle.std.specs.Prelude.{◌≡◌, List, All, Ok, IfOk, MatchResult};
 ghost use Rattle.source.specs.Tree.{Name};
 ghost use Rattle.source.specs.Spelled.{lexeme};
-ghost use Rattle.law_grammar.specs.Automaton.{parsed};
 ghost use Rattle.source_text.specs.Naming.{IsTable};
 ghost use Rattle.source_text.specs.Outcomes.{IsShallow};
 ghost use Rattle.source_text.specs.Running.{words_named, state, ending, IsFault};
-ghost use Rattle.source_text.specs.Reading.{IsStart, IsAdvanced, IsStopped, AreParsed};
+ghost use Rattle.source_text.specs.Reading.{IsStart, IsAdvanced, IsStopped, AreRead, IsParseFault};
 
 use crate::names::Names;
 use crate::parser::Parser;
@@ -68,13 +67,15 @@ impl<'a, A: Allocator + Clone> Reader<'a, A> {
     }
 }
 
-/// What the tokens of a text say, or the first fault.
+/// The program whose tokens these are of the text: there is exactly one. Else the first token at which no program goes on that fits
+/// the grammar and is at most 200 deep, or the end, and why. `Memory` comes only where a growth was refused. The time is that of the
+/// tokens by the logarithm of the number of names.
 pub fn parse<'a, A: Allocator + Clone>(
     alloc: A,
     text: &'a [u8],
     tokens: &[Token],
 ) -> Result<Program<'a, A>, Fault>
-    ensures { MatchResult result (λ p. AreParsed text.now tokens.now p.names.items p.words.items) (λ fault. IsFault fault (parsed text.now tokens.now)) }
+    ensures { MatchResult result (λ p. AreRead text.now tokens.now p.names.items p.words.items) (λ fault. IsParseFault text.now tokens.now fault) }
 {
     let Ok(mut reader) = Reader::new(alloc) else {
         return Err(Fault {

@@ -1,5 +1,6 @@
 use Rattle.std.proofs.Common.{◌<◌, ◌≤◌, length, arith}
 use Rattle.source_text.proofs.Tokens.{begins, reads_on, stops, finishes, same_read}
+use Rattle.source_text.proofs.Trees.{told, read_so}
 use Rattle.source_text.proofs.reading.parse.Goals as goal
 
 pub returns-in-Err : goal.returns-in-Err
@@ -7,8 +8,8 @@ returns-in-Err g c =
     let reader = c.loop-token.reader in
     let tokens = c.args.tokens.now in
     let h : c.loop-token.token-index < length tokens = omega arith in
-    stops c.args.text.now tokens c.loop-token.token-index _ reader.names.numbers reader.names.table.items reader.parser.stack.items reader.parser.words.items
-      c.in-Err.kind h (same_read tokens c.loop-token.token-index _ _ h) c.loop-token.invariant c.in-Err.ensures
+    told c.args.text.now tokens _ (stops c.args.text.now tokens c.loop-token.token-index _ reader.names.numbers reader.names.table.items reader.parser.stack.items reader.parser.words.items
+      c.in-Err.kind h (same_read tokens c.loop-token.token-index _ _ h) c.loop-token.invariant c.in-Err.ensures)
 
 pub loop-token-preserved : goal.loop-token-preserved
 loop-token-preserved g c =
@@ -24,5 +25,5 @@ returns g c =
     let reader = c.loop-token.reader in
     let tokens = c.args.tokens.now in
     let h : length tokens ≤ c.loop-token.token-index = omega arith in
-    finishes c.args.text.now tokens c.loop-token.token-index reader.names.numbers reader.names.table.items reader.parser.stack.items reader.parser.words.items
-      (λ p. p.names.items) (λ p. p.words.items) c.finish.result h c.loop-token.invariant c.finish.ensures
+    read_so c.args.text.now tokens (λ p. p.names.items) (λ p. p.words.items) c.finish.result (finishes c.args.text.now tokens c.loop-token.token-index reader.names.numbers reader.names.table.items reader.parser.stack.items reader.parser.words.items
+      (λ p. p.names.items) (λ p. p.words.items) c.finish.result h c.loop-token.invariant c.finish.ensures)
