@@ -3,13 +3,14 @@ use Rattle.std.proofs.Common.{◌≡◌, ℕ, List, Result, Ok, Err, MatchResult
 use Rattle.source.specs.declared.fault.Fault.{Fault}
 use Rattle.source.specs.declared.token.Token.{Token}
 use Rattle.source.specs.declared.word.Word.{Word}
+use Rattle.source.specs.Tokens.{lexed}
 use Rattle.source.specs.Tree.{Name}
 use Rattle.law_grammar.specs.Automaton.{parsed}
 use Rattle.law_grammar.proofs.Sound.{parsed_sound}
 use Rattle.law_grammar.proofs.Complete.{parsed_complete}
 use Rattle.law_grammar.proofs.FirstFault.{parsed_fault}
 use Rattle.source_text.specs.Running.{IsFault}
-use Rattle.source_text.specs.Reading.{AreParsed, AreRead, IsParseFault}
+use Rattle.source_text.specs.Reading.{AreParsed, AreRead, IsParseFault, HasProgram, HasFault, of_tokens}
 use Rattle.source_text.proofs.Tokens.{same_words}
 
 module _ (text : List ℕ) (ts : List Token) where
@@ -30,3 +31,11 @@ module _ (text : List ℕ) (ts : List Token) where
       → MatchResult r (λ p. AreRead text ts (names_of p) (words_of p)) (λ fault. IsParseFault text ts fault)
   read_so names_of words_of (Ok p) are = are_read (names_of p) (words_of p) are
   read_so names_of words_of (Err fault) is = told fault is
+
+  -- with the text's tokens
+  pub has_program : {P : Type 0} (names_of : P → List Name) (words_of : P → List (Word ℕ)) (r : Result P Fault) → lexed text ≡ Ok ts
+      → MatchResult r (λ p. AreRead text ts (names_of p) (words_of p)) (λ fault. IsParseFault text ts fault)
+      → MatchResult r (λ p. HasProgram text (names_of p) (words_of p)) (λ fault. HasFault text fault)
+  has_program names_of words_of (Ok p) are read = record { tokens = ts; lexed = are; are = read }
+  has_program names_of words_of (Err fault) are (inl memory) = inl memory
+  has_program names_of words_of (Err fault) are (inr refuses) = inr (of_tokens ts are refuses)

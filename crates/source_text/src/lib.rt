@@ -13,5 +13,7 @@ mod parser;
 mod reaction;
 mod reading;
 mod signs;
+mod texts;
 
 pub use reading::parse;
+pub use texts::{Source, read_program};
