@@ -19,7 +19,8 @@ use Rattle.law_grammar.specs.Automaton.{Stack, Moved, moved_after, advance, word
 use Rattle.source_text.specs.declared.lexeme.Lexeme.{Lexeme}
 use Rattle.source_text.specs.Outcomes.{lexeme_named, IsShallow}
 use Rattle.source_text.specs.Naming.{IsTable, Extends, IsSaid}
-use Rattle.source_text.specs.Running.{stack_named, words_named, state, onward, ending, IsKind, IsFault}
+use Rattle.law_grammar.specs.Named.{named_stack}
+use Rattle.source_text.specs.Running.{words_named, state, onward, ending, IsKind, IsFault}
 use Rattle.source_text.specs.Reading.{IsStart, IsAdvanced, IsStopped, IsReading, AreParsed}
 use Rattle.source_text.proofs.Named.{extends_itself, extends_twice}
 use Rattle.source_text.proofs.Known.{known_words}
@@ -56,7 +57,7 @@ begins text ts numbers table stack words start = record {
   shallow = subst (All IsShallow) (sym start.only_items) (All-cons IsShallow Items [] tt (All-nil IsShallow));
   so_far = λ names e.
       words_nothing (parsed text ts)
-      ∙ ap₂ (λ w s. words_after (words_named names w) (run 200 (length text) (stack_named names s) (map (placed text) ts))) (sym start.no_words) (sym start.only_items);
+      ∙ ap₂ (λ w s. words_after (words_named names w) (run 200 (length text) (named_stack names s) (map (placed text) ts))) (sym start.no_words) (sym start.only_items);
 }
   where
     words_nothing : (r : Result Words Fault) → r ≡ words_after [] r
@@ -65,9 +66,9 @@ begins text ts numbers table stack words start = record {
 
 module _ (text : List ℕ) (ts : List Token) (n : ℕ) (t : Token) (numbers : BTreeMap (Bor (List ℕ)) ℕ) (table : List Name) (stack : List (Symbol ℕ)) (words : List (Word ℕ)) where
   opened : n < length ts → t ≡ get_or ts n t → (names : List Name) → IsReading text ts n numbers table stack words → Extends table names
-      → parsed text ts ≡ words_after (words_named names words) (run 200 (length text) (stack_named names stack) (placed text t ∷ map (placed text) (drop (n + 1) ts)))
+      → parsed text ts ≡ words_after (words_named names words) (run 200 (length text) (named_stack names stack) (placed text t ∷ map (placed text) (drop (n + 1) ts)))
   opened h at names reading e =
-      reading.so_far names e ∙ ap (λ l. words_after (words_named names words) (run 200 (length text) (stack_named names stack) (map (placed text) l))) (drop_opens ts n t h at)
+      reading.so_far names e ∙ ap (λ l. words_after (words_named names words) (run 200 (length text) (named_stack names stack) (map (placed text) l))) (drop_opens ts n t h at)
 
   pub reads_on : (new : BTreeMap (Bor (List ℕ)) ℕ) (table' : List Name) (stack' : List (Symbol ℕ)) (words' : List (Word ℕ)) → n < length ts → t ≡ get_or ts n t
       → IsReading text ts n numbers table stack words → IsAdvanced t.at (lexeme text t) table stack words new table' stack' words'
@@ -77,7 +78,7 @@ module _ (text : List ℕ) (ts : List Token) (n : ℕ) (t : Token) (numbers : BT
     shallow = advanced.shallow;
     so_far = λ names e.
         opened h at names reading (extends_twice table table' names advanced.extends e)
-        ∙ run_step (words_named names words) (advance 200 (stack_named names stack) t.at (lexeme text t)) t.at
+        ∙ run_step (words_named names words) (advance 200 (named_stack names stack) t.at (lexeme text t)) t.at
             (λ s. run 200 (length text) s (map (placed text) (drop (n + 1) ts))) (state names stack' words') (advanced.moved names e);
   }
 
@@ -88,7 +89,7 @@ module _ (text : List ℕ) (ts : List Token) (n : ℕ) (t : Token) (numbers : BT
       go : IsKind kind (onward t.at (lexeme text t) (state stopped.names stack words)) → IsFault (record { kind = kind; at = t.at }) (parsed text ts)
       go (inl memory) = inl memory
       go (inr is) = inr (opened h at stopped.names reading stopped.extends
-          ∙ run_stop (words_named stopped.names words) (advance 200 (stack_named stopped.names stack) t.at (lexeme text t)) t.at
+          ∙ run_stop (words_named stopped.names words) (advance 200 (named_stack stopped.names stack) t.at (lexeme text t)) t.at
               (λ s. run 200 (length text) s (map (placed text) (drop (n + 1) ts))) kind is)
 
 module _ (text : List ℕ) (ts : List Token) (n : ℕ) (numbers : BTreeMap (Bor (List ℕ)) ℕ) (table : List Name) (stack : List (Symbol ℕ)) (words : List (Word ℕ)) where
@@ -96,7 +97,7 @@ module _ (text : List ℕ) (ts : List Token) (n : ℕ) (numbers : BTreeMap (Bor 
       → parsed text ts ≡ ending (length text) (state names stack words)
   ended_so names h reading e =
       reading.so_far names e
-      ∙ at_drop_all (λ l. words_after (words_named names words) (run 200 (length text) (stack_named names stack) (map (placed text) l))) ts n h
+      ∙ at_drop_all (λ l. words_after (words_named names words) (run 200 (length text) (named_stack names stack) (map (placed text) l))) ts n h
 
   says : (read : List (Word ℕ)) → length ts ≤ n → IsReading text ts n numbers table stack words
       → ((names : List Name) → ending (length text) (state names stack words) ≡ Ok (words_named names read)) → (names : List Name) → Extends table names

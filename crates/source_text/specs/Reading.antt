@@ -18,7 +18,8 @@ use Rattle.law_grammar.specs.declared.symbol.Symbol.TheVariants.{Items}
 use Rattle.law_grammar.specs.Automaton.{words_after, run, placed, parsed}
 use Rattle.source_text.specs.Outcomes.{IsShallow}
 use Rattle.source_text.specs.Naming.{IsDistinct, IsTable, Extends}
-use Rattle.source_text.specs.Running.{stack_named, words_named, state, onward, IsKind}
+use Rattle.law_grammar.specs.Named.{named_stack}
+use Rattle.source_text.specs.Running.{words_named, state, onward, IsKind}
 use denote.Ref.{Bor}
 
 -- nothing was read
@@ -46,7 +47,7 @@ pub record IsReading (text : List ℕ) (ts : List Token) (n : ℕ) (numbers : BT
   pub indexed : IsTable numbers table
   pub shallow : All IsShallow stack
   pub so_far : (names : List Name) → Extends table names
-    → parsed text ts ≡ words_after (words_named names words) (run 200 (length text) (stack_named names stack) (map (placed text) (drop n ts)))
+    → parsed text ts ≡ words_after (words_named names words) (run 200 (length text) (named_stack names stack) (map (placed text) (drop n ts)))
 
 -- what the automaton makes of the tokens, with numbers for names
 pub record AreParsed (text : List ℕ) (ts : List Token) (names : List Name) (words : List (Word ℕ)) : Type 0 where

@@ -1,5 +1,5 @@
 -- A PARSER'S STATE, with numbers for names: its stack, the top last, and the words so far.
-use Rattle.std.specs.Prelude.{◌≡◌, ◌⊎◌, ℕ, ◌<◌, Bool, List, [], ◌∷◌, ◌++◌, map, reverse, length, slice_index_or, Result, Ok, Err, if◌then◌else◌}
+use Rattle.std.specs.Prelude.{◌≡◌, ◌⊎◌, ℕ, ◌<◌, Bool, List, [], ◌∷◌, ◌++◌, map, length, slice_index_or, Result, Ok, Err, if◌then◌else◌}
 use Rattle.source.specs.declared.fault.Fault.{Fault}
 use Rattle.source.specs.declared.fault.FaultKind.{FaultKind}
 use Rattle.source.specs.declared.fault.FaultKind.TheVariants.{Memory}
@@ -10,16 +10,13 @@ use Rattle.source.specs.Spelled.{Lexeme}
 use Rattle.source.specs.Words.{Words, name_of, named}
 use Rattle.law_grammar.specs.declared.symbol.Symbol.{Symbol}
 use Rattle.law_grammar.specs.Automaton.{Stack, Outcome, Moved, moved_after, advance_by, advance, finish, finished, words_after, parsed}
-use Rattle.law_grammar.specs.Named.{named_symbol}
-
-abbrev pub stack_named : List Name → List (Symbol ℕ) → Stack
-stack_named names stack = map (named_symbol names) (reverse stack)
+use Rattle.law_grammar.specs.Named.{named_stack}
 
 abbrev pub words_named : List Name → List (Word ℕ) → Words
 words_named names words = map (named names) words
 
 abbrev pub state : List Name → List (Symbol ℕ) → List (Word ℕ) → Moved
-state names stack words = record { appended = words_named names words; stack = stack_named names stack }
+state names stack words = record { appended = words_named names words; stack = named_stack names stack }
 
 -- what a token comes to in a state
 abbrev pub onward : ℕ → Lexeme → Moved → Result Moved FaultKind

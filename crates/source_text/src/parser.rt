@@ -26,7 +26,7 @@ pub(crate) struct Parser<A: Allocator> {
 impl<A: Allocator> Parser<A> {
     fn push_words(&mut self, words: &[Word<usize>]) -> Result<(), FaultKind>
         ensures words { OnOk result (self.new.words.items ≡ self.old.words.items ++ words.now) }
-        ensures stack { self.new.stack ≡ self.old.stack }
+        ensures stack { self.new.stack.items ≡ self.old.stack.items }
         ensures memory { IfErr result (λ kind. kind ≡ Memory) }
     {
         let Ok(()) = self.words.extend_from_slice(words) else {
@@ -37,7 +37,7 @@ impl<A: Allocator> Parser<A> {
 
     fn push_word(&mut self, word: Option<Word<usize>>) -> Result<(), FaultKind>
         ensures words { OnOk result (self.new.words.items ≡ self.old.words.items ++ option_to_list word) }
-        ensures stack { self.new.stack ≡ self.old.stack }
+        ensures stack { self.new.stack.items ≡ self.old.stack.items }
         ensures memory { IfErr result (λ kind. kind ≡ Memory) }
     {
         match word {
@@ -49,7 +49,7 @@ impl<A: Allocator> Parser<A> {
     /// The first symbol comes to the top.
     fn push_symbols(&mut self, symbols: &[Symbol<usize>]) -> Result<(), FaultKind>
         ensures stack { OnOk result (self.new.stack.items ≡ self.old.stack.items ++ reverse symbols.now) }
-        ensures words { self.new.words ≡ self.old.words }
+        ensures words { self.new.words.items ≡ self.old.words.items }
         ensures memory { IfErr result (λ kind. kind ≡ Memory) }
     {
         let mut rest = symbols;
@@ -64,7 +64,7 @@ impl<A: Allocator> Parser<A> {
 
     fn push_symbol(&mut self, symbol: Option<Symbol<usize>>) -> Result<(), FaultKind>
         ensures stack { OnOk result (self.new.stack.items ≡ self.old.stack.items ++ option_to_list symbol) }
-        ensures words { self.new.words ≡ self.old.words }
+        ensures words { self.new.words.items ≡ self.old.words.items }
         ensures memory { IfErr result (λ kind. kind ≡ Memory) }
     {
         match symbol {
@@ -82,7 +82,7 @@ impl<A: Allocator> Parser<A> {
                 ≡ (if taken then Ok (state names self.new.stack.items self.new.words.items) else onward at l (state names self.new.stack.items self.new.words.items)))
             (λ kind. IsKind kind (reacted at l (state names self.old.stack.items self.old.words.items) (reaction_named names reaction))) }
         ensures shallow { OnOk result (All IsShallow self.new.stack.items) }
-        ensures smaller { result ≡ Ok false → self.new.stack ≡ self.old.stack }
+        ensures smaller { result ≡ Ok false → self.new.stack.items ≡ self.old.stack.items }
     {
         self.push_word(reaction.before)?;
         match reaction.outcome {
@@ -116,7 +116,7 @@ impl<A: Allocator> Parser<A> {
     /// Does what a symbol does at the end that stood on the stack: only words may be to come, and no further item.
     #[tactic(auto, using(crate::proofs::Acting::ends_with_word, crate::proofs::Acting::ends_with_items, crate::proofs::Acting::ends_early))]
     fn end(&mut self, symbol: Symbol<usize>) -> Result<(), FaultKind>
-        ensures stack { self.new.stack ≡ self.old.stack }
+        ensures stack { self.new.stack.items ≡ self.old.stack.items }
         ensures ends { (names : List Name) (end : ℕ) (s : List (Symbol ℕ)) → s ≡ self.old.stack.items ++ symbol ∷ [] → MatchResult result
             (λ _. ending end (state names s self.old.words.items) ≡ ending end (state names self.new.stack.items self.new.words.items))
             (λ kind. IsFault (record { kind = kind; at = end }) (ending end (state names s self.old.words.items))) }
