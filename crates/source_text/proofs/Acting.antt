@@ -12,7 +12,7 @@ use Rattle.source.specs.Spelled.{Lexeme}
 use Rattle.source.specs.Words.{Words, named}
 use Rattle.law_grammar.specs.declared.symbol.Symbol.{Symbol}
 use Rattle.law_grammar.specs.declared.symbol.Symbol.TheVariants.{Emit, Items}
-use Rattle.law_grammar.specs.Automaton.{Outcome, Takes, Passes, Refuses, Moved, moved_after, advance, advance_by, step, ended, ended_then, finish, finished, words_after}
+use Rattle.law_grammar.specs.Automaton.{Outcome, Takes, Passes, Refuses, Moved, moved_after, advance, step, ended, ended_then, finish, finished, words_after}
 use Rattle.law_grammar.specs.Named.{named_symbol, named_stack}
 use Rattle.source_text.specs.declared.outcome.Few.{Few}
 use Rattle.source_text.specs.declared.outcome.Outcome.TheVariants as done
@@ -57,7 +57,7 @@ pub stays_shallow : (s t : List (Symbol ℕ)) (r : Reaction) (words : Few (Word 
     → t ≡ s ++ option_to_list r.below ++ reverse (few symbols) → All IsShallow s → AreAllShallow r → All IsShallow t
 stays_shallow s t r words symbols is e h k =
     subst (All IsShallow) (sym e)
-      (All-append IsShallow (s ++ option_to_list r.below) (reverse (few symbols)) (pushed_shallow s r.below h k.1) (all_reversed (few symbols) (subst AreShallow is k.0)))
+    (All-append IsShallow (s ++ option_to_list r.below) (reverse (few symbols)) (pushed_shallow s r.below h k.1) (all_reversed (few symbols) (subst AreShallow is k.0)))
 
 module _ (names : List Name) where
   pub stack_more : (s : List (Symbol ℕ)) (x : Symbol ℕ) → named_stack names (s ++ x ∷ []) ≡ named_symbol names x ∷ named_stack names s

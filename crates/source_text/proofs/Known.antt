@@ -1,5 +1,5 @@
 -- NUMBERS OF NAMES. What words mean does not depend on names that a longer table has, so each number is one of the table.
-use Rattle.std.proofs.Common.{◌≡◌, ℕ, ◌+◌, ◌-◌, ◌<◌, ◌≤◌, Bool, true, false, nat_lt, List, [], ◌∷◌, ◌++◌, map, length, replicate, get_or, All, refl, sym, ap, ◌∙◌, arith, ltb-true, ltb-false}
+use Rattle.std.proofs.Common.{◌≡◌, ℕ, ◌+◌, ◌-◌, ◌<◌, Bool, true, false, nat_lt, List, [], ◌∷◌, ◌++◌, map, length, replicate, All, refl, ◌∙◌, arith, ltb-true, ltb-false}
 use Rattle.std.proofs.lemmas.List.{get_or-append_right, get_or-replicate}
 use Rattle.std.proofs.lemmas.List.Elements.{All-nil, All-cons}
 use Rattle.std.proofs.Math.ListN.{get_or-eq_default}
@@ -45,5 +45,5 @@ pub known_words : (names : List Name) (ws : List (Word ℕ)) → ((table : List 
 known_words names [] h = All-nil _
 known_words names (w ∷ ws) h =
     All-cons (λ w. All (λ n. n < length names) (numbers_of w)) w ws
-      (known_word names w (λ table e. same_head _ _ _ _ (h table e)))
-      (known_words names ws (λ table e. same_tail _ _ _ _ (h table e)))
+    (known_word names w (λ table e. same_head _ _ _ _ (h table e)))
+    (known_words names ws (λ table e. same_tail _ _ _ _ (h table e)))

@@ -1,12 +1,12 @@
 -- A TABLE OF NAMES after a name was looked up.
-use Rattle.std.proofs.Common.{◌≡◌, ℕ, ◌+◌, ◌-◌, ◌<◌, ◌≤◌, Bool, true, false, nat_lt, List, [], ◌∷◌, ◌++◌, length, Option, Some, None, refl, sym, ap, ap₂, ◌∙◌, subst, append-nil, append_assoc, arith, ltb-true, ltb-false, Bor}
+use Rattle.std.proofs.Common.{◌≡◌, ℕ, ◌+◌, ◌-◌, ◌<◌, ◌≤◌, Bool, true, false, nat_lt, List, [], ◌∷◌, ◌++◌, length, Option, Some, None, refl, sym, ap, ◌∙◌, subst, append-nil, append_assoc, arith, ltb-true, ltb-false, Bor}
 use Rattle.std.specs.BTreeMap.{BTreeMap, get_by, UpdatesBy}
 use Rattle.std.specs.Cmp.Lexicographic.{slice_cmp}
 use Rattle.std.specs.Ordering.{nat_cmp}
 use Rattle.std.proofs.lemmas.List.{get_or_append_left, get_or-append_right, length-append}
 use Rattle.std.proofs.lemmas.Option.{get_or_from_slice_get, slice_get-get_or}
 use Rattle.semantics.specs.Graph.{place_of}
-use Rattle.graph_check.specs.Names.{is_name, place_if, IsIndexOf}
+use Rattle.graph_check.specs.Names.{is_name}
 use Rattle.graph_check.proofs.Places.{place_some, place_none, index_more}
 use Rattle.graph_check.proofs.Shapes.{is_name_at, at_is_name}
 use Rattle.source.specs.Tree.{Name}

@@ -12,13 +12,13 @@ use Rattle.source.specs.declared.word.Word.{Word}
 use Rattle.source.specs.Tree.{Name}
 use Rattle.source.specs.Spelled as spelled
 use Rattle.source.specs.Spelled.{lexeme}
-use Rattle.source.specs.Words.{Words, named}
+use Rattle.source.specs.Words.{Words}
 use Rattle.law_grammar.specs.declared.symbol.Symbol.{Symbol}
 use Rattle.law_grammar.specs.declared.symbol.Symbol.TheVariants.{Items}
 use Rattle.law_grammar.specs.Automaton.{Stack, Moved, moved_after, advance, words_after, run_on, run, placed, parsed}
 use Rattle.source_text.specs.declared.lexeme.Lexeme.{Lexeme}
 use Rattle.source_text.specs.Outcomes.{lexeme_named, IsShallow}
-use Rattle.source_text.specs.Naming.{IsTable, Extends, IsSaid}
+use Rattle.source_text.specs.Naming.{Extends, IsSaid}
 use Rattle.law_grammar.specs.Named.{named_stack}
 use Rattle.source_text.specs.Running.{words_named, state, onward, ending, IsKind, IsFault}
 use Rattle.source_text.specs.Reading.{IsStart, IsAdvanced, IsStopped, IsReading, AreParsed}
@@ -79,7 +79,7 @@ module _ (text : List ℕ) (ts : List Token) (n : ℕ) (t : Token) (numbers : BT
     so_far = λ names e.
         opened h at names reading (extends_twice table table' names advanced.extends e)
         ∙ run_step (words_named names words) (advance 200 (named_stack names stack) t.at (lexeme text t)) t.at
-            (λ s. run 200 (length text) s (map (placed text) (drop (n + 1) ts))) (state names stack' words') (advanced.moved names e);
+        (λ s. run 200 (length text) s (map (placed text) (drop (n + 1) ts))) (state names stack' words') (advanced.moved names e);
   }
 
   pub stops : (kind : FaultKind) → n < length ts → t ≡ get_or ts n t → IsReading text ts n numbers table stack words
@@ -90,7 +90,7 @@ module _ (text : List ℕ) (ts : List Token) (n : ℕ) (t : Token) (numbers : BT
       go (inl memory) = inl memory
       go (inr is) = inr (opened h at stopped.names reading stopped.extends
           ∙ run_stop (words_named stopped.names words) (advance 200 (named_stack stopped.names stack) t.at (lexeme text t)) t.at
-              (λ s. run 200 (length text) s (map (placed text) (drop (n + 1) ts))) kind is)
+          (λ s. run 200 (length text) s (map (placed text) (drop (n + 1) ts))) kind is)
 
 module _ (text : List ℕ) (ts : List Token) (n : ℕ) (numbers : BTreeMap (Bor (List ℕ)) ℕ) (table : List Name) (stack : List (Symbol ℕ)) (words : List (Word ℕ)) where
   ended_so : (names : List Name) → length ts ≤ n → IsReading text ts n numbers table stack words → Extends table names
@@ -119,7 +119,7 @@ module _ (text : List ℕ) (ts : List Token) (n : ℕ) (numbers : BTreeMap (Bor 
 
   pub finishes : {P : Type 0} (names_of : P → List Name) (words_of : P → List (Word ℕ)) (r : Result P Fault) → length ts ≤ n → IsReading text ts n numbers table stack words
       → MatchResult r (λ p. (names_of p ≡ table) × ((names : List Name) → ending (length text) (state names stack words) ≡ Ok (words_named names (words_of p))))
-          (λ fault. IsFault fault (ending (length text) (state table stack words)))
+      (λ fault. IsFault fault (ending (length text) (state table stack words)))
       → MatchResult r (λ p. AreParsed text ts (names_of p) (words_of p)) (λ fault. IsFault fault (parsed text ts))
   finishes names_of words_of (Ok p) h reading end = subst (λ names. AreParsed text ts names (words_of p)) (sym end.0) (ends_well (words_of p) h reading end.1)
   finishes names_of words_of (Err fault) h reading end = ends_badly fault h reading end
@@ -128,7 +128,7 @@ module _ (text : List ℕ) (ts : List Token) (n : ℕ) (numbers : BTreeMap (Bor 
 pub advances : {U : Type 0} (at : ℕ) (l : Lexeme) (meant : spelled.Lexeme) (numbers : BTreeMap (Bor (List ℕ)) ℕ) (old table : List Name)
     (s : List (Symbol ℕ)) (w : List (Word ℕ)) (s' : List (Symbol ℕ)) (w' : List (Word ℕ)) (r : Result U FaultKind) → IsSaid old numbers table meant l
     → ((names : List Name) → MatchResult r (λ _. onward at (lexeme_named names l) (state names s w) ≡ Ok (state names s' w'))
-        (λ kind. IsKind kind (onward at (lexeme_named names l) (state names s w))))
+    (λ kind. IsKind kind (onward at (lexeme_named names l) (state names s w))))
     → OnOk r (All IsShallow s')
     → MatchResult r (λ _. IsAdvanced at meant old s w numbers table s' w') (λ kind. IsStopped at meant old s w kind)
 advances at l meant numbers old table s w s' w' (Ok u) said took shallow = record {

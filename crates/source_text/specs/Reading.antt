@@ -1,6 +1,6 @@
 -- READING, token by token, and what it comes to. The parser tells a name by its number; whatever names a longer table has,
 -- what was read so far is the same.
-use Rattle.std.specs.Prelude.{◌≡◌, ◌⊎◌, ℕ, ◌<◌, List, [], ◌∷◌, map, drop, length, All, Result, Ok, Err}
+use Rattle.std.specs.Prelude.{◌≡◌, ◌⊎◌, ℕ, ◌<◌, List, [], ◌∷◌, map, drop, length, All, Ok, Err}
 use Rattle.std.specs.BTreeMap.{BTreeMap}
 use Rattle.source.specs.declared.fault.Fault.{Fault}
 use Rattle.source.specs.declared.fault.FaultKind.{FaultKind}
@@ -47,7 +47,7 @@ pub record IsReading (text : List ℕ) (ts : List Token) (n : ℕ) (numbers : BT
   pub indexed : IsTable numbers table
   pub shallow : All IsShallow stack
   pub so_far : (names : List Name) → Extends table names
-    → parsed text ts ≡ words_after (words_named names words) (run 200 (length text) (named_stack names stack) (map (placed text) (drop n ts)))
+      → parsed text ts ≡ words_after (words_named names words) (run 200 (length text) (named_stack names stack) (map (placed text) (drop n ts)))
 
 -- what the automaton makes of the tokens, with numbers for names
 pub record AreParsed (text : List ℕ) (ts : List Token) (names : List Name) (words : List (Word ℕ)) : Type 0 where

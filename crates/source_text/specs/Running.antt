@@ -1,15 +1,14 @@
 -- A PARSER'S STATE, with numbers for names: its stack, the top last, and the words so far.
-use Rattle.std.specs.Prelude.{◌≡◌, ◌⊎◌, ℕ, ◌<◌, Bool, List, [], ◌∷◌, ◌++◌, map, length, slice_index_or, Result, Ok, Err, if◌then◌else◌}
+use Rattle.std.specs.Prelude.{◌≡◌, ◌⊎◌, ℕ, List, map, Result, Err}
 use Rattle.source.specs.declared.fault.Fault.{Fault}
 use Rattle.source.specs.declared.fault.FaultKind.{FaultKind}
 use Rattle.source.specs.declared.fault.FaultKind.TheVariants.{Memory}
-use Rattle.source.specs.declared.token.Token.{Token}
 use Rattle.source.specs.declared.word.Word.{Word}
 use Rattle.source.specs.Tree.{Name}
 use Rattle.source.specs.Spelled.{Lexeme}
-use Rattle.source.specs.Words.{Words, name_of, named}
+use Rattle.source.specs.Words.{Words, named}
 use Rattle.law_grammar.specs.declared.symbol.Symbol.{Symbol}
-use Rattle.law_grammar.specs.Automaton.{Stack, Outcome, Moved, moved_after, advance_by, advance, finish, finished, words_after, parsed}
+use Rattle.law_grammar.specs.Automaton.{Outcome, Moved, moved_after, advance_by, advance, finish, finished, words_after}
 use Rattle.law_grammar.specs.Named.{named_stack}
 
 abbrev pub words_named : List Name → List (Word ℕ) → Words

@@ -35,10 +35,13 @@ pub(crate) fn targets(bound: usize, depth: u8, lexeme: Lexeme) -> Outcome
         }
         Lexeme::Mark { sign: Sign::Equals } => takes(
             &[Word::List],
-            &[Symbol::Operand {
+            &[
+                Symbol::Operand {
                     level: 0,
                     depth: depth + 1,
-                }, Symbol::LetEnd { at: bound, depth }],
+                },
+                Symbol::LetEnd { at: bound, depth },
+            ],
         ),
         _ => unexpected(),
     }
@@ -52,10 +55,13 @@ pub(crate) fn let_end(bound: usize, depth: u8, lexeme: Lexeme) -> Outcome
     match lexeme {
         Lexeme::Mark { sign: Sign::Comma } => takes(
             &[Word::Part],
-            &[Symbol::Operand {
+            &[
+                Symbol::Operand {
                     level: 0,
                     depth: depth + 1,
-                }, Symbol::LetEnd { at: bound, depth }],
+                },
+                Symbol::LetEnd { at: bound, depth },
+            ],
         ),
         Lexeme::Mark {
             sign: Sign::Semicolon,
@@ -74,10 +80,16 @@ pub(crate) fn step_end(depth: u8, lexeme: Lexeme) -> Outcome
 {
     match lexeme {
         Lexeme::Mark { sign: Sign::Comma } => {
-            takes(&[Word::Part], &[Symbol::Operand {
-                    level: 0,
-                    depth: depth + 1,
-                }, Symbol::StepEnd { depth }])
+            takes(
+                &[Word::Part],
+                &[
+                    Symbol::Operand {
+                        level: 0,
+                        depth: depth + 1,
+                    },
+                    Symbol::StepEnd { depth },
+                ],
+            )
         }
         Lexeme::Mark {
             sign: Sign::Semicolon,
@@ -126,10 +138,13 @@ pub(crate) fn start(depth: u8, at: usize, lexeme: Lexeme) -> Outcome
     match lexeme {
         Lexeme::Name { name } => takes(
             &[Word::Start { at, name }],
-            &[Symbol::Sign { sign: Sign::Equals }, Symbol::Operand {
+            &[
+                Symbol::Sign { sign: Sign::Equals },
+                Symbol::Operand {
                     level: 0,
                     depth: depth + 1,
-                }],
+                },
+            ],
         ),
         _ => unexpected(),
     }

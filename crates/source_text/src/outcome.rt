@@ -33,7 +33,9 @@ pub(crate) enum Outcome {
     },
     /// The token is for the symbol below.
     Passes,
-    Refuses { kind: FaultKind },
+    Refuses {
+        kind: FaultKind,
+    },
 }
 
 /// Few words.

@@ -45,7 +45,14 @@ fn plain(outcome: Outcome) -> Reaction
 }
 
 /// A name is that of a function before `(`, of an array before `[`, and else of a value.
-fn after_name(named: usize, name: usize, level: u8, depth: u8, at: usize, lexeme: Lexeme) -> Reaction
+fn after_name(
+    named: usize,
+    name: usize,
+    level: u8,
+    depth: u8,
+    at: usize,
+    lexeme: Lexeme,
+) -> Reaction
     requires { depth ≤ 200 }
     ensures does { Reacts result (λ names. automaton.after_name 200 named (name_of names name) level depth at (lexeme_named names lexeme)) }
     ensures shallow { AreAllShallow result }
@@ -124,7 +131,14 @@ fn cell(at: usize, array: usize, level: u8, depth: u8) -> Outcome
 }
 
 /// A store is any expression, and no operand.
-fn after_index(cell: usize, array: usize, level: u8, depth: u8, at: usize, lexeme: Lexeme) -> Reaction
+fn after_index(
+    cell: usize,
+    array: usize,
+    level: u8,
+    depth: u8,
+    at: usize,
+    lexeme: Lexeme,
+) -> Reaction
     requires { depth < 200 }
     ensures does { Reacts result (λ names. automaton.after_index cell (name_of names array) level depth at (lexeme_named names lexeme)) }
     ensures shallow { AreAllShallow result }

@@ -46,7 +46,7 @@ impl<'a, A: Allocator + Clone> Reader<'a, A> {
         requires shallow { All IsShallow self.old.parser.stack.items }
         ensures { MatchResult result
             (λ _. IsAdvanced token.now.at (lexeme text.now token.now) self.old.names.table.items self.old.parser.stack.items self.old.parser.words.items
-              self.new.names.numbers self.new.names.table.items self.new.parser.stack.items self.new.parser.words.items)
+            self.new.names.numbers self.new.names.table.items self.new.parser.stack.items self.new.parser.words.items)
             (λ kind. IsStopped token.now.at (lexeme text.now token.now) self.old.names.table.items self.old.parser.stack.items self.old.parser.words.items kind) }
     {
         let lexeme = self.names.lexeme(text, token)?;

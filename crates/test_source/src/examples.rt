@@ -18,7 +18,8 @@ pub(crate) const EXAMPLES: [(&[u8], usize, usize); 14] = [
     (WAVEFRONT, 8, 2),
 ];
 
-const COLLATZ: &[u8] = br#"// How many steps to 1: a loop that tests after its turn, on the new values.
+const COLLATZ: &[u8] =
+    br#"// How many steps to 1: a loop that tests after its turn, on the new values.
 fn steps(n) {
     let _, s = loop 4 (x = n, s = 0) while x != 1 {
         let even = x % 2 == 0;
@@ -61,7 +62,8 @@ inputs
 20
 "#;
 
-const FAULTS: &[u8] = br#"// Faults are values: a faulty predicate counts as false, a bad index gives a fault.
+const FAULTS: &[u8] =
+    br#"// Faults are values: a faulty predicate counts as false, a bad index gives a fault.
 array A[4];
 
 fn main(n) -> 4 {
@@ -88,7 +90,8 @@ inputs
 15
 "#;
 
-const GCD: &[u8] = br#"// Euclid by recursion and by a loop; and what a division by zero is: a value.
+const GCD: &[u8] =
+    br#"// Euclid by recursion and by a loop; and what a division by zero is: a value.
 fn gcd(a, b) { if b == 0 { a } else { gcd(b, a % b) } }
 
 fn main(a, b) -> 3 {
@@ -100,7 +103,8 @@ inputs
 462
 "#;
 
-const MATRIX_PRODUCT: &[u8] = br#"// C = A * B, in flat arrays. The three loops overlap as far as their bounds allow.
+const MATRIX_PRODUCT: &[u8] =
+    br#"// C = A * B, in flat arrays. The three loops overlap as far as their bounds allow.
 array A[64];
 array B[64];
 array C[64];
@@ -174,7 +178,8 @@ inputs
 7
 "#;
 
-const PREFIX_SUMS: &[u8] = br#"// Prefix sums by single-assignment cells. All turns may run at once; each waits for the cell before.
+const PREFIX_SUMS: &[u8] =
+    br#"// Prefix sums by single-assignment cells. All turns may run at once; each waits for the cell before.
 array S[64];
 
 fn main(n) {
@@ -248,7 +253,8 @@ inputs
 100
 "#;
 
-const WAVEFRONT: &[u8] = br#"// Each cell waits for its neighbours above and at the left: the parallelism goes in diagonals.
+const WAVEFRONT: &[u8] =
+    br#"// Each cell waits for its neighbours above and at the left: the parallelism goes in diagonals.
 array W[100];
 
 fn cell(i, j, n) {

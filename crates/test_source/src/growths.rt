@@ -54,7 +54,8 @@ fn refused_growths(rt: HostRuntime) -> Result<(), Fail> {
 /// Each growth of reading a whole text is refused in turn, until none is.
 #[test]
 fn refused_growths_of_a_program(rt: HostRuntime) -> Result<(), Fail> {
-    let text = b"array A[9]; fn f(a, b, c, d, e) { A[a] := b; a + b * c - d / e } fn main(n) { let x, y = n, 1; f(x, y, n, 2, 3) }";
+    let text =
+        b"array A[9]; fn f(a, b, c, d, e) { A[a] := b; a + b * c - d / e } fn main(n) { let x, y = n, 1; f(x, y, n, 2, 3) }";
     let mut refused = 0u64;
     let mut whole = false;
     for growth in 1..100u64 {

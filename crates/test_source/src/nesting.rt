@@ -22,7 +22,12 @@ fn a_long_sum(rt: HostRuntime) -> Result<(), Fail> {
 }
 
 /// What is open around a number: so many times the first part stands before it, and the second one behind it.
-fn nested<A: Allocator>(alloc: A, open: &[u8], close: &[u8], times: usize) -> Result<Vec<u8, A>, AllocError> {
+fn nested<A: Allocator>(
+    alloc: A,
+    open: &[u8],
+    close: &[u8],
+    times: usize,
+) -> Result<Vec<u8, A>, AllocError> {
     let mut text = Vec::new(alloc);
     text.extend_from_slice(b"fn main(n) { ")?;
     for _ in 0..times {

@@ -10,12 +10,37 @@ const REFUSED: [(&[u8], FaultKind, usize, usize); 33] = [
     (b"fn main(n) { n ? 1 }", FaultKind::BadByte, 1, 16),
     (b"fn main(n) { 0x1F }", FaultKind::BadNumber, 1, 14),
     (b"fn main(n) { 007 }", FaultKind::BadNumber, 1, 14),
-    (b"fn main(n) { 9223372036854775808 }", FaultKind::BadNumber, 1, 14),
-    (b"fn main(n) { n - 9223372036854775808 }", FaultKind::BadNumber, 1, 18),
-    (b"fn main(n) { 99999999999999999999 }", FaultKind::BadNumber, 1, 14),
-    (b"fn main(n) { -9223372036854775809 }", FaultKind::BadNumber, 1, 15),
+    (
+        b"fn main(n) { 9223372036854775808 }",
+        FaultKind::BadNumber,
+        1,
+        14,
+    ),
+    (
+        b"fn main(n) { n - 9223372036854775808 }",
+        FaultKind::BadNumber,
+        1,
+        18,
+    ),
+    (
+        b"fn main(n) { 99999999999999999999 }",
+        FaultKind::BadNumber,
+        1,
+        14,
+    ),
+    (
+        b"fn main(n) { -9223372036854775809 }",
+        FaultKind::BadNumber,
+        1,
+        15,
+    ),
     (b"fn main(n, a__b) { n }", FaultKind::BadName, 1, 12),
-    (b"fn main(a23456789012345678901234x) { 1 }", FaultKind::BadName, 1, 9),
+    (
+        b"fn main(a23456789012345678901234x) { 1 }",
+        FaultKind::BadName,
+        1,
+        9,
+    ),
     (b"fn main(match) { 1 }", FaultKind::BadName, 1, 9),
     (b"fn main(_x) { 1 }", FaultKind::BadName, 1, 9),
     (b"fn main(while) { 1 }", FaultKind::Unexpected, 1, 9),
@@ -27,15 +52,35 @@ const REFUSED: [(&[u8], FaultKind, usize, usize); 33] = [
     (b"fn main(n) { n; }", FaultKind::Unexpected, 1, 17),
     (b"fn main(n) { 1 < n < 3 }", FaultKind::Unexpected, 1, 20),
     (b"fn main(n) { if n { 1 } }", FaultKind::Unexpected, 1, 25),
-    (b"fn main(n) { loop 4 (i = n) { i - 1 } while i > 0 }", FaultKind::Unexpected, 1, 45),
+    (
+        b"fn main(n) { loop 4 (i = n) { i - 1 } while i > 0 }",
+        FaultKind::Unexpected,
+        1,
+        45,
+    ),
     (b"let x = 1;", FaultKind::Unexpected, 1, 1),
     (b"fn main(n) { n", FaultKind::Unended, 1, 15),
     (b"fn main(n) { // }\n", FaultKind::Unended, 3, 1),
-    (b"array A[2];\nfn main(n) { n := 1 }", FaultKind::NotACell, 2, 16),
-    (b"array A[2];\nfn main(n) { 1 + A[0] := 1 }", FaultKind::NotACell, 2, 23),
+    (
+        b"array A[2];\nfn main(n) { n := 1 }",
+        FaultKind::NotACell,
+        2,
+        16,
+    ),
+    (
+        b"array A[2];\nfn main(n) { 1 + A[0] := 1 }",
+        FaultKind::NotACell,
+        2,
+        23,
+    ),
     (b"fn main(n) { n := 1 }", FaultKind::NotACell, 1, 16),
     (b"fn main(n) { A[0][1] }", FaultKind::Unexpected, 1, 18),
-    (b"fn main(n) { (9223372036854775808) }", FaultKind::BadNumber, 1, 15),
+    (
+        b"fn main(n) { (9223372036854775808) }",
+        FaultKind::BadNumber,
+        1,
+        15,
+    ),
     (b"fn main(n) { 1 } inputs", FaultKind::Unexpected, 1, 18),
     (b"fn main(n) { strict (n) }", FaultKind::Unexpected, 1, 21),
     (b"fn main(n) { n n }", FaultKind::Unexpected, 1, 16),
@@ -112,7 +157,10 @@ fn read(rt: HostRuntime) -> Result<(), Fail> {
 fn examples(rt: HostRuntime) -> Result<(), Fail> {
     for (text, names, inputs) in EXAMPLES {
         let source = read_program(rt.alloc(), text)?;
-        assert_eq!(rt; (source.program.names.len(), source.inputs.len()), (names, inputs));
+        assert_eq!(rt;
+            (source.program.names.len(), source.inputs.len()),
+            (names, inputs)
+        );
     }
     Ok(())
 }

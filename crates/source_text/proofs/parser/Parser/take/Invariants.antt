@@ -8,7 +8,7 @@ abbrev pub invariant-loop-symbol : goal.invariant-loop-symbol
 invariant-loop-symbol g l = record {
   shallow : All IsShallow l.self.stack.items;
   same : (names : List Name) → onward l.at (lexeme_named names l.lexeme) (state names l.initial.self.stack.items l.initial.self.words.items)
-    ≡ onward l.at (lexeme_named names l.lexeme) (state names l.self.stack.items l.self.words.items);
+      ≡ onward l.at (lexeme_named names l.lexeme) (state names l.self.stack.items l.self.words.items);
 }
 
 abbrev pub decreases-loop-symbol : goal.decreases-loop-symbol

@@ -10,4 +10,4 @@ returns-in_err-words g c =
     let table = c.args.self.names.table.items in
     let parser = c.args.self.parser in
     errs c.from_residual.result r.0 _ _ r.1
-      (subst (λ fault. IsFault fault (ending c.args.end (state table parser.stack.items parser.words.items))) (sym r.2) (c.in_err-words.ensures table))
+    (subst (λ fault. IsFault fault (ending c.args.end (state table parser.stack.items parser.words.items))) (sym r.2) (c.in_err-words.ensures table))
