@@ -73,3 +73,18 @@ fn signs(rt: HostRuntime) -> Result<(), Fail> {
     }
     Ok(())
 }
+
+/// An `if` behind an `else` is no deeper.
+#[test]
+fn a_long_chain(rt: HostRuntime) -> Result<(), Fail> {
+    let mut text = Vec::new(rt.alloc());
+    text.extend_from_slice(b"fn main(n) { ")?;
+    for _ in 0..1000 {
+        text.extend_from_slice(b"if n { 1 } else ")?;
+    }
+    text.extend_from_slice(b"{ 2 } }")?;
+    let source = read_program(rt.alloc(), &text)?;
+    // For each `if` the predicate, Then, List, 1, Part, Give, Else and EndIf; each but the first is a Chain.
+    assert_eq!(rt; source.program.words.len(), 8 * 1000 + 999 + 4 + 7);
+    Ok(())
+}

@@ -60,7 +60,7 @@ const REFUSED: [(&[u8], FaultKind, usize, usize); 33] = [
     ),
     (b"let x = 1;", FaultKind::Unexpected, 1, 1),
     (b"fn main(n) { n", FaultKind::Unended, 1, 15),
-    (b"fn main(n) { // }\n", FaultKind::Unended, 3, 1),
+    (b"fn main(n) { // }\n\n", FaultKind::Unended, 3, 1),
     (
         b"array A[2];\nfn main(n) { n := 1 }",
         FaultKind::NotACell,
