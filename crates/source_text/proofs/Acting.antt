@@ -47,7 +47,8 @@ errs r e P Q is q = subst (λ r. MatchResult r P Q) (sym is) q
 all_reversed : (xs : List (Symbol ℕ)) → All IsShallow xs → All IsShallow (reverse xs)
 all_reversed [] h = h
 all_reversed (x ∷ xs) h =
-    subst (All IsShallow) (sym (reverse-append (x ∷ []) xs)) (All-push IsShallow (reverse xs) x (all_reversed xs (All-tail IsShallow x xs h)) (All-head IsShallow x xs h))
+    subst (All IsShallow) (sym (reverse-append (x ∷ []) xs))
+    (All-push IsShallow (reverse xs) x (all_reversed xs (All-tail IsShallow x xs h)) (All-head IsShallow x xs h))
 
 pushed_shallow : (s : List (Symbol ℕ)) (below : Option (Symbol ℕ)) → All IsShallow s → IsShallowBelow below → All IsShallow (s ++ option_to_list below)
 pushed_shallow s None h k = subst (All IsShallow) (sym (append-nil s)) h
@@ -57,7 +58,8 @@ pub stays_shallow : (s t : List (Symbol ℕ)) (r : Reaction) (words : Few (Word 
     → t ≡ s ++ option_to_list r.below ++ reverse (few symbols) → All IsShallow s → AreAllShallow r → All IsShallow t
 stays_shallow s t r words symbols is e h k =
     subst (All IsShallow) (sym e)
-    (All-append IsShallow (s ++ option_to_list r.below) (reverse (few symbols)) (pushed_shallow s r.below h k.1) (all_reversed (few symbols) (subst AreShallow is k.0)))
+    (All-append IsShallow (s ++ option_to_list r.below) (reverse (few symbols)) (pushed_shallow s r.below h k.1)
+    (all_reversed (few symbols) (subst AreShallow is k.0)))
 
 module _ (names : List Name) where
   pub stack_more : (s : List (Symbol ℕ)) (x : Symbol ℕ) → named_stack names (s ++ x ∷ []) ≡ named_symbol names x ∷ named_stack names s
@@ -88,7 +90,8 @@ module _ (names : List Name) where
       append_assoc (map (named_symbol names) symbols) (named_symbol names y ∷ []) (named_stack names s)
       ∙ sym (stack_pushed (s ++ y ∷ []) symbols ∙ ap (λ t. map (named_symbol names) symbols ++ t) (stack_more s y))
 
-  pub acted_takes : (at : ℕ) (l : Lexeme) (s : List (Symbol ℕ)) (w : List (Word ℕ)) (before : Option (Word ℕ)) (below : Option (Symbol ℕ)) (words : List (Word ℕ)) (symbols : List (Symbol ℕ))
+  pub acted_takes : (at : ℕ) (l : Lexeme) (s : List (Symbol ℕ)) (w : List (Word ℕ)) (before : Option (Word ℕ)) (below : Option (Symbol ℕ))
+      (words : List (Word ℕ)) (symbols : List (Symbol ℕ))
       → reacted at l (state names s w) (behind names before (atop names below (Takes (words_named names words) (map (named_symbol names) symbols))))
       ≡ Ok (state names (s ++ option_to_list below ++ reverse symbols) (w ++ option_to_list before ++ words))
   acted_takes at l s w None None words symbols =
@@ -114,12 +117,16 @@ module _ (names : List Name) where
 
   pub acted_passes : (at : ℕ) (l : Lexeme) (s : List (Symbol ℕ)) (w : List (Word ℕ)) (before : Option (Word ℕ)) (below : Option (Symbol ℕ))
       → reacted at l (state names s w) (behind names before (atop names below (Passes []))) ≡ onward at l (state names s (w ++ option_to_list before))
-  acted_passes at l s w None None = moved_twice (words_named names w) [] _ ∙ ap (λ u. moved_after u (advance 200 (named_stack names s) at l)) (sym (words_pushed w []))
-  acted_passes at l s w None (Some y) = moved_twice (words_named names w) [] _ ∙ ap (λ u. moved_after u (advance 200 (named_stack names s) at l)) (sym (words_pushed w []))
+  acted_passes at l s w None None = moved_twice (words_named names w) [] _
+      ∙ ap (λ u. moved_after u (advance 200 (named_stack names s) at l)) (sym (words_pushed w []))
+  acted_passes at l s w None (Some y) = moved_twice (words_named names w) [] _
+      ∙ ap (λ u. moved_after u (advance 200 (named_stack names s) at l)) (sym (words_pushed w []))
   acted_passes at l s w (Some x) None =
-      moved_twice (words_named names w) (named names x ∷ []) _ ∙ ap (λ u. moved_after u (advance 200 (named_stack names s) at l)) (sym (words_pushed w (x ∷ [])))
+      moved_twice (words_named names w) (named names x ∷ []) _
+      ∙ ap (λ u. moved_after u (advance 200 (named_stack names s) at l)) (sym (words_pushed w (x ∷ [])))
   acted_passes at l s w (Some x) (Some y) =
-      moved_twice (words_named names w) (named names x ∷ []) _ ∙ ap (λ u. moved_after u (advance 200 (named_stack names s) at l)) (sym (words_pushed w (x ∷ [])))
+      moved_twice (words_named names w) (named names x ∷ []) _
+      ∙ ap (λ u. moved_after u (advance 200 (named_stack names s) at l)) (sym (words_pushed w (x ∷ [])))
 
   pub acted_refuses : (at : ℕ) (l : Lexeme) (s : List (Symbol ℕ)) (w : List (Word ℕ)) (before : Option (Word ℕ)) (below : Option (Symbol ℕ)) (kind : FaultKind)
       → reacted at l (state names s w) (behind names before (atop names below (Refuses kind))) ≡ Err kind
@@ -133,7 +140,8 @@ module _ (names : List Name) where
       → onward at l (state names s w) ≡ reacted at l (state names t w) (step 200 (named_symbol names x) at l)
   popped at l s t x w e = ap (λ stack. moved_after (words_named names w) (advance 200 stack at l)) (ap (named_stack names) e ∙ stack_more t x)
 
-  pub met : (at : ℕ) (l : Lexeme) (s t : List (Symbol ℕ)) (x : Symbol ℕ) (w : List (Word ℕ)) (o : Outcome) → s ≡ t ++ x ∷ [] → o ≡ step 200 (named_symbol names x) at l
+  pub met : (at : ℕ) (l : Lexeme) (s t : List (Symbol ℕ)) (x : Symbol ℕ) (w : List (Word ℕ)) (o : Outcome) → s ≡ t ++ x ∷ [] → o
+      ≡ step 200 (named_symbol names x) at l
       → onward at l (state names s w) ≡ reacted at l (state names t w) o
   met at l s t x w o e is = popped at l s t x w e ∙ ap (reacted at l (state names t w)) (sym is)
 

@@ -19,14 +19,16 @@ known_number names x h = go (nat_lt x (length names)) refl
         let past = ltb-false x (length names) p in
         let more : List Name = replicate (x + 1) (0 ∷ []) in
         let none : name_of names x ≡ [] = get_or-eq_default names [] past in
-        let some : name_of (names ++ more) x ≡ 0 ∷ [] = get_or-append_right names more (length names) x [] refl past ∙ get_or-replicate (x + 1) (x - length names) (0 ∷ []) [] (omega (arith, past)) in
+        let some : name_of (names ++ more) x ≡ 0 ∷ [] = get_or-append_right names more (length names) x [] refl past
+        ∙ get_or-replicate (x + 1) (x - length names) (0 ∷ []) [] (omega (arith, past)) in
         let same = h (names ++ more) (record { more = more; is = refl }) in
         absurd (cc)
 
 one_known : (names : List Name) (x : ℕ) → ((table : List Name) → Extends names table → name_of names x ≡ name_of table x) → All (λ n. n < length names) (x ∷ [])
 one_known names x h = All-cons (λ n. n < length names) x [] (known_number names x h) (All-nil (λ n. n < length names))
 
-known_word : (names : List Name) (w : Word ℕ) → ((table : List Name) → Extends names table → named names w ≡ named table w) → All (λ n. n < length names) (numbers_of w)
+known_word : (names : List Name) (w : Word ℕ) → ((table : List Name) → Extends names table → named names w ≡ named table w)
+    → All (λ n. n < length names) (numbers_of w)
 known_word names (word.Array at x) h = one_known names x (λ table e. let f = h table e in cc)
 known_word names (word.Function at x) h = one_known names x (λ table e. let f = h table e in cc)
 known_word names (word.Parameter at x) h = one_known names x (λ table e. let f = h table e in cc)

@@ -26,7 +26,8 @@ pub extended_name : (a b : List Name) (n : ℕ) → Extends a b → n < length a
 extended_name a b n e h = ap (λ xs. name_of xs n) e.is ∙ get_or_append_left a e.more [] n h
 
 -- an old name
-pub found_name : (numbers : BTreeMap (Bor (List ℕ)) ℕ) (names : List Name) (name : Name) (n : ℕ) (o : Option ℕ) → o ≡ looked_up name numbers → o ≡ Some n → IsTable numbers names
+pub found_name : (numbers : BTreeMap (Bor (List ℕ)) ℕ) (names : List Name) (name : Name) (n : ℕ) (o : Option ℕ) → o ≡ looked_up name numbers → o ≡ Some n
+    → IsTable numbers names
     → IsNumbered names numbers names name n
 found_name numbers names name n o looked is table =
     let place = place_some name names n (sym (looked ∙ table.index name) ∙ is) in
@@ -82,7 +83,8 @@ pub new_name : (numbers new : BTreeMap (Bor (List ℕ)) ℕ) (names table : List
 new_name numbers new names table name n o looked none count is updates old =
     let absent = (place_none name names (sym (looked ∙ old.index name) ∙ none)).1 in
     record {
-      table = subst (IsTable new) (sym is) (record { index = index_more numbers new names name n old.index absent count updates; distinct = distinct_more names name old.distinct absent });
+      table = subst (IsTable new) (sym is) (record
+          { index = index_more numbers new names name n old.index absent count updates; distinct = distinct_more names name old.distinct absent });
       extends = record { more = name ∷ []; is = is };
       within = subst (λ t. n < length t) (sym is) (omega (arith, count, length_more names name));
       is = ap (λ t. name_of t n) is ∙ last_name names name n count;

@@ -57,18 +57,22 @@ begins text ts numbers table stack words start = record {
   shallow = subst (All IsShallow) (sym start.only_items) (All-cons IsShallow Items [] tt (All-nil IsShallow));
   so_far = λ names e.
       words_nothing (parsed text ts)
-      ∙ ap₂ (λ w s. words_after (words_named names w) (run 200 (length text) (named_stack names s) (map (placed text) ts))) (sym start.no_words) (sym start.only_items);
+      ∙ ap₂ (λ w s. words_after (words_named names w) (run 200 (length text) (named_stack names s) (map (placed text) ts))) (sym start.no_words)
+      (sym start.only_items);
 }
   where
     words_nothing : (r : Result Words Fault) → r ≡ words_after [] r
     words_nothing (Ok ws) = refl
     words_nothing (Err fault) = refl
 
-module _ (text : List ℕ) (ts : List Token) (n : ℕ) (t : Token) (numbers : BTreeMap (Bor (List ℕ)) ℕ) (table : List Name) (stack : List (Symbol ℕ)) (words : List (Word ℕ)) where
+module _ (text : List ℕ) (ts : List Token) (n : ℕ) (t : Token) (numbers : BTreeMap (Bor (List ℕ)) ℕ) (table : List Name) (stack : List (Symbol ℕ))
+    (words : List (Word ℕ)) where
   opened : n < length ts → t ≡ get_or ts n t → (names : List Name) → IsReading text ts n numbers table stack words → Extends table names
-      → parsed text ts ≡ words_after (words_named names words) (run 200 (length text) (named_stack names stack) (placed text t ∷ map (placed text) (drop (n + 1) ts)))
+      → parsed text ts ≡ words_after (words_named names words)
+      (run 200 (length text) (named_stack names stack) (placed text t ∷ map (placed text) (drop (n + 1) ts)))
   opened h at names reading e =
-      reading.so_far names e ∙ ap (λ l. words_after (words_named names words) (run 200 (length text) (named_stack names stack) (map (placed text) l))) (drop_opens ts n t h at)
+      reading.so_far names e ∙ ap (λ l. words_after (words_named names words) (run 200 (length text) (named_stack names stack) (map (placed text) l)))
+      (drop_opens ts n t h at)
 
   pub reads_on : (new : BTreeMap (Bor (List ℕ)) ℕ) (table' : List Name) (stack' : List (Symbol ℕ)) (words' : List (Word ℕ)) → n < length ts → t ≡ get_or ts n t
       → IsReading text ts n numbers table stack words → IsAdvanced t.at (lexeme text t) table stack words new table' stack' words'
@@ -92,37 +96,39 @@ module _ (text : List ℕ) (ts : List Token) (n : ℕ) (t : Token) (numbers : BT
           ∙ run_stop (words_named stopped.names words) (advance 200 (named_stack stopped.names stack) t.at (lexeme text t)) t.at
           (λ s. run 200 (length text) s (map (placed text) (drop (n + 1) ts))) kind is)
 
-module _ (text : List ℕ) (ts : List Token) (n : ℕ) (numbers : BTreeMap (Bor (List ℕ)) ℕ) (table : List Name) (stack : List (Symbol ℕ)) (words : List (Word ℕ)) where
-  ended_so : (names : List Name) → length ts ≤ n → IsReading text ts n numbers table stack words → Extends table names
-      → parsed text ts ≡ ending (length text) (state names stack words)
-  ended_so names h reading e =
-      reading.so_far names e
-      ∙ at_drop_all (λ l. words_after (words_named names words) (run 200 (length text) (named_stack names stack) (map (placed text) l))) ts n h
+module _ (text : List ℕ) (ts : List Token) (n : ℕ) (numbers : BTreeMap (Bor (List ℕ)) ℕ) (table : List Name) (stack : List (Symbol ℕ)) (words : List (Word ℕ))
+  where
+    ended_so : (names : List Name) → length ts ≤ n → IsReading text ts n numbers table stack words → Extends table names
+        → parsed text ts ≡ ending (length text) (state names stack words)
+    ended_so names h reading e =
+        reading.so_far names e
+        ∙ at_drop_all (λ l. words_after (words_named names words) (run 200 (length text) (named_stack names stack) (map (placed text) l))) ts n h
 
-  says : (read : List (Word ℕ)) → length ts ≤ n → IsReading text ts n numbers table stack words
-      → ((names : List Name) → ending (length text) (state names stack words) ≡ Ok (words_named names read)) → (names : List Name) → Extends table names
-      → parsed text ts ≡ Ok (words_named names read)
-  says read h reading end names e = ended_so names h reading e ∙ end names
+    says : (read : List (Word ℕ)) → length ts ≤ n → IsReading text ts n numbers table stack words
+        → ((names : List Name) → ending (length text) (state names stack words) ≡ Ok (words_named names read)) → (names : List Name) → Extends table names
+        → parsed text ts ≡ Ok (words_named names read)
+    says read h reading end names e = ended_so names h reading e ∙ end names
 
-  pub ends_well : (read : List (Word ℕ)) → length ts ≤ n → IsReading text ts n numbers table stack words
-      → ((names : List Name) → ending (length text) (state names stack words) ≡ Ok (words_named names read)) → AreParsed text ts table read
-  ends_well read h reading end = record {
-    said = says read h reading end table (extends_itself table);
-    known = known_words table read (λ names e. same_words _ _ (sym (says read h reading end table (extends_itself table)) ∙ says read h reading end names e));
-    distinct = reading.indexed.distinct;
-  }
+    pub ends_well : (read : List (Word ℕ)) → length ts ≤ n → IsReading text ts n numbers table stack words
+        → ((names : List Name) → ending (length text) (state names stack words) ≡ Ok (words_named names read)) → AreParsed text ts table read
+    ends_well read h reading end = record {
+      said = says read h reading end table (extends_itself table);
+      known = known_words table read (λ names e. same_words _ _ (sym (says read h reading end table (extends_itself table)) ∙ says read h reading end names e));
+      distinct = reading.indexed.distinct;
+    }
 
-  pub ends_badly : (fault : Fault) → length ts ≤ n → IsReading text ts n numbers table stack words
-      → IsFault fault (ending (length text) (state table stack words)) → IsFault fault (parsed text ts)
-  ends_badly fault h reading (inl memory) = inl memory
-  ends_badly fault h reading (inr is) = inr (ended_so table h reading (extends_itself table) ∙ is)
+    pub ends_badly : (fault : Fault) → length ts ≤ n → IsReading text ts n numbers table stack words
+        → IsFault fault (ending (length text) (state table stack words)) → IsFault fault (parsed text ts)
+    ends_badly fault h reading (inl memory) = inl memory
+    ends_badly fault h reading (inr is) = inr (ended_so table h reading (extends_itself table) ∙ is)
 
-  pub finishes : {P : Type 0} (names_of : P → List Name) (words_of : P → List (Word ℕ)) (r : Result P Fault) → length ts ≤ n → IsReading text ts n numbers table stack words
-      → MatchResult r (λ p. (names_of p ≡ table) × ((names : List Name) → ending (length text) (state names stack words) ≡ Ok (words_named names (words_of p))))
-      (λ fault. IsFault fault (ending (length text) (state table stack words)))
-      → MatchResult r (λ p. AreParsed text ts (names_of p) (words_of p)) (λ fault. IsFault fault (parsed text ts))
-  finishes names_of words_of (Ok p) h reading end = subst (λ names. AreParsed text ts names (words_of p)) (sym end.0) (ends_well (words_of p) h reading end.1)
-  finishes names_of words_of (Err fault) h reading end = ends_badly fault h reading end
+    pub finishes : {P : Type 0} (names_of : P → List Name) (words_of : P → List (Word ℕ)) (r : Result P Fault) → length ts ≤ n
+        → IsReading text ts n numbers table stack words
+        → MatchResult r (λ p. (names_of p ≡ table) × ((names : List Name) → ending (length text) (state names stack words) ≡ Ok (words_named names (words_of p))))
+        (λ fault. IsFault fault (ending (length text) (state table stack words)))
+        → MatchResult r (λ p. AreParsed text ts (names_of p) (words_of p)) (λ fault. IsFault fault (parsed text ts))
+    finishes names_of words_of (Ok p) h reading end = subst (λ names. AreParsed text ts names (words_of p)) (sym end.0) (ends_well (words_of p) h reading end.1)
+    finishes names_of words_of (Err fault) h reading end = ends_badly fault h reading end
 
 -- ONE TOKEN
 pub advances : {U : Type 0} (at : ℕ) (l : Lexeme) (meant : spelled.Lexeme) (numbers : BTreeMap (Bor (List ℕ)) ℕ) (old table : List Name)

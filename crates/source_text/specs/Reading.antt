@@ -43,7 +43,8 @@ pub record IsStopped (at : ℕ) (l : Lexeme) (old : List Name) (s : List (Symbol
   pub cause : IsKind kind (onward at l (state names s w))
 
 -- so many tokens were read
-pub record IsReading (text : List ℕ) (ts : List Token) (n : ℕ) (numbers : BTreeMap (Bor (List ℕ)) ℕ) (table : List Name) (stack : List (Symbol ℕ)) (words : List (Word ℕ)) : Type 0 where
+pub record IsReading (text : List ℕ) (ts : List Token) (n : ℕ) (numbers : BTreeMap (Bor (List ℕ)) ℕ) (table : List Name) (stack : List (Symbol ℕ))
+    (words : List (Word ℕ)) : Type 0 where
   pub indexed : IsTable numbers table
   pub shallow : All IsShallow stack
   pub so_far : (names : List Name) → Extends table names

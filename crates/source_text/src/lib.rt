@@ -16,4 +16,4 @@ mod signs;
 mod texts;
 
 pub use reading::parse;
-pub use texts::{Source, read_program};
+pub use texts::{SourceText, read_program};

@@ -23,7 +23,8 @@ pub(crate) struct Names<'a, A: Allocator> {
 impl<'a, A: Allocator + Clone> Names<'a, A> {
     /// The number of a name, which is a new one where the name is new.
     fn number(&mut self, name: &'a [u8]) -> Result<usize, FaultKind>
-        ensures numbered { IsTable self.old.numbers self.old.table.items → IfOk result (λ n. IsNumbered self.old.table.items self.new.numbers self.new.table.items name.now n) }
+        ensures numbered { IsTable self.old.numbers self.old.table.items
+            → IfOk result (λ n. IsNumbered self.old.table.items self.new.numbers self.new.table.items name.now n) }
         ensures memory { IfErr result (λ kind. kind ≡ Memory) }
     {
         if let Some(number) = self.numbers.get(&name).copied() {
@@ -41,7 +42,8 @@ impl<'a, A: Allocator + Clone> Names<'a, A> {
 
     /// What a token of the text says.
     pub(crate) fn lexeme(&mut self, text: &'a [u8], token: &Token) -> Result<Lexeme, FaultKind>
-        ensures said { IsTable self.old.numbers self.old.table.items → IfOk result (λ l. IsSaid self.old.table.items self.new.numbers self.new.table.items (lexeme text.now token.now) l) }
+        ensures said { IsTable self.old.numbers self.old.table.items
+            → IfOk result (λ l. IsSaid self.old.table.items self.new.numbers self.new.table.items (lexeme text.now token.now) l) }
         ensures memory { IfErr result (λ kind. kind ≡ Memory) }
     {
         Ok(match token.kind {

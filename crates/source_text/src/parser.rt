@@ -79,7 +79,8 @@ impl<A: Allocator> Parser<A> {
         requires stack { All IsShallow self.old.stack.items }
         ensures acts { (names : List Name) (at : ℕ) (l : spelled.Lexeme) → MatchResult result
             (λ taken. reacted at l (state names self.old.stack.items self.old.words.items) (reaction_named names reaction)
-            ≡ (if taken then Ok (state names self.new.stack.items self.new.words.items) else onward at l (state names self.new.stack.items self.new.words.items)))
+            ≡ (if taken then Ok (state names self.new.stack.items self.new.words.items)
+            else onward at l (state names self.new.stack.items self.new.words.items)))
             (λ kind. IsKind kind (reacted at l (state names self.old.stack.items self.old.words.items) (reaction_named names reaction))) }
         ensures shallow { OnOk result (All IsShallow self.new.stack.items) }
         ensures smaller { result ≡ Ok false → self.new.stack.items ≡ self.old.stack.items }
@@ -101,7 +102,8 @@ impl<A: Allocator> Parser<A> {
     pub(crate) fn take(&mut self, at: usize, lexeme: Lexeme) -> Result<(), FaultKind>
         requires { All IsShallow self.old.stack.items }
         ensures took { (names : List Name) → MatchResult result
-            (λ _. onward at (lexeme_named names lexeme) (state names self.old.stack.items self.old.words.items) ≡ Ok (state names self.new.stack.items self.new.words.items))
+            (λ _. onward at (lexeme_named names lexeme) (state names self.old.stack.items self.old.words.items)
+            ≡ Ok (state names self.new.stack.items self.new.words.items))
             (λ kind. IsKind kind (onward at (lexeme_named names lexeme) (state names self.old.stack.items self.old.words.items))) }
         ensures shallow { OnOk result (All IsShallow self.new.stack.items) }
     {

@@ -47,7 +47,8 @@ impl<'a, A: Allocator + Clone> Reader<'a, A> {
         ensures { MatchResult result
             (λ _. IsAdvanced token.now.at (lexeme text.now token.now) self.old.names.table.items self.old.parser.stack.items self.old.parser.words.items
             self.new.names.numbers self.new.names.table.items self.new.parser.stack.items self.new.parser.words.items)
-            (λ kind. IsStopped token.now.at (lexeme text.now token.now) self.old.names.table.items self.old.parser.stack.items self.old.parser.words.items kind) }
+            (λ kind. IsStopped token.now.at (lexeme text.now token.now) self.old.names.table.items self.old.parser.stack.items
+            self.old.parser.words.items kind) }
     {
         let lexeme = self.names.lexeme(text, token)?;
         self.parser.take(token.at, lexeme)
@@ -56,7 +57,9 @@ impl<'a, A: Allocator + Clone> Reader<'a, A> {
     /// The program, where no token is left.
     fn finish(self, end: usize) -> Result<Program<'a, A>, Fault>
         ensures { MatchResult result
-            (λ p. (p.names.items ≡ self.entry.names.table.items) × ((names : List Name) → ending end (state names self.entry.parser.stack.items self.entry.parser.words.items) ≡ Ok (words_named names p.words.items)))
+            (λ p. (p.names.items ≡ self.entry.names.table.items)
+            × ((names : List Name) → ending end (state names self.entry.parser.stack.items self.entry.parser.words.items)
+            ≡ Ok (words_named names p.words.items)))
             (λ fault. IsFault fault (ending end (state self.entry.names.table.items self.entry.parser.stack.items self.entry.parser.words.items))) }
     {
         let words = self.parser.finish(end)?;

@@ -12,7 +12,7 @@ use std::alloc::Allocator;
 
 /// A text that was read.
 #[derive(Drop)]
-pub struct Source<'a, A: Allocator> {
+pub struct SourceText<'a, A: Allocator> {
     /// The text of the program.
     pub text: &'a [u8],
     pub program: Program<'a, A>,
@@ -50,12 +50,12 @@ fn read<'a, A: Allocator + Clone>(alloc: A, text: &'a [u8]) -> Result<Program<'a
 pub fn read_program<'a, A: Allocator + Clone>(
     alloc: A,
     text: &'a [u8],
-) -> Result<Source<'a, A>, ProgramFault>
+) -> Result<SourceText<'a, A>, ProgramFault>
     ensures { MatchResult result (λ s. IsRead text.now s.text.now s.program.names.items s.program.words.items s.inputs.now) (λ fault. IsTold text.now fault) }
 {
     let parted = split(text);
     match read(alloc, parted.program) {
-        Ok(program) => Ok(Source {
+        Ok(program) => Ok(SourceText {
             text: parted.program,
             program,
             inputs: parted.inputs,

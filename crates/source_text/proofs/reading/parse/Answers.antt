@@ -8,7 +8,8 @@ returns-in-Err g c =
     let reader = c.loop-token.reader in
     let tokens = c.args.tokens.now in
     let h : c.loop-token.token-index < length tokens = omega arith in
-    told c.args.text.now tokens _ (stops c.args.text.now tokens c.loop-token.token-index _ reader.names.numbers reader.names.table.items reader.parser.stack.items reader.parser.words.items
+    told c.args.text.now tokens _ (stops c.args.text.now tokens c.loop-token.token-index _ reader.names.numbers reader.names.table.items
+    reader.parser.stack.items reader.parser.words.items
     c.in-Err.kind h (same_read tokens c.loop-token.token-index _ _ h) c.loop-token.invariant c.in-Err.ensures)
 
 pub loop-token-preserved : goal.loop-token-preserved
@@ -25,5 +26,7 @@ returns g c =
     let reader = c.loop-token.reader in
     let tokens = c.args.tokens.now in
     let h : length tokens ≤ c.loop-token.token-index = omega arith in
-    read_so c.args.text.now tokens (λ p. p.names.items) (λ p. p.words.items) c.finish.result (finishes c.args.text.now tokens c.loop-token.token-index reader.names.numbers reader.names.table.items reader.parser.stack.items reader.parser.words.items
+    read_so c.args.text.now tokens (λ p. p.names.items) (λ p. p.words.items) c.finish.result
+    (finishes c.args.text.now tokens c.loop-token.token-index reader.names.numbers reader.names.table.items reader.parser.stack.items
+    reader.parser.words.items
     (λ p. p.names.items) (λ p. p.words.items) c.finish.result h c.loop-token.invariant c.finish.ensures)

@@ -4,7 +4,8 @@ use Rattle.source_text.proofs.names.Names.number.Goals as goal
 
 pub returns-in-Some-clause-numbered : goal.returns-in-Some-clause-numbered
 returns-in-Some-clause-numbered g c = λ table.
-    found_name c.args.self.now.numbers c.args.self.now.table.items c.args.name.now c.in-Some.number c.copied.result (c.copied.ensures ∙ c.get.ensures.value) c.in-Some.is table
+    found_name c.args.self.now.numbers c.args.self.now.table.items c.args.name.now c.in-Some.number c.copied.result (c.copied.ensures ∙ c.get.ensures.value)
+    c.in-Some.is table
 
 pub returns-clause-numbered : goal.returns-clause-numbered
 returns-clause-numbered g c = λ table.

@@ -11,4 +11,5 @@ loop-symbol-preserved g c = λ names.
     c.loop-symbol.invariant names ∙ c.in_default-end.ensures.ends names c.args.end c.loop-symbol.self.stack.items c.in-Some.ensures.items
 
 pub returns : goal.returns
-returns g c = λ names. c.loop-symbol.invariant names ∙ ends names c.args.end c.loop-symbol.self.stack.items c.loop-symbol.self.words.items (omega (arith, c.in_default.ensures.cases.0))
+returns g c = λ names. c.loop-symbol.invariant names
+    ∙ ends names c.args.end c.loop-symbol.self.stack.items c.loop-symbol.self.words.items (omega (arith, c.in_default.ensures.cases.0))

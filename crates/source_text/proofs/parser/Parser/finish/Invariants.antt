@@ -5,7 +5,8 @@ use Rattle.source_text.proofs.parser.Parser.finish.Given as goal
 
 abbrev pub invariant-loop-symbol : goal.invariant-loop-symbol
 invariant-loop-symbol g l =
-    (names : List Name) → ending l.end (state names l.initial.self.stack.items l.initial.self.words.items) ≡ ending l.end (state names l.self.stack.items l.self.words.items)
+    (names : List Name) → ending l.end (state names l.initial.self.stack.items l.initial.self.words.items)
+    ≡ ending l.end (state names l.self.stack.items l.self.words.items)
 
 abbrev pub decreases-loop-symbol : goal.decreases-loop-symbol
 decreases-loop-symbol g l = length l.self.stack.items
