@@ -74,17 +74,32 @@ fn signs(rt: HostRuntime) -> Result<(), Fail> {
     Ok(())
 }
 
-/// An `if` behind an `else` is no deeper.
-#[test]
-fn a_long_chain(rt: HostRuntime) -> Result<(), Fail> {
-    let mut text = Vec::new(rt.alloc());
+/// Each `if` of a chain is open around those behind it.
+fn chain<A: Allocator>(alloc: A, ifs: usize) -> Result<Vec<u8, A>, AllocError> {
+    let mut text = Vec::new(alloc);
     text.extend_from_slice(b"fn main(n) { ")?;
-    for _ in 0..1000 {
+    for _ in 0..ifs {
         text.extend_from_slice(b"if n { 1 } else ")?;
     }
     text.extend_from_slice(b"{ 2 } }")?;
+    Ok(text)
+}
+
+/// The expression of the body and a predicate are open too.
+#[test]
+fn a_long_chain(rt: HostRuntime) -> Result<(), Fail> {
+    let text = chain(rt.alloc(), 198)?;
     let source = read_program(rt.alloc(), &text)?;
     // For each `if` the predicate, Then, List, 1, Part, Give, Else and EndIf; each but the first is a Chain.
-    assert_eq!(rt; source.program.words.len(), 8 * 1000 + 999 + 4 + 7);
+    assert_eq!(rt; source.program.words.len(), 8 * 198 + 197 + 4 + 7);
+    let text = chain(rt.alloc(), 199)?;
+    match read_program(rt.alloc(), &text) {
+        Ok(_) => assert!(rt; false, "201 are open"),
+        Err(fault) => {
+            assert_eq!(rt; fault.kind, FaultKind::TooDeep);
+            // The word `if` that cannot be had is the last one.
+            assert_eq!(rt; (fault.line, fault.column), (1, 14 + 16 * 198));
+        }
+    }
     Ok(())
 }
