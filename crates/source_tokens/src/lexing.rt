@@ -1,6 +1,6 @@
 //! The tokens of a program.
 
-ghost use Rattle.std.specs.Prelude.{◌≡◌, take, drop, All, Ok, IfOk, MatchResult};
+ghost use Rattle.std.specs.Prelude.{◌≡◌, ◌≤◌, length, take, drop, All, Ok, IfOk, IfErr, MatchResult};
 ghost use Rattle.source.specs.Tokens.{lexed};
 ghost use Rattle.source_tokens.specs.Lexing.{IsFirstFault};
 ghost use Rattle.source_tokens.specs.Stands.{Stands};
@@ -15,6 +15,8 @@ pub fn lex<A: Allocator>(alloc: A, program: &[u8]) -> Result<Vec<Token, A>, Faul
     ensures exact { MatchResult result (λ v. lexed program.now ≡ Ok v.items) (λ e. IsFirstFault e (lexed program.now)) }
     // What is read stands in the text.
     ensures stand { IfOk result (λ v. All (Stands program.now) v.items) }
+    // A fault has its place in the text, too.
+    ensures within { IfErr result (λ e. e.at ≤ length program.now) }
 {
     let mut tokens = Vec::new(alloc);
     let mut at = 0;
