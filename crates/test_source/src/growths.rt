@@ -2,6 +2,7 @@
 
 use rationed::{Rationed, is_next_refused};
 use source::fault::FaultKind;
+use source_text::read_program;
 use source_tokens::lex;
 use std::test::Fail;
 
@@ -47,5 +48,30 @@ fn refused_growths(rt: HostRuntime) -> Result<(), Fail> {
         refused = refused.wrapping_add(1);
     }
     assert!(rt; whole && refused > 1);
+    Ok(())
+}
+
+/// Each growth of reading a whole text is refused in turn, until none is.
+#[test]
+fn refused_growths_of_a_program(rt: HostRuntime) -> Result<(), Fail> {
+    let text =
+        b"array A[9]; fn f(a, b, c, d, e) { A[a] := b; a + b * c - d / e } fn main(n) { let x, y = n, 1; f(x, y, n, 2, 3) }";
+    let mut refused = 0u64;
+    let mut whole = false;
+    for growth in 1..100u64 {
+        let heap = Rationed::new(rt.alloc(), growth);
+        let fault = match read_program(&heap, text) {
+            Ok(_) => None,
+            Err(fault) => Some(fault.kind),
+        };
+        whole = is_next_refused(&heap);
+        if whole {
+            assert_eq!(rt; fault, None, "{growth}");
+            break;
+        }
+        assert_eq!(rt; fault, Some(FaultKind::Memory), "{growth}");
+        refused = refused.wrapping_add(1);
+    }
+    assert!(rt; whole && refused > 10);
     Ok(())
 }

@@ -1,0 +1,155 @@
+-- READING, token by token.
+use Rattle.std.proofs.Common.{◌≡◌, ℕ, zero, suc, ◌+◌, ◌<◌, ◌≤◌, List, [], ◌∷◌, ◌++◌, map, drop, length, get_or, All, Result, Ok, Err, MatchResult, inl, inr, refl, sym, ap, ap₂, ◌∙◌, subst, append_assoc, arith}
+use Rattle.std.proofs.lemmas.List.{at_drop_all}
+use Rattle.std.proofs.lemmas.List.Elements.{All-nil, All-cons}
+use Rattle.std.specs.BTreeMap.{BTreeMap}
+use Rattle.std.specs.Prelude.{OnOk}
+use Rattle.lemmas.proofs.Lists.{drop_opens}
+use Rattle.source.specs.declared.fault.Fault.{Fault}
+use Rattle.source.specs.declared.fault.FaultKind.{FaultKind}
+use Rattle.source.specs.declared.token.Token.{Token}
+use Rattle.source.specs.declared.word.Word.{Word}
+use Rattle.source.specs.Tree.{Name}
+use Rattle.source.specs.Spelled as spelled
+use Rattle.source.specs.Spelled.{lexeme}
+use Rattle.source.specs.Words.{Words}
+use Rattle.law_grammar.specs.declared.symbol.Symbol.{Symbol}
+use Rattle.law_grammar.specs.declared.symbol.Symbol.TheVariants.{Items}
+use Rattle.law_grammar.specs.Automaton.{Stack, Moved, moved_after, advance, words_after, run_on, run, placed, parsed}
+use Rattle.source_text.specs.declared.lexeme.Lexeme.{Lexeme}
+use Rattle.source_text.specs.Outcomes.{lexeme_named, IsShallow}
+use Rattle.source_text.specs.Naming.{Extends, IsSaid}
+use Rattle.law_grammar.specs.Named.{named_stack}
+use Rattle.source_text.specs.Running.{words_named, state, onward, ending, IsKind, IsFault}
+use Rattle.source_text.specs.Reading.{IsStart, IsAdvanced, IsStopped, IsReading, AreParsed}
+use Rattle.source_text.proofs.Named.{extends_itself, extends_twice}
+use Rattle.source_text.proofs.Known.{known_words}
+use denote.Ref.{Bor}
+
+abbrev the_words : Words → Result Words Fault
+the_words ws = Ok ws
+
+pub same_words : (a b : Words) → the_words a ≡ the_words b → a ≡ b
+same_words a b e = cc
+
+words_twice : (a b : Words) (r : Result Words Fault) → words_after a (words_after b r) ≡ words_after (a ++ b) r
+words_twice a b (Ok vs) = ap Ok (sym (append_assoc a b vs))
+words_twice a b (Err fault) = refl
+
+run_step : (w : Words) (r : Result Moved FaultKind) (at : ℕ) (f : Stack → Result Words Fault) (m : Moved) → moved_after w r ≡ Ok m
+    → words_after w (run_on at r f) ≡ words_after m.appended (f m.stack)
+run_step w (Ok n) at f m e =
+    let is : record { appended = w ++ n.appended; stack = n.stack } ≡ m = cc in
+    words_twice w n.appended (f n.stack) ∙ ap (λ (m : Moved). words_after m.appended (f m.stack)) is
+run_step w (Err kind) at f m e = cc
+
+run_stop : (w : Words) (r : Result Moved FaultKind) (at : ℕ) (f : Stack → Result Words Fault) (kind : FaultKind) → moved_after w r ≡ Err kind
+    → words_after w (run_on at r f) ≡ Err (record { kind = kind; at = at })
+run_stop w (Ok n) at f kind e = cc
+run_stop w (Err k) at f kind e =
+    let is : k ≡ kind = cc in
+    ap (λ k. Err (record { kind = k; at = at })) is
+
+pub begins : (text : List ℕ) (ts : List Token) (numbers : BTreeMap (Bor (List ℕ)) ℕ) (table : List Name) (stack : List (Symbol ℕ)) (words : List (Word ℕ))
+    → IsStart numbers table stack words → IsReading text ts 0 numbers table stack words
+begins text ts numbers table stack words start = record {
+  indexed = start.indexed;
+  shallow = subst (All IsShallow) (sym start.only_items) (All-cons IsShallow Items [] tt (All-nil IsShallow));
+  so_far = λ names e.
+      words_nothing (parsed text ts)
+      ∙ ap₂ (λ w s. words_after (words_named names w) (run 200 (length text) (named_stack names s) (map (placed text) ts))) (sym start.no_words)
+      (sym start.only_items);
+}
+  where
+    words_nothing : (r : Result Words Fault) → r ≡ words_after [] r
+    words_nothing (Ok ws) = refl
+    words_nothing (Err fault) = refl
+
+module _ (text : List ℕ) (ts : List Token) (n : ℕ) (t : Token) (numbers : BTreeMap (Bor (List ℕ)) ℕ) (table : List Name) (stack : List (Symbol ℕ))
+    (words : List (Word ℕ)) where
+  opened : n < length ts → t ≡ get_or ts n t → (names : List Name) → IsReading text ts n numbers table stack words → Extends table names
+      → parsed text ts ≡ words_after (words_named names words)
+      (run 200 (length text) (named_stack names stack) (placed text t ∷ map (placed text) (drop (n + 1) ts)))
+  opened h at names reading e =
+      reading.so_far names e ∙ ap (λ l. words_after (words_named names words) (run 200 (length text) (named_stack names stack) (map (placed text) l)))
+      (drop_opens ts n t h at)
+
+  pub reads_on : (new : BTreeMap (Bor (List ℕ)) ℕ) (table' : List Name) (stack' : List (Symbol ℕ)) (words' : List (Word ℕ)) → n < length ts → t ≡ get_or ts n t
+      → IsReading text ts n numbers table stack words → IsAdvanced t.at (lexeme text t) table stack words new table' stack' words'
+      → IsReading text ts (n + 1) new table' stack' words'
+  reads_on new table' stack' words' h at reading advanced = record {
+    indexed = advanced.indexed;
+    shallow = advanced.shallow;
+    so_far = λ names e.
+        opened h at names reading (extends_twice table table' names advanced.extends e)
+        ∙ run_step (words_named names words) (advance 200 (named_stack names stack) t.at (lexeme text t)) t.at
+        (λ s. run 200 (length text) s (map (placed text) (drop (n + 1) ts))) (state names stack' words') (advanced.moved names e);
+  }
+
+  pub stops : (kind : FaultKind) → n < length ts → t ≡ get_or ts n t → IsReading text ts n numbers table stack words
+      → IsStopped t.at (lexeme text t) table stack words kind → IsFault (record { kind = kind; at = t.at }) (parsed text ts)
+  stops kind h at reading stopped = go stopped.cause
+    where
+      go : IsKind kind (onward t.at (lexeme text t) (state stopped.names stack words)) → IsFault (record { kind = kind; at = t.at }) (parsed text ts)
+      go (inl memory) = inl memory
+      go (inr is) = inr (opened h at stopped.names reading stopped.extends
+          ∙ run_stop (words_named stopped.names words) (advance 200 (named_stack stopped.names stack) t.at (lexeme text t)) t.at
+          (λ s. run 200 (length text) s (map (placed text) (drop (n + 1) ts))) kind is)
+
+module _ (text : List ℕ) (ts : List Token) (n : ℕ) (numbers : BTreeMap (Bor (List ℕ)) ℕ) (table : List Name) (stack : List (Symbol ℕ)) (words : List (Word ℕ))
+  where
+    ended_so : (names : List Name) → length ts ≤ n → IsReading text ts n numbers table stack words → Extends table names
+        → parsed text ts ≡ ending (length text) (state names stack words)
+    ended_so names h reading e =
+        reading.so_far names e
+        ∙ at_drop_all (λ l. words_after (words_named names words) (run 200 (length text) (named_stack names stack) (map (placed text) l))) ts n h
+
+    says : (read : List (Word ℕ)) → length ts ≤ n → IsReading text ts n numbers table stack words
+        → ((names : List Name) → ending (length text) (state names stack words) ≡ Ok (words_named names read)) → (names : List Name) → Extends table names
+        → parsed text ts ≡ Ok (words_named names read)
+    says read h reading end names e = ended_so names h reading e ∙ end names
+
+    pub ends_well : (read : List (Word ℕ)) → length ts ≤ n → IsReading text ts n numbers table stack words
+        → ((names : List Name) → ending (length text) (state names stack words) ≡ Ok (words_named names read)) → AreParsed text ts table read
+    ends_well read h reading end = record {
+      said = says read h reading end table (extends_itself table);
+      known = known_words table read (λ names e. same_words _ _ (sym (says read h reading end table (extends_itself table)) ∙ says read h reading end names e));
+      distinct = reading.indexed.distinct;
+    }
+
+    pub ends_badly : (fault : Fault) → length ts ≤ n → IsReading text ts n numbers table stack words
+        → IsFault fault (ending (length text) (state table stack words)) → IsFault fault (parsed text ts)
+    ends_badly fault h reading (inl memory) = inl memory
+    ends_badly fault h reading (inr is) = inr (ended_so table h reading (extends_itself table) ∙ is)
+
+    pub finishes : {P : Type 0} (names_of : P → List Name) (words_of : P → List (Word ℕ)) (r : Result P Fault) → length ts ≤ n
+        → IsReading text ts n numbers table stack words
+        → MatchResult r (λ p. (names_of p ≡ table) × ((names : List Name) → ending (length text) (state names stack words) ≡ Ok (words_named names (words_of p))))
+        (λ fault. IsFault fault (ending (length text) (state table stack words)))
+        → MatchResult r (λ p. AreParsed text ts (names_of p) (words_of p)) (λ fault. IsFault fault (parsed text ts))
+    finishes names_of words_of (Ok p) h reading end = subst (λ names. AreParsed text ts names (words_of p)) (sym end.0) (ends_well (words_of p) h reading end.1)
+    finishes names_of words_of (Err fault) h reading end = ends_badly fault h reading end
+
+-- ONE TOKEN
+pub advances : {U : Type 0} (at : ℕ) (l : Lexeme) (meant : spelled.Lexeme) (numbers : BTreeMap (Bor (List ℕ)) ℕ) (old table : List Name)
+    (s : List (Symbol ℕ)) (w : List (Word ℕ)) (s' : List (Symbol ℕ)) (w' : List (Word ℕ)) (r : Result U FaultKind) → IsSaid old numbers table meant l
+    → ((names : List Name) → MatchResult r (λ _. onward at (lexeme_named names l) (state names s w) ≡ Ok (state names s' w'))
+    (λ kind. IsKind kind (onward at (lexeme_named names l) (state names s w))))
+    → OnOk r (All IsShallow s')
+    → MatchResult r (λ _. IsAdvanced at meant old s w numbers table s' w') (λ kind. IsStopped at meant old s w kind)
+advances at l meant numbers old table s w s' w' (Ok u) said took shallow = record {
+  indexed = said.table;
+  extends = said.extends;
+  shallow = shallow;
+  moved = λ names e. ap (λ l. onward at l (state names s w)) (sym (said.says names e)) ∙ took names;
+}
+advances at l meant numbers old table s w s' w' (Err kind) said took shallow = record {
+  names = table;
+  extends = said.extends;
+  cause = subst (λ l. IsKind kind (onward at l (state table s w))) (said.says table (extends_itself table)) (took table);
+}
+
+pub same_read : {X : Type 0} (xs : List X) (i : ℕ) (d e : X) → i < length xs → get_or xs i d ≡ get_or xs i e
+same_read [] i d e h = absurd (omega arith)
+same_read (x ∷ xs) zero d e h = refl
+same_read (x ∷ xs) (suc i) d e h = same_read xs i d e (omega arith)

@@ -1,0 +1,285 @@
+//! Operands.
+
+ghost use Rattle.std.specs.Prelude.{◌≤◌, ◌<◌, ◌+◌, ◌++◌, ◌∷◌, []};
+ghost use Rattle.law_grammar.specs.Automaton as automaton;
+ghost use Rattle.source.specs.Words.{name_of};
+ghost use Rattle.source_text.specs.declared.lexeme.Lexeme.TheVariants.{Number};
+ghost use Rattle.law_grammar.specs.Named.{named_symbol};
+ghost use Rattle.source_text.specs.Outcomes.{lexeme_named, Does, IsShallow, AreShallow};
+
+use crate::lexeme::Lexeme;
+use crate::numbers::{LARGEST, is_small, too_large};
+use crate::outcome::{Outcome, refuses, takes, unexpected};
+use law_grammar::symbol::Symbol;
+use operators::Unary;
+use source::fault::FaultKind;
+use source::token::{Keyword, Sign};
+use source::word::Word;
+
+/// How many may be open at once.
+pub(crate) const LIMIT: u8 = 200;
+
+/// What follows an `if`, and what follows the conditional.
+fn conditional(at: usize, depth: u8, last: Symbol<usize>) -> Outcome
+    requires deep { depth + 2 ≤ 200 }
+    requires shallow { IsShallow last }
+    ensures does { Does result (λ names. automaton.Takes [] (automaton.conditional at depth ++ named_symbol names last ∷ [])) }
+    ensures shallow { AreShallow result }
+{
+    takes(
+        &[],
+        &[
+            Symbol::Operand {
+                level: 0,
+                depth: depth + 2,
+            },
+            Symbol::Emit { word: Word::Then },
+            Symbol::Sign {
+                sign: Sign::OpenBrace,
+            },
+            Symbol::Steps { depth: depth + 1 },
+            Symbol::Emit { word: Word::Else },
+            Symbol::Keyword {
+                keyword: Keyword::Else,
+            },
+            Symbol::Otherwise { depth: depth + 1 },
+            Symbol::Emit {
+                word: Word::EndIf { at },
+            },
+            last,
+        ],
+    )
+}
+
+fn operand_word(level: u8, depth: u8, at: usize, keyword: Keyword) -> Outcome
+    requires { depth ≤ 201 }
+    ensures does { Does result (λ names. automaton.operand_word 200 level depth at keyword) }
+    ensures shallow { AreShallow result }
+{
+    let after = Symbol::After {
+        level,
+        left: 9,
+        depth,
+    };
+    match keyword {
+        Keyword::If if depth + 2 <= LIMIT => conditional(at, depth, after),
+        Keyword::Strict if depth < LIMIT => takes(&[], &[Symbol::Callee { depth }, after]),
+        Keyword::Loop if depth < LIMIT => {
+            takes(&[Word::Loop { at }], &[Symbol::Bound { at, depth }, after])
+        }
+        Keyword::If | Keyword::Strict | Keyword::Loop => refuses(FaultKind::TooDeep),
+        _ => unexpected(),
+    }
+}
+
+fn operand_sign(level: u8, depth: u8, at: usize, sign: Sign) -> Outcome
+    requires { depth ≤ 201 }
+    ensures does { Does result (λ names. automaton.operand_sign 200 level depth at sign) }
+    ensures shallow { AreShallow result }
+{
+    match sign {
+        Sign::OpenParen if depth < LIMIT => takes(
+            &[],
+            &[
+                Symbol::Operand {
+                    level: 0,
+                    depth: depth + 1,
+                },
+                Symbol::Sign {
+                    sign: Sign::CloseParen,
+                },
+                Symbol::Emit {
+                    word: Word::Bracket,
+                },
+                Symbol::After {
+                    level,
+                    left: 9,
+                    depth,
+                },
+            ],
+        ),
+        Sign::Minus if depth <= LIMIT => takes(
+            &[],
+            &[
+                Symbol::Negated { depth },
+                Symbol::Emit {
+                    word: Word::Prefix { at, op: Unary::Neg },
+                },
+                Symbol::After {
+                    level,
+                    left: 8,
+                    depth,
+                },
+            ],
+        ),
+        Sign::Tilde if depth < LIMIT => takes(
+            &[],
+            &[
+                Symbol::Operand {
+                    level: 8,
+                    depth: depth + 1,
+                },
+                Symbol::Emit {
+                    word: Word::Prefix { at, op: Unary::Not },
+                },
+                Symbol::After {
+                    level,
+                    left: 8,
+                    depth,
+                },
+            ],
+        ),
+        Sign::OpenParen | Sign::Minus | Sign::Tilde => refuses(FaultKind::TooDeep),
+        _ => unexpected(),
+    }
+}
+
+fn operand_number(level: u8, depth: u8, at: usize, number: u64) -> Outcome
+    requires { depth ≤ 201 }
+    ensures does { Does result (λ names. automaton.operand 200 level depth at (lexeme_named names (Number number))) }
+    ensures shallow { AreShallow result }
+{
+    if !is_small(number) {
+        too_large(number)
+    } else if depth <= LIMIT {
+        takes(
+            &[Word::Number { at, number }],
+            &[Symbol::After {
+                level,
+                left: 9,
+                depth,
+            }],
+        )
+    } else {
+        refuses(FaultKind::TooDeep)
+    }
+}
+
+pub(crate) fn operand(level: u8, depth: u8, at: usize, lexeme: Lexeme) -> Outcome
+    requires { depth ≤ 201 }
+    ensures does { Does result (λ names. automaton.operand 200 level depth at (lexeme_named names lexeme)) }
+    ensures shallow { AreShallow result }
+{
+    match lexeme {
+        Lexeme::Number { number } => operand_number(level, depth, at, number),
+        Lexeme::Name { name } if depth <= LIMIT => takes(
+            &[],
+            &[Symbol::AfterName {
+                at,
+                name,
+                level,
+                depth,
+            }],
+        ),
+        Lexeme::Name { .. } => refuses(FaultKind::TooDeep),
+        Lexeme::Mark { sign } => operand_sign(level, depth, at, sign),
+        Lexeme::Word { keyword } => operand_word(level, depth, at, keyword),
+    }
+}
+
+/// The operand of a `-`. A number is not deeper, and may be 2 ^ 63.
+pub(crate) fn negated(depth: u8, at: usize, lexeme: Lexeme) -> Outcome
+    requires { depth ≤ 200 }
+    ensures does { Does result (λ names. automaton.negated 200 depth at (lexeme_named names lexeme)) }
+    ensures shallow { AreShallow result }
+{
+    match lexeme {
+        Lexeme::Number { number } if number <= LARGEST => {
+            takes(&[Word::Number { at, number }], &[])
+        }
+        Lexeme::Number { .. } => unexpected(),
+        _ => operand(8, depth + 1, at, lexeme),
+    }
+}
+
+pub(crate) fn callee(depth: u8, at: usize, lexeme: Lexeme) -> Outcome
+    requires { depth < 200 }
+    ensures does { Does result (λ names. automaton.callee depth at (lexeme_named names lexeme)) }
+    ensures shallow { AreShallow result }
+{
+    match lexeme {
+        Lexeme::Name { name } => takes(
+            &[Word::Callee { at, function: name }, Word::List],
+            &[
+                Symbol::Sign {
+                    sign: Sign::OpenParen,
+                },
+                Symbol::Operand {
+                    level: 0,
+                    depth: depth + 1,
+                },
+                Symbol::CallEnd {
+                    at,
+                    strict: true,
+                    function: name,
+                    depth,
+                },
+            ],
+        ),
+        _ => unexpected(),
+    }
+}
+
+pub(crate) fn call_end(
+    at: usize,
+    strict: bool,
+    function: usize,
+    depth: u8,
+    lexeme: Lexeme,
+) -> Outcome
+    requires { depth < 200 }
+    ensures does { Does result (λ names. automaton.call_end at strict (name_of names function) depth (lexeme_named names lexeme)) }
+    ensures shallow { AreShallow result }
+{
+    match lexeme {
+        Lexeme::Mark { sign: Sign::Comma } => takes(
+            &[Word::Part],
+            &[
+                Symbol::Operand {
+                    level: 0,
+                    depth: depth + 1,
+                },
+                Symbol::CallEnd {
+                    at,
+                    strict,
+                    function,
+                    depth,
+                },
+            ],
+        ),
+        Lexeme::Mark {
+            sign: Sign::CloseParen,
+        } => takes(
+            &[
+                Word::Part,
+                Word::Call {
+                    at,
+                    strict,
+                    function,
+                },
+            ],
+            &[],
+        ),
+        _ => unexpected(),
+    }
+}
+
+/// Behind an `else` stands an `if` or a block.
+pub(crate) fn otherwise(depth: u8, at: usize, lexeme: Lexeme) -> Outcome
+    requires { depth < 200 }
+    ensures does { Does result (λ names. automaton.otherwise 200 depth at (lexeme_named names lexeme)) }
+    ensures shallow { AreShallow result }
+{
+    match lexeme {
+        Lexeme::Mark {
+            sign: Sign::OpenBrace,
+        } => takes(&[], &[Symbol::Steps { depth }]),
+        Lexeme::Word {
+            keyword: Keyword::If,
+        } if depth + 2 <= LIMIT => conditional(at, depth, Symbol::Emit { word: Word::Chain }),
+        Lexeme::Word {
+            keyword: Keyword::If,
+        } => refuses(FaultKind::TooDeep),
+        _ => unexpected(),
+    }
+}

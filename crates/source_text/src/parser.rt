@@ -1,0 +1,146 @@
+//! The parser: a stack of symbols, and the words so far.
+
+ghost use Rattle.std.specs.Prelude.{◌≡◌, ◌++◌, ℕ, List, reverse, All, false, Ok, MatchResult, OnOk, IfErr, option_to_list, if◌then◌else◌, [], ◌∷◌};
+ghost use Rattle.law_grammar.specs.declared.symbol.Symbol.{Symbol};
+ghost use Rattle.source.specs.Tree.{Name};
+ghost use Rattle.source.specs.Spelled as spelled;
+ghost use Rattle.source.specs.declared.fault.FaultKind.TheVariants.{Memory};
+ghost use Rattle.source_text.specs.Outcomes.{lexeme_named, reaction_named, IsShallow, AreAllShallow};
+ghost use Rattle.source_text.specs.Running.{words_named, state, onward, reacted, ending, IsKind, IsFault};
+
+use crate::lexeme::Lexeme;
+use crate::outcome::Outcome;
+use crate::reaction::{Reaction, react};
+use law_grammar::symbol::Symbol;
+use source::fault::{Fault, FaultKind};
+use source::word::Word;
+use std::alloc::Allocator;
+
+/// What is to come, the top last, and the words of what was read.
+#[derive(Drop)]
+pub(crate) struct Parser<A: Allocator> {
+    pub stack: Vec<Symbol<usize>, A>,
+    pub words: Vec<Word<usize>, A>,
+}
+
+impl<A: Allocator> Parser<A> {
+    fn push_words(&mut self, words: &[Word<usize>]) -> Result<(), FaultKind>
+        ensures words { OnOk result (self.new.words.items ≡ self.old.words.items ++ words.now) }
+        ensures stack { self.new.stack.items ≡ self.old.stack.items }
+        ensures memory { IfErr result (λ kind. kind ≡ Memory) }
+    {
+        let Ok(()) = self.words.extend_from_slice(words) else {
+            return Err(FaultKind::Memory);
+        };
+        Ok(())
+    }
+
+    fn push_word(&mut self, word: Option<Word<usize>>) -> Result<(), FaultKind>
+        ensures words { OnOk result (self.new.words.items ≡ self.old.words.items ++ option_to_list word) }
+        ensures stack { self.new.stack.items ≡ self.old.stack.items }
+        ensures memory { IfErr result (λ kind. kind ≡ Memory) }
+    {
+        match word {
+            Some(word) => self.push_words(&[word]),
+            None => Ok(()),
+        }
+    }
+
+    /// The first symbol comes to the top.
+    fn push_symbols(&mut self, symbols: &[Symbol<usize>]) -> Result<(), FaultKind>
+        ensures stack { OnOk result (self.new.stack.items ≡ self.old.stack.items ++ reverse symbols.now) }
+        ensures words { self.new.words.items ≡ self.old.words.items }
+        ensures memory { IfErr result (λ kind. kind ≡ Memory) }
+    {
+        let mut rest = symbols;
+        while let Some((last, before)) = rest.split_last() {
+            let Ok(()) = self.stack.push(*last) else {
+                return Err(FaultKind::Memory);
+            };
+            rest = before;
+        }
+        Ok(())
+    }
+
+    fn push_symbol(&mut self, symbol: Option<Symbol<usize>>) -> Result<(), FaultKind>
+        ensures stack { OnOk result (self.new.stack.items ≡ self.old.stack.items ++ option_to_list symbol) }
+        ensures words { self.new.words.items ≡ self.old.words.items }
+        ensures memory { IfErr result (λ kind. kind ≡ Memory) }
+    {
+        match symbol {
+            Some(symbol) => self.push_symbols(&[symbol]),
+            None => Ok(()),
+        }
+    }
+
+    /// Does what the symbol does that stood on the stack, and tells whether the token is taken.
+    fn act(&mut self, reaction: Reaction) -> Result<bool, FaultKind>
+        requires reaction { AreAllShallow reaction }
+        requires stack { All IsShallow self.old.stack.items }
+        ensures acts { (names : List Name) (at : ℕ) (l : spelled.Lexeme) → MatchResult result
+            (λ taken. reacted at l (state names self.old.stack.items self.old.words.items) (reaction_named names reaction)
+            ≡ (if taken then Ok (state names self.new.stack.items self.new.words.items)
+            else onward at l (state names self.new.stack.items self.new.words.items)))
+            (λ kind. IsKind kind (reacted at l (state names self.old.stack.items self.old.words.items) (reaction_named names reaction))) }
+        ensures shallow { OnOk result (All IsShallow self.new.stack.items) }
+        ensures smaller { result ≡ Ok false → self.new.stack.items ≡ self.old.stack.items }
+    {
+        self.push_word(reaction.before)?;
+        match reaction.outcome {
+            Outcome::Takes { words, symbols } => {
+                self.push_words(words.as_slice())?;
+                self.push_symbol(reaction.below)?;
+                self.push_symbols(symbols.as_slice())?;
+                Ok(true)
+            }
+            Outcome::Passes => Ok(false),
+            Outcome::Refuses { kind } => Err(kind),
+        }
+    }
+
+    /// Takes a token, or tells why it does not go on.
+    pub(crate) fn take(&mut self, at: usize, lexeme: Lexeme) -> Result<(), FaultKind>
+        requires { All IsShallow self.old.stack.items }
+        ensures took { (names : List Name) → MatchResult result
+            (λ _. onward at (lexeme_named names lexeme) (state names self.old.stack.items self.old.words.items)
+            ≡ Ok (state names self.new.stack.items self.new.words.items))
+            (λ kind. IsKind kind (onward at (lexeme_named names lexeme) (state names self.old.stack.items self.old.words.items))) }
+        ensures shallow { OnOk result (All IsShallow self.new.stack.items) }
+    {
+        while let Some(symbol) = self.stack.pop() {
+            if self.act(react(symbol, at, lexeme))? {
+                return Ok(());
+            }
+        }
+        Err(FaultKind::Unexpected)
+    }
+
+    /// Does what a symbol does at the end that stood on the stack: only words may be to come, and no further item.
+    #[tactic(auto, using(crate::proofs::Acting::ends_with_word, crate::proofs::Acting::ends_with_items, crate::proofs::Acting::ends_early))]
+    fn end(&mut self, symbol: Symbol<usize>) -> Result<(), FaultKind>
+        ensures stack { self.new.stack.items ≡ self.old.stack.items }
+        ensures ends { (names : List Name) (end : ℕ) (s : List (Symbol ℕ)) → s ≡ self.old.stack.items ++ symbol ∷ [] → MatchResult result
+            (λ _. ending end (state names s self.old.words.items) ≡ ending end (state names self.new.stack.items self.new.words.items))
+            (λ kind. IsFault (record { kind = kind; at = end }) (ending end (state names s self.old.words.items))) }
+    {
+        match symbol {
+            Symbol::Emit { word } => self.push_words(&[word]),
+            Symbol::Items => Ok(()),
+            _ => Err(FaultKind::Unended),
+        }
+    }
+
+    /// The words, where no token is left.
+    pub(crate) fn finish(mut self, end: usize) -> Result<Vec<Word<usize>, A>, Fault>
+        ensures { (names : List Name) → MatchResult result
+            (λ words. ending end (state names self.stack.items self.words.items) ≡ Ok (words_named names words.items))
+            (λ fault. IsFault fault (ending end (state names self.stack.items self.words.items))) }
+    {
+        while let Some(symbol) = self.stack.pop() {
+            if let Err(kind) = self.end(symbol) {
+                return Err(Fault { kind, at: end });
+            }
+        }
+        Ok(self.words)
+    }
+}

@@ -1,0 +1,62 @@
+//! Signs between operands.
+
+ghost use Rattle.std.specs.Prelude.{◌≡◌, ◌≤◌};
+ghost use Rattle.source.specs.Fits.{sign_level, left_level};
+ghost use Rattle.law_grammar.specs.Automaton.{infix_of, goes_on};
+
+use operators::Binary;
+use source::token::Sign;
+use source::word::InfixSign;
+
+/// The operator that a sign between two operands is.
+pub(crate) fn infix_of(sign: Sign) -> Option<InfixSign>
+    ensures { result ≡ infix_of sign }
+{
+    let op = match sign {
+        Sign::ShiftLeft => Binary::Shl,
+        Sign::ShiftRight => Binary::Shr,
+        Sign::EqualTo => Binary::Eq,
+        Sign::NotEqualTo => Binary::Ne,
+        Sign::AtMost => Binary::Le,
+        Sign::Less => Binary::Lt,
+        Sign::Plus => Binary::Add,
+        Sign::Minus => Binary::Sub,
+        Sign::Star => Binary::Mul,
+        Sign::Slash => Binary::Div,
+        Sign::Percent => Binary::Rem,
+        Sign::Ampersand => Binary::And,
+        Sign::Caret => Binary::Xor,
+        Sign::Bar => Binary::Or,
+        Sign::AtLeast => return Some(InfixSign::AtLeast),
+        Sign::Greater => return Some(InfixSign::Greater),
+        _ => return None,
+    };
+    Some(InfixSign::Direct { op })
+}
+
+/// The level of the grammar that what is joined by the sign has.
+pub(crate) fn sign_level(sign: InfixSign) -> u8
+    ensures level { result ≡ sign_level sign }
+    ensures small { result ≤ 7 }
+{
+    match sign {
+        InfixSign::Greater | InfixSign::AtLeast => 1,
+        InfixSign::Direct { op } => match op {
+            Binary::Eq | Binary::Ne | Binary::Lt | Binary::Le => 1,
+            Binary::Or => 2,
+            Binary::Xor => 3,
+            Binary::And => 4,
+            Binary::Shl | Binary::Shr => 5,
+            Binary::Add | Binary::Sub => 6,
+            Binary::Mul | Binary::Div | Binary::Rem => 7,
+        },
+    }
+}
+
+/// Whether the operator may stand behind an operand of the level `left`, where the whole has to have the level `level`.
+/// Operators of one level go to the left, but comparisons do not chain.
+pub(crate) fn goes_on(level: u8, left: u8, sign: InfixSign) -> bool
+    ensures { result ≡ goes_on level left sign }
+{
+    level <= sign_level(sign) && sign_level(sign).max(2) <= left
+}
