@@ -1,0 +1,2 @@
+//! Lowering keeps the meaning of a program.
+#![tactic(auto)]
