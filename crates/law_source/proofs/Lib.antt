@@ -1,1 +1,4 @@
-mod Holding
+pub mod Holding
+pub mod Having
+pub mod NoneWaits
+pub mod MainComes
