@@ -1,6 +1,7 @@
 -- Where scope and names agree, they agree behind what binds names: a list of names, a `let`, and the enters of an arm. Only
 -- the names that are used matter.
 use Rattle.std.proofs.Common.{◌≡◌, ℕ, zero, suc, ℤ, Bool, true, false, not, ◌||◌, List, [], ◌∷◌, ◌++◌, length, map, filter, Option, Some, if◌then◌else◌, refl, sym, ap, ◌∙◌, subst, arith}
+use Rattle.std.specs.Prelude.{⊤}
 use Rattle.tags.specs.declared.value.Value.{Value}
 use Rattle.semantics.specs.declared.graph.Source.{Source}
 use Rattle.semantics.specs.Graph.{Flow, same_name}
@@ -89,12 +90,13 @@ module _ (fl : Flow) (inputs : List ℤ) (run : List Activity) (s : State) (r : 
   pub agrees_entered : (xs : List NameAt) (ss : List Source) (vs : List Value) (scope : Scope) (env : Env) → HaveIt ss vs → length xs ≡ length ss
       → (ys : List Name) → AgreesIt scope env (without (bare xs) ys) → AgreesIt (scoped (bare xs) ss scope) (entered xs vs env) ys
   agrees_entered xs ss vs scope env h e [] k = tt
-  agrees_entered xs ss vs scope env h e (y ∷ ys) k = go (is_in y (bare xs)) refl k
+  agrees_entered xs ss vs scope env h e (y ∷ ys) k = go (is_in y (bare xs)) refl k (λ k. agrees_entered xs ss vs scope env h e ys k)
     where
       go : (t : Bool) → is_in y (bare xs) ≡ t → AgreesIt scope env (if not t then y ∷ without (bare xs) ys else without (bare xs) ys)
+          → (AgreesIt scope env (without (bare xs) ys) → AgreesIt (scoped (bare xs) ss scope) (entered xs vs env) ys)
           → AgreesIt (scoped (bare xs) ss scope) (entered xs vs env) (y ∷ ys)
-      go true f k = (known_in xs ss vs scope env h e y f, agrees_entered xs ss vs scope env h e ys k)
-      go false f k = (known_past xs ss vs scope env h y k.0, agrees_entered xs ss vs scope env h e ys k.1)
+      go true f k later = (known_in xs ss vs scope env h e y f, later k)
+      go false f k later = (known_past xs ss vs scope env h y k.0, later k.1)
 
   -- TARGETS OF A LET
   let_known : (ts : List Target) (ss : List Source) (vs : List Value) (scope : Scope) (env : Env) → HaveIt ss vs → length ts ≡ length ss
@@ -110,12 +112,13 @@ module _ (fl : Flow) (inputs : List ℤ) (run : List Activity) (s : State) (r : 
   pub agrees_let : (ts : List Target) (ss : List Source) (vs : List Value) (scope : Scope) (env : Env) → HaveIt ss vs → length ts ≡ length ss
       → (ys : List Name) → AgreesIt scope env (without (bound_by ts) ys) → AgreesIt (let_scoped ts ss scope) (let_in ts vs env) ys
   agrees_let ts ss vs scope env h e [] k = tt
-  agrees_let ts ss vs scope env h e (y ∷ ys) k = go (is_in y (bound_by ts)) refl k
+  agrees_let ts ss vs scope env h e (y ∷ ys) k = go (is_in y (bound_by ts)) refl k (λ k. agrees_let ts ss vs scope env h e ys k)
     where
       go : (t : Bool) → is_in y (bound_by ts) ≡ t → AgreesIt scope env (if not t then y ∷ without (bound_by ts) ys else without (bound_by ts) ys)
+          → (AgreesIt scope env (without (bound_by ts) ys) → AgreesIt (let_scoped ts ss scope) (let_in ts vs env) ys)
           → AgreesIt (let_scoped ts ss scope) (let_in ts vs env) (y ∷ ys)
-      go true f k = (let_known ts ss vs scope env h e y (λ g. absurd (cc)), agrees_let ts ss vs scope env h e ys k)
-      go false f k = (let_known ts ss vs scope env h e y (λ g. k.0), agrees_let ts ss vs scope env h e ys k.1)
+      go true f k later = (let_known ts ss vs scope env h e y (λ g. absurd (cc)), later k)
+      go false f k later = (let_known ts ss vs scope env h e y (λ g. k.0), later k.1)
 
   -- ARMS: each name has its enter, with the value that it stands for.
   abbrev pub Entered : Env → List Name → List Source → Type 0
@@ -126,11 +129,12 @@ module _ (fl : Flow) (inputs : List ℤ) (run : List Activity) (s : State) (r : 
   arm_known : (env : Env) (xs : List Name) (ss : List Source) (scope : Scope) → Entered env xs ss → (x : Name) → is_in x xs ≡ true → KnowsIt (scoped xs ss scope) env x
   arm_known env [] ss scope h x k = cc
   arm_known env (y ∷ xs) [] scope h x k = absurd h
-  arm_known env (y ∷ xs) (z ∷ ss) scope h x k = go (same_name x y) refl
+  arm_known env (y ∷ xs) (z ∷ ss) scope h x k = go (same_name x y) refl (λ e. arm_known env xs ss scope h.1 x e)
     where
-      go : (t : Bool) → same_name x y ≡ t → (w : Value) × (bound env x ≡ Some w) × HasIt (if t then z else source_in (scoped xs ss scope) x) w
-      go true e = (h.0.0, ap (bound env) (same_name_is x y e) ∙ h.0.1, h.0.2)
-      go false e = arm_known env xs ss scope h.1 x (in_rest (same_name x y) (is_in x xs) k e)
+      go : (t : Bool) → same_name x y ≡ t → (is_in x xs ≡ true → KnowsIt (scoped xs ss scope) env x)
+          → (w : Value) × (bound env x ≡ Some w) × HasIt (if t then z else source_in (scoped xs ss scope) x) w
+      go true e later = (h.0.0, ap (bound env) (same_name_is x y e) ∙ h.0.1, h.0.2)
+      go false e later = later (in_rest (same_name x y) (is_in x xs) k e)
 
   pub agrees_arm : (env : Env) (xs : List Name) (ss : List Source) (scope : Scope) → Entered env xs ss → (ys : List Name) → AreIn xs ys → AgreesIt (scoped xs ss scope) env ys
   agrees_arm env xs ss scope h ys k = agrees_each (scoped xs ss scope) env xs ys (λ x e. arm_known env xs ss scope h x e) k
@@ -138,15 +142,16 @@ module _ (fl : Flow) (inputs : List ℤ) (run : List Activity) (s : State) (r : 
 -- each use is one of the outside names
 in_some : (x y : Name) (xs : List Name) → is_in y xs ≡ true → same_name x y ≡ false → is_in y (filter (λ z. not (same_name x z)) xs) ≡ true
 in_some x y [] h e = cc
-in_some x y (z ∷ xs) h e = go (same_name y z) (same_name x z) refl refl h
+in_some x y (z ∷ xs) h e = go (same_name y z) (same_name x z) refl refl h (λ k. in_some x y xs k e)
   where
     go : (t u : Bool) → same_name y z ≡ t → same_name x z ≡ u → (t || is_in y xs) ≡ true
+        → (is_in y xs ≡ true → is_in y (filter (λ z. not (same_name x z)) xs) ≡ true)
         → is_in y (if not u then z ∷ filter (λ z. not (same_name x z)) xs else filter (λ z. not (same_name x z)) xs) ≡ true
-    go true true f g k =
+    go true true f g k later =
         let same = same_name_is y z f in let other = ap (same_name x) same in absurd (cc)
-    go true false f g k = ap (λ (t : Bool). t || is_in y (filter (λ z. not (same_name x z)) xs)) f
-    go false true f g k = in_some x y xs k e
-    go false false f g k = ap (λ (t : Bool). t || is_in y (filter (λ z. not (same_name x z)) xs)) f ∙ in_some x y xs k e
+    go true false f g k later = ap (λ (t : Bool). t || is_in y (filter (λ z. not (same_name x z)) xs)) f
+    go false true f g k later = later k
+    go false false f g k later = ap (λ (t : Bool). t || is_in y (filter (λ z. not (same_name x z)) xs)) f ∙ later k
 
 in_once : (x : Name) (xs ys : List Name) → AreIn (once xs) ys → AreIn (once (x ∷ xs)) ys
 in_once x xs [] h = tt

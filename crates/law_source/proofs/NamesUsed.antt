@@ -18,19 +18,20 @@ in_or false u h e = h
 
 in_later : (x : Name) (before scope : List Name) → is_in x (before ++ scope) ≡ true → is_in x before ≡ false → is_in x scope ≡ true
 in_later x [] scope h e = h
-in_later x (y ∷ before) scope h e = go (same_name x y) h e
+in_later x (y ∷ before) scope h e = go (same_name x y) h e (λ h e. in_later x before scope h e)
   where
-    go : (t : Bool) → (t || is_in x (before ++ scope)) ≡ true → (t || is_in x before) ≡ false → is_in x scope ≡ true
-    go true h e = cc
-    go false h e = in_later x before scope h e
+    go : (t : Bool) → (t || is_in x (before ++ scope)) ≡ true → (t || is_in x before) ≡ false
+        → (is_in x (before ++ scope) ≡ true → is_in x before ≡ false → is_in x scope ≡ true) → is_in x scope ≡ true
+    go true h e k = cc
+    go false h e k = k h e
 
 pub without_in : (before scope xs : List Name) → AreIn (before ++ scope) xs → AreIn scope (without before xs)
 without_in before scope [] h = tt
-without_in before scope (x ∷ xs) h = go (is_in x before) refl
+without_in before scope (x ∷ xs) h = go (is_in x before) refl (without_in before scope xs h.1)
   where
-    go : (t : Bool) → is_in x before ≡ t → AreIn scope (if not t then x ∷ without before xs else without before xs)
-    go true e = without_in before scope xs h.1
-    go false e = (in_later x before scope h.0 e, without_in before scope xs h.1)
+    go : (t : Bool) → is_in x before ≡ t → AreIn scope (without before xs) → AreIn scope (if not t then x ∷ without before xs else without before xs)
+    go true e k = k
+    go false e k = (in_later x before scope h.0 e, k)
 
 both_in : (scope xs ys : List Name) → AreIn scope xs → AreIn scope ys → AreIn scope (xs ++ ys)
 both_in scope xs ys h k = each_append (λ x. is_in x scope ≡ true) xs ys h k
@@ -50,8 +51,8 @@ mutual
       let k : IsCalled p scope f es n = in_call p scope at strict f es n h in list_used p scope es (length k.function.params) k.arguments
   used p scope (If at q l r) n h =
       let k = in_if p scope at q l r n h in
-      both_in scope (uses q) (body_uses l ++ body_uses r) (used p scope q 1 k.0.values)
-      (both_in scope (body_uses l) (body_uses r) (body_used p scope l n k.1) (body_used p scope r n k.2))
+      both_in scope (uses q ++ body_uses l) (body_uses r) (both_in scope (uses q) (body_uses l) (used p scope q 1 k.0.values) (body_used p scope l n k.1))
+      (body_used p scope r n k.2)
   used p scope (Loop at bound firsts turn) n h =
       let k : IsTurned p scope bound firsts turn n = in_loop p scope at bound firsts turn n h in
       both_in scope (list_uses firsts) (turn_uses turn) (firsts_used p scope [] (names_of turn) firsts k.begun) (turn_used p scope turn n k.turns)
