@@ -6,3 +6,7 @@ pub mod NamesUsed
 pub mod NamesAgree
 pub mod MainStands
 pub mod Theorem
+pub mod Placed
+pub mod Ranges
+pub mod Counting
+pub mod StoreLines

@@ -9,9 +9,9 @@ use Rattle.law_values.specs.Settled.{NoneWaits}
 use Rattle.source.specs.Tree.{Name, Function, Program}
 use Rattle.source.specs.Spelled.{Spelling, program_tokens}
 use Rattle.source.specs.Rules.{function_in}
-use Rattle.source.specs.Lowered.{function_blocks}
+use Rattle.source.specs.Lowered.{MadeBlock, function_blocks, made_blocks}
 use Rattle.source.specs.Theorem.{IsLowered, MeansTheSame}
-use Rattle.law_source.specs.Holds.{HasBlocks}
+use Rattle.law_source.specs.Holds.{AreTold, HasBlocks}
 use Rattle.law_source.specs.Means.{MeansIn}
 
 -- PLACES. No two tokens of the program have one place. So it is with each tree that a text has; of other trees an origin
@@ -38,6 +38,14 @@ LoweringKeepsMeaning = MeansTheSame IsLoweredApart
 abbrev pub FunctionsArePlaced : Type 0
 FunctionsArePlaced = (p : Program) (g : Graph) (origin : ℕ → Origin) → IsLoweredApart p g origin → WellFormed g
     → (f : Name) (h : Function) → function_in p f ≡ Some h → HasBlocks g origin h.name.name (function_blocks p h)
+
+-- The faults of each block's lines have the origins that are told of their tokens.
+abbrev pub OriginsAreTold : Type 0
+OriginsAreTold = (p : Program) (g : Graph) (origin : ℕ → Origin) → IsLoweredApart p g origin
+    → (i : ℕ) (b : MadeBlock) → slice_get (made_blocks p p) i ≡ Some b → AreTold origin i b.inputs b.nodes
+
+abbrev pub PlacesFromOrigins : Type 0
+PlacesFromOrigins = OriginsAreTold → FunctionsArePlaced
 
 -- Each part means what it is lowered to, in each invocation of a run at rest.
 abbrev pub PartsKeepMeaning : Type 0
