@@ -10,3 +10,5 @@ pub mod Placed
 pub mod Ranges
 pub mod Counting
 pub mod StoreLines
+pub mod Parts
+pub mod Leaves
