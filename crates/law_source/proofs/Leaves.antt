@@ -4,6 +4,7 @@ use Rattle.std.proofs.lemmas.List.Sorted.{IsPermutation-refl}
 use Rattle.tags.specs.declared.value.Value.{Value}
 use Rattle.tags.specs.declared.value.Value.TheVariants.{Int}
 use Rattle.tags.specs.declared.value.Origin.{Origin}
+use Rattle.tags.specs.declared.value.Origin.TheVariants.{At}
 use Rattle.operators.specs.declared.Unary.{Unary}
 use Rattle.operators.specs.declared.Unary.TheVariants.{Neg, Not}
 use Rattle.operators.specs.declared.Binary.{Binary}
@@ -12,14 +13,14 @@ use Rattle.semantics.specs.declared.graph.Source.{Source}
 use Rattle.semantics.specs.declared.graph.Kind.{Kind}
 use Rattle.semantics.specs.declared.graph.Kind.TheVariants as node
 use Rattle.semantics.specs.Graph.{Graph, flow_of}
-use Rattle.semantics.specs.Meaning.{Context, State, Activity, Run, start, node_in, node_of}
+use Rattle.semantics.specs.Meaning.{Context, State, Activity, Run, start, node_in, node_of, block_number}
 use Rattle.law_values.specs.Given.{ports_of}
 use Rattle.law_values.specs.Equations.{Has, LineEquation}
 use Rattle.law_values.specs.Settled.{Settled}
 use Rattle.source.specs.Tree.{Name, Expr, Number, Named, Bracket, Prefix, Infix, Program}
 use Rattle.source.specs.Evaluates.{Stores, number, named, bracket, signed}
 use Rattle.source.specs.Lowered.{Made, Lowered, Site, Spot, Scope, made, only, ended, lower, port, spot_after}
-use Rattle.law_source.specs.Holds.{resolved}
+use Rattle.law_source.specs.Holds.{resolved, MayFail}
 use Rattle.law_source.specs.Agrees.{Have}
 use Rattle.law_source.specs.Below.{stores_below}
 use Rattle.law_source.specs.Means.{Stands, Comes, MeansExpr}
@@ -27,12 +28,9 @@ use Rattle.law_source.proofs.Ranges.{stores_none, stores_both}
 use Rattle.law_source.proofs.StoreLines.{IsQuiet, quiet}
 use Rattle.law_source.proofs.Parts.{line_gives, rest_part, own_line, block_is}
 
-one_line : Made → Lowered
-one_line m = record { nodes = m ∷ []; sources = []; blocks = [] }
-
-nothing_behind : (ss : Stores) → ss ++ [] ≡ ss
-nothing_behind [] = refl
-nothing_behind (s ∷ ss) = ap (λ l. s ∷ l) (nothing_behind ss)
+pub append_nothing : {X : Type 0} (xs : List X) → xs ++ [] ≡ xs
+append_nothing [] = refl
+append_nothing (x ∷ xs) = ap (λ l. x ∷ l) (append_nothing xs)
 
 module _ (p : Program) (g : Graph) (origin : ℕ → Origin) (inputs : List ℤ) (run : List Activity) (s : State)
     (r : Run (flow_of g) (start inputs) run s) (st : Settled (flow_of g) inputs run s r) (c : Context) where
@@ -52,10 +50,6 @@ module _ (p : Program) (g : Graph) (origin : ℕ → Origin) (inputs : List ℤ)
 
     last : StandsIn site (spot_after spot l) (record { nodes = made site at kind ss ∷ []; sources = []; blocks = [] })
     last = rest_part p g origin inputs run s r c site spot l (record { nodes = made site at kind ss ∷ []; sources = []; blocks = [] }) (ended site spot l at kind ss 1) refl (sym (append_nothing l.blocks)) h
-      where
-        append_nothing : {X : Type 0} (xs : List X) → xs ++ [] ≡ xs
-        append_nothing [] = refl
-        append_nothing (x ∷ xs) = ap (λ l. x ∷ l) (append_nothing xs)
 
     pub last_gives : 0 < ports_of (flow_of g) (resolved g (made site at kind ss)).kind ss → (v : Value) × HasIt (port own 0) v × Equals own v (resolved g (made site at kind ss)).kind ss
     last_gives low =
@@ -69,6 +63,9 @@ module _ (p : Program) (g : Graph) (origin : ℕ → Origin) (inputs : List ℤ)
         ap (λ o. node_in o own) (block_is p g origin inputs run s r c site (spot_after spot l) (record { nodes = made site at kind ss ∷ []; sources = []; blocks = [] }) last)
         ∙ (own_line p g origin inputs run s r c site (spot_after spot l) (record { nodes = made site at kind ss ∷ []; sources = []; blocks = [] }) (made site at kind ss) [] refl last).0
 
+    pub last_told : (i : ℕ) × (block_number (flow_of g) c ≡ Some i) × (MayFail kind → origin at ≡ At i own)
+    last_told = (last.number, last.is_number, (own_line p g origin inputs run s r c site (spot_after spot l) (record { nodes = made site at kind ss ∷ []; sources = []; blocks = [] }) (made site at kind ss) [] refl last).1)
+
     pub last_quiet : (us : Stores) → IsQuiet (resolved g (made site at kind ss)).kind → IsPermutation us (stores_below (flow_of g) run c spot.next own)
         → IsPermutation us (stores_below (flow_of g) run c spot.next (spot.next + length (ended site spot l at kind ss 1).nodes))
     last_quiet us silent k =
@@ -77,9 +74,9 @@ module _ (p : Program) (g : Graph) (origin : ℕ → Origin) (inputs : List ℤ)
         let both = stores_both (flow_of g) run c spot.next own (own + 1) us [] (omega arith) (omega arith) k none in
         let long : own + 1 ≡ spot.next + length (ended site spot l at kind ss 1).nodes = let n = length-append l.nodes (made site at kind ss ∷ []) in omega (arith, n) in
         subst (λ n. IsPermutation us (stores_below (flow_of g) run c spot.next n)) long
-        (subst (λ us. IsPermutation us (stores_below (flow_of g) run c spot.next (own + 1))) (nothing_behind us) both)
+        (subst (λ us. IsPermutation us (stores_below (flow_of g) run c spot.next (own + 1))) (append_nothing us) both)
 
-  no_stores : (n : ℕ) → IsPermutation [] (stores_below (flow_of g) run c n (n + length (only []).nodes))
+  pub no_stores : (n : ℕ) → IsPermutation [] (stores_below (flow_of g) run c n (n + length (only []).nodes))
   no_stores n =
       let same : n ≡ n + length (only []).nodes = omega arith in
       subst (λ m. IsPermutation [] (stores_below (flow_of g) run c n m)) same

@@ -12,3 +12,5 @@ pub mod Counting
 pub mod StoreLines
 pub mod Parts
 pub mod Leaves
+pub mod Bodies
+pub mod Operators
