@@ -14,3 +14,4 @@ pub mod Parts
 pub mod Leaves
 pub mod Bodies
 pub mod Operators
+pub mod Cells
