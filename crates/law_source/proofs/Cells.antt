@@ -81,7 +81,7 @@ module _ (p : Program) (g : Graph) (origin : ℕ → Origin) (inputs : List ℤ)
   abbrev StandsIn : Site → Spot → Lowered → Type 0
   StandsIn site spot l = Stands p g origin inputs run s r c site spot l
 
-  two : g.version ≡ 2
+  pub two : g.version ≡ 2
   two = sym (ap (λ (g : Graph). g.version) is)
 
   reads_it : (base : ℕ) (ix : Indexed) (v : Value) → Fetched (flow_of g) inputs run s r base ix v → Reads (over p g origin inputs run s r) (counted_from base ix) v

@@ -15,3 +15,5 @@ pub mod Leaves
 pub mod Bodies
 pub mod Operators
 pub mod Cells
+pub mod StoredOnce
+pub mod StoreIndexes

@@ -19,6 +19,7 @@ use Rattle.source.specs.Evaluates.{Stores}
 use Rattle.law_source.specs.Agrees.{Have}
 use Rattle.law_source.specs.Below.{node_under, is_within, is_below, cell_and_value, stores_below}
 use Rattle.law_source.proofs.Having.{have_value, have_source}
+use Rattle.law_source.proofs.StoreLines.{stored_at}
 
 -- LISTS
 pub kept_all : {X : Type 0} (f : X → Bool) (xs : List X) → Each (λ x. f x ≡ true) xs → filter f xs ≡ xs
@@ -53,25 +54,6 @@ cells_once (y ∷ ss) all zero (suc j) x v w e f =
 cells_once (y ∷ ss) all (suc i) zero x v w e f =
     absurd (each_within (Apart y) (x, v) ss (get_within ss i (x, v) e) all.0 (ap (λ (y : ℕ × Value). y.0) (same_Some y (x, w) f)))
 cells_once (y ∷ ss) all (suc i) (suc j) x v w e f = ap suc (cells_once ss all.1 i j x v w e f)
-
--- a store that happens is a line of its block
-line_of_store : (fl : Flow) (c : Context) (n : ℕ) (i v : Value) (d : Deed) (x : ℕ) → d ≡ Fills c n x v → deed fl (Fires c n (i ∷ v ∷ [])) ≡ Some d → (line : Node ℕ) × (node_of fl c n ≡ Some line)
-line_of_store fl c n i v d x is e = go (block_of fl c) e
-  where
-    by_line : (o : Option (Node ℕ)) → on_node o (λ (node : Node ℕ). if length (i ∷ v ∷ []) == length node.sources then fired fl c n node.kind (i ∷ v ∷ []) else None) ≡ Some d
-        → (line : Node ℕ) × (o ≡ Some line)
-    by_line None f = cc
-    by_line (Some line) f = (line, refl)
-
-    by_input : (b : Block ℕ) (t : Bool)
-        → (if t then input_passed c n (i ∷ v ∷ []) else on_node (node_at b n) (λ (node : Node ℕ). if length (i ∷ v ∷ []) == length node.sources then fired fl c n node.kind (i ∷ v ∷ []) else None)) ≡ Some d
-        → (line : Node ℕ) × (node_at b n ≡ Some line)
-    by_input b true f = cc
-    by_input b false f = by_line (node_at b n) f
-
-    go : (o : Option (Block ℕ)) → on_block o (fired_in fl c n (i ∷ v ∷ [])) ≡ Some d → (line : Node ℕ) × (node_in o n ≡ Some line)
-    go None f = cc
-    go (Some b) f = by_input b (nat_lt n b.inputs) f
 
 module _ (fl : Flow) (inputs : List ℤ) (run : List Activity) (s : State) (r : Run fl (start inputs) run s) (st : Settled fl inputs run s r) where
   -- OUTPUTS
@@ -108,12 +90,8 @@ module _ (fl : Flow) (inputs : List ℤ) (run : List Activity) (s : State) (r : 
   module _ (b : Block ℕ) (eb : block_of fl Main ≡ Some b) where
     below_main : (w : Stored) → Within w (stores_of fl run) → is_below Main b.inputs (node_count b) w.context w.node ≡ true
     below_main w h =
-        let a = stored_from fl (start inputs) s run r w h in
-        let f = storing fl a.0 w.context w.node w.cell w.value a.2 in
-        let line = line_of_store fl w.context w.node f.0 w.value (Fills w.context w.node w.cell w.value) w.cell refl (subst (λ a. deed fl a ≡ Some (Fills w.context w.node w.cell w.value)) f.1 a.2) in
-        let gives : Gives fl run s.memory w.context w.node 0 w.value = (a.0, Fills w.context w.node w.cell w.value, within_to a.0 run a.1, a.2, refl) in
-        let due = st.silent_invocations w.context w.node 0 w.value gives in
-        let m = under_main w.context w.node line.0 due line.1 in
+        let own = stored_at fl inputs run s r st w h in
+        let m = under_main w.context w.node own.1.0 own.0 own.1.1 in
         let at : node_at b m.0 ≡ Some m.1 = sym (ap (λ (o : Option (Block ℕ)). node_in o m.0) eb) ∙ m.3 in
         ap (λ o. is_within b.inputs (node_count b) o) m.2 ∙ within_true b.inputs (node_count b) m.0 (line_past b m.0 m.1 at).0 (line_below b m.0 m.1 at)
 

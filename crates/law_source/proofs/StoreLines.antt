@@ -93,15 +93,15 @@ same_context_is (Turned c m i) (Turned d n j) e =
     ap₂ (λ c n. Turned c n i) (same_context_is c d (second_of_and (i == j) (same_context c d) rest)) (eqb-true m n (first_of_and (m == n) ((i == j) && same_context c d) e))
     ∙ ap (λ i. Turned d n i) (eqb-true i j (first_of_and (i == j) (same_context c d) rest))
 
-kept_none : {X : Type 0} (f : X → Bool) (xs : List X) → Each (λ x. f x ≡ false) xs → filter f xs ≡ []
+pub kept_none : {X : Type 0} (f : X → Bool) (xs : List X) → Each (λ x. f x ≡ false) xs → filter f xs ≡ []
 kept_none f [] h = refl
 kept_none f (x ∷ xs) h = ap (λ (b : Bool). if b then x ∷ filter f xs else filter f xs) h.0 ∙ kept_none f xs h.1
 
-false_by : (b : Bool) → (b ≡ true → ⊥) → b ≡ false
+pub false_by : (b : Bool) → (b ≡ true → ⊥) → b ≡ false
 false_by true h = absurd (h refl)
 false_by false h = refl
 
-within_one : (n : ℕ) (o : Option ℕ) → is_within n (n + 1) o ≡ true → o ≡ Some n
+pub within_one : (n : ℕ) (o : Option ℕ) → is_within n (n + 1) o ≡ true → o ≡ Some n
 within_one n None e = cc
 within_one n (Some m) e =
     let low = leb-true n m (first_of_and (nat_le n m) (nat_lt m (n + 1)) e) in
