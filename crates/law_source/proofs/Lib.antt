@@ -17,3 +17,4 @@ pub mod Operators
 pub mod Cells
 pub mod StoredOnce
 pub mod StoreIndexes
+pub mod MeansStore
