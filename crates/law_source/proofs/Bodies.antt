@@ -1,6 +1,5 @@
 -- Lowering keeps the meaning of lists and bodies, where it keeps that of their parts.
-use Rattle.std.proofs.Common.{◌≡◌, ℕ, ◌+◌, ◌<◌, ◌≤◌, ℤ, Bool, false, List, [], ◌∷◌, ◌++◌, length, Some, Ok, IsPermutation, refl, sym, ap, ◌∙◌, subst, arith, length-append}
-use Rattle.tags.specs.declared.value.Value.{Value}
+use Rattle.std.proofs.Common.{◌≡◌, ℕ, ◌+◌, ℤ, false, List, ◌++◌, length, IsPermutation, refl, sym, subst, arith, length-append}
 use Rattle.tags.specs.declared.value.Origin.{Origin}
 use Rattle.semantics.specs.Graph.{Graph, flow_of}
 use Rattle.semantics.specs.Meaning.{Context, State, Activity, Run, start}

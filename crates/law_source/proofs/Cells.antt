@@ -1,5 +1,5 @@
 -- Lowering keeps the meaning of a fetch: the cell that an index names in an array is that of the graph.
-use Rattle.std.proofs.Common.{◌≡◌, ℕ, zero, suc, ◌+◌, ◌<◌, ◌≤◌, ℤ, Bool, true, false, List, [], ◌∷◌, ◌++◌, length, map, is_some, Option, Some, None, if◌then◌else◌, refl, sym, ap, ap₂, ◌∙◌, subst, arith}
+use Rattle.std.proofs.Common.{◌≡◌, ℕ, suc, ◌+◌, ℤ, Bool, true, false, List, [], ◌∷◌, length, map, is_some, Some, if◌then◌else◌, refl, sym, ap, ap₂, ◌∙◌, subst, arith}
 use Rattle.std.specs.Prelude.{sum, take, slice_index_or}
 use Rattle.std.proofs.lemmas.List.Sums.{sum_by-cons}
 use Rattle.tags.specs.declared.value.Value.{Value}
@@ -15,7 +15,7 @@ use Rattle.law_values.specs.Settled.{Settled}
 use Rattle.source.specs.Tree.{Name, Expr, Fetch, Item, Cells, Defines, Program}
 use Rattle.source.specs.Rules.{array_in}
 use Rattle.source.specs.Evaluates.{Evaluates, fetch, counted_from, place_from, place_in, Reads}
-use Rattle.source.specs.Lowered.{Lowered, Site, Spot, made, ended, arrays_of, graph_of, lower, port, spot_after}
+use Rattle.source.specs.Lowered.{Lowered, Site, Spot, made, ended, arrays_of, graph_of, lower}
 use Rattle.source.proofs.Kept.{in_fetch}
 use Rattle.law_source.specs.Means.{over, Stands, MeansExpr}
 use Rattle.law_source.proofs.Counting.{count_of}

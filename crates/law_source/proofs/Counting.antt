@@ -1,10 +1,10 @@
 -- A part that keeps the rules is lowered to as many sources as it has values.
-use Rattle.std.proofs.Common.{◌≡◌, ℕ, zero, suc, ◌+◌, Bool, true, false, List, [], ◌∷◌, ◌++◌, length, Option, Some, Ok, refl, sym, ap, ◌∙◌, arith, length-append}
+use Rattle.std.proofs.Common.{◌≡◌, ℕ, zero, suc, ◌+◌, List, [], ◌∷◌, ◌++◌, length, Option, Ok, refl, sym, ap, ◌∙◌, arith, length-append}
 use Rattle.std.proofs.lemmas.List.{length-map}
 use Rattle.operators.specs.declared.Unary.{Unary}
 use Rattle.operators.specs.declared.Unary.TheVariants.{Neg, Not}
 use Rattle.semantics.specs.declared.graph.Source.{Source}
-use Rattle.source.specs.Tree.{Name, NameAt, Expr, Number, Named, Bracket, Prefix, Infix, Fetch, Store, Call, If, Loop, Exprs, One, More, Body, Let, Do, Give, Chain, Turn, Program, names_of}
+use Rattle.source.specs.Tree.{Name, NameAt, Expr, Number, Named, Bracket, Prefix, Infix, Fetch, Store, Call, If, Loop, Exprs, One, More, Body, Let, Do, Give, Chain, Program, names_of}
 use Rattle.source.specs.Outside.{bare, bound_by}
 use Rattle.source.specs.Rules.{function_in, values, list_values, body_values}
 use Rattle.source.specs.Lowered.{Lowered, Site, Spot, Scope, spot_after, ports_from, inputs_from, let_scoped, prefixed, results_of, merges, lower, lower_list, lower_body}

@@ -1,11 +1,11 @@
 -- What a block holds splits where its lines do, and a block holds all its lines.
-use Rattle.std.proofs.Common.{◌≡◌, ℕ, zero, suc, ◌+◌, ◌-◌, ◌<◌, Bool, true, false, List, [], ◌∷◌, ◌++◌, length, map, Option, Some, None, nat_lt, if◌then◌else◌, refl, sym, ◌∙◌, ap, subst, arith, le-ltb, append_assoc, length-append}
+use Rattle.std.proofs.Common.{◌≡◌, ℕ, ◌+◌, ◌-◌, Bool, false, List, [], ◌∷◌, ◌++◌, length, map, Some, None, nat_lt, if◌then◌else◌, refl, sym, ◌∙◌, ap, subst, arith, le-ltb, append_assoc, length-append}
 use Rattle.std.specs.Prelude.{slice_get}
 use Rattle.tags.specs.declared.value.Origin.{Origin}
 use Rattle.semantics.specs.Graph.{Node, Block, Graph, node_at}
 use Rattle.source.specs.Tree.{Name}
 use Rattle.source.specs.Lowered.{Made, MadeBlock, node_of}
-use Rattle.law_source.specs.Holds.{Holds, resolved, MayFail, AreTold, HasBlocks}
+use Rattle.law_source.specs.Holds.{Holds, resolved, AreTold, HasBlocks}
 use Rattle.law_determinacy.proofs.Resolved.{node_in}
 
 pub holds_split : {N : Type 0} → (b : Block N) (n : ℕ) (xs ys : List (Node N)) → Holds b n (xs ++ ys) → Holds b n xs × Holds b (n + length xs) ys

@@ -1,14 +1,10 @@
 -- Lowering keeps the meaning of what makes no invocation: numbers, names, brackets and operators.
-use Rattle.std.proofs.Common.{◌≡◌, ℕ, zero, suc, ◌+◌, ◌<◌, ◌≤◌, ℤ, Bool, true, false, List, [], ◌∷◌, ◌++◌, length, map, reverse, Option, Some, Ok, IsPermutation, refl, sym, ap, ◌∙◌, subst, arith, length-append}
+use Rattle.std.proofs.Common.{◌≡◌, ℕ, ◌+◌, ◌<◌, ℤ, List, [], ◌∷◌, ◌++◌, length, Some, IsPermutation, refl, sym, ap, ◌∙◌, subst, arith, length-append}
 use Rattle.std.proofs.lemmas.List.Sorted.{IsPermutation-refl}
 use Rattle.tags.specs.declared.value.Value.{Value}
 use Rattle.tags.specs.declared.value.Value.TheVariants.{Int}
 use Rattle.tags.specs.declared.value.Origin.{Origin}
 use Rattle.tags.specs.declared.value.Origin.TheVariants.{At}
-use Rattle.operators.specs.declared.Unary.{Unary}
-use Rattle.operators.specs.declared.Unary.TheVariants.{Neg, Not}
-use Rattle.operators.specs.declared.Binary.{Binary}
-use Rattle.operators.specs.Values.{apply1, apply2, on_int}
 use Rattle.semantics.specs.declared.graph.Source.{Source}
 use Rattle.semantics.specs.declared.graph.Kind.{Kind}
 use Rattle.semantics.specs.declared.graph.Kind.TheVariants as node
@@ -17,13 +13,12 @@ use Rattle.semantics.specs.Meaning.{Context, State, Activity, Run, start, node_i
 use Rattle.law_values.specs.Given.{ports_of}
 use Rattle.law_values.specs.Equations.{Has, LineEquation}
 use Rattle.law_values.specs.Settled.{Settled}
-use Rattle.source.specs.Tree.{Name, Expr, Number, Named, Bracket, Prefix, Infix, Program}
+use Rattle.source.specs.Tree.{Name, Expr, Number, Named, Bracket, Program}
 use Rattle.source.specs.Evaluates.{Stores, number, named, bracket, signed}
-use Rattle.source.specs.Lowered.{Made, Lowered, Site, Spot, Scope, made, only, ended, lower, port, spot_after}
+use Rattle.source.specs.Lowered.{Lowered, Site, Spot, made, only, ended, port, spot_after}
 use Rattle.law_source.specs.Holds.{resolved, MayFail}
-use Rattle.law_source.specs.Agrees.{Have}
 use Rattle.law_source.specs.Below.{stores_below}
-use Rattle.law_source.specs.Means.{Stands, Comes, MeansExpr}
+use Rattle.law_source.specs.Means.{Stands, MeansExpr}
 use Rattle.law_source.proofs.Ranges.{stores_none, stores_both}
 use Rattle.law_source.proofs.StoreLines.{IsQuiet, quiet}
 use Rattle.law_source.proofs.Parts.{line_gives, rest_part, own_line, block_is}

@@ -18,3 +18,4 @@ pub mod Cells
 pub mod StoredOnce
 pub mod StoreIndexes
 pub mod MeansStore
+pub mod TurnsGo

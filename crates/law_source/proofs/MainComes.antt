@@ -1,20 +1,18 @@
 -- From what main's body comes out as to the memory in the end: its outputs, and its stores.
-use Rattle.std.proofs.Common.{◌≡◌, ℕ, zero, suc, ◌+◌, ◌-◌, ◌<◌, ◌≤◌, ◌↔◌, ◌&&◌, ◌==◌, ℤ, Bool, true, false, List, [], ◌∷◌, length, map, filter, Option, Some, None, nat_lt, nat_le, IsPermutation, Contains, if◌then◌else◌, refl, sym, ap, ap₂, ◌∙◌, subst, arith, lt-ltb, le-leb}
+use Rattle.std.proofs.Common.{◌≡◌, ℕ, zero, suc, ◌<◌, ◌≤◌, ◌↔◌, ◌&&◌, ℤ, Bool, true, List, [], ◌∷◌, map, filter, Option, Some, None, IsPermutation, Contains, if◌then◌else◌, refl, sym, ap, ap₂, ◌∙◌, subst, arith, lt-ltb, le-leb}
 use Rattle.std.specs.Prelude.{slice_get}
 use Rattle.std.proofs.lemmas.Option.{same_Some}
 use Rattle.std.proofs.lemmas.List.Sorted.{IsPermutation-sym}
 use Rattle.tags.specs.declared.value.Value.{Value}
 use Rattle.semantics.specs.declared.graph.Source.{Source}
 use Rattle.semantics.specs.Graph.{Node, Block, Flow, node_at, node_count}
-use Rattle.semantics.specs.Meaning.{Context, Main, Called, Turned, State, Activity, Fires, Fills, Deed, Run, start, deed, fired, fired_in, input_passed, on_node, on_block, block_of, node_in, node_of}
+use Rattle.semantics.specs.Meaning.{Context, Main, Called, Turned, State, Activity, Run, start, block_of, node_in, node_of}
 use Rattle.lemmas.proofs.Permutations.{Within, Each, Spread, each_from, each_within, within_from, within_to, within_permutation, within_map, spread_map, spread_permutation, get_within}
 use Rattle.lemmas.proofs.Contains.{contains_get, contains_mapped}
-use Rattle.law_determinacy.proofs.Shapes.{storing}
-use Rattle.law_values.specs.Given.{Gives, Stored, stores_of, result_in, result_at}
+use Rattle.law_values.specs.Given.{Stored, stores_of, result_in, result_at}
 use Rattle.law_values.specs.Equations.{IsDue, HasSome}
 use Rattle.law_values.specs.Settled.{Settled}
 use Rattle.law_values.proofs.GraphForms.{line_past, line_below}
-use Rattle.law_values.proofs.EndCells.{stored_from}
 use Rattle.source.specs.Evaluates.{Stores}
 use Rattle.law_source.specs.Agrees.{Have}
 use Rattle.law_source.specs.Below.{node_under, is_within, is_below, cell_and_value, stores_below}

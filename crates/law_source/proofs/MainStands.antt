@@ -1,5 +1,5 @@
 -- Main's body stands in the run's first invocation, and its parameters agree with the inputs.
-use Rattle.std.proofs.Common.{◌≡◌, ℕ, zero, suc, ◌+◌, ◌-◌, ◌<◌, ◌≤◌, ◌==◌, ℤ, Bool, true, false, List, [], ◌∷◌, ◌++◌, length, map, is_some, Option, Some, None, Ok, nat_lt, if◌then◌else◌, refl, sym, ap, ◌∙◌, subst, arith, lt-ltb}
+use Rattle.std.proofs.Common.{◌≡◌, ℕ, zero, suc, ◌+◌, ◌-◌, ◌<◌, ◌==◌, ℤ, Bool, true, false, List, [], ◌∷◌, length, map, is_some, Option, Some, None, Ok, nat_lt, if◌then◌else◌, refl, sym, ap, ◌∙◌, subst, arith, lt-ltb}
 use Rattle.std.specs.Prelude.{slice_get}
 use Rattle.std.proofs.lemmas.Option.{slice_get_within, same_Some}
 use Rattle.tags.specs.declared.value.Value.{Value}
@@ -7,29 +7,28 @@ use Rattle.tags.specs.declared.value.Value.TheVariants.{Int}
 use Rattle.tags.specs.declared.value.Origin.{Origin}
 use Rattle.semantics.specs.declared.graph.Region.TheVariants.{Root}
 use Rattle.semantics.specs.declared.graph.Source.{Source}
-use Rattle.semantics.specs.Graph.{Node, Block, Graph, Flow, node_at, node_count, place_of, same_name, block_names, flow_of}
+use Rattle.semantics.specs.Graph.{Node, Block, Graph, node_at, node_count, place_of, same_name, block_names, flow_of}
 use Rattle.semantics.specs.WellFormed.{WellFormed}
 use Rattle.semantics.specs.Meaning.{Context, Main, Tagged, State, Activity, Run, Stood, ArmsTaken, arm_of, arms_round, arms_at, block_of, start}
 use Rattle.semantics.specs.Faithful.{inputs_in}
 use Rattle.semantics.proofs.Lines.{same_name_is}
-use Rattle.lemmas.proofs.SliceGet.{get_some}
 use Rattle.law_determinacy.specs.Outcome.{AreInputsOf}
 use Rattle.law_values.specs.Given.{ports_in, ports_line}
 use Rattle.law_values.specs.Equations.{Has, BlockEquation, NodeEquation, TakenAt}
 use Rattle.law_values.specs.Settled.{Settled}
 use Rattle.law_values.proofs.GraphFormed.{shaped}
 use Rattle.source.specs.declared.fault.FaultKind.TheVariants.{Arity, NoMain}
-use Rattle.source.specs.Tree.{Name, NameAt, Function, Item, Cells, Defines, Program}
+use Rattle.source.specs.Tree.{Name, Function, Item, Cells, Defines, Program}
 use Rattle.source.specs.Fits.{FitsBody, FitsProgram}
 use Rattle.source.specs.Outside.{bare, body_uses}
 use Rattle.source.specs.First.{◌>>=◌, must}
 use Rattle.source.specs.Rules.{function_in, main_name, written_or_one, body_values, new_names, function_checked, functions_checked, heads, no_items}
 use Rattle.source.specs.Counts.{IsGood}
-use Rattle.source.specs.Evaluates.{Env, entered}
-use Rattle.source.specs.Lowered.{Made, MadeBlock, Lowered, Spot, inputs_from, port, turn_site, lower_body, node_of, function_scope, function_blocks, made_blocks, graph_of, sizes, lowered}
+use Rattle.source.specs.Evaluates.{entered}
+use Rattle.source.specs.Lowered.{MadeBlock, Lowered, Spot, inputs_from, port, turn_site, lower_body, function_scope, function_blocks, made_blocks, graph_of, sizes, lowered}
 use Rattle.source.proofs.Steps.{then_ok, must_ok, ok_same, ok_as}
 use Rattle.source.proofs.Kept.{test_ok}
-use Rattle.law_source.specs.Holds.{Holds, resolved, block_in, HasBlocks}
+use Rattle.law_source.specs.Holds.{resolved, block_in, HasBlocks}
 use Rattle.law_source.specs.Agrees.{Agrees, Have}
 use Rattle.law_source.specs.Means.{Stands}
 use Rattle.law_source.proofs.Holding.{holds_whole, resolved_all}

@@ -1,6 +1,6 @@
 -- Where scope and names agree, they agree behind what binds names: a list of names, a `let`, and the enters of an arm. Only
 -- the names that are used matter.
-use Rattle.std.proofs.Common.{◌≡◌, ℕ, zero, suc, ℤ, Bool, true, false, not, ◌||◌, List, [], ◌∷◌, ◌++◌, length, map, filter, Option, Some, if◌then◌else◌, refl, sym, ap, ◌∙◌, subst, arith}
+use Rattle.std.proofs.Common.{◌≡◌, ℤ, Bool, true, false, not, ◌||◌, List, [], ◌∷◌, ◌++◌, length, filter, Some, if◌then◌else◌, refl, ap, ◌∙◌, arith}
 use Rattle.std.specs.Prelude.{⊤}
 use Rattle.tags.specs.declared.value.Value.{Value}
 use Rattle.semantics.specs.declared.graph.Source.{Source}
@@ -12,7 +12,6 @@ use Rattle.source.specs.Tree.{Name, NameAt, Target, Bind, Drop}
 use Rattle.source.specs.Outside.{is_in, without, once, bare, bound_by}
 use Rattle.source.specs.Evaluates.{Env, bound, entered, let_in}
 use Rattle.source.specs.Lowered.{Scope, source_in, scoped, let_scoped}
-use Rattle.lemmas.proofs.Permutations.{Each}
 use Rattle.law_source.specs.Agrees.{Knows, Agrees, Have}
 use Rattle.law_source.proofs.NamesUsed.{AreIn}
 

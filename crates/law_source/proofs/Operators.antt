@@ -1,12 +1,11 @@
 -- Lowering keeps the meaning of operators, where it keeps that of their operands.
-use Rattle.std.proofs.Common.{◌≡◌, ℕ, zero, suc, ◌+◌, ◌<◌, ◌≤◌, ◌⊎◌, ℤ, Bool, true, false, List, [], ◌∷◌, ◌++◌, length, reverse, Option, Some, Ok, IsPermutation, nat_lt, refl, sym, ap, ap₂, ◌∙◌, subst, arith, ⊎_elim}
+use Rattle.std.proofs.Common.{◌≡◌, ℕ, ◌+◌, ◌⊎◌, ℤ, List, [], ◌∷◌, ◌++◌, length, Some, refl, sym, ap, ap₂, ◌∙◌, subst, arith, ⊎_elim}
 use Rattle.tags.specs.declared.value.Value.{Value}
 use Rattle.tags.specs.declared.value.Value.TheVariants.{Int}
 use Rattle.tags.specs.declared.value.Origin.{Origin}
 use Rattle.tags.specs.declared.value.Origin.TheVariants.{At}
 use Rattle.operators.specs.declared.Unary.{Unary}
 use Rattle.operators.specs.declared.Unary.TheVariants.{Neg, Not}
-use Rattle.operators.specs.declared.Binary.{Binary}
 use Rattle.operators.specs.declared.Binary.TheVariants.{Lt, Le}
 use Rattle.operators.specs.Values.{apply1, apply2, on_int}
 use Rattle.semantics.specs.declared.graph.Source.{Source}
@@ -17,11 +16,11 @@ use Rattle.law_values.specs.Equations.{Has, LineEquation}
 use Rattle.law_values.specs.Settled.{Settled}
 use Rattle.source.specs.declared.word.InfixSign.{InfixSign}
 use Rattle.source.specs.declared.word.InfixSign.TheVariants.{Direct, Greater, AtLeast}
-use Rattle.source.specs.Tree.{Name, Expr, Number, Named, Bracket, Prefix, Infix, Fetch, Store, Call, If, Loop, Program}
+use Rattle.source.specs.Tree.{Expr, Number, Named, Bracket, Prefix, Infix, Fetch, Store, Call, If, Loop, Program}
 use Rattle.source.specs.Fits.{Fits, IsLeast}
 use Rattle.source.specs.Outside.{uses}
-use Rattle.source.specs.Evaluates.{Stores, Evaluates, number, prefix, infix_, signed, operated}
-use Rattle.source.specs.Lowered.{Made, Lowered, Site, Spot, Scope, made, only, joined, ended, operator_of, operands, prefixed, lower, port, spot_after}
+use Rattle.source.specs.Evaluates.{Evaluates, number, prefix, infix_, signed, operated}
+use Rattle.source.specs.Lowered.{Lowered, Site, Spot, made, only, joined, ended, operator_of, operands, prefixed, lower, port, spot_after}
 use Rattle.source.proofs.Kept.{in_prefix, in_infix}
 use Rattle.law_source.specs.Agrees.{Have}
 use Rattle.law_source.specs.Means.{over, Stands, Comes, MeansExpr}
@@ -29,7 +28,7 @@ use Rattle.law_source.proofs.NamesAgree.{agrees_split}
 use Rattle.law_source.proofs.Counting.{count_of}
 use Rattle.law_source.proofs.Parts.{first_part, rest_part}
 use Rattle.law_source.proofs.Bodies.{both_stored}
-use Rattle.law_source.proofs.Leaves.{append_nothing, last_gives, last_quiet, last_told, no_stores, own}
+use Rattle.law_source.proofs.Leaves.{append_nothing, last_gives, last_quiet, last_told, no_stores}
 
 module _ (p : Program) (g : Graph) (origin : ℕ → Origin) (inputs : List ℤ) (run : List Activity) (s : State)
     (r : Run (flow_of g) (start inputs) run s) (st : Settled (flow_of g) inputs run s r) (two : g.version ≡ 2) (c : Context) where

@@ -1,24 +1,20 @@
 -- Parts of a part that stands stand, too, and a line that stands has its value.
-use Rattle.std.proofs.Common.{◌≡◌, ℕ, zero, suc, ◌+◌, ◌-◌, ◌<◌, ◌≤◌, ℤ, Bool, true, false, List, [], ◌∷◌, ◌++◌, length, map, Option, Some, None, nat_lt, IsPermutation, if◌then◌else◌, refl, sym, ap, ◌∙◌, subst, arith, le-ltb, length-append}
+use Rattle.std.proofs.Common.{◌≡◌, ℕ, ◌+◌, ◌<◌, ℤ, Bool, false, List, ◌∷◌, ◌++◌, length, map, Option, Some, nat_lt, sym, ap, ◌∙◌, subst, arith, le-ltb}
 use Rattle.std.proofs.lemmas.List.{length-map}
 use Rattle.tags.specs.declared.value.Value.{Value}
 use Rattle.tags.specs.declared.value.Origin.{Origin}
 use Rattle.tags.specs.declared.value.Origin.TheVariants.{At}
 use Rattle.semantics.specs.Graph.{Node, Block, Graph, Flow, node_at, node_count, flow_of}
-use Rattle.semantics.specs.Meaning.{Context, State, Activity, Run, Stood, ArmsTaken, arm_of, arms_round, arms_at, block_of, block_number, block_numbered, node_in, node_of, start}
+use Rattle.semantics.specs.Meaning.{Context, State, Activity, Run, Stood, ArmsTaken, arm_of, arms_round, arms_at, block_of, block_numbered, start}
 use Rattle.law_values.specs.Given.{Gives, ports_of, ports_in}
 use Rattle.law_values.specs.Equations.{IsDue, TakenAt, BlockEquation, NodeEquation, LineEquation}
 use Rattle.law_values.specs.Settled.{Settled}
 use Rattle.law_values.proofs.GraphForms.{line_past, ports_line_at}
 use Rattle.source.specs.Tree.{Program}
-use Rattle.source.specs.Evaluates.{Stores}
 use Rattle.source.specs.Lowered.{Made, MadeBlock, Lowered, Site, Spot, spot_after}
 use Rattle.law_source.specs.Holds.{Holds, resolved, MayFail, AreTold, HasBlocks}
-use Rattle.law_source.specs.Below.{stores_below}
 use Rattle.law_source.specs.Means.{Stands}
 use Rattle.law_source.proofs.Holding.{holds_split, told_split, blocks_split, resolved_append}
-use Rattle.law_source.proofs.Ranges.{stores_both}
-use Rattle.law_source.proofs.StoreLines.{IsQuiet, quiet}
 
 -- A LINE of an invocation that is due, where its region is taken: each port has a value, which satisfies its equation.
 module _ (fl : Flow) (inputs : List ℤ) (run : List Activity) (s : State) (r : Run fl (start inputs) run s) (st : Settled fl inputs run s r) where

@@ -1,10 +1,9 @@
 -- The stores of a range of nodes are those of its parts, in some order.
-use Rattle.std.proofs.Common.{◌≡◌, ℕ, ◌+◌, ◌<◌, ◌≤◌, ◌&&◌, ◌||◌, Bool, true, false, List, [], ◌∷◌, ◌++◌, map, filter, Option, Some, None, nat_lt, nat_le, IsPermutation, if◌then◌else◌, refl, sym, ap, ap₂, ◌∙◌, subst, arith, lt-ltb, le-leb, ltb-true, ltb-false, leb-true, leb-false}
+use Rattle.std.proofs.Common.{◌≡◌, ℕ, ◌≤◌, ◌&&◌, ◌||◌, Bool, true, false, List, [], ◌∷◌, ◌++◌, map, filter, Option, Some, None, nat_lt, nat_le, IsPermutation, if◌then◌else◌, refl, sym, ap, ◌∙◌, subst, arith, le-leb, ltb-true, ltb-false, leb-true, leb-false}
 use Rattle.std.proofs.lemmas.List.Sorted.{IsPermutation-trans, IsPermutation-sym, IsPermutation-append, IsPermutation-map}
-use Rattle.tags.specs.declared.value.Value.{Value}
 use Rattle.semantics.specs.Graph.{Flow}
 use Rattle.semantics.specs.Meaning.{Context, Activity}
-use Rattle.lemmas.proofs.Permutations.{Perm, perm_to, perm_from, perm_refl, perm_cons, put_first, Put, put_later}
+use Rattle.lemmas.proofs.Permutations.{Perm, perm_to, perm_cons, put_first, Put, put_later}
 use Rattle.lemmas.proofs.Lists.{map_append}
 use Rattle.law_values.specs.Given.{Stored, stores_of}
 use Rattle.source.specs.Evaluates.{Stores}

@@ -1,21 +1,16 @@
 -- A store that happens took an index that its first source has, and that names a cell.
-use Rattle.std.proofs.Common.{◌≡◌, ℕ, zero, suc, ◌+◌, ◌<◌, ◌≤◌, ◌==◌, ℤ, Bool, true, false, List, [], ◌∷◌, ◌++◌, length, Option, Some, None, IsPermutation, Contains, nat_lt, if◌then◌else◌, refl, sym, ap, ap₂, ◌∙◌, subst, arith, le-ltb, length-append}
+use Rattle.std.proofs.Common.{◌≡◌, ℕ, ◌==◌, Bool, true, false, [], ◌∷◌, length, Some, None, nat_lt, if◌then◌else◌, sym, ap₂, ◌∙◌, subst, le-ltb}
 use Rattle.std.specs.Prelude.{slice_get}
-use Rattle.std.proofs.lemmas.List.Sorted.{IsPermutation-refl}
 use Rattle.std.proofs.lemmas.Option.{same_Some}
 use Rattle.tags.specs.declared.value.Value.{Value}
-use Rattle.tags.specs.declared.value.Origin.{Origin}
-use Rattle.operators.specs.Values.{Indexed, Place, Outside, index_in}
+use Rattle.operators.specs.Values.{Outside, index_in}
 use Rattle.semantics.specs.declared.graph.Source.{Source}
 use Rattle.semantics.specs.declared.graph.Kind.TheVariants as node
-use Rattle.semantics.specs.Graph as graph
-use Rattle.semantics.specs.Graph.{Node, Block, Graph, Flow, flow_of, node_at, array_names, first_cell, array_len}
-use Rattle.semantics.specs.Meaning.{Context, State, Activity, Fires, Fills, Deed, Run, start, block_of, node_of, origin_at, taken, deed, fired, fired_in, input_passed, on_node, on_block, stored}
+use Rattle.semantics.specs.Graph.{Node, Block, node_at, first_cell, array_len}
+use Rattle.semantics.specs.Meaning.{Context, Fires, Fills, Deed, start, block_of, origin_at, taken, deed, fired, fired_in, input_passed, on_node, on_block, stored}
 use Rattle.lemmas.proofs.Permutations.{Within, Each}
 use Rattle.law_determinacy.proofs.Shapes.{storing}
 use Rattle.law_values.specs.Given.{Stored, stores_of}
-use Rattle.law_values.specs.Equations.{Has, LineEquation, Storing}
-use Rattle.law_values.specs.Settled.{Settled}
 use Rattle.law_values.proofs.GraphForms.{line_past}
 use Rattle.law_values.proofs.EndCells.{stored_from}
 use Rattle.law_values.proofs.RunRested.{Rested, Came, GivesIn}

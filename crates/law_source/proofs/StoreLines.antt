@@ -1,5 +1,5 @@
 -- What lies under a node, and that a node that neither stores nor makes an invocation has no store.
-use Rattle.std.proofs.Common.{◌≡◌, ℕ, zero, suc, ◌+◌, ◌<◌, ◌≤◌, ◌&&◌, ◌==◌, ◌⊎◌, ℤ, Bool, true, false, List, [], ◌∷◌, length, map, filter, Option, Some, None, nat_lt, nat_le, if◌then◌else◌, inl, inr, refl, sym, ap, ap₂, ◌∙◌, subst, arith, eqb-true, ltb-true, leb-true, ⊎_elim}
+use Rattle.std.proofs.Common.{◌≡◌, ℕ, ◌+◌, ◌&&◌, ◌==◌, ◌⊎◌, ℤ, Bool, true, false, List, [], ◌∷◌, length, map, filter, Option, Some, None, nat_lt, nat_le, if◌then◌else◌, inl, inr, refl, sym, ap, ap₂, ◌∙◌, subst, arith, eqb-true, ltb-true, leb-true, ⊎_elim}
 use Rattle.std.specs.Prelude.{⊤}
 use Rattle.std.proofs.lemmas.Option.{same_Some}
 use Rattle.tags.specs.declared.value.Value.{Value}

@@ -1,14 +1,13 @@
 -- The store of a node is the only one of its node in its invocation.
-use Rattle.std.proofs.Common.{◌≡◌, ℕ, zero, suc, ◌+◌, ◌<◌, ◌≤◌, ◌&&◌, ◌==◌, ◌⊎◌, ℤ, Bool, true, false, List, [], ◌∷◌, length, map, filter, Option, Some, None, nat_lt, nat_le, if◌then◌else◌, inl, inr, refl, sym, ap, ap₂, ◌∙◌, subst, arith, Contains, lt-ltb, le-leb, ⊎_elim}
+use Rattle.std.proofs.Common.{◌≡◌, ℕ, zero, suc, ◌+◌, ◌&&◌, ℤ, Bool, true, false, List, [], ◌∷◌, map, filter, Some, if◌then◌else◌, refl, sym, ap, ap₂, ◌∙◌, subst, arith, Contains, lt-ltb, le-leb, ⊎_elim}
 use Rattle.std.specs.Prelude.{slice_get}
 use Rattle.std.proofs.lemmas.Option.{same_Some}
 use Rattle.tags.specs.declared.value.Value.{Value}
-use Rattle.semantics.specs.declared.graph.Source.{Source}
 use Rattle.semantics.specs.declared.graph.Kind.{Kind}
 use Rattle.semantics.specs.declared.graph.Kind.TheVariants.{Store}
-use Rattle.semantics.specs.Graph.{Node, Block, Flow}
+use Rattle.semantics.specs.Graph.{Node, Flow}
 use Rattle.semantics.specs.Meaning.{Context, Main, Called, Turned, State, Activity, Run, start, node_of, IsCall, IsLoop}
-use Rattle.lemmas.proofs.Permutations.{Within, Each, each_from, get_within, within_to}
+use Rattle.lemmas.proofs.Permutations.{Within, each_from, get_within, within_to}
 use Rattle.lemmas.proofs.Bools.{equal_itself}
 use Rattle.lemmas.proofs.Contains.{contains_get}
 use Rattle.law_values.specs.Given.{Stored, stores_of}

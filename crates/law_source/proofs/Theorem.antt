@@ -1,24 +1,18 @@
 -- The theorem from its parts.
-use Rattle.std.proofs.Common.{◌≡◌, ℕ, ◌+◌, ℤ, List, [], ◌∷◌, length, map, refl, sym, ap, ◌∙◌, subst, arith, IsPermutation, false}
+use Rattle.std.proofs.Common.{◌≡◌, ◌+◌, ℤ, [], length, map, sym, ap, ◌∙◌, subst, IsPermutation, false}
 use Rattle.std.proofs.lemmas.List.{length-map}
-use Rattle.tags.specs.declared.value.Value.{Value}
 use Rattle.tags.specs.declared.value.Value.TheVariants.{Int}
-use Rattle.tags.specs.declared.value.Origin.{Origin}
-use Rattle.semantics.specs.Graph.{Graph, Flow, flow_of, node_count}
-use Rattle.semantics.specs.WellFormed.{WellFormed}
-use Rattle.semantics.specs.Meaning.{Main, State, Activity, Run, start}
-use Rattle.semantics.specs.Faithful.{inputs_of}
+use Rattle.semantics.specs.Graph.{flow_of, node_count}
+use Rattle.semantics.specs.Meaning.{Main}
 use Rattle.law_values.specs.Settled.{Settled, NoneWaits}
 use Rattle.law_values.proofs.Theorem.{runs_at_rest}
-use Rattle.source.specs.Tree.{Program, Function}
 use Rattle.source.specs.Outside.{bare}
 use Rattle.source.specs.Rules.{written_or_one}
-use Rattle.source.specs.Evaluates.{Stores, Runs, entered}
+use Rattle.source.specs.Evaluates.{entered}
 use Rattle.source.specs.Lowered.{node_of, function_scope, turn_site}
-use Rattle.source.specs.Theorem.{Computes, RestsWell, world}
 use Rattle.law_source.specs.Below.{stores_below}
-use Rattle.law_source.specs.Means.{Comes, MeansIn}
-use Rattle.law_source.specs.Theorem.{IsLoweredApart, LoweringKeepsMeaning, FunctionsArePlaced, PartsKeepMeaning, MeaningFromParts}
+use Rattle.law_source.specs.Means.{MeansIn}
+use Rattle.law_source.specs.Theorem.{MeaningFromParts}
 use Rattle.law_source.proofs.NoneWaits.{none_waits}
 use Rattle.law_source.proofs.MainComes.{outputs_shown, cells_filled, cells_filled_once}
 use Rattle.law_source.proofs.MainStands.{main_function, each_function_good, graph_is, main_spot, main_lowered, main_is, main_stands, main_agrees, block}

@@ -1,5 +1,5 @@
 -- WHERE SCOPE AND NAMES AGREE: what a name stands for in an evaluation is the value of its source in an invocation.
-use Rattle.std.specs.Prelude.{◌≡◌, ℕ, ⊤, ℤ, List, [], ◌∷◌, Some}
+use Rattle.std.specs.Prelude.{◌≡◌, ⊤, ℤ, List, [], ◌∷◌, Some}
 use Rattle.tags.specs.declared.value.Value.{Value}
 use Rattle.semantics.specs.declared.graph.Source.{Source}
 use Rattle.semantics.specs.Graph.{Flow}

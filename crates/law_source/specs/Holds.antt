@@ -1,9 +1,9 @@
 -- WHAT A GRAPH HOLDS OF A LOWERED PART: its lines in a block, from a node on, and the blocks of its loops.
-use Rattle.std.specs.Prelude.{◌≡◌, ℕ, ◌+◌, ⊤, List, [], ◌∷◌, map, Some, slice_get}
+use Rattle.std.specs.Prelude.{◌≡◌, ℕ, ◌+◌, ⊤, List, [], ◌∷◌, Some, slice_get}
 use Rattle.tags.specs.declared.value.Origin.{Origin}
 use Rattle.tags.specs.declared.value.Origin.TheVariants.{At}
 use Rattle.semantics.specs.declared.graph.Kind.{Kind}
-use Rattle.semantics.specs.declared.graph.Kind.TheVariants.{Lit, Apply1, Apply2, Cond, Enter, Merge, Fetch, Store, Call, StrictCall, Loop}
+use Rattle.semantics.specs.declared.graph.Kind.TheVariants.{Apply2, Fetch, Store}
 use Rattle.semantics.specs.Graph.{Node, Block, Graph, node_at, place_of, resolved_kind, resolved_block, array_names, block_names, flow_of}
 use Rattle.source.specs.Tree.{Name}
 use Rattle.source.specs.Lowered.{Made, MadeBlock, graph_block, block_name}

@@ -1,11 +1,11 @@
 -- LOWERING KEEPS THE MEANING OF A PART: where its lines stand in an invocation whose names agree, the part evaluates to the
 -- values of its sources, and it stores what is stored at its nodes.
-use Rattle.std.specs.Prelude.{◌≡◌, ℕ, ◌+◌, ◌<◌, Bool, true, false, ℤ, List, [], ◌∷◌, ◌++◌, map, length, Option, Some, Ok, slice_get, IsPermutation}
+use Rattle.std.specs.Prelude.{◌≡◌, ℕ, ◌+◌, ◌<◌, Bool, true, false, ℤ, List, [], ◌∷◌, ◌++◌, map, length, Some, Ok, slice_get, IsPermutation}
 use Rattle.tags.specs.declared.value.Value.{Value}
 use Rattle.tags.specs.declared.value.Origin.{Origin}
 use Rattle.operators.specs.Values.{truth}
 use Rattle.semantics.specs.declared.graph.Source.{Source}
-use Rattle.semantics.specs.Graph.{Block, Graph, Flow, flow_of, node_count}
+use Rattle.semantics.specs.Graph.{Block, Graph, flow_of, node_count}
 use Rattle.semantics.specs.Meaning.{Context, State, Activity, Run, Stood, ArmsTaken, arms_round, block_number, start}
 use Rattle.law_values.specs.Equations.{IsDue, Has}
 use Rattle.source.specs.Tree.{Name, NameAt, Expr, Exprs, Body, Turn, Before, After, Program, names_of}

@@ -19,14 +19,16 @@
 //! - Statements: `Holds` (lines in a block, blocks in a graph), `Agrees`, `Below` (which stores a part makes), `Means`, `Theorem`.
 //! - Lines and blocks: `Holding`, `Parts` (parts of a part that stands), `Placed` (blocks stand at the places of their names).
 //! - Names: `NamesUsed` (what is used is in scope), `NamesAgree` (through lists of names, `let`, and the enters of an arm).
-//! - Numbers: `Counting` (a part has as many sources as values), `Ranges` and `StoreLines` (the stores of a range of nodes).
-//! - Parts: `Having`, `Leaves`, `Operators`, `Cells`, `Bodies`.
+//! - Numbers: `Counting` (a part has as many sources as values), `Ranges`, `StoreLines`, `StoredOnce` and `StoreIndexes` (the stores
+//!   of a range of nodes, of a quiet node, and of a store's node).
+//! - Parts: `Having`, `Leaves`, `Operators`, `Cells`, `MeansStore`, `Bodies`; `TurnsGo` (turns make a loop).
 //! - The whole: `NoneWaits`, `MainStands`, `MainComes`, `Theorem`.
 //!
 //! **Proved**: the theorem from the meaning of parts; that blocks stand where they should, from the origins of their lines; and that
-//! numbers, names, brackets, operators, fetches, lists and bodies keep their meaning where their parts do.
-//! **Not proved yet**: stores, calls, conditionals and loops (`MeansStep`, and with it `PartsKeepMeaning`); and that no two tokens'
-//! lines have one place (`OriginsAreTold`). So the theorem itself does not stand yet.
+//! numbers, names, brackets, operators, fetches, stores, lists and bodies keep their meaning where their parts do.
+//! **Not proved yet**: calls, conditionals, loops and turns, and so the induction (`MeansStep`) and what comes of it
+//! (`PartsKeepMeaning`); and that a block's lines have the origins that are told of their tokens (`OriginsAreTold`). So the theorem
+//! itself does not stand yet.
 #![tactic(auto)]
 
 ghost use Rattle.law_source.specs.Theorem.{MeaningFromParts, PlacesFromOrigins};
