@@ -104,11 +104,11 @@ module _ (p : Program) (g : Graph) (origin : ℕ → Origin) (inputs : List ℤ)
       let o : origin_at (flow_of g) c n' ≡ origin at = told_at p g origin inputs run s r st two c told.0 n' told.1 ∙ sym (told.2 tt) in
       let index : eq.0 ≡ x.value = same_value p g origin inputs run s r st two c x.source eq.0 x.value eq.1 x.has in
       let place : index_in (array_len (flow_of g) array) eq.0 (origin_at (flow_of g) c n') ≡ index_in (array_len (flow_of g) array) x.value (origin at) =
-          ap₂ (λ i o. index_in (array_len (flow_of g) array) i o) index o in
+      ap₂ (λ i o. index_in (array_len (flow_of g) array) i o) index o in
       let got = reads_it (first_cell (flow_of g) array) (index_in (array_len (flow_of g) array) x.value (origin at)) v.0
-          (subst (λ ix. Fetched (flow_of g) inputs run s r (first_cell (flow_of g) array) ix v.0) place eq.2) in
+      (subst (λ ix. Fetched (flow_of g) inputs run s r (first_cell (flow_of g) array) ix v.0) place eq.2) in
       let reads : Reads (over p g origin inputs run s r) (place_in (over p g origin inputs run s r) at a x.value) v.0 =
-          subst (λ ix. Reads (over p g origin inputs run s r) ix v.0) (sym (cell_named p g is a x.value (origin at) rules.0)) got in
+      subst (λ ix. Reads (over p g origin inputs run s r) ix v.0) (sym (cell_named p g is a x.value (origin at) rules.0)) got in
       record {
         vs = v.0 ∷ [];
         ss = out.ss;

@@ -33,8 +33,8 @@ holds_behind {N} b before (line ∷ lines) e =
     let past : nat_lt n b.inputs ≡ false = le-ltb n b.inputs (omega arith) in
     let place : n - b.inputs ≡ length before = omega arith in
     let here : node_at b n ≡ Some line =
-        ap (λ (t : Bool). if t then None else slice_get b.nodes (n - b.inputs)) past ∙ ap (λ i. slice_get b.nodes i) place
-        ∙ ap (λ l. slice_get l (length before)) e ∙ got_behind before lines line in
+    ap (λ (t : Bool). if t then None else slice_get b.nodes (n - b.inputs)) past ∙ ap (λ i. slice_get b.nodes i) place
+    ∙ ap (λ l. slice_get l (length before)) e ∙ got_behind before lines line in
     let rest = holds_behind b (before ++ line ∷ []) lines (e ∙ sym (append_assoc before (line ∷ []) lines)) in
     let long : length (before ++ line ∷ []) ≡ length before + 1 = length-append before (line ∷ []) in
     (here, subst (λ m. Holds b m lines) (omega (arith, long)) rest)

@@ -65,7 +65,7 @@ module _ (p : Program) (g : Graph) (origin : ℕ → Origin) (inputs : List ℤ)
         → IsPermutation us (stores_below (flow_of g) run c spot.next (spot.next + length (ended site spot l at kind ss 1).nodes))
     last_quiet us silent k =
         let none : IsPermutation [] (stores_below (flow_of g) run c own (own + 1)) =
-            subst (λ l. IsPermutation [] l) (sym (quiet (flow_of g) inputs run s r st c own (resolved g (made site at kind ss)) last_node silent)) (IsPermutation-refl []) in
+        subst (λ l. IsPermutation [] l) (sym (quiet (flow_of g) inputs run s r st c own (resolved g (made site at kind ss)) last_node silent)) (IsPermutation-refl []) in
         let both = stores_both (flow_of g) run c spot.next own (own + 1) us [] (omega arith) (omega arith) k none in
         let long : own + 1 ≡ spot.next + length (ended site spot l at kind ss 1).nodes = let n = length-append l.nodes (made site at kind ss ∷ []) in omega (arith, n) in
         subst (λ n. IsPermutation us (stores_below (flow_of g) run c spot.next n)) long

@@ -39,10 +39,11 @@ StoredOnce us = (i j : ℕ) (u w : Stored) → slice_get us i ≡ Some u → sli
 
 stores_apart : (us : List Stored) → StoredOnce us → Spread (λ (u w : Stored). Apart (cell_and_value u) (cell_and_value w)) us
 stores_apart [] h = tt
-stores_apart (u ∷ us) h =
-    (each_from (λ (w : Stored). Apart (cell_and_value u) (cell_and_value w)) us
+stores_apart (u ∷ us) h = (
+  each_from (λ (w : Stored). Apart (cell_and_value u) (cell_and_value w)) us
       (λ w k same. let at = contains_get us w (within_to w us k) in let e = h 0 (suc at.0) u w refl at.1 same in absurd (omega (arith, e))),
-    stores_apart us (λ i j v w e f same. let k = h (suc i) (suc j) v w e f same in omega (arith, k)))
+  stores_apart us (λ i j v w e f same. let k = h (suc i) (suc j) v w e f same in omega (arith, k)),
+)
 
 pub cells_once : (ss : Stores) → Spread Apart ss → (i j x : ℕ) (v w : Value) → slice_get ss i ≡ Some (x, v) → slice_get ss j ≡ Some (x, w) → i ≡ j
 cells_once [] all i j x v w e f = cc
@@ -105,17 +106,17 @@ module _ (fl : Flow) (inputs : List ℤ) (run : List Activity) (s : State) (r : 
       pub cells_filled : (x : ℕ) (v : Value) → Contains ss (x, v) ↔ (s.memory.cells x ≡ Some v)
       cells_filled x v = (
         λ h.
-        let at = within_permutation (x, v) ss (map cell_and_value (stores_of fl run)) of_run (within_from (x, v) ss h) in
-        let w = contains_mapped cell_and_value (stores_of fl run) (x, v) (within_to (x, v) (map cell_and_value (stores_of fl run)) at) in
-        let cell : w.0.cell ≡ x = ap (λ (e : ℕ × Value). e.0) w.2 in
-        let value : w.0.value ≡ v = ap (λ (e : ℕ × Value). e.1) w.2 in
-        ap s.memory.cells (sym cell) ∙ st.stored_cells w.0 w.1 ∙ ap (λ v. Some v) value,
+            let at = within_permutation (x, v) ss (map cell_and_value (stores_of fl run)) of_run (within_from (x, v) ss h) in
+            let w = contains_mapped cell_and_value (stores_of fl run) (x, v) (within_to (x, v) (map cell_and_value (stores_of fl run)) at) in
+            let cell : w.0.cell ≡ x = ap (λ (e : ℕ × Value). e.0) w.2 in
+            let value : w.0.value ≡ v = ap (λ (e : ℕ × Value). e.1) w.2 in
+            ap s.memory.cells (sym cell) ∙ st.stored_cells w.0 w.1 ∙ ap (λ v. Some v) value,
         λ e.
-        let w = st.cells_stored x v e in
-        let at = within_map cell_and_value w.0 (stores_of fl run) (within_from w.0 (stores_of fl run) w.1) in
-        let same : cell_and_value w.0 ≡ (x, v) = ap₂ (λ (x : ℕ) (v : Value). (x, v)) w.2 w.3 in
-        let its : Within (x, v) (map cell_and_value (stores_of fl run)) = subst (λ e. Within e (map cell_and_value (stores_of fl run))) same at in
-        within_to (x, v) ss (within_permutation (x, v) (map cell_and_value (stores_of fl run)) ss (IsPermutation-sym _ _ of_run) its),
+            let w = st.cells_stored x v e in
+            let at = within_map cell_and_value w.0 (stores_of fl run) (within_from w.0 (stores_of fl run) w.1) in
+            let same : cell_and_value w.0 ≡ (x, v) = ap₂ (λ (x : ℕ) (v : Value). (x, v)) w.2 w.3 in
+            let its : Within (x, v) (map cell_and_value (stores_of fl run)) = subst (λ e. Within e (map cell_and_value (stores_of fl run))) same at in
+            within_to (x, v) ss (within_permutation (x, v) (map cell_and_value (stores_of fl run)) ss (IsPermutation-sym _ _ of_run) its),
       )
 
       pub cells_filled_once : (i j x : ℕ) (v w : Value) → slice_get ss i ≡ Some (x, v) → slice_get ss j ≡ Some (x, w) → i ≡ j

@@ -157,9 +157,10 @@ module _ (p : Program) (g : Graph) (origin : ℕ → Origin) (inputs : List ℤ)
   have_from [] i zero e h = tt
   have_from [] i (suc n) e h = absurd (omega (arith, e))
   have_from (z ∷ zs) i zero e h = absurd (omega (arith, e))
-  have_from (z ∷ zs) i (suc n) e h =
-      (subst (λ i. HasIt (port i 0) (Int z)) (omega arith) (h 0 z refl),
-      have_from zs (i + 1) n (omega (arith, e)) (λ k y f. subst (λ i. HasIt (port i 0) (Int y)) (omega arith) (h (suc k) y f)))
+  have_from (z ∷ zs) i (suc n) e h = (
+    subst (λ i. HasIt (port i 0) (Int z)) (omega arith) (h 0 z refl),
+    have_from zs (i + 1) n (omega (arith, e)) (λ k y f. subst (λ i. HasIt (port i 0) (Int y)) (omega arith) (h (suc k) y f)),
+  )
 
   pub have_inputs : HaveIt (inputs_from 0 (length f.params)) (map (λ (z : ℤ). Int z) inputs)
   have_inputs = have_from inputs 0 (length f.params) as_many

@@ -60,10 +60,10 @@ module _ (p : Program) (g : Graph) (origin : ℕ → Origin) (inputs : List ℤ)
         × IsPermutation (filled (counted_from (first_cell (flow_of g) a) ix) y) (stores_below (flow_of g) run c n (n + 1))
     stored_so n a line x el ek ex i y v hx (Outside w) e h =
         let none = no_store (flow_of g) inputs run s r st c n line el (subst (λ k. IsStore k) (sym ek) tt)
-            (λ u hu ec en.
-            let took = good n a line x el ek ex u hu ec en in
-            let same = st.one_value c x.node x.port took.0 i took.1 hx in
-            took.2 w (index_so (array_len (flow_of g) a) took.0 i (origin_at (flow_of g) c n) w same e)) in
+        (λ u hu ec en.
+        let took = good n a line x el ek ex u hu ec en in
+        let same = st.one_value c x.node x.port took.0 i took.1 hx in
+        took.2 w (index_so (array_len (flow_of g) a) took.0 i (origin_at (flow_of g) c n) w same e)) in
         (h, subst (λ l. IsPermutation [] l) (sym none) (IsPermutation-refl []))
     stored_so n a line x el ek ex i y v hx (Place q) e h =
         let one = one_store (flow_of g) inputs run s r st c n line el (subst (λ k. IsStore k) (sym ek) tt) (first_cell (flow_of g) a + q) y h.2 in
@@ -99,7 +99,7 @@ module _ (p : Program) (g : Graph) (origin : ℕ → Origin) (inputs : List ℤ)
         let place : index_in (array_len (flow_of g) array) eq.0 (origin_at (flow_of g) c n') ≡ ix = ap₂ (λ i o. index_in (array_len (flow_of g) array) i o) index o in
         let storing = subst (λ w. Storing (flow_of g) inputs run s r c n' base w ix v.0) value (subst (λ ix. Storing (flow_of g) inputs run s r c n' base eq.1 ix v.0) place eq.4) in
         let own = stored_so n' array (resolved g (made site at (node.Store a) both.sources)) x.source (last_node p g origin inputs run s r st c site spot both at (node.Store a) both.sources h) refl
-            (ap (λ ss. slice_get ss 0) list) x.value y.value v.0 x.has ix (ap (λ o. index_in (array_len (flow_of g) array) x.value o) o) storing in
+        (ap (λ ss. slice_get ss 0) list) x.value y.value v.0 x.has ix (ap (λ o. index_in (array_len (flow_of g) array) x.value o) o) storing in
         let named : place_from 0 p a x.value (origin at) ≡ counted_from base ix = cell_named p g is a x.value (origin at) rules.0 in
         let ours = both_stored p g origin inputs run s r c spot l k out.ss later.ss out.stored later.stored in
         let whole = stores_both (flow_of g) run c spot.next n' (n' + 1) (out.ss ++ later.ss) (filled (counted_from base ix) y.value) (omega arith) (omega arith) ours own.1 in

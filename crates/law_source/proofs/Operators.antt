@@ -136,7 +136,7 @@ module _ (p : Program) (g : Graph) (origin : ℕ → Origin) (inputs : List ℤ)
       let rules = in_infix p names at sign e d n rule in
       let agree = agrees_split (flow_of g) inputs run s r c scope env (uses e) (uses d) known in
       let both : StandsIn site spot (joined l k) =
-          first_part p g origin inputs run s r c site spot (joined l k) m (made site at (node.Apply2 (operator_of sign)) ss ∷ []) [] refl (sym (append_nothing (joined l k).blocks)) h in
+      first_part p g origin inputs run s r c site spot (joined l k) m (made site at (node.Apply2 (operator_of sign)) ss ∷ []) [] refl (sym (append_nothing (joined l k).blocks)) h in
       let before : StandsIn site spot l = first_part p g origin inputs run s r c site spot l (joined l k) k.nodes k.blocks refl refl both in
       let behind : StandsIn site (spot_after spot l) k = rest_part p g origin inputs run s r c site spot l k (joined l k) refl refl both in
       let out = left site spot scope env names 1 fits.0 rules.0.values before agree.0 in

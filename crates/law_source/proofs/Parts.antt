@@ -23,8 +23,8 @@ module _ (fl : Flow) (inputs : List ℤ) (run : List Activity) (s : State) (r : 
       → (v : Value) × Gives fl run s.memory c n q v × LineEquation fl inputs run s r c n q v line.kind line.sources
   line_gives c b n q line eb due el arms low =
       let taken : TakenAt fl inputs run s r c n =
-          subst (λ (o : Option (Block ℕ)). ArmsTaken (Stood fl (start inputs) run s r) c (arms_at o n)) (sym eb)
-          (subst (λ (o : Option (Node ℕ)). ArmsTaken (Stood fl (start inputs) run s r) c (arms_round (node_count b) b (arm_of o))) (sym el) arms) in
+      subst (λ (o : Option (Block ℕ)). ArmsTaken (Stood fl (start inputs) run s r) c (arms_at o n)) (sym eb)
+      (subst (λ (o : Option (Node ℕ)). ArmsTaken (Stood fl (start inputs) run s r) c (arms_round (node_count b) b (arm_of o))) (sym el) arms) in
       let ports = ap (λ (o : Option (Block ℕ)). ports_in fl o n) eb ∙ ports_line_at fl b n line el in
       let v = st.given c n q due taken (omega (arith, ports, low)) in
       let past : nat_lt n b.inputs ≡ false = le-ltb n b.inputs (line_past b n line el).0 in

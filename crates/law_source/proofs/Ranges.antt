@@ -93,7 +93,7 @@ module _ (fl : Flow) (run : List Activity) (c : Context) where
       let g : Stored → Bool = λ w. is_below c mid hi w.context w.node in
       let h : Stored → Bool = λ w. is_below c lo hi w.context w.node in
       let p = perm_to (filter h (stores_of fl run)) (filter f (stores_of fl run) ++ filter g (stores_of fl run))
-          (perm_filters f g h (λ w. range_or lo mid hi low high (node_under c w.context w.node)) (λ w. range_apart lo mid hi (node_under c w.context w.node)) (stores_of fl run)) in
+      (perm_filters f g h (λ w. range_or lo mid hi low high (node_under c w.context w.node)) (λ w. range_apart lo mid hi (node_under c w.context w.node)) (stores_of fl run)) in
       subst (λ us. IsPermutation us (stores_below fl run c lo hi)) (map_append cell_and_value (filter f (stores_of fl run)) (filter g (stores_of fl run)))
       (IsPermutation-map cell_and_value (filter f (stores_of fl run) ++ filter g (stores_of fl run)) (filter h (stores_of fl run)) (IsPermutation-sym _ _ p))
 

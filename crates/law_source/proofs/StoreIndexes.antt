@@ -44,6 +44,8 @@ module _ (z : Rested) (c : Context) (n : ℕ) (b : Block ℕ) (line : Node ℕ) 
       let came = (subst (λ act. Each (Came z) (taken act)) same (took_all z act.0 act.1)).0 in
       let got = operand_from z c b n 0 line f.0 eb el came in
       let source : got.0 ≡ x = same_Some got.0 x (sym got.1 ∙ ex) in
-      let fills = ap₂ (λ c n. Fills c n w.cell w.value) ec en in
-      (f.0, subst (λ x. GivesIn z c x.node x.port f.0) source got.2,
-      λ fault out. index_good f.0 w.value (Fills w.context w.node w.cell w.value) w.cell fills (subst (λ act. deed z.flow act ≡ Some (Fills w.context w.node w.cell w.value)) same act.2) fault out)
+      let fills = ap₂ (λ c n. Fills c n w.cell w.value) ec en in (
+        f.0,
+        subst (λ x. GivesIn z c x.node x.port f.0) source got.2,
+        λ fault out. index_good f.0 w.value (Fills w.context w.node w.cell w.value) w.cell fills (subst (λ act. deed z.flow act ≡ Some (Fills w.context w.node w.cell w.value)) same act.2) fault out,
+      )

@@ -113,9 +113,10 @@ module _ (fl : Flow) (inputs : List ℤ) (run : List Activity) (s : State) (r : 
   stored_at w h =
       let a = stored_from fl (start inputs) s run r w h in
       let f = storing fl a.0 w.context w.node w.cell w.value a.2 in
-      let gives : Gives fl run s.memory w.context w.node 0 w.value = (a.0, Fills w.context w.node w.cell w.value, within_to a.0 run a.1, a.2, refl) in
-      (st.silent_invocations w.context w.node 0 w.value gives,
-      line_of_store fl w.context w.node f.0 w.value (Fills w.context w.node w.cell w.value) w.cell refl (subst (λ a. deed fl a ≡ Some (Fills w.context w.node w.cell w.value)) f.1 a.2))
+      let gives : Gives fl run s.memory w.context w.node 0 w.value = (a.0, Fills w.context w.node w.cell w.value, within_to a.0 run a.1, a.2, refl) in (
+        st.silent_invocations w.context w.node 0 w.value gives,
+        line_of_store fl w.context w.node f.0 w.value (Fills w.context w.node w.cell w.value) w.cell refl (subst (λ a. deed fl a ≡ Some (Fills w.context w.node w.cell w.value)) f.1 a.2),
+      )
 
   -- what lies under node n of c is that node, or n is a call or a loop
   abbrev Under : Context → ℕ → Context → ℕ → Type 0

@@ -35,7 +35,7 @@ kept_one f [] i u e t only = cc
 kept_one f (x ∷ xs) zero u e t only =
     let same : x ≡ u = same_Some x u e in
     let none = kept_none f xs (each_from (λ y. f y ≡ false) xs
-        (λ y h. false_by (f y) (λ k. let at = contains_get xs y (within_to y xs h) in let z = only (suc at.0) y at.1 k in absurd (omega (arith, z))))) in
+    (λ y h. false_by (f y) (λ k. let at = contains_get xs y (within_to y xs h) in let z = only (suc at.0) y at.1 k in absurd (omega (arith, z))))) in
     ap (λ (b : Bool). if b then x ∷ filter f xs else filter f xs) (ap f same ∙ t) ∙ ap (λ l. x ∷ l) none ∙ ap (λ y. y ∷ []) same
 kept_one f (x ∷ xs) (suc i) u e t only =
     ap (λ (b : Bool). if b then x ∷ filter f xs else filter f xs) (false_by (f x) (λ k. let z = only zero x refl k in absurd (omega (arith, z))))

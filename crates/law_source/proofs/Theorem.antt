@@ -32,12 +32,12 @@ meaning_from_parts placed parts p g origin low well inputs count s rests =
     let b = block p g origin inputs run s r st well count is f main.1 blocks in
     let eb = main_is p g origin inputs run s r st well count is f main.1 blocks in
     let out = all.body f.body (turn_site f.name.name) (main_spot f) (function_scope f) (entered f.params (map (λ (z : ℤ). Int z) inputs) []) (bare f.params)
-        (written_or_one f.results) false good.fits good.values (main_stands p g origin inputs run s r st well count is f main.1 blocks)
-        (main_agrees p g origin inputs run s r st well count is f main.1 blocks good) in
+    (written_or_one f.results) false good.fits good.values (main_stands p g origin inputs run s r st well count is f main.1 blocks)
+    (main_agrees p g origin inputs run s r st well count is f main.1 blocks good) in
     let long : node_count b ≡ length f.params + length (main_lowered p f).nodes =
-        ap (λ n. length f.params + n) (length-map (map node_of (main_lowered p f).nodes) _ ∙ length-map (main_lowered p f).nodes node_of) in
+    ap (λ n. length f.params + n) (length-map (map node_of (main_lowered p f).nodes) _ ∙ length-map (main_lowered p f).nodes node_of) in
     let ss : IsPermutation out.ss (stores_below (flow_of g) run Main b.inputs (node_count b)) =
-        subst (λ n. IsPermutation out.ss (stores_below (flow_of g) run Main (length f.params) n)) (sym long) out.stored in
+    subst (λ n. IsPermutation out.ss (stores_below (flow_of g) run Main (length f.params) n)) (sym long) out.stored in
     record {
       outputs = out.vs;
       stores = out.ss;
