@@ -1,0 +1,5 @@
+pub mod Holds
+pub mod Agrees
+pub mod Below
+pub mod Means
+pub mod Theorem
