@@ -4,7 +4,7 @@ use graph::Name;
 use rationed::{Rationed, is_next_refused};
 use source::fault::{Fault, FaultKind};
 use source::program::Program;
-use source::word::Word;
+use source::word::{InfixSign, Word};
 use source_check::check;
 use std::alloc::{AllocError, Allocator};
 use std::test::Fail;
@@ -207,5 +207,46 @@ fn refuses_each_growth(rt: HostRuntime) -> Result<(), Fail> {
         refused = refused.wrapping_add(1);
     }
     assert!(rt; whole && refused > 0);
+    Ok(())
+}
+
+/// A function that gives names to as many values in one `let`, and compares all of them: as many words deep as a tree, so
+/// what follows a tree would run out of stack here, and what searches names out of time.
+fn long_program<A: Allocator>(alloc: A, count: usize) -> Result<Vec<Word<usize>, A>, AllocError> {
+    let mut words = Vec::new(alloc);
+    words.push(Word::Function { at: 3, name: 0 })?;
+    words.push(Word::Parameter { at: 8, name: 1 })?;
+    words.push(Word::Body { at: 11 })?;
+    words.push(Word::Let { at: 13 })?;
+    for name in 2..count {
+        words.push(Word::Bind { at: 17, name })?;
+    }
+    words.push(Word::List)?;
+    for _ in 2..count {
+        words.push(Word::Name { at: 20, name: 1 })?;
+        words.push(Word::Part)?;
+    }
+    words.push(Word::EndLet { at: 13 })?;
+    words.push(Word::List)?;
+    words.push(Word::Name { at: 30, name: 1 })?;
+    for name in 2..count {
+        words.push(Word::Left)?;
+        words.push(Word::Name { at: 31, name })?;
+        words.push(Word::Infix {
+            at: 30,
+            sign: InfixSign::Greater,
+        })?;
+    }
+    words.push(Word::Part)?;
+    words.push(Word::Give)?;
+    words.push(Word::EndFunction)?;
+    Ok(words)
+}
+
+#[test]
+fn checks_long_programs(rt: HostRuntime) -> Result<(), Fail> {
+    let alloc = rt.alloc();
+    let words = long_program(alloc, 20_000)?;
+    assert_eq!(rt; fault_of(&alloc, &alloc, &words)?, None);
     Ok(())
 }
