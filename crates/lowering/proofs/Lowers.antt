@@ -1,5 +1,6 @@
 -- The machine, the scan and the rules together.
 use Rattle.std.proofs.Common.{◌≡◌, ℕ, List, [], ◌∷◌, ◌++◌, Ok, map, refl, sym, ◌∙◌, ap, subst, append-nil}
+use Rattle.lemmas.proofs.Lists.{map_append}
 use Rattle.source.specs.Tree.{Name, Item, Cells, Defines, Program}
 use Rattle.source.specs.Words.{program_words}
 use Rattle.source.specs.Fits.{FitsProgram}
@@ -20,10 +21,6 @@ machine_lowers p end fits good =
     let c : ItemsCounted p p = all_counted p end fits good in
     ap (λ (ps : List Plan). run p (between ps []) (program_words p)) (plans_told p c ∙ sym (append-nil (program_plans p))) ∙ items_say p p [] [] c
 
-map_both : {A B : Type 0} (f : A → B) (xs ys : List A) → map f (xs ++ ys) ≡ map f xs ++ map f ys
-map_both f [] ys = refl
-map_both f (x ∷ xs) ys = ap (λ zs. f x ∷ zs) (map_both f xs ys)
-
 blocks_again : (f : Name) (bs : List MadeBlock) → map (λ (b : Name × MadeBlock). b.1) (of_function f bs) ≡ bs
 blocks_again f [] = refl
 blocks_again f (b ∷ bs) = ap (λ cs. b ∷ cs) (blocks_again f bs)
@@ -36,7 +33,7 @@ items_made : (p : Program) (items : List Item) → map (λ (b : Name × MadeBloc
 items_made p [] = refl
 items_made p (Cells x len ∷ items) = items_made p items
 items_made p (Defines f ∷ items) =
-    map_both (λ (b : Name × MadeBlock). b.1) (of_function f.name.name (function_blocks p f)) (named_blocks p items)
+    map_append (λ (b : Name × MadeBlock). b.1) (of_function f.name.name (function_blocks p f)) (named_blocks p items)
     ∙ ap (λ (bs : List MadeBlock). bs ++ map (λ (b : Name × MadeBlock). b.1) (named_blocks p items)) (blocks_again f.name.name (function_blocks p f))
     ∙ ap (λ (bs : List MadeBlock). function_blocks p f ++ bs) (items_made p items)
 
@@ -44,7 +41,7 @@ items_graph : (p : Program) (items : List Item) → map (λ (b : Name × MadeBlo
 items_graph p [] = refl
 items_graph p (Cells x len ∷ items) = items_graph p items
 items_graph p (Defines f ∷ items) =
-    map_both (λ (b : Name × MadeBlock). graph_block b.0 b.1) (of_function f.name.name (function_blocks p f)) (named_blocks p items)
+    map_append (λ (b : Name × MadeBlock). graph_block b.0 b.1) (of_function f.name.name (function_blocks p f)) (named_blocks p items)
     ∙ ap (λ bs. bs ++ map (λ (b : Name × MadeBlock). graph_block b.0 b.1) (named_blocks p items)) (graph_blocks_again f.name.name (function_blocks p f))
     ∙ ap (λ bs. map (graph_block f.name.name) (function_blocks p f) ++ bs) (items_graph p items)
 
