@@ -9,15 +9,8 @@ use Rattle.source.specs.Outside.{bare, bound_by}
 use Rattle.source.specs.Rules.{function_in, values, list_values, body_values}
 use Rattle.source.specs.Lowered.{Lowered, Site, Spot, Scope, spot_after, ports_from, inputs_from, let_scoped, prefixed, results_of, merges, lower, lower_list, lower_body}
 use Rattle.source.proofs.Steps.{ok_same}
+use Rattle.source.proofs.CountedSources.{ports_length, inputs_count, prefixed_one}
 use Rattle.source.proofs.Kept.{known_name, in_prefix, in_infix, in_fetch, in_store, IsCalled, in_call, in_if, IsTurned, in_loop, in_more, in_let, in_do}
-
-pub ports_length : (n q k : ℕ) → length (ports_from n q k) ≡ k
-ports_length n q zero = refl
-ports_length n q (suc k) = ap suc (ports_length n (q + 1) k)
-
-pub inputs_count : (n k : ℕ) → length (inputs_from n k) ≡ k
-inputs_count n zero = refl
-inputs_count n (suc k) = ap suc (inputs_count (n + 1) k)
 
 pub merges_length : (site : Site) (at cond : ℕ) (ss ts : List Source) (n : ℕ) → length ss ≡ n → length ts ≡ n → length (merges site at cond ss ts) ≡ n
 merges_length site at cond [] [] n e f = e
@@ -25,19 +18,6 @@ merges_length site at cond [] (t ∷ ts) n e f = e
 merges_length site at cond (s ∷ ss) [] n e f = absurd (omega (arith, e, f))
 merges_length site at cond (s ∷ ss) (t ∷ ts) zero e f = absurd (omega (arith, e))
 merges_length site at cond (s ∷ ss) (t ∷ ts) (suc n) e f = ap suc (merges_length site at cond ss ts n (omega (arith, e)) (omega (arith, f)))
-
-prefixed_one : (site : Site) (spot : Spot) (at : ℕ) (op : Unary) (e : Expr) (l : Lowered) → length (prefixed site spot at op e l).sources ≡ 1
-prefixed_one site spot at Neg (Number u k) l = refl
-prefixed_one site spot at Neg (Named u x) l = refl
-prefixed_one site spot at Neg (Bracket e) l = refl
-prefixed_one site spot at Neg (Prefix u op e) l = refl
-prefixed_one site spot at Neg (Infix u s e d) l = refl
-prefixed_one site spot at Neg (Fetch u a e) l = refl
-prefixed_one site spot at Neg (Store u a e d) l = refl
-prefixed_one site spot at Neg (Call u b f es) l = refl
-prefixed_one site spot at Neg (If u q a b) l = refl
-prefixed_one site spot at Neg (Loop u b f t) l = refl
-prefixed_one site spot at Not e l = refl
 
 called_count : (n q k : ℕ) (o : Option _) → results_of o ≡ k → length (ports_from n q (results_of o)) ≡ k
 called_count n q k o e = ports_length n q (results_of o) ∙ e

@@ -6,33 +6,13 @@ use Rattle.semantics.specs.declared.graph.Source.{Source}
 use Rattle.source.specs.Tree.{Name, NameAt, Expr, Number, Named, Bracket, Prefix, Infix, Fetch, Store, Call, If, Loop, Exprs, One, More, Body, Let, Do, Give, Chain, Turn, Before, After, Program, names_of}
 use Rattle.source.specs.Outside.{bare, outside_body}
 use Rattle.source.specs.Lowered.{Made, Lowered, Site, Spot, Scope, lower, lower_list, lower_body, ports_from, inputs_from, prefixed, merges, spot_after, let_scoped, followed, results_of, arm, first_of, next_spot}
+use Rattle.source.proofs.CountedSources.{ports_length, inputs_count, prefixed_one}
 use Rattle.lowering.specs.Counts.{many, list_many, body_many, Counted, ListCounted, BodyCounted}
-
-pub so_many_ports : (n p c : ℕ) → length (ports_from n p c) ≡ c
-so_many_ports n p zero = refl
-so_many_ports n p (suc c) = ap suc (so_many_ports n (p + 1) c)
-
-pub so_many_inputs : (n c : ℕ) → length (inputs_from n c) ≡ c
-so_many_inputs n zero = refl
-so_many_inputs n (suc c) = ap suc (so_many_inputs (n + 1) c)
 
 pub so_many_merges : (site : Site) (at cond : ℕ) (ss ts : List Source) → length ss ≡ length ts → length (merges site at cond ss ts) ≡ length ss
 so_many_merges site at cond [] ts e = refl
 so_many_merges site at cond (s ∷ ss) [] e = cc
 so_many_merges site at cond (s ∷ ss) (t ∷ ts) e = ap suc (so_many_merges site at cond ss ts (omega (arith, e)))
-
-one_prefixed : (site : Site) (spot : Spot) (at : ℕ) (op : Unary) (e : Expr) (l : Lowered) → length (prefixed site spot at op e l).sources ≡ 1
-one_prefixed site spot at Not e l = refl
-one_prefixed site spot at Neg (Number u n) l = refl
-one_prefixed site spot at Neg (Named u x) l = refl
-one_prefixed site spot at Neg (Bracket e) l = refl
-one_prefixed site spot at Neg (Prefix u op e) l = refl
-one_prefixed site spot at Neg (Infix u s d e) l = refl
-one_prefixed site spot at Neg (Fetch u a e) l = refl
-one_prefixed site spot at Neg (Store u a e d) l = refl
-one_prefixed site spot at Neg (Call u strict f es) l = refl
-one_prefixed site spot at Neg (If u p a b) l = refl
-one_prefixed site spot at Neg (Loop u bound firsts turn) l = refl
 
 pub so_many_bare : (xs : List NameAt) → length (bare xs) ≡ length xs
 so_many_bare [] = refl
@@ -48,11 +28,11 @@ mutual
   so_many p site spot scope (Number at n) c = refl
   so_many p site spot scope (Named at x) c = refl
   so_many p site spot scope (Bracket e) c = so_many p site spot scope e c
-  so_many p site spot scope (Prefix at op e) c = one_prefixed site spot at op e (lower p site spot scope e)
+  so_many p site spot scope (Prefix at op e) c = prefixed_one site spot at op e (lower p site spot scope e)
   so_many p site spot scope (Infix at s l r) c = refl
   so_many p site spot scope (Fetch at a e) c = refl
   so_many p site spot scope (Store at a e d) c = refl
-  so_many p site spot scope (Call at strict f es) c = so_many_ports _ 0 _
+  so_many p site spot scope (Call at strict f es) c = ports_length _ 0 _
   so_many p site spot scope (If at q l r) c =
       let k : Spot = spot_after spot (lower p site spot scope q) in
       let predicate : Source = first_of (lower p site spot scope q).sources in
@@ -60,8 +40,8 @@ mutual
       let b : Lowered = arm_of p site k.next false (spot_after (next_spot k) a) at scope predicate r in
       let x : length a.sources ≡ body_many p l = so_many_given p _ _ _ l c.2 in
       let y : length b.sources ≡ body_many p r = so_many_given p _ _ _ r c.3 in
-      so_many_inputs _ _ ∙ so_many_merges site at k.next a.sources b.sources (x ∙ c.4 ∙ sym y) ∙ x
-  so_many p site spot scope (Loop at bound firsts turn) c = so_many_ports _ 0 _ ∙ so_many_bare (names_of turn)
+      inputs_count _ _ ∙ so_many_merges site at k.next a.sources b.sources (x ∙ c.4 ∙ sym y) ∙ x
+  so_many p site spot scope (Loop at bound firsts turn) c = ports_length _ 0 _ ∙ so_many_bare (names_of turn)
 
   pub so_many_all : (p : Program) (site : Site) (spot : Spot) (scope : Scope) (es : Exprs) → ListCounted p es
       → length (lower_list p site spot scope es).sources ≡ list_many p es

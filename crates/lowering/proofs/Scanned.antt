@@ -8,6 +8,7 @@ use Rattle.source.specs.Tree.{Name, NameAt, NumberAt, Target, Bind, Drop, Expr, 
 use Rattle.source.specs.Words.{Words, words, part_words, first_words, body_words, turn_words, target_word, item_words, program_words, result_words}
 use Rattle.source.specs.Fits.{count}
 use Rattle.source.specs.Outside.{without, is_in, once, bare, bound_by, uses, list_uses, body_uses, turn_uses, outside_body, outside_turn}
+use Rattle.source.proofs.CountedSources.{without_none}
 use Rattle.lowering.specs.Counts.{Counted, ListCounted, BodyCounted, TurnCounted, ItemsCounted}
 use Rattle.lowering.specs.Plans.{Plan, plan, plans, list_plans, body_plans, turn_plans, item_plans, program_plans}
 use Rattle.lowering.specs.Scan.{Scan, scan_of, read, scanned, told_plans}
@@ -21,10 +22,6 @@ back : (z t u : Scan) (a b : Words) → scanned z b ≡ t → scanned t a ≡ u 
 back z t u a b e f = scanned_append z a b ∙ ap (λ x. scanned x a) e ∙ f
 
 -- names without these and those
-without_none : (ys : List Name) → without [] ys ≡ ys
-without_none [] = refl
-without_none (y ∷ ys) = ap (λ zs. y ∷ zs) (without_none ys)
-
 kept : (q : Name → Bool) (y : Name) (ys : List Name) → q y ≡ true → filter q (y ∷ ys) ≡ y ∷ filter q ys
 kept q y ys e = ap (λ (b : Bool). if b then y ∷ filter q ys else filter q ys) e
 

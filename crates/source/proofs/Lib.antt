@@ -3,6 +3,7 @@ mod Positions
 pub mod Spelling
 pub mod Steps
 pub mod Kept
+pub mod CountedSources
 mod Counted
 mod OneAnswer
 mod ReadSamples

@@ -12,6 +12,7 @@ use Rattle.source.specs.Words.{words, first_words, body_words, turn_words}
 use Rattle.source.specs.Outside.{bare, uses, list_uses, body_uses, turn_uses, without, once, outside_turn}
 use Rattle.source.specs.First.{◌>>=◌, must}
 use Rattle.source.specs.Rules.{place_of, one_value, values, first_values, body_values, turn_values}
+use Rattle.source.proofs.CountedSources.{without_none}
 use Rattle.source_check.specs.declared.frame.Entry.{Entry}
 use Rattle.source_check.specs.declared.frame.Frame.TheVariants as frame
 use Rattle.source_check.specs.declared.frame.Values.{Values}
@@ -41,10 +42,6 @@ inside_deep : (s : State Name) (xs : List NameAt) (m : ℕ) → IsDeep (inside s
 inside_deep s xs m = record { scope = omega (arith, length-append (bare xs) s.scope); used = omega arith }
 
 -- AND ENDS
-without_none : (xs : List Name) → without [] xs ≡ xs
-without_none [] = refl
-without_none (x ∷ xs) = ap (λ ys. x ∷ ys) (without_none xs)
-
 gathered_length : (xs : List Name) → length (gathered [] xs) ≡ length (once xs)
 gathered_length xs = let e : length (once (without [] xs)) ≡ length (once xs) = ap (λ ys. length (once ys)) (without_none xs) in omega
     (arith, gathered_once [] xs, e)
